@@ -21,6 +21,7 @@ REFUSALS = {
     18: "A negative count means `as in the last period`, and there is none before.",
     19: "A head is past 4,000,000,000: a marker such as 1E+30 in an active cell?",
     20: "The listing isn't of the form due at this line for this model and these digits.",
+    28: "The two decks aren't of one shape: here is the first difference that isn't a number of a stress.",
 }
 NO_BOUNDS = {
     21: "Two neighbouring cells are joined by less than one unit of conductance (10^-{digits}).",
@@ -67,7 +68,8 @@ REMEDIES = {
     18: "Write the list or the array of the first period out.",
     20: (
         "A listing is checked with the --digits that it was made with (12 where they are left out), and one with lines"
-        " ZONE with the zone file of its run (--zones); or its model has changed."
+        " ZONE with the zone file of its run (--zones), and one whose first line ends with TO with the second deck of"
+        " its run (--to); or its model has changed."
     ),
     24: (
         "Either the model has no solution or any lower head solves it too; MODFLOW prints heads there all the same. "
@@ -95,6 +97,32 @@ OUT_OF_RANGE = {
     "DRN": "Cond is at least 0.",
     "GHB": "Cond is at least 0.",
     "EVT": "EVTR is at least 0, and EXDP above 0 where EVTR is.",
+}
+ENTRIES = (
+    "In each period both lists have entries of the same cells in the same order. Give an entry that only one plan has"
+    " {zero} in the other: `heads-tools between` writes both decks so."
+)
+NOT_ALIKE = {
+    "WEL": ENTRIES.format(zero="the rate 0"),
+    "RIV": ENTRIES.format(zero="the conductance 0"),
+    "DRN": ENTRIES.format(zero="the conductance 0"),
+    "GHB": ENTRIES.format(zero="the conductance 0"),
+    "CHD": (
+        "In each period both decks give heads at the same cells in the same order, and both heads of an entry are at"
+        " most, or both at least, those of the other deck's entry."
+    ),
+    "RCH": "Both decks have the same option and the same IRCH; only RECH may differ.",
+    "EVT": (
+        "Both decks have the same option, EXDP and IEVT, and EVTR is 0 at the same places; only SURF and EVTR may"
+        " differ."
+    ),
+    "BAS6": "Both decks have the same IBOUND; only STRT may differ.",
+    "LPF": (
+        "Both decks have the same conductivities, storage and options: bounds for a range of conductivities would be"
+        " too wide to be of use. Run the two decks with each of the values."
+    ),
+    "DIS": "Both decks have the same grid, elevations and stress periods.",
+    "": "Only one of the decks has a package: write it into the other, with rates or conductances 0.",
 }
 ONLY_PRINT = {"HOB", "CHOB", "DROB", "GBOB", "RVOB", "HYD", "GAGE", "GLOBAL", "DATAGLO", "DATAGLO(BINARY)"}
 UNKNOWN_PACKAGE = "it changes the equations, or is unknown. DIS BAS6 LPF WEL RIV DRN GHB RCH CHD EVT are read"

@@ -78,6 +78,10 @@ def stress_range(text: str) -> object:
         raise argparse.ArgumentTypeError(f"a range is LOW..HIGH, as 0.8..1.2 or -0.2..0.2, and not {text}") from None
 
 
+def add_to(sub: argparse.ArgumentParser, about: str) -> None:
+    sub.add_argument("--to", type=Path, metavar="TO.NAM", help=about)
+
+
 def cell(text: str) -> tuple[int, int, int]:
     parts = text.replace(" ", ",").split(",")
     if len(parts) != 3 or not all(p.isdigit() for p in parts):
@@ -106,6 +110,7 @@ def parser() -> argparse.ArgumentParser:
         "run", "run the model in its folder into NAME.heads, with progress; all further options go to heads run", nam
     )
     s.add_argument("--out", type=Path, help="the listing's file, NAME.heads beside the name file where left out")
+    add_to(s, "a second deck: bounds for every deck between the two, into NAME-TO.heads")
     s = add("explain", "what the last line of an output means, and what to change", ("output", "an output of heads"))
     s.add_argument("folder", nargs="?", type=Path, help="the model's folder, the output's own where left out")
     s.add_argument("--digits", type=int, help="the digits of the run, where they aren't in the output")
@@ -157,6 +162,7 @@ def parser() -> argparse.ArgumentParser:
         metavar="M.NAM",
         help="the model: true widths, elevations, times, units; and the listing is checked against it by heads check",
     )
+    add_to(s, "the second deck, where the listing is that of two decks")
     s.add_argument(
         "--cell",
         type=cell,
@@ -193,6 +199,7 @@ def parser() -> argparse.ArgumentParser:
         metavar="M.NAM",
         help="the model, for the maps, and for heads check, which says whether the pairs are bounds",
     )
+    add_to(s, "the second deck, where the listing is that of two decks")
     add_zones(s)
     s = add(
         "drawdown",
@@ -240,6 +247,7 @@ def parser() -> argparse.ArgumentParser:
     )
     s.add_argument("--zones", type=Path, metavar="M.ZON", help="a zone file: the flows between its zones, too")
     s = add("check", "certify a listing by heads check, or piece by piece", nam, ("listing", "the listing"))
+    add_to(s, "the second deck, where the listing is that of two decks")
     add_zones(s)
     s.add_argument(
         "--parts",
@@ -288,12 +296,13 @@ def parser() -> argparse.ArgumentParser:
     )
     s.description = MF2005
     s.add_argument("words", nargs="*", metavar="WORD", help="the name file; further words go to heads run")
-    add(
+    s = add(
         "exhibit",
         "for a report or a court: deck, listing, verdicts, hashes, versions, pictures; further options go to heads run",
         nam,
         ("folder", "the folder to write into"),
     )
+    add_to(s, "a second deck: what may be said of every deck between the two")
     s = add(
         "batch",
         "run many models and collect their ends; further options go to heads",

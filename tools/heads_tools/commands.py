@@ -44,11 +44,14 @@ def do_run(args: argparse.Namespace, options: list[str]) -> int:
     from .follow import MOST_WATCHED
     from .inside import careful
     from .program import digits_of, run, summary
+    from .spans import second_deck, target_of
 
     nam = existing(args.nam)
-    for warning in careful(nam):
+    to = second_deck(nam, args.to)
+    options = [*options, *to]
+    for warning in dict.fromkeys(w for deck in (nam, *(nam.with_name(name) for name in to[1:])) for w in careful(deck)):
         print(f"CAREFUL: {warning}", file=sys.stderr)
-    out = (args.out or nam.with_suffix(".heads")).resolve()
+    out = (args.out or target_of(nam, to)).resolve()
     digits, tried, (steps, cells) = digits_of(options), [], size_of(nam)
     is_followed = steps is not None and cells * steps <= MOST_WATCHED
     ended = run(nam, options, out, steps, is_followed=is_followed)
@@ -151,11 +154,16 @@ def model_for_zones(args: argparse.Namespace) -> None:
 
 def verdict_of(args: argparse.Namespace, listing: Listing) -> Verdict:
     """What `heads check` says of the listing, where the model is named."""
+    from .spans import second_deck
     from .verdict import check_listing, not_checked
 
+    to = getattr(args, "to", None)
     if not args.name:
+        if to:
+            raise Problem("--to needs the first deck, too: --name M.NAM")
         return not_checked(listing)
-    return check_listing(existing(args.name), listing, existing(args.zones) if args.zones else None)
+    nam = existing(args.name)
+    return check_listing(nam, listing, existing(args.zones) if args.zones else None, second_deck(nam, to))
 
 
 def do_compare(args: argparse.Namespace, _: list[str]) -> int:
@@ -218,18 +226,22 @@ def do_certify(args: argparse.Namespace, _: list[str]) -> int:
 
 def do_check(args: argparse.Namespace, _: list[str]) -> int:
     from .listing import read_listing
+    from .spans import second_deck
 
     nam, path = existing(args.nam), existing(args.listing)
+    to = second_deck(nam, args.to)
     if args.parts is None:
         from .verdict import check_listing
 
-        verdict = check_listing(nam, read_listing(path), existing(args.zones) if args.zones else None)
+        verdict = check_listing(nam, read_listing(path), existing(args.zones) if args.zones else None, to)
         say([verdict.sentence])
         return verdict.status or 0
     from .parts import Way, check_parts
 
     if args.parts < 1:
         raise Problem("--parts is 1 or more")
+    if to:
+        raise Problem("--parts checks listings of one deck: leave --to out, or --parts")
     engine = "slurm" if args.slurm else "parallel" if args.parallel else "here"
     if engine == "here" and (args.write_only or args.collect or args.folder):
         raise Problem("--folder, --write-only and --collect go with --parallel or --slurm")
@@ -284,8 +296,10 @@ def do_observe(args: argparse.Namespace, _: list[str]) -> int:
     from .listing import read_listing
     from .model import read_model
     from .observe import observe
+    from .spans import demand_one
 
     listing, model = read_listing(existing(args.listing)), read_model(existing(args.name))
+    demand_one(listing, "observe compares with one model's heads. `heads-tools compare` takes a listing of two")
     points, place = existing(args.points), place_of(args.at)
     lines, lacking = observe(fitting(listing, model), model, points, place, args.out, args.between)
     verdict = verdict_of(args, listing)
@@ -313,8 +327,10 @@ def do_mf2005(args: argparse.Namespace, options: list[str]) -> int:
 
 def do_exhibit(args: argparse.Namespace, options: list[str]) -> int:
     from .exhibit import exhibit
+    from .spans import second_deck
 
-    return exhibit(existing(args.nam), args.folder, options)
+    nam = existing(args.nam)
+    return exhibit(nam, args.folder, [*options, *second_deck(nam, args.to)])
 
 
 def do_batch(args: argparse.Namespace, options: list[str]) -> int:

@@ -66,6 +66,42 @@ def write_csv(path: Path, listing: Listing, differences: list[Difference]) -> No
 
 def sentences(listing: Listing, differences: list[Difference], unit: str) -> list[str]:
     """What the differences come to, in sentences."""
+    out = spoken_between(listing, differences, unit) if listing.is_span else spoken(listing, differences, unit)
+    if not listing.is_whole:
+        out.append("the listing doesn't end with END: its pairs are no bounds")
+    return out
+
+
+def spoken_between(listing: Listing, differences: list[Difference], unit: str) -> list[str]:
+    """What heads of a deck between two come to beside bounds for every such deck: only what lies outside tells."""
+    out = []
+    for d in differences:
+        here, outside = ~np.isnan(d.most), int(np.nansum(d.least > 0))
+        if not here.any():
+            continue
+        worst = "layer row column " + " ".join(map(str, listing.cells[int(np.nanargmax(d.least))]))
+        far = f", by {short_down(float(np.nanmax(d.least)))} {unit} or more at {worst}" if outside else ""
+        given = f"{int(here.sum())} of {counted(len(here), 'cell')}"
+        out.append(
+            f"period {d.step.period} step {d.step.step}: heads are given of {given}; {outside} of them lie outside"
+            f" the bounds{far}"
+        )
+    least = max(float(np.nanmax(d.least)) for d in differences)
+    if least:
+        out.append(
+            f"no exact solution of a deck between the two has these heads. If the run's deck is one of them, the run is"
+            f" off by at least {short_down(least)} {unit} somewhere; else its deck lies outside"
+        )
+    else:
+        out.append(
+            "every given head lies between the bounds, as those of each exact solution of a deck between the two do."
+            " How far the run is off from the solution of its own deck is what a listing of that deck alone says"
+        )
+    return out
+
+
+def spoken(listing: Listing, differences: list[Difference], unit: str) -> list[str]:
+    """How far heads are off from every exact solution of one deck."""
     out = []
     for d in differences:
         here = ~np.isnan(d.most)
@@ -87,6 +123,4 @@ def sentences(listing: Listing, differences: list[Difference], unit: str) -> lis
         f"in {steps} in all: off by at least {short_down(least)} {unit} somewhere, and by at most"
         f" {short_up(most)} {unit} {where}"
     )
-    if not listing.is_whole:
-        out.append("the listing doesn't end with END: its pairs are no bounds")
     return out

@@ -19,8 +19,8 @@ BESIDE_BAR = 4.4
 @dataclass
 class Cut:
     """A section along a row or a column: edges of its cells in the plan's axis; heads, tops and bottoms, shape (layers,
-    cells); `marks`: kind, layer from 1, cell along the cut from 0, elevations (stage, bottom, drain) of its entries.
-    """
+    cells); `marks`: kind, layer from 1, cell along the cut from 0, elevations (stage, bottom, drain) of its entries;
+    `upper`: the upper heads, where they lie far above the lower ones."""
 
     title: str
     edges: np.ndarray
@@ -28,6 +28,7 @@ class Cut:
     top: np.ndarray
     bottom: np.ndarray
     marks: list[tuple[str, int, int, list[float]]]
+    upper: np.ndarray | None = None
 
     @property
     def middles(self) -> np.ndarray:
@@ -57,8 +58,11 @@ def head_section(album: Album, name: str, plan: Plan, cut: Cut) -> None:
             step="post",
             label=f"aquifer, {np.min(bottom):.4g} to {np.max(top):.4g} {plan.unit}",
         )
-        (line,) = axes.plot(x, head, color="C0", lw=1.6, label="head")
+        (line,) = axes.plot(x, head, color="C0", lw=1.6, label="head" if cut.upper is None else "lower to upper head")
         handles: list = [line, ground]
+        if cut.upper is not None:
+            axes.fill_between(x, head, cut.upper[0], color="C0", alpha=0.3, lw=0)
+            axes.plot(x, cut.upper[0], color="C0", lw=1.0)
         for kind in MARKS:
             spots = [(x[at], level) for k, _, at, levels in cut.marks if k == kind for level in levels[:1]]
             if kind == "WEL":
@@ -83,7 +87,8 @@ def head_section(album: Album, name: str, plan: Plan, cut: Cut) -> None:
 
 def limits(cut: Cut) -> tuple[float, float]:
     """The elevations that a section of one layer shows: heads and stages, and top and bottom where they are near."""
-    levels = np.array([v for *_, levels in cut.marks for v in levels] + cut.lower[np.isfinite(cut.lower)].tolist())
+    heads = cut.lower if cut.upper is None else np.concatenate([cut.lower, cut.upper])
+    levels = np.array([v for *_, levels in cut.marks for v in levels] + heads[np.isfinite(heads)].tolist())
     low, high = float(levels.min()), float(levels.max())
     span = max(high - low, 1e-3 * max(abs(high), 1e-6))
     top, bottom = float(np.max(cut.top)), float(np.min(cut.bottom))

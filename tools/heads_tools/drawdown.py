@@ -10,6 +10,7 @@ import numpy as np
 
 from .listing import Listing, Step
 from .model import Model
+from .spans import demand_one
 from .tables import budget_of
 from .text import Problem, counted, decimal_text, down, up, whole_file
 
@@ -38,6 +39,8 @@ def minus(a: Pair, b: Pair) -> Pair:
 
 def difference(listing: Listing, base: Listing) -> list[Change]:
     """listing less base, for each period and step that both have."""
+    for each in (listing, base):
+        demand_one(each, "a difference would count what lies between its decks twice. Take listings of one deck each")
     if not np.array_equal(listing.cells, base.cells):
         raise Problem(f"{base.path} has other cells with flow than {listing.path}: their heads can't be subtracted")
     others = {(s.period, s.step): s for s in base.steps}

@@ -16,30 +16,18 @@ from string import Template
 from . import __version__
 from .deck import KINDS
 from .explain import explain
-from .listing import Listing, read_listing
+from .listing import read_listing
 from .look import look, title_of
 from .model import Model, read_model
+from .packages import read_deck
 from .program import TOP, Ended, Version, beside, digits_of, files_of, sha256, version
+from .spans import target_of, what_differs
 from .spelling import quoted_words
-from .text import Problem, decimal_text, on_disk, read_text, whole_file, words
+from .text import Problem, on_disk, read_text, whole_file, words
 from .verdict import Verdict, has_zones, program_file
+from .what_is_said import Words, words_of
 from .zones import read_zones
 
-EACH_HEAD = (
-    "Each exact solution of this model's finite-difference equations has, at the end of each listed time step "
-    "and at each listed cell, a head between the two listed numbers, "
-    "and budget flows between the two listed numbers of each term."
-)
-ONE_HEAD = (
-    "For example: each exact solution of this model's equations has, in layer {}, row {}, column {}, "
-    "at the end of period {}, step {}, a head between {} and {} {}."
-)
-ZONE_FLOWS = "Each flow between two zones lies between its two listed numbers, too."
-NOT_THE_GROUND = "The head in the aquifer lies between these numbers."
-WHY_NOT = (
-    "The listing speaks of the equations of these files. "
-    "It says nothing of the ground, nor of the heads that MODFLOW prints."
-)
 ONE_SPELLING = (
     "The folder written has the model that `heads` read from the folder deck, in one plain spelling, as `heads write` "
     "puts it. It is proved that its files are read as that model: whoever reads them item by item beside MODFLOW's "
@@ -51,12 +39,13 @@ MOST_RECHECK_HEADS = 200_000
 
 @dataclass
 class Exhibit:
-    """What an exhibit says. `commands`: what was run and can be run again, each as it stands in the exhibit's own
-    folder; `facts`: name and text."""
+    """What an exhibit says. `may`: what may be said; `words`: the sentences of its listing; `commands`: what was run
+    and can be run again, each as it stands in the exhibit's own folder; `facts`: name and text."""
 
     title: str
     verdict: str = NOTHING
     may: list[str] = field(default_factory=list)
+    words: Words = field(default_factory=Words)
     commands: list[str] = field(default_factory=list)
     facts: list[tuple[str, str]] = field(default_factory=list)
 
@@ -64,7 +53,8 @@ class Exhibit:
         """EXHIBIT.txt."""
         lines = [f"Exhibit: {self.title}", self.verdict, ""]
         lines += ["What may be said:", *(f"  {line}" for line in self.may or [NOTHING]), ""]
-        lines += ["What may not be said:", f"  {NOT_THE_GROUND}", f"  ({WHY_NOT})", ""]
+        may_not = [*self.words.may_not, f"({self.words.why_not})"]
+        lines += ["What may not be said:", *(f"  {line}" for line in may_not), ""]
         lines += ["To test it, in this folder:", *(f"    {line}" for line in self.commands), ""]
         lines += ["What was run:", *(f"  {name:<10}{text}" for name, text in self.facts)]
         return "\n".join(lines) + "\n"
@@ -77,7 +67,10 @@ class Exhibit:
             title=escape(self.title),
             verdict=escape(self.verdict),
             may="\n".join(quote(line, "may") for line in self.may or [NOTHING]),
-            may_not=quote(NOT_THE_GROUND, "not") + f"\n<p>{escape(WHY_NOT)}</p>",
+            may_not="\n".join(quote(line, "not") for line in self.words.may_not)
+            + f"\n<p>{escape(self.words.why_not)}</p>",
+            proved=escape(self.words.proved),
+            tests=escape(self.words.tests),
             commands=escape("\n".join(self.commands)),
             facts="".join(f"<dt>{escape(name)}</dt><dd>{escape(text)}</dd>" for name, text in self.facts),
         )
@@ -115,7 +108,7 @@ def exhibit(nam: Path, folder: Path, options: list[str]) -> int:
 
 def fill(folder: Path, name: str, options: list[str], known: Version) -> tuple[int, Exhibit]:
     """Runs, checks, rechecks and draws in the exhibit's folder."""
-    listing = Path(name).stem + ".heads"
+    listing = target_of(Path(name), to_options(options)).name
     deck = f"cd deck && ../heads run {shlex.join([name, *options])}"
     ended = shell(folder, f"({deck}) > {shlex.quote(listing)}")
     ended.last = last_line(folder / listing)
@@ -139,20 +132,21 @@ def add_verdicts(told: Exhibit, folder: Path, name: str, listing: str, options: 
     read, model = read_listing(folder / listing), read_model(folder / "deck" / name)
     named = zone_file(options)
     zones = [word for file in named for word in ("--zones", file)]
-    words = shlex.join([name, "../" + listing, "--digits", str(read.digits), *zones])
+    to = to_options(options)
+    words = shlex.join([name, "../" + listing, "--digits", str(read.digits), *zones, *to])
     told.commands.append(f"(cd deck && ../heads check {words})")
     checked = shell(folder, told.commands[-1])
     told.facts.append(("check", f"{checked.last} (status {checked.status})"))
-    add_recheck(
-        told,
-        folder,
-        shlex.join([name, "../" + listing, *named]),
-        sum(len(step.low) for step in read.steps),
-    )
-    verdict = Verdict(checked.status, checked.last, listing, has_zones(read), bool(named))
+    if to:
+        told.facts.append(("recheck", "not done: recheck.py takes the listing of one deck"))
+    else:
+        count = sum(len(step.low) for step in read.steps)
+        add_recheck(told, folder, shlex.join([name, "../" + listing, *named]), count)
+    verdict = Verdict(checked.status, checked.last, listing, has_zones(read), bool(named), read.is_span)
     told.verdict = verdict.sentence
+    told.words = words_of(read, model.length, differing(folder / "deck", name, to), wells_of(model))
     if verdict.is_certified and known.is_recorded is not False:
-        told.may = what_may_be_said(read, model)
+        told.may = told.words.may
         if known.is_recorded is None:
             told.verdict += (
                 " No record of this program's bytes stands beside it: whether it is the proved one has to be shown."
@@ -167,6 +161,9 @@ def add_verdicts(told: Exhibit, folder: Path, name: str, listing: str, options: 
 def add_written(told: Exhibit, folder: Path, name: str, listing: str, options: list[str]) -> None:
     """The deck in one spelling, where the program has the command: as one text, and its files in a folder of their
     own, whose run has to give the same listing."""
+    if to_options(options):
+        told.facts.append(("written", "not done: the two decks would have the same file names"))
+        return
     write = f"(cd deck && ../heads write {shlex.quote(name)})"
     shell(folder, f"{write} > written.txt")
     files = files_of((folder / "written.txt").read_bytes())
@@ -181,15 +178,6 @@ def add_written(told: Exhibit, folder: Path, name: str, listing: str, options: l
     run = f"(cd written && ../heads run {shlex.join(['p.nam', *options])})"
     told.commands += [f"{write} | cmp - written.txt && echo SAME", f"{run} | cmp - {shlex.quote(listing)} && echo SAME"]
     told.facts.append(("written", ONE_SPELLING))
-
-
-def what_may_be_said(listing: Listing, model: Model) -> list[str]:
-    step = listing.steps[-1]
-    low = step.low.astype(float)
-    at = int((abs(low - low.mean()) * (step.width() > 0)).argmax())
-    pair = [decimal_text(int(v[at]), 9) for v in (step.low, step.high)]
-    one = ONE_HEAD.format(*listing.cells[at].tolist(), step.period, step.step, *pair, model.length)
-    return [EACH_HEAD, one] + ([ZONE_FLOWS] if has_zones(listing) else [])
 
 
 def add_recheck(told: Exhibit, folder: Path, arguments: str, heads: int) -> None:
@@ -219,6 +207,20 @@ def last_line(path: Path) -> str:
 
 def is_part(path: Path) -> bool:
     return "\nSTEP " in read_text(path)
+
+
+def to_options(options: list[str]) -> list[str]:
+    """The options that name a second deck, as second_deck made them."""
+    return options[options.index("--to") :][:2] if "--to" in options else []
+
+
+def differing(deck: Path, name: str, to: list[str]) -> list[str]:
+    """The stresses that differ between the two decks of a run, in words."""
+    return what_differs(*(read_deck(deck / each)[0] for each in (name, to[1]))) if to else []
+
+
+def wells_of(model: Model) -> list[tuple[int, int, int]]:
+    return [entry.cell for entries in model.deck.lists.get("WEL", []) for entry in entries or []]
 
 
 def zone_file(options: list[str]) -> list[str]:
@@ -253,6 +255,7 @@ def opened_files(folder: Path, name: str) -> list[str]:
 def copy_deck(nam: Path, deck: Path, options: list[str]) -> None:
     deck.mkdir()
     names = deck_files(nam) + zone_files(nam.parent, options)
+    names += [file for name in to_options(options)[1:] for file in deck_files(nam.with_name(name))]
     for name in names:
         if ".." in name or name.startswith(("/", "\\")):
             raise Problem(f"{name} lies outside the model's folder: an exhibit holds its whole deck")

@@ -5,9 +5,10 @@ import re
 from dataclasses import dataclass
 from pathlib import Path
 
-from .advice import NO_BOUNDS, ONLY_PRINT, OTHER_PACKAGES, OUT_OF_RANGE, REFUSALS, REMEDIES, UNKNOWN_PACKAGE
+from .advice import NO_BOUNDS, NOT_ALIKE, ONLY_PRINT, OTHER_PACKAGES, OUT_OF_RANGE, REFUSALS, REMEDIES, UNKNOWN_PACKAGE
 from .deck import COLUMNS
 from .sources import odd_bytes
+from .spans import ALL_BETWEEN
 from .spelling import NUMBER
 from .text import Problem, on_disk, read_text, words
 
@@ -18,8 +19,8 @@ STATUSES = {
         "The words weren't taken.",
         (
             "Commands: run NAME, check NAME LISTING, make SEED SIZE, batch LIST; --digits 0 to 18, --workers 1 to 64,"
-            " --rounds 1 to 4000000000, --zones FILE, --watch 1 to 1000. A program older than --zones, --watch or batch"
-            " answers them so too."
+            " --rounds 1 to 4000000000, --zones FILE, --watch 1 to 1000, --to NAME. A program older than --zones,"
+            " --watch, --to or batch answers them so too."
         ),
     ),
     "UNFINISHED": (
@@ -101,7 +102,10 @@ def explain_lines(lines: list[str], folder: Path, digits: int | None) -> Meaning
     first = lines[0].split() if lines else []
     if digits is None:
         digits = int(first[3]) if first[:1] == ["HEADS"] and len(first) > 3 and first[3].isdigit() else 12
-    return explain(lines[-1] if lines else "", folder, digits, any(line.startswith("STEP ") for line in lines))
+    meaning = explain(lines[-1] if lines else "", folder, digits, any(line.startswith("STEP ") for line in lines))
+    if first[6:] == ["TO"] and meaning.is_good:
+        meaning.lines.append(f"It is a listing of two decks. {ALL_BETWEEN}")
+    return meaning
 
 
 def explain(last: str, folder: Path, digits: int = 12, has_steps: bool = False) -> Meaning:
@@ -225,6 +229,7 @@ def advice(code: int, spot: Spot, folder: Path) -> str:
         12: grid,
         13: control,
         15: out_of_range,
+        28: lambda s, f: NOT_ALIKE.get(s.kind, NOT_ALIKE[""]),
     }
     return special[code](spot, folder) if code in special else REMEDIES.get(code, "")
 

@@ -35,6 +35,14 @@ CHANGE = (
     "lower and upper bound of the head of one run less that of another where `heads check` certified both listings;"
     " rounded outward to doubles"
 )
+SPAN = (
+    "every exact solution of a deck between two lies between lower and upper where `heads check --to` certified the"
+    " listing; rounded outward to doubles"
+)
+
+
+def comment_of(listing: Listing) -> str:
+    return CHANGE if listing.is_change else SPAN if listing.is_span else COMMENT
 
 
 @dataclass(frozen=True)
@@ -132,7 +140,7 @@ def to_xarray(listing: Listing, model: Model | None = None, place: Place = Place
         "step_of_period": (first, [s.step for s in listing.steps]),
     }
     dims = (first, "layer", *axes)
-    about = {"units": LENGTHS.get(listing.unit, "length units"), "comment": CHANGE if listing.is_change else COMMENT}
+    about = {"units": LENGTHS.get(listing.unit, "length units"), "comment": comment_of(listing)}
     data = {"lower": (dims, listing.lower(shape), about), "upper": (dims, listing.upper(shape), about)}
     attrs = {
         "source": f"heads, {listing.path.name}, {listing.digits} digits, ends with {listing.end or 'a part of a step'}"

@@ -8,7 +8,7 @@ from xml.sax.saxutils import quoteattr
 
 import numpy as np
 
-from .exports import CHANGE, COMMENT, Place, heads_frame, package, time_of, to_netcdf
+from .exports import Place, comment_of, heads_frame, package, time_of, to_netcdf
 from .listing import Listing
 from .model import Model
 from .text import Problem, whole_file
@@ -40,10 +40,6 @@ def to_geotiff(path: Path, listing: Listing, model: Model, place: Place = Place(
             for band, (name, values) in enumerate((("lower", lower), ("upper", upper)), 2 * k + 1):
                 file.write(values[k], band)
                 file.set_band_description(band, f"layer {k + 1} {name} {'change' if listing.is_change else 'head'}")
-
-
-def comment_of(listing: Listing) -> str:
-    return CHANGE if listing.is_change else COMMENT
 
 
 def step_of(listing: Listing, model: Model, at: int) -> tuple[np.ndarray, np.ndarray]:

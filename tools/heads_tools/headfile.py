@@ -9,6 +9,7 @@ from pathlib import Path
 import numpy as np
 
 from .listing import Listing
+from .spans import demand_one
 from .text import Problem, read_text, whole_file
 
 Heads = dict[tuple[int, int], np.ndarray]
@@ -96,6 +97,8 @@ def write_heads(
 ) -> None:
     """Writes a head file that FloPy, ModelMuse and Model Viewer read. `side`: lower (rounded down), upper (rounded up)
     or middle (rounded). `times`: for each step the time within its period and in all."""
+    if side == "middle":
+        demand_one(listing, "the middle of a range is no deck's head. Take the lower or the upper heads")
     shape = shape or listing.shape
     real, dtype = ("f", "<f4") if is_single else ("d", "<f8")
     with whole_file(path, binary=True) as file:

@@ -38,7 +38,8 @@ class Step:
 @dataclass(repr=False)
 class Listing:
     """A listing. `cells`: layer, row and column of each cell with flow, from 1, shape (cells, 3); `end`: its last
-    line; `is_change`: its heads are those of one run less those of another (`changes_of` in drawdown.py)."""
+    line; `is_change`: its heads are those of one run less those of another (`changes_of` in drawdown.py); `is_span`: it
+    was made of two decks and holds for every deck between them."""
 
     path: Path
     digits: int
@@ -47,6 +48,7 @@ class Listing:
     cells: np.ndarray = field(default_factory=lambda: np.zeros((0, 3), int))
     end: str = ""
     is_change: bool = False
+    is_span: bool = False
 
     def __repr__(self) -> str:
         size = f"{counted(len(self.steps), 'step')} of {counted(len(self.cells), 'cell')}"
@@ -99,8 +101,9 @@ class Listing:
         if not len(self.cells):
             return f"{counted(len(self.steps), 'step')} without a cell with flow"
         width, step, cell = self.widest()
+        name = "range" if self.is_span else "pair"
         return (
-            f"{counted(len(self.steps), 'step')} of {counted(len(self.cells), 'cell')}; widest pair"
+            f"{counted(len(self.steps), 'step')} of {counted(len(self.cells), 'cell')}; widest {name}"
             f" {decimal_text(width, 9)} (period {step.period} step {step.step}, layer row column"
             f" {' '.join(map(str, cell))})"
         )
@@ -122,14 +125,15 @@ def read_listing(path: str | Path) -> Listing:
         raise Problem(f"{path} is empty: the write failed, or the run was stopped")
     if first[0] in NO_LISTING:
         raise Problem(f"{path} has no listing, it ended with: {lines[0][:100]}")
+    is_span = first[6:] == ["TO"]
     if (
-        len(first) != 6
+        len(first) != 6 + is_span
         or first[0] != "HEADS"
         or first[2] != "DIGITS"
         or not (first[3] + first[5].lstrip("-")).isdigit()
     ):
         raise Problem(f"{path}, line 1: no listing of `heads` begins with {lines[0][:60]!r}")
-    listing = Listing(Path(path), int(first[3]), int(first[5]))
+    listing = Listing(Path(path), int(first[3]), int(first[5]), is_span=is_span)
     starts = [n for n, line in enumerate(lines) if line.startswith("STEP ")]
     tail = next((n for n in range(len(lines) - 1, -1, -1) if lines[n].strip()), 0)
     listing.end = lines[tail].strip() if not lines[tail].startswith(("HEAD", "STEP", "IN ", "OUT ", "ZONE")) else ""

@@ -60,7 +60,7 @@ class Flows(OverTime):
                 f"No exact solution has such a budget: {self.when(step)} has a term whose bounds and the others' "
                 "share no number. No listing that `heads run` wrote or `heads check` certified is like this."
             )
-        if budget.discrepancy:
+        if budget.discrepancy and not self.listing.is_span:
             least, most = budget.discrepancy
             low, high = without_exponent(signed_down(least)), without_exponent(signed_up(most))
             self.page.text(

@@ -31,7 +31,7 @@ class Others(Looking):
             f"{given.name}, step by step" if steps > 3 else "",
         )
         last = differences[-1]
-        most = self.listing.grid(last.most, self.shape)
+        most = self.listing.grid(last.least if self.listing.is_span else last.most, self.shape)
         if min(self.shape[1:]) > 1:
             self.jobs += [
                 partial(self.draw_given, given.name, most[k], k + 1, self.when(last.step))
@@ -40,12 +40,15 @@ class Others(Looking):
             ]
 
     def draw_given(self, name: str, most: np.ndarray, layer: int, when: str) -> None:
-        title = f"Layer {layer}, {when}: {name} is off by at most"
+        is_span = self.listing.is_span
+        off = "lies outside by at least" if is_span else "is off by at most"
+        title = f"Layer {layer}, {when}: {name} {off}"
         maps.one_map(self.album, f"off_layer{layer}", self.plan, most, layer, title, self.unit, maps.ERROR_MAP)
         self.page.picture(
             GIVEN,
             f"off_layer{layer}.png",
-            f"{name}, layer {layer}: off from every exact solution by at most this much",
+            f"{name}, layer {layer}: "
+            + ("outside the bounds" if is_span else "off from every exact solution by at most this much"),
             title if layer > 1 else "",
         )
 

@@ -7,11 +7,11 @@ import numpy as np
 
 from . import curves
 from .listing import Step
-from .look_maps import Maps
+from .look_ranges import Ranges
 from .looking import SECTIONS
 
 
-class Sections(Maps):
+class Sections(Ranges):
     """Sections along a row and a column, in the scale of the maps."""
 
     def add_sections(self, step: Step, row: int, col: int) -> None:
@@ -50,9 +50,11 @@ class Sections(Maps):
             edges,
             *(v[where] for v in (self.grid(step.low), self.plan.top, self.plan.bottom)),
             met,
+            self.grid(step.high)[where] if self.listing.is_span else None,
         )
         if self.shape[0] == 1:
             curves.head_section(self.album, name, self.plan, cut)
         else:
             curves.cell_section(self.album, name, self.plan, cut, self.scales([step])[0])
-        self.page.picture(SECTIONS, f"{name}.png", f"{title}: lower heads. {self.widest_of([step])}")
+        shown = "lower to upper heads" if self.listing.is_span and self.shape[0] == 1 else "lower heads"
+        self.page.picture(SECTIONS, f"{name}.png", f"{title}: {shown}. {self.widest_of([step])}")

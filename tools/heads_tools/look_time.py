@@ -39,13 +39,13 @@ class OverTime(Looking):
 
     def add_hydrographs(self, cells: list[Cell]) -> None:
         steps = self.listing.steps
+        cells = cells or (self.curve_cells() if self.listing.is_span else [])
         if cells:
             last = steps[-1]
-            rows = [
-                [" ".join(map(str, c)), *(decimal_text(v[self.listing.at(c)], 9) for v in (last.low, last.high))]
-                for c in cells
-            ]
-            self.page.table(HYDROGRAPHS, ["layer row column, last step", "lower", "upper"], rows)
+            values = [last.low, last.high] + [last.width()] * self.listing.is_span
+            rows = [[" ".join(map(str, c)), *(decimal_text(v[self.listing.at(c)], 9) for v in values)] for c in cells]
+            heading = ["layer row column, last step", "lower", "upper"] + ["upper less lower"] * self.listing.is_span
+            self.page.table(HYDROGRAPHS, heading, rows)
         if len(steps) > 1:
             self.jobs.append(partial(self.draw_hydrographs, cells or self.curve_cells()))
 

@@ -79,7 +79,8 @@ class Looking:
         self.jobs.clear()
 
     def widest_of(self, steps: list[Step]) -> str:
-        return f"The pairs are at most {decimal_text(max(int(s.width().max()) for s in steps), 9)} {self.unit} wide"
+        name = "ranges" if self.listing.is_span else "pairs"
+        return f"The {name} are at most {decimal_text(max(int(s.width().max()) for s in steps), 9)} {self.unit} wide"
 
     @property
     def place(self) -> Cell:

@@ -182,6 +182,29 @@ def small_maps(
         bar.ax.tick_params(labelsize=8)
 
 
+def side_map(
+    album: Album,
+    name: str,
+    plan: Plan,
+    values: np.ndarray,
+    layer: int,
+    title: str,
+    label: str,
+    colours: str,
+    norm: Normalize,
+) -> None:
+    """A map of one side of the bounds of a layer, or of how far they lie apart, in a scale that other maps share."""
+    tall = MAP_WIDTH * plan.ratio
+    with album.figure(name, WIDTH, tall + 1.3) as figure:
+        axes = box(figure, LEFT, 0.9, MAP_WIDTH, tall)
+        mesh = draw(axes, plan, values, colours, norm)
+        contours(axes, plan, values, norm)
+        handles = marks(axes, plan, layer, MAP_WIDTH) + ([patch(NO_FLOW, "none")] if np.isnan(values).any() else [])
+        axes.set(xlabel=plan.axis, ylabel=plan.axis, title=title)
+        legend_below(axes, handles, 0.5, 4)
+        figure.colorbar(mesh, cax=box(figure, LEFT + MAP_WIDTH + 0.1, 0.9, 0.13, tall)).set_label(label)
+
+
 def change_scale(most: float) -> Normalize:
     """The scale of changes from -most to most, whose middle is white."""
     return TwoSlopeNorm(0.0, -most, most)

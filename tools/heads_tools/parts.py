@@ -27,6 +27,7 @@ from .packages import read_deck
 from .pieces import SIDES, Part, Piece, Slabs, parts_of
 from .plain import package_lines
 from .program import call, direct_program
+from .spans import demand_one
 from .text import Problem, counted, read_text, whole_file
 from .verdict import UNCHECKED_ZONES, has_zones
 from .whole import WholeModel
@@ -69,6 +70,7 @@ def check_parts(nam: Path, path: Path, count: int, way: Way | None = None, zones
 def check_model(model: Model, path: Path, count: int, way: Way | None = None, zones: Path | None = None) -> Checked:
     """Checks a model's listing in at least `count` parts."""
     listing, way, numbers = read_listing(path), way or Way(), zone_numbers(model, zones)
+    demand_one(listing, "parts check listings of one deck")
     if not listing.is_whole:
         return Checked(8, ["the listing doesn't end with END"])
     cells = np.argwhere(model.ibound != 0) + 1

@@ -8,9 +8,11 @@ from pathlib import Path
 
 from .listing import Listing
 from .program import TOP, call, program, sha256
+from .spans import ALL_BETWEEN, demand_decks
 from .text import Problem
 
 CERTIFIED = "CERTIFIED"
+ALL_EXACT = "Every exact solution of the model's equations lies between the listed numbers."
 UNCHECKED_ZONES = "The flows between zones weren't checked: no zone file was named (--zones)."
 MOST_NAME = 255
 
@@ -19,13 +21,14 @@ MOST_NAME = 255
 class Verdict:
     """`status`: that of `heads check`, None where it wasn't called; `last`: its last line, or why it wasn't called;
     `name`: the listing's file; `has_zones`: whether the listing has lines ZONE; `is_zoned`: whether the check was given
-    their zone file, without which they aren't checked."""
+    their zone file, without which they aren't checked; `is_span`: the listing is that of two decks."""
 
     status: int | None
     last: str
     name: str
     has_zones: bool = False
     is_zoned: bool = False
+    is_span: bool = False
 
     @property
     def is_certified(self) -> bool:
@@ -35,7 +38,7 @@ class Verdict:
     def title(self) -> str:
         """What a page of this listing may be called."""
         if self.is_certified:
-            return f"Certified heads of {self.name}"
+            return f"Certified heads of {self.name}{', for every deck between two' if self.is_span else ''}"
         return f"Heads listed in {self.name} ({'not checked' if self.status is None else 'NOT CERTIFIED'})"
 
     @property
@@ -43,13 +46,11 @@ class Verdict:
         """The verdict, for the line under the title."""
         if self.is_certified:
             rest = "" if self.is_zoned or not self.has_zones else f" {UNCHECKED_ZONES}"
-            return (
-                "heads check: CERTIFIED. "
-                f"Every exact solution of the model's equations lies between the listed numbers.{rest}"
-            )
+            return f"heads check: CERTIFIED. {ALL_BETWEEN if self.is_span else ALL_EXACT}{rest}"
         if self.status is None:
             return f"Not checked ({self.last}): these numbers are bounds only if `heads check` certifies them."
-        return f"heads check: {self.last}. These numbers are no certified bounds of this model."
+        of = "the decks between these two" if self.is_span else "this model"
+        return f"heads check: {self.last}. These numbers are no certified bounds of {of}."
 
     @property
     def note(self) -> str:
@@ -66,16 +67,18 @@ class Verdict:
 
 def not_checked(listing: Listing) -> Verdict:
     """The verdict of a listing whose model isn't named."""
-    return Verdict(None, "no model was named by --name", listing.path.name, has_zones(listing))
+    return Verdict(None, "no model was named by --name", listing.path.name, has_zones(listing), False, listing.is_span)
 
 
-def check_listing(nam: Path, listing: Listing, zones: Path | None = None) -> Verdict:
+def check_listing(nam: Path, listing: Listing, zones: Path | None = None, to: list[str] | None = None) -> Verdict:
     """Calls `heads check` in the model's folder on the listing's file, with its zone file; where none is named, on the
-    listing without its lines ZONE."""
-    told = listing.path.name, has_zones(listing), zones is not None
+    listing without its lines ZONE. `to`: the options that name the second deck of a listing of two."""
+    demand_decks(listing, to or [])
+    told = listing.path.name, has_zones(listing), zones is not None, listing.is_span
     with tempfile.TemporaryDirectory(prefix="heads_") as folder:
         path = readable(listing.path, Path(folder) / "listing.heads", told[1] and not told[2])
         words, names = ["check", nam.name, str(path), "--digits", str(listing.digits)], {path: told[0]}
+        words += to or []
         if zones:
             file = readable(zones, Path(folder) / "zones")
             words, names = [*words, "--zones", str(file)], names | {file: zones.name}

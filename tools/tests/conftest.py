@@ -21,6 +21,12 @@ def pytest_configure(config):
     if program():
         os.environ["HEADS"] = str(program())
     config.addinivalue_line("markers", "program: needs the program heads")
+    config.addinivalue_line("markers", "spans: needs a program heads that takes a second deck (--to)")
+
+
+def takes_two_decks():
+    """Whether the program knows --to."""
+    return not heads(["run", "a.nam", "--to", "b.nam"], TOOLS).stdout.startswith("USAGE")
 
 
 def pytest_collection_modifyitems(config, items):
@@ -28,6 +34,10 @@ def pytest_collection_modifyitems(config, items):
         for item in items:
             if "program" in item.keywords:
                 item.add_marker(pytest.mark.skip(reason="no kept program, and HEADS names none"))
+    spans = [item for item in items if "spans" in item.keywords]
+    if spans and not (program() and takes_two_decks()):
+        for item in spans:
+            item.add_marker(pytest.mark.skip(reason="no program that takes a second deck"))
 
 
 @pytest.fixture
