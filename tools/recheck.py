@@ -1,11 +1,12 @@
 #!/usr/bin/env python3
 """A third party's check of a listing of `heads`, in exact fractions.
 
-    python3 recheck.py NAME LISTING [ZONES]      (in the deck's folder)
+    python3 recheck.py NAME LISTING [ZONES] [--to NAME2]      (in the deck's folder)
 
-Status 0: HOLDS. 1: a place can't be confirmed. 2: the deck or the listing can't be read. 3: the words aren't these.
+Status 0: HOLDS. 1: a place can't be confirmed. 2: a deck or the listing can't be read. 3: the words aren't these.
 It reads the deck by itself and makes the manual's equations without rounding. HOLDS says: each history of heads that
-solves them lies between the listed heads, and its flows in their pairs, step by step.
+solves them lies between the listed heads, and its flows in their pairs, step by step. With a second deck: each history
+whose every step solves those of some deck between, with numbers of stresses and STRT between theirs.
 
 What is tested of a step. l and u are its listed heads; a history's old heads lie between those of the step before.
   (1) The head of each constant cell lies in its pair.
@@ -31,6 +32,12 @@ at most the old one, and each other flow falls as the cell's own head rises. So 
 so has the group; and no flow changes from x to x + e. A known head's flow would. Else rivers and drains lie above
 x + e, evapotranspiration stands at nothing or at its all, and the flows of the group, which sum to 0, are its deep
 flows at least, which sum to more than 0. So l <= x everywhere, and x <= u likewise. (4) and the next step follow.
+
+Two decks. A flow has at each head a least and a greatest value of all decks between. (2) takes the least at l and the
+greatest at u; (3), deep flows and the floor are of the least, the ceiling of the greatest, with the least conductances;
+(4) takes both. A conductance from c to d is c and, besides, d - c where the flow is out (at l) or in (at u). A deck's
+own flow at x lies between the two, so all of the above holds. Where the greatest flow of a branch is the same at x - e
+and x, and the deck's own at x, that is the deck's deep flow, or 0 from a conductance of 0: not below the least one.
 """
 import heapq
 import re
@@ -41,6 +48,7 @@ from typing import Iterator, NamedTuple, Optional
 
 HOLDS, NOT_CONFIRMED, NOT_READ, USAGE = 0, 1, 2, 3
 TERMS = ["STORAGE", "CONSTANT HEAD", "WELLS", "DRAINS", "RIVER LEAKAGE", "HEAD DEP BOUNDS", "RECHARGE", "ET"]
+GIVING = ("RIVER LEAKAGE", "HEAD DEP BOUNDS")
 NUMBERS = {"WEL": 1, "RIV": 3, "DRN": 2, "GHB": 2, "CHD": 2, "RCH": 1, "EVT": 3}
 WORD = re.compile(r"[^ \t,\r]+")
 ZERO, ONE = Fraction(0), Fraction(1)
@@ -214,6 +222,12 @@ class Model:
             periods.append([(cell, [array[spot] for array in arrays[:count]]) for spot, cell in enumerate(cells)])
         return periods
 
+    def heads_at(self, time: Time) -> dict[int, Fraction]:
+        """The heads of the constant cells at the end of a step."""
+        heads = {cell: self.strt[cell] for cell, kind in enumerate(self.ibound) if kind < 0}
+        given = self.given[time.period + 1].items()
+        return heads | {cell: a + (b - a) * time.part for cell, (a, b) in given if self.ibound[cell] != 0}
+
     def faces_of(self, a: int) -> Iterator[Face]:
         """From a cell to the next ones along its row, its column and below: harmonic means."""
         row, col = divmod(a % self.sheet, self.ncol)
@@ -231,31 +245,40 @@ class Model:
             yield a, below, self.area[a] / resistance
 
 
-def stress(package: str, values: Values, area: Fraction) -> list[Branch]:
-    """The branch of an entry: Q; RECH; Bhead, Cond; Stage, Cond, Rbot; Elevation, Cond; SURF, EVTR, EXDP."""
+def stress(package: str, values: Values, others: Values, area: Fraction, sign: int) -> list[Branch]:
+    """The branches of an entry: Q; RECH; Bhead, Cond; Stage, Cond, Rbot; Elevation, Cond; SURF, EVTR, EXDP. Its numbers
+    lie anywhere between `values` and `others`: the least flow of all at each head (sign 1), or the greatest (-1)."""
+    low, high = ([side(pair) for pair in zip(values, others)] for side in (min, max))
+    a, b = (low, high) if sign > 0 else (high, low)  # numbers with which the flow rises, and with which it falls
+    more = high[1] - low[1] if len(low) > 1 else ZERO
     if package == "WEL":
-        return [Branch("WELLS", ONE, values[0], ZERO, ZERO, deep=values[0])]
+        return [Branch("WELLS", ONE, a[0], ZERO, ZERO, deep=a[0])]
     if package == "RCH":
-        return [Branch("RECHARGE", ONE, values[0] * area, ZERO, ZERO, deep=values[0] * area)]
+        return [Branch("RECHARGE", ONE, a[0] * area, ZERO, ZERO, deep=a[0] * area)]
     if package == "GHB":
-        return [Branch("HEAD DEP BOUNDS", values[1], values[0])]
+        taken, given = Branch("HEAD DEP BOUNDS", more, a[0], low=a[0]), Branch("HEAD DEP BOUNDS", more, a[0], high=a[0])
+        return [Branch("HEAD DEP BOUNDS", low[1], a[0])] + [taken if sign > 0 else given] * (more > 0)
     if package == "RIV":
-        return [Branch("RIVER LEAKAGE", values[1], values[0], values[2], deep=values[1] * (values[0] - values[2]))]
+        deep = a[0] - b[2]
+        taken = Branch("RIVER LEAKAGE", more, a[0], max(a[0], b[2]), deep=more * min(deep, ZERO))
+        given = Branch("RIVER LEAKAGE", more, a[0], b[2], a[0], deep=more * max(deep, ZERO))
+        least = Branch("RIVER LEAKAGE", low[1], a[0], b[2], deep=low[1] * deep)
+        return [least] + [taken if sign > 0 else given] * (more > 0)
     if package == "DRN":
-        return [Branch("DRAINS", values[1], values[0], low=values[0])]
-    if package == "EVT" and values[1] > 0:
-        surface, rate, extinction = values[0], values[1] * area, values[0] - values[2]
-        return [Branch("ET", rate / values[2], extinction, low=extinction, high=surface, deep=-rate)]
+        return [Branch("DRAINS", b[1], a[0], low=a[0])]
+    if package == "EVT" and b[1] > 0:
+        surface, rate, extinction = a[0], b[1] * area, a[0] - a[2]
+        return [Branch("ET", rate / a[2], extinction, low=extinction, high=surface, deep=-rate)]
     return []
 
 
 class Listing:
     """A listing, read step by step: its heads by cell, the pairs of its terms and of its zones."""
-    def __init__(self, name: str, model: Model):
+    def __init__(self, name: str, model: Model, is_span: bool = False):
         self.lines, self.at, self.model = lines_of(name), 0, model
-        digits = self.take(rf"HEADS 1|HEADS 2 DIGITS (\d+) UNIT {model.unit}")[0]
-        first = next((line for line in self.lines if line.startswith("IN ")), "")
-        self.places = len(first.split(" ")[1].partition(".")[2]) if digits is None else int(digits) + 9
+        digits = self.take(rf"HEADS 2 DIGITS (\d+) UNIT {model.unit}" + " TO" * is_span + "|HEADS 1" * (not is_span))[0]
+        term = next((line for line in self.lines if line.startswith("IN ")), "")
+        self.places = len(term.split(" ")[1].partition(".")[2]) if digits is None else int(digits) + 9
 
     def take(self, form: str) -> tuple[str, ...]:
         """The parts of the next line, which has to be of this form."""
@@ -285,12 +308,13 @@ class Listing:
 
 class Step:
     """The equations of a time step: the heads of its constant cells; of each variable cell its links to others, the
-    branches of all its other flows, and its deep flow."""
-    def __init__(self, model: Model, time: Time):
-        self.model, self.place, given = model, model.place, model.given[time.period + 1]
+    branches of all its other flows, and its deep flow. With a second model: the least (sign 1), or the greatest (-1),
+    of the heads and flows of all models between the two."""
+    def __init__(self, model: Model, time: Time, second: Optional[Model] = None, sign: int = 1):
+        self.model, self.place, second = model, model.place, second or model
         self.name = f"period {time.period + 1} step {time.step + 1}"
-        self.constant = {cell: model.strt[cell] for cell, kind in enumerate(model.ibound) if kind < 0}
-        self.constant |= {cell: a + (b - a) * time.part for cell, (a, b) in given.items() if model.ibound[cell] != 0}
+        heads = [each.heads_at(time) for each in (model, second)]
+        self.constant = {cell: sign * min(sign * each[cell] for each in heads) for cell in heads[0]}
         self.cells = [cell for cell, kind in enumerate(model.ibound) if kind > 0 and cell not in self.constant]
         self.links: dict[int, list[tuple[int, Fraction]]] = {cell: [] for cell in self.cells}
         self.branches: dict[int, list[Branch]] = {cell: [] for cell in self.cells}
@@ -306,9 +330,9 @@ class Step:
                 capacity = model.ss[cell] * height * model.area[cell]
                 self.branches[cell].append(Branch("STORAGE", capacity / time.length, None))
         for package, periods in model.stresses.items():
-            for cell, numbers in periods[time.period]:
+            for (cell, values), (_, others) in zip(periods[time.period], second.stresses[package][time.period]):
                 if cell in self.branches:
-                    self.branches[cell] += stress(package, numbers, model.area[cell])
+                    self.branches[cell] += stress(package, values, others, model.area[cell], sign)
         self.deep = {cell: sum((branch.deep for branch in self.branches[cell]), ZERO) for cell in self.cells}
 
     def balance(self, cell: int, heads: Values, old: Values) -> Fraction:
@@ -337,6 +361,8 @@ class Step:
             q += max(-self.deep[cell] if sign > 0 else sum(rates, ZERO), ZERO)
             heads = [branch for branch in self.branches[cell] if branch.conductance > 0 and branch.high is None]
             levels += [branch.low for branch in heads if sign > 0 and branch.low is not None]
+            giving = [branch.high for branch in self.branches[cell] if sign < 0 and branch.term in GIVING]
+            levels += [level for level in giving if level is not None]
             holding = [branch for branch in heads if sign < 0 or branch.low is None]
             levels += [old[cell] if branch.level is None else branch.level for branch in holding]
             if holding:
@@ -370,20 +396,23 @@ class Step:
                 out.setdefault((zones[a], zones[b]), []).append((a, b, conductance))
         return dict(sorted(out.items()))
 
-    def check_heads(self, listing: Listing, low: Values, high: Values) -> None:
-        """A Fault at the first cell that isn't confirmed. Old heads go from `low` to `high`."""
+    def check_heads(self, most: "Step", listing: Listing, low: Values, high: Values) -> None:
+        """A Fault at the first cell that isn't confirmed. Old heads go from `low` to `high`, flows up to `most`'s."""
         for cell, head in sorted(self.constant.items()):
-            if not listing.lower[cell] <= head <= listing.upper[cell]:
-                side = "LOW" if head < listing.lower[cell] else "HIGH"
-                raise Fault(f"{self.name} {self.place[cell]} {side}: the constant head {float(head)} isn't in its pair")
-            listing.lower[cell] = listing.upper[cell] = head
+            top = most.constant[cell]
+            if listing.lower[cell] > head or listing.upper[cell] < top:
+                side, known = ("LOW", head) if listing.lower[cell] > head else ("HIGH", top)
+                wrong = f"the constant head {float(known)} isn't in its pair"
+                raise Fault(f"{self.name} {self.place[cell]} {side}: {wrong}")
+            listing.lower[cell], listing.upper[cell] = head, top
         barriers: dict[str, dict[int, Fraction]] = {}
+        sides = ("LOW", 1, self, listing.lower, low), ("HIGH", -1, most, listing.upper, high)
         for cell in self.cells:
-            for side, sign, heads, old in (("LOW", 1, listing.lower, low), ("HIGH", -1, listing.upper, high)):
-                balance = self.balance(cell, heads, old)
+            for side, sign, step, heads, old in sides:
+                balance = step.balance(cell, heads, old)
                 if sign * balance < 0:
                     if side not in barriers:
-                        barriers[side] = self.barriers(old, sign)
+                        barriers[side] = step.barriers(old, sign)
                     if cell not in barriers[side] or sign * heads[cell] > sign * barriers[side][cell]:
                         wrong = f"the balance has the wrong sign, by {float(abs(balance)):.3g}"
                         raise Fault(f"{self.name} {self.place[cell]} {side}: {wrong}")
@@ -392,34 +421,51 @@ class Step:
             if all(branch.conductance <= 0 for branch in known) and sum(self.deep[cell] for cell in group) <= 0:
                 raise Fault(f"{self.name} {self.place[group[0]]}: nothing holds the group of this cell")
 
-    def check_flows(self, listing: Listing, low: Values, high: Values, faces: Faces) -> None:
+    def check_flows(self, most: "Step", listing: Listing, low: Values, high: Values, faces: Faces) -> None:
         """Each flow into a cell is least at its upper head and the lower old head."""
-        sums = {name: [ZERO] * 4 for name in TERMS}
-        for cell in self.cells:
-            for branch in self.branches[cell]:
-                least, most = branch.flow(listing.upper[cell], low[cell]), branch.flow(listing.lower[cell], high[cell])
-                for at, flow in enumerate((least, most, -most, -least)):
-                    sums[branch.term][at] += max(flow, ZERO)
+        sums = {name: [ZERO] * 4 for name in TERMS}  # in: the least and the greatest; out: the same
+        for at, step, heads, old in ((0, self, listing.upper, low), (1, most, listing.lower, high)):
+            for cell in self.cells:
+                for branch in step.branches[cell]:
+                    flow = branch.flow(heads[cell], old[cell])
+                    sums[branch.term][at if flow > 0 else 3 - at] += abs(flow)
         for (side, name), (lower, upper) in listing.terms.items():
-            least, most = sums[name][:2] if side == "IN" else sums[name][2:]
-            if lower > least or upper < most:
+            least, greatest = sums[name][:2] if side == "IN" else sums[name][2:]
+            if lower > least or upper < greatest:
                 raise Fault(f"{self.name} {side} {name}: the pair doesn't hold the flows")
         for (a, b), (lower, upper) in listing.zones.items():
             least = sum((c * (listing.lower[x] - listing.upper[y]) for x, y, c in faces[a, b]), ZERO)
-            most = sum((c * (listing.upper[x] - listing.lower[y]) for x, y, c in faces[a, b]), ZERO)
-            if lower > least or upper < most:
+            greatest = sum((c * (listing.upper[x] - listing.lower[y]) for x, y, c in faces[a, b]), ZERO)
+            if lower > least or upper < greatest:
                 raise Fault(f"{self.name} ZONE {a} {b}: the pair doesn't hold the flow")
 
 
-def check_listing(model: Model, listing: Listing, zones: list[int]) -> None:
-    """A Fault at the first place of the listing that isn't confirmed."""
-    low, high = model.strt, model.strt
+def demand_alike(one: Model, two: Model) -> None:
+    """A ValueError where the decks differ in more than numbers of stresses and STRT. EVTR is 0 in both or in none, EXDP
+    the same, and both heads of an entry of CHD rise from one deck to the other, or both fall."""
+    free: dict[str, object] = {"strt": 0, "stresses": 0, "given": 0}
+    shapes = [
+        (vars(model) | free, [list(heads) for heads in model.given], list(model.stresses))
+        + tuple([[cell for cell, _ in entries] for entries in periods] for periods in model.stresses.values())
+        + tuple([(n[1] > 0, n[2]) for _, n in entries] for entries in model.stresses.get("EVT", []))
+        for model in (one, two)
+    ]
+    if shapes[0] != shapes[1]:
+        raise ValueError("the two decks aren't alike")
+    if any((a[c][0] - b[c][0]) * (a[c][1] - b[c][1]) < 0 for a, b in zip(one.given, two.given) for c in a):
+        raise ValueError("the two heads of an entry of CHD are in two orders")
+
+
+def check_listing(model: Model, listing: Listing, zones: list[int], other: Model) -> None:
+    """A Fault at the first place of the listing that isn't confirmed. `other` is the second deck, or the model."""
+    low, high = ([side(pair) for pair in zip(model.strt, other.strt)] for side in (min, max))
     for time in model.times:
-        step = Step(model, time)
-        faces = step.zone_faces(zones)
+        least = Step(model, time, other)
+        most = least if other is model else Step(model, time, other, -1)
+        faces = least.zone_faces(zones)
         listing.read_step(time, faces)
-        step.check_heads(listing, low, high)
-        step.check_flows(listing, low, high, faces)
+        least.check_heads(most, listing, low, high)
+        least.check_flows(most, listing, low, high, faces)
         low, high = listing.lower, listing.upper
     listing.take("END")
     if listing.lines[listing.at :] not in ([""], []):
@@ -427,20 +473,24 @@ def check_listing(model: Model, listing: Listing, zones: list[int]) -> None:
 
 
 def main(arguments: list[str]) -> int:
-    if len(arguments) not in (2, 3):
-        print("usage: python3 recheck.py NAME LISTING [ZONES]   (in the folder of the deck)", file=sys.stderr)
+    second = arguments[-1] if arguments[-2:-1] == ["--to"] else None
+    arguments = arguments if second is None else arguments[:-2]
+    if len(arguments) not in (2, 3) or "--to" in arguments:
+        print("usage: python3 recheck.py NAME LISTING [ZONES] [--to NAME2]   (in the deck's folder)", file=sys.stderr)
         return USAGE
     try:
         model = Model(arguments[0])
+        other = model if second is None else Model(second)
+        demand_alike(model, other)
         zones = [0] * len(model.ibound)
         if len(arguments) == 3:
             zones = [int(value) for value in model.maps(text_of(arguments[2], has_comments=False), model.nlay)]
-        check_listing(model, Listing(arguments[1], model), zones)
+        check_listing(model, Listing(arguments[1], model, second is not None), zones, other)
     except Fault as fault:
         print(f"NOT CONFIRMED: {fault}")
         return NOT_CONFIRMED
     except (OSError, StopIteration, KeyError, IndexError, ValueError, ZeroDivisionError) as error:
-        print(f"NOT CONFIRMED: the deck or the listing can't be read here: {type(error).__name__} {error}")
+        print(f"NOT CONFIRMED: a deck or the listing can't be read here: {type(error).__name__} {error}")
         return NOT_READ
     print("HOLDS")
     return HOLDS

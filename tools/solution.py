@@ -1,10 +1,12 @@
 #!/usr/bin/env python3
 """The exact solution of a deck, beside a listing of `heads`.
 
-    python3 solution.py NAME LISTING [MOST]      (in the deck's folder, beside recheck.py)
+    python3 solution.py NAME LISTING [MOST] [--to NAME2 [COUNT]]      (in the deck's folder, beside recheck.py)
 
 It makes the manual's equations as recheck.py does, solves each time step in fractions, and says whether the solution
 lies between the listed heads. It tests no terms and no flows between zones: take a listing without lines ZONE.
+With a second deck it makes COUNT histories (10 where it is left out): at each time step it draws a deck between the two
+anew, each number of its stresses and STRT by itself, and solves it from the heads of the step before.
 A river, a drain and an evapotranspiration is linear in each of its ranges; the ranges are those of the listed heads'
 middle first, then those of the last solution, until they are its own. So what is found is a solution, whatever was
 guessed: its balances are tested to be 0.
@@ -14,16 +16,24 @@ Status 0: FOUND. 1: OUTSIDE. 2: not tried, not found, or the files can't be read
 """
 from __future__ import annotations
 
+import copy
 import sys
 from fractions import Fraction
 from math import lcm
+from random import Random
 
-from recheck import USAGE, ZERO, Fault, Listing, Model, Step, Values
+from recheck import USAGE, ZERO, Entries, Fault, Listing, Model, Step, Values, demand_alike
 
 FOUND, OUTSIDE, NOT_TRIED = 0, 1, 2
-MOST_CELLS, MOST_ROUNDS = 200, 100
+MOST_CELLS, MOST_ROUNDS, COUNT = 200, 100, 10
+# How far a number lies from the first deck's to the second's, in eighths: ends are drawn as often as what is between.
+EIGHTHS = (0, 0, 0, 8, 8, 8, 1, 2, 3, 4, 5, 6, 7)
 
 Row = dict[int, Fraction]
+
+
+class Outside(Exception):
+    """A head that doesn't lie between the listed ones."""
 
 
 def linear_row(step: Step, cell: int, head: Fraction, old: Values) -> tuple[Fraction, Fraction]:
@@ -89,47 +99,99 @@ def digits_of(heads: Values) -> int:
     return max((len(str(head.denominator)) for head in heads), default=1)
 
 
-def find(model: Model, listing: Listing, most: int) -> int:
-    """Solves the steps one after another, and prints what was found."""
-    old, longest = list(model.strt), 1
+def between(one: Model, two: Model, draw: Random) -> Model:
+    """A deck between two that are alike."""
+
+    def number(a: Fraction, b: Fraction) -> Fraction:
+        return a + (b - a) * Fraction(draw.choice(EIGHTHS), 8) if a != b else a
+
+    def numbers(a: Values, b: Values) -> Values:
+        return [number(x, y) for x, y in zip(a, b)]
+
+    def entries(a: Entries, b: Entries) -> Entries:
+        return [(cell, numbers(x, y)) for (cell, x), (_, y) in zip(a, b)]
+
+    made = copy.copy(one)
+    made.strt = numbers(one.strt, two.strt)
+    made.stresses = {k: [entries(a, b) for a, b in zip(p, two.stresses[k])] for k, p in one.stresses.items()}
+    made.given = [
+        {cell: (number(a, b[cell][0]), number(end, b[cell][1])) for cell, (a, end) in heads.items()}
+        for heads, b in zip(one.given, two.given)
+    ]
+    return made
+
+
+def read_heads(model: Model, listing: Listing) -> list[tuple[Values, Values]]:
+    """The listed heads of each step, lower and upper."""
+    out = []
     for time in model.times:
         listing.read_step(time, {})
-        step = Step(model, time)
-        if len(step.cells) > most:
-            print(f"NOT TRIED: {len(step.cells)} variable cells are more than {most}")
-            return NOT_TRIED
-        middle = [(low + high) / 2 for low, high in zip(listing.lower, listing.upper)]
+        out.append((listing.lower, listing.upper))
+    return out
+
+
+def follow(one: Model, two: Model, listed: list[tuple[Values, Values]], draw: Random) -> int:
+    """Solves the steps one after another, each of a deck between the two. A Fault where a head isn't between the listed
+    ones; the digits of the longest denominator."""
+    old, longest = list(between(one, two, draw).strt), 1
+    for time, (lower, upper) in zip(one.times, listed):
+        step = Step(between(one, two, draw), time)
+        middle = [(low + high) / 2 for low, high in zip(lower, upper)]
         heads = solve_step(step, middle, old)
         for cell, head in step.constant.items():
             heads[cell] = head
         for cell in [*step.cells, *step.constant]:
-            low, high = listing.lower[cell], listing.upper[cell]
-            if not low <= heads[cell] <= high:
+            if not lower[cell] <= heads[cell] <= upper[cell]:
                 place = f"{step.name}, {step.place[cell]}: {float(heads[cell])}"
-                print(f"OUTSIDE: {place} isn't between {float(low)} and {float(high)}")
-                return OUTSIDE
+                raise Outside(f"{place} isn't between {float(lower[cell])} and {float(upper[cell])}")
         old, longest = heads, max(longest, digits_of(heads))
-    count = len(model.times)
-    print(
-        f"FOUND: the solution of {count} step{'s' * (count != 1)} lies between the listed heads; "
-        f"digits of its longest denominator: {longest}"
-    )
+    return longest
+
+
+def find(one: Model, two: Model, listing: Listing, most: int, count: int) -> int:
+    """Solves as many histories, and prints what was found."""
+    cells = max(len(Step(one, time).cells) for time in one.times)
+    if cells > most:
+        print(f"NOT TRIED: {cells} variable cells are more than {most}")
+        return NOT_TRIED
+    listed = read_heads(one, listing)
+    longest = max(follow(one, two, listed, Random(seed)) for seed in range(count))
+    steps = f"{len(one.times)} step{'s' * (len(one.times) != 1)}"
+    solved = "the solution" if one is two else f"each of {count} solutions of decks between,"
+    print(f"FOUND: {solved} of {steps} lies between the listed heads; digits of its longest denominator: {longest}")
     return FOUND
 
 
+def words_of(arguments: list[str]) -> tuple[list[str], str | None, int]:
+    """The words without the second deck, its name, and how many histories are asked for."""
+    if "--to" not in arguments:
+        return arguments, None, 1
+    at = arguments.index("--to")
+    name, *count = arguments[at + 1 :] or [""]
+    return arguments[:at], name, int(count[0]) if len(count) == 1 and count[0].isdigit() else 0 if count else COUNT
+
+
 def main(arguments: list[str]) -> int:
-    if len(arguments) not in (2, 3) or not arguments[2:3] == [word for word in arguments[2:3] if word.isdigit()]:
-        print("usage: python3 solution.py NAME LISTING [MOST]   (in the folder of the deck)", file=sys.stderr)
+    words, second, count = words_of(arguments)
+    if len(words) not in (2, 3) or not all(map(str.isdigit, words[2:])) or second == "" or count < 1:
+        words_taken = "NAME LISTING [MOST] [--to NAME2 [COUNT]]"
+        print(f"usage: python3 solution.py {words_taken}   (in the deck's folder)", file=sys.stderr)
         return USAGE
     if hasattr(sys, "set_int_max_str_digits"):
         sys.set_int_max_str_digits(0)
     try:
-        model = Model(arguments[0])
-        return find(model, Listing(arguments[1], model), int(arguments[2]) if len(arguments) == 3 else MOST_CELLS)
+        one = Model(words[0])
+        two = one if second is None else Model(second)
+        demand_alike(one, two)
+        most = int(words[2]) if len(words) == 3 else MOST_CELLS
+        return find(one, two, Listing(words[1], one, second is not None), most, count)
+    except Outside as fault:
+        print(f"OUTSIDE: {fault}")
+        return OUTSIDE
     except Fault as fault:
         print(f"NOT FOUND: {fault}")
     except (OSError, StopIteration, KeyError, IndexError, ValueError, ZeroDivisionError) as error:
-        print(f"NOT FOUND: the deck or the listing can't be read here: {type(error).__name__} {error}")
+        print(f"NOT FOUND: a deck or the listing can't be read here: {type(error).__name__} {error}")
     return NOT_TRIED
 
 

@@ -137,11 +137,8 @@ def add_verdicts(told: Exhibit, folder: Path, name: str, listing: str, options: 
     told.commands.append(f"(cd deck && ../heads check {words})")
     checked = shell(folder, told.commands[-1])
     told.facts.append(("check", f"{checked.last} (status {checked.status})"))
-    if to:
-        told.facts.append(("recheck", "not done: recheck.py takes the listing of one deck"))
-    else:
-        count = sum(len(step.low) for step in read.steps)
-        add_recheck(told, folder, shlex.join([name, "../" + listing, *named]), count)
+    count = sum(len(step.low) for step in read.steps)
+    add_recheck(told, folder, shlex.join([name, "../" + listing, *named, *to]), count)
     verdict = Verdict(checked.status, checked.last, listing, has_zones(read), bool(named), read.is_span)
     told.verdict = verdict.sentence
     told.words = words_of(read, model.length, differing(folder / "deck", name, to), wells_of(model))

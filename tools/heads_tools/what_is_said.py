@@ -51,9 +51,6 @@ PROVED_BETWEEN = (
 )
 
 
-TEST_BETWEEN = "A test of the listing by the program, which searches for nothing and only tests what is listed."
-
-
 @dataclass(frozen=True)
 class Words:
     """Sentences for an exhibit: what may be said where the listing is certified, what may not and why, what is proved
@@ -73,7 +70,7 @@ def words_of(listing: Listing, unit: str, differing: list[str], wells: list[Cell
         return Words([EACH_HEAD, one_head(listing, unit), *zones])
     may = [stays(listing, unit, differing, wells), HOLDS.format(named(differing)), EACH_BETWEEN, *zones]
     may_not, why_not = [NOT_THE_UNCERTAINTY, NOT_THE_GROUND], f"{WHY_NOT_BETWEEN} {WHY_NOT}"
-    return Words(may, may_not, why_not, PROVED_BETWEEN, TEST_BETWEEN)
+    return Words(may, may_not, why_not, PROVED_BETWEEN)
 
 
 def one_head(listing: Listing, unit: str) -> str:

@@ -1,11 +1,12 @@
 """recheck beside the program: both hold what was written, and both name what was spoilt."""
 import random
 import re
+import shutil
 import subprocess
 import sys
 
 import pytest
-from conftest import TOOLS, heads
+from conftest import TOOLS, TOP, heads
 
 SCRIPT = TOOLS / "recheck.py"
 
@@ -28,7 +29,7 @@ def moved(line, lower, upper):
 def test_it_stays_short_and_alone():
     text = SCRIPT.read_text()
     imported = set(re.findall(r"^(?:import|from) (\w+)", text, re.M))
-    assert text.count("\n") <= 450 and max(map(len, text.split("\n"))) <= 120
+    assert text.count("\n") <= 500 and max(map(len, text.split("\n"))) <= 120
     assert imported == {"fractions", "heapq", "itertools", "re", "sys", "typing"}
 
 
@@ -112,6 +113,73 @@ def test_it_names_zone_lines_that_are_spoilt(change, part, zoned):
     listing.write_text("\n".join(lines))
     status, said = recheck(nam, listing, "m.zon")
     assert status == 1 and part in said
+
+
+@pytest.fixture
+def between(tmp_path):
+    """The two decks of the valley and the listing of all between them."""
+    folder = shutil.copytree(TOP / "examples" / "valley_between", tmp_path / "valley")
+    return folder / "from.nam", folder / "expect.txt"
+
+
+def test_it_holds_a_listing_of_two_decks_with_both(between):
+    nam, listing = between
+    assert recheck(nam, listing, "--to", "to.nam") == (0, "HOLDS")
+    assert recheck(nam, listing)[0] == 1
+    listing.write_text(listing.read_text().replace(" TO\n", "\n", 1))
+    status, said = recheck(nam, listing, "--to", "to.nam")
+    assert status == 1 and "line 1" in said
+
+
+@pytest.mark.parametrize("head, side", [("6.717665865", "LOW"), ("13.647057736", "HIGH")])
+def test_it_names_a_head_of_two_decks_that_is_a_unit_too_tight(head, side, between):
+    nam, listing = between
+    tighter = head[:-1] + str(int(head[-1]) + (1 if side == "LOW" else -1))
+    listing.write_text(listing.read_text().replace(head, tighter))
+    status, said = recheck(nam, listing, "--to", "to.nam")
+    assert status == 1 and f"period 1 step 1 1 8 17 {side}" in said
+
+
+def test_it_takes_the_worse_conductance_at_each_head(tmp_path):
+    """A river of stage 1 and conductance 1 to 3 beside a constant head of 0 or of 3, over a branch of conductance 1:
+    between 1/2 and 3/4, and between 3/2 and 2. Neither deck alone has both ends."""
+    for given, (low, high) in ((0, ("0.500000000", "0.750000000")), (3, ("1.500000000", "2.000000000"))):
+        folder = tmp_path / str(given)
+        folder.mkdir()
+        both = {
+            "a.dis": "1 1 2 1 4 2\n0\nCONSTANT 1\nCONSTANT 1\nCONSTANT 1\nCONSTANT 0\n1 1 1 SS\n",
+            "a.bas": f"FREE\nINTERNAL 1 (FREE) -1\n-1 1\n-999.99\nINTERNAL 1 (FREE) -1\n{given} 1\n",
+            "a.lpf": "0 -1E+30 0\n0\n0\n1\n0\n0\nCONSTANT 1\nCONSTANT 1\n",
+        }
+        for file, text in both.items():
+            (folder / file).write_text(text)
+        for deck, conductance in (("a", 1), ("b", 3)):
+            names = f"DIS 11 a.dis\nBAS6 12 a.bas\nLPF 13 a.lpf\nRIV 14 {deck}.riv\n"
+            (folder / f"{deck}.nam").write_text(names)
+            (folder / f"{deck}.riv").write_text(f"1 0\n1 0\n1 1 2 1 {conductance} -9\n")
+        terms = "STORAGE", "CONSTANT HEAD", "WELLS", "DRAINS", "RIVER LEAKAGE", "HEAD DEP BOUNDS", "RECHARGE"
+        lines = ["HEADS 2 DIGITS 0 UNIT 2 TO", "STEP 1 1", f"HEAD 1 1 1 {given}.000000000 {given}.000000000"]
+        lines += [f"HEAD 1 1 2 {low} {high}"]
+        lines += [f"{side} 0.000000000 9.000000000 {name}" for side in ("IN", "OUT") for name in terms]
+        listing = folder / "a.heads"
+        listing.write_text("\n".join([*lines, "END", ""]))
+        assert recheck(folder / "a.nam", listing, "--to", "b.nam") == (0, "HOLDS")
+        for tight in ((low[:-1] + "1", high), (low, f"{float(high) - 1e-9:.9f}")):
+            text = listing.read_text().replace(f"{low} {high}", " ".join(tight))
+            (folder / "tight.heads").write_text(text)
+            assert recheck(folder / "a.nam", folder / "tight.heads", "--to", "b.nam")[0] == 1
+
+
+@pytest.mark.parametrize(
+    "file, old, new",
+    [("to.wel", "1 8 17", "1 8 18"), ("to.nam", "RCH", "#RCH"), ("to.nam", "both.dis", "other.dis")],
+)
+def test_decks_that_are_not_alike_can_not_be_read_together(file, old, new, between):
+    nam, listing = between
+    (nam.parent / "other.dis").write_text((nam.parent / "both.dis").read_text().replace("CONSTANT 0", "CONSTANT 1"))
+    (nam.parent / file).write_text((nam.parent / file).read_text().replace(old, new))
+    status, said = recheck(nam, listing, "--to", "to.nam")
+    assert status == 2 and "aren't alike" in said
 
 
 @pytest.mark.program

@@ -40,6 +40,39 @@ def test_heads_that_leave_the_solution_out_are_named(example):
     assert status == 1 and text.startswith("OUTSIDE: period 1 step 1, 1 1 2: 15.0 isn't between")
 
 
+def listing_of_two(tmp_path, lower, upper):
+    """Two decks of three cells between constant heads 10 and 20, with a well of 0 in one and of -4 in the other; and a
+    listing of all between them that has these heads in the middle."""
+    files = {
+        "a.dis": "1 1 3 1 4 2\n0\nCONSTANT 1\nCONSTANT 1\nCONSTANT 1\nCONSTANT 0\n1 1 1 SS\n",
+        "a.bas": "FREE\nINTERNAL 1 (FREE) -1\n-1 1 -1\n-999.99\nINTERNAL 1 (FREE) -1\n10 0 20\n",
+        "a.lpf": "0 -1E+30 0\n0\n0\n1\n0\n0\nCONSTANT 1\nCONSTANT 1\n",
+        "a.wel": "1 0\n1 0\n1 1 2 0\n",
+        "b.wel": "1 0\n1 0\n1 1 2 -4\n",
+    }
+    names = "DIS 11 a.dis\nBAS6 12 a.bas\nLPF 13 a.lpf\nWEL 14 {}.wel\n"
+    for file, text in {**files, "a.nam": names.format("a"), "b.nam": names.format("b")}.items():
+        (tmp_path / file).write_text(text)
+    terms = "STORAGE", "CONSTANT HEAD", "WELLS", "DRAINS", "RIVER LEAKAGE", "HEAD DEP BOUNDS", "RECHARGE"
+    heads_of = [("10.000000000", "10.000000000"), (lower, upper), ("20.000000000", "20.000000000")]
+    lines = ["HEADS 2 DIGITS 0 UNIT 2 TO", "STEP 1 1"]
+    lines += [f"HEAD 1 1 {n} {' '.join(pair)}" for n, pair in enumerate(heads_of, 1)]
+    lines += [f"{side} 0.000000000 9.000000000 {name}" for side in ("IN", "OUT") for name in terms]
+    (tmp_path / "a.heads").write_text("\n".join([*lines, "END", ""]))
+    return tmp_path / "a.nam", tmp_path / "a.heads"
+
+
+def test_solutions_of_decks_between_lie_between(tmp_path):
+    status, text = solution(*listing_of_two(tmp_path, "13.000000000", "15.000000000"), "--to", "b.nam", "20")
+    assert status == 0 and text.startswith("FOUND: each of 20 solutions of decks between, of 1 step lies between")
+
+
+@pytest.mark.parametrize("pair", [("13.000000001", "15.000000000"), ("13.000000000", "14.999999999")])
+def test_a_solution_of_a_deck_between_that_lies_outside_is_named(pair, tmp_path):
+    status, text = solution(*listing_of_two(tmp_path, *pair), "--to", "b.nam")
+    assert status == 1 and text.startswith("OUTSIDE: period 1 step 1, 1 1 2: 1")
+
+
 @pytest.mark.program
 def test_a_large_model_is_not_tried(example):
     nam = example("river_valley")

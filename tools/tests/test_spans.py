@@ -198,6 +198,7 @@ def test_an_exhibit_of_two_decks_says_what_holds_between_them(valley, tool, tmp_
         )
         assert text.index("What may be said") < may < text.index("What may not be said") < may_not
     assert "for every deck between two" in (folder / "look" / "index.html").read_text()
+    assert "HOLDS (status 0)" in (folder / "EXHIBIT.txt").read_text()
     for command in (line.strip() for line in out.split("\n") if line.startswith("    ")):
         done = subprocess.run(["sh", "-c", command], cwd=folder, capture_output=True, text=True)
         assert done.returncode == 0, command
