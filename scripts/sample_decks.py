@@ -81,6 +81,22 @@ THREE_STEPS = deck("1", "1", "10", "3 3 1 TR", ("CONSTANT 1", "CONSTANT 1", "CON
 THREE_STEPS_PUTS = [FIRST, *(step(n, [twice(head)], {"STORAGE": FLOW_5}, {"WELLS": FLOW_5})
                              for n, head in [(1, "5.000000000"), (2, "0.000000000"), (3, "-5.000000000")]), LAST]
 
+def second(files, letter="b"):
+    """The same files under names that begin with another letter."""
+    return {name.replace("a.", f"{letter}."): content.replace(b"a.", b"%c." % ord(letter)) for name, content in files.items()}
+
+
+# Two decks: THREE_CELLS, and one whose constant heads are a unit higher. The head between them is from 15 to 16, and each
+# constant head gives or takes from 4 to 6 units.
+TWO_DECKS = THREE_CELLS | second(deck(heads="11 0 21"))
+FLOW_4_TO_6 = "4.000000000000000000000", "6.000000000000000000000"
+TWO_DECKS_FIRST = text("HEADS 2 DIGITS 12 UNIT 2 TO")
+TWO_DECKS_STEP = step(1, [(f"{low}.000000000", f"{low + 1}.000000000") for low in (10, 15, 20)],
+                      {"CONSTANT HEAD": FLOW_4_TO_6}, {"CONSTANT HEAD": FLOW_4_TO_6})
+TWO_DECKS_PUTS = [TWO_DECKS_FIRST, TWO_DECKS_STEP, LAST]
+TWO_DECKS_VIEW = rb"WATCH 1 1\nHEAD 1 1 2 (1\d\.\d{9}) ((?:1\d|20)\.\d{9}|21\.000000000)\n"
+TWO_DECKS_ZONES_PUTS = [TWO_DECKS_FIRST, TWO_DECKS_STEP + text("ZONE 1 2 -6.000000000000000000000 -4.000000000000000000000"), LAST]
+
 MADE = text("MADE 1 1", "STEPS 4", "HEADS 8", "WIDEST 0.000000000", "LOWSUM 79.840750000", "HIGHSUM 79.840750000", "END")
 
 # One piece of a view: two constant heads aren't shown.
@@ -123,20 +139,26 @@ COMMANDS = [
     Command("check a.nam lz.txt --zones z.txt", reading_order("a.nam", "a.dis", "a.bas", "a.lpf", "z.txt", "lz.txt"), [text("CERTIFIED")]),
     Command("batch list.txt", reading_order("list.txt", "a.nam", "a.dis", "a.bas", "a.lpf"), [text("MODEL a.nam") + b"".join(THREE_CELLS_PUTS), LAST]),
     Command("run a.nam --watch 2", reading_order("a.nam", "a.dis", "a.bas", "a.lpf"), THREE_CELLS_PUTS, side=rb"(?:(?:%s){2})+" % VIEW),
+    Command("run a.nam --to b.nam", TWO_DECKS, TWO_DECKS_PUTS),
+    Command("check a.nam l.txt --to b.nam", TWO_DECKS | {"l.txt": b"".join(TWO_DECKS_PUTS)}, [text("CERTIFIED")]),
 ]
 
 # Three models as a batch: the second one has no files, so its refusal is its text, and decides the status.
-BATCH = (THREE_CELLS | {name.replace("a.", "b."): content.replace(b"a.", b"b.") for name, content in FOUR_CELLS.items()}
-         | {"list.txt": text("a.nam", "none.nam", "b.nam")})
+BATCH = THREE_CELLS | second(FOUR_CELLS) | {"list.txt": text("a.nam", "none.nam", "b.nam")}
 BATCH_PUTS = [text("MODEL a.nam") + b"".join(THREE_CELLS_PUTS), text("MODEL none.nam", "REFUSED 1 MissingFile none.nam 0"),
               text("MODEL b.nam") + b"".join(FOUR_CELLS_PUTS), LAST]
 
-# Further decks: a batch, heads of thirds, three steps, a listing of thirds that is checked, and an array in a file of its own.
+# Further decks: a batch, heads of thirds, three steps, a listing of thirds that is checked, two decks with zones, with views, and with
+# another conductivity in the second, and an array in a file of its own.
 FURTHER = [
     Command("batch list.txt --workers 2", BATCH, BATCH_PUTS, status=2, opens=10),
     Command("run a.nam --workers 3", FOUR_CELLS, FOUR_CELLS_PUTS),
     Command("run a.nam", THREE_STEPS, THREE_STEPS_PUTS),
     Command("check a.nam l.txt", FOUR_CELLS | {"l.txt": b"".join(FOUR_CELLS_PUTS)}, [text("CERTIFIED")]),
+    Command("run a.nam --to b.nam --zones z.txt", TWO_DECKS | {"z.txt": ZONES["z.txt"]}, TWO_DECKS_ZONES_PUTS),
+    Command("run a.nam --to b.nam --watch 2", TWO_DECKS, TWO_DECKS_PUTS, side=rb"(?:(?:%s){2})+" % TWO_DECKS_VIEW),
+    Command("run a.nam --to b.nam", THREE_CELLS | second(deck(flow=("CONSTANT 2", "CONSTANT 1"))),
+            [text("REFUSED 28 NotAlike b.lpf 0 1 1 1")], status=2),
     Command("run a.nam", deck(flow=("OPEN/CLOSE hk.txt 1 (FREE)", "CONSTANT 1")) | {"hk.txt": text("3*1")}, THREE_CELLS_PUTS),
 ]
 
