@@ -40,11 +40,15 @@ impl Steps {
         ensures first { IfOk result (IsAtFirst task.now) }
     {
         let decks = &task.decks;
+        let times = Listed::new(times(alloc, &decks.first)?);
+        let heads = start_heads_for(alloc, decks)?;
+        // The tables come last, so that no exit has to drop them.
+        let tables = DeckTables::new(alloc, decks, task.digits)?;
         Ok(Steps {
-            tables: DeckTables::new(alloc, decks, task.digits)?,
-            times: Listed::new(times(alloc, &decks.first)?),
+            tables,
+            times,
             done: 0,
-            heads: start_heads_for(alloc, decks)?,
+            heads,
         })
     }
 
