@@ -6,15 +6,9 @@ use Rattle.step_problem.specs.declared.heads.Side.TheVariants.{Low, High}
 use Rattle.step_problem.specs.declared.place.NoBound.{NoBound}
 use Rattle.step_problem.specs.Entries.{Entries, entries_at}
 use Rattle.step_problem.specs.Balances.{lower_balance, upper_balance}
-use Rattle.step_problem.specs.Heads.{Edges, head_at, lower_at, upper_at, IsCertificate}
-use Rattle.cell_relax.specs.Words.{AreWords}
+use Rattle.step_problem.specs.Heads.{Edges, head_at, lower_at, upper_at}
 use Rattle.barrier_vector.specs.Refusals.{range_on}
 use Rattle.barrier_vector.specs.Cuts.{Refuses}
-
--- one bound for each cell, with heads in range, which are a certificate over the barrier b
-pub record AreCertified (p : List Entries) (b : Edges) (bounds : List Bound) : Type 0 where
-  pub words : AreWords p bounds
-  pub certificate : IsCertificate p b (lower_at bounds) (upper_at bounds)
 
 module _ (p : List Entries) (b : Edges) (bounds : List Bound) where
   -- The certificate holds at that side of cell c: its lower head is at most the floor, or its lower balance is not negative; the upper side mirrored.

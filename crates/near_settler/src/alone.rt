@@ -2,6 +2,7 @@
 ghost use Rattle.std.specs.Prelude.{◌≡◌, IfSome};
 ghost use Rattle.step_problem.specs.Heads.{AreOnTheWay, IsBarrier};
 ghost use Rattle.step_problem.specs.Settling.{Settles};
+ghost use Rattle.step_problem.specs.Settling.PairKind.{settled};
 
 use crate::first::{first_sweeps, has_few_cells};
 use crate::guesser::{Guesser, NearGuesser};
@@ -96,6 +97,8 @@ impl<S: Guesser> AloneSettler<S> {
 }
 
 impl<S: Guesser> Settler for AloneSettler<S> {
+    ghost pairs = { settled };
+
     ghost rounds = { λ s. s.rounds };
 
     ghost ready = { λ _. Unit {0} };

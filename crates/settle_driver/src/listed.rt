@@ -2,6 +2,7 @@
 ghost use Rattle.std.specs.Prelude.{◌≡◌};
 ghost use Rattle.cell_relax.specs.Words.{AreWords};
 ghost use Rattle.settle_driver.specs.Sweeps.{StayOnTheWay, SettleWithin};
+ghost use Rattle.step_problem.specs.Settling.PairKind.{settled};
 
 use crate::open::first_open;
 use crate::sweep::{relax_cell, sweep_up_to};
@@ -65,6 +66,8 @@ fn listed(p: &Problem, mut words: Vec<Bound>, list: &[u32], rounds: u32) -> Vec<
 }
 
 impl Settler for ListedSettler {
+    ghost pairs = { settled };
+
     ghost rounds = { λ s. s.rounds };
 
     ghost ready = { λ _. Unit {0} };

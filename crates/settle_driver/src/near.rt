@@ -3,6 +3,7 @@ ghost use Rattle.std.specs.Prelude.{◌≡◌, ◌⊎◌, IfOk, MatchOption};
 ghost use Rattle.std.specs.Result.{is_ok};
 ghost use Rattle.step_problem.specs.Heads.{IsBarrier};
 ghost use Rattle.step_problem.specs.Settling.{AreSettled, Settles};
+ghost use Rattle.step_problem.specs.Settling.PairKind.{settled};
 
 use crate::leaving::have_left;
 use crate::nearer::barrier_near;
@@ -21,6 +22,7 @@ fn settled_near<N: Settler>(
     trials: u32,
 ) -> Result<Option<Vec<Bound>>, AllocError>
     requires ready { N.ready trial.old }
+    requires kind { N.pairs ≡ settled }
     requires barrier { IsBarrier p.now b.now }
     ensures settled { IfOk result (λ o. MatchOption o (Unit {0}) (λ v. AreSettled p.now b.now v.items)) }
     ensures rounds { N.rounds trial.new ≡ N.rounds trial.old }
@@ -57,6 +59,7 @@ pub fn settle_near<N: Settler, S: Settler>(
 ) -> Result<Vec<Bound>, SettleFault>
     requires trial { N.ready trial.old }
     requires ready { S.ready settler.old }
+    requires kinds { (N.pairs ≡ settled) × (S.pairs ≡ settled) }
     requires barrier { IsBarrier p.now b.now }
     ensures settles { Settles p.now b.now (S.rounds settler.old) result }
     ensures rounds { (N.rounds trial.new ≡ N.rounds trial.old) × (S.rounds settler.new ≡ S.rounds settler.old) }

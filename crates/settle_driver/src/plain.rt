@@ -2,6 +2,7 @@
 ghost use Rattle.std.specs.Prelude.{◌≡◌};
 ghost use Rattle.step_problem.specs.Heads.{AreOnTheWay, IsBarrier};
 ghost use Rattle.step_problem.specs.Settling.{Settles};
+ghost use Rattle.step_problem.specs.Settling.PairKind.{settled};
 ghost use Rattle.cell_relax.specs.Words.{AreWords};
 ghost use Rattle.settle_driver.specs.Sweeps.{StayOnTheWay, SettleWithin};
 
@@ -60,6 +61,8 @@ impl PlainSettler {
 }
 
 impl Settler for PlainSettler {
+    ghost pairs = { settled };
+
     ghost rounds = { λ s. s.rounds };
 
     ghost ready = { λ _. Unit {0} };

@@ -2,6 +2,7 @@
 ghost use Rattle.std.specs.Prelude.{◌≡◌, ◌≤◌};
 ghost use Rattle.step_problem.specs.Heads.{AreOnTheWay, IsBarrier};
 ghost use Rattle.step_problem.specs.Settling.{Settles};
+ghost use Rattle.step_problem.specs.Settling.PairKind.{settled};
 ghost use Rattle.settle_driver.specs.Phases.{IsPlan};
 
 use crate::plan::Plan;
@@ -73,6 +74,8 @@ impl<F: Fn(Global, &Problem, &Barrier) -> Result<Vec<Bound>, SettleFault> + Drop
     ghost use Rattle.std.specs.Borrow.{Bor};
     ghost use Rattle.step_problem.specs.Entries.{Entries};
     ghost use Rattle.step_problem.specs.Heads.{Edges};
+
+    ghost pairs = { settled };
 
     ghost rounds = { λ s. s.rounds };
 

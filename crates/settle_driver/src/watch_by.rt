@@ -1,5 +1,6 @@
 // A settler by a closure that shows heads to a viewer.
 ghost use Rattle.std.specs.Prelude.{◌≡◌};
+ghost use Rattle.step_problem.specs.Settling.PairKind.{settled};
 
 use crate::viewer::Viewer;
 use std::alloc::Global;
@@ -50,6 +51,8 @@ impl<
     ghost use Rattle.step_problem.specs.Heads.{Edges, IsBarrier};
     ghost use Rattle.step_problem.specs.Settling.{Settles};
     ghost use Rattle.settle_driver.specs.Views.{AddsPhases, had_memory};
+
+    ghost pairs = { settled };
 
     ghost rounds = { λ s. s.rounds };
 

@@ -12,3 +12,4 @@ pub mod BothSettle
 pub mod Sums
 pub mod Shifts
 pub mod Leaving
+pub mod Pairs

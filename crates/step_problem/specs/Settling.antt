@@ -1,4 +1,4 @@
--- What a settler returns.
+-- What a settler returns: the pair of a problem, by its kind, or why there is none.
 use Rattle.std.specs.Prelude.{◌≡◌, ℕ, ◌<◌, List, length, ℤ, ◌<ℤ◌, Result, Ok, Err}
 use Rattle.std.specs.declared.vec.Vec.{Vec}
 use Rattle.std.specs.declared.alloc.Global.{Global}
@@ -9,7 +9,12 @@ use Rattle.step_problem.specs.declared.heads.SettleFault.{SettleFault}
 use Rattle.step_problem.specs.declared.heads.SettleFault.TheVariants.{Unfinished, Memory}
 use Rattle.step_problem.specs.Entries.{Entries}
 use Rattle.step_problem.specs.Conditions.{IsHead}
-use Rattle.step_problem.specs.Heads.{Edges, OpenHeads, lower_at, upper_at, CanRise, CanSink, IsSettledPair, RoundsSettleBoth, AreOnTheWay}
+use Rattle.step_problem.specs.Heads.{Edges, OpenHeads, lower_at, upper_at, CanRise, CanSink, IsSettledPair, IsCertificate, RoundsSettleBoth, AreOnTheWay}
+
+-- A settler gives the settled pair, or any pair that is a certificate.
+pub data PairKind : Type 0 where
+  settled : PairKind
+  certified : PairKind
 
 module _ (p : List Entries) where
   -- cell c can still move on that side
@@ -35,8 +40,24 @@ module _ (p : List Entries) where
     pub words : AreOnTheWay p b o.words
     pub open_cell : IsFirstOpen o.words o.cell o.side
 
-  -- the result of a settler: the settled pair, or a fault by its cause
+  -- one bound for each cell, with heads in range: a certificate
+  pub record AreCertified (b : Edges) (bounds : List Bound) : Type 0 where
+    pub whole : length bounds ≡ length p
+    pub low : (c : ℕ) → c < length p → IsHead (lower_at bounds c)
+    pub high : (c : ℕ) → c < length p → IsHead (upper_at bounds c)
+    pub certificate : IsCertificate p b (lower_at bounds) (upper_at bounds)
+
+  -- a pair of this kind; a problem has one settled pair, and may have many certificates, of which that is one
+  abbrev pub IsPairOf : PairKind → Edges → List Bound → Type 0
+  IsPairOf settled b bounds = AreSettled b bounds
+  IsPairOf certified b bounds = AreCertified b bounds
+
+  -- the result of a settler of pairs of this kind: such a pair, or a fault by its cause
+  abbrev pub Gives : PairKind → Edges → ℕ → Result (Vec Bound Global) SettleFault → Type 0
+  Gives kind b rounds (Ok bounds) = IsPairOf kind b bounds.items
+  Gives kind b rounds (Err (Unfinished o)) = IsUnfinished b rounds o
+  Gives kind b rounds (Err Memory) = Unit {0}
+
+  -- the result of a settler of the settled pair
   abbrev pub Settles : Edges → ℕ → Result (Vec Bound Global) SettleFault → Type 0
-  Settles b rounds (Ok bounds) = AreSettled b bounds.items
-  Settles b rounds (Err (Unfinished o)) = IsUnfinished b rounds o
-  Settles b rounds (Err Memory) = Unit {0}
+  Settles b rounds result = Gives settled b rounds result

@@ -1,0 +1,32 @@
+-- A pair of either kind is a certificate.
+use Rattle.step_problem.proofs.Common.{Result, Ok, Err, Entries, IsProblem, Edges, IsBarrier, lower_at, upper_at}
+use Rattle.std.specs.Prelude.{ℕ, List}
+use Rattle.std.specs.declared.vec.Vec.{Vec}
+use Rattle.std.specs.declared.alloc.Global.{Global}
+use Rattle.step_problem.specs.declared.heads.Bound.{Bound}
+use Rattle.step_problem.specs.declared.heads.SettleFault.{SettleFault}
+use Rattle.step_problem.specs.declared.heads.SettleFault.TheVariants.{Unfinished, Memory}
+use Rattle.step_problem.specs.Settling.{PairKind, AreCertified, AreSettled, IsPairOf, Gives}
+use Rattle.step_problem.specs.Settling.PairKind.{settled, certified}
+use Rattle.step_problem.proofs.BothSettle.{pair_certifies}
+
+-- the settled pair is a pair of either kind
+pub settled_is : (kind : PairKind) (p : List Entries) (b : Edges) (bounds : List Bound) → IsProblem p → IsBarrier p b → AreSettled p b bounds → IsPairOf p kind b bounds
+settled_is settled p b bounds problem barrier h = h
+settled_is certified p b bounds problem barrier h = record {
+  whole = h.whole;
+  low = h.pair.low.heads;
+  high = h.pair.high.heads;
+  certificate = pair_certifies p b (lower_at bounds) (upper_at bounds) problem barrier h.pair;
+}
+
+module _ (p : List Entries) (b : Edges) (problem : IsProblem p) (barrier : IsBarrier p b) where
+  pub either_certifies : (kind : PairKind) (bounds : List Bound) → IsPairOf p kind b bounds → AreCertified p b bounds
+  either_certifies settled bounds h = settled_is certified p b bounds problem barrier h
+  either_certifies certified bounds h = h
+
+  -- so what gives pairs of either kind gives certificates
+  pub either_gives : (kind : PairKind) (rounds : ℕ) (r : Result (Vec Bound Global) SettleFault) → Gives p kind b rounds r → Gives p certified b rounds r
+  either_gives kind rounds (Ok bounds) h = either_certifies kind bounds.items h
+  either_gives kind rounds (Err (Unfinished o)) h = h
+  either_gives kind rounds (Err Memory) h = h
