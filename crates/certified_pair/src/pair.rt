@@ -1,7 +1,7 @@
 // A pair that is tested.
 ghost use Rattle.std.specs.Prelude.{IfOk, IfSome};
 ghost use Rattle.step_problem.specs.Heads.{IsBarrier};
-ghost use Rattle.certificate_check.specs.Certificates.{AreCertified};
+ghost use Rattle.step_problem.specs.Settling.{AreCertified};
 ghost use Rattle.certified_pair.specs.Pairs.{AreOrdered};
 
 use crate::guesser::PairGuesser;

@@ -1,7 +1,7 @@
 // The test of a pair.
 ghost use Rattle.std.specs.Prelude.{◌↔◌, ◌≤ℤ◌, All, IsTrue};
 ghost use Rattle.step_problem.specs.Heads.{IsBarrier};
-ghost use Rattle.certificate_check.specs.Certificates.{AreCertified};
+ghost use Rattle.step_problem.specs.Settling.{AreCertified};
 ghost use Rattle.certified_pair.specs.Pairs.{AreOrdered};
 
 use cell_relax::are_words;

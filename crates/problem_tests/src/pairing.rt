@@ -9,7 +9,7 @@ use head_guess::Kept;
 use settle_driver::PlainSettler;
 use std::alloc::{AllocError, Global};
 use std::io;
-use step_problem::{Barrier, Bound, Problem};
+use step_problem::{Barrier, Bound, Problem, Settler};
 
 // Guesses these bounds, and then bounds that are a unit wider.
 #[derive(Drop)]
@@ -63,7 +63,7 @@ fn print_by<G: PairGuesser>(
         None => println!(rt; "no pair")?,
     }
     let mut pairs = QuickPairs::with_guesser(PlainSettler::new(rounds), guesser);
-    match pairs.pair(alloc, p, b) {
+    match pairs.settle(alloc, p, b) {
         Ok(bounds) => print_bounds(rt, "step", bounds.as_slice()),
         fault => print_answer(rt, &fault),
     }
