@@ -54,7 +54,7 @@ pub use Rattle.listing_run.proofs.HistoriesBound.{AllBoundMoves, BoundsMovesOf, 
 pub use Rattle.listing_run.proofs.Unique.{IsRest, first_in, ok_not_err, one_err, one_ok, rest_more, rest_whole}
 pub use Rattle.listing_run.specs.Bounding.{BoundAll, BoundBetween, Bounds, BoundsMoves, EnclosesHistories, HistoriesBound}
 pub use Rattle.listing_run.specs.Steps.{AllSteps, IsStep, Steps, budget_at}
-pub use Rattle.listing_run.specs.Tasks.{deck_task}
+pub use Rattle.listing_run.specs.Tasks.{deck_task, pairs_of}
 pub use Rattle.listing_run.specs.Zones.{AreFlowsOf, HasLargeFlowOf, faces_of}
 pub use Rattle.listing_run.specs.declared.listing_end.ListingEnd.TheVariants.{Whole}
 pub use Rattle.listing_run.specs.declared.step.Step.{Step}
@@ -84,11 +84,12 @@ pub use Rattle.step_chain.proofs.Assembled.{active_constant, constant_not_variab
 pub use Rattle.step_chain.proofs.OneStep.{same_bound, same_bounds}
 pub use Rattle.step_chain.specs.GridHeads.{bound_at}
 pub use Rattle.step_chain.specs.Laws.{HeadsFit, RefusalIsOne}
-pub use Rattle.step_chain.specs.Steps.{HasNoHeads, IsPosed, IsSettledStep}
+pub use Rattle.step_chain.specs.Steps.{HasNoHeads, IsPosed, IsStepBy}
 pub use Rattle.step_chain.specs.declared.solved.Solved.{Solved}
 pub use Rattle.step_problem.specs.Conditions.{IsHead, IsProblem}
 pub use Rattle.step_problem.specs.Entries.{Entries, entries_at, no_entries}
 pub use Rattle.step_problem.specs.Heads.{Edges, IsCertificate, lower_at, no_bound, upper_at}
+pub use Rattle.step_problem.specs.Settling.{AreCertified, PairKind}
 pub use Rattle.step_problem.specs.declared.entry.Fixed.{Fixed}
 pub use Rattle.step_problem.specs.declared.entry.FixedKind.{FixedKind}
 pub use Rattle.step_problem.specs.declared.entry.FixedKind.TheVariants.{Constant, Storage}

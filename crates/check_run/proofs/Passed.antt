@@ -8,7 +8,7 @@ use Rattle.span_steps.specs.Steps.{two}
 use Rattle.span_steps.proofs.Histories.{lies_in_first}
 use Rattle.exact_histories.specs.Histories.{HasOneHistory, AreSameHeads}
 use Rattle.exact_histories.proofs.JoinedSteps.{GoOn, history_of_steps}
-use Rattle.exact_histories.proofs.SettledSteps.{lies_encloses}
+use Rattle.exact_histories.proofs.SolvedSteps.{lies_encloses}
 use Rattle.exact_histories.proofs.Turns.{AreOne, go_on_more, nothing_more, one_more}
 use Rattle.chosen_histories.proofs.Turns.{AreTurns, IsTurn, Lands, turns_have_one}
 

@@ -1,5 +1,5 @@
 -- The listing of a run, as a check reads and judges it.
-use Rattle.std.specs.Prelude.{◌≡◌, ℕ, ◌<◌, ◌≤◌, ◌^◌, List, map, nat_abs, Ok, Option}
+use Rattle.std.specs.Prelude.{◌≡◌, ℕ, ◌<◌, ◌≤◌, ◌^◌, List, map, nat_abs, Ok, Bool, Option}
 use Rattle.std.specs.List.{concat}
 use Rattle.deck_problems.specs.declared.decks.Decks.{Decks}
 use Rattle.deck_problems.specs.Decks.{AreDecks}
@@ -23,8 +23,8 @@ as_listed v = record { heads = v.heads; budget = v.budget; zones = v.zones }
 -- Where all steps of valid decks have values, the listing of these values is certified.
 abbrev pub RunIsCertified : Type 0
 RunIsCertified =
-    (d : Decks) (s : ℕ) (zones : Option (List ℕ)) (rounds : ℕ) (values : List Step) → AreDecks d → AreNumbers zones →
-    AllSteps (deck_task d s zones rounds) values Whole → IsVerdict d s zones (map as_listed values) Certified
+    (d : Decks) (s : ℕ) (zones : Option (List ℕ)) (rounds : ℕ) (quick : Bool) (values : List Step) → AreDecks d → AreNumbers zones →
+    AllSteps (deck_task d s zones rounds quick) values Whole → IsVerdict d s zones (map as_listed values) Certified
 
 -- valid decks with a LENUNI of 64 bits, as the reader of models gives it, at most 18 digits, and zones of at most 999 if
 -- there is a zone file
@@ -37,7 +37,7 @@ pub record IsReadable (d : Decks) (s : ℕ) (zones : Option (List ℕ)) : Type 0
 -- The bytes of such a listing are read as these values.
 abbrev pub RunIsReadAgain : Type 0
 RunIsReadAgain =
-    (d : Decks) (s : ℕ) (zones : Option (List ℕ)) (rounds : ℕ) (values : List Step) → IsReadable d s zones →
-    AllSteps (deck_task d s zones rounds) values Whole →
-    listing_at (is_between (deck_task d s zones rounds)) d.first s (pairs_in d.first zones)
-    (all_lines (concat (listing (deck_task d s zones rounds) values end_line))) ≡ Ok (map as_listed values)
+    (d : Decks) (s : ℕ) (zones : Option (List ℕ)) (rounds : ℕ) (quick : Bool) (values : List Step) → IsReadable d s zones →
+    AllSteps (deck_task d s zones rounds quick) values Whole →
+    listing_at (is_between (deck_task d s zones rounds quick)) d.first s (pairs_in d.first zones)
+    (all_lines (concat (listing (deck_task d s zones rounds quick) values end_line))) ≡ Ok (map as_listed values)

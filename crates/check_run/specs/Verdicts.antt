@@ -1,5 +1,5 @@
 -- The verdict on a listing, and how a certified listing encloses every history.
-use Rattle.std.specs.Prelude.{◌≡◌, ℕ, ◌⊎◌, List, [], ◌∷◌, Option}
+use Rattle.std.specs.Prelude.{◌≡◌, ℕ, ◌⊎◌, List, [], ◌∷◌, Option, false}
 use Rattle.step_problem.specs.declared.heads.Bound.{Bound}
 use Rattle.model_types.specs.declared.time_steps.TimeStep.{TimeStep}
 use Rattle.model_types.specs.Times.{times}
@@ -36,9 +36,9 @@ module _ (d : Decks) (s : ℕ) (zones : Option (List ℕ)) where
     pub is_start : AreStartHeadsFor d start
     pub checks : Checks start (times d.first) steps end
 
-  -- the decks as a task; the rounds have no effect
+  -- the decks as a task; the rounds, and that it is not quick, have no effect
   abbrev pub checked_task : Task
-  checked_task = deck_task d s zones 0
+  checked_task = deck_task d s zones 0 false
 
 -- a listed step at its time, as a step of a run
 abbrev pub step_of : TimeStep → ListedStep → Step

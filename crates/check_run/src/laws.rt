@@ -8,7 +8,6 @@ use deck_problems::laws::{
 };
 use listing_io::laws::listings_are_read_again;
 use step_chain::laws::{heads_fit, one_refusal};
-use step_problem::laws::settled_pair_certifies;
 
 /// A listing has at most one verdict.
 pub fn one_verdict()
@@ -30,7 +29,6 @@ pub fn run_is_certified()
     start_heads();
     problems_fit();
     constant_pairs();
-    settled_pair_certifies();
     heads_fit();
 }
 

@@ -4,7 +4,7 @@ use Rattle.chosen_histories.proofs.Common.{IsBefore, problem_encloses, pair_encl
 use Rattle.chosen_histories.proofs.Common.{AreSteps, AreAllSteps, ChoicesHaveAHistory, ChoicesHaveOneHistory, times, ChoicesHaveOne}
 use Rattle.deck_problems.specs.Decks.{AreDecks}
 use Rattle.step_chain.specs.declared.solved.Solved.{Solved}
-use Rattle.step_chain.specs.Pairs.{PairKind}
+use Rattle.step_problem.specs.Settling.{PairKind}
 use Rattle.certificate_check.proofs.Certified.{settled_encloses}
 use Rattle.deck_problems.proofs.OneProblem.{problem_fits}
 use Rattle.deck_problems.proofs.Starting.{starts_enclose_members, starts_fit_decks}

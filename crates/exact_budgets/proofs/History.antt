@@ -1,6 +1,6 @@
 -- The budgets of a history, step by step: by induction on the time steps.
 use Rattle.exact_budgets.proofs.Common.{◌≡◌, ℕ, ◌<◌, inl, inr, refl, sym, ap, subst, List, [], ◌∷◌, map, Option, ℤ, Fraction, ExactCell, AreLinked, heads_of}
-use Rattle.exact_budgets.proofs.Common.{variable_heads, SolvesAt, SolvesFrom, NetTermsLieInTheOthers, StepsHaveTheirTimes, CertifiedHaveTheirTimes}
+use Rattle.exact_budgets.proofs.Common.{variable_heads, SolvesAt, SolvesFrom, NetTermsLieInTheOthers, StepsHaveTheirTimes, CertifiedHaveTheirTimes, Bool}
 use Rattle.model_types.specs.declared.model.FlowModel.{FlowModel}
 use Rattle.model_types.specs.declared.time_steps.TimeStep.{TimeStep}
 use Rattle.model_types.specs.Heads.{start_head}
@@ -24,9 +24,9 @@ use Rattle.exact_budgets.specs.Histories.{NetTermsLieAt, AllNetTermsLie}
 use Rattle.exact_budgets.proofs.Balance.{terms_over, solutions_balance}
 use Rattle.exact_budgets.proofs.Bounds.{net_terms_lie}
 
-module _ (m : FlowModel) (s : ℕ) (zones : Option (List ℕ)) (rounds : ℕ) (valid : IsModel m) (d : ℕ) (some : 0 < d) where
+module _ (m : FlowModel) (s : ℕ) (zones : Option (List ℕ)) (rounds : ℕ) (quick : Bool) (valid : IsModel m) (d : ℕ) (some : 0 < d) where
   abbrev task : Task
-  task = one_task m s zones rounds
+  task = one_task m s zones rounds quick
 
   one_step : (v : Step) (before : ℕ → Fraction) (X : ℕ → ℤ) → SolvesAt m v.at before d X → Bounds task m v before d X → NetTermsLieAt m s v before d X
   one_step v before X solves bounds = record {
@@ -52,8 +52,8 @@ module _ (m : FlowModel) (s : ℕ) (zones : Option (List ℕ)) (rounds : ℕ) (v
       (one_step v before X solves.0 b.0, all_steps (map (λ v. v.at) values) values (heads_of d X) Xs refl solves.1 b.1)
 
 pub net_terms_lie_in_the_others : NetTermsLieInTheOthers
-net_terms_lie_in_the_others m s zones rounds values valid at encloses d history solves =
-    all_steps m s zones rounds valid d solves.some (times m) values (start_head m) history at solves.steps (encloses d history solves)
+net_terms_lie_in_the_others m s zones rounds quick values valid at encloses d history solves =
+    all_steps m s zones rounds quick valid d solves.some (times m) values (start_head m) history at solves.steps (encloses d history solves)
 
 times_of : (k : Task) (steps : List TimeStep) (values : List Step) (old : List Bound) → Steps k old steps values Whole → map (λ v. v.at) values ≡ steps
 times_of k [] [] old h = refl

@@ -1,6 +1,6 @@
 -- Names that several proofs of this crate cite, of the crates below and of its own definitions, passed on from one place. Declares nothing.
-pub use Rattle.std.proofs.Common.{All, Contains, List, Option, [], ap, arith, cond, get_or, inl, inr, length, map, mul-pos, nat_eq, not, pos, refl, subst, suc}
-pub use Rattle.std.proofs.Common.{sym, true, zero, ℕ, ℤ, ◌*ℤ◌, ◌*◌, ◌-◌, ◌<◌, ◌^◌, ◌∙◌, ◌∷◌, ◌≡◌, ◌≤ℤ◌}
+pub use Rattle.std.proofs.Common.{All, Bool, Contains, List, Option, [], ap, arith, cond, get_or, inl, inr, length, map, mul-pos, nat_eq, not, pos, refl, subst}
+pub use Rattle.std.proofs.Common.{suc, sym, true, zero, ℕ, ℤ, ◌*ℤ◌, ◌*◌, ◌-◌, ◌<◌, ◌^◌, ◌∙◌, ◌∷◌, ◌≡◌, ◌≤ℤ◌}
 pub use Rattle.std.proofs.lemmas.Bool.{and_parts, cases_Bool, cases_eq, eq-eqb, ne_eqb, not-true}
 pub use Rattle.std.proofs.lemmas.List.Elements.{All-cons, All-contains_itself, All-head, All-nil, All-tail}
 pub use Rattle.std.specs.List.{AllZip}
@@ -22,7 +22,7 @@ pub use Rattle.model_types.specs.Valid.{IsModel}
 pub use Rattle.model_types.specs.declared.model.FlowModel.{FlowModel}
 pub use Rattle.model_types.specs.declared.time_steps.TimeStep.{TimeStep}
 pub use Rattle.problem_builder.specs.GridHeads.{AreGridHeads, HeadsEnclose}
-pub use Rattle.step_chain.specs.Steps.{IsPosed, IsSettledStep}
+pub use Rattle.step_chain.specs.Steps.{IsPosed, IsStepBy}
 pub use Rattle.step_problem.proofs.Ring.{mul_assoc}
 pub use Rattle.step_problem.specs.Entries.{Entries, entries_at}
 pub use Rattle.step_problem.specs.Heads.{Edges, head_at, lower_at, upper_at}

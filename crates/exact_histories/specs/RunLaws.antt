@@ -1,5 +1,5 @@
 -- What a whole run says of the exact equations of its model: they have a solution, and one alone.
-use Rattle.std.specs.Prelude.{ℕ, ℤ, List, Option}
+use Rattle.std.specs.Prelude.{ℕ, ℤ, List, Bool, Option}
 use Rattle.model_types.specs.declared.model.FlowModel.{FlowModel}
 use Rattle.model_types.specs.Valid.{IsModel}
 use Rattle.flow_equations.specs.Histories.{Solves}
@@ -12,10 +12,10 @@ use Rattle.exact_histories.specs.Histories.{HasHistory, AreSame}
 -- Where all time steps of a task of one deck have heads, its model has a history.
 abbrev pub RunsHaveAHistory : Type 0
 RunsHaveAHistory =
-    (m : FlowModel) (s : ℕ) (zones : Option (List ℕ)) (rounds : ℕ) (values : List Step) → IsModel m → AllSteps (one_task m s zones rounds) values Whole → HasHistory m
+    (m : FlowModel) (s : ℕ) (zones : Option (List ℕ)) (rounds : ℕ) (quick : Bool) (values : List Step) → IsModel m → AllSteps (one_task m s zones rounds quick) values Whole → HasHistory m
 
 -- And one alone.
 abbrev pub RunsHaveOneHistory : Type 0
 RunsHaveOneHistory =
-    (m : FlowModel) (s : ℕ) (zones : Option (List ℕ)) (rounds : ℕ) (values : List Step) → IsModel m → AllSteps (one_task m s zones rounds) values Whole →
+    (m : FlowModel) (s : ℕ) (zones : Option (List ℕ)) (rounds : ℕ) (quick : Bool) (values : List Step) → IsModel m → AllSteps (one_task m s zones rounds quick) values Whole →
     (d e : ℕ) (Xs Ys : List (ℕ → ℤ)) → Solves m d Xs → Solves m e Ys → AreSame m d e Xs Ys

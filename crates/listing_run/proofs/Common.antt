@@ -2,7 +2,7 @@
 pub use Rattle.std.proofs.Common.{All, Bool, Contains, Err, List, None, Ok, Option, Result, Some, [], ap, arith, drop, false, get_or, inl, inr, length, map}
 pub use Rattle.std.proofs.Common.{pos, refl, rules, subst, suc, sym, true, ℕ, ℤ, ◌*ℤ◌, ◌++◌, ◌+◌, ◌-◌, ◌<◌, ◌^◌, ◌∙◌, ◌∷◌, ◌≡◌, ◌≤ℤ◌}
 pub use Rattle.std.proofs.lemmas.List.{append-nil, append_assoc, map-append}
-pub use Rattle.std.specs.Prelude.{IfErr, IfOk, IfSome, MatchResult}
+pub use Rattle.std.specs.Prelude.{IfErr, IfOk, IfSome, MatchResult, if◌then◌else◌}
 pub use Rattle.budget_bounds.specs.declared.pair.Budget.{Budget}
 pub use Rattle.decimal_input.specs.Fractions.{Fraction}
 pub use Rattle.deck_problems.proofs.Members.{between_cells, cell_of_member, each_member, encloses_first, encloses_member, member_cells, of_member}
@@ -16,7 +16,9 @@ pub use Rattle.listing_run.specs.Listing.{IsCutListing, IsListing, IsListingBesi
 pub use Rattle.listing_run.specs.Listing.{text_of}
 pub use Rattle.listing_run.specs.Settlers.{AllSettledBy, AreSettledBy, IsSettledBy, PairEncloses, Reaches, ReachesFirst, RestsOrSettles, RestsOrSettlesFirst}
 pub use Rattle.listing_run.specs.Settlers.{rests, settled}
-pub use Rattle.listing_run.specs.Steps.{AllSettle, AllSteps, EndsAt, FirstSteps, HasNoBound, IsStep, StepsThen, budget_at, no_budget, no_heads, no_zones}
+pub use Rattle.listing_run.specs.Steps.{AllSettle, AllSteps, EndsAt, FirstSteps, HasNoBound, IsSolved, IsStep, StepsThen, budget_at, no_budget, no_heads}
+pub use Rattle.listing_run.specs.Steps.{no_zones}
+pub use Rattle.listing_run.specs.Tasks.{pairs_of}
 pub use Rattle.listing_run.specs.Zones.{AreFlowsAt, FlowsEnclose, FlowsEncloseAt, HasLargeFlow, faces_at}
 pub use Rattle.listing_run.specs.declared.listing_end.ListingEnd.{ListingEnd}
 pub use Rattle.listing_run.specs.declared.step.Step.{Step}
@@ -38,10 +40,11 @@ pub use Rattle.run_puts.specs.Lines.{Text, end_line}
 pub use Rattle.run_puts.specs.Runs.{IsRun, whole}
 pub use Rattle.run_puts.specs.declared.status.Status.{Status}
 pub use Rattle.step_chain.specs.Enclosing.{EnclosesMoves, IsMove, LieBetween, LiesWithin}
-pub use Rattle.step_chain.specs.Steps.{IsPosed, IsSettledStep}
+pub use Rattle.step_chain.specs.Steps.{IsPosed, IsSettledStep, IsStepBy}
 pub use Rattle.step_chain.specs.declared.solved.Solved.{Solved}
 pub use Rattle.step_problem.specs.Entries.{Entries, entries_at}
 pub use Rattle.step_problem.specs.Heads.{Edges, IsSettledPair, RoundsSettleBoth, lower_at, upper_at}
+pub use Rattle.step_problem.specs.Settling.{PairKind}
 pub use Rattle.step_problem.specs.declared.heads.Bound.{Bound}
 pub use Rattle.step_problem.specs.declared.place.NoBound.{NoBound}
 pub use Rattle.step_problem.specs.declared.place.ZoneFlow.{ZoneFlow}

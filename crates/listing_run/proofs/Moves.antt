@@ -1,8 +1,9 @@
 -- A step of a listing, by the clauses of the calls that gave its parts.
 use Rattle.listing_run.proofs.Common.{◌≡◌, ℕ, length, List, ◌∷◌, ℤ, Ok, Err, Result, subst, sym, refl, Fraction, Bound, NoBound, ZoneFlow, RoundsSettleBoth}
-use Rattle.listing_run.proofs.Common.{lower_at, upper_at, Budget, TimeStep, heads_of, variable_heads, Solved, IsSettledStep, EachMember, each_member, of_member}
-use Rattle.listing_run.proofs.Common.{member_cells, cell_of_member, IsMove, EnclosesMoves, Task, Step, IsActive, IsNamed, AreFlowsAt, FlowsEncloseAt, IsStep}
-use Rattle.listing_run.proofs.Common.{HasNoBound, no_heads, no_budget, no_zones, budget_at, Bounds, BoundsMoves, FlowsStopBy, StopsAt, stop_of}
+use Rattle.listing_run.proofs.Common.{lower_at, upper_at, Budget, TimeStep, heads_of, variable_heads, Solved, EachMember, each_member, of_member, member_cells}
+use Rattle.listing_run.proofs.Common.{cell_of_member, IsMove, EnclosesMoves, Task, Step, IsActive, IsNamed, AreFlowsAt, FlowsEncloseAt, IsStep, HasNoBound}
+use Rattle.listing_run.proofs.Common.{no_heads, no_budget, no_zones, budget_at, Bounds, BoundsMoves, FlowsStopBy, StopsAt, stop_of, PairKind, IsStepBy}
+use Rattle.listing_run.proofs.Common.{pairs_of, IsSolved}
 use Rattle.budget_bounds.specs.Exact.{EnclosesBudgets, HeadsAreWithin}
 use Rattle.budget_bounds.specs.Terms.{budget_of}
 use Rattle.flow_equations.specs.ExactStep.{exact_step}
@@ -31,22 +32,25 @@ module _ (k : Task) (s : ℕ) (at : TimeStep) (old : List Bound) (digits : s ≡
   pub step_stops : (rounds : ℕ) (f : StepFault) → rounds ≡ k.rounds → StepFailsBy k.decks s at old rounds f → (rest : List TimeStep) → StopsAt k old (at ∷ rest) (stop_of at f)
   step_stops rounds f same h = let P : ℕ → Type 0 = λ n. StepFailsBy k.decks n at old rounds f in step_stops_by rounds f same (subst P digits h)
 
-  module _ (x : Solved) (settled : IsSettledStep k.decks s at old x) (lent : List Bound) (same : lent ≡ x.bounds) where
-    by_digits : IsSettledStep k.decks k.digits at old x
-    by_digits = let P : ℕ → Type 0 = λ n. IsSettledStep k.decks n at old x in subst P digits settled
+  module _ (kind : PairKind) (kinds : kind ≡ pairs_of k) (x : Solved) (solves : IsStepBy k.decks s at old kind x) (lent : List Bound) (same : lent ≡ x.bounds) where
+    by_task : IsSolved k at old x
+    by_task =
+        let P : ℕ → Type 0 = λ n. IsStepBy k.decks n at old kind x in
+        let Q : PairKind → Type 0 = λ pairs. IsStepBy k.decks k.digits at old pairs x in
+        subst Q kinds (subst P digits solves)
 
     pub budget_refused : (n : NoBound) → Err n ≡ budget_of x.problem (lower_at lent) (upper_at lent) → HasNoBound k at old n
-    budget_refused n is = no_budget x by_digits (budget_by x lent (Err n) same is)
+    budget_refused n is = no_budget x by_task (budget_by x lent (Err n) same is)
 
     -- a refusal of the flows between zones comes after the budget
     pub flows_stop : (b : Budget) → Ok b ≡ budget_of x.problem (lower_at lent) (upper_at lent) → (stop : Stop) → FlowsStopBy k.zones x at stop → (rest : List TimeStep) → StopsAt k old (at ∷ rest) stop
     flows_stop b is stops.Memory h rest = tt
-    flows_stop b is (stops.End (ends.NoBound t n)) h rest = (h.0, no_zones x b by_digits (budget_by x lent (Ok b) same is) h.1)
+    flows_stop b is (stops.End (ends.NoBound t n)) h rest = (h.0, no_zones x b by_task (budget_by x lent (Ok b) same is) h.1)
     flows_stop b is (stops.End ends.Whole) h rest = absurd h
     flows_stop b is (stops.End (ends.Unfinished t)) h rest = absurd h
 
     pub step_is : (b : Budget) (flows : List ZoneFlow) → AreFlowsAt k.zones x flows → Ok b ≡ budget_of x.problem (lower_at lent) (upper_at lent) → IsStep k at old (record { at = at; heads = x.heads; budget = b; zones = flows })
-    step_is b flows are is = record { solved = x; settled = by_digits; time = refl; heads = refl; budget = budget_by x lent (Ok b) same is; zones = are }
+    step_is b flows are is = record { solved = x; solves = by_task; time = refl; heads = refl; budget = budget_by x lent (Ok b) same is; zones = are }
 
   pub bounds_moves : HeadsAreWithin → (x : Solved) (lent : List Bound) (b : Budget) (flows : List ZoneFlow) → lent ≡ x.bounds → EachMember k.decks (λ m. EnclosesMoves m s at old x) → EnclosesBudgets x.problem (lower_at lent) (upper_at lent) b →
       ((c : ℕ) → IsNamed x.problem c → IsActive k.decks.first c) → FlowsEncloseAt k.zones x flows →

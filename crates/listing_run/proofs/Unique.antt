@@ -1,9 +1,11 @@
 -- A model has one listing, and one that is whole has no other end.
 use Rattle.listing_run.proofs.Common.{◌≡◌, ℕ, suc, List, [], ◌∷◌, sym, ap, ◌∙◌, refl, arith, Ok, Err, Result, Contains, subst, Option, Some, None, Bound}
-use Rattle.listing_run.proofs.Common.{NoBound, Budget, TimeStep, times, AreDecks, AreGridHeads, Solved, IsSettledStep, ZoneFlow, Task, Step, AreFlowsAt}
-use Rattle.listing_run.proofs.Common.{HasLargeFlow, faces_at, IsStep, budget_at, HasNoBound, no_heads, no_budget, no_zones, AllSettle}
+use Rattle.listing_run.proofs.Common.{NoBound, Budget, TimeStep, times, AreDecks, AreGridHeads, Solved, ZoneFlow, Task, Step, AreFlowsAt, HasLargeFlow}
+use Rattle.listing_run.proofs.Common.{faces_at, IsStep, budget_at, HasNoBound, no_heads, no_budget, no_zones, AllSettle, IsSettledStep, IsStepBy, pairs_of}
+use Rattle.listing_run.proofs.Common.{IsSolved, if◌then◌else◌, PairKind}
 use Rattle.deck_problems.specs.Laws.{IsBefore, StartHeadsAreOne, StartHeadsFit}
-use Rattle.step_chain.specs.Pairs.PairKind.{settled as settled_kind}
+use Rattle.std.specs.Prelude.{false}
+use Rattle.step_problem.specs.Settling.PairKind.{settled as settled_kind, certified as certified_kind}
 use Rattle.step_chain.specs.Laws.{StepIsOne, StepExcludesRefusal, RefusalIsOne as StepRefusalIsOne, HeadsFit}
 use Rattle.zone_flows.specs.Laws.{FlowsAreOne, FlowsExcludeRefusal, RefusalIsOne as ZoneRefusalIsOne}
 use Rattle.listing_run.specs.Steps.{Steps}
@@ -75,13 +77,23 @@ first_in at rest = (0, omega arith, refl)
 pub rest_more : (all : List TimeStep) (at : TimeStep) (rest : List TimeStep) → IsRest all (at ∷ rest) → IsRest all rest
 rest_more all at rest h = record { each = λ t (k, lt, is). h.each t (suc k, omega (arith, lt), is) }
 
-module _ (laws : Laws) (k : Task) (decks : AreDecks k.decks) where
+module _ (laws : Laws) (k : Task) (decks : AreDecks k.decks) (plain : k.quick ≡ false) where
+  -- the pairs of its steps are settled
+  are_settled : pairs_of k ≡ settled_kind
+  are_settled = ap (λ q. if q then certified_kind else settled_kind) plain
+
   module _ (at : TimeStep) (old : List Bound) (time : Contains (times k.decks.first) at) (heads : AreGridHeads k.decks.first old) where
     before : IsBefore k.decks at old
     before = record { decks = decks; time = time; heads = heads }
 
+    by_settled : (x : Solved) → IsSolved k at old x → IsSettledStep k.decks k.digits at old x
+    by_settled x h = let P : PairKind → Type 0 = λ kind. IsStepBy k.decks k.digits at old kind x in subst P are_settled h
+
+    solved_is_one : (x y : Solved) → IsSolved k at old x → IsSolved k at old y → x ≡ y
+    solved_is_one x y h i = laws.step_one k.decks k.digits at old x y before (by_settled x h) (by_settled y i)
+
     solved_one : (v w : Step) (x : IsStep k at old v) (y : IsStep k at old w) → x.solved ≡ y.solved
-    solved_one v w x y = laws.step_one k.decks k.digits at old x.solved y.solved before x.settled y.settled
+    solved_one v w x y = solved_is_one x.solved y.solved x.solves y.solves
 
     -- a time has one step
     one_step : (v w : Step) → IsStep k at old v → IsStep k at old w → v ≡ w
@@ -101,39 +113,39 @@ module _ (laws : Laws) (k : Task) (decks : AreDecks k.decks) where
 
     -- its heads are heads of all cells
     step_fits : (v : Step) → IsStep k at old v → AreGridHeads k.decks.first v.heads
-    step_fits v x = subst (AreGridHeads k.decks.first) (sym x.heads) (laws.fits k.decks k.digits at old settled_kind x.solved before x.settled)
+    step_fits v x = subst (AreGridHeads k.decks.first) (sym x.heads) (laws.fits k.decks k.digits at old (pairs_of k) x.solved before x.solves)
 
     -- a step with a value has no refusal
     has_bound : (v : Step) (n : NoBound) → IsStep k at old v → HasNoBound k at old n → ⊥
-    has_bound v n x (no_heads none) = laws.excludes k.decks k.digits at old settled_kind x.solved n before x.settled none
+    has_bound v n x (no_heads none) = laws.excludes k.decks k.digits at old (pairs_of k) x.solved n before x.solves none
     has_bound v n x (no_budget solved settled refused) =
         let B : Solved → Type 0 = λ s. budget_at s ≡ Err n in
-        ok_not_err v.budget n (sym x.budget ∙ subst B (laws.step_one k.decks k.digits at old solved x.solved before settled x.settled) refused)
+        ok_not_err v.budget n (sym x.budget ∙ subst B (solved_is_one solved x.solved settled x.solves) refused)
     has_bound v n x (no_zones solved b settled is large) =
         let L : Solved → Type 0 = λ s. HasLargeFlow k.zones s n in
-        none_large laws x.solved k.zones v.zones n x.zones (subst L (laws.step_one k.decks k.digits at old solved x.solved before settled x.settled) large)
+        none_large laws x.solved k.zones v.zones n x.zones (subst L (solved_is_one solved x.solved settled x.solves) large)
 
     -- a step whose budget is refused has no flows between zones
-    no_budget_no_zones : (x y : Solved) (b : Budget) (n : NoBound) → IsSettledStep k.decks k.digits at old x → budget_at x ≡ Err n → IsSettledStep k.decks k.digits at old y → budget_at y ≡ Ok b → ⊥
+    no_budget_no_zones : (x y : Solved) (b : Budget) (n : NoBound) → IsSolved k at old x → budget_at x ≡ Err n → IsSolved k at old y → budget_at y ≡ Ok b → ⊥
     no_budget_no_zones x y b n settled refused also is =
         let B : Solved → Type 0 = λ s. budget_at s ≡ Ok b in
-        ok_not_err b n (sym (subst B (sym (laws.step_one k.decks k.digits at old x y before settled also)) is) ∙ refused)
+        ok_not_err b n (sym (subst B (sym (solved_is_one x y settled also)) is) ∙ refused)
 
     -- and a step has one refusal
     one_refusal : (a b : NoBound) → HasNoBound k at old a → HasNoBound k at old b → a ≡ b
     one_refusal a b (no_heads x) (no_heads y) = laws.refusal_one k.decks k.digits at old a b before x y
-    one_refusal a b (no_heads x) (no_budget solved settled refused) = absurd (laws.excludes k.decks k.digits at old settled_kind solved a before settled x)
-    one_refusal a b (no_budget solved settled refused) (no_heads y) = absurd (laws.excludes k.decks k.digits at old settled_kind solved b before settled y)
+    one_refusal a b (no_heads x) (no_budget solved settled refused) = absurd (laws.excludes k.decks k.digits at old (pairs_of k) solved a before settled x)
+    one_refusal a b (no_budget solved settled refused) (no_heads y) = absurd (laws.excludes k.decks k.digits at old (pairs_of k) solved b before settled y)
     one_refusal a b (no_budget x settled refused) (no_budget y also other) =
         let B : Solved → Type 0 = λ s. budget_at s ≡ Err b in
-        one_err a b (sym refused ∙ subst B (sym (laws.step_one k.decks k.digits at old x y before settled also)) other)
-    one_refusal a b (no_heads x) (no_zones solved c settled is large) = absurd (laws.excludes k.decks k.digits at old settled_kind solved a before settled x)
-    one_refusal a b (no_zones solved c settled is large) (no_heads y) = absurd (laws.excludes k.decks k.digits at old settled_kind solved b before settled y)
+        one_err a b (sym refused ∙ subst B (sym (solved_is_one x y settled also)) other)
+    one_refusal a b (no_heads x) (no_zones solved c settled is large) = absurd (laws.excludes k.decks k.digits at old (pairs_of k) solved a before settled x)
+    one_refusal a b (no_zones solved c settled is large) (no_heads y) = absurd (laws.excludes k.decks k.digits at old (pairs_of k) solved b before settled y)
     one_refusal a b (no_budget x settled refused) (no_zones y c also is large) = absurd (no_budget_no_zones x y c a settled refused also is)
     one_refusal a b (no_zones x c settled is large) (no_budget y also refused) = absurd (no_budget_no_zones y x c b also refused settled is)
     one_refusal a b (no_zones x c settled is large) (no_zones y d also other too) =
         let L : Solved → Type 0 = λ s. HasLargeFlow k.zones s b in
-        same_large laws x k.zones a b large (subst L (sym (laws.step_one k.decks k.digits at old x y before settled also)) too)
+        same_large laws x k.zones a b large (subst L (sym (solved_is_one x y settled also)) too)
 
   -- the heads of one more step
   next_heads : (old : List Bound) (at : TimeStep) (rest : List TimeStep) (v : Step) → IsRest (times k.decks.first) (at ∷ rest) → AreGridHeads k.decks.first old → IsStep k at old v → AreGridHeads k.decks.first v.heads
@@ -188,21 +200,21 @@ module _ (laws : Laws) (k : Task) (decks : AreDecks k.decks) where
 -- from STRT on
 module _ (laws : Laws) where
   pub one_listing : ListingIsOne
-  one_listing k values others model h w =
+  one_listing k values others model plain h w =
       let P : List Bound → Type 0 = λ start. Steps k start (times k.decks.first) others ends.Whole in
-      listing_one laws k model h.start (times k.decks.first) values others (rest_whole (times k.decks.first)) (laws.start_fits k.decks h.start model h.is_start) h.steps (subst P (laws.start_one k.decks w.start h.start model w.is_start h.is_start) w.steps)
+      listing_one laws k model plain h.start (times k.decks.first) values others (rest_whole (times k.decks.first)) (laws.start_fits k.decks h.start model h.is_start) h.steps (subst P (laws.start_one k.decks w.start h.start model w.is_start h.is_start) w.steps)
 
   pub excludes_refusal : ListingExcludesRefusal
-  excludes_refusal k values others at n model h w =
+  excludes_refusal k values others at n model plain h w =
       let P : List Bound → Type 0 = λ start. Steps k start (times k.decks.first) others (ends.NoBound at n) in
-      always_bound laws k model at n h.start (times k.decks.first) values others (rest_whole (times k.decks.first)) (laws.start_fits k.decks h.start model h.is_start) h.steps (subst P (laws.start_one k.decks w.start h.start model w.is_start h.is_start) w.steps)
+      always_bound laws k model plain at n h.start (times k.decks.first) values others (rest_whole (times k.decks.first)) (laws.start_fits k.decks h.start model h.is_start) h.steps (subst P (laws.start_one k.decks w.start h.start model w.is_start h.is_start) w.steps)
 
   pub closed_listing : SettledListingIsClosed
-  closed_listing k values others at model h settled w =
+  closed_listing k values others at model plain h settled w =
       let P : List Bound → Type 0 = λ start. Steps k start (times k.decks.first) others (ends.Unfinished at) in
-      always_settled laws k model at h.start (times k.decks.first) values others (rest_whole (times k.decks.first)) (laws.start_fits k.decks h.start model h.is_start) h.steps settled (subst P (laws.start_one k.decks w.start h.start model w.is_start h.is_start) w.steps)
+      always_settled laws k model plain at h.start (times k.decks.first) values others (rest_whole (times k.decks.first)) (laws.start_fits k.decks h.start model h.is_start) h.steps settled (subst P (laws.start_one k.decks w.start h.start model w.is_start h.is_start) w.steps)
 
   pub refusals_one : RefusalIsOne
-  refusals_one k values others s t a b model h w =
+  refusals_one k values others s t a b model plain h w =
       let P : List Bound → Type 0 = λ start. Steps k start (times k.decks.first) others (ends.NoBound t b) in
-      refusal_at_one laws k model s t a b h.start (times k.decks.first) values others (rest_whole (times k.decks.first)) (laws.start_fits k.decks h.start model h.is_start) h.steps (subst P (laws.start_one k.decks w.start h.start model w.is_start h.is_start) w.steps)
+      refusal_at_one laws k model plain s t a b h.start (times k.decks.first) values others (rest_whole (times k.decks.first)) (laws.start_fits k.decks h.start model h.is_start) h.steps (subst P (laws.start_one k.decks w.start h.start model w.is_start h.is_start) w.steps)

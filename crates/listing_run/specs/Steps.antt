@@ -10,11 +10,12 @@ use Rattle.model_types.specs.declared.time_steps.TimeStep.{TimeStep}
 use Rattle.model_types.specs.Times.{times}
 use Rattle.deck_problems.specs.StartHeads.{AreStartHeadsFor}
 use Rattle.step_chain.specs.declared.solved.Solved.{Solved}
-use Rattle.step_chain.specs.Steps.{IsPosed, IsSettledStep, HasNoHeads, SettlesIn}
+use Rattle.step_chain.specs.Steps.{IsPosed, IsStepBy, HasNoHeads, SettlesIn}
 use Rattle.listing_run.specs.declared.listing_end.ListingEnd.{ListingEnd}
 use Rattle.listing_run.specs.declared.listing_end.ListingEnd.TheVariants as ends
 use Rattle.listing_run.specs.declared.task.Task.{Task}
 use Rattle.listing_run.specs.declared.step.Step.{Step}
+use Rattle.listing_run.specs.Tasks.{pairs_of}
 use Rattle.listing_run.specs.Zones.{AreFlowsAt, HasLargeFlow}
 
 -- the bounds of a solved step's budget, or its first term that is too large
@@ -23,13 +24,14 @@ budget_at x = budget_of x.problem (lower_at x.bounds) (upper_at x.bounds)
 
 -- A time of a task, where `old` are the heads of all cells before it.
 module _ (k : Task) (at : TimeStep) (old : List Bound) where
-  abbrev pub IsSettled : Solved → Type 0
-  IsSettled x = IsSettledStep k.decks k.digits at old x
+  -- its problem, with a pair of the task's kind
+  abbrev pub IsSolved : Solved → Type 0
+  IsSolved x = IsStepBy k.decks k.digits at old (pairs_of k) x
 
-  -- v is its step: the heads, the budget and the flows between zones of its settled problem
+  -- v is its step: the heads, the budget and the flows between zones of its solved problem
   pub record IsStep (v : Step) : Type 0 where
     pub solved : Solved
-    pub settled : IsSettled solved
+    pub solves : IsSolved solved
     pub time : v.at ≡ at
     pub heads : v.heads ≡ solved.heads
     pub budget : budget_at solved ≡ Ok v.budget
@@ -38,8 +40,8 @@ module _ (k : Task) (at : TimeStep) (old : List Bound) where
   -- its first refusal: of the problem or the barrier, then of the budget, then of the flows between zones
   pub data HasNoBound (n : NoBound) : Type 0 where
     no_heads : HasNoHeads k.decks k.digits at old n → HasNoBound n
-    no_budget : (solved : Solved) → IsSettled solved → budget_at solved ≡ Err n → HasNoBound n
-    no_zones : (solved : Solved) (budget : Budget) → IsSettled solved → budget_at solved ≡ Ok budget → HasLargeFlow k.zones solved n → HasNoBound n
+    no_budget : (solved : Solved) → IsSolved solved → budget_at solved ≡ Err n → HasNoBound n
+    no_zones : (solved : Solved) (budget : Budget) → IsSolved solved → budget_at solved ≡ Ok budget → HasLargeFlow k.zones solved n → HasNoBound n
 
   -- the task's rounds don't settle it
   pub record IsOpen : Type 0 where

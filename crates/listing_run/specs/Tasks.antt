@@ -1,14 +1,20 @@
--- The task of decks, and that of one deck.
-use Rattle.std.specs.Prelude.{ℕ, List, Option}
+-- The kind of a task's pairs, the task of decks, and that of one deck.
+use Rattle.std.specs.Prelude.{ℕ, Bool, List, Option, if◌then◌else◌}
+use Rattle.step_problem.specs.Settling.{PairKind}
+use Rattle.step_problem.specs.Settling.PairKind.{settled, certified}
 use Rattle.model_types.specs.declared.model.FlowModel.{FlowModel}
 use Rattle.deck_problems.specs.declared.decks.Decks.{Decks}
 use Rattle.deck_problems.specs.Decks.{one_deck}
 use Rattle.listing_run.specs.declared.task.Task.{Task}
 
--- the decks, the digits of conductances, the zones, if there is a zone file, and the rounds
-abbrev pub deck_task : Decks → ℕ → Option (List ℕ) → ℕ → Task
-deck_task d s zones rounds = record { decks = d; digits = s; zones = zones; rounds = rounds }
+-- a step has the settled pair; with --quick any pair that is a certificate
+abbrev pub pairs_of : Task → PairKind
+pairs_of k = if k.quick then certified else settled
+
+-- the decks, the digits of conductances, the zones, if there is a zone file, the rounds, and whether it is quick
+abbrev pub deck_task : Decks → ℕ → Option (List ℕ) → ℕ → Bool → Task
+deck_task d s zones rounds quick = record { decks = d; digits = s; zones = zones; rounds = rounds; quick = quick }
 
 -- that of one deck's model
-abbrev pub one_task : FlowModel → ℕ → Option (List ℕ) → ℕ → Task
-one_task m s zones rounds = deck_task (one_deck m) s zones rounds
+abbrev pub one_task : FlowModel → ℕ → Option (List ℕ) → ℕ → Bool → Task
+one_task m s zones rounds quick = deck_task (one_deck m) s zones rounds quick

@@ -5,7 +5,7 @@ use deck_problems::laws::start_heads;
 use step_chain::laws::{heads_fit, no_step_beside_a_refusal, one_refusal, one_step};
 use zone_flows::laws::one_list_or_refusal;
 
-/// A model has at most one listing, and a model with a whole listing has no other end, except rounds that don't settle a step.
+/// A model has at most one listing of settled pairs, and a model with a whole listing has no other end, except rounds that don't settle a step.
 pub fn one_listing()
     ensures one { ListingIsOne }
     ensures bound { ListingExcludesRefusal }

@@ -7,6 +7,7 @@ ghost use Rattle.run_puts.specs.Runs.{IsRun};
 ghost use Rattle.listing_run.specs.Listing.{IsListingBeside, IsCutListing, last_line, status_of};
 ghost use Rattle.listing_run.specs.Settlers.{AllSettledBy, ReachesFirst, RestsOrSettlesFirst};
 ghost use Rattle.listing_run.specs.Ends.{IsAtFirst, IsNextText, IsStopEnd, IsTask, IsWalk, StopsAt, times_left};
+ghost use Rattle.listing_run.specs.Tasks.{pairs_of};
 
 use crate::listing_end::ListingEnd;
 use crate::steps::Steps;
@@ -33,6 +34,7 @@ fn put_while_solving<R: Threads + Sync, K: Sink + Send, S: Settler>(
 ) -> (Option<Status>, Result<Vec<u8>, Stop>)
     requires ready { S.ready settler.old }
     requires rounds { S.rounds settler.old ≡ task.now.rounds }
+    requires pairs { S.pairs ≡ pairs_of task.now }
     requires task { IsTask task.now }
     requires walk { IsWalk task.now steps.old }
     ensures puts { (start : _) (puts : List Put) → K.leads start puts out.old →
@@ -94,6 +96,7 @@ fn put_walk<R: Threads + Sync, K: Sink + Send, S: StepSettler>(
 ) -> Status
     requires ready { S.ready settler.old }
     requires rounds { S.rounds settler.old ≡ task.now.rounds }
+    requires pairs { S.pairs ≡ pairs_of task.now }
     requires goes_on { S.stop settler.old ≡ None }
     requires task { IsTask task.now }
     requires walk { IsWalk task.now steps.old }
@@ -153,6 +156,7 @@ pub fn put_steps<R: Threads + Sync, K: Sink + Send, S: StepSettler>(
 ) -> Status
     requires ready { S.ready settler.old }
     requires rounds { S.rounds settler.old ≡ task.now.rounds }
+    requires pairs { S.pairs ≡ pairs_of task.now }
     requires goes_on { S.stop settler.old ≡ None }
     requires task { IsTask task.now }
     ensures puts { (start : _) (puts : List Put) → K.leads start puts out.old →

@@ -7,6 +7,7 @@ ghost use Rattle.listing_run.specs.Steps.{IsStep};
 ghost use Rattle.listing_run.specs.Bounding.{BoundsMoves};
 ghost use Rattle.listing_run.specs.Ends.{IsTask, AreTablesOf, StopsAt};
 ghost use Rattle.listing_run.specs.Settlers.{IsSettledBy, RestsOrSettles};
+ghost use Rattle.listing_run.specs.Tasks.{pairs_of};
 
 use crate::listing_end::ListingEnd;
 use crate::step::Step;
@@ -32,6 +33,7 @@ pub(crate) fn solve<S: Settler>(
 ) -> Result<Step, Stop>
     requires ready { S.ready settler.old }
     requires rounds { S.rounds settler.old ≡ task.now.rounds }
+    requires pairs { S.pairs ≡ pairs_of task.now }
     requires task { IsTask task.now }
     requires tables { AreTablesOf task.now tables.old }
     requires time { Contains (times task.now.decks.first) at }

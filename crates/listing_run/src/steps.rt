@@ -2,6 +2,7 @@
 ghost use Rattle.std.specs.Prelude.{◌≡◌, ◌+◌, ◌<◌, ◌∷◌, [], drop, get_or, length, IfOk, IfErr, IfSome, MatchOption};
 ghost use Rattle.listing_run.specs.Ends.{IsAtFirst, IsNext, IsNextText, IsTask, IsWalk, StopsAt, times_left, with_heads};
 ghost use Rattle.listing_run.specs.Settlers.{RestsOrSettlesFirst};
+ghost use Rattle.listing_run.specs.Tasks.{pairs_of};
 
 use crate::listing_end::ListingEnd;
 use crate::solving::solve;
@@ -77,6 +78,7 @@ impl Steps {
     ) -> Result<StepFlows, Stop>
         requires ready { S.ready settler.old }
         requires rounds { S.rounds settler.old ≡ task.now.rounds }
+        requires pairs { S.pairs ≡ pairs_of task.now }
         requires task { IsTask task.now }
         requires walk { IsWalk task.now self.old }
         ensures ready { S.ready settler.new }
@@ -119,6 +121,7 @@ impl Steps {
     ) -> Result<Vec<u8>, Stop>
         requires ready { S.ready settler.old }
         requires rounds { S.rounds settler.old ≡ task.now.rounds }
+        requires pairs { S.pairs ≡ pairs_of task.now }
         requires task { IsTask task.now }
         requires walk { IsWalk task.now self.old }
         ensures ready { S.ready settler.new }

@@ -2,12 +2,13 @@
 use deck_problems::Decks;
 use model_types::Listed;
 
-/// What is to be listed: the decks, the digits s of conductances, the zone of each cell, if there is a zone file, and
-/// the number of plain rounds in which each step must settle.
+/// What is to be listed: the decks, the digits s of conductances, the zone of each cell, if there is a zone file, the
+/// number of plain rounds in which each step must settle, and whether a step may have any pair that is a certificate.
 #[derive(Drop)]
 pub struct Task {
     pub decks: Decks,
     pub digits: u32,
     pub zones: Option<Listed<u32>>,
     pub rounds: u32,
+    pub quick: bool,
 }

@@ -2,6 +2,7 @@
 ghost use Rattle.std.specs.Prelude.{◌≡◌, ◌++◌, IfOk};
 ghost use Rattle.listing_run.specs.Ends.{IsAtFirst, IsTask, IsWalk};
 ghost use Rattle.listing_run.specs.Listing.{IsPushed, last_line, status_of};
+ghost use Rattle.listing_run.specs.Tasks.{pairs_of};
 
 use crate::listing_end::ListingEnd;
 use crate::steps::Steps;
@@ -38,6 +39,7 @@ fn push_steps<S: Settler>(
 ) -> Result<Status, AllocError>
     requires ready { S.ready settler.old }
     requires rounds { S.rounds settler.old ≡ task.now.rounds }
+    requires pairs { S.pairs ≡ pairs_of task.now }
     requires task { IsTask task.now }
     requires walk { IsWalk task.now steps.old }
     requires first { IsAtFirst task.now steps.old }
@@ -70,6 +72,7 @@ pub fn push_listing<S: Settler>(
 ) -> Result<Status, AllocError>
     requires ready { S.ready settler.old }
     requires rounds { S.rounds settler.old ≡ task.now.rounds }
+    requires pairs { S.pairs ≡ pairs_of task.now }
     requires task { IsTask task.now }
     ensures { IfOk result (λ end. IsPushed task.now end text.old.items text.new.items) }
 {

@@ -2,6 +2,7 @@
 ghost use Rattle.std.specs.Prelude.{◌≡◌, IfOk};
 ghost use Rattle.listing_run.specs.Ends.{IsAtFirst, IsTask, IsWalk};
 ghost use Rattle.listing_summary.specs.Ends.{IsSummarized};
+ghost use Rattle.listing_run.specs.Tasks.{pairs_of};
 
 use crate::summary::Summary;
 use listing_run::{ListingEnd, Steps, Stop, Task};
@@ -17,6 +18,7 @@ fn count_steps<S: Settler>(
 ) -> Result<(Summary, ListingEnd), AllocError>
     requires ready { S.ready settler.old }
     requires rounds { S.rounds settler.old ≡ task.now.rounds }
+    requires pairs { S.pairs ≡ pairs_of task.now }
     requires task { IsTask task.now }
     requires walk { IsWalk task.now steps.old }
     requires first { IsAtFirst task.now steps.old }
@@ -40,6 +42,7 @@ pub fn summarize<S: Settler>(
 ) -> Result<(Summary, ListingEnd), AllocError>
     requires ready { S.ready settler.old }
     requires rounds { S.rounds settler.old ≡ task.now.rounds }
+    requires pairs { S.pairs ≡ pairs_of task.now }
     requires task { IsTask task.now }
     ensures { IfOk result (λ (summary, end). IsSummarized task.now summary end) }
 {

@@ -18,7 +18,7 @@ use Rattle.deck_problems.proofs.Members.{HasCellsOf, between_cells, cell_of_memb
 use Rattle.step_chain.specs.declared.solved.Solved.{Solved}
 use Rattle.step_chain.specs.Enclosing.{LiesWithin}
 use Rattle.step_chain.specs.Laws.{StepEncloses, HeadsFit}
-use Rattle.step_chain.specs.Pairs.{PairKind}
+use Rattle.step_problem.specs.Settling.{PairKind}
 use Rattle.span_steps.specs.Laws.{HistoriesLieWithin}
 use Rattle.span_steps.specs.Steps.{two, AreSteps, LieWithin}
 

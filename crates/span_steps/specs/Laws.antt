@@ -3,7 +3,7 @@ use Rattle.std.specs.Prelude.{ℕ, ℤ, List}
 use Rattle.model_types.specs.declared.model.FlowModel.{FlowModel}
 use Rattle.deck_span.specs.Histories.{SolvesBetween}
 use Rattle.step_chain.specs.declared.solved.Solved.{Solved}
-use Rattle.step_chain.specs.Pairs.{PairKind}
+use Rattle.step_problem.specs.Settling.{PairKind}
 use Rattle.span_steps.specs.Steps.{AreAllSteps, LieWithin}
 
 -- every history between the two, whose stresses are chosen anew at each step, lies within the heads of all steps

@@ -9,7 +9,7 @@ use Rattle.deck_problems.specs.Decks.{AreDecks}
 use Rattle.deck_problems.specs.StartHeads.{AreStartHeadsFor}
 use Rattle.step_chain.specs.declared.solved.Solved.{Solved}
 use Rattle.step_chain.specs.Enclosing.{LiesWithin}
-use Rattle.step_chain.specs.Pairs.{PairKind}
+use Rattle.step_problem.specs.Settling.{PairKind}
 use Rattle.step_chain.specs.Steps.{IsStepBy}
 
 abbrev pub two : FlowModel → FlowModel → Decks

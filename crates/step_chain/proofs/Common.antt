@@ -27,11 +27,10 @@ pub use Rattle.problem_builder.specs.GridHeads.{AreGridHeads, IsActive}
 pub use Rattle.step_chain.specs.Enclosing.{EnclosesMove, EnclosesMoves, IsMove, LieBetween}
 pub use Rattle.step_chain.specs.GridHeads.{AreHeadsOf, bound_at}
 pub use Rattle.step_chain.specs.Laws.{HeadsFit, RefusalIsOne, StepEncloses, StepExcludesRefusal, StepIsOne}
-pub use Rattle.step_chain.specs.Pairs.PairKind.{certified, settled}
 pub use Rattle.step_chain.specs.declared.solved.Solved.{Solved}
 pub use Rattle.step_problem.specs.Conditions.{IsHead, IsProblem}
 pub use Rattle.step_problem.specs.Entries.{Entries}
 pub use Rattle.step_problem.specs.Heads.{Edges, head_at, lower_at, no_bound, upper_at}
 pub use Rattle.step_problem.specs.Laws.{SettledPairExists, SettledPairIsOne}
-pub use Rattle.step_problem.specs.Settling.{AreSettled, Settles}
+pub use Rattle.step_problem.specs.Settling.{AreSettled, IsPairOf, PairKind, Settles}
 pub use Rattle.step_problem.specs.declared.heads.Bound.{Bound}

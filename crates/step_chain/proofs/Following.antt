@@ -4,7 +4,8 @@ use Rattle.step_chain.proofs.Common.{Bound, Entries, Edges, head_at, lower_at, u
 use Rattle.step_chain.proofs.Common.{SettledPairEncloses, FlowModel, TimeStep, cell_count, is_variable, is_constant, index_of, exact_step, variable_heads}
 use Rattle.step_chain.proofs.Common.{IsActive, Decks, IsConstantPairFor, ProblemFits, ProblemEncloses, ConstantPairEncloses, EnclosesSteps, HasCellsOf}
 use Rattle.step_chain.proofs.Common.{constant_same, each_member, of_member, member_cells, bound_at, AreHeadsOf, Solved, IsMove, EnclosesMove, EnclosesMoves}
-use Rattle.step_chain.proofs.Common.{StepEncloses, settled, certified}
+use Rattle.step_chain.proofs.Common.{StepEncloses, PairKind, IsPairOf}
+use Rattle.step_problem.specs.Settling.PairKind.{settled, certified}
 use Rattle.decimal_input.specs.Enclosures.{EnclosesSigned}
 use Rattle.decimal_input.proofs.Enclosing.{whole_signed}
 use Rattle.cell_balance.specs.Enclosures.{EnclosesStep, CellEncloses}
@@ -13,14 +14,14 @@ use Rattle.cell_balance.specs.Solutions.{LiesBetween}
 use Rattle.cell_balance.proofs.Zips.{AllZip-length}
 use Rattle.certificate_check.proofs.Certified.{certificate_encloses}
 use Rattle.model_types.specs.Heads.{constant_head}
-use Rattle.step_chain.specs.Pairs.{PairKind, IsPairOf}
 use Rattle.step_chain.proofs.Assembled.{active_constant, index_below, count_is, number_is}
 
-pub pair_words : (kind : PairKind) (p : List Entries) (b : Edges) (bounds : List Bound) → IsPairOf kind p b bounds → AreWords p bounds
+-- a pair of either kind has one bound in range for each cell
+pub pair_words : (kind : PairKind) (p : List Entries) (b : Edges) (bounds : List Bound) → IsPairOf p kind b bounds → AreWords p bounds
 pair_words settled p b bounds h = record { whole = h.whole; low = h.pair.low.heads; high = h.pair.high.heads }
-pair_words certified p b bounds h = h.words
+pair_words certified p b bounds h = record { whole = h.whole; low = h.low; high = h.high }
 
-between_solutions : SettledPairEncloses → (kind : PairKind) (p : List Entries) (b : Edges) (bounds : List Bound) → IsPairOf kind p b bounds → IsProblem p → IsBarrierOf p b → EnclosesSolutions p (lower_at bounds) (upper_at bounds)
+between_solutions : SettledPairEncloses → (kind : PairKind) (p : List Entries) (b : Edges) (bounds : List Bound) → IsPairOf p kind b bounds → IsProblem p → IsBarrierOf p b → EnclosesSolutions p (lower_at bounds) (upper_at bounds)
 between_solutions settled_encloses settled p b bounds h fits bars =
     settled_encloses p b (lower_at bounds) (upper_at bounds) fits bars.fits (held_all p (head_at b.floor) bars.floors) h.pair (encloses_all p (head_at b.floor) (head_at b.ceiling) fits bars.floors bars.ceilings)
 between_solutions settled_encloses certified p b bounds h fits bars =

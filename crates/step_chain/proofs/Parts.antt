@@ -1,24 +1,24 @@
 -- What the calls of a step gave, put together.
-use Rattle.step_chain.proofs.Common.{ℕ, Bool, List, Bound, IsProblem, Entries, SettledPairExists, Edges, head_at, AreSettled, IsBarrierOf, encloses_all}
-use Rattle.step_chain.proofs.Common.{held_all, SettledPairEncloses, TimeStep, exact_step, variable_heads, Decks, EnclosesSteps, IsProblemFor, each_member}
-use Rattle.step_chain.proofs.Common.{of_member, Solved, LieBetween, AreHeadsOf}
+use Rattle.step_chain.proofs.Common.{ℕ, Bool, List, Bound, IsProblem, Entries, SettledPairExists, Edges, head_at, IsBarrierOf, encloses_all, held_all}
+use Rattle.step_chain.proofs.Common.{SettledPairEncloses, TimeStep, exact_step, variable_heads, Decks, EnclosesSteps, IsProblemFor, each_member, of_member}
+use Rattle.step_chain.proofs.Common.{Solved, LieBetween, AreHeadsOf, PairKind, IsPairOf}
 use Rattle.deck_problems.specs.Decks.{EachMember}
 use Rattle.step_chain.specs.Leads.{LeadsBy}
-use Rattle.step_chain.specs.Steps.{IsSettledStep}
+use Rattle.step_chain.specs.Steps.{IsStepBy}
 
--- a step's problem, barrier, settled pair and heads
-pub record AreParts (d : Decks) (s : ℕ) (at : TimeStep) (old : List Bound) (barrier : Edges) (x : Solved) : Type 0 where
+-- a step's problem, barrier, pair of this kind, and heads
+pub record AreParts (d : Decks) (s : ℕ) (at : TimeStep) (old : List Bound) (kind : PairKind) (barrier : Edges) (x : Solved) : Type 0 where
   pub problem : IsProblemFor d s at old x.problem
   pub of_problem : IsBarrierOf x.problem barrier
-  pub settled : AreSettled x.problem barrier x.bounds
+  pub pair : IsPairOf x.problem kind barrier x.bounds
   pub heads : AreHeadsOf d at x.bounds x.heads
 
-module _ (d : Decks) (s : ℕ) (at : TimeStep) (old : List Bound) (barrier : Edges) (x : Solved) (parts : AreParts d s at old barrier x) where
-  pub is_settled : IsSettledStep d s at old x
-  is_settled = record {
+module _ (d : Decks) (s : ℕ) (at : TimeStep) (old : List Bound) (kind : PairKind) (barrier : Edges) (x : Solved) (parts : AreParts d s at old kind barrier x) where
+  pub is_step : IsStepBy d s at old kind x
+  is_step = record {
     barrier = barrier;
     posed = record { problem = parts.problem; barrier = parts.of_problem };
-    pair = parts.settled;
+    pair = parts.pair;
     heads = parts.heads;
   }
 

@@ -9,7 +9,7 @@ use Rattle.deck_problems.specs.Decks.{EachMember}
 use Rattle.deck_problems.specs.Laws.{IsBefore}
 use Rattle.step_chain.specs.declared.solved.Solved.{Solved}
 use Rattle.step_chain.specs.Enclosing.{EnclosesMoves}
-use Rattle.step_chain.specs.Pairs.{PairKind}
+use Rattle.step_problem.specs.Settling.{PairKind}
 use Rattle.step_chain.specs.Steps.{IsStepBy, IsSettledStep, HasNoHeads}
 
 -- there is at most one settled step

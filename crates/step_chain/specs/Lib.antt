@@ -1,5 +1,4 @@
 pub mod GridHeads
-pub mod Pairs
 pub mod Steps
 pub mod Enclosing
 pub mod Faults

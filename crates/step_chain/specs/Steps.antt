@@ -11,8 +11,8 @@ use Rattle.deck_problems.specs.declared.decks.Decks.{Decks}
 use Rattle.deck_problems.specs.Problems.{IsProblemFor, HasNoProblemFor}
 use Rattle.step_chain.specs.declared.solved.Solved.{Solved}
 use Rattle.step_chain.specs.GridHeads.{AreHeadsOf}
-use Rattle.step_chain.specs.Pairs.{PairKind, IsPairOf}
-use Rattle.step_chain.specs.Pairs.PairKind.{settled}
+use Rattle.step_problem.specs.Settling.{PairKind, IsPairOf}
+use Rattle.step_problem.specs.Settling.PairKind.{settled}
 
 -- A step of decks with s digits of conductances, where `old` are the heads of all cells before it.
 module _ (d : Decks) (s : ℕ) (at : TimeStep) (old : List Bound) where
@@ -25,7 +25,7 @@ module _ (d : Decks) (s : ℕ) (at : TimeStep) (old : List Bound) where
   pub record IsStepBy (kind : PairKind) (x : Solved) : Type 0 where
     pub barrier : Edges
     pub posed : IsPosed x.problem barrier
-    pub pair : IsPairOf kind x.problem barrier x.bounds
+    pub pair : IsPairOf x.problem kind barrier x.bounds
     pub heads : AreHeadsOf d at x.bounds x.heads
 
   abbrev pub IsSettledStep : Solved → Type 0

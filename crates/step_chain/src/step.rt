@@ -5,7 +5,7 @@ ghost use Rattle.model_types.specs.Times.{times};
 ghost use Rattle.problem_builder.specs.GridHeads.{AreGridHeads, IsActive, IsNamed};
 ghost use Rattle.deck_problems.specs.Decks.{AreDecks, EachMember};
 ghost use Rattle.deck_problems.specs.Kept.{AreDeckTables, digits_of};
-ghost use Rattle.step_chain.specs.Steps.{IsSettledStep};
+ghost use Rattle.step_chain.specs.Steps.{IsStepBy};
 ghost use Rattle.step_chain.specs.Faults.{FailsBy};
 ghost use Rattle.step_chain.specs.Leads.{LeadsBy, LeadsOrRests};
 ghost use Rattle.step_chain.specs.Enclosing.{EnclosesMoves};
@@ -21,7 +21,7 @@ use std::alloc::Global;
 use step_problem::laws::settled_pair;
 use step_problem::{Bound, Settler};
 
-/// The step at a time, from the heads of all cells before it: its problem is built and settled. `tables` are those
+/// The step at a time, from the heads of all cells before it: its problem is built, and the settler gives its pair. `tables` are those
 /// of the run, and move to the step's period.
 pub fn next_step_with<S: Settler>(
     alloc: Global,
@@ -40,8 +40,8 @@ pub fn next_step_with<S: Settler>(
     ensures rounds { S.rounds settler.new ≡ S.rounds settler.old }
     ensures ready { S.ready settler.new }
     ensures tables { AreDeckTables decks.now (digits_of tables.old.first) tables.new }
-    // The problem from the old heads, the settled pair between its barrier, and the heads of all cells.
-    ensures step { IfOk result (IsSettledStep decks.now (digits_of tables.old.first) at old.now) }
+    // The problem from the old heads, the settler's pair over its barrier, and the heads of all cells.
+    ensures step { IfOk result (IsStepBy decks.now (digits_of tables.old.first) at old.now S.pairs) }
     ensures fault { IfErr result (FailsBy decks.now (digits_of tables.old.first) at old.now (S.rounds settler.old)) }
     // What `budget` and the flows between zones require.
     ensures words { IfOk result (λ r. AreWords r.problem r.bounds) }
@@ -93,7 +93,7 @@ pub fn next_step<S: Settler>(
     requires digits { s ≤ 18 }
     ensures rounds { S.rounds settler.new ≡ S.rounds settler.old }
     ensures ready { S.ready settler.new }
-    ensures step { IfOk result (IsSettledStep decks.now s at old.now) }
+    ensures step { IfOk result (IsStepBy decks.now s at old.now S.pairs) }
     ensures fault { IfErr result (FailsBy decks.now s at old.now (S.rounds settler.old)) }
     ensures words { IfOk result (λ r. AreWords r.problem r.bounds) }
     ensures heads { IfOk result (λ r. AreGridHeads decks.now.first r.heads) }

@@ -1,6 +1,7 @@
 -- A model has a whole listing, or a first refusal at one of its times.
 use Rattle.step_or_refusal.proofs.Common.{◌≡◌, ℕ, ◌⊎◌, inl, inr, Option, None, Some, Ok, Err, Result, List, [], ◌∷◌, refl, sym, subst, Bound, lower_at}
-use Rattle.step_or_refusal.proofs.Common.{upper_at, FlowModel, TimeStep, StartHeadsFit, StartHeadsExist, one_deck, StepOrRefusal, ListingOrRefusal}
+use Rattle.step_or_refusal.proofs.Common.{upper_at, FlowModel, TimeStep, StartHeadsFit, StartHeadsExist, one_deck, StepOrRefusal, ListingOrRefusal, Bool}
+use Rattle.step_or_refusal.proofs.Common.{ProblemFits}
 use Rattle.step_problem.specs.declared.place.NoBound.{NoBound}
 use Rattle.step_problem.specs.declared.place.ZoneFlow.{ZoneFlow}
 use Rattle.model_types.specs.Times.{times}
@@ -9,7 +10,7 @@ use Rattle.problem_builder.specs.GridHeads.{AreGridHeads}
 use Rattle.deck_problems.specs.Laws.{IsBefore}
 use Rattle.step_chain.specs.declared.solved.Solved.{Solved}
 use Rattle.step_chain.specs.Laws.{HeadsFit}
-use Rattle.step_chain.specs.Pairs.PairKind.{settled as settled_kind}
+use Rattle.step_problem.proofs.Pairs.{settled_is}
 use Rattle.step_chain.specs.Steps.{IsSettledStep}
 use Rattle.zone_flows.specs.TableFlows.{listed_flows}
 use Rattle.zone_flows.specs.Tables.{with_faces}
@@ -17,8 +18,8 @@ use Rattle.zone_flows.proofs.Fitting.{faces_fit}
 use Rattle.zone_flows.proofs.Meaning.{are_flows, is_first}
 use Rattle.listing_run.specs.declared.step.Step.{Step}
 use Rattle.listing_run.specs.declared.task.Task.{Task}
-use Rattle.listing_run.specs.Steps.{budget_at, IsStep, HasNoBound, no_heads, no_budget, no_zones, Steps}
-use Rattle.listing_run.specs.Tasks.{one_task}
+use Rattle.listing_run.specs.Steps.{budget_at, IsSolved, IsStep, HasNoBound, no_heads, no_budget, no_zones, Steps}
+use Rattle.listing_run.specs.Tasks.{one_task, pairs_of}
 use Rattle.zone_pairs.specs.Zones.{AreZones}
 use Rattle.listing_run.specs.Zones.{AreFlowsAt, HasLargeFlow, faces_at}
 use Rattle.listing_run.proofs.Unique.{IsRest, rest_whole, rest_more, first_in}
@@ -39,18 +40,29 @@ flows_or_large m (Some zones) x zoned =
       | inr (n, e) ↦ inr (n, is_first fs fit n e)
     ]
 
-module _ (step : StepOrRefusal) (fits : HeadsFit) (m : FlowModel) (s : ℕ) (zones : Option (List ℕ)) (rounds : ℕ) (valid : IsModel m) (zoned : AreZones m zones) where
+module _ (step : StepOrRefusal) (fits : HeadsFit) (problem_fits : ProblemFits) (m : FlowModel) (s : ℕ) (zones : Option (List ℕ)) (rounds : ℕ) (quick : Bool) (valid : IsModel m) (zoned : AreZones m zones) where
   abbrev task : Task
-  task = one_task m s zones rounds
+  task = one_task m s zones rounds quick
 
-  -- a step of the listing from a settled one, or its refusal
-  listed : (at : TimeStep) (old : List Bound) (x : Solved) → IsSettledStep (one_deck m) s at old x → ((v : Step) × IsStep task at old v) ⊎ ((n : NoBound) × HasNoBound task at old n)
-  listed at old x settled =
+  -- a settled step is one of the task's kind
+  solves : (at : TimeStep) (old : List Bound) (x : Solved) → IsBefore (one_deck m) at old → IsSettledStep (one_deck m) s at old x → IsSolved task at old x
+  solves at old x before settled =
+      let fits = problem_fits m s at old x.problem before.decks.first before.time before.heads settled.posed.problem in
+      record {
+        barrier = settled.barrier;
+        posed = settled.posed;
+        pair = settled_is (pairs_of task) x.problem settled.barrier x.bounds fits settled.posed.barrier.fits settled.pair;
+        heads = settled.heads;
+      }
+
+  -- a step of the listing from a solved one, or its refusal
+  listed : (at : TimeStep) (old : List Bound) (x : Solved) → IsSolved task at old x → ((v : Step) × IsStep task at old v) ⊎ ((n : NoBound) × HasNoBound task at old n)
+  listed at old x is =
       elim (ok_or_err (budget_at x)) [
-        | inr (n, e) ↦ inr (n, no_budget x settled e)
+        | inr (n, e) ↦ inr (n, no_budget x is e)
         | inl (b, e) ↦ elim (flows_or_large m zones x zoned) [
-          | inr (n, large) ↦ inr (n, no_zones x b settled e large)
-          | inl (vs, flows) ↦ inl (record { at = at; heads = x.heads; budget = b; zones = vs }, record { solved = x; settled = settled; time = refl; heads = refl; budget = e; zones = flows })
+          | inr (n, large) ↦ inr (n, no_zones x b is e large)
+          | inl (vs, flows) ↦ inl (record { at = at; heads = x.heads; budget = b; zones = vs }, record { solved = x; solves = is; time = refl; heads = refl; budget = e; zones = flows })
         ]
       ]
 
@@ -61,10 +73,10 @@ module _ (step : StepOrRefusal) (fits : HeadsFit) (m : FlowModel) (s : ℕ) (zon
       let before : IsBefore (one_deck m) at old = record { decks = record { first = valid; second = tt }; time = among.each at (first_in at rest); heads = heads } in
       elim (step m s at old before) [
         | inr (n, none) ↦ inr ([], at, n, (refl, no_heads none))
-        | inl (x, settled) ↦ elim (listed at old x settled) [
+        | inl (x, settled) ↦ elim (listed at old x (solves at old x before settled)) [
           | inr (n, none) ↦ inr ([], at, n, (refl, none))
           | inl (v, is) ↦
-              let next = subst (AreGridHeads m) (sym is.heads) (fits (one_deck m) s at old settled_kind is.solved before is.settled) in
+              let next = subst (AreGridHeads m) (sym is.heads) (fits (one_deck m) s at old (pairs_of task) is.solved before is.solves) in
               elim (listing_from rest (rest_more (times m) at rest among) v.heads next) [
                 | inl (values, steps) ↦ inl (v ∷ values, (is, steps))
                 | inr (values, t, n, steps) ↦ inr (v ∷ values, t, n, (is, steps))
@@ -72,10 +84,10 @@ module _ (step : StepOrRefusal) (fits : HeadsFit) (m : FlowModel) (s : ℕ) (zon
         ]
       ]
 
-pub a_listing : StepOrRefusal → HeadsFit → StartHeadsExist → StartHeadsFit → ListingOrRefusal
-a_listing step fits starts start_fits m s zones rounds valid zoned =
+pub a_listing : StepOrRefusal → HeadsFit → ProblemFits → StartHeadsExist → StartHeadsFit → ListingOrRefusal
+a_listing step fits problem_fits starts start_fits m s zones rounds quick valid zoned =
     let (start, is) = starts m in
-    elim (listing_from step fits m s zones rounds valid zoned (times m) (rest_whole (times m)) start (start_fits m start valid is)) [
+    elim (listing_from step fits problem_fits m s zones rounds quick valid zoned (times m) (rest_whole (times m)) start (start_fits m start valid is)) [
       | inl (values, steps) ↦ inl (values, record { start = start; is_start = is; steps = steps })
       | inr (values, at, n, steps) ↦ inr (values, at, n, record { start = start; is_start = is; steps = steps })
     ]

@@ -1,5 +1,5 @@
 -- Steps and listings exist, or a refusal says why not.
-use Rattle.std.specs.Prelude.{ℕ, ◌⊎◌, List, Option}
+use Rattle.std.specs.Prelude.{ℕ, ◌⊎◌, List, Bool, Option}
 use Rattle.step_problem.specs.declared.heads.Bound.{Bound}
 use Rattle.step_problem.specs.declared.place.NoBound.{NoBound}
 use Rattle.model_types.specs.declared.model.FlowModel.{FlowModel}
@@ -24,6 +24,6 @@ StepOrRefusal =
 -- A model has a whole listing, with the flows between its zones if there is a zone file, or a first refusal at one of its times.
 abbrev pub ListingOrRefusal : Type 0
 ListingOrRefusal =
-    (m : FlowModel) (s : ℕ) (zones : Option (List ℕ)) (rounds : ℕ) → IsModel m → AreZones m zones →
-    ((values : List Step) × AllSteps (one_task m s zones rounds) values ends.Whole)
-    ⊎ ((values : List Step) × (at : TimeStep) × (n : NoBound) × AllSteps (one_task m s zones rounds) values (ends.NoBound at n))
+    (m : FlowModel) (s : ℕ) (zones : Option (List ℕ)) (rounds : ℕ) (quick : Bool) → IsModel m → AreZones m zones →
+    ((values : List Step) × AllSteps (one_task m s zones rounds quick) values ends.Whole)
+    ⊎ ((values : List Step) × (at : TimeStep) × (n : NoBound) × AllSteps (one_task m s zones rounds quick) values (ends.NoBound at n))

@@ -24,6 +24,7 @@ pub fn listing_or_refusal()
 {
     step_or_refusal();
     heads_fit();
+    problems_fit();
     start_heads_exist();
     start_heads_fit();
 }

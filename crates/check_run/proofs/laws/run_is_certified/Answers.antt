@@ -6,6 +6,5 @@ returns c = run_certified (record {
   start_fits = c.start_heads.ensures.fit;
   problem_fits = c.problems_fit.ensures.fit;
   pair_one = c.constant_pairs.ensures.one;
-  certifies = c.settled_pair_certifies.ensures;
   heads_fit = c.heads_fit.ensures;
 })

@@ -9,11 +9,11 @@ returns-in-Err-clause-stop g c = rw c.stop_at.ensures (step_stops c.args.task.no
 
 pub returns-in-Err-budget-clause-stop : goal.returns-in-Err-budget-clause-stop
 returns-in-Err-budget-clause-stop g c = λ rest.
-    (refl, budget_refused c.args.task.now _ c.args.at c.args.old.now c.requires.tables.first.digits c.in-Ok.solved c.in-Ok.ensures.step c.as_slice.result.now c.as_slice.ensures c.in-Err-budget.refusal c.in-Err-budget.ensures.budget)
+    (refl, budget_refused c.args.task.now _ c.args.at c.args.old.now c.requires.tables.first.digits _ c.requires.pairs c.in-Ok.solved c.in-Ok.ensures.step c.as_slice.result.now c.as_slice.ensures c.in-Err-budget.refusal c.in-Err-budget.ensures.budget)
 
 pub returns-in_ok-zones-in-Ok-budget-clause-step : goal.returns-in_ok-zones-in-Ok-budget-clause-step
 returns-in_ok-zones-in-Ok-budget-clause-step g c =
-    rw c.new.ensures (step_is c.args.task.now _ c.args.at c.args.old.now c.requires.tables.first.digits c.in-Ok.solved c.in-Ok.ensures.step c.as_slice.result.now c.as_slice.ensures c.in-Ok-budget.budget c.in_ok-zones-in-Ok-budget.zones.items c.in_ok-zones-in-Ok-budget.ensures.flows c.in-Ok-budget.ensures.budget)
+    rw c.new.ensures (step_is c.args.task.now _ c.args.at c.args.old.now c.requires.tables.first.digits _ c.requires.pairs c.in-Ok.solved c.in-Ok.ensures.step c.as_slice.result.now c.as_slice.ensures c.in-Ok-budget.budget c.in_ok-zones-in-Ok-budget.zones.items c.in_ok-zones-in-Ok-budget.ensures.flows c.in-Ok-budget.ensures.budget)
 
 pub returns-in_ok-zones-in-Ok-budget-clause-encloses : goal.returns-in_ok-zones-in-Ok-budget-clause-encloses
 returns-in_ok-zones-in-Ok-budget-clause-encloses g c =
@@ -22,7 +22,7 @@ returns-in_ok-zones-in-Ok-budget-clause-encloses g c =
 pub returns-in_err-zones-in-Ok-budget-clause-stop : goal.returns-in_err-zones-in-Ok-budget-clause-stop
 returns-in_err-zones-in-Ok-budget-clause-stop g c =
     let p = err_from_is_err_and c.from_residual.result c.from_residual.ensures.1 in
-    rw (p.1, p.2) (flows_stop c.args.task.now _ c.args.at c.args.old.now c.requires.tables.first.digits c.in-Ok.solved c.in-Ok.ensures.step c.as_slice.result.now c.as_slice.ensures c.in-Ok-budget.budget c.in-Ok-budget.ensures.budget c.in_err-zones-in-Ok-budget.field-0.0 c.in_err-zones-in-Ok-budget.ensures.stop)
+    rw (p.1, p.2) (flows_stop c.args.task.now _ c.args.at c.args.old.now c.requires.tables.first.digits _ c.requires.pairs c.in-Ok.solved c.in-Ok.ensures.step c.as_slice.result.now c.as_slice.ensures c.in-Ok-budget.budget c.in-Ok-budget.ensures.budget c.in_err-zones-in-Ok-budget.field-0.0 c.in_err-zones-in-Ok-budget.ensures.stop)
 
 pub returns-in-Err-clause-led : goal.returns-in-Err-clause-led
 returns-in-Err-clause-led g c = rests_or_settles c.args.task.now _ c.args.at c.args.old.now c.requires.tables.first.digits g.S.Settler.leads _ _ c.in-Err.ensures.leads

@@ -1,9 +1,9 @@
-use Rattle.step_chain.proofs.Common.{List, false, inr, subst, sym, true, Bound, AreSettled, IsBarrierOf, IsBefore, Solved, AreHeadsOf, settled}
+use Rattle.step_chain.proofs.Common.{List, false, inr, subst, sym, true, Bound, IsBarrierOf, IsBefore, Solved, AreHeadsOf, PairKind, IsPairOf}
 use Rattle.std.proofs.lemmas.Result.{err_from_is_err_and}
 use Rattle.deck_problems.specs.Kept.{digits_of}
 use Rattle.step_chain.proofs.Failing.{barrier_fails, settle_fails}
 use Rattle.step_chain.proofs.Following.{pair_words}
-use Rattle.step_chain.proofs.Parts.{AreParts, is_settled, led_by}
+use Rattle.step_chain.proofs.Parts.{AreParts, is_step, led_by}
 use Rattle.step_chain.proofs.step.next_step_with.Goals.{After-heads_fit}
 use Rattle.step_chain.proofs.step.next_step_with.Given as given
 use Rattle.step_chain.proofs.step.next_step_with.Goals as goal
@@ -29,17 +29,21 @@ returns-in_err-settle-clause-leads g c =
           c.settled_pair.ensures.exists c.settled_pair_encloses.ensures g.S.Settler.leads false _ _ c.in_err-settle.ensures.leads,
     ))
 
+-- the kind of the settler's pairs
+abbrev kind : given.Over → PairKind
+kind g = g.S.Settler.pairs
+
 abbrev solved : (g : given.Over) (c : goal.After-heads_fit g) → Solved
 solved g c = record { problem = c.in_ok-posed.posed.problem; bounds = c.new-bounds.result; heads = c.fill_in-heads.result }
 
-parts : (g : given.Over) (c : goal.After-heads_fit g) → AreParts c.args.decks.now (digits_of c.args.tables.now.first) c.args.at c.args.old.now c.in_ok-barrier.barrier (solved g c)
+parts : (g : given.Over) (c : goal.After-heads_fit g) → AreParts c.args.decks.now (digits_of c.args.tables.now.first) c.args.at c.args.old.now (kind g) c.in_ok-barrier.barrier (solved g c)
 parts g c =
-    let S : List Bound → Type 0 = λ v. AreSettled c.in_ok-posed.posed.problem c.in_ok-barrier.barrier v in
+    let S : List Bound → Type 0 = λ v. IsPairOf c.in_ok-posed.posed.problem (kind g) c.in_ok-barrier.barrier v in
     let H : List Bound → Type 0 = λ v. AreHeadsOf c.args.decks.now c.args.at v c.fill_in-heads.result in
     record {
       problem = c.in_ok-posed.ensures.problem;
       of_problem = record { fits = c.in_ok-barrier.ensures.barrier; floors = c.in_ok-barrier.ensures.floors; ceilings = c.in_ok-barrier.ensures.ceilings };
-      settled = subst S (sym c.new-bounds.ensures) c.in_ok-settle.ensures.settles;
+      pair = subst S (sym c.new-bounds.ensures) c.in_ok-settle.ensures.settles;
       heads = subst H c.as_slice.ensures c.fill_in-heads.ensures;
     }
 
@@ -49,24 +53,24 @@ before g c = record { decks = c.requires.decks; time = c.requires.time; heads = 
 pub returns-clause-step : goal.returns-clause-step
 returns-clause-step g c =
     let made = (goal.at.returns-clause-step g c).After-heads_fit in
-    is_settled c.args.decks.now (digits_of c.args.tables.now.first) c.args.at c.args.old.now c.in_ok-barrier.barrier (solved g made) (parts g made)
+    is_step c.args.decks.now (digits_of c.args.tables.now.first) c.args.at c.args.old.now (kind g) c.in_ok-barrier.barrier (solved g made) (parts g made)
 
 pub returns-clause-words : goal.returns-clause-words
 returns-clause-words g c =
     let made = (goal.at.returns-clause-words g c).After-heads_fit in
-    pair_words settled c.in_ok-posed.posed.problem c.in_ok-barrier.barrier c.new-bounds.result (parts g made).settled
+    pair_words (kind g) c.in_ok-posed.posed.problem c.in_ok-barrier.barrier c.new-bounds.result (parts g made).pair
 
 pub returns-clause-heads : goal.returns-clause-heads
 returns-clause-heads g c =
     let made = (goal.at.returns-clause-heads g c).After-heads_fit in
-    c.heads_fit.ensures c.args.decks.now (digits_of c.args.tables.now.first) c.args.at c.args.old.now settled (solved g made) (before g made)
-    (is_settled c.args.decks.now (digits_of c.args.tables.now.first) c.args.at c.args.old.now c.in_ok-barrier.barrier (solved g made) (parts g made))
+    c.heads_fit.ensures c.args.decks.now (digits_of c.args.tables.now.first) c.args.at c.args.old.now (kind g) (solved g made) (before g made)
+    (is_step c.args.decks.now (digits_of c.args.tables.now.first) c.args.at c.args.old.now (kind g) c.in_ok-barrier.barrier (solved g made) (parts g made))
 
 pub returns-clause-encloses : goal.returns-clause-encloses
 returns-clause-encloses g c =
     let made = (goal.at.returns-clause-encloses g c).After-heads_fit in
-    c.steps_enclose.ensures c.args.decks.now (digits_of c.args.tables.now.first) c.args.at c.args.old.now settled (solved g made) (before g made)
-    (is_settled c.args.decks.now (digits_of c.args.tables.now.first) c.args.at c.args.old.now c.in_ok-barrier.barrier (solved g made) (parts g made))
+    c.steps_enclose.ensures c.args.decks.now (digits_of c.args.tables.now.first) c.args.at c.args.old.now (kind g) (solved g made) (before g made)
+    (is_step c.args.decks.now (digits_of c.args.tables.now.first) c.args.at c.args.old.now (kind g) c.in_ok-barrier.barrier (solved g made) (parts g made))
 
 pub returns-clause-leads : goal.returns-clause-leads
 returns-clause-leads g c =
