@@ -2,7 +2,7 @@
 use Rattle.command_line.proofs.Common.{◌≡◌, ℕ, ◌≤◌, Bool, true, false, cond, List, [], ◌∷◌, Option, Some, None, codes, refl, subst, arith, bytes_eq}
 use Rattle.command_line.proofs.Common.{digits_value, leb-true, and_parts, Text, Row, Kinds, fault_of, subcommand_of, first_of, heads_app, is_number, number_in}
 use Rattle.command_line.proofs.Common.{number_or, Wanted, Checks, batch_in, write_in, check_in, command_in, digits_in, make_in, rounds_in, run_in, wanted_if}
-use Rattle.command_line.proofs.Common.{wanted_of, watch_in, workers_in, checks_to, lists_to, ChecksTo}
+use Rattle.command_line.proofs.Common.{wanted_of, watch_in, workers_in, checks_to, lists_to, ChecksTo, quick_in, unwatched}
 use Rattle.std.specs.Prelude.{◌&&◌, if◌then◌else◌, decimal, nat_le, option_and_then}
 
 -- a number that was taken is one of its range
@@ -34,9 +34,9 @@ cond_fits true x y h k = h
 cond_fits false x y h k = k
 
 -- a listing is no check, whether of one model or of every model between two
-lists_fit : (to : Option Text) (name : Text) (digits workers rounds : ℕ) (zones : Option Text) (turns : Option ℕ) → Fits (Some (lists_to to name digits workers rounds zones turns))
-lists_fit None name digits workers rounds zones turns = tt
-lists_fit (Some to) name digits workers rounds zones turns = tt
+lists_fit : (to : Option Text) (name : Text) (digits workers rounds : ℕ) (zones : Option Text) (turns : Option ℕ) (quick : Bool) → Fits (Some (lists_to to name digits workers rounds zones turns quick))
+lists_fit None name digits workers rounds zones turns quick = tt
+lists_fit (Some to) name digits workers rounds zones turns quick = tt
 
 checks_fit : (to : Option Text) (name listing : Text) (digits : ℕ) (zones : Option Text) → digits ≤ 18 → Fits (Some (checks_to to name listing digits zones))
 checks_fit None name listing digits zones h = h
@@ -44,7 +44,7 @@ checks_fit (Some to) name listing digits zones h = h
 
 run_fits : (rows : List Row) → Fits (run_in rows)
 run_fits rows =
-    then_fits (first_of (codes "name") rows) _ (λ name a. then_fits (digits_in rows) _ (λ digits b. then_fits (workers_in rows) _ (λ workers c. then_fits (rounds_in rows) _ (λ rounds d. then_fits (watch_in rows) _ (λ turns e. lists_fit (first_of (codes "to") rows) name digits workers rounds (first_of (codes "zones") rows) turns)))))
+    then_fits (first_of (codes "name") rows) _ (λ name a. then_fits (digits_in rows) _ (λ digits b. then_fits (workers_in rows) _ (λ workers c. then_fits (rounds_in rows) _ (λ rounds d. then_fits (watch_in rows) _ (λ turns e. then_fits (unwatched turns (quick_in rows)) _ (λ quick f. lists_fit (first_of (codes "to") rows) name digits workers rounds (first_of (codes "zones") rows) turns quick))))))
 
 check_fits : (rows : List Row) → Fits (check_in rows)
 check_fits rows =

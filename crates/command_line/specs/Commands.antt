@@ -1,5 +1,6 @@
 -- The command line, as clap sees it: one command with five subcommands, of which one is needed.
 use Rattle.std.specs.Prelude.{◌≡◌, Some, true, false, codes}
+use Rattle.clap.specs.declared.builder.action.ArgAction.TheVariants.{SetTrue}
 use Rattle.clap.specs.declared.builder.command.Command.{Command}
 use Rattle.clap.specs.declared.builder.command.Command.TheViews.{out-Command as fields_of}
 use Rattle.clap.specs.Words.{App, Rule, Text, new_app, new_rule, with_rule, with_subcommand}
@@ -13,11 +14,17 @@ word id = record (new_rule id) { required = true }
 abbrev pub option : Text → Rule
 option id = record (new_rule id) { long = Some id }
 
--- the command with the options of a settling: [--digits S] [--workers W] [--rounds P]
-abbrev pub settling : App → App
-settling a = with_rule (with_rule (with_rule a (option (codes "digits"))) (option (codes "workers"))) (option (codes "rounds"))
+-- an option without a value
+abbrev pub flag : Text → Rule
+flag id = record (new_rule id) { long = Some id; action = Some SetTrue }
 
--- run NAME [--digits S] [--workers W] [--rounds P] [--to NAME2] [--zones Z] [--watch N]
+-- the command with the options of a settling: [--digits S] [--workers W] [--rounds P] [--quick]
+abbrev pub settling : App → App
+settling a =
+    with_rule (with_rule (with_rule (with_rule a (option (codes "digits"))) (option (codes "workers"))) (option (codes "rounds")))
+    (flag (codes "quick"))
+
+-- run NAME [--digits S] [--workers W] [--rounds P] [--quick] [--to NAME2] [--zones Z] [--watch N]
 abbrev pub run_app : App
 run_app =
     with_rule (with_rule (with_rule (settling (with_rule (new_app (codes "run")) (word (codes "name")))) (option (codes "to")))
@@ -33,7 +40,7 @@ check_app =
 abbrev pub make_app : App
 make_app = with_rule (with_rule (new_app (codes "make")) (word (codes "seed"))) (word (codes "size"))
 
--- batch LIST [--digits S] [--workers W] [--rounds P]
+-- batch LIST [--digits S] [--workers W] [--rounds P] [--quick]
 abbrev pub batch_app : App
 batch_app = settling (with_rule (new_app (codes "batch")) (word (codes "list")))
 

@@ -1,16 +1,20 @@
 -- The ranges of an order's numbers.
-use Rattle.std.specs.Prelude.{ℕ, ◌≤◌, IfSome}
+use Rattle.std.specs.Prelude.{◌≡◌, ℕ, ◌≤◌, IfSome, Bool, false}
 use Rattle.command_line.specs.Wants.{Wanted, Lists, ListsTo, Checks, ChecksTo, Makes, Batches, Writes}
 
 -- workers and rounds
 abbrev pub AreSettlersNumbers : ℕ → ℕ → Type 0
 AreSettlersNumbers workers rounds = (1 ≤ workers) × (workers ≤ 64) × (1 ≤ rounds) × (rounds ≤ 4000000000)
 
+-- turns of the watching seat, of a listing that is not quick
+abbrev pub AreTurns : Bool → ℕ → Type 0
+AreTurns quick n = (1 ≤ n) × (n ≤ 1000) × (quick ≡ false)
+
 abbrev pub IsInRange : Wanted → Type 0
-IsInRange (Lists name digits workers rounds zones turns) = (digits ≤ 18) × AreSettlersNumbers workers rounds × IfSome turns (λ n. (1 ≤ n) × (n ≤ 1000))
-IsInRange (ListsTo name to digits workers rounds zones turns) = (digits ≤ 18) × AreSettlersNumbers workers rounds × IfSome turns (λ n. (1 ≤ n) × (n ≤ 1000))
+IsInRange (Lists name digits workers rounds zones turns quick) = (digits ≤ 18) × AreSettlersNumbers workers rounds × IfSome turns (AreTurns quick)
+IsInRange (ListsTo name to digits workers rounds zones turns quick) = (digits ≤ 18) × AreSettlersNumbers workers rounds × IfSome turns (AreTurns quick)
 IsInRange (Checks name listing digits zones) = digits ≤ 18
 IsInRange (ChecksTo name to listing digits zones) = digits ≤ 18
 IsInRange (Makes seed size) = (seed ≤ 2147483647) × (1 ≤ size) × (size ≤ 64)
-IsInRange (Batches list digits workers rounds) = (digits ≤ 18) × AreSettlersNumbers workers rounds
+IsInRange (Batches list digits workers rounds quick) = (digits ≤ 18) × AreSettlersNumbers workers rounds
 IsInRange (Writes name) = Unit {0}

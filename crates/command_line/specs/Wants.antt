@@ -1,5 +1,6 @@
 -- What the words of the command line ask for.
-use Rattle.std.specs.Prelude.{ℕ, List, [], ◌∷◌, Option, Some, None, cond, codes, option_map, option_and_then}
+use Rattle.std.specs.Prelude.{ℕ, Bool, true, false, List, [], ◌∷◌, Option, Some, None, cond, codes, option_map, option_and_then}
+use Rattle.std.specs.Option.{option_map_or}
 use Rattle.std.specs.Str.{bytes_eq}
 use Rattle.clap.specs.Words.{Text, Row, Kinds, fault_of, subcommand_of, first_of}
 use Rattle.command_line.specs.Commands.{heads_app}
@@ -11,16 +12,17 @@ infixl 10 ◌>>=◌
 abbrev ◌>>=◌ : {A B : Type 0} → Option A → (A → Option B) → Option B
 x >>= f = option_and_then f x
 
--- A listing of a model: its name file, digits, workers, rounds, zone file, turns of the watching seat. A check: name
--- file, listing, digits, zone file. Both for every model between two: the second name file comes after the first. A made
--- model: seed, size. A batch of models: list, digits, workers, rounds. A model's deck: its name file.
+-- A listing of a model: its name file, digits, workers, rounds, zone file, turns of the watching seat, and whether its pairs
+-- may be any certificates. A check: name file, listing, digits, zone file. Both for every model between two: the second name
+-- file comes after the first. A made model: seed, size. A batch of models: list, digits, workers, rounds, and whether its pairs
+-- may be any certificates. A model's deck: its name file.
 pub data Wanted : Type 0 where
-  Lists : Text → ℕ → ℕ → ℕ → Option Text → Option ℕ → Wanted
-  ListsTo : Text → Text → ℕ → ℕ → ℕ → Option Text → Option ℕ → Wanted
+  Lists : Text → ℕ → ℕ → ℕ → Option Text → Option ℕ → Bool → Wanted
+  ListsTo : Text → Text → ℕ → ℕ → ℕ → Option Text → Option ℕ → Bool → Wanted
   Checks : Text → Text → ℕ → Option Text → Wanted
   ChecksTo : Text → Text → Text → ℕ → Option Text → Wanted
   Makes : ℕ → ℕ → Wanted
-  Batches : Text → ℕ → ℕ → ℕ → Wanted
+  Batches : Text → ℕ → ℕ → ℕ → Bool → Wanted
   Writes : Text → Wanted
 
 -- the options' values, or their defaults where they are omitted
@@ -41,10 +43,19 @@ turns_of (Some text) = option_map Some (number_in 1 1000 text)
 abbrev pub watch_in : List Row → Option (Option ℕ)
 watch_in rows = turns_of (first_of (codes "watch") rows)
 
+-- whether --quick is given
+abbrev pub quick_in : List Row → Bool
+quick_in rows = option_map_or (λ text. bytes_eq text (codes "true")) (first_of (codes "quick") rows) false
+
+-- a quick listing is not watched
+abbrev pub unwatched : Option ℕ → Bool → Option Bool
+unwatched (Some turns) true = None
+unwatched turns quick = Some quick
+
 -- a listing and a check, of one model or of every model between two
-abbrev pub lists_to : Option Text → Text → ℕ → ℕ → ℕ → Option Text → Option ℕ → Wanted
-lists_to None name digits workers rounds zones turns = Lists name digits workers rounds zones turns
-lists_to (Some to) name digits workers rounds zones turns = ListsTo name to digits workers rounds zones turns
+abbrev pub lists_to : Option Text → Text → ℕ → ℕ → ℕ → Option Text → Option ℕ → Bool → Wanted
+lists_to None name digits workers rounds zones turns quick = Lists name digits workers rounds zones turns quick
+lists_to (Some to) name digits workers rounds zones turns quick = ListsTo name to digits workers rounds zones turns quick
 
 abbrev pub checks_to : Option Text → Text → Text → ℕ → Option Text → Wanted
 checks_to None name listing digits zones = Checks name listing digits zones
@@ -58,7 +69,8 @@ run_in rows = do
   workers ← workers_in rows
   rounds ← rounds_in rows
   turns ← watch_in rows
-  Some (lists_to (first_of (codes "to") rows) name digits workers rounds (first_of (codes "zones") rows) turns)
+  quick ← unwatched turns (quick_in rows)
+  Some (lists_to (first_of (codes "to") rows) name digits workers rounds (first_of (codes "zones") rows) turns quick)
 
 abbrev pub check_in : List Row → Option Wanted
 check_in rows = do
@@ -81,7 +93,7 @@ batch_in rows = do
   digits ← digits_in rows
   workers ← workers_in rows
   rounds ← rounds_in rows
-  Some (Batches list digits workers rounds)
+  Some (Batches list digits workers rounds (quick_in rows))
 
 abbrev pub write_in : List Row → Option Wanted
 write_in rows = do
@@ -106,9 +118,9 @@ wanted_of words = wanted_if (fault_of heads_app words) (subcommand_of heads_app 
 
 -- what an order asks for
 abbrev pub wanted : Order → Wanted
-wanted (order.Run name to digits workers rounds zones watch) =
-    lists_to (option_map (λ t. t.now) to) name.now digits workers rounds (option_map (λ z. z.now) zones) watch
+wanted (order.Run name to digits workers rounds zones watch quick) =
+    lists_to (option_map (λ t. t.now) to) name.now digits workers rounds (option_map (λ z. z.now) zones) watch quick
 wanted (order.Check name to listing digits zones) = checks_to (option_map (λ t. t.now) to) name.now listing.now digits (option_map (λ z. z.now) zones)
 wanted (order.Make seed size) = Makes seed size
-wanted (order.Batch list digits workers rounds) = Batches list.now digits workers rounds
+wanted (order.Batch list digits workers rounds quick) = Batches list.now digits workers rounds quick
 wanted (order.Write name) = Writes name.now

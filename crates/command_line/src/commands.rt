@@ -1,8 +1,8 @@
 ghost use Rattle.std.specs.Prelude.{◌≡◌, IfOk, false, true};
 ghost use Rattle.clap.specs.Words.{app_of, with_rule, with_subcommand};
-ghost use Rattle.command_line.specs.Commands.{IsLocal, needing, run_app, check_app, make_app, batch_app, write_app, heads_app, word, option, settling};
+ghost use Rattle.command_line.specs.Commands.{IsLocal, needing, run_app, check_app, make_app, batch_app, write_app, heads_app, word, option, flag, settling};
 
-use clap::{Arg, Command};
+use clap::{Arg, ArgAction, Command};
 use std::alloc::{AllocError, Global};
 
 // The command with one more positional word.
@@ -29,6 +29,18 @@ fn with_option<'a>(
     command.arg(Arg::new(alloc, id).long(id))
 }
 
+// The command with one more option that has no value.
+fn with_flag<'a>(
+    alloc: Global,
+    command: Command<'a>,
+    id: &'a str,
+) -> Result<Command<'a>, AllocError>
+    requires { IsLocal command }
+    ensures { IfOk result (λ c. (app_of c ≡ with_rule (app_of command.entry) (flag id.entry.now)) × IsLocal c) }
+{
+    command.arg(Arg::new(alloc, id).long(id).action(ArgAction::SetTrue))
+}
+
 // The command with the options of a settling.
 fn with_settling<'a>(alloc: Global, command: Command<'a>) -> Result<Command<'a>, AllocError>
     requires { IsLocal command }
@@ -36,7 +48,8 @@ fn with_settling<'a>(alloc: Global, command: Command<'a>) -> Result<Command<'a>,
 {
     let command = with_option(alloc, command, "digits")?;
     let command = with_option(alloc, command, "workers")?;
-    with_option(alloc, command, "rounds")
+    let command = with_option(alloc, command, "rounds")?;
+    with_flag(alloc, command, "quick")
 }
 
 fn run_command<'a>(alloc: Global) -> Result<Command<'a>, AllocError>

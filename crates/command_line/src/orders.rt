@@ -1,7 +1,7 @@
-ghost use Rattle.std.specs.Prelude.{◌≡◌, map, option_map, option_and_then, IfOk, IfSome, IsErrOf, Some, None, Option};
+ghost use Rattle.std.specs.Prelude.{◌≡◌, map, option_map, option_and_then, IfOk, IfSome, IsErrOf, Some, None, Option, false};
 ghost use Rattle.clap.specs.Words.{rows_of, found_of, first_of, subcommand_rows_of};
 ghost use Rattle.command_line.specs.Ranges.{IsInRange};
-ghost use Rattle.command_line.specs.Wants.{wanted, wanted_of, run_in, check_in, make_in, batch_in, write_in, command_in};
+ghost use Rattle.command_line.specs.Wants.{quick_in, unwatched, wanted, wanted_of, run_in, check_in, make_in, batch_in, write_in, command_in};
 
 use crate::commands::heads_command;
 use crate::numbers::{
@@ -23,6 +23,7 @@ pub enum Order<'a> {
         rounds: u32,
         zones: Option<&'a str>,
         watch: Option<u32>,
+        quick: bool,
     },
     /// Whether a listing is certified; with `to` one of every model between two.
     Check {
@@ -43,6 +44,7 @@ pub enum Order<'a> {
         digits: u32,
         workers: u32,
         rounds: u32,
+        quick: bool,
     },
     /// The deck of a model, written anew.
     Write {
@@ -66,6 +68,27 @@ fn text_of<'a>(found: &ArgMatches<'a>, id: &str) -> Option<&'a str>
     found.get_str(id)
 }
 
+// Whether the words say --quick.
+fn is_quick(found: &ArgMatches) -> bool
+    ensures { result ≡ quick_in (rows_of (found_of found.now)) }
+{
+    match text_of(found, "quick") {
+        None => false,
+        Some(text) => text == "true",
+    }
+}
+
+// Whether a listing is quick; None for one that is watched too.
+fn quick_unless_watched(watch: Option<u32>, quick: bool) -> Option<bool>
+    ensures is { result ≡ unwatched watch quick }
+    ensures plain { IfSome result (λ q. IfSome watch (λ _. q ≡ false)) }
+{
+    match watch {
+        Some(_) if quick => None,
+        _ => Some(quick),
+    }
+}
+
 fn run_order<'a>(found: &ArgMatches<'a>) -> Option<Order<'a>>
     ensures is { option_map wanted result ≡ run_in (rows_of (found_of found.now)) }
     ensures in_range { IfSome result (λ o. IsInRange (wanted o)) }
@@ -85,6 +108,9 @@ fn run_order<'a>(found: &ArgMatches<'a>) -> Option<Order<'a>>
     let Some(watch) = turns_or_none(text_of(found, "watch")) else {
         return None;
     };
+    let Some(quick) = quick_unless_watched(watch, is_quick(found)) else {
+        return None;
+    };
     Some(Order::Run {
         name,
         to: text_of(found, "to"),
@@ -93,6 +119,7 @@ fn run_order<'a>(found: &ArgMatches<'a>) -> Option<Order<'a>>
         rounds,
         zones: text_of(found, "zones"),
         watch,
+        quick,
     })
 }
 
@@ -158,6 +185,7 @@ fn batch_order<'a>(found: &ArgMatches<'a>) -> Option<Order<'a>>
         digits,
         workers,
         rounds,
+        quick: is_quick(found),
     })
 }
 
