@@ -2,8 +2,8 @@
 use Rattle.engine.proofs.Common.{◌≡◌, ℕ, List, Option, Some, None, refl, subst, sym, ◌∙◌, inl, inr, ◌⊎◌, MatchOption, File, Rose, Put, Seen, PutsMake, Text}
 use Rattle.engine.proofs.Common.{Status, Batched, HasNoList, AskedBatch, batch_asked, AnyAnswers, AnyComes, AnyDecided, AnyPuts, BatchAnswers, BatchComes}
 use Rattle.engine.proofs.Common.{BatchDecided, BatchPuts, AskedCheck, Case, Check, Command, IsCase, Make, asked_in, Certified, OneDeck, Headline, Made}
-use Rattle.engine.proofs.Common.{OneListing, OneSummary, OneVerdict, Answers, AnswersBeside, IsStopped, Comes, Decided, IsLeft, Puts, Watched, views_in}
-use Rattle.engine.proofs.Common.{AskedSpanCheck, CheckSpan, OneSpan, SpanCertified, SpanHeadline, SpanVerdict}
+use Rattle.engine.proofs.Common.{OneOrQuick, OneSummary, OneVerdict, Answers, AnswersBeside, IsStopped, Comes, Decided, IsLeft, Puts, Watched, views_in}
+use Rattle.engine.proofs.Common.{AskedSpanCheck, CheckSpan, SpanOrQuick, SpanCertified, SpanHeadline, SpanVerdict}
 use Rattle.engine.proofs.BatchEnds.{other_none}
 use Rattle.engine.proofs.BatchOutcomes.{batch_complete, batch_decided, batch_put_rose, batch_read_rose, batched}
 use Rattle.engine.proofs.Certifying.{not_stopped}
@@ -73,10 +73,10 @@ module _ (laws : Laws) (words : List Text) (n m : ℕ) (S : Type 0) (L : List Pu
         by_option None e a ok = inl (first_of (beside_both words (Some files) n m S L end puts old new makes laws a ok))
         by_option (Some b) e a ok = inr (ok_batched b e a ok)
 
-    pub any_one : AnyAnswers words (Some files) n m S L end puts → end ≡ status.Ok → (OneListing words files old.written new.written ⊎ (OneSummary words old.written new.written ⊎ (OneVerdict words files ⊎ (OneDeck words files old.written new.written ⊎ (OneSpan words files old.written new.written ⊎ SpanVerdict words files))))) ⊎ Batched words files end old.written new.written
+    pub any_one : AnyAnswers words (Some files) n m S L end puts → end ≡ status.Ok → (OneOrQuick words files old.written new.written ⊎ (OneSummary words old.written new.written ⊎ (OneVerdict words files ⊎ (OneDeck words files old.written new.written ⊎ (SpanOrQuick words files old.written new.written ⊎ SpanVerdict words files))))) ⊎ Batched words files end old.written new.written
     any_one = by_option (batch_asked words) refl
       where
-        by_option : (o : Option AskedBatch) → batch_asked words ≡ o → AnswersBy words (Some files) n m S L end puts o → end ≡ status.Ok → (OneListing words files old.written new.written ⊎ (OneSummary words old.written new.written ⊎ (OneVerdict words files ⊎ (OneDeck words files old.written new.written ⊎ (OneSpan words files old.written new.written ⊎ SpanVerdict words files))))) ⊎ Batched words files end old.written new.written
+        by_option : (o : Option AskedBatch) → batch_asked words ≡ o → AnswersBy words (Some files) n m S L end puts o → end ≡ status.Ok → (OneOrQuick words files old.written new.written ⊎ (OneSummary words old.written new.written ⊎ (OneVerdict words files ⊎ (OneDeck words files old.written new.written ⊎ (SpanOrQuick words files old.written new.written ⊎ SpanVerdict words files))))) ⊎ Batched words files end old.written new.written
         by_option None e a ok = inl (second_of (beside_both words (Some files) n m S L end puts old new makes laws a ok))
         by_option (Some b) e a ok = inr (ok_batched b e a ok)
 

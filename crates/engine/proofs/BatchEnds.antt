@@ -20,13 +20,13 @@ other_none words b = by_wanted (wanted_of words)
   where
     by_wanted : (w : Option Wanted) → option_and_then batch_of w ≡ Some b → option_and_then built w ≡ None
     by_wanted None e = refl
-    by_wanted (Some (Batches list digits workers rounds)) e = refl
+    by_wanted (Some (Batches list digits workers rounds quick)) e = refl
     by_wanted (Some (Checks name listing digits zones)) e = absurd (let bad : Path (Option AskedBatch) None (Some b) = e in cc)
     by_wanted (Some (ChecksTo name to listing digits zones)) e = absurd (let bad : Path (Option AskedBatch) None (Some b) = e in cc)
-    by_wanted (Some (ListsTo name to digits workers rounds zones turns)) e = absurd (let bad : Path (Option AskedBatch) None (Some b) = e in cc)
+    by_wanted (Some (ListsTo name to digits workers rounds zones turns quick)) e = absurd (let bad : Path (Option AskedBatch) None (Some b) = e in cc)
     by_wanted (Some (Makes seed size)) e = absurd (let bad : Path (Option AskedBatch) None (Some b) = e in cc)
     by_wanted (Some (Writes name)) e = absurd (let bad : Path (Option AskedBatch) None (Some b) = e in cc)
-    by_wanted (Some (Lists name digits workers rounds zones turns)) e = absurd (let bad : Path (Option AskedBatch) None (Some b) = e in cc)
+    by_wanted (Some (Lists name digits workers rounds zones turns quick)) e = absurd (let bad : Path (Option AskedBatch) None (Some b) = e in cc)
 
 still_stopped : (case : BatchCase) (end : Status) → IsStopped end → AreValid case end
 still_stopped (NoList refusal) end h = tt

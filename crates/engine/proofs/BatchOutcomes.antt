@@ -5,7 +5,7 @@ use Rattle.engine.proofs.Common.{early, NeverCut, Agree, IsUnfinished, Status, I
 use Rattle.engine.proofs.Common.{IsWhole, whole_listing, history_exists, history_is_one, JobEnd, batch_settles, batches_agree, Job, Batched, HasEnded}
 use Rattle.engine.proofs.Common.{HasNoList, IsJobListing, AskedBatch, BatchCase, BatchDefines, IsJobEnd, IsRunText, Jobs, NoList, batch_asked, batch_case}
 use Rattle.engine.proofs.Common.{job_case, job_of, job_task, model_line, names_read, task_read, AreValid, BatchAnswers, BatchComes, BatchDecided, BatchDue}
-use Rattle.engine.proofs.Common.{HasJob, IsBatchRun, IsValidJob, unread, IsStopped, Plain}
+use Rattle.engine.proofs.Common.{HasJob, IsBatchRun, IsValidJob, unread, IsStopped, Plain, false, zero, suc, arith}
 use Rattle.engine.specs.BatchRuns.{defined}
 use Rattle.batch_puts.specs.Ended.{first_not_ok, or_else, texts}
 use Rattle.engine.proofs.Certifying.{IsFault, not_stopped, stopped_by_fault}
@@ -86,11 +86,11 @@ module _ (laws : Laws) (b : AskedBatch) (files : List File) where
         valid = valid.first;
         values = w.values;
         steps = w.steps;
-        only = λ others steps. laws.one (job_task b m) w.values others valid w.steps steps;
+        only = λ plain others steps. laws.one (job_task b m) w.values others valid plain w.steps steps;
         is = h.text ∙ ap (λ (p : List Text). model_line name ++ concat p) w.are;
         encloses = w.encloses;
-        solvable = history_exists m b.digits None b.rounds w.values valid.first w.steps;
-        one = history_is_one m b.digits None b.rounds w.values valid.first w.steps;
+        solvable = history_exists m b.digits None b.rounds b.quick w.values valid.first w.steps;
+        one = history_is_one m b.digits None b.rounds b.quick w.values valid.first w.steps;
       }
 
   all_ended : (names : List Text) (ends : List JobEnd) → All IsValidJob (map (job_of b (reads Plain files)) names) → AllZip IsJobEnd (map (job_of b (reads Plain files)) names) ends → AllZip (HasEnded b files) names ends
@@ -149,32 +149,63 @@ with_valid [] (e ∷ ends) valid h = absurd h
 with_valid (job ∷ jobs) [] valid h = absurd h
 with_valid (job ∷ jobs) (e ∷ ends) valid (x, h) = ((All-head IsValidJob job jobs valid, x), with_valid jobs ends (All-tail IsValidJob job jobs valid) h)
 
+-- the pairs of a job are settled, and so are those of all jobs of a batch without --quick
+abbrev IsPlainJob : Job → Type 0
+IsPlainJob job = IfOk job.read (λ k. k.quick ≡ false)
+
+abbrev IsPlainCase : BatchCase → Type 0
+IsPlainCase (NoList refusal) = Unit {0}
+IsPlainCase (Jobs jobs) = All IsPlainJob jobs
+
+plain_read : (b : AskedBatch) (r : Result FlowModel Refusal) → b.quick ≡ false → IfOk (task_read b r) (λ k. k.quick ≡ false)
+plain_read b (Ok m) plain = plain
+plain_read b (Err refusal) plain = tt
+
+plain_case : (b : AskedBatch) (r : Result (List Text) Refusal) (read : Text → Result FlowModel Refusal) → b.quick ≡ false → IsPlainCase (batch_case b r read)
+plain_case b (Err refusal) read plain = tt
+plain_case b (Ok names) read plain = all names
+  where
+    all : (names : List Text) → All IsPlainJob (map (job_of b read) names)
+    all [] i d lt = absurd (omega (arith, lt))
+    all (name ∷ names) zero d lt = plain_read b (read name) plain
+    all (name ∷ names) (suc i) d lt = all names i d (omega (arith, lt))
+
+-- an end of such a job whose model is valid
+abbrev IsPlainEnd : Job → JobEnd → Type 0
+IsPlainEnd job e = IsPlainJob job × IsValidEnd job e
+
+with_plain : (jobs : List Job) (ends : List JobEnd) → All IsPlainJob jobs → AllZip IsValidEnd jobs ends → AllZip IsPlainEnd jobs ends
+with_plain [] [] plain h = tt
+with_plain [] (e ∷ ends) plain h = absurd h
+with_plain (job ∷ jobs) [] plain h = absurd h
+with_plain (job ∷ jobs) (e ∷ ends) plain (x, h) = ((All-head IsPlainJob job jobs plain, x), with_plain jobs ends (All-tail IsPlainJob job jobs plain) h)
+
 module _ (laws : Laws) where
-  read_agree : (read : Result Task Refusal) (line : Text) (a c : JobEnd) → IfOk read (λ k. AreDecks k.decks) → IsRunText (job_case read) line a → IsRunText (job_case read) line c → Agree a.status c.status
-  read_agree (Ok k) line a c valid x y = agree laws k valid a.status c.status x.pieces y.pieces x.defined y.defined
-  read_agree (Err refusal) line a c valid x y = inr (inl (y.defined.0 ∙ sym x.defined.0))
+  read_agree : (read : Result Task Refusal) (line : Text) (a c : JobEnd) → IfOk read (λ k. k.quick ≡ false) → IfOk read (λ k. AreDecks k.decks) → IsRunText (job_case read) line a → IsRunText (job_case read) line c → Agree a.status c.status
+  read_agree (Ok k) line a c plain valid x y = agree laws k valid plain a.status c.status x.pieces y.pieces x.defined y.defined
+  read_agree (Err refusal) line a c plain valid x y = inr (inl (y.defined.0 ∙ sym x.defined.0))
 
-  job_agree : (job : Job) (a c : JobEnd) → IsValidEnd job a → IsValidEnd job c → Agree a.status c.status
-  job_agree job a c x y = read_agree job.read (model_line job.name) a c x.0 x.1 y.1
+  job_agree : (job : Job) (a c : JobEnd) → IsPlainEnd job a → IsPlainEnd job c → Agree a.status c.status
+  job_agree job a c x y = read_agree job.read (model_line job.name) a c x.0 x.1.0 x.1.1 y.1.1
 
-  decides : (case : BatchCase) (meant end : Status) (p q : List Text) → AreValid case end → BatchDefines case meant p → BatchDefines case end q → Agree meant end
-  decides (NoList refusal) meant end p q valid x y = inr (inl (y.0 ∙ sym x.0))
-  decides (Jobs jobs) meant end p q (inr stops) x y = absurd (defined_not_stopped (Jobs jobs) end q y stops)
-  decides (Jobs jobs) meant end p q (inl valid) x y =
-      let both : Agree (first_not_ok x.ends) (first_not_ok y.ends) = batches_agree IsValidEnd job_agree jobs x.ends y.ends (with_valid jobs x.ends valid x.each) (with_valid jobs y.ends valid y.each) in
+  decides : (case : BatchCase) (meant end : Status) (p q : List Text) → IsPlainCase case → AreValid case end → BatchDefines case meant p → BatchDefines case end q → Agree meant end
+  decides (NoList refusal) meant end p q plain valid x y = inr (inl (y.0 ∙ sym x.0))
+  decides (Jobs jobs) meant end p q plain (inr stops) x y = absurd (defined_not_stopped (Jobs jobs) end q y stops)
+  decides (Jobs jobs) meant end p q plain (inl valid) x y =
+      let both : Agree (first_not_ok x.ends) (first_not_ok y.ends) = batches_agree IsPlainEnd job_agree jobs x.ends y.ends (with_plain jobs x.ends plain (with_valid jobs x.ends valid x.each)) (with_plain jobs y.ends plain (with_valid jobs y.ends valid y.each)) in
       let P : Status → Type 0 = λ s. Agree s (first_not_ok y.ends) in
       let Q : Status → Type 0 = λ s. Agree meant s in
       subst Q (sym y.ended.status_is) (subst P (sym x.ended.status_is) both)
 
-  decided_by : (fault : Type 0) (case : BatchCase) (meant end : Status) (p : List Text) → AreValid case end → BatchDefines case meant p → Ended fault case end → (fault ⊎ IsUnfinished meant) ⊎ ((end ≡ meant) ⊎ ((end ≡ status.Memory) ⊎ IsUnfinished end))
-  decided_by fault case meant end p valid x (inl f) = inl (inl f)
-  decided_by fault case meant end p valid x (inr (inl e)) = inr (inr (inl e))
-  decided_by fault case meant end p valid x (inr (inr (q, y))) = weighed fault meant end (decides case meant end p q valid x y)
+  decided_by : (fault : Type 0) (case : BatchCase) (meant end : Status) (p : List Text) → IsPlainCase case → AreValid case end → BatchDefines case meant p → Ended fault case end → (fault ⊎ IsUnfinished meant) ⊎ ((end ≡ meant) ⊎ ((end ≡ status.Memory) ⊎ IsUnfinished end))
+  decided_by fault case meant end p plain valid x (inl f) = inl (inl f)
+  decided_by fault case meant end p plain valid x (inr (inl e)) = inr (inr (inl e))
+  decided_by fault case meant end p plain valid x (inr (inr (q, y))) = weighed fault meant end (decides case meant end p q plain valid x y)
 
   pub batch_decided : (b : AskedBatch) (files : List File) (n m : ℕ) (end : Status) (puts : List Put) (old new : Seen) → BatchAnswers b (Some files) n m end puts → PutsMake old puts new → BatchDecided (Rose n m ⊎ Rose old.faults new.faults) b files end
-  batch_decided b files n m end puts old new a makes = λ meant pieces x.
+  batch_decided b files n m end puts old new a makes = λ plain meant pieces x.
       let P : BatchCase → Type 0 = λ case. BatchDefines case meant pieces in
-      decided_by (Rose n m ⊎ Rose old.faults new.faults) a.case meant end pieces a.valid (subst P (sym a.is) x) (ended n m a.case end puts old new a.run makes)
+      decided_by (Rose n m ⊎ Rose old.faults new.faults) a.case meant end pieces (subst IsPlainCase (sym a.is) (plain_case b (names_read files b) (reads Plain files) plain)) a.valid (subst P (sym a.is) x) (ended n m a.case end puts old new a.run makes)
 
   module _ (b : AskedBatch) (files : List File) where
     job_settles : (name : Text) (e : JobEnd) → HasJob b files name → IsValidEnd (job_of b (reads Plain files) name) e → e.status ≡ status.Ok

@@ -33,13 +33,13 @@ views_by words w x y e same v = ap (option_and_then views_asked) e ∙ sym v ∙
 
 -- the words ask for views only of a listing
 views_of_run : (w : Option Wanted) (n : ℕ) → option_and_then views_asked w ≡ Some n → ((asked : Asked) × (option_and_then built w ≡ Some (Run asked))) ⊎ ((asked : AskedSpan) × (option_and_then built w ≡ Some (Span asked)))
-views_of_run (Some (Lists name digits workers rounds zones watch)) n e = inl (record { name = name; digits = digits; rounds = rounds; zones = zones }, refl)
-views_of_run (Some (ListsTo name to digits workers rounds zones watch)) n e = inr (record { run = record { name = name; digits = digits; rounds = rounds; zones = zones }; to = to }, refl)
+views_of_run (Some (Lists name digits workers rounds zones watch quick)) n e = inl (record { name = name; digits = digits; rounds = rounds; zones = zones; quick = quick }, refl)
+views_of_run (Some (ListsTo name to digits workers rounds zones watch quick)) n e = inr (record { run = record { name = name; digits = digits; rounds = rounds; zones = zones; quick = quick }; to = to }, refl)
 views_of_run (Some (ChecksTo name to listing digits zones)) n e = absurd (let bad : Path (Option ℕ) None (Some n) = e in cc)
 views_of_run (Some (Makes seed size)) n e = absurd (let bad : Path (Option ℕ) None (Some n) = e in cc)
 views_of_run (Some (Writes name)) n e = absurd (let bad : Path (Option ℕ) None (Some n) = e in cc)
 views_of_run (Some (Checks name listing digits zones)) n e = absurd (let bad : Path (Option ℕ) None (Some n) = e in cc)
-views_of_run (Some (Batches list digits workers rounds)) n e = absurd (let bad : Path (Option ℕ) None (Some n) = e in cc)
+views_of_run (Some (Batches list digits workers rounds quick)) n e = absurd (let bad : Path (Option ℕ) None (Some n) = e in cc)
 views_of_run None n e = absurd (let bad : Path (Option ℕ) None (Some n) = e in cc)
 
 -- a command without views is no listing
@@ -176,13 +176,13 @@ module _ (fault other : Type 0) (takes : fault → other) where
   wider_one (inr a) = inr a
 
   wider_decided : (words : List Text) (fs : List File) (end : Status) → Decided fault words fs end → Decided other words fs end
-  wider_decided words fs end h = λ meant pieces d. wider_sum (h meant pieces d)
+  wider_decided words fs end h = λ plain meant pieces d. wider_sum (h plain meant pieces d)
 
   wider_comes : (words : List Text) (fs : List File) (end : Status) → Comes fault words fs end → Comes other words fs end
   wider_comes words fs end h = λ has. wider_one (h has)
 
   pub wider_batch : (b : AskedBatch) (fs : List File) (end : Status) → BatchDecided fault b fs end → BatchDecided other b fs end
-  wider_batch b fs end h = λ meant pieces d. wider_sum (h meant pieces d)
+  wider_batch b fs end h = λ plain meant pieces d. wider_sum (h plain meant pieces d)
 
   pub wider_batch_comes : (b : AskedBatch) (fs : List File) (end : Status) → BatchComes fault b fs end → BatchComes other b fs end
   wider_batch_comes b fs end h = λ has. wider_one (h has)
@@ -203,7 +203,7 @@ module _ (laws : Laws) (words : List Text) (fs : List File) (n m : ℕ) (failed 
     where
       by_answer : Answers words (Some fs) n m end puts ⊎ ((case : Case) × IsCase words (Some fs) case × IsLeft failed case end puts) → Decided Fault words fs end
       by_answer (inl a) = wider_decided Known Fault takes_known words fs end (decided laws words (Some fs) n m end puts old new a makes)
-      by_answer (inr (case, is, l)) = λ meant pieces d. inl (inl (inr (inr l.why)))
+      by_answer (inr (case, is, l)) = λ plain meant pieces d. inl (inl (inr (inr l.why)))
 
   pub beside_complete : AnswersBeside words (Some fs) n m failed leads end puts → Comes Fault words fs end
   beside_complete a = by_answer a.answers

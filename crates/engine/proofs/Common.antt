@@ -46,17 +46,19 @@ pub use Rattle.engine.specs.Decks.{IsDeck, OneDeck}
 pub use Rattle.engine.specs.Defined.{CutOf, Defines, Due, ReadsFolder, defined}
 pub use Rattle.engine.specs.Headline.{Headline}
 pub use Rattle.engine.specs.Made.{IsMade, IsSummed, Made, made_task, summed_text}
-pub use Rattle.engine.specs.OneListing.{OneListing, OneSummary, OneVerdict}
+pub use Rattle.engine.specs.OneListing.{OneSummary, OneVerdict}
 pub use Rattle.engine.specs.Parts.{Answers, AnswersBeside, AreDecksAs, AreStepsAs, AreZonesAs, IsListed, IsListedAs, IsMadeRun, IsNamedFault, IsReadAs}
 pub use Rattle.engine.specs.Parts.{IsReadingEnd, IsSecondAs, IsStopped, IsUnlikeFault, IsValid, made_fault, second_by}
-pub use Rattle.engine.specs.Runs.{Comes, Decided, HasCertified, HasDeck, HasListing, HasTask, IsLeft, IsRunOf, Puts}
+pub use Rattle.engine.specs.QuickListing.{OneOrQuick, SpanOrQuick}
+pub use Rattle.engine.specs.Runs.{Comes, Decided, HasCertified, HasDeck, HasListing, HasTask, IsLeft, IsPlain, IsRunOf, Puts}
 pub use Rattle.engine.specs.Serving.{IsStopNumber}
-pub use Rattle.engine.specs.SpanHeadline.{ArePairOf, OneSpan, SpanCertified, SpanHeadline, SpanVerdict}
+pub use Rattle.engine.specs.SpanHeadline.{ArePairOf, SpanCertified, SpanHeadline, SpanVerdict}
 pub use Rattle.engine.specs.TwoDecks.{ArePair, IsPairRefusal, Second, not_alike, of_both, of_first, of_second}
 unfoldable pub use Rattle.engine.specs.TwoDecks.{second_in}
 pub use Rattle.engine.specs.Watched.{AreFirstViews, ArePutInTurn, AreViews, AreWatched, IsView, IsWatched, Shows, SidePuts, ViewPutsOf, Watched, lines_of}
 pub use Rattle.engine.specs.Watched.{views_asked, views_in}
-pub use Rattle.engine.specs.Written.{ChecksSpan, ChecksWritten, OneListingIsCertified, OneSpanIsCertified, WrittenIsCertified, WrittenSpanIsCertified}
+pub use Rattle.engine.specs.Written.{ChecksSpan, ChecksWritten, OneListingIsCertified, OneSpanIsCertified, QuickListingIsCertified, QuickSpanIsCertified}
+pub use Rattle.engine.specs.Written.{WrittenIsCertified, WrittenSpanIsCertified}
 pub use Rattle.engine.specs.declared.job.Job.{Job}
 pub use Rattle.engine.specs.declared.zoned.ZonedListing.{ZonedListing}
 pub use Rattle.exact_histories.proofs.WholeRuns.{history_exists, history_is_one}
@@ -67,12 +69,13 @@ pub use Rattle.listing_io.specs.declared.listing.ListedStep.{ListedStep}
 pub use Rattle.listing_run.proofs.Lines.{ends_by}
 pub use Rattle.listing_run.proofs.Stopping.{alone, beside, beside_by, wanting_not_ok}
 pub use Rattle.listing_run.proofs.Wholes.{IsWhole, is_whole, whole_listing}
+pub use Rattle.listing_run.specs.Bounding.{EnclosesHistories}
 pub use Rattle.listing_run.specs.Ends.{IsTask}
 pub use Rattle.listing_run.specs.Laws.{ListingExcludesRefusal, ListingIsOne, RefusalIsOne}
 pub use Rattle.listing_run.specs.Listing.{IsCutListing, IsListing, IsListingBeside, last_line, left, listed, listing, status_of}
 pub use Rattle.listing_run.specs.Settlers.{AllSettledBy, AreSettledBy, IsSettledBy, PairEncloses, Reaches, ReachesFirst, RestsOrSettles, begun, rests, settled}
 pub use Rattle.listing_run.specs.Steps.{AllSteps, IsStep, Steps, no_budget, no_heads, no_zones}
-pub use Rattle.listing_run.specs.Tasks.{deck_task, one_task}
+pub use Rattle.listing_run.specs.Tasks.{deck_task, one_task, pairs_of}
 pub use Rattle.listing_run.specs.declared.listing_end.ListingEnd.{ListingEnd}
 pub use Rattle.listing_run.specs.declared.step.Step.{Step}
 pub use Rattle.listing_run.specs.declared.task.Task.{Task}

@@ -23,21 +23,21 @@ module _ (may : List ℕ → ℕ → Type 0) where
   OfSpanCheck a = OfCheck a.check × May a.to
 
   by_run : (w : Wanted) (a : Asked) → built w ≡ Some (Run a) → WordsMay may (files_of w) → OfRun a
-  by_run (Lists name digits workers rounds None turns) a e h =
-      let same : record { name = name; digits = digits; rounds = rounds; zones = None } ≡ a = cc in
+  by_run (Lists name digits workers rounds None turns quick) a e h =
+      let same : record { name = name; digits = digits; rounds = rounds; zones = None; quick = quick } ≡ a = cc in
       subst OfRun same (All-head May name [] h, tt)
-  by_run (Lists name digits workers rounds (Some zones) turns) a e h =
-      let same : record { name = name; digits = digits; rounds = rounds; zones = Some zones } ≡ a = cc in
+  by_run (Lists name digits workers rounds (Some zones) turns quick) a e h =
+      let same : record { name = name; digits = digits; rounds = rounds; zones = Some zones; quick = quick } ≡ a = cc in
       subst OfRun same (All-head May name (zones ∷ []) h, All-head May zones [] (All-tail May name (zones ∷ []) h))
   by_run (Checks name listing digits zones) a e h = absurd cc
-  by_run (ListsTo name to digits workers rounds zones turns) a e h = absurd cc
+  by_run (ListsTo name to digits workers rounds zones turns quick) a e h = absurd cc
   by_run (ChecksTo name to listing digits zones) a e h = absurd cc
   by_run (Makes seed size) a e h = absurd cc
-  by_run (Batches list digits workers rounds) a e h = absurd cc
+  by_run (Batches list digits workers rounds quick) a e h = absurd cc
   by_run (Writes name) a e h = absurd cc
 
   by_check : (w : Wanted) (a : AskedCheck) → built w ≡ Some (Check a) → WordsMay may (files_of w) → OfCheck a
-  by_check (Lists name digits workers rounds zones turns) a e h = absurd cc
+  by_check (Lists name digits workers rounds zones turns quick) a e h = absurd cc
   by_check (Checks name listing digits None) a e h =
       let same : record { name = name; listing = listing; digits = digits; zones = None } ≡ a = cc in
       subst OfCheck same (All-head May name (listing ∷ []) h, tt, All-head May listing [] (All-tail May name (listing ∷ []) h))
@@ -45,48 +45,48 @@ module _ (may : List ℕ → ℕ → Type 0) where
       let same : record { name = name; listing = listing; digits = digits; zones = Some zones } ≡ a = cc in
       let more = All-tail May name (zones ∷ listing ∷ []) h in
       subst OfCheck same (All-head May name (zones ∷ listing ∷ []) h, All-head May zones (listing ∷ []) more, All-head May listing [] (All-tail May zones (listing ∷ []) more))
-  by_check (ListsTo name to digits workers rounds zones turns) a e h = absurd cc
+  by_check (ListsTo name to digits workers rounds zones turns quick) a e h = absurd cc
   by_check (ChecksTo name to listing digits zones) a e h = absurd cc
   by_check (Makes seed size) a e h = absurd cc
-  by_check (Batches list digits workers rounds) a e h = absurd cc
+  by_check (Batches list digits workers rounds quick) a e h = absurd cc
   by_check (Writes name) a e h = absurd cc
 
   by_write : (w : Wanted) (deck : Text) → built w ≡ Some (Write deck) → WordsMay may (files_of w) → May deck
-  by_write (Lists name digits workers rounds zones turns) deck e h = absurd cc
+  by_write (Lists name digits workers rounds zones turns quick) deck e h = absurd cc
   by_write (Checks name listing digits zones) deck e h = absurd cc
-  by_write (ListsTo name to digits workers rounds zones turns) deck e h = absurd cc
+  by_write (ListsTo name to digits workers rounds zones turns quick) deck e h = absurd cc
   by_write (ChecksTo name to listing digits zones) deck e h = absurd cc
   by_write (Makes seed size) deck e h = absurd cc
-  by_write (Batches list digits workers rounds) deck e h = absurd cc
+  by_write (Batches list digits workers rounds quick) deck e h = absurd cc
   by_write (Writes name) deck e h =
       let same : name ≡ deck = cc in
       subst May same (All-head May name [] h)
 
   by_batch : (w : Wanted) (b : AskedBatch) → batch_of w ≡ Some b → WordsMay may (files_of w) → May b.list
-  by_batch (Lists name digits workers rounds zones turns) b e h = absurd cc
+  by_batch (Lists name digits workers rounds zones turns quick) b e h = absurd cc
   by_batch (Checks name listing digits zones) b e h = absurd cc
-  by_batch (ListsTo name to digits workers rounds zones turns) b e h = absurd cc
+  by_batch (ListsTo name to digits workers rounds zones turns quick) b e h = absurd cc
   by_batch (ChecksTo name to listing digits zones) b e h = absurd cc
   by_batch (Makes seed size) b e h = absurd cc
   by_batch (Writes name) b e h = absurd cc
-  by_batch (Batches list digits workers rounds) b e h =
-      let same : record { list = list; digits = digits; rounds = rounds } ≡ b = cc in
+  by_batch (Batches list digits workers rounds quick) b e h =
+      let same : record { list = list; digits = digits; rounds = rounds; quick = quick } ≡ b = cc in
       subst (λ (x : AskedBatch). May x.list) same (All-head May list [] h)
 
   -- a run of two decks: what its run names, and the second name file; and so a check
   by_span : (w : Wanted) (a : AskedSpan) → built w ≡ Some (Span a) → WordsMay may (files_of w) → OfRun a.run × May a.to
-  by_span (ListsTo name to digits workers rounds None turns) a e h =
-      let same : record { run = record { name = name; digits = digits; rounds = rounds; zones = None }; to = to } ≡ a = cc in
+  by_span (ListsTo name to digits workers rounds None turns quick) a e h =
+      let same : record { run = record { name = name; digits = digits; rounds = rounds; zones = None; quick = quick }; to = to } ≡ a = cc in
       subst OfSpan same ((All-head May name (to ∷ []) h, tt), All-head May to [] (All-tail May name (to ∷ []) h))
-  by_span (ListsTo name to digits workers rounds (Some zones) turns) a e h =
-      let same : record { run = record { name = name; digits = digits; rounds = rounds; zones = Some zones }; to = to } ≡ a = cc in
+  by_span (ListsTo name to digits workers rounds (Some zones) turns quick) a e h =
+      let same : record { run = record { name = name; digits = digits; rounds = rounds; zones = Some zones; quick = quick }; to = to } ≡ a = cc in
       let more = All-tail May name (to ∷ zones ∷ []) h in
       subst OfSpan same ((All-head May name (to ∷ zones ∷ []) h, All-head May zones [] (All-tail May to (zones ∷ []) more)), All-head May to (zones ∷ []) more)
-  by_span (Lists name digits workers rounds zones turns) a e h = absurd cc
+  by_span (Lists name digits workers rounds zones turns quick) a e h = absurd cc
   by_span (Checks name listing digits zones) a e h = absurd cc
   by_span (ChecksTo name to listing digits zones) a e h = absurd cc
   by_span (Makes seed size) a e h = absurd cc
-  by_span (Batches list digits workers rounds) a e h = absurd cc
+  by_span (Batches list digits workers rounds quick) a e h = absurd cc
   by_span (Writes name) a e h = absurd cc
 
   by_span_check : (w : Wanted) (a : AskedSpanCheck) → built w ≡ Some (CheckSpan a) → WordsMay may (files_of w) → OfCheck a.check × May a.to
@@ -99,11 +99,11 @@ module _ (may : List ℕ → ℕ → Type 0) where
       let more = All-tail May name (to ∷ zones ∷ listing ∷ []) h in
       let last = All-tail May to (zones ∷ listing ∷ []) more in
       subst OfSpanCheck same ((All-head May name (to ∷ zones ∷ listing ∷ []) h, All-head May zones (listing ∷ []) last, All-head May listing [] (All-tail May zones (listing ∷ []) last)), All-head May to (zones ∷ listing ∷ []) more)
-  by_span_check (Lists name digits workers rounds zones turns) a e h = absurd cc
-  by_span_check (ListsTo name to digits workers rounds zones turns) a e h = absurd cc
+  by_span_check (Lists name digits workers rounds zones turns quick) a e h = absurd cc
+  by_span_check (ListsTo name to digits workers rounds zones turns quick) a e h = absurd cc
   by_span_check (Checks name listing digits zones) a e h = absurd cc
   by_span_check (Makes seed size) a e h = absurd cc
-  by_span_check (Batches list digits workers rounds) a e h = absurd cc
+  by_span_check (Batches list digits workers rounds quick) a e h = absurd cc
   by_span_check (Writes name) a e h = absurd cc
 
   if_span : (o : Option Wanted) (a : AskedSpan) → option_and_then built o ≡ Some (Span a) → WordsMay may (files_if o) → OfRun a.run × May a.to

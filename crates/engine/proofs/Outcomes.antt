@@ -6,10 +6,10 @@ use Rattle.engine.proofs.Common.{late_not_ok, late_not_read, all_written, write_
 use Rattle.engine.proofs.Common.{status_of, IsListing, IsWhole, is_whole, whole_listing, history_exists, history_is_one, VerdictIsOne, Asked, AskedCheck, Case}
 use Rattle.engine.proofs.Common.{Command, Run, Make, Check, Write, NoWords, Refuses, Listing, Making, Checking, Writing, IsCase, asked_in, case_asked, case_of}
 use Rattle.engine.proofs.Common.{case_read, case_zoned, listing_read, made_model, named, task_of, zones_read, Certified, OneDeck, CutOf, Defines, Due, Headline}
-use Rattle.engine.proofs.Common.{IsSummed, Made, made_task, summed_text, OneListing, OneSummary, OneVerdict, Decided, Comes, HasCertified, HasDeck, HasListing}
+use Rattle.engine.proofs.Common.{IsSummed, Made, made_task, summed_text, OneOrQuick, OneSummary, OneVerdict, Decided, Comes, HasCertified, HasDeck, HasListing}
 use Rattle.engine.proofs.Common.{HasTask, IsRunOf, Answers, IsStopped, IsValid, Plain, ListingIsOne, ListingExcludesRefusal, RefusalIsOne, defined, false}
 use Rattle.engine.proofs.Common.{Decks, ZonedListing, IsVerdict, Difference, CheckSpan, Comparing, IsCheckingOf, IsListingOf, Span, case_between, case_listed}
-use Rattle.engine.proofs.Common.{two, true, AreAlike, readings_of, some_readings, Second, not_alike, second_in}
+use Rattle.engine.proofs.Common.{two, true, readings_of, some_readings, Second, not_alike, second_in, IsPlain, Bool, AreAlike}
 use Rattle.listing_summary.specs.Summaries.{summary_of}
 use Rattle.listing_summary.specs.Texts.{summary_text}
 use Rattle.engine.specs.Defined.{unread}
@@ -139,15 +139,47 @@ module _ (words : List Text) (files : List File) (seed size : ℕ) (read : Resul
 
 -- the headline of a listing, of a made model, of a check or of a deck, and what is promised beside
 abbrev pub Both : List Text → List File → Seen → Seen → Type 0
-Both words files old new = (Headline words files old.written new.written × OneListing words files old.written new.written) ⊎ ((Made words old.written new.written × OneSummary words old.written new.written) ⊎ ((Certified words files old.written new.written × OneVerdict words files) ⊎ ((OneDeck words files old.written new.written × OneDeck words files old.written new.written) ⊎ SpanBoth words files old new)))
+Both words files old new = (Headline words files old.written new.written × OneOrQuick words files old.written new.written) ⊎ ((Made words old.written new.written × OneSummary words old.written new.written) ⊎ ((Certified words files old.written new.written × OneVerdict words files) ⊎ ((OneDeck words files old.written new.written × OneDeck words files old.written new.written) ⊎ SpanBoth words files old new)))
 
 module _ (laws : Laws) where
-  of_listing : (words : List Text) (files : List File) (old new : Seen) (puts : List Put) (pieces : List Text) (k : Task) → Listed words files k → AreDecks k.decks → IsWhole k pieces → puts ≡ map taken pieces → PutsMake old puts new → Headline words files old.written new.written × OneListing words files old.written new.written
+  of_listing : (words : List Text) (files : List File) (old new : Seen) (puts : List Put) (pieces : List Text) (k : Task) → Listed words files k → AreDecks k.decks → IsWhole k pieces → puts ≡ map taken pieces → PutsMake old puts new → Headline words files old.written new.written × OneOrQuick words files old.written new.written
   of_listing words files old new puts pieces k l valid w written makes =
       let W : Task → Type 0 = λ j. IsWhole j pieces in
       by_task (subst W (sym l.task) w) (let M : Task → Type 0 = λ j. AreDecks j.decks in subst M (sym l.task) valid)
     where
-      by_task : IsWhole (task_of l.asked l.model l.zones) pieces → AreDecks (one_deck l.model) → Headline words files old.written new.written × OneListing words files old.written new.written
+      -- with the word the listing is by certificates, without it it is the one
+      by_quick : IsWhole (task_of l.asked l.model l.zones) pieces → AreDecks (one_deck l.model) → (quick : Bool) → l.asked.quick ≡ quick → OneOrQuick words files old.written new.written
+      by_quick v model true e = inr (record {
+        asked = l.asked;
+        wanted = l.wanted;
+        model = l.model;
+        read = l.read;
+        valid = model.first;
+        zones = l.zones;
+        zoned = l.zoned;
+        quick = e;
+        values = v.values;
+        steps = v.steps;
+        encloses = v.encloses;
+        written = all_written (listing (task_of l.asked l.model l.zones) v.values end_line) old new puts (written ∙ ap (map taken) v.are) makes;
+      })
+      by_quick v model false e = inl (record {
+        asked = l.asked;
+        wanted = l.wanted;
+        model = l.model;
+        read = l.read;
+        valid = model.first;
+        zones = l.zones;
+        zoned = l.zoned;
+        plain = e;
+        values = v.values;
+        steps = v.steps;
+        only = λ others steps. laws.one (task_of l.asked l.model l.zones) v.values others model e v.steps steps;
+        encloses = v.encloses;
+        written = all_written (listing (task_of l.asked l.model l.zones) v.values end_line) old new puts (written ∙ ap (map taken) v.are) makes;
+      })
+
+      by_task : IsWhole (task_of l.asked l.model l.zones) pieces → AreDecks (one_deck l.model) → Headline words files old.written new.written × OneOrQuick words files old.written new.written
       by_task v model =
           let all = all_written (listing (task_of l.asked l.model l.zones) v.values end_line) old new puts (written ∙ ap (map taken) v.are) makes in (
             record {
@@ -161,23 +193,10 @@ module _ (laws : Laws) where
               values = v.values;
               written = all;
               encloses = v.encloses;
-              solvable = history_exists l.model l.asked.digits l.zones l.asked.rounds v.values model.first v.steps;
-              one = history_is_one l.model l.asked.digits l.zones l.asked.rounds v.values model.first v.steps;
+              solvable = history_exists l.model l.asked.digits l.zones l.asked.rounds l.asked.quick v.values model.first v.steps;
+              one = history_is_one l.model l.asked.digits l.zones l.asked.rounds l.asked.quick v.values model.first v.steps;
             },
-            record {
-              asked = l.asked;
-              wanted = l.wanted;
-              model = l.model;
-              read = l.read;
-              valid = model.first;
-              zones = l.zones;
-              zoned = l.zoned;
-              values = v.values;
-              steps = v.steps;
-              only = λ others steps. laws.one (task_of l.asked l.model l.zones) v.values others model v.steps steps;
-              encloses = v.encloses;
-              written = all;
-            },
+            by_quick v model l.asked.quick refl,
           )
 
   -- of a made model
@@ -203,8 +222,8 @@ module _ (laws : Laws) where
           values = values;
           written = all;
           encloses = x.listed.encloses whole;
-          solvable = history_exists m k.digits None k.rounds values model steps;
-          one = history_is_one m k.digits None k.rounds values model steps;
+          solvable = history_exists m k.digits None k.rounds false values model steps;
+          one = history_is_one m k.digits None k.rounds false values model steps;
         },
         record {
           seed = seed;
@@ -215,7 +234,7 @@ module _ (laws : Laws) where
           valid = model;
           values = values;
           steps = steps;
-          only = λ others also. laws.one k values others (one_valid m model) steps also;
+          only = λ others also. laws.one k values others (one_valid m model) refl steps also;
           written = all;
         },
       )
@@ -324,12 +343,12 @@ put_rose read_failed case = write_rose (Due read_failed case) (CutOf case) (λ p
 same_refusal : (s t : TimeStep) (a b : NoBound) → s ≡ t → a ≡ b → status.NoBound t.period t.step b ≡ status.NoBound s.period s.step a
 same_refusal s t a b at is = sym (ap (λ (x : TimeStep). status.NoBound x.period x.step a) at ∙ ap (λ n. status.NoBound t.period t.step n) is)
 
-module _ (laws : Laws) (k : Task) (valid : AreDecks k.decks) where
+module _ (laws : Laws) (k : Task) (valid : AreDecks k.decks) (plain : k.quick ≡ false) where
   ends_agree : (meant end : ListingEnd) (values others : List Step) → AllSteps k values meant → AllSteps k others end → Agree (status_of meant) (status_of end)
   ends_agree ends.Whole ends.Whole values others x y = inr (inl refl)
-  ends_agree ends.Whole (ends.NoBound at n) values others x y = absurd (laws.bound k values others at n valid x y)
-  ends_agree (ends.NoBound at n) ends.Whole values others x y = absurd (laws.bound k others values at n valid y x)
-  ends_agree (ends.NoBound at n) (ends.NoBound t m) values others x y = let one = laws.refusal k values others at t n m valid x y in inr (inl (same_refusal at t n m one.0 one.1))
+  ends_agree ends.Whole (ends.NoBound at n) values others x y = absurd (laws.bound k values others at n valid plain x y)
+  ends_agree (ends.NoBound at n) ends.Whole values others x y = absurd (laws.bound k others values at n valid plain y x)
+  ends_agree (ends.NoBound at n) (ends.NoBound t m) values others x y = let one = laws.refusal k values others at t n m valid plain x y in inr (inl (same_refusal at t n m one.0 one.1))
   ends_agree (ends.Unfinished at) end values others x y = inl tt
   ends_agree meant (ends.Unfinished at) values others x y = inr (inr tt)
 
@@ -369,37 +388,37 @@ ended : (n m : ℕ) (case : Case) (end : Status) (puts : List Put) (old new : Se
 ended n m case end puts old new (whole meant pieces due) makes = due_ended n m old.faults new.faults case end pieces due
 ended n m case end puts old new (early meant before after tail b t) makes = late_ended n m case end puts old new (early meant before after tail b t) makes (tail_late after end tail t)
 
-decides : (laws : Laws) (case : Case) (meant end : Status) (p q : List Text) → IsValid case end → Defines case meant p → Defines case end q → Agree meant end
-decides laws NoWords meant end p q valid (x, a) (y, b) = inr (inl (y ∙ sym x))
-decides laws (Refuses refusal) meant end p q valid (x, a) (y, b) = inr (inl (y ∙ sym x))
-decides laws (Listing k) meant end p q (inl valid) x y = agree laws k valid meant end p q x y
-decides laws (Listing k) meant end p q (inr stops) x y = absurd (never_stopped k end q stops y)
-decides laws (Making seed size (Err refusal)) meant end p q valid (x, a) (y, b) = inr (inl (y ∙ sym x))
-decides laws (Making seed size (Ok m)) meant end p q (inl valid) x y = agree laws (made_task m) (one_valid m valid) meant end x.all y.all x.listed y.listed
-decides laws (Making seed size (Ok m)) meant end p q (inr stops) x y = absurd (never_stopped (made_task m) end y.all stops y.listed)
-decides laws (Checking m s steps) meant end p q (inl (model, listed)) x y = inr (inl (one_end m s steps laws.verdict model listed meant end p q x y))
-decides laws (Checking m s steps) meant end p q (inr stops) x y = absurd (never_stopped_check m s steps end q stops y)
-decides laws (Writing m) meant end p q valid (x, a) (y, b) = inr (inl (y ∙ sym x))
-decides laws (Comparing a b c) meant end p q valid (inl x) (inl y) = inr (inl (y.status ∙ ap (λ (d : Difference). status.Refused (not_alike b d)) (laws.difference a b.model y.difference x.difference y.first x.first) ∙ sym x.status))
-decides laws (Comparing a b c) meant end p q valid (inl x) (inr (alike, y)) = absurd (x.unlike alike)
-decides laws (Comparing a b c) meant end p q valid (inr (alike, x)) (inl y) = absurd (y.unlike alike)
-decides laws (Comparing a b c) meant end p q (inl never) (inr (alike, x)) (inr (also, y)) = absurd (never alike)
-decides laws (Comparing a b c) meant end p q (inr valid) (inr (alike, x)) (inr (also, y)) = decides laws c meant end p q valid x y
+decides : (laws : Laws) (case : Case) (meant end : Status) (p q : List Text) → IsPlain case → IsValid case end → Defines case meant p → Defines case end q → Agree meant end
+decides laws NoWords meant end p q plain valid (x, a) (y, b) = inr (inl (y ∙ sym x))
+decides laws (Refuses refusal) meant end p q plain valid (x, a) (y, b) = inr (inl (y ∙ sym x))
+decides laws (Listing k) meant end p q plain (inl valid) x y = agree laws k valid plain meant end p q x y
+decides laws (Listing k) meant end p q plain (inr stops) x y = absurd (never_stopped k end q stops y)
+decides laws (Making seed size (Err refusal)) meant end p q plain valid (x, a) (y, b) = inr (inl (y ∙ sym x))
+decides laws (Making seed size (Ok m)) meant end p q plain (inl valid) x y = agree laws (made_task m) (one_valid m valid) refl meant end x.all y.all x.listed y.listed
+decides laws (Making seed size (Ok m)) meant end p q plain (inr stops) x y = absurd (never_stopped (made_task m) end y.all stops y.listed)
+decides laws (Checking m s steps) meant end p q plain (inl (model, listed)) x y = inr (inl (one_end m s steps laws.verdict model listed meant end p q x y))
+decides laws (Checking m s steps) meant end p q plain (inr stops) x y = absurd (never_stopped_check m s steps end q stops y)
+decides laws (Writing m) meant end p q plain valid (x, a) (y, b) = inr (inl (y ∙ sym x))
+decides laws (Comparing a b c) meant end p q plain valid (inl x) (inl y) = inr (inl (y.status ∙ ap (λ (d : Difference). status.Refused (not_alike b d)) (laws.difference a b.model y.difference x.difference y.first x.first) ∙ sym x.status))
+decides laws (Comparing a b c) meant end p q plain valid (inl x) (inr (alike, y)) = absurd (x.unlike alike)
+decides laws (Comparing a b c) meant end p q plain valid (inr (alike, x)) (inl y) = absurd (y.unlike alike)
+decides laws (Comparing a b c) meant end p q plain (inl never) (inr (alike, x)) (inr (also, y)) = absurd (never alike)
+decides laws (Comparing a b c) meant end p q plain (inr valid) (inr (alike, x)) (inr (also, y)) = decides laws c meant end p q plain valid x y
 
 pub weighed : (fault : Type 0) (meant end : Status) → Agree meant end → (fault ⊎ IsUnfinished meant) ⊎ ((end ≡ meant) ⊎ ((end ≡ status.Memory) ⊎ IsUnfinished end))
 weighed fault meant end (inl open_meant) = inl (inr open_meant)
 weighed fault meant end (inr (inl e)) = inr (inl e)
 weighed fault meant end (inr (inr open_end)) = inr (inr (inr open_end))
 
-decided_by : (laws : Laws) (fault : Type 0) (case : Case) (meant end : Status) (p : List Text) → IsValid case end → Defines case meant p → Ended fault case end → (fault ⊎ IsUnfinished meant) ⊎ ((end ≡ meant) ⊎ ((end ≡ status.Memory) ⊎ IsUnfinished end))
-decided_by laws fault case meant end p valid x (inl f) = inl (inl f)
-decided_by laws fault case meant end p valid x (inr (inl e)) = inr (inr (inl e))
-decided_by laws fault case meant end p valid x (inr (inr (q, y))) = weighed fault meant end (decides laws case meant end p q valid x y)
+decided_by : (laws : Laws) (fault : Type 0) (case : Case) (meant end : Status) (p : List Text) → IsPlain case → IsValid case end → Defines case meant p → Ended fault case end → (fault ⊎ IsUnfinished meant) ⊎ ((end ≡ meant) ⊎ ((end ≡ status.Memory) ⊎ IsUnfinished end))
+decided_by laws fault case meant end p plain valid x (inl f) = inl (inl f)
+decided_by laws fault case meant end p plain valid x (inr (inl e)) = inr (inr (inl e))
+decided_by laws fault case meant end p plain valid x (inr (inr (q, y))) = weighed fault meant end (decides laws case meant end p q plain valid x y)
 
 pub decided : (laws : Laws) (words : List Text) (files : Option (List File)) (n m : ℕ) (end : Status) (puts : List Put) (old new : Seen) → Answers words files n m end puts → PutsMake old puts new → IfSome files (λ fs. Decided (Rose n m ⊎ Rose old.faults new.faults) words fs end)
-decided laws words (Some fs) n m end puts old new a makes = λ meant pieces x.
+decided laws words (Some fs) n m end puts old new a makes = λ plain meant pieces x.
     let P : Case → Type 0 = λ case. Defines case meant pieces in
-    decided_by laws (Rose n m ⊎ Rose old.faults new.faults) a.case meant end pieces a.valid (subst P (sym a.is) x) (ended n m a.case end puts old new a.run makes)
+    decided_by laws (Rose n m ⊎ Rose old.faults new.faults) a.case meant end pieces (subst IsPlain (sym a.is) plain) a.valid (subst P (sym a.is) x) (ended n m a.case end puts old new a.run makes)
 decided laws words None n m end puts old new a makes = tt
 
 -- an end that a case defines is one of the listing that is put or summed up

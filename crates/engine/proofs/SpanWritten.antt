@@ -6,7 +6,7 @@ use Rattle.engine.proofs.Common.{whole_listing, ZonedListing, AskedCheck, AskedS
 use Rattle.engine.proofs.Common.{steps_in, steps_read, span_task_of, with_zones, zoned_steps, IsCheck, certified_line, Defines, Plain, AreDecks, AreAlike, two}
 use Rattle.engine.proofs.Common.{Second, second_in, named, file_refusal, BadName, codes, readings_of, model_of, ◌>>=◌, Pairs, unit_is_short, check_to_digits}
 use Rattle.engine.proofs.Common.{deck_task, IsReadable, RunIsCertified, RunIsReadAgain, as_listed, run_encloses, ChecksSpan, OneSpanIsCertified}
-use Rattle.engine.proofs.Common.{WrittenSpanIsCertified}
+use Rattle.engine.proofs.Common.{QuickSpanIsCertified, WrittenSpanIsCertified, AllSteps, ArePairOf, AskedSpan, Step, zones_read, EnclosesHistories, Task}
 use Rattle.std.proofs.Common.{false}
 use Rattle.std.specs.Prelude.{if◌then◌else◌, option_and_then}
 use Rattle.model_reader.specs.Names.{names_in}
@@ -20,15 +20,15 @@ use Rattle.listing_run.specs.declared.listing_end.ListingEnd.TheVariants as ends
 
 -- a check has at most 18 digits
 built_check : (asked : AskedSpanCheck) (w : Wanted) → built w ≡ Some (CheckSpan asked) → w ≡ ChecksTo asked.check.name asked.to asked.check.listing asked.check.digits asked.check.zones
-built_check asked (Lists name digits workers rounds zones watch) e = cc
-built_check asked (ListsTo name to digits workers rounds zones watch) e = cc
+built_check asked (Lists name digits workers rounds zones watch quick) e = cc
+built_check asked (ListsTo name to digits workers rounds zones watch quick) e = cc
 built_check asked (Checks name listing digits zones) e = cc
 built_check asked (ChecksTo name to listing digits zones) e =
     let same : record { check = record { name = name; listing = listing; digits = digits; zones = zones }; to = to } ≡ asked = cc in
     ap (λ (a : AskedSpanCheck). ChecksTo a.check.name a.to a.check.listing a.check.digits a.check.zones) same
 built_check asked (Makes seed size) e = cc
 built_check asked (Writes name) e = cc
-built_check asked (Batches list digits workers rounds) e = cc
+built_check asked (Batches list digits workers rounds quick) e = cc
 
 asked_digits : (words : List Text) (asked : AskedSpanCheck) → asked_in words ≡ Some (CheckSpan asked) → asked.check.digits ≤ 18
 asked_digits words asked = by_wanted (wanted_of words) refl
@@ -62,8 +62,8 @@ module _ (files : List File) (name : Text) (b : FlowModel) where
       by_test true e = second_read e
       by_test false e = absurd (clash (file_refusal BadName (codes "-")) b (Err (file_refusal BadName (codes "-"))) refl e)
 
-module _ (certified : RunIsCertified) (again : RunIsReadAgain) (a b : FlowModel) (s : ℕ) (zones : Option (List ℕ)) (rounds : ℕ) (pieces words : List Text) (files : List File)
-    (decks : AreDecks (two a b)) (zoned : AreNumbers zones) (whole : IsWhole (deck_task (two a b) s zones rounds) pieces) (h : ChecksSpan words files (deck_task (two a b) s zones rounds) b (concat pieces)) where
+module _ (certified : RunIsCertified) (again : RunIsReadAgain) (a b : FlowModel) (s : ℕ) (zones : Option (List ℕ)) (rounds : ℕ) (quick : Bool) (pieces words : List Text) (files : List File)
+    (decks : AreDecks (two a b)) (zoned : AreNumbers zones) (whole : IsWhole (deck_task (two a b) s zones rounds quick) pieces) (h : ChecksSpan words files (deck_task (two a b) s zones rounds quick) b (concat pieces)) where
   abbrev check : AskedCheck
   check = h.asked.check
 
@@ -84,7 +84,7 @@ module _ (certified : RunIsCertified) (again : RunIsReadAgain) (a b : FlowModel)
       let steps = map as_listed whole.values in
       let P : List Text → Type 0 = λ t. listing_at true a s pairs (all_lines (concat t)) ≡ Ok steps in
       let D : ℕ → Type 0 = λ s. listing_at true a s pairs (all_lines (concat pieces)) ≡ Ok steps in
-      ap (or_bad_listing check.listing) (subst D (sym h.digits) (subst P (sym whole.are) (again (two a b) s zones rounds whole.values readable whole.steps)))
+      ap (or_bad_listing check.listing) (subst D (sym h.digits) (subst P (sym whole.are) (again (two a b) s zones rounds quick whole.values readable whole.steps)))
 
   steps_are : steps_read true files check a zones ≡ Ok (map as_listed whole.values)
   steps_are = with_bytes (is_good_name check.listing) (file_at files check.listing) (steps_in true check a zones) _ (concat pieces) h.listing ∙ steps_of_bytes
@@ -97,9 +97,9 @@ module _ (certified : RunIsCertified) (again : RunIsReadAgain) (a b : FlowModel)
       let D : ℕ → Type 0 = λ s. IsCheck (two a b) s listing_of status.Ok (certified_line ∷ []) in
       subst D (sym h.digits) (record {
         verdict = Holds;
-        is = certified (two a b) s zones rounds whole.values decks zoned whole.steps;
-        encloses = λ e. run_encloses (two a b) s zones rounds whole.values whole.steps whole.encloses;
-        history = λ e. have_choices a b s zones rounds decks whole.values whole.steps;
+        is = certified (two a b) s zones rounds quick whole.values decks zoned whole.steps;
+        encloses = λ e. run_encloses (two a b) s zones rounds quick whole.values whole.steps whole.encloses;
+        history = λ e. have_choices a b s zones rounds quick decks whole.values whole.steps;
         status = refl;
         are = refl;
       })
@@ -115,17 +115,26 @@ module _ (certified : RunIsCertified) (again : RunIsReadAgain) (a b : FlowModel)
   is_certified = let (last, is, same) = named_second files h.asked.to b h.read_to in of_second last is same
 
 pub written_span_is_certified : RunIsCertified → RunIsReadAgain → WrittenSpanIsCertified
-written_span_is_certified certified again a b s zones rounds pieces words files decks zoned listed h =
-    is_certified certified again a b s zones rounds pieces words files decks zoned (whole_listing (deck_task (two a b) s zones rounds) pieces listed) h
+written_span_is_certified certified again a b s zones rounds quick pieces words files decks zoned listed h =
+    is_certified certified again a b s zones rounds quick pieces words files decks zoned (whole_listing (deck_task (two a b) s zones rounds quick) pieces listed) h
+
+-- what a run of two decks appended to nothing
+module _ (written : WrittenSpanIsCertified) (files : List File) (asked : AskedSpan) (decks : ArePairOf files asked.run.name asked.to) (zones : Option (List ℕ)) (zoned : zones_read files asked.run.zones decks.first ≡ Ok zones) (values : List Step) where
+  abbrev task : Task
+  task = span_task_of asked.run decks.first decks.second zones
+
+  appended : (steps : AllSteps task values ends.Whole) → EnclosesHistories task values → (bytes : List ℕ) → bytes ≡ concat (listing task values end_line) → (checks : List Text) (others : List File) →
+      ChecksSpan checks others task decks.second bytes → Defines (case_of checks others) status.Ok (certified_line ∷ [])
+  appended steps encloses bytes is checks others asks =
+      let whole : IsListing task status.Ok (listing task values end_line) = record { last = ends.Whole; status = refl; values = values; steps = steps; encloses = λ e. encloses; are = refl } in
+      let valid : AreDecks (two decks.first decks.second) = record { first = decks.valid; second = record { model = decks.valid_to; alike = decks.alike } } in
+      let C : List ℕ → Type 0 = λ bs. ChecksSpan checks others task decks.second bs in
+      written decks.first decks.second asked.run.digits zones asked.run.rounds asked.run.quick (listing task values end_line) checks others valid (read_numbers files asked.run.zones decks.first zones zoned) whole (subst C is asks)
 
 pub one_span_is_certified : WrittenSpanIsCertified → OneSpanIsCertified
 one_span_is_certified written words files bytes h checks others asks =
-    let a = h.decks.first in
-    let b = h.decks.second in
-    let run = h.asked.run in
-    let k = span_task_of run a b h.zones in
-    let pieces = listing k h.values end_line in
-    let whole : IsListing k status.Ok pieces = record { last = ends.Whole; status = refl; values = h.values; steps = h.steps; encloses = λ e. h.encloses; are = refl } in
-    let valid : AreDecks (two a b) = record { first = h.decks.valid; second = record { model = h.decks.valid_to; alike = h.decks.alike } } in
-    let C : List ℕ → Type 0 = λ bs. ChecksSpan checks others k b bs in
-    written a b run.digits h.zones run.rounds pieces checks others valid (read_numbers files run.zones a h.zones h.zoned) whole (subst C h.written asks)
+    appended written files h.asked h.decks h.zones h.zoned h.values h.steps h.encloses bytes h.written checks others asks
+
+pub quick_span_is_certified : WrittenSpanIsCertified → QuickSpanIsCertified
+quick_span_is_certified written words files bytes h checks others asks =
+    appended written files h.asked h.decks h.zones h.zoned h.values h.steps h.encloses bytes h.written checks others asks

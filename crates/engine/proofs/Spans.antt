@@ -5,35 +5,34 @@ use Rattle.engine.proofs.Common.{Command, Run, Make, Check, Write, NoWords, Refu
 use Rattle.engine.proofs.Common.{case_of, listing, made_model, named, steps_read, task_of, zones_read, case_read, case_zoned, certified_line, whole_listing}
 use Rattle.engine.proofs.Common.{IsWhole, IsValid, Defines, Plain, AllSteps, false, ListingIsOne, Steps, Bound, Solved, TimeStep, times, AreAllSteps, AreSteps}
 use Rattle.engine.proofs.Common.{two, ChoicesHaveOne, ListingVerdict, IsVerdict, AskedSpan, AskedSpanCheck, CheckSpan, Comparing, Span, case_between}
-use Rattle.engine.proofs.Common.{case_compared, listing_read, readings_of, span_task_of, IsCheck, verdict_line, ArePairOf, OneSpan, SpanCertified, SpanHeadline}
-use Rattle.engine.proofs.Common.{SpanVerdict, Second, not_alike, second_in, Headline, Made, Certified, OneDeck}
+use Rattle.engine.proofs.Common.{case_compared, listing_read, readings_of, span_task_of, IsCheck, verdict_line, ArePairOf, SpanOrQuick, SpanCertified}
+use Rattle.engine.proofs.Common.{SpanHeadline, SpanVerdict, Second, not_alike, second_in, Headline, Made, Certified, OneDeck, deck_task, pairs_of, Bool, true}
 use Rattle.std.specs.Prelude.{true}
 use Rattle.listing_run.specs.declared.listing_end.ListingEnd.TheVariants.{Whole}
-use Rattle.step_chain.specs.Pairs.PairKind.{settled}
 use Rattle.chosen_histories.proofs.ChosenHistories.{choices_history, choices_one}
 use Rattle.engine.proofs.Certifying.{is_certified, not_stopped, checked_case, written_case}
 use Rattle.engine.proofs.Readings.{named_read, second_parts, zoned_parts}
 use Rattle.run_puts.specs.declared.status.Status.TheVariants as status
 
 -- All steps of a listing of two decks are steps of theirs, so each choice of models between has one history.
-module _ (a b : FlowModel) (s : ℕ) (zones : Option (List ℕ)) (rounds : ℕ) where
+module _ (a b : FlowModel) (s : ℕ) (zones : Option (List ℕ)) (rounds : ℕ) (quick : Bool) where
   abbrev task : Task
-  task = record { decks = two a b; digits = s; zones = zones; rounds = rounds }
+  task = deck_task (two a b) s zones rounds quick
 
-  steps_of : (old : List Bound) (ats : List TimeStep) (values : List Step) → Steps task old ats values Whole → (xs : List Solved) × AreSteps (two a b) s settled old ats xs
+  steps_of : (old : List Bound) (ats : List TimeStep) (values : List Step) → Steps task old ats values Whole → (xs : List Solved) × AreSteps (two a b) s (pairs_of task) old ats xs
   steps_of old [] [] h = ([], tt)
   steps_of old [] (v ∷ values) h = absurd h
   steps_of old (at ∷ ats) [] h = absurd h
   steps_of old (at ∷ ats) (v ∷ values) (is, h) =
       let S : List Bound → Type 0 = λ hs. Steps task hs ats values Whole in
       let rest = steps_of is.solved.heads ats values (subst S is.heads h) in
-      (is.solved ∷ rest.0, (is.settled, rest.1))
+      (is.solved ∷ rest.0, (is.solves, rest.1))
 
   pub have_choices : AreDecks (two a b) → (values : List Step) → AllSteps task values Whole → ChoicesHaveOne a b
   have_choices valid values h =
       let xs = steps_of h.start (times a) values h.steps in
-      let all : AreAllSteps a b s settled xs.0 = record { decks = valid; start = h.start; is_start = h.is_start; steps = xs.1 } in
-      record { solvable = choices_history a b s settled xs.0 all; one = choices_one a b s settled xs.0 all }
+      let all : AreAllSteps a b s (pairs_of task) xs.0 = record { decks = valid; start = h.start; is_start = h.is_start; steps = xs.1 } in
+      record { solvable = choices_history a b s (pairs_of task) xs.0 all; one = choices_one a b s (pairs_of task) xs.0 all }
 
 -- the words ask for a run of two decks, or for a check of one, which were read as a and b
 pub record SpanAsked (words : List Text) (files : List File) (a : FlowModel) (b : Second) (c : Case) : Type 0 where
@@ -65,7 +64,7 @@ pair_of files name to a b first second valid = record {
 module _ (one : ListingIsOne) (words : List Text) (files : List File) (old new : Seen) (puts : List Put) (pieces : List Text) (written : puts ≡ map taken pieces) (makes : PutsMake old puts new) (a : FlowModel) (b : Second) where
   -- a run
   span_listed : (s : AskedSpan) → asked_in words ≡ Some (Span s) → named s.run.name (reads Plain files) ≡ Ok a → named s.to (second_in files) ≡ Ok b → (zones : Option (List ℕ)) → zones_read files s.run.zones a ≡ Ok zones →
-      AreDecks (two a b.model) → IsWhole (span_task_of s.run a b.model zones) pieces → SpanHeadline words files old.written new.written × OneSpan words files old.written new.written
+      AreDecks (two a b.model) → IsWhole (span_task_of s.run a b.model zones) pieces → SpanHeadline words files old.written new.written × SpanOrQuick words files old.written new.written
   span_listed s wanted first second zones zoned valid v =
       let k = span_task_of s.run a b.model zones in
       let all = all_written (listing k v.values end_line) old new puts (written ∙ ap (map taken) v.are) makes in
@@ -79,21 +78,38 @@ module _ (one : ListingIsOne) (words : List Text) (files : List File) (old new :
           values = v.values;
           written = all;
           encloses = v.encloses;
-          choices = have_choices a b.model s.run.digits zones s.run.rounds valid v.values v.steps;
+          choices = have_choices a b.model s.run.digits zones s.run.rounds s.run.quick valid v.values v.steps;
         },
-        record {
-          asked = s;
-          wanted = wanted;
-          decks = pair;
-          zones = zones;
-          zoned = zoned;
-          values = v.values;
-          steps = v.steps;
-          only = λ others steps. one k v.values others valid v.steps steps;
-          encloses = v.encloses;
-          written = all;
-        },
+        by_quick s.run.quick refl,
       )
+    where
+      -- with the word the listing is by certificates, without it it is the one
+      by_quick : (quick : Bool) → s.run.quick ≡ quick → SpanOrQuick words files old.written new.written
+      by_quick true e = inr (record {
+        asked = s;
+        wanted = wanted;
+        decks = pair_of files s.run.name s.to a b first second valid;
+        zones = zones;
+        zoned = zoned;
+        quick = e;
+        values = v.values;
+        steps = v.steps;
+        encloses = v.encloses;
+        written = all_written (listing (span_task_of s.run a b.model zones) v.values end_line) old new puts (written ∙ ap (map taken) v.are) makes;
+      })
+      by_quick false e = inl (record {
+        asked = s;
+        wanted = wanted;
+        decks = pair_of files s.run.name s.to a b first second valid;
+        zones = zones;
+        zoned = zoned;
+        plain = e;
+        values = v.values;
+        steps = v.steps;
+        only = λ others steps. one (span_task_of s.run a b.model zones) v.values others valid e v.steps steps;
+        encloses = v.encloses;
+        written = all_written (listing (span_task_of s.run a b.model zones) v.values end_line) old new puts (written ∙ ap (map taken) v.are) makes;
+      })
 
   -- a check
   span_checked : (s : AskedSpanCheck) → asked_in words ≡ Some (CheckSpan s) → named s.check.name (reads Plain files) ≡ Ok a → named s.to (second_in files) ≡ Ok b → (l : ZonedListing) → listing_read true files s.check a ≡ Ok l →
@@ -160,7 +176,7 @@ module _ (words : List Text) (files : List File) (a : FlowModel) (b : Second) (c
 -- What both say of the enclosure, and what beside.
 abbrev pub SpanBoth : List Text → List File → Seen → Seen → Type 0
 SpanBoth words files old new =
-    (SpanHeadline words files old.written new.written × OneSpan words files old.written new.written)
+    (SpanHeadline words files old.written new.written × SpanOrQuick words files old.written new.written)
     ⊎ (SpanCertified words files old.written new.written × SpanVerdict words files)
 
 module _ (one : ListingIsOne) (words : List Text) (files : List File) (old new : Seen) (puts : List Put) (pieces : List Text) (written : puts ≡ map taken pieces) (makes : PutsMake old puts new) (a : FlowModel) (b : Second) where

@@ -79,7 +79,7 @@ large_code None x n h = absurd h
 large_code (Some zones) x n h = ap (λ (m : NoBound). m.code) h.is
 
 pub storage_holds : StorageHolds
-storage_holds m s zones rounds at old n stored (no_heads (inl none)) = problem_code none.refused.entries n.code none.refused.is_fault
-storage_holds m s zones rounds at old n stored (no_heads (inr (p, is, refused))) = barrier_code p n (stored p is) refused
-storage_holds m s zones rounds at old n stored (no_budget solved settled refused) = other_code n.code 23 (budget_code solved.problem (lower_at solved.bounds) (upper_at solved.bounds) n refused) (omega arith, omega arith)
-storage_holds m s zones rounds at old n stored (no_zones solved budget settled is large) = other_code n.code 23 (large_code zones solved n large) (omega arith, omega arith)
+storage_holds m s zones rounds quick at old n stored (no_heads (inl none)) = problem_code none.refused.entries n.code none.refused.is_fault
+storage_holds m s zones rounds quick at old n stored (no_heads (inr (p, is, refused))) = barrier_code p n (stored p is) refused
+storage_holds m s zones rounds quick at old n stored (no_budget solved settled refused) = other_code n.code 23 (budget_code solved.problem (lower_at solved.bounds) (upper_at solved.bounds) n refused) (omega arith, omega arith)
+storage_holds m s zones rounds quick at old n stored (no_zones solved budget settled is large) = other_code n.code 23 (large_code zones solved n large) (omega arith, omega arith)

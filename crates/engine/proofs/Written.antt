@@ -2,11 +2,12 @@
 use Rattle.engine.proofs.Common.{◌≡◌, ℕ, ◌≤◌, Bool, true, List, [], ◌∷◌, map, Option, None, Some, Result, Ok, Err, refl, sym, ap, ◌∙◌, subst, arith, ℤ}
 use Rattle.engine.proofs.Common.{unsigned_abs, concat, File, file_at, is_good_name, Refusal, FlowModel, IsModel, reads, Wanted, Lists, ListsTo, Checks}
 use Rattle.engine.proofs.Common.{ChecksTo, Makes, Batches, Writes, wanted_of, pairs_in, AreNumbers, zones_of, ListedStep, all_lines, listing_at, or_bad_listing}
-use Rattle.engine.proofs.Common.{one_deck, one_valid, readings_of, Text, end_line, IsListing, listing, IsWhole, whole_listing, history_exists, history_is_one}
-use Rattle.engine.proofs.Common.{ZonedListing, AskedCheck, Case, Check, Command, Checking, asked_in, built, case_asked, case_checked, case_listed, case_of}
-use Rattle.engine.proofs.Common.{listing_read, numbers_of, steps_in, steps_read, task_of, with_zones, zoned_steps, zones_read, IsCheck, certified_line, Defines}
-use Rattle.engine.proofs.Common.{Plain, unit_is_short, check_digits, one_task, IsReadable, RunIsCertified, RunIsReadAgain, as_listed, run_encloses}
-use Rattle.engine.proofs.Common.{ChecksWritten, OneListingIsCertified, WrittenIsCertified}
+use Rattle.engine.proofs.Common.{one_deck, one_valid, Text, end_line, IsListing, listing, IsWhole, whole_listing, history_exists, history_is_one, ZonedListing}
+use Rattle.engine.proofs.Common.{AskedCheck, Case, Check, Command, Checking, asked_in, built, case_asked, case_checked, case_listed, case_of, listing_read}
+use Rattle.engine.proofs.Common.{numbers_of, steps_in, steps_read, task_of, with_zones, zoned_steps, zones_read, IsCheck, certified_line, Defines, Plain}
+use Rattle.engine.proofs.Common.{unit_is_short, check_digits, one_task, IsReadable, RunIsCertified, RunIsReadAgain, as_listed, run_encloses, Step}
+use Rattle.engine.proofs.Common.{EnclosesHistories, AllSteps, Asked, ChecksWritten, OneListingIsCertified, QuickListingIsCertified, WrittenIsCertified}
+use Rattle.engine.proofs.Common.{readings_of, Task}
 use Rattle.std.proofs.Common.{false}
 use Rattle.std.specs.Prelude.{if◌then◌else◌, option_and_then}
 use Rattle.zone_file.proofs.SmallZones.{numbers_small}
@@ -28,14 +29,14 @@ with_bytes false found made refusal bytes h = absurd (clash refusal bytes (Err r
 
 -- a check has at most 18 digits
 built_check : (asked : AskedCheck) (w : Wanted) → built w ≡ Some (Check asked) → w ≡ Checks asked.name asked.listing asked.digits asked.zones
-built_check asked (Lists name digits workers rounds zones None) e = cc
-built_check asked (Lists name digits workers rounds zones (Some turns)) e = cc
-built_check asked (ListsTo name to digits workers rounds zones turns) e = cc
+built_check asked (Lists name digits workers rounds zones None quick) e = cc
+built_check asked (Lists name digits workers rounds zones (Some turns) quick) e = cc
+built_check asked (ListsTo name to digits workers rounds zones turns quick) e = cc
 built_check asked (Checks name listing digits zones) e = cc
 built_check asked (ChecksTo name to listing digits zones) e = cc
 built_check asked (Makes seed size) e = cc
 built_check asked (Writes name) e = cc
-built_check asked (Batches list digits workers rounds) e = cc
+built_check asked (Batches list digits workers rounds quick) e = cc
 
 asked_digits : (words : List Text) (asked : AskedCheck) → asked_in words ≡ Some (Check asked) → asked.digits ≤ 18
 asked_digits words asked = by_wanted (wanted_of words) refl
@@ -44,8 +45,8 @@ asked_digits words asked = by_wanted (wanted_of words) refl
     by_wanted None is e = cc
     by_wanted (Some w) is e = check_digits words asked.name asked.listing asked.digits asked.zones (is ∙ ap Some (built_check asked w e))
 
-module _ (certified : RunIsCertified) (again : RunIsReadAgain) (m : FlowModel) (s : ℕ) (zones : Option (List ℕ)) (rounds : ℕ) (pieces words : List Text) (files : List File)
-    (model : IsModel m) (zoned : AreNumbers zones) (whole : IsWhole (one_task m s zones rounds) pieces) (h : ChecksWritten words files (one_task m s zones rounds) (concat pieces)) where
+module _ (certified : RunIsCertified) (again : RunIsReadAgain) (m : FlowModel) (s : ℕ) (zones : Option (List ℕ)) (rounds : ℕ) (quick : Bool) (pieces words : List Text) (files : List File)
+    (model : IsModel m) (zoned : AreNumbers zones) (whole : IsWhole (one_task m s zones rounds quick) pieces) (h : ChecksWritten words files (one_task m s zones rounds quick) (concat pieces)) where
   abbrev steps : List ListedStep
   steps = map as_listed whole.values
 
@@ -65,7 +66,7 @@ module _ (certified : RunIsCertified) (again : RunIsReadAgain) (m : FlowModel) (
       let pairs = pairs_in m zones in
       let P : List Text → Type 0 = λ t. listing_at false m s pairs (all_lines (concat t)) ≡ Ok steps in
       let D : ℕ → Type 0 = λ s. listing_at false m s pairs (all_lines (concat pieces)) ≡ Ok steps in
-      ap (or_bad_listing h.asked.listing) (subst D (sym h.digits) (subst P (sym whole.are) (again (one_deck m) s zones rounds whole.values readable whole.steps)))
+      ap (or_bad_listing h.asked.listing) (subst D (sym h.digits) (subst P (sym whole.are) (again (one_deck m) s zones rounds quick whole.values readable whole.steps)))
 
   steps_are : steps_read false files h.asked m zones ≡ Ok steps
   steps_are = with_bytes (is_good_name h.asked.listing) (file_at files h.asked.listing) (steps_in false h.asked m zones) _ (concat pieces) h.listing ∙ steps_of_bytes
@@ -85,16 +86,16 @@ module _ (certified : RunIsCertified) (again : RunIsReadAgain) (m : FlowModel) (
       let D : ℕ → Type 0 = λ s. IsCheck (one_deck m) s listing_of status.Ok (certified_line ∷ []) in
       subst P (sym case_is) (subst D (sym h.digits) (record {
         verdict = Holds;
-        is = certified (one_deck m) s zones rounds whole.values (one_valid m model) zoned whole.steps;
-        encloses = λ e. run_encloses (one_deck m) s zones rounds whole.values whole.steps whole.encloses;
-        history = λ e. record { solvable = history_exists m s zones rounds whole.values model whole.steps; one = history_is_one m s zones rounds whole.values model whole.steps };
+        is = certified (one_deck m) s zones rounds quick whole.values (one_valid m model) zoned whole.steps;
+        encloses = λ e. run_encloses (one_deck m) s zones rounds quick whole.values whole.steps whole.encloses;
+        history = λ e. record { solvable = history_exists m s zones rounds quick whole.values model whole.steps; one = history_is_one m s zones rounds quick whole.values model whole.steps };
         status = refl;
         are = refl;
       }))
 
 pub written_is_certified : RunIsCertified → RunIsReadAgain → WrittenIsCertified
-written_is_certified certified again m s zones rounds pieces words files model zoned listed h =
-    is_certified certified again m s zones rounds pieces words files model zoned (whole_listing (one_task m s zones rounds) pieces listed) h
+written_is_certified certified again m s zones rounds quick pieces words files model zoned listed h =
+    is_certified certified again m s zones rounds quick pieces words files model zoned (whole_listing (one_task m s zones rounds quick) pieces listed) h
 
 -- zones that were read are at most 999
 pub read_numbers : (files : List File) (o : Option Text) (m : FlowModel) (zones : Option (List ℕ)) → zones_read files o m ≡ Ok zones → AreNumbers zones
@@ -105,10 +106,21 @@ read_numbers files (Some name) m zones h = by_zones (zones_of files m.grid name)
     by_zones (Ok zs) is e = subst AreNumbers (some_ok (Some (map unsigned_abs zs)) zones e) (numbers_small files m.grid name zs is)
     by_zones (Err refusal) is e = absurd (clash refusal zones (Err refusal) refl e)
 
+module _ (written : WrittenIsCertified) (files : List File) (asked : Asked) (model : FlowModel) (valid : IsModel model) (zones : Option (List ℕ)) (zoned : zones_read files asked.zones model ≡ Ok zones) (values : List Step) where
+  abbrev task : Task
+  task = task_of asked model zones
+
+  whole_is_certified : AllSteps task values ends.Whole → EnclosesHistories task values → (bytes : List ℕ) → bytes ≡ concat (listing task values end_line) → (checks : List Text) (others : List File) → ChecksWritten checks others task bytes → Defines (case_of checks others) status.Ok (certified_line ∷ [])
+  whole_is_certified steps encloses bytes are checks others check =
+      let pieces = listing task values end_line in
+      let whole : IsListing task status.Ok pieces = record { last = ends.Whole; status = refl; values = values; steps = steps; encloses = λ e. encloses; are = refl } in
+      let C : List ℕ → Type 0 = λ bs. ChecksWritten checks others task bs in
+      written model asked.digits zones asked.rounds asked.quick pieces checks others valid (read_numbers files asked.zones model zones zoned) whole (subst C are check)
+
 pub one_listing_is_certified : WrittenIsCertified → OneListingIsCertified
 one_listing_is_certified written words files bytes h checks others check =
-    let k = task_of h.asked h.model h.zones in
-    let pieces = listing k h.values end_line in
-    let whole : IsListing k status.Ok pieces = record { last = ends.Whole; status = refl; values = h.values; steps = h.steps; encloses = λ e. h.encloses; are = refl } in
-    let C : List ℕ → Type 0 = λ bs. ChecksWritten checks others k bs in
-    written h.model h.asked.digits h.zones h.asked.rounds pieces checks others h.valid (read_numbers files h.asked.zones h.model h.zones h.zoned) whole (subst C h.written check)
+    whole_is_certified written files h.asked h.model h.valid h.zones h.zoned h.values h.steps h.encloses bytes h.written checks others check
+
+pub quick_listing_is_certified : WrittenIsCertified → QuickListingIsCertified
+quick_listing_is_certified written words files bytes h checks others check =
+    whole_is_certified written files h.asked h.model h.valid h.zones h.zoned h.values h.steps h.encloses bytes h.written checks others check

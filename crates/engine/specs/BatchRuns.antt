@@ -1,5 +1,5 @@
 -- What a batch puts, how it ends, and which end is certain.
-use Rattle.std.specs.Prelude.{◌≡◌, ◌⊎◌, ℕ, List, [], ◌∷◌, Ok, Option, All, IfOk, MatchOption}
+use Rattle.std.specs.Prelude.{◌≡◌, ◌⊎◌, ℕ, List, false, [], ◌∷◌, Ok, Option, All, IfOk, MatchOption}
 use Rattle.outside.specs.Counts.{Rose}
 use Rattle.outside.specs.Files.{File}
 use Rattle.outside.specs.Puts.{Put}
@@ -41,10 +41,11 @@ pub record BatchPuts (leads : List Put → Type 0) (b : AskedBatch) (files : Opt
   pub leads_on : leads puts
   pub run : IsBatchRun (Rose before after) case end puts
 
--- The batch has the end that the list and the files define, unless a read or a write fails, memory runs out, or a step doesn't settle within the rounds.
+-- Without --quick the batch has the end that the list and the files define, unless a read or a write fails, memory runs out, or
+-- a step doesn't settle within the rounds.
 abbrev pub BatchDecided : Type 0 → AskedBatch → List File → Status → Type 0
 BatchDecided fault b files end =
-    (meant : Status) (pieces : List Text) → BatchDefines (batch_case_of b files) meant pieces → (fault ⊎ IsUnfinished meant)
+    b.quick ≡ false → (meant : Status) (pieces : List Text) → BatchDefines (batch_case_of b files) meant pieces → (fault ⊎ IsUnfinished meant)
     ⊎ ((end ≡ meant) ⊎ ((end ≡ status.Memory) ⊎ IsUnfinished end))
 
 -- The files of a name read as a model, and from STRT on, each step from the heads of the one before, no step has a

@@ -1,5 +1,5 @@
 -- The headline of a batch: of each listing among its texts.
-use Rattle.std.specs.Prelude.{◌≡◌, ℕ, ℤ, List, [], ◌∷◌, ◌++◌, Ok, Err, Option, Some}
+use Rattle.std.specs.Prelude.{◌≡◌, ℕ, ℤ, List, false, [], ◌∷◌, ◌++◌, Ok, Err, Option, Some}
 use Rattle.std.specs.List.{AllZip, concat}
 use Rattle.std.specs.Io.KnownBytes.{Appends}
 use Rattle.outside.specs.Files.{File}
@@ -23,18 +23,18 @@ use Rattle.batch_puts.specs.declared.job_end.JobEnd.{JobEnd}
 use Rattle.batch_puts.specs.Ended.{first_not_ok, texts}
 use Rattle.engine.specs.Batches.{AskedBatch, IsJobEnd, batch_asked, job_of, job_task, model_line, names_read}
 
--- The text of a name is the one listing that its files define; and every history of heads that solves the manual's
--- exact equations of these files lies, step by step and cell by cell, between its heads, with each of its budget flows
--- between its terms.
+-- The text of a name is a listing that its files define, and without --quick the one; and every history of heads that solves
+-- the manual's exact equations of these files lies, step by step and cell by cell, between its heads, with each of its budget
+-- flows between its terms.
 pub record IsJobListing (b : AskedBatch) (files : List File) (name text : Text) : Type 0 where
   -- The files read as a model, which is valid.
   pub model : FlowModel
   pub read : reads Plain files name ≡ Ok model
   pub valid : IsModel model
-  -- All its time steps have values, which are heads and budgets, and no others.
+  -- All its time steps have values, which are heads and budgets, and without --quick no others.
   pub values : List Step
   pub steps : AllSteps (job_task b model) values Whole
-  pub only : (others : List Step) → AllSteps (job_task b model) others Whole → others ≡ values
+  pub only : b.quick ≡ false → (others : List Step) → AllSteps (job_task b model) others Whole → others ≡ values
   -- The text is the name and their listing.
   pub is : text ≡ model_line name ++ concat (listing (job_task b model) values end_line)
   -- Every history over any denominator d that solves the model's exact equations lies between them.

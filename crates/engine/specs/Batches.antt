@@ -1,5 +1,5 @@
 -- A batch of models: what the words, the list and the files define, and how each job may end.
-use Rattle.std.specs.Prelude.{◌≡◌, ℕ, List, [], ◌∷◌, ◌++◌, map, Result, Ok, Err, Option, Some, None, IfOk, All, codes, option_and_then}
+use Rattle.std.specs.Prelude.{◌≡◌, ℕ, Bool, List, [], ◌∷◌, ◌++◌, map, Result, Ok, Err, Option, Some, None, IfOk, All, codes, option_and_then}
 use Rattle.std.specs.List.{concat}
 use Rattle.outside.specs.Files.{File}
 use Rattle.outside.specs.Inputs.{file_at}
@@ -22,14 +22,16 @@ use Rattle.engine.specs.declared.job.Job.{Job}
 use Rattle.engine.specs.Cases.{Case, Listing, Refuses, named}
 use Rattle.engine.specs.Defined.{Defines}
 
--- A batch that the words ask for: the name of its list, the digits of conductances, and the number of plain rounds in which a step must settle.
+-- A batch that the words ask for: the name of its list, the digits of conductances, the number of plain rounds in which a
+-- step must settle, and whether a step may have any pair that is a certificate.
 pub record AskedBatch : Type 0 where
   pub list : Text
   pub digits : ℕ
   pub rounds : ℕ
+  pub quick : Bool
 
 abbrev pub batch_of : Wanted → Option AskedBatch
-batch_of (Batches list digits workers rounds) = Some (record { list = list; digits = digits; rounds = rounds })
+batch_of (Batches list digits workers rounds quick) = Some (record { list = list; digits = digits; rounds = rounds; quick = quick })
 batch_of other = None
 
 -- the batch that the words ask for; no definition has the number of workers
@@ -46,7 +48,7 @@ names_read files b = named b.list (λ name. names_at name (file_at files name))
 
 -- what is listed of a model of the batch
 abbrev pub job_task : AskedBatch → FlowModel → Task
-job_task b m = one_task m b.digits None b.rounds
+job_task b m = one_task m b.digits None b.rounds b.quick
 
 abbrev pub task_read : AskedBatch → Result FlowModel Refusal → Result Task Refusal
 task_read b (Ok m) = Ok (job_task b m)

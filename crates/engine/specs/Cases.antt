@@ -28,12 +28,14 @@ use Rattle.engine.specs.declared.zoned.ZonedListing.{ZonedListing}
 use Rattle.engine.specs.TwoDecks.{Second, second_in}
 
 -- A listing that the words ask for: the name of its name file, the digits of conductances, the number of plain rounds
--- in which a step must settle, and the name of a zone file, if there is one.
+-- in which a step must settle, the name of a zone file, if there is one, and whether a step may have any pair that is a
+-- certificate.
 pub record Asked : Type 0 where
   pub name : Text
   pub digits : ℕ
   pub rounds : ℕ
   pub zones : Option Text
+  pub quick : Bool
 
 -- A check that the words ask for: the name of the name file, that of the listing, the digits of conductances, and the name
 -- of a zone file, if there is one.
@@ -65,8 +67,9 @@ pub data Command : Type 0 where
 
 -- The commands that are implemented here. What is put does not depend on the number of workers, nor on views.
 abbrev pub built : Wanted → Option Command
-built (Lists name digits workers rounds zones watch) = Some (Run (record { name = name; digits = digits; rounds = rounds; zones = zones }))
-built (ListsTo name to digits workers rounds zones watch) = Some (Span (record { run = record { name = name; digits = digits; rounds = rounds; zones = zones }; to = to }))
+built (Lists name digits workers rounds zones watch quick) = Some (Run (record { name = name; digits = digits; rounds = rounds; zones = zones; quick = quick }))
+built (ListsTo name to digits workers rounds zones watch quick) =
+    Some (Span (record { run = record { name = name; digits = digits; rounds = rounds; zones = zones; quick = quick }; to = to }))
 built (Makes seed size) = Some (Make seed size)
 built (Checks name listing digits zones) = Some (Check (record { name = name; listing = listing; digits = digits; zones = zones }))
 built (ChecksTo name to listing digits zones) = Some (CheckSpan (record { check = record { name = name; listing = listing; digits = digits; zones = zones }; to = to }))
@@ -89,11 +92,11 @@ ReadsNothing (Some (Write name)) = ⊥
 
 -- what is listed of a model, with the zones of its cells if there is a zone file
 abbrev pub task_of : Asked → FlowModel → Option (List ℕ) → Task
-task_of asked m zones = one_task m asked.digits zones asked.rounds
+task_of asked m zones = one_task m asked.digits zones asked.rounds asked.quick
 
 -- what is listed of decks, and of all models between two
 abbrev pub decks_task : Asked → Decks → Option (List ℕ) → Task
-decks_task asked d zones = deck_task d asked.digits zones asked.rounds
+decks_task asked d zones = deck_task d asked.digits zones asked.rounds asked.quick
 
 abbrev pub span_task_of : Asked → (first second : FlowModel) → Option (List ℕ) → Task
 span_task_of asked first second zones = decks_task asked (two first second) zones

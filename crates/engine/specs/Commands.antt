@@ -1,5 +1,5 @@
 -- The commands that are implemented, in the form of the code.
-use Rattle.std.specs.Prelude.{ℕ, ◌≤◌, Option, None, option_map}
+use Rattle.std.specs.Prelude.{◌≡◌, ℕ, ◌≤◌, Option, None, IfSome, option_map, false}
 use Rattle.settle_driver.specs.Phases.{IsPlan}
 use Rattle.engine.specs.declared.asked.Asked.{Asked as AskedBy}
 use Rattle.engine.specs.declared.asked.AskedCheck.{AskedCheck as AskedCheckBy}
@@ -9,7 +9,7 @@ use Rattle.engine.specs.Cases.{Asked, AskedCheck, Command, Run, Span, Make, Chec
 
 -- the listing that is asked for; of how it is settled only the rounds are part of a definition
 abbrev pub asked_of : AskedBy → Asked
-asked_of a = record { name = a.name.now; digits = a.digits; rounds = a.plan.rounds; zones = option_map (λ name. name.now) a.zones }
+asked_of a = record { name = a.name.now; digits = a.digits; rounds = a.plan.rounds; zones = option_map (λ name. name.now) a.zones; quick = a.quick }
 
 -- the check that is asked for
 abbrev pub check_of : AskedCheckBy → AskedCheck
@@ -29,9 +29,9 @@ views_of (command.Run a) = a.watch
 views_of (command.Span a to) = a.watch
 views_of other = None
 
--- the ranges of its numbers
+-- the ranges of its numbers; a quick listing is not watched
 abbrev pub IsAsked : AskedBy → Type 0
-IsAsked a = (a.digits ≤ 18) × IsPlan a.plan
+IsAsked a = (a.digits ≤ 18) × IsPlan a.plan × IfSome a.watch (λ n. a.quick ≡ false)
 
 abbrev pub IsMakeable : ℕ → ℕ → Type 0
 IsMakeable seed size = (seed ≤ 2147483647) × (1 ≤ size) × (size ≤ 64)

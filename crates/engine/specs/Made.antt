@@ -1,5 +1,5 @@
 -- A model that is made from a seed: the end and the pieces of its run.
-use Rattle.std.specs.Prelude.{◌≡◌, ℕ, ℤ, List, [], ◌∷◌, Ok, Err, Option, Some, None, Result}
+use Rattle.std.specs.Prelude.{◌≡◌, ℕ, ℤ, false, List, [], ◌∷◌, Ok, Err, Option, Some, None, Result}
 use Rattle.std.specs.Io.KnownBytes.{Appends}
 use Rattle.outside.specs.declared.refusals.Refusal.{Refusal}
 use Rattle.model_types.specs.declared.limits.Limits.TheVariants.{Plain}
@@ -28,7 +28,7 @@ use Rattle.engine.specs.Cases.{asked_in, task_of, Make}
 
 -- the task of its listing, with the digits and the rounds of a run without options
 abbrev pub made_task : FlowModel → Task
-made_task m = task_of (record { name = made_name; digits = 12; rounds = 1000000; zones = None }) m None
+made_task m = task_of (record { name = made_name; digits = 12; rounds = 1000000; zones = None; quick = false }) m None
 
 -- a whole listing is put as its summary, any other one as its last line
 abbrev pub summed_text : ℕ → ℕ → Grid → Summary → ListingEnd → Text

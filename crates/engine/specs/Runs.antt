@@ -1,5 +1,5 @@
 -- What a run puts, how it ends, and which end is certain.
-use Rattle.std.specs.Prelude.{◌≡◌, ◌⊎◌, ℕ, List, map, Ok, Option}
+use Rattle.std.specs.Prelude.{◌≡◌, ◌⊎◌, ℕ, List, false, map, Ok, Option}
 use Rattle.outside.specs.Counts.{Rose}
 use Rattle.outside.specs.Files.{File}
 use Rattle.outside.specs.Puts.{Put, taken}
@@ -44,10 +44,16 @@ pub record Puts (leads : List Put → Type 0) (words : List Text) (files : Optio
   pub leads_on : leads puts
   pub run : IsRunOf (Rose before after) case end puts ⊎ IsLeft failed_beside case end puts
 
+-- the case is no listing with --quick, whose end the words and files leave open
+abbrev pub IsPlain : Case → Type 0
+IsPlain (Listing k) = k.quick ≡ false
+IsPlain (Comparing a b case) = IsPlain case
+IsPlain other = Unit {0}
+
 -- The run has the end that the words and files define, unless a read or a write fails, memory runs out, or a step doesn't settle within the rounds.
 abbrev pub Decided : Type 0 → List Text → List File → Status → Type 0
 Decided fault words files end =
-    (meant : Status) (pieces : List Text) → Defines (case_of words files) meant pieces → (fault ⊎ IsUnfinished meant)
+    IsPlain (case_of words files) → (meant : Status) (pieces : List Text) → Defines (case_of words files) meant pieces → (fault ⊎ IsUnfinished meant)
     ⊎ ((end ≡ meant) ⊎ ((end ≡ status.Memory) ⊎ IsUnfinished end))
 
 -- the listing that is put, or summed up

@@ -9,8 +9,9 @@ use Rattle.engine.specs.Certified.{Certified}
 use Rattle.engine.specs.Decks.{OneDeck}
 use Rattle.engine.specs.Headline.{Headline}
 use Rattle.engine.specs.Made.{Made}
-use Rattle.engine.specs.OneListing.{OneListing, OneSummary, OneVerdict}
-use Rattle.engine.specs.SpanHeadline.{OneSpan, SpanCertified, SpanHeadline, SpanVerdict}
+use Rattle.engine.specs.OneListing.{OneSummary, OneVerdict}
+use Rattle.engine.specs.QuickListing.{OneOrQuick, SpanOrQuick}
+use Rattle.engine.specs.SpanHeadline.{SpanCertified, SpanHeadline, SpanVerdict}
 use Rattle.engine.specs.BatchRuns.{AnyPuts}
 use Rattle.engine.specs.Batched.{Batched, HasNoList}
 use Rattle.engine.specs.Batches.{AskedBatch, batch_asked}
@@ -23,12 +24,12 @@ AnyHeadline words files end old new =
     ⊎ (OneDeck words files old.written new.written ⊎ (SpanHeadline words files old.written new.written ⊎ SpanCertified words files old.written new.written)))))
     ⊎ Batched words files end old.written new.written
 
--- And what was put is the one listing that the files define, or sums it up, or each step of the one that was checked is
--- certified, or what was put is the one deck.
+-- And what was put is the one listing that the files define, or with --quick one by certificates, or sums it up, or each step of
+-- the one that was checked is certified, or what was put is the one deck.
 abbrev pub AnyOne : List Text → List File → Status → Seen → Seen → Type 0
 AnyOne words files end old new =
-    (OneListing words files old.written new.written ⊎ (OneSummary words old.written new.written ⊎ (OneVerdict words files
-    ⊎ (OneDeck words files old.written new.written ⊎ (OneSpan words files old.written new.written ⊎ SpanVerdict words files)))))
+    (OneOrQuick words files old.written new.written ⊎ (OneSummary words old.written new.written ⊎ (OneVerdict words files
+    ⊎ (OneDeck words files old.written new.written ⊎ (SpanOrQuick words files old.written new.written ⊎ SpanVerdict words files)))))
     ⊎ Batched words files end old.written new.written
 
 -- the numbers of a run that stopped: since a read failed, a write failed, or memory ran out

@@ -1,5 +1,5 @@
 -- The headline of a run of all models between two decks, and of the check of such a listing.
-use Rattle.std.specs.Prelude.{◌≡◌, ℕ, ℤ, true, List, Ok, Option, Some}
+use Rattle.std.specs.Prelude.{◌≡◌, ℕ, ℤ, true, false, List, Ok, Option, Some}
 use Rattle.std.specs.List.{concat}
 use Rattle.std.specs.Io.KnownBytes.{Appends}
 use Rattle.outside.specs.Files.{File}
@@ -57,13 +57,14 @@ pub record SpanHeadline (words : List Text) (files : List File) (old new : Optio
   -- And each choice of models between has one: a history solves it, and any two are the same heads at all active cells, step by step.
   pub choices : ChoicesHaveOne decks.first decks.second
 
--- Such a run has written the one listing that the files define.
+-- Such a run without --quick has written the one listing that the files define.
 pub record OneSpan (words : List Text) (files : List File) (old new : Option (List ℕ)) : Type 0 where
   pub asked : AskedSpan
   pub wanted : asked_in words ≡ Some (Span asked)
   pub decks : ArePairOf files asked.run.name asked.to
   pub zones : Option (List ℕ)
   pub zoned : zones_read files asked.run.zones decks.first ≡ Ok zones
+  pub plain : asked.run.quick ≡ false
   -- All time steps have values, which are heads, budgets and flows between zones, and no others. They enclose every history.
   pub values : List Step
   pub steps : AllSteps (span_task_of asked.run decks.first decks.second zones) values Whole

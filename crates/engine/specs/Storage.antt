@@ -1,5 +1,5 @@
 -- Where storage holds the heads of a step.
-use Rattle.std.specs.Prelude.{◌≡◌, ◌≢◌, ℕ, ◌<◌, ◌≤◌, List, length, Contains, Option}
+use Rattle.std.specs.Prelude.{◌≡◌, ◌≢◌, ℕ, ◌<◌, ◌≤◌, List, length, Contains, Bool, Option}
 use Rattle.step_problem.specs.declared.entry.Fixed.{Fixed}
 use Rattle.step_problem.specs.declared.entry.FixedKind.TheVariants.{Storage}
 use Rattle.step_problem.specs.declared.heads.Bound.{Bound}
@@ -20,5 +20,6 @@ IsStored p = (c : ℕ) → c < length p → (x : Fixed) × Contains (entries_at 
 -- Then a refusal of the step is neither NoBarrierLow nor NoBarrierHigh.
 abbrev pub StorageHolds : Type 0
 StorageHolds =
-    (m : FlowModel) (s : ℕ) (zones : Option (List ℕ)) (rounds : ℕ) (at : TimeStep) (old : List Bound) (n : NoBound) → ((p : List Entries) → IsProblemOf m s at old p → IsStored p) →
-    HasNoBound (one_task m s zones rounds) at old n → (n.code ≢ number_of NoBarrierLow) × (n.code ≢ number_of NoBarrierHigh)
+    (m : FlowModel) (s : ℕ) (zones : Option (List ℕ)) (rounds : ℕ) (quick : Bool) (at : TimeStep) (old : List Bound) (n : NoBound) →
+    ((p : List Entries) → IsProblemOf m s at old p → IsStored p) →
+    HasNoBound (one_task m s zones rounds quick) at old n → (n.code ≢ number_of NoBarrierLow) × (n.code ≢ number_of NoBarrierHigh)

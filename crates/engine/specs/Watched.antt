@@ -24,8 +24,8 @@ use Rattle.engine.specs.Cases.{IsListingOf, case_of}
 
 -- the number of views in each phase that the words ask for
 abbrev pub views_asked : Wanted → Option ℕ
-views_asked (Lists name digits workers rounds zones watch) = watch
-views_asked (ListsTo name to digits workers rounds zones watch) = watch
+views_asked (Lists name digits workers rounds zones watch quick) = watch
+views_asked (ListsTo name to digits workers rounds zones watch quick) = watch
 views_asked other = None
 
 abbrev pub views_in : List Text → Option ℕ

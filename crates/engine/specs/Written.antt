@@ -1,5 +1,5 @@
 -- The check of what a run wrote.
-use Rattle.std.specs.Prelude.{◌≡◌, ℕ, List, [], ◌∷◌, Ok, Option, Some}
+use Rattle.std.specs.Prelude.{◌≡◌, ℕ, List, [], ◌∷◌, Ok, Bool, Option, Some}
 use Rattle.std.specs.List.{concat}
 use Rattle.outside.specs.Files.{File}
 use Rattle.outside.specs.Inputs.{file_at}
@@ -19,6 +19,7 @@ use Rattle.engine.specs.Checked.{certified_line}
 use Rattle.engine.specs.Defined.{Defines}
 use Rattle.engine.specs.OneListing.{OneListing}
 use Rattle.engine.specs.SpanHeadline.{OneSpan}
+use Rattle.engine.specs.QuickListing.{QuickListing, QuickSpan}
 
 -- These words ask for the check of a file with these bytes, at most a file's limit, as a listing with the task's
 -- digits, and the files read as the task's model and, by the zone file that the words name or don't, as its zones.
@@ -34,14 +35,21 @@ pub record ChecksWritten (words : List Text) (files : List File) (k : Task) (byt
 -- Ok, with the line CERTIFIED.
 abbrev pub WrittenIsCertified : Type 0
 WrittenIsCertified =
-    (m : FlowModel) (s : ℕ) (zones : Option (List ℕ)) (rounds : ℕ) (pieces words : List Text) (files : List File) → IsModel m → AreNumbers zones →
-    Defines (Listing (one_task m s zones rounds)) status.Ok pieces → ChecksWritten words files (one_task m s zones rounds) (concat pieces) →
+    (m : FlowModel) (s : ℕ) (zones : Option (List ℕ)) (rounds : ℕ) (quick : Bool) (pieces words : List Text) (files : List File) →
+    IsModel m → AreNumbers zones →
+    Defines (Listing (one_task m s zones rounds quick)) status.Ok pieces → ChecksWritten words files (one_task m s zones rounds quick) (concat pieces) →
     Defines (case_of words files) status.Ok (certified_line ∷ [])
 
 -- The bytes that a run appended to nothing are certified by any check of them, at the same digits, of the same model, with
 -- the same zones.
 abbrev pub OneListingIsCertified : Type 0
 OneListingIsCertified = (words : List Text) (files : List File) (bytes : List ℕ) (h : OneListing words files (Some []) (Some bytes)) → (checks : List Text) (others : List File) → ChecksWritten checks others (task_of h.asked h.model h.zones) bytes → Defines (case_of checks others) status.Ok (certified_line ∷ [])
+
+-- So are the bytes of a run with --quick.
+abbrev pub QuickListingIsCertified : Type 0
+QuickListingIsCertified =
+    (words : List Text) (files : List File) (bytes : List ℕ) (h : QuickListing words files (Some []) (Some bytes)) → (checks : List Text) (others : List File) →
+    ChecksWritten checks others (task_of h.asked h.model h.zones) bytes → Defines (case_of checks others) status.Ok (certified_line ∷ [])
 
 -- These words ask for the check of a file with these bytes, at most a file's limit, as a listing of two decks with the
 -- task's digits, and the files read as the task's first deck, this second one, and, by the zone file that the words name or
@@ -59,8 +67,9 @@ pub record ChecksSpan (words : List Text) (files : List File) (k : Task) (second
 -- check of it against the same two decks ends Ok, with the line CERTIFIED.
 abbrev pub WrittenSpanIsCertified : Type 0
 WrittenSpanIsCertified =
-    (a b : FlowModel) (s : ℕ) (zones : Option (List ℕ)) (rounds : ℕ) (pieces words : List Text) (files : List File) → AreDecks (two a b) → AreNumbers zones →
-    Defines (Listing (deck_task (two a b) s zones rounds)) status.Ok pieces → ChecksSpan words files (deck_task (two a b) s zones rounds) b (concat pieces) →
+    (a b : FlowModel) (s : ℕ) (zones : Option (List ℕ)) (rounds : ℕ) (quick : Bool) (pieces words : List Text) (files : List File) →
+    AreDecks (two a b) → AreNumbers zones → Defines (Listing (deck_task (two a b) s zones rounds quick)) status.Ok pieces →
+    ChecksSpan words files (deck_task (two a b) s zones rounds quick) b (concat pieces) →
     Defines (case_of words files) status.Ok (certified_line ∷ [])
 
 -- The bytes that a run of two decks appended to nothing are certified by any check of them, at the same digits, against the
@@ -68,5 +77,12 @@ WrittenSpanIsCertified =
 abbrev pub OneSpanIsCertified : Type 0
 OneSpanIsCertified =
     (words : List Text) (files : List File) (bytes : List ℕ) (h : OneSpan words files (Some []) (Some bytes)) → (checks : List Text) (others : List File) →
+    ChecksSpan checks others (span_task_of h.asked.run h.decks.first h.decks.second h.zones) h.decks.second bytes →
+    Defines (case_of checks others) status.Ok (certified_line ∷ [])
+
+-- So are the bytes of such a run with --quick.
+abbrev pub QuickSpanIsCertified : Type 0
+QuickSpanIsCertified =
+    (words : List Text) (files : List File) (bytes : List ℕ) (h : QuickSpan words files (Some []) (Some bytes)) → (checks : List Text) (others : List File) →
     ChecksSpan checks others (span_task_of h.asked.run h.decks.first h.decks.second h.zones) h.decks.second bytes →
     Defines (case_of checks others) status.Ok (certified_line ∷ [])

@@ -13,7 +13,8 @@ use settle_driver::Plan;
 const TURNS: u32 = 64;
 
 /// A listing that is asked for: the name of its name file, the digits of conductances, how each step is settled, the name
-/// of a zone file, if there is one, and the number of views in each phase, if the heads are viewed.
+/// of a zone file, if there is one, the number of views in each phase, if the heads are viewed, and whether a step may have
+/// any pair that is a certificate.
 #[derive(Clone, Copy)]
 pub(crate) struct Asked<'a> {
     pub(crate) name: &'a str,
@@ -21,6 +22,7 @@ pub(crate) struct Asked<'a> {
     pub(crate) plan: Plan,
     pub(crate) zones: Option<&'a str>,
     pub(crate) watch: Option<u32>,
+    pub(crate) quick: bool,
 }
 
 /// A check that is asked for: the name of its name file, that of the listing, the digits of conductances, and the name of a
@@ -91,6 +93,7 @@ pub(crate) fn command_of<'a>(order: Order<'a>) -> Option<Command<'a>>
             rounds,
             zones,
             watch,
+            quick,
         } => {
             let plan = Plan {
                 workers,
@@ -104,6 +107,7 @@ pub(crate) fn command_of<'a>(order: Order<'a>) -> Option<Command<'a>>
                     plan,
                     zones,
                     watch,
+                    quick,
                 },
                 to,
             ))

@@ -8,14 +8,15 @@ ghost use Rattle.command_line.specs.Wants.{wanted};
 use command_line::{Order, WordsFault, read_order};
 use std::alloc::{AllocError, Global};
 
-/// A batch that is asked for: the name of its list, the digits of conductances, the workers that run its jobs, and the
-/// plain rounds in which a step must settle.
+/// A batch that is asked for: the name of its list, the digits of conductances, the workers that run its jobs, the
+/// plain rounds in which a step must settle, and whether a step may have any pair that is a certificate.
 #[derive(Clone, Copy)]
 pub(crate) struct BatchOrder<'a> {
     pub(crate) list: &'a str,
     pub(crate) digits: u32,
     pub(crate) workers: u32,
     pub(crate) rounds: u32,
+    pub(crate) quick: bool,
 }
 
 // The batch that an order asks for; None where it asks for something else.
@@ -30,11 +31,13 @@ fn batch_order<'a>(order: Order<'a>) -> Option<BatchOrder<'a>>
             digits,
             workers,
             rounds,
+            quick,
         } => Some(BatchOrder {
             list,
             digits,
             workers,
             rounds,
+            quick,
         }),
         _ => None,
     }

@@ -47,6 +47,7 @@ fn read_job<'a, F: Folder>(
                 digits: asked.digits,
                 zones: None,
                 rounds: asked.rounds,
+                quick: asked.quick,
             }),
         }),
         Err(InputFault::Refused(refusal)) => Ok(Job {

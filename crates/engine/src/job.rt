@@ -1,16 +1,19 @@
 // A job of a batch, and its run.
 ghost use Rattle.std.specs.Prelude.{◌≡◌, IfOk};
 ghost use Rattle.listing_run.specs.Ends.{IsTask};
+ghost use Rattle.listing_run.specs.Tasks.{pairs_of};
 ghost use Rattle.engine.specs.Batches.{IsJobEnd, IsRunText, model_line};
 ghost use Rattle.engine.specs.Cases.{Listing, Refuses};
 
 use batch_puts::JobEnd;
+use certified_pair::QuickPairs;
 use listing_io::write_refused;
 use listing_run::{Task, push_listing};
 use near_settler::AloneSettler;
 use outside::{Name, Refusal};
 use run_puts::Status;
 use std::alloc::{AllocError, Global};
+use step_problem::Settler;
 
 /// A name of a batch's list, and what is listed of its model, or the first refusal of its files.
 #[derive(Drop)]
@@ -41,14 +44,34 @@ fn copy_of(alloc: Global, refusal: &Refusal) -> Result<Refusal, AllocError>
     })
 }
 
+// Adds the listing of a task, each step by this settler, to the line of its name.
+fn end_by<S: Settler>(
+    alloc: Global,
+    mut text: Vec<u8>,
+    task: &Task,
+    settler: &mut S,
+) -> Result<JobEnd, AllocError>
+    requires ready { S.ready settler.old }
+    requires rounds { S.rounds settler.old ≡ task.now.rounds }
+    requires pairs { S.pairs ≡ pairs_of task.now }
+    requires task { IsTask task.now }
+    ensures { IfOk result (IsRunText (Listing task.now) text.items) }
+{
+    let status = push_listing(alloc, &mut text, task, settler)?;
+    Ok(JobEnd { status, text })
+}
+
 // Adds the listing of a task to the line of its name.
-fn end_of_task(alloc: Global, mut text: Vec<u8>, task: &Task) -> Result<JobEnd, AllocError>
+fn end_of_task(alloc: Global, text: Vec<u8>, task: &Task) -> Result<JobEnd, AllocError>
     requires { IsTask task.now }
     ensures { IfOk result (IsRunText (Listing task.now) text.items) }
 {
     let mut settler = AloneSettler::new(task.rounds);
-    let status = push_listing(alloc, &mut text, task, &mut settler)?;
-    Ok(JobEnd { status, text })
+    if task.quick {
+        let mut pairs = QuickPairs::new(settler);
+        return end_by(alloc, text, task, &mut pairs);
+    }
+    end_by(alloc, text, task, &mut settler)
 }
 
 // Adds the line of a refusal to the line of a name.

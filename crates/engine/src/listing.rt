@@ -1,24 +1,51 @@
 // A listing by workers in threads.
-ghost use Rattle.std.specs.Prelude.{◌≡◌, List, ◌++◌, IfSome};
+ghost use Rattle.std.specs.Prelude.{◌≡◌, List, ◌++◌, IfSome, None, false};
 ghost use Rattle.outside.specs.Counts.{Rose};
 ghost use Rattle.outside.specs.Puts.{Put};
 ghost use Rattle.run_puts.specs.Runs.{IsRun};
 ghost use Rattle.step_problem.specs.Heads.{IsBarrier};
 ghost use Rattle.step_problem.specs.Settling.{Settles};
+ghost use Rattle.step_problem.specs.Settling.PairKind.{settled};
 ghost use Rattle.settle_driver.specs.Phases.{IsPlan};
 ghost use Rattle.listing_run.specs.Ends.{IsTask};
 ghost use Rattle.listing_run.specs.Listing.{IsListing, IsListingBeside, IsCutListing};
 ghost use Rattle.engine.specs.Watched.{IsWatched, ViewPutsOf};
 
 use crate::viewing::put_watched;
+use certified_pair::QuickPairs;
 use listing_run::{Task, put_steps};
 use near_settler::NearSettler;
 use outside::{Gate, Sink};
 use run_puts::Status;
-use settle_driver::{Plan, SettleBy};
+use settle_driver::{Plan, SettleBy, StepSettler};
 use std::alloc::Global;
 use std::thread::Threads;
 use step_problem::{Barrier, Bound, Problem, SettleFault};
+
+// Puts the listing of a task, each step by this settler, which never stops; in a quick task only where no guessed pair is a
+// certificate.
+fn put_by<R: Threads + Sync, K: Sink + Send, S: StepSettler + Drop>(
+    rt: &R,
+    alloc: Global,
+    task: &Task,
+    settler: S,
+    out: &mut K,
+) -> Status
+    requires task { IsTask task.now }
+    requires ready { S.ready settler }
+    requires rounds { S.rounds settler ≡ task.now.rounds }
+    requires pairs { S.pairs ≡ settled }
+    requires goes_on { (s : S) → S.stop s ≡ None }
+    ensures { (start : _) (puts : List Put) → K.leads start puts out.old →
+        (more : List Put) × K.leads start (puts ++ more) out.new × IsRun (IsListing task.now) (IsCutListing task.now) result more }
+{
+    if task.quick {
+        let mut pairs = QuickPairs::new(settler);
+        return put_steps(rt, alloc, task, &mut pairs, out);
+    }
+    let mut settler = settler;
+    put_steps(rt, alloc, task, &mut settler, out)
+}
 
 // Puts the listing of a task, each step settled by this plan.
 fn put_unwatched<R: Threads + Sync, K: Sink + Send, G: Gate + Sync>(
@@ -37,18 +64,18 @@ fn put_unwatched<R: Threads + Sync, K: Sink + Send, G: Gate + Sync>(
 {
     let near = NearSettler::new(rt, plan, gate);
     let near = &near;
-    let mut settler = SettleBy::new(
+    let settler = SettleBy::new(
         plan.rounds,
         |alloc: Global, p: &Problem, b: &Barrier| -> Result<Vec<Bound>, SettleFault>
             requires { IsBarrier p.now b.now }
             ensures { Settles p.entry.now b.entry.now near.entry.now.plan.rounds result }
         { near.settle(alloc, p, b) },
     );
-    put_steps(rt, alloc, task, &mut settler, out)
+    put_by(rt, alloc, task, settler, out)
 }
 
-/// Puts the listing of a task, each step settled by this plan. Workers pass the gate before each turn. If `views`
-/// is given, that number of views is put to the side sink in each phase.
+/// Puts the listing of a task, each step settled by this plan, or in a quick task by a certificate. Workers pass the gate
+/// before each turn. If `views` is given, that number of views is put to the side sink in each phase.
 pub(crate) fn put_listing<R: Threads + Sync, K: Sink + Send, W: Sink + Send, G: Gate + Sync>(
     rt: &R,
     alloc: Global,
@@ -62,6 +89,7 @@ pub(crate) fn put_listing<R: Threads + Sync, K: Sink + Send, W: Sink + Send, G: 
     requires task { IsTask task.now }
     requires plan { IsPlan plan }
     requires rounds { plan.rounds ≡ task.now.rounds }
+    requires plain { IfSome views (λ n. task.now.quick ≡ false) }
     ensures puts { (start : _) (puts : List Put) → K.leads start puts out.old →
         (more : List Put) × K.leads start (puts ++ more) out.new
         × IsRun (IsListingBeside (Rose (W.seen side.old).faults (W.seen side.new).faults) task.now) (IsCutListing task.now) result more

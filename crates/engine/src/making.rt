@@ -1,5 +1,5 @@
 // A model that is made from a seed, and the summary of its listing.
-ghost use Rattle.std.specs.Prelude.{◌≡◌, List, ◌++◌, Ok, IfOk};
+ghost use Rattle.std.specs.Prelude.{false, ◌≡◌, List, ◌++◌, Ok, IfOk};
 ghost use Rattle.outside.specs.Puts.{Put};
 ghost use Rattle.step_problem.specs.Heads.{IsBarrier};
 ghost use Rattle.step_problem.specs.Settling.{Settles};
@@ -36,6 +36,7 @@ fn summarize_by_workers<R: Threads + Sync, G: Gate + Sync>(
 ) -> Result<(Summary, ListingEnd), AllocError>
     requires task { IsTask task.now }
     requires rounds { task.now.rounds ≡ 1000000 }
+    requires plain { task.now.quick ≡ false }
     ensures { IfOk result (λ (summary, end). IsSummarized task.now summary end) }
 {
     let near = NearSettler::new(rt, MADE_PLAN, gate);
@@ -103,6 +104,7 @@ fn put_summary<R: Threads + Sync, K: Sink, G: Gate + Sync>(
         digits: MADE_DIGITS,
         zones: None,
         rounds: MADE_PLAN.rounds,
+        quick: false,
     };
     let Ok((summary, end)) = summarize_by_workers(rt, alloc, &task, gate) else {
         return put_memory(out);

@@ -1,5 +1,5 @@
 // A listing by workers in threads, whose heads are viewed while they settle.
-ghost use Rattle.std.specs.Prelude.{◌≡◌, ◌⊎◌, List, ◌++◌, None, Some};
+ghost use Rattle.std.specs.Prelude.{◌≡◌, ◌⊎◌, List, ◌++◌, None, Some, false};
 ghost use Rattle.outside.specs.Counts.{Rose};
 ghost use Rattle.outside.specs.Puts.{Put};
 ghost use Rattle.outside.specs.declared.traits.SinkError.TheVariants.{Write};
@@ -39,6 +39,7 @@ fn put_shown<R: Threads + Sync, K: Sink + Send, V: StepViewer + Send, G: Gate + 
     requires task { IsTask task.now }
     requires plan { IsPlan plan }
     requires rounds { plan.rounds ≡ task.now.rounds }
+    requires plain { task.now.quick ≡ false }
     requires goes_on { V.stop viewer.old ≡ None }
     ensures puts { (start : _) (puts : List Put) → K.leads start puts out.old →
         (more : List Put) × K.leads start (puts ++ more) out.new
@@ -77,6 +78,7 @@ fn put_texts<R: Threads + Sync, K: Sink + Send, W: Sink + Send, X: ViewText + Sy
     requires task { IsTask task.now }
     requires plan { IsPlan plan }
     requires rounds { plan.rounds ≡ task.now.rounds }
+    requires plain { task.now.quick ≡ false }
     requires text { X.text text.now ≡ lines_of task.now.decks.first.grid }
     ensures puts { (start : _) (puts : List Put) → K.leads start puts out.old →
         (more : List Put) × K.leads start (puts ++ more) out.new
@@ -102,6 +104,7 @@ pub(crate) fn put_watched<R: Threads + Sync, K: Sink + Send, W: Sink + Send, G: 
     requires task { IsTask task.now }
     requires plan { IsPlan plan }
     requires rounds { plan.rounds ≡ task.now.rounds }
+    requires plain { task.now.quick ≡ false }
     ensures puts { (start : _) (puts : List Put) → K.leads start puts out.old →
         (more : List Put) × K.leads start (puts ++ more) out.new
         × IsRun (IsListingBeside (Rose (W.seen side.old).faults (W.seen side.new).faults) task.now) (IsCutListing task.now) result more
