@@ -2,7 +2,8 @@
 program bad files, failing reads and writes, and little memory.
 
 A deck is a map from names to bytes. The listings are those of an exact solution by hand: nothing here came from the
-program.
+program. Of a quick run the listing isn't promised; those here are by its method, as it is written down: balanced heads less
+the whole room.
 """
 import os
 import re
@@ -81,6 +82,25 @@ THREE_STEPS = deck("1", "1", "10", "3 3 1 TR", ("CONSTANT 1", "CONSTANT 1", "CON
 THREE_STEPS_PUTS = [FIRST, *(step(n, [twice(head)], {"STORAGE": FLOW_5}, {"WELLS": FLOW_5})
                              for n, head in [(1, "5.000000000"), (2, "0.000000000"), (3, "-5.000000000")]), LAST]
 
+# A quick run moves each balanced head outwards by the room: a rounding of 10^-9 times the conductances at the cell, over what
+# holds the cell. Where all neighbours are constant heads that is one unit; and each step begins with the room of the one before. No
+# head passes the barrier: where a well takes from storage alone, the lower heads are the floor, the least old head less Q / C.
+def around(whole, units, places=9):
+    """The pair of a whole number above 0 less and more units of 10^-9, with so many places."""
+    zeros = "0" * (places - 9)
+    return f"{whole - 1}.{10**9 - units:09d}{zeros}", f"{whole}.{units:09d}{zeros}"
+
+
+QUICK_STEP = step(1, [twice("10.000000000"), around(15, 1), twice("20.000000000")],
+                  {"CONSTANT HEAD": around(5, 1, 21)}, {"CONSTANT HEAD": around(5, 1, 21)})
+QUICK_PUTS = [FIRST, QUICK_STEP, LAST]
+QUICK_STEPS = [(("5.000000000", "5.000000001"), ("4.999999999", "5.000000000")),
+               (("0.000000000", "0.000000002"), ("4.999999998", "5.000000001")),
+               (("-5.000000000", "-4.999999997"), ("4.999999997", "5.000000002"))]
+QUICK_STEPS_PUTS = [FIRST, *(step(n, [head], {"STORAGE": tuple(f"{flow}{'0' * 12}" for flow in storage)}, {"WELLS": FLOW_5})
+                             for n, (head, storage) in enumerate(QUICK_STEPS, 1)), LAST]
+
+
 def second(files, letter="b"):
     """The same files under names that begin with another letter."""
     return {name.replace("a.", f"{letter}."): content.replace(b"a.", b"%c." % ord(letter)) for name, content in files.items()}
@@ -96,6 +116,15 @@ TWO_DECKS_STEP = step(1, [(f"{low}.000000000", f"{low + 1}.000000000") for low i
 TWO_DECKS_PUTS = [TWO_DECKS_FIRST, TWO_DECKS_STEP, LAST]
 TWO_DECKS_VIEW = rb"WATCH 1 1\nHEAD 1 1 2 (1\d\.\d{9}) ((?:1\d|20)\.\d{9}|21\.000000000)\n"
 TWO_DECKS_ZONES_PUTS = [TWO_DECKS_FIRST, TWO_DECKS_STEP + text("ZONE 1 2 -6.000000000000000000000 -4.000000000000000000000"), LAST]
+
+def units_apart(low, high, units, places):
+    return around(low, units, places)[0], around(high, units, places)[1]
+
+
+QUICK_4_TO_6 = units_apart(4, 6, 1, 21)
+TWO_DECKS_QUICK_STEP = step(1, [("10.000000000", "11.000000000"), units_apart(15, 16, 1, 9), ("20.000000000", "21.000000000")],
+                            {"CONSTANT HEAD": QUICK_4_TO_6}, {"CONSTANT HEAD": QUICK_4_TO_6})
+TWO_DECKS_QUICK_PUTS = [TWO_DECKS_FIRST, TWO_DECKS_QUICK_STEP + text("ZONE 1 2 -6.000000001000000000000 -3.999999999000000000000"), LAST]
 
 MADE = text("MADE 1 1", "STEPS 4", "HEADS 8", "WIDEST 0.000000000", "LOWSUM 79.840750000", "HIGHSUM 79.840750000", "END")
 
@@ -139,6 +168,7 @@ COMMANDS = [
     Command("check a.nam lz.txt --zones z.txt", reading_order("a.nam", "a.dis", "a.bas", "a.lpf", "z.txt", "lz.txt"), [text("CERTIFIED")]),
     Command("batch list.txt", reading_order("list.txt", "a.nam", "a.dis", "a.bas", "a.lpf"), [text("MODEL a.nam") + b"".join(THREE_CELLS_PUTS), LAST]),
     Command("run a.nam --watch 2", reading_order("a.nam", "a.dis", "a.bas", "a.lpf"), THREE_CELLS_PUTS, side=rb"(?:(?:%s){2})+" % VIEW),
+    Command("run a.nam --quick", reading_order("a.nam", "a.dis", "a.bas", "a.lpf"), QUICK_PUTS),
     Command("run a.nam --to b.nam", TWO_DECKS, TWO_DECKS_PUTS),
     Command("check a.nam l.txt --to b.nam", TWO_DECKS | {"l.txt": b"".join(TWO_DECKS_PUTS)}, [text("CERTIFIED")]),
 ]
@@ -149,7 +179,7 @@ BATCH_PUTS = [text("MODEL a.nam") + b"".join(THREE_CELLS_PUTS), text("MODEL none
               text("MODEL b.nam") + b"".join(FOUR_CELLS_PUTS), LAST]
 
 # Further decks: a batch, heads of thirds, three steps, a listing of thirds that is checked, two decks with zones, with views, and with
-# another conductivity in the second, and an array in a file of its own.
+# another conductivity in the second, an array in a file of its own, and quick runs of three steps, of a batch and of two decks.
 FURTHER = [
     Command("batch list.txt --workers 2", BATCH, BATCH_PUTS, status=2, opens=10),
     Command("run a.nam --workers 3", FOUR_CELLS, FOUR_CELLS_PUTS),
@@ -160,6 +190,10 @@ FURTHER = [
     Command("run a.nam --to b.nam", THREE_CELLS | second(deck(flow=("CONSTANT 2", "CONSTANT 1"))),
             [text("REFUSED 28 NotAlike b.lpf 0 1 1 1")], status=2),
     Command("run a.nam", deck(flow=("OPEN/CLOSE hk.txt 1 (FREE)", "CONSTANT 1")) | {"hk.txt": text("3*1")}, THREE_CELLS_PUTS),
+    Command("run a.nam --quick", THREE_STEPS, QUICK_STEPS_PUTS),
+    Command("batch list.txt --quick", reading_order("list.txt", "a.nam", "a.dis", "a.bas", "a.lpf"),
+            [text("MODEL a.nam") + b"".join(QUICK_PUTS), LAST]),
+    Command("run a.nam --to b.nam --zones z.txt --quick", TWO_DECKS | {"z.txt": ZONES["z.txt"]}, TWO_DECKS_QUICK_PUTS),
 ]
 
 
