@@ -15,6 +15,7 @@ from typing import Iterable
 
 from .explain import explain
 from .listing import read_listing
+from .made_by import keep_words
 from .program import digits_of, direct_program, end_of, has_steps, program, run, settle_output
 from .text import Problem, counted, decimal_text, read_text, whole_file, words
 
@@ -94,8 +95,8 @@ def new_output(job: Job, before: list[tuple[int, int] | None]) -> Path | None:
 
 
 def collect(jobs: list[Job], before: list[list[tuple[int, int] | None]], options: list[str], table: Path) -> int:
-    """Prints how each model ended, writes it as a table, and gives the first status that isn't 0. A listing that was
-    there `before` isn't this batch's: its model has not run."""
+    """Prints how each model ended, writes it as a table, keeps the words of whole listings beside them, and gives the
+    first status that isn't 0. A listing that was there `before` isn't this batch's: its model has not run."""
     first = 0
     with whole_file(table) as file:
         file.write("model,status,last_line,steps,cells,widest\n")
@@ -106,6 +107,7 @@ def collect(jobs: list[Job], before: list[list[tuple[int, int] | None]], options
             steps = cells = width = ""
             if meaning.is_good:
                 listing = read_listing(job.listing)
+                keep_words(job.listing, job.nam.name, options)
                 steps, cells, width = (
                     len(listing.steps),
                     len(listing.cells),
@@ -207,7 +209,7 @@ status=$?
 if [ -s "$OUT" ] && grep -q -m 1 "^STEP " "$OUT" && ! grep -q -m 1 "^STEP " ".$OUT.new"; then
     mv ".$OUT.new" "$OUT.end"
 else
-    mv ".$OUT.new" "$OUT" && rm -f "$OUT.end"
+    mv ".$OUT.new" "$OUT" && rm -f "$OUT.end" "$OUT.run"
 fi
 exit $status
 """

@@ -39,16 +39,24 @@ def size_of(nam: Path) -> tuple[int | None, int]:
     return sum(p.nstp for p in reader.deck.periods) or None, reader.deck.cells
 
 
+def quick_of(args: argparse.Namespace) -> list[str]:
+    """The word of a quick run, where it is asked for."""
+    from .made_by import QUICK
+
+    return [QUICK] if args.quick else []
+
+
 def do_run(args: argparse.Namespace, options: list[str]) -> int:
     from .explain import explain
     from .follow import MOST_WATCHED
     from .inside import careful
+    from .made_by import made_by
     from .program import digits_of, run, summary
     from .spans import second_deck, target_of
 
     nam = existing(args.nam)
     to = second_deck(nam, args.to)
-    options = [*options, *to]
+    options = [*options, *to, *quick_of(args)]
     for warning in dict.fromkeys(w for deck in (nam, *(nam.with_name(name) for name in to[1:])) for w in careful(deck)):
         print(f"CAREFUL: {warning}", file=sys.stderr)
     out = (args.out or target_of(nam, to)).resolve()
@@ -68,6 +76,7 @@ def do_run(args: argparse.Namespace, options: list[str]) -> int:
         say(
             [
                 *meaning.lines,
+                *([made_by(out)] if args.quick else []),
                 summary(out),
                 f"listing {out} ({ended.seconds:.1f} s" + (f", --digits {digits})" if tried else ")"),
             ]
@@ -330,14 +339,14 @@ def do_exhibit(args: argparse.Namespace, options: list[str]) -> int:
     from .spans import second_deck
 
     nam = existing(args.nam)
-    return exhibit(nam, args.folder, [*options, *second_deck(nam, args.to)])
+    return exhibit(nam, args.folder, [*options, *second_deck(nam, args.to), *quick_of(args)])
 
 
 def do_batch(args: argparse.Namespace, options: list[str]) -> int:
     from .batch import batch
 
     way = "slurm" if args.slurm else "parallel" if args.parallel else "here"
-    return batch(existing(args.list), options, way, args.jobs, args.write_only)
+    return batch(existing(args.list), [*options, *quick_of(args)], way, args.jobs, args.write_only)
 
 
 def do_version(args: argparse.Namespace, _: list[str]) -> int:

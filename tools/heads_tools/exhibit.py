@@ -20,10 +20,11 @@ from .listing import read_listing
 from .look import look, title_of
 from .model import Model, read_model
 from .packages import read_deck
-from .program import TOP, Ended, Version, beside, digits_of, files_of, sha256, version
+from .made_by import is_quick, keep_words, kind_of
+from .program import TOP, Ended, Version, beside, digits_of, files_of, version
 from .spans import target_of, what_differs
 from .spelling import quoted_words
-from .text import Problem, on_disk, read_text, whole_file, words
+from .text import Problem, on_disk, read_text, sha256, whole_file, words
 from .verdict import Verdict, has_zones, program_file
 from .what_is_said import Words, words_of
 from .zones import read_zones
@@ -117,14 +118,21 @@ def fill(folder: Path, name: str, options: list[str], known: Version) -> tuple[i
     told.facts.append(("run", f"({deck}) > {listing}: status {ended.status}, last line {ended.last}"))
     status = ended.status
     if meaning.is_good:
+        keep_words(folder / listing, name, options)
+        told.facts.append(("pairs", kind_of(options)))
         status = add_verdicts(told, folder, name, listing, options, known)
-        told.commands.append(f"({deck}) | cmp - {shlex.quote(listing)} && echo SAME")
+        told.commands += same_bytes(deck, listing, options)
         add_written(told, folder, name, listing, options)
     else:
         told.facts += [("meaning", line.strip()) for line in meaning.lines]
     told.commands.insert(0, "sha256sum -c SHA256SUMS")
     told.facts += program_facts(known)
     return status, told
+
+
+def same_bytes(run: str, listing: str, options: list[str]) -> list[str]:
+    """The command that runs again and compares bytes; none of a quick run, of which the same bytes aren't promised."""
+    return [] if is_quick(options) else [f"({run}) | cmp - {shlex.quote(listing)} && echo SAME"]
 
 
 def add_verdicts(told: Exhibit, folder: Path, name: str, listing: str, options: list[str], known: Version) -> int:
@@ -172,8 +180,8 @@ def add_written(told: Exhibit, folder: Path, name: str, listing: str, options: l
     for file, content in files.items():
         (folder / "written" / file).write_bytes(content)
     copy_files(zone_files(folder / "deck", options), folder / "deck", folder / "written")
-    run = f"(cd written && ../heads run {shlex.join(['p.nam', *options])})"
-    told.commands += [f"{write} | cmp - written.txt && echo SAME", f"{run} | cmp - {shlex.quote(listing)} && echo SAME"]
+    run = f"cd written && ../heads run {shlex.join(['p.nam', *options])}"
+    told.commands += [f"{write} | cmp - written.txt && echo SAME", *same_bytes(run, listing, options)]
     told.facts.append(("written", ONE_SPELLING))
 
 

@@ -7,6 +7,7 @@ from pathlib import Path
 
 from .advice import NO_BOUNDS, NOT_ALIKE, ONLY_PRINT, OTHER_PACKAGES, OUT_OF_RANGE, REFUSALS, REMEDIES, UNKNOWN_PACKAGE
 from .deck import COLUMNS
+from .made_by import made_by
 from .sources import odd_bytes
 from .spans import ALL_BETWEEN
 from .spelling import NUMBER
@@ -19,14 +20,15 @@ STATUSES = {
         "The words weren't taken.",
         (
             "Commands: run NAME, check NAME LISTING, make SEED SIZE, batch LIST; --digits 0 to 18, --workers 1 to 64,"
-            " --rounds 1 to 4000000000, --zones FILE, --watch 1 to 1000, --to NAME. A program older than --zones,"
-            " --watch, --to or batch answers them so too."
+            " --rounds 1 to 4000000000, --zones FILE, --watch 1 to 1000, --to NAME, --quick (run and batch, without"
+            " --watch). A program older than --zones, --watch, --to, --quick or batch answers them so too."
         ),
     ),
     "UNFINISHED": (
         4,
         "Period {0}, step {1} needs more rounds than were allowed.",
-        "Leave --rounds out; or `heads-tools certify`, which needs no rounds.",
+        "Leave --rounds out; or --quick, which settles a step only where no guessed pair passes the test; or"
+        " `heads-tools certify`, which needs no rounds.",
     ),
     "READFAULT": (5, "A file could not be read.", "Look at its permissions, and at the disk."),
     "MEMORY": (
@@ -75,11 +77,13 @@ class Spot:
 
 
 def explain_output(output: Path, folder: Path, digits: int | None = None) -> Meaning:
-    """The meaning of the last line of an output file."""
+    """The meaning of the last line of an output file, and which pairs it has where the words of its run are kept."""
     lines = read_text(output).splitlines()
     if lines and lines[0].startswith("MODEL "):
         return explain_batch(lines, folder, digits)
-    return explain_lines(lines, folder, digits)
+    meaning = explain_lines(lines, folder, digits)
+    told = made_by(output) if meaning.is_good else ""
+    return Meaning(meaning.status, meaning.is_good, [*meaning.lines, *([told] if told else [])])
 
 
 def explain_batch(lines: list[str], folder: Path, digits: int | None) -> Meaning:

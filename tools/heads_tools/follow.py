@@ -8,16 +8,19 @@ from typing import IO
 
 from .text import decimal_text
 
-SLOW = 10.0
+SLOW, LONG = 10.0, 60.0
+HINT = ", over a minute: --quick takes a few solves, for wider pairs"
 MOST_WATCHED = 2_000_000
 
 
 class Progress:
-    """One line on standard error, how far a run is: the step, the widest pair so far, the time; and of a step
-    that takes over ten seconds the phase, how many cells still move and its time so far."""
+    """One line on standard error, how far a run is: the step, the widest pair so far, the time; of a step that takes
+    over ten seconds the phase, how many cells still move and its time so far; and of one that takes over a minute that
+    a quick run may be enough, where this is none."""
 
-    def __init__(self, name: str, steps: int | None):
+    def __init__(self, name: str, steps: int | None, is_quick: bool = False):
         self.name, self.steps, self.began, self.told = name, steps, time.monotonic(), 0.0
+        self.is_quick = is_quick
         self.count, self.widest, self.is_live = 0, 0, sys.stderr.isatty()
         self.step_began, self.views, self.place = self.began, 0, ""
         self.view: list[bytes] = []
@@ -96,9 +99,9 @@ class Progress:
         moving = (
             "" if self.moving is None else f"phase {self.views}, {self.moving} of {len(self.view)} cells still move, "
         )
-        self.show(
-            f"{self.name}: step {self.count + 1}{of}{where}: {moving}{time.monotonic() - self.step_began:.0f} s so far"
-        )
+        seconds = time.monotonic() - self.step_began
+        hint = HINT if seconds > LONG and not self.is_quick else ""
+        self.show(f"{self.name}: step {self.count + 1}{of}{where}: {moving}{seconds:.0f} s so far{hint}")
 
     def end(self) -> None:
         self.ended.set()

@@ -82,4 +82,5 @@ def finish(it: Look) -> list[str]:
     write_tables(it.listing, it.folder, it.model.times if it.model else None)
     it.tell_facts()
     write_page(it.page, it.folder)
-    return [it.verdict.sentence, f"{it.listing.summary()} in {it.unit}", *it.page.sentences]
+    told = [it.made_by] if it.made_by else []
+    return [it.verdict.sentence, f"{it.listing.summary()} in {it.unit}", *told, *it.page.sentences]

@@ -9,6 +9,7 @@ import numpy as np
 
 from . import __version__
 from .listing import Listing, Step
+from .made_by import made_by
 from .model import Model, value
 from .page import Page
 from .pictures import Album, Cell, Plan, plan_of
@@ -61,6 +62,7 @@ class Looking:
         )
         self.page.is_good = True if self.verdict.is_certified else None if self.verdict.status is None else False
         self.page.rooms = {room: [] for room in ROOMS}
+        self.made_by = made_by(listing.path)
         self.album = Album(folder, has_svg)
         self.jobs: list[Callable[[], None]] = []
 
@@ -97,6 +99,8 @@ class Looking:
     def tell_facts(self) -> None:
         listing = self.listing
         facts = [("Listing", f"{listing.path.name}, --digits {listing.digits}: {listing.summary()} in\u00a0{self.unit}")]
+        if self.made_by:
+            facts.append(("Pairs", self.made_by))
         if self.model:
             facts.append(
                 (

@@ -2,7 +2,6 @@
 from __future__ import annotations
 
 import functools
-import hashlib
 import os
 import re
 import shutil
@@ -15,7 +14,8 @@ from pathlib import Path
 
 from .follow import Progress
 from .listing import read_listing
-from .text import Problem, whole_file
+from .made_by import drop_words, is_quick, keep_words
+from .text import Problem, sha256, whole_file
 
 TOP = Path(__file__).resolve().parents[2]
 BIN = Path(__file__).resolve().parent / "bin"
@@ -59,10 +59,6 @@ def direct_program() -> Path:
     """The program for many calls: the kept one where the checkout's script would run it, as one call of
     scripts/check_dist says; the script itself hashes its sources at each call."""
     return direct(program())
-
-
-def sha256(path: Path) -> str:
-    return hashlib.sha256(Path(path).read_bytes()).hexdigest()
 
 
 @dataclass
@@ -170,6 +166,7 @@ def settle_output(new: Path, target: Path) -> Path:
     os.replace(new, place)
     if place == target:
         end_of(target).unlink(missing_ok=True)
+        drop_words(target)
     return place
 
 
@@ -181,9 +178,10 @@ def run(
     is_told: bool = True,
     is_followed: bool = False,
 ) -> Ended:
-    """Runs `heads run` in the model's folder into a file, which gets its name once the run ended (settle_output). What
-    --watch writes goes into a file beside it; a run that `is_followed` is watched for what to say of a slow step."""
-    progress = Progress(nam.name, steps)
+    """Runs `heads run` in the model's folder into a file, which gets its name once the run ended (settle_output); the
+    words that made a whole listing are kept beside it. What --watch writes goes into a file beside it; a run that
+    `is_followed` is watched for what to say of a slow step, where the words allow it."""
+    progress = Progress(nam.name, steps, is_quick(options))
     began, last, count = time.monotonic(), b"", 0
     is_watched = any(o.startswith("--watch") for o in options)
     new = target.with_name(f".{target.name}.new")
@@ -191,7 +189,7 @@ def run(
         whole_file(new, binary=True) as file,
         open(target.with_suffix(".watch"), "wb") if is_watched else nullcontext() as side,
     ):
-        is_followed = is_followed and is_told and not is_watched
+        is_followed = is_followed and is_told and not is_watched and not is_quick(options)
         words = [program(), "run", nam.name, *options, *(["--watch", "1"] if is_followed else [])]
         process = subprocess.Popen(
             words, cwd=nam.parent, stdout=subprocess.PIPE, stderr=subprocess.PIPE if is_followed else side
@@ -217,7 +215,10 @@ def run(
         status = process.wait()
     if is_told:
         progress.end()
-    return Ended(status, last.decode("latin-1").strip(), time.monotonic() - began, count, settle_output(new, target))
+    output = settle_output(new, target)
+    if status == 0:
+        keep_words(output, nam.name, options)
+    return Ended(status, last.decode("latin-1").strip(), time.monotonic() - began, count, output)
 
 
 def digits_of(options: list[str]) -> int:

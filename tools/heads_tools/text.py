@@ -1,6 +1,7 @@
 """Texts of files: words of lines, numbers of people, and files that are written whole or not at all."""
 from __future__ import annotations
 
+import hashlib
 import os
 import re
 import tempfile
@@ -42,6 +43,10 @@ def read_text(path: Path) -> str:
         raise Problem(f"there is no file {path}") from None
     except OSError as error:
         raise Problem(f"{path} can't be read: {error.strerror}") from None
+
+
+def sha256(path: Path) -> str:
+    return hashlib.sha256(Path(path).read_bytes()).hexdigest()
 
 
 @contextmanager

@@ -7,9 +7,9 @@ from dataclasses import dataclass
 from pathlib import Path
 
 from .listing import Listing
-from .program import TOP, call, program, sha256
+from .program import TOP, call, program
 from .spans import ALL_BETWEEN, demand_decks
-from .text import Problem
+from .text import Problem, sha256
 
 CERTIFIED = "CERTIFIED"
 ALL_EXACT = "Every exact solution of the model's equations lies between the listed numbers."

@@ -24,10 +24,10 @@ def test_a_wrong_option_leaves_the_listing(ran, tool):
     nam, listing, text = ran
     status, out, err = tool("run", nam, "--digits", "99")
     assert status == 1 and "was left" in out and listing.read_text() == text
-    assert files(nam.parent) == ["a.heads", "a.heads.end"] and (nam.parent / "a.heads.end").read_text().startswith(
+    assert files(nam.parent) == ["a.heads", "a.heads.end", "a.heads.run"] and (nam.parent / "a.heads.end").read_text().startswith(
         "USAGE"
     )
-    assert tool("run", nam)[0] == 0 and files(nam.parent) == ["a.heads"]
+    assert tool("run", nam)[0] == 0 and files(nam.parent) == ["a.heads", "a.heads.run"]
 
 
 def test_a_refused_model_leaves_the_listing_and_without_one_it_is_the_output(ran, tool):
@@ -51,7 +51,7 @@ def test_a_batch_leaves_listings_and_says_how_each_model_ended(way, ran, tool, t
     assert status == 1 and listing.read_text() == text, out + err
     assert "weren't taken" in out and "an earlier run" in out
     status, out, err = tool("batch", tmp_path / "my list.txt", *way)
-    assert status == 0 and "a.nam: END" in out and files(nam.parent) == ["a.heads"], out + err
+    assert status == 0 and "a.nam: END" in out and files(nam.parent) == ["a.heads", "a.heads.run"], out + err
 
 
 def stand_in(folder, monkeypatch):
