@@ -1,6 +1,6 @@
 -- Flags, arrays of one layer, and arrays of layers are read as written.
 use Rattle.area_text.proofs.Common.{◌≡◌, ℕ, zero, suc, ◌+◌, ◌^◌, ◌<◌, ◌≤◌, Bool, true, false, ◌&&◌, nat_lt, nat_le, if◌then◌else◌, List, [], ◌∷◌, ◌++◌, length}
-use Rattle.area_text.proofs.Common.{drop, All, Ok, refl, arith, ℤ, pos, negsuc, codes, All-from_recursion, Dec, File, is_comment, counted, Grid, HasSize}
+use Rattle.area_text.proofs.Common.{drop, All, Ok, refl, arith, ℤ, pos, negsuc, codes, All-from_recursion, Dec, FileSet, is_comment, counted, Grid, HasSize}
 use Rattle.area_text.proofs.Common.{is_int, real_layer, array_or, flag_at, flag_if, is_option, option_at, IsReals, IsWhole, IsShort, IsWord, integer_word, Line}
 use Rattle.area_text.proofs.Common.{IsLine, number_after, unread, real_array, integer_array, integer_is_word, word_by_test, integer_item, AreLines, no_lines}
 use Rattle.area_text.proofs.Common.{decimal_is_item, IsLayers}
@@ -74,7 +74,7 @@ layers_are_lines g option xs size h = by_case (is_int option 2) h.whole
 pub reals_are_lines : (g : Grid) (xs : List Dec) → HasSize g → IsReals g xs → AreLines (real_array g.rows g.cols xs)
 reals_are_lines g xs size h = record { all = are_lines.layers g.rows g.cols xs size.cols.0 h.0 h.1 }
 
-module _ (files : List File) (file : List ℕ) (g : Grid) (size : HasSize g) where
+module _ (files : FileSet) (file : List ℕ) (g : Grid) (size : HasSize g) where
   pub reals_read : (xs : List Dec) → IsReals g xs → (last : List Dec) (n : ℕ) (others : List Line)
       → array_or (real_layer files file g.rows g.cols) true last (unread n (real_array g.rows g.cols xs ++ others)) ≡ Ok (xs, unread (number_after n (real_array g.rows g.cols xs)) others)
   reals_read xs h last n others = (arrays.layers files file g.rows g.cols xs size.cols.0 h.0 h.1).reads n others

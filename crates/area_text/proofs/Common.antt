@@ -15,7 +15,7 @@ pub use Rattle.decimal_input.specs.declared.dec.Dec.{Dec}
 pub use Rattle.model_types.specs.Grids.{HasSize}
 pub use Rattle.model_types.specs.Receivers.{is_int}
 pub use Rattle.model_types.specs.declared.grid.Grid.{Grid}
-pub use Rattle.outside.specs.Files.{File}
+pub use Rattle.outside.specs.Files.{FileSet}
 pub use Rattle.package_text.proofs.CountTexts.{integer_item, zero_item}
 pub use Rattle.package_text.proofs.DisTexts.{AreLines, decimal_is_item, file_begins, joined, line_is_item, no_lines, one_line}
 pub use Rattle.period_arrays.specs.Areas.{array_or, nothing_yet}

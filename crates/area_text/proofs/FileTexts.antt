@@ -1,6 +1,6 @@
 -- The files of RCH and EVT are read as written.
 use Rattle.area_text.proofs.Common.{◌≡◌, ℕ, ℤ, Bool, true, false, if◌then◌else◌, List, [], ◌∷◌, ◌++◌, append_assoc, length, All, Ok, refl, arith, codes}
-use Rattle.area_text.proofs.Common.{All-head, All-tail, Dec, File, next_number, for_each, Grid, HasSize, is_int, real_layer, area_at, array_or, arrays_of}
+use Rattle.area_text.proofs.Common.{All-head, All-tail, Dec, FileSet, next_number, for_each, Grid, HasSize, is_int, real_layer, area_at, array_or, arrays_of}
 use Rattle.area_text.proofs.Common.{nothing_yet, flags_of, is_option, IsReals, integer_word, Line, IsLine, line_text, text, number_after, unread, real_array}
 use Rattle.area_text.proofs.Common.{line_by_test, zero_item, AreLines, no_lines, one_line, joined, file_begins, line_is_item, IsEvaporating, IsLayers}
 use Rattle.area_text.proofs.Common.{IsRecharged, with_areas}
@@ -66,7 +66,7 @@ record Lacks (kind : ArrayKind) (option : ℤ) (last : InForce) : Type 0 where
   depths : kind.evaporates ≡ false → last.area.depths ≡ []
   layers : is_int option 2 ≡ false → last.area.layers ≡ []
 
-module _ (kind : ArrayKind) (files : List File) (file : List ℕ) (g : Grid) (size : HasSize g) (ibound : List ℤ) (option : ℤ) (good : is_option option ≡ true) where
+module _ (kind : ArrayKind) (files : FileSet) (file : List ℕ) (g : Grid) (size : HasSize g) (ibound : List ℤ) (option : ℤ) (good : is_option option ≡ true) where
   abbrev reals_if : Bool → List Dec → List Line
   reals_if present xs = if present then real_array g.rows g.cols xs else []
 
@@ -193,7 +193,7 @@ module _ (kind : ArrayKind) (files : List File) (file : List ℕ) (g : Grid) (si
       let each = rw end at (each_reads before ps e can nothing_yet none (next_number 1) []) in
       rw (start, head_reads 1 tail, each) refl
 
-module _ (files : List File) (file : List ℕ) (m : FlowModel) (size : HasSize m.grid) where
+module _ (files : FileSet) (file : List ℕ) (m : FlowModel) (size : HasSize m.grid) where
   rain_is_writable : IsRecharged m → (ibound : List ℤ) → All (λ p. IsWritable recharge_arrays file m.grid ibound m.nrchop (recharge_arrays.area p.stresses)) m.periods
   rain_is_writable h ibound = λ k d lt. record {
     surfaces = λ e. absurd (let clash : false ≡ true = e in cc);

@@ -1,7 +1,7 @@
 -- An array that is read has a value for each place.
 use Rattle.array_forms.proofs.Common.{◌≡◌, ℕ, ◌*◌, ℤ, List, [], ◌∷◌, length, replicate, All, Result, Ok, Err, refl, arith, length-replicate, All-replicate}
 use Rattle.array_forms.proofs.Common.{NumFault, IsDec, Refusal, Left, left_from, Kind, real, whole, multiplied, free_rows, ArraysHaveForm}
-use Rattle.outside.specs.Files.{File}
+use Rattle.outside.specs.Files.{FileSet}
 use Rattle.outside.specs.Inputs.{file_at}
 use Rattle.outside.specs.Refusals.{refusal}
 use Rattle.outside.specs.declared.codes.Code.TheVariants.{BadControl}
@@ -70,7 +70,7 @@ module _ {X : Type 0} (read : List ℕ → Result X NumFault) (P : X → Type 0)
       by_keyword (keyword a.item.0) a.item.1 c a.then_
 
 module _ {X : Type 0} (kind : Kind X) (P : X → Type 0) (form : (w : List ℕ) (x : X) → kind.reading w ≡ Ok x → P x)
-    (scaled : (by : X) (w : List ℕ) (x : X) → multiplied kind by w ≡ Ok x → P x) (files : List File) (file : List ℕ) where
+    (scaled : (by : X) (w : List ℕ) (x : X) → multiplied kind by w ≡ Ok x → P x) (files : FileSet) (file : List ℕ) where
   values_are : (rows cols : ℕ) (left after : Left) (c : Control X) (xs : List X) → Stands P c → values_of kind files file rows cols left c ≡ Ok (xs, after) → (length xs ≡ rows * cols) × All P xs
   values_are rows cols left after (constant value) xs stands h =
       ends {E = Refusal} (λ (y : List X × Left). (length y.0 ≡ rows * cols) × All P y.0) (replicate (rows * cols) value, left) (xs, after) h (length-replicate (rows * cols) value, All-replicate P (rows * cols) value stands)

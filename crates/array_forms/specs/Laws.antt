@@ -2,7 +2,7 @@
 use Rattle.std.specs.Prelude.{◌≡◌, ℕ, ◌*◌, ℤ, List, All, length, Result, Ok}
 use Rattle.decimal_input.specs.declared.dec.Dec.{Dec}
 use Rattle.decimal_input.specs.Canonical.{IsDec}
-use Rattle.outside.specs.Files.{File}
+use Rattle.outside.specs.Files.{FileSet}
 use Rattle.outside.specs.declared.refusals.Refusal.{Refusal}
 use Rattle.record_lines.specs.Layout.{Left}
 use Rattle.array_reader.specs.Numbers.{number, integer}
@@ -31,10 +31,10 @@ pub record ListsHaveForm : Type 0 where
 
 -- a list, a layer of numbers, and one of integers; and the layers of a grid, of numbers and of integers
 pub record ArraysHaveForm : Type 0 where
-  pub lists : (files : List File) (file : List ℕ) (count : ℕ) → Gives (reals files file count) (Are count IsDec)
-  pub real_layers : (files : List File) (file : List ℕ) (rows cols : ℕ) → Gives (real_layer files file rows cols) (Are (rows * cols) IsDec)
-  pub integer_layers : (files : List File) (file : List ℕ) (rows cols : ℕ) → Gives (integer_layer files file rows cols) (λ xs. length xs ≡ rows * cols)
-  pub real_grids : (files : List File) (file : List ℕ) (count rows cols : ℕ) →
+  pub lists : (files : FileSet) (file : List ℕ) (count : ℕ) → Gives (reals files file count) (Are count IsDec)
+  pub real_layers : (files : FileSet) (file : List ℕ) (rows cols : ℕ) → Gives (real_layer files file rows cols) (Are (rows * cols) IsDec)
+  pub integer_layers : (files : FileSet) (file : List ℕ) (rows cols : ℕ) → Gives (integer_layer files file rows cols) (λ xs. length xs ≡ rows * cols)
+  pub real_grids : (files : FileSet) (file : List ℕ) (count rows cols : ℕ) →
       Gives (layers real files file count rows cols) (Are (count * (rows * cols)) IsDec)
-  pub integer_grids : (files : List File) (file : List ℕ) (count rows cols : ℕ) →
+  pub integer_grids : (files : FileSet) (file : List ℕ) (count rows cols : ℕ) →
       Gives (layers whole files file count rows cols) (λ xs. length xs ≡ count * (rows * cols))

@@ -4,7 +4,6 @@ use Rattle.array_reader.proofs.Common.{Left, Numbered, repeated, Taking, beginni
 use Rattle.array_reader.proofs.Common.{value_held, word_held, name_held, line_words, leaves, number_at, at_line, in_file, value_at, value_alone, free_list}
 use Rattle.array_reader.proofs.Common.{free_rows}
 use Rattle.outside.specs.Asking.{WordsMay}
-use Rattle.outside.specs.Inputs.{file_limit}
 use Rattle.outside.specs.Words.{words}
 use Rattle.array_reader.specs.Asking.{ControlMay}
 use Rattle.array_reader.specs.Control.{Control, keyword, format_at, constant_at, internal_at, named_at, of_keyword, control_at}
@@ -37,33 +36,33 @@ module _ {X : Type 0} (P : Numbered → Type 0) (read : List ℕ → Result X Nu
   unfolding free_rows
   rows_held rows cols left h = appended_held (λ l. All P l.lines) (free_list read file cols) (list_held cols) rows left h
 
-module _ {X : Type 0} (may : List ℕ → ℕ → Type 0) (read : List ℕ → Result X NumFault) (file : List ℕ) (line : ℕ) where
+module _ {X : Type 0} (may : List ℕ → Type 0) (read : List ℕ → Result X NumFault) (file : List ℕ) (line : ℕ) where
   by_keyword : (k : Keyword) (ws : List (List ℕ)) → WordsMay may ws → IfOk (of_keyword k read file line ws) (ControlMay {X = X} may)
   unfolding constant_at internal_at named_at
   by_keyword Constant ws h = after (ControlMay may) (number_at read file line ws) _ (λ value. tt)
   by_keyword Internal ws h = after (ControlMay may) (number_at read file line ws) _ (λ by. after (ControlMay may) (format_at file line by.1) _ (λ form. tt))
   by_keyword OpenClose ws h =
-      chain (λ x. may (folder_name x.0) file_limit × WordsMay may x.1) (ControlMay may) (word_at _ ws) _ (word_held may _ ws h)
-      (λ word hw. chain (λ n. may (folder_name n) file_limit) (ControlMay may) (name_at file line word.0) _ (name_held may file line word.0 hw.0)
+      chain (λ x. may (folder_name x.0) × WordsMay may x.1) (ControlMay may) (word_at _ ws) _ (word_held may _ ws h)
+      (λ word hw. chain (λ n. may (folder_name n)) (ControlMay may) (name_at file line word.0) _ (name_held may file line word.0 hw.0)
       (λ name hn. after (ControlMay may) (number_at read file line word.1) _ (λ by. after (ControlMay may) (format_at file line by.1) _ (λ form. hn))))
   by_keyword External ws h = tt
   by_keyword Other ws h = tt
 
   control_held : (ws : List (List ℕ)) → WordsMay may ws → IfOk (control_at read file line ws) (ControlMay {X = X} may)
   unfolding control_at
-  control_held ws h = chain (λ x. may (folder_name x.0) file_limit × WordsMay may x.1) (ControlMay may) (word_at _ ws) _ (word_held may _ ws h) (λ word hw. by_keyword (keyword word.0) word.1 hw.1)
+  control_held ws h = chain (λ x. may (folder_name x.0) × WordsMay may x.1) (ControlMay may) (word_at _ ws) _ (word_held may _ ws h) (λ word hw. by_keyword (keyword word.0) word.1 hw.1)
 
 -- the file that the control record of the next line names
-pub control_named : {X : Type 0} (may : List ℕ → ℕ → Type 0) (read : List ℕ → Result X NumFault) (file : List ℕ) (number : ℕ) (left rest : Left) (line : Numbered) (ws : List (List ℕ)) (c : Control X)
+pub control_named : {X : Type 0} (may : List ℕ → Type 0) (read : List ℕ → Result X NumFault) (file : List ℕ) (number : ℕ) (left rest : Left) (line : Numbered) (ws : List (List ℕ)) (c : Control X)
     → line_at file left ≡ Ok (line, rest) → ws ≡ words line.bytes → control_at read file number ws ≡ Ok c → LinesMay may left → ControlMay may c
 control_named may read file number left rest line ws c is all e h =
     given (ControlMay may) (control_at read file number ws) c e (control_held may read file number ws (rw all (line_words may file left rest line is h)))
 
 -- what is left after lists of values
-pub list_leaves : {X : Type 0} (may : List ℕ → ℕ → Type 0) (read : List ℕ → Result X NumFault) (file : List ℕ) (count : ℕ) (left rest : Left) (xs : List X)
+pub list_leaves : {X : Type 0} (may : List ℕ → Type 0) (read : List ℕ → Result X NumFault) (file : List ℕ) (count : ℕ) (left rest : Left) (xs : List X)
     → free_list read file count left ≡ Ok (xs, rest) → LinesMay may left → LinesMay may rest
 list_leaves may read file count left rest xs e h = leaves may (free_list read file count left) xs rest e (list_held (LineMay may) read file count left h.each)
 
-pub rows_leave : {X : Type 0} (may : List ℕ → ℕ → Type 0) (read : List ℕ → Result X NumFault) (file : List ℕ) (rows cols : ℕ) (left rest : Left) (xs : List X)
+pub rows_leave : {X : Type 0} (may : List ℕ → Type 0) (read : List ℕ → Result X NumFault) (file : List ℕ) (rows cols : ℕ) (left rest : Left) (xs : List X)
     → free_rows read file rows cols left ≡ Ok (xs, rest) → LinesMay may left → LinesMay may rest
 rows_leave may read file rows cols left rest xs e h = leaves may (free_rows read file rows cols left) xs rest e (rows_held (LineMay may) read file rows cols left h.each)

@@ -1,5 +1,5 @@
 ghost use Rattle.std.specs.Prelude.{◌≡◌, ◌*◌, length, IfOk, All, List};
-ghost use Rattle.outside.specs.Files.{File};
+ghost use Rattle.outside.specs.Files.{FileSet};
 ghost use Rattle.outside.specs.Folders.{ReadsOn};
 ghost use Rattle.record_lines.specs.Asking.{LinesMay};
 ghost use Rattle.record_lines.specs.Reading.{Gives};
@@ -31,7 +31,7 @@ fn values_of<V: Value, F: Folder>(
     requires lines { LinesMay (F.may folder.old) lines.old }
     ensures folder { ReadsOn F.Folder folder.old folder.new result }
     ensures lines { IfOk result (λ _. LinesMay (F.may folder.new) lines.new) }
-    ensures values { (files : List File) → F.agrees folder.new files →
+    ensures values { (files : FileSet) → F.agrees folder.new files →
         Gives (λ v. v.items) result lines.new
         (values_of V.kind files file.now rows cols lines.old (control_of control.now)) }
     ensures good { IfOk result (λ v. All V.Good v.items) }
@@ -64,7 +64,7 @@ pub fn read_array<V: Value, F: Folder>(
     requires lines { LinesMay (F.may folder.old) lines.old }
     ensures folder { ReadsOn F.Folder folder.old folder.new result }
     ensures lines { IfOk result (λ _. LinesMay (F.may folder.new) lines.new) }
-    ensures array { (files : List File) → F.agrees folder.new files →
+    ensures array { (files : FileSet) → F.agrees folder.new files →
         Gives (λ x. (x.0.items, x.1)) result lines.new (array_at V.kind files file.now rows cols lines.old) }
     ensures good { IfOk result (λ x. All V.Good x.0.items) }
     ensures count { IfOk result (λ x. length x.0.items ≡ rows * cols) }

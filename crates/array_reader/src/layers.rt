@@ -1,6 +1,6 @@
 ghost use Rattle.std.specs.Prelude.{◌≡◌, ◌*◌, length, IfOk, All, List};
 ghost use Rattle.decimal_input.specs.Canonical.{IsDec};
-ghost use Rattle.outside.specs.Files.{File};
+ghost use Rattle.outside.specs.Files.{FileSet};
 ghost use Rattle.outside.specs.Folders.{ReadsOn};
 ghost use Rattle.record_lines.specs.Asking.{LinesMay};
 ghost use Rattle.record_lines.specs.Reading.{Gives};
@@ -25,7 +25,7 @@ pub fn read_reals<F: Folder>(
     requires lines { LinesMay (F.may folder.old) lines.old }
     ensures folder { ReadsOn F.Folder folder.old folder.new result }
     ensures lines { IfOk result (λ _. LinesMay (F.may folder.new) lines.new) }
-    ensures array { (files : List File) → F.agrees folder.new files → Gives (λ v. v.items) result lines.new (reals files file.now count lines.old) }
+    ensures array { (files : FileSet) → F.agrees folder.new files → Gives (λ v. v.items) result lines.new (reals files file.now count lines.old) }
     ensures canonical { IfOk result (λ v. All IsDec v.items) }
     ensures count { IfOk result (λ v. length v.items ≡ count) }
 {
@@ -46,7 +46,7 @@ fn layer_array<V: Value, F: Folder>(
     requires lines { LinesMay (F.may folder.old) lines.old }
     ensures folder { ReadsOn F.Folder folder.old folder.new result }
     ensures lines { IfOk result (λ _. LinesMay (F.may folder.new) lines.new) }
-    ensures layer { (files : List File) → F.agrees folder.new files →
+    ensures layer { (files : FileSet) → F.agrees folder.new files →
         Gives (λ v. v.items) result lines.new (layer_array V.kind files file.now rows cols lines.old) }
     ensures good { IfOk result (λ v. All V.Good v.items) }
     ensures count { IfOk result (λ v. length v.items ≡ rows * cols) }
@@ -68,7 +68,7 @@ pub fn read_layer<F: Folder>(
     requires lines { LinesMay (F.may folder.old) lines.old }
     ensures folder { ReadsOn F.Folder folder.old folder.new result }
     ensures lines { IfOk result (λ _. LinesMay (F.may folder.new) lines.new) }
-    ensures array { (files : List File) → F.agrees folder.new files → Gives (λ v. v.items) result lines.new (real_layer files file.now rows cols lines.old) }
+    ensures array { (files : FileSet) → F.agrees folder.new files → Gives (λ v. v.items) result lines.new (real_layer files file.now rows cols lines.old) }
     ensures canonical { IfOk result (λ v. All IsDec v.items) }
     ensures count { IfOk result (λ v. length v.items ≡ rows * cols) }
 {
@@ -88,7 +88,7 @@ pub fn read_int_layer<F: Folder>(
     requires lines { LinesMay (F.may folder.old) lines.old }
     ensures folder { ReadsOn F.Folder folder.old folder.new result }
     ensures lines { IfOk result (λ _. LinesMay (F.may folder.new) lines.new) }
-    ensures array { (files : List File) → F.agrees folder.new files → Gives (λ v. v.items) result lines.new (integer_layer files file.now rows cols lines.old) }
+    ensures array { (files : FileSet) → F.agrees folder.new files → Gives (λ v. v.items) result lines.new (integer_layer files file.now rows cols lines.old) }
     ensures count { IfOk result (λ v. length v.items ≡ rows * cols) }
 {
     layer_array(alloc, lines, file, folder, rows, cols)
@@ -107,7 +107,7 @@ pub fn read_layers<V: Value, F: Folder>(
     requires lines { LinesMay (F.may folder.old) lines.old }
     ensures folder { ReadsOn F.Folder folder.old folder.new result }
     ensures lines { IfOk result (λ _. LinesMay (F.may folder.new) lines.new) }
-    ensures layers { (files : List File) → F.agrees folder.new files →
+    ensures layers { (files : FileSet) → F.agrees folder.new files →
         Gives (λ v. v.items) result lines.new (layers V.kind files file.now count rows cols lines.old) }
     ensures good { IfOk result (λ v. All V.Good v.items) }
     ensures count { IfOk result (λ v. length v.items ≡ count * (rows * cols)) }

@@ -3,7 +3,7 @@ use Rattle.array_text.proofs.Common.{◌≡◌, ℕ, zero, suc, ◌*◌, ◌≤�
 use Rattle.array_text.proofs.Common.{length-drop, length-map, take-append-drop, nil_from_length, All-nil, All-cons, All-take, All-drop, NumFault, next_number}
 use Rattle.array_text.proofs.Common.{appended, word_at, Kind, multiplied, free_list, free_rows, array_at, without_line, Line, IsLine, number_after, unread}
 use Rattle.array_text.proofs.Common.{Reads, control_record, row_line, row_lines, array_lines}
-use Rattle.outside.specs.Files.{File}
+use Rattle.outside.specs.Files.{FileSet}
 use Rattle.array_reader.specs.Items.{number_at}
 use Rattle.array_reader.specs.Control.{keyword, format_at, internal, internal_at, control_at}
 use Rattle.array_text.proofs.WordTexts.{line_by_test}
@@ -42,7 +42,7 @@ unfolding control_at word_at keyword internal_at number_at format_at
 control_reads read file n by e = rw e refl
 
 -- an array is read as its values, with the line of its control record
-pub array_reads : {X : Type 0} (kind : Kind X) (word : X → List ℕ) (by : X) (files : List File) (file : List ℕ) (rows cols : ℕ) (xs : List X) → kind.reading (codes "1") ≡ Ok by
+pub array_reads : {X : Type 0} (kind : Kind X) (word : X → List ℕ) (by : X) (files : FileSet) (file : List ℕ) (rows cols : ℕ) (xs : List X) → kind.reading (codes "1") ≡ Ok by
     → 1 ≤ cols → length xs ≡ rows * cols → All (λ x. IsWrittenAs (multiplied kind by) word x) xs → (n : ℕ) (others : List Line)
     → array_at kind files file rows cols (unread n (array_lines word rows cols xs ++ others)) ≡ Ok ((xs, n), unread (number_after n (array_lines word rows cols xs)) others)
 unfolding array_at number_after
@@ -51,7 +51,7 @@ array_reads kind word by files file rows cols xs one some e h n others =
     rw (next_line file n control_record (row_lines word rows cols xs ++ others), line_words control_record control_is_line.words, control_reads kind.reading file n by one, rows_are) refl
 
 -- the same without that line
-pub layer_reads : {X : Type 0} (kind : Kind X) (word : X → List ℕ) (by : X) (files : List File) (file : List ℕ) (rows cols : ℕ) (xs : List X) → kind.reading (codes "1") ≡ Ok by
+pub layer_reads : {X : Type 0} (kind : Kind X) (word : X → List ℕ) (by : X) (files : FileSet) (file : List ℕ) (rows cols : ℕ) (xs : List X) → kind.reading (codes "1") ≡ Ok by
     → 1 ≤ cols → length xs ≡ rows * cols → All (λ x. IsWrittenAs (multiplied kind by) word x) xs
     → Reads (λ left. without_line (array_at kind files file rows cols left)) (array_lines word rows cols xs) xs
 layer_reads kind word by files file rows cols xs one some e h =

@@ -2,7 +2,7 @@
 use Rattle.std.specs.Prelude.{◌≡◌, ℕ, ◌*◌, ◌≤◌, ℤ, List, [], ◌∷◌, All, length, Ok}
 use Rattle.decimal_input.specs.declared.dec.Dec.{Dec}
 use Rattle.decimal_input.specs.Canonical.{IsDec}
-use Rattle.outside.specs.Files.{File}
+use Rattle.outside.specs.Files.{FileSet}
 use Rattle.outside.specs.Words.{words}
 use Rattle.record_lines.specs.Layout.{left_from}
 use Rattle.array_reader.specs.Numbers.{number, integer}
@@ -42,9 +42,9 @@ pub record FreeListsReadAsWritten : Type 0 where
 
 -- a list of values, which is one row; a layer of numbers, and one of integers
 pub record ArraysReadAsWritten : Type 0 where
-  pub lists : (files : List File) (file : List ℕ) (xs : List Dec) → 1 ≤ length xs → All IsDec xs →
+  pub lists : (files : FileSet) (file : List ℕ) (xs : List Dec) → 1 ≤ length xs → All IsDec xs →
       Reads (reals files file (length xs)) (real_array 1 (length xs) xs) xs
-  pub layers : (files : List File) (file : List ℕ) (rows cols : ℕ) (xs : List Dec) → 1 ≤ cols → length xs ≡ rows * cols → All IsDec xs →
+  pub layers : (files : FileSet) (file : List ℕ) (rows cols : ℕ) (xs : List Dec) → 1 ≤ cols → length xs ≡ rows * cols → All IsDec xs →
       Reads (real_layer files file rows cols) (real_array rows cols xs) xs
-  pub integer_layers : (files : List File) (file : List ℕ) (rows cols : ℕ) (xs : List ℤ) → 1 ≤ cols → length xs ≡ rows * cols → All IsShort xs →
+  pub integer_layers : (files : FileSet) (file : List ℕ) (rows cols : ℕ) (xs : List ℤ) → 1 ≤ cols → length xs ≡ rows * cols → All IsShort xs →
       Reads (integer_layer files file rows cols) (integer_array rows cols xs) xs

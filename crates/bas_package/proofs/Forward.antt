@@ -24,7 +24,7 @@ module _ (P : Numbered → Type 0) (file : List ℕ) where
       chain (λ x. P x.0 × All P x.1.lines) (λ x. All P x.1.lines) (line_at file left) _ (line_held P file left h)
       (λ line hl. after (λ x. All P x.1.lines) (number_at number file line.0.number (words line.0.bytes)) _ (λ hnoflo. hl.1))
 
-module _ (may : List ℕ → ℕ → Type 0) (file : List ℕ) (left rest : Left) where
+module _ (may : List ℕ → Type 0) (file : List ℕ) (left rest : Left) where
   pub option_leaves : option_line file left ≡ Ok (tt, rest) → LinesMay may left → LinesMay may rest
   option_leaves e h = leaves may (option_line file left) tt rest e (option_held (LineMay may) file left h.each)
 

@@ -2,7 +2,7 @@
 use Rattle.std.specs.Prelude.{ℕ, ℤ, List, Bool, not, ◌&&◌, Result, Ok, Err, if◌then◌else◌, codes}
 use Rattle.std.specs.List.{list_any}
 use Rattle.decimal_input.specs.declared.dec.Dec.{Dec}
-use Rattle.outside.specs.Files.{File}
+use Rattle.outside.specs.Files.{FileSet}
 use Rattle.outside.specs.Refusals.{refusal}
 use Rattle.outside.specs.declared.codes.Code.TheVariants.{OutOfProfile}
 use Rattle.outside.specs.declared.refusals.Refusal.{Refusal}
@@ -40,7 +40,7 @@ abbrev pub with_basics : FlowModel → List ℤ → List Dec → FlowModel
 with_basics m ibound strt = record m { ibound = ibound; strt = strt }
 
 -- IBOUND and STRT are an array for each layer
-unfoldable pub basics_of : List File → List ℕ → List ℕ → Grid → Result (List ℤ × List Dec) Refusal
+unfoldable pub basics_of : FileSet → List ℕ → List ℕ → Grid → Result (List ℤ × List Dec) Refusal
 basics_of files file bytes grid = do
   options ← option_line file (without_comments (left_from 1 bytes))
   ibound ← layers whole files file grid.layers grid.rows grid.cols options.1
@@ -49,7 +49,7 @@ basics_of files file bytes grid = do
   Ok (ibound.0, strt.0)
 
 -- the model with IBOUND and STRT of the file
-unfoldable pub bas_of : List File → List ℕ → List ℕ → FlowModel → Result FlowModel Refusal
+unfoldable pub bas_of : FileSet → List ℕ → List ℕ → FlowModel → Result FlowModel Refusal
 bas_of files file bytes m = do
   basics ← basics_of files file bytes m.grid
   Ok (with_basics m basics.0 basics.1)

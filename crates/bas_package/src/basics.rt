@@ -2,7 +2,7 @@
 ghost use Rattle.std.specs.Prelude.{◌≡◌, IfOk, length, All, List};
 ghost use Rattle.decimal_input.specs.Canonical.{IsDec};
 ghost use Rattle.outside.specs.Asking.{TextMay};
-ghost use Rattle.outside.specs.Files.{File};
+ghost use Rattle.outside.specs.Files.{FileSet};
 ghost use Rattle.outside.specs.Folders.{ReadsOn};
 ghost use Rattle.record_lines.specs.Reading.{Has};
 ghost use Rattle.model_types.specs.Cells.{cell_count};
@@ -43,7 +43,7 @@ fn basics_of<F: Folder>(
 ) -> Result<Basics, InputFault>
     requires text { TextMay (F.may folder.old) bytes.now }
     ensures folder { ReadsOn F.Folder folder.old folder.new result }
-    ensures basics { (files : List File) → F.agrees folder.new files →
+    ensures basics { (files : FileSet) → F.agrees folder.new files →
         Has (λ b. (b.ibound.items, b.strt.items)) result (basics_of files file.now bytes.now grid.now) }
     ensures ibound { IfOk result (λ b. length b.ibound.items ≡ cell_count grid.now) }
     ensures strt { IfOk result (λ b. length b.strt.items ≡ cell_count grid.now) }
@@ -75,7 +75,7 @@ pub fn read_bas<F: Folder>(
 ) -> Result<FlowModel, InputFault>
     requires text { TextMay (F.may folder.old) bytes.now }
     ensures folder { ReadsOn F.Folder folder.old folder.new result }
-    ensures model { (files : List File) → F.agrees folder.new files → Has (λ m. m) result (bas_of files file.now bytes.now model) }
+    ensures model { (files : FileSet) → F.agrees folder.new files → Has (λ m. m) result (bas_of files file.now bytes.now model) }
     ensures others { IfOk result (λ m. m ≡ with_basics model m.ibound m.strt) }
     ensures ibound { IfOk result (λ m. length m.ibound ≡ cell_count model.grid) }
     ensures strt { IfOk result (λ m. length m.strt ≡ cell_count model.grid) }

@@ -4,30 +4,29 @@ use Rattle.batch_list.proofs.Common.{Numbered, left_from, is_comment, Entry, fir
 use Rattle.std.specs.Prelude.{IfOk, IfSome}
 use Rattle.std.proofs.lemmas.List.Elements.{All-nil, All-cons, All-head, All-tail}
 use Rattle.outside.specs.Asking.{WordsMay, TextMay}
-use Rattle.outside.specs.Inputs.{file_limit}
 use Rattle.outside.specs.Words.{words}
 use Rattle.record_lines.specs.Asking.{LineMay}
 use Rattle.record_lines.proofs.Forward.{given, text_held}
 
-module _ (may : List ℕ → ℕ → Type 0) where
-  first_held : (line : ℕ) (ws : List (List ℕ)) → WordsMay may ws → IfSome (first_entry line ws) (λ e. may (folder_name e.word) file_limit)
+module _ (may : List ℕ → Type 0) where
+  first_held : (line : ℕ) (ws : List (List ℕ)) → WordsMay may ws → IfSome (first_entry line ws) (λ e. may (folder_name e.word))
   first_held line [] h = tt
-  first_held line (w ∷ ws) h = All-head (λ w. may (folder_name w) file_limit) w ws h
+  first_held line (w ∷ ws) h = All-head (λ w. may (folder_name w)) w ws h
 
-  unless_comment : (b : Bool) (o : Option Entry) → IfSome o (λ e. may (folder_name e.word) file_limit) → IfSome (if b then None else o) (λ e. may (folder_name e.word) file_limit)
+  unless_comment : (b : Bool) (o : Option Entry) → IfSome o (λ e. may (folder_name e.word)) → IfSome (if b then None else o) (λ e. may (folder_name e.word))
   unless_comment true o h = tt
   unless_comment false o h = h
 
-  entry_held : (line : Numbered) → LineMay may line → IfSome (entry_of line) (λ e. may (folder_name e.word) file_limit)
+  entry_held : (line : Numbered) → LineMay may line → IfSome (entry_of line) (λ e. may (folder_name e.word))
   unfolding entry_of
   entry_held line h = unless_comment (is_comment line.bytes) (first_entry line.number (words line.bytes)) (first_held line.number (words line.bytes) h)
 
-  put_before : (o : Option Entry) (more : List Entry) → IfSome o (λ e. may (folder_name e.word) file_limit) → WordsMay may (words_of more) → WordsMay may (words_of (cons_option o more))
+  put_before : (o : Option Entry) (more : List Entry) → IfSome o (λ e. may (folder_name e.word)) → WordsMay may (words_of more) → WordsMay may (words_of (cons_option o more))
   put_before None more h rest = rest
-  put_before (Some e) more h rest = All-cons (λ w. may (folder_name w) file_limit) e.word (words_of more) h rest
+  put_before (Some e) more h rest = All-cons (λ w. may (folder_name w)) e.word (words_of more) h rest
 
   entries_held : (ls : List Numbered) → All (LineMay may) ls → WordsMay may (words_of (entries ls))
-  entries_held [] h = All-nil (λ w. may (folder_name w) file_limit)
+  entries_held [] h = All-nil (λ w. may (folder_name w))
   entries_held (l ∷ ls) h = put_before (entry_of l) (entries ls) (entry_held l (All-head (LineMay may) l ls h)) (entries_held ls (All-tail (LineMay may) l ls h))
 
   unless_held : (rs : List Refusal) (names : List (List ℕ)) → WordsMay may names → IfOk (unless_refused rs names) (WordsMay may)

@@ -13,7 +13,7 @@ pub use Rattle.dis_package.specs.Times.{is_growth, is_time, kind_of, period_at, 
 pub use Rattle.dis_package.specs.declared.frame.Frame.{Frame}
 pub use Rattle.model_types.specs.declared.limits.Limits.{Limits}
 pub use Rattle.model_types.specs.declared.period.Period.{Period}
-pub use Rattle.outside.specs.Files.{File}
+pub use Rattle.outside.specs.Files.{FileSet}
 pub use Rattle.record_lines.proofs.Forward.{after, begun_held, chain, leaves, line_held, repeated_held}
 pub use Rattle.record_lines.proofs.Loops.{ends_text, goes_on, is_done, with_front}
 pub use Rattle.record_lines.specs.Asking.{LineMay, LinesMay}

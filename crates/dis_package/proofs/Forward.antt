@@ -26,5 +26,5 @@ module _ (P : Numbered → Type 0) (file : List ℕ) where
       (λ line hl. after (λ x. All P x.1.lines) (frame_of limits file line.0.number (words line.0.bytes)) _
       (λ frame. chain (λ x. All P x.1.lines) (λ x. All P x.1.lines) (beds_of file frame.size.layers line.1) _ (beds_held frame.size.layers line.1 hl.1) (λ laycbd hb. hb)))
 
-pub head_leaves : (limits : Limits) (may : List ℕ → ℕ → Type 0) (file : List ℕ) (left rest : Left) (x : Frame × List ℤ) → head_of limits file left ≡ Ok (x, rest) → LinesMay may left → LinesMay may rest
+pub head_leaves : (limits : Limits) (may : List ℕ → Type 0) (file : List ℕ) (left rest : Left) (x : Frame × List ℤ) → head_of limits file left ≡ Ok (x, rest) → LinesMay may left → LinesMay may rest
 head_leaves limits may file left rest x e h = leaves may (head_of limits file left) x rest e (head_held (LineMay may) file limits left h.each)

@@ -1,5 +1,5 @@
 -- A discretization, one item behind the other.
-use Rattle.dis_package.proofs.Common.{◌≡◌, refl, ℕ, ℤ, List, Ok, Err, File, Left, left_from, without_comments, Stops, StopsText, Period, grid_of, periods_of}
+use Rattle.dis_package.proofs.Common.{◌≡◌, refl, ℕ, ℤ, List, Ok, Err, FileSet, Left, left_from, without_comments, Stops, StopsText, Period, grid_of, periods_of}
 use Rattle.dis_package.proofs.Common.{begun, head_of, dis_of, Frame, Limits}
 use Rattle.outside.specs.Refusals.{input_fault}
 use Rattle.outside.specs.declared.refusals.TextFault.{TextFault}
@@ -7,7 +7,7 @@ use Rattle.outside.specs.declared.refusals.TextFault.TheVariants.{Refused, Memor
 use Rattle.model_types.specs.declared.grid.Grid.{Grid}
 use Rattle.model_types.specs.declared.model.FlowModel.{FlowModel}
 
-pub dis_read : (limits : Limits) (files : List File) (file bytes : List ℕ) (left : Left) (head : (Frame × List ℤ) × Left) (grid : Grid × Left) (periods : List Period) (m : FlowModel)
+pub dis_read : (limits : Limits) (files : FileSet) (file bytes : List ℕ) (left : Left) (head : (Frame × List ℤ) × Left) (grid : Grid × Left) (periods : List Period) (m : FlowModel)
     → left ≡ without_comments (left_from 1 bytes)
     → head_of limits file left ≡ Ok head
     → grid_of files file head.0.0.size head.0.1 head.1 ≡ Ok grid
@@ -18,7 +18,7 @@ unfolding dis_of
 dis_read limits files file bytes left head grid periods m from a b d is = rw (← from, a, b, d, is) refl
 
 -- a fault of the periods is one of the discretization
-pub dis_stops : (limits : Limits) (fault : TextFault) (files : List File) (file bytes : List ℕ) (left : Left) (head : (Frame × List ℤ) × Left) (grid : Grid × Left)
+pub dis_stops : (limits : Limits) (fault : TextFault) (files : FileSet) (file bytes : List ℕ) (left : Left) (head : (Frame × List ℤ) × Left) (grid : Grid × Left)
     → left ≡ without_comments (left_from 1 bytes)
     → head_of limits file left ≡ Ok head
     → grid_of files file head.0.0.size head.0.1 head.1 ≡ Ok grid

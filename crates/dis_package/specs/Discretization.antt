@@ -1,6 +1,6 @@
 -- A file of the discretization, item by item (TM 6-A16, DIS).
 use Rattle.std.specs.Prelude.{ℕ, ℤ, pos, List, [], false, Result, Ok}
-use Rattle.outside.specs.Files.{File}
+use Rattle.outside.specs.Files.{FileSet}
 use Rattle.outside.specs.declared.refusals.Refusal.{Refusal}
 use Rattle.record_lines.specs.Items.{line_at}
 use Rattle.outside.specs.Words.{words}
@@ -44,7 +44,7 @@ head_of limits file left = do
   laycbd ← beds_of file frame.size.layers line.1
   Ok ((frame, laycbd.0), laycbd.1)
 
-unfoldable pub dis_of : Limits → List File → List ℕ → List ℕ → Result FlowModel Refusal
+unfoldable pub dis_of : Limits → FileSet → List ℕ → List ℕ → Result FlowModel Refusal
 dis_of limits files file bytes = do
   head ← head_of limits file (without_comments (left_from 1 bytes))
   grid ← grid_of files file head.0.0.size head.0.1 head.1

@@ -1,7 +1,7 @@
 // The bottoms of the layers and of the confining beds below them.
 ghost use Rattle.std.specs.Prelude.{◌≡◌, ◌*◌, IfOk, length, [], ◌+◌, ◌++◌, All, List};
 ghost use Rattle.decimal_input.specs.Canonical.{IsDec};
-ghost use Rattle.outside.specs.Files.{File};
+ghost use Rattle.outside.specs.Files.{FileSet};
 ghost use Rattle.outside.specs.Folders.{ReadsOn};
 ghost use Rattle.record_lines.specs.Asking.{LinesMay};
 ghost use Rattle.record_lines.specs.Reading.{Gives, counted};
@@ -53,7 +53,7 @@ fn bottom_at<F: Folder>(
     requires lines { LinesMay (F.may folder.old) lines.old }
     ensures folder { ReadsOn F.Folder folder.old folder.new result }
     ensures lines { IfOk result (λ _. LinesMay (F.may folder.new) lines.new) }
-    ensures bottoms { (files : List File) → F.agrees folder.new files →
+    ensures bottoms { (files : FileSet) → F.agrees folder.new files →
         Gives (λ b. b) result lines.new (bottom_at files file.now size.now laycbd.now k (so_far, lines.old)) }
     ensures layers { IfOk result (λ b. length b.layers ≡ length so_far.layers + size.now.rows * size.now.cols) }
     ensures beds { IfOk result (λ b. length b.beds ≡ length so_far.beds + size.now.rows * size.now.cols) }
@@ -90,7 +90,7 @@ pub fn bottoms_of<F: Folder>(
     requires lines { LinesMay (F.may folder.old) lines.old }
     ensures folder { ReadsOn F.Folder folder.old folder.new result }
     ensures lines { IfOk result (λ _. LinesMay (F.may folder.new) lines.new) }
-    ensures bottoms { (files : List File) → F.agrees folder.new files →
+    ensures bottoms { (files : FileSet) → F.agrees folder.new files →
         Gives (λ b. b) result lines.new (bottoms_of files file.now size.now laycbd.now count lines.old) }
     ensures layers { IfOk result (λ b. length b.layers ≡ count * (size.now.rows * size.now.cols)) }
     ensures beds { IfOk result (λ b. length b.beds ≡ count * (size.now.rows * size.now.cols)) }

@@ -1,6 +1,6 @@
 // Widths and elevations.
 ghost use Rattle.std.specs.Prelude.{◌≡◌, ◌-◌, pos, IfOk, length, All, List};
-ghost use Rattle.outside.specs.Files.{File};
+ghost use Rattle.outside.specs.Files.{FileSet};
 ghost use Rattle.outside.specs.Folders.{ReadsOn};
 ghost use Rattle.record_lines.specs.Asking.{LinesMay};
 ghost use Rattle.record_lines.specs.Reading.{Gives};
@@ -32,7 +32,7 @@ fn widths<F: Folder>(
     requires lines { LinesMay (F.may folder.old) lines.old }
     ensures folder { ReadsOn F.Folder folder.old folder.new result }
     ensures lines { IfOk result (λ _. LinesMay (F.may folder.new) lines.new) }
-    ensures widths { (files : List File) → F.agrees folder.new files → Gives (λ v. v.items) result lines.new (widths files file.now count lines.old) }
+    ensures widths { (files : FileSet) → F.agrees folder.new files → Gives (λ v. v.items) result lines.new (widths files file.now count lines.old) }
     ensures count { IfOk result (λ v. length v.items ≡ count) }
     ensures positive { IfOk result (λ v. All IsPositive v.items) }
 {
@@ -59,7 +59,7 @@ pub fn grid_of<F: Folder>(
     requires lines { LinesMay (F.may folder.old) lines.old }
     ensures folder { ReadsOn F.Folder folder.old folder.new result }
     ensures lines { IfOk result (λ _. LinesMay (F.may folder.new) lines.new) }
-    ensures grid { (files : List File) → F.agrees folder.new files → Gives (λ g. g) result lines.new (grid_of files file.now size.now laycbd.items lines.old) }
+    ensures grid { (files : FileSet) → F.agrees folder.new files → Gives (λ g. g) result lines.new (grid_of files file.now size.now laycbd.items lines.old) }
     ensures form { IfOk result IsGrid }
 {
     let delr = widths(alloc, lines, file, folder, size.cols)?;

@@ -1,7 +1,7 @@
 // The model as DIS begins it.
 ghost use Rattle.std.specs.Prelude.{◌≡◌, ◌-◌, pos, IfOk, length, List};
 ghost use Rattle.outside.specs.Asking.{TextMay};
-ghost use Rattle.outside.specs.Files.{File};
+ghost use Rattle.outside.specs.Files.{FileSet};
 ghost use Rattle.outside.specs.Folders.{ReadsOn};
 ghost use Rattle.record_lines.specs.Reading.{Has, GivesText};
 ghost use Rattle.model_types.specs.Layers.{int_at};
@@ -77,7 +77,7 @@ pub fn read_dis<F: Folder>(
 ) -> Result<FlowModel, InputFault>
     requires text { TextMay (F.may folder.old) bytes.now }
     ensures folder { ReadsOn F.Folder folder.old folder.new result }
-    ensures model { (files : List File) → F.agrees folder.new files → Has (λ m. m) result (dis_of limits files file.now bytes.now) }
+    ensures model { (files : FileSet) → F.agrees folder.new files → Has (λ m. m) result (dis_of limits files file.now bytes.now) }
     ensures form { IfOk result IsBegun }
 {
     let mut lines = Lines::new(bytes);

@@ -1,6 +1,6 @@
 -- The evapotranspiration package (TM 6-A16, EVT).
 use Rattle.std.specs.Prelude.{ℕ, true, List, Result, Ok}
-use Rattle.outside.specs.Files.{File}
+use Rattle.outside.specs.Files.{FileSet}
 use Rattle.outside.specs.declared.refusals.Refusal.{Refusal}
 use Rattle.record_lines.specs.Reading.{◌>>=◌}
 use Rattle.model_types.specs.declared.model.FlowModel.{FlowModel}
@@ -27,7 +27,7 @@ evaporation_arrays = record {
 abbrev pub with_evaporation : FlowModel → ArrayFile → FlowModel
 with_evaporation m a = record m { nevtop = a.option; periods = a.periods }
 
-unfoldable pub evt_of : List File → List ℕ → List ℕ → FlowModel → Result FlowModel Refusal
+unfoldable pub evt_of : FileSet → List ℕ → List ℕ → FlowModel → Result FlowModel Refusal
 evt_of files file bytes m = do
   arrays ← arrays_in evaporation_arrays files file bytes m.grid m.ibound m.periods
   Ok (with_evaporation m arrays)

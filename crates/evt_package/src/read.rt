@@ -1,7 +1,7 @@
 // A model with its evapotranspiration.
 ghost use Rattle.std.specs.Prelude.{IfOk, List};
 ghost use Rattle.outside.specs.Asking.{TextMay};
-ghost use Rattle.outside.specs.Files.{File};
+ghost use Rattle.outside.specs.Files.{FileSet};
 ghost use Rattle.outside.specs.Folders.{ReadsOn};
 ghost use Rattle.record_lines.specs.Reading.{Has};
 ghost use Rattle.model_types.specs.Grids.{HasSize};
@@ -62,7 +62,7 @@ fn with_evaporation<F: Folder>(
     requires size { HasSize model.grid }
     requires text { TextMay (F.may folder.old) bytes.now }
     ensures folder { ReadsOn F.Folder folder.old folder.new result }
-    ensures model { (files : List File) → F.agrees folder.new files → Has (λ m. m) result (evt_of files file.now bytes.now model) }
+    ensures model { (files : FileSet) → F.agrees folder.new files → Has (λ m. m) result (evt_of files file.now bytes.now model) }
     ensures form { IfOk result (IsEvaporating file.now) }
     ensures others { IfOk result (SameBut model) }
 {
@@ -103,7 +103,7 @@ pub fn read_evt<F: Folder>(
     requires size { HasSize model.grid }
     requires text { TextMay (F.may folder.old) bytes.now }
     ensures folder { ReadsOn F.Folder folder.old folder.new result }
-    ensures model { (files : List File) → F.agrees folder.new files → Has (λ m. m) result (evt_of files file.now bytes.now model) }
+    ensures model { (files : FileSet) → F.agrees folder.new files → Has (λ m. m) result (evt_of files file.now bytes.now model) }
     ensures form { IfOk result (IsEvaporating file.now) }
     ensures others { IfOk result (SameBut model) }
     ensures valid { IsModel model → IfOk result IsModel }

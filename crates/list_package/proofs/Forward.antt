@@ -14,5 +14,5 @@ item_held P file left h =
     chain (λ x. P x.0 × All P x.1.lines) (λ x. All P x.1.lines) (line_at file left) _ (line_held P file left h)
     (λ line hl. either (λ x. All P x.1.lines) (begins_with (codes "PARAMETER") (words line.0.bytes)) (Err (refusal OutOfProfile file line.0.number)) (Ok line) tt hl.1)
 
-pub item_leaves : (may : List ℕ → ℕ → Type 0) (file : List ℕ) (left rest : Left) (line : Numbered) → item_line file left ≡ Ok (line, rest) → LinesMay may left → LinesMay may rest
+pub item_leaves : (may : List ℕ → Type 0) (file : List ℕ) (left rest : Left) (line : Numbered) → item_line file left ≡ Ok (line, rest) → LinesMay may left → LinesMay may rest
 item_leaves may file left rest line e h = leaves may (item_line file left) line rest e (item_held (LineMay may) file left h.each)

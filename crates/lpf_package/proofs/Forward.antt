@@ -36,7 +36,7 @@ module _ (P : Numbered → Type 0) (file : List ℕ) where
       (λ c hc. chain (λ x. All P x.1.lines) (λ x. All P x.1.lines) (free_list integer file layers c.1) _ (list_held P integer file layers c.1 hc)
       (λ d hd. chain (λ x. All P x.1.lines) (λ x. All P x.1.lines) (zero_list file layers d.1) _ (zeros_held P file layers d.1 hd) (λ e he. he)))))
 
-module _ (may : List ℕ → ℕ → Type 0) (file : List ℕ) where
+module _ (may : List ℕ → Type 0) (file : List ℕ) where
   pub option_leaves : (left rest : Left) (x : Bool) → option_line file left ≡ Ok (x, rest) → LinesMay may left → LinesMay may rest
   option_leaves left rest x e h = leaves may (option_line file left) x rest e (option_held (LineMay may) file left h.each)
 

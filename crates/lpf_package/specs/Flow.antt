@@ -1,7 +1,7 @@
 -- A file of the layer-property flow package, item by item (TM 6-A16, LPF).
 use Rattle.std.specs.Prelude.{◌≡◌, ℕ, ℤ, List, Bool, not, Result, Ok}
 use Rattle.std.specs.List.{list_any}
-use Rattle.outside.specs.Files.{File}
+use Rattle.outside.specs.Files.{FileSet}
 use Rattle.outside.specs.declared.refusals.Refusal.{Refusal}
 use Rattle.record_lines.specs.Layout.{left_from, without_comments}
 use Rattle.record_lines.specs.Reading.{◌>>=◌}
@@ -34,7 +34,7 @@ abbrev pub with_contents : FlowModel → Contents → FlowModel
 with_contents m c = with_properties m c.coefficient c.layvka c.properties
 
 -- The contents of a file for a grid; the flag says whether the file has SS.
-unfoldable pub contents_of : List File → List ℕ → List ℕ → Grid → Bool → Result Contents Refusal
+unfoldable pub contents_of : FileSet → List ℕ → List ℕ → Grid → Bool → Result Contents Refusal
 contents_of files file bytes grid stores = do
   coefficient ← option_line file (without_comments (left_from 1 bytes))
   settings ← settings_of file grid.layers coefficient.1
@@ -42,7 +42,7 @@ contents_of files file bytes grid stores = do
   Ok (record { coefficient = coefficient.0; layvka = settings.0.layvka; properties = layers.0 })
 
 -- the file has SS where a period is transient
-unfoldable pub lpf_of : List File → List ℕ → List ℕ → FlowModel → Result FlowModel Refusal
+unfoldable pub lpf_of : FileSet → List ℕ → List ℕ → FlowModel → Result FlowModel Refusal
 lpf_of files file bytes m = do
   contents ← contents_of files file bytes m.grid (is_transient m.periods)
   Ok (with_contents m contents)

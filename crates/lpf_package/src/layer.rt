@@ -1,7 +1,7 @@
 // The arrays of one layer.
 ghost use Rattle.std.specs.Prelude.{◌≡◌, ◌*◌, ◌++◌, cond, IfOk, length, All, List};
 ghost use Rattle.decimal_input.specs.Canonical.{IsDec};
-ghost use Rattle.outside.specs.Files.{File};
+ghost use Rattle.outside.specs.Files.{FileSet};
 ghost use Rattle.outside.specs.Folders.{ReadsOn};
 ghost use Rattle.record_lines.specs.Asking.{LinesMay};
 ghost use Rattle.record_lines.specs.Reading.{Gives};
@@ -50,7 +50,7 @@ fn storage_layer<F: Folder>(
     requires lines { LinesMay (F.may folder.old) lines.old }
     ensures folder { ReadsOn F.Folder folder.old folder.new result }
     ensures lines { IfOk result (λ _. LinesMay (F.may folder.new) lines.new) }
-    ensures ss { (files : List File) → F.agrees folder.new files → Gives (λ v. v.items) result lines.new (storage_layer files file.now layer.now lines.old) }
+    ensures ss { (files : FileSet) → F.agrees folder.new files → Gives (λ v. v.items) result lines.new (storage_layer files file.now layer.now lines.old) }
     ensures count { IfOk result (λ v. length v.items ≡ cond layer.now.stores (layer.now.rows * layer.now.cols) 0) }
     ensures canonical { IfOk result (λ v. All IsDec v.items) }
 {
@@ -74,7 +74,7 @@ pub fn properties_of<F: Folder>(
     requires lines { LinesMay (F.may folder.old) lines.old }
     ensures folder { ReadsOn F.Folder folder.old folder.new result }
     ensures lines { IfOk result (λ _. LinesMay (F.may folder.new) lines.new) }
-    ensures properties { (files : List File) → F.agrees folder.new files → Gives (λ p. p) result lines.new (properties_of files file.now layer.now lines.old) }
+    ensures properties { (files : FileSet) → F.agrees folder.new files → Gives (λ p. p) result lines.new (properties_of files file.now layer.now lines.old) }
     ensures form { IfOk result (AreLayers (layer.now.rows * layer.now.cols) (cond layer.now.stores (layer.now.rows * layer.now.cols) 0)) }
 {
     let (rows, cols) = (layer.rows, layer.cols);

@@ -1,7 +1,7 @@
 // The arrays of all layers.
 ghost use Rattle.std.specs.Prelude.{◌≡◌, ◌*◌, ◌+◌, cond, IfOk, All, List};
 ghost use Rattle.decimal_input.specs.Canonical.{IsDec};
-ghost use Rattle.outside.specs.Files.{File};
+ghost use Rattle.outside.specs.Files.{FileSet};
 ghost use Rattle.outside.specs.Folders.{ReadsOn};
 ghost use Rattle.record_lines.specs.Asking.{LinesMay};
 ghost use Rattle.record_lines.specs.Reading.{Gives};
@@ -49,7 +49,7 @@ fn layer_at<F: Folder>(
     requires lines { LinesMay (F.may folder.old) lines.old }
     ensures folder { ReadsOn F.Folder folder.old folder.new result }
     ensures lines { IfOk result (λ _. LinesMay (F.may folder.new) lines.new) }
-    ensures properties { (files : List File) → F.agrees folder.new files →
+    ensures properties { (files : FileSet) → F.agrees folder.new files →
         Gives (λ p. p) result lines.new (layer_at files file.now grid.now chani.now stores k (above, lines.old)) }
     ensures form { IfOk result (AreLayers ((k + 1) * (grid.now.rows * grid.now.cols)) (cond stores ((k + 1) * (grid.now.rows * grid.now.cols)) 0)) }
 {
@@ -74,7 +74,7 @@ pub fn layers_of<F: Folder>(
     requires lines { LinesMay (F.may folder.old) lines.old }
     ensures folder { ReadsOn F.Folder folder.old folder.new result }
     ensures lines { IfOk result (λ _. LinesMay (F.may folder.new) lines.new) }
-    ensures properties { (files : List File) → F.agrees folder.new files →
+    ensures properties { (files : FileSet) → F.agrees folder.new files →
         Gives (λ p. p) result lines.new (layers_of files file.now grid.now chani.now stores count lines.old) }
     ensures form { IfOk result (AreLayers (count * (grid.now.rows * grid.now.cols)) (cond stores (count * (grid.now.rows * grid.now.cols)) 0)) }
 {

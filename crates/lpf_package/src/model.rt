@@ -2,7 +2,7 @@
 ghost use Rattle.std.specs.Prelude.{◌≡◌, ◌*◌, cond, IfOk, length, not, List};
 ghost use Rattle.std.specs.List.{list_any};
 ghost use Rattle.outside.specs.Asking.{TextMay};
-ghost use Rattle.outside.specs.Files.{File};
+ghost use Rattle.outside.specs.Files.{FileSet};
 ghost use Rattle.outside.specs.Folders.{ReadsOn};
 ghost use Rattle.record_lines.specs.Reading.{Has};
 ghost use Rattle.lpf_package.specs.Forms.{AreLayers, HasProperties};
@@ -56,7 +56,7 @@ fn contents_of<F: Folder>(
 ) -> Result<Contents, InputFault>
     requires text { TextMay (F.may folder.old) bytes.now }
     ensures folder { ReadsOn F.Folder folder.old folder.new result }
-    ensures contents { (files : List File) → F.agrees folder.new files → Has (λ c. c) result (contents_of files file.now bytes.now grid.now stores) }
+    ensures contents { (files : FileSet) → F.agrees folder.new files → Has (λ c. c) result (contents_of files file.now bytes.now grid.now stores) }
     ensures layvka { IfOk result (λ c. length c.layvka ≡ grid.now.layers) }
     ensures properties { IfOk result
         (λ c. AreLayers (grid.now.layers * (grid.now.rows * grid.now.cols))
@@ -100,7 +100,7 @@ pub fn read_lpf<F: Folder>(
 ) -> Result<FlowModel, InputFault>
     requires text { TextMay (F.may folder.old) bytes.now }
     ensures folder { ReadsOn F.Folder folder.old folder.new result }
-    ensures model { (files : List File) → F.agrees folder.new files → Has (λ m. m) result (lpf_of files file.now bytes.now model) }
+    ensures model { (files : FileSet) → F.agrees folder.new files → Has (λ m. m) result (lpf_of files file.now bytes.now model) }
     ensures others { IfOk result (SameBut model) }
     ensures form { IfOk result HasProperties }
 {

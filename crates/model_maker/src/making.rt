@@ -6,7 +6,7 @@ use crate::draws::Draws;
 use crate::grids::{bas_text, dis_text};
 use crate::properties::lpf_text;
 use crate::stresses::{riv_text, wel_text};
-use outside::MemFolder;
+use outside::{FILE_LIMIT, MemFolder};
 use std::alloc::{AllocError, Global};
 
 /// The name of a made model's name file.
@@ -62,13 +62,13 @@ pub fn make(alloc: Global, seed: u32, size: u32) -> Result<MemFolder, AllocError
     requires seed { seed ≤ 2147483647 }
     requires some { 1 ≤ size }
     requires few { size ≤ 64 }
-    ensures { IfOk result (λ folder. folder ≡ record { files = made_files seed size; script = []; calls = 0; faults = 0 }) }
+    ensures { IfOk result (λ folder. folder ≡ record { files = made_files seed size; limit = 67108864; script = []; calls = 0; faults = 0 }) }
 {
     let size = u64::from(size);
     let mut draws = Draws { x: u64::from(seed) };
     let properties = lpf_text(alloc, &mut draws, size)?;
     let well = wel_text(alloc, &mut draws, size)?;
-    let mut folder = MemFolder::new(alloc);
+    let mut folder = MemFolder::new(alloc, FILE_LIMIT);
     add_stresses(alloc, &mut folder, well.as_slice(), size)?;
     add_layers(alloc, &mut folder, properties.as_slice(), size)?;
     Ok(folder)

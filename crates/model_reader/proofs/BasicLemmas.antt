@@ -1,5 +1,5 @@
 -- A model that passed the checks behind BAS6.
-use Rattle.model_reader.proofs.Common.{◌≡◌, ℕ, List, ℤ, Ok, All, length, refl, sym, ap, subst, Dec, IsDec, File, file_at, input_fault, TextFault, Stops}
+use Rattle.model_reader.proofs.Common.{◌≡◌, ℕ, List, ℤ, Ok, All, length, refl, sym, ap, subst, Dec, IsDec, FileSet, file_at, input_fault, TextFault, Stops}
 use Rattle.model_reader.proofs.Common.{StopsText, FlowModel, IsGrid, cell_count, bas_of, with_basics, checked, Thickness, StartHead, each_passed, IsBegun}
 use Rattle.model_reader.proofs.Common.{IsBasic, bas_in, basics_tested}
 use Rattle.model_reader.proofs.Chains.{text_stops_here}
@@ -29,7 +29,7 @@ basic_of b m dis bas h e cells heads decimals thick found =
     subst IsBasic (sym e) (basics b m.ibound m.strt dis bas h cells heads decimals (subst (λ x. checked x dis Thickness ≡ Ok tt) e thick) (subst (λ x. checked x bas StartHead ≡ Ok tt) e found))
 
 -- the file, its reading and its tests, one behind the other
-pub bas_read : (files : List File) (dis bas bytes : List ℕ) (begun read basic tested : FlowModel)
+pub bas_read : (files : FileSet) (dis bas bytes : List ℕ) (begun read basic tested : FlowModel)
     → file_at files bas ≡ Ok bytes
     → read ≡ begun
     → bas_of files bas bytes read ≡ Ok basic
@@ -39,7 +39,7 @@ pub bas_read : (files : List File) (dis bas bytes : List ℕ) (begun read basic 
 unfolding bas_in
 bas_read files dis bas bytes begun read basic tested a same b d is = rw (a, ← same, b, d, is) refl
 
-pub bas_refused : (fault : TextFault) (files : List File) (dis bas bytes : List ℕ) (begun read basic : FlowModel)
+pub bas_refused : (fault : TextFault) (files : FileSet) (dis bas bytes : List ℕ) (begun read basic : FlowModel)
     → file_at files bas ≡ Ok bytes
     → read ≡ begun
     → bas_of files bas bytes read ≡ Ok basic

@@ -1,5 +1,5 @@
 -- Readings one behind the other.
-use Rattle.model_reader.proofs.Common.{◌≡◌, ℕ, List, Option, Some, refl, sym, subst, Result, Ok, File, file_at, TextFault, Refusal, input_fault, ◌>>=◌, Has}
+use Rattle.model_reader.proofs.Common.{◌≡◌, ℕ, List, Option, Some, refl, sym, subst, Result, Ok, FileSet, file_at, TextFault, Refusal, input_fault, ◌>>=◌, Has}
 use Rattle.model_reader.proofs.Common.{Stops, StopsText, FlowModel, file_in, where_named}
 use Rattle.outside.specs.Counts.{InputCounts}
 use Rattle.outside.specs.Folders.{ReadsOn}
@@ -13,7 +13,7 @@ pub both_read : {S T U : Type 0} {F : FolderOf S} {old mid new : S} {x : T} {res
 both_read {F = F} {new = new} {result = result} first second = record {
   since = λ files agree. first.since files (second.since files agree);
   counts = subst (λ n. InputCounts n (F.faults new) result) first.counts second.counts;
-  still = λ name limit h. second.still name limit (first.still name limit h);
+  still = λ name h. second.still name (first.still name h);
 }
 
 -- what comes of the rest comes of the whole
@@ -32,7 +32,7 @@ text_stops_here (texts.Refused refusal) r k h = rw h refl
 text_stops_here texts.Memory r k h = tt
 
 -- the file that is named, and its reading
-pub named_read : (files : List File) (named : Option (List ℕ)) (reading : List ℕ → List ℕ → FlowModel → Result FlowModel Refusal) (file bytes : List ℕ) (m read n : FlowModel)
+pub named_read : (files : FileSet) (named : Option (List ℕ)) (reading : List ℕ → List ℕ → FlowModel → Result FlowModel Refusal) (file bytes : List ℕ) (m read n : FlowModel)
     → named ≡ Some file
     → file_at files file ≡ Ok bytes
     → read ≡ m

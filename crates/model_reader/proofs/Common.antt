@@ -23,7 +23,7 @@ pub use Rattle.model_types.specs.Grids.{IsGrid}
 pub use Rattle.model_types.specs.Valid.{IsBedChecked, IsBedValid, IsCellValid, IsEvapValid, IsModel, IsPeriod, IsTimed}
 pub use Rattle.model_types.specs.declared.model.FlowModel.{FlowModel}
 pub use Rattle.name_file.proofs.Forward.{file_named, names_still}
-pub use Rattle.outside.specs.Files.{File}
+pub use Rattle.outside.specs.Files.{FileSet}
 pub use Rattle.outside.specs.Inputs.{file_at}
 pub use Rattle.outside.specs.Refusals.{input_fault}
 pub use Rattle.outside.specs.declared.refusals.Refusal.{Refusal}

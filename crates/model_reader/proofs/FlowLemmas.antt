@@ -1,8 +1,8 @@
 -- A model that passed the checks behind LPF.
 use Rattle.model_reader.proofs.Common.{◌≡◌, ◌⊎◌, inl, inr, ℕ, ◌+◌, ◌<◌, ℤ, pos, ◌≤ℤ◌, Bool, true, false, not, cond, ◌&&◌, ◌||◌, nat_le, nat_lt, List, Ok, All}
-use Rattle.model_reader.proofs.Common.{length, refl, sym, ap, subst, arith, and_parts, not-true, lt-leb, lt-ltb, Dec, IsDec, number, File, file_at, input_fault}
-use Rattle.model_reader.proofs.Common.{TextFault, Stops, StopsText, FlowModel, IsGrid, layer_size, cell_count, IsModel, IsCellValid, IsBedValid, IsBedChecked}
-use Rattle.model_reader.proofs.Common.{checked, Properties, each_passed, is_transient, lpf_of, with_properties, SameBut, IsBasic, lpf_in}
+use Rattle.model_reader.proofs.Common.{length, refl, sym, ap, subst, arith, and_parts, not-true, lt-leb, lt-ltb, Dec, IsDec, number, FileSet, file_at}
+use Rattle.model_reader.proofs.Common.{input_fault, TextFault, Stops, StopsText, FlowModel, IsGrid, layer_size, cell_count, IsModel, IsCellValid, IsBedValid}
+use Rattle.model_reader.proofs.Common.{IsBedChecked, checked, Properties, each_passed, is_transient, lpf_of, with_properties, SameBut, IsBasic, lpf_in}
 use Rattle.std.proofs.lemmas.Int.{ints}
 use Rattle.model_types.specs.Layers.{dec_at, is_active, has_bed, top_at, bottom_at, lowest}
 use Rattle.cell_checks.specs.Faults.{is_checked_bed, has_good_properties}
@@ -133,7 +133,7 @@ pub model_of : (b m : FlowModel) (lpf : List ℕ) → IsBasic b → SameBut b m 
 model_of b m lpf h e properties good = model m (record { basic = subst IsBasic (sym e) (still_basic b m.coefficient m.layvka _ h); properties = properties; good = each_passed m lpf Properties good })
 
 -- the file, its reading and its test, one behind the other
-pub lpf_read : (files : List File) (lpf bytes : List ℕ) (basic read flow good : FlowModel)
+pub lpf_read : (files : FileSet) (lpf bytes : List ℕ) (basic read flow good : FlowModel)
     → file_at files lpf ≡ Ok bytes
     → read ≡ basic
     → lpf_of files lpf bytes read ≡ Ok flow
@@ -143,7 +143,7 @@ pub lpf_read : (files : List File) (lpf bytes : List ℕ) (basic read flow good 
 unfolding lpf_in
 lpf_read files lpf bytes basic read flow good a same b d is = rw (a, ← same, b, d, is) refl
 
-pub lpf_refused : (fault : TextFault) (files : List File) (lpf bytes : List ℕ) (basic read flow : FlowModel)
+pub lpf_refused : (fault : TextFault) (files : FileSet) (lpf bytes : List ℕ) (basic read flow : FlowModel)
     → file_at files lpf ≡ Ok bytes
     → read ≡ basic
     → lpf_of files lpf bytes read ≡ Ok flow

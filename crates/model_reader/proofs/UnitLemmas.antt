@@ -1,6 +1,6 @@
 -- The unit of length of a model that is read is a word of 64 bits.
 use Rattle.model_reader.proofs.Common.{◌≡◌, ℕ, zero, suc, ◌+◌, ◌-◌, ◌*◌, ◌^◌, ◌<◌, ◌≤◌, Bool, true, false, List, [], ◌∷◌, length, nat_abs, Option, Some, None}
-use Rattle.model_reader.proofs.Common.{Result, Ok, Err, refl, sym, ap, subst, arith, ℤ, File, file_at, Refusal, ◌>>=◌, FlowModel, bas_of, basics_of}
+use Rattle.model_reader.proofs.Common.{Result, Ok, Err, refl, sym, ap, subst, arith, ℤ, FileSet, file_at, Refusal, ◌>>=◌, FlowModel, bas_of, basics_of}
 use Rattle.model_reader.proofs.Common.{with_basics, contents_of, is_transient, lpf_of, with_contents, checked, Properties, basics_tested, bas_in, dis_in}
 use Rattle.model_reader.proofs.Common.{lpf_in, model_of, reads, evt_in, file_in, list_in, rch_in, where_named, with_entries, with_stresses}
 use Rattle.decimal_input.specs.declared.dec.NumFault.{NumFault}
@@ -112,7 +112,7 @@ head_short limits file left x h =
 abbrev pub HasShortUnit : FlowModel → Type 0
 HasShortUnit m = nat_abs m.lenuni < 2 ^ 64
 
-dis_short : (limits : Limits) (files : List File) (file bytes : List ℕ) (m : FlowModel) → dis_of limits files file bytes ≡ Ok m → HasShortUnit m
+dis_short : (limits : Limits) (files : FileSet) (file bytes : List ℕ) (m : FlowModel) → dis_of limits files file bytes ≡ Ok m → HasShortUnit m
 unfolding dis_of
 dis_short limits files file bytes m h =
     let head = goes (head_of limits file (without_comments (left_from 1 bytes))) _ m h in
@@ -125,13 +125,13 @@ dis_short limits files file bytes m h =
 abbrev Keeps : (FlowModel → Result FlowModel Refusal) → Type 0
 Keeps read = (m n : FlowModel) → read m ≡ Ok n → HasShortUnit m → HasShortUnit n
 
-bas_keeps : (files : List File) (file bytes : List ℕ) → Keeps (bas_of files file bytes)
+bas_keeps : (files : FileSet) (file bytes : List ℕ) → Keeps (bas_of files file bytes)
 unfolding bas_of
 bas_keeps files file bytes m n h short =
     let basics = goes (basics_of files file bytes m.grid) _ n h in
     ends HasShortUnit (with_basics m basics.item.0 basics.item.1) n basics.then_ short
 
-lpf_keeps : (files : List File) (file bytes : List ℕ) → Keeps (lpf_of files file bytes)
+lpf_keeps : (files : FileSet) (file bytes : List ℕ) → Keeps (lpf_of files file bytes)
 unfolding lpf_of
 lpf_keeps files file bytes m n h short =
     let contents = goes (contents_of files file bytes m.grid (is_transient m.periods)) _ n h in
@@ -143,27 +143,27 @@ package_keeps limits kind file bytes m n h short =
     let periods = goes (lists_of limits kind file bytes m.grid m.periods) _ n h in
     ends HasShortUnit (record m { periods = periods.item }) n periods.then_ short
 
-rch_keeps : (files : List File) (file bytes : List ℕ) → Keeps (rch_of files file bytes)
+rch_keeps : (files : FileSet) (file bytes : List ℕ) → Keeps (rch_of files file bytes)
 unfolding rch_of
 rch_keeps files file bytes m n h short =
     let recharge = goes (arrays_in recharge_arrays files file bytes m.grid m.ibound m.periods) _ n h in
     ends HasShortUnit (with_recharge m recharge.item) n recharge.then_ short
 
-evt_keeps : (files : List File) (file bytes : List ℕ) → Keeps (evt_of files file bytes)
+evt_keeps : (files : FileSet) (file bytes : List ℕ) → Keeps (evt_of files file bytes)
 unfolding evt_of
 evt_keeps files file bytes m n h short =
     let evaporation = goes (arrays_in evaporation_arrays files file bytes m.grid m.ibound m.periods) _ n h in
     ends HasShortUnit (with_evaporation m evaporation.item) n evaporation.then_ short
 
-list_in_keeps : {E : Type 0} (limits : Limits) (kind : Kind E) (files : List File) (file : List ℕ) → Keeps (list_in limits kind files file)
+list_in_keeps : {E : Type 0} (limits : Limits) (kind : Kind E) (files : FileSet) (file : List ℕ) → Keeps (list_in limits kind files file)
 unfolding file_in
 list_in_keeps limits kind files file m n h short = let bytes = goes (file_at files file) _ n h in package_keeps limits kind file bytes.item m n bytes.then_ short
 
-rch_in_keeps : (files : List File) (file : List ℕ) → Keeps (rch_in files file)
+rch_in_keeps : (files : FileSet) (file : List ℕ) → Keeps (rch_in files file)
 unfolding rch_in
 rch_in_keeps files file m n h short = let bytes = goes (file_at files file) _ n h in rch_keeps files file bytes.item m n bytes.then_ short
 
-evt_in_keeps : (files : List File) (file : List ℕ) → Keeps (evt_in files file)
+evt_in_keeps : (files : FileSet) (file : List ℕ) → Keeps (evt_in files file)
 unfolding evt_in
 evt_in_keeps files file m n h short = let bytes = goes (file_at files file) _ n h in evt_keeps files file bytes.item m n bytes.then_ short
 
@@ -171,7 +171,7 @@ named_keeps : (name : Option (List ℕ)) (read : List ℕ → FlowModel → Resu
 named_keeps None read keeps m n h short = ends HasShortUnit m n h short
 named_keeps (Some file) read keeps m n h short = keeps file m n h short
 
-entries_keep : (limits : Limits) (files : List File) (names : Pairs) → Keeps (with_entries limits files names)
+entries_keep : (limits : Limits) (files : FileSet) (names : Pairs) → Keeps (with_entries limits files names)
 unfolding with_entries
 entries_keep limits files names m n h short =
     let a = goes (where_named (file_of Wel names) (list_in limits wells files) m) _ n h in
@@ -182,7 +182,7 @@ entries_keep limits files names m n h short =
     (named_keeps (file_of Riv names) (list_in limits rivers files) (list_in_keeps limits rivers files) a.item b.item b.first
     (named_keeps (file_of Wel names) (list_in limits wells files) (list_in_keeps limits wells files) m a.item a.first short)))
 
-stresses_keep : (limits : Limits) (files : List File) (names : Pairs) → Keeps (with_stresses limits files names)
+stresses_keep : (limits : Limits) (files : FileSet) (names : Pairs) → Keeps (with_stresses limits files names)
 unfolding with_stresses
 stresses_keep limits files names m n h short =
     let a = goes (with_entries limits files names m) _ n h in
@@ -192,7 +192,7 @@ stresses_keep limits files names m n h short =
     (named_keeps (file_of Chd names) (list_in limits given_heads files) (list_in_keeps limits given_heads files) b.item c.item c.first
     (named_keeps (file_of Rch names) (rch_in files) (rch_in_keeps files) a.item b.item b.first (entries_keep limits files names m a.item a.first short)))
 
-bas_in_keeps : (files : List File) (dis bas : List ℕ) → Keeps (bas_in files dis bas)
+bas_in_keeps : (files : FileSet) (dis bas : List ℕ) → Keeps (bas_in files dis bas)
 unfolding bas_in
 bas_in_keeps files dis bas m n h short =
     let bytes = goes (file_at files bas) _ n h in
@@ -200,7 +200,7 @@ bas_in_keeps files dis bas m n h short =
     let tested = goes (basics_tested dis bas basic.item) _ n basic.then_ in
     ends HasShortUnit basic.item n tested.then_ (bas_keeps files bas bytes.item m basic.item basic.first short)
 
-lpf_in_keeps : (files : List File) (lpf : List ℕ) → Keeps (lpf_in files lpf)
+lpf_in_keeps : (files : FileSet) (lpf : List ℕ) → Keeps (lpf_in files lpf)
 unfolding lpf_in
 lpf_in_keeps files lpf m n h short =
     let bytes = goes (file_at files lpf) _ n h in
@@ -208,11 +208,11 @@ lpf_in_keeps files lpf m n h short =
     let good = goes (checked flow.item lpf Properties) _ n flow.then_ in
     ends HasShortUnit flow.item n good.then_ (lpf_keeps files lpf bytes.item m flow.item flow.first short)
 
-dis_in_short : (limits : Limits) (files : List File) (dis : List ℕ) (m : FlowModel) → dis_in limits files dis ≡ Ok m → HasShortUnit m
+dis_in_short : (limits : Limits) (files : FileSet) (dis : List ℕ) (m : FlowModel) → dis_in limits files dis ≡ Ok m → HasShortUnit m
 unfolding dis_in
 dis_in_short limits files dis m h = let bytes = goes (file_at files dis) _ m h in dis_short limits files dis bytes.item m bytes.then_
 
-model_short : (limits : Limits) (files : List File) (names : Pairs) (m : FlowModel) → model_of limits files names ≡ Ok m → HasShortUnit m
+model_short : (limits : Limits) (files : FileSet) (names : Pairs) (m : FlowModel) → model_of limits files names ≡ Ok m → HasShortUnit m
 unfolding model_of
 model_short limits files names m h =
     let begun = goes (dis_in limits files (needed Dis names)) _ m h in
@@ -222,6 +222,6 @@ model_short limits files names m h =
     (lpf_in_keeps files (needed Lpf names) basic.item flow.item flow.first
     (bas_in_keeps files (needed Dis names) (needed Bas names) begun.item basic.item basic.first (dis_in_short limits files (needed Dis names) begun.item begun.first)))
 
-pub unit_is_short : (limits : Limits) (files : List File) (name : List ℕ) (m : FlowModel) → reads limits files name ≡ Ok m → HasShortUnit m
+pub unit_is_short : (limits : Limits) (files : FileSet) (name : List ℕ) (m : FlowModel) → reads limits files name ≡ Ok m → HasShortUnit m
 unfolding reads
 unit_is_short limits files name m h = let names = goes (names_in files name) _ m h in model_short limits files names.item m names.then_

@@ -1,6 +1,6 @@
 -- A model from its files, in reading order: each file is read when its turn comes.
 use Rattle.std.specs.Prelude.{ℕ, List, Result, Ok}
-use Rattle.outside.specs.Files.{File}
+use Rattle.outside.specs.Files.{FileSet}
 use Rattle.outside.specs.Inputs.{file_at}
 use Rattle.outside.specs.declared.refusals.Refusal.{Refusal}
 use Rattle.record_lines.specs.Reading.{◌>>=◌}
@@ -16,7 +16,7 @@ use Rattle.cell_checks.specs.declared.passing.Check.TheVariants.{Thickness, Star
 use Rattle.model_reader.specs.Names.{names_in, needed}
 use Rattle.model_reader.specs.Stresses.{with_stresses}
 
-unfoldable pub dis_in : Limits → List File → List ℕ → Result FlowModel Refusal
+unfoldable pub dis_in : Limits → FileSet → List ℕ → Result FlowModel Refusal
 dis_in limits files dis = do
   bytes ← file_at files dis
   dis_of limits files dis bytes
@@ -27,14 +27,14 @@ basics_tested dis bas basic = do
   thick ← checked basic dis Thickness
   checked basic bas StartHead
 
-unfoldable pub bas_in : List File → List ℕ → List ℕ → FlowModel → Result FlowModel Refusal
+unfoldable pub bas_in : FileSet → List ℕ → List ℕ → FlowModel → Result FlowModel Refusal
 bas_in files dis bas begun = do
   bytes ← file_at files bas
   basic ← bas_of files bas bytes begun
   tested ← basics_tested dis bas basic
   Ok basic
 
-unfoldable pub lpf_in : List File → List ℕ → FlowModel → Result FlowModel Refusal
+unfoldable pub lpf_in : FileSet → List ℕ → FlowModel → Result FlowModel Refusal
 lpf_in files lpf basic = do
   bytes ← file_at files lpf
   flow ← lpf_of files lpf bytes basic
@@ -42,7 +42,7 @@ lpf_in files lpf basic = do
   Ok flow
 
 -- DIS, BAS6, LPF, and then the stresses
-unfoldable pub model_of : Limits → List File → Pairs → Result FlowModel Refusal
+unfoldable pub model_of : Limits → FileSet → Pairs → Result FlowModel Refusal
 model_of limits files names = do
   begun ← dis_in limits files (needed Dis names)
   basic ← bas_in files (needed Dis names) (needed Bas names) begun
@@ -50,7 +50,7 @@ model_of limits files names = do
   with_stresses limits files names flow
 
 -- the model that a name file describes, or the first refusal
-unfoldable pub reads : Limits → List File → List ℕ → Result FlowModel Refusal
+unfoldable pub reads : Limits → FileSet → List ℕ → Result FlowModel Refusal
 reads limits files name = do
   names ← names_in files name
   model_of limits files names

@@ -1,6 +1,6 @@
 -- The packages of a model.
 use Rattle.std.specs.Prelude.{ℕ, List, [], Result, unwrap_or}
-use Rattle.outside.specs.Files.{File}
+use Rattle.outside.specs.Files.{FileSet}
 use Rattle.outside.specs.Inputs.{file_at}
 use Rattle.outside.specs.declared.refusals.Refusal.{Refusal}
 use Rattle.record_lines.specs.Reading.{◌>>=◌}
@@ -9,7 +9,7 @@ use Rattle.name_file.specs.Reading.{names_of}
 use Rattle.name_file.specs.declared.package.Package.{Package}
 
 -- the packages that a name file names
-unfoldable pub names_in : List File → List ℕ → Result Pairs Refusal
+unfoldable pub names_in : FileSet → List ℕ → Result Pairs Refusal
 names_in files name = do
   bytes ← file_at files name
   names_of name bytes

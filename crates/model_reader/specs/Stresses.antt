@@ -1,6 +1,6 @@
 -- The stresses of a model, in reading order: each file is read when its turn comes, where the name file names it.
 use Rattle.std.specs.Prelude.{ℕ, List, Option, Some, None, Result, Ok}
-use Rattle.outside.specs.Files.{File}
+use Rattle.outside.specs.Files.{FileSet}
 use Rattle.outside.specs.Inputs.{file_at}
 use Rattle.outside.specs.declared.refusals.Refusal.{Refusal}
 use Rattle.record_lines.specs.Reading.{◌>>=◌}
@@ -22,20 +22,20 @@ where_named None read m = Ok m
 where_named (Some name) read m = read name m
 
 -- the model that a package's reading gives for a file
-unfoldable pub file_in : (List ℕ → List ℕ → FlowModel → Result FlowModel Refusal) → List File → List ℕ → FlowModel → Result FlowModel Refusal
+unfoldable pub file_in : (List ℕ → List ℕ → FlowModel → Result FlowModel Refusal) → FileSet → List ℕ → FlowModel → Result FlowModel Refusal
 file_in read files name m = do
   bytes ← file_at files name
   read name bytes m
 
-abbrev pub list_in : {E : Type 0} → Limits → Kind E → List File → List ℕ → FlowModel → Result FlowModel Refusal
+abbrev pub list_in : {E : Type 0} → Limits → Kind E → FileSet → List ℕ → FlowModel → Result FlowModel Refusal
 list_in limits kind = file_in (package_of limits kind)
 
-unfoldable pub rch_in : List File → List ℕ → FlowModel → Result FlowModel Refusal
+unfoldable pub rch_in : FileSet → List ℕ → FlowModel → Result FlowModel Refusal
 rch_in files rch m = do
   bytes ← file_at files rch
   rch_of files rch bytes m
 
-unfoldable pub evt_in : List File → List ℕ → FlowModel → Result FlowModel Refusal
+unfoldable pub evt_in : FileSet → List ℕ → FlowModel → Result FlowModel Refusal
 evt_in files evt m = do
   bytes ← file_at files evt
   evt_of files evt bytes m
@@ -50,7 +50,7 @@ lists_of limits Chd file bytes m = package_of limits given_heads file bytes m
 lists_of limits other file bytes m = Ok m
 
 -- WEL, RIV, DRN, GHB
-unfoldable pub with_entries : Limits → List File → Pairs → FlowModel → Result FlowModel Refusal
+unfoldable pub with_entries : Limits → FileSet → Pairs → FlowModel → Result FlowModel Refusal
 with_entries limits files names flow = do
   with_wells ← where_named (file_of Wel names) (list_in limits wells files) flow
   with_rivers ← where_named (file_of Riv names) (list_in limits rivers files) with_wells
@@ -58,7 +58,7 @@ with_entries limits files names flow = do
   where_named (file_of Ghb names) (list_in limits generals files) with_drains
 
 -- then RCH, CHD, EVT
-unfoldable pub with_stresses : Limits → List File → Pairs → FlowModel → Result FlowModel Refusal
+unfoldable pub with_stresses : Limits → FileSet → Pairs → FlowModel → Result FlowModel Refusal
 with_stresses limits files names flow = do
   with_generals ← with_entries limits files names flow
   with_recharge ← where_named (file_of Rch names) (rch_in files) with_generals

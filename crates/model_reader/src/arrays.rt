@@ -2,7 +2,7 @@
 //
 // Each is read where the name file names it.
 ghost use Rattle.std.specs.Prelude.{◌≡◌, IfOk, List};
-ghost use Rattle.outside.specs.Files.{File};
+ghost use Rattle.outside.specs.Files.{FileSet};
 ghost use Rattle.outside.specs.Folders.{ReadsOn};
 ghost use Rattle.record_lines.specs.Reading.{Has};
 ghost use Rattle.name_file.specs.Asking.{NamesMay};
@@ -30,7 +30,7 @@ pub fn rch_in<F: Folder>(
     requires valid { IsModel model }
     requires names { NamesMay (F.may folder.old) names.now }
     ensures folder { ReadsOn F.Folder folder.old folder.new result }
-    ensures model { (files : List File) → F.agrees folder.new files → Has (λ m. m) result (where_named (file_of Rch names.now) (rch_in files) model) }
+    ensures model { (files : FileSet) → F.agrees folder.new files → Has (λ m. m) result (where_named (file_of Rch names.now) (rch_in files) model) }
     ensures form { IfOk result IsModel }
 {
     match names.file_of(Package::Rch) {
@@ -53,7 +53,7 @@ pub fn evt_in<F: Folder>(
     requires valid { IsModel model }
     requires names { NamesMay (F.may folder.old) names.now }
     ensures folder { ReadsOn F.Folder folder.old folder.new result }
-    ensures model { (files : List File) → F.agrees folder.new files → Has (λ m. m) result (where_named (file_of Evt names.now) (evt_in files) model) }
+    ensures model { (files : FileSet) → F.agrees folder.new files → Has (λ m. m) result (where_named (file_of Evt names.now) (evt_in files) model) }
     ensures form { IfOk result IsModel }
 {
     match names.file_of(Package::Evt) {

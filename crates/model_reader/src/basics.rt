@@ -1,8 +1,7 @@
 // DIS, BAS6 and LPF, each with the checks of cells that follow it.
 ghost use Rattle.std.specs.Prelude.{◌≡◌, Ok, All, IfOk, List};
-ghost use Rattle.outside.specs.Files.{File};
+ghost use Rattle.outside.specs.Files.{FileSet};
 ghost use Rattle.outside.specs.Folders.{ReadsOn};
-ghost use Rattle.outside.specs.Inputs.{file_limit};
 ghost use Rattle.outside.specs.Names.{IsGoodName, folder_name};
 ghost use Rattle.record_lines.specs.Reading.{Has, HasText};
 ghost use Rattle.decimal_input.specs.Canonical.{IsDec};
@@ -32,9 +31,9 @@ pub fn dis_in<F: Folder>(
     name: &str,
 ) -> Result<FlowModel, InputFault>
     requires name { IsGoodName name.now }
-    requires may { F.may folder.old (folder_name name.now) file_limit }
+    requires may { F.may folder.old (folder_name name.now) }
     ensures folder { ReadsOn F.Folder folder.old folder.new result }
-    ensures model { (files : List File) → F.agrees folder.new files → Has (λ m. m) result (dis_in limits files name.now) }
+    ensures model { (files : FileSet) → F.agrees folder.new files → Has (λ m. m) result (dis_in limits files name.now) }
     ensures form { IfOk result IsBegun }
 {
     let bytes = read_input(alloc, folder, name)?;
@@ -87,10 +86,10 @@ pub fn bas_in<F: Folder>(
     model: FlowModel,
 ) -> Result<FlowModel, InputFault>
     requires name { IsGoodName name.now }
-    requires may { F.may folder.old (folder_name name.now) file_limit }
+    requires may { F.may folder.old (folder_name name.now) }
     requires begun { IsBegun model }
     ensures folder { ReadsOn F.Folder folder.old folder.new result }
-    ensures model { (files : List File) → F.agrees folder.new files → Has (λ m. m) result (bas_in files dis.now name.now model) }
+    ensures model { (files : FileSet) → F.agrees folder.new files → Has (λ m. m) result (bas_in files dis.now name.now model) }
     ensures form { IfOk result IsBasic }
 {
     let (bytes, begun) = opened(alloc, folder, name, model)?;
@@ -108,10 +107,10 @@ pub fn lpf_in<F: Folder>(
     model: FlowModel,
 ) -> Result<FlowModel, InputFault>
     requires name { IsGoodName name.now }
-    requires may { F.may folder.old (folder_name name.now) file_limit }
+    requires may { F.may folder.old (folder_name name.now) }
     requires basic { IsBasic model }
     ensures folder { ReadsOn F.Folder folder.old folder.new result }
-    ensures model { (files : List File) → F.agrees folder.new files → Has (λ m. m) result (lpf_in files name.now model) }
+    ensures model { (files : FileSet) → F.agrees folder.new files → Has (λ m. m) result (lpf_in files name.now model) }
     ensures form { IfOk result IsModel }
 {
     let (bytes, basic) = opened(alloc, folder, name, model)?;

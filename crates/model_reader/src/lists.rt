@@ -2,7 +2,7 @@
 //
 // Each is read where the name file names it.
 ghost use Rattle.std.specs.Prelude.{◌≡◌, IfOk, List};
-ghost use Rattle.outside.specs.Files.{File};
+ghost use Rattle.outside.specs.Files.{FileSet};
 ghost use Rattle.outside.specs.Folders.{ReadsOn};
 ghost use Rattle.record_lines.specs.Reading.{Has, HasText};
 ghost use Rattle.name_file.specs.Asking.{NamesMay};
@@ -54,7 +54,7 @@ pub fn list_in<F: Folder>(
     requires valid { IsModel model }
     requires names { NamesMay (F.may folder.old) names.now }
     ensures folder { ReadsOn F.Folder folder.old folder.new result }
-    ensures model { (files : List File) → F.agrees folder.new files →
+    ensures model { (files : FileSet) → F.agrees folder.new files →
         Has (λ m. m) result (where_named (file_of asked names.now) (file_in (lists_of limits asked) files) model) }
     ensures form { IfOk result IsModel }
 {

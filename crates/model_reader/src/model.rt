@@ -1,8 +1,7 @@
 // A model in reading order.
 ghost use Rattle.std.specs.Prelude.{◌≡◌, IfOk, List};
-ghost use Rattle.outside.specs.Files.{File};
+ghost use Rattle.outside.specs.Files.{FileSet};
 ghost use Rattle.outside.specs.Folders.{ReadsOn};
-ghost use Rattle.outside.specs.Inputs.{file_limit};
 ghost use Rattle.outside.specs.Names.{IsGoodName, folder_name};
 ghost use Rattle.record_lines.specs.Reading.{Has};
 ghost use Rattle.name_file.specs.Asking.{NamesMay};
@@ -32,7 +31,7 @@ pub fn read_model<F: Folder>(
 ) -> Result<FlowModel, InputFault>
     requires names { NamesMay (F.may folder.old) names.now }
     ensures folder { ReadsOn F.Folder folder.old folder.new result }
-    ensures model { (files : List File) → F.agrees folder.new files → Has (λ m. m) result (model_of limits files names.now) }
+    ensures model { (files : FileSet) → F.agrees folder.new files → Has (λ m. m) result (model_of limits files names.now) }
     ensures form { IfOk result IsModel }
 {
     let dis = needed(names, Package::Dis);
@@ -57,9 +56,9 @@ pub fn read_named_model<F: Folder>(
     folder: &mut F,
 ) -> Result<FlowModel, InputFault>
     requires name { IsGoodName name.now }
-    requires may { F.may folder.old (folder_name name.now) file_limit }
+    requires may { F.may folder.old (folder_name name.now) }
     ensures folder { ReadsOn F.Folder folder.old folder.new result }
-    ensures model { (files : List File) → F.agrees folder.new files → Has (λ m. m) result (reads limits files name.now) }
+    ensures model { (files : FileSet) → F.agrees folder.new files → Has (λ m. m) result (reads limits files name.now) }
     ensures form { IfOk result IsModel }
 {
     let names = read_name_file(alloc, folder, name)?;

@@ -1,8 +1,7 @@
 // The name file.
 ghost use Rattle.std.specs.Prelude.{◌≡◌, Contains, IfOk, IsTrue, unwrap_or, [], List};
-ghost use Rattle.outside.specs.Files.{File};
+ghost use Rattle.outside.specs.Files.{FileSet};
 ghost use Rattle.outside.specs.Folders.{ReadsOn};
-ghost use Rattle.outside.specs.Inputs.{file_limit};
 ghost use Rattle.outside.specs.Names.{IsGoodName, folder_name};
 ghost use Rattle.record_lines.specs.Reading.{Has};
 ghost use Rattle.name_file.specs.Asking.{NamesMay};
@@ -25,10 +24,10 @@ pub fn read_name_file<F: Folder>(
     name: &str,
 ) -> Result<Names, InputFault>
     requires name { IsGoodName name.now }
-    requires may { F.may folder.old (folder_name name.now) file_limit }
+    requires may { F.may folder.old (folder_name name.now) }
     ensures folder { ReadsOn F.Folder folder.old folder.new result }
     ensures files { IfOk result (NamesMay (F.may folder.new)) }
-    ensures names { (files : List File) → F.agrees folder.new files → Has (λ n. n) result (names_in files name.now) }
+    ensures names { (files : FileSet) → F.agrees folder.new files → Has (λ n. n) result (names_in files name.now) }
 {
     let bytes = read_input(alloc, folder, name)?;
     Ok(read_names(alloc, name, &bytes)?)

@@ -1,9 +1,9 @@
 // A file, read with the model that its contents are added to.
 ghost use Rattle.std.specs.Prelude.{◌≡◌, IfOk, List};
 ghost use Rattle.outside.specs.Asking.{TextMay};
-ghost use Rattle.outside.specs.Files.{File};
+ghost use Rattle.outside.specs.Files.{FileSet};
 ghost use Rattle.outside.specs.Folders.{ReadsOn};
-ghost use Rattle.outside.specs.Inputs.{file_at, file_limit};
+ghost use Rattle.outside.specs.Inputs.{file_at};
 ghost use Rattle.outside.specs.Names.{IsGoodName, folder_name};
 ghost use Rattle.record_lines.specs.Reading.{Has};
 
@@ -19,10 +19,10 @@ pub fn opened<F: Folder>(
     model: FlowModel,
 ) -> Result<(Vec<u8>, FlowModel), InputFault>
     requires name { IsGoodName name.now }
-    requires may { F.may folder.old (folder_name name.now) file_limit }
+    requires may { F.may folder.old (folder_name name.now) }
     ensures folder { ReadsOn F.Folder folder.old folder.new result }
     ensures words { IfOk result (λ x. TextMay (F.may folder.new) x.0.items) }
-    ensures bytes { (files : List File) → F.agrees folder.new files → Has (λ x. x.0.items) result (file_at files name.now) }
+    ensures bytes { (files : FileSet) → F.agrees folder.new files → Has (λ x. x.0.items) result (file_at files name.now) }
     ensures same { IfOk result (λ x. x.1 ≡ model) }
 {
     let bytes = read_input(alloc, folder, name)?;

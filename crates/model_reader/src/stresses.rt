@@ -1,6 +1,6 @@
 // The stresses of a model in reading order.
 ghost use Rattle.std.specs.Prelude.{◌≡◌, IfOk, List};
-ghost use Rattle.outside.specs.Files.{File};
+ghost use Rattle.outside.specs.Files.{FileSet};
 ghost use Rattle.outside.specs.Folders.{ReadsOn};
 ghost use Rattle.record_lines.specs.Reading.{Has};
 ghost use Rattle.name_file.specs.Asking.{NamesMay};
@@ -26,7 +26,7 @@ fn with_entries<F: Folder>(
     requires valid { IsModel model }
     requires names { NamesMay (F.may folder.old) names.now }
     ensures folder { ReadsOn F.Folder folder.old folder.new result }
-    ensures model { (files : List File) → F.agrees folder.new files → Has (λ m. m) result (with_entries limits files names.now model) }
+    ensures model { (files : FileSet) → F.agrees folder.new files → Has (λ m. m) result (with_entries limits files names.now model) }
     ensures form { IfOk result IsModel }
 {
     let with_wells = list_in(alloc, limits, names, Package::Wel, folder, model)?;
@@ -48,7 +48,7 @@ pub fn with_stresses<F: Folder>(
     requires valid { IsModel model }
     requires names { NamesMay (F.may folder.old) names.now }
     ensures folder { ReadsOn F.Folder folder.old folder.new result }
-    ensures model { (files : List File) → F.agrees folder.new files → Has (λ m. m) result (with_stresses limits files names.now model) }
+    ensures model { (files : FileSet) → F.agrees folder.new files → Has (λ m. m) result (with_stresses limits files names.now model) }
     ensures form { IfOk result IsModel }
 {
     let with_generals = with_entries(alloc, limits, names, folder, model)?;

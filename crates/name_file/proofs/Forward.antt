@@ -4,7 +4,6 @@ use Rattle.name_file.proofs.Common.{All-head, All-tail, All-contains, folder_nam
 use Rattle.name_file.proofs.Common.{with_pair, after_package, after_type, after_words, after_line, after_lines, missing, whole, names_of, Package, Dis, Bas}
 use Rattle.name_file.proofs.Common.{Lpf}
 use Rattle.outside.specs.Asking.{WordsMay, TextMay}
-use Rattle.outside.specs.Inputs.{file_limit}
 use Rattle.outside.specs.Words.{words}
 use Rattle.outside.specs.Refusals.{refusal}
 use Rattle.outside.specs.declared.codes.Code.TheVariants.{BadNameLine, DuplicatePackage}
@@ -15,22 +14,22 @@ use Rattle.record_lines.proofs.Forward.{chain, either, given, word_held, name_he
 use Rattle.name_file.specs.Asking.{NamesMay}
 use Rattle.name_file.specs.Kinds.{package_of, is_passed_over}
 
-module _ (may : List ℕ → ℕ → Type 0) where
+module _ (may : List ℕ → Type 0) where
   abbrev Named : Pairs → Type 0
-  Named names = All (λ pair. may (folder_name pair.1) file_limit) names
+  Named names = All (λ pair. may (folder_name pair.1)) names
 
-  file_held : (file : List ℕ) (line : ℕ) (ws : List (List ℕ)) → WordsMay may ws → IfOk (file_in file line ws) (λ n. may (folder_name n) file_limit)
+  file_held : (file : List ℕ) (line : ℕ) (ws : List (List ℕ)) → WordsMay may ws → IfOk (file_in file line ws) (λ n. may (folder_name n))
   unfolding file_in
   file_held file line ws h =
-      chain (λ x. may (folder_name x.0) file_limit × WordsMay may x.1) (λ n. may (folder_name n) file_limit) (word_at (refusal BadNameLine file line) ws) _ (word_held may (refusal BadNameLine file line) ws h)
-      (λ unit hu. chain (λ x. may (folder_name x.0) file_limit × WordsMay may x.1) (λ n. may (folder_name n) file_limit) (word_at (refusal BadNameLine file line) unit.1) _ (word_held may (refusal BadNameLine file line) unit.1 hu.1)
-      (λ name hn. either (λ n. may (folder_name n) file_limit) (is_integer unit.0) (name_at file line name.0) (Err (refusal BadNameLine file line)) (name_held may file line name.0 hn.0) tt))
+      chain (λ x. may (folder_name x.0) × WordsMay may x.1) (λ n. may (folder_name n)) (word_at (refusal BadNameLine file line) ws) _ (word_held may (refusal BadNameLine file line) ws h)
+      (λ unit hu. chain (λ x. may (folder_name x.0) × WordsMay may x.1) (λ n. may (folder_name n)) (word_at (refusal BadNameLine file line) unit.1) _ (word_held may (refusal BadNameLine file line) unit.1 hu.1)
+      (λ name hn. either (λ n. may (folder_name n)) (is_integer unit.0) (name_at file line name.0) (Err (refusal BadNameLine file line)) (name_held may file line name.0 hn.0) tt))
 
   package_held : (file : List ℕ) (line : ℕ) (found : Package) (ws : List (List ℕ)) (names : Pairs) → WordsMay may ws → Named names → IfOk (after_package file line found ws names) Named
   unfolding after_package
   package_held file line found ws names h all =
-      chain (λ n. may (folder_name n) file_limit) Named (file_in file line ws) _ (file_held file line ws h)
-      (λ name hn. either Named (has_package found names) (Err (refusal DuplicatePackage file line)) (Ok (names ++ (found, name) ∷ [])) tt (All-push (λ pair. may (folder_name pair.1) file_limit) names (found, name) all hn))
+      chain (λ n. may (folder_name n)) Named (file_in file line ws) _ (file_held file line ws h)
+      (λ name hn. either Named (has_package found names) (Err (refusal DuplicatePackage file line)) (Ok (names ++ (found, name) ∷ [])) tt (All-push (λ pair. may (folder_name pair.1)) names (found, name) all hn))
 
   type_held : (o : Option Package) (file : List ℕ) (line : ℕ) (ws : List (List ℕ)) (names : Pairs) → WordsMay may ws → Named names → IfOk (after_type o file line ws names) Named
   type_held None file line ws names h all = tt
@@ -40,7 +39,7 @@ module _ (may : List ℕ → ℕ → Type 0) where
   words_held file line [] names h all = all
   words_held file line (kind ∷ ws) names h all =
       either Named (is_passed_over kind) (Ok names) (after_type (package_of kind) file line ws names) all
-      (type_held (package_of kind) file line ws names (All-tail (λ w. may (folder_name w) file_limit) kind ws h) all)
+      (type_held (package_of kind) file line ws names (All-tail (λ w. may (folder_name w)) kind ws h) all)
 
   line_held : (file : List ℕ) (line : Numbered) (names : Pairs) → LineMay may line → Named names → IfOk (after_line file line names) Named
   unfolding after_line
@@ -63,7 +62,7 @@ module _ (may : List ℕ → ℕ → Type 0) where
   names_held : (file bytes : List ℕ) → TextMay may bytes → IfOk (names_of file bytes) Named
   unfolding names_of
   names_held file bytes h =
-      chain Named Named (after_lines file (left_from 1 bytes).lines []) (whole file) (lines_held file (left_from 1 bytes).lines [] (text_held may 1 bytes h).each (All-nil (λ pair. may (folder_name pair.1) file_limit)))
+      chain Named Named (after_lines file (left_from 1 bytes).lines []) (whole file) (lines_held file (left_from 1 bytes).lines [] (text_held may 1 bytes h).each (All-nil (λ pair. may (folder_name pair.1))))
       (λ names all. whole_held file names all)
 
   -- the files of the packages
@@ -71,9 +70,9 @@ module _ (may : List ℕ → ℕ → Type 0) where
   files_named file bytes names e h = record { each = given Named (names_of file bytes) names e (names_held file bytes h) }
 
   -- the file of one of them
-  pub file_named : (names : Pairs) (asked : Package) (name : List ℕ) → NamesMay may names → Contains names (asked, name) → may (folder_name name) file_limit
-  file_named names asked name h at = All-contains (λ pair. may (folder_name pair.1) file_limit) names (asked, name) h.each at
+  pub file_named : (names : Pairs) (asked : Package) (name : List ℕ) → NamesMay may names → Contains names (asked, name) → may (folder_name name)
+  file_named names asked name h at = All-contains (λ pair. may (folder_name pair.1)) names (asked, name) h.each at
 
 -- what might be asked for may still be
-pub names_still : (may more : List ℕ → ℕ → Type 0) (names : Pairs) → ((name : List ℕ) (limit : ℕ) → may name limit → more name limit) → NamesMay may names → NamesMay more names
-names_still may more names still h = record { each = λ k d lt. still _ _ (h.each k d lt) }
+pub names_still : (may more : List ℕ → Type 0) (names : Pairs) → ((name : List ℕ) → may name → more name) → NamesMay may names → NamesMay more names
+names_still may more names still h = record { each = λ k d lt. still _ (h.each k d lt) }

@@ -1,6 +1,7 @@
 -- Some files agree with what was read, whatever it is.
 use Rattle.outside.proofs.Common.{◌≡◌, ℕ, ◌+◌, Bool, true, false, List, [], ◌∷◌, cond, Option, None, IfSome, arith, refl, sym, subst, ◌∙◌, length-replicate}
 use Rattle.outside.proofs.Common.{bytes_eq-Decides, bytes_eq, File, bytes_under, Read, IsAsFound, AgreeWith, reading_of, Found, Bytes, Missing, TooLong}
+use Rattle.outside.proofs.Common.{FileSet, with_limit, ReadState, AgreesWith}
 use Rattle.std.specs.Prelude.{replicate}
 
 abbrev without : List ℕ → List File → List File
@@ -62,3 +63,7 @@ module _ (limit : ℕ) where
   -- some files agree with what was read
   pub some_agree : (readings : List Read) → (files : List File) × AgreeWith limit readings files
   some_agree readings = (shown_all limit readings, agrees readings)
+
+-- and a folder's limit
+pub all_agree : (s : ReadState) → (files : FileSet) × AgreesWith s files
+all_agree s = let (files, agree) = some_agree s.limit s.readings in (with_limit s.limit files, (refl, agree))

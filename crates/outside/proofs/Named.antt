@@ -6,15 +6,15 @@ use Rattle.outside.specs.Asking.{FoundMay}
 use Rattle.outside.specs.Words.{lines, words}
 
 -- what holds of each name among the words of what was found
-found_may : (P : List ℕ → ℕ → Type 0) (limit : ℕ) (found : Found) → ((name : List ℕ) → FoundNames name found → P name limit) → FoundMay P limit found
-found_may P limit (Bytes v) h = λ k d lt i e less.
+found_may : (P : List ℕ → Type 0) (found : Found) → ((name : List ℕ) → FoundNames name found → P name) → FoundMay P found
+found_may P (Bytes v) h = λ k d lt i e less.
     h _ (get_or (lines v.items) k d, Contains-get_or (lines v.items) k d lt, (get_or (words (get_or (lines v.items) k d)) i e, Contains-get_or (words (get_or (lines v.items) k d)) i e less, refl))
-found_may P limit Missing h = tt
-found_may P limit TooLong h = tt
+found_may P Missing h = tt
+found_may P TooLong h = tt
 
--- where the folder's limit is this one, each word of what was found may be asked for, if it is named
-pub found_asked : (given : List (List ℕ)) (bound : ℕ) (readings : List Read) (limit : ℕ) (found : Found) → limit ≡ bound → ((name : List ℕ) → FoundNames name found → IsNamedBy given readings name) → FoundMay (λ name asked. IsNamedBy given readings name × (asked ≡ bound)) limit found
-found_asked given bound readings limit found is named = found_may (λ name asked. IsNamedBy given readings name × (asked ≡ bound)) limit found (λ name h. (named name h, is))
+-- each word of what was found may be asked for, if it is named
+pub found_asked : (given : List (List ℕ)) (readings : List Read) (found : Found) → ((name : List ℕ) → FoundNames name found → IsNamedBy given readings name) → FoundMay (λ name. IsNamedBy given readings name) found
+found_asked given readings found named = found_may (λ name. IsNamedBy given readings name) found named
 
 module _ {X : Type 0} (x : X) (xs : List X) where
   at_front : (y : X) → x ≡ y → Contains (x ∷ xs) y

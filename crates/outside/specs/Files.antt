@@ -9,6 +9,15 @@ pub record File : Type 0 where
   pub name : List ℕ
   pub bytes : List ℕ
 
+-- files, and how many bytes of one are read
+pub record FileSet : Type 0 where
+  pub files : List File
+  pub limit : ℕ
+
+-- these files, with this limit
+abbrev pub with_limit : ℕ → List File → FileSet
+with_limit limit files = record { files = files; limit = limit }
+
 -- the bytes under a name: those of the first file of that name
 abbrev pub bytes_under : List ℕ → List File → Option (List ℕ)
 bytes_under name [] = None

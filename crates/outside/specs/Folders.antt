@@ -1,6 +1,6 @@
 -- What a reading does to the folder that it is given.
 use Rattle.std.specs.Prelude.{ℕ, List, Result}
-use Rattle.outside.specs.Files.{File}
+use Rattle.outside.specs.Files.{FileSet}
 use Rattle.outside.specs.Counts.{InputCounts}
 use Rattle.outside.specs.declared.traits.Folder.{Ghosts as FolderOf}
 use Rattle.outside.specs.declared.refusals.InputFault.{InputFault}
@@ -8,6 +8,6 @@ use Rattle.outside.specs.declared.refusals.InputFault.{InputFault}
 -- files that agree with the folder after the reading agreed with it before; only a read fault raised its count; and what it
 -- might be asked for before it may be asked for after
 pub record ReadsOn {S T : Type 0} (F : FolderOf S) (old new : S) (result : Result T InputFault) : Type 0 where
-  pub since : (files : List File) → F.agrees new files → F.agrees old files
+  pub since : (files : FileSet) → F.agrees new files → F.agrees old files
   pub counts : InputCounts (F.faults old) (F.faults new) result
-  pub still : (name : List ℕ) (limit : ℕ) → F.may old name limit → F.may new name limit
+  pub still : (name : List ℕ) → F.may old name → F.may new name

@@ -1,6 +1,6 @@
 -- What a named file of a folder gives: its bytes, or a refusal of the file as a whole.
 use Rattle.std.specs.Prelude.{◌≡◌, ℕ, List, length, nat_le, cond, None, Some, Option, Ok, Err, Result}
-use Rattle.outside.specs.Files.{File, bytes_under}
+use Rattle.outside.specs.Files.{FileSet, bytes_under}
 use Rattle.outside.specs.Names.{folder_name}
 use Rattle.outside.specs.declared.codes.Code.{Code}
 use Rattle.outside.specs.declared.codes.Code.TheVariants.{MissingFile, TooLong}
@@ -12,18 +12,14 @@ use Rattle.outside.specs.declared.refusals.InputFault.TheVariants.{Refused, Read
 abbrev pub file_refusal : Code → List ℕ → Refusal
 file_refusal code name = record { code = code; file = name; line = 0; at = None }
 
--- how many bytes a file may have: 64 MiB
-abbrev pub file_limit : ℕ
-file_limit = 67108864
-
--- a file's bytes, where it is there and not too long
-abbrev pub bytes_or_refusal : List ℕ → Option (List ℕ) → Result (List ℕ) Refusal
-bytes_or_refusal name None = Err (file_refusal MissingFile name)
-bytes_or_refusal name (Some bytes) = cond (nat_le (length bytes) file_limit) (Ok bytes) (Err (file_refusal TooLong name))
+-- a file's bytes, where it is there and has at most so many
+abbrev pub bytes_or_refusal : ℕ → List ℕ → Option (List ℕ) → Result (List ℕ) Refusal
+bytes_or_refusal limit name None = Err (file_refusal MissingFile name)
+bytes_or_refusal limit name (Some bytes) = cond (nat_le (length bytes) limit) (Ok bytes) (Err (file_refusal TooLong name))
 
 -- the bytes of a named file, or its refusal
-abbrev pub file_at : List File → List ℕ → Result (List ℕ) Refusal
-file_at files name = bytes_or_refusal name (bytes_under (folder_name name) files)
+abbrev pub file_at : FileSet → List ℕ → Result (List ℕ) Refusal
+file_at files name = bytes_or_refusal files.limit name (bytes_under (folder_name name) files.files)
 
 -- a reading returned what the files define: a value, or its refusal; a read fault and lack of
 -- memory say nothing of the files

@@ -9,9 +9,10 @@ use Rattle.outside.specs.declared.traits.FolderError.TheVariants as folder
 use Rattle.outside.specs.declared.traits.SinkError.{SinkError}
 use Rattle.outside.specs.declared.traits.SinkError.TheVariants as sink
 
--- the files, the latest first; the calls that must fail; the number of calls made; and of faults
+-- the files, the latest first; how many bytes of one are read; the calls that must fail; the number of calls made; and of faults
 pub record FolderState : Type 0 where
   pub files : List File
+  pub limit : ℕ
   pub script : List ℕ
   pub calls : ℕ
   pub faults : ℕ

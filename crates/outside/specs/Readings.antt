@@ -1,7 +1,7 @@
--- What a folder of the system has read, and which files agree with it. It is asked with one limit, its own.
+-- What a folder of the system has read, and which files agree with it. It has one limit for all.
 use Rattle.std.specs.Prelude.{◌≡◌, ℕ, ◌<◌, ◌⊎◌, List, [], ◌∷◌, length, cond, Contains, Option, Some, None, IfSome, IsSomeAnd}
 use Rattle.std.specs.Str.{bytes_eq}
-use Rattle.outside.specs.Files.{File, bytes_under}
+use Rattle.outside.specs.Files.{File, FileSet, bytes_under}
 use Rattle.outside.specs.Names.{folder_name}
 use Rattle.outside.specs.Words.{lines, words}
 use Rattle.outside.specs.declared.traits.Found.{Found}
@@ -34,6 +34,10 @@ IsAsFound under limit TooLong = IsSomeAnd under (λ bytes. limit < length bytes)
 abbrev pub AgreeWith : ℕ → List Read → List File → Type 0
 AgreeWith limit readings files = (name : List ℕ) → IfSome (reading_of name readings) (λ r. IsAsFound (bytes_under name files) limit r.found)
 
+-- the same, of files of which as many bytes are read as of those of the folder
+abbrev pub AgreesWith : ReadState → FileSet → Type 0
+AgreesWith s files = (files.limit ≡ s.limit) × AgreeWith s.limit s.readings files.files
+
 -- one of these words is this name, with a slash for each backslash
 abbrev pub AreNaming : List (List ℕ) → List ℕ → Type 0
 AreNaming ws name = (word : List ℕ) × Contains ws word × (folder_name word ≡ name)
@@ -51,6 +55,6 @@ IsNamedBy given readings name = AreNaming given name ⊎ ((r : Read) × Contains
 abbrev pub IsNamed : ReadState → List ℕ → Type 0
 IsNamed s name = IsNamedBy s.given s.readings name
 
--- the folder may be asked for a file by such a name, with its limit
-abbrev pub MayAsk : ReadState → List ℕ → ℕ → Type 0
-MayAsk s name limit = IsNamed s name × (limit ≡ s.limit)
+-- the folder may be asked for a file by such a name
+abbrev pub MayAsk : ReadState → List ℕ → Type 0
+MayAsk s name = IsNamed s name

@@ -1,8 +1,8 @@
 ghost use Rattle.std.specs.Prelude.{◌≡◌, List, IfOk};
 ghost use Rattle.outside.specs.Asking.{TextMay};
-ghost use Rattle.outside.specs.Files.{File};
+ghost use Rattle.outside.specs.Files.{FileSet};
 ghost use Rattle.outside.specs.Folders.{ReadsOn};
-ghost use Rattle.outside.specs.Inputs.{file_at, file_limit, file_refusal, IsReading};
+ghost use Rattle.outside.specs.Inputs.{file_at, file_refusal, IsReading};
 ghost use Rattle.outside.specs.Names.{IsGoodName, folder_name};
 ghost use Rattle.outside.specs.Refusals.{IsRefusal};
 
@@ -12,7 +12,7 @@ use crate::refusals::{InputFault, Refusal, TextFault};
 use crate::traits::{Folder, FolderError, Found};
 use std::alloc::{AllocError, Global};
 
-/// The greatest number of bytes of a file.
+/// The most bytes of a file by plain limits.
 pub const FILE_LIMIT: u64 = 67_108_864;
 
 /// A whole file of the folder. A missing file and one that is too long are refused, with the name
@@ -23,13 +23,13 @@ pub fn read_input<F: Folder>(
     name: &str,
 ) -> Result<Vec<u8>, InputFault>
     requires name { IsGoodName name.now }
-    requires may { F.may folder.old (folder_name name.now) file_limit }
+    requires may { F.may folder.old (folder_name name.now) }
     ensures folder { ReadsOn F.Folder folder.old folder.new result }
     ensures words { IfOk result (λ v. TextMay (F.may folder.new) v.items) }
-    ensures reads { (files : List File) → F.agrees folder.new files → IsReading (λ v. v.items) (file_at files name.now) result }
+    ensures reads { (files : FileSet) → F.agrees folder.new files → IsReading (λ v. v.items) (file_at files name.now) result }
 {
     let asked = folder_name(alloc, name)?;
-    match folder.read_file(alloc, asked.as_str(), FILE_LIMIT) {
+    match folder.read_file(alloc, asked.as_str()) {
         Ok(Found::Bytes(bytes)) => Ok(bytes),
         Ok(Found::Missing) => Err(InputFault::Refused(file_refusal(
             alloc,

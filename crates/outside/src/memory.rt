@@ -2,7 +2,7 @@ ghost use Rattle.std.specs.Prelude.{◌≡◌, ℕ, List, [], ◌∷◌, ◌++�
 ghost use Rattle.outside.specs.Memory.{SinkState, seen_in_memory, ReadsInMemory, PutsInMemory};
 ghost use Rattle.outside.specs.Counts.{ReadCounts};
 ghost use Rattle.outside.specs.Asking.{FoundMay};
-ghost use Rattle.outside.specs.Files.{File, IsFound};
+ghost use Rattle.outside.specs.Files.{FileSet, IsFound, with_limit};
 ghost use Rattle.outside.specs.Puts.{Put, PutMakes, PutsMake};
 
 use crate::stored::{Fail, MemFolder, MemSink, Stored, find_bytes, find_kept};
@@ -23,6 +23,13 @@ impl MemFolder {
         Ok(())
     }
 
+    /// Sets how many bytes of a file are read.
+    pub fn set_limit(&mut self, limit: u64)
+        ensures { self.new ≡ record self.old { limit = limit } }
+    {
+        self.limit = limit;
+    }
+
     /// Makes the call of this number, counted from 1, fail.
     pub fn fail_at(&mut self, call: u64) -> Result<(), AllocError>
         ensures ok { OnOk result (self.new ≡ record self.old { script = self.old.script ++ (call ∷ []) }) }
@@ -34,18 +41,18 @@ impl MemFolder {
 }
 
 impl Folder for MemFolder {
-    ghost agrees = { λ f files. files ≡ f.files };
+    ghost agrees = { λ f files. files ≡ with_limit f.limit f.files };
 
     ghost faults = { λ f. f.faults };
 
-    // It may be asked for any file, with any limit.
-    ghost may = { λ _ _ _. Unit {0} };
+    // It may be asked for any file.
+    ghost may = { λ _ _. Unit {0} };
 
-    fn read_file(&mut self, alloc: Global, name: &str, limit: u64) -> Result<Found, FolderError>
-        ensures still { (other : List ℕ) (bound : ℕ) → Unit {0} → Unit {0} }
-        ensures words { IfOk result (FoundMay (λ _ _. Unit {0}) limit) }
-        ensures since { (files : List File) → files ≡ self.new.files → files ≡ self.old.files }
-        ensures found { IfOk result (λ found. (files : List File) → files ≡ self.new.files → IsFound files name.now limit found) }
+    fn read_file(&mut self, alloc: Global, name: &str) -> Result<Found, FolderError>
+        ensures still { (other : List ℕ) → Unit {0} → Unit {0} }
+        ensures words { IfOk result (FoundMay (λ _. Unit {0})) }
+        ensures since { (files : FileSet) → files ≡ with_limit self.new.limit self.new.files → files ≡ with_limit self.old.limit self.old.files }
+        ensures found { IfOk result (λ found. (files : FileSet) → files ≡ with_limit self.new.limit self.new.files → IsFound files.files name.now files.limit found) }
         ensures counts { ReadCounts self.old.faults self.new.faults result }
 
         // A call fails exactly where its number is in the script.
@@ -59,7 +66,7 @@ impl Folder for MemFolder {
         match find_bytes(self.stored.as_slice(), name) {
             None => Ok(Found::Missing),
             Some(bytes) => {
-                if bytes.len() as u64 > limit {
+                if bytes.len() as u64 > self.limit {
                     return Ok(Found::TooLong);
                 }
                 match Vec::from_slice(alloc, bytes) {

@@ -2,8 +2,8 @@
 ghost use Rattle.std.specs.Prelude.{◌≡◌, ℕ, [], List, IfErr, IfOk, IfSome, map};
 ghost use Rattle.outside.specs.Asking.{FoundMay};
 ghost use Rattle.outside.specs.Counts.{ReadCounts};
-ghost use Rattle.outside.specs.Files.{File, IsFound, IsWithin};
-ghost use Rattle.outside.specs.Readings.{ReadState, AgreeWith, IsNamed, MayAsk, reading_of};
+ghost use Rattle.outside.specs.Files.{FileSet, IsFound, IsWithin};
+ghost use Rattle.outside.specs.Readings.{ReadState, AgreesWith, IsNamed, MayAsk, reading_of};
 
 use crate::readings::{Reading, reading_of};
 use crate::real::read_whole;
@@ -44,7 +44,7 @@ fn open_named<R: Files>(rt: &R, name: &str) -> io::Result<R::File> {
 }
 
 impl<'a, R: Files> RealFolder<'a, R> {
-    /// A folder that was asked for nothing yet, that these words may name files of, and that is asked with this limit.
+    /// A folder that was asked for nothing yet, that these words may name files of, and that reads at most so many bytes of one.
     pub fn new(rt: &'a R, alloc: Global, given: &'a [&'a str], limit: u64) -> RealFolder<'a, R>
         ensures { result ≡ record { given = map (λ w. w.now) given.now; limit = limit; readings = []; faults = 0 } }
     {
@@ -78,26 +78,27 @@ impl<'a, R: Files> RealFolder<'a, R> {
 }
 
 impl<'a, R: Files> Folder for RealFolder<'a, R> {
-    ghost agrees = { λ folder. AgreeWith folder.limit folder.readings };
+    ghost agrees = { AgreesWith };
 
     ghost faults = { λ folder. folder.faults };
 
     ghost may = { MayAsk };
 
-    fn read_file(&mut self, alloc: Global, name: &str, limit: u64) -> Result<Found, FolderError>
-        requires { MayAsk self.old name.now limit }
-        ensures still { (other : List ℕ) (bound : ℕ) → MayAsk self.old other bound → MayAsk self.new other bound }
-        ensures words { IfOk result (FoundMay (MayAsk self.new) limit) }
-        ensures since { (files : List File) → AgreeWith self.new.limit self.new.readings files → AgreeWith self.old.limit self.old.readings files }
-        ensures found { IfOk result (λ found. (files : List File) → AgreeWith self.new.limit self.new.readings files → IsFound files name.now limit found) }
+    fn read_file(&mut self, alloc: Global, name: &str) -> Result<Found, FolderError>
+        requires { MayAsk self.old name.now }
+        ensures still { (other : List ℕ) → MayAsk self.old other → MayAsk self.new other }
+        ensures words { IfOk result (FoundMay (MayAsk self.new)) }
+        ensures since { (files : FileSet) → AgreesWith self.new files → AgreesWith self.old files }
+        ensures found { IfOk result (λ found. (files : FileSet) → AgreesWith self.new files → IsFound files.files name.now files.limit found) }
         ensures counts { ReadCounts self.old.faults self.new.faults result }
 
         // The bytes that it returns are not too long, whichever files agree.
-        ensures within { IfOk result (λ found. IsWithin limit found) }
+        ensures within { IfOk result (λ found. IsWithin self.old.limit found) }
 
         // It has no fault of its own: a name that was answered before is no read fault.
         ensures again { IfSome (reading_of name.now self.old.readings) (λ _. IfErr result (λ fault. fault ≡ FolderError.Memory)) }
     {
+        let limit = self.limit;
         if let Some(reading) = reading_of(self.readings.as_slice(), name) {
             return Ok(reading.answer(alloc, limit)?);
         }

@@ -1,7 +1,7 @@
 -- Items that several package files have.
 use Rattle.std.specs.Prelude.{ℕ, ◌*◌, ℤ, List, Bool, replicate, Result, Ok, Err, if◌then◌else◌}
 use Rattle.decimal_input.specs.declared.dec.Dec.{Dec}
-use Rattle.outside.specs.Files.{File}
+use Rattle.outside.specs.Files.{FileSet}
 use Rattle.outside.specs.Refusals.{refusal}
 use Rattle.outside.specs.declared.codes.Code.TheVariants.{OutOfProfile}
 use Rattle.outside.specs.declared.refusals.Refusal.{Refusal}
@@ -27,5 +27,5 @@ unfoldable pub zero_list : List ℕ → ℕ → Left → Result (Unit {0} × Lef
 zero_list file count left = counted (zero_step file) 0 count (beginning, left) >>= λ s. Ok (tt, s.1)
 
 -- a layer of numbers where the file has it, else the same number in each of its cells
-unfoldable pub layer_or : List File → List ℕ → ℕ → ℕ → Bool → Dec → Left → Result (List Dec × Left) Refusal
+unfoldable pub layer_or : FileSet → List ℕ → ℕ → ℕ → Bool → Dec → Left → Result (List Dec × Left) Refusal
 layer_or files file rows cols is_there other left = if is_there then real_layer files file rows cols left else Ok (replicate (rows * cols) other, left)

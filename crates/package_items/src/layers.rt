@@ -1,7 +1,7 @@
 // Layer arrays that a file may lack.
 ghost use Rattle.std.specs.Prelude.{◌≡◌, ◌*◌, IfOk, length, All, List};
 ghost use Rattle.decimal_input.specs.Canonical.{IsDec};
-ghost use Rattle.outside.specs.Files.{File};
+ghost use Rattle.outside.specs.Files.{FileSet};
 ghost use Rattle.outside.specs.Folders.{ReadsOn};
 ghost use Rattle.record_lines.specs.Asking.{LinesMay};
 ghost use Rattle.record_lines.specs.Reading.{Gives};
@@ -29,7 +29,7 @@ pub fn layer_or<F: Folder>(
     requires lines { LinesMay (F.may folder.old) lines.old }
     ensures folder { ReadsOn F.Folder folder.old folder.new result }
     ensures lines { IfOk result (λ _. LinesMay (F.may folder.new) lines.new) }
-    ensures layer { (files : List File) → F.agrees folder.new files →
+    ensures layer { (files : FileSet) → F.agrees folder.new files →
         Gives (λ v. v.items) result lines.new (layer_or files file.now rows cols is_there other lines.old) }
     ensures count { IfOk result (λ v. length v.items ≡ rows * cols) }
     ensures canonical { IfOk result (λ v. All IsDec v.items) }

@@ -1,6 +1,6 @@
 -- The file of BAS6 is read as written.
 use Rattle.package_text.proofs.Common.{◌≡◌, ℕ, zero, suc, ◌+◌, ◌*◌, ◌<◌, List, [], ◌∷◌, ◌++◌, append_assoc, length, drop, All, Result, Ok, refl, sym, arith}
-use Rattle.package_text.proofs.Common.{false, codes, flat_map, range_with_len, append-nil, drop_all, drop-drop, take-append-drop, File, Refusal, Left}
+use Rattle.package_text.proofs.Common.{false, codes, flat_map, range_with_len, append-nil, drop_all, drop-drop, take-append-drop, FileSet, Refusal, Left}
 use Rattle.package_text.proofs.Common.{is_comment, next_number, appended, real, whole, layer_array, real_layer, integer_layer, layers, Grid, FlowModel}
 use Rattle.package_text.proofs.Common.{layer_size, cell_count, IsShort, Line, IsLine, line_text, text, number_after, unread, Reads, line_by_test, line_words}
 use Rattle.package_text.proofs.Common.{next_line, arrays, are_lines, layer_values, each_layer, IsDiscretized, IsBasic}
@@ -44,7 +44,7 @@ module _ {X : Type 0} (read : Left → Result (List X × Left) Refusal) (g : Gri
   pub all_layers_read : (n : ℕ) (others : List Line) → appended g.layers read (unread n (each_layer g lines ++ others)) ≡ Ok (xs, unread (number_after n (each_layer g lines)) others)
   all_layers_read n others = let none : 0 * layer_size g ≡ 0 = omega arith in rw none at (appended_reads g.layers 0 (omega arith) n others)
 
-module _ (files : List File) (file : List ℕ) (m : FlowModel) (d : IsDiscretized m) (b : IsBasic m) where
+module _ (files : FileSet) (file : List ℕ) (m : FlowModel) (d : IsDiscretized m) (b : IsBasic m) where
   integer_layer_reads : (k : ℕ) → k < m.grid.layers → Reads (integer_layer files file m.grid.rows m.grid.cols) (integer_layer_lines m.grid m.ibound k) (layer_values m.grid k m.ibound)
   integer_layer_reads k low =
       arrays.integer_layers files file m.grid.rows m.grid.cols (layer_values m.grid k m.ibound) d.grid.size.cols.0

@@ -45,7 +45,7 @@ pub use Rattle.model_types.specs.declared.limits.Limits.{Limits}
 pub use Rattle.model_types.specs.declared.model.FlowModel.{FlowModel}
 pub use Rattle.model_types.specs.declared.period.Period.{Period}
 pub use Rattle.number_limits.specs.Signs.{is_one, is_positive, within}
-pub use Rattle.outside.specs.Files.{File}
+pub use Rattle.outside.specs.Files.{FileSet}
 pub use Rattle.outside.specs.declared.refusals.Refusal.{Refusal}
 unfoldable pub use Rattle.package_items.specs.Items.{layer_or, zero_at, zero_list, zero_step}
 pub use Rattle.package_text.specs.Discretization.{steady_word}

@@ -1,7 +1,7 @@
 -- The file of DIS is read as written.
 use Rattle.package_text.proofs.Common.{◌≡◌, ℕ, ◌^◌, ◌<◌, ◌≤◌, ◌==◌, true, false, Bool, if◌then◌else◌, List, [], ◌∷◌, ◌++◌, length, map, All, Ok, refl, arith}
 use Rattle.package_text.proofs.Common.{codes, decimal, All-nil, All-cons, All-append, All-head, All-map, All-weaker, All-from_recursion, nat_tests, Dec, IsDec}
-use Rattle.package_text.proofs.Common.{File, is_comment, without_comments, left_from, next_number, Grid, FlowModel, cell_count, HasSize, int_at, is_nonzero}
+use Rattle.package_text.proofs.Common.{FileSet, is_comment, without_comments, left_from, next_number, Grid, FlowModel, cell_count, HasSize, int_at, is_nonzero}
 use Rattle.package_text.proofs.Common.{IsPositive, IsTimed, without_stresses, IsWord, Line, IsLine, line_text, text, numbered_lines, unread, word_by_test}
 use Rattle.package_text.proofs.Common.{count_is_word, integer_is_word, line_words, text_left, next_line, are_lines, layer_values, each_layer, dis_item_1}
 use Rattle.package_text.proofs.Common.{dis_item_2, dis_item_3, dis_item_4, dis_item_5, dis_item_6, dis_item_7, dis_lines, IsDiscretized, Limits, IsGridWithin}
@@ -119,7 +119,7 @@ module _ (m : FlowModel) (h : IsDiscretized m) where
         beds_read file (next_number 1) others m.grid h.grid h.laycbd,
       ) refl
 
-  pub dis_reads : (limits : Limits) (files : List File) (file : List ℕ) → IsGridWithin limits m.grid → dis_of limits files file (text (dis_lines m)) ≡ Ok (begun m.grid m.lenuni (map without_stresses m.periods))
+  pub dis_reads : (limits : Limits) (files : FileSet) (file : List ℕ) → IsGridWithin limits m.grid → dis_of limits files file (text (dis_lines m)) ≡ Ok (begun m.grid m.lenuni (map without_stresses m.periods))
   unfolding dis_of dis_lines
   dis_reads limits files file w =
       let periods = map dis_item_7 m.periods in

@@ -1,6 +1,6 @@
 -- DIS items 3 to 6 are read as written.
 use Rattle.package_text.proofs.Common.{◌≡◌, ℕ, ◌+◌, ◌*◌, ◌<◌, ◌≤◌, Bool, true, false, if◌then◌else◌, List, [], ◌∷◌, ◌++◌, append_assoc, length, take, replicate}
-use Rattle.package_text.proofs.Common.{nat_lt, All, Ok, refl, arith, list_all, All-head, All-tail, All-weaker, nat_tests, Dec, IsDec, File, real, real_layer}
+use Rattle.package_text.proofs.Common.{nat_lt, All, Ok, refl, arith, list_all, All-head, All-tail, All-weaker, nat_tests, Dec, IsDec, FileSet, real, real_layer}
 use Rattle.package_text.proofs.Common.{Grid, layer_size, cell_count, HasSize, IsGrid, int_at, is_nonzero, no_number, IsPositive, is_positive, layer_or}
 use Rattle.package_text.proofs.Common.{number_word, Line, number_after, unread, Reads, real_array, one, real_one, reals_written, arrays, layer_values}
 use Rattle.package_text.proofs.Common.{each_layer, dis_item_3, dis_item_4, dis_item_5, dis_item_6, IsOfBeds}
@@ -19,7 +19,7 @@ all_above [] h = refl
 all_above (d ∷ xs) h = rw (is_above d (All-head (λ x. IsPositive x) d xs h), all_above xs (All-tail (λ x. IsPositive x) d xs h)) refl
 
 -- an array of widths
-pub widths_read : (files : List File) (file : List ℕ) (count : ℕ) (xs : List Dec) → length xs ≡ count → 1 ≤ count → All (λ d. IsPositive d) xs
+pub widths_read : (files : FileSet) (file : List ℕ) (count : ℕ) (xs : List Dec) → length xs ≡ count → 1 ≤ count → All (λ d. IsPositive d) xs
     → Reads (widths files file count) (real_array 1 count xs) xs
 unfolding widths real_array
 widths_read files file count xs e some h =
@@ -27,11 +27,11 @@ widths_read files file count xs e some h =
     record { reads = λ n others. rw (array_reads real number_word one files file 1 count xs real_one some (omega arith) (reals_written xs numbers) n others, all_above xs h) refl }
 
 -- a layer of a list by cell
-pub layer_reads : (files : List File) (file : List ℕ) (g : Grid) (k : ℕ) (xs : List Dec) → HasSize g → k < g.layers → length xs ≡ cell_count g → All IsDec xs
+pub layer_reads : (files : FileSet) (file : List ℕ) (g : Grid) (k : ℕ) (xs : List Dec) → HasSize g → k < g.layers → length xs ≡ cell_count g → All IsDec xs
     → Reads (real_layer files file g.rows g.cols) (real_layer_lines g xs k) (layer_values g k xs)
 layer_reads files file g k xs size low e h = arrays.layers files file g.rows g.cols (layer_values g k xs) size.cols.0 (layer_length g k xs low e) (layer_has g IsDec k xs h)
 
-pub layer_or_by : (b : Bool) (files : List File) (file : List ℕ) (g : Grid) (k : ℕ) (xs : List Dec) (other : Dec) → HasSize g → k < g.layers → length xs ≡ cell_count g → All IsDec xs
+pub layer_or_by : (b : Bool) (files : FileSet) (file : List ℕ) (g : Grid) (k : ℕ) (xs : List Dec) (other : Dec) → HasSize g → k < g.layers → length xs ≡ cell_count g → All IsDec xs
     → (b ≡ false → layer_values g k xs ≡ replicate (layer_size g) other)
     → Reads (layer_or files file g.rows g.cols b other) (if b then real_layer_lines g xs k else []) (layer_values g k xs)
 unfolding layer_or number_after
@@ -39,11 +39,11 @@ layer_or_by true files file g k xs other size low e h none = record { reads = λ
 layer_or_by false files file g k xs other size low e h none = record { reads = λ n others. rw (none refl) refl }
 
 -- a layer that is written where the file has it
-pub layer_or_reads : (files : List File) (file : List ℕ) (g : Grid) (k : ℕ) (xs : List Dec) → HasSize g → k < g.layers → length xs ≡ cell_count g → All IsDec xs → IsOfBeds g xs
+pub layer_or_reads : (files : FileSet) (file : List ℕ) (g : Grid) (k : ℕ) (xs : List Dec) → HasSize g → k < g.layers → length xs ≡ cell_count g → All IsDec xs → IsOfBeds g xs
     → Reads (layer_or files file g.rows g.cols (is_nonzero (int_at g.laycbd k)) no_number) (if is_nonzero (int_at g.laycbd k) then real_layer_lines g xs k else []) (layer_values g k xs)
 layer_or_reads files file g k xs size low e h beds = layer_or_by (is_nonzero (int_at g.laycbd k)) files file g k xs no_number size low e h (beds k low)
 
-module _ (files : List File) (file : List ℕ) (g : Grid) (h : IsGrid g) (beds : IsOfBeds g g.bed_bottom) where
+module _ (files : FileSet) (file : List ℕ) (g : Grid) (h : IsGrid g) (beds : IsOfBeds g g.bed_bottom) where
   abbrev size_of : Size
   size_of = record { layers = g.layers; rows = g.rows; cols = g.cols }
 

@@ -1,6 +1,6 @@
 -- The file of LPF is read as written.
 use Rattle.package_text.proofs.Common.{◌≡◌, ℕ, ◌+◌, ◌*◌, ◌<◌, Bool, true, false, not, ◌||◌, List, [], ◌∷◌, ◌++◌, length, map, take, All, Ok, refl, sym, ap, ◌∙◌}
-use Rattle.package_text.proofs.Common.{arith, codes, append-nil, take_all, File, is_comment, next_number, FlowModel, Period, layer_size, int_at, is_nonzero}
+use Rattle.package_text.proofs.Common.{arith, codes, append-nil, take_all, FileSet, is_comment, next_number, FlowModel, Period, layer_size, int_at, is_nonzero}
 use Rattle.package_text.proofs.Common.{without_stresses, is_transient, with_properties, contents_of, lpf_of, layer_at, layers_of, Line, IsLine, line_text, text}
 use Rattle.package_text.proofs.Common.{number_after, unread, each_layer, storage_option, lpf_item_1, lpf_arrays, lpf_lines, IsDiscretized, HasFlow}
 use Rattle.package_text.proofs.LineCounts.{counted_reads, layers_are_lines, one_more_layer, all_layers}
@@ -16,7 +16,7 @@ bare_transient (p ∷ ps) = ap (λ (b : Bool). not p.steady || b) (bare_transien
 same_transient : (ps qs : List Period) → map without_stresses ps ≡ map without_stresses qs → is_transient ps ≡ is_transient qs
 same_transient ps qs e = sym (bare_transient ps) ∙ (ap (λ (xs : List Period). is_transient xs) e ∙ bare_transient qs)
 
-module _ (files : List File) (file : List ℕ) (m : FlowModel) (d : IsDiscretized m) (f : HasFlow m) where
+module _ (files : FileSet) (file : List ℕ) (m : FlowModel) (d : IsDiscretized m) (f : HasFlow m) where
   layer_step : (k : ℕ) → k < m.grid.layers → (n : ℕ) (others : List Line)
       → layer_at files file m.grid (chani files file m d f) (is_transient m.periods) k (above files file m d f k, unread n (lpf_arrays m k ++ others))
       ≡ Ok (above files file m d f (k + 1), unread (number_after n (lpf_arrays m k)) others)

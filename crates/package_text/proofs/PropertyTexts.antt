@@ -1,6 +1,6 @@
 -- LPF items 10 to 15 of a layer are read as written.
 use Rattle.package_text.proofs.Common.{◌≡◌, ℕ, zero, suc, ◌*◌, ◌<◌, Bool, true, false, if◌then◌else◌, List, [], ◌++◌, append_assoc, take, drop, replicate, Ok}
-use Rattle.package_text.proofs.Common.{refl, get_or-replicate, nil_from_length, Dec, File, FlowModel, layer_size, int_at, dec_at, is_nonzero, no_number}
+use Rattle.package_text.proofs.Common.{refl, get_or-replicate, nil_from_length, Dec, FileSet, FlowModel, layer_size, int_at, dec_at, is_nonzero, no_number}
 use Rattle.package_text.proofs.Common.{is_transient, storage_layer, properties_of, nth_layer, Line, number_after, unread, Reads, layer_values, lpf_arrays}
 use Rattle.package_text.proofs.Common.{IsDiscretized, HasFlow}
 use Rattle.lpf_package.specs.declared.layer.Properties.{Properties}
@@ -18,7 +18,7 @@ drop_none : {X : Type 0} (n : ℕ) → drop {A = X} n [] ≡ []
 drop_none zero = refl
 drop_none (suc n) = refl
 
-module _ (files : List File) (file : List ℕ) (m : FlowModel) (d : IsDiscretized m) (f : HasFlow m) where
+module _ (files : FileSet) (file : List ℕ) (m : FlowModel) (d : IsDiscretized m) (f : HasFlow m) where
   abbrev pub transient : Bool
   transient = is_transient m.periods
 

@@ -1,6 +1,6 @@
 -- Statements of laws: each package's file is read as written.
 use Rattle.std.specs.Prelude.{◌≡◌, ℕ, List, map, Ok}
-use Rattle.outside.specs.Files.{File}
+use Rattle.outside.specs.Files.{FileSet}
 use Rattle.model_types.specs.declared.limits.Limits.{Limits}
 use Rattle.model_types.specs.declared.model.FlowModel.{FlowModel}
 use Rattle.dis_package.specs.Discretization.{begun, dis_of}
@@ -15,17 +15,17 @@ use Rattle.package_text.specs.Readable.{IsDiscretized, IsGridWithin, IsBasic, Ha
 
 -- the file of DIS gives the grid, LENUNI and the stress periods by limits that the grid keeps
 abbrev pub DisReadsAsWritten : Type 0
-DisReadsAsWritten = (limits : Limits) (files : List File) (file : List ℕ) (m : FlowModel) → IsDiscretized m → IsGridWithin limits m.grid →
+DisReadsAsWritten = (limits : Limits) (files : FileSet) (file : List ℕ) (m : FlowModel) → IsDiscretized m → IsGridWithin limits m.grid →
     dis_of limits files file (text (dis_lines m)) ≡ Ok (begun m.grid m.lenuni (map without_stresses m.periods))
 
 -- the file of BAS6 gives IBOUND and STRT to a model with this grid
 abbrev pub BasReadsAsWritten : Type 0
-BasReadsAsWritten = (files : List File) (file : List ℕ) (m begun : FlowModel) → IsDiscretized m → IsBasic m → begun.grid ≡ m.grid →
+BasReadsAsWritten = (files : FileSet) (file : List ℕ) (m begun : FlowModel) → IsDiscretized m → IsBasic m → begun.grid ≡ m.grid →
     bas_of files file (text (bas_lines m)) begun ≡ Ok (with_basics begun m.ibound m.strt)
 
 -- the file of LPF gives the properties to a model with this grid and these times
 abbrev pub LpfReadsAsWritten : Type 0
-LpfReadsAsWritten = (files : List File) (file : List ℕ) (m basic : FlowModel) → IsDiscretized m → HasFlow m → basic.grid ≡ m.grid →
+LpfReadsAsWritten = (files : FileSet) (file : List ℕ) (m basic : FlowModel) → IsDiscretized m → HasFlow m → basic.grid ≡ m.grid →
     map without_stresses basic.periods ≡ map without_stresses m.periods →
     lpf_of files file (text (lpf_lines m)) basic
     ≡ Ok (with_properties basic m.coefficient m.layvka (record { hk = m.hk; hani = m.hani; vka = m.vka; ss = m.ss; vkcb = m.vkcb }))

@@ -13,5 +13,5 @@ option_held P kind file left h =
     (λ line hl. after (λ x. All P x.1.lines) (option_at file line.0.number (words line.0.bytes)) _
     (λ option. after (λ x. All P x.1.lines) (unit_if kind.evaporates file line.0.number option.1) _ (λ unit. hl)))
 
-pub option_leaves : (may : List ℕ → ℕ → Type 0) (kind : ArrayKind) (file : List ℕ) (left rest : Left) (option : ℤ) → option_line kind file left ≡ Ok (option, rest) → LinesMay may left → LinesMay may rest
+pub option_leaves : (may : List ℕ → Type 0) (kind : ArrayKind) (file : List ℕ) (left rest : Left) (option : ℤ) → option_line kind file left ≡ Ok (option, rest) → LinesMay may left → LinesMay may rest
 option_leaves may kind file left rest option e h = leaves may (option_line kind file left) option rest e (option_held (LineMay may) kind file left h.each)

@@ -1,6 +1,6 @@
 -- The arrays of RCH and EVT that are in force in a stress period (TM 6-A16, RCH and EVT).
 use Rattle.std.specs.Prelude.{ℕ, Bool, true, false, List, [], Result, Ok, if◌then◌else◌}
-use Rattle.outside.specs.Files.{File}
+use Rattle.outside.specs.Files.{FileSet}
 use Rattle.outside.specs.Words.{words}
 use Rattle.outside.specs.declared.refusals.Refusal.{Refusal}
 use Rattle.record_lines.specs.Items.{line_at}
@@ -27,7 +27,7 @@ abbrev pub array_or : {X : Type 0} → (Left → Result (List X × Left) Refusal
 array_or read anew before left = if anew then read left else Ok (before, left)
 
 -- SURF, EVTR, EXDP and IEVT; of recharge RECH and IRCH
-unfoldable pub arrays_of : List File → List ℕ → Grid → Flags → Area → Left → Result (Area × Left) Refusal
+unfoldable pub arrays_of : FileSet → List ℕ → Grid → Flags → Area → Left → Result (Area × Left) Refusal
 arrays_of files file grid flags before left = do
   surfaces ← array_or (real_layer files file grid.rows grid.cols) flags.surface before.surfaces left
   rates ← array_or (real_layer files file grid.rows grid.cols) flags.rate before.rates surfaces.1
@@ -36,7 +36,7 @@ arrays_of files file grid flags before left = do
   Ok (record { surfaces = surfaces.0; rates = rates.0; depths = depths.0; layers = layers.0 }, layers.1)
 
 -- a period's line and its arrays, which are then in force
-unfoldable pub area_at : Contents → List File → List ℕ → Grid → (InForce × Left) → Result (Area × (InForce × Left)) Refusal
+unfoldable pub area_at : Contents → FileSet → List ℕ → Grid → (InForce × Left) → Result (Area × (InForce × Left)) Refusal
 area_at contents files file grid s = do
   line ← line_at file s.1
   flags ← flags_of contents file line.0.number s.0.listed (words line.0.bytes)

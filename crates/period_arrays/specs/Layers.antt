@@ -1,6 +1,6 @@
 -- Arrays that name a layer for each column of layers: IRCH and IEVT (TM 6-A16, RCH and EVT). That 0 names none is this program's own.
 use Rattle.std.specs.Prelude.{ℕ, ℤ, pos, negsuc, Bool, false, nat_le, List, Some, Result, Ok, Err, if◌then◌else◌}
-use Rattle.outside.specs.Files.{File}
+use Rattle.outside.specs.Files.{FileSet}
 use Rattle.outside.specs.declared.codes.Code.{Code}
 use Rattle.outside.specs.declared.codes.Code.TheVariants.{CellOutside}
 use Rattle.outside.specs.declared.refusals.Refusal.{Refusal}
@@ -29,7 +29,7 @@ unfoldable pub layers_tested : List ℕ → Grid → List ℤ → Result (Unit {
 layers_tested file grid xs = counted (layer_step file grid xs) 0 (layer_size grid) tt
 
 -- an array of layers, which is tested as soon as it is read
-unfoldable pub layers_at : List File → List ℕ → Grid → Left → Result (List ℤ × Left) Refusal
+unfoldable pub layers_at : FileSet → List ℕ → Grid → Left → Result (List ℤ × Left) Refusal
 layers_at files file grid left = do
   xs ← integer_layer files file grid.rows grid.cols left
   good ← layers_tested file grid xs.0

@@ -1,6 +1,6 @@
 -- A file of a package of arrays (TM 6-A16, RCH and EVT).
 use Rattle.std.specs.Prelude.{ℕ, ℤ, Bool, List, Result, Ok, if◌then◌else◌}
-use Rattle.outside.specs.Files.{File}
+use Rattle.outside.specs.Files.{FileSet}
 use Rattle.outside.specs.Words.{words}
 use Rattle.outside.specs.declared.refusals.Refusal.{Refusal}
 use Rattle.record_lines.specs.Layout.{Left, left_from, without_comments}
@@ -19,19 +19,19 @@ use Rattle.period_arrays.specs.declared.area.InForce.{InForce}
 use Rattle.period_arrays.specs.declared.read.ArrayFile.{ArrayFile}
 
 -- a period's arrays, which are tested once all of them are read
-unfoldable pub tested_area : ArrayKind → List File → List ℕ → Grid → List ℤ → ℤ → (InForce × Left) → Result (Area × (InForce × Left)) Refusal
+unfoldable pub tested_area : ArrayKind → FileSet → List ℕ → Grid → List ℤ → ℤ → (InForce × Left) → Result (Area × (InForce × Left)) Refusal
 tested_area kind files file grid ibound option s = do
   area ← area_at (contents kind option) files file grid s
   passed ← kind.test file grid ibound option area.0
   Ok area
 
 -- the period with them
-unfoldable pub period_at : ArrayKind → List File → List ℕ → Grid → List ℤ → ℤ → Period → (InForce × Left) → Result (Period × (InForce × Left)) Refusal
+unfoldable pub period_at : ArrayKind → FileSet → List ℕ → Grid → List ℤ → ℤ → Period → (InForce × Left) → Result (Period × (InForce × Left)) Refusal
 period_at kind files file grid ibound option period s = do
   area ← tested_area kind files file grid ibound option s
   Ok (with_area kind period area.0, area.1)
 
-unfoldable pub periods_of : ArrayKind → List File → List ℕ → Grid → List ℤ → ℤ → List Period → Left → Result (List Period) Refusal
+unfoldable pub periods_of : ArrayKind → FileSet → List ℕ → Grid → List ℤ → ℤ → List Period → Left → Result (List Period) Refusal
 periods_of kind files file grid ibound option periods left =
     without_state (for_each (period_at kind files file grid ibound option) periods (nothing_yet, left))
 
@@ -48,7 +48,7 @@ option_line kind file left = do
   Ok (option.0, line.1)
 
 -- the option, and the arrays of each stress period
-unfoldable pub arrays_in : ArrayKind → List File → List ℕ → List ℕ → Grid → List ℤ → List Period → Result ArrayFile Refusal
+unfoldable pub arrays_in : ArrayKind → FileSet → List ℕ → List ℕ → Grid → List ℤ → List Period → Result ArrayFile Refusal
 arrays_in kind files file bytes grid ibound periods = do
   option ← option_line kind file (without_comments (left_from 1 bytes))
   whole ← periods_of kind files file grid ibound option.0 periods option.1

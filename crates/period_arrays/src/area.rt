@@ -1,6 +1,6 @@
 // The arrays of recharge or evapotranspiration that are in force.
 ghost use Rattle.std.specs.Prelude.{◌≡◌, IfOk, true, false, List};
-ghost use Rattle.outside.specs.Files.{File};
+ghost use Rattle.outside.specs.Files.{FileSet};
 ghost use Rattle.outside.specs.Folders.{ReadsOn};
 ghost use Rattle.record_lines.specs.Asking.{LinesMay};
 ghost use Rattle.record_lines.specs.Reading.{Gives};
@@ -84,7 +84,7 @@ fn reals_or<F: Folder>(
     requires lines { LinesMay (F.may folder.old) lines.old }
     ensures folder { ReadsOn F.Folder folder.old folder.new result }
     ensures lines { IfOk result (λ _. LinesMay (F.may folder.new) lines.new) }
-    ensures array { (files : List File) → F.agrees folder.new files →
+    ensures array { (files : FileSet) → F.agrees folder.new files →
         Gives (λ xs. xs) result lines.new (array_or (real_layer files file.now grid.now.rows grid.now.cols) anew before.now lines.old) }
     ensures form { IfOk result (λ xs. (anew ≡ false → IsReals grid.now before.now) → IsReals grid.now xs) }
 {
@@ -109,7 +109,7 @@ fn layers_at<F: Folder>(
     requires lines { LinesMay (F.may folder.old) lines.old }
     ensures folder { ReadsOn F.Folder folder.old folder.new result }
     ensures lines { IfOk result (λ _. LinesMay (F.may folder.new) lines.new) }
-    ensures array { (files : List File) → F.agrees folder.new files → Gives (λ v. v.items) result lines.new (layers_at files file.now grid.now lines.old) }
+    ensures array { (files : FileSet) → F.agrees folder.new files → Gives (λ v. v.items) result lines.new (layers_at files file.now grid.now lines.old) }
     ensures form { IfOk result (λ v. IsWhole grid.now v.items) }
 {
     let values = read_int_layer(alloc, lines, file, folder, grid.rows, grid.cols)?;
@@ -131,7 +131,7 @@ fn layers_or<F: Folder>(
     requires lines { LinesMay (F.may folder.old) lines.old }
     ensures folder { ReadsOn F.Folder folder.old folder.new result }
     ensures lines { IfOk result (λ _. LinesMay (F.may folder.new) lines.new) }
-    ensures array { (files : List File) → F.agrees folder.new files →
+    ensures array { (files : FileSet) → F.agrees folder.new files →
         Gives (λ xs. xs) result lines.new (array_or (layers_at files file.now grid.now) anew before.now lines.old) }
     ensures form { IfOk result (λ xs. (anew ≡ false → IsWhole grid.now before.now) → IsWhole grid.now xs) }
 {
@@ -161,7 +161,7 @@ fn arrays_of<F: Folder>(
     requires lines { LinesMay (F.may folder.old) lines.old }
     ensures folder { ReadsOn F.Folder folder.old folder.new result }
     ensures lines { IfOk result (λ _. LinesMay (F.may folder.new) lines.new) }
-    ensures area { (files : List File) → F.agrees folder.new files →
+    ensures area { (files : FileSet) → F.agrees folder.new files →
         Gives (λ a. a) result lines.new (arrays_of files file.now grid.now flags before.now.area lines.old) }
     ensures form { IfOk result (IsArea contents grid.now) }
 {
@@ -202,7 +202,7 @@ pub fn area_at<F: Folder>(
     requires lines { LinesMay (F.may folder.old) lines.old }
     ensures folder { ReadsOn F.Folder folder.old folder.new result }
     ensures lines { IfOk result (λ _. LinesMay (F.may folder.new) lines.new) }
-    ensures area { (files : List File) → F.agrees folder.new files →
+    ensures area { (files : FileSet) → F.agrees folder.new files →
         Gives (λ a. a) result (before.new, lines.new) (area_at contents files file.now grid.now (before.old, lines.old)) }
     ensures before { IfOk result (λ _. IsInForce contents grid.now before.new) }
     ensures form { IfOk result (IsArea contents grid.now) }

@@ -1,6 +1,6 @@
 // The periods with their arrays.
 ghost use Rattle.std.specs.Prelude.{◌≡◌, ℕ, ℤ, Ok, IfOk, All, map, List};
-ghost use Rattle.outside.specs.Files.{File};
+ghost use Rattle.outside.specs.Files.{FileSet};
 ghost use Rattle.outside.specs.Folders.{ReadsOn};
 ghost use Rattle.record_lines.specs.Asking.{LinesMay};
 ghost use Rattle.record_lines.specs.Reading.{Gives, Has, HasText, for_each};
@@ -68,7 +68,7 @@ fn tested_area<P: ArrayPackage, F: Folder>(
     requires lines { LinesMay (F.may folder.old) lines.old }
     ensures folder { ReadsOn F.Folder folder.old folder.new result }
     ensures lines { IfOk result (λ _. LinesMay (F.may folder.new) lines.new) }
-    ensures area { (files : List File) → F.agrees folder.new files →
+    ensures area { (files : FileSet) → F.agrees folder.new files →
         Gives (λ a. a) result (before.new, lines.new)
         (tested_area P.kind files file.now grid.now ibound.now option.now (before.old, lines.old)) }
     ensures before { IfOk result (λ _. IsInForce (contents P.kind option.now) grid.now before.new) }
@@ -108,7 +108,7 @@ fn period_at<P: ArrayPackage, F: Folder>(
     requires lines { LinesMay (F.may folder.old) lines.old }
     ensures folder { ReadsOn F.Folder folder.old folder.new result }
     ensures lines { IfOk result (λ _. LinesMay (F.may folder.new) lines.new) }
-    ensures period { (files : List File) → F.agrees folder.new files →
+    ensures period { (files : FileSet) → F.agrees folder.new files →
         Gives (λ p. p) result (before.new, lines.new)
         (period_at P.kind files file.now grid.now ibound.now option.now period (before.old, lines.old)) }
     ensures before { IfOk result (λ _. IsInForce (contents P.kind option.now) grid.now before.new) }
@@ -141,7 +141,7 @@ fn with_areas<P: ArrayPackage, F: Folder>(
     requires lines { LinesMay (F.may folder.old) lines.old }
     ensures folder { ReadsOn F.Folder folder.old folder.new result }
     ensures lines { IfOk result (λ _. LinesMay (F.may folder.new) lines.new) }
-    ensures periods { (files : List File) → F.agrees folder.new files →
+    ensures periods { (files : FileSet) → F.agrees folder.new files →
         Gives (λ v. v.items) result (before.new, lines.new)
         (for_each (period_at P.kind files file.now grid.now ibound.now option.now) periods.items (before.old, lines.old)) }
     ensures arrays { IfOk result (λ v. All (λ p. P.HasArrays file.now grid.now ibound.now option.now p.stresses) v.items) }
@@ -173,7 +173,7 @@ pub fn periods_of<P: ArrayPackage, F: Folder>(
     requires lines { LinesMay (F.may folder.old) lines.old }
     ensures folder { ReadsOn F.Folder folder.old folder.new result }
     ensures lines { IfOk result (λ _. LinesMay (F.may folder.new) lines.new) }
-    ensures periods { (files : List File) → F.agrees folder.new files →
+    ensures periods { (files : FileSet) → F.agrees folder.new files →
         Has (λ v. v.items) result (periods_of P.kind files file.now grid.now ibound.now option.now periods.items lines.old) }
     ensures arrays { IfOk result (λ v. All (λ p. P.HasArrays file.now grid.now ibound.now option.now p.stresses) v.items) }
     ensures others { IfOk result (λ v. map (without P.kind) v.items ≡ map (without P.kind) periods.items) }

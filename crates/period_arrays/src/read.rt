@@ -1,7 +1,7 @@
 // The file of a package of arrays.
 ghost use Rattle.std.specs.Prelude.{◌≡◌, ◌≤ℤ◌, pos, All, IfOk, List, map};
 ghost use Rattle.outside.specs.Asking.{TextMay};
-ghost use Rattle.outside.specs.Files.{File};
+ghost use Rattle.outside.specs.Files.{FileSet};
 ghost use Rattle.outside.specs.Folders.{ReadsOn};
 ghost use Rattle.record_lines.specs.Reading.{GivesText, Has, HasText};
 ghost use Rattle.model_types.specs.Grids.{HasSize};
@@ -75,7 +75,7 @@ pub fn read_arrays<P: ArrayPackage, F: Folder>(
     requires size { HasSize grid.now }
     requires text { TextMay (F.may folder.old) bytes.now }
     ensures folder { ReadsOn F.Folder folder.old folder.new result }
-    ensures arrays_read { (files : List File) → F.agrees folder.new files →
+    ensures arrays_read { (files : FileSet) → F.agrees folder.new files →
         Has (λ a. a) result (arrays_in P.kind files file.now bytes.now grid.now ibound.now periods.items) }
     ensures option { IfOk result (λ a. (pos 1 ≤ℤ a.option) × (a.option ≤ℤ pos 3)) }
     ensures arrays { IfOk result (λ a. All (λ p. P.HasArrays file.now grid.now ibound.now a.option p.stresses) a.periods) }

@@ -1,6 +1,6 @@
 -- The recharge package (TM 6-A16, RCH).
 use Rattle.std.specs.Prelude.{ℕ, false, List, [], Result, Ok}
-use Rattle.outside.specs.Files.{File}
+use Rattle.outside.specs.Files.{FileSet}
 use Rattle.outside.specs.declared.refusals.Refusal.{Refusal}
 use Rattle.record_lines.specs.Reading.{◌>>=◌}
 use Rattle.model_types.specs.declared.model.FlowModel.{FlowModel}
@@ -21,7 +21,7 @@ recharge_arrays = record {
 abbrev pub with_recharge : FlowModel → ArrayFile → FlowModel
 with_recharge m a = record m { nrchop = a.option; periods = a.periods }
 
-unfoldable pub rch_of : List File → List ℕ → List ℕ → FlowModel → Result FlowModel Refusal
+unfoldable pub rch_of : FileSet → List ℕ → List ℕ → FlowModel → Result FlowModel Refusal
 rch_of files file bytes m = do
   arrays ← arrays_in recharge_arrays files file bytes m.grid m.ibound m.periods
   Ok (with_recharge m arrays)

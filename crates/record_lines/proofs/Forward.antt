@@ -6,7 +6,6 @@ use Rattle.record_lines.proofs.Common.{next_word, source, taken, next_value}
 use Rattle.std.specs.Prelude.{IfOk}
 use Rattle.std.proofs.lemmas.List.Elements.{All-nil, All-cons, All-head, All-tail}
 use Rattle.outside.specs.Asking.{WordsMay, TextMay}
-use Rattle.outside.specs.Inputs.{file_limit}
 use Rattle.outside.specs.Names.{folder_name, is_good_name}
 use Rattle.outside.specs.Refusals.{refusal}
 use Rattle.outside.specs.declared.codes.Code.TheVariants.{BadName}
@@ -103,17 +102,17 @@ module _ (P : Numbered → Type 0) where
   unfolding next_value
   value_held t left h = taken_held (source t left) (source_held t left (t.repeat == 0) refl h)
 
-module _ (may : List ℕ → ℕ → Type 0) where
+module _ (may : List ℕ → Type 0) where
   -- the next word of a line
-  pub word_held : (missing : Refusal) (ws : List (List ℕ)) → WordsMay may ws → IfOk (word_at missing ws) (λ x. may (folder_name x.0) file_limit × WordsMay may x.1)
+  pub word_held : (missing : Refusal) (ws : List (List ℕ)) → WordsMay may ws → IfOk (word_at missing ws) (λ x. may (folder_name x.0) × WordsMay may x.1)
   unfolding word_at
   word_held missing [] h = tt
-  word_held missing (w ∷ ws) h = (All-head (λ w. may (folder_name w) file_limit) w ws h, All-tail (λ w. may (folder_name w) file_limit) w ws h)
+  word_held missing (w ∷ ws) h = (All-head (λ w. may (folder_name w)) w ws h, All-tail (λ w. may (folder_name w)) w ws h)
 
   -- a word as a name
-  pub name_held : (file : List ℕ) (line : ℕ) (name : List ℕ) → may (folder_name name) file_limit → IfOk (name_at file line name) (λ n. may (folder_name n) file_limit)
+  pub name_held : (file : List ℕ) (line : ℕ) (name : List ℕ) → may (folder_name name) → IfOk (name_at file line name) (λ n. may (folder_name n))
   unfolding name_at
-  name_held file line name h = either (λ n. may (folder_name n) file_limit) (is_good_name name) (Ok name) (Err (refusal BadName file line)) h tt
+  name_held file line name h = either (λ n. may (folder_name n)) (is_good_name name) (Ok name) (Err (refusal BadName file line)) h tt
 
   numbered_held : (n : ℕ) (ls : List (List ℕ)) → All (λ line. WordsMay may (words line)) ls → All (LineMay may) (numbered n ls)
   unfolding numbered
@@ -141,12 +140,12 @@ module _ (may : List ℕ → ℕ → Type 0) where
   line_leaves file left rest line e h = record { each = (given (λ x. LineMay may x.0 × All (LineMay may) x.1.lines) (line_at file left) (line, rest) e (line_held (LineMay may) file left h.each)).1 }
 
 -- a reading that keeps all lines leaves lines of which the same is known
-pub leaves : {X : Type 0} (may : List ℕ → ℕ → Type 0) (read : Result (X × Left) Refusal) (x : X) (rest : Left) → read ≡ Ok (x, rest) → IfOk read (λ x. All (LineMay may) x.1.lines) → LinesMay may rest
+pub leaves : {X : Type 0} (may : List ℕ → Type 0) (read : Result (X × Left) Refusal) (x : X) (rest : Left) → read ≡ Ok (x, rest) → IfOk read (λ x. All (LineMay may) x.1.lines) → LinesMay may rest
 leaves may read x rest e h = record { each = given (λ x. All (LineMay may) x.1.lines) read (x, rest) e h }
 
 -- what might be asked for may still be
-still_words : (may more : List ℕ → ℕ → Type 0) → ((name : List ℕ) (limit : ℕ) → may name limit → more name limit) → (ws : List (List ℕ)) → WordsMay may ws → WordsMay more ws
-still_words may more still ws h k d lt = still _ _ (h k d lt)
+still_words : (may more : List ℕ → Type 0) → ((name : List ℕ) → may name → more name) → (ws : List (List ℕ)) → WordsMay may ws → WordsMay more ws
+still_words may more still ws h k d lt = still _ (h k d lt)
 
-pub lines_still : (may more : List ℕ → ℕ → Type 0) (left : Left) → ((name : List ℕ) (limit : ℕ) → may name limit → more name limit) → LinesMay may left → LinesMay more left
+pub lines_still : (may more : List ℕ → Type 0) (left : Left) → ((name : List ℕ) → may name → more name) → LinesMay may left → LinesMay more left
 lines_still may more left still h = record { each = λ k d lt. still_words may more still _ (h.each k d lt) }

@@ -5,9 +5,9 @@ use Rattle.outside.specs.Words.{words}
 use Rattle.record_lines.specs.Layout.{Left, Numbered}
 
 -- each word of a line is such a name
-abbrev pub LineMay : (List ℕ → ℕ → Type 0) → Numbered → Type 0
+abbrev pub LineMay : (List ℕ → Type 0) → Numbered → Type 0
 LineMay may line = WordsMay may (words line.bytes)
 
 -- each word of each line that is left
-pub record LinesMay (may : List ℕ → ℕ → Type 0) (left : Left) : Type 0 where
+pub record LinesMay (may : List ℕ → Type 0) (left : Left) : Type 0 where
   pub each : All (LineMay may) left.lines

@@ -1,7 +1,7 @@
 // The files of a deck, given as lines of a text.
 ghost use Rattle.std.specs.Prelude.{◌≡◌, [], ◌∷◌, ◌++◌, OnOk, codes, string_bytes};
 
-use outside::MemFolder;
+use outside::{FILE_LIMIT, MemFolder};
 use std::alloc::{AllocError, Global};
 
 /// Files in memory, and the current file, which has no name between files.
@@ -15,10 +15,10 @@ pub struct Deck {
 impl Deck {
     /// A deck without files.
     pub fn new(alloc: Global) -> Deck
-        ensures { result.folder ≡ record { files = []; script = []; calls = 0; faults = 0 } }
+        ensures { result.folder ≡ record { files = []; limit = 67108864; script = []; calls = 0; faults = 0 } }
     {
         Deck {
-            folder: MemFolder::new(alloc),
+            folder: MemFolder::new(alloc, FILE_LIMIT),
             name: String::new(alloc),
             text: String::new(alloc),
         }

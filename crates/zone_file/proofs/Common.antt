@@ -4,6 +4,5 @@ pub use Rattle.std.proofs.Common.{unsigned_abs, ℕ, ◌∙◌, ◌∷◌, ◌�
 pub use Rattle.std.proofs.lemmas.Int.{ints}
 pub use Rattle.std.specs.List.{AllByRecursion, position, position_or_len}
 pub use Rattle.std.specs.Prelude.{negsuc, pos, ℤ}
-pub use Rattle.outside.specs.Inputs.{file_at}
 pub use Rattle.zone_file.specs.Zones.{IsZone, is_zone, wrong_at}
 unfoldable pub use Rattle.zone_file.specs.Zones.{zones_of, zones_tested}

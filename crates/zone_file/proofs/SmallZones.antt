@@ -1,8 +1,9 @@
 -- The zones that a file gives are at most 999.
 use Rattle.zone_file.proofs.Common.{◌≡◌, ℕ, ◌≤◌, false, not, List, [], ◌∷◌, All, None, Some, Option, Result, Ok, Err, map, unsigned_abs, refl, sym, ap, ◌∙◌}
-use Rattle.zone_file.proofs.Common.{subst, arith, ℤ, pos, negsuc, AllByRecursion, position, ints, file_at, IsZone, is_zone, wrong_at, zones_of, zones_tested}
+use Rattle.zone_file.proofs.Common.{subst, arith, ℤ, pos, negsuc, AllByRecursion, position, ints, IsZone, is_zone, wrong_at, zones_of, zones_tested}
+use Rattle.outside.specs.Inputs.{file_at}
 use Rattle.std.proofs.lemmas.List.Elements.{All-from_recursion, recursion_from_All}
-use Rattle.outside.specs.Files.{File}
+use Rattle.outside.specs.Files.{FileSet}
 use Rattle.outside.specs.declared.refusals.Refusal.{Refusal}
 use Rattle.record_lines.specs.Items.{name_at}
 use Rattle.record_lines.specs.Layout.{left_from}
@@ -45,7 +46,7 @@ passed file grid zs u h =
     let none = none_wrong file grid (position (λ z. not (is_zone z)) zs) u h in
     All-from_recursion (λ n. n ≤ 999) (map unsigned_abs zs) (all_small zs (recursion_from_All IsZone zs (zones_are zs none)))
 
-pub numbers_small : (files : List File) (grid : Grid) (name : List ℕ) (zs : List ℤ) → zones_of files grid name ≡ Ok zs → All (λ n. n ≤ 999) (map unsigned_abs zs)
+pub numbers_small : (files : FileSet) (grid : Grid) (name : List ℕ) (zs : List ℤ) → zones_of files grid name ≡ Ok zs → All (λ n. n ≤ 999) (map unsigned_abs zs)
 unfolding zones_of
 numbers_small files grid name zs h =
     let file = goes (name_at _ 0 name) _ zs h in

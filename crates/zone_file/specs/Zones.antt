@@ -2,7 +2,7 @@
 -- arrays are those of IBOUND (TM 6-A16, array reader U2DINT).
 use Rattle.std.specs.Prelude.{ℕ, ℤ, pos, negsuc, ◌≤ℤ◌, Bool, false, not, nat_le, List, Option, Some, None, Result, Ok, Err, codes}
 use Rattle.std.specs.List.{position}
-use Rattle.outside.specs.Files.{File}
+use Rattle.outside.specs.Files.{FileSet}
 use Rattle.outside.specs.Inputs.{file_at}
 use Rattle.outside.specs.declared.codes.Code.TheVariants.{BadProperty}
 use Rattle.outside.specs.declared.refusals.Refusal.{Refusal}
@@ -34,7 +34,7 @@ zones_tested file grid zones = wrong_at file grid (position (λ z. not (is_zone 
 
 -- The zones that a file gives the cells of a grid. A bad name of the file is refused with the file '-'. The file has
 -- an array for each layer from its first line on; once all are read, all numbers are tested.
-unfoldable pub zones_of : List File → Grid → List ℕ → Result (List ℤ) Refusal
+unfoldable pub zones_of : FileSet → Grid → List ℕ → Result (List ℤ) Refusal
 zones_of files grid name = do
   file ← name_at (codes "-") 0 name
   bytes ← file_at files file

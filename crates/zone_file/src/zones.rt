@@ -1,8 +1,7 @@
 // The zones of a model's cells.
 ghost use Rattle.std.specs.Prelude.{◌≡◌, IfOk, length, All, List};
-ghost use Rattle.outside.specs.Files.{File};
+ghost use Rattle.outside.specs.Files.{FileSet};
 ghost use Rattle.outside.specs.Folders.{ReadsOn};
-ghost use Rattle.outside.specs.Inputs.{file_limit};
 ghost use Rattle.outside.specs.Names.{folder_name};
 ghost use Rattle.record_lines.specs.Reading.{Has};
 ghost use Rattle.model_types.specs.Cells.{cell_count};
@@ -32,9 +31,9 @@ pub fn read_zones<F: Folder>(
     folder: &mut F,
 ) -> Result<Vec<i64>, InputFault>
     requires size { HasSize model.now.grid }
-    requires may { F.may folder.old (folder_name name.now) file_limit }
+    requires may { F.may folder.old (folder_name name.now) }
     ensures folder { ReadsOn F.Folder folder.old folder.new result }
-    ensures zones { (files : List File) → F.agrees folder.new files → Has (λ v. v.items) result (zones_of files model.now.grid name.now) }
+    ensures zones { (files : FileSet) → F.agrees folder.new files → Has (λ v. v.items) result (zones_of files model.now.grid name.now) }
     ensures count { IfOk result (λ v. length v.items ≡ cell_count model.now.grid) }
     ensures limits { IfOk result (λ v. All IsZone v.items) }
 {

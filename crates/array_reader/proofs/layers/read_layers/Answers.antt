@@ -16,7 +16,7 @@ loop-preserved g c = (
   c.in_ok-layer.ensures.folder.counts ∙ c.loop.invariant.2,
   all_joined g.V.Value.Good c.loop.values.items c.in_ok-layer.layer.items _ (rw (c.in_ok-extend_from_slice.ensures.items, c.deref.ensures.value) refl) c.loop.invariant.3 c.in_ok-layer.ensures.good,
   row_joined c.loop.values.items c.in_ok-layer.layer.items _ c.loop.counter (c.args.rows * c.args.cols) (rw (c.in_ok-extend_from_slice.ensures.items, c.deref.ensures.value) refl) c.loop.invariant.4 c.in_ok-layer.ensures.count,
-  (λ name limit h. c.in_ok-layer.ensures.folder.still name limit (c.loop.invariant.5 name limit h)),
+  (λ name h. c.in_ok-layer.ensures.folder.still name (c.loop.invariant.5 name h)),
   c.in_ok-layer.ensures.lines,
 )
 

@@ -1,12 +1,12 @@
 use Rattle.array_reader.proofs.Common.{◌≡◌, ℕ, ◌-◌, ◌*◌, length, All, LinesMay, appended, with_front, layer_array}
 use Rattle.std.specs.Prelude.{List}
-use Rattle.outside.specs.Files.{File}
+use Rattle.outside.specs.Files.{FileSet}
 use Rattle.array_reader.proofs.layers.read_layers.Given as goal
 
 abbrev pub invariant-loop : goal.invariant-loop
 invariant-loop g l =
-    ((files : List File) → g.F.Folder.agrees l.folder files → with_front l.values.items (appended (l.count - l.counter) (layer_array g.V.Value.kind files l.file l.rows l.cols) l.lines)
+    ((files : FileSet) → g.F.Folder.agrees l.folder files → with_front l.values.items (appended (l.count - l.counter) (layer_array g.V.Value.kind files l.file l.rows l.cols) l.lines)
     ≡ appended l.count (layer_array g.V.Value.kind files l.file l.rows l.cols) l.fn.lines)
-    × ((files : List File) → g.F.Folder.agrees l.folder files → g.F.Folder.agrees l.fn.folder files) × (g.F.Folder.faults l.folder ≡ g.F.Folder.faults l.fn.folder)
+    × ((files : FileSet) → g.F.Folder.agrees l.folder files → g.F.Folder.agrees l.fn.folder files) × (g.F.Folder.faults l.folder ≡ g.F.Folder.faults l.fn.folder)
     × All g.V.Value.Good l.values.items × (length l.values.items ≡ l.counter * (l.rows * l.cols))
-    × ((name : List ℕ) (limit : ℕ) → g.F.Folder.may l.fn.folder name limit → g.F.Folder.may l.folder name limit) × LinesMay (g.F.Folder.may l.folder) l.lines
+    × ((name : List ℕ) → g.F.Folder.may l.fn.folder name → g.F.Folder.may l.folder name) × LinesMay (g.F.Folder.may l.folder) l.lines

@@ -18,7 +18,7 @@ loop-k-preserved g c = (
   grind arith,
   c.in_ok-more.ensures.canonical.0,
   c.in_ok-more.ensures.canonical.1,
-  (λ name limit h. c.in_ok-more.ensures.folder.still name limit (c.loop-k.invariant.7 name limit h)),
+  (λ name h. c.in_ok-more.ensures.folder.still name (c.loop-k.invariant.7 name h)),
   c.in_ok-more.ensures.lines,
 )
 

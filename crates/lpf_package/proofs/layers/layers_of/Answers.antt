@@ -16,7 +16,7 @@ loop-k-preserved g c = (
   (λ files agree. c.loop-k.invariant.1 files (c.in_ok-more.ensures.folder.since files agree)),
   c.in_ok-more.ensures.folder.counts ∙ c.loop-k.invariant.2,
   c.in_ok-more.ensures.form,
-  (λ name limit h. c.in_ok-more.ensures.folder.still name limit (c.loop-k.invariant.4 name limit h)),
+  (λ name h. c.in_ok-more.ensures.folder.still name (c.loop-k.invariant.4 name h)),
   c.in_ok-more.ensures.lines,
 )
 

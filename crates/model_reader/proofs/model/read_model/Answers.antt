@@ -29,10 +29,10 @@ pub dis_in-requires-clause-may : goal.dis_in-requires-clause-may
 dis_in-requires-clause-may g c = file_named _ _ _ _ c.requires.names c.needed-dis.ensures.pair
 
 pub bas_in-requires-clause-may : goal.bas_in-requires-clause-may
-bas_in-requires-clause-may g c = c.in_ok-begun.ensures.folder.still _ _ (file_named _ _ _ _ c.requires.names c.needed-bas.ensures.pair)
+bas_in-requires-clause-may g c = c.in_ok-begun.ensures.folder.still _ (file_named _ _ _ _ c.requires.names c.needed-bas.ensures.pair)
 
 pub lpf_in-requires-clause-may : goal.lpf_in-requires-clause-may
-lpf_in-requires-clause-may g c = c.in_ok-basic.ensures.folder.still _ _ (c.in_ok-begun.ensures.folder.still _ _ (file_named _ _ _ _ c.requires.names c.needed-lpf.ensures.pair))
+lpf_in-requires-clause-may g c = c.in_ok-basic.ensures.folder.still _ (c.in_ok-begun.ensures.folder.still _ (file_named _ _ _ _ c.requires.names c.needed-lpf.ensures.pair))
 
 pub with_stresses-requires-clause-names : goal.with_stresses-requires-clause-names
-with_stresses-requires-clause-names g c = names_still _ _ _ (λ name limit h. c.in_ok-flow.ensures.folder.still name limit (c.in_ok-basic.ensures.folder.still name limit (c.in_ok-begun.ensures.folder.still name limit h))) c.requires.names
+with_stresses-requires-clause-names g c = names_still _ _ _ (λ name h. c.in_ok-flow.ensures.folder.still name (c.in_ok-basic.ensures.folder.still name (c.in_ok-begun.ensures.folder.still name h))) c.requires.names

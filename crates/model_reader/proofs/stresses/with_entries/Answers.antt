@@ -49,10 +49,10 @@ returns-clause-model g c = λ files agree.
     (c.list_in-4.ensures.model files agree)))
 
 pub list_in-requires-2-clause-names : goal.list_in-requires-2-clause-names
-list_in-requires-2-clause-names g c = names_still _ _ _ (λ name limit h. c.in_ok-with_wells.ensures.folder.still name limit h) c.requires.names
+list_in-requires-2-clause-names g c = names_still _ _ _ (λ name h. c.in_ok-with_wells.ensures.folder.still name h) c.requires.names
 
 pub list_in-requires-3-clause-names : goal.list_in-requires-3-clause-names
-list_in-requires-3-clause-names g c = names_still _ _ _ (λ name limit h. c.in_ok-with_rivers.ensures.folder.still name limit (c.in_ok-with_wells.ensures.folder.still name limit h)) c.requires.names
+list_in-requires-3-clause-names g c = names_still _ _ _ (λ name h. c.in_ok-with_rivers.ensures.folder.still name (c.in_ok-with_wells.ensures.folder.still name h)) c.requires.names
 
 pub list_in-requires-4-clause-names : goal.list_in-requires-4-clause-names
-list_in-requires-4-clause-names g c = names_still _ _ _ (λ name limit h. c.in_ok-with_drains.ensures.folder.still name limit (c.in_ok-with_rivers.ensures.folder.still name limit (c.in_ok-with_wells.ensures.folder.still name limit h))) c.requires.names
+list_in-requires-4-clause-names g c = names_still _ _ _ (λ name h. c.in_ok-with_drains.ensures.folder.still name (c.in_ok-with_rivers.ensures.folder.still name (c.in_ok-with_wells.ensures.folder.still name h))) c.requires.names

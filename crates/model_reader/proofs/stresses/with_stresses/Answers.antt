@@ -38,10 +38,10 @@ returns-clause-model g c = λ files agree.
     (c.evt_in.ensures.model files agree)))
 
 pub rch_in-requires-clause-names : goal.rch_in-requires-clause-names
-rch_in-requires-clause-names g c = names_still _ _ _ (λ name limit h. c.in_ok-with_generals.ensures.folder.still name limit h) c.requires.names
+rch_in-requires-clause-names g c = names_still _ _ _ (λ name h. c.in_ok-with_generals.ensures.folder.still name h) c.requires.names
 
 pub list_in-requires-clause-names : goal.list_in-requires-clause-names
-list_in-requires-clause-names g c = names_still _ _ _ (λ name limit h. c.in_ok-with_recharge.ensures.folder.still name limit (c.in_ok-with_generals.ensures.folder.still name limit h)) c.requires.names
+list_in-requires-clause-names g c = names_still _ _ _ (λ name h. c.in_ok-with_recharge.ensures.folder.still name (c.in_ok-with_generals.ensures.folder.still name h)) c.requires.names
 
 pub evt_in-requires-clause-names : goal.evt_in-requires-clause-names
-evt_in-requires-clause-names g c = names_still _ _ _ (λ name limit h. c.in_ok-with_given.ensures.folder.still name limit (c.in_ok-with_recharge.ensures.folder.still name limit (c.in_ok-with_generals.ensures.folder.still name limit h))) c.requires.names
+evt_in-requires-clause-names g c = names_still _ _ _ (λ name h. c.in_ok-with_given.ensures.folder.still name (c.in_ok-with_recharge.ensures.folder.still name (c.in_ok-with_generals.ensures.folder.still name h))) c.requires.names

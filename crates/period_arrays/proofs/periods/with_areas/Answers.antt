@@ -20,7 +20,7 @@ loop-period-preserved g c = (
   c.in_ok-period.ensures.before,
   all_pushed (λ p. g.P.ArrayPackage.HasArrays c.args.file.now c.args.grid.now c.args.ibound.now c.args.option.now p.stresses) c.loop-period.whole.items _ c.in_ok-period.period c.in_ok-push.ensures.items c.loop-period.invariant.6 c.in_ok-period.ensures.arrays,
   rw c.in_ok-push.ensures.items (one_more_same (without g.P.ArrayPackage.kind) c.loop-period.whole.items (into_iter_items c.loop-period.period-iterator) (into_iter_items c.next.new.self) _ c.in-Some.period c.in_ok-period.period c.in-Some.ensures.steps.0 c.in_ok-period.ensures.others c.loop-period.invariant.7),
-  (λ name limit h. c.in_ok-period.ensures.folder.still name limit (c.loop-period.invariant.8 name limit h)),
+  (λ name h. c.in_ok-period.ensures.folder.still name (c.loop-period.invariant.8 name h)),
   c.in_ok-period.ensures.lines,
 )
 

@@ -1,16 +1,16 @@
 use Rattle.period_arrays.proofs.Common.{◌≡◌, ℕ, ◌++◌, map, All, into_iter_items, LinesMay, for_each, IsInForce, contents, without, period_at}
 use Rattle.std.specs.Prelude.{List}
-use Rattle.outside.specs.Files.{File}
+use Rattle.outside.specs.Files.{FileSet}
 use Rattle.record_lines.proofs.Loops.{with_front}
 use Rattle.period_arrays.proofs.periods.with_areas.Given as goal
 
 abbrev pub invariant-loop-period : goal.invariant-loop-period
 invariant-loop-period g l =
     (goal.iterator-loop-period g).can_next l.period-iterator × (goal.iterator-loop-period g).is_finite l.period-iterator
-    × ((files : List File) → g.F.Folder.agrees l.folder files → with_front l.whole.items (for_each (period_at g.P.ArrayPackage.kind files l.file l.grid l.ibound l.option) (into_iter_items l.period-iterator) (l.before, l.lines))
+    × ((files : FileSet) → g.F.Folder.agrees l.folder files → with_front l.whole.items (for_each (period_at g.P.ArrayPackage.kind files l.file l.grid l.ibound l.option) (into_iter_items l.period-iterator) (l.before, l.lines))
     ≡ for_each (period_at g.P.ArrayPackage.kind files l.file l.grid l.ibound l.option) l.fn.periods.items (l.fn.before, l.fn.lines))
-    × ((files : List File) → g.F.Folder.agrees l.folder files → g.F.Folder.agrees l.fn.folder files) × (g.F.Folder.faults l.folder ≡ g.F.Folder.faults l.fn.folder)
+    × ((files : FileSet) → g.F.Folder.agrees l.folder files → g.F.Folder.agrees l.fn.folder files) × (g.F.Folder.faults l.folder ≡ g.F.Folder.faults l.fn.folder)
     × IsInForce (contents g.P.ArrayPackage.kind l.option) l.grid l.before
     × All (λ p. g.P.ArrayPackage.HasArrays l.file l.grid l.ibound l.option p.stresses) l.whole.items
     × (map (without g.P.ArrayPackage.kind) l.whole.items ++ map (without g.P.ArrayPackage.kind) (into_iter_items l.period-iterator) ≡ map (without g.P.ArrayPackage.kind) l.fn.periods.items)
-    × ((name : List ℕ) (limit : ℕ) → g.F.Folder.may l.fn.folder name limit → g.F.Folder.may l.folder name limit) × LinesMay (g.F.Folder.may l.folder) l.lines
+    × ((name : List ℕ) → g.F.Folder.may l.fn.folder name → g.F.Folder.may l.folder name) × LinesMay (g.F.Folder.may l.folder) l.lines
