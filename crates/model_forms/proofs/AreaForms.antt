@@ -1,6 +1,6 @@
 -- What is read of the arrays of a stress period.
 use Rattle.model_forms.proofs.Common.{◌≡◌, ℕ, ◌<◌, ◌≤◌, ℤ, pos, negsuc, Bool, true, false, List, [], length, All, Result, Ok, refl, sym, subst, arith, leb-true}
-use Rattle.model_forms.proofs.Common.{get_or_default, Dec, File, words, CellOutside, Refusal, line_at, Left, real_layer, integer_layer, Grid, layer_size}
+use Rattle.model_forms.proofs.Common.{get_or_default, Dec, FileSet, words, CellOutside, Refusal, line_at, Left, real_layer, integer_layer, Grid, layer_size}
 use Rattle.model_forms.proofs.Common.{HasSize, int_at, area_at, array_or, arrays_of, nothing_yet, flags_of, AreFlags, IsArea, IsReals, IsWhole, Area, InForce}
 use Rattle.model_forms.proofs.Common.{Contents, Flags, arrays, goes, ends, IsShort, IsLayers}
 use Rattle.model_types.specs.Receivers.{is_int}
@@ -68,7 +68,7 @@ pub record IsState (contents : Contents) (g : Grid) (option : ℤ) (s : InForce)
 pub first_state : (contents : Contents) (g : Grid) (option : ℤ) → IsState contents g option nothing_yet
 first_state contents g option = record { has = λ e. absurd (let clash : false ≡ true = e in cc); none = λ e. refl }
 
-module _ (files : List File) (file : List ℕ) (g : Grid) where
+module _ (files : FileSet) (file : List ℕ) (g : Grid) where
   reals_are : (anew : Bool) (before : List Dec) (left : Left) (x : List Dec × Left) → array_or (real_layer files file g.rows g.cols) anew before left ≡ Ok x → (anew ≡ false → IsReals g before) → IsReals g x.0
   reals_are anew before left x h last = array_is (real_layer files file g.rows g.cols) (IsReals g) (λ l y k. layer_is files file g.rows g.cols l y k) anew before left x h last
 

@@ -1,5 +1,5 @@
 -- What a file of a package of arrays gives.
-use Rattle.model_forms.proofs.Common.{◌≡◌, ℕ, ℤ, true, List, map, All, Ok, refl, File, words, Refusal, Left, left_from, without_comments, for_each, Grid}
+use Rattle.model_forms.proofs.Common.{◌≡◌, ℕ, ℤ, true, List, map, All, Ok, refl, FileSet, words, Refusal, Left, left_from, without_comments, for_each, Grid}
 use Rattle.model_forms.proofs.Common.{Period, HasSize, item_line, steps, area_at, nothing_yet, is_option, option_at, ArrayKind, contents, with_area}
 use Rattle.model_forms.proofs.Common.{tested_area, period_at, unit_if, option_line, arrays_in, Area, InForce, ArrayFile, goes, ends}
 use Rattle.period_arrays.specs.Packages.{periods_of}
@@ -18,7 +18,7 @@ pub record IsTested (kind : ArrayKind) (file : List ℕ) (g : Grid) (ibound : Li
   pub has : HasArrays (contents kind option) g option a
   pub passed : kind.test file g ibound option a ≡ Ok tt
 
-module _ (kind : ArrayKind) (files : List File) (file : List ℕ) (g : Grid) (size : HasSize g) (ibound : List ℤ) (P : Period → Type 0) (Q : ℤ → Period → Type 0)
+module _ (kind : ArrayKind) (files : FileSet) (file : List ℕ) (g : Grid) (size : HasSize g) (ibound : List ℤ) (P : Period → Type 0) (Q : ℤ → Period → Type 0)
     (put : (option : ℤ) → is_option option ≡ true → (p : Period) (a : Area) → P p → IsTested kind file g ibound option a → Q option (with_area kind p a)) where
   module _ (option : ℤ) (active : is_option option ≡ true) where
     abbrev State : InForce × Left → Type 0

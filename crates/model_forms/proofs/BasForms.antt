@@ -1,6 +1,6 @@
 -- What a file of the basic package gives.
-use Rattle.model_forms.proofs.Common.{◌≡◌, ℕ, ℤ, List, length, All, Ok, refl, Dec, IsDec, File, Refusal, Left, left_from, without_comments, layers, real, whole}
-use Rattle.model_forms.proofs.Common.{Grid, FlowModel, cell_count, head_item, basics_of, with_basics, bas_of, arrays, goes, ends}
+use Rattle.model_forms.proofs.Common.{◌≡◌, ℕ, ℤ, List, length, All, Ok, refl, Dec, IsDec, FileSet, Refusal, Left, left_from, without_comments, layers, real}
+use Rattle.model_forms.proofs.Common.{whole, Grid, FlowModel, cell_count, head_item, basics_of, with_basics, bas_of, arrays, goes, ends}
 use Rattle.bas_package.specs.Basics.{option_line}
 
 -- a model with IBOUND and STRT for each cell, which is else the one before
@@ -9,7 +9,7 @@ pub record HasBasics (m n : FlowModel) : Type 0 where
   pub strt : (length n.strt ≡ cell_count m.grid) × All IsDec n.strt
   pub only : n ≡ with_basics m n.ibound n.strt
 
-module _ (files : List File) (file bytes : List ℕ) where
+module _ (files : FileSet) (file bytes : List ℕ) where
   basics_are : (g : Grid) (x : List ℤ × List Dec) → basics_of files file bytes g ≡ Ok x → (length x.0 ≡ cell_count g) × (length x.1 ≡ cell_count g) × All IsDec x.1
   unfolding basics_of
   basics_are g x h =

@@ -59,7 +59,7 @@ pub use Rattle.model_text.specs.Writable.{HasNoEvaporation, HasNoRecharge, IsDry
 pub use Rattle.model_types.specs.Cells.{cell_count, cell_number, layer_size}
 pub use Rattle.model_types.specs.Grids.{HasSize, IsGrid}
 pub use Rattle.model_types.specs.Layers.{int_at, is_nonzero, no_number}
-pub use Rattle.model_types.specs.Limits.{most_cells, most_entries, most_in_row, most_layers}
+pub use Rattle.model_types.specs.Limits.{most_bytes, most_cells, most_entries, most_in_row, most_layers}
 pub use Rattle.model_types.specs.Numbers.{IsPositive}
 pub use Rattle.model_types.specs.Valid.{IsGrowing, IsTimed, number_one}
 pub use Rattle.model_types.specs.declared.grid.CellId.{CellId}
@@ -71,8 +71,8 @@ pub use Rattle.name_file.specs.Pairs.{Pairs, file_of}
 pub use Rattle.name_file.specs.declared.package.Package.TheVariants.{Bas, Chd, Dis, Drn, Evt, Ghb, Lpf, Rch, Riv, Wel}
 pub use Rattle.number_limits.proofs.Canonical.{dec_at_is, no_number_is}
 pub use Rattle.number_limits.specs.Signs.{is_positive, within}
-pub use Rattle.outside.specs.Files.{File}
-pub use Rattle.outside.specs.Inputs.{file_at, file_limit}
+pub use Rattle.outside.specs.Files.{FileSet}
+pub use Rattle.outside.specs.Inputs.{file_at}
 pub use Rattle.outside.specs.Refusals.{refusal}
 pub use Rattle.outside.specs.Words.{words}
 pub use Rattle.outside.specs.declared.codes.Code.{Code}

@@ -1,5 +1,5 @@
 -- What a file of the discretization gives can be written.
-use Rattle.model_forms.proofs.Common.{◌≡◌, ℕ, ◌≤◌, ℤ, List, length, sum_by, All, Ok, refl, sym, subst, arith, All-weaker, File, Refusal, Left, left_from}
+use Rattle.model_forms.proofs.Common.{◌≡◌, ℕ, ◌≤◌, ℤ, List, length, sum_by, All, Ok, refl, sym, subst, arith, All-weaker, FileSet, Refusal, Left, left_from}
 use Rattle.model_forms.proofs.Common.{without_comments, Grid, FlowModel, Period, IsGrid, IsTimed, begun, head_of, dis_of, IsNewPeriod, grid_of, periods_of}
 use Rattle.model_forms.proofs.Common.{goes, ends, IsShort, IsOfBeds, IsDiscretized, Limits, IsGridWithin}
 use Rattle.model_forms.proofs.FrameForms.{head_is}
@@ -31,7 +31,7 @@ started limits g laycbd lenuni ps n grid within beds same short unit counts many
   only = refl;
 }
 
-pub dis_is : (limits : Limits) (files : List File) (file bytes : List ℕ) (m : FlowModel) → dis_of limits files file bytes ≡ Ok m → IsStarted limits m
+pub dis_is : (limits : Limits) (files : FileSet) (file bytes : List ℕ) (m : FlowModel) → dis_of limits files file bytes ≡ Ok m → IsStarted limits m
 unfolding dis_of
 dis_is limits files file bytes m h =
     let left : Left = without_comments (left_from 1 bytes) in

@@ -1,7 +1,7 @@
 -- What a file of the evapotranspiration package gives.
-use Rattle.model_forms.proofs.Common.{◌≡◌, ℕ, ℤ, pos, true, List, map, All, Ok, refl, subst, ◌∙◌, File, Refusal, Grid, FlowModel, Period, cell_count, HasSize}
-use Rattle.model_forms.proofs.Common.{given_heads, steps, wells, rivers, drains, generals, is_option, with_area, arrays_in, Area, ArrayFile, evaporation_arrays}
-use Rattle.model_forms.proofs.Common.{with_evaporation, evt_of, goes, ends, Limits}
+use Rattle.model_forms.proofs.Common.{◌≡◌, ℕ, ℤ, pos, true, List, map, All, Ok, refl, subst, ◌∙◌, FileSet, Refusal, Grid, FlowModel, Period, cell_count}
+use Rattle.model_forms.proofs.Common.{HasSize, given_heads, steps, wells, rivers, drains, generals, is_option, with_area, arrays_in, Area, ArrayFile}
+use Rattle.model_forms.proofs.Common.{evaporation_arrays, with_evaporation, evt_of, goes, ends, Limits}
 use Rattle.model_forms.proofs.ArrayFileForms.{AreRead, IsTested, arrays_are_read}
 use Rattle.model_forms.proofs.CheckForms.{columns_again}
 use Rattle.model_forms.proofs.PeriodForms.{IsKnown, IsStage, timed, list_again, no_option}
@@ -40,7 +40,7 @@ module _ (limits : Limits) (file : List ℕ) (g : Grid) (ibound : List ℤ) (nrc
     };
   }
 
-module _ (limits : Limits) (files : List File) (file bytes : List ℕ) (core : FlowModel) (size : HasSize core.grid) (nrchop : ℤ) where
+module _ (limits : Limits) (files : FileSet) (file bytes : List ℕ) (core : FlowModel) (size : HasSize core.grid) (nrchop : ℤ) where
   abbrev at_stage : ℤ → List Period → FlowModel
   at_stage option ps = record core { nrchop = nrchop; nevtop = option; periods = ps }
 

@@ -1,6 +1,6 @@
 -- What is read of widths and elevations.
 use Rattle.model_forms.proofs.Common.{◌≡◌, ℕ, ◌+◌, ◌*◌, Bool, true, false, List, [], ◌++◌, length, replicate, All, Ok, refl, arith, ℤ, list_all}
-use Rattle.model_forms.proofs.Common.{length-replicate, All-nil, All-append, All-replicate, Dec, IsDec, File, refusal, BadGrid, Refusal, Left, array_at}
+use Rattle.model_forms.proofs.Common.{length-replicate, All-nil, All-append, All-replicate, Dec, IsDec, FileSet, refusal, BadGrid, Refusal, Left, array_at}
 use Rattle.model_forms.proofs.Common.{real_layer, real, Grid, layer_size, IsGrid, HasSize, int_at, is_nonzero, no_number, IsPositive, is_positive, no_number_is}
 use Rattle.model_forms.proofs.Common.{layer_or, IsSize, widths, bottom_at, bottoms_of, grid_of, Size, arrays, array_is, number_is, multiplied_is, goes, ends}
 use Rattle.model_forms.proofs.Common.{IsOfBeds, Limits, IsGridWithin}
@@ -9,7 +9,7 @@ use Rattle.dis_package.specs.declared.bottoms.Bottoms.{Bottoms}
 use Rattle.model_forms.proofs.FrameForms.{AreBeds, IsSizeWithin}
 use Rattle.model_forms.proofs.Parts.{if_true, all_counted, one_more, AreLayers, no_layers, one_more_layer}
 
-module _ (files : List File) (file : List ℕ) where
+module _ (files : FileSet) (file : List ℕ) where
   pub layer_is : (rows cols : ℕ) (left : Left) (x : List Dec × Left) → real_layer files file rows cols left ≡ Ok x → (length x.0 ≡ rows * cols) × All IsDec x.0
   layer_is rows cols left x h = (arrays.real_layers files file rows cols).gives left x.1 x.0 h
 
@@ -47,7 +47,7 @@ record AreBottoms (size : Size) (laycbd : List ℤ) (i : ℕ) (s : Bottoms × Le
   pub decimals : All IsDec s.0.beds
   pub beds : AreLayers (size.rows * size.cols) (IsBedLayer laycbd (size.rows * size.cols)) i s.0.beds
 
-module _ (files : List File) (file : List ℕ) (size : Size) (laycbd : List ℤ) where
+module _ (files : FileSet) (file : List ℕ) (size : Size) (laycbd : List ℤ) where
   one_bottom : (i : ℕ) (s t : Bottoms × Left) → bottom_at files file size laycbd i s ≡ Ok t → AreBottoms size laycbd i s → AreBottoms size laycbd (i + 1) t
   unfolding bottom_at
   one_bottom i s t h so =

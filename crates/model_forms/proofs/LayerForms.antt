@@ -1,6 +1,6 @@
 -- What is read of the properties of layers.
 use Rattle.model_forms.proofs.Common.{◌≡◌, ℕ, ◌+◌, ◌*◌, Bool, true, false, not, cond, List, [], length, replicate, All, Ok, refl, arith, if◌then◌else◌, All-nil}
-use Rattle.model_forms.proofs.Common.{All-append, Dec, IsDec, File, Refusal, Left, real_layer, Grid, layer_size, no_number, is_positive, no_number_is}
+use Rattle.model_forms.proofs.Common.{All-append, Dec, IsDec, FileSet, Refusal, Left, real_layer, Grid, layer_size, no_number, is_positive, no_number_is}
 use Rattle.model_forms.proofs.Common.{dec_at_is, layer_or, storage_layer, properties_of, joined, nth_layer, layer_at, layers_of, Properties, goes, ends}
 use Rattle.lpf_package.specs.declared.layer.Layer.{Layer}
 use Rattle.model_forms.proofs.GridForms.{layer_is, layer_or_is, IsBedLayer}
@@ -15,7 +15,7 @@ record IsLayer (cells : ℕ) (x : Layer) (p : Properties) : Type 0 where
   pub vkcb : (length p.vkcb ≡ cells) × All IsDec p.vkcb
   pub bed : x.has_bed ≡ false → p.vkcb ≡ replicate cells no_number
 
-module _ (files : List File) (file : List ℕ) where
+module _ (files : FileSet) (file : List ℕ) where
   storage_by : (stores : Bool) (rows cols : ℕ) (left : Left) (y : List Dec × Left) → (if stores then real_layer files file rows cols left else Ok ([], left)) ≡ Ok y
       → (length y.0 ≡ cond stores (rows * cols) 0) × All IsDec y.0
   storage_by true rows cols left y h = layer_is files file rows cols left y h
@@ -55,7 +55,7 @@ pub record AreProperties (g : Grid) (stores : Bool) (i : ℕ) (p : Properties) :
   pub vkcb : All IsDec p.vkcb
   pub beds : AreLayers (layer_size g) (IsBedLayer g.laycbd (layer_size g)) i p.vkcb
 
-module _ (files : List File) (file : List ℕ) (g : Grid) (chani : List Dec) (stores : Bool) (decimals : All IsDec chani) where
+module _ (files : FileSet) (file : List ℕ) (g : Grid) (chani : List Dec) (stores : Bool) (decimals : All IsDec chani) where
   abbrev Are : ℕ → Properties × Left → Type 0
   Are i s = AreProperties g stores i s.0
 

@@ -1,5 +1,5 @@
 -- What a file of the layer-property flow package gives can be written.
-use Rattle.model_forms.proofs.Common.{◌≡◌, ℕ, ◌*◌, Bool, true, false, cond, List, length, All, Ok, refl, arith, IsDec, File, Refusal, Left, left_from}
+use Rattle.model_forms.proofs.Common.{◌≡◌, ℕ, ◌*◌, Bool, true, false, cond, List, length, All, Ok, refl, arith, IsDec, FileSet, Refusal, Left, left_from}
 use Rattle.model_forms.proofs.Common.{without_comments, free_list, number, integer, Grid, FlowModel, cell_count, layer_size, zero_list, is_transient}
 use Rattle.model_forms.proofs.Common.{contents_of, with_contents, lpf_of, SameBut, layers_of, lists, goes, ends, IsShort, HasFlow}
 use Rattle.lpf_package.specs.Settings.{option_line, settings_of}
@@ -22,7 +22,7 @@ stored : (g : Grid) (stores : Bool) (n : ℕ) → n ≡ g.layers * cond stores (
 stored g true n h = h
 stored g false n h = omega (arith, h)
 
-module _ (files : List File) (file : List ℕ) where
+module _ (files : FileSet) (file : List ℕ) where
   settings_are : (layers : ℕ) (left : Left) (x : Settings × Left) → settings_of file layers left ≡ Ok x → AreSettings layers x.0
   unfolding settings_of
   settings_are layers left x h =

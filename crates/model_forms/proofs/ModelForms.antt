@@ -1,6 +1,6 @@
 -- A model that is read is writable.
 use Rattle.model_forms.proofs.Common.{◌≡◌, ◌⊎◌, inl, inr, ℕ, ℤ, Bool, not, ◌||◌, cond, List, [], ◌∷◌, map, sum, sum_by, All, Ok, refl, sym, ap, subst, ◌∙◌}
-use Rattle.model_forms.proofs.Common.{list_any, All-weaker, sum-map, File, file_at, Refusal, Pairs, Dis, Bas, Lpf, FlowModel, Period, cell_count, HasSize}
+use Rattle.model_forms.proofs.Common.{list_any, All-weaker, sum-map, FileSet, file_at, Refusal, Pairs, Dis, Bas, Lpf, FlowModel, Period, cell_count, HasSize}
 use Rattle.model_forms.proofs.Common.{IsTimed, bas_of, is_transient, lpf_of, SameBut, checked, fault_at, Check, Thickness, StartHead, steps, same_count}
 use Rattle.model_forms.proofs.Common.{same_view, dis_in, basics_tested, bas_in, lpf_in, model_of, reads, goes, ends, IsShort, HasFlow, IsRecharged}
 use Rattle.model_forms.proofs.Common.{IsEvaporating, IsDry, IsStill, HasNoRecharge, HasNoEvaporation, IsWritable, Limits}
@@ -103,7 +103,7 @@ record IsTested (dis bas : List ℕ) (begun basic : FlowModel) : Type 0 where
   pub thick : checked basic dis Thickness ≡ Ok tt
   pub heads : checked basic bas StartHead ≡ Ok tt
 
-module _ (limits : Limits) (files : List File) where
+module _ (limits : Limits) (files : FileSet) where
   begun_is : (dis : List ℕ) (m : FlowModel) → dis_in limits files dis ≡ Ok m → IsStarted limits m
   unfolding dis_in
   begun_is dis m h =

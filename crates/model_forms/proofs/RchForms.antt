@@ -1,6 +1,7 @@
 -- What a file of the recharge package gives.
-use Rattle.model_forms.proofs.Common.{◌≡◌, ℕ, ℤ, pos, true, List, map, All, Ok, refl, subst, ◌∙◌, File, Refusal, Grid, FlowModel, Period, cell_count, HasSize}
-use Rattle.model_forms.proofs.Common.{given_heads, steps, wells, rivers, drains, generals, is_option, with_area, arrays_in, Area, ArrayFile, goes, ends, Limits}
+use Rattle.model_forms.proofs.Common.{◌≡◌, ℕ, ℤ, pos, true, List, map, All, Ok, refl, subst, ◌∙◌, FileSet, Refusal, Grid, FlowModel, Period, cell_count}
+use Rattle.model_forms.proofs.Common.{HasSize, given_heads, steps, wells, rivers, drains, generals, is_option, with_area, arrays_in, Area, ArrayFile, goes}
+use Rattle.model_forms.proofs.Common.{ends, Limits}
 use Rattle.rch_package.specs.Recharge.{recharge_arrays, with_recharge, rch_of}
 use Rattle.model_forms.proofs.ArrayFileForms.{AreRead, IsTested, arrays_are_read}
 use Rattle.model_forms.proofs.PeriodForms.{IsKnown, IsStage, timed, list_again, no_option}
@@ -33,7 +34,7 @@ module _ (limits : Limits) (file : List ℕ) (g : Grid) (ibound : List ℤ) wher
     air = λ e. absurd (no_option e);
   }
 
-module _ (limits : Limits) (files : List File) (file bytes : List ℕ) (core : FlowModel) (size : HasSize core.grid) where
+module _ (limits : Limits) (files : FileSet) (file bytes : List ℕ) (core : FlowModel) (size : HasSize core.grid) where
   abbrev at_stage : ℤ → List Period → FlowModel
   at_stage option ps = record core { nrchop = option; nevtop = pos 0; periods = ps }
 

@@ -1,6 +1,6 @@
 -- The packages of stresses are read one after the other, each where the name file names it.
 use Rattle.model_forms.proofs.Common.{◌≡◌, ◌⊎◌, inl, inr, ℕ, ℤ, pos, Bool, true, false, List, [], All, Option, Some, None, Ok, refl, sym, subst, arith}
-use Rattle.model_forms.proofs.Common.{if◌then◌else◌, All-nil, All-weaker, Dec, File, file_at, Refusal, Pairs, file_of, Wel, Riv, Drn, Ghb, Rch, Chd, Evt}
+use Rattle.model_forms.proofs.Common.{if◌then◌else◌, All-nil, All-weaker, Dec, FileSet, file_at, Refusal, Pairs, file_of, Wel, Riv, Drn, Ghb, Rch, Chd, Evt}
 use Rattle.model_forms.proofs.Common.{CellId, Grid, FlowModel, Period, cell_count, HasSize, IsTimed, IsNewPeriod, without_stresses, given_heads, is_growing}
 use Rattle.model_forms.proofs.Common.{Kind, with_list, wells, rivers, drains, generals, is_option, goes, ends, IsEntry, IsListOf, Limits}
 use Rattle.model_reader.specs.Stresses.{where_named, file_in, list_in, rch_in, evt_in, with_entries, with_stresses}
@@ -58,7 +58,7 @@ record HasRain (limits : Limits) (core n : FlowModel) : Type 0 where
   pub option : IsOption nrchop
   pub stage : IsStage limits core nrchop (pos 0) n
 
-module _ (limits : Limits) (core : FlowModel) (size : HasSize core.grid) (files : List File) where
+module _ (limits : Limits) (core : FlowModel) (size : HasSize core.grid) (files : FileSet) where
   list_stage : {E : Type 0} (kind : Kind E) → ((c : CellId) (ds : List Dec) → kind.place (kind.entry c ds) ≡ c.0) → (nrchop : ℤ)
       → ((p : Period) (xs : List E) → IsKnown limits core.grid core.ibound nrchop (pos 0) p → IsListOf limits kind (cell_count core.grid) p xs → IsKnown limits core.grid core.ibound nrchop (pos 0) (with_list kind p xs))
       → (named : Option (List ℕ)) (m n : FlowModel) → IsStage limits core nrchop (pos 0) m → where_named named (list_in limits kind files) m ≡ Ok n → IsStage limits core nrchop (pos 0) n

@@ -1,10 +1,10 @@
 -- Three cells in a row are a writable model.
 use Rattle.model_forms.proofs.Common.{◌≡◌, ℕ, zero, suc, ◌%◌, ◌^◌, ◌<◌, ◌≤◌, ◌==◌, inr, true, false, not, pos, negsuc, List, [], ◌∷◌, length, replicate, All}
 use Rattle.model_forms.proofs.Common.{Some, None, Ok, refl, sym, ap, ◌∙◌, arith, list_all, and_parts, not-true, All-nil, All-cons, All-replicate}
-use Rattle.model_forms.proofs.Common.{All-from_recursion, IsDec, file_limit, counted, Dis, Bas, Lpf, Wel, Riv, Drn, Ghb, Rch, Chd, Evt, Period, no_number}
-use Rattle.model_forms.proofs.Common.{IsGrid, IsPositive, IsTimed, no_number_is, checked, fault_at, Check, Thickness, StartHead, given_heads, Kind, wells}
-use Rattle.model_forms.proofs.Common.{rivers, drains, generals, IsShort, number_word, integer_word, IsOfBeds, IsDiscretized, IsBasic, HasFlow, IsEntry}
-use Rattle.model_forms.proofs.Common.{IsListOf, IsDry, IsStill, IsWritable, model_reads, all_plain}
+use Rattle.model_forms.proofs.Common.{All-from_recursion, IsDec, counted, Dis, Bas, Lpf, Wel, Riv, Drn, Ghb, Rch, Chd, Evt, Period, no_number, IsGrid}
+use Rattle.model_forms.proofs.Common.{IsPositive, IsTimed, no_number_is, checked, fault_at, Check, Thickness, StartHead, given_heads, Kind, wells, rivers}
+use Rattle.model_forms.proofs.Common.{drains, generals, IsShort, number_word, integer_word, IsOfBeds, IsDiscretized, IsBasic, HasFlow, IsEntry, IsListOf, IsDry}
+use Rattle.model_forms.proofs.Common.{IsStill, IsWritable, model_reads, all_plain}
 use Rattle.std.specs.Fmt.{decimal as numeral}
 use Rattle.std.proofs.lemmas.Fmt.{decimal_digit}
 use Rattle.std.proofs.lemmas.Bool.Decides.{nat_tests}
@@ -159,15 +159,15 @@ names = record {
   apart = λ k e. (let clash : Some k ≡ None = sym (type_reads k) ∙ ap (λ (w : List ℕ). package_of w) e ∙ no_type in cc);
 }
 
-small : All (λ f. length f.bytes ≤ file_limit) deck
+small : All (λ f. length f.bytes ≤ 67108864) deck
 unfolding written name_item text line_text dis_lines dis_item_1 dis_item_2 dis_item_3 dis_item_4 dis_item_5 dis_item_6 dis_item_7 bas_lines bas_item_1 bas_item_2 bas_item_3 bas_item_4 lpf_lines lpf_item_1 lpf_zeros lpf_item_4 lpf_item_5 lpf_arrays real_array integer_array row_line row_lines number_word integer_word
 small =
     let zero_digit : numeral 0 ≡ 48 ∷ [] = decimal_digit 0 (omega arith) in
     let one_digit : numeral 1 ≡ 49 ∷ [] = decimal_digit 1 (omega arith) in
     let two_digit : numeral 2 ≡ 50 ∷ [] = decimal_digit 2 (omega arith) in
     let three_digit : numeral 3 ≡ 51 ∷ [] = decimal_digit 3 (omega arith) in
-    All-from_recursion (λ f. length f.bytes ≤ file_limit) deck
+    All-from_recursion (λ f. length f.bytes ≤ 67108864) deck
     (omega arith, (simp (zero_digit, one_digit, two_digit, three_digit) (omega arith), (simp (zero_digit, one_digit, two_digit) (omega arith), (simp (zero_digit, one_digit) (omega arith), tt))))
 
 pub cells : ThreeCells
-cells = record { writable = writable; names = names; read = model_reads Plain three_cells writable file_type name_of_deck names small }
+cells = record { writable = writable; names = names; read = model_reads Plain three_cells writable file_type name_of_deck names 67108864 small }

@@ -1,7 +1,6 @@
 -- Statements of laws: a model that is read can be written.
 use Rattle.std.specs.Prelude.{◌≡◌, ℕ, ◌≤◌, List, All, length, Ok}
-use Rattle.outside.specs.Files.{File}
-use Rattle.outside.specs.Inputs.{file_limit}
+use Rattle.outside.specs.Files.{FileSet, with_limit}
 use Rattle.name_file.specs.declared.package.Package.{Package}
 use Rattle.model_types.specs.declared.limits.Limits.{Limits}
 use Rattle.model_types.specs.declared.model.FlowModel.{FlowModel}
@@ -14,14 +13,14 @@ use Rattle.model_text.specs.Decks.{IsReadAgain}
 
 -- A model that is read is writable by the same limits. Each other integer of a file is a word of at most 18 digits; an IBOUND is a word times a multiplier.
 abbrev pub ModelsReadAreWritable : Type 0
-ModelsReadAreWritable = (limits : Limits) (files : List File) (name : List ℕ) (m : FlowModel) → reads limits files name ≡ Ok m → All IsShort m.ibound → IsWritable limits m
+ModelsReadAreWritable = (limits : Limits) (files : FileSet) (name : List ℕ) (m : FlowModel) → reads limits files name ≡ Ok m → All IsShort m.ibound → IsWritable limits m
 
 -- So is read as itself what is written of a model that was read, under names of files that may be, where no file is too long.
 abbrev pub ModelsReadAreReadAsWritten : Type 0
-ModelsReadAreReadAsWritten = (limits : Limits) (files : List File) (name : List ℕ) (m : FlowModel) → reads limits files name ≡ Ok m → All IsShort m.ibound →
-    (names : Package → List ℕ) (anew : List ℕ) → AreNames names anew → All (λ f. length f.bytes ≤ file_limit) (written m names anew) →
-    reads limits (written m names anew) anew ≡ Ok m
+ModelsReadAreReadAsWritten = (limits : Limits) (files : FileSet) (name : List ℕ) (m : FlowModel) → reads limits files name ≡ Ok m → All IsShort m.ibound →
+    (names : Package → List ℕ) (anew : List ℕ) → AreNames names anew → (most : ℕ) → All (λ f. length f.bytes ≤ most) (written m names anew) →
+    reads limits (with_limit most (written m names anew)) anew ≡ Ok m
 
 -- So of the deck that `heads write` puts, under the names that it gives.
 abbrev pub DecksAreReadAgain : Type 0
-DecksAreReadAgain = (limits : Limits) (files : List File) (name : List ℕ) (m : FlowModel) → reads limits files name ≡ Ok m → IsReadAgain limits m
+DecksAreReadAgain = (limits : Limits) (files : FileSet) (name : List ℕ) (m : FlowModel) → reads limits files name ≡ Ok m → IsReadAgain limits m

@@ -1,6 +1,7 @@
 -- A worked model: three cells in a row, with constant heads at both ends.
 use Rattle.std.specs.Prelude.{◌≡◌, ℕ, List, codes, Ok}
-use Rattle.outside.specs.Files.{File}
+use Rattle.outside.specs.Files.{File, with_limit}
+use Rattle.model_types.specs.Limits.{most_bytes}
 use Rattle.model_types.specs.declared.limits.Limits.TheVariants.{Plain}
 use Rattle.model_reader.specs.Model.{reads}
 use Rattle.flow_equations.specs.Worked.{three_cells}
@@ -19,4 +20,4 @@ deck = written three_cells file_type name_of_deck
 pub record ThreeCells : Type 0 where
   pub writable : IsWritable Plain three_cells
   pub names : AreNames file_type name_of_deck
-  pub read : reads Plain deck name_of_deck ≡ Ok three_cells
+  pub read : reads Plain (with_limit (most_bytes Plain) deck) name_of_deck ≡ Ok three_cells

@@ -26,8 +26,8 @@ pub use Rattle.name_file.specs.Pairs.{Pairs, file_of, has_package, is_same_packa
 unfoldable pub use Rattle.name_file.specs.Reading.{after_line, after_lines, after_package, file_in, is_integer, names_of, whole}
 pub use Rattle.name_file.specs.declared.package.Package.{Package}
 pub use Rattle.name_file.specs.declared.package.Package.TheVariants.{Bas, Chd, Dis, Drn, Evt, Ghb, Lpf, Rch, Riv, Wel}
-pub use Rattle.outside.specs.Files.{File, bytes_under}
-pub use Rattle.outside.specs.Inputs.{file_at, file_limit}
+pub use Rattle.outside.specs.Files.{File, FileSet, bytes_under, with_limit}
+pub use Rattle.outside.specs.Inputs.{file_at}
 pub use Rattle.outside.specs.Names.{folder_name}
 unfoldable pub use Rattle.outside.specs.Names.{is_good_name}
 pub use Rattle.package_text.proofs.DisTexts.{dis_reads, line_is_item}

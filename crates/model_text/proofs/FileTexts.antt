@@ -1,8 +1,8 @@
 -- The files of a deck are found by their names.
 use Rattle.model_text.proofs.Common.{◌≡◌, ℕ, ◌≤◌, ◌==◌, Bool, true, false, nat_le, List, [], ◌∷◌, length, map, filter, All, Option, Some, Ok, refl, sym, ap}
-use Rattle.model_text.proofs.Common.{◌∙◌, arith, list_any, bytes_eq, All-head, All-tail, nat_tests, File, bytes_under, file_limit, file_at, folder_name}
-use Rattle.model_text.proofs.Common.{is_same_package, Package, FlowModel, text, packages, name_item, IsFileName, AreNames, has, lines_of, package_file}
-use Rattle.model_text.proofs.Common.{name_file, written}
+use Rattle.model_text.proofs.Common.{◌∙◌, arith, list_any, bytes_eq, All-head, All-tail, nat_tests, File, bytes_under, file_at, folder_name, is_same_package}
+use Rattle.model_text.proofs.Common.{Package, FlowModel, text, packages, name_item, IsFileName, AreNames, has, lines_of, package_file, name_file, written}
+use Rattle.model_text.proofs.Common.{with_limit}
 use Rattle.std.proofs.lemmas.Slice.Eq.{bytes_eq-Decides}
 use Rattle.model_text.proofs.PackageTexts.{same_itself, same_is}
 
@@ -39,10 +39,10 @@ found_bytes w bytes limit (f ∷ files) small e = by_case (λ later. found_bytes
     by_case further true d = let same : Path (Option (List ℕ)) (Some f.bytes) (Some bytes) = rw d at e in let is : f.bytes ≡ bytes = cc in rw is at first
     by_case further false d = let later : bytes_under w files ≡ Some bytes = rw d at e in further later
 
-small_file : (w bytes : List ℕ) (files : List File) → IsFileName w → All (λ f. length f.bytes ≤ file_limit) files → bytes_under w files ≡ Some bytes → file_at files w ≡ Ok bytes
-small_file w bytes files name small e =
-    let short : length bytes ≤ file_limit = found_bytes w bytes file_limit files small e in
-    let test : nat_le (length bytes) file_limit ≡ true = grind (arith, nat_tests) in
+small_file : (most : ℕ) (w bytes : List ℕ) (files : List File) → IsFileName w → All (λ f. length f.bytes ≤ most) files → bytes_under w files ≡ Some bytes → file_at (with_limit most files) w ≡ Ok bytes
+small_file most w bytes files name small e =
+    let short : length bytes ≤ most = found_bytes w bytes most files small e in
+    let test : nat_le (length bytes) most ≡ true = grind (arith, nat_tests) in
     rw (plain_name w name.plain, e, test) refl
 
 module _ (m : FlowModel) (names : Package → List ℕ) (name : List ℕ) (h : AreNames names name) where
@@ -75,18 +75,18 @@ module _ (m : FlowModel) (names : Package → List ℕ) (name : List ℕ) (h : A
           further true f = rw (f, other_bytes (names asked) (names k) differ) (rest later)
           further false f = rw f (rest later)
 
-  pub name_file_there : All (λ f. length f.bytes ≤ file_limit) (written m names name)
-      → file_at (written m names name) name ≡ Ok (text (map (name_item names) (filter (has m) packages)))
+  pub name_file_there : (most : ℕ) → All (λ f. length f.bytes ≤ most) (written m names name)
+      → file_at (with_limit most (written m names name)) name ≡ Ok (text (map (name_item names) (filter (has m) packages)))
   unfolding written
-  name_file_there small =
+  name_file_there most small =
       let first = same_bytes name in
       let found : bytes_under name (name_file m names name ∷ map (package_file m names) (filter (has m) packages)) ≡ Some (text (map (name_item names) (filter (has m) packages))) = rw first refl in
-      small_file name (text (map (name_item names) (filter (has m) packages))) (name_file m names name ∷ map (package_file m names) (filter (has m) packages)) h.first small found
+      small_file most name (text (map (name_item names) (filter (has m) packages))) (name_file m names name ∷ map (package_file m names) (filter (has m) packages)) h.first small found
 
-  pub package_file_there : All (λ f. length f.bytes ≤ file_limit) (written m names name) → (k : Package) → has m k ≡ true → list_any (λ j. is_same_package k j) packages ≡ true
-      → file_at (written m names name) (names k) ≡ Ok (text (lines_of m k))
+  pub package_file_there : (most : ℕ) → All (λ f. length f.bytes ≤ most) (written m names name) → (k : Package) → has m k ≡ true → list_any (λ j. is_same_package k j) packages ≡ true
+      → file_at (with_limit most (written m names name)) (names k) ≡ Ok (text (lines_of m k))
   unfolding written
-  package_file_there small k is_in there =
+  package_file_there most small k is_in there =
       let other = other_bytes (names k) name (h.apart k) in
       let found : bytes_under (names k) (name_file m names name ∷ map (package_file m names) (filter (has m) packages)) ≡ Some (text (lines_of m k)) = rw other (package_bytes k is_in packages there) in
-      small_file (names k) (text (lines_of m k)) (name_file m names name ∷ map (package_file m names) (filter (has m) packages)) (h.each k) small found
+      small_file most (names k) (text (lines_of m k)) (name_file m names name ∷ map (package_file m names) (filter (has m) packages)) (h.each k) small found

@@ -1,6 +1,6 @@
 -- A model is read as written.
-use Rattle.model_text.proofs.Common.{◌≡◌, ℕ, ◌≤◌, pos, Bool, true, false, if◌then◌else◌, List, [], ◌∷◌, length, map, All, Some, None, Ok, refl, ap, list_any}
-use Rattle.model_text.proofs.Common.{File, file_limit, file_at, Pairs, is_same_package, file_of, Package, Dis, Bas, Lpf, Wel, Riv, Drn, Ghb, Rch, Chd, Evt}
+use Rattle.model_text.proofs.Common.{with_limit, ◌≡◌, ℕ, ◌≤◌, pos, Bool, true, false, if◌then◌else◌, List, [], ◌∷◌, length, map, All, Some, None, Ok, refl, ap}
+use Rattle.model_text.proofs.Common.{list_any, FileSet, file_at, Pairs, is_same_package, file_of, Package, Dis, Bas, Lpf, Wel, Riv, Drn, Ghb, Rch, Chd, Evt}
 use Rattle.model_text.proofs.Common.{FlowModel, Period, HasSize, where_named, list_in, rch_in, evt_in, with_entries, with_stresses, text, dis_reads, numbers_of}
 use Rattle.model_text.proofs.Common.{heads_of, packages, AreNames, has, lines_of, written, IsWritable, IsDry, IsStill, Limits}
 use Rattle.model_types.specs.Sources.{cell_of}
@@ -74,7 +74,7 @@ bare_twice [] = refl
 bare_twice (p ∷ ps) = ap (λ (qs : List Period). without_stresses p ∷ qs) (bare_twice ps)
 
 -- A model is read from files that have its packages under these names.
-module _ (limits : Limits) (m : FlowModel) (w : IsWritable limits m) (names : Package → List ℕ) (files : List File) (pairs : Pairs)
+module _ (limits : Limits) (m : FlowModel) (w : IsWritable limits m) (names : Package → List ℕ) (files : FileSet) (pairs : Pairs)
     (named : (k : Package) → file_of k pairs ≡ (if has m k then Some (names k) else None))
     (there : (k : Package) → has m k ≡ true → file_at files (names k) ≡ Ok (text (lines_of m k))) where
   size : HasSize m.grid
@@ -137,7 +137,7 @@ module _ (limits : Limits) (m : FlowModel) (w : IsWritable limits m) (names : Pa
   unfolding model_of
   model_there = rw (needed_is Dis refl, dis_there, needed_is Bas refl, bas_there, needed_is Lpf refl, lpf_there) stresses_there
 
-module _ (limits : Limits) (m : FlowModel) (w : IsWritable limits m) (names : Package → List ℕ) (name : List ℕ) (h : AreNames names name) (small : All (λ f. length f.bytes ≤ file_limit) (written m names name)) where
+module _ (limits : Limits) (m : FlowModel) (w : IsWritable limits m) (names : Package → List ℕ) (name : List ℕ) (h : AreNames names name) (most : ℕ) (small : All (λ f. length f.bytes ≤ most) (written m names name)) where
   abbrev pairs : Pairs
   pairs = pairs_of names (has m) packages
 
@@ -160,11 +160,11 @@ module _ (limits : Limits) (m : FlowModel) (w : IsWritable limits m) (names : Pa
       by_case true e = present names (has m) k e packages (listed k)
       by_case false e = absent names (has m) k e packages
 
-  names_there : names_in (written m names name) name ≡ Ok pairs
+  names_there : names_in (with_limit most (written m names name)) name ≡ Ok pairs
   unfolding names_in
-  names_there = rw (name_file_there m names name h small) (names_read names name h (has m) refl refl refl)
+  names_there = rw (name_file_there m names name h most small) (names_read names name h (has m) refl refl refl)
 
-  pub model_reads : reads limits (written m names name) name ≡ Ok m
+  pub model_reads : reads limits (with_limit most (written m names name)) name ≡ Ok m
   unfolding reads
   model_reads =
-      rw names_there (model_there limits m w names (written m names name) pairs named (λ k is_in. package_file_there m names name h small k is_in (listed k)))
+      rw names_there (model_there limits m w names (with_limit most (written m names name)) pairs named (λ k is_in. package_file_there m names name h most small k is_in (listed k)))

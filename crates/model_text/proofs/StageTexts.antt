@@ -1,7 +1,7 @@
 -- A model's packages of stresses are read one after the other, each where the model has it.
 use Rattle.model_text.proofs.Common.{◌≡◌, ◌⊎◌, inl, inr, ℕ, zero, suc, ℤ, pos, negsuc, Bool, true, false, not, nat_lt, if◌then◌else◌, List, [], ◌∷◌, length}
 use Rattle.model_text.proofs.Common.{map, All, Option, Some, None, Ok, refl, ap, ◌∙◌, arith, AllZip, or_parts, nat_tests, length-map, nil_from_length, All-head}
-use Rattle.model_text.proofs.Common.{All-tail, File, file_at, FlowModel, Period, HasSize, where_named, list_in, rch_in, evt_in, text, list_lines, is_listed}
+use Rattle.model_text.proofs.Common.{All-tail, FileSet, file_at, FlowModel, Period, HasSize, where_named, list_in, rch_in, evt_in, text, list_lines, is_listed}
 use Rattle.model_text.proofs.Common.{HasLists, IsDry, IsStill, HasNoRecharge, HasNoEvaporation, Limits}
 use Rattle.decimal_input.specs.declared.dec.Dec.{Dec}
 use Rattle.model_types.specs.Cells.{cell_count}
@@ -59,7 +59,7 @@ module _ {E : Type 0} (kind : Kind E) (stage : Period → Period) where
       (record { few = first.few; entries = first.entries; once = first.once; suits = same p (kind.list p.stresses) ∙ first.suits }, all_lists limits cells same ps rest)
 
 module _ {E : Type 0} (limits : Limits) (kind : Kind E) (cell : E → ℕ) (numbers : E → List Dec) (reads : ListsReadAsWritten kind cell numbers)
-    (m : FlowModel) (size : HasSize m.grid) (lists : HasLists limits kind m) (files : List File) (name : List ℕ) (nrchop nevtop : ℤ) (stage : Period → Period)
+    (m : FlowModel) (size : HasSize m.grid) (lists : HasLists limits kind m) (files : FileSet) (name : List ℕ) (nrchop nevtop : ℤ) (stage : Period → Period)
     (suits : (p : Period) (xs : List E) → kind.suits (stage p) xs ≡ kind.suits p xs) (empty : (p : Period) → put kind (stage p) [] ≡ stage p) where
   list_there : file_at files name ≡ Ok (text (list_lines m.grid cell numbers (map (λ p. kind.list p.stresses) m.periods)))
       → list_in limits kind files name (staged m nrchop nevtop stage) ≡ Ok (staged m nrchop nevtop (with_list kind stage))
@@ -94,7 +94,7 @@ arrays_put kind stage (p ∷ ps) = ap (λ (qs : List Period). with_arrays kind s
 abbrev pub with_recharge : (Period → Period) → Period → Period
 with_recharge stage = with_arrays recharge_arrays stage
 
-module _ (m : FlowModel) (size : HasSize m.grid) (files : List File) (name : List ℕ) (stage : Period → Period) where
+module _ (m : FlowModel) (size : HasSize m.grid) (files : FileSet) (name : List ℕ) (stage : Period → Period) where
   recharge_there : IsRecharged m → file_at files name ≡ Ok (text (rch_lines m)) → rch_in files name (staged m (pos 0) (pos 0) stage) ≡ Ok (staged m m.nrchop (pos 0) (with_recharge stage))
   unfolding rch_in
   recharge_there w there = rw (there, rch_reads files name m size w (staged m (pos 0) (pos 0) stage) refl (length-map m.periods stage), arrays_put recharge_arrays stage m.periods) refl
@@ -115,7 +115,7 @@ module _ (m : FlowModel) (size : HasSize m.grid) (files : List File) (name : Lis
 abbrev pub with_evaporation : (Period → Period) → Period → Period
 with_evaporation stage = with_arrays evaporation_arrays stage
 
-module _ (m : FlowModel) (size : HasSize m.grid) (files : List File) (name : List ℕ) (stage : Period → Period) where
+module _ (m : FlowModel) (size : HasSize m.grid) (files : FileSet) (name : List ℕ) (stage : Period → Period) where
   evaporation_there : IsEvaporating m → file_at files name ≡ Ok (text (evt_lines m)) → evt_in files name (staged m m.nrchop (pos 0) stage) ≡ Ok (staged m m.nrchop m.nevtop (with_evaporation stage))
   unfolding evt_in
   evaporation_there w there = rw (there, evt_reads files name m size w (staged m m.nrchop (pos 0) stage) refl refl (length-map m.periods stage), arrays_put evaporation_arrays stage m.periods) refl

@@ -1,10 +1,10 @@
 -- The text of a model's deck: its files, one after another, as `heads write` puts them.
 use Rattle.std.specs.Prelude.{◌≡◌, ℕ, ◌≤◌, List, [], ◌∷◌, ◌++◌, All, length, codes, Ok}
 use Rattle.std.specs.List.{flat_map}
-use Rattle.outside.specs.Files.{File}
-use Rattle.outside.specs.Inputs.{file_limit}
+use Rattle.outside.specs.Files.{File, with_limit}
 use Rattle.name_file.specs.declared.package.Package.{Package}
 use Rattle.name_file.specs.declared.package.Package.TheVariants.{Dis, Bas, Lpf, Wel, Riv, Drn, Ghb, Rch, Chd, Evt}
+use Rattle.model_types.specs.Limits.{most_bytes}
 use Rattle.model_types.specs.declared.limits.Limits.{Limits}
 use Rattle.model_types.specs.declared.model.FlowModel.{FlowModel}
 use Rattle.model_reader.specs.Model.{reads}
@@ -49,4 +49,4 @@ deck_text m = file_texts (deck_files m) ++ codes "END\n"
 
 -- The files are read as the model by these limits, where each IBOUND has at most 18 digits and no file is too long.
 abbrev pub IsReadAgain : Limits → FlowModel → Type 0
-IsReadAgain limits m = All IsShort m.ibound → All (λ f. length f.bytes ≤ file_limit) (deck_files m) → reads limits (deck_files m) deck_name ≡ Ok m
+IsReadAgain limits m = All IsShort m.ibound → All (λ f. length f.bytes ≤ most_bytes limits) (deck_files m) → reads limits (with_limit (most_bytes limits) (deck_files m)) deck_name ≡ Ok m

@@ -18,6 +18,11 @@ abbrev pub most_cells : Limits → ℕ
 most_cells Plain = 65536
 most_cells Wide = 4194304
 
+-- the bytes of a file: 64 MiB, 1 GiB
+abbrev pub most_bytes : Limits → ℕ
+most_bytes Plain = 67108864
+most_bytes Wide = 1073741824
+
 -- the entries of a list for a stress period
 abbrev pub most_entries : Limits → ℕ
 most_entries Plain = 65536

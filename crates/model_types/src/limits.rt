@@ -1,6 +1,6 @@
 // The limits that a model is read by.
 ghost use Rattle.std.specs.Prelude.{◌≡◌, ◌≤◌};
-ghost use Rattle.model_types.specs.Limits.{most_layers, most_in_row, most_cells, most_entries};
+ghost use Rattle.model_types.specs.Limits.{most_layers, most_in_row, most_cells, most_entries, most_bytes};
 
 /// The limits that a model is read by: the plain ones, or the wide ones for larger models. What is known of a model that
 /// was read holds by the wide ones, so nothing above the readers depends on which they were.
@@ -41,6 +41,16 @@ impl Limits {
         match self {
             Limits::Plain => 65_536,
             Limits::Wide => 4_194_304,
+        }
+    }
+
+    /// The most bytes of a file.
+    pub fn bytes(self) -> u64
+        ensures { result ≡ most_bytes self }
+    {
+        match self {
+            Limits::Plain => 67_108_864,
+            Limits::Wide => 1_073_741_824,
         }
     }
 

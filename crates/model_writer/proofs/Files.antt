@@ -48,9 +48,9 @@ one_file_before file p xs n i d is lt =
     ∙ ap (map file) (filter-append p (get_or xs (n - 1 - i) d ∷ []) (drop (n - i) xs))
     ∙ map-append file (filter p (get_or xs (n - 1 - i) d ∷ [])) (filter p (drop (n - i) xs))
 
--- files in memory, of which no call fails
+-- files in memory, with the limit of a file, of which no call fails
 abbrev pub with_files : List File → FolderState
-with_files files = record { files = files; script = []; calls = 0; faults = 0 }
+with_files files = record { files = files; limit = 67108864; script = []; calls = 0; faults = 0 }
 
 pub files_step : {X : Type 0} (file : X → File) (p : X → Bool) (xs : List X) (n i : ℕ) (d : X) (before after : FolderState) → n ≡ length xs → i < n →
     before ≡ with_files (map file (filter p (drop (n - i) xs))) →

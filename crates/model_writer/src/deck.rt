@@ -8,7 +8,7 @@ use crate::names::{DeckNames, push_names};
 use crate::packages::{PACKAGES, has_package, push_package};
 use model_types::FlowModel;
 use name_file::Package;
-use outside::MemFolder;
+use outside::{FILE_LIMIT, MemFolder};
 use std::alloc::{AllocError, Global};
 
 /// Adds the file of a package if the model has it.
@@ -43,6 +43,7 @@ pub fn write_model(
     requires size { HasSize model.now.grid }
     ensures { IfOk result (λ folder. folder ≡ record {
       files = written model.now (names_of names.now) names.now.name.now;
+      limit = 67108864;
       script = [];
       calls = 0;
       faults = 0;
@@ -50,7 +51,7 @@ pub fn write_model(
 {
     let mut bytes = Vec::new(alloc);
     push_names(&mut bytes, model, names)?;
-    let mut folder = MemFolder::new(alloc);
+    let mut folder = MemFolder::new(alloc, FILE_LIMIT);
     for place in 0..PACKAGES.len() {
         let kind = PACKAGES[PACKAGES.len() - 1 - place];
         add_package(alloc, &mut folder, model, names, kind)?;
