@@ -1,7 +1,7 @@
 // A pair that is tested.
 ghost use Rattle.std.specs.Prelude.{IfOk, IfSome};
 ghost use Rattle.step_problem.specs.Heads.{IsBarrier};
-ghost use Rattle.step_problem.specs.Settling.{AreCertified};
+ghost use Rattle.step_problem.specs.Settling.{AreInside};
 ghost use Rattle.certified_pair.specs.Pairs.{AreOrdered};
 
 use crate::guesser::PairGuesser;
@@ -10,8 +10,9 @@ use head_guess::Kept;
 use std::alloc::{AllocError, Global};
 use step_problem::{Barrier, Bound, Problem};
 
-/// A guessed pair that is a certificate of a problem and a barrier, one bound for each cell, with heads in range and in order: the first guess,
-/// or a wider one. None where both fail, which says nothing of the problem. What the guess of the last step kept may be that of any problem.
+/// A guessed pair that is a certificate of a problem and a barrier, one bound for each cell, with heads in range, none at its end, and in
+/// order: the first guess, or a wider one. None where both fail, which says nothing of the problem. What the guess of the last step kept
+/// may be that of any problem.
 pub fn certified_pair<G: PairGuesser>(
     guesser: &G,
     alloc: Global,
@@ -20,7 +21,7 @@ pub fn certified_pair<G: PairGuesser>(
     kept: &mut Kept,
 ) -> Result<Option<Vec<Bound>>, AllocError>
     requires { IsBarrier p.now b.now }
-    ensures certified { IfOk result (λ found. IfSome found (λ pair. AreCertified p.now b.now pair.items)) }
+    ensures certified { IfOk result (λ found. IfSome found (λ pair. AreInside p.now b.now pair.items)) }
     ensures ordered { IfOk result (λ found. IfSome found (λ pair. AreOrdered pair.items)) }
 {
     let pair = guesser.guess(alloc, p, b, kept)?;

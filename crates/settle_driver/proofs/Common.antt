@@ -25,7 +25,7 @@ pub use Rattle.step_problem.specs.Conditions.{IsHead, IsProblem}
 pub use Rattle.step_problem.specs.Entries.{Entries}
 pub use Rattle.step_problem.specs.Heads.{AreOnTheWay, CanRise, CanSink, Edges, Ge, IsBarrier, IsRaise, IsSink, OpenHeads, RoundsSettleBoth, head_at, lower_at}
 pub use Rattle.step_problem.specs.Heads.{no_bound, upper_at}
-pub use Rattle.step_problem.specs.Settling.{AreSettled, CanMove, Gives, IsFirstOpen, IsPairOf, IsUnfinished, PairKind}
+pub use Rattle.step_problem.specs.Settling.{AreSettled, CanMove, Gives, IsFirstOpen, IsGiven, IsUnfinished, PairKind}
 pub use Rattle.step_problem.specs.Sides.{AreHeads, AsTight, IsOnTheWay, IsPast, IsRelaxed}
 pub use Rattle.step_problem.specs.declared.heads.Bound.{Bound}
 pub use Rattle.step_problem.specs.declared.heads.Side.{Side}

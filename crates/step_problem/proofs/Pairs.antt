@@ -1,12 +1,12 @@
--- A pair of either kind is a certificate.
-use Rattle.step_problem.proofs.Common.{Result, Ok, Err, Entries, IsProblem, Edges, IsBarrier, lower_at, upper_at}
+-- A pair of either kind is a certificate, and what a settler gives is a pair of its kind.
+use Rattle.step_problem.proofs.Common.{Result, Ok, Err, Entries, IsProblem, Edges, IsBarrier, lower_at, upper_at, inl, inr}
 use Rattle.std.specs.Prelude.{ℕ, List}
 use Rattle.std.specs.declared.vec.Vec.{Vec}
 use Rattle.std.specs.declared.alloc.Global.{Global}
 use Rattle.step_problem.specs.declared.heads.Bound.{Bound}
 use Rattle.step_problem.specs.declared.heads.SettleFault.{SettleFault}
 use Rattle.step_problem.specs.declared.heads.SettleFault.TheVariants.{Unfinished, Memory}
-use Rattle.step_problem.specs.Settling.{PairKind, AreCertified, AreSettled, IsPairOf, Gives}
+use Rattle.step_problem.specs.Settling.{PairKind, AreCertified, AreInside, AreSettled, IsGiven, IsPairOf, Gives}
 use Rattle.step_problem.specs.Settling.PairKind.{settled, certified}
 use Rattle.step_problem.proofs.BothSettle.{pair_certifies}
 
@@ -25,8 +25,18 @@ module _ (p : List Entries) (b : Edges) (problem : IsProblem p) (barrier : IsBar
   either_certifies settled bounds h = settled_is certified p b bounds problem barrier h
   either_certifies certified bounds h = h
 
+  -- what a settler gives is a pair of its kind
+  pub given_is : (kind : PairKind) (bounds : List Bound) → IsGiven p kind b bounds → IsPairOf p kind b bounds
+  given_is settled bounds h = h
+  given_is certified bounds (inl h) = settled_is certified p b bounds problem barrier h
+  given_is certified bounds (inr h) = h.certified
+
   -- so what gives pairs of either kind gives certificates
+  given_certifies : (kind : PairKind) (bounds : List Bound) → IsGiven p kind b bounds → IsGiven p certified b bounds
+  given_certifies settled bounds h = inl h
+  given_certifies certified bounds h = h
+
   pub either_gives : (kind : PairKind) (rounds : ℕ) (r : Result (Vec Bound Global) SettleFault) → Gives p kind b rounds r → Gives p certified b rounds r
-  either_gives kind rounds (Ok bounds) h = either_certifies kind bounds.items h
+  either_gives kind rounds (Ok bounds) h = given_certifies kind bounds.items h
   either_gives kind rounds (Err (Unfinished o)) h = h
   either_gives kind rounds (Err Memory) h = h

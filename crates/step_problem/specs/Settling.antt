@@ -1,5 +1,5 @@
 -- What a settler returns: the pair of a problem, by its kind, or why there is none.
-use Rattle.std.specs.Prelude.{◌≡◌, ℕ, ◌<◌, List, length, ℤ, ◌<ℤ◌, Result, Ok, Err}
+use Rattle.std.specs.Prelude.{◌≡◌, ◌⊎◌, ℕ, ◌<◌, List, length, All, ℤ, pos, neg_ℤ, ◌<ℤ◌, Result, Ok, Err}
 use Rattle.std.specs.declared.vec.Vec.{Vec}
 use Rattle.std.specs.declared.alloc.Global.{Global}
 use Rattle.step_problem.specs.declared.heads.Bound.{Bound}
@@ -8,10 +8,10 @@ use Rattle.step_problem.specs.declared.heads.Side.TheVariants.{Low, High}
 use Rattle.step_problem.specs.declared.heads.SettleFault.{SettleFault}
 use Rattle.step_problem.specs.declared.heads.SettleFault.TheVariants.{Unfinished, Memory}
 use Rattle.step_problem.specs.Entries.{Entries}
-use Rattle.step_problem.specs.Conditions.{IsHead}
+use Rattle.step_problem.specs.Conditions.{IsHead, head_limit}
 use Rattle.step_problem.specs.Heads.{Edges, OpenHeads, lower_at, upper_at, CanRise, CanSink, IsSettledPair, IsCertificate, RoundsSettleBoth, AreOnTheWay}
 
--- A settler gives the settled pair, or any pair that is a certificate.
+-- A settler gives the settled pair, or any pair that is a certificate, by a test.
 pub data PairKind : Type 0 where
   settled : PairKind
   certified : PairKind
@@ -52,9 +52,19 @@ module _ (p : List Entries) where
   IsPairOf settled b bounds = AreSettled b bounds
   IsPairOf certified b bounds = AreCertified b bounds
 
+  -- a certificate none of whose heads is at the end of the range of heads
+  pub record AreInside (b : Edges) (bounds : List Bound) : Type 0 where
+    pub certified : AreCertified b bounds
+    pub inside : All (λ bound. (neg_ℤ (pos head_limit) <ℤ bound.low) × (bound.high <ℤ pos head_limit)) bounds
+
+  -- what a settler of pairs of this kind gives: where it isn't the settled pair, no head is at the end of the range
+  abbrev pub IsGiven : PairKind → Edges → List Bound → Type 0
+  IsGiven settled b bounds = AreSettled b bounds
+  IsGiven certified b bounds = AreSettled b bounds ⊎ AreInside b bounds
+
   -- the result of a settler of pairs of this kind: such a pair, or a fault by its cause
   abbrev pub Gives : PairKind → Edges → ℕ → Result (Vec Bound Global) SettleFault → Type 0
-  Gives kind b rounds (Ok bounds) = IsPairOf kind b bounds.items
+  Gives kind b rounds (Ok bounds) = IsGiven kind b bounds.items
   Gives kind b rounds (Err (Unfinished o)) = IsUnfinished b rounds o
   Gives kind b rounds (Err Memory) = Unit {0}
 

@@ -1,4 +1,4 @@
-use Rattle.settle_driver.proofs.Common.{List, subst, Bound, lower_at, upper_at, AreSettled, PairKind, IsPairOf}
+use Rattle.settle_driver.proofs.Common.{List, subst, Bound, lower_at, upper_at, AreSettled, PairKind, IsGiven}
 use Rattle.step_problem.specs.Leaving.{HaveLeft}
 use Rattle.step_problem.proofs.Leaving.{leaving_settles}
 use Rattle.settle_driver.proofs.near.settled_near.Goals as goal
@@ -9,7 +9,7 @@ returns-then-have_left-clause-settled g c =
     let b = c.args.b.now in
     let inner = c.in_ok-inner.inner in
     let bounds : List Bound = c.in-Ok.bounds.items in
-    let P : PairKind → Type 0 = λ kind. IsPairOf p kind inner bounds in
+    let P : PairKind → Type 0 = λ kind. IsGiven p kind inner bounds in
     let settled : AreSettled p inner bounds = subst P c.requires.kind c.in-Ok.ensures.settles in
     let left = subst (λ (x : List Bound). HaveLeft p b inner (lower_at x) (upper_at x)) c.as_slice-in-loop-trial.ensures.value (c.have_left.ensures c.if-have_left.true) in
     record {
