@@ -1,8 +1,8 @@
 -- A check, step by step.
-use Rattle.check_run.proofs.Common.{All, Contains, ◌≡◌, ℕ, suc, List, [], ◌∷◌, ◌+◌, ◌<◌, ◌≤◌, subst, sym, ap, refl, arith, ◌∙◌, inl, inr, drop, length, get_or}
-use Rattle.check_run.proofs.Common.{Result, Ok, Err, IfOk, Option, AllZip, IfErr, All-head, All-tail, All-contains_itself, drop_more, drop_all, Bound, ZoneFlow}
-use Rattle.check_run.proofs.Common.{Budget, TimeStep, start_head, times, AreGridHeads, HeadsEnclose, pairs_in, ListedStep, AreFlows, AreFlowsAt, AreListed}
-use Rattle.check_run.proofs.Common.{IsListedStep, step_in, BoundsMoves, CheckFault, ListingVerdict, Certified, Fails, Refused, FailsBy, IsVerdictAt}
+use Rattle.check_run.proofs.Common.{Limits, All, Contains, ◌≡◌, ℕ, suc, List, [], ◌∷◌, ◌+◌, ◌<◌, ◌≤◌, subst, sym, ap, refl, arith, ◌∙◌, inl, inr, drop, length}
+use Rattle.check_run.proofs.Common.{get_or, Result, Ok, Err, IfOk, Option, AllZip, IfErr, All-head, All-tail, All-contains_itself, drop_more, drop_all, Bound}
+use Rattle.check_run.proofs.Common.{ZoneFlow, Budget, TimeStep, start_head, times, AreGridHeads, HeadsEnclose, pairs_in, ListedStep, AreFlows, AreFlowsAt}
+use Rattle.check_run.proofs.Common.{AreListed, IsListedStep, step_in, BoundsMoves, CheckFault, ListingVerdict, Certified, Fails, Refused, FailsBy, IsVerdictAt}
 use Rattle.check_run.proofs.Common.{heads_before, Passes, Checks, StopsAt, IsVerdict, ListingEncloses, checked_task, step_of, steps_of, Decks, AreDecks}
 use Rattle.check_run.proofs.Common.{EachMember, HaveOneHistory, histories_bound, AreStartHeadsFor}
 use Rattle.check_run.proofs.Passed.{ArePassed, all_move, have_one}
@@ -25,15 +25,15 @@ steps_many [] ws e = refl
 steps_many (at ∷ ats) [] e = absurd (omega (arith, e))
 steps_many (at ∷ ats) (w ∷ ws) e = let rest = steps_many ats ws (omega (arith, e)) in omega (arith, rest)
 
-module _ (ds : Decks) (s : ℕ) (zones : Option (List ℕ)) (all : List ListedStep) where
+module _ (limits : Limits) (ds : Decks) (s : ℕ) (zones : Option (List ℕ)) (all : List ListedStep) where
   -- The check got so far: from the heads of the last step on, what holds of the rest holds of all. The times left are times of
   -- the decks, and their steps have their flows between zones.
   pub record IsSoFar (old : List Bound) (rest : List TimeStep) (steps : List ListedStep) : Type 0 where
     pub grid : AreGridHeads ds.first old
-    pub goes_on : (end : ListingVerdict) → Checks ds s zones old rest steps end → IsVerdict ds s zones all end
+    pub goes_on : (end : ListingVerdict) → Checks limits ds s zones old rest steps end → IsVerdict limits ds s zones all end
     pub start : List Bound
     pub starts : EachMember ds (λ m. HeadsEnclose m start (start_head m))
-    pub passed : ArePassed ds s zones old rest steps → ArePassed ds s zones start (times ds.first) all
+    pub passed : ArePassed limits ds s zones old rest steps → ArePassed limits ds s zones start (times ds.first) all
     pub left : All (Contains (times ds.first)) rest
     pub flows : AllZip (AreFlowsAt (pairs_in ds.first zones)) rest steps
 
@@ -48,7 +48,7 @@ module _ (ds : Decks) (s : ℕ) (zones : Option (List ℕ)) (all : List ListedSt
     flows = listed.flows;
   }
 
-  pub one_more : (old : List Bound) (at : TimeStep) (rest : List TimeStep) (w : ListedStep) (steps : List ListedStep) → IsSoFar old (at ∷ rest) (w ∷ steps) → AreGridHeads ds.first w.heads → Passes ds s zones at old w → BoundsMoves (checked_task ds s zones) at old (step_of at w) → IsSoFar w.heads rest steps
+  pub one_more : (old : List Bound) (at : TimeStep) (rest : List TimeStep) (w : ListedStep) (steps : List ListedStep) → IsSoFar old (at ∷ rest) (w ∷ steps) → AreGridHeads ds.first w.heads → Passes limits ds s zones at old w → BoundsMoves (checked_task ds s zones) at old (step_of at w) → IsSoFar w.heads rest steps
   one_more old at rest w steps f grid passes moves = record {
     grid = grid;
     goes_on = λ end h. f.goes_on end (inl (passes, h));
@@ -78,25 +78,25 @@ module _ (ds : Decks) (s : ℕ) (zones : Option (List ℕ)) (all : List ListedSt
       let R : List TimeStep → Type 0 = λ ts. IsSoFar old ts [] in
       subst R (drop_all i (times ds.first) past) (subst Q (drop_all i all past_all) f)
 
-  pub ends_certified : (old : List Bound) (i : ℕ) (items : List TimeStep) → items ≡ times ds.first → AreListed ds.first (pairs_in ds.first zones) all → length items ≤ i → IsSoFar old (drop i (times ds.first)) (drop i all) → IsVerdict ds s zones all Certified
+  pub ends_certified : (old : List Bound) (i : ℕ) (items : List TimeStep) → items ≡ times ds.first → AreListed ds.first (pairs_in ds.first zones) all → length items ≤ i → IsSoFar old (drop i (times ds.first)) (drop i all) → IsVerdict limits ds s zones all Certified
   ends_certified old i items is listed above f = (at_end old i items is listed above f).goes_on Certified tt
 
   pub ends_enclosed : (old : List Bound) (i : ℕ) (items : List TimeStep) → items ≡ times ds.first → AreListed ds.first (pairs_in ds.first zones) all → length items ≤ i → IsSoFar old (drop i (times ds.first)) (drop i all) → ListingEncloses ds s zones all
   ends_enclosed old i items is listed above f =
       let end = at_end old i items is listed above f in
-      histories_bound (checked_task ds s zones) ds.first ds.second end.start (steps_of (times ds.first) all) (steps_many (times ds.first) all listed.whole) (all_move ds s zones end.start (times ds.first) all (end.passed tt)) end.starts
+      histories_bound (checked_task ds s zones) ds.first ds.second end.start (steps_of (times ds.first) all) (steps_many (times ds.first) all listed.whole) (all_move limits ds s zones end.start (times ds.first) all (end.passed tt)) end.starts
 
   pub ends_history : AreDecks ds → (old : List Bound) (i : ℕ) (items : List TimeStep) → items ≡ times ds.first → AreListed ds.first (pairs_in ds.first zones) all → length items ≤ i → IsSoFar old (drop i (times ds.first)) (drop i all) → HaveOneHistory ds
   ends_history valid old i items is listed above f =
       let end = at_end old i items is listed above f in
-      have_one ds.first ds.second s zones valid end.start all end.starts (end.passed tt)
+      have_one limits ds.first ds.second s zones valid end.start all end.starts (end.passed tt)
 
-  stops_by : (at : TimeStep) (old : List Bound) (w : ListedStep) (f : CheckFault) (v : ListingVerdict) → FailsBy ds s zones at old w f → IsVerdictAt at f v → StopsAt ds s zones at old w v
-  stops_by at old w (fault.Fails place) v h is = let P : ListingVerdict → Type 0 = StopsAt ds s zones at old w in subst P (sym is) (refl, h)
-  stops_by at old w (fault.Refused n) v h is = let P : ListingVerdict → Type 0 = StopsAt ds s zones at old w in subst P (sym is) (refl, h)
+  stops_by : (at : TimeStep) (old : List Bound) (w : ListedStep) (f : CheckFault) (v : ListingVerdict) → FailsBy limits ds s zones at old w f → IsVerdictAt at f v → StopsAt limits ds s zones at old w v
+  stops_by at old w (fault.Fails place) v h is = let P : ListingVerdict → Type 0 = StopsAt limits ds s zones at old w in subst P (sym is) (refl, h)
+  stops_by at old w (fault.Refused n) v h is = let P : ListingVerdict → Type 0 = StopsAt limits ds s zones at old w in subst P (sym is) (refl, h)
   stops_by at old w fault.Memory v h is = absurd is
 
-  pub ends_by : (old : List Bound) (at : TimeStep) (rest : List TimeStep) (w : ListedStep) (steps : List ListedStep) (f : CheckFault) (v : ListingVerdict) → IsSoFar old (at ∷ rest) (w ∷ steps) → FailsBy ds s zones at old w f → IsVerdictAt at f v → IsVerdict ds s zones all v
+  pub ends_by : (old : List Bound) (at : TimeStep) (rest : List TimeStep) (w : ListedStep) (steps : List ListedStep) (f : CheckFault) (v : ListingVerdict) → IsSoFar old (at ∷ rest) (w ∷ steps) → FailsBy limits ds s zones at old w f → IsVerdictAt at f v → IsVerdict limits ds s zones all v
   ends_by old at rest w steps f v so_far h is = so_far.goes_on v (inr (stops_by at old w f v h is))
 
   -- One step of the loop, from what was lent to the check of the step.
@@ -110,18 +110,18 @@ module _ (ds : Decks) (s : ℕ) (zones : Option (List ℕ)) (all : List ListedSt
         let F : List ZoneFlow → Type 0 = AreFlows (pairs_in ds.first zones (get_or items i d).period) in
         subst F (sym flows_are) (at_step (heads_before start all i) i items d is listed below f).flows.0
 
-    pub stops_here : (fault : CheckFault) (v : ListingVerdict) → FailsBy ds n zones (get_or items i d) old (record { heads = heads; budget = budget; zones = flows }) fault → IsVerdictAt (get_or items i d) fault v → IsVerdict ds s zones all v
+    pub stops_here : (fault : CheckFault) (v : ListingVerdict) → FailsBy limits ds n zones (get_or items i d) old (record { heads = heads; budget = budget; zones = flows }) fault → IsVerdictAt (get_or items i d) fault v → IsVerdict limits ds s zones all v
     stops_here fault v h verdict =
-        let D : ℕ → Type 0 = λ k. FailsBy ds k zones (get_or items i d) old (record { heads = heads; budget = budget; zones = flows }) fault in
-        let P : List Bound → ListedStep → Type 0 = λ o w. FailsBy ds s zones (get_or items i d) o w fault in
+        let D : ℕ → Type 0 = λ k. FailsBy limits ds k zones (get_or items i d) old (record { heads = heads; budget = budget; zones = flows }) fault in
+        let P : List Bound → ListedStep → Type 0 = λ o w. FailsBy limits ds s zones (get_or items i d) o w fault in
         ends_by (heads_before start all i) (get_or items i d) (drop (i + 1) (times ds.first)) (step_in all i) (drop (i + 1) all) fault v (at_step (heads_before start all i) i items d is listed below f)
         (here P old (heads_before start all i) heads budget flows (step_in all i) old_is heads_are budget_is flows_are (subst D digits h)) verdict
 
-    pub goes_here : Passes ds n zones (get_or items i d) old (record { heads = heads; budget = budget; zones = flows }) → BoundsMoves (checked_task ds n zones) (get_or items i d) old (step_of (get_or items i d) (record { heads = heads; budget = budget; zones = flows })) →
+    pub goes_here : Passes limits ds n zones (get_or items i d) old (record { heads = heads; budget = budget; zones = flows }) → BoundsMoves (checked_task ds n zones) (get_or items i d) old (step_of (get_or items i d) (record { heads = heads; budget = budget; zones = flows })) →
         IsSoFar (heads_before start all (i + 1)) (drop (i + 1) (times ds.first)) (drop (i + 1) all)
     goes_here passes moves =
-        let D : ℕ → Type 0 = λ k. Passes ds k zones (get_or items i d) old (record { heads = heads; budget = budget; zones = flows }) × BoundsMoves (checked_task ds k zones) (get_or items i d) old (step_of (get_or items i d) (record { heads = heads; budget = budget; zones = flows })) in
-        let P : List Bound → ListedStep → Type 0 = λ o w. Passes ds s zones (get_or items i d) o w × BoundsMoves (checked_task ds s zones) (get_or items i d) o (step_of (get_or items i d) w) in
+        let D : ℕ → Type 0 = λ k. Passes limits ds k zones (get_or items i d) old (record { heads = heads; budget = budget; zones = flows }) × BoundsMoves (checked_task ds k zones) (get_or items i d) old (step_of (get_or items i d) (record { heads = heads; budget = budget; zones = flows })) in
+        let P : List Bound → ListedStep → Type 0 = λ o w. Passes limits ds s zones (get_or items i d) o w × BoundsMoves (checked_task ds s zones) (get_or items i d) o (step_of (get_or items i d) w) in
         let h = here P old (heads_before start all i) heads budget flows (step_in all i) old_is heads_are budget_is flows_are (subst D digits (passes, moves)) in
         let Q : ℕ → Type 0 = λ k. IsSoFar (heads_before start all k) (drop (i + 1) (times ds.first)) (drop (i + 1) all) in
         let next : suc i ≡ i + 1 = omega arith in

@@ -11,7 +11,6 @@ pub use Rattle.std.proofs.lemmas.List.Elements.{All-contains_itself, All-from_re
 pub use Rattle.std.proofs.lemmas.Result.{err_from_is_err_and}
 pub use Rattle.std.specs.List.{AllByRecursion, AllZip, concat, cons_option, filter_map, flat_map}
 pub use Rattle.std.specs.Prelude.{IfErr, IfSome, filter, if◌then◌else◌, int_lt, nat_lt, not, slice_index, ◌==◌}
-pub use Rattle.barrier_vector.specs.Refusals.{IsFault}
 pub use Rattle.budget_bounds.specs.Covers.{CoverEncloses, Covers, IsFirstUncovered, line_of}
 pub use Rattle.budget_bounds.specs.Exact.{BudgetEncloses, EnclosesBudgets, HeadsAreWithin}
 pub use Rattle.budget_bounds.specs.Terms.{all_terms, is_small, no_pair, term_limit, too_large, ◌>>=◌}
@@ -71,6 +70,7 @@ pub use Rattle.model_types.specs.Layers.{int_at, is_active, is_nonzero}
 pub use Rattle.model_types.specs.Sources.{FixedSource, as_general, constant_faces, evap_sources, fixed_sources, local_entries, storage_at, variable_faces}
 pub use Rattle.model_types.specs.Times.{period_at, times}
 pub use Rattle.model_types.specs.Valid.{IsModel}
+pub use Rattle.model_types.specs.declared.limits.Limits.{Limits}
 pub use Rattle.model_types.specs.declared.model.FlowModel.{FlowModel}
 pub use Rattle.model_types.specs.declared.time_steps.TimeStep.{TimeStep}
 pub use Rattle.problem_builder.proofs.Members.{In-append, In-variable, variable-In}
@@ -81,15 +81,17 @@ pub use Rattle.problem_builder.specs.Thicknesses.{Thicknesses}
 pub use Rattle.problem_hull.specs.Hulls.{IsCellHull, IsEvapHull, IsFixedHull, IsHull, IsLinkHull}
 pub use Rattle.problem_hull.specs.Threes.{AllThree, next, none}
 pub use Rattle.step_chain.proofs.Assembled.{active_constant, constant_not_variable, count_is, index_below, number_is}
+pub use Rattle.step_chain.proofs.Limits.{cut_by}
 pub use Rattle.step_chain.proofs.OneStep.{same_bound, same_bounds}
+pub use Rattle.step_chain.specs.Barriers.{IsBarrierBy, IsBarrierFault, edges_by}
 pub use Rattle.step_chain.specs.GridHeads.{bound_at}
-pub use Rattle.step_chain.specs.Laws.{HeadsFit, RefusalIsOne}
-pub use Rattle.step_chain.specs.Steps.{HasNoHeads, IsPosed, IsStepBy}
+pub use Rattle.step_chain.specs.Laws.{HeadsFit}
+pub use Rattle.step_chain.specs.Steps.{HasNoPose, IsPosed, IsStepBy}
 pub use Rattle.step_chain.specs.declared.solved.Solved.{Solved}
 pub use Rattle.step_problem.specs.Conditions.{IsHead, IsProblem}
 pub use Rattle.step_problem.specs.Entries.{Entries, entries_at, no_entries}
 pub use Rattle.step_problem.specs.Heads.{Edges, IsCertificate, lower_at, no_bound, upper_at}
-pub use Rattle.step_problem.specs.Settling.{AreCertified, PairKind}
+pub use Rattle.step_problem.specs.Settling.{PairKind}
 pub use Rattle.step_problem.specs.declared.entry.Fixed.{Fixed}
 pub use Rattle.step_problem.specs.declared.entry.FixedKind.{FixedKind}
 pub use Rattle.step_problem.specs.declared.entry.FixedKind.TheVariants.{Constant, Storage}

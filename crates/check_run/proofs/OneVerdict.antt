@@ -1,15 +1,17 @@
 -- A listing has one verdict.
-use Rattle.check_run.proofs.Common.{◌≡◌, ◌≢◌, ◌∙◌, ℕ, suc, ◌<◌, ◌⊎◌, inl, inr, List, [], ◌∷◌, length, All, Ok, Err, Option, refl, sym, ap, subst, arith, AllZip}
-use Rattle.check_run.proofs.Common.{Bound, Side, Low, High, Dir, NoBound, Term, ZoneFlow, Entries, entries_at, Edges, lower_at, upper_at, IsCertificate, Budget}
-use Rattle.check_run.proofs.Common.{Covers, IsFirstUncovered, HoldsAt, IsFirstFailing, TimeStep, times, AreGridHeads, RefusalIsOne, IsPosed, HasNoHeads}
-use Rattle.check_run.proofs.Common.{ListedStep, IsListedStep, AreFlowsOf, HasLargeFlowOf, one_ok, one_err, ok_not_err, IsRest, first_in, rest_more, rest_whole}
+use Rattle.check_run.proofs.Common.{Limits, ◌≡◌, ◌≢◌, ◌∙◌, ℕ, suc, ◌<◌, ◌⊎◌, inl, inr, List, [], ◌∷◌, length, All, Ok, Err, Option, refl, sym, ap, subst, arith}
+use Rattle.check_run.proofs.Common.{AllZip, Bound, Side, Low, High, Dir, NoBound, Term, ZoneFlow, Entries, entries_at, Edges, lower_at, upper_at, IsCertificate}
+use Rattle.check_run.proofs.Common.{Budget, Covers, IsFirstUncovered, HoldsAt, IsFirstFailing, TimeStep, times, AreGridHeads, IsPosed, HasNoPose, ListedStep}
+use Rattle.check_run.proofs.Common.{IsListedStep, AreFlowsOf, HasLargeFlowOf, one_ok, one_err, ok_not_err, IsRest, first_in, rest_more, rest_whole}
 use Rattle.check_run.proofs.Common.{ListingVerdict, Certified, Fails, Refused, ConstantsReach, IsConstantCell, IsFirstShort, ReachesAt, CoversFlow}
 use Rattle.check_run.proofs.Common.{IsFirstNarrow, bounds, Passes, FailsAt, at_constant, at_variable, at_term, at_zones, IsRefused, no_heads, no_budget}
 use Rattle.check_run.proofs.Common.{no_flows, Checks, StopsAt, Decks, AreDecks, IsBefore, ProblemIsOne, ProblemFits, ProblemExcludesRefusal, StartHeadsAreOne}
-use Rattle.check_run.proofs.Common.{StartHeadsFit}
+use Rattle.check_run.proofs.Common.{StartHeadsFit, IsBarrierBy, cut_by}
 use Rattle.step_problem.specs.declared.place.Place.{Place}
-use Rattle.barrier_vector.specs.Barriers.{IsBarrierOf, BarrierIsOne, BarrierExcludesRefusal}
-use Rattle.barrier_vector.specs.Refusals.{IsRefused as IsBarrierRefused}
+use Rattle.barrier_vector.specs.Barriers.{BarrierExcludesRefusal, RefusalIsOne as BarrierRefusalIsOne}
+use Rattle.barrier_vector.specs.CutLaws.{CutBarrierIsOne, CutBarrierExcludesRefusal, CutRefusalIsOne}
+use Rattle.deck_problems.specs.Laws.{RefusalIsOne as ProblemRefusalIsOne}
+use Rattle.step_chain.proofs.Refusals.{poses_one, posed_excludes as step_posed_excludes}
 use Rattle.check_run.specs.Laws.{VerdictIsOne}
 use Rattle.check_run.specs.Steps.{budget_at}
 use Rattle.check_run.proofs.Firsts.{IsFirst, first_one, large_one, narrow_one, never_narrow, none_large, same_flows, term_one}
@@ -28,12 +30,15 @@ pub record Laws : Type 0 where
   pub start_fits : StartHeadsFit
   pub problem_one : ProblemIsOne
   pub problem_fits : ProblemFits
-  pub barrier_one : BarrierIsOne
+  pub barrier_one : CutBarrierIsOne
   pub problem_excludes : ProblemExcludesRefusal
   pub barrier_excludes : BarrierExcludesRefusal
-  pub refusal_one : RefusalIsOne
+  pub cut_excludes : CutBarrierExcludesRefusal
+  pub problem_refusal_one : ProblemRefusalIsOne
+  pub barrier_refusal_one : BarrierRefusalIsOne
+  pub cut_refusal_one : CutRefusalIsOne
 
-module _ (ds : Decks) (s : ℕ) (zones : Option (List ℕ)) (at : TimeStep) (old : List Bound) (w : ListedStep) where
+module _ (limits : Limits) (ds : Decks) (s : ℕ) (zones : Option (List ℕ)) (at : TimeStep) (old : List Bound) (w : ListedStep) where
   -- The tests of a step in turn, each by its first failure or what holds of the rest.
 
   abbrev ByZones : List ZoneFlow → Said → Type 0
@@ -46,30 +51,30 @@ module _ (ds : Decks) (s : ℕ) (zones : Option (List ℕ)) (at : TimeStep) (old
   ByTerms p budget o = ((dir : Dir) × (t : Term) × IsFirstUncovered w.budget budget dir t × (o ≡ failed (places.Term dir t))) ⊎ (Covers w.budget budget × ByFlows p o)
 
   abbrev ByBudget : List Entries → Said → Type 0
-  ByBudget p o = ((n : NoBound) × (budget_at ds s zones at old w p ≡ Err n) × (o ≡ refused n)) ⊎ ((budget : Budget) × (budget_at ds s zones at old w p ≡ Ok budget) × ByTerms p budget o)
+  ByBudget p o = ((n : NoBound) × (budget_at limits ds s zones at old w p ≡ Err n) × (o ≡ refused n)) ⊎ ((budget : Budget) × (budget_at limits ds s zones at old w p ≡ Ok budget) × ByTerms p budget o)
 
   abbrev ByVariables : List Entries → Edges → Said → Type 0
-  ByVariables p b o = ((k : ℕ) × (side : Side) × IsFirstFailing p b (bounds ds s zones at old w) k side × (o ≡ failed (places.Cell (entries_at p k).id side)))
-      ⊎ (IsCertificate p b (lower_at (bounds ds s zones at old w)) (upper_at (bounds ds s zones at old w)) × ByBudget p o)
+  ByVariables p b o = ((k : ℕ) × (side : Side) × IsFirstFailing p b (bounds limits ds s zones at old w) k side × (o ≡ failed (places.Cell (entries_at p k).id side)))
+      ⊎ (IsCertificate p b (lower_at (bounds limits ds s zones at old w)) (upper_at (bounds limits ds s zones at old w)) × ByBudget p o)
 
   abbrev ByConstants : List Entries → Edges → Said → Type 0
   ByConstants p b o = ((c : ℕ) × (side : Side) × IsFirstShort ds at w.heads c side × (o ≡ failed (places.Cell c side))) ⊎ (ConstantsReach ds at w.heads × ByVariables p b o)
 
   abbrev Says : Said → Type 0
-  Says o = ((n : NoBound) × HasNoHeads ds s at old n × (o ≡ refused n)) ⊎ ((p : List Entries) × (b : Edges) × IsPosed ds s at old p b × ByConstants p b o)
+  Says o = ((n : NoBound) × HasNoPose limits ds s at old n × (o ≡ refused n)) ⊎ ((p : List Entries) × (b : Edges) × IsPosed limits ds s at old p b × ByConstants p b o)
 
   -- What is defined of a step is said of it.
 
-  passes_said : Passes ds s zones at old w → Says passed
+  passes_said : Passes limits ds s zones at old w → Says passed
   passes_said h = let t = h.terms in inr (h.problem, h.barrier, t.heads.posed, inr (t.heads.constants, inr (t.heads.certificate, inr (t.budget, t.is, inr (t.covers, inr (h.flows, h.are, inr (h.wide, refl)))))))
 
-  fails_said : (place : Place) → FailsAt ds s zones at old w place → Says (failed place)
+  fails_said : (place : Place) → FailsAt limits ds s zones at old w place → Says (failed place)
   fails_said place (at_constant p b c side posed f e) = inr (p, b, posed, inl (c, side, f, ap failed e))
   fails_said place (at_variable p b k side posed reach f e) = inr (p, b, posed, inr (reach, inl (k, side, f, ap failed e)))
   fails_said place (at_term p b budget dir t h is f e) = inr (p, b, h.posed, inr (h.constants, inr (h.certificate, inr (budget, is, inl (dir, t, f, ap failed e)))))
   fails_said place (at_zones p b flows x y t are f e) = inr (p, b, t.heads.posed, inr (t.heads.constants, inr (t.heads.certificate, inr (t.budget, t.is, inr (t.covers, inr (flows, are, inl (x, y, f, ap failed e)))))))
 
-  refused_said : (n : NoBound) → IsRefused ds s zones at old w n → Says (refused n)
+  refused_said : (n : NoBound) → IsRefused limits ds s zones at old w n → Says (refused n)
   refused_said n (no_heads x) = inl (n, x, refl)
   refused_said n (no_budget p b h is) = inr (p, b, h.posed, inr (h.constants, inr (h.certificate, inl (n, is, refl))))
   refused_said n (no_flows p b t large) = inr (p, b, t.heads.posed, inr (t.heads.constants, inr (t.heads.certificate, inr (t.budget, t.is, inr (t.covers, inl (n, large, refl))))))
@@ -104,16 +109,16 @@ module _ (ds : Decks) (s : ℕ) (zones : Option (List ℕ)) (at : TimeStep) (old
   budget_one p o q (inr (b, x, t)) (inl (n, y, k)) = absurd (ok_not_err b n (sym x ∙ y))
   budget_one p o q (inr (b, x, t)) (inr (c, y, u)) = let P : Budget → Type 0 = λ z. ByTerms p z o in terms_one p c o q (subst P (one_ok b c (sym x ∙ y)) t) u
 
-  certified_at : (p : List Entries) (b : Edges) (k : ℕ) (side : Side) → k < length p → IsCertificate p b (lower_at (bounds ds s zones at old w)) (upper_at (bounds ds s zones at old w)) → HoldsAt p b (bounds ds s zones at old w) k side
+  certified_at : (p : List Entries) (b : Edges) (k : ℕ) (side : Side) → k < length p → IsCertificate p b (lower_at (bounds limits ds s zones at old w)) (upper_at (bounds limits ds s zones at old w)) → HoldsAt p b (bounds limits ds s zones at old w) k side
   certified_at p b k Low lt h = h.low k lt
   certified_at p b k High lt h = h.high k lt
 
-  first_failing : (p : List Entries) (b : Edges) (k : ℕ) (side : Side) → IsFirstFailing p b (bounds ds s zones at old w) k side → IsFirst (HoldsAt p b (bounds ds s zones at old w)) k side
+  first_failing : (p : List Entries) (b : Edges) (k : ℕ) (side : Side) → IsFirstFailing p b (bounds limits ds s zones at old w) k side → IsFirst (HoldsAt p b (bounds limits ds s zones at old w)) k side
   first_failing p b k side f = record { fails = f.fails; least = f.least; low_first = f.low_first }
 
   variables_one : (p : List Entries) (b : Edges) (o q : Said) → ByVariables p b o → ByVariables p b q → o ≡ q
   variables_one p b o q (inl (k, x, f, e)) (inl (j, y, g, h)) =
-      let (same, also) = first_one (HoldsAt p b (bounds ds s zones at old w)) k j x y (first_failing p b k x f) (first_failing p b j y g) in
+      let (same, also) = first_one (HoldsAt p b (bounds limits ds s zones at old w)) k j x y (first_failing p b k x f) (first_failing p b j y g) in
       e ∙ ap (λ i. failed (places.Cell (entries_at p i).id x)) same ∙ ap (λ z. failed (places.Cell (entries_at p j).id z)) also ∙ sym h
   variables_one p b o q (inl (k, x, f, e)) (inr (holds, h)) = absurd (f.fails (certified_at p b k x f.within holds))
   variables_one p b o q (inr (holds, h)) (inl (k, x, f, e)) = absurd (f.fails (certified_at p b k x f.within holds))
@@ -134,20 +139,21 @@ module _ (ds : Decks) (s : ℕ) (zones : Option (List ℕ)) (at : TimeStep) (old
   constants_one p b o q (inr (reach, h)) (inr (also, k)) = variables_one p b o q h k
 
   module _ (laws : Laws) (before : IsBefore ds at old) where
-    posed_excludes : (p : List Entries) (b : Edges) (n : NoBound) → IsPosed ds s at old p b → HasNoHeads ds s at old n → ⊥
-    posed_excludes p b n posed (inl none) = laws.problem_excludes ds s at old p n before posed.problem none
-    posed_excludes p b n posed (inr (q, is, none)) =
-        let R : List Entries → Type 0 = λ z. IsBarrierRefused z n in
-        laws.barrier_excludes p b n (laws.problem_fits ds s at old p before posed.problem) posed.barrier (subst R (laws.problem_one ds s at old q p before is posed.problem) none)
+    posed_excludes : (p : List Entries) (b : Edges) (n : NoBound) → IsPosed limits ds s at old p b → HasNoPose limits ds s at old n → ⊥
+    posed_excludes p b n posed none =
+        step_posed_excludes laws.problem_one laws.problem_fits laws.problem_excludes laws.barrier_excludes laws.cut_excludes limits ds s at old p b n before posed none
+
+    refusal_one : (a b : NoBound) → HasNoPose limits ds s at old a → HasNoPose limits ds s at old b → a ≡ b
+    refusal_one a b x y = poses_one laws.problem_one laws.problem_excludes laws.problem_refusal_one laws.barrier_refusal_one laws.cut_refusal_one limits ds s at old a b before x y
 
     said_one : (o q : Said) → Says o → Says q → o ≡ q
-    said_one o q (inl (n, x, e)) (inl (r, y, k)) = e ∙ ap refused (laws.refusal_one ds s at old n r before x y) ∙ sym k
+    said_one o q (inl (n, x, e)) (inl (r, y, k)) = e ∙ ap refused (refusal_one n r x y) ∙ sym k
     said_one o q (inl (n, x, e)) (inr (p, b, posed, h)) = absurd (posed_excludes p b n posed x)
     said_one o q (inr (p, b, posed, h)) (inl (n, x, e)) = absurd (posed_excludes p b n posed x)
     said_one o q (inr (p, b, posed, h)) (inr (r, c, also, k)) =
         let problems = laws.problem_one ds s at old p r before posed.problem also.problem in
-        let B : List Entries → Type 0 = λ z. IsBarrierOf z b in
-        let barriers = laws.barrier_one r b c (laws.problem_fits ds s at old r before also.problem) (subst B problems posed.barrier) also.barrier in
+        let B : List Entries → Type 0 = λ z. IsBarrierBy limits z b in
+        let barriers = laws.barrier_one r b c (laws.problem_fits ds s at old r before also.problem) (cut_by limits r b (subst B problems posed.barrier)) (cut_by limits r c also.barrier) in
         let P : List Entries → Type 0 = λ z. ByConstants z b o in
         let Q : Edges → Type 0 = λ z. ByConstants r z o in
         constants_one r c o q (subst Q barriers (subst P problems h)) k
@@ -164,23 +170,23 @@ module _ (ds : Decks) (s : ℕ) (zones : Option (List ℕ)) (at : TimeStep) (old
     is : v ≡ told said
     stops : said ≢ passed
 
-  stopped : (v : ListingVerdict) → StopsAt ds s zones at old w v → Stopped v
+  stopped : (v : ListingVerdict) → StopsAt limits ds s zones at old w v → Stopped v
   stopped Certified h = absurd h
   stopped (Fails t place) (same, f) = record { said = failed place; says = fails_said place f; is = ap (λ x. Fails x place) same; stops = λ e. cc }
   stopped (Refused t n) (same, r) = record { said = refused n; says = refused_said n r; is = ap (λ x. Refused x n) same; stops = λ e. cc }
 
   module _ (laws : Laws) (before : IsBefore ds at old) where
-    stops_one : (a b : ListingVerdict) → StopsAt ds s zones at old w a → StopsAt ds s zones at old w b → a ≡ b
+    stops_one : (a b : ListingVerdict) → StopsAt limits ds s zones at old w a → StopsAt limits ds s zones at old w b → a ≡ b
     stops_one a b h k =
         let x = stopped a h in
         let y = stopped b k in
         x.is ∙ ap told (said_one laws before x.said y.said x.says y.says) ∙ sym y.is
 
-    passes_excludes : (v : ListingVerdict) → Passes ds s zones at old w → StopsAt ds s zones at old w v → ⊥
+    passes_excludes : (v : ListingVerdict) → Passes limits ds s zones at old w → StopsAt limits ds s zones at old w v → ⊥
     passes_excludes v h k = let x = stopped v k in x.stops (said_one laws before x.said passed x.says (passes_said h))
 
-module _ (laws : Laws) (ds : Decks) (s : ℕ) (zones : Option (List ℕ)) (valid : AreDecks ds) where
-  checks_one : (old : List Bound) (rest : List TimeStep) (steps : List ListedStep) (a b : ListingVerdict) → IsRest (times ds.first) rest → AreGridHeads ds.first old → All (IsListedStep ds.first) steps → Checks ds s zones old rest steps a → Checks ds s zones old rest steps b → a ≡ b
+module _ (laws : Laws) (limits : Limits) (ds : Decks) (s : ℕ) (zones : Option (List ℕ)) (valid : AreDecks ds) where
+  checks_one : (old : List Bound) (rest : List TimeStep) (steps : List ListedStep) (a b : ListingVerdict) → IsRest (times ds.first) rest → AreGridHeads ds.first old → All (IsListedStep ds.first) steps → Checks limits ds s zones old rest steps a → Checks limits ds s zones old rest steps b → a ≡ b
   checks_one old [] [] Certified Certified r heads l h k = refl
   checks_one old [] [] Certified (Fails t place) r heads l h k = absurd k
   checks_one old [] [] Certified (Refused t n) r heads l h k = absurd k
@@ -190,12 +196,12 @@ module _ (laws : Laws) (ds : Decks) (s : ℕ) (zones : Option (List ℕ)) (valid
   checks_one old (at ∷ rest) [] a b r heads l h k = absurd h
   checks_one old (at ∷ rest) (w ∷ steps) a b r heads l (inl (p, h)) (inl (q, k)) =
       checks_one w.heads rest steps a b (rest_more (times ds.first) at rest r) (grid_of ds.first w (l 0 w (omega arith))) (λ i d lt. l (suc i) d (omega (arith, lt))) h k
-  checks_one old (at ∷ rest) (w ∷ steps) a b r heads l (inl (p, h)) (inr k) = absurd (passes_excludes ds s zones at old w laws (record { decks = valid; time = r.each at (first_in at rest); heads = heads }) b p k)
-  checks_one old (at ∷ rest) (w ∷ steps) a b r heads l (inr h) (inl (q, k)) = absurd (passes_excludes ds s zones at old w laws (record { decks = valid; time = r.each at (first_in at rest); heads = heads }) a q h)
-  checks_one old (at ∷ rest) (w ∷ steps) a b r heads l (inr h) (inr k) = stops_one ds s zones at old w laws (record { decks = valid; time = r.each at (first_in at rest); heads = heads }) a b h k
+  checks_one old (at ∷ rest) (w ∷ steps) a b r heads l (inl (p, h)) (inr k) = absurd (passes_excludes limits ds s zones at old w laws (record { decks = valid; time = r.each at (first_in at rest); heads = heads }) b p k)
+  checks_one old (at ∷ rest) (w ∷ steps) a b r heads l (inr h) (inl (q, k)) = absurd (passes_excludes limits ds s zones at old w laws (record { decks = valid; time = r.each at (first_in at rest); heads = heads }) a q h)
+  checks_one old (at ∷ rest) (w ∷ steps) a b r heads l (inr h) (inr k) = stops_one limits ds s zones at old w laws (record { decks = valid; time = r.each at (first_in at rest); heads = heads }) a b h k
 
 pub verdicts_one : Laws → VerdictIsOne
-verdicts_one laws ds s zones steps a b valid listed x y =
-    let P : List Bound → Type 0 = λ start. Checks ds s zones start (times ds.first) steps b in
-    checks_one laws ds s zones valid x.start (times ds.first) steps a b (rest_whole (times ds.first)) (laws.start_fits ds x.start valid x.is_start) listed.steps x.checks
+verdicts_one laws limits ds s zones steps a b valid listed x y =
+    let P : List Bound → Type 0 = λ start. Checks limits ds s zones start (times ds.first) steps b in
+    checks_one laws limits ds s zones valid x.start (times ds.first) steps a b (rest_whole (times ds.first)) (laws.start_fits ds x.start valid x.is_start) listed.steps x.checks
     (subst P (laws.start_one ds y.start x.start valid y.is_start x.is_start) y.checks)

@@ -2,12 +2,12 @@
 use Rattle.check_run.proofs.Common.{ℕ, Option, Some, None, List, [], ◌∷◌, map, ℤ, subst, IfSome, Fraction, Bound, BudgetEncloses, EncloseExact, exact_step}
 use Rattle.check_run.proofs.Common.{heads_of, variable_heads, FlowModel, TimeStep, start_head, times, Task, Step, BoundAll, Bounds, EnclosesHistories, Whole}
 use Rattle.check_run.proofs.Common.{AllSteps, IsStep, Steps, as_listed, ListingEncloses, checked_task, step_of, steps_of, Decks, BoundBetween, HistoriesBound}
-use Rattle.check_run.proofs.Common.{deck_task, Bool}
+use Rattle.check_run.proofs.Common.{deck_task, Bool, Limits}
 use Rattle.deck_span.specs.Histories.{SolvesBetweenFrom}
 
-module _ (ds : Decks) (s : ℕ) (zones : Option (List ℕ)) (rounds : ℕ) (quick : Bool) where
+module _ (limits : Limits) (ds : Decks) (s : ℕ) (zones : Option (List ℕ)) (rounds : ℕ) (quick : Bool) where
   abbrev task : Task
-  task = deck_task ds s zones rounds quick
+  task = deck_task limits ds s zones rounds quick
 
   step_bounds : (m : FlowModel) (at : TimeStep) (old : List Bound) (v : Step) (before : ℕ → Fraction) (d : ℕ) (X : ℕ → ℤ) → IsStep task at old v → Bounds task m v before d X → Bounds (checked_task ds s zones) m (step_of at (as_listed v)) before d X
   step_bounds m at old v before d X is b =

@@ -1,12 +1,12 @@
 -- The steps of a run are steps that a listing can have.
-use Rattle.check_run.proofs.Common.{◌≡◌, ℕ, zero, suc, ◌+◌, ◌<◌, false, List, [], ◌∷◌, length, map, All, Ok, refl, sym, ap, subst, arith, ℤ, pos, negsuc, ◌+ℤ◌}
-use Rattle.check_run.proofs.Common.{◌≤ℤ◌, ◌<ℤ◌, unsigned_abs, nat_abs, ◌^◌, ◌≤◌, Option, Some, None, AllZip, ints, All-weaker, Bound, Out, ZoneFlow, Entries}
-use Rattle.check_run.proofs.Common.{entries_at, no_bound, lower_at, upper_at, Budget, TermPair, all_terms, term_limit, Face, flows_between, pairs_in}
-use Rattle.check_run.proofs.Common.{AreNumbers, FlowModel, TimeStep, cell_count, variable_below, evap_sources, period_at, times, IsCellOf, IsEvap, AreGridHeads}
-use Rattle.check_run.proofs.Common.{Thicknesses, Solved, bound_at, HeadsFit, AreCellBounds, AreFlows, AreFlowsAt, AreListed, IsCellBound, IsFlowPair}
-use Rattle.check_run.proofs.Common.{IsListedStep, has_evt, zone_pair, Task, Step, Whole, AllSteps, IsStep, Steps, budget_at, AreFlowsOf, faces_of, IsRest}
-use Rattle.check_run.proofs.Common.{first_in, rest_more, rest_whole, as_listed, nat_tests, IsZoneFlow, is_nonzero, IsEvapHull, IsHull, AllThree, next, none}
-use Rattle.check_run.proofs.Common.{IsProblemBy, IsBefore, StartHeadsFit, deck_task, Decks, AreDecks, PairKind, IsStepBy, pairs_of, Bool}
+use Rattle.check_run.proofs.Common.{Limits, ◌≡◌, ℕ, zero, suc, ◌+◌, ◌<◌, false, List, [], ◌∷◌, length, map, All, Ok, refl, sym, ap, subst, arith, ℤ, pos}
+use Rattle.check_run.proofs.Common.{negsuc, ◌+ℤ◌, ◌≤ℤ◌, ◌<ℤ◌, unsigned_abs, nat_abs, ◌^◌, ◌≤◌, Option, Some, None, AllZip, ints, All-weaker, Bound, Out}
+use Rattle.check_run.proofs.Common.{ZoneFlow, Entries, entries_at, no_bound, lower_at, upper_at, Budget, TermPair, all_terms, term_limit, Face, flows_between}
+use Rattle.check_run.proofs.Common.{pairs_in, AreNumbers, FlowModel, TimeStep, cell_count, variable_below, evap_sources, period_at, times, IsCellOf, IsEvap}
+use Rattle.check_run.proofs.Common.{AreGridHeads, Thicknesses, Solved, bound_at, HeadsFit, AreCellBounds, AreFlows, AreFlowsAt, AreListed, IsCellBound}
+use Rattle.check_run.proofs.Common.{IsFlowPair, IsListedStep, has_evt, zone_pair, Task, Step, Whole, AllSteps, IsStep, Steps, budget_at, AreFlowsOf, faces_of}
+use Rattle.check_run.proofs.Common.{IsRest, first_in, rest_more, rest_whole, as_listed, nat_tests, IsZoneFlow, is_nonzero, IsEvapHull, IsHull, AllThree, next}
+use Rattle.check_run.proofs.Common.{none, IsProblemBy, IsBefore, StartHeadsFit, deck_task, Decks, AreDecks, PairKind, IsStepBy, pairs_of, Bool}
 use Rattle.step_problem.specs.declared.place.Dir.TheVariants.{In}
 use Rattle.step_problem.specs.Flows.{total}
 use Rattle.model_types.specs.Receivers.{is_chosen}
@@ -70,7 +70,7 @@ decks_no_evaps a None s at old e p is = no_evaps a is.widths s at old e p (varia
 decks_no_evaps a (Some b) s at old e p is =
     hull_evaps is.first is.second p is.hull (no_evaps a is.is_first.widths s at old e is.first (variable_below a at.period (cell_count a.grid)) is.is_first.cells.each)
 
-module _ (ds : Decks) (s : ℕ) (at : TimeStep) (old : List Bound) (kind : PairKind) (x : Solved) (solves : IsStepBy ds s at old kind x) (grid : AreGridHeads ds.first x.heads) where
+module _ (limits : Limits) (ds : Decks) (s : ℕ) (at : TimeStep) (old : List Bound) (kind : PairKind) (x : Solved) (solves : IsStepBy limits ds s at old kind x) (grid : AreGridHeads ds.first x.heads) where
   cell_bound : (c : ℕ) → c < length x.heads → IsCellBound ds.first (0 + c) (bound_at x.heads c)
   cell_bound c lt =
       let range = grid.range c no_bound lt in
@@ -141,18 +141,18 @@ flows_small p heads (Some zones) vs are = All-weaker (IsZoneFlow (faces_of p hea
 
 -- All steps of a run.
 
-module _ (fits : HeadsFit) (ds : Decks) (s : ℕ) (zones : Option (List ℕ)) (rounds : ℕ) (quick : Bool) (valid : AreDecks ds) (zoned : AreNumbers zones) where
+module _ (fits : HeadsFit) (limits : Limits) (ds : Decks) (s : ℕ) (zones : Option (List ℕ)) (rounds : ℕ) (quick : Bool) (valid : AreDecks ds) (zoned : AreNumbers zones) where
   abbrev task : Task
-  task = deck_task ds s zones rounds quick
+  task = deck_task limits ds s zones rounds quick
 
   module _ (at : TimeStep) (old : List Bound) (before : IsBefore ds at old) (v : Step) (is : IsStep task at old v) where
     solved_heads : AreGridHeads ds.first is.solved.heads
-    solved_heads = fits ds s at old (pairs_of task) is.solved before is.solves
+    solved_heads = fits limits ds s at old (pairs_of task) is.solved before is.solves
 
     step_listed : IsListedStep ds.first (as_listed v)
     step_listed =
         let P : List Bound → Type 0 = λ hs. IsListedStep ds.first (record { heads = hs; budget = v.budget; zones = v.zones }) in
-        subst P (sym is.heads) (is_listed ds s at old (pairs_of task) is.solved is.solves solved_heads v.budget v.zones is.budget)
+        subst P (sym is.heads) (is_listed limits ds s at old (pairs_of task) is.solved is.solves solved_heads v.budget v.zones is.budget)
 
     step_flows : AreFlows (pairs_in ds.first zones at.period) v.zones
     step_flows = record {

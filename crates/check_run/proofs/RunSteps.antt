@@ -1,12 +1,11 @@
 -- The steps of a run pass the check.
-use Rattle.check_run.proofs.Common.{◌≡◌, ℕ, ◌<◌, inl, List, [], ◌∷◌, length, map, get_or, Ok, refl, sym, ap, ◌∙◌, subst, arith, Option, AllZip, ints}
+use Rattle.check_run.proofs.Common.{Limits, ◌≡◌, ℕ, ◌<◌, inl, List, [], ◌∷◌, length, map, get_or, Ok, refl, sym, ap, ◌∙◌, subst, arith, Option, AllZip, ints}
 use Rattle.check_run.proofs.Common.{get_or-map, length-map, Bound, Side, Low, High, ZoneFlow, Entries, no_bound, lower_at, upper_at, IsCertificate, Budget}
 use Rattle.check_run.proofs.Common.{budget_of, TimeStep, cell_count, is_variable, variable_cells, times, IsAt, is_at, below_is, index_is, AreGridHeads, Solved}
 use Rattle.check_run.proofs.Common.{bound_at, HeadsFit, Task, Step, Whole, IsStep, Steps, budget_at, IsRest, first_in, rest_more, rest_whole, Certified}
 use Rattle.check_run.proofs.Common.{CoversFlow, ConstantsReach, ReachesOn, variable_bounds, RunIsCertified, as_listed, Passes, Checks, same_bounds, IsProblem}
-use Rattle.check_run.proofs.Common.{ConstantPairIsOne, IsBefore, ProblemFits, StartHeadsFit, deck_task, Decks, AreDecks, AreCertified, PairKind, IsStepBy}
-use Rattle.check_run.proofs.Common.{pairs_of, Bool}
-use Rattle.step_problem.proofs.Pairs.{either_certifies}
+use Rattle.check_run.proofs.Common.{ConstantPairIsOne, IsBefore, ProblemFits, StartHeadsFit, deck_task, Decks, AreDecks, PairKind, IsStepBy, pairs_of, Bool}
+use Rattle.check_run.proofs.Common.{edges_by}
 use Rattle.step_chain.proofs.Following.{pair_words}
 use Rattle.check_run.proofs.DeckCells.{decks_ids}
 use Rattle.listing_run.specs.Zones.{AreFlowsAt}
@@ -28,7 +27,7 @@ pub record Laws : Type 0 where
   pub pair_one : ConstantPairIsOne
   pub heads_fit : HeadsFit
 
-module _ (ds : Decks) (s : ℕ) (at : TimeStep) (old : List Bound) (kind : PairKind) (x : Solved) (fits : IsProblem x.problem) (ids : map (λ (e : Entries). e.id) x.problem ≡ variable_cells ds.first at.period) (solves : IsStepBy ds s at old kind x) where
+module _ (limits : Limits) (ds : Decks) (s : ℕ) (at : TimeStep) (old : List Bound) (kind : PairKind) (x : Solved) (fits : IsProblem x.problem) (ids : map (λ (e : Entries). e.id) x.problem ≡ variable_cells ds.first at.period) (solves : IsStepBy limits ds s at old kind x) where
   abbrev cells : List ℕ
   cells = variable_cells ds.first at.period
 
@@ -48,7 +47,7 @@ module _ (ds : Decks) (s : ℕ) (at : TimeStep) (old : List Bound) (kind : PairK
       ∙ ap (bound_at x.bounds) (index_is ds.first at.period (get_or cells k 0) ∙ c.index)
 
   listed_are : variable_bounds ds at x.heads ≡ x.bounds
-  listed_are = same_bounds (variable_bounds ds at x.heads) x.bounds (length-map cells (bound_at x.heads) ∙ sym (count_is ds at x.heads x.problem ids) ∙ sym (pair_words kind x.problem solves.barrier x.bounds solves.pair).whole) listed_at
+  listed_are = same_bounds (variable_bounds ds at x.heads) x.bounds (length-map cells (bound_at x.heads) ∙ sym (count_is ds at x.heads x.problem ids) ∙ sym (pair_words kind x.problem (edges_by limits solves.barrier) x.bounds solves.pair).whole) listed_at
 
   module _ (laws : Laws) (before : IsBefore ds at old) where
     constants : ConstantsReach ds at x.heads
@@ -56,10 +55,7 @@ module _ (ds : Decks) (s : ℕ) (at : TimeStep) (old : List Bound) (kind : PairK
         reaches side (bound_at x.heads c) pair
         (laws.pair_one ds at c (lower_at x.heads c) (upper_at x.heads c) pair.low pair.high (record { decks = before.decks; time = before.time; within = cell.within; constant = cell.constant }) (solves.heads.constant c cell.within cell.constant) is)
 
-    certified : AreCertified x.problem solves.barrier x.bounds
-    certified = either_certifies x.problem solves.barrier fits solves.posed.barrier.fits kind x.bounds solves.pair
-
-    passes : (zones : Option (List ℕ)) (b : Budget) (flows : List ZoneFlow) → budget_at x ≡ Ok b → AreFlowsAt zones x flows → Passes ds s zones at old (record { heads = x.heads; budget = b; zones = flows })
+    passes : (zones : Option (List ℕ)) (b : Budget) (flows : List ZoneFlow) → budget_at x ≡ Ok b → AreFlowsAt zones x flows → Passes limits ds s zones at old (record { heads = x.heads; budget = b; zones = flows })
     passes zones b flows is are =
         let C : List Bound → Type 0 = λ v. IsCertificate x.problem solves.barrier (lower_at v) (upper_at v) in
         let B : List Bound → Type 0 = λ v. budget_of x.problem (lower_at v) (upper_at v) ≡ Ok b in
@@ -67,7 +63,7 @@ module _ (ds : Decks) (s : ℕ) (at : TimeStep) (old : List Bound) (kind : PairK
           problem = x.problem;
           barrier = solves.barrier;
           terms = record {
-            heads = record { posed = solves.posed; constants = constants; certificate = subst C (sym listed_are) certified.certificate };
+            heads = record { posed = solves.posed; constants = constants; certificate = subst C (sym listed_are) solves.certificate };
             budget = b;
             is = subst B (sym listed_are) is;
             covers = λ dir t. record { lower = omega (arith, ints); upper = omega (arith, ints) };
@@ -77,20 +73,20 @@ module _ (ds : Decks) (s : ℕ) (at : TimeStep) (old : List Bound) (kind : PairK
           wide = wide_enough flows;
         }
 
-module _ (laws : Laws) (ds : Decks) (s : ℕ) (zones : Option (List ℕ)) (rounds : ℕ) (quick : Bool) (valid : AreDecks ds) where
+module _ (laws : Laws) (limits : Limits) (ds : Decks) (s : ℕ) (zones : Option (List ℕ)) (rounds : ℕ) (quick : Bool) (valid : AreDecks ds) where
   abbrev task : Task
-  task = deck_task ds s zones rounds quick
+  task = deck_task limits ds s zones rounds quick
 
   module _ (at : TimeStep) (old : List Bound) (before : IsBefore ds at old) (v : Step) (is : IsStep task at old v) where
-    step_passes : Passes ds s zones at old (as_listed v)
+    step_passes : Passes limits ds s zones at old (as_listed v)
     step_passes =
-        let P : List Bound → Type 0 = λ hs. Passes ds s zones at old (record { heads = hs; budget = v.budget; zones = v.zones }) in
-        subst P (sym is.heads) (passes ds s at old (pairs_of task) is.solved (laws.problem_fits ds s at old is.solved.problem before is.solves.posed.problem) (decks_ids ds.first ds.second s at old is.solved.problem is.solves.posed.problem) is.solves laws before zones v.budget v.zones is.budget is.zones)
+        let P : List Bound → Type 0 = λ hs. Passes limits ds s zones at old (record { heads = hs; budget = v.budget; zones = v.zones }) in
+        subst P (sym is.heads) (passes limits ds s at old (pairs_of task) is.solved (laws.problem_fits ds s at old is.solved.problem before is.solves.posed.problem) (decks_ids ds.first ds.second s at old is.solved.problem is.solves.posed.problem) is.solves laws before zones v.budget v.zones is.budget is.zones)
 
     next_heads : AreGridHeads ds.first v.heads
-    next_heads = subst (AreGridHeads ds.first) (sym is.heads) (laws.heads_fit ds s at old (pairs_of task) is.solved before is.solves)
+    next_heads = subst (AreGridHeads ds.first) (sym is.heads) (laws.heads_fit limits ds s at old (pairs_of task) is.solved before is.solves)
 
-  all_pass : (old : List Bound) (rest : List TimeStep) (values : List Step) → IsRest (times ds.first) rest → AreGridHeads ds.first old → Steps task old rest values Whole → Checks ds s zones old rest (map as_listed values) Certified
+  all_pass : (old : List Bound) (rest : List TimeStep) (values : List Step) → IsRest (times ds.first) rest → AreGridHeads ds.first old → Steps task old rest values Whole → Checks limits ds s zones old rest (map as_listed values) Certified
   all_pass old [] [] r heads h = tt
   all_pass old [] (v ∷ values) r heads h = absurd h
   all_pass old (at ∷ rest) [] r heads h = absurd h
@@ -99,8 +95,8 @@ module _ (laws : Laws) (ds : Decks) (s : ℕ) (zones : Option (List ℕ)) (round
       inl (step_passes at old before v is, all_pass v.heads rest values (rest_more (times ds.first) at rest r) (next_heads at old before v is) h)
 
 pub run_certified : Laws → RunIsCertified
-run_certified laws ds s zones rounds quick values valid zoned h = record {
+run_certified laws limits ds s zones rounds quick values valid zoned h = record {
   start = h.start;
   is_start = h.is_start;
-  checks = all_pass laws ds s zones rounds quick valid h.start (times ds.first) values (rest_whole (times ds.first)) (laws.start_fits ds h.start valid h.is_start) h.steps;
+  checks = all_pass laws limits ds s zones rounds quick valid h.start (times ds.first) values (rest_whole (times ds.first)) (laws.start_fits ds h.start valid h.is_start) h.steps;
 }

@@ -1,8 +1,8 @@
 -- The text of a run's listing is that of its steps, and is read as these.
-use Rattle.check_run.proofs.Common.{Option, ◌≡◌, ℕ, List, [], ◌∷◌, ◌++◌, map, get_or, Contains, Ok, refl, sym, ap, ◌∙◌, subst, arith, concat, append_assoc}
-use Rattle.check_run.proofs.Common.{append-nil, get_or_default, flat_map-append, Bound, FlowModel, TimeStep, times, IsModel, HeadsFit, pairs_in, pairs_small}
-use Rattle.check_run.proofs.Common.{all_step_lines, ended, first_line, first_text, step_lines, step_text, Task, Step, Whole, AllSteps, IsStep, Steps}
-use Rattle.check_run.proofs.Common.{IsReadable, RunIsReadAgain, as_listed, deck_task, Decks, StartHeadsFit, Bool}
+use Rattle.check_run.proofs.Common.{Limits, Option, ◌≡◌, ℕ, List, [], ◌∷◌, ◌++◌, map, get_or, Contains, Ok, refl, sym, ap, ◌∙◌, subst, arith, concat}
+use Rattle.check_run.proofs.Common.{append_assoc, append-nil, get_or_default, flat_map-append, Bound, FlowModel, TimeStep, times, IsModel, HeadsFit, pairs_in}
+use Rattle.check_run.proofs.Common.{pairs_small, all_step_lines, ended, first_line, first_text, step_lines, step_text, Task, Step, Whole, AllSteps, IsStep}
+use Rattle.check_run.proofs.Common.{Steps, IsReadable, RunIsReadAgain, as_listed, deck_task, Decks, StartHeadsFit, Bool}
 use Rattle.problem_builder.proofs.TimesOf.{time_of}
 use Rattle.listing_io.specs.Laws.{IsTime, IsWritable, ListingsAreReadAgain}
 use Rattle.listing_io.specs.Listing.{end_line as last_row, listing as rows_of, text_of as text}
@@ -11,9 +11,9 @@ use Rattle.run_puts.specs.Lines.{end_line}
 use Rattle.listing_run.specs.Listing.{is_between, listing, text_of}
 use Rattle.check_run.proofs.RunListed.{are_listed}
 
-module _ (ds : Decks) (s : ℕ) (zones : Option (List ℕ)) (rounds : ℕ) (quick : Bool) where
+module _ (limits : Limits) (ds : Decks) (s : ℕ) (zones : Option (List ℕ)) (rounds : ℕ) (quick : Bool) where
   abbrev task : Task
-  task = deck_task ds s zones rounds quick
+  task = deck_task limits ds s zones rounds quick
 
   -- the lines of a step, at its time
   step_rows : (at : TimeStep) (old : List Bound) (v : Step) → IsStep task at old v → text_of task v ≡ text (step_lines ds.first s at v.heads v.budget v.zones)
@@ -60,7 +60,7 @@ writable ds s zones h = record {
 }
 
 pub run_read : HeadsFit → StartHeadsFit → ListingsAreReadAgain → RunIsReadAgain
-run_read fits start_fits again ds s zones rounds quick values readable h =
+run_read fits start_fits again limits ds s zones rounds quick values readable h =
     let pairs = pairs_in ds.first zones in
-    let P : List ℕ → Type 0 = λ bytes. listing_at (is_between (deck_task ds s zones rounds quick)) ds.first s pairs (all_lines bytes) ≡ Ok (map as_listed values) in
-    subst P (sym (whole_text ds s zones rounds quick values h)) (again (is_between (deck_task ds s zones rounds quick)) ds.first s pairs (map as_listed values) (writable ds s zones readable) (λ p. pairs_small ds.first zones p readable.numbers) (are_listed fits ds s zones rounds quick readable.decks readable.numbers start_fits values h))
+    let P : List ℕ → Type 0 = λ bytes. listing_at (is_between (deck_task limits ds s zones rounds quick)) ds.first s pairs (all_lines bytes) ≡ Ok (map as_listed values) in
+    subst P (sym (whole_text limits ds s zones rounds quick values h)) (again (is_between (deck_task limits ds s zones rounds quick)) ds.first s pairs (map as_listed values) (writable ds s zones readable) (λ p. pairs_small ds.first zones p readable.numbers) (are_listed fits limits ds s zones rounds quick readable.decks readable.numbers start_fits values h))

@@ -7,15 +7,16 @@ use Rattle.step_problem.specs.declared.place.Place.TheVariants as places
 use Rattle.step_problem.specs.declared.place.Term.{Term}
 use Rattle.step_problem.specs.declared.place.ZoneFlow.{ZoneFlow}
 use Rattle.step_problem.specs.Entries.{Entries}
-use Rattle.step_problem.specs.Heads.{head_at, lower_at, upper_at}
+use Rattle.step_problem.specs.Heads.{lower_at, upper_at}
 use Rattle.budget_bounds.specs.declared.pair.Budget.{Budget}
 use Rattle.budget_bounds.specs.Covers.{Covers, IsFirstUncovered}
 use Rattle.budget_bounds.specs.Exact.{EnclosesBudgets}
 use Rattle.budget_bounds.specs.Terms.{budget_of}
+use Rattle.barrier_vector.specs.Cuts.{EnclosesUncut}
 use Rattle.barrier_vector.specs.declared.BarrierFault.{BarrierFault}
 use Rattle.barrier_vector.specs.declared.BarrierFault.TheVariants as barrier
 use Rattle.cell_balance.specs.Components.{IsHeldBelow}
-use Rattle.cell_balance.specs.SolutionBounds.{EnclosesSolutions}
+use Rattle.model_types.specs.declared.limits.Limits.{Limits}
 use Rattle.model_types.specs.declared.time_steps.TimeStep.{TimeStep}
 use Rattle.model_types.specs.Kinds.{variable_cells}
 use Rattle.problem_builder.specs.declared.fault.BuildFault.{BuildFault}
@@ -25,7 +26,7 @@ use Rattle.deck_problems.specs.declared.decks.Decks.{Decks}
 use Rattle.deck_problems.specs.ConstantHeads.{AreConstantHeadsFor}
 use Rattle.deck_problems.specs.Decks.{EachMember}
 use Rattle.deck_problems.specs.Made.{EnclosesSteps}
-use Rattle.step_chain.specs.Steps.{IsPosed, HasNoHeads}
+use Rattle.step_chain.specs.Steps.{IsPosed, HasNoPose}
 use Rattle.zone_flows.specs.declared.fault.ZoneFault.{ZoneFault}
 use Rattle.zone_flows.specs.declared.fault.ZoneFault.TheVariants as flows
 use Rattle.listing_run.specs.Zones.{AreFlowsOf, FlowsEnclose, HasLargeFlowOf}
@@ -53,22 +54,22 @@ of_flows (flows.NoBound n) = fault.Refused n
 of_flows flows.Memory = fault.Memory
 
 -- the cause of a step's fault; lack of memory is possible at any time
-abbrev pub FailsBy : Decks → ℕ → Option (List ℕ) → TimeStep → List Bound → ListedStep → CheckFault → Type 0
-FailsBy d s zones at old w (fault.Fails place) = FailsAt d s zones at old w place
-FailsBy d s zones at old w (fault.Refused n) = IsRefused d s zones at old w n
-FailsBy d s zones at old w fault.Memory = Unit {0}
+abbrev pub FailsBy : Limits → Decks → ℕ → Option (List ℕ) → TimeStep → List Bound → ListedStep → CheckFault → Type 0
+FailsBy limits d s zones at old w (fault.Fails place) = FailsAt limits d s zones at old w place
+FailsBy limits d s zones at old w (fault.Refused n) = IsRefused limits d s zones at old w n
+FailsBy limits d s zones at old w fault.Memory = Unit {0}
 
 -- the cause of a fault before the listed heads are checked
-abbrev pub IsUnposed : Decks → ℕ → TimeStep → List Bound → CheckFault → Type 0
-IsUnposed d s at old (fault.Fails place) = ⊥
-IsUnposed d s at old (fault.Refused n) = HasNoHeads d s at old n
-IsUnposed d s at old fault.Memory = Unit {0}
+abbrev pub IsUnposed : Limits → Decks → ℕ → TimeStep → List Bound → CheckFault → Type 0
+IsUnposed limits d s at old (fault.Fails place) = ⊥
+IsUnposed limits d s at old (fault.Refused n) = HasNoPose limits d s at old n
+IsUnposed limits d s at old fault.Memory = Unit {0}
 
 -- The constant heads, the problem and the barrier of a step, and how they enclose solutions.
-pub record ArePosed (d : Decks) (s : ℕ) (at : TimeStep) (old : List Bound) (x : Posed) : Type 0 where
-  pub posed : IsPosed d s at old x.problem x.barrier
+pub record ArePosed (limits : Limits) (d : Decks) (s : ℕ) (at : TimeStep) (old : List Bound) (x : Posed) : Type 0 where
+  pub posed : IsPosed limits d s at old x.problem x.barrier
   pub held : IsHeldBelow x.problem
-  pub solutions : EnclosesSolutions x.problem (head_at x.barrier.floor) (head_at x.barrier.ceiling)
+  pub solutions : EnclosesUncut x.problem x.barrier
   pub named : (c : ℕ) → IsNamed x.problem c → IsActive d.first c
   pub cells : map (λ e. e.id) x.problem ≡ variable_cells d.first at.period
   pub encloses : EachMember d (EnclosesSteps s at old x.problem)

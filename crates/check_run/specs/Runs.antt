@@ -3,6 +3,7 @@ use Rattle.std.specs.Prelude.{◌≡◌, ℕ, ◌<◌, ◌≤◌, ◌^◌, List,
 use Rattle.std.specs.List.{concat}
 use Rattle.deck_problems.specs.declared.decks.Decks.{Decks}
 use Rattle.deck_problems.specs.Decks.{AreDecks}
+use Rattle.model_types.specs.declared.limits.Limits.{Limits}
 use Rattle.zone_pairs.specs.Pairs.{pairs_in}
 use Rattle.zone_pairs.specs.Zones.{AreNumbers}
 use Rattle.listing_io.specs.declared.listing.ListedStep.{ListedStep}
@@ -23,8 +24,8 @@ as_listed v = record { heads = v.heads; budget = v.budget; zones = v.zones }
 -- Where all steps of valid decks have values, the listing of these values is certified.
 abbrev pub RunIsCertified : Type 0
 RunIsCertified =
-    (d : Decks) (s : ℕ) (zones : Option (List ℕ)) (rounds : ℕ) (quick : Bool) (values : List Step) → AreDecks d → AreNumbers zones →
-    AllSteps (deck_task d s zones rounds quick) values Whole → IsVerdict d s zones (map as_listed values) Certified
+    (limits : Limits) (d : Decks) (s : ℕ) (zones : Option (List ℕ)) (rounds : ℕ) (quick : Bool) (values : List Step) → AreDecks d → AreNumbers zones →
+    AllSteps (deck_task limits d s zones rounds quick) values Whole → IsVerdict limits d s zones (map as_listed values) Certified
 
 -- valid decks with a LENUNI of 64 bits, as the reader of models gives it, at most 18 digits, and zones of at most 999 if
 -- there is a zone file
@@ -37,7 +38,7 @@ pub record IsReadable (d : Decks) (s : ℕ) (zones : Option (List ℕ)) : Type 0
 -- The bytes of such a listing are read as these values.
 abbrev pub RunIsReadAgain : Type 0
 RunIsReadAgain =
-    (d : Decks) (s : ℕ) (zones : Option (List ℕ)) (rounds : ℕ) (quick : Bool) (values : List Step) → IsReadable d s zones →
-    AllSteps (deck_task d s zones rounds quick) values Whole →
-    listing_at (is_between (deck_task d s zones rounds quick)) d.first s (pairs_in d.first zones)
-    (all_lines (concat (listing (deck_task d s zones rounds quick) values end_line))) ≡ Ok (map as_listed values)
+    (limits : Limits) (d : Decks) (s : ℕ) (zones : Option (List ℕ)) (rounds : ℕ) (quick : Bool) (values : List Step) → IsReadable d s zones →
+    AllSteps (deck_task limits d s zones rounds quick) values Whole →
+    listing_at (is_between (deck_task limits d s zones rounds quick)) d.first s (pairs_in d.first zones)
+    (all_lines (concat (listing (deck_task limits d s zones rounds quick) values end_line))) ≡ Ok (map as_listed values)

@@ -15,17 +15,18 @@ use Rattle.budget_bounds.specs.declared.pair.Budget.{Budget}
 use Rattle.budget_bounds.specs.Covers.{Covers, IsFirstUncovered}
 use Rattle.budget_bounds.specs.Terms.{budget_of}
 use Rattle.certificate_check.specs.Certificates.{IsFirstFailing}
+use Rattle.model_types.specs.declared.limits.Limits.{Limits}
 use Rattle.model_types.specs.declared.time_steps.TimeStep.{TimeStep}
 use Rattle.deck_problems.specs.declared.decks.Decks.{Decks}
-use Rattle.step_chain.specs.Steps.{IsPosed, HasNoHeads}
+use Rattle.step_chain.specs.Steps.{IsPosed, HasNoPose}
 use Rattle.listing_io.specs.declared.listing.ListedStep.{ListedStep}
 use Rattle.listing_run.specs.Zones.{AreFlowsOf, HasLargeFlowOf}
 use Rattle.check_run.specs.Reaching.{variable_bounds, ConstantsReach, IsFirstShort}
 use Rattle.check_run.specs.Flows.{CoversFlow, IsFirstNarrow}
 
--- A listed step w of decks with s digits of conductances and the zones of a zone file, if there is one, where `old` are
+-- A listed step w of decks, by these limits, with s digits of conductances and the zones of a zone file, if there is one, where `old` are
 -- the heads of all cells before it.
-module _ (d : Decks) (s : ℕ) (zones : Option (List ℕ)) (at : TimeStep) (old : List Bound) (w : ListedStep) where
+module _ (limits : Limits) (d : Decks) (s : ℕ) (zones : Option (List ℕ)) (at : TimeStep) (old : List Bound) (w : ListedStep) where
   -- the listed bounds of the variable cells
   abbrev pub bounds : List Bound
   bounds = variable_bounds d at w.heads
@@ -37,7 +38,7 @@ module _ (d : Decks) (s : ℕ) (zones : Option (List ℕ)) (at : TimeStep) (old 
   -- The listed heads of the constant cells are as wide as their pairs, and those of the variable cells are a
   -- certificate of the step's problem over its barrier.
   pub record HeadsHold (p : List Entries) (b : Edges) : Type 0 where
-    pub posed : IsPosed d s at old p b
+    pub posed : IsPosed limits d s at old p b
     pub constants : ConstantsReach d at w.heads
     pub certificate : IsCertificate p b (lower_at bounds) (upper_at bounds)
 
@@ -61,16 +62,16 @@ module _ (d : Decks) (s : ℕ) (zones : Option (List ℕ)) (at : TimeStep) (old 
   -- Its first refusal: of the problem or its barrier; of the budget, where its heads hold; or of the flows between zones,
   -- where its terms hold.
   pub data IsRefused (n : NoBound) : Type 0 where
-    no_heads : HasNoHeads d s at old n → IsRefused n
+    no_heads : HasNoPose limits d s at old n → IsRefused n
     no_budget : (p : List Entries) (b : Edges) → HeadsHold p b → budget_at p ≡ Err n → IsRefused n
     no_flows : (p : List Entries) (b : Edges) → TermsHold p b → HasLargeFlowOf p w.heads zones n → IsRefused n
 
   -- The first place that fails: a constant cell and its side; where those hold, a variable cell and its side; where
   -- the heads hold, a term of the budget, all In terms before all Out terms; where the terms hold, a pair of zones.
   pub data FailsAt (place : Place) : Type 0 where
-    at_constant : (p : List Entries) (b : Edges) (c : ℕ) (side : Side) → IsPosed d s at old p b →
+    at_constant : (p : List Entries) (b : Edges) (c : ℕ) (side : Side) → IsPosed limits d s at old p b →
         IsFirstShort d at w.heads c side → place ≡ places.Cell c side → FailsAt place
-    at_variable : (p : List Entries) (b : Edges) (k : ℕ) (side : Side) → IsPosed d s at old p b →
+    at_variable : (p : List Entries) (b : Edges) (k : ℕ) (side : Side) → IsPosed limits d s at old p b →
         ConstantsReach d at w.heads → IsFirstFailing p b bounds k side →
         place ≡ places.Cell (entries_at p k).id side → FailsAt place
     at_term : (p : List Entries) (b : Edges) (budget : Budget) (dir : Dir) (t : Term) → HeadsHold p b →

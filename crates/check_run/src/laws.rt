@@ -2,12 +2,16 @@
 ghost use Rattle.check_run.specs.Laws.{VerdictIsOne};
 ghost use Rattle.check_run.specs.Runs.{RunIsCertified, RunIsReadAgain};
 
-use barrier_vector::laws::{no_barrier_beside_a_refusal, one_barrier};
+use barrier_vector::laws::{
+    no_barrier_beside_a_refusal, no_cut_barrier_beside_a_refusal, one_cut_barrier, one_cut_refusal,
+    one_refusal as one_refusal_of_a_barrier,
+};
 use deck_problems::laws::{
-    constant_pairs, no_problem_beside_a_refusal, one_problem, problems_fit, start_heads,
+    constant_pairs, no_problem_beside_a_refusal, one_problem,
+    one_refusal as one_refusal_of_a_problem, problems_fit, start_heads,
 };
 use listing_io::laws::listings_are_read_again;
-use step_chain::laws::{heads_fit, one_refusal};
+use step_chain::laws::heads_fit;
 
 /// A listing has at most one verdict.
 pub fn one_verdict()
@@ -16,10 +20,13 @@ pub fn one_verdict()
     start_heads();
     one_problem();
     problems_fit();
-    one_barrier();
+    one_cut_barrier();
     no_problem_beside_a_refusal();
     no_barrier_beside_a_refusal();
-    one_refusal();
+    no_cut_barrier_beside_a_refusal();
+    one_refusal_of_a_problem();
+    one_refusal_of_a_barrier();
+    one_cut_refusal();
 }
 
 /// The listing of a run is certified.

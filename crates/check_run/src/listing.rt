@@ -16,7 +16,7 @@ use crate::step::check_listed;
 use crate::verdict::ListingVerdict;
 use deck_problems::{DeckTables, Decks, start_heads_for};
 use listing_io::Listing;
-use model_types::{TimeStep, times};
+use model_types::{Limits, TimeStep, times};
 use std::alloc::{AllocError, Global};
 use step_problem::Bound;
 
@@ -45,6 +45,7 @@ fn verdict_at(at: TimeStep, fault: CheckFault) -> Result<ListingVerdict, AllocEr
 // Checks a listing step by step. `tables` are those of the run.
 fn check_steps(
     alloc: Global,
+    limits: Limits,
     decks: &Decks,
     tables: &mut DeckTables,
     zones: Option<&[u32]>,
@@ -55,10 +56,10 @@ fn check_steps(
     requires zones { AreZones decks.now.first (option_map (λ z. z.now) zones) }
     requires listing { AreListed decks.now.first (pairs_in decks.now.first (option_map (λ z. z.now) zones)) listing.now }
     requires tables { AreDeckTables decks.now (digits_of tables.old.first) tables.old }
-    ensures verdict { IfOk result (IsVerdict decks.now (digits_of tables.old.first) (option_map (λ z. z.now) zones.entry) listing.now) }
+    ensures verdict { IfOk result (IsVerdict limits decks.now (digits_of tables.old.first) (option_map (λ z. z.now) zones.entry) listing.now) }
     ensures only { IfOk result
         (λ v. (other : ListingVerdict) →
-        IsVerdict decks.now (digits_of tables.old.first) (option_map (λ z. z.now) zones.entry) listing.now other → other ≡ v) }
+        IsVerdict limits decks.now (digits_of tables.old.first) (option_map (λ z. z.now) zones.entry) listing.now other → other ≡ v) }
     ensures encloses { IfOk result
         (λ v. v ≡ Certified →
         ListingEncloses decks.now (digits_of tables.old.first) (option_map (λ z. z.now) zones.entry) listing.now) }
@@ -73,7 +74,9 @@ fn check_steps(
         let heads = listing.heads(index);
         let budget = listing.budget(index);
         let flows = listing.zones(index);
-        match check_listed(alloc, decks, tables, *at, old, zones, heads, budget, flows) {
+        match check_listed(
+            alloc, limits, decks, tables, *at, old, zones, heads, budget, flows,
+        ) {
             Ok(()) => {}
             Err(fault) => return verdict_at(*at, fault),
         }
@@ -83,9 +86,11 @@ fn check_steps(
 
 /// Checks a listing of a deck, or of all models between two, with s digits of conductances, step by step, each from the listed heads of the one
 /// before it, the first from STRT. `zones` has the zone of each cell, if there is a zone file. The first step and place that
-/// fails is the verdict, or the first refusal.
+/// fails is the verdict, or the first refusal. With wide limits a floor or a ceiling out of the range of heads is cut, and at such
+/// a cell the listed head has to hold by its balance.
 pub fn check_listing(
     alloc: Global,
+    limits: Limits,
     decks: &Decks,
     listing: &Listing,
     s: u32,
@@ -96,8 +101,8 @@ pub fn check_listing(
     requires zones { AreZones decks.now.first (option_map (λ z. z.now) zones) }
     requires listing { AreListed decks.now.first (pairs_in decks.now.first (option_map (λ z. z.now) zones)) listing.now }
     // The listing's one verdict.
-    ensures verdict { IfOk result (IsVerdict decks.now s (option_map (λ z. z.now) zones.entry) listing.now) }
-    ensures only { IfOk result (λ v. (other : ListingVerdict) → IsVerdict decks.now s (option_map (λ z. z.now) zones.entry) listing.now other → other ≡ v) }
+    ensures verdict { IfOk result (IsVerdict limits decks.now s (option_map (λ z. z.now) zones.entry) listing.now) }
+    ensures only { IfOk result (λ v. (other : ListingVerdict) → IsVerdict limits decks.now s (option_map (λ z. z.now) zones.entry) listing.now other → other ≡ v) }
     // Where it is certified, every history that solves the model, or that lies between the two, lies within it, whoever
     // wrote it.
     ensures encloses { IfOk result (λ v. v ≡ Certified → ListingEncloses decks.now s (option_map (λ z. z.now) zones.entry) listing.now) }
@@ -105,7 +110,7 @@ pub fn check_listing(
     ensures history { IfOk result (λ v. v ≡ Certified → HaveOneHistory decks.now) }
 {
     match DeckTables::new(alloc, decks, s) {
-        Ok(mut tables) => check_steps(alloc, decks, &mut tables, zones, listing),
+        Ok(mut tables) => check_steps(alloc, limits, decks, &mut tables, zones, listing),
         Err(fault) => Err(fault),
     }
 }

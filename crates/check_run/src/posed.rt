@@ -7,10 +7,10 @@ ghost use Rattle.deck_problems.specs.Kept.{AreDeckTables, digits_of};
 ghost use Rattle.check_run.specs.Parts.{ArePosed, IsUnposed};
 
 use crate::fault::CheckFault;
-use barrier_vector::barrier;
 use deck_problems::{DeckTables, Decks, problem_for};
-use model_types::{Listed, TimeStep};
+use model_types::{Limits, Listed, TimeStep};
 use std::alloc::Global;
+use step_chain::barrier_by;
 use step_problem::{Barrier, Bound, Problem};
 
 /// The constant heads of a time by cell number, its problem, and the problem's barrier.
@@ -24,6 +24,7 @@ pub struct Posed {
 /// The constant heads, the problem and the barrier of the step of a time, from the heads of all cells before it.
 pub(crate) fn pose(
     alloc: Global,
+    limits: Limits,
     decks: &Decks,
     tables: &mut DeckTables,
     at: TimeStep,
@@ -36,11 +37,11 @@ pub(crate) fn pose(
     requires tables { AreDeckTables decks.now (digits_of tables.old.first) tables.old }
     ensures tables { AreDeckTables decks.now (digits_of tables.old.first) tables.new }
     ensures there { IfOk result (λ _. tables.new.first.period.period ≡ at.period) }
-    ensures posed { IfOk result (ArePosed decks.now (digits_of tables.old.first) at old.now) }
-    ensures fault { IfErr result (IsUnposed decks.now (digits_of tables.old.first) at old.now) }
+    ensures posed { IfOk result (ArePosed limits decks.now (digits_of tables.old.first) at old.now) }
+    ensures fault { IfErr result (IsUnposed limits decks.now (digits_of tables.old.first) at old.now) }
 {
     let made = problem_for(alloc, decks, tables, at, old)?;
-    let barrier = barrier(alloc, &made.problem)?;
+    let barrier = barrier_by(alloc, limits, &made.problem)?;
     Ok(Posed {
         constant_heads: made.constant_heads,
         problem: made.problem,

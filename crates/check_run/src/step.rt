@@ -22,7 +22,7 @@ use budget_bounds::Budget;
 use budget_bounds::laws::{cover_encloses, heads_within};
 use deck_problems::laws::constant_pairs;
 use deck_problems::{DeckTables, Decks};
-use model_types::TimeStep;
+use model_types::{Limits, TimeStep};
 use std::alloc::Global;
 use step_problem::{Bound, Place, ZoneFlow};
 
@@ -30,6 +30,7 @@ use step_problem::{Bound, Place, ZoneFlow};
 /// run, and move to the step's period.
 pub(crate) fn check_listed(
     alloc: Global,
+    limits: Limits,
     decks: &Decks,
     tables: &mut DeckTables,
     at: TimeStep,
@@ -49,10 +50,10 @@ pub(crate) fn check_listed(
     requires tables { AreDeckTables decks.now (digits_of tables.old.first) tables.old }
     ensures tables { AreDeckTables decks.now (digits_of tables.old.first) tables.new }
     ensures passes { IfOk result
-        (λ _. Passes decks.now (digits_of tables.old.first) (option_map (λ z. z.now) zones.entry) at old.now
+        (λ _. Passes limits decks.now (digits_of tables.old.first) (option_map (λ z. z.now) zones.entry) at old.now
         (record { heads = heads.now; budget = listed.now; zones = flows.now })) }
     ensures fault { IfErr result
-        (FailsBy decks.now (digits_of tables.old.first) (option_map (λ z. z.now) zones.entry) at old.now
+        (FailsBy limits decks.now (digits_of tables.old.first) (option_map (λ z. z.now) zones.entry) at old.now
         (record { heads = heads.now; budget = listed.now; zones = flows.now })) }
     // Every solution from exact heads within the old ones lies within the listed bounds.
     ensures encloses { IfOk result
@@ -62,7 +63,7 @@ pub(crate) fn check_listed(
     constant_pairs();
     heads_within();
     cover_encloses();
-    let posed = pose(alloc, decks, tables, at, old)?;
+    let posed = pose(alloc, limits, decks, tables, at, old)?;
     let constant_heads = posed.constant_heads.as_slice();
     if let Some((cell, side)) = first_unreached(
         decks,

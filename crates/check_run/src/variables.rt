@@ -3,15 +3,17 @@ ghost use Rattle.std.specs.Prelude.{◌≡◌, ◌<◌, ℕ, length, map, IfOk, 
 ghost use Rattle.step_problem.specs.declared.heads.Side.{Side};
 ghost use Rattle.step_problem.specs.declared.place.Place.TheVariants.{Cell};
 ghost use Rattle.step_problem.specs.Entries.{entries_at};
-ghost use Rattle.step_problem.specs.Heads.{head_at, lower_at, upper_at, IsCertificate};
+ghost use Rattle.step_problem.specs.Heads.{lower_at, upper_at, IsCertificate};
 ghost use Rattle.cell_balance.specs.Components.{IsHeldBelow};
 ghost use Rattle.cell_balance.specs.SolutionBounds.{EnclosesSolutions};
+ghost use Rattle.barrier_vector.specs.Cuts.{EnclosesUncut};
 ghost use Rattle.cell_relax.specs.Words.{AreWords};
 ghost use Rattle.certificate_check.specs.Certificates.{IsFirstFailing};
 ghost use Rattle.step_chain.specs.GridHeads.{bound_at};
 ghost use Rattle.check_run.specs.declared.fault.CheckFault.TheVariants.{Fails};
 
 use crate::fault::CheckFault;
+use certificate_check::laws::certificate_encloses;
 use certificate_check::{Verdict, check_step};
 use std::alloc::{AllocError, Global};
 use step_problem::{Barrier, Bound, Place, Problem};
@@ -44,12 +46,14 @@ pub(crate) fn certified(
     ensures certificate { IfOk result (λ _. IsCertificate problem.now barrier.now (lower_at bounds.now) (upper_at bounds.now)) }
     ensures encloses { IfOk result
         (λ _. IsHeldBelow problem.now →
-        EnclosesSolutions problem.now (head_at barrier.now.floor) (head_at barrier.now.ceiling) →
+        EnclosesUncut problem.now barrier.now →
         EnclosesSolutions problem.now (lower_at bounds.now) (upper_at bounds.now)) }
     ensures fails { IfErr result (λ e. (k : ℕ) × (side : Side)
         × IsFirstFailing problem.now barrier.now bounds.now k side
         × (e ≡ Fails (Cell (entries_at problem.now k).id side))) }
 {
+    certificate_encloses();
+    problem.recall_conditions();
     match check_step(problem, barrier, bounds) {
         Verdict::Yes => Ok(()),
         Verdict::No { cell, side } => {

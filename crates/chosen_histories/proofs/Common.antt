@@ -18,6 +18,7 @@ pub use Rattle.exact_histories.specs.Histories.{AreSame, AreSameHeads}
 pub use Rattle.flow_equations.specs.Histories.{SolvesAt, heads_of, variable_heads}
 pub use Rattle.model_types.specs.Heads.{start_head}
 pub use Rattle.model_types.specs.Times.{times}
+pub use Rattle.model_types.specs.declared.limits.Limits.{Limits}
 pub use Rattle.model_types.specs.declared.model.FlowModel.{FlowModel}
 pub use Rattle.model_types.specs.declared.time_steps.TimeStep.{TimeStep}
 pub use Rattle.problem_builder.specs.GridHeads.{AreGridHeads, HeadsEnclose, IsActive}

@@ -1,5 +1,5 @@
 -- A hull step: the step of each model between has a solution, from exact heads within the old ones, and one alone.
-use Rattle.chosen_histories.proofs.Common.{◌≡◌, ◌<◌, ◌∙◌, ℕ, true, inl, inr, refl, sym, subst, arith, ℤ, List, length, All, Fraction, Same, Same-sym}
+use Rattle.chosen_histories.proofs.Common.{Limits, ◌≡◌, ◌<◌, ◌∙◌, ℕ, true, inl, inr, refl, sym, subst, arith, ℤ, List, length, All, Fraction, Same, Same-sym}
 use Rattle.chosen_histories.proofs.Common.{Same-trans, FlowModel, TimeStep, Bound, share, heads_of, variable_heads, SolvesAt, IsActive, HeadsEnclose}
 use Rattle.chosen_histories.proofs.Common.{AreSameHeads, HasVector, vector_exists, balances_same, IsBetween, IsBefore, problem_encloses, between_cells}
 use Rattle.chosen_histories.proofs.Common.{encloses_member, two, Entries, IsPosed, Edges, head_at}
@@ -15,7 +15,7 @@ use Rattle.exact_solutions.proofs.Shares.{same_share}
 use Rattle.flow_equations.specs.ExactStep.{exact_step}
 use Rattle.problem_builder.proofs.ActiveCells.{variable_active}
 use Rattle.problem_builder.proofs.Members.{variable-In}
-use Rattle.barrier_vector.proofs.Enclosing.{held_all}
+use Rattle.step_chain.proofs.Limits.{cut_by, held_by}
 use Rattle.step_chain.proofs.Assembled.{active_constant, index_below, count_is, number_is}
 use Rattle.exact_histories.proofs.Ceilings.{held_above}
 use Rattle.deck_span.proofs.SameFrames.{counts_are, active_are}
@@ -23,7 +23,7 @@ use Rattle.deck_span.proofs.SameFrames.{counts_are, active_are}
 has_size : (a m b : FlowModel) → IsBetween a m b → HasSize a.grid → HasSize m.grid
 has_size a m b h size = subst (λ (x : FlowModel). HasSize x.grid) (sym h.same) size
 
-module _ (a b : FlowModel) (s : ℕ) (at : TimeStep) (old : List Bound) (problem : List Entries) (barrier : Edges) (start : IsBefore (two a b) at old) (posed : IsPosed (two a b) s at old problem barrier) (m : FlowModel) (h : IsBetween a m b)
+module _ (limits : Limits) (a b : FlowModel) (s : ℕ) (at : TimeStep) (old : List Bound) (problem : List Entries) (barrier : Edges) (start : IsBefore (two a b) at old) (posed : IsPosed limits (two a b) s at old problem barrier) (m : FlowModel) (h : IsBetween a m b)
     (before : ℕ → Fraction) (olds : HeadsEnclose a old before)
   where
     encloses : EnclosesStep s problem (exact_step m at.period at.step before)
@@ -31,13 +31,12 @@ module _ (a b : FlowModel) (s : ℕ) (at : TimeStep) (old : List Bound) (problem
 
     pub has_vector : HasVector m at before
     has_vector =
-        let bars = posed.barrier in
-        let (d, X, some, solves) = solution_exists problem posed.problem.fits (held_all problem (head_at barrier.floor) bars.floors) (held_above problem (head_at barrier.ceiling) bars.ceilings) s (exact_step m at.period at.step before)
+        let (d, X, some, solves) = solution_exists problem posed.problem.fits (held_by limits problem barrier posed.barrier) (held_above problem barrier.ceiling (cut_by limits problem barrier posed.barrier).ceilings) s (exact_step m at.period at.step before)
         encloses in
         vector_exists m at before d X (has_size a m b h start.decks.first.grid.size) some solves
 
     has_at_most_one : HasAtMostOne (exact_step m at.period at.step before)
-    has_at_most_one = solution_is_one problem posed.problem.fits (held_all problem (head_at barrier.floor) posed.barrier.floors) s (exact_step m at.period at.step before) encloses
+    has_at_most_one = solution_is_one problem posed.problem.fits (held_by limits problem barrier posed.barrier) s (exact_step m at.period at.step before) encloses
 
     -- two solutions, from heads before that are the same numbers
     module _ (other : ℕ → Fraction) (same : AreSameHeads a other before) (d e : ℕ) (X Y : ℕ → ℤ) (some_d : 0 < d) (some_e : 0 < e) (first : SolvesAt m at before d X) (second : SolvesAt m at other e Y) where

@@ -1,8 +1,8 @@
 -- Turns of two decks: a problem for each time, and heads that each solution of a model between lands within. By them each
 -- choice of models between has a history, and one alone, by induction on the choices.
-use Rattle.chosen_histories.proofs.Common.{◌<◌, [], ◌∷◌, ℕ, refl, sym, subst, ℤ, List, All, map, All-head, All-tail, Fraction, Same-sym, start_head, FlowModel}
-use Rattle.chosen_histories.proofs.Common.{TimeStep, Bound, heads_of, SolvesAt, HeadsEnclose, AreSameHeads, AreSame, IsBetween, IsBefore, two, Choice}
-use Rattle.chosen_histories.proofs.Common.{SolvesChoicesFrom, Entries, Edges, IsPosed, times, ChoicesHaveOne}
+use Rattle.chosen_histories.proofs.Common.{Limits, ◌<◌, [], ◌∷◌, ℕ, refl, sym, subst, ℤ, List, All, map, All-head, All-tail, Fraction, Same-sym, start_head}
+use Rattle.chosen_histories.proofs.Common.{FlowModel, TimeStep, Bound, heads_of, SolvesAt, HeadsEnclose, AreSameHeads, AreSame, IsBetween, IsBefore, two}
+use Rattle.chosen_histories.proofs.Common.{Choice, SolvesChoicesFrom, Entries, Edges, IsPosed, times, ChoicesHaveOne}
 use Rattle.chosen_histories.proofs.Multiples.{GoOn, history_exists}
 use Rattle.chosen_histories.proofs.OneTurn.{has_vector, heads_same}
 
@@ -10,7 +10,7 @@ use Rattle.chosen_histories.proofs.OneTurn.{has_vector, heads_same}
 abbrev pub time_of : Choice → TimeStep
 time_of c = c.at
 
-module _ (a b : FlowModel) (s : ℕ) where
+module _ (limits : Limits) (a b : FlowModel) (s : ℕ) where
   -- each solution of a model between, from exact heads within the old ones, lands within the new ones
   abbrev pub Lands : TimeStep → List Bound → List Bound → Type 0
   Lands at old new =
@@ -21,7 +21,7 @@ module _ (a b : FlowModel) (s : ℕ) where
     pub start : IsBefore (two a b) at old
     pub problem : List Entries
     pub barrier : Edges
-    pub posed : IsPosed (two a b) s at old problem barrier
+    pub posed : IsPosed limits (two a b) s at old problem barrier
     pub lands : Lands at old new
 
   -- turns of these times, each from the heads that the one before landed within
@@ -40,7 +40,7 @@ module _ (a b : FlowModel) (s : ℕ) where
   goes_on (c ∷ cs) between old [] before olds turns = absurd turns
   goes_on (c ∷ cs) between old (new ∷ news) before olds (turn, turns) =
       let here = All-head (λ c. IsBetween a c.model b) c cs between in (
-        has_vector a b s c.at old turn.problem turn.barrier turn.start turn.posed c.model here before olds,
+        has_vector limits a b s c.at old turn.problem turn.barrier turn.start turn.posed c.model here before olds,
         (λ d X some solves. goes_on cs (All-tail (λ c. IsBetween a c.model b) c cs between) new news (heads_of d X) (turn.lands c.model here before d X olds some solves) turns),
       )
 
@@ -54,7 +54,7 @@ module _ (a b : FlowModel) (s : ℕ) where
   are_one (c ∷ cs) between old (new ∷ news) before other olds same turns d e (X ∷ Xs) [] some_d some_e first second = absurd second
   are_one (c ∷ cs) between old (new ∷ news) before other olds same (turn, turns) d e (X ∷ Xs) (Y ∷ Ys) some_d some_e (first, firsts) (second, seconds) =
       let chosen = All-head (λ c. IsBetween a c.model b) c cs between in
-      let here = heads_same a b s c.at old turn.problem turn.barrier turn.start turn.posed c.model chosen before olds other same d e X Y some_d some_e first second in (
+      let here = heads_same limits a b s c.at old turn.problem turn.barrier turn.start turn.posed c.model chosen before olds other same d e X Y some_d some_e first second in (
         here,
         are_one cs (All-tail (λ c. IsBetween a c.model b) c cs between) new news (heads_of d X) (heads_of e Y)
             (turn.lands c.model chosen before d X olds some_d first) (λ k act. Same-sym (here k act)) turns d e Xs Ys some_d some_e firsts seconds,

@@ -1,4 +1,5 @@
 -- Each choice of models between two others has a history, and one alone.
+use Rattle.model_types.specs.declared.limits.Limits.{Limits}
 use Rattle.std.specs.Prelude.{ℕ, ℤ, List}
 use Rattle.model_types.specs.declared.model.FlowModel.{FlowModel}
 use Rattle.step_chain.specs.declared.solved.Solved.{Solved}
@@ -11,13 +12,13 @@ use Rattle.chosen_histories.specs.Choices.{Choice, SolvesChoices, AreChoices}
 -- Where two decks have all their steps, each choice of models between has a history.
 abbrev pub ChoicesHaveAHistory : Type 0
 ChoicesHaveAHistory =
-    (a b : FlowModel) (s : ℕ) (kind : PairKind) (xs : List Solved) → AreAllSteps a b s kind xs →
+    (limits : Limits) (a b : FlowModel) (s : ℕ) (kind : PairKind) (xs : List Solved) → AreAllSteps limits a b s kind xs →
     (first : FlowModel) (cs : List Choice) → AreChoices a b first cs → (d : ℕ) × (Xs : List (ℕ → ℤ)) × SolvesChoices first cs d Xs
 
 -- And one alone: two of its histories are the same heads at all active cells, step by step.
 abbrev pub ChoicesHaveOneHistory : Type 0
 ChoicesHaveOneHistory =
-    (a b : FlowModel) (s : ℕ) (kind : PairKind) (xs : List Solved) → AreAllSteps a b s kind xs →
+    (limits : Limits) (a b : FlowModel) (s : ℕ) (kind : PairKind) (xs : List Solved) → AreAllSteps limits a b s kind xs →
     (first : FlowModel) (cs : List Choice) → AreChoices a b first cs →
     (d e : ℕ) (Xs Ys : List (ℕ → ℤ)) → SolvesChoices first cs d Xs → SolvesChoices first cs e Ys → AreSame a d e Xs Ys
 

@@ -1,5 +1,6 @@
 -- The volumetric budget of an exact solution.
 use Rattle.std.specs.Prelude.{◌≡◌, ℕ, ◌<◌, List, map, Bool, Option, ℤ}
+use Rattle.model_types.specs.declared.limits.Limits.{Limits}
 use Rattle.model_types.specs.declared.model.FlowModel.{FlowModel}
 use Rattle.model_types.specs.Heads.{start_head}
 use Rattle.model_types.specs.Times.{times}
@@ -29,8 +30,8 @@ SolutionsBalance = (e : List ExactCell) (d : ℕ) (X : ℕ → ℤ) → AreLinke
 -- term lies between its listed bounds, and in minus the sum of the others.
 abbrev pub NetTermsLieInTheOthers : Type 0
 NetTermsLieInTheOthers =
-    (m : FlowModel) (s : ℕ) (zones : Option (List ℕ)) (rounds : ℕ) (quick : Bool) (values : List Step) → IsModel m → map (λ v. v.at) values ≡ times m →
-    EnclosesHistories (one_task m s zones rounds quick) values →
+    (limits : Limits) (m : FlowModel) (s : ℕ) (zones : Option (List ℕ)) (rounds : ℕ) (quick : Bool) (values : List Step) → IsModel m → map (λ v. v.at) values ≡ times m →
+    EnclosesHistories (one_task limits m s zones rounds quick) values →
     (d : ℕ) (history : List (ℕ → ℤ)) → Solves m d history → AllNetTermsLie m s d (start_head m) values history
 
 -- The values of a whole listing are at those times, and so are those of a certified one.
@@ -38,5 +39,6 @@ abbrev pub StepsHaveTheirTimes : Type 0
 StepsHaveTheirTimes = (k : Task) (values : List Step) → AllSteps k values Whole → map (λ v. v.at) values ≡ times k.decks.first
 
 abbrev pub CertifiedHaveTheirTimes : Type 0
-CertifiedHaveTheirTimes = (m : FlowModel) (s : ℕ) (zones : Option (List ℕ)) (steps : List ListedStep) → IsVerdict (one_deck m) s zones steps Certified →
+CertifiedHaveTheirTimes =
+    (limits : Limits) (m : FlowModel) (s : ℕ) (zones : Option (List ℕ)) (steps : List ListedStep) → IsVerdict limits (one_deck m) s zones steps Certified →
     map (λ v. v.at) (steps_of (times m) steps) ≡ times m

@@ -19,6 +19,7 @@ pub use Rattle.model_types.specs.Heads.{constant_head, start_head}
 pub use Rattle.model_types.specs.Kinds.{index_of, is_constant, is_variable, variable_cells}
 pub use Rattle.model_types.specs.Times.{times}
 pub use Rattle.model_types.specs.Valid.{IsModel}
+pub use Rattle.model_types.specs.declared.limits.Limits.{Limits}
 pub use Rattle.model_types.specs.declared.model.FlowModel.{FlowModel}
 pub use Rattle.model_types.specs.declared.time_steps.TimeStep.{TimeStep}
 pub use Rattle.problem_builder.specs.GridHeads.{AreGridHeads, HeadsEnclose}

@@ -1,8 +1,8 @@
 -- One step more: times that can be solved in turn, and whose histories are the same, after a step whose solutions lie within the heads that they start from.
-use Rattle.exact_histories.proofs.Common.{◌≡◌, ◌<◌, [], ◌∷◌, length, ℕ, true, inl, inr, refl, subst, arith, ℤ, List, All, Contains, cases_Bool, Fraction, Same}
-use Rattle.exact_histories.proofs.Common.{cell_count, is_variable, is_constant, index_of, variable_cells, times, IsModel, FlowModel, TimeStep, Entries, Edges}
-use Rattle.exact_histories.proofs.Common.{Bound, share, exact_step, heads_of, variable_heads, SolvesAt, SolvesFrom, AreGridHeads, HeadsEnclose, one_deck}
-use Rattle.exact_histories.proofs.Common.{IsPosed, AreSameHeads, AreSame}
+use Rattle.exact_histories.proofs.Common.{Limits, ◌≡◌, ◌<◌, [], ◌∷◌, length, ℕ, true, inl, inr, refl, subst, arith, ℤ, List, All, Contains, cases_Bool}
+use Rattle.exact_histories.proofs.Common.{Fraction, Same, cell_count, is_variable, is_constant, index_of, variable_cells, times, IsModel, FlowModel, TimeStep}
+use Rattle.exact_histories.proofs.Common.{Entries, Edges, Bound, share, exact_step, heads_of, variable_heads, SolvesAt, SolvesFrom, AreGridHeads, HeadsEnclose}
+use Rattle.exact_histories.proofs.Common.{one_deck, IsPosed, AreSameHeads, AreSame}
 use Rattle.decimal_input.proofs.Fractional.{Same-sym, Same-trans}
 use Rattle.model_types.proofs.Members.{All-In}
 use Rattle.exact_solutions.proofs.Shares.{same_share}
@@ -14,7 +14,7 @@ use Rattle.exact_histories.proofs.JoinedSteps.{GoOn}
 use Rattle.exact_histories.proofs.PosedSteps.{has_vector, has_at_most_one}
 
 -- the heads of two solutions of one time, from heads before it that are the same numbers
-module _ (m : FlowModel) (s : ℕ) (at : TimeStep) (old : List Bound) (p : List Entries) (b : Edges) (valid : IsModel m) (time : Contains (times m) at) (grid : AreGridHeads m old) (posed : IsPosed (one_deck m) s at old p b)
+module _ (limits : Limits) (m : FlowModel) (s : ℕ) (at : TimeStep) (old : List Bound) (p : List Entries) (b : Edges) (valid : IsModel m) (time : Contains (times m) at) (grid : AreGridHeads m old) (posed : IsPosed limits (one_deck m) s at old p b)
     (before other : ℕ → Fraction) (olds : HeadsEnclose m old before) (same : AreSameHeads m other before)
     (d e : ℕ) (X Y : ℕ → ℤ) (some_d : 0 < d) (some_e : 0 < e) (first : SolvesAt m at before d X) (second : SolvesAt m at other e Y)
   where
@@ -26,7 +26,7 @@ module _ (m : FlowModel) (s : ℕ) (at : TimeStep) (old : List Bound) (p : List 
         let step = exact_step m at.period at.step before in
         let turned = balances_same m at.period at.step other before all_same e e Y Y some_e some_e (λ z. refl) second.balances in
         let inside : index_of m at.period c < length step = omega (arith, count_is m at.period at.step before, index_below m at.period c v lt) in
-        let one = has_at_most_one m s at old p b valid time grid posed before olds d e (variable_heads step X) (variable_heads step Y) some_d some_e first.balances turned (index_of m at.period c) inside in
+        let one = has_at_most_one limits m s at old p b valid time grid posed before olds d e (variable_heads step X) (variable_heads step Y) some_d some_e first.balances turned (index_of m at.period c) inside in
         subst (λ (i : ℕ). Same (share d (X i)) (share e (Y i))) (number_is m at.period at.step c before v lt) one
 
     constant_same : (c : ℕ) → c < cell_count m.grid → is_constant m at.period c ≡ true → Same (share d (X c)) (share e (Y c))
@@ -44,12 +44,12 @@ AreOne m steps before other =
     (d e : ℕ) (Xs Ys : List (ℕ → ℤ)) → 0 < d → 0 < e → SolvesFrom m d before steps Xs → SolvesFrom m e other steps Ys → AreSame m d e Xs Ys
 
 -- one step more before some times, where each of its solutions lies within the heads that these times start from
-module _ (m : FlowModel) (s : ℕ) (at : TimeStep) (old : List Bound) (p : List Entries) (b : Edges) (valid : IsModel m) (time : Contains (times m) at) (grid : AreGridHeads m old) (posed : IsPosed (one_deck m) s at old p b)
+module _ (limits : Limits) (m : FlowModel) (s : ℕ) (at : TimeStep) (old : List Bound) (p : List Entries) (b : Edges) (valid : IsModel m) (time : Contains (times m) at) (grid : AreGridHeads m old) (posed : IsPosed limits (one_deck m) s at old p b)
     (new : List Bound) (lands : (before : ℕ → Fraction) (d : ℕ) (X : ℕ → ℤ) → HeadsEnclose m old before → 0 < d → SolvesAt m at before d X → HeadsEnclose m new (heads_of d X)) (rest : List TimeStep)
   where
     pub go_on_more : ((before : ℕ → Fraction) → HeadsEnclose m new before → GoOn m rest before) → (before : ℕ → Fraction) → HeadsEnclose m old before → GoOn m (at ∷ rest) before
     go_on_more others before olds = (
-      has_vector m s at old p b valid time grid posed before olds,
+      has_vector limits m s at old p b valid time grid posed before olds,
       (λ d X some solves. others (heads_of d X) (lands before d X olds some solves)),
     )
 
@@ -58,7 +58,7 @@ module _ (m : FlowModel) (s : ℕ) (at : TimeStep) (old : List Bound) (p : List 
     one_more others before other olds same d e [] Ys some_d some_e first second = absurd first
     one_more others before other olds same d e (X ∷ Xs) [] some_d some_e first second = absurd second
     one_more others before other olds same d e (X ∷ Xs) (Y ∷ Ys) some_d some_e (first, firsts) (second, seconds) =
-        let here = heads_same m s at old p b valid time grid posed before other olds same d e X Y some_d some_e first second in
+        let here = heads_same limits m s at old p b valid time grid posed before other olds same d e X Y some_d some_e first second in
         (here, others (heads_of d X) (heads_of e Y) (lands before d X olds some_d first) (λ c a. Same-sym (here c a)) d e Xs Ys some_d some_e firsts seconds)
 
 pub nothing_more : (m : FlowModel) (before other : ℕ → Fraction) → AreOne m [] before other

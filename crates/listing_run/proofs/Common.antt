@@ -1,24 +1,26 @@
 -- Names that several proofs of this crate cite, of the crates below and of its own definitions, passed on from one place. Declares nothing.
-pub use Rattle.std.proofs.Common.{All, Bool, Contains, Err, List, None, Ok, Option, Result, Some, [], ap, arith, drop, false, get_or, inl, inr, length, map}
-pub use Rattle.std.proofs.Common.{pos, refl, rules, subst, suc, sym, true, ℕ, ℤ, ◌*ℤ◌, ◌++◌, ◌+◌, ◌-◌, ◌<◌, ◌^◌, ◌∙◌, ◌∷◌, ◌≡◌, ◌≤ℤ◌}
+pub use Rattle.std.proofs.Common.{All, Bool, Contains, Err, List, None, Ok, Option, Result, Some, [], ap, arith, drop, get_or, inl, inr, length, map, pos, refl}
+pub use Rattle.std.proofs.Common.{rules, subst, suc, sym, true, ℕ, ℤ, ◌*ℤ◌, ◌++◌, ◌+◌, ◌-◌, ◌<◌, ◌^◌, ◌∙◌, ◌∷◌, ◌≡◌, ◌≤ℤ◌}
 pub use Rattle.std.proofs.lemmas.List.{append-nil, append_assoc, map-append}
-pub use Rattle.std.specs.Prelude.{IfErr, IfOk, IfSome, MatchResult, if◌then◌else◌}
+pub use Rattle.std.specs.Prelude.{IfErr, IfOk, IfSome, MatchResult, false, if◌then◌else◌}
 pub use Rattle.budget_bounds.specs.declared.pair.Budget.{Budget}
 pub use Rattle.decimal_input.specs.Fractions.{Fraction}
 pub use Rattle.deck_problems.proofs.Members.{between_cells, cell_of_member, each_member, encloses_first, encloses_member, member_cells, of_member}
 pub use Rattle.deck_problems.specs.Decks.{AreDecks, EachMember, HoldsOf}
 pub use Rattle.deck_problems.specs.StartHeads.{AreStartHeadsFor}
+pub use Rattle.flow_equations.specs.ExactStep.{exact_step}
 pub use Rattle.flow_equations.specs.Histories.{SolvesFrom, heads_of, variable_heads}
 pub use Rattle.listing_io.specs.Listing.{first_text}
 pub use Rattle.listing_run.specs.Bounding.{BoundAll, BoundBetween, Bounds, BoundsMoves, EnclosesHistories, HistoriesBound}
 pub use Rattle.listing_run.specs.Ends.{FlowsStopBy, IsAtFirst, IsNext, IsNextText, IsStopEnd, IsWalk, StopsAt, stop_of, times_left}
+pub use Rattle.listing_run.specs.Laws.{ListingExcludesRefusal, ListingIsOne, RefusalIsOne, SettledListingIsClosed, WideKeepsListings}
 pub use Rattle.listing_run.specs.Listing.{IsCutListing, IsListing, IsListingBeside, IsPushed, begun, is_between, last_line, left, listed, listing, status_of}
 pub use Rattle.listing_run.specs.Listing.{text_of}
 pub use Rattle.listing_run.specs.Settlers.{AllSettledBy, AreSettledBy, IsSettledBy, PairEncloses, Reaches, ReachesFirst, RestsOrSettles, RestsOrSettlesFirst}
 pub use Rattle.listing_run.specs.Settlers.{rests, settled}
 pub use Rattle.listing_run.specs.Steps.{AllSettle, AllSteps, EndsAt, FirstSteps, HasNoBound, IsSolved, IsStep, StepsThen, budget_at, no_budget, no_heads}
 pub use Rattle.listing_run.specs.Steps.{no_zones}
-pub use Rattle.listing_run.specs.Tasks.{pairs_of}
+pub use Rattle.listing_run.specs.Tasks.{deck_task, pairs_of}
 pub use Rattle.listing_run.specs.Zones.{AreFlowsAt, FlowsEnclose, FlowsEncloseAt, HasLargeFlow, faces_at}
 pub use Rattle.listing_run.specs.declared.listing_end.ListingEnd.{ListingEnd}
 pub use Rattle.listing_run.specs.declared.step.Step.{Step}
@@ -27,6 +29,8 @@ pub use Rattle.listing_run.specs.declared.task.Task.{Task}
 pub use Rattle.model_types.specs.Cells.{cell_count}
 pub use Rattle.model_types.specs.Heads.{start_head}
 pub use Rattle.model_types.specs.Times.{times}
+pub use Rattle.model_types.specs.declared.limits.Limits.{Limits}
+pub use Rattle.model_types.specs.declared.limits.Limits.TheVariants.{Plain, Wide}
 pub use Rattle.model_types.specs.declared.model.FlowModel.{FlowModel}
 pub use Rattle.model_types.specs.declared.time_steps.TimeStep.{TimeStep}
 pub use Rattle.outside.specs.Puts.{Put, taken}
@@ -39,7 +43,9 @@ pub use Rattle.run_puts.specs.Ends.{IsEnd, IsLast, IsPut, IsWanting}
 pub use Rattle.run_puts.specs.Lines.{Text, end_line}
 pub use Rattle.run_puts.specs.Runs.{IsRun, whole}
 pub use Rattle.run_puts.specs.declared.status.Status.{Status}
-pub use Rattle.step_chain.specs.Enclosing.{EnclosesMoves, IsMove, LieBetween, LiesWithin}
+pub use Rattle.step_chain.specs.Barriers.{edges_by}
+pub use Rattle.step_chain.specs.Enclosing.{EnclosesMoves, IsMove, LieBetween, LiesBetweenBy, LiesWithin}
+pub use Rattle.step_chain.specs.Laws.{HeadsFit, StepExcludesRefusal, StepIsOne, WideKeepsSteps}
 pub use Rattle.step_chain.specs.Steps.{IsPosed, IsSettledStep, IsStepBy}
 pub use Rattle.step_chain.specs.declared.solved.Solved.{Solved}
 pub use Rattle.step_problem.specs.Entries.{Entries, entries_at}

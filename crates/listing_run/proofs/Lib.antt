@@ -8,4 +8,5 @@ pub mod Pieces
 pub mod Settled
 pub mod Stopping
 pub mod Unique
+mod WideListings
 pub mod Wholes

@@ -3,10 +3,9 @@ use Rattle.listing_run.proofs.Common.{◌≡◌, ℕ, length, List, ◌∷◌, �
 use Rattle.listing_run.proofs.Common.{lower_at, upper_at, Budget, TimeStep, heads_of, variable_heads, Solved, EachMember, each_member, of_member, member_cells}
 use Rattle.listing_run.proofs.Common.{cell_of_member, IsMove, EnclosesMoves, Task, Step, IsActive, IsNamed, AreFlowsAt, FlowsEncloseAt, IsStep, HasNoBound}
 use Rattle.listing_run.proofs.Common.{no_heads, no_budget, no_zones, budget_at, Bounds, BoundsMoves, FlowsStopBy, StopsAt, stop_of, PairKind, IsStepBy}
-use Rattle.listing_run.proofs.Common.{pairs_of, IsSolved}
+use Rattle.listing_run.proofs.Common.{pairs_of, IsSolved, exact_step, edges_by}
 use Rattle.budget_bounds.specs.Exact.{EnclosesBudgets, HeadsAreWithin}
 use Rattle.budget_bounds.specs.Terms.{budget_of}
-use Rattle.flow_equations.specs.ExactStep.{exact_step}
 use Rattle.step_chain.specs.declared.solved.StepFault.{StepFault}
 use Rattle.step_chain.specs.Faults.{FailsBy as StepFailsBy}
 use Rattle.listing_run.specs.declared.stop.Stop.{Stop}
@@ -22,21 +21,21 @@ budget_by x lent r same is =
     sym (subst P same is)
 
 module _ (k : Task) (s : ℕ) (at : TimeStep) (old : List Bound) (digits : s ≡ k.digits) where
-  step_stops_by : (rounds : ℕ) (f : StepFault) → rounds ≡ k.rounds → StepFailsBy k.decks k.digits at old rounds f → (rest : List TimeStep) → StopsAt k old (at ∷ rest) (stop_of at f)
+  step_stops_by : (rounds : ℕ) (f : StepFault) → rounds ≡ k.rounds → StepFailsBy k.limits k.decks k.digits at old rounds f → (rest : List TimeStep) → StopsAt k old (at ∷ rest) (stop_of at f)
   step_stops_by rounds (chain.NoBound n) same h rest = (refl, no_heads h)
   step_stops_by rounds (chain.Unfinished o) same h rest =
-      let P : ℕ → Type 0 = λ r. RoundsSettleBoth h.problem h.barrier r → ⊥ in
+      let P : ℕ → Type 0 = λ r. RoundsSettleBoth h.problem (edges_by k.limits h.barrier) r → ⊥ in
       (refl, record { problem = h.problem; barrier = h.barrier; posed = h.posed; open_rounds = subst P same h.unfinished.cause })
   step_stops_by rounds chain.Memory same h rest = tt
 
-  pub step_stops : (rounds : ℕ) (f : StepFault) → rounds ≡ k.rounds → StepFailsBy k.decks s at old rounds f → (rest : List TimeStep) → StopsAt k old (at ∷ rest) (stop_of at f)
-  step_stops rounds f same h = let P : ℕ → Type 0 = λ n. StepFailsBy k.decks n at old rounds f in step_stops_by rounds f same (subst P digits h)
+  pub step_stops : (rounds : ℕ) (f : StepFault) → rounds ≡ k.rounds → StepFailsBy k.limits k.decks s at old rounds f → (rest : List TimeStep) → StopsAt k old (at ∷ rest) (stop_of at f)
+  step_stops rounds f same h = let P : ℕ → Type 0 = λ n. StepFailsBy k.limits k.decks n at old rounds f in step_stops_by rounds f same (subst P digits h)
 
-  module _ (kind : PairKind) (kinds : kind ≡ pairs_of k) (x : Solved) (solves : IsStepBy k.decks s at old kind x) (lent : List Bound) (same : lent ≡ x.bounds) where
+  module _ (kind : PairKind) (kinds : kind ≡ pairs_of k) (x : Solved) (solves : IsStepBy k.limits k.decks s at old kind x) (lent : List Bound) (same : lent ≡ x.bounds) where
     by_task : IsSolved k at old x
     by_task =
-        let P : ℕ → Type 0 = λ n. IsStepBy k.decks n at old kind x in
-        let Q : PairKind → Type 0 = λ pairs. IsStepBy k.decks k.digits at old pairs x in
+        let P : ℕ → Type 0 = λ n. IsStepBy k.limits k.decks n at old kind x in
+        let Q : PairKind → Type 0 = λ pairs. IsStepBy k.limits k.decks k.digits at old pairs x in
         subst Q kinds (subst P digits solves)
 
     pub budget_refused : (n : NoBound) → Err n ≡ budget_of x.problem (lower_at lent) (upper_at lent) → HasNoBound k at old n

@@ -1,8 +1,11 @@
 -- What a step does to its settler, by the clause of the call that solved it.
-use Rattle.listing_run.proofs.Common.{IfErr, IfOk, ◌≡◌, ◌∙◌, ℕ, List, Bool, true, false, inl, inr, sym, subst, refl, ℤ, Option, None, [], ◌∷◌, Result, Ok, Err}
+use Rattle.listing_run.proofs.Common.{IfErr, IfOk, ◌≡◌, ◌∙◌, ℕ, List, length, Bool, true, inl, inr, sym, subst, refl, ℤ, Option, None, [], ◌∷◌, Result, Ok, Err}
 use Rattle.listing_run.proofs.Common.{SinkError, Bound, Entries, Edges, IsSettledPair, lower_at, upper_at, TimeStep, times, EachMember, AreStartHeadsFor}
 use Rattle.listing_run.proofs.Common.{each_member, of_member, Text, LieBetween, IsPosed, Steps, Task, AllSettledBy, AreSettledBy, IsSettledBy, PairEncloses}
 use Rattle.listing_run.proofs.Common.{Reaches, ReachesFirst, RestsOrSettles, RestsOrSettlesFirst, rests, settled, IsAtFirst, IsNextText, IsWalk, times_left}
+use Rattle.listing_run.proofs.Common.{Limits, Plain, Wide, exact_step, variable_heads, edges_by, LiesBetweenBy}
+use Rattle.cell_balance.specs.Solutions.{LiesBetween}
+use Rattle.settle_driver.specs.Views.{HoldsPair}
 use Rattle.cell_balance.proofs.Totals.{le_trans_z}
 use Rattle.deck_problems.specs.Problems.{IsProblemFor}
 use Rattle.step_chain.specs.Leads.{LeadsBy, LeadsOrRests}
@@ -11,20 +14,28 @@ use Rattle.listing_run.proofs.UnderWay.{all_left, first_same}
 use Rattle.decimal_input.proofs.Signs.{mul_mono_right}
 
 module _ (k : Task) (s : ℕ) (at : TimeStep) (old : List Bound) (digits : s ≡ k.digits) where
-  pair_encloses : (p : List Entries) (b : Edges) (l u : ℕ → ℤ) → IsSettledPair p b l u → EachMember k.decks (λ m. LieBetween m at old p l u) → PairEncloses k.decks at old p b
+  -- what lies between a pair lies between heads that hold it
+  between : (p : List Entries) (b : Edges) (d : ℕ) (X l u : ℕ → ℤ) (heads : List Bound) → IsSettledPair p b l u → HoldsPair p b heads → LiesBetween (length p) d X l u → LiesBetween (length p) d X (lower_at heads) (upper_at heads)
+  between p b d X l u heads pair shown v = record {
+    low = λ c lt. le_trans_z _ _ _ (mul_mono_right d (lower_at heads c) (l c) (shown.low l u pair c lt)) (v.low c lt);
+    high = λ c lt. le_trans_z _ _ _ (v.high c lt) (mul_mono_right d (u c) (upper_at heads c) (shown.high l u pair c lt));
+  }
+
+  between_by : (limits : Limits) (p : List Entries) (b : Edges) (d : ℕ) (X l u : ℕ → ℤ) (heads : List Bound) → IsSettledPair p b l u → HoldsPair p b heads → LiesBetweenBy limits (length p) d X l u → LiesBetweenBy limits (length p) d X (lower_at heads) (upper_at heads)
+  between_by Plain p b d X l u heads pair shown v = between p b d X l u heads pair shown v
+  between_by Wide p b d X l u heads pair shown v = λ range. between p b d X l u heads pair shown (v range)
+
+  pair_encloses : (p : List Entries) (b : Edges) (l u : ℕ → ℤ) → IsSettledPair p (edges_by k.limits b) l u → EachMember k.decks (λ m. LieBetween k.limits m at old p l u) → PairEncloses k.limits k.decks at old p b
   pair_encloses p b l u pair encloses heads shown =
-      each_member k.decks (λ m. LieBetween m at old p (lower_at heads) (upper_at heads)) (λ m member before d X move.
-      let v = of_member k.decks (λ f. LieBetween f at old p l u) encloses m member before d X move in
-      record {
-        low = λ c lt. le_trans_z _ _ _ (mul_mono_right d (lower_at heads c) (l c) (shown.low l u pair c lt)) (v.low c lt);
-        high = λ c lt. le_trans_z _ _ _ (v.high c lt) (mul_mono_right d (u c) (upper_at heads c) (shown.high l u pair c lt));
-      })
+      each_member k.decks (λ m. LieBetween k.limits m at old p (lower_at heads) (upper_at heads)) (λ m member before d X move.
+      between_by k.limits p (edges_by k.limits b) d (variable_heads (exact_step m at.period at.step before) X) l u heads pair shown
+      (of_member k.decks (λ f. LieBetween k.limits f at old p l u) encloses m member before d X move))
 
   module _ {S : Type 0} (leads : S → List Entries → Edges → Bool → S → Type 0) (before after : S) where
     -- a step's problem, ended with heads or without
-    pub settles : (ended : Bool) (p : List Entries) → IsProblemFor k.decks s at old p → LeadsBy leads k.decks at old p ended before after → IsSettledBy leads k at old ended before after
+    pub settles : (ended : Bool) (p : List Entries) → IsProblemFor k.decks s at old p → LeadsBy leads k.limits k.decks at old p ended before after → IsSettledBy leads k at old ended before after
     settles ended p is l =
-        let P : ℕ → Type 0 = λ n. IsPosed k.decks n at old p l.barrier in
+        let P : ℕ → Type 0 = λ n. IsPosed k.limits k.decks n at old p l.barrier in
         record {
           problem = p;
           barrier = l.barrier;
@@ -34,9 +45,9 @@ module _ (k : Task) (s : ℕ) (at : TimeStep) (old : List Bound) (digits : s ≡
         }
 
     -- a step without heads
-    pub rests_or_settles : LeadsOrRests leads k.decks s at old before after → RestsOrSettles leads k at old before after
+    pub rests_or_settles : LeadsOrRests leads k.limits k.decks s at old before after → RestsOrSettles leads k at old before after
     rests_or_settles (inl e) = inl e
-    rests_or_settles (inr (p, is, l)) = inr (false, settles false p is l)
+    rests_or_settles (inr (p, is, ended, plain, l)) = inr (ended, settles ended p is l)
 
 module _ {S : Type 0} (begins : S → ℕ → ℕ → S → Type 0) (leads : S → List Entries → Edges → Bool → S → Type 0) (stop : S → Option SinkError) where
   module _ (k : Task) where

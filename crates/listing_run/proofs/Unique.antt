@@ -1,15 +1,14 @@
 -- A model has one listing, and one that is whole has no other end.
-use Rattle.listing_run.proofs.Common.{◌≡◌, ℕ, suc, List, [], ◌∷◌, sym, ap, ◌∙◌, refl, arith, Ok, Err, Result, Contains, subst, Option, Some, None, Bound}
+use Rattle.listing_run.proofs.Common.{◌≡◌, ℕ, suc, List, [], ◌∷◌, sym, ap, ◌∙◌, refl, inr, arith, Ok, Err, Result, Contains, subst, Option, Some, None, Bound}
 use Rattle.listing_run.proofs.Common.{NoBound, Budget, TimeStep, times, AreDecks, AreGridHeads, Solved, ZoneFlow, Task, Step, AreFlowsAt, HasLargeFlow}
 use Rattle.listing_run.proofs.Common.{faces_at, IsStep, budget_at, HasNoBound, no_heads, no_budget, no_zones, AllSettle, IsSettledStep, IsStepBy, pairs_of}
-use Rattle.listing_run.proofs.Common.{IsSolved, if◌then◌else◌, PairKind}
+use Rattle.listing_run.proofs.Common.{IsSolved, if◌then◌else◌, PairKind, false, StepIsOne, StepExcludesRefusal, HeadsFit, ListingIsOne, ListingExcludesRefusal}
+use Rattle.listing_run.proofs.Common.{SettledListingIsClosed, RefusalIsOne}
 use Rattle.deck_problems.specs.Laws.{IsBefore, StartHeadsAreOne, StartHeadsFit}
-use Rattle.std.specs.Prelude.{false}
 use Rattle.step_problem.specs.Settling.PairKind.{settled as settled_kind, certified as certified_kind}
-use Rattle.step_chain.specs.Laws.{StepIsOne, StepExcludesRefusal, RefusalIsOne as StepRefusalIsOne, HeadsFit}
+use Rattle.step_chain.specs.Laws.{RefusalIsOne as StepRefusalIsOne}
 use Rattle.zone_flows.specs.Laws.{FlowsAreOne, FlowsExcludeRefusal, RefusalIsOne as ZoneRefusalIsOne}
 use Rattle.listing_run.specs.Steps.{Steps}
-use Rattle.listing_run.specs.Laws.{ListingIsOne, ListingExcludesRefusal, SettledListingIsClosed, RefusalIsOne}
 use Rattle.listing_run.specs.declared.listing_end.ListingEnd.TheVariants as ends
 
 abbrev the_ok : {X E : Type 0} → X → Result X E → X
@@ -86,11 +85,11 @@ module _ (laws : Laws) (k : Task) (decks : AreDecks k.decks) (plain : k.quick �
     before : IsBefore k.decks at old
     before = record { decks = decks; time = time; heads = heads }
 
-    by_settled : (x : Solved) → IsSolved k at old x → IsSettledStep k.decks k.digits at old x
-    by_settled x h = let P : PairKind → Type 0 = λ kind. IsStepBy k.decks k.digits at old kind x in subst P are_settled h
+    by_settled : (x : Solved) → IsSolved k at old x → IsSettledStep k.limits k.decks k.digits at old x
+    by_settled x h = let P : PairKind → Type 0 = λ kind. IsStepBy k.limits k.decks k.digits at old kind x in subst P are_settled h
 
     solved_is_one : (x y : Solved) → IsSolved k at old x → IsSolved k at old y → x ≡ y
-    solved_is_one x y h i = laws.step_one k.decks k.digits at old x y before (by_settled x h) (by_settled y i)
+    solved_is_one x y h i = laws.step_one k.limits k.decks k.digits at old x y before (by_settled x h) (by_settled y i)
 
     solved_one : (v w : Step) (x : IsStep k at old v) (y : IsStep k at old w) → x.solved ≡ y.solved
     solved_one v w x y = solved_is_one x.solved y.solved x.solves y.solves
@@ -113,11 +112,11 @@ module _ (laws : Laws) (k : Task) (decks : AreDecks k.decks) (plain : k.quick �
 
     -- its heads are heads of all cells
     step_fits : (v : Step) → IsStep k at old v → AreGridHeads k.decks.first v.heads
-    step_fits v x = subst (AreGridHeads k.decks.first) (sym x.heads) (laws.fits k.decks k.digits at old (pairs_of k) x.solved before x.solves)
+    step_fits v x = subst (AreGridHeads k.decks.first) (sym x.heads) (laws.fits k.limits k.decks k.digits at old (pairs_of k) x.solved before x.solves)
 
     -- a step with a value has no refusal
     has_bound : (v : Step) (n : NoBound) → IsStep k at old v → HasNoBound k at old n → ⊥
-    has_bound v n x (no_heads none) = laws.excludes k.decks k.digits at old (pairs_of k) x.solved n before x.solves none
+    has_bound v n x (no_heads none) = laws.excludes k.limits k.decks k.digits at old (pairs_of k) x.solved n before (inr are_settled) x.solves none
     has_bound v n x (no_budget solved settled refused) =
         let B : Solved → Type 0 = λ s. budget_at s ≡ Err n in
         ok_not_err v.budget n (sym x.budget ∙ subst B (solved_is_one solved x.solved settled x.solves) refused)
@@ -133,14 +132,14 @@ module _ (laws : Laws) (k : Task) (decks : AreDecks k.decks) (plain : k.quick �
 
     -- and a step has one refusal
     one_refusal : (a b : NoBound) → HasNoBound k at old a → HasNoBound k at old b → a ≡ b
-    one_refusal a b (no_heads x) (no_heads y) = laws.refusal_one k.decks k.digits at old a b before x y
-    one_refusal a b (no_heads x) (no_budget solved settled refused) = absurd (laws.excludes k.decks k.digits at old (pairs_of k) solved a before settled x)
-    one_refusal a b (no_budget solved settled refused) (no_heads y) = absurd (laws.excludes k.decks k.digits at old (pairs_of k) solved b before settled y)
+    one_refusal a b (no_heads x) (no_heads y) = laws.refusal_one k.limits k.decks k.digits at old a b before x y
+    one_refusal a b (no_heads x) (no_budget solved settled refused) = absurd (laws.excludes k.limits k.decks k.digits at old (pairs_of k) solved a before (inr are_settled) settled x)
+    one_refusal a b (no_budget solved settled refused) (no_heads y) = absurd (laws.excludes k.limits k.decks k.digits at old (pairs_of k) solved b before (inr are_settled) settled y)
     one_refusal a b (no_budget x settled refused) (no_budget y also other) =
         let B : Solved → Type 0 = λ s. budget_at s ≡ Err b in
         one_err a b (sym refused ∙ subst B (sym (solved_is_one x y settled also)) other)
-    one_refusal a b (no_heads x) (no_zones solved c settled is large) = absurd (laws.excludes k.decks k.digits at old (pairs_of k) solved a before settled x)
-    one_refusal a b (no_zones solved c settled is large) (no_heads y) = absurd (laws.excludes k.decks k.digits at old (pairs_of k) solved b before settled y)
+    one_refusal a b (no_heads x) (no_zones solved c settled is large) = absurd (laws.excludes k.limits k.decks k.digits at old (pairs_of k) solved a before (inr are_settled) settled x)
+    one_refusal a b (no_zones solved c settled is large) (no_heads y) = absurd (laws.excludes k.limits k.decks k.digits at old (pairs_of k) solved b before (inr are_settled) settled y)
     one_refusal a b (no_budget x settled refused) (no_zones y c also is large) = absurd (no_budget_no_zones x y c a settled refused also is)
     one_refusal a b (no_zones x c settled is large) (no_budget y also refused) = absurd (no_budget_no_zones y x c b also refused settled is)
     one_refusal a b (no_zones x c settled is large) (no_zones y d also other too) =

@@ -8,31 +8,34 @@ use Rattle.step_problem.specs.Heads.{Edges, lower_at, upper_at}
 use Rattle.deck_problems.specs.declared.decks.Decks.{Decks}
 use Rattle.deck_problems.specs.Decks.{EachMember}
 use Rattle.deck_problems.specs.StartHeads.{AreStartHeadsFor}
+use Rattle.model_types.specs.declared.limits.Limits.{Limits}
 use Rattle.model_types.specs.declared.time_steps.TimeStep.{TimeStep}
 use Rattle.model_types.specs.Times.{times}
 use Rattle.settle_driver.specs.Views.{HoldsPair}
+use Rattle.step_chain.specs.Barriers.{edges_by}
 use Rattle.step_chain.specs.Steps.{IsPosed}
 use Rattle.step_chain.specs.Enclosing.{LieBetween}
 use Rattle.listing_run.specs.declared.task.Task.{Task}
 use Rattle.listing_run.specs.declared.step.Step.{Step}
 use Rattle.listing_run.specs.Steps.{IsStep}
 
--- Every solution of the exact step of each member, from all exact heads within the old ones, lies between these heads at the problem's variable cells.
-abbrev pub EnclosesSolutions : Decks → TimeStep → List Bound → List Entries → List Bound → Type 0
-EnclosesSolutions d at old p heads = EachMember d (λ m. LieBetween m at old p (lower_at heads) (upper_at heads))
+-- Every solution of the exact step of each member, from all exact heads within the old ones, lies between these heads at the problem's variable cells; with
+-- wide limits every solution whose heads are in range.
+abbrev pub EnclosesSolutions : Limits → Decks → TimeStep → List Bound → List Entries → List Bound → Type 0
+EnclosesSolutions limits d at old p heads = EachMember d (λ m. LieBetween limits m at old p (lower_at heads) (upper_at heads))
 
 -- Where the settled pair of a step's problem lies between heads, every solution does.
-abbrev pub PairEncloses : Decks → TimeStep → List Bound → List Entries → Edges → Type 0
-PairEncloses d at old p b = (heads : List Bound) → HoldsPair p b heads → EnclosesSolutions d at old p heads
+abbrev pub PairEncloses : Limits → Decks → TimeStep → List Bound → List Entries → Edges → Type 0
+PairEncloses limits d at old p b = (heads : List Bound) → HoldsPair p (edges_by limits b) heads → EnclosesSolutions limits d at old p heads
 
 module _ {S : Type 0} (leads : S → List Entries → Edges → Bool → S → Type 0) (k : Task) where
   -- the problem of a step from these old heads was settled, ending with heads or without
   pub record IsSettledBy (at : TimeStep) (old : List Bound) (ended : Bool) (before after : S) : Type 0 where
     pub problem : List Entries
     pub barrier : Edges
-    pub posed : IsPosed k.decks k.digits at old problem barrier
-    pub encloses : PairEncloses k.decks at old problem barrier
-    pub led : leads before problem barrier ended after
+    pub posed : IsPosed k.limits k.decks k.digits at old problem barrier
+    pub encloses : PairEncloses k.limits k.decks at old problem barrier
+    pub led : leads before problem (edges_by k.limits barrier) ended after
 
   -- no problem was settled, or that of the step was
   abbrev pub RestsOrSettles : TimeStep → List Bound → S → S → Type 0

@@ -10,6 +10,7 @@ use Rattle.model_types.specs.declared.time_steps.TimeStep.{TimeStep}
 use Rattle.model_types.specs.Times.{times}
 use Rattle.deck_problems.specs.StartHeads.{AreStartHeadsFor}
 use Rattle.step_chain.specs.declared.solved.Solved.{Solved}
+use Rattle.step_chain.specs.Barriers.{edges_by}
 use Rattle.step_chain.specs.Steps.{IsPosed, IsStepBy, HasNoHeads, SettlesIn}
 use Rattle.listing_run.specs.declared.listing_end.ListingEnd.{ListingEnd}
 use Rattle.listing_run.specs.declared.listing_end.ListingEnd.TheVariants as ends
@@ -26,7 +27,7 @@ budget_at x = budget_of x.problem (lower_at x.bounds) (upper_at x.bounds)
 module _ (k : Task) (at : TimeStep) (old : List Bound) where
   -- its problem, with a pair of the task's kind
   abbrev pub IsSolved : Solved → Type 0
-  IsSolved x = IsStepBy k.decks k.digits at old (pairs_of k) x
+  IsSolved x = IsStepBy k.limits k.decks k.digits at old (pairs_of k) x
 
   -- v is its step: the heads, the budget and the flows between zones of its solved problem
   pub record IsStep (v : Step) : Type 0 where
@@ -39,7 +40,7 @@ module _ (k : Task) (at : TimeStep) (old : List Bound) where
 
   -- its first refusal: of the problem or the barrier, then of the budget, then of the flows between zones
   pub data HasNoBound (n : NoBound) : Type 0 where
-    no_heads : HasNoHeads k.decks k.digits at old n → HasNoBound n
+    no_heads : HasNoHeads k.limits k.decks k.digits at old n → HasNoBound n
     no_budget : (solved : Solved) → IsSolved solved → budget_at solved ≡ Err n → HasNoBound n
     no_zones : (solved : Solved) (budget : Budget) → IsSolved solved → budget_at solved ≡ Ok budget → HasLargeFlow k.zones solved n → HasNoBound n
 
@@ -47,8 +48,8 @@ module _ (k : Task) (at : TimeStep) (old : List Bound) where
   pub record IsOpen : Type 0 where
     pub problem : List Entries
     pub barrier : Edges
-    pub posed : IsPosed k.decks k.digits at old problem barrier
-    pub open_rounds : RoundsSettleBoth problem barrier k.rounds → ⊥
+    pub posed : IsPosed k.limits k.decks k.digits at old problem barrier
+    pub open_rounds : RoundsSettleBoth problem (edges_by k.limits barrier) k.rounds → ⊥
 
 -- Past these heads, with these times left, a listing ends so: no time is left; the step of the first one has this refusal;
 -- or the rounds don't settle it.
@@ -82,4 +83,4 @@ AllSteps k values last = FirstSteps k (EndsAt k last) values
 abbrev pub AllSettle : Task → List Bound → List TimeStep → List Step → Type 0
 AllSettle k old [] values = Unit {0}
 AllSettle k old (at ∷ steps) [] = Unit {0}
-AllSettle k old (at ∷ steps) (v ∷ values) = SettlesIn k.decks k.digits at old k.rounds × AllSettle k v.heads steps values
+AllSettle k old (at ∷ steps) (v ∷ values) = SettlesIn k.limits k.decks k.digits at old k.rounds × AllSettle k v.heads steps values

@@ -2,6 +2,7 @@
 use Rattle.std.specs.Prelude.{ℕ, Bool, List, Option, if◌then◌else◌}
 use Rattle.step_problem.specs.Settling.{PairKind}
 use Rattle.step_problem.specs.Settling.PairKind.{settled, certified}
+use Rattle.model_types.specs.declared.limits.Limits.{Limits}
 use Rattle.model_types.specs.declared.model.FlowModel.{FlowModel}
 use Rattle.deck_problems.specs.declared.decks.Decks.{Decks}
 use Rattle.deck_problems.specs.Decks.{one_deck}
@@ -11,10 +12,10 @@ use Rattle.listing_run.specs.declared.task.Task.{Task}
 abbrev pub pairs_of : Task → PairKind
 pairs_of k = if k.quick then certified else settled
 
--- the decks, the digits of conductances, the zones, if there is a zone file, the rounds, and whether it is quick
-abbrev pub deck_task : Decks → ℕ → Option (List ℕ) → ℕ → Bool → Task
-deck_task d s zones rounds quick = record { decks = d; digits = s; zones = zones; rounds = rounds; quick = quick }
+-- the limits, the decks, the digits of conductances, the zones, if there is a zone file, the rounds, and whether it is quick
+abbrev pub deck_task : Limits → Decks → ℕ → Option (List ℕ) → ℕ → Bool → Task
+deck_task limits d s zones rounds quick = record { limits = limits; decks = d; digits = s; zones = zones; rounds = rounds; quick = quick }
 
 -- that of one deck's model
-abbrev pub one_task : FlowModel → ℕ → Option (List ℕ) → ℕ → Bool → Task
-one_task m s zones rounds quick = deck_task (one_deck m) s zones rounds quick
+abbrev pub one_task : Limits → FlowModel → ℕ → Option (List ℕ) → ℕ → Bool → Task
+one_task limits m s zones rounds quick = deck_task limits (one_deck m) s zones rounds quick

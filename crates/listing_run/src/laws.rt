@@ -1,8 +1,10 @@
 // Laws of listings, from those of the steps.
-ghost use Rattle.listing_run.specs.Laws.{ListingIsOne, ListingExcludesRefusal, SettledListingIsClosed, RefusalIsOne};
+ghost use Rattle.listing_run.specs.Laws.{ListingIsOne, ListingExcludesRefusal, SettledListingIsClosed, RefusalIsOne, WideKeepsListings};
 
 use deck_problems::laws::start_heads;
-use step_chain::laws::{heads_fit, no_step_beside_a_refusal, one_refusal, one_step};
+use step_chain::laws::{
+    heads_fit, no_step_beside_a_refusal, one_refusal, one_step, wide_keeps_steps,
+};
 use zone_flows::laws::one_list_or_refusal;
 
 /// A model has at most one listing of settled pairs, and a model with a whole listing has no other end, except rounds that don't settle a step.
@@ -18,4 +20,11 @@ pub fn one_listing()
     one_refusal();
     heads_fit();
     one_list_or_refusal();
+}
+
+/// What is listed with plain limits is listed with wide ones, so by `one_listing` a run of settled pairs lists the same.
+pub fn wide_keeps_listings()
+    ensures { WideKeepsListings }
+{
+    wide_keeps_steps();
 }

@@ -49,7 +49,7 @@ pub(crate) fn solve<S: Settler>(
     // Every solution from exact heads within the old ones lies within the step's heads, budget and flows between zones.
     ensures encloses { IfOk result (BoundsMoves task.now at old.now) }
 {
-    let solved = match next_step_with(alloc, &task.decks, tables, at, old, settler) {
+    let solved = match next_step_with(alloc, task.limits, &task.decks, tables, at, old, settler) {
         Ok(solved) => solved,
         Err(fault) => return Err(stop_at(at, fault)),
     };

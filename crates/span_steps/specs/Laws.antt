@@ -1,4 +1,5 @@
 -- What all steps of two decks enclose.
+use Rattle.model_types.specs.declared.limits.Limits.{Limits}
 use Rattle.std.specs.Prelude.{ℕ, ℤ, List}
 use Rattle.model_types.specs.declared.model.FlowModel.{FlowModel}
 use Rattle.deck_span.specs.Histories.{SolvesBetween}
@@ -9,5 +10,5 @@ use Rattle.span_steps.specs.Steps.{AreAllSteps, LieWithin}
 -- every history between the two, whose stresses are chosen anew at each step, lies within the heads of all steps
 abbrev pub HistoriesLieWithin : Type 0
 HistoriesLieWithin =
-    (a b : FlowModel) (s : ℕ) (kind : PairKind) (xs : List Solved) → AreAllSteps a b s kind xs →
+    (limits : Limits) (a b : FlowModel) (s : ℕ) (kind : PairKind) (xs : List Solved) → AreAllSteps limits a b s kind xs →
     (d : ℕ) (Xs : List (ℕ → ℤ)) → SolvesBetween a b d Xs → LieWithin a d xs Xs

@@ -2,10 +2,8 @@
 use Rattle.step_chain.proofs.Common.{◌≡◌, ℕ, ◌<◌, inl, inr, true, false, List, length, get_or, sym, ap, ◌∙◌, subst, arith, ℤ, cases_Bool, and_parts}
 use Rattle.step_chain.proofs.Common.{false_from_ne_true, not-true, true≢false, get_or_default, get_or-map, length-map, Fraction, Bound, IsHead, no_bound}
 use Rattle.step_chain.proofs.Common.{lower_at, upper_at, AreWords, Entries, FlowModel, TimeStep, cell_count, is_active, is_variable, is_constant, index_of}
-use Rattle.step_chain.proofs.Common.{variable_cells, exact_step, Decks, IsConstantPairFor, AreGridHeads, bound_at, AreHeadsOf}
-use Rattle.std.specs.Prelude.{◌&&◌, not}
-use Rattle.std.proofs.lemmas.Int.{ints}
-use Rattle.cell_balance.specs.Steps.{ExactCell, cell_at, no_cell}
+use Rattle.step_chain.proofs.Common.{variable_cells, exact_step, Decks, IsConstantPairFor, AreGridHeads, bound_at, AreHeadsOf, ◌&&◌, not, ints, ExactCell}
+use Rattle.step_chain.proofs.Common.{cell_at, no_cell}
 use Rattle.model_types.proofs.Ranks.{passing, rank_below, at_rank}
 use Rattle.flow_equations.proofs.Links.{ids_are, below_is, index_is}
 use Rattle.problem_builder.proofs.ActiveCells.{variable_active, constant_active}

@@ -1,13 +1,21 @@
 -- Names that several proofs of this crate cite, of the crates below and of its own definitions, passed on from one place. Declares nothing.
-pub use Rattle.std.proofs.Common.{Bool, Err, List, [], ap, arith, cond, false, get_or, inl, inr, length, pos, refl, set, subst, suc, sym, true, ℕ, ℤ, ◌*ℤ◌, ◌+◌}
-pub use Rattle.std.proofs.Common.{◌<◌, ◌^◌, ◌∙◌, ◌∷◌, ◌≡◌, ◌≤ℤ◌, ◌≤◌}
+pub use Rattle.std.proofs.Common.{Bool, List, [], ap, arith, cond, false, get_or, inl, inr, length, neg_ℤ, pos, refl, set, subst, suc, sym, true, ℕ, ℤ, ◌*ℤ◌}
+pub use Rattle.std.proofs.Common.{◌+◌, ◌<ℤ◌, ◌<◌, ◌^◌, ◌∙◌, ◌∷◌, ◌≡◌, ◌≤ℤ◌, ◌≤◌}
 pub use Rattle.std.proofs.lemmas.Bool.{and_parts, cases_Bool, cases_order, false_from_ne_true, not-true, true≢false}
+pub use Rattle.std.proofs.lemmas.Int.{clamps, ints}
 pub use Rattle.std.proofs.lemmas.List.{get_or-map, get_or-set_other, get_or-set_same, get_or_default, length-map, length-set}
-pub use Rattle.barrier_vector.proofs.Enclosing.{encloses_all, held_all}
-pub use Rattle.barrier_vector.specs.Barriers.{BarrierExcludesRefusal, BarrierIsOne, IsBarrierOf}
-pub use Rattle.barrier_vector.specs.Refusals.{IsFault, IsRefused}
+pub use Rattle.std.specs.Prelude.{Err, IfErr, IfOk, Ok, Result, not, ◌&&◌}
+pub use Rattle.barrier_vector.proofs.Clamping.{clamped_at, clamped_fits}
+pub use Rattle.barrier_vector.specs.Barriers.{BarrierExcludesRefusal}
+pub use Rattle.barrier_vector.specs.CutLaws.{CutBarrierExcludesRefusal, CutBarrierIsOne, CutRefusalIsOne}
+pub use Rattle.barrier_vector.specs.Cuts.{EnclosesUncut, IsCutBarrierOf, IsCutFault, clamp, clamped}
+pub use Rattle.barrier_vector.specs.declared.BarrierFault.{BarrierFault}
+pub use Rattle.cell_balance.specs.Enclosures.{CellEncloses, EnclosesStep}
+pub use Rattle.cell_balance.specs.Solutions.{LiesBetween, SolvesStep}
+pub use Rattle.cell_balance.specs.Steps.{ExactCell, cell_at, no_cell}
 pub use Rattle.cell_relax.specs.Words.{AreWords}
-pub use Rattle.certificate_check.specs.Laws.{SettledPairEncloses}
+pub use Rattle.certificate_check.specs.Certificates.{IsRangeRefusal}
+pub use Rattle.certificate_check.specs.Laws.{CertificateEncloses, CertificateExcludesRefusal, ClampedPairEncloses, RangeRefusalIsOne, SettledPairEncloses}
 pub use Rattle.decimal_input.specs.Fractions.{Fraction}
 pub use Rattle.deck_problems.proofs.Members.{HasCellsOf, constant_same, each_member, member_cells, of_member}
 pub use Rattle.deck_problems.specs.ConstantHeads.{AreConstantHeadsFor, HasConstantHeadFor, IsConstantPairFor}
@@ -21,16 +29,24 @@ pub use Rattle.flow_equations.specs.Histories.{variable_heads}
 pub use Rattle.model_types.specs.Cells.{cell_count}
 pub use Rattle.model_types.specs.Kinds.{index_of, is_constant, is_variable, kind_of, variable_cells}
 pub use Rattle.model_types.specs.Layers.{is_active}
+pub use Rattle.model_types.specs.declared.limits.Limits.{Limits}
+pub use Rattle.model_types.specs.declared.limits.Limits.TheVariants.{Plain, Wide}
 pub use Rattle.model_types.specs.declared.model.FlowModel.{FlowModel}
 pub use Rattle.model_types.specs.declared.time_steps.TimeStep.{TimeStep}
 pub use Rattle.problem_builder.specs.GridHeads.{AreGridHeads, IsActive}
-pub use Rattle.step_chain.specs.Enclosing.{EnclosesMove, EnclosesMoves, IsMove, LieBetween}
+pub use Rattle.step_chain.specs.Barriers.{HasNoBarrier, IsBarrierBy, IsBarrierFault, edges_by}
+pub use Rattle.step_chain.specs.Enclosing.{EnclosesMove, EnclosesMoves, IsMove, LieBetween, LiesBetweenBy}
+pub use Rattle.step_chain.specs.Faults.{FailsBy, IsNoCertificate, SettlesNot, of_barrier}
 pub use Rattle.step_chain.specs.GridHeads.{AreHeadsOf, bound_at}
-pub use Rattle.step_chain.specs.Laws.{HeadsFit, RefusalIsOne, StepEncloses, StepExcludesRefusal, StepIsOne}
+pub use Rattle.step_chain.specs.Laws.{HeadsFit, RefusalIsOne, StepEncloses, StepExcludesRefusal, StepIsOne, WideKeepsSteps}
+pub use Rattle.step_chain.specs.Steps.{HasNoHeads, HasNoPose, IsPosed, IsStepBy, LeavesRange}
 pub use Rattle.step_chain.specs.declared.solved.Solved.{Solved}
-pub use Rattle.step_problem.specs.Conditions.{IsHead, IsProblem}
+pub use Rattle.step_problem.proofs.Pairs.{either_certifies, given_is}
+pub use Rattle.step_problem.specs.Conditions.{IsHead, IsProblem, head_limit}
 pub use Rattle.step_problem.specs.Entries.{Entries}
-pub use Rattle.step_problem.specs.Heads.{Edges, head_at, lower_at, no_bound, upper_at}
+pub use Rattle.step_problem.specs.Heads.{Edges, IsBarrier, IsCertificate, IsSettledPair, head_at, lower_at, no_bound, upper_at}
 pub use Rattle.step_problem.specs.Laws.{SettledPairExists, SettledPairIsOne}
-pub use Rattle.step_problem.specs.Settling.{AreSettled, IsPairOf, PairKind, Settles}
+pub use Rattle.step_problem.specs.Settling.{AreInside, AreSettled, IsGiven, IsPairOf, PairKind}
+pub use Rattle.step_problem.specs.Settling.PairKind.{certified, settled}
 pub use Rattle.step_problem.specs.declared.heads.Bound.{Bound}
+pub use Rattle.step_problem.specs.declared.place.NoBound.{NoBound}

@@ -1,19 +1,16 @@
 -- From a step's settled pair to the enclosure of every solution of every member.
 use Rattle.step_chain.proofs.Common.{◌≡◌, ◌∙◌, ℕ, ◌<◌, ◌^◌, inl, inr, true, List, length, sym, ap, subst, arith, ℤ, pos, ◌*ℤ◌, ◌≤ℤ◌, cases_Bool, Fraction}
-use Rattle.step_chain.proofs.Common.{Bound, Entries, Edges, head_at, lower_at, upper_at, IsProblem, AreWords, encloses_all, held_all, IsBarrierOf}
-use Rattle.step_chain.proofs.Common.{SettledPairEncloses, FlowModel, TimeStep, cell_count, is_variable, is_constant, index_of, exact_step, variable_heads}
+use Rattle.step_chain.proofs.Common.{Bound, Entries, Edges, lower_at, upper_at, IsProblem, AreWords, IsBarrierBy, IsCertificate, Limits, edges_by}
+use Rattle.step_chain.proofs.Common.{CertificateEncloses, FlowModel, TimeStep, cell_count, is_variable, is_constant, index_of, exact_step, variable_heads}
 use Rattle.step_chain.proofs.Common.{IsActive, Decks, IsConstantPairFor, ProblemFits, ProblemEncloses, ConstantPairEncloses, EnclosesSteps, HasCellsOf}
 use Rattle.step_chain.proofs.Common.{constant_same, each_member, of_member, member_cells, bound_at, AreHeadsOf, Solved, IsMove, EnclosesMove, EnclosesMoves}
-use Rattle.step_chain.proofs.Common.{StepEncloses, PairKind, IsPairOf}
-use Rattle.step_problem.specs.Settling.PairKind.{settled, certified}
+use Rattle.step_chain.proofs.Common.{StepEncloses, PairKind, IsPairOf, settled, certified, EnclosesStep, CellEncloses, LiesBetween}
 use Rattle.decimal_input.specs.Enclosures.{EnclosesSigned}
 use Rattle.decimal_input.proofs.Enclosing.{whole_signed}
-use Rattle.cell_balance.specs.Enclosures.{EnclosesStep, CellEncloses}
 use Rattle.cell_balance.specs.SolutionBounds.{EnclosesSolutions}
-use Rattle.cell_balance.specs.Solutions.{LiesBetween}
 use Rattle.cell_balance.proofs.Zips.{AllZip-length}
-use Rattle.certificate_check.proofs.Certified.{certificate_encloses}
 use Rattle.model_types.specs.Heads.{constant_head}
+use Rattle.step_chain.proofs.Limits.{held_by, uncut_by}
 use Rattle.step_chain.proofs.Assembled.{active_constant, index_below, count_is, number_is}
 
 -- a pair of either kind has one bound in range for each cell
@@ -21,11 +18,10 @@ pub pair_words : (kind : PairKind) (p : List Entries) (b : Edges) (bounds : List
 pair_words settled p b bounds h = record { whole = h.whole; low = h.pair.low.heads; high = h.pair.high.heads }
 pair_words certified p b bounds h = record { whole = h.whole; low = h.low; high = h.high }
 
-between_solutions : SettledPairEncloses → (kind : PairKind) (p : List Entries) (b : Edges) (bounds : List Bound) → IsPairOf p kind b bounds → IsProblem p → IsBarrierOf p b → EnclosesSolutions p (lower_at bounds) (upper_at bounds)
-between_solutions settled_encloses settled p b bounds h fits bars =
-    settled_encloses p b (lower_at bounds) (upper_at bounds) fits bars.fits (held_all p (head_at b.floor) bars.floors) h.pair (encloses_all p (head_at b.floor) (head_at b.ceiling) fits bars.floors bars.ceilings)
-between_solutions settled_encloses certified p b bounds h fits bars =
-    certificate_encloses p b (lower_at bounds) (upper_at bounds) fits h.certificate (held_all p (head_at b.floor) bars.floors) (encloses_all p (head_at b.floor) (head_at b.ceiling) fits bars.floors bars.ceilings)
+between_solutions : CertificateEncloses → (limits : Limits) (kind : PairKind) (p : List Entries) (b : Edges) (bounds : List Bound) → IsPairOf p kind (edges_by limits b) bounds →
+    IsCertificate p b (lower_at bounds) (upper_at bounds) → IsProblem p → IsBarrierBy limits p b → EnclosesSolutions p (lower_at bounds) (upper_at bounds)
+between_solutions certificate_encloses limits kind p b bounds h certificate fits bars =
+    certificate_encloses p b bounds fits (pair_words kind p (edges_by limits b) bounds h) (held_by limits p b bars) certificate (uncut_by limits p b fits bars)
 
 -- the head x over d lies within a bound
 record Holds (b : Bound) (d : ℕ) (x : ℤ) : Type 0 where
@@ -80,10 +76,10 @@ module _ (d : Decks) (m : FlowModel) (s : ℕ) (at : TimeStep) (old : List Bound
   follows : EnclosesMoves m s at old x
   follows before n X move = moved before n X move
 
-pub steps_enclose : ProblemFits → ProblemEncloses → ConstantPairEncloses → SettledPairEncloses → StepEncloses
-steps_enclose problem_fits problem_encloses pair_encloses settled_encloses d s at old kind x b h =
+pub steps_enclose : ProblemFits → ProblemEncloses → ConstantPairEncloses → CertificateEncloses → StepEncloses
+steps_enclose problem_fits problem_encloses pair_encloses certificate_encloses limits d s at old kind x b h =
     let fits = problem_fits d s at old x.problem b h.posed.problem in
-    let solutions = between_solutions settled_encloses kind x.problem h.barrier x.bounds h.pair fits h.posed.barrier in
+    let solutions = between_solutions certificate_encloses limits kind x.problem h.barrier x.bounds h.pair h.certificate fits h.posed.barrier in
     each_member d (λ m. EnclosesMoves m s at old x) (λ m k.
     follows d m s at old x (member_cells d m k) h.heads (of_member d (EnclosesSteps s at old x.problem) (problem_encloses d s at old x.problem b h.posed.problem) m k)
     (λ c lo hi lt e pair. of_member d (λ (f : FlowModel). EnclosesSigned lo hi 9 (constant_head f at.period at.step c)) (pair_encloses d at c lo hi (record { decks = b.decks; time = b.time; within = lt; constant = e }) pair) m k)

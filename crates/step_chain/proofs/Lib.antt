@@ -1,7 +1,10 @@
 mod Common
 pub mod Assembled
+pub mod Limits
+pub mod Clamped
 pub mod Filled
 pub mod Following
 pub mod OneStep
+pub mod Refusals
 pub mod Failing
 pub mod Parts

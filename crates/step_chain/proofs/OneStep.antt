@@ -1,11 +1,10 @@
 -- A time has one step, or one refusal, from the heads before it.
 use Rattle.step_chain.proofs.Common.{◌≡◌, ℕ, suc, ◌<◌, inl, inr, List, [], ◌∷◌, length, sym, ap, ◌∙◌, subst, refl, arith, ℤ, cases_Bool, Bound, IsProblem}
-use Rattle.step_chain.proofs.Common.{Entries, Edges, lower_at, upper_at, SettledPairIsOne, AreSettled, IsBarrierOf, BarrierIsOne, BarrierExcludesRefusal}
-use Rattle.step_chain.proofs.Common.{IsRefused, TimeStep, cell_count, is_active, is_variable, Decks, IsBefore, ProblemIsOne, ProblemExcludesRefusal}
-use Rattle.step_chain.proofs.Common.{ProblemFits, ConstantPairIsOne, ConstantPairFits, Solved, bound_at, AreHeadsOf, StepIsOne, StepExcludesRefusal}
-use Rattle.step_chain.proofs.Common.{RefusalIsOne, HeadsFit}
-use Rattle.barrier_vector.specs.Barriers.{RefusalIsOne as BarrierRefusalIsOne}
-use Rattle.deck_problems.specs.Laws.{RefusalIsOne as ProblemRefusalIsOne}
+use Rattle.step_chain.proofs.Common.{Entries, Edges, lower_at, upper_at, SettledPairIsOne, AreSettled, IsBarrierBy, CutBarrierIsOne, BarrierExcludesRefusal}
+use Rattle.step_chain.proofs.Common.{CutBarrierExcludesRefusal, Limits, Plain, Wide, edges_by, TimeStep, cell_count, is_active, is_variable, Decks, IsBefore}
+use Rattle.step_chain.proofs.Common.{ProblemIsOne, ProblemExcludesRefusal, ProblemFits, ConstantPairIsOne, ConstantPairFits, Solved, bound_at, AreHeadsOf}
+use Rattle.step_chain.proofs.Common.{StepIsOne, StepExcludesRefusal, RefusalIsOne, HeadsFit, PairKind, IsPairOf, clamped_fits, WideKeepsSteps}
+use Rattle.step_chain.proofs.Limits.{cut_by}
 use Rattle.deck_problems.proofs.Counted.{problem_count}
 use Rattle.step_chain.proofs.Assembled.{active_constant, heads_in_range}
 use Rattle.step_chain.proofs.Following.{pair_words}
@@ -39,45 +38,43 @@ heads_one pair_one d at old bounds xs ys b x y =
     ])
 
 -- so is the settled pair
-settled_one : BarrierIsOne → SettledPairIsOne → (p : List Entries) (b c : Edges) (xs ys : List Bound) → IsProblem p → IsBarrierOf p b → IsBarrierOf p c → AreSettled p b xs → AreSettled p c ys → xs ≡ ys
-settled_one barrier_one pair_one p b c xs ys fits x y first second =
-    let P : Edges → Type 0 = λ e. AreSettled p e ys in
-    let other = subst P (sym (barrier_one p b c fits x y)) second in
+pub settled_one : CutBarrierIsOne → SettledPairIsOne → (limits : Limits) (p : List Entries) (b c : Edges) (xs ys : List Bound) → IsProblem p → IsBarrierBy limits p b → IsBarrierBy limits p c →
+    AreSettled p (edges_by limits b) xs → AreSettled p (edges_by limits c) ys → xs ≡ ys
+settled_one barrier_one pair_one limits p b c xs ys fits x y first second =
+    let P : Edges → Type 0 = λ e. AreSettled p (edges_by limits e) ys in
+    let other = subst P (sym (barrier_one p b c fits (cut_by limits p b x) (cut_by limits p c y))) second in
     same_bounds xs ys (first.whole ∙ sym other.whole) (λ k within.
     let inside : k < length p = omega (arith, within, first.whole) in
-    let (low, high) = pair_one p b (lower_at ys) (upper_at ys) (lower_at xs) (upper_at xs) other.pair first.pair k inside in
+    let (low, high) = pair_one p (edges_by limits b) (lower_at ys) (upper_at ys) (lower_at xs) (upper_at xs) other.pair first.pair k inside in
     same_bound (bound_at xs k) (bound_at ys k) (low, high))
 
-pub steps_one : ProblemIsOne → ProblemFits → ConstantPairIsOne → BarrierIsOne → SettledPairIsOne → StepIsOne
-steps_one problem_one problem_fits pair_one barrier_one settled_pair_one d s at old x y b h k =
+pub steps_one : ProblemIsOne → ProblemFits → ConstantPairIsOne → CutBarrierIsOne → SettledPairIsOne → StepIsOne
+steps_one problem_one problem_fits pair_one barrier_one settled_pair_one limits d s at old x y b h k =
     let problems : x.problem ≡ y.problem = problem_one d s at old x.problem y.problem b h.posed.problem k.posed.problem in
-    let B : List Entries → Type 0 = λ p. IsBarrierOf p k.barrier in
-    let S : List Entries → Type 0 = λ p. AreSettled p k.barrier y.bounds in
+    let B : List Entries → Type 0 = λ p. IsBarrierBy limits p k.barrier in
+    let S : List Entries → Type 0 = λ p. AreSettled p (edges_by limits k.barrier) y.bounds in
     let H : List Bound → Type 0 = λ bs. AreHeadsOf d at bs y.heads in
     let fits = problem_fits d s at old x.problem b h.posed.problem in
-    let bounds : x.bounds ≡ y.bounds = settled_one barrier_one settled_pair_one x.problem h.barrier k.barrier x.bounds y.bounds fits h.posed.barrier (subst B (sym problems) k.posed.barrier) h.pair (subst S (sym problems) k.pair) in
+    let bounds : x.bounds ≡ y.bounds = settled_one barrier_one settled_pair_one limits x.problem h.barrier k.barrier x.bounds y.bounds fits h.posed.barrier (subst B (sym problems) k.posed.barrier) h.pair (subst S (sym problems) k.pair) in
     let heads : x.heads ≡ y.heads = heads_one pair_one d at old x.bounds x.heads y.heads b h.heads (subst H (sym bounds) k.heads) in
     let by_problem : List Entries → Solved = λ p. record { problem = p; bounds = x.bounds; heads = x.heads } in
     let by_bounds : List Bound → Solved = λ bs. record { problem = y.problem; bounds = bs; heads = x.heads } in
     let by_heads : List Bound → Solved = λ hs. record { problem = y.problem; bounds = y.bounds; heads = hs } in
     ap by_problem problems ∙ ap by_bounds bounds ∙ ap by_heads heads
 
-pub step_excludes : ProblemIsOne → ProblemFits → ProblemExcludesRefusal → BarrierExcludesRefusal → StepExcludesRefusal
-step_excludes problem_one problem_fits problem_excludes barrier_excludes d s at old kind x n b h (inl none) = problem_excludes d s at old x.problem n b h.posed.problem none
-step_excludes problem_one problem_fits problem_excludes barrier_excludes d s at old kind x n b h (inr (p, is, refused)) =
-    let R : List Entries → Type 0 = λ p. IsRefused p n in
-    let same = problem_one d s at old p x.problem b is h.posed.problem in
-    barrier_excludes x.problem h.barrier n (problem_fits d s at old x.problem b h.posed.problem) h.posed.barrier (subst R same refused)
-
-pub refusals_one : ProblemIsOne → ProblemExcludesRefusal → ProblemRefusalIsOne → BarrierRefusalIsOne → RefusalIsOne
-refusals_one problem_one problem_excludes of_problem of_barrier d s at old a b before (inl x) (inl y) = of_problem d s at old a b before x y
-refusals_one problem_one problem_excludes of_problem of_barrier d s at old a b before (inl x) (inr (p, is, y)) = absurd (problem_excludes d s at old p a before is x)
-refusals_one problem_one problem_excludes of_problem of_barrier d s at old a b before (inr (p, is, x)) (inl y) = absurd (problem_excludes d s at old p b before is y)
-refusals_one problem_one problem_excludes of_problem of_barrier d s at old a b before (inr (p, is, x)) (inr (q, also, y)) =
-    let R : List Entries → Type 0 = λ p. IsRefused p b in
-    of_barrier p a b x (subst R (sym (problem_one d s at old p q before is also)) y)
-
 pub all_fit : ConstantPairFits → HeadsFit
-all_fit pair_fits d s at old kind x b h =
-    heads_in_range d at x.problem x.bounds x.heads h.heads (pair_words kind x.problem h.barrier x.bounds h.pair) (problem_count d s at old x.problem h.posed.problem)
+all_fit pair_fits limits d s at old kind x b h =
+    heads_in_range d at x.problem x.bounds x.heads h.heads (pair_words kind x.problem (edges_by limits h.barrier) x.bounds h.pair) (problem_count d s at old x.problem h.posed.problem)
     (λ c lo hi lt k pair. pair_fits d at c lo hi (record { decks = b.decks; time = b.time; within = lt; constant = k }) pair)
+
+-- a step by plain limits is one by wide limits
+pub wide_keeps : WideKeepsSteps
+wide_keeps d s at old kind x h =
+    let P : Edges → Type 0 = λ e. IsPairOf x.problem kind e x.bounds in
+    record {
+      barrier = h.barrier;
+      posed = record { problem = h.posed.problem; barrier = cut_by Plain x.problem h.barrier h.posed.barrier };
+      pair = subst P (sym ((clamped_fits x.problem h.barrier).same h.posed.barrier.fits)) h.pair;
+      certificate = h.certificate;
+      heads = h.heads;
+    }

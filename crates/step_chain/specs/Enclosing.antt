@@ -1,11 +1,14 @@
 -- How a step's heads enclose every solution of the model's exact equations.
-use Rattle.std.specs.Prelude.{ℕ, ◌^◌, ◌<◌, List, length, ℤ, pos, ◌*ℤ◌, ◌≤ℤ◌}
+use Rattle.std.specs.Prelude.{ℕ, ◌^◌, ◌<◌, List, length, ℤ, pos, neg_ℤ, ◌*ℤ◌, ◌≤ℤ◌}
 use Rattle.decimal_input.specs.Fractions.{Fraction}
 use Rattle.step_problem.specs.declared.heads.Bound.{Bound}
 use Rattle.step_problem.specs.Entries.{Entries}
+use Rattle.step_problem.specs.Conditions.{head_limit}
 use Rattle.step_problem.specs.Heads.{lower_at, upper_at}
 use Rattle.cell_balance.specs.Enclosures.{EnclosesStep}
 use Rattle.cell_balance.specs.Solutions.{LiesBetween}
+use Rattle.model_types.specs.declared.limits.Limits.{Limits}
+use Rattle.model_types.specs.declared.limits.Limits.TheVariants.{Plain, Wide}
 use Rattle.model_types.specs.declared.model.FlowModel.{FlowModel}
 use Rattle.model_types.specs.declared.time_steps.TimeStep.{TimeStep}
 use Rattle.flow_equations.specs.ExactStep.{exact_step}
@@ -24,11 +27,20 @@ pub record IsMove (m : FlowModel) (at : TimeStep) (old : List Bound) (before : �
   pub some : 0 < d
   pub solves : SolvesAt m at before d X
 
--- Every solution of the exact step, from all exact heads within the old ones, lies between these heads of the variable cells of its problem.
-abbrev pub LieBetween : FlowModel → TimeStep → List Bound → List Entries → (ℕ → ℤ) → (ℕ → ℤ) → Type 0
-LieBetween m at old p l u =
+-- the heads X over d of n cells are in the range of heads
+abbrev pub IsInRange : ℕ → ℕ → (ℕ → ℤ) → Type 0
+IsInRange n d X = LiesBetween n d X (λ c. neg_ℤ (pos head_limit)) (λ c. pos head_limit)
+
+-- X lies between these bounds of n cells; with wide limits, if its heads are in range
+abbrev pub LiesBetweenBy : Limits → ℕ → ℕ → (X l u : ℕ → ℤ) → Type 0
+LiesBetweenBy Plain n d X l u = LiesBetween n d X l u
+LiesBetweenBy Wide n d X l u = IsInRange n d X → LiesBetween n d X l u
+
+-- Every solution of the exact step, from all exact heads within the old ones, lies so between these heads of the variable cells of its problem.
+abbrev pub LieBetween : Limits → FlowModel → TimeStep → List Bound → List Entries → (ℕ → ℤ) → (ℕ → ℤ) → Type 0
+LieBetween limits m at old p l u =
     (before : ℕ → Fraction) (d : ℕ) (X : ℕ → ℤ) → IsMove m at old before d X →
-    LiesBetween (length p) d (variable_heads (exact_step m at.period at.step before) X) l u
+    LiesBetweenBy limits (length p) d (variable_heads (exact_step m at.period at.step before) X) l u
 
 module _ (m : FlowModel) (s : ℕ) (at : TimeStep) where
   -- The problem encloses the exact step, and X lies between the bounds at the variable cells, and between the heads at all active cells.

@@ -3,31 +3,48 @@ use Rattle.std.specs.Prelude.{ℕ, List}
 use Rattle.step_problem.specs.declared.heads.Bound.{Bound}
 use Rattle.step_problem.specs.declared.heads.SettleFault.{SettleFault}
 use Rattle.step_problem.specs.declared.heads.SettleFault.TheVariants as settle
+use Rattle.step_problem.specs.declared.place.NoBound.{NoBound}
 use Rattle.step_problem.specs.Entries.{Entries}
 use Rattle.step_problem.specs.Heads.{Edges, OpenHeads}
-use Rattle.step_problem.specs.Settling.{IsUnfinished}
+use Rattle.step_problem.specs.Settling.{AreSettled, IsUnfinished}
+use Rattle.barrier_vector.specs.Cuts.{clamped}
 use Rattle.barrier_vector.specs.declared.BarrierFault.{BarrierFault}
 use Rattle.barrier_vector.specs.declared.BarrierFault.TheVariants as barrier
+use Rattle.certificate_check.specs.Certificates.{IsRangeRefusal}
 use Rattle.deck_problems.specs.declared.decks.Decks.{Decks}
+use Rattle.model_types.specs.declared.limits.Limits.{Limits}
+use Rattle.model_types.specs.declared.limits.Limits.TheVariants.{Plain, Wide}
 use Rattle.model_types.specs.declared.time_steps.TimeStep.{TimeStep}
 use Rattle.problem_builder.specs.declared.fault.BuildFault.{BuildFault}
 use Rattle.problem_builder.specs.declared.fault.BuildFault.TheVariants as build
 use Rattle.step_chain.specs.declared.solved.StepFault.{StepFault}
 use Rattle.step_chain.specs.declared.solved.StepFault.TheVariants as fault
+use Rattle.step_chain.specs.Barriers.{edges_by}
 use Rattle.step_chain.specs.Steps.{IsPosed, HasNoHeads}
 
 -- a settler with this many rounds gave up, and these don't settle the step
-pub record IsOpenStep (d : Decks) (s : ℕ) (at : TimeStep) (old : List Bound) (rounds : ℕ) (o : OpenHeads) : Type 0 where
+pub record IsOpenStep (limits : Limits) (d : Decks) (s : ℕ) (at : TimeStep) (old : List Bound) (rounds : ℕ) (o : OpenHeads) : Type 0 where
   pub problem : List Entries
   pub barrier : Edges
-  pub posed : IsPosed d s at old problem barrier
-  pub unfinished : IsUnfinished problem barrier rounds o
+  pub posed : IsPosed limits d s at old problem barrier
+  pub unfinished : IsUnfinished problem (edges_by limits barrier) rounds o
+
+-- with wide limits, the settled pair of a problem is no certificate over its barrier b
+abbrev pub IsNoCertificate : Limits → List Entries → Edges → NoBound → Type 0
+IsNoCertificate Plain p b n = ⊥
+IsNoCertificate Wide p b n = (bounds : List Bound) × AreSettled p (clamped b) bounds × IsRangeRefusal p b bounds n
+
+-- why the settling of a problem over its barrier b gives no pair
+abbrev pub SettlesNot : Limits → List Entries → Edges → ℕ → StepFault → Type 0
+SettlesNot limits p b rounds (fault.NoBound n) = IsNoCertificate limits p b n
+SettlesNot limits p b rounds (fault.Unfinished o) = IsUnfinished p (edges_by limits b) rounds o
+SettlesNot limits p b rounds fault.Memory = Unit {0}
 
 -- lack of memory is possible at any time
-abbrev pub FailsBy : Decks → ℕ → TimeStep → List Bound → ℕ → StepFault → Type 0
-FailsBy d s at old rounds (fault.NoBound n) = HasNoHeads d s at old n
-FailsBy d s at old rounds (fault.Unfinished o) = IsOpenStep d s at old rounds o
-FailsBy d s at old rounds fault.Memory = Unit {0}
+abbrev pub FailsBy : Limits → Decks → ℕ → TimeStep → List Bound → ℕ → StepFault → Type 0
+FailsBy limits d s at old rounds (fault.NoBound n) = HasNoHeads limits d s at old n
+FailsBy limits d s at old rounds (fault.Unfinished o) = IsOpenStep limits d s at old rounds o
+FailsBy limits d s at old rounds fault.Memory = Unit {0}
 
 -- the fault of a step by that of its builder, its barrier, its settler
 abbrev pub of_build : BuildFault → StepFault

@@ -1,4 +1,5 @@
 pub mod GridHeads
+pub mod Barriers
 pub mod Steps
 pub mod Enclosing
 pub mod Faults

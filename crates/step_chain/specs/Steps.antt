@@ -3,38 +3,55 @@ use Rattle.std.specs.Prelude.{ℕ, ◌⊎◌, List}
 use Rattle.step_problem.specs.declared.heads.Bound.{Bound}
 use Rattle.step_problem.specs.declared.place.NoBound.{NoBound}
 use Rattle.step_problem.specs.Entries.{Entries}
-use Rattle.step_problem.specs.Heads.{Edges, RoundsSettleBoth}
-use Rattle.barrier_vector.specs.Barriers.{IsBarrierOf}
-use Rattle.barrier_vector.specs.Refusals.{IsRefused}
+use Rattle.step_problem.specs.Heads.{Edges, lower_at, upper_at, IsCertificate, RoundsSettleBoth}
+use Rattle.step_problem.specs.Settling.{PairKind, AreSettled, IsPairOf}
+use Rattle.step_problem.specs.Settling.PairKind.{settled}
+use Rattle.certificate_check.specs.Certificates.{IsRangeRefusal}
+use Rattle.model_types.specs.declared.limits.Limits.{Limits}
+use Rattle.model_types.specs.declared.limits.Limits.TheVariants.{Plain, Wide}
 use Rattle.model_types.specs.declared.time_steps.TimeStep.{TimeStep}
 use Rattle.deck_problems.specs.declared.decks.Decks.{Decks}
 use Rattle.deck_problems.specs.Problems.{IsProblemFor, HasNoProblemFor}
 use Rattle.step_chain.specs.declared.solved.Solved.{Solved}
+use Rattle.step_chain.specs.Barriers.{IsBarrierBy, HasNoBarrier, edges_by}
 use Rattle.step_chain.specs.GridHeads.{AreHeadsOf}
-use Rattle.step_problem.specs.Settling.{PairKind, IsPairOf}
-use Rattle.step_problem.specs.Settling.PairKind.{settled}
 
--- A step of decks with s digits of conductances, where `old` are the heads of all cells before it.
-module _ (d : Decks) (s : ℕ) (at : TimeStep) (old : List Bound) where
+-- A step of decks with s digits of conductances, by these limits, where `old` are the heads of all cells before it.
+module _ (limits : Limits) (d : Decks) (s : ℕ) (at : TimeStep) (old : List Bound) where
   -- p is its problem, and b the problem's barrier
   pub record IsPosed (p : List Entries) (b : Edges) : Type 0 where
     pub problem : IsProblemFor d s at old p
-    pub barrier : IsBarrierOf p b
+    pub barrier : IsBarrierBy limits p b
 
-  -- x is its problem, a pair of this kind over the problem's barrier, and the heads of all cells by that pair
+  -- x is its problem, a pair of this kind over the problem's barrier, which is a certificate, and the heads of all cells by that pair
   pub record IsStepBy (kind : PairKind) (x : Solved) : Type 0 where
     pub barrier : Edges
     pub posed : IsPosed x.problem barrier
-    pub pair : IsPairOf x.problem kind barrier x.bounds
+    pub pair : IsPairOf x.problem kind (edges_by limits barrier) x.bounds
+    pub certificate : IsCertificate x.problem barrier (lower_at x.bounds) (upper_at x.bounds)
     pub heads : AreHeadsOf d at x.bounds x.heads
 
   abbrev pub IsSettledStep : Solved → Type 0
   IsSettledStep x = IsStepBy settled x
 
-  -- It has this refusal: it has no problem, or its problem no barrier.
-  abbrev pub HasNoHeads : NoBound → Type 0
-  HasNoHeads n = HasNoProblemFor d s at old n ⊎ ((p : List Entries) × IsProblemFor d s at old p × IsRefused p n)
+  -- It has this refusal before it is settled: it has no problem, or its problem no barrier.
+  abbrev pub HasNoPose : NoBound → Type 0
+  HasNoPose n = HasNoProblemFor d s at old n ⊎ ((p : List Entries) × IsProblemFor d s at old p × HasNoBarrier limits p n)
+
+  -- Its settled pair is no certificate over its barrier: a head can't leave the end of the range of heads.
+  pub record LeavesRange (n : NoBound) : Type 0 where
+    pub problem : List Entries
+    pub barrier : Edges
+    pub posed : IsPosed problem barrier
+    pub bounds : List Bound
+    pub pair : AreSettled problem (edges_by limits barrier) bounds
+    pub refused : IsRangeRefusal problem barrier bounds n
 
   -- this many plain rounds settle it
   abbrev pub SettlesIn : ℕ → Type 0
-  SettlesIn rounds = (p : List Entries) (b : Edges) → IsPosed p b → RoundsSettleBoth p b rounds
+  SettlesIn rounds = (p : List Entries) (b : Edges) → IsPosed p b → RoundsSettleBoth p (edges_by limits b) rounds
+
+-- It has this refusal. With plain limits every settled pair is a certificate.
+abbrev pub HasNoHeads : Limits → Decks → ℕ → TimeStep → List Bound → NoBound → Type 0
+HasNoHeads Plain d s at old n = HasNoPose Plain d s at old n
+HasNoHeads Wide d s at old n = HasNoPose Wide d s at old n ⊎ LeavesRange Wide d s at old n

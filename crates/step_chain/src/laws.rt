@@ -1,10 +1,13 @@
 // Laws of the steps of decks. Each is the contract of an empty function, but for the laws below that it calls.
-ghost use Rattle.step_chain.specs.Laws.{StepIsOne, StepExcludesRefusal, RefusalIsOne, HeadsFit, StepEncloses};
+ghost use Rattle.step_chain.specs.Laws.{StepIsOne, StepExcludesRefusal, RefusalIsOne, HeadsFit, StepEncloses, WideKeepsSteps};
 
 use barrier_vector::laws::{
-    no_barrier_beside_a_refusal, one_barrier, one_refusal as one_refusal_of_a_barrier,
+    no_barrier_beside_a_refusal, no_cut_barrier_beside_a_refusal, one_cut_barrier, one_cut_refusal,
+    one_refusal as one_refusal_of_a_barrier,
 };
-use certificate_check::laws::settled_pair_encloses;
+use certificate_check::laws::{
+    certificate_encloses, no_certificate_beside_a_refusal, one_range_refusal,
+};
 use deck_problems::laws::{
     constant_pairs, no_problem_beside_a_refusal, one_problem,
     one_refusal as one_refusal_of_a_problem, problems_fit,
@@ -18,7 +21,7 @@ pub fn one_step()
     one_problem();
     problems_fit();
     constant_pairs();
-    one_barrier();
+    one_cut_barrier();
     settled_pair();
 }
 
@@ -30,6 +33,10 @@ pub fn no_step_beside_a_refusal()
     problems_fit();
     no_problem_beside_a_refusal();
     no_barrier_beside_a_refusal();
+    no_cut_barrier_beside_a_refusal();
+    one_cut_barrier();
+    settled_pair();
+    no_certificate_beside_a_refusal();
 }
 
 /// A step has at most one refusal.
@@ -40,6 +47,13 @@ pub fn one_refusal()
     no_problem_beside_a_refusal();
     one_refusal_of_a_problem();
     one_refusal_of_a_barrier();
+    one_cut_refusal();
+    problems_fit();
+    no_barrier_beside_a_refusal();
+    no_cut_barrier_beside_a_refusal();
+    one_cut_barrier();
+    settled_pair();
+    one_range_refusal();
 }
 
 /// The heads of a step are in range.
@@ -55,5 +69,10 @@ pub fn steps_enclose()
 {
     problems_fit();
     constant_pairs();
-    settled_pair_encloses();
+    certificate_encloses();
 }
+
+/// A step by plain limits is one by wide limits.
+pub fn wide_keeps_steps()
+    ensures { WideKeepsSteps }
+{}

@@ -10,21 +10,23 @@ ghost use Rattle.step_chain.specs.Faults.{FailsBy};
 ghost use Rattle.step_chain.specs.Leads.{LeadsBy, LeadsOrRests};
 ghost use Rattle.step_chain.specs.Enclosing.{EnclosesMoves};
 
+use crate::barriers::{barrier_by, settle_by};
 use crate::heads::fill_in;
 use crate::laws::{heads_fit, steps_enclose};
 use crate::solved::{Solved, StepFault};
-use barrier_vector::barrier;
-use certificate_check::laws::settled_pair_encloses;
+use certificate_check::laws::{clamped_pair_encloses, settled_pair_encloses};
 use deck_problems::{DeckTables, Decks, problem_for};
-use model_types::{Listed, TimeStep};
+use model_types::{Limits, Listed, TimeStep};
 use std::alloc::Global;
 use step_problem::laws::settled_pair;
 use step_problem::{Bound, Settler};
 
 /// The step at a time, from the heads of all cells before it: its problem is built, and the settler gives its pair. `tables` are those
-/// of the run, and move to the step's period.
+/// of the run, and move to the step's period. With wide limits a floor or a ceiling out of the range of heads is cut, and a settled pair that
+/// is no certificate then is refused.
 pub fn next_step_with<S: Settler>(
     alloc: Global,
+    limits: Limits,
     decks: &Decks,
     tables: &mut DeckTables,
     at: TimeStep,
@@ -41,8 +43,8 @@ pub fn next_step_with<S: Settler>(
     ensures ready { S.ready settler.new }
     ensures tables { AreDeckTables decks.now (digits_of tables.old.first) tables.new }
     // The problem from the old heads, the settler's pair over its barrier, and the heads of all cells.
-    ensures step { IfOk result (IsStepBy decks.now (digits_of tables.old.first) at old.now S.pairs) }
-    ensures fault { IfErr result (FailsBy decks.now (digits_of tables.old.first) at old.now (S.rounds settler.old)) }
+    ensures step { IfOk result (IsStepBy limits decks.now (digits_of tables.old.first) at old.now S.pairs) }
+    ensures fault { IfErr result (FailsBy limits decks.now (digits_of tables.old.first) at old.now (S.rounds settler.old)) }
     // What `budget` and the flows between zones require.
     ensures words { IfOk result (λ r. AreWords r.problem r.bounds) }
     ensures heads { IfOk result (λ r. AreGridHeads decks.now.first r.heads) }
@@ -51,15 +53,16 @@ pub fn next_step_with<S: Settler>(
     ensures encloses { IfOk result (λ x. EachMember decks.now (λ m. EnclosesMoves m (digits_of tables.old.first) at old.now x)) }
     // Whatever the settler did, every solution of the step of each member lies between the settled pair of the problem that it was given.
     ensures leads { MatchResult result
-        (λ r. LeadsBy S.leads decks.now at old.now r.problem true settler.old settler.new)
-        (λ _. LeadsOrRests S.leads decks.now (digits_of tables.old.first) at old.now settler.old settler.new) }
+        (λ r. LeadsBy S.leads limits decks.now at old.now r.problem true settler.old settler.new)
+        (λ _. LeadsOrRests S.leads limits decks.now (digits_of tables.old.first) at old.now settler.old settler.new) }
 {
     let posed = problem_for(alloc, decks, tables, at, old)?;
-    let barrier = barrier(alloc, &posed.problem)?;
+    let barrier = barrier_by(alloc, limits, &posed.problem)?;
     settled_pair();
     settled_pair_encloses();
+    clamped_pair_encloses();
     posed.problem.recall_conditions();
-    let bounds = Listed::new(settler.settle(alloc, &posed.problem, &barrier)?);
+    let bounds = Listed::new(settle_by(alloc, limits, &posed.problem, &barrier, settler)?);
     let heads = fill_in(
         decks,
         &tables.first.period,
@@ -80,6 +83,7 @@ pub fn next_step_with<S: Settler>(
 /// anew; `next_step_with` takes tables that are kept for a run.
 pub fn next_step<S: Settler>(
     alloc: Global,
+    limits: Limits,
     decks: &Decks,
     at: TimeStep,
     old: &[Bound],
@@ -93,16 +97,16 @@ pub fn next_step<S: Settler>(
     requires digits { s ≤ 18 }
     ensures rounds { S.rounds settler.new ≡ S.rounds settler.old }
     ensures ready { S.ready settler.new }
-    ensures step { IfOk result (IsStepBy decks.now s at old.now S.pairs) }
-    ensures fault { IfErr result (FailsBy decks.now s at old.now (S.rounds settler.old)) }
+    ensures step { IfOk result (IsStepBy limits decks.now s at old.now S.pairs) }
+    ensures fault { IfErr result (FailsBy limits decks.now s at old.now (S.rounds settler.old)) }
     ensures words { IfOk result (λ r. AreWords r.problem r.bounds) }
     ensures heads { IfOk result (λ r. AreGridHeads decks.now.first r.heads) }
     ensures named { IfOk result (λ r. (c : ℕ) → IsNamed r.problem c → IsActive decks.now.first c) }
     ensures encloses { IfOk result (λ x. EachMember decks.now (λ m. EnclosesMoves m s at old.now x)) }
     ensures leads { MatchResult result
-        (λ r. LeadsBy S.leads decks.now at old.now r.problem true settler.old settler.new)
-        (λ _. LeadsOrRests S.leads decks.now s at old.now settler.old settler.new) }
+        (λ r. LeadsBy S.leads limits decks.now at old.now r.problem true settler.old settler.new)
+        (λ _. LeadsOrRests S.leads limits decks.now s at old.now settler.old settler.new) }
 {
     let mut tables = DeckTables::new(alloc, decks, s)?;
-    next_step_with(alloc, decks, &mut tables, at, old, settler)
+    next_step_with(alloc, limits, decks, &mut tables, at, old, settler)
 }

@@ -1,17 +1,15 @@
 -- A model has a whole listing, or a first refusal at one of its times.
 use Rattle.step_or_refusal.proofs.Common.{◌≡◌, ℕ, ◌⊎◌, inl, inr, Option, None, Some, Ok, Err, Result, List, [], ◌∷◌, refl, sym, subst, Bound, lower_at}
 use Rattle.step_or_refusal.proofs.Common.{upper_at, FlowModel, TimeStep, StartHeadsFit, StartHeadsExist, one_deck, StepOrRefusal, ListingOrRefusal, Bool}
-use Rattle.step_or_refusal.proofs.Common.{ProblemFits}
-use Rattle.step_problem.specs.declared.place.NoBound.{NoBound}
+use Rattle.step_or_refusal.proofs.Common.{ProblemFits, NoBound, IsBefore, Solved, edges_fit, IsSettledStep}
 use Rattle.step_problem.specs.declared.place.ZoneFlow.{ZoneFlow}
 use Rattle.model_types.specs.Times.{times}
 use Rattle.model_types.specs.Valid.{IsModel}
 use Rattle.problem_builder.specs.GridHeads.{AreGridHeads}
-use Rattle.deck_problems.specs.Laws.{IsBefore}
-use Rattle.step_chain.specs.declared.solved.Solved.{Solved}
 use Rattle.step_chain.specs.Laws.{HeadsFit}
 use Rattle.step_problem.proofs.Pairs.{settled_is}
-use Rattle.step_chain.specs.Steps.{IsSettledStep}
+use Rattle.model_types.specs.declared.limits.Limits.{Limits}
+use Rattle.step_chain.specs.Barriers.{edges_by}
 use Rattle.zone_flows.specs.TableFlows.{listed_flows}
 use Rattle.zone_flows.specs.Tables.{with_faces}
 use Rattle.zone_flows.proofs.Fitting.{faces_fit}
@@ -40,18 +38,19 @@ flows_or_large m (Some zones) x zoned =
       | inr (n, e) ↦ inr (n, is_first fs fit n e)
     ]
 
-module _ (step : StepOrRefusal) (fits : HeadsFit) (problem_fits : ProblemFits) (m : FlowModel) (s : ℕ) (zones : Option (List ℕ)) (rounds : ℕ) (quick : Bool) (valid : IsModel m) (zoned : AreZones m zones) where
+module _ (step : StepOrRefusal) (fits : HeadsFit) (problem_fits : ProblemFits) (limits : Limits) (m : FlowModel) (s : ℕ) (zones : Option (List ℕ)) (rounds : ℕ) (quick : Bool) (valid : IsModel m) (zoned : AreZones m zones) where
   abbrev task : Task
-  task = one_task m s zones rounds quick
+  task = one_task limits m s zones rounds quick
 
   -- a settled step is one of the task's kind
-  solves : (at : TimeStep) (old : List Bound) (x : Solved) → IsBefore (one_deck m) at old → IsSettledStep (one_deck m) s at old x → IsSolved task at old x
+  solves : (at : TimeStep) (old : List Bound) (x : Solved) → IsBefore (one_deck m) at old → IsSettledStep limits (one_deck m) s at old x → IsSolved task at old x
   solves at old x before settled =
       let fits = problem_fits m s at old x.problem before.decks.first before.time before.heads settled.posed.problem in
       record {
         barrier = settled.barrier;
         posed = settled.posed;
-        pair = settled_is (pairs_of task) x.problem settled.barrier x.bounds fits settled.posed.barrier.fits settled.pair;
+        pair = settled_is (pairs_of task) x.problem (edges_by limits settled.barrier) x.bounds fits (edges_fit limits x.problem settled.barrier settled.posed.barrier) settled.pair;
+        certificate = settled.certificate;
         heads = settled.heads;
       }
 
@@ -71,12 +70,12 @@ module _ (step : StepOrRefusal) (fits : HeadsFit) (problem_fits : ProblemFits) (
   listing_from [] among old heads = inl ([], tt)
   listing_from (at ∷ rest) among old heads =
       let before : IsBefore (one_deck m) at old = record { decks = record { first = valid; second = tt }; time = among.each at (first_in at rest); heads = heads } in
-      elim (step m s at old before) [
+      elim (step limits m s at old before) [
         | inr (n, none) ↦ inr ([], at, n, (refl, no_heads none))
         | inl (x, settled) ↦ elim (listed at old x (solves at old x before settled)) [
           | inr (n, none) ↦ inr ([], at, n, (refl, none))
           | inl (v, is) ↦
-              let next = subst (AreGridHeads m) (sym is.heads) (fits (one_deck m) s at old (pairs_of task) is.solved before is.solves) in
+              let next = subst (AreGridHeads m) (sym is.heads) (fits limits (one_deck m) s at old (pairs_of task) is.solved before is.solves) in
               elim (listing_from rest (rest_more (times m) at rest among) v.heads next) [
                 | inl (values, steps) ↦ inl (v ∷ values, (is, steps))
                 | inr (values, t, n, steps) ↦ inr (v ∷ values, t, n, (is, steps))
@@ -85,9 +84,9 @@ module _ (step : StepOrRefusal) (fits : HeadsFit) (problem_fits : ProblemFits) (
       ]
 
 pub a_listing : StepOrRefusal → HeadsFit → ProblemFits → StartHeadsExist → StartHeadsFit → ListingOrRefusal
-a_listing step fits problem_fits starts start_fits m s zones rounds quick valid zoned =
+a_listing step fits problem_fits starts start_fits limits m s zones rounds quick valid zoned =
     let (start, is) = starts m in
-    elim (listing_from step fits problem_fits m s zones rounds quick valid zoned (times m) (rest_whole (times m)) start (start_fits m start valid is)) [
+    elim (listing_from step fits problem_fits limits m s zones rounds quick valid zoned (times m) (rest_whole (times m)) start (start_fits m start valid is)) [
       | inl (values, steps) ↦ inl (values, record { start = start; is_start = is; steps = steps })
       | inr (values, at, n, steps) ↦ inr (values, at, n, record { start = start; is_start = is; steps = steps })
     ]

@@ -1,11 +1,75 @@
 -- A time of a valid model, from heads of all its cells, has a settled step or a refusal.
-use Rattle.step_or_refusal.proofs.Common.{inl, inr, ProblemFits, ProblemOrRefusal, ConstantPairsExist, StepOrRefusal}
+use Rattle.step_or_refusal.proofs.Common.{inl, inr, ProblemFits, ProblemOrRefusal, ConstantPairsExist, StepOrRefusal, ℕ, ℤ, List, pos, arith, ◌≤ℤ◌, ◌<ℤ◌, ◌⊎◌}
+use Rattle.step_or_refusal.proofs.Common.{Bound, Edges, FlowModel, TimeStep, lower_at, upper_at, one_deck, IsBefore, NoBound, Entries, entries_at, head_at}
+use Rattle.step_or_refusal.proofs.Common.{IsCertificate, Solved, HasNoHeads, IsSettledStep, edges_fit}
 use Rattle.step_problem.specs.Laws.{SettledPairExists}
-use Rattle.barrier_or_refusal.specs.Laws.{BarrierOrRefusal}
+use Rattle.barrier_or_refusal.specs.Laws.{BarrierOrRefusal, CutBarrierOrRefusal}
 use Rattle.step_or_refusal.proofs.Settled.{settled_list, heads_list}
+use Rattle.std.proofs.lemmas.Int.{by_lt_z, ints}
+use Rattle.step_problem.specs.declared.heads.Side.{Side}
+use Rattle.step_problem.specs.declared.heads.Side.TheVariants.{Low, High}
+use Rattle.step_problem.specs.Balances.{lower_balance, upper_balance}
+use Rattle.step_problem.proofs.BothSettle.{pair_certifies}
+use Rattle.model_types.specs.declared.limits.Limits.TheVariants.{Plain, Wide}
+use Rattle.barrier_vector.specs.Cuts.{clamped}
+use Rattle.barrier_vector.specs.Refusals.{range_on}
+use Rattle.barrier_or_refusal.proofs.Decided.{Decided}
+use Rattle.barrier_or_refusal.proofs.CutBarrier.{refuses_or_not}
+use Rattle.certificate_check.specs.Certificates.{HoldsAt, IsRangeRefusal}
 
-pub a_step : ProblemOrRefusal → ProblemFits → BarrierOrRefusal → SettledPairExists → ConstantPairsExist → StepOrRefusal
-a_step problem fits barrier settled pairs m s at old before =
+-- one of two comparisons holds, or none does
+neither : (a b c d : ℤ) → b <ℤ a → d <ℤ c → (a ≤ℤ b) ⊎ (c ≤ℤ d) → ⊥
+neither a b c d past too (inl h) = omega (arith, ints, past, h)
+neither a b c d past too (inr h) = omega (arith, ints, too, h)
+
+one_or_none : (a b c d : ℤ) → ((a ≤ℤ b) ⊎ (c ≤ℤ d)) ⊎ ((a ≤ℤ b) ⊎ (c ≤ℤ d) → ⊥)
+one_or_none a b c d = by_lt_z b a (λ past. by_lt_z d c (λ too. inr (neither a b c d past too)) (λ h. inl (inr h))) (λ h. inl (inl h))
+
+-- so whether a certificate holds at a side of a cell is decided
+holds_decided : (p : List Entries) (b : Edges) (bounds : List Bound) (side : Side) (c : ℕ) → Decided (HoldsAt p b bounds c side)
+holds_decided p b bounds Low c = one_or_none (lower_at bounds c) (head_at b.floor c) (pos 0) (lower_balance (entries_at p c) (lower_at bounds c) (lower_at bounds))
+holds_decided p b bounds High c = one_or_none (head_at b.ceiling c) (upper_at bounds c) (upper_balance (entries_at p c) (upper_at bounds c) (upper_at bounds)) (pos 0)
+
+not_decided : {P : Type 0} → Decided P → Decided (P → ⊥)
+not_decided (inl holds) = inr (λ fails. fails holds)
+not_decided (inr fails) = inl fails
+
+stable : {P : Type 0} → Decided P → ((P → ⊥) → ⊥) → P
+stable (inl holds) twice = holds
+stable (inr fails) twice = absurd (twice fails)
+
+-- it is one, or there is a refusal for the range of heads
+certificate_or_refusal : (p : List Entries) (b : Edges) (bounds : List Bound) → IsCertificate p b (lower_at bounds) (upper_at bounds) ⊎ ((n : NoBound) × IsRangeRefusal p b bounds n)
+certificate_or_refusal p b bounds =
+    elim (refuses_or_not range_on (λ side c. HoldsAt p b bounds c side → ⊥) p (λ side c lt. not_decided (holds_decided p b bounds side c))) [
+      | inr refused ↦ inr refused
+      | inl (low, high) ↦ inl (record { low = λ c lt. stable (holds_decided p b bounds Low c) (low c lt); high = λ c lt. stable (holds_decided p b bounds High c) (high c lt) })
+    ]
+
+wide_step : ProblemOrRefusal → ProblemFits → CutBarrierOrRefusal → SettledPairExists → ConstantPairsExist → (m : FlowModel) (s : ℕ) (at : TimeStep) (old : List Bound) → IsBefore (one_deck m) at old →
+    ((x : Solved) × IsSettledStep Wide (one_deck m) s at old x) ⊎ ((n : NoBound) × HasNoHeads Wide (one_deck m) s at old n)
+wide_step problem fits barrier settled pairs m s at old before =
+    elim (problem m s at old before.decks.first before.time) [
+      | inr (n, none) ↦ inr (n, inl (inl none))
+      | inl (p, is) ↦
+          let ok = fits m s at old p before.decks.first before.time before.heads is in
+          elim (barrier p ok) [
+            | inr (n, refused) ↦ inr (n, inl (inr (p, is, refused)))
+            | inl (b, b_is) ↦
+                let (l, u, pair) = settled p (clamped b) ok (edges_fit Wide p b b_is) in
+                let (bounds, are) = settled_list p (clamped b) l u ok pair in
+                elim (certificate_or_refusal p b bounds) [
+                  | inr (n, refused) ↦ inr (n, inr (record { problem = p; barrier = b; posed = record { problem = is; barrier = b_is }; bounds = bounds; pair = are; refused = refused }))
+                  | inl certificate ↦
+                      let (heads, heads_are) = heads_list m at (λ c. pairs m at c before.decks.first before.time) bounds in
+                      inl (record { problem = p; bounds = bounds; heads = heads }, record { barrier = b; posed = record { problem = is; barrier = b_is }; pair = are; certificate = certificate; heads = heads_are })
+                ]
+          ]
+    ]
+
+pub a_step : ProblemOrRefusal → ProblemFits → BarrierOrRefusal → CutBarrierOrRefusal → SettledPairExists → ConstantPairsExist → StepOrRefusal
+a_step problem fits barrier cut settled pairs Wide m s at old before = wide_step problem fits cut settled pairs m s at old before
+a_step problem fits barrier cut settled pairs Plain m s at old before =
     elim (problem m s at old before.decks.first before.time) [
       | inr (n, none) ↦ inr (n, inl none)
       | inl (p, is) ↦
@@ -16,6 +80,6 @@ a_step problem fits barrier settled pairs m s at old before =
                 let (l, u, pair) = settled p b ok b_is.fits in
                 let (bounds, are) = settled_list p b l u ok pair in
                 let (heads, heads_are) = heads_list m at (λ c. pairs m at c before.decks.first before.time) bounds in
-                inl (record { problem = p; bounds = bounds; heads = heads }, record { barrier = b; posed = record { problem = is; barrier = b_is }; pair = are; heads = heads_are })
+                inl (record { problem = p; bounds = bounds; heads = heads }, record { barrier = b; posed = record { problem = is; barrier = b_is }; pair = are; certificate = pair_certifies p b (lower_at bounds) (upper_at bounds) ok b_is.fits are.pair; heads = heads_are })
           ]
     ]

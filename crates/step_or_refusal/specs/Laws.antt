@@ -2,6 +2,7 @@
 use Rattle.std.specs.Prelude.{ℕ, ◌⊎◌, List, Bool, Option}
 use Rattle.step_problem.specs.declared.heads.Bound.{Bound}
 use Rattle.step_problem.specs.declared.place.NoBound.{NoBound}
+use Rattle.model_types.specs.declared.limits.Limits.{Limits}
 use Rattle.model_types.specs.declared.model.FlowModel.{FlowModel}
 use Rattle.model_types.specs.declared.time_steps.TimeStep.{TimeStep}
 use Rattle.model_types.specs.Valid.{IsModel}
@@ -18,12 +19,12 @@ use Rattle.zone_pairs.specs.Zones.{AreZones}
 -- A time of a valid model, from heads of all its cells, has a settled step or a refusal.
 abbrev pub StepOrRefusal : Type 0
 StepOrRefusal =
-    (m : FlowModel) (s : ℕ) (at : TimeStep) (old : List Bound) → IsBefore (one_deck m) at old →
-    ((x : Solved) × IsSettledStep (one_deck m) s at old x) ⊎ ((n : NoBound) × HasNoHeads (one_deck m) s at old n)
+    (limits : Limits) (m : FlowModel) (s : ℕ) (at : TimeStep) (old : List Bound) → IsBefore (one_deck m) at old →
+    ((x : Solved) × IsSettledStep limits (one_deck m) s at old x) ⊎ ((n : NoBound) × HasNoHeads limits (one_deck m) s at old n)
 
 -- A model has a whole listing, with the flows between its zones if there is a zone file, or a first refusal at one of its times.
 abbrev pub ListingOrRefusal : Type 0
 ListingOrRefusal =
-    (m : FlowModel) (s : ℕ) (zones : Option (List ℕ)) (rounds : ℕ) (quick : Bool) → IsModel m → AreZones m zones →
-    ((values : List Step) × AllSteps (one_task m s zones rounds quick) values ends.Whole)
-    ⊎ ((values : List Step) × (at : TimeStep) × (n : NoBound) × AllSteps (one_task m s zones rounds quick) values (ends.NoBound at n))
+    (limits : Limits) (m : FlowModel) (s : ℕ) (zones : Option (List ℕ)) (rounds : ℕ) (quick : Bool) → IsModel m → AreZones m zones →
+    ((values : List Step) × AllSteps (one_task limits m s zones rounds quick) values ends.Whole)
+    ⊎ ((values : List Step) × (at : TimeStep) × (n : NoBound) × AllSteps (one_task limits m s zones rounds quick) values (ends.NoBound at n))

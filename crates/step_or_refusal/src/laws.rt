@@ -1,7 +1,7 @@
 // Steps and listings exist, or a refusal says why not. Each law is the contract of a function without results, which calls the laws below that it stands on.
 ghost use Rattle.step_or_refusal.specs.Laws.{StepOrRefusal, ListingOrRefusal};
 
-use barrier_or_refusal::laws::barrier_or_refusal;
+use barrier_or_refusal::laws::{barrier_or_refusal, cut_barrier_or_refusal};
 use problem_builder::laws::{problems_fit, start_heads_fit};
 use problem_or_refusal::laws::{constant_pairs_exist, problem_or_refusal, start_heads_exist};
 use step_chain::laws::heads_fit;
@@ -14,6 +14,7 @@ pub fn step_or_refusal()
     problem_or_refusal();
     problems_fit();
     barrier_or_refusal();
+    cut_barrier_or_refusal();
     settled_pair();
     constant_pairs_exist();
 }

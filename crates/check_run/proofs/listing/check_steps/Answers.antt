@@ -14,7 +14,7 @@ loop-index-init c =
     record {
       digits = refl;
       tables = c.requires.tables;
-      so_far = at_first decks (digits_of c.args.tables.now.first) (option_map (λ z. z.now) c.args.zones) c.args.listing.now c.as_slice-start.result.now (subst B lent c.in_ok-start_heads.ensures.bounds) (subst G lent c.in_ok-start_heads.ensures.heads) (subst E lent c.in_ok-start_heads.ensures.encloses) c.requires.listing;
+      so_far = at_first c.args.limits decks (digits_of c.args.tables.now.first) (option_map (λ z. z.now) c.args.zones) c.args.listing.now c.as_slice-start.result.now (subst B lent c.in_ok-start_heads.ensures.bounds) (subst G lent c.in_ok-start_heads.ensures.heads) (subst E lent c.in_ok-start_heads.ensures.encloses) c.requires.listing;
     }
 
 pub check_listed-requires-clause-old : goal.check_listed-requires-clause-old
@@ -33,20 +33,20 @@ check_listed-requires-clause-heads c =
     let is = c.as_slice-at-items.ensures.value ∙ c.in_ok-times.ensures.times in
     let P : List Bound → Type 0 = AreGridHeads c.args.decks.now.first in
     subst P (sym c.heads-heads.ensures) (grid_of c.args.decks.now.first (step_in c.args.listing.now c.loop-index.index)
-    (listed_at c.args.decks.now (digits_of c.args.tables.now.first) (option_map (λ z. z.now) c.args.zones) c.args.listing.now c.as_slice-start.result.now c.loop-index.index c.as_slice-at-items.result.now (record { period = 0; step = 0 }) is c.requires.listing c.loop-index-test.true c.loop-index.invariant.so_far
+    (listed_at c.args.limits c.args.decks.now (digits_of c.args.tables.now.first) (option_map (λ z. z.now) c.args.zones) c.args.listing.now c.as_slice-start.result.now c.loop-index.index c.as_slice-at-items.result.now (record { period = 0; step = 0 }) is c.requires.listing c.loop-index-test.true c.loop-index.invariant.so_far
     _ c.loop-index.invariant.digits c.heads_before-old.result.now c.heads-heads.result.now c.budget-budget.result.now c.zones-flows.result.now c.heads_before-old.ensures c.heads-heads.ensures c.budget-budget.ensures c.zones-flows.ensures))
 
 pub check_listed-requires-clause-flows : goal.check_listed-requires-clause-flows
 check_listed-requires-clause-flows c =
     let is = c.as_slice-at-items.ensures.value ∙ c.in_ok-times.ensures.times in
-    flows_here c.args.decks.now (digits_of c.args.tables.now.first) (option_map (λ z. z.now) c.args.zones) c.args.listing.now c.as_slice-start.result.now c.loop-index.index c.as_slice-at-items.result.now (record { period = 0; step = 0 }) is c.requires.listing c.loop-index-test.true c.loop-index.invariant.so_far
+    flows_here c.args.limits c.args.decks.now (digits_of c.args.tables.now.first) (option_map (λ z. z.now) c.args.zones) c.args.listing.now c.as_slice-start.result.now c.loop-index.index c.as_slice-at-items.result.now (record { period = 0; step = 0 }) is c.requires.listing c.loop-index-test.true c.loop-index.invariant.so_far
     _ c.loop-index.invariant.digits c.heads_before-old.result.now c.heads-heads.result.now c.budget-budget.result.now c.zones-flows.result.now c.heads_before-old.ensures c.heads-heads.ensures c.budget-budget.ensures c.zones-flows.ensures
 
 pub returns-in-Err-clause-verdict : goal.returns-in-Err-clause-verdict
 returns-in-Err-clause-verdict c =
     let is = c.as_slice-at-items.ensures.value ∙ c.in_ok-times.ensures.times in
     ok_follows _ _ c.verdict_at.result
-    (λ v h. stops_here c.args.decks.now (digits_of c.args.tables.now.first) (option_map (λ z. z.now) c.args.zones) c.args.listing.now c.as_slice-start.result.now c.loop-index.index c.as_slice-at-items.result.now (record { period = 0; step = 0 }) is c.requires.listing c.loop-index-test.true c.loop-index.invariant.so_far
+    (λ v h. stops_here c.args.limits c.args.decks.now (digits_of c.args.tables.now.first) (option_map (λ z. z.now) c.args.zones) c.args.listing.now c.as_slice-start.result.now c.loop-index.index c.as_slice-at-items.result.now (record { period = 0; step = 0 }) is c.requires.listing c.loop-index-test.true c.loop-index.invariant.so_far
     _ c.loop-index.invariant.digits c.heads_before-old.result.now c.heads-heads.result.now c.budget-budget.result.now c.zones-flows.result.now c.heads_before-old.ensures c.heads-heads.ensures c.budget-budget.ensures c.zones-flows.ensures c.in-Err.fault v c.in-Err.ensures.fault h)
     c.verdict_at.ensures
 
@@ -54,8 +54,8 @@ pub returns-in-Err-clause-only : goal.returns-in-Err-clause-only
 returns-in-Err-clause-only c =
     let is = c.as_slice-at-items.ensures.value ∙ c.in_ok-times.ensures.times in
     ok_follows _ _ c.verdict_at.result
-    (λ v h other k. c.one_verdict.ensures c.args.decks.now (digits_of c.args.tables.now.first) (option_map (λ z. z.now) c.args.zones) c.args.listing.now other v c.requires.decks c.requires.listing k
-    (stops_here c.args.decks.now (digits_of c.args.tables.now.first) (option_map (λ z. z.now) c.args.zones) c.args.listing.now c.as_slice-start.result.now c.loop-index.index c.as_slice-at-items.result.now (record { period = 0; step = 0 }) is c.requires.listing c.loop-index-test.true c.loop-index.invariant.so_far
+    (λ v h other k. c.one_verdict.ensures c.args.limits c.args.decks.now (digits_of c.args.tables.now.first) (option_map (λ z. z.now) c.args.zones) c.args.listing.now other v c.requires.decks c.requires.listing k
+    (stops_here c.args.limits c.args.decks.now (digits_of c.args.tables.now.first) (option_map (λ z. z.now) c.args.zones) c.args.listing.now c.as_slice-start.result.now c.loop-index.index c.as_slice-at-items.result.now (record { period = 0; step = 0 }) is c.requires.listing c.loop-index-test.true c.loop-index.invariant.so_far
     _ c.loop-index.invariant.digits c.heads_before-old.result.now c.heads-heads.result.now c.budget-budget.result.now c.zones-flows.result.now c.heads_before-old.ensures c.heads-heads.ensures c.budget-budget.ensures c.zones-flows.ensures c.in-Err.fault v c.in-Err.ensures.fault h))
     c.verdict_at.ensures
 
@@ -71,27 +71,27 @@ loop-index-preserved c =
     record {
       digits = c.check_listed.ensures.tables.first.digits ∙ c.loop-index.invariant.digits;
       tables = (let T : ℕ → Type 0 = λ k. AreDeckTables c.args.decks.now k c.check_listed.new.tables in subst T (sym c.check_listed.ensures.tables.first.digits) c.check_listed.ensures.tables);
-      so_far = goes_here c.args.decks.now (digits_of c.args.tables.now.first) (option_map (λ z. z.now) c.args.zones) c.args.listing.now c.as_slice-start.result.now c.loop-index.index c.as_slice-at-items.result.now (record { period = 0; step = 0 }) is c.requires.listing c.loop-index-test.true c.loop-index.invariant.so_far
+      so_far = goes_here c.args.limits c.args.decks.now (digits_of c.args.tables.now.first) (option_map (λ z. z.now) c.args.zones) c.args.listing.now c.as_slice-start.result.now c.loop-index.index c.as_slice-at-items.result.now (record { period = 0; step = 0 }) is c.requires.listing c.loop-index-test.true c.loop-index.invariant.so_far
           _ c.loop-index.invariant.digits c.heads_before-old.result.now c.heads-heads.result.now c.budget-budget.result.now c.zones-flows.result.now c.heads_before-old.ensures c.heads-heads.ensures c.budget-budget.ensures c.zones-flows.ensures c.in-Ok.ensures.passes c.in-Ok.ensures.encloses;
     }
 
 pub returns-clause-verdict : goal.returns-clause-verdict
 returns-clause-verdict c =
     let is = c.as_slice-at-items.ensures.value ∙ c.in_ok-times.ensures.times in
-    ends_certified c.args.decks.now (digits_of c.args.tables.now.first) (option_map (λ z. z.now) c.args.zones) c.args.listing.now _ c.loop-index.index c.as_slice-at-items.result.now is c.requires.listing c.loop-index-test.false c.loop-index.invariant.so_far
+    ends_certified c.args.limits c.args.decks.now (digits_of c.args.tables.now.first) (option_map (λ z. z.now) c.args.zones) c.args.listing.now _ c.loop-index.index c.as_slice-at-items.result.now is c.requires.listing c.loop-index-test.false c.loop-index.invariant.so_far
 
 pub returns-clause-only : goal.returns-clause-only
 returns-clause-only c = λ other k.
     let is = c.as_slice-at-items.ensures.value ∙ c.in_ok-times.ensures.times in
-    c.one_verdict.ensures c.args.decks.now (digits_of c.args.tables.now.first) (option_map (λ z. z.now) c.args.zones) c.args.listing.now other _ c.requires.decks c.requires.listing k
-    (ends_certified c.args.decks.now (digits_of c.args.tables.now.first) (option_map (λ z. z.now) c.args.zones) c.args.listing.now _ c.loop-index.index c.as_slice-at-items.result.now is c.requires.listing c.loop-index-test.false c.loop-index.invariant.so_far)
+    c.one_verdict.ensures c.args.limits c.args.decks.now (digits_of c.args.tables.now.first) (option_map (λ z. z.now) c.args.zones) c.args.listing.now other _ c.requires.decks c.requires.listing k
+    (ends_certified c.args.limits c.args.decks.now (digits_of c.args.tables.now.first) (option_map (λ z. z.now) c.args.zones) c.args.listing.now _ c.loop-index.index c.as_slice-at-items.result.now is c.requires.listing c.loop-index-test.false c.loop-index.invariant.so_far)
 
 pub returns-clause-encloses : goal.returns-clause-encloses
 returns-clause-encloses c = λ same.
     let is = c.as_slice-at-items.ensures.value ∙ c.in_ok-times.ensures.times in
-    ends_enclosed c.args.decks.now (digits_of c.args.tables.now.first) (option_map (λ z. z.now) c.args.zones) c.args.listing.now _ c.loop-index.index c.as_slice-at-items.result.now is c.requires.listing c.loop-index-test.false c.loop-index.invariant.so_far
+    ends_enclosed c.args.limits c.args.decks.now (digits_of c.args.tables.now.first) (option_map (λ z. z.now) c.args.zones) c.args.listing.now _ c.loop-index.index c.as_slice-at-items.result.now is c.requires.listing c.loop-index-test.false c.loop-index.invariant.so_far
 
 pub returns-clause-history : goal.returns-clause-history
 returns-clause-history c = λ same.
     let is = c.as_slice-at-items.ensures.value ∙ c.in_ok-times.ensures.times in
-    ends_history c.args.decks.now (digits_of c.args.tables.now.first) (option_map (λ z. z.now) c.args.zones) c.args.listing.now c.requires.decks _ c.loop-index.index c.as_slice-at-items.result.now is c.requires.listing c.loop-index-test.false c.loop-index.invariant.so_far
+    ends_history c.args.limits c.args.decks.now (digits_of c.args.tables.now.first) (option_map (λ z. z.now) c.args.zones) c.args.listing.now c.requires.decks _ c.loop-index.index c.as_slice-at-items.result.now is c.requires.listing c.loop-index-test.false c.loop-index.invariant.so_far

@@ -5,13 +5,13 @@ use Rattle.check_run.proofs.posed.pose.Goals as goal
 pub returns-in_err-barrier-clause-fault : goal.returns-in_err-barrier-clause-fault
 returns-in_err-barrier-clause-fault c =
     let p = err_from_is_err_and c.from_residual-in_err-barrier.result c.from_residual-in_err-barrier.ensures.1 in
-    rw (p.1, p.2) (barrier_unposed c.args.decks.now (digits_of c.args.tables.now.first) c.args.at c.args.old.now c.in_ok-made.made.problem c.in_ok-made.ensures.problem c.in_err-barrier.field-0.0 c.in_err-barrier.ensures.refusal)
+    rw (p.1, p.2) (barrier_unposed c.args.limits c.args.decks.now (digits_of c.args.tables.now.first) c.args.at c.args.old.now c.in_ok-made.made.problem c.in_ok-made.ensures.problem c.in_err-barrier.field-0.0 c.in_err-barrier.ensures.fault)
 
 pub returns-clause-posed : goal.returns-clause-posed
 returns-clause-posed c = record {
   posed = record {
     problem = c.in_ok-made.ensures.problem;
-    barrier = record { fits = c.in_ok-barrier.ensures.barrier; floors = c.in_ok-barrier.ensures.floors; ceilings = c.in_ok-barrier.ensures.ceilings };
+    barrier = c.in_ok-barrier.ensures.barrier;
   };
   held = c.in_ok-barrier.ensures.held;
   solutions = c.in_ok-barrier.ensures.encloses;

@@ -1,5 +1,5 @@
 use Rattle.check_run.proofs.Common.{◌∙◌, List, option_map, subst, sym, arith, err_from_is_err_and, Bound, AreWords, digits_of, IsCovered, IsUncovered}
-use Rattle.check_run.proofs.Common.{are_numbers}
+use Rattle.check_run.proofs.Common.{are_numbers, cut_by}
 use Rattle.check_run.proofs.Checking.{err_follows, ok_follows}
 use Rattle.check_run.proofs.HullPairs.{flows_have_pairs}
 use Rattle.check_run.proofs.Listed.{are_words, id_within}
@@ -8,10 +8,16 @@ use Rattle.check_run.proofs.step.check_listed.Goals as goal
 
 pub returns-in-Some-clause-fault : goal.returns-in-Some-clause-fault
 returns-in-Some-clause-fault c =
-    constant_fails c.args.decks.now (digits_of c.args.tables.now.first) (option_map (λ z. z.now) c.args.zones) c.args.at c.args.old.now c.in_ok-posed.posed c.in_ok-posed.ensures.posed c.args.heads.now c.args.listed.now c.args.flows.now c.in-Some.cell c.in-Some.side c.in-Some.ensures
+    constant_fails c.args.limits c.args.decks.now (digits_of c.args.tables.now.first) (option_map (λ z. z.now) c.args.zones) c.args.at c.args.old.now c.in_ok-posed.posed c.in_ok-posed.ensures.posed c.args.heads.now c.args.listed.now c.args.flows.now c.in-Some.cell c.in-Some.side c.in-Some.ensures
 
 pub bounds_of-requires : goal.bounds_of-requires
 bounds_of-requires c = λ k lt. omega (arith, id_within c.args.decks.now c.args.at c.args.heads.now c.in_ok-posed.posed.problem c.in_ok-posed.ensures.posed.cells k lt, c.requires.heads.whole)
+
+pub certified-requires-clause-floors : goal.certified-requires-clause-floors
+certified-requires-clause-floors c = let posed = c.in_ok-posed.ensures.posed in (cut_by c.args.limits c.in_ok-posed.posed.problem c.in_ok-posed.posed.barrier posed.posed.barrier).floors.whole
+
+pub certified-requires-clause-ceilings : goal.certified-requires-clause-ceilings
+certified-requires-clause-ceilings c = let posed = c.in_ok-posed.ensures.posed in (cut_by c.args.limits c.in_ok-posed.posed.problem c.in_ok-posed.posed.barrier posed.posed.barrier).ceilings.whole
 
 pub certified-requires-clause-bounds : goal.certified-requires-clause-bounds
 certified-requires-clause-bounds c =
@@ -24,7 +30,7 @@ returns-in_err-certified-clause-fault c =
     let p = err_from_is_err_and c.from_residual-in_err-certified.result c.from_residual-in_err-certified.ensures.1 in
     let x = c.in_ok-posed.posed in
     let posed = c.in_ok-posed.ensures.posed in
-    rw (p.1, p.2) (variable_fails c.args.decks.now (digits_of c.args.tables.now.first) (option_map (λ z. z.now) c.args.zones) c.args.at c.args.old.now x posed c.args.heads.now c.args.listed.now c.args.flows.now c.in_default.ensures c.in_ok-bounds.bounds.items c.as_slice.result.now c.as_slice.ensures.value c.in_ok-bounds.ensures c.in_err-certified.field-0.0 c.in_err-certified.ensures.fails)
+    rw (p.1, p.2) (variable_fails c.args.limits c.args.decks.now (digits_of c.args.tables.now.first) (option_map (λ z. z.now) c.args.zones) c.args.at c.args.old.now x posed c.args.heads.now c.args.listed.now c.args.flows.now c.in_default.ensures c.in_ok-bounds.bounds.items c.as_slice.result.now c.as_slice.ensures.value c.in_ok-bounds.ensures c.in_err-certified.field-0.0 c.in_err-certified.ensures.fails)
 
 pub covered-requires : goal.covered-requires
 covered-requires c =
@@ -39,7 +45,7 @@ returns-in_err-covered-clause-fault c =
     let posed = c.in_ok-posed.ensures.posed in
     let e = c.in_err-covered.field-0.0 in
     let U : List Bound → Type 0 = λ v. IsUncovered x.problem v c.args.listed.now e in
-    rw (p.1, p.2) (term_fails c.args.decks.now (digits_of c.args.tables.now.first) (option_map (λ z. z.now) c.args.zones) c.args.at c.args.old.now x posed c.args.heads.now c.args.listed.now c.args.flows.now c.in_default.ensures c.in_ok-bounds.bounds.items c.as_slice.result.now c.as_slice.ensures.value c.in_ok-bounds.ensures c.in_ok-certified.ensures.certificate e (subst U (c.as_slice-2.ensures.value ∙ sym c.as_slice.ensures.value) c.in_err-covered.ensures.fails))
+    rw (p.1, p.2) (term_fails c.args.limits c.args.decks.now (digits_of c.args.tables.now.first) (option_map (λ z. z.now) c.args.zones) c.args.at c.args.old.now x posed c.args.heads.now c.args.listed.now c.args.flows.now c.in_default.ensures c.in_ok-bounds.bounds.items c.as_slice.result.now c.as_slice.ensures.value c.in_ok-bounds.ensures c.in_ok-certified.ensures.certificate e (subst U (c.as_slice-2.ensures.value ∙ sym c.as_slice.ensures.value) c.in_err-covered.ensures.fails))
 
 pub wide-requires-clause-pairs : goal.wide-requires-clause-pairs
 wide-requires-clause-pairs c = λ flows are.
@@ -55,7 +61,7 @@ returns-clause-passes c =
     let posed = c.in_ok-posed.ensures.posed in
     let C : List Bound → Type 0 = λ v. IsCovered x.problem v c.args.listed.now in
     ok_follows _ _ c.wide.result
-    (λ u h. step_passes c.args.decks.now (digits_of c.args.tables.now.first) (option_map (λ z. z.now) c.args.zones) c.args.at c.args.old.now x posed c.args.heads.now c.args.listed.now c.args.flows.now c.in_default.ensures c.in_ok-bounds.bounds.items c.as_slice.result.now c.as_slice.ensures.value c.in_ok-bounds.ensures c.in_ok-certified.ensures.certificate (subst C (c.as_slice-2.ensures.value ∙ sym c.as_slice.ensures.value) c.in_ok-covered.ensures.covers) h)
+    (λ u h. step_passes c.args.limits c.args.decks.now (digits_of c.args.tables.now.first) (option_map (λ z. z.now) c.args.zones) c.args.at c.args.old.now x posed c.args.heads.now c.args.listed.now c.args.flows.now c.in_default.ensures c.in_ok-bounds.bounds.items c.as_slice.result.now c.as_slice.ensures.value c.in_ok-bounds.ensures c.in_ok-certified.ensures.certificate (subst C (c.as_slice-2.ensures.value ∙ sym c.as_slice.ensures.value) c.in_ok-covered.ensures.covers) h)
     c.wide.ensures.wide
 
 pub returns-clause-fault : goal.returns-clause-fault
@@ -64,7 +70,7 @@ returns-clause-fault c =
     let posed = c.in_ok-posed.ensures.posed in
     let C : List Bound → Type 0 = λ v. IsCovered x.problem v c.args.listed.now in
     err_follows _ _ c.wide.result
-    (λ e h. zones_fail c.args.decks.now (digits_of c.args.tables.now.first) (option_map (λ z. z.now) c.args.zones) c.args.at c.args.old.now x posed c.args.heads.now c.args.listed.now c.args.flows.now c.in_default.ensures c.in_ok-bounds.bounds.items c.as_slice.result.now c.as_slice.ensures.value c.in_ok-bounds.ensures c.in_ok-certified.ensures.certificate (subst C (c.as_slice-2.ensures.value ∙ sym c.as_slice.ensures.value) c.in_ok-covered.ensures.covers) e h)
+    (λ e h. zones_fail c.args.limits c.args.decks.now (digits_of c.args.tables.now.first) (option_map (λ z. z.now) c.args.zones) c.args.at c.args.old.now x posed c.args.heads.now c.args.listed.now c.args.flows.now c.in_default.ensures c.in_ok-bounds.bounds.items c.as_slice.result.now c.as_slice.ensures.value c.in_ok-bounds.ensures c.in_ok-certified.ensures.certificate (subst C (c.as_slice-2.ensures.value ∙ sym c.as_slice.ensures.value) c.in_ok-covered.ensures.covers) e h)
     c.wide.ensures.fails
 
 pub returns-clause-encloses : goal.returns-clause-encloses
@@ -73,5 +79,5 @@ returns-clause-encloses c =
     let posed = c.in_ok-posed.ensures.posed in
     let C : List Bound → Type 0 = λ v. IsCovered x.problem v c.args.listed.now in
     ok_follows _ _ c.wide.result
-    (λ u h. step_moves c.args.decks.now (digits_of c.args.tables.now.first) (option_map (λ z. z.now) c.args.zones) c.args.at c.args.old.now x posed c.args.heads.now c.args.listed.now c.args.flows.now c.in_default.ensures c.in_ok-bounds.bounds.items c.as_slice.result.now c.as_slice.ensures.value c.in_ok-bounds.ensures c.requires.decks c.requires.time c.constant_pairs.ensures.encloses c.cover_encloses.ensures c.heads_within.ensures (c.in_ok-certified.ensures.encloses posed.held posed.solutions) (subst C (c.as_slice-2.ensures.value ∙ sym c.as_slice.ensures.value) c.in_ok-covered.ensures.covers) h)
+    (λ u h. step_moves c.args.limits c.args.decks.now (digits_of c.args.tables.now.first) (option_map (λ z. z.now) c.args.zones) c.args.at c.args.old.now x posed c.args.heads.now c.args.listed.now c.args.flows.now c.in_default.ensures c.in_ok-bounds.bounds.items c.as_slice.result.now c.as_slice.ensures.value c.in_ok-bounds.ensures c.requires.decks c.requires.time c.constant_pairs.ensures.encloses c.cover_encloses.ensures c.heads_within.ensures (c.in_ok-certified.ensures.encloses posed.held posed.solutions) (subst C (c.as_slice-2.ensures.value ∙ sym c.as_slice.ensures.value) c.in_ok-covered.ensures.covers) h)
     c.wide.ensures.wide

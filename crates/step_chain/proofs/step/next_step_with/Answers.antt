@@ -1,9 +1,10 @@
-use Rattle.step_chain.proofs.Common.{List, false, inr, subst, sym, true, Bound, IsBarrierOf, IsBefore, Solved, AreHeadsOf, PairKind, IsPairOf}
+use Rattle.step_chain.proofs.Common.{List, subst, sym, true, Bound, IsBefore, Solved, AreHeadsOf, IsCertificate, PairKind, IsPairOf, edges_by, lower_at}
+use Rattle.step_chain.proofs.Common.{upper_at}
 use Rattle.std.proofs.lemmas.Result.{err_from_is_err_and}
 use Rattle.deck_problems.specs.Kept.{digits_of}
 use Rattle.step_chain.proofs.Failing.{barrier_fails, settle_fails}
 use Rattle.step_chain.proofs.Following.{pair_words}
-use Rattle.step_chain.proofs.Parts.{AreParts, is_step, led_by}
+use Rattle.step_chain.proofs.Parts.{AreParts, is_step, leads_or_rests, led_by}
 use Rattle.step_chain.proofs.step.next_step_with.Goals.{After-heads_fit}
 use Rattle.step_chain.proofs.step.next_step_with.Given as given
 use Rattle.step_chain.proofs.step.next_step_with.Goals as goal
@@ -11,23 +12,18 @@ use Rattle.step_chain.proofs.step.next_step_with.Goals as goal
 pub returns-in_err-barrier-clause-fault : goal.returns-in_err-barrier-clause-fault
 returns-in_err-barrier-clause-fault g c =
     let p = err_from_is_err_and c.from_residual-in_err-barrier.result c.from_residual-in_err-barrier.ensures.1 in
-    rw (p.1, p.2) (barrier_fails c.args.decks.now (digits_of c.args.tables.now.first) c.args.at c.args.old.now (g.S.Settler.rounds c.args.settler.now) c.in_ok-posed.posed.problem c.in_ok-posed.ensures.problem c.in_err-barrier.field-0.0 c.in_err-barrier.ensures.refusal)
+    rw (p.1, p.2) (barrier_fails c.args.decks.now (digits_of c.args.tables.now.first) c.args.at c.args.old.now (g.S.Settler.rounds c.args.settler.now) c.in_ok-posed.posed.problem c.in_ok-posed.ensures.problem c.args.limits c.in_err-barrier.field-0.0 c.in_err-barrier.ensures.fault)
 
-pub returns-in_err-settle-clause-fault : goal.returns-in_err-settle-clause-fault
-returns-in_err-settle-clause-fault g c =
-    let p = err_from_is_err_and c.from_residual-in_err-settle.result c.from_residual-in_err-settle.ensures.1 in
-    rw (p.1, p.2) (settle_fails c.args.decks.now (digits_of c.args.tables.now.first) c.args.at c.args.old.now (g.S.Settler.rounds c.args.settler.now) c.in_ok-posed.posed.problem c.in_ok-posed.ensures.problem c.in_ok-barrier.barrier (record { fits = c.in_ok-barrier.ensures.barrier; floors = c.in_ok-barrier.ensures.floors; ceilings = c.in_ok-barrier.ensures.ceilings }) c.in_err-settle.field-0.0 c.in_err-settle.ensures.settles)
+pub returns-in_err-settle_by-clause-fault : goal.returns-in_err-settle_by-clause-fault
+returns-in_err-settle_by-clause-fault g c =
+    let p = err_from_is_err_and c.from_residual-in_err-settle_by.result c.from_residual-in_err-settle_by.ensures.1 in
+    rw (p.1, p.2) (settle_fails c.args.decks.now (digits_of c.args.tables.now.first) c.args.at c.args.old.now (g.S.Settler.rounds c.args.settler.now) c.in_ok-posed.posed.problem c.in_ok-posed.ensures.problem c.args.limits c.in_ok-barrier.barrier c.in_ok-barrier.ensures.barrier c.in_err-settle_by.field-0.0 c.in_err-settle_by.ensures.fault)
 
-pub returns-in_err-settle-clause-leads : goal.returns-in_err-settle-clause-leads
-returns-in_err-settle-clause-leads g c =
-    let q = err_from_is_err_and c.from_residual-in_err-settle.result c.from_residual-in_err-settle.ensures.1 in
-    let of_problem : IsBarrierOf c.in_ok-posed.posed.problem c.in_ok-barrier.barrier = record { fits = c.in_ok-barrier.ensures.barrier; floors = c.in_ok-barrier.ensures.floors; ceilings = c.in_ok-barrier.ensures.ceilings } in
-    rw q.1 (inr (
-      c.in_ok-posed.posed.problem,
-      c.in_ok-posed.ensures.problem,
-      led_by c.args.decks.now (digits_of c.args.tables.now.first) c.args.at c.args.old.now c.in_ok-posed.posed.problem c.in_ok-barrier.barrier c.recall_conditions.ensures.fits of_problem c.in_ok-posed.ensures.encloses
-          c.settled_pair.ensures.exists c.settled_pair_encloses.ensures g.S.Settler.leads false _ _ c.in_err-settle.ensures.leads,
-    ))
+pub returns-in_err-settle_by-clause-leads : goal.returns-in_err-settle_by-clause-leads
+returns-in_err-settle_by-clause-leads g c =
+    let q = err_from_is_err_and c.from_residual-in_err-settle_by.result c.from_residual-in_err-settle_by.ensures.1 in
+    rw q.1 (leads_or_rests c.args.limits c.args.decks.now (digits_of c.args.tables.now.first) c.args.at c.args.old.now c.in_ok-posed.posed.problem c.in_ok-barrier.barrier c.recall_conditions.ensures.fits c.in_ok-barrier.ensures.barrier c.in_ok-posed.ensures.encloses
+    c.settled_pair.ensures.exists c.settled_pair_encloses.ensures c.clamped_pair_encloses.ensures g.S.Settler.leads c.in_ok-posed.ensures.problem _ _ c.in_err-settle_by.ensures.leads)
 
 -- the kind of the settler's pairs
 abbrev kind : given.Over → PairKind
@@ -36,14 +32,16 @@ kind g = g.S.Settler.pairs
 abbrev solved : (g : given.Over) (c : goal.After-heads_fit g) → Solved
 solved g c = record { problem = c.in_ok-posed.posed.problem; bounds = c.new-bounds.result; heads = c.fill_in-heads.result }
 
-parts : (g : given.Over) (c : goal.After-heads_fit g) → AreParts c.args.decks.now (digits_of c.args.tables.now.first) c.args.at c.args.old.now (kind g) c.in_ok-barrier.barrier (solved g c)
+parts : (g : given.Over) (c : goal.After-heads_fit g) → AreParts c.args.limits c.args.decks.now (digits_of c.args.tables.now.first) c.args.at c.args.old.now (kind g) c.in_ok-barrier.barrier (solved g c)
 parts g c =
-    let S : List Bound → Type 0 = λ v. IsPairOf c.in_ok-posed.posed.problem (kind g) c.in_ok-barrier.barrier v in
+    let S : List Bound → Type 0 = λ v. IsPairOf c.in_ok-posed.posed.problem (kind g) (edges_by c.args.limits c.in_ok-barrier.barrier) v in
+    let C : List Bound → Type 0 = λ v. IsCertificate c.in_ok-posed.posed.problem c.in_ok-barrier.barrier (lower_at v) (upper_at v) in
     let H : List Bound → Type 0 = λ v. AreHeadsOf c.args.decks.now c.args.at v c.fill_in-heads.result in
     record {
       problem = c.in_ok-posed.ensures.problem;
-      of_problem = record { fits = c.in_ok-barrier.ensures.barrier; floors = c.in_ok-barrier.ensures.floors; ceilings = c.in_ok-barrier.ensures.ceilings };
-      pair = subst S (sym c.new-bounds.ensures) c.in_ok-settle.ensures.settles;
+      of_problem = c.in_ok-barrier.ensures.barrier;
+      pair = subst S (sym c.new-bounds.ensures) c.in_ok-settle_by.ensures.pair;
+      certificate = subst C (sym c.new-bounds.ensures) c.in_ok-settle_by.ensures.certificate;
       heads = subst H c.as_slice.ensures c.fill_in-heads.ensures;
     }
 
@@ -53,27 +51,27 @@ before g c = record { decks = c.requires.decks; time = c.requires.time; heads = 
 pub returns-clause-step : goal.returns-clause-step
 returns-clause-step g c =
     let made = (goal.at.returns-clause-step g c).After-heads_fit in
-    is_step c.args.decks.now (digits_of c.args.tables.now.first) c.args.at c.args.old.now (kind g) c.in_ok-barrier.barrier (solved g made) (parts g made)
+    is_step c.args.limits c.args.decks.now (digits_of c.args.tables.now.first) c.args.at c.args.old.now (kind g) c.in_ok-barrier.barrier (solved g made) (parts g made)
 
 pub returns-clause-words : goal.returns-clause-words
 returns-clause-words g c =
     let made = (goal.at.returns-clause-words g c).After-heads_fit in
-    pair_words (kind g) c.in_ok-posed.posed.problem c.in_ok-barrier.barrier c.new-bounds.result (parts g made).pair
+    pair_words (kind g) c.in_ok-posed.posed.problem (edges_by c.args.limits c.in_ok-barrier.barrier) c.new-bounds.result (parts g made).pair
 
 pub returns-clause-heads : goal.returns-clause-heads
 returns-clause-heads g c =
     let made = (goal.at.returns-clause-heads g c).After-heads_fit in
-    c.heads_fit.ensures c.args.decks.now (digits_of c.args.tables.now.first) c.args.at c.args.old.now (kind g) (solved g made) (before g made)
-    (is_step c.args.decks.now (digits_of c.args.tables.now.first) c.args.at c.args.old.now (kind g) c.in_ok-barrier.barrier (solved g made) (parts g made))
+    c.heads_fit.ensures c.args.limits c.args.decks.now (digits_of c.args.tables.now.first) c.args.at c.args.old.now (kind g) (solved g made) (before g made)
+    (is_step c.args.limits c.args.decks.now (digits_of c.args.tables.now.first) c.args.at c.args.old.now (kind g) c.in_ok-barrier.barrier (solved g made) (parts g made))
 
 pub returns-clause-encloses : goal.returns-clause-encloses
 returns-clause-encloses g c =
     let made = (goal.at.returns-clause-encloses g c).After-heads_fit in
-    c.steps_enclose.ensures c.args.decks.now (digits_of c.args.tables.now.first) c.args.at c.args.old.now (kind g) (solved g made) (before g made)
-    (is_step c.args.decks.now (digits_of c.args.tables.now.first) c.args.at c.args.old.now (kind g) c.in_ok-barrier.barrier (solved g made) (parts g made))
+    c.steps_enclose.ensures c.args.limits c.args.decks.now (digits_of c.args.tables.now.first) c.args.at c.args.old.now (kind g) (solved g made) (before g made)
+    (is_step c.args.limits c.args.decks.now (digits_of c.args.tables.now.first) c.args.at c.args.old.now (kind g) c.in_ok-barrier.barrier (solved g made) (parts g made))
 
 pub returns-clause-leads : goal.returns-clause-leads
 returns-clause-leads g c =
     let made = (goal.at.returns-clause-leads g c).After-heads_fit in
-    led_by c.args.decks.now (digits_of c.args.tables.now.first) c.args.at c.args.old.now c.in_ok-posed.posed.problem c.in_ok-barrier.barrier c.recall_conditions.ensures.fits (parts g made).of_problem c.in_ok-posed.ensures.encloses
-    c.settled_pair.ensures.exists c.settled_pair_encloses.ensures g.S.Settler.leads true _ _ c.in_ok-settle.ensures.leads
+    led_by c.args.limits c.args.decks.now (digits_of c.args.tables.now.first) c.args.at c.args.old.now c.in_ok-posed.posed.problem c.in_ok-barrier.barrier c.recall_conditions.ensures.fits (parts g made).of_problem c.in_ok-posed.ensures.encloses
+    c.settled_pair.ensures.exists c.settled_pair_encloses.ensures c.clamped_pair_encloses.ensures g.S.Settler.leads true _ _ c.in_ok-settle_by.ensures.leads
