@@ -8,5 +8,5 @@ pub use Rattle.clap.specs.Words.{App, HasKind, HasMatchesOf, IsAmong, Kinds, Row
 pub use Rattle.clap.specs.Words.{kind_of, subcommand_of, subcommand_rows_of, with_rule}
 pub use Rattle.command_line.specs.Commands.{IsLocal, flag, heads_app, option, settling, word}
 pub use Rattle.command_line.specs.Numbers.{is_number, number_in, number_or}
-pub use Rattle.command_line.specs.Wants.{Checks, ChecksTo, Wanted, batch_in, check_in, checks_to, command_in, digits_in, lists_to, make_in, quick_in, rounds_in}
+pub use Rattle.command_line.specs.Wants.{Checks, ChecksTo, Wanted, batch_in, check_in, checks_to, command_in, digits_in, flag_in, lists_to, make_in, rounds_in}
 pub use Rattle.command_line.specs.Wants.{run_in, unwatched, wanted_if, wanted_of, watch_in, workers_in, write_in}

@@ -18,35 +18,35 @@ option id = record (new_rule id) { long = Some id }
 abbrev pub flag : Text → Rule
 flag id = record (new_rule id) { long = Some id; action = Some SetTrue }
 
--- the command with the options of a settling: [--digits S] [--workers W] [--rounds P] [--quick]
+-- the command with the options of a settling: [--digits S] [--workers W] [--rounds P] [--quick] [--wide]
 abbrev pub settling : App → App
 settling a =
-    with_rule (with_rule (with_rule (with_rule a (option (codes "digits"))) (option (codes "workers"))) (option (codes "rounds")))
-    (flag (codes "quick"))
+    with_rule (with_rule (with_rule (with_rule (with_rule a (option (codes "digits"))) (option (codes "workers"))) (option (codes "rounds")))
+    (flag (codes "quick"))) (flag (codes "wide"))
 
--- run NAME [--digits S] [--workers W] [--rounds P] [--quick] [--to NAME2] [--zones Z] [--watch N]
+-- run NAME [--digits S] [--workers W] [--rounds P] [--quick] [--wide] [--to NAME2] [--zones Z] [--watch N]
 abbrev pub run_app : App
 run_app =
     with_rule (with_rule (with_rule (settling (with_rule (new_app (codes "run")) (word (codes "name")))) (option (codes "to")))
     (option (codes "zones"))) (option (codes "watch"))
 
--- check NAME LISTING [--digits S] [--to NAME2] [--zones Z]
+-- check NAME LISTING [--digits S] [--to NAME2] [--zones Z] [--wide]
 abbrev pub check_app : App
 check_app =
-    with_rule (with_rule (with_rule (with_rule (with_rule (new_app (codes "check")) (word (codes "name"))) (word (codes "listing")))
-    (option (codes "digits"))) (option (codes "to"))) (option (codes "zones"))
+    with_rule (with_rule (with_rule (with_rule (with_rule (with_rule (new_app (codes "check")) (word (codes "name"))) (word (codes "listing")))
+    (option (codes "digits"))) (option (codes "to"))) (option (codes "zones"))) (flag (codes "wide"))
 
 -- make SEED SIZE
 abbrev pub make_app : App
 make_app = with_rule (with_rule (new_app (codes "make")) (word (codes "seed"))) (word (codes "size"))
 
--- batch LIST [--digits S] [--workers W] [--rounds P] [--quick]
+-- batch LIST [--digits S] [--workers W] [--rounds P] [--quick] [--wide]
 abbrev pub batch_app : App
 batch_app = settling (with_rule (new_app (codes "batch")) (word (codes "list")))
 
--- write NAME
+-- write NAME [--wide]
 abbrev pub write_app : App
-write_app = with_rule (new_app (codes "write")) (word (codes "name"))
+write_app = with_rule (with_rule (new_app (codes "write")) (word (codes "name"))) (flag (codes "wide"))
 
 -- the same command, which needs a subcommand
 abbrev pub needing : App → App

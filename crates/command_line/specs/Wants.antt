@@ -15,15 +15,15 @@ x >>= f = option_and_then f x
 -- A listing of a model: its name file, digits, workers, rounds, zone file, turns of the watching seat, and whether its pairs
 -- may be any certificates. A check: name file, listing, digits, zone file. Both for every model between two: the second name
 -- file comes after the first. A made model: seed, size. A batch of models: list, digits, workers, rounds, and whether its pairs
--- may be any certificates. A model's deck: its name file.
+-- may be any certificates. A model's deck: its name file. All but a made model last: whether the limits are wide.
 pub data Wanted : Type 0 where
-  Lists : Text → ℕ → ℕ → ℕ → Option Text → Option ℕ → Bool → Wanted
-  ListsTo : Text → Text → ℕ → ℕ → ℕ → Option Text → Option ℕ → Bool → Wanted
-  Checks : Text → Text → ℕ → Option Text → Wanted
-  ChecksTo : Text → Text → Text → ℕ → Option Text → Wanted
+  Lists : Text → ℕ → ℕ → ℕ → Option Text → Option ℕ → Bool → Bool → Wanted
+  ListsTo : Text → Text → ℕ → ℕ → ℕ → Option Text → Option ℕ → Bool → Bool → Wanted
+  Checks : Text → Text → ℕ → Option Text → Bool → Wanted
+  ChecksTo : Text → Text → Text → ℕ → Option Text → Bool → Wanted
   Makes : ℕ → ℕ → Wanted
-  Batches : Text → ℕ → ℕ → ℕ → Bool → Wanted
-  Writes : Text → Wanted
+  Batches : Text → ℕ → ℕ → ℕ → Bool → Bool → Wanted
+  Writes : Text → Bool → Wanted
 
 -- the options' values, or their defaults where they are omitted
 abbrev pub digits_in : List Row → Option ℕ
@@ -43,9 +43,9 @@ turns_of (Some text) = option_map Some (number_in 1 1000 text)
 abbrev pub watch_in : List Row → Option (Option ℕ)
 watch_in rows = turns_of (first_of (codes "watch") rows)
 
--- whether --quick is given
-abbrev pub quick_in : List Row → Bool
-quick_in rows = option_map_or (λ text. bytes_eq text (codes "true")) (first_of (codes "quick") rows) false
+-- whether a flag is given: --quick, --wide
+abbrev pub flag_in : Text → List Row → Bool
+flag_in id rows = option_map_or (λ text. bytes_eq text (codes "true")) (first_of id rows) false
 
 -- a quick listing is not watched
 abbrev pub unwatched : Option ℕ → Bool → Option Bool
@@ -53,13 +53,13 @@ unwatched (Some turns) true = None
 unwatched turns quick = Some quick
 
 -- a listing and a check, of one model or of every model between two
-abbrev pub lists_to : Option Text → Text → ℕ → ℕ → ℕ → Option Text → Option ℕ → Bool → Wanted
-lists_to None name digits workers rounds zones turns quick = Lists name digits workers rounds zones turns quick
-lists_to (Some to) name digits workers rounds zones turns quick = ListsTo name to digits workers rounds zones turns quick
+abbrev pub lists_to : Option Text → Text → ℕ → ℕ → ℕ → Option Text → Option ℕ → Bool → Bool → Wanted
+lists_to None name digits workers rounds zones turns quick wide = Lists name digits workers rounds zones turns quick wide
+lists_to (Some to) name digits workers rounds zones turns quick wide = ListsTo name to digits workers rounds zones turns quick wide
 
-abbrev pub checks_to : Option Text → Text → Text → ℕ → Option Text → Wanted
-checks_to None name listing digits zones = Checks name listing digits zones
-checks_to (Some to) name listing digits zones = ChecksTo name to listing digits zones
+abbrev pub checks_to : Option Text → Text → Text → ℕ → Option Text → Bool → Wanted
+checks_to None name listing digits zones wide = Checks name listing digits zones wide
+checks_to (Some to) name listing digits zones wide = ChecksTo name to listing digits zones wide
 
 -- what the words after a command ask for, by the values that they give to its arguments
 abbrev pub run_in : List Row → Option Wanted
@@ -69,15 +69,15 @@ run_in rows = do
   workers ← workers_in rows
   rounds ← rounds_in rows
   turns ← watch_in rows
-  quick ← unwatched turns (quick_in rows)
-  Some (lists_to (first_of (codes "to") rows) name digits workers rounds (first_of (codes "zones") rows) turns quick)
+  quick ← unwatched turns (flag_in (codes "quick") rows)
+  Some (lists_to (first_of (codes "to") rows) name digits workers rounds (first_of (codes "zones") rows) turns quick (flag_in (codes "wide") rows))
 
 abbrev pub check_in : List Row → Option Wanted
 check_in rows = do
   name ← first_of (codes "name") rows
   listing ← first_of (codes "listing") rows
   digits ← digits_in rows
-  Some (checks_to (first_of (codes "to") rows) name listing digits (first_of (codes "zones") rows))
+  Some (checks_to (first_of (codes "to") rows) name listing digits (first_of (codes "zones") rows) (flag_in (codes "wide") rows))
 
 abbrev pub make_in : List Row → Option Wanted
 make_in rows = do
@@ -93,12 +93,12 @@ batch_in rows = do
   digits ← digits_in rows
   workers ← workers_in rows
   rounds ← rounds_in rows
-  Some (Batches list digits workers rounds (quick_in rows))
+  Some (Batches list digits workers rounds (flag_in (codes "quick") rows) (flag_in (codes "wide") rows))
 
 abbrev pub write_in : List Row → Option Wanted
 write_in rows = do
   name ← first_of (codes "name") rows
-  Some (Writes name)
+  Some (Writes name (flag_in (codes "wide") rows))
 
 abbrev pub command_in : Text → List Row → Option Wanted
 command_in name rows =
@@ -118,9 +118,9 @@ wanted_of words = wanted_if (fault_of heads_app words) (subcommand_of heads_app 
 
 -- what an order asks for
 abbrev pub wanted : Order → Wanted
-wanted (order.Run name to digits workers rounds zones watch quick) =
-    lists_to (option_map (λ t. t.now) to) name.now digits workers rounds (option_map (λ z. z.now) zones) watch quick
-wanted (order.Check name to listing digits zones) = checks_to (option_map (λ t. t.now) to) name.now listing.now digits (option_map (λ z. z.now) zones)
+wanted (order.Run name to digits workers rounds zones watch quick wide) =
+    lists_to (option_map (λ t. t.now) to) name.now digits workers rounds (option_map (λ z. z.now) zones) watch quick wide
+wanted (order.Check name to listing digits zones wide) = checks_to (option_map (λ t. t.now) to) name.now listing.now digits (option_map (λ z. z.now) zones) wide
 wanted (order.Make seed size) = Makes seed size
-wanted (order.Batch list digits workers rounds quick) = Batches list.now digits workers rounds quick
-wanted (order.Write name) = Writes name.now
+wanted (order.Batch list digits workers rounds quick wide) = Batches list.now digits workers rounds quick wide
+wanted (order.Write name wide) = Writes name.now wide

@@ -49,7 +49,8 @@ fn with_settling<'a>(alloc: Global, command: Command<'a>) -> Result<Command<'a>,
     let command = with_option(alloc, command, "digits")?;
     let command = with_option(alloc, command, "workers")?;
     let command = with_option(alloc, command, "rounds")?;
-    with_flag(alloc, command, "quick")
+    let command = with_flag(alloc, command, "quick")?;
+    with_flag(alloc, command, "wide")
 }
 
 fn run_command<'a>(alloc: Global) -> Result<Command<'a>, AllocError>
@@ -69,7 +70,8 @@ fn check_command<'a>(alloc: Global) -> Result<Command<'a>, AllocError>
     let command = with_word(alloc, command, "listing")?;
     let command = with_option(alloc, command, "digits")?;
     let command = with_option(alloc, command, "to")?;
-    with_option(alloc, command, "zones")
+    let command = with_option(alloc, command, "zones")?;
+    with_flag(alloc, command, "wide")
 }
 
 fn make_command<'a>(alloc: Global) -> Result<Command<'a>, AllocError>
@@ -89,7 +91,8 @@ fn batch_command<'a>(alloc: Global) -> Result<Command<'a>, AllocError>
 fn write_command<'a>(alloc: Global) -> Result<Command<'a>, AllocError>
     ensures { IfOk result (λ c. (app_of c ≡ write_app) × IsLocal c) }
 {
-    with_word(alloc, Command::new(alloc, "write"), "name")
+    let command = with_word(alloc, Command::new(alloc, "write"), "name")?;
+    with_flag(alloc, command, "wide")
 }
 
 // The command with one more subcommand.

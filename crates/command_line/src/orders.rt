@@ -1,7 +1,7 @@
 ghost use Rattle.std.specs.Prelude.{◌≡◌, map, option_map, option_and_then, IfOk, IfSome, IsErrOf, Some, None, Option, false};
 ghost use Rattle.clap.specs.Words.{rows_of, found_of, first_of, subcommand_rows_of};
 ghost use Rattle.command_line.specs.Ranges.{IsInRange};
-ghost use Rattle.command_line.specs.Wants.{quick_in, unwatched, wanted, wanted_of, run_in, check_in, make_in, batch_in, write_in, command_in};
+ghost use Rattle.command_line.specs.Wants.{flag_in, unwatched, wanted, wanted_of, run_in, check_in, make_in, batch_in, write_in, command_in};
 
 use crate::commands::heads_command;
 use crate::numbers::{
@@ -24,6 +24,7 @@ pub enum Order<'a> {
         zones: Option<&'a str>,
         watch: Option<u32>,
         quick: bool,
+        wide: bool,
     },
     /// Whether a listing is certified; with `to` one of every model between two.
     Check {
@@ -32,6 +33,7 @@ pub enum Order<'a> {
         listing: &'a str,
         digits: u32,
         zones: Option<&'a str>,
+        wide: bool,
     },
     /// A model that is made, and its summary.
     Make {
@@ -45,10 +47,12 @@ pub enum Order<'a> {
         workers: u32,
         rounds: u32,
         quick: bool,
+        wide: bool,
     },
     /// The deck of a model, written anew.
     Write {
         name: &'a str,
+        wide: bool,
     },
 }
 
@@ -68,11 +72,11 @@ fn text_of<'a>(found: &ArgMatches<'a>, id: &str) -> Option<&'a str>
     found.get_str(id)
 }
 
-// Whether the words say --quick.
-fn is_quick(found: &ArgMatches) -> bool
-    ensures { result ≡ quick_in (rows_of (found_of found.now)) }
+// Whether the words give a flag.
+fn has_flag(found: &ArgMatches, id: &str) -> bool
+    ensures { result ≡ flag_in id.now (rows_of (found_of found.now)) }
 {
-    match text_of(found, "quick") {
+    match text_of(found, id) {
         None => false,
         Some(text) => text == "true",
     }
@@ -108,7 +112,7 @@ fn run_order<'a>(found: &ArgMatches<'a>) -> Option<Order<'a>>
     let Some(watch) = turns_or_none(text_of(found, "watch")) else {
         return None;
     };
-    let Some(quick) = quick_unless_watched(watch, is_quick(found)) else {
+    let Some(quick) = quick_unless_watched(watch, has_flag(found, "quick")) else {
         return None;
     };
     Some(Order::Run {
@@ -120,6 +124,7 @@ fn run_order<'a>(found: &ArgMatches<'a>) -> Option<Order<'a>>
         zones: text_of(found, "zones"),
         watch,
         quick,
+        wide: has_flag(found, "wide"),
     })
 }
 
@@ -142,6 +147,7 @@ fn check_order<'a>(found: &ArgMatches<'a>) -> Option<Order<'a>>
         listing,
         digits,
         zones: text_of(found, "zones"),
+        wide: has_flag(found, "wide"),
     })
 }
 
@@ -185,7 +191,8 @@ fn batch_order<'a>(found: &ArgMatches<'a>) -> Option<Order<'a>>
         digits,
         workers,
         rounds,
-        quick: is_quick(found),
+        quick: has_flag(found, "quick"),
+        wide: has_flag(found, "wide"),
     })
 }
 
@@ -196,7 +203,10 @@ fn write_order<'a>(found: &ArgMatches<'a>) -> Option<Order<'a>>
     let Some(name) = text_of(found, "name") else {
         return None;
     };
-    Some(Order::Write { name })
+    Some(Order::Write {
+        name,
+        wide: has_flag(found, "wide"),
+    })
 }
 
 fn command_order<'a>(name: &str, found: &ArgMatches<'a>) -> Option<Order<'a>>

@@ -1,4 +1,4 @@
-use Rattle.command_line.proofs.Common.{◌∙◌, ap, codes, with_rule, option, word}
+use Rattle.command_line.proofs.Common.{◌∙◌, ap, codes, with_rule, option, flag, word}
 use Rattle.command_line.proofs.Chains.{if_ok-made_of}
 use Rattle.command_line.proofs.commands.check_command.Goals as goal
 
@@ -8,4 +8,5 @@ returns c =
     let listed = c.in_ok-command-2.ensures.0 ∙ ap (λ a. with_rule a (word (codes "listing"))) named in
     let counted = c.in_ok-command-3.ensures.0 ∙ ap (λ a. with_rule a (option (codes "digits"))) listed in
     let spanned = c.in_ok-command-4.ensures.0 ∙ ap (λ a. with_rule a (option (codes "to"))) counted in
-    if_ok-made_of (λ a. with_rule a (option (codes "zones"))) _ _ c.with_option-3.result spanned c.with_option-3.ensures
+    let zoned = c.in_ok-command-5.ensures.0 ∙ ap (λ a. with_rule a (option (codes "zones"))) spanned in
+    if_ok-made_of (λ a. with_rule a (flag (codes "wide"))) _ _ c.with_flag.result zoned c.with_flag.ensures

@@ -6,4 +6,5 @@ pub returns : goal.returns
 returns c =
     let workers = c.in_ok-command-2.ensures.0 ∙ ap (λ a. with_rule a (option (codes "workers"))) c.in_ok-command.ensures.0 in
     let rounds = c.in_ok-command-3.ensures.0 ∙ ap (λ a. with_rule a (option (codes "rounds"))) workers in
-    if_ok-made_of (λ a. with_rule a (flag (codes "quick"))) _ _ c.with_flag.result rounds c.with_flag.ensures
+    let quick = c.in_ok-command-4.ensures.0 ∙ ap (λ a. with_rule a (flag (codes "quick"))) rounds in
+    if_ok-made_of (λ a. with_rule a (flag (codes "wide"))) _ _ c.with_flag-2.result quick c.with_flag-2.ensures
