@@ -1,5 +1,5 @@
 -- The public clauses of a run of any command, from all that it comes to.
-use Rattle.engine.proofs.Common.{◌≡◌, ℕ, List, Option, Some, None, refl, subst, sym, ◌∙◌, inl, inr, ◌⊎◌, MatchOption, File, Rose, Put, Seen, PutsMake, Text}
+use Rattle.engine.proofs.Common.{◌≡◌, ℕ, List, Option, Some, None, refl, subst, sym, ◌∙◌, inl, inr, ◌⊎◌, MatchOption, FileSet, Rose, Put, Seen, PutsMake, Text}
 use Rattle.engine.proofs.Common.{Status, Batched, HasNoList, AskedBatch, batch_asked, AnyAnswers, AnyComes, AnyDecided, AnyPuts, BatchAnswers, BatchComes}
 use Rattle.engine.proofs.Common.{BatchDecided, BatchPuts, AskedCheck, Case, Check, Command, IsCase, Make, asked_in, Certified, OneDeck, Headline, Made}
 use Rattle.engine.proofs.Common.{OneOrQuick, OneSummary, OneVerdict, Answers, AnswersBeside, IsStopped, Comes, Decided, IsLeft, Puts, Watched, views_in}
@@ -12,7 +12,7 @@ use Rattle.engine.proofs.Outcomes.{Laws, first_of, second_of}
 use Rattle.engine.proofs.Spans.{only_span_check}
 use Rattle.run_puts.specs.declared.status.Status.TheVariants as status
 
-module _ (words : List Text) (files : Option (List File)) (n m : ℕ) (S : Type 0) (L : List Put → Type 0) (end : Status) (puts : List Put) where
+module _ (words : List Text) (files : Option FileSet) (n m : ℕ) (S : Type 0) (L : List Put → Type 0) (end : Status) (puts : List Put) where
   abbrev AnswersBy : Option AskedBatch → Type 0
   AnswersBy o = MatchOption o (AnswersBeside words files n m S L end puts) (λ b. BatchAnswers b files n m end puts)
 
@@ -53,7 +53,7 @@ module _ (laws : Laws) (words : List Text) (n m : ℕ) (S : Type 0) (L : List Pu
       by_option None e a ok seed size wanted = beside_made words None n m S L end puts old new makes laws a ok seed size wanted
       by_option (Some b) e a ok seed size wanted = absurd (not_asked words b (Make seed size) e wanted)
 
-  module _ (files : List File) where
+  module _ (files : FileSet) where
     pub any_batched : AnyAnswers words (Some files) n m S L end puts → (IsStopped end → ⊥) → (b : AskedBatch) → batch_asked words ≡ Some b → HasNoList b files end ⊎ Batched words files end old.written new.written
     any_batched a goes b e =
         let P : Option AskedBatch → Type 0 = λ o. AnswersBy words (Some files) n m S L end puts o in

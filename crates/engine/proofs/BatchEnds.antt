@@ -1,6 +1,6 @@
 -- The ends of a batch, by its reading and its jobs.
 use Rattle.engine.proofs.Common.{◌≡◌, ℕ, zero, suc, ◌<◌, get_or, arith, ◌++◌, List, [], ◌∷◌, Ok, Err, Result, Option, None, Some, IfOk, subst, sym, ap, refl}
-use Rattle.engine.proofs.Common.{inl, inr, ◌∙◌, codes, option_and_then, All, MatchOption, slice_get, AllZip, append-nil, All-get_or, All-weaker, File, Rose}
+use Rattle.engine.proofs.Common.{inl, inr, ◌∙◌, codes, option_and_then, All, MatchOption, slice_get, AllZip, append-nil, All-get_or, All-weaker, FileSet, Rose}
 use Rattle.engine.proofs.Common.{InputCounts, file_refusal, Put, BadName, InputFault, Refusal, Wanted, Lists, ListsTo, Checks, ChecksTo, Makes, Batches, Writes}
 use Rattle.engine.proofs.Common.{wanted_of, AreDecks, refused_line, Text, read_fault_line, IsEnd, IsLast, IsWanting, IsRun, NeverCut, Status, lone}
 use Rattle.engine.proofs.Common.{lacks_at_first, weaker, JobEnd, ends_of_jobs, IsBatch, IsTask, wanting_not_ok, Task, Job, AskedBatch, BatchCase, Jobs, NoList}
@@ -20,28 +20,28 @@ other_none words b = by_wanted (wanted_of words)
   where
     by_wanted : (w : Option Wanted) → option_and_then batch_of w ≡ Some b → option_and_then built w ≡ None
     by_wanted None e = refl
-    by_wanted (Some (Batches list digits workers rounds quick)) e = refl
-    by_wanted (Some (Checks name listing digits zones)) e = absurd (let bad : Path (Option AskedBatch) None (Some b) = e in cc)
-    by_wanted (Some (ChecksTo name to listing digits zones)) e = absurd (let bad : Path (Option AskedBatch) None (Some b) = e in cc)
-    by_wanted (Some (ListsTo name to digits workers rounds zones turns quick)) e = absurd (let bad : Path (Option AskedBatch) None (Some b) = e in cc)
+    by_wanted (Some (Batches list digits workers rounds quick wide)) e = refl
+    by_wanted (Some (Checks name listing digits zones wide)) e = absurd (let bad : Path (Option AskedBatch) None (Some b) = e in cc)
+    by_wanted (Some (ChecksTo name to listing digits zones wide)) e = absurd (let bad : Path (Option AskedBatch) None (Some b) = e in cc)
+    by_wanted (Some (ListsTo name to digits workers rounds zones turns quick wide)) e = absurd (let bad : Path (Option AskedBatch) None (Some b) = e in cc)
     by_wanted (Some (Makes seed size)) e = absurd (let bad : Path (Option AskedBatch) None (Some b) = e in cc)
-    by_wanted (Some (Writes name)) e = absurd (let bad : Path (Option AskedBatch) None (Some b) = e in cc)
-    by_wanted (Some (Lists name digits workers rounds zones turns quick)) e = absurd (let bad : Path (Option AskedBatch) None (Some b) = e in cc)
+    by_wanted (Some (Writes name wide)) e = absurd (let bad : Path (Option AskedBatch) None (Some b) = e in cc)
+    by_wanted (Some (Lists name digits workers rounds zones turns quick wide)) e = absurd (let bad : Path (Option AskedBatch) None (Some b) = e in cc)
 
 still_stopped : (case : BatchCase) (end : Status) → IsStopped end → AreValid case end
 still_stopped (NoList refusal) end h = tt
 still_stopped (Jobs jobs) end h = inr h
 
 -- some case, whatever is read
-record SomeCase (b : AskedBatch) (files : Option (List File)) : Type 0 where
+record SomeCase (b : AskedBatch) (files : Option FileSet) : Type 0 where
   case : BatchCase
   is : IsBatchCase b files case
 
-some_case : (b : AskedBatch) (files : Option (List File)) → SomeCase b files
+some_case : (b : AskedBatch) (files : Option FileSet) → SomeCase b files
 some_case b (Some fs) = record { case = batch_case_of b fs; is = refl }
 some_case b None = record { case = NoList (file_refusal BadName (codes "-")); is = tt }
 
-module _ (b : AskedBatch) (files : Option (List File)) (n m : ℕ) where
+module _ (b : AskedBatch) (files : Option FileSet) (n m : ℕ) where
   pub batch_lacks : (end : Status) (puts : List Put) → IsWanting end puts → BatchAnswers b files n m end puts
   batch_lacks end puts h =
       let c = some_case b files in
@@ -108,7 +108,7 @@ valid_jobs jobs h = All-weaker (λ (job : Job). IfOk job.read IsTask) IsValidJob
     by_read (Ok k) t = t.decks
     by_read (Err refusal) t = tt
 
-module _ (words : List Text) (files : Option (List File)) (n m : ℕ) (S : Type 0) (L : List Put → Type 0) (end : Status) (puts : List Put) where
+module _ (words : List Text) (files : Option FileSet) (n m : ℕ) (S : Type 0) (L : List Put → Type 0) (end : Status) (puts : List Put) where
   pub any_batch : (b : AskedBatch) → Some b ≡ batch_asked words → BatchAnswers b files n m end puts → AnyAnswers words files n m S L end puts
   any_batch b e h = let P : Option AskedBatch → Type 0 = λ o. MatchOption o (AnswersBeside words files n m S L end puts) (λ b. BatchAnswers b files n m end puts) in subst P e h
 

@@ -1,11 +1,11 @@
 -- The public clauses of a batch, from all that it comes to.
 use Rattle.engine.proofs.Common.{◌≡◌, ℕ, List, [], ◌∷◌, ◌++◌, None, Some, IfOk, Result, Ok, Err, map, subst, sym, ◌∙◌, ap, refl, inl, inr, ◌⊎◌, All, All-head}
-use Rattle.engine.proofs.Common.{All-tail, AllZip, concat, File, Rose, Put, Seen, PutsMake, taken, Refusal, FlowModel, AreDecks, reads, Text, end_line, whole}
-use Rattle.engine.proofs.Common.{early, NeverCut, Agree, IsUnfinished, Status, IsLate, tail_late, late_not_read, all_written, write_rose, Task, IsListing}
-use Rattle.engine.proofs.Common.{IsWhole, whole_listing, history_exists, history_is_one, JobEnd, batch_settles, batches_agree, Job, Batched, HasEnded}
-use Rattle.engine.proofs.Common.{HasNoList, IsJobListing, AskedBatch, BatchCase, BatchDefines, IsJobEnd, IsRunText, Jobs, NoList, batch_asked, batch_case}
-use Rattle.engine.proofs.Common.{job_case, job_of, job_task, model_line, names_read, task_read, AreValid, BatchAnswers, BatchComes, BatchDecided, BatchDue}
-use Rattle.engine.proofs.Common.{HasJob, IsBatchRun, IsValidJob, unread, IsStopped, Plain, false, zero, suc, arith}
+use Rattle.engine.proofs.Common.{All-tail, AllZip, concat, FileSet, Rose, Put, Seen, PutsMake, taken, Refusal, FlowModel, AreDecks, reads, Text, end_line}
+use Rattle.engine.proofs.Common.{whole, early, NeverCut, Agree, IsUnfinished, Status, IsLate, tail_late, late_not_read, all_written, write_rose, Task}
+use Rattle.engine.proofs.Common.{IsListing, IsWhole, whole_listing, history_exists, history_is_one, JobEnd, batch_settles, batches_agree, Job, Batched}
+use Rattle.engine.proofs.Common.{HasEnded, HasNoList, IsJobListing, AskedBatch, BatchCase, BatchDefines, IsJobEnd, IsRunText, Jobs, NoList, batch_asked}
+use Rattle.engine.proofs.Common.{batch_case, job_case, job_of, job_task, model_line, names_read, task_read, AreValid, BatchAnswers, BatchComes, BatchDecided}
+use Rattle.engine.proofs.Common.{BatchDue, HasJob, IsBatchRun, IsValidJob, unread, IsStopped, false, zero, suc, arith}
 use Rattle.engine.specs.BatchRuns.{defined}
 use Rattle.batch_puts.specs.Ended.{first_not_ok, or_else, texts}
 use Rattle.engine.proofs.Certifying.{IsFault, not_stopped, stopped_by_fault}
@@ -73,9 +73,9 @@ delivers : (read_failed : Type 0) (case : BatchCase) (end : Status) (puts : List
 delivers read_failed case end puts (whole meant pieces due) goes = due_delivers read_failed case end pieces due goes
 delivers read_failed case end puts (early meant before after tail b t) goes = absurd (goes (late_stops end (tail_late after end tail t)))
 
-module _ (laws : Laws) (b : AskedBatch) (files : List File) where
+module _ (laws : Laws) (b : AskedBatch) (files : FileSet) where
   -- the text of a job that ended Ok
-  job_listing : (name : Text) (e : JobEnd) (r : Result FlowModel Refusal) → reads Plain files name ≡ r → IfOk (task_read b r) (λ k. AreDecks k.decks) → IsRunText (job_case (task_read b r)) (model_line name) e → e.status ≡ status.Ok → IsJobListing b files name e.text.items
+  job_listing : (name : Text) (e : JobEnd) (r : Result FlowModel Refusal) → reads b.limits files name ≡ r → IfOk (task_read b r) (λ k. AreDecks k.decks) → IsRunText (job_case (task_read b r)) (model_line name) e → e.status ≡ status.Ok → IsJobListing b files name e.text.items
   job_listing name e (Err refusal) is valid h ok = absurd (let bad : status.Refused refusal ≡ status.Ok = sym h.defined.0 ∙ ok in cc)
   job_listing name e (Ok m) is valid h ok = of_whole (whole_listing (job_task b m) h.pieces (let P : Status → Type 0 = λ s. IsListing (job_task b m) s h.pieces in subst P ok h.defined))
     where
@@ -89,18 +89,18 @@ module _ (laws : Laws) (b : AskedBatch) (files : List File) where
         only = λ plain others steps. laws.one (job_task b m) w.values others valid plain w.steps steps;
         is = h.text ∙ ap (λ (p : List Text). model_line name ++ concat p) w.are;
         encloses = w.encloses;
-        solvable = history_exists m b.digits None b.rounds b.quick w.values valid.first w.steps;
-        one = history_is_one m b.digits None b.rounds b.quick w.values valid.first w.steps;
+        solvable = history_exists b.limits m b.digits None b.rounds b.quick w.values valid.first w.steps;
+        one = history_is_one b.limits m b.digits None b.rounds b.quick w.values valid.first w.steps;
       }
 
-  all_ended : (names : List Text) (ends : List JobEnd) → All IsValidJob (map (job_of b (reads Plain files)) names) → AllZip IsJobEnd (map (job_of b (reads Plain files)) names) ends → AllZip (HasEnded b files) names ends
+  all_ended : (names : List Text) (ends : List JobEnd) → All IsValidJob (map (job_of b (reads b.limits files)) names) → AllZip IsJobEnd (map (job_of b (reads b.limits files)) names) ends → AllZip (HasEnded b files) names ends
   all_ended [] [] valid h = tt
   all_ended [] (e ∷ ends) valid h = absurd h
   all_ended (name ∷ names) [] valid h = absurd h
-  all_ended (name ∷ names) (e ∷ ends) valid (x, h) = (record { end = x; listing = job_listing name e (reads Plain files name) refl (All-head IsValidJob (job_of b (reads Plain files) name) (map (job_of b (reads Plain files)) names) valid) x }, all_ended names ends (All-tail IsValidJob (job_of b (reads Plain files) name) (map (job_of b (reads Plain files)) names) valid) h)
+  all_ended (name ∷ names) (e ∷ ends) valid (x, h) = (record { end = x; listing = job_listing name e (reads b.limits files name) refl (All-head IsValidJob (job_of b (reads b.limits files) name) (map (job_of b (reads b.limits files)) names) valid) x }, all_ended names ends (All-tail IsValidJob (job_of b (reads b.limits files) name) (map (job_of b (reads b.limits files)) names) valid) h)
 
   module _ (words : List Text) (wanted : batch_asked words ≡ Some b) (end : Status) (old new : Seen) (puts : List Put) (makes : PutsMake old puts new) where
-    of_names : (names : List Text) → names_read files b ≡ Ok names → AreValid (Jobs (map (job_of b (reads Plain files)) names)) end → (IsStopped end → ⊥) → Delivers (Jobs (map (job_of b (reads Plain files)) names)) end puts → Batched words files end old.written new.written
+    of_names : (names : List Text) → names_read files b ≡ Ok names → AreValid (Jobs (map (job_of b (reads b.limits files)) names)) end → (IsStopped end → ⊥) → Delivers (Jobs (map (job_of b (reads b.limits files)) names)) end puts → Batched words files end old.written new.written
     of_names names read (inr stops) goes d = absurd (goes stops)
     of_names names read (inl valid) goes d = record {
       asked = b;
@@ -113,7 +113,7 @@ module _ (laws : Laws) (b : AskedBatch) (files : List File) where
       written = all_written (texts d.defines.ends ++ (end_line ∷ [])) old new puts (d.written ∙ ap (map taken) d.defines.ended.are) makes;
     }
 
-    of_list : (r : Result (List Text) Refusal) → names_read files b ≡ r → AreValid (batch_case b r (reads Plain files)) end → (IsStopped end → ⊥) → Delivers (batch_case b r (reads Plain files)) end puts → HasNoList b files end ⊎ Batched words files end old.written new.written
+    of_list : (r : Result (List Text) Refusal) → names_read files b ≡ r → AreValid (batch_case b r (reads b.limits files)) end → (IsStopped end → ⊥) → Delivers (batch_case b r (reads b.limits files)) end puts → HasNoList b files end ⊎ Batched words files end old.written new.written
     of_list (Ok names) read valid goes d = inr (of_names names read valid goes d)
     of_list (Err refusal) read valid goes d = inl (refusal, read, d.defines.0)
 
@@ -202,37 +202,37 @@ module _ (laws : Laws) where
   decided_by fault case meant end p plain valid x (inr (inl e)) = inr (inr (inl e))
   decided_by fault case meant end p plain valid x (inr (inr (q, y))) = weighed fault meant end (decides case meant end p q plain valid x y)
 
-  pub batch_decided : (b : AskedBatch) (files : List File) (n m : ℕ) (end : Status) (puts : List Put) (old new : Seen) → BatchAnswers b (Some files) n m end puts → PutsMake old puts new → BatchDecided (Rose n m ⊎ Rose old.faults new.faults) b files end
+  pub batch_decided : (b : AskedBatch) (files : FileSet) (n m : ℕ) (end : Status) (puts : List Put) (old new : Seen) → BatchAnswers b (Some files) n m end puts → PutsMake old puts new → BatchDecided (Rose n m ⊎ Rose old.faults new.faults) b files end
   batch_decided b files n m end puts old new a makes = λ plain meant pieces x.
       let P : BatchCase → Type 0 = λ case. BatchDefines case meant pieces in
-      decided_by (Rose n m ⊎ Rose old.faults new.faults) a.case meant end pieces (subst IsPlainCase (sym a.is) (plain_case b (names_read files b) (reads Plain files) plain)) a.valid (subst P (sym a.is) x) (ended n m a.case end puts old new a.run makes)
+      decided_by (Rose n m ⊎ Rose old.faults new.faults) a.case meant end pieces (subst IsPlainCase (sym a.is) (plain_case b (names_read files b) (reads b.limits files) plain)) a.valid (subst P (sym a.is) x) (ended n m a.case end puts old new a.run makes)
 
-  module _ (b : AskedBatch) (files : List File) where
-    job_settles : (name : Text) (e : JobEnd) → HasJob b files name → IsValidEnd (job_of b (reads Plain files) name) e → e.status ≡ status.Ok
+  module _ (b : AskedBatch) (files : FileSet) where
+    job_settles : (name : Text) (e : JobEnd) → HasJob b files name → IsValidEnd (job_of b (reads b.limits files) name) e → e.status ≡ status.Ok
     job_settles name e j x =
         let P : Result FlowModel Refusal → Type 0 = λ r. IfOk (task_read b r) (λ k. AreDecks k.decks) → IsRunText (job_case (task_read b r)) (model_line name) e → e.status ≡ status.Ok in
         subst P (sym j.read) (λ valid h. goes_through (job_task b j.model) j.no_refusal j.none_open e.status h.pieces h.defined) x.0 x.1
 
-    all_settle : (names : List Text) (ends : List JobEnd) → All (HasJob b files) names → AllZip IsValidEnd (map (job_of b (reads Plain files)) names) ends → AllZip (λ job e. e.status ≡ status.Ok) (map (job_of b (reads Plain files)) names) ends
+    all_settle : (names : List Text) (ends : List JobEnd) → All (HasJob b files) names → AllZip IsValidEnd (map (job_of b (reads b.limits files)) names) ends → AllZip (λ job e. e.status ≡ status.Ok) (map (job_of b (reads b.limits files)) names) ends
     all_settle [] [] each h = tt
     all_settle [] (e ∷ ends) each h = absurd h
     all_settle (name ∷ names) [] each h = absurd h
     all_settle (name ∷ names) (e ∷ ends) each (x, h) = (job_settles name e (All-head (HasJob b files) name names each) x, all_settle names ends (All-tail (HasJob b files) name names each) h)
 
-    jobs_end_ok : (names : List Text) (end : Status) (q : List Text) → All (HasJob b files) names → AreValid (Jobs (map (job_of b (reads Plain files)) names)) end → BatchDefines (Jobs (map (job_of b (reads Plain files)) names)) end q → end ≡ status.Ok
-    jobs_end_ok names end q each (inr stops) y = absurd (defined_not_stopped (Jobs (map (job_of b (reads Plain files)) names)) end q y stops)
+    jobs_end_ok : (names : List Text) (end : Status) (q : List Text) → All (HasJob b files) names → AreValid (Jobs (map (job_of b (reads b.limits files)) names)) end → BatchDefines (Jobs (map (job_of b (reads b.limits files)) names)) end q → end ≡ status.Ok
+    jobs_end_ok names end q each (inr stops) y = absurd (defined_not_stopped (Jobs (map (job_of b (reads b.limits files)) names)) end q y stops)
     jobs_end_ok names end q each (inl valid) y =
-        let jobs : List Job = map (job_of b (reads Plain files)) names in
+        let jobs : List Job = map (job_of b (reads b.limits files)) names in
         y.ended.status_is ∙ batch_settles (λ job e. e.status ≡ status.Ok) (λ job e is. is) jobs y.ends (all_settle names y.ends each (with_valid jobs y.ends valid y.each))
 
-    comes_by : (fault : Type 0) (names : List Text) (end : Status) → All (HasJob b files) names → AreValid (Jobs (map (job_of b (reads Plain files)) names)) end → Ended fault (Jobs (map (job_of b (reads Plain files)) names)) end → fault ⊎ ((end ≡ status.Ok) ⊎ (end ≡ status.Memory))
+    comes_by : (fault : Type 0) (names : List Text) (end : Status) → All (HasJob b files) names → AreValid (Jobs (map (job_of b (reads b.limits files)) names)) end → Ended fault (Jobs (map (job_of b (reads b.limits files)) names)) end → fault ⊎ ((end ≡ status.Ok) ⊎ (end ≡ status.Memory))
     comes_by fault names end each valid (inl f) = inl f
     comes_by fault names end each valid (inr (inl e)) = inr (inr e)
     comes_by fault names end each valid (inr (inr (q, y))) = inr (inl (jobs_end_ok names end q each valid y))
 
     pub batch_complete : (n m : ℕ) (end : Status) (puts : List Put) (old new : Seen) → BatchAnswers b (Some files) n m end puts → PutsMake old puts new → BatchComes (Rose n m ⊎ Rose old.faults new.faults) b files end
     batch_complete n m end puts old new a makes = λ has.
-        let is : a.case ≡ Jobs (map (job_of b (reads Plain files)) has.names) = a.is ∙ ap (λ r. batch_case b r (reads Plain files)) has.read in
+        let is : a.case ≡ Jobs (map (job_of b (reads b.limits files)) has.names) = a.is ∙ ap (λ r. batch_case b r (reads b.limits files)) has.read in
         let V : BatchCase → Type 0 = λ case. AreValid case end in
         let E : BatchCase → Type 0 = λ case. Ended (Rose n m ⊎ Rose old.faults new.faults) case end in
         comes_by (Rose n m ⊎ Rose old.faults new.faults) has.names end has.each (subst V is a.valid) (subst E is (ended n m a.case end puts old new a.run makes))

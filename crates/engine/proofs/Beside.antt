@@ -1,27 +1,27 @@
 -- The public clauses of a run beside which a side sink is led.
-use Rattle.engine.proofs.Common.{◌≡◌, ℕ, List, [], ◌∷◌, ◌++◌, Option, Some, None, IfSome, ap, sym, subst, refl, ◌∙◌, inl, inr, ◌⊎◌, option_and_then, Rose, File}
-use Rattle.engine.proofs.Common.{Put, PutsMake, Seen, InputFault, Batches, Checks, ChecksTo, Lists, ListsTo, Makes, Wanted, Writes, wanted_of, IsLast, Text}
-use Rattle.engine.proofs.Common.{read_fault_line, Begins, IsRun, all_due, cut, early, nothing, whole, Status, late_not_ok, tail_late, AreDecks, Task}
+use Rattle.engine.proofs.Common.{◌≡◌, ℕ, List, [], ◌∷◌, ◌++◌, Option, Some, None, IfSome, ap, sym, subst, refl, ◌∙◌, inl, inr, ◌⊎◌, option_and_then, Rose}
+use Rattle.engine.proofs.Common.{FileSet, Put, PutsMake, Seen, InputFault, Batches, Checks, ChecksTo, Lists, ListsTo, Makes, Wanted, Writes, wanted_of, IsLast}
+use Rattle.engine.proofs.Common.{Text, read_fault_line, Begins, IsRun, all_due, cut, early, nothing, whole, Status, late_not_ok, tail_late, AreDecks, Task}
 use Rattle.engine.proofs.Common.{IsCutListing, IsListing, IsListingBeside, left, listed, wanting_not_ok, AskedBatch, views_of, BatchComes, BatchDecided, Asked}
 use Rattle.engine.proofs.Common.{AskedCheck, Case, Check, Command, IsCase, Make, Run, Write, asked_in, built, Certified, Made, OneVerdict, Answers}
 use Rattle.engine.proofs.Common.{AnswersBeside, IsReadingEnd, Comes, Decided, IsLeft, IsWatched, SidePuts, ViewPutsOf, Watched, views_asked, views_in}
-use Rattle.engine.proofs.Common.{AskedSpan, AskedSpanCheck, CheckSpan, IsListingOf, Span, CutOf}
+use Rattle.engine.proofs.Common.{AskedSpan, AskedSpanCheck, CheckSpan, IsListingOf, Limits, Span, CutOf, limits_of}
 use Rattle.engine.specs.declared.asked.Command.{Command as CommandBy}
 use Rattle.engine.proofs.Outcomes.{Both, Laws, both, certified, complete, decided, made, put_rose, read_rose}
 use Rattle.outside.specs.declared.refusals.InputFault.TheVariants as input
 use Rattle.run_puts.specs.declared.status.Status.TheVariants as status
 
 -- nothing was put to the side
-pub quiet : (leads : List Put → Type 0) (words : List Text) (files : List File) (views : Option ℕ) → leads [] → SidePuts leads words files views
+pub quiet : (leads : List Put → Type 0) (words : List Text) (files : FileSet) (views : Option ℕ) → leads [] → SidePuts leads words files views
 quiet leads words files None h = h
 quiet leads words files (Some n) h = inl h
 
-quiet_by : (leads : List Put → Type 0) (words : List Text) (files : Option (List File)) (views : Option ℕ) → leads [] → IfSome files (λ fs. SidePuts leads words fs views)
+quiet_by : (leads : List Put → Type 0) (words : List Text) (files : Option FileSet) (views : Option ℕ) → leads [] → IfSome files (λ fs. SidePuts leads words fs views)
 quiet_by leads words None views h = tt
 quiet_by leads words (Some fs) views h = quiet leads words fs views h
 
 -- the views of a listing
-listing_puts : (leads : List Put → Type 0) (words : List Text) (files : Option (List File)) (k : Task) (case : Case) (views : Option ℕ) → IsListingOf k case → IsCase words files case → ViewPutsOf k leads views → IfSome files (λ fs. SidePuts leads words fs views)
+listing_puts : (leads : List Put → Type 0) (words : List Text) (files : Option FileSet) (k : Task) (case : Case) (views : Option ℕ) → IsListingOf k case → IsCase words files case → ViewPutsOf k leads views → IfSome files (λ fs. SidePuts leads words fs views)
 listing_puts leads words None k case views has is h = tt
 listing_puts leads words (Some fs) k case None has is h = h
 listing_puts leads words (Some fs) k case (Some n) has is (inl h) = inl h
@@ -33,13 +33,13 @@ views_by words w x y e same v = ap (option_and_then views_asked) e ∙ sym v ∙
 
 -- the words ask for views only of a listing
 views_of_run : (w : Option Wanted) (n : ℕ) → option_and_then views_asked w ≡ Some n → ((asked : Asked) × (option_and_then built w ≡ Some (Run asked))) ⊎ ((asked : AskedSpan) × (option_and_then built w ≡ Some (Span asked)))
-views_of_run (Some (Lists name digits workers rounds zones watch quick)) n e = inl (record { name = name; digits = digits; rounds = rounds; zones = zones; quick = quick }, refl)
-views_of_run (Some (ListsTo name to digits workers rounds zones watch quick)) n e = inr (record { run = record { name = name; digits = digits; rounds = rounds; zones = zones; quick = quick }; to = to }, refl)
-views_of_run (Some (ChecksTo name to listing digits zones)) n e = absurd (let bad : Path (Option ℕ) None (Some n) = e in cc)
+views_of_run (Some (Lists name digits workers rounds zones watch quick wide)) n e = inl (record { limits = limits_of wide; name = name; digits = digits; rounds = rounds; zones = zones; quick = quick }, refl)
+views_of_run (Some (ListsTo name to digits workers rounds zones watch quick wide)) n e = inr (record { run = record { limits = limits_of wide; name = name; digits = digits; rounds = rounds; zones = zones; quick = quick }; to = to }, refl)
+views_of_run (Some (ChecksTo name to listing digits zones wide)) n e = absurd (let bad : Path (Option ℕ) None (Some n) = e in cc)
 views_of_run (Some (Makes seed size)) n e = absurd (let bad : Path (Option ℕ) None (Some n) = e in cc)
-views_of_run (Some (Writes name)) n e = absurd (let bad : Path (Option ℕ) None (Some n) = e in cc)
-views_of_run (Some (Checks name listing digits zones)) n e = absurd (let bad : Path (Option ℕ) None (Some n) = e in cc)
-views_of_run (Some (Batches list digits workers rounds quick)) n e = absurd (let bad : Path (Option ℕ) None (Some n) = e in cc)
+views_of_run (Some (Writes name wide)) n e = absurd (let bad : Path (Option ℕ) None (Some n) = e in cc)
+views_of_run (Some (Checks name listing digits zones wide)) n e = absurd (let bad : Path (Option ℕ) None (Some n) = e in cc)
+views_of_run (Some (Batches list digits workers rounds quick wide)) n e = absurd (let bad : Path (Option ℕ) None (Some n) = e in cc)
 views_of_run None n e = absurd (let bad : Path (Option ℕ) None (Some n) = e in cc)
 
 -- a command without views is no listing
@@ -62,8 +62,8 @@ viewless_check words asked = no_views words (Some (Check asked)) (λ a x. let ba
 pub viewless_span_check : (words : List Text) (asked : AskedSpanCheck) → asked_in words ≡ Some (CheckSpan asked) → (n : ℕ) → views_in words ≡ Some n → ⊥
 viewless_span_check words asked = no_views words (Some (CheckSpan asked)) (λ a x. let bad : Path (Option Command) (Some (CheckSpan asked)) (Some (Run a)) = x in cc) (λ a x. let bad : Path (Option Command) (Some (CheckSpan asked)) (Some (Span a)) = x in cc)
 
-pub viewless_write : (words : List Text) (name : Text) → asked_in words ≡ Some (Write name) → (n : ℕ) → views_in words ≡ Some n → ⊥
-viewless_write words name = no_views words (Some (Write name)) (λ a x. let bad : Path (Option Command) (Some (Write name)) (Some (Run a)) = x in cc) (λ a x. let bad : Path (Option Command) (Some (Write name)) (Some (Span a)) = x in cc)
+pub viewless_write : (words : List Text) (limits : Limits) (name : Text) → asked_in words ≡ Some (Write limits name) → (n : ℕ) → views_in words ≡ Some n → ⊥
+viewless_write words limits name = no_views words (Some (Write limits name)) (λ a x. let bad : Path (Option Command) (Some (Write limits name)) (Some (Run a)) = x in cc) (λ a x. let bad : Path (Option Command) (Some (Write limits name)) (Some (Span a)) = x in cc)
 
 end_not_ok : (line : Text) (meant end : Status) (tail : List Put) → (meant ≡ status.Ok → ⊥) → IsLast line meant end tail → end ≡ status.Ok → ⊥
 end_not_ok line meant end tail not (inl (same, t)) e = not (sym same ∙ e)
@@ -94,12 +94,12 @@ if_never P None never = tt
 if_never P (Some x) never = absurd never
 
 -- a run of a listing, beside which views were put
-left_of : (words : List Text) (files : Option (List File)) (n m : ℕ) (failed : Type 0) (k : Task) (c : Case) (end : Status) (puts : List Put) → ((pieces : List Text) → IsCutListing k pieces → CutOf c pieces) → IsCase words files c → (IsRun (IsListing k) (IsCutListing k) end puts → Answers words files n m end puts) → IsRun (IsListingBeside failed k) (IsCutListing k) end puts → Answers words files n m end puts ⊎ ((case : Case) × IsCase words files case × IsLeft failed case end puts)
+left_of : (words : List Text) (files : Option FileSet) (n m : ℕ) (failed : Type 0) (k : Task) (c : Case) (end : Status) (puts : List Put) → ((pieces : List Text) → IsCutListing k pieces → CutOf c pieces) → IsCase words files c → (IsRun (IsListing k) (IsCutListing k) end puts → Answers words files n m end puts) → IsRun (IsListingBeside failed k) (IsCutListing k) end puts → Answers words files n m end puts ⊎ ((case : Case) × IsCase words files case × IsLeft failed case end puts)
 left_of words files n m failed k c end puts cuts is answers (whole meant pieces (listed same all d)) = inl (answers (whole meant pieces d))
 left_of words files n m failed k c end puts cuts is answers (whole meant pieces (left all f d)) = inr (c, is, record { why = f; is = refl; pieces = pieces; cut = cuts pieces d; taken_whole = refl })
 left_of words files n m failed k c end puts cuts is answers (early meant before after tail b t) = inl (answers (early meant before after tail (alone_begins failed k before after b) t))
 
-module _ (words : List Text) (files : Option (List File)) (n m : ℕ) (failed : Type 0) (leads : List Put → Type 0) (end : Status) (puts : List Put) where
+module _ (words : List Text) (files : Option FileSet) (n m : ℕ) (failed : Type 0) (leads : List Put → Type 0) (end : Status) (puts : List Put) where
   abbrev Besides : Type 0
   Besides = AnswersBeside words files n m failed leads end puts
 
@@ -110,7 +110,7 @@ module _ (words : List Text) (files : Option (List File)) (n m : ℕ) (failed : 
   pub not_ok : leads [] → Answers words files n m end puts → (end ≡ status.Ok → ⊥) → Besides
   not_ok silent a bad = record { answers = inl a; watched = λ e j v. if_never (λ fs. Watched words fs j leads) files (bad e); side = quiet_by leads words files (views_in words) silent }
 
-  views_of_case : (k : Task) (case : Case) (o : Option (List File)) → IsListingOf k case → IsCase words o case → (j : ℕ) → IsWatched k j leads → IfSome o (λ fs. Watched words fs j leads)
+  views_of_case : (k : Task) (case : Case) (o : Option FileSet) → IsListingOf k case → IsCase words o case → (j : ℕ) → IsWatched k j leads → IfSome o (λ fs. Watched words fs j leads)
   views_of_case k case (Some fs) has is j w = record { task = k; is = subst (IsListingOf k) is has; watched = w }
   views_of_case k case None has is j w = tt
 
@@ -175,19 +175,19 @@ module _ (fault other : Type 0) (takes : fault → other) where
   wider_one (inl f) = inl (takes f)
   wider_one (inr a) = inr a
 
-  wider_decided : (words : List Text) (fs : List File) (end : Status) → Decided fault words fs end → Decided other words fs end
+  wider_decided : (words : List Text) (fs : FileSet) (end : Status) → Decided fault words fs end → Decided other words fs end
   wider_decided words fs end h = λ plain meant pieces d. wider_sum (h plain meant pieces d)
 
-  wider_comes : (words : List Text) (fs : List File) (end : Status) → Comes fault words fs end → Comes other words fs end
+  wider_comes : (words : List Text) (fs : FileSet) (end : Status) → Comes fault words fs end → Comes other words fs end
   wider_comes words fs end h = λ has. wider_one (h has)
 
-  pub wider_batch : (b : AskedBatch) (fs : List File) (end : Status) → BatchDecided fault b fs end → BatchDecided other b fs end
+  pub wider_batch : (b : AskedBatch) (fs : FileSet) (end : Status) → BatchDecided fault b fs end → BatchDecided other b fs end
   wider_batch b fs end h = λ plain meant pieces d. wider_sum (h plain meant pieces d)
 
-  pub wider_batch_comes : (b : AskedBatch) (fs : List File) (end : Status) → BatchComes fault b fs end → BatchComes other b fs end
+  pub wider_batch_comes : (b : AskedBatch) (fs : FileSet) (end : Status) → BatchComes fault b fs end → BatchComes other b fs end
   wider_batch_comes b fs end h = λ has. wider_one (h has)
 
-module _ (laws : Laws) (words : List Text) (fs : List File) (n m : ℕ) (failed : Type 0) (leads : List Put → Type 0) (end : Status) (puts : List Put) (old new : Seen) (makes : PutsMake old puts new) where
+module _ (laws : Laws) (words : List Text) (fs : FileSet) (n m : ℕ) (failed : Type 0) (leads : List Put → Type 0) (end : Status) (puts : List Put) (old new : Seen) (makes : PutsMake old puts new) where
   abbrev Known : Type 0
   Known = Rose n m ⊎ Rose old.faults new.faults
 

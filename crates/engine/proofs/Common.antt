@@ -37,8 +37,8 @@ pub use Rattle.engine.specs.Batches.{batch_case_of, batch_of, job_case, job_of, 
 pub use Rattle.engine.specs.Cases.{Asked, AskedCheck, AskedSpan, AskedSpanCheck, Case, Check, CheckSpan, Checking, Command, Comparing, CouldList, CouldRead}
 pub use Rattle.engine.specs.Cases.{IsCase, IsCheckingOf, IsListingOf, Listing, Make, Making, NoWords, Readings, ReadsNothing, Refuses, Run, Span, Write}
 pub use Rattle.engine.specs.Cases.{Writing, asked_in, built, case_asked, case_between, case_checked, case_compared, case_listed, case_of, case_read}
-pub use Rattle.engine.specs.Cases.{case_written, case_zoned, decks_task, listing_read, made_model, named, numbers_of, readings_of, some_readings, span_task_of}
-pub use Rattle.engine.specs.Cases.{steps_in, steps_read, task_of, with_zones, zoned_steps, zones_named, zones_read}
+pub use Rattle.engine.specs.Cases.{case_written, case_zoned, decks_task, limits_of, listing_read, made_model, named, numbers_of, readings_of, some_readings}
+pub use Rattle.engine.specs.Cases.{span_task_of, steps_in, steps_read, task_of, with_zones, zoned_steps, zones_named, zones_read}
 pub use Rattle.engine.specs.Certified.{Certified}
 pub use Rattle.engine.specs.Checked.{IsCheck, certified_line, verdict_line, verdict_status}
 pub use Rattle.engine.specs.Commands.{asked_of, check_of, command_of, views_of}
@@ -84,15 +84,17 @@ pub use Rattle.model_reader.proofs.UnitLemmas.{unit_is_short}
 pub use Rattle.model_reader.specs.Model.{model_of}
 unfoldable pub use Rattle.model_reader.specs.Model.{reads}
 pub use Rattle.model_text.specs.Decks.{deck_text}
+pub use Rattle.model_types.specs.Limits.{most_bytes}
 pub use Rattle.model_types.specs.Times.{times}
 pub use Rattle.model_types.specs.Valid.{IsModel}
-pub use Rattle.model_types.specs.declared.limits.Limits.TheVariants.{Plain}
+pub use Rattle.model_types.specs.declared.limits.Limits.{Limits}
+pub use Rattle.model_types.specs.declared.limits.Limits.TheVariants.{Plain, Wide}
 pub use Rattle.model_types.specs.declared.model.FlowModel.{FlowModel}
 pub use Rattle.model_types.specs.declared.time_steps.TimeStep.{TimeStep}
 pub use Rattle.name_file.specs.Pairs.{Pairs}
 pub use Rattle.outside.specs.Counts.{InputCounts, Rose}
-pub use Rattle.outside.specs.Files.{File}
-pub use Rattle.outside.specs.Inputs.{IsReading, file_at, file_limit, file_refusal}
+pub use Rattle.outside.specs.Files.{FileSet, with_limit}
+pub use Rattle.outside.specs.Inputs.{IsReading, file_at, file_refusal}
 pub use Rattle.outside.specs.Names.{IsGoodName, folder_name, is_good_name}
 pub use Rattle.outside.specs.Puts.{Put, PutsMake, Seen, refused, taken}
 pub use Rattle.outside.specs.Refusals.{input_fault}
@@ -113,6 +115,7 @@ pub use Rattle.run_puts.specs.Tails.{failed, memory_put, status_after, wanting}
 pub use Rattle.run_puts.specs.declared.status.Status.{Status}
 pub use Rattle.settle_driver.specs.Views.{AddsPhases, EnclosesPair}
 pub use Rattle.span_steps.specs.Steps.{AreAllSteps, AreSteps, two}
+pub use Rattle.step_chain.specs.Barriers.{edges_by}
 pub use Rattle.step_chain.specs.declared.solved.Solved.{Solved}
 pub use Rattle.step_problem.specs.Entries.{Entries}
 pub use Rattle.step_problem.specs.Heads.{Edges, lower_at, upper_at}

@@ -1,6 +1,6 @@
 -- What a settler did that shows heads to a viewer, said of the viewer.
 use Rattle.engine.proofs.Common.{◌≡◌, ◌∙◌, ◌⊎◌, ℕ, List, [], ◌∷◌, Bool, true, Option, inl, inr, ap, sym, subst, SinkError, Bound, Entries, Edges, TimeStep}
-use Rattle.engine.proofs.Common.{times, Task, AllSettledBy, AreSettledBy, IsSettledBy, Reaches, ReachesFirst, RestsOrSettles, begun, rests, settled}
+use Rattle.engine.proofs.Common.{times, Task, AllSettledBy, AreSettledBy, IsSettledBy, Reaches, ReachesFirst, RestsOrSettles, begun, rests, settled, edges_by}
 
 module _ {S V : Type 0} (begins : S → ℕ → ℕ → S → Type 0) (leads : S → List Entries → Edges → Bool → S → Type 0) (stop : S → Option SinkError)
     (begins' : V → ℕ → ℕ → V → Type 0) (leads' : V → List Entries → Edges → Bool → V → Type 0) (stop' : V → Option SinkError)
@@ -10,7 +10,7 @@ module _ {S V : Type 0} (begins : S → ℕ → ℕ → S → Type 0) (leads : S
     (same : (s : S) → stop s ≡ stop' (of s)) where
   by_other : (k : Task) (at : TimeStep) (old : List Bound) (ended : Bool) (s t : S) → Keeps s → IsSettledBy leads k at old ended s t → Keeps t × IsSettledBy leads' k at old ended (of s) (of t)
   by_other k at old ended s t keeps by =
-      let r = led s t by.problem by.barrier ended keeps by.led in
+      let r = led s t by.problem (edges_by k.limits by.barrier) ended keeps by.led in
       (r.0, record { problem = by.problem; barrier = by.barrier; posed = by.posed; encloses = by.encloses; led = r.1 })
 
   rest_or_settle : (k : Task) (at : TimeStep) (old : List Bound) (s t : S) → Keeps s → RestsOrSettles leads k at old s t → Keeps t × RestsOrSettles leads' k at old (of s) (of t)

@@ -1,15 +1,16 @@
 -- The public clauses, from all that a run comes to.
 use Rattle.engine.proofs.Common.{◌≡◌, ℕ, List, [], ◌∷◌, Option, Some, None, IfSome, Result, Ok, Err, map, subst, sym, ◌∙◌, ap, refl, inl, inr, ◌⊎◌, codes}
-use Rattle.engine.proofs.Common.{append-nil, Appends, File, Rose, file_refusal, Put, Seen, PutsMake, taken, BadName, Refusal, NoBound, FlowModel, TimeStep}
+use Rattle.engine.proofs.Common.{append-nil, Appends, FileSet, Rose, file_refusal, Put, Seen, PutsMake, taken, BadName, Refusal, NoBound, FlowModel, TimeStep}
 use Rattle.engine.proofs.Common.{IsModel, reads, made_files, made_name, Text, end_line, whole, early, Agree, IsUnfinished, Status, IsLate, tail_late}
 use Rattle.engine.proofs.Common.{late_not_ok, late_not_read, all_written, write_rose, one_deck, AreDecks, one_valid, Task, Step, ListingEnd, AllSteps, listing}
 use Rattle.engine.proofs.Common.{status_of, IsListing, IsWhole, is_whole, whole_listing, history_exists, history_is_one, VerdictIsOne, Asked, AskedCheck, Case}
 use Rattle.engine.proofs.Common.{Command, Run, Make, Check, Write, NoWords, Refuses, Listing, Making, Checking, Writing, IsCase, asked_in, case_asked, case_of}
 use Rattle.engine.proofs.Common.{case_read, case_zoned, listing_read, made_model, named, task_of, zones_read, Certified, OneDeck, CutOf, Defines, Due, Headline}
 use Rattle.engine.proofs.Common.{IsSummed, Made, made_task, summed_text, OneOrQuick, OneSummary, OneVerdict, Decided, Comes, HasCertified, HasDeck, HasListing}
-use Rattle.engine.proofs.Common.{HasTask, IsRunOf, Answers, IsStopped, IsValid, Plain, ListingIsOne, ListingExcludesRefusal, RefusalIsOne, defined, false}
-use Rattle.engine.proofs.Common.{Decks, ZonedListing, IsVerdict, Difference, CheckSpan, Comparing, IsCheckingOf, IsListingOf, Span, case_between, case_listed}
-use Rattle.engine.proofs.Common.{two, true, readings_of, some_readings, Second, not_alike, second_in, IsPlain, Bool, AreAlike}
+use Rattle.engine.proofs.Common.{HasTask, IsRunOf, Answers, IsStopped, IsValid, Plain, Limits, ListingIsOne, ListingExcludesRefusal, RefusalIsOne, defined}
+use Rattle.engine.proofs.Common.{false, Decks, ZonedListing, IsVerdict, Difference, CheckSpan, Comparing, IsCheckingOf, IsListingOf, Span, case_between}
+use Rattle.engine.proofs.Common.{case_listed, two, true, readings_of, some_readings, Second, not_alike, second_in, IsPlain, Bool, AreAlike, most_bytes}
+use Rattle.engine.proofs.Common.{with_limit}
 use Rattle.listing_summary.specs.Summaries.{summary_of}
 use Rattle.listing_summary.specs.Texts.{summary_text}
 use Rattle.engine.specs.Defined.{unread}
@@ -48,11 +49,11 @@ delivers read_failed case end puts (whole meant pieces due) e = record { pieces 
 delivers read_failed case end puts (early meant before after tail b t) e = absurd (late_not_ok end (tail_late after end tail t) e)
 
 -- a listing of these words and files: what the words ask for, and the model that the files read as
-record Listed (words : List Text) (files : List File) (k : Task) : Type 0 where
+record Listed (words : List Text) (files : FileSet) (k : Task) : Type 0 where
   asked : Asked
   wanted : asked_in words ≡ Some (Run asked)
   model : FlowModel
-  read : reads Plain files asked.name ≡ Ok model
+  read : reads asked.limits files asked.name ≡ Ok model
   zones : Option (List ℕ)
   zoned : zones_read files asked.zones model ≡ Ok zones
   task : task_of asked model zones ≡ k
@@ -62,7 +63,7 @@ task_in other NoWords = other
 task_in other (Refuses refusal) = other
 task_in other (Listing k) = k
 task_in other (Making seed size read) = other
-task_in other (Checking m s steps) = other
+task_in other (Checking limits m s steps) = other
 task_in other (Writing m) = other
 task_in other (Comparing a b c) = other
 
@@ -70,23 +71,23 @@ same_task : (j k : Task) → Listing j ≡ Listing k → j ≡ k
 unfolding task_in
 same_task j k e = ap (task_in k) e
 
-module _ (words : List Text) (files : List File) (k : Task) where
-  by_zones : (asked : Asked) → asked_in words ≡ Some (Run asked) → (f : FlowModel) → named asked.name (reads Plain files) ≡ Ok f → (z : Result (Option (List ℕ)) Refusal) → zones_read files asked.zones f ≡ z → case_zoned asked f z ≡ Listing k → Listed words files k
-  by_zones asked wanted f is (Ok zones) also e = record { asked = asked; wanted = wanted; model = f; read = named_read asked.name (reads Plain files) f is; zones = zones; zoned = also; task = same_task (task_of asked f zones) k e }
+module _ (words : List Text) (files : FileSet) (k : Task) where
+  by_zones : (asked : Asked) → asked_in words ≡ Some (Run asked) → (f : FlowModel) → named asked.name (reads asked.limits files) ≡ Ok f → (z : Result (Option (List ℕ)) Refusal) → zones_read files asked.zones f ≡ z → case_zoned asked f z ≡ Listing k → Listed words files k
+  by_zones asked wanted f is (Ok zones) also e = record { asked = asked; wanted = wanted; model = f; read = named_read asked.name (reads asked.limits files) f is; zones = zones; zoned = also; task = same_task (task_of asked f zones) k e }
   by_zones asked wanted f is (Err refusal) also e = absurd (let bad : Refuses refusal ≡ Listing k = e in cc)
 
-  by_reading : (asked : Asked) → asked_in words ≡ Some (Run asked) → (r : Result FlowModel Refusal) → named asked.name (reads Plain files) ≡ r → case_read asked r (zones_read files asked.zones) ≡ Listing k → Listed words files k
+  by_reading : (asked : Asked) → asked_in words ≡ Some (Run asked) → (r : Result FlowModel Refusal) → named asked.name (reads asked.limits files) ≡ r → case_read asked r (zones_read files asked.zones) ≡ Listing k → Listed words files k
   by_reading asked wanted (Ok f) is e = by_zones asked wanted f is (zones_read files asked.zones f) refl e
   by_reading asked wanted (Err refusal) is e = absurd (let bad : Refuses refusal ≡ Listing k = e in cc)
 
   by_words : (a : Option Command) → asked_in words ≡ a → case_asked a (readings_of files) ≡ Listing k → Listed words files k
   by_words None wanted e = absurd (let bad : NoWords ≡ Listing k = e in cc)
-  by_words (Some (Run asked)) wanted e = by_reading asked wanted (named asked.name (reads Plain files)) refl e
+  by_words (Some (Run asked)) wanted e = by_reading asked wanted (named asked.name (reads asked.limits files)) refl e
   by_words (Some (Make seed size)) wanted e = absurd (let bad : Making seed size (made_model seed size) ≡ Listing k = e in cc)
-  by_words (Some (Check asked)) wanted e = absurd (checked_case (λ c. c ≡ Listing k → ⊥) (λ refusal x. let bad : Refuses refusal ≡ Listing k = x in cc) (λ m s steps x. let bad : Checking m s steps ≡ Listing k = x in cc) asked (named asked.name (reads Plain files)) (listing_read false files asked) e)
-  by_words (Some (Span asked)) wanted e = absurd (compared_case (λ c. c ≡ Listing k → ⊥) (λ refusal x. let bad : Refuses refusal ≡ Listing k = x in cc) (λ a b c x. let bad : Comparing a b c ≡ Listing k = x in cc) (named asked.run.name (reads Plain files)) (named asked.to (second_in files)) (λ x y. case_between asked.run x y (zones_read files asked.run.zones x)) e)
-  by_words (Some (CheckSpan asked)) wanted e = absurd (compared_case (λ c. c ≡ Listing k → ⊥) (λ refusal x. let bad : Refuses refusal ≡ Listing k = x in cc) (λ a b c x. let bad : Comparing a b c ≡ Listing k = x in cc) (named asked.check.name (reads Plain files)) (named asked.to (second_in files)) (λ x y. case_listed asked.check (two x y) (listing_read true files asked.check x)) e)
-  by_words (Some (Write name)) wanted e = absurd (written_case (λ c. c ≡ Listing k → ⊥) (λ refusal x. let bad : Refuses refusal ≡ Listing k = x in cc) (λ m x. let bad : Writing m ≡ Listing k = x in cc) (named name (reads Plain files)) e)
+  by_words (Some (Check asked)) wanted e = absurd (checked_case (λ c. c ≡ Listing k → ⊥) (λ refusal x. let bad : Refuses refusal ≡ Listing k = x in cc) (λ limits m s steps x. let bad : Checking limits m s steps ≡ Listing k = x in cc) asked (named asked.name (reads asked.limits files)) (listing_read false files asked) e)
+  by_words (Some (Span asked)) wanted e = absurd (compared_case (λ c. c ≡ Listing k → ⊥) (λ refusal x. let bad : Refuses refusal ≡ Listing k = x in cc) (λ a b c x. let bad : Comparing a b c ≡ Listing k = x in cc) (named asked.run.name (reads asked.run.limits files)) (named asked.to (second_in asked.run.limits files)) (λ x y. case_between asked.run x y (zones_read files asked.run.zones x)) e)
+  by_words (Some (CheckSpan asked)) wanted e = absurd (compared_case (λ c. c ≡ Listing k → ⊥) (λ refusal x. let bad : Refuses refusal ≡ Listing k = x in cc) (λ a b c x. let bad : Comparing a b c ≡ Listing k = x in cc) (named asked.check.name (reads asked.check.limits files)) (named asked.to (second_in asked.check.limits files)) (λ x y. case_listed asked.check (two x y) (listing_read true files asked.check x)) e)
+  by_words (Some (Write limits name)) wanted e = absurd (written_case (λ c. c ≡ Listing k → ⊥) (λ refusal x. let bad : Refuses refusal ≡ Listing k = x in cc) (λ m x. let bad : Writing m ≡ Listing k = x in cc) (named name (reads limits files)) e)
 
   listed : case_of words files ≡ Listing k → Listed words files k
   listed e = by_words (asked_in words) refl e
@@ -108,7 +109,7 @@ one_making : (seed size i j : ℕ) (read other : Result FlowModel Refusal) → M
 unfolding making_in
 one_making seed size i j read other e = (ap (λ c. (making_in c).0) e, ap (λ c. (making_in c).1) e, ap (λ c. (making_in c).2) e)
 
-module _ (words : List Text) (files : List File) (seed size : ℕ) (read : Result FlowModel Refusal) where
+module _ (words : List Text) (files : FileSet) (seed size : ℕ) (read : Result FlowModel Refusal) where
   same_words : (i j : ℕ) → asked_in words ≡ Some (Make i j) → (i ≡ seed) × (j ≡ size) × (made_model i j ≡ read) → Summed words seed size read
   same_words i j wanted (a, b, is) =
       let P : ℕ → Type 0 = λ n. asked_in words ≡ Some (Make n j) in
@@ -127,22 +128,22 @@ module _ (words : List Text) (files : List File) (seed size : ℕ) (read : Resul
 
   made_by_words : (a : Option Command) → asked_in words ≡ a → case_asked a (readings_of files) ≡ Making seed size read → Summed words seed size read
   made_by_words None wanted e = absurd (let bad : NoWords ≡ Making seed size read = e in cc)
-  made_by_words (Some (Run asked)) wanted e = made_by_reading asked (named asked.name (reads Plain files)) e
+  made_by_words (Some (Run asked)) wanted e = made_by_reading asked (named asked.name (reads asked.limits files)) e
   made_by_words (Some (Make i j)) wanted e = same_words i j wanted (one_making i j seed size (made_model i j) read e)
-  made_by_words (Some (Check asked)) wanted e = absurd (checked_case (λ c. c ≡ Making seed size read → ⊥) (λ refusal x. let bad : Refuses refusal ≡ Making seed size read = x in cc) (λ m s steps x. let bad : Checking m s steps ≡ Making seed size read = x in cc) asked (named asked.name (reads Plain files)) (listing_read false files asked) e)
-  made_by_words (Some (Span asked)) wanted e = absurd (compared_case (λ c. c ≡ Making seed size read → ⊥) (λ refusal x. let bad : Refuses refusal ≡ Making seed size read = x in cc) (λ a b c x. let bad : Comparing a b c ≡ Making seed size read = x in cc) (named asked.run.name (reads Plain files)) (named asked.to (second_in files)) (λ x y. case_between asked.run x y (zones_read files asked.run.zones x)) e)
-  made_by_words (Some (CheckSpan asked)) wanted e = absurd (compared_case (λ c. c ≡ Making seed size read → ⊥) (λ refusal x. let bad : Refuses refusal ≡ Making seed size read = x in cc) (λ a b c x. let bad : Comparing a b c ≡ Making seed size read = x in cc) (named asked.check.name (reads Plain files)) (named asked.to (second_in files)) (λ x y. case_listed asked.check (two x y) (listing_read true files asked.check x)) e)
-  made_by_words (Some (Write name)) wanted e = absurd (written_case (λ c. c ≡ Making seed size read → ⊥) (λ refusal x. let bad : Refuses refusal ≡ Making seed size read = x in cc) (λ m x. let bad : Writing m ≡ Making seed size read = x in cc) (named name (reads Plain files)) e)
+  made_by_words (Some (Check asked)) wanted e = absurd (checked_case (λ c. c ≡ Making seed size read → ⊥) (λ refusal x. let bad : Refuses refusal ≡ Making seed size read = x in cc) (λ limits m s steps x. let bad : Checking limits m s steps ≡ Making seed size read = x in cc) asked (named asked.name (reads asked.limits files)) (listing_read false files asked) e)
+  made_by_words (Some (Span asked)) wanted e = absurd (compared_case (λ c. c ≡ Making seed size read → ⊥) (λ refusal x. let bad : Refuses refusal ≡ Making seed size read = x in cc) (λ a b c x. let bad : Comparing a b c ≡ Making seed size read = x in cc) (named asked.run.name (reads asked.run.limits files)) (named asked.to (second_in asked.run.limits files)) (λ x y. case_between asked.run x y (zones_read files asked.run.zones x)) e)
+  made_by_words (Some (CheckSpan asked)) wanted e = absurd (compared_case (λ c. c ≡ Making seed size read → ⊥) (λ refusal x. let bad : Refuses refusal ≡ Making seed size read = x in cc) (λ a b c x. let bad : Comparing a b c ≡ Making seed size read = x in cc) (named asked.check.name (reads asked.check.limits files)) (named asked.to (second_in asked.check.limits files)) (λ x y. case_listed asked.check (two x y) (listing_read true files asked.check x)) e)
+  made_by_words (Some (Write limits name)) wanted e = absurd (written_case (λ c. c ≡ Making seed size read → ⊥) (λ refusal x. let bad : Refuses refusal ≡ Making seed size read = x in cc) (λ m x. let bad : Writing m ≡ Making seed size read = x in cc) (named name (reads limits files)) e)
 
   summed : case_of words files ≡ Making seed size read → Summed words seed size read
   summed e = made_by_words (asked_in words) refl e
 
 -- the headline of a listing, of a made model, of a check or of a deck, and what is promised beside
-abbrev pub Both : List Text → List File → Seen → Seen → Type 0
+abbrev pub Both : List Text → FileSet → Seen → Seen → Type 0
 Both words files old new = (Headline words files old.written new.written × OneOrQuick words files old.written new.written) ⊎ ((Made words old.written new.written × OneSummary words old.written new.written) ⊎ ((Certified words files old.written new.written × OneVerdict words files) ⊎ ((OneDeck words files old.written new.written × OneDeck words files old.written new.written) ⊎ SpanBoth words files old new)))
 
 module _ (laws : Laws) where
-  of_listing : (words : List Text) (files : List File) (old new : Seen) (puts : List Put) (pieces : List Text) (k : Task) → Listed words files k → AreDecks k.decks → IsWhole k pieces → puts ≡ map taken pieces → PutsMake old puts new → Headline words files old.written new.written × OneOrQuick words files old.written new.written
+  of_listing : (words : List Text) (files : FileSet) (old new : Seen) (puts : List Put) (pieces : List Text) (k : Task) → Listed words files k → AreDecks k.decks → IsWhole k pieces → puts ≡ map taken pieces → PutsMake old puts new → Headline words files old.written new.written × OneOrQuick words files old.written new.written
   of_listing words files old new puts pieces k l valid w written makes =
       let W : Task → Type 0 = λ j. IsWhole j pieces in
       by_task (subst W (sym l.task) w) (let M : Task → Type 0 = λ j. AreDecks j.decks in subst M (sym l.task) valid)
@@ -193,8 +194,8 @@ module _ (laws : Laws) where
               values = v.values;
               written = all;
               encloses = v.encloses;
-              solvable = history_exists l.model l.asked.digits l.zones l.asked.rounds l.asked.quick v.values model.first v.steps;
-              one = history_is_one l.model l.asked.digits l.zones l.asked.rounds l.asked.quick v.values model.first v.steps;
+              solvable = history_exists l.asked.limits l.model l.asked.digits l.zones l.asked.rounds l.asked.quick v.values model.first v.steps;
+              one = history_is_one l.asked.limits l.model l.asked.digits l.zones l.asked.rounds l.asked.quick v.values model.first v.steps;
             },
             by_quick v model l.asked.quick refl,
           )
@@ -211,7 +212,7 @@ module _ (laws : Laws) where
       let is : pieces ≡ summary_text seed size (summary_of m values) ∷ [] = subst T whole x.are in
       let P : List ℕ → Type 0 = λ t. Appends old.written new.written t in
       let all = subst P (append-nil (summary_text seed size (summary_of m values))) (all_written (summary_text seed size (summary_of m values) ∷ []) old new puts (written ∙ ap (map taken) is) makes) in
-      let read = named_read made_name (reads Plain (made_files seed size)) m l.is in (
+      let read = named_read made_name (reads Plain (with_limit (most_bytes Plain) (made_files seed size))) m l.is in (
         record {
           seed = seed;
           size = size;
@@ -222,8 +223,8 @@ module _ (laws : Laws) where
           values = values;
           written = all;
           encloses = x.listed.encloses whole;
-          solvable = history_exists m k.digits None k.rounds false values model steps;
-          one = history_is_one m k.digits None k.rounds false values model steps;
+          solvable = history_exists k.limits m k.digits None k.rounds false values model steps;
+          one = history_is_one k.limits m k.digits None k.rounds false values model steps;
         },
         record {
           seed = seed;
@@ -244,16 +245,16 @@ module _ (laws : Laws) where
   summed_ok words old new puts end seed size (Ok m) l (inl model) e d makes = of_summed words old new puts seed size m d.pieces l model d.defines d.written makes
   summed_ok words old new puts end seed size (Ok m) l (inr stops) e d makes = absurd (not_stopped (let P : Status → Type 0 = IsStopped in subst P e stops))
 
-  by_case : (words : List Text) (files : List File) (old new : Seen) (puts : List Put) (end : Status) (case : Case) → case ≡ case_of words files → IsValid case end → end ≡ status.Ok → Delivers case puts → PutsMake old puts new → Both words files old new
+  by_case : (words : List Text) (files : FileSet) (old new : Seen) (puts : List Put) (end : Status) (case : Case) → case ≡ case_of words files → IsValid case end → end ≡ status.Ok → Delivers case puts → PutsMake old puts new → Both words files old new
   by_case words files old new puts end NoWords is valid e d makes = absurd (let bad : status.Ok ≡ status.Usage = d.defines.0 in cc)
   by_case words files old new puts end (Refuses refusal) is valid e d makes = absurd (let bad : status.Ok ≡ status.Refused refusal = d.defines.0 in cc)
   by_case words files old new puts end (Listing k) is valid e d makes = inl (of_listing words files old new puts d.pieces k (listed words files k (sym is)) (valid_ok k end valid e) (whole_listing k d.pieces d.defines) d.written makes)
   by_case words files old new puts end (Making seed size read) is valid e d makes = inr (inl (summed_ok words old new puts end seed size read (summed words files seed size read (sym is)) valid e d makes))
-  by_case words files old new puts end (Checking m s steps) is valid e d makes =
-      let a = asks_check words files m s steps (sym is) in
+  by_case words files old new puts end (Checking limits m s steps) is valid e d makes =
+      let a = asks_check words files limits m s steps (sym is) in
       let D : Case → Type 0 = λ case. Defines case status.Ok d.pieces in
       let V : Case → Type 0 = λ case. IsValid case status.Ok in
-      let E : Status → Type 0 = λ t. IsValid (Checking m s steps) t in
+      let E : Status → Type 0 = λ t. IsValid (Checking limits m s steps) t in
       inr (inr (inl (of_check words files old new puts d.pieces a.0 a.1 d.written makes (subst V is (subst E e valid)) (subst D is d.defines))))
   by_case words files old new puts end (Writing m) is valid e d makes =
       let E : Status → Type 0 = λ t. IsValid (Writing m) t in
@@ -263,15 +264,15 @@ module _ (laws : Laws) where
       let E : Status → Type 0 = λ t. IsValid (Comparing a b c) t in
       inr (inr (inr (inr (pair_told laws.one words files old new puts d.pieces d.written makes a b c (asks_pair words files a b c (sym is)) (subst E e valid) d.defines))))
 
-  pub both : (words : List Text) (files : Option (List File)) (n m : ℕ) (end : Status) (puts : List Put) (old new : Seen) → Answers words files n m end puts → PutsMake old puts new → end ≡ status.Ok → IfSome files (λ fs. Both words fs old new)
+  pub both : (words : List Text) (files : Option FileSet) (n m : ℕ) (end : Status) (puts : List Put) (old new : Seen) → Answers words files n m end puts → PutsMake old puts new → end ≡ status.Ok → IfSome files (λ fs. Both words fs old new)
   both words (Some fs) n m end puts old new a makes e = by_case words fs old new puts end a.case a.is a.valid e (delivers (Rose n m) a.case end puts a.run e) makes
   both words None n m end puts old new a makes e = tt
 
-  made_of : (words : List Text) (files : Option (List File)) (seed size : ℕ) (case : Case) → asked_in words ≡ Some (Make seed size) → IsCase words files case → case ≡ Making seed size (made_model seed size)
+  made_of : (words : List Text) (files : Option FileSet) (seed size : ℕ) (case : Case) → asked_in words ≡ Some (Make seed size) → IsCase words files case → case ≡ Making seed size (made_model seed size)
   made_of words (Some fs) seed size case wanted is = let P : Option Command → Type 0 = λ a. case ≡ case_asked a (readings_of fs) in subst P wanted is
   made_of words None seed size case wanted (read, second, zoned, listed, valid, is) = let P : Option Command → Type 0 = λ a. case ≡ case_asked a (some_readings read second zoned listed) in subst P wanted is
 
-  pub made : (words : List Text) (files : Option (List File)) (n m : ℕ) (end : Status) (puts : List Put) (old new : Seen) → Answers words files n m end puts → PutsMake old puts new → end ≡ status.Ok → (seed size : ℕ) → asked_in words ≡ Some (Make seed size) → Made words old.written new.written × OneSummary words old.written new.written
+  pub made : (words : List Text) (files : Option FileSet) (n m : ℕ) (end : Status) (puts : List Put) (old new : Seen) → Answers words files n m end puts → PutsMake old puts new → end ≡ status.Ok → (seed size : ℕ) → asked_in words ≡ Some (Make seed size) → Made words old.written new.written × OneSummary words old.written new.written
   made words files n m end puts old new a makes e seed size wanted =
       let same = made_of words files seed size a.case wanted a.is in
       let V : Case → Type 0 = λ case. IsValid case end in
@@ -296,7 +297,7 @@ second_of (inr (inr (inr (inr (inl p))))) = inr (inr (inr (inr (inl p.1))))
 second_of (inr (inr (inr (inr (inr p))))) = inr (inr (inr (inr (inr p.1))))
 
 -- of a check
-pub certified : (words : List Text) (files : Option (List File)) (n m : ℕ) (end : Status) (puts : List Put) (old new : Seen) → Answers words files n m end puts → PutsMake old puts new → end ≡ status.Ok → (asked : AskedCheck) → asked_in words ≡ Some (Check asked) → IfSome files (λ fs. Certified words fs old.written new.written × OneVerdict words fs)
+pub certified : (words : List Text) (files : Option FileSet) (n m : ℕ) (end : Status) (puts : List Put) (old new : Seen) → Answers words files n m end puts → PutsMake old puts new → end ≡ status.Ok → (asked : AskedCheck) → asked_in words ≡ Some (Check asked) → IfSome files (λ fs. Certified words fs old.written new.written × OneVerdict words fs)
 certified words (Some fs) n m end puts old new a makes e asked wanted =
     let d = delivers (Rose n m) a.case end puts a.run e in
     let D : Case → Type 0 = λ case. Defines case status.Ok d.pieces in
@@ -320,7 +321,7 @@ defines_no_fault (Refuses refusal) end pieces d h = subst IsFault d.0 h
 defines_no_fault (Listing k) end pieces d h = listing_is_no_fault k end pieces d h
 defines_no_fault (Making seed size (Ok m)) end pieces d h = listing_is_no_fault (made_task m) end d.all d.listed h
 defines_no_fault (Making seed size (Err refusal)) end pieces d h = subst IsFault d.0 h
-defines_no_fault (Checking m s steps) end pieces d h = check_is_no_fault m s steps end pieces d h
+defines_no_fault (Checking limits m s steps) end pieces d h = check_is_no_fault limits m s steps end pieces d h
 defines_no_fault (Writing m) end pieces d h = deck_is_no_fault m end pieces d h
 defines_no_fault (Comparing a b c) end pieces (inl unlike) h = subst IsFault unlike.status h
 defines_no_fault (Comparing a b c) end pieces (inr (alike, d)) h = defines_no_fault c end pieces d h
@@ -396,8 +397,8 @@ decides laws (Listing k) meant end p q plain (inr stops) x y = absurd (never_sto
 decides laws (Making seed size (Err refusal)) meant end p q plain valid (x, a) (y, b) = inr (inl (y ∙ sym x))
 decides laws (Making seed size (Ok m)) meant end p q plain (inl valid) x y = agree laws (made_task m) (one_valid m valid) refl meant end x.all y.all x.listed y.listed
 decides laws (Making seed size (Ok m)) meant end p q plain (inr stops) x y = absurd (never_stopped (made_task m) end y.all stops y.listed)
-decides laws (Checking m s steps) meant end p q plain (inl (model, listed)) x y = inr (inl (one_end m s steps laws.verdict model listed meant end p q x y))
-decides laws (Checking m s steps) meant end p q plain (inr stops) x y = absurd (never_stopped_check m s steps end q stops y)
+decides laws (Checking limits m s steps) meant end p q plain (inl (model, listed)) x y = inr (inl (one_end limits m s steps laws.verdict model listed meant end p q x y))
+decides laws (Checking limits m s steps) meant end p q plain (inr stops) x y = absurd (never_stopped_check limits m s steps end q stops y)
 decides laws (Writing m) meant end p q plain valid (x, a) (y, b) = inr (inl (y ∙ sym x))
 decides laws (Comparing a b c) meant end p q plain valid (inl x) (inl y) = inr (inl (y.status ∙ ap (λ (d : Difference). status.Refused (not_alike b d)) (laws.difference a b.model y.difference x.difference y.first x.first) ∙ sym x.status))
 decides laws (Comparing a b c) meant end p q plain valid (inl x) (inr (alike, y)) = absurd (x.unlike alike)
@@ -415,7 +416,7 @@ decided_by laws fault case meant end p plain valid x (inl f) = inl (inl f)
 decided_by laws fault case meant end p plain valid x (inr (inl e)) = inr (inr (inl e))
 decided_by laws fault case meant end p plain valid x (inr (inr (q, y))) = weighed fault meant end (decides laws case meant end p q plain valid x y)
 
-pub decided : (laws : Laws) (words : List Text) (files : Option (List File)) (n m : ℕ) (end : Status) (puts : List Put) (old new : Seen) → Answers words files n m end puts → PutsMake old puts new → IfSome files (λ fs. Decided (Rose n m ⊎ Rose old.faults new.faults) words fs end)
+pub decided : (laws : Laws) (words : List Text) (files : Option FileSet) (n m : ℕ) (end : Status) (puts : List Put) (old new : Seen) → Answers words files n m end puts → PutsMake old puts new → IfSome files (λ fs. Decided (Rose n m ⊎ Rose old.faults new.faults) words fs end)
 decided laws words (Some fs) n m end puts old new a makes = λ plain meant pieces x.
     let P : Case → Type 0 = λ case. Defines case meant pieces in
     decided_by laws (Rose n m ⊎ Rose old.faults new.faults) a.case meant end pieces (subst IsPlain (sym a.is) plain) a.valid (subst P (sym a.is) x) (ended n m a.case end puts old new a.run makes)
@@ -434,7 +435,7 @@ compared_ends : (k : Task) (case : Case) (end : Status) → IsListingOf k case �
 compared_ends k NoWords end has = absurd has
 compared_ends k (Refuses refusal) end has = absurd has
 compared_ends k (Making seed size read) end has = absurd has
-compared_ends k (Checking m s steps) end has = absurd has
+compared_ends k (Checking limits m s steps) end has = absurd has
 compared_ends k (Writing m) end has = absurd has
 compared_ends k (Listing j) end has =
     let P : Task → Type 0 = λ t. AreEndsOf t end (Listing j) in
@@ -445,7 +446,7 @@ ends_of : (k : Task) (case : Case) (end : Status) → HasTask case k → AreEnds
 ends_of k NoWords end has = absurd has
 ends_of k (Refuses refusal) end has = absurd has
 ends_of k (Making seed size (Err refusal)) end has = absurd has
-ends_of k (Checking m s steps) end has = absurd has
+ends_of k (Checking limits m s steps) end has = absurd has
 ends_of k (Writing m) end has = absurd has
 ends_of k (Comparing a b c) end has = λ q y. compared_ends k (Comparing a b c) end has q y
 ends_of k (Listing j) end has =
@@ -462,24 +463,25 @@ comes_by fault case end through (inr (inl e)) = inr (inr e)
 comes_by fault case end through (inr (inr (q, y))) = inr (inl (through q y))
 
 -- a check whose verdict is that the listing is certified has no other end, nor has that of two decks that are alike
-checks_certify : VerdictIsOne → (d : Decks) (s : ℕ) (l : ZonedListing) → IsVerdict d s l.zones l.steps Holds → (fault : Type 0) (end : Status) (case : Case) → IsCheckingOf d s l case → IsValid case end → Ended fault case end → fault ⊎ ((end ≡ status.Ok) ⊎ (end ≡ status.Memory))
-checks_certify law d s l verdict fault end NoWords has valid ended = absurd has
-checks_certify law d s l verdict fault end (Refuses refusal) has valid ended = absurd has
-checks_certify law d s l verdict fault end (Listing k) has valid ended = absurd has
-checks_certify law d s l verdict fault end (Making seed size read) has valid ended = absurd has
-checks_certify law d s l verdict fault end (Writing m) has valid ended = absurd has
-checks_certify law d s l verdict fault end (Checking e t k) (same, digits, listing) valid ended =
-    let P : Decks → Type 0 = λ x. IsVerdict x s l.zones l.steps Holds in
-    let Q : ℕ → Type 0 = λ x. IsVerdict e x l.zones l.steps Holds in
-    let R : ZonedListing → Type 0 = λ x. IsVerdict e t x.zones x.steps Holds in
-    certifies e t k law (subst R (sym listing) (subst Q (sym digits) (subst P (sym same) verdict))) fault end valid ended
-checks_certify law d s l verdict fault end (Comparing a b case) (alike, has) (inl never) ended = absurd (never alike)
-checks_certify law d s l verdict fault end (Comparing a b case) (alike, has) (inr valid) (inl f) = inl f
-checks_certify law d s l verdict fault end (Comparing a b case) (alike, has) (inr valid) (inr (inl e)) = inr (inr e)
-checks_certify law d s l verdict fault end (Comparing a b case) (alike, has) (inr valid) (inr (inr (q, inl unlike))) = absurd (unlike.unlike alike)
-checks_certify law d s l verdict fault end (Comparing a b case) (alike, has) (inr valid) (inr (inr (q, inr (also, y)))) = checks_certify law d s l verdict fault end case has valid (inr (inr (q, y)))
+checks_certify : VerdictIsOne → (limits : Limits) (d : Decks) (s : ℕ) (l : ZonedListing) → IsVerdict limits d s l.zones l.steps Holds → (fault : Type 0) (end : Status) (case : Case) → IsCheckingOf limits d s l case → IsValid case end → Ended fault case end → fault ⊎ ((end ≡ status.Ok) ⊎ (end ≡ status.Memory))
+checks_certify law limits d s l verdict fault end NoWords has valid ended = absurd has
+checks_certify law limits d s l verdict fault end (Refuses refusal) has valid ended = absurd has
+checks_certify law limits d s l verdict fault end (Listing k) has valid ended = absurd has
+checks_certify law limits d s l verdict fault end (Making seed size read) has valid ended = absurd has
+checks_certify law limits d s l verdict fault end (Writing m) has valid ended = absurd has
+checks_certify law limits d s l verdict fault end (Checking other e t k) (by, same, digits, listing) valid ended =
+    let O : Limits → Type 0 = λ x. IsVerdict x d s l.zones l.steps Holds in
+    let P : Decks → Type 0 = λ x. IsVerdict other x s l.zones l.steps Holds in
+    let Q : ℕ → Type 0 = λ x. IsVerdict other e x l.zones l.steps Holds in
+    let R : ZonedListing → Type 0 = λ x. IsVerdict other e t x.zones x.steps Holds in
+    certifies other e t k law (subst R (sym listing) (subst Q (sym digits) (subst P (sym same) (subst O (sym by) verdict)))) fault end valid ended
+checks_certify law limits d s l verdict fault end (Comparing a b case) (alike, has) (inl never) ended = absurd (never alike)
+checks_certify law limits d s l verdict fault end (Comparing a b case) (alike, has) (inr valid) (inl f) = inl f
+checks_certify law limits d s l verdict fault end (Comparing a b case) (alike, has) (inr valid) (inr (inl e)) = inr (inr e)
+checks_certify law limits d s l verdict fault end (Comparing a b case) (alike, has) (inr valid) (inr (inr (q, inl unlike))) = absurd (unlike.unlike alike)
+checks_certify law limits d s l verdict fault end (Comparing a b case) (alike, has) (inr valid) (inr (inr (q, inr (also, y)))) = checks_certify law limits d s l verdict fault end case has valid (inr (inr (q, y)))
 
-module _ (laws : Laws) (words : List Text) (files : List File) (n m : ℕ) (end : Status) (puts : List Put) (old new : Seen) (a : Answers words (Some files) n m end puts) (makes : PutsMake old puts new) where
+module _ (laws : Laws) (words : List Text) (files : FileSet) (n m : ℕ) (end : Status) (puts : List Put) (old new : Seen) (a : Answers words (Some files) n m end puts) (makes : PutsMake old puts new) where
   abbrev Fault : Type 0
   Fault = Rose n m ⊎ Rose old.faults new.faults
 
@@ -492,12 +494,12 @@ module _ (laws : Laws) (words : List Text) (files : List File) (n m : ℕ) (end 
       let listed_end = ends_of l.task a.case end (subst P (sym a.is) l.is) in
       comes_by Fault a.case end (λ q y. let p = listed_end q y in goes_through l.task l.no_refusal l.none_open end p.0 p.1) ends_here
   complete_by (inr (inl l)) =
-      let P : Case → Type 0 = IsCheckingOf l.decks l.digits l.listing in
-      checks_certify laws.verdict l.decks l.digits l.listing l.verdict Fault end a.case (subst P (sym a.is) l.is) a.valid ends_here
+      let P : Case → Type 0 = IsCheckingOf l.limits l.decks l.digits l.listing in
+      checks_certify laws.verdict l.limits l.decks l.digits l.listing l.verdict Fault end a.case (subst P (sym a.is) l.is) a.valid ends_here
   complete_by (inr (inr l)) =
       let E : Case → Type 0 = λ case. Ended Fault case end in
       comes_by Fault (Writing l.model) end (only_deck l.model end) (subst E (a.is ∙ l.is) ends_here)
 
-pub complete : (laws : Laws) (words : List Text) (files : Option (List File)) (n m : ℕ) (end : Status) (puts : List Put) (old new : Seen) → Answers words files n m end puts → PutsMake old puts new → IfSome files (λ fs. Comes (Rose n m ⊎ Rose old.faults new.faults) words fs end)
+pub complete : (laws : Laws) (words : List Text) (files : Option FileSet) (n m : ℕ) (end : Status) (puts : List Put) (old new : Seen) → Answers words files n m end puts → PutsMake old puts new → IfSome files (λ fs. Comes (Rose n m ⊎ Rose old.faults new.faults) words fs end)
 complete laws words (Some fs) n m end puts old new a makes = complete_by laws words fs n m end puts old new a makes
 complete laws words None n m end puts old new a makes = tt

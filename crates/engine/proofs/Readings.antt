@@ -1,11 +1,11 @@
 -- What a reading gives, by the name and the files of the folder.
 use Rattle.engine.proofs.Common.{◌≡◌, ◌⊎◌, inl, inr, ℕ, ◌≤◌, Bool, true, IfSome, length, List, Option, None, Some, Result, Ok, Err, IfOk, sym, ap, refl, ◌∙◌}
-use Rattle.engine.proofs.Common.{codes, if◌then◌else◌, map, subst, ℤ, unsigned_abs, length-map, File, IsReading, file_at, file_refusal, input_fault, TextFault}
-use Rattle.engine.proofs.Common.{IsGoodName, is_good_name, BadName, InputFault, Refusal, Has, Stops, StopsText, FlowModel, IsModel, reads, Text, ListedStep}
-use Rattle.engine.proofs.Common.{pairs_in, AreListed, listing_in, zones_of, AreZonesOf, ZonedListing, AskedCheck, CouldList, named, numbers_of, steps_in}
-use Rattle.engine.proofs.Common.{steps_read, with_zones, zoned_steps, zones_named, AreStepsAs, AreZonesAs, IsListedAs, IsNamedFault, IsReadAs, Plain, ◌>>=◌}
-use Rattle.engine.proofs.Common.{model_of, AreAlike, Difference, IsFirstDifference, two, AreDecksAs, IsSecondAs, IsUnlikeFault, second_by, Second, of_both}
-use Rattle.engine.proofs.Common.{of_first, of_second, second_in, Pairs, InputCounts}
+use Rattle.engine.proofs.Common.{codes, if◌then◌else◌, map, subst, ℤ, unsigned_abs, length-map, FileSet, IsReading, file_at, file_refusal, input_fault}
+use Rattle.engine.proofs.Common.{TextFault, IsGoodName, is_good_name, BadName, InputFault, Refusal, Has, Stops, StopsText, FlowModel, IsModel, reads, Text}
+use Rattle.engine.proofs.Common.{ListedStep, pairs_in, AreListed, listing_in, zones_of, AreZonesOf, ZonedListing, AskedCheck, CouldList, named, numbers_of}
+use Rattle.engine.proofs.Common.{steps_in, steps_read, with_zones, zoned_steps, zones_named, AreStepsAs, AreZonesAs, IsListedAs, IsNamedFault, IsReadAs, Limits}
+use Rattle.engine.proofs.Common.{◌>>=◌, model_of, AreAlike, Difference, IsFirstDifference, two, AreDecksAs, IsSecondAs, IsUnlikeFault, second_by, Second}
+use Rattle.engine.proofs.Common.{of_both, of_first, of_second, second_in, Pairs, InputCounts}
 use Rattle.std.proofs.Common.{false, All}
 use Rattle.model_reader.specs.Names.{names_in}
 use Rattle.engine.specs.declared.two_decks.Second.{Second as SecondBy}
@@ -45,16 +45,16 @@ named_read {T} name read v = by_test (is_good_name name)
     by_test false e = absurd (let bad : Path (Result T Refusal) (Err (file_refusal BadName (codes "-"))) (Ok v) = e in cc)
 
 -- what holds of all files that agree, of those that are known
-pub of_known : {P Q : List File → Type 0} (files : Option (List File)) → ((fs : List File) → P fs → Q fs) → IfSome files P → IfSome files Q
+pub of_known : {P Q : FileSet → Type 0} (files : Option FileSet) → ((fs : FileSet) → P fs → Q fs) → IfSome files P → IfSome files Q
 of_known None h p = tt
 of_known (Some fs) h p = h fs p
 
 abbrev some_refusal : Result FlowModel Refusal
 some_refusal = Err (file_refusal BadName (codes "-"))
 
-pub bad_read : (name : Text) (files : Option (List File)) (fault : InputFault) → (IsGoodName name → ⊥) → IsNamedFault fault → IsReadAs name files (Err fault)
-bad_read name (Some fs) fault bad is = bad_reading name (reads Plain fs) fault bad is
-bad_read name None fault bad is = (some_refusal, tt, bad_reading name (λ n. some_refusal) fault bad is)
+pub bad_read : (limits : Limits) (name : Text) (files : Option FileSet) (fault : InputFault) → (IsGoodName name → ⊥) → IsNamedFault fault → IsReadAs limits name files (Err fault)
+bad_read limits name (Some fs) fault bad is = bad_reading name (reads limits fs) fault bad is
+bad_read limits name None fault bad is = (some_refusal, tt, bad_reading name (λ n. some_refusal) fault bad is)
 
 told_reading : (name : Text) (read : Text → Result FlowModel Refusal) (answer : Result FlowModel InputFault) → IsGoodName name → Has (λ m. m) answer (read name) → IsReading (λ m. m) (named name read) answer
 told_reading name read (Ok m) good h = good_named name read good ∙ h
@@ -62,97 +62,97 @@ told_reading name read (Err (input.Refused refusal)) good h = good_named name re
 told_reading name read (Err input.ReadFault) good h = tt
 told_reading name read (Err input.Memory) good h = tt
 
-pub good_read : (name : Text) (files : Option (List File)) (answer : Result FlowModel InputFault) → IsGoodName name → IfSome files (λ fs. Has (λ m. m) answer (reads Plain fs name)) → IfOk answer IsModel → IsReadAs name files answer
-good_read name (Some fs) answer good h valid = told_reading name (reads Plain fs) answer good h
-good_read name None (Ok m) good h valid = (Ok m, valid, told_reading name (λ n. Ok m) (Ok m) good refl)
-good_read name None (Err (input.Refused refusal)) good h valid = (Err refusal, tt, told_reading name (λ n. Err refusal) (Err (input.Refused refusal)) good refl)
-good_read name None (Err input.ReadFault) good h valid = (some_refusal, tt, tt)
-good_read name None (Err input.Memory) good h valid = (some_refusal, tt, tt)
+pub good_read : (limits : Limits) (name : Text) (files : Option FileSet) (answer : Result FlowModel InputFault) → IsGoodName name → IfSome files (λ fs. Has (λ m. m) answer (reads limits fs name)) → IfOk answer IsModel → IsReadAs limits name files answer
+good_read limits name (Some fs) answer good h valid = told_reading name (reads limits fs) answer good h
+good_read limits name None (Ok m) good h valid = (Ok m, valid, told_reading name (λ n. Ok m) (Ok m) good refl)
+good_read limits name None (Err (input.Refused refusal)) good h valid = (Err refusal, tt, told_reading name (λ n. Err refusal) (Err (input.Refused refusal)) good refl)
+good_read limits name None (Err input.ReadFault) good h valid = (some_refusal, tt, tt)
+good_read limits name None (Err input.Memory) good h valid = (some_refusal, tt, tt)
 
 -- The second deck that a name means.
 
 abbrev pub no_second : Result Second Refusal
 no_second = Err (file_refusal BadName (codes "-"))
 
-pub bad_second : (name : Text) (files : Option (List File)) (fault : InputFault) → (IsGoodName name → ⊥) → IsNamedFault fault → IsSecondAs name files (Err fault)
-bad_second name (Some fs) (input.Refused refusal) bad is = bad_named name (second_in fs) bad ∙ ap Err (sym is)
-bad_second name (Some fs) input.ReadFault bad is = tt
-bad_second name (Some fs) input.Memory bad is = tt
-bad_second name None (input.Refused refusal) bad is = (no_second, tt, bad_named name (λ n. no_second) bad ∙ ap Err (sym is))
-bad_second name None input.ReadFault bad is = (no_second, tt, tt)
-bad_second name None input.Memory bad is = (no_second, tt, tt)
+pub bad_second : (limits : Limits) (name : Text) (files : Option FileSet) (fault : InputFault) → (IsGoodName name → ⊥) → IsNamedFault fault → IsSecondAs limits name files (Err fault)
+bad_second limits name (Some fs) (input.Refused refusal) bad is = bad_named name (second_in limits fs) bad ∙ ap Err (sym is)
+bad_second limits name (Some fs) input.ReadFault bad is = tt
+bad_second limits name (Some fs) input.Memory bad is = tt
+bad_second limits name None (input.Refused refusal) bad is = (no_second, tt, bad_named name (λ n. no_second) bad ∙ ap Err (sym is))
+bad_second limits name None input.ReadFault bad is = (no_second, tt, tt)
+bad_second limits name None input.Memory bad is = (no_second, tt, tt)
 
 -- the second deck's files gave this
-pub good_second : (name : Text) (files : Option (List File)) (answer : Result SecondBy InputFault) → IsGoodName name → IfSome files (λ fs. Has second_by answer (second_in fs name)) → IfOk answer (λ b. IsModel b.model) → IsSecondAs name files answer
-good_second name (Some fs) (Ok b) good h valid = good_named name (second_in fs) good ∙ h
-good_second name (Some fs) (Err (input.Refused refusal)) good h valid = good_named name (second_in fs) good ∙ h
-good_second name (Some fs) (Err input.ReadFault) good h valid = tt
-good_second name (Some fs) (Err input.Memory) good h valid = tt
-good_second name None (Ok b) good h valid = (Ok (second_by b), valid, good_named name (λ n. Ok (second_by b)) good)
-good_second name None (Err (input.Refused refusal)) good h valid = (Err refusal, tt, good_named name (λ n. Err refusal) good)
-good_second name None (Err input.ReadFault) good h valid = (no_second, tt, tt)
-good_second name None (Err input.Memory) good h valid = (no_second, tt, tt)
+pub good_second : (limits : Limits) (name : Text) (files : Option FileSet) (answer : Result SecondBy InputFault) → IsGoodName name → IfSome files (λ fs. Has second_by answer (second_in limits fs name)) → IfOk answer (λ b. IsModel b.model) → IsSecondAs limits name files answer
+good_second limits name (Some fs) (Ok b) good h valid = good_named name (second_in limits fs) good ∙ h
+good_second limits name (Some fs) (Err (input.Refused refusal)) good h valid = good_named name (second_in limits fs) good ∙ h
+good_second limits name (Some fs) (Err input.ReadFault) good h valid = tt
+good_second limits name (Some fs) (Err input.Memory) good h valid = tt
+good_second limits name None (Ok b) good h valid = (Ok (second_by b), valid, good_named name (λ n. Ok (second_by b)) good)
+good_second limits name None (Err (input.Refused refusal)) good h valid = (Err refusal, tt, good_named name (λ n. Err refusal) good)
+good_second limits name None (Err input.ReadFault) good h valid = (no_second, tt, tt)
+good_second limits name None (Err input.Memory) good h valid = (no_second, tt, tt)
 
 -- what reading a name file and then its packages gives
-module _ (fs : List File) (name : Text) where
-  pub unread_names : (fault : InputFault) → Stops fault (names_in fs name) → Stops fault (second_in fs name)
+module _ (limits : Limits) (fs : FileSet) (name : Text) where
+  pub unread_names : (fault : InputFault) → Stops fault (names_in fs name) → Stops fault (second_in limits fs name)
   unfolding second_in
   unread_names (input.Refused refusal) h = rw h refl
   unread_names input.ReadFault h = tt
   unread_names input.Memory h = tt
 
   module _ (pairs : Pairs) (are : names_in fs name ≡ Ok pairs) where
-    pub unread_model : (fault : InputFault) → Stops fault (model_of Plain fs pairs) → Stops fault (second_in fs name)
+    pub unread_model : (fault : InputFault) → Stops fault (model_of limits fs pairs) → Stops fault (second_in limits fs name)
     unfolding second_in
     unread_model (input.Refused refusal) h = rw (are, h) refl
     unread_model input.ReadFault h = tt
     unread_model input.Memory h = tt
 
-    pub second_read : (m : FlowModel) → model_of Plain fs pairs ≡ Ok m → second_in fs name ≡ Ok (record { name = name; files = pairs; model = m })
+    pub second_read : (m : FlowModel) → model_of limits fs pairs ≡ Ok m → second_in limits fs name ≡ Ok (record { name = name; files = pairs; model = m })
     unfolding second_in
     second_read m h = rw (are, h) refl
 
 -- its model is the one that the files of its name read as
-pub second_parts : (files : List File) (name : Text) (b : Second) → second_in files name ≡ Ok b → reads Plain files name ≡ Ok b.model
+pub second_parts : (limits : Limits) (files : FileSet) (name : Text) (b : Second) → second_in limits files name ≡ Ok b → reads limits files name ≡ Ok b.model
 unfolding second_in reads
-second_parts files name b h = by_names (names_in files name) refl h
+second_parts limits files name b h = by_names (names_in files name) refl h
   where
     by_model : (pairs : Pairs) (r : Result FlowModel Refusal) → (r >>= λ m. Ok (record { name = name; files = pairs; model = m })) ≡ Ok b → r ≡ Ok b.model
     by_model pairs (Ok m) e = let same : record { name = name; files = pairs; model = m } ≡ b = cc in ap (λ (x : Second). Ok x.model) same
     by_model pairs (Err refusal) e = absurd (let bad : Path (Result Second Refusal) (Err refusal) (Ok b) = e in cc)
 
-    by_names : (r : Result Pairs Refusal) → names_in files name ≡ r → (r >>= λ pairs. model_of Plain files pairs >>= λ m. Ok (record { name = name; files = pairs; model = m })) ≡ Ok b → (r >>= model_of Plain files) ≡ Ok b.model
-    by_names (Ok pairs) is e = by_model pairs (model_of Plain files pairs) e
+    by_names : (r : Result Pairs Refusal) → names_in files name ≡ r → (r >>= λ pairs. model_of limits files pairs >>= λ m. Ok (record { name = name; files = pairs; model = m })) ≡ Ok b → (r >>= model_of limits files) ≡ Ok b.model
+    by_names (Ok pairs) is e = by_model pairs (model_of limits files pairs) e
     by_names (Err refusal) is e = absurd (let bad : Path (Result Second Refusal) (Err refusal) (Ok b) = e in cc)
 
 -- Two decks.
 
 -- the first deck's fault
-pub unread_first : (name to : Text) (files : Option (List File)) (fault : InputFault) → IsReadAs name files (Err fault) → AreDecksAs name to files (Err fault)
-unread_first name to (Some fs) (input.Refused refusal) h = of_first h
-unread_first name to (Some fs) input.ReadFault h = tt
-unread_first name to (Some fs) input.Memory h = tt
-unread_first name to None (input.Refused refusal) (read, valid, h) = (read, no_second, valid, tt, of_first h)
-unread_first name to None input.ReadFault (read, valid, h) = (read, no_second, valid, tt, tt)
-unread_first name to None input.Memory (read, valid, h) = (read, no_second, valid, tt, tt)
+pub unread_first : (limits : Limits) (name to : Text) (files : Option FileSet) (fault : InputFault) → IsReadAs limits name files (Err fault) → AreDecksAs limits name to files (Err fault)
+unread_first limits name to (Some fs) (input.Refused refusal) h = of_first h
+unread_first limits name to (Some fs) input.ReadFault h = tt
+unread_first limits name to (Some fs) input.Memory h = tt
+unread_first limits name to None (input.Refused refusal) (read, valid, h) = (read, no_second, valid, tt, of_first h)
+unread_first limits name to None input.ReadFault (read, valid, h) = (read, no_second, valid, tt, tt)
+unread_first limits name to None input.Memory (read, valid, h) = (read, no_second, valid, tt, tt)
 
 -- the second deck's, where the first was read
-pub unread_second : (name to : Text) (files : Option (List File)) (a : FlowModel) (fault : InputFault) → IsReadAs name files (Ok a) → IsSecondAs to files (Err fault) → AreDecksAs name to files (Err fault)
-unread_second name to (Some fs) a (input.Refused refusal) h k = of_second a h k
-unread_second name to (Some fs) a input.ReadFault h k = tt
-unread_second name to (Some fs) a input.Memory h k = tt
-unread_second name to None a (input.Refused refusal) (read, valid, h) (second, also, k) = (read, second, valid, also, of_second a h k)
-unread_second name to None a input.ReadFault (read, valid, h) (second, also, k) = (read, second, valid, also, tt)
-unread_second name to None a input.Memory (read, valid, h) (second, also, k) = (read, second, valid, also, tt)
+pub unread_second : (limits : Limits) (name to : Text) (files : Option FileSet) (a : FlowModel) (fault : InputFault) → IsReadAs limits name files (Ok a) → IsSecondAs limits to files (Err fault) → AreDecksAs limits name to files (Err fault)
+unread_second limits name to (Some fs) a (input.Refused refusal) h k = of_second a h k
+unread_second limits name to (Some fs) a input.ReadFault h k = tt
+unread_second limits name to (Some fs) a input.Memory h k = tt
+unread_second limits name to None a (input.Refused refusal) (read, valid, h) (second, also, k) = (read, second, valid, also, of_second a h k)
+unread_second limits name to None a input.ReadFault (read, valid, h) (second, also, k) = (read, second, valid, also, tt)
+unread_second limits name to None a input.Memory (read, valid, h) (second, also, k) = (read, second, valid, also, tt)
 
 -- their first difference, where both were read
-pub unlike_decks : (name to : Text) (files : Option (List File)) (a : FlowModel) (b : SecondBy) (d : Difference) (fault : InputFault) → IsReadAs name files (Ok a) → IsSecondAs to files (Ok b) → IsFirstDifference a b.model d → (AreAlike a b.model → ⊥) → IsUnlikeFault (second_by b) d fault → AreDecksAs name to files (Err fault)
-unlike_decks name to (Some fs) a b d (input.Refused refusal) h k first never is = of_both a (second_by b) d h k first never is
-unlike_decks name to (Some fs) a b d input.ReadFault h k first never is = tt
-unlike_decks name to (Some fs) a b d input.Memory h k first never is = tt
-unlike_decks name to None a b d (input.Refused refusal) (read, valid, h) (second, also, k) first never is = (read, second, valid, also, of_both a (second_by b) d h k first never is)
-unlike_decks name to None a b d input.ReadFault (read, valid, h) (second, also, k) first never is = (read, second, valid, also, tt)
-unlike_decks name to None a b d input.Memory (read, valid, h) (second, also, k) first never is = (read, second, valid, also, tt)
+pub unlike_decks : (limits : Limits) (name to : Text) (files : Option FileSet) (a : FlowModel) (b : SecondBy) (d : Difference) (fault : InputFault) → IsReadAs limits name files (Ok a) → IsSecondAs limits to files (Ok b) → IsFirstDifference a b.model d → (AreAlike a b.model → ⊥) → IsUnlikeFault (second_by b) d fault → AreDecksAs limits name to files (Err fault)
+unlike_decks limits name to (Some fs) a b d (input.Refused refusal) h k first never is = of_both a (second_by b) d h k first never is
+unlike_decks limits name to (Some fs) a b d input.ReadFault h k first never is = tt
+unlike_decks limits name to (Some fs) a b d input.Memory h k first never is = tt
+unlike_decks limits name to None a b d (input.Refused refusal) (read, valid, h) (second, also, k) first never is = (read, second, valid, also, of_both a (second_by b) d h k first never is)
+unlike_decks limits name to None a b d input.ReadFault (read, valid, h) (second, also, k) first never is = (read, second, valid, also, tt)
+unlike_decks limits name to None a b d input.Memory (read, valid, h) (second, also, k) first never is = (read, second, valid, also, tt)
 
 -- a fault of one reading, as one of another
 same_fault : (T U : Type 0) (n m : ℕ) (fault : InputFault) → InputCounts {T = T} n m (Err fault) → InputCounts {T = U} n m (Err fault)
@@ -169,7 +169,7 @@ pub reads_both : {S T U V : Type 0} (F : FolderOf S) (old mid new : S) (x : T) (
 reads_both F old mid new x y result first second h = record {
   since = λ files agree. first.since files (second.since files agree);
   counts = (let C : ℕ → Type 0 = λ n. InputCounts (F.faults old) n result in subst C (sym (second.counts ∙ first.counts)) h);
-  still = λ name limit may. second.still name limit (first.still name limit may);
+  still = λ name may. second.still name (first.still name may);
 }
 
 pub unlike_counts : (T : Type 0) (b : Second) (d : Difference) (fault : InputFault) (n : ℕ) → IsUnlikeFault b d fault → InputCounts {T = T} n n (Err fault)
@@ -178,22 +178,22 @@ unlike_counts T b d input.ReadFault n is = absurd is
 unlike_counts T b d input.Memory n is = refl
 
 -- or they are alike
-pub alike_decks : (name to : Text) (files : Option (List File)) (a : FlowModel) (b : SecondBy) → IsReadAs name files (Ok a) → IsSecondAs to files (Ok b) → AreAlike a b.model → AreDecksAs name to files (Ok (two a b.model))
-alike_decks name to (Some fs) a b h k alike = record { last = second_by b; is_first = h; is_second = k; are = refl; alike = alike }
-alike_decks name to None a b (read, valid, h) (second, also, k) alike = (read, second, valid, also, record { last = second_by b; is_first = h; is_second = k; are = refl; alike = alike })
+pub alike_decks : (limits : Limits) (name to : Text) (files : Option FileSet) (a : FlowModel) (b : SecondBy) → IsReadAs limits name files (Ok a) → IsSecondAs limits to files (Ok b) → AreAlike a b.model → AreDecksAs limits name to files (Ok (two a b.model))
+alike_decks limits name to (Some fs) a b h k alike = record { last = second_by b; is_first = h; is_second = k; are = refl; alike = alike }
+alike_decks limits name to None a b (read, valid, h) (second, also, k) alike = (read, second, valid, also, record { last = second_by b; is_first = h; is_second = k; are = refl; alike = alike })
 
 -- The steps that a check names.
 
 abbrev no_steps : Result (List ListedStep) Refusal
 no_steps = Err (file_refusal BadName (codes "-"))
 
-pub bad_listed : (between : Bool) (asked : AskedCheck) (m : FlowModel) (z : Option (List ℕ)) (files : Option (List File)) (fault : InputFault) → (IsGoodName asked.listing → ⊥) → IsNamedFault fault → AreStepsAs between asked m z files (Err fault)
+pub bad_listed : (between : Bool) (asked : AskedCheck) (m : FlowModel) (z : Option (List ℕ)) (files : Option FileSet) (fault : InputFault) → (IsGoodName asked.listing → ⊥) → IsNamedFault fault → AreStepsAs between asked m z files (Err fault)
 bad_listed between asked m z (Some fs) fault bad is = bad_reading asked.listing (λ name. steps_in between asked m z (file_at fs name)) fault bad is
 bad_listed between asked m z None fault bad is = (no_steps, tt, bad_reading asked.listing (λ name. no_steps) fault bad is)
 
 module _ (between : Bool) (asked : AskedCheck) (m : FlowModel) (z : Option (List ℕ)) (good : IsGoodName asked.listing) where
   -- the file's reading failed
-  pub unread_file : {T : Type 0} (answer : Result T InputFault) (view : T → List ℕ) (files : Option (List File)) (fault : InputFault) → IfSome files (λ fs. IsReading {T = T} view (file_at fs asked.listing) (Err fault)) → AreStepsAs between asked m z files (Err fault)
+  pub unread_file : {T : Type 0} (answer : Result T InputFault) (view : T → List ℕ) (files : Option FileSet) (fault : InputFault) → IfSome files (λ fs. IsReading {T = T} view (file_at fs asked.listing) (Err fault)) → AreStepsAs between asked m z files (Err fault)
   unread_file answer view (Some fs) (input.Refused refusal) h = good_named asked.listing (λ name. steps_in between asked m z (file_at fs name)) good ∙ ap (steps_in between asked m z) h
   unread_file answer view (Some fs) input.ReadFault h = tt
   unread_file answer view (Some fs) input.Memory h = tt
@@ -202,7 +202,7 @@ module _ (between : Bool) (asked : AskedCheck) (m : FlowModel) (z : Option (List
   unread_file answer view None input.Memory h = (no_steps, tt, tt)
 
   -- its bytes were read, and then as a listing
-  pub read_bytes : (files : Option (List File)) (bytes : List ℕ) (answer : Result (List ListedStep) InputFault) → IfSome files (λ fs. file_at fs asked.listing ≡ Ok bytes) → IsReading (λ l. l) (listing_in between m asked.digits (pairs_in m z) asked.listing bytes) answer → IfOk answer (AreListed m (pairs_in m z)) → AreStepsAs between asked m z files answer
+  pub read_bytes : (files : Option FileSet) (bytes : List ℕ) (answer : Result (List ListedStep) InputFault) → IfSome files (λ fs. file_at fs asked.listing ≡ Ok bytes) → IsReading (λ l. l) (listing_in between m asked.digits (pairs_in m z) asked.listing bytes) answer → IfOk answer (AreListed m (pairs_in m z)) → AreStepsAs between asked m z files answer
   read_bytes (Some fs) bytes (Ok steps) h l fits = good_named asked.listing (λ name. steps_in between asked m z (file_at fs name)) good ∙ ap (steps_in between asked m z) h ∙ l
   read_bytes (Some fs) bytes (Err (input.Refused refusal)) h l fits = good_named asked.listing (λ name. steps_in between asked m z (file_at fs name)) good ∙ ap (steps_in between asked m z) h ∙ l
   read_bytes (Some fs) bytes (Err input.ReadFault) h l fits = tt
@@ -227,13 +227,13 @@ pub zones_fit : (m : FlowModel) (zones : List ℤ) (numbers : List ℕ) → numb
 zones_fit m zones numbers is count limits = record { count = ap length is ∙ length-map zones unsigned_abs ∙ count; limits = limits }
 
 -- without a zone file nothing is read
-pub none_zoned : (m : FlowModel) (files : Option (List File)) → AreZonesAs None m files (Ok None)
+pub none_zoned : (m : FlowModel) (files : Option FileSet) → AreZonesAs None m files (Ok None)
 none_zoned m (Some fs) = refl
 none_zoned m None = (no_zones, tt, refl)
 
 module _ (name : Text) (m : FlowModel) where
   -- the file's reading failed
-  pub unread_zones : (files : Option (List File)) (fault : InputFault) → IfSome files (λ fs. Stops fault (zones_of fs m.grid name)) → AreZonesAs (Some name) m files (Err fault)
+  pub unread_zones : (files : Option FileSet) (fault : InputFault) → IfSome files (λ fs. Stops fault (zones_of fs m.grid name)) → AreZonesAs (Some name) m files (Err fault)
   unread_zones (Some fs) (input.Refused refusal) h = ap numbers_of h
   unread_zones (Some fs) input.ReadFault h = tt
   unread_zones (Some fs) input.Memory h = tt
@@ -242,12 +242,12 @@ module _ (name : Text) (m : FlowModel) where
   unread_zones None input.Memory h = (no_zones, tt, tt)
 
   -- its numbers were read
-  pub zones_were_read : (files : Option (List File)) (zones : List ℤ) (numbers : List ℕ) → IfSome files (λ fs. zones_of fs m.grid name ≡ Ok zones) → numbers ≡ map unsigned_abs zones → AreZonesOf m numbers → AreZonesAs (Some name) m files (Ok (Some numbers))
+  pub zones_were_read : (files : Option FileSet) (zones : List ℤ) (numbers : List ℕ) → IfSome files (λ fs. zones_of fs m.grid name ≡ Ok zones) → numbers ≡ map unsigned_abs zones → AreZonesOf m numbers → AreZonesAs (Some name) m files (Ok (Some numbers))
   zones_were_read (Some fs) zones numbers h is fits = ap numbers_of h ∙ ap (λ (ns : List ℕ). Ok (Some ns)) (sym is)
   zones_were_read None zones numbers h is fits = (Ok zones, subst (AreZonesOf m) is fits, ap (λ (ns : List ℕ). Ok (Some ns)) (sym is))
 
   -- memory was lacking for them
-  pub zones_lack_memory : (files : Option (List File)) → AreZonesAs (Some name) m files (Err input.Memory)
+  pub zones_lack_memory : (files : Option FileSet) → AreZonesAs (Some name) m files (Err input.Memory)
   zones_lack_memory (Some fs) = tt
   zones_lack_memory None = (no_zones, tt, tt)
 
@@ -256,7 +256,7 @@ same_ok x y h = cc
 
 -- A check reads the zones of its zone file, if there is one, and then its listing.
 module _ (between : Bool) (asked : AskedCheck) (m : FlowModel) where
-  pub unzoned : (files : Option (List File)) (fault : InputFault) → AreZonesAs asked.zones m files (Err fault) → IsListedAs between asked m files (Err fault)
+  pub unzoned : (files : Option FileSet) (fault : InputFault) → AreZonesAs asked.zones m files (Err fault) → IsListedAs between asked m files (Err fault)
   unzoned (Some fs) (input.Refused refusal) h = ap (λ (z : Result (Option (List ℕ)) Refusal). zoned_steps z (steps_read between fs asked m)) h
   unzoned (Some fs) input.ReadFault h = tt
   unzoned (Some fs) input.Memory h = tt
@@ -274,7 +274,7 @@ module _ (between : Bool) (asked : AskedCheck) (m : FlowModel) where
   could_list zoned z (Err refusal) h fits = tt
 
   module _ (z : Option (List ℕ)) where
-    pub unlisted : (files : Option (List File)) (fault : InputFault) → AreZonesAs asked.zones m files (Ok z) → AreStepsAs between asked m z files (Err fault) → IsListedAs between asked m files (Err fault)
+    pub unlisted : (files : Option FileSet) (fault : InputFault) → AreZonesAs asked.zones m files (Ok z) → AreStepsAs between asked m z files (Err fault) → IsListedAs between asked m files (Err fault)
     unlisted (Some fs) (input.Refused refusal) h k = ap (λ (x : Result (Option (List ℕ)) Refusal). zoned_steps x (steps_read between fs asked m)) h ∙ ap (with_zones z) k
     unlisted (Some fs) input.ReadFault h k = tt
     unlisted (Some fs) input.Memory h k = tt
@@ -283,7 +283,7 @@ module _ (between : Bool) (asked : AskedCheck) (m : FlowModel) where
     unlisted None input.ReadFault (zoned, fits, h) (listed, lists, k) = (zoned, listed, fits, could_list zoned z listed h lists, tt)
     unlisted None input.Memory (zoned, fits, h) (listed, lists, k) = (zoned, listed, fits, could_list zoned z listed h lists, tt)
 
-    pub both_read : (files : Option (List File)) (steps : List ListedStep) → AreZonesAs asked.zones m files (Ok z) → AreStepsAs between asked m z files (Ok steps) → IsListedAs between asked m files (Ok (record { zones = z; steps = steps }))
+    pub both_read : (files : Option FileSet) (steps : List ListedStep) → AreZonesAs asked.zones m files (Ok z) → AreStepsAs between asked m z files (Ok steps) → IsListedAs between asked m files (Ok (record { zones = z; steps = steps }))
     both_read (Some fs) steps h k = ap (λ (x : Result (Option (List ℕ)) Refusal). zoned_steps x (steps_read between fs asked m)) h ∙ ap (with_zones z) k
     both_read None steps (zoned, fits, h) (listed, lists, k) =
         (zoned, listed, fits, could_list zoned z listed h lists, ap (λ (x : Result (Option (List ℕ)) Refusal). zoned_steps x (λ zones. named asked.listing (λ name. listed))) h ∙ ap (with_zones z) k)

@@ -1,6 +1,6 @@
 -- The ends of the check of a listing of two decks, by its readings and its verdict.
 use Rattle.engine.proofs.Common.{◌≡◌, ℕ, List, [], ◌∷◌, Ok, Err, Result, Option, None, Some, IfOk, refl, sym, ap, subst, inl, inr, ◌∙◌, map, unsigned_abs}
-use Rattle.engine.proofs.Common.{InputCounts, File, Put, InputFault, Refusal, IsReading, FlowModel, Text, IsRun, NeverCut, Status, Rose, lone, AreDecks}
+use Rattle.engine.proofs.Common.{InputCounts, FileSet, Put, InputFault, Refusal, IsReading, FlowModel, Text, IsRun, NeverCut, Status, Rose, lone, AreDecks}
 use Rattle.engine.proofs.Common.{ZonedListing, Refuses, Checking, Case, IsCase, CouldList, AreZonesOf, asked_in, case_asked, case_listed, named, IsCheck}
 use Rattle.engine.proofs.Common.{Answers, IsListed, IsListedAs, IsReadingEnd, Due, CutOf, AreAlike, Decks, two, refused_line, AskedSpanCheck, CheckSpan}
 use Rattle.engine.proofs.Common.{Comparing, Readings, listing_read, readings_of, some_readings, defined, AreDecksAs, ArePair, IsPairRefusal, Second, of_both}
@@ -12,8 +12,8 @@ use Rattle.engine.proofs.SpanEnds.{could_read_both, run_map, span_check_case, un
 use Rattle.outside.specs.declared.refusals.InputFault.TheVariants as input
 use Rattle.run_puts.specs.declared.status.Status.TheVariants as status
 
-module _ (words : List Text) (files : Option (List File)) (n m : ℕ) (asked : AskedSpanCheck) (wanted : asked_in words ≡ Some (CheckSpan asked)) where
-  refused_by : (read : Readings) (r : Result FlowModel Refusal) (second : Result Second Refusal) → named asked.check.name read.model ≡ r → named asked.to read.second ≡ second → ((case : Case) → case ≡ case_asked (asked_in words) read → IsCase words files case) →
+module _ (words : List Text) (files : Option FileSet) (n m : ℕ) (asked : AskedSpanCheck) (wanted : asked_in words ≡ Some (CheckSpan asked)) where
+  refused_by : (read : Readings) (r : Result FlowModel Refusal) (second : Result Second Refusal) → named asked.check.name (read.model asked.check.limits) ≡ r → named asked.to (read.second asked.check.limits) ≡ second → ((case : Case) → case ≡ case_asked (asked_in words) read → IsCase words files case) →
       (refusal : Refusal) → IsPairRefusal r second refusal → (end : Status) (puts : List Put) → IsReadingEnd (input.Refused refusal) end puts → Answers words files n m end puts
   refused_by read r second is also cases refusal (of_first h) end puts e =
       refused words files n m refusal end puts (cases (Refuses refusal) (span_check_case words read asked wanted (Err refusal) second (is ∙ h) also)) e
@@ -23,10 +23,10 @@ module _ (words : List Text) (files : Option (List File)) (n m : ℕ) (asked : A
       let c = case_listed asked.check (two a b.model) (read.listing true asked.check a) in
       unlike_end words files n m a b d c refusal end puts (cases (Comparing a b c) (span_check_case words read asked wanted (Ok a) (Ok b) (is ∙ h) (also ∙ k))) first never same e
 
-  pub ends_unpaired_check : (fault : InputFault) (end : Status) (puts : List Put) → AreDecksAs asked.check.name asked.to files (Err fault) → InputCounts {T = Decks} n m (Err fault) → IsReadingEnd fault end puts → Answers words files n m end puts
+  pub ends_unpaired_check : (fault : InputFault) (end : Status) (puts : List Put) → AreDecksAs asked.check.limits asked.check.name asked.to files (Err fault) → InputCounts {T = Decks} n m (Err fault) → IsReadingEnd fault end puts → Answers words files n m end puts
   ends_unpaired_check (input.Refused refusal) end puts reads counts h = by_files files refl reads
     where
-      by_files : (o : Option (List File)) → files ≡ o → AreDecksAs asked.check.name asked.to o (Err (input.Refused refusal)) → Answers words files n m end puts
+      by_files : (o : Option FileSet) → files ≡ o → AreDecksAs asked.check.limits asked.check.name asked.to o (Err (input.Refused refusal)) → Answers words files n m end puts
       by_files (Some fs) same p = refused_by (readings_of fs) _ _ refl refl (λ c e. subst (λ o. IsCase words o c) (sym same) e) refusal p end puts h
       by_files None same (read, second, valid, also, p) =
           refused_by (some_readings read second no_zones no_steps) _ _ refl refl
@@ -36,20 +36,20 @@ module _ (words : List Text) (files : Option (List File)) (n m : ℕ) (asked : A
 
   -- two decks that were read, and then zones and a listing
   module _ (d : Decks) (valid : AreDecks d) where
-    record CheckCase (given : Option (List File)) (l : Result ZonedListing Refusal) : Type 0 where
+    record CheckCase (given : Option FileSet) (l : Result ZonedListing Refusal) : Type 0 where
       last : Second
       are : d.second ≡ Some last.model
       alike : AreAlike d.first last.model
       is : IsCase words given (Comparing d.first last (case_listed asked.check (two d.first last.model) l))
 
-    listed_case : (read : Readings) (p : ArePair (named asked.check.name read.model) (named asked.to read.second) d) (l : Result ZonedListing Refusal) → read.listing true asked.check d.first ≡ l →
+    listed_case : (read : Readings) (p : ArePair (named asked.check.name (read.model asked.check.limits)) (named asked.to (read.second asked.check.limits)) d) (l : Result ZonedListing Refusal) → read.listing true asked.check d.first ≡ l →
         Comparing d.first p.last (case_listed asked.check (two d.first p.last.model) l) ≡ case_asked (asked_in words) read
     listed_case read p l listed =
         ap (λ (x : Result ZonedListing Refusal). Comparing d.first p.last (case_listed asked.check (two d.first p.last.model) x)) (sym listed)
         ∙ span_check_case words read asked wanted (Ok d.first) (Ok p.last) p.is_first p.is_second
 
-    check_case : (given : Option (List File)) (l : Result ZonedListing InputFault) (known : Result ZonedListing Refusal) → ((defined : Result ZonedListing Refusal) → IsReading (λ x. x) defined l → defined ≡ known) →
-        AreDecksAs asked.check.name asked.to given (Ok d) → IsListedAs true asked.check d.first given l → CheckCase given known
+    check_case : (given : Option FileSet) (l : Result ZonedListing InputFault) (known : Result ZonedListing Refusal) → ((defined : Result ZonedListing Refusal) → IsReading (λ x. x) defined l → defined ≡ known) →
+        AreDecksAs asked.check.limits asked.check.name asked.to given (Ok d) → IsListedAs true asked.check d.first given l → CheckCase given known
     check_case (Some fs) l known same p lists = record { last = p.last; are = p.are; alike = p.alike; is = listed_case (readings_of fs) p known (same (listing_read true fs asked.check d.first) lists) }
     check_case None l known same (read, second, good, also, p) (zoned, listed, zones, fits, lists) =
         let is : read ≡ Ok d.first = named_read asked.check.name (λ name. read) d.first p.is_first in
@@ -72,7 +72,7 @@ module _ (words : List Text) (files : Option (List File)) (n m : ℕ) (asked : A
           );
         }
 
-    module _ (read : AreDecksAs asked.check.name asked.to files (Ok d)) where
+    module _ (read : AreDecksAs asked.check.limits asked.check.name asked.to files (Ok d)) where
       pub ends_unlisted_pair : (fault : InputFault) (end : Status) (puts : List Put) → IsListedAs true asked.check d.first files (Err fault) → InputCounts {T = ZonedListing} n m (Err fault) → IsReadingEnd fault end puts → Answers words files n m end puts
       ends_unlisted_pair (input.Refused refusal) end puts lists counts h =
           let c = check_case files (Err (input.Refused refusal)) (Err refusal) (λ defined is. is) read lists in
@@ -86,13 +86,13 @@ module _ (words : List Text) (files : Option (List File)) (n m : ℕ) (asked : A
       ends_unlisted_pair input.ReadFault end puts lists counts h = let c = some_case words files in unreadable words files n m c.case end puts c.is (c.span_check_worded asked wanted) counts h
       ends_unlisted_pair input.Memory end puts lists counts h = ends_without_words words files n m end puts h
 
-      pub ends_pair_check : (listing : ZonedListing) (end : Status) (puts : List Put) → IsListedAs true asked.check d.first files (Ok listing) → IsListed d.first listing → IsRun (IsCheck d asked.check.digits listing) NeverCut end puts → Answers words files n m end puts
+      pub ends_pair_check : (listing : ZonedListing) (end : Status) (puts : List Put) → IsListedAs true asked.check d.first files (Ok listing) → IsListed d.first listing → IsRun (IsCheck asked.check.limits d asked.check.digits listing) NeverCut end puts → Answers words files n m end puts
       ends_pair_check listing end puts lists fits h =
           let c = check_case files (Ok listing) (Ok listing) (λ defined is. is) read lists in
           let whole = two d.first c.last.model in
-          let C : Decks → Type 0 = λ x. IsRun (IsCheck x asked.check.digits listing) NeverCut end puts in
+          let C : Decks → Type 0 = λ x. IsRun (IsCheck asked.check.limits x asked.check.digits listing) NeverCut end puts in
           record {
-            case = Comparing d.first c.last (Checking whole asked.check.digits listing);
+            case = Comparing d.first c.last (Checking asked.check.limits whole asked.check.digits listing);
             is = c.is;
             run = run_map (λ meant pieces x. defined meant pieces (inr (c.alike, x))) (λ pieces never. absurd never) end puts (subst C (with_second d c.last.model c.are) h);
             valid = inr (inl (subst AreDecks (with_second d c.last.model c.are) valid, fits));

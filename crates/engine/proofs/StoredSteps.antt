@@ -1,12 +1,19 @@
 -- A step whose cells have storage has a floor and a ceiling.
 use Rattle.engine.proofs.Common.{◌≡◌, ◌≢◌, ℕ, Bool, true, cond, List, [], ◌∷◌, Result, Ok, Err, Option, Some, None, inl, inr, sym, ap, subst, arith, ℤ}
-use Rattle.engine.proofs.Common.{if◌then◌else◌, NoBound, Entries, lower_at, upper_at, no_heads, no_budget, no_zones, Solved}
+use Rattle.engine.proofs.Common.{if◌then◌else◌, Plain, Limits, Decks, TimeStep, one_deck, Bound, NoBound, Entries, lower_at, upper_at, no_heads, no_budget}
+use Rattle.engine.proofs.Common.{no_zones, Solved, Wide}
 use Rattle.std.proofs.Common.{false}
 use Rattle.step_problem.specs.declared.place.Dir.{Dir}
 use Rattle.step_problem.specs.declared.place.Dir.TheVariants.{In, Out}
 use Rattle.step_problem.specs.declared.place.Term.{Term}
-use Rattle.barrier_vector.specs.Refusals.{IsRefused}
-use Rattle.barrier_vector.proofs.Sides.{stored_refusal}
+use Rattle.step_problem.specs.declared.heads.Side.{Side}
+use Rattle.step_problem.specs.declared.heads.Side.TheVariants.{Low, High}
+use Rattle.barrier_vector.specs.Cuts.{IsUnbounded, RefusesOn}
+use Rattle.barrier_vector.specs.Held.{HasStorage}
+use Rattle.barrier_vector.specs.Refusals.{HasNoBound, IsRefused, no_barrier_on}
+use Rattle.barrier_vector.specs.declared.BarrierFault.TheVariants.{NoBound as AFault}
+use Rattle.barrier_vector.proofs.Sides.{stored_fault, stored_refusal, unbounded_refuses}
+use Rattle.step_chain.specs.Steps.{LeavesRange}
 use Rattle.budget_bounds.specs.Terms.{◌>>=◌, all_terms, budget_of, is_small, term_of, term_pair, terms_of, too_large}
 use Rattle.problem_builder.specs.Refusals.{fault_of}
 use Rattle.listing_run.specs.Zones.{HasLargeFlow}
@@ -19,8 +26,19 @@ IsOther code = (code ≢ 24) × (code ≢ 25)
 other_code : (a b : ℕ) → a ≡ b → IsOther b → IsOther a
 other_code a b e h = subst IsOther (sym e) h
 
+has_storage : (p : List Entries) → IsStored p → HasStorage p
+has_storage p stored = λ c within. let s = stored c within in (s.0, s.1, s.2, omega (arith, s.3))
+
 barrier_code : (p : List Entries) (n : NoBound) → IsStored p → IsRefused p n → IsOther n.code
-barrier_code p n stored refused = stored_refusal p (λ c within. let s = stored c within in (s.0, s.1, s.2, omega (arith, s.3))) n refused
+barrier_code p n stored refused = stored_refusal p (has_storage p stored) n refused
+
+-- a refusal of a side of the cut barrier
+cut_code : (side : Side) (p : List Entries) (n : NoBound) → IsStored p → RefusesOn no_barrier_on (λ side. HasNoBound side p) side p n → IsOther n.code
+cut_code side p n stored refused = stored_fault side p (has_storage p stored) (AFault n) (unbounded_refuses side p (AFault n) refused)
+
+unbounded_code : (p : List Entries) (n : NoBound) → IsStored p → IsUnbounded p n → IsOther n.code
+unbounded_code p n stored (inl low) = cut_code Low p n stored low
+unbounded_code p n stored (inr (nowhere, high)) = cut_code High p n stored high
 
 the_code : Option ℕ → ℕ
 the_code (Some m) = m
@@ -78,8 +96,18 @@ large_code : (zones : Option (List ℕ)) (x : Solved) (n : NoBound) → HasLarge
 large_code None x n h = absurd h
 large_code (Some zones) x n h = ap (λ (m : NoBound). m.code) h.is
 
+-- a refusal for the range of heads
+range_code : (limits : Limits) (d : Decks) (s : ℕ) (at : TimeStep) (old : List Bound) (n : NoBound) → LeavesRange limits d s at old n → IsOther n.code
+range_code limits d s at old n leaves = elim leaves.refused [
+  | inl low ↦ other_code n.code 26 low.1.code (omega arith, omega arith)
+  | inr high ↦ other_code n.code 27 high.1.1.code (omega arith, omega arith)
+]
+
 pub storage_holds : StorageHolds
-storage_holds m s zones rounds quick at old n stored (no_heads (inl none)) = problem_code none.refused.entries n.code none.refused.is_fault
-storage_holds m s zones rounds quick at old n stored (no_heads (inr (p, is, refused))) = barrier_code p n (stored p is) refused
-storage_holds m s zones rounds quick at old n stored (no_budget solved settled refused) = other_code n.code 23 (budget_code solved.problem (lower_at solved.bounds) (upper_at solved.bounds) n refused) (omega arith, omega arith)
-storage_holds m s zones rounds quick at old n stored (no_zones solved budget settled is large) = other_code n.code 23 (large_code zones solved n large) (omega arith, omega arith)
+storage_holds Plain m s zones rounds quick at old n stored (no_heads (inl none)) = problem_code none.refused.entries n.code none.refused.is_fault
+storage_holds Plain m s zones rounds quick at old n stored (no_heads (inr (p, is, refused))) = barrier_code p n (stored p is) refused
+storage_holds Wide m s zones rounds quick at old n stored (no_heads (inl (inl none))) = problem_code none.refused.entries n.code none.refused.is_fault
+storage_holds Wide m s zones rounds quick at old n stored (no_heads (inl (inr (p, is, refused)))) = unbounded_code p n (stored p is) refused
+storage_holds Wide m s zones rounds quick at old n stored (no_heads (inr leaves)) = range_code Wide (one_deck m) s at old n leaves
+storage_holds limits m s zones rounds quick at old n stored (no_budget solved settled refused) = other_code n.code 23 (budget_code solved.problem (lower_at solved.bounds) (upper_at solved.bounds) n refused) (omega arith, omega arith)
+storage_holds limits m s zones rounds quick at old n stored (no_zones solved budget settled is large) = other_code n.code 23 (large_code zones solved n large) (omega arith, omega arith)

@@ -1,8 +1,8 @@
 -- The ends of the run of a made model.
-use Rattle.engine.proofs.Common.{◌≡◌, ℕ, List, [], ◌∷◌, Ok, Err, Result, IfOk, Some, ap, subst, sym, refl, inl, inr, File, IsReading, Put, InputFault, Refusal}
-use Rattle.engine.proofs.Common.{FlowModel, IsModel, refused_line, IsEnd, IsWanting, Text, Status, lone, lacks_at_first, ListingEnd, last_line, listing}
-use Rattle.engine.proofs.Common.{status_of, made_files, made_name, reads, made_model, named, IsMade, made_task, summed_text, IsMadeRun, IsReadAs, IsReadingEnd}
-use Rattle.engine.proofs.Common.{made_fault, Plain}
+use Rattle.engine.proofs.Common.{◌≡◌, ℕ, List, [], ◌∷◌, Ok, Err, Result, IfOk, Some, ap, subst, sym, refl, inl, inr, FileSet, IsReading, Put, InputFault}
+use Rattle.engine.proofs.Common.{Refusal, FlowModel, IsModel, refused_line, IsEnd, IsWanting, Text, Status, lone, lacks_at_first, ListingEnd, last_line}
+use Rattle.engine.proofs.Common.{listing, status_of, made_files, made_name, reads, made_model, named, IsMade, made_task, summed_text, IsMadeRun, IsReadAs}
+use Rattle.engine.proofs.Common.{IsReadingEnd, made_fault, Plain, most_bytes, with_limit}
 use Rattle.listing_summary.specs.Ends.{IsSummarized}
 use Rattle.listing_summary.specs.declared.summary.Summary.{Summary}
 use Rattle.engine.proofs.Ends.{wanting_stops}
@@ -29,8 +29,8 @@ module _ (seed size : ℕ) where
         record { run = lone DueHere Never line meant end puts (subst P (sym is) due) h; valid = inl is_valid }
 
   -- what a folder of these files reads as
-  pub made_reading : (files : List File) (answer : Result FlowModel InputFault) → files ≡ made_files seed size → IsReadAs made_name (Some files) answer → IsReading (λ m. m) (made_model seed size) answer
-  made_reading files answer is h = subst (λ (fs : List File). IsReading (λ m. m) (named made_name (reads Plain fs)) answer) is h
+  pub made_reading : (files : FileSet) (answer : Result FlowModel InputFault) → files ≡ with_limit (most_bytes Plain) (made_files seed size) → IsReadAs Plain made_name (Some files) answer → IsReading (λ m. m) (made_model seed size) answer
+  made_reading files answer is h = subst (λ (fs : FileSet). IsReading (λ m. m) (named made_name (reads Plain fs)) answer) is h
 
   -- a listing of the made model ended so, of which this is the summary
   pub made_ended : (m : FlowModel) (s : Summary) (last : ListingEnd) (end : Status) (puts : List Put) → made_model seed size ≡ Ok m → IsModel m → IsSummarized (made_task m) s last → IsEnd (summed_text seed size m.grid s last) (status_of last) end puts → IsMadeRun seed size end puts

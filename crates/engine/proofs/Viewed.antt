@@ -4,7 +4,7 @@ use Rattle.engine.proofs.Common.{refl, arith, is_some, append_assoc, append-nil,
 use Rattle.engine.proofs.Common.{Seen, refused, taken, SinkError, Bound, Entries, Edges, TimeStep, AddsPhases, EnclosesPair, Text, cut, early, failed, Status}
 use Rattle.engine.proofs.Common.{write_rose, AreAllShown, IsStopPut, LeadOn, ViewPuts, no_lead, Task, Step, IsStep, AllSettledBy, AreSettledBy, IsSettledBy}
 use Rattle.engine.proofs.Common.{PairEncloses, Reaches, ReachesFirst, begun, rests, settled, AreFirstViews, AreViews, AreWatched, ArePutInTurn, IsView}
-use Rattle.engine.proofs.Common.{IsWatched, Shows, ViewPutsOf, lines_of}
+use Rattle.engine.proofs.Common.{IsWatched, Shows, ViewPutsOf, lines_of, edges_by}
 use Rattle.std.proofs.Common.{false, All}
 use Rattle.listing_io.specs.Views.{view_text}
 use Rattle.view_puts.proofs.Views.{lead_more}
@@ -16,12 +16,12 @@ pieces_of : (text : List Bound → List ℕ) (views : List (List Bound)) → map
 pieces_of text [] = refl
 pieces_of text (v ∷ views) = ap (λ (ps : List Put). taken (text v) ∷ ps) (pieces_of text views)
 
-all_views : (k : Task) (at : TimeStep) (old : List Bound) (p : List Entries) (b : Edges) (text : List Bound → List ℕ) → PairEncloses k.decks at old p b → (views : List (List Bound)) → AreAllShown text (EnclosesPair p b) views → All (IsView k at old p b) views
-all_views k at old p b text encloses views h = All-weaker (EnclosesPair p b) (IsView k at old p b) (λ heads shown. record { pair = shown; solutions = encloses heads shown.pair }) views (each views h)
+all_views : (k : Task) (at : TimeStep) (old : List Bound) (p : List Entries) (b : Edges) (text : List Bound → List ℕ) → PairEncloses k.limits k.decks at old p b → (views : List (List Bound)) → AreAllShown text (EnclosesPair p (edges_by k.limits b)) views → All (IsView k at old p (edges_by k.limits b)) views
+all_views k at old p b text encloses views h = All-weaker (EnclosesPair p (edges_by k.limits b)) (IsView k at old p (edges_by k.limits b)) (λ heads shown. record { pair = shown; solutions = encloses heads shown.pair }) views (each views h)
   where
-    each : (vs : List (List Bound)) → AreAllShown text (EnclosesPair p b) vs → All (EnclosesPair p b) vs
-    each [] h = All-nil (EnclosesPair p b)
-    each (v ∷ vs) h = All-cons (EnclosesPair p b) v vs h.0 (each vs h.1)
+    each : (vs : List (List Bound)) → AreAllShown text (EnclosesPair p (edges_by k.limits b)) vs → All (EnclosesPair p (edges_by k.limits b)) vs
+    each [] h = All-nil (EnclosesPair p (edges_by k.limits b))
+    each (v ∷ vs) h = All-cons (EnclosesPair p (edges_by k.limits b)) v vs h.0 (each vs h.1)
 
 no_views : (views : List (List Bound)) → length views ≡ 0 → views ≡ []
 no_views [] e = refl
@@ -108,7 +108,7 @@ module _ {V W : Type 0} (leads : W → List Put → W → Type 0) (sink : V → 
     p = by.problem
 
     abbrev e : Edges
-    e = by.barrier
+    e = edges_by k.limits by.barrier
 
     abbrev text : List Bound → List ℕ
     text = view_text k.decks.first.grid at p
@@ -132,7 +132,7 @@ module _ {V W : Type 0} (leads : W → List Put → W → Type 0) (sink : V → 
         subst A (told_is.4 ∙ none) (subst J told_is.3 (subst I told_is.2 (subst G (told_is.1 ∙ fits) v)))
 
     all_here : All View views_put.views
-    all_here = all_views k at old p e text by.encloses views_put.views views_put.shown
+    all_here = all_views k at old p by.barrier text by.encloses views_put.views views_put.shown
 
     -- the views that were put: those taken, and where one was refused that too
     record Here (puts : List Put) : Type 0 where
@@ -182,7 +182,7 @@ module _ {V W : Type 0} (leads : W → List Put → W → Type 0) (sink : V → 
         let P : W → Type 0 = λ w. LeadOn leads w (sink done) (pieces ++ views_put.last) in
         record {
           texts = map text h.heads;
-          views = inr (inl (record { problem = p; barrier = e; posed = by.posed; views = h.heads; enclose = h.enclose; are = refl }));
+          views = inr (inl (record { problem = p; barrier = by.barrier; posed = by.posed; views = h.heads; enclose = h.enclose; are = refl }));
           puts = pieces ++ views_put.last;
           in_turn = h.in_turn;
           led = subst P told_is.0 views_put.led;
@@ -201,7 +201,7 @@ module _ {V W : Type 0} (leads : W → List Put → W → Type 0) (sink : V → 
       step_views : AreViews k n at old (map text views_put.views)
       step_views = record {
         problem = p;
-        barrier = e;
+        barrier = by.barrier;
         posed = by.posed;
         views = views_put.views;
         no_cell = λ none_here. let c = views_put.count in let z = by.led.no_cell none_here in no_views views_put.views (omega (arith, c, z));

@@ -5,7 +5,7 @@ use Rattle.engine.specs.Batches.{AskedBatch}
 
 -- the batch; of its settling only the rounds are part of a definition
 abbrev pub batch_by : BatchOrder → AskedBatch
-batch_by a = record { list = a.list.now; digits = a.digits; rounds = a.rounds; quick = a.quick }
+batch_by a = record { limits = a.limits; list = a.list.now; digits = a.digits; rounds = a.rounds; quick = a.quick }
 
 -- the ranges of its numbers
 abbrev pub IsBatchOrder : BatchOrder → Type 0

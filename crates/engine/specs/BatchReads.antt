@@ -2,8 +2,7 @@
 use Rattle.std.specs.Prelude.{◌≡◌, ℕ, List, map, Result, Ok, Err, Option, Some, None, IfOk, All}
 use Rattle.std.specs.declared.vec.Vec.{Vec}
 use Rattle.std.specs.declared.alloc.Global.{Global}
-use Rattle.model_types.specs.declared.limits.Limits.TheVariants.{Plain}
-use Rattle.outside.specs.Files.{File}
+use Rattle.outside.specs.Files.{FileSet}
 use Rattle.outside.specs.Inputs.{IsReading}
 use Rattle.outside.specs.declared.refusals.InputFault.{InputFault}
 use Rattle.outside.specs.declared.refusals.InputFault.TheVariants as input
@@ -18,28 +17,28 @@ abbrev pub AreTasks : List Job → Type 0
 AreTasks jobs = All (λ job. IfOk job.read IsTask) jobs
 
 -- the job that a name stands for: by these files, or where none are known some job
-abbrev pub IsJobRead : AskedBatch → Text → Option (List File) → Job → Type 0
-IsJobRead b name (Some files) job = job ≡ job_of b (reads Plain files) name
+abbrev pub IsJobRead : AskedBatch → Text → Option FileSet → Job → Type 0
+IsJobRead b name (Some files) job = job ≡ job_of b (reads b.limits files) name
 IsJobRead b name None job = IsSomeJob b job
 
 -- a fault of reading a batch: its list's refusal; a read fault and lack of memory say nothing of the files
-abbrev pub IsFaultOf : AskedBatch → Option (List File) → InputFault → Type 0
+abbrev pub IsFaultOf : AskedBatch → Option FileSet → InputFault → Type 0
 IsFaultOf b files (input.Refused refusal) = IsBatchCase b files (NoList refusal)
 IsFaultOf b files input.ReadFault = Unit {0}
 IsFaultOf b files input.Memory = Unit {0}
 
 -- A reading of a batch gave its jobs, or failed by its cause.
-abbrev pub IsBatchRead : AskedBatch → Option (List File) → Result (Vec Job Global) InputFault → Type 0
+abbrev pub IsBatchRead : AskedBatch → Option FileSet → Result (Vec Job Global) InputFault → Type 0
 IsBatchRead b files (Ok jobs) = IsBatchCase b files (Jobs jobs.items)
 IsBatchRead b files (Err fault) = IsFaultOf b files fault
 
 -- the jobs that names stand for, in order
-abbrev pub AreJobsRead : AskedBatch → List Text → Option (List File) → List Job → Type 0
-AreJobsRead b names (Some files) jobs = jobs ≡ map (job_of b (reads Plain files)) names
+abbrev pub AreJobsRead : AskedBatch → List Text → Option FileSet → List Job → Type 0
+AreJobsRead b names (Some files) jobs = jobs ≡ map (job_of b (reads b.limits files)) names
 AreJobsRead b names None jobs = All (IsSomeJob b) jobs
 
 -- the names of the list, or its first refusal, where files are known
-abbrev pub HasNames : AskedBatch → Option (List File) → Result (Vec (List ℕ) Global) InputFault → Type 0
+abbrev pub HasNames : AskedBatch → Option FileSet → Result (Vec (List ℕ) Global) InputFault → Type 0
 HasNames b None answer = Unit {0}
 HasNames b (Some files) answer = IsReading (λ (names : Vec (List ℕ) Global). names.items) (names_read files b) answer
 

@@ -1,10 +1,9 @@
 -- What a batch puts, how it ends, and which end is certain.
 use Rattle.std.specs.Prelude.{◌≡◌, ◌⊎◌, ℕ, List, false, [], ◌∷◌, Ok, Option, All, IfOk, MatchOption}
 use Rattle.outside.specs.Counts.{Rose}
-use Rattle.outside.specs.Files.{File}
+use Rattle.outside.specs.Files.{FileSet}
 use Rattle.outside.specs.Puts.{Put}
 use Rattle.step_problem.specs.declared.place.NoBound.{NoBound}
-use Rattle.model_types.specs.declared.limits.Limits.TheVariants.{Plain}
 use Rattle.model_types.specs.declared.model.FlowModel.{FlowModel}
 use Rattle.model_types.specs.declared.time_steps.TimeStep.{TimeStep}
 use Rattle.model_reader.specs.Model.{reads}
@@ -34,7 +33,7 @@ IsBatchRun read_failed case = IsRun (BatchDue read_failed case) NeverCut
 
 -- What a batch puts, for every status: `leads` says which puts take the sink from its state before to its state after,
 -- and the two numbers are the folder's counts of faults before and after.
-pub record BatchPuts (leads : List Put → Type 0) (b : AskedBatch) (files : Option (List File)) (before after : ℕ) (end : Status) : Type 0 where
+pub record BatchPuts (leads : List Put → Type 0) (b : AskedBatch) (files : Option FileSet) (before after : ℕ) (end : Status) : Type 0 where
   pub case : BatchCase
   pub is : IsBatchCase b files case
   pub puts : List Put
@@ -43,37 +42,38 @@ pub record BatchPuts (leads : List Put → Type 0) (b : AskedBatch) (files : Opt
 
 -- Without --quick the batch has the end that the list and the files define, unless a read or a write fails, memory runs out, or
 -- a step doesn't settle within the rounds.
-abbrev pub BatchDecided : Type 0 → AskedBatch → List File → Status → Type 0
+abbrev pub BatchDecided : Type 0 → AskedBatch → FileSet → Status → Type 0
 BatchDecided fault b files end =
     b.quick ≡ false → (meant : Status) (pieces : List Text) → BatchDefines (batch_case_of b files) meant pieces → (fault ⊎ IsUnfinished meant)
     ⊎ ((end ≡ meant) ⊎ ((end ≡ status.Memory) ⊎ IsUnfinished end))
 
 -- The files of a name read as a model, and from STRT on, each step from the heads of the one before, no step has a
 -- refusal, and the rounds leave none open.
-pub record HasJob (b : AskedBatch) (files : List File) (name : Text) : Type 0 where
+pub record HasJob (b : AskedBatch) (files : FileSet) (name : Text) : Type 0 where
   pub model : FlowModel
-  pub read : reads Plain files name ≡ Ok model
+  pub read : reads b.limits files name ≡ Ok model
   pub no_refusal : (before : List Step) (at : TimeStep) (n : NoBound) → AllSteps (job_task b model) before (ends.NoBound at n) → ⊥
   pub none_open : (before : List Step) (at : TimeStep) → AllSteps (job_task b model) before (ends.Unfinished at) → ⊥
 
 -- The list has no refusal, and each of its names is such a one.
-pub record HasBatch (b : AskedBatch) (files : List File) : Type 0 where
+pub record HasBatch (b : AskedBatch) (files : FileSet) : Type 0 where
   pub names : List Text
   pub read : names_read files b ≡ Ok names
   pub each : All (HasJob b files) names
 
 -- Then the batch ends Ok, unless a read or a write fails or memory runs out.
-abbrev pub BatchComes : Type 0 → AskedBatch → List File → Status → Type 0
+abbrev pub BatchComes : Type 0 → AskedBatch → FileSet → Status → Type 0
 BatchComes fault b files end = HasBatch b files → fault ⊎ ((end ≡ status.Ok) ⊎ (end ≡ status.Memory))
 
 -- What is said of a batch, where the words ask for one, and else what is said of another command.
-abbrev pub AnyPuts : (List Put → Type 0) → List Text → Option (List File) → ℕ → ℕ → Type 0 → Status → Type 0
-AnyPuts leads words files before after failed_beside end = MatchOption (batch_asked words) (Puts leads words files before after failed_beside end) (λ b. BatchPuts leads b files before after end)
+abbrev pub AnyPuts : (List Put → Type 0) → List Text → Option FileSet → ℕ → ℕ → Type 0 → Status → Type 0
+AnyPuts leads words files before after failed_beside end =
+    MatchOption (batch_asked words) (Puts leads words files before after failed_beside end) (λ b. BatchPuts leads b files before after end)
 
-abbrev pub AnyDecided : Type 0 → List Text → List File → Status → Type 0
+abbrev pub AnyDecided : Type 0 → List Text → FileSet → Status → Type 0
 AnyDecided fault words files end = MatchOption (batch_asked words) (Decided fault words files end) (λ b. BatchDecided fault b files end)
 
-abbrev pub AnyComes : Type 0 → List Text → List File → Status → Type 0
+abbrev pub AnyComes : Type 0 → List Text → FileSet → Status → Type 0
 AnyComes fault words files end = MatchOption (batch_asked words) (Comes fault words files end) (λ b. BatchComes fault b files end)
 
 -- the model of a job that has no refusal is valid
@@ -86,11 +86,12 @@ AreValid (NoList refusal) end = Unit {0}
 AreValid (Jobs jobs) end = All IsValidJob jobs ⊎ IsStopped end
 
 -- all facts of a batch's result
-pub record BatchAnswers (b : AskedBatch) (files : Option (List File)) (before after : ℕ) (end : Status) (puts : List Put) : Type 0 where
+pub record BatchAnswers (b : AskedBatch) (files : Option FileSet) (before after : ℕ) (end : Status) (puts : List Put) : Type 0 where
   pub case : BatchCase
   pub is : IsBatchCase b files case
   pub run : IsBatchRun (Rose before after) case end puts
   pub valid : AreValid case end
 
-abbrev pub AnyAnswers : List Text → Option (List File) → ℕ → ℕ → Type 0 → (List Put → Type 0) → Status → List Put → Type 0
-AnyAnswers words files before after failed_beside leads end puts = MatchOption (batch_asked words) (AnswersBeside words files before after failed_beside leads end puts) (λ b. BatchAnswers b files before after end puts)
+abbrev pub AnyAnswers : List Text → Option FileSet → ℕ → ℕ → Type 0 → (List Put → Type 0) → Status → List Put → Type 0
+AnyAnswers words files before after failed_beside leads end puts =
+    MatchOption (batch_asked words) (AnswersBeside words files before after failed_beside leads end puts) (λ b. BatchAnswers b files before after end puts)

@@ -2,9 +2,8 @@
 use Rattle.std.specs.Prelude.{◌≡◌, ℕ, ℤ, List, false, [], ◌∷◌, ◌++◌, Ok, Err, Option, Some}
 use Rattle.std.specs.List.{AllZip, concat}
 use Rattle.std.specs.Io.KnownBytes.{Appends}
-use Rattle.outside.specs.Files.{File}
+use Rattle.outside.specs.Files.{FileSet}
 use Rattle.outside.specs.declared.refusals.Refusal.{Refusal}
-use Rattle.model_types.specs.declared.limits.Limits.TheVariants.{Plain}
 use Rattle.model_types.specs.declared.model.FlowModel.{FlowModel}
 use Rattle.model_types.specs.Heads.{start_head}
 use Rattle.model_types.specs.Valid.{IsModel}
@@ -26,10 +25,10 @@ use Rattle.engine.specs.Batches.{AskedBatch, IsJobEnd, batch_asked, job_of, job_
 -- The text of a name is a listing that its files define, and without --quick the one; and every history of heads that solves
 -- the manual's exact equations of these files lies, step by step and cell by cell, between its heads, with each of its budget
 -- flows between its terms.
-pub record IsJobListing (b : AskedBatch) (files : List File) (name text : Text) : Type 0 where
+pub record IsJobListing (b : AskedBatch) (files : FileSet) (name text : Text) : Type 0 where
   -- The files read as a model, which is valid.
   pub model : FlowModel
-  pub read : reads Plain files name ≡ Ok model
+  pub read : reads b.limits files name ≡ Ok model
   pub valid : IsModel model
   -- All its time steps have values, which are heads and budgets, and without --quick no others.
   pub values : List Step
@@ -44,14 +43,14 @@ pub record IsJobListing (b : AskedBatch) (files : List File) (name text : Text) 
   pub one : (d e : ℕ) (history other : List (ℕ → ℤ)) → Solves model d history → Solves model e other → AreSame model d e history other
 
 -- A name's job ended so: with a status and a text that its files allow a run of its model; if Ok, it is such a listing.
-pub record HasEnded (b : AskedBatch) (files : List File) (name : Text) (e : JobEnd) : Type 0 where
-  pub end : IsJobEnd (job_of b (reads Plain files) name) e
+pub record HasEnded (b : AskedBatch) (files : FileSet) (name : Text) (e : JobEnd) : Type 0 where
+  pub end : IsJobEnd (job_of b (reads b.limits files) name) e
   pub listing : e.status ≡ status.Ok → IsJobListing b files name e.text.items
 
 -- A batch with these words over these files whose jobs ran, where a sink had the bytes `old` before it and `new` after
 -- it, has written one text for each name of its list, in the order of the list, and END; and its status is that of the
 -- first job that didn't end Ok.
-pub record Batched (words : List Text) (files : List File) (end : Status) (old new : Option (List ℕ)) : Type 0 where
+pub record Batched (words : List Text) (files : FileSet) (end : Status) (old new : Option (List ℕ)) : Type 0 where
   -- The words ask for a batch, and its list has these names.
   pub asked : AskedBatch
   pub wanted : batch_asked words ≡ Some asked
@@ -65,5 +64,5 @@ pub record Batched (words : List Text) (files : List File) (end : Status) (old n
   pub written : Appends old new (concat (texts ends ++ (end_line ∷ [])))
 
 -- The batch ended with the first refusal of its list.
-abbrev pub HasNoList : AskedBatch → List File → Status → Type 0
+abbrev pub HasNoList : AskedBatch → FileSet → Status → Type 0
 HasNoList b files end = (refusal : Refusal) × (names_read files b ≡ Err refusal) × (end ≡ status.Refused refusal)

@@ -1,11 +1,11 @@
 -- A batch of models: what the words, the list and the files define, and how each job may end.
 use Rattle.std.specs.Prelude.{◌≡◌, ℕ, Bool, List, [], ◌∷◌, ◌++◌, map, Result, Ok, Err, Option, Some, None, IfOk, All, codes, option_and_then}
 use Rattle.std.specs.List.{concat}
-use Rattle.outside.specs.Files.{File}
+use Rattle.outside.specs.Files.{FileSet}
 use Rattle.outside.specs.Inputs.{file_at}
 use Rattle.outside.specs.declared.refusals.Refusal.{Refusal}
 use Rattle.command_line.specs.Wants.{Wanted, Batches, wanted_of}
-use Rattle.model_types.specs.declared.limits.Limits.TheVariants.{Plain}
+use Rattle.model_types.specs.declared.limits.Limits.{Limits}
 use Rattle.model_types.specs.declared.model.FlowModel.{FlowModel}
 use Rattle.model_types.specs.Valid.{IsModel}
 use Rattle.model_reader.specs.Model.{reads}
@@ -19,19 +19,21 @@ use Rattle.batch_list.specs.Names.{names_in}
 use Rattle.batch_puts.specs.declared.job_end.JobEnd.{JobEnd}
 use Rattle.batch_puts.specs.Batches.{IsBatch}
 use Rattle.engine.specs.declared.job.Job.{Job}
-use Rattle.engine.specs.Cases.{Case, Listing, Refuses, named}
+use Rattle.engine.specs.Cases.{Case, Listing, Refuses, limits_of, named}
 use Rattle.engine.specs.Defined.{Defines}
 
--- A batch that the words ask for: the name of its list, the digits of conductances, the number of plain rounds in which a
+-- A batch that the words ask for: the limits of all its jobs, the name of its list, the digits of conductances, the number of plain rounds in which a
 -- step must settle, and whether a step may have any pair that is a certificate.
 pub record AskedBatch : Type 0 where
+  pub limits : Limits
   pub list : Text
   pub digits : ℕ
   pub rounds : ℕ
   pub quick : Bool
 
 abbrev pub batch_of : Wanted → Option AskedBatch
-batch_of (Batches list digits workers rounds quick) = Some (record { list = list; digits = digits; rounds = rounds; quick = quick })
+batch_of (Batches list digits workers rounds quick wide) =
+    Some (record { limits = limits_of wide; list = list; digits = digits; rounds = rounds; quick = quick })
 batch_of other = None
 
 -- the batch that the words ask for; no definition has the number of workers
@@ -43,12 +45,12 @@ names_at name (Ok bytes) = names_in name bytes
 names_at name (Err refusal) = Err refusal
 
 -- the names of the list; the list's own name is tested before its file
-abbrev pub names_read : List File → AskedBatch → Result (List Text) Refusal
+abbrev pub names_read : FileSet → AskedBatch → Result (List Text) Refusal
 names_read files b = named b.list (λ name. names_at name (file_at files name))
 
 -- what is listed of a model of the batch
 abbrev pub job_task : AskedBatch → FlowModel → Task
-job_task b m = one_task m b.digits None b.rounds b.quick
+job_task b m = one_task b.limits m b.digits None b.rounds b.quick
 
 abbrev pub task_read : AskedBatch → Result FlowModel Refusal → Result Task Refusal
 task_read b (Ok m) = Ok (job_task b m)
@@ -67,15 +69,15 @@ abbrev pub batch_case : AskedBatch → Result (List Text) Refusal → (Text → 
 batch_case b (Ok names) read = Jobs (map (job_of b read) names)
 batch_case b (Err refusal) read = NoList refusal
 
-abbrev pub batch_case_of : AskedBatch → List File → BatchCase
-batch_case_of b files = batch_case b (names_read files b) (reads Plain files)
+abbrev pub batch_case_of : AskedBatch → FileSet → BatchCase
+batch_case_of b files = batch_case b (names_read files b) (reads b.limits files)
 
 -- a possible job where no files are known: a valid model is listed, or there is a refusal
 abbrev pub IsSomeJob : AskedBatch → Job → Type 0
 IsSomeJob b job = IfOk job.read (λ k. IsModel k.decks.first × (k ≡ job_task b k.decks.first))
 
 -- The case of a batch by these files. Where none are known, a name that stands twice may be read differently each time.
-abbrev pub IsBatchCase : AskedBatch → Option (List File) → BatchCase → Type 0
+abbrev pub IsBatchCase : AskedBatch → Option FileSet → BatchCase → Type 0
 IsBatchCase b (Some files) case = case ≡ batch_case_of b files
 IsBatchCase b None (NoList refusal) = Unit {0}
 IsBatchCase b None (Jobs jobs) = All (IsSomeJob b) jobs

@@ -1,12 +1,14 @@
 -- The case of a run: what its words and files define.
 use Rattle.std.specs.Prelude.{◌≡◌, ◌⊎◌, ℕ, ℤ, Bool, true, false, List, map, Result, Ok, Err, Option, Some, None, IfOk, codes, if◌then◌else◌, option_and_then, unsigned_abs}
-use Rattle.outside.specs.Files.{File}
+use Rattle.outside.specs.Files.{FileSet, with_limit}
+use Rattle.model_types.specs.Limits.{most_bytes}
 use Rattle.outside.specs.Inputs.{file_at, file_refusal}
 use Rattle.outside.specs.Names.{is_good_name}
 use Rattle.outside.specs.declared.codes.Code.TheVariants.{BadName}
 use Rattle.outside.specs.declared.refusals.Refusal.{Refusal}
 use Rattle.command_line.specs.Wants.{Wanted, Lists, ListsTo, Checks, ChecksTo, Makes, Writes, wanted_of}
-use Rattle.model_types.specs.declared.limits.Limits.TheVariants.{Plain}
+use Rattle.model_types.specs.declared.limits.Limits.{Limits}
+use Rattle.model_types.specs.declared.limits.Limits.TheVariants.{Plain, Wide}
 use Rattle.model_types.specs.declared.model.FlowModel.{FlowModel}
 use Rattle.model_types.specs.Valid.{IsModel}
 use Rattle.model_reader.specs.Model.{reads}
@@ -27,19 +29,25 @@ use Rattle.listing_run.specs.Tasks.{deck_task, one_task}
 use Rattle.engine.specs.declared.zoned.ZonedListing.{ZonedListing}
 use Rattle.engine.specs.TwoDecks.{Second, second_in}
 
--- A listing that the words ask for: the name of its name file, the digits of conductances, the number of plain rounds
--- in which a step must settle, the name of a zone file, if there is one, and whether a step may have any pair that is a
+-- the limits; wide ones with --wide
+abbrev pub limits_of : Bool → Limits
+limits_of wide = if wide then Wide else Plain
+
+-- A listing that the words ask for: the limits, the name of its name file, the digits of conductances, the number of plain
+-- rounds in which a step must settle, the name of a zone file, if there is one, and whether a step may have any pair that is a
 -- certificate.
 pub record Asked : Type 0 where
+  pub limits : Limits
   pub name : Text
   pub digits : ℕ
   pub rounds : ℕ
   pub zones : Option Text
   pub quick : Bool
 
--- A check that the words ask for: the name of the name file, that of the listing, the digits of conductances, and the name
+-- A check that the words ask for: the limits, the name of the name file, that of the listing, the digits of conductances, and the name
 -- of a zone file, if there is one.
 pub record AskedCheck : Type 0 where
+  pub limits : Limits
   pub name : Text
   pub listing : Text
   pub digits : ℕ
@@ -56,24 +64,27 @@ pub record AskedSpanCheck : Type 0 where
   pub to : Text
 
 -- A command: to list a model, or all models between two; to make one from this seed, with this many rows and columns, and sum
--- it up; to check a listing of a model, or of all between two; or to write the deck of the model of this name file.
+-- it up; to check a listing of a model, or of all between two; or to write the deck of the model of this name file, by these limits.
 pub data Command : Type 0 where
   Run : Asked → Command
   Span : AskedSpan → Command
   Make : ℕ → ℕ → Command
   Check : AskedCheck → Command
   CheckSpan : AskedSpanCheck → Command
-  Write : Text → Command
+  Write : Limits → Text → Command
 
 -- The commands that are implemented here. What is put does not depend on the number of workers, nor on views.
 abbrev pub built : Wanted → Option Command
-built (Lists name digits workers rounds zones watch quick) = Some (Run (record { name = name; digits = digits; rounds = rounds; zones = zones; quick = quick }))
-built (ListsTo name to digits workers rounds zones watch quick) =
-    Some (Span (record { run = record { name = name; digits = digits; rounds = rounds; zones = zones; quick = quick }; to = to }))
+built (Lists name digits workers rounds zones watch quick wide) =
+    Some (Run (record { limits = limits_of wide; name = name; digits = digits; rounds = rounds; zones = zones; quick = quick }))
+built (ListsTo name to digits workers rounds zones watch quick wide) =
+    Some (Span (record { run = record { limits = limits_of wide; name = name; digits = digits; rounds = rounds; zones = zones; quick = quick }; to = to }))
 built (Makes seed size) = Some (Make seed size)
-built (Checks name listing digits zones) = Some (Check (record { name = name; listing = listing; digits = digits; zones = zones }))
-built (ChecksTo name to listing digits zones) = Some (CheckSpan (record { check = record { name = name; listing = listing; digits = digits; zones = zones }; to = to }))
-built (Writes name) = Some (Write name)
+built (Checks name listing digits zones wide) =
+    Some (Check (record { limits = limits_of wide; name = name; listing = listing; digits = digits; zones = zones }))
+built (ChecksTo name to listing digits zones wide) =
+    Some (CheckSpan (record { check = record { limits = limits_of wide; name = name; listing = listing; digits = digits; zones = zones }; to = to }))
+built (Writes name wide) = Some (Write (limits_of wide) name)
 built other = None
 
 -- the command that the words ask for; None where they aren't accepted
@@ -88,28 +99,28 @@ ReadsNothing (Some (Span asked)) = ⊥
 ReadsNothing (Some (Make seed size)) = Unit {0}
 ReadsNothing (Some (Check asked)) = ⊥
 ReadsNothing (Some (CheckSpan asked)) = ⊥
-ReadsNothing (Some (Write name)) = ⊥
+ReadsNothing (Some (Write limits name)) = ⊥
 
 -- what is listed of a model, with the zones of its cells if there is a zone file
 abbrev pub task_of : Asked → FlowModel → Option (List ℕ) → Task
-task_of asked m zones = one_task m asked.digits zones asked.rounds asked.quick
+task_of asked m zones = one_task asked.limits m asked.digits zones asked.rounds asked.quick
 
 -- what is listed of decks, and of all models between two
 abbrev pub decks_task : Asked → Decks → Option (List ℕ) → Task
-decks_task asked d zones = deck_task d asked.digits zones asked.rounds asked.quick
+decks_task asked d zones = deck_task asked.limits d asked.digits zones asked.rounds asked.quick
 
 abbrev pub span_task_of : Asked → (first second : FlowModel) → Option (List ℕ) → Task
 span_task_of asked first second zones = decks_task asked (two first second) zones
 
 -- The case of a run: the words aren't accepted; this is the first refusal; this is listed; a model is made from this
--- seed and size, whose files read as this one or have this refusal; this listing of decks is checked, with
--- these digits; the deck of a model is written; or two decks are compared, and where they are alike this is the case.
+-- seed and size, whose files read as this one or have this refusal; this listing of decks is checked, by these limits and
+-- with these digits; the deck of a model is written; or two decks are compared, and where they are alike this is the case.
 pub data Case : Type 0 where
   NoWords : Case
   Refuses : Refusal → Case
   Listing : Task → Case
   Making : ℕ → ℕ → Result FlowModel Refusal → Case
-  Checking : Decks → ℕ → ZonedListing → Case
+  Checking : Limits → Decks → ℕ → ZonedListing → Case
   Writing : FlowModel → Case
   Comparing : FlowModel → Second → Case → Case
 
@@ -119,11 +130,11 @@ IsListingOf task (Listing k) = k ≡ task
 IsListingOf task (Comparing a b case) = AreAlike a b.model × IsListingOf task case
 IsListingOf task other = ⊥
 
--- the decks, the digits and the listing that are checked
-abbrev pub IsCheckingOf : Decks → ℕ → ZonedListing → Case → Type 0
-IsCheckingOf d digits listing (Checking e s l) = (e ≡ d) × (s ≡ digits) × (l ≡ listing)
-IsCheckingOf d digits listing (Comparing a b case) = AreAlike a b.model × IsCheckingOf d digits listing case
-IsCheckingOf d digits listing other = ⊥
+-- the limits, the decks, the digits and the listing that are checked
+abbrev pub IsCheckingOf : Limits → Decks → ℕ → ZonedListing → Case → Type 0
+IsCheckingOf limits d digits listing (Checking k e s l) = (k ≡ limits) × (e ≡ d) × (s ≡ digits) × (l ≡ listing)
+IsCheckingOf limits d digits listing (Comparing a b case) = AreAlike a b.model × IsCheckingOf limits d digits listing case
+IsCheckingOf limits d digits listing other = ⊥
 
 -- what a name means, by this reading of the files under it; a bad name is refused before any file
 abbrev pub named : {T : Type 0} → Text → (Text → Result T Refusal) → Result T Refusal
@@ -131,7 +142,7 @@ named name read = if is_good_name name then read name else Err (file_refusal Bad
 
 -- the model of the files of a made model
 abbrev pub made_model : ℕ → ℕ → Result FlowModel Refusal
-made_model seed size = named made_name (reads Plain (made_files seed size))
+made_model seed size = named made_name (reads Plain (with_limit (most_bytes Plain) (made_files seed size)))
 
 -- the zones that a file gives, as unsigned numbers
 abbrev pub numbers_of : Result (List ℤ) Refusal → Result (Option (List ℕ)) Refusal
@@ -144,7 +155,7 @@ zones_named None read = Ok None
 zones_named (Some name) read = numbers_of (read name)
 
 -- the zones of a model's cells, from these files
-abbrev pub zones_read : List File → Option Text → FlowModel → Result (Option (List ℕ)) Refusal
+abbrev pub zones_read : FileSet → Option Text → FlowModel → Result (Option (List ℕ)) Refusal
 zones_read files zones m = zones_named zones (zones_of files m.grid)
 
 -- the steps of a file's bytes, as a listing of a model with these zones, or of all models between two
@@ -153,7 +164,7 @@ steps_in between asked m zones (Ok bytes) = listing_in between m asked.digits (p
 steps_in between asked m zones (Err refusal) = Err refusal
 
 -- the steps of the listing that a check names; its name is tested once the model and the zone file are read
-abbrev pub steps_read : Bool → List File → AskedCheck → FlowModel → Option (List ℕ) → Result (List ListedStep) Refusal
+abbrev pub steps_read : Bool → FileSet → AskedCheck → FlowModel → Option (List ℕ) → Result (List ListedStep) Refusal
 steps_read between files asked m zones = named asked.listing (λ name. steps_in between asked m zones (file_at files name))
 
 -- a listing with its zones; a refusal of the zone file comes before one of the listing
@@ -166,7 +177,7 @@ zoned_steps (Ok zones) read = with_zones zones (read zones)
 zoned_steps (Err refusal) read = Err refusal
 
 -- the listing that a check names, with the zones of its zone file, if there is one
-abbrev pub listing_read : Bool → List File → AskedCheck → FlowModel → Result ZonedListing Refusal
+abbrev pub listing_read : Bool → FileSet → AskedCheck → FlowModel → Result ZonedListing Refusal
 listing_read between files asked m = zoned_steps (zones_read files asked.zones m) (steps_read between files asked m)
 
 -- a refusal of the model comes before one of the zone file
@@ -179,7 +190,7 @@ case_read asked (Ok m) zoned = case_zoned asked m (zoned m)
 case_read asked (Err refusal) zoned = Refuses refusal
 
 abbrev pub case_listed : AskedCheck → Decks → Result ZonedListing Refusal → Case
-case_listed asked d (Ok listing) = Checking d asked.digits listing
+case_listed asked d (Ok listing) = Checking asked.limits d asked.digits listing
 case_listed asked d (Err refusal) = Refuses refusal
 
 abbrev pub case_checked : AskedCheck → Result FlowModel Refusal → (FlowModel → Result ZonedListing Refusal) → Case
@@ -200,31 +211,38 @@ abbrev pub case_written : Result FlowModel Refusal → Case
 case_written (Ok m) = Writing m
 case_written (Err refusal) = Refuses refusal
 
--- readings of models, of second decks, of zone files, and of listings of a model or of all models between two
+-- readings of models and of second decks by limits, of zone files, and of listings of a model or of all models between two
 pub record Readings : Type 0 where
-  pub model : Text → Result FlowModel Refusal
-  pub second : Text → Result Second Refusal
+  pub model : Limits → Text → Result FlowModel Refusal
+  pub second : Limits → Text → Result Second Refusal
   pub zones : Option Text → FlowModel → Result (Option (List ℕ)) Refusal
   pub listing : Bool → AskedCheck → FlowModel → Result ZonedListing Refusal
 
 -- the case of a command, by these readings
 abbrev pub case_asked : Option Command → Readings → Case
 case_asked None read = NoWords
-case_asked (Some (Run asked)) read = case_read asked (named asked.name read.model) (read.zones asked.zones)
+case_asked (Some (Run asked)) read = case_read asked (named asked.name (read.model asked.limits)) (read.zones asked.zones)
 case_asked (Some (Span asked)) read =
-    case_compared (named asked.run.name read.model) (named asked.to read.second) (λ a b. case_between asked.run a b (read.zones asked.run.zones a))
+    case_compared (named asked.run.name (read.model asked.run.limits)) (named asked.to (read.second asked.run.limits))
+    (λ a b. case_between asked.run a b (read.zones asked.run.zones a))
 case_asked (Some (Make seed size)) read = Making seed size (made_model seed size)
-case_asked (Some (Check asked)) read = case_checked asked (named asked.name read.model) (read.listing false asked)
+case_asked (Some (Check asked)) read = case_checked asked (named asked.name (read.model asked.limits)) (read.listing false asked)
 case_asked (Some (CheckSpan asked)) read =
-    case_compared (named asked.check.name read.model) (named asked.to read.second) (λ a b. case_listed asked.check (two a b) (read.listing true asked.check a))
-case_asked (Some (Write name)) read = case_written (named name read.model)
+    case_compared (named asked.check.name (read.model asked.check.limits)) (named asked.to (read.second asked.check.limits))
+    (λ a b. case_listed asked.check (two a b) (read.listing true asked.check a))
+case_asked (Some (Write limits name)) read = case_written (named name (read.model limits))
 
 -- the readings of these files
-abbrev pub readings_of : List File → Readings
-readings_of files = record { model = reads Plain files; second = second_in files; zones = zones_read files; listing = λ between. listing_read between files }
+abbrev pub readings_of : FileSet → Readings
+readings_of files = record {
+  model = λ limits. reads limits files;
+  second = λ limits. second_in limits files;
+  zones = zones_read files;
+  listing = λ between. listing_read between files;
+}
 
 -- the case of these words and files
-abbrev pub case_of : List Text → List File → Case
+abbrev pub case_of : List Text → FileSet → Case
 case_of words files = case_asked (asked_in words) (readings_of files)
 
 -- a listing that could be read of a model, without zones or with these
@@ -244,14 +262,14 @@ pub record CouldRead (read : Result FlowModel Refusal) (second : Result Second R
 -- the readings with these results, whatever the name
 abbrev pub some_readings : Result FlowModel Refusal → Result Second Refusal → Result (List ℤ) Refusal → Result (List ListedStep) Refusal → Readings
 some_readings read second zoned listed = record {
-  model = λ name. read;
-  second = λ name. second;
+  model = λ limits name. read;
+  second = λ limits name. second;
   zones = λ zones m. zones_named zones (λ name. zoned);
   listing = λ between asked m. zoned_steps (zones_named asked.zones (λ name. zoned)) (λ zones. named asked.listing (λ name. listed));
 }
 
 -- The case of the words by these files. Where none are known there is some possible result of reading.
-abbrev pub IsCase : List Text → Option (List File) → Case → Type 0
+abbrev pub IsCase : List Text → Option FileSet → Case → Type 0
 IsCase words (Some files) case = case ≡ case_of words files
 IsCase words None case =
     (read : Result FlowModel Refusal) × (second : Result Second Refusal) × (zoned : Result (List ℤ) Refusal)

@@ -1,8 +1,7 @@
 -- What a certified listing promises.
 use Rattle.std.specs.Prelude.{◌≡◌, ℕ, ℤ, false, List, Ok, Option, Some}
 use Rattle.std.specs.Io.KnownBytes.{Appends}
-use Rattle.outside.specs.Files.{File}
-use Rattle.model_types.specs.declared.limits.Limits.TheVariants.{Plain}
+use Rattle.outside.specs.Files.{FileSet}
 use Rattle.model_types.specs.declared.model.FlowModel.{FlowModel}
 use Rattle.model_types.specs.Heads.{start_head}
 use Rattle.model_types.specs.Times.{times}
@@ -22,13 +21,13 @@ use Rattle.engine.specs.Checked.{certified_line}
 -- it: the files have a listing, whoever wrote it, and every history of heads that solves the manual's exact equations
 -- of the files lies, step by step and cell by cell, between its heads, with each of its budget flows between its terms, and
 -- each of its flows between two zones of a zone file between its two numbers. How it was judged stands in `OneVerdict`.
-pub record Certified (words : List Text) (files : List File) (old new : Option (List ℕ)) : Type 0 where
+pub record Certified (words : List Text) (files : FileSet) (old new : Option (List ℕ)) : Type 0 where
   -- The words ask for a check, the files read as a model, which is valid, and as zones of its cells where the words name a
   -- zone file, and the named file as a listing of it.
   pub asked : AskedCheck
   pub wanted : asked_in words ≡ Some (Check asked)
   pub model : FlowModel
-  pub read : reads Plain files asked.name ≡ Ok model
+  pub read : reads asked.limits files asked.name ≡ Ok model
   pub valid : IsModel model
   pub zones : Option (List ℕ)
   pub zoned : zones_read files asked.zones model ≡ Ok zones
@@ -37,7 +36,8 @@ pub record Certified (words : List Text) (files : List File) (old new : Option (
   -- The line CERTIFIED was appended, and nothing else.
   pub written : Appends old new certified_line
   -- Every history over any denominator d that solves the model's exact equations lies within what it lists.
-  pub encloses : (d : ℕ) (history : List (ℕ → ℤ)) → Solves model d history → BoundAll (checked_task (one_deck model) asked.digits zones) model d (start_head model) (steps_of (times model) steps) history
+  pub encloses : (d : ℕ) (history : List (ℕ → ℤ)) → Solves model d history →
+      BoundAll (checked_task (one_deck model) asked.digits zones) model d (start_head model) (steps_of (times model) steps) history
   -- And there is one: a history solves them, and any two are the same heads at all active cells, step by step.
   pub solvable : HasHistory model
   pub one : (d e : ℕ) (history other : List (ℕ → ℤ)) → Solves model d history → Solves model e other → AreSame model d e history other

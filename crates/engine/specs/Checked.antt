@@ -1,6 +1,7 @@
 -- How a check ends, and with which line.
 use Rattle.std.specs.Prelude.{◌≡◌, ℕ, List, [], ◌∷◌, codes}
 use Rattle.model_types.specs.declared.grid.Grid.{Grid}
+use Rattle.model_types.specs.declared.limits.Limits.{Limits}
 use Rattle.deck_problems.specs.declared.decks.Decks.{Decks}
 use Rattle.listing_io.specs.LastLines.{no_bound_line, not_certified_line}
 use Rattle.run_puts.specs.Lines.{Text}
@@ -26,12 +27,12 @@ verdict_status Certified = status.Ok
 verdict_status (Fails at place) = status.NotCertified at.period at.step place
 verdict_status (Refused at n) = status.NoBound at.period at.step n
 
--- The check of this listing has this end and this line, by its verdict. A listing that is certified encloses every history
+-- The check of this listing by these limits has this end and this line, by its verdict. A listing that is certified encloses every history
 -- that solves its model, and there is exactly one; of two decks every history between them, and each choice of models between
 -- has exactly one.
-pub record IsCheck (d : Decks) (s : ℕ) (listing : ZonedListing) (end : Status) (pieces : List Text) : Type 0 where
+pub record IsCheck (limits : Limits) (d : Decks) (s : ℕ) (listing : ZonedListing) (end : Status) (pieces : List Text) : Type 0 where
   pub verdict : ListingVerdict
-  pub is : IsVerdict d s listing.zones listing.steps verdict
+  pub is : IsVerdict limits d s listing.zones listing.steps verdict
   pub encloses : verdict ≡ Certified → ListingEncloses d s listing.zones listing.steps
   pub history : verdict ≡ Certified → HaveOneHistory d
   pub status : end ≡ verdict_status verdict

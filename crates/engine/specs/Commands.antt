@@ -9,11 +9,12 @@ use Rattle.engine.specs.Cases.{Asked, AskedCheck, Command, Run, Span, Make, Chec
 
 -- the listing that is asked for; of how it is settled only the rounds are part of a definition
 abbrev pub asked_of : AskedBy → Asked
-asked_of a = record { name = a.name.now; digits = a.digits; rounds = a.plan.rounds; zones = option_map (λ name. name.now) a.zones; quick = a.quick }
+asked_of a =
+    record { limits = a.limits; name = a.name.now; digits = a.digits; rounds = a.plan.rounds; zones = option_map (λ name. name.now) a.zones; quick = a.quick }
 
 -- the check that is asked for
 abbrev pub check_of : AskedCheckBy → AskedCheck
-check_of a = record { name = a.name.now; listing = a.listing.now; digits = a.digits; zones = option_map (λ name. name.now) a.zones }
+check_of a = record { limits = a.limits; name = a.name.now; listing = a.listing.now; digits = a.digits; zones = option_map (λ name. name.now) a.zones }
 
 abbrev pub command_of : CommandBy → Command
 command_of (command.Run a) = Run (asked_of a)
@@ -21,7 +22,7 @@ command_of (command.Span a to) = Span (record { run = asked_of a; to = to.now })
 command_of (command.Make seed size) = Make seed size
 command_of (command.Check a) = Check (check_of a)
 command_of (command.CheckSpan a to) = CheckSpan (record { check = check_of a; to = to.now })
-command_of (command.Write name) = Write name.now
+command_of (command.Write limits name) = Write limits name.now
 
 -- the number of views in each phase
 abbrev pub views_of : CommandBy → Option ℕ
@@ -42,4 +43,4 @@ IsCommand (command.Span a to) = IsAsked a
 IsCommand (command.Make seed size) = IsMakeable seed size
 IsCommand (command.Check a) = a.digits ≤ 18
 IsCommand (command.CheckSpan a to) = a.digits ≤ 18
-IsCommand (command.Write name) = Unit {0}
+IsCommand (command.Write limits name) = Unit {0}

@@ -1,8 +1,8 @@
 -- What is promised of a deck that is written.
 use Rattle.std.specs.Prelude.{◌≡◌, ℕ, List, [], ◌∷◌, Ok, Option, Some}
 use Rattle.std.specs.Io.KnownBytes.{Appends}
-use Rattle.outside.specs.Files.{File}
-use Rattle.model_types.specs.declared.limits.Limits.TheVariants.{Plain}
+use Rattle.outside.specs.Files.{FileSet}
+use Rattle.model_types.specs.declared.limits.Limits.{Limits}
 use Rattle.model_types.specs.declared.model.FlowModel.{FlowModel}
 use Rattle.model_types.specs.Valid.{IsModel}
 use Rattle.model_reader.specs.Model.{reads}
@@ -18,14 +18,15 @@ IsDeck m end pieces = (end ≡ status.Ok) × (pieces ≡ deck_text m ∷ [])
 
 -- A run with these words over these files that ended Ok, where a sink had the bytes `old` before it and `new` after it,
 -- has written the one deck of the model that the files read as; and the files of that deck are read as the same model.
-pub record OneDeck (words : List Text) (files : List File) (old new : Option (List ℕ)) : Type 0 where
+pub record OneDeck (words : List Text) (files : FileSet) (old new : Option (List ℕ)) : Type 0 where
   -- The words ask for a deck, and the files read as a model, which is valid.
+  pub limits : Limits
   pub name : Text
-  pub wanted : asked_in words ≡ Some (Write name)
+  pub wanted : asked_in words ≡ Some (Write limits name)
   pub model : FlowModel
-  pub read : reads Plain files name ≡ Ok model
+  pub read : reads limits files name ≡ Ok model
   pub valid : IsModel model
   -- The text of the model's deck was appended, and nothing else.
   pub written : Appends old new (deck_text model)
   -- Its files are read as the model, where each IBOUND has at most 18 digits and no file is too long.
-  pub again : IsReadAgain Plain model
+  pub again : IsReadAgain limits model

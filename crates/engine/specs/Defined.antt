@@ -21,7 +21,7 @@ Defines NoWords end pieces = (end ≡ status.Usage) × (pieces ≡ usage_line �
 Defines (Refuses refusal) end pieces = (end ≡ status.Refused refusal) × (pieces ≡ refused_line refusal ∷ [])
 Defines (Listing k) end pieces = IsListing k end pieces
 Defines (Making seed size read) end pieces = IsMade seed size read end pieces
-Defines (Checking d s listing) end pieces = IsCheck d s listing end pieces
+Defines (Checking limits d s listing) end pieces = IsCheck limits d s listing end pieces
 Defines (Writing m) end pieces = IsDeck m end pieces
 Defines (Comparing a b case) end pieces = IsUnlike a b end pieces ⊎ (AreAlike a b.model × Defines case end pieces)
 

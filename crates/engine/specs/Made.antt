@@ -1,4 +1,6 @@
 -- A model that is made from a seed: the end and the pieces of its run.
+use Rattle.outside.specs.Files.{with_limit}
+use Rattle.model_types.specs.Limits.{most_bytes}
 use Rattle.std.specs.Prelude.{◌≡◌, ℕ, ℤ, false, List, [], ◌∷◌, Ok, Err, Option, Some, None, Result}
 use Rattle.std.specs.Io.KnownBytes.{Appends}
 use Rattle.outside.specs.declared.refusals.Refusal.{Refusal}
@@ -28,7 +30,7 @@ use Rattle.engine.specs.Cases.{asked_in, task_of, Make}
 
 -- the task of its listing, with the digits and the rounds of a run without options
 abbrev pub made_task : FlowModel → Task
-made_task m = task_of (record { name = made_name; digits = 12; rounds = 1000000; zones = None; quick = false }) m None
+made_task m = task_of (record { limits = Plain; name = made_name; digits = 12; rounds = 1000000; zones = None; quick = false }) m None
 
 -- a whole listing is put as its summary, any other one as its last line
 abbrev pub summed_text : ℕ → ℕ → Grid → Summary → ListingEnd → Text
@@ -56,7 +58,7 @@ pub record Made (words : List Text) (old new : Option (List ℕ)) : Type 0 where
   pub size : ℕ
   pub wanted : asked_in words ≡ Some (Make seed size)
   pub model : FlowModel
-  pub read : reads Plain (made_files seed size) made_name ≡ Ok model
+  pub read : reads Plain (with_limit (most_bytes Plain) (made_files seed size)) made_name ≡ Ok model
   pub valid : IsModel model
   -- The summary of the listing of some values, which are the heads and the budget of each step, was appended, and nothing else.
   pub values : List Step

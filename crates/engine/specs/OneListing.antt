@@ -2,7 +2,8 @@
 use Rattle.std.specs.Prelude.{◌≡◌, ℕ, false, List, Ok, Option, Some}
 use Rattle.std.specs.List.{concat}
 use Rattle.std.specs.Io.KnownBytes.{Appends}
-use Rattle.outside.specs.Files.{File}
+use Rattle.outside.specs.Files.{FileSet, with_limit}
+use Rattle.model_types.specs.Limits.{most_bytes}
 use Rattle.model_types.specs.declared.limits.Limits.TheVariants.{Plain}
 use Rattle.model_types.specs.declared.model.FlowModel.{FlowModel}
 use Rattle.model_types.specs.Valid.{IsModel}
@@ -25,12 +26,12 @@ use Rattle.engine.specs.Made.{made_task}
 
 -- A run with these words, without --quick, over these files that ended Ok, where a sink had the bytes `old` before it and
 -- `new` after it, has written the one listing that the files define.
-pub record OneListing (words : List Text) (files : List File) (old new : Option (List ℕ)) : Type 0 where
+pub record OneListing (words : List Text) (files : FileSet) (old new : Option (List ℕ)) : Type 0 where
   -- The words ask for a listing, and the files read as a model, which is valid, and as zones of its cells where the words name a zone file.
   pub asked : Asked
   pub wanted : asked_in words ≡ Some (Run asked)
   pub model : FlowModel
-  pub read : reads Plain files asked.name ≡ Ok model
+  pub read : reads asked.limits files asked.name ≡ Ok model
   pub valid : IsModel model
   pub zones : Option (List ℕ)
   pub zoned : zones_read files asked.zones model ≡ Ok zones
@@ -49,7 +50,7 @@ pub record OneSummary (words : List Text) (old new : Option (List ℕ)) : Type 0
   pub size : ℕ
   pub wanted : asked_in words ≡ Some (Make seed size)
   pub model : FlowModel
-  pub read : reads Plain (made_files seed size) made_name ≡ Ok model
+  pub read : reads Plain (with_limit (most_bytes Plain) (made_files seed size)) made_name ≡ Ok model
   pub valid : IsModel model
   pub values : List Step
   pub steps : AllSteps (made_task model) values Whole
@@ -57,14 +58,14 @@ pub record OneSummary (words : List Text) (old new : Option (List ℕ)) : Type 0
   pub written : Appends old new (summary_text seed size (summary_of model values))
 
 -- A check with these words over these files that ended Ok found that each step of the named listing is certified.
-pub record OneVerdict (words : List Text) (files : List File) : Type 0 where
+pub record OneVerdict (words : List Text) (files : FileSet) : Type 0 where
   pub asked : AskedCheck
   pub wanted : asked_in words ≡ Some (Check asked)
   pub model : FlowModel
-  pub read : reads Plain files asked.name ≡ Ok model
+  pub read : reads asked.limits files asked.name ≡ Ok model
   pub valid : IsModel model
   pub zones : Option (List ℕ)
   pub zoned : zones_read files asked.zones model ≡ Ok zones
   pub steps : List ListedStep
   pub listed : steps_read false files asked model zones ≡ Ok steps
-  pub verdict : IsVerdict (one_deck model) asked.digits zones steps Holds
+  pub verdict : IsVerdict asked.limits (one_deck model) asked.digits zones steps Holds

@@ -1,14 +1,14 @@
 -- What the parts of a run return and put.
 use Rattle.std.specs.Prelude.{◌≡◌, ◌⊎◌, ℕ, ℤ, Bool, List, map, unsigned_abs, Result, Option, Some, None, IfOk, IfSome, codes}
 use Rattle.outside.specs.Counts.{Rose}
-use Rattle.outside.specs.Files.{File}
+use Rattle.outside.specs.Files.{FileSet}
 use Rattle.outside.specs.Puts.{Put}
 use Rattle.outside.specs.Inputs.{IsReading, file_refusal}
 use Rattle.outside.specs.declared.codes.Code.TheVariants.{BadName}
 use Rattle.outside.specs.declared.refusals.Refusal.{Refusal}
 use Rattle.outside.specs.declared.refusals.InputFault.{InputFault}
 use Rattle.outside.specs.declared.refusals.InputFault.TheVariants as input
-use Rattle.model_types.specs.declared.limits.Limits.TheVariants.{Plain}
+use Rattle.model_types.specs.declared.limits.Limits.{Limits}
 use Rattle.model_types.specs.declared.model.FlowModel.{FlowModel}
 use Rattle.model_types.specs.Valid.{IsModel}
 use Rattle.model_reader.specs.Model.{reads}
@@ -47,15 +47,15 @@ IsNamedFault input.ReadFault = ⊥
 IsNamedFault input.Memory = Unit {0}
 
 -- A reading gave what the name means: by these files, or where none are known by some that read as a valid model or have a refusal.
-abbrev pub IsReadAs : Text → Option (List File) → Result FlowModel InputFault → Type 0
-IsReadAs name (Some files) answer = IsReading (λ m. m) (named name (reads Plain files)) answer
-IsReadAs name None answer = (read : Result FlowModel Refusal) × IfOk read IsModel × IsReading (λ m. m) (named name (λ n. read)) answer
+abbrev pub IsReadAs : Limits → Text → Option FileSet → Result FlowModel InputFault → Type 0
+IsReadAs limits name (Some files) answer = IsReading (λ m. m) (named name (reads limits files)) answer
+IsReadAs limits name None answer = (read : Result FlowModel Refusal) × IfOk read IsModel × IsReading (λ m. m) (named name (λ n. read)) answer
 
 -- A reading gave the two decks that two names mean: by these files, or where none are known by some that read as valid
 -- models or have a refusal.
-abbrev pub AreDecksAs : (name to : Text) → Option (List File) → Result Decks InputFault → Type 0
-AreDecksAs name to (Some files) answer = IsPairRead (named name (reads Plain files)) (named to (second_in files)) answer
-AreDecksAs name to None answer =
+abbrev pub AreDecksAs : Limits → (name to : Text) → Option FileSet → Result Decks InputFault → Type 0
+AreDecksAs limits name to (Some files) answer = IsPairRead (named name (reads limits files)) (named to (second_in limits files)) answer
+AreDecksAs limits name to None answer =
     (read : Result FlowModel Refusal) × (second : Result Second Refusal) × IfOk read IsModel × IfOk second (λ b. IsModel b.model)
     × IsPairRead (named name (λ n. read)) (named to (λ n. second)) answer
 
@@ -70,13 +70,13 @@ abbrev pub second_by : SecondBy → Second
 second_by b = record { name = b.name.now; files = b.files; model = b.model }
 
 -- a reading gave the second deck that a name means
-abbrev pub IsSecondAs : Text → Option (List File) → Result SecondBy InputFault → Type 0
-IsSecondAs name (Some files) answer = IsReading second_by (named name (second_in files)) answer
-IsSecondAs name None answer = (read : Result Second Refusal) × IfOk read (λ b. IsModel b.model) × IsReading second_by (named name (λ n. read)) answer
+abbrev pub IsSecondAs : Limits → Text → Option FileSet → Result SecondBy InputFault → Type 0
+IsSecondAs limits name (Some files) answer = IsReading second_by (named name (second_in limits files)) answer
+IsSecondAs limits name None answer = (read : Result Second Refusal) × IfOk read (λ b. IsModel b.model) × IsReading second_by (named name (λ n. read)) answer
 
 -- A reading gave the zones of the named zone file, if there is one: by these files, or where none are known by some
 -- that are zones of the model or have a refusal.
-abbrev pub AreZonesAs : Option Text → FlowModel → Option (List File) → Result (Option (List ℕ)) InputFault → Type 0
+abbrev pub AreZonesAs : Option Text → FlowModel → Option FileSet → Result (Option (List ℕ)) InputFault → Type 0
 AreZonesAs zones m (Some files) answer = IsReading (λ z. z) (zones_read files zones m) answer
 AreZonesAs zones m None answer =
     (zoned : Result (List ℤ) Refusal) × IfOk zoned (λ zs. AreZonesOf m (map unsigned_abs zs))
@@ -84,7 +84,7 @@ AreZonesAs zones m None answer =
 
 -- A reading gave the steps that a check names, as a listing with these zones: by these files, or where none are known by some
 -- that are steps of the model or have a refusal.
-abbrev pub AreStepsAs : Bool → AskedCheck → FlowModel → Option (List ℕ) → Option (List File) → Result (List ListedStep) InputFault → Type 0
+abbrev pub AreStepsAs : Bool → AskedCheck → FlowModel → Option (List ℕ) → Option FileSet → Result (List ListedStep) InputFault → Type 0
 AreStepsAs between asked m zones (Some files) answer = IsReading (λ l. l) (steps_read between files asked m zones) answer
 AreStepsAs between asked m zones None answer =
     (listed : Result (List ListedStep) Refusal) × IfOk listed (AreListed m (pairs_in m zones))
@@ -92,7 +92,7 @@ AreStepsAs between asked m zones None answer =
 
 -- A reading gave the listing that a check names, with its zones: by these files, or where none are known by some that are
 -- zones and steps of the model or have a refusal.
-abbrev pub IsListedAs : Bool → AskedCheck → FlowModel → Option (List File) → Result ZonedListing InputFault → Type 0
+abbrev pub IsListedAs : Bool → AskedCheck → FlowModel → Option FileSet → Result ZonedListing InputFault → Type 0
 IsListedAs between asked m (Some files) answer = IsReading (λ l. l) (listing_read between files asked m) answer
 IsListedAs between asked m None answer =
     (zoned : Result (List ℤ) Refusal) × (listed : Result (List ListedStep) Refusal)
@@ -112,13 +112,13 @@ IsStopped end = (end ≡ status.ReadFault) ⊎ ((end ≡ status.WriteFault) ⊎ 
 abbrev pub IsValid : Case → Status → Type 0
 IsValid (Listing k) end = AreDecks k.decks ⊎ IsStopped end
 IsValid (Making seed size read) end = IfOk read IsModel ⊎ IsStopped end
-IsValid (Checking d s listing) end = (AreDecks d × IsListed d.first listing) ⊎ IsStopped end
+IsValid (Checking limits d s listing) end = (AreDecks d × IsListed d.first listing) ⊎ IsStopped end
 IsValid (Writing m) end = IsModel m ⊎ IsStopped end
 IsValid (Comparing a b case) end = (AreAlike a b.model → ⊥) ⊎ IsValid case end
 IsValid other end = Unit {0}
 
 -- all facts of a run's result
-pub record Answers (words : List Text) (files : Option (List File)) (before after : ℕ) (end : Status) (puts : List Put) : Type 0 where
+pub record Answers (words : List Text) (files : Option FileSet) (before after : ℕ) (end : Status) (puts : List Put) : Type 0 where
   pub case : Case
   pub is : IsCase words files case
   pub run : IsRunOf (Rose before after) case end puts
@@ -126,7 +126,8 @@ pub record Answers (words : List Text) (files : Option (List File)) (before afte
 
 -- Facts of a run's result beside which a side sink is led so: all of the above, or it stopped since a write beside it
 -- failed; and the side sink got the views that are asked for: of the first steps, and if the run ended Ok of all.
-pub record AnswersBeside (words : List Text) (files : Option (List File)) (before after : ℕ) (failed_beside : Type 0) (leads : List Put → Type 0) (end : Status) (puts : List Put) : Type 0 where
+pub record AnswersBeside (words : List Text) (files : Option FileSet) (before after : ℕ) (failed_beside : Type 0)
+    (leads : List Put → Type 0) (end : Status) (puts : List Put) : Type 0 where
   pub answers : Answers words files before after end puts ⊎ ((case : Case) × IsCase words files case × IsLeft failed_beside case end puts)
   pub watched : end ≡ status.Ok → (n : ℕ) → views_in words ≡ Some n → IfSome files (λ fs. Watched words fs n leads)
   pub side : IfSome files (λ fs. SidePuts leads words fs (views_in words))

@@ -2,8 +2,7 @@
 use Rattle.std.specs.Prelude.{◌≡◌, ◌⊎◌, ℕ, List, true, Ok, Option, Some}
 use Rattle.std.specs.List.{concat}
 use Rattle.std.specs.Io.KnownBytes.{Appends}
-use Rattle.outside.specs.Files.{File}
-use Rattle.model_types.specs.declared.limits.Limits.TheVariants.{Plain}
+use Rattle.outside.specs.Files.{FileSet}
 use Rattle.model_types.specs.declared.model.FlowModel.{FlowModel}
 use Rattle.model_types.specs.Valid.{IsModel}
 use Rattle.model_reader.specs.Model.{reads}
@@ -19,12 +18,12 @@ use Rattle.engine.specs.SpanHeadline.{ArePairOf, OneSpan}
 
 -- A run with these words, with --quick, over these files that ended Ok, where a sink had the bytes `old` before it and
 -- `new` after it, has written the listing of some values, each step of which has a pair that is a certificate.
-pub record QuickListing (words : List Text) (files : List File) (old new : Option (List ℕ)) : Type 0 where
+pub record QuickListing (words : List Text) (files : FileSet) (old new : Option (List ℕ)) : Type 0 where
   -- The words ask for a quick listing, and the files read as a model, which is valid, and as zones of its cells where the words name a zone file.
   pub asked : Asked
   pub wanted : asked_in words ≡ Some (Run asked)
   pub model : FlowModel
-  pub read : reads Plain files asked.name ≡ Ok model
+  pub read : reads asked.limits files asked.name ≡ Ok model
   pub valid : IsModel model
   pub zones : Option (List ℕ)
   pub zoned : zones_read files asked.zones model ≡ Ok zones
@@ -37,14 +36,14 @@ pub record QuickListing (words : List Text) (files : List File) (old new : Optio
   pub written : Appends old new (concat (listing (task_of asked model zones) values end_line))
 
 -- The one listing that the files define; with --quick a listing by certificates.
-abbrev pub OneOrQuick : List Text → List File → (old new : Option (List ℕ)) → Type 0
+abbrev pub OneOrQuick : List Text → FileSet → (old new : Option (List ℕ)) → Type 0
 OneOrQuick words files old new = OneListing words files old new ⊎ QuickListing words files old new
 
 -- A run of two decks with --quick that ended Ok has written such a listing of them.
-pub record QuickSpan (words : List Text) (files : List File) (old new : Option (List ℕ)) : Type 0 where
+pub record QuickSpan (words : List Text) (files : FileSet) (old new : Option (List ℕ)) : Type 0 where
   pub asked : AskedSpan
   pub wanted : asked_in words ≡ Some (Span asked)
-  pub decks : ArePairOf files asked.run.name asked.to
+  pub decks : ArePairOf asked.run.limits files asked.run.name asked.to
   pub zones : Option (List ℕ)
   pub zoned : zones_read files asked.run.zones decks.first ≡ Ok zones
   pub quick : asked.run.quick ≡ true
@@ -55,5 +54,5 @@ pub record QuickSpan (words : List Text) (files : List File) (old new : Option (
   -- Their listing was appended, and nothing else.
   pub written : Appends old new (concat (listing (span_task_of asked.run decks.first decks.second zones) values end_line))
 
-abbrev pub SpanOrQuick : List Text → List File → (old new : Option (List ℕ)) → Type 0
+abbrev pub SpanOrQuick : List Text → FileSet → (old new : Option (List ℕ)) → Type 0
 SpanOrQuick words files old new = OneSpan words files old new ⊎ QuickSpan words files old new

@@ -1,9 +1,10 @@
 -- What a run puts, how it ends, and which end is certain.
 use Rattle.std.specs.Prelude.{◌≡◌, ◌⊎◌, ℕ, List, false, map, Ok, Option}
 use Rattle.outside.specs.Counts.{Rose}
-use Rattle.outside.specs.Files.{File}
+use Rattle.outside.specs.Files.{FileSet}
 use Rattle.outside.specs.Puts.{Put, taken}
 use Rattle.step_problem.specs.declared.place.NoBound.{NoBound}
+use Rattle.model_types.specs.declared.limits.Limits.{Limits}
 use Rattle.model_types.specs.declared.model.FlowModel.{FlowModel}
 use Rattle.model_types.specs.declared.time_steps.TimeStep.{TimeStep}
 use Rattle.deck_problems.specs.declared.decks.Decks.{Decks}
@@ -37,7 +38,8 @@ pub record IsLeft (failed_beside : Type 0) (case : Case) (end : Status) (puts : 
 
 -- What a run puts, for every status: `leads` says which puts take the sink from its state before to its state after,
 -- and the two numbers are the folder's counts of faults before and after. `failed_beside` says that a write to the side failed.
-pub record Puts (leads : List Put → Type 0) (words : List Text) (files : Option (List File)) (before after : ℕ) (failed_beside : Type 0) (end : Status) : Type 0 where
+pub record Puts (leads : List Put → Type 0) (words : List Text) (files : Option FileSet) (before after : ℕ)
+    (failed_beside : Type 0) (end : Status) : Type 0 where
   pub case : Case
   pub is : IsCase words files case
   pub puts : List Put
@@ -51,7 +53,7 @@ IsPlain (Comparing a b case) = IsPlain case
 IsPlain other = Unit {0}
 
 -- The run has the end that the words and files define, unless a read or a write fails, memory runs out, or a step doesn't settle within the rounds.
-abbrev pub Decided : Type 0 → List Text → List File → Status → Type 0
+abbrev pub Decided : Type 0 → List Text → FileSet → Status → Type 0
 Decided fault words files end =
     IsPlain (case_of words files) → (meant : Status) (pieces : List Text) → Defines (case_of words files) meant pieces → (fault ⊎ IsUnfinished meant)
     ⊎ ((end ≡ meant) ⊎ ((end ≡ status.Memory) ⊎ IsUnfinished end))
@@ -65,25 +67,26 @@ HasTask other task = ⊥
 
 -- The words ask for a listing or a made model, the files read as a model, or as two that are alike, and from STRT on, each step from the heads of
 -- the one before, no step has a refusal, and the rounds leave none open.
-pub record HasListing (words : List Text) (files : List File) : Type 0 where
+pub record HasListing (words : List Text) (files : FileSet) : Type 0 where
   pub task : Task
   pub is : HasTask (case_of words files) task
   pub no_refusal : (before : List Step) (at : TimeStep) (n : NoBound) → AllSteps task before (ends.NoBound at n) → ⊥
   pub none_open : (before : List Step) (at : TimeStep) → AllSteps task before (ends.Unfinished at) → ⊥
 
 -- The words ask for a check, the files read as a model, or as two that are alike, and a listing of it, and its verdict is that it is certified.
-pub record HasCertified (words : List Text) (files : List File) : Type 0 where
+pub record HasCertified (words : List Text) (files : FileSet) : Type 0 where
+  pub limits : Limits
   pub decks : Decks
   pub digits : ℕ
   pub listing : ZonedListing
-  pub is : IsCheckingOf decks digits listing (case_of words files)
-  pub verdict : IsVerdict decks digits listing.zones listing.steps Certified
+  pub is : IsCheckingOf limits decks digits listing (case_of words files)
+  pub verdict : IsVerdict limits decks digits listing.zones listing.steps Certified
 
 -- The words ask for a deck, and the files read as a model.
-pub record HasDeck (words : List Text) (files : List File) : Type 0 where
+pub record HasDeck (words : List Text) (files : FileSet) : Type 0 where
   pub model : FlowModel
   pub is : case_of words files ≡ Writing model
 
 -- Then the run ends Ok, unless a read or a write fails or memory runs out.
-abbrev pub Comes : Type 0 → List Text → List File → Status → Type 0
+abbrev pub Comes : Type 0 → List Text → FileSet → Status → Type 0
 Comes fault words files end = HasListing words files ⊎ (HasCertified words files ⊎ HasDeck words files) → fault ⊎ ((end ≡ status.Ok) ⊎ (end ≡ status.Memory))

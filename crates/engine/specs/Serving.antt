@@ -1,6 +1,6 @@
 -- How a program ends that runs its words and ends with the number of the run's status.
 use Rattle.std.specs.Prelude.{◌≡◌, ◌⊎◌, ℕ, List, IfSome, Option, Some}
-use Rattle.outside.specs.Files.{File}
+use Rattle.outside.specs.Files.{FileSet}
 use Rattle.outside.specs.Puts.{Put, Seen}
 use Rattle.run_puts.specs.Lines.{Text}
 use Rattle.run_puts.specs.Statuses.{code_of}
@@ -12,13 +12,14 @@ use Rattle.engine.specs.Made.{Made}
 use Rattle.engine.specs.OneListing.{OneSummary, OneVerdict}
 use Rattle.engine.specs.QuickListing.{OneOrQuick, SpanOrQuick}
 use Rattle.engine.specs.SpanHeadline.{SpanCertified, SpanHeadline, SpanVerdict}
+use Rattle.engine.specs.Asking.{bytes_asked}
 use Rattle.engine.specs.BatchRuns.{AnyPuts}
 use Rattle.engine.specs.Batched.{Batched, HasNoList}
 use Rattle.engine.specs.Batches.{AskedBatch, batch_asked}
 
 -- The headline: of a listing, of a made model whose listing is summed up, of a listing that was checked, of a deck, of a
 -- listing of two decks, of the check of one, or of each listing of a batch.
-abbrev pub AnyHeadline : List Text → List File → Status → Seen → Seen → Type 0
+abbrev pub AnyHeadline : List Text → FileSet → Status → Seen → Seen → Type 0
 AnyHeadline words files end old new =
     (Headline words files old.written new.written ⊎ (Made words old.written new.written ⊎ (Certified words files old.written new.written
     ⊎ (OneDeck words files old.written new.written ⊎ (SpanHeadline words files old.written new.written ⊎ SpanCertified words files old.written new.written)))))
@@ -26,7 +27,7 @@ AnyHeadline words files end old new =
 
 -- And what was put is the one listing that the files define, or with --quick one by certificates, or sums it up, or each step of
 -- the one that was checked is certified, or what was put is the one deck.
-abbrev pub AnyOne : List Text → List File → Status → Seen → Seen → Type 0
+abbrev pub AnyOne : List Text → FileSet → Status → Seen → Seen → Type 0
 AnyOne words files end old new =
     (OneOrQuick words files old.written new.written ⊎ (OneSummary words old.written new.written ⊎ (OneVerdict words files
     ⊎ (OneDeck words files old.written new.written ⊎ (SpanOrQuick words files old.written new.written ⊎ SpanVerdict words files)))))
@@ -38,14 +39,16 @@ IsStopNumber number = (number ≡ 5) ⊎ ((number ≡ 6) ⊎ (number ≡ 7))
 
 -- A program that ends with this number: it is that of its run's status, whose puts lead from the sink before to the
 -- sink after; and where it is 0, the headline holds of files that agree with the folder, of which there are some, and
--- the listing is the one that they define. A batch with any number but 5, 6 and 7 has its list refused, or has put the
--- text of each of its models.
-pub record Serves (leads : List Put → Type 0) (agrees : List File → Type 0) (words : List Text) (before after : ℕ) (failed_beside : Type 0) (old new : Seen) (number : ℕ) : Type 0 where
+-- the listing is the one that they define. As many bytes of a file are read as the limits say that the words ask for. A batch with
+-- any number but 5, 6 and 7 has its list refused, or has put the text of each of its models.
+pub record Serves (leads : List Put → Type 0) (agrees : FileSet → Type 0) (words : List Text) (before after : ℕ)
+    (failed_beside : Type 0) (old new : Seen) (number : ℕ) : Type 0 where
   pub end : Status
   pub number_is : number ≡ code_of end
-  pub puts : (files : Option (List File)) → IfSome files agrees → AnyPuts leads words files before after failed_beside end
-  pub some : (files : List File) × agrees files
-  pub headline : number ≡ 0 → (files : List File) → agrees files → AnyHeadline words files end old new
-  pub one : number ≡ 0 → (files : List File) → agrees files → AnyOne words files end old new
-  pub batch : (IsStopNumber number → ⊥) → (asked : AskedBatch) → batch_asked words ≡ Some asked → (files : List File) → agrees files →
+  pub puts : (files : Option FileSet) → IfSome files agrees → AnyPuts leads words files before after failed_beside end
+  pub some : (files : FileSet) × agrees files
+  pub limit : (files : FileSet) → agrees files → files.limit ≡ bytes_asked words
+  pub headline : number ≡ 0 → (files : FileSet) → agrees files → AnyHeadline words files end old new
+  pub one : number ≡ 0 → (files : FileSet) → agrees files → AnyOne words files end old new
+  pub batch : (IsStopNumber number → ⊥) → (asked : AskedBatch) → batch_asked words ≡ Some asked → (files : FileSet) → agrees files →
       HasNoList asked files end ⊎ Batched words files end old.written new.written

@@ -2,8 +2,8 @@
 use Rattle.std.specs.Prelude.{◌≡◌, ℕ, ℤ, true, false, List, Ok, Option, Some}
 use Rattle.std.specs.List.{concat}
 use Rattle.std.specs.Io.KnownBytes.{Appends}
-use Rattle.outside.specs.Files.{File}
-use Rattle.model_types.specs.declared.limits.Limits.TheVariants.{Plain}
+use Rattle.outside.specs.Files.{FileSet}
+use Rattle.model_types.specs.declared.limits.Limits.{Limits}
 use Rattle.model_types.specs.declared.model.FlowModel.{FlowModel}
 use Rattle.model_types.specs.Heads.{start_head}
 use Rattle.model_types.specs.Times.{times}
@@ -25,13 +25,13 @@ use Rattle.check_run.specs.Verdicts.{IsVerdict, checked_task, steps_of}
 use Rattle.engine.specs.Cases.{AskedSpan, AskedSpanCheck, CheckSpan, Span, asked_in, span_task_of, steps_read, zones_read}
 use Rattle.engine.specs.Checked.{certified_line}
 
--- The files of two names read as valid models that are alike: they differ only in numbers of their stresses and in STRT.
-pub record ArePairOf (files : List File) (name to : Text) : Type 0 where
+-- The files of two names read by limits as valid models that are alike: they differ only in numbers of their stresses and in STRT.
+pub record ArePairOf (limits : Limits) (files : FileSet) (name to : Text) : Type 0 where
   pub first : FlowModel
-  pub read : reads Plain files name ≡ Ok first
+  pub read : reads limits files name ≡ Ok first
   pub valid : IsModel first
   pub second : FlowModel
-  pub read_to : reads Plain files to ≡ Ok second
+  pub read_to : reads limits files to ≡ Ok second
   pub valid_to : IsModel second
   pub alike : AreAlike first second
 
@@ -40,12 +40,12 @@ pub record ArePairOf (files : List File) (name to : Text) : Type 0 where
 -- some model between the two decks, chosen anew at each step, lies, step by step and cell by cell, between its heads, with
 -- each of its budget flows between its terms, and each of its flows between two zones of a zone file between its two numbers.
 -- That it is the one listing which the files define stands in `OneSpan`.
-pub record SpanHeadline (words : List Text) (files : List File) (old new : Option (List ℕ)) : Type 0 where
+pub record SpanHeadline (words : List Text) (files : FileSet) (old new : Option (List ℕ)) : Type 0 where
   -- The words ask for such a listing, the files read as two valid models that are alike, and as zones of their cells where
   -- the words name a zone file.
   pub asked : AskedSpan
   pub wanted : asked_in words ≡ Some (Span asked)
-  pub decks : ArePairOf files asked.run.name asked.to
+  pub decks : ArePairOf asked.run.limits files asked.run.name asked.to
   pub zones : Option (List ℕ)
   pub zoned : zones_read files asked.run.zones decks.first ≡ Ok zones
   -- The listing of some values, which are the heads, the budget and the flows between zones of each step, was appended, and nothing else.
@@ -53,15 +53,16 @@ pub record SpanHeadline (words : List Text) (files : List File) (old new : Optio
   pub written : Appends old new (concat (listing (span_task_of asked.run decks.first decks.second zones) values end_line))
   -- Every history between the two decks over any denominator d lies between them.
   pub encloses : (d : ℕ) (history : List (ℕ → ℤ)) (h : SolvesBetween decks.first decks.second d history) →
-      BoundBetween (span_task_of asked.run decks.first decks.second zones) decks.first decks.second d (start_head h.first) (times decks.first) values history h.steps
+      BoundBetween (span_task_of asked.run decks.first decks.second zones) decks.first decks.second d (start_head h.first)
+      (times decks.first) values history h.steps
   -- And each choice of models between has one: a history solves it, and any two are the same heads at all active cells, step by step.
   pub choices : ChoicesHaveOne decks.first decks.second
 
 -- Such a run without --quick has written the one listing that the files define.
-pub record OneSpan (words : List Text) (files : List File) (old new : Option (List ℕ)) : Type 0 where
+pub record OneSpan (words : List Text) (files : FileSet) (old new : Option (List ℕ)) : Type 0 where
   pub asked : AskedSpan
   pub wanted : asked_in words ≡ Some (Span asked)
-  pub decks : ArePairOf files asked.run.name asked.to
+  pub decks : ArePairOf asked.run.limits files asked.run.name asked.to
   pub zones : Option (List ℕ)
   pub zoned : zones_read files asked.run.zones decks.first ≡ Ok zones
   pub plain : asked.run.quick ≡ false
@@ -76,10 +77,10 @@ pub record OneSpan (words : List Text) (files : List File) (old new : Option (Li
 -- A check of such a listing that ended Ok: the files have a listing of two decks, whoever wrote it, and every history between
 -- the decks lies between its heads, with each of its budget flows between its terms, and each of its flows between two zones
 -- of a zone file between its two numbers. How it was judged stands in `SpanVerdict`.
-pub record SpanCertified (words : List Text) (files : List File) (old new : Option (List ℕ)) : Type 0 where
+pub record SpanCertified (words : List Text) (files : FileSet) (old new : Option (List ℕ)) : Type 0 where
   pub asked : AskedSpanCheck
   pub wanted : asked_in words ≡ Some (CheckSpan asked)
-  pub decks : ArePairOf files asked.check.name asked.to
+  pub decks : ArePairOf asked.check.limits files asked.check.name asked.to
   pub zones : Option (List ℕ)
   pub zoned : zones_read files asked.check.zones decks.first ≡ Ok zones
   pub steps : List ListedStep
@@ -94,12 +95,12 @@ pub record SpanCertified (words : List Text) (files : List File) (old new : Opti
   pub choices : ChoicesHaveOne decks.first decks.second
 
 -- Such a check found that each step of the named listing is certified.
-pub record SpanVerdict (words : List Text) (files : List File) : Type 0 where
+pub record SpanVerdict (words : List Text) (files : FileSet) : Type 0 where
   pub asked : AskedSpanCheck
   pub wanted : asked_in words ≡ Some (CheckSpan asked)
-  pub decks : ArePairOf files asked.check.name asked.to
+  pub decks : ArePairOf asked.check.limits files asked.check.name asked.to
   pub zones : Option (List ℕ)
   pub zoned : zones_read files asked.check.zones decks.first ≡ Ok zones
   pub steps : List ListedStep
   pub listed : steps_read true files asked.check decks.first zones ≡ Ok steps
-  pub verdict : IsVerdict (two decks.first decks.second) asked.check.digits zones steps Holds
+  pub verdict : IsVerdict asked.check.limits (two decks.first decks.second) asked.check.digits zones steps Holds

@@ -7,6 +7,7 @@ use Rattle.step_problem.specs.declared.place.NoBound.{NoBound}
 use Rattle.step_problem.specs.declared.refusal.StepRefusal.TheVariants.{NoBarrierLow, NoBarrierHigh}
 use Rattle.step_problem.specs.StepRefusals.{number_of}
 use Rattle.step_problem.specs.Entries.{Entries, entries_at}
+use Rattle.model_types.specs.declared.limits.Limits.{Limits}
 use Rattle.model_types.specs.declared.model.FlowModel.{FlowModel}
 use Rattle.model_types.specs.declared.time_steps.TimeStep.{TimeStep}
 use Rattle.problem_builder.specs.Problems.{IsProblemOf}
@@ -20,6 +21,6 @@ IsStored p = (c : ℕ) → c < length p → (x : Fixed) × Contains (entries_at 
 -- Then a refusal of the step is neither NoBarrierLow nor NoBarrierHigh.
 abbrev pub StorageHolds : Type 0
 StorageHolds =
-    (m : FlowModel) (s : ℕ) (zones : Option (List ℕ)) (rounds : ℕ) (quick : Bool) (at : TimeStep) (old : List Bound) (n : NoBound) →
+    (limits : Limits) (m : FlowModel) (s : ℕ) (zones : Option (List ℕ)) (rounds : ℕ) (quick : Bool) (at : TimeStep) (old : List Bound) (n : NoBound) →
     ((p : List Entries) → IsProblemOf m s at old p → IsStored p) →
-    HasNoBound (one_task m s zones rounds quick) at old n → (n.code ≢ number_of NoBarrierLow) × (n.code ≢ number_of NoBarrierHigh)
+    HasNoBound (one_task limits m s zones rounds quick) at old n → (n.code ≢ number_of NoBarrierLow) × (n.code ≢ number_of NoBarrierHigh)

@@ -1,6 +1,6 @@
 -- Two decks that are read one after the other, and the refusal where they aren't alike.
 use Rattle.std.specs.Prelude.{◌≡◌, List, [], ◌∷◌, Result, Ok, Err, Some, option_map, unwrap_or}
-use Rattle.outside.specs.Files.{File}
+use Rattle.outside.specs.Files.{FileSet}
 use Rattle.outside.specs.declared.codes.Code.TheVariants.{NotAlike}
 use Rattle.outside.specs.declared.refusals.Refusal.{Refusal}
 use Rattle.outside.specs.declared.refusals.InputFault.{InputFault}
@@ -8,7 +8,7 @@ use Rattle.outside.specs.declared.refusals.InputFault.TheVariants as input
 use Rattle.record_lines.specs.Reading.{◌>>=◌}
 use Rattle.name_file.specs.Pairs.{Pairs, file_of}
 use Rattle.name_file.specs.declared.package.Package.{Package}
-use Rattle.model_types.specs.declared.limits.Limits.TheVariants.{Plain}
+use Rattle.model_types.specs.declared.limits.Limits.{Limits}
 use Rattle.model_types.specs.declared.model.FlowModel.{FlowModel}
 use Rattle.model_types.specs.Cells.{place}
 use Rattle.model_reader.specs.Model.{model_of}
@@ -29,10 +29,10 @@ pub record Second : Type 0 where
   pub model : FlowModel
 
 -- the second deck that a name file describes, or the first refusal
-unfoldable pub second_in : List File → Text → Result Second Refusal
-second_in files name = do
+unfoldable pub second_in : Limits → FileSet → Text → Result Second Refusal
+second_in limits files name = do
   pairs ← names_in files name
-  model ← model_of Plain files pairs
+  model ← model_of limits files pairs
   Ok (record { name = name; files = pairs; model = model })
 
 -- its file of a package; its name file where it has no such package

@@ -1,6 +1,6 @@
 -- What a watched run puts to its side sink.
 use Rattle.std.specs.Prelude.{◌≡◌, ◌⊎◌, ℕ, ◌*◌, ◌<◌, List, [], ◌∷◌, ◌++◌, length, map, All, Bool, Option, Some, None, option_and_then}
-use Rattle.outside.specs.Files.{File}
+use Rattle.outside.specs.Files.{FileSet}
 use Rattle.outside.specs.Puts.{Put, taken, refused}
 use Rattle.outside.specs.declared.traits.SinkError.{SinkError}
 use Rattle.step_problem.specs.declared.heads.Bound.{Bound}
@@ -12,6 +12,7 @@ use Rattle.model_types.specs.declared.time_steps.TimeStep.{TimeStep}
 use Rattle.model_types.specs.Times.{times}
 use Rattle.deck_problems.specs.StartHeads.{AreStartHeadsFor}
 use Rattle.settle_driver.specs.Views.{AddsPhases, EnclosesPair}
+use Rattle.step_chain.specs.Barriers.{edges_by}
 use Rattle.step_chain.specs.Steps.{IsPosed}
 use Rattle.listing_io.specs.Views.{view_text}
 use Rattle.run_puts.specs.Lines.{Text}
@@ -24,8 +25,8 @@ use Rattle.engine.specs.Cases.{IsListingOf, case_of}
 
 -- the number of views in each phase that the words ask for
 abbrev pub views_asked : Wanted → Option ℕ
-views_asked (Lists name digits workers rounds zones watch quick) = watch
-views_asked (ListsTo name to digits workers rounds zones watch quick) = watch
+views_asked (Lists name digits workers rounds zones watch quick wide) = watch
+views_asked (ListsTo name to digits workers rounds zones watch quick wide) = watch
 views_asked other = None
 
 abbrev pub views_in : List Text → Option ℕ
@@ -36,27 +37,28 @@ abbrev pub lines_of : Grid → ℕ → ℕ → List Entries → List Bound → L
 lines_of grid period step p heads = view_text grid (time period step) p heads
 
 -- Between the heads of a view lie the settled pair of its step's problem, and every solution of the exact step, from
--- all exact heads within the old ones, at the variable cells.
+-- all exact heads within the old ones, at the variable cells; with wide limits every solution whose heads are in range.
 pub record IsView (k : Task) (at : TimeStep) (old : List Bound) (p : List Entries) (b : Edges) (heads : List Bound) : Type 0 where
   pub pair : EnclosesPair p b heads
-  pub solutions : EnclosesSolutions k.decks at old p heads
+  pub solutions : EnclosesSolutions k.limits k.decks at old p heads
 
 -- These are the texts of the views of a step: none without a variable cell, else the same number of views in each of some phases.
 pub record AreViews (k : Task) (each_phase : ℕ) (at : TimeStep) (old : List Bound) (texts : List Text) : Type 0 where
   pub problem : List Entries
   pub barrier : Edges
-  pub posed : IsPosed k.decks k.digits at old problem barrier
+  pub posed : IsPosed k.limits k.decks k.digits at old problem barrier
   pub views : List (List Bound)
   pub no_cell : length problem ≡ 0 → views ≡ []
   pub each : 0 < length problem → (phases : ℕ) × (0 < phases) × (length views ≡ phases * each_phase)
-  pub enclose : All (IsView k at old problem barrier) views
+  pub enclose : All (IsView k at old problem (edges_by k.limits barrier)) views
   pub are : texts ≡ map (view_text k.decks.first.grid at problem) views
 
 -- The steps of these times, each from the heads of the one before it, have views with these texts, in turn.
 abbrev pub AreWatched : Task → ℕ → List Bound → List TimeStep → List Text → Type 0
 AreWatched k n old [] texts = texts ≡ []
 AreWatched k n old (at ∷ times) texts =
-    (v : Step) × (here : List Text) × (rest : List Text) × IsStep k at old v × AreViews k n at old here × (texts ≡ here ++ rest) × AreWatched k n v.heads times rest
+    (v : Step) × (here : List Text) × (rest : List Text) × IsStep k at old v × AreViews k n at old here × (texts ≡ here ++ rest)
+    × AreWatched k n v.heads times rest
 
 -- The side sink got the texts of the views of all steps, each taken whole, and nothing else: `leads` says which puts
 -- lead from that sink before to that sink after.
@@ -68,7 +70,7 @@ pub record IsWatched (k : Task) (each_phase : ℕ) (leads : List Put → Type 0)
   pub led : leads (map taken texts)
 
 -- so it is with the listing of these words and files
-pub record Watched (words : List Text) (files : List File) (each_phase : ℕ) (leads : List Put → Type 0) : Type 0 where
+pub record Watched (words : List Text) (files : FileSet) (each_phase : ℕ) (leads : List Put → Type 0) : Type 0 where
   pub task : Task
   pub is : IsListingOf task (case_of words files)
   pub watched : IsWatched task each_phase leads
@@ -77,9 +79,9 @@ pub record Watched (words : List Text) (files : List File) (each_phase : ℕ) (l
 pub record AreStepViews (k : Task) (at : TimeStep) (old : List Bound) (texts : List Text) : Type 0 where
   pub problem : List Entries
   pub barrier : Edges
-  pub posed : IsPosed k.decks k.digits at old problem barrier
+  pub posed : IsPosed k.limits k.decks k.digits at old problem barrier
   pub views : List (List Bound)
-  pub enclose : All (IsView k at old problem barrier) views
+  pub enclose : All (IsView k at old problem (edges_by k.limits barrier)) views
   pub are : texts ≡ map (view_text k.decks.first.grid at problem) views
 
 -- The first of these steps, each from the heads of the one before it, have views with these texts, in turn: of each step all
@@ -87,7 +89,8 @@ pub record AreStepViews (k : Task) (at : TimeStep) (old : List Bound) (texts : L
 abbrev pub AreFirstViews : Task → ℕ → List Bound → List TimeStep → List Text → Type 0
 AreFirstViews k n old [] texts = texts ≡ []
 AreFirstViews k n old (at ∷ times) texts = (texts ≡ []) ⊎ (AreStepViews k at old texts ⊎
-    ((v : Step) × (here : List Text) × (rest : List Text) × IsStep k at old v × AreViews k n at old here × (texts ≡ here ++ rest) × AreFirstViews k n v.heads times rest))
+    ((v : Step) × (here : List Text) × (rest : List Text) × IsStep k at old v × AreViews k n at old here × (texts ≡ here ++ rest)
+    × AreFirstViews k n v.heads times rest))
 
 -- These texts were put in turn, each taken whole, but the last one may have been refused.
 abbrev pub ArePutInTurn : List Text → List Put → Type 0
@@ -110,13 +113,13 @@ ViewPutsOf k leads None = leads []
 ViewPutsOf k leads (Some n) = leads [] ⊎ IsWatchedSoFar k n leads
 
 -- so it is with the listing of these words and files
-pub record WatchedSoFar (words : List Text) (files : List File) (each_phase : ℕ) (leads : List Put → Type 0) : Type 0 where
+pub record WatchedSoFar (words : List Text) (files : FileSet) (each_phase : ℕ) (leads : List Put → Type 0) : Type 0 where
   pub task : Task
   pub is : IsListingOf task (case_of words files)
   pub watched : IsWatchedSoFar task each_phase leads
 
 -- What is put to the side sink, whatever the status: nothing; or, with `--watch`, the views of the first steps.
-abbrev pub SidePuts : (List Put → Type 0) → List Text → List File → Option ℕ → Type 0
+abbrev pub SidePuts : (List Put → Type 0) → List Text → FileSet → Option ℕ → Type 0
 SidePuts leads words files None = leads []
 SidePuts leads words files (Some n) = leads [] ⊎ WatchedSoFar words files n leads
 

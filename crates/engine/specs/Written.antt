@@ -1,9 +1,9 @@
 -- The check of what a run wrote.
 use Rattle.std.specs.Prelude.{◌≡◌, ℕ, List, [], ◌∷◌, Ok, Bool, Option, Some}
 use Rattle.std.specs.List.{concat}
-use Rattle.outside.specs.Files.{File}
+use Rattle.outside.specs.Files.{FileSet}
 use Rattle.outside.specs.Inputs.{file_at}
-use Rattle.model_types.specs.declared.limits.Limits.TheVariants.{Plain}
+use Rattle.model_types.specs.declared.limits.Limits.{Limits}
 use Rattle.model_types.specs.declared.model.FlowModel.{FlowModel}
 use Rattle.model_types.specs.Valid.{IsModel}
 use Rattle.model_reader.specs.Model.{reads}
@@ -21,13 +21,14 @@ use Rattle.engine.specs.OneListing.{OneListing}
 use Rattle.engine.specs.SpanHeadline.{OneSpan}
 use Rattle.engine.specs.QuickListing.{QuickListing, QuickSpan}
 
--- These words ask for the check of a file with these bytes, at most a file's limit, as a listing with the task's
--- digits, and the files read as the task's model and, by the zone file that the words name or don't, as its zones.
-pub record ChecksWritten (words : List Text) (files : List File) (k : Task) (bytes : List ℕ) : Type 0 where
+-- These words ask for the check of a file with these bytes, at most a file's limit, by the task's limits and as a listing with
+-- its digits, and the files read as the task's model and, by the zone file that the words name or don't, as its zones.
+pub record ChecksWritten (words : List Text) (files : FileSet) (k : Task) (bytes : List ℕ) : Type 0 where
   pub asked : AskedCheck
   pub wanted : asked_in words ≡ Some (Check asked)
+  pub limits : asked.limits ≡ k.limits
   pub digits : asked.digits ≡ k.digits
-  pub read : named asked.name (reads Plain files) ≡ Ok k.decks.first
+  pub read : named asked.name (reads asked.limits files) ≡ Ok k.decks.first
   pub zoned : zones_read files asked.zones k.decks.first ≡ Ok k.zones
   pub listing : named asked.listing (file_at files) ≡ Ok bytes
 
@@ -35,31 +36,35 @@ pub record ChecksWritten (words : List Text) (files : List File) (k : Task) (byt
 -- Ok, with the line CERTIFIED.
 abbrev pub WrittenIsCertified : Type 0
 WrittenIsCertified =
-    (m : FlowModel) (s : ℕ) (zones : Option (List ℕ)) (rounds : ℕ) (quick : Bool) (pieces words : List Text) (files : List File) →
+    (limits : Limits) (m : FlowModel) (s : ℕ) (zones : Option (List ℕ)) (rounds : ℕ) (quick : Bool) (pieces words : List Text) (files : FileSet) →
     IsModel m → AreNumbers zones →
-    Defines (Listing (one_task m s zones rounds quick)) status.Ok pieces → ChecksWritten words files (one_task m s zones rounds quick) (concat pieces) →
+    Defines (Listing (one_task limits m s zones rounds quick)) status.Ok pieces →
+    ChecksWritten words files (one_task limits m s zones rounds quick) (concat pieces) →
     Defines (case_of words files) status.Ok (certified_line ∷ [])
 
--- The bytes that a run appended to nothing are certified by any check of them, at the same digits, of the same model, with
--- the same zones.
+-- The bytes that a run appended to nothing are certified by any check of them, by the same limits, at the same digits, of the
+-- same model, with the same zones.
 abbrev pub OneListingIsCertified : Type 0
-OneListingIsCertified = (words : List Text) (files : List File) (bytes : List ℕ) (h : OneListing words files (Some []) (Some bytes)) → (checks : List Text) (others : List File) → ChecksWritten checks others (task_of h.asked h.model h.zones) bytes → Defines (case_of checks others) status.Ok (certified_line ∷ [])
+OneListingIsCertified =
+    (words : List Text) (files : FileSet) (bytes : List ℕ) (h : OneListing words files (Some []) (Some bytes)) → (checks : List Text) (others : FileSet) →
+    ChecksWritten checks others (task_of h.asked h.model h.zones) bytes → Defines (case_of checks others) status.Ok (certified_line ∷ [])
 
 -- So are the bytes of a run with --quick.
 abbrev pub QuickListingIsCertified : Type 0
 QuickListingIsCertified =
-    (words : List Text) (files : List File) (bytes : List ℕ) (h : QuickListing words files (Some []) (Some bytes)) → (checks : List Text) (others : List File) →
+    (words : List Text) (files : FileSet) (bytes : List ℕ) (h : QuickListing words files (Some []) (Some bytes)) → (checks : List Text) (others : FileSet) →
     ChecksWritten checks others (task_of h.asked h.model h.zones) bytes → Defines (case_of checks others) status.Ok (certified_line ∷ [])
 
--- These words ask for the check of a file with these bytes, at most a file's limit, as a listing of two decks with the
--- task's digits, and the files read as the task's first deck, this second one, and, by the zone file that the words name or
+-- These words ask for the check of a file with these bytes, at most a file's limit, by the task's limits, as a listing of two
+-- decks with its digits, and the files read as the task's first deck, this second one, and, by the zone file that the words name or
 -- don't, the task's zones.
-pub record ChecksSpan (words : List Text) (files : List File) (k : Task) (second : FlowModel) (bytes : List ℕ) : Type 0 where
+pub record ChecksSpan (words : List Text) (files : FileSet) (k : Task) (second : FlowModel) (bytes : List ℕ) : Type 0 where
   pub asked : AskedSpanCheck
   pub wanted : asked_in words ≡ Some (CheckSpan asked)
+  pub limits : asked.check.limits ≡ k.limits
   pub digits : asked.check.digits ≡ k.digits
-  pub read : named asked.check.name (reads Plain files) ≡ Ok k.decks.first
-  pub read_to : named asked.to (reads Plain files) ≡ Ok second
+  pub read : named asked.check.name (reads asked.check.limits files) ≡ Ok k.decks.first
+  pub read_to : named asked.to (reads asked.check.limits files) ≡ Ok second
   pub zoned : zones_read files asked.check.zones k.decks.first ≡ Ok k.zones
   pub listing : named asked.check.listing (file_at files) ≡ Ok bytes
 
@@ -67,22 +72,22 @@ pub record ChecksSpan (words : List Text) (files : List File) (k : Task) (second
 -- check of it against the same two decks ends Ok, with the line CERTIFIED.
 abbrev pub WrittenSpanIsCertified : Type 0
 WrittenSpanIsCertified =
-    (a b : FlowModel) (s : ℕ) (zones : Option (List ℕ)) (rounds : ℕ) (quick : Bool) (pieces words : List Text) (files : List File) →
-    AreDecks (two a b) → AreNumbers zones → Defines (Listing (deck_task (two a b) s zones rounds quick)) status.Ok pieces →
-    ChecksSpan words files (deck_task (two a b) s zones rounds quick) b (concat pieces) →
+    (limits : Limits) (a b : FlowModel) (s : ℕ) (zones : Option (List ℕ)) (rounds : ℕ) (quick : Bool) (pieces words : List Text) (files : FileSet) →
+    AreDecks (two a b) → AreNumbers zones → Defines (Listing (deck_task limits (two a b) s zones rounds quick)) status.Ok pieces →
+    ChecksSpan words files (deck_task limits (two a b) s zones rounds quick) b (concat pieces) →
     Defines (case_of words files) status.Ok (certified_line ∷ [])
 
--- The bytes that a run of two decks appended to nothing are certified by any check of them, at the same digits, against the
+-- The bytes that a run of two decks appended to nothing are certified by any check of them, by the same limits, at the same digits, against the
 -- same two decks, with the same zones.
 abbrev pub OneSpanIsCertified : Type 0
 OneSpanIsCertified =
-    (words : List Text) (files : List File) (bytes : List ℕ) (h : OneSpan words files (Some []) (Some bytes)) → (checks : List Text) (others : List File) →
+    (words : List Text) (files : FileSet) (bytes : List ℕ) (h : OneSpan words files (Some []) (Some bytes)) → (checks : List Text) (others : FileSet) →
     ChecksSpan checks others (span_task_of h.asked.run h.decks.first h.decks.second h.zones) h.decks.second bytes →
     Defines (case_of checks others) status.Ok (certified_line ∷ [])
 
 -- So are the bytes of such a run with --quick.
 abbrev pub QuickSpanIsCertified : Type 0
 QuickSpanIsCertified =
-    (words : List Text) (files : List File) (bytes : List ℕ) (h : QuickSpan words files (Some []) (Some bytes)) → (checks : List Text) (others : List File) →
+    (words : List Text) (files : FileSet) (bytes : List ℕ) (h : QuickSpan words files (Some []) (Some bytes)) → (checks : List Text) (others : FileSet) →
     ChecksSpan checks others (span_task_of h.asked.run h.decks.first h.decks.second h.zones) h.decks.second bytes →
     Defines (case_of checks others) status.Ok (certified_line ∷ [])

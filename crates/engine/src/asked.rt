@@ -2,21 +2,23 @@
 ghost use Rattle.std.specs.Prelude.{◌≡◌, option_map, IfSome, MatchOption};
 ghost use Rattle.command_line.specs.Wants.{wanted};
 ghost use Rattle.command_line.specs.Ranges.{IsInRange};
-ghost use Rattle.engine.specs.Cases.{built};
+ghost use Rattle.engine.specs.Cases.{built, limits_of};
 ghost use Rattle.engine.specs.Commands.{command_of, views_of, IsCommand};
 ghost use Rattle.engine.specs.Watched.{views_asked};
 
 use command_line::Order;
+use model_types::Limits;
 use settle_driver::Plan;
 
 // The turns of a worker for each cell in a phase.
 const TURNS: u32 = 64;
 
-/// A listing that is asked for: the name of its name file, the digits of conductances, how each step is settled, the name
+/// A listing that is asked for: the limits, the name of its name file, the digits of conductances, how each step is settled, the name
 /// of a zone file, if there is one, the number of views in each phase, if the heads are viewed, and whether a step may have
 /// any pair that is a certificate.
 #[derive(Clone, Copy)]
 pub(crate) struct Asked<'a> {
+    pub(crate) limits: Limits,
     pub(crate) name: &'a str,
     pub(crate) digits: u32,
     pub(crate) plan: Plan,
@@ -25,10 +27,11 @@ pub(crate) struct Asked<'a> {
     pub(crate) quick: bool,
 }
 
-/// A check that is asked for: the name of its name file, that of the listing, the digits of conductances, and the name of a
+/// A check that is asked for: the limits, the name of its name file, that of the listing, the digits of conductances, and the name of a
 /// zone file, if there is one.
 #[derive(Clone, Copy)]
 pub(crate) struct AskedCheck<'a> {
+    pub(crate) limits: Limits,
     pub(crate) name: &'a str,
     pub(crate) listing: &'a str,
     pub(crate) digits: u32,
@@ -45,7 +48,7 @@ pub(crate) enum Command<'a> {
     Check(AskedCheck<'a>),
     /// The check of such a listing.
     CheckSpan(AskedCheck<'a>, &'a str),
-    Write(&'a str),
+    Write(Limits, &'a str),
 }
 
 /// The listing of a made model, with the digits, the workers and the rounds of a run without options.
@@ -56,6 +59,13 @@ pub(crate) const MADE_PLAN: Plan = Plan {
     turns_per_cell: TURNS,
     rounds: 1_000_000,
 };
+
+// The limits; wide ones with --wide.
+pub(crate) fn limits_of(wide: bool) -> Limits
+    ensures { result ≡ limits_of wide }
+{
+    if wide { Limits::Wide } else { Limits::Plain }
+}
 
 // The listing of a deck, or of all models between two.
 fn run_to<'a>(asked: Asked<'a>, to: Option<&'a str>) -> Command<'a>
@@ -94,6 +104,7 @@ pub(crate) fn command_of<'a>(order: Order<'a>) -> Option<Command<'a>>
             zones,
             watch,
             quick,
+            wide,
         } => {
             let plan = Plan {
                 workers,
@@ -102,6 +113,7 @@ pub(crate) fn command_of<'a>(order: Order<'a>) -> Option<Command<'a>>
             };
             Some(run_to(
                 Asked {
+                    limits: limits_of(wide),
                     name,
                     digits,
                     plan,
@@ -119,8 +131,10 @@ pub(crate) fn command_of<'a>(order: Order<'a>) -> Option<Command<'a>>
             listing,
             digits,
             zones,
+            wide,
         } => Some(check_to(
             AskedCheck {
+                limits: limits_of(wide),
                 name,
                 listing,
                 digits,
@@ -128,7 +142,7 @@ pub(crate) fn command_of<'a>(order: Order<'a>) -> Option<Command<'a>>
             },
             to,
         )),
-        Order::Write { name } => Some(Command::Write(name)),
+        Order::Write { name, wide } => Some(Command::Write(limits_of(wide), name)),
         _ => None,
     }
 }

@@ -5,13 +5,16 @@ ghost use Rattle.engine.specs.Batches.{batch_asked, batch_of};
 ghost use Rattle.command_line.specs.Ranges.{IsInRange};
 ghost use Rattle.command_line.specs.Wants.{wanted};
 
+use crate::asked::limits_of;
 use command_line::{Order, WordsFault, read_order};
+use model_types::Limits;
 use std::alloc::{AllocError, Global};
 
-/// A batch that is asked for: the name of its list, the digits of conductances, the workers that run its jobs, the
+/// A batch that is asked for: the limits of all its jobs, the name of its list, the digits of conductances, the workers that run its jobs, the
 /// plain rounds in which a step must settle, and whether a step may have any pair that is a certificate.
 #[derive(Clone, Copy)]
 pub(crate) struct BatchOrder<'a> {
+    pub(crate) limits: Limits,
     pub(crate) list: &'a str,
     pub(crate) digits: u32,
     pub(crate) workers: u32,
@@ -32,7 +35,9 @@ fn batch_order<'a>(order: Order<'a>) -> Option<BatchOrder<'a>>
             workers,
             rounds,
             quick,
+            wide,
         } => Some(BatchOrder {
+            limits: limits_of(wide),
             list,
             digits,
             workers,

@@ -1,8 +1,9 @@
 // The files that the words name.
 ghost use Rattle.std.specs.Prelude.{◌≡◌, map, IfOk};
 ghost use Rattle.command_line.specs.Wants.{wanted};
-ghost use Rattle.engine.specs.Asking.{files_named, files_of};
+ghost use Rattle.engine.specs.Asking.{bytes_asked, files_named, files_of};
 
+use crate::asked::limits_of;
 use command_line::{Order, WordsFault, read_order};
 use std::alloc::{AllocError, Global};
 
@@ -44,7 +45,7 @@ fn files_of<'a>(alloc: Global, order: Order<'a>) -> Result<Vec<&'a str>, AllocEr
         }
         Order::Make { .. } => {}
         Order::Batch { list, .. } => names.push(list)?,
-        Order::Write { name } => names.push(name)?,
+        Order::Write { name, .. } => names.push(name)?,
     }
     Ok(names)
 }
@@ -60,4 +61,20 @@ pub fn files_named<'a>(alloc: Global, words: &'a [&'a str]) -> Result<Vec<&'a st
         Err(WordsFault::Usage) => Ok(Vec::new(alloc)),
         Err(WordsFault::Memory) => Err(AllocError),
     }
+}
+
+/// How many bytes of a file are read, by the limits that the words ask for.
+pub fn bytes_asked(alloc: Global, words: &[&str]) -> Result<u64, AllocError>
+    ensures { IfOk result (λ n. n ≡ bytes_asked (map (λ w. w.now) words.entry.now)) }
+{
+    let wide = match read_order(alloc, words) {
+        Ok(Order::Run { wide, .. }) => wide,
+        Ok(Order::Check { wide, .. }) => wide,
+        Ok(Order::Batch { wide, .. }) => wide,
+        Ok(Order::Write { wide, .. }) => wide,
+        Ok(Order::Make { .. }) => false,
+        Err(WordsFault::Usage) => false,
+        Err(WordsFault::Memory) => return Err(AllocError),
+    };
+    Ok(limits_of(wide).bytes())
 }

@@ -1,9 +1,9 @@
 // The jobs of a batch, read from its list and the files of its models.
 ghost use Rattle.std.specs.Prelude.{◌≡◌, ◌≤◌, List, ◌++◌, ◌∷◌, [], length, map, All, IfOk, IfSome, Option};
 ghost use Rattle.outside.specs.Asking.{WordsMay};
-ghost use Rattle.outside.specs.Files.{File};
+ghost use Rattle.outside.specs.Files.{FileSet};
 ghost use Rattle.outside.specs.Folders.{ReadsOn};
-ghost use Rattle.outside.specs.Inputs.{file_limit, IsReading};
+ghost use Rattle.outside.specs.Inputs.{IsReading};
 ghost use Rattle.outside.specs.Names.{IsGoodName, folder_name};
 ghost use Rattle.listing_run.specs.Ends.{IsTask};
 ghost use Rattle.engine.specs.BatchCommands.{batch_by, IsBatchOrder};
@@ -16,7 +16,6 @@ use batch_list::read_list;
 use deck_problems::Decks;
 use listing_run::Task;
 use model_reader::read_named_model;
-use model_types::Limits;
 use outside::{Folder, InputFault, Name, is_good_name, read_input};
 use std::alloc::Global;
 
@@ -29,17 +28,18 @@ fn read_job<'a, F: Folder>(
 ) -> Result<Job, InputFault>
     requires name { IsGoodName name.now }
     requires asked { IsBatchOrder asked }
-    requires may { F.may folder.old (folder_name name.now) file_limit }
+    requires may { F.may folder.old (folder_name name.now) }
     ensures folder { ReadsOn F.Folder folder.old folder.new result }
     ensures never { NeverRefused result }
-    ensures reads { (files : Option (List File)) → IfSome files (F.agrees folder.new) → IfOk result (IsJobRead (batch_by asked.entry) name.now files) }
+    ensures reads { (files : Option FileSet) → IfSome files (F.agrees folder.new) → IfOk result (IsJobRead (batch_by asked.entry) name.now files) }
     ensures task { IfOk result (λ job. IfOk job.read IsTask) }
 {
     let copy = Name::new(alloc, name.as_str())?;
-    match read_named_model(alloc, Limits::Plain, name.as_str(), folder) {
+    match read_named_model(alloc, asked.limits, name.as_str(), folder) {
         Ok(model) => Ok(Job {
             name: copy,
             read: Ok(Task {
+                limits: asked.limits,
                 decks: Decks {
                     first: model,
                     second: None,
@@ -71,7 +71,8 @@ fn read_jobs<'a, F: Folder>(
     requires may { WordsMay (F.may folder.old) names.now }
     ensures folder { ReadsOn F.Folder folder.old folder.new result }
     ensures never { NeverRefused result }
-    ensures reads { (files : Option (List File)) → IfSome files (F.agrees folder.new) → IfOk result (λ jobs. AreJobsRead (batch_by asked.entry) names.now files jobs.items) }
+    ensures reads { (files : Option FileSet) → IfSome files (F.agrees folder.new) →
+        IfOk result (λ jobs. AreJobsRead (batch_by asked.entry) names.now files jobs.items) }
     ensures tasks { IfOk result (λ jobs. AreTasks jobs.items) }
     ensures whole { IfOk result (λ jobs. length jobs.items ≡ length names.now) }
 {
@@ -89,9 +90,9 @@ fn read_names<'a, F: Folder>(
     folder: &mut F,
     asked: BatchOrder<'a>,
 ) -> Result<Vec<Name>, InputFault>
-    requires { F.may folder.old (folder_name asked.list.now) file_limit }
+    requires { F.may folder.old (folder_name asked.list.now) }
     ensures folder { ReadsOn F.Folder folder.old folder.new result }
-    ensures reads { (files : Option (List File)) → IfSome files (F.agrees folder.new) → HasNames (batch_by asked.entry) files result }
+    ensures reads { (files : Option FileSet) → IfSome files (F.agrees folder.new) → HasNames (batch_by asked.entry) files result }
     ensures may { IfOk result (λ names. WordsMay (F.may folder.new) names.items) }
     ensures few { IfOk result (λ names. length names.items ≤ 1000) }
     ensures good { IfOk result (λ names. All IsGoodName names.items) }
@@ -111,9 +112,9 @@ pub(crate) fn read_batch<'a, F: Folder>(
     asked: BatchOrder<'a>,
 ) -> Result<Vec<Job>, InputFault>
     requires asked { IsBatchOrder asked }
-    requires may { F.may folder.old (folder_name asked.list.now) file_limit }
+    requires may { F.may folder.old (folder_name asked.list.now) }
     ensures folder { ReadsOn F.Folder folder.old folder.new result }
-    ensures reads { (files : Option (List File)) → IfSome files (F.agrees folder.new) → IsBatchRead (batch_by asked.entry) files result }
+    ensures reads { (files : Option FileSet) → IfSome files (F.agrees folder.new) → IsBatchRead (batch_by asked.entry) files result }
     ensures tasks { IfOk result (λ jobs. AreTasks jobs.items) }
     ensures few { IfOk result (λ jobs. length jobs.items ≤ 1000) }
 {

@@ -1,10 +1,9 @@
 // A batch of models.
 ghost use Rattle.std.specs.Prelude.{◌≡◌, ◌≤◌, ℕ, List, ◌++◌, length, map, IfSome, None, Option};
 ghost use Rattle.outside.specs.Asking.{WordsMay};
-ghost use Rattle.outside.specs.Inputs.{file_limit};
 ghost use Rattle.outside.specs.Names.{folder_name};
 ghost use Rattle.engine.specs.Asking.{files_named};
-ghost use Rattle.outside.specs.Files.{File};
+ghost use Rattle.outside.specs.Files.{FileSet};
 ghost use Rattle.outside.specs.Puts.{Put};
 ghost use Rattle.run_puts.specs.Runs.{IsRun, NeverCut};
 ghost use Rattle.batch_puts.specs.Batches.{IsBatch};
@@ -61,11 +60,11 @@ fn put_batch<'a, R: Threads + Wait + Sync, F: Folder, K: Sink, G: Gate + Sync>(
     gate: &G,
 ) -> Status
     requires asked { IsBatchOrder asked }
-    requires may { F.may folder.old (folder_name asked.list.now) file_limit }
-    ensures since { (files : List File) → F.agrees folder.new files → F.agrees folder.old files }
+    requires may { F.may folder.old (folder_name asked.list.now) }
+    ensures since { (files : FileSet) → F.agrees folder.new files → F.agrees folder.old files }
     ensures answers { (start : _) (puts : List Put) → K.leads start puts out.old →
         (more : List Put) × K.leads start (puts ++ more) out.new
-        × ((files : Option (List File)) → IfSome files (F.agrees folder.new) →
+        × ((files : Option FileSet) → IfSome files (F.agrees folder.new) →
         BatchAnswers (batch_by asked.entry) files (F.faults folder.old) (F.faults folder.new) result more) }
 {
     match read_batch(alloc, folder, asked) {
@@ -91,15 +90,15 @@ pub(crate) fn answer_any<
     gate: &G,
 ) -> Status
     requires may { WordsMay (F.may folder.old) (files_named (map (λ w. w.now) words.now)) }
-    ensures since { (files : List File) → F.agrees folder.new files → F.agrees folder.old files }
+    ensures since { (files : FileSet) → F.agrees folder.new files → F.agrees folder.old files }
     ensures unasked { batch_asked (map (λ w. w.now) words.now) ≡ None →
         ReadsNothing (asked_in (map (λ w. w.now) words.now)) → folder.new ≡ folder.old }
     ensures answers { (start : _) (puts : List Put) → K.leads start puts out.old →
         (more : List Put) × K.leads start (puts ++ more) out.new
-        × ((files : Option (List File)) → IfSome files (F.agrees folder.new) →
+        × ((files : Option FileSet) → IfSome files (F.agrees folder.new) →
         AnyAnswers (map (λ w. w.now) words.now) files (F.faults folder.old) (F.faults folder.new)
         (Rose (W.seen side.old).faults (W.seen side.new).faults) (λ puts. W.leads side.old puts side.new) result more) }
-    ensures side { (files : List File) → F.agrees folder.new files →
+    ensures side { (files : FileSet) → F.agrees folder.new files →
         SidePuts (λ puts. W.leads side.old puts side.new) (map (λ w. w.now) words.now) files (views_in (map (λ w. w.now) words.now)) }
 {
     match asked_batch(alloc, words) {

@@ -1,8 +1,7 @@
 // The check of a listing of the folder.
 ghost use Rattle.std.specs.Prelude.{◌≡◌, ◌≤◌, List, ◌++◌, Ok, IfOk, IfSome, None, Option, Some, option_map};
-ghost use Rattle.outside.specs.Inputs.{file_limit};
 ghost use Rattle.outside.specs.Names.{folder_name};
-ghost use Rattle.outside.specs.Files.{File};
+ghost use Rattle.outside.specs.Files.{FileSet};
 ghost use Rattle.outside.specs.Folders.{ReadsOn};
 ghost use Rattle.outside.specs.Puts.{Put};
 ghost use Rattle.model_types.specs.Valid.{IsModel};
@@ -27,7 +26,7 @@ use check_run::check_listing;
 use deck_problems::Decks;
 use listing_io::{Listing, read_listing};
 use listing_run::zone_slice;
-use model_types::FlowModel;
+use model_types::{FlowModel, Limits};
 use outside::{Folder, InputFault, Sink, is_good_name, read_input};
 use run_puts::{Status, put_memory};
 use std::alloc::Global;
@@ -44,9 +43,9 @@ fn read_steps<F: Folder>(
     requires model { IsModel model.now }
     requires zones { AreZones model.now (option_map (λ z. z.now) zones) }
     requires digits { asked.digits ≤ 18 }
-    requires may { F.may folder.old (folder_name asked.listing.now) file_limit }
+    requires may { F.may folder.old (folder_name asked.listing.now) }
     ensures folder { ReadsOn F.Folder folder.old folder.new result }
-    ensures reads { (files : Option (List File)) → IfSome files (F.agrees folder.new) →
+    ensures reads { (files : Option FileSet) → IfSome files (F.agrees folder.new) →
         AreStepsAs between (check_of asked.entry) model.now (option_map (λ z. z.now) zones.entry) files result }
     ensures listed { IfOk result (AreListed model.now (pairs_in model.now (option_map (λ z. z.now) zones.entry))) }
 {
@@ -76,10 +75,10 @@ pub(crate) fn read_listed<F: Folder>(
 ) -> Result<ZonedListing, InputFault>
     requires model { IsModel model.now }
     requires digits { asked.digits ≤ 18 }
-    requires zones { IfSome (check_of asked).zones (λ zones. F.may folder.old (folder_name zones) file_limit) }
-    requires may { F.may folder.old (folder_name asked.listing.now) file_limit }
+    requires zones { IfSome (check_of asked).zones (λ zones. F.may folder.old (folder_name zones)) }
+    requires may { F.may folder.old (folder_name asked.listing.now) }
     ensures folder { ReadsOn F.Folder folder.old folder.new result }
-    ensures reads { (files : Option (List File)) → IfSome files (F.agrees folder.new) → IsListedAs between (check_of asked.entry) model.now files result }
+    ensures reads { (files : Option FileSet) → IfSome files (F.agrees folder.new) → IsListedAs between (check_of asked.entry) model.now files result }
     ensures listed { IfOk result (IsListed model.now) }
 {
     let zones = read_zones_of(alloc, model, asked.zones, folder)?;
@@ -90,6 +89,7 @@ pub(crate) fn read_listed<F: Folder>(
 /// Checks a listing of decks, and puts the line of its verdict.
 pub(crate) fn put_check<K: Sink>(
     alloc: Global,
+    limits: Limits,
     decks: &Decks,
     listing: &ZonedListing,
     digits: u32,
@@ -99,10 +99,11 @@ pub(crate) fn put_check<K: Sink>(
     requires digits { digits ≤ 18 }
     requires listing { IsListed decks.now.first listing.now }
     ensures { (start : _) (puts : List Put) → K.leads start puts out.old →
-        (more : List Put) × K.leads start (puts ++ more) out.new × IsRun (IsCheck decks.now digits listing.now) NeverCut result more }
+        (more : List Put) × K.leads start (puts ++ more) out.new × IsRun (IsCheck limits decks.now digits listing.now) NeverCut result more }
 {
     match check_listing(
         alloc,
+        limits,
         decks,
         &listing.steps,
         digits,
@@ -124,17 +125,17 @@ fn check_model<'a, F: Folder, K: Sink>(
     requires digits { asked.digits ≤ 18 }
     requires decks { AreDecks decks.now }
     requires one { decks.now.second ≡ None }
-    requires zones { IfSome (check_of asked).zones (λ zones. F.may folder.old (folder_name zones) file_limit) }
-    requires may { F.may folder.old (folder_name asked.listing.now) file_limit }
-    ensures since { (files : List File) → F.agrees folder.new files → F.agrees folder.old files }
+    requires zones { IfSome (check_of asked).zones (λ zones. F.may folder.old (folder_name zones)) }
+    requires may { F.may folder.old (folder_name asked.listing.now) }
+    ensures since { (files : FileSet) → F.agrees folder.new files → F.agrees folder.old files }
     ensures answers { (start : _) (puts : List Put) → K.leads start puts out.old →
         (more : List Put) × K.leads start (puts ++ more) out.new
-        × ((words : List Text) → asked_in words ≡ Some (Check (check_of asked.entry)) → (files : Option (List File)) →
-        IfSome files (F.agrees folder.new) → IsReadAs (check_of asked.entry).name files (Ok decks.now.first) →
+        × ((words : List Text) → asked_in words ≡ Some (Check (check_of asked.entry)) → (files : Option FileSet) →
+        IfSome files (F.agrees folder.new) → IsReadAs (check_of asked.entry).limits (check_of asked.entry).name files (Ok decks.now.first) →
         Answers words files (F.faults folder.old) (F.faults folder.new) result more) }
 {
     match read_listed(alloc, folder, false, &decks.first, asked) {
-        Ok(listing) => put_check(alloc, decks, &listing, asked.digits, out),
+        Ok(listing) => put_check(alloc, asked.limits, decks, &listing, asked.digits, out),
         Err(fault) => end_reading(alloc, fault, out),
     }
 }
@@ -147,17 +148,17 @@ pub(crate) fn check<'a, F: Folder, K: Sink>(
     out: &mut K,
 ) -> Status
     requires digits { asked.digits ≤ 18 }
-    requires name { F.may folder.old (folder_name asked.name.now) file_limit }
-    requires zones { IfSome (check_of asked).zones (λ zones. F.may folder.old (folder_name zones) file_limit) }
-    requires listing { F.may folder.old (folder_name asked.listing.now) file_limit }
-    ensures since { (files : List File) → F.agrees folder.new files → F.agrees folder.old files }
+    requires name { F.may folder.old (folder_name asked.name.now) }
+    requires zones { IfSome (check_of asked).zones (λ zones. F.may folder.old (folder_name zones)) }
+    requires listing { F.may folder.old (folder_name asked.listing.now) }
+    ensures since { (files : FileSet) → F.agrees folder.new files → F.agrees folder.old files }
     ensures answers { (start : _) (puts : List Put) → K.leads start puts out.old →
         (more : List Put) × K.leads start (puts ++ more) out.new
-        × ((words : List Text) → asked_in words ≡ Some (Check (check_of asked.entry)) → (files : Option (List File)) →
+        × ((words : List Text) → asked_in words ≡ Some (Check (check_of asked.entry)) → (files : Option FileSet) →
         IfSome files (F.agrees folder.new) →
         Answers words files (F.faults folder.old) (F.faults folder.new) result more) }
 {
-    match read_named(alloc, folder, asked.name) {
+    match read_named(alloc, asked.limits, folder, asked.name) {
         Ok(model) => check_model(
             alloc,
             asked,
@@ -182,17 +183,18 @@ fn check_between<'a, F: Folder, K: Sink>(
 ) -> Status
     requires digits { asked.digits ≤ 18 }
     requires decks { AreDecks decks.now }
-    requires zones { IfSome (check_of asked).zones (λ zones. F.may folder.old (folder_name zones) file_limit) }
-    requires may { F.may folder.old (folder_name asked.listing.now) file_limit }
-    ensures since { (files : List File) → F.agrees folder.new files → F.agrees folder.old files }
+    requires zones { IfSome (check_of asked).zones (λ zones. F.may folder.old (folder_name zones)) }
+    requires may { F.may folder.old (folder_name asked.listing.now) }
+    ensures since { (files : FileSet) → F.agrees folder.new files → F.agrees folder.old files }
     ensures answers { (start : _) (puts : List Put) → K.leads start puts out.old →
         (more : List Put) × K.leads start (puts ++ more) out.new
         × ((words : List Text) (to : Text) → asked_in words ≡ Some (CheckSpan (record { check = check_of asked.entry; to = to })) →
-        (files : Option (List File)) → IfSome files (F.agrees folder.new) → AreDecksAs (check_of asked.entry).name to files (Ok decks.now) →
+        (files : Option FileSet) → IfSome files (F.agrees folder.new) →
+        AreDecksAs (check_of asked.entry).limits (check_of asked.entry).name to files (Ok decks.now) →
         Answers words files (F.faults folder.old) (F.faults folder.new) result more) }
 {
     match read_listed(alloc, folder, true, &decks.first, asked) {
-        Ok(listing) => put_check(alloc, decks, &listing, asked.digits, out),
+        Ok(listing) => put_check(alloc, asked.limits, decks, &listing, asked.digits, out),
         Err(fault) => end_reading(alloc, fault, out),
     }
 }
@@ -207,18 +209,18 @@ pub(crate) fn check_span<'a, F: Folder, K: Sink>(
     out: &mut K,
 ) -> Status
     requires digits { asked.digits ≤ 18 }
-    requires name { F.may folder.old (folder_name asked.name.now) file_limit }
-    requires to { F.may folder.old (folder_name to.now) file_limit }
-    requires zones { IfSome (check_of asked).zones (λ zones. F.may folder.old (folder_name zones) file_limit) }
-    requires listing { F.may folder.old (folder_name asked.listing.now) file_limit }
-    ensures since { (files : List File) → F.agrees folder.new files → F.agrees folder.old files }
+    requires name { F.may folder.old (folder_name asked.name.now) }
+    requires to { F.may folder.old (folder_name to.now) }
+    requires zones { IfSome (check_of asked).zones (λ zones. F.may folder.old (folder_name zones)) }
+    requires listing { F.may folder.old (folder_name asked.listing.now) }
+    ensures since { (files : FileSet) → F.agrees folder.new files → F.agrees folder.old files }
     ensures answers { (start : _) (puts : List Put) → K.leads start puts out.old →
         (more : List Put) × K.leads start (puts ++ more) out.new
         × ((words : List Text) → asked_in words ≡ Some (CheckSpan (record { check = check_of asked.entry; to = to.entry.now })) →
-        (files : Option (List File)) → IfSome files (F.agrees folder.new) →
+        (files : Option FileSet) → IfSome files (F.agrees folder.new) →
         Answers words files (F.faults folder.old) (F.faults folder.new) result more) }
 {
-    match read_decks(alloc, folder, asked.name, to) {
+    match read_decks(alloc, asked.limits, folder, asked.name, to) {
         Ok(decks) => check_between(alloc, asked, &decks, folder, out),
         Err(fault) => end_reading(alloc, fault, out),
     }

@@ -1,7 +1,7 @@
 ghost use Rattle.std.specs.Prelude.{◌≡◌, ◌⊎◌, ℕ, List, map, IfSome, None, Option, Some};
 ghost use Rattle.outside.specs.Asking.{WordsMay};
 ghost use Rattle.engine.specs.Asking.{files_named};
-ghost use Rattle.outside.specs.Files.{File};
+ghost use Rattle.outside.specs.Files.{FileSet};
 ghost use Rattle.outside.specs.Counts.{Rose};
 ghost use Rattle.engine.specs.BatchRuns.{AnyPuts, AnyDecided, AnyComes};
 ghost use Rattle.engine.specs.Batched.{Batched, HasNoList};
@@ -40,35 +40,35 @@ pub fn run<R: Threads + Wait + Sync, F: Folder, K: Sink + Send, W: Sink + Send, 
     gate: &G,
 ) -> Status
     // Each file that the words name may be asked for. The folder is asked for no others but those that words of its files
-    // name, with the same limit, since `read_file` requires that.
+    // name, since `read_file` requires that.
     requires may { WordsMay (F.may folder.old) (files_named (map (λ w. w.now) words.now)) }
 
     // What is put to `out`, for every status, with the status' cause, by the files that agree with all results of the
     // folder, or by any files.
-    ensures puts { (files : Option (List File)) → IfSome files (F.agrees folder.new) →
+    ensures puts { (files : Option FileSet) → IfSome files (F.agrees folder.new) →
         AnyPuts (λ puts. K.leads out.old puts out.new) (map (λ w. w.now) words.now) files (F.faults folder.old) (F.faults folder.new)
         (Rose (W.seen side.old).faults (W.seen side.new).faults) result }
 
     // What is put to `side`, for every status: nothing without `--watch`, else the views of the first steps, in turn, up to the
     // first put that failed. If the run ends Ok, they are the views of all steps.
-    ensures side { (files : List File) → F.agrees folder.new files →
+    ensures side { (files : FileSet) → F.agrees folder.new files →
         SidePuts (λ puts. W.leads side.old puts side.new) (map (λ w. w.now) words.now) files (views_in (map (λ w. w.now) words.now)) }
-    ensures watched { result ≡ Status.Ok → (n : ℕ) → views_in (map (λ w. w.now) words.now) ≡ Some n → (files : List File) →
+    ensures watched { result ≡ Status.Ok → (n : ℕ) → views_in (map (λ w. w.now) words.now) ≡ Some n → (files : FileSet) →
         F.agrees folder.new files → Watched (map (λ w. w.now) words.now) files n (λ puts. W.leads side.old puts side.new) }
 
     // Files that agree with all results of the folder agreed with it before.
-    ensures since { (files : List File) → F.agrees folder.new files → F.agrees folder.old files }
+    ensures since { (files : FileSet) → F.agrees folder.new files → F.agrees folder.old files }
 
     // A folder of which no file is read isn't asked.
     ensures unasked { batch_asked (map (λ w. w.now) words.now) ≡ None →
         ReadsNothing (asked_in (map (λ w. w.now) words.now)) → folder.new ≡ folder.old }
 
     // Some files agree with all that the folder has answered.
-    ensures told { (files : List File) × F.agrees folder.new files }
+    ensures told { (files : FileSet) × F.agrees folder.new files }
 
     // The headline: of a listing, of the listing that a made model's summary sums up, of one that was checked, of a deck,
     // of a listing of two decks, of one of these that was checked, or of each listing of a batch.
-    ensures headline { result ≡ Status.Ok → (files : List File) → F.agrees folder.new files →
+    ensures headline { result ≡ Status.Ok → (files : FileSet) → F.agrees folder.new files →
         (Headline (map (λ w. w.now) words.now) files (K.seen out.old).written (K.seen out.new).written
         ⊎ (Made (map (λ w. w.now) words.now) (K.seen out.old).written (K.seen out.new).written
         ⊎ (Certified (map (λ w. w.now) words.now) files (K.seen out.old).written (K.seen out.new).written
@@ -79,7 +79,7 @@ pub fn run<R: Threads + Wait + Sync, F: Folder, K: Sink + Send, W: Sink + Send, 
 
     // And it is the one listing that the files define, or with `--quick` one by certificates, or each step of the one that was
     // checked is certified, or it is the one deck; of a batch, `Batched` says it of each listing.
-    ensures one { result ≡ Status.Ok → (files : List File) → F.agrees folder.new files →
+    ensures one { result ≡ Status.Ok → (files : FileSet) → F.agrees folder.new files →
         (OneOrQuick (map (λ w. w.now) words.now) files (K.seen out.old).written (K.seen out.new).written
         ⊎ (OneSummary (map (λ w. w.now) words.now) (K.seen out.old).written (K.seen out.new).written
         ⊎ (OneVerdict (map (λ w. w.now) words.now) files
@@ -94,15 +94,15 @@ pub fn run<R: Threads + Wait + Sync, F: Folder, K: Sink + Send, W: Sink + Send, 
 
     // A check that ends Ok certifies the listing that the words name.
     ensures certified { result ≡ Status.Ok → (asked : AskedCheck) →
-        asked_in (map (λ w. w.now) words.now) ≡ Some (Check asked) → (files : List File) → F.agrees folder.new files →
+        asked_in (map (λ w. w.now) words.now) ≡ Some (Check asked) → (files : FileSet) → F.agrees folder.new files →
         Certified (map (λ w. w.now) words.now) files (K.seen out.old).written (K.seen out.new).written }
     ensures span_certified { result ≡ Status.Ok → (asked : AskedSpanCheck) →
-        asked_in (map (λ w. w.now) words.now) ≡ Some (CheckSpan asked) → (files : List File) → F.agrees folder.new files →
+        asked_in (map (λ w. w.now) words.now) ≡ Some (CheckSpan asked) → (files : FileSet) → F.agrees folder.new files →
         SpanCertified (map (λ w. w.now) words.now) files (K.seen out.old).written (K.seen out.new).written }
 
     // A batch that didn't stop has put the text of each job, whatever the jobs' statuses, or its list is refused.
     ensures batch { (IsStopped result → ⊥) → (asked : AskedBatch) →
-        batch_asked (map (λ w. w.now) words.now) ≡ Some asked → (files : List File) → F.agrees folder.new files →
+        batch_asked (map (λ w. w.now) words.now) ≡ Some asked → (files : FileSet) → F.agrees folder.new files →
         HasNoList asked files result
         ⊎ Batched (map (λ w. w.now) words.now) files result (K.seen out.old).written (K.seen out.new).written }
 
@@ -112,11 +112,11 @@ pub fn run<R: Threads + Wait + Sync, F: Folder, K: Sink + Send, W: Sink + Send, 
         ⊎ Rose (W.seen side.old).faults (W.seen side.new).faults }
 
     // The end that the words and files define is the end of the run, if nothing outside failed.
-    ensures decided { (files : List File) → F.agrees folder.new files →
+    ensures decided { (files : FileSet) → F.agrees folder.new files →
         AnyDecided (Rose (F.faults folder.old) (F.faults folder.new)
         ⊎ (Rose (K.seen out.old).faults (K.seen out.new).faults
         ⊎ Rose (W.seen side.old).faults (W.seen side.new).faults)) (map (λ w. w.now) words.now) files result }
-    ensures complete { (files : List File) → F.agrees folder.new files →
+    ensures complete { (files : FileSet) → F.agrees folder.new files →
         AnyComes (Rose (F.faults folder.old) (F.faults folder.new)
         ⊎ (Rose (K.seen out.old).faults (K.seen out.new).faults
         ⊎ Rose (W.seen side.old).faults (W.seen side.new).faults)) (map (λ w. w.now) words.now) files result }

@@ -24,7 +24,7 @@ mod viewing;
 mod writing;
 pub mod zoned;
 
-pub use asked_files::files_named;
+pub use asked_files::{bytes_asked, files_named};
 pub use commands::run;
 pub use run_puts::Status;
 pub use running::run_one;

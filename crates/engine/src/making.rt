@@ -18,7 +18,7 @@ use deck_problems::Decks;
 use listing_run::{ListingEnd, Task};
 use listing_summary::{Summary, summarize, write_summary};
 use model_maker::{NAME, make};
-use model_types::FlowModel;
+use model_types::{FlowModel, Limits};
 use near_settler::NearSettler;
 use outside::{Gate, InputFault, Sink};
 use run_puts::{Status, put_line, put_memory};
@@ -97,6 +97,7 @@ fn put_summary<R: Threads + Sync, K: Sink, G: Gate + Sync>(
         (more : List Put) × K.leads start (puts ++ more) out.new × (made_model seed size ≡ Ok model → IsMadeRun seed size result more) }
 {
     let task = Task {
+        limits: Limits::Plain,
         decks: Decks {
             first: model,
             second: None,
@@ -130,7 +131,7 @@ pub(crate) fn put_made<R: Threads + Sync, K: Sink, G: Gate + Sync>(
     let Ok(mut folder) = make(alloc, seed, size) else {
         return put_memory(out);
     };
-    match read_named(alloc, &mut folder, NAME) {
+    match read_named(alloc, Limits::Plain, &mut folder, NAME) {
         Ok(model) => put_summary(rt, alloc, seed, size, model, out, gate),
         Err(fault) => end_reading(alloc, made_fault(fault), out),
     }

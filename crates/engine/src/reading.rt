@@ -1,8 +1,7 @@
 // The model of a name, and the zones of its cells.
 ghost use Rattle.std.specs.Prelude.{◌≡◌, IfOk, IfSome, List, Option, option_map};
-ghost use Rattle.outside.specs.Inputs.{file_limit};
 ghost use Rattle.outside.specs.Names.{folder_name};
-ghost use Rattle.outside.specs.Files.{File};
+ghost use Rattle.outside.specs.Files.{FileSet};
 ghost use Rattle.outside.specs.Folders.{ReadsOn};
 ghost use Rattle.model_types.specs.Valid.{IsModel};
 ghost use Rattle.zone_pairs.specs.Zones.{AreZones};
@@ -24,21 +23,22 @@ pub(crate) fn bad_name(alloc: Global) -> InputFault
     }
 }
 
-/// The model that a name file of the folder describes. The name is tested before any file.
+/// The model that a name file of the folder describes, by these limits. The name is tested before any file.
 pub(crate) fn read_named<F: Folder>(
     alloc: Global,
+    limits: Limits,
     folder: &mut F,
     name: &str,
 ) -> Result<FlowModel, InputFault>
-    requires may { F.may folder.old (folder_name name.now) file_limit }
+    requires may { F.may folder.old (folder_name name.now) }
     ensures folder { ReadsOn F.Folder folder.old folder.new result }
-    ensures reads { (files : Option (List File)) → IfSome files (F.agrees folder.new) → IsReadAs name.now files result }
+    ensures reads { (files : Option FileSet) → IfSome files (F.agrees folder.new) → IsReadAs limits name.now files result }
     ensures model { IfOk result IsModel }
 {
     if !is_good_name(name.as_bytes()) {
         return Err(bad_name(alloc));
     }
-    read_named_model(alloc, Limits::Plain, name, folder)
+    read_named_model(alloc, limits, name, folder)
 }
 
 /// The zones of a model's cells, from the named zone file, if there is one.
@@ -49,9 +49,9 @@ pub(crate) fn read_zones_of<F: Folder>(
     folder: &mut F,
 ) -> Result<Option<Listed<u32>>, InputFault>
     requires model { IsModel model.now }
-    requires may { IfSome (option_map (λ name. name.now) zones) (λ name. F.may folder.old (folder_name name) file_limit) }
+    requires may { IfSome (option_map (λ name. name.now) zones) (λ name. F.may folder.old (folder_name name)) }
     ensures folder { ReadsOn F.Folder folder.old folder.new result }
-    ensures zones { (files : Option (List File)) → IfSome files (F.agrees folder.new) →
+    ensures zones { (files : Option FileSet) → IfSome files (F.agrees folder.new) →
         AreZonesAs (option_map (λ name. name.now) zones.entry) model.now files result }
     ensures fit { IfOk result (AreZones model.now) }
 {

@@ -1,9 +1,8 @@
 ghost use Rattle.std.specs.Prelude.{◌≡◌, ◌⊎◌, ℕ, List, ◌++◌, map, IfSome, Ok, Option, Some};
 ghost use Rattle.outside.specs.Asking.{WordsMay};
-ghost use Rattle.outside.specs.Inputs.{file_limit};
 ghost use Rattle.outside.specs.Names.{folder_name};
 ghost use Rattle.engine.specs.Asking.{files_named};
-ghost use Rattle.outside.specs.Files.{File};
+ghost use Rattle.outside.specs.Files.{FileSet};
 ghost use Rattle.outside.specs.Puts.{Put};
 ghost use Rattle.outside.specs.Counts.{Rose};
 ghost use Rattle.model_types.specs.Valid.{IsModel};
@@ -53,7 +52,8 @@ const USAGE: &[u8] =
 /// folder, and puts the summary of its listing. `check NAME LISTING` reads the model and a listing of it, whoever wrote
 /// it, and puts whether it is certified, or else the first place that fails. With `--to NAME2` both read a second deck too,
 /// compare it with the first, and list or check bounds for all models between the two. `write NAME` reads the model and puts
-/// its deck in one spelling. Workers in threads settle each step, and pass the gate before each turn; a check has none. With `--watch N` one more seat makes N views of the heads in each phase, and
+/// its deck in one spelling. With `--wide` the limits of the model are wide ones. Workers in threads settle each step, and pass
+/// the gate before each turn; a check has none. With `--watch N` one more seat makes N views of the heads in each phase, and
 /// each is put to `side` as one piece, up to the first put that fails; the run then ends, with WriteFault if a write
 /// failed. For a batch, which only `run` does, it puts the usage line.
 pub fn run_one<R: Threads + Sync, F: Folder, K: Sink + Send, W: Sink + Send, G: Gate + Sync>(
@@ -66,34 +66,34 @@ pub fn run_one<R: Threads + Sync, F: Folder, K: Sink + Send, W: Sink + Send, G: 
     gate: &G,
 ) -> Status
     // Each file that the words name may be asked for. The folder is asked for no others but those that words of its files
-    // name, with the same limit, since `read_file` requires that.
+    // name, since `read_file` requires that.
     requires may { WordsMay (F.may folder.old) (files_named (map (λ w. w.now) words.now)) }
 
     // What is put to `out`, for every status, with the status' cause, by the files that agree with all results of the
     // folder, or by any files.
-    ensures puts { (files : Option (List File)) → IfSome files (F.agrees folder.new) →
+    ensures puts { (files : Option FileSet) → IfSome files (F.agrees folder.new) →
         Puts (λ puts. K.leads out.old puts out.new) (map (λ w. w.now) words.now) files (F.faults folder.old) (F.faults folder.new)
         (Rose (W.seen side.old).faults (W.seen side.new).faults) result }
 
     // What is put to `side`, for every status: nothing without `--watch`, else the views of the first steps, in turn, up to the
     // first put that failed. If the run ends Ok, they are the views of all steps.
-    ensures side { (files : List File) → F.agrees folder.new files →
+    ensures side { (files : FileSet) → F.agrees folder.new files →
         SidePuts (λ puts. W.leads side.old puts side.new) (map (λ w. w.now) words.now) files (views_in (map (λ w. w.now) words.now)) }
-    ensures watched { result ≡ Status.Ok → (n : ℕ) → views_in (map (λ w. w.now) words.now) ≡ Some n → (files : List File) →
+    ensures watched { result ≡ Status.Ok → (n : ℕ) → views_in (map (λ w. w.now) words.now) ≡ Some n → (files : FileSet) →
         F.agrees folder.new files → Watched (map (λ w. w.now) words.now) files n (λ puts. W.leads side.old puts side.new) }
 
     // Files that agree with all results of the folder agreed with it before.
-    ensures since { (files : List File) → F.agrees folder.new files → F.agrees folder.old files }
+    ensures since { (files : FileSet) → F.agrees folder.new files → F.agrees folder.old files }
 
     // A folder of which no file is read isn't asked.
     ensures unasked { ReadsNothing (asked_in (map (λ w. w.now) words.now)) → folder.new ≡ folder.old }
 
     // Some files agree with all that the folder has answered.
-    ensures told { (files : List File) × F.agrees folder.new files }
+    ensures told { (files : FileSet) × F.agrees folder.new files }
 
     // The headline: of a listing, of the listing that a made model's summary sums up, of one that was checked, of a deck,
     // of a listing of two decks, or of one of these that was checked.
-    ensures headline { result ≡ Status.Ok → (files : List File) → F.agrees folder.new files →
+    ensures headline { result ≡ Status.Ok → (files : FileSet) → F.agrees folder.new files →
         Headline (map (λ w. w.now) words.now) files (K.seen out.old).written (K.seen out.new).written
         ⊎ (Made (map (λ w. w.now) words.now) (K.seen out.old).written (K.seen out.new).written
         ⊎ (Certified (map (λ w. w.now) words.now) files (K.seen out.old).written (K.seen out.new).written
@@ -103,7 +103,7 @@ pub fn run_one<R: Threads + Sync, F: Folder, K: Sink + Send, W: Sink + Send, G: 
 
     // And it is the one listing that the files define, or with `--quick` one by certificates, or each step of the one that was
     // checked is certified, or it is the one deck of the model that the files read as.
-    ensures one { result ≡ Status.Ok → (files : List File) → F.agrees folder.new files →
+    ensures one { result ≡ Status.Ok → (files : FileSet) → F.agrees folder.new files →
         OneOrQuick (map (λ w. w.now) words.now) files (K.seen out.old).written (K.seen out.new).written
         ⊎ (OneSummary (map (λ w. w.now) words.now) (K.seen out.old).written (K.seen out.new).written
         ⊎ (OneVerdict (map (λ w. w.now) words.now) files
@@ -117,10 +117,10 @@ pub fn run_one<R: Threads + Sync, F: Folder, K: Sink + Send, W: Sink + Send, G: 
 
     // A check that ends Ok certifies the listing that the words name.
     ensures certified { result ≡ Status.Ok → (asked : AskedCheck) →
-        asked_in (map (λ w. w.now) words.now) ≡ Some (Check asked) → (files : List File) → F.agrees folder.new files →
+        asked_in (map (λ w. w.now) words.now) ≡ Some (Check asked) → (files : FileSet) → F.agrees folder.new files →
         Certified (map (λ w. w.now) words.now) files (K.seen out.old).written (K.seen out.new).written }
     ensures span_certified { result ≡ Status.Ok → (asked : AskedSpanCheck) →
-        asked_in (map (λ w. w.now) words.now) ≡ Some (CheckSpan asked) → (files : List File) → F.agrees folder.new files →
+        asked_in (map (λ w. w.now) words.now) ≡ Some (CheckSpan asked) → (files : FileSet) → F.agrees folder.new files →
         SpanCertified (map (λ w. w.now) words.now) files (K.seen out.old).written (K.seen out.new).written }
 
     // These statuses have a count as their cause.
@@ -129,11 +129,11 @@ pub fn run_one<R: Threads + Sync, F: Folder, K: Sink + Send, W: Sink + Send, G: 
         ⊎ Rose (W.seen side.old).faults (W.seen side.new).faults }
 
     // The end that the words and files define is the end of the run, if nothing outside failed.
-    ensures decided { (files : List File) → F.agrees folder.new files →
+    ensures decided { (files : FileSet) → F.agrees folder.new files →
         Decided (Rose (F.faults folder.old) (F.faults folder.new)
         ⊎ (Rose (K.seen out.old).faults (K.seen out.new).faults
         ⊎ Rose (W.seen side.old).faults (W.seen side.new).faults)) (map (λ w. w.now) words.now) files result }
-    ensures complete { (files : List File) → F.agrees folder.new files →
+    ensures complete { (files : FileSet) → F.agrees folder.new files →
         Comes (Rose (F.faults folder.old) (F.faults folder.new)
         ⊎ (Rose (K.seen out.old).faults (K.seen out.new).faults
         ⊎ Rose (W.seen side.old).faults (W.seen side.new).faults)) (map (λ w. w.now) words.now) files result }
@@ -157,11 +157,11 @@ pub(crate) fn answer<R: Threads + Sync, F: Folder, K: Sink + Send, W: Sink + Sen
     gate: &G,
 ) -> Status
     requires may { WordsMay (F.may folder.old) (files_named (map (λ w. w.now) words.now)) }
-    ensures since { (files : List File) → F.agrees folder.new files → F.agrees folder.old files }
+    ensures since { (files : FileSet) → F.agrees folder.new files → F.agrees folder.old files }
     ensures unasked { ReadsNothing (asked_in (map (λ w. w.now) words.now)) → folder.new ≡ folder.old }
     ensures answers { (start : _) (puts : List Put) → K.leads start puts out.old →
         (more : List Put) × K.leads start (puts ++ more) out.new
-        × ((files : Option (List File)) → IfSome files (F.agrees folder.new) →
+        × ((files : Option FileSet) → IfSome files (F.agrees folder.new) →
         AnswersBeside (map (λ w. w.now) words.now) files (F.faults folder.old) (F.faults folder.new)
         (Rose (W.seen side.old).faults (W.seen side.new).faults) (λ puts. W.leads side.old puts side.new) result more) }
 {
@@ -177,7 +177,7 @@ pub(crate) fn answer<R: Threads + Sync, F: Folder, K: Sink + Send, W: Sink + Sen
         Some(Command::Make { seed, size }) => put_made(rt, alloc, seed, size, out, gate),
         Some(Command::Check(asked)) => check(alloc, asked, folder, out),
         Some(Command::CheckSpan(asked, to)) => check_span(alloc, asked, to, folder, out),
-        Some(Command::Write(name)) => write(alloc, name, folder, out),
+        Some(Command::Write(limits, name)) => write(alloc, limits, name, folder, out),
     }
 }
 
@@ -199,10 +199,12 @@ fn put_decks<'a, R: Threads + Sync, K: Sink + Send, W: Sink + Send, G: Gate + Sy
         (more : List Put) × K.leads start (puts ++ more) out.new
         × IsRun (IsListingBeside (Rose (W.seen side.old).faults (W.seen side.new).faults) (decks_task (asked_of asked.entry) decks zones))
         (IsCutListing (decks_task (asked_of asked.entry) decks zones)) result more
-        × (result ≡ Status.Ok → IfSome asked.entry.watch (λ n. IsWatched (decks_task (asked_of asked.entry) decks zones) n (λ puts. W.leads side.old puts side.new))) }
+        × (result ≡ Status.Ok → IfSome asked.entry.watch
+        (λ n. IsWatched (decks_task (asked_of asked.entry) decks zones) n (λ puts. W.leads side.old puts side.new))) }
     ensures side { ViewPutsOf (decks_task (asked_of asked.entry) decks zones) (λ puts. W.leads side.old puts side.new) asked.entry.watch }
 {
     let task = Task {
+        limits: asked.limits,
         decks,
         digits: asked.digits,
         zones,
@@ -225,13 +227,13 @@ fn list_model<'a, R: Threads + Sync, F: Folder, K: Sink + Send, W: Sink + Send, 
 ) -> Status
     requires asked { IsAsked asked }
     requires model { IsModel model }
-    requires zones { IfSome (asked_of asked).zones (λ zones. F.may folder.old (folder_name zones) file_limit) }
-    ensures since { (files : List File) → F.agrees folder.new files → F.agrees folder.old files }
+    requires zones { IfSome (asked_of asked).zones (λ zones. F.may folder.old (folder_name zones)) }
+    ensures since { (files : FileSet) → F.agrees folder.new files → F.agrees folder.old files }
     ensures answers { (start : _) (puts : List Put) → K.leads start puts out.old →
         (more : List Put) × K.leads start (puts ++ more) out.new
         × ((words : List (List ℕ)) → asked_in words ≡ Some (Run (asked_of asked.entry)) → views_in words ≡ asked.entry.watch →
-        (files : Option (List File)) → IfSome files (F.agrees folder.new) →
-        IsReadAs (asked_of asked.entry).name files (Ok model) →
+        (files : Option FileSet) → IfSome files (F.agrees folder.new) →
+        IsReadAs (asked_of asked.entry).limits (asked_of asked.entry).name files (Ok model) →
         AnswersBeside words files (F.faults folder.old) (F.faults folder.new)
         (Rose (W.seen side.old).faults (W.seen side.new).faults) (λ puts. W.leads side.old puts side.new) result more) }
 {
@@ -264,17 +266,17 @@ fn list<'a, R: Threads + Sync, F: Folder, K: Sink + Send, W: Sink + Send, G: Gat
     gate: &G,
 ) -> Status
     requires asked { IsAsked asked }
-    requires name { F.may folder.old (folder_name asked.name.now) file_limit }
-    requires zones { IfSome (asked_of asked).zones (λ zones. F.may folder.old (folder_name zones) file_limit) }
-    ensures since { (files : List File) → F.agrees folder.new files → F.agrees folder.old files }
+    requires name { F.may folder.old (folder_name asked.name.now) }
+    requires zones { IfSome (asked_of asked).zones (λ zones. F.may folder.old (folder_name zones)) }
+    ensures since { (files : FileSet) → F.agrees folder.new files → F.agrees folder.old files }
     ensures answers { (start : _) (puts : List Put) → K.leads start puts out.old →
         (more : List Put) × K.leads start (puts ++ more) out.new
         × ((words : List (List ℕ)) → asked_in words ≡ Some (Run (asked_of asked.entry)) → views_in words ≡ asked.entry.watch →
-        (files : Option (List File)) → IfSome files (F.agrees folder.new) →
+        (files : Option FileSet) → IfSome files (F.agrees folder.new) →
         AnswersBeside words files (F.faults folder.old) (F.faults folder.new)
         (Rose (W.seen side.old).faults (W.seen side.new).faults) (λ puts. W.leads side.old puts side.new) result more) }
 {
-    match read_named(alloc, folder, asked.name) {
+    match read_named(alloc, asked.limits, folder, asked.name) {
         Ok(model) => list_model(rt, alloc, asked, model, folder, out, side, gate),
         Err(fault) => end_reading(alloc, fault, out),
     }
@@ -293,13 +295,13 @@ fn list_between<'a, R: Threads + Sync, F: Folder, K: Sink + Send, W: Sink + Send
 ) -> Status
     requires asked { IsAsked asked }
     requires decks { AreDecks decks }
-    requires zones { IfSome (asked_of asked).zones (λ zones. F.may folder.old (folder_name zones) file_limit) }
-    ensures since { (files : List File) → F.agrees folder.new files → F.agrees folder.old files }
+    requires zones { IfSome (asked_of asked).zones (λ zones. F.may folder.old (folder_name zones)) }
+    ensures since { (files : FileSet) → F.agrees folder.new files → F.agrees folder.old files }
     ensures answers { (start : _) (puts : List Put) → K.leads start puts out.old →
         (more : List Put) × K.leads start (puts ++ more) out.new
         × ((words : List (List ℕ)) (to : List ℕ) → asked_in words ≡ Some (Span (record { run = asked_of asked.entry; to = to })) →
-        views_in words ≡ asked.entry.watch → (files : Option (List File)) → IfSome files (F.agrees folder.new) →
-        AreDecksAs (asked_of asked.entry).name to files (Ok decks) →
+        views_in words ≡ asked.entry.watch → (files : Option FileSet) → IfSome files (F.agrees folder.new) →
+        AreDecksAs (asked_of asked.entry).limits (asked_of asked.entry).name to files (Ok decks) →
         AnswersBeside words files (F.faults folder.old) (F.faults folder.new)
         (Rose (W.seen side.old).faults (W.seen side.new).faults) (λ puts. W.leads side.old puts side.new) result more) }
 {
@@ -321,18 +323,18 @@ fn list_span<'a, R: Threads + Sync, F: Folder, K: Sink + Send, W: Sink + Send, G
     gate: &G,
 ) -> Status
     requires asked { IsAsked asked }
-    requires name { F.may folder.old (folder_name asked.name.now) file_limit }
-    requires to { F.may folder.old (folder_name to.now) file_limit }
-    requires zones { IfSome (asked_of asked).zones (λ zones. F.may folder.old (folder_name zones) file_limit) }
-    ensures since { (files : List File) → F.agrees folder.new files → F.agrees folder.old files }
+    requires name { F.may folder.old (folder_name asked.name.now) }
+    requires to { F.may folder.old (folder_name to.now) }
+    requires zones { IfSome (asked_of asked).zones (λ zones. F.may folder.old (folder_name zones)) }
+    ensures since { (files : FileSet) → F.agrees folder.new files → F.agrees folder.old files }
     ensures answers { (start : _) (puts : List Put) → K.leads start puts out.old →
         (more : List Put) × K.leads start (puts ++ more) out.new
         × ((words : List (List ℕ)) → asked_in words ≡ Some (Span (record { run = asked_of asked.entry; to = to.entry.now })) →
-        views_in words ≡ asked.entry.watch → (files : Option (List File)) → IfSome files (F.agrees folder.new) →
+        views_in words ≡ asked.entry.watch → (files : Option FileSet) → IfSome files (F.agrees folder.new) →
         AnswersBeside words files (F.faults folder.old) (F.faults folder.new)
         (Rose (W.seen side.old).faults (W.seen side.new).faults) (λ puts. W.leads side.old puts side.new) result more) }
 {
-    match read_decks(alloc, folder, asked.name, to) {
+    match read_decks(alloc, asked.limits, folder, asked.name, to) {
         Ok(decks) => list_between(rt, alloc, asked, decks, folder, out, side, gate),
         Err(fault) => end_reading(alloc, fault, out),
     }

@@ -1,8 +1,7 @@
 // Two decks of the folder, which have to be alike.
 ghost use Rattle.std.specs.Prelude.{◌≡◌, ◌<◌, IfOk, IfSome, List, Option, option_map};
-ghost use Rattle.outside.specs.Inputs.{file_limit};
 ghost use Rattle.outside.specs.Names.{IsGoodName, folder_name};
-ghost use Rattle.outside.specs.Files.{File};
+ghost use Rattle.outside.specs.Files.{FileSet};
 ghost use Rattle.outside.specs.Folders.{ReadsOn};
 ghost use Rattle.model_types.specs.Cells.{cell_count, place};
 ghost use Rattle.model_types.specs.Grids.{HasSize};
@@ -30,19 +29,20 @@ pub(crate) struct Second<'a> {
 // The second deck that a name file of the folder describes. The name is tested before any file.
 fn read_second<'a, F: Folder>(
     alloc: Global,
+    limits: Limits,
     folder: &mut F,
     name: &'a str,
 ) -> Result<Second<'a>, InputFault>
-    requires may { F.may folder.old (folder_name name.now) file_limit }
+    requires may { F.may folder.old (folder_name name.now) }
     ensures folder { ReadsOn F.Folder folder.old folder.new result }
-    ensures reads { (files : Option (List File)) → IfSome files (F.agrees folder.new) → IsSecondAs name.entry.now files result }
+    ensures reads { (files : Option FileSet) → IfSome files (F.agrees folder.new) → IsSecondAs limits name.entry.now files result }
     ensures model { IfOk result (λ b. IsModel b.model) }
 {
     if !is_good_name(name.as_bytes()) {
         return Err(bad_name(alloc));
     }
     let files = read_name_file(alloc, folder, name)?;
-    let model = read_model(alloc, Limits::Plain, &files, folder)?;
+    let model = read_model(alloc, limits, &files, folder)?;
     Ok(Second { name, files, model })
 }
 
@@ -82,18 +82,19 @@ fn unlike(alloc: Global, second: &Second, difference: Difference) -> InputFault
 /// The decks of two name files of the folder: the first is read, then the second, and then they are compared.
 pub(crate) fn read_decks<F: Folder>(
     alloc: Global,
+    limits: Limits,
     folder: &mut F,
     name: &str,
     to: &str,
 ) -> Result<Decks, InputFault>
-    requires name { F.may folder.old (folder_name name.now) file_limit }
-    requires to { F.may folder.old (folder_name to.now) file_limit }
+    requires name { F.may folder.old (folder_name name.now) }
+    requires to { F.may folder.old (folder_name to.now) }
     ensures folder { ReadsOn F.Folder folder.old folder.new result }
-    ensures reads { (files : Option (List File)) → IfSome files (F.agrees folder.new) → AreDecksAs name.now to.now files result }
+    ensures reads { (files : Option FileSet) → IfSome files (F.agrees folder.new) → AreDecksAs limits name.now to.now files result }
     ensures decks { IfOk result AreDecks }
 {
-    let first = read_named(alloc, folder, name)?;
-    let second = read_second(alloc, folder, to)?;
+    let first = read_named(alloc, limits, folder, name)?;
+    let second = read_second(alloc, limits, folder, to)?;
     match first_difference(&first, &second.model) {
         None => Ok(Decks {
             first,

@@ -1,8 +1,7 @@
 // The deck of a model of the folder.
 ghost use Rattle.std.specs.Prelude.{◌≡◌, List, ◌++◌, IfSome, Option, Some};
-ghost use Rattle.outside.specs.Inputs.{file_limit};
 ghost use Rattle.outside.specs.Names.{folder_name};
-ghost use Rattle.outside.specs.Files.{File};
+ghost use Rattle.outside.specs.Files.{FileSet};
 ghost use Rattle.outside.specs.Puts.{Put};
 ghost use Rattle.model_types.specs.Grids.{HasSize};
 ghost use Rattle.run_puts.specs.Lines.{Text};
@@ -13,7 +12,7 @@ ghost use Rattle.engine.specs.Parts.{Answers};
 
 use crate::ending::end_reading;
 use crate::reading::read_named;
-use model_types::FlowModel;
+use model_types::{FlowModel, Limits};
 use model_writer::write_deck;
 use outside::{Folder, Sink};
 use run_puts::{Status, put_line};
@@ -32,19 +31,20 @@ pub(crate) fn put_deck<K: Sink>(alloc: Global, model: &FlowModel, out: &mut K) -
 /// Reads a model of the folder, and puts its deck.
 pub(crate) fn write<F: Folder, K: Sink>(
     alloc: Global,
+    limits: Limits,
     name: &str,
     folder: &mut F,
     out: &mut K,
 ) -> Status
-    requires name { F.may folder.old (folder_name name.now) file_limit }
-    ensures since { (files : List File) → F.agrees folder.new files → F.agrees folder.old files }
+    requires name { F.may folder.old (folder_name name.now) }
+    ensures since { (files : FileSet) → F.agrees folder.new files → F.agrees folder.old files }
     ensures answers { (start : _) (puts : List Put) → K.leads start puts out.old →
         (more : List Put) × K.leads start (puts ++ more) out.new
-        × ((words : List Text) → asked_in words ≡ Some (Write name.now) → (files : Option (List File)) →
+        × ((words : List Text) → asked_in words ≡ Some (Write limits name.now) → (files : Option FileSet) →
         IfSome files (F.agrees folder.new) →
         Answers words files (F.faults folder.old) (F.faults folder.new) result more) }
 {
-    match read_named(alloc, folder, name) {
+    match read_named(alloc, limits, folder, name) {
         Ok(model) => put_deck(alloc, &model, out),
         Err(fault) => end_reading(alloc, fault, out),
     }

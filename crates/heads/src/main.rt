@@ -4,8 +4,8 @@
 ghost use Rattle.std.specs.Prelude.{◌≡◌, map, IfOk};
 ghost use Rattle.std.specs.String.{string_bytes};
 
-use engine::{files_named, serve};
-use outside::{FILE_LIMIT, FreeGate, RealFolder, RealSink};
+use engine::{bytes_asked, files_named, serve};
+use outside::{FreeGate, RealFolder, RealSink};
 use std::alloc::{AllocError, Global};
 use std::env;
 use std::io::ErrorKind;
@@ -46,7 +46,10 @@ fn main(rt: HostRuntime) -> ExitCode {
     let Ok(names) = files_named(alloc, texts.as_slice()) else {
         return ExitCode::from(MEMORY);
     };
-    let mut folder = RealFolder::new(&rt, alloc, names.as_slice(), FILE_LIMIT);
+    let Ok(limit) = bytes_asked(alloc, texts.as_slice()) else {
+        return ExitCode::from(MEMORY);
+    };
+    let mut folder = RealFolder::new(&rt, alloc, names.as_slice(), limit);
     let mut out = RealSink::new(rt.stdout());
     let mut side = RealSink::new(rt.stderr());
     serve(

@@ -23,4 +23,4 @@ pub check_model-requires-clause-zones : goal.check_model-requires-clause-zones
 check_model-requires-clause-zones g c = zones_still (g.F.Folder.may c.args.folder.now) (g.F.Folder.may c.read_named.new.folder) (check_of c.args.asked).zones c.in-Ok.ensures.folder.still c.requires.zones
 
 pub check_model-requires-clause-may : goal.check_model-requires-clause-may
-check_model-requires-clause-may g c = c.in-Ok.ensures.folder.still _ _ c.requires.listing
+check_model-requires-clause-may g c = c.in-Ok.ensures.folder.still _ c.requires.listing

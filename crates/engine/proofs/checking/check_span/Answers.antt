@@ -23,4 +23,4 @@ pub check_between-requires-clause-zones : goal.check_between-requires-clause-zon
 check_between-requires-clause-zones g c = zones_still (g.F.Folder.may c.args.folder.now) (g.F.Folder.may c.read_decks.new.folder) (check_of c.args.asked).zones c.in-Ok.ensures.folder.still c.requires.zones
 
 pub check_between-requires-clause-may : goal.check_between-requires-clause-may
-check_between-requires-clause-may g c = c.in-Ok.ensures.folder.still _ _ c.requires.listing
+check_between-requires-clause-may g c = c.in-Ok.ensures.folder.still _ c.requires.listing

@@ -11,13 +11,13 @@ check_listing-requires-clause-listing g c =
 pub returns-in-Ok : goal.returns-in-Ok
 returns-in-Ok g c = λ start puts h.
     let p = c.put_verdict.ensures start puts h in
-    let V : Option (List ℕ) → Type 0 = λ z. IsVerdict c.args.decks.now c.args.digits z c.args.listing.now.steps c.in-Ok.verdict in
+    let V : Option (List ℕ) → Type 0 = λ z. IsVerdict c.args.limits c.args.decks.now c.args.digits z c.args.listing.now.steps c.in-Ok.verdict in
     let E : Option (List ℕ) → Type 0 = λ z. c.in-Ok.verdict ≡ Certified → ListingEncloses c.args.decks.now c.args.digits z c.args.listing.now.steps in
     let verdict = subst V c.zone_slice.ensures c.in-Ok.ensures.verdict in
     let encloses = subst E c.zone_slice.ensures c.in-Ok.ensures.encloses in
-    (p.0, p.1, puts_verdict c.args.decks.now c.args.digits c.args.listing.now c.in-Ok.verdict c.put_verdict.result p.0 verdict encloses c.in-Ok.ensures.history p.2)
+    (p.0, p.1, puts_verdict c.args.limits c.args.decks.now c.args.digits c.args.listing.now c.in-Ok.verdict c.put_verdict.result p.0 verdict encloses c.in-Ok.ensures.history p.2)
 
 pub returns-in-Err : goal.returns-in-Err
 returns-in-Err g c = λ start puts h.
     let m = c.put_memory.ensures start puts h in
-    (m.0, m.1, lacks_at_first (IsCheck c.args.decks.now c.args.digits c.args.listing.now) NeverCut c.put_memory.result m.0 m.2)
+    (m.0, m.1, lacks_at_first (IsCheck c.args.limits c.args.decks.now c.args.digits c.args.listing.now) NeverCut c.put_memory.result m.0 m.2)

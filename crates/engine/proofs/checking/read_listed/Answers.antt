@@ -29,4 +29,4 @@ returns-clause-listed g c =
     record { zones = c.in_ok-zones.ensures.fit; steps = subst L c.zone_slice.ensures c.in_ok-steps.ensures.listed }
 
 pub read_steps-requires-clause-may : goal.read_steps-requires-clause-may
-read_steps-requires-clause-may g c = c.in_ok-zones.ensures.folder.still _ _ c.requires.may
+read_steps-requires-clause-may g c = c.in_ok-zones.ensures.folder.still _ c.requires.may

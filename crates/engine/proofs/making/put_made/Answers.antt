@@ -1,7 +1,11 @@
-use Rattle.engine.proofs.Common.{◌∙◌, ap, refl, subst, Err, Ok, Some, InputFault, IsReadingEnd}
+use Rattle.engine.proofs.Common.{◌∙◌, ap, refl, subst, Err, Ok, Some, InputFault, IsReadingEnd, FileSet, with_limit}
 use Rattle.outside.specs.Memory.{FolderState}
 use Rattle.engine.proofs.Summed.{made_lacking, made_reading, made_unread}
 use Rattle.engine.proofs.making.put_made.Goals as goal
+
+-- the files of a folder in memory, with its limit
+abbrev files_of : FolderState → FileSet
+files_of folder = with_limit folder.limit folder.files
 
 pub returns-in_default : goal.returns-in_default
 returns-in_default g c = λ start puts h.
@@ -11,14 +15,14 @@ returns-in_default g c = λ start puts h.
 pub returns-in-Ok-read_named : goal.returns-in-Ok-read_named
 returns-in-Ok-read_named g c = λ start puts h.
     let m = c.put_summary.ensures start puts h in
-    let files = c.in-Ok-read_named.ensures.folder.since c.read_named.new.folder.files refl ∙ ap (λ (f : FolderState). f.files) c.in-Ok.ensures in
-    let read = made_reading c.args.seed c.args.size c.read_named.new.folder.files (Ok c.in-Ok-read_named.model) files (c.in-Ok-read_named.ensures.reads (Some c.read_named.new.folder.files) refl) in
+    let files = c.in-Ok-read_named.ensures.folder.since (files_of c.read_named.new.folder) refl ∙ ap files_of c.in-Ok.ensures in
+    let read = made_reading c.args.seed c.args.size (files_of c.read_named.new.folder) (Ok c.in-Ok-read_named.model) files (c.in-Ok-read_named.ensures.reads (Some (files_of c.read_named.new.folder)) refl) in
     (m.0, m.1, m.2 read)
 
 pub returns : goal.returns
 returns g c = λ start puts h.
     let m = c.end_reading.ensures start puts h in
-    let files = c.in-Err.ensures.folder.since c.read_named.new.folder.files refl ∙ ap (λ (f : FolderState). f.files) c.in-Ok.ensures in
-    let read = made_reading c.args.seed c.args.size c.read_named.new.folder.files (Err c.in-Err.fault) files (c.in-Err.ensures.reads (Some c.read_named.new.folder.files) refl) in
+    let files = c.in-Err.ensures.folder.since (files_of c.read_named.new.folder) refl ∙ ap files_of c.in-Ok.ensures in
+    let read = made_reading c.args.seed c.args.size (files_of c.read_named.new.folder) (Err c.in-Err.fault) files (c.in-Err.ensures.reads (Some (files_of c.read_named.new.folder)) refl) in
     let E : InputFault → Type 0 = λ f. IsReadingEnd f c.end_reading.result m.0 in
     (m.0, m.1, made_unread c.args.seed c.args.size c.in-Err.fault c.end_reading.result m.0 read (subst E c.made_fault.ensures m.2))

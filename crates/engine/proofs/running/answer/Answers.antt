@@ -54,20 +54,20 @@ pub returns-in-Some-Write-clause-answers : goal.returns-in-Some-Write-clause-ans
 returns-in-Some-Write-clause-answers g c = λ start puts h.
     let m = c.write.ensures.answers start puts h in
     let words : List (List ℕ) = map (λ w. w.now) c.args.words.now in
-    let wanted : asked_in words ≡ Some (Write c.in-Some-Write.name.now) = asked_by words _ (Some (Write c.in-Some-Write.name.now)) c.in-Ok.ensures.order (by_variant _ _ _ c.in-Some-Write.field-0-is c.in-Some-Write.ensures.is) in
-    (m.0, m.1, λ files agree. without_views words files (g.F.Folder.faults c.args.folder.now) _ _ (λ puts. g.W.Sink.leads c.args.side.now puts c.args.side.now) c.write.result m.0 (((g.met.W.Sink g.world.𝓛 g.world.𝓜 g.world.𝓡 ((λ s x. x), (λ x. x), (λ x. x), λ x. x))).rests c.args.side.now) (m.2 words wanted files agree) (viewless_write words c.in-Some-Write.name.now wanted))
+    let wanted : asked_in words ≡ Some (Write c.in-Some-Write.limits c.in-Some-Write.name.now) = asked_by words _ (Some (Write c.in-Some-Write.limits c.in-Some-Write.name.now)) c.in-Ok.ensures.order (by_variant _ _ _ c.in-Some-Write.field-0-is c.in-Some-Write.ensures.is) in
+    (m.0, m.1, λ files agree. without_views words files (g.F.Folder.faults c.args.folder.now) _ _ (λ puts. g.W.Sink.leads c.args.side.now puts c.args.side.now) c.write.result m.0 (((g.met.W.Sink g.world.𝓛 g.world.𝓜 g.world.𝓡 ((λ s x. x), (λ x. x), (λ x. x), λ x. x))).rests c.args.side.now) (m.2 words wanted files agree) (viewless_write words c.in-Some-Write.limits c.in-Some-Write.name.now wanted))
 
 pub returns-in-Some-Write-clause-unasked : goal.returns-in-Some-Write-clause-unasked
 returns-in-Some-Write-clause-unasked g c = λ nothing.
     let words : List (List ℕ) = map (λ w. w.now) c.args.words.now in
-    let wanted : asked_in words ≡ Some (Write c.in-Some-Write.name.now) = asked_by words _ (Some (Write c.in-Some-Write.name.now)) c.in-Ok.ensures.order (by_variant _ _ _ c.in-Some-Write.field-0-is c.in-Some-Write.ensures.is) in
+    let wanted : asked_in words ≡ Some (Write c.in-Some-Write.limits c.in-Some-Write.name.now) = asked_by words _ (Some (Write c.in-Some-Write.limits c.in-Some-Write.name.now)) c.in-Ok.ensures.order (by_variant _ _ _ c.in-Some-Write.field-0-is c.in-Some-Write.ensures.is) in
     let P : Option Command → Type 0 = ReadsNothing in
     absurd (subst P wanted nothing)
 
 pub write-requires : goal.write-requires
 write-requires g c =
     let words : List (List ℕ) = map (λ w. w.now) c.args.words.now in
-    record { name = write_named (g.F.Folder.may c.args.folder.now) words c.requires.may c.in-Some-Write.name.now (asked_by words _ (Some (Write c.in-Some-Write.name.now)) c.in-Ok.ensures.order (by_variant _ _ _ c.in-Some-Write.field-0-is c.in-Some-Write.ensures.is)) }
+    record { name = write_named (g.F.Folder.may c.args.folder.now) words c.requires.may c.in-Some-Write.limits c.in-Some-Write.name.now (asked_by words _ (Some (Write c.in-Some-Write.limits c.in-Some-Write.name.now)) c.in-Ok.ensures.order (by_variant _ _ _ c.in-Some-Write.field-0-is c.in-Some-Write.ensures.is)) }
 
 pub returns-in-Some-Run-clause-unasked : goal.returns-in-Some-Run-clause-unasked
 returns-in-Some-Run-clause-unasked g c = λ nothing.

@@ -11,6 +11,7 @@ returns-clause-serves g c =
       number_is = is;
       puts = c.run-status.ensures.puts;
       some = c.run-status.ensures.told;
+      limit = λ files agree. c.requires.limit files (c.run-status.ensures.since files agree);
       headline = λ zero files agree. c.run-status.ensures.headline (ok_from_zero c.run-status.result (sym is ∙ zero)) files agree;
       one = λ zero files agree. c.run-status.ensures.one (ok_from_zero c.run-status.result (sym is ∙ zero)) files agree;
       batch = λ goes. c.run-status.ensures.batch (λ stops. goes (let P : ℕ → Type 0 = IsStopNumber in subst P (sym is) (stop_number c.run-status.result stops)));
