@@ -1,6 +1,6 @@
 // The files of a made model.
 use model_maker::make;
-use outside::{FILE_LIMIT, Folder, Found, MemFolder};
+use outside::{Folder, Found, MemFolder};
 use std::alloc::Global;
 use std::io;
 use test_decks::print_text;
@@ -17,7 +17,7 @@ pub fn print_file(
     name: &str,
 ) -> io::Result<()> {
     println!(rt; "@file {name}")?;
-    match folder.read_file(alloc, name, FILE_LIMIT) {
+    match folder.read_file(alloc, name) {
         Ok(Found::Bytes(bytes)) => print_text(rt, bytes.as_slice()),
         _ => println!(rt; "no file"),
     }

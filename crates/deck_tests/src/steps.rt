@@ -7,7 +7,7 @@ ghost use Rattle.deck_problems.specs.Decks.{AreDecks};
 use crate::models::read_model;
 use crate::problem::print_cell;
 use deck_problems::{Decks, start_heads_for};
-use model_types::{Kind, Listed, TimeStep, times};
+use model_types::{Kind, Limits, Listed, TimeStep, times};
 use outside::MemFolder;
 use problem_builder::{BuildFault, PeriodTables, StepTables, Tables, build};
 use settle_driver::PlainSettler;
@@ -102,7 +102,15 @@ fn print_step(
         step_tables.heads.as_slice(),
     )?;
     print_built(rt, &build(alloc, model, at, old, s))?;
-    match next_step(alloc, decks, at, old, s, &mut PlainSettler::new(ROUNDS)) {
+    match next_step(
+        alloc,
+        Limits::Plain,
+        decks,
+        at,
+        old,
+        s,
+        &mut PlainSettler::new(ROUNDS),
+    ) {
         Ok(solved) => {
             print_bounds(rt, "settled", solved.bounds.as_slice())?;
             Ok(Some(solved.heads))

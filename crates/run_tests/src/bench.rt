@@ -1,5 +1,5 @@
 // A deck, and what runs over its files put.
-use engine::serve;
+use engine::{bytes_asked, serve};
 use outside::{FreeGate, Gate, MemSink};
 use std::alloc::{AllocError, Global};
 use std::io;
@@ -67,6 +67,8 @@ impl Bench {
         gate: &G,
     ) -> io::Result<u8> {
         let words = words_of(alloc, words)?;
+        let limit = bytes_asked(alloc, words.as_slice())?;
+        self.deck.folder.set_limit(limit);
         let code = serve(
             rt,
             alloc,

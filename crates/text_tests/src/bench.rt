@@ -3,7 +3,7 @@ use crate::answer::{Answer, print_answer, print_fault};
 use crate::call::Call;
 use crate::pictures::plain_text;
 use crate::reader::Reader;
-use outside::MemFolder;
+use outside::{FILE_LIMIT, MemFolder};
 use std::alloc::{AllocError, Global};
 use std::io;
 
@@ -54,7 +54,7 @@ fn print_calls(
 impl Bench {
     pub fn new(alloc: Global) -> Bench {
         Bench {
-            folder: MemFolder::new(alloc),
+            folder: MemFolder::new(alloc, FILE_LIMIT),
             file: String::new(alloc),
             text: String::new(alloc),
         }

@@ -17,16 +17,15 @@ fn asked_text<F: Folder>(
     folder: &mut F,
     names: &[&str],
     name: &str,
-    limit: u64,
 ) -> Result<String, AllocError>
-    requires { All (λ n. F.may folder.old (folder_name n.now) limit) names.now }
-    ensures { All (λ n. F.may folder.new (folder_name n.now) limit) names.now }
+    requires { All (λ n. F.may folder.old (folder_name n.now)) names.now }
+    ensures { All (λ n. F.may folder.new (folder_name n.now)) names.now }
 {
     match given_name(names, name) {
         None => String::from_str(alloc, " not given"),
         Some(given) => {
             let asked = folder_name(alloc, given)?;
-            found_text(alloc, folder.read_file(alloc, asked.as_str(), limit))
+            found_text(alloc, folder.read_file(alloc, asked.as_str()))
         }
     }
 }
@@ -37,11 +36,10 @@ fn disk_call<R: Files + Print, F: Folder>(
     alloc: Global,
     folder: &mut F,
     names: &[&str],
-    limit: u64,
     call: &str,
 ) -> io::Result<()>
-    requires { All (λ n. F.may folder.old (folder_name n.now) limit) names.now }
-    ensures { All (λ n. F.may folder.new (folder_name n.now) limit) names.now }
+    requires { All (λ n. F.may folder.old (folder_name n.now)) names.now }
+    ensures { All (λ n. F.may folder.new (folder_name n.now)) names.now }
 {
     let (word, rest) = first_word(call);
     let (name, more) = first_word(rest);
@@ -49,7 +47,7 @@ fn disk_call<R: Files + Print, F: Folder>(
         "write" => fs::write(rt, name, plain_text(alloc, more)?.as_str()),
         "make" => fs::create_dir(rt, name),
         _ => {
-            let text = asked_text(alloc, folder, names, name, limit)?;
+            let text = asked_text(alloc, folder, names, name)?;
             print!(rt; "{text};")
         }
     }
@@ -66,7 +64,7 @@ fn print_calls<R: Files + Print>(
     let mut folder = RealFolder::new(rt, alloc, names, limit);
     print!(rt; "disk")?;
     for call in calls.split("; ") {
-        disk_call(rt, alloc, &mut folder, names, limit, call)?;
+        disk_call(rt, alloc, &mut folder, names, call)?;
     }
     println!(rt; "")
 }

@@ -4,8 +4,8 @@ use crate::call::Call;
 use crate::command::{first_word, number};
 use crate::pictures::shown_text;
 use outside::{
-    Folder, FolderError, Found, InputFault, MemFolder, Name, folder_name, good_name, is_good_name,
-    read_input,
+    FILE_LIMIT, Folder, FolderError, Found, InputFault, MemFolder, Name, folder_name, good_name,
+    is_good_name, read_input,
 };
 use std::alloc::{AllocError, Global};
 
@@ -20,25 +20,40 @@ pub fn found_text(alloc: Global, found: Result<Found, FolderError>) -> Result<St
     }
 }
 
-// A file of a model, or what a name becomes, if the name is a good one.
-fn named(
+// What a good name becomes.
+fn named(alloc: Global, name: &str) -> Result<String, InputFault> {
+    let Some(name) = good_name(name.as_bytes()) else {
+        return Ok(String::from_str(alloc, " no name")?);
+    };
+    let asked = folder_name(alloc, name)?;
+    let written = Name::new(alloc, name)?;
+    let written = written.as_str();
+    Ok(format!(in alloc; " {asked} {written}")?)
+}
+
+// A file of a model, if the name is a good one.
+fn input(alloc: Global, folder: &mut MemFolder, name: &str) -> Result<String, InputFault> {
+    match good_name(name.as_bytes()) {
+        None => Ok(String::from_str(alloc, " no name")?),
+        Some(name) => Ok(shown_text(alloc, read_input(alloc, folder, name)?.as_slice())?),
+    }
+}
+
+// A file or an input of the folder, of which at most so many bytes are read.
+fn asked(
     alloc: Global,
     folder: &mut MemFolder,
     word: &str,
     name: &str,
+    limit: &str,
 ) -> Result<String, InputFault> {
-    let Some(name) = good_name(name.as_bytes()) else {
-        return Ok(String::from_str(alloc, " no name")?);
+    folder.set_limit(number(limit));
+    let text = match word {
+        "found" => Ok(found_text(alloc, folder.read_file(alloc, name))?),
+        _ => input(alloc, folder, name),
     };
-    match word {
-        "input" => Ok(shown_text(alloc, read_input(alloc, folder, name)?.as_slice())?),
-        _ => {
-            let asked = folder_name(alloc, name)?;
-            let written = Name::new(alloc, name)?;
-            let written = written.as_str();
-            Ok(format!(in alloc; " {asked} {written}")?)
-        }
-    }
+    folder.set_limit(FILE_LIMIT);
+    text
 }
 
 /// The answer to the last of the calls.
@@ -48,11 +63,11 @@ pub fn folder_answer(
     call: &Call,
 ) -> Result<Answer, InputFault> {
     let text = match call.word {
-        "found" => {
+        "found" | "input" => {
             let (name, limit) = first_word(call.rest);
-            found_text(alloc, folder.read_file(alloc, name, number(limit)))?
+            asked(alloc, folder, call.word, name, limit)?
         }
-        "input" | "named" => named(alloc, folder, call.word, call.rest)?,
+        "named" => named(alloc, call.rest)?,
         "taken" => return Ok(Answer::Holds(is_good_name(call.rest.as_bytes()))),
         _ => String::from_str(alloc, " no call")?,
     };

@@ -17,8 +17,8 @@
 //!   `integer_layers LAYERS ROWS COLUMNS` and `array ROWS COLUMNS` of integers;
 //! - on the whole text as a name file: `packages` gives its pairs, and `files` the files of two packages;
 //! - on the whole text as the list of a batch: `models` gives the number of its names, and the names;
-//! - on the folder in memory: `found NAME LIMIT` and `input NAME` ask for a file; `taken NAME` whether files
-//!   may have this name, and `named NAME` what it becomes.
+//! - on the folder in memory: `found NAME LIMIT` and `input NAME LIMIT` ask for a file, with this limit of bytes; `taken NAME`
+//!   whether files may have this name, and `named NAME` what it becomes.
 //!
 //! `@folder` begins a folder in memory, `@file NAME TEXT` puts a file into it, and `@fail N` makes its call of this
 //! number fail. `@disk LIMIT` does calls on the real folder, which is made anew in each line: `write NAME TEXT` and `make
@@ -52,7 +52,7 @@ mod sinks;
 use bench::Bench;
 use command::Command;
 use disk::{print_disk, print_reader};
-use outside::MemFolder;
+use outside::{FILE_LIMIT, MemFolder};
 use refusals::{print_codes, print_refusals};
 use sinks::{print_disk_sink, print_full_sink, print_sink};
 use std::alloc::Global;
@@ -65,7 +65,7 @@ fn step(rt: &HostRuntime, alloc: Global, bench: &mut Bench, line: &str) -> io::R
         Command::Read(calls) => bench.print_read(rt, alloc, calls),
         Command::Cut(calls) => bench.print_cuts(rt, alloc, calls),
         Command::Folder => {
-            bench.folder = MemFolder::new(alloc);
+            bench.folder = MemFolder::new(alloc, FILE_LIMIT);
             Ok(())
         }
         Command::File(name, text) => Ok(bench.add_file(alloc, name, text)?),
