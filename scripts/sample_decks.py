@@ -126,6 +126,17 @@ TWO_DECKS_QUICK_STEP = step(1, [("10.000000000", "11.000000000"), units_apart(15
                             {"CONSTANT HEAD": QUICK_4_TO_6}, {"CONSTANT HEAD": QUICK_4_TO_6})
 TWO_DECKS_QUICK_PUTS = [TWO_DECKS_FIRST, TWO_DECKS_QUICK_STEP + text("ZONE 1 2 -6.000000001000000000000 -3.999999999000000000000"), LAST]
 
+# Two cells joined by 2, whose wells take and give 4.2E9; the first is joined by 1 to a general head of 10. So its head is 10, and
+# the second one 2.1E9 higher. Its balance changes by 3 with its head: settling stops where less than 3 units are left, two
+# units away from the solution. The floor of the first cell, 10 - 4.2E9, is below the range of heads, and its ceiling above it.
+CUT_FLOORS = deck("2", "1 1", "10 10", flow=("CONSTANT 2", "CONSTANT 1"),
+                  more=[("WEL", ["2 0", "2 0", "1 1 1 -4.2E9", "1 1 2 4.2E9"]), ("GHB", ["1 0", "1 0", "1 1 1 10 1"])])
+TAKEN = twice("4200000000.000000000000000000000")
+AT_MOST_2 = ZERO, "0.000000002000000000000"
+CUT_PUTS = [FIRST, step(1, [around(10, 2), around(2_100_000_010, 2)], {"WELLS": TAKEN, "HEAD DEP BOUNDS": AT_MOST_2},
+                        {"WELLS": TAKEN, "HEAD DEP BOUNDS": AT_MOST_2}), LAST]
+OUT_OF_RANGE_PUTS = [FIRST, text("NOBOUND 26 RangeLow 1 1 1 1 1")]
+
 MADE = text("MADE 1 1", "STEPS 4", "HEADS 8", "WIDEST 0.000000000", "LOWSUM 79.840750000", "HIGHSUM 79.840750000", "END")
 
 # One piece of a view: two constant heads aren't shown.
@@ -179,7 +190,8 @@ BATCH_PUTS = [text("MODEL a.nam") + b"".join(THREE_CELLS_PUTS), text("MODEL none
               text("MODEL b.nam") + b"".join(FOUR_CELLS_PUTS), LAST]
 
 # Further decks: a batch, heads of thirds, three steps, a listing of thirds that is checked, two decks with zones, with views, and with
-# another conductivity in the second, an array in a file of its own, and quick runs of three steps, of a batch and of two decks.
+# another conductivity in the second, an array in a file of its own, quick runs of three steps, of a batch and of two decks, and floors
+# that are out of range, and cut.
 FURTHER = [
     Command("batch list.txt --workers 2", BATCH, BATCH_PUTS, status=2, opens=10),
     Command("run a.nam --workers 3", FOUR_CELLS, FOUR_CELLS_PUTS),
@@ -194,6 +206,12 @@ FURTHER = [
     Command("batch list.txt --quick", reading_order("list.txt", "a.nam", "a.dis", "a.bas", "a.lpf"),
             [text("MODEL a.nam") + b"".join(QUICK_PUTS), LAST]),
     Command("run a.nam --to b.nam --zones z.txt --quick", TWO_DECKS | {"z.txt": ZONES["z.txt"]}, TWO_DECKS_QUICK_PUTS),
+    Command("run a.nam", CUT_FLOORS, OUT_OF_RANGE_PUTS, status=3),
+    Command("run a.nam --wide", CUT_FLOORS, CUT_PUTS),
+    Command("check a.nam l.txt --wide", CUT_FLOORS | {"l.txt": b"".join(CUT_PUTS)}, [text("CERTIFIED")]),
+    Command("batch list.txt --wide", CUT_FLOORS | {"list.txt": text("a.nam")}, [text("MODEL a.nam") + b"".join(CUT_PUTS), LAST]),
+    Command("run a.nam --to b.nam --zones z.txt --wide", TWO_DECKS | {"z.txt": ZONES["z.txt"]}, TWO_DECKS_ZONES_PUTS),
+    Command("write a.nam --wide", THREE_CELLS, [THREE_CELLS_WRITTEN]),
 ]
 
 
