@@ -1,7 +1,7 @@
 #!/usr/bin/env python3
 """A third party's check of a listing of `heads`, in exact fractions.
 
-    python3 recheck.py NAME LISTING [ZONES] [--to NAME2]      (in the deck's folder)
+    python3 recheck.py NAME LISTING [ZONES] [--wide] [--to NAME2]      (in the deck's folder)
 
 Status 0: HOLDS. 1: a place can't be confirmed. 2: a deck or the listing can't be read. 3: the words aren't these.
 It reads the deck by itself and makes the manual's equations without rounding. HOLDS says: each history of heads that
@@ -24,7 +24,7 @@ each of those inflows is at most q, and a link or a known head of conductance C 
 B. Hence a cell lies at or above B less q / C summed over a path to a known head: its floor. In a group without one
 whose deep flows sum to more than 0 not all cells lie below B, since their balances sum to 0: there the path is one to
 the farthest cell. Ceiling: likewise from above; rivers and drains hold too, B is the greatest known head, stage and
-drain elevation, and q the sum of what cells get from wells and recharge.
+drain elevation, and q the sum of what cells get from wells and recharge. With --wide, one past 4 10^9 passes no cell.
 
 Why that is enough. Take a solution x, and let l - x be greatest, e > 0, at some cells. There l > x >= floor, so the
 balance at l is 0 or more. It is at most that at x, which is 0: each neighbour's l - x is at most e, the lower old head
@@ -127,9 +127,9 @@ def read_array(text: Text, rows: int, cols: int) -> Values:
 
 
 class Model:
-    """A deck. Cells are numbered from 0 along rows, then by row, then by layer."""
-    def __init__(self, name: str):
-        lines = [WORD.findall(line) for line in lines_of(name) if not line.startswith("#")]
+    """A deck. Cells are numbered from 0 along rows, then by row, then by layer. No floor below `least` passes one."""
+    def __init__(self, name: str, least: float = float("-inf")):
+        self.least, lines = least, [WORD.findall(line) for line in lines_of(name) if not line.startswith("#")]
         files = {line[0].upper(): line[2] for line in lines if len(line) > 2}
         self.read_grid(text_of(files["DIS"]))
         basic = text_of(files["BAS6"])
@@ -373,7 +373,7 @@ class Step:
                 lengths = self.shortest({group[0]: ZERO})
                 far |= {cell: lengths[cell] + max(lengths.values()) for cell in group}
         base = sign * min((sign * level for level in levels), default=ZERO)
-        return {cell: base - sign * q * length for cell, length in far.items()}
+        return {cell: at for cell, way in far.items() if sign * (at := base - sign * q * way) >= self.model.least}
 
     def shortest(self, starts: dict[int, Fraction]) -> dict[int, Fraction]:
         """The least sum of 1 / C along links from the starts to each cell of their groups (Dijkstra)."""
@@ -473,19 +473,19 @@ def check_listing(model: Model, listing: Listing, zones: list[int], other: Model
 
 
 def main(arguments: list[str]) -> int:
-    second = arguments[-1] if arguments[-2:-1] == ["--to"] else None
-    arguments = arguments if second is None else arguments[:-2]
-    if len(arguments) not in (2, 3) or "--to" in arguments:
-        print("usage: python3 recheck.py NAME LISTING [ZONES] [--to NAME2]   (in the deck's folder)", file=sys.stderr)
+    least, words = -4e9 if "--wide" in arguments else float("-inf"), [word for word in arguments if word != "--wide"]
+    words, second = (words[:-2], words[-1]) if words[-2:-1] == ["--to"] else (words, None)
+    if len(words) not in (2, 3) or "--to" in words:
+        print("usage: recheck.py NAME LISTING [ZONES] [--wide] [--to NAME2]   (in the deck's folder)", file=sys.stderr)
         return USAGE
     try:
-        model = Model(arguments[0])
-        other = model if second is None else Model(second)
+        model = Model(words[0], least)
+        other = model if second is None else Model(second, least)
         demand_alike(model, other)
         zones = [0] * len(model.ibound)
-        if len(arguments) == 3:
-            zones = [int(value) for value in model.maps(text_of(arguments[2], has_comments=False), model.nlay)]
-        check_listing(model, Listing(arguments[1], model, second is not None), zones, other)
+        if words[2:]:
+            zones = [int(value) for value in model.maps(text_of(words[2], has_comments=False), model.nlay)]
+        check_listing(model, Listing(words[1], model, second is not None), zones, other)
     except Fault as fault:
         print(f"NOT CONFIRMED: {fault}")
         return NOT_CONFIRMED

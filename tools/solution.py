@@ -9,7 +9,7 @@ With a second deck it makes COUNT histories (10 where it is left out): at each t
 anew, each number of its stresses and STRT by itself, and solves it from the heads of the step before.
 A river, a drain and an evapotranspiration is linear in each of its ranges; the ranges are those of the listed heads'
 middle first, then those of the last solution, until they are its own. So what is found is a solution, whatever was
-guessed: its balances are tested to be 0.
+guessed: its balances are tested to be 0. No floors are used: listings of runs with --wide are taken as they are.
 
 Fractions grow with cells and steps. A model of more than MOST variable cells (200 where it is left out) is not tried.
 Status 0: FOUND. 1: OUTSIDE. 2: not tried, not found, or the files can't be read. 3: the words aren't these.

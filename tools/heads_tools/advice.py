@@ -2,7 +2,7 @@
 
 REFUSALS = {
     1: "There is no file {file}.",
-    2: "{file} has more than 67,108,864 bytes.",
+    2: "{file} has more than 67,108,864 bytes, or with --wide more than 1,073,741,824.",
     3: "A file name has 1 to 255 printable characters without blanks.",
     4: "A line of the name file is `TYPE UNIT FILE`; this one lacks a word, or its unit is no whole number.",
     5: "This package stands in the name file twice. MODFLOW reads one of each.",
@@ -17,7 +17,9 @@ REFUSALS = {
     14: "The cell's top isn't above its bottom, or the bed's.",
     15: "A value is out of range.",
     16: "Layer, row or column lies outside the grid.",
-    17: "The list has more entries than are read (65,536 of a period, 1,000 names of a batch).",
+    17: (
+        "The list has more entries than are read (65,536 of a period, 4,194,304 with --wide; 1,000 names of a batch)."
+    ),
     18: "A negative count means `as in the last period`, and there is none before.",
     19: "A head is past 4,000,000,000: a marker such as 1E+30 in an active cell?",
     20: "The listing isn't of the form due at this line for this model and these digits.",
@@ -40,15 +42,17 @@ NO_BOUNDS = {
     ),
     26: (
         "The floor under the heads lies below -4,000,000,000: a very small conductance stands on the way to the next"
-        " known head, and the floor sums what all cells lack."
+        " known head, and the floor sums what all cells lack. With --wide the settled lower heads fail the test of a"
+        " certificate at such a cell."
     ),
     27: (
         "The ceiling over the heads lies above 4,000,000,000: a very small conductance stands on the way to the next"
-        " known head, and the ceiling sums what all cells have too much."
+        " known head, and the ceiling sums what all cells have too much. With --wide the settled upper heads fail the"
+        " test of a certificate at such a cell."
     ),
 }
 REMEDIES = {
-    2: "Split the file: arrays may stand in files of their own (OPEN/CLOSE).",
+    2: "Run with --wide, or split the file: arrays may stand in files of their own (OPEN/CLOSE).",
     4: "Write the line so, or begin it with # to make it a comment.",
     5: "Take one of the two lines out, or make one file of both.",
     7: "Look at the name file: each package has a line `TYPE UNIT FILE`.",
@@ -64,7 +68,10 @@ REMEDIES = {
         " a CHD cell stands in a list once. A cell of HK 0 is inactive in MODFLOW: write IBOUND 0 there. A zone number"
         " lies from 0 to 999."
     ),
-    17: "Split the model, or merge entries of one cell (flows add; conductances to one level add).",
+    17: (
+        "Run with --wide, which reads 4,194,304 entries; or merge entries of one cell (flows add; conductances to one"
+        " level add)."
+    ),
     18: "Write the list or the array of the first period out.",
     20: (
         "A listing is checked with the --digits that it was made with (12 where they are left out), and one with lines"
@@ -77,11 +84,13 @@ REMEDIES = {
     ),
     25: "Join the cells to something that takes water, or make them inactive (IBOUND 0).",
     26: (
-        "The model may well have heads. Leave the lens of small conductivity out (IBOUND 0), or give its cells a"
+        "The model may well have heads. Run with --wide, which cuts such a floor (`heads-tools run` does it by"
+        " itself). If that ends so, too: leave the lens of small conductivity out (IBOUND 0), or give its cells a"
         " conductivity nearer to that beside it."
     ),
     27: (
-        "The model may well have heads. Leave the lens of small conductivity out (IBOUND 0), or give its cells a"
+        "The model may well have heads. Run with --wide, which cuts such a ceiling (`heads-tools run` does it by"
+        " itself). If that ends so, too: leave the lens of small conductivity out (IBOUND 0), or give its cells a"
         " conductivity nearer to that beside it."
     ),
 }

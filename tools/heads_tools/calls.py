@@ -69,7 +69,7 @@ def call(command: str, *words: Any, path: Path | None = None, **options: Any) ->
 
 def run(nam: str | Path, out: str | Path | None = None, **options: Any) -> Answer:
     """Runs the model; `.listing` is its listing. Options are those of `heads run`: digits, workers, rounds, zones,
-    watch, quick."""
+    watch, quick, wide."""
     return call("run", nam, out=out, path=Path(out or Path(nam).with_suffix(".heads")), **options)
 
 

@@ -21,6 +21,7 @@ import scipy.sparse
 from .compare import compare, sentences
 from .equations import TERMS, Given, Network, Step, given_heads
 from .headfile import ANY_STEP, Heads, read_heads
+from .limits import limits_of, wide_words
 from .listing import Listing, read_listing
 from .listing import Step as Listed
 from .model import Model, read_model
@@ -45,10 +46,16 @@ class Certified:
 
 
 def certify(
-    nam: Path, heads: Path, digits: int, out: Path, theta: float | None = None, zones: Path | None = None
+    nam: Path,
+    heads: Path,
+    digits: int,
+    out: Path,
+    theta: float | None = None,
+    zones: Path | None = None,
+    has_wide: bool = False,
 ) -> Certified:
     """Writes the listing, with the flows between zones of a zone file, and checks it, with wider margins where the
-    check refuses."""
+    check refuses. `has_wide`: the check is one with --wide."""
     model = read_model(nam, any_size=True)
     given = read_heads(heads, model.shape)
     parted = Zones.of(model, digits, zones, nam) if zones else None
@@ -56,7 +63,7 @@ def certify(
     for margin in (theta,) if theta else THETAS:
         listing = Bounds(model, digits, margin, parted).listing(given, tried)
         write_listing(listing, model)
-        checked = check(nam, tried, model, digits, zones)
+        checked = check(nam, tried, model, digits, zones, has_wide)
         if checked.status != 8:
             break
         print(f"margins of {margin} roundings don't hold: {checked.first}", file=sys.stderr)
@@ -73,7 +80,7 @@ def certify(
         ran = read_listing(beside)
         if ran.is_whole:
             lines.append(f"beside `heads run` ({beside.name}): its widest pair is {decimal_text(ran.widest()[0], 9)}")
-    elif not is_large(model.shape):
+    elif not is_large(model.shape, limits_of(has_wide)):
         lines.append(f"`heads-tools run {nam.name}` gives the run's own pairs to compare with")
     return Certified(
         0, lines + [f"{heads.name}: {s}" for s in sentences(listing, compare(listing, given), model.length)]
@@ -90,18 +97,21 @@ class Check:
     seconds: float
 
 
-def check(nam: Path, tried: Path, model: Model, digits: int, zones: Path | None = None) -> Check:
+def check(
+    nam: Path, tried: Path, model: Model, digits: int, zones: Path | None = None, has_wide: bool = False
+) -> Check:
     """The program's check of a listing; of a model that is larger than the program takes, that of its parts."""
     from .explain import explain
     from .parts import check_model
 
-    if is_large(model.shape):
+    if is_large(model.shape, limits_of(has_wide)):
         began = time.monotonic()
         parts = check_model(model, tried, 1, zones=zones)
         first = parts.lines[min(1, len(parts.lines) - 1)].strip() if parts.status else "CERTIFIED BY PARTS:"
         return Check(parts.status, first, parts.lines, time.monotonic() - began)
     with tempfile.TemporaryDirectory(prefix="heads_") as folder:
         words = ["--zones", str(readable(zones, Path(folder) / "zones"))] if zones else []
+        words += wide_words(has_wide)
         ended = call(["check", nam.name, str(tried), "--digits", str(digits), *words], nam.parent)
     meaning = explain(ended.last, nam.parent, digits)
     return Check(ended.status, "CERTIFIED:" if meaning.is_good else ended.last, meaning.lines, ended.seconds)

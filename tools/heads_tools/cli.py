@@ -91,6 +91,22 @@ def add_quick(sub: argparse.ArgumentParser) -> None:
     )
 
 
+def add_wide(sub: argparse.ArgumentParser, about: str = "") -> None:
+    sub.add_argument(
+        "--wide",
+        action="store_true",
+        help=about
+        or "the check has the wide limits and cuts floors; given by itself where NAME.heads.run says that the run had "
+        "the word",
+    )
+
+
+WIDE_RUN = (
+    "up to 4,194,304 cells, 4,096 rows or columns, 1,024 layers, files of 1 GiB; floors and ceilings that are out of "
+    "range are cut"
+)
+
+
 def cell(text: str) -> tuple[int, int, int]:
     parts = text.replace(" ", ",").split(",")
     if len(parts) != 3 or not all(p.isdigit() for p in parts):
@@ -121,6 +137,7 @@ def parser() -> argparse.ArgumentParser:
     s.add_argument("--out", type=Path, help="the listing's file, NAME.heads beside the name file where left out")
     add_to(s, "a second deck: bounds for every deck between the two, into NAME-TO.heads")
     add_quick(s)
+    add_wide(s, WIDE_RUN + "; taken by itself where an end without it asks for it")
     s = add("explain", "what the last line of an output means, and what to change", ("output", "an output of heads"))
     s.add_argument("folder", nargs="?", type=Path, help="the model's folder, the output's own where left out")
     s.add_argument("--digits", type=int, help="the digits of the run, where they aren't in the output")
@@ -191,6 +208,7 @@ def parser() -> argparse.ArgumentParser:
         metavar="M.ZON",
         help="the zone file of the run: a map of the zones with their net flows, which heads check then checks, too",
     )
+    add_wide(s)
     s.add_argument("--every", action="store_true", help="maps of every step, and not of the last alone")
     s.add_argument("--svg", action="store_true", help="each picture as SVG, too")
     s = add(
@@ -211,6 +229,7 @@ def parser() -> argparse.ArgumentParser:
     )
     add_to(s, "the second deck, where the listing is that of two decks")
     add_zones(s)
+    add_wide(s)
     s = add(
         "drawdown",
         "what a plan does: the differences of two listings with bounds, as tables, map, curves and sentences",
@@ -226,6 +245,7 @@ def parser() -> argparse.ArgumentParser:
     )
     s.add_argument("--base-name", type=Path, metavar="BASE.NAM", help="the base's model: its listing is checked")
     add_zones(s)
+    add_wide(s, "the checks have the wide limits and cut floors")
     s.add_argument(
         "--cell", type=cell, action="append", default=[], metavar="K,I,J", help="a curve of this cell; may stand again"
     )
@@ -256,9 +276,11 @@ def parser() -> argparse.ArgumentParser:
         "--theta", type=float, help="the margin, in roundings of a head; 0.5 and more are tried where left out"
     )
     s.add_argument("--zones", type=Path, metavar="M.ZON", help="a zone file: the flows between its zones, too")
+    add_wide(s, "one check with the wide limits and cut floors, and not one by parts, of up to 4,194,304 cells")
     s = add("check", "certify a listing by heads check, or piece by piece", nam, ("listing", "the listing"))
     add_to(s, "the second deck, where the listing is that of two decks")
     add_zones(s)
+    add_wide(s)
     s.add_argument(
         "--parts",
         type=int,
@@ -299,6 +321,7 @@ def parser() -> argparse.ArgumentParser:
     add_place(s, True)
     s.description = OBSERVE
     add_zones(s)
+    add_wide(s)
     s.add_argument("--between", action="store_true", help="points of a table lie between the middles of cells, too")
     s.add_argument("--out", type=Path, help="the table's file, standard output where left out")
     s = commands.add_parser(
@@ -314,6 +337,7 @@ def parser() -> argparse.ArgumentParser:
     )
     add_to(s, "a second deck: what may be said of every deck between the two")
     add_quick(s)
+    add_wide(s, WIDE_RUN)
     s = add(
         "batch",
         "run many models and collect their ends; further options go to heads",
@@ -324,6 +348,7 @@ def parser() -> argparse.ArgumentParser:
     where.add_argument("--parallel", action="store_true", help="by GNU parallel")
     s.add_argument("--jobs", type=int, default=0, help="models at a time (the processors)")
     add_quick(s)
+    add_wide(s, WIDE_RUN)
     s.add_argument(
         "--write-only", action="store_true", help="with --slurm or --parallel: write the files, and run nothing"
     )

@@ -11,6 +11,7 @@ from .text import Problem, counted
 if TYPE_CHECKING:
     from .listing import Listing
     from .model import Model
+    from .program import Ended
     from .verdict import Verdict
 
 MOST_DIGITS = 18
@@ -39,44 +40,52 @@ def size_of(nam: Path) -> tuple[int | None, int]:
     return sum(p.nstp for p in reader.deck.periods) or None, reader.deck.cells
 
 
-def quick_of(args: argparse.Namespace) -> list[str]:
-    """The word of a quick run, where it is asked for."""
+def flags_of(args: argparse.Namespace) -> list[str]:
+    """The words without a value that are asked for."""
+    from .limits import wide_words
     from .made_by import QUICK
 
-    return [QUICK] if args.quick else []
+    return ([QUICK] if args.quick else []) + wide_words(args.wide)
 
 
 def do_run(args: argparse.Namespace, options: list[str]) -> int:
     from .explain import explain
     from .follow import MOST_WATCHED
     from .inside import careful
+    from .limits import is_wide
     from .made_by import made_by
-    from .program import digits_of, run, summary
+    from .program import digits_of, run, summary, with_wide
     from .spans import second_deck, target_of
 
     nam = existing(args.nam)
     to = second_deck(nam, args.to)
-    options = [*options, *to, *quick_of(args)]
+    options = [*options, *to, *flags_of(args)]
     for warning in dict.fromkeys(w for deck in (nam, *(nam.with_name(name) for name in to[1:])) for w in careful(deck)):
         print(f"CAREFUL: {warning}", file=sys.stderr)
     out = (args.out or target_of(nam, to)).resolve()
     digits, tried, (steps, cells) = digits_of(options), [], size_of(nam)
     is_followed = steps is not None and cells * steps <= MOST_WATCHED
     ended = run(nam, options, out, steps, is_followed=is_followed)
-    while ended.status == 3 and ended.last.split()[1:2] in (["22"], ["21"]) and "--digits" not in " ".join(options):
-        tried.append(digits)
-        fewer = ended.last.split()[1] == "22"
-        digits += -3 if fewer else 3
-        if not 0 <= digits <= MOST_DIGITS or digits in tried:
+    while True:
+        if more := with_wide(ended, options, nam.parent):
+            options = more
+        elif is_of_digits(ended, options):
+            tried.append(digits)
+            fewer = ended.last.split()[1] == "22"
+            digits += -3 if fewer else 3
+            if not 0 <= digits <= MOST_DIGITS or digits in tried:
+                break
+            print(f"{ended.last}: {'too few' if not fewer else 'too many'} digits; once more with --digits {digits}")
+        else:
             break
-        print(f"{ended.last}: {'too few' if not fewer else 'too many'} digits; once more with --digits {digits}")
-        ended = run(nam, [*options, "--digits", str(digits)], out, steps, is_followed=is_followed)
+        given = ["--digits", str(digits)] if tried else []
+        ended = run(nam, [*options, *given], out, steps, is_followed=is_followed)
     meaning = explain(ended.last, nam.parent, digits, ended.steps > 0)
     if meaning.is_good:
         say(
             [
                 *meaning.lines,
-                *([made_by(out)] if args.quick else []),
+                *([made_by(out)] if args.quick or is_wide(options) else []),
                 summary(out),
                 f"listing {out} ({ended.seconds:.1f} s" + (f", --digits {digits})" if tried else ")"),
             ]
@@ -91,6 +100,11 @@ def do_run(args: argparse.Namespace, options: list[str]) -> int:
             )
         )
     return ended.status
+
+
+def is_of_digits(ended: Ended, options: list[str]) -> bool:
+    """Whether other digits can help a run that was given none."""
+    return ended.status == 3 and ended.last.split()[1:2] in (["22"], ["21"]) and "--digits" not in " ".join(options)
 
 
 def do_explain(args: argparse.Namespace, _: list[str]) -> int:
@@ -172,7 +186,8 @@ def verdict_of(args: argparse.Namespace, listing: Listing) -> Verdict:
             raise Problem("--to needs the first deck, too: --name M.NAM")
         return not_checked(listing)
     nam = existing(args.name)
-    return check_listing(nam, listing, existing(args.zones) if args.zones else None, second_deck(nam, to))
+    zones = existing(args.zones) if args.zones else None
+    return check_listing(nam, listing, zones, second_deck(nam, to), args.wide)
 
 
 def do_compare(args: argparse.Namespace, _: list[str]) -> int:
@@ -208,7 +223,7 @@ def do_drawdown(args: argparse.Namespace, _: list[str]) -> int:
         raise Problem("--zones needs a model, too: --name PLAN.NAM, --base-name BASE.NAM")
     plan, base = (read_listing(existing(path)) for path in (args.plan, args.base))
     name, base_name, zones = (existing(path) if path else None for path in (args.name, args.base_name, args.zones))
-    said, status = drawdown(plan, base, args.folder, name, base_name, args.cell, zones)
+    said, status = drawdown(plan, base, args.folder, name, base_name, args.cell, zones, args.wide)
     say(said + [f"open {args.folder / 'index.html'}"])
     return status
 
@@ -228,7 +243,7 @@ def do_certify(args: argparse.Namespace, _: list[str]) -> int:
     nam = existing(args.nam)
     out = (args.out or nam.with_suffix(".certified.heads")).resolve()
     zones = existing(args.zones) if args.zones else None
-    ended = certify(nam, existing(args.heads), args.digits, out, args.theta, zones)
+    ended = certify(nam, existing(args.heads), args.digits, out, args.theta, zones, args.wide)
     say(ended.lines)
     return ended.status
 
@@ -242,7 +257,8 @@ def do_check(args: argparse.Namespace, _: list[str]) -> int:
     if args.parts is None:
         from .verdict import check_listing
 
-        verdict = check_listing(nam, read_listing(path), existing(args.zones) if args.zones else None, to)
+        zones = existing(args.zones) if args.zones else None
+        verdict = check_listing(nam, read_listing(path), zones, to, args.wide)
         say([verdict.sentence])
         return verdict.status or 0
     from .parts import Way, check_parts
@@ -254,7 +270,7 @@ def do_check(args: argparse.Namespace, _: list[str]) -> int:
     engine = "slurm" if args.slurm else "parallel" if args.parallel else "here"
     if engine == "here" and (args.write_only or args.collect or args.folder):
         raise Problem("--folder, --write-only and --collect go with --parallel or --slurm")
-    way = Way(engine, args.jobs, args.folder, args.write_only, args.collect)
+    way = Way(engine, args.jobs, args.folder, args.write_only, args.collect, args.wide)
     checked = check_parts(nam, path, args.parts, way, existing(args.zones) if args.zones else None)
     say(checked.lines)
     return checked.status
@@ -339,14 +355,14 @@ def do_exhibit(args: argparse.Namespace, options: list[str]) -> int:
     from .spans import second_deck
 
     nam = existing(args.nam)
-    return exhibit(nam, args.folder, [*options, *second_deck(nam, args.to), *quick_of(args)])
+    return exhibit(nam, args.folder, [*options, *second_deck(nam, args.to), *flags_of(args)])
 
 
 def do_batch(args: argparse.Namespace, options: list[str]) -> int:
     from .batch import batch
 
     way = "slurm" if args.slurm else "parallel" if args.parallel else "here"
-    return batch(existing(args.list), [*options, *quick_of(args)], way, args.jobs, args.write_only)
+    return batch(existing(args.list), [*options, *flags_of(args)], way, args.jobs, args.write_only)
 
 
 def do_version(args: argparse.Namespace, _: list[str]) -> int:

@@ -199,11 +199,13 @@ def write_changes(it: Drawdown, folder: Path) -> None:
                     )
 
 
-def verdict_of(listing: Listing, nam: Path | None, zones: Path | None = None) -> tuple[str, int]:
+def verdict_of(
+    listing: Listing, nam: Path | None, zones: Path | None = None, has_wide: bool = False
+) -> tuple[str, int]:
     """A sentence on a listing, and the status of its check (0 where it wasn't checked)."""
     from .verdict import UNCHECKED_ZONES, check_listing, not_checked
 
-    seen = check_listing(nam, listing, zones) if nam else not_checked(listing)
+    seen = check_listing(nam, listing, zones, has_wide=has_wide) if nam else not_checked(listing)
     if seen.is_certified:
         rest = f" {UNCHECKED_ZONES}" if seen.has_zones and not seen.is_zoned else ""
         return f"{seen.name}: heads check says CERTIFIED.{rest}", 0
@@ -219,10 +221,11 @@ def drawdown(
     base_nam: Path | None = None,
     cells: list[Cell] | None = None,
     zones: Path | None = None,
+    has_wide: bool = False,
 ) -> tuple[list[str], int]:
     """Tables, a map, curves and a page of what a plan does; what there is to say, and the first status of a check that
     isn't 0. `nam`, `base_nam`: the models, for the checks, true widths, times and units; `zones`: the zone file of both
-    runs, for the checks."""
+    runs, `has_wide`: the word --wide, for the checks."""
     from .drawdown_page import draw
     from .model import read_model
     from .text import LENGTHS
@@ -233,7 +236,9 @@ def drawdown(
     model = read_model(nam) if nam else None
     if base_nam and model and read_model(base_nam).times != model.times:
         raise Problem(f"{base_nam} has other times at the ends of its steps than {nam}")
-    told_plan, told_base = verdict_of(plan, nam, zones), verdict_of(base, base_nam, zones)
+    told_plan, told_base = (
+        verdict_of(listing, name, zones, has_wide) for listing, name in ((plan, nam), (base, base_nam))
+    )
     it = Drawdown(
         plan,
         base,

@@ -16,6 +16,7 @@ from string import Template
 from . import __version__
 from .deck import KINDS
 from .explain import explain
+from .limits import is_wide, limits_of, wide_words
 from .listing import read_listing
 from .look import look, title_of
 from .model import Model, read_model
@@ -140,13 +141,13 @@ def add_verdicts(told: Exhibit, folder: Path, name: str, listing: str, options: 
     read, model = read_listing(folder / listing), read_model(folder / "deck" / name)
     named = zone_file(options)
     zones = [word for file in named for word in ("--zones", file)]
-    to = to_options(options)
-    words = shlex.join([name, "../" + listing, "--digits", str(read.digits), *zones, *to])
+    to, wide = to_options(options), wide_words(is_wide(options))
+    words = shlex.join([name, "../" + listing, "--digits", str(read.digits), *zones, *to, *wide])
     told.commands.append(f"(cd deck && ../heads check {words})")
     checked = shell(folder, told.commands[-1])
     told.facts.append(("check", f"{checked.last} (status {checked.status})"))
     count = sum(len(step.low) for step in read.steps)
-    add_recheck(told, folder, shlex.join([name, "../" + listing, *named, *to]), count)
+    add_recheck(told, folder, shlex.join([name, "../" + listing, *named, *wide, *to]), count)
     verdict = Verdict(checked.status, checked.last, listing, has_zones(read), bool(named), read.is_span)
     told.verdict = verdict.sentence
     told.words = words_of(read, model.length, differing(folder / "deck", name, to), wells_of(model))
@@ -169,9 +170,10 @@ def add_written(told: Exhibit, folder: Path, name: str, listing: str, options: l
     if to_options(options):
         told.facts.append(("written", "not done: the two decks would have the same file names"))
         return
-    write = f"(cd deck && ../heads write {shlex.quote(name)})"
+    has_wide = is_wide(options)
+    write = f"(cd deck && ../heads write {shlex.join([name, *wide_words(has_wide)])})"
     shell(folder, f"{write} > written.txt")
-    files = files_of((folder / "written.txt").read_bytes())
+    files = files_of((folder / "written.txt").read_bytes(), limits_of(has_wide).bytes)
     if not files:
         (folder / "written.txt").unlink()
         told.facts.append(("written", "not done: this program doesn't write the deck so that it can be read again"))

@@ -21,7 +21,8 @@ STATUSES = {
         (
             "Commands: run NAME, check NAME LISTING, make SEED SIZE, batch LIST; --digits 0 to 18, --workers 1 to 64,"
             " --rounds 1 to 4000000000, --zones FILE, --watch 1 to 1000, --to NAME, --quick (run and batch, without"
-            " --watch). A program older than --zones, --watch, --to, --quick or batch answers them so too."
+            " --watch), --wide (run, check, batch, write). A program older than --zones, --watch, --to, --quick, --wide"
+            " or batch answers them so too."
         ),
     ),
     "UNFINISHED": (
@@ -449,8 +450,9 @@ def out_of_range(spot: Spot, folder: Path) -> str:
 def grid(spot: Spot, folder: Path) -> str:
     if spot.kind == "DIS" and spot.item == 1:
         return (
-            "NLAY from 1 to 64, NROW and NCOL from 1 to 1,024, at most 65,536 cells, NPER from 1 to 1,000. "
-            "A part of the model can be cut out with CHD or GHB on its edge; it is another model then."
+            "NLAY from 1 to 64, NROW and NCOL from 1 to 1,024, at most 65,536 cells, NPER from 1 to 1,000; with --wide "
+            "NLAY up to 1,024, NROW and NCOL up to 4,096, at most 4,194,304 cells (`heads-tools run` takes the word by "
+            "itself). A part of the model can be cut out with CHD or GHB on its edge; it is another model then."
         )
     return (
         "PERLEN above 0 where transient; at most 100,000 steps in all; "

@@ -47,7 +47,7 @@ def inside(nam: Path, most: int = 12) -> Verdict:
         look_at_cells(model, report)
         look_at_entries(model, report)
     told = (
-        confirmed(nam, model, bool(report.needed))
+        confirmed(nam, model, bool(report.needed), bool(report.wide))
         if model and not report.refusals and not report.blocking
         else Told([], True)
     )
@@ -68,6 +68,8 @@ def inside(nam: Path, most: int = 12) -> Verdict:
     if warnings:
         out.append("CAREFUL:")
         out += listed(warnings, most)
+    if is_inside and report.wide:
+        out += ["give --wide (`heads-tools run` does it by itself):", *listed(report.wide, most)]
     return Verdict(out + (digits_lines(model) + told.lines if model and is_inside else []), is_inside)
 
 
@@ -206,16 +208,17 @@ def digits_lines(model: Model) -> list[str]:
     ]
 
 
-def confirmed(nam: Path, model: Model, is_rewritten: bool) -> Told:
+def confirmed(nam: Path, model: Model, is_rewritten: bool, has_wide: bool) -> Told:
     """What the program itself says to the deck, or to the plain one."""
     try:
         with tempfile.TemporaryDirectory() as folder:
             if is_rewritten:
                 write_deck(model.deck, Path(folder))
                 nam = Path(folder) / nam.name
-            last = read_alone(nam.resolve())
+            last = read_alone(nam.resolve(), has_wide)
             if last is None:
-                return Told(["the program reads it" + (" so rewritten" if is_rewritten else "")], True)
+                how = (" so rewritten" if is_rewritten else "") + (" with --wide" if has_wide else "")
+                return Told([f"the program reads it{how}"], True)
             return Told(["  " + line for line in explain(last, nam.parent).lines], False)
     except Problem as error:
         return Told([f"not confirmed by the program: {error}"], True)

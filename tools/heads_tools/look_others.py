@@ -72,10 +72,8 @@ class Others(Looking):
             ]
 
     def draw_minus(self, base: str, middle: np.ndarray, layer: int, widest: str, when: str) -> None:
-        title = f"Layer {layer}, {when}: heads less those of {base}"
-        maps.one_map(
-            self.album, f"minus_layer{layer}", self.plan, middle, layer, title, f"difference, {self.unit}", maps.CHANGE_MAP
-        )
+        title, scale = f"Layer {layer}, {when}: heads less those of {base}", f"difference, {self.unit}"
+        maps.one_map(self.album, f"minus_layer{layer}", self.plan, middle, layer, title, scale, maps.CHANGE_MAP)
         self.page.picture(
             MINUS,
             f"minus_layer{layer}.png",

@@ -98,7 +98,8 @@ class Looking:
 
     def tell_facts(self) -> None:
         listing = self.listing
-        facts = [("Listing", f"{listing.path.name}, --digits {listing.digits}: {listing.summary()} in\u00a0{self.unit}")]
+        name = f"{listing.path.name}, --digits {listing.digits}"
+        facts = [("Listing", f"{name}: {listing.summary()} in\u00a0{self.unit}")]
         if self.made_by:
             facts.append(("Pairs", self.made_by))
         if self.model:

@@ -5,13 +5,14 @@ from __future__ import annotations
 import shlex
 from pathlib import Path
 
+from .limits import is_wide
 from .text import Problem, read_text, sha256, whole_file
 
 QUICK = "--quick"
 SETTLED_PAIRS = "settled pairs: a run of the same files with the same digits gives the same bytes anywhere"
 QUICK_PAIRS = (
-    "pairs of a quick run, each tested at its cell and not settled: right all the same, mostly 1.3 to 1.6 times as wide "
-    "as settled ones; the same bytes are not promised"
+    "pairs of a quick run, each tested at its cell and not settled: right all the same, mostly 1.3 to 1.6 times as "
+    "wide as settled ones; the same bytes are not promised"
 )
 
 
@@ -46,6 +47,11 @@ def kept_words(listing: Path) -> list[str]:
         return shlex.split(line) if summed.split(" ")[0] == sha256(listing) else []
     except (Problem, ValueError):
         return []
+
+
+def is_made_wide(listing: Path) -> bool:
+    """Whether these bytes are known to be of a run with --wide."""
+    return is_wide(kept_words(listing))
 
 
 def made_by(listing: Path) -> str:

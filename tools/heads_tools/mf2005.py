@@ -16,7 +16,7 @@ from .headfile import write_heads
 from .listing import TERMS, Listing, Step, read_listing
 from .model import Model, read_model
 from .plain import plain
-from .program import DEFAULT_DIGITS, Ended, run
+from .program import DEFAULT_DIGITS, Ended, run, with_wide
 from .spelling import quoted_words
 from .text import Problem, on_disk, read_text, whole_file
 
@@ -99,6 +99,8 @@ def simulate(nam: Path, options: list[str]) -> tuple[Ended, Path, Model]:
     model."""
     target = nam.with_suffix(".heads")
     ended = run(nam, options, target, is_told=False)
+    if more := with_wide(ended, options, nam.parent):
+        ended = run(nam, options := more, target, is_told=False)
     if ended.status != 2:
         return ended, target, read_model(nam) if ended.status == 0 else None
     with tempfile.TemporaryDirectory() as folder:

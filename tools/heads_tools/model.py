@@ -65,8 +65,8 @@ class Model:
 
 
 def read_model(nam: str | Path, any_size: bool = False) -> Model:
-    """The model of a deck. A deck with a refusal has none; more cells than the program takes are one, unless
-    `any_size`."""
+    """The model of a deck. A deck with a refusal has none; more cells than the program takes with --wide are one,
+    unless `any_size`."""
     deck, report = read_deck(Path(nam), any_size=any_size)
     if report.refusals:
         raise Problem(f"{report.refusals[0]} (`heads-tools inside` says all)")

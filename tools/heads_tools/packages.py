@@ -8,6 +8,7 @@ from pathlib import Path, PureWindowsPath
 from .advice import OTHER_PACKAGES, UNKNOWN_PACKAGE
 from .deck import COLUMNS, KINDS, ONLY_PRINTS, PASSED, SCALED, Areal, Deck, Entry, Period
 from .explain import missing
+from .limits import PLAIN, WIDE
 from .sources import Array, Report, Source, binary_words, find_file, read_binary
 from .spelling import fortran, number, product, quoted_words, record_words
 from .text import Problem, words
@@ -21,8 +22,8 @@ def read_deck(
 ) -> tuple[Deck, Report]:
     """Reads all files of a name file. What can't be read stands under the report's refusals. A blank line where
     counts or flags are due is passed over, as `heads` does, or read `as_modflow`, which takes it as zeros.
-    `any_size`: more cells than the program takes are no refusal. `others`: files of packages that are read in place of
-    the deck's own."""
+    `any_size`: more cells than the program takes with --wide are no refusal. `others`: files of packages that are read
+    in place of the deck's own."""
     reader = Reader(Path(nam), as_modflow, any_size)
     reader.read_names()
     reader.deck.files.update(others or {})
@@ -93,6 +94,11 @@ class Reader:
 
     def need(self, text: str) -> None:
         self.report.add("needed", self.at.name, self.at.at, text)
+
+    def want_wide(self, faults: list[str]) -> None:
+        """Notes what is within the wide limits alone."""
+        if faults:
+            self.report.add("wide", self.at.name, self.at.at, "without --wide `heads` takes " + "; ".join(faults))
 
     def warn(self, text: str) -> None:
         self.report.add("warnings", self.at.name, self.at.at, text)
@@ -308,18 +314,10 @@ class Reader:
             raise Problem("a comment has to begin in the first column (MODFLOW wants it so, too)")
         w = quoted_words(line)
         nlay, nrow, ncol, nper, deck.itmuni, deck.lenuni = (s.integer(x, "a count") for x in w[:6])
-        over = [
-            text
-            for is_bad, text in (
-                (not 1 <= nlay <= 64, "NLAY from 1 to 64"),
-                (not (1 <= nrow <= 1024 and 1 <= ncol <= 1024), "NROW and NCOL from 1 to 1,024"),
-                (nlay * nrow * ncol > 65536, f"at most 65,536 cells in all (these are {nlay * nrow * ncol:,})"),
-                (not 1 <= nper <= 1000, "NPER from 1 to 1,000"),
-            )
-            if is_bad
-        ]
+        over = WIDE.faults_of(nlay, nrow, ncol) + ["NPER from 1 to 1,000"] * (not 1 <= nper <= 1000)
         if over and not self.any_size:
             self.refuse("`heads` takes " + "; ".join(over))
+        self.want_wide(PLAIN.faults_of(nlay, nrow, ncol))
         deck.nlay, deck.nrow, deck.ncol = nlay, nrow, ncol
         deck.laycbd = [s.integer(x, "LAYCBD") for x in s.free_values(nlay)]
         if deck.laycbd[-1]:
@@ -447,8 +445,9 @@ class Reader:
                 self.warn(
                     f"{count} {entries} where the file's maximum is {most}: MODFLOW-2005 stops, `heads` doesn't compare"
                 )
-            if count > 65536:
-                raise Problem("more than 65,536 entries")
+            if count > WIDE.entries:
+                raise Problem(f"more than {WIDE.entries:,} entries")
+            self.want_wide([f"at most {PLAIN.entries:,} entries"] * (count > PLAIN.entries))
             s.due = f"the list of period {period + 1}"
             deck.lists[kind].append(self.entries(kind, count) if count >= 0 else None)
 

@@ -21,6 +21,7 @@ import numpy as np
 
 from .batch import call_tool
 from .equations import given_heads
+from .limits import wide_words
 from .listing import Listing, Step, read_listing
 from .model import Model, model_of
 from .packages import read_deck
@@ -49,13 +50,14 @@ class Checked:
 @dataclass
 class Way:
     """How pieces are checked: `here`, `parallel` or `slurm`; how many at a time (0: as many as there are processors);
-    the folder of their decks; whether they are only written, or only collected."""
+    the folder of their decks; whether they are only written, or only collected; whether each check is with --wide."""
 
     engine: str = "here"
     jobs: int = 0
     folder: Path | None = None
     is_written_only: bool = False
     is_collected: bool = False
+    has_wide: bool = False
 
 
 def check_parts(nam: Path, path: Path, count: int, way: Way | None = None, zones: Path | None = None) -> Checked:
@@ -86,7 +88,7 @@ def check_model(model: Model, path: Path, count: int, way: Way | None = None, zo
     for slabs, at in steps_of(model, listing, failed, numbers):
         here = slabs.pieces(at, parts_of(model, count))
         if way.engine == "here":
-            pieces += check_here(slabs, here, way.jobs)
+            pieces += check_here(slabs, here, way)
             say_progress(path, at, listing)
         else:
             pieces += [(piece, "") for piece in write_pieces(slabs, here, folder, len(pieces))]
@@ -95,7 +97,7 @@ def check_model(model: Model, path: Path, count: int, way: Way | None = None, zo
     with whole_file(folder / "whole") as file:
         file.write("".join(line + "\n" for line in failed))
     write_index(folder, digest, [piece for piece, _ in pieces])
-    run_elsewhere(folder, len(pieces), listing.digits, way)
+    run_elsewhere(folder, len(pieces), options_of(listing, way), way)
     if way.is_written_only:
         return Checked(0, [f"{counted(len(pieces), 'deck')} written to {folder}; --collect reads their verdicts"])
     return ended(listing, collect(folder, digest), failed, zones is not None)
@@ -161,16 +163,22 @@ def whole_faults(step: WholeStep, listed: Step, now: tuple[np.ndarray, ...], old
     return out
 
 
-def check_here(slabs: Slabs, pieces: list[Piece], jobs: int) -> list[tuple[Piece, str]]:
+def check_here(slabs: Slabs, pieces: list[Piece], way: Way) -> list[tuple[Piece, str]]:
     """Each piece and the last line of its check."""
-    with ThreadPoolExecutor(jobs or os.cpu_count() or 1) as pool:
-        return list(zip(pieces, pool.map(lambda piece: end_of_check(slabs, piece), pieces)))
+    options = options_of(slabs.listing, way)
+    with ThreadPoolExecutor(way.jobs or os.cpu_count() or 1) as pool:
+        return list(zip(pieces, pool.map(lambda piece: end_of_check(slabs, piece, options), pieces)))
 
 
-def end_of_check(slabs: Slabs, piece: Piece) -> str:
+def options_of(listing: Listing, way: Way) -> list[str]:
+    """The options of each piece's check."""
+    return ["--digits", str(listing.digits), *wide_words(way.has_wide)]
+
+
+def end_of_check(slabs: Slabs, piece: Piece, options: list[str]) -> str:
     with tempfile.TemporaryDirectory(prefix="heads_part_") as folder:
         nam = slabs.write(piece, Path(folder))
-        return call(["check", nam.name, "m.heads", "--digits", str(slabs.listing.digits)], nam.parent).last
+        return call(["check", nam.name, "m.heads", *options], nam.parent).last
 
 
 # By GNU parallel or Slurm: folders 1, 2, .. of decks, an index of them, and in each the verdict.
@@ -219,16 +227,16 @@ def collect(folder: Path, digest: str) -> list[tuple[Piece, str]]:
 
 
 ONE = """one() {{
-    cd {folder}/"$1" && {program} check m.nam m.heads --digits {digits} >verdict.new
+    cd {folder}/"$1" && {program} check m.nam m.heads {options} >verdict.new
     mv verdict.new verdict
 }}
 """
 
 
-def run_elsewhere(folder: Path, count: int, digits: int, way: Way) -> None:
+def run_elsewhere(folder: Path, count: int, options: list[str], way: Way) -> None:
     """Writes the script that checks all pieces of a folder, and runs it unless they are only written."""
     where, program = shlex.quote(str(folder.resolve())), shlex.quote(str(direct_program()))
-    one = ONE.format(folder=where, program=program, digits=digits)
+    one = ONE.format(folder=where, program=program, options=" ".join(options))
     script = folder / ("parts.slurm" if way.engine == "slurm" else "parts.sh")
     tasks = min(count, MOST_TASKS)
     limit = (f"%{way.jobs}" if way.engine == "slurm" else f"--jobs {way.jobs} ") if way.jobs else ""

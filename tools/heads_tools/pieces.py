@@ -17,6 +17,7 @@ import numpy as np
 
 from .deck import Deck, Entry
 from .equations import TERMS
+from .limits import PLAIN, Limits
 from .listing import Listing
 from .model import Model
 from .plain import write_deck
@@ -25,7 +26,6 @@ from .text import Problem, decimal_text, whole_file
 from .whole import step_length
 from .whole_step import WholeStep
 
-MOST_CELLS, MOST_ROWS, MOST_LAYERS = 65536, 1024, 64
 MOST_DIGITS = 18
 WIDE = 8 * 10**37
 SIDES = ("low", "high")
@@ -58,20 +58,19 @@ class Piece:
         return f"period {step.period} step {step.step}, {rows}, {SIDES[self.side]} side"
 
 
-def is_large(shape: tuple[int, int, int]) -> bool:
+def is_large(shape: tuple[int, int, int], limits: Limits = PLAIN) -> bool:
     """Whether a grid has more layers, rows, columns or cells than the program takes."""
-    nlay, nrow, ncol = shape
-    return nlay > MOST_LAYERS or max(nrow, ncol) > MOST_ROWS or nlay * nrow * ncol > MOST_CELLS
+    return not limits.has_room(shape)
 
 
 def parts_of(model: Model, count: int) -> list[Part]:
     """At least `count` slabs of rows, each with its ring small enough for the program."""
     nlay, nrow, ncol = model.shape
-    most = min(MOST_CELLS // (nlay * ncol), MOST_ROWS) - 2
-    if most < 1 or ncol > MOST_ROWS or nlay > MOST_LAYERS:
+    most = min(PLAIN.cells // (nlay * ncol), PLAIN.side) - 2
+    if most < 1 or ncol > PLAIN.side or nlay > PLAIN.layers:
         raise Problem(
-            f"a part is a slab of rows, and three rows of {nlay * ncol} cells are more than the {MOST_CELLS} that the"
-            " program takes"
+            f"a part is a slab of rows, and three rows of {nlay * ncol} cells are more than the {PLAIN.cells} that the"
+            " program takes without --wide"
         )
     size = min(most, -(-nrow // count))
     return [Part(a, min(a + size, nrow), max(a - 1, 0), min(a + size + 1, nrow)) for a in range(0, nrow, size)]

@@ -36,6 +36,7 @@ class Written:
         return (
             ([str(r) for r in self.report.needed] or unchanged)
             + [f"CAREFUL: {r}" for r in self.report.warnings]
+            + [f"GIVE --wide: {r}" for r in self.report.wide]
             + ["REFUSED ALL THE SAME: " + "\n  ".join(self.refused)] * bool(self.refused)
         )
 
@@ -50,23 +51,23 @@ def plain(nam: Path, folder: Path) -> Written:
         raise Problem(f"{wrong[0]}{more}")
     if folder.resolve() == nam.resolve().parent:
         raise Problem("the plain deck goes into another folder than the deck's own")
-    files = {} if report.needed else one_spelling(nam.resolve())
+    files = {} if report.needed else one_spelling(nam.resolve(), bool(report.wide))
     for name, content in files.items():
         with whole_file(folder / name, binary=True) as file:
             file.write(content)
     if not files:
         write_deck(deck, folder)
     path = folder / ("p.nam" if files else deck.path.name)
-    written = Written(path, AS_READ if files else NOT_CHANGED, report, refused(path))
+    written = Written(path, AS_READ if files else NOT_CHANGED, report, refused(path, bool(report.wide)))
     with whole_file(folder / "plain.txt") as file:
         file.write("\n".join(written.notes()) + "\n")
     return written
 
 
-def refused(nam: Path) -> list[str]:
+def refused(nam: Path, has_wide: bool) -> list[str]:
     """What the program says to a deck that it refuses; nothing where it reads it, or isn't there to ask."""
     try:
-        last = read_alone(nam.resolve())
+        last = read_alone(nam.resolve(), has_wide)
     except Problem:
         return []
     return explain(last, nam.parent).lines if last is not None else []

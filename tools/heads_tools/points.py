@@ -149,8 +149,9 @@ class Hob:
         else:
             self.line()
             times = [tuple(self.line()[:4]) for _ in range(-int(reference))]
+        made, begin_of = self.points.made, lambda p: self.begins[period_of(p)]
         return [
-            self.points.made(label, spots, self.begins[period_of(p)] + exact_value(after) * multiplier, exact_value(head))
+            made(label, spots, begin_of(p) + exact_value(after) * multiplier, exact_value(head))
             for label, p, after, head in times
         ]
 

@@ -7,12 +7,14 @@ import re
 import shutil
 import subprocess
 import sys
+import tempfile
 import time
 from contextlib import nullcontext
 from dataclasses import dataclass
 from pathlib import Path
 
 from .follow import Progress
+from .limits import PLAIN, WIDE_WORD, asks_for_wide, is_wide, limits_of, wide_words
 from .listing import read_listing
 from .made_by import drop_words, is_quick, keep_words
 from .text import Problem, sha256, whole_file
@@ -20,7 +22,6 @@ from .text import Problem, sha256, whole_file
 TOP = Path(__file__).resolve().parents[2]
 BIN = Path(__file__).resolve().parent / "bin"
 DEFAULT_DIGITS = 12
-MOST_BYTES = 1 << 26
 
 
 def beside(name: str) -> Path | None:
@@ -120,30 +121,31 @@ def call(words: list[str], folder: Path, seconds: float | None = None) -> Ended:
     return Ended(done.returncode, lines[-1] if lines else "", time.monotonic() - began)
 
 
-def read_alone(nam: Path) -> str | None:
+def read_alone(nam: Path, has_wide: bool = False) -> str | None:
     """None where the program reads the deck as a model, else its last line. Nothing is solved: a name file is no
     listing."""
-    ended = call(["check", nam.name, nam.name], nam.parent)
+    ended = call(["check", nam.name, nam.name, *wide_words(has_wide)], nam.parent)
     return None if ended.last.startswith("REFUSED 20 ") else ended.last
 
 
-def files_of(text: bytes) -> dict[str, bytes]:
+def files_of(text: bytes, most_bytes: int = PLAIN.bytes) -> dict[str, bytes]:
     """The files of a deck by their names, out of what `heads write` put: the name file is p.nam. None where that is no
     whole deck, or one that can't be read again, since a file is too long or an IBOUND has 19 digits."""
     _, *parts = re.split(rb"^FILE (p\.[a-z]+)\n", text.removesuffix(b"END\n"), flags=re.M)
     files = {name.decode(): content for name, content in zip(parts[::2], parts[1::2])}
-    is_whole, is_long = text.endswith(b"\nEND\n"), any(len(content) > MOST_BYTES for content in files.values())
+    is_whole, is_long = text.endswith(b"\nEND\n"), any(len(content) > most_bytes for content in files.values())
     return files if is_whole and not is_long and not re.search(rb"\d{19}", text) else {}
 
 
-def one_spelling(nam: Path) -> dict[str, bytes]:
+def one_spelling(nam: Path, has_wide: bool = False) -> dict[str, bytes]:
     """The files of the model's deck as `heads write` puts them; none where the program isn't here, has no such command
     or refuses the deck."""
+    words = ["write", nam.name, *wide_words(has_wide)]
     try:
-        done = subprocess.run([program(), "write", nam.name], cwd=nam.parent, stdout=subprocess.PIPE)
+        done = subprocess.run([program(), *words], cwd=nam.parent, stdout=subprocess.PIPE)
     except Problem:
         return {}
-    return files_of(done.stdout)
+    return files_of(done.stdout, limits_of(has_wide).bytes)
 
 
 def has_steps(path: Path) -> bool:
@@ -219,6 +221,21 @@ def run(
     if status == 0:
         keep_words(output, nam.name, options)
     return Ended(status, last.decode("latin-1").strip(), time.monotonic() - began, count, output)
+
+
+def takes_wide() -> bool:
+    """Whether the program knows the word --wide."""
+    with tempfile.TemporaryDirectory(prefix="heads_") as folder:
+        return call(["run", "a.nam", WIDE_WORD], Path(folder)).status != 1
+
+
+def with_wide(ended: Ended, options: list[str], folder: Path) -> list[str] | None:
+    """The options of a second run, which is one with --wide, where the first one's last line asks for the word; this
+    is said on standard error."""
+    if is_wide(options) or not asks_for_wide(ended.last, folder) or not takes_wide():
+        return None
+    print(f"{ended.last}: once more with {WIDE_WORD}", file=sys.stderr)
+    return [*options, WIDE_WORD]
 
 
 def digits_of(options: list[str]) -> int:

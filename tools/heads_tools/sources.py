@@ -33,13 +33,14 @@ class Remark:
 class Report:
     """What was seen while a deck was read. `refusals`: not inside, and no other spelling helps. `needed`: changes
     without which `heads` refuses the deck or reads another model. `warnings`: where MODFLOW-2005 reads the same file
-    otherwise; `blocking` those of them that `plain` can't write. `due`: for a file that couldn't be read to its end,
-    what was being read."""
+    otherwise; `blocking` those of them that `plain` can't write. `wide`: what `heads` takes with --wide alone. `due`:
+    for a file that couldn't be read to its end, what was being read."""
 
     refusals: list[Remark] = field(default_factory=list)
     needed: list[Remark] = field(default_factory=list)
     warnings: list[Remark] = field(default_factory=list)
     blocking: list[Remark] = field(default_factory=list)
+    wide: list[Remark] = field(default_factory=list)
     precise: int = 0
     first_precise: str = ""
     due: dict[str, str] = field(default_factory=dict)

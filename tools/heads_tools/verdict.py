@@ -6,7 +6,9 @@ import tempfile
 from dataclasses import dataclass
 from pathlib import Path
 
+from .limits import wide_words
 from .listing import Listing
+from .made_by import is_made_wide
 from .program import TOP, call, program
 from .spans import ALL_BETWEEN, demand_decks
 from .text import Problem, sha256
@@ -70,15 +72,18 @@ def not_checked(listing: Listing) -> Verdict:
     return Verdict(None, "no model was named by --name", listing.path.name, has_zones(listing), False, listing.is_span)
 
 
-def check_listing(nam: Path, listing: Listing, zones: Path | None = None, to: list[str] | None = None) -> Verdict:
+def check_listing(
+    nam: Path, listing: Listing, zones: Path | None = None, to: list[str] | None = None, has_wide: bool = False
+) -> Verdict:
     """Calls `heads check` in the model's folder on the listing's file, with its zone file; where none is named, on the
-    listing without its lines ZONE. `to`: the options that name the second deck of a listing of two."""
+    listing without its lines ZONE. `to`: the options that name the second deck of a listing of two. The check is with
+    --wide where that is asked for, or where the listing is known to be of such a run."""
     demand_decks(listing, to or [])
     told = listing.path.name, has_zones(listing), zones is not None, listing.is_span
     with tempfile.TemporaryDirectory(prefix="heads_") as folder:
         path = readable(listing.path, Path(folder) / "listing.heads", told[1] and not told[2])
         words, names = ["check", nam.name, str(path), "--digits", str(listing.digits)], {path: told[0]}
-        words += to or []
+        words += [*(to or []), *wide_words(has_wide or is_made_wide(listing.path))]
         if zones:
             file = readable(zones, Path(folder) / "zones")
             words, names = [*words, "--zones", str(file)], names | {file: zones.name}

@@ -24,9 +24,8 @@ def test_a_wrong_option_leaves_the_listing(ran, tool):
     nam, listing, text = ran
     status, out, err = tool("run", nam, "--digits", "99")
     assert status == 1 and "was left" in out and listing.read_text() == text
-    assert files(nam.parent) == ["a.heads", "a.heads.end", "a.heads.run"] and (nam.parent / "a.heads.end").read_text().startswith(
-        "USAGE"
-    )
+    assert files(nam.parent) == ["a.heads", "a.heads.end", "a.heads.run"]
+    assert (nam.parent / "a.heads.end").read_text().startswith("USAGE")
     assert tool("run", nam)[0] == 0 and files(nam.parent) == ["a.heads", "a.heads.run"]
 
 

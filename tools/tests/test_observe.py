@@ -79,7 +79,8 @@ def test_shares_of_layers_are_added():
     model, listing = grid()
     first, second = (weights_of(listing, model, Spot((1, 2, j), Fraction(0), Fraction(1, 4))) for j in (2, 3))
     both = mixed([(first, Fraction(1, 4)), (second, Fraction(3, 4))])
-    assert sum(both.values()) == 1 and both[1, 2, 3] == Fraction(1, 4) * first[1, 2, 3] + Fraction(3, 4) * second[1, 2, 3]
+    assert sum(both.values()) == 1
+    assert both[1, 2, 3] == Fraction(1, 4) * first[1, 2, 3] + Fraction(3, 4) * second[1, 2, 3]
 
 
 def run(nam):

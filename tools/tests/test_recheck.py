@@ -196,3 +196,28 @@ def test_other_words_have_a_status_of_their_own(tmp_path):
             [sys.executable, script, "m.nam", "m.heads"], cwd=tmp_path, capture_output=True, text=True
         )
         assert done.returncode == 2 and "can't be read" in done.stdout
+
+
+def test_a_floor_out_of_range_passes_no_cell_with_the_word(tmp_path):
+    """A well takes 1 from the middle cell, to which a constant head of 10 gives water over a link of conductance
+    1/5000000000.5. Its lower head is the floor, and the next one's is 5 lower: the balance is -5."""
+    texts = {
+        "a.nam": "DIS 11 a.dis\nBAS6 12 a.bas\nLPF 13 a.lpf\nWEL 14 a.wel\n",
+        "a.dis": "1 1 3 1 4 2\n0\n" + "CONSTANT 1\n" * 3 + "CONSTANT 0\n1 1 1 SS\n",
+        "a.bas": "FREE\nINTERNAL 1 (FREE) -1\n-1 1 1\n-999.99\nCONSTANT 10\n",
+        "a.lpf": "0 -1E+30 0\n0\n0\n1\n0\n0\nINTERNAL 1 (FREE) -1\n1E-10 1 1\nCONSTANT 1\n",
+        "a.wel": "1 0\n1 0\n1 1 2 -1\n",
+    }
+    for name, text in texts.items():
+        (tmp_path / name).write_text(text)
+    zero, one = "0." + "0" * 21, "1." + "0" * 21
+    flows = {"IN CONSTANT HEAD": (zero, one), "OUT WELLS": (one, one)}
+    names = ["STORAGE", "CONSTANT HEAD", "WELLS", "DRAINS", "RIVER LEAKAGE", "HEAD DEP BOUNDS", "RECHARGE"]
+    pairs = [(side, name, flows.get(f"{side} {name}", (zero, zero))) for side in ("IN", "OUT") for name in names]
+    lower = ["10.000000000", "-4999999990.500000000", "-4999999995.500000000"]
+    heads_of = "".join(f"HEAD 1 1 {n} {low} 10.000000000\n" for n, low in enumerate(lower, 1))
+    terms = "".join(f"{side} {low} {high} {name}\n" for side, name, (low, high) in pairs)
+    (tmp_path / "l.txt").write_text(f"HEADS 2 DIGITS 12 UNIT 2\nSTEP 1 1\n{heads_of}{terms}END\n")
+    assert recheck(tmp_path / "a.nam", tmp_path / "l.txt") == (0, "HOLDS")
+    status, said = recheck(tmp_path / "a.nam", tmp_path / "l.txt", "--wide")
+    assert status == 1 and "period 1 step 1 1 1 2 LOW" in said

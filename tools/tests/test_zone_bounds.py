@@ -115,7 +115,7 @@ def test_verdicts_of_other_zones_are_not_collected(zoned, tool):
 
 def test_the_flows_between_zones_of_a_large_model_are_certified_by_parts(zoned, tool, monkeypatch):
     nam, path, zones = zoned("drained_field")
-    monkeypatch.setattr(sys.modules["heads_tools.certify"], "is_large", lambda shape: True)
+    monkeypatch.setattr(sys.modules["heads_tools.certify"], "is_large", lambda *_: True)
     status, out, err = tool("certify", nam, middle(tool, nam, path), "--zones", zones, "--digits", 9)
     assert status == 0 and out.startswith("CERTIFIED BY PARTS") and "the flows between zones." in out, out + err
 
