@@ -62,7 +62,8 @@ fn links_through(
         (IsLink input.now.model (widths_of input.now.tables) input.now.tables.digits input.now.at) v.items
         (filter_map (through (is_variable input.now.model input.now.at.period)) faces.now)) }
 {
-    let mut links = Vec::new(alloc);
+    let count = faces.iter().filter(|face| face.is_some()).count();
+    let mut links = Vec::with_capacity(alloc, count)?;
     for face in faces {
         push_some(&mut links, link_through(input, *face))?;
     }
