@@ -6,6 +6,9 @@ ghost use Rattle.decimal_input.specs.Grammar.{number_from, is_digit};
 /// A word with more digits than this names no number.
 pub const LIMIT: u128 = 1_000_000_000_000_000_000;
 
+// Digits below this number have room for one more.
+const FEW: u64 = 100_000_000_000_000_000;
+
 /// The digits so far and the number of zeros after them, or that there are more than 18 digits.
 #[derive(Clone, Copy)]
 pub struct Coefficient {
@@ -37,6 +40,13 @@ fn with_digit(k: Coefficient, digit: u64) -> Coefficient
         return Coefficient {
             zeros: k.zeros + 1,
             ..k
+        };
+    }
+    if k.zeros == 0 && k.digits < FEW {
+        return Coefficient {
+            digits: k.digits * 10 + digit,
+            zeros: 0,
+            many: false,
         };
     }
     if k.zeros >= 18 {
