@@ -83,7 +83,7 @@ pub fn values<'a, V: Value>(
     ensures good { IfOk result (λ v. All V.Good v.items) }
     ensures count { IfOk result (λ v. length v.items ≡ count) }
 {
-    let mut values = Vec::new(alloc);
+    let mut values = Vec::with_capacity(alloc, count as usize)?;
     let mut last = None;
     for _ in 0..count {
         let value = next_kept(alloc, free, lines, file, by, last)?;
@@ -126,7 +126,8 @@ pub fn free_rows<V: Value>(
     ensures good { IfOk result (λ v. All V.Good v.items) }
     ensures count { IfOk result (λ v. length v.items ≡ rows * cols) }
 {
-    let mut values = Vec::new(alloc);
+    let count = (rows as usize).saturating_mul(cols as usize);
+    let mut values = Vec::with_capacity(alloc, count)?;
     for _ in 0..rows {
         let row = free_list(alloc, lines, file, by, cols)?;
         values.extend_from_slice(&row)?;

@@ -5,7 +5,7 @@ use Rattle.array_reader.proofs.lists.free_rows.Goals as goal
 pub returns-in_err-row-clause-values : goal.returns-in_err-row-clause-values
 unfolding free_rows
 returns-in_err-row-clause-values g c =
-    let p = err_from_is_err_and c.from_residual.result c.from_residual.ensures.1 in
+    let p = err_from_is_err_and c.from_residual-in_err-row.result c.from_residual-in_err-row.ensures.1 in
     rw (p.1, p.2) (list_ends _ c.in_err-row.field-0.0 c.loop.values.items c.args.rows c.loop.counter _ _ c.loop-test.true c.in_err-row.ensures.values c.loop.invariant.0)
 
 pub loop-preserved : goal.loop-preserved

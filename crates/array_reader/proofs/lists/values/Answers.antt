@@ -4,7 +4,7 @@ use Rattle.array_reader.proofs.lists.values.Goals as goal
 
 pub returns-in_err-value-clause-values : goal.returns-in_err-value-clause-values
 returns-in_err-value-clause-values g c =
-    let p = err_from_is_err_and c.from_residual.result c.from_residual.ensures.1 in
+    let p = err_from_is_err_and c.from_residual-in_err-value.result c.from_residual-in_err-value.ensures.1 in
     rw (p.1, p.2) (ends_text _ c.in_err-value.field-0.0 c.loop.values.items c.args.count c.loop.counter _ _ c.loop-test.true c.in_err-value.ensures.value c.loop.invariant.0)
 
 pub loop-preserved : goal.loop-preserved
