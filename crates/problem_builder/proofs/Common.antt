@@ -5,8 +5,8 @@ pub use Rattle.std.proofs.Common.{◌-ℤ◌, ◌-◌, ◌/◌, ◌<◌, ◌^◌
 pub use Rattle.std.proofs.Math.Nat.{le_of_mul-le-mul_right, mul-le-mul_right}
 pub use Rattle.std.proofs.lemmas.Bool.{cases_Bool, cases_eq, cases_lt, cases_order, cond-true, eq-eqb, false≢true, leb-false, ne_eqb}
 pub use Rattle.std.proofs.lemmas.Int.{by_lt_z, int_max_is, int_min_is, ints, to_z-of_z}
-pub use Rattle.std.proofs.lemmas.List.{append-nil, append_assoc, drop_at, ext_get_or, get_or-set_other, get_or-set_same, get_or_append_left, get_or_default}
-pub use Rattle.std.proofs.lemmas.List.{get_or_push, get_or_read, length_push, reverse-append, take_at, take_more}
+pub use Rattle.std.proofs.lemmas.List.{append-nil, append_assoc, drop_at, ext_get_or, get_or-map, get_or-set_other, get_or-set_same, get_or_append_left}
+pub use Rattle.std.proofs.lemmas.List.{get_or_default, get_or_push, get_or_read, length-map, length_push, map-set, reverse-append, take_at, take_more}
 pub use Rattle.std.proofs.lemmas.List.Elements.{All-append, All-cons, All-drop, All-filter, All-nil, All-push, All-take, All-weaker, filter-append}
 pub use Rattle.std.proofs.lemmas.List.Elements.{filter_map-append}
 pub use Rattle.std.proofs.lemmas.Nat.{div-add-mod', div-mul-add, mod-mul-add, mod_below}
@@ -91,7 +91,8 @@ unfoldable pub use Rattle.problem_builder.specs.ConstantHeads.{IsConstantPair}
 pub use Rattle.problem_builder.specs.Filled.{Filled}
 pub use Rattle.problem_builder.specs.GridHeads.{AreGridHeads, HeadsEnclose, IsActive}
 pub use Rattle.problem_builder.specs.InputBounds.{IsCond, IsHeadPair, IsWellPair}
-pub use Rattle.problem_builder.specs.LocalBounds.{AreAppended, AreLocalBounds, IsEntryIn, IsGeneralSource, IsWellSource, LocalBounds, local_in, no_bounds}
+pub use Rattle.problem_builder.specs.LocalBounds.{AreAppended, AreLocalBounds, IsEntryIn, IsGeneralSource, IsWellSource, LocalBounds, kept_bounds, local_in}
+pub use Rattle.problem_builder.specs.LocalBounds.{no_bounds}
 pub use Rattle.problem_builder.specs.Made.{HasPair, IsCellFault, IsCheckedCell, IsFirstFault, IsStartInRange, IsVariableCell}
 pub use Rattle.problem_builder.specs.Moments.{IsTimeOf}
 pub use Rattle.problem_builder.specs.PeriodTables.{IsCovered, IsEvaporated, IsIndex, IsKept, IsKind, IsNamed, IsRecharged}

@@ -2,6 +2,7 @@ mod Common
 pub mod Pushed
 pub mod Zipped
 pub mod Appended
+mod KeptEntries
 pub mod HeadRange
 pub mod ActiveCells
 pub mod FacePairs

@@ -1,5 +1,6 @@
 -- The bounds of a cell's entries of WEL, RIV, DRN and GHB.
-use Rattle.std.specs.Prelude.{ℕ, ◌<◌, List, [], ◌++◌, slice_index_or}
+use Rattle.std.specs.Prelude.{ℕ, ◌<◌, List, [], ◌++◌, Option, Some, None, slice_index_or}
+use Rattle.std.specs.Global.{Box}
 use Rattle.std.specs.List.{AllZip, filter_map}
 use Rattle.step_problem.specs.declared.entry.Flow.{Flow}
 use Rattle.step_problem.specs.declared.entry.Fixed.{Fixed}
@@ -31,6 +32,11 @@ pub record LocalBounds : Type 0 where
 
 abbrev pub no_bounds : LocalBounds
 no_bounds = record { wells = []; rivers = []; drains = []; generals = [] }
+
+-- of a cell that keeps its bounds only if it has entries
+abbrev pub kept_bounds : Option (Box LocalBounds) → LocalBounds
+kept_bounds None = no_bounds
+kept_bounds (Some b) = b.value
 
 abbrev pub local_in : List LocalBounds → ℕ → LocalBounds
 local_in xs c = slice_index_or xs c no_bounds

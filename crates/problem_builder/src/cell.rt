@@ -29,7 +29,7 @@ fn fixed(alloc: Global, input: &StepInput, cell: u32) -> Result<Vec<Fixed>, Allo
     let mut fixed = Vec::with_capacity(alloc, count)?;
     push_some(&mut fixed, stored)?;
     fixed.extend_from_slice(&constants)?;
-    fixed.extend_from_slice(&entries.generals)?;
+    fixed.extend_from_slice(entries.generals)?;
     Ok(fixed)
 }
 
@@ -57,7 +57,7 @@ fn flows(alloc: Global, input: &StepInput, cell: u32) -> Result<Vec<Flow>, Alloc
         usize::from(received.is_some()) + entries.wells.len(),
     )?;
     push_some(&mut flows, received)?;
-    flows.extend_from_slice(&entries.wells)?;
+    flows.extend_from_slice(entries.wells)?;
     Ok(flows)
 }
 
@@ -83,8 +83,8 @@ pub fn cell(alloc: Global, input: &StepInput, number: u32) -> Result<Cell, Alloc
         flows: flows(alloc, input, number)?,
         links: links(alloc, input, number)?,
         fixed: fixed(alloc, input, number)?,
-        rivers: Vec::from_slice(alloc, &entries.rivers)?,
-        drains: Vec::from_slice(alloc, &entries.drains)?,
+        rivers: Vec::from_slice(alloc, entries.rivers)?,
+        drains: Vec::from_slice(alloc, entries.drains)?,
         evaps: evaps(alloc, input, number)?,
     })
 }

@@ -17,6 +17,42 @@ use step_problem::{Drain, Fixed, FixedKind, Flow, FlowKind, River};
 
 /// The bounds of a cell's entries of WEL, RIV, DRN and GHB, by kind, in the order of the lists.
 #[derive(Drop)]
+pub struct CellEntries<'a> {
+    pub wells: &'a [Flow],
+    pub rivers: &'a [River],
+    pub drains: &'a [Drain],
+    pub generals: &'a [Fixed],
+}
+
+impl<'a> Model for CellEntries<'a> {
+    ghost use Rattle.problem_builder.specs.LocalBounds.{LocalBounds};
+
+    ghost Value = { LocalBounds };
+
+    ghost view = { λ x. record {
+      wells = x.wells.now;
+      rivers = x.rivers.now;
+      drains = x.drains.now;
+      generals = x.generals.now;
+    } };
+}
+
+impl<'a> CellEntries<'a> {
+    /// No entries.
+    pub fn none() -> CellEntries<'a>
+        ensures { result ≡ no_bounds }
+    {
+        CellEntries {
+            wells: &[],
+            rivers: &[],
+            drains: &[],
+            generals: &[],
+        }
+    }
+}
+
+/// The lists of the bounds of a cell's entries.
+#[derive(Drop)]
 pub struct LocalEntries {
     pub wells: Vec<Flow>,
     pub rivers: Vec<River>,
@@ -47,6 +83,18 @@ impl LocalEntries {
             rivers: Vec::new(alloc),
             drains: Vec::new(alloc),
             generals: Vec::new(alloc),
+        }
+    }
+
+    /// The bounds as slices.
+    pub fn slices(&self) -> CellEntries<'_>
+        ensures { result ≡ self.now }
+    {
+        CellEntries {
+            wells: self.wells.as_slice(),
+            rivers: self.rivers.as_slice(),
+            drains: self.drains.as_slice(),
+            generals: self.generals.as_slice(),
         }
     }
 

@@ -6,7 +6,7 @@ ghost use Rattle.model_types.specs.Times.{period_at};
 ghost use Rattle.problem_builder.specs.LocalBounds.{local_in};
 ghost use Rattle.problem_builder.specs.Tables.{AreInputs, bound_in, item_in};
 
-use crate::entries::LocalEntries;
+use crate::entries::CellEntries;
 use crate::period::PeriodTables;
 use crate::step::StepTables;
 use crate::tables::Tables;
@@ -87,10 +87,10 @@ impl<'a> StepInput<'a> {
     }
 
     /// The bounds of a cell's entries of WEL, RIV, DRN and GHB.
-    pub fn entries(&self, cell: u32) -> &LocalEntries
+    pub fn entries(&self, cell: u32) -> CellEntries<'_>
         requires input { AreInputs self.now }
         requires cell { cell < cell_count self.now.model.grid }
-        ensures { result.now ≡ local_in self.now.period.local cell }
+        ensures { result ≡ local_in self.now.period.local cell }
     {
         self.period.local.at(cell)
     }

@@ -1,27 +1,29 @@
 // The bounds of the entries of each cell.
-ghost use Rattle.std.specs.Prelude.{◌≡◌, ◌<◌, ◌≤◌, ◌∷◌, All, ℕ, [], length, IfOk};
+ghost use Rattle.std.specs.Prelude.{◌≡◌, ◌<◌, ◌≤◌, ◌∷◌, ◌++◌, All, List, ℕ, [], length, IfOk};
+ghost use Rattle.model_types.specs.declared.entry.Entry.{Entry as DeclaredEntry};
 ghost use Rattle.model_types.specs.Sources.{cell_of, entries_of};
 ghost use Rattle.model_types.specs.Times.{entries};
-ghost use Rattle.problem_builder.specs.LocalBounds.{AreAppended, AreLocalBounds, IsEntryIn, local_in, no_bounds};
+ghost use Rattle.model_types.specs.Valid.{IsEntryValid};
+ghost use Rattle.problem_builder.specs.LocalBounds.{AreAppended, AreLocalBounds, IsEntryIn, kept_bounds, local_in, no_bounds};
 
-use crate::entries::LocalEntries;
+use crate::entries::{CellEntries, LocalEntries};
 use model_types::{Entry, Period};
 use std::alloc::{AllocError, Global};
 use std::marker::Model;
 
-/// The bounds of the entries of a list, cell by cell.
+/// The bounds of the entries of a list, cell by cell. A cell without entries has a pointer alone.
 #[derive(Drop)]
 pub struct Local {
-    cells: Vec<LocalEntries>,
+    cells: Vec<Option<Box<LocalEntries>>>,
 }
 
 impl Model for Local {
-    ghost use Rattle.std.specs.Prelude.{List};
-    ghost use Rattle.problem_builder.specs.LocalBounds.{LocalBounds};
+    ghost use Rattle.std.specs.Prelude.{List, map};
+    ghost use Rattle.problem_builder.specs.LocalBounds.{LocalBounds, kept_bounds};
 
     ghost Value = { List LocalBounds };
 
-    ghost view = { λ l. l.cells.items };
+    ghost view = { λ l. map kept_bounds l.cells.items };
 }
 
 fn cell_of(entry: &Entry) -> u32
@@ -35,6 +37,38 @@ fn cell_of(entry: &Entry) -> u32
     }
 }
 
+fn some_entries(
+    alloc: Global,
+    kept: Option<Box<LocalEntries>>,
+) -> Result<Box<LocalEntries>, AllocError>
+    ensures { IfOk result (λ b. b.value ≡ kept_bounds kept) }
+{
+    match kept {
+        Some(entries) => Ok(entries),
+        None => Ok(Box::new(alloc, LocalEntries::none(alloc))?),
+    }
+}
+
+// Appends the bounds of an entry of the cell.
+fn add_to(
+    kept: &mut Option<Box<LocalEntries>>,
+    alloc: Global,
+    entry: &Entry,
+    cell: u32,
+    s: u32,
+) -> Result<(), AllocError>
+    requires entry { IsEntryValid 4194304 entry.now }
+    requires places { s ≤ 18 }
+    ensures { IfOk result
+        (λ _. (entries : List DeclaredEntry) → AreLocalBounds s cell (kept_bounds kept.old) entries →
+        AreLocalBounds s cell (kept_bounds kept.new) (entries ++ entry.now ∷ [])) }
+{
+    let mut entries = some_entries(alloc, kept.take())?;
+    entries.add(entry, cell, s)?;
+    *kept = Some(entries);
+    Ok(())
+}
+
 impl Local {
     fn empty(alloc: Global, count: u32) -> Result<Local, AllocError>
         ensures len { IfOk result (λ l. length l ≡ count) }
@@ -42,24 +76,24 @@ impl Local {
     {
         let mut cells = Vec::new(alloc);
         for _cell in 0..count {
-            cells.push(LocalEntries::none(alloc))?;
+            cells.push(None)?;
         }
         Ok(Local { cells })
     }
 
-    fn add(&mut self, entry: &Entry, s: u32) -> Result<(), AllocError>
+    fn add(&mut self, alloc: Global, entry: &Entry, s: u32) -> Result<(), AllocError>
         requires entry { IsEntryIn (length self.old) entry.now }
         requires places { s ≤ 18 }
         ensures len { IfOk result (λ _. length self.new ≡ length self.old) }
         ensures appended { IfOk result (λ _. AreAppended s self.old self.new (entry.now ∷ [])) }
     {
         let cell = cell_of(entry);
-        self.cells[cell as usize].add(entry, cell, s)?;
+        add_to(&mut self.cells[cell as usize], alloc, entry, cell, s)?;
         Ok(())
     }
 
     // Appends the bounds of the entries of a list.
-    fn with(self, entries: &[Entry], s: u32) -> Result<Local, AllocError>
+    fn with(self, alloc: Global, entries: &[Entry], s: u32) -> Result<Local, AllocError>
         requires entries { All (IsEntryIn (length self)) entries.now }
         requires places { s ≤ 18 }
         ensures len { IfOk result (λ l. length l ≡ length self) }
@@ -67,7 +101,7 @@ impl Local {
     {
         let mut local = self;
         for entry in entries {
-            local.add(entry, s)?;
+            local.add(alloc, entry, s)?;
         }
         Ok(local)
     }
@@ -86,18 +120,21 @@ impl Local {
         ensures are { IfOk result (λ l. (c : ℕ) → AreLocalBounds s c (local_in l c) (entries_of c (entries period.now))) }
     {
         let none = Local::empty(alloc, count)?;
-        let wells = none.with(period.stresses.wells.as_slice(), s)?;
-        let rivers = wells.with(period.stresses.rivers.as_slice(), s)?;
-        let drains = rivers.with(period.stresses.drains.as_slice(), s)?;
-        let all = drains.with(period.stresses.generals.as_slice(), s)?;
+        let wells = none.with(alloc, period.stresses.wells.as_slice(), s)?;
+        let rivers = wells.with(alloc, period.stresses.rivers.as_slice(), s)?;
+        let drains = rivers.with(alloc, period.stresses.drains.as_slice(), s)?;
+        let all = drains.with(alloc, period.stresses.generals.as_slice(), s)?;
         Ok(all)
     }
 
     /// The bounds of the entries of a cell.
-    pub fn at(&self, cell: u32) -> &LocalEntries
+    pub fn at(&self, cell: u32) -> CellEntries<'_>
         requires { cell < length self.now }
-        ensures { result.now ≡ local_in self.now cell }
+        ensures { result ≡ local_in self.now cell }
     {
-        &self.cells[cell as usize]
+        match &self.cells[cell as usize] {
+            Some(entries) => entries.slices(),
+            None => CellEntries::none(),
+        }
     }
 }

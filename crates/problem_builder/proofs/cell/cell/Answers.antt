@@ -14,7 +14,7 @@ returns c =
       flows = c.in_ok-flows.ensures;
       links = c.in_ok-links.ensures;
       fixed = c.in_ok-fixed.ensures;
-      rivers = subst (λ (xs : List River). AllZip (IsRiver s) xs (river_sources i.model p n)) (sym (c.in_ok-from_slice.ensures.items ∙ c.deref.ensures.value)) are.rivers;
-      drains = subst (λ (xs : List Drain). AllZip (IsDrain s) xs (drain_sources i.model p n)) (sym (c.in_ok-from_slice-2.ensures.items ∙ c.deref-2.ensures.value)) are.drains;
+      rivers = subst (λ (xs : List River). AllZip (IsRiver s) xs (river_sources i.model p n)) (sym c.in_ok-from_slice.ensures.items) are.rivers;
+      drains = subst (λ (xs : List Drain). AllZip (IsDrain s) xs (drain_sources i.model p n)) (sym c.in_ok-from_slice-2.ensures.items) are.drains;
       evaps = c.in_ok-evaps.ensures;
     }

@@ -8,4 +8,4 @@ returns c =
     let are = subst (λ (x : LocalBounds). AreLocalBounds i.tables.digits c.args.cell x (local_entries i.model i.at.period c.args.cell)) (sym (c.entries.view_is ∙ c.entries-entries.ensures)) (c.requires.input.period.local c.args.cell) in
     fixed_are i.model (widths_of i.tables) i.tables.digits i.at i.old c.args.cell c.stored-stored.result (storage_at i.model i.at.period) (constant_faces i.model i.at.period c.args.cell) c.in_ok-constants.constants.items _ _ _ _ _
     (pushed _ _ c.stored-stored.result c.in_ok-fixed.ensures.items c.in_ok-push_some.ensures) c.stored-stored.ensures c.in_ok-constants.ensures are.generals
-    (extended _ _ _ _ c.deref.ensures.value c.in_ok-extend_from_slice.ensures.items) (extended _ _ _ _ c.deref-2.ensures.value c.in_ok-extend_from_slice-2.ensures.items)
+    (extended _ _ _ _ c.deref.ensures.value c.in_ok-extend_from_slice.ensures.items) c.in_ok-extend_from_slice-2.ensures.items

@@ -1,5 +1,5 @@
 use Rattle.problem_builder.proofs.Common.{sym, subst, ◌∙◌, recharge_at, local_entries, LocalBounds, AreLocalBounds, widths_of}
-use Rattle.problem_builder.proofs.Joined.{flows_are, pushed, extended}
+use Rattle.problem_builder.proofs.Joined.{flows_are, pushed}
 use Rattle.problem_builder.proofs.cell.flows.Goals as goal
 
 pub returns : goal.returns
@@ -8,4 +8,4 @@ returns c =
     let are = subst (λ (x : LocalBounds). AreLocalBounds i.tables.digits c.args.cell x (local_entries i.model i.at.period c.args.cell)) (sym (c.entries.view_is ∙ c.entries-entries.ensures)) (c.requires.input.period.local c.args.cell) in
     flows_are i.model (widths_of i.tables) i.tables.digits i.at i.old c.args.cell c.received-received.result (recharge_at i.model i.at.period c.args.cell) _ _ _ _
     (pushed _ _ c.received-received.result c.in_ok-flows.ensures.items c.in_ok-push_some.ensures) c.received-received.ensures are.wells
-    (extended _ _ _ _ c.deref.ensures.value c.in_ok-extend_from_slice.ensures.items)
+    c.in_ok-extend_from_slice.ensures.items
