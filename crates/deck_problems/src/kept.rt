@@ -26,7 +26,7 @@ impl RunTables {
         ensures tables { IfOk result (AreRunTables model.now) }
     {
         let tables = Tables::new(alloc, model, s)?;
-        let given = GivenHeads::new(alloc, model)?;
+        let given = GivenHeads::new(alloc, model);
         let period = PeriodTables::new(alloc, model, &tables, &given)?;
         Ok(RunTables {
             tables,
@@ -56,22 +56,16 @@ impl RunTables {
 }
 
 // Starts anew before the first period, if the given heads are those of this period or of a later one.
-fn begin_before(
-    given: &mut GivenHeads,
-    alloc: Global,
-    model: &FlowModel,
-    period: u32,
-) -> Result<(), AllocError>
+fn begin_before(given: &mut GivenHeads, alloc: Global, model: &FlowModel, period: u32)
     requires model { IsModel model.now }
     requires given { given.old ≡ given_heads model.now given.old.period }
     requires first { 1 ≤ period }
     ensures given { given.new ≡ given_heads model.now given.new.period }
-    ensures before { OnOk result (given.new.period < period) }
+    ensures before { given.new.period < period }
 {
     if given.period >= period {
-        *given = GivenHeads::new(alloc, model)?;
+        *given = GivenHeads::new(alloc, model);
     }
-    Ok(())
 }
 
 // Moves to the given heads of the period before this one.
@@ -88,9 +82,9 @@ fn go_before(
     ensures given { given.new ≡ given_heads model.now given.new.period }
     ensures there { OnOk result (given.new.period ≡ period - 1) }
 {
-    begin_before(given, alloc, model, period)?;
+    begin_before(given, alloc, model, period);
     for _ in given.period..period - 1 {
-        given.advance(model);
+        *given = given.next(alloc, model)?;
     }
     Ok(())
 }

@@ -28,20 +28,20 @@ fn names_within(list: &[Given], cells: u32) -> bool
 }
 
 // Advances to the next period, if there is one and its list's cells lie in the grid.
-fn goes_on(given: &mut GivenHeads, model: &FlowModel) -> bool
+fn goes_on(given: &mut GivenHeads, alloc: Global, model: &FlowModel) -> Result<bool, AllocError>
     requires size { HasSize model.now.grid }
     requires few { length model.now.periods ≤ 1000 }
     requires before { given.old ≡ given_heads model.now given.old.period }
     ensures after { given.new ≡ given_heads model.now given.new.period }
 {
     let Some(next) = model.periods.as_slice().get(given.period as usize) else {
-        return false;
+        return Ok(false);
     };
     if !names_within(next.stresses.given.as_slice(), model.grid.cell_count()) {
-        return false;
+        return Ok(false);
     }
-    given.advance(model);
-    true
+    *given = given.next(alloc, model)?;
+    Ok(true)
 }
 
 // The kinds of a period, by reading the lists.
@@ -73,9 +73,9 @@ fn print_kinds(rt: &impl Print, alloc: Global, model: &FlowModel) -> io::Result<
     requires size { HasSize model.now.grid }
     requires few { length model.now.periods ≤ 1000 }
 {
-    let mut given = GivenHeads::new(alloc, model)?;
+    let mut given = GivenHeads::new(alloc, model);
     for _turn in 0..model.periods.as_slice().len() {
-        if !goes_on(&mut given, model) {
+        if !goes_on(&mut given, alloc, model)? {
             return println!(rt; "a cell outside the grid");
         }
         let kinds = given.kinds(alloc, model)?;

@@ -7,8 +7,8 @@ ghost use Rattle.model_types.specs.Grids.{HasSize};
 
 use crate::entry::Given;
 use crate::kind::{Kind, kind_by};
-use crate::listed::Listed;
 use crate::model::FlowModel;
+use crate::optional::Optional;
 use std::alloc::{AllocError, Global};
 
 /// For each cell of a model the last entry of the CHD lists up to a stress period that names it. It is carried
@@ -16,41 +16,44 @@ use std::alloc::{AllocError, Global};
 #[derive(Drop)]
 pub struct GivenHeads {
     pub period: u32,
-    pub last: Listed<Option<Given>>,
+    pub last: Optional<Given>,
 }
 
 impl GivenHeads {
     /// Before the first period, where no list has named a cell.
-    pub fn new(alloc: Global, model: &FlowModel) -> Result<GivenHeads, AllocError>
+    pub fn new(alloc: Global, model: &FlowModel) -> GivenHeads
         requires size { HasSize model.now.grid }
-        ensures period { IfOk result (λ g. g.period ≡ 0) }
-        ensures given { IfOk result (λ g. g ≡ given_heads model.now g.period) }
+        ensures period { result.period ≡ 0 }
+        ensures given { result ≡ given_heads model.now result.period }
     {
-        let last = vec![in alloc; None; model.grid.cell_count() as usize]?;
-        Ok(GivenHeads {
+        GivenHeads {
             period: 0,
-            last: Listed::new(last),
-        })
+            last: Optional::none(alloc, model.grid.cell_count()),
+        }
     }
 
-    /// Advances to the next period.
-    pub fn advance(&mut self, model: &FlowModel)
+    /// The given heads after the next period.
+    pub fn next(&self, alloc: Global, model: &FlowModel) -> Result<GivenHeads, AllocError>
         requires size { HasSize model.now.grid }
-        requires before { self.old ≡ given_heads model.now self.old.period }
-        requires period { self.old.period < length model.now.periods }
+        requires before { self.now ≡ given_heads model.now self.now.period }
+        requires period { self.now.period < length model.now.periods }
         requires few { length model.now.periods ≤ 1000 }
-        requires cells { All (λ x. x.cell.0 < cell_count model.now.grid) (period_at model.now (self.old.period + 1)).stresses.given }
-        ensures period { self.new.period ≡ self.old.period + 1 }
-        ensures given { self.new ≡ given_heads model.now self.new.period }
+        requires cells { All (λ x. x.cell.0 < cell_count model.now.grid) (period_at model.now (self.now.period + 1)).stresses.given }
+        ensures period { IfOk result (λ g. g.period ≡ self.now.period + 1) }
+        ensures given { IfOk result (λ g. g ≡ given_heads model.now g.period) }
     {
         let list = model.periods.as_slice()[self.period as usize]
             .stresses
             .given
             .as_slice();
+        let mut last = self.last.again(alloc)?;
         for x in list {
-            self.last.set(x.cell.0 as usize, Some(*x));
+            last.set(alloc, x.cell.0, Some(*x))?;
         }
-        self.period += 1;
+        Ok(GivenHeads {
+            period: self.period + 1,
+            last,
+        })
     }
 
     /// The kind of a cell in the period.
@@ -59,7 +62,7 @@ impl GivenHeads {
         requires given { self.now ≡ given_heads model.now self.now.period }
         ensures { result ≡ kind_of model.now self.now.period cell }
     {
-        kind_by(model, cell, self.last.as_slice()[cell as usize].is_some())
+        kind_by(model, cell, self.last.at(cell).is_some())
     }
 
     /// The kinds of all cells in the period, by cell number.

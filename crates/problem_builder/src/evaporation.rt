@@ -18,8 +18,8 @@ use crate::periods::stress_period;
 use crate::rounded::{depth_pair, head_pair};
 use conductance_bounds::{Pair, evap_branch};
 use decimal_input::dec::Dec;
-use model_types::FlowModel;
 use model_types::layers::dec_at;
+use model_types::{FlowModel, Optional};
 use std::alloc::{AllocError, Global};
 use step_problem::{Bound, Evap};
 
@@ -121,14 +121,14 @@ pub fn evaps(
     covered: &[bool],
     number: u32,
     s: u32,
-) -> Result<Vec<Option<Evap>>, AllocError>
+) -> Result<Optional<Evap>, AllocError>
     requires model { IsModel model.now }
     requires number { (1 ≤ number) × (number ≤ length model.now.periods) }
     requires covered { Filled (IsCovered model.now) false (cell_count model.now.grid) covered.now }
     requires digits { s ≤ 18 }
-    ensures { IfOk result (λ v. Filled (IsEvaporated model.now s number) None (cell_count model.now.grid) v.items) }
+    ensures { IfOk result (Filled (IsEvaporated model.now s number) None (cell_count model.now.grid)) }
 {
-    let mut evaps = Vec::new(alloc);
+    let mut evaps = Optional::none(alloc, 0);
     let count = model.grid.cell_count();
     for cell in 0..count {
         let highest = is_uncovered(model, covered, cell);

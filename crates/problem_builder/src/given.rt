@@ -12,19 +12,18 @@ ghost use Rattle.problem_builder.specs.PeriodTables.{IsNamed, IsKept};
 
 use crate::rounded::{NO_BOUND, head_pair};
 use model_types::layers::dec_at;
-use model_types::{FlowModel, Given, GivenHeads, Listed};
+use model_types::{FlowModel, Given, GivenHeads, Optional};
 use std::alloc::{AllocError, Global};
 use step_problem::Bound;
 
 /// For each cell the last entry of a list that names it.
-pub fn named(alloc: Global, list: &[Given], count: u32) -> Result<Listed<Option<Given>>, AllocError>
+pub fn named(alloc: Global, list: &[Given], count: u32) -> Result<Optional<Given>, AllocError>
     requires { All (λ x. x.cell.0 < count) list.now }
-    ensures { IfOk result (λ t. Filled (IsNamed list.now) None count t) }
+    ensures { IfOk result (Filled (IsNamed list.now) None count) }
 {
-    let none = vec![in alloc; None; count as usize]?;
-    let mut table = Listed::new(none);
+    let mut table = Optional::none(alloc, count);
     for x in list {
-        table.set(x.cell.0 as usize, Some(*x));
+        table.set(alloc, x.cell.0, Some(*x))?;
     }
     Ok(table)
 }
@@ -36,7 +35,7 @@ fn last_at(model: &FlowModel, given: &GivenHeads, cell: u32) -> Option<Given>
     ensures { result ≡ last_given (take given.now.period model.now.periods) cell }
 {
     let _model = model;
-    given.last.as_slice()[cell as usize]
+    given.last.at(cell)
 }
 
 // The head that an active cell keeps, where this is its last entry.

@@ -74,7 +74,7 @@ impl<'a> StepInput<'a> {
         requires cell { cell < cell_count self.now.model.grid }
         ensures { result ≡ item_in self.now.period.recharge cell }
     {
-        self.period.recharge.as_slice()[cell as usize]
+        self.period.recharge.at(cell)
     }
 
     /// A cell's evapotranspiration.
@@ -83,7 +83,7 @@ impl<'a> StepInput<'a> {
         requires cell { cell < cell_count self.now.model.grid }
         ensures { result ≡ item_in self.now.period.evaps cell }
     {
-        self.period.evaps.as_slice()[cell as usize]
+        self.period.evaps.at(cell)
     }
 
     /// The bounds of a cell's entries of WEL, RIV, DRN and GHB.

@@ -10,12 +10,12 @@ use crate::evaporation::evaps;
 use crate::given::{kept, named};
 use crate::index::indices;
 use crate::local::Local;
-use crate::periods::{given_after, given_before, stress_period};
+use crate::periods::{given_before, stress_period};
 use crate::recharge::recharges;
 use crate::storages::even_storages;
 use crate::tables::Tables;
 use conductance_bounds::{FlowPair, Pair};
-use model_types::{FlowModel, Given, GivenHeads, Kind, Listed};
+use model_types::{FlowModel, Given, GivenHeads, Kind, Listed, Optional};
 use std::alloc::{AllocError, Global};
 use step_problem::{Bound, Evap};
 
@@ -28,11 +28,11 @@ pub struct PeriodTables {
     pub steady: bool,
     pub kinds: Listed<Kind>,
     pub index: Listed<u32>,
-    pub given: Listed<Option<Given>>,
+    pub given: Optional<Given>,
     pub kept: Listed<Bound>,
     pub local: Local,
-    pub recharge: Listed<Option<FlowPair>>,
-    pub evaps: Listed<Option<Evap>>,
+    pub recharge: Optional<FlowPair>,
+    pub evaps: Optional<Evap>,
     pub storage: Option<Listed<Pair>>,
 }
 
@@ -54,7 +54,7 @@ impl PeriodTables {
             (λ t. AreEvenStorages model.now (span_in tables.now.thick) tables.now.digits (given.now.period + 1) t.storage) }
     {
         let s = tables.digits;
-        let next = given_after(alloc, model, given)?;
+        let next = given.next(alloc, model)?;
         let number = next.period;
         let kinds = next.kinds(alloc, model)?;
         let storage = even_storages(alloc, model, tables, kinds.as_slice(), number)?;
@@ -75,8 +75,8 @@ impl PeriodTables {
             given,
             kept: Listed::new(kept),
             local,
-            recharge: Listed::new(recharge),
-            evaps: Listed::new(evaps),
+            recharge,
+            evaps,
             storage,
         })
     }
@@ -121,7 +121,7 @@ impl PeriodTables {
         requires { cell < length self.now.given }
         ensures { result ≡ item_in self.now.given cell }
     {
-        self.given.as_slice()[cell as usize]
+        self.given.at(cell)
     }
 
     /// The head that a constant-head cell keeps.

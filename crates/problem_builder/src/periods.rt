@@ -1,10 +1,10 @@
 // Stress periods by their numbers, and the heads that CHD lists have given up to them.
-ghost use Rattle.std.specs.Prelude.{◌≡◌, ◌+◌, ◌<◌, ◌≤◌, IfOk, length};
+ghost use Rattle.std.specs.Prelude.{◌≡◌, ◌+◌, ◌≤◌, IfOk, length};
 ghost use Rattle.model_types.specs.Kinds.{given_heads};
 ghost use Rattle.model_types.specs.Times.{period_at};
 ghost use Rattle.model_types.specs.Valid.{IsModel};
 
-use model_types::{FlowModel, GivenHeads, Listed, Period};
+use model_types::{FlowModel, GivenHeads, Period};
 use std::alloc::{AllocError, Global};
 
 /// The stress period of a number, counted from 1.
@@ -22,36 +22,9 @@ pub fn given_before(alloc: Global, model: &FlowModel, number: u32) -> Result<Giv
     ensures period { IfOk result (λ g. g.period + 1 ≡ number) }
     ensures given { IfOk result (λ g. g ≡ given_heads model.now g.period) }
 {
-    let mut given = GivenHeads::new(alloc, model)?;
+    let mut given = GivenHeads::new(alloc, model);
     for _period in 1..number {
-        given.advance(model);
+        given = given.next(alloc, model)?;
     }
     Ok(given)
-}
-
-/// The given heads after the stress period that follows `given`.
-pub fn given_after(
-    alloc: Global,
-    model: &FlowModel,
-    given: &GivenHeads,
-) -> Result<GivenHeads, AllocError>
-    requires model { IsModel model.now }
-    requires given { given.now ≡ given_heads model.now given.now.period }
-    requires period { given.now.period < length model.now.periods }
-    ensures period { IfOk result (λ g. g.period ≡ given.now.period + 1) }
-    ensures given { IfOk result (λ g. g ≡ given_heads model.now g.period) }
-{
-    let mut next = again(alloc, given)?;
-    next.advance(model);
-    Ok(next)
-}
-
-fn again(alloc: Global, given: &GivenHeads) -> Result<GivenHeads, AllocError>
-    ensures { IfOk result (λ g. g ≡ given.now) }
-{
-    let last = Vec::from_slice(alloc, given.last.as_slice())?;
-    Ok(GivenHeads {
-        period: given.period,
-        last: Listed::new(last),
-    })
 }

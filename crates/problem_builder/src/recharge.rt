@@ -13,8 +13,8 @@ use crate::periods::stress_period;
 use crate::rounded::PAST_FLOW;
 use conductance_bounds::{FlowPair, recharge_flow};
 use decimal_input::dec::Dec;
-use model_types::FlowModel;
 use model_types::layers::dec_at;
+use model_types::{FlowModel, Optional};
 use std::alloc::{AllocError, Global};
 
 // The bounds of recharge at a rate; for one that reaches 2^126 units the pair that a table keeps in its place.
@@ -78,14 +78,14 @@ pub fn recharges(
     covered: &[bool],
     number: u32,
     s: u32,
-) -> Result<Vec<Option<FlowPair>>, AllocError>
+) -> Result<Optional<FlowPair>, AllocError>
     requires model { IsModel model.now }
     requires number { (1 ≤ number) × (number ≤ length model.now.periods) }
     requires covered { Filled (IsCovered model.now) false (cell_count model.now.grid) covered.now }
     requires digits { s ≤ 18 }
-    ensures { IfOk result (λ v. Filled (IsRecharged model.now s number) None (cell_count model.now.grid) v.items) }
+    ensures { IfOk result (Filled (IsRecharged model.now s number) None (cell_count model.now.grid)) }
 {
-    let mut pairs = Vec::new(alloc);
+    let mut pairs = Optional::none(alloc, 0);
     let count = model.grid.cell_count();
     for cell in 0..count {
         let highest = is_uncovered(model, covered, cell);

@@ -37,29 +37,23 @@ fn advance_to(
     ensures given { given.new ≡ given_heads model.now given.new.period }
     ensures there { OnOk result (given.new.period ≡ period) }
 {
-    begin_until(given, alloc, model, period)?;
+    begin_until(given, alloc, model, period);
     for _ in given.period..period {
-        given.advance(model);
+        *given = given.next(alloc, model)?;
     }
     Ok(())
 }
 
 // Starts anew before the first period, if the given heads are those of a later period than this one.
-fn begin_until(
-    given: &mut GivenHeads,
-    alloc: Global,
-    model: &FlowModel,
-    period: u32,
-) -> Result<(), AllocError>
+fn begin_until(given: &mut GivenHeads, alloc: Global, model: &FlowModel, period: u32)
     requires model { IsModel model.now }
     requires given { given.old ≡ given_heads model.now given.old.period }
     ensures given { given.new ≡ given_heads model.now given.new.period }
-    ensures before { OnOk result (given.new.period ≤ period) }
+    ensures before { given.new.period ≤ period }
 {
     if given.period > period {
-        *given = GivenHeads::new(alloc, model)?;
+        *given = GivenHeads::new(alloc, model);
     }
-    Ok(())
 }
 
 impl<'a> Walk<'a> {
@@ -68,7 +62,7 @@ impl<'a> Walk<'a> {
         ensures walk { IfOk result (IsWalk model.now) }
         ensures zones { IfOk result (λ w. w.zones.now ≡ zones.entry.now) }
     {
-        let given = GivenHeads::new(alloc, model)?;
+        let given = GivenHeads::new(alloc, model);
         let pairs = zone_pairs(alloc, model, &given, zones)?;
         Ok(Walk {
             zones,

@@ -1,5 +1,5 @@
-use Rattle.problem_builder.proofs.Common.{ℕ, None, subst, ap, ◌∙◌, refl, arith, no_bound, NoFlow, Period, cell_count, entries_of, entries, AreLocalBounds}
-use Rattle.problem_builder.proofs.Common.{local_in, IsKind, IsIndex, IsKept, IsRecharged, IsEvaporated, AreEvenStorages, span_in}
+use Rattle.problem_builder.proofs.Common.{ℕ, subst, ap, ◌∙◌, refl, arith, no_bound, NoFlow, Period, cell_count, entries_of, entries, AreLocalBounds, local_in}
+use Rattle.problem_builder.proofs.Common.{IsKind, IsIndex, IsKept, AreEvenStorages, span_in}
 use Rattle.problem_builder.proofs.CellTables.{kinds_filled}
 use Rattle.problem_builder.proofs.PeriodMade.{period_made, filled_as, named_as}
 use Rattle.problem_builder.proofs.PeriodsOf.{entries_in}
@@ -36,6 +36,6 @@ returns-clause-tables c =
       kept = filled_as (IsKept m c.args.given.now.period) no_bound n _ _ c.new-3.ensures c.in_ok-kept.ensures;
       locals = c.in_ok-local.ensures.len ∙ count;
       local = (λ d. subst (λ (x : Period). AreLocalBounds s d (local_in c.in_ok-local.local d) (entries_of d (entries x))) per (c.in_ok-local.ensures.are d));
-      recharge = filled_as (IsRecharged m s p) None n _ _ c.new-4.ensures c.in_ok-recharge.ensures;
-      evaps = filled_as (IsEvaporated m s p) None n _ _ c.new-5.ensures c.in_ok-evaps.ensures;
+      recharge = c.in_ok-recharge.ensures;
+      evaps = c.in_ok-evaps.ensures;
     })
