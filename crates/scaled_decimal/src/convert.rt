@@ -12,6 +12,9 @@ use crate::power::behind_18_digits;
 use crate::rounding::{round_dn, round_up};
 use decimal_input::dec::Dec;
 
+// The least number of 15 digits.
+const FOUR_ZEROS_FIT: u64 = 100_000_000_000_000;
+
 // The digits with zeros appended until there are 18.
 fn padded(digits: u64, exponent: i16) -> Sd
     requires positive { 0 < digits }
@@ -23,6 +26,10 @@ fn padded(digits: u64, exponent: i16) -> Sd
 {
     let mut m = digits;
     let mut e = exponent;
+    while m < FOUR_ZEROS_FIT {
+        m *= 10_000;
+        e -= 4;
+    }
     while m < LEAST {
         m *= 10;
         e -= 1;

@@ -1,6 +1,6 @@
 // Powers of ten.
 
-ghost use Rattle.std.specs.Prelude.{◌≡◌, ◌*◌, ◌^◌, ◌≤◌, ◌<◌};
+ghost use Rattle.std.specs.Prelude.{◌≡◌, ◌*◌, ◌/◌, ◌^◌, ◌≤◌, ◌<◌};
 
 use crate::decimal::LIMIT;
 
@@ -17,6 +17,42 @@ pub(crate) const TEN: Power = Power {
     unit: 10,
     places: 1,
 };
+
+// 10^17
+const PRODUCT_UNIT: u128 = 100_000_000_000_000_000;
+
+// 2^120 / 10^17, rounded down.
+const PRODUCT_INVERSE: u128 = 13_292_279_957_849_158_729;
+
+// q / 10^17. A product takes less time than a division of 128 bits, and is too small by a few at most.
+fn over_product_unit(q: u128) -> u128
+    requires { q < 2 ^ 120 }
+    ensures { result ≡ q / 10 ^ 17 }
+{
+    let head = (q / (1 << 56)) as u64;
+    let mut front = head as u128 * PRODUCT_INVERSE / (1 << 64);
+    let mut rest = q - front * PRODUCT_UNIT;
+    while rest >= PRODUCT_UNIT {
+        rest -= PRODUCT_UNIT;
+        front += 1;
+    }
+    front
+}
+
+impl Power {
+    /// q over the power, rounded down. The powers behind products and sums of equal exponents take no division.
+    pub(crate) fn quotient(self, q: u128) -> u64
+        requires power { self.unit ≡ 10 ^ self.places }
+        requires most { q < 10 ^ 19 * self.unit }
+        ensures { result ≡ q / self.unit }
+    {
+        match self.places {
+            0 => q as u64,
+            17 => over_product_unit(q) as u64,
+            _ => (q / self.unit) as u64,
+        }
+    }
+}
 
 pub(crate) fn power_of_ten(places: u32) -> Power
     requires within { places ≤ 38 }

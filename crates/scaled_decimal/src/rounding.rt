@@ -19,7 +19,7 @@ pub(crate) fn round_dn(q: u128, behind: Power, e: i16) -> Sd
     ensures nearest { (f : Ratio) → IsFrom q e f → IsDown result f }
     ensures size { HasSize result (e +ℤ pos behind.places) (e +ℤ pos behind.places +ℤ pos 1) }
 {
-    let front = (q / behind.unit) as u64;
+    let front = behind.quotient(q);
     let e = e + behind.places as i16;
     if front < LIMIT {
         Sd { m: front, e }
@@ -42,7 +42,7 @@ pub(crate) fn round_up(p: u128, behind: Power, e: i16) -> Sd
     ensures nearest { (f : Ratio) → IsUpTo p e f → IsUp result f }
     ensures size { HasSize result (e +ℤ pos behind.places) (e +ℤ pos behind.places +ℤ pos 1) }
 {
-    let front = (p / behind.unit) as u64;
+    let front = behind.quotient(p);
     let e = e + behind.places as i16;
     if front < LIMIT - 1 {
         Sd { m: front + 1, e }
