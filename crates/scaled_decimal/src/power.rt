@@ -24,7 +24,7 @@ const PRODUCT_UNIT: u128 = 100_000_000_000_000_000;
 // 2^120 / 10^17, rounded down.
 const PRODUCT_INVERSE: u128 = 13_292_279_957_849_158_729;
 
-// q / 10^17. A product takes less time than a division of 128 bits, and is too small by a few at most.
+// q / 10^17. A product takes less time than a division of 128 bits. It is too small by two at most.
 fn over_product_unit(q: u128) -> u128
     requires { q < 2 ^ 120 }
     ensures { result ≡ q / 10 ^ 17 }

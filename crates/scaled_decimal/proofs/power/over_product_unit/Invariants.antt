@@ -1,4 +1,4 @@
-use Rattle.scaled_decimal.proofs.Common.{◌≡◌, ◌+◌, ◌*◌, ◌^◌}
+use Rattle.std.proofs.Common.{◌≡◌, ◌+◌, ◌*◌, ◌^◌}
 use Rattle.scaled_decimal.proofs.power.over_product_unit.Given as goal
 
 abbrev pub invariant-loop-rest : goal.invariant-loop-rest
