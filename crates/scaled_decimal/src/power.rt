@@ -40,7 +40,7 @@ fn over_product_unit(q: u128) -> u128
 }
 
 impl Power {
-    /// q over the power, rounded down. The powers behind products and sums of equal exponents take no division.
+    /// q over the power, rounded down, without a division of 128 bits after a product or a sum of equal exponents.
     pub(crate) fn quotient(self, q: u128) -> u64
         requires power { self.unit ≡ 10 ^ self.places }
         requires most { q < 10 ^ 19 * self.unit }
