@@ -5,19 +5,12 @@ use crate::state::State;
 use multigrid::numbers::{at, label, long_at, put};
 use std::alloc::{AllocError, Global};
 
-/// The result of a unit pass: the cells that rose again, in their order, and how many stay a unit lower.
-#[derive(Drop)]
-pub struct UnitPass {
-    pub order: Vec<u32>,
-    pub lowered: usize,
-}
-
 // Each cell's balance at its head, while some of the others are a unit lower, and whether it has risen again.
 #[derive(Drop)]
-struct Fire {
-    sums: Vec<i128>,
+pub struct Fire {
+    pub sums: Vec<i128>,
     burnt: Vec<bool>,
-    order: Vec<u32>,
+    pub order: Vec<u32>,
 }
 
 fn is_at_floor(side: &OneSide, heads: &[i64], cell: usize) -> bool {
@@ -62,7 +55,7 @@ impl Fire {
         Ok(fire)
     }
 
-    fn is_burnt(&self, cell: usize) -> bool {
+    pub fn is_burnt(&self, cell: usize) -> bool {
         self.burnt.get(cell).copied().unwrap_or(true)
     }
 
@@ -99,40 +92,15 @@ impl Fire {
         Ok(())
     }
 
-    // Lowers the cells that have not risen again, and returns how many.
-    fn lower(&self, heads: &mut [i64]) -> usize {
-        let mut lowered = 0_usize;
-        for cell in 0..heads.len() {
-            if !self.is_burnt(cell) {
-                heads[cell] = heads[cell].saturating_sub(1);
-                lowered = lowered.saturating_add(1);
-            }
-        }
-        lowered
+    /// The cells of settled heads that rise again after all have fallen by a unit.
+    pub fn of(alloc: Global, side: &OneSide, state: &State) -> Result<Fire, AllocError> {
+        let mut fire = Fire::lit(alloc, side, state)?;
+        fire.spread(side, state.heads.as_slice())?;
+        Ok(fire)
     }
 
-    // The balance of a cell after the pass.
-    fn balance_after(&self, side: &OneSide, heads: &[i64], cell: usize) -> i128 {
-        let sum = long_at(self.sums.as_slice(), cell);
-        if self.is_burnt(cell) {
-            return sum;
-        }
-        let fall = side.fall(&side.links.row(cell), at(heads, cell), heads);
-        sum.wrapping_add(fall as i128)
+    /// Whether all cells rise again.
+    pub fn is_complete(&self) -> bool {
+        self.burnt.iter().all(|is_burnt| *is_burnt)
     }
-}
-
-/// One unit pass over settled heads, which stay settled.
-pub fn unit_pass(alloc: Global, side: &OneSide, state: &mut State) -> Result<UnitPass, AllocError> {
-    let mut fire = Fire::lit(alloc, side, state)?;
-    fire.spread(side, state.heads.as_slice())?;
-    let lowered = fire.lower(state.heads.as_mut_slice());
-    for cell in 0..state.heads.len() {
-        let balance = fire.balance_after(side, state.heads.as_slice(), cell);
-        put(state.balances.as_mut_slice(), cell, balance);
-    }
-    Ok(UnitPass {
-        order: fire.order,
-        lowered,
-    })
 }

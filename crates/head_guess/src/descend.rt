@@ -1,12 +1,13 @@
 // From settled heads down to the first settled ones.
-use crate::burn::unit_pass;
+use crate::burn::Fire;
 use crate::gallop::gallop;
 use crate::one_side::OneSide;
+use crate::sink::Sink;
 use crate::solver::Solver;
 use crate::state::State;
 use crate::ways::way_between;
 use multigrid::Budget;
-use multigrid::numbers::{at, greatest};
+use multigrid::numbers::greatest;
 use std::alloc::{AllocError, Global};
 
 const MOST_PASSES: u32 = 1_000_000;
@@ -30,17 +31,17 @@ const SHAPE_UNITS: i64 = 16;
 // Rounds of conjugate gradients for a shape.
 const ROUNDS: u32 = 3;
 
-// The slopes of the cells that have fallen; 0, so that they are held, for the others.
-fn slopes_where_fallen(
+// The slopes of the cells that would fall next; 0, so that they are held, for the others.
+fn slopes_in(
     alloc: Global,
     side: &OneSide,
-    before: &[i64],
+    sink: &Sink,
     state: &State,
 ) -> Result<Vec<i64>, AllocError> {
     let heads = state.heads.as_slice();
     let mut slopes = Vec::with_capacity(alloc, heads.len())?;
     for cell in 0..heads.len() {
-        slopes.push(if at(heads, cell) < at(before, cell) {
+        slopes.push(if sink.has(cell) {
             side.slope(cell, heads)
         } else {
             0
@@ -49,15 +50,15 @@ fn slopes_where_fallen(
     Ok(slopes)
 }
 
-// The shape in which the cells that fell last would fall together.
+// The shape in which the cells that would fall next would fall together.
 fn find_shape(
     alloc: Global,
     side: &OneSide,
-    before: &[i64],
+    sink: &Sink,
     state: &State,
     budget: &mut Budget,
 ) -> Result<Vec<i64>, AllocError> {
-    let slopes = slopes_where_fallen(alloc, side, before, state)?;
+    let slopes = slopes_in(alloc, side, sink, state)?;
     let mut solver = Solver::by_cycles(alloc, side, slopes, budget)?;
     let mut shape = solver.room(alloc, side, ROUNDS, 14, budget)?;
     let most = greatest(shape.as_slice());
@@ -73,13 +74,13 @@ fn gallop_on(
     alloc: Global,
     side: &OneSide,
     from: &[i64],
-    before: &[i64],
+    sink: &Sink,
     state: &mut State,
     budget: &mut Budget,
 ) -> Result<i64, AllocError> {
     let way = way_between(alloc, from, state.heads.as_slice())?;
     let gained = gallop(alloc, side, state, way, budget)?;
-    let shape = find_shape(alloc, side, before, state, budget)?;
+    let shape = find_shape(alloc, side, sink, state, budget)?;
     Ok(gained.max(gallop(alloc, side, state, shape, budget)?))
 }
 
@@ -97,23 +98,18 @@ pub fn descend(
     let mut wait = if is_near { WAIT_OF_FEW } else { FIRST_WAIT };
     let mut since = 0_u32;
     for _ in 0..MOST_PASSES {
-        let before = state.heads.clone()?;
-        let pass = unit_pass(alloc, side, state)?;
+        let fire = Fire::of(alloc, side, state)?;
         budget.spend(side.len() as u64);
-        if pass.lowered == 0 || budget.is_spent() {
-            return Ok(pass.order);
+        if fire.is_complete() || budget.is_spent() {
+            return Ok(fire.order);
         }
-        since = since.saturating_add(1);
+        let mut sink = Sink::new(alloc, side, state.heads.as_slice(), &fire)?;
+        since = since.saturating_add(sink.fall_within(alloc, side, wait.saturating_sub(since))?);
+        sink.write(side, state);
+        budget.spend(sink.visits());
         if since >= wait {
             since = 0;
-            let gained = gallop_on(
-                alloc,
-                side,
-                from.as_slice(),
-                before.as_slice(),
-                state,
-                budget,
-            )?;
+            let gained = gallop_on(alloc, side, from.as_slice(), &sink, state, budget)?;
             wait = if gained >= GAIN {
                 SHORT_WAIT
             } else {

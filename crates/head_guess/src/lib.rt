@@ -28,6 +28,7 @@ mod room;
 mod search;
 mod share_cycles;
 mod shares;
+mod sink;
 mod slopes;
 mod solver;
 mod state;
