@@ -5,11 +5,16 @@ use crate::state::State;
 use multigrid::numbers::{at, label, long_at, put};
 use std::alloc::{AllocError, Global};
 
-// Each cell's balance at its head, while some of the others are a unit lower, and whether it has risen again.
+/// When a cell burns that does not.
+pub const NEVER: u32 = u32::MAX;
+
+/// Which cells rise again after all have fallen by a unit, in their order.
 #[derive(Drop)]
 pub struct Fire {
+    /// Each cell's balance at its head, while all others are a unit lower that have not burnt before it.
     pub sums: Vec<i128>,
-    burnt: Vec<bool>,
+    // When each cell burnt: 0 if it is at its floor.
+    burnt_at: Vec<u32>,
     pub order: Vec<u32>,
 }
 
@@ -35,31 +40,40 @@ fn balance_amid_lower(side: &OneSide, state: &State, cell: usize) -> i128 {
 }
 
 impl Fire {
+    // A cell burns after all that have burnt.
+    fn light(&mut self, cell: u32) -> Result<(), AllocError> {
+        self.order.push(cell)?;
+        let place = label(self.order.len());
+        put(self.burnt_at.as_mut_slice(), cell as usize, place);
+        Ok(())
+    }
+
     // The cells that rise at once, while all others are a unit lower. Those at the floor stay there.
     fn lit(alloc: Global, side: &OneSide, state: &State) -> Result<Fire, AllocError> {
         let heads = state.heads.as_slice();
         let mut fire = Fire {
             sums: Vec::with_capacity(alloc, heads.len())?,
-            burnt: Vec::with_capacity(alloc, heads.len())?,
+            burnt_at: Vec::with_capacity(alloc, heads.len())?,
             order: Vec::new(alloc),
         };
         for cell in 0..heads.len() {
             let sum = balance_amid_lower(side, state, cell);
             let is_at_floor = is_at_floor(side, heads, cell);
             fire.sums.push(sum)?;
-            fire.burnt.push(is_at_floor || sum >= 0)?;
+            fire.burnt_at.push(if is_at_floor { 0 } else { NEVER })?;
             if !is_at_floor && sum >= 0 {
-                fire.order.push(label(cell))?;
+                fire.light(label(cell))?;
             }
         }
         Ok(fire)
     }
 
-    pub fn is_burnt(&self, cell: usize) -> bool {
-        self.burnt.get(cell).copied().unwrap_or(true)
+    /// When a cell burnt.
+    pub fn burnt_at(&self, cell: usize) -> u32 {
+        self.burnt_at.get(cell).copied().unwrap_or(0)
     }
 
-    // A cell has risen again: the balances of its neighbours grow, and some of these rise.
+    // A cell has risen again: the balances of its neighbours grow, unless these burnt before, and some rise.
     fn spread_from(
         &mut self,
         side: &OneSide,
@@ -67,16 +81,20 @@ impl Fire {
         cell: usize,
     ) -> Result<(), AllocError> {
         let below = at(heads, cell).wrapping_sub(1);
+        let now = self.burnt_at(cell);
         let row = side.links.row(cell);
         for edge in side.links.edges(&row) {
             let other = edge.other as usize;
+            let burnt_at = self.burnt_at(other);
+            if burnt_at <= now {
+                continue;
+            }
             let above = below.wrapping_sub(at(heads, other));
             let gain = unit_gain(edge.lo, edge.hi, above) as i128;
             let sum = long_at(self.sums.as_slice(), other).wrapping_add(gain);
             put(self.sums.as_mut_slice(), other, sum);
-            if sum >= 0 && !self.is_burnt(other) {
-                put(self.burnt.as_mut_slice(), other, true);
-                self.order.push(edge.other)?;
+            if sum >= 0 && burnt_at == NEVER {
+                self.light(edge.other)?;
             }
         }
         Ok(())
@@ -101,6 +119,6 @@ impl Fire {
 
     /// Whether all cells rise again.
     pub fn is_complete(&self) -> bool {
-        self.burnt.iter().all(|is_burnt| *is_burnt)
+        self.burnt_at.iter().all(|burnt_at| *burnt_at != NEVER)
     }
 }

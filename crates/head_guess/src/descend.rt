@@ -103,9 +103,10 @@ pub fn descend(
         if fire.is_complete() || budget.is_spent() {
             return Ok(fire.order);
         }
-        let mut sink = Sink::new(alloc, side, state.heads.as_slice(), &fire)?;
-        since = since.saturating_add(sink.fall_within(alloc, side, wait.saturating_sub(since))?);
-        sink.write(side, state);
+        let units = wait.saturating_sub(since).max(1);
+        let mut sink = Sink::new(alloc, state.heads.as_slice(), &fire, units)?;
+        since = since.saturating_add(sink.fall_through(side)?);
+        *state = State::new(alloc, side, sink.heads(alloc)?)?;
         budget.spend(sink.visits());
         if since >= wait {
             since = 0;

@@ -31,6 +31,7 @@ mod shares;
 mod sink;
 mod slopes;
 mod solver;
+mod spot;
 mod state;
 mod steps;
 mod system;

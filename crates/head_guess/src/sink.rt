@@ -1,93 +1,76 @@
 // A set of cells that falls as one, unit by unit. Only cells at its edge are visited: some leave it, since they would rise again, and stay
 // where they are; others join it.
-use crate::burn::Fire;
-use crate::flows::{unit_gain, unit_loss};
-use crate::links::{Edge, Row};
+use crate::burn::{Fire, NEVER};
+use crate::links::Row;
+use crate::marks::{CELLS, Marks, Order, Sweep};
 use crate::one_side::OneSide;
-use crate::state::State;
-use multigrid::numbers::{at, cut, label, long_at, put};
+use crate::spot::{Depth, Pace, REST, Spot};
+use multigrid::numbers::{at, label, long_at, put};
 use std::alloc::{AllocError, Global};
-use std::mem::replace;
-
-/// A cell: its balance while all others of the set are a unit lower, and its head, which is for one of the set that before it fell.
-#[derive(Clone, Copy)]
-struct Spot {
-    sum: i128,
-    head: i64,
-    // When it has burnt: it rises by what those give that have burnt before it.
-    burnt_at: u32,
-    falls: bool,
-    is_listed: bool,
-}
 
 const NO_SPOT: Spot = Spot {
     sum: 0,
+    rate: 0,
     head: 0,
     burnt_at: 0,
-    falls: false,
-    is_listed: true,
+    until: NEVER,
 };
 
 /// All cells, and how far the set has fallen.
 #[derive(Drop)]
 pub struct Sink {
     spots: Vec<Spot>,
-    // The cells whose balances change when the set falls.
-    edge: Vec<u32>,
+    // The cells whose balances units change.
+    edge: Marks,
     joining: Vec<u32>,
     leaving: Vec<u32>,
-    depth: i64,
-    burnt: u32,
+    depth: Depth,
+    // When the next cell burns.
+    next: u32,
     members: u64,
     visits: u64,
 }
 
+// The nearest number of 64 bits.
+fn narrow(number: i128) -> i64 {
+    let farthest = if number < 0 { i64::MIN } else { i64::MAX };
+    i64::try_from(number).unwrap_or(farthest)
+}
+
 impl Sink {
-    /// The set of the cells that have not burnt.
-    pub fn new(
-        alloc: Global,
-        side: &OneSide,
-        heads: &[i64],
-        fire: &Fire,
-    ) -> Result<Sink, AllocError> {
+    /// The set of the cells that have not burnt, which falls by at most these units.
+    pub fn new(alloc: Global, heads: &[i64], fire: &Fire, units: u32) -> Result<Sink, AllocError> {
         let mut sink = Sink {
             spots: Vec::with_capacity(alloc, heads.len())?,
-            edge: Vec::with_capacity(alloc, heads.len())?,
+            edge: Marks::new(alloc, heads.len())?,
             joining: Vec::new(alloc),
             leaving: Vec::new(alloc),
-            depth: 0,
-            burnt: label(fire.order.len()),
+            depth: Depth {
+                units: 0,
+                last: units,
+            },
+            next: label(fire.order.len()).saturating_add(1),
             members: 0,
             visits: 0,
         };
         for (cell, head) in heads.iter().enumerate() {
-            let falls = !fire.is_burnt(cell);
-            sink.members = sink.members.saturating_add(falls as u64);
-            sink.spots.push(Spot {
-                sum: long_at(fire.sums.as_slice(), cell),
+            let spot = Spot {
+                sum: narrow(long_at(fire.sums.as_slice(), cell)),
+                rate: 0,
                 head: *head,
-                burnt_at: 0,
-                falls,
-                is_listed: true,
-            })?;
-            sink.edge.push(label(cell))?;
-        }
-        for (place, cell) in fire.order.iter().enumerate() {
-            if let Some(spot) = sink.spots.as_mut_slice().get_mut(*cell as usize) {
-                spot.burnt_at = label(place);
-            }
+                burnt_at: fire.burnt_at(cell),
+                until: 0,
+            };
+            sink.members = sink.members.saturating_add(spot.falls() as u64);
+            sink.spots.push(spot)?;
+            sink.edge.set(cell);
         }
         Ok(sink)
     }
 
-    // Whether no cell is left in the set.
-    fn is_empty(&self) -> bool {
-        self.members == 0
-    }
-
     /// Whether a cell is in the set.
     pub fn has(&self, cell: usize) -> bool {
-        self.spot(cell).falls
+        self.spot(cell).falls()
     }
 
     /// The number of cells that were visited.
@@ -95,177 +78,140 @@ impl Sink {
         self.visits
     }
 
+    /// The heads of all cells.
+    pub fn heads(&self, alloc: Global) -> Result<Vec<i64>, AllocError> {
+        let mut heads = Vec::with_capacity(alloc, self.spots.len())?;
+        for spot in &self.spots {
+            heads.push(self.depth.own(spot))?;
+        }
+        Ok(heads)
+    }
+
     fn spot(&self, cell: usize) -> Spot {
         self.spots.get(cell).copied().unwrap_or(NO_SPOT)
     }
 
-    fn own(&self, spot: &Spot) -> i64 {
-        if spot.falls {
-            spot.head.wrapping_sub(self.depth)
+    // The pace of a cell by itself, where it falls. It ends where the cell comes to its floor.
+    fn own_pace(&self, side: &OneSide, cell: usize, row: &Row, spot: &Spot) -> Pace {
+        if !spot.falls() {
+            return REST;
+        }
+        let own = self.depth.own(spot).wrapping_sub(1);
+        let room = spot.head.saturating_sub(at(side.floor.as_slice(), cell));
+        let mut until = if row.is_straight() {
+            self.depth.within(room)
         } else {
-            spot.head
-        }
-    }
-
-    // What a cell gives to the balance of another one at this head, more than if it were a unit lower.
-    fn gain(&self, edge: &Edge, giver: &Spot, own: i64) -> i64 {
-        let above = self.own(giver).wrapping_sub(1).wrapping_sub(own);
-        unit_gain(edge.lo, edge.hi, above)
-    }
-
-    // How much the balance of a cell of the set has grown by the last unit. None where no unit changes it.
-    fn growth(&self, side: &OneSide, row: &Row, own: i64) -> Option<i64> {
-        let mut growth = cut(side.fall_beside_links(row, own, 1));
-        let mut is_at_edge = growth != 0 || !row.is_straight();
-        for edge in side.links.edges(row) {
-            let other = self.spot(edge.other as usize);
-            if !other.falls {
-                let above = own.wrapping_sub(other.head);
-                growth = growth.saturating_add(unit_loss(edge.lo, edge.hi, above));
-                is_at_edge = true;
-            }
-        }
-        if is_at_edge { Some(growth) } else { None }
-    }
-
-    // How much the balance of a cell beside the set falls by a unit. None where no unit changes it.
-    fn loss(&self, side: &OneSide, row: &Row, own: i64) -> Option<i64> {
-        let mut loss = None;
-        for edge in side.links.edges(row) {
-            let other = self.spot(edge.other as usize);
-            if other.falls {
-                let gain = self.gain(edge, &other, own);
-                loss = Some(gain.saturating_add(loss.unwrap_or(0)));
-            }
-        }
-        loss
-    }
-
-    fn may_leave(&self, side: &OneSide, cell: usize, spot: &Spot) -> bool {
-        spot.falls && (spot.sum >= 0 || self.own(spot) <= at(side.floor.as_slice(), cell))
-    }
-
-    // Whether a cell beside the set would not rise again by what those give that have burnt before it.
-    fn may_join(&self, side: &OneSide, cell: usize, spot: &Spot) -> bool {
-        if spot.falls || spot.head <= at(side.floor.as_slice(), cell) {
-            return false;
-        }
-        let mut sum = spot.sum;
-        for edge in side.links.edges(&side.links.row(cell)) {
-            let other = self.spot(edge.other as usize);
-            if !other.falls && other.burnt_at > spot.burnt_at {
-                sum = sum.wrapping_sub(self.gain(edge, &other, spot.head) as i128);
-            }
-        }
-        sum < 0
-    }
-
-    // Writes a cell, and lists it as one at the edge.
-    fn list(&mut self, cell: usize, spot: Spot) -> Result<(), AllocError> {
-        if !spot.is_listed {
-            self.edge.push(label(cell))?;
-        }
-        let spot = Spot {
-            is_listed: true,
-            ..spot
+            0
         };
-        put(self.spots.as_mut_slice(), cell, spot);
+        for known in side.knowns(row) {
+            until = until.min(self.depth.end_of(own.wrapping_sub(known.head)));
+        }
+        Pace {
+            rate: narrow(side.fall_beside_links(row, own, 1)),
+            until,
+        }
+    }
+
+    // A cell with its pace found anew.
+    fn renewed(&self, side: &OneSide, cell: usize, spot: &Spot) -> Spot {
+        let row = side.links.row(cell);
+        let mut renewed = spot.at_pace(self.own_pace(side, cell, &row, spot));
+        for edge in side.links.edges(&row) {
+            let other = self.spot(edge.other as usize);
+            renewed = renewed.with_pace(self.depth.pace(edge, spot, &other));
+        }
+        renewed
+    }
+
+    // Writes a cell, and lists it if it is at the edge, is to join the set or is to leave it.
+    fn write(&mut self, cell: u32, spot: Spot) -> Result<(), AllocError> {
+        self.edge.set_if(cell as usize, spot.is_at_edge());
+        put(self.spots.as_mut_slice(), cell as usize, spot);
+        if spot.falls() && spot.sum >= 0 {
+            self.leaving.push(cell)?;
+        }
+        if !spot.falls() && spot.sum < 0 {
+            self.joining.push(cell)?;
+        }
         Ok(())
     }
 
-    // Updates a cell that was listed. It stays listed if units change it.
-    fn update(&mut self, cell: usize, spot: Spot, change: Option<i64>) -> Result<Spot, AllocError> {
-        let spot = Spot {
-            sum: spot.sum.wrapping_add(change.unwrap_or(0) as i128),
-            is_listed: false,
-            ..spot
-        };
-        if change.is_some() {
-            self.list(cell, spot)?;
-        } else {
-            put(self.spots.as_mut_slice(), cell, spot);
-        }
-        Ok(spot)
-    }
-
-    // A cell after the set has fallen by a unit.
+    // A cell at the edge falls by a unit, or others beside it do.
     fn visit(&mut self, side: &OneSide, cell: usize) -> Result<(), AllocError> {
-        let row = side.links.row(cell);
-        let spot = self.spot(cell);
-        if spot.falls {
-            let change = self.growth(side, &row, self.own(&spot));
-            let spot = self.update(cell, spot, change)?;
-            if self.may_leave(side, cell, &spot) {
+        let mut spot = self.spot(cell);
+        if spot.until <= self.depth.units.saturating_add(1) {
+            spot = self.renewed(side, cell, &spot);
+            if spot.falls() {
                 self.leaving.push(label(cell))?;
             }
-            return Ok(());
         }
-        let change = self.loss(side, &row, spot.head);
-        let change = change.map(|loss| 0_i64.saturating_sub(loss));
-        let spot = self.update(cell, spot, change)?;
-        if change.is_some() && self.may_join(side, cell, &spot) {
-            self.joining.push(label(cell))?;
+        let sum = spot.sum.saturating_add(spot.rate);
+        self.visits = self.visits.saturating_add(1);
+        self.write(label(cell), Spot { sum, ..spot })
+    }
+
+    fn visit_word(&mut self, side: &OneSide, word: usize) -> Result<(), AllocError> {
+        let mut sweep = Sweep::new(word, Order::Up);
+        for _ in 0..CELLS {
+            let Some(cell) = self.edge.take_next(&mut sweep) else {
+                break;
+            };
+            self.visit(side, cell)?;
         }
         Ok(())
     }
 
-    // The balances of a cell's neighbours after it has joined the set or left it.
-    fn tell(&mut self, side: &OneSide, cell: usize, spot: &Spot) -> Result<(), AllocError> {
-        for edge in side.links.edges(&side.links.row(cell)) {
-            let other = edge.other as usize;
-            let mut near = self.spot(other);
-            let gain = self.gain(edge, spot, self.own(&near)) as i128;
-            if spot.falls {
-                near.sum = near.sum.wrapping_sub(gain);
-            } else {
-                near.sum = near.sum.wrapping_add(gain);
-            }
-            self.list(other, near)?;
-            if !spot.falls && self.may_leave(side, other, &near) {
-                self.leaving.push(edge.other)?;
-            }
-            if spot.falls && near.burnt_at > spot.burnt_at && self.may_join(side, other, &near) {
-                self.joining.push(edge.other)?;
-            }
-        }
-        Ok(())
+    fn is_at_floor(&self, side: &OneSide, cell: usize, spot: &Spot) -> bool {
+        self.depth.own(spot) <= at(side.floor.as_slice(), cell)
     }
 
-    // A cell joins the set. It leaves it again if it would rise by what others give.
+    // A cell joins the set, if it would not rise again by what those give that have burnt before it.
     fn join(&mut self, side: &OneSide, cell: usize) -> Result<(), AllocError> {
         let spot = self.spot(cell);
-        if !self.may_join(side, cell, &spot) {
+        if spot.falls() || spot.sum >= 0 || self.is_at_floor(side, cell, &spot) {
             return Ok(());
         }
-        let spot = Spot {
-            head: spot.head.wrapping_add(self.depth),
-            falls: true,
+        let then = spot.burnt_at;
+        let mut joined = Spot {
+            head: spot.head.wrapping_add(self.depth.units as i64),
+            burnt_at: NEVER,
             ..spot
         };
+        let row = side.links.row(cell);
+        joined = joined.at_pace(self.own_pace(side, cell, &row, &joined));
+        for edge in side.links.edges(&row) {
+            let near = self.spot(edge.other as usize);
+            let (own, near) = self.depth.join_beside(edge, joined, then, near);
+            joined = own;
+            self.write(edge.other, near)?;
+        }
         self.members = self.members.saturating_add(1);
         self.visits = self.visits.saturating_add(1);
-        self.list(cell, spot)?;
-        self.leaving.push(label(cell))?;
-        self.tell(side, cell, &spot)
+        self.write(label(cell), joined)
     }
 
-    // A cell leaves the set, and stays where it is.
+    // A cell leaves the set, if it would rise again, and stays where it is.
     fn leave(&mut self, side: &OneSide, cell: usize) -> Result<(), AllocError> {
         let spot = self.spot(cell);
-        if !self.may_leave(side, cell, &spot) {
+        if !spot.falls() || spot.sum < 0 && !self.is_at_floor(side, cell, &spot) {
             return Ok(());
         }
-        let spot = Spot {
-            head: self.own(&spot),
-            falls: false,
-            burnt_at: self.burnt,
+        let mut left = Spot {
+            head: self.depth.own(&spot),
+            burnt_at: self.next,
             ..spot
-        };
-        self.burnt = self.burnt.saturating_add(1);
+        }
+        .at_pace(REST);
+        for edge in side.links.edges(&side.links.row(cell)) {
+            let near = self.spot(edge.other as usize);
+            let (own, near) = self.depth.leave_beside(edge, left, near);
+            left = own;
+            self.write(edge.other, near)?;
+        }
+        self.next = self.next.saturating_add(1);
         self.members = self.members.saturating_sub(1);
         self.visits = self.visits.saturating_add(1);
-        self.list(cell, spot)?;
-        self.tell(side, cell, &spot)
+        self.write(label(cell), left)
     }
 
     // Cells join the set while they would not rise again, and then leave it while they would.
@@ -286,42 +232,24 @@ impl Sink {
     }
 
     // The set falls by a unit.
-    fn fall(&mut self, alloc: Global, side: &OneSide) -> Result<(), AllocError> {
-        self.depth = self.depth.saturating_add(1);
-        let edge = replace(&mut self.edge, Vec::new(alloc));
-        self.visits = self.visits.saturating_add(edge.len() as u64);
-        for cell in &edge {
-            self.visit(side, *cell as usize)?;
+    fn fall(&mut self, side: &OneSide) -> Result<(), AllocError> {
+        for word in 0..self.edge.len() {
+            if self.edge.has_any(word) {
+                self.visit_word(side, word)?;
+            }
         }
+        self.depth.units = self.depth.units.saturating_add(1);
         self.settle(side)
     }
 
-    /// The set falls, until it is empty, by at most these units, and at least by one. Returns by how many.
-    pub fn fall_within(
-        &mut self,
-        alloc: Global,
-        side: &OneSide,
-        units: u32,
-    ) -> Result<u32, AllocError> {
-        let mut fallen = 0_u32;
-        for _ in 0..units.max(1) {
-            self.fall(alloc, side)?;
-            fallen = fallen.saturating_add(1);
-            if self.is_empty() {
+    /// The set falls until it is empty, or has fallen as far as it may. Returns by how many units.
+    pub fn fall_through(&mut self, side: &OneSide) -> Result<u32, AllocError> {
+        for _ in 0..self.depth.last {
+            self.fall(side)?;
+            if self.members == 0 {
                 break;
             }
         }
-        Ok(fallen)
-    }
-
-    /// Writes heads and balances to a state.
-    pub fn write(&self, side: &OneSide, state: &mut State) {
-        for (cell, spot) in self.spots.iter().enumerate() {
-            let own = self.own(spot);
-            let loss = self.loss(side, &side.links.row(cell), own).unwrap_or(0);
-            put(state.heads.as_mut_slice(), cell, own);
-            let balance = spot.sum.wrapping_add(loss as i128);
-            put(state.balances.as_mut_slice(), cell, balance);
-        }
+        Ok(self.depth.units)
     }
 }
