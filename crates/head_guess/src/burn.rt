@@ -1,4 +1,4 @@
-// A unit pass: settled heads are lowered by a unit, and those that rise again stay where they were.
+// Which cells of settled heads rise again after all have fallen by a unit.
 use crate::flows::unit_gain;
 use crate::one_side::OneSide;
 use crate::state::State;

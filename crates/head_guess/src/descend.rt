@@ -10,16 +10,17 @@ use multigrid::Budget;
 use multigrid::numbers::greatest;
 use std::alloc::{AllocError, Global};
 
-const MOST_PASSES: u32 = 1_000_000;
+// The greatest number of fires.
+const MOST_FIRES: u32 = 1_000_000;
 
-// The number of unit passes before the first gallop, between two gallops that gain, and at most between two.
-const FIRST_WAIT: u32 = 16;
+// The number of units before the first gallop, between two gallops that gain, and at most between two.
+const FIRST_WAIT: u32 = 24;
 
-const SHORT_WAIT: u32 = 8;
+const SHORT_WAIT: u32 = 16;
 
 const LONG_WAIT: u32 = 32;
 
-// The number before the first one where few passes are left.
+// The number before the first one where few units are left.
 const WAIT_OF_FEW: u32 = 64;
 
 // A gallop gains if it lowers a head by at least this many units.
@@ -69,7 +70,7 @@ fn find_shape(
     Ok(shape)
 }
 
-// Gallops along the way of the passes since `from`, and along the shape in which the cells of the last pass fall.
+// Gallops along the way since `from`, and along the shape in which the cells of the set fall.
 fn gallop_on(
     alloc: Global,
     side: &OneSide,
@@ -84,9 +85,9 @@ fn gallop_on(
     Ok(gained.max(gallop(alloc, side, state, shape, budget)?))
 }
 
-/// Lowers settled heads by unit passes, and by gallops along the way that the last ones went, until a pass moves
-/// nothing or the budget ends. Returns the order in which the cells rose again in the last pass. Where few passes are
-/// left the first gallop is later.
+/// Lowers settled heads unit by unit, and by gallops along the way that the last units went, until all cells rise again
+/// after a unit or the budget ends. Returns the order in which they do. Where few units are left the first gallop is
+/// later.
 pub fn descend(
     alloc: Global,
     side: &OneSide,
@@ -97,7 +98,7 @@ pub fn descend(
     let mut from = state.heads.clone()?;
     let mut wait = if is_near { WAIT_OF_FEW } else { FIRST_WAIT };
     let mut since = 0_u32;
-    for _ in 0..MOST_PASSES {
+    for _ in 0..MOST_FIRES {
         let fire = Fire::of(alloc, side, state)?;
         budget.spend(side.len() as u64);
         if fire.is_complete() || budget.is_spent() {

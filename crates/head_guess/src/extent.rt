@@ -17,7 +17,7 @@ const STEP: i64 = WHOLE / 64;
 // Heads that start a part of 1 / n of the whole room above the lowest that settle take about n / PARTS turns of each cell more than one.
 const PARTS: i128 = 200;
 
-// Unit passes that cost less than a trial does in which each cell takes one turn.
+// Falls by a unit that cost less than a trial does in which each cell takes one turn.
 const PASSES: i128 = 4;
 
 // In an even problem with n links of each cell, heads that settle in t turns of each cell start about a part of 1 / (t n EVEN_PARTS) of the
@@ -86,7 +86,7 @@ impl Extent {
         }
     }
 
-    /// The turns of a trial: TURNS of each cell; after a first one in an even problem more, where unit passes cost more than those.
+    /// The turns of a trial: TURNS of each cell; after a first one in an even problem more, where falls by a unit cost more than those.
     pub fn most_turns(&self, is_next: bool) -> u64 {
         let square = if is_next && self.is_even() {
             self.room.saturating_mul(2).checked_div(self.parts)
@@ -98,7 +98,7 @@ impl Extent {
         turns.clamp(TURNS, MOST_TURNS).saturating_mul(self.cells)
     }
 
-    /// Whether unit passes from heads that settled in these turns cost less than one more trial.
+    /// Whether falls by a unit from heads that settled in these turns cost less than one more trial.
     pub fn is_low(&self, turns: u64) -> bool {
         let (turns, cells) = (turns as i128, self.cells as i128);
         let parts = if self.is_even() {

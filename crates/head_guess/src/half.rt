@@ -23,7 +23,7 @@ pub struct Ended {
     pub share: i64,
 }
 
-/// One side's guess, and the order in which its cells rose again in the last unit pass.
+/// One side's guess, and the order in which its cells rise again after a fall by a unit.
 #[derive(Drop)]
 pub struct HalfGuess {
     pub ended: Ended,

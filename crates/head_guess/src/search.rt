@@ -16,7 +16,7 @@ pub struct Balanced {
 }
 
 /// Settled heads, how far below the balanced ones the search started: by this share of the room, in units of
-/// 2^-20, whether they are so low that unit passes cost less than one more trial, and whether few of them are left then.
+/// 2^-20, whether they are so low that falls by a unit cost less than one more trial, and whether few of them are left then.
 #[derive(Drop)]
 pub struct Settled {
     pub state: State,
