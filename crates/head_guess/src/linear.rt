@@ -90,6 +90,18 @@ impl Linear {
         budget: &mut Budget,
     ) -> &[i64] {
         let bits = self.bits(places);
+        self.correction_to(side, balances, places, bits, budget)
+    }
+
+    /// The correction of these balances, in units of 2^-places, with residuals below 2^bits of these units of each slope.
+    pub fn correction_to(
+        &mut self,
+        side: &OneSide,
+        balances: &[i128],
+        places: i64,
+        bits: u32,
+        budget: &mut Budget,
+    ) -> &[i64] {
         let left = budget.left();
         self.solver.set_right_side(balances, places);
         let unknowns = self.solver.solve(side, ROUNDS, bits, budget);
@@ -100,6 +112,11 @@ impl Linear {
     /// Whether the last correction, in units of 2^-places, was solved to its bits. If not, the system is known to be hard.
     pub fn check(&mut self, places: i64) -> bool {
         let bits = self.bits(places);
+        self.check_to(bits)
+    }
+
+    /// Whether the last correction was solved to these bits. If not, the system is known to be hard.
+    pub fn check_to(&mut self, bits: u32) -> bool {
         let is_solved = self.solver.is_solved(bits);
         self.cycled.is_hard = self.cycled.is_hard || !is_solved;
         is_solved

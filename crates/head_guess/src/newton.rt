@@ -6,6 +6,7 @@ use crate::ramp::Bends;
 use multigrid::Budget;
 use multigrid::numbers::{at, cut, put, shifted, width};
 use std::alloc::{AllocError, Global};
+use step_problem::problem::HEAD_LIMIT;
 
 const MOST_ROUNDS: u32 = 60;
 
@@ -20,6 +21,15 @@ const NEAR: i128 = 256;
 
 // The longest move leaves at most this part of it, if its system was solved.
 const BITS_OF_SLACK: u32 = 12;
+
+// The longest last move after which a system still takes all that is left.
+const LONGEST: i128 = 1 << 44;
+
+// Heads are far from the balanced ones where a balance alone would move its head by more than this.
+const FAR: i64 = 1 << 36;
+
+// A length unit.
+const UNIT: i64 = 1_000_000_000;
 
 // Where balances bend both ways Newton's method need not end. So evaporations stay at their full rate by the heads at which the balances were
 // last 0, and all others go on above their surface: then all balances bend one way, and after a first round heads move one way, until the
@@ -72,6 +82,41 @@ impl Newton {
         has_changed
     }
 
+    // The sum of all balances, where all heads are the same.
+    fn sum_at(&mut self, side: &OneSide, head: i64) -> i128 {
+        self.heads.as_mut_slice().fill(head);
+        self.linearize(side);
+        self.balances.iter().fold(0_i128, |sum, balance| sum.saturating_add(*balance))
+    }
+
+    // Begins at heads that are all the same, at which the balances sum up to about 0, if balances are smaller there than at far heads. Ramps
+    // have their effect there, as at far heads.
+    fn begin_level(&mut self, alloc: Global, side: &OneSide) -> Result<(), AllocError> {
+        let far = self.longest_move();
+        if far <= FAR {
+            return Ok(());
+        }
+        self.slack = HEAD_LIMIT;
+        let sum = self.sum_at(side, 0);
+        let fall = sum.saturating_sub(self.sum_at(side, UNIT)) / UNIT as i128;
+        let level = cut(sum.checked_div(fall.max(1)).unwrap_or(0));
+        self.sum_at(side, level.clamp(-HEAD_LIMIT, HEAD_LIMIT));
+        if self.longest_move() >= far {
+            self.slack = 0;
+            self.heads = Vec::from_slice(alloc, self.tops.as_slice())?;
+            self.linearize(side);
+        }
+        Ok(())
+    }
+
+    // Whether no ramp bends as near to its cell's head as that may be off.
+    fn is_straight(&self, side: &OneSide) -> bool {
+        self.heads
+            .iter()
+            .enumerate()
+            .all(|(cell, head)| !side.bends_within(cell, *head, self.slack))
+    }
+
     // The longest of the moves that would each cancel one balance alone.
     fn longest_move(&self) -> i64 {
         let mut longest = 0_i64;
@@ -99,11 +144,12 @@ impl Newton {
         longest
     }
 
-    // One round, where `alone` is the longest move by one balance alone. Returns the longest move, and whether it leaves few units if the slopes
-    // stay as they were.
+    // One round, where `alone` is the longest move by one balance alone. Returns the longest move, and whether it may be the last one if the
+    // slopes stay as they were.
     fn step(
         &mut self,
         side: &OneSide,
+        until: Until,
         alone: i64,
         linear: &mut Linear,
         budget: &mut Budget,
@@ -117,14 +163,20 @@ impl Newton {
         } else {
             longest
         });
-        (longest, alone < SHORT && longest < LONG && is_solved)
+        let may_end = match until {
+            Until::Straight => longest < LONGEST && self.is_straight(side),
+            _ => alone < SHORT && longest < LONG,
+        };
+        (longest, may_end && is_solved)
     }
 }
 
-/// How far Newton's method goes: to heads from which one more round leads to the balanced ones, or to these.
+/// How far Newton's method goes: to heads from which one more round leads to the balanced ones; to heads about which all balances are straight, so
+/// that a linear system takes what is left; or to balanced heads.
 #[derive(Clone, Copy)]
 pub enum Until {
     Near,
+    Straight,
     Balanced,
 }
 
@@ -140,13 +192,14 @@ pub fn find_balanced(
 ) -> Result<Vec<i64>, AllocError> {
     let mut newton = Newton::new(alloc, heads)?;
     newton.linearize(side);
+    newton.begin_level(alloc, side)?;
     let mut linear = Linear::of(alloc, side, &newton.slopes, kept.take(), budget)?;
     for _ in 0..MOST_ROUNDS {
         let alone = newton.longest_move();
         if until == Until::Near && alone < SHORT {
             break;
         }
-        let (longest, is_last) = newton.step(side, alone, &mut linear, budget);
+        let (longest, is_last) = newton.step(side, until, alone, &mut linear, budget);
         if budget.is_spent() {
             break;
         }

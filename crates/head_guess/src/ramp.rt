@@ -124,6 +124,12 @@ impl Ramp {
         is_above(side, head, self.top)
     }
 
+    /// Whether its foot or its top is within these units of a head.
+    pub fn bends_within(&self, head: i64, units: i64) -> bool {
+        let units = units.unsigned_abs();
+        self.foot.abs_diff(head) <= units || self.top.abs_diff(head) <= units
+    }
+
     /// The flow into the cell and its slope, where the ramp is flat by these bends alone: else it goes on beyond its foot and its top.
     pub fn piece(&self, side: Side, own: i64, bends: Bends) -> (i128, i64) {
         let end = if self.is_topped(side, bends.top) {

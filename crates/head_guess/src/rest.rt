@@ -8,11 +8,14 @@ use multigrid::Budget;
 use multigrid::numbers::at;
 use std::alloc::{AllocError, Global};
 
-// The bits of a solution below a unit. So few that it leaves at most 2^-10 of each slope.
+// The bits of a solution below a unit.
 const PLACES: u32 = 14;
 
-/// What is left as a balance: each slope once or twice. Rounding changes a balance by at most its slope, so that the sign of what is left is
-/// sure where balances are straight.
+// The bits of its residuals: they are at most 2^-5 of each slope.
+const BITS: u32 = 9;
+
+/// What is left as a balance: each slope once or twice, and the part of it by which the solution may be off. Rounding changes a balance by at most
+/// its slope, so that the sign of what is left is sure where balances are straight.
 #[derive(Clone, Copy)]
 pub enum Rest {
     Once,
@@ -21,10 +24,11 @@ pub enum Rest {
 
 impl Rest {
     fn of(self, slope: i64) -> i128 {
-        match self {
-            Rest::Once => product(1, slope),
-            Rest::Twice => product(2, slope),
-        }
+        let units = match self {
+            Rest::Once => 1,
+            Rest::Twice => 2,
+        };
+        product(units, slope).wrapping_add((slope >> PLACES.saturating_sub(BITS)) as i128)
     }
 }
 
@@ -59,11 +63,11 @@ pub fn leave_rest(
     }
     let balances = state.balances.as_slice();
     let mut linear = Linear::of(alloc, side, &slopes, kept.take(), budget)?;
-    let unknowns = linear.correction(side, balances, PLACES as i64, budget);
+    let unknowns = linear.correction_to(side, balances, PLACES as i64, BITS, budget);
     let mut moved = moved_down(alloc, side, heads, unknowns)?;
-    if !linear.check(PLACES as i64) && side.pattern.is_some() {
+    if !linear.check_to(BITS) && side.pattern.is_some() {
         linear = Linear::of(alloc, side, &slopes, Some(linear), budget)?;
-        let unknowns = linear.correction(side, balances, PLACES as i64, budget);
+        let unknowns = linear.correction_to(side, balances, PLACES as i64, BITS, budget);
         moved = moved_down(alloc, side, heads, unknowns)?;
     }
     *kept = Some(linear);
