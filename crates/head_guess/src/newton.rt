@@ -86,7 +86,9 @@ impl Newton {
     fn sum_at(&mut self, side: &OneSide, head: i64) -> i128 {
         self.heads.as_mut_slice().fill(head);
         self.linearize(side);
-        self.balances.iter().fold(0_i128, |sum, balance| sum.saturating_add(*balance))
+        self.balances
+            .iter()
+            .fold(0_i128, |sum, balance| sum.saturating_add(*balance))
     }
 
     // Begins at heads that are all the same, at which the balances sum up to about 0, if balances are smaller there than at far heads. Ramps

@@ -197,14 +197,32 @@ fn pair_by(
 {
     let links = Links::of(alloc, p)?;
     if p.len() > MANY && !is_hard(&kept.linear) {
-        let pair = pair_of(alloc, p, b, &links, None, narrow, FEW_VISITS, &mut kept.linear)?;
+        let pair = pair_of(
+            alloc,
+            p,
+            b,
+            &links,
+            None,
+            narrow,
+            FEW_VISITS,
+            &mut kept.linear,
+        )?;
         if !is_hard(&kept.linear) {
             return Ok(pair);
         }
     }
     let eliminable = kept.find_eliminable(alloc, &links)?;
     let pattern = eliminable.pattern();
-    let pair = pair_of(alloc, p, b, &links, pattern, narrow, VISITS, &mut kept.linear)?;
+    let pair = pair_of(
+        alloc,
+        p,
+        b,
+        &links,
+        pattern,
+        narrow,
+        VISITS,
+        &mut kept.linear,
+    )?;
     kept.eliminable = eliminable;
     Ok(pair)
 }

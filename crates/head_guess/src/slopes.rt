@@ -79,7 +79,9 @@ impl OneSide<'_> {
 
     /// Whether a ramp of a cell bends within these units of its head.
     pub fn bends_within(&self, cell: usize, head: i64, units: i64) -> bool {
-        self.ramps(&self.links.row(cell)).iter().any(|ramp| ramp.bends_within(head, units))
+        self.ramps(&self.links.row(cell))
+            .iter()
+            .any(|ramp| ramp.bends_within(head, units))
     }
 
     /// Whether one of two heads of a cell is above the top of a ramp, and the other is not.
