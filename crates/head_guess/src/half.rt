@@ -1,7 +1,7 @@
 // The guess of one side.
 use crate::descend::descend;
 use crate::linear::Linear;
-use crate::lower::lowered;
+use crate::lower::{lowered, lowered_at_once};
 use crate::newton::{Until, find_balanced};
 use crate::one_side::OneSide;
 use crate::raise::raise_within;
@@ -52,7 +52,20 @@ fn descent_budget(balanced: &Balanced, cells: usize) -> Budget {
     Budget::new(visits.min(MOST_VISITS), cells)
 }
 
-// Settled heads by a search below the balanced ones.
+// A guess that ended at settled heads.
+fn settled_half(balanced: Vec<i64>, state: State, share: i64, order: Vec<u32>) -> HalfGuess {
+    HalfGuess {
+        ended: Ended {
+            balanced,
+            heads: state.heads,
+            is_settled: true,
+            share,
+        },
+        order,
+    }
+}
+
+// Settled heads below the balanced ones, by a search where these are not far below.
 fn half_by_search(
     alloc: Global,
     side: &OneSide,
@@ -60,6 +73,9 @@ fn half_by_search(
     share: i64,
 ) -> Result<HalfGuess, AllocError> {
     let mut budget = descent_budget(&balanced, side.len());
+    if let Some((state, order)) = lowered_at_once(alloc, side, &balanced, share, &mut budget)? {
+        return Ok(settled_half(balanced.heads, state, share, order));
+    }
     let Some(settled) = settled_below(alloc, side, &balanced, share, &mut budget)? else {
         return Ok(HalfGuess {
             ended: Ended {
@@ -74,15 +90,7 @@ fn half_by_search(
     let share = settled.share;
     let heads = balanced.heads.as_slice();
     let (state, order) = lowered(alloc, side, heads, settled, &mut budget)?;
-    Ok(HalfGuess {
-        ended: Ended {
-            heads: state.heads,
-            balanced: balanced.heads,
-            is_settled: true,
-            share,
-        },
-        order,
-    })
+    Ok(settled_half(balanced.heads, state, share, order))
 }
 
 // The settled heads of the last step, moved as far as the balanced ones have, and a little higher.
@@ -143,15 +151,7 @@ fn half_by_last(
         return Ok(None);
     }
     let balanced = Vec::from_slice(alloc, balanced)?;
-    Ok(Some(HalfGuess {
-        ended: Ended {
-            heads: state.heads,
-            balanced,
-            is_settled: true,
-            share: last.share,
-        },
-        order,
-    }))
+    Ok(Some(settled_half(balanced, state, last.share, order)))
 }
 
 /// Heads near balanced ones, from which a round of Newton's method or two lead to them.

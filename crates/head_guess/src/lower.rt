@@ -1,8 +1,8 @@
 // From the settled heads of a search down to the first settled ones.
 use crate::descend::descend;
-use crate::extent::Width;
+use crate::extent::{Extent, Width};
 use crate::one_side::OneSide;
-use crate::search::Settled;
+use crate::search::{Balanced, Settled};
 use crate::share_cycles::{settled_by_shares, visits_of_cycle};
 use crate::state::State;
 use multigrid::Budget;
@@ -41,4 +41,32 @@ pub fn lowered(
     }
     let order = descend(alloc, side, &mut state, false, budget)?;
     Ok((state, order))
+}
+
+// Whether the room is one of the widest.
+fn is_widest(side: &OneSide, balanced: &Balanced) -> bool {
+    match Extent::new(side.links, balanced.room.as_slice()).width() {
+        Width::Widest => true,
+        _ => false,
+    }
+}
+
+/// The first settled heads by a share for each cell from the start, and the order in which cells rose again. None where the room is not one of
+/// the widest, so that one share for all may do; where the links have no pattern; or where no cycle settles.
+pub fn lowered_at_once(
+    alloc: Global,
+    side: &OneSide,
+    balanced: &Balanced,
+    share: i64,
+    budget: &mut Budget,
+) -> Result<Option<(State, Vec<u32>)>, AllocError> {
+    if side.pattern.is_none() || !is_widest(side, balanced) {
+        return Ok(None);
+    }
+    let heads = balanced.heads.as_slice();
+    let Some(mut state) = settled_by_shares(alloc, side, heads, share, budget)? else {
+        return Ok(None);
+    };
+    let order = descend(alloc, side, &mut state, false, budget)?;
+    Ok(Some((state, order)))
 }
