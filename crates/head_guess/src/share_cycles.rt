@@ -13,6 +13,14 @@ use std::alloc::{AllocError, Global};
 
 const MOST_CYCLES: u32 = 3;
 
+// A cell that rises as often in a round is too low: in a round of the first cycle, more often in each of the next ones, whose steps are
+// shorter, and where shares only fall.
+const FIRST_RISES: u32 = 4;
+
+const MORE_RISES: u32 = 2;
+
+const RISES_OF_FALLS: u32 = 8;
+
 // The rounds of a cycle, and at most those after it in which shares only fall: few where another cycle is left.
 const ROUNDS: u32 = 60;
 
@@ -46,14 +54,15 @@ impl Shares {
         alloc: Global,
         side: &OneSide,
         longest: i64,
+        rises: u32,
         budget: &mut Budget,
     ) -> Result<(), AllocError> {
         self.changes.begin(longest);
-        let mut are_low = self.try_all(alloc, side, budget)?;
+        let mut are_low = self.try_all(alloc, side, rises, budget)?;
         for _ in 1..ROUNDS {
             self.changes.turn(are_low.as_slice());
             self.lower(alloc, side, budget)?;
-            are_low = self.try_all(alloc, side, budget)?;
+            are_low = self.try_all(alloc, side, rises, budget)?;
         }
         Ok(())
     }
@@ -69,7 +78,7 @@ impl Shares {
         let turns = TURNS.saturating_mul(side.len() as u64);
         self.changes.begin_falls();
         for _ in 0..most_falls {
-            let are_low = self.try_all(alloc, side, budget)?;
+            let are_low = self.try_all(alloc, side, RISES_OF_FALLS, budget)?;
             if !self.changes.fall(are_low.as_slice()) {
                 let state = &mut self.state;
                 if raise_within(alloc, side, state, None, turns, budget)?.settled {
@@ -112,8 +121,10 @@ pub fn settled_by_shares(
     let mut shares = Shares::new(alloc, side, balanced, share, budget)?;
     let mut found = None;
     let mut longest = Changes::LONGEST;
+    let mut rises = FIRST_RISES;
     for cycle in 1..MOST_CYCLES + 1 {
-        shares.go(alloc, side, longest, budget)?;
+        shares.go(alloc, side, longest, rises, budget)?;
+        rises = rises.saturating_add(MORE_RISES);
         longest >>= BITS;
         let falls = if cycle < MOST_CYCLES {
             FEW_FALLS

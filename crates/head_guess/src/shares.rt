@@ -9,9 +9,6 @@ use multigrid::Budget;
 use multigrid::numbers::{at, put};
 use std::alloc::{AllocError, Global};
 
-// A cell that rises as often in a round is too low.
-const RISES: u32 = 8;
-
 // The bits of a solution below a unit, and those to which its residuals are solved.
 const PLACES: u32 = 10;
 
@@ -81,13 +78,14 @@ impl Shares {
         Ok(())
     }
 
-    /// Raises the heads, each a few times, and returns which cells are too low: those that rose as often.
+    /// Raises the heads, each at most as often, and returns which cells are too low: those that rose as often.
     pub fn try_all(
         &mut self,
         alloc: Global,
         side: &OneSide,
+        rises: u32,
         budget: &mut Budget,
     ) -> Result<Vec<bool>, AllocError> {
-        raise_counted(alloc, side, &mut self.state, RISES, budget)
+        raise_counted(alloc, side, &mut self.state, rises, budget)
     }
 }
