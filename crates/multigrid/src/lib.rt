@@ -11,7 +11,7 @@ mod level;
 mod levels;
 mod matrix;
 pub mod numbers;
-mod scaled;
+pub mod scaled;
 mod smoother;
 
 pub use budget::Budget;

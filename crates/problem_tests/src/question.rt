@@ -8,6 +8,7 @@ use crate::eliminations::{print_fit, print_network};
 use crate::given::{Given, Stage};
 use crate::hulls::take_hull;
 use crate::numbers::number;
+use crate::products::print_products;
 use crate::systems::print_system;
 use crate::zoning::print_zone_flows;
 use std::alloc::Global;
@@ -50,6 +51,7 @@ pub enum Question {
     Seats,
     Covers,
     System,
+    Products,
     Network,
     Fit,
     Batch,
@@ -93,6 +95,7 @@ impl Question {
             "seats" => Some(Question::Seats),
             "covers" => Some(Question::Covers),
             "system" => Some(Question::System),
+            "products" => Some(Question::Products),
             "network" => Some(Question::Network),
             "fit" => Some(Question::Fit),
             "batch" => Some(Question::Batch),
@@ -139,6 +142,7 @@ pub fn ask<R: Print + Threads + Wait + Sync>(
     match question {
         Question::Covers => return print_cover(rt, &given.budgets),
         Question::System => return print_system(rt, alloc, number(numbers, 0)),
+        Question::Products => return print_products(rt, alloc, number(numbers, 0)),
         Question::Network => return print_network(rt, alloc, numbers),
         Question::Fit => return print_fit(rt, alloc, numbers),
         Question::Batch => return print_batch(rt, alloc, numbers),
