@@ -28,14 +28,14 @@ def weights_of(listing: Listing, model: Model, spot: Spot) -> Weights:
     one of the four has no flow: the plane through the other three. Where neither neighbour across the cell's sides
     has flow: the cell's own head; where one has none: straight along the other."""
     k, i, j = spot.cell
-    if spot.cell not in listing.index:
+    if not listing.has(spot.cell):
         raise Problem("cell {},{},{} has no flow, or lies outside the grid".format(*spot.cell))
     if max(abs(spot.down), abs(spot.across)) > HALF:
         raise Problem("an offset lies from -0.5 to 0.5 of the cell")
     row, r = toward(i, spot.down, model.deck.nrow, lambda n: Fraction(model.deck.delc.exact(n - 1)))
     col, c = toward(j, spot.across, model.deck.ncol, lambda n: Fraction(model.deck.delr.exact(n - 1)))
     side, below, corner = (k, i, col), (k, row, j), (k, row, col)
-    has_side, has_below, has_corner = (cell in listing.index for cell in (side, below, corner))
+    has_side, has_below, has_corner = map(listing.has, (side, below, corner))
     if not r or not (has_below or has_corner and has_side and c):
         return weighted((spot.cell, 1 - c), (side, c)) if c and has_side else {spot.cell: Fraction(1)}
     if not c or not (has_side or has_corner and has_below):

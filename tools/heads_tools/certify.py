@@ -18,6 +18,7 @@ from pathlib import Path
 import numpy as np
 import scipy.sparse
 
+from .cell_lines import write_cells
 from .compare import compare, sentences
 from .equations import TERMS, Given, Network, Step, given_heads
 from .headfile import ANY_STEP, Heads, read_heads
@@ -320,8 +321,7 @@ def write_listing(listing: Listing, model: Model) -> None:
         file.write(f"HEADS 2 DIGITS {listing.digits} UNIT {listing.unit}\n")
         for step in listing.steps:
             file.write(f"STEP {step.period} {step.step}\n")
-            for (k, i, j), low, high in zip(listing.cells.tolist(), step.low.tolist(), step.high.tolist()):
-                file.write(f"HEAD {k} {i} {j} {decimal_text(low, 9)} {decimal_text(high, 9)}\n")
+            write_cells(file, "HEAD ", " ", listing.cells, step.low, step.high)
             for word, at in (("IN", 0), ("OUT", 2)):
                 for name, pair in step.terms.items():
                     file.write(f"{word} {decimal_text(pair[at], places)} {decimal_text(pair[at + 1], places)} {name}\n")

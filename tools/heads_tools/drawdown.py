@@ -8,6 +8,7 @@ from pathlib import Path
 
 import numpy as np
 
+from .cell_lines import write_cells
 from .listing import Listing, Step
 from .model import Model
 from .spans import demand_one
@@ -178,8 +179,7 @@ def write_changes(it: Drawdown, folder: Path) -> None:
         for change in it.changes:
             time = it.time(change)
             head = f"{change.period},{change.step},{'' if time is None else format(time, '.12g')}"
-            for (k, i, j), low, high in zip(it.plan.cells.tolist(), change.low.tolist(), change.high.tolist()):
-                file.write(f"{head},{k},{i},{j},{decimal_text(-high, 9)},{decimal_text(-low, 9)}\n")
+            write_cells(file, f"{head},", ",", it.plan.cells, -change.high, -change.low)
     with whole_file(folder / "budget_change.csv") as file:
         file.write("period,step,term,net_lower,net_upper\n")
         for change in it.changes:

@@ -68,14 +68,22 @@ class Listing:
         return tuple(int(n) for n in self.cells.max(axis=0)) if len(self.cells) else (0, 0, 0)
 
     @functools.cached_property
-    def index(self) -> dict[tuple[int, int, int], int]:
-        return {tuple(cell): n for n, cell in enumerate(self.cells.tolist())}
+    def places(self) -> np.ndarray:
+        """The place of each cell of the grid in the arrays of a step, -1 where it has no flow."""
+        out = np.full(self.shape, -1)
+        out[tuple((self.cells - 1).T)] = np.arange(len(self.cells))
+        return out
+
+    def has(self, cell: tuple[int, int, int]) -> bool:
+        """Whether a cell (layer, row, column) has flow."""
+        is_within = all(1 <= n <= most for n, most in zip(cell, self.shape))
+        return is_within and bool(self.places[tuple(n - 1 for n in cell)] >= 0)
 
     def at(self, cell: tuple[int, int, int]) -> int:
         """The place of a cell (layer, row, column) in the arrays of a step."""
-        if tuple(cell) not in self.index:
+        if not self.has(cell):
             raise Problem("cell {},{},{} isn't in the listing: it has no flow, or lies outside the grid".format(*cell))
-        return self.index[tuple(cell)]
+        return int(self.places[tuple(n - 1 for n in cell)])
 
     def widest(self) -> tuple[int, Step, tuple[int, int, int]]:
         """The greatest upper less lower in 10^-9, its step and its cell."""

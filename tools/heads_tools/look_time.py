@@ -21,7 +21,7 @@ class OverTime(Looking):
         lows = np.array([s.low for s in self.listing.steps])
         is_open = np.array([s.width() for s in self.listing.steps]).max(axis=0) > 0
         moves = (lows.max(axis=0) - lows.min(axis=0)) * (is_open | ~is_open.any())
-        wells = [cell for cell, _ in self.elements.get("WEL", []) if cell in self.listing.index]
+        wells = [cell for cell, _ in self.elements.get("WEL", []) if self.listing.has(cell)]
         chosen = list(dict.fromkeys(sorted(wells, key=lambda c: -moves[self.listing.at(c)])))[:LEAST_CURVES]
         apart = max(self.shape[1:]) / 5
         for at in np.argsort(-moves, kind="stable").tolist():

@@ -129,7 +129,7 @@ def plan_for(model: Model | None, shape: tuple[int, int, int], unit: str) -> Pla
     """The plan of a model with its entries, or one of equal widths where the model isn't known."""
     if model is None:
         return plan_of(np.ones(shape[2]), np.ones(shape[1]), unit, "columns, rows")
-    entries = {kind: [cell for cell, _ in found] for kind, found in elements(model).items()}
-    entries["CHD"] = entries.get("CHD", []) + [tuple(c) for c in (np.argwhere(model.ibound < 0) + 1).tolist()]
+    cells = {kind: np.array([cell for cell, _ in found], int).reshape(-1, 3) for kind, found in elements(model).items()}
+    entries = cells | {"CHD": np.concatenate([cells["CHD"], np.argwhere(model.ibound < 0) + 1])}
     top = np.concatenate([model.top[None], (model.bottom - model.bed)[:-1]])
     return plan_of(model.delr, model.delc, unit, unit, entries=entries, top=top, bottom=model.bottom)

@@ -88,12 +88,12 @@ def marks(axes: Axes, plan: Plan, layer: int, inches: float) -> list[Line2D]:
     x, y = plan.middles
     handles = []
     for kind, (shape, colour, _) in MARKS.items():
-        spots = plan.spots(kind, layer)
-        if spots:
+        rows, cols = plan.spots(kind, layer)
+        if len(rows):
             least = 5.0 if kind == "WEL" else size
             axes.plot(
-                [x[j - 1] for _, j in spots],
-                [y[i - 1] for i, _ in spots],
+                x[cols - 1],
+                y[rows - 1],
                 shape,
                 color=colour,
                 ms=max(size, least),

@@ -236,7 +236,8 @@ class Reader:
         begin = source.at
         out = self._array(record, rows, cols)
         out.file, out.line = source.name, begin
-        wrong = next((w for w in out.words if not re.fullmatch(r"[+-]?\d+", w)), None) if is_whole else None
+        distinct = dict.fromkeys(out.words) if is_whole else {}
+        wrong = next((w for w in distinct if not re.fullmatch(r"[+-]?\d+", w)), None)
         if wrong is not None:
             lines = range(begin, source.at + 1)
             line = next((n for n in lines if wrong in words(source.lines[n - 1])), begin)

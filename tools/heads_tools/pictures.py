@@ -35,13 +35,14 @@ MARKS = {
 @dataclass
 class Plan:
     """The grid as it is drawn: edges of columns from the west and of rows from the south, in `axis`; the unit of heads;
-    entries by kind (layer, row, column); elevations of layers, shape (layers, rows, cols), None where not known."""
+    entries by kind (layer, row, column), shape (entries, 3); elevations of layers, shape (layers, rows, cols), None
+    where not known."""
 
     x: np.ndarray
     y: np.ndarray
     unit: str
     axis: str
-    entries: dict[str, list[Cell]] = field(default_factory=dict)
+    entries: dict[str, np.ndarray] = field(default_factory=dict)
     top: np.ndarray | None = None
     bottom: np.ndarray | None = None
 
@@ -60,10 +61,14 @@ class Plan:
         """Whether maps have the same scale in both directions."""
         return 0.2 < self.y[0] / self.x[-1] < 2.5
 
-    def spots(self, kind: str, layer: int) -> list[tuple[int, int]]:
-        """Row and column of the cells to be marked in a layer: none where they are so many that marks hide the map."""
-        cells = sorted({(i, j) for k, i, j in self.entries.get(kind, []) if k == layer})
-        return cells if len(cells) <= (len(self.x) - 1) * (len(self.y) - 1) / 3 else []
+    def spots(self, kind: str, layer: int) -> tuple[np.ndarray, np.ndarray]:
+        """Rows and columns of the cells to be marked in a layer: none where they are so many that marks hide the
+        map."""
+        cells = self.entries.get(kind, np.zeros((0, 3), int))
+        _, rows, cols = cells[cells[:, 0] == layer].T
+        spots = np.unique(rows * len(self.x) + cols)
+        is_map = len(spots) <= (len(self.x) - 1) * (len(self.y) - 1) / 3
+        return np.divmod(spots if is_map else spots[:0], len(self.x))
 
 
 def plan_of(delr: np.ndarray, delc: np.ndarray, unit: str, axis: str, **more) -> Plan:

@@ -15,6 +15,7 @@ from pathlib import Path
 
 import numpy as np
 
+from .cell_lines import write_cells
 from .deck import Deck, Entry
 from .equations import TERMS
 from .limits import PLAIN, Limits
@@ -179,10 +180,9 @@ class Slabs:
         rows = slice(part.begin, part.end)
         pairs = [np.where(held, self.now[piece.side][:, rows], now[:, rows]) for now in self.now]
         cells = np.argwhere(self.model.ibound[:, rows] != 0)
-        units = [side[tuple(cells.T)].tolist() for side in pairs]
+        units = [side[tuple(cells.T)] for side in pairs]
         with whole_file(path) as file:
             file.write(f"HEADS 2 DIGITS {listing.digits} UNIT {listing.unit}\nSTEP 1 1\n")
-            for (k, i, j), low, high in zip((cells + 1).tolist(), *units):
-                file.write(f"HEAD {k} {i} {j} {decimal_text(low, 9)} {decimal_text(high, 9)}\n")
+            write_cells(file, "HEAD ", " ", cells + 1, *units)
             file.writelines(f"{word} {zero} {wide} {name}\n" for word in ("IN", "OUT") for name in names)
             file.write("END\n")

@@ -123,15 +123,19 @@ def find_file(folder: Path, name: str) -> tuple[Path, str]:
     raise Problem(f"there is no file {name} in {folder}")
 
 
+# Words of numbers without a remark that a file keeps, so that lines of them aren't read word by word.
+MOST_KNOWN = 100_000
 BLANK = "a blank line where an item is due: `heads` skips it, MODFLOW-2005 may read it as zeros"
 
 
 class Source:
-    """The lines of a file, taken one after another. `due`: what is being read, for the sentence of an early end."""
+    """The lines of a file, taken one after another. `due`: what is being read, for the sentence of an early end;
+    `known`: words of which there is nothing to remark, and their numbers."""
 
     def __init__(self, path: Path, name: str, report: Report):
         text = read_text(path)
         self.name, self.report, self.at, self.due, self.has_tab = name, report, 0, "", False
+        self.known: dict[str, str] = {}
         if text.startswith("\u00ef\u00bb\u00bf"):
             text = text[3:]
             report.add("needed", name, 1, "byte order mark dropped")
@@ -179,6 +183,8 @@ class Source:
         if seen.digits > 7:
             self.report.precise += 1
             self.report.first_precise = self.report.first_precise or f"{self.name}, line {self.at}: {word}"
+        elif not seen.change and len(self.known) < MOST_KNOWN:
+            self.known[word] = seen.text
         return seen.text
 
     def _no_number(self, word: str, said: str) -> str:
@@ -206,7 +212,12 @@ class Source:
         while len(out) < count:
             line = self.line(on_blank="")
             self._look_for_nulls(line, count - len(out))
-            for word in quoted_words(line) if "'" in line or '"' in line else line.replace(",", " ").split():
+            found = quoted_words(line) if "'" in line or '"' in line else line.replace(",", " ").split()
+            known = list(map(self.known.get, found))
+            if len(known) <= count - len(out) and None not in known:
+                out += known
+                continue
+            for word in found:
                 if len(out) >= count:
                     break
                 times, star, value = word.partition("*")
@@ -219,6 +230,8 @@ class Source:
 
     def _look_for_nulls(self, line: str, count: int) -> None:
         """Warns where one of the line's first `count` values is left out between two commas."""
+        if "," not in line:
+            return
         items = [item.strip() for item in line.split(",")]
         taken = 0
         for item in items[:-1] if not items[-1] else items:

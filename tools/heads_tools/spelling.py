@@ -12,6 +12,8 @@ EXACT = Context(prec=400)
 MOST_DIGITS = 18
 MODFLOW_DIGITS = 7
 NUMBER = re.compile(r"[+-]?(\d+\.?\d*|\.\d+)([EeDd]?[+-]?\d+)?")
+# A number of few digits, whose exponent is within the limits wherever its zeros stand.
+SHORT = re.compile(r"[+-]?(\d{1,9})(?:\.(\d{0,9}))?(?:[EeDd][+-]?[0-2]?\d)?")
 NO_LETTER = re.compile(r"(?<=[0-9.])([+-]\d+)$")
 FORTRAN = re.compile(r"\(\s*(?:([+-]?\d+)P\s*,?\s*)?(\d*)\s*([FEGDI])\s*(\d+)(?:\.(\d+))?(?:E\d+)?\s*\)")
 
@@ -38,6 +40,8 @@ def record_words(line: str) -> list[str]:
 @functools.lru_cache(maxsize=1 << 18)
 def number(word: str) -> Number:
     """The number of a word, written so that `heads` reads the same value (rounded only past 18 digits)."""
+    if short := SHORT.fullmatch(word):
+        return Number(word, "", len("".join(short.groups("")).strip("0")) or 1)
     if not NUMBER.fullmatch(word):
         raise Problem(f"`{word}` is no number")
     text, change = word, ""

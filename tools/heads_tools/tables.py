@@ -4,6 +4,7 @@ from __future__ import annotations
 from dataclasses import dataclass
 from pathlib import Path
 
+from .cell_lines import write_cells
 from .listing import Listing, Step
 from .text import decimal_text, whole_file
 
@@ -53,8 +54,7 @@ def write_tables(listing: Listing, folder: Path, times: dict[tuple[int, int], tu
         for step in listing.steps:
             time = f"{times[step.period, step.step][1]:.12g}" if times and (step.period, step.step) in times else ""
             head = f"{step.period},{step.step},{time}"
-            for (k, i, j), low, high in zip(listing.cells.tolist(), step.low.tolist(), step.high.tolist()):
-                file.write(f"{head},{k},{i},{j},{decimal_text(low, 9)},{decimal_text(high, 9)}\n")
+            write_cells(file, f"{head},", ",", listing.cells, step.low, step.high)
     with whole_file(folder / "budget.csv") as file:
         file.write(
             "period,step,term,in_lower,in_upper,out_lower,out_upper,net_lower,net_upper,narrowed_lower,narrowed_upper\n"

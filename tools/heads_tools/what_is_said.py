@@ -85,7 +85,7 @@ def stays(listing: Listing, unit: str, differing: list[str], wells: list[Cell]) 
     """The sentence of the cell, one with a well where there is one, whose bounds in the last step lie farthest apart:
     its least and its greatest bound of all steps, rounded outward to thousandths."""
     width = listing.steps[-1].width()
-    places = [listing.at(cell) for cell in wells if cell in listing.index] or range(len(width))
+    places = [listing.at(cell) for cell in wells if listing.has(cell)] or range(len(width))
     at = max(places, key=lambda n: int(width[n]))
     least, most = min(int(s.low[at]) for s in listing.steps), max(int(s.high[at]) for s in listing.steps)
     whatever = PUMPED if "pumping" in differing else "whatever lies between the two decks"

@@ -45,7 +45,7 @@ def test_a_plane_of_heads_is_met_between_cells_exactly(without, down, across):
     weights = weights_of(listing, model, Spot((1, 2, 2), Fraction(down), Fraction(across)))
     x = middle(WIDTHS, 2) + Fraction(across) * 20
     y = middle(DEPTHS, 2) + Fraction(down) * Fraction("2.5")
-    assert sum(weights.values()) == 1 and all(cell in listing.index for cell in weights)
+    assert sum(weights.values()) == 1 and all(map(listing.has, weights))
     if len(weights) > (down != "0") + (across != "0"):
         assert sum(w * on_plane(i, j) for (_, i, j), w in weights.items()) == 3 + 2 * x - 5 * y
 
