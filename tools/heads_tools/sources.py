@@ -212,7 +212,7 @@ class Source:
         while len(out) < count:
             line = self.line(on_blank="")
             self._look_for_nulls(line, count - len(out))
-            found = quoted_words(line) if "'" in line or '"' in line else line.replace(",", " ").split()
+            found = quoted_words(line)
             known = list(map(self.known.get, found))
             if len(known) <= count - len(out) and None not in known:
                 out += known

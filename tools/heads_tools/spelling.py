@@ -28,6 +28,8 @@ class Number(NamedTuple):
 
 def quoted_words(line: str) -> list[str]:
     """The words of a line as MODFLOW parts them: a text in quotes is one word."""
+    if "'" not in line and '"' not in line:
+        return line.replace(",", " ").split()
     return [a or b or c for a, b, c in re.findall(r"'([^']*)'|\"([^\"]*)\"|([^\s,'\"]+)", line)]
 
 
