@@ -5,10 +5,12 @@ use std::io;
 
 // Units of the leading 44 bits of an unknown below 2^60, and of the leading 60 bits of a residual below 2^81.
 const UNKNOWN_UNIT: i64 = 65_536;
+
 const RESIDUAL_UNIT: i128 = 2_097_152;
 
 // 2^60 - 2^16 and 2^81 - 2^21: all leading bits are ones.
 const UNKNOWN: i64 = 1_152_921_504_606_781_440;
+
 const RESIDUAL: i128 = 2_417_851_639_229_258_347_315_200;
 
 /// Takes inner products of twice `half` unknowns with as many residuals, all at their limits, and prints two quotients in
