@@ -31,7 +31,7 @@
 //!
 //! `budgets` begins two budgets, and `IN LISTED LISTED COMPUTED COMPUTED TERM` (or `OUT`) gives a term of both; `covers`
 //! asks whether the listed one covers the computed one. `system COUNT` solves a system whose solution is known;
-//! `products HALF` takes inner products of twice HALF unknowns and residuals at their limits.
+//! `products HALF` takes inner products of twice HALF unknowns and residuals at their limits, and of a unit of each.
 //! `network MOST COUNT GROUND .. FLOW .. [NODE NODE WEIGHT] ..` finds the heads of COUNT nodes by elimination, if that takes at most MOST
 //! operations, and `fit COUNT GROUND .. FLOW .. [NODE NODE WEIGHT] ..` says whether the pattern of nodes without links fits these.
 //!
