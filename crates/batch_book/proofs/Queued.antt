@@ -1,5 +1,5 @@
 -- Each step keeps the rule of the queue.
-use Rattle.batch_book.proofs.Common.{◌≡◌, ℕ, zero, suc, ◌+◌, ◌-◌, ◌<◌, ◌≤◌, List, [], ◌∷◌, ◌++◌, length, set, sym, refl, ap, ◌∙◌, arith, numbers_from, weigh}
+use Rattle.batch_book.proofs.Common.{◌≡◌, ℕ, zero, suc, ◌+◌, ◌-◌, ◌<◌, ◌≤◌, List, [], ◌∷◌, ◌++◌, length, set, sym, refl, ap, arith, numbers_from, weigh}
 use Rattle.batch_book.proofs.Common.{AreOnce}
 use mathlib.Core.Option.{some, some-injective, some-ne-none}
 use lib.ListN.{get_elem?}
@@ -21,9 +21,6 @@ module _ {X : Type 0} (f : X → ℕ) where
   weigh_one [] pass v e = absurd (some-ne-none v (sym e))
   weigh_one (x ∷ xs) zero v e = let same : f x ≡ f v = ap f (some-injective x v e) in omega arith
   weigh_one (x ∷ xs) (suc pass) v e = let t = weigh_one xs pass v e in omega arith
-
-pub begins : (n : ℕ) → AreOnce n [] (numbers_from 0 n ∷ [])
-begins n h = omega arith
 
 pub puts : (n cap pass : ℕ) (v rest : List ℕ) (x : ℕ) → v ≡ x ∷ rest → Pushes (AreOnce n) cap pass v x (λ w. v ≡ x ∷ w)
 puts n cap pass v rest x is items views room once at = (

@@ -1,4 +1,4 @@
-ghost use Rattle.std.specs.Prelude.{◌≡◌, ℕ, ◌<◌, List, length, IfOk, None, Option};
+ghost use Rattle.std.specs.Prelude.{◌≡◌, ℕ, ◌<◌, List, IfOk, None, Option};
 ghost use Rattle.batch_book.specs.Ends.{AreOwn, AreJobEnds, HasEnd, IsBook, IsGathered, IsMissing, IsPut, end_at};
 
 use crate::jobs::Jobs;

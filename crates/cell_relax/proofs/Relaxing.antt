@@ -34,17 +34,6 @@ abbrev pub IsBalanceAt : Side → List Entries → ℕ → List ℤ → ℤ → 
 IsBalanceAt side p c values v b = (h : ℕ → ℤ) → ends_in h (entries_at p c).links ≡ values → b ≡ balance side (entries_at p c) v h
 
 module _ (side : Side) (p : List Entries) (c : ℕ) (own : ℤ) (values : List ℤ) where
-  pub relax_start : (reached : ℤ) → reached ≡ turned_on side own → IsHead own → Relaxing side p c own values reached (pos 4000000000000000001)
-  relax_start reached is head =
-      let turned = subst IsHead (sym is) (head_turned side own head) in record {
-        head = turned;
-        no_looser = omega (arith, ints, is);
-        apart = omega (arith, ints, turned.below);
-        limit = omega (arith, ints);
-        may = λ h e. inl (subst (λ (x : ℤ). turned_on side x ≡ own) (sym is) (turned_back side own));
-        may_not = λ h e v in_range moves. omega (arith, ints, in_range.below);
-      }
-
   pub relax_reaches : (reached beyond middle at b : ℤ) → Relaxing side p c own values reached beyond → reached <ℤ middle → middle <ℤ beyond → at ≡ turned_on side middle → IsBalanceAt side p c values at b → LetsMove side b → Relaxing side p c own values middle beyond
   relax_reaches reached beyond middle at b s above below turned is lets = record {
     head = record { above = omega (arith, ints, above, s.head.above); below = omega (arith, ints, below, s.limit) };

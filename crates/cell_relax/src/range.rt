@@ -1,6 +1,5 @@
 // A test of heads that are kept as one bound for each cell.
 ghost use Rattle.std.specs.Prelude.{◌↔◌, IsTrue};
-ghost use Rattle.step_problem.specs.Conditions.{IsHead};
 ghost use Rattle.cell_relax.specs.Words.{AreWords};
 
 use step_problem::{Bound, Problem, is_head};

@@ -2,7 +2,7 @@
 ghost use Rattle.std.specs.Prelude.{◌≡◌, ◌<◌, ◌+◌, ◌↔◌, ℕ, ℤ, All, IsTrue, length};
 ghost use Rattle.step_problem.specs.Entries.{entries_at, ends_in};
 ghost use Rattle.step_problem.specs.BothSides.{balance};
-ghost use Rattle.step_problem.specs.Conditions.{IsHead, IsWithin, head_limit};
+ghost use Rattle.step_problem.specs.Conditions.{IsHead};
 ghost use Rattle.step_problem.specs.Heads.{IsRaise, IsSink};
 ghost use Rattle.cell_relax.specs.Sides.{LetsMove, IsRelaxedOn, turned_on};
 

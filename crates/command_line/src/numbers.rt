@@ -1,4 +1,4 @@
-ghost use Rattle.std.specs.Prelude.{◌≡◌, ◌≤◌, Option, option_map, IfSome};
+ghost use Rattle.std.specs.Prelude.{◌≡◌, ◌≤◌, option_map, IfSome};
 ghost use Rattle.command_line.specs.Numbers.{number_in, number_or};
 ghost use Rattle.command_line.specs.Wants.{turns_of};
 

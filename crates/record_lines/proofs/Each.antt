@@ -35,11 +35,6 @@ each_done read front all s total e so_far =
     let one : with_front front (for_each read all s) ≡ Ok (front, s) = rw e (ap (λ xs. Ok (xs, s)) (append-nil front)) in
     sym so_far ∙ one
 
--- a loop begins with nothing read
-pub each_begins : {X S E : Type 0} (r : Result (List X × S) E) → with_front [] r ≡ r
-each_begins (Ok x) = refl
-each_begins (Err e) = refl
-
 pub no_items : {A : Type 0} (xs : List A) → length xs ≡ 0 → xs ≡ []
 no_items [] e = refl
 no_items (x ∷ xs) e = absurd (omega arith)

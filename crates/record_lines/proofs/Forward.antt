@@ -1,8 +1,8 @@
 -- What a reading takes and leaves are words and lines that it was given.
 use Rattle.record_lines.proofs.Common.{◌≡◌, ℕ, zero, suc, ◌+◌, Bool, true, false, List, [], ◌∷◌, Option, Some, None, Result, Ok, Err, All, refl, subst, ◌==◌}
-use Rattle.record_lines.proofs.Common.{if◌then◌else◌, lines, words, Refusal, Left, Numbered, has_word, next_number, numbered, number_behind, left_from}
-use Rattle.record_lines.proofs.Common.{is_comment, after_comments, without_comments, ◌>>=◌, repeated, for_each, appended, counted, Taking, spread, taking}
-use Rattle.record_lines.proofs.Common.{next_word, source, taken, next_value}
+use Rattle.record_lines.proofs.Common.{if◌then◌else◌, lines, words, Refusal, Left, Numbered, has_word, next_number, numbered, left_from, is_comment}
+use Rattle.record_lines.proofs.Common.{after_comments, without_comments, ◌>>=◌, repeated, appended, counted, Taking, spread, taking, next_word, source, taken}
+use Rattle.record_lines.proofs.Common.{next_value}
 use Rattle.std.specs.Prelude.{IfOk}
 use Rattle.std.proofs.lemmas.List.Elements.{All-nil, All-cons, All-head, All-tail}
 use Rattle.outside.specs.Asking.{WordsMay, TextMay}
@@ -44,12 +44,6 @@ module _ {X S E : Type 0} (Q : S → Type 0) where
   appended_held read held zero s h = h
   appended_held read held (suc n) s h =
       chain (λ x. Q x.1) (λ x. Q x.1) (read s) _ (held s h) (λ x hx. chain (λ x. Q x.1) (λ x. Q x.1) (appended n read x.1) _ (appended_held read held n x.1 hx) (λ more hm. hm))
-
-  pub each_held : {A : Type 0} (read : A → S → Result (X × S) E) → ((a : A) (s : S) → Q s → IfOk (read a s) (λ x. Q x.1)) → (xs : List A) (s : S) → Q s → IfOk (for_each read xs s) (λ x. Q x.1)
-  unfolding for_each
-  each_held read held [] s h = h
-  each_held read held (a ∷ others) s h =
-      chain (λ x. Q x.1) (λ x. Q x.1) (read a s) _ (held a s h) (λ x hx. chain (λ x. Q x.1) (λ x. Q x.1) (for_each read others x.1) _ (each_held read held others x.1 hx) (λ more hm. hm))
 
 pub counted_held : {S E : Type 0} (Q : S → Type 0) (step : ℕ → S → Result S E) → ((i : ℕ) (s : S) → Q s → IfOk (step i s) Q) → (i n : ℕ) (s : S) → Q s → IfOk (counted step i n s) Q
 unfolding counted

@@ -39,16 +39,6 @@ is_done read front count i s total le so_far =
     let one : with_front front (repeated (count - i) read s) ≡ Ok (front, s) = rw k (ap (λ xs. Ok (xs, s)) (append-nil front)) in
     sym so_far ∙ one
 
--- a loop begins with nothing read
-pub begins : {X S E : Type 0} (read : S → Result (X × S) E) (count : ℕ) (s : S) → with_front [] (repeated (count - 0) read s) ≡ repeated count read s
-begins read count s =
-    let k : count - 0 ≡ count = omega arith in
-    rw k (none (repeated count read s))
-  where
-    none : {X S E : Type 0} (r : Result (List X × S) E) → with_front [] r ≡ r
-    none (Ok x) = refl
-    none (Err e) = refl
-
 -- the same where no folder is given
 pub ends_text : {X S : Type 0} (read : S → Result (X × S) Refusal) (fault : TextFault) (front : List X) (count i : ℕ) (s : S) (total : Result (List X × S) Refusal) → i < count → StopsText fault (read s)
     → with_front front (repeated (count - i) read s) ≡ total → StopsText fault total

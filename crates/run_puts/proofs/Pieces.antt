@@ -44,9 +44,6 @@ module _ (Due : Status → List Text → Type 0) (Cut : List Text → Type 0) wh
     pub all : pieces ≡ before ++ (pending ∷ [])
     pub written : puts ≡ map taken before
 
-  pub stopped : (end : Status) (before after : List Text) (tail : List Put) → Begins Due Cut before after → IsTail after end tail → IsRun Due Cut end (map taken before ++ tail)
-  stopped end before after tail b t = early end before after tail b t
-
   -- memory was wanting before the first piece
   pub lacks_at_first : (end : Status) (tail : List Put) → IsWanting end tail → IsRun Due Cut end tail
   lacks_at_first end tail (answer, s, t) = rw (s, t) (early (status_after answer) [] [] (memory_put answer ∷ []) nothing (wanting [] answer))
@@ -75,13 +72,6 @@ module _ (Due : Status → List Text → Type 0) (Cut : List Text → Type 0) wh
   pub stops_at : (pieces : List Text) (pending : Text) (puts tail : List Put) (end : Status) → IsAt pieces pending puts → Cut pieces → ((after : List Text) → IsTail (pending ∷ after) end tail) → IsRun Due Cut end (puts ++ tail)
   stops_at pieces pending puts tail end i c h =
       rw i.written (early end i.before (pending ∷ []) tail (cut i.before (pending ∷ []) (subst Cut i.all c)) (h []))
-
-  -- the piece was not taken, where all pieces are due
-  pub stops_due : (pieces : List Text) (pending : Text) (after : List Text) (puts tail : List Put) (meant end : Status) → IsAt pieces pending puts → Due meant (pieces ++ after) → ((more : List Text) → IsTail (pending ∷ more) end tail) → IsRun Due Cut end (puts ++ tail)
-  stops_due pieces pending after puts tail meant end i due h =
-      let D : List Text → Type 0 = Due meant in
-      let all : pieces ++ after ≡ i.before ++ (pending ∷ after) = ap (λ ts. ts ++ after) i.all ∙ append_assoc i.before (pending ∷ []) after in
-      rw i.written (early end i.before (pending ∷ after) tail (all_due meant i.before pending after (subst D all due)) (h after))
 
   -- the piece was taken, and then memory was wanting
   pub lacks_after : (pieces : List Text) (pending : Text) (puts tail last : List Put) (end : Status) → IsAt pieces pending puts → Cut pieces → tail ≡ taken pending ∷ [] → IsWanting end last → IsRun Due Cut end (puts ++ tail ++ last)

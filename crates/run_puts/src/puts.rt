@@ -1,4 +1,4 @@
-ghost use Rattle.std.specs.Prelude.{◌≡◌, List, ◌++◌, MatchResult};
+ghost use Rattle.std.specs.Prelude.{List, ◌++◌, MatchResult};
 ghost use Rattle.outside.specs.Puts.{Put};
 ghost use Rattle.run_puts.specs.Ends.{IsLast, IsPut, IsWanting};
 
