@@ -1,12 +1,12 @@
 -- The ends of a batch, by its reading and its jobs.
-use Rattle.engine.proofs.Common.{◌≡◌, ℕ, zero, suc, ◌<◌, get_or, arith, ◌++◌, List, [], ◌∷◌, Ok, Err, Result, Option, None, Some, IfOk, subst, sym, ap, refl}
-use Rattle.engine.proofs.Common.{inl, inr, ◌∙◌, codes, option_and_then, All, MatchOption, slice_get, AllZip, append-nil, All-get_or, All-weaker, FileSet, Rose}
-use Rattle.engine.proofs.Common.{InputCounts, file_refusal, Put, BadName, InputFault, Refusal, Wanted, Lists, ListsTo, Checks, ChecksTo, Makes, Batches, Writes}
-use Rattle.engine.proofs.Common.{wanted_of, AreDecks, refused_line, Text, read_fault_line, IsEnd, IsLast, IsWanting, IsRun, NeverCut, Status, lone}
-use Rattle.engine.proofs.Common.{lacks_at_first, weaker, JobEnd, ends_of_jobs, IsBatch, IsTask, wanting_not_ok, Task, Job, AskedBatch, BatchCase, Jobs, NoList}
-use Rattle.engine.proofs.Common.{IsBatchCase, IsJobEnd, IsRunText, batch_asked, batch_case_of, batch_of, job_case, model_line, AreTasks, IsFaultOf, AnyAnswers}
-use Rattle.engine.proofs.Common.{AreValid, BatchAnswers, BatchDue, IsValidJob, unread, Refuses, asked_in, built, AnswersBeside, IsReadingEnd, IsStopped}
-use Rattle.engine.specs.BatchRuns.{defined}
+use Rattle.engine.proofs.Common.{◌≡◌, ℕ, ◌++◌, List, [], ◌∷◌, Ok, Err, Result, Option, None, Some, IfOk, subst, sym, ap, refl, inl, inr, ◌∙◌, codes}
+use Rattle.engine.proofs.Common.{option_and_then, All, MatchOption, slice_get, AllZip, append-nil, All-weaker, FileSet, Rose, InputCounts, file_refusal, Put}
+use Rattle.engine.proofs.Common.{BadName, InputFault, Refusal, Wanted, Batches, wanted_of, AreDecks, refused_line, Text, read_fault_line, IsEnd, IsLast}
+use Rattle.engine.proofs.Common.{IsWanting, IsRun, NeverCut, Status, lone, lacks_at_first, weaker, JobEnd, ends_of_jobs, IsBatch, IsTask, wanting_not_ok, Task}
+use Rattle.engine.proofs.Common.{Job, AskedBatch, BatchCase, Jobs, NoList, IsBatchCase, IsJobEnd, IsRunText, batch_asked, batch_case_of, batch_of, job_case}
+use Rattle.engine.proofs.Common.{model_line, AreTasks, IsFaultOf, AnyAnswers, AreValid, BatchAnswers, BatchDue, IsValidJob, Refuses, asked_in, built}
+use Rattle.engine.proofs.Common.{AnswersBeside, IsReadingEnd, IsStopped}
+use Rattle.engine.specs.BatchRuns.{unread, defined}
 use Rattle.std.specs.Prelude.{IfSome, length}
 use Rattle.batch_book.specs.Ends.{AreJobEnds}
 use Rattle.engine.proofs.Beside.{not_ok}
@@ -21,12 +21,7 @@ other_none words b = by_wanted (wanted_of words)
     by_wanted : (w : Option Wanted) → option_and_then batch_of w ≡ Some b → option_and_then built w ≡ None
     by_wanted None e = refl
     by_wanted (Some (Batches list digits workers rounds quick wide)) e = refl
-    by_wanted (Some (Checks name listing digits zones wide)) e = absurd (let bad : Path (Option AskedBatch) None (Some b) = e in cc)
-    by_wanted (Some (ChecksTo name to listing digits zones wide)) e = absurd (let bad : Path (Option AskedBatch) None (Some b) = e in cc)
-    by_wanted (Some (ListsTo name to digits workers rounds zones turns quick wide)) e = absurd (let bad : Path (Option AskedBatch) None (Some b) = e in cc)
-    by_wanted (Some (Makes seed size)) e = absurd (let bad : Path (Option AskedBatch) None (Some b) = e in cc)
-    by_wanted (Some (Writes name wide)) e = absurd (let bad : Path (Option AskedBatch) None (Some b) = e in cc)
-    by_wanted (Some (Lists name digits workers rounds zones turns quick wide)) e = absurd (let bad : Path (Option AskedBatch) None (Some b) = e in cc)
+    by_wanted other e = absurd (let bad : Path (Option AskedBatch) None (Some b) = e in cc)
 
 still_stopped : (case : BatchCase) (end : Status) → IsStopped end → AreValid case end
 still_stopped (NoList refusal) end h = tt
@@ -80,21 +75,6 @@ end_of_read job text read (Ok e) is named end =
     let Q : Result Task Refusal → Type 0 = λ c. IsRunText (job_case c) text e in
     subst P named (subst Q (sym is) end)
 end_of_read job text read (Err error) is named end = tt
-
--- what holds of the entry at an index
-holds_at : (P : Job → Type 0) (jobs : List Job) (i : ℕ) (d : Job) → i < length jobs → P (get_or jobs i d) → IfSome (slice_get jobs i) P
-holds_at P [] i d h p = absurd (let no : ⊥ = omega arith in no)
-holds_at P (job ∷ jobs) zero d h p = p
-holds_at P (job ∷ jobs) (suc i) d h p = holds_at P jobs i d (omega arith) p
-
--- the end of the job at an index
-pub end_at_index : {E : Type 0} (jobs : List Job) (i : ℕ) (job : Job) (r : Result JobEnd E) → i < length jobs → job ≡ get_or jobs i job → IfOk r (IsJobEnd job) → IfOk r (λ e. IfSome (slice_get jobs i) (λ j. IsJobEnd j e))
-end_at_index jobs i job (Ok e) h is end = let P : Job → Type 0 = λ j. IsJobEnd j e in holds_at (λ j. IsJobEnd j e) jobs i job h (subst P is end)
-end_at_index jobs i job (Err error) h is end = tt
-
--- the task of the job at an index
-pub task_at_index : (jobs : List Job) (i : ℕ) (job : Job) → i < length jobs → job ≡ get_or jobs i job → AreTasks jobs → IfOk job.read IsTask
-task_at_index jobs i job h is tasks = let P : Job → Type 0 = λ j. IfOk j.read IsTask in subst P (sym is) (All-get_or (λ (j : Job). IfOk j.read IsTask) jobs i job h tasks)
 
 -- ends that workers found, each of its job, are one end for each job
 pub jobs_ended : (jobs seen : List Job) (ends : List JobEnd) → seen ≡ jobs → AreJobEnds (λ i e. IfSome (slice_get seen i) (λ job. IsJobEnd job e)) (length seen) ends → AllZip IsJobEnd jobs ends

@@ -5,12 +5,13 @@ use Rattle.engine.proofs.Common.{whole, early, NeverCut, Agree, IsUnfinished, St
 use Rattle.engine.proofs.Common.{IsListing, IsWhole, whole_listing, history_exists, history_is_one, JobEnd, batch_settles, batches_agree, Job, Batched}
 use Rattle.engine.proofs.Common.{HasEnded, HasNoList, IsJobListing, AskedBatch, BatchCase, BatchDefines, IsJobEnd, IsRunText, Jobs, NoList, batch_asked}
 use Rattle.engine.proofs.Common.{batch_case, job_case, job_of, job_task, model_line, names_read, task_read, AreValid, BatchAnswers, BatchComes, BatchDecided}
-use Rattle.engine.proofs.Common.{BatchDue, HasJob, IsBatchRun, IsValidJob, unread, IsStopped, false, zero, suc, arith}
-use Rattle.engine.specs.BatchRuns.{defined}
+use Rattle.engine.proofs.Common.{BatchDue, HasJob, IsBatchRun, IsValidJob, IsStopped, false, zero, suc, arith}
+use Rattle.engine.specs.BatchRuns.{unread, defined}
 use Rattle.batch_puts.specs.Ended.{first_not_ok, or_else, texts}
 use Rattle.engine.proofs.Certifying.{IsFault, not_stopped, stopped_by_fault}
 use Rattle.engine.proofs.Ends.{late_stops}
-use Rattle.engine.proofs.Outcomes.{Laws, agree, goes_through, never_stopped, weighed}
+use Rattle.engine.proofs.Outcomes.{agree, goes_through, never_stopped, weighed}
+use Rattle.engine.proofs.Told.{Laws}
 use Rattle.run_puts.specs.declared.status.Status.TheVariants as status
 
 -- no job ends with a status that stops a run
@@ -20,14 +21,7 @@ job_not_stopped (Err refusal) before e h stops = subst IsFault h.defined.0 (stop
 
 first_or_later : (first later : Status) → (or_else first later ≡ first) ⊎ (or_else first later ≡ later)
 first_or_later status.Ok later = inr refl
-first_or_later status.Usage later = inl refl
-first_or_later (status.Refused refusal) later = inl refl
-first_or_later (status.NoBound period step fault) later = inl refl
-first_or_later (status.Unfinished period step) later = inl refl
-first_or_later status.ReadFault later = inl refl
-first_or_later status.WriteFault later = inl refl
-first_or_later status.Memory later = inl refl
-first_or_later (status.NotCertified period step place) later = inl refl
+first_or_later other later = inl refl
 
 neither_stopped : (first later end : Status) → (end ≡ first) ⊎ (end ≡ later) → (IsStopped first → ⊥) → (IsStopped later → ⊥) → IsStopped end → ⊥
 neither_stopped first later end (inl is) f g stops = f (let P : Status → Type 0 = IsStopped in subst P is stops)

@@ -1,8 +1,8 @@
 -- The jobs of a batch, name by name, and what the reading of its list gives.
-use Rattle.engine.proofs.Common.{◌≡◌, ℕ, ◌+◌, ◌<◌, ◌≤◌, List, [], ◌∷◌, ◌++◌, length, take, get_or, Result, Ok, Err, Option, Some, None, IfOk, IfSome, subst}
-use Rattle.engine.proofs.Common.{sym, ap, refl, ◌∙◌, map-append, take_more, take_all, All-push, FileSet, InputFault, Refusal, IsReading, file_at, IsGoodName}
-use Rattle.engine.proofs.Common.{input_fault, TextFault, names_in, StopsText, FlowModel, IsModel, reads, Text, IsTask, Task, Job, AskedBatch, IsSomeJob, job_of}
-use Rattle.engine.proofs.Common.{names_at, task_read, IsNamedFault, AreJobsRead, AreTasks, HasNames, IsJobRead}
+use Rattle.engine.proofs.Common.{◌≡◌, ℕ, ◌+◌, ◌<◌, List, [], ◌∷◌, ◌++◌, length, take, get_or, Result, Ok, Err, Option, Some, None, IfOk, IfSome, sym, ap, refl}
+use Rattle.engine.proofs.Common.{◌∙◌, map-append, take_more, All-push, FileSet, InputFault, Refusal, IsReading, file_at, IsGoodName, input_fault, TextFault}
+use Rattle.engine.proofs.Common.{names_in, StopsText, FlowModel, IsModel, reads, Text, IsTask, Task, Job, AskedBatch, IsSomeJob, job_of, names_at, task_read}
+use Rattle.engine.proofs.Common.{IsNamedFault, AreJobsRead, AreTasks, HasNames, IsJobRead}
 use Rattle.std.specs.declared.vec.Vec.{Vec}
 use Rattle.std.specs.declared.alloc.Global.{Global}
 use Rattle.engine.proofs.Readings.{bad_named, good_named}
@@ -25,9 +25,6 @@ jobs_read_more b names i name (Some fs) jobs job h at was is =
     rw (was, is, more) (sym (map-append (job_of b (reads b.limits fs)) (take i names) (name ∷ [])))
 jobs_read_more b names i name None jobs job h at was is = All-push (IsSomeJob b) jobs job was is
 
-pub jobs_read_all : (b : AskedBatch) (names : List Text) (i : ℕ) (files : Option FileSet) (jobs : List Job) → length names ≤ i → AreJobsRead b (take i names) files jobs → AreJobsRead b names files jobs
-jobs_read_all b names i files jobs h was = let P : List Text → Type 0 = λ l. AreJobsRead b l files jobs in subst P (take_all i names h) was
-
 pub tasks_more : (jobs : List Job) (job : Job) → AreTasks jobs → IfOk job.read IsTask → AreTasks (jobs ++ (job ∷ []))
 tasks_more jobs job was is = All-push (λ (j : Job). IfOk j.read IsTask) jobs job was is
 
@@ -43,8 +40,7 @@ module _ (b : AskedBatch) (good : IsGoodName b.list) where
   -- the reading of the file failed
   pub names_unread : {T : Type 0} (answer : Result T InputFault) (view : T → List ℕ) (files : Option FileSet) (fault : InputFault) → IfSome files (λ fs. IsReading {T = T} view (file_at fs b.list) (Err fault)) → HasNames b files (Err fault)
   names_unread answer view (Some fs) (input.Refused refusal) h = good_named b.list (λ name. names_at name (file_at fs name)) good ∙ ap (names_at b.list) h
-  names_unread answer view (Some fs) input.ReadFault h = tt
-  names_unread answer view (Some fs) input.Memory h = tt
+  names_unread answer view (Some fs) other h = tt
   names_unread answer view None fault h = tt
 
   -- its bytes were read, and have a refusal, or memory ran out

@@ -1,13 +1,13 @@
 -- The public clauses of a run beside which a side sink is led.
 use Rattle.engine.proofs.Common.{◌≡◌, ℕ, List, [], ◌∷◌, ◌++◌, Option, Some, None, IfSome, ap, sym, subst, refl, ◌∙◌, inl, inr, ◌⊎◌, option_and_then, Rose}
-use Rattle.engine.proofs.Common.{FileSet, Put, PutsMake, Seen, InputFault, Batches, Checks, ChecksTo, Lists, ListsTo, Makes, Wanted, Writes, wanted_of, IsLast}
-use Rattle.engine.proofs.Common.{Text, read_fault_line, Begins, IsRun, all_due, cut, early, nothing, whole, Status, late_not_ok, tail_late, AreDecks, Task}
-use Rattle.engine.proofs.Common.{IsCutListing, IsListing, IsListingBeside, left, listed, wanting_not_ok, AskedBatch, views_of, BatchComes, BatchDecided, Asked}
-use Rattle.engine.proofs.Common.{AskedCheck, Case, Check, Command, IsCase, Make, Run, Write, asked_in, built, Certified, Made, OneVerdict, Answers}
-use Rattle.engine.proofs.Common.{AnswersBeside, IsReadingEnd, Comes, Decided, IsLeft, IsWatched, SidePuts, ViewPutsOf, Watched, views_asked, views_in}
-use Rattle.engine.proofs.Common.{AskedSpan, AskedSpanCheck, CheckSpan, IsListingOf, Limits, Span, CutOf, limits_of}
+use Rattle.engine.proofs.Common.{FileSet, Put, PutsMake, Seen, InputFault, Lists, ListsTo, Wanted, wanted_of, IsLast, Text, read_fault_line, Begins, IsRun}
+use Rattle.engine.proofs.Common.{all_due, cut, early, nothing, whole, Status, late_not_ok, tail_late, AreDecks, Task, IsCutListing, IsListing, IsListingBeside}
+use Rattle.engine.proofs.Common.{left, listed, wanting_not_ok, AskedBatch, views_of, BatchComes, BatchDecided, Case, Command, IsCase, Make, Run, asked_in}
+use Rattle.engine.proofs.Common.{built, Made, Answers, AnswersBeside, IsReadingEnd, Comes, Decided, IsLeft, IsWatched, SidePuts, ViewPutsOf, Watched}
+use Rattle.engine.proofs.Common.{views_asked, views_in, IsListingOf, Span, CutOf}
 use Rattle.engine.specs.declared.asked.Command.{Command as CommandBy}
-use Rattle.engine.proofs.Outcomes.{Both, Laws, both, certified, complete, decided, made, put_rose, read_rose}
+use Rattle.engine.proofs.Outcomes.{complete, decided, put_rose, read_rose}
+use Rattle.engine.proofs.Told.{Both, Laws, both, made}
 use Rattle.outside.specs.declared.refusals.InputFault.TheVariants as input
 use Rattle.run_puts.specs.declared.status.Status.TheVariants as status
 
@@ -32,38 +32,18 @@ pub views_by : (words : List Text) (w : Wanted) (x y : CommandBy) → wanted_of 
 views_by words w x y e same v = ap (option_and_then views_asked) e ∙ sym v ∙ ap views_of same
 
 -- the words ask for views only of a listing
-views_of_run : (w : Option Wanted) (n : ℕ) → option_and_then views_asked w ≡ Some n → ((asked : Asked) × (option_and_then built w ≡ Some (Run asked))) ⊎ ((asked : AskedSpan) × (option_and_then built w ≡ Some (Span asked)))
-views_of_run (Some (Lists name digits workers rounds zones watch quick wide)) n e = inl (record { limits = limits_of wide; name = name; digits = digits; rounds = rounds; zones = zones; quick = quick }, refl)
-views_of_run (Some (ListsTo name to digits workers rounds zones watch quick wide)) n e = inr (record { run = record { limits = limits_of wide; name = name; digits = digits; rounds = rounds; zones = zones; quick = quick }; to = to }, refl)
-views_of_run (Some (ChecksTo name to listing digits zones wide)) n e = absurd (let bad : Path (Option ℕ) None (Some n) = e in cc)
-views_of_run (Some (Makes seed size)) n e = absurd (let bad : Path (Option ℕ) None (Some n) = e in cc)
-views_of_run (Some (Writes name wide)) n e = absurd (let bad : Path (Option ℕ) None (Some n) = e in cc)
-views_of_run (Some (Checks name listing digits zones wide)) n e = absurd (let bad : Path (Option ℕ) None (Some n) = e in cc)
-views_of_run (Some (Batches list digits workers rounds quick wide)) n e = absurd (let bad : Path (Option ℕ) None (Some n) = e in cc)
-views_of_run None n e = absurd (let bad : Path (Option ℕ) None (Some n) = e in cc)
+abbrev pub IsViewed : Option Command → Type 0
+IsViewed (Some (Run asked)) = Unit {0}
+IsViewed (Some (Span asked)) = Unit {0}
+IsViewed other = ⊥
 
--- a command without views is no listing
-no_views : (words : List Text) (command : Option Command) → ((asked : Asked) → command ≡ Some (Run asked) → ⊥) → ((asked : AskedSpan) → command ≡ Some (Span asked) → ⊥) → asked_in words ≡ command → (n : ℕ) → views_in words ≡ Some n → ⊥
-no_views words command run span is n e = by_listing (views_of_run (wanted_of words) n e)
-  where
-    by_listing : ((asked : Asked) × (asked_in words ≡ Some (Run asked))) ⊎ ((asked : AskedSpan) × (asked_in words ≡ Some (Span asked))) → ⊥
-    by_listing (inl (asked, wanted)) = run asked (sym is ∙ wanted)
-    by_listing (inr (asked, wanted)) = span asked (sym is ∙ wanted)
+viewed_is : (w : Option Wanted) (n : ℕ) → option_and_then views_asked w ≡ Some n → IsViewed (option_and_then built w)
+viewed_is (Some (Lists name digits workers rounds zones watch quick wide)) n e = tt
+viewed_is (Some (ListsTo name to digits workers rounds zones watch quick wide)) n e = tt
+viewed_is other n e = absurd (let bad : Path (Option ℕ) None (Some n) = e in cc)
 
-pub viewless : (words : List Text) → asked_in words ≡ None → (n : ℕ) → views_in words ≡ Some n → ⊥
-viewless words = no_views words None (λ a x. let bad : Path (Option Command) None (Some (Run a)) = x in cc) (λ a x. let bad : Path (Option Command) None (Some (Span a)) = x in cc)
-
-pub viewless_make : (words : List Text) (seed size : ℕ) → asked_in words ≡ Some (Make seed size) → (n : ℕ) → views_in words ≡ Some n → ⊥
-viewless_make words seed size = no_views words (Some (Make seed size)) (λ a x. let bad : Path (Option Command) (Some (Make seed size)) (Some (Run a)) = x in cc) (λ a x. let bad : Path (Option Command) (Some (Make seed size)) (Some (Span a)) = x in cc)
-
-pub viewless_check : (words : List Text) (asked : AskedCheck) → asked_in words ≡ Some (Check asked) → (n : ℕ) → views_in words ≡ Some n → ⊥
-viewless_check words asked = no_views words (Some (Check asked)) (λ a x. let bad : Path (Option Command) (Some (Check asked)) (Some (Run a)) = x in cc) (λ a x. let bad : Path (Option Command) (Some (Check asked)) (Some (Span a)) = x in cc)
-
-pub viewless_span_check : (words : List Text) (asked : AskedSpanCheck) → asked_in words ≡ Some (CheckSpan asked) → (n : ℕ) → views_in words ≡ Some n → ⊥
-viewless_span_check words asked = no_views words (Some (CheckSpan asked)) (λ a x. let bad : Path (Option Command) (Some (CheckSpan asked)) (Some (Run a)) = x in cc) (λ a x. let bad : Path (Option Command) (Some (CheckSpan asked)) (Some (Span a)) = x in cc)
-
-pub viewless_write : (words : List Text) (limits : Limits) (name : Text) → asked_in words ≡ Some (Write limits name) → (n : ℕ) → views_in words ≡ Some n → ⊥
-viewless_write words limits name = no_views words (Some (Write limits name)) (λ a x. let bad : Path (Option Command) (Some (Write limits name)) (Some (Run a)) = x in cc) (λ a x. let bad : Path (Option Command) (Some (Write limits name)) (Some (Span a)) = x in cc)
+pub viewless : (words : List Text) (command : Option Command) → asked_in words ≡ command → (IsViewed command → ⊥) → (n : ℕ) → views_in words ≡ Some n → ⊥
+viewless words command is never n e = never (subst IsViewed is (viewed_is (wanted_of words) n e))
 
 end_not_ok : (line : Text) (meant end : Status) (tail : List Put) → (meant ≡ status.Ok → ⊥) → IsLast line meant end tail → end ≡ status.Ok → ⊥
 end_not_ok line meant end tail not (inl (same, t)) e = not (sym same ∙ e)
@@ -104,8 +84,9 @@ module _ (words : List Text) (files : Option FileSet) (n m : ℕ) (failed : Type
   Besides = AnswersBeside words files n m failed leads end puts
 
   -- no views are asked for, or the run didn't end Ok
-  pub without_views : leads [] → Answers words files n m end puts → ((j : ℕ) → views_in words ≡ Some j → ⊥) → Besides
-  without_views silent a none = record { answers = inl a; watched = λ e j v. if_never (λ fs. Watched words fs j leads) files (none j v); side = quiet_by leads words files (views_in words) silent }
+  pub without_views : leads [] → (command : Option Command) → asked_in words ≡ command → (IsViewed command → ⊥) → Answers words files n m end puts → Besides
+  without_views silent command is never a =
+      record { answers = inl a; watched = λ e j v. if_never (λ fs. Watched words fs j leads) files (viewless words command is never j v); side = quiet_by leads words files (views_in words) silent }
 
   pub not_ok : leads [] → Answers words files n m end puts → (end ≡ status.Ok → ⊥) → Besides
   not_ok silent a bad = record { answers = inl a; watched = λ e j v. if_never (λ fs. Watched words fs j leads) files (bad e); side = quiet_by leads words files (views_in words) silent }
@@ -124,45 +105,25 @@ module _ (words : List Text) (files : Option FileSet) (n m : ℕ) (failed : Type
     side = (let P : Option ℕ → Type 0 = λ o. IfSome files (λ fs. SidePuts leads words fs o) in subst P (sym same) (listing_puts leads words files k c watch has is views));
   }
 
-  left_not_ok : (case : Case) → IsLeft failed case end puts → end ≡ status.Ok → ⊥
-  left_not_ok case l e = let bad : status.WriteFault ≡ status.Ok = sym l.is ∙ e in cc
+  -- what all answers say, and what a write says that failed beside
+  pub told_by : {T : Type 0} → (Answers words files n m end puts → T) → (failed → end ≡ status.WriteFault → T) → Besides → T
+  told_by t f b = elim (b.answers) [ inl a ↦ t a | inr l ↦ f l.2.why l.2.is ]
+
+  not_left : {T : Type 0} → end ≡ status.Ok → failed → end ≡ status.WriteFault → T
+  not_left e f is = absurd (let bad : status.WriteFault ≡ status.Ok = sym is ∙ e in cc)
 
   pub beside_read_rose : Besides → end ≡ status.ReadFault → Rose n m
-  beside_read_rose a e = by_answer a.answers
-    where
-      by_answer : Answers words files n m end puts ⊎ ((case : Case) × IsCase words files case × IsLeft failed case end puts) → Rose n m
-      by_answer (inl a) = read_rose (Rose n m) a.case end puts a.run e
-      by_answer (inr (case, is, l)) = absurd (let bad : status.WriteFault ≡ status.ReadFault = sym l.is ∙ e in cc)
+  beside_read_rose b e = told_by (λ a. read_rose (Rose n m) a.case end puts a.run e) (λ f is. absurd (let bad : status.WriteFault ≡ status.ReadFault = sym is ∙ e in cc)) b
 
   module _ (old new : Seen) (makes : PutsMake old puts new) where
     pub beside_put_rose : Besides → end ≡ status.WriteFault → Rose old.faults new.faults ⊎ failed
-    beside_put_rose a e = by_answer a.answers
-      where
-        by_answer : Answers words files n m end puts ⊎ ((case : Case) × IsCase words files case × IsLeft failed case end puts) → Rose old.faults new.faults ⊎ failed
-        by_answer (inl a) = inl (put_rose (Rose n m) a.case end puts old new a.run e makes)
-        by_answer (inr (case, is, l)) = inr l.why
+    beside_put_rose b e = told_by (λ a. inl (put_rose (Rose n m) a.case end puts old new a.run e makes)) (λ f is. inr f) b
 
-    module _ (laws : Laws) where
-      pub beside_both : Besides → end ≡ status.Ok → IfSome files (λ fs. Both words fs old new)
-      beside_both a e = by_answer a.answers
-        where
-          by_answer : Answers words files n m end puts ⊎ ((case : Case) × IsCase words files case × IsLeft failed case end puts) → IfSome files (λ fs. Both words fs old new)
-          by_answer (inl a) = both laws words files n m end puts old new a makes e
-          by_answer (inr (case, is, l)) = if_never (λ fs. Both words fs old new) files (left_not_ok case l e)
+    pub beside_both : Laws → Besides → end ≡ status.Ok → IfSome files (λ fs. Both words fs old new)
+    beside_both laws b e = told_by (λ a. both laws words files n m end puts old new a makes e) (not_left e) b
 
-      pub beside_made : Besides → end ≡ status.Ok → (seed size : ℕ) → asked_in words ≡ Some (Make seed size) → Made words old.written new.written
-      beside_made a e seed size wanted = by_answer a.answers
-        where
-          by_answer : Answers words files n m end puts ⊎ ((case : Case) × IsCase words files case × IsLeft failed case end puts) → Made words old.written new.written
-          by_answer (inl a) = (made laws words files n m end puts old new a makes e seed size wanted).0
-          by_answer (inr (case, is, l)) = absurd (left_not_ok case l e)
-
-    pub beside_certified : Besides → end ≡ status.Ok → (asked : AskedCheck) → asked_in words ≡ Some (Check asked) → IfSome files (λ fs. Certified words fs old.written new.written × OneVerdict words fs)
-    beside_certified a e asked wanted = by_answer a.answers
-      where
-        by_answer : Answers words files n m end puts ⊎ ((case : Case) × IsCase words files case × IsLeft failed case end puts) → IfSome files (λ fs. Certified words fs old.written new.written × OneVerdict words fs)
-        by_answer (inl a) = certified words files n m end puts old new a makes e asked wanted
-        by_answer (inr (case, is, l)) = if_never (λ fs. Certified words fs old.written new.written × OneVerdict words fs) files (left_not_ok case l e)
+    pub beside_made : Laws → Besides → end ≡ status.Ok → (seed size : ℕ) → asked_in words ≡ Some (Make seed size) → Made words old.written new.written
+    beside_made laws b e seed size wanted = told_by (λ a. made laws words files n m end puts old new a makes e seed size wanted) (not_left e) b
 
 -- A fault of one account is one of another.
 module _ (fault other : Type 0) (takes : fault → other) where
@@ -199,15 +160,9 @@ module _ (laws : Laws) (words : List Text) (fs : FileSet) (n m : ℕ) (failed : 
   takes_known (inr f) = inr (inl f)
 
   pub beside_decided : AnswersBeside words (Some fs) n m failed leads end puts → Decided Fault words fs end
-  beside_decided a = by_answer a.answers
-    where
-      by_answer : Answers words (Some fs) n m end puts ⊎ ((case : Case) × IsCase words (Some fs) case × IsLeft failed case end puts) → Decided Fault words fs end
-      by_answer (inl a) = wider_decided Known Fault takes_known words fs end (decided laws words (Some fs) n m end puts old new a makes)
-      by_answer (inr (case, is, l)) = λ plain meant pieces d. inl (inl (inr (inr l.why)))
+  beside_decided = told_by words (Some fs) n m failed leads end puts
+      (λ a. wider_decided Known Fault takes_known words fs end (decided laws words (Some fs) n m end puts old new a makes)) (λ f is plain meant pieces d. inl (inl (inr (inr f))))
 
   pub beside_complete : AnswersBeside words (Some fs) n m failed leads end puts → Comes Fault words fs end
-  beside_complete a = by_answer a.answers
-    where
-      by_answer : Answers words (Some fs) n m end puts ⊎ ((case : Case) × IsCase words (Some fs) case × IsLeft failed case end puts) → Comes Fault words fs end
-      by_answer (inl a) = wider_comes Known Fault takes_known words fs end (complete laws words (Some fs) n m end puts old new a makes)
-      by_answer (inr (case, is, l)) = λ has. inl (inr (inr l.why))
+  beside_complete = told_by words (Some fs) n m failed leads end puts
+      (λ a. wider_comes Known Fault takes_known words fs end (complete laws words (Some fs) n m end puts old new a makes)) (λ f is has. inl (inr (inr f)))

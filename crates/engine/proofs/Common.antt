@@ -2,10 +2,9 @@
 pub use Rattle.std.proofs.Common.{Bool, Err, IfOk, IfSome, List, None, Ok, Option, Result, Some, [], ap, arith, codes, cond, get_or, if◌then◌else◌, inl, inr}
 pub use Rattle.std.proofs.Common.{length, length-append, map, option_and_then, option_map, refl, rules, subst, suc, sym, take, true, unsigned_abs, zero, ℕ, ℤ}
 pub use Rattle.std.proofs.Common.{◌*◌, ◌++◌, ◌+◌, ◌<◌, ◌∙◌, ◌∷◌, ◌≡◌, ◌≢◌, ◌≤◌, ◌⊎◌}
-pub use Rattle.std.proofs.lemmas.List.{append-nil, append_assoc, length-map, map-append, take_all, take_more}
-pub use Rattle.std.proofs.lemmas.List.Elements.{All-append, All-cons, All-get_or, All-head, All-nil, All-push, All-tail, All-weaker}
+pub use Rattle.std.proofs.lemmas.List.{append-nil, append_assoc, length-map, map-append, take_more}
+pub use Rattle.std.proofs.lemmas.List.Elements.{All-append, All-cons, All-head, All-nil, All-push, All-tail, All-weaker}
 pub use Rattle.std.proofs.lemmas.Result.{err_from_is_err_and}
-pub use Rattle.std.specs.Io.KnownBytes.{Appends}
 pub use Rattle.std.specs.List.{AllZip, concat}
 pub use Rattle.std.specs.Prelude.{All, MatchOption, false, is_some, slice_get}
 pub use Rattle.batch_list.specs.Names.{names_in}
@@ -20,8 +19,7 @@ pub use Rattle.check_run.specs.declared.verdict.ListingVerdict.{ListingVerdict}
 pub use Rattle.check_run.specs.declared.verdict.ListingVerdict.TheVariants.{Fails}
 pub use Rattle.chosen_histories.specs.Decks.{ChoicesHaveOne, HaveOneHistory}
 pub use Rattle.command_line.proofs.DigitLemmas.{check_digits, check_to_digits}
-pub use Rattle.command_line.specs.Wants.{Batches, Checks, ChecksTo, Lists, ListsTo, Makes, Wanted, Writes, wanted_of}
-pub use Rattle.deck_alike.specs.Differences.{IsFirstDifference}
+pub use Rattle.command_line.specs.Wants.{Batches, Checks, ChecksTo, Lists, ListsTo, Wanted, Writes, wanted_of}
 pub use Rattle.deck_alike.specs.declared.difference.Difference.{Difference}
 pub use Rattle.deck_problems.proofs.Members.{one_valid}
 pub use Rattle.deck_problems.specs.Decks.{AreDecks, one_deck}
@@ -29,23 +27,22 @@ pub use Rattle.deck_problems.specs.declared.decks.Decks.{Decks}
 pub use Rattle.deck_span.specs.Alike.{AreAlike}
 pub use Rattle.engine.specs.BatchCommands.{batch_by}
 pub use Rattle.engine.specs.BatchReads.{AreJobsRead, AreTasks, HasNames, IsFaultOf, IsJobRead}
-pub use Rattle.engine.specs.BatchRuns.{AnyAnswers, AnyComes, AnyDecided, AnyPuts, AreValid, BatchAnswers, BatchComes, BatchDecided, BatchDue, BatchPuts, HasJob}
-pub use Rattle.engine.specs.BatchRuns.{IsBatchRun, IsValidJob, unread}
+pub use Rattle.engine.specs.BatchRuns.{AnyAnswers, AnyComes, AnyDecided, AnyPuts, AreValid, BatchAnswers, BatchComes, BatchDecided, BatchDue, HasJob}
+pub use Rattle.engine.specs.BatchRuns.{IsBatchRun, IsValidJob}
 pub use Rattle.engine.specs.Batched.{Batched, HasEnded, HasNoList, IsJobListing}
 pub use Rattle.engine.specs.Batches.{AskedBatch, BatchCase, BatchDefines, IsBatchCase, IsJobEnd, IsRunText, IsSomeJob, Jobs, NoList, batch_asked, batch_case}
 pub use Rattle.engine.specs.Batches.{batch_case_of, batch_of, job_case, job_of, job_task, model_line, names_at, names_read, task_read}
 pub use Rattle.engine.specs.Cases.{Asked, AskedCheck, AskedSpan, AskedSpanCheck, Case, Check, CheckSpan, Checking, Command, Comparing, CouldList, CouldRead}
 pub use Rattle.engine.specs.Cases.{IsCase, IsCheckingOf, IsListingOf, Listing, Make, Making, NoWords, Readings, ReadsNothing, Refuses, Run, Span, Write}
-pub use Rattle.engine.specs.Cases.{Writing, asked_in, built, case_asked, case_between, case_checked, case_compared, case_listed, case_of, case_read}
-pub use Rattle.engine.specs.Cases.{case_written, case_zoned, decks_task, limits_of, listing_read, made_model, named, numbers_of, readings_of, some_readings}
-pub use Rattle.engine.specs.Cases.{span_task_of, steps_in, steps_read, task_of, with_zones, zoned_steps, zones_named, zones_read}
+pub use Rattle.engine.specs.Cases.{Writing, asked_in, built, case_asked, case_decks, case_listed, case_of, case_zoned, decks_task, limits_of, listing_read}
+pub use Rattle.engine.specs.Cases.{made_model, named, numbers_of, readings_of, some_readings, span_task_of, steps_in, steps_read, task_of, with_zones}
+pub use Rattle.engine.specs.Cases.{zoned_steps, zones_named, zones_read}
 pub use Rattle.engine.specs.Certified.{Certified}
 pub use Rattle.engine.specs.Checked.{IsCheck, certified_line, verdict_line, verdict_status}
-pub use Rattle.engine.specs.Commands.{asked_of, check_of, command_of, views_of}
+pub use Rattle.engine.specs.Commands.{MayRead, asked_of, check_of, check_to, command_of, run_to, to_of, views_of}
 pub use Rattle.engine.specs.Decks.{IsDeck, OneDeck}
-pub use Rattle.engine.specs.Defined.{CutOf, Defines, Due, ReadsFolder, defined}
-pub use Rattle.engine.specs.Headline.{Headline}
-pub use Rattle.engine.specs.Made.{IsMade, IsSummed, Made, made_task, summed_text}
+pub use Rattle.engine.specs.Defined.{CutOf, Defines, Due, ReadsFolder, defined, unread}
+pub use Rattle.engine.specs.Made.{IsMade, Made, made_task, summed_text}
 pub use Rattle.engine.specs.OneListing.{OneSummary, OneVerdict}
 pub use Rattle.engine.specs.Parts.{Answers, AnswersBeside, AreDecksAs, AreStepsAs, AreZonesAs, IsListed, IsListedAs, IsMadeRun, IsNamedFault, IsReadAs}
 pub use Rattle.engine.specs.Parts.{IsReadingEnd, IsSecondAs, IsStopped, IsUnlikeFault, IsValid, made_fault, second_by}
@@ -53,7 +50,7 @@ pub use Rattle.engine.specs.QuickListing.{OneOrQuick, SpanOrQuick}
 pub use Rattle.engine.specs.Runs.{Comes, Decided, HasCertified, HasDeck, HasListing, HasTask, IsLeft, IsPlain, IsRunOf, Puts}
 pub use Rattle.engine.specs.Serving.{IsStopNumber}
 pub use Rattle.engine.specs.SpanHeadline.{ArePairOf, SpanCertified, SpanHeadline, SpanVerdict}
-pub use Rattle.engine.specs.TwoDecks.{ArePair, IsPairRefusal, Second, not_alike, of_both, of_first, of_second}
+pub use Rattle.engine.specs.TwoDecks.{AreRead, IsDecksRefusal, Second, not_alike, of_both, of_first, of_second}
 unfoldable pub use Rattle.engine.specs.TwoDecks.{second_in}
 pub use Rattle.engine.specs.Watched.{AreFirstViews, ArePutInTurn, AreViews, AreWatched, IsView, IsWatched, Shows, SidePuts, ViewPutsOf, Watched, lines_of}
 pub use Rattle.engine.specs.Watched.{views_asked, views_in}
@@ -84,6 +81,7 @@ pub use Rattle.model_reader.proofs.UnitLemmas.{unit_is_short}
 pub use Rattle.model_reader.specs.Model.{model_of}
 unfoldable pub use Rattle.model_reader.specs.Model.{reads}
 pub use Rattle.model_text.specs.Decks.{deck_text}
+pub use Rattle.model_types.specs.Cells.{cell_count, place}
 pub use Rattle.model_types.specs.Limits.{most_bytes}
 pub use Rattle.model_types.specs.Times.{times}
 pub use Rattle.model_types.specs.Valid.{IsModel}

@@ -1,14 +1,11 @@
 mod Common
 pub mod Readings
 pub mod Ends
+pub mod DeckEnds
 pub mod Summed
-pub mod Verdicts
-pub mod SpanEnds
-pub mod SpanVerdicts
 pub mod Certifying
-pub mod Decks
 pub mod Spans
-pub mod Decking
+pub mod Told
 pub mod Outcomes
 pub mod StoredSteps
 pub mod Written

@@ -5,14 +5,7 @@ use Rattle.run_puts.specs.declared.status.Status.TheVariants as status
 -- 0 is that of Ok alone
 pub ok_from_zero : (end : Status) → code_of end ≡ 0 → end ≡ status.Ok
 ok_from_zero status.Ok e = refl
-ok_from_zero status.Usage e = cc
-ok_from_zero (status.Refused refusal) e = cc
-ok_from_zero (status.NoBound period step fault) e = cc
-ok_from_zero (status.Unfinished period step) e = cc
-ok_from_zero status.ReadFault e = cc
-ok_from_zero status.WriteFault e = cc
-ok_from_zero status.Memory e = cc
-ok_from_zero (status.NotCertified period step place) e = cc
+ok_from_zero other e = cc
 
 -- a run that stopped has the number of a stop
 pub stop_number : (end : Status) → IsStopped end → IsStopNumber (code_of end)

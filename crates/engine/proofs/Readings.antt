@@ -4,8 +4,9 @@ use Rattle.engine.proofs.Common.{codes, if◌then◌else◌, map, subst, ℤ, un
 use Rattle.engine.proofs.Common.{TextFault, IsGoodName, is_good_name, BadName, InputFault, Refusal, Has, Stops, StopsText, FlowModel, IsModel, reads, Text}
 use Rattle.engine.proofs.Common.{ListedStep, pairs_in, AreListed, listing_in, zones_of, AreZonesOf, ZonedListing, AskedCheck, CouldList, named, numbers_of}
 use Rattle.engine.proofs.Common.{steps_in, steps_read, with_zones, zoned_steps, zones_named, AreStepsAs, AreZonesAs, IsListedAs, IsNamedFault, IsReadAs, Limits}
-use Rattle.engine.proofs.Common.{◌>>=◌, model_of, AreAlike, Difference, IsFirstDifference, two, AreDecksAs, IsSecondAs, IsUnlikeFault, second_by, Second}
-use Rattle.engine.proofs.Common.{of_both, of_first, of_second, second_in, Pairs, InputCounts}
+use Rattle.engine.proofs.Common.{◌>>=◌, model_of, AreAlike, Difference, two, one_deck, AreDecksAs, IsSecondAs, IsUnlikeFault, second_by, Second, of_both}
+use Rattle.engine.proofs.Common.{of_first, of_second, second_in, Pairs, InputCounts, cell_count}
+use Rattle.deck_alike.specs.Differences.{IsFirstDifference}
 use Rattle.std.proofs.Common.{false, All}
 use Rattle.model_reader.specs.Names.{names_in}
 use Rattle.engine.specs.declared.two_decks.Second.{Second as SecondBy}
@@ -13,7 +14,6 @@ use Rattle.outside.specs.Folders.{ReadsOn}
 use Rattle.outside.specs.declared.traits.Folder.{Ghosts as FolderOf}
 use Rattle.outside.proofs.NameTests.{is_taken, is_good}
 use Rattle.model_reader.proofs.Chains.{both_read as in_a_row}
-use Rattle.model_types.specs.Cells.{cell_count}
 use Rattle.outside.specs.declared.refusals.TextFault.TheVariants as texts
 use Rattle.outside.specs.declared.refusals.InputFault.TheVariants as input
 
@@ -31,10 +31,22 @@ bad_named name read bad = rw (not_good name bad) refl
 pub good_named : {T : Type 0} (name : Text) (read : Text → Result T Refusal) → IsGoodName name → named name read ≡ read name
 good_named name read good = rw (is_taken name good) refl
 
-bad_reading : {T : Type 0} (name : Text) (read : Text → Result T Refusal) (fault : InputFault) → (IsGoodName name → ⊥) → IsNamedFault fault → IsReading {T = T} (λ m. m) (named name read) (Err fault)
-bad_reading name read (input.Refused refusal) bad is = bad_named name read bad ∙ ap Err (sym is)
-bad_reading name read input.ReadFault bad is = tt
-bad_reading name read input.Memory bad is = tt
+-- what a reading of a name gave
+module _ {T V : Type 0} (view : V → T) (name : Text) where
+  bad_reading : (read : Text → Result T Refusal) (fault : InputFault) → (IsGoodName name → ⊥) → IsNamedFault fault → IsReading view (named name read) (Err fault)
+  bad_reading read (input.Refused refusal) bad is = bad_named name read bad ∙ ap Err (sym is)
+  bad_reading read other bad is = tt
+
+  good_reading : (read : Text → Result T Refusal) (answer : Result V InputFault) → IsGoodName name → Has view answer (read name) → IsReading view (named name read) answer
+  good_reading read (Ok x) good h = good_named name read good ∙ h
+  good_reading read (Err (input.Refused refusal)) good h = good_named name read good ∙ h
+  good_reading read (Err other) good h = tt
+
+  -- of files that aren't known
+  some_reading : (P : T → Type 0) (answer : Result V InputFault) → IsGoodName name → IfOk answer (λ x. P (view x)) → (read : Result T Refusal) × IfOk read P × IsReading view (named name (λ n. read)) answer
+  some_reading P (Ok x) good valid = (Ok (view x), valid, good_named name (λ n. Ok (view x)) good)
+  some_reading P (Err (input.Refused refusal)) good valid = (Err refusal, tt, good_named name (λ n. Err refusal) good)
+  some_reading P (Err other) good valid = (Err (file_refusal BadName (codes "-")), tt, tt)
 
 -- what a name stands for that isn't refused, files under it read as
 pub named_read : {T : Type 0} (name : Text) (read : Text → Result T Refusal) (v : T) → named name read ≡ Ok v → read name ≡ Ok v
@@ -53,21 +65,12 @@ abbrev some_refusal : Result FlowModel Refusal
 some_refusal = Err (file_refusal BadName (codes "-"))
 
 pub bad_read : (limits : Limits) (name : Text) (files : Option FileSet) (fault : InputFault) → (IsGoodName name → ⊥) → IsNamedFault fault → IsReadAs limits name files (Err fault)
-bad_read limits name (Some fs) fault bad is = bad_reading name (reads limits fs) fault bad is
-bad_read limits name None fault bad is = (some_refusal, tt, bad_reading name (λ n. some_refusal) fault bad is)
-
-told_reading : (name : Text) (read : Text → Result FlowModel Refusal) (answer : Result FlowModel InputFault) → IsGoodName name → Has (λ m. m) answer (read name) → IsReading (λ m. m) (named name read) answer
-told_reading name read (Ok m) good h = good_named name read good ∙ h
-told_reading name read (Err (input.Refused refusal)) good h = good_named name read good ∙ h
-told_reading name read (Err input.ReadFault) good h = tt
-told_reading name read (Err input.Memory) good h = tt
+bad_read limits name (Some fs) fault bad is = bad_reading (λ m. m) name (reads limits fs) fault bad is
+bad_read limits name None fault bad is = (some_refusal, tt, bad_reading (λ m. m) name (λ n. some_refusal) fault bad is)
 
 pub good_read : (limits : Limits) (name : Text) (files : Option FileSet) (answer : Result FlowModel InputFault) → IsGoodName name → IfSome files (λ fs. Has (λ m. m) answer (reads limits fs name)) → IfOk answer IsModel → IsReadAs limits name files answer
-good_read limits name (Some fs) answer good h valid = told_reading name (reads limits fs) answer good h
-good_read limits name None (Ok m) good h valid = (Ok m, valid, told_reading name (λ n. Ok m) (Ok m) good refl)
-good_read limits name None (Err (input.Refused refusal)) good h valid = (Err refusal, tt, told_reading name (λ n. Err refusal) (Err (input.Refused refusal)) good refl)
-good_read limits name None (Err input.ReadFault) good h valid = (some_refusal, tt, tt)
-good_read limits name None (Err input.Memory) good h valid = (some_refusal, tt, tt)
+good_read limits name (Some fs) answer good h valid = good_reading (λ m. m) name (reads limits fs) answer good h
+good_read limits name None answer good h valid = some_reading (λ m. m) name IsModel answer good valid
 
 -- The second deck that a name means.
 
@@ -75,38 +78,26 @@ abbrev pub no_second : Result Second Refusal
 no_second = Err (file_refusal BadName (codes "-"))
 
 pub bad_second : (limits : Limits) (name : Text) (files : Option FileSet) (fault : InputFault) → (IsGoodName name → ⊥) → IsNamedFault fault → IsSecondAs limits name files (Err fault)
-bad_second limits name (Some fs) (input.Refused refusal) bad is = bad_named name (second_in limits fs) bad ∙ ap Err (sym is)
-bad_second limits name (Some fs) input.ReadFault bad is = tt
-bad_second limits name (Some fs) input.Memory bad is = tt
-bad_second limits name None (input.Refused refusal) bad is = (no_second, tt, bad_named name (λ n. no_second) bad ∙ ap Err (sym is))
-bad_second limits name None input.ReadFault bad is = (no_second, tt, tt)
-bad_second limits name None input.Memory bad is = (no_second, tt, tt)
+bad_second limits name (Some fs) fault bad is = bad_reading second_by name (second_in limits fs) fault bad is
+bad_second limits name None fault bad is = (no_second, tt, bad_reading second_by name (λ n. no_second) fault bad is)
 
 -- the second deck's files gave this
 pub good_second : (limits : Limits) (name : Text) (files : Option FileSet) (answer : Result SecondBy InputFault) → IsGoodName name → IfSome files (λ fs. Has second_by answer (second_in limits fs name)) → IfOk answer (λ b. IsModel b.model) → IsSecondAs limits name files answer
-good_second limits name (Some fs) (Ok b) good h valid = good_named name (second_in limits fs) good ∙ h
-good_second limits name (Some fs) (Err (input.Refused refusal)) good h valid = good_named name (second_in limits fs) good ∙ h
-good_second limits name (Some fs) (Err input.ReadFault) good h valid = tt
-good_second limits name (Some fs) (Err input.Memory) good h valid = tt
-good_second limits name None (Ok b) good h valid = (Ok (second_by b), valid, good_named name (λ n. Ok (second_by b)) good)
-good_second limits name None (Err (input.Refused refusal)) good h valid = (Err refusal, tt, good_named name (λ n. Err refusal) good)
-good_second limits name None (Err input.ReadFault) good h valid = (no_second, tt, tt)
-good_second limits name None (Err input.Memory) good h valid = (no_second, tt, tt)
+good_second limits name (Some fs) answer good h valid = good_reading second_by name (second_in limits fs) answer good h
+good_second limits name None answer good h valid = some_reading second_by name (λ b. IsModel b.model) answer good valid
 
 -- what reading a name file and then its packages gives
 module _ (limits : Limits) (fs : FileSet) (name : Text) where
   pub unread_names : (fault : InputFault) → Stops fault (names_in fs name) → Stops fault (second_in limits fs name)
   unfolding second_in
   unread_names (input.Refused refusal) h = rw h refl
-  unread_names input.ReadFault h = tt
-  unread_names input.Memory h = tt
+  unread_names other h = tt
 
   module _ (pairs : Pairs) (are : names_in fs name ≡ Ok pairs) where
     pub unread_model : (fault : InputFault) → Stops fault (model_of limits fs pairs) → Stops fault (second_in limits fs name)
     unfolding second_in
     unread_model (input.Refused refusal) h = rw (are, h) refl
-    unread_model input.ReadFault h = tt
-    unread_model input.Memory h = tt
+    unread_model other h = tt
 
     pub second_read : (m : FlowModel) → model_of limits fs pairs ≡ Ok m → second_in limits fs name ≡ Ok (record { name = name; files = pairs; model = m })
     unfolding second_in
@@ -125,34 +116,39 @@ second_parts limits files name b h = by_names (names_in files name) refl h
     by_names (Ok pairs) is e = by_model pairs (model_of limits files pairs) e
     by_names (Err refusal) is e = absurd (let bad : Path (Result Second Refusal) (Err refusal) (Ok b) = e in cc)
 
--- Two decks.
+-- The decks.
 
 -- the first deck's fault
-pub unread_first : (limits : Limits) (name to : Text) (files : Option FileSet) (fault : InputFault) → IsReadAs limits name files (Err fault) → AreDecksAs limits name to files (Err fault)
+pub unread_first : (limits : Limits) (name : Text) (to : Option Text) (files : Option FileSet) (fault : InputFault) → IsReadAs limits name files (Err fault) → AreDecksAs limits name to files (Err fault)
 unread_first limits name to (Some fs) (input.Refused refusal) h = of_first h
-unread_first limits name to (Some fs) input.ReadFault h = tt
-unread_first limits name to (Some fs) input.Memory h = tt
+unread_first limits name to (Some fs) other h = tt
 unread_first limits name to None (input.Refused refusal) (read, valid, h) = (read, no_second, valid, tt, of_first h)
-unread_first limits name to None input.ReadFault (read, valid, h) = (read, no_second, valid, tt, tt)
-unread_first limits name to None input.Memory (read, valid, h) = (read, no_second, valid, tt, tt)
+unread_first limits name to None other (read, valid, h) = (read, no_second, valid, tt, tt)
 
--- the second deck's, where the first was read
-pub unread_second : (limits : Limits) (name to : Text) (files : Option FileSet) (a : FlowModel) (fault : InputFault) → IsReadAs limits name files (Ok a) → IsSecondAs limits to files (Err fault) → AreDecksAs limits name to files (Err fault)
-unread_second limits name to (Some fs) a (input.Refused refusal) h k = of_second a h k
-unread_second limits name to (Some fs) a input.ReadFault h k = tt
-unread_second limits name to (Some fs) a input.Memory h k = tt
-unread_second limits name to None a (input.Refused refusal) (read, valid, h) (second, also, k) = (read, second, valid, also, of_second a h k)
-unread_second limits name to None a input.ReadFault (read, valid, h) (second, also, k) = (read, second, valid, also, tt)
-unread_second limits name to None a input.Memory (read, valid, h) (second, also, k) = (read, second, valid, also, tt)
+-- one deck was read
+pub one_read : (limits : Limits) (name : Text) (files : Option FileSet) (a : FlowModel) → IsReadAs limits name files (Ok a) → AreDecksAs limits name None files (Ok (one_deck a))
+one_read limits name (Some fs) a h = record { last = None; is_first = h; is_second = refl; are = refl; alike = tt }
+one_read limits name None a (read, valid, h) = (read, no_second, valid, tt, record { last = None; is_first = h; is_second = refl; are = refl; alike = tt })
 
--- their first difference, where both were read
-pub unlike_decks : (limits : Limits) (name to : Text) (files : Option FileSet) (a : FlowModel) (b : SecondBy) (d : Difference) (fault : InputFault) → IsReadAs limits name files (Ok a) → IsSecondAs limits to files (Ok b) → IsFirstDifference a b.model d → (AreAlike a b.model → ⊥) → IsUnlikeFault (second_by b) d fault → AreDecksAs limits name to files (Err fault)
-unlike_decks limits name to (Some fs) a b d (input.Refused refusal) h k first never is = of_both a (second_by b) d h k first never is
-unlike_decks limits name to (Some fs) a b d input.ReadFault h k first never is = tt
-unlike_decks limits name to (Some fs) a b d input.Memory h k first never is = tt
-unlike_decks limits name to None a b d (input.Refused refusal) (read, valid, h) (second, also, k) first never is = (read, second, valid, also, of_both a (second_by b) d h k first never is)
-unlike_decks limits name to None a b d input.ReadFault (read, valid, h) (second, also, k) first never is = (read, second, valid, also, tt)
-unlike_decks limits name to None a b d input.Memory (read, valid, h) (second, also, k) first never is = (read, second, valid, also, tt)
+module _ (limits : Limits) (name to : Text) where
+  -- the second deck's fault, where the first was read
+  pub unread_second : (files : Option FileSet) (a : FlowModel) (fault : InputFault) → IsReadAs limits name files (Ok a) → IsSecondAs limits to files (Err fault) → AreDecksAs limits name (Some to) files (Err fault)
+  unread_second (Some fs) a (input.Refused refusal) h k = of_second a h (ap (λ x. Some x) k)
+  unread_second (Some fs) a other h k = tt
+  unread_second None a (input.Refused refusal) (read, valid, h) (second, also, k) = (read, second, valid, also, of_second a h (ap (λ x. Some x) k))
+  unread_second None a other (read, valid, h) (second, also, k) = (read, second, valid, also, tt)
+
+  -- their first difference, where both were read
+  pub unlike_decks : (files : Option FileSet) (a : FlowModel) (b : SecondBy) (d : Difference) (fault : InputFault) → IsReadAs limits name files (Ok a) → IsSecondAs limits to files (Ok b) → IsFirstDifference a b.model d → (AreAlike a b.model → ⊥) → IsUnlikeFault (second_by b) d fault → AreDecksAs limits name (Some to) files (Err fault)
+  unlike_decks (Some fs) a b d (input.Refused refusal) h k first never is = of_both a (second_by b) d h (ap (λ x. Some x) k) first never is
+  unlike_decks (Some fs) a b d other h k first never is = tt
+  unlike_decks None a b d (input.Refused refusal) (read, valid, h) (second, also, k) first never is = (read, second, valid, also, of_both a (second_by b) d h (ap (λ x. Some x) k) first never is)
+  unlike_decks None a b d other (read, valid, h) (second, also, k) first never is = (read, second, valid, also, tt)
+
+  -- or they are alike
+  pub alike_decks : (files : Option FileSet) (a : FlowModel) (b : SecondBy) → IsReadAs limits name files (Ok a) → IsSecondAs limits to files (Ok b) → AreAlike a b.model → AreDecksAs limits name (Some to) files (Ok (two a b.model))
+  alike_decks (Some fs) a b h k alike = record { last = Some (second_by b); is_first = h; is_second = ap (λ x. Some x) k; are = refl; alike = alike }
+  alike_decks None a b (read, valid, h) (second, also, k) alike = (read, second, valid, also, record { last = Some (second_by b); is_first = h; is_second = ap (λ x. Some x) k; are = refl; alike = alike })
 
 -- a fault of one reading, as one of another
 same_fault : (T U : Type 0) (n m : ℕ) (fault : InputFault) → InputCounts {T = T} n m (Err fault) → InputCounts {T = U} n m (Err fault)
@@ -177,40 +173,28 @@ unlike_counts T b d (input.Refused refusal) n is = refl
 unlike_counts T b d input.ReadFault n is = absurd is
 unlike_counts T b d input.Memory n is = refl
 
--- or they are alike
-pub alike_decks : (limits : Limits) (name to : Text) (files : Option FileSet) (a : FlowModel) (b : SecondBy) → IsReadAs limits name files (Ok a) → IsSecondAs limits to files (Ok b) → AreAlike a b.model → AreDecksAs limits name to files (Ok (two a b.model))
-alike_decks limits name to (Some fs) a b h k alike = record { last = second_by b; is_first = h; is_second = k; are = refl; alike = alike }
-alike_decks limits name to None a b (read, valid, h) (second, also, k) alike = (read, second, valid, also, record { last = second_by b; is_first = h; is_second = k; are = refl; alike = alike })
-
 -- The steps that a check names.
 
 abbrev no_steps : Result (List ListedStep) Refusal
 no_steps = Err (file_refusal BadName (codes "-"))
 
 pub bad_listed : (between : Bool) (asked : AskedCheck) (m : FlowModel) (z : Option (List ℕ)) (files : Option FileSet) (fault : InputFault) → (IsGoodName asked.listing → ⊥) → IsNamedFault fault → AreStepsAs between asked m z files (Err fault)
-bad_listed between asked m z (Some fs) fault bad is = bad_reading asked.listing (λ name. steps_in between asked m z (file_at fs name)) fault bad is
-bad_listed between asked m z None fault bad is = (no_steps, tt, bad_reading asked.listing (λ name. no_steps) fault bad is)
+bad_listed between asked m z (Some fs) fault bad is = bad_reading (λ l. l) asked.listing (λ name. steps_in between asked m z (file_at fs name)) fault bad is
+bad_listed between asked m z None fault bad is = (no_steps, tt, bad_reading (λ l. l) asked.listing (λ name. no_steps) fault bad is)
 
 module _ (between : Bool) (asked : AskedCheck) (m : FlowModel) (z : Option (List ℕ)) (good : IsGoodName asked.listing) where
   -- the file's reading failed
   pub unread_file : {T : Type 0} (answer : Result T InputFault) (view : T → List ℕ) (files : Option FileSet) (fault : InputFault) → IfSome files (λ fs. IsReading {T = T} view (file_at fs asked.listing) (Err fault)) → AreStepsAs between asked m z files (Err fault)
   unread_file answer view (Some fs) (input.Refused refusal) h = good_named asked.listing (λ name. steps_in between asked m z (file_at fs name)) good ∙ ap (steps_in between asked m z) h
-  unread_file answer view (Some fs) input.ReadFault h = tt
-  unread_file answer view (Some fs) input.Memory h = tt
-  unread_file answer view None (input.Refused refusal) h = (Err refusal, tt, good_named asked.listing (λ name. Err refusal) good)
-  unread_file answer view None input.ReadFault h = (no_steps, tt, tt)
-  unread_file answer view None input.Memory h = (no_steps, tt, tt)
+  unread_file answer view (Some fs) other h = tt
+  unread_file answer view None fault h = some_reading (λ l. l) asked.listing (AreListed m (pairs_in m z)) (Err fault) good tt
 
   -- its bytes were read, and then as a listing
   pub read_bytes : (files : Option FileSet) (bytes : List ℕ) (answer : Result (List ListedStep) InputFault) → IfSome files (λ fs. file_at fs asked.listing ≡ Ok bytes) → IsReading (λ l. l) (listing_in between m asked.digits (pairs_in m z) asked.listing bytes) answer → IfOk answer (AreListed m (pairs_in m z)) → AreStepsAs between asked m z files answer
   read_bytes (Some fs) bytes (Ok steps) h l fits = good_named asked.listing (λ name. steps_in between asked m z (file_at fs name)) good ∙ ap (steps_in between asked m z) h ∙ l
   read_bytes (Some fs) bytes (Err (input.Refused refusal)) h l fits = good_named asked.listing (λ name. steps_in between asked m z (file_at fs name)) good ∙ ap (steps_in between asked m z) h ∙ l
-  read_bytes (Some fs) bytes (Err input.ReadFault) h l fits = tt
-  read_bytes (Some fs) bytes (Err input.Memory) h l fits = tt
-  read_bytes None bytes (Ok steps) h l fits = (Ok steps, fits, good_named asked.listing (λ name. Ok steps) good)
-  read_bytes None bytes (Err (input.Refused refusal)) h l fits = (Err refusal, tt, good_named asked.listing (λ name. Err refusal) good)
-  read_bytes None bytes (Err input.ReadFault) h l fits = (no_steps, tt, tt)
-  read_bytes None bytes (Err input.Memory) h l fits = (no_steps, tt, tt)
+  read_bytes (Some fs) bytes (Err other) h l fits = tt
+  read_bytes None bytes answer h l fits = some_reading (λ l. l) asked.listing (AreListed m (pairs_in m z)) answer good fits
 
 -- a reading of a text, as a reading
 pub text_read : (read : Result (List ListedStep) Refusal) (fault : TextFault) → StopsText fault read → IsReading {T = List ListedStep} (λ l. l) read (Err (input_fault fault))
@@ -235,11 +219,9 @@ module _ (name : Text) (m : FlowModel) where
   -- the file's reading failed
   pub unread_zones : (files : Option FileSet) (fault : InputFault) → IfSome files (λ fs. Stops fault (zones_of fs m.grid name)) → AreZonesAs (Some name) m files (Err fault)
   unread_zones (Some fs) (input.Refused refusal) h = ap numbers_of h
-  unread_zones (Some fs) input.ReadFault h = tt
-  unread_zones (Some fs) input.Memory h = tt
+  unread_zones (Some fs) other h = tt
   unread_zones None (input.Refused refusal) h = (Err refusal, tt, refl)
-  unread_zones None input.ReadFault h = (no_zones, tt, tt)
-  unread_zones None input.Memory h = (no_zones, tt, tt)
+  unread_zones None other h = (no_zones, tt, tt)
 
   -- its numbers were read
   pub zones_were_read : (files : Option FileSet) (zones : List ℤ) (numbers : List ℕ) → IfSome files (λ fs. zones_of fs m.grid name ≡ Ok zones) → numbers ≡ map unsigned_abs zones → AreZonesOf m numbers → AreZonesAs (Some name) m files (Ok (Some numbers))
@@ -258,11 +240,9 @@ same_ok x y h = cc
 module _ (between : Bool) (asked : AskedCheck) (m : FlowModel) where
   pub unzoned : (files : Option FileSet) (fault : InputFault) → AreZonesAs asked.zones m files (Err fault) → IsListedAs between asked m files (Err fault)
   unzoned (Some fs) (input.Refused refusal) h = ap (λ (z : Result (Option (List ℕ)) Refusal). zoned_steps z (steps_read between fs asked m)) h
-  unzoned (Some fs) input.ReadFault h = tt
-  unzoned (Some fs) input.Memory h = tt
+  unzoned (Some fs) other h = tt
   unzoned None (input.Refused refusal) (zoned, fits, h) = (zoned, no_steps, fits, tt, ap (λ (z : Result (Option (List ℕ)) Refusal). zoned_steps z (λ zones. named asked.listing (λ name. no_steps))) h)
-  unzoned None input.ReadFault (zoned, fits, h) = (zoned, no_steps, fits, tt, tt)
-  unzoned None input.Memory (zoned, fits, h) = (zoned, no_steps, fits, tt, tt)
+  unzoned None other (zoned, fits, h) = (zoned, no_steps, fits, tt, tt)
 
   -- the zones of a check, where no files are known
   zones_are : (o : Option Text) (zoned : Result (List ℤ) Refusal) (z : Option (List ℕ)) → zones_named o (λ name. zoned) ≡ Ok z → (z ≡ None) ⊎ (numbers_of zoned ≡ Ok z)
@@ -276,12 +256,10 @@ module _ (between : Bool) (asked : AskedCheck) (m : FlowModel) where
   module _ (z : Option (List ℕ)) where
     pub unlisted : (files : Option FileSet) (fault : InputFault) → AreZonesAs asked.zones m files (Ok z) → AreStepsAs between asked m z files (Err fault) → IsListedAs between asked m files (Err fault)
     unlisted (Some fs) (input.Refused refusal) h k = ap (λ (x : Result (Option (List ℕ)) Refusal). zoned_steps x (steps_read between fs asked m)) h ∙ ap (with_zones z) k
-    unlisted (Some fs) input.ReadFault h k = tt
-    unlisted (Some fs) input.Memory h k = tt
+    unlisted (Some fs) other h k = tt
     unlisted None (input.Refused refusal) (zoned, fits, h) (listed, lists, k) =
         (zoned, listed, fits, could_list zoned z listed h lists, ap (λ (x : Result (Option (List ℕ)) Refusal). zoned_steps x (λ zones. named asked.listing (λ name. listed))) h ∙ ap (with_zones z) k)
-    unlisted None input.ReadFault (zoned, fits, h) (listed, lists, k) = (zoned, listed, fits, could_list zoned z listed h lists, tt)
-    unlisted None input.Memory (zoned, fits, h) (listed, lists, k) = (zoned, listed, fits, could_list zoned z listed h lists, tt)
+    unlisted None other (zoned, fits, h) (listed, lists, k) = (zoned, listed, fits, could_list zoned z listed h lists, tt)
 
     pub both_read : (files : Option FileSet) (steps : List ListedStep) → AreZonesAs asked.zones m files (Ok z) → AreStepsAs between asked m z files (Ok steps) → IsListedAs between asked m files (Ok (record { zones = z; steps = steps }))
     both_read (Some fs) steps h k = ap (λ (x : Result (Option (List ℕ)) Refusal). zoned_steps x (steps_read between fs asked m)) h ∙ ap (with_zones z) k

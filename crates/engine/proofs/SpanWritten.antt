@@ -1,19 +1,18 @@
 -- What a run of two decks wrote is certified.
 use Rattle.engine.proofs.Common.{◌≡◌, ℕ, ◌≤◌, Bool, true, List, [], ◌∷◌, map, Option, None, Some, Result, Ok, Err, refl, sym, ap, ◌∙◌, subst, arith, inr}
-use Rattle.engine.proofs.Common.{concat, FileSet, file_at, is_good_name, Refusal, FlowModel, reads, Wanted, Lists, ListsTo, Checks, ChecksTo, Makes, Batches}
-use Rattle.engine.proofs.Common.{Writes, wanted_of, pairs_in, AreNumbers, all_lines, listing_at, or_bad_listing, Text, end_line, IsListing, listing, IsWhole}
-use Rattle.engine.proofs.Common.{whole_listing, ZonedListing, AskedCheck, AskedSpanCheck, Case, CheckSpan, asked_in, built, case_listed, case_of, listing_read}
-use Rattle.engine.proofs.Common.{steps_in, steps_read, span_task_of, with_zones, zoned_steps, IsCheck, certified_line, Defines, Limits, AreDecks, AreAlike, two}
-use Rattle.engine.proofs.Common.{Second, second_in, named, file_refusal, BadName, codes, readings_of, model_of, ◌>>=◌, Pairs, unit_is_short, check_to_digits}
-use Rattle.engine.proofs.Common.{deck_task, IsReadable, RunIsCertified, RunIsReadAgain, as_listed, run_encloses, ChecksSpan, OneSpanIsCertified}
-use Rattle.engine.proofs.Common.{QuickSpanIsCertified, WrittenSpanIsCertified, AllSteps, ArePairOf, AskedSpan, Step, zones_read, EnclosesHistories, Task}
-use Rattle.engine.proofs.Common.{limits_of}
+use Rattle.engine.proofs.Common.{concat, FileSet, file_at, is_good_name, Refusal, FlowModel, reads, Wanted, ChecksTo, wanted_of, pairs_in, AreNumbers}
+use Rattle.engine.proofs.Common.{all_lines, listing_at, or_bad_listing, Text, end_line, IsListing, listing, IsWhole, whole_listing, ZonedListing, AskedCheck}
+use Rattle.engine.proofs.Common.{AskedSpanCheck, Case, CheckSpan, asked_in, built, case_listed, case_of, listing_read, steps_in, steps_read, span_task_of}
+use Rattle.engine.proofs.Common.{with_zones, zoned_steps, IsCheck, certified_line, Defines, Limits, AreDecks, AreAlike, two, Second, second_in, named}
+use Rattle.engine.proofs.Common.{file_refusal, BadName, codes, readings_of, model_of, ◌>>=◌, Pairs, unit_is_short, check_to_digits, deck_task, IsReadable}
+use Rattle.engine.proofs.Common.{RunIsCertified, RunIsReadAgain, as_listed, run_encloses, ChecksSpan, OneSpanIsCertified, QuickSpanIsCertified}
+use Rattle.engine.proofs.Common.{WrittenSpanIsCertified, AllSteps, ArePairOf, AskedSpan, Step, zones_read, EnclosesHistories, Task, limits_of, Command}
+use Rattle.engine.proofs.Common.{Comparing, case_asked, case_decks}
 use Rattle.std.proofs.Common.{false}
 use Rattle.std.specs.Prelude.{if◌then◌else◌, option_and_then}
 use Rattle.model_reader.specs.Names.{names_in}
 use Rattle.check_run.specs.declared.verdict.ListingVerdict.TheVariants.{Certified as Holds}
 use Rattle.engine.proofs.Readings.{named_read}
-use Rattle.engine.proofs.SpanEnds.{span_check_case}
 use Rattle.engine.proofs.Spans.{have_choices}
 use Rattle.engine.proofs.Written.{clash, read_numbers, with_bytes}
 use Rattle.run_puts.specs.declared.status.Status.TheVariants as status
@@ -21,15 +20,10 @@ use Rattle.listing_run.specs.declared.listing_end.ListingEnd.TheVariants as ends
 
 -- a check has at most 18 digits
 built_check : (asked : AskedSpanCheck) (w : Wanted) → built w ≡ Some (CheckSpan asked) → (wide : Bool) × (w ≡ ChecksTo asked.check.name asked.to asked.check.listing asked.check.digits asked.check.zones wide)
-built_check asked (Lists name digits workers rounds zones watch quick wide) e = absurd cc
-built_check asked (ListsTo name to digits workers rounds zones watch quick wide) e = absurd cc
-built_check asked (Checks name listing digits zones wide) e = absurd cc
 built_check asked (ChecksTo name to listing digits zones wide) e =
     let same : record { check = record { limits = limits_of wide; name = name; listing = listing; digits = digits; zones = zones }; to = to } ≡ asked = cc in
     (wide, ap (λ (a : AskedSpanCheck). ChecksTo a.check.name a.to a.check.listing a.check.digits a.check.zones wide) same)
-built_check asked (Makes seed size) e = absurd cc
-built_check asked (Writes name wide) e = absurd cc
-built_check asked (Batches list digits workers rounds quick wide) e = absurd cc
+built_check asked other e = absurd cc
 
 asked_digits : (words : List Text) (asked : AskedSpanCheck) → asked_in words ≡ Some (CheckSpan asked) → asked.check.digits ≤ 18
 asked_digits words asked = by_wanted (wanted_of words) refl
@@ -111,7 +105,9 @@ module _ (certified : RunIsCertified) (again : RunIsReadAgain) (limits : Limits)
       let B : FlowModel → Type 0 = λ x. AreAlike a x × IsCheck check.limits (two a x) check.digits listing_of status.Ok (certified_line ∷ []) in
       let L : Result ZonedListing Refusal → Type 0 = λ l. AreAlike a last.model × Defines (case_listed check (two a last.model) l) status.Ok (certified_line ∷ []) in
       let C : Case → Type 0 = λ c. Defines c status.Ok (certified_line ∷ []) in
-      subst C (span_check_case words (readings_of files) h.asked h.wanted (Ok a) (Ok last) h.read is) (inr (subst L (sym read) (subst B (sym same) (decks.second.alike, is_check))))
+      let case_is : case_of words files ≡ Comparing a last (case_listed check (two a last.model) (listing_read true files check a)) =
+      ap (λ (c : Option Command). case_asked c (readings_of files)) h.wanted ∙ (λ i. case_decks (h.read i) (Some (is i)) (λ d. case_listed check d (listing_read true files check d.first))) in
+      subst C (sym case_is) (inr (subst L (sym read) (subst B (sym same) (decks.second.alike, is_check))))
 
   is_certified : Defines (case_of words files) status.Ok (certified_line ∷ [])
   is_certified = let (last, is, same) = named_second check.limits files h.asked.to b h.read_to in of_second last is same

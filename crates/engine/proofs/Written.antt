@@ -1,13 +1,12 @@
 -- What a run wrote is certified.
 use Rattle.engine.proofs.Common.{◌≡◌, ℕ, ◌≤◌, Bool, true, List, [], ◌∷◌, map, Option, None, Some, Result, Ok, Err, refl, sym, ap, ◌∙◌, subst, arith, ℤ}
-use Rattle.engine.proofs.Common.{unsigned_abs, concat, FileSet, file_at, is_good_name, Refusal, FlowModel, IsModel, reads, Wanted, Lists, ListsTo, Checks}
-use Rattle.engine.proofs.Common.{ChecksTo, Makes, Batches, Writes, wanted_of, pairs_in, AreNumbers, zones_of, ListedStep, all_lines, listing_at, or_bad_listing}
-use Rattle.engine.proofs.Common.{one_deck, one_valid, Text, end_line, IsListing, listing, IsWhole, whole_listing, history_exists, history_is_one, ZonedListing}
-use Rattle.engine.proofs.Common.{AskedCheck, Case, Check, Command, Checking, asked_in, built, case_asked, case_checked, case_listed, case_of, listing_read}
-use Rattle.engine.proofs.Common.{numbers_of, steps_in, steps_read, task_of, with_zones, zoned_steps, zones_read, IsCheck, certified_line, Defines, Limits}
-use Rattle.engine.proofs.Common.{unit_is_short, check_digits, one_task, IsReadable, RunIsCertified, RunIsReadAgain, as_listed, run_encloses, Step}
-use Rattle.engine.proofs.Common.{EnclosesHistories, AllSteps, Asked, ChecksWritten, OneListingIsCertified, QuickListingIsCertified, WrittenIsCertified}
-use Rattle.engine.proofs.Common.{readings_of, Task}
+use Rattle.engine.proofs.Common.{unsigned_abs, concat, FileSet, file_at, is_good_name, Refusal, FlowModel, IsModel, reads, Wanted, Checks, wanted_of, pairs_in}
+use Rattle.engine.proofs.Common.{AreNumbers, zones_of, ListedStep, all_lines, listing_at, or_bad_listing, one_deck, one_valid, Text, end_line, IsListing}
+use Rattle.engine.proofs.Common.{listing, IsWhole, whole_listing, history_exists, history_is_one, ZonedListing, AskedCheck, Case, Check, Command, Checking}
+use Rattle.engine.proofs.Common.{asked_in, built, case_asked, case_listed, case_of, listing_read, numbers_of, steps_in, steps_read, task_of, with_zones}
+use Rattle.engine.proofs.Common.{zoned_steps, zones_read, IsCheck, certified_line, Defines, Limits, unit_is_short, check_digits, one_task, IsReadable}
+use Rattle.engine.proofs.Common.{RunIsCertified, RunIsReadAgain, as_listed, run_encloses, Step, EnclosesHistories, AllSteps, Asked, ChecksWritten}
+use Rattle.engine.proofs.Common.{OneListingIsCertified, QuickListingIsCertified, WrittenIsCertified, readings_of, Task, case_decks}
 use Rattle.std.proofs.Common.{false}
 use Rattle.std.specs.Prelude.{if◌then◌else◌, option_and_then}
 use Rattle.zone_file.proofs.SmallZones.{numbers_small}
@@ -29,14 +28,8 @@ with_bytes false found made refusal bytes h = absurd (clash refusal bytes (Err r
 
 -- a check has at most 18 digits
 built_check : (asked : AskedCheck) (w : Wanted) → built w ≡ Some (Check asked) → (wide : Bool) × (w ≡ Checks asked.name asked.listing asked.digits asked.zones wide)
-built_check asked (Lists name digits workers rounds zones None quick wide) e = absurd cc
-built_check asked (Lists name digits workers rounds zones (Some turns) quick wide) e = absurd cc
-built_check asked (ListsTo name to digits workers rounds zones turns quick wide) e = absurd cc
 built_check asked (Checks name listing digits zones wide) e = (wide, cc)
-built_check asked (ChecksTo name to listing digits zones wide) e = absurd cc
-built_check asked (Makes seed size) e = absurd cc
-built_check asked (Writes name wide) e = absurd cc
-built_check asked (Batches list digits workers rounds quick wide) e = absurd cc
+built_check asked other e = absurd cc
 
 asked_digits : (words : List Text) (asked : AskedCheck) → asked_in words ≡ Some (Check asked) → asked.digits ≤ 18
 asked_digits words asked = by_wanted (wanted_of words) refl
@@ -77,7 +70,7 @@ module _ (certified : RunIsCertified) (again : RunIsReadAgain) (limits : Limits)
   case_is : case_of words files ≡ Checking h.asked.limits (one_deck m) h.asked.digits listing_of
   case_is =
       ap (λ (c : Option Command). case_asked c (readings_of files)) h.wanted
-      ∙ ap (λ (r : Result FlowModel Refusal). case_checked h.asked r (listing_read false files h.asked)) h.read
+      ∙ ap (λ (r : Result FlowModel Refusal). case_decks r None (λ d. case_listed h.asked d (listing_read false files h.asked d.first))) h.read
       ∙ ap (case_listed h.asked (one_deck m)) read
 
   is_certified : Defines (case_of words files) status.Ok (certified_line ∷ [])

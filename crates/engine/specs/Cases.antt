@@ -180,36 +180,21 @@ zoned_steps (Err refusal) read = Err refusal
 abbrev pub listing_read : Bool → FileSet → AskedCheck → FlowModel → Result ZonedListing Refusal
 listing_read between files asked m = zoned_steps (zones_read files asked.zones m) (steps_read between files asked m)
 
--- a refusal of the model comes before one of the zone file
-abbrev pub case_zoned : Asked → FlowModel → Result (Option (List ℕ)) Refusal → Case
-case_zoned asked m (Ok zones) = Listing (task_of asked m zones)
-case_zoned asked m (Err refusal) = Refuses refusal
+-- Decks that are read, a first one and a second one if there is one, come to this case, or to the refusal of the first or else
+-- of the second. Two are compared.
+abbrev pub case_decks : Result FlowModel Refusal → Option (Result Second Refusal) → (Decks → Case) → Case
+case_decks (Ok a) None come = come (one_deck a)
+case_decks (Ok a) (Some (Ok b)) come = Comparing a b (come (two a b.model))
+case_decks (Ok a) (Some (Err refusal)) come = Refuses refusal
+case_decks (Err refusal) second come = Refuses refusal
 
-abbrev pub case_read : Asked → Result FlowModel Refusal → (FlowModel → Result (Option (List ℕ)) Refusal) → Case
-case_read asked (Ok m) zoned = case_zoned asked m (zoned m)
-case_read asked (Err refusal) zoned = Refuses refusal
+abbrev pub case_zoned : Asked → Decks → Result (Option (List ℕ)) Refusal → Case
+case_zoned asked d (Ok zones) = Listing (decks_task asked d zones)
+case_zoned asked d (Err refusal) = Refuses refusal
 
 abbrev pub case_listed : AskedCheck → Decks → Result ZonedListing Refusal → Case
 case_listed asked d (Ok listing) = Checking asked.limits d asked.digits listing
 case_listed asked d (Err refusal) = Refuses refusal
-
-abbrev pub case_checked : AskedCheck → Result FlowModel Refusal → (FlowModel → Result ZonedListing Refusal) → Case
-case_checked asked (Ok m) listed = case_listed asked (one_deck m) (listed m)
-case_checked asked (Err refusal) listed = Refuses refusal
-
--- a refusal of the first deck comes before one of the second, and that before the comparison
-abbrev pub case_compared : Result FlowModel Refusal → Result Second Refusal → ((first second : FlowModel) → Case) → Case
-case_compared (Ok a) (Ok b) alike = Comparing a b (alike a b.model)
-case_compared (Ok a) (Err refusal) alike = Refuses refusal
-case_compared (Err refusal) second alike = Refuses refusal
-
-abbrev pub case_between : Asked → (first second : FlowModel) → Result (Option (List ℕ)) Refusal → Case
-case_between asked a b (Ok zones) = Listing (span_task_of asked a b zones)
-case_between asked a b (Err refusal) = Refuses refusal
-
-abbrev pub case_written : Result FlowModel Refusal → Case
-case_written (Ok m) = Writing m
-case_written (Err refusal) = Refuses refusal
 
 -- readings of models and of second decks by limits, of zone files, and of listings of a model or of all models between two
 pub record Readings : Type 0 where
@@ -221,16 +206,18 @@ pub record Readings : Type 0 where
 -- the case of a command, by these readings
 abbrev pub case_asked : Option Command → Readings → Case
 case_asked None read = NoWords
-case_asked (Some (Run asked)) read = case_read asked (named asked.name (read.model asked.limits)) (read.zones asked.zones)
+case_asked (Some (Run asked)) read =
+    case_decks (named asked.name (read.model asked.limits)) None (λ d. case_zoned asked d (read.zones asked.zones d.first))
 case_asked (Some (Span asked)) read =
-    case_compared (named asked.run.name (read.model asked.run.limits)) (named asked.to (read.second asked.run.limits))
-    (λ a b. case_between asked.run a b (read.zones asked.run.zones a))
+    case_decks (named asked.run.name (read.model asked.run.limits)) (Some (named asked.to (read.second asked.run.limits)))
+    (λ d. case_zoned asked.run d (read.zones asked.run.zones d.first))
 case_asked (Some (Make seed size)) read = Making seed size (made_model seed size)
-case_asked (Some (Check asked)) read = case_checked asked (named asked.name (read.model asked.limits)) (read.listing false asked)
+case_asked (Some (Check asked)) read =
+    case_decks (named asked.name (read.model asked.limits)) None (λ d. case_listed asked d (read.listing false asked d.first))
 case_asked (Some (CheckSpan asked)) read =
-    case_compared (named asked.check.name (read.model asked.check.limits)) (named asked.to (read.second asked.check.limits))
-    (λ a b. case_listed asked.check (two a b) (read.listing true asked.check a))
-case_asked (Some (Write limits name)) read = case_written (named name (read.model limits))
+    case_decks (named asked.check.name (read.model asked.check.limits)) (Some (named asked.to (read.second asked.check.limits)))
+    (λ d. case_listed asked.check d (read.listing true asked.check d.first))
+case_asked (Some (Write limits name)) read = case_decks (named name (read.model limits)) None (λ d. Writing d.first)
 
 -- the readings of these files
 abbrev pub readings_of : FileSet → Readings

@@ -1,5 +1,5 @@
 -- What the parts of a run return and put.
-use Rattle.std.specs.Prelude.{◌≡◌, ◌⊎◌, ℕ, ℤ, Bool, List, map, unsigned_abs, Result, Option, Some, None, IfOk, IfSome, codes}
+use Rattle.std.specs.Prelude.{◌≡◌, ◌⊎◌, ℕ, ℤ, Bool, List, map, unsigned_abs, Result, Option, Some, None, IfOk, IfSome, codes, option_map}
 use Rattle.outside.specs.Counts.{Rose}
 use Rattle.outside.specs.Files.{FileSet}
 use Rattle.outside.specs.Puts.{Put}
@@ -22,7 +22,7 @@ use Rattle.deck_problems.specs.Decks.{AreDecks}
 use Rattle.deck_problems.specs.declared.decks.Decks.{Decks}
 use Rattle.deck_span.specs.Alike.{AreAlike}
 use Rattle.engine.specs.declared.two_decks.Second.{Second as SecondBy}
-use Rattle.engine.specs.TwoDecks.{IsPairRead, Second, not_alike, second_in}
+use Rattle.engine.specs.TwoDecks.{AreDecksRead, Second, not_alike, second_in}
 use Rattle.deck_alike.specs.declared.difference.Difference.{Difference}
 use Rattle.run_puts.specs.Ends.{IsEnd, IsLast, IsWanting}
 use Rattle.run_puts.specs.Lines.{Text, read_fault_line}
@@ -51,13 +51,14 @@ abbrev pub IsReadAs : Limits → Text → Option FileSet → Result FlowModel In
 IsReadAs limits name (Some files) answer = IsReading (λ m. m) (named name (reads limits files)) answer
 IsReadAs limits name None answer = (read : Result FlowModel Refusal) × IfOk read IsModel × IsReading (λ m. m) (named name (λ n. read)) answer
 
--- A reading gave the two decks that two names mean: by these files, or where none are known by some that read as valid
--- models or have a refusal.
-abbrev pub AreDecksAs : Limits → (name to : Text) → Option FileSet → Result Decks InputFault → Type 0
-AreDecksAs limits name to (Some files) answer = IsPairRead (named name (reads limits files)) (named to (second_in limits files)) answer
+-- A reading gave the deck that a name means, or the two that two names mean: by these files, or where none are known by some
+-- that read as valid models or have a refusal.
+abbrev pub AreDecksAs : Limits → Text → Option Text → Option FileSet → Result Decks InputFault → Type 0
+AreDecksAs limits name to (Some files) answer =
+    AreDecksRead (named name (reads limits files)) (option_map (λ last. named last (second_in limits files)) to) answer
 AreDecksAs limits name to None answer =
     (read : Result FlowModel Refusal) × (second : Result Second Refusal) × IfOk read IsModel × IfOk second (λ b. IsModel b.model)
-    × IsPairRead (named name (λ n. read)) (named to (λ n. second)) answer
+    × AreDecksRead (named name (λ n. read)) (option_map (λ last. named last (λ n. second)) to) answer
 
 -- the refusal of a second deck at this difference, or lack of memory for it
 abbrev pub IsUnlikeFault : Second → Difference → InputFault → Type 0

@@ -1,5 +1,5 @@
--- Two decks that are read one after the other, and the refusal where they aren't alike.
-use Rattle.std.specs.Prelude.{◌≡◌, List, [], ◌∷◌, Result, Ok, Err, Some, option_map, unwrap_or}
+-- Decks that are read, one or two, and the refusal where two aren't alike.
+use Rattle.std.specs.Prelude.{◌≡◌, List, [], ◌∷◌, Result, Ok, Err, Option, Some, IfSome, option_map, unwrap_or}
 use Rattle.outside.specs.Files.{FileSet}
 use Rattle.outside.specs.declared.codes.Code.TheVariants.{NotAlike}
 use Rattle.outside.specs.declared.refusals.Refusal.{Refusal}
@@ -52,24 +52,23 @@ pub record IsUnlike (a : FlowModel) (b : Second) (end : Status) (pieces : List T
   pub status : end ≡ status.Refused (not_alike b difference)
   pub are : pieces ≡ refused_line (not_alike b difference) ∷ []
 
--- two decks by the readings of both: each was read, and they are alike
-pub record ArePair (first : Result FlowModel Refusal) (second : Result Second Refusal) (d : Decks) : Type 0 where
-  pub last : Second
+-- the decks of these readings: the first one was read, and a second one if there is one, and the two are alike
+pub record AreRead (first : Result FlowModel Refusal) (second : Option (Result Second Refusal)) (d : Decks) : Type 0 where
+  pub last : Option Second
   pub is_first : first ≡ Ok d.first
-  pub is_second : second ≡ Ok last
-  pub are : d.second ≡ Some last.model
-  pub alike : AreAlike d.first last.model
+  pub is_second : second ≡ option_map (λ b. Ok b) last
+  pub are : d.second ≡ option_map (λ b. b.model) last
+  pub alike : IfSome last (λ b. AreAlike d.first b.model)
 
 -- why there are none: the first deck's refusal, then the second one's, then that of their first difference
-pub data IsPairRefusal (first : Result FlowModel Refusal) (second : Result Second Refusal) (r : Refusal) : Type 0 where
-  of_first : first ≡ Err r → IsPairRefusal first second r
-  of_second : (a : FlowModel) → first ≡ Ok a → second ≡ Err r → IsPairRefusal first second r
-  of_both : (a : FlowModel) (b : Second) (d : Difference) → first ≡ Ok a → second ≡ Ok b → IsFirstDifference a b.model d →
-      (AreAlike a b.model → ⊥) → r ≡ not_alike b d → IsPairRefusal first second r
+pub data IsDecksRefusal (first : Result FlowModel Refusal) (second : Option (Result Second Refusal)) (r : Refusal) : Type 0 where
+  of_first : first ≡ Err r → IsDecksRefusal first second r
+  of_second : (a : FlowModel) → first ≡ Ok a → second ≡ Some (Err r) → IsDecksRefusal first second r
+  of_both : (a : FlowModel) (b : Second) (d : Difference) → first ≡ Ok a → second ≡ Some (Ok b) → IsFirstDifference a b.model d →
+      (AreAlike a b.model → ⊥) → r ≡ not_alike b d → IsDecksRefusal first second r
 
--- a reading of two decks gave them, or this fault; a read fault and lack of memory say nothing of the files
-abbrev pub IsPairRead : Result FlowModel Refusal → Result Second Refusal → Result Decks InputFault → Type 0
-IsPairRead first second (Ok d) = ArePair first second d
-IsPairRead first second (Err (input.Refused r)) = IsPairRefusal first second r
-IsPairRead first second (Err input.ReadFault) = Unit {0}
-IsPairRead first second (Err input.Memory) = Unit {0}
+-- a reading of decks gave them, or this fault; a read fault and lack of memory say nothing of the files
+abbrev pub AreDecksRead : Result FlowModel Refusal → Option (Result Second Refusal) → Result Decks InputFault → Type 0
+AreDecksRead first second (Ok d) = AreRead first second d
+AreDecksRead first second (Err (input.Refused r)) = IsDecksRefusal first second r
+AreDecksRead first second (Err other) = Unit {0}

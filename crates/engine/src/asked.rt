@@ -1,5 +1,5 @@
 // What an order asks for.
-ghost use Rattle.std.specs.Prelude.{◌≡◌, option_map, IfSome, MatchOption};
+ghost use Rattle.std.specs.Prelude.{◌≡◌, option_map, IfSome};
 ghost use Rattle.command_line.specs.Wants.{wanted};
 ghost use Rattle.command_line.specs.Ranges.{IsInRange};
 ghost use Rattle.engine.specs.Cases.{built, limits_of};
@@ -13,13 +13,14 @@ use settle_driver::Plan;
 // The turns of a worker for each cell in a phase.
 const TURNS: u32 = 64;
 
-/// A listing that is asked for: the limits, the name of its name file, the digits of conductances, how each step is settled, the name
-/// of a zone file, if there is one, the number of views in each phase, if the heads are viewed, and whether a step may have
-/// any pair that is a certificate.
+/// A listing that is asked for: the limits, the name of its name file, that of a second one, if all models between two decks are
+/// listed, the digits of conductances, how each step is settled, the name of a zone file, if there is one, the number of
+/// views in each phase, if the heads are viewed, and whether a step may have any pair that is a certificate.
 #[derive(Clone, Copy)]
 pub(crate) struct Asked<'a> {
     pub(crate) limits: Limits,
     pub(crate) name: &'a str,
+    pub(crate) to: Option<&'a str>,
     pub(crate) digits: u32,
     pub(crate) plan: Plan,
     pub(crate) zones: Option<&'a str>,
@@ -27,12 +28,13 @@ pub(crate) struct Asked<'a> {
     pub(crate) quick: bool,
 }
 
-/// A check that is asked for: the limits, the name of its name file, that of the listing, the digits of conductances, and the name of a
-/// zone file, if there is one.
+/// A check that is asked for: the limits, the name of its name file, that of a second one, if the listing is of all models
+/// between two decks, that of the listing, the digits of conductances, and the name of a zone file, if there is one.
 #[derive(Clone, Copy)]
 pub(crate) struct AskedCheck<'a> {
     pub(crate) limits: Limits,
     pub(crate) name: &'a str,
+    pub(crate) to: Option<&'a str>,
     pub(crate) listing: &'a str,
     pub(crate) digits: u32,
     pub(crate) zones: Option<&'a str>,
@@ -42,12 +44,8 @@ pub(crate) struct AskedCheck<'a> {
 #[derive(Clone, Copy)]
 pub(crate) enum Command<'a> {
     Run(Asked<'a>),
-    /// A listing for all models between two decks, with the name of the second name file.
-    Span(Asked<'a>, &'a str),
     Make { seed: u32, size: u32 },
     Check(AskedCheck<'a>),
-    /// The check of such a listing.
-    CheckSpan(AskedCheck<'a>, &'a str),
     Write(Limits, &'a str),
 }
 
@@ -65,26 +63,6 @@ pub(crate) fn limits_of(wide: bool) -> Limits
     ensures { result ≡ limits_of wide }
 {
     if wide { Limits::Wide } else { Limits::Plain }
-}
-
-// The listing of a deck, or of all models between two.
-fn run_to<'a>(asked: Asked<'a>, to: Option<&'a str>) -> Command<'a>
-    ensures { MatchOption to.entry (result ≡ Command.Run asked.entry) (λ t. result ≡ Command.Span asked.entry t) }
-{
-    match to {
-        None => Command::Run(asked),
-        Some(to) => Command::Span(asked, to),
-    }
-}
-
-// The check of such a listing.
-fn check_to<'a>(asked: AskedCheck<'a>, to: Option<&'a str>) -> Command<'a>
-    ensures { MatchOption to.entry (result ≡ Command.Check asked.entry) (λ t. result ≡ Command.CheckSpan asked.entry t) }
-{
-    match to {
-        None => Command::Check(asked),
-        Some(to) => Command::CheckSpan(asked, to),
-    }
 }
 
 /// The command that an order asks for; None for a batch, which is no command of one model.
@@ -111,18 +89,16 @@ pub(crate) fn command_of<'a>(order: Order<'a>) -> Option<Command<'a>>
                 turns_per_cell: TURNS,
                 rounds,
             };
-            Some(run_to(
-                Asked {
-                    limits: limits_of(wide),
-                    name,
-                    digits,
-                    plan,
-                    zones,
-                    watch,
-                    quick,
-                },
+            Some(Command::Run(Asked {
+                limits: limits_of(wide),
+                name,
                 to,
-            ))
+                digits,
+                plan,
+                zones,
+                watch,
+                quick,
+            }))
         }
         Order::Make { seed, size } => Some(Command::Make { seed, size }),
         Order::Check {
@@ -132,16 +108,14 @@ pub(crate) fn command_of<'a>(order: Order<'a>) -> Option<Command<'a>>
             digits,
             zones,
             wide,
-        } => Some(check_to(
-            AskedCheck {
-                limits: limits_of(wide),
-                name,
-                listing,
-                digits,
-                zones,
-            },
+        } => Some(Command::Check(AskedCheck {
+            limits: limits_of(wide),
+            name,
             to,
-        )),
+            listing,
+            digits,
+            zones,
+        })),
         Order::Write { name, wide } => Some(Command::Write(limits_of(wide), name)),
         _ => None,
     }

@@ -1,6 +1,5 @@
 // The jobs of a batch, as workers run them.
-ghost use Rattle.std.specs.Prelude.{◌≡◌, ◌≤◌, ℕ, ◌<◌, ◌^◌, List, length, All, IfOk, IfSome, slice_get};
-ghost use Rattle.listing_run.specs.Ends.{IsTask};
+ghost use Rattle.std.specs.Prelude.{◌≡◌, ◌≤◌, ◌<◌, ◌^◌, List, length, IfSome, slice_get};
 ghost use Rattle.engine.specs.declared.job.Job.{Job as JobRead};
 ghost use Rattle.engine.specs.Batches.{IsJobEnd};
 ghost use Rattle.engine.specs.BatchReads.{AreTasks};

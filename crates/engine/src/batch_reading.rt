@@ -1,9 +1,8 @@
 // The jobs of a batch, read from its list and the files of its models.
-ghost use Rattle.std.specs.Prelude.{◌≡◌, ◌≤◌, List, ◌++◌, ◌∷◌, [], length, map, All, IfOk, IfSome, Option};
+ghost use Rattle.std.specs.Prelude.{◌≡◌, ◌≤◌, length, All, IfOk, IfSome, Option};
 ghost use Rattle.outside.specs.Asking.{WordsMay};
 ghost use Rattle.outside.specs.Files.{FileSet};
 ghost use Rattle.outside.specs.Folders.{ReadsOn};
-ghost use Rattle.outside.specs.Inputs.{IsReading};
 ghost use Rattle.outside.specs.Names.{IsGoodName, folder_name};
 ghost use Rattle.listing_run.specs.Ends.{IsTask};
 ghost use Rattle.engine.specs.BatchCommands.{batch_by, IsBatchOrder};

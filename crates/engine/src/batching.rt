@@ -1,5 +1,5 @@
 // A batch of models.
-ghost use Rattle.std.specs.Prelude.{◌≡◌, ◌≤◌, ℕ, List, ◌++◌, length, map, IfSome, None, Option};
+ghost use Rattle.std.specs.Prelude.{◌≡◌, ◌≤◌, List, ◌++◌, length, map, IfSome, None, Option};
 ghost use Rattle.outside.specs.Asking.{WordsMay};
 ghost use Rattle.outside.specs.Names.{folder_name};
 ghost use Rattle.engine.specs.Asking.{files_named};

@@ -1,5 +1,5 @@
 // The check of a listing of the folder.
-ghost use Rattle.std.specs.Prelude.{◌≡◌, ◌≤◌, List, ◌++◌, Ok, IfOk, IfSome, None, Option, Some, option_map};
+ghost use Rattle.std.specs.Prelude.{◌≡◌, ◌≤◌, List, ◌++◌, Ok, IfOk, IfSome, Option, Some, option_map};
 ghost use Rattle.outside.specs.Names.{folder_name};
 ghost use Rattle.outside.specs.Files.{FileSet};
 ghost use Rattle.outside.specs.Folders.{ReadsOn};
@@ -12,13 +12,13 @@ ghost use Rattle.run_puts.specs.Lines.{Text};
 ghost use Rattle.run_puts.specs.Runs.{IsRun, NeverCut};
 ghost use Rattle.engine.specs.Checked.{IsCheck};
 ghost use Rattle.deck_problems.specs.Decks.{AreDecks};
-ghost use Rattle.engine.specs.Cases.{asked_in, Check, CheckSpan};
-ghost use Rattle.engine.specs.Commands.{check_of};
-ghost use Rattle.engine.specs.Parts.{Answers, AreDecksAs, AreStepsAs, IsListed, IsListedAs, IsReadAs};
+ghost use Rattle.engine.specs.Cases.{asked_in};
+ghost use Rattle.engine.specs.Commands.{check_of, check_to, to_of, MayRead};
+ghost use Rattle.engine.specs.Parts.{Answers, AreDecksAs, AreStepsAs, IsListed, IsListedAs};
 
 use crate::asked::AskedCheck;
 use crate::ending::end_reading;
-use crate::reading::{bad_name, read_named, read_zones_of};
+use crate::reading::{bad_name, read_zones_of};
 use crate::two_decks::read_decks;
 use crate::verdict::put_verdict;
 use crate::zoned::ZonedListing;
@@ -114,8 +114,8 @@ pub(crate) fn put_check<K: Sink>(
     }
 }
 
-// Reads the zones and a listing of a model, and puts the line of its verdict.
-fn check_model<'a, F: Folder, K: Sink>(
+// Reads the zones and a listing of decks, and puts the line of its verdict.
+fn check_decks<'a, F: Folder, K: Sink>(
     alloc: Global,
     asked: AskedCheck<'a>,
     decks: &Decks,
@@ -124,23 +124,24 @@ fn check_model<'a, F: Folder, K: Sink>(
 ) -> Status
     requires digits { asked.digits ≤ 18 }
     requires decks { AreDecks decks.now }
-    requires one { decks.now.second ≡ None }
     requires zones { IfSome (check_of asked).zones (λ zones. F.may folder.old (folder_name zones)) }
     requires may { F.may folder.old (folder_name asked.listing.now) }
     ensures since { (files : FileSet) → F.agrees folder.new files → F.agrees folder.old files }
     ensures answers { (start : _) (puts : List Put) → K.leads start puts out.old →
         (more : List Put) × K.leads start (puts ++ more) out.new
-        × ((words : List Text) → asked_in words ≡ Some (Check (check_of asked.entry)) → (files : Option FileSet) →
-        IfSome files (F.agrees folder.new) → IsReadAs (check_of asked.entry).limits (check_of asked.entry).name files (Ok decks.now.first) →
+        × ((words : List Text) → asked_in words ≡ Some (check_to (check_of asked.entry) (to_of asked.entry.to)) →
+        (files : Option FileSet) → IfSome files (F.agrees folder.new) →
+        AreDecksAs (check_of asked.entry).limits (check_of asked.entry).name (to_of asked.entry.to) files (Ok decks.now) →
         Answers words files (F.faults folder.old) (F.faults folder.new) result more) }
 {
-    match read_listed(alloc, folder, false, &decks.first, asked) {
+    match read_listed(alloc, folder, asked.to.is_some(), &decks.first, asked) {
         Ok(listing) => put_check(alloc, asked.limits, decks, &listing, asked.digits, out),
         Err(fault) => end_reading(alloc, fault, out),
     }
 }
 
-/// Reads a model of the folder, its zones and a listing of it, and puts the line of its verdict.
+/// Reads a deck of the folder, or two, the zones of its cells, and a listing of it or of all models between the two, and puts
+/// the line of its verdict.
 pub(crate) fn check<'a, F: Folder, K: Sink>(
     alloc: Global,
     asked: AskedCheck<'a>,
@@ -148,80 +149,17 @@ pub(crate) fn check<'a, F: Folder, K: Sink>(
     out: &mut K,
 ) -> Status
     requires digits { asked.digits ≤ 18 }
-    requires name { F.may folder.old (folder_name asked.name.now) }
-    requires zones { IfSome (check_of asked).zones (λ zones. F.may folder.old (folder_name zones)) }
+    requires may { MayRead (F.may folder.old) (check_of asked).name (to_of asked.to) (check_of asked).zones }
     requires listing { F.may folder.old (folder_name asked.listing.now) }
     ensures since { (files : FileSet) → F.agrees folder.new files → F.agrees folder.old files }
     ensures answers { (start : _) (puts : List Put) → K.leads start puts out.old →
         (more : List Put) × K.leads start (puts ++ more) out.new
-        × ((words : List Text) → asked_in words ≡ Some (Check (check_of asked.entry)) → (files : Option FileSet) →
-        IfSome files (F.agrees folder.new) →
-        Answers words files (F.faults folder.old) (F.faults folder.new) result more) }
-{
-    match read_named(alloc, asked.limits, folder, asked.name) {
-        Ok(model) => check_model(
-            alloc,
-            asked,
-            &Decks {
-                first: model,
-                second: None,
-            },
-            folder,
-            out,
-        ),
-        Err(fault) => end_reading(alloc, fault, out),
-    }
-}
-
-// Reads the zones and a listing of all models between two decks, and puts the line of its verdict.
-fn check_between<'a, F: Folder, K: Sink>(
-    alloc: Global,
-    asked: AskedCheck<'a>,
-    decks: &Decks,
-    folder: &mut F,
-    out: &mut K,
-) -> Status
-    requires digits { asked.digits ≤ 18 }
-    requires decks { AreDecks decks.now }
-    requires zones { IfSome (check_of asked).zones (λ zones. F.may folder.old (folder_name zones)) }
-    requires may { F.may folder.old (folder_name asked.listing.now) }
-    ensures since { (files : FileSet) → F.agrees folder.new files → F.agrees folder.old files }
-    ensures answers { (start : _) (puts : List Put) → K.leads start puts out.old →
-        (more : List Put) × K.leads start (puts ++ more) out.new
-        × ((words : List Text) (to : Text) → asked_in words ≡ Some (CheckSpan (record { check = check_of asked.entry; to = to })) →
-        (files : Option FileSet) → IfSome files (F.agrees folder.new) →
-        AreDecksAs (check_of asked.entry).limits (check_of asked.entry).name to files (Ok decks.now) →
-        Answers words files (F.faults folder.old) (F.faults folder.new) result more) }
-{
-    match read_listed(alloc, folder, true, &decks.first, asked) {
-        Ok(listing) => put_check(alloc, asked.limits, decks, &listing, asked.digits, out),
-        Err(fault) => end_reading(alloc, fault, out),
-    }
-}
-
-/// Reads two decks of the folder, the zones of their cells and a listing of all models between them, and puts the line of
-/// its verdict.
-pub(crate) fn check_span<'a, F: Folder, K: Sink>(
-    alloc: Global,
-    asked: AskedCheck<'a>,
-    to: &'a str,
-    folder: &mut F,
-    out: &mut K,
-) -> Status
-    requires digits { asked.digits ≤ 18 }
-    requires name { F.may folder.old (folder_name asked.name.now) }
-    requires to { F.may folder.old (folder_name to.now) }
-    requires zones { IfSome (check_of asked).zones (λ zones. F.may folder.old (folder_name zones)) }
-    requires listing { F.may folder.old (folder_name asked.listing.now) }
-    ensures since { (files : FileSet) → F.agrees folder.new files → F.agrees folder.old files }
-    ensures answers { (start : _) (puts : List Put) → K.leads start puts out.old →
-        (more : List Put) × K.leads start (puts ++ more) out.new
-        × ((words : List Text) → asked_in words ≡ Some (CheckSpan (record { check = check_of asked.entry; to = to.entry.now })) →
+        × ((words : List Text) → asked_in words ≡ Some (check_to (check_of asked.entry) (to_of asked.entry.to)) →
         (files : Option FileSet) → IfSome files (F.agrees folder.new) →
         Answers words files (F.faults folder.old) (F.faults folder.new) result more) }
 {
-    match read_decks(alloc, asked.limits, folder, asked.name, to) {
-        Ok(decks) => check_between(alloc, asked, &decks, folder, out),
+    match read_decks(alloc, asked.limits, folder, asked.name, asked.to) {
+        Ok(decks) => check_decks(alloc, asked, &decks, folder, out),
         Err(fault) => end_reading(alloc, fault, out),
     }
 }

@@ -11,7 +11,8 @@ ghost use Rattle.listing_run.specs.Ends.{IsTask};
 ghost use Rattle.listing_run.specs.Listing.{IsListing, IsListingBeside, IsCutListing};
 ghost use Rattle.engine.specs.Watched.{IsWatched, ViewPutsOf};
 
-use crate::viewing::put_watched;
+use crate::view_lines::ViewLines;
+use crate::viewing::put_texts;
 use certified_pair::QuickPairs;
 use listing_run::{Task, put_steps};
 use near_settler::NearSettler;
@@ -98,6 +99,9 @@ pub(crate) fn put_listing<R: Threads + Sync, K: Sink + Send, W: Sink + Send, G: 
 {
     match views {
         None => put_unwatched(rt, alloc, task, plan, out, gate),
-        Some(views) => put_watched(rt, alloc, task, plan, views, out, side, gate),
+        Some(views) => {
+            let text = ViewLines::new(&task.decks.first.grid);
+            put_texts(rt, alloc, task, plan, views, &text, out, side, gate)
+        }
     }
 }

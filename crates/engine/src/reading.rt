@@ -1,5 +1,5 @@
 // The model of a name, and the zones of its cells.
-ghost use Rattle.std.specs.Prelude.{◌≡◌, IfOk, IfSome, List, Option, option_map};
+ghost use Rattle.std.specs.Prelude.{IfOk, IfSome, List, Option, option_map};
 ghost use Rattle.outside.specs.Names.{folder_name};
 ghost use Rattle.outside.specs.Files.{FileSet};
 ghost use Rattle.outside.specs.Folders.{ReadsOn};

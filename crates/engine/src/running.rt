@@ -5,31 +5,29 @@ ghost use Rattle.engine.specs.Asking.{files_named};
 ghost use Rattle.outside.specs.Files.{FileSet};
 ghost use Rattle.outside.specs.Puts.{Put};
 ghost use Rattle.outside.specs.Counts.{Rose};
-ghost use Rattle.model_types.specs.Valid.{IsModel};
 ghost use Rattle.run_puts.specs.Runs.{IsRun};
 ghost use Rattle.listing_run.specs.Listing.{IsListingBeside, IsCutListing};
 ghost use Rattle.zone_pairs.specs.Zones.{AreZones};
 ghost use Rattle.engine.specs.Headline.{Headline};
 ghost use Rattle.engine.specs.Runs.{Puts, Decided, Comes};
-ghost use Rattle.engine.specs.Cases.{asked_in, decks_task, AskedCheck, AskedSpan, AskedSpanCheck, Check, CheckSpan, Make, ReadsNothing, Run, Span};
-ghost use Rattle.engine.specs.Commands.{asked_of, IsAsked};
+ghost use Rattle.engine.specs.Cases.{asked_in, decks_task, AskedCheck, AskedSpanCheck, Check, CheckSpan, Make, ReadsNothing};
+ghost use Rattle.engine.specs.Commands.{asked_of, run_to, to_of, IsAsked, MayRead};
 ghost use Rattle.engine.specs.Made.{Made};
 ghost use Rattle.engine.specs.Certified.{Certified};
 ghost use Rattle.engine.specs.Decks.{OneDeck};
 ghost use Rattle.engine.specs.OneListing.{OneSummary, OneVerdict};
 ghost use Rattle.engine.specs.QuickListing.{OneOrQuick, SpanOrQuick};
 ghost use Rattle.engine.specs.SpanHeadline.{SpanCertified, SpanHeadline, SpanVerdict};
-ghost use Rattle.engine.specs.Parts.{AnswersBeside, AreDecksAs, IsReadAs};
+ghost use Rattle.engine.specs.Parts.{AnswersBeside, AreDecksAs};
 ghost use Rattle.deck_problems.specs.Decks.{AreDecks};
-ghost use Rattle.deck_problems.specs.declared.decks.Decks.{Decks as BothDecks};
 ghost use Rattle.engine.specs.Watched.{IsWatched, SidePuts, ViewPutsOf, Watched, views_in};
 
 use crate::asked::{Asked, Command, command_of};
-use crate::checking::{check, check_span};
+use crate::checking::check;
 use crate::ending::end_reading;
 use crate::listing::put_listing;
 use crate::making::put_made;
-use crate::reading::{read_named, read_zones_of};
+use crate::reading::read_zones_of;
 use crate::two_decks::read_decks;
 use crate::writing::write;
 use check_run::laws::one_verdict;
@@ -38,7 +36,7 @@ use deck_alike::laws::one_difference;
 use deck_problems::Decks;
 use listing_run::Task;
 use listing_run::laws::one_listing;
-use model_types::{FlowModel, Listed};
+use model_types::Listed;
 use outside::{Folder, Gate, Sink};
 use run_puts::{Status, put_last, put_memory};
 use std::alloc::Global;
@@ -173,10 +171,8 @@ pub(crate) fn answer<R: Threads + Sync, F: Folder, K: Sink + Send, W: Sink + Sen
     match command_of(order) {
         None => put_last(out, USAGE, Status::Usage),
         Some(Command::Run(asked)) => list(rt, alloc, asked, folder, out, side, gate),
-        Some(Command::Span(asked, to)) => list_span(rt, alloc, asked, to, folder, out, side, gate),
         Some(Command::Make { seed, size }) => put_made(rt, alloc, seed, size, out, gate),
         Some(Command::Check(asked)) => check(alloc, asked, folder, out),
-        Some(Command::CheckSpan(asked, to)) => check_span(alloc, asked, to, folder, out),
         Some(Command::Write(limits, name)) => write(alloc, limits, name, folder, out),
     }
 }
@@ -214,76 +210,8 @@ fn put_decks<'a, R: Threads + Sync, K: Sink + Send, W: Sink + Send, G: Gate + Sy
     put_listing(rt, alloc, &task, asked.plan, asked.watch, out, side, gate)
 }
 
-// Reads the zones of a model's cells, and puts its listing.
-fn list_model<'a, R: Threads + Sync, F: Folder, K: Sink + Send, W: Sink + Send, G: Gate + Sync>(
-    rt: &R,
-    alloc: Global,
-    asked: Asked<'a>,
-    model: FlowModel,
-    folder: &mut F,
-    out: &mut K,
-    side: &mut W,
-    gate: &G,
-) -> Status
-    requires asked { IsAsked asked }
-    requires model { IsModel model }
-    requires zones { IfSome (asked_of asked).zones (λ zones. F.may folder.old (folder_name zones)) }
-    ensures since { (files : FileSet) → F.agrees folder.new files → F.agrees folder.old files }
-    ensures answers { (start : _) (puts : List Put) → K.leads start puts out.old →
-        (more : List Put) × K.leads start (puts ++ more) out.new
-        × ((words : List (List ℕ)) → asked_in words ≡ Some (Run (asked_of asked.entry)) → views_in words ≡ asked.entry.watch →
-        (files : Option FileSet) → IfSome files (F.agrees folder.new) →
-        IsReadAs (asked_of asked.entry).limits (asked_of asked.entry).name files (Ok model) →
-        AnswersBeside words files (F.faults folder.old) (F.faults folder.new)
-        (Rose (W.seen side.old).faults (W.seen side.new).faults) (λ puts. W.leads side.old puts side.new) result more) }
-{
-    match read_zones_of(alloc, &model, asked.zones, folder) {
-        Ok(zones) => put_decks(
-            rt,
-            alloc,
-            asked,
-            Decks {
-                first: model,
-                second: None,
-            },
-            zones,
-            out,
-            side,
-            gate,
-        ),
-        Err(fault) => end_reading(alloc, fault, out),
-    }
-}
-
-// Puts the listing of a model of the folder.
-fn list<'a, R: Threads + Sync, F: Folder, K: Sink + Send, W: Sink + Send, G: Gate + Sync>(
-    rt: &R,
-    alloc: Global,
-    asked: Asked<'a>,
-    folder: &mut F,
-    out: &mut K,
-    side: &mut W,
-    gate: &G,
-) -> Status
-    requires asked { IsAsked asked }
-    requires name { F.may folder.old (folder_name asked.name.now) }
-    requires zones { IfSome (asked_of asked).zones (λ zones. F.may folder.old (folder_name zones)) }
-    ensures since { (files : FileSet) → F.agrees folder.new files → F.agrees folder.old files }
-    ensures answers { (start : _) (puts : List Put) → K.leads start puts out.old →
-        (more : List Put) × K.leads start (puts ++ more) out.new
-        × ((words : List (List ℕ)) → asked_in words ≡ Some (Run (asked_of asked.entry)) → views_in words ≡ asked.entry.watch →
-        (files : Option FileSet) → IfSome files (F.agrees folder.new) →
-        AnswersBeside words files (F.faults folder.old) (F.faults folder.new)
-        (Rose (W.seen side.old).faults (W.seen side.new).faults) (λ puts. W.leads side.old puts side.new) result more) }
-{
-    match read_named(alloc, asked.limits, folder, asked.name) {
-        Ok(model) => list_model(rt, alloc, asked, model, folder, out, side, gate),
-        Err(fault) => end_reading(alloc, fault, out),
-    }
-}
-
-// Reads the zones of two decks' cells, and puts the listing of all models between them.
-fn list_between<'a, R: Threads + Sync, F: Folder, K: Sink + Send, W: Sink + Send, G: Gate + Sync>(
+// Reads the zones of decks' cells, and puts the listing of the decks.
+fn list_decks<'a, R: Threads + Sync, F: Folder, K: Sink + Send, W: Sink + Send, G: Gate + Sync>(
     rt: &R,
     alloc: Global,
     asked: Asked<'a>,
@@ -299,9 +227,9 @@ fn list_between<'a, R: Threads + Sync, F: Folder, K: Sink + Send, W: Sink + Send
     ensures since { (files : FileSet) → F.agrees folder.new files → F.agrees folder.old files }
     ensures answers { (start : _) (puts : List Put) → K.leads start puts out.old →
         (more : List Put) × K.leads start (puts ++ more) out.new
-        × ((words : List (List ℕ)) (to : List ℕ) → asked_in words ≡ Some (Span (record { run = asked_of asked.entry; to = to })) →
+        × ((words : List (List ℕ)) → asked_in words ≡ Some (run_to (asked_of asked.entry) (to_of asked.entry.to)) →
         views_in words ≡ asked.entry.watch → (files : Option FileSet) → IfSome files (F.agrees folder.new) →
-        AreDecksAs (asked_of asked.entry).limits (asked_of asked.entry).name to files (Ok decks) →
+        AreDecksAs (asked_of asked.entry).limits (asked_of asked.entry).name (to_of asked.entry.to) files (Ok decks) →
         AnswersBeside words files (F.faults folder.old) (F.faults folder.new)
         (Rose (W.seen side.old).faults (W.seen side.new).faults) (λ puts. W.leads side.old puts side.new) result more) }
 {
@@ -311,31 +239,28 @@ fn list_between<'a, R: Threads + Sync, F: Folder, K: Sink + Send, W: Sink + Send
     }
 }
 
-// Puts the listing of all models between two decks of the folder.
-fn list_span<'a, R: Threads + Sync, F: Folder, K: Sink + Send, W: Sink + Send, G: Gate + Sync>(
+// Puts the listing of a deck of the folder, or of all models between two.
+fn list<'a, R: Threads + Sync, F: Folder, K: Sink + Send, W: Sink + Send, G: Gate + Sync>(
     rt: &R,
     alloc: Global,
     asked: Asked<'a>,
-    to: &'a str,
     folder: &mut F,
     out: &mut K,
     side: &mut W,
     gate: &G,
 ) -> Status
     requires asked { IsAsked asked }
-    requires name { F.may folder.old (folder_name asked.name.now) }
-    requires to { F.may folder.old (folder_name to.now) }
-    requires zones { IfSome (asked_of asked).zones (λ zones. F.may folder.old (folder_name zones)) }
+    requires may { MayRead (F.may folder.old) (asked_of asked).name (to_of asked.to) (asked_of asked).zones }
     ensures since { (files : FileSet) → F.agrees folder.new files → F.agrees folder.old files }
     ensures answers { (start : _) (puts : List Put) → K.leads start puts out.old →
         (more : List Put) × K.leads start (puts ++ more) out.new
-        × ((words : List (List ℕ)) → asked_in words ≡ Some (Span (record { run = asked_of asked.entry; to = to.entry.now })) →
+        × ((words : List (List ℕ)) → asked_in words ≡ Some (run_to (asked_of asked.entry) (to_of asked.entry.to)) →
         views_in words ≡ asked.entry.watch → (files : Option FileSet) → IfSome files (F.agrees folder.new) →
         AnswersBeside words files (F.faults folder.old) (F.faults folder.new)
         (Rose (W.seen side.old).faults (W.seen side.new).faults) (λ puts. W.leads side.old puts side.new) result more) }
 {
-    match read_decks(alloc, asked.limits, folder, asked.name, to) {
-        Ok(decks) => list_between(rt, alloc, asked, decks, folder, out, side, gate),
+    match read_decks(alloc, asked.limits, folder, asked.name, asked.to) {
+        Ok(decks) => list_decks(rt, alloc, asked, decks, folder, out, side, gate),
         Err(fault) => end_reading(alloc, fault, out),
     }
 }

@@ -1,9 +1,8 @@
 // A program's run, and the number that it ends with.
-ghost use Rattle.std.specs.Prelude.{◌≡◌, ℕ, List, map, Some};
+ghost use Rattle.std.specs.Prelude.{◌≡◌, ℕ, map, Some};
 ghost use Rattle.std.specs.Process.{exit_status};
 ghost use Rattle.outside.specs.Asking.{WordsMay};
 ghost use Rattle.engine.specs.Asking.{bytes_asked, files_named};
-ghost use Rattle.outside.specs.Puts.{Put};
 ghost use Rattle.outside.specs.Files.{FileSet};
 ghost use Rattle.outside.specs.Counts.{Rose};
 ghost use Rattle.engine.specs.Serving.{Serves};

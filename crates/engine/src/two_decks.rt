@@ -1,12 +1,13 @@
-// Two decks of the folder, which have to be alike.
-ghost use Rattle.std.specs.Prelude.{◌≡◌, ◌<◌, IfOk, IfSome, List, Option, option_map};
-ghost use Rattle.outside.specs.Names.{IsGoodName, folder_name};
+// Decks of the folder, one or two, which have to be alike.
+ghost use Rattle.std.specs.Prelude.{◌≡◌, ◌<◌, IfOk, IfSome, Option, option_map};
+ghost use Rattle.outside.specs.Names.{folder_name};
 ghost use Rattle.outside.specs.Files.{FileSet};
 ghost use Rattle.outside.specs.Folders.{ReadsOn};
 ghost use Rattle.model_types.specs.Cells.{cell_count, place};
 ghost use Rattle.model_types.specs.Grids.{HasSize};
 ghost use Rattle.model_types.specs.Valid.{IsModel};
 ghost use Rattle.deck_problems.specs.Decks.{AreDecks};
+ghost use Rattle.engine.specs.Commands.{to_of};
 ghost use Rattle.engine.specs.Parts.{AreDecksAs, IsSecondAs, IsUnlikeFault, second_by};
 
 use crate::reading::{bad_name, read_named};
@@ -79,21 +80,27 @@ fn unlike(alloc: Global, second: &Second, difference: Difference) -> InputFault
     }
 }
 
-/// The decks of two name files of the folder: the first is read, then the second, and then they are compared.
+/// The deck of a name file of the folder, or the decks of two: the first is read, then the second, and then they are compared.
 pub(crate) fn read_decks<F: Folder>(
     alloc: Global,
     limits: Limits,
     folder: &mut F,
     name: &str,
-    to: &str,
+    to: Option<&str>,
 ) -> Result<Decks, InputFault>
     requires name { F.may folder.old (folder_name name.now) }
-    requires to { F.may folder.old (folder_name to.now) }
+    requires to { IfSome (to_of to) (λ last. F.may folder.old (folder_name last)) }
     ensures folder { ReadsOn F.Folder folder.old folder.new result }
-    ensures reads { (files : Option FileSet) → IfSome files (F.agrees folder.new) → AreDecksAs limits name.now to.now files result }
+    ensures reads { (files : Option FileSet) → IfSome files (F.agrees folder.new) → AreDecksAs limits name.now (to_of to.entry) files result }
     ensures decks { IfOk result AreDecks }
 {
     let first = read_named(alloc, limits, folder, name)?;
+    let Some(to) = to else {
+        return Ok(Decks {
+            first,
+            second: None,
+        });
+    };
     let second = read_second(alloc, limits, folder, to)?;
     match first_difference(&first, &second.model) {
         None => Ok(Decks {

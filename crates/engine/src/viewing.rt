@@ -13,7 +13,6 @@ ghost use Rattle.listing_run.specs.Listing.{IsListingBeside, IsCutListing};
 ghost use Rattle.listing_run.specs.Settlers.{AllSettledBy, ReachesFirst};
 ghost use Rattle.engine.specs.Watched.{IsWatched, Shows, ViewPutsOf, lines_of};
 
-use crate::view_lines::ViewLines;
 use listing_run::{Task, put_steps};
 use near_settler::NearSettler;
 use outside::{Gate, Sink};
@@ -63,8 +62,14 @@ fn put_shown<R: Threads + Sync, K: Sink + Send, V: StepViewer + Send, G: Gate + 
     put_steps(rt, alloc, task, &mut settler, out)
 }
 
-// Puts the listing of a task, and each view to the side sink, as one piece of text: `views` views in each phase.
-fn put_texts<R: Threads + Sync, K: Sink + Send, W: Sink + Send, X: ViewText + Sync, G: Gate + Sync>(
+/// Puts the listing of a task, and each view to the side sink, as one piece of text: `views` views in each phase.
+pub(crate) fn put_texts<
+    R: Threads + Sync,
+    K: Sink + Send,
+    W: Sink + Send,
+    X: ViewText + Sync,
+    G: Gate + Sync,
+>(
     rt: &R,
     alloc: Global,
     task: &Task,
@@ -88,29 +93,4 @@ fn put_texts<R: Threads + Sync, K: Sink + Send, W: Sink + Send, X: ViewText + Sy
 {
     let mut viewer = SinkViewer::new(alloc, side, text);
     put_shown(rt, alloc, task, plan, views, &mut viewer, out, gate)
-}
-
-/// Puts the listing of a task, as `put_listing` does, and each view to the side sink: `views` views in each phase.
-pub(crate) fn put_watched<R: Threads + Sync, K: Sink + Send, W: Sink + Send, G: Gate + Sync>(
-    rt: &R,
-    alloc: Global,
-    task: &Task,
-    plan: Plan,
-    views: u32,
-    out: &mut K,
-    side: &mut W,
-    gate: &G,
-) -> Status
-    requires task { IsTask task.now }
-    requires plan { IsPlan plan }
-    requires rounds { plan.rounds ≡ task.now.rounds }
-    requires plain { task.now.quick ≡ false }
-    ensures puts { (start : _) (puts : List Put) → K.leads start puts out.old →
-        (more : List Put) × K.leads start (puts ++ more) out.new
-        × IsRun (IsListingBeside (Rose (W.seen side.old).faults (W.seen side.new).faults) task.now) (IsCutListing task.now) result more
-        × (result ≡ Status.Ok → IsWatched task.now views (λ puts. W.leads side.old puts side.new)) }
-    ensures side { ViewPutsOf task.now (λ puts. W.leads side.old puts side.new) (Some views) }
-{
-    let text = ViewLines::new(&task.decks.first.grid);
-    put_texts(rt, alloc, task, plan, views, &text, out, side, gate)
 }

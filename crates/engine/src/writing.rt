@@ -11,7 +11,7 @@ ghost use Rattle.engine.specs.Cases.{asked_in, Write};
 ghost use Rattle.engine.specs.Parts.{Answers};
 
 use crate::ending::end_reading;
-use crate::reading::read_named;
+use crate::two_decks::read_decks;
 use model_types::{FlowModel, Limits};
 use model_writer::write_deck;
 use outside::{Folder, Sink};
@@ -44,8 +44,8 @@ pub(crate) fn write<F: Folder, K: Sink>(
         IfSome files (F.agrees folder.new) →
         Answers words files (F.faults folder.old) (F.faults folder.new) result more) }
 {
-    match read_named(alloc, limits, folder, name) {
-        Ok(model) => put_deck(alloc, &model, out),
+    match read_decks(alloc, limits, folder, name, None) {
+        Ok(decks) => put_deck(alloc, &decks.first, out),
         Err(fault) => end_reading(alloc, fault, out),
     }
 }

@@ -1,7 +1,13 @@
-use Rattle.engine.proofs.Common.{◌≡◌, ℕ, List, Option, subst, sym, pairs_in, AreListed, NeverCut, lacks_at_first, IsVerdict, ListingEncloses, IsCheck}
+use Rattle.engine.proofs.Common.{◌≡◌, ℕ, List, Option, subst, sym, pairs_in, AreListed, NeverCut, lacks_at_first, IsVerdict, ListingEncloses, IsCheck, lone}
+use Rattle.engine.proofs.Common.{refl, Limits, Decks, ZonedListing, ListingVerdict, Status, Put, HaveOneHistory, IsEnd, IsRun, verdict_line, verdict_status}
+use Rattle.engine.proofs.Common.{listing}
 use Rattle.check_run.specs.declared.verdict.ListingVerdict.TheVariants.{Certified}
-use Rattle.engine.proofs.Verdicts.{puts_verdict}
 use Rattle.engine.proofs.checking.put_check.Goals as goal
+
+puts_verdict : (limits : Limits) (d : Decks) (s : ℕ) (listing : ZonedListing) (v : ListingVerdict) (end : Status) (puts : List Put) → IsVerdict limits d s listing.zones listing.steps v → (v ≡ Certified → ListingEncloses d s listing.zones listing.steps) → (v ≡ Certified → HaveOneHistory d) →
+    IsEnd (verdict_line d.first.grid v) (verdict_status v) end puts → IsRun (IsCheck limits d s listing) NeverCut end puts
+puts_verdict limits d s listing v end puts is encloses history h =
+    lone (IsCheck limits d s listing) NeverCut (verdict_line d.first.grid v) (verdict_status v) end puts (record { verdict = v; is = is; encloses = encloses; history = history; status = refl; are = refl }) h
 
 pub check_listing-requires-clause-listing : goal.check_listing-requires-clause-listing
 check_listing-requires-clause-listing g c =

@@ -14,11 +14,11 @@ returns-in-None-clause-side g c =
 
 pub returns-in-Some-clause-puts : goal.returns-in-Some-clause-puts
 returns-in-Some-clause-puts g c = λ start puts h.
-    let r = c.put_watched.ensures.puts start puts h in
-    let P : Option ℕ → Type 0 = λ o. IfSome o (λ n. IsWatched c.args.task.now n (λ puts. g.W.Sink.leads c.args.side.now puts c.put_watched.new.side)) in
+    let r = c.put_texts.ensures.puts start puts h in
+    let P : Option ℕ → Type 0 = λ o. IfSome o (λ n. IsWatched c.args.task.now n (λ puts. g.W.Sink.leads c.args.side.now puts c.put_texts.new.side)) in
     (r.0, r.1, r.2, λ e. subst P (sym c.in-Some.is) (r.3 e))
 
 pub returns-in-Some-clause-side : goal.returns-in-Some-clause-side
 returns-in-Some-clause-side g c =
-    let P : Option ℕ → Type 0 = λ o. ViewPutsOf c.args.task.now (λ puts. g.W.Sink.leads c.args.side.now puts c.put_watched.new.side) o in
-    subst P (sym c.in-Some.is) c.put_watched.ensures.side
+    let P : Option ℕ → Type 0 = λ o. ViewPutsOf c.args.task.now (λ puts. g.W.Sink.leads c.args.side.now puts c.put_texts.new.side) o in
+    subst P (sym c.in-Some.is) c.put_texts.ensures.side

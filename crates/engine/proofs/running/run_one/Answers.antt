@@ -1,8 +1,7 @@
 use Rattle.std.proofs.Common.{List, [], map, ℕ, None, Some}
 use Rattle.engine.proofs.AnyOutcomes.{puts_beside}
-use Rattle.engine.proofs.Beside.{beside_both, beside_certified, beside_complete, beside_decided, beside_made, beside_put_rose, beside_read_rose}
-use Rattle.engine.proofs.Outcomes.{first_of, laws_of, second_of}
-use Rattle.engine.proofs.Spans.{only_span_check}
+use Rattle.engine.proofs.Beside.{beside_both, beside_complete, beside_decided, beside_made, beside_put_rose, beside_read_rose}
+use Rattle.engine.proofs.Told.{first_of, laws_of, only_check, only_span_check, second_of}
 use Rattle.engine.proofs.running.run_one.Goals as goal
 
 pub returns-clause-puts : goal.returns-clause-puts
@@ -38,9 +37,7 @@ returns-clause-made g c = λ ok seed size wanted.
 
 pub returns-clause-certified : goal.returns-clause-certified
 returns-clause-certified g c = λ ok asked wanted files agree.
-    let words : List (List ℕ) = map (λ w. w.now) c.args.words.now in
-    let r = c.answer-status.ensures.answers c.args.out.now [] (((g.met.K.Sink g.world.𝓛 g.world.𝓜 g.world.𝓡 ((λ s x. x), (λ x. x), (λ x. x), λ x. x))).rests c.args.out.now) in
-    (beside_certified words (Some files) _ _ _ _ c.answer-status.result r.0 (g.K.Sink.seen c.args.out.now) (g.K.Sink.seen c.answer-status.new.out) (((g.met.K.Sink g.world.𝓛 g.world.𝓜 g.world.𝓡 ((λ s x. x), (λ x. x), (λ x. x), λ x. x))).tells c.args.out.now r.0 c.answer-status.new.out r.1) (r.2 (Some files) agree) ok asked wanted).0
+    only_check (map (λ w. w.now) c.args.words.now) files (g.K.Sink.seen c.args.out.now) (g.K.Sink.seen c.answer-status.new.out) asked wanted (returns-clause-headline g c ok files agree)
 
 pub returns-clause-read_fault : goal.returns-clause-read_fault
 returns-clause-read_fault g c = λ e.

@@ -1,12 +1,17 @@
-use Rattle.engine.proofs.Decking.{ends_deck, ends_undecked}
+use Rattle.std.proofs.Common.{None}
+use Rattle.engine.proofs.DeckEnds.{ends_deck, ends_undecked, to_write, write_reads}
 use Rattle.engine.proofs.writing.write.Goals as goal
 
 pub returns-in-Ok-clause-answers : goal.returns-in-Ok-clause-answers
 returns-in-Ok-clause-answers g c = λ start puts h.
     let m = c.put_deck.ensures start puts h in
-    (m.0, m.1, λ words wanted files agree. ends_deck words files (g.F.Folder.faults c.args.folder.now) _ c.args.limits c.args.name.now wanted c.in-Ok.model (c.in-Ok.ensures.reads files agree) c.in-Ok.ensures.model c.put_deck.result m.0 m.2)
+    (m.0, m.1, λ words wanted files agree. ends_deck words files (g.F.Folder.faults c.args.folder.now) _ c.args.limits c.args.name.now wanted c.in-Ok.decks (c.in-Ok.ensures.reads files agree) c.in-Ok.ensures.decks.first c.put_deck.result m.0 m.2)
 
 pub returns-in-Err-clause-answers : goal.returns-in-Err-clause-answers
 returns-in-Err-clause-answers g c = λ start puts h.
-    let m = c.end_reading.ensures start puts h in
-    (m.0, m.1, λ words wanted files agree. ends_undecked words files (g.F.Folder.faults c.args.folder.now) _ c.args.limits c.args.name.now wanted c.in-Err.fault c.end_reading.result m.0 (c.in-Err.ensures.reads files agree) c.in-Err.ensures.folder.counts m.2)
+    let m = c.end_reading.ensures start puts h in (
+      m.0,
+      m.1,
+      λ words wanted files agree.
+          ends_undecked words (g.F.Folder.faults c.args.folder.now) _ c.args.limits c.args.name.now None to_write (write_reads words c.args.limits c.args.name.now wanted) files c.in-Err.fault c.end_reading.result m.0 (c.in-Err.ensures.reads files agree) c.in-Err.ensures.folder.counts m.2,
+    )
