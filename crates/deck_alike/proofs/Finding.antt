@@ -60,20 +60,6 @@ layers_found size cells n m xss yss k cell by_size by_cells names h =
 
 -- what a package has once
 module _ (a b : FlowModel) where
-  sizes_of : SharesGrid a b → SharesSizes a b
-  sizes_of h = record {
-    counts = record {
-      layers = ap (λ (g : Grid). g.layers) h.grid;
-      rows = ap (λ (g : Grid). g.rows) h.grid;
-      cols = ap (λ (g : Grid). g.cols) h.grid;
-      nper = h.nper;
-      lenuni = h.lenuni;
-    };
-    widths = record { laycbd = ap (λ (g : Grid). g.laycbd) h.grid; delr = ap (λ (g : Grid). g.delr) h.grid; delc = ap (λ (g : Grid). g.delc) h.grid };
-    bottom = ap (λ (g : Grid). length g.bottom) h.grid;
-    bed_bottom = ap (λ (g : Grid). length g.bed_bottom) h.grid;
-  }
-
   grid_same : SharesSizes a b → AllZip AreSame a.grid.top b.grid.top → AreArraysSame (bottoms a.grid) (bottoms b.grid) → SharesGrid a b
   grid_same s top h =
       let tops : b.grid.top ≡ a.grid.top = each_same _ _ top in
@@ -100,13 +86,6 @@ module _ (a b : FlowModel) where
   grid_rest us vs r by_first by_second s tops h =
       let top : AllZip AreSame a.grid.top b.grid.top = subst (λ xs. AllZip AreSame xs b.grid.top) by_first (subst (λ ys. AllZip AreSame us ys) by_second tops) in
       finds_more _ _ _ _ r (grid_same s top) (λ t i. zip_same _ _ (ap (λ (g : Grid). array_at (bottoms g) i) t.grid)) (λ c m. inr (s, inr (each_same _ _ top, m))) h
-
-  options_of : SharesProperties a b → SharesOptions a b
-  options_of h = record {
-    coefficient = h.coefficient;
-    layvka = h.layvka;
-    lengths = record { hk = ap length h.hk; hani = ap length h.hani; vka = ap length h.vka; ss = ap length h.ss; vkcb = ap length h.vkcb };
-  }
 
   same_arrays : SharesProperties a b → properties b ≡ properties a
   same_arrays h = λ i. h.hk i ∷ h.hani i ∷ h.vka i ∷ h.ss i ∷ h.vkcb i ∷ []

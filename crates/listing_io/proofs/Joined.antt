@@ -1,5 +1,5 @@
 -- Lines that were written one after another are the text of their list.
-use Rattle.listing_io.proofs.Common.{◌≡◌, ℕ, Bool, true, false, cond, List, [], ◌∷◌, ◌++◌, map, refl, sym, ap, ◌∙◌, append_assoc, append-nil, flat_map-cons}
+use Rattle.listing_io.proofs.Common.{◌≡◌, ℕ, Bool, true, false, cond, List, [], ◌∷◌, ◌++◌, map, refl, sym, ap, ◌∙◌, append_assoc, flat_map-cons}
 use Rattle.listing_io.proofs.Common.{flat_map-append, Line, ended, text_of}
 
 -- one line more in front
@@ -28,10 +28,6 @@ seven_joined t a b c d e f g more =
     ∙ with_line (t ++ ended a ++ ended b) c (d ∷ e ∷ f ∷ g ∷ more)
     ∙ with_line (t ++ ended a) b (c ∷ d ∷ e ∷ f ∷ g ∷ more)
     ∙ with_line t a (b ∷ c ∷ d ∷ e ∷ f ∷ g ∷ more)
-
--- one line alone
-pub one_line : (t : List ℕ) (row : Line) → t ++ ended row ≡ t ++ text_of (row ∷ [])
-one_line t row = ap (λ (x : List ℕ). t ++ x) (sym (append-nil (ended row))) ∙ ap (λ (x : List ℕ). t ++ x) (sym (flat_map-cons ended row []))
 
 -- the line of what is there on a condition
 pub line_if : {T : Type 0} (line : T → Line) (there : Bool) (t : T) → cond there (line t ∷ []) [] ≡ map line (cond there (t ∷ []) [])

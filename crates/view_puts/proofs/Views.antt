@@ -1,6 +1,6 @@
 -- One view more, as a put more.
-use Rattle.view_puts.proofs.Common.{◌≡◌, ℕ, ◌+◌, inl, inr, refl, sym, ap, ◌∙◌, subst, arith, true, false, List, [], ◌∷◌, ◌++◌, length, map, Result, Ok, Err}
-use Rattle.view_puts.proofs.Common.{Option, Some, None, is_some, IfOk, Put, taken, refused}
+use Rattle.view_puts.proofs.Common.{◌≡◌, ℕ, ◌+◌, refl, sym, ap, ◌∙◌, subst, arith, false, List, [], ◌∷◌, ◌++◌, length, map, Result, Ok, Err, Option, Some, None}
+use Rattle.view_puts.proofs.Common.{is_some, IfOk, Put, taken, refused}
 use Rattle.std.specs.Result.{result_err}
 use Rattle.std.proofs.lemmas.List.{append-nil, append_assoc}
 use Rattle.std.specs.declared.vec.Vec.{Vec}
@@ -66,33 +66,8 @@ module _ (text : List Bound → List ℕ) (Shown : List Bound → Type 0) where
           led = subst leads' all (r.2 (pieces s.views ++ s.last) s.led);
         }
 
-    stop_put : (r : Result (Vec ℕ Global) E) (e : SinkError) (before : Option SinkError) (old puts : List Put) → IfOk r (λ v. v.items ≡ text heads) → IsStopPut text Shown before None old → IsPutOf r (Some e) puts → IsStopPut text Shown before (Some e) puts
-    stop_put (Ok v) e None old puts same i h = inr (heads, shown, h ∙ ap (λ (x : List ℕ). refused x e ∷ []) same)
-    stop_put (Err x) e None old puts same i h = inl h
-    stop_put r e (Some d) old puts same i h = absurd i
-
-    one_refused : (n : ℕ) (before : Option SinkError) (e : SinkError) → ((more : List Put) × IsPutOf t (Some e) more × ((puts : List Put) → leads puts → leads' (puts ++ more))) → ViewPuts text Shown leads n before None → ViewPuts text Shown leads' n before (Some e)
-    one_refused n before e put s =
-        let r = put in
-        let none : s.last ≡ [] = no_stop_put before s.last s.stop in
-        let front : pieces s.views ++ s.last ≡ pieces s.views = ap (λ (ps : List Put). pieces s.views ++ ps) none ∙ append-nil (pieces s.views) in
-        record {
-          views = s.views;
-          count = s.count;
-          shown = s.shown;
-          last = r.0;
-          stop = stop_put t e before s.last r.0 is_text s.stop r.1;
-          led = subst leads' (ap (λ (ps : List Put). ps ++ r.0) front) (r.2 (pieces s.views ++ s.last) s.led);
-        }
-
     -- a view that gives true
     pub one_view_more : (n : ℕ) (before old new : Option SinkError) → is_some old ≡ false → is_some new ≡ false → ((more : List Put) × IsPutOf t new more × ((puts : List Put) → leads puts → leads' (puts ++ more))) → ViewPuts text Shown leads n before old → ViewPuts text Shown leads' (n + 1) before new
     one_view_more n before None None a b put s = one_taken n before put s
     one_view_more n before None (Some e) a b put s = absurd cc
     one_view_more n before (Some d) new a b put s = absurd cc
-
-    -- a view that gives false
-    pub no_view_more : (n : ℕ) (before old new : Option SinkError) → is_some old ≡ false → is_some new ≡ true → ((more : List Put) × IsPutOf t new more × ((puts : List Put) → leads puts → leads' (puts ++ more))) → ViewPuts text Shown leads n before old → ViewPuts text Shown leads' n before new
-    no_view_more n before None None a b put s = absurd cc
-    no_view_more n before None (Some e) a b put s = one_refused n before e put s
-    no_view_more n before (Some d) new a b put s = absurd cc
