@@ -49,10 +49,7 @@ cut_link inside h v x = cond (inside x.cell) (pos 0) (whole_link h v x)
 
 total-add : {X : Type 0} (f g h : X → ℤ) (xs : List X) → ((x : X) → f x ≡ g x +ℤ h x) → total f xs ≡ total g xs +ℤ total h xs
 total-add f g h [] each = refl
-total-add f g h (x ∷ xs) each = rw (each x, total-add f g h xs each) (regroup (g x) (h x) (total g xs) (total h xs))
-  where
-    regroup : (a b c d : ℤ) → a +ℤ b +ℤ (c +ℤ d) ≡ a +ℤ c +ℤ (b +ℤ d)
-    regroup a b c d = omega (arith, ints)
+total-add f g h (x ∷ xs) each = rw (each x, total-add f g h xs each) (omega (arith, ints))
 
 total-zeros : {X : Type 0} (f : X → ℤ) (xs : List X) → ((x : X) → f x ≡ pos 0) → total f xs ≡ pos 0
 total-zeros f [] each = refl
@@ -75,10 +72,7 @@ split_link false c d = rw *ℤ-zero (omega (arith, ints))
 one_cell : (inside : ℕ → Bool) (Y : ℕ → ℤ) (y other : ℤ) (links : List WholeLink) (b : Bool) → cond b (total (whole_link Y y) links +ℤ other) (pos 0) ≡ cond b (total (cut_link inside Y y) links +ℤ other) (pos 0) +ℤ total (λ x. pos x.c *ℤ cond b (cond (inside x.cell) (Y x.cell -ℤ y) (pos 0)) (pos 0)) links
 one_cell inside Y y other links true =
     let split = total-add (whole_link Y y) (cut_link inside Y y) (λ x. pos x.c *ℤ cond (inside x.cell) (Y x.cell -ℤ y) (pos 0)) links (λ x. split_link (inside x.cell) x.c (Y x.cell -ℤ y)) in
-    regroup _ _ _ split
-  where
-    regroup : (l c i : ℤ) → l ≡ c +ℤ i → l +ℤ other ≡ c +ℤ other +ℤ i
-    regroup l c i e = omega (arith, ints)
+    omega (arith, ints)
 one_cell inside Y y other links false = rw (total-zeros (λ x. pos x.c *ℤ pos 0) links (λ x. *ℤ-zero (pos x.c))) refl
 
 -- over any set of cells only the links that leave it count, whatever else each cell gets
@@ -88,10 +82,7 @@ cut_links w inside Y other both =
     let none_inside = cancel n (λ c. (whole_at w c).links) (inner inside Y) both.range both.same (λ c k. turned_cases (inside c) (inside k) (Y k) (Y c)) in
     sum-same n _ _ (λ c i. one_cell inside Y (Y c) (other c) (whole_at w c).links (inside c))
     ∙ sum-add n _ (λ c. total (λ x. pos x.c *ℤ inner inside Y c x.cell) (whole_at w c).links)
-    ∙ rw none_inside (none _)
-  where
-    none : (a : ℤ) → a +ℤ pos 0 ≡ a
-    none a = omega (arith, ints)
+    ∙ rw none_inside (omega (arith, ints))
 
 -- over a set that no link leaves the flows over links cancel
 pub closed_cancel : (w : List WholeCell) (inside : ℕ → Bool) (Y : ℕ → ℤ) → IsMutual w → ((c : ℕ) → c < length w → inside c ≡ true → All (λ x. inside x.cell ≡ true) (whole_at w c).links) → sum_inside (length w) inside (λ c. total (whole_link Y (Y c)) (whole_at w c).links) ≡ pos 0

@@ -2,10 +2,9 @@
 use Rattle.cell_balance.proofs.Common.{◌≡◌, ℕ, ◌<◌, ◌⊎◌, inl, inr, sym, subst, arith, ℤ, pos, ◌-ℤ◌, ◌*ℤ◌, ◌≤ℤ◌, ◌<ℤ◌, List, length, AllZip, ints, by_lt_z}
 use Rattle.cell_balance.proofs.Common.{Entries, entries_at, lower_balance, upper_balance, IsHeldBelow, mul_mono_right}
 use Rattle.cell_balance.proofs.Zips.{AllZip-length}
-use Rattle.cell_balance.proofs.Products.{not_zero}
-use Rattle.cell_balance.proofs.Greatest.{max_of}
+use Rattle.cell_balance.proofs.Products.{not_zero, IsTight}
+use Rattle.cell_balance.proofs.Sums.{max_of}
 use Rattle.cell_balance.proofs.Cancel.{IsMutual}
-use Rattle.cell_balance.proofs.Tight.{IsTight}
 use Rattle.cell_balance.proofs.LowCell.{low_cell}
 use Rattle.cell_balance.proofs.HighCell.{high_cell}
 use Rattle.cell_balance.proofs.Spread.{cell_within, no_anchor, not_carried}
@@ -29,10 +28,7 @@ module _ (m n : ℕ) (some_m : 0 < m) (some_n : 0 < n) (p : List Entries) (w : L
             | inr carried ↦ absurd (not_carried m n some_m some_n p w Y within both solves excess top (tight top h above) k k_in is carried)
           ]
         ])
-        (λ h. at_most _ _ _ (above c i) h)
-      where
-        at_most : (a b c : ℤ) → a ≤ℤ b → b ≤ℤ c → a ≤ℤ c
-        at_most a b c h k = omega (arith, ints)
+        (λ h. omega (arith, ints, above c i))
 
     solved : (c : ℕ) → c < length p → whole_balance (whole_at w c) (Y c) Y ≡ pos 0
     solved c i = solves c (omega (arith, same))
@@ -46,13 +42,10 @@ module _ (m n : ℕ) (some_m : 0 < m) (some_n : 0 < n) (p : List Entries) (w : L
         done : (a b : ℤ) → (a -ℤ b) ≤ℤ pos 0 → a ≤ℤ b
         done a b h = omega (arith, ints)
 
-        too_low : (a f y top : ℤ) → a ≤ℤ f → f ≤ℤ y → a -ℤ y ≡ top → pos 0 <ℤ top → ⊥
-        too_low a f y top h k e some = omega (arith, ints)
-
         tight : (top : ℤ) → pos 0 <ℤ top → ((k : ℕ) → k < length p → (l k *ℤ pos n -ℤ Y k) ≤ℤ top) → (c : ℕ) → c < length p → l c *ℤ pos n -ℤ Y c ≡ top → IsTight (λ k. l k *ℤ pos n -ℤ Y k) top (Y c) (entries_at p c) (whole_at w c)
         tight top some most c i e =
             elim (certificate c i) [
-              | inl under ↦ absurd (too_low _ _ _ _ (mul_mono_right n (l c) (floor c) under) (barrier c i) e some)
+              | inl under ↦ absurd (omega (arith, ints, mul_mono_right n (l c) (floor c) under, barrier c i))
               | inr high ↦
                   let some' = subst (λ (z : ℤ). pos 0 <ℤ z) (sym e) some in
                   let most' = subst (λ (z : ℤ). (k : ℕ) → k < length p → (l k *ℤ pos n -ℤ Y k) ≤ℤ z) (sym e) most in
@@ -66,13 +59,10 @@ module _ (m n : ℕ) (some_m : 0 < m) (some_n : 0 < n) (p : List Entries) (w : L
         done : (a b : ℤ) → (a -ℤ b) ≤ℤ pos 0 → a ≤ℤ b
         done a b h = omega (arith, ints)
 
-        too_high : (a f y top : ℤ) → f ≤ℤ a → y ≤ℤ f → y -ℤ a ≡ top → pos 0 <ℤ top → ⊥
-        too_high a f y top h k e some = omega (arith, ints)
-
         tight : (top : ℤ) → pos 0 <ℤ top → ((k : ℕ) → k < length p → (Y k -ℤ u k *ℤ pos n) ≤ℤ top) → (c : ℕ) → c < length p → Y c -ℤ u c *ℤ pos n ≡ top → IsTight (λ k. Y k -ℤ u k *ℤ pos n) top (Y c) (entries_at p c) (whole_at w c)
         tight top some most c i e =
             elim (certificate c i) [
-              | inl over ↦ absurd (too_high _ _ _ _ (mul_mono_right n (ceiling c) (u c) over) (barrier c i) e some)
+              | inl over ↦ absurd (omega (arith, ints, mul_mono_right n (ceiling c) (u c) over, barrier c i))
               | inr low ↦
                   let some' = subst (λ (z : ℤ). pos 0 <ℤ z) (sym e) some in
                   let most' = subst (λ (z : ℤ). (k : ℕ) → k < length p → (Y k -ℤ u k *ℤ pos n) ≤ℤ z) (sym e) most in

@@ -1,7 +1,7 @@
 -- The fractions of a step have a common denominator.
-use Rattle.cell_balance.proofs.Common.{◌≡◌, ℕ, suc, ◌*◌, ◌<◌, refl, ap, sym, ◌∙◌, ◌≤◌, arith, ℤ, pos, ◌*ℤ◌, List, [], ◌∷◌, All, mul-pos, All-nil, All-cons}
-use Rattle.cell_balance.proofs.Common.{All-weaker, mul-le-mul, Ratio, Fraction, den, IsOver, IsShare, mul_assoc, ExactFlow, ExactLink, ExactFixed, ExactRiver}
-use Rattle.cell_balance.proofs.Common.{ExactDrain, ExactEvap, ExactCell}
+use Rattle.cell_balance.proofs.Common.{◌≡◌, ℕ, suc, ◌*◌, ◌<◌, refl, ap, sym, ◌∙◌, arith, ℤ, pos, ◌*ℤ◌, List, [], ◌∷◌, All, mul-pos, All-nil, All-cons}
+use Rattle.cell_balance.proofs.Common.{All-weaker, Ratio, Fraction, den, IsOver, IsShare, mul_assoc, ExactFlow, ExactLink, ExactFixed, ExactRiver, ExactDrain}
+use Rattle.cell_balance.proofs.Common.{ExactEvap, ExactCell}
 use Rattle.decimal_input.specs.Ratios.{den as ratio_den}
 
 -- d goes into n

@@ -41,10 +41,7 @@ module _ (w : List WholeCell) (Y : ℕ → ℤ) (both : IsMutual w) (inside : �
     (dry : (c : ℕ) → c < length w → inside c ≡ true → (Y c ≤ℤ t c) × IsDry (t c) (whole_at w c))
   where
     one_cell : (c : ℕ) → c < length w → (b : Bool) → inside c ≡ b → cond b (total (whole_link Y (Y c)) (whole_at w c).links +ℤ (whole_deep (whole_at w c) +ℤ total (whole_fixed (Y c)) (whole_at w c).fixed)) (pos 0) ≤ℤ cond b (whole_balance (whole_at w c) (Y c) Y) (pos 0)
-    one_cell c i true e = regroup (whole_deep (whole_at w c)) (total (whole_link Y (Y c)) (whole_at w c).links) (total (whole_fixed (Y c)) (whole_at w c).fixed) _ (dry_balance Y (Y c) (t c) (whole_at w c) (dry c i e).0 (dry c i e).1)
-      where
-        regroup : (d l f b : ℤ) → (d +ℤ (l +ℤ f)) ≤ℤ b → (l +ℤ (d +ℤ f)) ≤ℤ b
-        regroup d l f b h = omega (arith, ints)
+    one_cell c i true e = omega (arith, ints, dry_balance Y (Y c) (t c) (whole_at w c) (dry c i e).0 (dry c i e).1)
     one_cell c i false e = omega (arith, ints)
 
     split : (b : Bool) (l d f : ℤ) → cond b (l +ℤ (d +ℤ f)) (pos 0) ≡ cond b d (pos 0) +ℤ cond b (l +ℤ f) (pos 0)
@@ -58,10 +55,7 @@ module _ (w : List WholeCell) (Y : ℕ → ℤ) (both : IsMutual w) (inside : �
         let less = sum_at_most (length w) _ _ (λ c i. one_cell c i (inside c) refl) in
         let cut = cut_links w inside Y other both in
         let parts = sum-same (length w) _ _ (λ c i. split (inside c) (total (cut_link inside Y (Y c)) (whole_at w c).links) (whole_deep (whole_at w c)) (total (whole_fixed (Y c)) (whole_at w c).fixed)) ∙ sum-add (length w) (λ c. cond (inside c) (whole_deep (whole_at w c)) (pos 0)) (λ c. cond (inside c) (total (cut_link inside Y (Y c)) (whole_at w c).links +ℤ total (whole_fixed (Y c)) (whole_at w c).fixed) (pos 0)) in
-        finish _ _ _ (sum_inside (length w) inside (λ c. whole_deep (whole_at w c))) (sum_inside (length w) inside (λ c. total (cut_link inside Y (Y c)) (whole_at w c).links +ℤ total (whole_fixed (Y c)) (whole_at w c).fixed)) less cut parts
-      where
-        finish : (a b k d e : ℤ) → a ≤ℤ b → a ≡ k → k ≡ d +ℤ e → (d +ℤ e) ≤ℤ b
-        finish a b k d e h p q = omega (arith, ints)
+        omega (arith, ints)
 
     -- the dry law: over a closed set the balances sum to at least the deep flows
     pub dry_law : ((c : ℕ) → c < length w → inside c ≡ true → All (λ x. inside x.cell ≡ true) (whole_at w c).links) → sum_inside (length w) inside (λ c. whole_deep (whole_at w c)) ≤ℤ sum_inside (length w) inside (λ c. whole_balance (whole_at w c) (Y c) Y)

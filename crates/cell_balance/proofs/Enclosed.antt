@@ -1,15 +1,17 @@
--- Bounds that enclose an exact step enclose its whole numbers: conductances over m * 10^s, heads over n * 10^9.
+-- Bounds that enclose an exact step enclose its whole numbers: conductances over m * 10^s, heads over n * 10^9; and such a step is linked.
 use Rattle.cell_balance.proofs.Common.{◌≡◌, ℕ, ◌+◌, ◌*◌, ◌^◌, ◌<◌, ◌≤◌, ap, ◌∙◌, subst, arith, ℤ, pos, ◌*ℤ◌, List, All, AllZip, mul-le-mul_right}
 use Rattle.cell_balance.proofs.Common.{le_of_mul-le-mul_right, Ratio, Fraction, den, IsOver, Encloses, EnclosesSigned, IsShare, IsBetweenWhole, IsBetweenSigned}
 use Rattle.cell_balance.proofs.Common.{cancel_right, mul_mono_right, swap, Flow, Link, Fixed, River, Drain, Evap, Entries, mul_assoc, ExactFlow, ExactLink}
 use Rattle.cell_balance.proofs.Common.{ExactFixed, ExactRiver, ExactDrain, ExactEvap, ExactCell, FlowEncloses, LinkEncloses, FixedEncloses, RiverEncloses}
-use Rattle.cell_balance.proofs.Common.{DrainEncloses, EvapEncloses, CellEncloses}
+use Rattle.cell_balance.proofs.Common.{DrainEncloses, EvapEncloses, CellEncloses, sym, length, All-get_or, All-from_get_or, entries_at, no_entries, IsProblem}
+use Rattle.cell_balance.proofs.Common.{LinkFits, cell_at, no_cell, AreLinked, no_link, EnclosesStep}
 use Rattle.std.proofs.lemmas.Nat.{pow-add}
 use Rattle.decimal_input.specs.Ratios.{den as ratio_den}
-use Rattle.cell_balance.proofs.Zips.{AllZip-compose}
+use Rattle.cell_balance.proofs.Zips.{AllZip-compose, AllZip-at, AllZip-length, All-zip}
 use Rattle.cell_balance.proofs.Whole.{WholeLink, WholeFixed, WholeRiver, WholeDrain, WholeEvap, WholeCell}
 use Rattle.cell_balance.proofs.Over.{FlowOver, LinkOver, FixedOver, RiverOver, DrainOver, EvapOver, CellOver}
 use Rattle.cell_balance.proofs.Within.{FlowWithin, LinkWithin, FixedWithin, RiverWithin, DrainWithin, EvapWithin, CellWithin}
+use Rattle.step_problem.specs.Entries.{no_link as no_bounds}
 
 cross_low : (lo x a c m t : ℕ) → 0 < x → lo * x ≤ a * t → a * (m * t) ≡ c * x → lo * m ≤ c
 cross_low lo x a c m t h q e = le_of_mul-le-mul_right {k = x} (omega (arith, mul-le-mul_right m q, e)) h
@@ -42,10 +44,7 @@ LinksGood cells p = All (λ x. (x.cell < cells) × (0 < x.lo)) p.links
 
 module _ (s m n : ℕ) where
   pub flow_denominator : m * 10 ^ s * (n * 10 ^ 9) ≡ m * n * 10 ^ (s + 9)
-  flow_denominator = rw (pow-add 10 s 9) (ring m (10 ^ s) n (10 ^ 9))
-    where
-      ring : (m s n t : ℕ) → m * s * (n * t) ≡ m * n * (s * t)
-      ring m s n t = omega arith
+  flow_denominator = rw (pow-add 10 s 9) (omega arith)
 
   flow_within : (p : Flow) (e : ExactFlow) (q : ℤ) → FlowEncloses s p e → FlowOver (m * 10 ^ s) (n * 10 ^ 9) e q → FlowWithin m n p q
   flow_within p e q r o = record { flow = between_over p.lo p.hi (s + 9) (m * n) e.flow q r.flow (subst (λ (k : ℕ). IsOver k e.flow q) flow_denominator o.flow) }
@@ -92,3 +91,29 @@ module _ (s m n : ℕ) where
 
     pub step_within : (p : List Entries) (e : List ExactCell) (w : List WholeCell) → AllZip (CellEncloses s) p e → AllZip (CellOver (m * 10 ^ s) (n * 10 ^ 9)) e w → All (LinksGood cells) p → AllZip (CellWithin m n cells) p w
     step_within p e w h o good = AllZip-compose (CellEncloses s) (CellOver (m * 10 ^ s) (n * 10 ^ 9)) (CellWithin m n cells) (LinksGood cells) cell_within p e w h o good
+
+module _ (s : ℕ) (p : List Entries) (e : List ExactCell) (fits : IsProblem p) (encloses : EnclosesStep s p e) where
+  same_length : length p ≡ length e
+  same_length = AllZip-length (CellEncloses s) p e encloses.cells
+
+  cell_encloses : (c : ℕ) → c < length p → CellEncloses s (entries_at p c) (cell_at e c)
+  cell_encloses c i = AllZip-at (CellEncloses s) p e c no_entries no_cell encloses.cells i
+
+  pub linked : AreLinked e
+  linked = record {
+    range = λ c i. All-zip (LinkEncloses s) (λ x. x.cell < length p) (λ x. x.cell < length e) (λ x y r h. omega (arith, r.cell, h, same_length)) (entries_at p c).links (cell_at e c).links (cell_encloses c (omega (arith, same_length))).links (fits.links c (omega (arith, same_length))).within;
+    apart = λ c i j h less inside same.
+        let here : c < length p = omega (arith, same_length, h) in
+        let links = (cell_encloses c here).links in
+        let short = AllZip-length (LinkEncloses s) (entries_at p c).links (cell_at e c).links links in
+        let one = AllZip-at (LinkEncloses s) (entries_at p c).links (cell_at e c).links i no_bounds no_link links (omega (arith, short, inside, less)) in
+        let two = AllZip-at (LinkEncloses s) (entries_at p c).links (cell_at e c).links j no_bounds no_link links (omega (arith, short, inside)) in
+        (fits.links c here).apart i j less (omega (arith, short, inside)) (one.cell ∙ same ∙ sym two.cell);
+    ends = encloses.ends;
+  }
+
+-- the links of a problem lead to its cells, and certainly conduct
+pub links_good : (p : List Entries) → IsProblem p → All (LinksGood (length p)) p
+links_good p fits =
+    All-from_get_or (LinksGood (length p)) p no_entries
+    (λ c i. λ k d j. (All-get_or (λ x. x.cell < length p) (entries_at p c).links k d j (fits.links c i).within, (All-get_or LinkFits (entries_at p c).links k d j (fits.cells c i).links).conducts))

@@ -7,9 +7,8 @@ use Rattle.cell_balance.proofs.Scaling.{zero_over}
 use Rattle.cell_balance.proofs.Over.{CellOver, balance_over}
 use Rattle.cell_balance.proofs.Denominators.{step_common}
 use Rattle.cell_balance.proofs.Wholes.{whole_step}
-use Rattle.cell_balance.proofs.Enclosed.{step_within}
+use Rattle.cell_balance.proofs.Enclosed.{step_within, linked, links_good}
 use Rattle.cell_balance.proofs.Mutual.{mutual_whole}
-use Rattle.cell_balance.proofs.Linked.{linked, links_good}
 use Rattle.cell_balance.proofs.Compare.{compare_low, compare_high}
 use Rattle.cell_balance.proofs.Cancel.{IsMutual}
 use Rattle.cell_balance.proofs.Within.{CellWithin}

@@ -1,10 +1,10 @@
 -- Sums of enclosed fractions, and their parts, are enclosed.
 use Rattle.cell_balance.proofs.Common.{◌≡◌, ℕ, zero, suc, ◌+◌, ◌*◌, ◌^◌, ◌<◌, refl, arith, List, [], ◌∷◌, Bool, true, false, map, ℤ, pos, neg_ℤ, ◌+ℤ◌, ◌*ℤ◌}
-use Rattle.cell_balance.proofs.Common.{◌≤ℤ◌, mul-pos, filter, AllZip, int_max, ints, zero-*ℤ, Fraction, den, whole, negated, plus, fraction_total, IsOver}
-use Rattle.cell_balance.proofs.Common.{EnclosesSigned, IsBetweenSigned, neg_mul, total, greater, sum_below, total_below, turned, le-add}
+use Rattle.cell_balance.proofs.Common.{◌≤ℤ◌, mul-pos, filter, AllZip, int_max, ints, Fraction, den, whole, negated, plus, fraction_total, EnclosesSigned, total}
+use Rattle.cell_balance.proofs.Common.{greater, sum_below, total_below, le-add}
 use Rattle.cell_balance.proofs.Totals.{add_mul}
 use Rattle.cell_balance.proofs.Products.{max_above, max_below}
-use Rattle.cell_balance.proofs.Scaling.{IsOver-plus, IsOver-greater, IsOver-negated, IsOver-none}
+use Rattle.cell_balance.proofs.Scaling.{IsOver-plus, IsOver-greater, IsOver-none}
 use Rattle.cell_balance.proofs.Enclosed.{between_over}
 use Rattle.cell_balance.proofs.EntryScaled.{enclosed_over}
 use Rattle.cell_balance.proofs.Denominators.{Goes, fraction_over}

@@ -1,11 +1,10 @@
 -- What the manual says of single flows, from their whole numbers.
 use Rattle.cell_balance.proofs.Common.{◌≡◌, ℕ, zero, suc, ◌*◌, ◌<◌, ◌≤◌, refl, sym, ap, ◌∙◌, subst, arith, ℤ, pos, negsuc, neg_ℤ, ◌-ℤ◌, ◌*ℤ◌, ◌≤ℤ◌, ◌<ℤ◌}
-use Rattle.cell_balance.proofs.Common.{mul-pos, int_max, int_min, mul-le-mul_right, mul-le-mul, *ℤ-zero, ints, clamps, Ratio, Fraction, den, whole, signed}
-use Rattle.cell_balance.proofs.Common.{negated, IsOver, IsShare, mul_nonneg, mul_neg, ExactFixed, ExactRiver, ExactDrain, ExactEvap, minus, fixed_flow}
-use Rattle.cell_balance.proofs.Common.{river_flow, drain_flow, evap_flow, full_rate, over_difference, FixedLaws, RiverLaws, DrainLaws, EvapLaws, FlowsAreRight}
+use Rattle.cell_balance.proofs.Common.{mul-pos, int_max, int_min, mul-le-mul_right, mul-le-mul, *ℤ-zero, ints, clamps, Ratio, Fraction, den, signed, negated}
+use Rattle.cell_balance.proofs.Common.{IsOver, IsShare, mul_nonneg, mul_neg, ExactFixed, ExactRiver, ExactDrain, ExactEvap, minus, fixed_flow, river_flow}
+use Rattle.cell_balance.proofs.Common.{drain_flow, evap_flow, full_rate, over_difference, FixedLaws, RiverLaws, DrainLaws, EvapLaws, FlowsAreRight}
 use Rattle.cell_balance.proofs.Scaling.{IsOver-times, IsOver-minus, IsOver-negated, IsOver-signed, over_zero}
-use Rattle.cell_balance.proofs.Order.{over_le, le_over}
-use Rattle.cell_balance.proofs.EntryScaled.{same_over, negative_over, negative_below, positive_above, below_over}
+use Rattle.cell_balance.proofs.EntryScaled.{over_le, le_over, same_over, negative_over, negative_below, positive_above, below_over}
 use Rattle.cell_balance.proofs.Denominators.{Goes, fraction_over, fixed_den, river_den, drain_den, evap_den}
 use Rattle.cell_balance.proofs.Over.{FixedOver, RiverOver, DrainOver, EvapOver, fixed_over, river_over, drain_over, evap_over, full_over}
 use Rattle.cell_balance.proofs.Wholes.{fixed, river, drain, evap}

@@ -1,7 +1,32 @@
--- Single flows and their bounds, over one denominator; signs and equality of fractions by their whole numbers.
-use Rattle.cell_balance.proofs.Common.{◌≡◌, ℕ, ◌*◌, ◌^◌, ◌<◌, sym, ap, ◌∙◌, arith, ℤ, pos, ◌*ℤ◌, ◌≤ℤ◌, ◌<ℤ◌, ints, by_lt_z, zero-*ℤ, Fraction, den, Same}
-use Rattle.cell_balance.proofs.Common.{IsOver, EnclosesSigned, cancel_right, mul_mono_right, swap, le-antisym, le-of, mul_assoc, IsBelow}
-use Rattle.cell_balance.proofs.Order.{le_over}
+-- Fractions and their whole numbers over one denominator: order, signs, equality, and sums over cells; single flows and their bounds.
+use Rattle.cell_balance.proofs.Common.{ℕ, suc, zero, ◌*◌, ◌<◌, arith, ℤ, pos, ◌≤ℤ◌, Bool, true, false, cond, Fraction, den, whole, AtMost, IsOver, cancel_right}
+use Rattle.cell_balance.proofs.Common.{mul_mono_right, sum_below, sum_inside, total_below, total_inside, ◌≡◌, ◌^◌, sym, ap, ◌∙◌, ◌*ℤ◌, ◌<ℤ◌, ints, by_lt_z}
+use Rattle.cell_balance.proofs.Common.{zero-*ℤ, Same, EnclosesSigned, swap, le-antisym, le-of, mul_assoc, IsBelow}
+use Rattle.cell_balance.proofs.Scaling.{IsOver-plus, IsOver-none, crossed, crossed_back}
+
+pub over_le : (d : ℕ) (f g : Fraction) (a b : ℤ) → IsOver d f a → IsOver d g b → AtMost f g → a ≤ℤ b
+over_le d f g a b p q h =
+    cancel_right (den f * den g) a b (some f.less g.less)
+    (rw (crossed d f a (den g) p, crossed_back d f g b q) at (mul_mono_right d _ _ h.at_most))
+  where
+    some : (x y : ℕ) → 0 < suc x * suc y
+    some x y = omega arith
+
+pub le_over : (d : ℕ) (f g : Fraction) (a b : ℤ) → 0 < d → IsOver d f a → IsOver d g b → a ≤ℤ b → AtMost f g
+le_over d f g a b some p q h = record {
+  at_most = cancel_right d _ _ some (rw (crossed d f a (den g) p, crossed_back d f g b q) (mul_mono_right (den f * den g) a b h));
+}
+
+pub IsOver-below : (d n : ℕ) (f : ℕ → Fraction) (g : ℕ → ℤ) → ((k : ℕ) → k < n → IsOver d (f k) (g k)) → IsOver d (total_below n f) (sum_below n g)
+IsOver-below d zero f g each = IsOver-none d
+IsOver-below d (suc n) f g each = IsOver-plus d (total_below n f) (f n) (sum_below n g) (g n) (IsOver-below d n f g (λ k i. each k (omega arith))) (each n (omega arith))
+
+pub IsOver-inside : (d n : ℕ) (inside : ℕ → Bool) (f : ℕ → Fraction) (g : ℕ → ℤ) → ((k : ℕ) → k < n → IsOver d (f k) (g k)) → IsOver d (total_inside n inside f) (sum_inside n inside g)
+IsOver-inside d n inside f g each = IsOver-below d n (λ k. cond (inside k) (f k) (whole (pos 0))) (λ k. cond (inside k) (g k) (pos 0)) (λ k i. by_test k i (inside k))
+  where
+    by_test : (k : ℕ) → k < n → (b : Bool) → IsOver d (cond b (f k) (whole (pos 0))) (cond b (g k) (pos 0))
+    by_test k i true = each k i
+    by_test k i false = IsOver-none d
 
 -- equal whole numbers over one denominator are one fraction
 pub same_over : (d : ℕ) (f g : Fraction) (a b : ℤ) → 0 < d → IsOver d f a → IsOver d g b → a ≡ b → Same f g
@@ -12,9 +37,6 @@ same_over d f g a b some p q e = record {
 -- the sign of a fraction
 pub negative_over : (d : ℕ) (f : Fraction) (a : ℤ) → 0 < d → IsOver d f a → a ≤ℤ pos 0 → f.num ≤ℤ pos 0
 negative_over d f a some p h = cancel_right d f.num (pos 0) some (rw (p.is, zero-*ℤ) (rw zero-*ℤ at (mul_mono_right (den f) a (pos 0) h)))
-
-pub positive_over : (d : ℕ) (f : Fraction) (a : ℤ) → 0 < d → IsOver d f a → pos 0 ≤ℤ a → pos 0 ≤ℤ f.num
-positive_over d f a some p h = cancel_right d (pos 0) f.num some (rw (p.is, zero-*ℤ) (rw zero-*ℤ at (mul_mono_right (den f) (pos 0) a h)))
 
 pub negative_below : (d : ℕ) (f : Fraction) (a : ℤ) → 0 < d → IsOver d f a → a <ℤ pos 0 → f.num <ℤ pos 0
 negative_below d f a some p h =
@@ -35,10 +57,7 @@ positive_above d f a some p h =
 -- a number below another, over one denominator
 pub below_over : (d : ℕ) (f g : Fraction) (a b : ℤ) → 0 < d → IsOver d f a → IsOver d g b → IsBelow f g → a <ℤ b
 below_over d f g a b some p q h =
-    by_lt_z a b (λ lt. lt) (λ le. absurd (clash _ _ h.below (le_over d g f b a some q p le).at_most))
-  where
-    clash : (x y : ℤ) → x <ℤ y → y ≤ℤ x → ⊥
-    clash x y h k = omega (arith, ints)
+    by_lt_z a b (λ lt. lt) (λ le. absurd (omega (arith, ints, h.below, (le_over d g f b a some q p le).at_most)))
 
 -- bounds of the whole number are bounds of the fraction
 pub enclosed_over : (lo hi : ℤ) (s n : ℕ) (f : Fraction) (z : ℤ) → 0 < n → IsOver (n * 10 ^ s) f z → (lo *ℤ pos n) ≤ℤ z → z ≤ℤ (hi *ℤ pos n) → EnclosesSigned lo hi s f

@@ -1,11 +1,11 @@
 -- The laws of exact balances, from their whole numbers.
 use Rattle.cell_balance.proofs.Common.{◌≡◌, ℕ, zero, suc, ◌*◌, ◌<◌, ◌⊎◌, inl, inr, refl, ap, subst, arith, ℤ, pos, ◌*ℤ◌, ◌≤ℤ◌, List, length, All, Bool, true}
-use Rattle.cell_balance.proofs.Common.{mul-pos, AllZip, cases_eq, ints, Ratio, Fraction, whole, fraction_total, AtMost, IsOver, IsShare, total, ExactCell}
-use Rattle.cell_balance.proofs.Common.{cell_at, no_cell, link_flow, balance, share, total_inside, IsClosed, deep_flow, LiesBelow, LinksCancel, BalanceFalls}
+use Rattle.cell_balance.proofs.Common.{mul-pos, AllZip, cases_eq, ints, Ratio, Fraction, fraction_total, AtMost, IsOver, IsShare, total, ExactCell, cell_at}
+use Rattle.cell_balance.proofs.Common.{no_cell, link_flow, balance, share, total_inside, IsClosed, deep_flow, LiesBelow, LinksCancel, BalanceFalls}
 use Rattle.cell_balance.proofs.Common.{BalanceRises, DryLaw, mul_mono_right}
 use Rattle.cell_balance.proofs.Zips.{AllZip-at, AllZip-length, All-zip}
 use Rattle.cell_balance.proofs.Scaling.{IsOver-total, over_zero}
-use Rattle.cell_balance.proofs.Order.{over_le, le_over, IsOver-inside}
+use Rattle.cell_balance.proofs.EntryScaled.{over_le, le_over, IsOver-inside}
 use Rattle.cell_balance.proofs.Over.{LinkOver, FixedOver, RiverOver, DrainOver, CellOver, deep_over, link_over, balance_over}
 use Rattle.cell_balance.proofs.Denominators.{cell_common, step_common}
 use Rattle.cell_balance.proofs.Wholes.{whole_cell, whole_step}

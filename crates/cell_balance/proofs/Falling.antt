@@ -1,5 +1,5 @@
 -- A whole balance falls weakly in its own head and rises weakly in the others.
-use Rattle.cell_balance.proofs.Common.{ℕ, arith, ℤ, ◌+ℤ◌, ◌-ℤ◌, ◌≤ℤ◌, All, ints, clamps, total, mul_mono}
+use Rattle.cell_balance.proofs.Common.{ℕ, arith, ℤ, ◌+ℤ◌, ◌≤ℤ◌, All, ints, clamps, total, mul_mono}
 use Rattle.step_problem.proofs.Falls.{loss_falls, total_mono}
 use Rattle.cell_balance.proofs.Totals.{total_at_most}
 use Rattle.cell_balance.proofs.Whole.{WholeCell, whole_link, whole_fixed, whole_river, whole_drain, whole_evap, whole_balance}
@@ -19,10 +19,7 @@ whole_falls w v y Y le =
 pub whole_rises : (w : WholeCell) (v : ℤ) (Y Z : ℕ → ℤ) → All (λ x. Y x.cell ≤ℤ Z x.cell) w.links → whole_balance w v Y ≤ℤ whole_balance w v Z
 whole_rises w v Y Z each =
     second (total (λ q. q) w.flows) _ _ _ _ _ _
-    (total_at_most (λ x. Y x.cell ≤ℤ Z x.cell) (whole_link Y v) (whole_link Z v) w.links (λ x h. mul_mono x.c _ _ (less (Y x.cell) (Z x.cell) h)) each)
+    (total_at_most (λ x. Y x.cell ≤ℤ Z x.cell) (whole_link Y v) (whole_link Z v) w.links (λ x h. mul_mono x.c _ _ (omega (arith, ints))) each)
   where
-    less : (a b : ℤ) → a ≤ℤ b → (a -ℤ v) ≤ℤ (b -ℤ v)
-    less a b h = omega (arith, ints)
-
     second : (f a a' b c d e : ℤ) → a ≤ℤ a' → (f +ℤ a +ℤ b +ℤ c +ℤ d +ℤ e) ≤ℤ (f +ℤ a' +ℤ b +ℤ c +ℤ d +ℤ e)
     second f a a' b c d e p = omega (arith, ints)

@@ -4,8 +4,7 @@ use Rattle.cell_balance.proofs.Common.{cases_eq, ints, clamps, zero-*ℤ, Link, 
 use Rattle.cell_balance.proofs.Common.{evap_high, upper_balance, mul_nonneg, most_times, neg_most, neg_mul, mul_neg, mul_mono_right}
 use Rattle.cell_balance.proofs.Totals.{add_mul, sub_mul, le_trans_z, total_more, tight_more}
 use Rattle.cell_balance.proofs.Zips.{AllZip-left, AllZip-right}
-use Rattle.cell_balance.proofs.Products.{cancel_le, conducting, max_is}
-use Rattle.cell_balance.proofs.Tight.{IsTight, slack_open, link_closed, fixed_closed, no_lo}
+use Rattle.cell_balance.proofs.Products.{cancel_le, conducting, max_is, IsTight, slack_open, link_closed, fixed_closed, no_lo}
 use Rattle.cell_balance.proofs.HighEntries.{link_gap, fixed_gap, river_more, drain_more, evap_more}
 use Rattle.cell_balance.proofs.Whole.{WholeLink, WholeFixed, WholeRiver, WholeDrain, WholeCell, whole_link, whole_fixed, whole_river, whole_drain, whole_evap, whole_balance}
 use Rattle.cell_balance.proofs.Within.{FlowWithin, LinkWithin, FixedWithin, RiverWithin, DrainWithin, EvapWithin, CellWithin}
@@ -20,15 +19,12 @@ dry_river m n v y above p w e tight =
           let order = cancel_le w.c ((p.stage_hi -ℤ int_max v p.bottom_lo) *ℤ pos n) (w.stage -ℤ int_max y w.bottom) (omega arith) bound in
           inr (elim (max_is v p.bottom_lo) [
             | inl is ↦ absurd (over (p.stage_hi *ℤ pos n) (int_max v p.bottom_lo *ℤ pos n) (rw sub_mul at order) e.stage.upper (ap (λ (z : ℤ). z *ℤ pos n) is))
-            | inr is ↦ dry (p.stage_hi *ℤ pos n) (int_max v p.bottom_lo *ℤ pos n) (p.bottom_lo *ℤ pos n) (rw sub_mul at order) e.stage.upper (ap (λ (z : ℤ). z *ℤ pos n) is) e.bottom.lower
+            | inr is ↦ omega (arith, ints, clamps, rw sub_mul at order, e.stage.upper, ap (λ (z : ℤ). z *ℤ pos n) is, e.bottom.lower)
           ])
     ]
   where
     over : (s top : ℤ) → (s -ℤ top) ≤ℤ (w.stage -ℤ int_max y w.bottom) → w.stage ≤ℤ s → top ≡ v *ℤ pos n → ⊥
     over s top a b is = omega (arith, ints, clamps, above)
-
-    dry : (s top b : ℤ) → (s -ℤ top) ≤ℤ (w.stage -ℤ int_max y w.bottom) → w.stage ≤ℤ s → top ≡ b → b ≤ℤ w.bottom → y ≤ℤ w.bottom
-    dry s top b a h is k = omega (arith, ints, clamps)
 
 dry_drain : (m n : ℕ) (v y : ℤ) → (v *ℤ pos n) <ℤ y → (p : Drain) (w : WholeDrain) → DrainWithin m n p w → (drain_high v p *ℤ pos (m * n)) ≤ℤ whole_drain y w → (w.c ≡ 0) ⊎ (y ≤ℤ w.elev)
 dry_drain m n v y above p w e tight =
@@ -40,15 +36,12 @@ dry_drain m n v y above p w e tight =
           let order = cancel_le w.c (neg_ℤ (int_max (v -ℤ p.elev_hi) (pos 0)) *ℤ pos n) (neg_ℤ (int_max (y -ℤ w.elev) (pos 0))) (omega arith) (rw (mul_neg (pos w.c) (int_max (y -ℤ w.elev) (pos 0))) (le_trans_z _ _ _ bound tight)) in
           inr (elim (max_is (v -ℤ p.elev_hi) (pos 0)) [
             | inl is ↦ absurd (over (int_max (v -ℤ p.elev_hi) (pos 0) *ℤ pos n) (p.elev_hi *ℤ pos n) (rw neg_mul at order) (ap (λ (z : ℤ). z *ℤ pos n) is ∙ sub_mul v p.elev_hi (pos n)) e.elev.upper)
-            | inr is ↦ dry (int_max (v -ℤ p.elev_hi) (pos 0) *ℤ pos n) (rw neg_mul at order) (ap (λ (z : ℤ). z *ℤ pos n) is ∙ zero-*ℤ (pos n))
+            | inr is ↦ omega (arith, ints, clamps, rw neg_mul at order, ap (λ (z : ℤ). z *ℤ pos n) is ∙ zero-*ℤ (pos n))
           ])
     ]
   where
     over : (deep el : ℤ) → neg_ℤ deep ≤ℤ neg_ℤ (int_max (y -ℤ w.elev) (pos 0)) → deep ≡ v *ℤ pos n -ℤ el → w.elev ≤ℤ el → ⊥
     over deep el a is h = omega (arith, ints, clamps, above)
-
-    dry : (deep : ℤ) → neg_ℤ deep ≤ℤ neg_ℤ (int_max (y -ℤ w.elev) (pos 0)) → deep ≡ pos 0 → y ≤ℤ w.elev
-    dry deep a is = omega (arith, ints, clamps)
 
 six : (a b c d e f k a' b' c' d' e' f' : ℤ) → a' ≤ℤ (a *ℤ k) → b' ≤ℤ (b *ℤ k) → c' ≤ℤ (c *ℤ k) → d' ≤ℤ (d *ℤ k) → e' ≤ℤ (e *ℤ k) → f' ≤ℤ (f *ℤ k) → ((a +ℤ b +ℤ c +ℤ d +ℤ e +ℤ f) *ℤ k) ≤ℤ pos 0 → a' +ℤ b' +ℤ c' +ℤ d' +ℤ e' +ℤ f' ≡ pos 0 → ((b *ℤ k) ≤ℤ b') × ((c *ℤ k) ≤ℤ c') × ((d *ℤ k) ≤ℤ d') × ((e *ℤ k) ≤ℤ e')
 six a b c d e f k a' b' c' d' e' f' p q r s t u some none = let some' = simp add_mul at some in omega (arith, ints, some')

@@ -6,7 +6,6 @@ pub mod Totals
 pub mod Products
 pub mod LowEntries
 pub mod HighEntries
-pub mod Tight
 pub mod LowCell
 pub mod HighCell
 pub mod Sums
@@ -20,14 +19,11 @@ pub mod Denominators
 pub mod Wholes
 pub mod Enclosed
 pub mod Mutual
-pub mod Linked
-pub mod Greatest
 pub mod Compare
 pub mod Encloses
-pub mod Order
+pub mod EntryScaled
 pub mod Falling
 pub mod ExactLaws
-pub mod EntryScaled
 pub mod EntryFlows
 pub mod EntryBounds
 pub mod Enclosing

@@ -4,8 +4,7 @@ use Rattle.cell_balance.proofs.Common.{ints, clamps, Link, Fixed, River, Drain, 
 use Rattle.cell_balance.proofs.Common.{mul_nonneg, least_times, neg_least, neg_mul, mul_neg, mul_mono_right}
 use Rattle.cell_balance.proofs.Totals.{add_mul, sub_mul, le_trans_z, total_less, tight_less}
 use Rattle.cell_balance.proofs.Zips.{AllZip-left, AllZip-right}
-use Rattle.cell_balance.proofs.Products.{cancel_le, conducting}
-use Rattle.cell_balance.proofs.Tight.{IsTight, slack_open, link_closed, fixed_closed, no_lo}
+use Rattle.cell_balance.proofs.Products.{cancel_le, conducting, IsTight, slack_open, link_closed, fixed_closed, no_lo}
 use Rattle.cell_balance.proofs.LowEntries.{link_gap, fixed_gap, river_less, drain_less, evap_less}
 use Rattle.cell_balance.proofs.Whole.{WholeLink, WholeFixed, WholeRiver, WholeDrain, WholeCell, whole_link, whole_fixed, whole_river, whole_drain, whole_evap, whole_balance}
 use Rattle.cell_balance.proofs.Within.{FlowWithin, LinkWithin, FixedWithin, RiverWithin, DrainWithin, EvapWithin, CellWithin}

@@ -2,7 +2,7 @@
 use Rattle.cell_balance.proofs.Common.{◌≡◌, ℕ, ◌*◌, arith, ℤ, pos, neg_ℤ, ◌+ℤ◌, ◌-ℤ◌, ◌*ℤ◌, ◌≤ℤ◌, int_min, ints, clamps, Link, Fixed, River, Drain, Evap}
 use Rattle.cell_balance.proofs.Common.{link_low, fixed_low, river_low, drain_low, evap_low, diffs, as_diff, same_diff, mul_mono, least_times, neg_least}
 use Rattle.cell_balance.proofs.Common.{neg_mul, mul_neg, IsBetweenWhole, turned}
-use Rattle.cell_balance.proofs.Totals.{sub_mul, le_trans_z}
+use Rattle.cell_balance.proofs.Totals.{sub_mul}
 use Rattle.cell_balance.proofs.Products.{entry_less, max_above, min_above, sub_less}
 use Rattle.cell_balance.proofs.Whole.{WholeLink, WholeFixed, WholeRiver, WholeDrain, WholeEvap, whole_link, whole_fixed, whole_river, whole_drain, whole_evap}
 use Rattle.cell_balance.proofs.Within.{LinkWithin, FixedWithin, RiverWithin, DrainWithin, EvapWithin}
@@ -10,13 +10,10 @@ use Rattle.cell_balance.proofs.Within.{LinkWithin, FixedWithin, RiverWithin, Dra
 link_ring : (c a v n own other : ℤ) → c *ℤ ((a -ℤ v) *ℤ n) +ℤ c *ℤ ((v *ℤ n -ℤ own) -ℤ (a *ℤ n -ℤ other)) ≡ c *ℤ (other -ℤ own)
 link_ring c a v n own other = rw (as_diff c, as_diff a, as_diff v, as_diff n, as_diff own, as_diff other) (simp diffs (same_diff _ _ _ _ (omega arith)))
 
-le_plus : (a b c d : ℤ) → a ≤ℤ b → b +ℤ c ≡ d → (a +ℤ c) ≤ℤ d
-le_plus a b c d h e = omega (arith, ints)
-
 -- a link's flow exceeds its bound by the conductance times what the cell's excess is above that of the other end
 pub link_gap : (m n cells : ℕ) (l Y : ℕ → ℤ) (v y : ℤ) (p : Link) (w : WholeLink) → LinkWithin m n cells p w → (link_low l v p *ℤ pos (m * n) +ℤ pos w.c *ℤ ((v *ℤ pos n -ℤ y) -ℤ (l w.cell *ℤ pos n -ℤ Y w.cell))) ≤ℤ whole_link Y y w
 link_gap m n cells l Y v y p w e =
-    rw e.same (le_plus _ _ _ _ (least_times p.lo p.hi w.c m n (l w.cell -ℤ v) e.c.lower e.c.upper) (link_ring (pos w.c) (l w.cell) v (pos n) y (Y w.cell)))
+    rw e.same (omega (arith, ints, least_times p.lo p.hi w.c m n (l w.cell -ℤ v) e.c.lower e.c.upper, link_ring (pos w.c) (l w.cell) v (pos n) y (Y w.cell)))
 
 fixed_ring : (c a v n y : ℤ) → c *ℤ ((a -ℤ v) *ℤ n) +ℤ c *ℤ (v *ℤ n -ℤ y) ≡ c *ℤ (a *ℤ n -ℤ y)
 fixed_ring c a v n y = rw (as_diff c, as_diff a, as_diff v, as_diff n, as_diff y) (simp diffs (same_diff _ _ _ _ (omega arith)))
@@ -24,12 +21,9 @@ fixed_ring c a v n y = rw (as_diff c, as_diff a, as_diff v, as_diff n, as_diff y
 -- a fixed link's flow exceeds its bound by the conductance times the cell's excess
 pub fixed_gap : (m n : ℕ) (v y : ℤ) (p : Fixed) (w : WholeFixed) → FixedWithin m n p w → (fixed_low v p *ℤ pos (m * n) +ℤ pos w.c *ℤ (v *ℤ pos n -ℤ y)) ≤ℤ whole_fixed y w
 fixed_gap m n v y p w e =
-    le_trans_z _ _ _
-    (le_plus _ _ _ _ (least_times p.lo p.hi w.c m n (p.head_lo -ℤ v) e.c.lower e.c.upper) (fixed_ring (pos w.c) p.head_lo v (pos n) y))
-    (mul_mono w.c _ _ (less_sub _ _ y e.head.lower))
-  where
-    less_sub : (a b y : ℤ) → a ≤ℤ b → (a -ℤ y) ≤ℤ (b -ℤ y)
-    less_sub a b y h = omega (arith, ints)
+    let least = least_times p.lo p.hi w.c m n (p.head_lo -ℤ v) e.c.lower e.c.upper in
+    let higher = mul_mono w.c (p.head_lo *ℤ pos n -ℤ y) (w.head -ℤ y) (omega (arith, ints, e.head.lower)) in
+    omega (arith, ints, least, higher, fixed_ring (pos w.c) p.head_lo v (pos n) y)
 
 pub river_less : (m n : ℕ) (v y : ℤ) → y ≤ℤ (v *ℤ pos n) → (p : River) (w : WholeRiver) → RiverWithin m n p w → (river_low v p *ℤ pos (m * n)) ≤ℤ whole_river y w
 river_less m n v y at p w e =

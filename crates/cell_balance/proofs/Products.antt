@@ -1,9 +1,10 @@
--- Order laws of products with whole conductances.
-use Rattle.cell_balance.proofs.Common.{◌≡◌, ℕ, suc, zero, ◌*◌, ◌<◌, ◌≤◌, ◌⊎◌, inl, inr, refl, arith, ℤ, pos, negsuc, neg_ℤ, ◌+ℤ◌, ◌-ℤ◌, ◌*ℤ◌, ◌≤ℤ◌, ◌<ℤ◌}
-use Rattle.cell_balance.proofs.Common.{int_max, int_min, mul-le-mul_right, ints, clamps, by_lt_z, IsBetweenWhole, least, most, mul_mono, mul_add, least_times}
-use Rattle.cell_balance.proofs.Common.{most_times, mul_mono_right}
-use borrow.Author.Differences.{le_out}
+-- Order laws of products with whole conductances, and what holds at a cell whose excess over its solution is the greatest, on either side.
+use Rattle.cell_balance.proofs.Common.{◌≡◌, ℕ, suc, zero, ◌*◌, ◌<◌, ◌≤◌, ◌⊎◌, inl, inr, refl, arith, ℤ, pos, negsuc, ◌+ℤ◌, ◌-ℤ◌, ◌*ℤ◌, ◌≤ℤ◌, ◌<ℤ◌, int_max}
+use Rattle.cell_balance.proofs.Common.{int_min, mul-le-mul_right, ints, clamps, by_lt_z, IsBetweenWhole, least, most, mul_mono, mul_add, least_times}
+use Rattle.cell_balance.proofs.Common.{most_times, mul_mono_right, All, Entries, mul_nonneg}
 use Rattle.cell_balance.proofs.Totals.{le_trans_z}
+use Rattle.cell_balance.proofs.Whole.{WholeCell}
+use Rattle.cell_balance.proofs.Within.{IsDry}
 
 -- a product with a positive number is zero only where the other factor is
 pub zero_factor : (c : ℕ) (a : ℤ) → 0 < c → pos c *ℤ a ≡ pos 0 → a ≡ pos 0
@@ -24,11 +25,8 @@ cancel_le c a b h k =
     (λ lt.
     let over = mul_mono c (b +ℤ pos 1) a (omega (arith, ints)) in
     let split = mul_add (pos c) b (pos 1) in
-    absurd (clash _ _ _ k over split h))
+    absurd (omega (arith, ints)))
     (λ le. le)
-  where
-    clash : (x y z : ℤ) → x ≤ℤ y → z ≤ℤ x → z ≡ y +ℤ pos c *ℤ pos 1 → 0 < c → ⊥
-    clash x y z p q e h = omega (arith, ints)
 
 -- what certainly conducts in the bounds conducts
 pub conducting : (m lo c : ℕ) → 0 < m → 0 < lo → lo * m ≤ c → 0 < c
@@ -82,3 +80,28 @@ min_above n v b y t p q =
 
 pub sub_less : (a b c d : ℤ) → a ≤ℤ c → d ≤ℤ b → (a -ℤ b) ≤ℤ (c -ℤ d)
 sub_less a b c d h k = omega (arith, ints)
+
+-- each link leads to a cell of the same excess, no fixed link conducts, and the solution lies below all bottoms and drains
+pub record IsTight (excess : ℕ → ℤ) (top y : ℤ) (p : Entries) (w : WholeCell) : Type 0 where
+  pub links : All (λ x. excess x.cell ≡ top) p.links
+  pub fixed : All (λ x. x.lo ≡ 0) p.fixed
+  pub dry : IsDry y w
+
+-- the slack of a link to a cell of excess e, and of a fixed link, where e is 0
+pub slack_open : (c : ℕ) (top e : ℤ) → e ≤ℤ top → pos 0 ≤ℤ (pos c *ℤ (top -ℤ e))
+slack_open c top e h = mul_nonneg (pos c) (top -ℤ e) (omega (arith, ints)) (omega (arith, ints))
+
+pub link_closed : (c : ℕ) (top e : ℤ) → 0 < c → e ≤ℤ top → (pos c *ℤ (top -ℤ e)) ≤ℤ pos 0 → e ≡ top
+link_closed c top e some h k =
+    let open_ = slack_open c top e h in
+    let none = zero_factor c (top -ℤ e) some (omega (arith, ints, open_, k)) in
+    omega (arith, ints, none)
+
+pub fixed_closed : (c : ℕ) (top : ℤ) → pos 0 <ℤ top → (pos c *ℤ top) ≤ℤ pos 0 → c ≡ 0
+fixed_closed c top some k =
+    let open_ = mul_nonneg (pos c) top (omega (arith, ints)) (omega (arith, ints)) in
+    no_conductance c top some (omega (arith, ints, open_, k))
+
+pub no_lo : (m lo c : ℕ) → 0 < m → lo * m ≤ c → c ≡ 0 → lo ≡ 0
+no_lo m zero c h k e = refl
+no_lo m (suc lo) c h k e = let q : 1 * m ≤ suc lo * m = mul-le-mul_right m (omega arith) in absurd (omega arith)

@@ -1,5 +1,5 @@
 -- Arithmetic of fractions goes over to whole numbers over a common denominator.
-use Rattle.cell_balance.proofs.Common.{◌≡◌, ℕ, suc, ◌+◌, ◌*◌, ◌<◌, sym, ap, ◌∙◌, arith, ℤ, pos, neg_ℤ, ◌+ℤ◌, ◌-ℤ◌, ◌*ℤ◌, ◌≤ℤ◌, List, [], ◌∷◌, AllZip, int_max}
+use Rattle.cell_balance.proofs.Common.{◌≡◌, ℕ, suc, ◌+◌, ◌*◌, ◌<◌, sym, ap, ◌∙◌, arith, ℤ, pos, neg_ℤ, ◌+ℤ◌, ◌-ℤ◌, ◌*ℤ◌, List, [], ◌∷◌, AllZip, int_max}
 use Rattle.cell_balance.proofs.Common.{int_min, ints, clamps, by_lt_z, zero-*ℤ, Ratio, Fraction, den, whole, signed, negated, plus, times, fraction_total}
 use Rattle.cell_balance.proofs.Common.{IsOver, IsShare, diffs, as_diff, same_diff, neg_mul, total, minus, greater, lesser, mul_mono_right, swap}
 use Rattle.cell_balance.proofs.Products.{zero_factor}
@@ -48,26 +48,14 @@ IsOver-signed d r n h = record { is = ap pos h.is }
 pub max_times : (k : ℕ) (a b : ℤ) → int_max a b *ℤ pos k ≡ int_max (a *ℤ pos k) (b *ℤ pos k)
 max_times k a b =
     by_lt_z a b
-    (λ h. let e : int_max a b ≡ b = omega (arith, ints, clamps) in let m = mul_mono_right k a b (omega (arith, ints)) in ap (λ (z : ℤ). z *ℤ pos k) e ∙ right _ _ m)
-    (λ h. let e : int_max a b ≡ a = omega (arith, ints, clamps) in let m = mul_mono_right k b a h in ap (λ (z : ℤ). z *ℤ pos k) e ∙ left _ _ m)
-  where
-    right : (x y : ℤ) → x ≤ℤ y → y ≡ int_max x y
-    right x y h = omega (arith, ints, clamps)
-
-    left : (x y : ℤ) → y ≤ℤ x → x ≡ int_max x y
-    left x y h = omega (arith, ints, clamps)
+    (λ h. let e : int_max a b ≡ b = omega (arith, ints, clamps) in let m = mul_mono_right k a b (omega (arith, ints)) in ap (λ (z : ℤ). z *ℤ pos k) e ∙ omega (arith, ints, clamps))
+    (λ h. let e : int_max a b ≡ a = omega (arith, ints, clamps) in let m = mul_mono_right k b a h in ap (λ (z : ℤ). z *ℤ pos k) e ∙ omega (arith, ints, clamps))
 
 pub min_times : (k : ℕ) (a b : ℤ) → int_min a b *ℤ pos k ≡ int_min (a *ℤ pos k) (b *ℤ pos k)
 min_times k a b =
     by_lt_z a b
-    (λ h. let e : int_min a b ≡ a = omega (arith, ints, clamps) in let m = mul_mono_right k a b (omega (arith, ints)) in ap (λ (z : ℤ). z *ℤ pos k) e ∙ left _ _ m)
-    (λ h. let e : int_min a b ≡ b = omega (arith, ints, clamps) in let m = mul_mono_right k b a h in ap (λ (z : ℤ). z *ℤ pos k) e ∙ right _ _ m)
-  where
-    left : (x y : ℤ) → x ≤ℤ y → x ≡ int_min x y
-    left x y h = omega (arith, ints, clamps)
-
-    right : (x y : ℤ) → y ≤ℤ x → y ≡ int_min x y
-    right x y h = omega (arith, ints, clamps)
+    (λ h. let e : int_min a b ≡ a = omega (arith, ints, clamps) in let m = mul_mono_right k a b (omega (arith, ints)) in ap (λ (z : ℤ). z *ℤ pos k) e ∙ omega (arith, ints, clamps))
+    (λ h. let e : int_min a b ≡ b = omega (arith, ints, clamps) in let m = mul_mono_right k b a h in ap (λ (z : ℤ). z *ℤ pos k) e ∙ omega (arith, ints, clamps))
 
 -- f crossed with the other denominator, over d
 pub crossed : (d : ℕ) (f : Fraction) (a : ℤ) (k : ℕ) → IsOver d f a → (f.num *ℤ pos k) *ℤ pos d ≡ a *ℤ (pos (den f) *ℤ pos k)

@@ -8,7 +8,7 @@ use Rattle.cell_balance.proofs.Sums.{sum-same, sum-zero, sum-times, sum_at_most}
 use Rattle.cell_balance.proofs.Cancel.{IsMutual}
 use Rattle.cell_balance.proofs.Dry.{dry_law}
 use Rattle.cell_balance.proofs.Deep.{deep_less}
-use Rattle.cell_balance.proofs.Tight.{IsTight}
+use Rattle.cell_balance.proofs.Products.{IsTight}
 use Rattle.cell_balance.proofs.Whole.{WholeCell, no_whole, whole_at, whole_balance, whole_deep}
 use Rattle.cell_balance.proofs.Within.{LinkWithin, CellWithin, IsDry}
 

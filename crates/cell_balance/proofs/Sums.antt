@@ -1,7 +1,22 @@
--- Sums over the cells below a number.
-use Rattle.cell_balance.proofs.Common.{◌≡◌, ℕ, suc, zero, ◌<◌, ◌≤◌, inl, inr, refl, sym, ◌∙◌, arith, ℤ, pos, neg_ℤ, ◌+ℤ◌, ◌*ℤ◌, ◌≤ℤ◌, cond, nat_eq, cases_eq}
-use Rattle.cell_balance.proofs.Common.{ne_eqb, eq-eqb, ints, zero-*ℤ, sum_below}
+-- Sums over the cells below a number, and the greatest value of a function there.
+use Rattle.cell_balance.proofs.Common.{◌≡◌, ℕ, suc, zero, ◌<◌, ◌⊎◌, inl, inr, refl, arith, ℤ, pos, ◌≤ℤ◌, ◌<ℤ◌, cases_lt, ints, by_lt_z, ◌≤◌, sym, ◌∙◌, neg_ℤ}
+use Rattle.cell_balance.proofs.Common.{◌+ℤ◌, ◌*ℤ◌, cond, nat_eq, cases_eq, ne_eqb, eq-eqb, zero-*ℤ, sum_below}
 use Rattle.cell_balance.proofs.Totals.{add_mul}
+
+-- the greatest of e below n, or 0
+pub max_of : (e : ℕ → ℤ) (n : ℕ) → (m : ℤ) × (pos 0 ≤ℤ m) × ((k : ℕ) → k < n → e k ≤ℤ m) × ((m ≡ pos 0) ⊎ ((c : ℕ) × (c < n) × (e c ≡ m)))
+max_of e zero = (pos 0, omega (arith, ints), (λ k h. absurd (omega arith)), inl refl)
+max_of e (suc n) =
+    let (m, some, above, at) = max_of e n in
+    by_lt_z m (e n)
+    (λ h. (e n, omega (arith, ints), (λ k i. elim (last_or k n i) [ inl s ↦ keep k m (e n) (above k s) h | inr s ↦ rw s (omega (arith, ints)) ]), inr (n, omega arith, refl)))
+    (λ h. (m, some, (λ k i. elim (last_or k n i) [ inl s ↦ above k s | inr s ↦ rw s h ]), elim at [ inl z ↦ inl z | inr w ↦ inr (w.0, omega arith, w.2) ]))
+  where
+    last_or : (k n : ℕ) → k < suc n → (k < n) ⊎ (k ≡ n)
+    last_or k n i = elim (cases_lt k n) [ inl h ↦ inl h | inr h ↦ inr (omega arith) ]
+
+    keep : (k : ℕ) (m a : ℤ) → e k ≤ℤ m → m <ℤ a → e k ≤ℤ a
+    keep k m a h i = omega (arith, ints)
 
 pub sum-same : (n : ℕ) (f g : ℕ → ℤ) → ((k : ℕ) → k < n → f k ≡ g k) → sum_below n f ≡ sum_below n g
 sum-same zero f g h = refl
@@ -58,12 +73,6 @@ pub sum-one : (n k : ℕ) (c : ℤ) (g : ℕ → ℤ) → k < n → sum_below n 
 sum-one zero k c g h = absurd (omega arith)
 sum-one (suc n) k c g h =
     elim (cases_eq k n) [
-      | inl e ↦ rw (sum-none n k c g (omega arith), eq-eqb k n e, e) (none_plus (c *ℤ g n))
-      | inr e ↦ rw (at_other k n c (g n) e, sum-one n k c g (omega arith)) (plus_none (c *ℤ g k))
+      | inl e ↦ rw (sum-none n k c g (omega arith), eq-eqb k n e, e) (omega (arith, ints))
+      | inr e ↦ rw (at_other k n c (g n) e, sum-one n k c g (omega arith)) (omega (arith, ints))
     ]
-  where
-    none_plus : (a : ℤ) → pos 0 +ℤ a ≡ a
-    none_plus a = omega (arith, ints)
-
-    plus_none : (a : ℤ) → a +ℤ pos 0 ≡ a
-    plus_none a = omega (arith, ints)

@@ -141,6 +141,7 @@ fn evapotranspiration() -> Evap
 }
 
 /// The problem of the comparison's example.
+#[tactic(auto, using(crate::proofs::ExampleProblem::example_fits))]
 pub fn example(alloc: Global) -> Result<Problem, AllocError>
     ensures { IfOk result (λ p. p ≡ example_problem) }
 {

@@ -11,7 +11,7 @@ pub use Rattle.decimal_input.proofs.Signs.{swap}
 pub use Rattle.decimal_input.specs.Fractions.{Fraction, IsOver, Same, den, fraction_total, plus, signed}
 pub use Rattle.deck_problems.specs.Decks.{one_deck}
 pub use Rattle.exact_histories.specs.Histories.{AreSame, AreSameHeads}
-pub use Rattle.exact_solutions.proofs.Equal.{cancel_same}
+pub use Rattle.exact_solutions.proofs.Scaling.{cancel_same}
 pub use Rattle.flow_equations.specs.ExactStep.{exact_cell, exact_fixed, exact_step}
 pub use Rattle.flow_equations.specs.Histories.{SolvesAt, SolvesFrom, heads_of, variable_heads}
 pub use Rattle.model_types.specs.Cells.{cell_count}

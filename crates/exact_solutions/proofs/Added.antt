@@ -10,7 +10,7 @@ module _ (n : ℕ) (a : ℕ → ℕ → ℤ) where
   net_flow_lifted b q rs d X k i h =
       sum _ _ _ _ _ _
       (sum-same n (λ j. a i j *ℤ (X j +ℤ k -ℤ (X i +ℤ k))) (λ j. a i j *ℤ (X j -ℤ X i)) (λ j g. ap (λ (z : ℤ). a i j *ℤ z) (level (X j) (X i))))
-      (own (pos d *ℤ q i) _ _ (mul_mono (b i) (X i) (X i +ℤ k) (up (X i))))
+      (omega (arith, ints, mul_mono (b i) (X i) (X i +ℤ k) (up (X i))))
       (flows_fall d (X i) (X i +ℤ k) i rs (up (X i)))
     where
       level : (x y : ℤ) → x +ℤ k -ℤ (y +ℤ k) ≡ x -ℤ y
@@ -19,18 +19,12 @@ module _ (n : ℕ) (a : ℕ → ℕ → ℤ) where
       up : (x : ℤ) → x ≤ℤ (x +ℤ k)
       up x = omega (arith, ints)
 
-      own : (q x y : ℤ) → x ≤ℤ y → (q -ℤ y) ≤ℤ (q -ℤ x)
-      own q x y h = omega (arith, ints)
-
       sum : (l l' o o' r r' : ℤ) → l' ≡ l → o' ≤ℤ o → r' ≤ℤ r → (l' +ℤ o' +ℤ r') ≤ℤ (l +ℤ o +ℤ r)
       sum l l' o o' r r' e h k = omega (arith, ints)
 
   -- one ramp more
   pub net_flow-cons : (b : ℕ → ℕ) (q : ℕ → ℤ) (r : Ramp) (rs : List Ramp) (d : ℕ) (X : ℕ → ℤ) (i : ℕ) → net_flow n a b q (r ∷ rs) d X i ≡ net_flow n a b q rs d X i +ℤ ramp_flow d (X i) i r
-  net_flow-cons b q r rs d X i = regroup (link_flow n a X i) (pos d *ℤ q i -ℤ pos (b i) *ℤ X i) (ramp_flow d (X i) i r) (total (ramp_flow d (X i) i) rs)
-    where
-      regroup : (l o f t : ℤ) → l +ℤ o +ℤ (f +ℤ t) ≡ l +ℤ o +ℤ t +ℤ f
-      regroup l o f t = omega (arith, ints)
+  net_flow-cons b q r rs d X i = omega (arith, ints)
 
   -- a step with no less deep flow at the cells without a known head is held too
   pub held_where_deeper : (b b' : ℕ → ℕ) (q q' : ℕ → ℤ) (rs rs' : List Ramp) → IsHeldFromBelow n a b q rs → ((i : ℕ) → i < n → b' i ≡ 0 → b i ≡ 0) → ((i : ℕ) → i < n → b' i ≡ 0 → deep n a b q rs i ≤ℤ deep n a b' q' rs' i) → IsHeldFromBelow n a b' q' rs'
@@ -61,24 +55,15 @@ flow_added c v q i = q i +ℤ cond (nat_eq c i) v (pos 0)
 -- cells that have no conductance after it
 pub added_zero : (c v : ℕ) (b : ℕ → ℕ) (i : ℕ) → conductance_added c v b i ≡ 0 → b i ≡ 0
 unfolding conductance_added
-added_zero c v b i e = first (b i) (cond (nat_eq c i) v 0) e
-  where
-    first : (x y : ℕ) → x + y ≡ 0 → x ≡ 0
-    first x y e = omega arith
+added_zero c v b i e = omega arith
 
 pub added_zero_away : (c v : ℕ) (b : ℕ → ℕ) (i : ℕ) → conductance_added c (suc v) b i ≡ 0 → c ≡ i → ⊥
 unfolding conductance_added
-added_zero_away c v b i e same = absurd (clash (b i) (rw (eq-eqb c i same) at e))
-  where
-    clash : (x : ℕ) → x + suc v ≡ 0 → ⊥
-    clash x e = omega arith
+added_zero_away c v b i e same = absurd (omega (arith, rw (eq-eqb c i same) at e))
 
 pub flow_added-away : (c : ℕ) (w : ℤ) (q : ℕ → ℤ) (i : ℕ) → (c ≡ i → ⊥) → flow_added c w q i ≡ q i
 unfolding flow_added
-flow_added-away c w q i apart = rw (ne_eqb c i apart) (none (q i))
-  where
-    none : (z : ℤ) → z +ℤ pos 0 ≡ z
-    none z = omega (arith, ints)
+flow_added-away c w q i apart = rw (ne_eqb c i apart) (omega (arith, ints))
 
 pub flow_added-at : (c : ℕ) (w : ℤ) (q : ℕ → ℤ) (i : ℕ) → flow_added c w q i ≡ q i +ℤ cond (nat_eq c i) w (pos 0)
 unfolding flow_added

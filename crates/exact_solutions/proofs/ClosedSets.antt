@@ -19,24 +19,22 @@ inside_flow_turned false false a b y z e = refl
 
 pub link_flows_cancel : (n : ℕ) (a : ℕ → ℕ → ℤ) (T : ℕ → Bool) (Y : ℕ → ℤ) → AreMutual n a → IsClosed n a T → sum_inside n T (link_flow n a Y) ≡ pos 0
 link_flows_cancel n a T Y both closed =
-    no_sign _ (by_cells
-    ∙ sum-same n _ _ (λ i h. sum-same n _ _ (λ j k. inside_flow_turned (T i) (T j) (a i j) (a j i) (Y j) (Y i) (both.same i j h k)))
-    ∙ sum-swap n n (λ i j. neg_ℤ (inside_flow T a Y j i))
-    ∙ sum-same n _ _ (λ j h. sum-neg n (λ i. inside_flow T a Y j i))
-    ∙ sum-neg n (λ j. sum_below n (λ i. inside_flow T a Y j i))
-    ∙ ap neg_ℤ (sym by_cells))
+    omega (
+      arith,
+      ints,
+      by_cells
+          ∙ sum-same n _ _ (λ i h. sum-same n _ _ (λ j k. inside_flow_turned (T i) (T j) (a i j) (a j i) (Y j) (Y i) (both.same i j h k)))
+          ∙ sum-swap n n (λ i j. neg_ℤ (inside_flow T a Y j i))
+          ∙ sum-same n _ _ (λ j h. sum-neg n (λ i. inside_flow T a Y j i))
+          ∙ sum-neg n (λ j. sum_below n (λ i. inside_flow T a Y j i))
+          ∙ ap neg_ℤ (sym by_cells),
+    )
   where
-    no_sign : (a : ℤ) → a ≡ neg_ℤ a → a ≡ pos 0
-    no_sign a e = omega (arith, ints)
-
     none : (i j : ℕ) → i < n → j < n → T i ≡ true → T j ≡ false → (z : ℤ) → a i j *ℤ z ≡ pos 0
     none i j h k inside outside z =
         by_lt_z (pos 0) (a i j)
         (λ lt. absurd (true≢false (sym (closed i j h k inside lt) ∙ outside)))
-        (λ le. rw (zero (a i j) (both.nonneg i j) le) (zero-*ℤ z))
-      where
-        zero : (z : ℤ) → pos 0 ≤ℤ z → z ≤ℤ pos 0 → z ≡ pos 0
-        zero z h k = omega (arith, ints)
+        (λ le. let e : a i j ≡ pos 0 = omega (arith, ints, both.nonneg i j) in rw e (zero-*ℤ z))
 
     term : (i j : ℕ) → i < n → j < n → T i ≡ true → (t : Bool) → T j ≡ t → a i j *ℤ (Y j -ℤ Y i) ≡ cond t (a i j *ℤ (Y j -ℤ Y i)) (pos 0)
     term i j h k inside true e = refl
@@ -74,10 +72,7 @@ carried_gain n a T Y g d both closed some carries loses =
     times (suc k) = rw (times k) (times_cell (T k) (sum_below k (λ i. cond (T i) (g i) (pos 0))) (g k))
 
     clash : (x l y z s o : ℤ) → x ≤ℤ o → x ≡ l +ℤ y → l ≡ pos 0 → y ≡ pos d *ℤ sum_inside n T g → o ≡ pos 0 → ⊥
-    clash x l y z s o h e f k u = not_positive (sum_inside n T g) carries (cancel_le d (sum_inside n T g) (pos 0) some (rw (*ℤ-zero (pos d)) (at_most _ _ _ _ _ h e f k u)))
+    clash x l y z s o h e f k u = not_positive (sum_inside n T g) carries (cancel_le d (sum_inside n T g) (pos 0) some (rw (*ℤ-zero (pos d)) (omega (arith, ints))))
       where
-        at_most : (x l y o z : ℤ) → x ≤ℤ o → x ≡ l +ℤ y → l ≡ pos 0 → y ≡ z → o ≡ pos 0 → z ≤ℤ pos 0
-        at_most x l y o z h e f k u = omega (arith, ints)
-
         not_positive : (z : ℤ) → pos 0 <ℤ z → z ≤ℤ pos 0 → ⊥
         not_positive z h k = omega (arith, ints)

@@ -15,7 +15,7 @@ pub use Rattle.cell_balance.proofs.Mutual.{mutual_whole}
 pub use Rattle.cell_balance.proofs.Over.{CellOver, DrainOver, EvapOver, FixedOver, FlowOver, LinkOver, RiverOver, balance_over, deep_over}
 pub use Rattle.cell_balance.proofs.Products.{cancel_le, conducting, not_zero}
 pub use Rattle.cell_balance.proofs.Scaling.{IsOver-none, max_times, min_times, over_zero}
-pub use Rattle.cell_balance.proofs.Sums.{sum-add, sum-neg, sum-one, sum-same, sum-swap, sum-times, sum-zero, sum_at_most, sum_nonneg}
+pub use Rattle.cell_balance.proofs.Sums.{max_of, sum-add, sum-neg, sum-same, sum-swap, sum-times, sum-zero, sum_at_most, sum_nonneg}
 pub use Rattle.cell_balance.proofs.Totals.{add_mul, sub_mul, total-same}
 pub use Rattle.cell_balance.proofs.Whole.{WholeCell, WholeDrain, WholeEvap, WholeFixed, WholeLink, WholeRiver, no_whole, whole_at, whole_balance, whole_deep}
 pub use Rattle.cell_balance.proofs.Whole.{whole_deep_river, whole_drain, whole_evap, whole_fixed, whole_full, whole_link, whole_river}

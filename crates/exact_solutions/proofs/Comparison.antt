@@ -1,7 +1,6 @@
 -- Where a step is held from below, heads at which no cell gains water lie nowhere below heads at which no cell loses water.
 use Rattle.exact_solutions.proofs.Common.{◌*ℤ◌, ◌+ℤ◌, ◌-ℤ◌, ◌<ℤ◌, ◌<◌, ◌≡◌, ◌≤ℤ◌, Bool, List, arith, inl, inr, int_lt, neg_ℤ, pos, refl, suc, true, zero, ℕ, ℤ}
-use Rattle.exact_solutions.proofs.Common.{zero-*ℤ, by_lt_z, ints, total, mul_le, mul_mono, mul_sub, cancel_le, not_zero, sum_at_most}
-use Rattle.cell_balance.proofs.Greatest.{max_of}
+use Rattle.exact_solutions.proofs.Common.{zero-*ℤ, by_lt_z, ints, total, mul_le, mul_mono, mul_sub, cancel_le, not_zero, sum_at_most, max_of}
 use Rattle.exact_solutions.proofs.Ramps.{Ramp, ramp_flow, full_rate, link_flow, IsClosed, AreMutual, net_flow, deep, IsHeldFromBelow}
 use Rattle.exact_solutions.proofs.Elimination.{positive_natural}
 use Rattle.exact_solutions.proofs.ClosedSets.{carried_gain}
@@ -31,51 +30,33 @@ module _ (n : ℕ) (a : ℕ → ℕ → ℤ) (b : ℕ → ℕ) (q : ℕ → ℤ)
         at_least m z h = grind (arith, ints)
 
     higher : (k : ℕ) → m ≤ℤ (Y k -ℤ X k) → X k <ℤ Y k
-    higher k h = step m (X k) (Y k) over h
-      where
-        step : (m x y : ℤ) → pos 0 <ℤ m → m ≤ℤ (y -ℤ x) → x <ℤ y
-        step m x y h k = omega (arith, ints)
-
-    weaken : (x y : ℤ) → x <ℤ y → x ≤ℤ y
-    weaken x y h = omega (arith, ints)
+    higher k h = omega (arith, ints)
 
     -- at such a cell each flow at Y is at most the one at X
     link_less : (k j : ℕ) → m ≤ℤ (Y k -ℤ X k) → j < n → (a k j *ℤ (Y j -ℤ Y k)) ≤ℤ (a k j *ℤ (X j -ℤ X k))
-    link_less k j h i = mul_le _ _ (a k j) (both.nonneg k j) (step (X j) (Y j) (X k) (Y k) (above j i) h)
-      where
-        step : (x y v w : ℤ) → (y -ℤ x) ≤ℤ m → m ≤ℤ (w -ℤ v) → (y -ℤ w) ≤ℤ (x -ℤ v)
-        step x y v w h k = omega (arith, ints)
+    link_less k j h i = mul_le _ _ (a k j) (both.nonneg k j) (omega (arith, ints, above j i))
 
     links_less : (k : ℕ) → m ≤ℤ (Y k -ℤ X k) → link_flow n a Y k ≤ℤ link_flow n a X k
     links_less k h = sum_at_most n _ _ (λ j i. link_less k j h i)
 
     own_less : (k : ℕ) → m ≤ℤ (Y k -ℤ X k) → (pos d *ℤ q k -ℤ pos (b k) *ℤ Y k) ≤ℤ (pos d *ℤ q k -ℤ pos (b k) *ℤ X k)
-    own_less k h = step _ _ _ (mul_mono (b k) (X k) (Y k) (weaken _ _ (higher k h)))
+    own_less k h = step _ _ _ (mul_mono (b k) (X k) (Y k) (omega (arith, ints, higher k h)))
       where
         step : (q x y : ℤ) → x ≤ℤ y → (q -ℤ y) ≤ℤ (q -ℤ x)
         step q x y h = omega (arith, ints)
 
     ramps_less : (k : ℕ) → m ≤ℤ (Y k -ℤ X k) → total (ramp_flow d (Y k) k) ramps ≤ℤ total (ramp_flow d (X k) k) ramps
-    ramps_less k h = flows_fall d (X k) (Y k) k ramps (weaken _ _ (higher k h))
+    ramps_less k h = flows_fall d (X k) (Y k) k ramps (omega (arith, ints, higher k h))
 
     -- so each is the same
     links_same : (k : ℕ) → k < n → m ≤ℤ (Y k -ℤ X k) → link_flow n a X k ≤ℤ link_flow n a Y k
-    links_same k i h = step _ _ _ _ _ _ (loses k i) (gains k i) (own_less k h) (ramps_less k h)
-      where
-        step : (l o r l' o' r' : ℤ) → (l +ℤ o +ℤ r) ≤ℤ pos 0 → pos 0 ≤ℤ (l' +ℤ o' +ℤ r') → o' ≤ℤ o → r' ≤ℤ r → l ≤ℤ l'
-        step l o r l' o' r' h k p s = omega (arith, ints)
+    links_same k i h = omega (arith, ints, loses k i, gains k i, own_less k h, ramps_less k h)
 
     own_same : (k : ℕ) → k < n → m ≤ℤ (Y k -ℤ X k) → (pos d *ℤ q k -ℤ pos (b k) *ℤ X k) ≤ℤ (pos d *ℤ q k -ℤ pos (b k) *ℤ Y k)
-    own_same k i h = step _ _ _ _ _ _ (loses k i) (gains k i) (links_less k h) (ramps_less k h)
-      where
-        step : (l o r l' o' r' : ℤ) → (l +ℤ o +ℤ r) ≤ℤ pos 0 → pos 0 ≤ℤ (l' +ℤ o' +ℤ r') → l' ≤ℤ l → r' ≤ℤ r → o ≤ℤ o'
-        step l o r l' o' r' h k p s = omega (arith, ints)
+    own_same k i h = omega (arith, ints, loses k i, gains k i, links_less k h, ramps_less k h)
 
     ramps_same : (k : ℕ) → k < n → m ≤ℤ (Y k -ℤ X k) → total (ramp_flow d (X k) k) ramps ≤ℤ total (ramp_flow d (Y k) k) ramps
-    ramps_same k i h = step _ _ _ _ _ _ (loses k i) (gains k i) (links_less k h) (own_less k h)
-      where
-        step : (l o r l' o' r' : ℤ) → (l +ℤ o +ℤ r) ≤ℤ pos 0 → pos 0 ≤ℤ (l' +ℤ o' +ℤ r') → l' ≤ℤ l → o' ≤ℤ o → r ≤ℤ r'
-        step l o r l' o' r' h k p s = omega (arith, ints)
+    ramps_same k i h = omega (arith, ints, loses k i, gains k i, links_less k h, own_less k h)
 
     -- no link leaves the set
     closed : IsClosed n a top
@@ -90,11 +71,8 @@ module _ (n : ℕ) (a : ℕ → ℕ → ℤ) (b : ℕ → ℕ) (q : ℕ → ℤ)
 
     -- and no known head conducts there
     loose : (k : ℕ) → k < n → top k ≡ true → b k ≡ 0
-    loose k i inside = none (b k) (X k) (Y k) (higher k (top_is k inside)) (step _ _ _ (own_same k i (top_is k inside)))
+    loose k i inside = none (b k) (X k) (Y k) (higher k (top_is k inside)) (omega (arith, ints, own_same k i (top_is k inside)))
       where
-        step : (q x y : ℤ) → (q -ℤ x) ≤ℤ (q -ℤ y) → y ≤ℤ x
-        step q x y h = omega (arith, ints)
-
         none : (b : ℕ) (x y : ℤ) → x <ℤ y → (pos b *ℤ y) ≤ℤ (pos b *ℤ x) → b ≡ 0
         none zero x y h k = refl
         none (suc b) x y h k = absurd (clash x y h (cancel_le (suc b) y x (omega arith) k))
@@ -110,18 +88,12 @@ module _ (n : ℕ) (a : ℕ → ℕ → ℤ) (b : ℕ → ℕ) (q : ℕ → ℤ)
         (flows_within_full d (X k) (Y k) k ramps (higher k high) (ramps_same k i high))
       where
         step : (d q f l l' o r r' y : ℤ) → y ≡ pos 0 → (l +ℤ o +ℤ r) ≤ℤ pos 0 → l' ≤ℤ l → (d *ℤ q -ℤ y) ≤ℤ o → r' ≤ℤ r → neg_ℤ (d *ℤ f) ≤ℤ r' → (l' +ℤ d *ℤ (q -ℤ f)) ≤ℤ pos 0
-        step d q f l l' o r r' y none h p s t u = rw (mul_sub d q f) (sum _ _ _ _ _ _ _ _ none h p s t u)
-          where
-            sum : (p f l l' o r r' y : ℤ) → y ≡ pos 0 → (l +ℤ o +ℤ r) ≤ℤ pos 0 → l' ≤ℤ l → (p -ℤ y) ≤ℤ o → r' ≤ℤ r → neg_ℤ f ≤ℤ r' → (l' +ℤ (p -ℤ f)) ≤ℤ pos 0
-            sum p f l l' o r r' y e h s t u v = omega (arith, ints)
+        step d q f l l' o r r' y none h p s t u = rw (mul_sub d q f) (omega (arith, ints))
 
     pub no_highest : IsHeldFromBelow n a b q ramps → (c : ℕ) → c < n → Y c -ℤ X c ≡ m → ⊥
     no_highest held c i e =
-        let (T, carried) = held top closed loose c i (is_top c (same _ _ e)) in
+        let (T, carried) = held top closed loose c i (is_top c (omega (arith, ints))) in
         carried_gain n a T Y (deep n a b q ramps) d both carried.closed some carried.carries (λ k h inside. deep_at_most k h (carried.within k h inside))
-      where
-        same : (x y : ℤ) → x ≡ y → y ≤ℤ x
-        same x y e = omega (arith, ints)
 
 -- heads X at which no cell gains water lie nowhere below heads Y at which no cell loses water
 pub comparison : (n : ℕ) (a : ℕ → ℕ → ℤ) (b : ℕ → ℕ) (q : ℕ → ℤ) (ramps : List Ramp) → AreMutual n a → IsHeldFromBelow n a b q ramps →
@@ -135,7 +107,4 @@ comparison n a b q ramps both held d X Y some loses gains i h =
       | inl none ↦ absurd (not_zero m over none)
       | inr (c, inside, e) ↦ absurd (no_highest n a b q ramps both d X Y some loses gains m over above held c inside e)
     ])
-    (λ le. done (X i) (Y i) m (above i h) le)
-  where
-    done : (x y m : ℤ) → (y -ℤ x) ≤ℤ m → m ≤ℤ pos 0 → y ≤ℤ x
-    done x y m h k = omega (arith, ints)
+    (λ le. omega (arith, ints, above i h))

@@ -12,32 +12,23 @@ All-back R P Q each (x ∷ xs) (y ∷ ys) h a = All-cons P x xs (each x y h.0 (A
 
 pub weight_nonneg : (xs : List WholeLink) (k : ℕ) → pos 0 ≤ℤ weight xs k
 weight_nonneg [] k = omega (arith, ints)
-weight_nonneg (x ∷ xs) k = sum _ _ (cases (nat_eq x.cell k)) (weight_nonneg xs k)
+weight_nonneg (x ∷ xs) k = omega (arith, ints, cases (nat_eq x.cell k), weight_nonneg xs k)
   where
     cases : (s : Bool) → pos 0 ≤ℤ cond s (pos x.c) (pos 0)
     cases true = omega (arith, ints)
     cases false = omega (arith, ints)
-
-    sum : (x y : ℤ) → pos 0 ≤ℤ x → pos 0 ≤ℤ y → pos 0 ≤ℤ (x +ℤ y)
-    sum x y h k = omega (arith, ints)
 
 -- each link that conducts gives weight to the cell that it leads to
 pub links_lead_to_weight : (S : ℕ → Type 0) (n : ℕ) (xs : List WholeLink) → ((k : ℕ) → k < n → pos 0 <ℤ weight xs k → S k) → All (λ x. 0 < x.c → x.cell < n → S x.cell) xs
 links_lead_to_weight S n [] h = All-nil (λ x. 0 < x.c → x.cell < n → S x.cell)
 links_lead_to_weight S n (x ∷ xs) h =
     All-cons (λ x. 0 < x.c → x.cell < n → S x.cell) x xs
-    (λ c i. h x.cell i (rw (eq-eqb x.cell x.cell refl) (first _ _ c (weight_nonneg xs x.cell))))
-    (links_lead_to_weight S n xs (λ k i w. h k i (later _ _ (nonneg (nat_eq x.cell k)) w)))
+    (λ c i. h x.cell i (rw (eq-eqb x.cell x.cell refl) (omega (arith, ints, weight_nonneg xs x.cell))))
+    (links_lead_to_weight S n xs (λ k i w. h k i (omega (arith, ints, nonneg (nat_eq x.cell k)))))
   where
-    first : (c : ℕ) (w : ℤ) → 0 < c → pos 0 ≤ℤ w → pos 0 <ℤ (pos c +ℤ w)
-    first c w h k = omega (arith, ints)
-
     nonneg : (s : Bool) → pos 0 ≤ℤ cond s (pos x.c) (pos 0)
     nonneg true = omega (arith, ints)
     nonneg false = omega (arith, ints)
-
-    later : (a b : ℤ) → pos 0 ≤ℤ a → pos 0 <ℤ b → pos 0 <ℤ (a +ℤ b)
-    later a b h k = omega (arith, ints)
 
 -- and where weight is, a link leads
 pub weight_is_of_links : (T : ℕ → Type 0) (xs : List WholeLink) (k : ℕ) → All (λ x. T x.cell) xs → pos 0 <ℤ weight xs k → T k
@@ -48,63 +39,33 @@ weight_is_of_links T [] k all h = absurd (never h)
 weight_is_of_links T (x ∷ xs) k all h =
     elim (cases_eq x.cell k) [
       | inl e ↦ subst (λ (z : ℕ). T z) e (All-head (λ x. T x.cell) x xs all)
-      | inr e ↦ weight_is_of_links T xs k (All-tail (λ x. T x.cell) x xs all) (rest _ (rw (ne_eqb x.cell k e) at h))
+      | inr e ↦ weight_is_of_links T xs k (All-tail (λ x. T x.cell) x xs all) (omega (arith, ints, rw (ne_eqb x.cell k e) at h))
     ]
-  where
-    rest : (w : ℤ) → pos 0 <ℤ (pos 0 +ℤ w) → pos 0 <ℤ w
-    rest w h = omega (arith, ints)
 
 -- where conductances sum to 0, each is 0
 pub none_conduct : {X : Type 0} (f : X → ℕ) (xs : List X) → total (λ x. pos (f x)) xs ≡ pos 0 → All (λ x. f x ≡ 0) xs
 none_conduct f [] h = All-nil (λ x. f x ≡ 0)
-none_conduct f (x ∷ xs) h = All-cons (λ x. f x ≡ 0) x xs (first _ _ (nonneg xs) h) (none_conduct f xs (rest _ _ (nonneg xs) h))
+none_conduct f (x ∷ xs) h = All-cons (λ x. f x ≡ 0) x xs (omega (arith, ints, nonneg xs)) (none_conduct f xs (omega (arith, ints, nonneg xs)))
   where
     nonneg : (ys : List _) → pos 0 ≤ℤ total (λ x. pos (f x)) ys
     nonneg [] = omega (arith, ints)
-    nonneg (y ∷ ys) = sum _ _ (nonneg ys)
-      where
-        sum : (a : ℕ) (b : ℤ) → pos 0 ≤ℤ b → pos 0 ≤ℤ (pos a +ℤ b)
-        sum a b h = omega (arith, ints)
-
-    first : (a : ℕ) (b : ℤ) → pos 0 ≤ℤ b → pos a +ℤ b ≡ pos 0 → a ≡ 0
-    first a b h e = omega (arith, ints)
-
-    rest : (a : ℕ) (b : ℤ) → pos 0 ≤ℤ b → pos a +ℤ b ≡ pos 0 → b ≡ pos 0
-    rest a b h e = omega (arith, ints)
+    nonneg (y ∷ ys) = omega (arith, ints, nonneg ys)
 
 pub total_positive : {X : Type 0} (f : X → ℕ) (xs : List X) → pos 0 ≤ℤ total (λ x. pos (f x)) xs
 total_positive f [] = omega (arith, ints)
-total_positive f (x ∷ xs) = sum _ _ (total_positive f xs)
-  where
-    sum : (a : ℕ) (b : ℤ) → pos 0 ≤ℤ b → pos 0 ≤ℤ (pos a +ℤ b)
-    sum a b h = omega (arith, ints)
+total_positive f (x ∷ xs) = omega (arith, ints, total_positive f xs)
 
 pub no_known_conductance : (xs : List WholeFixed) → known_conductance xs ≡ 0 → All (λ x. x.c ≡ 0) xs
 no_known_conductance [] h = All-nil (λ x. x.c ≡ 0)
-no_known_conductance (x ∷ xs) h = All-cons (λ x. x.c ≡ 0) x xs (first x.c (known_conductance xs) h) (no_known_conductance xs (rest x.c (known_conductance xs) h))
-  where
-    first : (a b : ℕ) → a + b ≡ 0 → a ≡ 0
-    first a b e = omega arith
-
-    rest : (a b : ℕ) → a + b ≡ 0 → b ≡ 0
-    rest a b e = omega arith
+no_known_conductance (x ∷ xs) h = All-cons (λ x. x.c ≡ 0) x xs (omega arith) (no_known_conductance xs (omega arith))
 
 pub no_known_flow : (xs : List WholeFixed) → known_conductance xs ≡ 0 → total known_flow xs ≡ pos 0
 no_known_flow [] h = refl
-no_known_flow (x ∷ xs) h = rw (first x.c (known_conductance xs) h, no_known_flow xs (rest x.c (known_conductance xs) h)) (none x.head)
+no_known_flow (x ∷ xs) h = let e : x.c ≡ 0 = omega arith in rw (e, no_known_flow xs (omega arith)) (none x.head)
   where
-    first : (a b : ℕ) → a + b ≡ 0 → a ≡ 0
-    first a b e = omega arith
-
-    rest : (a b : ℕ) → a + b ≡ 0 → b ≡ 0
-    rest a b e = omega arith
-
     none : (z : ℤ) → pos 0 *ℤ z +ℤ pos 0 ≡ pos 0
     none z = rw (zero-*ℤ z) refl
 
 pub total_nothing : {X : Type 0} (f : X → ℕ) (xs : List X) → total (λ x. pos (f x) *ℤ pos 0) xs ≡ pos 0
 total_nothing f [] = refl
-total_nothing f (x ∷ xs) = rw (total_nothing f xs) (none (f x))
-  where
-    none : (c : ℕ) → pos c *ℤ pos 0 +ℤ pos 0 ≡ pos 0
-    none c = omega (arith, ints)
+total_nothing f (x ∷ xs) = rw (total_nothing f xs) (omega (arith, ints))

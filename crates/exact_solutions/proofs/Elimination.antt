@@ -34,13 +34,10 @@ pivot_positive n a D nonneg mono =
     draws : (D n -ℤ a n n) ≤ℤ pos 0 → (i : ℕ) → i < suc n → sum_below (suc n) (λ j. a i j *ℤ with_last n (pos 0) (negsuc 0) (λ k. pos 0) j) ≤ℤ (D i *ℤ with_last n (pos 0) (negsuc 0) (λ k. pos 0) i)
     draws h i k =
         rw (row i, minus (a i n)) (elim (cases_eq i n) [
-          | inl e ↦ rw e (rw (with_last-at n (pos 0) (negsuc 0) (λ k. pos 0), minus (D n)) (turned _ _ h))
+          | inl e ↦ rw e (rw (with_last-at n (pos 0) (negsuc 0) (λ k. pos 0), minus (D n)) (omega (arith, ints)))
           | inr e ↦ rw (with_last-below n (pos 0) (negsuc 0) (λ k. pos 0) i (omega arith)) (rest (D i) (a i n) (nonneg i n))
         ])
       where
-        turned : (d b : ℤ) → (d -ℤ b) ≤ℤ pos 0 → neg_ℤ b ≤ℤ neg_ℤ d
-        turned d b h = omega (arith, ints)
-
         rest : (d b : ℤ) → pos 0 ≤ℤ b → neg_ℤ b ≤ℤ (d *ℤ (pos 0 *ℤ pos 0))
         rest d b h = rw (*ℤ-zero d) (omega (arith, ints))
 

@@ -5,8 +5,7 @@ use Rattle.exact_solutions.proofs.Ramps.{Ramp, rise, AreMutual, IsHeldFromBelow,
 use Rattle.exact_solutions.proofs.Rises.{rise-no_extent, rise-no_top, rise-between}
 use Rattle.exact_solutions.proofs.Added.{conductance_added, flow_added}
 use Rattle.exact_solutions.proofs.LinearSteps.{linear_solution, not_loose}
-use Rattle.exact_solutions.proofs.AtCell.{cond_same, cond_none}
-use Rattle.exact_solutions.proofs.Regimes.{ramp, held_middle}
+use Rattle.exact_solutions.proofs.Regimes.{cond_same, cond_none, ramp, held_middle}
 use Rattle.exact_solutions.proofs.OneRamp.{OthersSolved, solution-idle, solution-below_foot, solution-between, solution-above_top}
 use Rattle.exact_solutions.proofs.Sinking.{sinking_middle, sinking_exists}
 
@@ -16,11 +15,8 @@ module _ (n : ℕ) (a : ℕ → ℕ → ℤ) (both : AreMutual n a) (rs : List R
   conducting_ramp k c t None b q inside held sinks =
       let (d, X, middle) = others (conductance_added k (suc c) b) (flow_added k (pos (suc c) *ℤ t) q) (held_middle n a b q rs k c t None held) (sinking_middle n a b q rs k (suc c) t None sinks) in
       by_lt_z (X k) (t *ℤ pos d)
-      (λ lt. solution-below_foot n a both rs others k (suc c) t b q None inside held d X middle (weaken _ _ lt))
+      (λ lt. solution-below_foot n a both rs others k (suc c) t b q None inside held d X middle (omega (arith, ints)))
       (λ le. solution-between n a both rs others k (suc c) t b q None d X middle (rise-no_top t d (X k) le))
-    where
-      weaken : (x y : ℤ) → x <ℤ y → x ≤ℤ y
-      weaken x y h = omega (arith, ints)
   conducting_ramp k c t (Some u) b q inside held sinks =
       by_lt_z u t
       (λ lt. solution-idle n a both rs others b q (ramp k (suc c) t (Some u)) held sinks (λ d x i h. cond_same k i _ (pos 0) (λ same. gone (rise-no_extent t u d x (weaken _ _ lt))) ∙ cond_none k i))

@@ -2,12 +2,10 @@
 use Rattle.exact_solutions.proofs.Common.{◌*◌, ◌^◌, ◌∙◌, arith, length, pos, mul-pos, step_common, mutual_whole, whole_step, CellWithin, AllZip-length, swap}
 use Rattle.decimal_input.proofs.Powers.{ten_pos}
 use Rattle.cell_balance.specs.Enclosures.{CellEncloses}
-use Rattle.cell_balance.proofs.Enclosed.{step_within}
-use Rattle.cell_balance.proofs.Linked.{linked, links_good}
+use Rattle.cell_balance.proofs.Enclosed.{step_within, linked, links_good}
 use Rattle.exact_solutions.specs.HeldLaws.{HeldHaveASolution, HeldHaveAtMostOne}
-use Rattle.exact_solutions.proofs.Equal.{cancel_same}
+use Rattle.exact_solutions.proofs.Scaling.{cancel_same, one_whole_solution}
 use Rattle.exact_solutions.proofs.Shares.{crossed_same}
-use Rattle.exact_solutions.proofs.Scaling.{one_whole_solution}
 use Rattle.exact_solutions.proofs.Existence.{whole_solution_exists}
 use Rattle.exact_solutions.proofs.WholeRamps.{ramps_from, a_of, b_of, q_of}
 use Rattle.exact_solutions.proofs.HeldWholes.{both_ways, held_below, held_above}

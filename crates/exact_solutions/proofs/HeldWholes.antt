@@ -50,10 +50,7 @@ module _ (m n : ℕ) (some_m : 0 < m) (some_n : 0 < n) (p : List Entries) (w : L
 
     -- what certainly conducts in the problem conducts
     some_conducts : (lo hi c : ℕ) → IsBetweenWhole lo hi m c → c ≡ 0 → 0 < lo → ⊥
-    some_conducts lo hi c between none h = never c (conducting m lo c some_m h between.lower) none
-      where
-        never : (c : ℕ) → 0 < c → c ≡ 0 → ⊥
-        never c h e = omega arith
+    some_conducts lo hi c between none h = omega (arith, conducting m lo c some_m h between.lower)
 
     no_fixed : (c : ℕ) → c < length p → b_of w c ≡ 0 → All (λ x. 0 < x.lo → ⊥) (entries_at p c).fixed
     no_fixed c i none = All-back (FixedWithin m n) (λ x. 0 < x.lo → ⊥) (λ x. x.c ≡ 0) (λ x y r e. some_conducts x.lo x.hi y.c r.c e) (entries_at p c).fixed (whole_at w c).fixed (cell_within c i).fixed (no_known_conductance (whole_at w c).fixed none)

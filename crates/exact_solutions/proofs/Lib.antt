@@ -1,5 +1,5 @@
 mod Common
-pub mod Equal
+pub mod Scaling
 pub mod Shares
 pub mod Ramps
 pub mod LastCell
@@ -9,10 +9,8 @@ pub mod Rises
 pub mod RampFlows
 pub mod TightSums
 pub mod Comparison
-pub mod Scaling
 pub mod Added
 pub mod LinearSteps
-pub mod AtCell
 pub mod Regimes
 pub mod OneRamp
 pub mod Sinking

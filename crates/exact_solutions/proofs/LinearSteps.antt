@@ -25,13 +25,10 @@ module _ (n : ℕ) (a : ℕ → ℕ → ℤ) (b : ℕ → ℕ) (both : AreMutual
   inverse_positive : IsInversePositive n a (total_conductance n a b)
   inverse_positive X draws i h =
       comparison n a b (λ k. pos 0) [] both (λ S closed none c g inside. absurd (known S closed none c g inside)) 1 X (λ k. pos 0) (omega arith)
-      (λ k g. loses _ _ _ _ _ (sum_below-differences n (a k) X (X k)) (add_mul (sum_below n (a k)) (pos (b k)) (X k)) (draws k g))
+      (λ k g. omega (arith, ints, sum_below-differences n (a k) X (X k), add_mul (sum_below n (a k)) (pos (b k)) (X k), draws k g))
       (λ k g. gains _ _ (sum_nonneg n (λ j. a k j *ℤ (pos 0 -ℤ pos 0)) (λ j j_in. nothing (a k j))) (*ℤ-zero (pos (b k))))
       i h
     where
-      loses : (l s t p w : ℤ) → l ≡ s -ℤ t → w ≡ t +ℤ p → s ≤ℤ w → (l +ℤ (pos 1 *ℤ pos 0 -ℤ p) +ℤ pos 0) ≤ℤ pos 0
-      loses l s t p w e f h = omega (arith, ints)
-
       gains : (l p : ℤ) → pos 0 ≤ℤ l → p ≡ pos 0 → pos 0 ≤ℤ (l +ℤ (pos 1 *ℤ pos 0 -ℤ p) +ℤ pos 0)
       gains l p h e = omega (arith, ints)
 
@@ -45,24 +42,18 @@ module _ (n : ℕ) (a : ℕ → ℕ → ℤ) (b : ℕ → ℕ) (both : AreMutual
         X,
         record {
           some = is.some;
-          solves = λ i h. zero _ (sum_below n (λ j. a i j *ℤ X j)) (sum_below n (a i) *ℤ X i) (pos (b i) *ℤ X i) _ (pos d *ℤ q i) (sum_below-differences n (a i) X (X i)) (add_mul (sum_below n (a i)) (pos (b i)) (X i)) (is.solves i h);
+          solves = λ i h. omega (arith, ints, sum_below-differences n (a i) X (X i), add_mul (sum_below n (a i)) (pos (b i)) (X i), is.solves i h);
         },
       )
-    where
-      zero : (l s t p w q : ℤ) → l ≡ s -ℤ t → w ≡ t +ℤ p → w ≡ s +ℤ q → l +ℤ (q -ℤ p) +ℤ pos 0 ≡ pos 0
-      zero l s t p w q e f h = omega (arith, ints)
 
 -- where there are heads at which no cell gains water, a step that is held from below has a known head at each closed set
 pub not_loose : (n : ℕ) (a : ℕ → ℕ → ℤ) (b : ℕ → ℕ) (q : ℕ → ℤ) → AreMutual n a → IsHeldFromBelow n a b q [] → (d : ℕ) (Z : ℕ → ℤ) → 0 < d → ((i : ℕ) → i < n → net_flow n a b q [] d Z i ≤ℤ pos 0) → IsNowhereLoose n a b
 not_loose n a b q both held d Z some loses S closed none c h inside =
     let (T, carried) = held S closed none c h inside in
-    carried_gain n a T Z (λ i. q i -ℤ pos 0) d both carried.closed some carried.carries (λ i k e. loss _ _ _ _ (rw (none i k (carried.within i k e)) (zero-*ℤ (Z i))) (same (pos d) (q i)) (loses i k))
+    carried_gain n a T Z (λ i. q i -ℤ pos 0) d both carried.closed some carried.carries (λ i k e. let still : pos (b i) *ℤ Z i ≡ pos 0 = rw (none i k (carried.within i k e)) (zero-*ℤ (Z i)) in omega (arith, ints, same (pos d) (q i), loses i k))
   where
     same : (d q : ℤ) → d *ℤ (q -ℤ pos 0) ≡ d *ℤ q
     same d q = rw (zero q) refl
       where
         zero : (z : ℤ) → z -ℤ pos 0 ≡ z
         zero z = omega (arith, ints)
-
-    loss : (l p q q' : ℤ) → p ≡ pos 0 → q' ≡ q → (l +ℤ (q -ℤ p) +ℤ pos 0) ≤ℤ pos 0 → (l +ℤ q') ≤ℤ pos 0
-    loss l p q q' e f h = omega (arith, ints)

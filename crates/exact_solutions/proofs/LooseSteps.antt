@@ -10,7 +10,7 @@ use Rattle.decimal_input.specs.Ratios.{Ratio}
 use Rattle.decimal_input.proofs.Integers.{le-trans}
 use Rattle.cell_balance.proofs.ExactLaws.{heads_over}
 use Rattle.cell_balance.proofs.Falling.{whole_falls}
-use Rattle.cell_balance.proofs.Order.{over_le, IsOver-inside}
+use Rattle.cell_balance.proofs.EntryScaled.{over_le, IsOver-inside}
 use Rattle.exact_solutions.specs.Loose.{IsLoose}
 use Rattle.exact_solutions.specs.LooseLaws.{DrainedHaveAnother, AfloatHaveAnother}
 use Rattle.exact_solutions.proofs.Lowered.{without_links, lowered, balance-links, lowered_balances}
@@ -63,10 +63,7 @@ flows_at_most_deep u v h fixed evaps =
 
     drains : (xs : List WholeDrain) → total (whole_drain v) xs ≤ℤ pos 0
     drains [] = omega (arith, ints)
-    drains (x ∷ xs) = both _ _ (drain x) (drains xs)
-      where
-        both : (a b : ℤ) → a ≤ℤ pos 0 → b ≤ℤ pos 0 → (a +ℤ b) ≤ℤ pos 0
-        both a b h k = omega (arith, ints)
+    drains (x ∷ xs) = omega (arith, ints, drain x, drains xs)
 
 -- and are its constant flows, where no river or drain conducts either
 flows_constant : (u : WholeCell) (v : ℤ) (h : ℕ → ℤ) → All (λ x. x.c ≡ 0) u.fixed → All (λ x. x.c ≡ 0) u.rivers → All (λ x. x.c ≡ 0) u.drains → length u.evaps ≡ 0 → whole_balance (without_links u) v h ≡ total (λ q. q) u.flows
@@ -98,9 +95,6 @@ module _ (e : List ExactCell) (inside : ℕ → Bool) (linked : AreLinked e) (lo
       All-zip (LinkOver k m) (λ x. inside x.cell ≡ true) (λ x. inside x.cell ≡ true) (λ x y r h. sym (ap inside r.same) ∙ h) (cell_at e c).links (whole_at w c).links (cell_over c here).links (loose.closed c here t)
 
   module _ (Y : ℕ → ℤ) (zeros : (c : ℕ) → c < length w → whole_balance (whole_at w c) (Y c) Y ≡ pos 0) where
-    links_of : ℕ → ℤ
-    links_of c = total (whole_link Y (Y c)) (whole_at w c).links
-
     -- where the deep flows sum to at most 0, each cell of the set gets its deep flow
     module _ (both : IsMutual w) (most : sum_inside (length w) inside (λ c. whole_deep (whole_at w c)) ≤ℤ pos 0) where
       deep_reached : (c : ℕ) → c < length w → inside c ≡ true → whole_deep (whole_at w c) ≤ℤ whole_balance (without_links (whole_at w c)) (Y c) Y
@@ -114,10 +108,7 @@ module _ (e : List ExactCell) (inside : ℕ → Bool) (linked : AreLinked e) (lo
           less : (c : ℕ) → c < length w → (s : Bool) → inside c ≡ s → cond s (whole_balance (whole_at w c) (Y c) Y) (pos 0) ≤ℤ cond s (total (whole_link Y (Y c)) (whole_at w c).links +ℤ whole_deep (whole_at w c)) (pos 0)
           less c i true t =
               let here : c < length e = omega (arith, i, same_length) in
-              at_most _ _ _ _ (balance-links (whole_at w c) (Y c) Y) (flows_at_most_deep (whole_at w c) (Y c) Y (no_fixed c here t) (no_evaps c here t))
-            where
-              at_most : (l d b r : ℤ) → b ≡ l +ℤ r → r ≤ℤ d → b ≤ℤ (l +ℤ d)
-              at_most l d b r e h = omega (arith, ints)
+              omega (arith, ints, balance-links (whole_at w c) (Y c) Y, flows_at_most_deep (whole_at w c) (Y c) Y (no_fixed c here t) (no_evaps c here t))
           less c i false t = omega (arith, ints)
 
           apart : (s : Bool) (x y : ℤ) → cond s (x +ℤ y) (pos 0) ≡ cond s x (pos 0) +ℤ cond s y (pos 0)

@@ -2,8 +2,7 @@
 use Rattle.exact_solutions.proofs.Common.{◌≡◌, ◌<◌, ◌∙◌, ◌+ℤ◌, ◌-ℤ◌, ◌*ℤ◌, [], ◌∷◌, ℕ, inl, inr, sym, ap, arith, ℤ, pos, List, length, All, Bool, true, false}
 use Rattle.exact_solutions.proofs.Common.{cond, AllZip, true≢false, cases_Bool, ints, All-nil, All-cons, All-head, All-tail, All-contains, total, IsClosed}
 use Rattle.exact_solutions.proofs.Common.{HasLinkBack, AreLinked, ExactLink, ExactCell, cell_at, no_cell, LinkOver, CellOver, total-same, WholeLink, WholeCell}
-use Rattle.exact_solutions.proofs.Common.{whole_at, no_whole, whole_link, whole_fixed, whole_river, whole_drain, whole_evap, whole_balance, AllZip-at}
-use Rattle.exact_solutions.proofs.Common.{AllZip-length, All-zip}
+use Rattle.exact_solutions.proofs.Common.{whole_at, no_whole, whole_link, whole_balance, AllZip-at, AllZip-length, All-zip}
 
 -- a cell without its links
 abbrev pub without_links : WholeCell → WholeCell
@@ -13,10 +12,7 @@ abbrev pub lowered : (ℕ → Bool) → (ℕ → ℤ) → ℕ → ℤ
 lowered inside Y k = Y k -ℤ cond (inside k) (pos 1) (pos 0)
 
 pub balance-links : (u : WholeCell) (v : ℤ) (h : ℕ → ℤ) → whole_balance u v h ≡ total (whole_link h v) u.links +ℤ whole_balance (without_links u) v h
-balance-links u v h = regroup (total (λ q. q) u.flows) (total (whole_link h v) u.links) (total (whole_fixed v) u.fixed) (total (whole_river v) u.rivers) (total (whole_drain v) u.drains) (total (whole_evap v) u.evaps)
-  where
-    regroup : (f l k r d e : ℤ) → f +ℤ l +ℤ k +ℤ r +ℤ d +ℤ e ≡ l +ℤ (f +ℤ pos 0 +ℤ k +ℤ r +ℤ d +ℤ e)
-    regroup f l k r d e = omega (arith, ints)
+balance-links u v h = omega (arith, ints)
 
 module _ (e : List ExactCell) (inside : ℕ → Bool) (linked : AreLinked e) (closed : IsClosed e inside) where
   -- no link leads out of the set, and none into it

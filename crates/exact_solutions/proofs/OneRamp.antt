@@ -1,29 +1,18 @@
 -- One ramp more: solve with it as a conductance to its foot; where that head lies on the ramp it is the solution, else solve without the ramp, or with its full rate.
 use Rattle.exact_solutions.proofs.Common.{◌*ℤ◌, ◌+ℤ◌, ◌-ℤ◌, ◌<◌, ◌∙◌, ◌∷◌, ◌≡◌, ◌≤ℤ◌, List, Option, Some, ap, arith, cond, nat_eq, neg_ℤ, pos, refl, subst, sym}
 use Rattle.exact_solutions.proofs.Common.{ℕ, ℤ, *ℤ-zero, ints, cancel_right, mul_mono_right, swap, loss_falls, as_diff, diffs, mul_mono, same_diff, sub_mul}
-use Rattle.exact_solutions.proofs.Equal.{same_at_most, same_at_least}
+use Rattle.exact_solutions.proofs.Scaling.{same_at_most, same_at_least, comparison_over}
 use Rattle.exact_solutions.proofs.Ramps.{Ramp, rise, ramp_flow, AreMutual, net_flow, IsHeldFromBelow, IsSolution, HasWholeSolution, IsSinking, HasSinking}
 use Rattle.exact_solutions.proofs.Rises.{rise_within_extent, rise-below_foot, rise-above_top, extent-between}
-use Rattle.exact_solutions.proofs.Scaling.{comparison_over}
 use Rattle.exact_solutions.proofs.Added.{net_flow-cons, conductance_added, flow_added, net_flow-added}
-use Rattle.exact_solutions.proofs.AtCell.{cond_same, cond_less, cond_nonneg, cond_none}
-use Rattle.exact_solutions.proofs.Regimes.{ramp, flow-middle, flow-full, held_without, held_full}
+use Rattle.exact_solutions.proofs.Regimes.{cond_same, cond_less, cond_nonneg, cond_none, ramp, flow-middle, flow-full, held_without, held_full}
 
 -- (y * e ≤ x * d), and x at most t * e
 below_over : (e d : ℕ) (x y t : ℤ) → 0 < e → (y *ℤ pos e) ≤ℤ (x *ℤ pos d) → x ≤ℤ (t *ℤ pos e) → y ≤ℤ (t *ℤ pos d)
-below_over e d x y t some h k = cancel_right e y (t *ℤ pos d) some (step _ _ _ _ (swap t (pos e) (pos d)) h (mul_mono_right d x (t *ℤ pos e) k))
-  where
-    step : (a c f g : ℤ) → c ≡ f → a ≤ℤ g → g ≤ℤ c → a ≤ℤ f
-    step a c f g q h k = omega (arith, ints)
+below_over e d x y t some h k = cancel_right e y (t *ℤ pos d) some (omega (arith, ints, swap t (pos e) (pos d), mul_mono_right d x (t *ℤ pos e) k))
 
 above_over : (e d : ℕ) (x y u : ℤ) → 0 < e → (x *ℤ pos d) ≤ℤ (y *ℤ pos e) → (u *ℤ pos e) ≤ℤ x → (u *ℤ pos d) ≤ℤ y
-above_over e d x y u some h k = cancel_right e (u *ℤ pos d) y some (step _ _ _ _ (swap u (pos e) (pos d)) h (mul_mono_right d (u *ℤ pos e) x k))
-  where
-    step : (a c f g : ℤ) → c ≡ f → g ≤ℤ a → c ≤ℤ g → f ≤ℤ a
-    step a c f g q h k = omega (arith, ints)
-
-both_zero : (x y : ℤ) → x ≡ pos 0 → y ≡ pos 0 → x +ℤ y ≡ pos 0
-both_zero x y e f = omega (arith, ints)
+above_over e d x y u some h k = cancel_right e (u *ℤ pos d) y some (omega (arith, ints, swap u (pos e) (pos d), mul_mono_right d (u *ℤ pos e) x k))
 
 -- the other ramps, with whatever known heads and flows, have a solution where they are held and some heads let no cell gain water
 abbrev pub OthersSolved : ℕ → (ℕ → ℕ → ℤ) → List Ramp → Type 0
@@ -33,11 +22,8 @@ module _ (n : ℕ) (a : ℕ → ℕ → ℤ) (both : AreMutual n a) (rs : List R
   -- a ramp that never carries anything
   pub solution-idle : (b : ℕ → ℕ) (q : ℕ → ℤ) (r : Ramp) → IsHeldFromBelow n a b q (r ∷ rs) → HasSinking n a b q (r ∷ rs) → ((d : ℕ) (x : ℤ) (i : ℕ) → i < n → ramp_flow d x i r ≡ pos 0) → HasWholeSolution n a b q (r ∷ rs)
   solution-idle b q r held (e, Z, sinks) idle =
-      let (d, X, is) = others b q (held_without n a b q rs r held) (e, Z, record { some = sinks.some; loses = λ i h. loss _ _ _ (net_flow-cons n a b q r rs e Z i) (idle e (Z i) i h) (sinks.loses i h) }) in
-      (d, X, record { some = is.some; solves = λ i h. net_flow-cons n a b q r rs d X i ∙ both_zero _ _ (is.solves i h) (idle d (X i) i h) })
-    where
-      loss : (whole part flow : ℤ) → whole ≡ part +ℤ flow → flow ≡ pos 0 → whole ≤ℤ pos 0 → part ≤ℤ pos 0
-      loss whole part flow e f h = omega (arith, ints)
+      let (d, X, is) = others b q (held_without n a b q rs r held) (e, Z, record { some = sinks.some; loses = λ i h. omega (arith, ints, net_flow-cons n a b q r rs e Z i, idle e (Z i) i h, sinks.loses i h) }) in
+      (d, X, record { some = is.some; solves = λ i h. net_flow-cons n a b q r rs d X i ∙ omega (arith, ints, is.solves i h, idle d (X i) i h) })
 
   module _ (k c : ℕ) (t : ℤ) (b : ℕ → ℕ) (q : ℕ → ℤ) where
     -- the step with the ramp as a conductance to its foot
@@ -50,24 +36,18 @@ module _ (n : ℕ) (a : ℕ → ℕ → ℤ) (both : AreMutual n a) (rs : List R
     -- its head lies below the foot: then it lets no cell gain water without the ramp, and the solution without the ramp lies lower still
     pub solution-below_foot : (top : Option ℤ) → k < n → IsHeldFromBelow n a b q (ramp k c t top ∷ rs) → (e : ℕ) (X : ℕ → ℤ) → MiddleSolution e X → X k ≤ℤ (t *ℤ pos e) → HasWholeSolution n a b q (ramp k c t top ∷ rs)
     solution-below_foot top inside held e X middle under =
-        let sinks : IsSinking n a b q rs e X = record { some = middle.some; loses = λ i h. loss _ _ _ (middle_flow e X i) (middle.solves i h) (gives i) } in
+        let sinks : IsSinking n a b q rs e X = record { some = middle.some; loses = λ i h. omega (arith, ints, middle_flow e X i, middle.solves i h, gives i) } in
         let held' = held_without n a b q rs (ramp k c t top) held in
         let (d, Y, is) = others b q held' (e, X, sinks) in
         let less = comparison_over n a b q rs both held' e d X Y middle.some is.some sinks.loses (λ i h. same_at_least _ _ (is.solves i h)) k inside in
         let low = below_over e d (X k) (Y k) t middle.some less under in
-        (d, Y, record { some = is.some; solves = λ i h. net_flow-cons n a b q (ramp k c t top) rs d Y i ∙ both_zero _ _ (is.solves i h) (dry d Y low i) })
+        (d, Y, record { some = is.some; solves = λ i h. net_flow-cons n a b q (ramp k c t top) rs d Y i ∙ omega (arith, ints, is.solves i h, dry d Y low i) })
       where
         gives : (i : ℕ) → pos 0 ≤ℤ cond (nat_eq k i) (pos e *ℤ (pos c *ℤ t) -ℤ pos c *ℤ X i) (pos 0)
-        gives i = cond_nonneg k i _ (λ same. step _ _ _ (ring (pos e) (pos c) t) (mul_mono c (X i) (t *ℤ pos e) (subst (λ (z : ℕ). X z ≤ℤ (t *ℤ pos e)) same under)))
+        gives i = cond_nonneg k i _ (λ same. omega (arith, ints, ring (pos e) (pos c) t, mul_mono c (X i) (t *ℤ pos e) (subst (λ (z : ℕ). X z ≤ℤ (t *ℤ pos e)) same under)))
           where
             ring : (e c t : ℤ) → c *ℤ (t *ℤ e) ≡ e *ℤ (c *ℤ t)
             ring e c t = rw (as_diff e, as_diff c, as_diff t) (simp diffs (same_diff _ _ _ _ (omega arith)))
-
-            step : (x y z : ℤ) → y ≡ z → x ≤ℤ y → pos 0 ≤ℤ (z -ℤ x)
-            step x y z e h = omega (arith, ints)
-
-        loss : (whole part flow : ℤ) → whole ≡ part +ℤ flow → whole ≡ pos 0 → pos 0 ≤ℤ flow → part ≤ℤ pos 0
-        loss whole part flow e f h = omega (arith, ints)
 
         dry : (d : ℕ) (Y : ℕ → ℤ) → Y k ≤ℤ (t *ℤ pos d) → (i : ℕ) → ramp_flow d (Y i) i (ramp k c t top) ≡ pos 0
         dry d Y low i = cond_same k i _ (pos 0) (λ same. gone (rise-below_foot t top d (Y i) (subst (λ (z : ℕ). Y z ≤ℤ (t *ℤ pos d)) same low))) ∙ cond_none k i
@@ -93,8 +73,8 @@ module _ (n : ℕ) (a : ℕ → ℕ → ℤ) (both : AreMutual n a) (rs : List R
     pub solution-above_top : (u : ℤ) → t ≤ℤ u → k < n → IsHeldFromBelow n a b q (ramp k c t (Some u) ∷ rs) → HasSinking n a b q (ramp k c t (Some u) ∷ rs) → (d : ℕ) (X : ℕ → ℤ) → MiddleSolution d X → (u *ℤ pos d) ≤ℤ X k → HasWholeSolution n a b q (ramp k c t (Some u) ∷ rs)
     solution-above_top u up inside held (e, Z, sinks) d X middle over =
         let held' = held_full n a b q rs k c t u up held in
-        let (f, Y, is) = others (conductance_added k 0 b) full_q held' (e, Z, record { some = sinks.some; loses = λ i h. loss _ _ _ _ _ (full_flow e Z i) (net_flow-cons n a b q (ramp k c t (Some u)) rs e Z i) (takes i) (sinks.loses i h) }) in
-        let more = comparison_over n a (conductance_added k 0 b) full_q rs both held' f d Y X is.some middle.some (λ i h. same_at_most _ _ (is.solves i h)) (λ i h. gain _ _ _ _ _ (full_flow d X i) (middle_flow d X i) (gives i) (middle.solves i h)) k inside in
+        let (f, Y, is) = others (conductance_added k 0 b) full_q held' (e, Z, record { some = sinks.some; loses = λ i h. omega (arith, ints, full_flow e Z i, net_flow-cons n a b q (ramp k c t (Some u)) rs e Z i, takes i, sinks.loses i h) }) in
+        let more = comparison_over n a (conductance_added k 0 b) full_q rs both held' f d Y X is.some middle.some (λ i h. same_at_most _ _ (is.solves i h)) (λ i h. omega (arith, ints, full_flow d X i, middle_flow d X i, gives i, middle.solves i h)) k inside in
         let high = above_over d f (X k) (Y k) u middle.some more over in (
           f,
           Y,
@@ -113,17 +93,8 @@ module _ (n : ℕ) (a : ℕ → ℕ → ℤ) (both : AreMutual n a) (rs : List R
         full_flow : (e : ℕ) (X : ℕ → ℤ) (i : ℕ) → net_flow n a (conductance_added k 0 b) (flow_added k (neg_ℤ (pos c *ℤ (u -ℤ t))) q) rs e X i ≡ net_flow n a b q rs e X i +ℤ cond (nat_eq k i) (pos e *ℤ neg_ℤ (pos c *ℤ (u -ℤ t)) -ℤ pos 0 *ℤ X i) (pos 0)
         full_flow e X i = net_flow-added n a b q rs k 0 (neg_ℤ (pos c *ℤ (u -ℤ t))) e X i
 
-        loss : (full part flow whole ramps : ℤ) → full ≡ part +ℤ flow → whole ≡ part +ℤ ramps → flow ≤ℤ ramps → whole ≤ℤ pos 0 → full ≤ℤ pos 0
-        loss full part flow whole ramps e f h k = omega (arith, ints)
-
-        gain : (full part flow whole ramps : ℤ) → full ≡ part +ℤ flow → whole ≡ part +ℤ ramps → ramps ≤ℤ flow → whole ≡ pos 0 → pos 0 ≤ℤ full
-        gain full part flow whole ramps e f h k = omega (arith, ints)
-
         takes : (i : ℕ) → cond (nat_eq k i) (pos e *ℤ neg_ℤ (pos c *ℤ (u -ℤ t)) -ℤ pos 0 *ℤ Z i) (pos 0) ≤ℤ ramp_flow e (Z i) i (ramp k c t (Some u))
         takes i = cond_less k i _ _ (λ same. rw (← flow-full (pos e) (pos c) (u -ℤ t) (Z i)) (loss_falls c _ _ (rw (extent-between t u up) at (rise_within_extent t u e (Z i)))))
 
         gives : (i : ℕ) → cond (nat_eq k i) (pos d *ℤ (pos c *ℤ t) -ℤ pos c *ℤ X i) (pos 0) ≤ℤ cond (nat_eq k i) (pos d *ℤ neg_ℤ (pos c *ℤ (u -ℤ t)) -ℤ pos 0 *ℤ X i) (pos 0)
-        gives i = cond_less k i _ _ (λ same. rw (← flow-full (pos d) (pos c) (u -ℤ t) (X i), ← flow-middle (pos d) (pos c) t (X i)) (loss_falls c _ _ (rw sub_mul (low _ _ _ (subst (λ (z : ℕ). (u *ℤ pos d) ≤ℤ X z) same over)))))
-          where
-            low : (u t x : ℤ) → u ≤ℤ x → (u -ℤ t) ≤ℤ (x -ℤ t)
-            low u t x h = omega (arith, ints)
+        gives i = cond_less k i _ _ (λ same. rw (← flow-full (pos d) (pos c) (u -ℤ t) (X i), ← flow-middle (pos d) (pos c) t (X i)) (loss_falls c _ _ (rw sub_mul (omega (arith, ints, subst (λ (z : ℕ). (u *ℤ pos d) ≤ℤ X z) same over)))))

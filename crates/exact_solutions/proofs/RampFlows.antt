@@ -1,6 +1,6 @@
 -- The flows of ramps: they leave the cell, fall as its head rises, and where they are the same at two heads they are within the full rates.
-use Rattle.exact_solutions.proofs.Common.{[], ◌*ℤ◌, ◌+ℤ◌, ◌-ℤ◌, ◌<ℤ◌, ◌∷◌, ◌≡◌, ◌≤ℤ◌, Bool, List, None, Option, Some, arith, cond, false, nat_eq, neg_ℤ, pos}
-use Rattle.exact_solutions.proofs.Common.{suc, true, zero, ℕ, ℤ, int_max, *ℤ-zero, clamps, ints, total, as_diff, diffs, mul_mono, same_diff, cancel_le}
+use Rattle.exact_solutions.proofs.Common.{[], ◌*ℤ◌, ◌+ℤ◌, ◌<ℤ◌, ◌∷◌, ◌≡◌, ◌≤ℤ◌, Bool, List, None, Option, Some, arith, cond, false, nat_eq, neg_ℤ, pos, suc}
+use Rattle.exact_solutions.proofs.Common.{true, zero, ℕ, ℤ, *ℤ-zero, clamps, ints, total, as_diff, diffs, mul_mono, same_diff, cancel_le}
 use Rattle.exact_solutions.proofs.Ramps.{Ramp, rise, extent, ramp_flow, full_rate}
 use Rattle.exact_solutions.proofs.Rises.{rise_grows, rise_within_extent, extent_nonneg, rise_nonneg}
 
@@ -17,48 +17,33 @@ flow_falls d x y i r h = cases (nat_eq r.cell i)
 
 pub flows_fall : (d : ℕ) (x y : ℤ) (i : ℕ) (rs : List Ramp) → x ≤ℤ y → total (ramp_flow d y i) rs ≤ℤ total (ramp_flow d x i) rs
 flows_fall d x y i [] h = omega (arith, ints)
-flows_fall d x y i (r ∷ rs) h = both _ _ _ _ (flow_falls d x y i r h) (flows_fall d x y i rs h)
-  where
-    both : (a b c d : ℤ) → a ≤ℤ b → c ≤ℤ d → (a +ℤ c) ≤ℤ (b +ℤ d)
-    both a b c d h k = omega (arith, ints)
+flows_fall d x y i (r ∷ rs) h = omega (arith, ints, flow_falls d x y i r h, flows_fall d x y i rs h)
 
 -- a ramp that carries no more at the higher of two heads carries at most its full rate
 carries_within_full : (c : ℕ) (t : ℤ) (top : Option ℤ) (d : ℕ) (x y : ℤ) → x <ℤ y → neg_ℤ (pos c *ℤ rise t top d x) ≤ℤ neg_ℤ (pos c *ℤ rise t top d y) → neg_ℤ (pos d *ℤ (pos c *ℤ extent t top)) ≤ℤ neg_ℤ (pos c *ℤ rise t top d y)
 carries_within_full zero t None d x y h k = nothing d
   where
     nothing : (d : ℕ) → neg_ℤ (pos d *ℤ (pos 0 *ℤ pos 0)) ≤ℤ neg_ℤ (pos 0 *ℤ rise t None d y)
-    nothing d = none _ _ (ring (pos d)) (ring_one (rise t None d y))
+    nothing d = omega (arith, ints, ring (pos d), ring_one (rise t None d y))
       where
         ring : (d : ℤ) → d *ℤ (pos 0 *ℤ pos 0) ≡ pos 0
         ring d = omega (arith, ints)
 
         ring_one : (z : ℤ) → pos 0 *ℤ z ≡ pos 0
         ring_one z = omega (arith, ints)
-
-        none : (x y : ℤ) → x ≡ pos 0 → y ≡ pos 0 → neg_ℤ x ≤ℤ neg_ℤ y
-        none x y h k = omega (arith, ints)
 carries_within_full (suc c) t None d x y h k =
-    let low = cancel_le (suc c) (rise t None d y) (rise t None d x) (omega arith) (turned _ _ k) in
-    step (pos d) (pos (suc c)) (rise t None d y) (dry x y (t *ℤ pos d) h low)
+    let low = cancel_le (suc c) (rise t None d y) (rise t None d x) (omega arith) (omega (arith, ints)) in
+    step (pos d) (pos (suc c)) (rise t None d y) (omega (arith, ints, clamps))
   where
-    turned : (p q : ℤ) → neg_ℤ p ≤ℤ neg_ℤ q → q ≤ℤ p
-    turned p q h = omega (arith, ints)
-
-    dry : (x y t : ℤ) → x <ℤ y → int_max (y -ℤ t) (pos 0) ≤ℤ int_max (x -ℤ t) (pos 0) → int_max (y -ℤ t) (pos 0) ≡ pos 0
-    dry x y t h k = omega (arith, ints, clamps)
-
     step : (d c r : ℤ) → r ≡ pos 0 → neg_ℤ (d *ℤ (c *ℤ pos 0)) ≤ℤ neg_ℤ (c *ℤ r)
     step d c r e = rw (e, *ℤ-zero c, *ℤ-zero d) (omega (arith, ints))
 carries_within_full c t (Some u) d x y h k = step (pos d) (pos c) (extent t (Some u)) _ (mul_mono c _ _ (rise_within_extent t u d y))
   where
     step : (d c e r : ℤ) → (c *ℤ r) ≤ℤ (c *ℤ (e *ℤ d)) → neg_ℤ (d *ℤ (c *ℤ e)) ≤ℤ neg_ℤ (c *ℤ r)
-    step d c e r h = turn _ _ _ (ring d c e) h
+    step d c e r h = omega (arith, ints, ring d c e)
       where
         ring : (d c e : ℤ) → c *ℤ (e *ℤ d) ≡ d *ℤ (c *ℤ e)
         ring d c e = rw (as_diff d, as_diff c, as_diff e) (simp diffs (same_diff _ _ _ _ (omega arith)))
-
-        turn : (x y z : ℤ) → x ≡ y → z ≤ℤ x → neg_ℤ y ≤ℤ neg_ℤ z
-        turn x y z e h = omega (arith, ints)
 
 flow_within_full : (d : ℕ) (x y : ℤ) (i : ℕ) (r : Ramp) → x <ℤ y → ramp_flow d x i r ≤ℤ ramp_flow d y i r → neg_ℤ (pos d *ℤ full_rate i r) ≤ℤ ramp_flow d y i r
 flow_within_full d x y i r h k = cases (nat_eq r.cell i) k
@@ -74,22 +59,13 @@ flows_within_full d x y i (r ∷ rs) h k =
     let first = flow_falls d x y i r (omega (arith, ints)) in
     let others = flows_fall d x y i rs (omega (arith, ints)) in
     both (pos d) (full_rate i r) (total (full_rate i) rs) _ _
-    (flow_within_full d x y i r h (tight _ _ _ _ k others)) (flows_within_full d x y i rs h (tight_rest _ _ _ _ k first))
+    (flow_within_full d x y i r h (omega (arith, ints))) (flows_within_full d x y i rs h (omega (arith, ints)))
   where
-    tight : (a b c e : ℤ) → (a +ℤ b) ≤ℤ (c +ℤ e) → e ≤ℤ b → a ≤ℤ c
-    tight a b c e h k = omega (arith, ints)
-
-    tight_rest : (a b c e : ℤ) → (a +ℤ b) ≤ℤ (c +ℤ e) → c ≤ℤ a → b ≤ℤ e
-    tight_rest a b c e h k = omega (arith, ints)
-
     both : (d f g x y : ℤ) → neg_ℤ (d *ℤ f) ≤ℤ x → neg_ℤ (d *ℤ g) ≤ℤ y → neg_ℤ (d *ℤ (f +ℤ g)) ≤ℤ (x +ℤ y)
-    both d f g x y h k = sum _ _ _ _ _ (ring d f g) h k
+    both d f g x y h k = omega (arith, ints, ring d f g)
       where
         ring : (d f g : ℤ) → d *ℤ (f +ℤ g) ≡ d *ℤ f +ℤ d *ℤ g
         ring d f g = rw (as_diff d, as_diff f, as_diff g) (simp diffs (same_diff _ _ _ _ (omega arith)))
-
-        sum : (p a b x y : ℤ) → p ≡ a +ℤ b → neg_ℤ a ≤ℤ x → neg_ℤ b ≤ℤ y → neg_ℤ p ≤ℤ (x +ℤ y)
-        sum p a b x y e h k = omega (arith, ints)
 
 times_nonneg : (c : ℕ) (z : ℤ) → pos 0 ≤ℤ z → pos 0 ≤ℤ (pos c *ℤ z)
 times_nonneg c z h = rw *ℤ-zero at (mul_mono c (pos 0) z h)

@@ -1,11 +1,23 @@
 -- A ramp in one regime: as a conductance to its foot, or at its full rate; and a step that is held stays held where its first ramp is left out or put in one regime.
-use Rattle.exact_solutions.proofs.Common.{◌*ℤ◌, ◌+ℤ◌, ◌-ℤ◌, ◌∙◌, ◌∷◌, ◌≡◌, ◌≤ℤ◌, Bool, List, None, Option, Some, arith, cond, false, nat_eq, neg_ℤ, pos, suc}
-use Rattle.exact_solutions.proofs.Common.{true, ℕ, ℤ, zero-*ℤ, ne_eqb, ints, total, as_diff, diffs, same_diff}
-use Rattle.exact_solutions.proofs.Ramps.{Ramp, full_rate, open_conductance_at, IsHeldFromBelow, IsHeldFromAbove}
+use Rattle.exact_solutions.proofs.Common.{◌≡◌, ◌≤ℤ◌, arith, cond, inl, inr, nat_eq, pos, refl, ℕ, ℤ, cases_eq, eq-eqb, ne_eqb, ints, ◌*ℤ◌, ◌+ℤ◌, ◌-ℤ◌, ◌∙◌, ◌∷◌}
+use Rattle.exact_solutions.proofs.Common.{Bool, List, None, Option, Some, false, neg_ℤ, suc, true, zero-*ℤ, total, as_diff, diffs, same_diff}
+use Rattle.exact_solutions.proofs.Ramps.{Ramp, full_rate, IsHeldFromBelow, IsHeldFromAbove}
 use Rattle.exact_solutions.proofs.Rises.{extent-between}
 use Rattle.exact_solutions.proofs.RampFlows.{full_rate_nonneg}
 use Rattle.exact_solutions.proofs.Added.{held_where_deeper, conductance_added, flow_added, added_zero, added_zero_away, flow_added-away, flow_added-at, conductance_added-at}
-use Rattle.exact_solutions.proofs.AtCell.{cond_none}
+
+-- at one cell alone
+pub cond_same : (k i : ℕ) (x y : ℤ) → (k ≡ i → x ≡ y) → cond (nat_eq k i) x (pos 0) ≡ cond (nat_eq k i) y (pos 0)
+cond_same k i x y h = elim (cases_eq k i) [ inl e ↦ rw (eq-eqb k i e) (h e) | inr e ↦ rw (ne_eqb k i e) refl ]
+
+pub cond_less : (k i : ℕ) (x y : ℤ) → (k ≡ i → x ≤ℤ y) → cond (nat_eq k i) x (pos 0) ≤ℤ cond (nat_eq k i) y (pos 0)
+cond_less k i x y h = elim (cases_eq k i) [ inl e ↦ rw (eq-eqb k i e) (h e) | inr e ↦ rw (ne_eqb k i e) (omega (arith, ints)) ]
+
+pub cond_nonneg : (k i : ℕ) (x : ℤ) → (k ≡ i → pos 0 ≤ℤ x) → pos 0 ≤ℤ cond (nat_eq k i) x (pos 0)
+cond_nonneg k i x h = elim (cases_eq k i) [ inl e ↦ rw (eq-eqb k i e) (h e) | inr e ↦ rw (ne_eqb k i e) (omega (arith, ints)) ]
+
+pub cond_none : (k i : ℕ) → cond (nat_eq k i) (pos 0) (pos 0) ≡ pos 0
+cond_none k i = elim (cases_eq k i) [ inl e ↦ rw (eq-eqb k i e) refl | inr e ↦ rw (ne_eqb k i e) refl ]
 
 abbrev pub ramp : ℕ → ℕ → ℤ → Option ℤ → Ramp
 ramp k c t top = record { cell = k; c = c; foot = t; top = top }
@@ -26,10 +38,7 @@ flow-full e c w x = rw (zero-*ℤ x) (ring e c w ∙ none (e *ℤ neg_ℤ (c *�
 
 module _ (n : ℕ) (a : ℕ → ℕ → ℤ) (b : ℕ → ℕ) (q : ℕ → ℤ) (rs : List Ramp) where
   pub held_without : (r : Ramp) → IsHeldFromBelow n a b q (r ∷ rs) → IsHeldFromBelow n a b q rs
-  held_without r held = held_where_deeper n a b b q q (r ∷ rs) rs held (λ i h e. e) (λ i h e. less _ _ _ (full_rate_nonneg i r))
-    where
-      less : (q f t : ℤ) → pos 0 ≤ℤ f → (q -ℤ (f +ℤ t)) ≤ℤ (q -ℤ t)
-      less q f t h = omega (arith, ints)
+  held_without r held = held_where_deeper n a b b q q (r ∷ rs) rs held (λ i h e. e) (λ i h e. omega (arith, ints, full_rate_nonneg i r))
 
   pub held_middle : (k c : ℕ) (t : ℤ) (top : Option ℤ) → IsHeldFromBelow n a b q (ramp k (suc c) t top ∷ rs) → IsHeldFromBelow n a (conductance_added k (suc c) b) (flow_added k (pos (suc c) *ℤ t) q) rs
   held_middle k c t top held =
@@ -54,14 +63,8 @@ module _ (n : ℕ) (a : ℕ → ℕ → ℤ) (b : ℕ → ℕ) (q : ℕ → ℤ)
 
   -- without a ramp that has a top a step stays held from above, and with one that has none put to its foot
   pub held_above_without : (k c : ℕ) (t u : ℤ) → IsHeldFromAbove n a b q (ramp k c t (Some u) ∷ rs) → IsHeldFromAbove n a b q rs
-  held_above_without k c t u held S closed none m h inside = held S closed (λ i j e. add (pos (b i)) _ (total (open_conductance_at i) rs) (cond_none k i) (none i j e)) m h inside
-    where
-      add : (b x y : ℤ) → x ≡ pos 0 → b +ℤ y ≡ pos 0 → b +ℤ (x +ℤ y) ≡ pos 0
-      add b x y e f = omega (arith, ints)
+  held_above_without k c t u held S closed none m h inside = held S closed (λ i j e. omega (arith, ints, cond_none k i, none i j e)) m h inside
 
   pub held_above_middle : (k c : ℕ) (t : ℤ) → IsHeldFromAbove n a b q (ramp k c t None ∷ rs) → IsHeldFromAbove n a (conductance_added k c b) (flow_added k (pos c *ℤ t) q) rs
   held_above_middle k c t held S closed none m h inside =
-      held S closed (λ i j e. add _ (pos (b i)) (cond (nat_eq k i) (pos c) (pos 0)) (total (open_conductance_at i) rs) (conductance_added-at k c b i) (none i j e)) m h inside
-    where
-      add : (p b x y : ℤ) → p ≡ b +ℤ x → p +ℤ y ≡ pos 0 → b +ℤ (x +ℤ y) ≡ pos 0
-      add p b x y e f = omega (arith, ints)
+      held S closed (λ i j e. omega (arith, ints, conductance_added-at k c b i, none i j e)) m h inside

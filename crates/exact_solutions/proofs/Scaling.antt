@@ -1,10 +1,19 @@
 -- A step over another denominator: net flows scale, and so heads over two denominators compare, and two solutions are the same heads.
-use Rattle.exact_solutions.proofs.Common.{[], ◌*ℤ◌, ◌*◌, ◌+ℤ◌, ◌-ℤ◌, ◌<◌, ◌∙◌, ◌∷◌, ◌≡◌, ◌≤ℤ◌, Bool, List, None, Option, Some, arith, cond, false, nat_eq}
-use Rattle.exact_solutions.proofs.Common.{neg_ℤ, pos, refl, subst, sym, true, ℕ, ℤ, mul-pos, int_min, zero-*ℤ, total, as_diff, diffs, mul_assoc, same_diff}
-use Rattle.exact_solutions.proofs.Common.{max_times, min_times, sum-same, sum-times, add_mul, sub_mul, mul_mono_right, le_anti}
-use Rattle.exact_solutions.proofs.Equal.{same_at_most, same_at_least}
+use Rattle.exact_solutions.proofs.Common.{◌*ℤ◌, ◌<◌, ◌≡◌, ◌≤ℤ◌, arith, pos, ℕ, ℤ, ints, cancel_right, le_anti, [], ◌*◌, ◌+ℤ◌, ◌-ℤ◌, ◌∙◌, ◌∷◌, Bool, List, None}
+use Rattle.exact_solutions.proofs.Common.{Option, Some, cond, false, nat_eq, neg_ℤ, refl, subst, sym, true, mul-pos, int_min, zero-*ℤ, total, as_diff, diffs}
+use Rattle.exact_solutions.proofs.Common.{mul_assoc, same_diff, max_times, min_times, sum-same, sum-times, add_mul, sub_mul, mul_mono_right}
 use Rattle.exact_solutions.proofs.Ramps.{Ramp, rise, ramp_flow, link_flow, AreMutual, net_flow, IsHeldFromBelow, IsSolution}
 use Rattle.exact_solutions.proofs.Comparison.{comparison}
+
+pub same_at_most : (x y : ℤ) → x ≡ y → x ≤ℤ y
+same_at_most x y e = omega (arith, ints)
+
+pub same_at_least : (x y : ℤ) → x ≡ y → y ≤ℤ x
+same_at_least x y e = omega (arith, ints)
+
+-- a factor above 0 cancels
+pub cancel_same : (m : ℕ) (a b : ℤ) → 0 < m → a *ℤ pos m ≡ b *ℤ pos m → a ≡ b
+cancel_same m a b some e = le_anti a b (cancel_right m a b some (same_at_most _ _ e)) (cancel_right m b a some (same_at_least _ _ e))
 
 -- heads, feet and tops times k
 rise_scaled : (t : ℤ) (top : Option ℤ) (d k : ℕ) (x : ℤ) → rise t top (d * k) (x *ℤ pos k) ≡ rise t top d x *ℤ pos k

@@ -1,14 +1,13 @@
 -- Heads at which no cell gains water: raised to a ramp's foot they serve with the ramp as a conductance, and back; so a step that is held from above has some.
 use Rattle.exact_solutions.proofs.Common.{[], ◌*ℤ◌, ◌+ℤ◌, ◌-ℤ◌, ◌∙◌, ◌∷◌, ◌≡◌, ◌≤ℤ◌, List, None, Option, Some, ap, arith, cond, nat_eq, neg_ℤ, pos, refl, subst}
 use Rattle.exact_solutions.proofs.Common.{ℕ, ℤ, int_max, clamps, ints, loss_falls}
-use Rattle.exact_solutions.proofs.Equal.{same_at_most}
+use Rattle.exact_solutions.proofs.Scaling.{same_at_most}
 use Rattle.exact_solutions.proofs.Ramps.{Ramp, ramp_flow, AreMutual, IsHeldFromAbove, HasSinking}
 use Rattle.exact_solutions.proofs.Rises.{rise_within_height, rise-no_top}
 use Rattle.exact_solutions.proofs.RampFlows.{flow_leaves}
 use Rattle.exact_solutions.proofs.Added.{net_flow_lifted, net_flow-cons, conductance_added, flow_added, net_flow-added}
 use Rattle.exact_solutions.proofs.LinearSteps.{linear_solution}
-use Rattle.exact_solutions.proofs.AtCell.{cond_same, cond_less}
-use Rattle.exact_solutions.proofs.Regimes.{ramp, flow-middle, held_above_without, held_above_middle}
+use Rattle.exact_solutions.proofs.Regimes.{cond_same, cond_less, ramp, flow-middle, held_above_without, held_above_middle}
 
 -- how much higher all heads have to be for that of cell k to stand at the foot t
 lift : ℕ → ℤ → ℕ → (ℕ → ℤ) → ℤ
@@ -16,10 +15,7 @@ lift k t e Z = int_max (t *ℤ pos e -ℤ Z k) (pos 0)
 
 lift_nonneg : (k : ℕ) (t : ℤ) (e : ℕ) (Z : ℕ → ℤ) → pos 0 ≤ℤ lift k t e Z
 unfolding lift
-lift_nonneg k t e Z = step (t *ℤ pos e -ℤ Z k)
-  where
-    step : (z : ℤ) → pos 0 ≤ℤ int_max z (pos 0)
-    step z = omega (arith, ints, clamps)
+lift_nonneg k t e Z = omega (arith, ints, clamps)
 
 lifted-at_foot : (k : ℕ) (t : ℤ) (e : ℕ) (Z : ℕ → ℤ) (i : ℕ) → k ≡ i → (t *ℤ pos e) ≤ℤ (Z i +ℤ lift k t e Z)
 unfolding lift
@@ -65,10 +61,7 @@ module _ (n : ℕ) (a : ℕ → ℕ → ℤ) (b : ℕ → ℕ) (q : ℕ → ℤ)
 
   -- a ramp only takes
   sinking_with : (r : Ramp) → HasSinking n a b q rs → HasSinking n a b q (r ∷ rs)
-  sinking_with r (e, Z, sinks) = (e, Z, record { some = sinks.some; loses = λ i h. loss _ _ _ (net_flow-cons n a b q r rs e Z i) (flow_leaves e (Z i) i r) (sinks.loses i h) })
-    where
-      loss : (whole part flow : ℤ) → whole ≡ part +ℤ flow → flow ≤ℤ pos 0 → part ≤ℤ pos 0 → whole ≤ℤ pos 0
-      loss whole part flow e h k = omega (arith, ints)
+  sinking_with r (e, Z, sinks) = (e, Z, record { some = sinks.some; loses = λ i h. omega (arith, ints, net_flow-cons n a b q r rs e Z i, flow_leaves e (Z i) i r, sinks.loses i h) })
 
 module _ (n : ℕ) (a : ℕ → ℕ → ℤ) (both : AreMutual n a) where
   one_more : (k c : ℕ) (t : ℤ) (top : Option ℤ) (b : ℕ → ℕ) (q : ℕ → ℤ) (rs : List Ramp) → ((b : ℕ → ℕ) (q : ℕ → ℤ) → IsHeldFromAbove n a b q rs → HasSinking n a b q rs) → IsHeldFromAbove n a b q (ramp k c t top ∷ rs) → HasSinking n a b q (ramp k c t top ∷ rs)

@@ -1,5 +1,5 @@
 -- Where two sums are no further apart than their terms, no two terms are apart.
-use Rattle.exact_solutions.proofs.Common.{◌+ℤ◌, ◌<◌, ◌≤ℤ◌, arith, inl, inr, suc, zero, ℕ, ℤ, cases_eq, ints, sum_below, sum_at_most}
+use Rattle.exact_solutions.proofs.Common.{◌<◌, ◌≤ℤ◌, arith, inl, inr, suc, zero, ℕ, ℤ, cases_eq, ints, sum_below, sum_at_most}
 
 -- where two sums are no further apart, no two terms are
 pub sum_below-tight : (n : ℕ) (f g : ℕ → ℤ) → ((k : ℕ) → k < n → f k ≤ℤ g k) → sum_below n g ≤ℤ sum_below n f → (j : ℕ) → j < n → g j ≤ℤ f j
@@ -8,12 +8,6 @@ sum_below-tight (suc n) f g less most j h =
     let last = less n (omega arith) in
     let others = sum_at_most n f g (λ k i. less k (omega arith)) in
     elim (cases_eq j n) [
-      | inl e ↦ rw e (tight _ _ _ _ most others)
-      | inr e ↦ sum_below-tight n f g (λ k i. less k (omega arith)) (tight_rest _ _ _ _ most last) j (omega arith)
+      | inl e ↦ rw e (omega (arith, ints))
+      | inr e ↦ sum_below-tight n f g (λ k i. less k (omega arith)) (omega (arith, ints)) j (omega arith)
     ]
-  where
-    tight : (a b c d : ℤ) → (a +ℤ b) ≤ℤ (c +ℤ d) → c ≤ℤ a → b ≤ℤ d
-    tight a b c d h k = omega (arith, ints)
-
-    tight_rest : (a b c d : ℤ) → (a +ℤ b) ≤ℤ (c +ℤ d) → d ≤ℤ b → a ≤ℤ c
-    tight_rest a b c d h k = omega (arith, ints)

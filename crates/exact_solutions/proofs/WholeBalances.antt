@@ -1,8 +1,7 @@
 -- The balance of a cell in whole numbers is its net flow in the step with ramps.
-use Rattle.exact_solutions.proofs.Common.{[], ◌*ℤ◌, ◌+ℤ◌, ◌-ℤ◌, ◌<◌, ◌∙◌, ◌∷◌, ◌≡◌, All, List, arith, cond, length, map, nat_eq, neg_ℤ, pos, refl, sym, ℕ, ℤ}
-use Rattle.exact_solutions.proofs.Common.{int_max, *ℤ-zero, zero-*ℤ, clamps, ints, All-head, All-tail, total, as_diff, diffs, same_diff, sum_below, weight}
-use Rattle.exact_solutions.proofs.Common.{by_weight, sum-add, sum-one, sum-same, sum-zero, add_mul, WholeCell, WholeFixed, WholeLink, WholeRiver, whole_at}
-use Rattle.exact_solutions.proofs.Common.{whole_balance, whole_deep_river, whole_drain, whole_evap, whole_fixed, whole_river}
+use Rattle.exact_solutions.proofs.Common.{[], ◌*ℤ◌, ◌+ℤ◌, ◌-ℤ◌, ◌<◌, ◌∷◌, ◌≡◌, All, List, arith, length, map, neg_ℤ, pos, refl, sym, ℕ, ℤ, int_max, *ℤ-zero}
+use Rattle.exact_solutions.proofs.Common.{zero-*ℤ, clamps, ints, total, as_diff, diffs, same_diff, sum_below, weight, by_weight, WholeCell, WholeFixed}
+use Rattle.exact_solutions.proofs.Common.{WholeRiver, whole_at, whole_balance, whole_deep_river, whole_drain, whole_evap, whole_fixed, whole_river}
 use Rattle.exact_solutions.proofs.Ramps.{Ramp, rise, net_flow}
 use Rattle.exact_solutions.proofs.WholeRamps.{known_conductance, known_flow, river_ramp, drain_ramp, evap_ramp, ramps_from, a_of, b_of, q_of, ramps_at_cell}
 

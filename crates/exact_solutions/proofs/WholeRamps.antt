@@ -48,14 +48,8 @@ abbrev pub cell_sum : (Ramp → ℤ) → ℕ → WholeCell → ℤ
 cell_sum g i w = total (λ x. g (river_ramp i x)) w.rivers +ℤ (total (λ x. g (drain_ramp i x)) w.drains +ℤ total (λ x. g (evap_ramp i x)) w.evaps)
 
 total-append : {X : Type 0} (f : X → ℤ) (xs ys : List X) → total f (xs ++ ys) ≡ total f xs +ℤ total f ys
-total-append f [] ys = none (total f ys)
-  where
-    none : (z : ℤ) → z ≡ pos 0 +ℤ z
-    none z = omega (arith, ints)
-total-append f (x ∷ xs) ys = rw (total-append f xs ys) (assoc (f x) (total f xs) (total f ys))
-  where
-    assoc : (a b c : ℤ) → a +ℤ (b +ℤ c) ≡ a +ℤ b +ℤ c
-    assoc a b c = omega (arith, ints)
+total-append f [] ys = omega (arith, ints)
+total-append f (x ∷ xs) ys = rw (total-append f xs ys) (omega (arith, ints))
 
 total-here : {X : Type 0} (g : Ramp → ℤ) (i : ℕ) (f : X → Ramp) (xs : List X) → ((x : X) → (f x).cell ≡ i) → total (at_cell g i) (map f xs) ≡ total (λ x. g (f x)) xs
 total-here g i f [] cells = refl
@@ -86,18 +80,12 @@ ramps_from-at g k j i [] e = refl
 ramps_from-at g k zero i (w ∷ ws) e =
     let same : k ≡ i = omega arith in
     total-append (at_cell g i) (cell_ramps k w) (ramps_from (suc k) ws)
-    ∙ rw (ramps_from-away g i (suc k) ws (omega arith)) (plus_none (total (at_cell g i) (cell_ramps k w)))
+    ∙ rw (ramps_from-away g i (suc k) ws (omega arith)) (omega (arith, ints))
     ∙ subst (λ (z : ℕ). total (at_cell g i) (cell_ramps z w) ≡ cell_sum g i w) (sym same) (cell_ramps-here g i w)
-  where
-    plus_none : (z : ℤ) → z +ℤ pos 0 ≡ z
-    plus_none z = omega (arith, ints)
 ramps_from-at g k (suc j) i (w ∷ ws) e =
     total-append (at_cell g i) (cell_ramps k w) (ramps_from (suc k) ws)
-    ∙ rw (cell_ramps-away g i k w (λ f. omega arith)) (none_plus (total (at_cell g i) (ramps_from (suc k) ws)))
+    ∙ rw (cell_ramps-away g i k w (λ f. omega arith)) (omega (arith, ints))
     ∙ ramps_from-at g (suc k) j i ws (omega arith)
-  where
-    none_plus : (z : ℤ) → pos 0 +ℤ z ≡ z
-    none_plus z = omega (arith, ints)
 
 -- over all ramps of a step the sum at cell i is that over the cell's own
 pub ramps_at_cell : (g : Ramp → ℤ) (i : ℕ) (ws : List WholeCell) → total (at_cell g i) (ramps_from 0 ws) ≡ cell_sum g i (whole_at ws i)

@@ -50,10 +50,7 @@ map_length d [] = refl
 map_length d (u ∷ w) = ap suc (map_length d w)
 
 pub share_is_over : (d : ℕ) (z : ℤ) → 0 < d → IsOver d (share d z) z
-share_is_over d z some = record { is = ap (λ (k : ℕ). z *ℤ pos k) (back d some) }
-  where
-    back : (d : ℕ) → 0 < d → d ≡ suc (d - 1)
-    back d h = omega arith
+share_is_over d z some = record { is = ap (λ (k : ℕ). z *ℤ pos k) (omega arith) }
 
 -- heads over d at which the balances of a step's whole numbers are zero solve the step
 pub whole_balances_solve : (k d : ℕ) (e : List ExactCell) (w : List WholeCell) (X : ℕ → ℤ) → 0 < k → 0 < d → AllZip (CellOver k d) e w → ((c : ℕ) → c < length w → whole_balance (whole_at w c) (X c) X ≡ pos 0) → SolvesStep e d X

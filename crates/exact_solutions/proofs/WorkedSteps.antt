@@ -11,10 +11,7 @@ use Rattle.exact_solutions.proofs.WholeSolutions.{share_is_over, whole_balances_
 
 -- a whole number over d
 whole_over : (d : ℕ) (z : ℤ) → IsOver d (whole z) (z *ℤ pos d)
-whole_over d z = record { is = once (z *ℤ pos d) }
-  where
-    once : (z : ℤ) → z ≡ z *ℤ pos 1
-    once z = omega (arith, ints)
+whole_over d z = record { is = omega (arith, ints) }
 
 whole_flow_over : (d : ℕ) (z : ℤ) → IsOver (1 * d) (whole z) (z *ℤ pos d)
 whole_flow_over d z = record { is = ap (λ (k : ℕ). z *ℤ pos k) (one d) ∙ (whole_over d z).is }
@@ -108,15 +105,12 @@ well_of_deep_flow = ((1, (λ c. pos 0), omega arith, river_solved 5 1 (λ c. pos
       d,
       (λ c. X c -ℤ pos 1),
       some,
-      river_solved 5 d (λ c. X c -ℤ pos 1) some (dry (X 0) (pos d) (river_balance 5 d X some solves)),
+      river_solved 5 d (λ c. X c -ℤ pos 1) some (omega (arith, ints, clamps, river_balance 5 d X some solves)),
       0,
       omega arith,
       (λ same. one_apart d (X 0 -ℤ pos 1) (X 0) some (back (X 0)) (record { same = sym same.same })),
     )
       where
-        dry : (x d : ℤ) → int_max x (pos 0) +ℤ pos 5 *ℤ d ≡ pos 5 *ℤ d → int_max (x -ℤ pos 1) (pos 0) +ℤ pos 5 *ℤ d ≡ pos 5 *ℤ d
-        dry x d e = omega (arith, ints, clamps)
-
         back : (x : ℤ) → x ≡ x -ℤ pos 1 +ℤ pos 1
         back x = omega (arith, ints)
 
@@ -132,12 +126,9 @@ cells_over d = (cell_over 0 1, (cell_over 1 0, tt))
 level_solves : (d : ℕ) (X : ℕ → ℤ) → 0 < d → X 0 ≡ X 1 → SolvesStep two_cells d X
 level_solves d X some level = whole_balances_solve 1 d two_cells (linked_whole 1 ∷ linked_whole 0 ∷ []) X (omega arith) some (cells_over d) zeros
   where
-    flat : (x y : ℤ) → x ≡ y → pos 0 +ℤ (pos 1 *ℤ (y -ℤ x) +ℤ pos 0) +ℤ pos 0 +ℤ pos 0 +ℤ pos 0 +ℤ pos 0 ≡ pos 0
-    flat x y e = omega (arith, ints)
-
     zeros : (c : ℕ) → c < 2 → whole_balance (whole_at (linked_whole 1 ∷ linked_whole 0 ∷ []) c) (X c) X ≡ pos 0
-    zeros zero h = flat (X 0) (X 1) level
-    zeros (suc zero) h = flat (X 1) (X 0) (sym level)
+    zeros zero h = omega (arith, ints)
+    zeros (suc zero) h = omega (arith, ints, sym level)
     zeros (suc (suc c)) h = absurd (omega (arith, h))
 
 pub two_loose_cells : TwoLooseCells

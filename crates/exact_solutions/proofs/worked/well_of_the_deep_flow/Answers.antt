@@ -1,5 +1,0 @@
-use Rattle.exact_solutions.proofs.WorkedSteps.{well_of_deep_flow}
-use Rattle.exact_solutions.proofs.worked.well_of_the_deep_flow.Goals as goal
-
-pub returns : goal.returns
-returns c = well_of_deep_flow
