@@ -3,7 +3,7 @@ pub use Rattle.std.proofs.Common.{All, Contains, List, None, Some, [], ap, arith
 pub use Rattle.std.proofs.Common.{zero, ℕ, ℤ, ◌++◌, ◌+◌, ◌<◌, ◌^◌, ◌↔◌, ◌∙◌, ◌∷◌, ◌≡◌, ◌≤ℤ◌, ◌≤◌}
 pub use Rattle.std.proofs.lemmas.Bool.Decides.{nat_tests}
 pub use Rattle.std.proofs.lemmas.Int.{clamps, ints}
-pub use Rattle.std.proofs.lemmas.List.{get_or-map, get_or_default, length-map, take_more}
+pub use Rattle.std.proofs.lemmas.List.{get_or-map, get_or_default, take_more}
 pub use Rattle.std.specs.Int.{int_max, int_min}
 pub use Rattle.problem_hull.specs.Hulls.{IsCellHull, IsDrainHull, IsEvapHull, IsFixedHull, IsFlowHull, IsHull, IsHullPair, IsHullSize, IsLinkHull, IsRiverHull}
 pub use Rattle.problem_hull.specs.Refusals.{IsFirstTooLarge, IsTooLarge, IsUnlike}

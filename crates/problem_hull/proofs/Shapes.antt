@@ -86,9 +86,6 @@ cell_hull a b e =
       record { id = refl; alike = ap (λ (c : Entries). c.id) e; flows = flows.1; links = links.1; fixed = fixed.1; rivers = rivers.1; drains = drains.1; evaps = evaps.1 },
     )
 
-same_link : (a b r : Link) → IsLinkHull a b r → b ≡ a
-same_link a b r h = h.alike
-
 same_flow : (a b r : Flow) → IsFlowHull a b r → flow_shape b ≡ flow_shape a
 same_flow a b r h = ap (λ k. flow_shape (record { kind = k; lo = pos 0; hi = pos 0 })) h.alike
 

@@ -1,8 +1,7 @@
 -- Three lists that are related place by place.
 use Rattle.problem_hull.proofs.Common.{◌≡◌, ◌+◌, ◌<◌, [], ◌∷◌, ◌++◌, ℕ, zero, suc, arith, List, get_or, length, take, map, All, refl, ap, ◌∙◌, subst, sym}
-use Rattle.problem_hull.proofs.Common.{take_more, get_or-map, length-map, AllThree, none, next}
+use Rattle.problem_hull.proofs.Common.{take_more, get_or-map, AllThree, none, next}
 use Rattle.std.proofs.lemmas.List.Elements.{All-nil, All-cons, All-head, All-tail}
-use Rattle.std.proofs.Math.Seq.{take-length}
 
 pub three_lengths : {X Y Z : Type 0} (R : X → Y → Z → Type 0) (xs : List X) (ys : List Y) (zs : List Z) → AllThree R xs ys zs → (length ys ≡ length xs) × (length zs ≡ length xs)
 three_lengths R xs ys zs none = (refl, refl)
@@ -31,11 +30,6 @@ three_more R xs ys zs i d e z lt same h r =
     let below : i < length ys = omega (arith, lt, same) in
     rw (take_more xs i d lt, take_more ys i e below) (three_append R _ _ _ _ _ _ h (next r none))
 
--- all places of two lists
-pub three_whole : {X Y Z : Type 0} (R : X → Y → Z → Type 0) (xs : List X) (ys : List Y) (zs : List Z) (i : ℕ) → i ≡ length xs → length ys ≡ length xs → AllThree R (take i xs) (take i ys) zs → AllThree R xs ys zs
-three_whole R xs ys zs i e same h =
-    subst (λ us. AllThree R us ys zs) (ap (λ k. take k xs) e ∙ take-length xs) (subst (λ vs. AllThree R (take i xs) vs zs) (ap (λ k. take k ys) (e ∙ sym same) ∙ take-length ys) h)
-
 -- the same, where the items of the two lists are named
 pub three_more_at : {X Y Z : Type 0} (R : X → Y → Z → Type 0) (xs : List X) (ys : List Y) (zs : List Z) (i : ℕ) (x : X) (y : Y) (z : Z) → i < length xs → length ys ≡ length xs → x ≡ get_or xs i x → y ≡ get_or ys i y →
     AllThree R (take i xs) (take i ys) zs → R x y z → AllThree R (take (i + 1) xs) (take (i + 1) ys) (zs ++ (z ∷ []))
@@ -52,7 +46,3 @@ three_all R P Q S each xs ys zs (next {x = x} {y = y} {z = z} {xs = us} {ys = vs
 pub unlike_at : {X Y : Type 0} (f : X → Y) (xs ys : List X) (i : ℕ) (x y : X) → i < length xs → i < length ys → x ≡ get_or xs i x → y ≡ get_or ys i y → (f y ≡ f x → ⊥) → map f ys ≡ map f xs → ⊥
 unlike_at f xs ys i x y lt in_ys e d unlike same =
     unlike (ap f d ∙ sym (get_or-map f ys i y (f x) in_ys) ∙ ap (λ l. get_or l i (f x)) same ∙ get_or-map f xs i x (f x) lt ∙ sym (ap f e))
-
--- lists of different lengths
-pub unlike_lengths : {X Y : Type 0} (f : X → Y) (xs ys : List X) → (length ys ≡ length xs → ⊥) → map f ys ≡ map f xs → ⊥
-unlike_lengths f xs ys unlike same = unlike (sym (length-map ys f) ∙ ap length same ∙ length-map xs f)
