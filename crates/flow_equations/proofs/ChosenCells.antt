@@ -1,5 +1,5 @@
 -- The cell of a column of layers that an option chooses.
-use Rattle.flow_equations.proofs.Common.{◌≡◌, ℕ, zero, suc, ◌+◌, ◌*◌, ◌<◌, ◌⊎◌, inl, inr, Bool, true, false, not, ◌&&◌, ◌||◌, List, [], ◌∷◌, refl, sym, ap, ◌∙◌}
+use Rattle.flow_equations.proofs.Common.{◌≡◌, ℕ, zero, suc, ◌+◌, ◌*◌, ◌<◌, ◌⊎◌, inl, inr, Bool, true, false, ◌&&◌, ◌||◌, List, [], ◌∷◌, refl, sym, ap, ◌∙◌}
 use Rattle.flow_equations.proofs.Common.{arith, ℤ, pos, negsuc, ◌==◌, range_with_len, list_any, eqb-true, cases_lt, false≢true, and_parts, not-true, FlowModel}
 use Rattle.flow_equations.proofs.Common.{layer_size, layer_of, place_in_layer, int_at, is_active, is_int, is_chosen, is_highest, range_more, ChoosesOneCell}
 use Rattle.std.proofs.lemmas.Nat.{div-add-mod'}

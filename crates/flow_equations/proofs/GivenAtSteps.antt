@@ -50,11 +50,8 @@ module _ (x : Given) (f : Ratio) (k n : ℕ) (some : 0 < k) (share : IsShare k f
 
   -- half of it
   half_way : 2 * n ≡ k → Same (plus (between_heads x f) (between_heads x f)) (plus s e)
-  half_way twice = same_over (m * k) _ _ _ _ some_over (IsOver-plus (m * k) _ _ _ _ between_over between_over) (IsOver-plus (m * k) s e _ _ (wider s a (over_first s e)) (wider e b (over_second s e))) (half a b (pos n) (pos k) (doubled n k twice))
+  half_way twice = same_over (m * k) _ _ _ _ some_over (IsOver-plus (m * k) _ _ _ _ between_over between_over) (IsOver-plus (m * k) s e _ _ (wider s a (over_first s e)) (wider e b (over_second s e))) (half a b (pos n) (pos k) (omega (arith, ints)))
     where
-      doubled : (j i : ℕ) → 2 * j ≡ i → pos i ≡ pos j +ℤ pos j
-      doubled j i twice = omega (arith, ints)
-
       halves : (u v w : ℤ) → (u *ℤ (w +ℤ w) +ℤ (v +ℤ neg_ℤ u) *ℤ w) +ℤ (u *ℤ (w +ℤ w) +ℤ (v +ℤ neg_ℤ u) *ℤ w) ≡ u *ℤ (w +ℤ w) +ℤ v *ℤ (w +ℤ w)
       halves u v w = rw (as_diff u, as_diff v, as_diff w) (simp diffs (same_diff _ _ _ _ (omega arith)))
 

@@ -7,9 +7,6 @@ use Rattle.decimal_input.specs.Ratios.{den}
 use Rattle.model_types.proofs.Growth.{power-positive, horner}
 use Rattle.flow_equations.proofs.Values.{IsValue, itself, value_one, value_times, value_plus, value_over, same_by, size_positive}
 
-same_in_both_orders : {f g : Ratio} → Same f g → (f.num * den g ≤ g.num * den f) × (g.num * den f ≤ f.num * den g)
-same_in_both_orders s = (omega (arith, s.cross), omega (arith, s.cross))
-
 pub value_ratio : (n : ℕ) → IsValue (ratio n 1) n 1
 unfolding ratio
 value_ratio n = record { num = refl; bottom = refl }

@@ -1,9 +1,9 @@
 -- The worked models meet what readers promise of a model, so that something meets it.
 use Rattle.flow_equations.proofs.Common.{◌≡◌, ℕ, suc, ◌*◌, ◌%◌, ◌^◌, ◌<◌, ◌≤◌, ◌⊎◌, inl, inr, Bool, true, false, ℤ, pos, negsuc, List, [], ◌∷◌, length, refl}
-use Rattle.flow_equations.proofs.Common.{sym, ◌∙◌, subst, arith, ints, replicate, nat_lt, cond-true, le-leb, cases_lt, false≢true, length-replicate}
-use Rattle.flow_equations.proofs.Common.{get_or-replicate, Dec, IsDec, scaled, ratio, FlowModel, Period, Entry, Well, no_number, dec_at, top_at, bottom_at}
-use Rattle.flow_equations.proofs.Common.{IsPositive, IsNotNegative, IsHeadNumber, IsThick, IsGrid, no_stresses, decimal, below_zero, cell, row_of_cells}
-use Rattle.flow_equations.proofs.Common.{period_with, row_model, three_cells, idle_wells, one_cell, two_cells}
+use Rattle.flow_equations.proofs.Common.{sym, ◌∙◌, subst, arith, ints, replicate, nat_lt, cond-true, le-leb, cases_lt, length-replicate, get_or-replicate, Dec}
+use Rattle.flow_equations.proofs.Common.{IsDec, scaled, ratio, FlowModel, Period, Entry, Well, no_number, dec_at, top_at, bottom_at, IsPositive, IsNotNegative}
+use Rattle.flow_equations.proofs.Common.{IsHeadNumber, IsThick, IsGrid, no_stresses, decimal, below_zero, cell, row_of_cells, period_with, row_model}
+use Rattle.flow_equations.proofs.Common.{three_cells, idle_wells, one_cell, two_cells}
 use Rattle.std.proofs.Common.{All}
 use Rattle.std.proofs.Math.ListN.{get_or-eq_default}
 use Rattle.std.proofs.lemmas.List.Elements.{All-nil, All-cons, All-replicate, All-get_or}

@@ -6,16 +6,19 @@ ghost use Rattle.flow_equations.specs.SignLaws.{FlowsChangeSign};
 ghost use Rattle.flow_equations.specs.VerticalLaws.{MeetsDarcyDownwards, HasVerticalConductivity, LayersFillTheSpace};
 
 /// A branch is the same from both ends.
+#[tactic(auto, using(crate::proofs::Darcy::from_both_ends))]
 pub fn same_from_both_ends()
     ensures { (m : FlowModel) → IsSameFromBothEnds m }
 {}
 
 /// Between two cells of a row that are alike the conductance is HK * THICK * DELC / DELR.
+#[tactic(auto, using(crate::proofs::Darcy::meets_darcy))]
 pub fn darcy()
     ensures { (m : FlowModel) → MeetsDarcy m }
 {}
 
 /// Between square cells of unit conductivity and thickness it is 1.
+#[tactic(auto, using(crate::proofs::Darcy::unit_branch))]
 pub fn unit_branches()
     ensures { (m : FlowModel) → HasUnitBranches m }
 {}
@@ -26,27 +29,32 @@ pub fn harmonic_mean()
 {}
 
 /// Between two cells of a column that are alike the conductance is HK * HANI * THICK * DELR / DELC.
+#[tactic(auto, using(crate::proofs::Darcy::meets_darcy_along_columns))]
 pub fn darcy_along_columns()
     ensures { (m : FlowModel) → MeetsDarcyAlongColumns m }
 {}
 
 /// Between two cells one above the other, of one material with the bed between them, the conductance is
 /// VK * DELR * DELC over the distance between their centres.
+#[tactic(auto, using(crate::proofs::Downwards::meets_darcy_downwards))]
 pub fn darcy_downwards()
     ensures { (m : FlowModel) → MeetsDarcyDownwards m }
 {}
 
 /// A cell, the bed below it and the cell of the next layer fill the space between them.
+#[tactic(auto, using(crate::proofs::Elevations::layers_fill))]
 pub fn layers_fill_the_space()
     ensures { (m : FlowModel) → LayersFillTheSpace m }
 {}
 
 /// VKA is the vertical conductivity, or the ratio of HK to it.
+#[tactic(auto, using(crate::proofs::Downwards::vertical_conductivity_of))]
 pub fn vertical_conductivities()
     ensures { (m : FlowModel) (c : ℕ) → HasVerticalConductivity m c }
 {}
 
 /// Flows over branches change their sign with the heads.
+#[tactic(auto, using(crate::proofs::TurnedFlows::flows_change_sign))]
 pub fn flows_change_sign()
     ensures { FlowsChangeSign }
 {}

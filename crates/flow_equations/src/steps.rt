@@ -2,6 +2,7 @@
 ghost use Rattle.flow_equations.specs.StepLaws.{HasAnEquationEach, LinksAreMutual};
 
 /// The exact step has one equation for each variable cell of the period, by ascending cell number.
+#[tactic(auto, using(crate::proofs::Links::ids_are))]
 pub fn equation_each()
     ensures { HasAnEquationEach }
 {}

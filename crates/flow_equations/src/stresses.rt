@@ -6,11 +6,13 @@ ghost use Rattle.flow_equations.specs.ReceiverLaws.{ChoosesOneCell, ReceivesRech
 ghost use Rattle.flow_equations.specs.GivenHeadLaws.{HasGivenHeads};
 
 /// An option of RCH or EVT chooses at most one cell of a column of layers.
+#[tactic(auto, using(crate::proofs::ChosenCells::chooses_one))]
 pub fn one_cell_of_a_column()
     ensures { (m : FlowModel) (layers : List ℤ) → ChoosesOneCell m layers }
 {}
 
 /// The chosen cell receives its rate of recharge times its area, and no other cell receives any.
+#[tactic(auto, using(crate::proofs::ReceivedFlows::receives))]
 pub fn recharge_is_rate_times_area()
     ensures { (m : FlowModel) (p n : ℕ) (old : ℕ → Fraction) (c : ℕ) → ReceivesRecharge m p n old c }
 {}
