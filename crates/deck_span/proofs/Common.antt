@@ -1,14 +1,15 @@
 -- Names that several proofs of this crate cite, of the crates below and of its own definitions, passed on from one place. Declares nothing.
-pub use Rattle.std.proofs.Common.{All, Bool, List, None, Option, Some, [], ap, arith, cond, false, inl, inr, length, map, max, min, neg_ℤ, negsuc, pos, refl}
-pub use Rattle.std.proofs.Common.{reverse, subst, suc, sym, take, true, zero, ℕ, ℤ, ◌*ℤ◌, ◌*◌, ◌++◌, ◌+ℤ◌, ◌+◌, ◌-◌, ◌<◌, ◌^◌, ◌∙◌, ◌∷◌, ◌≡◌, ◌≤ℤ◌, ◌≤◌, ◌⊎◌}
-pub use Rattle.std.proofs.lemmas.Bool.{cases_lt, false≢true}
+pub use Rattle.std.proofs.Common.{All, Bool, List, None, Option, Some, [], ap, arith, cond, false, inl, inr, length, map, neg_ℤ, negsuc, pos, refl, reverse}
+pub use Rattle.std.proofs.Common.{subst, suc, sym, take, true, zero, ℕ, ℤ, ◌*ℤ◌, ◌*◌, ◌++◌, ◌+ℤ◌, ◌+◌, ◌-◌, ◌<◌, ◌^◌, ◌∙◌, ◌∷◌, ◌≡◌, ◌≤ℤ◌, ◌≤◌, ◌⊎◌}
+pub use Rattle.std.proofs.lemmas.Bool.{and_parts, cases_lt}
 pub use Rattle.std.proofs.lemmas.Int.{clamps, ints}
 pub use Rattle.std.proofs.lemmas.List.{get_or_default, reverse-append}
 pub use Rattle.std.specs.List.{AllZip, cons_option, filter, filter_map, find, flat_map, range_with_len}
 pub use Rattle.std.specs.Prelude.{int_lt, is_some, not, unsigned_abs, ◌&&◌, ◌==◌, ◌||◌}
+pub use Rattle.cell_balance.proofs.Totals.{add_mul, le_trans_z}
 pub use Rattle.cell_balance.specs.Steps.{ExactCell, ExactDrain, ExactEvap, ExactFixed, ExactFlow, ExactLink, ExactRiver, cell_at}
 pub use Rattle.decimal_input.proofs.Differences.{as_diff, diffs, same_diff}
-pub use Rattle.decimal_input.proofs.Orders.{AtMost-refl, den_plus, num_plus, over-AtMost, times-AtMost}
+pub use Rattle.decimal_input.proofs.Orders.{AtMost-refl, AtMost-trans, den_plus, num_plus, over-AtMost, times-AtMost}
 pub use Rattle.decimal_input.proofs.Signs.{cancel_right, mul_mono_right, swap}
 pub use Rattle.decimal_input.specs.Canonical.{number, size}
 pub use Rattle.decimal_input.specs.Fractions.{AtMost, Fraction, den, negated, plus, signed}

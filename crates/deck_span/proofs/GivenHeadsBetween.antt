@@ -1,27 +1,19 @@
 -- A given head lies between those of the other two decks at each step.
 use Rattle.deck_span.proofs.Common.{◌≡◌, ℕ, zero, suc, ◌+◌, ◌*◌, ◌-◌, ◌≤◌, ◌⊎◌, inl, inr, arith, sym, ap, ◌∙◌, subst, Bool, true, false, cond, ℤ, pos, neg_ℤ}
-use Rattle.deck_span.proofs.Common.{◌+ℤ◌, ◌*ℤ◌, ◌≤ℤ◌, ◌==◌, ◌||◌, ints, number, Ratio, Fraction, den, AtMost, signed, negated, plus, mul_mono_right, diffs}
-use Rattle.deck_span.proofs.Common.{as_diff, same_diff, AtMost-refl, num_plus, den_plus, Period, Given, one, power, geometric, multiplier, passed}
-use Rattle.deck_span.proofs.Common.{between_heads, IsFractionBetween, IsGivenAtMost, IsGivenBetween}
+use Rattle.deck_span.proofs.Common.{◌+ℤ◌, ◌*ℤ◌, ◌≤ℤ◌, ◌==◌, ◌||◌, number, Ratio, Fraction, den, AtMost, signed, negated, plus, mul_mono_right, diffs, as_diff}
+use Rattle.deck_span.proofs.Common.{same_diff, AtMost-refl, num_plus, den_plus, Period, Given, one, power, geometric, multiplier, passed, between_heads}
+use Rattle.deck_span.proofs.Common.{IsFractionBetween, IsGivenAtMost, IsGivenBetween, AtMost-trans, add_mul}
 use Rattle.decimal_input.specs.Ratios.{den as size_den, AtMost as IsRatioAtMost, plus as size_plus, over as size_over, ratio as size_ratio}
 use Rattle.decimal_input.specs.Fractions.{times}
-use Rattle.decimal_input.proofs.Orders.{AtMost-trans}
+use Rattle.step_problem.proofs.Ring.{mul_assoc}
+use Rattle.decimal_input.proofs.Integers.{le-add}
 
 -- the head over the denominators of its ends: a / x at the start, b / y at the end, u of w + u passed
 top_is : (a b x y w u : ℤ) → a *ℤ ((y *ℤ x) *ℤ (w +ℤ u)) +ℤ ((b *ℤ x +ℤ neg_ℤ a *ℤ y) *ℤ u) *ℤ x ≡ a *ℤ (w *ℤ (y *ℤ x)) +ℤ b *ℤ (u *ℤ (x *ℤ x))
 top_is a b x y w u = rw (as_diff a, as_diff b, as_diff x, as_diff y, as_diff w, as_diff u) (simp diffs (same_diff _ _ _ _ (omega arith)))
 
-three_factors : (a b c : ℤ) → (a *ℤ b) *ℤ c ≡ a *ℤ (b *ℤ c)
-three_factors a b c = rw (as_diff a, as_diff b, as_diff c) (simp diffs (same_diff _ _ _ _ (omega arith)))
-
 regroup : (a : ℤ) (n m k l : ℕ) → n * m ≡ k * l → (a *ℤ pos n) *ℤ pos m ≡ (a *ℤ pos k) *ℤ pos l
-regroup a n m k l e = three_factors a (pos n) (pos m) ∙ ap (λ (z : ℕ). a *ℤ pos z) e ∙ sym (three_factors a (pos k) (pos l))
-
-sum_times : (p q k : ℤ) → (p +ℤ q) *ℤ k ≡ p *ℤ k +ℤ q *ℤ k
-sum_times p q k = rw (as_diff p, as_diff q, as_diff k) (simp diffs (same_diff _ _ _ _ (omega arith)))
-
-added : (a b c d : ℤ) → a ≤ℤ c → b ≤ℤ d → (a +ℤ b) ≤ℤ (c +ℤ d)
-added a b c d h k = omega (arith, ints)
+regroup a n m k l e = mul_assoc a (pos n) (pos m) ∙ ap (λ (z : ℕ). a *ℤ pos z) e ∙ sym (mul_assoc a (pos k) (pos l))
 
 -- both ends at most the others', so the head is
 ends_keep : (a b c d : ℤ) (x y z t w u : ℕ) → (a *ℤ pos z) ≤ℤ (c *ℤ pos x) → (b *ℤ pos t) ≤ℤ (d *ℤ pos y) →
@@ -29,14 +21,14 @@ ends_keep : (a b c d : ℤ) (x y z t w u : ℕ) → (a *ℤ pos z) ≤ℤ (c *�
     ((c *ℤ pos (w * (t * z)) +ℤ d *ℤ pos (u * (z * z))) *ℤ pos (x * ((y * x) * (w + u))))
 ends_keep a b c d x y z t w u h k =
     rw (
-      sum_times (a *ℤ pos (w * (y * x))) (b *ℤ pos (u * (x * x))) (pos (z * ((t * z) * (w + u)))),
-      sum_times (c *ℤ pos (w * (t * z))) (d *ℤ pos (u * (z * z))) (pos (x * ((y * x) * (w + u)))),
+      add_mul (a *ℤ pos (w * (y * x))) (b *ℤ pos (u * (x * x))) (pos (z * ((t * z) * (w + u)))),
+      add_mul (c *ℤ pos (w * (t * z))) (d *ℤ pos (u * (z * z))) (pos (x * ((y * x) * (w + u)))),
       regroup a (w * (y * x)) (z * ((t * z) * (w + u))) z (w * y * x * t * z * (w + u)) (omega arith),
       regroup c (w * (t * z)) (x * ((y * x) * (w + u))) x (w * y * x * t * z * (w + u)) (omega arith),
       regroup b (u * (x * x)) (z * ((t * z) * (w + u))) t (u * x * x * z * z * (w + u)) (omega arith),
       regroup d (u * (z * z)) (x * ((y * x) * (w + u))) y (u * x * x * z * z * (w + u)) (omega arith),
     )
-    (added _ _ _ _ (mul_mono_right (w * y * x * t * z * (w + u)) _ _ h) (mul_mono_right (u * x * x * z * z * (w + u)) _ _ k))
+    (le-add _ _ _ _ (mul_mono_right (w * y * x * t * z * (w + u)) _ _ h) (mul_mono_right (u * x * x * z * z * (w + u)) _ _ k))
 
 middle_den : (a b c : ℕ) → suc ((b * a + b + a) * c + (b * a + b + a) + c) ≡ (suc b * suc a) * suc c
 middle_den a b c = omega arith
@@ -88,10 +80,7 @@ module _ (F : Ratio) (part : F.num ≤ size_den F) where
 -- the part of a period that has passed is at most 1
 
 more : (g h : Ratio) → IsRatioAtMost g (size_plus g h)
-more g h = record { cross = rw (num_plus g h, den_plus g h) (by g.num (size_den g) h.num (size_den h)) }
-  where
-    by : (a d b e : ℕ) → a * (d * e) ≤ (a * e + b * d) * d
-    by a d b e = omega arith
+more g h = record { cross = rw (num_plus g h, den_plus g h) (omega arith) }
 
 grows : (t : Ratio) (n k : ℕ) → IsRatioAtMost (geometric t n) (geometric t (k + n))
 unfolding geometric
@@ -103,10 +92,7 @@ grown t n m h = subst (λ (j : ℕ). IsRatioAtMost (geometric t n) (geometric t 
 
 share : (g h : Ratio) → IsRatioAtMost g h → (size_over g h).num ≤ size_den (size_over g h)
 unfolding size_over size_ratio
-share g h k = by g.num (size_den g) h.num (size_den h) k.cross
-  where
-    by : (a d b e : ℕ) → a * e ≤ b * d → a * e ≤ suc (d * b - 1)
-    by a d b e h = omega (arith, h)
+share g h k = omega (arith, k.cross)
 
 one_whole : one.num ≤ size_den one
 unfolding size_ratio

@@ -8,4 +8,3 @@ pub mod SourcesBetween
 pub mod StepsBetween
 pub mod SameFrames
 pub mod AlikeBetween
-pub mod BetweenAlike

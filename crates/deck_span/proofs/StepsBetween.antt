@@ -1,26 +1,23 @@
 -- Each exact step of a model between two others lies between theirs.
-use Rattle.deck_span.proofs.Common.{◌≡◌, ℕ, zero, suc, ◌*◌, ◌-◌, ◌^◌, ◌≤◌, ◌<◌, inl, inr, refl, sym, ap, ◌∙◌, subst, arith, Bool, true, false, Option, List, []}
-use Rattle.deck_span.proofs.Common.{◌∷◌, length, map, All, ◌&&◌, int_lt, not, Dec, number, size, Ratio, over, Fraction, signed, negated, plus, ExactEvap}
-use Rattle.deck_span.proofs.Common.{FlowModel, Period, Given, Face, cell_count, no_number, is_active, area, int_at, conductance, row_conductance}
-use Rattle.deck_span.proofs.Common.{column_conductance, vertical_conductance, vertical_half, period_at, passed, is_variable, variable_below, variable_cells}
-use Rattle.deck_span.proofs.Common.{start_head, kept_head, head_or_kept, constant_head, between_heads, EvapSource, FixedSource, FlowSource, RiverSource}
-use Rattle.deck_span.proofs.Common.{DrainSource, variable_faces, evap_sources, AllThree, get_or_default, ◌==◌, unsigned_abs, false≢true, none, next}
-use Rattle.deck_span.proofs.Common.{IsFractionBetween, IsRatioBetween, IsDecBetween, IsFlowBetween, IsFixedBetween, IsRiverBetween, IsDrainBetween}
-use Rattle.deck_span.proofs.Common.{IsEvapBetween, IsCellBetween, IsStepBetween, IsGivenBetween, IsPeriodBetween, IsBetween, frame, period_frame, three_at}
+use Rattle.deck_span.proofs.Common.{◌≡◌, ℕ, zero, suc, ◌-◌, ◌≤◌, ◌<◌, inl, inr, refl, sym, ap, ◌∙◌, subst, arith, true, Option, List, [], ◌∷◌, length, map, All}
+use Rattle.deck_span.proofs.Common.{int_lt, not, Dec, number, size, Ratio, over, Fraction, signed, negated, plus, ExactEvap, FlowModel, Period, Given, Face}
+use Rattle.deck_span.proofs.Common.{cell_count, no_number, is_active, area, int_at, conductance, row_conductance, column_conductance, vertical_conductance}
+use Rattle.deck_span.proofs.Common.{vertical_half, period_at, passed, is_variable, variable_below, variable_cells, start_head, kept_head, head_or_kept}
+use Rattle.deck_span.proofs.Common.{constant_head, between_heads, EvapSource, FixedSource, FlowSource, RiverSource, DrainSource, variable_faces, evap_sources}
+use Rattle.deck_span.proofs.Common.{AllThree, get_or_default, ◌==◌, unsigned_abs, none, next, IsFractionBetween, IsRatioBetween, IsDecBetween, IsFlowBetween}
+use Rattle.deck_span.proofs.Common.{IsFixedBetween, IsRiverBetween, IsDrainBetween, IsEvapBetween, IsCellBetween, IsStepBetween, IsGivenBetween}
+use Rattle.deck_span.proofs.Common.{IsPeriodBetween, IsBetween, frame, period_frame, three_at, and_parts}
 use Rattle.std.specs.Prelude.{pos, negsuc, ℤ}
 use Rattle.decimal_input.specs.Ratios.{times as size_times}
-use Rattle.decimal_input.specs.Decimals.{up}
 use Rattle.decimal_input.specs.Fractions.{times}
 use Rattle.model_types.specs.declared.face.Axis.{Axis}
 use Rattle.model_types.specs.declared.face.Axis.TheVariants.{Row, Column, Vertical}
 use Rattle.model_types.specs.Storage.{storage}
-use Rattle.model_types.specs.Numbers.{IsPositive}
 use Rattle.model_types.specs.Valid.{IsModel, IsEvapValid}
 use Rattle.model_types.proofs.Ranks.{passing, is_at}
 use Rattle.flow_equations.specs.ExactStep.{exact_river, exact_drain, exact_link, exact_fixed, exact_flow, exact_evap, exact_cell, exact_step}
 use Rattle.std.proofs.lemmas.List.Elements.{All-head, All-tail}
 use Rattle.std.proofs.lemmas.Bool.Decides.{nat_tests}
-use Rattle.decimal_input.proofs.Powers.{num_scaled, ten_pos}
 use Rattle.deck_span.proofs.ThreeLists.{OptionThree, three_map}
 use Rattle.deck_span.proofs.ThreeLists.OptionThree.{nothing, something}
 use Rattle.deck_span.proofs.Monotone.{number_itself, size_itself, number_image, size_image, times_keeps, plus_keeps, rate_keeps}
@@ -28,12 +25,9 @@ use Rattle.deck_span.proofs.GivenHeadsBetween.{heads_between, part_of}
 use Rattle.deck_span.proofs.SourcesBetween.{IsFlowSourceBetween, IsFixedSourceBetween, IsRiverSourceBetween, IsDrainSourceBetween, IsEvapSourceBetween, framed, no_dec, given_three, last_three, at_period, cells_are, faces_are, three_flows, three_fixed, three_rivers, three_drains, three_evaps}
 use Rattle.deck_span.proofs.SourcesBetween.IsFlowSourceBetween.{pumped, received}
 use Rattle.deck_span.proofs.SourcesBetween.IsFixedSourceBetween.{constant, general, stored}
+use Rattle.flow_equations.proofs.Values.{size_positive}
 
 -- A variable cell is active.
-
-and_true : (a b : Bool) → (a && b) ≡ true → (a ≡ true) × (b ≡ true)
-and_true true b e = (refl, e)
-and_true false b e = absurd (false≢true e)
 
 positive_active : (z : ℤ) → int_lt (pos 0) z ≡ true → not (unsigned_abs z == 0) ≡ true
 positive_active (pos zero) e = e
@@ -41,7 +35,7 @@ positive_active (pos (suc n)) e = grind (arith, nat_tests)
 positive_active (negsuc n) e = grind (arith, nat_tests)
 
 variable_active : (m : FlowModel) (p c : ℕ) → is_variable m p c ≡ true → is_active m c ≡ true
-variable_active m p c e = positive_active (int_at m.ibound c) (and_true (int_lt (pos 0) (int_at m.ibound c)) _ e).0
+variable_active m p c e = positive_active (int_at m.ibound c) (and_parts (int_lt (pos 0) (int_at m.ibound c)) _ e).0
 
 -- What starting heads and periods leave alone.
 
@@ -164,17 +158,11 @@ module _ (f : FlowModel) (s₁ s₂ s₃ : List Dec) (ps qs rs : List Period) (s
 
 -- Evapotranspirations, whose depths are above 0 in a valid model.
 
-positive_product : (a b : ℕ) → 0 < a → 0 < b → 0 < a * b
-positive_product a b p q = grind arith
-
-some_size : (d : Dec) → IsPositive d → 0 < (size d).num
-some_size d h = rw num_scaled (positive_product d.digits (10 ^ up d.exp) h.positive (ten_pos (up d.exp)))
-
 sources_between : (R : EvapSource → EvapSource → EvapSource → Type 0) (S : ExactEvap → ExactEvap → ExactEvap → Type 0) (u v w : EvapSource → ExactEvap) → ((x y z : EvapSource) → R x y z → 0 < (size x.depth).num → S (u x) (v y) (w z)) →
     (xs ys zs : List EvapSource) → AllThree R xs ys zs → All IsEvapValid xs → AllThree S (map u xs) (map v ys) (map w zs)
 sources_between R S u v w each xs ys zs none h = none
 sources_between R S u v w each xs ys zs (next {x = x} {y = y} {z = z} {xs = us} r rs) h =
-    next (each x y z r (some_size x.depth (All-head IsEvapValid x us h).depth)) (sources_between R S u v w each _ _ _ rs (All-tail IsEvapValid x us h))
+    next (each x y z r (size_positive x.depth (All-head IsEvapValid x us h).depth)) (sources_between R S u v w each _ _ _ rs (All-tail IsEvapValid x us h))
 
 -- three images of one list, of whose elements a fact holds
 images_of : {X U V W : Type 0} (P : X → Type 0) (S : U → V → W → Type 0) (f : X → U) (g : X → V) (h : X → W) → ((x : X) → P x → S (f x) (g x) (h x)) → (xs : List X) → All P xs → AllThree S (map f xs) (map g xs) (map h xs)

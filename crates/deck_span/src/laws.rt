@@ -7,6 +7,7 @@ pub fn alike_lie_between()
 {}
 
 /// Where some model lies between two models, the two are alike.
+#[tactic(auto, using(crate::proofs::SameFrames::between_alike))]
 pub fn between_are_alike()
     ensures { BetweenAreAlike }
 {}
@@ -17,6 +18,7 @@ pub fn hulls_enclose()
 {}
 
 /// Each exact step of a model between two others lies between theirs.
+#[tactic(auto, using(crate::proofs::StepsBetween::steps_between))]
 pub fn steps_lie_between()
     ensures { StepsLieBetween }
 {}
