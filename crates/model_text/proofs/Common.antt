@@ -22,6 +22,7 @@ pub use Rattle.model_types.specs.Grids.{HasSize}
 pub use Rattle.model_types.specs.declared.limits.Limits.{Limits}
 pub use Rattle.model_types.specs.declared.model.FlowModel.{FlowModel}
 pub use Rattle.model_types.specs.declared.period.Period.{Period}
+pub use Rattle.name_file.proofs.FileLemmas.{is_itself, is_same}
 pub use Rattle.name_file.specs.Pairs.{Pairs, file_of, has_package, is_same_package}
 unfoldable pub use Rattle.name_file.specs.Reading.{after_line, after_lines, after_package, file_in, is_integer, names_of, whole}
 pub use Rattle.name_file.specs.declared.package.Package.{Package}

@@ -1,7 +1,6 @@
 -- The names of the files of a deck are good names.
 use Rattle.model_text.proofs.Common.{◌≡◌, ℕ, ◌==◌, true, false, not, cond, List, [], ◌∷◌, All, Option, Some, None, refl, sym, ap, ◌∙◌, arith, list_all}
-use Rattle.model_text.proofs.Common.{bytes_eq, and_parts, not-true, nat_tests, All-nil, All-cons, Package, Dis, Bas, Lpf, Wel, Riv, Drn, Ghb, Rch, Chd, Evt}
-use Rattle.model_text.proofs.Common.{word_by_test, packages, AreNames, IsFileName}
+use Rattle.model_text.proofs.Common.{bytes_eq, and_parts, not-true, nat_tests, All-nil, All-cons, Package, Dis, word_by_test, packages, AreNames, IsFileName}
 use Rattle.model_text.specs.Decks.{deck_name, deck_names}
 
 -- a name without a backslash
@@ -17,15 +16,7 @@ all_plain (x ∷ w) h =
 
 good_name : (k : Package) → IsFileName (deck_names k)
 good_name Dis = record { word = word_by_test (deck_names Dis) refl; few = omega arith; plain = all_plain (deck_names Dis) refl }
-good_name Bas = record { word = word_by_test (deck_names Bas) refl; few = omega arith; plain = all_plain (deck_names Bas) refl }
-good_name Lpf = record { word = word_by_test (deck_names Lpf) refl; few = omega arith; plain = all_plain (deck_names Lpf) refl }
-good_name Wel = record { word = word_by_test (deck_names Wel) refl; few = omega arith; plain = all_plain (deck_names Wel) refl }
-good_name Riv = record { word = word_by_test (deck_names Riv) refl; few = omega arith; plain = all_plain (deck_names Riv) refl }
-good_name Drn = record { word = word_by_test (deck_names Drn) refl; few = omega arith; plain = all_plain (deck_names Drn) refl }
-good_name Ghb = record { word = word_by_test (deck_names Ghb) refl; few = omega arith; plain = all_plain (deck_names Ghb) refl }
-good_name Rch = record { word = word_by_test (deck_names Rch) refl; few = omega arith; plain = all_plain (deck_names Rch) refl }
-good_name Chd = record { word = word_by_test (deck_names Chd) refl; few = omega arith; plain = all_plain (deck_names Chd) refl }
-good_name Evt = record { word = word_by_test (deck_names Evt) refl; few = omega arith; plain = all_plain (deck_names Evt) refl }
+good_name x = record { word = word_by_test (deck_names x) refl; few = omega arith; plain = all_plain (deck_names x) refl }
 
 -- the first of some packages whose file has a name
 first_named : List ℕ → List Package → Option Package
@@ -38,15 +29,7 @@ named_by w = first_named w packages
 named_back : (k : Package) → named_by (deck_names k) ≡ Some k
 unfolding first_named
 named_back Dis = refl
-named_back Bas = refl
-named_back Lpf = refl
-named_back Wel = refl
-named_back Riv = refl
-named_back Drn = refl
-named_back Ghb = refl
-named_back Rch = refl
-named_back Chd = refl
-named_back Evt = refl
+named_back x = refl
 
 none_named : named_by deck_name ≡ None
 unfolding first_named

@@ -2,9 +2,8 @@
 use Rattle.model_text.proofs.Common.{◌≡◌, ℕ, ◌≤◌, ◌==◌, Bool, true, false, nat_le, List, [], ◌∷◌, length, map, filter, All, Option, Some, Ok, refl, sym, ap}
 use Rattle.model_text.proofs.Common.{◌∙◌, arith, list_any, bytes_eq, All-head, All-tail, nat_tests, File, bytes_under, file_at, folder_name, is_same_package}
 use Rattle.model_text.proofs.Common.{Package, FlowModel, text, packages, name_item, IsFileName, AreNames, has, lines_of, package_file, name_file, written}
-use Rattle.model_text.proofs.Common.{with_limit}
+use Rattle.model_text.proofs.Common.{with_limit, is_same, is_itself}
 use Rattle.std.proofs.lemmas.Slice.Eq.{bytes_eq-Decides}
-use Rattle.model_text.proofs.PackageTexts.{same_itself, same_is}
 
 -- a folder is asked for a name without a backslash by the name itself
 plain_name : (w : List ℕ) → All (λ b. b ≡ 92 → ⊥) w → folder_name w ≡ w
@@ -58,7 +57,7 @@ module _ (m : FlowModel) (names : Package → List ℕ) (name : List ℕ) (h : A
       first j e = rw (← e, is_in, same_bytes (names asked)) refl
 
       by_case : (list_any (λ j. is_same_package asked j) ks ≡ true → IsFound asked ks) → (b : Bool) → is_same_package asked k ≡ b → IsFound asked (k ∷ ks)
-      by_case rest true e = first k (same_is asked k e)
+      by_case rest true e = first k (is_same asked k e)
       by_case rest false e = further (has m k) refl
         where
           later : list_any (λ j. is_same_package asked j) ks ≡ true
@@ -67,7 +66,7 @@ module _ (m : FlowModel) (names : Package → List ℕ) (name : List ℕ) (h : A
           differ : names asked ≡ names k → ⊥
           differ same =
               let is : asked ≡ k = h.distinct asked k same in
-              let itself : is_same_package asked k ≡ true = rw is (same_itself k) in
+              let itself : is_same_package asked k ≡ true = rw is (is_itself k) in
               let clash : true ≡ false = sym itself ∙ e in
               cc
 

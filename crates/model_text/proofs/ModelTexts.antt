@@ -143,15 +143,7 @@ module _ (limits : Limits) (m : FlowModel) (w : IsWritable limits m) (names : Pa
 
   listed : (k : Package) → list_any (λ j. is_same_package k j) packages ≡ true
   listed Dis = refl
-  listed Bas = refl
-  listed Lpf = refl
-  listed Wel = refl
-  listed Riv = refl
-  listed Drn = refl
-  listed Ghb = refl
-  listed Rch = refl
-  listed Chd = refl
-  listed Evt = refl
+  listed x = refl
 
   named : (k : Package) → file_of k pairs ≡ (if has m k then Some (names k) else None)
   named k = by_case (has m k) refl

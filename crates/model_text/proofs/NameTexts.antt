@@ -3,10 +3,10 @@ use Rattle.model_text.proofs.Common.{◌≡◌, ℕ, ◌≤◌, Bool, true, fals
 use Rattle.model_text.proofs.Common.{refl, arith, list_all, list_any, append-nil, All-nil, All-cons, All-head, All-tail, All-from_recursion, nat_tests}
 use Rattle.model_text.proofs.Common.{is_good_name, next_number, Pairs, is_same_package, file_of, has_package, file_in, after_package, after_line, after_lines}
 use Rattle.model_text.proofs.Common.{whole, names_of, Package, Dis, Bas, Lpf, IsWord, IsWordByte, Line, IsLine, line_text, text, numbered_lines, unread}
-use Rattle.model_text.proofs.Common.{line_is_item, packages, file_type, file_unit, name_item, IsFileName, AreNames}
+use Rattle.model_text.proofs.Common.{line_is_item, packages, file_type, file_unit, name_item, IsFileName, AreNames, is_same, is_itself}
 use Rattle.record_lines.specs.Items.{word_at, name_at}
 use Rattle.array_text.proofs.LineTexts.{line_words, text_left}
-use Rattle.model_text.proofs.PackageTexts.{type_is_word, unit_is_word, type_is_item, type_reads, type_is_kept, unit_is_integer, same_itself, same_is, AreApart, packages_apart}
+use Rattle.model_text.proofs.PackageTexts.{type_is_word, unit_is_word, type_is_item, type_reads, type_is_kept, unit_is_integer, AreApart, packages_apart}
 
 good_bytes : (bs : List ℕ) → All (λ b. IsWordByte b) bs → list_all (λ b. nat_le 33 b && nat_le b 126) bs ≡ true
 good_bytes [] h = refl
@@ -50,7 +50,7 @@ module _ (names : Package → List ℕ) (p : Package → Bool) where
   absent asked out (k ∷ ks) = by_case (absent asked out ks) (p k) refl
     where
       differs : (b : Bool) → p k ≡ true → is_same_package asked k ≡ b → b ≡ false
-      differs true e s = let same : asked ≡ k = same_is asked k s in absurd (let found : p asked ≡ true = rw same e in cc)
+      differs true e s = let same : asked ≡ k = is_same asked k s in absurd (let found : p asked ≡ true = rw same e in cc)
       differs false e s = refl
 
       by_case : file_of asked (pairs_of ks) ≡ None → (b : Bool) → p k ≡ b → file_of asked (pairs_of (k ∷ ks)) ≡ None
@@ -62,11 +62,11 @@ module _ (names : Package → List ℕ) (p : Package → Bool) where
   present asked is_in (k ∷ ks) there = by_case (λ later. present asked is_in ks later) (is_same_package asked k) refl
     where
       first : (j : Package) → asked ≡ j → file_of asked (pairs_of (j ∷ ks)) ≡ Some (names asked)
-      first j e = rw (← e, is_in, same_itself asked) refl
+      first j e = rw (← e, is_in, is_itself asked) refl
 
       by_case : (list_any (λ j. is_same_package asked j) ks ≡ true → file_of asked (pairs_of ks) ≡ Some (names asked)) → (b : Bool) → is_same_package asked k ≡ b
           → file_of asked (pairs_of (k ∷ ks)) ≡ Some (names asked)
-      by_case rest true e = first k (same_is asked k e)
+      by_case rest true e = first k (is_same asked k e)
       by_case rest false e = further (p k) refl
         where
           later : list_any (λ j. is_same_package asked j) ks ≡ true

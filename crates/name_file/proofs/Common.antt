@@ -1,11 +1,11 @@
 -- Names that several proofs of this crate cite, of the crates below and of its own definitions, passed on from one place. Declares nothing.
-pub use Rattle.std.proofs.Common.{All, Bool, Contains, Err, List, None, Ok, Option, Result, Some, [], ap, arith, false, if◌then◌else◌, is_some, length, refl}
-pub use Rattle.std.proofs.Common.{rules, sym, true, ℕ, ◌++◌, ◌∙◌, ◌∷◌, ◌≡◌}
+pub use Rattle.std.proofs.Common.{All, Bool, Contains, Err, List, None, Ok, Option, Some, [], ap, arith, false, if◌then◌else◌, is_some, length, refl, rules}
+pub use Rattle.std.proofs.Common.{sym, true, ℕ, ◌++◌, ◌∙◌, ◌∷◌, ◌≡◌}
 pub use Rattle.std.proofs.lemmas.List.Elements.{All-contains, All-head, All-nil, All-push, All-tail}
 pub use Rattle.std.specs.Map.{keys_of, lookup}
 pub use Rattle.std.specs.Prelude.{IfOk, IsTrue}
 pub use Rattle.name_file.specs.Pairs.{AreFiles, IsWhole, Pairs, file_of, has_package, is_needed, is_same_package, packages_of}
-pub use Rattle.name_file.specs.Reading.{after_type, after_words, is_integer, missing, with_pair}
+pub use Rattle.name_file.specs.Reading.{after_type, after_words, is_integer, missing}
 unfoldable pub use Rattle.name_file.specs.Reading.{after_line, after_lines, after_package, file_in, names_of, whole}
 pub use Rattle.name_file.specs.contracts.package.PackagePartialEq.TheImpl.{ghosts}
 pub use Rattle.name_file.specs.declared.package.Package.{Package}

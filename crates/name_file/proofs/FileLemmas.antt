@@ -1,7 +1,7 @@
 -- What a look-up by a package finds.
 use Rattle.name_file.proofs.Common.{◌≡◌, ℕ, Bool, true, false, Some, None, List, [], ◌∷◌, ◌++◌, refl, sym, ◌∙◌, Contains, is_some, rules, arith, IsTrue}
-use Rattle.name_file.proofs.Common.{All-contains, All-push, IsGoodName, keys_of, lookup, ghosts, Package, Dis, Bas, Lpf, Wel, Riv, Drn, Ghb, Rch, Chd, Evt}
-use Rattle.name_file.proofs.Common.{Pairs, AreFiles, IsWhole, is_same_package, file_of, has_package, is_needed, packages_of}
+use Rattle.name_file.proofs.Common.{All-contains, All-push, IsGoodName, keys_of, lookup, ghosts, Package, Dis, Bas, Lpf, Wel, Pairs, AreFiles, IsWhole}
+use Rattle.name_file.proofs.Common.{is_same_package, file_of, has_package, is_needed, packages_of}
 use Rattle.std.proofs.lemmas.Map.Keys.{IsDistinct-push}
 use Rattle.std.proofs.lemmas.Map.Made.{is_some-lookup}
 use Rattle.std.proofs.lemmas.Map.Views.{Contains-from_lookup, IsSome-lookup_from_Contains}
@@ -11,20 +11,12 @@ use denote.Enum.Bare.{same_true}
 use Rattle.name_file.specs.contracts.package.Package.{the_type}
 use Rattle.name_file.proofs.SamePackage.{derived_is, looked_up}
 
-is_same : (x y : Package) → is_same_package x y ≡ true → x ≡ y
+pub is_same : (x y : Package) → is_same_package x y ≡ true → x ≡ y
 is_same x y e = same_true the_type (search rules) x y (derived_is x y ∙ e)
 
-is_itself : (x : Package) → is_same_package x x ≡ true
+pub is_itself : (x : Package) → is_same_package x x ≡ true
 is_itself Dis = refl
-is_itself Bas = refl
-is_itself Lpf = refl
-is_itself Wel = refl
-is_itself Riv = refl
-is_itself Drn = refl
-is_itself Ghb = refl
-is_itself Rch = refl
-is_itself Chd = refl
-is_itself Evt = refl
+is_itself x = refl
 
 turned : (x y : Package) → is_same_package x y ≡ true → is_same_package y x ≡ true
 turned x y e = rw (is_same x y e) (is_itself y)
@@ -81,9 +73,4 @@ is_there Dis names h needed = h.discretization
 is_there Bas names h needed = h.basic
 is_there Lpf names h needed = h.flow
 is_there Wel names h needed = cc
-is_there Riv names h needed = cc
-is_there Drn names h needed = cc
-is_there Ghb names h needed = cc
-is_there Rch names h needed = cc
-is_there Chd names h needed = cc
-is_there Evt names h needed = cc
+is_there x names h needed = cc

@@ -1,13 +1,11 @@
 -- The files of a name file are words of it.
-use Rattle.name_file.proofs.Common.{◌≡◌, ℕ, List, [], ◌∷◌, ◌++◌, if◌then◌else◌, Option, Some, None, Result, Ok, Err, All, Contains, IfOk, All-nil, All-push}
-use Rattle.name_file.proofs.Common.{All-head, All-tail, All-contains, folder_name, Numbered, left_from, is_comment, Pairs, has_package, is_integer, file_in}
-use Rattle.name_file.proofs.Common.{with_pair, after_package, after_type, after_words, after_line, after_lines, missing, whole, names_of, Package, Dis, Bas}
-use Rattle.name_file.proofs.Common.{Lpf}
+use Rattle.name_file.proofs.Common.{◌≡◌, ℕ, List, [], ◌∷◌, ◌++◌, if◌then◌else◌, Option, Some, None, Ok, Err, All, Contains, IfOk, All-nil, All-push, All-head}
+use Rattle.name_file.proofs.Common.{All-tail, All-contains, folder_name, Numbered, left_from, is_comment, Pairs, has_package, is_integer, file_in}
+use Rattle.name_file.proofs.Common.{after_package, after_type, after_words, after_line, after_lines, missing, whole, names_of, Package, Dis, Bas, Lpf}
 use Rattle.outside.specs.Asking.{WordsMay, TextMay}
 use Rattle.outside.specs.Words.{words}
 use Rattle.outside.specs.Refusals.{refusal}
 use Rattle.outside.specs.declared.codes.Code.TheVariants.{BadNameLine, DuplicatePackage}
-use Rattle.outside.specs.declared.refusals.Refusal.{Refusal}
 use Rattle.record_lines.specs.Asking.{LineMay}
 use Rattle.record_lines.specs.Items.{word_at, name_at}
 use Rattle.record_lines.proofs.Forward.{chain, either, given, word_held, name_held, text_held}

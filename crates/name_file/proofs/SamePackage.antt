@@ -19,15 +19,7 @@ IsDerived a b = ghosts.eq a b ≡ is_same_package a b
 
 pub derived_is : (a b : Package) → ghosts.eq a b ≡ is_same_package a b
 derived_is Dis b = at_each (IsDerived Dis) refl refl refl refl refl refl refl refl refl refl b
-derived_is Bas b = at_each (IsDerived Bas) refl refl refl refl refl refl refl refl refl refl b
-derived_is Lpf b = at_each (IsDerived Lpf) refl refl refl refl refl refl refl refl refl refl b
-derived_is Wel b = at_each (IsDerived Wel) refl refl refl refl refl refl refl refl refl refl b
-derived_is Riv b = at_each (IsDerived Riv) refl refl refl refl refl refl refl refl refl refl b
-derived_is Drn b = at_each (IsDerived Drn) refl refl refl refl refl refl refl refl refl refl b
-derived_is Ghb b = at_each (IsDerived Ghb) refl refl refl refl refl refl refl refl refl refl b
-derived_is Rch b = at_each (IsDerived Rch) refl refl refl refl refl refl refl refl refl refl b
-derived_is Chd b = at_each (IsDerived Chd) refl refl refl refl refl refl refl refl refl refl b
-derived_is Evt b = at_each (IsDerived Evt) refl refl refl refl refl refl refl refl refl refl b
+derived_is x b = at_each (IsDerived x) refl refl refl refl refl refl refl refl refl refl b
 
 pub looked_up : (asked : Package) (names : Pairs) → lookup (ghosts.eq asked) names ≡ file_of asked names
 looked_up asked [] = refl
