@@ -1,7 +1,7 @@
 -- Arithmetic on spans: operations keep the order, and exponents grow with each by 18 at most.
 use Rattle.conductance_bounds.proofs.Common.{ℕ, zero, suc, ◌+◌, ◌*◌, ◌≤◌, ◌<◌, ◌^◌, arith, ℤ, pos, negsuc, neg_ℤ, ◌+ℤ◌, ◌-ℤ◌, unsigned_abs, int_min, int_max}
 use Rattle.conductance_bounds.proofs.Common.{ints, clamps, AtMost, plus, times, over, up, down, AtMost-trans, plus-AtMost, times-AtMost, over-AtMost, ten_pos}
-use Rattle.conductance_bounds.proofs.Common.{cross_of, Sd, value, IsDown, IsUp, IsNear, HasSize, Span, IsOrdered, reach}
+use Rattle.conductance_bounds.proofs.Common.{cross_of, Sd, value, IsDown, IsUp, IsNear, HasSize, Span, IsOrdered, reach, mul-pos}
 use Rattle.scaled_decimal.specs.Nearest.{IsWithin}
 use Rattle.conductance_bounds.proofs.Enclosing.{positive_value}
 
@@ -90,11 +90,8 @@ size_reach x n l h = reach_within x n (record { above = l.above; below = l.below
 pub positive_above : (x y : Sd) → AtMost (value x) (value y) → 0 < x.m → 0 < y.m
 positive_above x y h p = at_least x.m (10 ^ (up x.e + down y.e)) y.m (10 ^ (up y.e + down x.e)) p (ten_pos (up x.e + down y.e)) (rw (cross_of x.m y.m x.e y.e, cross_of y.m x.m y.e x.e) at h.cross)
   where
-    positive_product : (a b : ℕ) → 0 < a → 0 < b → 0 < a * b
-    positive_product a b p q = grind arith
-
     at_least : (a p b q : ℕ) → 0 < a → 0 < p → a * p ≤ b * q → 0 < b
-    at_least a p zero q ha hp h = absurd (omega (arith, h, positive_product a p ha hp))
+    at_least a p zero q ha hp h = absurd (omega (arith, h, mul-pos ha hp))
     at_least a p (suc b) q ha hp h = omega arith
 
 pub sum_ordered : (a b r : Span) → IsOrdered a → IsOrdered b → IsDown r.lo (plus (value a.lo) (value b.lo)) → IsUp r.hi (plus (value a.hi) (value b.hi)) → IsOrdered r

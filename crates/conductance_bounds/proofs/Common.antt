@@ -1,9 +1,8 @@
 -- Names that several proofs of this crate cite, of the crates below and of its own definitions, passed on from one place. Declares nothing.
-pub use Rattle.std.proofs.Common.{Bool, FitsSigned, None, Option, Some, ap, arith, cond, false, inl, inr, min, neg_ℤ, negsuc, pos, refl, rules, subst, suc, sym}
-pub use Rattle.std.proofs.Common.{to_z, true, zero, ℕ, ℤ, ◌*ℤ◌, ◌*◌, ◌+ℤ◌, ◌+◌, ◌-ℤ◌, ◌-◌, ◌/◌, ◌<ℤ◌, ◌<◌, ◌^◌, ◌∙◌, ◌≡◌, ◌≤ℤ◌, ◌≤◌, ◌⊎◌}
+pub use Rattle.std.proofs.Common.{Bool, FitsSigned, None, Option, Some, ap, arith, cond, false, inl, inr, min, mul-pos, neg_ℤ, negsuc, pos, refl, rules, subst}
+pub use Rattle.std.proofs.Common.{suc, sym, to_z, true, zero, ℕ, ℤ, ◌*ℤ◌, ◌*◌, ◌+ℤ◌, ◌+◌, ◌-ℤ◌, ◌-◌, ◌/◌, ◌<ℤ◌, ◌<◌, ◌^◌, ◌∙◌, ◌≡◌, ◌≤ℤ◌, ◌≤◌, ◌⊎◌}
 pub use Rattle.std.proofs.Math.Nat.{div-mul-le_self, le_of_mul-le-mul_right, lt-mul-div-succ, lt_of_mul-lt-mul_right, mul-le-mul, mul-le-mul_right, pow-suc}
 pub use Rattle.std.proofs.lemmas.Bool.{cases_Bool, cases_lt, false≢true, true≢false}
-pub use Rattle.std.proofs.lemmas.Bool.Decides.{nat_tests}
 pub use Rattle.std.proofs.lemmas.Int.{by_lt_z, clamps, ints, to_z-of_z, to_z_pos}
 pub use Rattle.std.specs.Int.{int_max, int_min, w128, w64}
 pub use Rattle.std.specs.Prelude.{IfSome, unsigned_abs, ◌==◌}
@@ -13,7 +12,7 @@ pub use Rattle.conductance_bounds.specs.Branches.{storativity_term, thickness_of
 pub use Rattle.conductance_bounds.specs.Branches.{vertical_term}
 pub use Rattle.conductance_bounds.specs.Calls.{IsBed, IsColHalf, IsHalf, IsVertHalf, LiesWithin}
 pub use Rattle.conductance_bounds.specs.Formulas.{column_k_term, evap_term, face_term, recharge_term, storage_term, thick_term}
-pub use Rattle.conductance_bounds.specs.Growth.{IsMultiplier, IsSlow}
+pub use Rattle.conductance_bounds.specs.Growth.{IsSlow}
 unfoldable pub use Rattle.conductance_bounds.specs.Growth.{power_term, sum_term}
 pub use Rattle.conductance_bounds.specs.Intervals.{AreBounds, IsOrdered}
 unfoldable pub use Rattle.conductance_bounds.specs.Intervals.{reach}
@@ -31,7 +30,7 @@ pub use Rattle.decimal_input.proofs.Orders.{AtMost-refl, AtMost-trans, Same-AtMo
 pub use Rattle.decimal_input.proofs.Orders.{num_plus, num_times, over-AtMost, plus-AtMost, times-AtMost}
 pub use Rattle.decimal_input.proofs.Powers.{cross_of, den_scaled, num_scaled, power_within, scaled-AtMost, scaled_shift, ten_pos}
 pub use Rattle.decimal_input.proofs.SameNumbers.{Same-self, over-Same, over-positive, plus-Same, plus-positive, times-Same, times-positive}
-pub use Rattle.decimal_input.proofs.Signs.{cancel_right, mul_mono_right, neg_times, swap}
+pub use Rattle.decimal_input.proofs.Signs.{add_times, cancel_right, mul_mono_right, neg_times, swap}
 pub use Rattle.decimal_input.specs.Canonical.{number, size}
 pub use Rattle.decimal_input.specs.Decimals.{down, up, with_sign}
 unfoldable pub use Rattle.decimal_input.specs.Decimals.{scaled}

@@ -1,12 +1,9 @@
 use Rattle.conductance_bounds.proofs.Common.{ℕ, ◌*◌, ◌≤◌, ◌<◌, ◌^◌, arith, subst, sym, mul-le-mul_right, le_of_mul-le-mul_right, Ratio, den, AtMost, Same}
 use Rattle.conductance_bounds.proofs.Common.{AtMost-trans, Same-AtMost, Same-back, plus-AtMost, times-AtMost, over-AtMost, ten_pos, num_scaled, up, Sd, value}
-use Rattle.conductance_bounds.proofs.Common.{Term, Side, exact, IsBound, Holds, Number, Within, Sum, Product, Quotient, Lower, Upper, Encloses, IsPair}
+use Rattle.conductance_bounds.proofs.Common.{Term, Side, exact, IsBound, Holds, Number, Within, Sum, Product, Quotient, Lower, Upper, Encloses, IsPair, mul-pos}
 
 pub positive_value : (x : Sd) → 0 < x.m → 0 < (value x).num
-positive_value x h = rw num_scaled (positive x.m (10 ^ up x.e) h (ten_pos (up x.e)))
-  where
-    positive : (a b : ℕ) → 0 < a → 0 < b → 0 < a * b
-    positive a b p q = grind arith
+positive_value x h = rw num_scaled (mul-pos h (ten_pos (up x.e)))
 
 -- r is on its side of f
 abbrev pub IsOn : Side → Sd → Ratio → Type 0

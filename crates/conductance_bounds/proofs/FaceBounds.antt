@@ -1,14 +1,14 @@
 -- The pair of a face's formula contains the manual's conductance of the face.
 use Rattle.conductance_bounds.proofs.Common.{◌≡◌, ℕ, zero, suc, ◌+◌, ◌*◌, ◌<◌, inl, inr, true, cond, arith, ap, ◌∙◌, ℤ, pos, ◌-ℤ◌, ◌*ℤ◌, ◌==◌, unsigned_abs}
-use Rattle.conductance_bounds.proofs.Common.{cases_Bool, nat_tests, ints, number, size, Encloses, Fraction, FlowModel, cell_count, layer_size, gap, dec_at}
-use Rattle.conductance_bounds.proofs.Common.{is_active, has_bed, bottom_at, lowest, delr_at, delc_at, thickness, bed_thickness, hk_at, vka_at, vkcb_at}
-use Rattle.conductance_bounds.proofs.Common.{is_ratio, row_conductance, column_conductance, vertical_half, vertical_conductance, conductance, IsModel, Span}
-use Rattle.conductance_bounds.proofs.Common.{Number, IsPair, face_term, column_k_term, times-positive}
+use Rattle.conductance_bounds.proofs.Common.{cases_Bool, ints, number, size, Encloses, Fraction, FlowModel, cell_count, layer_size, gap, dec_at, is_active}
+use Rattle.conductance_bounds.proofs.Common.{has_bed, bottom_at, lowest, delr_at, delc_at, thickness, bed_thickness, hk_at, vka_at, vkcb_at, is_ratio}
+use Rattle.conductance_bounds.proofs.Common.{row_conductance, column_conductance, vertical_half, vertical_conductance, conductance, IsModel, Span, Number}
+use Rattle.conductance_bounds.proofs.Common.{IsPair, face_term, column_k_term, times-positive}
 use Rattle.model_types.specs.declared.face.Axis.{Axis}
 use Rattle.model_types.specs.declared.face.Axis.TheVariants.{Row, Column, Vertical}
 use Rattle.model_types.specs.Faces.{stride}
 use Rattle.conductance_bounds.specs.ModelLaws.{AreSpanned}
-use Rattle.conductance_bounds.proofs.LayerBounds.{IsLayerHalf, IsBedded, layers_enclose, is_some}
+use Rattle.conductance_bounds.proofs.LayerBounds.{IsLayerHalf, IsBedded, layers_enclose, is_some, is_zero}
 use Rattle.conductance_bounds.proofs.Manual.{row_pair_encloses}
 use Rattle.conductance_bounds.proofs.Positive.{size_positive}
 use Rattle.conductance_bounds.proofs.Ready.{IsReady, is_ready}
@@ -20,9 +20,6 @@ none_between x = let e : x -ℤ x ≡ pos 0 = omega (arith, ints) in ap unsigned
 
 pub no_gap : (f g : Fraction) → f ≡ g → (gap g f).num ≡ 0
 no_gap f g e = ap (λ h. (gap g h).num) e ∙ none_between (g.num *ℤ pos (suc g.less))
-
-zero_test : (n : ℕ) → n ≡ 0 → (n == 0) ≡ true
-zero_test n e = grind (arith, nat_tests)
 
 module _ (m : FlowModel) (thick bed : ℕ → Span) where
   pub row_face : (a s lo hi : ℕ) → IsReady m thick a → IsReady m thick (a + stride m.grid Row) → IsPair (face_term m thick bed Row a) s lo hi → Encloses lo hi s (conductance m Row a)
@@ -58,10 +55,10 @@ module _ (m : FlowModel) (thick bed : ℕ → Span) where
   bedded_at : IsModel m → AreSpanned m thick bed → (a : ℕ) → a + layer_size m.grid < cell_count m.grid → is_active m a ≡ true → is_active m (a + layer_size m.grid) ≡ true → IsBedded ((bed_thickness m a).num == 0) (bed_thickness m a) (size (vkcb_at m a)) (bed a).lo (bed a).hi
   bedded_at valid spans a lt x y = elim (cases_Bool (has_bed m a)) [
     | inl e ↦ (elim (valid.beds a lt x y e) [
-      | inl same ↦ inl (zero_test _ (no_gap (number (lowest m a)) (number (bottom_at m a)) same), no_gap (number (lowest m a)) (number (bottom_at m a)) same)
+      | inl same ↦ inl (is_zero _ (no_gap (number (lowest m a)) (number (bottom_at m a)) same), no_gap (number (lowest m a)) (number (bottom_at m a)) same)
       | inr k ↦ inr (is_some _ (thick_positive (bottom_at m a) (lowest m a) k.thick), size_positive (vkcb_at m a) k.vkcb, thick_between (bottom_at m a) (lowest m a) (bed a) (spans.beds a lt x y (thick_positive (bottom_at m a) (lowest m a) k.thick)) k.thick)
     ])
-    | inr e ↦ (let none : (bed_thickness m a).num ≡ 0 = no_gap (number (lowest m a)) (number (bottom_at m a)) (ap (λ b. number (cond b (dec_at m.grid.bed_bottom a) (dec_at m.grid.bottom a))) e) in inl (zero_test _ none, none))
+    | inr e ↦ (let none : (bed_thickness m a).num ≡ 0 = no_gap (number (lowest m a)) (number (bottom_at m a)) (ap (λ b. number (cond b (dec_at m.grid.bed_bottom a) (dec_at m.grid.bottom a))) e) in inl (is_zero _ none, none))
   ]
 
   -- The pairs of the faces of a valid model enclose its conductances.

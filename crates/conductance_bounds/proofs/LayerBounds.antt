@@ -1,9 +1,10 @@
 -- The pair of a vertical branch contains the manual's conductance, with a bed or without.
 use Rattle.conductance_bounds.proofs.Common.{◌≡◌, ℕ, zero, suc, ◌*◌, ◌≤◌, ◌<◌, ◌^◌, ◌⊎◌, inl, inr, Bool, true, false, Option, Some, None, arith, refl, subst}
-use Rattle.conductance_bounds.proofs.Common.{sym, ◌==◌, IfSome, true≢false, false≢true, nat_tests, Dec, size, Encloses, Ratio, den, plus, times, over, AtMost}
-use Rattle.conductance_bounds.proofs.Common.{num_scaled, up, Sd, value, two, Pair, Span, AreBounds, Term, exact, Holds, IsBetween, Number, Within, Sum}
-use Rattle.conductance_bounds.proofs.Common.{Quotient, area_formula, vertical_k_term, vertical_k, vertical_term, resistance_sum, vertical_of, vertical_exact}
-use Rattle.conductance_bounds.proofs.Common.{IsVertHalf, IsBed, IsPair, IsWholePair, over-positive}
+use Rattle.conductance_bounds.proofs.Common.{sym, ◌==◌, IfSome, true≢false, false≢true, Dec, size, Encloses, Ratio, den, plus, times, over, AtMost, num_scaled}
+use Rattle.conductance_bounds.proofs.Common.{up, Sd, value, two, Pair, Span, AreBounds, Term, exact, Holds, IsBetween, Number, Within, Sum, Quotient}
+use Rattle.conductance_bounds.proofs.Common.{area_formula, vertical_k_term, vertical_k, vertical_term, resistance_sum, vertical_of, vertical_exact, IsVertHalf}
+use Rattle.conductance_bounds.proofs.Common.{IsBed, IsPair, IsWholePair, over-positive}
+use Rattle.std.proofs.lemmas.Bool.Decides.{nat_tests}
 use Rattle.conductance_bounds.specs.declared.vertical.VertHalf.{VertHalf}
 use Rattle.conductance_bounds.specs.declared.vertical.Bed.{Bed}
 use Rattle.conductance_bounds.proofs.Manual.{vertical_encloses, bed_encloses}

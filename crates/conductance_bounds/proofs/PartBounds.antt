@@ -1,26 +1,18 @@
 -- The part of a period that has passed lies between its bounds, and is at most 1.
 use Rattle.conductance_bounds.proofs.Common.{◌≡◌, ℕ, zero, suc, ◌+◌, ◌*◌, ◌-◌, ◌/◌, ◌≤◌, ◌<◌, ◌^◌, inl, inr, Bool, true, false, cond, min, arith, refl, subst}
 use Rattle.conductance_bounds.proofs.Common.{sym, ap, mul-le-mul_right, le_of_mul-le-mul_right, lt-mul-div-succ, div-mul-le_self, lt_of_mul-lt-mul_right, ints}
-use Rattle.conductance_bounds.proofs.Common.{cases_lt, size, Ratio, den, ratio, plus, over, AtMost, Same, AtMost-trans, AtMost-refl, Same-AtMost, Same-back}
-use Rattle.conductance_bounds.proofs.Common.{num_plus, den_plus, num_over, den_over, scaled, IsCeiling, Passes, Sd, value, IsPositive, IsTimed, number_one}
-use Rattle.conductance_bounds.proofs.Common.{Span, AreBounds, Period, one, power, geometric, multiplier, passed, exact, IsBound, Lower, Upper, Quotient}
-use Rattle.conductance_bounds.proofs.Common.{sum_term, IsMultiplier, IsPart, IsGrowingPart, IsPassed, part_term, over-Same, power-positive}
+use Rattle.conductance_bounds.proofs.Common.{cases_lt, size, Ratio, den, ratio, over, AtMost, Same, AtMost-trans, AtMost-refl, Same-AtMost, Same-back, num_plus}
+use Rattle.conductance_bounds.proofs.Common.{num_over, den_over, scaled, IsCeiling, Sd, value, IsPositive, IsTimed, number_one, Span, AreBounds, Period, one}
+use Rattle.conductance_bounds.proofs.Common.{power, geometric, multiplier, passed, exact, IsBound, Lower, Upper, Quotient, sum_term, IsPart, IsGrowingPart}
+use Rattle.conductance_bounds.proofs.Common.{IsPassed, part_term, over-Same, power-positive}
 use Rattle.conductance_bounds.proofs.Positive.{size_positive}
 use Rattle.conductance_bounds.proofs.Enclosing.{bound_on, below_units, above_units}
 use Rattle.conductance_bounds.proofs.Horner.{sum_is, sum_holds}
-
-abbrev unit : ℕ
-unit = 10 ^ 18
-
-more : (a x b y : ℕ) → a * (x * y) ≤ (a * y + b * x) * x
-more a x b y = omega arith
-
-grows : (f p : Ratio) → AtMost f (plus f p)
-grows f p = record { cross = rw (num_plus f p, den_plus f p) (more f.num (den f) p.num (den p)) }
+use Rattle.scaled_decimal.proofs.Sums.{more_plus}
 
 next : (t : Ratio) (m : ℕ) → AtMost (geometric t m) (geometric t (suc m))
 unfolding geometric
-next t m = grows (geometric t m) (power t m)
+next t m = more_plus (geometric t m) (power t m)
 
 pub geometric_grows : (t : Ratio) (n k : ℕ) → AtMost (geometric t n) (geometric t (n + k))
 geometric_grows t n zero = subst (λ (m : ℕ). AtMost (geometric t n) (geometric t m)) (let e : n ≡ n + 0 = omega arith in e) (AtMost-refl (geometric t n))
@@ -116,12 +108,6 @@ has_ceiling f s = ((f.num * 10 ^ s + f.less) / den f, record { at_least = covers
     lowest : (N l k : ℕ) → N ≤ k * suc l → (N + l) / suc l ≤ k
     lowest N l k h = let lt : (N + l) / suc l < k + 1 = lt_of_mul-lt-mul_right (suc l) (omega (arith, div-mul-le_self (N + l) (suc l), h)) in omega (arith, lt)
 
-pub one_ceiling : (n k : ℕ) (f : Ratio) (s : ℕ) → IsCeiling n f s → IsCeiling k f s → n ≡ k
-one_ceiling n k f s p q = let a : n ≤ k = p.least k q.at_least in let b : k ≤ n = q.least n p.at_least in omega (arith, a, b)
-
-pub past_ceiling : (m n : ℕ) (f : Ratio) (s : ℕ) → Passes m f s → IsCeiling n f s → m < n
-past_ceiling m n f s p q = lt_of_mul-lt-mul_right (den f) (omega (arith, p.pass, q.at_least))
-
 unit_positive : 0 < one.num
 unfolding ratio
 unit_positive = omega arith
@@ -140,15 +126,6 @@ unity_is_one = refl
 
 pub steady_bounds : (p : Period) (n : ℕ) (x : Span) → p.steady ≡ true → AreBounds (sum_term (size number_one) n) x → AreBounds (sum_term (multiplier p) n) x
 steady_bounds p n x e h = subst (λ (b : Bool). AreBounds (sum_term (cond b one (size p.tsmult)) n) x) (sym e) (subst (λ (r : Ratio). AreBounds (sum_term r n) x) unity_is_one h)
-
-pub transient_bounds : (p : Period) (n : ℕ) (x : Span) → p.steady ≡ false → AreBounds (sum_term (size p.tsmult) n) x → AreBounds (sum_term (multiplier p) n) x
-transient_bounds p n x e h = subst (λ (b : Bool). AreBounds (sum_term (cond b one (size p.tsmult)) n) x) (sym e) h
-
-pub timed_multiplier : (p : Period) (n : ℕ) → IsTimed p → p.steady ≡ false → n ≤ p.nstp → IsMultiplier p.tsmult n
-timed_multiplier p n h e few = elim (h.growth e) [
-  | inl same ↦ inl same
-  | inr g ↦ inr (record { few = omega (arith, few, g.few); least = g.least; most = g.most })
-]
 
 pub unity_positive : IsPositive number_one
 unity_positive = record { decimal = record { few = omega arith; form = inr (omega arith, omega arith); above = omega (arith, ints); below = omega (arith, ints) }; sign = refl; positive = omega arith }

@@ -1,9 +1,8 @@
 -- The decimals of a thickness contain it.
 use Rattle.conductance_bounds.proofs.Common.{◌≡◌, ℕ, zero, suc, ◌*◌, ◌≤◌, ◌<◌, ◌^◌, arith, ℤ, pos, negsuc, neg_ℤ, ◌-ℤ◌, ◌*ℤ◌, ◌≤ℤ◌, ◌<ℤ◌, unsigned_abs, ints}
 use Rattle.conductance_bounds.proofs.Common.{Dec, number, Fraction, den, mul_mono_right, diffs, as_diff, same_diff, AtMost-trans, num_scaled, den_scaled, gap}
-use Rattle.conductance_bounds.proofs.Common.{IsThick, IsBetween, Span, IsSpan}
+use Rattle.conductance_bounds.proofs.Common.{IsThick, IsBetween, Span, IsSpan, mul-pos}
 use Rattle.decimal_input.specs.Fractions.{den as denominator}
-use Rattle.conductance_bounds.proofs.Positive.{positive_product}
 
 ring_left : (a b x y : ℤ) → (a -ℤ b) *ℤ (x *ℤ y) ≡ (a *ℤ x) *ℤ y -ℤ (b *ℤ y) *ℤ x
 ring_left a b x y = rw (as_diff a, as_diff b, as_diff x, as_diff y) (simp diffs (same_diff _ _ _ _ (omega arith)))
@@ -31,8 +30,8 @@ abs_high (negsuc n) g x y p a b h = absurd (omega (arith, ints, a))
 -- what is more than a positive number of units is positive
 above_zero : (z g : ℤ) (x y p : ℕ) → pos 0 <ℤ z → 0 < x → 0 < y → (z *ℤ (pos x *ℤ pos y)) ≤ℤ (g *ℤ pos p) → pos 0 <ℤ g
 above_zero (pos (suc n)) (pos (suc k)) x y p a hx hy h = omega (arith, ints)
-above_zero (pos (suc n)) (pos zero) x y p a hx hy h = absurd (omega (arith, ints, h, positive_product (suc n) (x * y) (omega arith) (positive_product x y hx hy)))
-above_zero (pos (suc n)) (negsuc k) x y p a hx hy h = absurd (omega (arith, ints, h, positive_product (suc n) (x * y) (omega arith) (positive_product x y hx hy)))
+above_zero (pos (suc n)) (pos zero) x y p a hx hy h = absurd (omega (arith, ints, h, mul-pos {m = suc n} (omega arith) (mul-pos hx hy)))
+above_zero (pos (suc n)) (negsuc k) x y p a hx hy h = absurd (omega (arith, ints, h, mul-pos {m = suc n} (omega arith) (mul-pos hx hy)))
 above_zero (pos zero) g x y p a hx hy h = absurd (omega (arith, ints, a))
 above_zero (negsuc n) g x y p a hx hy h = absurd (omega (arith, ints, a))
 
