@@ -19,17 +19,11 @@ total-same f g each (t ∷ ts) = rw (each t, total-same f g each ts) refl
 
 total-add_differences : (a b c d : Term → ℤ) (ts : List Term) → total (λ t. a t +ℤ b t -ℤ (c t +ℤ d t)) ts ≡ total (λ t. a t -ℤ c t) ts +ℤ total (λ t. b t -ℤ d t) ts
 total-add_differences a b c d [] = refl
-total-add_differences a b c d (t ∷ ts) = rw (total-add_differences a b c d ts) (regroup (a t) (b t) (c t) (d t) _ _)
-  where
-    regroup : (a b c d x y : ℤ) → a +ℤ b -ℤ (c +ℤ d) +ℤ (x +ℤ y) ≡ a -ℤ c +ℤ x +ℤ (b -ℤ d +ℤ y)
-    regroup a b c d x y = omega (arith, ints)
+total-add_differences a b c d (t ∷ ts) = rw (total-add_differences a b c d ts) (omega (arith, ints))
 
 total-difference : (a b : Term → ℤ) (ts : List Term) → total (λ t. a t -ℤ b t) ts ≡ total a ts -ℤ total b ts
 total-difference a b [] = refl
-total-difference a b (t ∷ ts) = rw (total-difference a b ts) (regroup (a t) (b t) _ _)
-  where
-    regroup : (a b x y : ℤ) → a -ℤ b +ℤ (x -ℤ y) ≡ a +ℤ x -ℤ (b +ℤ y)
-    regroup a b x y = omega (arith, ints)
+total-difference a b (t ∷ ts) = rw (total-difference a b ts) (omega (arith, ints))
 
 pub over_terms : (D : ℕ) (f : Term → Fraction) (z : Term → ℤ) → ((t : Term) → IsOver D (f t) (z t)) → (ts : List Term) → IsOver D (fraction_total f ts) (total z ts)
 over_terms D f z each [] = IsOver-none D

@@ -1,8 +1,8 @@
 -- A net flow lies between the bounds of its In and Out, and so in minus the sum of the others.
-use Rattle.exact_budgets.proofs.Common.{◌≡◌, ℕ, ◌+◌, ◌^◌, refl, sym, arith, ℤ, pos, neg_ℤ, ◌+ℤ◌, ◌-ℤ◌, ◌≤ℤ◌, List, [], ◌∷◌, Bool, true, false, not, filter}
-use Rattle.exact_budgets.proofs.Common.{ints, Fraction, den, negated, fraction_total, Same, total, In, Out, Term, Storage, ConstantHead, Wells, Drains}
-use Rattle.exact_budgets.proofs.Common.{RiverLeakage, HeadDepBounds, Recharge, Et, ExactCell, IsOver-negated, same_over, is_term, all_terms, bounds_in}
-use Rattle.exact_budgets.proofs.Common.{BudgetEncloses, exact_term, net_flow, net_lower, net_upper, others, lower_by_others, upper_by_others, NetTermsLie}
+use Rattle.exact_budgets.proofs.Common.{◌≡◌, ℕ, ◌+◌, ◌^◌, refl, sym, arith, ℤ, pos, neg_ℤ, ◌+ℤ◌, ◌-ℤ◌, List, [], ◌∷◌, Bool, true, false, not, filter, ints}
+use Rattle.exact_budgets.proofs.Common.{Fraction, den, negated, fraction_total, Same, total, In, Out, Term, Storage, ExactCell, IsOver-negated, same_over}
+use Rattle.exact_budgets.proofs.Common.{is_term, all_terms, bounds_in, BudgetEncloses, exact_term, net_flow, net_lower, net_upper, others, lower_by_others}
+use Rattle.exact_budgets.proofs.Common.{upper_by_others, NetTermsLie}
 use Rattle.decimal_input.specs.Enclosures.{EnclosesSigned}
 use Rattle.decimal_input.proofs.Fractional.{cross_trans_signed}
 use Rattle.decimal_input.proofs.Enclosing.{negated_enclosed}
@@ -13,12 +13,9 @@ use Rattle.exact_budgets.proofs.Balance.{TermsOver, over_terms, net_over}
 -- bounds of a fraction are bounds of the same number
 same_encloses : (lo hi : ℤ) (s : ℕ) (f g : Fraction) → Same f g → EnclosesSigned lo hi s f → EnclosesSigned lo hi s g
 same_encloses lo hi s f g same h = record {
-  lower = cross_trans_signed lo f.num g.num (10 ^ s) (den f) (den g) (omega arith) h.lower (le_of _ _ same.same);
-  upper = cross_trans_signed g.num f.num hi (den g) (den f) (10 ^ s) (omega arith) (le_of _ _ (sym same.same)) h.upper;
+  lower = cross_trans_signed lo f.num g.num (10 ^ s) (den f) (den g) (omega arith) h.lower (omega (arith, ints, same.same));
+  upper = cross_trans_signed g.num f.num hi (den g) (den f) (10 ^ s) (omega arith) (omega (arith, ints, sym same.same)) h.upper;
 }
-  where
-    le_of : (a b : ℤ) → a ≡ b → a ≤ℤ b
-    le_of a b e = omega (arith, ints)
 
 terms_enclose : (lo hi : Term → ℤ) (k : ℕ) (f : Term → Fraction) → ((t : Term) → EnclosesSigned (lo t) (hi t) k (f t)) → (ts : List Term) → EnclosesSigned (total lo ts) (total hi ts) k (fraction_total f ts)
 terms_enclose lo hi k f each [] = none_encloses k
@@ -29,25 +26,13 @@ split : (p : Term → Bool) (z : Term → ℤ) (ts : List Term) → total z ts �
 split p z [] = refl
 split p z (t ∷ ts) = one_more (p t) refl (split p z ts)
   where
-    first : (a t x y : ℤ) → t ≡ x +ℤ y → a +ℤ t ≡ a +ℤ x +ℤ y
-    first a t x y e = omega (arith, ints)
-
-    second : (a t x y : ℤ) → t ≡ x +ℤ y → a +ℤ t ≡ x +ℤ (a +ℤ y)
-    second a t x y e = omega (arith, ints)
-
     one_more : (b : Bool) → p t ≡ b → total z ts ≡ total z (filter p ts) +ℤ total z (filter (λ x. not (p x)) ts) → total z (t ∷ ts) ≡ total z (filter p (t ∷ ts)) +ℤ total z (filter (λ x. not (p x)) (t ∷ ts))
-    one_more true e rest = rw e (first (z t) (total z ts) (total z (filter p ts)) (total z (filter (λ x. not (p x)) ts)) rest)
-    one_more false e rest = rw e (second (z t) (total z ts) (total z (filter p ts)) (total z (filter (λ x. not (p x)) ts)) rest)
+    one_more true e rest = rw e (omega (arith, ints))
+    one_more false e rest = rw e (omega (arith, ints))
 
 own : (z : Term → ℤ) (t : Term) → total z (filter (λ x. is_term x t) all_terms) ≡ z t +ℤ pos 0
 own z Storage = refl
-own z ConstantHead = refl
-own z Wells = refl
-own z Drains = refl
-own z RiverLeakage = refl
-own z HeadDepBounds = refl
-own z Recharge = refl
-own z Et = refl
+own z x = refl
 
 left_over : (z : Term → ℤ) → total z all_terms ≡ pos 0 → (t : Term) → z t ≡ neg_ℤ (total z (others t))
 left_over z none t = turn (total z all_terms) (total z (filter (λ x. is_term x t) all_terms)) (total z (others t)) (z t) (split (λ x. is_term x t) z all_terms) (own z t) none

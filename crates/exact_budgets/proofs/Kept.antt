@@ -21,11 +21,8 @@ one_more D f y flows z over rest = record {
   out = int_max (neg_ℤ y) (pos 0) +ℤ rest.out;
   is_in = IsOver-plus D _ _ _ _ (IsOver-greater D f (whole (pos 0)) y (pos 0) over (IsOver-none D)) rest.is_in;
   is_out = IsOver-plus D _ _ _ _ (IsOver-greater D (negated f) (whole (pos 0)) (neg_ℤ y) (pos 0) (IsOver-negated D f y over) (IsOver-none D)) rest.is_out;
-  net = both y rest.into rest.out z rest.net;
+  net = omega (arith, ints, clamps, rest.net);
 }
-  where
-    both : (y a b z : ℤ) → a -ℤ b ≡ z → int_max y (pos 0) +ℤ a -ℤ (int_max (neg_ℤ y) (pos 0) +ℤ b) ≡ y +ℤ z
-    both y a b z e = omega (arith, ints, clamps)
 
 -- the sum of the second elements whose first ones a test keeps
 abbrev pub kept : {X Y : Type 0} → (X → Bool) → (Y → ℤ) → List X → List Y → ℤ
@@ -73,7 +70,4 @@ module _ {X Y : Type 0} (R : X → Y → Type 0) (g : Y → ℤ) where
   total_by_two p q one [] (y ∷ ys) h = absurd h
   total_by_two p q one (x ∷ xs) [] h = absurd h
   total_by_two p q one (x ∷ xs) (y ∷ ys) h =
-      regroup (cond (p x) (g y) (pos 0)) (cond (q x) (g y) (pos 0)) (g y) (total g ys) (kept p g xs ys) (kept q g xs ys) (one x (g y)) (total_by_two p q one xs ys h.1)
-    where
-      regroup : (a b z t x y : ℤ) → a +ℤ b ≡ z → t ≡ x +ℤ y → z +ℤ t ≡ a +ℤ x +ℤ (b +ℤ y)
-      regroup a b z t x y e h = omega (arith, ints)
+      omega (arith, ints, one x (g y), total_by_two p q one xs ys h.1)

@@ -4,7 +4,7 @@ pub mod CellNets
 pub mod Balance
 pub mod Bounds
 pub mod History
-pub mod WorkedCell
+pub mod Worked
 pub mod Sums
 pub mod IndexedSums
 pub mod SingleLinks
@@ -12,4 +12,3 @@ pub mod LoneCells
 pub mod Passing
 pub mod LowerFaces
 pub mod LowerZones
-pub mod WorkedZone

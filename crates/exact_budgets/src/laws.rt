@@ -21,16 +21,19 @@ pub fn steps_have_their_times()
 {}
 
 /// The zone flows of a cell that is alone in its zone are the flows over its links and to constant heads.
+#[tactic(auto, using(crate::proofs::LowerZones::lone_cells))]
 pub fn lone_cells_have_their_flows()
     ensures { LoneCellsHaveTheirFlows }
 {}
 
 /// A well takes 5 out of storage, which is listed from 4 to 6: by the well it is 5.
+#[tactic(auto, using(crate::proofs::Worked::pumped_cell))]
 pub fn pumped_cell()
     ensures { PumpedCell }
 {}
 
 /// Three cells in a row, each in a zone of its own, with heads of 10, 15 and 20: 5 flows back from each to the one before.
+#[tactic(auto, using(crate::proofs::Worked::middle_cell))]
 pub fn middle_cell()
     ensures { MiddleCell }
 {}
