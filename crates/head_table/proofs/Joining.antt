@@ -1,8 +1,61 @@
--- A join keeps the rule.
-use Rattle.head_table.proofs.Common.{◌≡◌, ℕ, ◌<◌, List, length, set, ℤ, true, sym, ap, ◌∙◌, subst, arith, Joins, set_else, Side, Entries, IsHead, Edges}
-use Rattle.head_table.proofs.Common.{IsAsTight, heads_on, Known, words_on, IsSound, IsKnown, IsTableKept, join_views, spent_view, tighter_of}
-use Rattle.head_table.proofs.Unmoved.{views_stay}
-use Rattle.head_table.proofs.Tightest.{tightest_at, length_tightest, tighter_within, tighter_head}
+-- A claim, a split and a join keep the rule.
+use Rattle.head_table.proofs.Common.{◌≡◌, ℕ, List, get_or, set, ℤ, sym, refl, ◌∙◌, subst, ⊎_elim, length-set, none, some, get_elem?, step, keeps, Allows}
+use Rattle.head_table.proofs.Common.{Splits, at_snoc, set_again, Entries, Side, Edges, heads_on, Known, words_on, edge_on, OnTheWay, WereSeen, IsTableKept}
+use Rattle.head_table.proofs.Common.{claim_play, zero, suc, ◌<◌, [], ◌∷◌, length, ap, arith, ints, clamps, Bound, Low, High, IsHead, IsAsTight, tightest}
+use Rattle.head_table.proofs.Common.{tighter_of, true, Joins, set_else, IsSound, IsKnown, join_views, spent_view}
+use Rattle.head_table.proofs.WordReads.{counted_words}
+use Rattle.head_table.proofs.Seeing.{views_stay, KnownMe, Rule}
+
+module _ (cells : List Entries) (edges : Edges) where
+  -- a step on the counter
+  pub claims : (slots id : ℕ) (me : KnownMe) (f : ℕ → ℕ) → Allows (Rule cells edges) slots id me 0 f (claim_play (step slots 0 1 0 none) me)
+  claims slots id me f s r _ at small = let x : ℕ = f (get_or s.words 0 0) in let ws : List ℕ = set s.words 0 x in
+      let same : (side : Side) → words_on side ws ≡ words_on side s.words = λ side. counted_words side s.words x in (
+        me.0,
+        keeps,
+        tt,
+        record {
+          wide = length-set s.words 0 x ∙ r.wide;
+          way = λ side. subst (OnTheWay side cells (edge_on side edges)) (sym (same side)) (r.way side);
+          each_seat = λ j v e l. let f = r.each_seat j v (subst (λ (vs : List Known). get_elem? vs j ≡ some v) (set_again s.views id me.0 at) e) l in record {
+            problem_is = f.problem_is;
+            barrier_is = f.barrier_is;
+            whole = f.whole;
+            heads = λ side. subst (λ (g : ℕ → ℤ). WereSeen side cells g (heads_on side v.seen)) (sym (same side)) (f.heads side);
+          };
+        },
+        refl,
+      )
+
+  pub splits : (id : ℕ) (v : Known) → Splits (Rule cells edges) id v v v
+  splits id v s r at = record {
+    wide = r.wide;
+    way = r.way;
+    each_seat = λ j u e l. let old : (i : ℕ) (y : Known) → get_elem? (set s.views id v) i ≡ some y → get_elem? s.views i ≡ some y = λ i y g. subst (λ (vs : List Known). get_elem? vs i ≡ some y) (set_again s.views id v at) g in
+        ⊎_elim (λ (g : get_elem? (set s.views id v) j ≡ some u). r.each_seat j u (old j u g) l)
+        (λ (g : v ≡ u). r.each_seat id u (subst (λ (y : Known). get_elem? s.views id ≡ some y) g at) l)
+        (at_snoc (set s.views id v) v u j e);
+  }
+
+pub tightest_at : (side : Side) (xs ys : List Bound) (c : ℕ) → c < length xs → c < length ys → heads_on side (tightest xs ys) c ≡ tighter_of side (heads_on side xs c) (heads_on side ys c)
+tightest_at side [] ys c h l = absurd (omega arith)
+tightest_at side (x ∷ xs) [] c h l = absurd (omega arith)
+tightest_at Low (x ∷ xs) (y ∷ ys) zero h l = refl
+tightest_at High (x ∷ xs) (y ∷ ys) zero h l = refl
+tightest_at side (x ∷ xs) (y ∷ ys) (suc c) h l = tightest_at side xs ys c (omega arith) (omega arith)
+
+pub length_tightest : (xs ys : List Bound) → length xs ≡ length ys → length (tightest xs ys) ≡ length xs
+length_tightest [] ys e = refl
+length_tightest (x ∷ xs) [] e = absurd (omega arith)
+length_tightest (x ∷ xs) (y ∷ ys) e = ap suc (length_tightest xs ys (omega arith))
+
+pub tighter_within : (side : Side) (x y z : ℤ) → IsAsTight side x z → IsAsTight side y z → IsAsTight side (tighter_of side x y) z
+tighter_within Low x y z p q = omega (arith, ints, clamps)
+tighter_within High x y z p q = omega (arith, ints, clamps)
+
+pub tighter_head : (side : Side) (x y : ℤ) → IsHead x → IsHead y → IsHead (tighter_of side x y)
+tighter_head Low x y p q = let a = p.above in let b = p.below in let c = q.above in let d = q.below in record { above = omega (arith, ints, clamps); below = omega (arith, ints, clamps) }
+tighter_head High x y p q = let a = p.above in let b = p.below in let c = q.above in let d = q.below in record { above = omega (arith, ints, clamps); below = omega (arith, ints, clamps) }
 
 pub joined_at : (side : Side) (v w : Known) (n : ℕ) → length v.seen ≡ n → length w.seen ≡ n → (c : ℕ) → c < n → heads_on side (join_views v w).seen c ≡ tighter_of side (heads_on side v.seen c) (heads_on side w.seen c)
 joined_at side v w n a b c h = tightest_at side v.seen w.seen c (omega arith) (omega arith)

@@ -1,5 +1,5 @@
 use Rattle.std.proofs.Common.{rules, arith, ◌+◌, ◌%◌, ◌^◌}
-use Rattle.head_table.proofs.Claiming.{claims}
+use Rattle.head_table.proofs.Joining.{claims}
 use Rattle.head_table.proofs.table.HeadTable.claim.Goals as goal
 
 pub fetch_add-requires : goal.fetch_add-requires

@@ -1,14 +1,13 @@
 use Rattle.head_table.proofs.Common.{rules, ◌<◌, ◌∙◌, List, length, refl, sym, subst, arith, ℤ, ◌≡◌, to_z-of_z, w64, SFits, to_z, of_z, High, Edges, edge_on}
 use Rattle.head_table.proofs.Common.{IsNoTighterThanSettled, barrier_of, head_of_word, Entries, IsProblem}
-use Rattle.head_table.proofs.Looking.{looks}
-use Rattle.head_table.proofs.Seeing.{sound_seen}
+use Rattle.head_table.proofs.Seeing.{looks, sound_seen}
 use Rattle.head_table.proofs.table.HeadTable.load_high.Goals as goal
 
 pub load-found-requires : goal.load-found-requires
 load-found-requires c = let t = c.args.self.now in let back = sym t.same in (
   search rules,
   omega (arith, t.words),
-  looks High _ _ (subst IsProblem back c.recall_conditions.ensures.fits) _ _ _ c.args.cell (subst (λ (cells : List Entries). c.args.cell < length cells) back c.requires.cell) c.args.seat.now.live,
+  looks _ _ (subst IsProblem back c.recall_conditions.ensures.fits) High _ _ _ c.args.cell (subst (λ (cells : List Entries). c.args.cell < length cells) back c.requires.cell) c.args.seat.now.live,
 )
 
 pub invariant_of-seat : goal.invariant_of-seat

@@ -1,7 +1,6 @@
 use Rattle.head_table.proofs.Common.{rules, ◌<◌, ◌∙◌, List, length, refl, sym, subst, arith, Low, Entries, IsHead, IsProblem, relaxed_head, IsRelaxedOn}
 use Rattle.head_table.proofs.Common.{is_side, int_max, ints, to_z-of_z, w64, SFits, seen_on, head_of_word}
-use Rattle.head_table.proofs.Exchanging.{exchanges}
-use Rattle.head_table.proofs.Seeing.{sound_seen}
+use Rattle.head_table.proofs.Seeing.{exchanges, sound_seen}
 use Rattle.head_table.proofs.WordReads.{tighter_is}
 use Rattle.head_table.proofs.table.HeadTable.raise.Goals as goal
 
@@ -15,7 +14,7 @@ pub fetch_max-found-requires : goal.fetch_max-found-requires
 fetch_max-found-requires c = let t = c.args.self.now in let back = sym t.same in let seen = seen_on Low c.args.seat.now in (
   search rules,
   omega (arith, t.words),
-  exchanges Low _ _ (subst IsProblem back c.recall_conditions.ensures.fits) _ _ _ c.args.cell c.word_of_head-word.result (subst (λ (cells : List Entries). c.args.cell < length cells) back c.requires.cell) c.args.seat.now.live
+  exchanges _ _ (subst IsProblem back c.recall_conditions.ensures.fits) Low _ _ _ c.args.cell c.word_of_head-word.result (subst (λ (cells : List Entries). c.args.cell < length cells) back c.requires.cell) c.args.seat.now.live
       (subst (λ (cells : List Entries). IsRelaxedOn Low cells seen c.args.cell (head_of_word c.word_of_head-word.result)) back
       (subst (IsRelaxedOn Low t.problem.now seen c.args.cell) (sym (c.word_of_head-word.ensures.value ∙ to_z-of_z w64 c.args.to c.ranges.to)) c.requires.to)),
 )

@@ -1,5 +1,5 @@
 use Rattle.std.proofs.Common.{rules, arith}
-use Rattle.head_table.proofs.Claiming.{splits}
+use Rattle.head_table.proofs.Joining.{splits}
 use Rattle.head_table.proofs.table.HeadTable.split.Goals as goal
 
 pub split_seat-other-requires : goal.split_seat-other-requires
