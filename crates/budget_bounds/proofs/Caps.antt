@@ -81,7 +81,3 @@ cap_two limit a x h = omega (arith, ints, clamps)
 
 pub cell_more : (n : ℕ) (f : ℕ → TermPair) (s next : TermPair) → s ≡ capped (record { lo = sum_below n (λ c. (f c).lo); hi = sum_below n (λ c. (f c).hi) }) → next ≡ capped (plus_pair s (f n)) → pos 0 ≤ℤ (f n).lo → pos 0 ≤ℤ (f n).hi → next ≡ capped (record { lo = sum_below (n + 1) (λ c. (f c).lo); hi = sum_below (n + 1) (λ c. (f c).hi) })
 cell_more n f s next is more h k = more ∙ rw (is, add-one) (rw (cap_two term_limit (sum_below n (λ c. (f c).lo)) (f n).lo h, cap_two term_limit (sum_below n (λ c. (f c).hi)) (f n).hi k) refl)
-
--- the sums where the loop began
-pub no_cells : (f : ℕ → TermPair) → record { lo = pos 0; hi = pos 0 } ≡ capped (record { lo = sum_below 0 (λ c. (f c).lo); hi = sum_below 0 (λ c. (f c).hi) })
-no_cells f = refl

@@ -1,11 +1,11 @@
 -- Names that several proofs of this crate cite, of the crates below and of its own definitions, passed on from one place. Declares nothing.
-pub use Rattle.std.proofs.Common.{Bool, List, [], add-one, ap, arith, cond, drop, drop-cons, false, get_or, inl, inr, length, map, neg_ℤ, pos, refl, subst, suc}
-pub use Rattle.std.proofs.Common.{sym, true, zero, ℕ, ℤ, ◌+ℤ◌, ◌+◌, ◌-◌, ◌<◌, ◌∙◌, ◌∷◌, ◌≡◌, ◌≤ℤ◌, ◌≤◌}
+pub use Rattle.std.proofs.Common.{Bool, List, [], add-one, ap, arith, cond, drop, drop-cons, false, get_or, length, map, neg_ℤ, pos, refl, subst, suc, sym}
+pub use Rattle.std.proofs.Common.{true, zero, ℕ, ℤ, ◌+ℤ◌, ◌+◌, ◌-◌, ◌<◌, ◌∙◌, ◌∷◌, ◌≡◌, ◌≤ℤ◌, ◌≤◌}
 pub use Rattle.std.proofs.lemmas.Int.{clamps, ints}
 pub use Rattle.std.specs.Int.{int_max, int_min}
 pub use Rattle.std.specs.List.{AllZip, filter}
 pub use Rattle.budget_bounds.specs.Capped.{IsSum, capped, plus_pair}
-pub use Rattle.budget_bounds.specs.Covers.{CoverEncloses, Covers, IsFirstShort, IsFirstUncovered, Reaches, line_of}
+pub use Rattle.budget_bounds.specs.Covers.{CoverEncloses, Reaches}
 pub use Rattle.budget_bounds.specs.Exact.{AreWithin, EnclosesBudgets, HeadsAreWithin, exact_part}
 unfoldable pub use Rattle.budget_bounds.specs.Exact.{exact_singles, exact_term}
 pub use Rattle.budget_bounds.specs.Singles.{drain_pair, evap_pair, fixed_pair, fixed_term, flow_pair, flow_term, is_term, part, place_of, river_pair}
@@ -14,7 +14,6 @@ pub use Rattle.budget_bounds.specs.Terms.{all_terms, bounds_in, is_small, no_pai
 unfoldable pub use Rattle.budget_bounds.specs.Terms.{budget_of, parts, term_of, term_pair, terms_of}
 pub use Rattle.budget_bounds.specs.Tested.{AreSums, sum_of}
 unfoldable pub use Rattle.budget_bounds.specs.Tested.{tested, tested_budget, tested_terms}
-pub use Rattle.budget_bounds.specs.declared.pair.Budget.{Budget}
 pub use Rattle.budget_bounds.specs.declared.pair.TermPair.{TermPair}
 pub use Rattle.cell_balance.specs.Components.{sum_below}
 pub use Rattle.decimal_input.specs.Enclosures.{EnclosesSigned}

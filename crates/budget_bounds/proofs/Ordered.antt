@@ -1,8 +1,8 @@
 -- The terms of a budget in the order of the listing: what its bounds are, and what they enclose.
 use Rattle.budget_bounds.proofs.Common.{◌≡◌, ℕ, zero, suc, ◌+◌, ◌<◌, refl, sym, ap, ◌∙◌, subst, arith, Bool, true, false, List, [], ◌∷◌, length, get_or, ℤ}
-use Rattle.budget_bounds.proofs.Common.{EnclosesSigned, Dir, In, Out, Term, Storage, ConstantHead, Wells, Drains, RiverLeakage, HeadDepBounds, Recharge, Et}
-use Rattle.budget_bounds.proofs.Common.{Entries, TermPair, Budget, place_of, ◌>>=◌, all_terms, bounds_in, budget_of, is_small, no_pair, term_of, term_pair}
-use Rattle.budget_bounds.proofs.Common.{terms_of, too_large, EnclosesBudgets, exact_term}
+use Rattle.budget_bounds.proofs.Common.{EnclosesSigned, Dir, In, Out, Term, Storage, Entries, TermPair, place_of, ◌>>=◌, all_terms, bounds_in, budget_of}
+use Rattle.budget_bounds.proofs.Common.{is_small, no_pair, term_of, term_pair, terms_of, too_large, EnclosesBudgets, exact_term}
+use Rattle.budget_bounds.specs.declared.pair.Budget.{Budget}
 use Rattle.std.specs.Prelude.{Result, Ok, Err, if◌then◌else◌, IfOk}
 use Rattle.step_problem.specs.declared.place.NoBound.{NoBound}
 use Rattle.budget_bounds.proofs.Enclosed.{term_enclosed}
@@ -10,23 +10,11 @@ use Rattle.budget_bounds.proofs.Enclosed.{term_enclosed}
 -- the term at each place
 pub at_place : (t d : Term) → get_or all_terms (place_of t) d ≡ t
 at_place Storage d = refl
-at_place ConstantHead d = refl
-at_place Wells d = refl
-at_place Drains d = refl
-at_place RiverLeakage d = refl
-at_place HeadDepBounds d = refl
-at_place Recharge d = refl
-at_place Et d = refl
+at_place x d = refl
 
 pub place_within : (t : Term) → place_of t < length all_terms
 place_within Storage = omega arith
-place_within ConstantHead = omega arith
-place_within Wells = omega arith
-place_within Drains = omega arith
-place_within RiverLeakage = omega arith
-place_within HeadDepBounds = omega arith
-place_within Recharge = omega arith
-place_within Et = omega arith
+place_within x = omega arith
 
 -- the value of a bind that is Ok, and of its first part
 bound : {A B E : Type 0} (x : Result A E) (f : A → Result B E) (b : B) → (x >>= f) ≡ Ok b → (a : A) × (x ≡ Ok a) × (f a ≡ Ok b)

@@ -1,7 +1,7 @@
 -- The sums of a term over the first cells.
 use Rattle.budget_bounds.proofs.Common.{◌≡◌, ℕ, ◌+◌, ap, ◌∙◌, List, length, ℤ, Dir, Term, Entries, entries_at, sum_below, TermPair, singles, parts, term_pair}
-use Rattle.budget_bounds.proofs.Common.{no_pair, capped, plus_pair}
-use Rattle.budget_bounds.proofs.Caps.{cell_more, no_cells, parts_lo, parts_hi}
+use Rattle.budget_bounds.proofs.Common.{capped, plus_pair}
+use Rattle.budget_bounds.proofs.Caps.{cell_more, parts_lo, parts_hi}
 
 module _ (p : List Entries) (l u : ℕ → ℤ) (dir : Dir) (t : Term) where
   -- the parts of cell c
@@ -11,9 +11,6 @@ module _ (p : List Entries) (l u : ℕ → ℤ) (dir : Dir) (t : Term) where
   -- the sum over the first n cells, which stops at the limit
   abbrev pub sums_below : ℕ → TermPair
   sums_below n = capped (record { lo = sum_below n (λ c. (cell_parts c).lo); hi = sum_below n (λ c. (cell_parts c).hi) })
-
-  pub none_below : (x : TermPair) → x ≡ no_pair → x ≡ sums_below 0
-  none_below x e = e ∙ no_cells cell_parts
 
   pub one_more : (c : ℕ) (s next : TermPair) → s ≡ sums_below c → next ≡ capped (plus_pair s (cell_parts c)) → next ≡ sums_below (c + 1)
   one_more c s next sum more = cell_more c cell_parts s next sum more (parts_lo dir _) (parts_hi dir _)
