@@ -5,10 +5,6 @@ use Rattle.settle_driver.proofs.Opening.{settled_stays}
 use Rattle.settle_driver.proofs.Phasing.{settled_on_the_way}
 
 module _ (p : List Entries) (b : Edges) (ok : IsProblem p) (barrier : IsBarrier p b) where
-  -- words on the way have heads in range
-  pub way_is_words : (w : List Bound) → AreOnTheWay p b w → AreWords p w
-  way_is_words w way = record { whole = way.whole; low = way.low.heads; high = way.high.heads }
-
   pub sweeps_on_the_way : (w next : List Bound) → AreOnTheWay p b w → StayOnTheWay p w next → AreWords p next → AreOnTheWay p b next
   sweeps_on_the_way w next from way words = record {
     whole = words.whole;

@@ -9,9 +9,6 @@ pub record Listed (p : List Entries) (old w : List Bound) : Type 0 where
   pub way : StayOnTheWay p old w
 
 module _ (p : List Entries) where
-  pub listed_none : (old : List Bound) → AreWords p old → Listed p old old
-  listed_none old words = record { words = words; way = record { low = λ edge k. k; high = λ edge k. k } }
-
   pub listed_more : (old w next : List Bound) (c : ℕ) → IsProblem p → c < length p → length next ≡ length w → Listed p old w → IsRelaxedCell p w next c → ((d : ℕ) → (d ≡ c → ⊥) → slice_index_or next d no_bound ≡ slice_index_or w d no_bound) → Listed p old next
   listed_more old w next c ok i same s t others =
       let lower : (d : ℕ) → (d ≡ c → ⊥) → lower_at next d ≡ lower_at w d = λ d ne. ap (λ (b : Bound). b.low) (others d ne) in

@@ -28,30 +28,6 @@ module _ {V : Type 0} (viewed : V → List Entries → Edges → ℕ → V → T
     stays = λ s. next.stays (first.stays s);
   }
 
-  -- a view that gives true
-  pub one_view_more : (i : ℕ) (a m z : V) → AddsViews viewed stopped p b i a m → ((start : V) (n : ℕ) → viewed start p b n m → viewed start p b (n + 1) z) → (stopped m → ⊥) → AddsViews viewed stopped p b (i + 1) a z
-  one_view_more i a m z first more goes_on = record {
-    more = λ start n h. let e : (n + i) + 1 ≡ n + (i + 1) = omega arith in subst (λ (k : ℕ). viewed start p b k z) e (more start (n + i) (first.more start n h));
-    stays = λ s. absurd (goes_on (first.stays s));
-  }
-
-  -- a view that gives false
-  pub stops_here : (i turns : ℕ) (a m z : V) → AddsViews viewed stopped p b i a m → ((start : V) (n : ℕ) → viewed start p b n m → viewed start p b n z) → stopped z → AddsTurns viewed stopped p b turns true a z
-  stops_here i turns a m z first same stop = record {
-    count = i;
-    views = record { more = λ start n h. same start (n + i) (first.more start n h); stays = λ s. stop };
-    each_turn = λ e. inl stop;
-  }
-
-  pub all_turns : (i turns : ℕ) (a z : V) → AddsViews viewed stopped p b i a z → i ≡ turns → AddsTurns viewed stopped p b turns true a z
-  all_turns i turns a z views e = record { count = i; views = views; each_turn = λ _. inr e }
-
-  pub no_turns : (turns : ℕ) (v : V) → AddsTurns viewed stopped p b turns false v v
-  no_turns turns v = record { count = 0; views = no_views v; each_turn = λ e. absurd cc }
-
-  pub some_turns : (turns : ℕ) (a z : V) → AddsTurns viewed stopped p b turns true a z → AddsTurns viewed stopped p b turns false a z
-  some_turns turns a z t = record { count = t.count; views = t.views; each_turn = λ e. absurd cc }
-
   -- what k whole phases add
   pub record AddsWhole (k turns : ℕ) (old new : V) : Type 0 where
     pub count : ℕ
@@ -99,19 +75,6 @@ module _ {V : Type 0} (viewed : V → List Entries → Edges → ℕ → V → T
     each_phase = λ e _. absurd cc;
   }
 
-  -- without a cell there is nothing to view
-  pub nothing_viewed : (turns : ℕ) (made : Bool) (v : V) → length p ≡ 0 → AddsPhases viewed stopped p b turns made v v
-  nothing_viewed turns made v none = record {
-    count = 0;
-    views = no_views v;
-    no_cell = λ _. refl;
-    each_phase = λ _ some. absurd (omega (arith, none, some));
-  }
-
-  -- a settling that lacked memory before its first phase
-  pub unbegun : (turns : ℕ) (v : V) → AddsPhases viewed stopped p b turns false v v
-  unbegun turns v = record { count = 0; views = no_views v; no_cell = λ _. refl; each_phase = λ e _. absurd cc }
-
   -- what is said of a settling that had memory holds where it ended with heads
   pub phases_ended : (r : Result (Vec Bound Global) SettleFault) (turns : ℕ) (a z : V) → AddsPhases viewed stopped p b turns (had_memory r) a z → AddsPhases viewed stopped p b turns (is_ok r) a z
   phases_ended r turns a z s = record {
@@ -119,15 +82,6 @@ module _ {V : Type 0} (viewed : V → List Entries → Edges → ℕ → V → T
     views = s.views;
     no_cell = s.no_cell;
     each_phase = λ e some. s.each_phase (ok_had_memory r e) some;
-  }
-
-  -- what is said of a settling that had memory holds of one that may not have had it
-  pub phases_kept : (made : Bool) (turns : ℕ) (a z : V) → AddsPhases viewed stopped p b turns true a z → AddsPhases viewed stopped p b turns made a z
-  phases_kept made turns a z s = record {
-    count = s.count;
-    views = s.views;
-    no_cell = s.no_cell;
-    each_phase = λ e some. s.each_phase refl some;
   }
 
   phases_of_both : (i j turns : ℕ) (m z : V) → (stopped m → stopped z) → stopped m ⊎ ((k : ℕ) × (0 < k) × (i ≡ k * turns)) → stopped z ⊎ ((l : ℕ) × (0 < l) × (j ≡ l * turns)) → stopped z ⊎ ((n : ℕ) × (0 < n) × (i + j ≡ n * turns))
