@@ -9,10 +9,6 @@ regroup : (front : List ZoneFlow) (x : ZoneFlow) (read : Result (List ZoneFlow) 
 regroup front x (Ok more) = ap (λ (xs : List ZoneFlow). Ok xs) (sym (append_assoc front (x ∷ []) more))
 regroup front x (Err e) = refl
 
-pub none_in_front : (read : Result (List ZoneFlow) NoBound) → with_front [] read ≡ read
-none_in_front (Ok x) = refl
-none_in_front (Err e) = refl
-
 pub goes_on : (front : List ZoneFlow) (e : ℕ × ZoneSum) (rest : Table) (flow : ZoneFlow) (whole : Result (List ZoneFlow) NoBound) → flow_or_refusal e.0 e.1 ≡ Ok flow → with_front front (listed_flows (e ∷ rest)) ≡ whole → with_front (front ++ flow ∷ []) (listed_flows rest) ≡ whole
 unfolding listed_flows
 goes_on front e rest flow whole h so_far =

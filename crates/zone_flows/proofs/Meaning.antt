@@ -3,7 +3,7 @@ use Rattle.zone_flows.proofs.Common.{◌≡◌, ℕ, suc, ◌/◌, ◌%◌, ◌<
 use Rattle.zone_flows.proofs.Common.{Result, Ok, Err, Contains, if◌then◌else◌, All-cons, All-nil, NoBound, ZoneFlow, ◌>>=◌, ZoneSum, Face, is_below_limit}
 use Rattle.zone_flows.proofs.Common.{zone_flow, too_large, listed_flows, IsBeforeAll, PairsAscend, ShareFace, IsBelowLimit, IsZoneFlow, AreZoneFlows}
 use Rattle.zone_flows.proofs.Common.{IsFirstTooLarge, Table, key_of, with_faces}
-use Rattle.zone_flows.proofs.Keys.{Above, KeysAscend, IsEntry, HasKey, table_ascends}
+use Rattle.zone_flows.proofs.Keys.{Above, KeysAscend, IsEntry, above_entry, HasKey, table_ascends}
 use Rattle.zone_flows.proofs.Pairing.{FacesFit, key_div, key_mod, key_before, before_key, IsSumOf, entry_is, shared_has, small_true, true_small, flow_of, flow_is}
 use Rattle.step_problem.specs.declared.place.Place.TheVariants as places
 
@@ -132,14 +132,9 @@ module _ (fs : List Face) (fit : FacesFit fs) where
     is : n ≡ too_large entry.0
     first : (d : ℕ × ZoneSum) → IsEntry d t → d.0 < entry.0 → is_below_limit d.1 ≡ true
 
-  above_all : (k : ℕ) (e : ℕ × ZoneSum) (t : Table) → Above k t → IsEntry e t → k < e.0
-  above_all k e [] a i = absurd i
-  above_all k e (d ∷ t) a (inl i) = subst (λ (x : ℕ × ZoneSum). k < x.0) (sym i) a.0
-  above_all k e (d ∷ t) a (inr i) = above_all k e t a.1 i
-
   first_here : (e : ℕ × ZoneSum) (t : Table) → KeysAscend (e ∷ t) → (d : ℕ × ZoneSum) → IsEntry d (e ∷ t) → d.0 < e.0 → is_below_limit d.1 ≡ true
   first_here e t a d (inl i) l = absurd (let k = ap (λ (x : ℕ × ZoneSum). x.0) i in omega (arith, k, l))
-  first_here e t a d (inr i) l = absurd (let k = above_all e.0 d t a.0 i in omega (arith, k, l))
+  first_here e t a d (inr i) l = absurd (let k = above_entry e.0 d t a.0 i in omega (arith, k, l))
 
   first_later : (e d : ℕ × ZoneSum) (t : Table) (k : ℕ) → is_below_limit e.1 ≡ true → ((c : ℕ × ZoneSum) → IsEntry c t → c.0 < k → is_below_limit c.1 ≡ true) → IsEntry d (e ∷ t) → d.0 < k → is_below_limit d.1 ≡ true
   first_later e d t k s f (inl i) l = subst (λ (x : ℕ × ZoneSum). is_below_limit x.1 ≡ true) (sym i) s

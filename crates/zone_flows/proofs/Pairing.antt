@@ -1,12 +1,13 @@
 -- What a table of sums has for each pair of zones, by the faces.
-use Rattle.zone_flows.proofs.Common.{◌≡◌, ℕ, zero, suc, ◌/◌, ◌%◌, ◌<◌, ◌≤◌, ◌&&◌, ◌⊎◌, inl, inr, Bool, true, false, cond, refl, sym, ap, ◌∙◌, subst, arith}
-use Rattle.zone_flows.proofs.Common.{List, [], ◌∷◌, length, map, ℤ, pos, ◌+ℤ◌, ◌-ℤ◌, ◌≤ℤ◌, ◌<ℤ◌, Contains, filter, nat_tests, ints, is_at, nat_cmp, In, Out}
-use Rattle.zone_flows.proofs.Common.{ZoneFlow, total, TermPair, IsSum, capped, plus_pair, parts, term_limit, parts_lo, parts_hi, ZoneSum, Face, is_between}
-use Rattle.zone_flows.proofs.Common.{flows_between, is_below_limit, zone_flow, IsBefore, ShareFace, IsBelowLimit, IsZoneSum, key_of, faces_keyed, no_pair}
-use Rattle.zone_flows.proofs.Common.{no_flows, plus_flows, sum_at, with_faces}
+use Rattle.zone_flows.proofs.Common.{◌≡◌, ℕ, zero, suc, ◌/◌, ◌%◌, ◌<◌, ◌≤◌, ◌⊎◌, inl, inr, Bool, true, false, cond, refl, sym, ap, ◌∙◌, subst, arith, List, []}
+use Rattle.zone_flows.proofs.Common.{◌∷◌, length, map, ℤ, pos, ◌+ℤ◌, ◌-ℤ◌, ◌≤ℤ◌, ◌<ℤ◌, Contains, filter, nat_tests, ints, is_at, nat_cmp, In, Out, ZoneFlow}
+use Rattle.zone_flows.proofs.Common.{total, TermPair, IsSum, capped, plus_pair, parts, term_limit, parts_lo, parts_hi, ZoneSum, Face, is_between, flows_between}
+use Rattle.zone_flows.proofs.Common.{is_below_limit, zone_flow, IsBefore, ShareFace, IsBelowLimit, IsZoneSum, key_of, faces_keyed, no_pair, no_flows}
+use Rattle.zone_flows.proofs.Common.{plus_flows, sum_at, with_faces}
 use Rattle.std.specs.Int.Signed.{lt_z}
 use Rattle.zone_flows.proofs.Sums.{table_sums, flows_are_parts, net_lo, net_hi, magnitudes_lo, magnitudes_hi, together_below, below_together, is_whole}
 use Rattle.zone_flows.proofs.Keys.{IsEntry, HasKey, HasKeyed, table_ascends, table_has, table_from, entry_has, entry_sum}
+use Rattle.std.proofs.lemmas.Bool.{and_parts}
 
 -- the two zones of a face are below 1000
 pub record FaceFits (f : Face) : Type 0 where
@@ -124,9 +125,6 @@ shared_has fs a b h =
     let e : key_of h.face.from h.face.to ≡ key_of a b = rw (h.from, h.to) refl in
     table_has (key_of a b) [] fs (contains_keyed (key_of a b) fs h.stands.0 h.face h.stands.1 e h.stands)
 
-lt_true : (x l : ℤ) → lt_z x l ≡ true → x <ℤ l
-lt_true x l e = omega (arith, ints, e)
-
 true_lt : (x l : ℤ) → x <ℤ l → lt_z x l ≡ true
 true_lt x l h = tested (lt_z x l) refl
   where
@@ -134,24 +132,19 @@ true_lt x l h = tested (lt_z x l) refl
     tested true e = e
     tested false e = absurd (omega (arith, ints, e, h))
 
-both_true : (a b : Bool) → (a && b) ≡ true → (a ≡ true) × (b ≡ true)
-both_true true true e = (refl, refl)
-both_true true false e = absurd cc
-both_true false b e = absurd cc
-
 limit_above : pos 0 ≤ℤ term_limit
 limit_above = omega (arith, ints)
 
 below_lo : (xs : List TermPair) → lt_z ((sums xs).into.lo +ℤ (sums xs).out.hi) term_limit ≡ true → ((parts In xs).lo +ℤ (parts Out xs).hi) <ℤ term_limit
-below_lo xs e = together_below term_limit (parts In xs).lo (parts Out xs).hi limit_above (parts_lo In xs) (parts_hi Out xs) (lt_true _ term_limit e)
+below_lo xs e = together_below term_limit (parts In xs).lo (parts Out xs).hi limit_above (parts_lo In xs) (parts_hi Out xs) (omega (arith, ints))
 
 below_hi : (xs : List TermPair) → lt_z ((sums xs).into.hi +ℤ (sums xs).out.lo) term_limit ≡ true → ((parts In xs).hi +ℤ (parts Out xs).lo) <ℤ term_limit
-below_hi xs e = together_below term_limit (parts In xs).hi (parts Out xs).lo limit_above (parts_hi In xs) (parts_lo Out xs) (lt_true _ term_limit e)
+below_hi xs e = together_below term_limit (parts In xs).hi (parts Out xs).lo limit_above (parts_hi In xs) (parts_lo Out xs) (omega (arith, ints))
 
 pub small_true : (fs : List Face) (a b : ℕ) → is_below_limit (sums (flows_between a b fs)) ≡ true → IsBelowLimit fs a b
 small_true fs a b e =
     let xs : List TermPair = flows_between a b fs in
-    let t = both_true _ _ e in record {
+    let t = and_parts _ _ e in record {
       lo = subst (λ (z : ℤ). z <ℤ term_limit) (magnitudes_lo xs) (below_lo xs t.0);
       hi = subst (λ (z : ℤ). z <ℤ term_limit) (magnitudes_hi xs) (below_hi xs t.1);
     }
@@ -176,5 +169,5 @@ whole_hi xs e = let w = is_whole term_limit (parts In xs).hi (parts Out xs).lo (
 pub flow_is : (fs : List Face) (a b : ℕ) → b ≤ 999 → is_below_limit (sums (flows_between a b fs)) ≡ true → zone_flow (key_of a b) (sums (flows_between a b fs)) ≡ flow_of fs a b
 flow_is fs a b h e =
     let xs : List TermPair = flows_between a b fs in
-    let t = both_true _ _ e in
+    let t = and_parts _ _ e in
     rw (key_div a b h, key_mod a b h, whole_lo xs t.0, whole_hi xs t.1) refl

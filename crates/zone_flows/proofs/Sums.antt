@@ -10,7 +10,7 @@ use Rattle.budget_bounds.specs.Singles.{part}
 pub same_key : (q k : ℕ) → is_at (nat_cmp q) k ≡ true → q ≡ k
 same_key q k h = grind (arith, nat_tests)
 
-equal_keys : (q k : ℕ) → nat_cmp q k ≡ Equal → q ≡ k
+pub equal_keys : (q k : ℕ) → nat_cmp q k ≡ Equal → q ≡ k
 equal_keys q k h = grind (arith, nat_tests)
 
 not_greater : (k : ℕ) → nat_cmp k k ≡ Greater → ⊥
@@ -69,9 +69,6 @@ unfolding with_faces
 table_sums t [] q = nothing t q
 table_sums t (f ∷ fs) q = table_sums (with_face t f) fs q ∙ one_face t f fs q (is_at (nat_cmp q) (key_of f.from f.to)) refl
 
-cap_above : (limit a b : ℤ) → pos 0 ≤ℤ limit → pos 0 ≤ℤ a → pos 0 ≤ℤ b → pos 0 ≤ℤ int_min (a +ℤ b) limit
-cap_above limit a b h k l = omega (arith, ints, clamps)
-
 cap_below : (limit a b : ℤ) → int_min (a +ℤ b) limit ≤ℤ limit
 cap_below limit a b = omega (arith, ints, clamps)
 
@@ -80,9 +77,9 @@ limit_above = omega (arith, ints)
 
 sum_kept : (dir : Dir) (s x : TermPair) → IsSum s → IsSum (capped (plus_pair s (part dir x)))
 sum_kept dir s x h = record {
-  lo_above = cap_above term_limit s.lo (part dir x).lo limit_above h.lo_above (part_lo dir x);
+  lo_above = omega (arith, ints, clamps, h.lo_above, part_lo dir x);
   lo_below = cap_below term_limit s.lo (part dir x).lo;
-  hi_above = cap_above term_limit s.hi (part dir x).hi limit_above h.hi_above (part_hi dir x);
+  hi_above = omega (arith, ints, clamps, h.hi_above, part_hi dir x);
   hi_below = cap_below term_limit s.hi (part dir x).hi;
 }
 
@@ -101,10 +98,6 @@ flows_are_parts s (x ∷ xs) h =
     flows_are_parts (plus_flow s x) xs (record { into = sum_kept In s.into x h.into; out = sum_kept Out s.out x h.out })
     ∙ rw (split In s.into x xs, split Out s.out x xs) refl
 
--- What goes in less what goes out is the sum; together they are the sum of the magnitudes.
-net_of : (a p n s : ℤ) → p -ℤ n ≡ s → (int_max a (pos 0) +ℤ p) -ℤ (int_max (neg_ℤ a) (pos 0) +ℤ n) ≡ a +ℤ s
-net_of a p n s h = omega (arith, ints, clamps)
-
 magnitude_of : (a p n s : ℤ) → p +ℤ n ≡ s → (int_max a (pos 0) +ℤ p) +ℤ (int_max (neg_ℤ a) (pos 0) +ℤ n) ≡ pos (unsigned_abs a) +ℤ s
 magnitude_of (pos a) p n s h = omega (arith, ints, clamps)
 magnitude_of (negsuc a) p n s h = omega (arith, ints, clamps)
@@ -112,12 +105,12 @@ magnitude_of (negsuc a) p n s h = omega (arith, ints, clamps)
 pub net_lo : (xs : List TermPair) → (parts In xs).lo -ℤ (parts Out xs).hi ≡ total (λ x. x.lo) xs
 unfolding parts
 net_lo [] = refl
-net_lo (x ∷ xs) = net_of x.lo (parts In xs).lo (parts Out xs).hi (total (λ x. x.lo) xs) (net_lo xs)
+net_lo (x ∷ xs) = omega (arith, ints, clamps, net_lo xs)
 
 pub net_hi : (xs : List TermPair) → (parts In xs).hi -ℤ (parts Out xs).lo ≡ total (λ x. x.hi) xs
 unfolding parts
 net_hi [] = refl
-net_hi (x ∷ xs) = net_of x.hi (parts In xs).hi (parts Out xs).lo (total (λ x. x.hi) xs) (net_hi xs)
+net_hi (x ∷ xs) = omega (arith, ints, clamps, net_hi xs)
 
 pub magnitudes_lo : (xs : List TermPair) → (parts In xs).lo +ℤ (parts Out xs).hi ≡ total (λ x. pos (unsigned_abs x.lo)) xs
 unfolding parts
