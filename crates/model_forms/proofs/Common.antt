@@ -2,7 +2,7 @@
 pub use Rattle.std.proofs.Common.{All, Bool, Err, IfSome, List, None, Ok, Option, Result, Some, [], ap, arith, cond, drop, false, get_or, inl, inr, is_some}
 pub use Rattle.std.proofs.Common.{length, map, nat_le, nat_lt, negsuc, not, pos, refl, replicate, set, subst, suc, sum, sum_by, sym, take, true, zero, ℕ, ℤ}
 pub use Rattle.std.proofs.Common.{◌%◌, ◌&&◌, ◌*◌, ◌++◌, ◌+◌, ◌-◌, ◌<◌, ◌==◌, ◌^◌, ◌||◌, ◌∙◌, ◌∷◌, ◌≡◌, ◌≤◌, ◌⊎◌}
-pub use Rattle.std.proofs.lemmas.Bool.{and_parts, cases_lt, eqb-true, leb-true, ltb-true, not-false, not-true}
+pub use Rattle.std.proofs.lemmas.Bool.{and_parts, cases_lt, eqb-true, leb-true, ltb-true, not-false}
 pub use Rattle.std.proofs.lemmas.List.{drop-append-le, drop_at, get_or-set_other, get_or-set_same, get_or_default, length-append, length-drop, length-replicate}
 pub use Rattle.std.proofs.lemmas.List.{length-set, take-append-le, take_all}
 pub use Rattle.std.proofs.lemmas.List.Elements.{All-append, All-cons, All-from_recursion, All-head, All-nil, All-push, All-replicate, All-tail, All-weaker}

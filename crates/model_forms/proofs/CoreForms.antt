@@ -3,9 +3,8 @@ use Rattle.model_forms.proofs.Common.{◌≡◌, ℕ, ◌≤◌, ℤ, pos, Bool,
 use Rattle.model_forms.proofs.Common.{Period, cell_count, IsGrid, IsTimed, IsNewPeriod, with_properties, SameBut, Properties, checked, fault_at, Check}
 use Rattle.model_forms.proofs.Common.{Thickness, StartHead, IsShort, IsOfBeds, IsDiscretized, HasFlow, Limits, IsGridWithin}
 use Rattle.cell_checks.specs.declared.passing.Check.TheVariants.{Properties as PropertyCheck}
-use Rattle.model_forms.proofs.BasForms.{HasBasics}
+use Rattle.model_forms.proofs.DisForms.{HasBasics, IsStarted}
 use Rattle.model_forms.proofs.CheckForms.{checked_again}
-use Rattle.model_forms.proofs.DisForms.{IsStarted}
 
 -- another model with this grid, LENUNI, and as many periods of as many steps
 pub discretized_again : (m n : FlowModel) → n.grid ≡ m.grid → n.lenuni ≡ m.lenuni → length n.periods ≡ length m.periods → sum_by (λ p. p.nstp) n.periods ≡ sum_by (λ p. p.nstp) m.periods → All IsTimed n.periods

@@ -4,7 +4,6 @@ pub mod FrameForms
 pub mod GridForms
 pub mod TimeForms
 pub mod DisForms
-pub mod BasForms
 pub mod LayerForms
 pub mod LpfForms
 pub mod CheckForms

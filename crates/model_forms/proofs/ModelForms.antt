@@ -6,8 +6,7 @@ use Rattle.model_forms.proofs.Common.{same_view, dis_in, basics_tested, bas_in, 
 use Rattle.model_forms.proofs.Common.{IsEvaporating, IsDry, IsStill, HasNoRecharge, HasNoEvaporation, IsWritable, Limits}
 use Rattle.cell_checks.specs.declared.passing.Check.TheVariants.{Properties as PropertyCheck}
 use Rattle.model_reader.specs.Names.{names_in, needed}
-use Rattle.model_forms.proofs.BasForms.{HasBasics, bas_is}
-use Rattle.model_forms.proofs.DisForms.{IsStarted, dis_is}
+use Rattle.model_forms.proofs.DisForms.{HasBasics, bas_is, IsStarted, dis_is}
 use Rattle.model_forms.proofs.LpfForms.{lpf_is}
 use Rattle.model_forms.proofs.PeriodForms.{IsKnown}
 use Rattle.model_forms.proofs.StageForms.{IsOption, IsStressed, first_stage, stresses_are}
@@ -20,8 +19,7 @@ staged core nrchop nevtop ps = record core { nrchop = nrchop; nevtop = nevtop; p
 checks_kept : (core : FlowModel) (nrchop nevtop : ℤ) (ps : List Period) (check : Check) (file : List ℕ) → checked (staged core nrchop nevtop ps) file check ≡ checked core file check
 unfolding checked fault_at
 checks_kept core nrchop nevtop ps Thickness file = refl
-checks_kept core nrchop nevtop ps StartHead file = refl
-checks_kept core nrchop nevtop ps PropertyCheck file = refl
+checks_kept core nrchop nevtop ps x file = refl
 
 same_sum : (ps qs : List Period) → map steps ps ≡ map steps qs → sum_by (λ p. p.nstp) ps ≡ sum_by (λ p. p.nstp) qs
 same_sum ps qs e = sym (sum-map (λ p. p.nstp) ps) ∙ ap sum (same_view steps (λ x. x.0) (λ p. p.nstp) (λ p. refl) ps qs e) ∙ sum-map (λ p. p.nstp) qs

@@ -1,13 +1,11 @@
 -- Three cells in a row are a writable model.
 use Rattle.model_forms.proofs.Common.{◌≡◌, ℕ, zero, suc, ◌%◌, ◌^◌, ◌<◌, ◌≤◌, ◌==◌, inr, true, false, not, pos, negsuc, List, [], ◌∷◌, length, replicate, All}
-use Rattle.model_forms.proofs.Common.{Some, None, Ok, refl, sym, ap, ◌∙◌, arith, list_all, and_parts, not-true, All-nil, All-cons, All-replicate}
-use Rattle.model_forms.proofs.Common.{All-from_recursion, IsDec, counted, Dis, Bas, Lpf, Wel, Riv, Drn, Ghb, Rch, Chd, Evt, Period, no_number, IsGrid}
-use Rattle.model_forms.proofs.Common.{IsPositive, IsTimed, no_number_is, checked, fault_at, Check, Thickness, StartHead, given_heads, Kind, wells, rivers}
-use Rattle.model_forms.proofs.Common.{drains, generals, IsShort, number_word, integer_word, IsOfBeds, IsDiscretized, IsBasic, HasFlow, IsEntry, IsListOf, IsDry}
-use Rattle.model_forms.proofs.Common.{IsStill, IsWritable, model_reads, all_plain}
+use Rattle.model_forms.proofs.Common.{Some, None, Ok, refl, sym, ap, ◌∙◌, arith, list_all, All-nil, All-cons, All-replicate, All-from_recursion, IsDec, counted}
+use Rattle.model_forms.proofs.Common.{Dis, Period, no_number, IsGrid, IsPositive, IsTimed, no_number_is, checked, fault_at, Check, Thickness, given_heads, Kind}
+use Rattle.model_forms.proofs.Common.{wells, rivers, drains, generals, IsShort, number_word, integer_word, IsOfBeds, IsDiscretized, IsBasic, HasFlow, IsEntry}
+use Rattle.model_forms.proofs.Common.{IsListOf, IsDry, IsStill, IsWritable, model_reads, all_plain}
 use Rattle.std.specs.Fmt.{decimal as numeral}
 use Rattle.std.proofs.lemmas.Fmt.{decimal_digit}
-use Rattle.std.proofs.lemmas.Bool.Decides.{nat_tests}
 use Rattle.std.proofs.lemmas.Int.{ints}
 use Rattle.decimal_input.specs.Decimals.{scaled}
 use Rattle.decimal_input.specs.Ratios.{ratio}
@@ -16,7 +14,6 @@ use Rattle.model_types.specs.declared.limits.Limits.TheVariants.{Plain}
 use Rattle.name_file.specs.declared.package.Package.{Package}
 use Rattle.number_limits.specs.Magnitudes.{is_at_most}
 use Rattle.number_limits.specs.Room.{floor_of, ceiling_of, is_thick}
-use Rattle.cell_checks.specs.declared.passing.Check.TheVariants.{Properties}
 use Rattle.flow_equations.specs.Worked.{decimal, period_with, three_cells}
 use Rattle.array_text.specs.Lines.{line_text, text}
 use Rattle.array_text.specs.Arrays.{row_line, row_lines, real_array, integer_array}
@@ -113,8 +110,7 @@ flow = record {
 passed : (check : Check) (file : List ℕ) → checked three_cells file check ≡ Ok tt
 unfolding checked fault_at counted is_thick floor_of ceiling_of is_at_most scaled ratio
 passed Thickness file = refl
-passed StartHead file = refl
-passed Properties file = refl
+passed x file = refl
 
 no_entries : {E : Type 0} (kind : Kind E) → kind.suits steady_period [] ≡ true → IsListOf Plain kind 3 steady_period []
 no_entries kind suits = record { few = omega arith; entries = All-nil (IsEntry kind 3); once = λ e i j d lt low. absurd (omega (arith, low)); suits = suits }
@@ -137,15 +133,7 @@ writable = record {
 
 good_type : (k : Package) → (length (file_type k) ≤ 255) × (list_all (λ b. not (b == 92)) (file_type k) ≡ true)
 good_type Dis = (omega arith, refl)
-good_type Bas = (omega arith, refl)
-good_type Lpf = (omega arith, refl)
-good_type Wel = (omega arith, refl)
-good_type Riv = (omega arith, refl)
-good_type Drn = (omega arith, refl)
-good_type Ghb = (omega arith, refl)
-good_type Rch = (omega arith, refl)
-good_type Chd = (omega arith, refl)
-good_type Evt = (omega arith, refl)
+good_type x = (omega arith, refl)
 
 no_type : package_of name_of_deck ≡ None
 unfolding package_of
