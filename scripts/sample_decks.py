@@ -82,21 +82,22 @@ THREE_STEPS = deck("1", "1", "10", "3 3 1 TR", ("CONSTANT 1", "CONSTANT 1", "CON
 THREE_STEPS_PUTS = [FIRST, *(step(n, [twice(head)], {"STORAGE": FLOW_5}, {"WELLS": FLOW_5})
                              for n, head in [(1, "5.000000000"), (2, "0.000000000"), (3, "-5.000000000")]), LAST]
 
-# A quick run moves each balanced head outwards by the room: a rounding of 10^-9 times the conductances at the cell, over what
-# holds the cell. Where all neighbours are constant heads that is one unit; and each step begins with the room of the one before. No
-# head passes the barrier: where a well takes from storage alone, the lower heads are the floor, the least old head less Q / C.
+# A quick run moves each balanced head outwards by 33/32 of the room: a rounding of 10^-9 times the conductances at the cell, over
+# what holds the cell; and rounds it outwards. Where all neighbours are constant heads the room is one unit, so that a head is two
+# units off; and each step begins with the room of the one before. No head passes the barrier: where a well takes from storage
+# alone, the lower heads are the floor, the least old head less Q / C.
 def around(whole, units, places=9):
     """The pair of a whole number above 0 less and more units of 10^-9, with so many places."""
     zeros = "0" * (places - 9)
     return f"{whole - 1}.{10**9 - units:09d}{zeros}", f"{whole}.{units:09d}{zeros}"
 
 
-QUICK_STEP = step(1, [twice("10.000000000"), around(15, 1), twice("20.000000000")],
-                  {"CONSTANT HEAD": around(5, 1, 21)}, {"CONSTANT HEAD": around(5, 1, 21)})
+QUICK_STEP = step(1, [twice("10.000000000"), around(15, 2), twice("20.000000000")],
+                  {"CONSTANT HEAD": around(5, 2, 21)}, {"CONSTANT HEAD": around(5, 2, 21)})
 QUICK_PUTS = [FIRST, QUICK_STEP, LAST]
-QUICK_STEPS = [(("5.000000000", "5.000000001"), ("4.999999999", "5.000000000")),
-               (("0.000000000", "0.000000002"), ("4.999999998", "5.000000001")),
-               (("-5.000000000", "-4.999999997"), ("4.999999997", "5.000000002"))]
+QUICK_STEPS = [(("5.000000000", "5.000000002"), ("4.999999998", "5.000000000")),
+               (("0.000000000", "0.000000004"), ("4.999999996", "5.000000002")),
+               (("-5.000000000", "-4.999999994"), ("4.999999994", "5.000000004"))]
 QUICK_STEPS_PUTS = [FIRST, *(step(n, [head], {"STORAGE": tuple(f"{flow}{'0' * 12}" for flow in storage)}, {"WELLS": FLOW_5})
                              for n, (head, storage) in enumerate(QUICK_STEPS, 1)), LAST]
 
@@ -121,10 +122,10 @@ def units_apart(low, high, units, places):
     return around(low, units, places)[0], around(high, units, places)[1]
 
 
-QUICK_4_TO_6 = units_apart(4, 6, 1, 21)
-TWO_DECKS_QUICK_STEP = step(1, [("10.000000000", "11.000000000"), units_apart(15, 16, 1, 9), ("20.000000000", "21.000000000")],
+QUICK_4_TO_6 = units_apart(4, 6, 2, 21)
+TWO_DECKS_QUICK_STEP = step(1, [("10.000000000", "11.000000000"), units_apart(15, 16, 2, 9), ("20.000000000", "21.000000000")],
                             {"CONSTANT HEAD": QUICK_4_TO_6}, {"CONSTANT HEAD": QUICK_4_TO_6})
-TWO_DECKS_QUICK_PUTS = [TWO_DECKS_FIRST, TWO_DECKS_QUICK_STEP + text("ZONE 1 2 -6.000000001000000000000 -3.999999999000000000000"), LAST]
+TWO_DECKS_QUICK_PUTS = [TWO_DECKS_FIRST, TWO_DECKS_QUICK_STEP + text("ZONE 1 2 -6.000000002000000000000 -3.999999998000000000000"), LAST]
 
 # Two cells joined by 2, whose wells take and give 4.2E9; the first is joined by 1 to a general head of 10. So its head is 10, and
 # the second one 2.1E9 higher. Its balance changes by 3 with its head: settling stops where less than 3 units are left, two
