@@ -10,15 +10,23 @@ pub use Rattle.array_reader.specs.Items.{at_line, number_at}
 pub use Rattle.array_reader.specs.Kinds.{with_multiplier}
 pub use Rattle.array_reader.specs.Lists.{in_file}
 unfoldable pub use Rattle.array_reader.specs.Lists.{free_list, free_rows, value_alone, value_at}
+pub use Rattle.array_reader.specs.Numbers.{is_exponent, or_bad, spelt_number, tested}
+unfoldable pub use Rattle.array_reader.specs.Numbers.{canonical, integer, number, product, significant, zeros}
+unfoldable pub use Rattle.array_reader.specs.PackageItems.{zero_at, zero_list, zero_step}
 pub use Rattle.decimal_input.specs.declared.dec.NumFault.{NumFault}
 pub use Rattle.outside.specs.Names.{IsGoodName, folder_name, is_good_name}
-pub use Rattle.record_lines.proofs.Forward.{after, appended_held, chain, given, leaves, line_words, name_held, repeated_held, value_held, word_held}
+pub use Rattle.outside.specs.Refusals.{IsRefusal, refusal}
+pub use Rattle.outside.specs.declared.codes.Code.TheVariants.{BadName, OutOfProfile}
+pub use Rattle.outside.specs.declared.refusals.TextFault.{TextFault}
+pub use Rattle.outside.specs.declared.refusals.TextFault.TheVariants.{Memory, Refused}
+pub use Rattle.record_lines.proofs.Forward.{after, appended_held, chain, counted_held, either, given, leaves, line_words, name_held, repeated_held, value_held}
+pub use Rattle.record_lines.proofs.Forward.{word_held}
 pub use Rattle.record_lines.proofs.Loops.{ends_text, goes_on, is_done, list_ends, list_goes_on, list_stops, lists_done, with_front}
 pub use Rattle.record_lines.specs.Asking.{LineMay, LinesMay}
-pub use Rattle.record_lines.specs.Items.{line_at, word_at}
+pub use Rattle.record_lines.specs.Items.{is_word, line_at, word_at}
 unfoldable pub use Rattle.record_lines.specs.Items.{name_at}
 pub use Rattle.record_lines.specs.Layout.{Left, Numbered}
-pub use Rattle.record_lines.specs.Reading.{StopsText, appended, repeated, ◌>>=◌}
+pub use Rattle.record_lines.specs.Reading.{StopsText, appended, counted, repeated, ◌>>=◌}
 pub use Rattle.record_lines.specs.Spread.{Taking, beginning, source, taken}
 unfoldable pub use Rattle.record_lines.specs.Spread.{next_value}
 pub use Rattle.record_lines.specs.declared.free.FreeFault.{FreeFault}

@@ -58,11 +58,6 @@ pub control_named : {X : Type 0} (may : List ℕ → Type 0) (read : List ℕ �
 control_named may read file number left rest line ws c is all e h =
     given (ControlMay may) (control_at read file number ws) c e (control_held may read file number ws (rw all (line_words may file left rest line is h)))
 
--- what is left after lists of values
-pub list_leaves : {X : Type 0} (may : List ℕ → Type 0) (read : List ℕ → Result X NumFault) (file : List ℕ) (count : ℕ) (left rest : Left) (xs : List X)
-    → free_list read file count left ≡ Ok (xs, rest) → LinesMay may left → LinesMay may rest
-list_leaves may read file count left rest xs e h = leaves may (free_list read file count left) xs rest e (list_held (LineMay may) read file count left h.each)
-
 pub rows_leave : {X : Type 0} (may : List ℕ → Type 0) (read : List ℕ → Result X NumFault) (file : List ℕ) (rows cols : ℕ) (left rest : Left) (xs : List X)
     → free_rows read file rows cols left ≡ Ok (xs, rest) → LinesMay may left → LinesMay may rest
 rows_leave may read file rows cols left rest xs e h = leaves may (free_rows read file rows cols left) xs rest e (rows_held (LineMay may) read file rows cols left h.each)

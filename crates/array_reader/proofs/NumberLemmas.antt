@@ -1,7 +1,8 @@
 -- The functions of specs/Numbers are what words and products name.
 use Rattle.array_reader.proofs.Common.{◌≡◌, ℕ, zero, suc, ◌<◌, ◌≤◌, ◌+◌, ◌*◌, ◌/◌, ◌%◌, ◌^◌, ◌==◌, Bool, true, false, if◌then◌else◌, List, length, nat_le}
 use Rattle.array_reader.proofs.Common.{nat_lt, Option, Some, None, Result, Ok, Err, ap, ℤ, pos, negsuc, neg_ℤ, ◌+ℤ◌, ◌≤ℤ◌, ◌<ℤ◌, ◌↔◌, inl, inr, refl, sym, ◌∙◌}
-use Rattle.array_reader.proofs.Common.{arith, pow-suc, add-one, NumFault}
+use Rattle.array_reader.proofs.Common.{arith, pow-suc, add-one, NumFault, significant, zeros, is_exponent, tested, canonical, spelt_number, number, product}
+use Rattle.array_reader.proofs.Common.{integer, or_bad}
 use Rattle.std.proofs.lemmas.Int.{ints}
 use Rattle.std.proofs.lemmas.Bool.Decides.{nat_tests}
 use Rattle.decimal_input.specs.declared.dec.Dec.{Dec}
@@ -11,7 +12,6 @@ use Rattle.decimal_input.specs.Words.{spelt, integer_of}
 use Rattle.decimal_input.proofs.Named.{IsNumber}
 use Rattle.decimal_input.proofs.Spelled.{names_read, long_names, reads_integer, integer_read}
 use Rattle.decimal_input.proofs.Unique.{names_one, canonical_one}
-use Rattle.array_reader.specs.Numbers.{significant, zeros, is_exponent, tested, canonical, spelt_number, number, product, integer, or_bad}
 
 tens : (n c : ℕ) → c % 10 ≡ 0 → IsTrimmed (c / 10) (significant n (c / 10)) (zeros n (c / 10)) → IsTrimmed c (significant n (c / 10)) (zeros n (c / 10) + 1)
 tens n c e t =

@@ -1,6 +1,7 @@
+pub mod PackageItems
+pub mod Items
 pub mod Numbers
 pub mod Kinds
-pub mod Items
 pub mod Lists
 pub mod Control
 pub mod Arrays

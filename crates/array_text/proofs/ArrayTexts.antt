@@ -2,8 +2,7 @@
 use Rattle.array_text.proofs.Common.{◌≡◌, ◌^◌, ◌<◌, true, List, length, All, Ok, refl, arith, ℤ, pos, negsuc, ◌*ℤ◌, unsigned_abs, codes, ints, All-weaker}
 use Rattle.array_text.proofs.Common.{nat_tests, Dec, IsDec, number, significant, zeros, canonical, integer, is_short, integer_product, scaled, integer_scaled}
 use Rattle.array_text.proofs.Common.{real, whole, multiplied, reals, layer_array, real_layer, integer_layer, number_word, integer_word, IsShort, real_array}
-use Rattle.array_text.proofs.Common.{integer_array}
-use Rattle.array_text.specs.Laws.{WritesLines, FreeListsReadAsWritten, ArraysReadAsWritten}
+use Rattle.array_text.proofs.Common.{integer_array, WritesLines, FreeListsReadAsWritten, ArraysReadAsWritten}
 use Rattle.array_text.proofs.NumberTexts.{short_exponent, number_reads, integer_reads, one, times_one}
 use Rattle.array_text.proofs.WordTexts.{number_is_word, integer_is_word}
 use Rattle.array_text.proofs.FreeTexts.{IsWrittenAs, free_list_reads}

@@ -1,35 +1,50 @@
 -- Names that several proofs of this crate cite, of the crates below and of its own definitions, passed on from one place. Declares nothing.
-pub use Rattle.std.proofs.Common.{All, Bool, List, Ok, Result, Some, [], ap, arith, drop, false, inl, inr, length, map, nat_le, nat_lt, neg_ℤ, negsuc, not, pos}
-pub use Rattle.std.proofs.Common.{refl, suc, sym, take, true, unsigned_abs, zero, ℕ, ℤ, ◌%◌, ◌&&◌, ◌*ℤ◌, ◌*◌, ◌++◌, ◌+ℤ◌, ◌+◌, ◌-ℤ◌, ◌-◌, ◌/◌, ◌<◌, ◌==◌, ◌^◌}
-pub use Rattle.std.proofs.Common.{◌∙◌, ◌∷◌, ◌≡◌, ◌≤ℤ◌, ◌≤◌, ◌⊎◌}
+pub use Rattle.std.proofs.Common.{All, Bool, Err, List, None, Ok, Option, Result, Some, [], ap, arith, drop, false, if◌then◌else◌, inl, inr, length, map}
+pub use Rattle.std.proofs.Common.{nat_le, nat_lt, neg_ℤ, negsuc, not, pos, refl, replicate, subst, suc, sym, take, true, unsigned_abs, zero, ℕ, ℤ, ◌%◌, ◌&&◌}
+pub use Rattle.std.proofs.Common.{◌*ℤ◌, ◌*◌, ◌++◌, ◌+ℤ◌, ◌+◌, ◌-ℤ◌, ◌-◌, ◌/◌, ◌<ℤ◌, ◌<◌, ◌==◌, ◌^◌, ◌∙◌, ◌∷◌, ◌≡◌, ◌≤ℤ◌, ◌≤◌, ◌⊎◌}
 pub use Rattle.std.proofs.lemmas.Bool.Decides.{nat_tests}
 pub use Rattle.std.proofs.lemmas.Int.{ints}
-pub use Rattle.std.proofs.lemmas.List.{append-nil, length-append, length-drop, length-map, length-take-le, length_push, nil_from_length, take-append-drop}
-pub use Rattle.std.proofs.lemmas.List.Elements.{All-append, All-cons, All-drop, All-head, All-map, All-nil, All-push, All-tail, All-take, All-weaker}
+pub use Rattle.std.proofs.lemmas.List.{append-nil, length-append, length-drop, length-map, length-replicate, length-take-le, length_push, nil_from_length}
+pub use Rattle.std.proofs.lemmas.List.{take-append-drop}
+pub use Rattle.std.proofs.lemmas.List.Elements.{All-append, All-cons, All-drop, All-head, All-map, All-nil, All-push, All-replicate, All-tail, All-take}
+pub use Rattle.std.proofs.lemmas.List.Elements.{All-weaker}
 pub use Rattle.std.specs.Fmt.{decimal, signed_decimal}
 pub use Rattle.std.specs.List.{join_with_byte, list_all, position_or_len}
 pub use Rattle.std.specs.Prelude.{codes}
-pub use Rattle.array_reader.specs.Arrays.{without_line}
-unfoldable pub use Rattle.array_reader.specs.Arrays.{array_at, integer_layer, layer_array, real_layer, reals}
+pub use Rattle.array_reader.proofs.NumberLemmas.{canonical_is, integers_are, is_product, is_word_number}
+pub use Rattle.array_reader.specs.Arrays.{values_of, without_line}
+unfoldable pub use Rattle.array_reader.specs.Arrays.{array_at, integer_layer, layer_array, layers, real_layer, reals}
+pub use Rattle.array_reader.specs.Control.{Control, constant, internal, named, of_keyword}
+unfoldable pub use Rattle.array_reader.specs.Control.{constant_at, control_at, format_at, internal_at, keyword, named_at}
+pub use Rattle.array_reader.specs.Items.{at_line}
+unfoldable pub use Rattle.array_reader.specs.Items.{number_at}
 pub use Rattle.array_reader.specs.Kinds.{Kind, real, whole}
 unfoldable pub use Rattle.array_reader.specs.Kinds.{integer_scaled, multiplied, scaled}
 unfoldable pub use Rattle.array_reader.specs.Lists.{free_list, free_rows, value_alone, value_at}
-pub use Rattle.array_reader.specs.Numbers.{is_short, product}
-unfoldable pub use Rattle.array_reader.specs.Numbers.{canonical, integer, integer_product, number, significant, zeros}
+pub use Rattle.array_reader.specs.Numbers.{is_exponent, is_short, spelt_number}
+unfoldable pub use Rattle.array_reader.specs.Numbers.{canonical, integer, integer_product, number, product, significant, zeros}
 pub use Rattle.array_text.specs.Arrays.{array_lines, control_record}
 unfoldable pub use Rattle.array_text.specs.Arrays.{integer_array, real_array, row_line, row_lines}
+pub use Rattle.array_text.specs.Laws.{ArraysHaveForm, ArraysReadAsWritten, FreeListsReadAsWritten, ListsHaveForm, WritesLines}
 pub use Rattle.array_text.specs.Lines.{IsLine, Line, Reads}
 unfoldable pub use Rattle.array_text.specs.Lines.{line_text, number_after, numbered_lines, text, unread}
 pub use Rattle.array_text.specs.Words.{IsShort, IsWord, IsWordByte, sign}
 unfoldable pub use Rattle.array_text.specs.Words.{integer_word, number_word}
 pub use Rattle.decimal_input.proofs.Spelled.{names_read, number_append, reads_spelt}
 pub use Rattle.decimal_input.specs.Canonical.{IsDec}
-pub use Rattle.decimal_input.specs.Grammar.{AreDigits, IsExponent, IsInteger, IsSign, Spells, is_digit, number_from}
+pub use Rattle.decimal_input.specs.Grammar.{AreDigits, IsExponent, IsInteger, IsSign, Spelling, Spells, is_digit, number_from}
+pub use Rattle.decimal_input.specs.Outcomes.{IsCanonical, IsTested, differ}
 pub use Rattle.decimal_input.specs.declared.dec.Dec.{Dec}
 pub use Rattle.decimal_input.specs.declared.dec.NumFault.{NumFault}
+pub use Rattle.outside.specs.Files.{FileSet}
 pub use Rattle.outside.specs.Words.{is_separator}
 unfoldable pub use Rattle.outside.specs.Words.{lines, words}
+pub use Rattle.outside.specs.declared.refusals.Refusal.{Refusal}
+pub use Rattle.record_lines.specs.Items.{name_at}
 unfoldable pub use Rattle.record_lines.specs.Items.{line_at, word_at}
 pub use Rattle.record_lines.specs.Layout.{Left, left_from, next_number}
 unfoldable pub use Rattle.record_lines.specs.Layout.{has_word}
+pub use Rattle.record_lines.specs.Reading.{◌>>=◌}
 unfoldable pub use Rattle.record_lines.specs.Reading.{appended, repeated}
+pub use Rattle.record_lines.specs.Spread.{Taking, beginning, next_word}
+unfoldable pub use Rattle.record_lines.specs.Spread.{next_value, spread}

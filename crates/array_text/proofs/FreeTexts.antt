@@ -2,8 +2,7 @@
 use Rattle.array_text.proofs.Common.{◌≡◌, ℕ, suc, ◌≤◌, ◌==◌, false, List, [], ◌∷◌, ◌++◌, length, map, nat_lt, All, Some, Result, Ok, refl, ◌∙◌, arith}
 use Rattle.array_text.proofs.Common.{position_or_len, append-nil, All-head, All-tail, All-map, All-weaker, nat_tests, NumFault, words, Left, next_number}
 use Rattle.array_text.proofs.Common.{repeated, value_at, value_alone, free_list, IsWordByte, IsWord, Line, line_text, numbered_lines, number_after, unread}
-use Rattle.array_text.proofs.Common.{Reads, row_line}
-use Rattle.record_lines.specs.Spread.{Taking, beginning, spread, next_word, next_value}
+use Rattle.array_text.proofs.Common.{Reads, row_line, Taking, beginning, spread, next_word, next_value}
 use Rattle.record_lines.proofs.WordLemmas.{word_found, goes_on}
 use Rattle.array_text.proofs.WordTexts.{no_star}
 use Rattle.array_text.proofs.LineTexts.{line_words}

@@ -1,4 +1,8 @@
 mod Common
+pub mod Readings
+pub mod NumberForms
+pub mod ListForms
+pub mod ArrayForms
 pub mod DigitTexts
 pub mod NumberTexts
 pub mod WordTexts

@@ -2,9 +2,7 @@
 use Rattle.array_text.proofs.Common.{◌≡◌, ℕ, ◌*◌, ◌%◌, ◌^◌, ◌<◌, ◌≤◌, ◌⊎◌, Bool, true, false, inl, inr, List, [], ◌∷◌, ◌++◌, length, Ok, refl, sym, ap, ◌∙◌}
 use Rattle.array_text.proofs.Common.{arith, ℤ, pos, negsuc, neg_ℤ, ◌+ℤ◌, ◌-ℤ◌, ◌≤ℤ◌, unsigned_abs, decimal, signed_decimal, append-nil, length-append, ints}
 use Rattle.array_text.proofs.Common.{Dec, IsDec, number_from, IsSign, IsExponent, Spells, names_read, reads_spelt, number, integer, product, sign, number_word}
-use Rattle.array_text.proofs.Common.{integer_word, IsShort}
-use Rattle.decimal_input.specs.Outcomes.{IsTested, IsCanonical, differ}
-use Rattle.array_reader.proofs.NumberLemmas.{is_word_number, is_product, integers_are}
+use Rattle.array_text.proofs.Common.{integer_word, IsShort, IsTested, IsCanonical, differ, is_word_number, is_product, integers_are}
 use Rattle.array_text.proofs.DigitTexts.{digits_spell, few_digits, integer_spells, few_bytes}
 
 is_sign : (neg : Bool) → IsSign neg (sign neg)

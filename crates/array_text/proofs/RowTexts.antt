@@ -2,10 +2,8 @@
 use Rattle.array_text.proofs.Common.{◌≡◌, ℕ, zero, suc, ◌*◌, ◌≤◌, List, [], ◌∷◌, ◌++◌, length, take, drop, All, Result, Ok, refl, arith, codes, length-take-le}
 use Rattle.array_text.proofs.Common.{length-drop, length-map, take-append-drop, nil_from_length, All-nil, All-cons, All-take, All-drop, NumFault, next_number}
 use Rattle.array_text.proofs.Common.{appended, word_at, Kind, multiplied, free_list, free_rows, array_at, without_line, Line, IsLine, number_after, unread}
-use Rattle.array_text.proofs.Common.{Reads, control_record, row_line, row_lines, array_lines}
-use Rattle.outside.specs.Files.{FileSet}
-use Rattle.array_reader.specs.Items.{number_at}
-use Rattle.array_reader.specs.Control.{keyword, format_at, internal, internal_at, control_at}
+use Rattle.array_text.proofs.Common.{Reads, control_record, row_line, row_lines, array_lines, FileSet, number_at, keyword, format_at, internal, internal_at}
+use Rattle.array_text.proofs.Common.{control_at}
 use Rattle.array_text.proofs.WordTexts.{line_by_test}
 use Rattle.array_text.proofs.LineTexts.{line_words, next_line}
 use Rattle.array_text.proofs.FreeTexts.{IsWrittenAs, row_is_words, free_list_reads}

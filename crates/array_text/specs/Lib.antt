@@ -1,4 +1,4 @@
+pub mod Laws
 pub mod Words
 pub mod Lines
 pub mod Arrays
-pub mod Laws

@@ -1,6 +1,7 @@
 // What is written is read as itself. Each law is the contract of an empty function.
-ghost use Rattle.array_text.specs.Laws.{NumbersReadAsWritten, IntegersReadAsWritten, LinesReadAsWritten};
-ghost use Rattle.array_text.specs.Laws.{TextsReadAsWritten, WritesLines, FreeListsReadAsWritten, ArraysReadAsWritten};
+ghost use Rattle.array_text.specs.Laws.{NumbersReadAsWritten, IntegersReadAsWritten, LinesReadAsWritten, TextsReadAsWritten, WritesLines};
+ghost use Rattle.array_text.specs.Laws.{FreeListsReadAsWritten, ArraysReadAsWritten};
+ghost use Rattle.array_text.specs.Laws.{NumbersAreCanonical, IntegersAreShort, ListsHaveForm, ArraysHaveForm};
 
 /// A number's word is read as that number.
 pub fn numbers_read_as_written()
@@ -35,4 +36,24 @@ pub fn free_lists_read_as_written()
 /// An array with its control record is read as its values.
 pub fn arrays_read_as_written()
     ensures { ArraysReadAsWritten }
+{}
+
+/// A number that is read is in canonical form.
+pub fn numbers_are_canonical()
+    ensures { NumbersAreCanonical }
+{}
+
+/// An integer that is read has at most 18 digits.
+pub fn integers_are_short()
+    ensures { IntegersAreShort }
+{}
+
+/// A free list that is read has as many values as it asked for.
+pub fn lists_have_form()
+    ensures { ListsHaveForm }
+{}
+
+/// An array that is read has a value for each place.
+pub fn arrays_have_form()
+    ensures { ArraysHaveForm }
 {}

@@ -4,16 +4,16 @@ ghost use Rattle.decimal_input.specs.Canonical.{IsDec};
 ghost use Rattle.outside.specs.Asking.{TextMay};
 ghost use Rattle.outside.specs.Files.{FileSet};
 ghost use Rattle.outside.specs.Folders.{ReadsOn};
-ghost use Rattle.record_lines.specs.Reading.{Has};
+ghost use Rattle.record_lines.specs.Reading.{Has, GivesText};
 ghost use Rattle.model_types.specs.Cells.{cell_count};
-ghost use Rattle.bas_package.specs.Basics.{basics_of, with_basics, bas_of};
+ghost use Rattle.bas_package.specs.Basics.{basics_of, with_basics, bas_of, is_in_profile, option_line, head_item};
+ghost use Rattle.outside.specs.Words.{words};
 
-use crate::head::{head_item, option_line};
-use array_reader::read_layers;
+use array_reader::{has_keyword, next_line, number, read_layers};
 use decimal_input::dec::Dec;
 use model_types::{FlowModel, Grid, Listed};
-use outside::{Folder, InputFault};
-use record_lines::Lines;
+use outside::{Code, Folder, InputFault, TextFault, refused};
+use record_lines::{Line, Lines, Words};
 use std::alloc::Global;
 
 /// IBOUND and STRT for the cells of a grid.
@@ -83,4 +83,38 @@ pub fn read_bas<F: Folder>(
 {
     let basics = basics_of(alloc, file, bytes, folder, &model.grid)?;
     Ok(with_basics(model, basics))
+}
+
+// The lines before the arrays.
+
+/// Whether the option words are those of this profile: free format, no cross section, and no stop at a time
+/// limit (CHTOCH).
+fn is_in_profile(line: &Line) -> bool
+    ensures { result ≡ is_in_profile (words line.now.bytes.now) }
+{
+    has_keyword(b"FREE", &mut Words::of(line))
+        && !has_keyword(b"XSECTION", &mut Words::of(line))
+        && !has_keyword(b"CHTOCH", &mut Words::of(line))
+}
+
+/// The line of options.
+#[tactic(auto, unfolding(crate::specs::Basics::option_line))]
+pub fn option_line(alloc: Global, lines: &mut Lines, file: &str) -> Result<(), TextFault>
+    ensures { GivesText (λ _. tt) result lines.new (option_line file.now lines.old) }
+{
+    let line = next_line(alloc, lines, file)?;
+    if !is_in_profile(&line) {
+        return Err(refused(alloc, Code::OutOfProfile, file, line.number));
+    }
+    Ok(())
+}
+
+/// The line of HNOFLO, which is a number.
+#[tactic(auto, unfolding(crate::specs::Basics::head_item))]
+pub fn head_item(alloc: Global, lines: &mut Lines, file: &str) -> Result<(), TextFault>
+    ensures { GivesText (λ _. tt) result lines.new (head_item file.now lines.old) }
+{
+    let line = next_line(alloc, lines, file)?;
+    number(alloc, &mut Words::of(&line), file, line.number)?;
+    Ok(())
 }

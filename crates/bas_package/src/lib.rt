@@ -2,6 +2,5 @@
 #![tactic(auto)]
 
 mod basics;
-mod head;
 
 pub use basics::read_bas;

@@ -1,11 +1,10 @@
 -- Where all checks passed, no cell has a fault.
 use Rattle.cell_checks.proofs.Common.{◌≡◌, ◌⊎◌, inl, inr, ℕ, zero, suc, ◌+◌, ◌≤◌, ◌<◌, Bool, true, false, nat_le, List, Option, Some, None, Result, Ok, Err}
-use Rattle.cell_checks.proofs.Common.{refl, arith, ◌>>=◌, counted, cell_count, is_active, FlowModel, at_cell, cell_step, checked}
+use Rattle.cell_checks.proofs.Common.{refl, arith, ◌>>=◌, counted, cell_count, is_active, FlowModel, at_cell, cell_step, checked, code_of, fault_at, passes}
 use Rattle.std.specs.Prelude.{not, ◌||◌, if◌then◌else◌}
 use Rattle.std.proofs.lemmas.Bool.Decides.{leb_tells}
 use Rattle.outside.specs.declared.codes.Code.{Code}
 use Rattle.model_types.specs.declared.grid.Grid.{Grid}
-use Rattle.cell_checks.specs.Faults.{code_of, fault_at, passes}
 use Rattle.cell_checks.specs.declared.passing.Check.{Check}
 
 none_of : (g : Grid) (file : List ℕ) (fault : ℕ → Option Code) (n c : ℕ) → counted (λ c s. at_cell g file c (fault c)) c n tt ≡ Ok tt → (k : ℕ) → c ≤ k → k < c + n → fault k ≡ None

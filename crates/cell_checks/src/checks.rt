@@ -4,8 +4,7 @@ ghost use Rattle.decimal_input.specs.Canonical.{IsDec};
 ghost use Rattle.model_types.specs.Cells.{cell_count};
 ghost use Rattle.model_types.specs.Grids.{IsGrid, HasSize};
 ghost use Rattle.record_lines.specs.Reading.{HasText};
-ghost use Rattle.cell_checks.specs.Checks.{at_cell, cell_step, checked};
-ghost use Rattle.cell_checks.specs.Faults.{fault_at};
+ghost use Rattle.cell_checks.specs.Checks.{at_cell, cell_step, checked, fault_at};
 
 use crate::passing::{Check, fault_at};
 use model_types::{CellId, FlowModel, Grid, place_of};

@@ -2,7 +2,6 @@
 #![tactic(auto)]
 
 mod checks;
-mod elevations;
 mod passing;
 
 pub use checks::check_cells;

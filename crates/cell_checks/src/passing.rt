@@ -3,14 +3,13 @@ ghost use Rattle.std.specs.Prelude.{◌≡◌, ◌<◌, All};
 ghost use Rattle.decimal_input.specs.Canonical.{IsDec};
 ghost use Rattle.model_types.specs.Cells.{cell_count};
 ghost use Rattle.model_types.specs.Grids.{IsGrid};
-ghost use Rattle.model_types.specs.Layers.{dec_at};
-ghost use Rattle.cell_checks.specs.Faults.{has_head, has_good_properties, passes, code_of, fault_at};
+ghost use Rattle.model_types.specs.Layers.{dec_at, bottom_at, lowest, top_at};
+ghost use Rattle.cell_checks.specs.Checks.{has_head, has_good_properties, passes, code_of, fault_at, is_checked_bed, is_thick_cell};
 
-use crate::elevations::{is_checked_bed, is_thick_cell};
 use decimal_input::dec::Dec;
 use model_types::FlowModel;
 use model_types::layers::dec_at;
-use number_limits::{is_head, is_positive};
+use number_limits::{is_head, is_positive, is_thick};
 use outside::Code;
 
 /// The checks over the active cells: after BAS6 the thickness of each and the starting head of each, after LPF the
@@ -73,7 +72,7 @@ fn code_of(check: Check) -> Code
 }
 
 /// The fault of a cell under a check; None where it isn't active or passes.
-#[tactic(auto, unfolding(crate::specs::Faults::fault_at))]
+#[tactic(auto, unfolding(crate::specs::Checks::fault_at))]
 pub fn fault_at(check: Check, model: &FlowModel, cell: u32) -> Option<Code>
     requires grid { IsGrid model.now.grid }
     requires strt { All IsDec model.now.strt }
@@ -85,4 +84,54 @@ pub fn fault_at(check: Check, model: &FlowModel, cell: u32) -> Option<Code>
     } else {
         Some(code_of(check))
     }
+}
+
+// Elevations of cells and beds, which are canonical numbers.
+
+fn top_of(model: &FlowModel, cell: u32) -> Dec
+    requires grid { IsGrid model.now.grid }
+    ensures value { result ≡ top_at model.now cell }
+    ensures canonical { IsDec result }
+{
+    model.top_at(cell)
+}
+
+fn bottom_of(model: &FlowModel, cell: u32) -> Dec
+    requires grid { IsGrid model.now.grid }
+    ensures value { result ≡ bottom_at model.now cell }
+    ensures canonical { IsDec result }
+{
+    model.bottom_at(cell)
+}
+
+fn lowest_of(model: &FlowModel, cell: u32) -> Dec
+    requires grid { IsGrid model.now.grid }
+    ensures value { result ≡ lowest model.now cell }
+    ensures canonical { IsDec result }
+{
+    model.lowest(cell)
+}
+
+/// Whether the bed below a cell is checked: there is an active cell below it, and its two elevations differ.
+pub fn is_checked_bed(model: &FlowModel, cell: u32) -> bool
+    requires grid { IsGrid model.now.grid }
+    requires cell { cell < cell_count model.now.grid }
+    ensures { result ≡ is_checked_bed model.now cell }
+{
+    let below = cell + model.grid.layer_size();
+    model.has_bed(cell)
+        && below < model.grid.cell_count()
+        && model.is_active(below)
+        && model.bottom_at(cell) != model.lowest(cell)
+}
+
+/// Whether a cell is thick enough, and the bed below it if that is checked.
+pub fn is_thick_cell(model: &FlowModel, cell: u32) -> bool
+    requires grid { IsGrid model.now.grid }
+    requires cell { cell < cell_count model.now.grid }
+    ensures { result ≡ is_thick_cell model.now cell }
+{
+    is_thick(top_of(model, cell), bottom_of(model, cell))
+        && (!is_checked_bed(model, cell)
+            || is_thick(bottom_of(model, cell), lowest_of(model, cell)))
 }

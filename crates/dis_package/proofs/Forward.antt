@@ -6,10 +6,9 @@ use Rattle.record_lines.specs.Spread.{beginning}
 use Rattle.array_reader.specs.Lists.{value_alone}
 use Rattle.array_reader.specs.Numbers.{integer}
 use Rattle.array_reader.proofs.Forward.{value_alone_held}
-use Rattle.package_items.specs.Items.{zero_at}
-use Rattle.package_items.proofs.Forward.{zero_held}
-use Rattle.dis_package.specs.Beds.{beds_of}
-use Rattle.dis_package.specs.Frames.{frame_of}
+use Rattle.array_reader.specs.PackageItems.{zero_at}
+use Rattle.array_reader.proofs.PackageForward.{zero_held}
+use Rattle.dis_package.specs.Frames.{beds_of, frame_of}
 
 module _ (P : Numbered → Type 0) (file : List ℕ) where
   beds_held : (layers : ℕ) (left : Left) → All P left.lines → IfOk (beds_of file layers left) (λ x. All P x.1.lines)

@@ -10,8 +10,7 @@ use Rattle.model_types.specs.declared.grid.Grid.{Grid}
 use Rattle.model_types.specs.declared.limits.Limits.{Limits}
 use Rattle.model_types.specs.declared.model.FlowModel.{FlowModel}
 use Rattle.model_types.specs.declared.period.Period.{Period}
-use Rattle.dis_package.specs.Frames.{frame_of}
-use Rattle.dis_package.specs.Beds.{beds_of}
+use Rattle.dis_package.specs.Frames.{frame_of, beds_of}
 use Rattle.dis_package.specs.Grids.{grid_of}
 use Rattle.dis_package.specs.Times.{periods_of}
 use Rattle.dis_package.specs.declared.frame.Frame.{Frame}

@@ -1,9 +1,9 @@
 -- The first line of a file of the discretization: NLAY NROW NCOL NPER ITMUNI LENUNI (TM 6-A16, DIS, item 1).
-use Rattle.std.specs.Prelude.{ℕ, ◌*◌, List, nat_le, Option, Some, None, Result, Ok, Err, if◌then◌else◌}
+use Rattle.std.specs.Prelude.{ℕ, ◌*◌, List, nat_le, Option, Some, None, Result, Ok, Err, if◌then◌else◌, ◌-◌, ℤ, [], ◌∷◌, ◌++◌}
 use Rattle.outside.specs.Refusals.{refusal}
 use Rattle.outside.specs.declared.codes.Code.TheVariants.{BadGrid}
 use Rattle.outside.specs.declared.refusals.Refusal.{Refusal}
-use Rattle.record_lines.specs.Reading.{◌>>=◌}
+use Rattle.record_lines.specs.Reading.{◌>>=◌, repeated}
 use Rattle.array_reader.specs.Items.{number_at}
 use Rattle.array_reader.specs.Numbers.{integer}
 use Rattle.model_types.specs.declared.limits.Limits.{Limits}
@@ -11,6 +11,10 @@ use Rattle.model_types.specs.Limits.{most_layers, most_in_row, most_cells}
 use Rattle.number_limits.specs.Signs.{within}
 use Rattle.dis_package.specs.declared.frame.Frame.{Frame}
 use Rattle.dis_package.specs.declared.frame.Size.{Size}
+use Rattle.record_lines.specs.Layout.{Left}
+use Rattle.record_lines.specs.Spread.{beginning}
+use Rattle.array_reader.specs.Lists.{value_alone}
+use Rattle.array_reader.specs.PackageItems.{zero_at}
 
 abbrev pub inside : Option ℕ → Refusal → Result ℕ Refusal
 inside None r = Err r
@@ -40,3 +44,10 @@ frame_of limits file line words = do
   itmuni ← number_at integer file line periods.1
   lenuni ← number_at integer file line itmuni.1
   Ok (record { size = size.0; periods = periods.0; lenuni = lenuni.0 })
+
+-- LAYCBD: an integer for each layer, not 0 where a confining bed lies below it; none lies below the last layer (TM 6-A16, DIS, item 2).
+unfoldable pub beds_of : List ℕ → ℕ → Left → Result (List ℤ × Left) Refusal
+beds_of file layers left = do
+  above ← repeated (layers - 1) (value_alone integer file) (beginning, left)
+  last ← zero_at file above.1
+  Ok (above.0 ++ last.0 ∷ [], last.1.1)

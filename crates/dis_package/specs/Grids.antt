@@ -13,7 +13,7 @@ use Rattle.array_reader.specs.Kinds.{real}
 use Rattle.model_types.specs.declared.grid.Grid.{Grid}
 use Rattle.model_types.specs.Layers.{int_at, no_number, is_nonzero}
 use Rattle.number_limits.specs.Signs.{is_positive}
-use Rattle.package_items.specs.Items.{layer_or}
+use Rattle.array_reader.specs.PackageItems.{layer_or}
 use Rattle.dis_package.specs.declared.frame.Size.{Size}
 use Rattle.dis_package.specs.declared.bottoms.Bottoms.{Bottoms}
 

@@ -1,5 +1,4 @@
 pub mod Frames
-pub mod Beds
 pub mod Grids
 pub mod Times
 pub mod Forms

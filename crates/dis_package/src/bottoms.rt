@@ -8,12 +8,11 @@ ghost use Rattle.record_lines.specs.Reading.{Gives, counted};
 ghost use Rattle.dis_package.specs.Grids.{bottom_at, bottoms_of};
 
 use crate::frame::Size;
-use array_reader::read_layer;
+use array_reader::{layer_or, read_layer};
 use decimal_input::dec::Dec;
 use model_types::Listed;
 use model_types::layers::int_at;
 use outside::{Folder, InputFault};
-use package_items::layer_or;
 use record_lines::Lines;
 use std::alloc::{AllocError, Global};
 

@@ -1,14 +1,15 @@
 // The first line: NLAY NROW NCOL NPER ITMUNI LENUNI.
-ghost use Rattle.std.specs.Prelude.{◌≡◌, IfOk, ◌≤◌, ◌*◌};
+ghost use Rattle.std.specs.Prelude.{◌≡◌, IfOk, ◌≤◌, ◌*◌, ◌-◌, pos, length};
 ghost use Rattle.record_lines.specs.Reading.{GivesText, HasText};
-ghost use Rattle.dis_package.specs.Frames.{count_at, size_at, frame_of};
+ghost use Rattle.dis_package.specs.Frames.{count_at, size_at, frame_of, beds_of};
 ghost use Rattle.dis_package.specs.Forms.{IsSize, IsFrame};
+ghost use Rattle.model_types.specs.Layers.{int_at};
 
-use array_reader::integer;
+use array_reader::{integer, values, zero_item};
 use model_types::Limits;
 use number_limits::within;
 use outside::{Code, TextFault, refused};
-use record_lines::Words;
+use record_lines::{Free, Lines, Words};
 use std::alloc::Global;
 
 /// How many layers, rows and columns.
@@ -86,4 +87,26 @@ pub fn frame_of(
         periods,
         lenuni,
     })
+}
+
+// LAYCBD: which layers have a confining bed below them.
+
+/// An integer for each layer, of which the last is 0.
+#[tactic(auto, unfolding(crate::specs::Frames::beds_of), using(crate::proofs::BedLemmas::last_of))]
+pub fn beds_of(
+    alloc: Global,
+    lines: &mut Lines<'_>,
+    file: &str,
+    layers: u32,
+) -> Result<Vec<i64>, TextFault>
+    requires { 1 ≤ layers }
+    ensures beds { GivesText (λ v. v.items) result lines.new (beds_of file.now layers lines.old) }
+    ensures count { IfOk result (λ v. length v.items ≡ layers) }
+    ensures last { IfOk result (λ v. int_at v.items (layers - 1) ≡ pos 0) }
+{
+    let mut free = Free::begin();
+    let mut beds = values::<i64>(alloc, &mut free, lines, file, None, layers - 1)?;
+    let last = zero_item(alloc, &mut free, lines, file)?;
+    beds.push(last)?;
+    Ok(beds)
 }

@@ -1,7 +1,6 @@
 //! The discretization: the size of the grid, its widths and elevations, and the stress periods.
 #![tactic(auto)]
 
-mod beds;
 mod bottoms;
 mod frame;
 mod grid;

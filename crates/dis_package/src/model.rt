@@ -8,8 +8,7 @@ ghost use Rattle.model_types.specs.Layers.{int_at};
 ghost use Rattle.dis_package.specs.Discretization.{begun, head_of, dis_of};
 ghost use Rattle.dis_package.specs.Forms.{IsFrame, IsBegun};
 
-use crate::beds::beds_of;
-use crate::frame::{Frame, frame_of};
+use crate::frame::{Frame, beds_of, frame_of};
 use crate::grid::grid_of;
 use crate::periods::periods_of;
 use array_reader::next_line;

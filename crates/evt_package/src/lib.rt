@@ -6,6 +6,5 @@ mod chosen;
 mod columns;
 mod fault;
 mod read;
-mod units;
 
 pub use read::read_evt;

@@ -1,7 +1,8 @@
 -- Numbers that passed the tests of their columns.
-use Rattle.list_package.proofs.Common.{◌≡◌, ℕ, zero, suc, ◌<◌, ◌≤◌, Bool, true, false, List, [], ◌∷◌, length, get_or, drop, All, Option, Some, None, refl}
-use Rattle.list_package.proofs.Common.{arith, if◌then◌else◌, AllZip, All-head, All-tail, Dec, IsDec, HeadTooLarge, BadProperty, no_number, IsColumn}
-use Rattle.list_package.proofs.Common.{column_fault, first_fault, or_later}
+use Rattle.list_package.proofs.Common.{◌≡◌, ℕ, zero, suc, ◌≤◌, Bool, true, false, List, [], ◌∷◌, length, drop, All, Option, Some, None, refl, arith}
+use Rattle.list_package.proofs.Common.{if◌then◌else◌, All-head, All-tail, IsDec, HeadTooLarge, BadProperty, IsColumn, column_fault, first_fault, or_later}
+use Rattle.std.specs.List.{AllZip}
+use Rattle.decimal_input.specs.declared.dec.Dec.{Dec}
 use Rattle.outside.specs.declared.codes.Code.{Code}
 use Rattle.model_types.specs.Numbers.{IsHeadNumber, IsNotNegative}
 use Rattle.number_limits.specs.Magnitudes.{is_head}
@@ -33,14 +34,6 @@ pass_columns (c ∷ cs) [] n h e = absurd (omega (arith, n))
 pass_columns (c ∷ cs) (x ∷ xs) n h e =
     let both = neither (column_fault c x) (first_fault cs xs) e in
     (passes_column c x (All-head IsDec x xs h) both.0, pass_columns cs xs (omega (arith, n)) (All-tail IsDec x xs h) both.1)
-
--- the number of a column
-pub at_column : (cs : List Column) (xs : List Dec) → AllZip IsColumn cs xs → (i : ℕ) → i < length cs → IsColumn (get_or cs i Rate) (get_or xs i no_number)
-at_column [] [] h i lt = absurd (omega (arith, lt))
-at_column [] (x ∷ xs) h i lt = absurd h
-at_column (c ∷ cs) [] h i lt = absurd h
-at_column (c ∷ cs) (x ∷ xs) h zero lt = h.0
-at_column (c ∷ cs) (x ∷ xs) h (suc i) lt = at_column cs xs h.1 i (omega (arith, lt))
 
 pub no_more_faults : (cs : List Column) (xs : List Dec) (k : ℕ) → length cs ≤ k → first_fault (drop k cs) xs ≡ None
 no_more_faults [] xs zero le = refl

@@ -2,24 +2,19 @@
 pub use Rattle.std.proofs.Common.{All, Bool, Err, IfSome, List, None, Ok, Option, Result, Some, [], ap, append_assoc, arith, cond, drop, false, get_or, inl}
 pub use Rattle.std.proofs.Common.{inr, length, map, not, pos, refl, subst, suc, sum, sum_by, sym, true, zero, ℕ, ℤ, ◌&&◌, ◌++◌, ◌-◌, ◌<◌, ◌==◌, ◌∙◌, ◌∷◌, ◌≡◌}
 pub use Rattle.std.proofs.Common.{◌≤ℤ◌, ◌≤◌, ◌⊎◌}
-pub use Rattle.std.proofs.lemmas.List.{append-nil, get_or-set_other, get_or-set_same, length-replicate, length-set, map-append}
-pub use Rattle.std.proofs.lemmas.List.Elements.{All-head, All-nil, All-push, All-tail, All-weaker}
+pub use Rattle.std.proofs.lemmas.List.{append-nil, get_or-set_other, get_or-set_same, length-set, map-append}
+pub use Rattle.std.proofs.lemmas.List.Elements.{All-head, All-push, All-tail, All-weaker}
 pub use Rattle.std.proofs.lemmas.Result.{err_from_is_err_and}
-pub use Rattle.std.specs.List.{AllZip}
 pub use Rattle.std.specs.Prelude.{IfOk, codes, if◌then◌else◌}
 pub use Rattle.std.specs.Vec.Iter.{into_iter_items}
 pub use Rattle.array_reader.proofs.ListLemmas.{all_pushed}
 pub use Rattle.decimal_input.specs.Canonical.{IsDec}
-pub use Rattle.decimal_input.specs.declared.dec.Dec.{Dec}
-pub use Rattle.list_package.specs.Entries.{entry_at, no_marks}
 pub use Rattle.list_package.specs.Forms.{AreMarked, Differ, EvapArrays, IsColumn, IsList, IsNewlyMarked, KeepsLimits, SameBut, evap_arrays}
 pub use Rattle.list_package.specs.GivenHeads.{given_heads}
-pub use Rattle.list_package.specs.Kinds.{Kind, column_fault, first_fault, or_later, with_list, without}
+pub use Rattle.list_package.specs.Kinds.{Kind, column_fault, entries_in, first_fault, kind_of, or_later, with_list, without}
 pub use Rattle.model_types.specs.Cells.{cell_count, place_in_layer}
-pub use Rattle.model_types.specs.Layers.{dec_at, is_active, no_number}
 pub use Rattle.model_types.specs.Valid.{AreStresses, IsBedChecked, IsEntryList, IsEntryValid, IsEvapValid, IsGivenList, IsGivenValid, IsGrowing, IsModel}
 pub use Rattle.model_types.specs.Valid.{IsPeriod, IsTimed, number_one}
-pub use Rattle.model_types.specs.declared.grid.CellId.{CellId}
 pub use Rattle.model_types.specs.declared.grid.Grid.{Grid}
 pub use Rattle.model_types.specs.declared.period.Period.{Period}
 pub use Rattle.model_types.specs.declared.period.Stresses.{Stresses}

@@ -1,11 +1,9 @@
 -- The laws of the packages of wells, rivers, drains and general heads, package by package.
-use Rattle.list_package.proofs.Common.{◌≡◌, ℕ, ◌<◌, ℤ, List, All, refl, arith, AllZip, All-weaker, Dec, CellId, Grid, Period, Stresses, cell_count, AreStresses}
-use Rattle.list_package.proofs.Common.{IsEntryList, IsEntryValid, IsColumn, IsList, KeepsLimits, evap_arrays}
+use Rattle.list_package.proofs.Common.{◌≡◌, ℕ, ℤ, List, All, refl, All-weaker, Grid, Period, Stresses, cell_count, AreStresses, IsEntryList, IsEntryValid}
+use Rattle.list_package.proofs.Common.{IsList, KeepsLimits, evap_arrays, entries_in, kind_of}
 use Rattle.model_types.specs.declared.entry.Entry.{Entry}
 use Rattle.list_package.specs.declared.entries.ListKind.{ListKind}
 use Rattle.list_package.specs.declared.entries.ListKind.TheVariants.{Wells, Rivers, Drains, Generals}
-use Rattle.list_package.specs.EntryKinds.{columns_of, entry_with, entries_in, kind_of}
-use Rattle.list_package.proofs.ColumnLemmas.{at_column}
 
 replaces : (k : ListKind) (s : Stresses) (xs ys : List Entry) → (kind_of k).put ((kind_of k).put s xs) ys ≡ (kind_of k).put s ys
 replaces Wells s xs ys = refl
@@ -36,13 +34,6 @@ fits Generals g r e s xs list h = record { wells = h.wells; rivers = h.rivers; d
 
 pub keeps_limits : (k : ListKind) → KeepsLimits (kind_of k) IsEntryValid
 keeps_limits k = record { replaces = replaces k; unchanged = unchanged k; evaporation = evaporation k; fits = fits k }
-
-pub sound : (k : ListKind) (cells : ℕ) (cell : CellId) (xs : List Dec) → AllZip IsColumn (columns_of k) xs → cell.0 < cells → IsEntryValid cells (entry_with k cell xs)
-sound Wells cells cell xs h inside = (inside, at_column (columns_of Wells) xs h 0 (omega arith))
-sound Rivers cells cell xs h inside =
-    (inside, at_column (columns_of Rivers) xs h 0 (omega arith), at_column (columns_of Rivers) xs h 1 (omega arith), at_column (columns_of Rivers) xs h 2 (omega arith))
-sound Drains cells cell xs h inside = (inside, at_column (columns_of Drains) xs h 0 (omega arith), at_column (columns_of Drains) xs h 1 (omega arith))
-sound Generals cells cell xs h inside = (inside, at_column (columns_of Generals) xs h 0 (omega arith), at_column (columns_of Generals) xs h 1 (omega arith))
 
 pub entry_lists : (k : ListKind) (cells : ℕ) (ps : List Period) → All (λ p. IsList (kind_of k) (IsEntryValid cells) (entries_in k p.stresses)) ps → All (λ p. IsEntryList cells (entries_in k p.stresses)) ps
 entry_lists k cells ps h = All-weaker (λ p. IsList (kind_of k) (IsEntryValid cells) (entries_in k p.stresses)) (λ p. IsEntryList cells (entries_in k p.stresses)) (λ p. entry_list k cells (entries_in k p.stresses)) ps h

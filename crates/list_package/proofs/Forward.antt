@@ -1,11 +1,10 @@
 -- The first line of items leaves lines that it was given.
-use Rattle.list_package.proofs.Common.{◌≡◌, ℕ, List, Ok, Err, All, IfOk, codes, OutOfProfile}
+use Rattle.list_package.proofs.Common.{ℕ, List, Ok, Err, All, IfOk, codes, OutOfProfile}
 use Rattle.outside.specs.Words.{words}
 use Rattle.outside.specs.Refusals.{refusal}
-use Rattle.record_lines.specs.Asking.{LineMay, LinesMay}
 use Rattle.record_lines.specs.Items.{begins_with, line_at}
 use Rattle.record_lines.specs.Layout.{Left, Numbered}
-use Rattle.record_lines.proofs.Forward.{chain, either, line_held, leaves}
+use Rattle.record_lines.proofs.Forward.{chain, either, line_held}
 use Rattle.list_package.specs.Headers.{item_line}
 
 pub item_held : (P : Numbered → Type 0) (file : List ℕ) (left : Left) → All P left.lines → IfOk (item_line file left) (λ x. All P x.1.lines)
@@ -13,6 +12,3 @@ unfolding item_line
 item_held P file left h =
     chain (λ x. P x.0 × All P x.1.lines) (λ x. All P x.1.lines) (line_at file left) _ (line_held P file left h)
     (λ line hl. either (λ x. All P x.1.lines) (begins_with (codes "PARAMETER") (words line.0.bytes)) (Err (refusal OutOfProfile file line.0.number)) (Ok line) tt hl.1)
-
-pub item_leaves : (may : List ℕ → Type 0) (file : List ℕ) (left rest : Left) (line : Numbered) → item_line file left ≡ Ok (line, rest) → LinesMay may left → LinesMay may rest
-item_leaves may file left rest line e h = leaves may (item_line file left) line rest e (item_held (LineMay may) file left h.each)

@@ -1,16 +1,7 @@
 -- Marked cells: in a list that may name a cell once only, two entries name two cells.
-use Rattle.list_package.proofs.Common.{◌≡◌, ℕ, Bool, true, false, cond, List, [], ◌∷◌, ◌++◌, length, get_or, sym, ap, ◌∙◌, arith, get_or-set_same}
-use Rattle.list_package.proofs.Common.{get_or-set_other, length-set, length-replicate, All-nil, All-push, Grid, cell_count, no_marks, AreMarked, Differ}
-use Rattle.list_package.proofs.Common.{IsNewlyMarked, Kind}
+use Rattle.list_package.proofs.Common.{◌≡◌, ℕ, Bool, true, false, List, [], ◌∷◌, ◌++◌, length, get_or, sym, ap, ◌∙◌, get_or-set_same, get_or-set_other}
+use Rattle.list_package.proofs.Common.{length-set, All-push, AreMarked, Differ, IsNewlyMarked, Kind}
 use Rattle.std.proofs.lemmas.List.Quantifiers.{all_pairs_push}
-
--- a list that begins
-pub none_marked : {E : Type 0} (kind : Kind E) (grid : Grid) (marks : List Bool) → marks ≡ no_marks kind grid → kind.once ≡ true → AreMarked kind (cell_count grid) marks []
-none_marked kind grid marks e once = record {
-  count = ap length e ∙ length-replicate (cond kind.once (cell_count grid) 0) false ∙ ap (λ b. cond b (cell_count grid) 0) once;
-  marked = All-nil (λ x. get_or marks (kind.place x) false ≡ true);
-  once = λ i j d lt within. absurd (omega arith);
-}
 
 still_marked : {E : Type 0} (kind : Kind E) (cells : ℕ) (before after : List Bool) (x y : E) → length before ≡ cells → IsNewlyMarked kind cells before after x → get_or before (kind.place y) false ≡ true → get_or after (kind.place y) false ≡ true
 still_marked kind cells before after x y count h e =

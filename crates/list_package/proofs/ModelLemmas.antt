@@ -1,8 +1,9 @@
 -- A model in limits stays so where its periods have other stresses in limits.
 use Rattle.list_package.proofs.Common.{◌≡◌, ◌⊎◌, inl, inr, ℕ, zero, suc, ◌-◌, ◌<◌, ◌≤◌, ℤ, pos, ◌≤ℤ◌, Bool, true, not, cond, ◌&&◌, ◌==◌, List, [], ◌∷◌, map}
 use Rattle.list_package.proofs.Common.{All, Some, None, Result, Ok, Err, length, get_or, sum, sum_by, refl, sym, ap, ◌∙◌, subst, All-weaker, Period, Stresses}
-use Rattle.list_package.proofs.Common.{cell_count, place_in_layer, dec_at, is_active, AreStresses, IsModel, IsPeriod, IsTimed, IsGrowing, IsBedChecked}
-use Rattle.list_package.proofs.Common.{IsEvapValid, number_one, EvapArrays, evap_arrays, IsList, KeepsLimits, SameBut, Kind, with_list, without}
+use Rattle.list_package.proofs.Common.{cell_count, place_in_layer, AreStresses, IsModel, IsPeriod, IsTimed, IsGrowing, IsBedChecked, IsEvapValid, number_one}
+use Rattle.list_package.proofs.Common.{EvapArrays, evap_arrays, IsList, KeepsLimits, SameBut, Kind, with_list, without}
+use Rattle.model_types.specs.Layers.{dec_at, is_active}
 use Rattle.std.proofs.Common.{IfOk}
 use Rattle.std.specs.Option.{option_to_list}
 use Rattle.std.proofs.lemmas.List.Sums.{sum-map}

@@ -1,5 +1,4 @@
 pub mod Kinds
-pub mod EntryKinds
 pub mod GivenHeads
 pub mod Entries
 pub mod Headers

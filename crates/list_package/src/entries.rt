@@ -1,7 +1,7 @@
 // The lists of wells, rivers, drains and general heads.
 ghost use Rattle.std.specs.Prelude.{◌≡◌, []};
 ghost use Rattle.model_types.specs.Valid.{IsEntryValid};
-ghost use Rattle.list_package.specs.EntryKinds.{kind_of};
+ghost use Rattle.list_package.specs.Kinds.{kind_of};
 
 use crate::columns::Column;
 use crate::kind::ListEntry;

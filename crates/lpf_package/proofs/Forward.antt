@@ -8,11 +8,11 @@ use Rattle.outside.specs.declared.codes.Code.TheVariants.{OutOfProfile}
 use Rattle.record_lines.specs.Items.{is_word, line_at}
 use Rattle.record_lines.specs.Layout.{Left, Numbered}
 use Rattle.array_reader.specs.Items.{number_at}
+use Rattle.array_reader.specs.PackageItems.{zero_list}
 use Rattle.array_reader.specs.Lists.{free_list}
 use Rattle.array_reader.specs.Numbers.{number, integer}
 use Rattle.array_reader.proofs.Forward.{list_held}
-use Rattle.package_items.specs.Items.{zero_list}
-use Rattle.package_items.proofs.Forward.{zeros_held}
+use Rattle.array_reader.proofs.PackageForward.{zeros_held}
 use Rattle.lpf_package.specs.Settings.{option_line, settings_of}
 use Rattle.lpf_package.specs.declared.settings.Settings.{Settings}
 

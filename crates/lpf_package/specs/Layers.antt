@@ -9,7 +9,7 @@ use Rattle.array_reader.specs.Arrays.{real_layer}
 use Rattle.model_types.specs.declared.grid.Grid.{Grid}
 use Rattle.model_types.specs.Layers.{dec_at, int_at, no_number, is_nonzero}
 use Rattle.number_limits.specs.Signs.{is_positive}
-use Rattle.package_items.specs.Items.{layer_or}
+use Rattle.array_reader.specs.PackageItems.{layer_or}
 use Rattle.lpf_package.specs.declared.layer.Layer.{Layer}
 use Rattle.lpf_package.specs.declared.layer.Properties.{Properties}
 

@@ -11,7 +11,7 @@ use Rattle.record_lines.specs.Reading.{◌>>=◌}
 use Rattle.array_reader.specs.Items.{number_at}
 use Rattle.array_reader.specs.Lists.{free_list}
 use Rattle.array_reader.specs.Numbers.{number, integer}
-use Rattle.package_items.specs.Items.{zero_list}
+use Rattle.array_reader.specs.PackageItems.{zero_list}
 use Rattle.lpf_package.specs.declared.settings.Settings.{Settings}
 
 -- ILPFCB HDRY NPLPF and option words: no parameters; whether the option STORAGECOEFFICIENT is there

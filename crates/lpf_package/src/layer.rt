@@ -8,12 +8,11 @@ ghost use Rattle.record_lines.specs.Reading.{Gives};
 ghost use Rattle.lpf_package.specs.Forms.{AreLayers};
 ghost use Rattle.lpf_package.specs.Layers.{storage_layer, properties_of, joined};
 
-use array_reader::read_layer;
+use array_reader::{layer_or, read_layer};
 use decimal_input::dec::Dec;
 use model_types::Listed;
 use number_limits::is_positive;
 use outside::{Folder, InputFault};
-use package_items::layer_or;
 use record_lines::Lines;
 use std::alloc::{AllocError, Global};
 

@@ -2,7 +2,6 @@
 #![tactic(auto)]
 
 mod layer;
-mod layers;
 mod model;
 mod settings;
 

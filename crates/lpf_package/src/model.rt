@@ -9,8 +9,7 @@ ghost use Rattle.lpf_package.specs.Forms.{AreLayers, HasProperties};
 ghost use Rattle.lpf_package.specs.Flow.{contents_of, is_transient, with_contents, lpf_of, SameBut};
 
 use crate::layer::Properties;
-use crate::layers::layers_of;
-use crate::settings::{option_line, settings_of};
+use crate::settings::{layers_of, option_line, settings_of};
 use model_types::{FlowModel, Grid, Listed, Period};
 use outside::{Folder, InputFault};
 use record_lines::Lines;

@@ -1,7 +1,7 @@
 -- Names that several proofs of this crate cite, of the crates below and of its own definitions, passed on from one place. Declares nothing.
 pub use Rattle.std.proofs.Common.{All, Bool, Err, IfSome, List, None, Ok, Option, Result, Some, [], ap, arith, cond, drop, false, get_or, inl, inr, is_some}
-pub use Rattle.std.proofs.Common.{length, map, nat_le, nat_lt, negsuc, not, pos, refl, replicate, set, subst, suc, sum, sum_by, sym, take, true, zero, ℕ, ℤ}
-pub use Rattle.std.proofs.Common.{◌%◌, ◌&&◌, ◌*◌, ◌++◌, ◌+◌, ◌-◌, ◌<◌, ◌==◌, ◌^◌, ◌||◌, ◌∙◌, ◌∷◌, ◌≡◌, ◌≤◌, ◌⊎◌}
+pub use Rattle.std.proofs.Common.{length, map, nat_abs, nat_le, nat_lt, negsuc, not, pos, refl, replicate, set, subst, suc, sum, sum_by, sym, take, true, zero}
+pub use Rattle.std.proofs.Common.{ℕ, ℤ, ◌%◌, ◌&&◌, ◌*◌, ◌++◌, ◌+◌, ◌-◌, ◌<◌, ◌==◌, ◌^◌, ◌||◌, ◌∙◌, ◌∷◌, ◌≡◌, ◌≤◌, ◌⊎◌}
 pub use Rattle.std.proofs.lemmas.Bool.{and_parts, cases_lt, eqb-true, leb-true, ltb-true, not-false}
 pub use Rattle.std.proofs.lemmas.List.{drop-append-le, drop_at, get_or-set_other, get_or-set_same, get_or_default, length-append, length-drop, length-replicate}
 pub use Rattle.std.proofs.lemmas.List.{length-set, take-append-le, take_all}
@@ -9,23 +9,23 @@ pub use Rattle.std.proofs.lemmas.List.Elements.{All-append, All-cons, All-from_r
 pub use Rattle.std.proofs.lemmas.List.Sums.{sum-map, sum_by-cons}
 pub use Rattle.std.specs.List.{AllPairs, list_all, list_any}
 pub use Rattle.std.specs.Prelude.{if◌then◌else◌}
-pub use Rattle.area_text.specs.Readable.{IsEvaporating, IsLayers, IsRecharged}
-pub use Rattle.array_forms.proofs.ArrayForms.{array_is, arrays, item_is}
-pub use Rattle.array_forms.proofs.ListForms.{lists, value_is}
-pub use Rattle.array_forms.proofs.NumberForms.{integer_is, multiplied_is, number_is}
-pub use Rattle.array_forms.proofs.Readings.{clash, ends, goes, repeated_are}
 pub use Rattle.array_reader.specs.Arrays.{array_at, integer_layer, layers, real_layer}
 pub use Rattle.array_reader.specs.Items.{number_at}
 pub use Rattle.array_reader.specs.Kinds.{real, whole}
 pub use Rattle.array_reader.specs.Lists.{free_list, value_alone, value_at}
 pub use Rattle.array_reader.specs.Numbers.{integer, number}
+pub use Rattle.array_reader.specs.PackageItems.{zero_list}
+unfoldable pub use Rattle.array_reader.specs.PackageItems.{layer_or, zero_at}
+pub use Rattle.array_text.proofs.ArrayForms.{array_is, arrays, item_is}
+pub use Rattle.array_text.proofs.ListForms.{lists, value_is}
+pub use Rattle.array_text.proofs.NumberForms.{integer_is, multiplied_is, number_is}
+pub use Rattle.array_text.proofs.Readings.{clash, ends, goes, repeated_are}
 pub use Rattle.array_text.specs.Words.{IsShort}
 unfoldable pub use Rattle.array_text.specs.Words.{integer_word, number_word}
 pub use Rattle.bas_package.specs.Basics.{head_item, with_basics}
 unfoldable pub use Rattle.bas_package.specs.Basics.{bas_of, basics_of}
 pub use Rattle.cell_checks.specs.Checks.{at_cell, cell_step}
-unfoldable pub use Rattle.cell_checks.specs.Checks.{checked}
-unfoldable pub use Rattle.cell_checks.specs.Faults.{fault_at}
+unfoldable pub use Rattle.cell_checks.specs.Checks.{checked, fault_at}
 pub use Rattle.cell_checks.specs.declared.passing.Check.{Check}
 pub use Rattle.cell_checks.specs.declared.passing.Check.TheVariants.{StartHead, Thickness}
 pub use Rattle.decimal_input.specs.Canonical.{IsDec}
@@ -33,7 +33,7 @@ pub use Rattle.decimal_input.specs.declared.dec.Dec.{Dec}
 pub use Rattle.dis_package.specs.Discretization.{begun}
 unfoldable pub use Rattle.dis_package.specs.Discretization.{dis_of, head_of}
 pub use Rattle.dis_package.specs.Forms.{IsFrame, IsNewPeriod, IsSize, IsTime, without_stresses}
-unfoldable pub use Rattle.dis_package.specs.Frames.{count_at, frame_of, size_at}
+unfoldable pub use Rattle.dis_package.specs.Frames.{beds_of, count_at, frame_of, size_at}
 unfoldable pub use Rattle.dis_package.specs.Grids.{bottom_at, bottoms_of, grid_of, widths}
 pub use Rattle.dis_package.specs.Times.{is_time, kind_of, known, period_of}
 unfoldable pub use Rattle.dis_package.specs.Times.{periods_of, time_of}
@@ -52,9 +52,13 @@ unfoldable pub use Rattle.lpf_package.specs.Flow.{contents_of, lpf_of}
 pub use Rattle.lpf_package.specs.Layers.{joined, nth_layer}
 unfoldable pub use Rattle.lpf_package.specs.Layers.{layer_at, layers_of, properties_of, storage_layer}
 pub use Rattle.lpf_package.specs.declared.layer.Properties.{Properties}
-unfoldable pub use Rattle.model_reader.specs.Model.{bas_in, basics_tested, dis_in, lpf_in, model_of, reads}
+pub use Rattle.model_reader.specs.Model.{list_in, names_in, needed, where_named}
+unfoldable pub use Rattle.model_reader.specs.Model.{bas_in, basics_tested, dis_in, evt_in, file_in, lpf_in, model_of, rch_in, reads, with_entries}
+unfoldable pub use Rattle.model_reader.specs.Model.{with_stresses}
 pub use Rattle.model_text.proofs.DeckNames.{all_plain, good_names}
 pub use Rattle.model_text.proofs.ModelTexts.{model_reads}
+pub use Rattle.model_text.specs.Entries.{IsEntry, IsListOf}
+pub use Rattle.model_text.specs.Readable.{HasFlow, IsBasic, IsDiscretized, IsEvaporating, IsGridWithin, IsLayers, IsOfBeds, IsRecharged}
 pub use Rattle.model_text.specs.Writable.{HasNoEvaporation, HasNoRecharge, IsDry, IsStill, IsWritable}
 pub use Rattle.model_types.specs.Cells.{cell_count, cell_number, layer_size}
 pub use Rattle.model_types.specs.Grids.{HasSize, IsGrid}
@@ -78,9 +82,6 @@ pub use Rattle.outside.specs.Words.{words}
 pub use Rattle.outside.specs.declared.codes.Code.{Code}
 pub use Rattle.outside.specs.declared.codes.Code.TheVariants.{BadGrid, BadProperty, CellOutside, NothingToReuse, OutOfProfile, TooManyEntries}
 pub use Rattle.outside.specs.declared.refusals.Refusal.{Refusal}
-pub use Rattle.package_items.specs.Items.{zero_list}
-unfoldable pub use Rattle.package_items.specs.Items.{layer_or, zero_at}
-pub use Rattle.package_text.specs.Readable.{HasFlow, IsBasic, IsDiscretized, IsGridWithin, IsOfBeds}
 pub use Rattle.period_arrays.specs.Areas.{array_or, nothing_yet}
 unfoldable pub use Rattle.period_arrays.specs.Areas.{area_at, arrays_of}
 pub use Rattle.period_arrays.specs.Flags.{flag_if, is_negative, is_option}
@@ -99,4 +100,3 @@ pub use Rattle.record_lines.specs.Layout.{Left, left_from, without_comments}
 pub use Rattle.record_lines.specs.Reading.{◌>>=◌}
 unfoldable pub use Rattle.record_lines.specs.Reading.{counted, for_each, repeated}
 pub use Rattle.stress_packages.specs.Packages.{drains, generals, rivers, wells}
-pub use Rattle.stress_text.specs.Entries.{IsEntry, IsListOf}

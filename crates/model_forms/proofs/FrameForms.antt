@@ -4,9 +4,9 @@ use Rattle.model_forms.proofs.Common.{Some, None, Ok, refl, arith, ℤ, pos, neg
 use Rattle.model_forms.proofs.Common.{length-append, All-push, refusal, words, BadGrid, OutOfProfile, Refusal, line_at, Left, repeated, number_at, value_at}
 use Rattle.model_forms.proofs.Common.{value_alone, integer, int_at, is_nonzero, within, zero_at, head_of, IsSize, IsFrame, count_at, size_at, frame_of, Size}
 use Rattle.model_forms.proofs.Common.{IsShort, item_is, value_is, integer_is, clash, goes, ends, repeated_are, Limits, most_layers, most_in_row, most_cells}
+use Rattle.model_forms.proofs.Common.{beds_of}
 use Rattle.record_lines.specs.Spread.{Taking, beginning}
 use Rattle.model_types.proofs.WideLimits.{layers_few, in_row_few, cells_few}
-use Rattle.dis_package.specs.Beds.{beds_of}
 use Rattle.dis_package.specs.Frames.{inside}
 use Rattle.dis_package.specs.declared.frame.Frame.{Frame}
 use Rattle.dis_package.proofs.BedLemmas.{last_of}

@@ -19,4 +19,3 @@ pub mod StageForms
 pub mod CoreForms
 pub mod ModelForms
 pub mod WorkedForms
-pub mod DeckForms

@@ -1,16 +1,17 @@
 -- A model that is read is writable.
-use Rattle.model_forms.proofs.Common.{◌≡◌, ◌⊎◌, inl, inr, ℕ, ℤ, Bool, not, ◌||◌, cond, List, [], ◌∷◌, map, sum, sum_by, All, Ok, refl, sym, ap, subst, ◌∙◌}
-use Rattle.model_forms.proofs.Common.{list_any, All-weaker, sum-map, FileSet, file_at, Refusal, Pairs, Dis, Bas, Lpf, FlowModel, Period, cell_count, HasSize}
-use Rattle.model_forms.proofs.Common.{IsTimed, bas_of, is_transient, lpf_of, SameBut, checked, fault_at, Check, Thickness, StartHead, steps, same_count}
-use Rattle.model_forms.proofs.Common.{same_view, dis_in, basics_tested, bas_in, lpf_in, model_of, reads, goes, ends, IsShort, HasFlow, IsRecharged}
-use Rattle.model_forms.proofs.Common.{IsEvaporating, IsDry, IsStill, HasNoRecharge, HasNoEvaporation, IsWritable, Limits}
+use Rattle.model_forms.proofs.Common.{pos, negsuc, nat_abs, ◌<◌, ◌^◌, arith, ◌≡◌, ◌⊎◌, inl, inr, ℕ, ℤ, Bool, not, ◌||◌, cond, List, [], ◌∷◌, map, sum, sum_by}
+use Rattle.model_forms.proofs.Common.{All, Ok, refl, sym, ap, subst, ◌∙◌, list_any, All-weaker, sum-map, FileSet, file_at, Refusal, Pairs, Dis, Bas, Lpf}
+use Rattle.model_forms.proofs.Common.{FlowModel, Period, cell_count, HasSize, IsTimed, bas_of, is_transient, lpf_of, SameBut, checked, fault_at, Check}
+use Rattle.model_forms.proofs.Common.{Thickness, StartHead, steps, same_count, same_view, dis_in, basics_tested, bas_in, lpf_in, model_of, reads, goes, ends}
+use Rattle.model_forms.proofs.Common.{IsShort, HasFlow, IsRecharged, IsEvaporating, IsDry, IsStill, HasNoRecharge, HasNoEvaporation, IsWritable, Limits}
+use Rattle.model_forms.proofs.Common.{good_names, model_reads, most_bytes, names_in, needed}
 use Rattle.cell_checks.specs.declared.passing.Check.TheVariants.{Properties as PropertyCheck}
-use Rattle.model_reader.specs.Names.{names_in, needed}
 use Rattle.model_forms.proofs.DisForms.{HasBasics, bas_is, IsStarted, dis_is}
 use Rattle.model_forms.proofs.LpfForms.{lpf_is}
 use Rattle.model_forms.proofs.PeriodForms.{IsKnown}
 use Rattle.model_forms.proofs.StageForms.{IsOption, IsStressed, first_stage, stresses_are}
 use Rattle.model_forms.proofs.CoreForms.{discretized_again, IsFlow, flow_is}
+use Rattle.model_text.specs.Decks.{deck_name, deck_names, IsReadAgain}
 
 -- a model with the stresses of a stage
 abbrev staged : FlowModel → ℤ → ℤ → List Period → FlowModel
@@ -101,6 +102,16 @@ record IsTested (dis bas : List ℕ) (begun basic : FlowModel) : Type 0 where
   pub thick : checked basic dis Thickness ≡ Ok tt
   pub heads : checked basic bas StartHead ≡ Ok tt
 
+-- a model that is read: what is known of it after LPF, and its stresses
+record IsRead (limits : Limits) (m : FlowModel) : Type 0 where
+  core : FlowModel
+  flow : IsFlow limits core
+  stressed : IsStressed limits core m
+
+below_word : (z : ℤ) → IsShort z → nat_abs z < 2 ^ 64
+below_word (pos n) h = omega (arith, h.few)
+below_word (negsuc n) h = omega (arith, h.few)
+
 module _ (limits : Limits) (files : FileSet) where
   begun_is : (dis : List ℕ) (m : FlowModel) → dis_in limits files dis ≡ Ok m → IsStarted limits m
   unfolding dis_in
@@ -133,9 +144,9 @@ module _ (limits : Limits) (files : FileSet) where
       let is = lpf_is files lpf bytes.item basic read.item read.first in
       ends {E = Refusal} (λ (y : FlowModel). HasFlow y × SameBut basic y × (checked y lpf PropertyCheck ≡ Ok tt)) read.item flow good.then_ (is.0, is.1, good.first)
 
-  model_is : (names : Pairs) (m : FlowModel) → model_of limits files names ≡ Ok m → All IsShort m.ibound → IsWritable limits m
+  model_is : (names : Pairs) (m : FlowModel) → model_of limits files names ≡ Ok m → IsRead limits m
   unfolding model_of
-  model_is names m h short =
+  model_is names m h =
       let begun = goes (dis_in limits files (needed Dis names)) _ m h in
       let basic = goes (bas_in files (needed Dis names) (needed Bas names) begun.item) _ m begun.then_ in
       let flow = goes (lpf_in files (needed Lpf names) basic.item) _ m basic.then_ in
@@ -145,10 +156,26 @@ module _ (limits : Limits) (files : FileSet) where
       let f = flow_is limits begun.item basic.item flow.item (needed Dis names) (needed Bas names) (needed Lpf names) a b.basics d.0 d.1 b.thick b.heads d.2 in
       let stage = first_stage limits flow.item f.options.0 f.options.1 f.new in
       let size : HasSize flow.item.grid = f.discretized.grid.size in
-      stressed_writable limits flow.item m f (stresses_are limits flow.item size files names m stage flow.then_) short
+      record { core = flow.item; flow = f; stressed = stresses_are limits flow.item size files names m stage flow.then_ }
+
+  read_is : (name : List ℕ) (m : FlowModel) → reads limits files name ≡ Ok m → IsRead limits m
+  unfolding reads
+  read_is name m h =
+      let names = goes (names_in files name) _ m h in
+      model_is names.item m names.then_
 
   pub read_writable : (name : List ℕ) (m : FlowModel) → reads limits files name ≡ Ok m → All IsShort m.ibound → IsWritable limits m
-  unfolding reads
   read_writable name m h short =
-      let names = goes (names_in files name) _ m h in
-      model_is names.item m names.then_ short
+      let r = read_is name m h in
+      stressed_writable limits r.core m r.flow r.stressed short
+
+  -- the unit of length of a model that is read is a word of 64 bits
+  pub unit_is_short : (name : List ℕ) (m : FlowModel) → reads limits files name ≡ Ok m → nat_abs m.lenuni < 2 ^ 64
+  unit_is_short name m h =
+      let r = read_is name m h in
+      let same : m.lenuni ≡ r.core.lenuni = ap (λ (n : FlowModel). n.lenuni) r.stressed.stage.is in
+      subst (λ (z : ℤ). nat_abs z < 2 ^ 64) (sym same) (below_word r.core.lenuni r.flow.discretized.lenuni)
+
+-- The deck of a model that was read is read as the model.
+pub deck_reads : (limits : Limits) (files : FileSet) (name : List ℕ) (m : FlowModel) → reads limits files name ≡ Ok m → IsReadAgain limits m
+deck_reads limits files name m h short small = model_reads limits m (read_writable limits files name m h short) deck_names deck_name good_names (most_bytes limits) small

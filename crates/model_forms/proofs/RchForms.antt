@@ -2,7 +2,7 @@
 use Rattle.model_forms.proofs.Common.{◌≡◌, ℕ, ℤ, pos, true, List, map, All, Ok, refl, subst, ◌∙◌, FileSet, Refusal, Grid, FlowModel, Period, cell_count}
 use Rattle.model_forms.proofs.Common.{HasSize, given_heads, steps, wells, rivers, drains, generals, is_option, with_area, arrays_in, Area, ArrayFile, goes}
 use Rattle.model_forms.proofs.Common.{ends, Limits}
-use Rattle.rch_package.specs.Recharge.{recharge_arrays, with_recharge, rch_of}
+use Rattle.stress_packages.specs.Recharge.{recharge_arrays, with_recharge, rch_of}
 use Rattle.model_forms.proofs.ArrayFileForms.{AreRead, IsTested, arrays_are_read}
 use Rattle.model_forms.proofs.PeriodForms.{IsKnown, IsStage, timed, list_again, no_option}
 

@@ -2,8 +2,8 @@
 use Rattle.model_forms.proofs.Common.{◌≡◌, ◌⊎◌, inl, inr, ℕ, ℤ, pos, Bool, true, false, List, [], All, Option, Some, None, Ok, refl, sym, subst, arith}
 use Rattle.model_forms.proofs.Common.{if◌then◌else◌, All-nil, All-weaker, Dec, FileSet, file_at, Refusal, Pairs, file_of, Wel, Riv, Drn, Ghb, Rch, Chd, Evt}
 use Rattle.model_forms.proofs.Common.{CellId, Grid, FlowModel, Period, cell_count, HasSize, IsTimed, IsNewPeriod, without_stresses, given_heads, is_growing}
-use Rattle.model_forms.proofs.Common.{Kind, with_list, wells, rivers, drains, generals, is_option, goes, ends, IsEntry, IsListOf, Limits}
-use Rattle.model_reader.specs.Stresses.{where_named, file_in, list_in, rch_in, evt_in, with_entries, with_stresses}
+use Rattle.model_forms.proofs.Common.{Kind, with_list, wells, rivers, drains, generals, is_option, goes, ends, IsEntry, IsListOf, Limits, where_named, file_in}
+use Rattle.model_forms.proofs.Common.{list_in, rch_in, evt_in, with_entries, with_stresses}
 use Rattle.model_forms.proofs.ListForms.{package_is}
 use Rattle.model_forms.proofs.RchForms.{rch_is}
 use Rattle.model_forms.proofs.EvtForms.{evt_is}

@@ -18,9 +18,7 @@ use Rattle.flow_equations.specs.Worked.{decimal, period_with, three_cells}
 use Rattle.array_text.specs.Lines.{line_text, text}
 use Rattle.array_text.specs.Arrays.{row_line, row_lines, real_array, integer_array}
 use Rattle.array_text.proofs.WordTexts.{word_by_test}
-use Rattle.package_text.specs.Discretization.{dis_lines, dis_item_1, dis_item_2, dis_item_3, dis_item_4, dis_item_5, dis_item_6, dis_item_7}
-use Rattle.package_text.specs.Basics.{bas_lines, bas_item_1, bas_item_2, bas_item_3, bas_item_4}
-use Rattle.package_text.specs.Flow.{lpf_lines, lpf_item_1, lpf_zeros, lpf_item_4, lpf_item_5, lpf_arrays}
+use Rattle.model_text.specs.Discretization.{dis_lines, dis_item_1, dis_item_2, dis_item_3, dis_item_4, dis_item_5, dis_item_6, dis_item_7, bas_lines, bas_item_1, bas_item_2, bas_item_3, bas_item_4, lpf_lines, lpf_item_1, lpf_zeros, lpf_item_4, lpf_item_5, lpf_arrays}
 use Rattle.model_text.specs.Names.{file_type, name_item, AreNames}
 use Rattle.model_text.specs.Written.{written}
 use Rattle.model_text.proofs.PackageTexts.{type_is_word, type_reads}

@@ -1,7 +1,8 @@
 -- A model that passed the checks behind BAS6.
 use Rattle.model_reader.proofs.Common.{◌≡◌, ℕ, List, ℤ, Ok, All, length, refl, sym, ap, subst, Dec, IsDec, FileSet, file_at, input_fault, TextFault, Stops}
-use Rattle.model_reader.proofs.Common.{StopsText, FlowModel, IsGrid, cell_count, bas_of, with_basics, checked, Thickness, StartHead, each_passed, IsBegun}
-use Rattle.model_reader.proofs.Common.{IsBasic, bas_in, basics_tested}
+use Rattle.model_reader.proofs.Common.{StopsText, FlowModel, IsGrid, cell_count, checked, Thickness, StartHead, each_passed, IsBegun, IsBasic, bas_in}
+use Rattle.model_reader.proofs.Common.{basics_tested}
+use Rattle.bas_package.specs.Basics.{bas_of, with_basics}
 use Rattle.model_reader.proofs.Chains.{text_stops_here}
 
 basics : (b : FlowModel) (ibound : List ℤ) (strt : List Dec) (dis bas : List ℕ) → IsBegun b → length ibound ≡ cell_count b.grid → length strt ≡ cell_count b.grid → All IsDec strt

@@ -1,6 +1,7 @@
 -- Readings one behind the other.
-use Rattle.model_reader.proofs.Common.{◌≡◌, ℕ, List, Option, Some, refl, sym, subst, Result, Ok, FileSet, file_at, TextFault, Refusal, input_fault, ◌>>=◌, Has}
-use Rattle.model_reader.proofs.Common.{Stops, StopsText, FlowModel, file_in, where_named}
+use Rattle.model_reader.proofs.Common.{◌≡◌, ℕ, List, Option, Some, refl, sym, subst, Result, Ok, FileSet, file_at, TextFault, input_fault, ◌>>=◌, Has, Stops}
+use Rattle.model_reader.proofs.Common.{StopsText, FlowModel, file_in, where_named}
+use Rattle.outside.specs.declared.refusals.Refusal.{Refusal}
 use Rattle.outside.specs.Counts.{InputCounts}
 use Rattle.outside.specs.Folders.{ReadsOn}
 use Rattle.outside.specs.declared.traits.Folder.{Ghosts as FolderOf}

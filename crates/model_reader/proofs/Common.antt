@@ -1,23 +1,18 @@
 -- Names that several proofs of this crate cite, of the crates below and of its own definitions, passed on from one place. Declares nothing.
-pub use Rattle.std.proofs.Common.{All, Bool, Err, List, None, Ok, Option, Result, Some, [], ap, arith, cond, false, inl, inr, length, nat_abs, nat_le, nat_lt}
-pub use Rattle.std.proofs.Common.{not, pos, refl, subst, suc, sym, true, zero, ℕ, ℤ, ◌&&◌, ◌*◌, ◌+◌, ◌-◌, ◌<◌, ◌==◌, ◌^◌, ◌||◌, ◌∷◌, ◌≡◌, ◌≤ℤ◌, ◌≤◌, ◌⊎◌}
+pub use Rattle.std.proofs.Common.{All, Bool, Err, List, None, Ok, Option, Result, Some, [], ap, arith, cond, false, inl, inr, length, nat_le, nat_lt, not, pos}
+pub use Rattle.std.proofs.Common.{refl, subst, sym, true, ℕ, ℤ, ◌&&◌, ◌+◌, ◌<◌, ◌==◌, ◌||◌, ◌∷◌, ◌≡◌, ◌≤ℤ◌, ◌⊎◌}
 pub use Rattle.std.proofs.lemmas.Bool.{and_parts, lt-leb, lt-ltb, not-true, or_parts}
 pub use Rattle.std.proofs.lemmas.Result.{err_from_is_err_and}
-pub use Rattle.bas_package.specs.Basics.{basics_of, with_basics}
-unfoldable pub use Rattle.bas_package.specs.Basics.{bas_of}
 pub use Rattle.cell_checks.proofs.PassedCells.{each_passed}
-pub use Rattle.cell_checks.specs.Checks.{checked}
+pub use Rattle.cell_checks.specs.Checks.{checked, has_good_properties, is_checked_bed}
 pub use Rattle.cell_checks.specs.declared.passing.Check.TheVariants.{Properties, StartHead, Thickness}
 pub use Rattle.decimal_input.specs.Canonical.{IsDec, number}
 pub use Rattle.decimal_input.specs.declared.dec.Dec.{Dec}
 pub use Rattle.dis_package.specs.Forms.{IsBegun, IsNewPeriod, without_stresses}
-pub use Rattle.lpf_package.specs.Flow.{SameBut, contents_of, is_transient, with_contents, with_properties}
-unfoldable pub use Rattle.lpf_package.specs.Flow.{lpf_of}
+pub use Rattle.lpf_package.specs.Flow.{SameBut, is_transient, lpf_of, with_properties}
 pub use Rattle.model_reader.specs.Forms.{IsBasic}
-pub use Rattle.model_reader.specs.Model.{basics_tested}
-unfoldable pub use Rattle.model_reader.specs.Model.{bas_in, dis_in, lpf_in, model_of, reads}
-pub use Rattle.model_reader.specs.Stresses.{list_in, where_named}
-unfoldable pub use Rattle.model_reader.specs.Stresses.{evt_in, file_in, rch_in, with_entries, with_stresses}
+pub use Rattle.model_reader.specs.Model.{basics_tested, lists_of, where_named}
+unfoldable pub use Rattle.model_reader.specs.Model.{bas_in, file_in, lpf_in, model_of, with_entries, with_stresses}
 pub use Rattle.model_types.specs.Cells.{cell_count, layer_size}
 pub use Rattle.model_types.specs.Grids.{IsGrid}
 pub use Rattle.model_types.specs.Valid.{IsBedChecked, IsBedValid, IsCellValid, IsEvapValid, IsModel, IsPeriod, IsTimed}
@@ -26,6 +21,5 @@ pub use Rattle.name_file.proofs.Forward.{file_named, names_still}
 pub use Rattle.outside.specs.Files.{FileSet}
 pub use Rattle.outside.specs.Inputs.{file_at}
 pub use Rattle.outside.specs.Refusals.{input_fault}
-pub use Rattle.outside.specs.declared.refusals.Refusal.{Refusal}
 pub use Rattle.outside.specs.declared.refusals.TextFault.{TextFault}
 pub use Rattle.record_lines.specs.Reading.{Has, Stops, StopsText, ◌>>=◌}

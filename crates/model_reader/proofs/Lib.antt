@@ -3,4 +3,3 @@ pub mod BasicLemmas
 pub mod Chains
 pub mod PeriodLemmas
 pub mod FlowLemmas
-pub mod UnitLemmas

@@ -5,7 +5,7 @@ use Rattle.model_types.specs.declared.model.FlowModel.{FlowModel}
 use Rattle.model_types.specs.Cells.{cell_count}
 use Rattle.model_types.specs.Grids.{IsGrid}
 use Rattle.model_types.specs.Layers.{is_active}
-use Rattle.cell_checks.specs.Faults.{is_thick_cell, has_head}
+use Rattle.cell_checks.specs.Checks.{is_thick_cell, has_head}
 use Rattle.dis_package.specs.Forms.{IsNewPeriod}
 
 pub record IsBasic (m : FlowModel) : Type 0 where

@@ -1,4 +1,2 @@
-pub mod Names
 pub mod Forms
-pub mod Stresses
 pub mod Model

@@ -9,18 +9,18 @@ ghost use Rattle.name_file.specs.Asking.{NamesMay};
 ghost use Rattle.name_file.specs.Pairs.{file_of};
 ghost use Rattle.name_file.specs.declared.package.Package.TheVariants.{Rch, Evt};
 ghost use Rattle.model_types.specs.Valid.{IsModel};
-ghost use Rattle.model_reader.specs.Stresses.{where_named, rch_in, evt_in};
+ghost use Rattle.model_reader.specs.Model.{where_named, rch_in, evt_in};
 
-use crate::opened::opened;
+use crate::basics::opened;
 use evt_package::read_evt;
 use model_types::FlowModel;
 use name_file::{Names, Package};
 use outside::{Folder, InputFault};
-use rch_package::read_rch;
 use std::alloc::Global;
+use stress_packages::read_rch;
 
 /// The model with its recharge.
-#[tactic(auto, unfolding(crate::specs::Stresses::rch_in))]
+#[tactic(auto, unfolding(crate::specs::Model::rch_in))]
 pub fn rch_in<F: Folder>(
     alloc: Global,
     names: &Names,
@@ -43,7 +43,7 @@ pub fn rch_in<F: Folder>(
 }
 
 /// The model with its evapotranspiration.
-#[tactic(auto, unfolding(crate::specs::Stresses::evt_in))]
+#[tactic(auto, unfolding(crate::specs::Model::evt_in))]
 pub fn evt_in<F: Folder>(
     alloc: Global,
     names: &Names,

@@ -12,8 +12,9 @@ ghost use Rattle.cell_checks.specs.declared.passing.Check.TheVariants.{Thickness
 ghost use Rattle.dis_package.specs.Forms.{IsBegun};
 ghost use Rattle.model_reader.specs.Forms.{IsBasic};
 ghost use Rattle.model_reader.specs.Model.{dis_in, basics_tested, bas_in, lpf_in};
+ghost use Rattle.outside.specs.Asking.{TextMay};
+ghost use Rattle.outside.specs.Inputs.{file_at};
 
-use crate::opened::opened;
 use bas_package::read_bas;
 use cell_checks::{Check, check_cells};
 use dis_package::read_dis;
@@ -117,4 +118,24 @@ pub fn lpf_in<F: Folder>(
     let flow = read_lpf(alloc, name, &bytes, folder, basic)?;
     let good = checked(alloc, flow, name, Check::Properties)?;
     Ok(good)
+}
+
+// A file, read with the model that its contents are added to.
+
+/// The bytes of a file of the folder, and the model unchanged.
+pub fn opened<F: Folder>(
+    alloc: Global,
+    folder: &mut F,
+    name: &str,
+    model: FlowModel,
+) -> Result<(Vec<u8>, FlowModel), InputFault>
+    requires name { IsGoodName name.now }
+    requires may { F.may folder.old (folder_name name.now) }
+    ensures folder { ReadsOn F.Folder folder.old folder.new result }
+    ensures words { IfOk result (λ x. TextMay (F.may folder.new) x.0.items) }
+    ensures bytes { (files : FileSet) → F.agrees folder.new files → Has (λ x. x.0.items) result (file_at files name.now) }
+    ensures same { IfOk result (λ x. x.1 ≡ model) }
+{
+    let bytes = read_input(alloc, folder, name)?;
+    Ok((bytes, model))
 }

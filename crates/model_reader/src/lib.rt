@@ -5,9 +5,6 @@ mod arrays;
 mod basics;
 mod lists;
 mod model;
-mod names;
-mod opened;
 mod stresses;
 
-pub use model::{read_model, read_named_model};
-pub use names::read_name_file;
+pub use model::{read_model, read_name_file, read_named_model};

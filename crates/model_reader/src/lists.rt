@@ -8,9 +8,9 @@ ghost use Rattle.record_lines.specs.Reading.{Has, HasText};
 ghost use Rattle.name_file.specs.Asking.{NamesMay};
 ghost use Rattle.name_file.specs.Pairs.{file_of};
 ghost use Rattle.model_types.specs.Valid.{IsModel};
-ghost use Rattle.model_reader.specs.Stresses.{where_named, file_in, lists_of};
+ghost use Rattle.model_reader.specs.Model.{where_named, file_in, lists_of};
 
-use crate::opened::opened;
+use crate::basics::opened;
 use chd_package::read_chd;
 use model_types::{FlowModel, Limits};
 use name_file::{Names, Package};
@@ -42,7 +42,7 @@ fn lists_of(
 }
 
 /// The model with the lists of a package.
-#[tactic(auto, unfolding(crate::specs::Stresses::file_in))]
+#[tactic(auto, unfolding(crate::specs::Model::file_in))]
 pub fn list_in<F: Folder>(
     alloc: Global,
     limits: Limits,

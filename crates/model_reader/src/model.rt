@@ -1,19 +1,19 @@
 // A model in reading order.
-ghost use Rattle.std.specs.Prelude.{◌≡◌, IfOk, List};
+ghost use Rattle.std.specs.Prelude.{◌≡◌, IfOk, List, Contains, IsTrue, unwrap_or, []};
 ghost use Rattle.outside.specs.Files.{FileSet};
 ghost use Rattle.outside.specs.Folders.{ReadsOn};
 ghost use Rattle.outside.specs.Names.{IsGoodName, folder_name};
 ghost use Rattle.record_lines.specs.Reading.{Has};
 ghost use Rattle.name_file.specs.Asking.{NamesMay};
 ghost use Rattle.model_types.specs.Valid.{IsModel};
-ghost use Rattle.model_reader.specs.Model.{model_of, reads};
+ghost use Rattle.model_reader.specs.Model.{model_of, reads, names_in, needed};
+ghost use Rattle.name_file.specs.Pairs.{file_of, is_needed};
 
 use crate::basics::{bas_in, dis_in, lpf_in};
-use crate::names::{needed, read_name_file};
 use crate::stresses::with_stresses;
 use model_types::{FlowModel, Limits};
-use name_file::{Names, Package};
-use outside::{Folder, InputFault};
+use name_file::{Names, Package, read_names};
+use outside::{Folder, InputFault, read_input};
 use std::alloc::Global;
 
 /// The model of these packages: DIS, BAS6 with the thickness and the starting head of each active cell, LPF with
@@ -63,4 +63,40 @@ pub fn read_named_model<F: Folder>(
 {
     let names = read_name_file(alloc, folder, name)?;
     read_model(alloc, limits, &names, folder)
+}
+
+// The name file.
+
+/// The packages of the model that a name file of the folder describes.
+///
+/// # Errors
+/// As `read_names`. A name file that is missing or too long is refused with line 0. A read fault comes
+/// only from the folder.
+#[tactic(auto, unfolding(crate::specs::Model::names_in))]
+pub fn read_name_file<F: Folder>(
+    alloc: Global,
+    folder: &mut F,
+    name: &str,
+) -> Result<Names, InputFault>
+    requires name { IsGoodName name.now }
+    requires may { F.may folder.old (folder_name name.now) }
+    ensures folder { ReadsOn F.Folder folder.old folder.new result }
+    ensures files { IfOk result (NamesMay (F.may folder.new)) }
+    ensures names { (files : FileSet) → F.agrees folder.new files → Has (λ n. n) result (names_in files name.now) }
+{
+    let bytes = read_input(alloc, folder, name)?;
+    Ok(read_names(alloc, name, &bytes)?)
+}
+
+/// The file of a package that every model has.
+pub fn needed(names: &Names, asked: Package) -> &str
+    requires asked { IsTrue (is_needed asked) }
+    ensures file { result.now ≡ needed asked names.now }
+    ensures pair { Contains names.now (asked, result.now) }
+    ensures good { IsGoodName result.now }
+{
+    match names.file_of(asked) {
+        Some(name) => name,
+        None => unreachable!(),
+    }
 }

@@ -5,7 +5,7 @@ ghost use Rattle.outside.specs.Folders.{ReadsOn};
 ghost use Rattle.record_lines.specs.Reading.{Has};
 ghost use Rattle.name_file.specs.Asking.{NamesMay};
 ghost use Rattle.model_types.specs.Valid.{IsModel};
-ghost use Rattle.model_reader.specs.Stresses.{with_entries, with_stresses};
+ghost use Rattle.model_reader.specs.Model.{with_entries, with_stresses};
 
 use crate::arrays::{evt_in, rch_in};
 use crate::lists::list_in;
@@ -15,7 +15,7 @@ use outside::{Folder, InputFault};
 use std::alloc::Global;
 
 /// The model with its wells, river reaches, drains and general heads, where their files are named.
-#[tactic(auto, unfolding(crate::specs::Stresses::with_entries))]
+#[tactic(auto, unfolding(crate::specs::Model::with_entries))]
 fn with_entries<F: Folder>(
     alloc: Global,
     limits: Limits,
@@ -37,7 +37,7 @@ fn with_entries<F: Folder>(
 
 /// The model with its stresses, where their files are named: those of entries, then recharge, given heads and
 /// evapotranspiration.
-#[tactic(auto, unfolding(crate::specs::Stresses::with_stresses))]
+#[tactic(auto, unfolding(crate::specs::Model::with_stresses))]
 pub fn with_stresses<F: Folder>(
     alloc: Global,
     limits: Limits,

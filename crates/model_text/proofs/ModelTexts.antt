@@ -1,22 +1,16 @@
 -- A model is read as written.
 use Rattle.model_text.proofs.Common.{with_limit, ◌≡◌, ℕ, ◌≤◌, pos, Bool, true, false, if◌then◌else◌, List, [], ◌∷◌, length, map, All, Some, None, Ok, refl, ap}
 use Rattle.model_text.proofs.Common.{list_any, FileSet, file_at, Pairs, is_same_package, file_of, Package, Dis, Bas, Lpf, Wel, Riv, Drn, Ghb, Rch, Chd, Evt}
-use Rattle.model_text.proofs.Common.{FlowModel, Period, HasSize, where_named, list_in, rch_in, evt_in, with_entries, with_stresses, text, dis_reads, numbers_of}
-use Rattle.model_text.proofs.Common.{heads_of, packages, AreNames, has, lines_of, written, IsWritable, IsDry, IsStill, Limits}
-use Rattle.model_types.specs.Sources.{cell_of}
-use Rattle.dis_package.specs.Discretization.{begun}
-use Rattle.dis_package.specs.Forms.{without_stresses}
-use Rattle.bas_package.specs.Basics.{with_basics}
-use Rattle.cell_checks.specs.Checks.{checked}
-use Rattle.cell_checks.specs.Faults.{fault_at}
+use Rattle.model_text.proofs.Common.{FlowModel, Period, HasSize, where_named, list_in, rch_in, evt_in, with_entries, with_stresses, text, numbers_of, heads_of}
+use Rattle.model_text.proofs.Common.{packages, AreNames, has, lines_of, written, IsWritable, IsDry, IsStill, Limits, cell_of, begun, without_stresses}
+use Rattle.model_text.proofs.Common.{with_basics, wells, rivers, drains, generals, given_heads, names_in, needed, dis_in, basics_tested, bas_in, lpf_in}
+use Rattle.model_text.proofs.Common.{model_of, reads}
+use Rattle.model_text.proofs.DisTexts.{dis_reads}
+use Rattle.cell_checks.specs.Checks.{checked, fault_at}
 use Rattle.cell_checks.specs.declared.passing.Check.TheVariants.{Thickness, StartHead, Properties}
-use Rattle.stress_packages.specs.Packages.{wells, rivers, drains, generals}
-use Rattle.list_package.specs.GivenHeads.{given_heads}
-use Rattle.model_reader.specs.Names.{names_in, needed}
-use Rattle.model_reader.specs.Model.{dis_in, basics_tested, bas_in, lpf_in, model_of, reads}
-use Rattle.package_text.proofs.BasTexts.{bas_reads}
-use Rattle.package_text.proofs.LpfTexts.{lpf_reads}
-use Rattle.stress_text.proofs.KindTexts.{list_packages}
+use Rattle.model_text.proofs.BasTexts.{bas_reads}
+use Rattle.model_text.proofs.LpfTexts.{lpf_reads}
+use Rattle.model_text.proofs.KindTexts.{list_packages}
 use Rattle.model_text.proofs.NameTexts.{pairs_of, absent, present, names_read}
 use Rattle.model_text.proofs.FileTexts.{name_file_there, package_file_there}
 use Rattle.model_text.proofs.StageTexts.{staged, with_list, with_recharge, with_evaporation, list_stage, recharge_stage, evaporation_stage}

@@ -2,22 +2,13 @@
 use Rattle.model_text.proofs.Common.{◌≡◌, ◌⊎◌, inl, inr, ℕ, zero, suc, ℤ, pos, negsuc, Bool, true, false, not, nat_lt, if◌then◌else◌, List, [], ◌∷◌, length}
 use Rattle.model_text.proofs.Common.{map, All, Option, Some, None, Ok, refl, ap, ◌∙◌, arith, AllZip, or_parts, nat_tests, length-map, nil_from_length, All-head}
 use Rattle.model_text.proofs.Common.{All-tail, FileSet, file_at, FlowModel, Period, HasSize, where_named, list_in, rch_in, evt_in, text, list_lines, is_listed}
-use Rattle.model_text.proofs.Common.{HasLists, IsDry, IsStill, HasNoRecharge, HasNoEvaporation, Limits}
-use Rattle.decimal_input.specs.declared.dec.Dec.{Dec}
-use Rattle.model_types.specs.Cells.{cell_count}
-use Rattle.model_types.specs.Receivers.{is_int}
-use Rattle.list_package.specs.Kinds.{Kind, with_list as put}
+use Rattle.model_text.proofs.Common.{HasLists, IsDry, IsStill, HasNoRecharge, HasNoEvaporation, Limits, Dec, cell_count, is_int, Kind, is_option, ArrayKind}
+use Rattle.model_text.proofs.Common.{with_area, recharge_arrays, evaporation_arrays, IsListOf, with_lists, ListsReadAsWritten, rch_lines, evt_lines}
+use Rattle.model_text.proofs.Common.{IsRecharged, IsEvaporating, with_areas}
+use Rattle.list_package.specs.Kinds.{with_list as put}
 use Rattle.list_package.specs.Lists.{package_of}
-use Rattle.period_arrays.specs.Flags.{is_option}
-use Rattle.period_arrays.specs.Kinds.{ArrayKind, with_area}
-use Rattle.rch_package.specs.Recharge.{recharge_arrays}
-use Rattle.evt_package.specs.Evaporation.{evaporation_arrays}
-use Rattle.model_reader.specs.Stresses.{file_in}
-use Rattle.stress_text.specs.Entries.{IsListOf, with_lists}
-use Rattle.stress_text.specs.Laws.{ListsReadAsWritten}
-use Rattle.area_text.specs.Areas.{rch_lines, evt_lines}
-use Rattle.area_text.specs.Readable.{IsRecharged, IsEvaporating, with_areas}
-use Rattle.area_text.proofs.FileTexts.{evt_reads, rch_reads}
+use Rattle.model_reader.specs.Model.{file_in}
+use Rattle.model_text.proofs.AreaFileTexts.{evt_reads, rch_reads}
 
 -- the model with these options, and with each period at this stage
 abbrev pub staged : FlowModel → ℤ → ℤ → (Period → Period) → FlowModel

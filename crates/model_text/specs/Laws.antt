@@ -1,7 +1,7 @@
 -- Statements of laws: a model is read as written.
-use Rattle.std.specs.Prelude.{◌≡◌, ℕ, ◌≤◌, List, All, length, Ok}
+use Rattle.std.specs.Prelude.{◌≡◌, ℕ, ◌≤◌, List, All, length, Ok, map}
 use Rattle.name_file.specs.declared.package.Package.{Package}
-use Rattle.outside.specs.Files.{with_limit}
+use Rattle.outside.specs.Files.{with_limit, FileSet}
 use Rattle.model_types.specs.declared.limits.Limits.{Limits}
 use Rattle.model_types.specs.declared.model.FlowModel.{FlowModel}
 use Rattle.model_reader.specs.Model.{reads}
@@ -9,6 +9,30 @@ use Rattle.model_text.specs.Names.{AreNames}
 use Rattle.model_text.specs.Written.{written}
 use Rattle.model_text.specs.Writable.{IsWritable}
 use Rattle.model_text.specs.Decks.{deck_name, deck_names}
+use Rattle.model_types.specs.Grids.{HasSize}
+use Rattle.stress_packages.specs.Recharge.{rch_of, recharge_arrays}
+use Rattle.evt_package.specs.Evaporation.{evaporation_arrays, evt_of}
+use Rattle.array_text.specs.Lines.{text}
+use Rattle.model_text.specs.Areas.{rch_lines, evt_lines}
+use Rattle.model_text.specs.Readable.{IsRecharged, IsEvaporating, with_areas}
+use Rattle.std.specs.List.{AllZip}
+use Rattle.decimal_input.specs.declared.dec.Dec.{Dec}
+use Rattle.model_types.specs.declared.grid.Grid.{Grid}
+use Rattle.model_types.specs.declared.period.Period.{Period}
+use Rattle.model_types.specs.Cells.{cell_count}
+use Rattle.model_types.specs.Sources.{cell_of}
+use Rattle.list_package.specs.GivenHeads.{given_heads}
+use Rattle.list_package.specs.Kinds.{Kind}
+use Rattle.list_package.specs.Lists.{lists_of}
+use Rattle.stress_packages.specs.Packages.{wells, rivers, drains, generals}
+use Rattle.model_text.specs.Lists.{numbers_of, heads_of, list_lines}
+use Rattle.model_text.specs.Entries.{IsListOf, with_lists}
+use Rattle.dis_package.specs.Discretization.{begun, dis_of}
+use Rattle.dis_package.specs.Forms.{without_stresses}
+use Rattle.bas_package.specs.Basics.{with_basics, bas_of}
+use Rattle.lpf_package.specs.Flow.{with_properties, lpf_of}
+use Rattle.model_text.specs.Discretization.{dis_lines, bas_lines, lpf_lines}
+use Rattle.model_text.specs.Readable.{IsDiscretized, IsGridWithin, IsBasic, HasFlow}
 
 -- the files of a model, of which none is too long, are read as the model by limits that it keeps
 abbrev pub ModelsReadAsWritten : Type 0
@@ -18,3 +42,46 @@ ModelsReadAsWritten = (limits : Limits) (m : FlowModel) (names : Package → Lis
 -- the names of the files of a deck are good ones, so no two are the same
 abbrev pub DeckNamesAreNames : Type 0
 DeckNamesAreNames = AreNames deck_names deck_name
+
+-- the file of RCH gives the recharge to a model with this grid and as many periods
+abbrev pub RchReadsAsWritten : Type 0
+RchReadsAsWritten = (files : FileSet) (file : List ℕ) (m before : FlowModel) → HasSize m.grid → IsRecharged m → before.grid ≡ m.grid →
+    length before.periods ≡ length m.periods →
+    rch_of files file (text (rch_lines m)) before ≡ Ok (record before { nrchop = m.nrchop; periods = with_areas recharge_arrays before.periods m.periods })
+
+-- the file of EVT gives the evapotranspiration to a model with this grid, this IBOUND and as many periods
+abbrev pub EvtReadsAsWritten : Type 0
+EvtReadsAsWritten = (files : FileSet) (file : List ℕ) (m before : FlowModel) → HasSize m.grid → IsEvaporating m → before.grid ≡ m.grid →
+    before.ibound ≡ m.ibound → length before.periods ≡ length m.periods →
+    evt_of files file (text (evt_lines m)) before ≡ Ok (record before { nevtop = m.nevtop; periods = with_areas evaporation_arrays before.periods m.periods })
+
+-- a file of lists for these periods gives them these lists, by limits that they keep
+abbrev pub ListsReadAsWritten : {E : Type 0} → Kind E → (E → ℕ) → (E → List Dec) → Type 0
+ListsReadAsWritten {E} kind cell numbers =
+    (limits : Limits) (file : List ℕ) (g : Grid) (ps : List Period) (lists : List (List E)) → HasSize g → AllZip (IsListOf limits kind (cell_count g)) ps lists →
+    lists_of limits kind file (text (list_lines g cell numbers lists)) g ps ≡ Ok (with_lists kind ps lists)
+
+-- WEL, RIV, DRN, GHB and CHD
+pub record ListPackagesReadAsWritten : Type 0 where
+  pub wel : ListsReadAsWritten wells cell_of numbers_of
+  pub riv : ListsReadAsWritten rivers cell_of numbers_of
+  pub drn : ListsReadAsWritten drains cell_of numbers_of
+  pub ghb : ListsReadAsWritten generals cell_of numbers_of
+  pub chd : ListsReadAsWritten given_heads (λ x. x.cell.0) heads_of
+
+-- the file of DIS gives the grid, LENUNI and the stress periods by limits that the grid keeps
+abbrev pub DisReadsAsWritten : Type 0
+DisReadsAsWritten = (limits : Limits) (files : FileSet) (file : List ℕ) (m : FlowModel) → IsDiscretized m → IsGridWithin limits m.grid →
+    dis_of limits files file (text (dis_lines m)) ≡ Ok (begun m.grid m.lenuni (map without_stresses m.periods))
+
+-- the file of BAS6 gives IBOUND and STRT to a model with this grid
+abbrev pub BasReadsAsWritten : Type 0
+BasReadsAsWritten = (files : FileSet) (file : List ℕ) (m begun : FlowModel) → IsDiscretized m → IsBasic m → begun.grid ≡ m.grid →
+    bas_of files file (text (bas_lines m)) begun ≡ Ok (with_basics begun m.ibound m.strt)
+
+-- the file of LPF gives the properties to a model with this grid and these times
+abbrev pub LpfReadsAsWritten : Type 0
+LpfReadsAsWritten = (files : FileSet) (file : List ℕ) (m basic : FlowModel) → IsDiscretized m → HasFlow m → basic.grid ≡ m.grid →
+    map without_stresses basic.periods ≡ map without_stresses m.periods →
+    lpf_of files file (text (lpf_lines m)) basic
+    ≡ Ok (with_properties basic m.coefficient m.layvka (record { hk = m.hk; hani = m.hani; vka = m.vka; ss = m.ss; vkcb = m.vkcb }))

@@ -9,9 +9,9 @@ use Rattle.cell_checks.specs.declared.passing.Check.{Check}
 use Rattle.list_package.specs.GivenHeads.{given_heads}
 use Rattle.list_package.specs.Kinds.{Kind}
 use Rattle.stress_packages.specs.Packages.{wells, rivers, drains, generals}
-use Rattle.package_text.specs.Readable.{IsDiscretized, IsGridWithin, IsBasic, HasFlow}
-use Rattle.stress_text.specs.Entries.{IsListOf}
-use Rattle.area_text.specs.Readable.{IsRecharged, IsEvaporating}
+use Rattle.model_text.specs.Readable.{IsDiscretized, IsGridWithin, IsBasic, HasFlow}
+use Rattle.model_text.specs.Entries.{IsListOf}
+use Rattle.model_text.specs.Readable.{IsRecharged, IsEvaporating}
 
 -- each stress period has a list of this package that its file can say
 abbrev pub HasLists : {E : Type 0} → Limits → Kind E → FlowModel → Type 0

@@ -8,11 +8,9 @@ use Rattle.model_types.specs.declared.model.FlowModel.{FlowModel}
 use Rattle.model_types.specs.declared.period.Period.{Period}
 use Rattle.model_types.specs.Receivers.{is_int}
 use Rattle.array_text.specs.Lines.{Line, text}
-use Rattle.package_text.specs.Discretization.{dis_lines}
-use Rattle.package_text.specs.Basics.{bas_lines}
-use Rattle.package_text.specs.Flow.{lpf_lines}
-use Rattle.stress_text.specs.Lists.{wel_lines, riv_lines, drn_lines, ghb_lines, chd_lines}
-use Rattle.area_text.specs.Areas.{rch_lines, evt_lines}
+use Rattle.model_text.specs.Discretization.{dis_lines, bas_lines, lpf_lines}
+use Rattle.model_text.specs.Lists.{wel_lines, riv_lines, drn_lines, ghb_lines, chd_lines}
+use Rattle.model_text.specs.Areas.{rch_lines, evt_lines}
 use Rattle.model_text.specs.Names.{packages, name_item}
 
 -- whether a stress period has an entry in its list

@@ -1,5 +1,6 @@
 // A model is read as written. Each law is the contract of an empty function.
-ghost use Rattle.model_text.specs.Laws.{DeckNamesAreNames, ModelsReadAsWritten};
+ghost use Rattle.model_text.specs.Laws.{DeckNamesAreNames, ModelsReadAsWritten, RchReadsAsWritten, EvtReadsAsWritten, ListPackagesReadAsWritten};
+ghost use Rattle.model_text.specs.Laws.{DisReadsAsWritten, BasReadsAsWritten, LpfReadsAsWritten};
 
 /// The files of a model, with good names and at most 64 MiB each, are read as the model.
 #[tactic(auto, using(crate::proofs::ModelTexts::model_reads))]
@@ -11,4 +12,34 @@ pub fn models_read_as_written()
 #[tactic(auto, using(crate::proofs::DeckNames::good_names))]
 pub fn deck_names_are_names()
     ensures { DeckNamesAreNames }
+{}
+
+/// The file of RCH is read as the recharge that was written.
+pub fn rch_reads_as_written()
+    ensures { RchReadsAsWritten }
+{}
+
+/// The file of EVT is read as the evapotranspiration that was written.
+pub fn evt_reads_as_written()
+    ensures { EvtReadsAsWritten }
+{}
+
+/// The file of each list package is read as the lists that were written.
+pub fn list_packages_read_as_written()
+    ensures { ListPackagesReadAsWritten }
+{}
+
+/// The file of the discretization is read as the grid and the stress periods that were written.
+pub fn dis_reads_as_written()
+    ensures { DisReadsAsWritten }
+{}
+
+/// The file of the basic package is read as the IBOUND and STRT that were written.
+pub fn bas_reads_as_written()
+    ensures { BasReadsAsWritten }
+{}
+
+/// The file of the layer-property flow package is read as the properties that were written.
+pub fn lpf_reads_as_written()
+    ensures { LpfReadsAsWritten }
 {}

@@ -1,17 +1,20 @@
 -- Names that several proofs of this crate cite, of the crates below and of its own definitions, passed on from one place. Declares nothing.
-pub use Rattle.std.proofs.Common.{Bool, List, [], ap, append_assoc, arith, codes, cond, decimal, drop, drop-cons, false, filter, fold, get_or, inl, inr, length}
-pub use Rattle.std.proofs.Common.{lit≤, map, max, min, refl, replicate, suc, sym, take, true, zero, ℕ, ◌*◌, ◌++◌, ◌+◌, ◌-◌, ◌<◌, ◌∙◌, ◌∷◌, ◌≡◌, ◌≤◌}
+pub use Rattle.std.proofs.Common.{Bool, List, [], ap, append_assoc, arith, codes, cond, decimal, drop, drop-cons, false, filter, fold, get_or, length, lit≤}
+pub use Rattle.std.proofs.Common.{map, max, min, refl, replicate, suc, sym, take, true, ℕ, ◌++◌, ◌+◌, ◌-◌, ◌<◌, ◌∙◌, ◌∷◌, ◌≡◌, ◌≤◌}
 pub use Rattle.std.proofs.lemmas.Grind.{flat_map-append, replicate_next}
 pub use Rattle.std.proofs.lemmas.List.{append-nil, drop_all, length-map, map-append, map-id, take_more}
 pub use Rattle.std.specs.List.{flat_map, range_with_len}
-pub use Rattle.area_text.specs.Areas.{evt_items, rch_items}
 pub use Rattle.array_text.specs.Arrays.{array_lines, in_rows}
 unfoldable pub use Rattle.array_text.specs.Arrays.{row_line, row_lines}
 pub use Rattle.array_text.specs.Lines.{Line}
 unfoldable pub use Rattle.array_text.specs.Lines.{line_text, text}
 pub use Rattle.array_text.specs.Words.{integer_word, number_word}
+pub use Rattle.model_text.specs.Areas.{evt_items, rch_items}
 pub use Rattle.model_text.specs.Decks.{deck_name, deck_names, file_line}
 unfoldable pub use Rattle.model_text.specs.Decks.{deck_text, file_text, file_texts}
+pub use Rattle.model_text.specs.Discretization.{dis_item_6, dis_item_7, layer_values, lpf_arrays, storage_option}
+unfoldable pub use Rattle.model_text.specs.Discretization.{dis_item_1}
+unfoldable pub use Rattle.model_text.specs.Lists.{list_item_2, list_item_5, list_item_6, list_lines, period_list}
 pub use Rattle.model_text.specs.Names.{packages}
 unfoldable pub use Rattle.model_text.specs.Names.{name_item}
 pub use Rattle.model_text.specs.Written.{has, name_file, package_file}
@@ -22,7 +25,3 @@ unfoldable pub use Rattle.model_writer.specs.Lists.{entry_line}
 pub use Rattle.model_writer.specs.Names.{names_of}
 pub use Rattle.name_file.specs.declared.package.Package.TheVariants.{Dis}
 pub use Rattle.outside.specs.Files.{File}
-pub use Rattle.package_text.specs.Discretization.{dis_item_6, dis_item_7}
-unfoldable pub use Rattle.package_text.specs.Discretization.{dis_item_1}
-pub use Rattle.package_text.specs.Flow.{lpf_arrays, storage_option}
-unfoldable pub use Rattle.stress_text.specs.Lists.{list_item_2, list_item_5, list_item_6, list_lines, period_list}

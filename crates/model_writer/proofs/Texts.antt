@@ -1,7 +1,7 @@
 -- The bytes of lines, one after another.
-use Rattle.model_writer.proofs.Common.{◌≡◌, ℕ, zero, suc, ◌+◌, ◌*◌, ◌≤◌, ◌<◌, List, [], ◌∷◌, ◌++◌, refl, sym, ap, ◌∙◌, length, take, drop, get_or, map, min}
-use Rattle.model_writer.proofs.Common.{inl, inr, ◌-◌, arith, append_assoc, flat_map, range_with_len, flat_map-append, take_more, append-nil, map-append, map-id}
-use Rattle.model_writer.proofs.Common.{drop_all, Line, line_text, text, row_line, row_lines, in_rows, line_bytes, spaced}
+use Rattle.model_writer.proofs.Common.{◌≡◌, ℕ, suc, ◌+◌, ◌≤◌, ◌<◌, List, [], ◌∷◌, ◌++◌, refl, sym, ap, ◌∙◌, length, take, drop, get_or, map, min, ◌-◌, arith}
+use Rattle.model_writer.proofs.Common.{append_assoc, flat_map, range_with_len, flat_map-append, take_more, append-nil, map-append, map-id, drop_all, Line}
+use Rattle.model_writer.proofs.Common.{line_text, text, row_line, row_lines, in_rows, line_bytes, spaced}
 use Rattle.std.proofs.lemmas.List.FromFn.{map-range_with_len_more}
 
 pub text-nil : text [] ≡ []
@@ -24,10 +24,6 @@ pub ruleset texts = (text-nil, text-cons, text-append, append_assoc, append-nil)
 pub spaced-nil : {X : Type 0} (word : X → List ℕ) → spaced word [] ≡ []
 unfolding spaced
 spaced-nil word = refl
-
-pub spaced-cons : {X : Type 0} (word : X → List ℕ) (x : X) (xs : List X) → spaced word (x ∷ xs) ≡ word x ++ (32 ∷ spaced word xs)
-unfolding spaced
-spaced-cons word x xs = append_assoc (word x) (32 ∷ []) (flat_map (λ y. word y ++ (32 ∷ [])) xs)
 
 pub spaced_more : {X : Type 0} (word : X → List ℕ) (xs : List X) (i : ℕ) (d : X) → i < length xs →
     spaced word (take (i + 1) xs) ≡ spaced word (take i xs) ++ (word (get_or xs i d) ++ (32 ∷ []))
@@ -67,10 +63,6 @@ range-more k = sym (map-id (range_with_len 0 (k + 1))) ∙ map-range_with_len_mo
 
 pub drop_min : {X : Type 0} (n : ℕ) (xs : List X) → drop (min n (length xs)) xs ≡ drop n xs
 drop_min n xs = grind (arith, drop_all)
-
--- parts, one after another
-pub no_parts : {X : Type 0} (f : X → List Line) → text (flat_map f []) ≡ []
-no_parts f = text-nil
 
 pub next_part : {X : Type 0} (f : X → List Line) (xs : List X) (x : X) → text (flat_map f (xs ++ (x ∷ []))) ≡ text (flat_map f xs) ++ text (f x)
 next_part f xs x = ap text (flat_map-append f xs (x ∷ []) ∙ ap (λ t. flat_map f xs ++ t) (append-nil (f x))) ∙ text-append (flat_map f xs) (f x)

@@ -5,7 +5,7 @@ ghost use Rattle.model_types.specs.Receivers.{is_int};
 ghost use Rattle.array_text.specs.Arrays.{integer_array};
 ghost use Rattle.array_text.specs.Lines.{text};
 ghost use Rattle.array_text.specs.Words.{integer_word};
-ghost use Rattle.area_text.specs.Areas.{evt_items, evt_lines, rch_items, rch_lines};
+ghost use Rattle.model_text.specs.Areas.{evt_items, evt_lines, rch_items, rch_lines};
 ghost use Rattle.model_writer.specs.Lines.{line_bytes};
 
 use crate::arrays::push_array;
@@ -45,7 +45,7 @@ fn push_layers_if_two(
     Ok(())
 }
 
-#[tactic(auto, using(crate::proofs::Fixed::two_flags, crate::proofs::Texts::texts), unfolding(area_text::specs::Areas::rch_items, array_text::specs::Arrays::real_array))]
+#[tactic(auto, using(crate::proofs::Fixed::two_flags, crate::proofs::Texts::texts), unfolding(model_text::specs::Areas::rch_items, array_text::specs::Arrays::real_array))]
 fn push_recharge(bytes: &mut Vec<u8>, model: &FlowModel, period: &Period) -> Result<(), AllocError>
     ensures { IfOk result (λ _. bytes.new.items ≡ bytes.old.items ++ text (rch_items model.now period.now)) }
 {
@@ -71,7 +71,7 @@ fn push_recharge_of_periods(bytes: &mut Vec<u8>, model: &FlowModel) -> Result<()
 }
 
 /// Appends the file of RCH.
-#[tactic(auto, using(crate::proofs::Texts::texts), unfolding(area_text::specs::Areas::rch_lines, area_text::specs::Areas::rch_item_2))]
+#[tactic(auto, using(crate::proofs::Texts::texts), unfolding(model_text::specs::Areas::rch_lines, model_text::specs::Areas::rch_item_2))]
 pub(crate) fn push_rch(bytes: &mut Vec<u8>, model: &FlowModel) -> Result<(), AllocError>
     ensures { IfOk result (λ _. bytes.new.items ≡ bytes.old.items ++ text (rch_lines model.now)) }
 {
@@ -79,7 +79,7 @@ pub(crate) fn push_rch(bytes: &mut Vec<u8>, model: &FlowModel) -> Result<(), All
     push_recharge_of_periods(bytes, model)
 }
 
-#[tactic(auto, using(crate::proofs::Fixed::four_flags, crate::proofs::Texts::texts), unfolding(area_text::specs::Areas::evt_items, array_text::specs::Arrays::real_array))]
+#[tactic(auto, using(crate::proofs::Fixed::four_flags, crate::proofs::Texts::texts), unfolding(model_text::specs::Areas::evt_items, array_text::specs::Arrays::real_array))]
 fn push_evaporation(
     bytes: &mut Vec<u8>,
     model: &FlowModel,
@@ -106,7 +106,7 @@ fn push_evaporation_of_periods(bytes: &mut Vec<u8>, model: &FlowModel) -> Result
 }
 
 /// Appends the file of EVT.
-#[tactic(auto, using(crate::proofs::Texts::texts), unfolding(area_text::specs::Areas::evt_lines, area_text::specs::Areas::evt_item_2))]
+#[tactic(auto, using(crate::proofs::Texts::texts), unfolding(model_text::specs::Areas::evt_lines, model_text::specs::Areas::evt_item_2))]
 pub(crate) fn push_evt(bytes: &mut Vec<u8>, model: &FlowModel) -> Result<(), AllocError>
     ensures { IfOk result (λ _. bytes.new.items ≡ bytes.old.items ++ text (evt_lines model.now)) }
 {

@@ -3,7 +3,7 @@ ghost use Rattle.std.specs.Prelude.{◌≡◌, ◌<◌, [], ◌++◌, take, drop
 ghost use Rattle.model_types.specs.Grids.{HasSize};
 ghost use Rattle.array_text.specs.Arrays.{array_lines, row_lines};
 ghost use Rattle.array_text.specs.Lines.{text};
-ghost use Rattle.package_text.specs.Layers.{each_layer, layer_values, real_layer};
+ghost use Rattle.model_text.specs.Discretization.{each_layer, layer_values, real_layer};
 
 use crate::lines::push_line;
 use crate::words::Word;

@@ -2,11 +2,11 @@
 ghost use Rattle.std.specs.Prelude.{◌≡◌, ◌∷◌, ◌<◌, ◌++◌, map, IfOk};
 ghost use Rattle.model_types.specs.Grids.{HasSize};
 ghost use Rattle.array_text.specs.Lines.{text};
-ghost use Rattle.package_text.specs.Discretization.{dis_item_1, dis_item_2, dis_item_3, dis_item_4, dis_item_5, dis_item_6, dis_item_7, dis_lines};
-ghost use Rattle.package_text.specs.Layers.{each_layer};
+ghost use Rattle.model_text.specs.Discretization.{dis_item_1, dis_item_2, dis_item_3, dis_item_4, dis_item_5, dis_item_6, dis_item_7, dis_lines, each_layer};
+ghost use Rattle.model_text.specs.Discretization.{bas_lines};
 ghost use Rattle.model_writer.specs.Lines.{line_bytes};
 
-use crate::arrays::{push_array, push_layer, push_layer_if};
+use crate::arrays::{push_array, push_layer, push_layer_if, push_layers};
 use crate::lines::{push_line, push_spaced};
 use model_types::layers::int_at;
 use model_types::{FlowModel, Grid, Period};
@@ -28,7 +28,7 @@ fn push_size(bytes: &mut Vec<u8>, model: &FlowModel) -> Result<(), AllocError>
     push_line(bytes, &[model.lenuni])
 }
 
-#[tactic(auto, using(crate::proofs::Texts::texts), unfolding(package_text::specs::Discretization::dis_item_2, package_text::specs::Discretization::dis_item_3, package_text::specs::Discretization::dis_item_4, package_text::specs::Discretization::dis_item_5, array_text::specs::Arrays::real_array))]
+#[tactic(auto, using(crate::proofs::Texts::texts), unfolding(model_text::specs::Discretization::dis_item_2, model_text::specs::Discretization::dis_item_3, model_text::specs::Discretization::dis_item_4, model_text::specs::Discretization::dis_item_5, array_text::specs::Arrays::real_array))]
 fn push_widths(bytes: &mut Vec<u8>, grid: &Grid) -> Result<(), AllocError>
     ensures { IfOk result (λ _. bytes.new.items ≡ bytes.old.items
         ++ text (dis_item_2 grid.now ∷ (dis_item_3 grid.now ++ (dis_item_4 grid.now ++ dis_item_5 grid.now)))) }
@@ -39,7 +39,7 @@ fn push_widths(bytes: &mut Vec<u8>, grid: &Grid) -> Result<(), AllocError>
     push_array(bytes, grid.rows, grid.cols, grid.top.as_slice())
 }
 
-#[tactic(auto, using(crate::proofs::Texts::texts), unfolding(package_text::specs::Discretization::dis_item_6, array_text::specs::Arrays::real_array))]
+#[tactic(auto, using(crate::proofs::Texts::texts), unfolding(model_text::specs::Discretization::dis_item_6, array_text::specs::Arrays::real_array))]
 fn push_bottom(bytes: &mut Vec<u8>, grid: &Grid, layer: u32) -> Result<(), AllocError>
     requires size { HasSize grid.now }
     requires layer { layer < grid.now.layers }
@@ -61,7 +61,7 @@ fn push_bottoms(bytes: &mut Vec<u8>, grid: &Grid) -> Result<(), AllocError>
     Ok(())
 }
 
-#[tactic(auto, using(crate::proofs::Texts::spaces, crate::proofs::Texts::texts), unfolding(package_text::specs::Discretization::dis_item_7, crate::specs::Lines::line_bytes, array_text::specs::Lines::line_text, crate::specs::Lines::spaced))]
+#[tactic(auto, using(crate::proofs::Texts::spaces, crate::proofs::Texts::texts), unfolding(model_text::specs::Discretization::dis_item_7, crate::specs::Lines::line_bytes, array_text::specs::Lines::line_text, crate::specs::Lines::spaced))]
 fn push_time(bytes: &mut Vec<u8>, period: &Period) -> Result<(), AllocError>
     ensures { IfOk result (λ _. bytes.new.items ≡ bytes.old.items ++ line_bytes (dis_item_7 period.now)) }
 {
@@ -82,7 +82,7 @@ fn push_times(bytes: &mut Vec<u8>, periods: &[Period]) -> Result<(), AllocError>
 }
 
 /// Appends the file of DIS.
-#[tactic(auto, using(crate::proofs::Texts::texts), unfolding(package_text::specs::Discretization::dis_lines))]
+#[tactic(auto, using(crate::proofs::Texts::texts), unfolding(model_text::specs::Discretization::dis_lines))]
 pub(crate) fn push_dis(bytes: &mut Vec<u8>, model: &FlowModel) -> Result<(), AllocError>
     requires { HasSize model.now.grid }
     ensures { IfOk result (λ _. bytes.new.items ≡ bytes.old.items ++ text (dis_lines model.now)) }
@@ -91,4 +91,18 @@ pub(crate) fn push_dis(bytes: &mut Vec<u8>, model: &FlowModel) -> Result<(), All
     push_widths(bytes, &model.grid)?;
     push_bottoms(bytes, &model.grid)?;
     push_times(bytes, model.periods.as_slice())
+}
+
+// The file of BAS6.
+
+/// Appends the file of BAS6.
+#[tactic(auto, using(crate::proofs::Texts::texts), unfolding(model_text::specs::Discretization::bas_lines, model_text::specs::Discretization::bas_item_1, model_text::specs::Discretization::bas_item_2, model_text::specs::Discretization::bas_item_3, model_text::specs::Discretization::bas_item_4, crate::specs::Lines::line_bytes, array_text::specs::Lines::line_text, array_text::specs::Arrays::real_array, array_text::specs::Arrays::integer_array))]
+pub(crate) fn push_bas(bytes: &mut Vec<u8>, model: &FlowModel) -> Result<(), AllocError>
+    requires { HasSize model.now.grid }
+    ensures { IfOk result (λ _. bytes.new.items ≡ bytes.old.items ++ text (bas_lines model.now)) }
+{
+    bytes.extend_from_slice(b"FREE\n")?;
+    push_layers(bytes, &model.grid, model.ibound.as_slice())?;
+    bytes.extend_from_slice(b"0\n")?;
+    push_layers(bytes, &model.grid, model.strt.as_slice())
 }

@@ -6,7 +6,7 @@ ghost use Rattle.model_types.specs.declared.period.Period.{Period};
 ghost use Rattle.name_file.specs.declared.package.Package.{Package};
 ghost use Rattle.array_text.specs.Arrays.{row_line};
 ghost use Rattle.array_text.specs.Words.{number_word};
-ghost use Rattle.stress_text.specs.Lists.{heads_of, numbers_of};
+ghost use Rattle.model_text.specs.Lists.{heads_of, numbers_of};
 ghost use Rattle.model_writer.specs.Lines.{line_bytes};
 ghost use Rattle.model_writer.specs.Lists.{entries_in};
 

@@ -3,8 +3,7 @@ ghost use Rattle.std.specs.Prelude.{◌≡◌, [], ◌∷◌, ◌<◌, ◌≤◌
 ghost use Rattle.model_types.specs.Grids.{HasSize};
 ghost use Rattle.array_text.specs.Lines.{text};
 ghost use Rattle.lpf_package.specs.Flow.{is_transient};
-ghost use Rattle.package_text.specs.Flow.{lpf_arrays, lpf_item_1, lpf_item_4, lpf_item_5, lpf_lines, lpf_zeros, storage_option};
-ghost use Rattle.package_text.specs.Layers.{each_layer};
+ghost use Rattle.model_text.specs.Discretization.{lpf_arrays, lpf_item_1, lpf_item_4, lpf_item_5, lpf_lines, lpf_zeros, storage_option, each_layer};
 ghost use Rattle.model_writer.specs.Lines.{line_bytes};
 
 use crate::arrays::{push_layer, push_layer_if};
@@ -46,7 +45,7 @@ fn option_line(coefficient: bool) -> &'static [u8]
     }
 }
 
-#[tactic(auto, using(crate::proofs::Texts::texts), unfolding(package_text::specs::Flow::lpf_item_1, package_text::specs::Flow::lpf_zeros, package_text::specs::Flow::lpf_item_4, package_text::specs::Flow::lpf_item_5))]
+#[tactic(auto, using(crate::proofs::Texts::texts), unfolding(model_text::specs::Discretization::lpf_item_1, model_text::specs::Discretization::lpf_zeros, model_text::specs::Discretization::lpf_item_4, model_text::specs::Discretization::lpf_item_5))]
 fn push_settings(bytes: &mut Vec<u8>, model: &FlowModel) -> Result<(), AllocError>
     requires { HasSize model.now.grid }
     ensures { IfOk result (λ _. bytes.new.items ≡ bytes.old.items ++ text (lpf_item_1 model.now ∷ lpf_zeros model.now
@@ -61,7 +60,7 @@ fn push_settings(bytes: &mut Vec<u8>, model: &FlowModel) -> Result<(), AllocErro
     push_repeated(bytes, b"0", layers)
 }
 
-#[tactic(auto, using(crate::proofs::Texts::texts), unfolding(package_text::specs::Flow::lpf_arrays, array_text::specs::Arrays::real_array))]
+#[tactic(auto, using(crate::proofs::Texts::texts), unfolding(model_text::specs::Discretization::lpf_arrays, array_text::specs::Arrays::real_array))]
 fn push_properties(
     bytes: &mut Vec<u8>,
     model: &FlowModel,
@@ -95,7 +94,7 @@ fn push_all_properties(bytes: &mut Vec<u8>, model: &FlowModel) -> Result<(), All
 }
 
 /// Appends the file of LPF.
-#[tactic(auto, using(crate::proofs::Texts::texts), unfolding(package_text::specs::Flow::lpf_lines))]
+#[tactic(auto, using(crate::proofs::Texts::texts), unfolding(model_text::specs::Discretization::lpf_lines))]
 pub(crate) fn push_lpf(bytes: &mut Vec<u8>, model: &FlowModel) -> Result<(), AllocError>
     requires { HasSize model.now.grid }
     ensures { IfOk result (λ _. bytes.new.items ≡ bytes.old.items ++ text (lpf_lines model.now)) }

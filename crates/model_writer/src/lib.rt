@@ -3,8 +3,6 @@
 
 mod areas;
 mod arrays;
-mod basics;
-mod deck;
 mod deck_text;
 mod discretization;
 mod entries;
@@ -15,6 +13,5 @@ mod names;
 mod packages;
 mod words;
 
-pub use deck::write_model;
-pub use deck_text::write_deck;
+pub use deck_text::{write_deck, write_model};
 pub use names::DeckNames;

@@ -7,7 +7,7 @@ ghost use Rattle.model_types.specs.Grids.{HasSize};
 ghost use Rattle.model_types.specs.declared.period.Period.{Period};
 ghost use Rattle.name_file.specs.declared.package.Package.{Package};
 ghost use Rattle.array_text.specs.Lines.{text};
-ghost use Rattle.stress_text.specs.Lists.{list_lines, period_list};
+ghost use Rattle.model_text.specs.Lists.{list_lines, period_list};
 ghost use Rattle.model_writer.specs.Lines.{line_bytes};
 ghost use Rattle.model_writer.specs.Lists.{entry_line};
 

@@ -7,8 +7,7 @@ ghost use Rattle.model_text.specs.Names.{packages};
 ghost use Rattle.model_text.specs.Written.{has, lines_of};
 
 use crate::areas::{push_evt, push_rch};
-use crate::basics::push_bas;
-use crate::discretization::push_dis;
+use crate::discretization::{push_bas, push_dis};
 use crate::entries::ListEntry;
 use crate::flow::push_lpf;
 use crate::lists::push_lists;

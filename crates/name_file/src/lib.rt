@@ -1,7 +1,6 @@
 //! The name file: which package of a model has which file.
 #![tactic(auto)]
 
-mod gathered;
 mod kinds;
 mod names;
 mod package;

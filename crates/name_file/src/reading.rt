@@ -4,9 +4,8 @@ ghost use Rattle.record_lines.specs.Reading.{HasText, StopsText};
 ghost use Rattle.record_lines.specs.Seen.{numbered_of};
 ghost use Rattle.name_file.specs.Reading.{is_integer, file_in, after_package, after_line, after_lines, whole, names_of};
 
-use crate::gathered::Gathered;
 use crate::kinds::{is_passed_over, package_of};
-use crate::names::Names;
+use crate::names::{Gathered, Names};
 use crate::package::Package;
 use array_reader::{name_of, short_integer};
 use outside::{Code, Name, TextFault, refused};

@@ -1,14 +1,14 @@
 // The test of arrays of layers.
 ghost use Rattle.std.specs.Prelude.{◌≡◌, ◌<◌};
 ghost use Rattle.record_lines.specs.Reading.{HasText};
-ghost use Rattle.model_types.specs.Cells.{layer_size};
+ghost use Rattle.model_types.specs.Cells.{layer_size, cell_count};
 ghost use Rattle.model_types.specs.Grids.{HasSize};
 ghost use Rattle.period_arrays.specs.Layers.{is_layer, layer_step, layers_tested};
+ghost use Rattle.period_arrays.specs.Forms.{IsCellRefusal};
 
-use crate::refused::cell_refused;
-use model_types::Grid;
 use model_types::layers::int_at;
-use outside::{Code, TextFault};
+use model_types::{CellId, Grid, place_of};
+use outside::{Code, Name, Refusal, TextFault};
 use std::alloc::Global;
 
 fn is_layer(grid: &Grid, layer: i64) -> bool
@@ -52,4 +52,23 @@ pub fn layers_tested(
         layer_tested(alloc, file, grid, layers, place)?;
     }
     Ok(())
+}
+
+// The refusal of a cell.
+
+/// The refusal of a cell, with line 0 and its layer, row and column.
+pub fn cell_refused(alloc: Global, code: Code, file: &str, grid: &Grid, cell: u32) -> TextFault
+    requires size { HasSize grid.now }
+    requires cell { cell < cell_count grid.now }
+    ensures { IsCellRefusal code file.now grid.now cell result }
+{
+    match Name::new(alloc, file) {
+        Ok(file) => TextFault::Refused(Refusal {
+            code,
+            file,
+            line: 0,
+            at: Some(place_of(grid, CellId(cell))),
+        }),
+        Err(_) => TextFault::Memory,
+    }
 }

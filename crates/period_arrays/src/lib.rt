@@ -8,9 +8,8 @@ mod layers;
 mod package;
 mod periods;
 mod read;
-mod refused;
 
 pub use area::Area;
+pub use layers::cell_refused;
 pub use package::ArrayPackage;
 pub use read::{ArrayFile, read_arrays};
-pub use refused::cell_refused;

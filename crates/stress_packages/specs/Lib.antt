@@ -1,1 +1,3 @@
+pub mod Recharge
+pub mod Forms
 pub mod Packages

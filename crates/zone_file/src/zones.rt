@@ -1,19 +1,20 @@
 // The zones of a model's cells.
-ghost use Rattle.std.specs.Prelude.{◌≡◌, IfOk, length, All, List};
+ghost use Rattle.std.specs.Prelude.{◌≡◌, IfOk, length, All, List, not, ◌≤◌, map, unsigned_abs};
 ghost use Rattle.outside.specs.Files.{FileSet};
 ghost use Rattle.outside.specs.Folders.{ReadsOn};
 ghost use Rattle.outside.specs.Names.{folder_name};
-ghost use Rattle.record_lines.specs.Reading.{Has};
+ghost use Rattle.record_lines.specs.Reading.{Has, HasText};
 ghost use Rattle.model_types.specs.Cells.{cell_count};
 ghost use Rattle.model_types.specs.Grids.{HasSize};
-ghost use Rattle.zone_file.specs.Zones.{IsZone, zones_of};
+ghost use Rattle.zone_file.specs.Zones.{IsZone, zones_of, is_zone, zones_tested};
+ghost use Rattle.std.specs.List.{position};
 
-use crate::limits::zones_tested;
 use array_reader::{name_of, read_layers};
-use model_types::FlowModel;
-use outside::{Folder, InputFault, read_input};
+use model_types::{FlowModel, Grid};
+use outside::{Code, Folder, InputFault, TextFault, read_input};
+use period_arrays::cell_refused;
 use record_lines::Lines;
-use std::alloc::Global;
+use std::alloc::{AllocError, Global};
 
 /// The zones of a model, one for each cell: 1 to 999, or 0 for a cell in no zone. `name` is the name of their file as a
 /// command gives it, which may be any text, and `folder` has this file and those that its arrays name.
@@ -45,4 +46,58 @@ pub fn read_zones<F: Folder>(
     let zones = read_layers::<i64, F>(alloc, &mut lines, file, folder, layers, rows, cols)?;
     zones_tested(alloc, file, grid, &zones)?;
     Ok(zones)
+}
+
+// The limits of a zone's number.
+
+fn is_zone(number: i64) -> bool
+    ensures { result ≡ is_zone number }
+{
+    0 <= number && number <= 999
+}
+
+// The first cell whose number isn't from 0 to 999.
+fn first_wrong(zones: &[i64]) -> Option<usize>
+    ensures { result ≡ position (λ z. not (is_zone z)) zones.now }
+{
+    zones.iter().position(|zone| !is_zone(*zone))
+}
+
+/// The first cell, by ascending number, whose zone is below 0 or above 999 is refused, with line 0 and its layer, row
+/// and column.
+#[tactic(auto, unfolding(crate::specs::Zones::zones_tested))]
+pub fn zones_tested(alloc: Global, file: &str, grid: &Grid, zones: &[i64]) -> Result<(), TextFault>
+    requires size { HasSize grid.now }
+    requires count { length zones.now ≡ cell_count grid.now }
+    ensures test { HasText (λ _. tt) result (zones_tested file.now grid.now zones.now) }
+    ensures limits { IfOk result (λ _. All IsZone zones.now) }
+{
+    match first_wrong(zones) {
+        None => Ok(()),
+        Some(cell) => Err(cell_refused(alloc, Code::BadProperty, file, grid, cell as u32)),
+    }
+}
+
+// The numbers of zones, as they are counted with.
+
+// A zone's number, which is no more than 999.
+fn zone_number(zone: i64) -> u32
+    requires { IsZone zone }
+    ensures value { result ≡ unsigned_abs zone }
+    ensures limit { result ≤ 999 }
+{
+    zone.unsigned_abs() as u32
+}
+
+/// The same zones, each 0 to 999, as unsigned numbers.
+pub fn zone_numbers(alloc: Global, zones: &[i64]) -> Result<Vec<u32>, AllocError>
+    requires { All IsZone zones.now }
+    ensures numbers { IfOk result (λ v. v.items ≡ map unsigned_abs zones.now) }
+    ensures limits { IfOk result (λ v. All (λ z. z ≤ 999) v.items) }
+{
+    let mut numbers = Vec::new(alloc);
+    for zone in zones {
+        numbers.push(zone_number(*zone))?;
+    }
+    Ok(numbers)
 }

@@ -1,4 +1,5 @@
-use Rattle.list_package.proofs.Common.{◌≡◌, ◌-◌, true, All, length, repeated, with_front, cell_count, entry_at, AreMarked}
+use Rattle.list_package.proofs.Common.{◌≡◌, ◌-◌, true, All, length, repeated, with_front, cell_count, AreMarked}
+use Rattle.list_package.specs.Entries.{entry_at}
 use Rattle.list_package.proofs.entry.entries.Given as goal
 
 abbrev pub invariant-loop : goal.invariant-loop

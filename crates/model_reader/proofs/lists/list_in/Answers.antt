@@ -1,5 +1,4 @@
-use Rattle.model_reader.proofs.Common.{sym, file_named}
-use Rattle.model_reader.specs.Stresses.{lists_of}
+use Rattle.model_reader.proofs.Common.{sym, file_named, lists_of}
 use Rattle.model_reader.proofs.Chains.{named_read}
 use Rattle.model_reader.proofs.lists.list_in.Goals as goal
 

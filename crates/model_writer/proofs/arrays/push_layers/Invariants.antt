@@ -1,5 +1,4 @@
-use Rattle.model_writer.proofs.Common.{◌≡◌, ◌++◌, flat_map, range_with_len, array_lines, text}
-use Rattle.package_text.specs.Layers.{layer_values}
+use Rattle.model_writer.proofs.Common.{◌≡◌, ◌++◌, flat_map, range_with_len, array_lines, text, layer_values}
 use Rattle.model_writer.proofs.arrays.push_layers.Given as goal
 
 abbrev pub invariant-loop-layer : goal.invariant-loop-layer

@@ -1,3 +1,0 @@
-mod Common
-pub mod AreaTexts
-pub mod FileTexts

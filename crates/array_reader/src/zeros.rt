@@ -1,0 +1,60 @@
+// Free lists whose values must be 0.
+ghost use Rattle.std.specs.Prelude.{◌≡◌, MatchResult, Ok, IfOk, pos};
+ghost use Rattle.record_lines.specs.Reading.{GivesText, StopsText, counted};
+ghost use Rattle.array_reader.specs.PackageItems.{zero_at, zero_step, zero_list};
+
+use crate::next_value;
+use outside::{Code, TextFault, refused};
+use record_lines::{Free, Lines};
+use std::alloc::Global;
+
+/// The next value of a free list, which must be 0; any other value is OutOfProfile on its own line.
+#[tactic(auto, unfolding(crate::specs::PackageItems::zero_at))]
+pub fn zero_item<'a>(
+    alloc: Global,
+    free: &mut Free<'a>,
+    lines: &mut Lines<'a>,
+    file: &str,
+) -> Result<i64, TextFault>
+    ensures value { GivesText (λ z. z) result (free.new, lines.new) (zero_at file.now (free.old, lines.old)) }
+    ensures zero { IfOk result (λ z. z ≡ pos 0) }
+{
+    let (value, line) = next_value::<i64>(alloc, free, lines, file, None)?;
+    if value != 0 {
+        return Err(refused(alloc, Code::OutOfProfile, file, line));
+    }
+    Ok(value)
+}
+
+#[tactic(auto, unfolding(crate::specs::PackageItems::zero_step))]
+fn zero_items<'a>(
+    alloc: Global,
+    free: &mut Free<'a>,
+    lines: &mut Lines<'a>,
+    file: &str,
+    count: u32,
+) -> Result<(), TextFault>
+    ensures { MatchResult result
+        (λ _. counted (zero_step file.now) 0 count (free.old, lines.old) ≡ Ok (free.new, lines.new))
+        (λ fault. StopsText fault (counted (zero_step file.now) 0 count (free.old, lines.old))) }
+{
+    for i in 0..count {
+        zero_item(alloc, free, lines, file)?;
+    }
+    Ok(())
+}
+
+/// Reads a free list of `count` values that must be 0.
+#[tactic(auto, unfolding(crate::specs::PackageItems::zero_list))]
+pub fn zero_list(
+    alloc: Global,
+    lines: &mut Lines<'_>,
+    file: &str,
+    count: u32,
+) -> Result<(), TextFault>
+    ensures { GivesText (λ _. tt) result lines.new (zero_list file.now count lines.old) }
+{
+    let mut free = Free::begin();
+    zero_items(alloc, &mut free, lines, file, count)?;
+    Ok(())
+}

@@ -1,0 +1,105 @@
+-- Flags, arrays of one layer, and arrays of layers are read as written.
+use Rattle.model_text.proofs.Common.{◌≡◌, ℕ, zero, suc, ◌+◌, ◌^◌, ◌<◌, ◌≤◌, Bool, true, false, ◌&&◌, nat_lt, nat_le, if◌then◌else◌, List, [], ◌∷◌, ◌++◌, length}
+use Rattle.model_text.proofs.Common.{drop, All, Ok, refl, arith, ℤ, pos, negsuc, codes, All-from_recursion, Dec, FileSet, is_comment, counted, Grid, HasSize}
+use Rattle.model_text.proofs.Common.{is_int, real_layer, array_or, flag_at, flag_if, is_option, option_at, IsReals, IsWhole, IsShort, IsWord, integer_word}
+use Rattle.model_text.proofs.Common.{Line, IsLine, number_after, unread, real_array, integer_array, integer_is_word, word_by_test, IsLayers, nat_tests, is_word}
+use Rattle.model_text.proofs.Common.{number_at, integer, layer_size, int_at, arrays, are_lines, digits_spell}
+use Rattle.model_text.proofs.CountTexts.{integer_item}
+use Rattle.model_text.proofs.DisTexts.{AreLines, no_lines, decimal_is_item}
+use Rattle.period_arrays.specs.Layers.{is_layer, layer_step, layers_tested, layers_at}
+use Rattle.model_text.proofs.PlaceTexts.{no_keyword}
+
+one_item : (file : List ℕ) (line : ℕ) (ws : Line) → number_at integer file line (codes "1" ∷ ws) ≡ Ok (pos 1, ws)
+unfolding number_at integer
+one_item file line ws = refl
+
+-- an array is read anew
+pub flag_reads : (file : List ℕ) (line : ℕ) (listed : Bool) (ws : Line) → flag_at file line listed (codes "1" ∷ ws) ≡ Ok (true, ws)
+unfolding flag_at
+flag_reads file line listed ws = rw (one_item file line ws) refl
+
+pub option_reads : (file : List ℕ) (line : ℕ) (z : ℤ) (ws : Line) → IsShort z → is_option z ≡ true → option_at file line (integer_word z ∷ ws) ≡ Ok (z, ws)
+unfolding option_at
+option_reads file line z ws short good = rw (integer_item file line z ws short, good) refl
+
+is_few : (n : ℕ) → (nat_lt 0 n && nat_le n 3) ≡ true → n ≤ 3
+is_few n h = by_test (nat_lt 0 n) (nat_le n 3) refl h
+  where
+    by_test : (a b : Bool) → nat_le n 3 ≡ b → (a && b) ≡ true → n ≤ 3
+    by_test true true e k = grind (arith, nat_tests)
+    by_test true false e k = absurd (cc)
+    by_test false b e k = absurd (cc)
+
+pub option_is_short : (z : ℤ) → is_option z ≡ true → IsShort z
+option_is_short (pos n) h = record { few = small (is_few n h) }
+  where
+    small : n ≤ 3 → n < 10 ^ 18
+    small k = omega arith
+option_is_short (negsuc n) h = absurd (cc)
+
+-- NRCHOP or NEVTOP is no comment and no keyword
+pub option_is_item : (z : ℤ) → is_option z ≡ true → (1 ≤ length (integer_word z)) × (is_comment (integer_word z) ≡ false) × (is_word (codes "PARAMETER") (integer_word z) ≡ false)
+unfolding integer_word
+option_is_item (pos n) h =
+    let few : n ≤ 3 = is_few n h in
+    let small : n < 10 ^ 18 = omega arith in
+    ((digits_spell n small).some, decimal_is_item n small, no_keyword 80 (drop 1 (codes "PARAMETER")) n small (omega arith))
+option_is_item (negsuc n) h = absurd (cc)
+
+pub option_is_line : (z : ℤ) → is_option z ≡ true → IsLine (integer_word z ∷ codes "0" ∷ [])
+option_is_line z h =
+    record { some = omega arith; words = All-from_recursion (λ w. IsWord w) (integer_word z ∷ codes "0" ∷ []) (integer_is_word z (option_is_short z h), (word_by_test (codes "0") refl, tt)) }
+
+abbrev pub layers_lines : Grid → ℤ → List ℤ → List Line
+layers_lines g option xs = if is_int option 2 then integer_array g.rows g.cols xs else []
+
+-- a flag that the file has only where it has the array
+pub flag_if_reads : (file : List ℕ) (line : ℕ) (present listed : Bool) → flag_if present file line listed (codes "1" ∷ []) ≡ Ok (present, if present then [] else codes "1" ∷ [])
+flag_if_reads file line true listed = flag_reads file line listed []
+flag_if_reads file line false listed = refl
+
+pub layers_are_lines : (g : Grid) (option : ℤ) (xs : List ℤ) → HasSize g → IsLayers g option xs → AreLines (layers_lines g option xs)
+layers_are_lines g option xs size h = by_case (is_int option 2) h.whole
+  where
+    by_case : (b : Bool) → (b ≡ true → IsWhole g xs) → AreLines (if b then integer_array g.rows g.cols xs else [])
+    by_case true whole = record { all = are_lines.integer_layers g.rows g.cols xs size.cols.0 (whole refl) h.short }
+    by_case false whole = no_lines
+
+pub reals_are_lines : (g : Grid) (xs : List Dec) → HasSize g → IsReals g xs → AreLines (real_array g.rows g.cols xs)
+reals_are_lines g xs size h = record { all = are_lines.layers g.rows g.cols xs size.cols.0 h.0 h.1 }
+
+module _ (files : FileSet) (file : List ℕ) (g : Grid) (size : HasSize g) where
+  pub reals_read : (xs : List Dec) → IsReals g xs → (last : List Dec) (n : ℕ) (others : List Line)
+      → array_or (real_layer files file g.rows g.cols) true last (unread n (real_array g.rows g.cols xs ++ others)) ≡ Ok (xs, unread (number_after n (real_array g.rows g.cols xs)) others)
+  reals_read xs h last n others = (arrays.layers files file g.rows g.cols xs size.cols.0 h.0 h.1).reads n others
+
+  tests_pass : (xs : List ℤ) → ((i : ℕ) → i < layer_size g → is_layer g (int_at xs i) ≡ true) → (count i : ℕ) → i + count ≡ layer_size g → counted (layer_step file g xs) i count tt ≡ Ok tt
+  unfolding counted
+  tests_pass xs h zero i e = refl
+  tests_pass xs h (suc count) i e =
+      let low : i < layer_size g = omega arith in
+      let good : is_layer g (int_at xs i) ≡ true = h i low in
+      let more : (i + 1) + count ≡ layer_size g = omega arith in
+      rw good (tests_pass xs h count (i + 1) more)
+
+  layers_pass : (xs : List ℤ) → ((i : ℕ) → i < layer_size g → is_layer g (int_at xs i) ≡ true) → layers_tested file g xs ≡ Ok tt
+  unfolding layers_tested
+  layers_pass xs h = tests_pass xs h (layer_size g) 0 (omega arith)
+
+  layers_anew : (xs : List ℤ) → IsWhole g xs → All (λ z. IsShort z) xs → ((i : ℕ) → i < layer_size g → is_layer g (int_at xs i) ≡ true) → (n : ℕ) (others : List Line)
+      → layers_at files file g (unread n (integer_array g.rows g.cols xs ++ others)) ≡ Ok (xs, unread (number_after n (integer_array g.rows g.cols xs)) others)
+  unfolding layers_at
+  layers_anew xs whole short good n others = rw ((arrays.integer_layers files file g.rows g.cols xs size.cols.0 whole short).reads n others, layers_pass xs good) refl
+
+  layers_by : (b : Bool) (xs : List ℤ) → (b ≡ false → xs ≡ []) → (b ≡ true → IsWhole g xs) → All (λ z. IsShort z) xs → (b ≡ true → (i : ℕ) → i < layer_size g → is_layer g (int_at xs i) ≡ true)
+      → (last : List ℤ) → (b ≡ false → last ≡ []) → (n : ℕ) (others : List Line)
+      → array_or (layers_at files file g) b last (unread n ((if b then integer_array g.rows g.cols xs else []) ++ others))
+      ≡ Ok (xs, unread (number_after n (if b then integer_array g.rows g.cols xs else [])) others)
+  unfolding number_after
+  layers_by true xs empty whole short good last none n others = layers_anew xs (whole refl) short (good refl) n others
+  layers_by false xs empty whole short good last none n others = rw (none refl, empty refl) refl
+
+  -- an array of layers, which a period has under option 2
+  pub layers_read : (option : ℤ) (xs : List ℤ) → IsLayers g option xs → (last : List ℤ) → (is_int option 2 ≡ false → last ≡ []) → (n : ℕ) (others : List Line)
+      → array_or (layers_at files file g) (is_int option 2) last (unread n (layers_lines g option xs ++ others)) ≡ Ok (xs, unread (number_after n (layers_lines g option xs)) others)
+  layers_read option xs h last none n others = layers_by (is_int option 2) xs h.none h.whole h.short h.layers last none n others

@@ -1,0 +1,99 @@
+-- The entries of a list are read as written.
+use Rattle.model_text.proofs.Common.{◌≡◌, ℕ, ◌+◌, ◌^◌, ◌<◌, Bool, true, false, List, [], ◌∷◌, ◌++◌, length, map, get_or, set, All, None, Ok, refl, sym, subst}
+use Rattle.model_text.proofs.Common.{arith, decimal, All-append, All-map, All-weaker, All-head, All-tail, All-from_recursion, Dec, next_number, repeated, Grid}
+use Rattle.model_text.proofs.Common.{CellId, cell_count, layer_of, row_of, column_of, place, HasSize, row_below, column_below, layer_below, entry_of, entry_at}
+use Rattle.model_text.proofs.Common.{is_left_out, no_marks, new_list, Kind, first_fault, IsWord, number_word, Line, IsLine, number_after, unread, count_is_word}
+use Rattle.model_text.proofs.Common.{line_words, next_line, list_item_6, IsEntry, IsDec, number_at, number}
+use Rattle.model_text.proofs.CountTexts.{decimal_item, number_item}
+use Rattle.model_text.proofs.TimeTexts.{canonical_word}
+use Rattle.model_text.proofs.PlaceTexts.{is_entry, cell_reads}
+use Rattle.model_text.proofs.MarkTexts.{marks_after, AreFree}
+
+-- how the numbers of an entry are written
+pub record WritesNumbers {E : Type 0} (kind : Kind E) (cell : E → ℕ) (numbers : E → List Dec) : Type 0 where
+  pub numbers_are : (at : CellId) (c : List Dec) → length c ≡ length kind.columns → numbers (kind.entry at c) ≡ c
+  pub cell_is : (at : CellId) (c : List Dec) → cell (kind.entry at c) ≡ at.0
+  pub place_is : (at : CellId) (c : List Dec) → kind.place (kind.entry at c) ≡ at.0
+
+-- numbers are read as written
+numbers_read : (file : List ℕ) (line : ℕ) (ds : List Dec) → All IsDec ds → repeated (length ds) (number_at number file line) (map number_word ds) ≡ Ok (ds, [])
+unfolding repeated
+numbers_read file line [] h = refl
+numbers_read file line (d ∷ ds) h =
+    rw (number_item file line d (map number_word ds) (All-head (λ x. IsDec x) d ds h), numbers_read file line ds (All-tail (λ x. IsDec x) d ds h)) refl
+
+module _ {E : Type 0} (kind : Kind E) (cell : E → ℕ) (numbers : E → List Dec) (w : WritesNumbers kind cell numbers) (g : Grid) (h : HasSize g) where
+  abbrev IsGood : E → Type 0
+  IsGood x = IsEntry kind (cell_count g) x
+
+  abbrev pub entry_line : E → Line
+  entry_line x = list_item_6 g (cell x) (numbers x)
+
+  -- what holds of the entry of a cell with numbers holds of a good entry
+  for_good : (P : E → Type 0) → ((at : CellId) (c : List Dec) → at.0 < cell_count g → length c ≡ length kind.columns → All IsDec c → first_fault kind.columns c ≡ None → P (kind.entry at c)) → (x : E) → IsGood x → P x
+  for_good P f x e = subst P (sym e.is) (f e.cell e.numbers e.inside e.count e.canonical e.passes)
+
+  small : (cell : ℕ) → cell < cell_count g → (layer_of g cell + 1 < 10 ^ 18) × (row_of g cell + 1 < 10 ^ 18) × (column_of g cell + 1 < 10 ^ 18)
+  small cell low = (omega (arith, layer_below g h cell low, h.layers.1), omega (arith, row_below g h cell low, h.rows.1), omega (arith, column_below g h cell low, h.cols.1))
+
+  made_reads : (file : List ℕ) (line : ℕ) (marks : List Bool) (at : CellId) (c : List Dec) → at.0 < cell_count g → length c ≡ length kind.columns → All IsDec c → first_fault kind.columns c ≡ None → get_or marks at.0 false ≡ false
+      → entry_of kind file line g marks (list_item_6 g at.0 (numbers (kind.entry at c))) ≡ Ok (kind.entry at c, at)
+  unfolding entry_of list_item_6
+  made_reads file line marks at c low count canonical passes free =
+      let few = small at.0 low in
+      let ws = map number_word (numbers (kind.entry at c)) in
+      let k = decimal_item file line (layer_of g at.0 + 1) (decimal (row_of g at.0 + 1) ∷ decimal (column_of g at.0 + 1) ∷ ws) few.0 in
+      let i = decimal_item file line (row_of g at.0 + 1) (decimal (column_of g at.0 + 1) ∷ ws) few.1 in
+      let j = decimal_item file line (column_of g at.0 + 1) ws few.2 in
+      let read : repeated (length kind.columns) (number_at number file line) ws ≡ Ok (c, []) = rw (w.numbers_are at c count, ← count) (numbers_read file line c canonical) in
+      rw (k, i, j, read, cell_reads g h file line at low, passes, free) refl
+
+  entry_reads : (file : List ℕ) (line : ℕ) (marks : List Bool) (x : E) → IsGood x → get_or marks (kind.place x) false ≡ false
+      → entry_of kind file line g marks (entry_line x) ≡ Ok (x, record { 0 = kind.place x })
+  entry_reads file line marks =
+      for_good (λ x. get_or marks (kind.place x) false ≡ false → entry_of kind file line g marks (entry_line x) ≡ Ok (x, record { 0 = kind.place x }))
+      (λ at c low count canonical passes free.
+      let unmarked : get_or marks at.0 false ≡ false = rw (w.place_is at c) at free in
+      rw (w.cell_is at c, w.place_is at c) (made_reads file line marks at c low count canonical passes unmarked))
+
+  made_is_line : (at : CellId) (c : List Dec) → at.0 < cell_count g → length c ≡ length kind.columns → All IsDec c → IsLine (list_item_6 g at.0 (numbers (kind.entry at c)))
+  unfolding list_item_6
+  made_is_line at c low count canonical =
+      let few = small at.0 low in
+      let ds = numbers (kind.entry at c) in
+      let decimals : All IsDec ds = rw (w.numbers_are at c count) canonical in
+      let back = All-map (λ v. IsWord v) number_word ds (All-weaker (λ d. IsDec d) (λ d. IsWord (number_word d)) canonical_word ds decimals) in
+      let front = All-from_recursion (λ v. IsWord v) (map decimal (place g at.0)) (count_is_word (layer_of g at.0 + 1) few.0, (count_is_word (row_of g at.0 + 1) few.1, (count_is_word (column_of g at.0 + 1) few.2, tt))) in
+      record { some = omega arith; words = All-append (λ v. IsWord v) (map decimal (place g at.0)) (map number_word ds) front back }
+
+  pub entry_is_line : (x : E) → IsGood x → IsLine (entry_line x)
+  entry_is_line = for_good (λ x. IsLine (entry_line x)) (λ at c low count canonical passes. rw (w.cell_is at c) (made_is_line at c low count canonical))
+
+  left_out : (cell : ℕ) (ds : List Dec) → cell < cell_count g → is_left_out (list_item_6 g cell ds) ≡ false
+  unfolding list_item_6
+  left_out cell ds low = is_entry (layer_of g cell + 1) (decimal (row_of g cell + 1) ∷ decimal (column_of g cell + 1) ∷ map number_word ds) (small cell low).0
+
+  cell_inside : (x : E) → IsGood x → cell x < cell_count g
+  cell_inside = for_good (λ x. cell x < cell_count g) (λ at c low count canonical passes. rw (w.cell_is at c) low)
+
+  line_reads : (file : List ℕ) (marks : List Bool) (n : ℕ) (others : List Line) (x : E) → IsGood x → get_or marks (kind.place x) false ≡ false
+      → entry_at kind file g (marks, unread n (entry_line x ∷ others)) ≡ Ok (x, (set marks (kind.place x) true, unread (next_number n) others))
+  unfolding entry_at
+  line_reads file marks n others x good free =
+      rw (next_line file n (entry_line x) others, line_words (entry_line x) (entry_is_line x good).words, left_out (cell x) (numbers x) (cell_inside x good), entry_reads file n marks x good free) refl
+
+  lines_read : (file : List ℕ) (marks : List Bool) (n : ℕ) (others : List Line) (xs : List E) → All IsGood xs → AreFree kind marks xs
+      → repeated (length xs) (entry_at kind file g) (marks, unread n (map entry_line xs ++ others)) ≡ Ok (xs, (marks_after kind marks xs, unread (number_after n (map entry_line xs)) others))
+  unfolding repeated number_after
+  lines_read file marks n others [] good free = refl
+  lines_read file marks n others (x ∷ xs) good free =
+      rw (
+        line_reads file marks n (map entry_line xs ++ others) x (All-head (λ y. IsGood y) x xs good) free.0,
+        lines_read file (set marks (kind.place x) true) (next_number n) others xs (All-tail (λ y. IsGood y) x xs good) free.1,
+      ) refl
+
+  -- item 6 of each entry
+  pub list_reads : (file : List ℕ) (n : ℕ) (others : List Line) (xs : List E) → All IsGood xs → AreFree kind (no_marks kind g) xs
+      → new_list kind file g (length xs) (unread n (map entry_line xs ++ others)) ≡ Ok (xs, unread (number_after n (map entry_line xs)) others)
+  unfolding new_list
+  list_reads file n others xs good free = rw (lines_read file (no_marks kind g) n others xs good free) refl

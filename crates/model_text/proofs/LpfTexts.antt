@@ -1,0 +1,78 @@
+-- The file of LPF is read as written.
+use Rattle.model_text.proofs.Common.{◌≡◌, ℕ, ◌+◌, ◌*◌, ◌<◌, Bool, true, false, not, ◌||◌, List, [], ◌∷◌, ◌++◌, length, map, take, All, Ok, refl, sym, ap, ◌∙◌}
+use Rattle.model_text.proofs.Common.{arith, codes, append-nil, take_all, FileSet, is_comment, next_number, FlowModel, Period, layer_size, int_at, is_nonzero}
+use Rattle.model_text.proofs.Common.{without_stresses, is_transient, with_properties, contents_of, lpf_of, layer_at, layers_of, Line, IsLine, line_text, text}
+use Rattle.model_text.proofs.Common.{number_after, unread, each_layer, storage_option, lpf_item_1, lpf_arrays, lpf_lines, IsDiscretized, HasFlow}
+use Rattle.model_text.proofs.LineCounts.{counted_reads, layers_are_lines, one_more_layer, all_layers}
+use Rattle.model_text.proofs.DisTexts.{AreLines, one_line, joined, where_there, layer_is_lines, file_begins, line_is_item}
+use Rattle.model_text.proofs.SettingTexts.{settings_lines, settings_end, settings_read, option_read, option_is_line, zeros_are_line, chani_is_line, layvka_is_line}
+use Rattle.model_text.proofs.PropertyTexts.{chani, above, arrays_read, storage_is_lines}
+
+-- stresses don't matter to whether a period is transient
+bare_transient : (ps : List Period) → is_transient (map without_stresses ps) ≡ is_transient ps
+bare_transient [] = refl
+bare_transient (p ∷ ps) = ap (λ (b : Bool). not p.steady || b) (bare_transient ps)
+
+same_transient : (ps qs : List Period) → map without_stresses ps ≡ map without_stresses qs → is_transient ps ≡ is_transient qs
+same_transient ps qs e = sym (bare_transient ps) ∙ (ap (λ (xs : List Period). is_transient xs) e ∙ bare_transient qs)
+
+module _ (files : FileSet) (file : List ℕ) (m : FlowModel) (d : IsDiscretized m) (f : HasFlow m) where
+  layer_step : (k : ℕ) → k < m.grid.layers → (n : ℕ) (others : List Line)
+      → layer_at files file m.grid (chani files file m d f) (is_transient m.periods) k (above files file m d f k, unread n (lpf_arrays m k ++ others))
+      ≡ Ok (above files file m d f (k + 1), unread (number_after n (lpf_arrays m k)) others)
+  unfolding layer_at
+  layer_step k low n others =
+      let g = m.grid in
+      rw ((arrays_read files file m d f k low).reads n others, one_more_layer g k m.hk, one_more_layer g k m.hani, one_more_layer g k m.vka, one_more_layer g k m.ss, one_more_layer g k m.vkcb) refl
+
+  all_storage : (b : Bool) → is_transient m.periods ≡ b → take (m.grid.layers * layer_size m.grid) m.ss ≡ m.ss
+  all_storage true e = all_layers m.grid m.ss (rw e at f.ss.0)
+  all_storage false e = take_all (m.grid.layers * layer_size m.grid) m.ss (let none : length m.ss ≡ 0 = rw e at f.ss.0 in omega arith)
+
+  layers_read : (n : ℕ) (others : List Line)
+      → layers_of files file m.grid (chani files file m d f) (is_transient m.periods) m.grid.layers (unread n (each_layer m.grid (lpf_arrays m) ++ others))
+      ≡ Ok (record { hk = m.hk; hani = m.hani; vka = m.vka; ss = m.ss; vkcb = m.vkcb }, unread (number_after n (each_layer m.grid (lpf_arrays m))) others)
+  unfolding layers_of
+  layers_read n others =
+      let g = m.grid in
+      let none : 0 * layer_size g ≡ 0 = omega arith in
+      let read = counted_reads (layer_at files file g (chani files file m d f) (is_transient m.periods)) (lpf_arrays m) (above files file m d f) g.layers layer_step g.layers 0 (omega arith) n others in
+      rw (none, all_layers g m.hk f.hk.0, all_layers g m.hani f.hani.0, all_layers g m.vka f.vka.0, all_storage (is_transient m.periods) refl, all_layers g m.vkcb f.vkcb.0) at read
+
+  layer_lines : (k : ℕ) → k < m.grid.layers → All (λ line. IsLine line) (lpf_arrays m k)
+  unfolding lpf_arrays
+  layer_lines k low =
+      let g = m.grid in
+      let hk = layer_is_lines g m.hk d.grid.size f.hk.0 f.hk.1 k low in
+      let hani = layer_is_lines g m.hani d.grid.size f.hani.0 f.hani.1 k low in
+      let vka = layer_is_lines g m.vka d.grid.size f.vka.0 f.vka.1 k low in
+      let vkcb = where_there (is_nonzero (int_at g.laycbd k)) (layer_is_lines g m.vkcb d.grid.size f.vkcb.0 f.vkcb.1 k low) in
+      (joined hk (joined hani (joined vka (joined (storage_is_lines files file m d f (is_transient m.periods) refl k low) vkcb)))).all
+
+  lpf_is_lines : AreLines (lpf_lines m)
+  unfolding lpf_lines
+  lpf_is_lines =
+      let zeros = zeros_are_line file m d f in
+      let arrays : AreLines (each_layer m.grid (lpf_arrays m)) = record { all = layers_are_lines (lpf_arrays m) m.grid.layers layer_lines m.grid.layers 0 (omega arith) } in
+      one_line (option_is_line m) (one_line zeros (one_line zeros (one_line (chani_is_line file m d f) (one_line (layvka_is_line file m d f) (one_line zeros arrays)))))
+
+  option_is_item : is_comment (line_text (lpf_item_1 m)) ≡ false
+  unfolding lpf_item_1
+  option_is_item = line_is_item (codes "0") (codes "0" ∷ codes "0" ∷ storage_option m.coefficient) (omega arith) refl
+
+  contents_read : contents_of files file (text (lpf_lines m)) m.grid (is_transient m.periods)
+      ≡ Ok (record { coefficient = m.coefficient; layvka = m.layvka; properties = record { hk = m.hk; hani = m.hani; vka = m.vka; ss = m.ss; vkcb = m.vkcb } })
+  unfolding contents_of lpf_lines
+  contents_read =
+      let arrays = each_layer m.grid (lpf_arrays m) in
+      let start = file_begins (lpf_item_1 m) (settings_lines file m d f arrays) lpf_is_lines.all option_is_item in
+      let n = next_number 1 in
+      let end : arrays ++ [] ≡ arrays = append-nil arrays in
+      let last = rw end at (layers_read (settings_end file m d f n) []) in
+      rw (start, option_read file m 1 (settings_lines file m d f arrays), settings_read file m d f n arrays, last) refl
+
+  pub lpf_reads : (basic : FlowModel) → basic.grid ≡ m.grid → map without_stresses basic.periods ≡ map without_stresses m.periods
+      → lpf_of files file (text (lpf_lines m)) basic
+      ≡ Ok (with_properties basic m.coefficient m.layvka (record { hk = m.hk; hani = m.hani; vka = m.vka; ss = m.ss; vkcb = m.vkcb }))
+  unfolding lpf_of
+  lpf_reads basic same times = rw (same, same_transient basic.periods m.periods times, contents_read) refl

@@ -1,0 +1,152 @@
+-- LPF items 1 to 6 are read as written.
+use Rattle.model_text.proofs.Common.{◌≡◌, ℕ, zero, suc, ◌+◌, ◌≤◌, Bool, true, false, List, [], ◌∷◌, length, replicate, All, Ok, refl, ap, arith, pos, codes}
+use Rattle.model_text.proofs.Common.{list_any, length-replicate, All-nil, All-cons, All-append, All-replicate, Dec, Left, next_number, counted, beginning}
+use Rattle.model_text.proofs.Common.{number, integer, canonical, significant, zeros, value_at, free_list, FlowModel, zero_at, zero_step, zero_list, IsWord}
+use Rattle.model_text.proofs.Common.{Line, IsLine, unread, number_after, row_line, word_by_test, line_by_test, line_words, next_line, IsWrittenAs, on_line}
+use Rattle.model_text.proofs.Common.{value_reads, line_begins, free_list_reads, free_lists, are_lines, storage_option, lpf_item_1, lpf_zeros, lpf_item_4}
+use Rattle.model_text.proofs.Common.{lpf_item_5, IsDiscretized, HasFlow, is_word}
+use Rattle.lpf_package.specs.Settings.{option_line, settings_of}
+use Rattle.model_text.proofs.CountTexts.{zero_item, zero_number_item}
+
+zero_word : IsWord (codes "0")
+zero_word = word_by_test (codes "0") refl
+
+zero_reads : integer (codes "0") ≡ Ok (pos 0)
+unfolding integer
+zero_reads = refl
+
+step_reads : (file : List ℕ) (i n : ℕ) (last : List ℕ) (ws : Line) (left : Left) → zero_step file i (on_line n last (codes "0" ∷ ws), left) ≡ Ok (on_line n (codes "0") ws, left)
+unfolding zero_step zero_at
+step_reads file i n last ws left = rw (value_reads integer file n last (codes "0") ws left (pos 0) zero_word zero_reads) refl
+
+steps_read : (file : List ℕ) (count i n : ℕ) (left : Left) → counted (zero_step file) i count (on_line n (codes "0") (replicate count (codes "0")), left) ≡ Ok (on_line n (codes "0") [], left)
+unfolding counted
+steps_read file zero i n left = refl
+steps_read file (suc count) i n left = rw (step_reads file i n (codes "0") (replicate count (codes "0")) left, steps_read file count (i + 1) n left) refl
+
+step_begins : (file : List ℕ) (i n : ℕ) (line : Line) (others : List Line) → All (λ w. IsWord w) line
+    → zero_step file i (beginning, unread n (line ∷ others)) ≡ zero_step file i (on_line n [] line, unread (next_number n) others)
+unfolding zero_step zero_at value_at
+step_begins file i n line others h = rw (line_begins n line others h) refl
+
+steps_begin : (file : List ℕ) (count n : ℕ) (others : List Line)
+    → counted (zero_step file) 0 (suc count) (beginning, unread n (replicate (suc count) (codes "0") ∷ others)) ≡ Ok (on_line n (codes "0") [], unread (next_number n) others)
+unfolding counted
+steps_begin file count n others =
+    let words = All-replicate (λ w. IsWord w) (suc count) (codes "0") zero_word in
+    rw (
+      step_begins file 0 n (replicate (suc count) (codes "0")) others words,
+      step_reads file 0 n [] (replicate count (codes "0")) (unread (next_number n) others),
+      steps_read file count (0 + 1) n (unread (next_number n) others),
+    ) refl
+
+zeros_by : (file : List ℕ) (count n : ℕ) (others : List Line) → 1 ≤ count → zero_list file count (unread n (replicate count (codes "0") ∷ others)) ≡ Ok (tt, unread (next_number n) others)
+unfolding zero_list
+zeros_by file zero n others some = absurd (omega arith)
+zeros_by file (suc count) n others some = rw (steps_begin file count n others) refl
+
+-- the anisotropy that says that HANI follows
+abbrev pub minus_one : Dec
+minus_one = record { neg = true; digits = 1; exp = pos 0 }
+
+abbrev minus_one_word : Dec → List ℕ
+minus_one_word d = codes "-1"
+
+minus_one_reads : number (codes "-1") ≡ Ok minus_one
+unfolding number canonical significant zeros
+minus_one_reads = refl
+
+minus_one_row : (count : ℕ) → row_line minus_one_word (replicate count minus_one) ≡ replicate count (codes "-1")
+unfolding row_line
+minus_one_row zero = refl
+minus_one_row (suc count) = ap (λ (ws : Line). codes "-1" ∷ ws) (minus_one_row count)
+
+minus_one_written : IsWrittenAs number minus_one_word minus_one
+minus_one_written = record { is_word = word_by_test (codes "-1") refl; reads = minus_one_reads }
+
+module _ (file : List ℕ) (m : FlowModel) (d : IsDiscretized m) (f : HasFlow m) where
+  zeros_read : (n : ℕ) (others : List Line) → zero_list file m.grid.layers (unread n (lpf_zeros m ∷ others)) ≡ Ok (tt, unread (next_number n) others)
+  unfolding lpf_zeros
+  zeros_read n others = zeros_by file m.grid.layers n others d.grid.size.layers.0
+
+  chani_read : (n : ℕ) (others : List Line) → free_list number file m.grid.layers (unread n (lpf_item_4 m ∷ others)) ≡ Ok (replicate m.grid.layers minus_one, unread (next_number n) others)
+  unfolding lpf_item_4 number_after
+  chani_read n others =
+      let xs = replicate m.grid.layers minus_one in
+      let count : length xs ≡ m.grid.layers = length-replicate m.grid.layers minus_one in
+      let some : 1 ≤ length xs = omega (arith, d.grid.size.layers.0) in
+      let read = (free_list_reads number minus_one_word file xs some (All-replicate (λ x. IsWrittenAs number minus_one_word x) m.grid.layers minus_one minus_one_written)).reads n others in
+      rw (count, minus_one_row m.grid.layers) at read
+
+  layvka_read : (n : ℕ) (others : List Line) → free_list integer file m.grid.layers (unread n (lpf_item_5 m ∷ others)) ≡ Ok (m.layvka, unread (next_number n) others)
+  unfolding lpf_item_5 number_after
+  layvka_read n others =
+      let some : 1 ≤ length m.layvka = omega (arith, f.layvka.0, d.grid.size.layers.0) in
+      rw f.layvka.0 at ((free_lists.integers file m.layvka some f.layvka.1).reads n others)
+
+  abbrev pub settings_lines : List Line → List Line
+  settings_lines others = lpf_zeros m ∷ lpf_zeros m ∷ lpf_item_4 m ∷ lpf_item_5 m ∷ lpf_zeros m ∷ others
+
+  abbrev pub settings_end : ℕ → ℕ
+  settings_end n = next_number (next_number (next_number (next_number (next_number n))))
+
+  -- items 2 to 6
+  pub settings_read : (n : ℕ) (others : List Line)
+      → settings_of file m.grid.layers (unread n (settings_lines others)) ≡ Ok (record { chani = replicate m.grid.layers minus_one; layvka = m.layvka }, unread (settings_end n) others)
+  unfolding settings_of
+  settings_read n others =
+      let n1 = next_number n in
+      let n2 = next_number n1 in
+      let n3 = next_number n2 in
+      let n4 = next_number n3 in
+      rw (
+        zeros_read n (lpf_zeros m ∷ lpf_item_4 m ∷ lpf_item_5 m ∷ lpf_zeros m ∷ others),
+        zeros_read n1 (lpf_item_4 m ∷ lpf_item_5 m ∷ lpf_zeros m ∷ others),
+        chani_read n2 (lpf_item_5 m ∷ lpf_zeros m ∷ others),
+        layvka_read n3 (lpf_zeros m ∷ others),
+        zeros_read n4 others,
+      ) refl
+
+  pub zeros_are_line : IsLine (lpf_zeros m)
+  unfolding lpf_zeros
+  zeros_are_line =
+      let few : length (replicate m.grid.layers (codes "0")) ≡ m.grid.layers = length-replicate m.grid.layers (codes "0") in
+      record { some = omega (arith, d.grid.size.layers.0); words = All-replicate (λ w. IsWord w) m.grid.layers (codes "0") zero_word }
+
+  pub chani_is_line : IsLine (lpf_item_4 m)
+  unfolding lpf_item_4
+  chani_is_line =
+      let few : length (replicate m.grid.layers (codes "-1")) ≡ m.grid.layers = length-replicate m.grid.layers (codes "-1") in
+      record { some = omega (arith, d.grid.size.layers.0); words = All-replicate (λ w. IsWord w) m.grid.layers (codes "-1") (word_by_test (codes "-1") refl) }
+
+  pub layvka_is_line : IsLine (lpf_item_5 m)
+  unfolding lpf_item_5
+  layvka_is_line = are_lines.integer_rows m.layvka (omega (arith, f.layvka.0, d.grid.size.layers.0)) f.layvka.1
+
+option_by : (b : Bool) → list_any (is_word (codes "STORAGECOEFFICIENT")) (storage_option b) ≡ b
+option_by true = refl
+option_by false = refl
+
+option_is_words : (b : Bool) → All (λ w. IsWord w) (storage_option b)
+option_is_words true = All-cons (λ w. IsWord w) (codes "STORAGECOEFFICIENT") [] (word_by_test (codes "STORAGECOEFFICIENT") refl) (All-nil (λ w. IsWord w))
+option_is_words false = All-nil (λ w. IsWord w)
+
+pub option_is_line : (m : FlowModel) → IsLine (lpf_item_1 m)
+unfolding lpf_item_1
+option_is_line m =
+    let front = (line_by_test (codes "0" ∷ codes "0" ∷ codes "0" ∷ []) refl).words in
+    record { some = omega arith; words = All-append (λ w. IsWord w) (codes "0" ∷ codes "0" ∷ codes "0" ∷ []) (storage_option m.coefficient) front (option_is_words m.coefficient) }
+
+-- item 1
+pub option_read : (file : List ℕ) (m : FlowModel) (n : ℕ) (others : List Line) → option_line file (unread n (lpf_item_1 m ∷ others)) ≡ Ok (m.coefficient, unread (next_number n) others)
+unfolding option_line lpf_item_1
+option_read file m n others =
+    let o = storage_option m.coefficient in
+    rw (
+      next_line file n (lpf_item_1 m) others,
+      line_words (lpf_item_1 m) (option_is_line m).words,
+      zero_item file n (codes "0" ∷ codes "0" ∷ o),
+      zero_number_item file n (codes "0" ∷ o),
+      zero_item file n o,
+      option_by m.coefficient,
+    ) refl

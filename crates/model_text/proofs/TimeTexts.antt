@@ -1,0 +1,95 @@
+-- DIS item 7 is read as written.
+use Rattle.model_text.proofs.Common.{◌≡◌, ℕ, ◌+◌, ◌*◌, ◌≤◌, ◌⊎◌, inl, inr, Bool, true, false, ◌||◌, List, [], ◌∷◌, length, map, nat_le, sum_by, fold, All, Ok}
+use Rattle.model_text.proofs.Common.{refl, arith, codes, decimal, All-nil, All-cons, All-head, All-tail, nat_tests, Dec, IsDec, size, Refusal, next_number}
+use Rattle.model_text.proofs.Common.{repeated, Period, IsTimed, IsGrowing, number_one, is_one, without_stresses, IsWord, number_word, Line, IsLine}
+use Rattle.model_text.proofs.Common.{number_after, unread, short_exponent, word_by_test, number_is_word, count_is_word, line_words, next_line, steady_word}
+use Rattle.model_text.proofs.Common.{dis_item_7}
+use Rattle.std.proofs.lemmas.List.Sums.{sum_by_from}
+use Rattle.decimal_input.specs.Ratios.{Ratio, ratio, den, AtMost}
+use Rattle.number_limits.specs.Magnitudes.{is_at_most, is_at_least}
+use Rattle.dis_package.specs.Times.{kind_of, known, is_growth, is_time, time_of, period_at, periods_of}
+use Rattle.dis_package.specs.declared.time.Time.{Time}
+use Rattle.model_text.proofs.CountTexts.{number_item, count_reads}
+use Rattle.model_text.proofs.GridTexts.{is_above}
+
+pub canonical_word : (d : Dec) → IsDec d → IsWord (number_word d)
+canonical_word d h = number_is_word d h.few (short_exponent d.exp h.above h.below)
+
+steady_is_word : (b : Bool) → IsWord (steady_word b)
+steady_is_word true = word_by_test (codes "SS") refl
+steady_is_word false = word_by_test (codes "TR") refl
+
+pub time_is_line : (p : Period) → IsTimed p → IsLine (dis_item_7 p)
+unfolding dis_item_7
+time_is_line p h =
+    let last = All-cons (λ w. IsWord w) (steady_word p.steady) [] (steady_is_word p.steady) (All-nil (λ w. IsWord w)) in
+    let third = All-cons (λ w. IsWord w) (number_word p.tsmult) (steady_word p.steady ∷ []) (canonical_word p.tsmult h.tsmult.decimal) last in
+    let second = All-cons (λ w. IsWord w) (decimal p.nstp) (number_word p.tsmult ∷ steady_word p.steady ∷ []) (count_is_word p.nstp (omega (arith, h.nstp.1))) third in
+    record {
+      some = omega arith;
+      words = All-cons (λ w. IsWord w) (number_word p.perlen) (decimal p.nstp ∷ number_word p.tsmult ∷ steady_word p.steady ∷ []) (canonical_word p.perlen h.perlen.decimal) second;
+    }
+
+abbrev time : Period → Time
+time p = record { perlen = p.perlen; nstp = p.nstp; tsmult = p.tsmult; steady = p.steady }
+
+steady_known : (b : Bool) (r : Refusal) → known (kind_of (steady_word b ∷ [])) r ≡ Ok b
+steady_known true r = refl
+steady_known false r = refl
+
+time_reads : (file : List ℕ) (line : ℕ) (p : Period) → IsTimed p → time_of file line (dis_item_7 p) ≡ Ok (time p)
+unfolding time_of dis_item_7
+time_reads file line p h =
+    let perlen = number_item file line p.perlen (decimal p.nstp ∷ number_word p.tsmult ∷ steady_word p.steady ∷ []) h.perlen.decimal in
+    let nstp = count_reads file line 100000 p.nstp (number_word p.tsmult ∷ steady_word p.steady ∷ []) h.nstp.0 h.nstp.1 (omega arith) in
+    let tsmult = number_item file line p.tsmult (steady_word p.steady ∷ []) h.tsmult.decimal in
+    rw (perlen, nstp, tsmult, steady_known p.steady _) refl
+
+or_true : (b : Bool) → (b || true) ≡ true
+or_true true = refl
+or_true false = refl
+
+at_most : (f : Ratio) → AtMost f (ratio 1000 1) → is_at_most 1000 f ≡ true
+unfolding is_at_most ratio
+at_most f h = let k : f.num ≤ 1000 * den f = omega (arith, h.cross) in grind (arith, nat_tests)
+
+at_least : (f : Ratio) → AtMost (ratio 1 1000) f → is_at_least 3 f ≡ true
+unfolding is_at_least ratio
+at_least f h = let k : den f ≤ f.num * 1000 = omega (arith, h.cross) in grind (arith, nat_tests)
+
+grows : (p : Period) → (p.tsmult ≡ number_one) ⊎ IsGrowing p → is_growth (time p) ≡ true
+grows p (inl same) = rw same refl
+grows p (inr g) =
+    let few : nat_le p.nstp 1000 ≡ true = grind (arith, nat_tests, g.few) in
+    rw (few, at_least (size p.tsmult) g.least, at_most (size p.tsmult) g.most) (or_true (is_one p.tsmult))
+
+time_passes : (p : Period) (b : Bool) → p.steady ≡ b → IsTimed p → is_time (time p) ≡ true
+time_passes p true e h = rw (e, h.perlen.sign, is_above p.tsmult h.tsmult) refl
+time_passes p false e h = rw (e, is_above p.perlen (h.lasts e), is_above p.tsmult h.tsmult) (grows p (h.growth e))
+
+period_reads : (file : List ℕ) (steps n : ℕ) (p : Period) (others : List Line) → IsTimed p → steps + p.nstp ≤ 100000
+    → period_at file (steps, unread n (dis_item_7 p ∷ others)) ≡ Ok (without_stresses p, (steps + p.nstp, unread (next_number n) others))
+unfolding period_at
+period_reads file steps n p others h room =
+    let few : nat_le (steps + p.nstp) 100000 ≡ true = grind (arith, nat_tests) in
+    rw (next_line file n (dis_item_7 p) others, line_words (dis_item_7 p) (time_is_line p h).words, time_reads file n p h, time_passes p p.steady refl h, few) refl
+
+-- the steps so far, and those of these periods
+abbrev steps_after : ℕ → List Period → ℕ
+steps_after steps ps = fold (λ a p. a + p.nstp) steps ps
+
+periods_repeat : (file : List ℕ) (steps n : ℕ) (ps : List Period) → All (λ p. IsTimed p) ps → steps_after steps ps ≤ 100000
+    → repeated (length ps) (period_at file) (steps, unread n (map dis_item_7 ps)) ≡ Ok (map without_stresses ps, (steps_after steps ps, unread (number_after n (map dis_item_7 ps)) []))
+unfolding repeated number_after
+periods_repeat file steps n [] h room = refl
+periods_repeat file steps n (p ∷ ps) h room =
+    let one : IsTimed p = All-head (λ q. IsTimed q) p ps h in
+    let low : steps + p.nstp ≤ 100000 = omega (arith, room, sum_by_from (λ q. q.nstp) (steps + p.nstp) ps) in
+    let rest = periods_repeat file (steps + p.nstp) (next_number n) ps (All-tail (λ q. IsTimed q) p ps h) room in
+    rw (period_reads file steps n p (map dis_item_7 ps) one low, rest) refl
+
+-- item 7 of each stress period
+pub periods_read : (file : List ℕ) (n : ℕ) (ps : List Period) → All (λ p. IsTimed p) ps → sum_by (λ p. p.nstp) ps ≤ 100000
+    → periods_of file (length ps) (unread n (map dis_item_7 ps)) ≡ Ok (map without_stresses ps)
+unfolding periods_of
+periods_read file n ps h room = rw (periods_repeat file 0 n ps h room) refl

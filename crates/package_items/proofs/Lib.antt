@@ -1,3 +1,0 @@
-mod Common
-mod ZeroLemmas
-pub mod Forward

@@ -1,7 +1,0 @@
--- Names that several proofs of this crate cite, of the crates below and of its own definitions, passed on from one place. Declares nothing.
-pub use Rattle.std.proofs.Common.{All, Err, IfOk, List, Ok, Result, ap, arith, map, pos, refl, subst, sym, ℤ, ◌≡◌, ◌≤ℤ◌}
-pub use Rattle.model_types.specs.declared.model.FlowModel.{FlowModel}
-pub use Rattle.model_types.specs.declared.period.Period.{Period}
-pub use Rattle.period_arrays.specs.Kinds.{contents, without}
-pub use Rattle.rch_package.specs.Forms.{AreArrays, HasRecharge, IsRecharged, SameBut}
-pub use Rattle.rch_package.specs.Recharge.{recharge_arrays}

@@ -1,2 +1,0 @@
-pub mod Recharge
-pub mod Forms

@@ -1,0 +1,108 @@
+// A model with its recharge.
+ghost use Rattle.std.specs.Prelude.{IfOk, List};
+ghost use Rattle.outside.specs.Asking.{TextMay};
+ghost use Rattle.outside.specs.Files.{FileSet};
+ghost use Rattle.outside.specs.Folders.{ReadsOn};
+ghost use Rattle.record_lines.specs.Reading.{Has};
+ghost use Rattle.model_types.specs.Grids.{HasSize};
+ghost use Rattle.model_types.specs.Receivers.{is_int};
+ghost use Rattle.model_types.specs.Valid.{IsModel};
+ghost use Rattle.stress_packages.specs.Forms.{AreArrays, IsRecharged, SameBut};
+ghost use Rattle.stress_packages.specs.Recharge.{rch_of, recharge_arrays};
+
+use model_types::{FlowModel, Grid, Stresses};
+use outside::{Folder, InputFault, TextFault};
+use period_arrays::{Area, ArrayPackage, read_arrays};
+use std::alloc::Global;
+
+/// The package RCH.
+pub struct Recharge;
+
+impl ArrayPackage for Recharge {
+    ghost kind = { recharge_arrays };
+
+    ghost HasArrays = { λ file grid ibound option s. AreArrays (is_int option 2) grid s };
+
+    fn evaporates() -> bool {
+        false
+    }
+
+    fn test(
+        alloc: Global,
+        file: &str,
+        grid: &Grid,
+        ibound: &[i64],
+        option: &i64,
+        area: &Area,
+    ) -> Result<(), TextFault> {
+        Ok(())
+    }
+
+    #[tactic(auto, using(crate::proofs::ArrayLemmas::are_arrays))]
+    fn put(stresses: Stresses, area: Area) -> Stresses {
+        Stresses {
+            recharge: area.rates,
+            irch: area.layers,
+            ..stresses
+        }
+    }
+}
+
+/// The model with the arrays of its periods.
+#[tactic(auto, unfolding(crate::specs::Recharge::rch_of), using(crate::proofs::ArrayLemmas::is_recharged))]
+fn with_recharge<F: Folder>(
+    alloc: Global,
+    file: &str,
+    bytes: &[u8],
+    folder: &mut F,
+    model: FlowModel,
+) -> Result<FlowModel, InputFault>
+    requires size { HasSize model.grid }
+    requires text { TextMay (F.may folder.old) bytes.now }
+    ensures folder { ReadsOn F.Folder folder.old folder.new result }
+    ensures model { (files : FileSet) → F.agrees folder.new files → Has (λ m. m) result (rch_of files file.now bytes.now model) }
+    ensures form { IfOk result IsRecharged }
+    ensures others { IfOk result (SameBut model) }
+{
+    let periods = model.periods.into_vec();
+    let recharge = read_arrays::<Recharge, F>(
+        alloc,
+        file,
+        bytes,
+        folder,
+        &model.grid,
+        model.ibound.as_slice(),
+        periods,
+    )?;
+    Ok(FlowModel {
+        nrchop: recharge.option,
+        periods: recharge.periods,
+        ..model
+    })
+}
+
+/// The model with the recharge of a file of the package RCH: the option NRCHOP, and in each stress period the rates and,
+/// under option 2, the layers. `file` is the file's name, for refusals, and `folder` has the files that its arrays
+/// name. An array that a period reuses is shared, so it is in memory once.
+///
+/// # Errors
+/// The first item that is wrong is refused on its line: OutOfProfile for parameters and for another option,
+/// NothingToReuse where there is no array to reuse; CellOutside, with line 0 and the cell, for a layer that the grid
+/// lacks. A read fault comes only from the folder. (TM 6-A16, RCH)
+pub fn read_rch<F: Folder>(
+    alloc: Global,
+    file: &str,
+    bytes: &[u8],
+    folder: &mut F,
+    model: FlowModel,
+) -> Result<FlowModel, InputFault>
+    requires size { HasSize model.grid }
+    requires text { TextMay (F.may folder.old) bytes.now }
+    ensures folder { ReadsOn F.Folder folder.old folder.new result }
+    ensures model { (files : FileSet) → F.agrees folder.new files → Has (λ m. m) result (rch_of files file.now bytes.now model) }
+    ensures form { IfOk result IsRecharged }
+    ensures others { IfOk result (SameBut model) }
+    ensures valid { IsModel model → IfOk result IsModel }
+{
+    with_recharge(alloc, file, bytes, folder, model)
+}

@@ -1,3 +1,0 @@
-pub mod Lists
-pub mod Entries
-pub mod Laws
