@@ -4,10 +4,9 @@ use Rattle.problem_or_refusal.proofs.Common.{subst, arith, ℤ, pos, neg_ℤ, �
 use Rattle.problem_or_refusal.proofs.Common.{FlowModel, TimeStep, cell_count, place_in_layer, is_variable, is_constant, index_of, dec_at, is_active, period_at}
 use Rattle.problem_or_refusal.proofs.Common.{IsModel, IsEvapValid, face_term, storage_term, recharge_term, evap_term, Lower, Upper, ceiling-passes}
 use Rattle.problem_or_refusal.proofs.Common.{floor-ceiling, IsRiver, IsDrain, IsEvap, IsFlow, IsLink, IsFixed, IsCellOf, IsTimeOf, Thicknesses, AreThicknesses}
-use Rattle.problem_or_refusal.proofs.Common.{pair_of, capped_of}
+use Rattle.problem_or_refusal.proofs.Common.{AtMost-trans, value, IsCapped, low_end, high_end, bound_on}
+use Rattle.problem_or_refusal.proofs.Pairs.{pair_of, capped_of}
 use Rattle.std.proofs.lemmas.Option.{none-some}
-use Rattle.decimal_input.proofs.Orders.{AtMost-trans}
-use Rattle.scaled_decimal.specs.Nearest.{value}
 use Rattle.step_problem.specs.declared.entry.Flow.{Flow}
 use Rattle.step_problem.specs.declared.entry.Link.{Link}
 use Rattle.step_problem.specs.declared.entry.Fixed.{Fixed}
@@ -23,13 +22,11 @@ use Rattle.model_types.specs.Sources.FixedSource.{ToConstant, ToGeneral, FromSto
 use Rattle.model_types.specs.Sources.FlowSource.{Pumped, Received}
 use Rattle.model_types.proofs.Leads.{IsFaceOf, passing_are}
 use Rattle.model_types.proofs.Members.{In, In-All}
-use Rattle.conductance_bounds.specs.Pairs.{IsCapped, low_end, high_end}
-use Rattle.conductance_bounds.proofs.Enclosing.{bound_on}
 use Rattle.problem_builder.specs.RechargeBounds.{IsRechargePair}
 use Rattle.problem_builder.proofs.ActiveCells.{variable_active, constant_active}
 use Rattle.problem_builder.proofs.ChosenRates.{rate_valid}
 use Rattle.problem_builder.proofs.FacePairs.{face_range, face_active}
-use Rattle.problem_builder.proofs.Members.{recharge_is, constant_is, storage_is, some_same}
+use Rattle.problem_builder.proofs.Members.{flow_source, fixed_source, some_same}
 use Rattle.problem_or_refusal.proofs.ConstantHeads.{constant_pair}
 use Rattle.problem_or_refusal.proofs.Formulas.{recharge_bounded, evap_bounded, face_bounded, storage_bounded}
 use Rattle.problem_or_refusal.proofs.Rounded.{head_pair, cond_pair, well_pair}
@@ -83,7 +80,7 @@ module _ (m : FlowModel) (w : Thicknesses) (s : ℕ) (at : TimeStep) (old : List
 
   a_fixed : (y : FixedSource) → In (fixed_sources m at.period c) y → (x : Fixed) × IsFixed m w s at old c x y
   a_fixed (ToConstant f) i =
-      let (g, k) = passing_are m.grid (is_constant m at.period) c f (constant_is m at.period c f i) in
+      let (g, k) = passing_are m.grid (is_constant m at.period) c f (fixed_source m at.period c (ToConstant f) i) in
       let (lo, hi, is) = face_pair f g (constant_active m at.period f.end k) in
       let (low, high, head) = constant_pair m at f.end time.valid.times in
       (record { kind = Constant; source = f.end; lo = lo; hi = hi; head_lo = low; head_hi = high }, record { kind = refl; source = refl; conductance = is; head = head })
@@ -92,7 +89,7 @@ module _ (m : FlowModel) (w : Thicknesses) (s : ℕ) (at : TimeStep) (old : List
       let (low, high, heads) = head_pair head in
       (record { kind = General; source = c; lo = lo; hi = hi; head_lo = low; head_hi = high }, record { kind = refl; source = refl; cond = is; head_pair = heads })
   a_fixed FromStorage i =
-      let (lo, hi, is) = capped_of (storage_term m w.thick (period_at m at.period) at.step c) (storage_bounded m valid w spans (period_at m at.period) at.step c time.valid.times (storage_is m at.period c i) lt here) s in
+      let (lo, hi, is) = capped_of (storage_term m w.thick (period_at m at.period) at.step c) (storage_bounded m valid w spans (period_at m at.period) at.step c time.valid.times (fixed_source m at.period c FromStorage i) lt here) s in
       (record { kind = Storage; source = c; lo = lo; hi = hi; head_lo = lower_at old c; head_hi = upper_at old c }, record { kind = refl; source = refl; conductance = is; low = refl; high = refl })
 
   -- the rate of recharge is a number of the input
@@ -106,7 +103,7 @@ module _ (m : FlowModel) (w : Thicknesses) (s : ℕ) (at : TimeStep) (old : List
   a_flow : (y : FlowSource) → In (flow_sources m at.period c) y → (x : Flow) × IsFlow m s c x y
   a_flow (Pumped q) i = let (lo, hi, is) = well_pair s q in (record { kind = Wells; lo = lo; hi = hi }, record { kind = refl; flow = is })
   a_flow (Received rate) i =
-      let (lo, hi, is) = recharge_pair m s c rate valid (rate_is rate (recharge_is m at.period c rate i)) in
+      let (lo, hi, is) = recharge_pair m s c rate valid (rate_is rate (flow_source m at.period c (Received rate) i)) in
       (record { kind = Recharge; lo = lo; hi = hi }, record { kind = refl; flow = is })
 
   a_river : (y : RiverSource) → In (river_sources m at.period c) y → (x : River) × IsRiver s x y

@@ -4,13 +4,11 @@ use Rattle.problem_or_refusal.proofs.Common.{cases_Bool, false≢true, Dec, IsDe
 use Rattle.problem_or_refusal.proofs.Common.{row_of, no_number, dec_at, delr_at, delc_at, hk_at, hani_at, vka_at, vkcb_at, is_ratio, is_active, has_bed, top_at}
 use Rattle.problem_or_refusal.proofs.Common.{bottom_at, bed_thickness, IsPositive, multiplier, IsModel, IsTimed, number_one, Number, face_term, storage_term}
 use Rattle.problem_or_refusal.proofs.Common.{recharge_term, evap_term, thick_term, column_k_term, vertical_k_at, vertical_half_term, bed_term, part_term}
-use Rattle.problem_or_refusal.proofs.Common.{unity_positive, Thicknesses, AreThicknesses, HasPositiveBounds, IsBounded}
-use Rattle.std.proofs.lemmas.Nat.{mod_below}
+use Rattle.problem_or_refusal.proofs.Common.{unity_positive, Thicknesses, AreThicknesses, HasPositiveBounds, IsBounded, mod_below, Term}
 use Rattle.model_types.specs.declared.face.Axis.{Axis}
 use Rattle.model_types.specs.declared.face.Axis.TheVariants.{Row, Column, Vertical}
 use Rattle.model_types.specs.Conductances.{one}
 use Rattle.model_types.specs.Faces.{stride}
-use Rattle.conductance_bounds.specs.Terms.{Term}
 use Rattle.conductance_bounds.specs.Growth.{sum_term, power_term}
 use Rattle.conductance_bounds.specs.Branches.{half_term, row_term, vertical_k_term, vertical_term, resistance_sum, storativity_term}
 use Rattle.conductance_bounds.proofs.Positive.{size_positive}

@@ -1,4 +1,7 @@
 mod Common
+pub mod Roundings
+pub mod TermBounds
+pub mod Pairs
 pub mod Rounded
 pub mod Spans
 pub mod Formulas

@@ -1,12 +1,11 @@
 -- Numbers of the input have whole bounds, and are decimals of 18 digits.
 use Rattle.problem_or_refusal.proofs.Common.{◌≡◌, ℕ, zero, suc, ◌+◌, ◌-◌, ◌*◌, ◌/◌, ◌≤◌, ◌<◌, ◌^◌, inl, inr, refl, subst, arith, ℤ, pos, negsuc, neg_ℤ, ◌+ℤ◌}
 use Rattle.problem_or_refusal.proofs.Common.{◌-ℤ◌, ◌*ℤ◌, ◌≤ℤ◌, ◌<ℤ◌, unsigned_abs, cases_lt, cases_Bool, Dec, IsDec, size, number, scaled, Same, scaled_shift}
-use Rattle.problem_or_refusal.proofs.Common.{IsFloorOf, IsCeilingOf, Number, has_ceiling, ceiling-passes, IsBounded, floor_of}
-use Rattle.std.proofs.Math.Nat.{pow-suc, lt-mul-div-succ, div-mul-le_self}
+use Rattle.problem_or_refusal.proofs.Common.{IsFloorOf, IsCeilingOf, Number, has_ceiling, ceiling-passes, IsBounded, pow-suc, lt-mul-div-succ, div-mul-le_self}
+use Rattle.problem_or_refusal.proofs.Common.{IsSignedFloor, IsSignedCeiling, nothing_same}
+use Rattle.problem_or_refusal.proofs.Pairs.{floor_of}
 use Rattle.std.proofs.lemmas.Int.{ints}
-use Rattle.decimal_input.specs.Wholes.{IsSignedFloor, IsSignedCeiling}
 use Rattle.decimal_input.proofs.SignedFloors.{floor_of_floor, floor_of_ceiling, ceiling_of_ceiling, ceiling_of_floor}
-use Rattle.scaled_decimal.proofs.Products.{nothing_same}
 use Rattle.problem_builder.specs.InputBounds.{IsCond, IsWellPair, IsHeadPair}
 
 pub signed_floor : (d : Dec) (s : ℕ) → (z : ℤ) × IsSignedFloor z (number d) s

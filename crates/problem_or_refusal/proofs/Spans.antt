@@ -4,8 +4,8 @@ use Rattle.problem_or_refusal.proofs.Common.{bottom_at, lowest, IsThick, Lower, 
 use Rattle.conductance_bounds.specs.declared.span.Span.{Span}
 use Rattle.conductance_bounds.specs.Thicknesses.{IsSpan}
 use Rattle.conductance_bounds.proofs.ThickBounds.{edges_room}
-use Rattle.bounds_exist.proofs.Roundings.{down_of, up_of}
-use Rattle.bounds_exist.proofs.TermBounds.{rounded_positive}
+use Rattle.problem_or_refusal.proofs.Roundings.{down_of, up_of}
+use Rattle.problem_or_refusal.proofs.TermBounds.{rounded_positive}
 use Rattle.problem_or_refusal.proofs.Rounded.{signed_floor, signed_ceiling}
 
 pub span_of : (top bottom : Dec) → (t : Span) × IsSpan top bottom t

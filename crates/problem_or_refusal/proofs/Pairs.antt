@@ -1,13 +1,9 @@
 -- Each formula that has both bounds has both whole bounds.
-use Rattle.bounds_exist.proofs.Common.{ℕ, ◌+◌, ◌*◌, ◌-◌, ◌/◌, ◌<◌, ◌^◌, inl, inr, refl, arith, lt-mul-div-succ, div-mul-le_self, cases_lt, Ratio, den, value}
-use Rattle.bounds_exist.proofs.Common.{Term, Lower, Upper, IsBounded}
-use Rattle.decimal_input.specs.Wholes.{IsFloor}
-use Rattle.conductance_bounds.specs.Pairs.{IsPair, IsCapped}
-use Rattle.conductance_bounds.proofs.PartBounds.{has_ceiling}
-use Rattle.conductance_bounds.proofs.Whole.{ceiling-passes}
-use Rattle.bounds_exist.specs.Laws.{RoundingsExist, BoundsExist, PairsExist}
-use Rattle.bounds_exist.proofs.Roundings.{down_of, up_of}
-use Rattle.bounds_exist.proofs.TermBounds.{bound_of}
+use Rattle.problem_or_refusal.proofs.Common.{ℕ, ◌+◌, ◌*◌, ◌-◌, ◌/◌, ◌<◌, ◌^◌, inl, inr, refl, arith, lt-mul-div-succ, div-mul-le_self, cases_lt, Ratio, den}
+use Rattle.problem_or_refusal.proofs.Common.{value, Term, Lower, Upper, IsBounded, IsFloor, IsPair, IsCapped, has_ceiling, ceiling-passes, RoundingsExist}
+use Rattle.problem_or_refusal.proofs.Common.{BoundsExist, PairsExist}
+use Rattle.problem_or_refusal.proofs.Roundings.{down_of, up_of}
+use Rattle.problem_or_refusal.proofs.TermBounds.{bound_of}
 
 pub floor_of : (f : Ratio) (s : ℕ) → (n : ℕ) × IsFloor n f s
 floor_of f s = (

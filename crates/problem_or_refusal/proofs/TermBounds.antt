@@ -1,11 +1,8 @@
 -- Each formula of decimals whose divisors are above 0 has both bounds.
-use Rattle.bounds_exist.proofs.Common.{ℕ, zero, suc, ◌+◌, ◌*◌, ◌≤◌, ◌<◌, ◌^◌, inl, inr, refl, sym, subst, arith, mul-pos, Ratio, den, plus, times, over, AtMost}
-use Rattle.bounds_exist.proofs.Common.{num_scaled, Sd, value, Term, Side, other, end, IsRounded, IsBound, Lower, Upper, HasPositiveBounds, IsBounded}
-use Rattle.decimal_input.specs.Decimals.{up}
-use Rattle.decimal_input.proofs.Orders.{Same-back, num_plus, num_times, num_over}
-use Rattle.conductance_bounds.specs.Terms.Term.{Number, Within, Sum, Product, Quotient}
-use Rattle.conductance_bounds.proofs.Enclosing.{positive_value}
-use Rattle.bounds_exist.proofs.Roundings.{down_of, up_of, down_positive}
+use Rattle.problem_or_refusal.proofs.Common.{ℕ, zero, suc, ◌+◌, ◌*◌, ◌≤◌, ◌<◌, ◌^◌, ◌⊎◌, inl, inr, refl, sym, subst, arith, mul-pos, Ratio, den, plus, times}
+use Rattle.problem_or_refusal.proofs.Common.{over, AtMost, num_scaled, Sd, value, Term, Side, other, end, IsRounded, IsBound, Lower, Upper, HasPositiveBounds}
+use Rattle.problem_or_refusal.proofs.Common.{IsBounded, up, Same-back, num_plus, num_times, num_over, Number, Within, Sum, Product, Quotient, positive_value}
+use Rattle.problem_or_refusal.proofs.Roundings.{down_of, up_of, down_positive}
 
 more_positive : (f g : Ratio) → AtMost f g → 0 < f.num → 0 < g.num
 more_positive f g le some = step f.num (den g) g.num (den f) some (omega arith) le.cross
@@ -28,17 +25,12 @@ rounded_positive Lower r f is some =
     decimal_positive r (more_positive (value x) (value r) (is.greatest x x_is.decimal x_is.at_most) (positive_value x x_some))
 rounded_positive Upper r f is some = decimal_positive r (more_positive f (value r) is.at_least some)
 
-plus_positive : (a b : Sd) → (0 < a.m) → 0 < (plus (value a) (value b)).num
-plus_positive a b h = rw num_plus (first (value a).num (den (value b)) (value b).num (den (value a)) (positive_value a h) (omega arith))
+plus_positive : (a b : Sd) → (0 < a.m) ⊎ (0 < b.m) → 0 < (plus (value a) (value b)).num
+plus_positive a b some = rw num_plus (either (value a).num (den (value b)) (value b).num (den (value a)) (omega arith) (omega arith) (elim some [ inl h ↦ inl (positive_value a h) | inr h ↦ inr (positive_value b h) ]))
   where
-    first : (x y z w : ℕ) → 0 < x → 0 < y → 0 < x * y + z * w
-    first x y z w h k = omega (arith, mul-pos h k)
-
-plus_positive_too : (a b : Sd) → (0 < b.m) → 0 < (plus (value a) (value b)).num
-plus_positive_too a b h = rw num_plus (second (value a).num (den (value b)) (value b).num (den (value a)) (positive_value b h) (omega arith))
-  where
-    second : (x y z w : ℕ) → 0 < z → 0 < w → 0 < x * y + z * w
-    second x y z w h k = omega (arith, mul-pos h k)
+    either : (x y z w : ℕ) → 0 < y → 0 < w → (0 < x) ⊎ (0 < z) → 0 < x * y + z * w
+    either x y z w k l (inl h) = omega (arith, mul-pos h k)
+    either x y z w k l (inr h) = omega (arith, mul-pos h l)
 
 times_positive : (a b : Sd) → 0 < a.m → 0 < b.m → 0 < (times (value a) (value b)).num
 times_positive a b h k = rw num_times (mul-pos (positive_value a h) (positive_value b k))
@@ -50,8 +42,8 @@ bound_positive : (t : Term) → HasPositiveBounds t → (side : Side) (r : Sd) �
 bound_positive (Number f) some side r is = decimal_positive r (more_positive f (value r) (Same-back is.1) some)
 bound_positive (Within lo hi f) some Lower r is = subst (λ (x : Sd). 0 < x.m) (sym is) some.0
 bound_positive (Within lo hi f) some Upper r is = subst (λ (x : Sd). 0 < x.m) (sym is) some.1
-bound_positive (Sum t u) (inl some) side r (a, b, ta, ub, is) = rounded_positive side r (plus (value a) (value b)) is (plus_positive a b (bound_positive t some side a ta))
-bound_positive (Sum t u) (inr some) side r (a, b, ta, ub, is) = rounded_positive side r (plus (value a) (value b)) is (plus_positive_too a b (bound_positive u some side b ub))
+bound_positive (Sum t u) (inl some) side r (a, b, ta, ub, is) = rounded_positive side r (plus (value a) (value b)) is (plus_positive a b (inl (bound_positive t some side a ta)))
+bound_positive (Sum t u) (inr some) side r (a, b, ta, ub, is) = rounded_positive side r (plus (value a) (value b)) is (plus_positive a b (inr (bound_positive u some side b ub)))
 bound_positive (Product t u) some side r (a, b, ta, ub, is) = rounded_positive side r (times (value a) (value b)) is (times_positive a b (bound_positive t some.0 side a ta) (bound_positive u some.1 side b ub))
 bound_positive (Quotient t u) some side r (a, b, ta, ub, divisor, is) = rounded_positive side r (over (value a) (value b)) is (over_positive a b (bound_positive t some side a ta))
 

@@ -1,4 +1,0 @@
-mod Common
-pub mod Roundings
-pub mod TermBounds
-pub mod Pairs
