@@ -52,11 +52,6 @@ pub least_below : (lo hi c : ℕ) (d : ℤ) → lo ≤ c → c ≤ hi → least 
 least_below lo hi c (pos n) p q = let h : lo * n ≤ c * n = mul-le-mul_right n p in omega (arith, ints)
 least_below lo hi c (negsuc n) p q = let h : c * suc n ≤ hi * suc n = mul-le-mul_right (suc n) q in omega (arith, ints)
 
--- and the greatest is at least that
-pub most_above : (lo hi c : ℕ) (d : ℤ) → lo ≤ c → c ≤ hi → (pos c *ℤ d) ≤ℤ most lo hi d
-most_above lo hi c (pos n) p q = let h : c * n ≤ hi * n = mul-le-mul_right n q in omega (arith, ints)
-most_above lo hi c (negsuc n) p q = let h : lo * suc n ≤ c * suc n = mul-le-mul_right (suc n) p in omega (arith, ints)
-
 -- the same where conductances stand over a denominator m and heads over n
 pub least_times : (lo hi c m n : ℕ) (d : ℤ) → lo * m ≤ c → c ≤ hi * m → (least lo hi d *ℤ pos (m * n)) ≤ℤ (pos c *ℤ (d *ℤ pos n))
 least_times lo hi c m n d p q =

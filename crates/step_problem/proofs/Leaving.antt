@@ -1,7 +1,7 @@
 -- Settled heads that have left a barrier inside another one are the first settled ones past the other.
-use Rattle.step_problem.proofs.Common.{◌≡◌, ℕ, zero, suc, ◌*◌, ◌<◌, ◌⊎◌, inl, inr, ⊎_elim, arith, ℤ, pos, neg_ℤ, ◌+ℤ◌, ◌-ℤ◌, ◌≤ℤ◌, ◌<ℤ◌, List, length, ints}
-use Rattle.step_problem.proofs.Common.{clamps, by_lt_z, Entries, IsHead, IsProblem, head_limit, AsTight, AreHeads, IsSettled, IsFirstSettled, Ge, CanRise}
-use Rattle.step_problem.proofs.Common.{CanSink, head_at, IsInside, HaveLeft, LeavingSettles}
+use Rattle.step_problem.proofs.Common.{ℕ, zero, suc, ◌*◌, ◌<◌, ◌⊎◌, inl, inr, ⊎_elim, arith, ℤ, ◌≤ℤ◌, ◌<ℤ◌, List, length, ints, clamps, by_lt_z, Entries}
+use Rattle.step_problem.proofs.Common.{IsHead, IsProblem, head_limit, AsTight, AreHeads, IsSettled, IsFirstSettled, Ge, CanRise, CanSink, head_at}
+use Rattle.step_problem.proofs.Common.{LeavingSettles}
 use Rattle.step_problem.proofs.Sides.{IsSide, as_tight_trans}
 use Rattle.step_problem.proofs.BothSides.{low_side, high_side}
 use Rattle.step_problem.proofs.Shifts.{raised, sunk, raised_settled, sunk_settled}

@@ -6,7 +6,7 @@ use Rattle.std.specs.declared.alloc.Global.{Global}
 use Rattle.step_problem.specs.declared.heads.Bound.{Bound}
 use Rattle.step_problem.specs.declared.heads.SettleFault.{SettleFault}
 use Rattle.step_problem.specs.declared.heads.SettleFault.TheVariants.{Unfinished, Memory}
-use Rattle.step_problem.specs.Settling.{PairKind, AreCertified, AreInside, AreSettled, IsGiven, IsPairOf, Gives}
+use Rattle.step_problem.specs.Settling.{PairKind, AreCertified, AreSettled, IsGiven, IsPairOf, Gives}
 use Rattle.step_problem.specs.Settling.PairKind.{settled, certified}
 use Rattle.step_problem.proofs.BothSettle.{pair_certifies}
 

@@ -22,15 +22,6 @@ diff_neg p q = omega (arith, ints, diff_is)
 pub same_diff : (p q r s : ℕ) → p + s ≡ r + q → diff p q ≡ diff r s
 same_diff p q r s e = omega (arith, ints, diff_is)
 
-pub diff_same : (p q r s : ℕ) → diff p q ≡ diff r s → p + s ≡ r + q
-diff_same p q r s e = omega (arith, ints, diff_is)
-
-pub diff_le : (p q r s : ℕ) → p + s ≤ r + q → diff p q ≤ℤ diff r s
-diff_le p q r s e = omega (arith, ints, diff_is)
-
-pub le_diff : (p q r s : ℕ) → diff p q ≤ℤ diff r s → p + s ≤ r + q
-le_diff p q r s e = omega (arith, ints, diff_is)
-
 spread : (z : ℤ) (p q : ℕ) → z ≡ diff p q → (k : ℕ) × (p ≡ up z + k) × (q ≡ down z + k)
 spread (pos n) p q e = (q, omega (arith, ints, diff_is), omega arith)
 spread (negsuc n) p q e = (p, omega arith, omega (arith, ints, diff_is))

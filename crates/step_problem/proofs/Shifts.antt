@@ -1,35 +1,17 @@
 -- A shift of all heads by so many units: balances get no better, so settled heads stay settled.
-use Rattle.step_problem.proofs.Common.{◌≡◌, ℕ, ◌<◌, ◌⊎◌, inl, inr, ⊎_elim, arith, ℤ, pos, negsuc, neg_ℤ, ◌+ℤ◌, ◌-ℤ◌, ◌≤ℤ◌, ◌<ℤ◌, List, length, ints, clamps}
-use Rattle.step_problem.proofs.Common.{by_lt_z, All, int_min, int_max, All-weaker, Link, Entries, entries_at, total, link_low, fixed_low, river_low, drain_low}
-use Rattle.step_problem.proofs.Common.{evap_low, link_high, fixed_high, river_high, drain_high, evap_high, IsHead, IsProblem, head_limit, AreHeads, IsSettled}
-use Rattle.step_problem.proofs.Common.{Ge, CanRise, CanSink, LowerShifts, UpperShifts}
-use Rattle.step_problem.proofs.Leasts.{least_rises, most_rises}
-use Rattle.step_problem.proofs.Falls.{total_mono, total_mono_all, loss_falls, six}
+use Rattle.step_problem.proofs.Common.{ℕ, ◌<◌, arith, ℤ, pos, neg_ℤ, ◌+ℤ◌, ◌-ℤ◌, ◌≤ℤ◌, ◌<ℤ◌, List, length, ints, clamps, by_lt_z, int_min, int_max, All-weaker}
+use Rattle.step_problem.proofs.Common.{Link, Entries, entries_at, IsHead, IsProblem, head_limit, AreHeads, IsSettled, Ge, CanRise, CanSink, LowerShifts}
+use Rattle.step_problem.proofs.Common.{UpperShifts}
+use Rattle.step_problem.proofs.Falls.{lower_moves, upper_moves}
 use Rattle.step_problem.proofs.BothSides.{le_trans, at_ends}
 
-ends_up : (g h k v w : ℤ) → (w +ℤ k) ≤ℤ v → g ≤ℤ (h +ℤ k) → (g -ℤ v) ≤ℤ (h -ℤ w)
-ends_up g h k v w a b = omega (arith, ints)
-
 pub lower_shifts : LowerShifts
-lower_shifts c k v w h g up ends = let le : w ≤ℤ v = omega (arith, ints) in
-    six (total (λ x. x.lo) c.flows) _ _ _ _ _ _ _ _ _ _
-    (total_mono_all (link_low g v) (link_low h w) c.links (All-weaker (λ (x : Link). g x.cell ≤ℤ (h x.cell +ℤ pos k)) (λ (x : Link). link_low g v x ≤ℤ link_low h w x) (λ x i. least_rises x.lo x.hi _ _ (ends_up (g x.cell) (h x.cell) (pos k) v w up i)) c.links ends))
-    (total_mono (fixed_low v) (fixed_low w) c.fixed (λ x. least_rises x.lo x.hi _ _ (omega (arith, ints))))
-    (total_mono (river_low v) (river_low w) c.rivers (λ x. least_rises x.lo x.hi _ _ (omega (arith, ints, clamps))))
-    (total_mono (drain_low v) (drain_low w) c.drains (λ x. loss_falls x.hi _ _ (omega (arith, ints, clamps))))
-    (total_mono (evap_low v) (evap_low w) c.evaps (λ x. loss_falls x.hi _ _ (omega (arith, ints, clamps))))
-
-ends_down : (g h k v w : ℤ) → v ≤ℤ (w -ℤ k) → (h -ℤ k) ≤ℤ g → (h -ℤ w) ≤ℤ (g -ℤ v)
-ends_down g h k v w a b = omega (arith, ints)
+lower_shifts c k v w h g up ends =
+    lower_moves c v w g h (omega (arith, ints)) (All-weaker (λ (x : Link). g x.cell ≤ℤ (h x.cell +ℤ pos k)) (λ (x : Link). (g x.cell -ℤ v) ≤ℤ (h x.cell -ℤ w)) (λ x i. omega (arith, ints, i)) c.links ends)
 
 pub upper_shifts : UpperShifts
-upper_shifts c k v w h g down ends = let le : v ≤ℤ w = omega (arith, ints) in
-    six (total (λ x. x.hi) c.flows) _ _ _ _ _ _ _ _ _ _
-    (total_mono_all (link_high h w) (link_high g v) c.links (All-weaker (λ (x : Link). (h x.cell -ℤ pos k) ≤ℤ g x.cell) (λ (x : Link). link_high h w x ≤ℤ link_high g v x) (λ x i. most_rises x.lo x.hi _ _ (ends_down (g x.cell) (h x.cell) (pos k) v w down i)) c.links ends))
-    (total_mono (fixed_high w) (fixed_high v) c.fixed (λ x. most_rises x.lo x.hi _ _ (omega (arith, ints))))
-    (total_mono (river_high w) (river_high v) c.rivers (λ x. most_rises x.lo x.hi _ _ (omega (arith, ints, clamps))))
-    (total_mono (drain_high w) (drain_high v) c.drains (λ x. loss_falls x.lo _ _ (omega (arith, ints, clamps))))
-    (total_mono (evap_high w) (evap_high v) c.evaps (λ x. loss_falls x.lo _ _ (omega (arith, ints, clamps))))
+upper_shifts c k v w h g down ends =
+    upper_moves c w v h g (omega (arith, ints)) (All-weaker (λ (x : Link). (h x.cell -ℤ pos k) ≤ℤ g x.cell) (λ (x : Link). (h x.cell -ℤ w) ≤ℤ (g x.cell -ℤ v)) (λ x i. omega (arith, ints, i)) c.links ends)
 
 -- a head so many units tighter, cut at the end of the range
 abbrev pub raised : ℕ → ℤ → ℤ

@@ -23,13 +23,6 @@ module _ {Le : ℤ → ℤ → Type 0} {Moves : ℕ → ℤ → (ℕ → ℤ) �
   pub same_as_loose : (l m : ℕ → ℤ) → ((c : ℕ) → c < n → m c ≡ l c) → AsTight Le Moves n m l
   same_as_loose l m e c h = subst (λ (x : ℤ). Le x (l c)) (sym (e c h)) (s.refl (l c))
 
-  -- a cell's relaxed head is one
-  pub relaxed_is_one : (l : ℕ → ℤ) (c : ℕ) (r t : ℤ) → IsRelaxed Le Moves n l c r → IsRelaxed Le Moves n l c t → r ≡ t
-  relaxed_is_one l c r t p q = s.anti r t (under r t p q) (under t r q p)
-    where
-      under : (x y : ℤ) → IsRelaxed Le Moves n l c x → IsRelaxed Le Moves n l c y → Le x y
-      under x y a b = ⊎_elim (λ (e : x ≡ l c). subst (λ (z : ℤ). Le z y) (sym e) b.no_looser) (λ (g : IsHead x × Moves c x l). b.furthest x g.0 g.1) a.reached
-
   -- a relaxed head from tighter heads is as tight
   pub relaxed_rises : (l m : ℕ → ℤ) (c : ℕ) (r t : ℤ) → c < n → AsTight Le Moves n l m → IsRelaxed Le Moves n l c r → IsPast Le Moves n m c t → Le r t
   relaxed_rises l m c r t h b p q =

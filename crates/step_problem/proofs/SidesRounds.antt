@@ -37,9 +37,6 @@ module _ {Le : ℤ → ℤ → Type 0} {Moves : ℕ → ℤ → (ℕ → ℤ) �
   rounds_on_the_way zero edge m ok r = same_on_the_way s edge edge m r (edge_kept s edge ok)
   rounds_on_the_way (suc k) edge m ok (j, before, round) = round_on_the_way edge j m (rounds_on_the_way k edge j ok before) round
 
-  pub rounds_under : (k : ℕ) (edge m : ℕ → ℤ) → AreHeads Le Moves n edge → Rounds Le Moves n k edge m → IsNoTighterThanSettled Le Moves n edge m
-  rounds_under k edge m ok r = (rounds_on_the_way k edge m ok r).under
-
   -- what is past the relaxed head of each cell covers a round
   pub past_covers : (w next : ℕ → ℤ) → ((c : ℕ) → c < n → IsPast Le Moves n w c (next c)) → CoversRound Le Moves n w next
   past_covers w next p x y b r c h = relaxed_rises s x w c (y c) (next c) h b (r c h) (p c h)

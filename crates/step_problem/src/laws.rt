@@ -4,12 +4,14 @@ ghost use Rattle.step_problem.specs.Leaving.{LowerShifts, UpperShifts, LeavingSe
 ghost use Rattle.step_problem.specs.Laws.{FallsInOwnHead, RisesInOtherHeads, RoundsKeepOrder, SettledPairExists, SettledPairIsOne, SettledPairCertifies};
 
 /// A balance falls weakly in its own head.
+#[tactic(auto, using(crate::proofs::Falls::lower_falls, crate::proofs::Falls::upper_falls))]
 pub fn balances_fall()
     ensures lower { FallsInOwnHead lower_balance }
     ensures upper { FallsInOwnHead upper_balance }
 {}
 
 /// A balance rises weakly in the head at the other end of each link.
+#[tactic(auto, using(crate::proofs::Falls::lower_rises, crate::proofs::Falls::upper_rises))]
 pub fn balances_rise()
     ensures lower { RisesInOtherHeads lower_balance }
     ensures upper { RisesInOtherHeads upper_balance }
@@ -27,12 +29,14 @@ pub fn settled_pair()
 {}
 
 /// A settled pair is a certificate.
+#[tactic(auto, using(crate::proofs::BothSettle::pair_certifies))]
 pub fn settled_pair_certifies()
     ensures { SettledPairCertifies }
 {}
 
 /// If a cell's head rises by k units and its neighbours' by at most k, its lower balance does not rise
 /// (mirrored for the upper one).
+#[tactic(auto, using(crate::proofs::Shifts::lower_shifts, crate::proofs::Shifts::upper_shifts))]
 pub fn balances_shift()
     ensures lower { LowerShifts }
     ensures upper { UpperShifts }
@@ -40,6 +44,7 @@ pub fn balances_shift()
 
 /// The settled pair of a barrier inside another one is the settled pair of the other one too, if at each cell
 /// it has left the inner barrier or the two barriers are equal there.
+#[tactic(auto, using(crate::proofs::Leaving::leaving_settles))]
 pub fn leaving_settles()
     ensures { LeavingSettles }
 {}
