@@ -1,26 +1,9 @@
 -- Two models are alike exactly where they share each package.
-use Rattle.deck_alike.proofs.Common.{◌≡◌, ◌==◌, suc, List, [], ◌∷◌, map, length, refl, ap, All, lit<, AllZip, All-nil, All-cons, Dec, Package, Dis, Bas, Lpf}
-use Rattle.deck_alike.proofs.Common.{Wel, Riv, Drn, Ghb, Rch, Chd, Evt, FlowModel, Period, AreEntriesAlike, Shares, SharesBounds, SharesEvaporation, SharesGrid}
-use Rattle.deck_alike.proofs.Common.{SharesIn, SharesProperties, SharesRecharge, SharesTimes, reading_order, AreAlike, AreGivenAlike, ArePeriodsAlike}
-use Rattle.deck_alike.proofs.Common.{entry_frame}
+use Rattle.deck_alike.proofs.Common.{◌≡◌, suc, List, [], ◌∷◌, length, refl, ap, All, lit<, AllZip, All-nil, All-cons, Package, Dis, Bas, Lpf, Wel, Riv, Drn}
+use Rattle.deck_alike.proofs.Common.{Ghb, Rch, Chd, Evt, FlowModel, Period, Shares, SharesBounds, SharesEvaporation, SharesGrid, SharesIn, SharesProperties}
+use Rattle.deck_alike.proofs.Common.{SharesTimes, reading_order, AreAlike, ArePeriodsAlike}
+use Rattle.model_types.specs.Times.{no_stresses}
 use Rattle.deck_span.specs.Models.{frame}
-
--- items of the same frames, place by place and as lists
-module _ {X Y : Type 0} (f : X → Y) where
-  same_map : (xs ys : List X) → AllZip (λ x y. f y ≡ f x) xs ys → map f ys ≡ map f xs
-  same_map [] [] h = refl
-  same_map [] (y ∷ ys) h = absurd h
-  same_map (x ∷ xs) [] h = absurd h
-  same_map (x ∷ xs) (y ∷ ys) h = λ i. h.0 i ∷ same_map xs ys h.1 i
-
-  same_places : (xs ys : List X) → map f ys ≡ map f xs → AllZip (λ x y. f y ≡ f x) xs ys
-  same_places [] [] e = tt
-  same_places [] (y ∷ ys) e = absurd (cc)
-  same_places (x ∷ xs) [] e = absurd (cc)
-  same_places (x ∷ xs) (y ∷ ys) e =
-      let here : f y ≡ f x = cc in
-      let rest : map f ys ≡ map f xs = cc in
-      (here, same_places xs ys rest)
 
 module _ {X : Type 0} where
   each_of : (R S : X → X → Type 0) → ((x y : X) → R x y → S x y) → (xs ys : List X) → AllZip R xs ys → AllZip S xs ys
@@ -35,76 +18,48 @@ module _ {X : Type 0} where
   long R (x ∷ xs) [] h = absurd h
   long R (x ∷ xs) (y ∷ ys) h = ap suc (long R xs ys h.1)
 
--- what two periods share of all packages
-record SharesAll (p q : Period) : Type 0 where
-  dis : SharesTimes p q
-  wel : AllZip AreEntriesAlike p.stresses.wells q.stresses.wells
-  riv : AllZip AreEntriesAlike p.stresses.rivers q.stresses.rivers
-  drn : AllZip AreEntriesAlike p.stresses.drains q.stresses.drains
-  ghb : AllZip AreEntriesAlike p.stresses.generals q.stresses.generals
-  chd : AllZip AreGivenAlike p.stresses.given q.stresses.given
-  rch : SharesRecharge p q
-  evt : SharesEvaporation p q
+period_alike : (p q : Period) → SharesIn Dis p q → SharesIn Wel p q → SharesIn Riv p q → SharesIn Drn p q → SharesIn Ghb p q → SharesIn Chd p q →
+    SharesIn Rch p q → SharesIn Evt p q → ArePeriodsAlike p q
+period_alike p q d w r n g c h e = record {
+  same = λ i. record {
+    perlen = d.perlen i;
+    nstp = d.nstp i;
+    tsmult = d.tsmult i;
+    steady = d.steady i;
+    stresses = record no_stresses { irch = h.irch i; exdp = e.exdp i; ievt = e.ievt i };
+  };
+  wells = w;
+  rivers = r;
+  drains = n;
+  generals = g;
+  given = c;
+  recharge = h.recharge;
+  surf = e.surf;
+  evtr = e.evtr;
+}
 
 joined : (ps qs : List Period) → AllZip (SharesIn Dis) ps qs → AllZip (SharesIn Wel) ps qs → AllZip (SharesIn Riv) ps qs → AllZip (SharesIn Drn) ps qs →
-    AllZip (SharesIn Ghb) ps qs → AllZip (SharesIn Chd) ps qs → AllZip (SharesIn Rch) ps qs → AllZip (SharesIn Evt) ps qs → AllZip SharesAll ps qs
+    AllZip (SharesIn Ghb) ps qs → AllZip (SharesIn Chd) ps qs → AllZip (SharesIn Rch) ps qs → AllZip (SharesIn Evt) ps qs → AllZip ArePeriodsAlike ps qs
 joined [] [] d w r n g c h e = tt
 joined [] (q ∷ qs) d w r n g c h e = absurd d
 joined (p ∷ ps) [] d w r n g c h e = absurd d
-joined (p ∷ ps) (q ∷ qs) d w r n g c h e =
-    (record { dis = d.0; wel = w.0; riv = r.0; drn = n.0; ghb = g.0; chd = c.0; rch = h.0; evt = e.0 }, joined ps qs d.1 w.1 r.1 n.1 g.1 c.1 h.1 e.1)
+joined (p ∷ ps) (q ∷ qs) d w r n g c h e = (period_alike p q d.0 w.0 r.0 n.0 g.0 c.0 h.0 e.0, joined ps qs d.1 w.1 r.1 n.1 g.1 c.1 h.1 e.1)
 
-period_alike : (p q : Period) → SharesAll p q → ArePeriodsAlike p q
-period_alike p q h = record {
-  same = λ i. record {
-    perlen = h.dis.perlen i;
-    nstp = h.dis.nstp i;
-    tsmult = h.dis.tsmult i;
-    steady = h.dis.steady i;
-    stresses = record {
-      wells = [];
-      rivers = [];
-      drains = [];
-      generals = [];
-      given = [];
-      recharge = [];
-      irch = h.rch.irch i;
-      surf = [];
-      evtr = [];
-      exdp = h.evt.exdp i;
-      ievt = h.evt.ievt i;
-    };
-  };
-  wells = same_map entry_frame _ _ h.wel;
-  rivers = same_map entry_frame _ _ h.riv;
-  drains = same_map entry_frame _ _ h.drn;
-  generals = same_map entry_frame _ _ h.ghb;
-  given = h.chd;
-  recharge = h.rch.recharge;
-  surf = h.evt.surf;
-  evtr = same_map (λ (x : Dec). x.digits == 0) _ _ h.evt.evtr;
+-- what the frames of two periods say of a package
+times_shared : (p q : Period) → ArePeriodsAlike p q → SharesTimes p q
+times_shared p q h = record {
+  perlen = ap (λ (r : Period). r.perlen) h.same;
+  nstp = ap (λ (r : Period). r.nstp) h.same;
+  tsmult = ap (λ (r : Period). r.tsmult) h.same;
+  steady = ap (λ (r : Period). r.steady) h.same;
 }
 
-shares_all : (p q : Period) → ArePeriodsAlike p q → SharesAll p q
-shares_all p q h = record {
-  dis = record {
-    perlen = ap (λ (r : Period). r.perlen) h.same;
-    nstp = ap (λ (r : Period). r.nstp) h.same;
-    tsmult = ap (λ (r : Period). r.tsmult) h.same;
-    steady = ap (λ (r : Period). r.steady) h.same;
-  };
-  wel = same_places entry_frame _ _ h.wells;
-  riv = same_places entry_frame _ _ h.rivers;
-  drn = same_places entry_frame _ _ h.drains;
-  ghb = same_places entry_frame _ _ h.generals;
-  chd = h.given;
-  rch = record { recharge = h.recharge; irch = ap (λ (r : Period). r.stresses.irch) h.same };
-  evt = record {
-    surf = h.surf;
-    evtr = same_places (λ (x : Dec). x.digits == 0) _ _ h.evtr;
-    exdp = ap (λ (r : Period). r.stresses.exdp) h.same;
-    ievt = ap (λ (r : Period). r.stresses.ievt) h.same;
-  };
+evaporation_shared : (p q : Period) → ArePeriodsAlike p q → SharesEvaporation p q
+evaporation_shared p q h = record {
+  surf = h.surf;
+  evtr = h.evtr;
+  exdp = ap (λ (r : Period). r.stresses.exdp) h.same;
+  ievt = ap (λ (r : Period). r.stresses.ievt) h.same;
 }
 
 module _ (a b : FlowModel) where
@@ -130,15 +85,15 @@ module _ (a b : FlowModel) where
   alike_of d s l w r n g c h e = record {
     same = frames d.head s.head l.head h.head e.head;
     strt = s.head.strt;
-    periods = each_of SharesAll ArePeriodsAlike period_alike a.periods b.periods (joined a.periods b.periods d.periods w.periods r.periods n.periods g.periods c.periods h.periods e.periods);
+    periods = joined a.periods b.periods d.periods w.periods r.periods n.periods g.periods c.periods h.periods e.periods;
   }
 
   pub shared_alike : All (λ x. Shares x a b) reading_order → AreAlike a b
   shared_alike h = alike_of (h 0 Dis (lit< tt)) (h 1 Dis (lit< tt)) (h 2 Dis (lit< tt)) (h 3 Dis (lit< tt)) (h 4 Dis (lit< tt)) (h 5 Dis (lit< tt)) (h 6 Dis (lit< tt)) (h 7 Dis (lit< tt)) (h 8 Dis (lit< tt)) (h 9 Dis (lit< tt))
 
   -- one package of models that are alike
-  periods_of : (x : Package) → AreAlike a b → ((p q : Period) → SharesAll p q → SharesIn x p q) → AllZip (SharesIn x) a.periods b.periods
-  periods_of x h part = each_of ArePeriodsAlike (SharesIn x) (λ p q k. part p q (shares_all p q k)) a.periods b.periods h.periods
+  periods_of : (x : Package) → AreAlike a b → ((p q : Period) → ArePeriodsAlike p q → SharesIn x p q) → AllZip (SharesIn x) a.periods b.periods
+  periods_of x h part = each_of ArePeriodsAlike (SharesIn x) part a.periods b.periods h.periods
 
   grids : AreAlike a b → SharesGrid a b
   grids h = record { grid = ap (λ (m : FlowModel). m.grid) h.same; lenuni = ap (λ (m : FlowModel). m.lenuni) h.same; nper = long ArePeriodsAlike a.periods b.periods h.periods }
@@ -158,16 +113,16 @@ module _ (a b : FlowModel) where
   }
 
   pub alike_shares : (x : Package) → AreAlike a b → Shares x a b
-  alike_shares Dis h = record { head = grids h; periods = periods_of Dis h (λ p q k. k.dis) }
+  alike_shares Dis h = record { head = grids h; periods = periods_of Dis h times_shared }
   alike_shares Bas h = record { head = bounds h; periods = periods_of Bas h (λ p q k. tt) }
   alike_shares Lpf h = record { head = layers h; periods = periods_of Lpf h (λ p q k. tt) }
-  alike_shares Wel h = record { head = tt; periods = periods_of Wel h (λ p q k. k.wel) }
-  alike_shares Riv h = record { head = tt; periods = periods_of Riv h (λ p q k. k.riv) }
-  alike_shares Drn h = record { head = tt; periods = periods_of Drn h (λ p q k. k.drn) }
-  alike_shares Ghb h = record { head = tt; periods = periods_of Ghb h (λ p q k. k.ghb) }
-  alike_shares Chd h = record { head = tt; periods = periods_of Chd h (λ p q k. k.chd) }
-  alike_shares Rch h = record { head = ap (λ (m : FlowModel). m.nrchop) h.same; periods = periods_of Rch h (λ p q k. k.rch) }
-  alike_shares Evt h = record { head = ap (λ (m : FlowModel). m.nevtop) h.same; periods = periods_of Evt h (λ p q k. k.evt) }
+  alike_shares Wel h = record { head = tt; periods = periods_of Wel h (λ p q k. k.wells) }
+  alike_shares Riv h = record { head = tt; periods = periods_of Riv h (λ p q k. k.rivers) }
+  alike_shares Drn h = record { head = tt; periods = periods_of Drn h (λ p q k. k.drains) }
+  alike_shares Ghb h = record { head = tt; periods = periods_of Ghb h (λ p q k. k.generals) }
+  alike_shares Chd h = record { head = tt; periods = periods_of Chd h (λ p q k. k.given) }
+  alike_shares Rch h = record { head = ap (λ (m : FlowModel). m.nrchop) h.same; periods = periods_of Rch h (λ p q k. record { recharge = k.recharge; irch = ap (λ (r : Period). r.stresses.irch) k.same }) }
+  alike_shares Evt h = record { head = ap (λ (m : FlowModel). m.nevtop) h.same; periods = periods_of Evt h evaporation_shared }
 
   -- each of these packages
   pub alike_shares_each : (xs : List Package) → AreAlike a b → All (λ x. Shares x a b) xs

@@ -53,13 +53,9 @@ head_one : (kind : Package) (a b : FlowModel) (c d : Option CellId) → IsHeadCe
 head_one Dis a b c d f g = in_order (none_one c d) (in_order (array_one AreSame (cell_count b.grid) a.grid.top b.grid.top c d) (layer_one (layer_size b.grid) (cell_count b.grid) (bottoms a.grid) (bottoms b.grid) c d)) f g
 head_one Bas a b c d f g = in_order (array_one AreSame (cell_count b.grid) a.ibound b.ibound c d) (none_one c d) f g
 head_one Lpf a b c d f g = in_order (none_one c d) (layer_one (layer_size b.grid) (cell_count b.grid) (properties a) (properties b) c d) f g
-head_one Wel a b c d f g = absurd f
-head_one Riv a b c d f g = absurd f
-head_one Drn a b c d f g = absurd f
-head_one Ghb a b c d f g = absurd f
-head_one Chd a b c d f g = absurd f
 head_one Rch a b c d f g = none_one c d f g
 head_one Evt a b c d f g = none_one c d f g
+head_one kind a b c d f g = absurd f
 
 in_one : (kind : Package) (cells : ℕ) (p q : Period) (c d : Option CellId) → IsCellIn kind cells p q c → IsCellIn kind cells p q d → c ≡ d
 in_one Dis cells p q c d f g = none_one c d f g

@@ -10,8 +10,8 @@ use Rattle.model_types.specs.declared.model.FlowModel.{FlowModel}
 use Rattle.model_types.specs.declared.period.Period.{Period}
 use Rattle.model_types.specs.Cells.{cell_count, layer_size}
 use Rattle.model_types.specs.Sources.{cell_of}
-use Rattle.deck_span.specs.Alike.{AreGivenAlike}
-use Rattle.deck_alike.specs.Items.{AreEntriesAlike, AreRatesAlike, AreSame, IsFirst}
+use Rattle.deck_span.specs.Alike.{AreEntriesAlike, AreGivenAlike, AreRatesAlike}
+use Rattle.deck_alike.specs.Items.{AreSame, IsFirst}
 use Rattle.deck_alike.specs.Order.{InOrder, IsArrayCell, IsLayerCell, IsListCell}
 use Rattle.deck_alike.specs.Shared.{SharesHead, SharesIn}
 
@@ -68,13 +68,9 @@ IsHeadCell Bas a b cell = InOrder (b.ibound ≡ a.ibound) (IsArrayCell AreSame (
 IsHeadCell Lpf a b cell =
     InOrder (SharesOptions a b) (cell ≡ None)
     (IsLayerCell (layer_size b.grid) (cell_count b.grid) (properties a) (properties b) cell)
-IsHeadCell Wel a b cell = ⊥
-IsHeadCell Riv a b cell = ⊥
-IsHeadCell Drn a b cell = ⊥
-IsHeadCell Ghb a b cell = ⊥
-IsHeadCell Chd a b cell = ⊥
 IsHeadCell Rch a b cell = cell ≡ None
 IsHeadCell Evt a b cell = cell ≡ None
+IsHeadCell kind a b cell = ⊥
 
 -- The cell of what a package has in a stress period, in a grid of this many cells.
 abbrev pub IsCellIn : Package → ℕ → Period → Period → Option CellId → Type 0

@@ -1,21 +1,10 @@
 -- The items of two lists that stand at one place: whether they are alike, and the first place at which they aren't.
-use Rattle.std.specs.Prelude.{◌≡◌, ◌==◌, ℕ, List, Some, take, slice_get}
+use Rattle.std.specs.Prelude.{◌≡◌, ℕ, List, Some, take, slice_get}
 use Rattle.std.specs.List.{AllZip}
-use Rattle.decimal_input.specs.declared.dec.Dec.{Dec}
-use Rattle.model_types.specs.declared.entry.Entry.{Entry}
-use Rattle.deck_span.specs.Alike.{entry_frame}
 
 -- numbers
 abbrev pub AreSame : {X : Type 0} → X → X → Type 0
 AreSame x y = y ≡ x
-
--- entries of WEL, RIV, DRN and GHB: the same package and cell
-abbrev pub AreEntriesAlike : Entry → Entry → Type 0
-AreEntriesAlike x y = entry_frame y ≡ entry_frame x
-
--- rates of EVT: both are 0, or neither
-abbrev pub AreRatesAlike : Dec → Dec → Type 0
-AreRatesAlike x y = (y.digits == 0) ≡ (x.digits == 0)
 
 -- k is the first place at which the items of two lists aren't alike
 pub record IsFirst {X : Type 0} (Alike : X → X → Type 0) (xs ys : List X) (k : ℕ) : Type 0 where

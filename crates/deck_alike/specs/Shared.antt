@@ -1,13 +1,11 @@
 -- What two models share of each package, in the order in which a deck is read.
-use Rattle.std.specs.Prelude.{◌≡◌, ℕ, List, [], ◌∷◌, length}
+use Rattle.std.specs.Prelude.{◌≡◌, List, [], ◌∷◌, length}
 use Rattle.std.specs.List.{AllZip}
 use Rattle.name_file.specs.declared.package.Package.{Package}
 use Rattle.name_file.specs.declared.package.Package.TheVariants.{Dis, Bas, Lpf, Wel, Riv, Drn, Ghb, Rch, Chd, Evt}
-use Rattle.model_types.specs.declared.grid.Grid.{Grid}
 use Rattle.model_types.specs.declared.model.FlowModel.{FlowModel}
 use Rattle.model_types.specs.declared.period.Period.{Period}
-use Rattle.deck_span.specs.Alike.{AreGivenAlike}
-use Rattle.deck_alike.specs.Items.{AreEntriesAlike, AreRatesAlike, AreSame}
+use Rattle.deck_span.specs.Alike.{AreEntriesAlike, AreGivenAlike, AreRatesAlike}
 
 -- the packages in reading order
 abbrev pub reading_order : List Package
@@ -39,13 +37,9 @@ abbrev pub SharesHead : Package → FlowModel → FlowModel → Type 0
 SharesHead Dis a b = SharesGrid a b
 SharesHead Bas a b = SharesBounds a b
 SharesHead Lpf a b = SharesProperties a b
-SharesHead Wel a b = Unit {0}
-SharesHead Riv a b = Unit {0}
-SharesHead Drn a b = Unit {0}
-SharesHead Ghb a b = Unit {0}
-SharesHead Chd a b = Unit {0}
 SharesHead Rch a b = b.nrchop ≡ a.nrchop
 SharesHead Evt a b = b.nevtop ≡ a.nevtop
+SharesHead kind a b = Unit {0}
 
 -- DIS: the period's length, its steps and its state
 pub record SharesTimes (p q : Period) : Type 0 where

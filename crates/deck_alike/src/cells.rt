@@ -6,7 +6,7 @@ ghost use Rattle.deck_alike.specs.Places.{earlier};
 use model_types::CellId;
 
 /// The cell of this number, in a grid of this many cells.
-pub fn named(cells: u32, number: usize) -> Option<CellId>
+pub fn numbered_cell(cells: u32, number: usize) -> Option<CellId>
     ensures { result ≡ named cells number }
 {
     if number < cells as usize {
@@ -17,7 +17,7 @@ pub fn named(cells: u32, number: usize) -> Option<CellId>
 }
 
 /// Of the first differences of two arrays the one that is read first: layer by layer, and in a layer the first array's.
-pub fn earlier(layer_size: u32, first: Option<usize>, second: Option<usize>) -> Option<usize>
+pub fn earlier_place(layer_size: u32, first: Option<usize>, second: Option<usize>) -> Option<usize>
     requires some { 0 < layer_size }
     ensures { result ≡ earlier layer_size first second }
 {

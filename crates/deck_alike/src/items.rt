@@ -1,9 +1,9 @@
 // The items of lists and arrays, and the first place at which two lists differ.
 ghost use Rattle.std.specs.Prelude.{◌≡◌, MatchBool, MatchOption, length};
 ghost use Rattle.std.specs.List.{AllZip};
-ghost use Rattle.deck_span.specs.Alike.{AreGivenAlike};
+ghost use Rattle.deck_span.specs.Alike.{AreEntriesAlike, AreGivenAlike, AreRatesAlike};
 ghost use Rattle.deck_span.specs.Models.{IsGivenAtMost};
-ghost use Rattle.deck_alike.specs.Items.{AreEntriesAlike, AreRatesAlike, AreSame, IsFirst};
+ghost use Rattle.deck_alike.specs.Items.{AreSame, IsFirst};
 
 use crate::order::is_at_most;
 use decimal_input::dec::Dec;

@@ -2,10 +2,10 @@
 ghost use Rattle.std.specs.Prelude.{◌≡◌, ℕ};
 ghost use Rattle.std.specs.List.{AllZip};
 ghost use Rattle.model_types.specs.Sources.{cell_of};
-ghost use Rattle.deck_alike.specs.Items.{AreRatesAlike};
+ghost use Rattle.deck_span.specs.Alike.{AreRatesAlike};
 ghost use Rattle.deck_alike.specs.Order.{Finds, IsArrayCell, IsListCell};
 
-use crate::cells::named;
+use crate::cells::numbered_cell;
 use crate::items::{Compared, first_apart, first_idle_apart};
 use decimal_input::dec::Dec;
 use model_types::{CellId, Entry, Given};
@@ -51,7 +51,7 @@ pub fn list_apart<T: Compared + Placed + Drop>(
         return Some(None);
     }
     let place = first_apart(xs, ys)?;
-    Some(named(cells, ys[place].number() as usize))
+    Some(numbered_cell(cells, ys[place].number() as usize))
 }
 
 /// The cell at which two arrays differ first.
@@ -62,7 +62,7 @@ pub fn array_apart<T: Compared + Drop>(cells: u32, xs: &[T], ys: &[T]) -> Option
         return Some(None);
     }
     let place = first_apart(xs, ys)?;
-    Some(named(cells, place))
+    Some(numbered_cell(cells, place))
 }
 
 /// The cell at which one of two rates is 0 and the other isn't.
@@ -73,5 +73,5 @@ pub fn idle_apart(cells: u32, xs: &[Dec], ys: &[Dec]) -> Option<Option<CellId>>
         return Some(None);
     }
     let place = first_idle_apart(xs, ys)?;
-    Some(named(cells, place))
+    Some(numbered_cell(cells, place))
 }

@@ -9,7 +9,7 @@ ghost use Rattle.deck_alike.specs.Places.{AreArraysSame, IsFound};
 ghost use Rattle.deck_alike.specs.Shared.{SharesBounds, SharesGrid, SharesHead, SharesProperties};
 ghost use Rattle.deck_alike.specs.Cells.{IsHeadCell, SharesCounts, SharesLengths, SharesOptions, SharesSizes, SharesWidths, bottoms, properties};
 
-use crate::cells::{earlier, named};
+use crate::cells::{earlier_place, numbered_cell};
 use crate::items::{Compared, first_apart};
 use crate::lists::array_apart;
 use decimal_input::dec::Dec;
@@ -88,7 +88,7 @@ fn bottom_place(layer_size: u32, a: &Grid, b: &Grid) -> Option<usize>
 {
     let bottom = first_apart(a.bottom.as_slice(), b.bottom.as_slice());
     let bed = first_apart(a.bed_bottom.as_slice(), b.bed_bottom.as_slice());
-    earlier(layer_size, bottom, bed)
+    earlier_place(layer_size, bottom, bed)
 }
 
 // The cell at which the bottoms of layers and beds differ first.
@@ -102,7 +102,7 @@ fn bottoms_apart(a: &Grid, b: &Grid) -> Option<Option<CellId>>
     let cells = b.cell_count();
     match bottom_place(size, a, b) {
         None => None,
-        Some(place) => Some(named(cells, place)),
+        Some(place) => Some(numbered_cell(cells, place)),
     }
 }
 
@@ -167,10 +167,10 @@ fn property_place(layer_size: u32, a: &FlowModel, b: &FlowModel) -> Option<usize
     let vka = first_apart(a.vka.as_slice(), b.vka.as_slice());
     let ss = first_apart(a.ss.as_slice(), b.ss.as_slice());
     let vkcb = first_apart(a.vkcb.as_slice(), b.vkcb.as_slice());
-    let storage = earlier(layer_size, ss, vkcb);
-    let vertical = earlier(layer_size, vka, storage);
-    let across = earlier(layer_size, hani, vertical);
-    earlier(layer_size, hk, across)
+    let storage = earlier_place(layer_size, ss, vkcb);
+    let vertical = earlier_place(layer_size, vka, storage);
+    let across = earlier_place(layer_size, hani, vertical);
+    earlier_place(layer_size, hk, across)
 }
 
 fn properties_apart(a: &FlowModel, b: &FlowModel) -> Option<Option<CellId>>
@@ -184,7 +184,7 @@ fn properties_apart(a: &FlowModel, b: &FlowModel) -> Option<Option<CellId>>
     let cells = b.grid.cell_count();
     match property_place(size, a, b) {
         None => None,
-        Some(place) => Some(named(cells, place)),
+        Some(place) => Some(numbered_cell(cells, place)),
     }
 }
 

@@ -7,7 +7,7 @@ ghost use Rattle.decimal_input.specs.Ratios.{AtMost as IsRatioAtMost};
 use decimal_input::dec::Dec;
 
 // m * 10 ^ places, or some number of more than 64 bits in place of another one.
-fn shifted(m: u64, places: u64) -> u128
+fn shifted_digits(m: u64, places: u64) -> u128
     ensures { (result ≡ m * 10 ^ places) ⊎ ((2 ^ 64 ≤ result) × (2 ^ 64 ≤ m * 10 ^ places)) }
 {
     if m == 0 {
@@ -23,14 +23,14 @@ fn shifted(m: u64, places: u64) -> u128
 fn is_shifted_at_most(m: u64, places: u64, n: u64) -> bool
     ensures { MatchBool result (m * 10 ^ places ≤ n) (m * 10 ^ places ≤ n → ⊥) }
 {
-    shifted(m, places) <= n as u128
+    shifted_digits(m, places) <= n as u128
 }
 
 // Whether n is at most m * 10 ^ places.
 fn is_at_most_shifted(n: u64, m: u64, places: u64) -> bool
     ensures { MatchBool result (n ≤ m * 10 ^ places) (n ≤ m * 10 ^ places → ⊥) }
 {
-    n as u128 <= shifted(m, places)
+    n as u128 <= shifted_digits(m, places)
 }
 
 // Whether the magnitude of one number is at most that of another.

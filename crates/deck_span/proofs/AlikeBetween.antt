@@ -1,9 +1,9 @@
 -- Each of two models that are alike lies between the two.
-use Rattle.deck_span.proofs.Common.{◌≡◌, ◌≤ℤ◌, ◌*ℤ◌, ◌*◌, ◌⊎◌, [], ◌∷◌, ℤ, pos, negsuc, refl, subst, inl, inr, arith, List, map, length, ◌==◌, AllZip, cases_lt}
-use Rattle.deck_span.proofs.Common.{ints, Dec, number, size, Ratio, Fraction, den, AtMost, Entry, Given, CellId, FlowModel, Period, AllThree, none, next}
+use Rattle.deck_span.proofs.Common.{◌≡◌, ◌≤ℤ◌, ◌*ℤ◌, ◌*◌, ◌⊎◌, [], ◌∷◌, ℤ, pos, negsuc, refl, subst, inl, inr, arith, List, length, AllZip, cases_lt, ints, Dec}
+use Rattle.deck_span.proofs.Common.{number, size, Ratio, Fraction, den, AtMost, Entry, Given, CellId, FlowModel, Period, AllThree, none, next}
 use Rattle.deck_span.proofs.Common.{IsFractionBetween, IsRatioBetween, IsDecBetween, IsSizeBetween, IsEntryBetween, IsGivenAtMost, IsGivenBetween}
-use Rattle.deck_span.proofs.Common.{IsRateBetween, IsPeriodBetween, IsBetween, wells, rivers, drains, generals, entry_frame, AreGivenAlike, ArePeriodsAlike}
-use Rattle.deck_span.proofs.Common.{AreAlike}
+use Rattle.deck_span.proofs.Common.{IsRateBetween, IsPeriodBetween, IsBetween, wells, rivers, drains, generals, AreGivenAlike, ArePeriodsAlike, AreAlike}
+use Rattle.deck_span.proofs.Common.{AreEntriesAlike, AreRatesAlike}
 use Rattle.decimal_input.specs.Ratios.{den as ratio_den, AtMost as IsRatioAtMost}
 use Rattle.model_types.specs.declared.entry.Entry.TheVariants.{Well, River, Drain, General}
 
@@ -46,17 +46,6 @@ sizes x y = ratios (size x) (size y)
 -- what holds of each two items at a place holds of the lists
 
 module _ {X : Type 0} (R : X → X → X → Type 0) where
-  by_frame : {Y : Type 0} (f : X → Y) → ((x y : X) → f y ≡ f x → Both R x y) → (xs ys : List X) → map f ys ≡ map f xs → AllThree R xs xs ys × AllThree R xs ys ys
-  by_frame f each [] [] e = (none, none)
-  by_frame f each [] (y ∷ ys) e = absurd (cc)
-  by_frame f each (x ∷ xs) [] e = absurd (cc)
-  by_frame f each (x ∷ xs) (y ∷ ys) e =
-      let here : f y ≡ f x = cc in
-      let rest : map f ys ≡ map f xs = cc in
-      let (first, second) = each x y here in
-      let (firsts, seconds) = by_frame f each xs ys rest in
-      (next first firsts, next second seconds)
-
   by_length : ((x y : X) → Both R x y) → (xs ys : List X) → length ys ≡ length xs → AllThree R xs xs ys × AllThree R xs ys ys
   by_length each [] [] e = (none, none)
   by_length each [] (y ∷ ys) e = absurd (omega (arith, e))
@@ -75,31 +64,20 @@ module _ {X : Type 0} (R : X → X → X → Type 0) where
       let (firsts, seconds) = by_items S each xs ys hs in
       (next first firsts, next second seconds)
 
-entries : (x y : Entry) → entry_frame y ≡ entry_frame x → Both IsEntryBetween x y
+entries : (x y : Entry) → AreEntriesAlike x y → Both IsEntryBetween x y
 entries (Well c q₁) (Well d q₂) e =
     let same : c ≡ d = cc in
     subst (λ (k : CellId). Both IsEntryBetween (Well c q₁) (Well k q₂)) same (wells (decs q₁ q₂).0, wells (decs q₁ q₂).1)
-entries (Well c q₁) (River d s₂ k₂ r₂) e = absurd (cc)
-entries (Well c q₁) (Drain d s₂ k₂) e = absurd (cc)
-entries (Well c q₁) (General d s₂ k₂) e = absurd (cc)
-entries (River c s₁ k₁ r₁) (Well d q₂) e = absurd (cc)
 entries (River c s₁ k₁ r₁) (River d s₂ k₂ r₂) e =
     let same : c ≡ d = cc in
     subst (λ (k : CellId). Both IsEntryBetween (River c s₁ k₁ r₁) (River k s₂ k₂ r₂)) same (rivers (decs s₁ s₂).0 (sizes k₁ k₂).0 (decs r₁ r₂).0, rivers (decs s₁ s₂).1 (sizes k₁ k₂).1 (decs r₁ r₂).1)
-entries (River c s₁ k₁ r₁) (Drain d s₂ k₂) e = absurd (cc)
-entries (River c s₁ k₁ r₁) (General d s₂ k₂) e = absurd (cc)
-entries (Drain c s₁ k₁) (Well d q₂) e = absurd (cc)
-entries (Drain c s₁ k₁) (River d s₂ k₂ r₂) e = absurd (cc)
 entries (Drain c s₁ k₁) (Drain d s₂ k₂) e =
     let same : c ≡ d = cc in
     subst (λ (k : CellId). Both IsEntryBetween (Drain c s₁ k₁) (Drain k s₂ k₂)) same (drains (decs s₁ s₂).0 (sizes k₁ k₂).0, drains (decs s₁ s₂).1 (sizes k₁ k₂).1)
-entries (Drain c s₁ k₁) (General d s₂ k₂) e = absurd (cc)
-entries (General c s₁ k₁) (Well d q₂) e = absurd (cc)
-entries (General c s₁ k₁) (River d s₂ k₂ r₂) e = absurd (cc)
-entries (General c s₁ k₁) (Drain d s₂ k₂) e = absurd (cc)
 entries (General c s₁ k₁) (General d s₂ k₂) e =
     let same : c ≡ d = cc in
     subst (λ (k : CellId). Both IsEntryBetween (General c s₁ k₁) (General k s₂ k₂)) same (generals (decs s₁ s₂).0 (sizes k₁ k₂).0, generals (decs s₁ s₂).1 (sizes k₁ k₂).1)
+entries x y e = absurd (cc)
 
 at_most_itself : (x : Given) → IsGivenAtMost x x
 at_most_itself x = record { start = itself (number x.shead); end = itself (number x.ehead) }
@@ -110,19 +88,19 @@ given_heads x y h = elim h.heads [
   | inr k ↦ (record { cell = refl; alike = h.cell; heads = inr (k, at_most_itself x) }, record { cell = h.cell; alike = h.cell; heads = inr (at_most_itself y, k) })
 ]
 
-rates : (x y : Dec) → (y.digits == 0) ≡ (x.digits == 0) → Both IsRateBetween x y
+rates : (x y : Dec) → AreRatesAlike x y → Both IsRateBetween x y
 rates x y e = (record { rate = (sizes x y).0; idle = refl; alike = e }, record { rate = (sizes x y).1; idle = e; alike = e })
 
 periods_between : (p q : Period) → ArePeriodsAlike p q → Both IsPeriodBetween p q
 periods_between p q h =
-    let wells = by_frame IsEntryBetween entry_frame entries p.stresses.wells q.stresses.wells h.wells in
-    let rivers = by_frame IsEntryBetween entry_frame entries p.stresses.rivers q.stresses.rivers h.rivers in
-    let drains = by_frame IsEntryBetween entry_frame entries p.stresses.drains q.stresses.drains h.drains in
-    let generals = by_frame IsEntryBetween entry_frame entries p.stresses.generals q.stresses.generals h.generals in
+    let wells = by_items IsEntryBetween AreEntriesAlike entries p.stresses.wells q.stresses.wells h.wells in
+    let rivers = by_items IsEntryBetween AreEntriesAlike entries p.stresses.rivers q.stresses.rivers h.rivers in
+    let drains = by_items IsEntryBetween AreEntriesAlike entries p.stresses.drains q.stresses.drains h.drains in
+    let generals = by_items IsEntryBetween AreEntriesAlike entries p.stresses.generals q.stresses.generals h.generals in
     let given = by_items IsGivenBetween AreGivenAlike given_heads p.stresses.given q.stresses.given h.given in
     let recharge = by_length IsDecBetween decs p.stresses.recharge q.stresses.recharge h.recharge in
     let surf = by_length IsDecBetween decs p.stresses.surf q.stresses.surf h.surf in
-    let evtr = by_frame IsRateBetween (λ (x : Dec). x.digits == 0) rates p.stresses.evtr q.stresses.evtr h.evtr in (
+    let evtr = by_items IsRateBetween AreRatesAlike rates p.stresses.evtr q.stresses.evtr h.evtr in (
       record { same = refl; alike = h.same; wells = wells.0; rivers = rivers.0; drains = drains.0; generals = generals.0; given = given.0; recharge = recharge.0; surf = surf.0; evtr = evtr.0 },
       record { same = h.same; alike = h.same; wells = wells.1; rivers = rivers.1; drains = drains.1; generals = generals.1; given = given.1; recharge = recharge.1; surf = surf.1; evtr = evtr.1 },
     )

@@ -15,7 +15,7 @@ pub use Rattle.decimal_input.specs.Canonical.{number, size}
 pub use Rattle.decimal_input.specs.Fractions.{AtMost, Fraction, den, negated, plus, signed}
 pub use Rattle.decimal_input.specs.Ratios.{Ratio, over}
 pub use Rattle.decimal_input.specs.declared.dec.Dec.{Dec}
-pub use Rattle.deck_span.specs.Alike.{AreAlike, AreGivenAlike, ArePeriodsAlike, entry_frame}
+pub use Rattle.deck_span.specs.Alike.{AreAlike, AreEntriesAlike, AreGivenAlike, ArePeriodsAlike, AreRatesAlike}
 pub use Rattle.deck_span.specs.Models.{IsBetween, IsEntryBetween, IsGivenAtMost, IsGivenBetween, IsPeriodBetween, IsRateBetween, frame, period_frame}
 pub use Rattle.deck_span.specs.Models.IsEntryBetween.{drains, generals, rivers, wells}
 pub use Rattle.deck_span.specs.Numbers.{IsDecBetween, IsFractionBetween, IsRatioBetween, IsSizeBetween}

@@ -1,9 +1,9 @@
 -- What a model between two others has in common with them; and where some model lies between two, the two are alike.
 use Rattle.deck_span.proofs.Common.{◌≡◌, ℕ, ◌≤◌, ap, subst, List, length, map, flat_map, range_with_len, Dec, FlowModel, Period, cell_count, is_active}
 use Rattle.deck_span.proofs.Common.{period_at, is_variable, index_of, start_head, constant_head, AllThree, IsFractionBetween, IsDecBetween, IsPeriodBetween}
-use Rattle.deck_span.proofs.Common.{IsBetween, Fraction, three_at, three_lengths, ◌∷◌, inl, inr, refl, ◌==◌, AllZip, Entry, Given, none, next, IsEntryBetween}
-use Rattle.deck_span.proofs.Common.{IsGivenAtMost, IsGivenBetween, IsRateBetween, wells, rivers, drains, generals, entry_frame, AreGivenAlike, ArePeriodsAlike}
-use Rattle.deck_span.proofs.Common.{AreAlike}
+use Rattle.deck_span.proofs.Common.{IsBetween, Fraction, three_at, three_lengths, inl, inr, refl, AllZip, Entry, Given, none, next, IsEntryBetween}
+use Rattle.deck_span.proofs.Common.{IsGivenAtMost, IsGivenBetween, IsRateBetween, wells, rivers, drains, generals, AreGivenAlike, ArePeriodsAlike, AreAlike}
+use Rattle.deck_span.proofs.Common.{AreEntriesAlike, AreRatesAlike}
 use Rattle.model_types.specs.Times.{times}
 use Rattle.deck_span.proofs.SourcesBetween.{framed, no_dec, at_period, variable_is, cells_are}
 use Rattle.deck_span.proofs.StepsBetween.{framed_is, constant_between}
@@ -62,15 +62,11 @@ module _ (a m b : FlowModel) (h : IsBetween a m b) where
       (constant_between a a.strt m.strt b.strt a.periods m.periods b.periods h.strt h.periods p n few old c))
 
 module _ {X : Type 0} (R : X → X → X → Type 0) where
-  same_frames : {Y : Type 0} (f : X → Y) → ((x y z : X) → R x y z → f z ≡ f x) → (xs ys zs : List X) → AllThree R xs ys zs → map f zs ≡ map f xs
-  same_frames f each xs ys zs none = refl
-  same_frames f each xs ys zs (next {x = x} {y = y} {z = z} h hs) = λ i. each x y z h i ∷ same_frames f each _ _ _ hs i
-
   same_items : (S : X → X → Type 0) → ((x y z : X) → R x y z → S x z) → (xs ys zs : List X) → AllThree R xs ys zs → AllZip S xs zs
   same_items S each xs ys zs none = tt
   same_items S each xs ys zs (next {x = x} {y = y} {z = z} h hs) = (each x y z h, same_items S each _ _ _ hs)
 
-same_entry : (x y z : Entry) → IsEntryBetween x y z → entry_frame z ≡ entry_frame x
+same_entry : (x y z : Entry) → IsEntryBetween x y z → AreEntriesAlike x z
 same_entry x y z (wells h) = refl
 same_entry x y z (rivers h k r) = refl
 same_entry x y z (drains h k) = refl
@@ -88,14 +84,14 @@ same_given x y z h = record {
 same_period : (p m q : Period) → IsPeriodBetween p m q → ArePeriodsAlike p q
 same_period p m q h = record {
   same = h.alike;
-  wells = same_frames IsEntryBetween entry_frame same_entry _ _ _ h.wells;
-  rivers = same_frames IsEntryBetween entry_frame same_entry _ _ _ h.rivers;
-  drains = same_frames IsEntryBetween entry_frame same_entry _ _ _ h.drains;
-  generals = same_frames IsEntryBetween entry_frame same_entry _ _ _ h.generals;
+  wells = same_items IsEntryBetween AreEntriesAlike same_entry _ _ _ h.wells;
+  rivers = same_items IsEntryBetween AreEntriesAlike same_entry _ _ _ h.rivers;
+  drains = same_items IsEntryBetween AreEntriesAlike same_entry _ _ _ h.drains;
+  generals = same_items IsEntryBetween AreEntriesAlike same_entry _ _ _ h.generals;
   given = same_items IsGivenBetween AreGivenAlike same_given _ _ _ h.given;
   recharge = (three_lengths IsDecBetween _ _ _ h.recharge).1;
   surf = (three_lengths IsDecBetween _ _ _ h.surf).1;
-  evtr = same_frames IsRateBetween (λ (x : Dec). x.digits == 0) (λ x y z k. k.alike) _ _ _ h.evtr;
+  evtr = same_items IsRateBetween AreRatesAlike (λ x y z k. k.alike) _ _ _ h.evtr;
 }
 
 pub between_alike : (a m b : FlowModel) → IsBetween a m b → AreAlike a b

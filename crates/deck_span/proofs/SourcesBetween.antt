@@ -68,9 +68,7 @@ last_three c k ps qs rs h =
 
 same_cell : (x y z : Entry) → IsEntryBetween x y z → (cell_of y ≡ cell_of x) × (cell_of z ≡ cell_of x)
 same_cell x y z (wells h) = (refl, refl)
-same_cell x y z (rivers h k r) = (refl, refl)
-same_cell x y z (drains h k) = (refl, refl)
-same_cell x y z (generals h k) = (refl, refl)
+same_cell x y z h = (refl, refl)
 
 in_cell : (c : ℕ) (x y z : Entry) → IsEntryBetween x y z → ((cell_of y == c) ≡ (cell_of x == c)) × ((cell_of z == c) ≡ (cell_of x == c))
 in_cell c x y z h = let (e, d) = same_cell x y z h in (ap (λ k. k == c) e, ap (λ k. k == c) d)
@@ -85,27 +83,19 @@ period_entries p q r h =
 
 by_well : (x y z : Entry) → IsEntryBetween x y z → OptionThree IsFlowSourceBetween (as_well x) (as_well y) (as_well z)
 by_well x y z (wells h) = something (pumped h)
-by_well x y z (rivers h k r) = nothing
-by_well x y z (drains h k) = nothing
-by_well x y z (generals h k) = nothing
+by_well x y z h = nothing
 
 by_river : (x y z : Entry) → IsEntryBetween x y z → OptionThree IsRiverSourceBetween (as_river x) (as_river y) (as_river z)
-by_river x y z (wells h) = nothing
 by_river x y z (rivers h k r) = something (record { stage = h; cond = k; bottom = r })
-by_river x y z (drains h k) = nothing
-by_river x y z (generals h k) = nothing
+by_river x y z h = nothing
 
 by_drain : (x y z : Entry) → IsEntryBetween x y z → OptionThree IsDrainSourceBetween (as_drain x) (as_drain y) (as_drain z)
-by_drain x y z (wells h) = nothing
-by_drain x y z (rivers h k r) = nothing
 by_drain x y z (drains h k) = something (record { elevation = h; cond = k })
-by_drain x y z (generals h k) = nothing
+by_drain x y z h = nothing
 
 by_general : (x y z : Entry) → IsEntryBetween x y z → OptionThree IsFixedSourceBetween (as_general x) (as_general y) (as_general z)
-by_general x y z (wells h) = nothing
-by_general x y z (rivers h k r) = nothing
-by_general x y z (drains h k) = nothing
 by_general x y z (generals h k) = something (general h k)
+by_general x y z h = nothing
 
 -- what stands under one test
 pub under : {X Y Z : Type 0} (R : X → Y → Z → Type 0) (a m b : Bool) (x : X) (y : Y) (z : Z) → m ≡ a → b ≡ a → (a ≡ true → R x y z) → OptionThree R (cond a (Some x) None) (cond m (Some y) None) (cond b (Some z) None)

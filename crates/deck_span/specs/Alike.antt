@@ -1,6 +1,7 @@
 -- When two models are alike: they have the same shape, so that models lie between them.
-use Rattle.std.specs.Prelude.{◌≡◌, ◌⊎◌, ◌==◌, map, length}
+use Rattle.std.specs.Prelude.{◌≡◌, ◌⊎◌, ◌==◌, length}
 use Rattle.std.specs.List.{AllZip}
+use Rattle.decimal_input.specs.declared.dec.Dec.{Dec}
 use Rattle.model_types.specs.declared.model.FlowModel.{FlowModel}
 use Rattle.model_types.specs.declared.period.Period.{Period}
 use Rattle.model_types.specs.declared.entry.Given.{Given}
@@ -16,6 +17,14 @@ entry_frame (River cell stage cond bottom) = River cell no_number no_number no_n
 entry_frame (Drain cell elevation cond) = Drain cell no_number no_number
 entry_frame (General cell head cond) = General cell no_number no_number
 
+-- entries of WEL, RIV, DRN and GHB: the same package and cell
+abbrev pub AreEntriesAlike : Entry → Entry → Type 0
+AreEntriesAlike a b = entry_frame b ≡ entry_frame a
+
+-- rates of EVT: both are 0, or neither
+abbrev pub AreRatesAlike : Dec → Dec → Type 0
+AreRatesAlike a b = (b.digits == 0) ≡ (a.digits == 0)
+
 -- entries of CHD: the same cell, and both heads of one are at most those of the other
 pub record AreGivenAlike (a b : Given) : Type 0 where
   pub cell : b.cell ≡ a.cell
@@ -25,14 +34,14 @@ pub record AreGivenAlike (a b : Given) : Type 0 where
 -- the same places.
 pub record ArePeriodsAlike (a b : Period) : Type 0 where
   pub same : period_frame b ≡ period_frame a
-  pub wells : map entry_frame b.stresses.wells ≡ map entry_frame a.stresses.wells
-  pub rivers : map entry_frame b.stresses.rivers ≡ map entry_frame a.stresses.rivers
-  pub drains : map entry_frame b.stresses.drains ≡ map entry_frame a.stresses.drains
-  pub generals : map entry_frame b.stresses.generals ≡ map entry_frame a.stresses.generals
+  pub wells : AllZip AreEntriesAlike a.stresses.wells b.stresses.wells
+  pub rivers : AllZip AreEntriesAlike a.stresses.rivers b.stresses.rivers
+  pub drains : AllZip AreEntriesAlike a.stresses.drains b.stresses.drains
+  pub generals : AllZip AreEntriesAlike a.stresses.generals b.stresses.generals
   pub given : AllZip AreGivenAlike a.stresses.given b.stresses.given
   pub recharge : length b.stresses.recharge ≡ length a.stresses.recharge
   pub surf : length b.stresses.surf ≡ length a.stresses.surf
-  pub evtr : map (λ x. x.digits == 0) b.stresses.evtr ≡ map (λ x. x.digits == 0) a.stresses.evtr
+  pub evtr : AllZip AreRatesAlike a.stresses.evtr b.stresses.evtr
 
 -- two models
 pub record AreAlike (a b : FlowModel) : Type 0 where

@@ -1,5 +1,5 @@
 use Rattle.model_types.specs.Layers.{no_number}
-use Rattle.deck_alike.specs.Items.{AreRatesAlike}
+use Rattle.deck_span.specs.Alike.{AreRatesAlike}
 use Rattle.deck_alike.proofs.ZipLemmas.{zip_more_at}
 use Rattle.deck_alike.proofs.items.first_idle_apart.Goals as goal
 
