@@ -48,7 +48,7 @@ gap_positive top bottom k =
     (omega (arith, ints, k.room)) (omega arith) (omega arith)
     (below_gap k.floor k.ceiling (number top).num (number bottom).num (denominator (number top)) (denominator (number bottom)) (10 ^ 18) k.is_floor.at_most k.is_ceiling.at_least)
 
-abs_positive : (z : ℤ) → pos 0 <ℤ z → 0 < unsigned_abs z
+pub abs_positive : (z : ℤ) → pos 0 <ℤ z → 0 < unsigned_abs z
 abs_positive (pos n) h = omega (arith, ints, h)
 abs_positive (negsuc n) h = absurd (omega (arith, ints, h))
 

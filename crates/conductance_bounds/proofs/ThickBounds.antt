@@ -5,18 +5,14 @@ use Rattle.conductance_bounds.proofs.Common.{scaled-AtMost, mul_mono_right, canc
 use Rattle.conductance_bounds.proofs.Common.{AreThick}
 use Rattle.decimal_input.specs.Fractions.{den}
 use Rattle.decimal_input.proofs.FloorLaws.{one_floor, one_ceiling}
-use Rattle.conductance_bounds.proofs.SpanBounds.{span_between}
+use Rattle.conductance_bounds.proofs.SpanBounds.{abs_positive, span_between}
 
--- a floor is the greatest of its kind, a ceiling the least
-floor_most : (f : Fraction) (z w : ℤ) (P : ℤ) → (z *ℤ pos (den f)) ≤ℤ P → P <ℤ ((w +ℤ pos 1) *ℤ pos (den f)) → z ≤ℤ w
-floor_most f z w P h k = by_lt_z w z
-    (λ lt. let over = mul_mono_right (den f) (w +ℤ pos 1) z (omega (arith, ints)) in absurd (omega (arith, ints, over, h, k)))
-    (λ le. le)
+-- a number has one floor, and one ceiling
+same_floor : (x : Dec) (z w : ℤ) → IsSignedFloor z (number x) 18 → IsSignedFloor w (number x) 18 → z ≡ w
+same_floor x z w = one_floor (number x) (number x) 18 z w (record { same = refl })
 
-ceiling_least : (f : Fraction) (z w : ℤ) (P : ℤ) → P ≤ℤ (z *ℤ pos (den f)) → ((w +ℤ neg_ℤ (pos 1)) *ℤ pos (den f)) <ℤ P → w ≤ℤ z
-ceiling_least f z w P h k = by_lt_z z w
-    (λ lt. let over = mul_mono_right (den f) z (w +ℤ neg_ℤ (pos 1)) (omega (arith, ints)) in absurd (omega (arith, ints, over, h, k)))
-    (λ le. le)
+same_ceiling : (x : Dec) (z w : ℤ) → IsSignedCeiling z (number x) 18 → IsSignedCeiling w (number x) 18 → z ≡ w
+same_ceiling x z w = one_ceiling (number x) (number x) 18 z w (record { same = refl })
 
 floor_ceiling : (f : Fraction) (z w : ℤ) (P : ℤ) → (z *ℤ pos (den f)) ≤ℤ P → P ≤ℤ (w *ℤ pos (den f)) → z ≤ℤ w
 floor_ceiling f z w P h k = cancel_right (den f) z w (omega arith) (omega (arith, ints, h, k))
@@ -24,19 +20,25 @@ floor_ceiling f z w P h k = cancel_right (den f) z w (omega arith) (omega (arith
 -- a thick layer's bounds are in order, however they were found
 pub thick_between : (top bottom : Dec) (t : Span) → IsSpan top bottom t → IsThick top bottom → IsBetween t.lo t.hi (gap (number top) (number bottom))
 thick_between top bottom t k thick =
-    let low = floor_most (number top) thick.floor k.top_lo _ thick.is_floor.at_most k.tops.0.next in
-    let high = ceiling_least (number bottom) thick.ceiling k.bottom_hi _ thick.is_ceiling.at_least k.bottoms.1.next in
+    let low = same_floor top thick.floor k.top_lo thick.is_floor k.tops.0 in
+    let high = same_ceiling bottom thick.ceiling k.bottom_hi thick.is_ceiling k.bottoms.1 in
     let tops = floor_ceiling (number top) k.top_lo k.top_hi _ k.tops.0.at_most k.tops.1.at_least in
     let bottoms = floor_ceiling (number bottom) k.bottom_lo k.bottom_hi _ k.bottoms.0.at_most k.bottoms.1.at_least in
     span_between top bottom t k thick (omega (arith, ints, low, high, thick.room)) (omega (arith, ints, low, high, thick.room, tops, bottoms))
 
+-- a ceiling is the floor or the next number
+next_to : (f : Fraction) (z w : ℤ) → IsSignedFloor z f 18 → IsSignedCeiling w f 18 → (z ≤ℤ w) × (w ≤ℤ (z +ℤ pos 1))
+next_to f z w p q = (
+  floor_ceiling f z w _ p.at_most q.at_least,
+  by_lt_z (z +ℤ pos 1) w
+      (λ lt. let over = mul_mono_right (den f) (z +ℤ pos 1) (w +ℤ neg_ℤ (pos 1)) (omega (arith, ints, lt)) in absurd (omega (arith, ints, over, p.next, q.next)))
+      (λ le. le),
+)
+
 -- The other end of an elevation's units, where its own call finds it too large: it is one unit past a small one.
 upper_end : (f : Fraction) (z w : ℤ) → IsSignedFloor z f 18 → IsSignedCeiling w f 18 → unsigned_abs z < 2 ^ 126 → 2 ^ 126 ≤ unsigned_abs w → w ≡ pos (2 ^ 126)
 upper_end f z w p q small large =
-    let low : z ≤ℤ w = floor_ceiling f z w _ p.at_most q.at_least in
-    let next : w ≤ℤ (z +ℤ pos 1) = by_lt_z (z +ℤ pos 1) w
-    (λ lt. let over = mul_mono_right (den f) (z +ℤ pos 1) (w +ℤ neg_ℤ (pos 1)) (omega (arith, ints, lt)) in absurd (omega (arith, ints, over, p.next, q.next)))
-    (λ le. le) in
+    let (low, next) = next_to f z w p q in
     at_end z w low next small large
   where
     at_end : (z w : ℤ) → z ≤ℤ w → w ≤ℤ (z +ℤ pos 1) → unsigned_abs z < 2 ^ 126 → 2 ^ 126 ≤ unsigned_abs w → w ≡ pos (2 ^ 126)
@@ -47,10 +49,7 @@ upper_end f z w p q small large =
 
 lower_end : (f : Fraction) (z w : ℤ) → IsSignedFloor z f 18 → IsSignedCeiling w f 18 → unsigned_abs w < 2 ^ 126 → 2 ^ 126 ≤ unsigned_abs z → z ≡ neg_ℤ (pos (2 ^ 126))
 lower_end f z w p q small large =
-    let low : z ≤ℤ w = floor_ceiling f z w _ p.at_most q.at_least in
-    let next : w ≤ℤ (z +ℤ pos 1) = by_lt_z (z +ℤ pos 1) w
-    (λ lt. let over = mul_mono_right (den f) (z +ℤ pos 1) (w +ℤ neg_ℤ (pos 1)) (omega (arith, ints, lt)) in absurd (omega (arith, ints, over, p.next, q.next)))
-    (λ le. le) in
+    let (low, next) = next_to f z w p q in
     at_end z w low next small large
   where
     at_end : (z w : ℤ) → z ≤ℤ w → w ≤ℤ (z +ℤ pos 1) → unsigned_abs w < 2 ^ 126 → 2 ^ 126 ≤ unsigned_abs z → z ≡ neg_ℤ (pos (2 ^ 126))
@@ -82,12 +81,8 @@ pub record HasRoom (a b c d : ℤ) : Type 0 where
   pub order : unsigned_abs (a -ℤ d) ≤ unsigned_abs (b -ℤ c)
 
 room : (a b c d : ℤ) → (d +ℤ pos 1000000) ≤ℤ a → a ≤ℤ b → c ≤ℤ d → HasRoom a b c d
-room a b c d p q r = record { some = positive (a -ℤ d) (omega (arith, ints, p)); order = grows (a -ℤ d) (b -ℤ c) (omega (arith, ints, p)) (omega (arith, ints, q, r)) }
+room a b c d p q r = record { some = abs_positive (a -ℤ d) (omega (arith, ints, p)); order = grows (a -ℤ d) (b -ℤ c) (omega (arith, ints, p)) (omega (arith, ints, q, r)) }
   where
-    positive : (z : ℤ) → pos 0 <ℤ z → 0 < unsigned_abs z
-    positive (pos n) h = omega (arith, ints, h)
-    positive (negsuc n) h = absurd (omega (arith, ints, h))
-
     grows : (z w : ℤ) → pos 0 <ℤ z → z ≤ℤ w → unsigned_abs z ≤ unsigned_abs w
     grows (pos n) (pos k) p q = omega (arith, ints, q)
     grows (pos n) (negsuc k) p q = absurd (omega (arith, ints, q))
@@ -95,13 +90,13 @@ room a b c d p q r = record { some = positive (a -ℤ d) (omega (arith, ints, p)
 
 pub edges_room : (top bottom : Dec) (a b c d : ℤ) → IsThick top bottom → IsSignedFloor a (number top) 18 → IsSignedCeiling b (number top) 18 → IsSignedFloor c (number bottom) 18 → IsSignedCeiling d (number bottom) 18 → HasRoom a b c d
 edges_room top bottom a b c d thick p q r s =
-    let low = floor_most (number top) thick.floor a _ thick.is_floor.at_most p.next in
-    let high = ceiling_least (number bottom) thick.ceiling d _ thick.is_ceiling.at_least s.next in
+    let low = same_floor top thick.floor a thick.is_floor p in
+    let high = same_ceiling bottom thick.ceiling d thick.is_ceiling s in
     room a b c d (omega (arith, ints, low, high, thick.room)) (floor_ceiling (number top) a b _ p.at_most q.at_least) (floor_ceiling (number bottom) c d _ r.at_most s.at_least)
 
 -- every floor of the upper elevation, and every ceiling of the lower one, is small
 pub top_small : (top bottom : Dec) → IsThick top bottom → (z : ℤ) → IsSignedFloor z (number top) 18 → unsigned_abs z < 2 ^ 126
-top_small top bottom thick z h = subst (λ (w : ℤ). unsigned_abs w < 2 ^ 126) (one_floor (number top) (number top) 18 thick.floor z (record { same = refl }) thick.is_floor h) thick.small.0
+top_small top bottom thick z h = subst (λ (w : ℤ). unsigned_abs w < 2 ^ 126) (same_floor top thick.floor z thick.is_floor h) thick.small.0
 
 pub bottom_small : (top bottom : Dec) → IsThick top bottom → (z : ℤ) → IsSignedCeiling z (number bottom) 18 → unsigned_abs z < 2 ^ 126
-bottom_small top bottom thick z h = subst (λ (w : ℤ). unsigned_abs w < 2 ^ 126) (one_ceiling (number bottom) (number bottom) 18 thick.ceiling z (record { same = refl }) thick.is_ceiling h) thick.small.1
+bottom_small top bottom thick z h = subst (λ (w : ℤ). unsigned_abs w < 2 ^ 126) (same_ceiling bottom thick.ceiling z thick.is_ceiling h) thick.small.1

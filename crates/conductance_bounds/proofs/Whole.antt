@@ -1,6 +1,7 @@
-use Rattle.conductance_bounds.proofs.Common.{ℕ, ◌+◌, ◌*◌, ◌≤◌, ◌<◌, ◌^◌, inl, inr, arith, cases_lt, mul-le-mul_right, le_of_mul-le-mul_right, Ratio, den}
-use Rattle.conductance_bounds.proofs.Common.{AtMost, IsFloor, IsCeiling, Reaches, Passes}
+use Rattle.conductance_bounds.proofs.Common.{ℕ, ◌+◌, ◌*◌, ◌≤◌, ◌<◌, ◌^◌, inl, inr, arith, cases_lt, mul-le-mul_right, Ratio, den, AtMost, IsFloor, IsCeiling}
+use Rattle.conductance_bounds.proofs.Common.{Reaches, Passes}
 use Rattle.decimal_input.proofs.Cross.{le_cancel}
+use Rattle.conductance_bounds.proofs.Enclosing.{below_units}
 
 pub Passes-less : (n m : ℕ) (f : Ratio) (s : ℕ) → m ≤ n → Passes n f s → Passes m f s
 Passes-less n m f s le h = record { pass = omega (arith, h.pass, mul-le-mul_right (den f) le) }
@@ -23,9 +24,6 @@ ceiling-passes n m f s lt h = elim (cases_lt (m * den f) (f.num * 10 ^ s)) [
 
 -- the whole part below is at most the ceiling above
 pub floor-ceiling : (m n : ℕ) (f g : Ratio) (s : ℕ) → AtMost f g → IsFloor m f s → IsCeiling n g s → m ≤ n
-floor-ceiling m n f g s le a b = le_cancel (den g) m n (omega arith) (omega (arith, b.at_least, below m f.num (den f) g.num (den g) (10 ^ s) (omega arith) a.at_most le.cross))
-  where
-    below : (n a x b y p : ℕ) → 0 < x → n * x ≤ a * p → a * y ≤ b * x → n * y ≤ b * p
-    below n a x b y p h q r = le_of_mul-le-mul_right {k = x} (omega (arith, mul-le-mul_right y q, mul-le-mul_right p r)) h
+floor-ceiling m n f g s le a b = le_cancel (den g) m n (omega arith) (omega (arith, b.at_least, below_units m f.num (den f) g.num (den g) (10 ^ s) (omega arith) a.at_most le.cross))
 
 pub ruleset pair_lemmas = (Passes-less, Reaches-passes, ceiling-passes, floor-ceiling)

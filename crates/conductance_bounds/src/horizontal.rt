@@ -12,7 +12,7 @@ ghost use Rattle.conductance_bounds.specs.Branches.{half_term, column_k, row_of,
 ghost use Rattle.conductance_bounds.specs.Pairs.{IsWholePair};
 ghost use Rattle.conductance_bounds.specs.Calls.{IsHalf, IsColHalf};
 
-use crate::interval::{between, exactly, one};
+use crate::interval::{exactly, one, span_of};
 use crate::pair::{Pair, rounded_pair};
 use crate::span::Span;
 use decimal_input::dec::Dec;
@@ -53,13 +53,13 @@ pub fn row_branch(a: &Half, b: &Half, width: Dec, s: u32) -> Option<Pair>
         a.along,
         width,
         exactly(a.hk),
-        between(a.thick_lo, a.thick_hi),
+        span_of(a.thick_lo, a.thick_hi),
     );
     let second = resistance(
         b.along,
         width,
         exactly(b.hk),
-        between(b.thick_lo, b.thick_hi),
+        span_of(b.thick_lo, b.thick_hi),
     );
     rounded_pair(in_a_row(first, second), s)
 }
@@ -80,13 +80,13 @@ pub fn col_branch(a: &ColHalf, b: &ColHalf, width: Dec, s: u32) -> Option<Pair>
         a.along,
         width,
         along_column(a),
-        between(a.thick_lo, a.thick_hi),
+        span_of(a.thick_lo, a.thick_hi),
     );
     let second = resistance(
         b.along,
         width,
         along_column(b),
-        between(b.thick_lo, b.thick_hi),
+        span_of(b.thick_lo, b.thick_hi),
     );
     rounded_pair(in_a_row(first, second), s)
 }

@@ -50,7 +50,7 @@ pub(crate) fn exactly(a: Dec) -> Span
 }
 
 /// A thickness between its two decimals.
-pub(crate) fn between(lo: Sd, hi: Sd) -> Span
+pub(crate) fn span_of(lo: Sd, hi: Sd) -> Span
     requires thick { AreThick lo hi }
     ensures ordered { IsOrdered result }
     ensures bounds { (f : Ratio) → AreBounds (Within lo hi f) result }

@@ -1,5 +1,4 @@
 // Two whole bounds.
-ghost use Rattle.std.specs.Prelude.{◌≤◌};
 ghost use Rattle.conductance_bounds.specs.Terms.{Term};
 ghost use Rattle.conductance_bounds.specs.Pairs.{IsWholePair};
 ghost use Rattle.conductance_bounds.specs.Intervals.{IsOrdered, AreBounds};

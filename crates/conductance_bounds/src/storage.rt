@@ -4,7 +4,6 @@ ghost use Rattle.decimal_input.specs.Canonical.{size};
 ghost use Rattle.decimal_input.specs.Enclosures.{Encloses};
 ghost use Rattle.decimal_input.specs.Ratios.{Ratio};
 ghost use Rattle.model_types.specs.Numbers.{IsPositive, IsNotNegative};
-ghost use Rattle.conductance_bounds.specs.Terms.{IsBetween};
 ghost use Rattle.conductance_bounds.specs.Intervals.{IsOrdered, reach, AreBounds};
 ghost use Rattle.conductance_bounds.specs.Growth.{IsUsable, IsGrown};
 ghost use Rattle.conductance_bounds.specs.Branches.{storativity_term, thickness_of, storage_of, storage_exact};
@@ -13,7 +12,7 @@ ghost use Rattle.conductance_bounds.specs.Calls.{IsThickness, LiesWithin};
 
 use crate::area::area;
 use crate::factors::Factors;
-use crate::interval::{between, exactly, factor};
+use crate::interval::{exactly, factor, span_of};
 use crate::pair::{Pair, rounded_pair};
 use crate::span::Span;
 use decimal_input::dec::Dec;
@@ -60,7 +59,7 @@ fn storativity(ss: Dec, thick: Option<(Sd, Sd)>) -> Span
 {
     let ss = exactly(ss);
     match thick {
-        Some((lo, hi)) => ss.times(between(lo, hi)),
+        Some((lo, hi)) => ss.times(span_of(lo, hi)),
         None => ss,
     }
 }

@@ -11,7 +11,7 @@ ghost use Rattle.conductance_bounds.specs.Pairs.{IsWholePair};
 ghost use Rattle.conductance_bounds.specs.Calls.{IsVertHalf, IsBed};
 
 use crate::area::area;
-use crate::interval::{between, exactly};
+use crate::interval::{exactly, span_of};
 use crate::pair::{Pair, rounded_pair};
 use crate::span::Span;
 use decimal_input::dec::Dec;
@@ -59,7 +59,10 @@ pub fn vert_branch(
 {
     let first = half_resistance(a);
     let second = half_resistance(b);
-    rounded_pair(area(delr, delc).over(joined(first, bed, second)), s)
+    rounded_pair(
+        area(delr, delc).over(joined_resistance(first, bed, second)),
+        s,
+    )
 }
 
 // VK: VKA, or HK / VKA.
@@ -87,11 +90,11 @@ fn half_resistance(a: &VertHalf) -> Span
     ensures positive { 0 < result.lo.m }
 {
     let k = conductivity(a);
-    between(a.thick_lo, a.thick_hi).over(k.plus(k))
+    span_of(a.thick_lo, a.thick_hi).over(k.plus(k))
 }
 
 // The resistance from cell to cell, with the bed's between those of the halves.
-fn joined(first: Span, bed: &Bed, second: Span) -> Span
+fn joined_resistance(first: Span, bed: &Bed, second: Span) -> Span
     requires first { IsOrdered first }
     requires second { IsOrdered second }
     requires bed { IsBed bed.now }
@@ -107,7 +110,7 @@ fn joined(first: Span, bed: &Bed, second: Span) -> Span
     if bed.thick_lo.m == 0 {
         first.plus(second)
     } else {
-        let bed = between(bed.thick_lo, bed.thick_hi).over(exactly(bed.vkcb));
+        let bed = span_of(bed.thick_lo, bed.thick_hi).over(exactly(bed.vkcb));
         first.plus(bed).plus(second)
     }
 }

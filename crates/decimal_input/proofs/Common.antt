@@ -16,9 +16,9 @@ pub use Rattle.decimal_input.specs.Canonical.{IsDec, number, size}
 pub use Rattle.decimal_input.specs.Coefficients.{IsOf}
 pub use Rattle.decimal_input.specs.Decimals.{decimal, down, up, with_sign}
 unfoldable pub use Rattle.decimal_input.specs.Decimals.{scaled}
-pub use Rattle.decimal_input.specs.Enclosures.{Encloses, EnclosesSigned, IsBetweenSigned, IsBetweenWhole, IsShare}
+pub use Rattle.decimal_input.specs.Enclosures.{EnclosesSigned, IsBetweenSigned}
 pub use Rattle.decimal_input.specs.Exponents.{IsCap, IsCapped}
-pub use Rattle.decimal_input.specs.Fractions.{Fraction, IsOver, negated, signed}
+pub use Rattle.decimal_input.specs.Fractions.{Fraction, IsOver, negated}
 pub use Rattle.decimal_input.specs.Grammar.{AreDigits, IsExponent, IsInteger, IsPart, IsSign, Spelling, Spells, is_digit, is_mark, number_from}
 pub use Rattle.decimal_input.specs.Outcomes.{IsCanonical, IsTested, IsTrimmed, Names, differ}
 pub use Rattle.decimal_input.specs.Ratios.{AtMost, Below, Ratio, Same, den}

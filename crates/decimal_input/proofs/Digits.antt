@@ -1,4 +1,4 @@
-use Rattle.decimal_input.proofs.Common.{◌≡◌, ℕ, zero, suc, ◌+◌, ◌*◌, ◌-◌, ◌≤◌, ◌<◌, ◌^◌, inl, inr, sym, ap, subst, ◌∙◌, arith, true, false, add-one, pow-add}
+use Rattle.decimal_input.proofs.Common.{◌≡◌, ℕ, zero, suc, ◌+◌, ◌*◌, ◌-◌, ◌≤◌, ◌<◌, ◌^◌, inl, inr, sym, ap, ◌∙◌, arith, true, false, add-one, pow-add}
 use Rattle.decimal_input.proofs.Common.{mul-le-mul_left, mul-le-mul_right, pow-suc, Coefficient, IsOf, IsTrimmed}
 use Rattle.decimal_input.proofs.Powers.{ten_pos}
 
@@ -52,9 +52,3 @@ shifted c d z t n ht h =
     let e : t ≡ 10 ^ z * 10 = ht ∙ (rw add-one (pow-suc 10 z)) in
     let k : d * t ≡ d * (10 ^ z * 10) = ap (λ (x : ℕ). d * x) e in
     omega (arith, k, h.whole)
-
-pub low_power : (z : ℕ) → z < 18 → 10 ^ (z + 1) ≤ 10 ^ 18
-low_power z h =
-    let e : (z + 1) + (17 - z) ≡ 18 = omega arith in
-    let P : ℕ → Type 0 = λ n. 10 ^ (z + 1) ≤ 10 ^ n in
-    subst P e (rw (pow-add 10 (z + 1) (17 - z)) (omega (arith, mul-le-mul_left (10 ^ (z + 1)) (ten_pos (17 - z)))))

@@ -1,10 +1,6 @@
 use Rattle.decimal_input.proofs.Common.{◌≡◌, ℕ, suc, ◌+◌, ◌*◌, ◌≤◌, ◌<◌, arith, refl, mul-le-mul, Ratio, den, ratio, plus, times, over, AtMost, Below, Same}
 use Rattle.decimal_input.proofs.Cross.{cross_trans, cross_below, cross_at_most, cross_times, cross_plus, cross_same}
 
-pub den_ratio : (n d : ℕ) → 0 < d → den (ratio n d) ≡ d
-unfolding ratio
-den_ratio n d h = omega arith
-
 pub AtMost-trans : {f g h : Ratio} → AtMost f g → AtMost g h → AtMost f h
 AtMost-trans {f} {g} {h} p q = record { cross = cross_trans f.num (den f) g.num (den g) h.num (den h) (omega arith) p.cross q.cross }
 

@@ -26,10 +26,6 @@ digit_is_no_sign b h = (grind (arith, nat_tests), grind (arith, nat_tests))
 pub digit_first : (b : ℕ) (bs : List ℕ) → is_digit b ≡ true → HasNoSign (b ∷ bs)
 digit_first b bs h = let k = digit_is_no_sign b h in (k.0, rw k.1 refl)
 
-pub digits_first : (ds ys : List ℕ) → AreDigits ds → 1 ≤ length ds → HasNoSign (ds ++ ys)
-digits_first [] ys all h = absurd (omega (arith, h))
-digits_first (b ∷ ds) ys all h = digit_first b (ds ++ ys) (all 0 0 (omega arith))
-
 -- a sign in front is read as what it says
 pub sign_read : (neg : Bool) (s rest : List ℕ) → IsSign neg s → HasNoSign rest → (is_negative (s ++ rest) ≡ neg) × (unsigned (s ++ rest) ≡ rest)
 sign_read neg s rest (inl (n, e)) h = rw (e, n) (refl, refl)

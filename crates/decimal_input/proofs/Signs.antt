@@ -1,4 +1,4 @@
-use Rattle.decimal_input.proofs.Common.{◌≡◌, ℕ, ◌<◌, arith, ap, ◌∙◌, ℤ, pos, neg_ℤ, ◌*ℤ◌, ◌+ℤ◌, ◌≤ℤ◌, ◌<ℤ◌, mul-le-mul_right, ints, by_lt_z, le_out}
+use Rattle.decimal_input.proofs.Common.{◌≡◌, ℕ, ◌<◌, arith, ap, ◌∙◌, ℤ, pos, neg_ℤ, ◌*ℤ◌, ◌+ℤ◌, ◌≤ℤ◌, mul-le-mul_right, ints, by_lt_z, le_out}
 use Rattle.decimal_input.proofs.Differences.{diffs, as_diff, same_diff}
 
 pub mul_mono_right : (k : ℕ) (a b : ℤ) → a ≤ℤ b → (a *ℤ pos k) ≤ℤ (b *ℤ pos k)
@@ -30,6 +30,3 @@ neg_times a b = rw (as_diff a, as_diff b) (simp diffs (same_diff _ _ _ _ (omega 
 
 pub turned : (a b : ℤ) → a ≤ℤ b → neg_ℤ b ≤ℤ neg_ℤ a
 turned a b h = omega (arith, ints)
-
-pub turned_below : (a b : ℤ) → a <ℤ b → neg_ℤ b <ℤ neg_ℤ a
-turned_below a b h = omega (arith, ints)

@@ -1,4 +1,4 @@
-use Rattle.std.specs.Prelude.{◌≡◌, ℕ, suc, List, [], ◌∷◌, ℤ, pos, neg_ℤ, ◌+ℤ◌, ◌*ℤ◌, ◌≤ℤ◌, ◌+◌, ◌*◌, ◌-◌, unsigned_abs}
+use Rattle.std.specs.Prelude.{◌≡◌, ℕ, suc, List, [], ◌∷◌, ℤ, pos, neg_ℤ, ◌+ℤ◌, ◌*ℤ◌, ◌≤ℤ◌, ◌+◌, ◌*◌}
 use Rattle.decimal_input.specs.Ratios.{Ratio}
 
 -- A fraction: num over less + 1. Heads and flows are fractions. (Textbook.)
@@ -29,10 +29,6 @@ plus f g = record { num = f.num *ℤ pos (den g) +ℤ g.num *ℤ pos (den f); le
 -- f * g
 abbrev pub times : Fraction → Fraction → Fraction
 times f g = record { num = f.num *ℤ g.num; less = f.less * g.less + f.less + g.less }
-
--- f / g, for g above 0
-abbrev pub over : Fraction → Fraction → Fraction
-over f g = record { num = f.num *ℤ pos (den g); less = den f * unsigned_abs g.num - 1 }
 
 -- f ≤ g
 pub record AtMost (f g : Fraction) : Type 0 where

@@ -1,5 +1,5 @@
 // The canonical form of a number.
-ghost use Rattle.std.specs.Prelude.{◌≡◌, ℕ, ◌<◌, ◌≤◌, ◌^◌, ℤ, pos, neg_ℤ, ◌≤ℤ◌, IfOk};
+ghost use Rattle.std.specs.Prelude.{ℕ, ◌<◌, ◌≤◌, ◌^◌, ℤ, pos, neg_ℤ, ◌≤ℤ◌, IfOk};
 ghost use Rattle.decimal_input.specs.Coefficients.{IsOf};
 ghost use Rattle.decimal_input.specs.Canonical.{IsDec};
 ghost use Rattle.decimal_input.specs.Outcomes.{IsCanonical};

@@ -1,7 +1,7 @@
 // The exponent of a number's word.
-ghost use Rattle.std.specs.Prelude.{◌≡◌, ℕ, ◌<◌, ◌≤◌, ◌^◌, min, ℤ, pos, neg_ℤ, ◌≤ℤ◌, length, slice_index, true, IfSome};
-ghost use Rattle.decimal_input.specs.Words.{exponent_of, unsigned};
-ghost use Rattle.decimal_input.specs.Grammar.{is_digit, number_from, is_mark};
+ghost use Rattle.std.specs.Prelude.{◌≡◌, ℕ, ◌<◌, ◌≤◌, min, ℤ, pos, neg_ℤ, ◌≤ℤ◌, length, slice_index, true, IfSome};
+ghost use Rattle.decimal_input.specs.Words.{exponent_of};
+ghost use Rattle.decimal_input.specs.Grammar.{is_digit, number_from};
 ghost use Rattle.decimal_input.specs.Exponents.{IsCapped};
 
 use crate::digit::mark_byte;

@@ -1,5 +1,5 @@
 // The exact product of two numbers.
-ghost use Rattle.std.specs.Prelude.{◌≡◌, ℕ, ◌+◌, ◌*◌, ◌<◌, ◌≤◌, ◌^◌, ◌+ℤ◌, IfOk};
+ghost use Rattle.std.specs.Prelude.{◌+◌, ◌*◌, ◌<◌, ◌≤◌, ◌^◌, ◌+ℤ◌, IfOk};
 ghost use Rattle.decimal_input.specs.Canonical.{IsDec, number};
 ghost use Rattle.decimal_input.specs.Coefficients.{IsOf};
 ghost use Rattle.decimal_input.specs.Fractions.{times as product_of, Same};

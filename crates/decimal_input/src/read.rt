@@ -1,10 +1,10 @@
 // Reading a number.
-ghost use Rattle.std.specs.Prelude.{◌≡◌, IfOk, false};
+ghost use Rattle.std.specs.Prelude.{IfOk};
 ghost use Rattle.decimal_input.specs.Canonical.{IsDec, number};
 ghost use Rattle.decimal_input.specs.Decimals.{decimal};
 ghost use Rattle.decimal_input.specs.Fractions.{Same};
 ghost use Rattle.decimal_input.specs.Grammar.{Spelling, Spells};
-ghost use Rattle.decimal_input.specs.Outcomes.{IsCanonical, Names};
+ghost use Rattle.decimal_input.specs.Outcomes.{Names};
 
 use crate::canonical::canonical;
 use crate::coefficient::{NOTHING, with_digits};

@@ -1,5 +1,5 @@
 // A number of the input as whole units.
-ghost use Rattle.std.specs.Prelude.{◌≡◌, ℕ, ◌<◌, ◌^◌, IfNone, IfSome, unsigned_abs};
+ghost use Rattle.std.specs.Prelude.{◌<◌, ◌^◌, IfNone, IfSome, unsigned_abs};
 ghost use Rattle.decimal_input.specs.Canonical.{IsDec, number};
 ghost use Rattle.decimal_input.specs.Wholes.{IsCeilingPast, IsFloorPast, IsSignedCeiling, IsSignedFloor};
 

@@ -1,5 +1,5 @@
 // A decimal as whole units: the greatest number of them not above it, the least not below it.
-ghost use Rattle.std.specs.Prelude.{◌≡◌, ℕ, ◌*◌, ◌-◌, ◌<◌, ◌≤◌, ◌^◌, MatchOption};
+ghost use Rattle.std.specs.Prelude.{◌≡◌, ◌*◌, ◌-◌, ◌<◌, ◌≤◌, ◌^◌, MatchOption};
 ghost use Rattle.decimal_input.specs.Decimals.{scaled};
 ghost use Rattle.decimal_input.specs.Wholes.{IsFloor, IsCeiling, Passes, Reaches};
 

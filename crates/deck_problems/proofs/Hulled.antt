@@ -1,6 +1,6 @@
 -- The hulls of the bounds of each cell, made in place.
 use Rattle.deck_problems.proofs.Common.{◌≡◌, ℕ, ◌+◌, ◌<◌, ◌≤◌, inl, inr, List, length, set, sym, subst, ◌∙◌, arith, length-set, get_or-set_same}
-use Rattle.deck_problems.proofs.Common.{get_or-set_other, Bound, no_bound, bound_in, IsHullBound, AreHullBounds}
+use Rattle.deck_problems.proofs.Common.{get_or-set_other, Bound, no_bound, bound_in, IsHullBound}
 use Rattle.std.proofs.lemmas.Bool.{cases_order}
 
 -- the first n bounds are hulls, all others as they were
@@ -24,6 +24,3 @@ module _ (xs ys rs : List Bound) where
     ];
     rest = λ c past. get_or-set_other rs n c b no_bound (λ same. omega (arith, same, past)) ∙ h.rest c (omega (arith, past));
   }
-
-  pub all_hulled : (n : ℕ) → length xs ≤ n → IsHulled xs ys rs n → AreHullBounds xs ys rs
-  all_hulled n past h = record { whole = h.whole; each = λ c lt. h.each c (omega (arith, lt, past)) }

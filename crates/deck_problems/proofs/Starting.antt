@@ -82,11 +82,6 @@ starts_fit_decks d x decks h = fit_by d.first d.second x decks.first decks.secon
 pub starts_enclose_members : StartHeadsEnclose
 starts_enclose_members d x decks h = enclose_by d.first d.second x decks.first decks.second h
 
--- the starting heads of one deck, and of two
-pub starts_alone : (a : FlowModel) (o : Option FlowModel) (x : List Bound) → ((b : FlowModel) → o ≡ Some b → ⊥) → AreStartHeads a x → AreStartsBy a o x
-starts_alone a None x alone h = h
-starts_alone a (Some b) x alone h = absurd (alone b (λ i. Some b))
-
 pub starts_hulled : (d : Decks) (b : FlowModel) → d.second ≡ Some b → (xs ys rs : List Bound) → AreStartHeads d.first xs → AreStartHeads b ys → AreHullBounds xs ys rs → AreStartHeadsFor d rs
 starts_hulled d b is xs ys rs h k r =
     subst (λ (o : Option FlowModel). AreStartsBy d.first o rs) (sym is) (record { first = xs; is_first = h; second = ys; is_second = k; hulls = r })

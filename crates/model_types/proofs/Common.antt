@@ -9,7 +9,6 @@ pub use Rattle.std.proofs.lemmas.List.Elements.{All-cons, All-contains, All-get_
 pub use Rattle.std.proofs.lemmas.List.FromFn.{fill_by_all, get_or-map-range_with_len, length-map-range_with_len, map-range_with_len_more}
 pub use Rattle.std.proofs.lemmas.Nat.{div-add-mod', div-mul-add, div_below, mod-mul-add, mod_below, mul-add-lt}
 pub use Rattle.std.specs.List.{Contains, cons_option, filter, filter_map, find, flat_map, list_any, range_with_len, sum_by}
-pub use Rattle.std.specs.Option.{option_map}
 pub use Rattle.std.specs.Prelude.{min, nat_le, nat_lt, replicate, reverse, ◌==◌}
 pub use Rattle.model_types.specs.Cells.{back, cell_count, cell_number, column_of, down, front, layer_of, layer_size, left, place, right, row_of, up}
 pub use Rattle.model_types.specs.Faces.{face_after, face_before, faces, has_after, has_before, span, stride, through}

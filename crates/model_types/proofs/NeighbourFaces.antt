@@ -1,8 +1,9 @@
 -- The neighbours of a cell by its place, and by the faces along the three axes.
 use Rattle.model_types.proofs.Common.{◌≡◌, ℕ, zero, suc, ◌+◌, ◌*◌, ◌-◌, ◌%◌, ◌<◌, ◌≤◌, inl, inr, Bool, true, false, cond, Option, Some, None, [], ◌∷◌, map}
-use Rattle.model_types.proofs.Common.{refl, sym, ap, ◌∙◌, arith, nat_le, nat_lt, option_map, leb-true, leb-false, le-leb, cases_Bool, div-add-mod', mod-mul-add}
-use Rattle.model_types.proofs.Common.{mod_below, mul-le-mul_right, Grid, Face, Row, Column, Vertical, layer_size, cell_count, layer_of, row_of, column_of, left}
-use Rattle.model_types.proofs.Common.{right, back, front, up, down, has_before, has_after, face_before, face_after, HasSize}
+use Rattle.model_types.proofs.Common.{refl, sym, ap, ◌∙◌, arith, nat_le, nat_lt, leb-true, leb-false, le-leb, cases_Bool, div-add-mod', mod-mul-add, mod_below}
+use Rattle.model_types.proofs.Common.{mul-le-mul_right, Grid, Face, Row, Column, Vertical, layer_size, cell_count, layer_of, row_of, column_of, left, right}
+use Rattle.model_types.proofs.Common.{back, front, up, down, has_before, has_after, face_before, face_after, HasSize}
+use Rattle.std.specs.Option.{option_map}
 use Rattle.model_types.proofs.Numbering.{size_some, in_layer, place_below, row_below, column_below, place_gives}
 
 -- the end of an optional face
@@ -126,10 +127,3 @@ module _ (g : Grid) (h : HasSize g) (c : ℕ) (within : c < cell_count g) where
       map end_of (p ∷ q ∷ r ∷ x ∷ y ∷ z ∷ []) ≡ up g c ∷ back g c ∷ left g c ∷ right g c ∷ front g c ∷ down g c ∷ []
   ends_are p q r x y z e₁ e₂ e₃ e₄ e₅ e₆ i =
       (ap end_of e₁ ∙ up_is) i ∷ (ap end_of e₂ ∙ back_is) i ∷ (ap end_of e₃ ∙ left_is) i ∷ (ap end_of e₄ ∙ right_is) i ∷ (ap end_of e₅ ∙ front_is) i ∷ (ap end_of e₆ ∙ down_is) i ∷ []
-
-  -- the neighbours in the order of their call
-  pub cells_behind : {X : Type 0} (number : Option X → Option ℕ) (p q r x y z : Option X) →
-      number p ≡ end_of (face_before g Row c) → number q ≡ end_of (face_after g Row c) → number r ≡ end_of (face_before g Column c) → number x ≡ end_of (face_after g Column c) → number y ≡ end_of (face_before g Vertical c) → number z ≡ end_of (face_after g Vertical c) →
-      map number (p ∷ q ∷ r ∷ x ∷ y ∷ z ∷ []) ≡ left g c ∷ right g c ∷ back g c ∷ front g c ∷ up g c ∷ down g c ∷ []
-  cells_behind number p q r x y z e₁ e₂ e₃ e₄ e₅ e₆ i =
-      (e₁ ∙ left_is) i ∷ (e₂ ∙ right_is) i ∷ (e₃ ∙ back_is) i ∷ (e₄ ∙ front_is) i ∷ (e₅ ∙ up_is) i ∷ (e₆ ∙ down_is) i ∷ []

@@ -51,13 +51,6 @@ module _ (g : Grid) (h : HasSize g) where
     pub layer_below : layer_of g c < g.layers
     layer_below = div_below c (layer_size g) g.layers size_some (omega (arith, within))
 
-    pub is_place : IsPlace g (layer_of g c + 1) (row_of g c + 1) (column_of g c + 1)
-    is_place = record {
-      layer = (omega arith, omega (arith, layer_below));
-      row = (omega arith, omega (arith, row_below));
-      col = (omega arith, omega (arith, column_below));
-    }
-
   -- and a place its own cell's, counted from 1
   pub cell_leads_back : (k i j : ℕ) → IsPlace g k i j → place g (cell_number g (k - 1) (i - 1) (j - 1)) ≡ k ∷ i ∷ j ∷ []
   cell_leads_back k i j f =

@@ -52,7 +52,3 @@ module _ (g : Grid) where
 
   abbrev pub down : ℕ → Option ℕ
   down c = cond (nat_lt (layer_of g c + 1) g.layers) (Some (cell_number g (layer_of g c + 1) (row_of g c) (column_of g c))) None
-
--- the neighbours in the order left, right, back, front, up, down
-abbrev pub neighbours : Grid → ℕ → List (Option ℕ)
-neighbours g c = left g c ∷ right g c ∷ back g c ∷ front g c ∷ up g c ∷ down g c ∷ []

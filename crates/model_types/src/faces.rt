@@ -1,12 +1,12 @@
-// The faces of a cell, and its neighbours.
+// The faces of a cell.
 ghost use Rattle.std.specs.Prelude.{◌≡◌, ◌<◌, ◌≤◌, All, map, [], ◌∷◌};
 ghost use Rattle.std.specs.Option.{option_map};
-ghost use Rattle.model_types.specs.Cells.{layer_size, cell_count, left, right, back, front, up, down, neighbours};
+ghost use Rattle.model_types.specs.Cells.{layer_size, cell_count, left, right, back, front, up, down};
 ghost use Rattle.model_types.specs.Faces.{stride, span, face_before, face_after, faces};
 ghost use Rattle.model_types.specs.Grids.{HasSize, IsInGrid};
 
 use crate::face::{Axis, Face};
-use crate::grid::{CellId, Grid};
+use crate::grid::Grid;
 
 impl Grid {
     /// How many cells a layer has.
@@ -106,26 +106,4 @@ impl Grid {
             self.face_after(Axis::Vertical, cell),
         ]
     }
-}
-
-/// The neighbours of a cell: left, right, back, front, up, down.
-pub fn neighbours(grid: &Grid, cell: CellId) -> [Option<CellId>; 6]
-    requires size { HasSize grid.now }
-    requires cell { cell.0 < cell_count grid.now }
-    ensures { map (option_map (λ x. x.0)) result ≡ neighbours grid.now cell.0 }
-{
-    [
-        behind(grid.face_before(Axis::Row, cell.0)),
-        behind(grid.face_after(Axis::Row, cell.0)),
-        behind(grid.face_before(Axis::Column, cell.0)),
-        behind(grid.face_after(Axis::Column, cell.0)),
-        behind(grid.face_before(Axis::Vertical, cell.0)),
-        behind(grid.face_after(Axis::Vertical, cell.0)),
-    ]
-}
-
-fn behind(face: Option<Face>) -> Option<CellId>
-    ensures { option_map (λ x. x.0) result ≡ option_map (λ x. x.end) face }
-{
-    face.map(|x| CellId(x.end))
 }

@@ -20,7 +20,6 @@ pub mod time_steps;
 
 pub use entry::{Entry, Given};
 pub use face::{Axis, Face};
-pub use faces::neighbours;
 pub use given_heads::GivenHeads;
 pub use grid::{CellId, Grid};
 pub use kind::{Kind, kind_at};

@@ -10,7 +10,7 @@ use Rattle.problem_builder.proofs.Common.{IsRiver, IsDrain, IsEvap, IsFlow, IsLi
 use Rattle.problem_builder.proofs.ActiveCells.{variable_active, constant_active}
 use Rattle.problem_builder.proofs.Bounds.{BoundsEnclose}
 use Rattle.problem_builder.proofs.FacePairs.{face_range, face_active}
-use Rattle.problem_builder.proofs.Members.{In-option, recharge_is, constant_is, storage_is}
+use Rattle.problem_builder.proofs.Members.{In-option, flow_source, fixed_source}
 use Rattle.problem_builder.proofs.Sound.{IsSound, sum_part}
 use Rattle.problem_builder.proofs.Zipped.{zip_map}
 
@@ -71,14 +71,14 @@ module _ (m : FlowModel) (w : Thicknesses) (s : ℕ) (at : TimeStep) (old : List
 
   one_flow : (x : Flow) (y : FlowSource) → In e.flows x → In (flow_sources m at.period c) y → IsFlow m s c x y → FlowEncloses s x (exact_flow m at.period at.step before c y)
   one_flow x (Pumped q) i j k = record { kind = k.kind; flow = well_encloses s q x.lo x.hi k.flow (flow_small x i) }
-  one_flow x (Received rate) i j k = record { kind = k.kind; flow = near.recharges c rate x.lo x.hi lt (recharge_is m at.period c rate j) k.flow (flow_small x i) }
+  one_flow x (Received rate) i j k = record { kind = k.kind; flow = near.recharges c rate x.lo x.hi lt (flow_source m at.period c (Received rate) j) k.flow (flow_small x i) }
 
   flows : AllZip (FlowEncloses s) e.flows (map (exact_flow m at.period at.step before c) (flow_sources m at.period c))
   flows = zip_map (IsFlow m s c) (FlowEncloses s) (exact_flow m at.period at.step before c) e.flows (flow_sources m at.period c) one_flow is.flows
 
   one_fixed : (x : Fixed) (y : FixedSource) → In e.fixed x → In (fixed_sources m at.period c) y → IsFixed m w s at old c x y → FixedEncloses s x (exact_fixed m at.period at.step before c y)
   one_fixed x (ToConstant f) i j k =
-      let (g, b) = passing_are m.grid (is_constant m at.period) c f (constant_is m at.period c f j) in
+      let (g, b) = passing_are m.grid (is_constant m at.period) c f (fixed_source m at.period c (ToConstant f) j) in
       record {
         kind = k.kind;
         source = k.source;
@@ -92,7 +92,7 @@ module _ (m : FlowModel) (w : Thicknesses) (s : ℕ) (at : TimeStep) (old : List
       record {
         kind = k.kind;
         source = k.source;
-        conductance = near.storages c x.lo x.hi lt v (storage_is m at.period c j) k.conductance (fixed_small x i);
+        conductance = near.storages c x.lo x.hi lt v (fixed_source m at.period c FromStorage j) k.conductance (fixed_small x i);
         head = subst Q (sym k.high) (subst P (sym k.low) (olds c (record { within = lt; active = here })));
       }
 

@@ -1,18 +1,18 @@
 -- A cell without a refusal keeps what a problem asks of a cell alone.
 use Rattle.problem_builder.proofs.Common.{◌≡◌, ℕ, ◌*◌, ◌<◌, ◌≤◌, ◌^◌, inl, inr, true, Some, None, List, sym, subst, arith, All, ◌==◌, list_any}
 use Rattle.problem_builder.proofs.Common.{le_of_mul-le-mul_right, none-some, Ratio, den, Encloses, Bound, Link, Fixed, Drain, Entries, no_bound, lower_at}
-use Rattle.problem_builder.proofs.Common.{upper_at, LinkFits, FixedFits, RiverFits, DrainFits, EvapFits, CellFits, IsHead, Entry, Well, Face, FlowModel}
-use Rattle.problem_builder.proofs.Common.{TimeStep, cell_count, is_active, conductance, IsHeadNumber, is_variable, is_constant, FixedSource, DrainSource}
-use Rattle.problem_builder.proofs.Common.{as_river, as_drain, local_entries, variable_faces, fixed_sources, river_sources, drain_sources, evap_sources}
-use Rattle.problem_builder.proofs.Common.{ToConstant, ToGeneral, FromStorage, IsModel, IsEntryValid, IsEvapValid, In, All-In, In-All, filter_map-In, IsFaceOf}
-use Rattle.problem_builder.proofs.Common.{passing_are, end_within, Term, IsCapped, face_term, Thicknesses, IsRiver, IsDrain, IsEvap, IsLink, IsFixed, IsCellOf}
-use Rattle.problem_builder.proofs.Common.{AreGridHeads, IsTimeOf, fault_of}
-use Rattle.model_types.specs.declared.entry.Entry.TheVariants.{River as RiverEntry, Drain as DrainEntry, General as GeneralEntry}
+use Rattle.problem_builder.proofs.Common.{upper_at, LinkFits, FixedFits, RiverFits, DrainFits, EvapFits, CellFits, IsHead, Entry, Face, FlowModel, TimeStep}
+use Rattle.problem_builder.proofs.Common.{cell_count, is_active, conductance, IsHeadNumber, is_variable, is_constant, FixedSource, DrainSource, as_river}
+use Rattle.problem_builder.proofs.Common.{as_drain, local_entries, variable_faces, fixed_sources, river_sources, drain_sources, evap_sources, ToConstant}
+use Rattle.problem_builder.proofs.Common.{ToGeneral, FromStorage, IsModel, IsEntryValid, IsEvapValid, In, All-In, In-All, filter_map-In, IsFaceOf, passing_are}
+use Rattle.problem_builder.proofs.Common.{end_within, Term, IsCapped, face_term, Thicknesses, IsRiver, IsDrain, IsEvap, IsLink, IsFixed, IsCellOf, AreGridHeads}
+use Rattle.problem_builder.proofs.Common.{IsTimeOf, fault_of}
+use Rattle.model_types.specs.declared.entry.Entry.TheVariants.{Drain as DrainEntry}
 use Rattle.problem_builder.proofs.ActiveCells.{variable_active, constant_active}
 use Rattle.problem_builder.proofs.Bounds.{BoundsEnclose}
 use Rattle.problem_builder.proofs.FacePairs.{face_range, face_active}
 use Rattle.problem_builder.proofs.Fits.{cond_ordered, head_pair_range, river_valid, river_fits, evap_fits}
-use Rattle.problem_builder.proofs.Members.{constant_is, storage_is, general_among, some_same}
+use Rattle.problem_builder.proofs.Members.{fixed_source, some_same}
 use Rattle.problem_builder.proofs.Sound.{sound, or_false, none_passes, positive_unless_zero}
 use Rattle.problem_builder.proofs.ValidEntries.{local_valid}
 use Rattle.problem_builder.proofs.Zipped.{zip_all, left_of}
@@ -26,10 +26,8 @@ capped_in_order t s lo hi r (inl k) h = enclosed_ordered lo hi s r (h k.1)
 capped_in_order t s lo hi r (inr k) h = omega (arith, k.lower, k.upper)
 
 drain_valid : (y : Entry) (r : DrainSource) → as_drain y ≡ Some r → IsEntryValid 4194304 y → IsHeadNumber r.elevation
-drain_valid (Well cell q) r e h = absurd (none-some r e)
-drain_valid (RiverEntry cell a k b) r e h = absurd (none-some r e)
 drain_valid (DrainEntry cell a k) r e h = let P : DrainSource → Type 0 = λ z. IsHeadNumber z.elevation in subst P (some_same e) h.1
-drain_valid (GeneralEntry cell a k) r e h = absurd (none-some r e)
+drain_valid y r e h = absurd (none-some r e)
 
 drain_fits : (s : ℕ) (x : Drain) (r : DrainSource) → IsHeadNumber r.elevation → IsDrain s x r → DrainFits x
 drain_fits s x r p k =
@@ -54,14 +52,14 @@ module _ (m : FlowModel) (w : Thicknesses) (s : ℕ) (at : TimeStep) (old : List
 
   one_fixed : (x : Fixed) (y : FixedSource) → In (fixed_sources m at.period c) y → IsFixed m w s at old c x y → FixedFits x
   one_fixed x (ToConstant f) i k =
-      let (g, b) = passing_are m.grid (is_constant m at.period) c f (constant_is m at.period c f i) in
+      let (g, b) = passing_are m.grid (is_constant m at.period) c f (fixed_source m at.period c (ToConstant f) i) in
       let r = near.head_range f.end x.head_lo x.head_hi (end_within m.grid c f valid.grid.size lt g) b k.head in
       record { ordered = face_ordered f x.lo x.hi g (constant_active m at.period f.end b) k.conductance; head_lo = r.0; head_hi = r.1 }
   one_fixed x (ToGeneral head cond) i k =
-      let r = head_pair_range head x.head_lo x.head_hi (general_among m at.period c head cond i entries_fit) k.head_pair in
+      let r = head_pair_range head x.head_lo x.head_hi (fixed_source m at.period c (ToGeneral head cond) i entries_fit) k.head_pair in
       record { ordered = cond_ordered s cond x.lo x.hi k.cond; head_lo = r.0; head_hi = r.1 }
   one_fixed x FromStorage i k =
-      let steady = storage_is m at.period c i in
+      let steady = fixed_source m at.period c FromStorage i in
       record {
         ordered = capped_in_order _ s x.lo x.hi _ k.conductance (near.storages c x.lo x.hi lt v steady k.conductance);
         head_lo = subst IsHead (sym k.low) old_range.0;

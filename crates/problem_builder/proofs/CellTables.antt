@@ -1,8 +1,7 @@
 -- Tables that are given as lists over all cells.
 use Rattle.problem_builder.proofs.Common.{◌≡◌, ℕ, zero, suc, ◌+◌, ◌<◌, None, List, length, get_or, map, take, refl, ap, ◌∙◌, arith, range_with_len, NoFlow}
-use Rattle.problem_builder.proofs.Common.{FlowModel, cell_count, kind_of, kinds, last_given, given_heads, Filled, IsKind}
+use Rattle.problem_builder.proofs.Common.{FlowModel, cell_count, kind_of, kinds, last_given, given_heads, Filled, IsKind, Kind}
 use Rattle.model_types.specs.declared.given_heads.GivenHeads.{GivenHeads}
-use Rattle.model_types.specs.declared.kind.Kind.{Kind}
 
 over_range : {X : Type 0} (f : ℕ → X) (a n i : ℕ) (d : X) → i < n → get_or (map f (range_with_len a n)) i d ≡ f (a + i)
 over_range f a zero i d lt = absurd (omega (arith, lt))
@@ -23,11 +22,6 @@ kinds_filled m p xs e = record {
   count = ap length e ∙ over_length (kind_of m p) 0 (cell_count m.grid);
   each = (λ c lt. ap (λ ys. get_or ys c NoFlow) e ∙ over_cells (kind_of m p) (cell_count m.grid) c NoFlow lt);
 }
-
--- the given heads so far
-pub last_length : (m : FlowModel) (g : GivenHeads) → g ≡ given_heads m g.period → length g.last ≡ cell_count m.grid
-unfolding given_heads
-last_length m g e = ap (λ (h : GivenHeads). length h.last) e ∙ over_length (last_given (take g.period m.periods)) 0 (cell_count m.grid)
 
 pub last_at : (m : FlowModel) (g : GivenHeads) (c : ℕ) → g ≡ given_heads m g.period → c < cell_count m.grid → get_or g.last c None ≡ last_given (take g.period m.periods) c
 unfolding given_heads

@@ -3,7 +3,7 @@ pub use Rattle.std.proofs.Common.{All, Bool, FitsSigned, List, None, Option, Som
 pub use Rattle.std.proofs.Common.{pos, refl, replicate, rules, set, slice_index_or, subst, suc, sym, take, true, zero, ℕ, ℤ, ◌%◌, ◌*ℤ◌, ◌*◌, ◌++◌, ◌+ℤ◌, ◌+◌}
 pub use Rattle.std.proofs.Common.{◌-ℤ◌, ◌-◌, ◌/◌, ◌<◌, ◌^◌, ◌∙◌, ◌∷◌, ◌≡◌, ◌≤ℤ◌, ◌≤◌, ◌⊎◌}
 pub use Rattle.std.proofs.Math.Nat.{le_of_mul-le-mul_right, mul-le-mul_right}
-pub use Rattle.std.proofs.lemmas.Bool.{cases_Bool, cases_eq, cases_lt, cases_order, cond-true, eq-eqb, false≢true, leb-false, ne_eqb}
+pub use Rattle.std.proofs.lemmas.Bool.{and_parts, cases_Bool, cases_eq, cases_lt, cases_order, cond-true, eq-eqb, false≢true, leb-false, ne_eqb}
 pub use Rattle.std.proofs.lemmas.Int.{by_lt_z, int_max_is, int_min_is, ints, to_z-of_z}
 pub use Rattle.std.proofs.lemmas.List.{append-nil, append_assoc, drop_at, ext_get_or, get_or-map, get_or-set_other, get_or-set_same, get_or_append_left}
 pub use Rattle.std.proofs.lemmas.List.{get_or_default, get_or_push, get_or_read, length-map, length_push, map-set, reverse-append, take_at, take_more}
@@ -23,7 +23,7 @@ pub use Rattle.conductance_bounds.specs.Branches.{vertical_of, vertical_term}
 pub use Rattle.conductance_bounds.specs.Calls.{IsBed, IsColHalf, IsHalf, IsVertHalf}
 pub use Rattle.conductance_bounds.specs.Formulas.{area_term, bed_term, column_k_term, evap_term, face_term, recharge_term, storage_term, vertical_half_term}
 pub use Rattle.conductance_bounds.specs.Formulas.{vertical_k_at}
-pub use Rattle.conductance_bounds.specs.Growth.{IsGrown, IsMultiplier, IsUsable, sum_term}
+pub use Rattle.conductance_bounds.specs.Growth.{IsGrown, IsUsable, sum_term}
 unfoldable pub use Rattle.conductance_bounds.specs.Growth.{power_term}
 pub use Rattle.conductance_bounds.specs.Pairs.{IsCapped, IsPair, IsPast, high_end, low_end}
 pub use Rattle.conductance_bounds.specs.Parts.{IsCeilingOf, IsFloorOf, IsGivenPair, IsHeadUnits, IsPart, blend, part_term}
@@ -73,7 +73,7 @@ pub use Rattle.model_types.specs.Sources.FlowSource.{Pumped, Received}
 pub use Rattle.model_types.specs.Storage.{storage}
 pub use Rattle.model_types.specs.Times.{entries, no_period, period_at, steps_of}
 unfoldable pub use Rattle.model_types.specs.Times.{times}
-pub use Rattle.model_types.specs.Valid.{IsBedValid, IsCellValid, IsEntryValid, IsEvapValid, IsGivenValid, IsModel, IsPeriod, IsTimed, number_one}
+pub use Rattle.model_types.specs.Valid.{IsBedValid, IsCellValid, IsEntryValid, IsEvapValid, IsGivenValid, IsModel, IsPeriod, number_one}
 pub use Rattle.model_types.specs.declared.entry.Entry.{Entry}
 pub use Rattle.model_types.specs.declared.entry.Entry.TheVariants.{General, Well}
 pub use Rattle.model_types.specs.declared.entry.Given.{Given}
@@ -81,6 +81,7 @@ pub use Rattle.model_types.specs.declared.face.Axis.{Axis}
 pub use Rattle.model_types.specs.declared.face.Axis.TheVariants.{Column, Row, Vertical}
 pub use Rattle.model_types.specs.declared.face.Face.{Face}
 pub use Rattle.model_types.specs.declared.grid.Grid.{Grid}
+pub use Rattle.model_types.specs.declared.kind.Kind.{Kind}
 pub use Rattle.model_types.specs.declared.kind.Kind.TheVariants.{Constant, NoFlow, Variable}
 pub use Rattle.model_types.specs.declared.model.FlowModel.{FlowModel}
 pub use Rattle.model_types.specs.declared.period.Period.{Period}

@@ -2,11 +2,11 @@
 use Rattle.problem_builder.proofs.Common.{◌≡◌, ℕ, ◌≤◌, ◌^◌, inl, inr, Bool, Some, refl, sym, subst, arith, All, ℤ, pos, ◌+ℤ◌, ◌≤ℤ◌, ints, by_lt_z, none-some}
 use Rattle.problem_builder.proofs.Common.{Fraction, with_sign, cancel_right, mul_mono_right, Dec, number, size, AtMost-refl, AtMost-trans, IsSignedFloor}
 use Rattle.problem_builder.proofs.Common.{IsSignedCeiling, one_floor, one_ceiling, floor_ceiling_enclose, River, Evap, Entries, RiverFits, EvapFits, IsHead}
-use Rattle.problem_builder.proofs.Common.{Entry, Well, FlowModel, IsPositive, IsHeadNumber, EvapSource, RiverSource, as_river, local_entries, river_sources}
+use Rattle.problem_builder.proofs.Common.{Entry, FlowModel, IsPositive, IsHeadNumber, EvapSource, RiverSource, as_river, local_entries, river_sources}
 use Rattle.problem_builder.proofs.Common.{evap_sources, IsEntryValid, IsEvapValid, In-All, filter_map-In, Term, Holds, Lower, Upper, IsPair, IsCapped}
 use Rattle.problem_builder.proofs.Common.{evap_term, IsCond, IsHeadPair, IsRiver, IsEvap, IsCellOf, IsVariableCell, Inputs, AreInputs, widths_of}
 use Rattle.decimal_input.specs.Fractions.{den}
-use Rattle.model_types.specs.declared.entry.Entry.TheVariants.{River as RiverEntry, Drain as DrainEntry, General as GeneralEntry}
+use Rattle.model_types.specs.declared.entry.Entry.TheVariants.{River as RiverEntry}
 use Rattle.conductance_bounds.proofs.Enclosing.{bound_on}
 use Rattle.conductance_bounds.proofs.Whole.{floor-ceiling}
 use Rattle.problem_builder.proofs.ActiveCells.{variable_active}
@@ -35,10 +35,8 @@ head_pair_range d lo hi h k = (floor_in_range (number d) lo h.range k.floor, cei
 
 -- a river of the lists has heads in range
 pub river_valid : (y : Entry) (r : RiverSource) → as_river y ≡ Some r → IsEntryValid 4194304 y → IsHeadNumber r.stage × IsHeadNumber r.bottom
-river_valid (Well cell q) r e h = absurd (none-some r e)
 river_valid (RiverEntry cell a k b) r e h = let P : RiverSource → Type 0 = λ z. IsHeadNumber z.stage × IsHeadNumber z.bottom in subst P (some_same e) (h.1, h.3)
-river_valid (DrainEntry cell a k) r e h = absurd (none-some r e)
-river_valid (GeneralEntry cell a k) r e h = absurd (none-some r e)
+river_valid y r e h = absurd (none-some r e)
 
 pub river_fits : (s : ℕ) (x : River) (r : RiverSource) → IsHeadNumber r.stage → IsHeadNumber r.bottom → IsRiver s x r → RiverFits x
 river_fits s x r p q k =

@@ -1,59 +1,40 @@
 -- What the kind of a cell says of it.
-use Rattle.problem_builder.proofs.Common.{◌≡◌, ℕ, Bool, true, false, cond, refl, not, ◌&&◌, false≢true, FlowModel, NoFlow, Constant, Variable, is_variable}
-use Rattle.problem_builder.proofs.Common.{is_constant, kind_of, is_active}
+use Rattle.problem_builder.proofs.Common.{◌≡◌, ℕ, Bool, true, false, cond, refl, sym, ap, ◌∙◌, subst, not, ◌&&◌, false≢true, FlowModel, NoFlow, Constant}
+use Rattle.problem_builder.proofs.Common.{Variable, is_variable, is_constant, kind_of, is_active, and_parts, Kind}
 
-variable_case : (v k : Bool) → cond v Variable (cond k Constant NoFlow) ≡ Variable → v ≡ true
-variable_case true k e = refl
-variable_case false true e = cc
-variable_case false false e = cc
+-- what a kind says of whether the cell is active and whether it is variable
+abbrev Says : Kind → Bool → Bool → Type 0
+Says Variable active variable = variable ≡ true
+Says Constant active variable = (variable ≡ false) × (active ≡ true)
+Says NoFlow active variable = (variable ≡ false) × (active ≡ false)
 
-constant_case : (v k : Bool) → cond v Variable (cond k Constant NoFlow) ≡ Constant → k ≡ true
-constant_case true k e = cc
-constant_case false true e = refl
-constant_case false false e = cc
-
-variable_not : (a v : Bool) → cond v Variable (cond (a && not v) Constant NoFlow) ≡ Variable → (a && not v) ≡ true → ⊥
-variable_not true true e k = false≢true k
-variable_not false true e k = false≢true k
-variable_not true false e k = cc
-variable_not false false e k = false≢true k
-
-no_flow_case : (a v : Bool) → cond v Variable (cond (a && not v) Constant NoFlow) ≡ NoFlow → a ≡ true → ⊥
-no_flow_case a true e k = cc
-no_flow_case true false e k = cc
-no_flow_case false false e k = false≢true k
-
-constant_not : (v k : Bool) → cond v Variable (cond k Constant NoFlow) ≡ Constant → v ≡ true → ⊥
-constant_not true k e h = cc
-constant_not false k e h = false≢true h
-
-no_flow_not : (v k : Bool) → cond v Variable (cond k Constant NoFlow) ≡ NoFlow → v ≡ true → ⊥
-no_flow_not true k e h = cc
-no_flow_not false k e h = false≢true h
+kind_says : (a v : Bool) → Says (cond v Variable (cond (a && not v) Constant NoFlow)) a v
+kind_says a true = refl
+kind_says true false = (refl, refl)
+kind_says false false = (refl, refl)
 
 module _ (m : FlowModel) (p c : ℕ) where
+  says : (k : Kind) → kind_of m p c ≡ k → Says k (is_active m c) (is_variable m p c)
+  says k e = subst (λ (x : Kind). Says x (is_active m c) (is_variable m p c)) e (kind_says (is_active m c) (is_variable m p c))
+
   pub variable_kind : kind_of m p c ≡ Variable → is_variable m p c ≡ true
-  variable_kind e = variable_case (is_variable m p c) (is_constant m p c) e
+  variable_kind e = says Variable e
 
   pub constant_kind : kind_of m p c ≡ Constant → is_constant m p c ≡ true
-  constant_kind e = constant_case (is_variable m p c) (is_constant m p c) e
+  constant_kind e = λ i. (says Constant e).1 i && not ((says Constant e).0 i)
 
   pub constant_no_variable : kind_of m p c ≡ Constant → is_variable m p c ≡ true → ⊥
-  constant_no_variable e k = constant_not (is_variable m p c) (is_constant m p c) e k
+  constant_no_variable e k = false≢true (sym (says Constant e).0 ∙ k)
 
   pub no_flow_no_variable : kind_of m p c ≡ NoFlow → is_variable m p c ≡ true → ⊥
-  no_flow_no_variable e k = no_flow_not (is_variable m p c) (is_constant m p c) e k
+  no_flow_no_variable e k = false≢true (sym (says NoFlow e).0 ∙ k)
 
   -- a variable cell isn't constant, and one without flow isn't active
   pub variable_no_constant : kind_of m p c ≡ Variable → is_constant m p c ≡ true → ⊥
-  variable_no_constant e k = variable_not (is_active m c) (is_variable m p c) e k
+  variable_no_constant e k = false≢true (sym (ap not (says Variable e)) ∙ (and_parts (is_active m c) (not (is_variable m p c)) k).1)
 
   pub no_flow_inactive : kind_of m p c ≡ NoFlow → is_active m c ≡ true → ⊥
-  no_flow_inactive e k = no_flow_case (is_active m c) (is_variable m p c) e k
+  no_flow_inactive e k = false≢true (sym (says NoFlow e).1 ∙ k)
 
   pub no_flow_no_constant : kind_of m p c ≡ NoFlow → is_constant m p c ≡ true → ⊥
-  no_flow_no_constant e k = no_flow_inactive e (and_first (is_active m c) (not (is_variable m p c)) k)
-    where
-      and_first : (a b : Bool) → (a && b) ≡ true → a ≡ true
-      and_first true b e = refl
-      and_first false b e = absurd (false≢true e)
+  no_flow_no_constant e k = no_flow_inactive e (and_parts (is_active m c) (not (is_variable m p c)) k).0

@@ -6,7 +6,7 @@ use Rattle.problem_builder.proofs.Common.{as_general, ToConstant, ToGeneral, Fro
 use Rattle.problem_builder.proofs.Common.{IsFixed, IsCellOf, IsActive, AreCells, HasOldHeads}
 use Rattle.problem_builder.specs.GridHeads.{IsNamed}
 use Rattle.problem_builder.proofs.ActiveCells.{variable_active, constant_active}
-use Rattle.problem_builder.proofs.Members.{variable-In, constant_is}
+use Rattle.problem_builder.proofs.Members.{variable-In, fixed_source}
 use Rattle.problem_builder.proofs.Zipped.{left_of, right_of}
 
 pub In-Contains : {X : Type 0} (xs : List X) (x : X) → Contains xs x → In xs x
@@ -22,7 +22,7 @@ module _ (m : FlowModel) (w : Thicknesses) (s : ℕ) (at : TimeStep) (old : List
 
   source_active : (c : ℕ) → is_variable m at.period c ≡ true → c < cell_count m.grid → (x : Fixed) (y : FixedSource) → In (fixed_sources m at.period c) y → IsFixed m w s at old c x y → IsActive m x.source
   source_active c v lt x (ToConstant f) i k =
-      let (g, b) = passing_are m.grid (is_constant m at.period) c f (constant_is m at.period c f i) in
+      let (g, b) = passing_are m.grid (is_constant m at.period) c f (fixed_source m at.period c (ToConstant f) i) in
       subst (IsActive m) (sym k.source) (record { within = end_within m.grid c f size lt g; active = constant_active m at.period f.end b })
   source_active c v lt x (ToGeneral head cond) i k = subst (IsActive m) (sym k.source) (record { within = lt; active = variable_active m at.period c v })
   source_active c v lt x FromStorage i k = subst (IsActive m) (sym k.source) (record { within = lt; active = variable_active m at.period c v })

@@ -10,7 +10,7 @@ use Rattle.problem_builder.proofs.Common.{face_term, storage_term, evap_term, co
 use Rattle.problem_builder.proofs.Common.{IsKeptPair, IsGivenOrKept, IsConstantPair, IsRiver, IsDrain, IsEvap, IsFlow, IsLink, IsFixed, IsCellOf}
 use Rattle.problem_builder.proofs.ActiveCells.{variable_active, constant_active}
 use Rattle.problem_builder.proofs.FacePairs.{face_range, face_active}
-use Rattle.problem_builder.proofs.Members.{constant_is}
+use Rattle.problem_builder.proofs.Members.{fixed_source}
 use Rattle.problem_builder.proofs.OneBound.{Both, BothSigned, one_span, one_capped, one_cond, one_head_pair, one_well, one_recharge, one_part, one_given}
 use Rattle.problem_builder.proofs.Zipped.{zip_one_list}
 
@@ -78,7 +78,7 @@ module _ (m : FlowModel) (w v : Thicknesses) (wa : AreThicknesses m w) (va : Are
 
     one_fixed : (x u : Fixed) (y : FixedSource) → In (fixed_sources m at.period c) y → IsFixed m w s at old c x y → IsFixed m v s at old c u y → x ≡ u
     one_fixed x u (ToConstant f) i p q =
-        let (g, k) = passing_are m.grid (is_constant m at.period) c f (constant_is m at.period c f i) in
+        let (g, k) = passing_are m.grid (is_constant m at.period) c f (fixed_source m at.period c (ToConstant f) i) in
         let (a, b) = one_conductance f x.lo x.hi u.lo u.hi g (constant_active m at.period f.end k) p.conductance q.conductance in
         let (d, e) = one_constant_pair m at f.end x.head_lo x.head_hi u.head_lo u.head_hi p.head q.head in
         let kind = p.kind ∙ sym q.kind in

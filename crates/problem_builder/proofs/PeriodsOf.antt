@@ -1,19 +1,11 @@
 -- Stress periods by their numbers.
-use Rattle.problem_builder.proofs.Common.{◌≡◌, ℕ, ◌-◌, ◌<◌, ◌≤◌, List, length, get_or, sym, ap, ◌∙◌, subst, arith, All, get_or_default, All-weaker, FlowModel}
-use Rattle.problem_builder.proofs.Common.{Period, cell_count, Entry, Well, General, cell_of, period_at, no_period, entries, IsModel, IsPeriod, IsEntryValid}
-use Rattle.problem_builder.proofs.Common.{IsEntryIn}
+use Rattle.problem_builder.proofs.Common.{◌≡◌, ℕ, ◌-◌, ◌<◌, ◌≤◌, length, sym, subst, arith, All, All-weaker, FlowModel, Period, cell_count, Entry, Well}
+use Rattle.problem_builder.proofs.Common.{General, cell_of, period_at, no_period, entries, IsModel, IsPeriod, IsEntryValid, IsEntryIn}
 use Rattle.model_types.specs.declared.entry.Entry.TheVariants.{River, Drain}
 use Rattle.problem_builder.proofs.ValidEntries.{all_entries, wider}
 
--- a period that is read by its number
-pub period_read : (m : FlowModel) (p : ℕ) (x : Period) (xs : List Period) → (1 ≤ p) × (p ≤ length m.periods) → xs ≡ m.periods → x ≡ get_or xs (p - 1) x → x ≡ period_at m p
-period_read m p x xs r e h = h ∙ get_or_default xs (p - 1) x no_period (omega (arith, r.0, r.1, ap length e)) ∙ ap (λ ys. get_or ys (p - 1) no_period) e
-
 pub period_valid : (m : FlowModel) (p : ℕ) → IsModel m → (1 ≤ p) × (p ≤ length m.periods) → IsPeriod m (period_at m p)
 period_valid m p valid r = valid.periods (p - 1) no_period (omega (arith, r.0, r.1))
-
-pub given_cells : (m : FlowModel) (p : ℕ) → IsModel m → (1 ≤ p) × (p ≤ length m.periods) → All (λ x. x.cell.0 < cell_count m.grid) (period_at m p).stresses.given
-given_cells m p valid r i d lt = ((period_valid m p valid r).stresses.given.entries i d lt).cell
 
 entry_within : (n : ℕ) (x : Entry) → IsEntryValid n x → cell_of x < n
 entry_within n (Well cell q) h = h.0

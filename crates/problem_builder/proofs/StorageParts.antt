@@ -1,6 +1,5 @@
 -- What storage is made of: thicknesses and multipliers.
-use Rattle.problem_builder.proofs.Common.{◌≡◌, inl, inr, Bool, true, false, cond, Some, None, refl, Ratio, Period, IsTimed, Span, thickness_of, IsMultiplier}
-use Rattle.problem_builder.proofs.Common.{Within, AreThick}
+use Rattle.problem_builder.proofs.Common.{◌≡◌, Bool, true, false, cond, Some, None, refl, Ratio, Span, thickness_of, Within, AreThick}
 use Rattle.conductance_bounds.specs.Calls.{IsThickness}
 
 -- the thickness that counts for storage
@@ -11,9 +10,3 @@ thick_case false t f = refl
 pub usable_case : (b : Bool) (t : Span) → AreThick t.lo t.hi → IsThickness (cond b None (Some (t.lo, t.hi)))
 usable_case true t h = tt
 usable_case false t h = h
-
-pub multiplier : (p : Period) → p.steady ≡ false → IsTimed p → IsMultiplier p.tsmult p.nstp
-multiplier p e h = elim (h.growth e) [
-  | inl one ↦ inl one
-  | inr grows ↦ inr (record { few = grows.few; least = grows.least; most = grows.most })
-]

@@ -3,7 +3,7 @@ ghost use Rattle.std.specs.Prelude.{◌≡◌, ◌<◌, All, IfOk};
 ghost use Rattle.std.specs.List.{AllZip, filter_map};
 ghost use Rattle.model_types.specs.Cells.{cell_count};
 ghost use Rattle.model_types.specs.Faces.{through};
-ghost use Rattle.model_types.specs.Kinds.{is_variable, is_constant, index_of};
+ghost use Rattle.model_types.specs.Kinds.{is_variable, is_constant};
 ghost use Rattle.model_types.specs.Sources.{variable_faces, constant_faces};
 ghost use Rattle.problem_builder.specs.Cells.{IsLink, IsConstant};
 ghost use Rattle.problem_builder.specs.Made.{IsVariableCell, HasPair};

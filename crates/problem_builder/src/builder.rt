@@ -1,5 +1,5 @@
 // The problem of a step, cell by cell.
-ghost use Rattle.std.specs.Prelude.{◌≡◌, ◌<◌, ◌≤◌, ℕ, true, false, All, Contains, IfOk, IfErr, length, map};
+ghost use Rattle.std.specs.Prelude.{◌≡◌, ◌<◌, ◌≤◌, ℕ, false, Contains, IfOk, IfErr, map};
 ghost use Rattle.model_types.specs.Cells.{cell_count};
 ghost use Rattle.decimal_input.specs.Fractions.{Fraction};
 ghost use Rattle.cell_balance.specs.Enclosures.{EnclosesStep};

@@ -1,8 +1,8 @@
 // A cell of a step's problem.
-ghost use Rattle.std.specs.Prelude.{◌≡◌, ◌<◌, ◌≤◌, All, IfOk};
+ghost use Rattle.std.specs.Prelude.{◌<◌, IfOk};
 ghost use Rattle.std.specs.List.{AllZip};
 ghost use Rattle.model_types.specs.Sources.{fixed_sources, flow_sources, evap_sources};
-ghost use Rattle.model_types.specs.Receivers.{recharge_at, evap_at};
+ghost use Rattle.model_types.specs.Receivers.{recharge_at};
 ghost use Rattle.problem_builder.specs.Cells.{IsFixed, IsFlow, IsReceived, IsEvap, IsCellOf};
 ghost use Rattle.problem_builder.specs.Made.{IsVariableCell};
 ghost use Rattle.problem_builder.specs.Tables.{AreInputs, BothOrNone, widths_of};
@@ -11,18 +11,18 @@ use crate::branches::{constants, links};
 use crate::input::StepInput;
 use crate::known::constant_flow;
 use crate::pushing::push_some;
-use crate::stored::stored;
+use crate::stored::stored_branch;
 use std::alloc::{AllocError, Global};
 use step_problem::{Cell, Evap, Fixed, Flow, FlowKind};
 
-fn fixed(alloc: Global, input: &StepInput, cell: u32) -> Result<Vec<Fixed>, AllocError>
+fn fixed_branches(alloc: Global, input: &StepInput, cell: u32) -> Result<Vec<Fixed>, AllocError>
     requires input { AreInputs input.now }
     requires cell { IsVariableCell input.now cell }
     ensures { IfOk result (λ v. AllZip
         (IsFixed input.now.model (widths_of input.now.tables) input.now.tables.digits input.now.at input.now.old cell)
         v.items (fixed_sources input.now.model input.now.at.period cell)) }
 {
-    let stored = stored(input, cell);
+    let stored = stored_branch(input, cell);
     let constants = constants(alloc, input, cell)?;
     let entries = input.entries(cell);
     let count = usize::from(stored.is_some()) + constants.len() + entries.generals.len();
@@ -34,7 +34,7 @@ fn fixed(alloc: Global, input: &StepInput, cell: u32) -> Result<Vec<Fixed>, Allo
 }
 
 // The recharge that the cell receives.
-fn received(input: &StepInput, cell: u32) -> Option<Flow>
+fn received_flow(input: &StepInput, cell: u32) -> Option<Flow>
     requires input { AreInputs input.now }
     requires cell { IsVariableCell input.now cell }
     ensures { BothOrNone (IsReceived input.now.model input.now.tables.digits cell) result (recharge_at input.now.model input.now.at.period cell) }
@@ -50,7 +50,7 @@ fn flows(alloc: Global, input: &StepInput, cell: u32) -> Result<Vec<Flow>, Alloc
     requires cell { IsVariableCell input.now cell }
     ensures { IfOk result (λ v. AllZip (IsFlow input.now.model input.now.tables.digits cell) v.items (flow_sources input.now.model input.now.at.period cell)) }
 {
-    let received = received(input, cell);
+    let received = received_flow(input, cell);
     let entries = input.entries(cell);
     let mut flows = Vec::with_capacity(
         alloc,
@@ -82,7 +82,7 @@ pub fn cell(alloc: Global, input: &StepInput, number: u32) -> Result<Cell, Alloc
         id: number,
         flows: flows(alloc, input, number)?,
         links: links(alloc, input, number)?,
-        fixed: fixed(alloc, input, number)?,
+        fixed: fixed_branches(alloc, input, number)?,
         rivers: Vec::from_slice(alloc, entries.rivers)?,
         drains: Vec::from_slice(alloc, entries.drains)?,
         evaps: evaps(alloc, input, number)?,

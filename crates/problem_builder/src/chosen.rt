@@ -27,7 +27,7 @@ fn is_covered(model: &FlowModel, before: &[bool], cell: u32) -> bool
 }
 
 /// For each cell whether a cell above it in its column of layers is active.
-pub fn covered(alloc: Global, model: &FlowModel) -> Result<Vec<bool>, AllocError>
+pub fn cover_flags(alloc: Global, model: &FlowModel) -> Result<Vec<bool>, AllocError>
     requires { HasSize model.now.grid }
     ensures { IfOk result (λ v. Filled (IsCovered model.now) false (cell_count model.now.grid) v.items) }
 {

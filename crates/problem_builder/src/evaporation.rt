@@ -1,5 +1,5 @@
 // Evapotranspiration, by cell.
-ghost use Rattle.std.specs.Prelude.{◌≡◌, ◌<◌, ◌≤◌, ◌-ℤ◌, true, false, IfOk, None, length};
+ghost use Rattle.std.specs.Prelude.{◌≡◌, ◌<◌, ◌≤◌, ◌-ℤ◌, false, IfOk, None, length};
 ghost use Rattle.decimal_input.specs.Canonical.{number};
 ghost use Rattle.step_problem.specs.Conditions.{IsHead};
 ghost use Rattle.model_types.specs.Cells.{cell_count};
@@ -7,15 +7,12 @@ ghost use Rattle.model_types.specs.Layers.{is_active};
 ghost use Rattle.model_types.specs.Receivers.{is_highest, evaporates, evap_source};
 ghost use Rattle.model_types.specs.Valid.{IsModel, IsEvapValid};
 ghost use Rattle.problem_builder.specs.Cells.{IsEvap};
-ghost use Rattle.problem_builder.specs.Depths.{IsDepth};
 ghost use Rattle.problem_builder.specs.Filled.{Filled};
-ghost use Rattle.problem_builder.specs.InputBounds.{IsHeadPair};
 ghost use Rattle.problem_builder.specs.PeriodTables.{IsCovered, IsEvaporated};
 
-use crate::capped::capped;
 use crate::chosen::{is_chosen, is_uncovered};
 use crate::periods::stress_period;
-use crate::rounded::{depth_pair, head_pair};
+use crate::rounded::{capped_pair, depth_pair, head_pair};
 use conductance_bounds::{Pair, evap_branch};
 use decimal_input::dec::Dec;
 use model_types::layers::dec_at;
@@ -52,7 +49,7 @@ fn evap_pair(model: &FlowModel, rate: Dec, surface: Dec, depth: Dec, cell: u32, 
     requires digits { s ≤ 18 }
     ensures { IsEvap model.now s cell result (record { rate = rate; surface = surface; depth = depth }) }
 {
-    let pair = capped(evap_branch(rate, depth, model.delr_at(cell), model.delc_at(cell), s));
+    let pair = capped_pair(evap_branch(rate, depth, model.delr_at(cell), model.delc_at(cell), s));
     let surface = head_pair(surface);
     let depth = depth_pair(depth);
     evap_with(pair, surface, depth)

@@ -1,7 +1,7 @@
 // The conductances of faces, by their first cells.
 ghost use Rattle.std.specs.Prelude.{◌≡◌, ◌+◌, ◌<◌, ◌≤◌, ℕ, true, false, IfOk, IsTrue, length};
 ghost use Rattle.conductance_bounds.specs.declared.span.Span.{Span as Interval};
-ghost use Rattle.conductance_bounds.specs.Calls.{IsHalf, IsColHalf, IsVertHalf, IsBed};
+ghost use Rattle.conductance_bounds.specs.Calls.{IsHalf, IsColHalf, IsVertHalf};
 ghost use Rattle.conductance_bounds.specs.Pairs.{IsCapped};
 ghost use Rattle.conductance_bounds.specs.Formulas.{face_term};
 ghost use Rattle.model_types.specs.declared.face.Axis.TheVariants.{Row, Column, Vertical};
@@ -14,7 +14,7 @@ ghost use Rattle.problem_builder.specs.Filled.{Filled};
 ghost use Rattle.problem_builder.specs.Tables.{no_span, no_pair, span_in};
 ghost use Rattle.problem_builder.specs.Widths.{IsThickness, IsBedBelow, IsBranch, HasConductance, row_half, column_half, layer_half};
 
-use crate::capped::capped;
+use crate::rounded::capped_pair;
 use conductance_bounds::{
     Bed, ColHalf, Half, Pair, Span, VertHalf, col_branch, row_branch, vert_branch,
 };
@@ -140,7 +140,7 @@ fn row_pair(model: &FlowModel, thick: &[Span], first: u32, s: u32) -> Pair
 {
     let a = row_half(model, thick, first);
     let b = row_half(model, thick, first + 1);
-    capped(row_branch(&a, &b, model.delc_at(first), s))
+    capped_pair(row_branch(&a, &b, model.delc_at(first), s))
 }
 
 fn column_pair(model: &FlowModel, thick: &[Span], first: u32, s: u32) -> Pair
@@ -152,7 +152,7 @@ fn column_pair(model: &FlowModel, thick: &[Span], first: u32, s: u32) -> Pair
 {
     let a = col_half(model, thick, first);
     let b = col_half(model, thick, first + model.grid.cols);
-    capped(col_branch(&a, &b, model.delr_at(first), s))
+    capped_pair(col_branch(&a, &b, model.delr_at(first), s))
 }
 
 fn vertical_pair(model: &FlowModel, thick: &[Span], beds: &[Span], first: u32, s: u32) -> Pair
@@ -168,7 +168,7 @@ fn vertical_pair(model: &FlowModel, thick: &[Span], beds: &[Span], first: u32, s
     let span = span_at(beds, first);
     let vkcb = dec_at(model.vkcb.as_slice(), first);
     let bed = bed_with(span, vkcb);
-    capped(vert_branch(&a, &b, &bed, model.delr_at(first), model.delc_at(first), s))
+    capped_pair(vert_branch(&a, &b, &bed, model.delr_at(first), model.delc_at(first), s))
 }
 
 // Whether there is a next cell along the axis, and both are active.

@@ -4,7 +4,7 @@ ghost use Rattle.step_problem.specs.Heads.{no_bound};
 ghost use Rattle.model_types.specs.Cells.{cell_count};
 ghost use Rattle.model_types.specs.Layers.{dec_at};
 ghost use Rattle.model_types.specs.Numbers.{IsHeadNumber};
-ghost use Rattle.model_types.specs.Kinds.{given_in, given_heads, last_given};
+ghost use Rattle.model_types.specs.Kinds.{given_heads, last_given};
 ghost use Rattle.model_types.specs.Valid.{IsModel};
 ghost use Rattle.problem_builder.specs.ConstantHeads.{IsKeptPair};
 ghost use Rattle.problem_builder.specs.Filled.{Filled};
@@ -17,7 +17,11 @@ use std::alloc::{AllocError, Global};
 use step_problem::Bound;
 
 /// For each cell the last entry of a list that names it.
-pub fn named(alloc: Global, list: &[Given], count: u32) -> Result<Optional<Given>, AllocError>
+pub fn last_entries(
+    alloc: Global,
+    list: &[Given],
+    count: u32,
+) -> Result<Optional<Given>, AllocError>
     requires { All (λ x. x.cell.0 < count) list.now }
     ensures { IfOk result (Filled (IsNamed list.now) None count) }
 {
@@ -64,7 +68,11 @@ fn kept_at(model: &FlowModel, given: &GivenHeads, cell: u32) -> Bound
 }
 
 /// The head that each active cell keeps after the period of `given`, if it is a constant-head cell.
-pub fn kept(alloc: Global, model: &FlowModel, given: &GivenHeads) -> Result<Vec<Bound>, AllocError>
+pub fn kept_heads(
+    alloc: Global,
+    model: &FlowModel,
+    given: &GivenHeads,
+) -> Result<Vec<Bound>, AllocError>
     requires model { IsModel model.now }
     requires given { given.now ≡ given_heads model.now given.now.period }
     ensures { IfOk result (λ v. Filled (IsKept model.now given.now.period) no_bound (cell_count model.now.grid) v.items) }

@@ -3,9 +3,9 @@ ghost use Rattle.std.specs.Prelude.{◌≡◌, ◌<◌, IfOk};
 ghost use Rattle.model_types.specs.declared.kind.Kind.TheVariants.{NoFlow};
 ghost use Rattle.model_types.specs.Cells.{cell_count};
 ghost use Rattle.model_types.specs.Grids.{HasSize};
-ghost use Rattle.model_types.specs.Kinds.{is_variable, kind_of, kinds, given_heads};
+ghost use Rattle.model_types.specs.Kinds.{is_variable, given_heads};
 ghost use Rattle.problem_builder.specs.Filled.{Filled};
-ghost use Rattle.problem_builder.specs.PeriodTables.{IsKind, IsIndex};
+ghost use Rattle.problem_builder.specs.PeriodTables.{IsIndex};
 
 use model_types::{FlowModel, GivenHeads, Kind};
 use std::alloc::{AllocError, Global};

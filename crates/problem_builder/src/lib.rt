@@ -3,7 +3,6 @@
 
 pub mod branches;
 pub mod builder;
-pub mod capped;
 pub mod cell;
 pub mod chosen;
 pub mod entries;

@@ -1,13 +1,13 @@
 // The tables that all time steps of a stress period share.
-ghost use Rattle.std.specs.Prelude.{◌≡◌, ◌+◌, ◌<◌, ◌≤◌, IfOk, length, None, slice_index_or};
+ghost use Rattle.std.specs.Prelude.{◌≡◌, ◌+◌, ◌<◌, ◌≤◌, IfOk, length, slice_index_or};
 ghost use Rattle.model_types.specs.declared.kind.Kind.TheVariants.{NoFlow};
 ghost use Rattle.model_types.specs.Kinds.{given_heads};
 ghost use Rattle.model_types.specs.Valid.{IsModel};
 ghost use Rattle.problem_builder.specs.Tables.{AreTables, ArePeriodTables, AreEvenStorages, bound_in, item_in, span_in};
 
-use crate::chosen::covered;
+use crate::chosen::cover_flags;
 use crate::evaporation::evaps;
-use crate::given::{kept, named};
+use crate::given::{kept_heads, last_entries};
 use crate::index::indices;
 use crate::local::Local;
 use crate::periods::{given_before, stress_period};
@@ -59,13 +59,13 @@ impl PeriodTables {
         let kinds = next.kinds(alloc, model)?;
         let storage = even_storages(alloc, model, tables, kinds.as_slice(), number)?;
         let index = indices(alloc, model, &next)?;
-        let kept = kept(alloc, model, given)?;
-        let covered = covered(alloc, model)?;
+        let kept = kept_heads(alloc, model, given)?;
+        let covered = cover_flags(alloc, model)?;
         let recharge = recharges(alloc, model, covered.as_slice(), number, s)?;
         let evaps = evaps(alloc, model, covered.as_slice(), number, s)?;
         let period = stress_period(model, number);
         let count = model.grid.cell_count();
-        let given = named(alloc, period.stresses.given.as_slice(), count)?;
+        let given = last_entries(alloc, period.stresses.given.as_slice(), count)?;
         let local = Local::of_period(alloc, period, count, s)?;
         Ok(PeriodTables {
             period: number,

@@ -1,6 +1,8 @@
 // Numbers of the input as whole bounds.
-ghost use Rattle.std.specs.Prelude.{◌≡◌, ◌<◌, ◌≤◌, ◌^◌};
+ghost use Rattle.std.specs.Prelude.{◌≡◌, ℕ, ◌<◌, ◌≤◌};
 ghost use Rattle.decimal_input.specs.Canonical.{IsDec};
+ghost use Rattle.conductance_bounds.specs.Pairs.{IsWholePair, IsCapped};
+ghost use Rattle.conductance_bounds.specs.Terms.{Term};
 ghost use Rattle.step_problem.specs.Conditions.{IsHead};
 ghost use Rattle.model_types.specs.Numbers.{IsNotNegative, IsHeadNumber};
 ghost use Rattle.problem_builder.specs.Depths.{IsDepth};
@@ -15,7 +17,7 @@ use step_problem::Bound;
 const LARGEST: u128 = 1 << 60;
 
 /// The pair in place of a conductance whose upper bound reaches 2^60 units.
-pub const PAST: Pair = Pair { lo: 1, hi: 1 << 60 };
+const PAST: Pair = Pair { lo: 1, hi: 1 << 60 };
 
 /// The pair in place of a flow with a bound that reaches 2^126 units.
 pub const PAST_FLOW: FlowPair = FlowPair {
@@ -37,6 +39,16 @@ pub fn cond_pair(cond: Dec, s: u32) -> Pair
             hi: hi as u64,
         },
         _ => PAST,
+    }
+}
+
+/// The pair, or the pair (1, 2^60) that a table keeps in place of one that reaches 2^60 units.
+pub fn capped_pair(pair: Option<Pair>) -> Pair
+    ensures { (t : Term) (s : ℕ) → IsWholePair t s pair → IsCapped t s result.lo result.hi }
+{
+    match pair {
+        Some(pair) => pair,
+        None => PAST,
     }
 }
 

@@ -1,13 +1,12 @@
 // The heads before the first time step.
-ghost use Rattle.std.specs.Prelude.{◌≡◌, ◌<◌, IfOk};
-ghost use Rattle.step_problem.specs.Conditions.{IsHead};
+ghost use Rattle.std.specs.Prelude.{◌<◌, IfOk};
 ghost use Rattle.step_problem.specs.Heads.{no_bound};
 ghost use Rattle.model_types.specs.Cells.{cell_count};
 ghost use Rattle.model_types.specs.Heads.{start_head};
 ghost use Rattle.model_types.specs.Valid.{IsModel};
 ghost use Rattle.problem_builder.specs.Filled.{Filled};
 ghost use Rattle.problem_builder.specs.GridHeads.{AreGridHeads, HeadsEnclose};
-ghost use Rattle.problem_builder.specs.StartHeads.{IsStart, AreStartHeads};
+ghost use Rattle.problem_builder.specs.StartHeads.{AreStartHeads};
 ghost use Rattle.problem_builder.specs.Made.{IsStartInRange};
 
 use crate::rounded::{NO_BOUND, head_pair};

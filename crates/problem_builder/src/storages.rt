@@ -15,9 +15,9 @@ ghost use Rattle.problem_builder.specs.PeriodTables.{IsKind};
 ghost use Rattle.problem_builder.specs.StepTables.{AreFactorsOf, AreEvenFactors, HasEvenStorage};
 ghost use Rattle.problem_builder.specs.Tables.{AreTables, AreEvenStorages, no_pair, span_in};
 
-use crate::capped::capped;
 use crate::faces::{NO_PAIR, span_at};
 use crate::periods::stress_period;
+use crate::rounded::capped_pair;
 use crate::tables::Tables;
 use conductance_bounds::{Factors, Pair, Span, step_factors, storage_branch};
 use model_types::layers::dec_at;
@@ -92,7 +92,7 @@ pub fn storage_at(
     let thickness = thickness_in(model, span_at(tables.thick.as_slice(), cell));
     let delr = model.delr_at(cell);
     let delc = model.delc_at(cell);
-    capped(storage_branch(
+    capped_pair(storage_branch(
         ss,
         thickness,
         delr,

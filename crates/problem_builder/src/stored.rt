@@ -1,5 +1,4 @@
 // The branch of a cell to its old head.
-ghost use Rattle.std.specs.Prelude.{◌≡◌};
 ghost use Rattle.model_types.specs.Sources.{storage_at};
 ghost use Rattle.problem_builder.specs.Cells.{IsFixed};
 ghost use Rattle.problem_builder.specs.Made.{IsVariableCell};
@@ -38,7 +37,7 @@ fn storage(input: &StepInput, cell: u32) -> Pair
 }
 
 /// The branch to the cell's old head, in a transient period.
-pub fn stored(input: &StepInput, cell: u32) -> Option<Fixed>
+pub fn stored_branch(input: &StepInput, cell: u32) -> Option<Fixed>
     requires input { AreInputs input.now }
     requires cell { IsVariableCell input.now cell }
     ensures { BothOrNone (IsFixed input.now.model (widths_of input.now.tables) input.now.tables.digits input.now.at

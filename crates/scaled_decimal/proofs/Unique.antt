@@ -1,9 +1,6 @@
 use Rattle.scaled_decimal.proofs.Common.{◌≡◌, ℕ, suc, ◌+◌, ◌*◌, ◌-◌, ◌≤◌, ◌<◌, ◌^◌, inl, inr, refl, sym, ap, subst, ◌∙◌, arith, ints, pow-add, mul-le-mul}
-use Rattle.scaled_decimal.proofs.Common.{mul-le-mul_right, pow-suc, le_of_mul-le-mul_right, cases_lt, Ratio, AtMost, Same, up, down, ten_pos, cross_of, up_down}
-use Rattle.scaled_decimal.proofs.Common.{Sd, IsSd, value, IsDown}
-
-pub IsDown-unique : (r q : Sd) (f : Ratio) → IsDown r f → IsDown q f → AtMost (value r) (value q) × AtMost (value q) (value r)
-IsDown-unique r q f h k = (k.greatest r h.decimal h.at_most, h.greatest q k.decimal k.at_most)
+use Rattle.scaled_decimal.proofs.Common.{mul-le-mul_right, pow-suc, le_of_mul-le-mul_right, cases_lt, Same, up, down, ten_pos, cross_of, up_down, Sd, IsSd}
+use Rattle.scaled_decimal.proofs.Common.{value}
 
 too_many : (m n a j : ℕ) → m < 10 ^ 18 → 10 ^ 17 ≤ n → m * 10 ^ a ≡ n * 10 ^ (a + suc j) → ⊥
 too_many m n a j hm hn e =

@@ -16,9 +16,9 @@ returns c =
     let m = c.args.model.now in
     let x : EvapSource = record { rate = c.args.rate; surface = c.args.surface; depth = c.args.depth } in
     let same : evap_formula (size c.args.rate) (size c.delr_at.result) (size c.delc_at.result) (size c.args.depth) ≡ evap_term m c.args.rate c.args.depth c.args.cell = λ t. evap_formula (size c.args.rate) (size (c.delr_at.ensures t)) (size (c.delc_at.ensures t)) (size c.args.depth) in
-    let P : Term → Type 0 = λ t. IsCapped t c.args.s c.capped-pair.result.lo c.capped-pair.result.hi in
+    let P : Term → Type 0 = λ t. IsCapped t c.args.s c.capped_pair-pair.result.lo c.capped_pair-pair.result.hi in
     subst (λ (e : Evap). IsEvap m c.args.s c.args.cell e x) (sym c.evap_with.ensures) (record {
-      conductance = subst P same (c.capped-pair.ensures _ c.args.s c.evap_branch.ensures.rounded);
+      conductance = subst P same (c.capped_pair-pair.ensures _ c.args.s c.evap_branch.ensures.rounded);
       surface = c.head_pair-surface.ensures.is;
       depth_lo = c.depth_pair-depth.result.low;
       depth_hi = c.depth_pair-depth.result.high;

@@ -17,10 +17,10 @@ returns c =
     let bed : c.bed_with-bed.result ≡ record { thick_lo = (span_in c.args.beds.now a).lo; thick_hi = (span_in c.args.beds.now a).hi; vkcb = vkcb_at m a } = c.bed_with-bed.ensures ∙ (λ t. record { thick_lo = (span t).lo; thick_hi = (span t).hi; vkcb = vkcb t }) in
     let r = c.delr_at.ensures in
     let d = c.delc_at.ensures in
-    let called = c.capped.ensures _ c.args.s (c.vert_branch.ensures.rounded (thickness m a) (thickness m b) (bed_thickness m a)) in
+    let called = c.capped_pair.ensures _ c.args.s (c.vert_branch.ensures.rounded (thickness m a) (thickness m b) (bed_thickness m a)) in
     let plain : vertical_of c.vert_half-a.result c.vert_half-b.result c.bed_with-bed.result c.delr_at.result c.delc_at.result (thickness m a) (thickness m b) (bed_thickness m a) ≡ face_term m (span_in c.args.thick.now) (span_in c.args.beds.now) Vertical a =
     (λ t. vertical_of (x t) (y t) (bed t) (r t) (d t) (thickness m a) (thickness m b) (bed_thickness m a)) ∙ bed_tests m a (span_in c.args.beds.now a) (span_in c.args.thick.now) (span_in c.args.beds.now) (c.requires.beds.each a (omega (arith, c.requires.branch.within)) c.requires.branch.within c.requires.branch.first c.requires.branch.second) refl in
-    let P : Term → Type 0 = λ t. IsCapped t c.args.s c.capped.result.lo c.capped.result.hi in
+    let P : Term → Type 0 = λ t. IsCapped t c.args.s c.capped_pair.result.lo c.capped_pair.result.hi in
     subst P plain called
 
 pub vert_half-a-requires-clause-layers : goal.vert_half-a-requires-clause-layers

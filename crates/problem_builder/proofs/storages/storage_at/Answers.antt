@@ -44,9 +44,9 @@ returns c n grown =
     let thick : c.thickness_in-thickness.result ≡ cond m.coefficient None (Some ((span_in t.thick d).lo, (span_in t.thick d).hi)) = c.thickness_in-thickness.ensures ∙ (λ q. cond m.coefficient None (Some ((span q).lo, (span q).hi))) in
     let delr = c.delr_at-delr.ensures in
     let delc = c.delc_at-delc.ensures in
-    let called = c.capped.ensures _ t.digits (c.storage_branch.ensures.rounded (size w.tsmult) w.nstp n (thickness m d) grown) in
+    let called = c.capped_pair.ensures _ t.digits (c.storage_branch.ensures.rounded (size w.tsmult) w.nstp n (thickness m d) grown) in
     let same : storage_of c.dec_at-ss.result c.thickness_in-thickness.result c.delr_at-delr.result c.delc_at-delc.result (size w.tsmult) w.nstp n c.stress_period-period.result.now.perlen (thickness m d) ≡ storage_term m (span_in t.thick) w n d =
     (λ q. storage_of (ss q) (thick q) (delr q) (delc q) (size w.tsmult) w.nstp n (per q).perlen (thickness m d))
     ∙ ap (λ o. storage_formula (storativity_term (size (dec_at m.ss d)) o) (area_term m d) (sum_term (size w.tsmult) (w.nstp - 1)) (size w.perlen) (power_term (size w.tsmult) (n - 1))) (thick_case m.coefficient (span_in t.thick d) (thickness m d)) in
-    let P : Term → Type 0 = λ z. IsCapped z t.digits c.capped.result.lo c.capped.result.hi in
+    let P : Term → Type 0 = λ z. IsCapped z t.digits c.capped_pair.result.lo c.capped_pair.result.hi in
     subst P same called

@@ -1,6 +1,6 @@
 use Rattle.std.proofs.Common.{arith}
 use Rattle.problem_builder.proofs.NamedHeads.{none_named, next_named, named_within}
-use Rattle.problem_builder.proofs.given.named.Goals as goal
+use Rattle.problem_builder.proofs.given.last_entries.Goals as goal
 
 pub loop-x-init : goal.loop-x-init
 loop-x-init c = none_named c.args.count c.none-table.result c.none-table.ensures

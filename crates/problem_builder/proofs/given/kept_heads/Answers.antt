@@ -1,6 +1,6 @@
 use Rattle.problem_builder.proofs.Common.{no_bound, IsKept}
 use Rattle.problem_builder.proofs.Filling.{none_filled, next_filled}
-use Rattle.problem_builder.proofs.given.kept.Goals as goal
+use Rattle.problem_builder.proofs.given.kept_heads.Goals as goal
 
 pub loop-cell-init : goal.loop-cell-init
 loop-cell-init c = none_filled (IsKept c.args.model.now c.args.given.now.period) no_bound _ c.new-bounds.ensures.items

@@ -1,6 +1,6 @@
 use Rattle.problem_builder.proofs.Common.{false, IsCovered}
 use Rattle.problem_builder.proofs.Filling.{none_filled, next_filled}
-use Rattle.problem_builder.proofs.chosen.covered.Goals as goal
+use Rattle.problem_builder.proofs.chosen.cover_flags.Goals as goal
 
 pub loop-cell-init : goal.loop-cell-init
 loop-cell-init c = none_filled (IsCovered c.args.model.now) false _ c.new-covered.ensures.items

@@ -1,6 +1,6 @@
 use Rattle.std.proofs.Common.{refl}
 use Rattle.conductance_bounds.proofs.Arithmetic.{size_reach}
-use Rattle.conductance_bounds.proofs.interval.between.Goals as goal
+use Rattle.conductance_bounds.proofs.interval.span_of.Goals as goal
 
 pub returns-clause-ordered : goal.returns-clause-ordered
 returns-clause-ordered c = record { low = c.requires.thick.low; high = c.requires.thick.high; order = c.requires.thick.order }
