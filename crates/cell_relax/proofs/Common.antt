@@ -1,14 +1,13 @@
 -- Names that several proofs of this crate cite, of the crates below and of its own definitions, passed on from one place. Declares nothing.
 pub use Rattle.std.proofs.Common.{All, FitsSigned, List, [], ap, arith, get_or, inl, inr, length, length-set, pos, refl, rules, slice_set, subst, sym, take, ℕ}
 pub use Rattle.std.proofs.Common.{ℤ, ◌++◌, ◌+◌, ◌-ℤ◌, ◌<ℤ◌, ◌<◌, ◌∙◌, ◌∷◌, ◌≡◌, ◌≤ℤ◌, ◌⊎◌}
-pub use Rattle.std.proofs.lemmas.Int.{by_lt_z, ints, to_z-of_z}
+pub use Rattle.std.proofs.lemmas.Int.{by_lt_z, clamps, ints, to_z-of_z}
 pub use Rattle.std.specs.Int.{w128, w64}
-pub use Rattle.cell_relax.specs.Sides.{IsAsTight, IsRelaxedOn, LetsMove, Moves, other, turned_on}
-pub use Rattle.cell_relax.specs.Words.{heads_on}
+pub use Rattle.cell_relax.specs.Sides.{IsAsTight, IsRelaxedOn, LetsMove, Moves, other, tighter_of, turned_on}
+pub use Rattle.cell_relax.specs.Words.{AreWords, heads_on}
 pub use Rattle.step_problem.proofs.BothSides.{high_side, le_trans, low_side}
 pub use Rattle.step_problem.proofs.Falls.{lower_falls, lower_rises, upper_falls, upper_rises}
 pub use Rattle.step_problem.specs.Conditions.{IsHead, IsProblem}
 pub use Rattle.step_problem.specs.Entries.{Entries, ends_in, entries_at, link_at, no_link}
-pub use Rattle.step_problem.specs.Heads.{lower_at, upper_at}
 pub use Rattle.step_problem.specs.declared.heads.Side.{Side}
 pub use Rattle.step_problem.specs.declared.heads.Side.TheVariants.{High, Low}

@@ -1,5 +1,6 @@
 -- The order of tightness and the moves of either side.
 use Rattle.std.specs.Prelude.{ℕ, ◌<◌, List, length, ℤ, pos, neg_ℤ, ◌≤ℤ◌}
+use Rattle.std.specs.Int.{int_max, int_min}
 use Rattle.step_problem.specs.declared.heads.Side.{Side}
 use Rattle.step_problem.specs.declared.heads.Side.TheVariants.{Low, High}
 use Rattle.step_problem.specs.Entries.{Entries, entries_at}
@@ -12,6 +13,11 @@ use Rattle.cell_relax.specs.Words.{heads_on}
 abbrev pub IsAsTight : Side → ℤ → ℤ → Type 0
 IsAsTight Low x y = x ≤ℤ y
 IsAsTight High x y = y ≤ℤ x
+
+-- the tighter of two heads
+abbrev pub tighter_of : Side → ℤ → ℤ → ℤ
+tighter_of Low = int_max
+tighter_of High = int_min
 
 -- at this balance a cell may go further: not negative on the low side, not positive on the high side
 abbrev pub LetsMove : Side → ℤ → Type 0

@@ -9,5 +9,5 @@ mod trend;
 pub mod words;
 
 pub use range::are_words;
-pub use relax::{raise_to, relax_to, sink_to};
-pub use words::{raise_in, read_values, sink_in};
+pub use relax::{lets_move, raise_to, relax_to, sink_to};
+pub use words::{balance_in, head_on, relax_in};

@@ -21,7 +21,7 @@ fn turned_head(side: Side, head: i64) -> i64
     }
 }
 
-fn balance_at(p: &Problem, side: Side, cell: usize, own: i64, values: &[i64]) -> i128
+pub(crate) fn balance_at(p: &Problem, side: Side, cell: usize, own: i64, values: &[i64]) -> i128
     requires index { cell < length p.now }
     requires own { IsHead own }
     requires values { All IsHead values.now }
@@ -34,7 +34,8 @@ fn balance_at(p: &Problem, side: Side, cell: usize, own: i64, values: &[i64]) ->
     }
 }
 
-fn lets_move(side: Side, balance: i128) -> bool
+/// Whether the cell may go further at this balance.
+pub fn lets_move(side: Side, balance: i128) -> bool
     ensures { IsTrue result ↔ LetsMove side balance }
 {
     match side {

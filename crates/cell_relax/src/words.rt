@@ -2,13 +2,15 @@
 ghost use Rattle.std.specs.Prelude.{◌≡◌, ◌<◌, length, take};
 ghost use Rattle.step_problem.specs.Entries.{entries_at, ends_in};
 ghost use Rattle.step_problem.specs.Conditions.{IsHead};
-ghost use Rattle.step_problem.specs.Heads.{lower_at, upper_at, IsRaise, IsSink};
+ghost use Rattle.step_problem.specs.BothSides.{balance};
+ghost use Rattle.cell_relax.specs.Sides.{IsRelaxedOn};
 ghost use Rattle.cell_relax.specs.Words.{head_of, heads_on, AreWords};
 
-use crate::relax::{raise_to, sink_to};
+use crate::relax::{balance_at, relax_to};
 use step_problem::{Bound, Problem, Side};
 
-fn head_on(side: Side, word: Bound) -> i64
+/// The head of a bound on a side.
+pub fn head_on(side: Side, word: Bound) -> i64
     ensures { result ≡ head_of side word }
 {
     match side {
@@ -17,9 +19,9 @@ fn head_on(side: Side, word: Bound) -> i64
     }
 }
 
-/// Writes the heads at the other ends of a cell's links, in the order of the links, to the front of
-/// `values`, and returns their number.
-pub fn read_values(
+// Writes the heads at the other ends of a cell's links, in the order of the links, to the front of
+// `values`, and returns their number.
+fn read_values(
     p: &Problem,
     cell: usize,
     words: &[Bound],
@@ -39,28 +41,28 @@ pub fn read_values(
     links.len()
 }
 
-/// The raise value of a cell from the lower heads of `words`.
-pub fn raise_in(p: &Problem, words: &[Bound], cell: usize) -> i64
+/// The balance of a cell on a side, at the heads of that side.
+pub fn balance_in(p: &Problem, words: &[Bound], cell: usize, side: Side) -> i128
     requires index { cell < length p.now }
     requires words { AreWords p.now words.now }
-    ensures raise { IsRaise p.now (lower_at words.now) cell result }
-    ensures head { IsHead result }
+    ensures { result ≡ balance side (entries_at p.now cell) (heads_on side words.now cell) (heads_on side words.now) }
 {
     p.recall_conditions();
     let mut values = [0; 6];
-    let count = read_values(p, cell, words, Side::Low, &mut values);
-    raise_to(p, cell, words[cell].low, &values[..count])
+    let count = read_values(p, cell, words, side, &mut values);
+    balance_at(p, side, cell, head_on(side, words[cell]), &values[..count])
 }
 
-/// The sink value of a cell from the upper heads of `words`.
-pub fn sink_in(p: &Problem, words: &[Bound], cell: usize) -> i64
+/// The relaxed head of a cell on a side, from the heads of that side. It is inlined, as `relax_to` is.
+#[inline(always)]
+pub fn relax_in(p: &Problem, words: &[Bound], cell: usize, side: Side) -> i64
     requires index { cell < length p.now }
     requires words { AreWords p.now words.now }
-    ensures sink { IsSink p.now (upper_at words.now) cell result }
+    ensures relaxed { IsRelaxedOn side p.now (heads_on side words.now) cell result }
     ensures head { IsHead result }
 {
     p.recall_conditions();
     let mut values = [0; 6];
-    let count = read_values(p, cell, words, Side::High, &mut values);
-    sink_to(p, cell, words[cell].high, &values[..count])
+    let count = read_values(p, cell, words, side, &mut values);
+    relax_to(p, side, cell, head_on(side, words[cell]), &values[..count])
 }

@@ -1,5 +1,6 @@
 -- A certificate encloses what its barrier encloses.
-use Rattle.certificate_check.proofs.Common.{ℕ, ◌<◌, List, length, ℤ, Entries, Edges, head_at, IsCertificate, IsProblem, pair_certifies, SettledPairEncloses}
+use Rattle.certificate_check.proofs.Common.{ℕ, ◌<◌, List, length, ℤ, Edges, head_at, IsCertificate, IsProblem, pair_certifies, SettledPairEncloses}
+use Rattle.step_problem.specs.Entries.{Entries}
 use Rattle.cell_balance.specs.Steps.{ExactCell}
 use Rattle.cell_balance.specs.Enclosures.{EnclosesStep}
 use Rattle.cell_balance.specs.Solutions.{SolvesStep, LiesBetween}

@@ -9,7 +9,7 @@ ghost use Rattle.barrier_vector.specs.Cuts.{EnclosesUncut, clamped};
 ghost use Rattle.certificate_check.specs.Certificates.{HoldsAt, IsRangeRefusal};
 ghost use Rattle.certificate_check.specs.Laws.{IsCutAt};
 
-use crate::sides::{high_holds, low_holds};
+use crate::sides::holds_at;
 use barrier_vector::out_of_range;
 use step_problem::problem::HEAD_LIMIT;
 use step_problem::{Barrier, Bound, NoBound, Problem, Side};
@@ -34,13 +34,7 @@ fn holds(p: &Problem, barrier: &Barrier, bounds: &[Bound], cell: usize, side: Si
     requires settled { IsCertificate p.now (clamped barrier.now) (lower_at bounds.now) (upper_at bounds.now) }
     ensures { IsTrue result ↔ HoldsAt p.now barrier.now bounds.now cell side }
 {
-    if !is_cut(barrier, cell, side) {
-        return true;
-    }
-    match side {
-        Side::Low => low_holds(p, barrier, bounds, cell),
-        Side::High => high_holds(p, barrier, bounds, cell),
-    }
+    !is_cut(barrier, cell, side) || holds_at(p, barrier, bounds, cell, side)
 }
 
 // The first cell that fails at a side, by its index.

@@ -4,7 +4,7 @@ ghost use Rattle.step_problem.specs.Heads.{lower_at, upper_at, IsCertificate};
 ghost use Rattle.cell_relax.specs.Words.{AreWords};
 ghost use Rattle.certificate_check.specs.Certificates.{HoldsAt, IsFirstFailing};
 
-use crate::sides::{high_holds, low_holds};
+use crate::sides::holds_at;
 use step_problem::{Barrier, Bound, Problem, Side};
 
 // The side of a cell that fails, the lower one first.
@@ -17,10 +17,10 @@ fn failing_side(p: &Problem, barrier: &Barrier, bounds: &[Bound], cell: usize) -
         (λ s. (HoldsAt p.now barrier.now bounds.now cell s → ⊥)
         × (s ≡ Side.High → HoldsAt p.now barrier.now bounds.now cell Side.Low)) }
 {
-    if !low_holds(p, barrier, bounds, cell) {
+    if !holds_at(p, barrier, bounds, cell, Side::Low) {
         return Some(Side::Low);
     }
-    if !high_holds(p, barrier, bounds, cell) {
+    if !holds_at(p, barrier, bounds, cell, Side::High) {
         return Some(Side::High);
     }
     None

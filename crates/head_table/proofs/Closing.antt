@@ -3,15 +3,11 @@ use Rattle.head_table.proofs.Common.{◌≡◌, ℕ, zero, suc, ◌+◌, ◌*◌
 use Rattle.head_table.proofs.Common.{get_elem?, opening, Bound, Entries, IsProblem, Side, Low, High, Edges, AreOnTheWay, same_on_the_way, same_seen}
 use Rattle.head_table.proofs.Common.{seen_itself, heads_on, is_side, Known, words_on, edge_on, OnTheWay, IsKnown, IsTableKept, starting, Result, Ok, Err, IfOk}
 use Rattle.head_table.proofs.Common.{Final, Seen, IsAsTight, AreNoLooser}
+use Rattle.relax_core.proofs.Exchanges.{way_on}
 
 only_one : (cells : List Entries) (edges : Edges) (raw : List ℕ) (u : Known) → IsKnown cells edges raw u → (j : ℕ) (v : Known) → get_elem? (u ∷ []) j ≡ some v → v.live ≡ true → IsKnown cells edges raw v
 only_one cells edges raw u k zero v e l = subst (IsKnown cells edges raw) (some-injective u v e) k
 only_one cells edges raw u k (suc j) v e l = absurd (some-ne-none v (sym e))
-
--- words on the way from a barrier are so on each side
-way_on : (side : Side) (cells : List Entries) (edges : Edges) (words : List Bound) → AreOnTheWay cells edges words → OnTheWay side cells (edge_on side edges) (heads_on side words)
-way_on Low cells edges words k = k.low
-way_on High cells edges words k = k.high
 
 pub opens : (cells : List Entries) (edges : Edges) → IsProblem cells → (words : List Bound) (raw : List ℕ) → length raw ≡ 2 * length words + 1
     → ((side : Side) (c : ℕ) → c < length words → words_on side raw c ≡ heads_on side words c) → AreOnTheWay cells edges words → IsTableKept cells edges (opening raw [] (starting words cells edges))

@@ -1,25 +1,24 @@
 -- Names that several proofs of this crate cite, of the crates below and of its own definitions, passed on from one place. Declares nothing.
-pub use Rattle.std.proofs.Common.{Err, IfOk, List, Ok, Result, [], ap, arith, get_or, get_or-set_other, get_or-set_same, inl, inr, length, length-append}
-pub use Rattle.std.proofs.Common.{length-set, pos, refl, rules, set, subst, suc, sym, true, vec_len, zero, ℕ, ℤ, ⊎_elim, ◌*◌, ◌++◌, ◌+◌, ◌<◌, ◌∙◌, ◌∷◌, ◌≡◌}
-pub use Rattle.std.proofs.Common.{◌≢◌, ◌≤◌, ◌⊎◌}
+pub use Rattle.std.proofs.Common.{Err, IfOk, List, Ok, Result, [], ap, arith, get_or, get_or-set_other, get_or-set_same, length, length-append, length-set, pos}
+pub use Rattle.std.proofs.Common.{refl, rules, set, subst, suc, sym, true, vec_len, zero, ℕ, ℤ, ⊎_elim, ◌*◌, ◌++◌, ◌+◌, ◌<◌, ◌∙◌, ◌∷◌, ◌≡◌, ◌≢◌, ◌⊎◌}
 pub use Rattle.std.proofs.lemmas.Int.{clamps, ints, to_z-of_z}
 pub use Rattle.std.specs.Int.{int_max, int_min}
 pub use Rattle.std.specs.Mem.Slots.{slots_items}
 pub use mathlib.Core.Logic.{dite}
 pub use mathlib.Core.Option.{none, some, some-injective, some-ne-none}
-pub use native.Mathlib.Decide.{dec_le, ℕ_discrete}
+pub use native.Mathlib.Decide.{ℕ_discrete}
 pub use Rattle.atomic_table.proofs.Lists.{at_set, at_snoc, set_again, set_else}
 pub use Rattle.atomic_table.specs.Table.{Allows, Final, Joins, Me, Seen, Splits, State, keeps, opening, step, stepped}
-pub use Rattle.cell_relax.proofs.Sides.{each_side, is_side}
-pub use Rattle.cell_relax.specs.Sides.{AreNoLooser, IsAsTight, IsRelaxedOn, other}
+pub use Rattle.cell_relax.proofs.Sides.{each_side, is_side, tighter_first, tighter_head, tighter_is_one, tighter_second}
+pub use Rattle.cell_relax.specs.Sides.{AreNoLooser, IsAsTight, IsRelaxedOn, other, tighter_of}
 pub use Rattle.cell_relax.specs.Words.{head_of, heads_on}
-pub use Rattle.head_table.specs.BySide.{IsNoTighterThanSettled, OnTheWay, WereSeen, edge_on}
+pub use Rattle.head_table.specs.BySide.{IsNoTighterThanSettled}
 pub use Rattle.head_table.specs.Plays.{SeesHead, claim_play, exchange_play, load_play}
 pub use Rattle.head_table.specs.Rule.{IsKnown, IsSound, IsTableKept, join_views, spent_view, starting, tightest}
-pub use Rattle.head_table.specs.Seats.{IsSeatOf, SameOn, SameOnBut, barrier_of, seen_of, seen_on, tighter_of}
+pub use Rattle.head_table.specs.Seats.{IsSeatOf, SameOn, SameOnBut, barrier_of, seen_of, seen_on}
 pub use Rattle.head_table.specs.Words.{head_of_word, tighter_word, word_of, words_on}
 pub use Rattle.head_table.specs.declared.known.Known.{Known}
-pub use Rattle.relax_core.specs.Core.{with_head}
+pub use Rattle.relax_core.specs.Kept.{OnTheWay, WereSeen, edge_on}
 pub use Rattle.step_problem.proofs.Sides.{relaxed_head, same_on_the_way}
 pub use Rattle.step_problem.proofs.SidesTurns.{same_seen, seen_itself, sees, still_seen, tighter, turn_keeps}
 pub use Rattle.step_problem.specs.Conditions.{IsHead, IsProblem}

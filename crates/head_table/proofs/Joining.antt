@@ -2,7 +2,7 @@
 use Rattle.head_table.proofs.Common.{◌≡◌, ℕ, List, get_or, set, ℤ, sym, refl, ◌∙◌, subst, ⊎_elim, length-set, none, some, get_elem?, step, keeps, Allows}
 use Rattle.head_table.proofs.Common.{Splits, at_snoc, set_again, Entries, Side, Edges, heads_on, Known, words_on, edge_on, OnTheWay, WereSeen, IsTableKept}
 use Rattle.head_table.proofs.Common.{claim_play, zero, suc, ◌<◌, [], ◌∷◌, length, ap, arith, ints, clamps, Bound, Low, High, IsHead, IsAsTight, tightest}
-use Rattle.head_table.proofs.Common.{tighter_of, true, Joins, set_else, IsSound, IsKnown, join_views, spent_view}
+use Rattle.head_table.proofs.Common.{tighter_of, true, Joins, set_else, IsSound, IsKnown, join_views, spent_view, tighter_head}
 use Rattle.head_table.proofs.WordReads.{counted_words}
 use Rattle.head_table.proofs.Seeing.{views_stay, KnownMe, Rule}
 
@@ -52,10 +52,6 @@ length_tightest (x ∷ xs) (y ∷ ys) e = ap suc (length_tightest xs ys (omega a
 pub tighter_within : (side : Side) (x y z : ℤ) → IsAsTight side x z → IsAsTight side y z → IsAsTight side (tighter_of side x y) z
 tighter_within Low x y z p q = omega (arith, ints, clamps)
 tighter_within High x y z p q = omega (arith, ints, clamps)
-
-pub tighter_head : (side : Side) (x y : ℤ) → IsHead x → IsHead y → IsHead (tighter_of side x y)
-tighter_head Low x y p q = let a = p.above in let b = p.below in let c = q.above in let d = q.below in record { above = omega (arith, ints, clamps); below = omega (arith, ints, clamps) }
-tighter_head High x y p q = let a = p.above in let b = p.below in let c = q.above in let d = q.below in record { above = omega (arith, ints, clamps); below = omega (arith, ints, clamps) }
 
 pub joined_at : (side : Side) (v w : Known) (n : ℕ) → length v.seen ≡ n → length w.seen ≡ n → (c : ℕ) → c < n → heads_on side (join_views v w).seen c ≡ tighter_of side (heads_on side v.seen c) (heads_on side w.seen c)
 joined_at side v w n a b c h = tightest_at side v.seen w.seen c (omega arith) (omega arith)

@@ -1,8 +1,6 @@
 -- What the words of a table, and bounds, read on each side after one of them is set.
-use Rattle.head_table.proofs.Common.{◌≡◌, ℕ, ◌+◌, ◌*◌, ◌<◌, ◌≤◌, ◌⊎◌, inl, inr, List, length, set, ℤ, ap, arith, length-set, get_or-set_other, get_or-set_same}
-use Rattle.head_table.proofs.Common.{ints, clamps, dec_le, Bound, Side, Low, High, IsAsTight, other, heads_on, with_head, tighter_of, head_of_word, word_of}
-use Rattle.head_table.proofs.Common.{words_on, tighter_word}
-use Rattle.relax_core.proofs.Words.{low_here, low_else, low_stays, high_here, high_else, high_stays}
+use Rattle.head_table.proofs.Common.{◌≡◌, ℕ, ◌+◌, ◌*◌, ◌<◌, ◌⊎◌, List, length, set, ap, arith, get_or-set_other, get_or-set_same, ints, clamps, Side, Low, High}
+use Rattle.head_table.proofs.Common.{IsAsTight, other, tighter_of, head_of_word, word_of, words_on, tighter_word, tighter_first, tighter_second, tighter_is_one}
 
 -- each word is of one cell and one side
 pub one_cell : (side : Side) (c d : ℕ) → word_of side c ≡ word_of side d → c ≡ d
@@ -34,41 +32,16 @@ other_words side ws c x = λ i d. ap head_of_word (get_or-set_other ws (word_of 
 pub counted_words : (side : Side) (ws : List ℕ) (x : ℕ) → words_on side (set ws 0 x) ≡ words_on side ws
 counted_words side ws x = λ i d. ap head_of_word (get_or-set_other ws 0 (word_of side d) x 0 (λ e. not_first side d e)) i
 
--- bounds of which one head is set
-pub seen_length : (side : Side) (bs : List Bound) (c : ℕ) (h : ℤ) → length (with_head side bs c h) ≡ length bs
-seen_length Low bs c h = length-set bs c _
-seen_length High bs c h = length-set bs c _
-
-pub seen_here : (side : Side) (bs : List Bound) (c : ℕ) (h : ℤ) → c < length bs → heads_on side (with_head side bs c h) c ≡ h
-seen_here Low = low_here
-seen_here High = high_here
-
-pub seen_else : (side : Side) (bs : List Bound) (c : ℕ) (h : ℤ) (d : ℕ) → (d ≡ c → ⊥) → heads_on side (with_head side bs c h) d ≡ heads_on side bs d
-seen_else Low = low_else
-seen_else High = high_else
-
-pub other_seen : (side : Side) (bs : List Bound) (c : ℕ) (h : ℤ) → c < length bs → (d : ℕ) → heads_on (other side) (with_head side bs c h) d ≡ heads_on (other side) bs d
-other_seen Low = high_stays
-other_seen High = low_stays
-
 -- the head of the tighter word
 pub tighter_is : (side : Side) (x k : ℕ) → head_of_word (tighter_word side x k) ≡ tighter_of side (head_of_word x) (head_of_word k)
 tighter_is Low x k = omega (arith, ints, clamps)
 tighter_is High x k = omega (arith, ints, clamps)
 
 pub tighter_old : (side : Side) (x k : ℕ) → IsAsTight side (head_of_word x) (head_of_word (tighter_word side x k))
-tighter_old Low x k = omega (arith, ints)
-tighter_old High x k = omega (arith, ints)
+tighter_old side x k = rw (tighter_is side x k) (tighter_first side _ _)
 
 pub tighter_new : (side : Side) (x k : ℕ) → IsAsTight side (head_of_word k) (head_of_word (tighter_word side x k))
-tighter_new Low x k = omega (arith, ints)
-tighter_new High x k = omega (arith, ints)
+tighter_new side x k = rw (tighter_is side x k) (tighter_second side _ _)
 
 pub tighter_one : (side : Side) (x k : ℕ) → (head_of_word (tighter_word side x k) ≡ head_of_word x) ⊎ (head_of_word (tighter_word side x k) ≡ head_of_word k)
-tighter_one side x k = one side (dec_le x k)
-  where
-    one : (s : Side) → Dec (x ≤ k) → (head_of_word (tighter_word s x k) ≡ head_of_word x) ⊎ (head_of_word (tighter_word s x k) ≡ head_of_word k)
-    one Low (yes l) = inr (ap head_of_word (omega arith))
-    one Low (no g) = inl (ap head_of_word (omega arith))
-    one High (yes l) = inl (ap head_of_word (omega arith))
-    one High (no g) = inr (ap head_of_word (omega arith))
+tighter_one side x k = rw (tighter_is side x k) (tighter_is_one side _ _)

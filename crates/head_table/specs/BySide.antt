@@ -2,28 +2,14 @@
 use Rattle.std.specs.Prelude.{ℕ, ◌<◌, List, length, ℤ}
 use Rattle.step_problem.specs.declared.heads.Bound.{Bound}
 use Rattle.step_problem.specs.declared.heads.Side.{Side}
-use Rattle.step_problem.specs.declared.heads.Side.TheVariants.{Low, High}
 use Rattle.step_problem.specs.Entries.{Entries}
-use Rattle.step_problem.specs.Exchanges.{AreSeen}
-use Rattle.step_problem.specs.Sides.{AsTight, AreHeads, IsPast, IsSettled, IsOnTheWay}
-use Rattle.step_problem.specs.Heads.{Edges, head_at}
+use Rattle.step_problem.specs.Sides.{AsTight, AreHeads, IsPast, IsSettled}
+use Rattle.step_problem.specs.Heads.{Edges}
+use Rattle.relax_core.specs.Kept.{edge_on}
 use Rattle.cell_relax.specs.Sides.{IsAsTight, Moves}
 use Rattle.cell_relax.specs.Words.{heads_on}
 
--- the floor of a barrier on the low side, its ceiling on the high side, by cell
-abbrev pub edge_on : Side → Edges → ℕ → ℤ
-edge_on Low b = head_at b.floor
-edge_on High b = head_at b.ceiling
-
 module _ (side : Side) (p : List Entries) where
-  -- heads on the way from an edge of a barrier
-  abbrev pub OnTheWay : (ℕ → ℤ) → (ℕ → ℤ) → Type 0
-  OnTheWay edge l = IsOnTheWay (IsAsTight side) (Moves side p) (length p) edge l
-
-  -- heads that were seen of l, now or earlier
-  abbrev pub WereSeen : (ℕ → ℤ) → (ℕ → ℤ) → Type 0
-  WereSeen l seen = AreSeen (IsAsTight side) (Moves side p) (length p) l seen
-
   -- x is as tight as the raise or the sink value of cell c from the heads l
   abbrev pub HasMoved : (ℕ → ℤ) → ℕ → ℤ → Type 0
   HasMoved l c x = IsPast (IsAsTight side) (Moves side p) (length p) l c x

@@ -7,7 +7,8 @@ use Rattle.cell_relax.specs.Sides.{IsAsTight, other}
 use Rattle.cell_relax.specs.Words.{heads_on}
 use Rattle.head_table.specs.declared.known.Known.{Known}
 use Rattle.head_table.specs.Words.{head_of_word, word_of, tighter_word}
-use Rattle.head_table.specs.BySide.{edge_on, IsNoTighterThanSettled}
+use Rattle.relax_core.specs.Kept.{edge_on}
+use Rattle.head_table.specs.BySide.{IsNoTighterThanSettled}
 
 abbrev Sat : Type 0
 Sat = Me (Unit {0}) Known

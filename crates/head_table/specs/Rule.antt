@@ -12,7 +12,7 @@ use Rattle.step_problem.specs.Heads.{Edges}
 use Rattle.cell_relax.specs.Words.{heads_on}
 use Rattle.head_table.specs.declared.known.Known.{Known}
 use Rattle.head_table.specs.Words.{words_on}
-use Rattle.head_table.specs.BySide.{edge_on, OnTheWay, WereSeen}
+use Rattle.relax_core.specs.Kept.{edge_on, OnTheWay, WereSeen}
 
 -- what was seen is one bound for each cell, with heads in range
 pub record IsSound (v : Known) : Type 0 where

@@ -1,11 +1,10 @@
 -- The words of contracts on a table and its seats.
 use Rattle.std.specs.Prelude.{◌≡◌, ℕ, ◌<◌, List, length, ℤ}
-use Rattle.std.specs.Int.{int_max, int_min}
 use Rattle.step_problem.specs.declared.heads.Bound.{Bound}
 use Rattle.step_problem.specs.declared.heads.Side.{Side}
-use Rattle.step_problem.specs.declared.heads.Side.TheVariants.{Low, High}
 use Rattle.step_problem.specs.Entries.{Entries}
 use Rattle.step_problem.specs.Heads.{Edges}
+use Rattle.cell_relax.specs.Sides.{tighter_of}
 use Rattle.cell_relax.specs.Words.{heads_on}
 use Rattle.head_table.specs.declared.table.HeadTable.{HeadTable}
 use Rattle.head_table.specs.declared.table.HeadSeat.{HeadSeat}
@@ -33,11 +32,6 @@ SameOn side a b = (d : ℕ) → seen_on side b d ≡ seen_on side a d
 
 abbrev pub SameOnBut : Side → ℕ → HeadSeat → HeadSeat → Type 0
 SameOnBut side c a b = (d : ℕ) → (d ≡ c → ⊥) → seen_on side b d ≡ seen_on side a d
-
--- the tighter of two heads
-abbrev pub tighter_of : Side → ℤ → ℤ → ℤ
-tighter_of Low = int_max
-tighter_of High = int_min
 
 -- at each cell the seat c has seen the tighter of what a and b had seen
 abbrev pub HasTighter : List Entries → HeadSeat → HeadSeat → HeadSeat → Type 0

@@ -1,23 +1,23 @@
 -- Names that several proofs of this crate cite, of the crates below and of its own definitions, passed on from one place. Declares nothing.
-pub use Rattle.std.proofs.Common.{All, Bool, FitsSigned, Global, IsTrue, List, Vec, [], ap, arith, cond, false, get_or, get_or-set_other, get_or-set_same, inl}
-pub use Rattle.std.proofs.Common.{inr, int_lt, length, length-set, map, refl, rules, set, subst, sym, true, w64, ℕ, ℤ, ⊎_elim, ◌<◌, ◌↔◌, ◌∙◌, ◌∷◌, ◌≡◌, ◌≤ℤ◌}
-pub use Rattle.std.proofs.Common.{◌⊎◌}
-pub use Rattle.std.proofs.lemmas.Int.{clamps, ints, to_z-of_z}
+pub use Rattle.std.proofs.Common.{All, Bool, FitsSigned, Global, IsTrue, List, Vec, [], ap, arith, get_or, get_or-set_other, get_or-set_same, length}
+pub use Rattle.std.proofs.Common.{length-set, map, refl, rules, set, subst, sym, w64, ℕ, ℤ, ◌<◌, ◌↔◌, ◌∙◌, ◌∷◌, ◌≡◌}
+pub use Rattle.std.proofs.lemmas.Int.{to_z-of_z}
 pub use Rattle.std.proofs.lemmas.List.{get_or-map, get_or_default, length-map, map-set}
 pub use Rattle.std.proofs.lemmas.List.Elements.{All-get_or, All-map, All-set, All-weaker}
-pub use Rattle.std.specs.Int.{int_max, int_min}
+pub use Rattle.cell_relax.proofs.Sides.{each_side, heads_in_range, is_side, tighter_first, tighter_head, tighter_is_one, tighter_second}
+pub use Rattle.cell_relax.specs.Sides.{AreNoLooser, IsAsTight, IsRelaxedOn, other, tighter_of}
 pub use Rattle.cell_relax.specs.Words.{AreWords, head_of, heads_on}
-pub use Rattle.relax_core.specs.Core.{Becomes, Core, IsInRange, IsNamed, Path, Puts, Step, seen_by, with_head}
-pub use Rattle.relax_core.specs.Kept.{IsKept, IsNoLooser, WasSeen}
+pub use Rattle.relax_core.specs.Core.{Becomes, Core, IsInRange, IsNamed, Path, Puts, Relaxes, Step, seen_by, with_head}
+pub use Rattle.relax_core.specs.Kept.{IsKept, OnTheWay, WasSeen, WereSeen, edge_on}
 pub use Rattle.relax_core.specs.Laws.{AreEdges, KeepsHeads}
 pub use Rattle.relax_core.specs.declared.events.Event.{Event}
 pub use Rattle.relax_core.specs.declared.events.Event.TheVariants.{Claim, Raise, See, Sink}
-pub use Rattle.step_problem.proofs.BothSides.{high_side, le_refl, le_trans, low_side}
+pub use Rattle.step_problem.proofs.BothSides.{high_side, low_side}
 pub use Rattle.step_problem.proofs.Sides.{IsSide, edge_kept, relaxed_head, same_on_the_way}
 pub use Rattle.step_problem.proofs.SidesTurns.{by_cell, same_seen, seen_itself, sees, still_seen, tighter, turn_keeps}
 pub use Rattle.step_problem.specs.Conditions.{IsHead, IsProblem}
 pub use Rattle.step_problem.specs.Entries.{Entries}
-pub use Rattle.step_problem.specs.Heads.{AreOnTheWay, Edges, Ge, IsBarrier, IsRaise, IsSink, head_at, lower_at, no_bound, upper_at}
+pub use Rattle.step_problem.specs.Heads.{AreOnTheWay, Edges, IsBarrier, head_at, lower_at, no_bound, upper_at}
 pub use Rattle.step_problem.specs.declared.heads.Bound.{Bound}
 pub use Rattle.step_problem.specs.declared.heads.Side.{Side}
 pub use Rattle.step_problem.specs.declared.heads.Side.TheVariants.{High, Low}

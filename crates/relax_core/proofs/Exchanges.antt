@@ -1,64 +1,53 @@
 -- One exchange, or one look, on words and on what was seen of them.
-use Rattle.relax_core.proofs.Common.{ℕ, ◌<◌, List, length, ℤ, refl, ◌∙◌, subst, arith, length-set, int_max, int_min, Bound, Low, High, Entries, IsProblem}
-use Rattle.relax_core.proofs.Common.{Edges, IsRaise, IsSink, lower_at, upper_at, head_at, AreOnTheWay, same_on_the_way, tighter, turn_keeps, still_seen, sees}
-use Rattle.relax_core.proofs.Common.{same_seen, low_side, high_side, with_head, WasSeen}
-use Rattle.relax_core.proofs.Words.{low_here, low_else, high_stays, high_here, high_else, low_stays, low_exchange, high_exchange}
+use Rattle.relax_core.proofs.Common.{ℕ, ◌<◌, List, length, ℤ, ◌∙◌, subst, arith, Bound, Side, Low, High, Entries, IsHead, IsProblem, Edges, AreOnTheWay}
+use Rattle.relax_core.proofs.Common.{same_on_the_way, tighter, turn_keeps, still_seen, sees, same_seen, refl, IsRelaxedOn, tighter_of, other, heads_on}
+use Rattle.relax_core.proofs.Common.{with_head, WasSeen, OnTheWay, WereSeen, edge_on, is_side, each_side}
+use Rattle.relax_core.proofs.Words.{seen_length, seen_here, seen_else, other_seen, tighter_exchange}
 
-module _ (p : List Entries) (ok : IsProblem p) where
+-- words on the way from a barrier are so on each side
+pub way_on : (side : Side) (p : List Entries) (b : Edges) (ws : List Bound) → AreOnTheWay p b ws → OnTheWay side p (edge_on side b) (heads_on side ws)
+way_on Low p b ws k = k.low
+way_on High p b ws k = k.high
+
+module _ (p : List Entries) (ok : IsProblem p) (side : Side) where
   -- a look
-  pub look_low : (b : Edges) (ws v : List Bound) (c : ℕ) → c < length p → AreOnTheWay p b ws → WasSeen p ws v → WasSeen p ws (with_head Low v c (lower_at ws c))
-  look_low b ws v c h k f = let long : c < length v = omega (arith, f.whole) in record {
-    whole = length-set v c _ ∙ f.whole;
-    low = sees (low_side p ok) (lower_at ws) (lower_at v) _ c (k.low.heads c h) (low_here v c _ long) (low_else v c _) f.low;
-    high = same_seen (high_side p ok) (upper_at ws) (upper_at ws) (upper_at v) _ (λ d i. refl) (λ d i. high_stays v c _ long d) f.high;
+  pub look : (ws v : List Bound) (c : ℕ) → c < length p → IsHead (heads_on side ws c) → WasSeen p ws v → WasSeen p ws (with_head side v c (heads_on side ws c))
+  look ws v c h head f = let long : c < length v = omega (arith, f.whole) in record {
+    whole = seen_length side v c _ ∙ f.whole;
+    heads = each_side side (λ t. WereSeen t p (heads_on t ws) (heads_on t (with_head side v c (heads_on side ws c))))
+        (sees (is_side side p ok) (heads_on side ws) (heads_on side v) _ c head (seen_here side v c _ long) (seen_else side v c _) (f.heads side))
+        (same_seen (is_side (other side) p ok) (heads_on (other side) ws) (heads_on (other side) ws) (heads_on (other side) v) _ (λ d i. refl) (λ d i. other_seen side v c _ long d) (f.heads (other side)));
   }
 
-  pub look_high : (b : Edges) (ws v : List Bound) (c : ℕ) → c < length p → AreOnTheWay p b ws → WasSeen p ws v → WasSeen p ws (with_head High v c (upper_at ws c))
-  look_high b ws v c h k f = let long : c < length v = omega (arith, f.whole) in record {
-    whole = length-set v c _ ∙ f.whole;
-    low = same_seen (low_side p ok) (lower_at ws) (lower_at ws) (lower_at v) _ (λ d i. refl) (λ d i. low_stays v c _ long d) f.low;
-    high = sees (high_side p ok) (upper_at ws) (upper_at v) _ c (k.high.heads c h) (high_here v c _ long) (high_else v c _) f.high;
-  }
+  module _ (ws : List Bound) (c : ℕ) (r : ℤ) where
+    -- the words after an exchange for the tighter of the word and r
+    abbrev pub exchanged : List Bound
+    exchanged = with_head side ws c (tighter_of side (heads_on side ws c) r)
 
-  -- what was seen of the words before a raise was seen of the words after it
-  pub raise_still : (ws : List Bound) (c : ℕ) (r : ℤ) → c < length ws → (u : List Bound) → WasSeen p ws u → WasSeen p (with_head Low ws c (int_max (lower_at ws c) r)) u
-  raise_still ws c r wide u f = record {
-    whole = f.whole;
-    low = still_seen (low_side p ok) (lower_at ws) _ (lower_at u) (tighter (low_side p ok) (lower_at ws) c r _ _ (low_exchange ws c r wide)) f.low;
-    high = same_seen (high_side p ok) (upper_at ws) _ (upper_at u) (upper_at u) (λ d i. high_stays ws c _ wide d) (λ d i. refl) f.high;
-  }
+    -- what was seen of the words before was seen of the words after
+    pub still : c < length ws → (u : List Bound) → WasSeen p ws u → WasSeen p exchanged u
+    still wide u f = record {
+      whole = f.whole;
+      heads = each_side side (λ t. WereSeen t p (heads_on t exchanged) (heads_on t u))
+          (still_seen (is_side side p ok) (heads_on side ws) (heads_on side exchanged) (heads_on side u) (tighter (is_side side p ok) (heads_on side ws) c r _ _ (tighter_exchange side ws c r wide)) (f.heads side))
+          (same_seen (is_side (other side) p ok) (heads_on (other side) ws) (heads_on (other side) exchanged) (heads_on (other side) u) (heads_on (other side) u) (λ d i. other_seen side ws c _ wide d) (λ d i. refl) (f.heads (other side)));
+    }
 
-  pub sink_still : (ws : List Bound) (c : ℕ) (r : ℤ) → c < length ws → (u : List Bound) → WasSeen p ws u → WasSeen p (with_head High ws c (int_min (upper_at ws c) r)) u
-  sink_still ws c r wide u f = record {
-    whole = f.whole;
-    low = same_seen (low_side p ok) (lower_at ws) _ (lower_at u) (lower_at u) (λ d i. low_stays ws c _ wide d) (λ d i. refl) f.low;
-    high = still_seen (high_side p ok) (upper_at ws) _ (upper_at u) (tighter (high_side p ok) (upper_at ws) c r _ _ (high_exchange ws c r wide)) f.high;
-  }
+    module _ (b : Edges) (v : List Bound) (h : c < length p) (k : AreOnTheWay p b ws) (f : WasSeen p ws v) (turn : IsRelaxedOn side p (heads_on side v) c r) where
+      wide : c < length ws
+      wide = omega (arith, k.whole, h)
 
-  -- a raise from seen heads keeps the words on the way
-  pub raise_words : (b : Edges) (ws v : List Bound) (c : ℕ) (r : ℤ) → c < length p → AreOnTheWay p b ws → WasSeen p ws v → IsRaise p (lower_at v) c r → AreOnTheWay p b (with_head Low ws c (int_max (lower_at ws c) r))
-  raise_words b ws v c r h k f turn = let wide : c < length ws = omega (arith, k.whole) in record {
-    whole = length-set ws c _ ∙ k.whole;
-    low = turn_keeps (low_side p ok) (head_at b.floor) (lower_at ws) (lower_at v) _ c r _ h k.low f.low turn (low_exchange ws c r wide);
-    high = same_on_the_way (high_side p ok) (head_at b.ceiling) (upper_at ws) _ (λ d i. high_stays ws c _ wide d) k.high;
-  }
+      way : (t : Side) → OnTheWay t p (edge_on t b) (heads_on t exchanged)
+      way = each_side side (λ t. OnTheWay t p (edge_on t b) (heads_on t exchanged))
+          (turn_keeps (is_side side p ok) (edge_on side b) (heads_on side ws) (heads_on side v) (heads_on side exchanged) c r _ h (way_on side p b ws k) (f.heads side) turn (tighter_exchange side ws c r wide))
+          (same_on_the_way (is_side (other side) p ok) (edge_on (other side) b) (heads_on (other side) ws) (heads_on (other side) exchanged) (λ d i. other_seen side ws c _ wide d) (way_on (other side) p b ws k))
 
-  pub sink_words : (b : Edges) (ws v : List Bound) (c : ℕ) (r : ℤ) → c < length p → AreOnTheWay p b ws → WasSeen p ws v → IsSink p (upper_at v) c r → AreOnTheWay p b (with_head High ws c (int_min (upper_at ws c) r))
-  sink_words b ws v c r h k f turn = let wide : c < length ws = omega (arith, k.whole) in record {
-    whole = length-set ws c _ ∙ k.whole;
-    low = same_on_the_way (low_side p ok) (head_at b.floor) (lower_at ws) _ (λ d i. low_stays ws c _ wide d) k.low;
-    high = turn_keeps (high_side p ok) (head_at b.ceiling) (upper_at ws) (upper_at v) _ c r _ h k.high f.high turn (high_exchange ws c r wide);
-  }
+      -- an exchange for the relaxed head from seen heads keeps the words on the way
+      pub exchange_words : AreOnTheWay p b exchanged
+      exchange_words = record { whole = seen_length side ws c _ ∙ k.whole; low = way Low; high = way High }
 
-  -- what the actor has then seen
-  pub raise_seen : (b : Edges) (ws v : List Bound) (c : ℕ) (r : ℤ) → c < length p → AreOnTheWay p b ws → WasSeen p ws v → IsRaise p (lower_at v) c r
-      → WasSeen p (with_head Low ws c (int_max (lower_at ws c) r)) (with_head Low v c (int_max (lower_at ws c) r))
-  raise_seen b ws v c r h k f turn = let wide : c < length ws = omega (arith, k.whole) in
-      subst (λ (y : ℤ). WasSeen p (with_head Low ws c (int_max (lower_at ws c) r)) (with_head Low v c y)) (low_here ws c (int_max (lower_at ws c) r) wide)
-      (look_low b (with_head Low ws c (int_max (lower_at ws c) r)) v c h (raise_words b ws v c r h k f turn) (raise_still ws c r wide v f))
-
-  pub sink_seen : (b : Edges) (ws v : List Bound) (c : ℕ) (r : ℤ) → c < length p → AreOnTheWay p b ws → WasSeen p ws v → IsSink p (upper_at v) c r
-      → WasSeen p (with_head High ws c (int_min (upper_at ws c) r)) (with_head High v c (int_min (upper_at ws c) r))
-  sink_seen b ws v c r h k f turn = let wide : c < length ws = omega (arith, k.whole) in
-      subst (λ (y : ℤ). WasSeen p (with_head High ws c (int_min (upper_at ws c) r)) (with_head High v c y)) (high_here ws c (int_min (upper_at ws c) r) wide)
-      (look_high b (with_head High ws c (int_min (upper_at ws c) r)) v c h (sink_words b ws v c r h k f turn) (sink_still ws c r wide v f))
+      -- what the actor has then seen
+      pub exchange_seen : WasSeen p exchanged (with_head side v c (tighter_of side (heads_on side ws c) r))
+      exchange_seen =
+          subst (λ (y : ℤ). WasSeen p exchanged (with_head side v c y)) (seen_here side ws c (tighter_of side (heads_on side ws c) r) wide)
+          (look exchanged v c h ((way side).heads c h) (still wide v f))

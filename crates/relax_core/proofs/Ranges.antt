@@ -1,25 +1,20 @@
 -- Every event keeps words and what was seen in range.
-use Rattle.relax_core.proofs.Common.{◌≡◌, ℕ, ◌<◌, List, [], length, All, ℤ, Bool, true, false, cond, sym, ap, subst, ◌∙◌, arith, int_lt, length-set, All-get_or}
-use Rattle.relax_core.proofs.Common.{All-set, Bound, Side, Low, High, Entries, IsHead, IsProblem, lower_at, upper_at, relaxed_head, by_cell, low_side}
-use Rattle.relax_core.proofs.Common.{high_side, heads_on, AreWords, Event, See, Raise, Sink, Claim, Core, seen_by, with_head, Becomes, IsInRange, IsNamed, Step}
-use Rattle.relax_core.proofs.Words.{low_here, low_else, low_stays, high_here, high_else, high_stays}
-
-one_head : (b : Bool) (x y : ℤ) → IsHead x → IsHead y → IsHead (cond b x y)
-one_head true x y p q = p
-one_head false x y p q = q
+use Rattle.relax_core.proofs.Common.{◌≡◌, ℕ, ◌<◌, List, [], length, All, ℤ, sym, ap, subst, ◌∙◌, arith, length-set, All-get_or, All-set, Bound, Side, Low, High}
+use Rattle.relax_core.proofs.Common.{Entries, IsHead, IsProblem, relaxed_head, by_cell, other, heads_on, AreWords, is_side, each_side, Event, See, Raise, Sink}
+use Rattle.relax_core.proofs.Common.{Claim, Core, seen_by, with_head, Becomes, IsInRange, IsNamed, Relaxes, Step, tighter_head, heads_in_range}
+use Rattle.relax_core.proofs.Words.{seen_length, seen_here, seen_else, other_seen}
 
 module _ (p : List Entries) where
   put_in_range : (side : Side) (bs : List Bound) (c : ℕ) (h : ℤ) → c < length p → AreWords p bs → IsHead h → AreWords p (with_head side bs c h)
-  put_in_range Low bs c h i w head = let long : c < length bs = omega (arith, w.whole) in record {
-    whole = length-set bs c _ ∙ w.whole;
-    low = λ d j. by_cell (λ k z. IsHead z) (lower_at bs) (lower_at (with_head Low bs c h)) c h (low_here bs c h long) (low_else bs c h) head d (λ ne. w.low d j);
-    high = λ d j. subst IsHead (sym (high_stays bs c h long d)) (w.high d j);
-  }
-  put_in_range High bs c h i w head = let long : c < length bs = omega (arith, w.whole) in record {
-    whole = length-set bs c _ ∙ w.whole;
-    low = λ d j. subst IsHead (sym (low_stays bs c h long d)) (w.low d j);
-    high = λ d j. by_cell (λ k z. IsHead z) (upper_at bs) (upper_at (with_head High bs c h)) c h (high_here bs c h long) (high_else bs c h) head d (λ ne. w.high d j);
-  }
+  put_in_range side bs c h i w head = record { whole = seen_length side bs c h ∙ w.whole; low = on Low; high = on High }
+    where
+      long : c < length bs
+      long = omega (arith, w.whole, i)
+
+      on : (t : Side) (d : ℕ) → d < length p → IsHead (heads_on t (with_head side bs c h) d)
+      on = each_side side (λ t. (d : ℕ) → d < length p → IsHead (heads_on t (with_head side bs c h) d))
+          (λ d j. by_cell (λ k z. IsHead z) (heads_on side bs) (heads_on side (with_head side bs c h)) c h (seen_here side bs c h long) (seen_else side bs c h) head d (λ ne. heads_in_range side p bs w d j))
+          (λ d j. subst IsHead (sym (other_seen side bs c h long d)) (heads_in_range (other side) p bs w d j))
 
   becomes_in_range : (s t : Core) (ws : List Bound) (a : ℕ) (v : List Bound) → Becomes s t ws a v → IsInRange p s → AreWords p ws → AreWords p v → IsInRange p t
   becomes_in_range s t ws a v e range words seen = record {
@@ -30,21 +25,17 @@ module _ (p : List Entries) where
   pub seen_in_range : (s : Core) (a : ℕ) → a < length s.seen → IsInRange p s → AreWords p (seen_by s a)
   seen_in_range s a h range = All-get_or (AreWords p) s.seen a [] h range.seen
 
-  head_in_range : (side : Side) (s : Core) (c : ℕ) → c < length p → IsInRange p s → IsHead (heads_on side s.words c)
-  head_in_range Low s c h range = range.words.low c h
-  head_in_range High s c h range = range.words.high c h
+  relax_in_range : IsProblem p → (side : Side) (s t : Core) (a c : ℕ) → a < length s.seen → c < length p → Relaxes p side s t a c → IsInRange p s → IsInRange p t
+  relax_in_range ok side s t a c h i (r, turn, step) range =
+      let v = seen_in_range s a h range in
+      let head = tighter_head side _ r (heads_in_range side p s.words range.words c i) (relaxed_head (is_side side p ok) (heads_on side (seen_by s a)) c r (heads_in_range side p (seen_by s a) v c i) turn) in
+      becomes_in_range s t _ a _ step range (put_in_range side s.words c _ i range.words head) (put_in_range side (seen_by s a) c _ i v head)
 
   pub step_in_range : IsProblem p → (e : Event) (s t : Core) → IsNamed p s e → Step p e s t → IsInRange p s → IsInRange p t
   step_in_range ok (See a c side) s t named step range =
-      becomes_in_range s t _ a _ step range range.words (put_in_range side (seen_by s a) c _ named.1 (seen_in_range s a named.0 range) (head_in_range side s c named.1 range))
-  step_in_range ok (Raise a c) s t named (r, turn, step) range =
-      let v = seen_in_range s a named.0 range in
-      let head = one_head (int_lt r (lower_at s.words c)) (lower_at s.words c) r (range.words.low c named.1) (relaxed_head (low_side p ok) (lower_at (seen_by s a)) c r (v.low c named.1) turn) in
-      becomes_in_range s t _ a _ step range (put_in_range Low s.words c _ named.1 range.words head) (put_in_range Low (seen_by s a) c _ named.1 v head)
-  step_in_range ok (Sink a c) s t named (r, turn, step) range =
-      let v = seen_in_range s a named.0 range in
-      let head = one_head (int_lt r (upper_at s.words c)) r (upper_at s.words c) (relaxed_head (high_side p ok) (upper_at (seen_by s a)) c r (v.high c named.1) turn) (range.words.high c named.1) in
-      becomes_in_range s t _ a _ step range (put_in_range High s.words c _ named.1 range.words head) (put_in_range High (seen_by s a) c _ named.1 v head)
+      becomes_in_range s t _ a _ step range range.words (put_in_range side (seen_by s a) c _ named.1 (seen_in_range s a named.0 range) (heads_in_range side p s.words range.words c named.1))
+  step_in_range ok (Raise a c) s t named step range = relax_in_range ok Low s t a c named.0 named.1 step range
+  step_in_range ok (Sink a c) s t named step range = relax_in_range ok High s t a c named.0 named.1 step range
   step_in_range ok (Claim a) s t named step range = record {
     words = subst (AreWords p) (sym step.0) range.words;
     seen = subst (All (AreWords p)) (sym step.1) range.seen;

@@ -1,61 +1,46 @@
--- What bounds read after one head of them is replaced.
-use Rattle.relax_core.proofs.Common.{◌≡◌, ℕ, ◌<◌, ◌⊎◌, List, length, ℤ, ◌≤ℤ◌, Bool, true, false, cond, sym, refl, ap, subst, inl, inr, ⊎_elim, int_lt, arith}
-use Rattle.relax_core.proofs.Common.{get_or-set_same, get_or-set_other, ints, clamps, int_max, int_min, Bound, Low, High, Ge, no_bound, lower_at, upper_at}
-use Rattle.relax_core.proofs.Common.{with_head}
-use Rattle.std.proofs.lemmas.Bool.{cases_eq}
+-- What bounds read on each side after one head of them is replaced.
+use Rattle.relax_core.proofs.Common.{◌≡◌, ℕ, ◌<◌, List, length, ℤ, sym, ap, subst, get_or-set_same, get_or-set_other, length-set, Bound, Side, Low, High}
+use Rattle.relax_core.proofs.Common.{no_bound, lower_at, upper_at, IsAsTight, tighter_of, other, head_of, heads_on, with_head, tighter_first, tighter_second}
+use Rattle.relax_core.proofs.Common.{tighter_is_one}
+use mathlib.Core.Logic.{dite}
+use native.Mathlib.Decide.{ℕ_discrete}
 use Rattle.step_problem.specs.Exchanges.{IsExchange}
 
-pub low_here : (bs : List Bound) (c : ℕ) (h : ℤ) → c < length bs → lower_at (with_head Low bs c h) c ≡ h
-low_here bs c h l = ap (λ (b : Bound). b.low) (get_or-set_same bs c (record { low = h; high = upper_at bs c }) no_bound l)
+abbrev bound_with : Side → List Bound → ℕ → ℤ → Bound
+bound_with Low bs c h = record { low = h; high = upper_at bs c }
+bound_with High bs c h = record { low = lower_at bs c; high = h }
 
-pub low_else : (bs : List Bound) (c : ℕ) (h : ℤ) (d : ℕ) → (d ≡ c → ⊥) → lower_at (with_head Low bs c h) d ≡ lower_at bs d
-low_else bs c h d ne = ap (λ (b : Bound). b.low) (get_or-set_other bs c d (record { low = h; high = upper_at bs c }) no_bound ne)
+pub seen_length : (side : Side) (bs : List Bound) (c : ℕ) (h : ℤ) → length (with_head side bs c h) ≡ length bs
+seen_length Low bs c h = length-set bs c _
+seen_length High bs c h = length-set bs c _
 
-pub high_stays : (bs : List Bound) (c : ℕ) (h : ℤ) → c < length bs → (d : ℕ) → upper_at (with_head Low bs c h) d ≡ upper_at bs d
-high_stays bs c h l d = ⊎_elim
-    (λ (e : d ≡ c). subst (λ (k : ℕ). upper_at (with_head Low bs c h) k ≡ upper_at bs k) (sym e) (ap (λ (b : Bound). b.high) (get_or-set_same bs c (record { low = h; high = upper_at bs c }) no_bound l)))
-    (λ (ne : d ≡ c → ⊥). ap (λ (b : Bound). b.high) (get_or-set_other bs c d (record { low = h; high = upper_at bs c }) no_bound ne)) (cases_eq d c)
+pub seen_here : (side : Side) (bs : List Bound) (c : ℕ) (h : ℤ) → c < length bs → heads_on side (with_head side bs c h) c ≡ h
+seen_here Low bs c h l = ap (λ (b : Bound). b.low) (get_or-set_same bs c (bound_with Low bs c h) no_bound l)
+seen_here High bs c h l = ap (λ (b : Bound). b.high) (get_or-set_same bs c (bound_with High bs c h) no_bound l)
 
-pub high_here : (bs : List Bound) (c : ℕ) (h : ℤ) → c < length bs → upper_at (with_head High bs c h) c ≡ h
-high_here bs c h l = ap (λ (b : Bound). b.high) (get_or-set_same bs c (record { low = lower_at bs c; high = h }) no_bound l)
+both_else : (side t : Side) (bs : List Bound) (c : ℕ) (h : ℤ) (d : ℕ) → (d ≡ c → ⊥) → heads_on t (with_head side bs c h) d ≡ heads_on t bs d
+both_else Low t bs c h d ne = ap (head_of t) (get_or-set_other bs c d (bound_with Low bs c h) no_bound ne)
+both_else High t bs c h d ne = ap (head_of t) (get_or-set_other bs c d (bound_with High bs c h) no_bound ne)
 
-pub high_else : (bs : List Bound) (c : ℕ) (h : ℤ) (d : ℕ) → (d ≡ c → ⊥) → upper_at (with_head High bs c h) d ≡ upper_at bs d
-high_else bs c h d ne = ap (λ (b : Bound). b.high) (get_or-set_other bs c d (record { low = lower_at bs c; high = h }) no_bound ne)
+pub seen_else : (side : Side) (bs : List Bound) (c : ℕ) (h : ℤ) (d : ℕ) → (d ≡ c → ⊥) → heads_on side (with_head side bs c h) d ≡ heads_on side bs d
+seen_else side = both_else side side
 
-pub low_stays : (bs : List Bound) (c : ℕ) (h : ℤ) → c < length bs → (d : ℕ) → lower_at (with_head High bs c h) d ≡ lower_at bs d
-low_stays bs c h l d = ⊎_elim
-    (λ (e : d ≡ c). subst (λ (k : ℕ). lower_at (with_head High bs c h) k ≡ lower_at bs k) (sym e) (ap (λ (b : Bound). b.low) (get_or-set_same bs c (record { low = lower_at bs c; high = h }) no_bound l)))
-    (λ (ne : d ≡ c → ⊥). ap (λ (b : Bound). b.low) (get_or-set_other bs c d (record { low = lower_at bs c; high = h }) no_bound ne)) (cases_eq d c)
-
-one_of : (b : Bool) (x y : ℤ) → (cond b x y ≡ x) ⊎ (cond b x y ≡ y)
-one_of true x y = inl refl
-one_of false x y = inr refl
-
-turned : {A B : Type 0} → A ⊎ B → B ⊎ A
-turned x = ⊎_elim (λ a. inr a) (λ b. inl b) x
-
--- the greater of the lower word and r is put there
-pub low_exchange : (ws : List Bound) (c : ℕ) (r : ℤ) → c < length ws → IsExchange ◌≤ℤ◌ (lower_at ws) c r (int_max (lower_at ws c) r) (lower_at (with_head Low ws c (int_max (lower_at ws c) r)))
-low_exchange ws c r wide = exchange (int_max (lower_at ws c) r) refl
+pub other_seen : (side : Side) (bs : List Bound) (c : ℕ) (h : ℤ) → c < length bs → (d : ℕ) → heads_on (other side) (with_head side bs c h) d ≡ heads_on (other side) bs d
+other_seen side bs c h l d = dite (ℕ_discrete d c)
+    (λ e. subst (λ (k : ℕ). heads_on (other side) (with_head side bs c h) k ≡ heads_on (other side) bs k) (sym e) (at side))
+    (λ ne. both_else side (other side) bs c h d ne)
   where
-    exchange : (y : ℤ) → y ≡ int_max (lower_at ws c) r → IsExchange ◌≤ℤ◌ (lower_at ws) c r y (lower_at (with_head Low ws c y))
-    exchange y e = record {
-      here = low_here ws c y wide;
-      elsewhere = low_else ws c y;
-      old = omega (arith, ints, clamps, e);
-      new = omega (arith, ints, clamps, e);
-      one = rw e (one_of (int_lt r (lower_at ws c)) (lower_at ws c) r);
-    }
+    at : (s : Side) → heads_on (other s) (with_head s bs c h) c ≡ heads_on (other s) bs c
+    at Low = ap (λ (b : Bound). b.high) (get_or-set_same bs c (bound_with Low bs c h) no_bound l)
+    at High = ap (λ (b : Bound). b.low) (get_or-set_same bs c (bound_with High bs c h) no_bound l)
 
--- and the lesser of the upper word and r there
-pub high_exchange : (ws : List Bound) (c : ℕ) (r : ℤ) → c < length ws → IsExchange Ge (upper_at ws) c r (int_min (upper_at ws c) r) (upper_at (with_head High ws c (int_min (upper_at ws c) r)))
-high_exchange ws c r wide = exchange (int_min (upper_at ws c) r) refl
-  where
-    exchange : (y : ℤ) → y ≡ int_min (upper_at ws c) r → IsExchange Ge (upper_at ws) c r y (upper_at (with_head High ws c y))
-    exchange y e = record {
-      here = high_here ws c y wide;
-      elsewhere = high_else ws c y;
-      old = omega (arith, ints, clamps, e);
-      new = omega (arith, ints, clamps, e);
-      one = rw e (turned (one_of (int_lt r (upper_at ws c)) r (upper_at ws c)));
-    }
+-- the tighter of the word and r is put there
+pub tighter_exchange : (side : Side) (ws : List Bound) (c : ℕ) (r : ℤ) → c < length ws →
+    IsExchange (IsAsTight side) (heads_on side ws) c r (tighter_of side (heads_on side ws c) r) (heads_on side (with_head side ws c (tighter_of side (heads_on side ws c) r)))
+tighter_exchange side ws c r wide = record {
+  here = seen_here side ws c _ wide;
+  elsewhere = seen_else side ws c _;
+  old = tighter_first side _ r;
+  new = tighter_second side _ r;
+  one = tighter_is_one side _ r;
+}

@@ -1,11 +1,11 @@
 -- Heads that several actors share: a state, the events that change it, and one event after another.
 use Rattle.std.specs.Prelude.{◌≡◌, ℕ, ◌<◌, List, [], ◌∷◌, length, All, ℤ, slice_index_or, slice_set}
-use Rattle.std.specs.Int.{int_max, int_min}
 use Rattle.step_problem.specs.declared.heads.Bound.{Bound}
 use Rattle.step_problem.specs.declared.heads.Side.{Side}
 use Rattle.step_problem.specs.declared.heads.Side.TheVariants.{Low, High}
 use Rattle.step_problem.specs.Entries.{Entries}
-use Rattle.step_problem.specs.Heads.{lower_at, upper_at, IsRaise, IsSink}
+use Rattle.step_problem.specs.Heads.{lower_at, upper_at}
+use Rattle.cell_relax.specs.Sides.{IsRelaxedOn, tighter_of}
 use Rattle.cell_relax.specs.Words.{heads_on, AreWords}
 use Rattle.relax_core.specs.declared.events.Event.{Event}
 use Rattle.relax_core.specs.declared.events.Event.TheVariants.{See, Raise, Sink, Claim}
@@ -55,19 +55,16 @@ module _ (p : List Entries) where
   IsNamed s (Sink a c) = (a < length s.seen) × (c < length p)
   IsNamed s (Claim a) = a < length s.seen
 
-  -- actor a puts the greater of the lower word of cell c and its raise value from the lower heads that the actor has seen
-  abbrev pub Raises : Core → Core → ℕ → ℕ → Type 0
-  Raises s t a c = (r : ℤ) × IsRaise p (lower_at (seen_by s a)) c r × Puts Low s t a c (int_max (lower_at s.words c) r)
-
-  -- and the lesser of the upper word and its sink value from the upper ones
-  abbrev pub Sinks : Core → Core → ℕ → ℕ → Type 0
-  Sinks s t a c = (r : ℤ) × IsSink p (upper_at (seen_by s a)) c r × Puts High s t a c (int_min (upper_at s.words c) r)
+  -- actor a puts the tighter of the word of cell c on one side and the cell's relaxed head there, from the heads that the actor has seen
+  abbrev pub Relaxes : Side → Core → Core → ℕ → ℕ → Type 0
+  Relaxes side s t a c =
+      (r : ℤ) × IsRelaxedOn side p (heads_on side (seen_by s a)) c r × Puts side s t a c (tighter_of side (heads_on side s.words c) r)
 
   -- one event takes s to t
   abbrev pub Step : Event → Core → Core → Type 0
   Step (See a c side) s t = Sees side s t a c
-  Step (Raise a c) s t = Raises s t a c
-  Step (Sink a c) s t = Sinks s t a c
+  Step (Raise a c) s t = Relaxes Low s t a c
+  Step (Sink a c) s t = Relaxes High s t a c
   Step (Claim a) s t = (t.words ≡ s.words) × (t.seen ≡ s.seen)
 
   -- events, one after another, take s to t

@@ -8,13 +8,14 @@ use Rattle.step_problem.specs.Exchanges.{AreSeen, IsExchange}
 use Rattle.step_problem.specs.Heads.{Edges, Ge, CanRise, CanSink, IsBarrier, head_at, lower_at, upper_at}
 use Rattle.relax_core.specs.declared.events.Event.{Event}
 use Rattle.relax_core.specs.Core.{Core, IsStart, Path}
-use Rattle.relax_core.specs.Kept.{IsKept, IsNoLooser}
+use Rattle.cell_relax.specs.Sides.{AreNoLooser}
+use Rattle.relax_core.specs.Kept.{IsKept}
 
 -- every list of events keeps what a state keeps, and loosens no word
 abbrev pub EventsKeep : Type 0
 EventsKeep =
     (p : List Entries) (b : Edges) (events : List Event) (s t : Core) → IsProblem p → IsKept p b s →
-    Path p events s t → IsKept p b t × IsNoLooser p s t
+    Path p events s t → IsKept p b t × AreNoLooser p s.words t.words
 
 -- words that are the barrier's own
 pub record AreEdges (p : List Entries) (b : Edges) (words : List Bound) : Type 0 where

@@ -1,14 +1,13 @@
 // A state of shared heads, and single events on it.
-ghost use Rattle.std.specs.Prelude.{◌≡◌, ◌<◌, ℕ, List, length, slice_index_or, All, IfOk};
-ghost use Rattle.step_problem.specs.declared.heads.Bound.{Bound};
-ghost use Rattle.step_problem.specs.declared.heads.Side.TheVariants.{Low, High};
-ghost use Rattle.step_problem.specs.Heads.{Edges, IsRaise, IsSink, lower_at, no_bound, upper_at};
-ghost use Rattle.cell_relax.specs.Words.{AreWords, head_of, heads_on};
-ghost use Rattle.relax_core.specs.Core.{IsInRange, IsNamed, IsStart, Puts, Raises, Sees, Sinks, Step, seen_by, with_head};
-ghost use Rattle.relax_core.specs.Kept.{IsKept, IsNoLooser};
+ghost use Rattle.std.specs.Prelude.{◌≡◌, ◌<◌, length, slice_index_or, IfOk};
+ghost use Rattle.step_problem.specs.Heads.{Edges};
+ghost use Rattle.cell_relax.specs.Sides.{AreNoLooser, IsRelaxedOn, tighter_of};
+ghost use Rattle.cell_relax.specs.Words.{AreWords, heads_on};
+ghost use Rattle.relax_core.specs.Core.{IsInRange, IsNamed, IsStart, Puts, Relaxes, Sees, Step, seen_by, with_head};
+ghost use Rattle.relax_core.specs.Kept.{IsKept};
 
 use crate::events::Event;
-use cell_relax::{raise_in, sink_in};
+use cell_relax::{head_on, relax_in};
 use std::alloc::{AllocError, Global};
 use std::marker::Model;
 use step_problem::{Bound, Problem, Side};
@@ -32,12 +31,12 @@ impl Model for State {
     } };
 }
 
-fn head_on(side: Side, word: Bound) -> i64
-    ensures { result ≡ head_of side word }
+fn tighter_of(side: Side, a: i64, b: i64) -> i64
+    ensures { result ≡ tighter_of side a b }
 {
     match side {
-        Side::Low => word.low,
-        Side::High => word.high,
+        Side::Low => a.max(b),
+        Side::High => a.min(b),
     }
 }
 
@@ -88,13 +87,6 @@ impl State {
         put_head(&mut self.seen[actor], cell, side, head);
     }
 
-    fn word(&self, cell: usize) -> Bound
-        requires { cell < length self.now.words }
-        ensures { result ≡ slice_index_or self.now.words cell no_bound }
-    {
-        self.words[cell]
-    }
-
     fn seen_of(&self, p: &Problem, actor: usize) -> &[Bound]
         requires in_range { IsInRange p.now self.now }
         requires actor { actor < length self.now.seen }
@@ -104,47 +96,26 @@ impl State {
         self.seen[actor].as_slice()
     }
 
-    // The raise value of a cell from what an actor has seen.
-    fn raised(&self, p: &Problem, actor: usize, cell: usize) -> i64
+    // The relaxed head of a cell on one side, from what an actor has seen.
+    fn relaxed_head(&self, p: &Problem, actor: usize, cell: usize, side: Side) -> i64
         requires in_range { IsInRange p.now self.now }
         requires actor { actor < length self.now.seen }
         requires cell { cell < length p.now }
-        ensures { IsRaise p.now (lower_at (seen_by self.now actor)) cell result }
+        ensures { IsRelaxedOn side p.now (heads_on side (seen_by self.now actor)) cell result }
     {
-        raise_in(p, self.seen_of(p, actor), cell)
+        relax_in(p, self.seen_of(p, actor), cell, side)
     }
 
-    fn sunk(&self, p: &Problem, actor: usize, cell: usize) -> i64
-        requires in_range { IsInRange p.now self.now }
-        requires actor { actor < length self.now.seen }
-        requires cell { cell < length p.now }
-        ensures { IsSink p.now (upper_at (seen_by self.now actor)) cell result }
-    {
-        sink_in(p, self.seen_of(p, actor), cell)
-    }
-
-    fn raise(&mut self, p: &Problem, actor: usize, cell: usize)
+    // An actor puts the tighter of a word and its relaxed head, and has then seen it.
+    fn relax(&mut self, p: &Problem, actor: usize, cell: usize, side: Side)
         requires in_range { IsInRange p.now self.old }
         requires actor { actor < length self.old.seen }
         requires cell { cell < length p.now }
-        ensures { Raises p.now self.old self.new actor cell }
+        ensures { Relaxes p.now side self.old self.new actor cell }
     {
-        let word = self.word(cell);
-        let raised = self.raised(p, actor, cell);
-        let low = word.low.max(raised);
-        self.put(actor, cell, Side::Low, low);
-    }
-
-    fn sink(&mut self, p: &Problem, actor: usize, cell: usize)
-        requires in_range { IsInRange p.now self.old }
-        requires actor { actor < length self.old.seen }
-        requires cell { cell < length p.now }
-        ensures { Sinks p.now self.old self.new actor cell }
-    {
-        let word = self.word(cell);
-        let sunk = self.sunk(p, actor, cell);
-        let high = word.high.min(sunk);
-        self.put(actor, cell, Side::High, high);
+        let word = head_on(side, self.words[cell]);
+        let relaxed = self.relaxed_head(p, actor, cell, side);
+        self.put(actor, cell, side, tighter_of(side, word, relaxed));
     }
 
     fn change(&mut self, p: &Problem, event: Event)
@@ -154,8 +125,8 @@ impl State {
     {
         match event {
             Event::See { actor, cell, side } => self.see(actor as usize, cell as usize, side),
-            Event::Raise { actor, cell } => self.raise(p, actor as usize, cell as usize),
-            Event::Sink { actor, cell } => self.sink(p, actor as usize, cell as usize),
+            Event::Raise { actor, cell } => self.relax(p, actor as usize, cell as usize, Side::Low),
+            Event::Sink { actor, cell } => self.relax(p, actor as usize, cell as usize, Side::High),
             Event::Claim { .. } => {}
         }
     }
@@ -171,7 +142,7 @@ pub fn apply(p: &Problem, state: &mut State, event: Event)
     ensures actors { length state.new.seen ≡ length state.old.seen }
     // This holds whatever the actor has seen, and for each barrier.
     ensures kept { (b : Edges) → IsKept p.now b state.old → IsKept p.now b state.new }
-    ensures no_looser { IsNoLooser p.now state.old state.new }
+    ensures no_looser { AreNoLooser p.now state.old.words state.new.words }
 {
     p.recall_conditions();
     state.change(p, event);

@@ -5,10 +5,10 @@ pub use Rattle.std.proofs.lemmas.Int.{clamps, ints, to_z-of_z}
 pub use Rattle.std.specs.Int.{w64}
 pub use Rattle.cell_relax.proofs.Reading.{ends_in_range, read_more}
 pub use Rattle.cell_relax.proofs.Sides.{is_side}
-pub use Rattle.cell_relax.specs.Sides.{AreNoLooser, IsAsTight, IsRelaxedOn, other}
+pub use Rattle.cell_relax.specs.Sides.{AreNoLooser, IsAsTight, IsRelaxedOn, other, tighter_of}
 pub use Rattle.head_table.proofs.Looser.{moves_no_looser, no_looser_trans, same_no_looser}
 pub use Rattle.head_table.specs.BySide.{HasMoved}
-pub use Rattle.head_table.specs.Seats.{IsSeatOf, SameOn, SameOnBut, seen_of, seen_on, tighter_of}
+pub use Rattle.head_table.specs.Seats.{IsSeatOf, SameOn, SameOnBut, seen_of, seen_on}
 pub use Rattle.head_table.specs.declared.table.HeadSeat.{HeadSeat}
 pub use Rattle.step_problem.specs.Conditions.{IsProblem}
 pub use Rattle.step_problem.specs.Entries.{Entries, ends_in, link_at, no_link}

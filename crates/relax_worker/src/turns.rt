@@ -1,5 +1,5 @@
 // One turn of a worker: a cell is raised and sunk as far as what its seat sees allows.
-ghost use Rattle.std.specs.Prelude.{◌≡◌, ◌%◌, ◌<◌, length};
+ghost use Rattle.std.specs.Prelude.{◌%◌, ◌<◌, length};
 ghost use Rattle.step_problem.specs.declared.heads.Side.{Side};
 ghost use Rattle.cell_relax.specs.Sides.{AreNoLooser, other};
 ghost use Rattle.head_table.specs.BySide.{HasMoved};

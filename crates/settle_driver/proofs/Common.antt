@@ -5,13 +5,13 @@ pub use Rattle.std.proofs.Common.{zero, ℕ, ℤ, ◌%◌, ◌*◌, ◌++◌, �
 pub use Rattle.std.proofs.lemmas.Int.{by_lt_z, clamps, ints, to_z-of_z}
 pub use Rattle.std.specs.Int.{w64}
 pub use Rattle.std.specs.Prelude.{MatchOption, None, Option, Some, is_some, not, ◌&&◌, ◌||◌}
-pub use Rattle.cell_relax.proofs.Sides.{is_side}
-pub use Rattle.cell_relax.specs.Sides.{AreNoLooser, IsAsTight}
+pub use Rattle.cell_relax.proofs.Sides.{is_side, tighter_first, tighter_second}
+pub use Rattle.cell_relax.specs.Sides.{AreNoLooser, IsAsTight, tighter_of}
 pub use Rattle.cell_relax.specs.Words.{AreWords, heads_on}
 pub use Rattle.head_table.proofs.Closing.{ok_under}
 pub use Rattle.head_table.proofs.Looser.{no_looser_trans, tight_refl}
 pub use Rattle.head_table.specs.BySide.{AreHeld, HasMoved}
-pub use Rattle.head_table.specs.Seats.{HasTighter, IsSeatOf, ShowsSeen, barrier_of, seen_of, seen_on, tighter_of}
+pub use Rattle.head_table.specs.Seats.{HasTighter, IsSeatOf, ShowsSeen, barrier_of, seen_of, seen_on}
 pub use Rattle.head_table.specs.declared.table.HeadSeat.{HeadSeat}
 pub use Rattle.head_table.specs.declared.table.HeadTable.{HeadTable}
 pub use Rattle.settle_driver.specs.Near.{IsHeadFrom}

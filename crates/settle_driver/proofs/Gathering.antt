@@ -2,17 +2,9 @@
 use Rattle.settle_driver.proofs.Common.{◌≡◌, ℕ, zero, suc, ◌%◌, ◌<◌, List, ◌∷◌, ◌++◌, length, get_or, All, ℤ, sym, refl, subst, arith, length-append, ints}
 use Rattle.settle_driver.proofs.Common.{clamps, Bound, Entries, IsProblem, IsPast, Side, Low, High, IsSide, as_tight_refl, passes_more, AreNoLooser, IsAsTight}
 use Rattle.settle_driver.proofs.Common.{heads_on, is_side, HeadTable, HeadSeat, HasMoved, HasTighter, seen_of, seen_on, tighter_of, HasSeen, HasWorked}
-use Rattle.settle_driver.proofs.Common.{IsPastCell}
+use Rattle.settle_driver.proofs.Common.{IsPastCell, tighter_first, tighter_second}
 use Rattle.std.proofs.Math.ListN.{get_or-append}
 use native.Mathlib.Nat.{mod-lt}
-
-tighter_first : (side : Side) (x y : ℤ) → IsAsTight side x (tighter_of side x y)
-tighter_first Low x y = omega (arith, ints, clamps)
-tighter_first High x y = omega (arith, ints, clamps)
-
-tighter_second : (side : Side) (x y : ℤ) → IsAsTight side y (tighter_of side x y)
-tighter_second Low x y = omega (arith, ints, clamps)
-tighter_second High x y = omega (arith, ints, clamps)
 
 pub tighter_left : (p : List Entries) (a b c : HeadSeat) → HasTighter p a b c → AreNoLooser p (seen_of a) (seen_of c)
 tighter_left p a b c t side d h = subst (IsAsTight side (seen_on side a d)) (sym (t side d h)) (tighter_first side (seen_on side a d) (seen_on side b d))

@@ -5,7 +5,7 @@ ghost use Rattle.cell_relax.specs.Words.{AreWords};
 ghost use Rattle.settle_driver.specs.Sweeps.{AreBothSettled};
 ghost use Rattle.settle_driver.specs.Opening.{IsFirstSide};
 
-use cell_relax::{raise_in, sink_in};
+use cell_relax::relax_in;
 use step_problem::{Bound, Problem, Side};
 
 // The side that can move, the lower one first.
@@ -28,8 +28,8 @@ fn open_side(p: &Problem, words: &[Bound], cell: usize) -> Option<Side>
     ensures { MatchOption result ((s : Side) → CanMove p.now words.now cell s → ⊥)
         (λ s. CanMove p.now words.now cell s × (s ≡ Side.High → CanMove p.now words.now cell Side.Low → ⊥)) }
 {
-    let low = raise_in(p, words, cell) > words[cell].low;
-    let high = sink_in(p, words, cell) < words[cell].high;
+    let low = relax_in(p, words, cell, Side::Low) > words[cell].low;
+    let high = relax_in(p, words, cell, Side::High) < words[cell].high;
     first_side(low, high)
 }
 

@@ -4,8 +4,8 @@ ghost use Rattle.step_problem.specs.Heads.{no_bound};
 ghost use Rattle.cell_relax.specs.Words.{AreWords};
 ghost use Rattle.settle_driver.specs.Sweeps.{IsRelaxedCell, IsPastCell, StayOnTheWay, AreBothSettled, SettleWithin};
 
-use cell_relax::{raise_in, sink_in};
-use step_problem::{Bound, Problem};
+use cell_relax::relax_in;
+use step_problem::{Bound, Problem, Side};
 
 // Moves the two heads of a cell to its raise and its sink value, and returns whether one moved.
 pub(crate) fn relax_cell(p: &Problem, words: &mut [Bound], cell: usize) -> bool
@@ -16,8 +16,8 @@ pub(crate) fn relax_cell(p: &Problem, words: &mut [Bound], cell: usize) -> bool
     ensures still { result ≡ false → words.new ≡ words.old }
 {
     let word = Bound {
-        low: raise_in(p, words, cell),
-        high: sink_in(p, words, cell),
+        low: relax_in(p, words, cell, Side::Low),
+        high: relax_in(p, words, cell, Side::High),
     };
     let moved = word != words[cell];
     words[cell] = word;

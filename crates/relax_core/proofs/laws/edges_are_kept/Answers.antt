@@ -1,5 +1,6 @@
 use Rattle.relax_core.proofs.Common.{◌≡◌, List, subst, sym, All, All-weaker, Bound, Entries, IsProblem, Edges, IsBarrier, AreOnTheWay, head_at, lower_at}
-use Rattle.relax_core.proofs.Common.{upper_at, edge_kept, same_on_the_way, seen_itself, low_side, high_side, WasSeen, AreEdges}
+use Rattle.relax_core.proofs.Common.{upper_at, edge_kept, same_on_the_way, seen_itself, low_side, high_side, WasSeen, AreEdges, edge_on, heads_on, is_side}
+use Rattle.relax_core.proofs.Exchanges.{way_on}
 use Rattle.relax_core.proofs.laws.edges_are_kept.Goals as goal
 
 words_kept : (p : List Entries) (b : Edges) (words : List Bound) → IsProblem p → IsBarrier p b → AreEdges p b words → AreOnTheWay p b words
@@ -10,11 +11,7 @@ words_kept p b words ok barrier edges = record {
 }
 
 words_seen : (p : List Entries) (b : Edges) (words : List Bound) → IsProblem p → AreOnTheWay p b words → WasSeen p words words
-words_seen p b words ok k = record {
-  whole = k.whole;
-  low = seen_itself (low_side p ok) (head_at b.floor) (lower_at words) k.low;
-  high = seen_itself (high_side p ok) (head_at b.ceiling) (upper_at words) k.high;
-}
+words_seen p b words ok k = record { whole = k.whole; heads = λ side. seen_itself (is_side side p ok) (edge_on side b) (heads_on side words) (way_on side p b words k) }
 
 pub returns : goal.returns
 returns c p b words actors s ok barrier edges start =
