@@ -1,8 +1,8 @@
 -- Names that several proofs of this crate cite, of the crates below and of its own definitions, passed on from one place. Declares nothing.
 pub use Rattle.std.proofs.Common.{All, Bool, Contains, FitsSigned, IsSome, List, None, Option, Some, [], add-one, ap, arith, cond, div-add-mod', drop, false}
 pub use Rattle.std.proofs.Common.{get_or, get_or-set_other, get_or-set_same, inl, inr, le-div_iff_mul-le, length, length-append, max, min, mod-lt, neg_ℤ}
-pub use Rattle.std.proofs.Common.{negsuc, not, pos, refl, replicate, rules, set, slice_index, slice_index_or, subst, suc, sum_by, sym, take, take_at, to_z}
-pub use Rattle.std.proofs.Common.{true, unsigned_abs, zero, ℕ, ℤ, ◌*ℤ◌, ◌*◌, ◌++◌, ◌+ℤ◌, ◌+◌, ◌-ℤ◌, ◌<ℤ◌, ◌<◌, ◌^◌, ◌∙◌, ◌∷◌, ◌≡◌, ◌≤ℤ◌, ◌≤◌, ◌⊎◌}
+pub use Rattle.std.proofs.Common.{negsuc, not, pos, refl, rules, set, slice_index, slice_index_or, subst, suc, sum_by, sym, take, take_at, to_z, true}
+pub use Rattle.std.proofs.Common.{unsigned_abs, zero, ℕ, ℤ, ◌*ℤ◌, ◌*◌, ◌++◌, ◌+ℤ◌, ◌+◌, ◌-ℤ◌, ◌<ℤ◌, ◌<◌, ◌^◌, ◌∙◌, ◌∷◌, ◌≡◌, ◌≤ℤ◌, ◌≤◌, ◌⊎◌}
 pub use Rattle.std.proofs.Math.Nat.{le_of_mul-le-mul_left, mul-le-mul_right}
 pub use Rattle.std.proofs.lemmas.Bool.{cases_eq, cases_lt, eq-eqb, false≢true, ne_eqb}
 pub use Rattle.std.proofs.lemmas.Int.{by_lt_z, clamps, ints, to_z-of_z}
@@ -18,7 +18,7 @@ pub use Rattle.barrier_vector.specs.Bounds.{AnchorRoot, IsAnchorPath, IsAnchored
 pub use Rattle.barrier_vector.specs.Bounds.{IsUnanchored, LeastRoot, anchor_on, greatest, moved_out}
 pub use Rattle.barrier_vector.specs.CutLaws.{BarrierIsCut, ClampedFits, CutBarrierExcludesRefusal, CutBarrierIsOne, CutRefusalIsOne}
 pub use Rattle.barrier_vector.specs.Cuts.{AreCutBounds, EnclosesUncut, IsCutBarrierOf, IsCutBoundOn, IsCutFault, Refuses, RefusesOn, clamp, cut_on}
-pub use Rattle.barrier_vector.specs.Labels.{AreLabels, Fills, IsGreatestOf, flow_sum, is_label, labelled, no_flow, number_at, sum_at}
+pub use Rattle.barrier_vector.specs.Labels.{AreLabels, Fills, IsGreatestOf, flow_sum, is_label, labelled, number_at, sum_at}
 pub use Rattle.barrier_vector.specs.Lacks.{capped_flow, high_flow, lack, need, need_on, negative_part, positive_part, surplus}
 pub use Rattle.barrier_vector.specs.Laws.{CeilingsEnclose, FloorsEnclose, FloorsHold, IsSolution}
 pub use Rattle.barrier_vector.specs.Marks.{IsBase, IsCellMark, IsInside, IsMarkBelow, IsMarkIn, IsOutermost, drain_mark, fixed_mark, if_some, outer_of}

@@ -1,7 +1,7 @@
 -- The paths of a frontier's cells, one after another, from those of the level before.
-use Rattle.barrier_vector.proofs.Common.{◌≡◌, ℕ, ◌+◌, ◌<◌, inl, inr, refl, sym, ◌∙◌, ap, subst, arith, List, length, All, Contains, min, Option, Some, set}
-use Rattle.barrier_vector.proofs.Common.{slice_index, get_or-set_same, get_or-set_other, cases_eq, cases_lt, get_or_default, Contains-get_or, Entries}
-use Rattle.barrier_vector.proofs.Common.{ceil_over, mark_at, path_limit, ContinuesTo}
+use Rattle.barrier_vector.proofs.Common.{◌≡◌, ℕ, ◌+◌, ◌<◌, inl, inr, sym, ◌∙◌, ap, subst, arith, List, length, All, Contains, min, Option, Some, set}
+use Rattle.barrier_vector.proofs.Common.{slice_index, get_or-set_same, get_or-set_other, cases_eq, cases_lt, get_or_default, Entries, ceil_over, mark_at}
+use Rattle.barrier_vector.proofs.Common.{path_limit, ContinuesTo}
 
 -- where in a list a number stands
 pub place_of : (xs : List ℕ) (x : ℕ) → Contains xs x → (j : ℕ) × (j < length xs) × (slice_index xs j ≡ x)
@@ -15,9 +15,6 @@ pub record Extended (p : List Entries) (q : ℕ) (levels : List (Option ℕ)) (l
 module _ (p : List Entries) (q : ℕ) (levels : List (Option ℕ)) (level : ℕ) (front start : List ℕ)
     (past : All (λ c. mark_at levels c ≡ Some level → ⊥) front)
   where
-    pub extended_none : Extended p q levels level front start start 0
-    extended_none = record { others = λ k none. refl; done = λ j h. absurd (omega arith) }
-
     -- no path that a cell goes on along has changed
     from_start : (paths : List ℕ) (i c s : ℕ) → i < length front → Extended p q levels level front start paths i → ContinuesTo p q levels level paths c s → ContinuesTo p q levels level start c s
     from_start paths i c s i_in so_far (inr none) = inr none
@@ -35,9 +32,6 @@ module _ (p : List Entries) (q : ℕ) (levels : List (Option ℕ)) (level : ℕ)
       where
         before : (j : ℕ) → j < i + 1 → (slice_index front j ≡ slice_index front i → ⊥) → j < i
         before j h n = elim (cases_lt j i) [ inl less ↦ less | inr more ↦ let at : j ≡ i = omega arith in absurd (n (ap (λ (z : ℕ). slice_index front z) at)) ]
-
-    pub others_stay : (paths : List ℕ) → Extended p q levels level front start paths (length front) → (c : ℕ) → (Contains front c → ⊥) → slice_index paths c ≡ slice_index start c
-    others_stay paths e c none = e.others c (λ j h is. none (subst (λ (z : ℕ). Contains front z) is (Contains-get_or front j 0 h)))
 
     pub these_have : (paths : List ℕ) → Extended p q levels level front start paths (length front) → (c : ℕ) → Contains front c → ContinuesTo p q levels level start c (slice_index paths c)
     these_have paths e c has = let (j, h, is) = place_of front c has in subst (λ (z : ℕ). ContinuesTo p q levels level start z (slice_index paths z)) is (e.done j h)

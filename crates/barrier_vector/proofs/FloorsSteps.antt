@@ -33,9 +33,6 @@ difference_not_negative a b h = omega (arith, ints)
 pub minus : (a b z : ℤ) → a ≤ℤ b → (a -ℤ z) ≤ℤ (b -ℤ z)
 minus a b z h = omega (arith, ints)
 
-pub minus_more : (a b z : ℤ) → a ≤ℤ b → (z -ℤ b) ≤ℤ (z -ℤ a)
-minus_more a b z h = omega (arith, ints)
-
 -- down
 pub fallen : (t : ℤ) (k : ℕ) (y : ℤ) → (t -ℤ y) ≤ℤ pos k → (t -ℤ pos k) ≤ℤ y
 fallen t k y h = omega (arith, ints)

@@ -1,20 +1,8 @@
 -- Sums and maxima by label, one cell after another.
 use Rattle.barrier_vector.proofs.Common.{◌≡◌, ℕ, zero, suc, ◌+◌, ◌*◌, ◌^◌, ◌<◌, ◌≤◌, ◌⊎◌, inl, inr, refl, sym, ◌∙◌, ap, subst, arith, max, List, Option, None}
-use Rattle.barrier_vector.proofs.Common.{Some, Bool, true, false, cond, replicate, slice_index, ℤ, pos, negsuc, unsigned_abs, ◌+ℤ◌, ◌*ℤ◌, ◌≤ℤ◌, ◌<ℤ◌, add-one}
+use Rattle.barrier_vector.proofs.Common.{Some, Bool, true, false, cond, slice_index, ℤ, pos, negsuc, unsigned_abs, ◌+ℤ◌, ◌*ℤ◌, ◌≤ℤ◌, ◌<ℤ◌, add-one}
 use Rattle.barrier_vector.proofs.Common.{div-add-mod', mod-lt, int_div_euclid, int_rem_euclid, cases_eq, cases_lt, eq-eqb, ne_eqb, ints, IsWithin, sum_inside}
-use Rattle.barrier_vector.proofs.Common.{mark_at, is_label, labelled, number_at, no_flow, flow_sum, sum_at, IsGreatestOf, FlowSum}
-
-pub zero_at : (n k : ℕ) → sum_at (replicate n no_flow) k ≡ pos 0
-zero_at zero zero = refl
-zero_at zero (suc k) = refl
-zero_at (suc n) zero = refl
-zero_at (suc n) (suc k) = zero_at n k
-
-pub nought_at : (n k : ℕ) → slice_index (replicate n 0) k ≡ 0
-nought_at zero zero = refl
-nought_at zero (suc k) = refl
-nought_at (suc n) zero = refl
-nought_at (suc n) (suc k) = nought_at n k
+use Rattle.barrier_vector.proofs.Common.{mark_at, is_label, labelled, number_at, flow_sum, sum_at, IsGreatestOf, FlowSum}
 
 -- a sum of so many numbers in range
 pub sum_within : (n b : ℕ) (t : ℕ → Bool) (f : ℕ → ℤ) → ((k : ℕ) → IsWithin (f k) b) → IsWithin (sum_inside n t f) (n * b)

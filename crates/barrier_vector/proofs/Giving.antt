@@ -27,9 +27,6 @@ magnitude_within a (negsuc n) = record { above = omega (arith, ints); below = om
 pub joined_within : (a b d z : ℤ) (x y w : ℕ) → z ≡ a +ℤ b -ℤ d → IsWithin a x → IsWithin b y → IsWithin d w → x + y + w < 2 ^ 109 → IsWithin z (2 ^ 109)
 joined_within a b d z x y w e p q r h = record { above = omega (arith, ints, e); below = omega (arith, ints, e) }
 
-pub full_within : (n : ℕ) → IsWithin (pos n) n
-full_within n = record { above = omega (arith, ints); below = omega (arith, ints) }
-
 -- one cell's flow more
 pub values_more : (p : List Entries) (f : Entries → ℤ) (flows flows' : List ℤ) (i : ℕ) (z : ℤ) (e : Entries) → e ≡ entries_at p i → flows' ≡ flows ++ z ∷ [] → length flows ≡ i → z ≡ f e → ((k : ℕ) → k < i → number_at flows k ≡ f (entries_at p k)) → (k : ℕ) → k < i + 1 → number_at flows' k ≡ f (entries_at p k)
 values_more p f flows flows' i z e here pushed whole is so_far k h =

@@ -1,8 +1,7 @@
 -- Labels of components: one component is filled from its least cell, and one after another.
-use Rattle.barrier_vector.proofs.Common.{◌≡◌, ℕ, zero, suc, ◌+◌, ◌<◌, ◌≤◌, ◌⊎◌, inl, inr, refl, sym, ◌∙◌, ap, subst, arith, List, [], ◌∷◌, length, Contains}
-use Rattle.barrier_vector.proofs.Common.{Option, None, Some, All, set, replicate, slice_index, get_or, get_or-set_same, get_or-set_other, cases_eq, cases_lt}
-use Rattle.barrier_vector.proofs.Common.{length-set, Contains-get_or, Link, Entries, entries_at, link_at, IsProblem, Reaches, mark_at, LinkLeads, FrontLeads}
-use Rattle.barrier_vector.proofs.Common.{Spreads, AreLabels, Fills}
+use Rattle.barrier_vector.proofs.Common.{◌≡◌, ℕ, zero, suc, ◌+◌, ◌<◌, ◌≤◌, ◌⊎◌, inl, inr, refl, sym, ◌∙◌, ap, subst, arith, List, [], length, Contains, Option}
+use Rattle.barrier_vector.proofs.Common.{None, Some, All, slice_index, get_or, cases_lt, Contains-get_or, Link, Entries, entries_at, link_at, IsProblem}
+use Rattle.barrier_vector.proofs.Common.{Reaches, mark_at, LinkLeads, FrontLeads, Spreads, AreLabels, Fills}
 use Rattle.barrier_vector.proofs.Spreading.{no_both}
 use Rattle.barrier_vector.proofs.Extending.{place_of}
 use Rattle.barrier_vector.proofs.Backs.{turn_way, join_ways}
@@ -15,29 +14,6 @@ pub record Filling (p : List Entries) (c : ℕ) (start labels : List (Option ℕ
   pub begun : mark_at labels c ≡ Some c
   pub front_of : (k : ℕ) → Contains front k → (mark_at start k ≡ None) × (mark_at labels k ≡ Some c)
   pub onward : (k : ℕ) → mark_at start k ≡ None → mark_at labels k ≡ Some c → Contains front k ⊎ ((x : Link) → Contains (entries_at p k).links x → (m : ℕ) × (mark_at labels x.cell ≡ Some m))
-
-member_one : (c k : ℕ) → Contains (c ∷ []) k → k ≡ c
-member_one c k (zero, h, e) = sym e
-member_one c k (suc j, h, e) = absurd (omega arith)
-
-pub fill_begin : (p : List Entries) (c : ℕ) (start : List (Option ℕ)) → c < length start → mark_at start c ≡ None → Filling p c start (set start c (Some c)) (c ∷ [])
-fill_begin p c start h none = record {
-  whole = length-set start c (Some c);
-  each = λ k.
-      elim (cases_eq k c) [
-        | inl e ↦ inr (subst (λ (z : ℕ). mark_at start z ≡ None) (sym e) none, subst (λ (z : ℕ). mark_at (set start c (Some c)) z ≡ Some c) (sym e) here, 0, sym e)
-        | inr n ↦ inl (get_or-set_other start c k (Some c) None n)
-      ];
-  begun = here;
-  front_of = λ k has. let e = member_one c k has in (subst (λ (z : ℕ). mark_at start z ≡ None) (sym e) none, subst (λ (z : ℕ). mark_at (set start c (Some c)) z ≡ Some c) (sym e) here);
-  onward = λ k old new. inl (subst (λ (z : ℕ). Contains (c ∷ []) z) (sym (only k old new)) (0, omega arith, refl));
-}
-  where
-    here : mark_at (set start c (Some c)) c ≡ Some c
-    here = get_or-set_same start c (Some c) None h
-
-    only : (k : ℕ) → mark_at start k ≡ None → mark_at (set start c (Some c)) k ≡ Some c → k ≡ c
-    only k old new = elim (cases_eq k c) [ inl e ↦ e | inr n ↦ absurd (no_both (mark_at start k) c old (sym (get_or-set_other start c k (Some c) None n) ∙ new)) ]
 
 module _ (p : List Entries) (ok : IsProblem p) (c : ℕ) (start : List (Option ℕ)) where
   pub front_in : (labels : List (Option ℕ)) (front : List ℕ) → length start ≡ length p → Filling p c start labels front → All (λ k. k < length p) front
@@ -96,32 +72,6 @@ module _ (p : List Entries) (ok : IsProblem p) (c : ℕ) (start : List (Option �
 
       pub fill_more : Filling p c start labels' next
       fill_more = record { whole = s.same ∙ f.whole; each = each'; begun = stays c c f.begun; front_of = λ k has. let (n, m) = next_of k has in (was_none k n, m); onward = onward' }
-
-  pub fill_end : (labels : List (Option ℕ)) (front : List ℕ) → length front ≡ 0 → Filling p c start labels front → Fills p c start labels
-  fill_end labels front none f = record {
-    whole = f.whole;
-    each = f.each;
-    begun = f.begun;
-    closed = λ k x old new on. elim (f.onward k old new) [ inl has ↦ let h = has.1 in absurd (omega (arith, h, none)) | inr closed ↦ closed x on ];
-  }
-
-none_at : (n k : ℕ) → mark_at (replicate n None) k ≡ None
-none_at zero zero = refl
-none_at zero (suc k) = refl
-none_at (suc n) zero = refl
-none_at (suc n) (suc k) = none_at n k
-
-pub labels_none : (p : List Entries) (labels : List (Option ℕ)) → labels ≡ replicate (length p) None → length labels ≡ length p → AreLabels p labels 0
-labels_none p labels is whole = record {
-  whole = whole;
-  spread = λ a m x e on. absurd (nowhere a m e);
-  reached = λ a m e. absurd (nowhere a m e);
-  least = λ a m j k e way. absurd (nowhere a m e);
-  all = λ a h. absurd (omega arith);
-}
-  where
-    nowhere : (a m : ℕ) → mark_at labels a ≡ Some m → ⊥
-    nowhere a m e = no_both (mark_at labels a) m (subst (λ (z : List (Option ℕ)). mark_at z a ≡ None) (sym is) (none_at (length p) a)) e
 
 -- labels are the same along a way
 pub along : (p : List Entries) (labels : List (Option ℕ)) (i : ℕ) → AreLabels p labels i → (j a b m : ℕ) → mark_at labels a ≡ Some m → Reaches p j a b → mark_at labels b ≡ Some m

@@ -9,10 +9,6 @@ pub some_at : (hi : ℕ) (v : ℤ) → 0 < hi → if_some hi v ≡ Some v
 some_at zero v h = absurd (omega arith)
 some_at (suc n) v h = refl
 
-pub none_at_zero : (hi : ℕ) (v : ℤ) → hi ≡ 0 → if_some hi v ≡ None
-none_at_zero zero v e = refl
-none_at_zero (suc n) v e = absurd (omega arith)
-
 pub some_is : (hi : ℕ) (a v : ℤ) → if_some hi a ≡ Some v → (0 < hi) × (v ≡ a)
 some_is zero a v e = absurd cc
 some_is (suc n) a v e = (omega arith, cc)

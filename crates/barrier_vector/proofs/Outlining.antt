@@ -1,20 +1,12 @@
 -- The outline of the first cells: one cell more, and what it is of all cells.
 use Rattle.barrier_vector.proofs.Common.{◌≡◌, ℕ, ◌+◌, ◌<◌, inl, inr, refl, sym, ◌∙◌, ap, subst, arith, List, [], ◌∷◌, ◌++◌, length, length-append, sum_by}
-use Rattle.barrier_vector.proofs.Common.{Option, None, slice_index, ℤ, pos, unwrap_or, cases_lt, sum_by_more, Side, Entries, entries_at, no_entries, anchor_on}
+use Rattle.barrier_vector.proofs.Common.{Option, slice_index, ℤ, pos, unwrap_or, cases_lt, sum_by_more, Side, Entries, entries_at, no_entries, anchor_on}
 use Rattle.barrier_vector.proofs.Common.{AnchorRoot, need_on, capped_flow, outer_of, IsOutermost, IsCellMark, IsBase, ceil_over, ListAnchor, AreRoots}
 use Rattle.barrier_vector.proofs.Common.{IsOutline}
 use Rattle.std.proofs.Math.Seq.{take-length}
 use Rattle.barrier_vector.specs.Lacks.{need as need_of_all}
 use Rattle.barrier_vector.proofs.Starting.{push_before, push_last}
-use Rattle.barrier_vector.proofs.Marking.{no_cells, cells_more}
-
-pub outline_none : (side : Side) (p : List Entries) (anchors : List ℕ) → anchors ≡ [] → IsOutline side p 0 None 0 anchors
-outline_none side p anchors e = rw e (record {
-  outermost = no_cells side p;
-  sum = refl;
-  whole = refl;
-  each = λ c h. absurd (omega arith);
-})
+use Rattle.barrier_vector.proofs.Marking.{cells_more}
 
 -- one cell more
 pub outline_more : (side : Side) (p : List Entries) (i : ℕ) (e : Entries) (mark o mark' : Option ℤ) (need n need' : ℕ) (anchors anchors' : List ℕ) (a : ℕ) → i < length p → e ≡ entries_at p i → mark' ≡ outer_of side mark o → IsOutermost side (IsCellMark side e) o → need' ≡ capped_flow (need + n) → n ≡ need_on side e → anchors' ≡ anchors ++ a ∷ [] → a ≡ anchor_on side e → IsOutline side p i mark need anchors → IsOutline side p (i + 1) mark' need' anchors'

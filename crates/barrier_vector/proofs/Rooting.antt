@@ -3,11 +3,7 @@ use Rattle.barrier_vector.proofs.Common.{◌≡◌, ℕ, zero, suc, ◌+◌, ◌
 use Rattle.barrier_vector.proofs.Common.{get_or, length-append, Contains, Option, None, Some, cases_lt, at_drop_more, Side, Low, High, Link, Fixed, Entries}
 use Rattle.barrier_vector.proofs.Common.{entries_at, IsAnchored, LeadsToRoot, IsLevel, IsParent, SumsTo, IsPath, greatest, anchor_on, mark_at, IsSearched}
 use Rattle.barrier_vector.proofs.Common.{AreRoots}
-use Rattle.barrier_vector.proofs.Levels.{marked_within}
 use Rattle.barrier_vector.proofs.Starting.{push_before, push_last, pushed}
-
-pub roots_none : (R : ℕ → ℕ → Type 0) → AreRoots R []
-roots_none R = record { only = λ c d e. let h = marked_within [] c d e in absurd (omega (arith, h)); each = λ c d h r. absurd (omega arith) }
 
 -- one cell more
 pub roots_more : (R : ℕ → ℕ → Type 0) (own own' : List (Option ℕ)) (o : Option ℕ) (i : ℕ) → own' ≡ own ++ o ∷ [] → length own ≡ i → ((d : ℕ) → o ≡ Some d → R i d) → ((d : ℕ) → R i d → o ≡ Some d) → AreRoots R own → AreRoots R own'

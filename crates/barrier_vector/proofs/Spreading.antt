@@ -47,17 +47,6 @@ spread_marked m before c v w e = record {
   count = refl;
 }
 
--- no cell is marked
-pub spread_none : (T : ℕ → Type 0) (v : ℕ) (m : List (Option ℕ)) (before : List ℕ) → ((k : ℕ) → T k → ⊥) → Spreads T v m m before before
-spread_none T v m before none = record {
-  same = refl;
-  each = λ k. inl refl;
-  covers = λ k t. absurd (none k t);
-  listed = λ k has. inl has;
-  keeps = λ k has. has;
-  count = refl;
-}
-
 -- the same step, its cells named in another way
 pub spread_as : (T U : ℕ → Type 0) (v : ℕ) (old new : List (Option ℕ)) (before after : List ℕ) → ((k : ℕ) → T k → U k) → ((k : ℕ) → U k → T k) → Spreads T v old new before after → Spreads U v old new before after
 spread_as T U v old new before after to from s = record {

@@ -40,20 +40,6 @@ pushed own o c d e =
     last : (a n m : ℕ) → m ≡ n + 1 → a < m → n ≤ a → a ≡ n
     last a n m e h k = omega arith
 
-pub start_none : IsStart [] [] [] []
-start_none = record {
-  levels_whole = refl;
-  paths_whole = refl;
-  root = λ c d e. absurd (no_both (mark_at [] c) d (empty c) e);
-  other = λ c e. empty c;
-  listed = λ c has. absurd (omega (arith, has.1));
-  count = refl;
-}
-  where
-    empty : (c : ℕ) → mark_at [] c ≡ None
-    empty zero = refl
-    empty (suc c) = refl
-
 module _ (own levels : List (Option ℕ)) (paths front : List ℕ) (s : IsStart own levels paths front) where
   at_same : (o l : Option ℕ) (v c : ℕ) → c < length own → (mark_at (levels ++ l ∷ []) c ≡ mark_at levels c) × (slice_index (paths ++ v ∷ []) c ≡ slice_index paths c)
   at_same o l v c h = (push_before levels l None c (rw (s.levels_whole) h), push_before paths v 0 c (rw (s.paths_whole) h))

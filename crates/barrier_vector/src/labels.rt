@@ -1,5 +1,5 @@
 // The components of a problem.
-ghost use Rattle.std.specs.Prelude.{◌≡◌, ℕ, ◌<◌, ◌+◌, length, OnOk, IfOk, None};
+ghost use Rattle.std.specs.Prelude.{◌≡◌, ◌<◌, ◌+◌, length, OnOk, IfOk, None};
 ghost use Rattle.barrier_vector.specs.Spreads.{mark_at};
 ghost use Rattle.barrier_vector.specs.Labels.{AreLabels, Fills};
 

@@ -54,7 +54,7 @@ impl Mark for Drain {
 }
 
 /// The outer of two marks.
-pub(crate) fn outer(side: Side, a: Option<i64>, b: Option<i64>) -> Option<i64>
+pub(crate) fn outer_mark(side: Side, a: Option<i64>, b: Option<i64>) -> Option<i64>
     ensures { result ≡ outer_of side a b }
 {
     match (a, b) {
@@ -72,7 +72,7 @@ fn outermost<E: Mark>(side: Side, entries: &[E]) -> Option<i64>
 {
     let mut best = None;
     for x in entries {
-        best = outer(side, best, x.mark_on(side));
+        best = outer_mark(side, best, x.mark_on(side));
     }
     best
 }
@@ -84,5 +84,5 @@ pub(crate) fn cell_mark(side: Side, cell: &Cell) -> Option<i64>
     let fixed = outermost(side, &cell.fixed);
     let rivers = outermost(side, &cell.rivers);
     let drains = outermost(side, &cell.drains);
-    outer(side, fixed, outer(side, rivers, drains))
+    outer_mark(side, fixed, outer_mark(side, rivers, drains))
 }

@@ -8,7 +8,7 @@ ghost use Rattle.barrier_vector.specs.Lacks.{capped_flow};
 ghost use Rattle.barrier_vector.specs.Outlines.{IsOutline};
 
 use crate::flows::need_of;
-use crate::marks::{cell_mark, outer};
+use crate::marks::{cell_mark, outer_mark};
 use crate::roots::greatest_anchor;
 use std::alloc::{AllocError, Global};
 use step_problem::{Problem, Side};
@@ -52,7 +52,7 @@ impl Outline {
     {
         p.recall_conditions();
         let cell = p.cell(c);
-        self.mark = outer(side, self.mark, cell_mark(side, cell));
+        self.mark = outer_mark(side, self.mark, cell_mark(side, cell));
         self.need = capped_sum(self.need, need_of(side, cell));
         self.anchors.push(greatest_anchor(side, cell))?;
         Ok(())

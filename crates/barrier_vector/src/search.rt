@@ -1,7 +1,6 @@
 // The search by levels: each cell's least number of links to a root, and its path there.
 ghost use Rattle.std.specs.Prelude.{◌≡◌, ℕ, ◌<◌, ◌≤◌, ◌+◌, ◌^◌, length, List, [], ◌∷◌, ◌++◌, Option, OnOk, All, IfOk};
 ghost use Rattle.std.specs.Prelude.{min, Some, None, MatchOption, ◌⊎◌, Contains, slice_index};
-ghost use Rattle.step_problem.specs.Entries.{entries_at};
 ghost use Rattle.barrier_vector.specs.Paths.{ceil_over};
 ghost use Rattle.barrier_vector.specs.Spreads.{mark_at};
 ghost use Rattle.barrier_vector.specs.Searches.{path_limit, IsNearestOrNone, ContinuesTo, IsSearched, IsStart};
@@ -43,7 +42,7 @@ fn longer_path(drop: u128, rest: u64) -> u64
     drop.saturating_add(rest as u128).min(PATH_LIMIT as u128) as u64
 }
 
-fn nearer(best: Option<Link>, x: &Link) -> Link
+fn nearer_link(best: Option<Link>, x: &Link) -> Link
     ensures within { MatchOption best (result ≡ x.now) (λ b. (result.cell ≤ b.cell) × ((result ≡ b) ⊎ (result ≡ x.now))) }
     ensures no_farther { result.cell ≤ x.now.cell }
 {
@@ -61,7 +60,7 @@ fn parent(links: &[Link], levels: &[Option<u32>], level: u32) -> Option<Link>
     let mut best = None;
     for x in links {
         if levels[x.cell as usize] == Some(level) {
-            best = Some(nearer(best, x));
+            best = Some(nearer_link(best, x));
         }
     }
     best

@@ -1,6 +1,5 @@
 // One step of a search: marks go from the cells of a frontier over their links to the cells that have none.
-ghost use Rattle.std.specs.Prelude.{◌≡◌, ℕ, ◌<◌, length, List, [], All, OnOk, IfOk};
-ghost use Rattle.step_problem.specs.Entries.{entries_at};
+ghost use Rattle.std.specs.Prelude.{◌≡◌, ◌<◌, length, [], All, OnOk, IfOk};
 ghost use Rattle.barrier_vector.specs.Spreads.{Spreads, LinkLeads, FrontLeads};
 
 use std::alloc::{AllocError, Global};

@@ -1,11 +1,9 @@
 -- A pair over the clamped barrier: it is a certificate over the cut barrier, or the settled pair is refused.
-use Rattle.step_chain.proofs.Common.{◌≡◌, ℕ, ◌<◌, ◌≤ℤ◌, inl, inr, arith, sym, subst, List, length, ℤ, pos, Bound, Edges, Entries, IsProblem, AreSettled}
-use Rattle.step_chain.proofs.Common.{PairKind, IsPairOf, AreWords, Wide, IsCertificate, head_at, lower_at, upper_at, no_bound, IsCutBarrierOf, neg_ℤ, ◌<ℤ◌}
-use Rattle.step_chain.proofs.Common.{ints, clamps, NoBound, head_limit, IsBarrier, AreInside, IsGiven, settled, certified, either_certifies, given_is, clamp}
-use Rattle.step_chain.proofs.Common.{clamped, clamped_at, IsRangeRefusal, IsNoCertificate}
-use Rattle.step_problem.specs.Balances.{lower_balance, upper_balance}
+use Rattle.step_chain.proofs.Common.{◌≡◌, ℕ, ◌<◌, ◌≤ℤ◌, inl, inr, arith, List, length, ℤ, pos, Bound, Edges, Entries, IsProblem, PairKind, IsPairOf, Wide}
+use Rattle.step_chain.proofs.Common.{IsCertificate, head_at, lower_at, upper_at, no_bound, IsCutBarrierOf, neg_ℤ, ◌<ℤ◌, ints, clamps, NoBound, head_limit}
+use Rattle.step_chain.proofs.Common.{IsBarrier, AreInside, IsGiven, settled, certified, either_certifies, given_is, clamp, clamped, clamped_at, IsRangeRefusal}
+use Rattle.step_chain.proofs.Common.{IsNoCertificate}
 use Rattle.certificate_check.proofs.Cut.{excludes_refusal}
-use Rattle.step_chain.proofs.Following.{pair_words}
 use Rattle.step_chain.proofs.Limits.{edges_fit}
 
 -- a head above the least one that is at most a clamped floor is at most the floor; below the greatest one, for ceilings
@@ -38,9 +36,6 @@ module _ (p : List Entries) (b : Edges) (bounds : List Bound) where
 
     pub is_pair : IsPairOf p kind (clamped b) bounds
     is_pair = given_is p (clamped b) fits bars kind bounds given
-
-    pub pair_fits : AreWords p bounds
-    pair_fits = pair_words kind p (clamped b) bounds is_pair
 
     pub certifies_clamped : IsCertificate p (clamped b) (lower_at bounds) (upper_at bounds)
     certifies_clamped = (either_certifies p (clamped b) fits bars kind bounds is_pair).certificate

@@ -4,11 +4,10 @@ pub use Rattle.std.proofs.Common.{◌+◌, ◌<ℤ◌, ◌<◌, ◌^◌, ◌∙�
 pub use Rattle.std.proofs.lemmas.Bool.{and_parts, cases_Bool, cases_order, false_from_ne_true, not-true, true≢false}
 pub use Rattle.std.proofs.lemmas.Int.{clamps, ints}
 pub use Rattle.std.proofs.lemmas.List.{get_or-map, get_or-set_other, get_or-set_same, get_or_default, length-map, length-set}
-pub use Rattle.std.specs.Prelude.{Err, IfErr, IfOk, Ok, Result, not, ◌&&◌}
+pub use Rattle.std.specs.Prelude.{Err, IfOk, Ok, Result, not, ◌&&◌}
 pub use Rattle.barrier_vector.proofs.Clamping.{clamped_at, clamped_fits}
-pub use Rattle.barrier_vector.specs.Barriers.{BarrierExcludesRefusal}
 pub use Rattle.barrier_vector.specs.CutLaws.{CutBarrierExcludesRefusal, CutBarrierIsOne, CutRefusalIsOne}
-pub use Rattle.barrier_vector.specs.Cuts.{EnclosesUncut, IsCutBarrierOf, IsCutFault, clamp, clamped}
+pub use Rattle.barrier_vector.specs.Cuts.{EnclosesUncut, IsCutBarrierOf, clamp, clamped}
 pub use Rattle.barrier_vector.specs.declared.BarrierFault.{BarrierFault}
 pub use Rattle.cell_balance.specs.Enclosures.{CellEncloses, EnclosesStep}
 pub use Rattle.cell_balance.specs.Solutions.{LiesBetween, SolvesStep}

@@ -1,13 +1,10 @@
 -- Barriers by limits: each is a cut one, from which settling begins at a barrier of heads.
-use Rattle.step_chain.proofs.Common.{◌≡◌, ℕ, ◌<◌, List, length, refl, sym, ℤ, Edges, head_at, IsProblem, Entries, IsBarrierBy, Limits, Plain, Wide, edges_by}
-use Rattle.step_chain.proofs.Common.{IsCutBarrierOf, EnclosesUncut, ClampedPairEncloses, SettledPairEncloses, LiesBetweenBy, Result, Ok, Err, IfOk, IfErr}
-use Rattle.step_chain.proofs.Common.{IsCutFault, BarrierFault, IsBarrierFault, IsBarrier, IsSettledPair, ExactCell, EnclosesStep, SolvesStep, clamped}
-use Rattle.step_chain.proofs.Common.{clamped_fits}
+use Rattle.step_chain.proofs.Common.{ℕ, ◌<◌, List, length, ℤ, Edges, head_at, IsProblem, Entries, IsBarrierBy, Limits, Plain, Wide, edges_by, IsCutBarrierOf}
+use Rattle.step_chain.proofs.Common.{EnclosesUncut, ClampedPairEncloses, SettledPairEncloses, LiesBetweenBy, Result, Ok, Err, IfOk, BarrierFault, IsBarrier}
+use Rattle.step_chain.proofs.Common.{IsSettledPair, ExactCell, EnclosesStep, SolvesStep, clamped_fits}
 use Rattle.cell_balance.specs.Components.{IsHeldBelow}
 use Rattle.barrier_vector.proofs.Enclosing.{encloses_all}
 use Rattle.barrier_vector.specs.Bounds.{IsFloor, IsCeiling}
-use Rattle.barrier_vector.specs.declared.BarrierFault.TheVariants.{NoBound as IsNoBound, Memory}
-use Rattle.barrier_vector.specs.Refusals.{IsFault}
 use Rattle.barrier_vector.proofs.Cutting.{barrier_is_cut, cut_encloses, cut_holds}
 
 pub cut_by : (limits : Limits) (p : List Entries) (b : Edges) → IsBarrierBy limits p b → IsCutBarrierOf p b
@@ -45,13 +42,3 @@ module _ (p : List Entries) (fits : IsProblem p) where
   pub plain_uncut : (r : Result Edges BarrierFault) → IfOk r (IsBarrierBy Plain p) → IfOk r (EnclosesUncut p)
   plain_uncut (Ok b) h = uncut_by Plain p b fits h
   plain_uncut (Err e) h = tt
-
-  pub plain_fault : (r : Result Edges BarrierFault) → IfErr r (IsFault p) → IfErr r (IsBarrierFault Plain p)
-  plain_fault (Ok b) h = tt
-  plain_fault (Err (IsNoBound n)) h = h
-  plain_fault (Err Memory) h = tt
-
-  pub cut_fault : (r : Result Edges BarrierFault) → IfErr r (IsCutFault p) → IfErr r (IsBarrierFault Wide p)
-  cut_fault (Ok b) h = tt
-  cut_fault (Err (IsNoBound n)) h = h
-  cut_fault (Err Memory) h = tt

@@ -1,10 +1,10 @@
 -- A step that is posed has no refusal before it settles, a settled step none at all, and a time at most one.
 use Rattle.step_chain.proofs.Common.{◌≡◌, ℕ, inl, inr, sym, subst, List, Bound, Entries, Edges, IsProblem, AreSettled, IsPairOf, PairKind, SettledPairIsOne}
-use Rattle.step_chain.proofs.Common.{Solved, Decks, TimeStep, IsBefore, ProblemIsOne, ProblemFits, ProblemExcludesRefusal, BarrierExcludesRefusal}
-use Rattle.step_chain.proofs.Common.{CutBarrierExcludesRefusal, CutBarrierIsOne, IsBarrierBy, Limits, Plain, Wide, edges_by, StepExcludesRefusal, RefusalIsOne}
-use Rattle.step_chain.proofs.Common.{NoBound, settled, CutRefusalIsOne, IsRangeRefusal, CertificateExcludesRefusal, RangeRefusalIsOne, HasNoBarrier, HasNoPose}
-use Rattle.step_chain.proofs.Common.{IsPosed, IsStepBy, LeavesRange}
-use Rattle.barrier_vector.specs.Barriers.{RefusalIsOne as BarrierRefusalIsOne}
+use Rattle.step_chain.proofs.Common.{Solved, Decks, TimeStep, IsBefore, ProblemIsOne, ProblemFits, ProblemExcludesRefusal, CutBarrierExcludesRefusal}
+use Rattle.step_chain.proofs.Common.{CutBarrierIsOne, IsBarrierBy, Limits, Plain, Wide, edges_by, StepExcludesRefusal, RefusalIsOne, NoBound, settled}
+use Rattle.step_chain.proofs.Common.{CutRefusalIsOne, IsRangeRefusal, CertificateExcludesRefusal, RangeRefusalIsOne, HasNoBarrier, HasNoPose, IsPosed, IsStepBy}
+use Rattle.step_chain.proofs.Common.{LeavesRange}
+use Rattle.barrier_vector.specs.Barriers.{BarrierExcludesRefusal, RefusalIsOne as BarrierRefusalIsOne}
 use Rattle.deck_problems.specs.Laws.{RefusalIsOne as ProblemRefusalIsOne}
 use Rattle.step_chain.proofs.OneStep.{settled_one}
 

@@ -1,4 +1,4 @@
-use Rattle.step_chain.proofs.Common.{IfOk, subst, sym, EnclosesUncut, IsBarrierBy, Limits}
+use Rattle.step_chain.proofs.Common.{IfOk, subst, sym, IsBarrierBy, Limits}
 use Rattle.step_chain.proofs.Limits.{plain_found, plain_uncut}
 use Rattle.step_chain.proofs.barriers.barrier_by.Goals as goal
 

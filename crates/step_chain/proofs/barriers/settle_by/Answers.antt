@@ -1,5 +1,4 @@
-use Rattle.step_chain.proofs.Common.{List, subst, sym, Bound, IsBarrierBy, IsCertificate, IsPairOf, Limits, Plain, Wide, edges_by, lower_at, upper_at}
-use Rattle.step_chain.proofs.Common.{either_certifies, given_is}
+use Rattle.step_chain.proofs.Common.{subst, sym, IsBarrierBy, IsPairOf, Limits, Plain, edges_by, either_certifies, given_is}
 use Rattle.step_chain.proofs.Limits.{edges_fit}
 use Rattle.step_chain.proofs.barriers.settle_by.Goals as goal
 

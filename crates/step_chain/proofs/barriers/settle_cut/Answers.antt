@@ -1,6 +1,6 @@
 use Rattle.step_chain.proofs.Common.{List, subst, sym, Bound, Edges, IsCertificate, lower_at, upper_at, IsBarrier, IsGiven, clamped, Wide, IsRangeRefusal}
 use Rattle.step_chain.proofs.Limits.{edges_fit}
-use Rattle.step_chain.proofs.Clamped.{certifies_clamped, is_pair, pair_fits, settled_refused}
+use Rattle.step_chain.proofs.Clamped.{certifies_clamped, is_pair, settled_refused}
 use Rattle.step_chain.proofs.barriers.settle_cut.Goals as goal
 
 pub settle-requires-clause-barrier : goal.settle-requires-clause-barrier
