@@ -1,26 +1,18 @@
 // What guesses the pair of a step.
-use head_guess::{Kept, guess_pair, guess_wider_pair};
+use head_guess::{Kept, guess_pair};
 use std::alloc::{AllocError, Global};
 use step_problem::{Barrier, Bound, Problem};
 
 /// Guesses the pair of a step, from what the guess of the last one kept. The pairs may be any: each is tested, so that only running time and
 /// the width of the pair depend on them.
 pub trait PairGuesser: Drop {
+    /// A pair; if one has failed, a wider one.
     fn guess(
         &self,
         alloc: Global,
         p: &Problem,
         b: &Barrier,
-        kept: &mut Kept,
-    ) -> Result<Vec<Bound>, AllocError>;
-
-    /// A pair that is wider than one that fails.
-    fn widen(
-        &self,
-        alloc: Global,
-        p: &Problem,
-        b: &Barrier,
-        pair: &[Bound],
+        failed: Option<&[Bound]>,
         kept: &mut Kept,
     ) -> Result<Vec<Bound>, AllocError>;
 }
@@ -35,19 +27,9 @@ impl PairGuesser for BalancedGuesser {
         alloc: Global,
         p: &Problem,
         b: &Barrier,
+        failed: Option<&[Bound]>,
         kept: &mut Kept,
     ) -> Result<Vec<Bound>, AllocError> {
-        guess_pair(alloc, p, b, kept)
-    }
-
-    fn widen(
-        &self,
-        alloc: Global,
-        p: &Problem,
-        b: &Barrier,
-        pair: &[Bound],
-        kept: &mut Kept,
-    ) -> Result<Vec<Bound>, AllocError> {
-        guess_wider_pair(alloc, p, b, pair, kept)
+        guess_pair(alloc, p, b, failed, kept)
     }
 }

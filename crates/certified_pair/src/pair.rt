@@ -24,11 +24,11 @@ pub fn certified_pair<G: PairGuesser>(
     ensures certified { IfOk result (λ found. IfSome found (λ pair. AreInside p.now b.now pair.items)) }
     ensures ordered { IfOk result (λ found. IfSome found (λ pair. AreOrdered pair.items)) }
 {
-    let pair = guesser.guess(alloc, p, b, kept)?;
+    let pair = guesser.guess(alloc, p, b, None, kept)?;
     if is_certified(p, b, pair.as_slice()) {
         return Ok(Some(pair));
     }
-    let wider = guesser.widen(alloc, p, b, pair.as_slice(), kept)?;
+    let wider = guesser.guess(alloc, p, b, Some(pair.as_slice()), kept)?;
     if is_certified(p, b, wider.as_slice()) {
         return Ok(Some(wider));
     }

@@ -1,5 +1,5 @@
 // The test of a pair.
-ghost use Rattle.std.specs.Prelude.{◌↔◌, ◌<ℤ◌, ◌≤ℤ◌, neg_ℤ, pos, All, IsTrue};
+ghost use Rattle.std.specs.Prelude.{◌↔◌, ◌<ℤ◌, neg_ℤ, pos, All, IsTrue};
 ghost use Rattle.step_problem.specs.Conditions.{head_limit};
 ghost use Rattle.step_problem.specs.Heads.{IsBarrier};
 ghost use Rattle.step_problem.specs.Settling.{AreInside};

@@ -1,9 +1,8 @@
 // Which cells of settled heads rise again after all have fallen by a unit.
-use crate::flows::unit_gain;
 use crate::one_side::OneSide;
 use crate::state::State;
 use multigrid::numbers::{at, label, long_at, put};
-use std::alloc::{AllocError, Global};
+use std::alloc::AllocError;
 
 /// When a cell burns that does not.
 pub const NEVER: u32 = u32::MAX;
@@ -18,22 +17,17 @@ pub struct Fire {
     pub order: Vec<u32>,
 }
 
-fn is_at_floor(side: &OneSide, heads: &[i64], cell: usize) -> bool {
-    at(heads, cell) <= at(side.floor.as_slice(), cell)
-}
-
 // The balance of a cell while all others that are not at their floor are a unit lower.
 fn balance_amid_lower(side: &OneSide, state: &State, cell: usize) -> i128 {
     let heads = state.heads.as_slice();
     let own = at(heads, cell);
     let mut sum = long_at(state.balances.as_slice(), cell);
-    let row = side.links.row(cell);
-    for edge in side.links.edges(&row) {
+    for edge in side.links.edges(&side.links.row(cell)) {
         let other = edge.other as usize;
         let head = at(heads, other);
-        if head > at(side.floor.as_slice(), other) {
+        if !side.is_at_floor(other, head) {
             let above = head.wrapping_sub(1).wrapping_sub(own);
-            sum = sum.wrapping_sub(unit_gain(edge.lo, edge.hi, above) as i128);
+            sum = sum.wrapping_sub(edge.branch.unit_gain(above) as i128);
         }
     }
     sum
@@ -41,7 +35,7 @@ fn balance_amid_lower(side: &OneSide, state: &State, cell: usize) -> i128 {
 
 impl Fire {
     // A cell burns after all that have burnt.
-    fn light(&mut self, cell: u32) -> Result<(), AllocError> {
+    fn burn(&mut self, cell: u32) -> Result<(), AllocError> {
         self.order.push(cell)?;
         let place = label(self.order.len());
         put(self.burnt_at.as_mut_slice(), cell as usize, place);
@@ -49,20 +43,19 @@ impl Fire {
     }
 
     // The cells that rise at once, while all others are a unit lower. Those at the floor stay there.
-    fn lit(alloc: Global, side: &OneSide, state: &State) -> Result<Fire, AllocError> {
-        let heads = state.heads.as_slice();
+    fn begin(side: &OneSide, state: &State) -> Result<Fire, AllocError> {
         let mut fire = Fire {
-            sums: Vec::with_capacity(alloc, heads.len())?,
-            burnt_at: Vec::with_capacity(alloc, heads.len())?,
-            order: Vec::new(alloc),
+            sums: Vec::with_capacity(side.alloc, state.heads.len())?,
+            burnt_at: Vec::with_capacity(side.alloc, state.heads.len())?,
+            order: Vec::new(side.alloc),
         };
-        for cell in 0..heads.len() {
+        for (cell, head) in state.heads.iter().enumerate() {
             let sum = balance_amid_lower(side, state, cell);
-            let is_at_floor = is_at_floor(side, heads, cell);
+            let is_at_floor = side.is_at_floor(cell, *head);
             fire.sums.push(sum)?;
             fire.burnt_at.push(if is_at_floor { 0 } else { NEVER })?;
             if !is_at_floor && sum >= 0 {
-                fire.light(label(cell))?;
+                fire.burn(label(cell))?;
             }
         }
         Ok(fire)
@@ -82,38 +75,32 @@ impl Fire {
     ) -> Result<(), AllocError> {
         let below = at(heads, cell).wrapping_sub(1);
         let now = self.burnt_at(cell);
-        let row = side.links.row(cell);
-        for edge in side.links.edges(&row) {
+        for edge in side.links.edges(&side.links.row(cell)) {
             let other = edge.other as usize;
             let burnt_at = self.burnt_at(other);
             if burnt_at <= now {
                 continue;
             }
-            let above = below.wrapping_sub(at(heads, other));
-            let gain = unit_gain(edge.lo, edge.hi, above) as i128;
-            let sum = long_at(self.sums.as_slice(), other).wrapping_add(gain);
+            let gain = edge.branch.unit_gain(below.wrapping_sub(at(heads, other)));
+            let sum = long_at(self.sums.as_slice(), other).wrapping_add(gain as i128);
             put(self.sums.as_mut_slice(), other, sum);
             if sum >= 0 && burnt_at == NEVER {
-                self.light(edge.other)?;
+                self.burn(edge.other)?;
             }
         }
         Ok(())
     }
 
-    fn spread(&mut self, side: &OneSide, heads: &[i64]) -> Result<(), AllocError> {
+    /// The cells of settled heads that rise again after all have fallen by a unit.
+    pub fn of(side: &OneSide, state: &State) -> Result<Fire, AllocError> {
+        let mut fire = Fire::begin(side, state)?;
+        let heads = state.heads.as_slice();
         for k in 0..heads.len() {
-            let Some(cell) = self.order.get(k).copied() else {
+            let Some(cell) = fire.order.get(k).copied() else {
                 break;
             };
-            self.spread_from(side, heads, cell as usize)?;
+            fire.spread_from(side, heads, cell as usize)?;
         }
-        Ok(())
-    }
-
-    /// The cells of settled heads that rise again after all have fallen by a unit.
-    pub fn of(alloc: Global, side: &OneSide, state: &State) -> Result<Fire, AllocError> {
-        let mut fire = Fire::lit(alloc, side, state)?;
-        fire.spread(side, state.heads.as_slice())?;
         Ok(fire)
     }
 

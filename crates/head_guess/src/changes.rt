@@ -1,5 +1,5 @@
 // How the shares of all cells change.
-use multigrid::numbers::{at, put};
+use crate::branch::product;
 use std::alloc::{AllocError, Global};
 
 /// The next change of each cell's share, in units of 2^-PLACES. A step grows while its share goes on in one direction, and is halved where it
@@ -26,7 +26,7 @@ const GROWTH_OF_FALLS: i64 = 150;
 // What is left of the longest step after a round, in units of 2^-10.
 const LEFT: i64 = 955;
 
-fn longer(step: i64, percent: i64) -> i64 {
+fn longer_step(step: i64, percent: i64) -> i64 {
     step.saturating_mul(percent) / 100
 }
 
@@ -47,11 +47,10 @@ impl Changes {
 
     /// The flows out of all cells that the changes make.
     pub fn flows(&self, alloc: Global, slopes: &[i64]) -> Result<Vec<i128>, AllocError> {
-        let mut flows = Vec::with_capacity(alloc, slopes.len())?;
-        for (slope, change) in slopes.iter().zip(self.changes.as_slice()) {
-            flows.push((*slope as i128).wrapping_mul(*change as i128))?;
-        }
-        Ok(flows)
+        let changes = slopes.iter().zip(self.changes.as_slice());
+        changes
+            .map(|(slope, change)| product(*slope, *change))
+            .collect(alloc)
     }
 
     /// All steps are as long.
@@ -64,23 +63,20 @@ impl Changes {
     /// Takes the shares down where cells are too low, and up elsewhere.
     pub fn turn(&mut self, are_low: &[bool]) {
         let shortest = (self.longest >> BITS_OF_STEPS).max(1);
-        for (cell, is_low) in are_low.iter().enumerate() {
-            let last = at(self.changes.as_slice(), cell);
-            let step = at(self.steps.as_slice(), cell);
-            let turns = last != 0 && (last < 0) != *is_low;
-            let step = if turns {
-                step / 2
+        let cells = self.changes.iter_mut().zip(self.steps.iter_mut());
+        for ((change, step), is_low) in cells.zip(are_low) {
+            let turns = *change != 0 && (*change < 0) != *is_low;
+            let next = if turns {
+                *step / 2
             } else {
-                longer(step, GROWTH)
+                longer_step(*step, GROWTH)
             };
-            let step = step.max(shortest).min(self.longest);
-            put(self.steps.as_mut_slice(), cell, step);
-            let change = if *is_low {
-                0_i64.saturating_sub(step)
+            *step = next.max(shortest).min(self.longest);
+            *change = if *is_low {
+                0_i64.saturating_sub(*step)
             } else {
-                step
+                *step
             };
-            put(self.changes.as_mut_slice(), cell, change);
         }
         self.longest = (self.longest.saturating_mul(LEFT) >> 10).max(1);
     }
@@ -94,21 +90,14 @@ impl Changes {
     /// Takes the shares down where cells are too low, each time further. Returns whether there are any.
     pub fn fall(&mut self, are_low: &[bool]) -> bool {
         let mut falls = false;
-        for (cell, is_low) in are_low.iter().enumerate() {
-            let step = if *is_low {
-                at(self.steps.as_slice(), cell)
-            } else {
-                0
-            };
-            put(
-                self.changes.as_mut_slice(),
-                cell,
-                0_i64.saturating_sub(step),
-            );
+        let cells = self.changes.iter_mut().zip(self.steps.iter_mut());
+        for ((change, step), is_low) in cells.zip(are_low) {
+            *change = 0;
             if *is_low {
                 falls = true;
-                let next = longer(step, GROWTH_OF_FALLS).saturating_add(1);
-                put(self.steps.as_mut_slice(), cell, next.min(Changes::LONGEST));
+                *change = 0_i64.saturating_sub(*step);
+                let next = longer_step(*step, GROWTH_OF_FALLS).saturating_add(1);
+                *step = next.min(Changes::LONGEST);
             }
         }
         falls

@@ -16,22 +16,9 @@ pub enum Eliminable {
     Yes(Pattern),
 }
 
-// A matrix with a coupling for each link.
-fn matrix_of(alloc: Global, links: &Links) -> Result<Matrix, AllocError> {
-    let mut matrix = Matrix::new(alloc);
-    for cell in 0..links.len() {
-        let row = links.row(cell);
-        for edge in links.edges(&row) {
-            matrix.couple(edge.other, 1)?;
-        }
-        matrix.close_row(1)?;
-    }
-    Ok(matrix)
-}
-
 impl Eliminable {
-    // Whether it may be that of these links.
-    fn is_of(&self, links: &Links) -> bool {
+    /// Whether it may be that of these links. Another number of cells has another pattern.
+    pub fn may_be_of(&self, links: &Links) -> bool {
         match self {
             Eliminable::Unknown => false,
             Eliminable::No => true,
@@ -39,12 +26,15 @@ impl Eliminable {
         }
     }
 
-    /// The same, once it is known. Another number of cells has another pattern.
-    pub fn known(self, alloc: Global, links: &Links) -> Result<Eliminable, AllocError> {
-        if self.is_of(links) {
-            return Ok(self);
+    /// That of these links.
+    pub fn of(alloc: Global, links: &Links) -> Result<Eliminable, AllocError> {
+        let mut matrix = Matrix::new(alloc);
+        for cell in 0..links.len() {
+            for edge in links.edges(&links.row(cell)) {
+                matrix.couple(edge.other, 1)?;
+            }
+            matrix.close_row(1)?;
         }
-        let matrix = matrix_of(alloc, links)?;
         let most = MOST_OPERATIONS.saturating_mul(links.len() as u64);
         Ok(match Pattern::new(alloc, &matrix, most)? {
             Some(pattern) => Eliminable::Yes(pattern),

@@ -2,60 +2,47 @@
 use crate::one_side::OneSide;
 use crate::raise::raise_within;
 use crate::state::State;
-use crate::ways::{Fall, double, fall_between, halve, way_between};
-use multigrid::Budget;
+use crate::work::Work;
 use multigrid::numbers::at;
-use std::alloc::{AllocError, Global};
+use std::alloc::AllocError;
 
-fn lowered(
-    alloc: Global,
+/// By how much heads fell: in all, at most, and in how many cells.
+#[derive(Clone, Copy)]
+struct Fall {
+    sum: i128,
+    most: i64,
+    cells: u64,
+}
+
+fn fall_between(from: &[i64], to: &[i64]) -> Fall {
+    let mut fall = Fall {
+        sum: 0,
+        most: 0,
+        cells: 0,
+    };
+    for (from, to) in from.iter().zip(to) {
+        let units = from.saturating_sub(*to);
+        fall.sum = fall.sum.saturating_add(units as i128);
+        fall.most = fall.most.max(units);
+        fall.cells = fall.cells.saturating_add((units > 0) as u64);
+    }
+    fall
+}
+
+/// The fall of each cell's head from one list to another, times a factor.
+pub fn way_between(
     side: &OneSide,
-    heads: &[i64],
-    way: &[i64],
+    from: &[i64],
+    to: &[i64],
+    factor: i64,
 ) -> Result<Vec<i64>, AllocError> {
-    let mut lower = Vec::with_capacity(alloc, heads.len())?;
-    for cell in 0..heads.len() {
-        let head = at(heads, cell) as i128 - at(way, cell) as i128;
-        lower.push(side.above_floor(cell, head))?;
-    }
-    Ok(lower)
-}
-
-// How far a gallop has come.
-#[derive(Drop)]
-struct Progress {
-    // The next step.
-    way: Vec<i64>,
-    gained: i64,
-    turns: u64,
-    is_last: bool,
-}
-
-impl Progress {
-    // The heads settled lower: the next step is twice as long as what was kept. Returns whether half was kept, so that there is a next step.
-    fn go_on(
-        &mut self,
-        alloc: Global,
-        heads: &[i64],
-        lower: &[i64],
-        wanted: Fall,
-    ) -> Result<bool, AllocError> {
-        let kept = fall_between(heads, lower);
-        self.way = way_between(alloc, heads, lower)?;
-        double(self.way.as_mut_slice());
-        self.gained = self.gained.saturating_add(kept.most);
-        Ok(!self.is_last && kept.sum.saturating_mul(2) >= wanted.sum)
-    }
-
-    // The heads did not settle: the next step is half as long, and the last one. Returns whether there is one.
-    fn fall_short(&mut self) -> bool {
-        if self.is_last || self.gained == 0 {
-            return false;
-        }
-        self.is_last = true;
-        halve(self.way.as_mut_slice());
-        true
-    }
+    let falls = from
+        .iter()
+        .zip(to)
+        .map(|(from, to)| from.saturating_sub(*to));
+    falls
+        .map(|units| units.saturating_mul(factor))
+        .collect(side.alloc)
 }
 
 // A step that is followed by another one keeps at least half of its way.
@@ -64,57 +51,43 @@ const MOST_STEPS: u32 = 64;
 // The number of turns that a step may take at each cell that it moves.
 const TURNS: u64 = 8;
 
-// The way of a gallop's next step. Returns the state there, and how far it is.
-fn state_below(
-    alloc: Global,
-    side: &OneSide,
-    state: &State,
-    way: &[i64],
-) -> Result<(State, Fall), AllocError> {
-    let heads = lowered(alloc, side, state.heads.as_slice(), way)?;
-    let wanted = fall_between(state.heads.as_slice(), heads.as_slice());
-    Ok((state.moved(alloc, side, heads)?, wanted))
-}
-
 /// Lowers settled heads along a way, and then by twice what was kept of the last step, as long as they settle
-/// within a few turns at each cell that moves, and keep half. They stay settled. Returns the longest fall.
-pub fn gallop(
-    alloc: Global,
-    side: &OneSide,
-    state: &mut State,
-    way: Vec<i64>,
-    budget: &mut Budget,
-) -> Result<i64, AllocError> {
-    let mut run = Progress {
-        way,
-        gained: 0,
-        turns: 0,
-        is_last: false,
-    };
+/// within a few turns at each cell that moves, and keep half. Where they do not settle, half the step is the last one. They stay settled.
+/// Returns the longest fall.
+pub fn gallop(work: &mut Work, state: &mut State, way: Vec<i64>) -> Result<i64, AllocError> {
+    let mut way = way;
+    let mut gained = 0_i64;
+    let mut turns = 0_u64;
+    let mut is_last = false;
     for _ in 0..MOST_STEPS {
-        let (mut lower, wanted) = state_below(alloc, side, state, run.way.as_slice())?;
+        let heads = work.side.heads_below(
+            state.heads.as_slice(),
+            |cell| at(way.as_slice(), cell) as i128,
+        )?;
+        let wanted = fall_between(state.heads.as_slice(), heads.as_slice());
         if wanted.cells == 0 {
             break;
         }
-        let turns = wanted.cells.saturating_mul(TURNS).max(run.turns / 2);
-        let caps = Some(state.heads.as_slice());
-        let raised = raise_within(alloc, side, &mut lower, caps, turns, budget)?;
-        run.turns = run.turns.saturating_add(raised.turns);
-        let goes_on = if raised.settled {
-            let goes_on = run.go_on(
-                alloc,
-                state.heads.as_slice(),
-                lower.heads.as_slice(),
-                wanted,
-            )?;
+        let mut lower = State::new(work.side, heads)?;
+        let most = wanted.cells.saturating_mul(TURNS).max(turns / 2);
+        let raised = raise_within(work, &mut lower, Some(state.heads.as_slice()), most)?;
+        turns = turns.saturating_add(raised.turns);
+        if raised.is_settled {
+            let kept = fall_between(state.heads.as_slice(), lower.heads.as_slice());
+            way = way_between(work.side, state.heads.as_slice(), lower.heads.as_slice(), 2)?;
+            gained = gained.saturating_add(kept.most);
             *state = lower;
-            goes_on
-        } else {
-            run.fall_short()
-        };
-        if !goes_on {
+            if is_last || kept.sum.saturating_mul(2) < wanted.sum {
+                break;
+            }
+        } else if is_last || gained == 0 {
             break;
+        } else {
+            is_last = true;
+            for units in way.iter_mut() {
+                *units /= 2;
+            }
         }
     }
-    Ok(run.gained)
+    Ok(gained)
 }

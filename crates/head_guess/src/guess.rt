@@ -4,7 +4,7 @@ ghost use Rattle.cell_relax.specs.Words.{AreWords};
 
 use crate::half::{HalfGuess, Start, half_guess};
 use crate::links::Links;
-use crate::one_side::{OneSide, turned};
+use crate::one_side::{OneSide, turned_head};
 use crate::search::first_share;
 use crate::steps::{Kept, LastStep, before_of, high_start, low_start};
 use multigrid::numbers::at;
@@ -20,14 +20,6 @@ pub struct Guess {
     pub order: Vec<u32>,
 }
 
-fn all_turned(alloc: Global, side: Side, heads: &[i64]) -> Result<Vec<i64>, AllocError> {
-    let mut turned_heads = Vec::with_capacity(alloc, heads.len())?;
-    for head in heads {
-        turned_heads.push(turned(side, *head))?;
-    }
-    Ok(turned_heads)
-}
-
 /// One bound for each cell, of turned heads, cut to those in range.
 pub fn bounds_of(
     alloc: Global,
@@ -41,24 +33,11 @@ pub fn bounds_of(
     let mut bounds = Vec::with_capacity(alloc, cells)?;
     for cell in 0..cells {
         bounds.push(Bound {
-            low: turned(Side::Low, at(low, cell)),
-            high: turned(Side::High, at(high, cell)),
+            low: turned_head(Side::Low, at(low, cell)),
+            high: turned_head(Side::High, at(high, cell)),
         })?;
     }
     Ok(bounds)
-}
-
-/// A side of a problem, above the floor or below the ceiling.
-pub fn side_of<'a>(
-    alloc: Global,
-    p: &'a Problem,
-    side: Side,
-    links: &'a Links,
-    pattern: Option<&'a Pattern>,
-    edge: &[i64],
-) -> Result<OneSide<'a>, AllocError> {
-    let floor = all_turned(alloc, side, edge)?;
-    OneSide::new(alloc, p, side, links, pattern, floor)
 }
 
 /// The guess of both sides, which is kept for the next step.
@@ -68,23 +47,16 @@ pub fn guess_of(
     low: HalfGuess,
     high: HalfGuess,
     last: Option<LastStep>,
-    kept: &mut Option<LastStep>,
+    kept: &mut Kept,
 ) -> Result<Guess, AllocError>
     ensures { IfOk result (λ g. AreWords p.now (Guess.bounds g).items) }
 {
     let mut order = low.order;
     order.extend_from_slice(high.order.as_slice())?;
-    let bounds = bounds_of(
-        alloc,
-        p,
-        low.ended.heads.as_slice(),
-        high.ended.heads.as_slice(),
-    )?;
-    *kept = Some(LastStep {
-        before: before_of(last),
-        low: low.ended,
-        high: high.ended,
-    });
+    let (low, high) = (low.ended, high.ended);
+    let bounds = bounds_of(alloc, p, low.heads.as_slice(), high.heads.as_slice())?;
+    let before = before_of(last);
+    kept.last = Some(LastStep { before, low, high });
     Ok(Guess { bounds, order })
 }
 
@@ -100,21 +72,21 @@ fn guess_in_turn(
     ensures { IfOk result (λ g. AreWords p.now (Guess.bounds g).items) }
 {
     let last = kept.take_last(p);
-    let side = side_of(alloc, p, Side::Low, links, pattern, b.floor.as_slice())?;
+    let side = OneSide::new(alloc, p, Side::Low, links, pattern, b.floor.as_slice())?;
     let start = Start {
         heads: low_start(alloc, p, b, &last)?,
         share: first_share(links),
         last: last.as_ref().map(|last| &last.low),
     };
-    let low = half_guess(alloc, &side, start, &mut kept.linear)?;
-    let side = side_of(alloc, p, Side::High, links, pattern, b.ceiling.as_slice())?;
+    let low = half_guess(&side, start, &mut kept.linear)?;
+    let side = OneSide::new(alloc, p, Side::High, links, pattern, b.ceiling.as_slice())?;
     let start = Start {
         heads: high_start(alloc, low.ended.balanced.as_slice(), &last)?,
         share: low.ended.share,
         last: last.as_ref().map(|last| &last.high),
     };
-    let high = half_guess(alloc, &side, start, &mut kept.linear)?;
-    guess_of(alloc, p, low, high, last, &mut kept.last)
+    let high = half_guess(&side, start, &mut kept.linear)?;
+    guess_of(alloc, p, low, high, last, kept)
 }
 
 /// A guess of the settled pair of a problem and a barrier. It begins with what the guess of the last step has kept, which may be that of any

@@ -2,21 +2,19 @@
 #![tactic(auto)]
 
 mod beside;
+mod branch;
 mod burn;
 mod changes;
 mod descend;
 mod eliminable;
 mod extent;
-mod flows;
 mod gallop;
 mod guess;
 mod half;
-mod known;
 mod linear;
 mod links;
 mod lower;
 mod marks;
-mod method;
 mod newton;
 mod nodes;
 mod one_side;
@@ -24,7 +22,6 @@ mod pair;
 mod raise;
 mod ramp;
 mod rest;
-mod room;
 mod search;
 mod share_cycles;
 mod shares;
@@ -34,10 +31,9 @@ mod solver;
 mod spot;
 mod state;
 mod steps;
-mod system;
-mod ways;
+mod work;
 
 pub use beside::guess_beside;
 pub use guess::{Guess, guess_heads};
-pub use pair::{guess_pair, guess_wider_pair};
+pub use pair::guess_pair;
 pub use steps::Kept;

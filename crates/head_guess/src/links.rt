@@ -1,37 +1,55 @@
 // A copy of a problem's links in one list.
+use crate::branch::Branch;
 use multigrid::numbers::label;
 use std::alloc::{AllocError, Global};
 use step_problem::{Cell, Problem};
 
-/// A link of a cell: the other cell, and the bounds of the conductance.
+/// A link of a cell: the other cell, and the branch to it.
 #[derive(Clone, Copy)]
 pub struct Edge {
     pub other: u32,
-    pub lo: i64,
-    pub hi: i64,
+    pub branch: Branch,
 }
 
-/// A cell's edges and branches to known heads, as places in their lists, and how far its balance falls when its head
-/// rises by a unit: at least, and at most where it is straight.
+/// A cell's part of a list of all cells.
+#[derive(Clone, Copy)]
+pub struct Part {
+    first: u32,
+    end: u32,
+}
+
+const NO_PART: Part = Part { first: 0, end: 0 };
+
+impl Part {
+    pub fn of<'a, T>(&self, all: &'a [T]) -> &'a [T] {
+        all.get(self.first as usize..self.end as usize)
+            .unwrap_or(&[])
+    }
+
+    // The next part of a list, of `count` items.
+    fn next(&self, count: usize) -> Part {
+        Part {
+            first: self.end,
+            end: self.end.saturating_add(label(count)),
+        }
+    }
+}
+
+/// A cell's edges, branches to known heads and ramps, and how far its balance falls when its head rises by a unit: at least, and at most where
+/// it is straight.
 #[derive(Clone, Copy)]
 pub struct Row {
-    first_edge: u32,
-    end_edge: u32,
-    first_known: u32,
-    end_known: u32,
-    first_ramp: u32,
-    end_ramp: u32,
+    pub edges: Part,
+    pub knowns: Part,
+    pub ramps: Part,
     pub least: i64,
     pub greatest: i64,
 }
 
 const NO_ROW: Row = Row {
-    first_edge: 0,
-    end_edge: 0,
-    first_known: 0,
-    end_known: 0,
-    first_ramp: 0,
-    end_ramp: 0,
+    edges: NO_PART,
+    knowns: NO_PART,
+    ramps: NO_PART,
     least: 1,
     greatest: 1,
 };
@@ -41,85 +59,58 @@ const NO_ROW: Row = Row {
 pub struct Links {
     rows: Vec<Row>,
     edges: Vec<Edge>,
-    knowns: u32,
-    ramps: u32,
     // The number of cells with one link of more than two fifths of the conductance of all its links.
     uneven: u64,
 }
 
-/// A conductance as a number with a sign.
-pub fn conductance(number: u64) -> i64 {
-    i64::try_from(number).unwrap_or(i64::MAX)
-}
-
 impl Row {
-    /// The row's part of a list of the branches to known heads of all cells.
-    pub fn knowns<'a, T>(&self, all: &'a [T]) -> &'a [T] {
-        all.get(self.first_known as usize..self.end_known as usize)
-            .unwrap_or(&[])
-    }
-
-    /// The row's part of a list of the ramps of all cells.
-    pub fn ramps<'a, T>(&self, all: &'a [T]) -> &'a [T] {
-        all.get(self.first_ramp as usize..self.end_ramp as usize)
-            .unwrap_or(&[])
-    }
-
     /// Whether the balance is linear but for rounding: the cell has only links and known heads.
     pub fn is_straight(&self) -> bool {
-        self.first_ramp == self.end_ramp
+        self.ramps.first == self.ramps.end
+    }
+
+    fn add_branch(&mut self, branch: Branch) {
+        self.least = self.least.saturating_add(branch.lo);
+        self.greatest = self.greatest.saturating_add(branch.hi);
     }
 }
 
 // The number of a cell's rivers, drains and evaporations.
-fn ramps_of(cell: &Cell) -> u32 {
-    let count = cell
-        .rivers
+fn ramp_count(cell: &Cell) -> usize {
+    cell.rivers
         .len()
         .saturating_add(cell.drains.len())
-        .saturating_add(cell.evaps.len());
-    label(count)
+        .saturating_add(cell.evaps.len())
 }
 
 impl Links {
-    fn add_cell(&mut self, cell: &Cell) -> Result<(), AllocError> {
-        let first_edge = label(self.edges.len());
-        let first_known = self.knowns;
-        let first_ramp = self.ramps;
-        let mut least = 0_i64;
-        let mut greatest = 0_i64;
+    // Adds the row of a cell, whose parts follow those of the last one.
+    fn add_cell(&mut self, cell: &Cell, last: &Row) -> Result<Row, AllocError> {
+        let mut row = Row {
+            edges: last.edges.next(cell.links.len()),
+            knowns: last.knowns.next(cell.fixed.len()),
+            ramps: last.ramps.next(ramp_count(cell)),
+            least: 0,
+            greatest: 0,
+        };
         let mut strongest = 0_i64;
         for link in &cell.links {
-            let edge = Edge {
-                other: link.cell,
-                lo: conductance(link.lo),
-                hi: conductance(link.hi),
-            };
-            least = least.saturating_add(edge.lo);
-            greatest = greatest.saturating_add(edge.hi);
-            strongest = strongest.max(edge.hi);
-            self.edges.push(edge)?;
+            let branch = Branch::new(link.lo, link.hi);
+            row.add_branch(branch);
+            strongest = strongest.max(branch.hi);
+            let other = link.cell;
+            self.edges.push(Edge { other, branch })?;
         }
-        if strongest / 2 > greatest / 5 {
+        if strongest / 2 > row.greatest / 5 {
             self.uneven = self.uneven.saturating_add(1);
         }
         for fixed in &cell.fixed {
-            least = least.saturating_add(conductance(fixed.lo));
-            greatest = greatest.saturating_add(conductance(fixed.hi));
-            self.knowns = self.knowns.saturating_add(1);
+            row.add_branch(Branch::new(fixed.lo, fixed.hi));
         }
-        self.ramps = self.ramps.saturating_add(ramps_of(cell));
-        self.rows.push(Row {
-            first_edge,
-            end_edge: label(self.edges.len()),
-            first_known,
-            end_known: self.knowns,
-            first_ramp,
-            end_ramp: self.ramps,
-            least: least.max(1),
-            greatest: greatest.max(1),
-        })?;
-        Ok(())
+        row.least = row.least.max(1);
+        row.greatest = row.greatest.max(1);
+        self.rows.push(row)?;
+        Ok(row)
     }
 
     /// The links of a problem.
@@ -127,12 +118,11 @@ impl Links {
         let mut links = Links {
             rows: Vec::with_capacity(alloc, p.len())?,
             edges: Vec::new(alloc),
-            knowns: 0,
-            ramps: 0,
             uneven: 0,
         };
+        let mut last = NO_ROW;
         for cell in 0..p.len() {
-            links.add_cell(p.cell(cell))?;
+            last = links.add_cell(p.cell(cell), &last)?;
         }
         Ok(links)
     }
@@ -160,10 +150,7 @@ impl Links {
 
     /// The edges of a row.
     pub fn edges(&self, row: &Row) -> &[Edge] {
-        self.edges
-            .as_slice()
-            .get(row.first_edge as usize..row.end_edge as usize)
-            .unwrap_or(&[])
+        row.edges.of(self.edges.as_slice())
     }
 
     /// Whether all balances but a few are straight.

@@ -63,15 +63,13 @@ impl Marks {
     }
 
     pub fn set(&mut self, cell: usize) {
-        if let Some(word) = self.words.as_mut_slice().get_mut(cell / CELLS) {
-            *word |= 1_u64.wrapping_shl((cell % CELLS) as u32);
-        }
+        self.set_if(cell, true);
     }
 
-    /// Adds a cell if it may rise.
-    pub fn set_if(&mut self, cell: usize, may_rise: bool) {
+    /// Adds a cell if `is_in`.
+    pub fn set_if(&mut self, cell: usize, is_in: bool) {
         if let Some(word) = self.words.as_mut_slice().get_mut(cell / CELLS) {
-            *word |= (may_rise as u64).wrapping_shl((cell % CELLS) as u32);
+            *word |= (is_in as u64).wrapping_shl((cell % CELLS) as u32);
         }
     }
 
@@ -85,12 +83,8 @@ impl Marks {
         let place = first_of(places, sweep.order);
         *word &= !1_u64.wrapping_shl(place);
         sweep.open = places_after(place, sweep.order);
-        Some(
-            sweep
-                .word
-                .saturating_mul(CELLS)
-                .saturating_add(place as usize),
-        )
+        let first = sweep.word.saturating_mul(CELLS);
+        Some(first.saturating_add(place as usize))
     }
 
     /// Whether a word has a cell.

@@ -1,11 +1,11 @@
 // Newton's method for heads at which each cell's balance is 0.
-use crate::flows::product;
+use crate::branch::product;
 use crate::linear::Linear;
 use crate::one_side::OneSide;
 use crate::ramp::Bends;
-use multigrid::Budget;
+use crate::work::Work;
 use multigrid::numbers::{at, cut, put, shifted, width};
-use std::alloc::{AllocError, Global};
+use std::alloc::AllocError;
 use step_problem::problem::HEAD_LIMIT;
 
 const MOST_ROUNDS: u32 = 60;
@@ -47,15 +47,18 @@ struct Newton {
 }
 
 impl Newton {
-    fn new(alloc: Global, heads: Vec<i64>) -> Result<Newton, AllocError> {
+    fn new(side: &OneSide, heads: Vec<i64>) -> Result<Newton, AllocError> {
         let count = heads.len();
-        Ok(Newton {
+        let mut newton = Newton {
             tops: heads.clone()?,
             heads,
             slack: 0,
-            balances: vec![in alloc; 0; count]?,
-            slopes: vec![in alloc; 0; count]?,
-        })
+            balances: vec![in side.alloc; 0; count]?,
+            slopes: vec![in side.alloc; 0; count]?,
+        };
+        newton.linearize(side);
+        newton.begin_level(side)?;
+        Ok(newton)
     }
 
     fn linearize(&mut self, side: &OneSide) {
@@ -93,7 +96,7 @@ impl Newton {
 
     // Begins at heads that are all the same, at which the balances sum up to about 0, if balances are smaller there than at far heads. Ramps
     // have their effect there, as at far heads.
-    fn begin_level(&mut self, alloc: Global, side: &OneSide) -> Result<(), AllocError> {
+    fn begin_level(&mut self, side: &OneSide) -> Result<(), AllocError> {
         let far = self.longest_move();
         if far <= FAR {
             return Ok(());
@@ -105,7 +108,7 @@ impl Newton {
         self.sum_at(side, level.clamp(-HEAD_LIMIT, HEAD_LIMIT));
         if self.longest_move() >= far {
             self.slack = 0;
-            self.heads = Vec::from_slice(alloc, self.tops.as_slice())?;
+            self.heads = self.tops.clone()?;
             self.linearize(side);
         }
         Ok(())
@@ -150,23 +153,20 @@ impl Newton {
     // slopes stay as they were.
     fn step(
         &mut self,
-        side: &OneSide,
+        work: &mut Work,
         until: Until,
         alone: i64,
         linear: &mut Linear,
-        budget: &mut Budget,
     ) -> (i128, bool) {
         let places = 20_i64.saturating_sub(width(alone as i128) as i64);
-        let unknowns = linear.correction(side, self.balances.as_slice(), places, budget);
-        let longest = self.advance(side, unknowns, places);
-        let is_solved = linear.check(places);
-        self.slack = cut(if is_solved {
-            longest.wrapping_shr(BITS_OF_SLACK)
-        } else {
-            longest
-        });
+        let bits = linear.bits(places);
+        let unknowns = linear.correction(work, self.balances.as_slice(), places, bits);
+        let longest = self.advance(work.side, unknowns, places);
+        let is_solved = linear.check(bits);
+        let bits_of_slack = if is_solved { BITS_OF_SLACK } else { 0 };
+        self.slack = cut(longest.wrapping_shr(bits_of_slack));
         let may_end = match until {
-            Until::Straight => longest < LONGEST && self.is_straight(side),
+            Until::Straight => longest < LONGEST && self.is_straight(work.side),
             _ => alone < SHORT && longest < LONG,
         };
         (longest, may_end && is_solved)
@@ -185,34 +185,31 @@ pub enum Until {
 /// Heads near those at which each balance is 0, by Newton's method from these heads, until no head moves by more than a few units, or its
 /// rounds or the budget end. A linear system is kept from one call to the next.
 pub fn find_balanced(
-    alloc: Global,
-    side: &OneSide,
+    work: &mut Work,
     until: Until,
     heads: Vec<i64>,
     kept: &mut Option<Linear>,
-    budget: &mut Budget,
 ) -> Result<Vec<i64>, AllocError> {
-    let mut newton = Newton::new(alloc, heads)?;
-    newton.linearize(side);
-    newton.begin_level(alloc, side)?;
-    let mut linear = Linear::of(alloc, side, &newton.slopes, kept.take(), budget)?;
+    let side = work.side;
+    let mut newton = Newton::new(side, heads)?;
+    let mut linear = Linear::of(work, newton.slopes.as_slice(), kept.take())?;
     for _ in 0..MOST_ROUNDS {
         let alone = newton.longest_move();
         if until == Until::Near && alone < SHORT {
             break;
         }
-        let (longest, is_last) = newton.step(side, until, alone, &mut linear, budget);
-        if budget.is_spent() {
+        let (longest, is_last) = newton.step(work, until, alone, &mut linear);
+        if work.budget.is_spent() {
             break;
         }
         newton.linearize(side);
-        if longest <= NEAR || is_last && linear.serves(newton.slopes.as_slice()) {
+        if longest <= NEAR || is_last && linear.solver.is_near(newton.slopes.as_slice()) {
             if !newton.set_tops(side) {
                 break;
             }
             newton.linearize(side);
         }
-        linear = Linear::of(alloc, side, &newton.slopes, Some(linear), budget)?;
+        linear = Linear::of(work, newton.slopes.as_slice(), Some(linear))?;
     }
     *kept = Some(linear);
     Ok(newton.heads)

@@ -1,11 +1,10 @@
 // Cells with their balances, while heads are raised.
-use crate::flows::{gain, loss, unit_gain, unit_loss};
 use crate::links::{Edge, Row};
 use crate::marks::Marks;
 use crate::one_side::OneSide;
 use crate::state::State;
 use multigrid::numbers::{at, cut, long_at, put, width};
-use std::alloc::{AllocError, Global};
+use std::alloc::AllocError;
 use step_problem::problem::HEAD_LIMIT;
 
 /// A cell's balance at its head, the head that it may reach, and the least balance at which it can rise.
@@ -32,11 +31,17 @@ impl Node {
         (self.balance >= self.least as i128) & (self.head < self.cap)
     }
 
-    // The node after a rise. It stays where it is if that was its last one.
-    fn once_risen(self) -> Node {
+    // The node after a rise that makes its balance fall. It stays there if that was its last one.
+    fn after_rise(self, units: i64, fall: i128) -> Node {
         let rises = self.rises.saturating_sub(1);
-        let cap = if rises == 0 { self.head } else { self.cap };
-        Node { rises, cap, ..self }
+        let head = self.head.wrapping_add(units);
+        Node {
+            balance: self.balance.wrapping_sub(fall),
+            head,
+            cap: if rises == 0 { head } else { self.cap },
+            rises,
+            ..self
+        }
     }
 }
 
@@ -57,13 +62,12 @@ fn quotient(number: i128, divisor: i64) -> i64 {
 impl Nodes {
     /// The nodes of a state, whose heads may rise to their caps, if there are any.
     pub fn new(
-        alloc: Global,
         side: &OneSide,
         state: &State,
         caps: Option<&[i64]>,
         rises: u32,
     ) -> Result<Nodes, AllocError> {
-        let mut nodes = Vec::with_capacity(alloc, state.heads.len())?;
+        let mut nodes = Vec::with_capacity(side.alloc, state.heads.len())?;
         for (cell, head) in state.heads.iter().enumerate() {
             nodes.push(Node {
                 balance: long_at(state.balances.as_slice(), cell),
@@ -77,7 +81,7 @@ impl Nodes {
     }
 
     /// Writes heads and balances back to a state.
-    pub fn leave(&self, state: &mut State) {
+    pub fn write_to(&self, state: &mut State) {
         for (cell, node) in self.nodes.iter().enumerate() {
             put(state.heads.as_mut_slice(), cell, node.head);
             put(state.balances.as_mut_slice(), cell, node.balance);
@@ -85,12 +89,11 @@ impl Nodes {
     }
 
     /// Whether each cell has risen as often as it may.
-    pub fn are_spent(&self, alloc: Global) -> Result<Vec<bool>, AllocError> {
-        let mut are_spent = Vec::with_capacity(alloc, self.nodes.len())?;
-        for node in &self.nodes {
-            are_spent.push(node.rises == 0)?;
-        }
-        Ok(are_spent)
+    pub fn are_spent(&self, side: &OneSide) -> Result<Vec<bool>, AllocError> {
+        self.nodes
+            .iter()
+            .map(|node| node.rises == 0)
+            .collect(side.alloc)
     }
 
     /// Marks the cells that may rise.
@@ -111,11 +114,11 @@ impl Nodes {
         let mut sum = 0_i128;
         for edge in side.links.edges(row) {
             let above = head.wrapping_sub(self.node(edge.other as usize).head);
-            sum = sum.wrapping_add(unit_loss(edge.lo, edge.hi, above) as i128);
+            sum = sum.wrapping_add(edge.branch.unit_loss(above) as i128);
         }
         for known in side.knowns(row) {
             let above = head.wrapping_sub(known.head);
-            sum = sum.wrapping_add(unit_loss(known.lo, known.hi, above) as i128);
+            sum = sum.wrapping_add(known.branch.unit_loss(above) as i128);
         }
         sum
     }
@@ -158,10 +161,9 @@ impl Nodes {
             let other = edge.other as usize;
             if let Some(node) = self.nodes.as_mut_slice().get_mut(other) {
                 let above = head.wrapping_sub(node.head);
-                taken = taken.wrapping_add(loss(edge.lo, edge.hi, above, units));
-                node.balance = node
-                    .balance
-                    .wrapping_add(gain(edge.lo, edge.hi, above, units));
+                taken = taken.wrapping_add(edge.branch.loss(above, units));
+                let gain = edge.branch.gain(above, units);
+                node.balance = node.balance.wrapping_add(gain);
                 if node.can_rise() {
                     marks.set(other);
                 }
@@ -177,10 +179,9 @@ impl Nodes {
             let other = edge.other as usize;
             if let Some(node) = self.nodes.as_mut_slice().get_mut(other) {
                 let above = head.wrapping_sub(node.head);
-                taken = taken.wrapping_add(unit_loss(edge.lo, edge.hi, above));
-                node.balance = node
-                    .balance
-                    .wrapping_add(unit_gain(edge.lo, edge.hi, above) as i128);
+                taken = taken.wrapping_add(edge.branch.unit_loss(above));
+                let gain = edge.branch.unit_gain(above);
+                node.balance = node.balance.wrapping_add(gain as i128);
                 marks.set_if(other, node.can_rise());
             }
         }
@@ -204,15 +205,8 @@ impl Nodes {
         } else {
             self.spread(edges, node.head, units, marks)
         };
-        let risen = Node {
-            balance: node
-                .balance
-                .wrapping_sub(taken)
-                .wrapping_sub(side.fall_beside_links(&row, node.head, units)),
-            head: node.head.wrapping_add(units),
-            ..node
-        }
-        .once_risen();
+        let fall = taken.wrapping_add(side.fall_beside_links(&row, node.head, units));
+        let risen = node.after_rise(units, fall);
         put(self.nodes.as_mut_slice(), cell, risen);
         if risen.can_rise() {
             marks.set(cell);

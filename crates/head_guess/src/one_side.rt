@@ -3,8 +3,7 @@ ghost use Rattle.std.specs.Prelude.{◌≡◌, ◌<◌, All, length, take};
 ghost use Rattle.step_problem.specs.Entries.{entries_at};
 ghost use Rattle.step_problem.specs.Conditions.{IsHead};
 
-use crate::flows::inflow;
-use crate::known::{Known, inflow_of, known_head};
+use crate::branch::{Known, constant_inflow, known_head};
 use crate::links::{Links, Row};
 use crate::ramp::{Ramp, add_ramps};
 use cell_relax::{raise_to, sink_to};
@@ -20,12 +19,13 @@ const LIMIT: i128 = HEAD_LIMIT as i128;
 /// the opposite sign, whose floor is the ceiling.
 #[derive(Drop)]
 pub struct OneSide<'a> {
+    pub alloc: Global,
     problem: &'a Problem,
     pub side: Side,
     pub links: &'a Links,
     /// The pattern of the links, if elimination pays.
     pub pattern: Option<&'a Pattern>,
-    pub floor: Vec<i64>,
+    floor: Vec<i64>,
     knowns: Vec<Known>,
     ramps: Vec<Ramp>,
     // The constant flows into each cell.
@@ -33,7 +33,7 @@ pub struct OneSide<'a> {
 }
 
 /// A head in range, with the opposite sign on the upper side.
-pub fn turned(side: Side, head: i64) -> i64
+pub fn turned_head(side: Side, head: i64) -> i64
     ensures { IsHead result }
 {
     let head = head.clamp(-HEAD_LIMIT, HEAD_LIMIT);
@@ -53,20 +53,20 @@ fn ends(p: &Problem, side: Side, cell: usize, around: &[i64; 6], ends: &mut [i64
     let _cells = p.len();
     let links = p.cell(cell).links.as_slice();
     for i in 0..links.len() {
-        ends[i] = turned(side, around[i]);
+        ends[i] = turned_head(side, around[i]);
     }
     links.len()
 }
 
 impl OneSide<'_> {
-    /// A side of a problem with its links, and the floor of its heads, which has its sign.
+    /// A side of a problem with its links, above the floor or below the ceiling.
     pub fn new<'a>(
         alloc: Global,
         problem: &'a Problem,
         side: Side,
         links: &'a Links,
         pattern: Option<&'a Pattern>,
-        floor: Vec<i64>,
+        limits: &[i64],
     ) -> Result<OneSide<'a>, AllocError> {
         let mut knowns = Vec::new(alloc);
         let mut ramps = Vec::new(alloc);
@@ -77,14 +77,16 @@ impl OneSide<'_> {
                 knowns.push(known_head(side, fixed))?;
             }
             add_ramps(&mut ramps, side, cell)?;
-            inflows.push(inflow_of(side, cell))?;
+            inflows.push(constant_inflow(side, cell))?;
         }
+        let floor = limits.iter().map(|head| turned_head(side, *head));
         Ok(OneSide {
+            alloc,
             problem,
             side,
             links,
             pattern,
-            floor,
+            floor: floor.collect(alloc)?,
             knowns,
             ramps,
             inflows,
@@ -97,12 +99,12 @@ impl OneSide<'_> {
 
     /// A cell's branches to known heads.
     pub fn knowns(&self, row: &Row) -> &[Known] {
-        row.knowns(self.knowns.as_slice())
+        row.knowns.of(self.knowns.as_slice())
     }
 
     /// A cell's rivers, drains and evaporations.
     pub fn ramps(&self, row: &Row) -> &[Ramp] {
-        row.ramps(self.ramps.as_slice())
+        row.ramps.of(self.ramps.as_slice())
     }
 
     /// The balance of a cell without its ramps.
@@ -110,18 +112,18 @@ impl OneSide<'_> {
         let mut sum = long_at(self.inflows.as_slice(), cell);
         for edge in self.links.edges(row) {
             let rise = at(heads, edge.other as usize).wrapping_sub(own);
-            sum = sum.wrapping_add(inflow(edge.lo, edge.hi, rise));
+            sum = sum.wrapping_add(edge.branch.inflow(rise));
         }
         for known in self.knowns(row) {
-            let rise = known.head.wrapping_sub(own);
-            sum = sum.wrapping_add(inflow(known.lo, known.hi, rise));
+            sum = sum.wrapping_add(known.branch.inflow(known.head.wrapping_sub(own)));
         }
         sum
     }
 
-    /// The balance of a cell at a head of its own: the lower one, or the upper one with the opposite sign. It falls
-    /// in the cell's own head, and the cell may rise where it is not negative.
-    pub fn balance(&self, cell: usize, own: i64, heads: &[i64]) -> i128 {
+    /// The balance of a cell: the lower one, or the upper one with the opposite sign. It falls in the cell's own head, and the cell may rise
+    /// where it is not negative.
+    pub fn balance(&self, cell: usize, heads: &[i64]) -> i128 {
+        let own = at(heads, cell);
         let row = self.links.row(cell);
         let mut sum = self.straight_balance(cell, &row, own, heads);
         for ramp in self.ramps(&row) {
@@ -132,7 +134,7 @@ impl OneSide<'_> {
 
     /// The head to which a cell can be raised from `own`, where `around` are the heads of its links' other ends.
     pub fn raised_amid(&self, cell: usize, own: i64, around: &[i64; 6]) -> i64 {
-        let own = turned(self.side, own);
+        let own = turned_head(self.side, own);
         if self.problem.len() <= cell {
             return own;
         }
@@ -144,9 +146,34 @@ impl OneSide<'_> {
         }
     }
 
+    /// The floor of a cell's head.
+    pub fn floor(&self, cell: usize) -> i64 {
+        at(self.floor.as_slice(), cell)
+    }
+
+    /// Whether a cell whose head this is can't fall.
+    pub fn is_at_floor(&self, cell: usize, head: i64) -> bool {
+        head <= self.floor(cell)
+    }
+
     /// The nearest head that is in range and not below the floor.
     pub fn above_floor(&self, cell: usize, head: i128) -> i64 {
         let head = head.clamp(-LIMIT, LIMIT) as i64;
-        head.max(at(self.floor.as_slice(), cell))
+        head.max(self.floor(cell))
+    }
+
+    /// These heads, lowered by a way that depends on the cell; none below the floor.
+    pub fn heads_below<F: Fn(usize) -> i128>(
+        &self,
+        heads: &[i64],
+        way: F,
+    ) -> Result<Vec<i64>, AllocError>
+        requires { F.IsAlwaysCallable way }
+    {
+        let mut lower = Vec::with_capacity(self.alloc, heads.len())?;
+        for (cell, head) in heads.iter().enumerate() {
+            lower.push(self.above_floor(cell, (*head as i128).saturating_sub(way(cell))))?;
+        }
+        Ok(lower)
     }
 }

@@ -2,15 +2,14 @@
 ghost use Rattle.std.specs.Prelude.{IfOk};
 ghost use Rattle.cell_relax.specs.Words.{AreWords};
 
-use crate::guess::{bounds_of, side_of};
+use crate::guess::bounds_of;
 use crate::linear::Linear;
 use crate::links::Links;
 use crate::newton::{Until, find_balanced};
-use crate::one_side::{OneSide, turned};
-use crate::rest::{Rest, leave_rest};
-use crate::slopes::slopes_at;
+use crate::one_side::{OneSide, turned_head};
+use crate::rest::leave_rest;
 use crate::steps::{Kept, high_start, low_start};
-use multigrid::Budget;
+use crate::work::Work;
 use star_mesh::Pattern;
 use std::alloc::{AllocError, Global};
 use step_problem::{Barrier, Bound, Problem, Side};
@@ -32,104 +31,76 @@ struct HalfPair {
 
 // Whether the slopes at these heads are nearly those of the kept system.
 fn is_straight_to(
-    alloc: Global,
     side: &OneSide,
     heads: &[i64],
     kept: &Option<Linear>,
 ) -> Result<bool, AllocError> {
-    let slopes = slopes_at(alloc, side, heads)?;
+    let slopes = side.slopes(heads)?;
     Ok(match kept {
-        Some(linear) => linear.serves(slopes.as_slice()),
+        Some(linear) => linear.solver.is_near(slopes.as_slice()),
         None => false,
     })
 }
 
-// From heads that Newton's method finds.
-fn half_until(
-    alloc: Global,
-    side: &OneSide,
-    until: Until,
-    start: Vec<i64>,
+// The heads at which slopes are left `times` times, from these.
+fn half_from(
+    work: &mut Work,
+    near: Vec<i64>,
+    times: i64,
     kept: &mut Option<Linear>,
-    budget: &mut Budget,
 ) -> Result<HalfPair, AllocError> {
-    let near = find_balanced(alloc, side, until, start, kept, budget)?;
-    let lower = leave_rest(alloc, side, near.as_slice(), Rest::Once, kept, budget)?;
+    let lower = leave_rest(work, near.as_slice(), times, kept)?;
     Ok(HalfPair { near, lower })
 }
 
 // From heads about which balances are straight, else from balanced ones.
 fn half_pair(
-    alloc: Global,
-    side: &OneSide,
+    work: &mut Work,
     start: Vec<i64>,
     kept: &mut Option<Linear>,
-    budget: &mut Budget,
 ) -> Result<HalfPair, AllocError> {
-    let half = half_until(alloc, side, Until::Straight, start, kept, budget)?;
-    if is_straight_to(alloc, side, half.lower.as_slice(), kept)? {
+    let near = find_balanced(work, Until::Straight, start, kept)?;
+    let half = half_from(work, near, 1, kept)?;
+    if is_straight_to(work.side, half.lower.as_slice(), kept)? {
         return Ok(half);
     }
-    half_until(alloc, side, Until::Balanced, half.near, kept, budget)
+    let near = find_balanced(work, Until::Balanced, half.near, kept)?;
+    half_from(work, near, 1, kept)
 }
 
-// From the heads of the other side. None where balances bend between the two sides.
-fn half_beyond(
-    alloc: Global,
-    side: &OneSide,
-    start: Vec<i64>,
-    kept: &mut Option<Linear>,
-    budget: &mut Budget,
-) -> Result<Option<HalfPair>, AllocError> {
-    if !is_straight_to(alloc, side, start.as_slice(), kept)? {
-        return Ok(None);
-    }
-    let lower = leave_rest(alloc, side, start.as_slice(), Rest::Once, kept, budget)?;
-    if !is_straight_to(alloc, side, lower.as_slice(), kept)? {
-        return Ok(None);
-    }
-    Ok(Some(HalfPair { near: start, lower }))
-}
-
-// The upper side, from the lower one.
+// The upper side: from the lower heads, where balances are straight between the two sides, else from heads near the balanced ones.
 fn high_half(
-    alloc: Global,
-    side: &OneSide,
+    work: &mut Work,
     low: &HalfPair,
     kept: &mut Option<Linear>,
-    budget: &mut Budget,
 ) -> Result<HalfPair, AllocError> {
-    let start = high_start(alloc, low.lower.as_slice(), &None)?;
-    if let Some(half) = half_beyond(alloc, side, start, kept, budget)? {
-        return Ok(half);
+    let side = work.side;
+    let start = high_start(side.alloc, low.lower.as_slice(), &None)?;
+    if is_straight_to(side, start.as_slice(), kept)? {
+        let half = half_from(work, start, 1, kept)?;
+        if is_straight_to(side, half.lower.as_slice(), kept)? {
+            return Ok(half);
+        }
     }
-    let start = high_start(alloc, low.near.as_slice(), &None)?;
-    half_pair(alloc, side, start, kept, budget)
+    let start = high_start(side.alloc, low.near.as_slice(), &None)?;
+    half_pair(work, start, kept)
 }
 
-// From heads of a pair.
+// From the heads of a side of a pair.
 fn wider_half(
-    alloc: Global,
-    side: &OneSide,
-    near: Vec<i64>,
+    work: &mut Work,
+    pair: &[Bound],
     kept: &mut Option<Linear>,
-    budget: &mut Budget,
 ) -> Result<HalfPair, AllocError> {
-    let lower = leave_rest(alloc, side, near.as_slice(), Rest::Twice, kept, budget)?;
-    Ok(HalfPair { near, lower })
-}
-
-// The heads of one side of a pair, turned.
-fn heads_of(alloc: Global, side: Side, pair: &[Bound]) -> Result<Vec<i64>, AllocError> {
-    let mut heads = Vec::with_capacity(alloc, pair.len())?;
-    for bound in pair {
-        let head = match side {
+    let side = work.side;
+    let heads = pair.iter().map(|bound| {
+        let head = match side.side {
             Side::Low => bound.low,
             Side::High => bound.high,
         };
-        heads.push(turned(side, head))?;
-    }
-    Ok(heads)
+        turned_head(side.side, head)
+    });
+    half_from(work, heads.collect(side.alloc)?, 2, kept)
 }
 
 // Lowers turned heads so that they do not cross those of the other side.
@@ -146,32 +117,23 @@ fn pair_of(
     b: &Barrier,
     links: &Links,
     pattern: Option<&Pattern>,
-    narrow: Option<&[Bound]>,
+    failed: Option<&[Bound]>,
     visits: u64,
     kept: &mut Option<Linear>,
 ) -> Result<Vec<Bound>, AllocError>
     ensures { IfOk result (λ v. AreWords p.now v.items) }
 {
-    let side = side_of(alloc, p, Side::Low, links, pattern, b.floor.as_slice())?;
-    let mut budget = Budget::new(visits, p.len());
-    let low = match narrow {
-        None => {
-            let start = low_start(alloc, p, b, &None)?;
-            half_pair(alloc, &side, start, kept, &mut budget)?
-        }
-        Some(pair) => {
-            let heads = heads_of(alloc, Side::Low, pair)?;
-            wider_half(alloc, &side, heads, kept, &mut budget)?
-        }
+    let side = OneSide::new(alloc, p, Side::Low, links, pattern, b.floor.as_slice())?;
+    let mut work = Work::new(&side, visits);
+    let low = match failed {
+        None => half_pair(&mut work, low_start(alloc, p, b, &None)?, kept)?,
+        Some(pair) => wider_half(&mut work, pair, kept)?,
     };
-    let side = side_of(alloc, p, Side::High, links, pattern, b.ceiling.as_slice())?;
-    let mut budget = Budget::new(visits, p.len());
-    let mut high = match narrow {
-        None => high_half(alloc, &side, &low, kept, &mut budget)?,
-        Some(pair) => {
-            let heads = heads_of(alloc, Side::High, pair)?;
-            wider_half(alloc, &side, heads, kept, &mut budget)?
-        }
+    let side = OneSide::new(alloc, p, Side::High, links, pattern, b.ceiling.as_slice())?;
+    let mut work = Work::new(&side, visits);
+    let mut high = match failed {
+        None => high_half(&mut work, &low, kept)?,
+        Some(pair) => wider_half(&mut work, pair, kept)?,
     };
     keep_apart(high.lower.as_mut_slice(), low.lower.as_slice());
     bounds_of(alloc, p, low.lower.as_slice(), high.lower.as_slice())
@@ -180,76 +142,35 @@ fn pair_of(
 // Whether cycles have left a system unsolved.
 fn is_hard(kept: &Option<Linear>) -> bool {
     match kept {
-        Some(linear) => linear.cycled.is_hard,
+        Some(linear) => linear.is_hard,
         None => false,
     }
 }
 
-// With what is kept of the links.
-fn pair_by(
+/// Bounds of the heads that may be a certificate of a problem and a barrier: balanced heads, moved outwards so that each balance is about the
+/// slope at its cell, and rounded outwards. If a pair has failed, which may be any: heads moved from it so that each balance is about twice the
+/// slope. It begins with what the last pair or guess has kept, which may be that of any problem.
+pub fn guess_pair(
     alloc: Global,
     p: &Problem,
     b: &Barrier,
-    narrow: Option<&[Bound]>,
+    failed: Option<&[Bound]>,
     kept: &mut Kept,
 ) -> Result<Vec<Bound>, AllocError>
     ensures { IfOk result (λ v. AreWords p.now v.items) }
 {
     let links = Links::of(alloc, p)?;
-    if p.len() > MANY && !is_hard(&kept.linear) {
-        let pair = pair_of(
-            alloc,
-            p,
-            b,
-            &links,
-            None,
-            narrow,
-            FEW_VISITS,
-            &mut kept.linear,
-        )?;
-        if !is_hard(&kept.linear) {
+    let linear = &mut kept.linear;
+    if p.len() > MANY && !is_hard(linear) {
+        let pair = pair_of(alloc, p, b, &links, None, failed, FEW_VISITS, linear)?;
+        if !is_hard(linear) {
             return Ok(pair);
         }
     }
     let eliminable = kept.find_eliminable(alloc, &links)?;
     let pattern = eliminable.pattern();
-    let pair = pair_of(
-        alloc,
-        p,
-        b,
-        &links,
-        pattern,
-        narrow,
-        VISITS,
-        &mut kept.linear,
-    )?;
+    let linear = &mut kept.linear;
+    let pair = pair_of(alloc, p, b, &links, pattern, failed, VISITS, linear)?;
     kept.eliminable = eliminable;
     Ok(pair)
-}
-
-/// Bounds of the heads that may be a certificate of a problem and a barrier: balanced heads, moved outwards so that each balance is about the
-/// slope at its cell, and rounded outwards. It begins with what the last pair or guess has kept, which may be that of any problem.
-pub fn guess_pair(
-    alloc: Global,
-    p: &Problem,
-    b: &Barrier,
-    kept: &mut Kept,
-) -> Result<Vec<Bound>, AllocError>
-    ensures { IfOk result (λ v. AreWords p.now v.items) }
-{
-    pair_by(alloc, p, b, None, kept)
-}
-
-/// Bounds of the heads that are wider than a pair, which may be any: heads moved from it so that each balance is about twice the slope at its
-/// cell.
-pub fn guess_wider_pair(
-    alloc: Global,
-    p: &Problem,
-    b: &Barrier,
-    pair: &[Bound],
-    kept: &mut Kept,
-) -> Result<Vec<Bound>, AllocError>
-    ensures { IfOk result (λ v. AreWords p.now v.items) }
-{
-    pair_by(alloc, p, b, Some(pair), kept)
 }

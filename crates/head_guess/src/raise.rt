@@ -1,40 +1,32 @@
 // Raising heads until nothing moves.
-use crate::marks::{Marks, Order, Sweep};
+use crate::marks::{CELLS, Marks, Order, Sweep};
 use crate::nodes::Nodes;
-use crate::one_side::OneSide;
 use crate::state::State;
-use multigrid::Budget;
-use std::alloc::{AllocError, Global};
+use crate::work::Work;
+use std::alloc::AllocError;
 
-// Turns at the marked cells of one word.
+// Turns at the marked cells of one word. Returns whether a cell moved.
 fn turn_word(
-    side: &OneSide,
+    work: &mut Work,
     nodes: &mut Nodes,
     word: usize,
     order: Order,
     marks: &mut Marks,
-    budget: &mut Budget,
 ) -> bool {
     let mut moved = false;
     let mut sweep = Sweep::new(word, order);
-    for _ in 0..crate::marks::CELLS {
+    for _ in 0..CELLS {
         let Some(cell) = marks.take_next(&mut sweep) else {
             break;
         };
-        budget.spend(1);
-        moved |= nodes.turn(side, cell, marks);
+        work.budget.spend(1);
+        moved |= nodes.turn(work.side, cell, marks);
     }
     moved
 }
 
-// Turns at all marked cells.
-fn sweep(
-    side: &OneSide,
-    nodes: &mut Nodes,
-    order: Order,
-    marks: &mut Marks,
-    budget: &mut Budget,
-) -> bool {
+// Turns at all marked cells. Returns whether a cell moved.
+fn sweep(work: &mut Work, nodes: &mut Nodes, order: Order, marks: &mut Marks) -> bool {
     let mut moved = false;
     let words = marks.len();
     for k in 0..words {
@@ -43,7 +35,7 @@ fn sweep(
             Order::Down => words - 1 - k,
         };
         if marks.has_any(word) {
-            moved |= turn_word(side, nodes, word, order, marks, budget);
+            moved |= turn_word(work, nodes, word, order, marks);
         }
     }
     moved
@@ -52,13 +44,15 @@ fn sweep(
 const MOST_SWEEPS: u32 = 1_000_000;
 
 // Raises heads until nothing moves any more, or the budget ends. Returns whether nothing moves.
-fn raise(side: &OneSide, nodes: &mut Nodes, marks: &mut Marks, budget: &mut Budget) -> bool {
+fn raise(work: &mut Work, nodes: &mut Nodes) -> Result<bool, AllocError> {
+    let mut marks = Marks::new(work.side.alloc, work.side.len())?;
+    nodes.mark(&mut marks);
     let mut order = Order::Up;
     for _ in 0..MOST_SWEEPS {
-        if !sweep(side, nodes, order, marks, budget) {
-            return true;
+        if !sweep(work, nodes, order, &mut marks) {
+            return Ok(true);
         }
-        if budget.is_spent() {
+        if work.budget.is_spent() {
             break;
         }
         order = match order {
@@ -66,52 +60,42 @@ fn raise(side: &OneSide, nodes: &mut Nodes, marks: &mut Marks, budget: &mut Budg
             Order::Down => Order::Up,
         };
     }
-    false
+    Ok(false)
 }
 
 /// Whether heads settled, and the turns that it took.
 #[derive(Clone, Copy)]
 pub struct Raised {
-    pub settled: bool,
+    pub is_settled: bool,
     pub turns: u64,
 }
 
 /// Raises heads, none above its cap, by sweeps up and down over the cells that may rise, until nothing moves or
 /// `turns` turns are made.
 pub fn raise_within(
-    alloc: Global,
-    side: &OneSide,
+    work: &mut Work,
     state: &mut State,
     caps: Option<&[i64]>,
     turns: u64,
-    budget: &mut Budget,
 ) -> Result<Raised, AllocError> {
-    let mut nodes = Nodes::new(alloc, side, state, caps, u32::MAX)?;
-    let mut marks = Marks::new(alloc, state.heads.len())?;
-    nodes.mark(&mut marks);
-    let mut part = budget.split(turns);
-    let given = part.left();
-    let settled = raise(side, &mut nodes, &mut marks, &mut part);
-    nodes.leave(state);
-    budget.join(part);
-    Ok(Raised {
-        settled,
-        turns: given.saturating_sub(part.left()),
-    })
+    let mut nodes = Nodes::new(work.side, state, caps, u32::MAX)?;
+    let mut part = work.split(turns);
+    let given = part.budget.left();
+    let is_settled = raise(&mut part, &mut nodes)?;
+    nodes.write_to(state);
+    let turns = given.saturating_sub(part.budget.left());
+    work.join(part);
+    Ok(Raised { is_settled, turns })
 }
 
 /// Raises heads, each at most as often, until nothing moves. Returns which have risen as often.
 pub fn raise_counted(
-    alloc: Global,
-    side: &OneSide,
+    work: &mut Work,
     state: &mut State,
     rises: u32,
-    budget: &mut Budget,
 ) -> Result<Vec<bool>, AllocError> {
-    let mut nodes = Nodes::new(alloc, side, state, None, rises)?;
-    let mut marks = Marks::new(alloc, state.heads.len())?;
-    nodes.mark(&mut marks);
-    raise(side, &mut nodes, &mut marks, budget);
-    nodes.leave(state);
-    nodes.are_spent(alloc)
+    let mut nodes = Nodes::new(work.side, state, None, rises)?;
+    raise(work, &mut nodes)?;
+    nodes.write_to(state);
+    nodes.are_spent(work.side)
 }

@@ -1,15 +1,13 @@
 // Rivers, drains and evaporations of a turned side. Each is a ramp: a branch to a head, whose flow no longer changes where the cell's head
 // is below the ramp's foot or above its top.
-use crate::flows::{inflow, unit_loss};
-use crate::links::conductance;
+use crate::branch::Branch;
 use std::alloc::AllocError;
 use step_problem::{Cell, Drain, Evap, River, Side};
 
-/// The bounds of the conductance, the head at which the flow is 0, and the heads at the foot and at the top.
+/// The branch, the head at which its flow is 0, and the heads at the foot and at the top.
 #[derive(Clone, Copy)]
 pub struct Ramp {
-    lo: i64,
-    hi: i64,
+    branch: Branch,
     zero: i64,
     foot: i64,
     top: i64,
@@ -32,8 +30,7 @@ fn river_ramp(side: Side, river: &River) -> Ramp {
         Side::High => (river.stage_hi, river.bottom_lo),
     };
     Ramp {
-        lo: conductance(river.lo),
-        hi: conductance(river.hi),
+        branch: Branch::new(river.lo, river.hi),
         zero: stage,
         foot: bottom,
         top: NO_TOP,
@@ -41,10 +38,9 @@ fn river_ramp(side: Side, river: &River) -> Ramp {
 }
 
 // What flows out only, from an elevation on.
-fn outlet_ramp(conductance: i64, elevation: i64, top: i64) -> Ramp {
+fn outlet_ramp(conductance: u64, elevation: i64, top: i64) -> Ramp {
     Ramp {
-        lo: conductance,
-        hi: conductance,
+        branch: Branch::new(conductance, conductance),
         zero: elevation,
         foot: elevation,
         top,
@@ -53,15 +49,15 @@ fn outlet_ramp(conductance: i64, elevation: i64, top: i64) -> Ramp {
 
 fn drain_ramp(side: Side, drain: &Drain) -> Ramp {
     match side {
-        Side::Low => outlet_ramp(conductance(drain.hi), drain.elev_lo, NO_TOP),
-        Side::High => outlet_ramp(conductance(drain.lo), drain.elev_hi, NO_TOP),
+        Side::Low => outlet_ramp(drain.hi, drain.elev_lo, NO_TOP),
+        Side::High => outlet_ramp(drain.lo, drain.elev_hi, NO_TOP),
     }
 }
 
 fn evap_ramp(side: Side, evap: &Evap) -> Ramp {
     match side {
-        Side::Low => outlet_ramp(conductance(evap.hi), evap.ext_lo, evap.surf_hi),
-        Side::High => outlet_ramp(conductance(evap.lo), evap.ext_hi, evap.surf_lo),
+        Side::Low => outlet_ramp(evap.hi, evap.ext_lo, evap.surf_hi),
+        Side::High => outlet_ramp(evap.lo, evap.ext_hi, evap.surf_lo),
     }
 }
 
@@ -100,23 +96,27 @@ impl Ramp {
         }
     }
 
+    // The flow into the cell by the branch alone.
+    fn branch_flow(&self, own: i64) -> i128 {
+        self.branch.inflow(self.zero.wrapping_sub(own))
+    }
+
+    // What that falls by when the cell's head rises by a unit.
+    fn branch_fall(&self, own: i64) -> i64 {
+        self.branch.unit_loss(own.wrapping_sub(self.zero))
+    }
+
     /// The flow into the cell at its head.
     pub fn flow(&self, own: i64) -> i128 {
         let least = self.foot.min(self.top);
         let greatest = self.foot.max(self.top);
-        let reach = own.max(least).min(greatest);
-        inflow(self.lo, self.hi, self.zero.wrapping_sub(reach))
-    }
-
-    // What the flow falls by on the ramp when the cell's head rises by a unit.
-    fn slope(&self, own: i64) -> i64 {
-        unit_loss(self.lo, self.hi, own.wrapping_sub(self.zero))
+        self.branch_flow(own.max(least).min(greatest))
     }
 
     /// How far the flow falls when the cell's head rises by a unit.
     pub fn fall(&self, own: i64) -> i64 {
         let is_flat = own < self.foot.min(self.top) || own >= self.foot.max(self.top);
-        if is_flat { 0 } else { self.slope(own) }
+        if is_flat { 0 } else { self.branch_fall(own) }
     }
 
     /// Whether a head is above the top.
@@ -132,14 +132,12 @@ impl Ramp {
 
     /// The flow into the cell and its slope, where the ramp is flat by these bends alone: else it goes on beyond its foot and its top.
     pub fn piece(&self, side: Side, own: i64, bends: Bends) -> (i128, i64) {
-        let end = if self.is_topped(side, bends.top) {
-            self.top
+        if self.is_topped(side, bends.top) {
+            (self.branch_flow(self.top), 0)
         } else if is_above(side, self.foot, bends.foot) {
-            self.foot
+            (self.branch_flow(self.foot), 0)
         } else {
-            let flow = inflow(self.lo, self.hi, self.zero.wrapping_sub(own));
-            return (flow, self.slope(own));
-        };
-        (inflow(self.lo, self.hi, self.zero.wrapping_sub(end)), 0)
+            (self.branch_flow(own), self.branch_fall(own))
+        }
     }
 }

@@ -1,12 +1,11 @@
 // A search for settled heads below balanced ones.
 use crate::extent::{Extent, WHOLE, Width};
 use crate::links::Links;
-use crate::one_side::OneSide;
 use crate::raise::raise_within;
 use crate::state::State;
-use multigrid::Budget;
+use crate::work::Work;
 use multigrid::numbers::at;
-use std::alloc::{AllocError, Global};
+use std::alloc::AllocError;
 
 /// Heads near those at which each balance is 0, and the room at each cell there, in units of 2^-10.
 #[derive(Drop)]
@@ -44,22 +43,6 @@ const MOST_TRIALS: u32 = 60;
 // Trials that go up by what the turns of the last one promise; the next ones go four times as far.
 const SURE_TRIALS: u32 = 4;
 
-fn heads_below(
-    alloc: Global,
-    side: &OneSide,
-    balanced: &Balanced,
-    share: i64,
-) -> Result<Vec<i64>, AllocError> {
-    let mut heads = Vec::with_capacity(alloc, balanced.heads.len())?;
-    for cell in 0..balanced.heads.len() {
-        let head = at(balanced.heads.as_slice(), cell) as i128;
-        let room = at(balanced.room.as_slice(), cell) as i128;
-        let way = (share as i128).wrapping_mul(room).wrapping_shr(30);
-        heads.push(side.above_floor(cell, head.wrapping_sub(way)))?;
-    }
-    Ok(heads)
-}
-
 // The shares between which the search continues: one that settled, or the least, and one that did not, or the whole.
 #[derive(Drop)]
 struct Search {
@@ -71,31 +54,23 @@ struct Search {
 }
 
 impl Search {
-    fn new(side: &OneSide, balanced: &Balanced) -> Search {
-        Search {
-            low: -WHOLE / 4,
-            high: WHOLE,
-            trials: 0,
-            found: None,
-            extent: Extent::new(side.links, balanced.room.as_slice()),
-        }
-    }
-
     // One more trial, from this share.
     fn try_share(
         &mut self,
-        alloc: Global,
-        side: &OneSide,
+        work: &mut Work,
         balanced: &Balanced,
         share: i64,
-        budget: &mut Budget,
     ) -> Result<(), AllocError> {
-        let heads = heads_below(alloc, side, balanced, share)?;
-        let mut state = State::new(alloc, side, heads)?;
+        let way = |cell| {
+            let room = at(balanced.room.as_slice(), cell) as i128;
+            (share as i128).wrapping_mul(room).wrapping_shr(30)
+        };
+        let heads = work.side.heads_below(balanced.heads.as_slice(), way)?;
+        let mut state = State::new(work.side, heads)?;
         let turns = self.extent.most_turns(self.found.is_some());
-        let raised = raise_within(alloc, side, &mut state, None, turns, budget)?;
+        let raised = raise_within(work, &mut state, None, turns)?;
         self.trials = self.trials.saturating_add(1);
-        if raised.settled {
+        if raised.is_settled {
             self.low = share;
             self.found = Some(Settled {
                 state,
@@ -139,17 +114,21 @@ impl Search {
 
 /// Settled heads from balanced ones, with a share of the room that is nearly the greatest possible.
 pub fn settled_below(
-    alloc: Global,
-    side: &OneSide,
+    work: &mut Work,
     balanced: &Balanced,
     first: i64,
-    budget: &mut Budget,
 ) -> Result<Option<Settled>, AllocError> {
-    let mut search = Search::new(side, balanced);
+    let mut search = Search {
+        low: -WHOLE / 4,
+        high: WHOLE,
+        trials: 0,
+        found: None,
+        extent: Extent::new(work.side.links, balanced.room.as_slice()),
+    };
     let mut share = first;
     for _ in 0..MOST_TRIALS {
-        search.try_share(alloc, side, balanced, share, budget)?;
-        if search.is_done() || budget.is_spent() {
+        search.try_share(work, balanced, share)?;
+        if search.is_done() || work.budget.is_spent() {
             break;
         }
         share = search.next_share();

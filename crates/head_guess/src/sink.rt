@@ -5,8 +5,8 @@ use crate::links::Row;
 use crate::marks::{CELLS, Marks, Order, Sweep};
 use crate::one_side::OneSide;
 use crate::spot::{Depth, Pace, REST, Spot};
-use multigrid::numbers::{at, label, long_at, put};
-use std::alloc::{AllocError, Global};
+use multigrid::numbers::{label, long_at, put};
+use std::alloc::AllocError;
 
 const NO_SPOT: Spot = Spot {
     sum: 0,
@@ -39,7 +39,8 @@ fn narrow(number: i128) -> i64 {
 
 impl Sink {
     /// The set of the cells that have not burnt, which falls by at most these units.
-    pub fn new(alloc: Global, heads: &[i64], fire: &Fire, units: u32) -> Result<Sink, AllocError> {
+    pub fn new(side: &OneSide, heads: &[i64], fire: &Fire, units: u32) -> Result<Sink, AllocError> {
+        let alloc = side.alloc;
         let mut sink = Sink {
             spots: Vec::with_capacity(alloc, heads.len())?,
             edge: Marks::new(alloc, heads.len())?,
@@ -68,23 +69,17 @@ impl Sink {
         Ok(sink)
     }
 
-    /// Whether a cell is in the set.
-    pub fn has(&self, cell: usize) -> bool {
-        self.spot(cell).falls()
-    }
-
     /// The number of cells that were visited.
     pub fn visits(&self) -> u64 {
         self.visits
     }
 
     /// The heads of all cells.
-    pub fn heads(&self, alloc: Global) -> Result<Vec<i64>, AllocError> {
-        let mut heads = Vec::with_capacity(alloc, self.spots.len())?;
-        for spot in &self.spots {
-            heads.push(self.depth.own(spot))?;
-        }
-        Ok(heads)
+    pub fn heads(&self, side: &OneSide) -> Result<Vec<i64>, AllocError> {
+        self.spots
+            .iter()
+            .map(|spot| self.depth.own(spot))
+            .collect(side.alloc)
     }
 
     fn spot(&self, cell: usize) -> Spot {
@@ -97,30 +92,27 @@ impl Sink {
             return REST;
         }
         let own = self.depth.own(spot).wrapping_sub(1);
-        let room = spot.head.saturating_sub(at(side.floor.as_slice(), cell));
-        let mut until = if row.is_straight() {
-            self.depth.within(room)
-        } else {
-            0
-        };
+        let mut until = 0;
+        if row.is_straight() {
+            until = self
+                .depth
+                .within(spot.head.saturating_sub(side.floor(cell)));
+        }
         for known in side.knowns(row) {
             until = until.min(self.depth.end_of(own.wrapping_sub(known.head)));
         }
-        Pace {
-            rate: narrow(side.fall_beside_links(row, own, 1)),
-            until,
-        }
+        let rate = narrow(side.fall_beside_links(row, own, 1));
+        Pace { rate, until }
     }
 
-    // A cell with its pace found anew.
-    fn renewed(&self, side: &OneSide, cell: usize, spot: &Spot) -> Spot {
+    // Finds the pace of a cell anew.
+    fn renew_pace(&self, side: &OneSide, cell: usize, spot: &mut Spot) {
         let row = side.links.row(cell);
-        let mut renewed = spot.at_pace(self.own_pace(side, cell, &row, spot));
+        spot.set_pace(self.own_pace(side, cell, &row, spot));
         for edge in side.links.edges(&row) {
             let other = self.spot(edge.other as usize);
-            renewed = renewed.with_pace(self.depth.pace(edge, spot, &other));
+            spot.add_pace(self.depth.pace(edge.branch, spot, &other));
         }
-        renewed
     }
 
     // Writes a cell, and lists it if it is at the edge, is to join the set or is to leave it.
@@ -140,14 +132,14 @@ impl Sink {
     fn visit(&mut self, side: &OneSide, cell: usize) -> Result<(), AllocError> {
         let mut spot = self.spot(cell);
         if spot.until <= self.depth.units.saturating_add(1) {
-            spot = self.renewed(side, cell, &spot);
+            self.renew_pace(side, cell, &mut spot);
             if spot.falls() {
                 self.leaving.push(label(cell))?;
             }
         }
-        let sum = spot.sum.saturating_add(spot.rate);
+        spot.sum = spot.sum.saturating_add(spot.rate);
         self.visits = self.visits.saturating_add(1);
-        self.write(label(cell), Spot { sum, ..spot })
+        self.write(label(cell), spot)
     }
 
     fn visit_word(&mut self, side: &OneSide, word: usize) -> Result<(), AllocError> {
@@ -161,57 +153,47 @@ impl Sink {
         Ok(())
     }
 
-    fn is_at_floor(&self, side: &OneSide, cell: usize, spot: &Spot) -> bool {
-        self.depth.own(spot) <= at(side.floor.as_slice(), cell)
-    }
-
     // A cell joins the set, if it would not rise again by what those give that have burnt before it.
     fn join(&mut self, side: &OneSide, cell: usize) -> Result<(), AllocError> {
-        let spot = self.spot(cell);
-        if spot.falls() || spot.sum >= 0 || self.is_at_floor(side, cell, &spot) {
+        let mut spot = self.spot(cell);
+        if spot.falls() || spot.sum >= 0 || side.is_at_floor(cell, spot.head) {
             return Ok(());
         }
         let then = spot.burnt_at;
-        let mut joined = Spot {
-            head: spot.head.wrapping_add(self.depth.units as i64),
-            burnt_at: NEVER,
-            ..spot
-        };
+        spot.head = spot.head.wrapping_add(self.depth.units as i64);
+        spot.burnt_at = NEVER;
         let row = side.links.row(cell);
-        joined = joined.at_pace(self.own_pace(side, cell, &row, &joined));
+        spot.set_pace(self.own_pace(side, cell, &row, &spot));
         for edge in side.links.edges(&row) {
-            let near = self.spot(edge.other as usize);
-            let (own, near) = self.depth.join_beside(edge, joined, then, near);
-            joined = own;
+            let mut near = self.spot(edge.other as usize);
+            self.depth
+                .join_beside(edge.branch, &mut spot, then, &mut near);
             self.write(edge.other, near)?;
         }
         self.members = self.members.saturating_add(1);
         self.visits = self.visits.saturating_add(1);
-        self.write(label(cell), joined)
+        self.write(label(cell), spot)
     }
 
     // A cell leaves the set, if it would rise again, and stays where it is.
     fn leave(&mut self, side: &OneSide, cell: usize) -> Result<(), AllocError> {
-        let spot = self.spot(cell);
-        if !spot.falls() || spot.sum < 0 && !self.is_at_floor(side, cell, &spot) {
+        let mut spot = self.spot(cell);
+        let own = self.depth.own(&spot);
+        if !spot.falls() || spot.sum < 0 && !side.is_at_floor(cell, own) {
             return Ok(());
         }
-        let mut left = Spot {
-            head: self.depth.own(&spot),
-            burnt_at: self.next,
-            ..spot
-        }
-        .at_pace(REST);
+        spot.head = own;
+        spot.burnt_at = self.next;
+        spot.set_pace(REST);
         for edge in side.links.edges(&side.links.row(cell)) {
-            let near = self.spot(edge.other as usize);
-            let (own, near) = self.depth.leave_beside(edge, left, near);
-            left = own;
+            let mut near = self.spot(edge.other as usize);
+            self.depth.leave_beside(edge.branch, &mut spot, &mut near);
             self.write(edge.other, near)?;
         }
         self.next = self.next.saturating_add(1);
         self.members = self.members.saturating_sub(1);
         self.visits = self.visits.saturating_add(1);
-        self.write(label(cell), left)
+        self.write(label(cell), spot)
     }
 
     // Cells join the set while they would not rise again, and then leave it while they would.

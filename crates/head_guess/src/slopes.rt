@@ -1,10 +1,9 @@
 // Slopes of the cells' balances in their own heads.
-use crate::flows::{loss, unit_loss};
 use crate::links::Row;
 use crate::one_side::OneSide;
 use crate::ramp::Bends;
 use multigrid::numbers::at;
-use std::alloc::{AllocError, Global};
+use std::alloc::AllocError;
 use step_problem::Side;
 
 impl OneSide<'_> {
@@ -13,17 +12,16 @@ impl OneSide<'_> {
         let mut sum = 0_i64;
         for edge in self.links.edges(row) {
             let above = own.wrapping_sub(at(heads, edge.other as usize));
-            sum = sum.saturating_add(unit_loss(edge.lo, edge.hi, above));
+            sum = sum.saturating_add(edge.branch.unit_loss(above));
         }
         for known in self.knowns(row) {
-            let above = own.wrapping_sub(known.head);
-            sum = sum.saturating_add(unit_loss(known.lo, known.hi, above));
+            sum = sum.saturating_add(known.branch.unit_loss(own.wrapping_sub(known.head)));
         }
         sum
     }
 
-    /// How far a balance falls when its cell's head rises by a unit from `own`.
-    pub fn fall(&self, row: &Row, own: i64, heads: &[i64]) -> i64 {
+    // How far a balance falls when its cell's head rises by a unit from `own`.
+    fn unit_fall(&self, row: &Row, own: i64, heads: &[i64]) -> i64 {
         let mut sum = self.straight_fall(row, own, heads);
         for ramp in self.ramps(row) {
             sum = sum.saturating_add(ramp.fall(own));
@@ -36,12 +34,13 @@ impl OneSide<'_> {
         let mut sum = 0_i128;
         for known in self.knowns(row) {
             let above = own.wrapping_sub(known.head);
-            sum = sum.wrapping_add(loss(known.lo, known.hi, above, units));
+            sum = sum.wrapping_add(known.branch.loss(above, units));
         }
         let end = own.wrapping_add(units);
         for ramp in self.ramps(row) {
-            let fall = ramp.flow(own).wrapping_sub(ramp.flow(end));
-            sum = sum.wrapping_add(fall);
+            sum = sum
+                .wrapping_add(ramp.flow(own))
+                .wrapping_sub(ramp.flow(end));
         }
         sum
     }
@@ -50,8 +49,8 @@ impl OneSide<'_> {
     pub fn slope(&self, cell: usize, heads: &[i64]) -> i64 {
         let row = self.links.row(cell);
         let own = at(heads, cell);
-        let left = self.fall(&row, own.saturating_sub(1), heads);
-        left.max(self.fall(&row, own, heads)).max(1)
+        let left = self.unit_fall(&row, own.saturating_sub(1), heads);
+        left.max(self.unit_fall(&row, own, heads)).max(1)
     }
 
     /// A head as much higher, before it was turned.
@@ -89,13 +88,13 @@ impl OneSide<'_> {
         self.ramps(&self.links.row(cell)).iter().any(|ramp| ramp.is_topped(self.side, one)
             != ramp.is_topped(self.side, other))
     }
-}
 
-/// The slope at each cell.
-pub fn slopes_at(alloc: Global, side: &OneSide, heads: &[i64]) -> Result<Vec<i64>, AllocError> {
-    let mut slopes = Vec::with_capacity(alloc, heads.len())?;
-    for cell in 0..heads.len() {
-        slopes.push(side.slope(cell, heads))?;
+    /// The slope of each balance.
+    pub fn slopes(&self, heads: &[i64]) -> Result<Vec<i64>, AllocError> {
+        let mut slopes = Vec::with_capacity(self.alloc, heads.len())?;
+        for cell in 0..heads.len() {
+            slopes.push(self.slope(cell, heads))?;
+        }
+        Ok(slopes)
     }
-    Ok(slopes)
 }

@@ -1,7 +1,6 @@
 // A cell beside a set that falls as one, or of it: how its balance changes by the next unit, and when others join the set or leave it.
+use crate::branch::Branch;
 use crate::burn::NEVER;
-use crate::flows::{unit_gain, unit_loss};
-use crate::links::Edge;
 
 /// A cell that has burnt, or that falls with the set.
 #[derive(Clone, Copy)]
@@ -41,46 +40,21 @@ impl Spot {
         self.rate != 0 || self.until != NEVER
     }
 
-    /// The same with this pace alone.
-    pub fn at_pace(self, pace: Pace) -> Spot {
-        Spot {
-            rate: pace.rate,
-            until: pace.until,
-            ..self
-        }
+    /// Gives it this pace alone.
+    pub fn set_pace(&mut self, pace: Pace) {
+        self.rate = pace.rate;
+        self.until = pace.until;
     }
 
-    /// The same with a pace more.
-    pub fn with_pace(self, pace: Pace) -> Spot {
-        Spot {
-            rate: self.rate.saturating_add(pace.rate),
-            until: self.until.min(pace.until),
-            ..self
-        }
+    /// Adds a pace.
+    pub fn add_pace(&mut self, pace: Pace) {
+        self.rate = self.rate.saturating_add(pace.rate);
+        self.until = self.until.min(pace.until);
     }
 
-    // The same with a pace less. It is found anew no later than it was to be.
-    fn without_pace(self, pace: Pace) -> Spot {
-        Spot {
-            rate: self.rate.saturating_sub(pace.rate),
-            ..self
-        }
-    }
-
-    // The same with a greater sum.
-    fn with_sum(self, more: i64) -> Spot {
-        Spot {
-            sum: self.sum.saturating_add(more),
-            ..self
-        }
-    }
-
-    // The same with a lesser sum.
-    fn without_sum(self, less: i64) -> Spot {
-        Spot {
-            sum: self.sum.saturating_sub(less),
-            ..self
-        }
+    // Takes a pace away. It is found anew no later than it was to be.
+    fn subtract_pace(&mut self, pace: Pace) {
+        self.rate = self.rate.saturating_sub(pace.rate);
     }
 }
 
@@ -121,71 +95,69 @@ impl Depth {
 
     // How far a cell of the set is above one that has burnt.
     fn above(&self, falling: &Spot, burnt: &Spot) -> i64 {
-        let units = self.units as i64;
-        falling.head.wrapping_sub(units).wrapping_sub(burnt.head)
+        self.own(falling).wrapping_sub(burnt.head)
     }
 
     // The pace of a cell of the set by one that has burnt, as far below.
-    fn growth(&self, edge: &Edge, above: i64) -> Pace {
+    fn growth(&self, branch: Branch, above: i64) -> Pace {
         let next = above.wrapping_sub(1);
         Pace {
-            rate: unit_loss(edge.lo, edge.hi, next),
+            rate: branch.unit_loss(next),
             until: self.end_of(next),
         }
     }
 
     // The pace of a cell that has burnt by one of the set, as far above.
-    fn loss(&self, edge: &Edge, above: i64) -> Pace {
+    fn loss(&self, branch: Branch, above: i64) -> Pace {
         let next = above.wrapping_sub(2);
         Pace {
-            rate: 0_i64.saturating_sub(unit_gain(edge.lo, edge.hi, next)),
+            rate: 0_i64.saturating_sub(branch.unit_gain(next)),
             until: self.end_of(next),
         }
     }
 
     /// The pace of a cell by another one.
-    pub fn pace(&self, edge: &Edge, spot: &Spot, other: &Spot) -> Pace {
+    pub fn pace(&self, branch: Branch, spot: &Spot, other: &Spot) -> Pace {
         match (spot.falls(), other.falls()) {
-            (true, false) => self.growth(edge, self.above(spot, other)),
-            (false, true) => self.loss(edge, self.above(other, spot)),
+            (true, false) => self.growth(branch, self.above(spot, other)),
+            (false, true) => self.loss(branch, self.above(other, spot)),
             _ => REST,
         }
     }
 
-    /// A cell that has left the set, and one that it is linked with.
-    pub fn leave_beside(&self, edge: &Edge, left: Spot, near: Spot) -> (Spot, Spot) {
+    /// Changes a cell that has left the set, and one that it is linked with.
+    pub fn leave_beside(&self, branch: Branch, left: &mut Spot, near: &mut Spot) {
         if near.falls() {
-            let above = self.above(&near, &left);
-            let held = held_below(edge, above);
-            let near = near.with_sum(held).with_pace(self.growth(edge, above));
-            return (left.with_pace(self.loss(edge, above)), near);
+            let above = self.above(near, left);
+            near.sum = near.sum.saturating_add(gain_below(branch, above));
+            near.add_pace(self.growth(branch, above));
+            left.add_pace(self.loss(branch, above));
+        } else {
+            let above = left.head.wrapping_sub(near.head);
+            near.subtract_pace(self.loss(branch, above));
         }
-        let above = left.head.wrapping_sub(near.head);
-        (left, near.without_pace(self.loss(edge, above)))
     }
 
-    /// A cell that has joined the set, which burnt then, and one that it is linked with.
-    pub fn join_beside(&self, edge: &Edge, joined: Spot, then: u32, near: Spot) -> (Spot, Spot) {
+    /// Changes a cell that has joined the set, which burnt then, and one that it is linked with.
+    pub fn join_beside(&self, branch: Branch, joined: &mut Spot, then: u32, near: &mut Spot) {
         if near.falls() {
             let above = near.head.wrapping_sub(joined.head);
-            let near = near.without_sum(held_below(edge, above));
-            return (joined, near.without_pace(self.growth(edge, above)));
+            near.sum = near.sum.saturating_sub(gain_below(branch, above));
+            near.subtract_pace(self.growth(branch, above));
+            return;
         }
-        let above = self.above(&joined, &near);
-        let joined = joined.with_pace(self.growth(edge, above));
-        let near = near.with_pace(self.loss(edge, above));
-        if near.burnt_at < then {
-            return (joined, near);
+        let above = self.above(joined, near);
+        joined.add_pace(self.growth(branch, above));
+        near.add_pace(self.loss(branch, above));
+        if near.burnt_at >= then {
+            let gain = branch.unit_gain(above.wrapping_sub(1));
+            joined.sum = joined.sum.saturating_add(gain_below(branch, above));
+            near.sum = near.sum.saturating_sub(gain);
         }
-        let held = unit_gain(edge.lo, edge.hi, above.wrapping_sub(1));
-        (
-            joined.with_sum(held_below(edge, above)),
-            near.without_sum(held),
-        )
     }
 }
 
 // What a cell gives to the balance of one that is above it, more than if it were a unit lower.
-fn held_below(edge: &Edge, above: i64) -> i64 {
-    unit_gain(edge.lo, edge.hi, (-1_i64).wrapping_sub(above))
+fn gain_below(branch: Branch, above: i64) -> i64 {
+    branch.unit_gain((-1_i64).wrapping_sub(above))
 }

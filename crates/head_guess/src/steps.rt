@@ -3,7 +3,7 @@ use crate::eliminable::Eliminable;
 use crate::half::Ended;
 use crate::linear::Linear;
 use crate::links::Links;
-use crate::one_side::turned;
+use crate::one_side::turned_head;
 use multigrid::numbers::{at, cut};
 use std::alloc::{AllocError, Global};
 use std::mem::replace;
@@ -79,18 +79,22 @@ impl Kept {
         alloc: Global,
         links: &Links,
     ) -> Result<Eliminable, AllocError> {
-        replace(&mut self.eliminable, Eliminable::Unknown).known(alloc, links)
+        let eliminable = replace(&mut self.eliminable, Eliminable::Unknown);
+        if eliminable.may_be_of(links) {
+            return Ok(eliminable);
+        }
+        Eliminable::of(alloc, links)
     }
 
     // Takes the last step out, if both sides settled there. None where this step has no storage, since steady heads may be far from
     // the last ones, or where it has other cells.
     pub(crate) fn take_last(&mut self, p: &Problem) -> Option<LastStep> {
         let last = self.last.take()?;
-        let serves = last.low.is_settled
+        let is_like = last.low.is_settled
             && last.high.is_settled
             && last.low.balanced.len() == p.len()
             && has_storage(p);
-        if serves { Some(last) } else { None }
+        if is_like { Some(last) } else { None }
     }
 }
 
@@ -107,13 +111,12 @@ fn first_head(p: &Problem, b: &Barrier, cell: usize) -> i64 {
 }
 
 // Heads as far from the first ones as these are from those before them.
-fn continued(alloc: Global, before: &[i64], heads: &[i64]) -> Result<Vec<i64>, AllocError> {
-    let mut next = Vec::with_capacity(alloc, heads.len())?;
-    for (cell, head) in heads.iter().enumerate() {
+fn continued_heads(alloc: Global, before: &[i64], heads: &[i64]) -> Result<Vec<i64>, AllocError> {
+    let next = heads.iter().enumerate().map(|(cell, head)| {
         let way = *head as i128 - at(before, cell) as i128;
-        next.push(turned(Side::Low, cut((*head as i128).wrapping_add(way))))?;
-    }
-    Ok(next)
+        turned_head(Side::Low, cut((*head as i128).wrapping_add(way)))
+    });
+    next.collect(alloc)
 }
 
 /// Where the balanced lower heads start: as far from those of the last step as these were from the ones before.
@@ -125,18 +128,17 @@ pub fn low_start(
 ) -> Result<Vec<i64>, AllocError> {
     if let Some(last) = last {
         if let Some(before) = &last.before {
-            return continued(alloc, before.low.as_slice(), last.low.balanced.as_slice());
+            let heads = last.low.balanced.as_slice();
+            return continued_heads(alloc, before.low.as_slice(), heads);
         }
     }
-    let mut heads = Vec::with_capacity(alloc, p.len())?;
-    for cell in 0..p.len() {
-        heads.push(first_head(p, b, cell))?;
-    }
-    Ok(heads)
+    (0..p.len())
+        .map(|cell| first_head(p, b, cell))
+        .collect(alloc)
 }
 
 // How far the balanced heads of a cell will be apart, as they were in the last step and before it.
-fn apart(last: &LastStep, cell: usize) -> i128 {
+fn units_apart(last: &LastStep, cell: usize) -> i128 {
     let low = at(last.low.balanced.as_slice(), cell) as i128;
     let apart = low.wrapping_add(at(last.high.balanced.as_slice(), cell) as i128);
     match &last.before {
@@ -155,10 +157,12 @@ pub fn high_start(
     low: &[i64],
     last: &Option<LastStep>,
 ) -> Result<Vec<i64>, AllocError> {
-    let mut heads = Vec::with_capacity(alloc, low.len())?;
-    for (cell, head) in low.iter().enumerate() {
-        let apart = last.as_ref().map_or(0, |last| apart(last, cell));
-        heads.push(turned(Side::Low, cut(apart.wrapping_sub(*head as i128))))?;
-    }
-    Ok(heads)
+    let heads = low.iter().enumerate().map(|(cell, head)| {
+        let apart = match last {
+            Some(last) => units_apart(last, cell),
+            None => 0,
+        };
+        turned_head(Side::Low, cut(apart.wrapping_sub(*head as i128)))
+    });
+    heads.collect(alloc)
 }

@@ -1,6 +1,6 @@
 // Multigrid cycles as the preconditioner of conjugate gradients, on each level.
 use crate::budget::Budget;
-use crate::gradients::{advance, begin, is_small};
+use crate::gradients::{advance, begin};
 use crate::level::Level;
 use crate::smoother::{prolong, restrict, smooth_down, smooth_up};
 
@@ -30,7 +30,7 @@ fn correct(levels: &mut [Level], budget: &mut Budget) {
 
 fn is_solved(levels: &[Level], bits: u32) -> bool {
     match levels.first() {
-        Some(level) => is_small(level, bits),
+        Some(level) => level.matrix.is_small(level.residual.as_slice(), bits),
         None => true,
     }
 }

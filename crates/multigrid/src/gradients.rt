@@ -1,6 +1,5 @@
 // Steps of flexible conjugate gradients on one level.
 use crate::level::Level;
-use crate::matrix::inflow;
 use crate::numbers::{at, cut, put};
 use crate::scaled::{inner_product, times};
 
@@ -8,17 +7,6 @@ use crate::scaled::{inner_product, times};
 pub fn begin(level: &mut Level) {
     level.solution.as_mut_slice().fill(0);
     level.direction.as_mut_slice().fill(0);
-}
-
-/// Whether each residual is below 2^bits of its pivot.
-pub fn is_small(level: &Level, bits: u32) -> bool {
-    let most = 1_u128.wrapping_shl(bits);
-    level
-        .matrix
-        .rows
-        .iter()
-        .zip(level.residual.as_slice())
-        .all(|(row, residual)| row.pivot.size(*residual) < most)
 }
 
 // The next direction: the correction, made conjugate to the last direction.
@@ -33,25 +21,13 @@ fn turn(level: &mut Level) {
 
 // The matrix times the direction.
 fn apply(level: &mut Level) {
-    for i in 0..level.matrix.rows.len() {
+    for i in 0..level.matrix.len() {
         let row = level.matrix.row(i);
-        let inflow = inflow(level.matrix.couplings(&row), level.direction.as_slice());
+        let inflow = level.matrix.inflow(&row, level.direction.as_slice());
         let own = row.pivot.times(at(level.direction.as_slice(), i));
         put(level.image.as_mut_slice(), i, own.wrapping_sub(inflow));
     }
     level.energy = inner_product(level.direction.as_slice(), level.image.as_slice());
-}
-
-fn advance_solution(solution: &mut [i64], direction: &[i64], factor: i64) {
-    for (x, d) in solution.iter_mut().zip(direction) {
-        *x = cut((*x as i128).wrapping_add(times(factor, *d as i128)));
-    }
-}
-
-fn advance_residual(residual: &mut [i128], image: &[i128], factor: i64) {
-    for (r, q) in residual.iter_mut().zip(image) {
-        *r = r.wrapping_sub(times(factor, *q));
-    }
 }
 
 /// Moves along the next direction, as far as the residual falls. Returns whether there was a direction.
@@ -63,15 +39,11 @@ pub fn advance(level: &mut Level) -> bool {
     }
     let along = inner_product(level.direction.as_slice(), level.residual.as_slice());
     let factor = along.over(level.energy);
-    advance_solution(
-        level.solution.as_mut_slice(),
-        level.direction.as_slice(),
-        factor,
-    );
-    advance_residual(
-        level.residual.as_mut_slice(),
-        level.image.as_slice(),
-        factor,
-    );
+    for (x, d) in level.solution.iter_mut().zip(level.direction.as_slice()) {
+        *x = cut((*x as i128).wrapping_add(times(factor, *d as i128)));
+    }
+    for (r, q) in level.residual.iter_mut().zip(level.image.as_slice()) {
+        *r = r.wrapping_sub(times(factor, *q));
+    }
     true
 }

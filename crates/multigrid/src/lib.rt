@@ -16,4 +16,4 @@ mod smoother;
 
 pub use budget::Budget;
 pub use levels::Levels;
-pub use matrix::{Matrix, inflow};
+pub use matrix::Matrix;

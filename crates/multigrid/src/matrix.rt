@@ -1,5 +1,5 @@
 // A sparse matrix by rows.
-use crate::numbers::{at, cut};
+use crate::numbers::{at, cut, long_at};
 use std::alloc::{AllocError, Global};
 
 /// An entry off the diagonal: the other unknown, and the weight, which is negated in the matrix.
@@ -63,7 +63,7 @@ pub struct Row {
 /// are added to it until it is closed.
 #[derive(Drop)]
 pub struct Matrix {
-    pub rows: Vec<Row>,
+    rows: Vec<Row>,
     couplings: Vec<Coupling>,
     // The place where the open row begins.
     open: usize,
@@ -116,10 +116,32 @@ impl Matrix {
 
     /// The couplings of a row.
     pub fn couplings(&self, row: &Row) -> &[Coupling] {
-        self.couplings
-            .as_slice()
-            .get(row.first..row.end)
-            .unwrap_or(&[])
+        self.couplings.get(row.first..row.end).unwrap_or(&[])
+    }
+
+    /// The sum of the other unknowns by the weights of a row's couplings.
+    pub fn inflow(&self, row: &Row, unknowns: &[i64]) -> i128 {
+        let mut sum = 0_i128;
+        for coupling in self.couplings(row) {
+            let other = at(unknowns, coupling.other as usize);
+            sum = sum.wrapping_add(coupling.weight as i128 * other as i128);
+        }
+        sum
+    }
+
+    /// What a residual is at an unknown, once the matrix times these unknowns is taken from it.
+    pub fn residual_at(&self, unknown: usize, residual: &[i128], unknowns: &[i64]) -> i128 {
+        let row = self.row(unknown);
+        long_at(residual, unknown)
+            .wrapping_add(self.inflow(&row, unknowns))
+            .wrapping_sub(row.pivot.times(at(unknowns, unknown)))
+    }
+
+    /// Whether each residual is below 2^bits of its pivot.
+    pub fn is_small(&self, residual: &[i128], bits: u32) -> bool {
+        let most = 1_u128.wrapping_shl(bits);
+        let mut rows = self.rows.iter().zip(residual);
+        rows.all(|(row, residual)| row.pivot.size(*residual) < most)
     }
 
     /// The row of an unknown; a row without couplings past the last one.
@@ -130,14 +152,4 @@ impl Matrix {
             pivot: Pivot::new(1),
         })
     }
-}
-
-/// The sum of the other unknowns by the weights of a row's couplings.
-pub fn inflow(couplings: &[Coupling], unknowns: &[i64]) -> i128 {
-    let mut sum = 0_i128;
-    for coupling in couplings {
-        let other = at(unknowns, coupling.other as usize);
-        sum = sum.wrapping_add(coupling.weight as i128 * other as i128);
-    }
-    sum
 }

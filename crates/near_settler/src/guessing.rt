@@ -35,48 +35,11 @@ fn settle_by_guess<S: Guesser>(
     settle_near(&mut trial, &mut no_rounds, alloc, p, b, near, TRIALS)
 }
 
-// What a settler keeps from one step of a run to the next, so that a step takes less time.
-#[derive(Drop)]
-struct Course {
-    kept: Kept,
-    // Whether a guess settled the last problem.
-    is_guessed: bool,
-}
-
-impl Course {
-    // As before the first step.
-    fn new() -> Course {
-        Course {
-            kept: Kept::new(),
-            is_guessed: false,
-        }
-    }
-
-    // From a guess by trials on one thread. Unfinished where none of them certifies the settled pair; then nothing is kept.
-    fn settle<S: Guesser>(
-        &mut self,
-        guesser: &S,
-        alloc: Global,
-        p: &Problem,
-        b: &Barrier,
-    ) -> Result<Vec<Bound>, SettleFault>
-        requires { IsBarrier p.now b.now }
-        ensures { Settles p.now b.now 0 result }
-    {
-        let settled = settle_by_guess(guesser, alloc, p, b, &mut self.kept);
-        self.is_guessed = settled.is_ok();
-        if !self.is_guessed {
-            self.kept = Kept::new();
-        }
-        settled
-    }
-}
-
-/// A guesser, and what a settler keeps for it from one step to the next.
+/// A guesser, and what the last guess kept if it settled its problem, so that the next step takes less time.
 #[derive(Drop)]
 pub(crate) struct Guessing<S: Guesser> {
     guesser: S,
-    course: Cell<Course>,
+    kept: Cell<Option<Kept>>,
 }
 
 impl<S: Guesser> Guessing<S> {
@@ -84,16 +47,16 @@ impl<S: Guesser> Guessing<S> {
     pub(crate) fn new(guesser: S) -> Guessing<S> {
         Guessing {
             guesser,
-            course: Cell::new(Course::new()),
+            kept: Cell::new(None),
         }
     }
 
     /// Whether a guess settled the last problem.
     pub(crate) fn has_guessed(&self) -> bool {
-        let course = self.course.replace(Course::new());
-        let is_guessed = course.is_guessed;
-        self.course.set(course);
-        is_guessed
+        let kept = self.kept.replace(None);
+        let has_guessed = kept.is_some();
+        self.kept.set(kept);
+        has_guessed
     }
 
     /// From a guess by trials on one thread. Unfinished where none of them certifies the settled pair; then nothing is kept.
@@ -106,9 +69,14 @@ impl<S: Guesser> Guessing<S> {
         requires { IsBarrier p.now b.now }
         ensures { Settles p.now b.now 0 result }
     {
-        let mut course = self.course.replace(Course::new());
-        let settled = course.settle(&self.guesser, alloc, p, b);
-        self.course.set(course);
+        let mut kept = match self.kept.replace(None) {
+            Some(kept) => kept,
+            None => Kept::new(),
+        };
+        let settled = settle_by_guess(&self.guesser, alloc, p, b, &mut kept);
+        if settled.is_ok() {
+            self.kept.set(Some(kept));
+        }
         settled
     }
 }

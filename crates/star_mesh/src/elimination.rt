@@ -44,8 +44,8 @@ impl Divisor {
 // Weights are raised by this number of bits, so that the greatest diagonal is below 2^61.
 fn scale_of(matrix: &Matrix) -> u32 {
     let mut greatest = 0_i64;
-    for row in &matrix.rows {
-        greatest = greatest.max(row.pivot.weight());
+    for unknown in 0..matrix.len() {
+        greatest = greatest.max(matrix.row(unknown).pivot.weight());
     }
     61_u32.saturating_sub(width(greatest as i128))
 }
@@ -99,11 +99,8 @@ impl Elimination<'_> {
         let rows = self.pattern.rows_between(later, end);
         let parts = range(self.parts.as_slice(), later, end);
         for (row, part) in rows.iter().zip(parts) {
-            add(
-                self.weights.as_mut_slice(),
-                *row as usize,
-                share(weight, *part),
-            );
+            let weight = share(weight, *part);
+            add(self.weights.as_mut_slice(), *row as usize, weight);
         }
     }
 
@@ -112,11 +109,8 @@ impl Elimination<'_> {
         if entry < end {
             let row = self.pattern.row(entry);
             put(self.entries.as_mut_slice(), column, entry);
-            put(
-                self.nexts.as_mut_slice(),
-                column,
-                label_at(self.firsts.as_slice(), row),
-            );
+            let next = label_at(self.firsts.as_slice(), row);
+            put(self.nexts.as_mut_slice(), column, next);
             put(self.firsts.as_mut_slice(), row, label(column));
         }
     }

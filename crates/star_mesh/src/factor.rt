@@ -2,8 +2,8 @@
 use crate::elimination::{Elimination, eliminate};
 use crate::pattern::Pattern;
 use crate::substitution::{substitute_back, substitute_forward};
+use multigrid::Matrix;
 use multigrid::numbers::{at, cut, long_at, put, shifted};
-use multigrid::{Matrix, inflow};
 use std::alloc::{AllocError, Global};
 
 // Solutions of the residual that a solution leaves.
@@ -57,11 +57,8 @@ impl Factor {
     fn correct(&mut self, pattern: &Pattern) {
         for place in 0..pattern.len() {
             let flow = long_at(self.residual.as_slice(), pattern.unknown(place));
-            put(
-                self.flows.as_mut_slice(),
-                place,
-                shifted(flow, self.scale as i64),
-            );
+            let flow = shifted(flow, self.scale as i64);
+            put(self.flows.as_mut_slice(), place, flow);
         }
         substitute_forward(pattern, self.parts.as_slice(), self.flows.as_mut_slice());
         substitute_back(
@@ -72,11 +69,8 @@ impl Factor {
             self.unknowns.as_mut_slice(),
         );
         for (place, unknown) in self.unknowns.iter().enumerate() {
-            put(
-                self.correction.as_mut_slice(),
-                pattern.unknown(place),
-                *unknown,
-            );
+            let index = pattern.unknown(place);
+            put(self.correction.as_mut_slice(), index, *unknown);
         }
     }
 
@@ -85,28 +79,14 @@ impl Factor {
         for i in 0..self.matrix.len() {
             let own = at(self.correction.as_slice(), i);
             let solution = at(self.solution.as_slice(), i) as i128;
-            put(
-                self.solution.as_mut_slice(),
-                i,
-                cut(solution.wrapping_add(own as i128)),
-            );
-            let row = self.matrix.row(i);
-            let inflow = inflow(self.matrix.couplings(&row), self.correction.as_slice());
-            let residual = long_at(self.residual.as_slice(), i)
-                .wrapping_add(inflow)
-                .wrapping_sub(row.pivot.times(own));
-            put(self.residual.as_mut_slice(), i, residual);
+            let solution = cut(solution.wrapping_add(own as i128));
+            put(self.solution.as_mut_slice(), i, solution);
+            let residual = self.residual.as_slice();
+            let left = self
+                .matrix
+                .residual_at(i, residual, self.correction.as_slice());
+            put(self.residual.as_mut_slice(), i, left);
         }
-    }
-
-    // Whether each residual is below 2^bits of its diagonal.
-    fn is_solved(&self, bits: u32) -> bool {
-        let most = 1_u128.wrapping_shl(bits);
-        self.matrix
-            .rows
-            .iter()
-            .zip(self.residual.as_slice())
-            .all(|(row, residual)| row.pivot.size(*residual) < most)
     }
 
     /// An approximate solution of the system: until each row's residual is below 2^bits of its diagonal, or has been solved for
@@ -116,7 +96,7 @@ impl Factor {
         for _ in 0..=REFINEMENTS {
             self.correct(pattern);
             self.advance();
-            if self.is_solved(bits) {
+            if self.matrix.is_small(self.residual.as_slice(), bits) {
                 break;
             }
         }

@@ -34,11 +34,8 @@ fn count_rows(alloc: Global, tree: Tree, columns: usize) -> Result<Vec<usize>, A
     for row in 0..columns {
         for column in tree.add_row(row)? {
             let count = value(counts.as_slice(), *column as usize, 0);
-            put(
-                counts.as_mut_slice(),
-                *column as usize,
-                count.saturating_add(1),
-            );
+            let count = count.saturating_add(1);
+            put(counts.as_mut_slice(), *column as usize, count);
         }
     }
     Ok(counts)
