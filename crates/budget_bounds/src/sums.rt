@@ -14,7 +14,7 @@ use step_problem::{Bound, Cell, Dir, Term};
 /// What a term, or the magnitudes of the flows between two zones, must stay below, in units of 10^-(s+9) flow units.
 pub const TERM_LIMIT: i128 = 1 << 126;
 
-fn positive(flow: i128) -> i128
+fn positive_part(flow: i128) -> i128
     requires { flow ≤ℤ pos (2 ^ 123) }
     ensures value { result ≡ int_max flow (pos 0) }
     ensures above { pos 0 ≤ℤ result }
@@ -31,12 +31,12 @@ fn part_of(dir: Dir, flow: TermPair) -> TermPair
 {
     match dir {
         Dir::In => TermPair {
-            lo: positive(flow.lo),
-            hi: positive(flow.hi),
+            lo: positive_part(flow.lo),
+            hi: positive_part(flow.hi),
         },
         Dir::Out => TermPair {
-            lo: positive(-flow.hi),
-            hi: positive(-flow.lo),
+            lo: positive_part(-flow.hi),
+            hi: positive_part(-flow.lo),
         },
     }
 }

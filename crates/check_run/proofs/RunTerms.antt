@@ -10,7 +10,7 @@ use Rattle.cell_balance.specs.Components.{sum_below}
 use Rattle.budget_bounds.specs.Singles.{singles}
 use Rattle.budget_bounds.proofs.Caps.{parts_lo, parts_hi}
 use Rattle.problem_builder.proofs.ActiveCells.{and_true}
-use Rattle.listing_io.proofs.Written.{same_ok, goes, clash}
+use Rattle.listing_io.proofs.Each.{same_ok, goes, clash}
 
 -- what goes on was not refused
 record Goes {A B E : Type 0} (r : Result A E) (f : A → Result B E) (y : B) : Type 0 where

@@ -102,7 +102,8 @@ pub fn check_listing(
     requires listing { AreListed decks.now.first (pairs_in decks.now.first (option_map (λ z. z.now) zones)) listing.now }
     // The listing's one verdict.
     ensures verdict { IfOk result (IsVerdict limits decks.now s (option_map (λ z. z.now) zones.entry) listing.now) }
-    ensures only { IfOk result (λ v. (other : ListingVerdict) → IsVerdict limits decks.now s (option_map (λ z. z.now) zones.entry) listing.now other → other ≡ v) }
+    ensures only { IfOk result (λ v. (other : ListingVerdict) →
+        IsVerdict limits decks.now s (option_map (λ z. z.now) zones.entry) listing.now other → other ≡ v) }
     // Where it is certified, every history that solves the model, or that lies between the two, lies within it, whoever
     // wrote it.
     ensures encloses { IfOk result (λ v. v ≡ Certified → ListingEncloses decks.now s (option_map (λ z. z.now) zones.entry) listing.now) }

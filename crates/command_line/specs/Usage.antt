@@ -1,5 +1,5 @@
--- The line where the words aren't accepted. It names neither `write NAME`, nor `--zones` of `check`, nor `--to` of both, nor
--- `--quick` of `run` and `batch`, which are accepted too.
+-- The line where the words aren't accepted. It names neither `write NAME`, nor `--zones` of `check`, nor `--to` of `run` and `check`,
+-- nor `--quick` of `run` and `batch`, nor `--wide` of all commands but `make`, which are accepted too.
 use Rattle.std.specs.Prelude.{List, ℕ, codes}
 
 abbrev pub usage_line : List ℕ

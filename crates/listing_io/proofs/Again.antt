@@ -1,18 +1,15 @@
 -- What is written is read again.
-use Rattle.listing_io.proofs.Common.{◌≡◌, ℕ, ◌+◌, ◌≤◌, Bool, true, false, cond, List, [], ◌∷◌, ◌++◌, length, codes, map, nat_abs, All, refl, sym, ap, ◌∙◌}
-use Rattle.listing_io.proofs.Common.{subst, arith, ℤ, pos, negsuc, Ok, slice_index_or, ints, AllByRecursion, AllZip, append_assoc, recursion_from_All}
-use Rattle.listing_io.proofs.Common.{bytes_eq-Decides, next_number, for_each, Bound, Dir, In, Out, Term, Storage, ConstantHead, Wells, Drains, RiverLeakage}
-use Rattle.listing_io.proofs.Common.{HeadDepBounds, Recharge, Et, ZoneFlow, IsHead, head_limit, no_bound, term_name, TermPair, no_pair, FlowModel, TimeStep}
-use Rattle.listing_io.proofs.Common.{is_active, times, ZonePair, zones_of_flow, ListedStep, digits_behind, Form, IsForm, pair_line, Line, first_line, step_line}
-use Rattle.listing_io.proofs.Common.{head_form, head_front, head_line, head_lines, head_pair, dir_front, term_form, term_line, term_lines, has_evt, flow_form}
-use Rattle.listing_io.proofs.Common.{zone_front, zone_line, zone_pair, step_lines, all_step_lines, end_line, listing, Left, pair_at, text_at, head_if, heads_at}
-use Rattle.listing_io.proofs.Common.{term_at, term_if, terms_at, flow_at, step_with, step_at, first_at, listing_at, AreCellBounds, IsFlowPair, AreFlows}
-use Rattle.listing_io.proofs.Common.{AreFlowsAt, AreTerms, IsListedStep, AreListed}
+use Rattle.listing_io.proofs.Common.{◌≡◌, ℕ, ◌+◌, ◌≤◌, Bool, true, false, cond, List, [], ◌∷◌, ◌++◌, length, codes, map, nat_abs, refl, ap, ◌∙◌, subst, arith}
+use Rattle.listing_io.proofs.Common.{ℤ, pos, negsuc, Ok, ints, AllByRecursion, AllZip, append_assoc, recursion_from_All, bytes_eq-Decides, next_number}
+use Rattle.listing_io.proofs.Common.{for_each, Bound, Dir, In, Out, Term, Storage, ZoneFlow, IsHead, head_limit, no_bound, term_name, TermPair, FlowModel}
+use Rattle.listing_io.proofs.Common.{TimeStep, is_active, times, ZonePair, zones_of_flow, ListedStep, digits_behind, Form, IsForm, pair_line, Line, first_line}
+use Rattle.listing_io.proofs.Common.{step_line, head_form, head_front, head_line, head_lines, head_pair, dir_front, term_form, term_lines, has_evt, flow_form}
+use Rattle.listing_io.proofs.Common.{zone_front, zone_line, zone_pair, step_lines, all_step_lines, end_line, listing, pair_at, text_at, head_if, heads_at}
+use Rattle.listing_io.proofs.Common.{term_if, terms_at, flow_at, step_with, step_at, first_at, listing_at, AreCellBounds, IsFlowPair, AreFlows, AreFlowsAt}
+use Rattle.listing_io.proofs.Common.{AreTerms, IsListedStep, AreListed, all_terms, is_printed, each_lines}
 use Rattle.listing_io.proofs.Exactly.{line_whole}
-use Rattle.listing_io.proofs.Written.{eight_lines, lines_in, lines_out, grouped}
-
-abbrev pub left_of : List Line → ℕ → Left
-left_of rows n = record { lines = rows; number = n }
+use Rattle.listing_io.proofs.Each.{left_of, grouped, each_again}
+use Rattle.listing_io.proofs.Terms.{line_if, term_rows, IsPairIf, IsTermPair, terms_good, lines_in, lines_out}
 
 -- two numbers that a line can have
 pub record Fits (f : Form) (p : TermPair) : Type 0 where
@@ -46,13 +43,7 @@ head_fits b l h = record { form = head_is_form; lo = head_small b.low l; hi = he
 name_behind : (t : Term) (n : ℕ) → digits_behind n (codes " " ++ term_name t) ≡ n
 unfolding digits_behind
 name_behind Storage n = refl
-name_behind ConstantHead n = refl
-name_behind Wells n = refl
-name_behind Drains n = refl
-name_behind RiverLeakage n = refl
-name_behind HeadDepBounds n = refl
-name_behind Recharge n = refl
-name_behind Et n = refl
+name_behind other n = refl
 
 pub term_is_form : (s : ℕ) (t : Term) → s ≤ 18 → IsForm (term_form s t)
 term_is_form s t h = record { some = omega arith; few = omega arith; small = omega arith; behind = name_behind t }
@@ -100,89 +91,19 @@ heads_again m c (b ∷ bs) rest n h =
     (k, rw (grouped row (head_lines m (c + 1) bs) rest, one, others) refl)
 
 -- the terms
-term_again : (s : ℕ) (dir : Dir) (t : Term) (p : TermPair) (rest : List Line) (n : ℕ) → s ≤ 18 → IsFlowPair p → term_at s dir t (left_of (term_line s dir t p ∷ rest) n) ≡ Ok (p, left_of rest (next_number n))
-term_again s dir t p rest n few h = pair_again (dir_front dir) (term_form s t) p rest n (term_fits s t p few h)
+term_again : (flag : Bool) (s : ℕ) (dir : Dir) (t : Term) (p : TermPair) (rest : List Line) (n : ℕ) → s ≤ 18 → IsPairIf flag p → (k : ℕ) × (term_if flag s dir t (left_of (line_if flag s dir t p ++ rest) n) ≡ Ok (p, left_of rest k))
+term_again true s dir t p rest n few h = (next_number n, pair_again (dir_front dir) (term_form s t) p rest n (term_fits s t p few h.small))
+term_again false s dir t p rest n few h = (n, rw (h.none refl) refl)
 
-et_again : (evt : Bool) (s : ℕ) (dir : Dir) (x : TermPair) (rest : List Line) (n : ℕ) → s ≤ 18 → IsFlowPair x → (evt ≡ false → x ≡ no_pair)
-    → (k : ℕ) × (term_if evt s dir (left_of (cond evt (term_line s dir Et x ∷ []) [] ++ rest) n) ≡ Ok (x, left_of rest k))
-et_again true s dir x rest n few h none = (next_number n, term_again s dir Et x rest n few h)
-et_again false s dir x rest n few h none = (n, rw (none refl) refl)
-
--- eight terms in their order
-pub record Eight (pairs : List TermPair) : Type 0 where
-  pub a : TermPair
-  pub b : TermPair
-  pub c : TermPair
-  pub d : TermPair
-  pub e : TermPair
-  pub f : TermPair
-  pub g : TermPair
-  pub x : TermPair
-  pub are : pairs ≡ a ∷ b ∷ c ∷ d ∷ e ∷ f ∷ g ∷ x ∷ []
-
-pub eight_of : (pairs : List TermPair) → length pairs ≡ 8 → Eight pairs
-eight_of [] h = absurd (omega (arith, h))
-eight_of (a ∷ []) h = absurd (omega (arith, h))
-eight_of (a ∷ b ∷ []) h = absurd (omega (arith, h))
-eight_of (a ∷ b ∷ c ∷ []) h = absurd (omega (arith, h))
-eight_of (a ∷ b ∷ c ∷ d ∷ []) h = absurd (omega (arith, h))
-eight_of (a ∷ b ∷ c ∷ d ∷ e ∷ []) h = absurd (omega (arith, h))
-eight_of (a ∷ b ∷ c ∷ d ∷ e ∷ f ∷ []) h = absurd (omega (arith, h))
-eight_of (a ∷ b ∷ c ∷ d ∷ e ∷ f ∷ g ∷ []) h = absurd (omega (arith, h))
-eight_of (a ∷ b ∷ c ∷ d ∷ e ∷ f ∷ g ∷ x ∷ []) h = record { a = a; b = b; c = c; d = d; e = e; f = f; g = g; x = x; are = refl }
-eight_of (a ∷ b ∷ c ∷ d ∷ e ∷ f ∷ g ∷ x ∷ y ∷ ys) h = absurd (omega (arith, h))
-
-eight_again : (evt : Bool) (s : ℕ) (dir : Dir) (a b c d e f g x : TermPair) (rest : List Line) (n : ℕ) → s ≤ 18 → AllByRecursion IsFlowPair (a ∷ b ∷ c ∷ d ∷ e ∷ f ∷ g ∷ x ∷ []) → (evt ≡ false → x ≡ no_pair)
-    → (k : ℕ) × (terms_at evt s dir (left_of (eight_lines evt s dir a b c d e f g x ++ rest) n) ≡ Ok (a ∷ b ∷ c ∷ d ∷ e ∷ f ∷ g ∷ x ∷ [], left_of rest k))
+-- the terms of the model in one direction
+terms_again : (m : FlowModel) (s : ℕ) (dir : Dir) (rows : List Line) (pairs : List TermPair) (rest : List Line) (n : ℕ) → s ≤ 18 → AreTerms m pairs → each_lines (term_rows (has_evt m) s dir) all_terms pairs ≡ rows
+    → (k : ℕ) × (terms_at (has_evt m) s dir (left_of (rows ++ rest) n) ≡ Ok (pairs, left_of rest k))
 unfolding terms_at
-eight_again evt s dir a b c d e f g x rest n few small none =
-    let (ha, (hb, (hc, (hd, (he, (hf, (hg, (hx, done)))))))) = small in
-    let r7 = cond evt (term_line s dir Et x ∷ []) [] ++ rest in
-    let r6 = term_line s dir Recharge g ∷ r7 in
-    let r5 = term_line s dir HeadDepBounds f ∷ r6 in
-    let r4 = term_line s dir RiverLeakage e ∷ r5 in
-    let r3 = term_line s dir Drains d ∷ r4 in
-    let r2 = term_line s dir Wells c ∷ r3 in
-    let r1 = term_line s dir ConstantHead b ∷ r2 in
-    let n1 = next_number n in
-    let n2 = next_number n1 in
-    let n3 = next_number n2 in
-    let n4 = next_number n3 in
-    let n5 = next_number n4 in
-    let n6 = next_number n5 in
-    let n7 = next_number n6 in
-    let (k, last) = et_again evt s dir x rest n7 few hx none in (
-      k,
-      rw (
-        term_again s dir Storage a r1 n few ha,
-        term_again s dir ConstantHead b r2 n1 few hb,
-        term_again s dir Wells c r3 n2 few hc,
-        term_again s dir Drains d r4 n3 few hd,
-        term_again s dir RiverLeakage e r5 n4 few he,
-        term_again s dir HeadDepBounds f r6 n5 few hf,
-        term_again s dir Recharge g r7 n6 few hg,
-        last,
-      ) refl,
-    )
-
--- a list of eight terms of the model
-record TermsAgain (m : FlowModel) (s : ℕ) (dir : Dir) (rows : List Line) (pairs : List TermPair) (rest : List Line) (n : ℕ) : Type 0 where
-  number : ℕ
-  is : terms_at (has_evt m) s dir (left_of (rows ++ rest) n) ≡ Ok (pairs, left_of rest number)
-
-terms_again : (m : FlowModel) (s : ℕ) (dir : Dir) (rows : List Line) (pairs : List TermPair) (rest : List Line) (n : ℕ) (parts : Eight pairs) → s ≤ 18 → AreTerms m pairs
-    → eight_lines (has_evt m) s dir parts.a parts.b parts.c parts.d parts.e parts.f parts.g parts.x ≡ rows → TermsAgain m s dir rows pairs rest n
-terms_again m s dir rows pairs rest n parts few h are =
-    let small = moved pairs _ parts.are h.small in
-    let none = λ (e : has_evt m ≡ false). last_is pairs parts.a parts.b parts.c parts.d parts.e parts.f parts.g parts.x parts.are (h.no_et e) in
-    let (k, read) = eight_again (has_evt m) s dir parts.a parts.b parts.c parts.d parts.e parts.f parts.g parts.x rest n few small none in
-    record { number = k; is = ap (λ (t : List Line). terms_at (has_evt m) s dir (left_of (t ++ rest) n)) (sym are) ∙ read ∙ ap (λ (ps : List TermPair). Ok (ps, left_of rest k)) (sym parts.are) }
-  where
-    moved : (ps qs : List TermPair) → ps ≡ qs → All IsFlowPair ps → AllByRecursion IsFlowPair qs
-    moved ps qs e h = rw (← e) (recursion_from_All IsFlowPair ps h)
-
-    last_is : (ps : List TermPair) (a b c d e f g x : TermPair) → ps ≡ a ∷ b ∷ c ∷ d ∷ e ∷ f ∷ g ∷ x ∷ [] → slice_index_or ps 7 no_pair ≡ no_pair → x ≡ no_pair
-    last_is ps a b c d e f g x are h = ap (λ (qs : List TermPair). slice_index_or qs 7 no_pair) (sym are) ∙ h
+terms_again m s dir rows pairs rest n few h are =
+    let evt = has_evt m in
+    let read = λ (t : Term). term_if (is_printed evt t) s dir t in
+    let P : List Line → Type 0 = λ t. (k : ℕ) × (for_each read all_terms (left_of (t ++ rest) n) ≡ Ok (pairs, left_of rest k)) in
+    subst P are (each_again read (term_rows evt s dir) (IsTermPair evt) (λ t p rest n good. term_again (is_printed evt t) s dir t p rest n few good) all_terms pairs rest n (terms_good m pairs h))
 
 pub step_again : (m : FlowModel) (s : ℕ) (zs : List ZonePair) (at : TimeStep) (x : ListedStep) (rest : List Line) (n : ℕ) → s ≤ 18 → IsListedStep m x → AreFlows zs x.zones → (k : ℕ) × (step_with m s zs at (left_of (step_lines m s at x.heads x.budget x.zones ++ rest) n) ≡ Ok (x, left_of rest k))
 unfolding step_with step_lines
@@ -190,29 +111,32 @@ step_again m s zs at x rest n few h g =
     let heads = head_lines m 0 x.heads in
     let into = term_lines m s In x.budget in
     let out = term_lines m s Out x.budget in
-    let i = eight_of x.budget.into h.into.eight in
-    let o = eight_of x.budget.out h.out.eight in
     let flows = map (zone_line s) x.zones in
     let (j, heads_read) = heads_again m 0 x.heads (into ++ (out ++ (flows ++ rest))) (next_number n) h.heads in
-    let into_read = terms_again m s In into x.budget.into (out ++ (flows ++ rest)) j i few h.into (lines_in m s x.budget.into x.budget.out i.a i.b i.c i.d i.e i.f i.g i.x i.are) in
-    let out_read = terms_again m s Out out x.budget.out (flows ++ rest) into_read.number o few h.out (lines_out m s x.budget.into x.budget.out o.a o.b o.c o.d o.e o.f o.g o.x o.are) in
-    let (k, listed) = flows_again s x.zones rest out_read.number few (recursion_from_All IsSmall x.zones g.small) in
-    let F : List ZonePair → Type 0 = λ ps. for_each (flow_at s) ps (left_of (flows ++ rest) out_read.number) ≡ Ok (x.zones, left_of rest k) in
-    let flows_read : for_each (flow_at s) zs (left_of (flows ++ rest) out_read.number) ≡ Ok (x.zones, left_of rest k) = subst F g.pairs listed in
-    (k, ap (λ (t : List Line). step_with m s zs at (left_of (step_line at ∷ t) n)) (regroup heads into out flows rest) ∙ rw (text_again (step_line at) (heads ++ (into ++ (out ++ (flows ++ rest)))) n, ← h.whole, heads_read, into_read.is, out_read.is, flows_read) refl)
+    let (into_number, into_read) = terms_again m s In into x.budget.into (out ++ (flows ++ rest)) j few h.into (lines_in m s x.budget h.into.eight) in
+    let (out_number, out_read) = terms_again m s Out out x.budget.out (flows ++ rest) into_number few h.out (lines_out m s x.budget h.out.eight) in
+    let (k, listed) = flows_again s x.zones rest out_number few (recursion_from_All IsSmall x.zones g.small) in
+    let F : List ZonePair → Type 0 = λ ps. for_each (flow_at s) ps (left_of (flows ++ rest) out_number) ≡ Ok (x.zones, left_of rest k) in
+    let flows_read : for_each (flow_at s) zs (left_of (flows ++ rest) out_number) ≡ Ok (x.zones, left_of rest k) = subst F g.pairs listed in
+    (k, ap (λ (t : List Line). step_with m s zs at (left_of (step_line at ∷ t) n)) (regroup heads into out flows rest) ∙ rw (text_again (step_line at) (heads ++ (into ++ (out ++ (flows ++ rest)))) n, ← h.whole, heads_read, into_read, out_read, flows_read) refl)
   where
     regroup : (a b c f d : List Line) → (a ++ (b ++ (c ++ f))) ++ d ≡ a ++ (b ++ (c ++ (f ++ d)))
     regroup a b c f d = simp append_assoc
 
-pub steps_again : (m : FlowModel) (s : ℕ) (pairs : ℕ → List ZonePair) (ats : List TimeStep) (xs : List ListedStep) (rest : List Line) (n : ℕ) → s ≤ 18 → length xs ≡ length ats → AllByRecursion (IsListedStep m) xs → AllZip (AreFlowsAt pairs) ats xs → (k : ℕ) × (for_each (step_at m s pairs) ats (left_of (all_step_lines m s ats xs ++ rest) n) ≡ Ok (xs, left_of rest k))
-unfolding for_each all_step_lines
-steps_again m s pairs [] [] rest n few same h g = (n, refl)
-steps_again m s pairs [] (x ∷ xs) rest n few same h g = absurd (omega (arith, same))
-steps_again m s pairs (at ∷ ats) [] rest n few same h g = absurd (omega (arith, same))
-steps_again m s pairs (at ∷ ats) (x ∷ xs) rest n few same h g =
-    let (j, one) = step_again m s (pairs at.period) at x (all_step_lines m s ats xs ++ rest) n few h.0 g.0 in
-    let (k, others) = steps_again m s pairs ats xs rest j few (omega (arith, same)) h.1 g.1 in
-    (k, rw (grouped (step_lines m s at x.heads x.budget x.zones) (all_step_lines m s ats xs) rest, one, others) refl)
+-- a step of a listing, with its flows
+abbrev pub IsStepAt : FlowModel → (ℕ → List ZonePair) → TimeStep → ListedStep → Type 0
+IsStepAt m pairs at x = IsListedStep m x × AreFlowsAt pairs at x
+
+pub steps_at : (m : FlowModel) (pairs : ℕ → List ZonePair) (ats : List TimeStep) (xs : List ListedStep) → AllByRecursion (IsListedStep m) xs → AllZip (AreFlowsAt pairs) ats xs → AllZip (IsStepAt m pairs) ats xs
+steps_at m pairs [] [] h g = tt
+steps_at m pairs [] (x ∷ xs) h g = absurd g
+steps_at m pairs (at ∷ ats) [] h g = absurd g
+steps_at m pairs (at ∷ ats) (x ∷ xs) h g = ((h.0, g.0), steps_at m pairs ats xs h.1 g.1)
+
+steps_again : (m : FlowModel) (s : ℕ) (pairs : ℕ → List ZonePair) (ats : List TimeStep) (xs : List ListedStep) (rest : List Line) (n : ℕ) → s ≤ 18 → AllZip (IsStepAt m pairs) ats xs → (k : ℕ) × (for_each (step_at m s pairs) ats (left_of (all_step_lines m s ats xs ++ rest) n) ≡ Ok (xs, left_of rest k))
+unfolding all_step_lines
+steps_again m s pairs ats xs rest n few h =
+    each_again (step_at m s pairs) (λ at x. step_lines m s at x.heads x.budget x.zones) (IsStepAt m pairs) (λ at x rest n good. step_again m s (pairs at.period) at x rest n few good.0 good.1) ats xs rest n h
 
 first_again : (between : Bool) (m : FlowModel) (s : ℕ) (rest : List Line) (n : ℕ) → first_at between m s (left_of (first_line between m s ∷ rest) n) ≡ Ok (left_of rest (next_number n))
 unfolding first_at
@@ -223,5 +147,5 @@ first_again true m s rest n = rw ((bytes_eq-Decides (first_line true m s) (first
 pub rows_again : (between : Bool) (m : FlowModel) (s : ℕ) (pairs : ℕ → List ZonePair) (steps : List ListedStep) → s ≤ 18 → AreListed m pairs steps → listing_at between m s pairs (left_of (listing between m s steps) 1) ≡ Ok steps
 unfolding listing_at listing
 rows_again between m s pairs steps few h =
-    let (k, read) = steps_again m s pairs (times m) steps (end_line ∷ []) (next_number 1) few h.whole (recursion_from_All (IsListedStep m) steps h.steps) h.flows in
+    let (k, read) = steps_again m s pairs (times m) steps (end_line ∷ []) (next_number 1) few (steps_at m pairs (times m) steps (recursion_from_All (IsListedStep m) steps h.steps) h.flows) in
     rw (first_again between m s (all_step_lines m s (times m) steps ++ (end_line ∷ [])) 1, read, text_again end_line [] k) refl

@@ -16,20 +16,23 @@ pub use Rattle.std.specs.Fmt.{signed_decimal}
 pub use Rattle.std.specs.List.{AllByRecursion, AllZip, flat_map, list_all, position_or_len, range_with_len}
 pub use Rattle.std.specs.Str.{bytes_eq}
 pub use Rattle.std.specs.Str.Parse.{AllDigits, digits_value_after}
-pub use Rattle.budget_bounds.specs.Terms.{bounds_in, no_pair}
+pub use Rattle.budget_bounds.specs.Singles.{place_of}
+pub use Rattle.budget_bounds.specs.Terms.{all_terms, no_pair}
+pub use Rattle.budget_bounds.specs.declared.pair.Budget.{Budget}
 pub use Rattle.budget_bounds.specs.declared.pair.TermPair.{TermPair}
 pub use Rattle.fixed_text.specs.Fixed.{fixed_text, padded, sign}
 pub use Rattle.listing_io.specs.Forms.{Form, IsForm, IsPairLine, LinesReadExactly, behind_word, first_word, is_within, pair_line}
 unfoldable pub use Rattle.listing_io.specs.Forms.{candidate, pair_in}
 pub use Rattle.listing_io.specs.Laws.{AreZonePairs, IsListing, IsTime, IsWritable, ListingsAreApart, ListingsAreReadAgain, ListingsWereWritten}
 pub use Rattle.listing_io.specs.Listed.{AreCellBounds, AreFlows, AreFlowsAt, AreListed, AreTerms, IsCellBound, IsFlowPair, IsListedStep}
-pub use Rattle.listing_io.specs.Listing.{Line, dir_front, end_line, ended, first_line, flow_form, has_evt, head_form, head_front, head_line, head_pair}
-pub use Rattle.listing_io.specs.Listing.{model_line, numbers_text, printed_terms, step_line, term_form, term_line, text_of, zone_front, zone_line, zone_pair}
+pub use Rattle.listing_io.specs.Listing.{Line, dir_front, each_lines, end_line, ended, first_line, flow_form, has_evt, head_form, head_front, head_line}
+pub use Rattle.listing_io.specs.Listing.{head_pair, model_line, numbers_text, printed_terms, step_line, term_form, term_line, text_of, zone_front, zone_line}
+pub use Rattle.listing_io.specs.Listing.{zone_pair}
 unfoldable pub use Rattle.listing_io.specs.Listing.{all_step_lines, head_lines, listing, step_lines, step_text, term_lines}
 pub use Rattle.listing_io.specs.Numbers.{is_negative, value_of, with_byte}
 unfoldable pub use Rattle.listing_io.specs.Numbers.{digits_behind}
-pub use Rattle.listing_io.specs.Reading.{Has, Left, Stops, all_lines, bound_of, first_line_before, first_of, flow_of, head_if, is_first, line_at, none_of}
-pub use Rattle.listing_io.specs.Reading.{or_refused, over_at, step_at, term_at, term_if}
+pub use Rattle.listing_io.specs.Reading.{Has, Left, Stops, all_lines, bound_of, first_line_before, first_of, flow_of, head_if, is_first, is_printed, line_at}
+pub use Rattle.listing_io.specs.Reading.{none_of, or_refused, over_at, step_at, term_if}
 unfoldable pub use Rattle.listing_io.specs.Reading.{first_at, flow_at, heads_at, listing_at, pair_at, step_with, terms_at, text_at}
 unfoldable pub use Rattle.listing_io.specs.Views.{variable_lines}
 pub use Rattle.listing_io.specs.declared.fault.Fault.{Fault}

@@ -1,17 +1,17 @@
 -- No line of a listing has a line feed, so the lines of its text are the listing's.
 use Rattle.listing_io.proofs.Common.{◌≡◌, ℕ, zero, suc, ◌+◌, ◌/◌, ◌%◌, ◌<◌, ◌≤◌, ◌^◌, Bool, true, false, cond, List, [], ◌∷◌, ◌++◌, length, codes, map, decimal}
 use Rattle.listing_io.proofs.Common.{nat_abs, All, refl, sym, ap, ◌∙◌, subst, arith, ℤ, pos, negsuc, AllByRecursion, AllZip, recursion_from_All, flat_map-cons}
-use Rattle.listing_io.proofs.Common.{lines, Bound, Dir, In, Out, Term, Storage, ConstantHead, Wells, Drains, RiverLeakage, HeadDepBounds, Recharge, Et}
-use Rattle.listing_io.proofs.Common.{ZoneFlow, term_name, TermPair, fixed_text, Grid, FlowModel, TimeStep, layer_size, place, is_active, times, ZonePair}
-use Rattle.listing_io.proofs.Common.{zones_of_flow, ListedStep, Form, pair_line, Line, ended, text_of, numbers_text, first_line, step_line, head_form}
-use Rattle.listing_io.proofs.Common.{head_front, head_line, head_lines, head_pair, dir_front, term_form, term_line, term_lines, has_evt, flow_form, zone_front}
-use Rattle.listing_io.proofs.Common.{zone_line, zone_pair, step_lines, all_step_lines, end_line, listing, listing_at, AreCellBounds, IsFlowPair, AreFlows}
-use Rattle.listing_io.proofs.Common.{AreFlowsAt, AreTerms, IsListedStep, AreListed, AreZonePairs, IsTime, IsWritable, ListingsAreReadAgain, model_line}
-use Rattle.listing_io.proofs.Common.{signed_decimal}
+use Rattle.listing_io.proofs.Common.{lines, Bound, Dir, In, Out, Term, Storage, ZoneFlow, term_name, TermPair, fixed_text, Grid, FlowModel, TimeStep}
+use Rattle.listing_io.proofs.Common.{layer_size, place, is_active, times, ZonePair, zones_of_flow, ListedStep, Form, pair_line, Line, ended, text_of}
+use Rattle.listing_io.proofs.Common.{numbers_text, first_line, step_line, head_form, head_front, head_line, head_lines, head_pair, dir_front, term_form}
+use Rattle.listing_io.proofs.Common.{term_lines, has_evt, flow_form, zone_front, zone_line, zone_pair, step_lines, all_step_lines, end_line, listing}
+use Rattle.listing_io.proofs.Common.{listing_at, AreCellBounds, AreFlows, AreFlowsAt, AreTerms, IsListedStep, AreListed, AreZonePairs, IsTime, IsWritable}
+use Rattle.listing_io.proofs.Common.{ListingsAreReadAgain, model_line, signed_decimal, all_terms, is_printed, each_lines}
 use Rattle.listing_io.proofs.Blanks.{Without, Without-append, by_test, decimal_without, fixed_without}
 use Rattle.listing_io.proofs.Exactly.{fits_wide}
-use Rattle.listing_io.proofs.Written.{eight_lines, lines_in, lines_out}
-use Rattle.listing_io.proofs.Again.{Fits, IsSmall, flow_fits, head_fits, term_fits, Eight, eight_of, left_of, rows_again}
+use Rattle.listing_io.proofs.Each.{left_of}
+use Rattle.listing_io.proofs.Terms.{line_if, term_rows, IsPairIf, IsTermPair, terms_good, lines_in, lines_out}
+use Rattle.listing_io.proofs.Again.{Fits, IsSmall, flow_fits, head_fits, term_fits, rows_again}
 
 abbrev pub NoFeed : List ℕ → Type 0
 NoFeed = Without 10
@@ -88,44 +88,23 @@ dir_without Out = by_test 10 (dir_front Out) refl
 
 name_without : (t : Term) → NoFeed (codes " " ++ term_name t)
 name_without Storage = by_test 10 (codes " " ++ term_name Storage) refl
-name_without ConstantHead = by_test 10 (codes " " ++ term_name ConstantHead) refl
-name_without Wells = by_test 10 (codes " " ++ term_name Wells) refl
-name_without Drains = by_test 10 (codes " " ++ term_name Drains) refl
-name_without RiverLeakage = by_test 10 (codes " " ++ term_name RiverLeakage) refl
-name_without HeadDepBounds = by_test 10 (codes " " ++ term_name HeadDepBounds) refl
-name_without Recharge = by_test 10 (codes " " ++ term_name Recharge) refl
-name_without Et = by_test 10 (codes " " ++ term_name Et) refl
+name_without other = by_test 10 (codes " " ++ term_name other) refl
 
-term_without : (s : ℕ) (dir : Dir) (t : Term) (p : TermPair) → s ≤ 18 → IsFlowPair p → NoFeed (term_line s dir t p)
-term_without s dir t p few h = pair_without (dir_front dir) (term_form s t) p (term_fits s t p few h) (dir_without dir) (name_without t)
+-- the lines of several things
+each_without : {T X : Type 0} (R : T → X → Type 0) (row : T → X → List Line) → ((t : T) (x : X) → R t x → AllByRecursion NoFeed (row t x)) → (ts : List T) (xs : List X) → AllZip R ts xs → AllByRecursion NoFeed (each_lines row ts xs)
+each_without R row one [] [] h = tt
+each_without R row one [] (x ∷ xs) h = absurd h
+each_without R row one (t ∷ ts) [] h = absurd h
+each_without R row one (t ∷ ts) (x ∷ xs) h = all_appended NoFeed (row t x) (each_lines row ts xs) (one t x h.0) (each_without R row one ts xs h.1)
 
-et_without : (evt : Bool) (s : ℕ) (dir : Dir) (x : TermPair) → s ≤ 18 → IsFlowPair x → AllByRecursion NoFeed (cond evt (term_line s dir Et x ∷ []) [])
-et_without true s dir x few h = (term_without s dir Et x few h, tt)
-et_without false s dir x few h = tt
+term_without : (flag : Bool) (s : ℕ) (dir : Dir) (t : Term) (p : TermPair) → s ≤ 18 → IsPairIf flag p → AllByRecursion NoFeed (line_if flag s dir t p)
+term_without true s dir t p few h = (pair_without (dir_front dir) (term_form s t) p (term_fits s t p few h.small) (dir_without dir) (name_without t), tt)
+term_without false s dir t p few h = tt
 
-eight_without : (evt : Bool) (s : ℕ) (dir : Dir) (a b c d e f g x : TermPair) → s ≤ 18 → AllByRecursion IsFlowPair (a ∷ b ∷ c ∷ d ∷ e ∷ f ∷ g ∷ x ∷ []) → AllByRecursion NoFeed (eight_lines evt s dir a b c d e f g x)
-eight_without evt s dir a b c d e f g x few small =
-    let (ha, (hb, (hc, (hd, (he, (hf, (hg, (hx, done)))))))) = small in (
-      term_without s dir Storage a few ha,
-      (
-        term_without s dir ConstantHead b few hb,
-        (
-          term_without s dir Wells c few hc,
-          (
-            term_without s dir Drains d few hd,
-            (term_without s dir RiverLeakage e few he, (term_without s dir HeadDepBounds f few hf, (term_without s dir Recharge g few hg, et_without evt s dir x few hx))),
-          ),
-        ),
-      ),
-    )
-
-terms_without : (m : FlowModel) (s : ℕ) (dir : Dir) (rows : List Line) (pairs : List TermPair) (parts : Eight pairs) → s ≤ 18 → AreTerms m pairs
-    → eight_lines (has_evt m) s dir parts.a parts.b parts.c parts.d parts.e parts.f parts.g parts.x ≡ rows → AllByRecursion NoFeed rows
-terms_without m s dir rows pairs parts few h are =
-    rw (← are) (eight_without (has_evt m) s dir parts.a parts.b parts.c parts.d parts.e parts.f parts.g parts.x few (moved pairs _ parts.are h.small))
-  where
-    moved : (ps qs : List TermPair) → ps ≡ qs → All IsFlowPair ps → AllByRecursion IsFlowPair qs
-    moved ps qs e h = rw (← e) (recursion_from_All IsFlowPair ps h)
+terms_without : (m : FlowModel) (s : ℕ) (dir : Dir) (rows : List Line) (pairs : List TermPair) → s ≤ 18 → AreTerms m pairs → each_lines (term_rows (has_evt m) s dir) all_terms pairs ≡ rows → AllByRecursion NoFeed rows
+terms_without m s dir rows pairs few h are =
+    let evt = has_evt m in
+    rw (← are) (each_without (IsTermPair evt) (term_rows evt s dir) (λ t p good. term_without (is_printed evt t) s dir t p few good) all_terms pairs (terms_good m pairs h))
 
 title_without : (at : TimeStep) → IsTime at → NoFeed (step_line at)
 title_without at h =
@@ -160,15 +139,13 @@ flows_without s zs vs few pairs h =
 step_without : (m : FlowModel) (s : ℕ) (zs : List ZonePair) (at : TimeStep) (x : ListedStep) → IsWritable m s → All IsPair zs → IsTime at → IsListedStep m x → AreFlows zs x.zones → AllByRecursion NoFeed (step_lines m s at x.heads x.budget x.zones)
 unfolding step_lines
 step_without m s zs at x good pairs time h g =
-    let i = eight_of x.budget.into h.into.eight in
-    let o = eight_of x.budget.out h.out.eight in
     let cells = good.size.cells in
     let whole = h.whole in
     let few : 0 + length x.heads ≤ 4194304 = omega (arith, cells, whole) in (
       title_without at time,
       all_appended NoFeed (head_lines m 0 x.heads) (term_lines m s In x.budget ++ (term_lines m s Out x.budget ++ map (zone_line s) x.zones)) (heads_without m 0 x.heads few h.heads)
-          (all_appended NoFeed (term_lines m s In x.budget) (term_lines m s Out x.budget ++ map (zone_line s) x.zones) (terms_without m s In (term_lines m s In x.budget) x.budget.into i good.digits h.into (lines_in m s x.budget.into x.budget.out i.a i.b i.c i.d i.e i.f i.g i.x i.are))
-          (all_appended NoFeed (term_lines m s Out x.budget) (map (zone_line s) x.zones) (terms_without m s Out (term_lines m s Out x.budget) x.budget.out o good.digits h.out (lines_out m s x.budget.into x.budget.out o.a o.b o.c o.d o.e o.f o.g o.x o.are)) (flows_without s zs x.zones good.digits pairs g))),
+          (all_appended NoFeed (term_lines m s In x.budget) (term_lines m s Out x.budget ++ map (zone_line s) x.zones) (terms_without m s In (term_lines m s In x.budget) x.budget.into good.digits h.into (lines_in m s x.budget h.into.eight))
+          (all_appended NoFeed (term_lines m s Out x.budget) (map (zone_line s) x.zones) (terms_without m s Out (term_lines m s Out x.budget) x.budget.out good.digits h.out (lines_out m s x.budget h.out.eight)) (flows_without s zs x.zones good.digits pairs g))),
     )
 
 steps_without : (m : FlowModel) (s : ℕ) (pairs : ℕ → List ZonePair) (ats : List TimeStep) (xs : List ListedStep) → IsWritable m s → AreZonePairs pairs → AllByRecursion IsTime ats → AllByRecursion (IsListedStep m) xs → AllZip (AreFlowsAt pairs) ats xs → AllByRecursion NoFeed (all_step_lines m s ats xs)

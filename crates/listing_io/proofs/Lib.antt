@@ -2,6 +2,8 @@ mod Common
 pub mod NumberLemmas
 pub mod Blanks
 pub mod Exactly
+pub mod Each
+pub mod Terms
 pub mod Written
 pub mod Again
 pub mod Feeds

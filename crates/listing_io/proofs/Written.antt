@@ -1,31 +1,15 @@
 -- What is read was written so.
 use Rattle.listing_io.proofs.Common.{◌≡◌, ◌⊎◌, inl, inr, ℕ, zero, suc, ◌+◌, ◌≤◌, Bool, true, false, ◌||◌, cond, List, [], ◌∷◌, ◌++◌, map, nat_abs, refl, sym}
-use Rattle.listing_io.proofs.Common.{ap, ◌∙◌, Option, Some, None, Result, Ok, Err, bytes_eq, append_assoc, bytes_eq-Decides, lines, next_number, ◌>>=◌}
-use Rattle.listing_io.proofs.Common.{for_each, Bound, Dir, In, Out, Term, Storage, ConstantHead, Wells, Drains, RiverLeakage, HeadDepBounds, Recharge, Et}
-use Rattle.listing_io.proofs.Common.{ZoneFlow, no_bound, TermPair, no_pair, bounds_in, FlowModel, TimeStep, cell_count, is_active, times, ZonePair, ListedStep}
-use Rattle.listing_io.proofs.Common.{Form, pair_in, pair_line, Line, first_line, step_line, head_form, head_front, head_line, head_lines, dir_front, term_form}
-use Rattle.listing_io.proofs.Common.{term_line, term_lines, printed_terms, has_evt, flow_form, zone_front, zone_line, step_lines, all_step_lines, end_line}
-use Rattle.listing_io.proofs.Common.{listing, Left, all_lines, line_at, first_of, or_refused, pair_at, text_at, bound_of, head_if, heads_at, term_at, term_if}
-use Rattle.listing_io.proofs.Common.{terms_at, flow_of, flow_at, step_with, step_at, first_line_before, first_at, none_of, over_at, listing_at, IsListing}
-use Rattle.listing_io.proofs.Common.{ListingsWereWritten, is_first}
-use Rattle.budget_bounds.specs.declared.pair.Budget.{Budget}
+use Rattle.listing_io.proofs.Common.{ap, ◌∙◌, Option, Some, None, Ok, Err, bytes_eq, append_assoc, bytes_eq-Decides, lines, next_number, for_each, Bound, Dir}
+use Rattle.listing_io.proofs.Common.{In, Out, Term, ZoneFlow, no_bound, TermPair, no_pair, FlowModel, TimeStep, cell_count, is_active, times, ZonePair}
+use Rattle.listing_io.proofs.Common.{ListedStep, Form, pair_in, pair_line, Line, first_line, step_line, head_form, head_front, head_line, head_lines, dir_front}
+use Rattle.listing_io.proofs.Common.{term_form, term_lines, has_evt, flow_form, zone_front, zone_line, step_lines, all_step_lines, end_line, listing, Left}
+use Rattle.listing_io.proofs.Common.{all_lines, line_at, first_of, or_refused, pair_at, text_at, bound_of, head_if, heads_at, term_if, terms_at, flow_of}
+use Rattle.listing_io.proofs.Common.{flow_at, step_with, step_at, first_line_before, first_at, none_of, over_at, listing_at, IsListing, ListingsWereWritten}
+use Rattle.listing_io.proofs.Common.{is_first, Budget, all_terms, is_printed, each_lines, length}
 use Rattle.listing_io.proofs.Exactly.{line_sound}
-
--- a reading that goes on was not refused
-pub record Goes {A B E : Type 0} (r : Result A E) (f : A → Result B E) (y : B) : Type 0 where
-  pub item : A
-  pub first : r ≡ Ok item
-  pub then_ : f item ≡ Ok y
-
-pub clash : {B E : Type 0} (e : E) (y : B) (r : Result B E) → r ≡ Err e → r ≡ Ok y → ⊥
-clash e y r h k = cc
-
-pub same_ok : {B E : Type 0} (x y : B) (r : Result B E) → r ≡ Ok x → r ≡ Ok y → x ≡ y
-same_ok x y r h k = cc
-
-pub goes : {A B E : Type 0} (r : Result A E) (f : A → Result B E) (y : B) → (r >>= f) ≡ Ok y → Goes r f y
-goes (Ok x) f y h = record { item = x; first = refl; then_ = h }
-goes {A = A} {B = B} {E = E} (Err e) f y h = absurd (clash e y (Err e) refl h)
+use Rattle.listing_io.proofs.Each.{same_ok, clash, goes, grouped, each_row, each_whole}
+use Rattle.listing_io.proofs.Terms.{line_if, term_rows, lines_in, lines_out}
 
 first_row : (n : ℕ) (rows : List Line) (got : Line × Left) → first_of n rows ≡ Ok got → rows ≡ got.0 ∷ got.1.lines
 first_row n [] got h = absurd (clash n got (first_of n []) refl h)
@@ -75,9 +59,6 @@ module _ (m : FlowModel) where
       let p = goes (pair_at (head_front m.grid c) head_form left) _ got h in
       (pair_row (head_front m.grid c) head_form left p.item p.first).row ∙ ap (λ (x : Bound × Left). head_line m.grid c x.0 ∷ x.1.lines) (same_ok (bound_of p.item.0, p.item.1) got _ refl p.then_)
 
-pub grouped : {X : Type 0} (a b c : List X) → (a ++ b) ++ c ≡ a ++ (b ++ c)
-grouped a b c = append_assoc a b c
-
 pub heads_row : (m : FlowModel) (c k : ℕ) (left : Left) (got : List Bound × Left) → heads_at m c k left ≡ Ok got → left.lines ≡ head_lines m c got.0 ++ got.1.lines
 unfolding heads_at head_lines
 heads_row m c zero left got h = ap (λ (x : List Bound × Left). head_lines m c x.0 ++ x.1.lines) (same_ok ([], left) got (heads_at m c zero left) refl h)
@@ -90,82 +71,19 @@ heads_row m c (suc k) left got h =
     ∙ sym (grouped row (head_lines m (c + 1) more.item.0) more.item.1.lines)
     ∙ ap (λ (x : List Bound × Left). head_lines m c x.0 ++ x.1.lines) (same_ok (head.item.0 ∷ more.item.0, more.item.1) got _ refl more.then_)
 
-term_row : (s : ℕ) (dir : Dir) (t : Term) (left : Left) (got : TermPair × Left) → term_at s dir t left ≡ Ok got → left.lines ≡ term_line s dir t got.0 ∷ got.1.lines
-term_row s dir t left got h = (pair_row (dir_front dir) (term_form s t) left got h).row
+-- the lines of the terms
+term_row : (flag : Bool) (s : ℕ) (dir : Dir) (t : Term) (left : Left) (got : TermPair × Left) → term_if flag s dir t left ≡ Ok got → left.lines ≡ line_if flag s dir t got.0 ++ got.1.lines
+term_row true s dir t left got h = (pair_row (dir_front dir) (term_form s t) left got h).row
+term_row false s dir t left got h = ap (λ (x : TermPair × Left). x.1.lines) (same_ok (no_pair, left) got (term_if false s dir t left) refl h)
 
-et_row : (evt : Bool) (s : ℕ) (dir : Dir) (left : Left) (got : TermPair × Left) → term_if evt s dir left ≡ Ok got → left.lines ≡ cond evt (term_line s dir Et got.0 ∷ []) [] ++ got.1.lines
-et_row true s dir left got h = term_row s dir Et left got h
-et_row false s dir left got h = ap (λ (x : TermPair × Left). x.1.lines) (same_ok (no_pair, left) got (term_if false s dir left) refl h)
-
--- the lines of eight terms in a row
-abbrev pub eight_lines : Bool → ℕ → Dir → TermPair → TermPair → TermPair → TermPair → TermPair → TermPair → TermPair → TermPair → List Line
-eight_lines evt s dir a b c d e f g x =
-    term_line s dir Storage a ∷ term_line s dir ConstantHead b ∷ term_line s dir Wells c ∷ term_line s dir Drains d ∷ term_line s dir RiverLeakage e ∷ term_line s dir HeadDepBounds f ∷ term_line s dir Recharge g ∷ cond evt (term_line s dir Et x ∷ []) []
-
--- what the reading of eight terms gives
-record EightRows (evt : Bool) (s : ℕ) (dir : Dir) (left : Left) (got : List TermPair × Left) : Type 0 where
-  a : TermPair
-  b : TermPair
-  c : TermPair
-  d : TermPair
-  e : TermPair
-  f : TermPair
-  g : TermPair
-  x : TermPair
-  pairs : got.0 ≡ a ∷ b ∷ c ∷ d ∷ e ∷ f ∷ g ∷ x ∷ []
-  rows : left.lines ≡ eight_lines evt s dir a b c d e f g x ++ got.1.lines
-
-cons : (row : Line) (rows more : List Line) → rows ≡ more → row ∷ rows ≡ row ∷ more
-cons row rows more h = ap (λ (t : List Line). row ∷ t) h
-
-eight_rows : (evt : Bool) (s : ℕ) (dir : Dir) (left : Left) (got : List TermPair × Left) → terms_at evt s dir left ≡ Ok got → EightRows evt s dir left got
+terms_row : (evt : Bool) (s : ℕ) (dir : Dir) (left : Left) (got : List TermPair × Left) → terms_at evt s dir left ≡ Ok got → left.lines ≡ each_lines (term_rows evt s dir) all_terms got.0 ++ got.1.lines
 unfolding terms_at
-eight_rows evt s dir left got h =
-    let a = goes (term_at s dir Storage left) _ got h in
-    let b = goes (term_at s dir ConstantHead a.item.1) _ got a.then_ in
-    let c = goes (term_at s dir Wells b.item.1) _ got b.then_ in
-    let d = goes (term_at s dir Drains c.item.1) _ got c.then_ in
-    let e = goes (term_at s dir RiverLeakage d.item.1) _ got d.then_ in
-    let f = goes (term_at s dir HeadDepBounds e.item.1) _ got e.then_ in
-    let g = goes (term_at s dir Recharge f.item.1) _ got f.then_ in
-    let x = goes (term_if evt s dir g.item.1) _ got g.then_ in
-    let same : (a.item.0 ∷ b.item.0 ∷ c.item.0 ∷ d.item.0 ∷ e.item.0 ∷ f.item.0 ∷ g.item.0 ∷ x.item.0 ∷ [], x.item.1) ≡ got = same_ok _ got _ refl x.then_ in
-    rw (← same) (record {
-      a = a.item.0;
-      b = b.item.0;
-      c = c.item.0;
-      d = d.item.0;
-      e = e.item.0;
-      f = f.item.0;
-      g = g.item.0;
-      x = x.item.0;
-      pairs = refl;
-      rows = term_row s dir Storage left a.item a.first
-          ∙ cons (term_line s dir Storage a.item.0) _ _ (term_row s dir ConstantHead a.item.1 b.item b.first
-          ∙ cons (term_line s dir ConstantHead b.item.0) _ _ (term_row s dir Wells b.item.1 c.item c.first
-          ∙ cons (term_line s dir Wells c.item.0) _ _ (term_row s dir Drains c.item.1 d.item d.first
-          ∙ cons (term_line s dir Drains d.item.0) _ _ (term_row s dir RiverLeakage d.item.1 e.item e.first
-          ∙ cons (term_line s dir RiverLeakage e.item.0) _ _ (term_row s dir HeadDepBounds e.item.1 f.item f.first
-          ∙ cons (term_line s dir HeadDepBounds f.item.0) _ _ (term_row s dir Recharge f.item.1 g.item g.first
-          ∙ cons (term_line s dir Recharge g.item.0) _ _ (et_row evt s dir g.item.1 x.item x.first)))))));
-    })
+terms_row evt s dir left got h =
+    each_row (λ t. term_if (is_printed evt t) s dir t) (term_rows evt s dir) (λ t left got h. term_row (is_printed evt t) s dir t left got h) all_terms left got h
 
--- the lines of a budget whose terms are these
-eight_in : (evt : Bool) (s : ℕ) (into out : List TermPair) (a b c d e f g x : TermPair) → into ≡ a ∷ b ∷ c ∷ d ∷ e ∷ f ∷ g ∷ x ∷ [] → eight_lines evt s In a b c d e f g x ≡ map (λ t. term_line s In t (bounds_in (record { into = into; out = out }) In t)) (printed_terms evt)
-eight_in true s into out a b c d e f g x h = rw h refl
-eight_in false s into out a b c d e f g x h = rw h refl
-
-eight_out : (evt : Bool) (s : ℕ) (into out : List TermPair) (a b c d e f g x : TermPair) → out ≡ a ∷ b ∷ c ∷ d ∷ e ∷ f ∷ g ∷ x ∷ [] → eight_lines evt s Out a b c d e f g x ≡ map (λ t. term_line s Out t (bounds_in (record { into = into; out = out }) Out t)) (printed_terms evt)
-eight_out true s into out a b c d e f g x h = rw h refl
-eight_out false s into out a b c d e f g x h = rw h refl
-
-pub lines_in : (m : FlowModel) (s : ℕ) (into out : List TermPair) (a b c d e f g x : TermPair) → into ≡ a ∷ b ∷ c ∷ d ∷ e ∷ f ∷ g ∷ x ∷ [] → eight_lines (has_evt m) s In a b c d e f g x ≡ term_lines m s In (record { into = into; out = out })
-unfolding term_lines
-lines_in m s into out a b c d e f g x h = eight_in (has_evt m) s into out a b c d e f g x h
-
-pub lines_out : (m : FlowModel) (s : ℕ) (into out : List TermPair) (a b c d e f g x : TermPair) → out ≡ a ∷ b ∷ c ∷ d ∷ e ∷ f ∷ g ∷ x ∷ [] → eight_lines (has_evt m) s Out a b c d e f g x ≡ term_lines m s Out (record { into = into; out = out })
-unfolding term_lines
-lines_out m s into out a b c d e f g x h = eight_out (has_evt m) s into out a b c d e f g x h
+terms_whole : (evt : Bool) (s : ℕ) (dir : Dir) (left : Left) (got : List TermPair × Left) → terms_at evt s dir left ≡ Ok got → length got.0 ≡ 8
+unfolding terms_at
+terms_whole evt s dir left got h = each_whole (λ t. term_if (is_printed evt t) s dir t) all_terms left got h
 
 -- the lines of flows between zones
 flow_row : (s : ℕ) (z : ZonePair) (left : Left) (got : ZoneFlow × Left) → flow_at s z left ≡ Ok got → left.lines ≡ zone_line s got.0 ∷ got.1.lines
@@ -192,12 +110,14 @@ step_row m s zs at left got h =
     let heads = goes (heads_at m 0 (cell_count m.grid) title.item) _ got title.then_ in
     let into = goes (terms_at (has_evt m) s In heads.item.1) _ got heads.then_ in
     let out = goes (terms_at (has_evt m) s Out into.item.1) _ got into.then_ in
-    let i = eight_rows (has_evt m) s In heads.item.1 into.item into.first in
-    let o = eight_rows (has_evt m) s Out into.item.1 out.item out.first in
     let flows = goes (for_each (flow_at s) zs out.item.1) _ got out.then_ in
     let budget : Budget = record { into = into.item.0; out = out.item.0 } in
-    let into_rows : heads.item.1.lines ≡ term_lines m s In budget ++ into.item.1.lines = i.rows ∙ ap (λ (t : List Line). t ++ into.item.1.lines) (lines_in m s into.item.0 out.item.0 i.a i.b i.c i.d i.e i.f i.g i.x i.pairs) in
-    let out_rows : into.item.1.lines ≡ term_lines m s Out budget ++ out.item.1.lines = o.rows ∙ ap (λ (t : List Line). t ++ out.item.1.lines) (lines_out m s into.item.0 out.item.0 o.a o.b o.c o.d o.e o.f o.g o.x o.pairs) in
+    let into_rows : heads.item.1.lines ≡ term_lines m s In budget ++ into.item.1.lines =
+    terms_row (has_evt m) s In heads.item.1 into.item into.first
+    ∙ ap (λ (t : List Line). t ++ into.item.1.lines) (lines_in m s budget (terms_whole (has_evt m) s In heads.item.1 into.item into.first)) in
+    let out_rows : into.item.1.lines ≡ term_lines m s Out budget ++ out.item.1.lines =
+    terms_row (has_evt m) s Out into.item.1 out.item out.first
+    ∙ ap (λ (t : List Line). t ++ out.item.1.lines) (lines_out m s budget (terms_whole (has_evt m) s Out into.item.1 out.item out.first)) in
     let a = head_lines m 0 heads.item.0 in
     let b = term_lines m s In budget in
     let c = term_lines m s Out budget in
@@ -213,16 +133,9 @@ step_row m s zs at left got h =
     regroup a b c f d = simp append_assoc
 
 pub steps_row : (m : FlowModel) (s : ℕ) (pairs : ℕ → List ZonePair) (ats : List TimeStep) (left : Left) (got : List ListedStep × Left) → for_each (step_at m s pairs) ats left ≡ Ok got → left.lines ≡ all_step_lines m s ats got.0 ++ got.1.lines
-unfolding for_each all_step_lines
-steps_row m s pairs [] left got h = ap (λ (x : List ListedStep × Left). x.1.lines) (same_ok ([], left) got (for_each (step_at m s pairs) [] left) refl h)
-steps_row m s pairs (at ∷ ats) left got h =
-    let step = goes (step_at m s pairs at left) _ got h in
-    let more = goes (for_each (step_at m s pairs) ats step.item.1) _ got step.then_ in
-    let row = step_lines m s at step.item.0.heads step.item.0.budget step.item.0.zones in
-    step_row m s (pairs at.period) at left step.item step.first
-    ∙ ap (λ (r : List Line). row ++ r) (steps_row m s pairs ats step.item.1 more.item more.first)
-    ∙ sym (grouped row (all_step_lines m s ats more.item.0) more.item.1.lines)
-    ∙ ap (λ (x : List ListedStep × Left). all_step_lines m s (at ∷ ats) x.0 ++ x.1.lines) (same_ok (step.item.0 ∷ more.item.0, more.item.1) got _ refl more.then_)
+unfolding all_step_lines
+steps_row m s pairs ats left got h =
+    each_row (step_at m s pairs) (λ at x. step_lines m s at x.heads x.budget x.zones) (λ at left got h. step_row m s (pairs at.period) at left got h) ats left got h
 
 either : (a b : Bool) → (a || b) ≡ true → (a ≡ true) ⊎ (b ≡ true)
 either true b h = inl refl

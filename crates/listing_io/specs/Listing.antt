@@ -114,11 +114,15 @@ step_lines m s at heads b zones = step_line at ∷ (head_lines m 0 heads ++ (ter
 abbrev pub end_line : Line
 end_line = codes "END"
 
+-- the lines of several things, each by its own of another list
+abbrev pub each_lines : {A X : Type 0} → (A → X → List Line) → List A → List X → List Line
+each_lines row [] xs = []
+each_lines row (a ∷ others) [] = []
+each_lines row (a ∷ others) (x ∷ xs) = row a x ++ each_lines row others xs
+
 -- several steps, at these times
 unfoldable pub all_step_lines : FlowModel → ℕ → List TimeStep → List ListedStep → List Line
-all_step_lines m s [] steps = []
-all_step_lines m s (at ∷ ats) [] = []
-all_step_lines m s (at ∷ ats) (x ∷ xs) = step_lines m s at x.heads x.budget x.zones ++ all_step_lines m s ats xs
+all_step_lines m s ats steps = each_lines (λ at x. step_lines m s at x.heads x.budget x.zones) ats steps
 
 -- a whole listing, of a model or of all models between two decks
 unfoldable pub listing : Bool → FlowModel → ℕ → List ListedStep → List Line

@@ -12,10 +12,10 @@ use Rattle.step_problem.specs.declared.place.Dir.{Dir}
 use Rattle.step_problem.specs.declared.place.Dir.TheVariants.{In, Out}
 use Rattle.step_problem.specs.declared.place.Term.{Term}
 use Rattle.step_problem.specs.declared.place.ZoneFlow.{ZoneFlow}
-use Rattle.step_problem.specs.declared.place.Term.TheVariants.{Storage, ConstantHead, Wells, Drains, RiverLeakage, HeadDepBounds, Recharge, Et}
+use Rattle.step_problem.specs.declared.place.Term.TheVariants.{Et}
 use Rattle.step_problem.specs.Heads.{no_bound}
 use Rattle.budget_bounds.specs.declared.pair.TermPair.{TermPair}
-use Rattle.budget_bounds.specs.Terms.{no_pair}
+use Rattle.budget_bounds.specs.Terms.{all_terms, no_pair}
 use Rattle.model_types.specs.declared.model.FlowModel.{FlowModel}
 use Rattle.model_types.specs.declared.time_steps.TimeStep.{TimeStep}
 use Rattle.model_types.specs.Cells.{cell_count}
@@ -81,23 +81,19 @@ heads_at m c (suc k) left = do
 abbrev pub term_at : ℕ → Dir → Term → Left → Result (TermPair × Left) ℕ
 term_at s dir t left = pair_at (dir_front dir) (term_form s t) left
 
--- ET has no line, and zeros, where the model has no EVT
-abbrev pub term_if : Bool → ℕ → Dir → Left → Result (TermPair × Left) ℕ
-term_if true s dir left = term_at s dir Et left
-term_if false s dir left = Ok (no_pair, left)
+-- whether a term has a line; ET has one where the model has EVT
+abbrev pub is_printed : Bool → Term → Bool
+is_printed evt Et = evt
+is_printed evt other = true
+
+-- a term without a line is zeros
+abbrev pub term_if : Bool → ℕ → Dir → Term → Left → Result (TermPair × Left) ℕ
+term_if true s dir t left = term_at s dir t left
+term_if false s dir t left = Ok (no_pair, left)
 
 -- the terms in one direction
 unfoldable pub terms_at : Bool → ℕ → Dir → Left → Result (List TermPair × Left) ℕ
-terms_at evt s dir left = do
-  storage ← term_at s dir Storage left
-  constant ← term_at s dir ConstantHead storage.1
-  wells ← term_at s dir Wells constant.1
-  drains ← term_at s dir Drains wells.1
-  rivers ← term_at s dir RiverLeakage drains.1
-  general ← term_at s dir HeadDepBounds rivers.1
-  recharge ← term_at s dir Recharge general.1
-  et ← term_if evt s dir recharge.1
-  Ok (storage.0 ∷ constant.0 ∷ wells.0 ∷ drains.0 ∷ rivers.0 ∷ general.0 ∷ recharge.0 ∷ et.0 ∷ [], et.1)
+terms_at evt s dir left = for_each (λ t. term_if (is_printed evt t) s dir t) all_terms left
 
 -- the flow between two zones
 abbrev pub flow_of : ZonePair → TermPair → ZoneFlow

@@ -1,6 +1,7 @@
 // The reading of a step.
 ghost use Rattle.std.specs.Prelude.{◌≡◌, ◌≤◌, ◌<◌, ◌^◌, length, nat_abs, IfOk};
 ghost use Rattle.step_problem.specs.Conditions.{head_limit};
+ghost use Rattle.step_problem.specs.declared.place.Term.TheVariants.{Et};
 ghost use Rattle.model_types.specs.Cells.{cell_count};
 ghost use Rattle.model_types.specs.Grids.{HasSize};
 ghost use Rattle.model_types.specs.Layers.{is_active};
@@ -125,7 +126,7 @@ fn read_et(
     lines: &mut AllLines,
 ) -> Result<TermPair, Fault>
     requires { s ≤ 18 }
-    ensures { Gives (λ p. p) result lines.new (term_if evt s dir lines.old) }
+    ensures { Gives (λ p. p) result lines.new (term_if evt s dir Et lines.old) }
 {
     if evt {
         read_term(text, s, dir, Term::Et, lines)
@@ -134,7 +135,7 @@ fn read_et(
     }
 }
 
-#[tactic(auto, unfolding(crate::specs::Reading::terms_at))]
+#[tactic(auto, unfolding(crate::specs::Reading::terms_at, record_lines::specs::Reading::for_each))]
 fn read_terms(
     text: &mut Vec<u8>,
     evt: bool,

@@ -6,12 +6,9 @@ use Rattle.std.specs.Prelude.{Contains}
 use Rattle.std.proofs.lemmas.List.Elements.{All-contains_itself, All-weaker}
 use Rattle.decimal_input.specs.Enclosures.{EnclosesSigned}
 use Rattle.step_problem.specs.declared.entry.Fixed.{Fixed}
-use Rattle.step_problem.specs.Conditions.{IsHead}
 use Rattle.cell_balance.specs.Enclosures.{EnclosesStep}
 use Rattle.cell_balance.specs.Steps.{ExactCell}
-use Rattle.budget_bounds.specs.Capped.{AreHeads}
 use Rattle.zone_flows.specs.Exact.{EncloseExact, HeadsLieWithin}
-use Rattle.zone_pairs.specs.Zones.{AreZones, AreZonesOf}
 
 -- a vector that lies within heads is enclosed by them
 pub within_enclosed : (m : FlowModel) (heads : List Bound) (d : ℕ) (X : ℕ → ℤ) → 0 < d → LiesWithin m heads d X → HeadsEnclose m heads (heads_of d X)
@@ -20,14 +17,6 @@ within_enclosed m heads d X some h = λ c active.
     let L : ℕ → Type 0 = λ n. (lower_at heads c *ℤ pos n) ≤ℤ (X c *ℤ pos (10 ^ 9)) in
     let U : ℕ → Type 0 = λ n. (X c *ℤ pos (10 ^ 9)) ≤ℤ (upper_at heads c *ℤ pos n) in
     record { lower = subst L same (h.low c active); upper = subst U same (h.high c active) }
-
--- the zones of a zone file
-pub zones_are : (m : FlowModel) (o : Option (List ℕ)) (zones : List ℕ) → o ≡ Some zones → AreZones m o → AreZonesOf m zones
-zones_are m o zones is h = let Z : Option (List ℕ) → Type 0 = λ z. AreZones m z in subst Z is h
-
--- heads in range, in both ways to say so
-pub both_heads : (bounds : List Bound) → All (λ b. IsHead b.low × IsHead b.high) bounds → All AreHeads bounds
-both_heads bounds h = All-weaker (λ (b : Bound). IsHead b.low × IsHead b.high) AreHeads (λ b w. record { low = w.0; high = w.1 }) bounds h
 
 -- What holds of all active cells holds of all that a problem names.
 module _ (m : FlowModel) (p : List Entries) (named : (c : ℕ) → IsNamed p c → IsActive m c) where

@@ -35,7 +35,8 @@ BoundAll k m d before [] (X ∷ Xs) = ⊥
 BoundAll k m d before (v ∷ values) [] = ⊥
 
 -- and where each vector solves a model between a and b, for that model
-abbrev pub BoundBetween : Task → (a b : FlowModel) → (d : ℕ) → (before : ℕ → Fraction) → (ats : List TimeStep) → List Step → (Xs : List (ℕ → ℤ)) → SolvesBetweenFrom a b d before ats Xs → Type 0
+abbrev pub BoundBetween : Task → (a b : FlowModel) → (d : ℕ) → (before : ℕ → Fraction) → (ats : List TimeStep) → List Step → (Xs : List (ℕ → ℤ)) →
+    SolvesBetweenFrom a b d before ats Xs → Type 0
 BoundBetween k a b d before [] [] [] h = Unit {0}
 BoundBetween k a b d before [] (v ∷ values) [] h = ⊥
 BoundBetween k a b d before [] values (X ∷ Xs) h = ⊥
@@ -48,7 +49,8 @@ BoundBetween k a b d before (at ∷ ats) (v ∷ values) (X ∷ Xs) h = Bounds k 
 -- numbers. With two decks: every history between them, each step of which solves some model between the two.
 abbrev pub HistoriesBound : Task → FlowModel → Option FlowModel → List Step → Type 0
 HistoriesBound k a None values = (d : ℕ) (Xs : List (ℕ → ℤ)) → Solves a d Xs → BoundAll k a d (start_head a) values Xs
-HistoriesBound k a (Some b) values = (d : ℕ) (Xs : List (ℕ → ℤ)) (h : SolvesBetween a b d Xs) → BoundBetween k a b d (start_head h.first) (times a) values Xs h.steps
+HistoriesBound k a (Some b) values =
+    (d : ℕ) (Xs : List (ℕ → ℤ)) (h : SolvesBetween a b d Xs) → BoundBetween k a b d (start_head h.first) (times a) values Xs h.steps
 
 abbrev pub EnclosesHistories : Task → List Step → Type 0
 EnclosesHistories k values = HistoriesBound k k.decks.first k.decks.second values

@@ -52,8 +52,10 @@ module _ {S : Type 0} (begins : S → ℕ → ℕ → S → Type 0) (leads : S �
   -- settler had not to stop, and it went on so with the times after it.
   pub data Reaches : List Bound → List TimeStep → S → S → Type 0 where
     rests : (old : List Bound) (times : List TimeStep) (s : S) → Reaches old times s s
-    begun : (old : List Bound) (at : TimeStep) (times : List TimeStep) (s told t : S) → begins s at.period at.step told → RestsOrSettles leads k at old told t → Reaches old (at ∷ times) s t
-    settled : (old : List Bound) (at : TimeStep) (times : List TimeStep) (v : Step) (s told done t : S) → IsStep k at old v → begins s at.period at.step told → IsSettledBy leads k at old true told done → stop done ≡ None →
+    begun : (old : List Bound) (at : TimeStep) (times : List TimeStep) (s told t : S) → begins s at.period at.step told →
+        RestsOrSettles leads k at old told t → Reaches old (at ∷ times) s t
+    settled : (old : List Bound) (at : TimeStep) (times : List TimeStep) (v : Step) (s told done t : S) → IsStep k at old v →
+        begins s at.period at.step told → IsSettledBy leads k at old true told done → stop done ≡ None →
         Reaches v.heads times done t → Reaches old (at ∷ times) s t
 
   -- so it did with the first steps of the model, from STRT on

@@ -52,7 +52,8 @@ impl Folder for MemFolder {
         ensures still { (other : List ℕ) → Unit {0} → Unit {0} }
         ensures words { IfOk result (FoundMay (λ _. Unit {0})) }
         ensures since { (files : FileSet) → files ≡ with_limit self.new.limit self.new.files → files ≡ with_limit self.old.limit self.old.files }
-        ensures found { IfOk result (λ found. (files : FileSet) → files ≡ with_limit self.new.limit self.new.files → IsFound files.files name.now files.limit found) }
+        ensures found { IfOk result (λ found. (files : FileSet) →
+            files ≡ with_limit self.new.limit self.new.files → IsFound files.files name.now files.limit found) }
         ensures counts { ReadCounts self.old.faults self.new.faults result }
 
         // A call fails exactly where its number is in the script.

@@ -72,9 +72,6 @@ table_sums t (f ∷ fs) q = table_sums (with_face t f) fs q ∙ one_face t f fs 
 cap_below : (limit a b : ℤ) → int_min (a +ℤ b) limit ≤ℤ limit
 cap_below limit a b = omega (arith, ints, clamps)
 
-limit_above : pos 0 ≤ℤ term_limit
-limit_above = omega (arith, ints)
-
 sum_kept : (dir : Dir) (s x : TermPair) → IsSum s → IsSum (capped (plus_pair s (part dir x)))
 sum_kept dir s x h = record {
   lo_above = omega (arith, ints, clamps, h.lo_above, part_lo dir x);
