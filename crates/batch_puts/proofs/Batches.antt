@@ -1,6 +1,6 @@
 -- Laws on batches of jobs, whatever is an end of a job.
-use Rattle.batch_puts.proofs.Common.{◌≡◌, ℕ, suc, ◌+◌, List, [], ◌∷◌, ◌++◌, map, length, Some, IfSome, subst, sym, ap, refl, ◌∙◌, inl, inr, arith, Put, taken}
-use Rattle.batch_puts.proofs.Common.{end_line, IsRun, whole, early, NeverCut, Status, IsLate, tail_late, weaker, JobEnd, or_else, first_not_ok, texts, IsEnded}
+use Rattle.batch_puts.proofs.Common.{◌≡◌, ℕ, suc, List, [], ◌∷◌, length, Some, IfSome, subst, sym, ap, refl, ◌∙◌, inl, inr, arith, Put, IsRun, NeverCut, Status}
+use Rattle.batch_puts.proofs.Common.{weaker, JobEnd, or_else, first_not_ok, IsEnded}
 use Rattle.std.specs.Prelude.{slice_get}
 use Rattle.std.specs.List.{AllZip}
 use Rattle.run_puts.specs.Agreement.{Agree, IsUnfinished}
@@ -61,8 +61,3 @@ ends_of_jobs R [] [] same each = tt
 ends_of_jobs R [] (y ∷ ys) same each = absurd (omega arith)
 ends_of_jobs R (x ∷ xs) [] same each = absurd (omega arith)
 ends_of_jobs R (x ∷ xs) (y ∷ ys) same each = (each 0 y refl, ends_of_jobs R xs ys (omega arith) (λ i z h. each (suc i) z h))
-
--- a batch that did not fail to write or run out of memory has put the text of each job, and END
-pub all_put : (ends : List JobEnd) (end : Status) (puts : List Put) → IsRun (IsEnded ends) NeverCut end puts → (IsLate end → ⊥) → (end ≡ first_not_ok ends) × (puts ≡ map taken (texts ends ++ (end_line ∷ [])))
-all_put ends end puts (whole meant pieces due) done = (due.status_is, ap (map taken) due.are)
-all_put ends end puts (early meant before after tail b t) done = absurd (done (tail_late after end tail t))

@@ -4,7 +4,7 @@ pub use Rattle.std.proofs.Common.{ℕ, ◌++◌, ◌+◌, ◌<◌, ◌∙◌, �
 pub use Rattle.batch_puts.specs.Ended.{IsEnded, first_not_ok, or_else, texts}
 pub use Rattle.batch_puts.specs.declared.job_end.JobEnd.{JobEnd}
 pub use Rattle.outside.specs.Puts.{Put, taken}
-pub use Rattle.run_puts.proofs.Pieces.{IsLate, joined, put_was, tail_late, weaker}
+pub use Rattle.run_puts.proofs.Pieces.{joined, put_was, weaker}
 pub use Rattle.run_puts.specs.Ends.{IsLast}
 pub use Rattle.run_puts.specs.Lines.{Text, end_line}
 pub use Rattle.run_puts.specs.Runs.{IsRun, NeverCut, all_due, early, whole}

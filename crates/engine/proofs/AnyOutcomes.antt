@@ -1,8 +1,8 @@
 -- The public clauses of a run of any command, from all that it comes to.
 use Rattle.engine.proofs.Common.{◌≡◌, ℕ, List, Option, Some, None, refl, subst, sym, ◌∙◌, inl, inr, ◌⊎◌, MatchOption, FileSet, Rose, Put, Seen, PutsMake, Text}
 use Rattle.engine.proofs.Common.{Status, Batched, HasNoList, AskedBatch, batch_asked, AnyAnswers, AnyComes, AnyDecided, AnyPuts, BatchAnswers, AskedCheck, Case}
-use Rattle.engine.proofs.Common.{Check, Command, IsCase, Make, asked_in, Certified, OneDeck, Made, OneOrQuick, OneSummary, OneVerdict, Answers, AnswersBeside}
-use Rattle.engine.proofs.Common.{IsStopped, IsLeft, Puts, Watched, views_in, AskedSpanCheck, CheckSpan, SpanOrQuick, SpanCertified, SpanVerdict}
+use Rattle.engine.proofs.Common.{Check, Command, IsCase, Make, asked_in, Certified, OneDeck, Made, OneListing, OneSummary, OneVerdict, Answers, AnswersBeside}
+use Rattle.engine.proofs.Common.{IsStopped, IsLeft, Puts, Watched, views_in, AskedSpanCheck, CheckSpan, OneSpan, SpanCertified, SpanVerdict}
 use Rattle.engine.proofs.BatchEnds.{other_none}
 use Rattle.engine.proofs.BatchOutcomes.{batch_complete, batch_decided, batch_put_rose, batch_read_rose, batched}
 use Rattle.engine.proofs.Certifying.{not_stopped}
@@ -65,7 +65,7 @@ module _ (laws : Laws) (words : List Text) (n m : ℕ) (S : Type 0) (L : List Pu
     pub any_headline : AnyAnswers words (Some files) n m S L end puts → end ≡ status.Ok → AnyTold words files old new ⊎ Batched words files end old.written new.written
     any_headline a ok = any_ran ok a (λ h. first_of (beside_both words (Some files) n m S L end puts old new makes laws h ok))
 
-    pub any_one : AnyAnswers words (Some files) n m S L end puts → end ≡ status.Ok → (OneOrQuick words files old.written new.written ⊎ (OneSummary words old.written new.written ⊎ (OneVerdict words files ⊎ (OneDeck words files old.written new.written ⊎ (SpanOrQuick words files old.written new.written ⊎ SpanVerdict words files))))) ⊎ Batched words files end old.written new.written
+    pub any_one : AnyAnswers words (Some files) n m S L end puts → end ≡ status.Ok → (OneListing words files old.written new.written ⊎ (OneSummary words old.written new.written ⊎ (OneVerdict words files ⊎ (OneDeck words files old.written new.written ⊎ (OneSpan words files old.written new.written ⊎ SpanVerdict words files))))) ⊎ Batched words files end old.written new.written
     any_one a ok = any_ran ok a (λ h. second_of (beside_both words (Some files) n m S L end puts old new makes laws h ok))
 
     pub any_decided : AnyAnswers words (Some files) n m S L end puts → AnyDecided (Rose n m ⊎ (Rose old.faults new.faults ⊎ S)) words files end

@@ -5,8 +5,7 @@ use Rattle.engine.proofs.Common.{BadName, InputFault, Refusal, Wanted, Batches, 
 use Rattle.engine.proofs.Common.{IsWanting, IsRun, NeverCut, Status, lone, lacks_at_first, weaker, JobEnd, ends_of_jobs, IsBatch, IsTask, wanting_not_ok, Task}
 use Rattle.engine.proofs.Common.{Job, AskedBatch, BatchCase, Jobs, NoList, IsBatchCase, IsJobEnd, IsRunText, batch_asked, batch_case_of, batch_of, job_case}
 use Rattle.engine.proofs.Common.{model_line, AreTasks, IsFaultOf, AnyAnswers, AreValid, BatchAnswers, BatchDue, IsValidJob, Refuses, asked_in, built}
-use Rattle.engine.proofs.Common.{AnswersBeside, IsReadingEnd, IsStopped}
-use Rattle.engine.specs.BatchRuns.{unread, defined}
+use Rattle.engine.proofs.Common.{AnswersBeside, IsReadingEnd, IsStopped, unread, defined}
 use Rattle.std.specs.Prelude.{IfSome, length}
 use Rattle.batch_book.specs.Ends.{AreJobEnds}
 use Rattle.engine.proofs.Beside.{not_ok}

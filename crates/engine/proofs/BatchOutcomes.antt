@@ -1,16 +1,15 @@
 -- The public clauses of a batch, from all that it comes to.
 use Rattle.engine.proofs.Common.{◌≡◌, ℕ, List, [], ◌∷◌, ◌++◌, None, Some, IfOk, Result, Ok, Err, map, subst, sym, ◌∙◌, ap, refl, inl, inr, ◌⊎◌, All, All-head}
 use Rattle.engine.proofs.Common.{All-tail, AllZip, concat, FileSet, Rose, Put, Seen, PutsMake, taken, Refusal, FlowModel, AreDecks, reads, Text, end_line}
-use Rattle.engine.proofs.Common.{whole, early, NeverCut, Agree, IsUnfinished, Status, IsLate, tail_late, late_not_read, all_written, write_rose, Task}
-use Rattle.engine.proofs.Common.{IsListing, IsWhole, whole_listing, history_exists, history_is_one, JobEnd, batch_settles, batches_agree, Job, Batched}
-use Rattle.engine.proofs.Common.{HasEnded, HasNoList, IsJobListing, AskedBatch, BatchCase, BatchDefines, IsJobEnd, IsRunText, Jobs, NoList, batch_asked}
-use Rattle.engine.proofs.Common.{batch_case, job_case, job_of, job_task, model_line, names_read, task_read, AreValid, BatchAnswers, BatchComes, BatchDecided}
-use Rattle.engine.proofs.Common.{BatchDue, HasJob, IsBatchRun, IsValidJob, IsStopped, false, zero, suc, arith}
-use Rattle.engine.specs.BatchRuns.{unread, defined}
+use Rattle.engine.proofs.Common.{NeverCut, Agree, Status, all_written, Task, IsListing, IsWhole, whole_listing, history_exists, history_is_one, JobEnd}
+use Rattle.engine.proofs.Common.{batch_settles, batches_agree, Job, Batched, HasEnded, HasNoList, IsJobListing, AskedBatch, BatchCase, BatchDefines, IsJobEnd}
+use Rattle.engine.proofs.Common.{IsRunText, Jobs, NoList, batch_asked, batch_case, job_case, job_of, job_task, model_line, names_read, task_read, AreValid}
+use Rattle.engine.proofs.Common.{BatchAnswers, BatchComes, BatchDecided, HasJob, IsBatchRun, IsValidJob, IsStopped, IsPlainJob, IsPlainBatch}
+use Rattle.std.specs.Prelude.{false}
 use Rattle.batch_puts.specs.Ended.{first_not_ok, or_else, texts}
 use Rattle.engine.proofs.Certifying.{IsFault, not_stopped, stopped_by_fault}
-use Rattle.engine.proofs.Ends.{late_stops}
-use Rattle.engine.proofs.Outcomes.{agree, goes_through, never_stopped, weighed}
+use Rattle.engine.proofs.Dues.{Delivers, Ended, delivers, read_failed, write_failed, run_ended, end_decided, end_comes}
+use Rattle.engine.proofs.Outcomes.{agree, goes_through, never_stopped}
 use Rattle.engine.proofs.Told.{Laws}
 use Rattle.run_puts.specs.declared.status.Status.TheVariants as status
 
@@ -38,34 +37,11 @@ defined_not_stopped : (case : BatchCase) (end : Status) (pieces : List Text) →
 defined_not_stopped (NoList refusal) end pieces d stops = subst IsFault d.0 (stopped_by_fault end stops)
 defined_not_stopped (Jobs jobs) end pieces d stops = jobs_not_stopped jobs d.ends d.each (let P : Status → Type 0 = IsStopped in subst P d.ended.status_is stops)
 
-due_read : (read_failed : Type 0) (case : BatchCase) (end : Status) (pieces : List Text) → BatchDue read_failed case end pieces → end ≡ status.ReadFault → read_failed
-due_read read_failed case end pieces (defined meant all d) e = absurd (defined_not_stopped case end pieces d (inl e))
-due_read read_failed case end pieces (unread failed) e = failed
+pub batch_read_rose : (read_fault : Type 0) (case : BatchCase) (end : Status) (puts : List Put) → IsBatchRun read_fault case end puts → end ≡ status.ReadFault → read_fault
+batch_read_rose read_fault case = read_failed read_fault (BatchDefines case) NeverCut (defined_not_stopped case)
 
-pub batch_read_rose : (read_failed : Type 0) (case : BatchCase) (end : Status) (puts : List Put) → IsBatchRun read_failed case end puts → end ≡ status.ReadFault → read_failed
-batch_read_rose read_failed case end puts (whole meant pieces due) e = due_read read_failed case end pieces due e
-batch_read_rose read_failed case end puts (early meant before after tail b t) e = absurd (late_not_read end (tail_late after end tail t) e)
-
-due_write : (read_failed : Type 0) (case : BatchCase) (end : Status) (pieces : List Text) → BatchDue read_failed case end pieces → end ≡ status.WriteFault → ⊥
-due_write read_failed case end pieces (defined meant all d) e = defined_not_stopped case end pieces d (inr (inl e))
-due_write read_failed case end pieces (unread failed) e = let bad : status.ReadFault ≡ status.WriteFault = e in cc
-
-pub batch_put_rose : (read_failed : Type 0) (case : BatchCase) (end : Status) (puts : List Put) (old new : Seen) → IsBatchRun read_failed case end puts → end ≡ status.WriteFault → PutsMake old puts new → Rose old.faults new.faults
-batch_put_rose read_failed case = write_rose (BatchDue read_failed case) NeverCut (λ pieces due. due_write read_failed case status.WriteFault pieces due refl)
-
--- a batch that didn't stop has put the pieces that its case defines
-record Delivers (case : BatchCase) (end : Status) (puts : List Put) : Type 0 where
-  pieces : List Text
-  defines : BatchDefines case end pieces
-  written : puts ≡ map taken pieces
-
-due_delivers : (read_failed : Type 0) (case : BatchCase) (end : Status) (pieces : List Text) → BatchDue read_failed case end pieces → (IsStopped end → ⊥) → Delivers case end (map taken pieces)
-due_delivers read_failed case end pieces (defined meant all d) goes = record { pieces = pieces; defines = d; written = refl }
-due_delivers read_failed case end pieces (unread failed) goes = absurd (goes (inl refl))
-
-delivers : (read_failed : Type 0) (case : BatchCase) (end : Status) (puts : List Put) → IsBatchRun read_failed case end puts → (IsStopped end → ⊥) → Delivers case end puts
-delivers read_failed case end puts (whole meant pieces due) goes = due_delivers read_failed case end pieces due goes
-delivers read_failed case end puts (early meant before after tail b t) goes = absurd (goes (late_stops end (tail_late after end tail t)))
+pub batch_put_rose : (read_fault : Type 0) (case : BatchCase) (end : Status) (puts : List Put) (old new : Seen) → IsBatchRun read_fault case end puts → end ≡ status.WriteFault → PutsMake old puts new → Rose old.faults new.faults
+batch_put_rose read_fault case = write_failed read_fault (BatchDefines case) NeverCut (defined_not_stopped case)
 
 module _ (laws : Laws) (b : AskedBatch) (files : FileSet) where
   -- the text of a job that ended Ok
@@ -94,7 +70,7 @@ module _ (laws : Laws) (b : AskedBatch) (files : FileSet) where
   all_ended (name ∷ names) (e ∷ ends) valid (x, h) = (record { end = x; listing = job_listing name e (reads b.limits files name) refl (All-head IsValidJob (job_of b (reads b.limits files) name) (map (job_of b (reads b.limits files)) names) valid) x }, all_ended names ends (All-tail IsValidJob (job_of b (reads b.limits files) name) (map (job_of b (reads b.limits files)) names) valid) h)
 
   module _ (words : List Text) (wanted : batch_asked words ≡ Some b) (end : Status) (old new : Seen) (puts : List Put) (makes : PutsMake old puts new) where
-    of_names : (names : List Text) → names_read files b ≡ Ok names → AreValid (Jobs (map (job_of b (reads b.limits files)) names)) end → (IsStopped end → ⊥) → Delivers (Jobs (map (job_of b (reads b.limits files)) names)) end puts → Batched words files end old.written new.written
+    of_names : (names : List Text) → names_read files b ≡ Ok names → AreValid (Jobs (map (job_of b (reads b.limits files)) names)) end → (IsStopped end → ⊥) → Delivers (BatchDefines (Jobs (map (job_of b (reads b.limits files)) names))) end puts → Batched words files end old.written new.written
     of_names names read (inr stops) goes d = absurd (goes stops)
     of_names names read (inl valid) goes d = record {
       asked = b;
@@ -107,72 +83,34 @@ module _ (laws : Laws) (b : AskedBatch) (files : FileSet) where
       written = all_written (texts d.defines.ends ++ (end_line ∷ [])) old new puts (d.written ∙ ap (map taken) d.defines.ended.are) makes;
     }
 
-    of_list : (r : Result (List Text) Refusal) → names_read files b ≡ r → AreValid (batch_case b r (reads b.limits files)) end → (IsStopped end → ⊥) → Delivers (batch_case b r (reads b.limits files)) end puts → HasNoList b files end ⊎ Batched words files end old.written new.written
+    of_list : (r : Result (List Text) Refusal) → names_read files b ≡ r → AreValid (batch_case b r (reads b.limits files)) end → (IsStopped end → ⊥) → Delivers (BatchDefines (batch_case b r (reads b.limits files))) end puts → HasNoList b files end ⊎ Batched words files end old.written new.written
     of_list (Ok names) read valid goes d = inr (of_names names read valid goes d)
     of_list (Err refusal) read valid goes d = inl (refusal, read, d.defines.0)
 
     pub batched : (n m : ℕ) → BatchAnswers b (Some files) n m end puts → (IsStopped end → ⊥) → HasNoList b files end ⊎ Batched words files end old.written new.written
     batched n m a goes =
         let V : BatchCase → Type 0 = λ case. AreValid case end in
-        let D : BatchCase → Type 0 = λ case. Delivers case end puts in
-        of_list (names_read files b) refl (subst V a.is a.valid) goes (subst D a.is (delivers (Rose n m) a.case end puts a.run goes))
+        let D : BatchCase → Type 0 = λ case. Delivers (BatchDefines case) end puts in
+        of_list (names_read files b) refl (subst V a.is a.valid) goes (subst D a.is (delivers (Rose n m) (BatchDefines a.case) NeverCut end puts a.run goes))
 
--- how a batch ended: after a fault outside, because memory ran out, or as its case defines
-abbrev Ended : Type 0 → BatchCase → Status → Type 0
-Ended fault case end = fault ⊎ ((end ≡ status.Memory) ⊎ ((q : List Text) × BatchDefines case end q))
+ended : (n m : ℕ) (case : BatchCase) (end : Status) (puts : List Put) (old new : Seen) → IsBatchRun (Rose n m) case end puts → PutsMake old puts new → Ended (Rose n m ⊎ Rose old.faults new.faults) (BatchDefines case) end
+ended n m case end puts old new =
+    run_ended (Rose n m) (BatchDefines case) NeverCut (defined_not_stopped case) (Rose n m ⊎ Rose old.faults new.faults) (λ f. inl f) old new (λ f. inr f) end puts
 
-due_ended : (n m u v : ℕ) (case : BatchCase) (end : Status) (pieces : List Text) → BatchDue (Rose n m) case end pieces → Ended (Rose n m ⊎ Rose u v) case end
-due_ended n m u v case end pieces (defined meant all d) = inr (inr (pieces, d))
-due_ended n m u v case end pieces (unread failed) = inl (inl failed)
-
-late_ended : (n m : ℕ) (case : BatchCase) (end : Status) (puts : List Put) (old new : Seen) → IsBatchRun (Rose n m) case end puts → PutsMake old puts new → IsLate end → Ended (Rose n m ⊎ Rose old.faults new.faults) case end
-late_ended n m case end puts old new run makes (inl e) = inl (inr (batch_put_rose (Rose n m) case end puts old new run e makes))
-late_ended n m case end puts old new run makes (inr e) = inr (inl e)
-
-ended : (n m : ℕ) (case : BatchCase) (end : Status) (puts : List Put) (old new : Seen) → IsBatchRun (Rose n m) case end puts → PutsMake old puts new → Ended (Rose n m ⊎ Rose old.faults new.faults) case end
-ended n m case end puts old new (whole meant pieces due) makes = due_ended n m old.faults new.faults case end pieces due
-ended n m case end puts old new (early meant before after tail b t) makes = late_ended n m case end puts old new (early meant before after tail b t) makes (tail_late after end tail t)
+-- what holds of each job, and of its end
+with_jobs : (P : Job → Type 0) (R : Job → JobEnd → Type 0) (jobs : List Job) (ends : List JobEnd) → All P jobs → AllZip R jobs ends → AllZip (λ job e. P job × R job e) jobs ends
+with_jobs P R [] [] each h = tt
+with_jobs P R [] (e ∷ ends) each h = absurd h
+with_jobs P R (job ∷ jobs) [] each h = absurd h
+with_jobs P R (job ∷ jobs) (e ∷ ends) each (x, h) = ((All-head P job jobs each, x), with_jobs P R jobs ends (All-tail P job jobs each) h)
 
 -- an end of a job whose model is valid
 abbrev IsValidEnd : Job → JobEnd → Type 0
 IsValidEnd job e = IsValidJob job × IsJobEnd job e
 
-with_valid : (jobs : List Job) (ends : List JobEnd) → All IsValidJob jobs → AllZip IsJobEnd jobs ends → AllZip IsValidEnd jobs ends
-with_valid [] [] valid h = tt
-with_valid [] (e ∷ ends) valid h = absurd h
-with_valid (job ∷ jobs) [] valid h = absurd h
-with_valid (job ∷ jobs) (e ∷ ends) valid (x, h) = ((All-head IsValidJob job jobs valid, x), with_valid jobs ends (All-tail IsValidJob job jobs valid) h)
-
--- the pairs of a job are settled, and so are those of all jobs of a batch without --quick
-abbrev IsPlainJob : Job → Type 0
-IsPlainJob job = IfOk job.read (λ k. k.quick ≡ false)
-
-abbrev IsPlainCase : BatchCase → Type 0
-IsPlainCase (NoList refusal) = Unit {0}
-IsPlainCase (Jobs jobs) = All IsPlainJob jobs
-
-plain_read : (b : AskedBatch) (r : Result FlowModel Refusal) → b.quick ≡ false → IfOk (task_read b r) (λ k. k.quick ≡ false)
-plain_read b (Ok m) plain = plain
-plain_read b (Err refusal) plain = tt
-
-plain_case : (b : AskedBatch) (r : Result (List Text) Refusal) (read : Text → Result FlowModel Refusal) → b.quick ≡ false → IsPlainCase (batch_case b r read)
-plain_case b (Err refusal) read plain = tt
-plain_case b (Ok names) read plain = all names
-  where
-    all : (names : List Text) → All IsPlainJob (map (job_of b read) names)
-    all [] i d lt = absurd (omega (arith, lt))
-    all (name ∷ names) zero d lt = plain_read b (read name) plain
-    all (name ∷ names) (suc i) d lt = all names i d (omega (arith, lt))
-
 -- an end of such a job whose model is valid
 abbrev IsPlainEnd : Job → JobEnd → Type 0
 IsPlainEnd job e = IsPlainJob job × IsValidEnd job e
-
-with_plain : (jobs : List Job) (ends : List JobEnd) → All IsPlainJob jobs → AllZip IsValidEnd jobs ends → AllZip IsPlainEnd jobs ends
-with_plain [] [] plain h = tt
-with_plain [] (e ∷ ends) plain h = absurd h
-with_plain (job ∷ jobs) [] plain h = absurd h
-with_plain (job ∷ jobs) (e ∷ ends) plain (x, h) = ((All-head IsPlainJob job jobs plain, x), with_plain jobs ends (All-tail IsPlainJob job jobs plain) h)
 
 module _ (laws : Laws) where
   read_agree : (read : Result Task Refusal) (line : Text) (a c : JobEnd) → IfOk read (λ k. k.quick ≡ false) → IfOk read (λ k. AreDecks k.decks) → IsRunText (job_case read) line a → IsRunText (job_case read) line c → Agree a.status c.status
@@ -182,24 +120,20 @@ module _ (laws : Laws) where
   job_agree : (job : Job) (a c : JobEnd) → IsPlainEnd job a → IsPlainEnd job c → Agree a.status c.status
   job_agree job a c x y = read_agree job.read (model_line job.name) a c x.0 x.1.0 x.1.1 y.1.1
 
-  decides : (case : BatchCase) (meant end : Status) (p q : List Text) → IsPlainCase case → AreValid case end → BatchDefines case meant p → BatchDefines case end q → Agree meant end
+  decides : (case : BatchCase) (meant end : Status) (p q : List Text) → IsPlainBatch case → AreValid case end → BatchDefines case meant p → BatchDefines case end q → Agree meant end
   decides (NoList refusal) meant end p q plain valid x y = inr (inl (y.0 ∙ sym x.0))
   decides (Jobs jobs) meant end p q plain (inr stops) x y = absurd (defined_not_stopped (Jobs jobs) end q y stops)
   decides (Jobs jobs) meant end p q plain (inl valid) x y =
-      let both : Agree (first_not_ok x.ends) (first_not_ok y.ends) = batches_agree IsPlainEnd job_agree jobs x.ends y.ends (with_plain jobs x.ends plain (with_valid jobs x.ends valid x.each)) (with_plain jobs y.ends plain (with_valid jobs y.ends valid y.each)) in
+      let both : Agree (first_not_ok x.ends) (first_not_ok y.ends) = batches_agree IsPlainEnd job_agree jobs x.ends y.ends (with_jobs IsPlainJob IsValidEnd jobs x.ends plain (with_jobs IsValidJob IsJobEnd jobs x.ends valid x.each)) (with_jobs IsPlainJob IsValidEnd jobs y.ends plain (with_jobs IsValidJob IsJobEnd jobs y.ends valid y.each)) in
       let P : Status → Type 0 = λ s. Agree s (first_not_ok y.ends) in
       let Q : Status → Type 0 = λ s. Agree meant s in
       subst Q (sym y.ended.status_is) (subst P (sym x.ended.status_is) both)
 
-  decided_by : (fault : Type 0) (case : BatchCase) (meant end : Status) (p : List Text) → IsPlainCase case → AreValid case end → BatchDefines case meant p → Ended fault case end → (fault ⊎ IsUnfinished meant) ⊎ ((end ≡ meant) ⊎ ((end ≡ status.Memory) ⊎ IsUnfinished end))
-  decided_by fault case meant end p plain valid x (inl f) = inl (inl f)
-  decided_by fault case meant end p plain valid x (inr (inl e)) = inr (inr (inl e))
-  decided_by fault case meant end p plain valid x (inr (inr (q, y))) = weighed fault meant end (decides case meant end p q plain valid x y)
-
   pub batch_decided : (b : AskedBatch) (files : FileSet) (n m : ℕ) (end : Status) (puts : List Put) (old new : Seen) → BatchAnswers b (Some files) n m end puts → PutsMake old puts new → BatchDecided (Rose n m ⊎ Rose old.faults new.faults) b files end
   batch_decided b files n m end puts old new a makes = λ plain meant pieces x.
       let P : BatchCase → Type 0 = λ case. BatchDefines case meant pieces in
-      decided_by (Rose n m ⊎ Rose old.faults new.faults) a.case meant end pieces (subst IsPlainCase (sym a.is) (plain_case b (names_read files b) (reads b.limits files) plain)) a.valid (subst P (sym a.is) x) (ended n m a.case end puts old new a.run makes)
+      end_decided (Rose n m ⊎ Rose old.faults new.faults) (BatchDefines a.case) end meant
+      (λ q y. decides a.case meant end pieces q (subst IsPlainBatch (sym a.is) plain) a.valid (subst P (sym a.is) x) y) (ended n m a.case end puts old new a.run makes)
 
   module _ (b : AskedBatch) (files : FileSet) where
     job_settles : (name : Text) (e : JobEnd) → HasJob b files name → IsValidEnd (job_of b (reads b.limits files) name) e → e.status ≡ status.Ok
@@ -217,16 +151,12 @@ module _ (laws : Laws) where
     jobs_end_ok names end q each (inr stops) y = absurd (defined_not_stopped (Jobs (map (job_of b (reads b.limits files)) names)) end q y stops)
     jobs_end_ok names end q each (inl valid) y =
         let jobs : List Job = map (job_of b (reads b.limits files)) names in
-        y.ended.status_is ∙ batch_settles (λ job e. e.status ≡ status.Ok) (λ job e is. is) jobs y.ends (all_settle names y.ends each (with_valid jobs y.ends valid y.each))
-
-    comes_by : (fault : Type 0) (names : List Text) (end : Status) → All (HasJob b files) names → AreValid (Jobs (map (job_of b (reads b.limits files)) names)) end → Ended fault (Jobs (map (job_of b (reads b.limits files)) names)) end → fault ⊎ ((end ≡ status.Ok) ⊎ (end ≡ status.Memory))
-    comes_by fault names end each valid (inl f) = inl f
-    comes_by fault names end each valid (inr (inl e)) = inr (inr e)
-    comes_by fault names end each valid (inr (inr (q, y))) = inr (inl (jobs_end_ok names end q each valid y))
+        y.ended.status_is ∙ batch_settles (λ job e. e.status ≡ status.Ok) (λ job e is. is) jobs y.ends (all_settle names y.ends each (with_jobs IsValidJob IsJobEnd jobs y.ends valid y.each))
 
     pub batch_complete : (n m : ℕ) (end : Status) (puts : List Put) (old new : Seen) → BatchAnswers b (Some files) n m end puts → PutsMake old puts new → BatchComes (Rose n m ⊎ Rose old.faults new.faults) b files end
     batch_complete n m end puts old new a makes = λ has.
         let is : a.case ≡ Jobs (map (job_of b (reads b.limits files)) has.names) = a.is ∙ ap (λ r. batch_case b r (reads b.limits files)) has.read in
         let V : BatchCase → Type 0 = λ case. AreValid case end in
-        let E : BatchCase → Type 0 = λ case. Ended (Rose n m ⊎ Rose old.faults new.faults) case end in
-        comes_by (Rose n m ⊎ Rose old.faults new.faults) has.names end has.each (subst V is a.valid) (subst E is (ended n m a.case end puts old new a.run makes))
+        let E : BatchCase → Type 0 = λ case. Ended (Rose n m ⊎ Rose old.faults new.faults) (BatchDefines case) end in
+        end_comes (Rose n m ⊎ Rose old.faults new.faults) (BatchDefines (Jobs (map (job_of b (reads b.limits files)) has.names))) end (λ q y. jobs_end_ok has.names end q has.each (subst V is a.valid) y)
+        (subst E is (ended n m a.case end puts old new a.run makes))

@@ -2,7 +2,8 @@
 use Rattle.engine.proofs.Common.{◌≡◌, ◌⊎◌, ℕ, List, [], ◌∷◌, Some, Ok, map, subst, sym, ap, refl, inl, inr, ◌∙◌, FileSet, Put, Seen, PutsMake, taken, FlowModel}
 use Rattle.engine.proofs.Common.{IsModel, reads, ZonedListing, Text, Status, all_written, ListingVerdict, Fails, VerdictIsOne, IsVerdict, AskedCheck, Check}
 use Rattle.engine.proofs.Common.{Checking, asked_in, listing_read, named, steps_read, zones_read, Certified, IsCheck, certified_line, verdict_line}
-use Rattle.engine.proofs.Common.{verdict_status, Defines, OneVerdict, IsListed, IsStopped, Limits, Decks, AreDecks, one_deck, false, listing, place}
+use Rattle.engine.proofs.Common.{verdict_status, Defines, OneVerdict, IsListed, IsStopped, Limits, Decks, AreDecks, one_deck, listing, place}
+use Rattle.std.specs.Prelude.{false}
 use Rattle.check_run.specs.declared.verdict.ListingVerdict.TheVariants.{Certified as Holds, Refused as Unbounded}
 use Rattle.engine.proofs.Readings.{named_read, zoned_parts}
 use Rattle.run_puts.specs.declared.status.Status.TheVariants as status
@@ -36,11 +37,8 @@ pub check_is_no_fault : (limits : Limits) (m : Decks) (s : ℕ) (listing : Zoned
 check_is_no_fault limits m s listing end pieces c h = verdict_is_no_fault c.verdict (subst IsFault c.status h)
 
 module _ (words : List Text) (files : FileSet) (old new : Seen) (puts : List Put) (pieces : List Text) (asked : AskedCheck) (wanted : asked_in words ≡ Some (Check asked)) (written : puts ≡ map taken pieces) (makes : PutsMake old puts new) where
-  abbrev Tells : Type 0
-  Tells = Certified words files old.written new.written × OneVerdict words files
-
-  pub tells : (f : FlowModel) (listing : ZonedListing) → IsModel f → named asked.name (reads asked.limits files) ≡ Ok f → listing_read false files asked f ≡ Ok listing → Defines (Checking asked.limits (one_deck f) asked.digits listing) status.Ok pieces → Tells
-  tells f listing model read listed d =
+  pub certified_and_one : (f : FlowModel) (listing : ZonedListing) → IsModel f → named asked.name (reads asked.limits files) ≡ Ok f → listing_read false files asked f ≡ Ok listing → Defines (Checking asked.limits (one_deck f) asked.digits listing) status.Ok pieces → Certified words files old.written new.written × OneVerdict words files
+  certified_and_one f listing model read listed d =
       let parts = zoned_parts (zones_read files asked.zones f) (steps_read false files asked f) listing listed in
       let is = named_read asked.name (reads asked.limits files) f read in
       let holds = is_certified d.verdict d.status in

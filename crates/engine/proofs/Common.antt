@@ -1,12 +1,12 @@
 -- Names that several proofs of this crate cite, of the crates below and of its own definitions, passed on from one place. Declares nothing.
-pub use Rattle.std.proofs.Common.{Bool, Err, IfOk, IfSome, List, None, Ok, Option, Result, Some, [], ap, arith, codes, cond, get_or, if◌then◌else◌, inl, inr}
-pub use Rattle.std.proofs.Common.{length, length-append, map, option_and_then, option_map, refl, rules, subst, suc, sym, take, true, unsigned_abs, zero, ℕ, ℤ}
-pub use Rattle.std.proofs.Common.{◌*◌, ◌++◌, ◌+◌, ◌<◌, ◌∙◌, ◌∷◌, ◌≡◌, ◌≢◌, ◌≤◌, ◌⊎◌}
+pub use Rattle.std.proofs.Common.{Bool, Err, IfOk, IfSome, List, None, Ok, Option, Result, Some, [], ap, arith, codes, cond, false, get_or, if◌then◌else◌, inl}
+pub use Rattle.std.proofs.Common.{inr, length, length-append, map, option_and_then, option_map, refl, rules, subst, sym, take, true, unsigned_abs, ℕ, ℤ, ◌*◌}
+pub use Rattle.std.proofs.Common.{◌++◌, ◌+◌, ◌<◌, ◌∙◌, ◌∷◌, ◌≡◌, ◌≢◌, ◌≤◌, ◌⊎◌}
 pub use Rattle.std.proofs.lemmas.List.{append-nil, append_assoc, length-map, map-append, take_more}
 pub use Rattle.std.proofs.lemmas.List.Elements.{All-append, All-cons, All-head, All-nil, All-push, All-tail, All-weaker}
 pub use Rattle.std.proofs.lemmas.Result.{err_from_is_err_and}
 pub use Rattle.std.specs.List.{AllZip, concat}
-pub use Rattle.std.specs.Prelude.{All, MatchOption, false, is_some, slice_get}
+pub use Rattle.std.specs.Prelude.{All, IfErr, MatchOption, is_some, slice_get}
 pub use Rattle.batch_list.specs.Names.{names_in}
 pub use Rattle.batch_puts.proofs.Batches.{batch_run, batch_settles, batches_agree, ends_of_jobs}
 pub use Rattle.batch_puts.specs.Batches.{IsBatch}
@@ -28,7 +28,7 @@ pub use Rattle.deck_span.specs.Alike.{AreAlike}
 pub use Rattle.engine.specs.BatchCommands.{batch_by}
 pub use Rattle.engine.specs.BatchReads.{AreJobsRead, AreTasks, HasNames, IsFaultOf, IsJobRead}
 pub use Rattle.engine.specs.BatchRuns.{AnyAnswers, AnyComes, AnyDecided, AnyPuts, AreValid, BatchAnswers, BatchComes, BatchDecided, BatchDue, HasJob}
-pub use Rattle.engine.specs.BatchRuns.{IsBatchRun, IsValidJob}
+pub use Rattle.engine.specs.BatchRuns.{IsBatchRun, IsPlainBatch, IsPlainJob, IsValidJob}
 pub use Rattle.engine.specs.Batched.{Batched, HasEnded, HasNoList, IsJobListing}
 pub use Rattle.engine.specs.Batches.{AskedBatch, BatchCase, BatchDefines, IsBatchCase, IsJobEnd, IsRunText, IsSomeJob, Jobs, NoList, batch_asked, batch_case}
 pub use Rattle.engine.specs.Batches.{batch_case_of, batch_of, job_case, job_of, job_task, model_line, names_at, names_read, task_read}
@@ -41,21 +41,19 @@ pub use Rattle.engine.specs.Certified.{Certified}
 pub use Rattle.engine.specs.Checked.{IsCheck, certified_line, verdict_line, verdict_status}
 pub use Rattle.engine.specs.Commands.{MayRead, asked_of, check_of, check_to, command_of, run_to, to_of, views_of}
 pub use Rattle.engine.specs.Decks.{IsDeck, OneDeck}
-pub use Rattle.engine.specs.Defined.{CutOf, Defines, Due, ReadsFolder, defined, unread}
+pub use Rattle.engine.specs.Defined.{CutOf, Defines, Due, IsDue, ReadsFolder, defined, unread}
 pub use Rattle.engine.specs.Made.{IsMade, Made, made_task, summed_text}
-pub use Rattle.engine.specs.OneListing.{OneSummary, OneVerdict}
-pub use Rattle.engine.specs.Parts.{Answers, AnswersBeside, AreDecksAs, AreStepsAs, AreZonesAs, IsListed, IsListedAs, IsMadeRun, IsNamedFault, IsReadAs}
-pub use Rattle.engine.specs.Parts.{IsReadingEnd, IsSecondAs, IsStopped, IsUnlikeFault, IsValid, made_fault, second_by}
-pub use Rattle.engine.specs.QuickListing.{OneOrQuick, SpanOrQuick}
+pub use Rattle.engine.specs.OneListing.{OneListing, OneSummary, OneVerdict}
+pub use Rattle.engine.specs.Parts.{Answers, AnswersBeside, AreDecksAs, AreDecksOf, AreStepsAs, AreZonesAs, IsListed, IsListedAs, IsMadeRun, IsNamedFault}
+pub use Rattle.engine.specs.Parts.{IsNoSecond, IsReadAs, IsReadingEnd, IsSecondAs, IsStopped, IsUnlikeFault, IsValid, made_fault, second_by}
 pub use Rattle.engine.specs.Runs.{Comes, Decided, HasCertified, HasDeck, HasListing, HasTask, IsLeft, IsPlain, IsRunOf, Puts}
 pub use Rattle.engine.specs.Serving.{IsStopNumber}
-pub use Rattle.engine.specs.SpanHeadline.{ArePairOf, SpanCertified, SpanHeadline, SpanVerdict}
+pub use Rattle.engine.specs.SpanHeadline.{ArePairOf, OneSpan, SpanCertified, SpanHeadline, SpanVerdict}
 pub use Rattle.engine.specs.TwoDecks.{AreRead, IsDecksRefusal, Second, not_alike, of_both, of_first, of_second}
 unfoldable pub use Rattle.engine.specs.TwoDecks.{second_in}
 pub use Rattle.engine.specs.Watched.{AreFirstViews, ArePutInTurn, AreViews, AreWatched, IsView, IsWatched, Shows, SidePuts, ViewPutsOf, Watched, lines_of}
 pub use Rattle.engine.specs.Watched.{views_asked, views_in}
-pub use Rattle.engine.specs.Written.{ChecksSpan, ChecksWritten, OneListingIsCertified, OneSpanIsCertified, QuickListingIsCertified, QuickSpanIsCertified}
-pub use Rattle.engine.specs.Written.{WrittenIsCertified, WrittenSpanIsCertified}
+pub use Rattle.engine.specs.Written.{ChecksSpan, ChecksWritten, OneListingIsCertified, OneSpanIsCertified, WrittenIsCertified, WrittenSpanIsCertified}
 pub use Rattle.engine.specs.declared.job.Job.{Job}
 pub use Rattle.engine.specs.declared.zoned.ZonedListing.{ZonedListing}
 pub use Rattle.exact_histories.proofs.WholeRuns.{history_exists, history_is_one}
@@ -76,8 +74,8 @@ pub use Rattle.listing_run.specs.Tasks.{deck_task, one_task, pairs_of}
 pub use Rattle.listing_run.specs.declared.listing_end.ListingEnd.{ListingEnd}
 pub use Rattle.listing_run.specs.declared.step.Step.{Step}
 pub use Rattle.listing_run.specs.declared.task.Task.{Task}
+pub use Rattle.model_forms.proofs.ModelForms.{deck_reads, unit_is_short}
 pub use Rattle.model_maker.specs.Files.{made_files, made_name}
-pub use Rattle.model_reader.proofs.UnitLemmas.{unit_is_short}
 pub use Rattle.model_reader.specs.Model.{model_of}
 unfoldable pub use Rattle.model_reader.specs.Model.{reads}
 pub use Rattle.model_text.specs.Decks.{deck_text}

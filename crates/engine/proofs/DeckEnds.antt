@@ -84,7 +84,7 @@ within_valid a (Some b) case end h = inr h
 due_within : (failed : Type 0) (a : FlowModel) (last : Option Second) (case : Case) → IfSome last (λ b. AreAlike a b.model) → (end : Status) (pieces : List Text) → Due failed case end pieces → Due failed (within a last case) end pieces
 due_within failed a None case alike end pieces d = d
 due_within failed a (Some b) case alike end pieces (defined meant all d) = defined meant all (inr (alike, d))
-due_within failed a (Some b) case alike end pieces (unread f worded) = unread f tt
+due_within failed a (Some b) case alike end pieces (unread (f, worded)) = unread (f, tt)
 
 -- a run under weaker conditions on its pieces
 begins_map : {P Q : Status → List Text → Type 0} {C D : List Text → Type 0} → ((end : Status) (pieces : List Text) → P end pieces → Q end pieces) → ((pieces : List Text) → C pieces → D pieces) → (before after : List Text) → Begins P C before after → Begins Q D before after

@@ -1,11 +1,12 @@
 -- The ends of a run, by its words, its reading and its listing.
 use Rattle.engine.proofs.Common.{◌≡◌, ℕ, List, [], ◌∷◌, Ok, Err, Result, Option, None, Some, IfOk, subst, sym, ap, refl, inl, inr, ◌∙◌, codes, option_and_then}
 use Rattle.engine.proofs.Common.{map, unsigned_abs, FileSet, Rose, file_refusal, Put, BadName, Refusal, Wanted, wanted_of, FlowModel, IsModel, ListedStep}
-use Rattle.engine.proofs.Common.{refused_line, Text, read_fault_line, IsEnd, IsLast, IsWanting, wanting, memory_put, status_after, Status, IsLate, tail_late}
-use Rattle.engine.proofs.Common.{lone, lacks_at_first, weaker, AreZonesOf, Case, Command, Make, NoWords, Refuses, Making, IsCase, CouldList, CouldRead}
-use Rattle.engine.proofs.Common.{asked_in, built, case_asked, made_model, Due, ReadsFolder, CutOf, IsMade, Answers, IsMadeRun, IsStopped, IsValid, defined}
-use Rattle.engine.proofs.Common.{Comparing, Readings, readings_of, some_readings, Second, unread}
+use Rattle.engine.proofs.Common.{refused_line, Text, read_fault_line, IsEnd, IsLast, IsWanting, wanting, memory_put, status_after, Status, tail_late, lone}
+use Rattle.engine.proofs.Common.{lacks_at_first, weaker, AreZonesOf, Case, Command, Make, NoWords, Refuses, Making, IsCase, CouldList, CouldRead, asked_in}
+use Rattle.engine.proofs.Common.{built, case_asked, made_model, Due, ReadsFolder, CutOf, IsMade, Answers, IsMadeRun, IsStopped, IsValid, defined, Comparing}
+use Rattle.engine.proofs.Common.{Readings, readings_of, some_readings, Second, unread}
 use Rattle.command_line.specs.Usage.{usage_line}
+use Rattle.engine.proofs.Dues.{late_stops}
 use Rattle.engine.proofs.Readings.{no_second, no_zones}
 use Rattle.outside.specs.declared.refusals.InputFault.TheVariants as input
 use Rattle.run_puts.specs.declared.status.Status.TheVariants as status
@@ -16,10 +17,6 @@ asked_by words wanted asked e is = ap (option_and_then built) e ∙ sym is
 
 pub asked_none : (words : List Text) → wanted_of words ≡ None → asked_in words ≡ None
 asked_none words e = ap (option_and_then built) e
-
-pub late_stops : (end : Status) → IsLate end → IsStopped end
-late_stops end (inl e) = inr (inl e)
-late_stops end (inr e) = inr (inr e)
 
 pub wanting_stops : (end : Status) (puts : List Put) → IsWanting end puts → IsStopped end
 wanting_stops end puts (answer, s, t) = let P : Status → Type 0 = IsStopped in subst P (sym s) (late_stops (status_after answer) (tail_late [] (status_after answer) (memory_put answer ∷ []) (wanting [] answer)))
@@ -39,7 +36,7 @@ module _ (words : List Text) (files : Option FileSet) (n m : ℕ) where
   lacking case end puts is h = record { case = case; is = is; run = lacks_at_first (Due (Rose n m) case) (CutOf case) end puts h; valid = stopped case end (wanting_stops end puts h) }
 
   pub unreadable : (case : Case) (end : Status) (puts : List Put) → IsCase words files case → ReadsFolder case → Rose n m → IsLast read_fault_line status.ReadFault end puts → Answers words files n m end puts
-  unreadable case end puts is worded rose h = record { case = case; is = is; run = lone (Due (Rose n m) case) (CutOf case) read_fault_line status.ReadFault end puts (unread rose worded) (inl h); valid = stopped case end (read_stops end puts h) }
+  unreadable case end puts is worded rose h = record { case = case; is = is; run = lone (Due (Rose n m) case) (CutOf case) read_fault_line status.ReadFault end puts (unread (rose, worded)) (inl h); valid = stopped case end (read_stops end puts h) }
 
   pub ends_usage : (end : Status) (puts : List Put) → IsCase words files NoWords → IsLast usage_line status.Usage end puts → Answers words files n m end puts
   ends_usage end puts is h = record { case = NoWords; is = is; run = lone (Due (Rose n m) NoWords) (CutOf NoWords) usage_line status.Usage end puts (defined status.Usage (usage_line ∷ []) (refl, refl)) (inl h); valid = tt }

@@ -1,5 +1,6 @@
 mod Common
 pub mod Readings
+pub mod Dues
 pub mod Ends
 pub mod DeckEnds
 pub mod Summed

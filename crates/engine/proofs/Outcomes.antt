@@ -1,13 +1,14 @@
 -- The public clauses, from all that a run comes to.
 use Rattle.engine.proofs.Common.{◌≡◌, ℕ, List, Option, Some, None, IfSome, Ok, Err, subst, sym, ◌∙◌, ap, refl, inl, inr, ◌⊎◌, FileSet, Rose, Put, Seen}
-use Rattle.engine.proofs.Common.{PutsMake, NoBound, FlowModel, TimeStep, Text, whole, early, Agree, IsUnfinished, Status, IsLate, tail_late, late_not_read}
-use Rattle.engine.proofs.Common.{write_rose, AreDecks, one_valid, Task, Step, ListingEnd, AllSteps, listing, status_of, IsListing, VerdictIsOne, Case, NoWords}
-use Rattle.engine.proofs.Common.{Refuses, Listing, Making, Checking, Writing, CutOf, Defines, Due, made_task, Decided, Comes, HasCertified, HasDeck, HasListing}
-use Rattle.engine.proofs.Common.{HasTask, IsRunOf, Answers, IsStopped, IsValid, Limits, defined, false, Decks, ZonedListing, IsVerdict, Difference, Comparing}
-use Rattle.engine.proofs.Common.{IsCheckingOf, IsListingOf, Second, not_alike, IsPlain, AreAlike, unread}
+use Rattle.engine.proofs.Common.{PutsMake, NoBound, FlowModel, TimeStep, Text, Agree, Status, AreDecks, one_valid, Task, Step, ListingEnd, AllSteps, listing}
+use Rattle.engine.proofs.Common.{status_of, IsListing, VerdictIsOne, Case, NoWords, Refuses, Listing, Making, Checking, Writing, CutOf, Defines, made_task}
+use Rattle.engine.proofs.Common.{Decided, Comes, HasCertified, HasDeck, HasListing, HasTask, IsRunOf, Answers, IsStopped, IsValid, Limits, Decks, ZonedListing}
+use Rattle.engine.proofs.Common.{IsVerdict, Difference, Comparing, IsCheckingOf, IsListingOf, Second, not_alike, IsPlain, AreAlike, ReadsFolder}
+use Rattle.std.specs.Prelude.{false}
 use Rattle.engine.proofs.Certifying.{IsFault, certifies, check_is_no_fault, never_stopped_check, one_end, stopped_by_fault}
 use Rattle.check_run.specs.declared.verdict.ListingVerdict.TheVariants.{Certified as Holds}
 use Rattle.engine.proofs.Told.{Laws}
+use Rattle.engine.proofs.Dues.{Ended, read_failed, write_failed, run_ended, end_decided, end_comes}
 use Rattle.run_puts.specs.declared.status.Status.TheVariants as status
 use Rattle.listing_run.specs.declared.listing_end.ListingEnd.TheVariants as ends
 
@@ -30,20 +31,14 @@ defines_no_fault (Writing m) end pieces d h = subst IsFault d.0 h
 defines_no_fault (Comparing a b c) end pieces (inl unlike) h = subst IsFault unlike.status h
 defines_no_fault (Comparing a b c) end pieces (inr (alike, d)) h = defines_no_fault c end pieces d h
 
-due_read : (read_failed : Type 0) (case : Case) (end : Status) (pieces : List Text) → Due read_failed case end pieces → end ≡ status.ReadFault → read_failed
-due_read read_failed case end pieces (defined meant all d) e = absurd (defines_no_fault case end pieces d (subst IsFault (sym e) tt))
-due_read read_failed case end pieces (unread failed worded) e = failed
+pub defines_not_stopped : (case : Case) (end : Status) (pieces : List Text) → Defines case end pieces → IsStopped end → ⊥
+defines_not_stopped case end pieces d stops = defines_no_fault case end pieces d (stopped_by_fault end stops)
 
-pub read_rose : (read_failed : Type 0) (case : Case) (end : Status) (puts : List Put) → IsRunOf read_failed case end puts → end ≡ status.ReadFault → read_failed
-read_rose read_failed case end puts (whole meant pieces due) e = due_read read_failed case end pieces due e
-read_rose read_failed case end puts (early meant before after tail b t) e = absurd (late_not_read end (tail_late after end tail t) e)
+pub read_rose : (read_fault : Type 0) (case : Case) (end : Status) (puts : List Put) → IsRunOf read_fault case end puts → end ≡ status.ReadFault → read_fault
+read_rose read_fault case end puts run e = (read_failed (read_fault × ReadsFolder case) (Defines case) (CutOf case) (defines_not_stopped case) end puts run e).0
 
-due_write : (read_failed : Type 0) (case : Case) (end : Status) (pieces : List Text) → Due read_failed case end pieces → end ≡ status.WriteFault → ⊥
-due_write read_failed case end pieces (defined meant all d) e = defines_no_fault case end pieces d (subst IsFault (sym e) tt)
-due_write read_failed case end pieces (unread failed worded) e = let bad : status.ReadFault ≡ status.WriteFault = e in cc
-
-pub put_rose : (read_failed : Type 0) (case : Case) (end : Status) (puts : List Put) (old new : Seen) → IsRunOf read_failed case end puts → end ≡ status.WriteFault → PutsMake old puts new → Rose old.faults new.faults
-put_rose read_failed case = write_rose (Due read_failed case) (CutOf case) (λ pieces due. due_write read_failed case status.WriteFault pieces due refl)
+pub put_rose : (read_fault : Type 0) (case : Case) (end : Status) (puts : List Put) (old new : Seen) → IsRunOf read_fault case end puts → end ≡ status.WriteFault → PutsMake old puts new → Rose old.faults new.faults
+put_rose read_fault case = write_failed (read_fault × ReadsFolder case) (Defines case) (CutOf case) (defines_not_stopped case)
 
 same_refusal : (s t : TimeStep) (a b : NoBound) → s ≡ t → a ≡ b → status.NoBound t.period t.step b ≡ status.NoBound s.period s.step a
 same_refusal s t a b at is = sym (ap (λ (x : TimeStep). status.NoBound x.period x.step a) at ∙ ap (λ n. status.NoBound t.period t.step n) is)
@@ -77,21 +72,9 @@ module _ (k : Task) (no_refusal : (before : List Step) (at : TimeStep) (n : NoBo
 pub never_stopped : (k : Task) (end : Status) (q : List Text) → IsStopped end → IsListing k end q → ⊥
 never_stopped k end q stops y = listing_is_no_fault k end q y (stopped_by_fault end stops)
 
--- how a run ended: after a fault outside, because memory ran out, or as its case defines
-abbrev Ended : Type 0 → Case → Status → Type 0
-Ended fault case end = fault ⊎ ((end ≡ status.Memory) ⊎ ((q : List Text) × Defines case end q))
-
-due_ended : (n m u v : ℕ) (case : Case) (end : Status) (pieces : List Text) → Due (Rose n m) case end pieces → Ended (Rose n m ⊎ Rose u v) case end
-due_ended n m u v case end pieces (defined meant all d) = inr (inr (pieces, d))
-due_ended n m u v case end pieces (unread failed worded) = inl (inl failed)
-
-late_ended : (n m : ℕ) (case : Case) (end : Status) (puts : List Put) (old new : Seen) → IsRunOf (Rose n m) case end puts → PutsMake old puts new → IsLate end → Ended (Rose n m ⊎ Rose old.faults new.faults) case end
-late_ended n m case end puts old new run makes (inl e) = inl (inr (put_rose (Rose n m) case end puts old new run e makes))
-late_ended n m case end puts old new run makes (inr e) = inr (inl e)
-
-ended : (n m : ℕ) (case : Case) (end : Status) (puts : List Put) (old new : Seen) → IsRunOf (Rose n m) case end puts → PutsMake old puts new → Ended (Rose n m ⊎ Rose old.faults new.faults) case end
-ended n m case end puts old new (whole meant pieces due) makes = due_ended n m old.faults new.faults case end pieces due
-ended n m case end puts old new (early meant before after tail b t) makes = late_ended n m case end puts old new (early meant before after tail b t) makes (tail_late after end tail t)
+ended : (n m : ℕ) (case : Case) (end : Status) (puts : List Put) (old new : Seen) → IsRunOf (Rose n m) case end puts → PutsMake old puts new → Ended (Rose n m ⊎ Rose old.faults new.faults) (Defines case) end
+ended n m case end puts old new =
+    run_ended (Rose n m × ReadsFolder case) (Defines case) (CutOf case) (defines_not_stopped case) (Rose n m ⊎ Rose old.faults new.faults) (λ f. inl f.0) old new (λ f. inr f) end puts
 
 decides : (laws : Laws) (case : Case) (meant end : Status) (p q : List Text) → IsPlain case → IsValid case end → Defines case meant p → Defines case end q → Agree meant end
 decides laws NoWords meant end p q plain valid (x, a) (y, b) = inr (inl (y ∙ sym x))
@@ -110,20 +93,11 @@ decides laws (Comparing a b c) meant end p q plain valid (inr (alike, x)) (inl y
 decides laws (Comparing a b c) meant end p q plain (inl never) (inr (alike, x)) (inr (also, y)) = absurd (never alike)
 decides laws (Comparing a b c) meant end p q plain (inr valid) (inr (alike, x)) (inr (also, y)) = decides laws c meant end p q plain valid x y
 
-pub weighed : (fault : Type 0) (meant end : Status) → Agree meant end → (fault ⊎ IsUnfinished meant) ⊎ ((end ≡ meant) ⊎ ((end ≡ status.Memory) ⊎ IsUnfinished end))
-weighed fault meant end (inl open_meant) = inl (inr open_meant)
-weighed fault meant end (inr (inl e)) = inr (inl e)
-weighed fault meant end (inr (inr open_end)) = inr (inr (inr open_end))
-
-decided_by : (laws : Laws) (fault : Type 0) (case : Case) (meant end : Status) (p : List Text) → IsPlain case → IsValid case end → Defines case meant p → Ended fault case end → (fault ⊎ IsUnfinished meant) ⊎ ((end ≡ meant) ⊎ ((end ≡ status.Memory) ⊎ IsUnfinished end))
-decided_by laws fault case meant end p plain valid x (inl f) = inl (inl f)
-decided_by laws fault case meant end p plain valid x (inr (inl e)) = inr (inr (inl e))
-decided_by laws fault case meant end p plain valid x (inr (inr (q, y))) = weighed fault meant end (decides laws case meant end p q plain valid x y)
-
 pub decided : (laws : Laws) (words : List Text) (files : Option FileSet) (n m : ℕ) (end : Status) (puts : List Put) (old new : Seen) → Answers words files n m end puts → PutsMake old puts new → IfSome files (λ fs. Decided (Rose n m ⊎ Rose old.faults new.faults) words fs end)
 decided laws words (Some fs) n m end puts old new a makes = λ plain meant pieces x.
     let P : Case → Type 0 = λ case. Defines case meant pieces in
-    decided_by laws (Rose n m ⊎ Rose old.faults new.faults) a.case meant end pieces (subst IsPlain (sym a.is) plain) a.valid (subst P (sym a.is) x) (ended n m a.case end puts old new a.run makes)
+    end_decided (Rose n m ⊎ Rose old.faults new.faults) (Defines a.case) end meant
+    (λ q y. decides laws a.case meant end pieces q (subst IsPlain (sym a.is) plain) a.valid (subst P (sym a.is) x) y) (ended n m a.case end puts old new a.run makes)
 decided laws words None n m end puts old new a makes = tt
 
 -- an end that a case defines is one of the listing that is put or summed up
@@ -152,14 +126,8 @@ ends_of k (Making seed size (Ok m)) end has =
     subst P has (λ q y. (y.all, y.listed))
 ends_of k other end has = absurd has
 
--- of ends that are all Ok, a run's is Ok, unless there was a fault outside or memory ran out before
-comes_by : (fault : Type 0) (case : Case) (end : Status) → ((q : List Text) → Defines case end q → end ≡ status.Ok) → Ended fault case end → fault ⊎ ((end ≡ status.Ok) ⊎ (end ≡ status.Memory))
-comes_by fault case end through (inl f) = inl f
-comes_by fault case end through (inr (inl e)) = inr (inr e)
-comes_by fault case end through (inr (inr (q, y))) = inr (inl (through q y))
-
 -- a check whose verdict is that the listing is certified has no other end, nor has that of two decks that are alike
-checks_certify : VerdictIsOne → (limits : Limits) (d : Decks) (s : ℕ) (l : ZonedListing) → IsVerdict limits d s l.zones l.steps Holds → (fault : Type 0) (end : Status) (case : Case) → IsCheckingOf limits d s l case → IsValid case end → Ended fault case end → fault ⊎ ((end ≡ status.Ok) ⊎ (end ≡ status.Memory))
+checks_certify : VerdictIsOne → (limits : Limits) (d : Decks) (s : ℕ) (l : ZonedListing) → IsVerdict limits d s l.zones l.steps Holds → (fault : Type 0) (end : Status) (case : Case) → IsCheckingOf limits d s l case → IsValid case end → Ended fault (Defines case) end → fault ⊎ ((end ≡ status.Ok) ⊎ (end ≡ status.Memory))
 checks_certify law limits d s l verdict fault end (Checking other e t k) (by, same, digits, listing) valid ended =
     let O : Limits → Type 0 = λ x. IsVerdict x d s l.zones l.steps Holds in
     let P : Decks → Type 0 = λ x. IsVerdict other x s l.zones l.steps Holds in
@@ -177,20 +145,20 @@ module _ (laws : Laws) (words : List Text) (files : FileSet) (n m : ℕ) (end : 
   abbrev Fault : Type 0
   Fault = Rose n m ⊎ Rose old.faults new.faults
 
-  ends_here : Ended Fault a.case end
+  ends_here : Ended Fault (Defines a.case) end
   ends_here = ended n m a.case end puts old new a.run makes
 
   complete_by : HasListing words files ⊎ (HasCertified words files ⊎ HasDeck words files) → Fault ⊎ ((end ≡ status.Ok) ⊎ (end ≡ status.Memory))
   complete_by (inl l) =
       let P : Case → Type 0 = λ case. HasTask case l.task in
       let listed_end = ends_of l.task a.case end (subst P (sym a.is) l.is) in
-      comes_by Fault a.case end (λ q y. let p = listed_end q y in goes_through l.task l.no_refusal l.none_open end p.0 p.1) ends_here
+      end_comes Fault (Defines a.case) end (λ q y. let p = listed_end q y in goes_through l.task l.no_refusal l.none_open end p.0 p.1) ends_here
   complete_by (inr (inl l)) =
       let P : Case → Type 0 = IsCheckingOf l.limits l.decks l.digits l.listing in
       checks_certify laws.verdict l.limits l.decks l.digits l.listing l.verdict Fault end a.case (subst P (sym a.is) l.is) a.valid ends_here
   complete_by (inr (inr l)) =
-      let E : Case → Type 0 = λ case. Ended Fault case end in
-      comes_by Fault (Writing l.model) end (λ q d. d.0) (subst E (a.is ∙ l.is) ends_here)
+      let E : Case → Type 0 = λ case. Ended Fault (Defines case) end in
+      end_comes Fault (Defines (Writing l.model)) end (λ q d. d.0) (subst E (a.is ∙ l.is) ends_here)
 
 pub complete : (laws : Laws) (words : List Text) (files : Option FileSet) (n m : ℕ) (end : Status) (puts : List Put) (old new : Seen) → Answers words files n m end puts → PutsMake old puts new → IfSome files (λ fs. Comes (Rose n m ⊎ Rose old.faults new.faults) words fs end)
 complete laws words (Some fs) n m end puts old new a makes = complete_by laws words fs n m end puts old new a makes

@@ -5,10 +5,10 @@ use Rattle.engine.proofs.Common.{TextFault, IsGoodName, is_good_name, BadName, I
 use Rattle.engine.proofs.Common.{ListedStep, pairs_in, AreListed, listing_in, zones_of, AreZonesOf, ZonedListing, AskedCheck, CouldList, named, numbers_of}
 use Rattle.engine.proofs.Common.{steps_in, steps_read, with_zones, zoned_steps, zones_named, AreStepsAs, AreZonesAs, IsListedAs, IsNamedFault, IsReadAs, Limits}
 use Rattle.engine.proofs.Common.{◌>>=◌, model_of, AreAlike, Difference, two, one_deck, AreDecksAs, IsSecondAs, IsUnlikeFault, second_by, Second, of_both}
-use Rattle.engine.proofs.Common.{of_first, of_second, second_in, Pairs, InputCounts, cell_count}
+use Rattle.engine.proofs.Common.{of_first, of_second, second_in, Pairs, InputCounts, cell_count, false, AreDecks, Decks, AreDecksOf, IsNoSecond, IfErr}
 use Rattle.deck_alike.specs.Differences.{IsFirstDifference}
-use Rattle.std.proofs.Common.{false, All}
-use Rattle.model_reader.specs.Names.{names_in}
+use Rattle.std.proofs.Common.{All}
+use Rattle.model_reader.specs.Model.{names_in}
 use Rattle.engine.specs.declared.two_decks.Second.{Second as SecondBy}
 use Rattle.outside.specs.Folders.{ReadsOn}
 use Rattle.outside.specs.declared.traits.Folder.{Ghosts as FolderOf}
@@ -150,6 +150,15 @@ module _ (limits : Limits) (name to : Text) where
   alike_decks (Some fs) a b h k alike = record { last = Some (second_by b); is_first = h; is_second = ap (λ x. Some x) k; are = refl; alike = alike }
   alike_decks None a b (read, valid, h) (second, also, k) alike = (read, second, valid, also, record { last = Some (second_by b); is_first = h; is_second = ap (λ x. Some x) k; are = refl; alike = alike })
 
+  -- they were compared
+  pub compared_decks : (files : Option FileSet) (a : FlowModel) (b : SecondBy) → IsReadAs limits name files (Ok a) → IsSecondAs limits to files (Ok b) → (r : Result Decks InputFault) → IfOk r (AreDecksOf a b.model) → IfErr r (IsNoSecond a (second_by b)) → AreDecksAs limits name (Some to) files r
+  compared_decks files a b h k (Ok d) (is, alike) e = let P : Decks → Type 0 = λ x. AreDecksAs limits name (Some to) files (Ok x) in subst P (sym is) (alike_decks files a b h k alike)
+  compared_decks files a b h k (Err fault) e (d, first, never, is) = unlike_decks files a b d fault h k first never is
+
+pub compared_valid : (a b : FlowModel) (r : Result Decks InputFault) → IsModel a → IsModel b → IfOk r (AreDecksOf a b) → IfOk r AreDecks
+compared_valid a b (Ok d) first second (is, alike) = subst AreDecks (sym is) (record { first = first; second = record { model = second; alike = alike } })
+compared_valid a b (Err fault) first second e = tt
+
 -- a fault of one reading, as one of another
 same_fault : (T U : Type 0) (n m : ℕ) (fault : InputFault) → InputCounts {T = T} n m (Err fault) → InputCounts {T = U} n m (Err fault)
 same_fault T U n m (input.Refused refusal) h = h
@@ -172,6 +181,10 @@ pub unlike_counts : (T : Type 0) (b : Second) (d : Difference) (fault : InputFau
 unlike_counts T b d (input.Refused refusal) n is = refl
 unlike_counts T b d input.ReadFault n is = absurd is
 unlike_counts T b d input.Memory n is = refl
+
+pub compared_counts : (a : FlowModel) (b : Second) (r : Result Decks InputFault) (n : ℕ) → IfErr r (IsNoSecond a b) → InputCounts n n r
+compared_counts a b (Ok d) n e = refl
+compared_counts a b (Err fault) n (d, first, never, is) = unlike_counts Decks b d fault n is
 
 -- The steps that a check names.
 

@@ -5,12 +5,10 @@ use Rattle.engine.proofs.Common.{all_lines, listing_at, or_bad_listing, Text, en
 use Rattle.engine.proofs.Common.{AskedSpanCheck, Case, CheckSpan, asked_in, built, case_listed, case_of, listing_read, steps_in, steps_read, span_task_of}
 use Rattle.engine.proofs.Common.{with_zones, zoned_steps, IsCheck, certified_line, Defines, Limits, AreDecks, AreAlike, two, Second, second_in, named}
 use Rattle.engine.proofs.Common.{file_refusal, BadName, codes, readings_of, model_of, ◌>>=◌, Pairs, unit_is_short, check_to_digits, deck_task, IsReadable}
-use Rattle.engine.proofs.Common.{RunIsCertified, RunIsReadAgain, as_listed, run_encloses, ChecksSpan, OneSpanIsCertified, QuickSpanIsCertified}
-use Rattle.engine.proofs.Common.{WrittenSpanIsCertified, AllSteps, ArePairOf, AskedSpan, Step, zones_read, EnclosesHistories, Task, limits_of, Command}
-use Rattle.engine.proofs.Common.{Comparing, case_asked, case_decks}
-use Rattle.std.proofs.Common.{false}
+use Rattle.engine.proofs.Common.{RunIsCertified, RunIsReadAgain, as_listed, run_encloses, ChecksSpan, OneSpanIsCertified, WrittenSpanIsCertified, AllSteps}
+use Rattle.engine.proofs.Common.{ArePairOf, AskedSpan, Step, zones_read, EnclosesHistories, Task, limits_of, Command, Comparing, case_asked, case_decks, false}
 use Rattle.std.specs.Prelude.{if◌then◌else◌, option_and_then}
-use Rattle.model_reader.specs.Names.{names_in}
+use Rattle.model_reader.specs.Model.{names_in}
 use Rattle.check_run.specs.declared.verdict.ListingVerdict.TheVariants.{Certified as Holds}
 use Rattle.engine.proofs.Readings.{named_read}
 use Rattle.engine.proofs.Spans.{have_choices}
@@ -131,8 +129,4 @@ module _ (written : WrittenSpanIsCertified) (files : FileSet) (asked : AskedSpan
 
 pub one_span_is_certified : WrittenSpanIsCertified → OneSpanIsCertified
 one_span_is_certified written words files bytes h checks others asks =
-    appended written files h.asked h.decks h.zones h.zoned h.values h.steps h.encloses bytes h.written checks others asks
-
-pub quick_span_is_certified : WrittenSpanIsCertified → QuickSpanIsCertified
-quick_span_is_certified written words files bytes h checks others asks =
     appended written files h.asked h.decks h.zones h.zoned h.values h.steps h.encloses bytes h.written checks others asks

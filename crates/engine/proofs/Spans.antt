@@ -1,10 +1,9 @@
 -- What a run of two decks, or the check of such a listing, that ended Ok says.
-use Rattle.engine.proofs.Common.{◌≡◌, ℕ, List, [], ◌∷◌, Option, Some, Ok, map, subst, ap, refl, inl, inr, ◌∙◌, FileSet, Put, Seen, PutsMake, taken, FlowModel}
-use Rattle.engine.proofs.Common.{reads, ZonedListing, Text, all_written, end_line, AreDecks, Task, Step, asked_in, listing, named, steps_read, zones_read}
-use Rattle.engine.proofs.Common.{certified_line, IsWhole, Limits, AllSteps, false, ListingIsOne, Steps, Bound, Solved, TimeStep, times, AreAllSteps, AreSteps}
-use Rattle.engine.proofs.Common.{two, ChoicesHaveOne, ListingVerdict, IsVerdict, AskedSpan, AskedSpanCheck, CheckSpan, Span, listing_read, span_task_of}
-use Rattle.engine.proofs.Common.{IsCheck, verdict_line, ArePairOf, SpanOrQuick, SpanCertified, SpanHeadline, SpanVerdict, Second, second_in, deck_task}
-use Rattle.engine.proofs.Common.{pairs_of, Bool, true}
+use Rattle.engine.proofs.Common.{◌≡◌, ℕ, List, [], ◌∷◌, Option, Some, Ok, map, subst, ap, ◌∙◌, FileSet, Put, Seen, PutsMake, taken, FlowModel, reads}
+use Rattle.engine.proofs.Common.{ZonedListing, Text, all_written, end_line, AreDecks, Task, Step, asked_in, listing, named, steps_read, zones_read}
+use Rattle.engine.proofs.Common.{certified_line, IsWhole, Limits, AllSteps, ListingIsOne, Steps, Bound, Solved, TimeStep, times, AreAllSteps, AreSteps, two}
+use Rattle.engine.proofs.Common.{ChoicesHaveOne, ListingVerdict, IsVerdict, AskedSpan, AskedSpanCheck, CheckSpan, Span, listing_read, span_task_of, IsCheck}
+use Rattle.engine.proofs.Common.{verdict_line, ArePairOf, OneSpan, SpanCertified, SpanHeadline, SpanVerdict, Second, second_in, deck_task, pairs_of, Bool, true}
 use Rattle.std.specs.Prelude.{true}
 use Rattle.listing_run.specs.declared.listing_end.ListingEnd.TheVariants.{Whole}
 use Rattle.chosen_histories.proofs.ChosenHistories.{choices_history, choices_one}
@@ -47,7 +46,7 @@ pair_of limits files name to a b first second valid = record {
 module _ (one : ListingIsOne) (words : List Text) (files : FileSet) (old new : Seen) (puts : List Put) (pieces : List Text) (written : puts ≡ map taken pieces) (makes : PutsMake old puts new) (a : FlowModel) (b : Second) where
   -- a run
   pub span_listed : (s : AskedSpan) → asked_in words ≡ Some (Span s) → named s.run.name (reads s.run.limits files) ≡ Ok a → named s.to (second_in s.run.limits files) ≡ Ok b → (zones : Option (List ℕ)) → zones_read files s.run.zones a ≡ Ok zones →
-      AreDecks (two a b.model) → IsWhole (span_task_of s.run a b.model zones) pieces → SpanHeadline words files old.written new.written × SpanOrQuick words files old.written new.written
+      AreDecks (two a b.model) → IsWhole (span_task_of s.run a b.model zones) pieces → SpanHeadline words files old.written new.written × OneSpan words files old.written new.written
   span_listed s wanted first second zones zoned valid v =
       let k = span_task_of s.run a b.model zones in
       let all = all_written (listing k v.values end_line) old new puts (written ∙ ap (map taken) v.are) makes in
@@ -63,36 +62,19 @@ module _ (one : ListingIsOne) (words : List Text) (files : FileSet) (old new : S
           encloses = v.encloses;
           choices = have_choices s.run.limits a b.model s.run.digits zones s.run.rounds s.run.quick valid v.values v.steps;
         },
-        by_quick s.run.quick refl,
+        record {
+          asked = s;
+          wanted = wanted;
+          decks = pair;
+          zones = zones;
+          zoned = zoned;
+          values = v.values;
+          steps = v.steps;
+          only = λ plain others steps. one k v.values others valid plain v.steps steps;
+          encloses = v.encloses;
+          written = all;
+        },
       )
-    where
-      -- with the word the listing is by certificates, without it it is the one
-      by_quick : (quick : Bool) → s.run.quick ≡ quick → SpanOrQuick words files old.written new.written
-      by_quick true e = inr (record {
-        asked = s;
-        wanted = wanted;
-        decks = pair_of s.run.limits files s.run.name s.to a b first second valid;
-        zones = zones;
-        zoned = zoned;
-        quick = e;
-        values = v.values;
-        steps = v.steps;
-        encloses = v.encloses;
-        written = all_written (listing (span_task_of s.run a b.model zones) v.values end_line) old new puts (written ∙ ap (map taken) v.are) makes;
-      })
-      by_quick false e = inl (record {
-        asked = s;
-        wanted = wanted;
-        decks = pair_of s.run.limits files s.run.name s.to a b first second valid;
-        zones = zones;
-        zoned = zoned;
-        plain = e;
-        values = v.values;
-        steps = v.steps;
-        only = λ others steps. one (span_task_of s.run a b.model zones) v.values others valid e v.steps steps;
-        encloses = v.encloses;
-        written = all_written (listing (span_task_of s.run a b.model zones) v.values end_line) old new puts (written ∙ ap (map taken) v.are) makes;
-      })
 
   -- a check
   pub span_checked : (s : AskedSpanCheck) → asked_in words ≡ Some (CheckSpan s) → named s.check.name (reads s.check.limits files) ≡ Ok a → named s.to (second_in s.check.limits files) ≡ Ok b → (l : ZonedListing) → listing_read true files s.check a ≡ Ok l →

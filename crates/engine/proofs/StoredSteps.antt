@@ -1,8 +1,7 @@
 -- A step whose cells have storage has a floor and a ceiling.
 use Rattle.engine.proofs.Common.{◌≡◌, ◌≢◌, ℕ, Bool, true, cond, List, [], ◌∷◌, Result, Ok, Err, Option, Some, None, inl, inr, sym, ap, subst, arith, ℤ}
 use Rattle.engine.proofs.Common.{if◌then◌else◌, Plain, Limits, Decks, TimeStep, one_deck, Bound, NoBound, Entries, lower_at, upper_at, no_heads, no_budget}
-use Rattle.engine.proofs.Common.{no_zones, Solved, Wide}
-use Rattle.std.proofs.Common.{false}
+use Rattle.engine.proofs.Common.{no_zones, Solved, Wide, false}
 use Rattle.step_problem.specs.declared.place.Dir.{Dir}
 use Rattle.step_problem.specs.declared.place.Dir.TheVariants.{In, Out}
 use Rattle.step_problem.specs.declared.place.Term.{Term}

@@ -1,23 +1,24 @@
 -- What a run that ended Ok tells, by what its words ask for and its files are read as.
 use Rattle.engine.proofs.Common.{◌≡◌, ℕ, List, [], ◌∷◌, Option, Some, None, IfSome, Result, Ok, Err, map, subst, sym, ◌∙◌, ap, refl, inl, inr, ◌⊎◌, append-nil}
 use Rattle.engine.proofs.Common.{FileSet, Rose, Put, Seen, PutsMake, taken, Refusal, FlowModel, IsModel, reads, made_files, made_name, Text, end_line, whole}
-use Rattle.engine.proofs.Common.{early, Status, tail_late, late_not_ok, all_written, one_deck, AreDecks, one_valid, ListingEnd, AllSteps, listing, IsWhole}
-use Rattle.engine.proofs.Common.{is_whole, whole_listing, history_exists, history_is_one, VerdictIsOne, Asked, AskedCheck, Case, Command, Run, Make, Check}
-use Rattle.engine.proofs.Common.{Write, NoWords, Refuses, Listing, Making, Checking, Writing, IsCase, asked_in, case_asked, case_of, case_zoned, listing_read}
-use Rattle.engine.proofs.Common.{made_model, named, task_of, zones_read, Certified, OneDeck, Defines, Due, Made, made_task, summed_text, OneOrQuick, OneSummary}
-use Rattle.engine.proofs.Common.{OneVerdict, IsRunOf, Answers, IsStopped, IsValid, Plain, Limits, ListingIsOne, ListingExcludesRefusal, RefusalIsOne, defined}
-use Rattle.engine.proofs.Common.{false, ZonedListing, CheckSpan, Comparing, Span, case_listed, two, true, readings_of, some_readings, Second, not_alike}
-use Rattle.engine.proofs.Common.{second_in, Bool, most_bytes, with_limit, unread, AskedSpan, AskedSpanCheck, case_decks, span_task_of, IsDeck, SpanOrQuick}
-use Rattle.engine.proofs.Common.{SpanCertified, SpanHeadline, SpanVerdict, deck_text, concat}
+use Rattle.engine.proofs.Common.{Status, all_written, one_deck, AreDecks, one_valid, ListingEnd, AllSteps, listing, IsWhole, is_whole, whole_listing}
+use Rattle.engine.proofs.Common.{history_exists, history_is_one, VerdictIsOne, Asked, AskedCheck, Case, Command, Run, Make, Check, Write, NoWords, Refuses}
+use Rattle.engine.proofs.Common.{Listing, Making, Checking, Writing, IsCase, asked_in, case_asked, case_of, case_zoned, listing_read, made_model, named}
+use Rattle.engine.proofs.Common.{task_of, zones_read, Certified, OneDeck, Defines, Made, made_task, summed_text, OneListing, OneSummary, OneVerdict, Answers}
+use Rattle.engine.proofs.Common.{IsStopped, IsValid, Plain, Limits, ListingIsOne, ListingExcludesRefusal, RefusalIsOne, ZonedListing, CheckSpan, Comparing}
+use Rattle.engine.proofs.Common.{Span, case_listed, two, true, readings_of, some_readings, Second, not_alike, second_in, most_bytes, with_limit, AskedSpan}
+use Rattle.engine.proofs.Common.{AskedSpanCheck, case_decks, span_task_of, IsDeck, OneSpan, SpanCertified, SpanHeadline, SpanVerdict, deck_text, concat}
+use Rattle.engine.proofs.Common.{ReadsFolder, CutOf, deck_reads}
+use Rattle.std.specs.Prelude.{false}
 use Rattle.std.specs.Io.KnownBytes.{Appends}
 use Rattle.engine.specs.Headline.{Headline}
 use Rattle.listing_summary.specs.Summaries.{summary_of}
 use Rattle.listing_summary.specs.Texts.{summary_text}
-use Rattle.engine.proofs.Certifying.{tells, not_stopped}
+use Rattle.engine.proofs.Certifying.{certified_and_one, not_stopped}
+use Rattle.engine.proofs.Dues.{Delivers, delivers}
 use Rattle.engine.proofs.Readings.{named_read}
 use Rattle.deck_alike.specs.Laws.{DifferenceIsOne}
 use Rattle.engine.proofs.Spans.{span_checked, span_listed}
-use Rattle.model_forms.proofs.DeckForms.{deck_reads}
 use Rattle.run_puts.specs.declared.status.Status.TheVariants as status
 use Rattle.listing_run.specs.declared.listing_end.ListingEnd.TheVariants as ends
 
@@ -31,20 +32,6 @@ pub record Laws : Type 0 where
 
 pub laws_of : ListingIsOne → ListingExcludesRefusal → RefusalIsOne → VerdictIsOne → DifferenceIsOne → Laws
 laws_of one bound refusal verdict difference = record { one = one; bound = bound; refusal = refusal; verdict = verdict; difference = difference }
-
--- all pieces that the case defines were taken
-record Delivers (case : Case) (puts : List Put) : Type 0 where
-  pieces : List Text
-  defines : Defines case status.Ok pieces
-  written : puts ≡ map taken pieces
-
-due_ok : (read_failed : Type 0) (case : Case) (end : Status) (pieces : List Text) → Due read_failed case end pieces → end ≡ status.Ok → Defines case status.Ok pieces
-due_ok read_failed case end pieces (defined meant all d) e = let P : Status → Type 0 = λ s. Defines case s pieces in subst P e d
-due_ok read_failed case end pieces (unread failed worded) e = absurd (let bad : status.ReadFault ≡ status.Ok = e in cc)
-
-delivers : (read_failed : Type 0) (case : Case) (end : Status) (puts : List Put) → IsRunOf read_failed case end puts → end ≡ status.Ok → Delivers case puts
-delivers read_failed case end puts (whole meant pieces due) e = record { pieces = pieces; defines = due_ok read_failed case end pieces due e; written = refl }
-delivers read_failed case end puts (early meant before after tail b t) e = absurd (late_not_ok end (tail_late after end tail t) e)
 
 -- What the words ask for, and what the files are read as, by the case of a run.
 data Asks (words : List Text) (files : FileSet) : Case → Type 0 where
@@ -112,7 +99,7 @@ valid_ok (inr stopped) = absurd (not_stopped stopped)
 
 -- the headline of a listing, of a made model, of a check or of a deck, and what is promised beside
 abbrev pub Both : List Text → FileSet → Seen → Seen → Type 0
-Both words files old new = (Headline words files old.written new.written × OneOrQuick words files old.written new.written) ⊎ ((Made words old.written new.written × OneSummary words old.written new.written) ⊎ ((Certified words files old.written new.written × OneVerdict words files) ⊎ ((OneDeck words files old.written new.written × OneDeck words files old.written new.written) ⊎ ((SpanHeadline words files old.written new.written × SpanOrQuick words files old.written new.written) ⊎ (SpanCertified words files old.written new.written × SpanVerdict words files)))))
+Both words files old new = (Headline words files old.written new.written × OneListing words files old.written new.written) ⊎ ((Made words old.written new.written × OneSummary words old.written new.written) ⊎ ((Certified words files old.written new.written × OneVerdict words files) ⊎ ((OneDeck words files old.written new.written × OneDeck words files old.written new.written) ⊎ ((SpanHeadline words files old.written new.written × OneSpan words files old.written new.written) ⊎ (SpanCertified words files old.written new.written × SpanVerdict words files)))))
 
 module _ (laws : Laws) (words : List Text) (old new : Seen) (puts : List Put) (pieces : List Text) (written : puts ≡ map taken pieces) (makes : PutsMake old puts new) where
   -- of a made model
@@ -164,39 +151,7 @@ module _ (laws : Laws) (words : List Text) (old new : Seen) (puts : List Put) (p
       appended : Appends old.written new.written (concat (listing (task_of asked m zones) v.values end_line))
       appended = all_written (listing (task_of asked m zones) v.values end_line) old new puts (written ∙ ap (map taken) v.are) makes
 
-      -- with the word the listing is by certificates, without it it is the one
-      by_quick : (quick : Bool) → asked.quick ≡ quick → OneOrQuick words files old.written new.written
-      by_quick true e = inr (record {
-        asked = asked;
-        wanted = wanted;
-        model = m;
-        read = read;
-        valid = valid.first;
-        zones = zones;
-        zoned = zoned;
-        quick = e;
-        values = v.values;
-        steps = v.steps;
-        encloses = v.encloses;
-        written = appended;
-      })
-      by_quick false e = inl (record {
-        asked = asked;
-        wanted = wanted;
-        model = m;
-        read = read;
-        valid = valid.first;
-        zones = zones;
-        zoned = zoned;
-        plain = e;
-        values = v.values;
-        steps = v.steps;
-        only = λ others steps. laws.one (task_of asked m zones) v.values others valid e v.steps steps;
-        encloses = v.encloses;
-        written = appended;
-      })
-
-      of_listing : Headline words files old.written new.written × OneOrQuick words files old.written new.written
+      of_listing : Headline words files old.written new.written × OneListing words files old.written new.written
       of_listing = (
         record {
           asked = asked;
@@ -212,7 +167,20 @@ module _ (laws : Laws) (words : List Text) (old new : Seen) (puts : List Put) (p
           solvable = history_exists asked.limits m asked.digits zones asked.rounds asked.quick v.values valid.first v.steps;
           one = history_is_one asked.limits m asked.digits zones asked.rounds asked.quick v.values valid.first v.steps;
         },
-        by_quick asked.quick refl,
+        record {
+          asked = asked;
+          wanted = wanted;
+          model = m;
+          read = read;
+          valid = valid.first;
+          zones = zones;
+          zoned = zoned;
+          values = v.values;
+          steps = v.steps;
+          only = λ plain others steps. laws.one (task_of asked m zones) v.values others valid plain v.steps steps;
+          encloses = v.encloses;
+          written = appended;
+        },
       )
 
     of_deck : (limits : Limits) (name : Text) → asked_in words ≡ Some (Write limits name) → (m : FlowModel) → reads limits files name ≡ Ok m → IsModel m → IsDeck m status.Ok pieces → OneDeck words files old.written new.written
@@ -231,7 +199,7 @@ module _ (laws : Laws) (words : List Text) (old new : Seen) (puts : List Put) (p
 
     of_span : (asked : AskedSpan) (a : FlowModel) (b : Second) → asked_in words ≡ Some (Span asked) → named asked.run.name (reads asked.run.limits files) ≡ Ok a → named asked.to (second_in asked.run.limits files) ≡ Ok b →
         (z : Result (Option (List ℕ)) Refusal) → zones_read files asked.run.zones a ≡ z → IsValid (case_zoned asked.run (two a b.model) z) status.Ok → Defines (case_zoned asked.run (two a b.model) z) status.Ok pieces →
-        SpanHeadline words files old.written new.written × SpanOrQuick words files old.written new.written
+        SpanHeadline words files old.written new.written × OneSpan words files old.written new.written
     of_span asked a b wanted first second (Ok zones) zoned valid d =
         span_listed laws.one words files old new puts pieces written makes a b asked wanted first second zones zoned (valid_ok valid) (whole_listing (span_task_of asked.run a b.model zones) pieces d)
     of_span asked a b wanted first second (Err refusal) zoned valid d = absurd (let bad : status.Ok ≡ status.Refused refusal = d.0 in cc)
@@ -248,38 +216,45 @@ module _ (laws : Laws) (words : List Text) (old new : Seen) (puts : List Put) (p
     of_alike a b case tells (inl never) (inr (alike, d)) = absurd (never alike)
     of_alike a b case tells (inr valid) (inr (alike, d)) = tells valid d
 
-    told : (case : Case) → Asks words files case → IsValid case status.Ok → Defines case status.Ok pieces → Both words files old new
-    told case no_words valid d = absurd (let bad : status.Ok ≡ status.Usage = d.0 in cc)
-    told case (refuses refusal) valid d = absurd (let bad : status.Ok ≡ status.Refused refusal = d.0 in cc)
-    told case (lists asked m zones wanted is zoned) valid d =
+    both_of : (case : Case) → Asks words files case → IsValid case status.Ok → Defines case status.Ok pieces → Both words files old new
+    both_of case no_words valid d = absurd (let bad : status.Ok ≡ status.Usage = d.0 in cc)
+    both_of case (refuses refusal) valid d = absurd (let bad : status.Ok ≡ status.Refused refusal = d.0 in cc)
+    both_of case (lists asked m zones wanted is zoned) valid d =
         inl (of_listing asked wanted m (named_read asked.name (reads asked.limits files) m is) (valid_ok valid) zones zoned (whole_listing (task_of asked m zones) pieces d))
-    told case (makes_one seed size wanted) valid d = inr (inl (of_made seed size wanted (made_model seed size) refl valid d))
-    told case (checks asked m listing wanted is listed) valid d = inr (inr (inl (tells words files old new puts pieces asked wanted written makes m listing (valid_ok valid).0.first is listed d)))
-    told case (writes limits name m wanted is) valid d = let deck = of_deck limits name wanted m (named_read name (reads limits files) m is) (valid_ok valid) d in inr (inr (inr (inl (deck, deck))))
-    told case (lists_two asked a b wanted first second) valid d =
+    both_of case (makes_one seed size wanted) valid d = inr (inl (of_made seed size wanted (made_model seed size) refl valid d))
+    both_of case (checks asked m listing wanted is listed) valid d = inr (inr (inl (certified_and_one words files old new puts pieces asked wanted written makes m listing (valid_ok valid).0.first is listed d)))
+    both_of case (writes limits name m wanted is) valid d = let deck = of_deck limits name wanted m (named_read name (reads limits files) m is) (valid_ok valid) d in inr (inr (inr (inl (deck, deck))))
+    both_of case (lists_two asked a b wanted first second) valid d =
         inr (inr (inr (inr (inl (of_alike a b (case_zoned asked.run (two a b.model) (zones_read files asked.run.zones a)) (of_span asked a b wanted first second (zones_read files asked.run.zones a) refl) valid d)))))
-    told case (checks_two asked a b wanted first second) valid d =
+    both_of case (checks_two asked a b wanted first second) valid d =
         inr (inr (inr (inr (inr (of_alike a b (case_listed asked.check (two a b.model) (listing_read true files asked.check a)) (of_span_check asked a b wanted first second (listing_read true files asked.check a) refl) valid d)))))
 
 module _ (laws : Laws) (words : List Text) (files : Option FileSet) (n m : ℕ) (end : Status) (puts : List Put) (old new : Seen) (a : Answers words files n m end puts) (makes : PutsMake old puts new) (e : end ≡ status.Ok) where
+  delivered : Delivers (Defines a.case) end puts
+  delivered = delivers (Rose n m × ReadsFolder a.case) (Defines a.case) (CutOf a.case) end puts a.run (λ stops. not_stopped (subst IsStopped e stops))
+
+  -- its pieces are those of a run that ended Ok
+  defines_ok : Defines a.case status.Ok delivered.pieces
+  defines_ok = let D : Status → Type 0 = λ s. Defines a.case s delivered.pieces in subst D e delivered.defines
+
   pub both : IfSome files (λ fs. Both words fs old new)
   both = by_files files refl a.is
     where
       by_files : (o : Option FileSet) → files ≡ o → IsCase words o a.case → IfSome o (λ fs. Both words fs old new)
       by_files None same is = tt
       by_files (Some fs) same is =
-          let d = delivers (Rose n m) a.case end puts a.run e in
+          let d = delivered in
           let E : Status → Type 0 = λ t. IsValid a.case t in
-          told laws words old new puts d.pieces d.written makes fs a.case (subst (Asks words fs) (sym is) (asks words fs)) (subst E e a.valid) d.defines
+          both_of laws words old new puts d.pieces d.written makes fs a.case (subst (Asks words fs) (sym is) (asks words fs)) (subst E e a.valid) defines_ok
 
   pub made : (seed size : ℕ) → asked_in words ≡ Some (Make seed size) → Made words old.written new.written
   made seed size wanted =
       let same = made_of files a.case a.is in
-      let d = delivers (Rose n m) a.case end puts a.run e in
+      let d = delivered in
       let V : Case → Type 0 = λ case. IsValid case status.Ok in
       let D : Case → Type 0 = λ case. Defines case status.Ok d.pieces in
       let E : Status → Type 0 = λ t. IsValid a.case t in
-      (of_made laws words old new puts d.pieces d.written makes seed size wanted (made_model seed size) refl (subst V same (subst E e a.valid)) (subst D same d.defines)).0
+      (of_made laws words old new puts d.pieces d.written makes seed size wanted (made_model seed size) refl (subst V same (subst E e a.valid)) (subst D same defines_ok)).0
     where
       made_of : (files : Option FileSet) (case : Case) → IsCase words files case → case ≡ Making seed size (made_model seed size)
       made_of (Some fs) case is = let P : Option Command → Type 0 = λ a. case ≡ case_asked a (readings_of fs) in subst P wanted is

@@ -6,8 +6,7 @@ use Rattle.engine.proofs.Common.{listing, IsWhole, whole_listing, history_exists
 use Rattle.engine.proofs.Common.{asked_in, built, case_asked, case_listed, case_of, listing_read, numbers_of, steps_in, steps_read, task_of, with_zones}
 use Rattle.engine.proofs.Common.{zoned_steps, zones_read, IsCheck, certified_line, Defines, Limits, unit_is_short, check_digits, one_task, IsReadable}
 use Rattle.engine.proofs.Common.{RunIsCertified, RunIsReadAgain, as_listed, run_encloses, Step, EnclosesHistories, AllSteps, Asked, ChecksWritten}
-use Rattle.engine.proofs.Common.{OneListingIsCertified, QuickListingIsCertified, WrittenIsCertified, readings_of, Task, case_decks}
-use Rattle.std.proofs.Common.{false}
+use Rattle.engine.proofs.Common.{OneListingIsCertified, WrittenIsCertified, readings_of, Task, case_decks, false}
 use Rattle.std.specs.Prelude.{if◌then◌else◌, option_and_then}
 use Rattle.zone_file.proofs.SmallZones.{numbers_small}
 use Rattle.check_run.specs.declared.verdict.ListingVerdict.TheVariants.{Certified as Holds}
@@ -113,8 +112,4 @@ module _ (written : WrittenIsCertified) (files : FileSet) (asked : Asked) (model
 
 pub one_listing_is_certified : WrittenIsCertified → OneListingIsCertified
 one_listing_is_certified written words files bytes h checks others check =
-    whole_is_certified written files h.asked h.model h.valid h.zones h.zoned h.values h.steps h.encloses bytes h.written checks others check
-
-pub quick_listing_is_certified : WrittenIsCertified → QuickListingIsCertified
-quick_listing_is_certified written words files bytes h checks others check =
     whole_is_certified written files h.asked h.model h.valid h.zones h.zoned h.values h.steps h.encloses bytes h.written checks others check

@@ -1,5 +1,5 @@
 -- What a batch puts, how it ends, and which end is certain.
-use Rattle.std.specs.Prelude.{◌≡◌, ◌⊎◌, ℕ, List, false, [], ◌∷◌, Ok, Option, All, IfOk, MatchOption}
+use Rattle.std.specs.Prelude.{◌≡◌, ◌⊎◌, ℕ, List, false, Ok, Option, All, IfOk, MatchOption}
 use Rattle.outside.specs.Counts.{Rose}
 use Rattle.outside.specs.Files.{FileSet}
 use Rattle.outside.specs.Puts.{Put}
@@ -7,7 +7,7 @@ use Rattle.step_problem.specs.declared.place.NoBound.{NoBound}
 use Rattle.model_types.specs.declared.model.FlowModel.{FlowModel}
 use Rattle.model_types.specs.declared.time_steps.TimeStep.{TimeStep}
 use Rattle.model_reader.specs.Model.{reads}
-use Rattle.run_puts.specs.Lines.{Text, read_fault_line}
+use Rattle.run_puts.specs.Lines.{Text}
 use Rattle.run_puts.specs.Runs.{IsRun, NeverCut}
 use Rattle.run_puts.specs.Agreement.{IsUnfinished}
 use Rattle.run_puts.specs.declared.status.Status.{Status}
@@ -17,15 +17,14 @@ use Rattle.listing_run.specs.declared.step.Step.{Step}
 use Rattle.listing_run.specs.declared.listing_end.ListingEnd.TheVariants as ends
 use Rattle.listing_run.specs.Steps.{AllSteps}
 use Rattle.engine.specs.declared.job.Job.{Job}
+use Rattle.engine.specs.Defined.{IsDue}
 use Rattle.engine.specs.Batches.{AskedBatch, BatchCase, NoList, Jobs, IsBatchCase, BatchDefines, batch_asked, batch_case_of, job_task, names_read}
 use Rattle.engine.specs.Parts.{AnswersBeside, IsStopped}
 use Rattle.engine.specs.Runs.{Puts, Decided, Comes}
 
--- The pieces due if a batch has this end: those that its case defines; or, if a read failed, the line READFAULT alone,
--- as all files are read before the first job runs.
-pub data BatchDue (read_failed : Type 0) (case : BatchCase) : Status → List Text → Type 0 where
-  defined : (end : Status) (pieces : List Text) → BatchDefines case end pieces → BatchDue read_failed case end pieces
-  unread : read_failed → BatchDue read_failed case status.ReadFault (read_fault_line ∷ [])
+-- The pieces due if a batch has this end; all files are read before the first job runs.
+abbrev pub BatchDue : Type 0 → BatchCase → Status → List Text → Type 0
+BatchDue read_failed case = IsDue read_failed (BatchDefines case)
 
 -- the puts of a batch of this case with this end
 abbrev pub IsBatchRun : Type 0 → BatchCase → Status → List Put → Type 0
@@ -40,12 +39,19 @@ pub record BatchPuts (leads : List Put → Type 0) (b : AskedBatch) (files : Opt
   pub leads_on : leads puts
   pub run : IsBatchRun (Rose before after) case end puts
 
--- Without --quick the batch has the end that the list and the files define, unless a read or a write fails, memory runs out, or
--- a step doesn't settle within the rounds.
+-- the job is no listing with --quick, whose end the words and files leave open
+abbrev pub IsPlainJob : Job → Type 0
+IsPlainJob job = IfOk job.read (λ k. k.quick ≡ false)
+
+abbrev pub IsPlainBatch : BatchCase → Type 0
+IsPlainBatch (NoList refusal) = Unit {0}
+IsPlainBatch (Jobs jobs) = All IsPlainJob jobs
+
+-- The batch has the end that the list and the files define, unless a read or a write fails, memory runs out, or a step doesn't settle within the rounds.
 abbrev pub BatchDecided : Type 0 → AskedBatch → FileSet → Status → Type 0
 BatchDecided fault b files end =
-    b.quick ≡ false → (meant : Status) (pieces : List Text) → BatchDefines (batch_case_of b files) meant pieces → (fault ⊎ IsUnfinished meant)
-    ⊎ ((end ≡ meant) ⊎ ((end ≡ status.Memory) ⊎ IsUnfinished end))
+    IsPlainBatch (batch_case_of b files) → (meant : Status) (pieces : List Text) → BatchDefines (batch_case_of b files) meant pieces →
+    (fault ⊎ IsUnfinished meant) ⊎ ((end ≡ meant) ⊎ ((end ≡ status.Memory) ⊎ IsUnfinished end))
 
 -- The files of a name read as a model, and from STRT on, each step from the heads of the one before, no step has a
 -- refusal, and the rounds leave none open.

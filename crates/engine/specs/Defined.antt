@@ -31,10 +31,13 @@ ReadsFolder NoWords = ⊥
 ReadsFolder (Making seed size read) = ⊥
 ReadsFolder other = Unit {0}
 
--- The pieces due if a run has this end: those that its case defines, or, if a read failed, the line READFAULT alone.
-pub data Due (read_failed : Type 0) (case : Case) : Status → List Text → Type 0 where
-  defined : (end : Status) (pieces : List Text) → Defines case end pieces → Due read_failed case end pieces
-  unread : read_failed → ReadsFolder case → Due read_failed case status.ReadFault (read_fault_line ∷ [])
+-- The pieces due if a run has this end: those that are defined, or, if a read failed, the line READFAULT alone.
+pub data IsDue (read_failed : Type 0) (defines : Status → List Text → Type 0) : Status → List Text → Type 0 where
+  defined : (end : Status) (pieces : List Text) → defines end pieces → IsDue read_failed defines end pieces
+  unread : read_failed → IsDue read_failed defines status.ReadFault (read_fault_line ∷ [])
+
+abbrev pub Due : Type 0 → Case → Status → List Text → Type 0
+Due read_failed case = IsDue (read_failed × ReadsFolder case) (Defines case)
 
 -- the pieces after which a run may stop because memory ran out: the first ones of a listing
 abbrev pub CutOf : Case → List Text → Type 0

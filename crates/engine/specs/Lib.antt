@@ -5,7 +5,6 @@ pub mod Certified
 pub mod Cases
 pub mod Made
 pub mod OneListing
-pub mod QuickListing
 pub mod Checked
 pub mod Decks
 pub mod Commands

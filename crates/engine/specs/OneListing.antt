@@ -24,8 +24,8 @@ use Rattle.check_run.specs.Verdicts.{IsVerdict}
 use Rattle.engine.specs.Cases.{Asked, AskedCheck, Check, Make, Run, asked_in, steps_read, task_of, zones_read}
 use Rattle.engine.specs.Made.{made_task}
 
--- A run with these words, without --quick, over these files that ended Ok, where a sink had the bytes `old` before it and
--- `new` after it, has written the one listing that the files define.
+-- A run with these words over these files that ended Ok, where a sink had the bytes `old` before it and `new` after it, has
+-- written a listing each step of which has a pair that is a certificate; without --quick the one that the files define.
 pub record OneListing (words : List Text) (files : FileSet) (old new : Option (List ℕ)) : Type 0 where
   -- The words ask for a listing, and the files read as a model, which is valid, and as zones of its cells where the words name a zone file.
   pub asked : Asked
@@ -35,11 +35,11 @@ pub record OneListing (words : List Text) (files : FileSet) (old new : Option (L
   pub valid : IsModel model
   pub zones : Option (List ℕ)
   pub zoned : zones_read files asked.zones model ≡ Ok zones
-  pub plain : asked.quick ≡ false
-  -- All its time steps have values, which are heads, budgets and flows between zones, and no others. They enclose its histories.
+  -- All its time steps have these values, which are heads, budgets and flows between zones, and without --quick no others. They enclose
+  -- its histories.
   pub values : List Step
   pub steps : AllSteps (task_of asked model zones) values Whole
-  pub only : (others : List Step) → AllSteps (task_of asked model zones) others Whole → others ≡ values
+  pub only : asked.quick ≡ false → (others : List Step) → AllSteps (task_of asked model zones) others Whole → others ≡ values
   pub encloses : EnclosesHistories (task_of asked model zones) values
   -- Their listing was appended, and nothing else.
   pub written : Appends old new (concat (listing (task_of asked model zones) values end_line))

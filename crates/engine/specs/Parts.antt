@@ -24,6 +24,8 @@ use Rattle.deck_span.specs.Alike.{AreAlike}
 use Rattle.engine.specs.declared.two_decks.Second.{Second as SecondBy}
 use Rattle.engine.specs.TwoDecks.{AreDecksRead, Second, not_alike, second_in}
 use Rattle.deck_alike.specs.declared.difference.Difference.{Difference}
+use Rattle.deck_alike.specs.Differences.{IsFirstDifference}
+use Rattle.span_steps.specs.Steps.{two}
 use Rattle.run_puts.specs.Ends.{IsEnd, IsLast, IsWanting}
 use Rattle.run_puts.specs.Lines.{Text, read_fault_line}
 use Rattle.run_puts.specs.Runs.{IsRun, NeverCut}
@@ -65,6 +67,14 @@ abbrev pub IsUnlikeFault : Second → Difference → InputFault → Type 0
 IsUnlikeFault b d (input.Refused refusal) = refusal ≡ not_alike b d
 IsUnlikeFault b d input.ReadFault = ⊥
 IsUnlikeFault b d input.Memory = Unit {0}
+
+-- the decks of two models that are alike
+abbrev pub AreDecksOf : (first second : FlowModel) → Decks → Type 0
+AreDecksOf a b d = (d ≡ two a b) × AreAlike a b
+
+-- the fault of a second deck that is not like the first
+abbrev pub IsNoSecond : FlowModel → Second → InputFault → Type 0
+IsNoSecond a b fault = (d : Difference) × IsFirstDifference a b.model d × (AreAlike a b.model → ⊥) × IsUnlikeFault b d fault
 
 -- a second deck, in the form of the code
 abbrev pub second_by : SecondBy → Second

@@ -9,9 +9,8 @@ use Rattle.engine.specs.Certified.{Certified}
 use Rattle.engine.specs.Decks.{OneDeck}
 use Rattle.engine.specs.Headline.{Headline}
 use Rattle.engine.specs.Made.{Made}
-use Rattle.engine.specs.OneListing.{OneSummary, OneVerdict}
-use Rattle.engine.specs.QuickListing.{OneOrQuick, SpanOrQuick}
-use Rattle.engine.specs.SpanHeadline.{SpanCertified, SpanHeadline, SpanVerdict}
+use Rattle.engine.specs.OneListing.{OneListing, OneSummary, OneVerdict}
+use Rattle.engine.specs.SpanHeadline.{OneSpan, SpanCertified, SpanHeadline, SpanVerdict}
 use Rattle.engine.specs.Asking.{bytes_asked}
 use Rattle.engine.specs.BatchRuns.{AnyPuts}
 use Rattle.engine.specs.Batched.{Batched, HasNoList}
@@ -25,12 +24,12 @@ AnyHeadline words files end old new =
     ⊎ (OneDeck words files old.written new.written ⊎ (SpanHeadline words files old.written new.written ⊎ SpanCertified words files old.written new.written)))))
     ⊎ Batched words files end old.written new.written
 
--- And what was put is the one listing that the files define, or with --quick one by certificates, or sums it up, or each step of
+-- And what was put is the one listing that the files define, or with --quick one by certificates; or sums it up, or each step of
 -- the one that was checked is certified, or what was put is the one deck.
 abbrev pub AnyOne : List Text → FileSet → Status → Seen → Seen → Type 0
 AnyOne words files end old new =
-    (OneOrQuick words files old.written new.written ⊎ (OneSummary words old.written new.written ⊎ (OneVerdict words files
-    ⊎ (OneDeck words files old.written new.written ⊎ (SpanOrQuick words files old.written new.written ⊎ SpanVerdict words files)))))
+    (OneListing words files old.written new.written ⊎ (OneSummary words old.written new.written ⊎ (OneVerdict words files
+    ⊎ (OneDeck words files old.written new.written ⊎ (OneSpan words files old.written new.written ⊎ SpanVerdict words files)))))
     ⊎ Batched words files end old.written new.written
 
 -- the numbers of a run that stopped: since a read failed, a write failed, or memory ran out
@@ -41,7 +40,7 @@ IsStopNumber number = (number ≡ 5) ⊎ ((number ≡ 6) ⊎ (number ≡ 7))
 -- sink after; and where it is 0, the headline holds of files that agree with the folder, of which there are some, and
 -- the listing is the one that they define. As many bytes of a file are read as the limits say that the words ask for. A batch with
 -- any number but 5, 6 and 7 has its list refused, or has put the text of each of its models.
-pub record Serves (leads : List Put → Type 0) (agrees : FileSet → Type 0) (words : List Text) (before after : ℕ)
+pub record IsProgramEnd (leads : List Put → Type 0) (agrees : FileSet → Type 0) (words : List Text) (before after : ℕ)
     (failed_beside : Type 0) (old new : Seen) (number : ℕ) : Type 0 where
   pub end : Status
   pub number_is : number ≡ code_of end

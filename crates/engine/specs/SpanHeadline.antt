@@ -58,18 +58,18 @@ pub record SpanHeadline (words : List Text) (files : FileSet) (old new : Option 
   -- And each choice of models between has one: a history solves it, and any two are the same heads at all active cells, step by step.
   pub choices : ChoicesHaveOne decks.first decks.second
 
--- Such a run without --quick has written the one listing that the files define.
+-- Such a run has written a listing each step of which has a pair that is a certificate; without --quick the one that the files define.
 pub record OneSpan (words : List Text) (files : FileSet) (old new : Option (List ℕ)) : Type 0 where
   pub asked : AskedSpan
   pub wanted : asked_in words ≡ Some (Span asked)
   pub decks : ArePairOf asked.run.limits files asked.run.name asked.to
   pub zones : Option (List ℕ)
   pub zoned : zones_read files asked.run.zones decks.first ≡ Ok zones
-  pub plain : asked.run.quick ≡ false
-  -- All time steps have values, which are heads, budgets and flows between zones, and no others. They enclose every history.
+  -- All time steps have these values, which are heads, budgets and flows between zones, and without --quick no others. They enclose
+  -- every history.
   pub values : List Step
   pub steps : AllSteps (span_task_of asked.run decks.first decks.second zones) values Whole
-  pub only : (others : List Step) → AllSteps (span_task_of asked.run decks.first decks.second zones) others Whole → others ≡ values
+  pub only : asked.run.quick ≡ false → (others : List Step) → AllSteps (span_task_of asked.run decks.first decks.second zones) others Whole → others ≡ values
   pub encloses : EnclosesHistories (span_task_of asked.run decks.first decks.second zones) values
   -- Their listing was appended, and nothing else.
   pub written : Appends old new (concat (listing (span_task_of asked.run decks.first decks.second zones) values end_line))

@@ -11,8 +11,7 @@ use Rattle.name_file.specs.declared.package.Package.{Package}
 use Rattle.model_types.specs.declared.limits.Limits.{Limits}
 use Rattle.model_types.specs.declared.model.FlowModel.{FlowModel}
 use Rattle.model_types.specs.Cells.{place}
-use Rattle.model_reader.specs.Model.{model_of}
-use Rattle.model_reader.specs.Names.{names_in}
+use Rattle.model_reader.specs.Model.{model_of, names_in}
 use Rattle.deck_span.specs.Alike.{AreAlike}
 use Rattle.deck_alike.specs.declared.difference.Difference.{Difference}
 use Rattle.deck_alike.specs.Differences.{IsFirstDifference}

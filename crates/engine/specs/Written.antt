@@ -19,7 +19,6 @@ use Rattle.engine.specs.Checked.{certified_line}
 use Rattle.engine.specs.Defined.{Defines}
 use Rattle.engine.specs.OneListing.{OneListing}
 use Rattle.engine.specs.SpanHeadline.{OneSpan}
-use Rattle.engine.specs.QuickListing.{QuickListing, QuickSpan}
 
 -- These words ask for the check of a file with these bytes, at most a file's limit, by the task's limits and as a listing with
 -- its digits, and the files read as the task's model and, by the zone file that the words name or don't, as its zones.
@@ -42,17 +41,11 @@ WrittenIsCertified =
     ChecksWritten words files (one_task limits m s zones rounds quick) (concat pieces) →
     Defines (case_of words files) status.Ok (certified_line ∷ [])
 
--- The bytes that a run appended to nothing are certified by any check of them, by the same limits, at the same digits, of the
--- same model, with the same zones.
+-- The bytes that a run, with or without --quick, appended to nothing are certified by any check of them, by the same limits, at the
+-- same digits, of the same model, with the same zones.
 abbrev pub OneListingIsCertified : Type 0
 OneListingIsCertified =
     (words : List Text) (files : FileSet) (bytes : List ℕ) (h : OneListing words files (Some []) (Some bytes)) → (checks : List Text) (others : FileSet) →
-    ChecksWritten checks others (task_of h.asked h.model h.zones) bytes → Defines (case_of checks others) status.Ok (certified_line ∷ [])
-
--- So are the bytes of a run with --quick.
-abbrev pub QuickListingIsCertified : Type 0
-QuickListingIsCertified =
-    (words : List Text) (files : FileSet) (bytes : List ℕ) (h : QuickListing words files (Some []) (Some bytes)) → (checks : List Text) (others : FileSet) →
     ChecksWritten checks others (task_of h.asked h.model h.zones) bytes → Defines (case_of checks others) status.Ok (certified_line ∷ [])
 
 -- These words ask for the check of a file with these bytes, at most a file's limit, by the task's limits, as a listing of two
@@ -77,17 +70,10 @@ WrittenSpanIsCertified =
     ChecksSpan words files (deck_task limits (two a b) s zones rounds quick) b (concat pieces) →
     Defines (case_of words files) status.Ok (certified_line ∷ [])
 
--- The bytes that a run of two decks appended to nothing are certified by any check of them, by the same limits, at the same digits, against the
--- same two decks, with the same zones.
+-- The bytes that a run of two decks, with or without --quick, appended to nothing are certified by any check of them, by the same
+-- limits, at the same digits, against the same two decks, with the same zones.
 abbrev pub OneSpanIsCertified : Type 0
 OneSpanIsCertified =
     (words : List Text) (files : FileSet) (bytes : List ℕ) (h : OneSpan words files (Some []) (Some bytes)) → (checks : List Text) (others : FileSet) →
-    ChecksSpan checks others (span_task_of h.asked.run h.decks.first h.decks.second h.zones) h.decks.second bytes →
-    Defines (case_of checks others) status.Ok (certified_line ∷ [])
-
--- So are the bytes of such a run with --quick.
-abbrev pub QuickSpanIsCertified : Type 0
-QuickSpanIsCertified =
-    (words : List Text) (files : FileSet) (bytes : List ℕ) (h : QuickSpan words files (Some []) (Some bytes)) → (checks : List Text) (others : FileSet) →
     ChecksSpan checks others (span_task_of h.asked.run h.decks.first h.decks.second h.zones) h.decks.second bytes →
     Defines (case_of checks others) status.Ok (certified_line ∷ [])

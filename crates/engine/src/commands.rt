@@ -11,9 +11,8 @@ ghost use Rattle.engine.specs.Certified.{Certified};
 ghost use Rattle.engine.specs.Decks.{OneDeck};
 ghost use Rattle.engine.specs.Headline.{Headline};
 ghost use Rattle.engine.specs.Made.{Made};
-ghost use Rattle.engine.specs.OneListing.{OneSummary, OneVerdict};
-ghost use Rattle.engine.specs.QuickListing.{OneOrQuick, SpanOrQuick};
-ghost use Rattle.engine.specs.SpanHeadline.{SpanCertified, SpanHeadline, SpanVerdict};
+ghost use Rattle.engine.specs.OneListing.{OneListing, OneSummary, OneVerdict};
+ghost use Rattle.engine.specs.SpanHeadline.{OneSpan, SpanCertified, SpanHeadline, SpanVerdict};
 ghost use Rattle.engine.specs.Parts.{IsStopped};
 ghost use Rattle.engine.specs.Watched.{SidePuts, Watched, views_in};
 
@@ -80,11 +79,11 @@ pub fn run<R: Threads + Wait + Sync, F: Folder, K: Sink + Send, W: Sink + Send, 
     // And it is the one listing that the files define, or with `--quick` one by certificates, or each step of the one that was
     // checked is certified, or it is the one deck; of a batch, `Batched` says it of each listing.
     ensures one { result ≡ Status.Ok → (files : FileSet) → F.agrees folder.new files →
-        (OneOrQuick (map (λ w. w.now) words.now) files (K.seen out.old).written (K.seen out.new).written
+        (OneListing (map (λ w. w.now) words.now) files (K.seen out.old).written (K.seen out.new).written
         ⊎ (OneSummary (map (λ w. w.now) words.now) (K.seen out.old).written (K.seen out.new).written
         ⊎ (OneVerdict (map (λ w. w.now) words.now) files
         ⊎ (OneDeck (map (λ w. w.now) words.now) files (K.seen out.old).written (K.seen out.new).written
-        ⊎ (SpanOrQuick (map (λ w. w.now) words.now) files (K.seen out.old).written (K.seen out.new).written
+        ⊎ (OneSpan (map (λ w. w.now) words.now) files (K.seen out.old).written (K.seen out.new).written
         ⊎ SpanVerdict (map (λ w. w.now) words.now) files)))))
         ⊎ Batched (map (λ w. w.now) words.now) files result (K.seen out.old).written (K.seen out.new).written }
 

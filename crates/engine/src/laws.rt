@@ -1,6 +1,6 @@
 // Laws of what is defined. Each is the contract of an empty function, but for the laws below that it calls.
-ghost use Rattle.engine.specs.Written.{OneListingIsCertified, QuickListingIsCertified, WrittenIsCertified};
-ghost use Rattle.engine.specs.Written.{OneSpanIsCertified, QuickSpanIsCertified, WrittenSpanIsCertified};
+ghost use Rattle.engine.specs.Written.{OneListingIsCertified, WrittenIsCertified};
+ghost use Rattle.engine.specs.Written.{OneSpanIsCertified, WrittenSpanIsCertified};
 ghost use Rattle.engine.specs.Storage.{StorageHolds};
 
 use check_run::laws::{run_is_certified, run_is_read_again};
@@ -19,16 +19,9 @@ pub fn written_is_certified()
     run_is_read_again();
 }
 
-/// What a run is promised to have written, `check` certifies.
+/// What a run, with or without `--quick`, is promised to have written, `check` certifies.
 pub fn one_listing_is_certified()
     ensures { OneListingIsCertified }
-{
-    written_is_certified();
-}
-
-/// What a run with `--quick` is promised to have written, `check` certifies.
-pub fn quick_listing_is_certified()
-    ensures { QuickListingIsCertified }
 {
     written_is_certified();
 }
@@ -41,16 +34,9 @@ pub fn written_span_is_certified()
     run_is_read_again();
 }
 
-/// What a run of two decks is promised to have written, `check` certifies.
+/// What a run of two decks, with or without `--quick`, is promised to have written, `check` certifies.
 pub fn one_span_is_certified()
     ensures { OneSpanIsCertified }
-{
-    written_span_is_certified();
-}
-
-/// What a run of two decks with `--quick` is promised to have written, `check` certifies.
-pub fn quick_span_is_certified()
-    ensures { QuickSpanIsCertified }
 {
     written_span_is_certified();
 }

@@ -15,9 +15,8 @@ ghost use Rattle.engine.specs.Commands.{asked_of, run_to, to_of, IsAsked, MayRea
 ghost use Rattle.engine.specs.Made.{Made};
 ghost use Rattle.engine.specs.Certified.{Certified};
 ghost use Rattle.engine.specs.Decks.{OneDeck};
-ghost use Rattle.engine.specs.OneListing.{OneSummary, OneVerdict};
-ghost use Rattle.engine.specs.QuickListing.{OneOrQuick, SpanOrQuick};
-ghost use Rattle.engine.specs.SpanHeadline.{SpanCertified, SpanHeadline, SpanVerdict};
+ghost use Rattle.engine.specs.OneListing.{OneListing, OneSummary, OneVerdict};
+ghost use Rattle.engine.specs.SpanHeadline.{OneSpan, SpanCertified, SpanHeadline, SpanVerdict};
 ghost use Rattle.engine.specs.Parts.{AnswersBeside, AreDecksAs};
 ghost use Rattle.deck_problems.specs.Decks.{AreDecks};
 ghost use Rattle.engine.specs.Watched.{IsWatched, SidePuts, ViewPutsOf, Watched, views_in};
@@ -102,11 +101,11 @@ pub fn run_one<R: Threads + Sync, F: Folder, K: Sink + Send, W: Sink + Send, G: 
     // And it is the one listing that the files define, or with `--quick` one by certificates, or each step of the one that was
     // checked is certified, or it is the one deck of the model that the files read as.
     ensures one { result ≡ Status.Ok → (files : FileSet) → F.agrees folder.new files →
-        OneOrQuick (map (λ w. w.now) words.now) files (K.seen out.old).written (K.seen out.new).written
+        OneListing (map (λ w. w.now) words.now) files (K.seen out.old).written (K.seen out.new).written
         ⊎ (OneSummary (map (λ w. w.now) words.now) (K.seen out.old).written (K.seen out.new).written
         ⊎ (OneVerdict (map (λ w. w.now) words.now) files
         ⊎ (OneDeck (map (λ w. w.now) words.now) files (K.seen out.old).written (K.seen out.new).written
-        ⊎ (SpanOrQuick (map (λ w. w.now) words.now) files (K.seen out.old).written (K.seen out.new).written
+        ⊎ (OneSpan (map (λ w. w.now) words.now) files (K.seen out.old).written (K.seen out.new).written
         ⊎ SpanVerdict (map (λ w. w.now) words.now) files)))) }
 
     // Of a made model it holds whatever the folder is.

@@ -5,7 +5,7 @@ ghost use Rattle.outside.specs.Asking.{WordsMay};
 ghost use Rattle.engine.specs.Asking.{bytes_asked, files_named};
 ghost use Rattle.outside.specs.Files.{FileSet};
 ghost use Rattle.outside.specs.Counts.{Rose};
-ghost use Rattle.engine.specs.Serving.{Serves};
+ghost use Rattle.engine.specs.Serving.{IsProgramEnd};
 ghost use Rattle.engine.specs.Watched.{SidePuts, Watched, views_in};
 
 use crate::commands::run;
@@ -32,7 +32,7 @@ pub fn serve<R: Threads + Wait + Sync, F: Folder, K: Sink + Send, W: Sink + Send
     requires may { WordsMay (F.may folder.old) (files_named (map (λ w. w.now) words.now)) }
     // It reads at most as many bytes of a file as the limits say that the words ask for.
     requires limit { (files : FileSet) → F.agrees folder.old files → files.limit ≡ bytes_asked (map (λ w. w.now) words.now) }
-    ensures serves { Serves (λ puts. K.leads out.old puts out.new) (F.agrees folder.new) (map (λ w. w.now) words.now)
+    ensures serves { IsProgramEnd (λ puts. K.leads out.old puts out.new) (F.agrees folder.new) (map (λ w. w.now) words.now)
         (F.faults folder.old) (F.faults folder.new) (Rose (W.seen side.old).faults (W.seen side.new).faults)
         (K.seen out.old) (K.seen out.new) (exit_status result) }
     ensures side { (files : FileSet) → F.agrees folder.new files →

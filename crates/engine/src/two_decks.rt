@@ -1,5 +1,5 @@
 // Decks of the folder, one or two, which have to be alike.
-ghost use Rattle.std.specs.Prelude.{◌≡◌, ◌<◌, IfOk, IfSome, Option, option_map};
+ghost use Rattle.std.specs.Prelude.{◌≡◌, ◌<◌, IfErr, IfOk, IfSome, Option, option_map};
 ghost use Rattle.outside.specs.Names.{folder_name};
 ghost use Rattle.outside.specs.Files.{FileSet};
 ghost use Rattle.outside.specs.Folders.{ReadsOn};
@@ -8,7 +8,7 @@ ghost use Rattle.model_types.specs.Grids.{HasSize};
 ghost use Rattle.model_types.specs.Valid.{IsModel};
 ghost use Rattle.deck_problems.specs.Decks.{AreDecks};
 ghost use Rattle.engine.specs.Commands.{to_of};
-ghost use Rattle.engine.specs.Parts.{AreDecksAs, IsSecondAs, IsUnlikeFault, second_by};
+ghost use Rattle.engine.specs.Parts.{AreDecksAs, AreDecksOf, IsNoSecond, IsSecondAs, IsUnlikeFault, second_by};
 
 use crate::reading::{bad_name, read_named};
 use deck_alike::{Difference, first_difference};
@@ -80,6 +80,22 @@ fn unlike(alloc: Global, second: &Second, difference: Difference) -> InputFault
     }
 }
 
+// The decks of two models, or the refusal of the second one at its first difference from the first one.
+fn decks_of<'a>(alloc: Global, first: FlowModel, second: Second<'a>) -> Result<Decks, InputFault>
+    requires first { IsModel first }
+    requires second { IsModel second.model }
+    ensures alike { IfOk result (AreDecksOf first second.entry.model) }
+    ensures unlike { IfErr result (IsNoSecond first (second_by second.entry)) }
+{
+    match first_difference(&first, &second.model) {
+        None => Ok(Decks {
+            first,
+            second: Some(second.model),
+        }),
+        Some(difference) => Err(unlike(alloc, &second, difference)),
+    }
+}
+
 /// The deck of a name file of the folder, or the decks of two: the first is read, then the second, and then they are compared.
 pub(crate) fn read_decks<F: Folder>(
     alloc: Global,
@@ -102,11 +118,5 @@ pub(crate) fn read_decks<F: Folder>(
         });
     };
     let second = read_second(alloc, limits, folder, to)?;
-    match first_difference(&first, &second.model) {
-        None => Ok(Decks {
-            first,
-            second: Some(second.model),
-        }),
-        Some(difference) => Err(unlike(alloc, &second, difference)),
-    }
+    decks_of(alloc, first, second)
 }

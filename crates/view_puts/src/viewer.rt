@@ -21,9 +21,7 @@ pub struct SinkViewer<'a, W: Sink, X: ViewText> {
 }
 
 impl<'a, W: Sink, X: ViewText> Viewer for SinkViewer<'a, W, X> {
-    ghost use Rattle.std.specs.Prelude.{List, [], true, is_some, refl};
-    ghost use Rattle.outside.specs.Puts.{Put};
-    ghost use Rattle.step_problem.specs.Entries.{Entries};
+    ghost use Rattle.std.specs.Prelude.{[], true, is_some, refl};
     ghost use Rattle.step_problem.specs.declared.heads.Bound.{Bound};
     ghost use Rattle.settle_driver.specs.Views.{EnclosesPair};
     ghost use Rattle.view_puts.specs.Puts.{LeadOn, ViewPuts, no_lead, no_view};
