@@ -1,14 +1,12 @@
 // The first difference of two decks.
-ghost use Rattle.std.specs.Prelude.{IfOk};
 ghost use Rattle.model_types.specs.Valid.{IsModel};
 
-use crate::models::{print_fault, read_model};
+use crate::models::{push_fault, read_model};
 use deck_alike::{Difference, first_difference};
 use model_types::{FlowModel, place_of};
 use name_file::Package;
-use outside::{InputFault, MemFolder};
-use std::alloc::Global;
-use std::io;
+use outside::MemFolder;
+use test_lines::Page;
 
 fn word_of(package: Package) -> &'static str {
     match package {
@@ -25,45 +23,33 @@ fn word_of(package: Package) -> &'static str {
     }
 }
 
-fn two_models(
-    alloc: Global,
-    folder: &mut MemFolder,
-    first: &str,
-    second: &str,
-) -> Result<(FlowModel, FlowModel), InputFault>
-    ensures { IfOk result (λ p. IsModel p.1) }
-{
-    let first = read_model(alloc, folder, first)?;
-    let second = read_model(alloc, folder, second)?;
-    Ok((first, second))
-}
-
-fn print_apart(rt: &impl Print, first: &FlowModel, second: &FlowModel) -> io::Result<()>
+fn push_apart(page: &mut Page, first: &FlowModel, second: &FlowModel)
     requires { IsModel second.now }
 {
     let Some(Difference { package, cell }) = first_difference(first, second) else {
-        return println!(rt; "alike");
+        return page.line("alike");
     };
-    let word = word_of(package);
-    match cell {
-        None => println!(rt; "{word}"),
-        Some(cell) => {
-            let [layer, row, column] = place_of(&second.grid, cell);
-            println!(rt; "{word} {layer} {row} {column}")
+    page.text(word_of(package));
+    if let Some(cell) = cell {
+        for number in place_of(&second.grid, cell) {
+            page.word(number);
         }
+    }
+    page.end();
+}
+
+// The first difference from a deck.
+fn push_beside(page: &mut Page, folder: &mut MemFolder, first: &FlowModel, second: &str) {
+    match read_model(page.alloc(), folder, second) {
+        Ok(second) => push_apart(page, first, &second),
+        Err(fault) => push_fault(page, &fault),
     }
 }
 
-/// Prints the first difference of two decks: its package, and the layer, row and column of its cell if it has one.
-pub fn print_difference(
-    rt: &impl Print,
-    alloc: Global,
-    folder: &mut MemFolder,
-    first: &str,
-    second: &str,
-) -> io::Result<()> {
-    match two_models(alloc, folder, first, second) {
-        Ok((first, second)) => print_apart(rt, &first, &second),
-        Err(fault) => print_fault(rt, &fault),
+/// The first difference of two decks: its package, and the layer, row and column of its cell if it has one.
+pub fn push_difference(page: &mut Page, folder: &mut MemFolder, first: &str, second: &str) {
+    match read_model(page.alloc(), folder, first) {
+        Ok(first) => push_beside(page, folder, &first, second),
+        Err(fault) => push_fault(page, &fault),
     }
 }

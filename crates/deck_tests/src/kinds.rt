@@ -3,22 +3,20 @@ ghost use Rattle.std.specs.Prelude.{◌≡◌, ◌<◌, ◌≤◌, All, length, 
 ghost use Rattle.model_types.specs.Grids.{HasSize};
 ghost use Rattle.model_types.specs.Kinds.{given_heads};
 
-use crate::models::read_model;
 use model_types::{CellId, FlowModel, Given, GivenHeads, Kind, kind_at, times};
-use outside::MemFolder;
 use std::alloc::{AllocError, Global};
-use std::io;
+use test_lines::Page;
 
-// The time steps.
-fn print_times(rt: &impl Print, alloc: Global, model: &FlowModel) -> io::Result<()>
+fn push_times(page: &mut Page, model: &FlowModel) -> Result<(), AllocError>
     requires { length model.now.periods ≤ 1000 }
 {
-    print!(rt; "times")?;
-    for at in &times(alloc, model)? {
-        let (period, step) = (at.period, at.step);
-        print!(rt; " {period} {step}")?;
+    page.text("times");
+    for at in &times(page.alloc(), model)? {
+        page.word(at.period);
+        page.word(at.step);
     }
-    println!(rt; "")
+    page.end();
+    Ok(())
 }
 
 fn names_within(list: &[Given], cells: u32) -> bool
@@ -44,60 +42,47 @@ fn goes_on(given: &mut GivenHeads, alloc: Global, model: &FlowModel) -> Result<b
     Ok(true)
 }
 
-// The kinds of a period, by reading the lists.
-fn walked(alloc: Global, model: &FlowModel, period: u32) -> Result<Vec<Kind>, AllocError>
-    requires { HasSize model.now.grid }
-{
-    let mut kinds = Vec::new(alloc);
-    for cell in 0..model.grid.cell_count() {
-        kinds.push(kind_at(model, period, CellId(cell)))?;
-    }
-    Ok(kinds)
+fn push_kind(page: &mut Page, kind: Kind) {
+    page.text(match kind {
+        Kind::NoFlow => " no-flow",
+        Kind::Constant => " constant",
+        Kind::Variable => " variable",
+    });
 }
 
-fn print_line(rt: &impl Print, word: &str, period: u32, kinds: &[Kind]) -> io::Result<()> {
-    print!(rt; "{word} {period}")?;
-    for kind in kinds {
-        let name = match kind {
-            Kind::NoFlow => "no-flow",
-            Kind::Constant => "constant",
-            Kind::Variable => "variable",
-        };
-        print!(rt; " {name}")?;
-    }
-    println!(rt; "")
-}
-
-// The kinds of the cells in each period, by the heads given so far and by reading the lists.
-fn print_kinds(rt: &impl Print, alloc: Global, model: &FlowModel) -> io::Result<()>
+// The kinds of a period, by the heads given so far and by reading the lists.
+fn push_kinds(page: &mut Page, given: &GivenHeads, model: &FlowModel) -> Result<(), AllocError>
     requires size { HasSize model.now.grid }
-    requires few { length model.now.periods ≤ 1000 }
+    requires given { given.now ≡ given_heads model.now given.now.period }
 {
-    let mut given = GivenHeads::new(alloc, model);
-    for _turn in 0..model.periods.as_slice().len() {
-        if !goes_on(&mut given, alloc, model)? {
-            return println!(rt; "a cell outside the grid");
-        }
-        let kinds = given.kinds(alloc, model)?;
-        print_line(rt, "given", given.period, &kinds)?;
-        let walked = walked(alloc, model, given.period)?;
-        print_line(rt, "walked", given.period, &walked)?;
+    page.text("given");
+    page.word(given.period);
+    for kind in &given.kinds(page.alloc(), model)? {
+        push_kind(page, *kind);
     }
+    page.end();
+    page.text("walked");
+    page.word(given.period);
+    for cell in 0..model.grid.cell_count() {
+        push_kind(page, kind_at(model, given.period, CellId(cell)));
+    }
+    page.end();
     Ok(())
 }
 
-/// Prints the time steps of the model of a name file, and the kinds of its cells in each period.
-pub fn print_periods(
-    rt: &impl Print,
-    alloc: Global,
-    folder: &mut MemFolder,
-    name: &str,
-) -> io::Result<()> {
-    match read_model(alloc, folder, name) {
-        Ok(model) => {
-            print_times(rt, alloc, &model)?;
-            print_kinds(rt, alloc, &model)
+/// The time steps of a model, and the kinds of its cells in each period.
+pub fn push_periods(page: &mut Page, model: &FlowModel) -> Result<(), AllocError>
+    requires size { HasSize model.now.grid }
+    requires few { length model.now.periods ≤ 1000 }
+{
+    push_times(page, model)?;
+    let mut given = GivenHeads::new(page.alloc(), model);
+    for _turn in 0..model.periods.as_slice().len() {
+        if !goes_on(&mut given, page.alloc(), model)? {
+            page.line("a cell outside the grid");
+            break;
         }
-        Err(_) => println!(rt; "no model"),
+        push_kinds(page, &given, model)?;
     }
+    Ok(())
 }

@@ -1,47 +1,66 @@
-// Lists of a model, one in a line. A number is printed as its digits and its exponent.
+// The lists of a model, one in a line. A number is written as its digits and its exponent.
+use crate::stresses::push_stresses;
 use decimal_input::dec::Dec;
-use model_types::{Grid, Period};
-use std::io;
+use model_types::{FlowModel, Grid, Period};
+use test_lines::Page;
 
-pub fn print_number(rt: &impl Print, value: Dec) -> io::Result<()> {
-    let sign = if value.neg { "-" } else { "" };
-    let digits = value.digits;
-    let exponent = value.exp;
-    print!(rt; " {sign}{digits}e{exponent}")
+pub fn push_numbers(page: &mut Page, name: &str, values: &[Dec]) {
+    page.text(name);
+    page.numbers(values);
+    page.end();
 }
 
-pub fn print_numbers(rt: &impl Print, name: &str, values: &[Dec]) -> io::Result<()> {
-    print!(rt; "{name}")?;
-    for value in values {
-        print_number(rt, *value)?;
+pub fn push_integers(page: &mut Page, name: &str, values: &[i64]) {
+    page.text(name);
+    page.integers(values);
+    page.end();
+}
+
+fn push_grid(page: &mut Page, grid: &Grid) {
+    page.line(format_args!("GRID {} {} {}", grid.layers, grid.rows, grid.cols));
+    push_integers(page, "LAYCBD", grid.laycbd.as_slice());
+    push_numbers(page, "DELR", grid.delr.as_slice());
+    push_numbers(page, "DELC", grid.delc.as_slice());
+    push_numbers(page, "TOP", grid.top.as_slice());
+    push_numbers(page, "BOTTOM", grid.bottom.as_slice());
+    push_numbers(page, "BEDS", grid.bed_bottom.as_slice());
+}
+
+fn push_period(page: &mut Page, period: &Period) {
+    page.text("PERIOD");
+    page.number(period.perlen);
+    page.word(period.nstp);
+    page.number(period.tsmult);
+    page.line(if period.steady { " SS" } else { " TR" });
+}
+
+fn push_properties(page: &mut Page, model: &FlowModel) {
+    push_integers(page, "IBOUND", model.ibound.as_slice());
+    push_numbers(page, "STRT", model.strt.as_slice());
+    push_integers(page, "LAYVKA", model.layvka.as_slice());
+    push_numbers(page, "HK", model.hk.as_slice());
+    push_numbers(page, "HANI", model.hani.as_slice());
+    push_numbers(page, "VKA", model.vka.as_slice());
+    push_numbers(page, "SS", model.ss.as_slice());
+    push_numbers(page, "VKCB", model.vkcb.as_slice());
+    page.line(format_args!("COEFFICIENT {}", model.coefficient));
+}
+
+fn push_option(page: &mut Page, name: &str, option: i64) {
+    if option != 0 {
+        push_integers(page, name, &[option]);
     }
-    println!(rt; "")
 }
 
-pub fn print_integers(rt: &impl Print, name: &str, values: &[i64]) -> io::Result<()> {
-    print!(rt; "{name}")?;
-    for value in values {
-        print!(rt; " {value}")?;
+/// All lists and options of a model.
+pub fn push_lists(page: &mut Page, model: &FlowModel) {
+    push_grid(page, &model.grid);
+    for period in model.periods.as_slice() {
+        push_period(page, period);
+        push_stresses(page, &period.stresses);
     }
-    println!(rt; "")
-}
-
-pub fn print_grid(rt: &impl Print, grid: &Grid) -> io::Result<()> {
-    let (layers, rows, columns) = (grid.layers, grid.rows, grid.cols);
-    println!(rt; "GRID {layers} {rows} {columns}")?;
-    print_integers(rt, "LAYCBD", grid.laycbd.as_slice())?;
-    print_numbers(rt, "DELR", grid.delr.as_slice())?;
-    print_numbers(rt, "DELC", grid.delc.as_slice())?;
-    print_numbers(rt, "TOP", grid.top.as_slice())?;
-    print_numbers(rt, "BOTTOM", grid.bottom.as_slice())?;
-    print_numbers(rt, "BEDS", grid.bed_bottom.as_slice())
-}
-
-pub fn print_period(rt: &impl Print, period: &Period) -> io::Result<()> {
-    print!(rt; "PERIOD")?;
-    print_number(rt, period.perlen)?;
-    let steps = period.nstp;
-    print!(rt; " {steps}")?;
-    print_number(rt, period.tsmult)?;
-    println!(rt; "{}", if period.steady { " SS" } else { " TR" })
+    push_integers(page, "LENUNI", &[model.lenuni]);
+    push_properties(page, model);
+    push_option(page, "NRCHOP", model.nrchop);
+    push_option(page, "NEVTOP", model.nevtop);
 }

@@ -11,68 +11,55 @@
 //! models of two name files differ first: the package, and the cell if there is one.
 //! `@periods NAME` prints its time steps, and for each stress period the kinds of its cells, by the
 //! heads given so far and by reading the CHD lists for each cell. `@share ENTRIES PERIODS` shares a list of ENTRIES entries
-//! PERIODS times, and prints the sum of the lengths. `@example HK RATE` prints the lists of the builder's example, whose
-//! well has this rate. `@steps NAME DIGITS` prints the steps of a model one after the other, each from the heads of the one
-//! before it: the sites, the problem, and the heads that settle it. `@make SEED SIZE` prints the files of a made model.
+//! PERIODS times, and prints the sum of the lengths. `@steps NAME DIGITS` prints the steps of a model one after the other,
+//! each from the heads of the one before it: the sites, the problem, and the heads that settle it. `@make SEED SIZE` prints
+//! the files of a made model.
 //!
 //! `@words WORD|WORD|..` prints what the words of a command line ask for; without a word after it there are none.
 #![tactic(auto)]
 
 mod alike;
-mod example;
+mod files;
 mod kinds;
 mod lists;
-mod made;
 mod models;
-mod problem;
-mod questions;
-mod shared;
+mod orders;
 mod steps;
 mod stresses;
-mod wide;
-mod words;
-mod written;
 
-use alike::print_difference;
-use kinds::print_periods;
-use made::print_made;
-use models::{print_example, print_model, print_zones};
-use questions::Question;
-use shared::print_shared;
-use std::alloc::Global;
+use alike::push_difference;
+use files::push_made;
+use models::{push_model_answer, push_wide};
+use orders::{push_order, push_shared};
+use std::alloc::AllocError;
 use std::io;
-use steps::print_steps;
-use test_decks::{Deck, take_line};
-use wide::print_wide;
-use words::print_order;
-use written::print_written;
+use test_lines::{Deck, Page, count_of, first_word, take_line};
 
-fn ask(rt: &impl Print, alloc: Global, deck: &mut Deck, question: Question<'_>) -> io::Result<()> {
-    deck.end_file(alloc)?;
+// Puts the question and its answer on the page.
+fn answer(page: &mut Page, deck: &mut Deck, line: &str) -> Result<(), AllocError> {
+    page.line(line);
+    deck.end_file(page.alloc())?;
     let folder = &mut deck.folder;
-    match question {
-        Question::Read(name) => print_model(rt, alloc, folder, name),
-        Question::Wide(name) => print_wide(rt, alloc, folder, name),
-        Question::Write(name) => print_written(rt, alloc, folder, name),
-        Question::Zones(name, zones) => print_zones(rt, alloc, folder, name, zones),
-        Question::Alike(first, second) => print_difference(rt, alloc, folder, first, second),
-        Question::Periods(name) => print_periods(rt, alloc, folder, name),
-        Question::Share(entries, periods) => print_shared(rt, alloc, entries, periods),
-        Question::Example(hk, rate) => print_example(rt, alloc, hk, rate),
-        Question::Steps(name, digits) => print_steps(rt, alloc, folder, name, digits),
-        Question::Make(seed, size) => print_made(rt, alloc, seed, size),
-        Question::Words(line) => print_order(rt, alloc, line),
+    let (word, rest) = first_word(line);
+    let (first, second) = first_word(rest);
+    match word {
+        "@wide" => push_wide(page, folder, rest),
+        "@alike" => push_difference(page, folder, first, second),
+        "@share" => return push_shared(page, count_of(first), count_of(second)),
+        "@make" => return push_made(page, count_of(first), count_of(second)),
+        "@words" => return push_order(page, rest),
+        _ => return push_model_answer(page, folder, word, first, second),
     }
+    Ok(())
 }
 
-fn step(rt: &impl Print, alloc: Global, deck: &mut Deck, line: &str) -> io::Result<()> {
-    match Question::of(line) {
-        None => take_line(rt, alloc, deck, line),
-        Some(question) => {
-            println!(rt; "{line}")?;
-            ask(rt, alloc, deck, question)
-        }
-    }
+fn is_question(line: &str) -> bool {
+    let (word, _) = first_word(line);
+    let words = [
+        "@read", "@wide", "@write", "@zones", "@alike", "@periods", "@share", "@steps", "@make",
+        "@words",
+    ];
+    words.iter().any(|question| *question == word)
 }
 
 fn main(rt: HostRuntime) -> io::Result<()> {
@@ -80,7 +67,13 @@ fn main(rt: HostRuntime) -> io::Result<()> {
     let mut deck = Deck::new(alloc);
     for line in rt.lines(alloc) {
         let line = line?;
-        step(&rt, alloc, &mut deck, line.as_str())?;
+        let mut page = Page::new(alloc);
+        if is_question(line.as_str()) {
+            answer(&mut page, &mut deck, line.as_str())?;
+        } else {
+            take_line(&mut page, &mut deck, line.as_str())?;
+        }
+        page.print(&rt)?;
     }
     Ok(())
 }

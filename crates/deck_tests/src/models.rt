@@ -1,15 +1,18 @@
-// The result of a reader: the model's lists, one in a line.
+// The model of a name file, and what is asked of it.
 ghost use Rattle.std.specs.Prelude.{IfOk};
 ghost use Rattle.model_types.specs.Valid.{IsModel};
+ghost use Rattle.deck_problems.specs.Decks.{AreDecks};
 
-use crate::example::{example, whole};
-use crate::lists::{print_grid, print_integers, print_numbers, print_period};
-use crate::stresses::print_stresses;
+use crate::files::push_written;
+use crate::kinds::push_periods;
+use crate::lists::{push_integers, push_lists};
+use crate::steps::push_steps;
+use deck_problems::Decks;
 use model_reader::read_named_model;
 use model_types::{FlowModel, Limits};
 use outside::{InputFault, MemFolder, good_name};
-use std::alloc::Global;
-use std::io;
+use std::alloc::{AllocError, Global};
+use test_lines::{Page, count_of};
 use zone_file::read_zones;
 
 /// The model that a name file describes.
@@ -26,86 +29,86 @@ pub fn read_model(
     }
 }
 
-fn zones_of(
-    alloc: Global,
-    folder: &mut MemFolder,
-    name: &str,
-    zones: &str,
-) -> Result<Vec<i64>, InputFault> {
-    let model = read_model(alloc, folder, name)?;
-    read_zones(alloc, &model, zones, folder)
-}
-
-fn print_properties(rt: &impl Print, model: &FlowModel) -> io::Result<()> {
-    print_integers(rt, "LAYVKA", model.layvka.as_slice())?;
-    print_numbers(rt, "HK", model.hk.as_slice())?;
-    print_numbers(rt, "HANI", model.hani.as_slice())?;
-    print_numbers(rt, "VKA", model.vka.as_slice())?;
-    print_numbers(rt, "SS", model.ss.as_slice())?;
-    print_numbers(rt, "VKCB", model.vkcb.as_slice())?;
-    let coefficient = model.coefficient;
-    println!(rt; "COEFFICIENT {coefficient}")
-}
-
-fn print_option(rt: &impl Print, name: &str, option: i64) -> io::Result<()> {
-    if option == 0 {
-        return Ok(());
-    }
-    println!(rt; "{name} {option}")
-}
-
-fn print_lists(rt: &impl Print, model: &FlowModel) -> io::Result<()> {
-    print_grid(rt, &model.grid)?;
-    for period in model.periods.as_slice() {
-        print_period(rt, period)?;
-        print_stresses(rt, &period.stresses)?;
-    }
-    let lenuni = model.lenuni;
-    println!(rt; "LENUNI {lenuni}")?;
-    print_integers(rt, "IBOUND", model.ibound.as_slice())?;
-    print_numbers(rt, "STRT", model.strt.as_slice())?;
-    print_properties(rt, model)?;
-    print_option(rt, "NRCHOP", model.nrchop)?;
-    print_option(rt, "NEVTOP", model.nevtop)
-}
-
-/// Prints that a read failed, or that there is no model by another cause.
-pub fn print_fault(rt: &impl Print, fault: &InputFault) -> io::Result<()> {
+/// That a read failed, or that there is no model by another cause.
+pub fn push_fault(page: &mut Page, fault: &InputFault) {
     match fault {
-        InputFault::ReadFault => println!(rt; "ReadFault"),
-        _ => println!(rt; "no model"),
+        InputFault::ReadFault => page.line("ReadFault"),
+        _ => page.line("no model"),
     }
 }
 
-/// Prints the model that a name file describes.
-pub fn print_model(
-    rt: &impl Print,
-    alloc: Global,
+// The zones of its cells.
+fn push_zones(page: &mut Page, folder: &mut MemFolder, model: &FlowModel, name: &str)
+    requires { IsModel model.now }
+{
+    match read_zones(page.alloc(), model, name, folder) {
+        Ok(zones) => push_integers(page, "ZONES", zones.as_slice()),
+        Err(fault) => push_fault(page, &fault),
+    }
+}
+
+// The answer to a question about a model.
+fn push_answer(
+    page: &mut Page,
     folder: &mut MemFolder,
-    name: &str,
-) -> io::Result<()> {
-    match read_model(alloc, folder, name) {
-        Ok(model) => print_lists(rt, &model),
-        Err(fault) => print_fault(rt, &fault),
+    decks: &Decks,
+    question: &str,
+    more: &str,
+) -> Result<(), AllocError>
+    requires { AreDecks decks.now }
+{
+    let model = &decks.first;
+    match question {
+        "@read" => Ok(push_lists(page, model)),
+        "@zones" => Ok(push_zones(page, folder, model, more)),
+        "@periods" => push_periods(page, model),
+        "@write" => push_written(page, folder, model),
+        _ => push_steps(page, decks, count_of(more).min(18)),
     }
 }
 
-/// Prints the zones of its cells.
-pub fn print_zones(
-    rt: &impl Print,
-    alloc: Global,
+/// The answer to a question about the model of a name file, or why there is no model.
+pub fn push_model_answer(
+    page: &mut Page,
     folder: &mut MemFolder,
+    question: &str,
     name: &str,
-    zones: &str,
-) -> io::Result<()> {
-    match zones_of(alloc, folder, name, zones) {
-        Ok(zones) => print_integers(rt, "ZONES", zones.as_slice()),
-        Err(fault) => print_fault(rt, &fault),
+    more: &str,
+) -> Result<(), AllocError> {
+    match read_model(page.alloc(), folder, name) {
+        Ok(first) => {
+            let second = None;
+            push_answer(page, folder, &Decks { first, second }, question, more)
+        }
+        Err(fault) => Ok(push_fault(page, &fault)),
     }
 }
 
-/// Prints the model of the builder's example.
-pub fn print_example(rt: &impl Print, alloc: Global, hk: u32, rate: u32) -> io::Result<()> {
-    let model = example(alloc, whole(u64::from(hk)), whole(u64::from(rate)))?;
-    print_lists(rt, &model)
+fn push_wide_fault(page: &mut Page, fault: &InputFault) {
+    match fault {
+        InputFault::Refused(refusal) => {
+            let (word, file) = (refusal.code.word(), refusal.file.as_str());
+            page.line(format_args!("{word} {file} {}", refusal.line));
+        }
+        InputFault::ReadFault => page.line("ReadFault"),
+        InputFault::Memory => page.line("Memory"),
+    }
+}
+
+/// The size of the model that a name file describes by wide limits, or its refusal.
+pub fn push_wide(page: &mut Page, folder: &mut MemFolder, name: &str) {
+    let Some(name) = good_name(name.as_bytes()) else {
+        return page.line("no name");
+    };
+    match read_named_model(page.alloc(), Limits::Wide, name, folder) {
+        Ok(model) => {
+            let grid = &model.grid;
+            let bottoms = grid.bottom.as_slice().len();
+            page.text("GRID");
+            page.word(grid.layers);
+            page.word(grid.rows);
+            page.line(format_args!(" {}, {bottoms} bottoms", grid.cols));
+        }
+        Err(fault) => push_wide_fault(page, &fault),
+    }
 }

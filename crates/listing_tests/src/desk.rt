@@ -3,11 +3,13 @@ ghost use Rattle.std.specs.Prelude.{◌≤◌, IfOk, length};
 ghost use Rattle.model_types.specs.Grids.{HasSize};
 
 use crate::model::model;
-use crate::numbers::{integer_at, numbers_of};
 use crate::writing::Step;
 use model_types::FlowModel;
 use std::alloc::{AllocError, Global};
+use test_lines::{head_at, numbers_of};
 
+/// A row of cells, the number of digits of its conductances, whether listings are for all models between two decks, the
+/// listing, and the step.
 #[derive(Drop)]
 pub struct Desk {
     lenuni: i64,
@@ -35,28 +37,13 @@ impl Desk {
     /// Sets the current model to this row of cells.
     pub fn choose_row(&mut self, alloc: Global, words: &str) -> Result<(), AllocError> {
         let numbers = numbers_of(alloc, words)?;
-        self.lenuni = integer_at(&numbers, 0);
-        self.nevtop = integer_at(&numbers, 1);
+        self.lenuni = head_at(&numbers, 0);
+        self.nevtop = head_at(&numbers, 1);
         self.ibound = Vec::new(alloc);
         for place in 2..numbers.len() {
-            self.ibound.push(integer_at(&numbers, place))?;
+            self.ibound.push(head_at(&numbers, place))?;
         }
         Ok(())
-    }
-
-    /// Sets the number of digits.
-    pub fn choose_digits(&mut self, words: &str) {
-        self.digits = words.parse::<u32>().unwrap_or(0);
-    }
-
-    /// Sets whether listings are for all models between two decks.
-    pub fn choose_between(&mut self, word: &str) {
-        self.between = word == "yes";
-    }
-
-    /// Begins a listing without lines.
-    pub fn begin_listing(&mut self, alloc: Global) {
-        self.listing = String::new(alloc);
     }
 
     pub fn push_line(&mut self, line: &str) -> Result<(), AllocError> {

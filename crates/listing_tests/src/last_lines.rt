@@ -1,105 +1,95 @@
 // The last lines of runs that don't end well.
 ghost use Rattle.model_types.specs.Grids.{HasSize};
 
-use crate::command::Command;
 use crate::desk::Desk;
-use crate::numbers::{number_at, numbers_of};
 use crate::places::{place_of, time_of};
 use listing_io::{write_no_bound, write_not_certified, write_refused, write_unfinished};
 use model_types::{Grid, TimeStep};
 use outside::{Code, Name, Refusal};
 use std::alloc::{AllocError, Global};
-use std::io;
-use step_problem::NoBound;
+use step_problem::{NoBound, Place};
+use test_lines::{Page, count_of, first_word, number_at, numbers_of};
 
-/// Prints the bytes of a text.
-pub fn print_text(rt: &impl Print, bytes: &[u8]) -> io::Result<()> {
-    let text = str::from_utf8(bytes).unwrap_or("not a text\n");
-    print!(rt; "{text}")
-}
-
-fn unclear(alloc: Global) -> Result<Vec<u8>, AllocError> {
-    Vec::from_slice(alloc, b"unclear\n")
+/// A text that a call writes.
+pub fn push_text(page: &mut Page, text: Result<Vec<u8>, AllocError>) -> Result<(), AllocError> {
+    page.file(text?.as_slice());
+    Ok(())
 }
 
 // A layer, a row and a column may follow the line.
-fn refused_line(alloc: Global, words: &str) -> Result<Vec<u8>, AllocError> {
-    let (code, words) = words.split_once(' ').unwrap_or((words, ""));
-    let (file, words) = words.split_once(' ').unwrap_or((words, ""));
+fn push_refused(page: &mut Page, words: &str) -> Result<(), AllocError> {
+    let (code, words) = first_word(words);
+    let (file, words) = first_word(words);
     let Some(code) = Code::of_number(code.parse::<u8>().unwrap_or(0)) else {
-        return unclear(alloc);
+        return Ok(page.line("unclear"));
     };
-    let numbers = numbers_of(alloc, words)?;
+    let numbers = numbers_of(page.alloc(), words)?;
     let at = [1, 2, 3].map(|place| number_at(&numbers, place));
     let refusal = Refusal {
         code,
-        file: Name::new(alloc, file)?,
+        file: Name::new(page.alloc(), file)?,
         line: number_at(&numbers, 0),
         at: if numbers.len() > 1 { Some(at) } else { None },
     };
-    write_refused(alloc, &refusal)
+    let text = write_refused(page.alloc(), &refusal);
+    push_text(page, text)
 }
 
-fn no_bound_line(
+// The last line of a run that has no bound at a place, by the code of its cause, or is not certified there.
+fn line_at(
     alloc: Global,
     grid: &Grid,
     at: TimeStep,
-    words: &str,
+    code: Option<u8>,
+    place: Place,
 ) -> Result<Vec<u8>, AllocError>
     requires { HasSize grid.now }
 {
-    let (code, words) = words.split_once(' ').unwrap_or((words, ""));
-    match (code.parse::<u8>(), place_of(words)) {
-        (Ok(code), Some(place)) => write_no_bound(alloc, grid, at, NoBound { code, place }),
-        _ => unclear(alloc),
+    match code {
+        Some(code) => write_no_bound(alloc, grid, at, NoBound { code, place }),
+        None => write_not_certified(alloc, grid, at, place),
     }
 }
 
-fn open_line(alloc: Global, grid: &Grid, at: TimeStep, words: &str) -> Result<Vec<u8>, AllocError>
+fn push_at(
+    page: &mut Page,
+    grid: &Grid,
+    at: TimeStep,
+    code: Option<u8>,
+    words: &str,
+) -> Result<(), AllocError>
     requires { HasSize grid.now }
 {
     match place_of(words) {
-        Some(place) => write_not_certified(alloc, grid, at, place),
-        None => unclear(alloc),
+        Some(place) => {
+            let text = line_at(page.alloc(), grid, at, code, place);
+            push_text(page, text)
+        }
+        None => Ok(page.line("unclear")),
     }
 }
 
-fn line_of(alloc: Global, grid: &Grid, command: Command, words: &str) -> Result<Vec<u8>, AllocError>
-    requires { HasSize grid.now }
-{
-    if let Command::Refused = command {
-        return refused_line(alloc, words);
-    }
-    let Some((at, words)) = time_of(words) else {
-        return unclear(alloc);
-    };
-    match command {
-        Command::NoBound => no_bound_line(alloc, grid, at, words),
-        Command::Open => open_line(alloc, grid, at, words),
-        _ => write_unfinished(alloc, at),
-    }
-}
-
-fn print_line(
-    rt: &impl Print,
-    alloc: Global,
-    grid: &Grid,
-    command: Command,
-    words: &str,
-) -> io::Result<()>
-    requires { HasSize grid.now }
-{
-    print_text(rt, &line_of(alloc, grid, command, words)?)
-}
-
-/// Prints the last line of a run of the model.
-pub fn print_last_line(
-    rt: &impl Print,
-    alloc: Global,
+/// The last line of a run of the model.
+pub fn push_last_line(
+    page: &mut Page,
     desk: &Desk,
-    command: Command,
+    question: &str,
     words: &str,
-) -> io::Result<()> {
-    let model = desk.model(alloc)?;
-    print_line(rt, alloc, &model.grid, command, words)
+) -> Result<(), AllocError> {
+    if question == "@refused" {
+        return push_refused(page, words);
+    }
+    let model = desk.model(page.alloc())?;
+    let (at, words) = time_of(words);
+    match question {
+        "@nobound" => {
+            let (code, words) = first_word(words);
+            push_at(page, &model.grid, at, code.parse::<u8>().ok(), words)
+        }
+        "@open" => push_at(page, &model.grid, at, None, words),
+        _ => {
+            let text = write_unfinished(page.alloc(), at);
+            push_text(page, text)
+        }
+    }
 }

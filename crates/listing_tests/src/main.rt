@@ -17,47 +17,42 @@
 //! ..` says what is shown, and is printed.
 #![tactic(auto)]
 
-mod command;
 mod desk;
 mod last_lines;
 mod model;
-mod numbers;
 mod places;
 mod reading;
-mod variants;
 mod writing;
 
-use command::Command;
 use desk::Desk;
-use last_lines::print_last_line;
-use reading::print_read;
-use std::alloc::Global;
+use last_lines::push_last_line;
+use reading::{push_bytes, push_changed, push_cut, push_read};
+use std::alloc::AllocError;
 use std::io;
-use variants::{print_bytes, print_cut, print_line};
-use writing::print_step;
+use test_lines::{Page, count_of, first_word};
+use writing::push_step;
 
-fn step(rt: &impl Print, alloc: Global, desk: &mut Desk, line: &str) -> io::Result<()> {
-    let Some((command, rest)) = Command::of(line) else {
-        return Ok(desk.push_line(line)?);
-    };
-    match command {
-        Command::Title => println!(rt; "{line}"),
-        Command::Row => Ok(desk.choose_row(alloc, rest)?),
-        Command::Digits => Ok(desk.choose_digits(rest)),
-        Command::Between => Ok(desk.choose_between(rest)),
-        Command::Listing => Ok(desk.begin_listing(alloc)),
-        Command::Heads | Command::In | Command::Out | Command::Zone => {
-            Ok(desk.step.take(alloc, command, rest)?)
+// Does the command of a line, or adds a line to the listing.
+fn step(page: &mut Page, desk: &mut Desk, line: &str) -> Result<(), AllocError> {
+    let (word, rest) = first_word(line);
+    match word {
+        "@" => page.line(line),
+        "@row" => return desk.choose_row(page.alloc(), rest),
+        "@digits" => desk.digits = count_of(rest).min(18),
+        "@between" => desk.between = rest == "yes",
+        "@listing" => desk.listing = String::new(page.alloc()),
+        "@heads" | "@in" | "@out" | "@zone" => return desk.step.take(page.alloc(), word, rest),
+        "@write" => return push_step(page, desk, rest),
+        "@read" => return push_read(page, desk, desk.listing.as_str()),
+        "@line" => return push_changed(page, desk, rest),
+        "@bytes" => return push_bytes(page, desk),
+        "@cut" => return push_cut(page, desk),
+        "@nobound" | "@open" | "@unfinished" | "@refused" => {
+            return push_last_line(page, desk, word, rest);
         }
-        Command::Write => print_step(rt, alloc, desk, rest),
-        Command::Read => print_read(rt, alloc, desk, desk.listing.as_str()),
-        Command::Line => print_line(rt, alloc, desk, rest),
-        Command::Bytes => print_bytes(rt, alloc, desk),
-        Command::Cut => print_cut(rt, alloc, desk),
-        Command::NoBound | Command::Open | Command::Unfinished | Command::Refused => {
-            print_last_line(rt, alloc, desk, command, rest)
-        }
+        _ => return desk.push_line(line),
     }
+    Ok(())
 }
 
 fn main(rt: HostRuntime) -> io::Result<()> {
@@ -65,7 +60,9 @@ fn main(rt: HostRuntime) -> io::Result<()> {
     let mut desk = Desk::new(alloc);
     for line in rt.lines(alloc) {
         let line = line?;
-        step(&rt, alloc, &mut desk, line.as_str())?;
+        let mut page = Page::new(alloc);
+        step(&mut page, &mut desk, line.as_str())?;
+        page.print(&rt)?;
     }
     Ok(())
 }

@@ -1,22 +1,17 @@
 // The time steps and places that words name.
 use model_types::TimeStep;
 use step_problem::{Dir, Place, Side, Term};
-
-// Two numbers, and the words after them.
-fn two_of(words: &str) -> Option<(u32, u32, &str)> {
-    let (first, rest) = words.split_once(' ')?;
-    let (second, rest) = rest.split_once(' ').unwrap_or((rest, ""));
-    Some((
-        first.parse::<u32>().ok()?,
-        second.parse::<u32>().ok()?,
-        rest,
-    ))
-}
+use test_lines::{count_of, first_word};
 
 /// A stress period and a step of it, and the words after them.
-pub fn time_of(words: &str) -> Option<(TimeStep, &str)> {
-    let (period, step, rest) = two_of(words)?;
-    Some((TimeStep { period, step }, rest))
+pub fn time_of(words: &str) -> (TimeStep, &str) {
+    let (period, words) = first_word(words);
+    let (step, words) = first_word(words);
+    let at = TimeStep {
+        period: count_of(period),
+        step: count_of(step),
+    };
+    (at, words)
 }
 
 fn term_of(name: &str) -> Option<Term> {
@@ -34,28 +29,24 @@ fn term_of(name: &str) -> Option<Term> {
 }
 
 fn cell_of(words: &str) -> Option<Place> {
-    let (cell, side) = words.split_once(' ')?;
+    let (cell, side) = first_word(words);
     let side = match side {
         "LOW" => Side::Low,
         "HIGH" => Side::High,
         _ => return None,
     };
-    Some(Place::Cell(cell.parse::<u32>().ok()?, side))
-}
-
-fn zones_of(words: &str) -> Option<Place> {
-    let (from, to, _) = two_of(words)?;
-    Some(Place::Zone(from, to))
+    Some(Place::Cell(count_of(cell), side))
 }
 
 /// The place in a step that words name.
 pub fn place_of(words: &str) -> Option<Place> {
-    let (kind, rest) = words.split_once(' ')?;
+    let (kind, rest) = first_word(words);
+    let (from, to) = first_word(rest);
     match kind {
         "CELL" => cell_of(rest),
         "IN" => Some(Place::Term(Dir::In, term_of(rest)?)),
         "OUT" => Some(Place::Term(Dir::Out, term_of(rest)?)),
-        "ZONE" => zones_of(rest),
+        "ZONE" => Some(Place::Zone(count_of(from), count_of(to))),
         _ => None,
     }
 }

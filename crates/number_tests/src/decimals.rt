@@ -2,14 +2,14 @@
 ghost use Rattle.std.specs.Prelude.{IfSome};
 ghost use Rattle.scaled_decimal.specs.Nearest.{IsSd, IsNear};
 
-use crate::answers::{print_decimal, print_decimals, print_no_question, print_wholes};
+use crate::numbers::{push_no_question, push_wholes};
 use decimal_input::read::read_dec;
 use scaled_decimal::decimal::ZERO;
 use scaled_decimal::{
     Sd, add_dn, add_up, ceil_units, div_dn, div_up, floor_units, mul_dn, mul_up, of_dec,
     of_units_dn, of_units_up,
 };
-use std::io;
+use test_lines::Page;
 
 // A decimal has 18 digits.
 const LEAST: u64 = 100_000_000_000_000_000;
@@ -33,40 +33,50 @@ fn decimal(word: &str) -> Option<Sd>
     Some(Sd { m, e })
 }
 
+fn push_decimal(page: &mut Page, x: Sd) {
+    page.line(format_args!("{}e{}", x.m, x.e));
+}
+
+// What lies below and above.
+fn push_decimals(page: &mut Page, below: Sd, above: Sd) {
+    page.value(format_args!("{}e{} ", below.m, below.e));
+    push_decimal(page, above);
+}
+
 /// The product, the quotient or the sum, rounded down and up.
-pub fn print_pair(rt: &impl Print, operation: &str, a: &str, b: &str) -> io::Result<()> {
+pub fn push_pair(page: &mut Page, operation: &str, a: &str, b: &str) {
     let (Some(a), Some(b)) = (decimal(a), decimal(b)) else {
-        return print_no_question(rt);
+        return push_no_question(page);
     };
     match operation {
-        "mul" => print_decimals(rt, mul_dn(a, b), mul_up(a, b)),
-        "div" if b.m > 0 => print_decimals(rt, div_dn(a, b), div_up(a, b)),
-        "add" => print_decimals(rt, add_dn(a, b), add_up(a, b)),
-        _ => print_no_question(rt),
+        "mul" => push_decimals(page, mul_dn(a, b), mul_up(a, b)),
+        "div" if b.m > 0 => push_decimals(page, div_dn(a, b), div_up(a, b)),
+        "add" => push_decimals(page, add_dn(a, b), add_up(a, b)),
+        _ => push_no_question(page),
     }
 }
 
 /// The decimal of a number that isn't negative.
-pub fn print_made(rt: &impl Print, word: &str) -> io::Result<()> {
+pub fn push_decimal_of(page: &mut Page, word: &str) {
     match read_dec(word.as_bytes()) {
-        Ok(number) if !number.neg => print_decimal(rt, of_dec(number)),
-        _ => print_no_question(rt),
+        Ok(number) if !number.neg => push_decimal(page, of_dec(number)),
+        _ => push_no_question(page),
     }
 }
 
-pub fn print_made_of_units(rt: &impl Print, units: &str, places: &str) -> io::Result<()> {
+pub fn push_decimals_of_units(page: &mut Page, units: &str, places: &str) {
     match (units.parse::<u128>(), places.parse::<u16>()) {
         (Ok(units), Ok(places)) if places <= 10000 => {
-            print_decimals(rt, of_units_dn(units, places), of_units_up(units, places))
+            push_decimals(page, of_units_dn(units, places), of_units_up(units, places));
         }
-        _ => print_no_question(rt),
+        _ => push_no_question(page),
     }
 }
 
 /// The greatest whole number of units not above, and the least not below.
-pub fn print_whole(rt: &impl Print, x: &str, places: &str) -> io::Result<()> {
+pub fn push_whole(page: &mut Page, x: &str, places: &str) {
     match (decimal(x), places.parse::<u32>()) {
-        (Some(x), Ok(places)) => print_wholes(rt, floor_units(x, places), ceil_units(x, places)),
-        _ => print_no_question(rt),
+        (Some(x), Ok(places)) => push_wholes(page, floor_units(x, places), ceil_units(x, places)),
+        _ => push_no_question(page),
     }
 }

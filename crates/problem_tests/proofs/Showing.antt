@@ -9,7 +9,7 @@ use Rattle.cell_relax.proofs.Sides.{each_side}
 use Rattle.relax_core.specs.Core.{with_head}
 use Rattle.head_table.specs.declared.table.HeadSeat.{HeadSeat}
 use Rattle.head_table.specs.declared.table.HeadTable.{HeadTable}
-use Rattle.head_table.proofs.WordReads.{seen_here, seen_else, other_seen}
+use Rattle.relax_core.proofs.Words.{seen_here, seen_else, other_seen}
 
 pub shows_head : (side : Side) (p : List Entries) (s t : HeadSeat) (bs : List Bound) (i : ℕ) (z : ℤ) → i < length bs → seen_on side t i ≡ z → SameOnBut side i s t → SameOn (other side) s t → ShowsSeen p s bs → ShowsSeen p t (with_head side bs i z)
 shows_head side p s t bs i z inside here others opposite shown = each_side side (λ r. (c : ℕ) → c < length p → heads_on r (with_head side bs i z) c ≡ seen_on r t c)

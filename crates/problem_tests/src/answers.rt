@@ -1,84 +1,69 @@
 // Answers as lines.
+use crate::covering::TERM_NAMES;
 use budget_bounds::{Budget, TermPair};
 use certificate_check::Verdict;
-use std::io;
-use step_problem::{Barrier, Bound, NoBound, Open, Place, Term};
+use step_problem::{Barrier, Bound, NoBound, Open, Place, SettleFault};
+use test_lines::Page;
 
-fn print_pairs(rt: &impl Print, bounds: &[Bound]) -> io::Result<()> {
-    for bound in bounds {
-        let (low, high) = (bound.low, bound.high);
-        print!(rt; " {low} {high}")?;
-    }
-    println!(rt; "")
-}
-
-/// A word, and the bounds of each cell after it.
-pub fn print_bounds(rt: &impl Print, word: &str, bounds: &[Bound]) -> io::Result<()> {
-    print!(rt; "{word}")?;
-    print_pairs(rt, bounds)
-}
-
-pub fn print_barrier(rt: &impl Print, b: &Barrier) -> io::Result<()> {
-    print!(rt; "barrier")?;
+pub fn push_barrier(page: &mut Page, b: &Barrier) {
+    page.text("barrier");
     for (floor, ceiling) in b.floor.iter().zip(b.ceiling.iter()) {
-        print!(rt; " {floor} {ceiling}")?;
+        page.word(*floor);
+        page.word(*ceiling);
     }
-    println!(rt; "")
+    page.end();
 }
 
-pub fn print_open(rt: &impl Print, open: &Open) -> io::Result<()> {
-    let cell = open.cell;
-    let side = open.side;
-    print!(rt; "open {cell} {side}")?;
-    print_pairs(rt, open.words.as_slice())
+fn push_open(page: &mut Page, open: &Open) {
+    page.text("open");
+    page.word(open.cell);
+    page.word(open.side);
+    page.bounds("", open.words.as_slice());
 }
 
-pub fn print_fault(rt: &impl Print, fault: NoBound) -> io::Result<()> {
-    let code = fault.code;
-    print!(rt; "refused {code}")?;
+/// The settled heads, or the first cell that is left open.
+pub fn push_settled(page: &mut Page, answer: &Result<Vec<Bound>, SettleFault>) {
+    match answer {
+        Ok(bounds) => page.bounds("settled", bounds.as_slice()),
+        Err(SettleFault::Unfinished(open)) => push_open(page, open),
+        Err(SettleFault::Memory) => page.line("memory"),
+    }
+}
+
+pub fn push_fault(page: &mut Page, fault: NoBound) {
+    page.text("refused");
+    page.word(fault.code);
     match fault.place {
-        Place::Cell(id, side) => println!(rt; " cell {id} {side}"),
-        Place::Term(dir, term) => println!(rt; " {dir} {term}"),
-        Place::Zone(from, to) => println!(rt; " zones {from} {to}"),
+        Place::Cell(id, side) => page.line(format_args!(" cell {id} {side}")),
+        Place::Term(dir, term) => page.line(format_args!(" {dir} {term}")),
+        Place::Zone(from, to) => page.line(format_args!(" zones {from} {to}")),
     }
 }
 
-pub fn print_verdict(rt: &impl Print, verdict: Verdict) -> io::Result<()> {
+pub fn push_verdict(page: &mut Page, verdict: Verdict) {
     match verdict {
-        Verdict::Yes => println!(rt; "yes"),
-        Verdict::No { cell, side } => println!(rt; "no {cell} {side}"),
+        Verdict::Yes => page.line("yes"),
+        Verdict::No { cell, side } => page.line(format_args!("no {cell} {side}")),
     }
 }
-
-const TERMS: [Term; 8] = [
-    Term::Storage,
-    Term::ConstantHead,
-    Term::Wells,
-    Term::Drains,
-    Term::RiverLeakage,
-    Term::HeadDepBounds,
-    Term::Recharge,
-    Term::Et,
-];
 
 // The terms that aren't 0.
-fn print_terms(rt: &impl Print, direction: &str, terms: &[TermPair]) -> io::Result<()> {
-    for (term, pair) in TERMS.iter().zip(terms.iter()) {
+fn push_terms(page: &mut Page, direction: &str, terms: &[TermPair]) {
+    for (term, pair) in TERM_NAMES.iter().zip(terms.iter()) {
         let (lo, hi) = (pair.lo, pair.hi);
         if lo != 0 || hi != 0 {
-            println!(rt; "{direction} {lo} {hi} {term}")?;
+            page.line(format_args!("{direction} {lo} {hi} {term}"));
         }
     }
-    Ok(())
 }
 
-pub fn print_budget(rt: &impl Print, budget: Result<Budget, NoBound>) -> io::Result<()> {
+pub fn push_budget(page: &mut Page, budget: Result<Budget, NoBound>) {
     match budget {
         Ok(budget) => {
-            println!(rt; "budget")?;
-            print_terms(rt, "IN", budget.into.as_slice())?;
-            print_terms(rt, "OUT", budget.out.as_slice())
+            page.line("budget");
+            push_terms(page, "IN", budget.into.as_slice());
+            push_terms(page, "OUT", budget.out.as_slice());
         }
-        Err(fault) => print_fault(rt, fault),
+        Err(fault) => push_fault(page, fault),
     }
 }

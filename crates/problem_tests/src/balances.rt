@@ -2,66 +2,60 @@
 ghost use Rattle.std.specs.Prelude.{All};
 ghost use Rattle.step_problem.specs.Conditions.{IsHead, RiverFits};
 
-use crate::numbers::{head, number};
-use crate::question::Question;
 use cell_relax::{raise_to, sink_to};
-use std::alloc::Global;
-use std::io;
+use std::alloc::AllocError;
 use step_problem::{Branch, Problem, River, Side, are_heads, high_at, is_head, low_at};
+use test_lines::{Page, head_at, number_at};
 
-/// Prints the balances of a cell, or its raise or sink value, at its own head and those of its links.
-pub fn print_balances(
-    rt: &impl Print,
-    alloc: Global,
+/// The balances of a cell, or its raise or sink value, at its own head and those of its links.
+pub fn push_balances(
+    page: &mut Page,
     p: &Problem,
-    question: Question,
+    question: &str,
     numbers: &[i128],
-) -> io::Result<()> {
-    let (cell, own) = (number(numbers, 0) as usize, head(numbers, 1));
-    let mut values = Vec::new(alloc);
+) -> Result<(), AllocError> {
+    let (cell, own) = (number_at(numbers, 0) as usize, head_at(numbers, 1));
+    let mut values = Vec::new(page.alloc());
     for place in 2..numbers.len() {
-        values.push(head(numbers, place))?;
+        values.push(head_at(numbers, place))?;
     }
-    if cell >= p.len() || !is_head(own) || !are_heads(values.as_slice()) {
-        return println!(rt; "no heads");
+    let values = values.as_slice();
+    if cell >= p.len() || !is_head(own) || !are_heads(values) {
+        return Ok(page.line("no heads"));
     }
     if p.cell(cell).links.len() != values.len() {
-        return println!(rt; "no heads of this cell");
+        return Ok(page.line("no heads of this cell"));
     }
+    page.text(question);
     match question {
-        Question::Raised => {
-            let head = raise_to(p, cell, own, values.as_slice());
-            println!(rt; "raised {head}")
-        }
-        Question::Sunk => {
-            let head = sink_to(p, cell, own, values.as_slice());
-            println!(rt; "sunk {head}")
-        }
+        "raised" => page.word(raise_to(p, cell, own, values)),
+        "sunk" => page.word(sink_to(p, cell, own, values)),
         _ => {
-            let low = low_at(p, cell, own, values.as_slice());
-            let high = high_at(p, cell, own, values.as_slice());
-            println!(rt; "balances {low} {high}")
+            page.word(low_at(p, cell, own, values));
+            page.word(high_at(p, cell, own, values));
         }
     }
+    page.end();
+    Ok(())
 }
 
-fn print_flows(rt: &impl Print, rivers: &[River], own: i64) -> io::Result<()>
+fn push_flows(page: &mut Page, rivers: &[River], own: i64)
     requires own { IsHead own }
     requires fit { All RiverFits rivers.now }
 {
     for river in rivers {
-        let low = river.flow_at(Side::Low, own);
-        let high = river.flow_at(Side::High, own);
-        println!(rt; "river {low} {high}")?;
+        page.text("river");
+        page.word(river.flow_at(Side::Low, own));
+        page.word(river.flow_at(Side::High, own));
+        page.end();
     }
-    Ok(())
 }
 
-/// Prints the flows of the rivers of a cell at its own head.
-pub fn print_rivers(rt: &impl Print, p: &Problem, numbers: &[i128]) -> io::Result<()> {
-    let (cell, own) = (number(numbers, 0) as usize, head(numbers, 1));
+/// The flows of the rivers of a cell at its own head.
+pub fn push_rivers(page: &mut Page, p: &Problem, numbers: &[i128]) {
+    let (cell, own) = (number_at(numbers, 0) as usize, head_at(numbers, 1));
     if cell >= p.len() || !is_head(own) {
-        return println!(rt; "no heads");
+        return page.line("no heads");
     }
-    print_flows(rt, p.cell(cell).rivers.as_slice(), own)
+    push_flows(page, p.cell(cell).rivers.as_slice(), own);
 }

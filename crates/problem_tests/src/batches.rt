@@ -1,23 +1,28 @@
 // Batches of jobs, which several workers run.
 ghost use Rattle.std.specs.Prelude.{◌≡◌, ◌*◌, ◌<◌, ◌≤◌};
 
-use crate::numbers::number;
-use crate::passes::Passes;
 use batch_book::{Book, Jobs, run_batch};
 use std::alloc::{AllocError, Global};
-use std::io;
 use std::sync::Wait;
-use std::sync::atomic::{AtomicU64, Ordering};
 use std::thread::Threads;
-
-const SPINS: u32 = 1_000_000_000;
+use test_lines::{Count, CountingGate, Page, number_at};
 
 /// Jobs, each of whose ends is the square of the job's number. The first calls have no memory.
 #[derive(Drop)]
 struct Squares {
     count: u32,
     without_memory: u64,
-    calls: AtomicU64,
+    calls: Count,
+}
+
+impl Squares {
+    fn new(count: u32, without_memory: u32) -> Squares {
+        Squares {
+            count,
+            without_memory: u64::from(without_memory),
+            calls: Count::from(0),
+        }
+    }
 }
 
 impl Jobs for Squares {
@@ -32,7 +37,7 @@ impl Jobs for Squares {
     }
 
     fn end_of(&self, _alloc: Global, job: u32) -> Result<u64, AllocError> {
-        if self.calls.fetch_add(1, Ordering::SeqCst) < self.without_memory {
+        if self.calls.add() < self.without_memory {
             return Err(AllocError);
         }
         Ok(u64::from(job) * u64::from(job))
@@ -42,7 +47,7 @@ impl Jobs for Squares {
 /// Two jobs, each of which waits for the other one to begin, for a limited time. An end says whether it did.
 #[derive(Drop)]
 struct Meeting {
-    begun: AtomicU64,
+    begun: Count,
 }
 
 impl Jobs for Meeting {
@@ -57,71 +62,61 @@ impl Jobs for Meeting {
     }
 
     fn end_of(&self, _alloc: Global, _job: u32) -> Result<bool, AllocError> {
-        self.begun.fetch_add(1, Ordering::SeqCst);
-        for _ in 0..SPINS {
-            if self.begun.load(Ordering::SeqCst) == 2 {
-                return Ok(true);
-            }
-        }
-        Ok(false)
+        self.begun.add();
+        Ok(self.begun.reaches(2))
     }
 }
 
-fn print_ends(rt: &impl Print, answer: &Result<Vec<u64>, AllocError>) -> io::Result<()> {
+fn push_ends(page: &mut Page, answer: &Result<Vec<u64>, AllocError>) {
     match answer {
-        Err(AllocError) => print!(rt; "memory"),
+        Err(AllocError) => page.text("memory"),
         Ok(ends) => {
-            print!(rt; "ends")?;
-            for end in ends.as_slice() {
-                print!(rt; " {end}")?;
+            page.text("ends");
+            for end in ends {
+                page.word(*end);
             }
-            Ok(())
         }
     }
 }
 
-/// Runs a batch of squares: the numbers are those of jobs, workers and calls without memory.
-pub fn print_batch<R: Print + Threads + Wait + Sync>(
+/// A batch of squares: the numbers are those of jobs, workers and calls without memory.
+pub fn push_batch<R: Threads + Wait + Sync>(
     rt: &R,
-    alloc: Global,
+    page: &mut Page,
     numbers: &[i128],
-) -> io::Result<()> {
-    let workers = number(numbers, 1);
+) -> Result<(), AllocError> {
+    let workers = number_at(numbers, 1);
     if workers == 0 || workers > 64 {
-        return println!(rt; "no batch");
+        return Ok(page.line("no batch"));
     }
-    let jobs = Squares {
-        count: number(numbers, 0),
-        without_memory: u64::from(number(numbers, 2)),
-        calls: AtomicU64::new(0),
-    };
-    let gate = Passes::new();
-    print_ends(rt, &run_batch(rt, alloc, &jobs, workers, &gate))?;
-    let passes = gate.count();
-    println!(rt; " passes {passes}")
+    let jobs = Squares::new(number_at(numbers, 0), number_at(numbers, 2));
+    let gate = CountingGate::new();
+    push_ends(page, &run_batch(rt, page.alloc(), &jobs, workers, &gate));
+    page.line(format_args!(" passes {}", gate.passes.get()));
+    Ok(())
 }
 
-/// Runs two jobs that wait for each other, by two workers.
-pub fn print_meeting<R: Print + Threads + Wait + Sync>(rt: &R, alloc: Global) -> io::Result<()> {
+/// Two jobs that wait for each other, by two workers.
+pub fn push_meeting<R: Threads + Wait + Sync>(rt: &R, page: &mut Page) -> Result<(), AllocError> {
     let jobs = Meeting {
-        begun: AtomicU64::new(0),
+        begun: Count::from(0),
     };
-    let gate = Passes::new();
-    let ends = run_batch(rt, alloc, &jobs, 2, &gate)?;
+    let gate = CountingGate::new();
+    let ends = run_batch(rt, page.alloc(), &jobs, 2, &gate)?;
     let met = ends.iter().filter(|met| **met).count();
-    let passes = gate.count();
-    println!(rt; "met {met} passes {passes}")
+    page.line(format_args!("met {met} passes {}", gate.passes.get()));
+    Ok(())
 }
 
 /// Puts the ends of the first and the last of three jobs into two books, gathers them, and puts the end of the second.
-pub fn print_book(rt: &impl Print, alloc: Global) -> io::Result<()> {
+pub fn push_book(page: &mut Page) -> Result<(), AllocError> {
     let jobs = Squares {
         count: 3,
         without_memory: 0,
-        calls: AtomicU64::new(0),
+        calls: Count::from(0),
     };
-    let mut book = Book::new(alloc, &jobs)?;
-    let mut other = Book::new(alloc, &jobs)?;
+    let mut book = Book::new(page.alloc(), &jobs)?;
+    let mut other = Book::new(page.alloc(), &jobs)?;
     book.put(0, 0);
     other.put(2, 4);
     let first = book.missing();
@@ -129,5 +124,6 @@ pub fn print_book(rt: &impl Print, alloc: Global) -> io::Result<()> {
     let second = book.missing();
     book.put(1, 1);
     let third = book.missing();
-    println!(rt; "missing {first:?} {second:?} {third:?}")
+    page.line(format_args!("missing {first:?} {second:?} {third:?}"));
+    Ok(())
 }

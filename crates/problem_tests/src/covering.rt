@@ -1,9 +1,9 @@
 // Whether a listed budget covers a computed one.
-use crate::numbers::at;
 use budget_bounds::{Budget, TermPair, first_uncovered};
-use std::io;
+use test_lines::{Page, wide_at};
 
-const TERM_NAMES: [&str; 8] = [
+/// The terms of a budget, in the order of the listing.
+pub const TERM_NAMES: [&str; 8] = [
     "STORAGE",
     "CONSTANT HEAD",
     "WELLS",
@@ -39,6 +39,14 @@ fn put(budget: &mut Budget, direction: &str, place: usize, pair: TermPair) {
     }
 }
 
+// The two numbers from this place on.
+fn pair_at(numbers: &[i128], place: usize) -> TermPair {
+    TermPair {
+        lo: wide_at(numbers, place),
+        hi: wide_at(numbers, place.saturating_add(1)),
+    }
+}
+
 impl Budgets {
     pub fn empty() -> Budgets {
         Budgets {
@@ -48,28 +56,20 @@ impl Budgets {
     }
 
     /// Whether a line gives a term; if so, both budgets get it.
-    pub fn take(&mut self, direction: &str, line: &str, n: &[i128]) -> bool {
+    pub fn take(&mut self, direction: &str, line: &str, numbers: &[i128]) -> bool {
         let Some(place) = TERM_NAMES.iter().position(|name| line.ends_with(*name)) else {
             return false;
         };
-        let listed = TermPair {
-            lo: at(n, 0),
-            hi: at(n, 1),
-        };
-        let computed = TermPair {
-            lo: at(n, 2),
-            hi: at(n, 3),
-        };
-        put(&mut self.listed, direction, place, listed);
-        put(&mut self.computed, direction, place, computed);
+        put(&mut self.listed, direction, place, pair_at(numbers, 0));
+        put(&mut self.computed, direction, place, pair_at(numbers, 2));
         true
     }
 }
 
-/// Prints whether the listed budget covers the computed one, and the first term that it doesn't.
-pub fn print_cover(rt: &impl Print, budgets: &Budgets) -> io::Result<()> {
+/// Whether the listed budget covers the computed one, and the first term that it doesn't.
+pub fn push_cover(page: &mut Page, budgets: &Budgets) {
     match first_uncovered(&budgets.listed, &budgets.computed) {
-        None => println!(rt; "covers true"),
-        Some((direction, term)) => println!(rt; "covers false {direction} {term}"),
+        None => page.line("covers true"),
+        Some((direction, term)) => page.line(format_args!("covers false {direction} {term}")),
     }
 }

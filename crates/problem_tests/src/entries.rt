@@ -1,7 +1,7 @@
 // The entries of a cell, as lines give them.
-use crate::numbers::{at, conductance, head, number};
 use std::alloc::{AllocError, Global};
 use step_problem::{Cell, Drain, Evap, Fixed, FixedKind, Flow, FlowKind, Link, River};
+use test_lines::{conductance_at, head_at, number_at, wide_at};
 
 pub fn empty(alloc: Global, id: u32) -> Cell {
     Cell {
@@ -18,8 +18,8 @@ pub fn empty(alloc: Global, id: u32) -> Cell {
 fn flow(kind: FlowKind, n: &[i128]) -> Flow {
     Flow {
         kind,
-        lo: at(n, 0),
-        hi: at(n, 1),
+        lo: wide_at(n, 0),
+        hi: wide_at(n, 1),
     }
 }
 
@@ -27,49 +27,49 @@ fn fixed(kind: FixedKind, source: u32, n: &[i128]) -> Fixed {
     Fixed {
         kind,
         source,
-        lo: conductance(n, 0),
-        hi: conductance(n, 1),
-        head_lo: head(n, 2),
-        head_hi: head(n, 3),
+        lo: conductance_at(n, 0),
+        hi: conductance_at(n, 1),
+        head_lo: head_at(n, 2),
+        head_hi: head_at(n, 3),
     }
 }
 
 fn link(n: &[i128]) -> Link {
     Link {
-        cell: number(n, 0),
-        lo: conductance(n, 1),
-        hi: conductance(n, 2),
+        cell: number_at(n, 0),
+        lo: conductance_at(n, 1),
+        hi: conductance_at(n, 2),
     }
 }
 
 fn river(n: &[i128]) -> River {
     River {
-        lo: conductance(n, 0),
-        hi: conductance(n, 1),
-        stage_lo: head(n, 2),
-        stage_hi: head(n, 3),
-        bottom_lo: head(n, 4),
-        bottom_hi: head(n, 5),
+        lo: conductance_at(n, 0),
+        hi: conductance_at(n, 1),
+        stage_lo: head_at(n, 2),
+        stage_hi: head_at(n, 3),
+        bottom_lo: head_at(n, 4),
+        bottom_hi: head_at(n, 5),
     }
 }
 
 fn drain(n: &[i128]) -> Drain {
     Drain {
-        lo: conductance(n, 0),
-        hi: conductance(n, 1),
-        elev_lo: head(n, 2),
-        elev_hi: head(n, 3),
+        lo: conductance_at(n, 0),
+        hi: conductance_at(n, 1),
+        elev_lo: head_at(n, 2),
+        elev_hi: head_at(n, 3),
     }
 }
 
 fn evaporation(n: &[i128]) -> Evap {
     Evap {
-        lo: conductance(n, 0),
-        hi: conductance(n, 1),
-        ext_lo: head(n, 2),
-        ext_hi: head(n, 3),
-        surf_lo: head(n, 4),
-        surf_hi: head(n, 5),
+        lo: conductance_at(n, 0),
+        hi: conductance_at(n, 1),
+        ext_lo: head_at(n, 2),
+        ext_hi: head_at(n, 3),
+        surf_lo: head_at(n, 4),
+        surf_hi: head_at(n, 5),
     }
 }
 
@@ -82,7 +82,7 @@ pub fn push_entry(cell: &mut Cell, word: &str, n: &[i128]) -> Result<bool, Alloc
         "constant" => {
             let rest = n.get(1..).unwrap_or(&[]);
             cell.fixed
-                .push(fixed(FixedKind::Constant, number(n, 0), rest))?;
+                .push(fixed(FixedKind::Constant, number_at(n, 0), rest))?;
         }
         "well" => cell.flows.push(flow(FlowKind::Wells, n))?,
         "recharge" => cell.flows.push(flow(FlowKind::Recharge, n))?,

@@ -1,10 +1,12 @@
 // Moves as single events on shared heads.
-use crate::answers::print_bounds;
+ghost use Rattle.step_problem.specs.Heads.{IsBarrier};
+
 use crate::moves::{Act, Move, Who};
+use head_table::edge_words;
 use relax_core::{Event, State, apply};
-use std::alloc::Global;
-use std::io;
-use step_problem::{Bound, Problem};
+use std::alloc::AllocError;
+use step_problem::{Barrier, Problem};
+use test_lines::Page;
 
 fn event_of(next: Move) -> Option<Event> {
     let actor = match next.who {
@@ -32,20 +34,22 @@ fn make(p: &Problem, state: &mut State, next: Move) -> bool {
     true
 }
 
-/// Makes the moves from these heads, and prints the heads after each.
-pub fn print_events(
-    rt: &impl Print,
-    alloc: Global,
+/// Makes the moves from the barrier's heads, and puts the heads after each.
+pub fn push_events(
+    page: &mut Page,
     p: &Problem,
-    words: Vec<Bound>,
+    b: &Barrier,
     moves: &[Move],
-) -> io::Result<()> {
-    let mut state = State::start(alloc, words, 2)?;
+) -> Result<(), AllocError>
+    requires { IsBarrier p.now b.now }
+{
+    let words = edge_words(page.alloc(), p, b)?;
+    let mut state = State::start(page.alloc(), words, 2)?;
     for next in moves {
         if make(p, &mut state, *next) {
-            print_bounds(rt, "heads", state.words.as_slice())?;
+            page.bounds("heads", state.words.as_slice());
         } else {
-            println!(rt; "no event")?;
+            page.line("no event");
         }
     }
     Ok(())

@@ -3,7 +3,7 @@ ghost use Rattle.std.specs.Prelude.{◌≡◌, ◌<◌, length};
 ghost use Rattle.head_table.specs.Seats.{IsSeatOf};
 ghost use Rattle.problem_tests.specs.Actors.{IsShown};
 
-use cell_relax::{raise_in, sink_in};
+use cell_relax::relax_in;
 use head_table::{HeadSeat, HeadTable};
 use step_problem::{Bound, Side};
 
@@ -53,7 +53,7 @@ pub fn raise(table: &HeadTable, seat: &mut HeadSeat, cell: usize, shown: &mut [B
 {
     let problem = table.problem();
     problem.recall_conditions();
-    let to = raise_in(problem, shown, cell);
+    let to = relax_in(problem, shown, cell, Side::Low);
     let found = table.raise(seat, cell, to);
     shown[cell].low = found.max(to);
     found
@@ -67,7 +67,7 @@ pub fn sink(table: &HeadTable, seat: &mut HeadSeat, cell: usize, shown: &mut [Bo
 {
     let problem = table.problem();
     problem.recall_conditions();
-    let to = sink_in(problem, shown, cell);
+    let to = relax_in(problem, shown, cell, Side::High);
     let found = table.sink(seat, cell, to);
     shown[cell].high = found.min(to);
     found

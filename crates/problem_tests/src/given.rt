@@ -1,11 +1,13 @@
 // The data of the lines so far.
+use crate::answers::push_fault;
 use crate::covering::Budgets;
 use crate::entries::{cell_of_row, empty, push_entry};
 use crate::moves::Move;
-use crate::numbers::{head, number};
 use cell_balance::example::example;
+use problem_hull::{HullFault, hull};
 use std::alloc::{AllocError, Global};
 use step_problem::{Bound, Cell, Problem, fits};
+use test_lines::{Page, bounds_of, number_at};
 
 /// The cells so far of a problem that isn't finished; the problem that they make, or that they make none.
 #[derive(Drop)]
@@ -44,17 +46,6 @@ impl Given {
         }
     }
 
-    fn take_heads(&mut self, alloc: Global, numbers: &[i128]) -> Result<(), AllocError> {
-        self.bounds = Vec::new(alloc);
-        for pair in numbers.chunks(2) {
-            self.bounds.push(Bound {
-                low: head(pair, 0),
-                high: head(pair, 1),
-            })?;
-        }
-        Ok(())
-    }
-
     // Whether a line is a part of the problem.
     fn take_entry(
         &mut self,
@@ -66,9 +57,9 @@ impl Given {
             return Ok(false);
         };
         match word {
-            "cell" => cells.push(empty(alloc, number(numbers, 0)))?,
+            "cell" => cells.push(empty(alloc, number_at(numbers, 0)))?,
             "row" => {
-                let count = number(numbers, 0);
+                let count = number_at(numbers, 0);
                 for index in 0..count {
                     cells.push(cell_of_row(alloc, index, count)?)?;
                 }
@@ -95,7 +86,7 @@ impl Given {
             "problem" => *self = Given::new(alloc),
             "other" => self.keep_other(alloc),
             "example" => self.stage = Stage::Made(example(alloc)?),
-            "heads" => self.take_heads(alloc, numbers)?,
+            "heads" => self.bounds = bounds_of(alloc, numbers)?,
             "moves" => self.moves = Vec::new(alloc),
             "budgets" => self.budgets = Budgets::empty(),
             "IN" | "OUT" => return Ok(self.budgets.take(word, line, numbers)),
@@ -122,5 +113,23 @@ impl Given {
             Stage::Cells(cells) => made(cells),
             stage => stage,
         };
+    }
+
+    /// Puts the hull of the other problem and this one in this one's place, and its entries on the page, or why there is
+    /// none.
+    pub fn take_hull(&mut self, page: &mut Page) {
+        let stage = std::mem::replace(&mut self.stage, Stage::NoProblem);
+        let (Stage::Made(p), Stage::Made(q)) = (&self.other, &stage) else {
+            return page.line("no problems");
+        };
+        match hull(page.alloc(), p, q) {
+            Ok(both) => {
+                page.problem(&both);
+                self.stage = Stage::Made(both);
+            }
+            Err(HullFault::NotAlike) => page.line("not alike"),
+            Err(HullFault::NoBound(refusal)) => push_fault(page, refusal),
+            Err(HullFault::Memory) => page.line("memory"),
+        }
     }
 }

@@ -18,11 +18,12 @@
 //! by workers with VIEWS views in each phase, which stop at number LIMIT; `watched_run` as a run does, and `spoilt_views` with
 //! the bounds of `heads` as the guess; `pieces` puts the views to a sink whose put of number LIMIT fails. `heads LOW HIGH ..` are bounds of the cells, of which
 //! `check`, `wide_check` (over the cut barrier), `budget` and `near TRIALS SWEEPS` (from the bounds, then by one round) are
-//! asked. `pair ROUNDS` gives the pair by a tested guess of balanced heads, and the pair of a step that settles by so many sweeps where no guess passes; `spoilt_pair ROUNDS` the same, where the bounds
-//! of `heads` are the guess, and then bounds a unit wider.
+//! asked. `pair ROUNDS` gives the pair by a tested guess of balanced heads, and the pair of a step that settles by so many
+//! sweeps where no guess passes; `spoilt_pair ROUNDS` the same, where the bounds of `heads` are the guess, and then bounds
+//! a unit wider.
 //!
 //! `other` keeps the problem so far, and `hull` puts the hull of it and of the problem after it in that problem's place,
-//! and prints its entries as lines.
+//! and prints its entries as lines, each head of storage or of a general head after the cell's own number.
 //!
 //! `moves` begins moves of two actors, `first` and `second`, on shared heads that begin at the barrier: `look ACTOR INDEX
 //! SIDE`, `raise ACTOR INDEX`, `sink ACTOR INDEX`, `claim ACTOR`, `watch ACTOR`, `seen ACTOR` (what it has seen last),
@@ -43,65 +44,37 @@
 mod answers;
 mod balances;
 mod batches;
-mod between;
+mod case;
 mod covering;
 mod cutting;
-mod eliminations;
 mod entries;
 mod events;
 mod exchanges;
 mod given;
-mod hulls;
+mod guesses;
 mod moves;
-mod numbers;
-mod onlooker;
-mod pairing;
-mod passes;
+mod networks;
 mod pieces;
-mod products;
-mod question;
+mod questions;
 mod seats;
 mod settling;
-mod spoilt;
-mod systems;
-mod twice;
+mod solvers;
 mod watched;
 mod zoning;
 
 use given::Given;
-use numbers::numbers_of;
-use question::{Question, ask};
-use std::alloc::Global;
+use questions::push_answer;
 use std::io;
-use std::sync::Wait;
-use std::thread::Threads;
-
-fn step<R: Print + Threads + Wait + Sync>(
-    rt: &R,
-    alloc: Global,
-    given: &mut Given,
-    line: &str,
-) -> io::Result<()> {
-    let word = line.split(' ').next().unwrap_or("");
-    if word == "@" {
-        return println!(rt; "{line}");
-    }
-    let numbers = numbers_of(alloc, line)?;
-    if let Some(question) = Question::of(word) {
-        return ask(rt, alloc, given, question, numbers.as_slice());
-    }
-    if given.take(alloc, word, line, numbers.as_slice())? {
-        return Ok(());
-    }
-    println!(rt; "unknown: {line}")
-}
+use test_lines::Page;
 
 fn main(rt: HostRuntime) -> io::Result<()> {
     let alloc = rt.alloc();
     let mut given = Given::new(alloc);
     for line in rt.lines(alloc) {
         let line = line?;
-        step(&rt, alloc, &mut given, line.as_str())?;
+        let mut page = Page::new(alloc);
+        push_answer(&rt, &mut page, &mut given, line.as_str())?;
+        page.print(&rt)?;
     }
     Ok(())
 }

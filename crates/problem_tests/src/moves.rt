@@ -1,6 +1,6 @@
 // The moves of two actors on shared heads, one after the other.
-use crate::numbers::number;
 use step_problem::Side;
+use test_lines::{first_word, number_at};
 
 #[derive(Clone, Copy)]
 pub enum Who {
@@ -36,8 +36,8 @@ fn who_of(word: &str) -> Option<Who> {
 }
 
 fn act_of(word: &str, side: Side, numbers: &[i128]) -> Option<Act> {
-    let first = number(numbers, 0);
-    let second = number(numbers, 1);
+    let first = number_at(numbers, 0);
+    let second = number_at(numbers, 1);
     match word {
         "look" => Some(Act::Look { cell: first, side }),
         "raise" => Some(Act::Raise { cell: first }),
@@ -61,9 +61,9 @@ fn act_of(word: &str, side: Side, numbers: &[i128]) -> Option<Act> {
 impl Move {
     /// The move of a line.
     pub fn of(line: &str, numbers: &[i128]) -> Option<Move> {
-        let mut words = line.split(' ');
-        let word = words.next()?;
-        let who = who_of(words.next()?)?;
+        let (word, rest) = first_word(line);
+        let (who, _) = first_word(rest);
+        let who = who_of(who)?;
         let side = if line.ends_with(" HIGH") {
             Side::High
         } else {

@@ -1,15 +1,15 @@
 // Views that are put to a sink.
-ghost use Rattle.step_problem.specs.Heads.{IsBarrier};
 ghost use Rattle.settle_driver.specs.Phases.{IsPlan};
 
-use crate::settling::print_answer;
-use crate::watched::Views;
+use crate::answers::push_settled;
+use crate::case::Case;
 use outside::{FreeGate, MemSink, SinkError};
 use settle_driver::{Plan, StepViewer, WatchSettler};
 use std::alloc::{AllocError, Global};
+use std::str;
 use std::thread::Threads;
-use std::{io, str};
-use step_problem::{Barrier, Bound, Problem};
+use step_problem::{Bound, Problem};
+use test_lines::Page;
 use view_puts::{SinkViewer, ViewText};
 
 /// The same text for any heads.
@@ -33,38 +33,25 @@ impl ViewText for SameText {
     }
 }
 
-fn print_stop(rt: &impl Print, stop: Option<SinkError>) -> io::Result<()> {
-    match stop {
-        None => println!(rt; "not stopped"),
-        Some(SinkError::Write) => println!(rt; "stopped by a write"),
-        Some(SinkError::Memory) => println!(rt; "stopped by memory"),
+impl<R: Threads + Sync> Case<'_, R> {
+    /// Settled heads by workers while views are put to a sink, whose put of a number, the fifth of the line, fails after
+    /// two bytes.
+    pub fn push_pieces(&self, page: &mut Page, plan: Plan) -> Result<(), AllocError>
+        requires { IsPlan plan }
+    {
+        let mut sink = MemSink::new(page.alloc());
+        sink.fail_at(u64::from(self.number(4)), 2)?;
+        let mut viewer = SinkViewer::new(page.alloc(), &mut sink, &SameText);
+        let settler = WatchSettler::new(self.rt, plan, &FreeGate, self.number(3));
+        let answer = settler.settle(page.alloc(), self.p, self.b, &mut viewer);
+        let stop = viewer.stop();
+        push_settled(page, &answer);
+        page.line(match stop {
+            None => "not stopped",
+            Some(SinkError::Write) => "stopped by a write",
+            Some(SinkError::Memory) => "stopped by memory",
+        });
+        page.line(str::from_utf8(sink.bytes()).unwrap_or("not a text"));
+        Ok(())
     }
-}
-
-/// Settles a problem by workers while its views are put to a sink, whose put of number `limit` fails after two bytes.
-pub fn print_pieces<R: Print + Threads + Sync>(
-    rt: &R,
-    alloc: Global,
-    p: &Problem,
-    b: &Barrier,
-    plan: Plan,
-    views: Views,
-) -> io::Result<()>
-    requires barrier { IsBarrier p.now b.now }
-    requires plan { IsPlan plan }
-{
-    let mut sink = MemSink::new(alloc);
-    sink.fail_at(u64::from(views.limit), 2)?;
-    let mut viewer = SinkViewer::new(alloc, &mut sink, &SameText);
-    let answer = WatchSettler::new(rt, plan, &FreeGate, views.each_phase).settle(
-        alloc,
-        p,
-        b,
-        &mut viewer,
-    );
-    let stop = viewer.stop();
-    print_answer(rt, &answer)?;
-    print_stop(rt, stop)?;
-    let text = str::from_utf8(sink.bytes()).unwrap_or("not a text");
-    println!(rt; "{text}")
 }

@@ -4,15 +4,14 @@ ghost use Rattle.step_problem.specs.Heads.{IsBarrier};
 ghost use Rattle.head_table.specs.Seats.{IsSeatOf};
 ghost use Rattle.problem_tests.specs.Actors.{IsShown};
 
-use crate::answers::print_bounds;
 use crate::exchanges::{claim, look, raise, sink, watch};
 use crate::moves::{Act, Move, Who};
 use head_table::{HeadSeat, HeadTable, edge_words};
 use outside::FreeGate;
 use relax_worker::{own_turns, turn, work};
-use std::alloc::Global;
-use std::io;
+use std::alloc::AllocError;
 use step_problem::{Barrier, Bound, Problem};
+use test_lines::Page;
 
 // A seat, and what it has seen.
 #[derive(Drop)]
@@ -59,14 +58,8 @@ fn found_at(
     }
 }
 
-// Makes a move, and prints what it finds; after turns the seat watches.
-fn make_move(
-    rt: &impl Print,
-    table: &HeadTable,
-    seat: &mut HeadSeat,
-    shown: &mut [Bound],
-    act: Act,
-) -> io::Result<()>
+// Makes a move, and puts what it finds; after turns the seat watches.
+fn make_move(page: &mut Page, table: &HeadTable, seat: &mut HeadSeat, shown: &mut [Bound], act: Act)
     requires { IsShown table.now seat.old shown.old }
     ensures { IsShown table.now seat.new shown.new }
 {
@@ -75,42 +68,36 @@ fn make_move(
         Act::Look { cell, .. } | Act::Raise { cell } | Act::Sink { cell } => {
             let cell = cell as usize;
             if cell >= cells {
-                return println!(rt; "no cell");
+                return page.line("no cell");
             }
             let found = found_at(table, seat, cell, shown, act);
-            println!(rt; "found {found}")
+            page.line(format_args!("found {found}"));
         }
         Act::Claim => {
             let found = claim(table, seat, shown);
-            println!(rt; "ticket {found}")
+            page.line(format_args!("ticket {found}"));
         }
-        Act::Seen => print_bounds(rt, "seen", shown),
+        Act::Seen => page.bounds("seen", shown),
         _ => {
             if cells > 0 {
                 take_turns(table, seat, act);
             }
             watch(table, seat, shown);
-            print_bounds(rt, "seen", shown)
+            page.bounds("seen", shown);
         }
     }
 }
 
 impl Actor {
-    fn make(&mut self, rt: &impl Print, table: &HeadTable, act: Act) -> io::Result<()>
+    fn make(&mut self, page: &mut Page, table: &HeadTable, act: Act)
         requires { IsShown table.now self.old.seat self.old.shown.items }
         ensures { IsShown table.now self.new.seat self.new.shown.items }
     {
-        make_move(rt, table, &mut self.seat, self.shown.as_mut_slice(), act)
+        make_move(page, table, &mut self.seat, self.shown.as_mut_slice(), act);
     }
 }
 
-fn play(
-    rt: &impl Print,
-    table: &HeadTable,
-    first: &mut Actor,
-    second: &mut Actor,
-    moves: &[Move],
-) -> io::Result<()>
+fn play(page: &mut Page, table: &HeadTable, first: &mut Actor, second: &mut Actor, moves: &[Move])
     requires first { IsShown table.now first.old.seat first.old.shown.items }
     requires second { IsShown table.now second.old.seat second.old.shown.items }
     ensures first { IsShown table.now first.new.seat first.new.shown.items }
@@ -118,23 +105,22 @@ fn play(
 {
     for next in moves {
         match next.who {
-            Who::First => first.make(rt, table, next.act)?,
-            Who::Second => second.make(rt, table, next.act)?,
+            Who::First => first.make(page, table, next.act),
+            Who::Second => second.make(page, table, next.act),
         }
     }
-    Ok(())
 }
 
-/// Makes the moves at a table that begins with the barrier's heads, and prints what each finds and the heads at the end.
-pub fn print_seats(
-    rt: &impl Print,
-    alloc: Global,
+/// Makes the moves at a table that begins with the barrier's heads, and puts what each finds and the heads at the end.
+pub fn push_seats(
+    page: &mut Page,
     p: &Problem,
     b: &Barrier,
     moves: &[Move],
-) -> io::Result<()>
+) -> Result<(), AllocError>
     requires { IsBarrier p.now b.now }
 {
+    let alloc = page.alloc();
     let words = edge_words(alloc, p, b)?;
     let (table, mut seat) = HeadTable::new(alloc, p, b, &words)?;
     let mut second = Actor {
@@ -144,8 +130,9 @@ pub fn print_seats(
     let mut first = Actor { seat, shown: words };
     watch(&table, &mut first.seat, first.shown.as_mut_slice());
     watch(&table, &mut second.seat, second.shown.as_mut_slice());
-    play(rt, &table, &mut first, &mut second, moves)?;
+    play(page, &table, &mut first, &mut second, moves);
     table.join(&mut first.seat, second.seat);
     let words = table.close(first.seat)?;
-    print_bounds(rt, "closed", words.as_slice())
+    page.bounds("closed", words.as_slice());
+    Ok(())
 }

@@ -1,136 +1,139 @@
 // Settled heads of a problem.
-ghost use Rattle.step_problem.specs.Heads.{IsBarrier};
 ghost use Rattle.settle_driver.specs.Phases.{IsPlan};
 
-use crate::answers::{print_bounds, print_open};
-use crate::numbers::number;
-use crate::passes::Passes;
-use crate::pieces::print_pieces;
-use crate::question::Question;
-use crate::spoilt::{print_from_spoilt, print_spoilt_views};
-use crate::twice::print_twice;
-use crate::watched::{Views, print_watched};
-use near_settler::NearSettler;
+use crate::answers::push_settled;
+use crate::case::Case;
+use crate::guesses::Spoilt;
+use near_settler::{AloneSettler, NearSettler};
 use outside::FreeGate;
 use settle_driver::{ListedSettler, PlainSettler, Plan, ThreadSettler, settle, settle_near};
-use std::alloc::Global;
-use std::io;
+use std::alloc::AllocError;
+use std::cell::Cell;
 use std::thread::Threads;
-use step_problem::{Barrier, Bound, Problem, SettleFault, Settler};
+use step_problem::Settler;
+use test_lines::{CountingGate, Page};
 
-// From these bounds, by trials of `sweeps` sweeps, and then by one round.
-fn from_near(
-    alloc: Global,
-    p: &Problem,
-    b: &Barrier,
-    bounds: &[Bound],
-    trials: u32,
-    sweeps: u32,
-) -> Result<Vec<Bound>, SettleFault>
-    requires { IsBarrier p.now b.now }
-{
-    let Ok(near) = Vec::from_slice(alloc, bounds) else {
-        return Err(SettleFault::Memory);
-    };
-    let mut trial = PlainSettler::new(sweeps);
-    let mut settler = PlainSettler::new(1);
-    settle_near(&mut trial, &mut settler, alloc, p, b, near, trials)
-}
+// By sweeps on one thread.
+impl<R: Threads + Sync> Case<'_, R> {
+    pub fn push_sweeps(&self, page: &mut Page) {
+        let answer = PlainSettler::new(self.number(0)).settle(page.alloc(), self.p, self.b);
+        push_settled(page, &answer);
+    }
 
-// The first number is that of the sweeps after the list, and the others name its cells.
-fn by_list(
-    alloc: Global,
-    p: &Problem,
-    b: &Barrier,
-    numbers: &[i128],
-) -> Result<Vec<Bound>, SettleFault>
-    requires { IsBarrier p.now b.now }
-{
-    let mut list = Vec::new(alloc);
-    for place in 1..numbers.len() {
-        if list.push(number(numbers, place)).is_err() {
-            return Err(SettleFault::Memory);
+    /// From the given bounds, by trials of some sweeps, and then by one round.
+    pub fn push_near(&self, page: &mut Page) -> Result<(), AllocError> {
+        let (alloc, trials) = (page.alloc(), self.number(0));
+        let near = Vec::from_slice(alloc, self.bounds)?;
+        let (mut trial, mut last) = (PlainSettler::new(self.number(1)), PlainSettler::new(1));
+        let answer = settle_near(&mut trial, &mut last, alloc, self.p, self.b, near, trials);
+        push_settled(page, &answer);
+        Ok(())
+    }
+
+    /// By a list, whose cells the numbers after the first one name, and then by some sweeps.
+    pub fn push_listed(&self, page: &mut Page) -> Result<(), AllocError> {
+        let mut list = Vec::new(page.alloc());
+        for place in 1..self.numbers.len() {
+            list.push(self.number(place))?;
+        }
+        let mut settler = ListedSettler::new(list, self.number(0));
+        let answer = settler.settle(page.alloc(), self.p, self.b);
+        push_settled(page, &answer);
+        Ok(())
+    }
+
+    // By a guessing settler on one thread, with the number of its guesses.
+    fn push_alone(
+        &self,
+        page: &mut Page,
+        alone: &mut AloneSettler<Spoilt<'_>>,
+        guesses: &Cell<u32>,
+    ) {
+        let answer = alone.settle(page.alloc(), self.p, self.b);
+        push_settled(page, &answer);
+        page.line(format_args!("guesses {}", guesses.get()));
+    }
+
+    // Two steps of the same problem on one thread.
+    fn push_twice_alone(&self, page: &mut Page, rounds: u32) {
+        let guesses = Cell::new(0);
+        let mut alone = AloneSettler::with_guesser(Spoilt::new(&[], &guesses), rounds);
+        for _step in 0..2 {
+            self.push_alone(page, &mut alone, &guesses);
         }
     }
-    ListedSettler::new(list, number(numbers, 0)).settle(alloc, p, b)
 }
 
-/// The settled heads, or the first cell that is left open.
-pub fn print_answer(rt: &impl Print, answer: &Result<Vec<Bound>, SettleFault>) -> io::Result<()> {
-    match answer {
-        Ok(bounds) => print_bounds(rt, "settled", bounds.as_slice()),
-        Err(SettleFault::Unfinished(open)) => print_open(rt, open),
-        Err(SettleFault::Memory) => println!(rt; "memory"),
+// By workers.
+impl<R: Threads + Sync> Case<'_, R> {
+    // By workers and on one thread, where the given bounds are the guess of both, with the number of guesses of each.
+    fn push_from_spoilt(&self, page: &mut Page, plan: Plan)
+        requires { IsPlan plan }
+    {
+        let guesses = Cell::new(0);
+        let spoilt = Spoilt::new(self.bounds, &guesses);
+        let near = NearSettler::with_guesser(self.rt, plan, &FreeGate, spoilt);
+        let answer = near.settle(page.alloc(), self.p, self.b);
+        push_settled(page, &answer);
+        page.line(format_args!("guesses {}", guesses.replace(0)));
+        let spoilt = Spoilt::new(self.bounds, &guesses);
+        let mut alone = AloneSettler::with_guesser(spoilt, plan.rounds);
+        self.push_alone(page, &mut alone, &guesses);
     }
-}
 
-// By workers, with the number of passes of a gate.
-fn print_by_workers<R: Print + Threads + Sync>(
-    rt: &R,
-    alloc: Global,
-    p: &Problem,
-    b: &Barrier,
-    question: Question,
-    plan: Plan,
-) -> io::Result<()>
-    requires barrier { IsBarrier p.now b.now }
-    requires plan { IsPlan plan }
-{
-    let gate = Passes::new();
-    let answer = match question {
-        Question::Phases => ThreadSettler::new(rt, plan, &gate).settle(alloc, p, b),
-        Question::Run => NearSettler::new(rt, plan, &gate).settle(alloc, p, b),
-        _ => return print_answer(rt, &settle(rt, alloc, p, b, plan, &FreeGate)),
-    };
-    print_answer(rt, &answer)?;
-    let count = gate.count();
-    println!(rt; "passes {count}")
-}
+    // Steps of the same problem as a run settles them, with the passes of the gate so far after each.
+    fn push_run(&self, page: &mut Page, plan: Plan, steps: u32)
+        requires { IsPlan plan }
+    {
+        let gate = CountingGate::new();
+        let near = NearSettler::new(self.rt, plan, &gate);
+        for _step in 0..steps {
+            let answer = near.settle(page.alloc(), self.p, self.b);
+            push_settled(page, &answer);
+            page.line(format_args!("passes {}", gate.passes.get()));
+        }
+    }
 
-/// Settles a problem between its barrier, and prints its heads, or the first cell that is left open.
-pub fn print_settled<R: Print + Threads + Sync>(
-    rt: &R,
-    alloc: Global,
-    p: &Problem,
-    b: &Barrier,
-    question: Question,
-    bounds: &[Bound],
-    numbers: &[i128],
-) -> io::Result<()>
-    requires { IsBarrier p.now b.now }
-{
-    let first = number(numbers, 0);
-    let second = number(numbers, 1);
-    let answer = match question {
-        Question::Listed => by_list(alloc, p, b, numbers),
-        Question::Near => from_near(alloc, p, b, bounds, first, second),
-        Question::Sweeps => PlainSettler::new(first).settle(alloc, p, b),
-        _ => {
-            let plan = Plan {
-                workers: first,
-                turns_per_cell: second,
-                rounds: number(numbers, 2),
-            };
-            if !plan.fits() {
-                return println!(rt; "no plan");
+    fn push_phases(&self, page: &mut Page, plan: Plan)
+        requires { IsPlan plan }
+    {
+        let gate = CountingGate::new();
+        let settler = ThreadSettler::new(self.rt, plan, &gate);
+        let answer = settler.settle(page.alloc(), self.p, self.b);
+        push_settled(page, &answer);
+        page.line(format_args!("passes {}", gate.passes.get()));
+    }
+
+    fn push_workers(&self, page: &mut Page, plan: Plan)
+        requires { IsPlan plan }
+    {
+        let answer = settle(self.rt, page.alloc(), self.p, self.b, plan, &FreeGate);
+        push_settled(page, &answer);
+    }
+
+    /// By a plan, which is the first three numbers.
+    pub fn push_by_plan(&self, page: &mut Page) -> Result<(), AllocError> {
+        let plan = Plan {
+            workers: self.number(0),
+            turns_per_cell: self.number(1),
+            rounds: self.number(2),
+        };
+        if !plan.fits() {
+            return Ok(page.line("no plan"));
+        }
+        match self.question {
+            "workers" => self.push_workers(page, plan),
+            "phases" => self.push_phases(page, plan),
+            "run" => self.push_run(page, plan, 1),
+            "spoilt" => self.push_from_spoilt(page, plan),
+            "twice" => {
+                self.push_run(page, plan, 2);
+                self.push_twice_alone(page, plan.rounds);
             }
-            let views = Views {
-                each_phase: number(numbers, 3),
-                limit: number(numbers, 4),
-            };
-            return match question {
-                Question::Watched | Question::WatchedRun => {
-                    print_watched(rt, alloc, p, b, question, plan, views)
-                }
-                Question::Spoilt => print_from_spoilt(rt, alloc, p, b, plan, bounds),
-                Question::SpoiltViews => {
-                    print_spoilt_views(rt, alloc, p, b, plan, bounds, views)
-                }
-                Question::Twice => print_twice(rt, alloc, p, b, plan),
-                Question::Pieces => print_pieces(rt, alloc, p, b, plan, views),
-                _ => print_by_workers(rt, alloc, p, b, question, plan),
-            };
+            "watched" | "watched_run" | "spoilt_views" => return self.push_watched(page, plan),
+            "pieces" => return self.push_pieces(page, plan),
+            other => page.line(format_args!("unknown: {other}")),
         }
-    };
-    print_answer(rt, &answer)
+        Ok(())
+    }
 }

@@ -3,11 +3,10 @@ ghost use Rattle.std.specs.Prelude.{◌≡◌, ◌≤◌, ◌<◌, ◌↔◌, �
 ghost use Rattle.step_problem.specs.Entries.{entries_at};
 ghost use Rattle.budget_bounds.specs.Capped.{AreHeads};
 
-use crate::answers::print_fault;
-use crate::numbers::{head, number};
+use crate::answers::push_fault;
 use std::alloc::{AllocError, Global};
-use std::io;
 use step_problem::{Bound, Cell, Problem, ZoneFlow, is_head};
+use test_lines::{Page, head_at, number_at};
 use zone_flows::{ZoneFault, zone_flows};
 
 // The zone and the bounds of the head of each cell of a grid, by cell number.
@@ -24,10 +23,10 @@ fn zoning_of(alloc: Global, numbers: &[i128]) -> Result<Zoning, AllocError> {
         heads: Vec::new(alloc),
     };
     for cell in numbers.chunks(3) {
-        zoning.zones.push(number(cell, 0))?;
+        zoning.zones.push(number_at(cell, 0))?;
         zoning.heads.push(Bound {
-            low: head(cell, 1),
-            high: head(cell, 2),
+            low: head_at(cell, 1),
+            high: head_at(cell, 2),
         })?;
     }
     Ok(zoning)
@@ -71,34 +70,28 @@ fn are_named(p: &Problem, count: usize) -> bool
     true
 }
 
-fn print_flows(rt: &impl Print, flows: &[ZoneFlow]) -> io::Result<()> {
-    println!(rt; "zones")?;
+fn push_flows(page: &mut Page, flows: &[ZoneFlow]) {
+    page.line("zones");
     for flow in flows {
-        let (from, to, lo, hi) = (flow.from, flow.to, flow.lo, flow.hi);
-        println!(rt; "{from} {to} {lo} {hi}")?;
+        page.line(format_args!("{} {} {} {}", flow.from, flow.to, flow.lo, flow.hi));
     }
-    Ok(())
 }
 
-/// Prints the flows between zones of a problem, where a line gives three numbers for each cell of its grid: the zone and
-/// the bounds of the head.
-pub fn print_zone_flows(
-    rt: &impl Print,
-    alloc: Global,
-    p: &Problem,
-    numbers: &[i128],
-) -> io::Result<()> {
-    let zoning = zoning_of(alloc, numbers)?;
+/// The flows between zones of a problem, where a line gives three numbers for each cell of its grid: the zone and the
+/// bounds of the head.
+pub fn push_zone_flows(page: &mut Page, p: &Problem, numbers: &[i128]) -> Result<(), AllocError> {
+    let zoning = zoning_of(page.alloc(), numbers)?;
     let (zones, heads) = (zoning.zones.as_slice(), zoning.heads.as_slice());
     if zones.len() != heads.len() || !are_zones(zones) || !are_bounds(heads) {
-        return println!(rt; "no zones");
+        return Ok(page.line("no zones"));
     }
     if !are_named(p, zones.len()) {
-        return println!(rt; "no grid of this problem");
+        return Ok(page.line("no grid of this problem"));
     }
-    match zone_flows(alloc, p, zones, heads) {
-        Ok(flows) => print_flows(rt, flows.as_slice()),
-        Err(ZoneFault::NoBound(fault)) => print_fault(rt, fault),
-        Err(ZoneFault::Memory) => println!(rt; "memory"),
+    match zone_flows(page.alloc(), p, zones, heads) {
+        Ok(flows) => push_flows(page, flows.as_slice()),
+        Err(ZoneFault::NoBound(fault)) => push_fault(page, fault),
+        Err(ZoneFault::Memory) => page.line("memory"),
     }
+    Ok(())
 }

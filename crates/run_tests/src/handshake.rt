@@ -4,69 +4,53 @@ ghost use Rattle.outside.specs.Puts.{PutsMake};
 
 use outside::{Gate, Sink, SinkError};
 use std::alloc::Global;
-use std::sync::atomic::{AtomicU64, Ordering};
-
-const SPINS: u32 = 1_000_000_000;
+use test_lines::Count;
 
 /// Counts the passes of workers and the puts of a sink. The pass after the first step's waits for the second put,
-/// and the second put for that pass, each for a limited number of spins.
+/// and the second put for that pass.
 #[derive(Drop)]
 pub struct Handshake {
-    passes: AtomicU64,
-    puts: AtomicU64,
-    failures: AtomicU64,
+    passes: Count,
+    puts: Count,
+    pub failures: Count,
 }
 
 // The passes of one worker at a step with one variable cell.
 const PASSES: u64 = 64;
 
 impl Handshake {
-    pub fn new() -> Handshake {
+    /// One after this number of passes.
+    fn after(passes: u64) -> Handshake {
         Handshake {
-            passes: AtomicU64::new(0),
-            puts: AtomicU64::new(0),
-            failures: AtomicU64::new(0),
+            passes: Count::from(passes),
+            puts: Count::from(0),
+            failures: Count::from(0),
         }
+    }
+
+    pub fn new() -> Handshake {
+        Handshake::after(0)
     }
 
     /// One that has been: no put waits.
     pub fn over() -> Handshake {
-        Handshake {
-            passes: AtomicU64::new(PASSES + 1),
-            puts: AtomicU64::new(0),
-            failures: AtomicU64::new(0),
-        }
-    }
-
-    // Waits until a count reaches a number.
-    fn wait(&self, count: &AtomicU64, number: u64) {
-        for _ in 0..SPINS {
-            if count.load(Ordering::SeqCst) >= number {
-                return;
-            }
-        }
-        self.failures.fetch_add(1, Ordering::SeqCst);
+        Handshake::after(PASSES + 1)
     }
 
     // Counts a put, and returns its number.
     fn begin_put(&self) -> u64 {
-        let before = self.puts.fetch_add(1, Ordering::SeqCst);
+        let before = self.puts.add();
         if before == 1 {
-            self.wait(&self.passes, PASSES + 1);
+            self.passes.wait(PASSES + 1, &self.failures);
         }
         before
-    }
-
-    /// How often a wait was in vain.
-    pub fn failures(&self) -> u64 {
-        self.failures.load(Ordering::SeqCst)
     }
 }
 
 impl Gate for Handshake {
     fn pass(&self, _worker: u32, _turn: u32) {
-        if self.passes.fetch_add(1, Ordering::SeqCst) == PASSES {
-            self.wait(&self.puts, 2);
+        if self.passes.add() == PASSES {
+            self.puts.wait(2, &self.failures);
         }
     }
 }

@@ -17,73 +17,68 @@
 //! of HEAD the heads of its first view lie. `@lack N WORDS` runs with a side whose put of number N lacks memory.
 #![tactic(auto)]
 
-mod awaiting;
 mod bench;
-mod command;
+mod gates;
 mod handshake;
-mod meeting;
-mod passes;
 mod runs;
 mod views;
-mod waiting;
 mod watching;
 
-use awaiting::print_awaiting;
-use bench::Bench;
-use command::{Command, Question};
-use passes::print_passes;
-use runs::print_run;
-use std::alloc::Global;
+use bench::{Bench, words_of};
+use runs::Asked;
+use std::alloc::AllocError;
 use std::io;
 use std::sync::Wait;
 use std::thread::Threads;
-use test_decks::take_line;
-use waiting::{print_handshake, print_lacking, print_meeting};
-use watching::print_watch;
+use test_lines::{Page, first_word, number_of, take_line};
 
-fn ask<R: Print + Threads + Wait + Sync>(
+// Puts the question and its answer on the page. The words of `@run` and `@meet` follow the question at once.
+fn answer<R: Threads + Wait + Sync>(
     rt: &R,
-    alloc: Global,
-    bench: &mut Bench,
-    question: Question<'_>,
-) -> io::Result<()> {
-    bench.deck.end_file(alloc)?;
-    let folder = &mut bench.deck.folder;
-    match question {
-        Question::Run(words) => print_run(rt, alloc, bench, words),
-        Question::Watch(views, words) => print_watch(rt, alloc, bench, views, words),
-        Question::Await(head, words) => print_awaiting(rt, alloc, folder, head, words),
-        Question::Lack(put, words) => print_lacking(rt, alloc, bench, u64::from(put), words),
-        Question::Meet(words) => print_meeting(rt, alloc, folder, words),
-        Question::ShakeHands(put, words) => print_handshake(
-            rt,
-            alloc,
-            folder,
-            u64::from(put),
-            words,
-        ),
-        Question::Passes(most, words) => print_passes(rt, alloc, bench, u64::from(most), words),
-    }
-}
-
-fn step<R: Print + Threads + Wait + Sync>(
-    rt: &R,
-    alloc: Global,
+    page: &mut Page,
     bench: &mut Bench,
     line: &str,
-) -> io::Result<()> {
-    match Command::of(line) {
-        None => take_line(rt, alloc, &mut bench.deck, line),
-        Some(Command::Deck) => {
-            *bench = Bench::new(alloc);
-            Ok(())
+) -> Result<(), AllocError> {
+    page.line(line);
+    bench.deck.end_file(page.alloc())?;
+    let (question, rest) = first_word(line);
+    let (first, more) = first_word(rest);
+    let is_plain = question == "@run" || question == "@meet";
+    let words = words_of(page.alloc(), if is_plain { rest } else { more })?;
+    let asked = Asked {
+        rt,
+        words: words.as_slice(),
+        number: number_of(first),
+    };
+    match question {
+        "@run" => asked.push_run(page, bench)?,
+        "@watch" => asked.push_watch(page, bench)?,
+        "@await" => asked.push_awaiting(page, bench, first),
+        "@lack" => asked.push_lacking(page, bench),
+        "@meet" => asked.push_meeting(page, bench),
+        "@shake_hands" => asked.push_handshake(page, bench),
+        _ => asked.push_passes(page, bench)?,
+    }
+    bench.begin_sinks(page.alloc());
+    Ok(())
+}
+
+fn step<R: Threads + Wait + Sync>(
+    rt: &R,
+    page: &mut Page,
+    bench: &mut Bench,
+    line: &str,
+) -> Result<(), AllocError> {
+    let (word, rest) = first_word(line);
+    let (call, kept) = first_word(rest);
+    match word {
+        "@deck" => Ok(*bench = Bench::new(page.alloc())),
+        "@put_fault" => bench.out.fail_at(number_of(call), number_of(kept)),
+        "@side_fault" => bench.side.fail_at(number_of(call), number_of(kept)),
+        "@run" | "@watch" | "@await" | "@lack" | "@meet" | "@shake_hands" | "@passes" => {
+            answer(rt, page, bench, line)
         }
-        Some(Command::PutFault(call, kept)) => Ok(bench.out.fail_at(call, kept)?),
-        Some(Command::SideFault(call, kept)) => Ok(bench.side.fail_at(call, kept)?),
-        Some(Command::Ask(question)) => {
-            println!(rt; "{line}")?;
-            ask(rt, alloc, bench, question)
-        }
+        _ => take_line(page, &mut bench.deck, line),
     }
 }
 
@@ -92,7 +87,9 @@ fn main(rt: HostRuntime) -> io::Result<()> {
     let mut bench = Bench::new(alloc);
     for line in rt.lines(alloc) {
         let line = line?;
-        step(&rt, alloc, &mut bench, line.as_str())?;
+        let mut page = Page::new(alloc);
+        step(&rt, &mut page, &mut bench, line.as_str())?;
+        page.print(&rt)?;
     }
     Ok(())
 }

@@ -1,5 +1,4 @@
 // Heads in the lines of views and listings.
-use std::alloc::{AllocError, Global};
 
 /// Two heads of a cell, in units of 10^-9, and its place.
 #[derive(Clone, Copy)]
@@ -10,55 +9,46 @@ pub struct Heads<'a> {
 }
 
 /// A head, from its text with 9 decimals.
-pub fn head_of(alloc: Global, word: &str) -> Result<Option<i64>, AllocError> {
-    let Some((whole, part)) = word.split_once('.') else {
-        return Ok(None);
-    };
-    let mut digits = String::from_str(alloc, whole)?;
-    digits.push_str(part)?;
-    Ok(digits.as_str().parse::<i64>().ok())
+pub fn head_of(word: &str) -> Option<i64> {
+    let (whole, part) = word.split_once('.')?;
+    let part = part.parse::<i64>().ok()?;
+    let units = whole.parse::<i64>().ok()?.checked_mul(1_000_000_000)?;
+    if whole.starts_with('-') {
+        units.checked_sub(part)
+    } else {
+        units.checked_add(part)
+    }
 }
 
 /// The heads of a line, if it is a line HEAD.
-pub fn heads_of<'a>(alloc: Global, line: &'a str) -> Result<Option<Heads<'a>>, AllocError> {
-    let Some(rest) = line.strip_prefix("HEAD ") else {
-        return Ok(None);
-    };
-    let Some((front, upper)) = rest.rsplit_once(' ') else {
-        return Ok(None);
-    };
-    let Some((place, lower)) = front.rsplit_once(' ') else {
-        return Ok(None);
-    };
-    let (Some(low), Some(high)) = (head_of(alloc, lower)?, head_of(alloc, upper)?) else {
-        return Ok(None);
-    };
-    Ok(Some(Heads { place, low, high }))
+pub fn heads_of(line: &str) -> Option<Heads<'_>> {
+    let (front, upper) = line.strip_prefix("HEAD ")?.rsplit_once(' ')?;
+    let (place, lower) = front.rsplit_once(' ')?;
+    let (low, high) = (head_of(lower)?, head_of(upper)?);
+    Some(Heads { place, low, high })
 }
 
 // Whether these lines have heads of the same cell within these.
-fn has_within(alloc: Global, lines: &str, outer: Heads<'_>) -> Result<bool, AllocError> {
+fn has_within(lines: &str, outer: Heads<'_>) -> bool {
     for line in lines.lines() {
-        if let Some(inner) = heads_of(alloc, line)? {
+        if let Some(inner) = heads_of(line) {
             if inner.place == outer.place {
-                return Ok(outer.low <= inner.low && inner.high <= outer.high);
+                return outer.low <= inner.low && inner.high <= outer.high;
             }
         }
     }
-    Ok(false)
+    false
 }
 
 /// How many cells of the first lines have heads that are not around those of the second.
-pub fn not_around(alloc: Global, outer: &str, inner: &str) -> Result<u32, AllocError> {
+pub fn not_around(outer: &str, inner: &str) -> u32 {
     let mut count: u32 = 0;
     for line in outer.lines() {
-        if let Some(heads) = heads_of(alloc, line)? {
-            if !has_within(alloc, inner, heads)? {
-                count = count.saturating_add(1);
-            }
+        if let Some(heads) = heads_of(line) {
+            count = count.saturating_add(u32::from(!has_within(inner, heads)));
         }
     }
-    Ok(count)
+    count
 }
 
 /// The lines of a step in a listing.

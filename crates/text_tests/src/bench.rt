@@ -1,11 +1,9 @@
 // The text that is read, and the files that it names.
-use crate::answer::{Answer, print_answer, print_fault};
-use crate::call::Call;
-use crate::pictures::plain_text;
-use crate::reader::Reader;
+use crate::faults::push_fault;
+use crate::reader::{Call, Reader};
 use outside::{FILE_LIMIT, MemFolder};
 use std::alloc::{AllocError, Global};
-use std::io;
+use test_lines::{Page, plain_text};
 
 /// A text with its name for refusals, and a folder in memory.
 #[derive(Drop)]
@@ -15,40 +13,35 @@ pub struct Bench {
     text: String,
 }
 
-// Prints the answer of one call and a semicolon, and says whether it was refused.
-fn print_call(
-    rt: &impl Print,
-    alloc: Global,
-    reader: &mut Reader<'_>,
-    folder: &mut MemFolder,
-    call: &str,
-) -> io::Result<bool> {
-    let answer = reader.answer(alloc, folder, &Call::of(alloc, call)?);
-    match &answer {
-        Ok(Answer::Nothing) => return Ok(false),
-        Ok(answer) => print_answer(rt, answer)?,
-        Err(fault) => print_fault(rt, fault)?,
+// Puts the answer of one call and a semicolon, and says whether it was refused.
+fn push_call(page: &mut Page, reader: &mut Reader<'_>, folder: &mut MemFolder, call: &str) -> bool {
+    if call == "comments" {
+        reader.lines.skip_comments();
+        return false;
     }
-    print!(rt; ";")?;
-    Ok(answer.is_err())
+    let answer = reader.push_answer(page, folder, &Call::of(call));
+    if let Err(fault) = &answer {
+        push_fault(page, fault);
+    }
+    page.text(";");
+    answer.is_err()
 }
 
-// Prints in one line the answers of the calls on a text in turn, up to the first refusal.
-fn print_calls(
-    rt: &impl Print,
-    alloc: Global,
+// Puts in one line the answers of the calls on a text in turn, up to the first refusal or beyond.
+fn push_calls(
+    page: &mut Page,
     mut reader: Reader<'_>,
     folder: &mut MemFolder,
     calls: &str,
     goes_on: bool,
-) -> io::Result<()> {
+) {
     for call in calls.split("; ") {
-        let refused = print_call(rt, alloc, &mut reader, folder, call)?;
+        let refused = push_call(page, &mut reader, folder, call);
         if refused && !goes_on {
             break;
         }
     }
-    println!(rt; "")
+    page.end();
 }
 
 impl Bench {
@@ -72,24 +65,23 @@ impl Bench {
     }
 
     /// The calls in order, also after a refusal.
-    pub fn print_read(&mut self, rt: &impl Print, alloc: Global, calls: &str) -> io::Result<()> {
+    pub fn push_read(&mut self, page: &mut Page, calls: &str) {
         let reader = Reader::new(self.file.as_str(), self.text.as_str().as_bytes());
-        print!(rt; "read")?;
-        print_calls(rt, alloc, reader, &mut self.folder, calls, true)
+        page.text("read");
+        push_calls(page, reader, &mut self.folder, calls, true);
     }
 
     /// The calls on the text cut before each line feed and after it.
-    pub fn print_cuts(&mut self, rt: &impl Print, alloc: Global, calls: &str) -> io::Result<()> {
+    pub fn push_cuts(&mut self, page: &mut Page, calls: &str) {
         let text = self.text.as_str().as_bytes();
         for (place, byte) in text.iter().enumerate() {
             if *byte == b'\n' {
                 for end in [place, place.saturating_add(1)] {
                     let reader = Reader::new(self.file.as_str(), text.get(..end).unwrap_or(&[]));
-                    print!(rt; "cut")?;
-                    print_calls(rt, alloc, reader, &mut self.folder, calls, false)?;
+                    page.text("cut");
+                    push_calls(page, reader, &mut self.folder, calls, false);
                 }
             }
         }
-        Ok(())
     }
 }

@@ -2,38 +2,39 @@
 ghost use Rattle.std.specs.Prelude.{All};
 ghost use Rattle.outside.specs.Names.{folder_name};
 
-use crate::command::{first_word, number};
-use crate::folder_calls::found_text;
+use crate::files::push_found;
 use crate::given::given_name;
-use crate::pictures::plain_text;
 use outside::{Folder, RealFolder, folder_name, read_whole};
-use std::alloc::{AllocError, Global};
+use std::alloc::AllocError;
 use std::rt::Files;
 use std::{fs, io};
+use test_lines::{Page, first_word, plain_text};
 
 // What a folder has under one of the names that were given to it. It is asked for no other.
-fn asked_text<F: Folder>(
-    alloc: Global,
+fn push_asked<F: Folder>(
+    page: &mut Page,
     folder: &mut F,
     names: &[&str],
     name: &str,
-) -> Result<String, AllocError>
+) -> Result<(), AllocError>
     requires { All (λ n. F.may folder.old (folder_name n.now)) names.now }
     ensures { All (λ n. F.may folder.new (folder_name n.now)) names.now }
 {
     match given_name(names, name) {
-        None => String::from_str(alloc, " not given"),
+        None => page.word("not given"),
         Some(given) => {
-            let asked = folder_name(alloc, given)?;
-            found_text(alloc, folder.read_file(alloc, asked.as_str()))
+            let asked = folder_name(page.alloc(), given)?;
+            let found = folder.read_file(page.alloc(), asked.as_str());
+            push_found(page, found);
         }
     }
+    Ok(())
 }
 
-// Makes a file or a folder, or prints what the folder has under a name.
-fn disk_call<R: Files + Print, F: Folder>(
+// Makes a file or a folder, or puts what the folder has under a name.
+fn disk_call<R: Files, F: Folder>(
     rt: &R,
-    alloc: Global,
+    page: &mut Page,
     folder: &mut F,
     names: &[&str],
     call: &str,
@@ -44,34 +45,33 @@ fn disk_call<R: Files + Print, F: Folder>(
     let (word, rest) = first_word(call);
     let (name, more) = first_word(rest);
     match word {
-        "write" => fs::write(rt, name, plain_text(alloc, more)?.as_str()),
+        "write" => fs::write(rt, name, plain_text(page.alloc(), more)?.as_str()),
         "make" => fs::create_dir(rt, name),
         _ => {
-            let text = asked_text(alloc, folder, names, name)?;
-            print!(rt; "{text};")
+            push_asked(page, folder, names, name)?;
+            Ok(page.text(";"))
         }
     }
 }
 
-// Makes files and folders, and prints the answers of a folder that these names and this limit were given to.
-fn print_calls<R: Files + Print>(
+// Makes files and folders, and puts the answers of a folder that these names and this limit were given to.
+fn push_calls<R: Files>(
     rt: &R,
-    alloc: Global,
+    page: &mut Page,
     names: &[&str],
     limit: u64,
     calls: &str,
 ) -> io::Result<()> {
-    let mut folder = RealFolder::new(rt, alloc, names, limit);
-    print!(rt; "disk")?;
+    let mut folder = RealFolder::new(rt, page.alloc(), names, limit);
+    page.text("disk");
     for call in calls.split("; ") {
-        disk_call(rt, alloc, &mut folder, names, call)?;
+        disk_call(rt, page, &mut folder, names, call)?;
     }
-    println!(rt; "")
+    Ok(page.end())
 }
 
-/// Makes files and folders, and prints the answers of a folder whose limit is the first word.
-pub fn print_disk<R: Files + Print>(rt: &R, alloc: Global, rest: &str) -> io::Result<()> {
-    let (limit, calls) = first_word(rest);
+/// Makes files and folders, and puts the answers of a folder with this limit.
+pub fn push_disk<R: Files>(rt: &R, page: &mut Page, limit: u64, calls: &str) -> io::Result<()> {
     let names = [
         "three.txt",
         "four.txt",
@@ -81,7 +81,7 @@ pub fn print_disk<R: Files + Print>(rt: &R, alloc: Global, rest: &str) -> io::Re
         "later.txt",
         "long.txt",
     ];
-    print_calls(rt, alloc, &names, number(limit), calls)
+    push_calls(rt, page, &names, limit, calls)
 }
 
 // Gives two bytes at each of two reads, between which a signal interrupts one, and then fails.
@@ -100,8 +100,9 @@ impl io::Read for FailsInMidStream {
 }
 
 /// An interrupted read is made again. Past the limit no further read is made.
-pub fn print_reader(rt: &impl Print, alloc: Global, limit: u64) -> io::Result<()> {
-    let found = read_whole(alloc, &mut FailsInMidStream(0), limit);
-    let text = found_text(alloc, found)?;
-    println!(rt; "reader{text}")
+pub fn push_reader(page: &mut Page, limit: u64) {
+    let found = read_whole(page.alloc(), &mut FailsInMidStream(0), limit);
+    page.text("reader");
+    push_found(page, found);
+    page.end();
 }

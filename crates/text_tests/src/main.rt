@@ -32,53 +32,46 @@
 //! carriage return, a tab, a blank at an end, and a delete. A number is printed as digits and exponent.
 #![tactic(auto)]
 
-mod answer;
-mod array_calls;
 mod bench;
-mod call;
-mod command;
 mod disk;
-mod folder_calls;
+mod faults;
+mod files;
 mod given;
-mod item_calls;
-mod line_calls;
-mod list_calls;
-mod name_calls;
-mod pictures;
+mod lists;
 mod reader;
-mod refusals;
 mod sinks;
+mod words;
 
 use bench::Bench;
-use command::Command;
-use disk::{print_disk, print_reader};
+use disk::{push_disk, push_reader};
+use faults::{push_codes, push_refusals};
 use outside::{FILE_LIMIT, MemFolder};
-use refusals::{print_codes, print_refusals};
-use sinks::{print_disk_sink, print_full_sink, print_sink};
-use std::alloc::Global;
+use sinks::{push_disk_sink, push_full_sink, push_sink};
 use std::io;
+use test_lines::{Page, first_word, number_of};
 
-fn step(rt: &HostRuntime, alloc: Global, bench: &mut Bench, line: &str) -> io::Result<()> {
-    match Command::of(line) {
-        Command::Title => println!(rt; "{line}"),
-        Command::Text(file, text) => Ok(bench.take_text(alloc, file, text)?),
-        Command::Read(calls) => bench.print_read(rt, alloc, calls),
-        Command::Cut(calls) => bench.print_cuts(rt, alloc, calls),
-        Command::Folder => {
-            bench.folder = MemFolder::new(alloc, FILE_LIMIT);
-            Ok(())
-        }
-        Command::File(name, text) => Ok(bench.add_file(alloc, name, text)?),
-        Command::Fail(call) => Ok(bench.folder.fail_at(call)?),
-        Command::Disk(calls) => print_disk(rt, alloc, calls),
-        Command::Reader(limit) => print_reader(rt, alloc, limit),
-        Command::Sink(calls) => print_sink(rt, alloc, calls),
-        Command::DiskSink(calls) => print_disk_sink(rt, alloc, calls),
-        Command::FullSink(calls) => print_full_sink(rt, alloc, calls),
-        Command::Refusals => print_refusals(rt, alloc),
-        Command::Codes => print_codes(rt),
-        Command::Other => println!(rt; "no command: {line}"),
+// Does the command of a line.
+fn step(rt: &HostRuntime, page: &mut Page, bench: &mut Bench, line: &str) -> io::Result<()> {
+    let (word, rest) = first_word(line);
+    let (name, text) = first_word(rest);
+    match word {
+        "@" => page.line(line),
+        "@text" => bench.take_text(page.alloc(), name, text)?,
+        "@read" => bench.push_read(page, rest),
+        "@cut" => bench.push_cuts(page, rest),
+        "@folder" => bench.folder = MemFolder::new(page.alloc(), FILE_LIMIT),
+        "@file" => bench.add_file(page.alloc(), name, text)?,
+        "@fail" => bench.folder.fail_at(number_of(rest))?,
+        "@disk" => return push_disk(rt, page, number_of(name), text),
+        "@reader" => push_reader(page, number_of(rest)),
+        "@sink" => push_sink(page, rest)?,
+        "@disk_sink" => return push_disk_sink(rt, page, rest),
+        "@full_sink" => push_full_sink(page, rest)?,
+        "@refusals" => push_refusals(page)?,
+        "@codes" => push_codes(page),
+        _ => page.line(format_args!("no command: {line}")),
     }
+    Ok(())
 }
 
 fn main(rt: HostRuntime) -> io::Result<()> {
@@ -86,7 +79,9 @@ fn main(rt: HostRuntime) -> io::Result<()> {
     let mut bench = Bench::new(alloc);
     for line in rt.lines(alloc) {
         let line = line?;
-        step(&rt, alloc, &mut bench, line.as_str())?;
+        let mut page = Page::new(alloc);
+        step(&rt, &mut page, &mut bench, line.as_str())?;
+        page.print(&rt)?;
     }
     Ok(())
 }

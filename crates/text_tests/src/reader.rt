@@ -1,15 +1,34 @@
 // The calls on one text, one after another.
-use crate::answer::Answer;
-use crate::array_calls::array_answer;
-use crate::call::Call;
-use crate::folder_calls::folder_answer;
-use crate::item_calls::item_answer;
-use crate::line_calls::line_answer;
-use crate::list_calls::list_answer;
-use crate::name_calls::name_answer;
+use crate::files::{push_of_folder, push_of_names};
+use crate::lists::{push_of_arrays, push_of_lines, push_of_lists};
+use crate::words::push_of_words;
 use outside::{InputFault, MemFolder};
 use record_lines::{Free, Line, Lines, Words};
-use std::alloc::Global;
+use test_lines::{Page, count_of, first_word};
+
+/// A call's word, the text after it, the counts that it begins with, and its multiplier.
+#[derive(Drop)]
+pub struct Call<'a> {
+    pub word: &'a str,
+    pub rest: &'a str,
+    pub counts: [u32; 3],
+    pub by: Option<i64>,
+}
+
+impl<'a> Call<'a> {
+    pub fn of(written: &'a str) -> Call<'a> {
+        let (front, by) = written.split_once(" by ").unwrap_or((written, ""));
+        let (word, rest) = first_word(front);
+        let (first, more) = first_word(rest);
+        let (second, third) = first_word(more);
+        Call {
+            word,
+            rest,
+            counts: [count_of(first), count_of(second), count_of(third)],
+            by: by.parse::<i64>().ok(),
+        }
+    }
+}
 
 /// A text that is read: the lines to come, a free list among them, and the remaining words of the line that `items` went
 /// to.
@@ -39,27 +58,24 @@ impl<'a> Reader<'a> {
         }
     }
 
-    pub fn answer(
+    /// Puts the answer of a call, each of its words after a blank.
+    pub fn push_answer(
         &mut self,
-        alloc: Global,
+        page: &mut Page,
         folder: &mut MemFolder,
-        call: &Call,
-    ) -> Result<Answer, InputFault> {
-        if let Some(answer) = line_answer(alloc, self, call)? {
-            return Ok(answer);
+        call: &Call<'_>,
+    ) -> Result<(), InputFault> {
+        match call.word {
+            "line" | "after" | "free" => Ok(push_of_lines(page, self, call)),
+            "next" | "values" | "list" | "rows" | "integers" | "numbers" | "constants" => {
+                push_of_lists(page, self, call)
+            }
+            "row" | "layer" | "integer_layer" | "integer_layers" | "array" => {
+                push_of_arrays(page, self, folder, call)
+            }
+            "packages" | "files" | "models" => push_of_names(page, self, call.word),
+            "found" | "input" | "named" | "taken" => push_of_folder(page, folder, call),
+            _ => push_of_words(page, self, call),
         }
-        if let Some(answer) = item_answer(alloc, self, call)? {
-            return Ok(answer);
-        }
-        if let Some(answer) = list_answer(alloc, self, call)? {
-            return Ok(answer);
-        }
-        if let Some(answer) = array_answer(alloc, self, folder, call)? {
-            return Ok(answer);
-        }
-        if let Some(answer) = name_answer(alloc, self, call)? {
-            return Ok(answer);
-        }
-        folder_answer(alloc, folder, call)
     }
 }

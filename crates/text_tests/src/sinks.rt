@@ -1,52 +1,47 @@
 // Sinks in memory, in a file, and over a writer that takes one byte.
-use crate::command::{first_word, number};
-use crate::pictures::{plain_text, shown_text};
+use crate::files::push_shown;
 use outside::{FreeGate, Gate, MemSink, RealSink, Sink};
-use std::alloc::Global;
+use std::alloc::AllocError;
 use std::{fs, io};
+use test_lines::{Page, first_word, number_of, plain_text};
 
 const WRITTEN: &str = "written.txt";
 
-// Puts the pieces, and prints whether each was kept.
-fn print_puts<S: Sink>(
-    rt: &impl Print,
-    alloc: Global,
-    sink: &mut S,
-    calls: &str,
-) -> io::Result<()> {
+// Puts the pieces, and whether each was kept.
+fn push_puts<S: Sink>(page: &mut Page, sink: &mut S, calls: &str) -> Result<(), AllocError> {
     for call in calls.split("; ") {
         if let ("put", piece) = first_word(call) {
-            let kept = sink.put(plain_text(alloc, piece)?.as_str().as_bytes());
-            print!(rt; " {kept:?};")?;
+            let kept = sink.put(plain_text(page.alloc(), piece)?.as_str().as_bytes());
+            page.word(format_args!("{kept:?};"));
         }
     }
     Ok(())
 }
 
 /// A sink in memory, and its bytes afterwards. A gate that does nothing is passed first.
-pub fn print_sink(rt: &impl Print, alloc: Global, calls: &str) -> io::Result<()> {
-    let mut sink = MemSink::new(alloc);
+pub fn push_sink(page: &mut Page, calls: &str) -> Result<(), AllocError> {
+    let mut sink = MemSink::new(page.alloc());
     for call in calls.split("; ") {
         if let ("fail", rest) = first_word(call) {
             let (call, kept) = first_word(rest);
-            sink.fail_at(number(call), number(kept))?;
+            sink.fail_at(number_of(call), number_of(kept))?;
         }
     }
     FreeGate.pass(1, 0);
-    print!(rt; "sink")?;
-    print_puts(rt, alloc, &mut sink, calls)?;
-    let text = shown_text(alloc, sink.bytes())?;
-    println!(rt; "{text}")
+    page.text("sink");
+    push_puts(page, &mut sink, calls)?;
+    push_shown(page, sink.bytes());
+    Ok(page.end())
 }
 
 /// A sink in a file, and the bytes of the file afterwards.
-pub fn print_disk_sink(rt: &HostRuntime, alloc: Global, calls: &str) -> io::Result<()> {
+pub fn push_disk_sink(rt: &HostRuntime, page: &mut Page, calls: &str) -> io::Result<()> {
     let mut sink = RealSink::new(fs::create(rt, WRITTEN)?);
-    print!(rt; "disk_sink")?;
-    print_puts(rt, alloc, &mut sink, calls)?;
+    page.text("disk_sink");
+    push_puts(page, &mut sink, calls)?;
     let text = fs::read_to_string(rt, WRITTEN)?;
-    let text = shown_text(alloc, text.as_str().as_bytes())?;
-    println!(rt; "{text}")
+    push_shown(page, text.as_str().as_bytes());
+    Ok(page.end())
 }
 
 // Takes one byte, after a write that a signal interrupts, and then nothing: the number counts how often it was called.
@@ -68,9 +63,9 @@ impl io::Write for TakesOneByte {
     }
 }
 
-pub fn print_full_sink(rt: &impl Print, alloc: Global, calls: &str) -> io::Result<()> {
+pub fn push_full_sink(page: &mut Page, calls: &str) -> Result<(), AllocError> {
     let mut sink = RealSink::new(TakesOneByte(0));
-    print!(rt; "full_sink")?;
-    print_puts(rt, alloc, &mut sink, calls)?;
-    println!(rt; "")
+    page.text("full_sink");
+    push_puts(page, &mut sink, calls)?;
+    Ok(page.end())
 }

@@ -4,21 +4,21 @@ use Rattle.problem_tests.proofs.Shown.{same_relaxed}
 use Rattle.problem_tests.proofs.Showing.{shows_head, shown_words}
 use Rattle.problem_tests.proofs.exchanges.raise.Goals as goal
 
-pub raise_in-to-requires-clause-words : goal.raise_in-to-requires-clause-words
-raise_in-to-requires-clause-words c = subst (λ (ps : List Entries). AreWords ps c.args.shown.now) (sym c.problem-problem.ensures) (shown_words c.args.table.now c.args.seat.now c.args.shown.now c.requires.shown)
+pub relax_in-to-requires-clause-words : goal.relax_in-to-requires-clause-words
+relax_in-to-requires-clause-words c = subst (λ (ps : List Entries). AreWords ps c.args.shown.now) (sym c.problem-problem.ensures) (shown_words c.args.table.now c.args.seat.now c.args.shown.now c.requires.shown)
 
 pub raise-found-requires-clause-to : goal.raise-found-requires-clause-to
 raise-found-requires-clause-to c =
     let p = c.args.table.now.problem.now in
     let ok = subst IsProblem c.problem-problem.ensures c.recall_conditions.ensures.fits in
-    let to = c.raise_in-to.result in
+    let to = c.relax_in-to.result in
     let fits : FitsSigned w64 to = search rules in
-    let value = subst (λ (ps : List Entries). IsRaise ps (lower_at c.args.shown.now) c.args.cell to) c.problem-problem.ensures c.raise_in-to.ensures.raise in
+    let value = subst (λ (ps : List Entries). IsRaise ps (lower_at c.args.shown.now) c.args.cell to) c.problem-problem.ensures c.relax_in-to.ensures.relaxed in
     simp to_z-of_z (same_relaxed (low_side p ok) (seen_on Low c.args.seat.now) (lower_at c.args.shown.now) c.args.cell to c.requires.cell (c.requires.shown.shown Low) value)
 
 pub returns : goal.returns
 returns c =
-    let to = to_z w64 (of_z w64 c.raise_in-to.result) in
+    let to = to_z w64 (of_z w64 c.relax_in-to.result) in
     let found = c.raise-found.result in
     let greater = c.max.result in
     let fits : FitsSigned w64 found = search rules in

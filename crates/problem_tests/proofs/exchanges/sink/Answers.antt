@@ -4,21 +4,21 @@ use Rattle.problem_tests.proofs.Shown.{same_relaxed}
 use Rattle.problem_tests.proofs.Showing.{shows_head, shown_words}
 use Rattle.problem_tests.proofs.exchanges.sink.Goals as goal
 
-pub sink_in-to-requires-clause-words : goal.sink_in-to-requires-clause-words
-sink_in-to-requires-clause-words c = subst (λ (ps : List Entries). AreWords ps c.args.shown.now) (sym c.problem-problem.ensures) (shown_words c.args.table.now c.args.seat.now c.args.shown.now c.requires.shown)
+pub relax_in-to-requires-clause-words : goal.relax_in-to-requires-clause-words
+relax_in-to-requires-clause-words c = subst (λ (ps : List Entries). AreWords ps c.args.shown.now) (sym c.problem-problem.ensures) (shown_words c.args.table.now c.args.seat.now c.args.shown.now c.requires.shown)
 
 pub sink-found-requires-clause-to : goal.sink-found-requires-clause-to
 sink-found-requires-clause-to c =
     let p = c.args.table.now.problem.now in
     let ok = subst IsProblem c.problem-problem.ensures c.recall_conditions.ensures.fits in
-    let to = c.sink_in-to.result in
+    let to = c.relax_in-to.result in
     let fits : FitsSigned w64 to = search rules in
-    let value = subst (λ (ps : List Entries). IsSink ps (upper_at c.args.shown.now) c.args.cell to) c.problem-problem.ensures c.sink_in-to.ensures.sink in
+    let value = subst (λ (ps : List Entries). IsSink ps (upper_at c.args.shown.now) c.args.cell to) c.problem-problem.ensures c.relax_in-to.ensures.relaxed in
     simp to_z-of_z (same_relaxed (high_side p ok) (seen_on High c.args.seat.now) (upper_at c.args.shown.now) c.args.cell to c.requires.cell (c.requires.shown.shown High) value)
 
 pub returns : goal.returns
 returns c =
-    let to = to_z w64 (of_z w64 c.sink_in-to.result) in
+    let to = to_z w64 (of_z w64 c.relax_in-to.result) in
     let found = c.sink-found.result in
     let lesser = c.min.result in
     let fits : FitsSigned w64 found = search rules in

@@ -1,0 +1,53 @@
+// Time steps, storage and given heads.
+ghost use Rattle.std.specs.Prelude.{◌≤◌, IfSome, IsTrue};
+ghost use Rattle.model_types.specs.Numbers.{IsPositive};
+ghost use Rattle.conductance_bounds.specs.Growth.{IsMultiplier, IsUsable};
+
+use crate::words::Words;
+use conductance_bounds::{Factors, HeadPair, Pair, Part, given_head, step_factors, storage_branch};
+use decimal_input::dec::Dec;
+use number_limits::{is_at_least, is_at_most, is_one};
+
+// Whether TSMULT is 1, or from 0.001 to 1000 for at most a thousand steps.
+#[tactic(auto, using(number_limits::proofs::MagnitudeLemmas::at_least_thousandth, number_limits::proofs::MagnitudeLemmas::at_most_thousand))]
+fn is_multiplier(tsmult: Dec, nstp: u32) -> bool
+    requires { IsPositive tsmult }
+    ensures { IsTrue result → IsMultiplier tsmult nstp }
+{
+    is_one(tsmult) || (nstp <= 1000 && is_at_least(3, tsmult) && is_at_most(1000, tsmult))
+}
+
+/// The factors of a step.
+pub fn step(words: &mut Words<'_>) -> Option<Factors>
+    ensures { IfSome result IsUsable }
+{
+    let (tsmult, nstp, step) = (words.positive(), words.count(), words.count());
+    if nstp > 100_000 || step < 1 || step > nstp || !is_multiplier(tsmult, nstp) {
+        words.are_clear = false;
+        return None;
+    }
+    Some(step_factors(tsmult, nstp, step))
+}
+
+pub fn storage(words: &mut Words<'_>) -> Option<Pair> {
+    let ss = words.not_negative();
+    let thick = words.thickness()?;
+    let (delr, delc) = (words.positive(), words.positive());
+    let factors = step(words)?;
+    let (perlen, s) = (words.positive(), words.digits());
+    storage_branch(
+        ss,
+        Some((thick.lo, thick.hi)),
+        delr,
+        delc,
+        &factors,
+        perlen,
+        s,
+    )
+}
+
+pub fn head(words: &mut Words<'_>) -> Option<HeadPair> {
+    let (shead, ehead) = (words.head()?, words.head()?);
+    let (lo, hi) = (words.part(), words.part());
+    Some(given_head(shead, ehead, Part { lo, hi }))
+}

@@ -1,0 +1,26 @@
+// A question about a problem with its barrier.
+ghost use Rattle.step_problem.specs.Heads.{IsBarrier};
+
+use crate::moves::Move;
+use std::thread::Threads;
+use step_problem::{Barrier, Bound, Problem};
+use test_lines::number_at;
+
+/// A problem with its barrier, the question, and what lines give beside them.
+#[derive(Drop)]
+pub struct Case<'a, R: Threads + Sync> {
+    pub rt: &'a R,
+    pub p: &'a Problem,
+    pub b: &'a Barrier,
+    pub bounds: &'a [Bound],
+    pub moves: &'a [Move],
+    pub question: &'a str,
+    pub numbers: &'a [i128],
+    pub ghost is_barrier: { IsBarrier p.now b.now },
+}
+
+impl<R: Threads + Sync> Case<'_, R> {
+    pub fn number(&self, place: usize) -> u32 {
+        number_at(self.numbers, place)
+    }
+}

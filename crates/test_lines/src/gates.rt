@@ -1,0 +1,61 @@
+// Counts that threads share, and a gate that counts its passes.
+use outside::Gate;
+use std::sync::atomic::{AtomicU64, Ordering};
+
+const SPINS: u32 = 1_000_000_000;
+
+/// A count of passes, puts or jobs.
+#[derive(Drop)]
+pub struct Count(AtomicU64);
+
+impl Count {
+    pub fn from(number: u64) -> Count {
+        Count(AtomicU64::new(number))
+    }
+
+    /// Counts one more, and returns the number before.
+    pub fn add(&self) -> u64 {
+        self.0.fetch_add(1, Ordering::SeqCst)
+    }
+
+    pub fn get(&self) -> u64 {
+        self.0.load(Ordering::SeqCst)
+    }
+
+    /// Whether it reaches a number, within a limited number of spins.
+    pub fn reaches(&self, number: u64) -> bool {
+        for _ in 0..SPINS {
+            if self.get() >= number {
+                return true;
+            }
+        }
+        false
+    }
+
+    /// Waits until it reaches a number. If it doesn't, `failures` counts one more.
+    pub fn wait(&self, number: u64, failures: &Count) {
+        if !self.reaches(number) {
+            failures.add();
+        }
+    }
+}
+
+/// Counts its passes.
+#[derive(Drop)]
+pub struct CountingGate {
+    pub passes: Count,
+}
+
+impl CountingGate {
+    pub fn new() -> CountingGate {
+        CountingGate {
+            passes: Count::from(0),
+        }
+    }
+}
+
+impl Gate for CountingGate {
+    fn pass(&self, _worker: u32, _turn: u32) {
+        self.passes.add();
+    }
+}

@@ -1,0 +1,107 @@
+// Calls on the whole text as a name file or as the list of a batch, on the folder, and on names of files.
+use crate::reader::{Call, Reader};
+use crate::words::push_test;
+use batch_list::read_list;
+use name_file::{Names, Package, read_names};
+use outside::{
+    FILE_LIMIT, Folder, FolderError, Found, InputFault, MemFolder, Name, folder_name, good_name,
+    is_good_name, read_input,
+};
+use std::str;
+use test_lines::{Page, first_word, number_of};
+
+// The pairs in the order of the name file, of which there are at most ten.
+fn push_pairs(page: &mut Page, names: &Names) {
+    for place in 0..11 {
+        if let Some((package, name)) = names.pair_at(place) {
+            page.word(format_args!("{package:?} {name}"));
+        }
+    }
+}
+
+/// The pairs of a name file, the files of two of its packages, or the number of a batch's names and the names.
+pub fn push_of_names(
+    page: &mut Page,
+    reader: &Reader<'_>,
+    question: &str,
+) -> Result<(), InputFault> {
+    if question == "models" {
+        let names = read_list(page.alloc(), reader.file, reader.text)?;
+        page.word(names.len());
+        for name in &names {
+            page.word(name.as_str());
+        }
+        return Ok(());
+    }
+    let names = read_names(page.alloc(), reader.file, reader.text)?;
+    if question == "packages" {
+        push_pairs(page, &names);
+    } else {
+        page.word(names.file_of(Package::Bas).unwrap_or("none"));
+        page.word(names.file_of(Package::Wel).unwrap_or("none"));
+    }
+    Ok(())
+}
+
+/// A text after a blank, with its line feeds shown.
+pub fn push_shown(page: &mut Page, bytes: &[u8]) {
+    let text = str::from_utf8(bytes).unwrap_or("no text");
+    for (place, line) in text.split('\n').enumerate() {
+        page.text(if place == 0 { " " } else { "␊" });
+        page.text(line);
+    }
+}
+
+/// The text of a file, or why there is none.
+pub fn push_found(page: &mut Page, found: Result<Found, FolderError>) {
+    match found {
+        Ok(Found::Bytes(bytes)) => push_shown(page, bytes.as_slice()),
+        Ok(Found::Missing) => page.word("missing"),
+        Ok(Found::TooLong) => page.word("too long"),
+        Err(FolderError::Read) => page.word("read fault"),
+        Err(FolderError::Memory) => page.word("memory"),
+    }
+}
+
+// What a good name becomes.
+fn push_named(page: &mut Page, name: &str) -> Result<(), InputFault> {
+    let Some(name) = good_name(name.as_bytes()) else {
+        return Ok(page.word("no name"));
+    };
+    page.word(folder_name(page.alloc(), name)?);
+    page.word(Name::new(page.alloc(), name)?.as_str());
+    Ok(())
+}
+
+// A file of a model, if the name is a good one.
+fn push_input(page: &mut Page, folder: &mut MemFolder, name: &str) -> Result<(), InputFault> {
+    match good_name(name.as_bytes()) {
+        None => page.word("no name"),
+        Some(name) => {
+            let bytes = read_input(page.alloc(), folder, name)?;
+            push_shown(page, bytes.as_slice());
+        }
+    }
+    Ok(())
+}
+
+/// Calls on the folder, which reads at most so many bytes of a file, and on names.
+pub fn push_of_folder(
+    page: &mut Page,
+    folder: &mut MemFolder,
+    call: &Call<'_>,
+) -> Result<(), InputFault> {
+    let (name, limit) = first_word(call.rest);
+    folder.set_limit(number_of(limit));
+    let answer = match call.word {
+        "found" => {
+            let found = folder.read_file(page.alloc(), name);
+            Ok(push_found(page, found))
+        }
+        "input" => push_input(page, folder, name),
+        "named" => push_named(page, call.rest),
+        _ => Ok(push_test(page, is_good_name(call.rest.as_bytes()))),
+    };
+    folder.set_limit(FILE_LIMIT);
+    answer
+}
