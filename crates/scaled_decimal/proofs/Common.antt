@@ -14,6 +14,5 @@ pub use Rattle.decimal_input.proofs.SameNumbers.{Same-both, plus-comm}
 pub use Rattle.decimal_input.specs.Decimals.{down, scaled, up}
 pub use Rattle.decimal_input.specs.Ratios.{AtMost, Below, Ratio, Same, den, over, plus, ratio, times}
 pub use Rattle.scaled_decimal.specs.Cuts.{IsFrom, IsUpTo}
-pub use Rattle.scaled_decimal.specs.Monotone.{CeilingGrows, FloorGrows, GrowsDown, GrowsUp, QuotientGrowsDown, QuotientGrowsUp, UnitsGrowDown, UnitsGrowUp}
 pub use Rattle.scaled_decimal.specs.Nearest.{HasSize, IsDown, IsSd, IsUp, IsWithin, value}
 pub use Rattle.scaled_decimal.specs.declared.decimal.Sd.{Sd}

@@ -8,5 +8,4 @@ pub mod Products
 pub mod Quotients
 pub mod Sizes
 pub mod Sums
-pub mod UnitBounds
 pub mod Unique

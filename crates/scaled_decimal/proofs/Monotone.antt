@@ -1,34 +1,17 @@
-use Rattle.scaled_decimal.proofs.Common.{ℕ, ◌<◌, pos, neg_ℤ, Ratio, times, plus, over, AtMost, scaled, AtMost-trans, times-AtMost, plus-AtMost, over-AtMost}
-use Rattle.scaled_decimal.proofs.Common.{scaled-AtMost, Sd, value, IsDown, IsUp, GrowsDown, GrowsUp, QuotientGrowsDown, QuotientGrowsUp, UnitsGrowDown}
-use Rattle.scaled_decimal.proofs.Common.{UnitsGrowUp}
-use Rattle.scaled_decimal.proofs.Quotients.{positive_scaled}
+use Rattle.scaled_decimal.proofs.Common.{ℕ, ◌+◌, ◌*◌, ◌≤◌, ◌<◌, ◌^◌, arith, mul-le-mul_right, den, AtMost-trans, lt_right, le_cancel, lt_cancel}
+use Rattle.scaled_decimal.specs.Monotone.{RoundingsKeepOrder}
 
-IsDown-AtMost : {f g : Ratio} {q r : Sd} → IsDown q f → AtMost f g → IsDown r g → AtMost (value q) (value r)
-IsDown-AtMost {f} {g} {q} h le k = k.greatest q h.decimal (AtMost-trans h.at_most le)
+-- n ≤ a t / b, and m is the whole part of c t / d
+wholes_below : (n a b m c d t : ℕ) → 0 < b → n * b ≤ a * t → a * d ≤ c * b → c * t < (m + 1) * d → n < m + 1
+wholes_below n a b m c d t hb p q r = lt_cancel (b * d) n (m + 1) (omega (arith, mul-le-mul_right d p, mul-le-mul_right t q, lt_right b (c * t) ((m + 1) * d) hb r))
 
-IsUp-AtMost : {f g : Ratio} {q r : Sd} → IsUp q f → AtMost f g → IsUp r g → AtMost (value q) (value r)
-IsUp-AtMost {f} {g} {q} {r} h le k = h.least r k.decimal (AtMost-trans le k.at_least)
+wholes_above : (a b m c d t : ℕ) → 0 < d → a * d ≤ c * b → c * t ≤ m * d → a * t ≤ m * b
+wholes_above a b m c d t hd q r = le_cancel d (a * t) (m * b) hd (omega (arith, mul-le-mul_right t q, mul-le-mul_right b r))
 
-pub products_grow_down : (a b r : Sd) → IsDown r (times (value a) (value b)) → GrowsDown times a b r
-products_grow_down a b r k x y q p s h = IsDown-AtMost h (times-AtMost p s) k
-
-pub products_grow_up : (a b r : Sd) → IsUp r (times (value a) (value b)) → GrowsUp times a b r
-products_grow_up a b r k x y q p s h = IsUp-AtMost h (times-AtMost p s) k
-
-pub sums_grow_down : (a b r : Sd) → IsDown r (plus (value a) (value b)) → GrowsDown plus a b r
-sums_grow_down a b r k x y q p s h = IsDown-AtMost h (plus-AtMost p s) k
-
-pub sums_grow_up : (a b r : Sd) → IsUp r (plus (value a) (value b)) → GrowsUp plus a b r
-sums_grow_up a b r k x y q p s h = IsUp-AtMost h (plus-AtMost p s) k
-
-pub quotients_grow_down : (a b r : Sd) → 0 < b.m → IsDown r (over (value a) (value b)) → QuotientGrowsDown a b r
-quotients_grow_down a b r hb k x y q p s hy h = IsDown-AtMost h (over-AtMost (positive_scaled y.m y.e hy) (positive_scaled b.m b.e hb) p s) k
-
-pub quotients_grow_up : (a b r : Sd) → 0 < b.m → IsUp r (over (value a) (value b)) → QuotientGrowsUp a b r
-quotients_grow_up a b r hb k x y q p s hy h = IsUp-AtMost h (over-AtMost (positive_scaled y.m y.e hy) (positive_scaled b.m b.e hb) p s) k
-
-pub units_grow_down : (units places : ℕ) (r : Sd) → IsDown r (scaled units (neg_ℤ (pos places))) → UnitsGrowDown units places r
-units_grow_down units places r k n q le h = IsDown-AtMost h (scaled-AtMost n units (neg_ℤ (pos places)) le) k
-
-pub units_grow_up : (units places : ℕ) (r : Sd) → IsUp r (scaled units (neg_ℤ (pos places))) → UnitsGrowUp units places r
-units_grow_up units places r k n q le h = IsUp-AtMost h (scaled-AtMost n units (neg_ℤ (pos places)) le) k
+pub roundings_keep_order : RoundingsKeepOrder
+roundings_keep_order = record {
+  down = λ f g q r le h k. k.greatest q h.decimal (AtMost-trans h.at_most le);
+  up = λ f g q r le h k. h.least r k.decimal (AtMost-trans le k.at_least);
+  floors = λ f g n m s le p q. let below : n < m + 1 = wholes_below n f.num (den f) m g.num (den g) (10 ^ s) (omega arith) p.at_most le.cross q.next in omega arith;
+  ceilings = λ f g n m s le p q. p.least m (wholes_above f.num (den f) m g.num (den g) (10 ^ s) (omega arith) le.cross q.at_least);
+}

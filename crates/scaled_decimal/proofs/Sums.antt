@@ -1,4 +1,4 @@
-use Rattle.scaled_decimal.proofs.Common.{◌≡◌, ℕ, suc, ◌+◌, ◌*◌, ◌≤◌, ◌<◌, ◌^◌, ap, subst, ◌∙◌, arith, ℤ, pos, ◌+ℤ◌, mul-le-mul_right, Ratio, den, ratio, plus}
+use Rattle.scaled_decimal.proofs.Common.{◌≡◌, ℕ, suc, ◌+◌, ◌*◌, ◌≤◌, ◌<◌, ◌^◌, subst, arith, ℤ, pos, ◌+ℤ◌, mul-le-mul_right, Ratio, den, plus}
 use Rattle.scaled_decimal.proofs.Common.{AtMost, Below, Same, scaled, up, AtMost-trans, AtMost-refl, Below-AtMost, AtMost-Below, Same-AtMost, Same-back}
 use Rattle.scaled_decimal.proofs.Common.{Same-trans, plus-AtMost, num_plus, den_plus, Same-both, plus-comm, ten_pos, num_scaled, den_scaled, IsFrom, IsUpTo}
 use Rattle.scaled_decimal.proofs.Common.{lt_right}

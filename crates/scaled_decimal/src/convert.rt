@@ -5,7 +5,6 @@ ghost use Rattle.decimal_input.specs.Canonical.{IsDec, size};
 ghost use Rattle.decimal_input.specs.Decimals.{scaled};
 ghost use Rattle.decimal_input.specs.Ratios.{Same};
 ghost use Rattle.scaled_decimal.specs.Nearest.{IsSd, value, IsDown, IsUp, IsNear, HasSize, IsWithin};
-ghost use Rattle.scaled_decimal.specs.Monotone.{UnitsGrowDown, UnitsGrowUp};
 
 use crate::decimal::{LEAST, LIMIT, Sd, ZERO};
 use crate::power::behind_18_digits;
@@ -58,7 +57,6 @@ pub fn of_units_dn(units: u128, places: u16) -> Sd
     requires places { places ≤ 10000 }
     ensures nearest { IsDown result (scaled units (neg_ℤ (pos places))) }
     ensures exact { units < 10 ^ 18 → Same (value result) (scaled units (neg_ℤ (pos places))) }
-    ensures monotone { UnitsGrowDown units places result }
     ensures size { 0 < units → HasSize result (neg_ℤ (pos places) -ℤ pos 17) (neg_ℤ (pos places) +ℤ pos 22) }
     ensures exponent { IsWithin result.e (neg_ℤ (pos places) -ℤ pos 17) (neg_ℤ (pos places) +ℤ pos 22) }
 {
@@ -77,7 +75,6 @@ pub fn of_units_up(units: u128, places: u16) -> Sd
     requires places { places ≤ 10000 }
     ensures nearest { IsUp result (scaled units (neg_ℤ (pos places))) }
     ensures exact { units < 10 ^ 18 → Same (value result) (scaled units (neg_ℤ (pos places))) }
-    ensures monotone { UnitsGrowUp units places result }
     ensures size { 0 < units → HasSize result (neg_ℤ (pos places) -ℤ pos 17) (neg_ℤ (pos places) +ℤ pos 22) }
     ensures exponent { IsWithin result.e (neg_ℤ (pos places) -ℤ pos 17) (neg_ℤ (pos places) +ℤ pos 22) }
 {

@@ -3,6 +3,7 @@
 
 pub mod convert;
 pub mod decimal;
+pub mod laws;
 mod power;
 pub mod product;
 pub mod quotient;

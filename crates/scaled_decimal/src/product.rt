@@ -3,7 +3,6 @@
 ghost use Rattle.std.specs.Prelude.{◌<◌, pos, ◌+ℤ◌};
 ghost use Rattle.decimal_input.specs.Ratios.{times};
 ghost use Rattle.scaled_decimal.specs.Nearest.{IsSd, value, IsDown, IsUp, IsNear, HasSize, IsWithin};
-ghost use Rattle.scaled_decimal.specs.Monotone.{GrowsDown, GrowsUp};
 
 use crate::decimal::{Sd, ZERO};
 use crate::power::Power;
@@ -22,7 +21,6 @@ pub fn mul_dn(a: Sd, b: Sd) -> Sd
     requires a_near { IsNear a.e 10000 }
     requires b_near { IsNear b.e 10000 }
     ensures nearest { IsDown result (times (value a) (value b)) }
-    ensures monotone { GrowsDown times a b result }
     ensures size { 0 < a.m → 0 < b.m → HasSize result (a.e +ℤ b.e +ℤ pos 17) (a.e +ℤ b.e +ℤ pos 18) }
     ensures exponent { IsWithin result.e (a.e +ℤ b.e +ℤ pos 17) (a.e +ℤ b.e +ℤ pos 18) }
 {
@@ -41,7 +39,6 @@ pub fn mul_up(a: Sd, b: Sd) -> Sd
     requires a_near { IsNear a.e 10000 }
     requires b_near { IsNear b.e 10000 }
     ensures nearest { IsUp result (times (value a) (value b)) }
-    ensures monotone { GrowsUp times a b result }
     ensures size { 0 < a.m → 0 < b.m → HasSize result (a.e +ℤ b.e +ℤ pos 17) (a.e +ℤ b.e +ℤ pos 18) }
     ensures exponent { IsWithin result.e (a.e +ℤ b.e +ℤ pos 17) (a.e +ℤ b.e +ℤ pos 18) }
 {

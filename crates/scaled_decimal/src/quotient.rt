@@ -3,7 +3,6 @@
 ghost use Rattle.std.specs.Prelude.{◌<◌, pos, ◌-ℤ◌};
 ghost use Rattle.decimal_input.specs.Ratios.{over};
 ghost use Rattle.scaled_decimal.specs.Nearest.{IsSd, value, IsDown, IsUp, IsNear, HasSize, IsWithin};
-ghost use Rattle.scaled_decimal.specs.Monotone.{QuotientGrowsDown, QuotientGrowsUp};
 
 use crate::decimal::{LIMIT, Sd, ZERO};
 use crate::power::ONE;
@@ -17,7 +16,6 @@ pub fn div_dn(a: Sd, b: Sd) -> Sd
     requires b_near { IsNear b.e 10000 }
     requires divisor { 0 < b.m }
     ensures nearest { IsDown result (over (value a) (value b)) }
-    ensures monotone { QuotientGrowsDown a b result }
     ensures size { 0 < a.m → HasSize result (a.e -ℤ b.e -ℤ pos 18) (a.e -ℤ b.e -ℤ pos 17) }
     ensures exponent { IsWithin result.e (a.e -ℤ b.e -ℤ pos 18) (a.e -ℤ b.e -ℤ pos 17) }
 {
@@ -38,7 +36,6 @@ pub fn div_up(a: Sd, b: Sd) -> Sd
     requires b_near { IsNear b.e 10000 }
     requires divisor { 0 < b.m }
     ensures nearest { IsUp result (over (value a) (value b)) }
-    ensures monotone { QuotientGrowsUp a b result }
     ensures size { 0 < a.m → HasSize result (a.e -ℤ b.e -ℤ pos 18) (a.e -ℤ b.e -ℤ pos 17) }
     ensures exponent { IsWithin result.e (a.e -ℤ b.e -ℤ pos 18) (a.e -ℤ b.e -ℤ pos 17) }
 {

@@ -4,7 +4,6 @@ ghost use Rattle.std.specs.Prelude.{◌<◌, pos, ◌+ℤ◌, ◌≤ℤ◌};
 ghost use Rattle.std.specs.Int.{int_min, int_max};
 ghost use Rattle.decimal_input.specs.Ratios.{plus};
 ghost use Rattle.scaled_decimal.specs.Nearest.{IsSd, value, IsDown, IsUp, IsNear, HasSize, IsWithin};
-ghost use Rattle.scaled_decimal.specs.Monotone.{GrowsDown, GrowsUp};
 
 use crate::decimal::Sd;
 use crate::power::{TEN, power_of_ten};
@@ -61,7 +60,6 @@ pub fn add_dn(a: Sd, b: Sd) -> Sd
     requires a_near { IsNear a.e 10000 }
     requires b_near { IsNear b.e 10000 }
     ensures nearest { IsDown result (plus (value a) (value b)) }
-    ensures monotone { GrowsDown plus a b result }
     ensures size { 0 < a.m → 0 < b.m → HasSize result (int_max a.e b.e) (int_max a.e b.e +ℤ pos 1) }
     ensures exponent { IsWithin result.e (int_min a.e b.e) (int_max a.e b.e +ℤ pos 1) }
 {
@@ -83,7 +81,6 @@ pub fn add_up(a: Sd, b: Sd) -> Sd
     requires a_near { IsNear a.e 10000 }
     requires b_near { IsNear b.e 10000 }
     ensures nearest { IsUp result (plus (value a) (value b)) }
-    ensures monotone { GrowsUp plus a b result }
     ensures size { 0 < a.m → 0 < b.m → HasSize result (int_max a.e b.e) (int_max a.e b.e +ℤ pos 1) }
     ensures exponent { IsWithin result.e (int_min a.e b.e) (int_max a.e b.e +ℤ pos 1) }
 {

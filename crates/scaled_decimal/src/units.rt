@@ -3,7 +3,6 @@
 ghost use Rattle.std.specs.Prelude.{◌-◌, ◌^◌, ◌<◌, MatchOption};
 ghost use Rattle.scaled_decimal.specs.Nearest.{IsSd, value};
 ghost use Rattle.decimal_input.specs.Wholes.{IsFloor, IsCeiling, Reaches, Passes};
-ghost use Rattle.scaled_decimal.specs.Monotone.{FloorGrows, CeilingGrows};
 
 use crate::decimal::Sd;
 use decimal_input::whole::{whole_dn, whole_up};
@@ -12,7 +11,6 @@ use decimal_input::whole::{whole_dn, whole_up};
 pub fn floor_units(x: Sd, s: u32) -> Option<u128>
     requires decimal { IsSd x }
     ensures value { MatchOption result (Reaches (2 ^ 126) (value x) s) (λ n. IsFloor n (value x) s × (n < 2 ^ 126)) }
-    ensures monotone { FloorGrows x s result }
 {
     whole_dn(x.m, x.e, s)
 }
@@ -21,7 +19,6 @@ pub fn floor_units(x: Sd, s: u32) -> Option<u128>
 pub fn ceil_units(x: Sd, s: u32) -> Option<u128>
     requires decimal { IsSd x }
     ensures value { MatchOption result (Passes (2 ^ 126 - 1) (value x) s) (λ n. IsCeiling n (value x) s × (n < 2 ^ 126)) }
-    ensures monotone { CeilingGrows x s result }
 {
     whole_up(x.m, x.e, s)
 }

@@ -1,5 +1,4 @@
 use Rattle.scaled_decimal.proofs.Common.{pos, neg_ℤ, refl, arith, ints}
-use Rattle.scaled_decimal.proofs.Monotone.{units_grow_up}
 use Rattle.scaled_decimal.proofs.Nearest.{up_same}
 use Rattle.scaled_decimal.proofs.Products.{nothing, zero_up, nothing_same, exact_up_to_at}
 use Rattle.scaled_decimal.proofs.convert.of_units_up.Goals as goal
@@ -10,17 +9,8 @@ returns-then-units-eq0-clause-nearest c = zero_up _ _ refl refl (nothing c.args.
 pub returns-then-units-eq0-clause-exact : goal.returns-then-units-eq0-clause-exact
 returns-then-units-eq0-clause-exact c = λ _. nothing_same 0 c.args.units (pos 0) (neg_ℤ (pos c.args.places)) refl (omega arith)
 
-pub returns-then-units-eq0-clause-monotone : goal.returns-then-units-eq0-clause-monotone
-returns-then-units-eq0-clause-monotone c = units_grow_up c.args.units c.args.places _ (returns-then-units-eq0-clause-nearest c)
-
 pub returns-then-units-clause-nearest : goal.returns-then-units-clause-nearest
 returns-then-units-clause-nearest c = up_same c.padded.result c.args.units _ (neg_ℤ (pos c.args.places)) (omega (arith, ints)) c.padded.ensures.decimal c.padded.ensures.same
 
-pub returns-then-units-clause-monotone : goal.returns-then-units-clause-monotone
-returns-then-units-clause-monotone c = units_grow_up c.args.units c.args.places _ (returns-then-units-clause-nearest c)
-
 pub returns-else-units-clause-nearest : goal.returns-else-units-clause-nearest
 returns-else-units-clause-nearest c = c.round_up.ensures.nearest _ (exact_up_to_at _ c.args.units _ (neg_ℤ (pos c.args.places)) (omega arith) (omega (arith, ints)))
-
-pub returns-else-units-clause-monotone : goal.returns-else-units-clause-monotone
-returns-else-units-clause-monotone c = units_grow_up c.args.units c.args.places _ (returns-else-units-clause-nearest c)

@@ -1,5 +1,4 @@
 use Rattle.scaled_decimal.proofs.Common.{arith, subst, ints, clamps, IsUp, plus-comm}
-use Rattle.scaled_decimal.proofs.Monotone.{sums_grow_up}
 use Rattle.scaled_decimal.proofs.Nearest.{up_self}
 use Rattle.scaled_decimal.proofs.Sizes.{HasSize-wider, HasSize-within}
 use Rattle.scaled_decimal.proofs.Sums.{left_nothing, right_nothing, more_plus, more_plus_left}
@@ -8,26 +7,14 @@ use Rattle.scaled_decimal.proofs.sum.add_up.Goals as goal
 pub returns-then-a-eq0-clause-nearest : goal.returns-then-a-eq0-clause-nearest
 returns-then-a-eq0-clause-nearest c = up_self c.args.b _ c.requires.b_decimal (more_plus_left _ _) (left_nothing c.args.a.m c.args.b.m c.args.a.e c.args.b.e (omega arith))
 
-pub returns-then-a-eq0-clause-monotone : goal.returns-then-a-eq0-clause-monotone
-returns-then-a-eq0-clause-monotone c = sums_grow_up c.args.a c.args.b _ (returns-then-a-eq0-clause-nearest c)
-
 pub returns-then-b-eq0-clause-nearest : goal.returns-then-b-eq0-clause-nearest
 returns-then-b-eq0-clause-nearest c = up_self c.args.a _ c.requires.a_decimal (more_plus _ _) (right_nothing c.args.a.m c.args.b.m c.args.a.e c.args.b.e (omega arith))
-
-pub returns-then-b-eq0-clause-monotone : goal.returns-then-b-eq0-clause-monotone
-returns-then-b-eq0-clause-monotone c = sums_grow_up c.args.a c.args.b _ (returns-then-b-eq0-clause-nearest c)
-
-pub returns-then-a-b-clause-monotone : goal.returns-then-a-b-clause-monotone
-returns-then-a-b-clause-monotone c = sums_grow_up c.args.a c.args.b _ c.sum_up.ensures.nearest
 
 pub returns-then-a-b-clause-size : goal.returns-then-a-b-clause-size
 returns-then-a-b-clause-size c = λ pa pb. HasSize-wider _ _ _ _ _ (omega (arith, ints, clamps)) (omega (arith, ints, clamps)) c.sum_up.ensures.size
 
 pub returns-else-a-b-clause-nearest : goal.returns-else-a-b-clause-nearest
 returns-else-a-b-clause-nearest c = subst (IsUp c.sum_up-else-a-b.result) (plus-comm _ _) c.sum_up-else-a-b.ensures.nearest
-
-pub returns-else-a-b-clause-monotone : goal.returns-else-a-b-clause-monotone
-returns-else-a-b-clause-monotone c = sums_grow_up c.args.a c.args.b _ (returns-else-a-b-clause-nearest c)
 
 pub returns-else-a-b-clause-size : goal.returns-else-a-b-clause-size
 returns-else-a-b-clause-size c = λ pa pb. HasSize-wider _ _ _ _ _ (omega (arith, ints, clamps)) (omega (arith, ints, clamps)) c.sum_up-else-a-b.ensures.size
