@@ -2,6 +2,7 @@
 pub use Rattle.std.proofs.Common.{All, Bool, Err, FitsSigned, List, Ok, Option, Result, Some, [], add-one, ap, append_assoc, arith, cond, drop, drop-cons}
 pub use Rattle.std.proofs.Common.{false, get_or, inl, inr, length, map, neg_ℤ, negsuc, pos, refl, rules, slice_index, subst, suc, sym, take, true, unsigned_abs}
 pub use Rattle.std.proofs.Common.{zero, ℕ, ℤ, ◌%◌, ◌*◌, ◌++◌, ◌+ℤ◌, ◌+◌, ◌-ℤ◌, ◌/◌, ◌<ℤ◌, ◌<◌, ◌^◌, ◌∙◌, ◌∷◌, ◌≡◌, ◌≤ℤ◌, ◌≤◌, ◌⊎◌}
+pub use Rattle.std.proofs.lemmas.Bool.{and_parts, cases_order}
 pub use Rattle.std.proofs.lemmas.Bool.Decides.{nat_tests}
 pub use Rattle.std.proofs.lemmas.Int.{clamps, ints, to_z-of_z}
 pub use Rattle.std.proofs.lemmas.List.{append-nil, drop_all}

@@ -3,7 +3,7 @@ use Rattle.zone_flows.proofs.Common.{◌≡◌, ℕ, suc, ◌/◌, ◌%◌, ◌<
 use Rattle.zone_flows.proofs.Common.{Result, Ok, Err, Contains, if◌then◌else◌, All-cons, All-nil, NoBound, ZoneFlow, ◌>>=◌, ZoneSum, Face, is_below_limit}
 use Rattle.zone_flows.proofs.Common.{zone_flow, too_large, listed_flows, IsBeforeAll, PairsAscend, ShareFace, IsBelowLimit, IsZoneFlow, AreZoneFlows}
 use Rattle.zone_flows.proofs.Common.{IsFirstTooLarge, Table, key_of, with_faces}
-use Rattle.zone_flows.proofs.Keys.{Above, KeysAscend, IsEntry, above_entry, HasKey, table_ascends}
+use Rattle.zone_flows.proofs.Keys.{Above, KeysAscend, IsEntry, entry_has, HasKey, table_ascends}
 use Rattle.zone_flows.proofs.Pairing.{FacesFit, key_div, key_mod, key_before, before_key, IsSumOf, entry_is, shared_has, small_true, true_small, flow_of, flow_is}
 use Rattle.step_problem.specs.declared.place.Place.TheVariants as places
 
@@ -87,8 +87,8 @@ module _ (fs : List Face) (fit : FacesFit fs) where
   before_all k v (e ∷ t) [] p a h all = absurd h
   before_all k v (e ∷ t) (w ∷ vs) p a h all =
       let q = has_pair e w (all e (inl refl)) h.0 h.1 in
-      let less : key_of v.from v.to < key_of w.from w.to = omega (arith, p.key, q.key, a.0) in
-      (key_before v.from v.to w.from w.to p.fits q.fits less, before_all k v t vs p a.1 h.2 (later e t all))
+      let less : key_of v.from v.to < key_of w.from w.to = (let l = a e.0 (inl refl) in omega (arith, p.key, q.key, l)) in
+      (key_before v.from v.to w.from w.to p.fits q.fits less, before_all k v t vs p (λ r i. a r (inr i)) h.2 (later e t all))
 
   ascend : (t : Table) (vs : List ZoneFlow) → KeysAscend t → Lists t vs → AreSums t → PairsAscend vs
   ascend [] [] a h all = tt
@@ -134,7 +134,7 @@ module _ (fs : List Face) (fit : FacesFit fs) where
 
   first_here : (e : ℕ × ZoneSum) (t : Table) → KeysAscend (e ∷ t) → (d : ℕ × ZoneSum) → IsEntry d (e ∷ t) → d.0 < e.0 → is_below_limit d.1 ≡ true
   first_here e t a d (inl i) l = absurd (let k = ap (λ (x : ℕ × ZoneSum). x.0) i in omega (arith, k, l))
-  first_here e t a d (inr i) l = absurd (let k = above_entry e.0 d t a.0 i in omega (arith, k, l))
+  first_here e t a d (inr i) l = absurd (let k = a.0 d.0 (entry_has d t i) in omega (arith, k, l))
 
   first_later : (e d : ℕ × ZoneSum) (t : Table) (k : ℕ) → is_below_limit e.1 ≡ true → ((c : ℕ × ZoneSum) → IsEntry c t → c.0 < k → is_below_limit c.1 ≡ true) → IsEntry d (e ∷ t) → d.0 < k → is_below_limit d.1 ≡ true
   first_later e d t k s f (inl i) l = subst (λ (x : ℕ × ZoneSum). is_below_limit x.1 ≡ true) (sym i) s

@@ -1,13 +1,12 @@
 -- What a table of sums has for each pair of zones, by the faces.
-use Rattle.zone_flows.proofs.Common.{◌≡◌, ℕ, zero, suc, ◌/◌, ◌%◌, ◌<◌, ◌≤◌, ◌⊎◌, inl, inr, Bool, true, false, cond, refl, sym, ap, ◌∙◌, subst, arith, List, []}
-use Rattle.zone_flows.proofs.Common.{◌∷◌, length, map, ℤ, pos, ◌+ℤ◌, ◌-ℤ◌, ◌≤ℤ◌, ◌<ℤ◌, Contains, filter, nat_tests, ints, is_at, nat_cmp, In, Out, ZoneFlow}
-use Rattle.zone_flows.proofs.Common.{total, TermPair, IsSum, capped, plus_pair, parts, term_limit, parts_lo, parts_hi, ZoneSum, Face, is_between, flows_between}
+use Rattle.zone_flows.proofs.Common.{◌≡◌, ℕ, zero, suc, ◌/◌, ◌%◌, ◌<◌, ◌≤◌, inl, inr, Bool, true, false, cond, refl, sym, ap, ◌∙◌, subst, arith, List, [], ◌∷◌}
+use Rattle.zone_flows.proofs.Common.{length, map, ℤ, pos, ◌+ℤ◌, ◌-ℤ◌, ◌≤ℤ◌, ◌<ℤ◌, Contains, filter, nat_tests, ints, is_at, nat_cmp, In, Out, ZoneFlow, total}
+use Rattle.zone_flows.proofs.Common.{TermPair, IsSum, capped, plus_pair, parts, term_limit, parts_lo, parts_hi, ZoneSum, Face, is_between, flows_between}
 use Rattle.zone_flows.proofs.Common.{is_below_limit, zone_flow, IsBefore, ShareFace, IsBelowLimit, IsZoneSum, key_of, faces_keyed, no_pair, no_flows}
-use Rattle.zone_flows.proofs.Common.{plus_flows, sum_at, with_faces}
+use Rattle.zone_flows.proofs.Common.{plus_flows, sum_at, with_faces, and_parts}
 use Rattle.std.specs.Int.Signed.{lt_z}
 use Rattle.zone_flows.proofs.Sums.{table_sums, flows_are_parts, net_lo, net_hi, magnitudes_lo, magnitudes_hi, together_below, below_together, is_whole}
-use Rattle.zone_flows.proofs.Keys.{IsEntry, HasKey, HasKeyed, table_ascends, table_has, table_from, entry_has, entry_sum}
-use Rattle.std.proofs.lemmas.Bool.{and_parts}
+use Rattle.zone_flows.proofs.Keys.{IsEntry, HasKey, HasKeyed, table_ascends, table_into, table_from, entry_has, entry_sum}
 
 -- the two zones of a face are below 1000
 pub record FaceFits (f : Face) : Type 0 where
@@ -94,13 +93,9 @@ keyed_face q [] h = absurd h
 keyed_face q (f ∷ fs) (inl i) = (f, (0, omega arith, refl), i)
 keyed_face q (f ∷ fs) (inr i) = let r = keyed_face q fs i in let l = r.1.1 in (r.0, (suc r.1.0, omega (arith, l), r.1.2), r.2)
 
-or_none : (q : ℕ) (fs : List Face) → HasKeyed q fs ⊎ HasKey q [] → HasKeyed q fs
-or_none q fs (inl i) = i
-or_none q fs (inr i) = absurd i
-
 pub entry_is : (fs : List Face) → FacesFit fs → (e : ℕ × ZoneSum) → IsEntry e (with_faces [] fs) → IsSumOf fs e
 entry_is fs fit e i =
-    let r = keyed_face e.0 fs (or_none e.0 fs (table_from e.0 [] fs (entry_has e (with_faces [] fs) i))) in
+    let r = keyed_face e.0 fs (elim (table_from e.0 [] fs (entry_has e (with_faces [] fs) i)) [ inl k ↦ k | inr k ↦ absurd k ]) in
     let f : Face = r.0 in
     let ok = fit f r.1 in
     let value : sum_at (with_faces [] fs) e.0 ≡ e.1 = entry_sum e (with_faces [] fs) (table_ascends [] fs tt) i in
@@ -123,7 +118,7 @@ contains_keyed q (g ∷ fs) k f h e (suc j, l, is) = inr (contains_keyed q fs j 
 pub shared_has : (fs : List Face) (a b : ℕ) → ShareFace fs a b → HasKey (key_of a b) (with_faces [] fs)
 shared_has fs a b h =
     let e : key_of h.face.from h.face.to ≡ key_of a b = rw (h.from, h.to) refl in
-    table_has (key_of a b) [] fs (contains_keyed (key_of a b) fs h.stands.0 h.face h.stands.1 e h.stands)
+    table_into (key_of a b) [] fs (inl (contains_keyed (key_of a b) fs h.stands.0 h.face h.stands.1 e h.stands))
 
 true_lt : (x l : ℤ) → x <ℤ l → lt_z x l ≡ true
 true_lt x l h = tested (lt_z x l) refl

@@ -1,6 +1,6 @@
 -- A step has one list of flows between zones, or one refusal.
-use Rattle.zone_flows.proofs.Common.{◌≡◌, ℕ, zero, suc, ◌<◌, ◌⊎◌, inl, inr, refl, sym, ap, ◌∙◌, subst, arith, List, [], ◌∷◌, Contains, All-contains, ZoneFlow}
-use Rattle.zone_flows.proofs.Common.{Face, IsBefore, IsBeforeAll, PairsAscend, IsBelowLimit, IsZoneFlow, AreZoneFlows}
+use Rattle.zone_flows.proofs.Common.{cases_order, ◌≡◌, ℕ, zero, suc, ◌⊎◌, inl, inr, refl, sym, ◌∙◌, subst, arith, List, [], ◌∷◌, Contains, All-contains}
+use Rattle.zone_flows.proofs.Common.{ZoneFlow, Face, IsBefore, IsBeforeAll, PairsAscend, IsBelowLimit, IsZoneFlow, AreZoneFlows}
 use Rattle.zone_flows.specs.Laws.{FlowsAreOne, FlowsExcludeRefusal, RefusalIsOne}
 use Rattle.zone_flows.proofs.Pairing.{flow_of}
 
@@ -10,25 +10,12 @@ never_both a b c d (inl h) (inr k) = let e = k.0 in omega (arith, h, e)
 never_both a b c d (inr h) (inl k) = let e = h.0 in omega (arith, e, k)
 never_both a b c d (inr h) (inr k) = let i = h.1 in let j = k.1 in omega (arith, i, j)
 
-order : (a c : ℕ) → (a < c) ⊎ ((a ≡ c) ⊎ (c < a))
-order zero zero = inr (inl refl)
-order zero (suc c) = inl (omega arith)
-order (suc a) zero = inr (inr (omega arith))
-order (suc a) (suc c) = elim (order a c) [
-  | inl h ↦ inl (omega (arith, h))
-  | inr (inl h) ↦ inr (inl (ap suc h))
-  | inr (inr h) ↦ inr (inr (omega (arith, h)))
+by_first : (a b c d : ℕ) → IsBefore a b c d ⊎ (IsBefore c d a b ⊎ ((a ≡ c) × (b ≡ d)))
+by_first a b c d = elim (cases_order a c) [
+  | inl e ↦ elim (cases_order b d) [ inl f ↦ inr (inr (e, f)) | inr (inl l) ↦ inl (inr (e, l)) | inr (inr l) ↦ inr (inl (inr (sym e, l))) ]
+  | inr (inl l) ↦ inl (inl l)
+  | inr (inr l) ↦ inr (inl (inl l))
 ]
-
-same_first : (a b c d : ℕ) → a ≡ c → (b < d) ⊎ ((b ≡ d) ⊎ (d < b)) → IsBefore a b c d ⊎ (IsBefore c d a b ⊎ ((a ≡ c) × (b ≡ d)))
-same_first a b c d e (inl h) = inl (inr (e, h))
-same_first a b c d e (inr (inl h)) = inr (inr (e, h))
-same_first a b c d e (inr (inr h)) = inr (inl (inr (sym e, h)))
-
-by_first : (a b c d : ℕ) → (a < c) ⊎ ((a ≡ c) ⊎ (c < a)) → IsBefore a b c d ⊎ (IsBefore c d a b ⊎ ((a ≡ c) × (b ≡ d)))
-by_first a b c d (inl h) = inl (inl h)
-by_first a b c d (inr (inl h)) = same_first a b c d h (order b d)
-by_first a b c d (inr (inr h)) = inr (inl (inl h))
 
 before_in : (v : ZoneFlow) (ws : List ZoneFlow) (w : ZoneFlow) → IsBeforeAll v ws → Contains ws w → IsBefore v.from v.to w.from w.to
 before_in v [] w h (k, l, e) = absurd (omega (arith, l))
@@ -91,7 +78,7 @@ flows_exclude_refusal fs vs n a r =
     r.large (subst (λ (x : ℕ). IsBelowLimit fs x r.to) i.2 (subst (λ (y : ℕ). IsBelowLimit fs (i.0).from y) i.3 h.small))
 
 pub refusal_is_one : RefusalIsOne
-refusal_is_one fs a b r s = elim (by_first r.from r.to s.from s.to (order r.from s.from)) [
+refusal_is_one fs a b r s = elim (by_first r.from r.to s.from s.to) [
   | inl h ↦ absurd (r.large (s.first r.from r.to r.shared h))
   | inr (inl h) ↦ absurd (s.large (r.first s.from s.to s.shared h))
   | inr (inr h) ↦ r.is ∙ rw (h.0, h.1) (sym s.is)
