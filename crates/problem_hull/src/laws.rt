@@ -19,12 +19,8 @@ pub fn hull_of_one()
     ensures { HullOfOne }
 {}
 
-/// Two problems whose hull is a problem have no refusal.
-pub fn hull_excludes_refusal()
-    ensures { HullExcludesRefusal }
-{}
-
-/// Two problems have at most one refusal.
-pub fn refusal_is_one()
-    ensures { RefusalIsOne }
+/// Two problems whose hull is a problem have no refusal, and others at most one.
+pub fn one_refusal_without_a_hull()
+    ensures excludes { HullExcludesRefusal }
+    ensures one { RefusalIsOne }
 {}
