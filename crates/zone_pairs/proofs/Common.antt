@@ -7,7 +7,7 @@ pub use Rattle.std.proofs.lemmas.List.Elements.{All-nil, All-weaker, filter_pass
 pub use Rattle.std.specs.List.{AllByRecursion, list_any, range_with_len}
 pub use Rattle.std.specs.Ordering.{nat_cmp}
 pub use Rattle.model_types.specs.Faces.{faces}
-pub use Rattle.model_types.specs.Kinds.{given_heads, is_constant, is_variable, variable_cells}
+pub use Rattle.model_types.specs.Kinds.{given_heads, is_variable, variable_cells}
 unfoldable pub use Rattle.model_types.specs.Kinds.{variable_below}
 pub use Rattle.model_types.specs.declared.model.FlowModel.{FlowModel}
 pub use Rattle.zone_pairs.specs.Keys.{Gains, pair_of}

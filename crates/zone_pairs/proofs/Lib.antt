@@ -1,5 +1,4 @@
 mod Common
-pub mod CellKinds
 pub mod Gains
 pub mod InOrder
 pub mod Joined

@@ -1,9 +1,10 @@
 // The pairs of zones of a stress period.
-ghost use Rattle.std.specs.Prelude.{◌≡◌, IfOk, OnOk, map};
+ghost use Rattle.std.specs.Prelude.{◌≡◌, ◌<◌, IfOk, OnOk, map};
 ghost use Rattle.std.specs.BTreeSet.{IsOrdered};
 ghost use Rattle.std.specs.Ordering.{nat_cmp};
+ghost use Rattle.model_types.specs.Cells.{cell_count};
 ghost use Rattle.model_types.specs.Grids.{HasSize};
-ghost use Rattle.model_types.specs.Kinds.{given_heads};
+ghost use Rattle.model_types.specs.Kinds.{given_heads, is_variable};
 ghost use Rattle.zone_pairs.specs.Keys.{Gains, pair_of};
 ghost use Rattle.zone_pairs.specs.Pairs.{share_face, zone_pairs};
 ghost use Rattle.zone_pairs.specs.Zones.{AreZonesOf};
@@ -13,6 +14,18 @@ use crate::pair::ZonePair;
 use model_types::{FlowModel, GivenHeads, Kind};
 use std::alloc::{AllocError, Global};
 use std::collections::BTreeSet;
+
+fn is_variable(model: &FlowModel, given: &GivenHeads, cell: u32) -> bool
+    requires given { given.now ≡ given_heads model.now given.now.period }
+    requires cell { cell < cell_count model.now.grid }
+    ensures { result ≡ is_variable model.now given.now.period cell }
+{
+    match given.kind(model, cell) {
+        Kind::Variable => true,
+        Kind::Constant => false,
+        Kind::NoFlow => false,
+    }
+}
 
 fn add_cells(
     keys: &mut BTreeSet<u32>,
@@ -26,10 +39,8 @@ fn add_cells(
     ensures { OnOk result (Gains keys.old keys.new (share_face model.now zones.now given.now.period)) }
 {
     for cell in 0..model.grid.cell_count() {
-        match given.kind(model, cell) {
-            Kind::Variable => add_cell(keys, model, zones, cell)?,
-            Kind::Constant => {}
-            Kind::NoFlow => {}
+        if is_variable(model, given, cell) {
+            add_cell(keys, model, zones, cell)?;
         }
     }
     Ok(())

@@ -1,8 +1,7 @@
-use Rattle.zone_pairs.proofs.Common.{◌≡◌, ℕ, Bool, ap, arith, list_any, faces, is_constant, is_variable, share_face, variable_below, joins_by, ZonePair}
+use Rattle.zone_pairs.proofs.Common.{◌≡◌, ◌∙◌, ℕ, Bool, ap, sym, arith, list_any, faces, share_face, variable_below, joins_by, ZonePair}
 use Rattle.model_types.specs.Cells.{cell_count}
-use Rattle.zone_pairs.proofs.CellKinds.{when_constant, when_none, when_variable}
 use Rattle.zone_pairs.proofs.Gains.{gains_cell, gains_no_cell, gains_nothing, gains_same}
-use Rattle.zone_pairs.proofs.pairs.add_cells.Goals.{in-Variable+in_ok-add_cell-in-Variable, in-Constant, in-NoFlow}
+use Rattle.zone_pairs.proofs.pairs.add_cells.Goals.{then-is_variable+in_ok-add_cell, else-is_variable}
 use Rattle.zone_pairs.proofs.pairs.add_cells.Goals as goal
 
 pub loop-cell-init : goal.loop-cell-init
@@ -15,10 +14,9 @@ loop-cell-preserved c =
     let p = c.args.given.now.period in
     let x = c.loop-cell.cell in
     let has_face : ZonePair → ℕ → Bool = λ z cell. list_any (joins_by m c.args.zones.now z cell) (faces m.grid cell) in
-    elim c.match-kind.branch [
-      | in-Variable+in_ok-add_cell-in-Variable w ↦ rw w.keys-is (gains_cell m p c.args.keys.now c.loop-cell.keys has_face x c.loop-cell.invariant _ (when_variable c.kind.result (is_variable m p x) (is_constant m p x) c.kind.ensures w.in-Variable.is) w.in_ok-add_cell-in-Variable.ensures)
-      | in-Constant w ↦ rw w.keys-is (gains_no_cell m p c.args.keys.now c.loop-cell.keys has_face x c.loop-cell.invariant (when_constant c.kind.result (is_variable m p x) (is_constant m p x) c.kind.ensures w.in-Constant.is).0)
-      | in-NoFlow w ↦ rw w.keys-is (gains_no_cell m p c.args.keys.now c.loop-cell.keys has_face x c.loop-cell.invariant (when_none c.kind.result (is_variable m p x) (is_constant m p x) c.kind.ensures w.in-NoFlow.is).0)
+    elim c.if-is_variable.branch [
+      | then-is_variable+in_ok-add_cell w ↦ rw w.keys-is (gains_cell m p c.args.keys.now c.loop-cell.keys has_face x c.loop-cell.invariant _ (sym c.is_variable.ensures ∙ w.if-is_variable.true) w.in_ok-add_cell.ensures)
+      | else-is_variable w ↦ rw w.keys-is (gains_no_cell m p c.args.keys.now c.loop-cell.keys has_face x c.loop-cell.invariant (sym c.is_variable.ensures ∙ w.if-is_variable.false))
     ]
 
 pub returns : goal.returns
