@@ -9,7 +9,7 @@ use Rattle.step_problem.specs.declared.place.Term.TheVariants.{Storage, Et}
 use Rattle.cell_balance.specs.Components.{sum_below}
 use Rattle.budget_bounds.specs.Singles.{singles}
 use Rattle.budget_bounds.proofs.Caps.{parts_lo, parts_hi}
-use Rattle.problem_builder.proofs.ActiveCells.{and_true}
+use Rattle.std.proofs.lemmas.Bool.{and_parts}
 use Rattle.listing_io.proofs.Each.{same_ok, goes, clash}
 
 -- what goes on was not refused
@@ -78,7 +78,7 @@ module _ (p : List Entries) (l u : ℕ → ℤ) where
 
   flow_is : (dir : Dir) (t : Term) (x : TermPair) → IsTermOf dir t x → IsFlowPair x
   flow_is dir t x h =
-      let (lo, hi) = and_true (lt_z x.lo term_limit) (lt_z x.hi term_limit) h.small in
+      let (lo, hi) = and_parts (lt_z x.lo term_limit) (lt_z x.hi term_limit) h.small in
       let N : TermPair → Type 0 = λ y. (pos 0 ≤ℤ y.lo) × (pos 0 ≤ℤ y.hi) in
       let none : N x = subst N (sym h.is) (lo_none dir t, hi_none dir t) in
       record { lo = small_flow x.lo none.0 lo; hi = small_flow x.hi none.1 hi }

@@ -21,6 +21,12 @@ none_between x = let e : x -ℤ x ≡ pos 0 = omega (arith, ints) in ap unsigned
 pub no_gap : (f g : Fraction) → f ≡ g → (gap g f).num ≡ 0
 no_gap f g e = ap (λ h. (gap g h).num) e ∙ none_between (g.num *ℤ pos (suc g.less))
 
+-- two layers have a vertical conductivity
+pub layered : (layers size a : ℕ) → a + size < layers * size → 1 < layers
+layered zero size a h = absurd (omega (arith, h))
+layered (suc zero) size a h = absurd (omega (arith, h))
+layered (suc (suc k)) size a h = omega arith
+
 module _ (m : FlowModel) (thick bed : ℕ → Span) where
   pub row_face : (a s lo hi : ℕ) → IsReady m thick a → IsReady m thick (a + stride m.grid Row) → IsPair (face_term m thick bed Row a) s lo hi → Encloses lo hi s (conductance m Row a)
   unfolding row_conductance
@@ -43,15 +49,6 @@ module _ (m : FlowModel) (thick bed : ℕ → Span) where
       ((bed_thickness m a).num == 0) (thick a).lo (thick a).hi (thick (a + stride m.grid Vertical)).lo (thick (a + stride m.grid Vertical)).hi (bed a).lo (bed a).hi s lo hi
       (layer_half a p va) (layer_half (a + stride m.grid Vertical) q vb) bedded pair
 
-  -- two layers have a vertical conductivity
-  layered : (a : ℕ) → a + layer_size m.grid < cell_count m.grid → 1 < m.grid.layers
-  layered a lt = by_layers m.grid.layers lt
-    where
-      by_layers : (k : ℕ) → a + layer_size m.grid < k * layer_size m.grid → 1 < k
-      by_layers zero h = absurd (omega (arith, h))
-      by_layers (suc zero) h = absurd (omega (arith, h))
-      by_layers (suc (suc k)) h = omega arith
-
   bedded_at : IsModel m → AreSpanned m thick bed → (a : ℕ) → a + layer_size m.grid < cell_count m.grid → is_active m a ≡ true → is_active m (a + layer_size m.grid) ≡ true → IsBedded ((bed_thickness m a).num == 0) (bed_thickness m a) (size (vkcb_at m a)) (bed a).lo (bed a).hi
   bedded_at valid spans a lt x y = elim (cases_Bool (has_bed m a)) [
     | inl e ↦ (elim (valid.beds a lt x y e) [
@@ -68,5 +65,5 @@ module _ (m : FlowModel) (thick bed : ℕ → Span) where
   faces_enclose valid spans Column a s lo hi lt x y pair = column_face a s lo hi (is_ready m thick a valid (omega (arith, lt)) x (spans.cells a (omega (arith, lt)) x)) (is_ready m thick (a + m.grid.cols) valid lt y (spans.cells (a + m.grid.cols) lt y)) pair
   faces_enclose valid spans Vertical a s lo hi lt x y pair =
       vertical_face a s lo hi (is_ready m thick a valid (omega (arith, lt)) x (spans.cells a (omega (arith, lt)) x)) (is_ready m thick (a + layer_size m.grid) valid lt y (spans.cells (a + layer_size m.grid) lt y))
-      (size_positive (vka_at m a) ((valid.cells a (omega (arith, lt)) x).vka (layered a lt))) (size_positive (vka_at m (a + layer_size m.grid)) ((valid.cells (a + layer_size m.grid) lt y).vka (layered a lt)))
+      (size_positive (vka_at m a) ((valid.cells a (omega (arith, lt)) x).vka (layered m.grid.layers (layer_size m.grid) a lt))) (size_positive (vka_at m (a + layer_size m.grid)) ((valid.cells (a + layer_size m.grid) lt y).vka (layered m.grid.layers (layer_size m.grid) a lt)))
       (bedded_at valid spans a lt x y) pair

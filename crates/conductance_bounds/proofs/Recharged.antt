@@ -1,7 +1,8 @@
 -- The pair of a recharge contains it, whatever its sign.
 use Rattle.conductance_bounds.proofs.Common.{◌≡◌, ℕ, suc, ◌+◌, ◌*◌, ◌≤◌, ◌^◌, Bool, true, false, Option, Some, None, arith, ap, ◌∙◌, sym, subst, ℤ, pos, neg_ℤ}
 use Rattle.conductance_bounds.proofs.Common.{◌*ℤ◌, IfSome, ints, Dec, size, Ratio, den, times, Same, Fraction, signed, with_sign, Encloses, EnclosesSigned}
-use Rattle.conductance_bounds.proofs.Common.{num_times, den_times, Same-sym, neg_times, recharge_formula, recharge_exact, IsFlow, IsFlowPair, low_end, high_end}
+use Rattle.conductance_bounds.proofs.Common.{Number, number, num_times, den_times, Same-sym, neg_times, recharge_formula, recharge_exact, IsFlow, IsFlowPair}
+use Rattle.conductance_bounds.proofs.Common.{low_end, high_end}
 use Rattle.decimal_input.specs.Fractions.{den as denominator, times as product}
 use Rattle.conductance_bounds.specs.declared.pair.FlowPair.{FlowPair}
 use Rattle.conductance_bounds.proofs.Enclosing.{pair_encloses, Encloses-same}
@@ -54,3 +55,14 @@ flow_encloses rate r d s lo hi k =
 pub recharge_encloses : (rate delr delc : Dec) (s : ℕ) (r : Option FlowPair) → IsFlowPair (recharge_formula (size rate) (size delr) (size delc)) rate.neg s r → IfSome r (λ p. EnclosesSigned p.lo p.hi s (recharge_exact rate delr delc))
 recharge_encloses rate delr delc s None h = tt
 recharge_encloses rate delr delc s (Some p) h = flow_encloses rate (size delr) (size delc) s p.lo p.hi h.0
+
+-- the bounds of a flow of the input
+signed_encloses : (neg : Bool) (r : Ratio) (l h s : ℕ) → Encloses l h s r → EnclosesSigned (low_end neg l h) (high_end neg l h) s (record { num = with_sign neg r.num; less = r.less })
+signed_encloses false r l h s k = record { lower = omega (arith, ints, k.lower); upper = omega (arith, ints, k.upper) }
+signed_encloses true r l h s k = record {
+  lower = omega (arith, ints, k.upper, neg_times (pos h) (pos (den r)), neg_times (pos r.num) (pos (10 ^ s)));
+  upper = omega (arith, ints, k.lower, neg_times (pos l) (pos (den r)), neg_times (pos r.num) (pos (10 ^ s)));
+}
+
+pub number_encloses : (q : Dec) (s : ℕ) (lo hi : ℤ) → IsFlow (Number (size q)) q.neg s lo hi → EnclosesSigned lo hi s (number q)
+number_encloses q s lo hi k = rw (k.lower, k.upper) (signed_encloses q.neg (size q) k.least k.most s (pair_encloses _ s k.least k.most tt k.pair))

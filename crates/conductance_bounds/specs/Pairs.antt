@@ -57,3 +57,12 @@ pub record IsStandIn (t : Term) (s lo hi : ℕ) : Type 0 where
 
 abbrev pub IsCapped : Term → ℕ → ℕ → ℕ → Type 0
 IsCapped t s lo hi = (IsPair t s lo hi × (hi < 2 ^ 60)) ⊎ IsStandIn t s lo hi
+
+-- a flow with a magnitude that reaches 2 ^ 126 is kept as 2 ^ 109, so that the sum of its cell reaches the limit
+pub record IsFlowStandIn (t : Term) (s : ℕ) (lo hi : ℤ) : Type 0 where
+  pub past : IsPast t (2 ^ 126 - 1) s
+  pub lower : lo ≡ pos (2 ^ 109)
+  pub upper : hi ≡ pos (2 ^ 109)
+
+abbrev pub IsCappedFlow : Term → Bool → ℕ → ℤ → ℤ → Type 0
+IsCappedFlow t neg s lo hi = (IsFlow t neg s lo hi × (unsigned_abs lo < 2 ^ 126) × (unsigned_abs hi < 2 ^ 126)) ⊎ IsFlowStandIn t s lo hi

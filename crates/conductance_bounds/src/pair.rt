@@ -1,9 +1,14 @@
 // Two whole bounds.
+ghost use Rattle.decimal_input.specs.Canonical.{size};
+ghost use Rattle.model_types.specs.Numbers.{IsNotNegative};
 ghost use Rattle.conductance_bounds.specs.Terms.{Term};
+ghost use Rattle.conductance_bounds.specs.Terms.Term.{Number};
 ghost use Rattle.conductance_bounds.specs.Pairs.{IsWholePair};
 ghost use Rattle.conductance_bounds.specs.Intervals.{IsOrdered, AreBounds};
 
+use crate::interval::exactly;
 use crate::span::Span;
+use decimal_input::dec::Dec;
 use scaled_decimal::{ceil_units, floor_units};
 
 /// A lower and an upper bound of a conductance, in units of 10 ^ -s.
@@ -42,4 +47,12 @@ pub(crate) fn rounded_pair(x: Span, s: u32) -> Option<Pair>
     } else {
         None
     }
+}
+
+/// The bounds of a conductance of the input, in units of 10 ^ -s; None where the upper one is 2 ^ 60 or more.
+pub fn number_pair(conductance: Dec, s: u32) -> Option<Pair>
+    requires { IsNotNegative conductance }
+    ensures { IsWholePair (Number (size conductance)) s result }
+{
+    rounded_pair(exactly(conductance), s)
 }

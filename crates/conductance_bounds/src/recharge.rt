@@ -1,10 +1,11 @@
-// Recharge over a cell's area.
+// Recharge over a cell's area, and flows of the input.
 ghost use Rattle.std.specs.Prelude.{◌≡◌, ◌+◌, ◌<◌, ◌≤◌, ◌^◌, pos, neg_ℤ, IfSome};
 ghost use Rattle.decimal_input.specs.Canonical.{IsDec, size};
 ghost use Rattle.decimal_input.specs.Enclosures.{EnclosesSigned};
 ghost use Rattle.model_types.specs.Numbers.{IsPositive};
 ghost use Rattle.conductance_bounds.specs.Terms.{Term};
-ghost use Rattle.conductance_bounds.specs.Intervals.{IsOrdered, AreBounds};
+ghost use Rattle.conductance_bounds.specs.Terms.Term.{Number};
+ghost use Rattle.conductance_bounds.specs.Intervals.{IsOrdered, reach, AreBounds};
 ghost use Rattle.conductance_bounds.specs.Branches.{recharge_formula, recharge_exact};
 ghost use Rattle.conductance_bounds.specs.Pairs.{IsFlowPair};
 
@@ -24,10 +25,28 @@ pub fn recharge_flow(rech: Dec, delr: Dec, delc: Dec, s: u32) -> Option<FlowPair
     ensures rounded { IsFlowPair (recharge_formula (size rech) (size delr) (size delc)) rech.neg (s + 9) result }
     ensures encloses { IfSome result (λ p. EnclosesSigned p.lo p.hi (s + 9) (recharge_exact rech delr delc)) }
 {
-    let mut magnitude = rech;
-    magnitude.neg = false;
-    let flow = exactly(magnitude).times(exactly(delr)).times(exactly(delc));
+    let flow = magnitude(rech).times(exactly(delr)).times(exactly(delc));
     flow_of(flow, rech.neg, s + 9)
+}
+
+/// The bounds of a flow of the input, in units of 10 ^ -(s + 9); None where a magnitude is 2 ^ 126 or more.
+pub fn number_flow(q: Dec, s: u32) -> Option<FlowPair>
+    requires q { IsDec q }
+    requires places { s ≤ 18 }
+    ensures { IsFlowPair (Number (size q)) q.neg (s + 9) result }
+{
+    flow_of(magnitude(q), q.neg, s + 9)
+}
+
+fn magnitude(x: Dec) -> Span
+    requires { IsDec x }
+    ensures ordered { IsOrdered result }
+    ensures bounds { AreBounds (Number (size x)) result }
+    ensures reach { reach result ≤ 57 }
+{
+    let mut plain = x;
+    plain.neg = false;
+    exactly(plain)
 }
 
 // The whole bounds in units of 10 ^ -places, negated and exchanged for a flow below 0.

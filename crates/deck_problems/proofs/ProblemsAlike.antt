@@ -23,6 +23,9 @@ use Rattle.problem_builder.proofs.Members.{variable-In}
 use Rattle.problem_builder.proofs.Zipped.{zip_one_list}
 use Rattle.deck_problems.proofs.LikeShapes.{one_shape, like_shapes}
 
+fixed_like : (x u : Fixed) → u.kind ≡ x.kind → u.source ≡ x.source → fixed_shape u ≡ fixed_shape x
+fixed_like x u kind source = λ i. record { kind = kind i; source = source i; lo = 0; hi = 0; head_lo = pos 0; head_hi = pos 0 }
+
 module _ (f : FlowModel) (s₁ s₃ : List Dec) (ps rs : List Period) (periods : AllThree IsPeriodBetween ps ps rs) (s : ℕ) (at : TimeStep) (old : List Bound) (size : HasSize f.grid) where
   abbrev A : FlowModel
   A = framed f s₁ ps
@@ -37,18 +40,9 @@ module _ (f : FlowModel) (s₁ s₃ : List Dec) (ps rs : List Period) (periods :
   like_flows c x u y z w (received t) h k = let kind = k.kind ∙ sym h.kind in λ i. record { kind = kind i; lo = pos 0; hi = pos 0 }
 
   like_fixed : (w v : Thicknesses) (c : ℕ) (x u : Fixed) (y z t : FixedSource) → IsFixedSourceBetween y z t → IsFixed A w s at old c x y → IsFixed B v s at old c u t → fixed_shape u ≡ fixed_shape x
-  like_fixed w v c x u y z t constant h k =
-      let kind = k.kind ∙ sym h.kind in
-      let source = k.source ∙ sym h.source in
-      λ i. record { kind = kind i; source = source i; lo = 0; hi = 0; head_lo = pos 0; head_hi = pos 0 }
-  like_fixed w v c x u y z t (general a b) h k =
-      let kind = k.kind ∙ sym h.kind in
-      let source = k.source ∙ sym h.source in
-      λ i. record { kind = kind i; source = source i; lo = 0; hi = 0; head_lo = pos 0; head_hi = pos 0 }
-  like_fixed w v c x u y z t stored h k =
-      let kind = k.kind ∙ sym h.kind in
-      let source = k.source ∙ sym h.source in
-      λ i. record { kind = kind i; source = source i; lo = 0; hi = 0; head_lo = pos 0; head_hi = pos 0 }
+  like_fixed w v c x u y z t constant h k = fixed_like x u (k.kind ∙ sym h.kind) (k.source ∙ sym h.source)
+  like_fixed w v c x u y z t (general a b) h k = fixed_like x u (k.kind ∙ sym h.kind) (k.source ∙ sym h.source)
+  like_fixed w v c x u y z t stored h k = fixed_like x u (k.kind ∙ sym h.kind) (k.source ∙ sym h.source)
 
   -- links, which starting heads and periods leave alone but for the index of a cell
 

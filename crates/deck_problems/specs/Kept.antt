@@ -2,7 +2,8 @@
 use Rattle.std.specs.Prelude.{◌≡◌, ℕ}
 use Rattle.model_types.specs.declared.model.FlowModel.{FlowModel}
 use Rattle.model_types.specs.Kinds.{given_heads}
-use Rattle.problem_builder.specs.Tables.{AreTables, ArePeriodTables, AreEvenStorages, BothOrNone, span_in}
+use Rattle.problem_builder.specs.Tables.{AreTables, ArePeriodTables, AreEvenStorages, span_in}
+use Rattle.problem_builder.specs.Filled.{BothOrNone}
 use Rattle.deck_problems.specs.declared.decks.Decks.{Decks}
 use Rattle.deck_problems.specs.declared.kept.RunTables.{RunTables}
 use Rattle.deck_problems.specs.declared.deck_tables.DeckTables.{DeckTables}

@@ -4,7 +4,7 @@ ghost use Rattle.model_types.specs.Times.{times};
 ghost use Rattle.model_types.specs.Valid.{IsModel};
 ghost use Rattle.problem_builder.specs.GridHeads.{AreGridHeads};
 ghost use Rattle.problem_builder.specs.Problems.{IsBuildFault};
-ghost use Rattle.problem_builder.specs.Tables.{BothOrNone};
+ghost use Rattle.problem_builder.specs.Filled.{BothOrNone};
 ghost use Rattle.deck_problems.specs.Kept.{AreRunTables, AreTablesOf, digits_of};
 ghost use Rattle.deck_problems.specs.Made.{IsModelProblem};
 

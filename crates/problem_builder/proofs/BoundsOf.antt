@@ -72,7 +72,7 @@ module _ (m : FlowModel) (w : Thicknesses) (s : ℕ) (at : TimeStep) (valid : Is
       storages_enclose m w.thick valid (period_at m at.period) at.step c s lo hi time.valid.times steady lt a (r.cells c lt a) (real_pair _ s lo hi k small)
 
   recharges : (c : ℕ) (rate : Dec) (lo hi : ℤ) → IsRechargePair m s c rate lo hi → magnitude lo hi < 2 ^ 109 → EnclosesSigned lo hi (s + 9) (recharge_flow m c rate)
-  recharges c rate lo hi (inl k) small = recharges_enclose m rate c (s + 9) lo hi k.flow
+  recharges c rate lo hi (inl k) small = recharges_enclose m rate c (s + 9) lo hi k.0
   recharges c rate lo hi (inr k) small = absurd (past_magnitude lo hi k.lower small)
 
   evaps : (c : ℕ) (x : EvapSource) (e : Evap) → c < cell_count m.grid → is_active m c ≡ true → evap_at m at.period c ≡ Some x → IsEvap m s c e x → e.hi < 2 ^ 60 →

@@ -4,9 +4,10 @@ use Rattle.problem_builder.proofs.Common.{Fraction, Encloses, EnclosesSigned, Bo
 use Rattle.problem_builder.proofs.Common.{FlowEncloses, LinkEncloses, FixedEncloses, RiverEncloses, DrainEncloses, EvapEncloses, CellEncloses, Face, FlowModel}
 use Rattle.problem_builder.proofs.Common.{TimeStep, cell_count, HasSize, is_active, conductance, is_variable, is_constant, evap_at, FixedSource, FlowSource}
 use Rattle.problem_builder.proofs.Common.{variable_faces, flow_sources, fixed_sources, river_sources, drain_sources, evap_sources, ToConstant, ToGeneral}
-use Rattle.problem_builder.proofs.Common.{FromStorage, Pumped, Received, In, IsFaceOf, passing_are, end_within, exact_link, exact_fixed, exact_flow}
+use Rattle.problem_builder.proofs.Common.{FromStorage, Pumped, Received, In, IsFaceOf, passing_are, end_within, exact_link, exact_fixed, exact_flow, Number}
 use Rattle.problem_builder.proofs.Common.{exact_river, exact_drain, exact_evap, exact_cell, IsCapped, face_term, Thicknesses, IsCond, IsWellPair, IsHeadPair}
-use Rattle.problem_builder.proofs.Common.{IsRiver, IsDrain, IsEvap, IsFlow, IsLink, IsFixed, IsCellOf, HeadsEnclose}
+use Rattle.problem_builder.proofs.Common.{IsRiver, IsDrain, IsEvap, IsFlow, IsLink, IsFixed, IsCellOf, HeadsEnclose, pair_encloses}
+use Rattle.conductance_bounds.proofs.Recharged.{number_encloses}
 use Rattle.problem_builder.proofs.ActiveCells.{variable_active, constant_active}
 use Rattle.problem_builder.proofs.Bounds.{BoundsEnclose}
 use Rattle.problem_builder.proofs.FacePairs.{face_range, face_active}
@@ -16,7 +17,7 @@ use Rattle.problem_builder.proofs.Zipped.{zip_map}
 
 -- numbers of the input
 cond_encloses : (s : ℕ) (d : Dec) (lo hi : ℕ) → IsCond s d lo hi → hi < 2 ^ 60 → Encloses lo hi s (size d)
-cond_encloses s d lo hi (inl k) lt = record { lower = k.floor.at_most; upper = k.ceiling.at_least }
+cond_encloses s d lo hi (inl k) lt = pair_encloses (Number (size d)) s lo hi tt k.0
 cond_encloses s d lo hi (inr k) lt = absurd (omega (arith, lt, k.upper))
 
 pub head_encloses : (d : Dec) (lo hi : ℤ) → IsHeadPair d lo hi → EnclosesSigned lo hi 9 (number d)
@@ -28,7 +29,7 @@ past_magnitude (pos n) (negsuc k) e lt = omega (arith, ints, e, lt)
 past_magnitude (negsuc n) hi e lt = omega (arith, ints, e)
 
 well_encloses : (s : ℕ) (d : Dec) (lo hi : ℤ) → IsWellPair s d lo hi → magnitude lo hi < 2 ^ 109 → EnclosesSigned lo hi (s + 9) (number d)
-well_encloses s d lo hi (inl k) lt = record { lower = k.floor.at_most; upper = k.ceiling.at_least }
+well_encloses s d lo hi (inl k) lt = number_encloses d (s + 9) lo hi k.0
 well_encloses s d lo hi (inr k) lt = absurd (past_magnitude lo hi k.lower lt)
 
 module _ (m : FlowModel) (w : Thicknesses) (s : ℕ) (at : TimeStep) (old : List Bound) (before : ℕ → Fraction) (size' : HasSize m.grid) (near : BoundsEnclose m w s at) (olds : HeadsEnclose m old before)

@@ -2,18 +2,18 @@
 use Rattle.problem_builder.proofs.Common.{◌≡◌, ℕ, ◌*◌, ◌<◌, ◌≤◌, ◌^◌, inl, inr, true, Some, None, List, sym, subst, arith, All, ◌==◌, list_any}
 use Rattle.problem_builder.proofs.Common.{le_of_mul-le-mul_right, none-some, Ratio, den, Encloses, Bound, Link, Fixed, Drain, Entries, no_bound, lower_at}
 use Rattle.problem_builder.proofs.Common.{upper_at, LinkFits, FixedFits, RiverFits, DrainFits, EvapFits, CellFits, IsHead, Entry, Face, FlowModel, TimeStep}
-use Rattle.problem_builder.proofs.Common.{cell_count, is_active, conductance, IsHeadNumber, is_variable, is_constant, FixedSource, DrainSource, as_river}
-use Rattle.problem_builder.proofs.Common.{as_drain, local_entries, variable_faces, fixed_sources, river_sources, drain_sources, evap_sources, ToConstant}
-use Rattle.problem_builder.proofs.Common.{ToGeneral, FromStorage, IsModel, IsEntryValid, IsEvapValid, In, All-In, In-All, filter_map-In, IsFaceOf, passing_are}
-use Rattle.problem_builder.proofs.Common.{end_within, Term, IsCapped, face_term, Thicknesses, IsRiver, IsDrain, IsEvap, IsLink, IsFixed, IsCellOf, AreGridHeads}
-use Rattle.problem_builder.proofs.Common.{IsTimeOf, fault_of}
+use Rattle.problem_builder.proofs.Common.{cell_count, is_active, conductance, IsHeadNumber, IsNotNegative, is_variable, is_constant, FixedSource, DrainSource}
+use Rattle.problem_builder.proofs.Common.{as_river, as_drain, local_entries, variable_faces, fixed_sources, river_sources, drain_sources, evap_sources}
+use Rattle.problem_builder.proofs.Common.{ToConstant, ToGeneral, FromStorage, IsModel, IsEntryValid, IsEvapValid, In, All-In, In-All, filter_map-In, IsFaceOf}
+use Rattle.problem_builder.proofs.Common.{passing_are, end_within, Term, IsCapped, face_term, Thicknesses, IsRiver, IsDrain, IsEvap, IsLink, IsFixed, IsCellOf}
+use Rattle.problem_builder.proofs.Common.{AreGridHeads, IsTimeOf, fault_of, or_parts}
 use Rattle.model_types.specs.declared.entry.Entry.TheVariants.{Drain as DrainEntry}
 use Rattle.problem_builder.proofs.ActiveCells.{variable_active, constant_active}
 use Rattle.problem_builder.proofs.Bounds.{BoundsEnclose}
 use Rattle.problem_builder.proofs.FacePairs.{face_range, face_active}
 use Rattle.problem_builder.proofs.Fits.{cond_ordered, head_pair_range, river_valid, river_fits, evap_fits}
 use Rattle.problem_builder.proofs.Members.{fixed_source, some_same}
-use Rattle.problem_builder.proofs.Sound.{sound, or_false, none_passes, positive_unless_zero}
+use Rattle.problem_builder.proofs.Sound.{sound, none_passes, positive_unless_zero}
 use Rattle.problem_builder.proofs.ValidEntries.{local_valid}
 use Rattle.problem_builder.proofs.Zipped.{zip_all, left_of}
 
@@ -25,8 +25,8 @@ pub capped_in_order : (t : Term) (s lo hi : ℕ) (r : Ratio) → IsCapped t s lo
 capped_in_order t s lo hi r (inl k) h = enclosed_ordered lo hi s r (h k.1)
 capped_in_order t s lo hi r (inr k) h = omega (arith, k.lower, k.upper)
 
-drain_valid : (y : Entry) (r : DrainSource) → as_drain y ≡ Some r → IsEntryValid 4194304 y → IsHeadNumber r.elevation
-drain_valid (DrainEntry cell a k) r e h = let P : DrainSource → Type 0 = λ z. IsHeadNumber z.elevation in subst P (some_same e) h.1
+pub drain_valid : (y : Entry) (r : DrainSource) → as_drain y ≡ Some r → IsEntryValid 4194304 y → IsHeadNumber r.elevation × IsNotNegative r.cond
+drain_valid (DrainEntry cell a k) r e h = let P : DrainSource → Type 0 = λ z. IsHeadNumber z.elevation × IsNotNegative z.cond in subst P (some_same e) (h.1, h.2)
 drain_valid y r e h = absurd (none-some r e)
 
 drain_fits : (s : ℕ) (x : Drain) (r : DrainSource) → IsHeadNumber r.elevation → IsDrain s x r → DrainFits x
@@ -56,7 +56,7 @@ module _ (m : FlowModel) (w : Thicknesses) (s : ℕ) (at : TimeStep) (old : List
       let r = near.head_range f.end x.head_lo x.head_hi (end_within m.grid c f valid.grid.size lt g) b k.head in
       record { ordered = face_ordered f x.lo x.hi g (constant_active m at.period f.end b) k.conductance; head_lo = r.0; head_hi = r.1 }
   one_fixed x (ToGeneral head cond) i k =
-      let r = head_pair_range head x.head_lo x.head_hi (fixed_source m at.period c (ToGeneral head cond) i entries_fit) k.head_pair in
+      let r = head_pair_range head x.head_lo x.head_hi (fixed_source m at.period c (ToGeneral head cond) i entries_fit).0 k.head_pair in
       record { ordered = cond_ordered s cond x.lo x.hi k.cond; head_lo = r.0; head_hi = r.1 }
   one_fixed x FromStorage i k =
       let steady = fixed_source m at.period c FromStorage i in
@@ -69,7 +69,7 @@ module _ (m : FlowModel) (w : Thicknesses) (s : ℕ) (at : TimeStep) (old : List
   pub cell_fits : fault_of e ≡ None → CellFits e
   cell_fits none =
       let k = sound e none in
-      let small = (or_false (list_any (λ x. x.lo == 0) e.links) _ k.branches).0 in
+      let small = (or_parts (list_any (λ x. x.lo == 0) e.links) _ k.branches).0 in
       record {
         links = All-In LinkFits e.links (λ x i.
             let (f, j, r) = left_of (IsLink m w s at) e.links (variable_faces m at.period c) x is.links i in
@@ -79,10 +79,10 @@ module _ (m : FlowModel) (w : Thicknesses) (s : ℕ) (at : TimeStep) (old : List
         rivers = zip_all RiverFits (IsRiver s) e.rivers (river_sources m at.period c)
             (λ x r j q. let (y, l, o) = filter_map-In as_river (local_entries m at.period c) r j in
             let z = river_valid y r o (In-All (IsEntryValid 4194304) (local_entries m at.period c) y entries_fit l) in
-            river_fits s x r z.0 z.1 q) is.rivers;
+            river_fits s x r z.0 z.2 q) is.rivers;
         drains = zip_all DrainFits (IsDrain s) e.drains (drain_sources m at.period c)
             (λ x r j q. let (y, l, o) = filter_map-In as_drain (local_entries m at.period c) r j in
-            drain_fits s x r (drain_valid y r o (In-All (IsEntryValid 4194304) (local_entries m at.period c) y entries_fit l)) q) is.drains;
+            drain_fits s x r (drain_valid y r o (In-All (IsEntryValid 4194304) (local_entries m at.period c) y entries_fit l)).0 q) is.drains;
         evaps = zip_all EvapFits (IsEvap m s c) e.evaps (evap_sources m at.period c)
             (λ x r j q. evap_fits m s c x r (In-All IsEvapValid (evap_sources m at.period c) r (valid.evaps at.period c lt here) j) q) is.evaps;
         conductances = k.conductances;

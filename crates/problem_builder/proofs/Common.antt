@@ -3,12 +3,13 @@ pub use Rattle.std.proofs.Common.{All, Bool, FitsSigned, List, None, Option, Som
 pub use Rattle.std.proofs.Common.{pos, refl, replicate, rules, set, slice_index_or, subst, suc, sym, take, true, zero, ℕ, ℤ, ◌%◌, ◌*ℤ◌, ◌*◌, ◌++◌, ◌+ℤ◌, ◌+◌}
 pub use Rattle.std.proofs.Common.{◌-ℤ◌, ◌-◌, ◌/◌, ◌<◌, ◌^◌, ◌∙◌, ◌∷◌, ◌≡◌, ◌≤ℤ◌, ◌≤◌, ◌⊎◌}
 pub use Rattle.std.proofs.Math.Nat.{le_of_mul-le-mul_right, mul-le-mul_right}
-pub use Rattle.std.proofs.lemmas.Bool.{and_parts, cases_Bool, cases_eq, cases_lt, cases_order, cond-true, eq-eqb, false≢true, leb-false, ne_eqb}
+pub use Rattle.std.proofs.lemmas.Bool.{and_parts, cases_Bool, cases_eq, cases_lt, cases_order, cond-true, eq-eqb, false≢true, leb-false, ne_eqb, or_parts}
 pub use Rattle.std.proofs.lemmas.Int.{by_lt_z, int_max_is, int_min_is, ints, to_z-of_z}
-pub use Rattle.std.proofs.lemmas.List.{append-nil, append_assoc, drop_at, ext_get_or, get_or-map, get_or-set_other, get_or-set_same, get_or_append_left}
-pub use Rattle.std.proofs.lemmas.List.{get_or_default, get_or_push, get_or_read, length-map, length_push, map-set, reverse-append, take_at, take_more}
-pub use Rattle.std.proofs.lemmas.List.Elements.{All-append, All-cons, All-drop, All-filter, All-nil, All-push, All-take, All-weaker, filter-append}
-pub use Rattle.std.proofs.lemmas.List.Elements.{filter_map-append}
+pub use Rattle.std.proofs.lemmas.List.{append-nil, append_assoc, drop_at, ext_get_or, get_or-map, get_or-replicate, get_or-set_other, get_or-set_same}
+pub use Rattle.std.proofs.lemmas.List.{get_or_append_left, get_or_default, get_or_past, get_or_push, get_or_read, length-map, length-replicate, length-set}
+pub use Rattle.std.proofs.lemmas.List.{length_push, map-set, reverse-append, take_at, take_more}
+pub use Rattle.std.proofs.lemmas.List.Elements.{All-append, All-cons, All-drop, All-filter, All-nil, All-push, All-replicate, All-take, All-weaker}
+pub use Rattle.std.proofs.lemmas.List.Elements.{filter-append, filter_map-append}
 pub use Rattle.std.proofs.lemmas.Nat.{div-add-mod', div-mul-add, mod-mul-add, mod_below}
 pub use Rattle.std.proofs.lemmas.Option.{none-some}
 pub use Rattle.std.specs.Int.{int_max, int_min, w64}
@@ -16,16 +17,18 @@ pub use Rattle.std.specs.List.{AllZip, Contains, cons_option, filter, filter_map
 pub use Rattle.std.specs.Option.{option_to_list}
 pub use Rattle.std.specs.Prelude.{IfSome, int_lt, min, nat_le, nat_lt, not, reverse, sum_by, unsigned_abs, ◌&&◌, ◌==◌, ◌||◌}
 pub use Rattle.cell_balance.specs.Enclosures.{CellEncloses, DrainEncloses, EnclosesStep, EvapEncloses, FixedEncloses, FlowEncloses, LinkEncloses, RiverEncloses}
-pub use Rattle.conductance_bounds.proofs.FaceBounds.{faces_enclose, no_gap}
+pub use Rattle.conductance_bounds.proofs.Enclosing.{bound_on, pair_encloses}
+pub use Rattle.conductance_bounds.proofs.FaceBounds.{faces_enclose, layered, no_gap}
+pub use Rattle.conductance_bounds.proofs.Ready.{delc_positive, delr_positive}
 pub use Rattle.conductance_bounds.proofs.SpanBounds.{above_gap, below_gap, thick_positive}
-pub use Rattle.conductance_bounds.specs.Branches.{evap_formula, resistance_sum, row_term, storage_formula, storage_of, storativity_term, thickness_of}
-pub use Rattle.conductance_bounds.specs.Branches.{vertical_of, vertical_term}
+pub use Rattle.conductance_bounds.specs.Branches.{column_of, evap_formula, resistance_sum, row_of, row_term, storage_formula, storage_of, storativity_term}
+pub use Rattle.conductance_bounds.specs.Branches.{thickness_of, vertical_of, vertical_term}
 pub use Rattle.conductance_bounds.specs.Calls.{IsBed, IsColHalf, IsHalf, IsVertHalf}
 pub use Rattle.conductance_bounds.specs.Formulas.{area_term, bed_term, column_k_term, evap_term, face_term, recharge_term, storage_term, vertical_half_term}
 pub use Rattle.conductance_bounds.specs.Formulas.{vertical_k_at}
 pub use Rattle.conductance_bounds.specs.Growth.{IsGrown, IsUsable, sum_term}
 unfoldable pub use Rattle.conductance_bounds.specs.Growth.{power_term}
-pub use Rattle.conductance_bounds.specs.Pairs.{IsCapped, IsPair, IsPast, high_end, low_end}
+pub use Rattle.conductance_bounds.specs.Pairs.{IsCapped, IsCappedFlow, IsPair, IsPast, high_end, low_end}
 pub use Rattle.conductance_bounds.specs.Parts.{IsCeilingOf, IsFloorOf, IsGivenPair, IsHeadUnits, IsPart, blend, part_term}
 pub use Rattle.conductance_bounds.specs.Terms.{Holds, IsBound, IsRounded, Side, Term, other}
 pub use Rattle.conductance_bounds.specs.Terms.Side.{Lower, Upper}
@@ -34,7 +37,7 @@ pub use Rattle.conductance_bounds.specs.Thicknesses.{AreThick, IsSpan}
 pub use Rattle.conductance_bounds.specs.declared.pair.Pair.{Pair}
 pub use Rattle.conductance_bounds.specs.declared.span.Span.{Span}
 pub use Rattle.decimal_input.proofs.FloorLaws.{floor_ceiling_enclose, one_ceiling, one_floor}
-pub use Rattle.decimal_input.proofs.Orders.{AtMost-refl, AtMost-trans, Same-sym, Same-trans}
+pub use Rattle.decimal_input.proofs.Orders.{AtMost-trans, Same-sym, Same-trans}
 pub use Rattle.decimal_input.proofs.Signs.{cancel_right, mul_mono_right}
 pub use Rattle.decimal_input.specs.Canonical.{IsDec, number, size}
 pub use Rattle.decimal_input.specs.Decimals.{with_sign}
@@ -52,7 +55,7 @@ pub use Rattle.model_types.proofs.Leads.{first_within, passing_are, passing_have
 pub use Rattle.model_types.proofs.Members.{All-In, Contains-In, In, In-All, In-get_or, Ordered, Ordered-at, filter_map-In, map-In}
 pub use Rattle.model_types.proofs.Ranks.{IsAt, at_rank, fails_next, is_at, passes_next, passing, range_more, rank, rank_apart, rank_below, rank_fails, rank_few}
 pub use Rattle.model_types.proofs.Ranks.{rank_passes}
-pub use Rattle.model_types.specs.Cells.{cell_count, column_of, layer_of, layer_size, place_in_layer, row_of}
+pub use Rattle.model_types.specs.Cells.{cell_count, layer_of, layer_size, place_in_layer}
 pub use Rattle.model_types.specs.Conductances.{conductance}
 pub use Rattle.model_types.specs.Faces.{face_after, faces, has_after, span, stride, through}
 pub use Rattle.model_types.specs.Grids.{HasSize, IsGrid}
@@ -89,22 +92,20 @@ pub use Rattle.model_types.specs.declared.time_steps.TimeStep.{TimeStep}
 pub use Rattle.problem_builder.specs.Cells.{IsCellOf, IsConstant, IsDrain, IsEvap, IsFixed, IsFlow, IsLink, IsReceived, IsRiver, IsStorage}
 pub use Rattle.problem_builder.specs.ConstantHeads.{AreConstantHeads, HasConstantHead, IsGivenOrKept, IsKeptPair}
 unfoldable pub use Rattle.problem_builder.specs.ConstantHeads.{IsConstantPair}
-pub use Rattle.problem_builder.specs.Filled.{Filled}
+pub use Rattle.problem_builder.specs.Filled.{BothOrNone, Filled}
 pub use Rattle.problem_builder.specs.GridHeads.{AreGridHeads, HeadsEnclose, IsActive}
-pub use Rattle.problem_builder.specs.InputBounds.{IsCond, IsHeadPair, IsWellPair}
+pub use Rattle.problem_builder.specs.InputBounds.{IsCond, IsHeadPair, IsRechargePair, IsWellPair}
 pub use Rattle.problem_builder.specs.LocalBounds.{AreAppended, AreLocalBounds, IsEntryIn, IsGeneralSource, IsWellSource, LocalBounds, kept_bounds, local_in}
 pub use Rattle.problem_builder.specs.LocalBounds.{no_bounds}
-pub use Rattle.problem_builder.specs.Made.{HasPair, IsCellFault, IsCheckedCell, IsFirstFault, IsStartInRange, IsVariableCell}
+pub use Rattle.problem_builder.specs.Made.{HasPair, IsCellFault, IsFirstFault, IsStartInRange, IsVariableCell}
 pub use Rattle.problem_builder.specs.Moments.{IsTimeOf}
 pub use Rattle.problem_builder.specs.PeriodTables.{IsCovered, IsEvaporated, IsIndex, IsKept, IsKind, IsNamed, IsRecharged}
 pub use Rattle.problem_builder.specs.Problems.{AreCells, HasNoProblem, IsProblemOf, IsRefused}
-pub use Rattle.problem_builder.specs.RechargeBounds.{IsRechargePair}
 pub use Rattle.problem_builder.specs.Refusals.{has_small_branch}
 unfoldable pub use Rattle.problem_builder.specs.Refusals.{fault_of}
 pub use Rattle.problem_builder.specs.StepTables.{AreEvenFactors, AreFactorsOf, HasEvenSteps, HasEvenStorage, HasStorage}
-pub use Rattle.problem_builder.specs.Stored.{HasOldHeads}
-pub use Rattle.problem_builder.specs.Tables.{AreEvenStorages, AreInputs, ArePeriodTables, AreTables, BothOrNone, Inputs, no_pair, no_span, pair_at, pair_in}
-pub use Rattle.problem_builder.specs.Tables.{span_in, widths_of}
+pub use Rattle.problem_builder.specs.Tables.{AreEvenStorages, AreInputs, ArePeriodTables, AreTables, Inputs, no_pair, no_span, pair_at, pair_in, span_in}
+pub use Rattle.problem_builder.specs.Tables.{widths_of}
 pub use Rattle.problem_builder.specs.Thicknesses.{AreThicknesses, Thicknesses}
 pub use Rattle.problem_builder.specs.Widths.{HasConductance, IsBedBelow, IsBedOf, IsNoBed, IsThickness, layer_half}
 pub use Rattle.scaled_decimal.specs.declared.decimal.Sd.{Sd}

@@ -1,22 +1,16 @@
 -- Elevations of a valid model are numbers of the input, and a bed is one where its elevations differ.
-use Rattle.problem_builder.proofs.Common.{◌≡◌, ℕ, zero, suc, ◌+◌, ◌-◌, ◌<◌, ◌≤◌, inl, inr, Bool, true, false, cond, List, [], ◌∷◌, length, get_or, refl, sym}
-use Rattle.problem_builder.proofs.Common.{ap, ◌∙◌, subst, arith, All, pos, ◌*ℤ◌, ints, cases_lt, Dec, IsDec, number, Fraction, FlowModel, cell_count}
-use Rattle.problem_builder.proofs.Common.{layer_size, no_number, dec_at, is_active, has_bed, top_at, bottom_at, lowest, bed_thickness, IsModel, IsBedValid}
-use Rattle.problem_builder.proofs.Common.{nat_lt, no_gap}
+use Rattle.problem_builder.proofs.Common.{get_or_past, ◌≡◌, ℕ, suc, ◌+◌, ◌-◌, ◌<◌, inl, inr, Bool, true, false, cond, List, length, refl, sym, ap, ◌∙◌, subst}
+use Rattle.problem_builder.proofs.Common.{arith, All, pos, ◌*ℤ◌, ints, cases_lt, Dec, IsDec, number, Fraction, FlowModel, cell_count, layer_size, no_number}
+use Rattle.problem_builder.proofs.Common.{dec_at, is_active, has_bed, top_at, bottom_at, lowest, bed_thickness, IsModel, IsBedValid, nat_lt, no_gap}
 use Rattle.decimal_input.proofs.OneNumber.{one_number}
 
 no_number_valid : IsDec no_number
 no_number_valid = record { few = omega arith; form = inl (refl, refl, refl); above = omega (arith, ints); below = omega (arith, ints) }
 
-pub past : {X : Type 0} (xs : List X) (i : ℕ) (d : X) → length xs ≤ i → get_or xs i d ≡ d
-past [] i d le = refl
-past (x ∷ xs) zero d le = absurd (omega (arith, le))
-past (x ∷ xs) (suc i) d le = past xs i d (omega (arith, le))
-
 pub dec_valid : (xs : List Dec) (i : ℕ) → All IsDec xs → IsDec (dec_at xs i)
 dec_valid xs i h = elim (cases_lt i (length xs)) [
   | inl lt ↦ h i no_number lt
-  | inr le ↦ subst IsDec (sym (past xs i no_number le)) no_number_valid
+  | inr le ↦ subst IsDec (sym (get_or_past xs i no_number le)) no_number_valid
 ]
 
 either : (b : Bool) (x y : Dec) → IsDec x → IsDec y → IsDec (cond b x y)

@@ -1,21 +1,9 @@
 -- The example meets all that a problem of its step is built of.
-use Rattle.problem_builder.proofs.Common.{ℕ, zero, suc, ◌<◌, inl, inr, cond, Some, None, List, [], ◌∷◌, ◌-◌, get_or, refl, arith, All, pos, not, ◌&&◌, ◌==◌}
-use Rattle.problem_builder.proofs.Common.{option_to_list, Contains, false≢true, ints, Dec, IsDec, scaled, ratio, IsHead, IsGrid, start_head, Period}
+use Rattle.problem_builder.proofs.Common.{All-nil, ℕ, zero, suc, ◌<◌, inl, inr, cond, Some, None, List, [], ◌∷◌, ◌-◌, get_or, refl, arith, All, pos, not, ◌&&◌}
+use Rattle.problem_builder.proofs.Common.{◌==◌, option_to_list, Contains, false≢true, ints, Dec, IsDec, scaled, ratio, IsHead, IsGrid, start_head, Period}
 use Rattle.problem_builder.proofs.Common.{place_in_layer, dec_at, IsPositive, IsNotNegative, IsHeadNumber, IsThick, evap_sources, EvapSource, is_chosen, times}
-use Rattle.problem_builder.proofs.Common.{no_period, IsModel, IsCellValid, IsPeriod, IsEvapValid, IsEntryValid, AreGridHeads, HeadsEnclose}
+use Rattle.problem_builder.proofs.Common.{no_period, IsModel, IsCellValid, IsPeriod, IsEvapValid, IsEntryValid, AreGridHeads, HeadsEnclose, All-replicate}
 use Rattle.problem_builder.specs.Example.{IsBuildable, whole, thousandths, example_grid, example_period, example_model, example_time, example_bound, example_heads}
-
-none : {X : Type 0} (P : X → Type 0) → All P []
-none P i d lt = absurd (omega (arith, lt))
-
-one : {X : Type 0} (P : X → Type 0) (x : X) → P x → All P (x ∷ [])
-one P x h zero d lt = h
-one P x h (suc i) d lt = absurd (omega (arith, lt))
-
-two : {X : Type 0} (P : X → Type 0) (x : X) → P x → All P (x ∷ x ∷ [])
-two P x h zero d lt = h
-two P x h (suc zero) d lt = h
-two P x h (suc (suc i)) d lt = absurd (omega (arith, lt))
 
 zero_valid : IsDec (whole 0)
 zero_valid = record { few = omega arith; form = inl (refl, refl, refl); above = omega (arith, ints); below = omega (arith, ints) }
@@ -51,13 +39,13 @@ thick = record {
 grid : IsGrid example_grid
 grid = record {
   size = record { layers = (omega arith, omega arith); rows = (omega arith, omega arith); cols = (omega arith, omega arith); cells = omega arith };
-  delr = (refl, two IsPositive (whole 3) (digit_positive 3 (omega arith) (omega arith)));
-  delc = (refl, one IsPositive (whole 1) (digit_positive 1 (omega arith) (omega arith)));
-  top = (refl, two IsDec (whole 1) (digit 1 (omega arith) (omega arith)));
-  bottom = (refl, two IsDec (whole 0) zero_valid);
+  delr = (refl, All-replicate IsPositive 2 (whole 3) (digit_positive 3 (omega arith) (omega arith)));
+  delc = (refl, All-replicate IsPositive 1 (whole 1) (digit_positive 1 (omega arith) (omega arith)));
+  top = (refl, All-replicate IsDec 2 (whole 1) (digit 1 (omega arith) (omega arith)));
+  bottom = (refl, All-replicate IsDec 2 (whole 0) zero_valid);
   laycbd = refl;
   no_last_bed = refl;
-  bed_bottom = (refl, two IsDec (whole 0) zero_valid);
+  bed_bottom = (refl, All-replicate IsDec 2 (whole 0) zero_valid);
 }
 
 evap : IsEvapValid (record { rate = thousandths 2; surface = whole 7; depth = whole 2 })
@@ -83,16 +71,16 @@ module _ (k q : Dec) (hk : IsPositive k) (hq : IsDec q) where
   period = record {
     times = record { nstp = (omega arith, omega arith); perlen = not_negative; lasts = (λ e. digit_positive 1 (omega arith) (omega arith)); tsmult = digit_positive 1 (omega arith) (omega arith); growth = (λ e. inl refl) };
     stresses = record {
-      wells = record { few = omega arith; entries = one (IsEntryValid 2) _ (omega arith, hq) };
-      rivers = record { few = omega arith; entries = one (IsEntryValid 2) _ (omega arith, digit_head 4 (omega arith) (omega arith), not_negative, digit_head 2 (omega arith) (omega arith)) };
-      drains = record { few = omega arith; entries = one (IsEntryValid 2) _ (omega arith, digit_head 3 (omega arith) (omega arith), not_negative) };
-      generals = record { few = omega arith; entries = one (IsEntryValid 2) _ (omega arith, digit_head 6 (omega arith) (omega arith), not_negative) };
-      given = record { few = omega arith; entries = none _; once = (λ i j d lt less. absurd (omega (arith, less))) };
-      recharge = (λ e. record { whole = refl; decimals = two IsDec (thousandths 1) (small 1 (omega arith) (omega arith)).decimal });
+      wells = record { few = omega arith; entries = All-replicate (IsEntryValid 2) 1 _ (omega arith, hq) };
+      rivers = record { few = omega arith; entries = All-replicate (IsEntryValid 2) 1 _ (omega arith, digit_head 4 (omega arith) (omega arith), not_negative, digit_head 2 (omega arith) (omega arith)) };
+      drains = record { few = omega arith; entries = All-replicate (IsEntryValid 2) 1 _ (omega arith, digit_head 3 (omega arith) (omega arith), not_negative) };
+      generals = record { few = omega arith; entries = All-replicate (IsEntryValid 2) 1 _ (omega arith, digit_head 6 (omega arith) (omega arith), not_negative) };
+      given = record { few = omega arith; entries = All-nil _; once = (λ i j d lt less. absurd (omega (arith, less))) };
+      recharge = (λ e. record { whole = refl; decimals = All-replicate IsDec 2 (thousandths 1) (small 1 (omega arith) (omega arith)).decimal });
       irch = (λ e. absurd (false≢true e));
-      surf = (λ e. record { whole = refl; decimals = two IsDec (whole 7) (digit 7 (omega arith) (omega arith)) });
-      evtr = (λ e. record { whole = refl; decimals = two IsDec (thousandths 2) (small 2 (omega arith) (omega arith)).decimal });
-      exdp = (λ e. record { whole = refl; decimals = two IsDec (whole 2) (digit 2 (omega arith) (omega arith)) });
+      surf = (λ e. record { whole = refl; decimals = All-replicate IsDec 2 (whole 7) (digit 7 (omega arith) (omega arith)) });
+      evtr = (λ e. record { whole = refl; decimals = All-replicate IsDec 2 (thousandths 2) (small 2 (omega arith) (omega arith)).decimal });
+      exdp = (λ e. record { whole = refl; decimals = All-replicate IsDec 2 (whole 2) (digit 2 (omega arith) (omega arith)) });
       ievt = (λ e. absurd (false≢true e));
     };
   }
@@ -103,13 +91,13 @@ module _ (k q : Dec) (hk : IsPositive k) (hq : IsDec q) where
       (Some (record { rate = dec_at x.stresses.evtr (place_in_layer example_grid c); surface = dec_at x.stresses.surf (place_in_layer example_grid c); depth = dec_at x.stresses.exdp (place_in_layer example_grid c) })) None)
 
   in_the_period : (c : ℕ) → c < 2 → All IsEvapValid (evap_in (example_period q) c)
-  in_the_period zero lt = one IsEvapValid _ evap
-  in_the_period (suc zero) lt = one IsEvapValid _ evap
+  in_the_period zero lt = All-replicate IsEvapValid 1 _ evap
+  in_the_period (suc zero) lt = All-replicate IsEvapValid 1 _ evap
   in_the_period (suc (suc c)) lt = absurd (omega (arith, lt))
 
   in_no_period : (c : ℕ) → c < 2 → All IsEvapValid (evap_in no_period c)
-  in_no_period zero lt = none IsEvapValid
-  in_no_period (suc zero) lt = none IsEvapValid
+  in_no_period zero lt = All-nil IsEvapValid
+  in_no_period (suc zero) lt = All-nil IsEvapValid
   in_no_period (suc (suc c)) lt = absurd (omega (arith, lt))
 
   of_index : (i c : ℕ) → c < 2 → All IsEvapValid (evap_in (get_or (example_period q ∷ []) i no_period) c)
@@ -137,14 +125,14 @@ module _ (k q : Dec) (hk : IsPositive k) (hq : IsDec q) where
     some = omega arith;
     few = omega arith;
     steps = omega arith;
-    periods = one (IsPeriod (example_model k q)) (example_period q) period;
+    periods = All-replicate (IsPeriod (example_model k q)) 1 (example_period q) period;
     evaps = (λ p c lt active. evaps p c lt);
   }
 
   old : AreGridHeads (example_model k q) example_heads
   old = record {
     whole = refl;
-    range = two (λ b. IsHead b.low × IsHead b.high) example_bound (record { above = omega (arith, ints); below = omega (arith, ints) }, record { above = omega (arith, ints); below = omega (arith, ints) });
+    range = All-replicate (λ b. IsHead b.low × IsHead b.high) 2 example_bound (record { above = omega (arith, ints); below = omega (arith, ints) }, record { above = omega (arith, ints); below = omega (arith, ints) });
   }
 
   time : Contains (times (example_model k q)) example_time

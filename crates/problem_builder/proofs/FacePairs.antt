@@ -3,6 +3,7 @@ use Rattle.problem_builder.proofs.Common.{◌≡◌, ℕ, ◌+◌, ◌%◌, ◌<
 use Rattle.problem_builder.proofs.Common.{cell_count, stride, span, has_after, faces, HasSize, is_active, In, All-In, IsFaceOf, faces_are, first_within}
 use Rattle.problem_builder.proofs.Common.{end_within, after_within, before_le, before_back, div-add-mod', IsVariableCell, HasPair, Inputs, AreInputs}
 use Rattle.problem_builder.proofs.ActiveCells.{variable_active}
+use Rattle.problem_builder.proofs.TablesMade.{face_in}
 
 mod_at_most : (c n : ℕ) → c % n ≤ c
 mod_at_most c n = omega (arith, div-add-mod' c n)
@@ -33,5 +34,5 @@ faces_paired i c are v = All-In (HasPair i) (faces i.model.grid c) each
         let lead = faces_are i.model.grid c f j in (
           first_within i.model.grid c f v.within lead,
           end_within i.model.grid c f are.size v.within lead,
-          (λ b. let (x, y) = face_active i.model c f lead (variable_active i.model i.at.period c v.variable) b in are.tables.faces f.axis f.first (first_within i.model.grid c f v.within lead) (first_after i.model.grid c f are.size lead) x y),
+          (λ b. let (x, y) = face_active i.model c f lead (variable_active i.model i.at.period c v.variable) b in face_in i.model i.tables.digits i.tables are.tables f.axis f.first (first_within i.model.grid c f v.within lead) (first_after i.model.grid c f are.size lead) x y),
         )

@@ -1,13 +1,12 @@
 -- Rivers and evapotranspirations of a cell: bounds in order, heads in range.
 use Rattle.problem_builder.proofs.Common.{◌≡◌, ℕ, ◌≤◌, ◌^◌, inl, inr, Bool, Some, refl, sym, subst, arith, All, ℤ, pos, ◌+ℤ◌, ◌≤ℤ◌, ints, by_lt_z, none-some}
-use Rattle.problem_builder.proofs.Common.{Fraction, with_sign, cancel_right, mul_mono_right, Dec, number, size, AtMost-refl, AtMost-trans, IsSignedFloor}
-use Rattle.problem_builder.proofs.Common.{IsSignedCeiling, one_floor, one_ceiling, floor_ceiling_enclose, River, Evap, Entries, RiverFits, EvapFits, IsHead}
-use Rattle.problem_builder.proofs.Common.{Entry, FlowModel, IsPositive, IsHeadNumber, EvapSource, RiverSource, as_river, local_entries, river_sources}
-use Rattle.problem_builder.proofs.Common.{evap_sources, IsEntryValid, IsEvapValid, In-All, filter_map-In, Term, Holds, Lower, Upper, IsPair, IsCapped}
-use Rattle.problem_builder.proofs.Common.{evap_term, IsCond, IsHeadPair, IsRiver, IsEvap, IsCellOf, IsVariableCell, Inputs, AreInputs, widths_of}
+use Rattle.problem_builder.proofs.Common.{Fraction, with_sign, cancel_right, mul_mono_right, Dec, number, size, AtMost-trans, IsSignedFloor, IsSignedCeiling}
+use Rattle.problem_builder.proofs.Common.{one_floor, one_ceiling, floor_ceiling_enclose, River, Evap, Entries, RiverFits, EvapFits, IsHead, Entry, FlowModel}
+use Rattle.problem_builder.proofs.Common.{IsPositive, IsNotNegative, IsHeadNumber, EvapSource, RiverSource, as_river, local_entries, river_sources}
+use Rattle.problem_builder.proofs.Common.{evap_sources, IsEntryValid, IsEvapValid, In-All, filter_map-In, Term, Holds, Lower, Upper, IsPair, IsCapped, Number}
+use Rattle.problem_builder.proofs.Common.{evap_term, IsCond, IsHeadPair, IsRiver, IsEvap, IsCellOf, IsVariableCell, Inputs, AreInputs, widths_of, bound_on}
 use Rattle.decimal_input.specs.Fractions.{den}
 use Rattle.model_types.specs.declared.entry.Entry.TheVariants.{River as RiverEntry}
-use Rattle.conductance_bounds.proofs.Enclosing.{bound_on}
 use Rattle.conductance_bounds.proofs.Whole.{floor-ceiling}
 use Rattle.problem_builder.proofs.ActiveCells.{variable_active}
 use Rattle.problem_builder.proofs.HeadRange.{floor_in_range, ceiling_in_range}
@@ -16,16 +15,15 @@ use Rattle.problem_builder.proofs.Members.{some_same}
 use Rattle.problem_builder.proofs.ValidEntries.{local_valid}
 use Rattle.flow_equations.proofs.Values.{size_positive}
 
-pub cond_ordered : (s : ℕ) (d : Dec) (lo hi : ℕ) → IsCond s d lo hi → lo ≤ hi
-cond_ordered s d lo hi (inl k) = floor-ceiling lo hi (size d) (size d) s (AtMost-refl (size d)) k.floor k.ceiling
-cond_ordered s d lo hi (inr k) = omega (arith, k.lower, k.upper)
-
 pub pair_ordered : (t : Term) (s lo hi : ℕ) → Holds t → IsPair t s lo hi → lo ≤ hi
 pair_ordered t s lo hi h k = floor-ceiling lo hi _ _ s (AtMost-trans (bound_on t h Lower k.low k.low_is) (bound_on t h Upper k.high k.high_is)) k.floor k.ceiling
 
 pub capped_ordered : (t : Term) (s lo hi : ℕ) → Holds t → IsCapped t s lo hi → lo ≤ hi
 capped_ordered t s lo hi h (inl k) = pair_ordered t s lo hi h k.0
 capped_ordered t s lo hi h (inr k) = omega (arith, k.lower, k.upper)
+
+pub cond_ordered : (s : ℕ) (d : Dec) (lo hi : ℕ) → IsCond s d lo hi → lo ≤ hi
+cond_ordered s d lo hi k = capped_ordered (Number (size d)) s lo hi tt k
 
 pub evap_holds : (m : FlowModel) (c : ℕ) (x : EvapSource) → IsPositive x.depth → Holds (evap_term m x.rate x.depth c)
 evap_holds m c x h = ((tt, (tt, tt)), tt, size_positive x.depth h)
@@ -34,8 +32,8 @@ pub head_pair_range : (d : Dec) (lo hi : ℤ) → IsHeadNumber d → IsHeadPair 
 head_pair_range d lo hi h k = (floor_in_range (number d) lo h.range k.floor, ceiling_in_range (number d) hi h.range k.ceiling)
 
 -- a river of the lists has heads in range
-pub river_valid : (y : Entry) (r : RiverSource) → as_river y ≡ Some r → IsEntryValid 4194304 y → IsHeadNumber r.stage × IsHeadNumber r.bottom
-river_valid (RiverEntry cell a k b) r e h = let P : RiverSource → Type 0 = λ z. IsHeadNumber z.stage × IsHeadNumber z.bottom in subst P (some_same e) (h.1, h.3)
+pub river_valid : (y : Entry) (r : RiverSource) → as_river y ≡ Some r → IsEntryValid 4194304 y → IsHeadNumber r.stage × IsNotNegative r.cond × IsHeadNumber r.bottom
+river_valid (RiverEntry cell a k b) r e h = let P : RiverSource → Type 0 = λ z. IsHeadNumber z.stage × IsNotNegative z.cond × IsHeadNumber z.bottom in subst P (some_same e) (h.1, h.2, h.3)
 river_valid y r e h = absurd (none-some r e)
 
 pub river_fits : (s : ℕ) (x : River) (r : RiverSource) → IsHeadNumber r.stage → IsHeadNumber r.bottom → IsRiver s x r → RiverFits x
@@ -77,7 +75,7 @@ module _ (i : Inputs) (c : ℕ) (e : Entries) (are : AreInputs i) (v : IsVariabl
   rivers_fit = zip_all RiverFits (IsRiver i.tables.digits) e.rivers (river_sources i.model i.at.period c)
       (λ x r j k. let (y, l, q) = filter_map-In as_river (local_entries i.model i.at.period c) r j in
       let w = river_valid y r q (In-All (IsEntryValid 4194304) (local_entries i.model i.at.period c) y (local_valid i.model i.at.period c are.model are.time.valid) l) in
-      river_fits i.tables.digits x r w.0 w.1 k) is.rivers
+      river_fits i.tables.digits x r w.0 w.2 k) is.rivers
 
   pub evaps_fit : All EvapFits e.evaps
   evaps_fit = zip_all EvapFits (IsEvap i.model i.tables.digits c) e.evaps (evap_sources i.model i.at.period c)

@@ -1,32 +1,14 @@
 -- The halves of branches, and the bed between two layers.
-use Rattle.problem_builder.proofs.Common.{Bool, cond, Some, None, ◌≡◌, ℕ, zero, suc, ◌+◌, ◌*◌, ◌/◌, ◌<◌, ◌⊎◌, inl, inr, true, false, refl, sym, ap, ◌∙◌, arith}
-use Rattle.problem_builder.proofs.Common.{◌==◌, mod_below, ne_eqb, size, none-some, Axis, Vertical, Face, Grid, stride, has_after, face_after, FlowModel}
-use Rattle.problem_builder.proofs.Common.{layer_size, column_of, row_of, no_number, delr_at, delc_at, thickness, bed_thickness, vkcb_at, bottom_at, lowest}
-use Rattle.problem_builder.proofs.Common.{thick_positive, IsPositive, IsModel, IsBedValid, Span, IsBed, Quotient, vertical_of, resistance_sum, face_term}
-use Rattle.problem_builder.proofs.Common.{area_term, bed_term, vertical_half_term, IsBedOf, IsNoBed, layer_half}
+use Rattle.problem_builder.proofs.Common.{Bool, cond, Some, None, ◌≡◌, ℕ, ◌+◌, ◌<◌, ◌⊎◌, inl, inr, true, false, refl, sym, ap, ◌∙◌, ◌==◌, none-some, Axis}
+use Rattle.problem_builder.proofs.Common.{Vertical, Face, Grid, stride, has_after, face_after, FlowModel, layer_size, delr_at, delc_at, thickness}
+use Rattle.problem_builder.proofs.Common.{bed_thickness, vkcb_at, bottom_at, lowest, thick_positive, IsBedValid, Span, IsBed, Quotient, vertical_of}
+use Rattle.problem_builder.proofs.Common.{resistance_sum, face_term, area_term, bed_term, vertical_half_term, IsBedOf, IsNoBed, layer_half}
+use Rattle.conductance_bounds.proofs.LayerBounds.{is_some, is_zero}
 use Rattle.problem_builder.proofs.Members.{some_same}
 
-pub delr_positive : (m : FlowModel) (c : ℕ) → IsModel m → IsPositive (delr_at m c)
-delr_positive m c valid = valid.grid.delr.1 (column_of m.grid c) no_number (omega (arith, valid.grid.delr.0, mod_below c m.grid.cols (omega (arith, valid.grid.size.cols.0))))
-
-pub delc_positive : (m : FlowModel) (c : ℕ) → IsModel m → IsPositive (delc_at m c)
-delc_positive m c valid = valid.grid.delc.1 (row_of m.grid c) no_number (omega (arith, valid.grid.delc.0, mod_below (c / m.grid.cols) m.grid.rows (omega (arith, valid.grid.size.rows.0))))
-
--- two layers
-pub layered : (layers size a : ℕ) → a + size < layers * size → 1 < layers
-layered zero size a h = absurd (omega (arith, h))
-layered (suc zero) size a h = absurd (omega (arith, h))
-layered (suc (suc k)) size a h = omega arith
-
-zero_test : (n : ℕ) → n ≡ 0 → (n == 0) ≡ true
-zero_test n e = ap (λ k. k == 0) e
-
-some_test : (n : ℕ) → 0 < n → (n == 0) ≡ false
-some_test n h = ne_eqb n 0 (λ e. omega (arith, h, e))
-
 tests : (m : FlowModel) (a : ℕ) (t : Span) → IsBedOf m a t ⊎ IsNoBed m a t → (t.lo.m == 0) ≡ ((bed_thickness m a).num == 0)
-tests m a t (inl k) = some_test t.lo.m k.thick.low_size.positive ∙ sym (some_test (bed_thickness m a).num k.some)
-tests m a t (inr k) = zero_test t.lo.m k.low.0 ∙ sym (zero_test (bed_thickness m a).num k.none)
+tests m a t (inl k) = is_some t.lo.m k.thick.low_size.positive ∙ sym (is_some (bed_thickness m a).num k.some)
+tests m a t (inr k) = is_zero t.lo.m k.low.0 ∙ sym (is_zero (bed_thickness m a).num k.none)
 
 -- a bed's decimals are zeros exactly where it has no thickness
 pub bed_tests : (m : FlowModel) (a : ℕ) (t : Span) (thick bed : ℕ → Span) → IsBedOf m a t ⊎ IsNoBed m a t → t ≡ bed a →

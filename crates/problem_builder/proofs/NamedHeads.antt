@@ -1,7 +1,7 @@
 -- What a CHD list gives each cell.
-use Rattle.problem_builder.proofs.Common.{◌≡◌, ℕ, zero, suc, ◌+◌, ◌<◌, inl, inr, cond, Option, Some, None, List, [], ◌∷◌, ◌++◌, length, get_or, set, take}
-use Rattle.problem_builder.proofs.Common.{replicate, refl, sym, ap, ◌∙◌, arith, All, ◌==◌, find, cases_eq, eq-eqb, ne_eqb, get_or-set_same, get_or-set_other}
-use Rattle.problem_builder.proofs.Common.{take_more, reverse-append, Given, no_number, given_in, Filled, IsNamed}
+use Rattle.problem_builder.proofs.Common.{length-replicate, get_or-replicate, length-set, ◌≡◌, ℕ, ◌+◌, ◌<◌, inl, inr, cond, Option, Some, None, List, [], ◌∷◌}
+use Rattle.problem_builder.proofs.Common.{◌++◌, length, get_or, set, take, replicate, refl, sym, ap, ◌∙◌, arith, All, ◌==◌, find, cases_eq, eq-eqb, ne_eqb}
+use Rattle.problem_builder.proofs.Common.{get_or-set_same, get_or-set_other, take_more, reverse-append, Given, no_number, given_in, Filled, IsNamed}
 
 given_more : (xs : List Given) (x : Given) (c : ℕ) → given_in (xs ++ x ∷ []) c ≡ cond (x.cell.0 == c) (Some x) (given_in xs c)
 unfolding given_in
@@ -11,22 +11,8 @@ given_none : (c : ℕ) → given_in [] c ≡ None
 unfolding given_in
 given_none c = refl
 
-get_or_replicate : {X : Type 0} (n c : ℕ) (x : X) → get_or (replicate n x) c x ≡ x
-get_or_replicate zero c x = refl
-get_or_replicate (suc n) zero x = refl
-get_or_replicate (suc n) (suc c) x = get_or_replicate n c x
-
-length_replicate : {X : Type 0} (n : ℕ) (x : X) → length (replicate n x) ≡ n
-length_replicate zero x = refl
-length_replicate (suc n) x = ap suc (length_replicate n x)
-
-length_set : {X : Type 0} (xs : List X) (i : ℕ) (x : X) → length (set xs i x) ≡ length xs
-length_set [] i x = refl
-length_set (y ∷ xs) zero x = refl
-length_set (y ∷ xs) (suc i) x = ap suc (length_set xs i x)
-
 pub none_named : (n : ℕ) (xs : List (Option Given)) → xs ≡ replicate n None → Filled (IsNamed []) None n xs
-none_named n xs e = record { count = ap length e ∙ length_replicate n None; each = (λ c lt. ap (λ ys. get_or ys c None) e ∙ get_or_replicate n c None ∙ sym (given_none c)) }
+none_named n xs e = record { count = ap length e ∙ length-replicate n None; each = (λ c lt. ap (λ ys. get_or ys c None) e ∙ get_or-replicate n c None None lt ∙ sym (given_none c)) }
 
 abbrev pub no_given : Given
 no_given = record { cell = record { 0 = 0 }; shead = no_number; ehead = no_number }
@@ -41,7 +27,7 @@ next_named n i list xs ys lt within e h =
     let more : (c : ℕ) → given_in (take (i + 1) list) c ≡ cond (k == c) (Some x) (given_in (take i list) c) =
     (λ c. ap (λ zs. given_in zs c) (take_more list i no_given lt) ∙ given_more (take i list) x c) in
     record {
-      count = ap length e ∙ length_set xs k (Some x) ∙ h.count;
+      count = ap length e ∙ length-set xs k (Some x) ∙ h.count;
       each = (λ c r. elim (cases_eq c k) [
         | inl q ↦ ap (λ zs. get_or zs c None) e ∙ ap (λ z. get_or (set xs k (Some x)) z None) q ∙ get_or-set_same xs k (Some x) None (omega (arith, within, h.count))
             ∙ sym (more c ∙ ap (λ b. cond b (Some x) (given_in (take i list) c)) (eq-eqb k c (sym q)))

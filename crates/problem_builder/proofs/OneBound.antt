@@ -1,10 +1,10 @@
 -- Each rounded number is one number.
 use Rattle.problem_builder.proofs.Common.{◌≡◌, ℕ, zero, suc, ◌+◌, ◌-◌, ◌*◌, ◌<◌, ◌≤◌, ◌^◌, inl, inr, Bool, true, false, refl, sym, ap, ◌∙◌, subst, arith, ℤ}
-use Rattle.problem_builder.proofs.Common.{pos, neg_ℤ, ◌-ℤ◌, min, int_min, int_max, ints, cases_order, false≢true, mul-le-mul_right, Dec, number, size, scaled}
-use Rattle.problem_builder.proofs.Common.{Ratio, den, over, Same, Fraction, IsFloor, IsCeiling, Passes, IsSignedFloor, IsSignedCeiling, one_floor, one_ceiling}
-use Rattle.problem_builder.proofs.Common.{Same-trans, Same-sym, Sd, Period, Span, Term, Side, other, IsRounded, IsBound, Number, Within, Sum, Product, Quotient}
-use Rattle.problem_builder.proofs.Common.{Lower, Upper, IsSpan, IsPair, IsPast, IsCapped, low_end, high_end, part_term, IsPart, IsGivenPair, blend, IsCond}
-use Rattle.problem_builder.proofs.Common.{IsWellPair, IsHeadPair, IsRechargePair, FlowModel, recharge_term}
+use Rattle.problem_builder.proofs.Common.{pos, neg_ℤ, ◌-ℤ◌, min, int_min, int_max, ints, cases_order, false≢true, mul-le-mul_right, Dec, number, scaled, Ratio}
+use Rattle.problem_builder.proofs.Common.{den, over, Same, Fraction, IsFloor, IsCeiling, Passes, IsSignedFloor, IsSignedCeiling, one_floor, one_ceiling}
+use Rattle.problem_builder.proofs.Common.{Same-trans, Same-sym, Period, Span, Term, Side, other, IsRounded, IsBound, Number, Within, Sum, Product, Quotient}
+use Rattle.problem_builder.proofs.Common.{Lower, Upper, IsSpan, IsPair, IsPast, IsCapped, low_end, high_end, part_term, IsPart, IsGivenPair, blend, IsHeadPair}
+use Rattle.problem_builder.proofs.Common.{IsCappedFlow, Sd}
 use Rattle.std.proofs.Common.{unsigned_abs}
 use Rattle.decimal_input.specs.Ratios.{plus, times}
 use Rattle.scaled_decimal.specs.Nearest.{IsSd, value, IsDown, IsUp}
@@ -78,12 +78,6 @@ one_capped t s lo hi l h (inl p) (inr q) = absurd (pair_not_past t s lo hi (2 ^ 
 one_capped t s lo hi l h (inr p) (inl q) = absurd (pair_not_past t s l h (2 ^ 60 - 1) q.0 (omega (arith, q.1)) p.past)
 one_capped t s lo hi l h (inr p) (inr q) = (p.lower ∙ sym q.lower, p.upper ∙ sym q.upper)
 
-pub one_cond : (s : ℕ) (d : Dec) (lo hi l h : ℕ) → IsCond s d lo hi → IsCond s d l h → Both lo hi l h
-one_cond s d lo hi l h (inl p) (inl q) = (one_whole_floor lo l s (size d) p.floor q.floor, one_whole_ceiling hi h s (size d) p.ceiling q.ceiling)
-one_cond s d lo hi l h (inl p) (inr q) = absurd (none_past hi (2 ^ 60 - 1) s (size d) (omega (arith, p.small)) p.ceiling q.past)
-one_cond s d lo hi l h (inr p) (inl q) = absurd (none_past h (2 ^ 60 - 1) s (size d) (omega (arith, q.small)) q.ceiling p.past)
-one_cond s d lo hi l h (inr p) (inr q) = (p.lower ∙ sym q.lower, p.upper ∙ sym q.upper)
-
 abbrev pub BothSigned : ℤ → ℤ → ℤ → ℤ → Type 0
 BothSigned a b c d = (a ≡ c) × (b ≡ d)
 
@@ -96,21 +90,6 @@ signed_ceiling f s x y p q = one_ceiling f f s x y (record { same = refl }) p q
 pub one_head_pair : (d : Dec) (lo hi l h : ℤ) → IsHeadPair d lo hi → IsHeadPair d l h → BothSigned lo hi l h
 one_head_pair d lo hi l h p q = (signed_floor (number d) 9 lo l p.floor q.floor, signed_ceiling (number d) 9 hi h p.ceiling q.ceiling)
 
-not_both : (x y : ℤ) → x ≡ y → unsigned_abs x < 2 ^ 126 → 2 ^ 126 ≤ unsigned_abs y → ⊥
-not_both x y e p q = let z : unsigned_abs x ≡ unsigned_abs y = ap unsigned_abs e in omega (arith, z, p, q)
-
-pub one_well : (s : ℕ) (d : Dec) (lo hi l h : ℤ) → IsWellPair s d lo hi → IsWellPair s d l h → BothSigned lo hi l h
-one_well s d lo hi l h (inl p) (inl q) = (signed_floor (number d) (s + 9) lo l p.floor q.floor, signed_ceiling (number d) (s + 9) hi h p.ceiling q.ceiling)
-one_well s d lo hi l h (inr p) (inr q) = (p.lower ∙ sym q.lower, p.upper ∙ sym q.upper)
-one_well s d lo hi l h (inl p) (inr q) = elim q.past [
-  | inl k ↦ absurd (not_both lo k.floor (signed_floor (number d) (s + 9) lo k.floor p.floor k.is) p.small.0 k.past)
-  | inr k ↦ absurd (not_both hi k.ceiling (signed_ceiling (number d) (s + 9) hi k.ceiling p.ceiling k.is) p.small.1 k.past)
-]
-one_well s d lo hi l h (inr p) (inl q) = elim p.past [
-  | inl k ↦ absurd (not_both l k.floor (signed_floor (number d) (s + 9) l k.floor q.floor k.is) q.small.0 k.past)
-  | inr k ↦ absurd (not_both h k.ceiling (signed_ceiling (number d) (s + 9) h k.ceiling q.ceiling k.is) q.small.1 k.past)
-]
-
 one_flow : (t : Term) (neg : Bool) (s : ℕ) (lo hi l h : ℤ) → IsFlow t neg s lo hi → IsFlow t neg s l h → BothSigned lo hi l h
 one_flow t neg s lo hi l h p q =
     let (a, b) = one_pair t s p.least p.most q.least q.most p.pair q.pair in
@@ -121,11 +100,14 @@ most_small false least most lo hi e f p q = let z : unsigned_abs hi ≡ most = a
 most_small true least zero lo hi e f p q = omega arith
 most_small true least (suc n) lo hi e f p q = let z : unsigned_abs lo ≡ suc n = ap unsigned_abs e in omega (arith, z, p)
 
-pub one_recharge : (m : FlowModel) (s c : ℕ) (rate : Dec) (lo hi l h : ℤ) → IsRechargePair m s c rate lo hi → IsRechargePair m s c rate l h → BothSigned lo hi l h
-one_recharge m s c rate lo hi l h (inl p) (inl q) = one_flow (recharge_term m rate c) rate.neg (s + 9) lo hi l h p.flow q.flow
-one_recharge m s c rate lo hi l h (inr p) (inr q) = (p.lower ∙ sym q.lower, p.upper ∙ sym q.upper)
-one_recharge m s c rate lo hi l h (inl p) (inr q) = absurd (pair_not_past (recharge_term m rate c) (s + 9) p.flow.least p.flow.most (2 ^ 126 - 1) p.flow.pair (most_small rate.neg p.flow.least p.flow.most lo hi p.flow.lower p.flow.upper p.small.0 p.small.1) q.past)
-one_recharge m s c rate lo hi l h (inr p) (inl q) = absurd (pair_not_past (recharge_term m rate c) (s + 9) q.flow.least q.flow.most (2 ^ 126 - 1) q.flow.pair (most_small rate.neg q.flow.least q.flow.most l h q.flow.lower q.flow.upper q.small.0 q.small.1) p.past)
+flow_not_past : (t : Term) (neg : Bool) (s : ℕ) (lo hi : ℤ) → IsFlow t neg s lo hi × (unsigned_abs lo < 2 ^ 126) × (unsigned_abs hi < 2 ^ 126) → IsPast t (2 ^ 126 - 1) s → ⊥
+flow_not_past t neg s lo hi (p, low, high) q = pair_not_past t s p.least p.most (2 ^ 126 - 1) p.pair (most_small neg p.least p.most lo hi p.lower p.upper low high) q
+
+pub one_capped_flow : (t : Term) (neg : Bool) (s : ℕ) (lo hi l h : ℤ) → IsCappedFlow t neg s lo hi → IsCappedFlow t neg s l h → BothSigned lo hi l h
+one_capped_flow t neg s lo hi l h (inl p) (inl q) = one_flow t neg s lo hi l h p.0 q.0
+one_capped_flow t neg s lo hi l h (inr p) (inr q) = (p.lower ∙ sym q.lower, p.upper ∙ sym q.upper)
+one_capped_flow t neg s lo hi l h (inl p) (inr q) = absurd (flow_not_past t neg s lo hi p q.past)
+one_capped_flow t neg s lo hi l h (inr p) (inl q) = absurd (flow_not_past t neg s l h q p.past)
 
 -- the part of a period that has passed
 pub one_part : (p : Period) (n f g k l : ℕ) → IsPart p n f g → IsPart p n k l → Both f g k l

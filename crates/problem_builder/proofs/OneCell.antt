@@ -6,12 +6,13 @@ use Rattle.problem_builder.proofs.Common.{lowest, delr_at, delc_at, hk_at, vkcb_
 use Rattle.problem_builder.proofs.Common.{EvapSource, FixedSource, FlowSource, RiverSource, DrainSource, variable_faces, flow_sources, fixed_sources}
 use Rattle.problem_builder.proofs.Common.{river_sources, drain_sources, evap_sources, ToConstant, ToGeneral, FromStorage, Pumped, Received, In, IsFaceOf}
 use Rattle.problem_builder.proofs.Common.{passing_are, Term, Number, Within, Quotient, row_term, vertical_term, resistance_sum, IsCapped, IsGivenPair}
-use Rattle.problem_builder.proofs.Common.{face_term, storage_term, evap_term, column_k_term, vertical_k_at, area_term, bed_term, Thicknesses, AreThicknesses}
-use Rattle.problem_builder.proofs.Common.{IsKeptPair, IsGivenOrKept, IsConstantPair, IsRiver, IsDrain, IsEvap, IsFlow, IsLink, IsFixed, IsCellOf}
+use Rattle.problem_builder.proofs.Common.{face_term, storage_term, evap_term, recharge_term, column_k_term, vertical_k_at, area_term, bed_term, Thicknesses}
+use Rattle.problem_builder.proofs.Common.{AreThicknesses, IsKeptPair, IsGivenOrKept, IsConstantPair, IsRiver, IsDrain, IsEvap, IsFlow, IsLink, IsFixed}
+use Rattle.problem_builder.proofs.Common.{IsCellOf}
 use Rattle.problem_builder.proofs.ActiveCells.{variable_active, constant_active}
 use Rattle.problem_builder.proofs.FacePairs.{face_range, face_active}
 use Rattle.problem_builder.proofs.Members.{fixed_source}
-use Rattle.problem_builder.proofs.OneBound.{Both, BothSigned, one_span, one_capped, one_cond, one_head_pair, one_well, one_recharge, one_part, one_given}
+use Rattle.problem_builder.proofs.OneBound.{Both, BothSigned, one_span, one_capped, one_capped_flow, one_head_pair, one_part, one_given}
 use Rattle.problem_builder.proofs.Zipped.{zip_one_list}
 
 one_kept : (m : FlowModel) (c : ℕ) (o : Option Given) (lo hi l h : ℤ) → IsKeptPair m c o lo hi → IsKeptPair m c o l h → BothSigned lo hi l h
@@ -85,7 +86,7 @@ module _ (m : FlowModel) (w v : Thicknesses) (wa : AreThicknesses m w) (va : Are
         let source = p.source ∙ sym q.source in
         λ t. record { kind = kind t; source = source t; lo = a t; hi = b t; head_lo = d t; head_hi = e t }
     one_fixed x u (ToGeneral head k) i p q =
-        let (a, b) = one_cond s k x.lo x.hi u.lo u.hi p.cond q.cond in
+        let (a, b) = one_capped (Number (size k)) s x.lo x.hi u.lo u.hi p.cond q.cond in
         let (d, e) = one_head_pair head x.head_lo x.head_hi u.head_lo u.head_hi p.head_pair q.head_pair in
         let kind = p.kind ∙ sym q.kind in
         let source = p.source ∙ sym q.source in
@@ -103,24 +104,24 @@ module _ (m : FlowModel) (w v : Thicknesses) (wa : AreThicknesses m w) (va : Are
 
     one_source : (x u : Flow) (y : FlowSource) → In (flow_sources m at.period c) y → IsFlow m s c x y → IsFlow m s c u y → x ≡ u
     one_source x u (Pumped d) i p q =
-        let (a, b) = one_well s d x.lo x.hi u.lo u.hi p.flow q.flow in
+        let (a, b) = one_capped_flow (Number (size d)) d.neg (s + 9) x.lo x.hi u.lo u.hi p.flow q.flow in
         let kind = p.kind ∙ sym q.kind in
         λ t. record { kind = kind t; lo = a t; hi = b t }
     one_source x u (Received rate) i p q =
-        let (a, b) = one_recharge m s c rate x.lo x.hi u.lo u.hi p.flow q.flow in
+        let (a, b) = one_capped_flow (recharge_term m rate c) rate.neg (s + 9) x.lo x.hi u.lo u.hi p.flow q.flow in
         let kind = p.kind ∙ sym q.kind in
         λ t. record { kind = kind t; lo = a t; hi = b t }
 
     one_river : (x u : River) (y : RiverSource) → In (river_sources m at.period c) y → IsRiver s x y → IsRiver s u y → x ≡ u
     one_river x u y i p q =
-        let (a, b) = one_cond s y.cond x.lo x.hi u.lo u.hi p.cond q.cond in
+        let (a, b) = one_capped (Number (size y.cond)) s x.lo x.hi u.lo u.hi p.cond q.cond in
         let (d, e) = one_head_pair y.stage x.stage_lo x.stage_hi u.stage_lo u.stage_hi p.stage q.stage in
         let (f, g) = one_head_pair y.bottom x.bottom_lo x.bottom_hi u.bottom_lo u.bottom_hi p.bottom q.bottom in
         λ t. record { lo = a t; hi = b t; stage_lo = d t; stage_hi = e t; bottom_lo = f t; bottom_hi = g t }
 
     one_drain : (x u : Drain) (y : DrainSource) → In (drain_sources m at.period c) y → IsDrain s x y → IsDrain s u y → x ≡ u
     one_drain x u y i p q =
-        let (a, b) = one_cond s y.cond x.lo x.hi u.lo u.hi p.cond q.cond in
+        let (a, b) = one_capped (Number (size y.cond)) s x.lo x.hi u.lo u.hi p.cond q.cond in
         let (d, e) = one_head_pair y.elevation x.elev_lo x.elev_hi u.elev_lo u.elev_hi p.elevation q.elevation in
         λ t. record { lo = a t; hi = b t; elev_lo = d t; elev_hi = e t }
 

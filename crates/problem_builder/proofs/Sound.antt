@@ -1,6 +1,6 @@
 -- What a cell without a refusal is.
-use Rattle.problem_builder.proofs.Common.{◌≡◌, ℕ, zero, suc, ◌+◌, ◌<◌, ◌≤◌, ◌^◌, inl, inr, Bool, true, false, cond, Option, Some, None, List, [], ◌∷◌, refl}
-use Rattle.problem_builder.proofs.Common.{sym, ap, subst, arith, nat_le, ◌||◌, ◌==◌, sum_by, list_any, fold, leb-false, false≢true, Entries, conductance_of}
+use Rattle.problem_builder.proofs.Common.{or_parts, ◌≡◌, ℕ, zero, suc, ◌+◌, ◌<◌, ◌≤◌, ◌^◌, inl, inr, Bool, true, false, cond, Option, Some, None, List, [], ◌∷◌}
+use Rattle.problem_builder.proofs.Common.{refl, sym, ap, subst, arith, nat_le, ◌==◌, sum_by, list_any, fold, leb-false, false≢true, Entries, conductance_of}
 use Rattle.problem_builder.proofs.Common.{flow_of, In, fault_of, has_small_branch}
 
 some_none : (x : ℕ) → Some x ≡ None → ⊥
@@ -23,14 +23,10 @@ sound e h =
     let (c, h₃) = cond_none (nat_le (2 ^ 109) (flow_of e)) 23 _ h₂ in
     record { branches = a; conductances = leb-false (2 ^ 60) (conductance_of e) b; flows = leb-false (2 ^ 109) (flow_of e) c }
 
-pub or_false : (a b : Bool) → (a || b) ≡ false → (a ≡ false) × (b ≡ false)
-or_false true b e = absurd (false≢true (sym e))
-or_false false b e = (refl, e)
-
 pub none_passes : {X : Type 0} (test : X → Bool) (xs : List X) → list_any test xs ≡ false → (x : X) → In xs x → test x ≡ false
 none_passes test [] e x i = absurd i
-none_passes test (y ∷ ys) e x (inl same) = subst (λ z. test z ≡ false) same (or_false (test y) (list_any test ys) e).0
-none_passes test (y ∷ ys) e x (inr i) = none_passes test ys (or_false (test y) (list_any test ys) e).1 x i
+none_passes test (y ∷ ys) e x (inl same) = subst (λ z. test z ≡ false) same (or_parts (test y) (list_any test ys) e).0
+none_passes test (y ∷ ys) e x (inr i) = none_passes test ys (or_parts (test y) (list_any test ys) e).1 x i
 
 pub positive_unless_zero : (n : ℕ) → (n == 0) ≡ false → 0 < n
 positive_unless_zero zero e = absurd (false≢true (sym e))

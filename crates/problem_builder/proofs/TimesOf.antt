@@ -1,7 +1,7 @@
 -- The times of a model: a step of one of its periods.
-use Rattle.problem_builder.proofs.Common.{ℕ, zero, suc, ◌+◌, ◌-◌, ◌<◌, ◌≤◌, inl, inr, List, [], ◌∷◌, length, refl, subst, arith, Contains, flat_map}
-use Rattle.problem_builder.proofs.Common.{range_with_len, FlowModel, TimeStep, period_at, no_period, steps_of, times, IsModel, In, map-In, IsTimeOf}
-use Rattle.problem_builder.proofs.Members.{In-append}
+use Rattle.problem_builder.proofs.Common.{◌-◌, inl, inr, List, [], ◌∷◌, length, refl, subst, arith, Contains, flat_map, range_with_len, FlowModel, TimeStep}
+use Rattle.problem_builder.proofs.Common.{period_at, no_period, steps_of, times, IsModel, In, map-In, IsTimeOf}
+use Rattle.problem_builder.proofs.Members.{In-append, range-In}
 use Rattle.problem_builder.proofs.Named.{In-Contains}
 
 flat-In : {X Y : Type 0} (f : X → List Y) (xs : List X) (y : Y) → In (flat_map f xs) y → (x : X) × In xs x × In (f x) y
@@ -10,11 +10,6 @@ flat-In f (z ∷ zs) y i = elim (In-append (f z) (flat_map f zs) y i) [
   | inl j ↦ (z, inl refl, j)
   | inr j ↦ (let (x, k, l) = flat-In f zs y j in (x, inr k, l))
 ]
-
-range-In : (a n x : ℕ) → In (range_with_len a n) x → (a ≤ x) × (x < a + n)
-range-In a zero x i = absurd i
-range-In a (suc n) x (inl e) = (omega (arith, e), omega (arith, e))
-range-In a (suc n) x (inr i) = let k = range-In (a + 1) n x i in (omega (arith, k.0), omega (arith, k.1))
 
 pub time_of : (m : FlowModel) (at : TimeStep) → IsModel m → Contains (times m) at → IsTimeOf m at
 unfolding times

@@ -29,7 +29,7 @@ use Rattle.conductance_bounds.specs.Formulas.{face_term, storage_term, evap_term
 use Rattle.problem_builder.specs.InputBounds.{IsCond, IsWellPair, IsHeadPair}
 use Rattle.problem_builder.specs.Thicknesses.{Thicknesses}
 use Rattle.problem_builder.specs.ConstantHeads.{IsConstantPair}
-use Rattle.problem_builder.specs.RechargeBounds.{IsRechargePair}
+use Rattle.problem_builder.specs.InputBounds.{IsRechargePair}
 
 -- Entries, by the numbers of a list.
 

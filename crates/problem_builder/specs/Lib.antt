@@ -2,7 +2,6 @@ pub mod InputBounds
 pub mod Thicknesses
 pub mod Filled
 pub mod ConstantHeads
-pub mod RechargeBounds
 pub mod Cells
 pub mod LocalBounds
 pub mod Refusals

@@ -10,9 +10,9 @@ use Rattle.model_types.specs.Kinds.{kind_of, index_of, given_in, last_given}
 use Rattle.model_types.specs.Layers.{is_active}
 use Rattle.model_types.specs.Receivers.{is_highest, recharge_at, evap_at}
 use Rattle.problem_builder.specs.ConstantHeads.{IsKeptPair}
-use Rattle.problem_builder.specs.RechargeBounds.{IsRechargePair}
+use Rattle.problem_builder.specs.InputBounds.{IsRechargePair}
 use Rattle.problem_builder.specs.Cells.{IsEvap}
-use Rattle.problem_builder.specs.Tables.{BothOrNone}
+use Rattle.problem_builder.specs.Filled.{BothOrNone}
 
 abbrev pub IsKind : FlowModel → ℕ → ℕ → Kind → Type 0
 IsKind m p c k = k ≡ kind_of m p c

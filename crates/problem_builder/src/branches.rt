@@ -7,7 +7,8 @@ ghost use Rattle.model_types.specs.Kinds.{is_variable, is_constant};
 ghost use Rattle.model_types.specs.Sources.{variable_faces, constant_faces};
 ghost use Rattle.problem_builder.specs.Cells.{IsLink, IsConstant};
 ghost use Rattle.problem_builder.specs.Made.{IsVariableCell, HasPair};
-ghost use Rattle.problem_builder.specs.Tables.{AreInputs, BothOrNone, pair_at, widths_of};
+ghost use Rattle.problem_builder.specs.Tables.{AreInputs, pair_at, widths_of};
+ghost use Rattle.problem_builder.specs.Filled.{BothOrNone};
 
 use crate::input::StepInput;
 use crate::known::known_head;

@@ -5,7 +5,8 @@ ghost use Rattle.model_types.specs.Sources.{fixed_sources, flow_sources, evap_so
 ghost use Rattle.model_types.specs.Receivers.{recharge_at};
 ghost use Rattle.problem_builder.specs.Cells.{IsFixed, IsFlow, IsReceived, IsEvap, IsCellOf};
 ghost use Rattle.problem_builder.specs.Made.{IsVariableCell};
-ghost use Rattle.problem_builder.specs.Tables.{AreInputs, BothOrNone, widths_of};
+ghost use Rattle.problem_builder.specs.Tables.{AreInputs, widths_of};
+ghost use Rattle.problem_builder.specs.Filled.{BothOrNone};
 
 use crate::branches::{constants, links};
 use crate::input::StepInput;

@@ -5,7 +5,7 @@ ghost use Rattle.model_types.specs.Valid.{IsEntryValid};
 ghost use Rattle.model_types.specs.Sources.{as_well, as_river, as_drain, as_general};
 ghost use Rattle.problem_builder.specs.Cells.{IsRiver, IsDrain};
 ghost use Rattle.problem_builder.specs.LocalBounds.{AreLocalBounds, IsWellSource, IsGeneralSource, no_bounds};
-ghost use Rattle.problem_builder.specs.Tables.{BothOrNone};
+ghost use Rattle.problem_builder.specs.Filled.{BothOrNone};
 
 use crate::known::{constant_flow, known_head};
 use crate::pushing::push_some;

@@ -4,19 +4,11 @@ ghost use Rattle.problem_builder.specs.Laws.{ConstantHeadsAreOne, StartHeadsAreO
 ghost use Rattle.problem_builder.specs.Laws.{ConstantPairIsOne, ConstantPairFits, ConstantPairEncloses};
 ghost use Rattle.problem_builder.specs.Example.{ExampleIsBuildable};
 
-/// A model, a time and the heads before it have at most one problem.
-pub fn one_problem()
-    ensures { ProblemIsOne }
-{}
-
-/// A step with a problem has no refusal.
-pub fn no_problem_beside_a_refusal()
-    ensures { ProblemExcludesRefusal }
-{}
-
-/// A step has at most one first refusal.
-pub fn one_refusal()
-    ensures { RefusalIsOne }
+/// A model, a time and the heads before it have at most one problem, or one first refusal.
+pub fn one_problem_or_refusal()
+    ensures problem { ProblemIsOne }
+    ensures excludes { ProblemExcludesRefusal }
+    ensures refusal { RefusalIsOne }
 {}
 
 /// A problem that the definition gives meets the conditions on problems.
@@ -24,14 +16,10 @@ pub fn problems_fit()
     ensures { ProblemFits }
 {}
 
-/// A time has one list of constant heads.
-pub fn one_list_of_constant_heads()
-    ensures { ConstantHeadsAreOne }
-{}
-
-/// A model has one list of bounds of STRT.
-pub fn one_list_of_start_heads()
-    ensures { StartHeadsAreOne }
+/// A time has one list of constant heads, and a model one list of bounds of STRT.
+pub fn one_list_of_heads()
+    ensures constant { ConstantHeadsAreOne }
+    ensures start { StartHeadsAreOne }
 {}
 
 /// A constant-head cell has one pair at a time, of heads in range, and it encloses the exact head.

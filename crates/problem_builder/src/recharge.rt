@@ -6,28 +6,25 @@ ghost use Rattle.model_types.specs.Receivers.{is_highest, recharge_at};
 ghost use Rattle.model_types.specs.Valid.{IsModel};
 ghost use Rattle.problem_builder.specs.Filled.{Filled};
 ghost use Rattle.problem_builder.specs.PeriodTables.{IsCovered, IsRecharged};
-ghost use Rattle.problem_builder.specs.RechargeBounds.{IsRechargePair};
+ghost use Rattle.problem_builder.specs.InputBounds.{IsRechargePair};
 
 use crate::chosen::{is_chosen, is_uncovered};
 use crate::periods::stress_period;
-use crate::rounded::PAST_FLOW;
+use crate::rounded::capped_flow;
 use conductance_bounds::{FlowPair, recharge_flow};
 use decimal_input::dec::Dec;
 use model_types::layers::dec_at;
 use model_types::{FlowModel, Optional};
 use std::alloc::{AllocError, Global};
 
-// The bounds of recharge at a rate; for one that reaches 2^126 units the pair that a table keeps in its place.
+// The bounds of recharge at a rate.
 fn recharge_pair(model: &FlowModel, rate: Dec, cell: u32, s: u32) -> FlowPair
     requires model { IsModel model.now }
     requires rate { IsDec rate }
     requires digits { s ≤ 18 }
     ensures { IsRechargePair model.now s cell rate result.lo result.hi }
 {
-    match recharge_flow(rate, model.delr_at(cell), model.delc_at(cell), s) {
-        Some(pair) => pair,
-        None => PAST_FLOW,
-    }
+    capped_flow(recharge_flow(rate, model.delr_at(cell), model.delc_at(cell), s))
 }
 
 // The rate of recharge that a cell receives in the period of this number.

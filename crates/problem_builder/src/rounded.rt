@@ -1,46 +1,27 @@
 // Numbers of the input as whole bounds.
-ghost use Rattle.std.specs.Prelude.{◌≡◌, ℕ, ◌<◌, ◌≤◌};
+ghost use Rattle.std.specs.Prelude.{◌≡◌, ℕ, ◌≤◌, Bool};
 ghost use Rattle.decimal_input.specs.Canonical.{IsDec};
-ghost use Rattle.conductance_bounds.specs.Pairs.{IsWholePair, IsCapped};
+ghost use Rattle.conductance_bounds.specs.Pairs.{IsWholePair, IsCapped, IsFlowPair, IsCappedFlow};
 ghost use Rattle.conductance_bounds.specs.Terms.{Term};
 ghost use Rattle.step_problem.specs.Conditions.{IsHead};
 ghost use Rattle.model_types.specs.Numbers.{IsNotNegative, IsHeadNumber};
 ghost use Rattle.problem_builder.specs.Depths.{IsDepth};
 ghost use Rattle.problem_builder.specs.InputBounds.{IsCond, IsWellPair, IsHeadPair};
 
-use conductance_bounds::{FlowPair, HeadPair, Pair, head_bounds, whole_bounds};
+use conductance_bounds::{
+    FlowPair, HeadPair, Pair, head_bounds, number_flow, number_pair, whole_bounds,
+};
 use decimal_input::dec::Dec;
-use decimal_input::units::{ceil_at, floor_at};
-use decimal_input::whole::{whole_dn, whole_up};
 use step_problem::Bound;
-
-const LARGEST: u128 = 1 << 60;
 
 /// The pair in place of a conductance whose upper bound reaches 2^60 units.
 const PAST: Pair = Pair { lo: 1, hi: 1 << 60 };
 
-/// The pair in place of a flow with a bound that reaches 2^126 units.
-pub const PAST_FLOW: FlowPair = FlowPair {
+/// The pair in place of a flow with a magnitude that reaches 2^126 units.
+const PAST_FLOW: FlowPair = FlowPair {
     lo: 1 << 109,
     hi: 1 << 109,
 };
-
-/// The bounds of a conductance of an entry.
-pub fn cond_pair(cond: Dec, s: u32) -> Pair
-    requires cond { IsNotNegative cond }
-    ensures { IsCond s cond result.lo result.hi }
-{
-    match (
-        whole_dn(cond.digits, cond.exp, s),
-        whole_up(cond.digits, cond.exp, s),
-    ) {
-        (Some(lo), Some(hi)) if hi < LARGEST => Pair {
-            lo: lo as u64,
-            hi: hi as u64,
-        },
-        _ => PAST,
-    }
-}
 
 /// The pair, or the pair (1, 2^60) that a table keeps in place of one that reaches 2^60 units.
 pub fn capped_pair(pair: Option<Pair>) -> Pair
@@ -52,16 +33,31 @@ pub fn capped_pair(pair: Option<Pair>) -> Pair
     }
 }
 
+/// The pair, or that which a table keeps in place of one with a magnitude that reaches 2^126 units.
+pub fn capped_flow(pair: Option<FlowPair>) -> FlowPair
+    ensures { (t : Term) (neg : Bool) (s : ℕ) → IsFlowPair t neg s pair → IsCappedFlow t neg s result.lo result.hi }
+{
+    match pair {
+        Some(pair) => pair,
+        None => PAST_FLOW,
+    }
+}
+
+/// The bounds of a conductance of an entry.
+pub fn cond_pair(cond: Dec, s: u32) -> Pair
+    requires cond { IsNotNegative cond }
+    ensures { IsCond s cond result.lo result.hi }
+{
+    capped_pair(number_pair(cond, s))
+}
+
 /// The bounds of a well's flow.
 pub fn well_pair(q: Dec, s: u32) -> FlowPair
     requires q { IsDec q }
     requires places { s ≤ 18 }
     ensures { IsWellPair s q result.lo result.hi }
 {
-    match (floor_at(q, s + 9), ceil_at(q, s + 9)) {
-        (Some(lo), Some(hi)) => FlowPair { lo, hi },
-        _ => PAST_FLOW,
-    }
+    capped_flow(number_flow(q, s))
 }
 
 /// The bounds of a head of the input.

@@ -3,7 +3,8 @@ ghost use Rattle.model_types.specs.Sources.{storage_at};
 ghost use Rattle.problem_builder.specs.Cells.{IsFixed};
 ghost use Rattle.problem_builder.specs.Made.{IsVariableCell};
 ghost use Rattle.problem_builder.specs.StepTables.{HasStorage};
-ghost use Rattle.problem_builder.specs.Tables.{AreInputs, BothOrNone, span_in, widths_of};
+ghost use Rattle.problem_builder.specs.Tables.{AreInputs, span_in, widths_of};
+ghost use Rattle.problem_builder.specs.Filled.{BothOrNone};
 
 use crate::faces::NO_PAIR;
 use crate::input::StepInput;

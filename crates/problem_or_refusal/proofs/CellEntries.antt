@@ -2,9 +2,10 @@
 use Rattle.problem_or_refusal.proofs.Common.{◌≡◌, ℕ, zero, suc, ◌+◌, ◌-◌, ◌≤◌, ◌<◌, ◌^◌, inl, inr, Bool, true, false, cond, Some, None, List, [], ◌∷◌, refl}
 use Rattle.problem_or_refusal.proofs.Common.{subst, arith, ℤ, pos, neg_ℤ, ◌-ℤ◌, unsigned_abs, AllZip, cases_lt, Dec, IsDec, Bound, Entries, lower_at, upper_at}
 use Rattle.problem_or_refusal.proofs.Common.{FlowModel, TimeStep, cell_count, place_in_layer, is_variable, is_constant, index_of, dec_at, is_active, period_at}
-use Rattle.problem_or_refusal.proofs.Common.{IsModel, IsEvapValid, face_term, storage_term, recharge_term, evap_term, Lower, Upper, ceiling-passes}
-use Rattle.problem_or_refusal.proofs.Common.{floor-ceiling, IsRiver, IsDrain, IsEvap, IsFlow, IsLink, IsFixed, IsCellOf, IsTimeOf, Thicknesses, AreThicknesses}
-use Rattle.problem_or_refusal.proofs.Common.{AtMost-trans, value, IsCapped, low_end, high_end, bound_on}
+use Rattle.problem_or_refusal.proofs.Common.{IsModel, IsEvapValid, face_term, storage_term, recharge_term, evap_term, ceiling-passes, IsTimeOf, Thicknesses}
+use Rattle.problem_or_refusal.proofs.Common.{AreThicknesses, value, IsCapped, low_end, high_end, All, size, IsNotNegative, IsEntryValid, IsCappedFlow, Term}
+use Rattle.problem_or_refusal.proofs.Common.{Holds, Number, IsCond, IsBounded}
+use Rattle.problem_builder.specs.Cells.{IsRiver, IsDrain, IsEvap, IsFlow, IsLink, IsFixed, IsCellOf}
 use Rattle.problem_or_refusal.proofs.Pairs.{pair_of, capped_of}
 use Rattle.std.proofs.lemmas.Option.{none-some}
 use Rattle.step_problem.specs.declared.entry.Flow.{Flow}
@@ -17,19 +18,21 @@ use Rattle.step_problem.specs.declared.entry.FixedKind.TheVariants.{Constant, Ge
 use Rattle.step_problem.specs.declared.entry.FlowKind.TheVariants.{Wells, Recharge}
 use Rattle.model_types.specs.declared.face.Face.{Face}
 use Rattle.model_types.specs.Receivers.{EvapSource, is_chosen, recharge_at}
-use Rattle.model_types.specs.Sources.{FixedSource, FlowSource, RiverSource, DrainSource, variable_faces, flow_sources, fixed_sources, river_sources, drain_sources, evap_sources}
+use Rattle.model_types.specs.Sources.{FixedSource, FlowSource, RiverSource, DrainSource, variable_faces, flow_sources, fixed_sources, river_sources, drain_sources, evap_sources, as_river, as_drain, local_entries}
 use Rattle.model_types.specs.Sources.FixedSource.{ToConstant, ToGeneral, FromStorage}
 use Rattle.model_types.specs.Sources.FlowSource.{Pumped, Received}
 use Rattle.model_types.proofs.Leads.{IsFaceOf, passing_are}
-use Rattle.model_types.proofs.Members.{In, In-All}
-use Rattle.problem_builder.specs.RechargeBounds.{IsRechargePair}
+use Rattle.model_types.proofs.Members.{In, In-All, filter_map-In}
+use Rattle.problem_builder.proofs.CellFits.{drain_valid}
+use Rattle.problem_builder.proofs.Fits.{pair_ordered, river_valid}
+use Rattle.problem_builder.proofs.ValidEntries.{local_valid}
 use Rattle.problem_builder.proofs.ActiveCells.{variable_active, constant_active}
 use Rattle.problem_builder.proofs.ChosenRates.{rate_valid}
 use Rattle.problem_builder.proofs.FacePairs.{face_range, face_active}
 use Rattle.problem_builder.proofs.Members.{flow_source, fixed_source, some_same}
 use Rattle.problem_or_refusal.proofs.ConstantHeads.{constant_pair}
 use Rattle.problem_or_refusal.proofs.Formulas.{recharge_bounded, evap_bounded, face_bounded, storage_bounded}
-use Rattle.problem_or_refusal.proofs.Rounded.{head_pair, cond_pair, well_pair}
+use Rattle.problem_or_refusal.proofs.Rounded.{head_pair, number_bounded}
 
 -- one item for each of a list
 zip_of : {X Y : Type 0} (R : X → Y → Type 0) (ys : List Y) → ((y : Y) → In ys y → (x : X) × R x y) → (xs : List X) × AllZip R xs ys
@@ -48,24 +51,29 @@ small_ends : (neg : Bool) (least most : ℕ) → least ≤ most → most < 2 ^ 1
 small_ends false least most le small = (omega (arith, le, small), omega (arith, small))
 small_ends true least most le small = (rw (abs_neg most) (omega (arith, small)), rw (abs_neg least) (omega (arith, le, small)))
 
-recharge_pair : (m : FlowModel) (s c : ℕ) (rate : Dec) → IsModel m → IsDec rate → (lo : ℤ) × (hi : ℤ) × IsRechargePair m s c rate lo hi
-recharge_pair m s c rate valid is =
-    let (least, most, pair) = pair_of (recharge_term m rate c) (recharge_bounded m valid rate c is) (s + 9) in
+capped_flow : (t : Term) (neg : Bool) (s : ℕ) → IsBounded t → Holds t → (lo : ℤ) × (hi : ℤ) × IsCappedFlow t neg s lo hi
+capped_flow t neg s bounded holds =
+    let (least, most, pair) = pair_of t bounded s in
     elim (cases_lt most (2 ^ 126)) [
       | inl small ↦
-          let order = AtMost-trans (bound_on (recharge_term m rate c) ((tt, tt), tt) Lower pair.low pair.low_is) (bound_on (recharge_term m rate c) ((tt, tt), tt) Upper pair.high pair.high_is) in
-          let le = floor-ceiling least most (value pair.low) (value pair.high) (s + 9) order pair.floor pair.ceiling in
-          (low_end rate.neg least most, high_end rate.neg least most, inl (record { flow = record { least = least; most = most; pair = pair; lower = refl; upper = refl }; small = small_ends rate.neg least most le small }))
+          let ends = small_ends neg least most (pair_ordered t s least most holds pair) small in
+          (low_end neg least most, high_end neg least most, inl (record { least = least; most = most; pair = pair; lower = refl; upper = refl }, ends.0, ends.1))
       | inr large ↦ (
         pos (2 ^ 109),
         pos (2 ^ 109),
-        inr (record { past = record { high = pair.high; high_is = pair.high_is; past = ceiling-passes most (2 ^ 126 - 1) (value pair.high) (s + 9) (omega (arith, large)) pair.ceiling }; lower = refl; upper = refl }),
+        inr (record { past = record { high = pair.high; high_is = pair.high_is; past = ceiling-passes most (2 ^ 126 - 1) (value pair.high) s (omega (arith, large)) pair.ceiling }; lower = refl; upper = refl }),
       )
     ]
+
+cond_pair : (s : ℕ) (d : Dec) → IsNotNegative d → (lo : ℕ) × (hi : ℕ) × IsCond s d lo hi
+cond_pair s d h = capped_of (Number (size d)) (number_bounded d h.decimal) s
 
 module _ (m : FlowModel) (w : Thicknesses) (s : ℕ) (at : TimeStep) (old : List Bound) (valid : IsModel m) (spans : AreThicknesses m w) (time : IsTimeOf m at) (c : ℕ) (lt : c < cell_count m.grid) (var : is_variable m at.period c ≡ true) where
   here : is_active m c ≡ true
   here = variable_active m at.period c var
+
+  entries_fit : All (IsEntryValid 4194304) (local_entries m at.period c)
+  entries_fit = local_valid m at.period c valid time.valid
 
   face_pair : (f : Face) → IsFaceOf m.grid c f → is_active m f.end ≡ true → (lo : ℕ) × (hi : ℕ) × IsCapped (face_term m w.thick w.bed f.axis f.first) s lo hi
   face_pair f g b =
@@ -85,7 +93,7 @@ module _ (m : FlowModel) (w : Thicknesses) (s : ℕ) (at : TimeStep) (old : List
       let (low, high, head) = constant_pair m at f.end time.valid.times in
       (record { kind = Constant; source = f.end; lo = lo; hi = hi; head_lo = low; head_hi = high }, record { kind = refl; source = refl; conductance = is; head = head })
   a_fixed (ToGeneral head k) i =
-      let (lo, hi, is) = cond_pair s k in
+      let (lo, hi, is) = cond_pair s k (fixed_source m at.period c (ToGeneral head k) i entries_fit).1 in
       let (low, high, heads) = head_pair head in
       (record { kind = General; source = c; lo = lo; hi = hi; head_lo = low; head_hi = high }, record { kind = refl; source = refl; cond = is; head_pair = heads })
   a_fixed FromStorage i =
@@ -101,21 +109,26 @@ module _ (m : FlowModel) (w : Thicknesses) (s : ℕ) (at : TimeStep) (old : List
       by_choice false chosen h = absurd (none-some rate h)
 
   a_flow : (y : FlowSource) → In (flow_sources m at.period c) y → (x : Flow) × IsFlow m s c x y
-  a_flow (Pumped q) i = let (lo, hi, is) = well_pair s q in (record { kind = Wells; lo = lo; hi = hi }, record { kind = refl; flow = is })
+  a_flow (Pumped q) i =
+      let (lo, hi, is) = capped_flow (Number (size q)) q.neg (s + 9) (number_bounded q (flow_source m at.period c (Pumped q) i entries_fit)) tt in
+      (record { kind = Wells; lo = lo; hi = hi }, record { kind = refl; flow = is })
   a_flow (Received rate) i =
-      let (lo, hi, is) = recharge_pair m s c rate valid (rate_is rate (flow_source m at.period c (Received rate) i)) in
+      let is_rate = rate_is rate (flow_source m at.period c (Received rate) i) in
+      let (lo, hi, is) = capped_flow (recharge_term m rate c) rate.neg (s + 9) (recharge_bounded m valid rate c is_rate) ((tt, tt), tt) in
       (record { kind = Recharge; lo = lo; hi = hi }, record { kind = refl; flow = is })
 
   a_river : (y : RiverSource) → In (river_sources m at.period c) y → (x : River) × IsRiver s x y
   a_river y i =
-      let (lo, hi, is) = cond_pair s y.cond in
+      let (e, l, o) = filter_map-In as_river (local_entries m at.period c) y i in
+      let (lo, hi, is) = cond_pair s y.cond (river_valid e y o (In-All (IsEntryValid 4194304) (local_entries m at.period c) e entries_fit l)).1 in
       let (a, b, stage) = head_pair y.stage in
       let (d, e, bottom) = head_pair y.bottom in
       (record { lo = lo; hi = hi; stage_lo = a; stage_hi = b; bottom_lo = d; bottom_hi = e }, record { cond = is; stage = stage; bottom = bottom })
 
   a_drain : (y : DrainSource) → In (drain_sources m at.period c) y → (x : Drain) × IsDrain s x y
   a_drain y i =
-      let (lo, hi, is) = cond_pair s y.cond in
+      let (e, l, o) = filter_map-In as_drain (local_entries m at.period c) y i in
+      let (lo, hi, is) = cond_pair s y.cond (drain_valid e y o (In-All (IsEntryValid 4194304) (local_entries m at.period c) e entries_fit l)).1 in
       let (a, b, elevation) = head_pair y.elevation in
       (record { lo = lo; hi = hi; elev_lo = a; elev_hi = b }, record { cond = is; elevation = elevation })
 

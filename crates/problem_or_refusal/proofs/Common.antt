@@ -1,22 +1,19 @@
 -- Names that several proofs of this crate cite, of the crates below and of its own definitions, passed on from one place. Declares nothing.
-pub use Rattle.std.proofs.Common.{Bool, List, None, Option, Some, [], ap, arith, cond, false, inl, inr, map, mul-pos, neg_ℤ, negsuc, pos, refl, subst, suc, sym}
-pub use Rattle.std.proofs.Common.{take, true, zero, ℕ, ℤ, ◌*ℤ◌, ◌*◌, ◌++◌, ◌+ℤ◌, ◌+◌, ◌-ℤ◌, ◌-◌, ◌/◌, ◌<ℤ◌, ◌<◌, ◌^◌, ◌∙◌, ◌∷◌, ◌≡◌, ◌≤ℤ◌, ◌≤◌, ◌⊎◌}
+pub use Rattle.std.proofs.Common.{Bool, List, None, Option, Some, [], add-one, arith, cond, false, inl, inr, map, mul-pos, neg_ℤ, negsuc, pos, refl, subst, suc}
+pub use Rattle.std.proofs.Common.{sym, take, true, zero, ℕ, ℤ, ◌*ℤ◌, ◌*◌, ◌++◌, ◌+ℤ◌, ◌+◌, ◌-ℤ◌, ◌-◌, ◌/◌, ◌<ℤ◌, ◌<◌, ◌^◌, ◌∙◌, ◌∷◌, ◌≡◌, ◌≤ℤ◌, ◌≤◌, ◌⊎◌}
 pub use Rattle.std.proofs.Math.Nat.{div-mul-le_self, lt-mul-div-succ, mul-le-mul_right, pow-suc}
 pub use Rattle.std.proofs.lemmas.Bool.{cases_Bool, cases_lt, false≢true, true≢false}
-pub use Rattle.std.proofs.lemmas.Nat.{mod_below, pow-add}
-pub use Rattle.std.specs.List.{AllZip, range_with_len}
+pub use Rattle.std.specs.List.{All, AllZip, range_with_len}
 pub use Rattle.std.specs.Prelude.{min, unsigned_abs, ◌==◌}
-pub use Rattle.conductance_bounds.proofs.Enclosing.{bound_on, positive_value}
 pub use Rattle.conductance_bounds.proofs.PartBounds.{has_ceiling, unity_positive}
-pub use Rattle.conductance_bounds.proofs.Whole.{ceiling-passes, floor-ceiling}
+pub use Rattle.conductance_bounds.proofs.Whole.{ceiling-passes}
 pub use Rattle.conductance_bounds.specs.Formulas.{bed_term, column_k_term, evap_term, face_term, recharge_term, storage_term, thick_term, vertical_half_term}
 pub use Rattle.conductance_bounds.specs.Formulas.{vertical_k_at}
-pub use Rattle.conductance_bounds.specs.Pairs.{IsCapped, IsPair, high_end, low_end}
+pub use Rattle.conductance_bounds.specs.Pairs.{IsCapped, IsCappedFlow, IsPair, high_end, low_end}
 pub use Rattle.conductance_bounds.specs.Parts.{IsCeilingOf, IsFloorOf, IsGivenPair, IsPart, blend, is_whole, part_term}
-pub use Rattle.conductance_bounds.specs.Terms.{IsBound, IsRounded, Side, Term, end, other}
+pub use Rattle.conductance_bounds.specs.Terms.{Holds, IsBound, IsRounded, Side, Term, end, other}
 pub use Rattle.conductance_bounds.specs.Terms.Side.{Lower, Upper}
 pub use Rattle.conductance_bounds.specs.Terms.Term.{Number, Product, Quotient, Sum, Within}
-pub use Rattle.decimal_input.proofs.Orders.{AtMost-trans, Same-back, num_over, num_plus, num_times}
 pub use Rattle.decimal_input.proofs.Powers.{den_scaled, num_scaled, scaled_shift, ten_pos}
 pub use Rattle.decimal_input.specs.Canonical.{IsDec, number, size}
 pub use Rattle.decimal_input.specs.Decimals.{up}
@@ -24,18 +21,18 @@ unfoldable pub use Rattle.decimal_input.specs.Decimals.{scaled}
 pub use Rattle.decimal_input.specs.Ratios.{AtMost, Ratio, Same, den, over, plus, times}
 pub use Rattle.decimal_input.specs.Wholes.{IsFloor, IsSignedCeiling, IsSignedFloor}
 pub use Rattle.decimal_input.specs.declared.dec.Dec.{Dec}
-pub use Rattle.model_types.specs.Cells.{cell_count, column_of, layer_size, place_in_layer, row_of}
-pub use Rattle.model_types.specs.Kinds.{given_in, index_of, is_constant, is_variable, last_given, variable_below}
-pub use Rattle.model_types.specs.Layers.{bed_thickness, bottom_at, dec_at, delc_at, delr_at, hani_at, has_bed, hk_at, is_active, is_ratio, lowest, no_number}
-pub use Rattle.model_types.specs.Layers.{top_at, vka_at, vkcb_at}
-pub use Rattle.model_types.specs.Numbers.{IsPositive, IsThick}
+pub use Rattle.model_types.specs.Cells.{cell_count, layer_size, place_in_layer}
+pub use Rattle.model_types.specs.Kinds.{given_in, index_of, is_constant, is_variable, last_given}
+pub use Rattle.model_types.specs.Layers.{bed_thickness, bottom_at, dec_at, delc_at, delr_at, hani_at, has_bed, hk_at, is_active, is_ratio, lowest, top_at}
+pub use Rattle.model_types.specs.Layers.{vka_at, vkcb_at}
+pub use Rattle.model_types.specs.Numbers.{IsNotNegative, IsPositive, IsThick}
 pub use Rattle.model_types.specs.Times.{multiplier, period_at}
-pub use Rattle.model_types.specs.Valid.{IsEvapValid, IsModel, IsTimed, number_one}
+pub use Rattle.model_types.specs.Valid.{IsEntryValid, IsEvapValid, IsModel, IsTimed, number_one}
 pub use Rattle.model_types.specs.declared.model.FlowModel.{FlowModel}
 pub use Rattle.model_types.specs.declared.period.Period.{Period}
 pub use Rattle.model_types.specs.declared.time_steps.TimeStep.{TimeStep}
 pub use Rattle.problem_builder.proofs.TimesOf.{time_of}
-pub use Rattle.problem_builder.specs.Cells.{IsCellOf, IsDrain, IsEvap, IsFixed, IsFlow, IsLink, IsRiver}
+pub use Rattle.problem_builder.specs.InputBounds.{IsCond, IsHeadPair}
 pub use Rattle.problem_builder.specs.Moments.{IsTimeOf}
 pub use Rattle.problem_builder.specs.Thicknesses.{AreThicknesses, Thicknesses}
 pub use Rattle.problem_or_refusal.specs.Bounded.{HasPositiveBounds, IsBounded}

@@ -1,17 +1,19 @@
 -- The formulas of a valid model's bounds have both bounds.
-use Rattle.problem_or_refusal.proofs.Common.{◌≡◌, ℕ, zero, suc, ◌+◌, ◌-◌, ◌*◌, ◌/◌, ◌<◌, inl, inr, Bool, true, false, cond, Some, None, refl, sym, arith, ◌==◌}
-use Rattle.problem_or_refusal.proofs.Common.{cases_Bool, false≢true, Dec, IsDec, size, scaled, Ratio, FlowModel, Period, cell_count, layer_size, column_of}
-use Rattle.problem_or_refusal.proofs.Common.{row_of, no_number, dec_at, delr_at, delc_at, hk_at, hani_at, vka_at, vkcb_at, is_ratio, is_active, has_bed, top_at}
-use Rattle.problem_or_refusal.proofs.Common.{bottom_at, bed_thickness, IsPositive, multiplier, IsModel, IsTimed, number_one, Number, face_term, storage_term}
-use Rattle.problem_or_refusal.proofs.Common.{recharge_term, evap_term, thick_term, column_k_term, vertical_k_at, vertical_half_term, bed_term, part_term}
-use Rattle.problem_or_refusal.proofs.Common.{unity_positive, Thicknesses, AreThicknesses, HasPositiveBounds, IsBounded, mod_below, Term}
+use Rattle.problem_or_refusal.proofs.Common.{◌≡◌, ℕ, zero, suc, ◌+◌, ◌-◌, ◌<◌, inl, inr, Bool, true, false, cond, Some, None, refl, sym, arith, ◌==◌}
+use Rattle.problem_or_refusal.proofs.Common.{cases_Bool, false≢true, Dec, IsDec, size, scaled, Ratio, FlowModel, Period, cell_count, layer_size, dec_at}
+use Rattle.problem_or_refusal.proofs.Common.{delr_at, delc_at, hk_at, hani_at, vka_at, vkcb_at, is_ratio, is_active, has_bed, top_at, bottom_at, bed_thickness}
+use Rattle.problem_or_refusal.proofs.Common.{IsPositive, multiplier, IsModel, IsTimed, number_one, Number, face_term, storage_term, recharge_term, evap_term}
+use Rattle.problem_or_refusal.proofs.Common.{thick_term, column_k_term, vertical_k_at, vertical_half_term, bed_term, part_term, unity_positive, Thicknesses}
+use Rattle.problem_or_refusal.proofs.Common.{AreThicknesses, HasPositiveBounds, IsBounded, Term}
 use Rattle.model_types.specs.declared.face.Axis.{Axis}
 use Rattle.model_types.specs.declared.face.Axis.TheVariants.{Row, Column, Vertical}
 use Rattle.model_types.specs.Conductances.{one}
 use Rattle.model_types.specs.Faces.{stride}
 use Rattle.conductance_bounds.specs.Growth.{sum_term, power_term}
 use Rattle.conductance_bounds.specs.Branches.{half_term, row_term, vertical_k_term, vertical_term, resistance_sum, storativity_term}
+use Rattle.conductance_bounds.proofs.FaceBounds.{layered}
 use Rattle.conductance_bounds.proofs.Positive.{size_positive}
+use Rattle.conductance_bounds.proofs.Ready.{delr_positive, delc_positive}
 use Rattle.problem_builder.proofs.Elevations.{bed_valid, no_bed_gap, same_bed_gap}
 use Rattle.problem_or_refusal.proofs.Rounded.{number_bounded}
 use Rattle.problem_or_refusal.proofs.Spans.{span_positive}
@@ -72,10 +74,10 @@ part_bounded p n timed =
 
 module _ (m : FlowModel) (valid : IsModel m) where
   delr_factor : (c : ℕ) → IsFactor (Number (size (delr_at m c)))
-  delr_factor c = number_factor (delr_at m c) (valid.grid.delr.1 (column_of m.grid c) no_number (omega (arith, valid.grid.delr.0, mod_below c m.grid.cols (omega (arith, valid.grid.size.cols.0)))))
+  delr_factor c = number_factor (delr_at m c) (delr_positive m c valid)
 
   delc_factor : (c : ℕ) → IsFactor (Number (size (delc_at m c)))
-  delc_factor c = number_factor (delc_at m c) (valid.grid.delc.1 (row_of m.grid c) no_number (omega (arith, valid.grid.delc.0, mod_below (c / m.grid.cols) m.grid.rows (omega (arith, valid.grid.size.rows.0)))))
+  delc_factor c = number_factor (delc_at m c) (delc_positive m c valid)
 
   pub recharge_bounded : (rate : Dec) (c : ℕ) → IsDec rate → IsBounded (recharge_term m rate c)
   recharge_bounded rate c is = ((number_bounded rate is, (delr_factor c).bounded), (delc_factor c).bounded)
@@ -102,14 +104,6 @@ module _ (m : FlowModel) (valid : IsModel m) where
     vertical_half : (c : ℕ) → c < cell_count m.grid → is_active m c ≡ true → 1 < m.grid.layers → IsFactor (vertical_half_term m w.thick c)
     vertical_half c lt active several = vertical_factor (thick_term m w.thick c) (vertical_k_at m c) (thick_factor c lt active) (vertical_k_factor (is_ratio m c) (hk_at m c) (vka_at m c) (valid.cells c lt active).hk ((valid.cells c lt active).vka several))
 
-    layered : (a : ℕ) → a + layer_size m.grid < cell_count m.grid → 1 < m.grid.layers
-    layered a lt = by_layers m.grid.layers lt
-      where
-        by_layers : (k : ℕ) → a + layer_size m.grid < k * layer_size m.grid → 1 < k
-        by_layers zero h = absurd (omega (arith, h))
-        by_layers (suc zero) h = absurd (omega (arith, h))
-        by_layers (suc (suc k)) h = omega arith
-
     bed_bounded : (a : ℕ) → a + layer_size m.grid < cell_count m.grid → is_active m a ≡ true → is_active m (a + layer_size m.grid) ≡ true → ((bed_thickness m a).num == 0) ≡ false → IsBounded (bed_term m w.thick w.bed a)
     bed_bounded a lt x y some =
         elim (cases_Bool (has_bed m a)) [
@@ -129,7 +123,7 @@ module _ (m : FlowModel) (valid : IsModel m) where
     face_bounded Column a lt x y = row_bounded _ _ _ _ _ _ _ (column_half a (size (delr_at m a)) (delr_factor a) (omega (arith, lt)) x) (column_half (a + m.grid.cols) (size (delr_at m a)) (delr_factor a) lt y)
     face_bounded Vertical a lt x y =
         let r = resistance_factor ((bed_thickness m a).num == 0) (vertical_half_term m w.thick a) (bed_term m w.thick w.bed a) (vertical_half_term m w.thick (a + layer_size m.grid))
-        (vertical_half a (omega (arith, lt)) x (layered a lt)) (vertical_half (a + layer_size m.grid) lt y (layered a lt)) (bed_bounded a lt x y) in
+        (vertical_half a (omega (arith, lt)) x (layered m.grid.layers (layer_size m.grid) a lt)) (vertical_half (a + layer_size m.grid) lt y (layered m.grid.layers (layer_size m.grid) a lt)) (bed_bounded a lt x y) in
         (((delr_factor a).bounded, (delc_factor a).bounded), r.bounded, r.positive)
 
     pub storage_bounded : (p : Period) (n c : ℕ) → IsTimed p → p.steady ≡ false → c < cell_count m.grid → is_active m c ≡ true → IsBounded (storage_term m w.thick p n c)

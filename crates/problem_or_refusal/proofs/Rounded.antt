@@ -1,12 +1,11 @@
 -- Numbers of the input have whole bounds, and are decimals of 18 digits.
 use Rattle.problem_or_refusal.proofs.Common.{◌≡◌, ℕ, zero, suc, ◌+◌, ◌-◌, ◌*◌, ◌/◌, ◌≤◌, ◌<◌, ◌^◌, inl, inr, refl, subst, arith, ℤ, pos, negsuc, neg_ℤ, ◌+ℤ◌}
-use Rattle.problem_or_refusal.proofs.Common.{◌-ℤ◌, ◌*ℤ◌, ◌≤ℤ◌, ◌<ℤ◌, unsigned_abs, cases_lt, cases_Bool, Dec, IsDec, size, number, scaled, Same, scaled_shift}
-use Rattle.problem_or_refusal.proofs.Common.{IsFloorOf, IsCeilingOf, Number, has_ceiling, ceiling-passes, IsBounded, pow-suc, lt-mul-div-succ, div-mul-le_self}
-use Rattle.problem_or_refusal.proofs.Common.{IsSignedFloor, IsSignedCeiling, nothing_same}
+use Rattle.problem_or_refusal.proofs.Common.{◌-ℤ◌, ◌*ℤ◌, ◌≤ℤ◌, ◌<ℤ◌, cases_lt, cases_Bool, Dec, IsDec, size, number, scaled, Same, scaled_shift, IsFloorOf}
+use Rattle.problem_or_refusal.proofs.Common.{IsCeilingOf, Number, has_ceiling, IsBounded, pow-suc, lt-mul-div-succ, div-mul-le_self, IsSignedFloor}
+use Rattle.problem_or_refusal.proofs.Common.{IsSignedCeiling, nothing_same, IsHeadPair}
 use Rattle.problem_or_refusal.proofs.Pairs.{floor_of}
 use Rattle.std.proofs.lemmas.Int.{ints}
 use Rattle.decimal_input.proofs.SignedFloors.{floor_of_floor, floor_of_ceiling, ceiling_of_ceiling, ceiling_of_floor}
-use Rattle.problem_builder.specs.InputBounds.{IsCond, IsWellPair, IsHeadPair}
 
 pub signed_floor : (d : Dec) (s : ℕ) → (z : ℤ) × IsSignedFloor z (number d) s
 signed_floor d s =
@@ -27,27 +26,6 @@ head_pair d =
     let (lo, floor) = signed_floor d 9 in
     let (hi, ceiling) = signed_ceiling d 9 in
     (lo, hi, record { floor = floor; ceiling = ceiling })
-
-pub cond_pair : (s : ℕ) (d : Dec) → (lo : ℕ) × (hi : ℕ) × IsCond s d lo hi
-cond_pair s d =
-    let (lo, floor) = floor_of (size d) s in
-    let (hi, ceiling) = has_ceiling (size d) s in
-    elim (cases_lt hi (2 ^ 60)) [
-      | inl small ↦ (lo, hi, inl (record { floor = floor; ceiling = ceiling; small = small }))
-      | inr large ↦ (1, 2 ^ 60, inr (record { past = ceiling-passes hi (2 ^ 60 - 1) (size d) s (omega (arith, large)) ceiling; lower = refl; upper = refl }))
-    ]
-
-pub well_pair : (s : ℕ) (d : Dec) → (lo : ℤ) × (hi : ℤ) × IsWellPair s d lo hi
-well_pair s d =
-    let (lo, floor) = signed_floor d (s + 9) in
-    let (hi, ceiling) = signed_ceiling d (s + 9) in
-    elim (cases_lt (unsigned_abs lo) (2 ^ 126)) [
-      | inr large ↦ (pos (2 ^ 109), pos (2 ^ 109), inr (record { past = inl (record { floor = lo; is = floor; past = large }); lower = refl; upper = refl }))
-      | inl low ↦ elim (cases_lt (unsigned_abs hi) (2 ^ 126)) [
-        | inr large ↦ (pos (2 ^ 109), pos (2 ^ 109), inr (record { past = inr (record { ceiling = hi; is = ceiling; past = large }); lower = refl; upper = refl }))
-        | inl high ↦ (lo, hi, inl (record { floor = floor; ceiling = ceiling; small = (low, high) }))
-      ]
-    ]
 
 -- a whole number over 10 ^ 18
 pub floor_over : (x : ℤ) → (z : ℤ) × IsFloorOf x z

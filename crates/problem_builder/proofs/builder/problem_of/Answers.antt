@@ -1,5 +1,4 @@
-use Rattle.problem_builder.proofs.Common.{◌≡◌, ℕ, List, sym, subst, map, EnclosesStep, exact_step, variable_cells, Entries, IsActive, HasOldHeads, widths_of}
-use Rattle.problem_builder.specs.GridHeads.{IsNamed}
+use Rattle.problem_builder.specs.Tables.{widths_of}
 use Rattle.problem_builder.proofs.BoundsOf.{bounds_enclose}
 use Rattle.problem_builder.proofs.Problems.{is_problem}
 use Rattle.problem_builder.proofs.StepEnclosed.{step_encloses, ids_are}
@@ -13,25 +12,18 @@ new-requires c =
     is_problem i.model (widths_of i.tables) i.tables.digits i.at i.old are.model are.time (bounds_enclose i.model (widths_of i.tables) i.tables.digits i.at are.model are.tables.thicknesses are.time) are.old c.in_ok-cells.cells.items c.in_ok-cells.ensures.cells
 
 pub returns-clause-cells : goal.returns-clause-cells
-returns-clause-cells c =
-    let i = c.args.input.now in
-    let P : List Entries → Type 0 = λ p. map (λ e. e.id) p ≡ variable_cells i.model i.at.period in
-    subst P (sym c.new.ensures) (ids_are i.model (widths_of i.tables) i.tables.digits i.at i.old c.in_ok-cells.cells.items c.in_ok-cells.ensures.cells)
+returns-clause-cells c = let i = c.args.input.now in rw c.new.ensures (ids_are i.model (widths_of i.tables) i.tables.digits i.at i.old c.in_ok-cells.cells.items c.in_ok-cells.ensures.cells)
 
 pub returns-clause-named : goal.returns-clause-named
 returns-clause-named c =
-    let i = c.args.input.now in
-    let P : List Entries → Type 0 = λ p. (d : ℕ) → IsNamed p d → IsActive i.model d in
-    subst P (sym c.new.ensures) (named_active i.model (widths_of i.tables) i.tables.digits i.at i.old c.requires.size c.in_ok-cells.cells.items c.in_ok-cells.ensures.cells)
+    let i = c.args.input.now in rw c.new.ensures (named_active i.model (widths_of i.tables) i.tables.digits i.at i.old c.requires.size c.in_ok-cells.cells.items c.in_ok-cells.ensures.cells)
 
 pub returns-clause-encloses : goal.returns-clause-encloses
 returns-clause-encloses c = λ before olds.
     let i = c.args.input.now in
     let are = c.requires in
-    let P : List Entries → Type 0 = λ p. EnclosesStep i.tables.digits p (exact_step i.model i.at.period i.at.step before) in
-    subst P (sym c.new.ensures) (step_encloses i.model (widths_of i.tables) i.tables.digits i.at i.old c.in_ok-cells.cells.items before are.size (bounds_enclose i.model (widths_of i.tables) i.tables.digits i.at are.model are.tables.thicknesses are.time) olds c.in_ok-cells.ensures.cells)
+    rw c.new.ensures (step_encloses i.model (widths_of i.tables) i.tables.digits i.at i.old c.in_ok-cells.cells.items before are.size (bounds_enclose i.model (widths_of i.tables) i.tables.digits i.at are.model are.tables.thicknesses are.time) olds c.in_ok-cells.ensures.cells)
 
 pub returns-clause-stored : goal.returns-clause-stored
 returns-clause-stored c = λ steady.
-    let i = c.args.input.now in
-    subst HasOldHeads (sym c.new.ensures) (old_heads i.model (widths_of i.tables) i.tables.digits i.at i.old c.requires.size c.in_ok-cells.cells.items c.in_ok-cells.ensures.cells steady)
+    let i = c.args.input.now in rw c.new.ensures (old_heads i.model (widths_of i.tables) i.tables.digits i.at i.old c.requires.size c.in_ok-cells.cells.items c.in_ok-cells.ensures.cells steady)

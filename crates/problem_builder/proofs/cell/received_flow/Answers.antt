@@ -7,10 +7,10 @@ returns-in-Some c =
     let i = c.args.input.now in
     both_some (λ x rate. IsRechargePair i.model i.tables.digits c.args.cell rate x.lo x.hi) (IsReceived i.model i.tables.digits c.args.cell) _ _ c.in-Some.pair _ (sym c.in-Some.ensures)
     (λ rate h. subst (λ (x : Flow). IsReceived i.model i.tables.digits c.args.cell x rate) (sym c.constant_flow.ensures) (record { kind = refl; flow = h }))
-    (c.requires.input.period.recharge c.args.cell c.requires.cell.within c.requires.cell.variable)
+    (c.requires.input.period.recharge.each c.args.cell c.requires.cell.within)
 
 pub returns-in-None : goal.returns-in-None
 returns-in-None c =
     let i = c.args.input.now in
     both_none (λ x rate. IsRechargePair i.model i.tables.digits c.args.cell rate x.lo x.hi) (IsReceived i.model i.tables.digits c.args.cell) _ _ (sym c.in-None.ensures)
-    (c.requires.input.period.recharge c.args.cell c.requires.cell.within c.requires.cell.variable)
+    (c.requires.input.period.recharge.each c.args.cell c.requires.cell.within)

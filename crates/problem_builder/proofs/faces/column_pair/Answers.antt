@@ -1,6 +1,5 @@
-use Rattle.problem_builder.proofs.Common.{◌≡◌, ◌+◌, sym, subst, Term, IsCapped, face_term, Column, stride, thickness, span_in, IsPositive}
-use Rattle.conductance_bounds.specs.Branches.{column_of}
-use Rattle.problem_builder.proofs.Halves.{delr_positive}
+use Rattle.problem_builder.proofs.Common.{◌≡◌, ◌+◌, sym, subst, Term, IsCapped, face_term, Column, stride, thickness, span_in, IsPositive, column_of}
+use Rattle.problem_builder.proofs.Common.{delr_positive}
 use Rattle.problem_builder.proofs.faces.column_pair.Goals as goal
 
 pub returns : goal.returns

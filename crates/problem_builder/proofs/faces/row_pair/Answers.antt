@@ -1,6 +1,4 @@
-use Rattle.problem_builder.proofs.Common.{◌≡◌, ◌+◌, sym, subst, Term, IsCapped, face_term, Row, stride, thickness, span_in, IsPositive}
-use Rattle.conductance_bounds.specs.Branches.{row_of}
-use Rattle.problem_builder.proofs.Halves.{delc_positive}
+use Rattle.problem_builder.proofs.Common.{◌≡◌, ◌+◌, sym, subst, Term, IsCapped, face_term, Row, stride, thickness, span_in, IsPositive, row_of, delc_positive}
 use Rattle.problem_builder.proofs.faces.row_pair.Goals as goal
 
 pub returns : goal.returns

@@ -1,7 +1,7 @@
 use Rattle.problem_builder.proofs.Common.{◌≡◌, ◌+◌, refl, ap, sym, subst, arith, ◌∙◌, Term, IsBed, IsCapped, vertical_of, face_term, Vertical, layer_size}
-use Rattle.problem_builder.proofs.Common.{dec_at, thickness, bed_thickness, vkcb_at, IsPositive, span_in, layer_half}
+use Rattle.problem_builder.proofs.Common.{dec_at, thickness, bed_thickness, vkcb_at, IsPositive, span_in, layer_half, layered, delr_positive, delc_positive}
 use Rattle.conductance_bounds.specs.declared.vertical.Bed.{Bed}
-use Rattle.problem_builder.proofs.Halves.{bed_tests, bed_fits, layered, delr_positive, delc_positive}
+use Rattle.problem_builder.proofs.Halves.{bed_tests, bed_fits}
 use Rattle.problem_builder.proofs.faces.vertical_pair.Goals as goal
 
 pub returns : goal.returns

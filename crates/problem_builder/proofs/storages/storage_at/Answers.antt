@@ -1,8 +1,7 @@
 use Rattle.problem_builder.proofs.Common.{◌≡◌, ◌-◌, cond, Option, Some, None, sym, ap, ◌∙◌, subst, size, Sd, Period, dec_at, thickness, IsPositive}
 use Rattle.problem_builder.proofs.Common.{IsNotNegative, period_at, storage_of, storage_formula, storativity_term, storage_term, area_term, sum_term}
-use Rattle.problem_builder.proofs.Common.{power_term, IsCapped, Term, span_in}
+use Rattle.problem_builder.proofs.Common.{power_term, IsCapped, Term, span_in, delr_positive, delc_positive}
 use Rattle.conductance_bounds.specs.Calls.{IsThickness}
-use Rattle.problem_builder.proofs.Halves.{delr_positive, delc_positive}
 use Rattle.problem_builder.proofs.PeriodsOf.{period_valid}
 use Rattle.problem_builder.proofs.StorageParts.{thick_case, usable_case}
 use Rattle.problem_builder.proofs.storages.storage_at.Goals as goal
@@ -19,7 +18,7 @@ storage_branch-requires-clause-thick c =
     let span = c.span_at.ensures ∙ ap (λ xs. span_in xs c.args.cell) c.as_slice-2.ensures in
     let thick : c.thickness_in-thickness.result ≡ cond m.coefficient None (Some ((span_in t.thick c.args.cell).lo, (span_in t.thick c.args.cell).hi)) = c.thickness_in-thickness.ensures ∙ (λ q. cond m.coefficient None (Some ((span q).lo, (span q).hi))) in
     let P : Option (Sd × Sd) → Type 0 = λ o. IsThickness o in
-    subst P (sym thick) (usable_case m.coefficient (span_in t.thick c.args.cell) (c.requires.tables.usable c.args.cell c.requires.cell c.requires.active))
+    subst P (sym thick) (usable_case m.coefficient (span_in t.thick c.args.cell) (c.requires.tables.thick.each c.args.cell c.requires.cell c.requires.active).thick)
 
 pub storage_branch-requires-clause-delr : goal.storage_branch-requires-clause-delr
 storage_branch-requires-clause-delr c = subst IsPositive (sym c.delr_at-delr.ensures) (delr_positive c.args.model.now c.args.cell c.requires.model)

@@ -1,7 +1,7 @@
 use Rattle.problem_builder.proofs.Common.{ℕ, subst, ap, ◌∙◌, refl, arith, no_bound, NoFlow, Period, cell_count, entries_of, entries, AreLocalBounds, local_in}
-use Rattle.problem_builder.proofs.Common.{IsKind, IsIndex, IsKept, AreEvenStorages, span_in}
+use Rattle.problem_builder.proofs.Common.{◌≡◌, ◌-◌, Filled, IsKind, IsIndex, IsKept, AreEvenStorages, span_in}
 use Rattle.problem_builder.proofs.CellTables.{kinds_filled}
-use Rattle.problem_builder.proofs.PeriodMade.{period_made, filled_as, named_as}
+use Rattle.problem_builder.proofs.PeriodMade.{filled_as, named_as, period_as}
 use Rattle.problem_builder.proofs.PeriodsOf.{entries_in}
 use Rattle.problem_builder.proofs.period.PeriodTables.new.Goals as goal
 
@@ -27,13 +27,14 @@ returns-clause-tables c =
     let p = c.in_ok-next.next.period in
     let per = c.stress_period-period.ensures in
     let count = c.cell_count-count.ensures.count in
-    period_made m s c.args.given.now.period p _ c.in_ok-next.ensures.period (record {
+    let before : c.args.given.now.period ≡ p - 1 = omega (arith, c.in_ok-next.ensures.period) in
+    period_as m s _ p _ c.in_ok-next.ensures.period (record {
       period = refl;
       steady = ap (λ (x : Period). x.steady) per;
       kinds = filled_as (IsKind m p) NoFlow n _ _ c.new.ensures (kinds_filled m p _ c.in_ok-kinds.ensures);
       index = filled_as (IsIndex m p) 0 n _ _ c.new-2.ensures c.in_ok-index.ensures;
       given = named_as _ _ _ _ _ (c.as_slice-4.ensures ∙ ap (λ (x : Period). x.stresses.given) per) count c.in_ok-given.ensures;
-      kept = filled_as (IsKept m c.args.given.now.period) no_bound n _ _ c.new-3.ensures c.in_ok-kept.ensures;
+      kept = subst (λ (q : ℕ). Filled (IsKept m q) no_bound n c.new-3.result) before (filled_as (IsKept m c.args.given.now.period) no_bound n _ _ c.new-3.ensures c.in_ok-kept.ensures);
       locals = c.in_ok-local.ensures.len ∙ count;
       local = (λ d. subst (λ (x : Period). AreLocalBounds s d (local_in c.in_ok-local.local d) (entries_of d (entries x))) per (c.in_ok-local.ensures.are d));
       recharge = c.in_ok-recharge.ensures;

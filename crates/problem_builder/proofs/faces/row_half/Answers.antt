@@ -1,6 +1,5 @@
-use Rattle.problem_builder.proofs.Common.{ap, sym, subst, ◌∙◌, IsHalf, dec_at}
+use Rattle.problem_builder.proofs.Common.{ap, sym, subst, ◌∙◌, IsHalf, dec_at, delr_positive}
 use Rattle.conductance_bounds.specs.declared.horizontal.Half.{Half}
-use Rattle.problem_builder.proofs.Halves.{delr_positive}
 use Rattle.problem_builder.proofs.faces.row_half.Goals as goal
 
 pub returns-clause-is : goal.returns-clause-is

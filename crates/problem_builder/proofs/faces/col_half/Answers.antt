@@ -1,6 +1,5 @@
-use Rattle.problem_builder.proofs.Common.{ap, sym, subst, ◌∙◌, IsColHalf, dec_at}
+use Rattle.problem_builder.proofs.Common.{ap, sym, subst, ◌∙◌, IsColHalf, dec_at, delc_positive}
 use Rattle.conductance_bounds.specs.declared.horizontal.ColHalf.{ColHalf}
-use Rattle.problem_builder.proofs.Halves.{delc_positive}
 use Rattle.problem_builder.proofs.faces.col_half.Goals as goal
 
 pub returns-clause-is : goal.returns-clause-is
