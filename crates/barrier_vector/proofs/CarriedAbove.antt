@@ -1,8 +1,8 @@
 -- Some cell of a carried component lies at the base or above.
 use Rattle.barrier_vector.proofs.Common.{◌≡◌, ℕ, zero, suc, ◌<◌, ◌⊎◌, inl, inr, refl, sym, ap, ◌∙◌, subst, arith, ℤ, pos, ◌*ℤ◌, ◌≤ℤ◌, List, length, Bool, true}
-use Rattle.barrier_vector.proofs.Common.{false, AllZip, cases_lt, false≢true, by_lt_z, Low, Entries, IsCarried, IsMutual, carried_not_dry, WholeCell, whole_at}
-use Rattle.barrier_vector.proofs.Common.{whole_balance, CellWithin, IsMarkBelow}
-use Rattle.barrier_vector.proofs.FloorsLinks.{base_dry}
+use Rattle.barrier_vector.proofs.Common.{false, AllZip, cases_lt, false≢true, by_lt_z, Low, Entries, entries_at, cell_within, IsCarried, IsMutual}
+use Rattle.barrier_vector.proofs.Common.{carried_not_dry, WholeCell, whole_at, whole_balance, CellWithin, IsMarkBelow}
+use Rattle.barrier_vector.proofs.FloorsDry.{cell_dry}
 use Rattle.barrier_vector.proofs.FloorsSteps.{weak}
 
 -- the cells of a set below n all lie at most at t, or one lies at least there
@@ -34,5 +34,5 @@ module _ (m n : ℕ) (some_m : 0 < m) (some_n : 0 < n) (p : List Entries) (w : L
     somewhere_above c carried =
         elim (all_or_some (length p) carried.inside Y (b *ℤ pos n)) [
           | inr found ↦ found
-          | inl all ↦ absurd (carried_not_dry m n some_m some_n p w Y within both solves c carried (λ k. b *ℤ pos n) (λ k j e. (all k j e, base_dry m n some_m some_n p w Y within both solves b base k j)))
+          | inl all ↦ absurd (carried_not_dry m n some_m some_n p w Y within both solves c carried (λ k. b *ℤ pos n) (λ k j e. (all k j e, cell_dry m n (length p) b (entries_at p k) (whole_at w k) (cell_within m n some_m some_n p w Y within both solves k j) (λ v mark. base v (k, j, mark)))))
         ]

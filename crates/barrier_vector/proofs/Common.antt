@@ -7,8 +7,7 @@ pub use Rattle.std.proofs.Math.Nat.{le_of_mul-le-mul_left, mul-le-mul_right}
 pub use Rattle.std.proofs.lemmas.Bool.{cases_eq, cases_lt, eq-eqb, false≢true, ne_eqb}
 pub use Rattle.std.proofs.lemmas.Int.{by_lt_z, clamps, ints, to_z-of_z}
 pub use Rattle.std.proofs.lemmas.List.{at_drop_more, get_or_default, get_or_past, length-map, length-set, take_all, take_more}
-pub use Rattle.std.proofs.lemmas.List.Elements.{All-contains, All-head, All-tail, All-weaker, Contains-append_left, Contains-get_or, Contains-push}
-pub use Rattle.std.proofs.lemmas.List.Elements.{Contains-push_cases}
+pub use Rattle.std.proofs.lemmas.List.Elements.{All-contains, All-head, All-tail, Contains-append_left, Contains-get_or, Contains-push, Contains-push_cases}
 pub use Rattle.std.proofs.lemmas.List.Sums.{get_or-le-sum_by, sum_by-take-le, sum_by_more}
 pub use Rattle.std.specs.Int.{int_div_euclid, int_max, int_min, int_rem_euclid, w128, w64}
 pub use Rattle.std.specs.List.{AllZip}
@@ -19,7 +18,7 @@ pub use Rattle.barrier_vector.specs.Bounds.{IsUnanchored, LeastRoot, anchor_on, 
 pub use Rattle.barrier_vector.specs.CutLaws.{BarrierIsCut, ClampedFits, CutBarrierExcludesRefusal, CutBarrierIsOne, CutRefusalIsOne}
 pub use Rattle.barrier_vector.specs.Cuts.{AreCutBounds, EnclosesUncut, IsCutBarrierOf, IsCutBoundOn, IsCutFault, Refuses, RefusesOn, clamp, cut_on}
 pub use Rattle.barrier_vector.specs.Labels.{AreLabels, Fills, IsGreatestOf, flow_sum, is_label, labelled, number_at, sum_at}
-pub use Rattle.barrier_vector.specs.Lacks.{capped_flow, high_flow, lack, need, need_on, negative_part, positive_part, surplus}
+pub use Rattle.barrier_vector.specs.Lacks.{capped_flow, high_flow, lack, need, need_on, negative_part, positive_part}
 pub use Rattle.barrier_vector.specs.Laws.{CeilingsEnclose, FloorsEnclose, FloorsHold, IsSolution}
 pub use Rattle.barrier_vector.specs.Marks.{IsBase, IsCellMark, IsInside, IsMarkBelow, IsMarkIn, IsOutermost, drain_mark, fixed_mark, if_some, outer_of}
 pub use Rattle.barrier_vector.specs.Marks.{river_mark}
@@ -35,20 +34,16 @@ pub use Rattle.barrier_vector.specs.declared.BarrierFault.{BarrierFault}
 pub use Rattle.barrier_vector.specs.declared.BarrierFault.TheVariants.{Memory}
 pub use Rattle.barrier_vector.specs.declared.gathered.FlowSum.{FlowSum}
 pub use Rattle.cell_balance.proofs.Cancel.{IsMutual, cut_link, cut_links}
-pub use Rattle.cell_balance.proofs.Dry.{cut_sum, dry_fixed}
-pub use Rattle.cell_balance.proofs.Encloses.{high_back, low_back, whole_head, whole_solution}
-pub use Rattle.cell_balance.proofs.Mutual.{no_whole_link}
-pub use Rattle.cell_balance.proofs.Products.{conducting}
 pub use Rattle.cell_balance.proofs.Spread.{carried_not_dry, cell_within}
-pub use Rattle.cell_balance.proofs.Sums.{sum-add, sum-neg, sum-same, sum-zero, term-le-sum}
-pub use Rattle.cell_balance.proofs.Totals.{add_mul, le_trans_z, same_z, sub_mul, total_more, total_neg, total_nonneg}
-pub use Rattle.cell_balance.proofs.Whole.{WholeCell, WholeDrain, WholeEvap, WholeFixed, WholeLink, WholeRiver, whole_at, whole_balance, whole_deep, whole_drain}
-pub use Rattle.cell_balance.proofs.Whole.{whole_evap, whole_fixed, whole_link, whole_river}
+pub use Rattle.cell_balance.proofs.Sums.{sum-add, sum-same, sum-zero, term-le-sum}
+pub use Rattle.cell_balance.proofs.Totals.{add_mul, le_trans_z, same_z, sub_mul, total-same, total_more, total_neg, total_nonneg}
+pub use Rattle.cell_balance.proofs.Whole.{WholeCell, WholeEvap, WholeLink, no_whole, whole_at, whole_balance, whole_deep, whole_drain, whole_evap, whole_fixed}
+pub use Rattle.cell_balance.proofs.Whole.{whole_link, whole_river}
 pub use Rattle.cell_balance.proofs.Within.{CellWithin, DrainWithin, FixedWithin, FlowWithin, IsDry, LinkWithin, RiverWithin}
 pub use Rattle.cell_balance.proofs.Zips.{All-zip, AllZip-at, AllZip-length}
 pub use Rattle.cell_balance.specs.Components.{IsAnchored, IsCarried, IsComponent, IsHeldBelow, Leads, Reaches, deep_low, sum_below, sum_inside}
+pub use Rattle.cell_balance.specs.Steps.{ExactCell}
 pub use Rattle.decimal_input.proofs.Signs.{mul_mono_right}
-pub use Rattle.step_problem.proofs.Leasts.{mul_neg}
 pub use Rattle.step_problem.proofs.Ring.{mul_mono, mul_nonneg}
 pub use Rattle.step_problem.proofs.Sums.{total_step}
 pub use Rattle.step_problem.specs.Conditions.{CellFits, DrainFits, FixedFits, IsHead, IsProblem, IsWithin, LinkFits, RiverFits, deep_river_high, deep_river_low}

@@ -6,8 +6,7 @@ use Rattle.barrier_vector.proofs.Common.{IsCutFault, BarrierFault, Memory, CutBa
 use Rattle.step_problem.specs.declared.refusal.StepRefusal.{StepRefusal}
 use Rattle.barrier_vector.specs.declared.BarrierFault.TheVariants.{NoBound as AFault}
 use Rattle.barrier_vector.proofs.Uniques.{bound_one}
-use Rattle.barrier_vector.proofs.Floors.{floors_enclose}
-use Rattle.barrier_vector.proofs.Ceilings.{ceilings_enclose}
+use Rattle.barrier_vector.proofs.Floors.{floors_enclose, ceilings_enclose}
 use Rattle.barrier_vector.proofs.CarriedHeld.{held_cell}
 use Rattle.barrier_vector.proofs.OneAnswer.{same_heads, same_least}
 use Rattle.barrier_vector.proofs.Sides.{cut_nowhere_without}

@@ -1,10 +1,8 @@
 -- What a barrier's floors and ceilings give to its caller.
-use Rattle.barrier_vector.proofs.Common.{ℕ, ◌<◌, ℤ, List, length, Entries, IsProblem, IsHeldBelow, IsFloor, IsCeiling, IsSolution}
-use Rattle.cell_balance.specs.Steps.{ExactCell}
+use Rattle.barrier_vector.proofs.Common.{ℕ, ◌<◌, ℤ, List, length, Entries, IsProblem, IsHeldBelow, IsFloor, IsCeiling, IsSolution, ExactCell}
 use Rattle.cell_balance.specs.Solutions.{SolvesStep, LiesBetween}
 use Rattle.cell_balance.specs.Enclosures.{EnclosesStep}
-use Rattle.barrier_vector.proofs.Floors.{floors_enclose}
-use Rattle.barrier_vector.proofs.Ceilings.{ceilings_enclose}
+use Rattle.barrier_vector.proofs.Floors.{floors_enclose, ceilings_enclose}
 use Rattle.barrier_vector.proofs.CarriedHeld.{held_cell}
 
 pub encloses_all : (p : List Entries) (low high : ℕ → ℤ) → IsProblem p → ((c : ℕ) → c < length p → IsFloor p c (low c)) → ((c : ℕ) → c < length p → IsCeiling p c (high c)) → (s : ℕ) (e : List ExactCell) (d : ℕ) (X : ℕ → ℤ) → EnclosesStep s p e → 0 < d → SolvesStep e d X → LiesBetween (length p) d X low high

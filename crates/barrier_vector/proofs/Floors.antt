@@ -1,37 +1,45 @@
--- No solution lies below a floor.
-use Rattle.barrier_vector.proofs.Common.{◌≡◌, ℕ, ◌+◌, ◌*◌, ◌^◌, ◌<◌, ◌≤◌, inl, inr, refl, subst, arith, ℤ, pos, ◌-ℤ◌, ◌*ℤ◌, ◌≤ℤ◌, List, length, Contains}
-use Rattle.barrier_vector.proofs.Common.{AllZip, mul-le-mul_right, ints, Link, Low, Entries, entries_at, IsProblem, IsCarried, sub_mul, same_z, IsMutual}
-use Rattle.barrier_vector.proofs.Common.{WholeCell, whole_at, whole_balance, CellWithin, IsMarkBelow, lack, anchor_on, LeastRoot, IsAnchorPath, IsInnerPath}
-use Rattle.barrier_vector.proofs.Common.{IsLongest, IsFloor, FloorsEnclose, whole_head, whole_solution, low_back}
+-- No solution lies below a floor, and none above a ceiling.
+use Rattle.barrier_vector.proofs.Common.{◌≡◌, ℕ, ◌+◌, ◌*◌, ◌^◌, ◌<◌, ◌≤◌, inl, inr, refl, subst, arith, ℤ, pos, ◌+ℤ◌, ◌-ℤ◌, ◌*ℤ◌, ◌≤ℤ◌, ◌<ℤ◌, List, length}
+use Rattle.barrier_vector.proofs.Common.{Contains, AllZip, mul-le-mul_right, ints, Link, Side, Low, High, Entries, entries_at, IsProblem, IsCarried, add_mul}
+use Rattle.barrier_vector.proofs.Common.{sub_mul, same_z, IsMutual, WholeCell, whole_at, whole_balance, whole_link, total, cell_within, CellWithin, IsMarkBelow}
+use Rattle.barrier_vector.proofs.Common.{IsInside, need, need_on, anchor_on, LeastRoot, IsAnchorPath, IsInnerPath, IsLongest, IsAnchoredBound, IsBoundOn}
+use Rattle.barrier_vector.proofs.Common.{FloorsEnclose, CeilingsEnclose, IsSolution, ExactCell}
+use Rattle.cell_balance.proofs.Encloses.{whole_head, whole_solution, low_back, high_back}
 use Rattle.barrier_vector.proofs.Backs.{join_ways, turn_way}
 use Rattle.barrier_vector.proofs.FloorsSteps.{ceil_enough}
 use Rattle.barrier_vector.proofs.FloorsLinks.{falls_over, falls_at}
 use Rattle.barrier_vector.proofs.FloorsPaths.{falls_along, falls_to_root}
+use Rattle.barrier_vector.proofs.Gains.{inward, rest_of, inward_balance, gives}
 use Rattle.barrier_vector.proofs.CarriedAbove.{somewhere_above}
 use Rattle.barrier_vector.proofs.CarriedRoots.{same_root, inner_path}
 use Rattle.barrier_vector.proofs.Marking.{base_outside}
-use Rattle.barrier_vector.proofs.Rooting.{greatest_has}
 
 module _ (m n : ℕ) (some_m : 0 < m) (some_n : 0 < n) (p : List Entries) (w : List WholeCell) (Y : ℕ → ℤ)
     (within : AllZip (CellWithin m n (length p)) p w) (both : IsMutual w)
     (solves : (c : ℕ) → c < length w → whole_balance (whole_at w c) (Y c) Y ≡ pos 0)
-    (ok : IsProblem p) (b : ℤ) (base : (v : ℤ) → IsMarkBelow Low p (length p) v → b ≤ℤ v)
+    (ok : IsProblem p)
   where
-    over : (t : ℤ) → t ≤ℤ (b *ℤ pos n) → (drop c : ℕ) → c < length p → (x : Link) → Contains (entries_at p c).links x → lack p ≤ drop * x.lo → t ≤ℤ Y x.cell → (t -ℤ pos (drop * n)) ≤ℤ Y c
-    over = falls_over m n some_m some_n p w Y within both solves b base
+    module _ (side : Side) (b : ℤ) (base : (v : ℤ) → IsMarkBelow side p (length p) v → IsInside side b v) where
+      solved : (c : ℕ) → c < length w → total (whole_link (λ k. inward side (Y k)) (inward side (Y c))) (whole_at w c).links +ℤ inward side (rest_of (whole_at w c) (Y c)) ≡ pos 0
+      solved c i = inward_balance side (whole_at w c) (Y c) Y (solves c i)
 
-    -- a cell with a path to an anchor
-    anchored_floor : (c s : ℕ) → c < length p → IsAnchorPath Low p c s → ((b *ℤ pos n) -ℤ pos (s * n)) ≤ℤ Y c
-    anchored_floor c s i path =
-        falls_along p ok n (lack p) Y (b *ℤ pos n) over _ (b *ℤ pos n) (same_z _) path.level c s i path.sums
-        (λ r d j (r_in, some, is) way.
-        let (x, has, lo) = greatest_has (λ x. x.lo) (entries_at p r).fixed some in
-        let enough = ceil_enough (lack p) (anchor_on Low (entries_at p r)) some in
-        falls_at m n some_m some_n p w Y within both solves b base d r r_in x has (omega (arith, some, lo)) (rw (is, lo) enough))
+      gives_here : (c : ℕ) → c < length p → inward side (Y c) <ℤ inward side (b *ℤ pos n) → (pos (anchor_on side (entries_at p c) * m) *ℤ (inward side (b *ℤ pos n) -ℤ inward side (Y c))) ≤ℤ (inward side (rest_of (whole_at w c) (Y c)) +ℤ pos (need_on side (entries_at p c)) *ℤ pos (m * n))
+      gives_here c i = gives m n (length p) b (entries_at p c) (whole_at w c) (cell_within m n some_m some_n p w Y within both solves c i) (Y c) side (λ v mark. base v (c, i, mark))
+
+      over : (t : ℤ) → t ≤ℤ inward side (b *ℤ pos n) → (drop c : ℕ) → c < length p → (x : Link) → Contains (entries_at p c).links x → need side p ≤ drop * x.lo → t ≤ℤ inward side (Y x.cell) → (t -ℤ pos (drop * n)) ≤ℤ inward side (Y c)
+      over = falls_over m n some_m p w within both (λ k. inward side (Y k)) (λ k. inward side (rest_of (whole_at w k) (Y k))) (need_on side) (anchor_on side) (inward side (b *ℤ pos n)) solved gives_here
+
+      -- a cell with a path to an anchor
+      anchored_bound : (c s : ℕ) → c < length p → IsAnchorPath side p c s → (inward side (b *ℤ pos n) -ℤ pos (s * n)) ≤ℤ inward side (Y c)
+      anchored_bound c s i path =
+          falls_along p ok n (need side p) (λ k. inward side (Y k)) (inward side (b *ℤ pos n)) over _ (inward side (b *ℤ pos n)) (same_z _) path.level c s i path.sums
+          (λ r d j (r_in, some, is) way.
+          falls_at m n some_m p w within both (λ k. inward side (Y k)) (λ k. inward side (rest_of (whole_at w k) (Y k))) (need_on side) (anchor_on side) (inward side (b *ℤ pos n)) solved gives_here
+          d r r_in some (rw is (ceil_enough (need side p) (anchor_on side (entries_at p r)) some)))
 
     -- a cell of a carried component: up to a cell at the base, down to the least cell, and on to the cell
-    carried_floor : (c s t : ℕ) → c < length p → IsCarried p c → IsInnerPath p c s → IsLongest p c t → ((b *ℤ pos n) -ℤ pos ((s + t) * n)) ≤ℤ Y c
-    carried_floor c s t i carried path longest =
+    carried_floor : (b : ℤ) (base : (v : ℤ) → IsMarkBelow Low p (length p) v → b ≤ℤ v) → (c s t : ℕ) → c < length p → IsCarried p c → IsInnerPath p c s → IsLongest p c t → ((b *ℤ pos n) -ℤ pos ((s + t) * n)) ≤ℤ Y c
+    carried_floor b base c s t i carried path longest =
         let leads = path.is_level.leads in
         let root : LeastRoot p leads.root 0 = (leads.is_root.0, leads.is_root.1, refl) in
         let (k, k_in, inside, high) = somewhere_above m n some_m some_n p w Y within both solves b base c carried in
@@ -39,11 +47,11 @@ module _ (m n : ℕ) (some_m : 0 < m) (some_n : 0 < n) (p : List Entries) (w : L
         let (i', to_c) = turn_way p ok j c k to_k in
         let (e, path_k) = inner_path p ok leads.root root k (i' + path.level) (join_ways p ok i' path.level k c leads.root to_c leads.reaches) in
         let short = longest.longest j k e to_k path_k in
-        let (r, d, l, is_root, way, deep) = falls_to_root p ok n (lack p) Y (b *ℤ pos n) over (LeastRoot p) (b *ℤ pos n) (same_z _) path_k.level k e 0 k_in path_k.sums (none (b *ℤ pos n) (Y k) high) in
+        let (r, d, l, is_root, way, deep) = falls_to_root p ok n (need Low p) Y (b *ℤ pos n) (over Low b base) (LeastRoot p) (b *ℤ pos n) (same_z _) path_k.level k e 0 k_in path_k.sums (none (b *ℤ pos n) (Y k) high) in
         let r_is = same_root p ok leads.root root c path.level (j + l) r d leads.reaches (join_ways p ok j l c k r to_k way) is_root in
         let low = deeper (b *ℤ pos n) e t (Y r) short deep in
         deepest (b *ℤ pos n) (Y c)
-        (falls_along p ok n (lack p) Y (b *ℤ pos n) over (LeastRoot p) ((b *ℤ pos n) -ℤ pos (t * n)) (under (b *ℤ pos n) (t * n)) path.level c s i path.sums
+        (falls_along p ok n (need Low p) Y (b *ℤ pos n) (over Low b base) (LeastRoot p) ((b *ℤ pos n) -ℤ pos (t * n)) (under (b *ℤ pos n) (t * n)) path.level c s i path.sums
         (λ r' d' l' other way'.
         let r'_is = same_root p ok leads.root root c path.level l' r' d' leads.reaches way' other in
         at_root ((b *ℤ pos n) -ℤ pos (t * n)) d' r r' leads.root other.2 r_is r'_is low))
@@ -63,19 +71,29 @@ module _ (m n : ℕ) (some_m : 0 < m) (some_n : 0 < n) (p : List Entries) (w : L
         deepest : (a y : ℤ) → ((a -ℤ pos (t * n)) -ℤ pos (s * n)) ≤ℤ y → (a -ℤ pos ((s + t) * n)) ≤ℤ y
         deepest a y h = omega (arith, ints, h)
 
--- the floor of a cell
-pub whole_floor : (m n : ℕ) → 0 < m → 0 < n → (p : List Entries) (w : List WholeCell) (Y : ℕ → ℤ) → AllZip (CellWithin m n (length p)) p w → IsMutual w → ((c : ℕ) → c < length w → whole_balance (whole_at w c) (Y c) Y ≡ pos 0) → IsProblem p → (c : ℕ) (f : ℤ) → c < length p → IsFloor p c f → (f *ℤ pos n) ≤ℤ Y c
-whole_floor m n some_m some_n p w Y within both solves ok c f i kind =
-    elim kind [
-      | inl (b, base, s, path, is) ↦ scaled b s is (anchored_floor m n some_m some_n p w Y within both solves ok b (base_outside Low p b base) c s i path)
-      | inr (b, base, free, carried, s, path, t, longest, is) ↦ scaled b (s + t) is (carried_floor m n some_m some_n p w Y within both solves ok b (base_outside Low p b base) c s t i carried path longest)
-    ]
+    -- the bound of a cell on a side
+    anchored_encloses : (side : Side) (c : ℕ) (f : ℤ) → c < length p → IsAnchoredBound side p c f → IsInside side (f *ℤ pos n) (Y c)
+    anchored_encloses Low c f i (b, base, s, path, is) = let h = anchored_bound Low b (base_outside Low p b base) c s i path in rw (is, sub_mul b (pos s) (pos n)) (omega (arith, ints, h))
+    anchored_encloses High c f i (b, base, s, path, is) = let h = anchored_bound High b (base_outside High p b base) c s i path in rw (is, add_mul b (pos s) (pos n)) (omega (arith, ints, h))
+
+    pub bound_encloses : (side : Side) (c : ℕ) (f : ℤ) → c < length p → IsBoundOn side p c f → IsInside side (f *ℤ pos n) (Y c)
+    bound_encloses Low c f i (inl anchored) = anchored_encloses Low c f i anchored
+    bound_encloses Low c f i (inr (b, base, free, carried, s, path, t, longest, is)) =
+        let h = carried_floor b (base_outside Low p b base) c s t i carried path longest in rw (is, sub_mul b (pos (s + t)) (pos n)) (omega (arith, ints, h))
+    bound_encloses High c f i anchored = anchored_encloses High c f i anchored
+
+-- No solution lies outside a bound.
+pub bounds_enclose : (side : Side) (p : List Entries) (s : ℕ) (e : List ExactCell) (d : ℕ) (X : ℕ → ℤ) → IsSolution p s e d X → (c : ℕ) (f : ℤ) → c < length p → IsBoundOn side p c f → IsInside side (f *ℤ pos d) (X c *ℤ pos (10 ^ 9))
+bounds_enclose side p s e d X given c f i bound =
+    let (n, w, whole) = whole_solution p s e d X given.problem given.encloses given.some given.solves in
+    back side n whole.some (bound_encloses n (n * d) whole.some whole.some_heads p w (whole_head n X) whole.within whole.both whole.solves given.problem side c f i bound)
   where
-    scaled : (b : ℤ) (k : ℕ) → f ≡ b -ℤ pos k → ((b *ℤ pos n) -ℤ pos (k * n)) ≤ℤ Y c → (f *ℤ pos n) ≤ℤ Y c
-    scaled b k is h = rw (is, sub_mul b (pos k) (pos n)) (omega (arith, ints, h))
+    back : (side : Side) (n : ℕ) → 0 < n → IsInside side (f *ℤ pos (n * d)) (whole_head n X c) → IsInside side (f *ℤ pos d) (X c *ℤ pos (10 ^ 9))
+    back Low n some h = low_back n d f (X c *ℤ pos (10 ^ 9)) some h
+    back High n some h = high_back n d f (X c *ℤ pos (10 ^ 9)) some h
 
 pub floors_enclose : FloorsEnclose
-floors_enclose p s e d X given c f i floor =
-    let (n, w, whole) = whole_solution p s e d X given.problem given.encloses given.some given.solves in
-    low_back n d f (X c *ℤ pos (10 ^ 9)) whole.some
-    (whole_floor n (n * d) whole.some whole.some_heads p w (whole_head n X) whole.within whole.both whole.solves given.problem c f i floor)
+floors_enclose p = bounds_enclose Low p
+
+pub ceilings_enclose : CeilingsEnclose
+ceilings_enclose p = bounds_enclose High p

@@ -1,8 +1,7 @@
--- What enters the cells below a head that is not above the base: each cut link and each fixed link carries at most what all cells lack.
-use Rattle.barrier_vector.proofs.Common.{◌≡◌, ℕ, ◌<◌, refl, sym, ◌∙◌, arith, ℤ, pos, neg_ℤ, ◌+ℤ◌, ◌-ℤ◌, ◌≤ℤ◌, ◌<ℤ◌, List, length, Bool, true, false, cond, ints}
-use Rattle.barrier_vector.proofs.Common.{lt_z, true_is_lt, lt_out, total, mul_nonneg, sum_inside, total_nonneg, sum-same, sum-zero, term-le-sum, IsMutual}
-use Rattle.barrier_vector.proofs.Common.{cut_link, dry_fixed, cut_sum, WholeLink, WholeCell, whole_link, whole_fixed, whole_balance, whole_deep, whole_at}
-use Rattle.barrier_vector.proofs.Common.{IsDry}
+-- What enters the cells below a head over their links, in all no more than the needs of all cells: besides their links cells get no less than what they need.
+use Rattle.barrier_vector.proofs.Common.{◌≡◌, ℕ, ◌<◌, refl, sym, ◌∙◌, arith, ℤ, pos, ◌+ℤ◌, ◌-ℤ◌, ◌≤ℤ◌, ◌<ℤ◌, List, length, Bool, true, false, cond, ints, lt_z}
+use Rattle.barrier_vector.proofs.Common.{true_is_lt, lt_out, total, mul_nonneg, sum_inside, total_nonneg, sum-add, sum-same, sum-zero, term-le-sum, IsMutual}
+use Rattle.barrier_vector.proofs.Common.{cut_link, cut_links, WholeLink, WholeCell, whole_link, whole_at}
 
 pub test_true : (a b : ℤ) → a <ℤ b → lt_z a b ≡ true
 test_true a b h = sym (true_is_lt a b (lt_out a b h))
@@ -18,41 +17,39 @@ cut_enters Y t y h x = by_test (lt_z (Y x.cell) t) refl
     by_test true e = omega (arith, ints)
     by_test false e = mul_nonneg (pos x.c) (Y x.cell -ℤ y) (omega (arith, ints)) (omega (arith, ints))
 
-module _ (w : List WholeCell) (Y : ℕ → ℤ) (both : IsMutual w) (t q : ℤ)
-    (solved : (c : ℕ) → c < length w → whole_balance (whole_at w c) (Y c) Y ≡ pos 0)
-    (dry : (c : ℕ) → c < length w → IsDry t (whole_at w c))
-    (lacks : neg_ℤ (sum_inside (length w) (lies_below Y t) (λ c. whole_deep (whole_at w c))) ≤ℤ q)
+-- Y are heads; besides its links cell c gets `rest c`
+module _ (w : List WholeCell) (both : IsMutual w) (Y rest need : ℕ → ℤ) (t : ℤ)
+    (solved : (c : ℕ) → c < length w → total (whole_link Y (Y c)) (whole_at w c).links +ℤ rest c ≡ pos 0)
+    (gets : (c : ℕ) → c < length w → Y c <ℤ t → pos 0 ≤ℤ (rest c +ℤ need c))
   where
-    abbrev given : ℕ → ℤ
-    given k = total (cut_link (lies_below Y t) Y (Y k)) (whole_at w k).links +ℤ total (whole_fixed (Y k)) (whole_at w k).fixed
+    abbrev over_cut : ℕ → ℤ
+    over_cut k = total (cut_link (lies_below Y t) Y (Y k)) (whole_at w k).links
 
-    links_give : (c : ℕ) → Y c <ℤ t → pos 0 ≤ℤ total (cut_link (lies_below Y t) Y (Y c)) (whole_at w c).links
+    pub links_give : (c : ℕ) → Y c <ℤ t → pos 0 ≤ℤ over_cut c
     links_give c h = total_nonneg (λ x. Unit {0}) _ (whole_at w c).links (λ x u. cut_enters Y t (Y c) h x) (λ k d i. tt)
 
-    fixed_give : (c : ℕ) → c < length w → Y c <ℤ t → pos 0 ≤ℤ total (whole_fixed (Y c)) (whole_at w c).fixed
-    fixed_give c i h = total_nonneg _ (whole_fixed (Y c)) (whole_at w c).fixed (dry_fixed (Y c) t (omega (arith, ints))) (dry c i).fixed
+    some : (k : ℕ) → k < length w → (b : Bool) → lies_below Y t k ≡ b → pos 0 ≤ℤ cond b (over_cut k +ℤ (rest k +ℤ need k)) (pos 0)
+    some k j true e =
+        let h : Y k <ℤ t = omega (arith, ints) in
+        let a = links_give k h in let b = gets k j h in omega (arith, ints, a, b)
+    some k j false e = omega (arith, ints)
 
-    below : (k : ℕ) → lies_below Y t k ≡ true → Y k ≤ℤ t
-    below k e = omega (arith, ints)
+    split : (a r q : ℤ) (b : Bool) → cond b (a +ℤ (r +ℤ q)) (pos 0) ≡ cond b (a +ℤ r) (pos 0) +ℤ cond b q (pos 0)
+    split a r q true = omega (arith, ints)
+    split a r q false = refl
 
-    solved_cell : (k : ℕ) → k < length w → (b : Bool) → cond b (whole_balance (whole_at w k) (Y k) Y) (pos 0) ≡ pos 0
+    solved_cell : (k : ℕ) → k < length w → (b : Bool) → cond b (total (whole_link Y (Y k)) (whole_at w k).links +ℤ rest k) (pos 0) ≡ pos 0
     solved_cell k j true = solved k j
     solved_cell k j false = refl
 
-    some : (k : ℕ) → k < length w → (b : Bool) → lies_below Y t k ≡ b → pos 0 ≤ℤ cond b (given k) (pos 0)
-    some k j true e =
-        let h : Y k <ℤ t = omega (arith, ints) in
-        let a = links_give k h in let b = fixed_give k j h in omega (arith, ints, a, b)
-    some k j false e = omega (arith, ints)
-
-    -- what enters one cell below t over cut links and over fixed links
-    pub enters : (c : ℕ) → c < length w → Y c <ℤ t → (total (cut_link (lies_below Y t) Y (Y c)) (whole_at w c).links ≤ℤ q) × (total (whole_fixed (Y c)) (whole_at w c).fixed ≤ℤ q)
+    -- one cell below t gets over cut links, and otherwise beyond its need, no more than all need
+    pub enters : (c : ℕ) → c < length w → Y c <ℤ t → (over_cut c +ℤ (rest c +ℤ need c)) ≤ℤ sum_inside (length w) (lies_below Y t) need
     enters c i h =
-        let sums = cut_sum w Y both (lies_below Y t) (λ k. t) (λ k j e. (below k e, dry k j)) in
-        let none = sum-same (length w) (λ k. cond (lies_below Y t k) (whole_balance (whole_at w k) (Y k) Y) (pos 0)) (λ k. pos 0) (λ k j. solved_cell k j (lies_below Y t k)) ∙ sum-zero (length w) in
-        let one = term-le-sum (length w) (λ k. cond (lies_below Y t k) (given k) (pos 0)) (λ k j. some k j (lies_below Y t k) refl) c i in
-        let test : lies_below Y t c ≡ true = test_true (Y c) t h in
-        finish _ _ _ _ _ sums none (rw test at one) (links_give c h) (fixed_give c i h) lacks
+        let n = length w in
+        let parts = sum-same n _ _ (λ k j. split (over_cut k) (rest k) (need k) (lies_below Y t k)) ∙ sum-add n (λ k. cond (lies_below Y t k) (over_cut k +ℤ rest k) (pos 0)) (λ k. cond (lies_below Y t k) (need k) (pos 0)) in
+        let none = sum-same n (λ k. cond (lies_below Y t k) (total (whole_link Y (Y k)) (whole_at w k).links +ℤ rest k) (pos 0)) (λ k. pos 0) (λ k j. solved_cell k j (lies_below Y t k)) ∙ sum-zero n in
+        let one = term-le-sum n (λ k. cond (lies_below Y t k) (over_cut k +ℤ (rest k +ℤ need k)) (pos 0)) (λ k j. some k j (lies_below Y t k) refl) c i in
+        finish _ _ _ _ _ parts (cut_links w (lies_below Y t) Y rest both) none (rw (test_true (Y c) t h) at one)
       where
-        finish : (b d n a f : ℤ) → (d +ℤ n) ≤ℤ b → b ≡ pos 0 → (a +ℤ f) ≤ℤ n → pos 0 ≤ℤ a → pos 0 ≤ℤ f → neg_ℤ d ≤ℤ q → (a ≤ℤ q) × (f ≤ℤ q)
-        finish b d n a f e z h k l r = omega (arith, ints)
+        finish : (s k l f a : ℤ) → s ≡ k +ℤ f → l ≡ k → l ≡ pos 0 → a ≤ℤ s → a ≤ℤ f
+        finish s k l f a p q z h = omega (arith, ints)

@@ -1,6 +1,6 @@
 -- How far a head can lie beyond its neighbour's over a branch that carries at most so much.
-use Rattle.barrier_vector.proofs.Common.{◌≡◌, ℕ, ◌+◌, ◌*◌, ◌<◌, ◌≤◌, ap, arith, ℤ, pos, negsuc, ◌+ℤ◌, ◌-ℤ◌, ◌*ℤ◌, ◌≤ℤ◌, ◌<ℤ◌, mul-le-mul_right}
-use Rattle.barrier_vector.proofs.Common.{le_of_mul-le-mul_left, ints, mul_mono, ceil_over, mul_mono_right}
+use Rattle.barrier_vector.proofs.Common.{◌≡◌, ℕ, ◌+◌, ◌*◌, ◌<◌, ◌≤◌, ap, arith, ℤ, pos, negsuc, ◌-ℤ◌, ◌*ℤ◌, ◌≤ℤ◌, ◌<ℤ◌, mul-le-mul_right, le_of_mul-le-mul_left}
+use Rattle.barrier_vector.proofs.Common.{ints, mul_mono, ceil_over, mul_mono_right}
 
 pub ceil_enough : (q lo : ℕ) → 0 < lo → q ≤ ceil_over q lo * lo
 ceil_enough q lo h = omega arith
@@ -33,7 +33,6 @@ difference_not_negative a b h = omega (arith, ints)
 pub minus : (a b z : ℤ) → a ≤ℤ b → (a -ℤ z) ≤ℤ (b -ℤ z)
 minus a b z h = omega (arith, ints)
 
--- down
 pub fallen : (t : ℤ) (k : ℕ) (y : ℤ) → (t -ℤ y) ≤ℤ pos k → (t -ℤ pos k) ≤ℤ y
 fallen t k y h = omega (arith, ints)
 
@@ -42,13 +41,3 @@ kept_low t k y h = omega (arith, ints)
 
 pub joined_low : (t y : ℤ) (n drop rest s : ℕ) → s ≡ drop + rest → ((t -ℤ pos (rest * n)) -ℤ pos (drop * n)) ≤ℤ y → (t -ℤ pos (s * n)) ≤ℤ y
 joined_low t y n drop rest s e h = omega (arith, ints, ap (λ (k : ℕ). k * n) e, h)
-
--- up
-pub risen : (t : ℤ) (k : ℕ) (y : ℤ) → (y -ℤ t) ≤ℤ pos k → y ≤ℤ (t +ℤ pos k)
-risen t k y h = omega (arith, ints)
-
-pub kept_high : (t : ℤ) (k : ℕ) (y : ℤ) → y ≤ℤ t → y ≤ℤ (t +ℤ pos k)
-kept_high t k y h = omega (arith, ints)
-
-pub joined_high : (t y : ℤ) (n drop rest s : ℕ) → s ≡ drop + rest → y ≤ℤ ((t +ℤ pos (rest * n)) +ℤ pos (drop * n)) → y ≤ℤ (t +ℤ pos (s * n))
-joined_high t y n drop rest s e h = omega (arith, ints, ap (λ (k : ℕ). k * n) e, h)

@@ -4,14 +4,12 @@ pub mod FloorsDry
 pub mod FloorsEnter
 pub mod FloorsSteps
 pub mod FloorsLinks
+pub mod Gains
 pub mod FloorsPaths
 pub mod CarriedAbove
 pub mod CarriedRoots
 pub mod Floors
 pub mod CarriedHeld
-pub mod CeilingsLeave
-pub mod CeilingsLinks
-pub mod Ceilings
 pub mod Enclosing
 pub mod Spreading
 pub mod Extending
