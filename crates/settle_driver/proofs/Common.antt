@@ -1,32 +1,31 @@
 -- Names that several proofs of this crate cite, of the crates below and of its own definitions, passed on from one place. Declares nothing.
-pub use Rattle.std.proofs.Common.{All, Bool, Err, FitsSigned, Global, List, Ok, Result, Vec, [], add-one, ap, append_assoc, arith, below_more, false, get_or}
+pub use Rattle.std.proofs.Common.{All, Bool, Err, FitsSigned, Global, List, Ok, Result, Vec, [], add-one, ap, append_assoc, arith, false, get_or}
 pub use Rattle.std.proofs.Common.{get_or-set_same, inl, inr, length, length-append, refl, rules, slice_index_or, slice_set, subst, suc, sym, true, vec_len}
-pub use Rattle.std.proofs.Common.{zero, ℕ, ℤ, ◌%◌, ◌*◌, ◌++◌, ◌+◌, ◌<ℤ◌, ◌<◌, ◌∙◌, ◌∷◌, ◌≡◌, ◌≤ℤ◌, ◌⊎◌}
-pub use Rattle.std.proofs.lemmas.Int.{by_lt_z, clamps, ints, to_z-of_z}
+pub use Rattle.std.proofs.Common.{zero, ℕ, ℤ, ◌%◌, ◌*◌, ◌++◌, ◌+◌, ◌<ℤ◌, ◌<◌, ◌∙◌, ◌∷◌, ◌≡◌, ◌≤ℤ◌, ◌≤◌, ◌⊎◌}
+pub use Rattle.std.proofs.lemmas.Int.{by_lt_z, ints, to_z-of_z}
 pub use Rattle.std.specs.Int.{w64}
-pub use Rattle.std.specs.Prelude.{MatchOption, None, Option, Some, is_some, not, ◌&&◌, ◌||◌}
-pub use Rattle.cell_relax.proofs.Sides.{is_side, tighter_first, tighter_second}
-pub use Rattle.cell_relax.specs.Sides.{AreNoLooser, IsAsTight, tighter_of}
-pub use Rattle.cell_relax.specs.Words.{AreWords, heads_on}
-pub use Rattle.head_table.proofs.Closing.{ok_under}
+pub use Rattle.std.specs.Prelude.{IfOk, MatchOption, None, Option, Some, is_some, not, ◌&&◌, ◌||◌}
+pub use Rattle.cell_relax.proofs.Sides.{heads_in_range, is_side, tighter_first, tighter_second}
+pub use Rattle.cell_relax.specs.Sides.{AreNoLooser, IsAsTight, Moves}
+pub use Rattle.cell_relax.specs.Words.{AreWords, head_of, heads_on}
 pub use Rattle.head_table.proofs.Looser.{no_looser_trans, tight_refl}
 pub use Rattle.head_table.specs.BySide.{AreHeld, HasMoved}
 pub use Rattle.head_table.specs.Seats.{HasTighter, IsSeatOf, ShowsSeen, barrier_of, seen_of, seen_on}
 pub use Rattle.head_table.specs.declared.table.HeadSeat.{HeadSeat}
 pub use Rattle.head_table.specs.declared.table.HeadTable.{HeadTable}
+pub use Rattle.relax_core.proofs.Exchanges.{way_on}
+pub use Rattle.relax_core.specs.Kept.{edge_on}
 pub use Rattle.settle_driver.specs.Near.{IsHeadFrom}
 pub use Rattle.settle_driver.specs.Phases.{HasSeen, HasWorked}
 pub use Rattle.settle_driver.specs.Sweeps.{AreBothSettled, IsPastCell, IsRelaxedCell, SettleWithin, StayOnTheWay}
 pub use Rattle.settle_driver.specs.Views.{AddsPhases, AddsTurns, AddsViews, ArePastBarrier, EnclosesPair, had_memory}
-pub use Rattle.step_problem.proofs.BothSides.{high_side, low_side}
 pub use Rattle.step_problem.proofs.Sides.{IsSide, as_tight_refl, as_tight_trans, edge_kept, first_settled, passes_more, turn_passes}
 pub use Rattle.step_problem.proofs.SidesRounds.{CoversRounds, covers_more, covers_none, past_covers, rounds_settle}
 pub use Rattle.step_problem.specs.Conditions.{IsHead, IsProblem}
 pub use Rattle.step_problem.specs.Entries.{Entries}
-pub use Rattle.step_problem.specs.Heads.{AreOnTheWay, CanRise, CanSink, Edges, Ge, IsBarrier, IsRaise, IsSink, OpenHeads, RoundsSettleBoth, head_at, lower_at}
-pub use Rattle.step_problem.specs.Heads.{no_bound, upper_at}
+pub use Rattle.step_problem.specs.Heads.{AreOnTheWay, Edges, Ge, IsBarrier, IsRaise, IsSink, OpenHeads, RoundsSettleBoth, head_at, lower_at, no_bound, upper_at}
 pub use Rattle.step_problem.specs.Settling.{AreSettled, CanMove, Gives, IsFirstOpen, IsGiven, IsUnfinished, PairKind}
-pub use Rattle.step_problem.specs.Sides.{AreHeads, AsTight, IsOnTheWay, IsPast, IsRelaxed}
+pub use Rattle.step_problem.specs.Sides.{AreHeads, AsTight, IsFirstSettled, IsOnTheWay, IsPast, IsRelaxed, RoundsSettle}
 pub use Rattle.step_problem.specs.declared.heads.Bound.{Bound}
 pub use Rattle.step_problem.specs.declared.heads.Side.{Side}
 pub use Rattle.step_problem.specs.declared.heads.Side.TheVariants.{High, Low}

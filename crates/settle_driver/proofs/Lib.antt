@@ -6,5 +6,4 @@ pub mod Opening
 pub mod Answering
 pub mod Gathering
 pub mod Phasing
-pub mod InOrder
 pub mod Viewing

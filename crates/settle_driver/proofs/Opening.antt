@@ -36,16 +36,14 @@ side_by_tests p w c l h (Some Low) t u low = (raise_moves p w c l t (omega (arit
 side_by_tests p w c l h (Some High) t u (low, high) = (sink_moves p w c h u (omega (arith, ints, high)), λ e. stays_by_test p w c l t low)
 
 -- where no cell can move the words are settled
-pub none_open : (p : List Entries) (w : List Bound) → ((c : ℕ) → c < length p → CanMove p w c Low → ⊥) → ((c : ℕ) → c < length p → CanMove p w c High → ⊥) → AreBothSettled p w
-none_open p w low high = record {
-  low = λ c i v head can. by_lt_z (lower_at w c) v (λ above. absurd (low c i (v, head, can, above))) (λ k. k);
-  high = λ c i v head can. by_lt_z v (upper_at w c) (λ below. absurd (high c i (v, head, can, below))) (λ k. k);
-}
+pub none_open : (p : List Entries) (w : List Bound) → ((side : Side) (c : ℕ) → c < length p → CanMove p w c side → ⊥) → AreBothSettled p w
+none_open p w none Low c i v head can = by_lt_z (lower_at w c) v (λ above. absurd (none Low c i (v, head, can, above))) (λ k. k)
+none_open p w none High c i v head can = by_lt_z v (upper_at w c) (λ below. absurd (none High c i (v, head, can, below))) (λ k. k)
 
 -- settled words have no cell that can move
 pub settled_stays : (p : List Entries) (w : List Bound) (c : ℕ) (side : Side) → c < length p → AreBothSettled p w → CanMove p w c side → ⊥
-settled_stays p w c Low i settled (v, head, can, above) = let k = settled.low c i v head can in omega (arith, ints, k)
-settled_stays p w c High i settled (v, head, can, below) = let k = settled.high c i v head can in omega (arith, ints, k)
+settled_stays p w c Low i settled (v, head, can, above) = let k = settled Low c i v head can in omega (arith, ints, k)
+settled_stays p w c High i settled (v, head, can, below) = let k = settled High c i v head can in omega (arith, ints, k)
 
 -- the case that an option is in
 pub where_none : {T : Type 0} (o : Option T) (P : Type 0) (Q : T → Type 0) → is_some o ≡ false → MatchOption o P Q → P

@@ -1,17 +1,13 @@
 -- One cell's words are relaxed.
 use Rattle.settle_driver.proofs.Common.{◌≡◌, ℕ, ◌<◌, refl, sym, ◌∙◌, ap, subst, Bool, true, false, List, length, ℤ, slice_index_or, slice_set, get_or-set_same}
-use Rattle.settle_driver.proofs.Common.{not, ◌&&◌, Bound, Entries, no_bound, lower_at, upper_at, IsRaise, IsSink, IsRelaxedCell}
+use Rattle.settle_driver.proofs.Common.{not, ◌&&◌, Bound, Low, High, Entries, no_bound, lower_at, upper_at, IsRaise, IsSink, IsRelaxedCell}
 use Rattle.std.proofs.lemmas.List.{set-get_or}
 use Rattle.std.specs.Ordering.{int_eq}
 use Rattle.std.proofs.lemmas.Bool.Decides.{Decides-int_eq}
 
 pub relaxed_set : (p : List Entries) (w : List Bound) (c : ℕ) (l h : ℤ) → c < length w → IsRaise p (lower_at w) c l → IsSink p (upper_at w) c h → IsRelaxedCell p w (slice_set w c (record { low = l; high = h })) c
-relaxed_set p w c l h i r s =
-    let here : slice_index_or (slice_set w c (record { low = l; high = h })) c no_bound ≡ record { low = l; high = h } = get_or-set_same w c _ no_bound i in
-    record {
-      low = subst (IsRaise p (lower_at w) c) (sym (ap (λ (b : Bound). b.low) here)) r;
-      high = subst (IsSink p (upper_at w) c) (sym (ap (λ (b : Bound). b.high) here)) s;
-    }
+relaxed_set p w c l h i r s Low = subst (IsRaise p (lower_at w) c) (sym (ap (λ (b : Bound). b.low) (get_or-set_same w c (record { low = l; high = h }) no_bound i))) r
+relaxed_set p w c l h i r s High = subst (IsSink p (upper_at w) c) (sym (ap (λ (b : Bound). b.high) (get_or-set_same w c (record { low = l; high = h }) no_bound i))) s
 
 both : (a b : Bool) → not (a && b) ≡ false → (a ≡ true) × (b ≡ true)
 both true true e = (refl, refl)

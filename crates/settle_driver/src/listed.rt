@@ -1,14 +1,14 @@
 // A settler that starts with cells in the order of a list.
 ghost use Rattle.std.specs.Prelude.{◌≡◌};
 ghost use Rattle.cell_relax.specs.Words.{AreWords};
-ghost use Rattle.settle_driver.specs.Sweeps.{StayOnTheWay, SettleWithin};
+ghost use Rattle.settle_driver.specs.Sweeps.{StayOnTheWay};
 ghost use Rattle.step_problem.specs.Settling.PairKind.{settled};
 
-use crate::open::first_open;
-use crate::sweep::{relax_cell, sweep_up_to};
+use crate::plain::PlainSettler;
+use crate::sweep::relax_cell;
 use head_table::edge_words;
 use std::alloc::{AllocError, Global};
-use step_problem::{Barrier, Bound, Open, Problem, SettleFault, Settler};
+use step_problem::{Barrier, Bound, Problem, SettleFault, Settler};
 
 /// Settles as a `PlainSettler` with this many rounds, after relaxing the cells of a list in its order. The list
 /// may be any; a good one saves sweeps.
@@ -43,25 +43,13 @@ fn relax_listed(p: &Problem, words: &mut [Bound], list: &[u32])
     }
 }
 
-// Relaxes the cells of a list, and then sweeps at most `rounds` times.
-fn sweep_listed(p: &Problem, words: &mut [Bound], list: &[u32], rounds: u32)
-    requires words { AreWords p.now words.old }
-    ensures words { AreWords p.now words.new }
-    ensures way { StayOnTheWay p.now words.old words.new }
-    ensures reached { SettleWithin p.now rounds words.old words.new }
-{
-    relax_listed(p, words, list);
-    sweep_up_to(p, words, rounds);
-}
-
-// The words after relaxing the cells of the list and then at most `rounds` sweeps.
-fn listed(p: &Problem, mut words: Vec<Bound>, list: &[u32], rounds: u32) -> Vec<Bound>
+// The words after relaxing the cells of the list.
+fn words_after_list(p: &Problem, mut words: Vec<Bound>, list: &[u32]) -> Vec<Bound>
     requires words { AreWords p.now words.items }
     ensures words { AreWords p.now result.items }
     ensures way { StayOnTheWay p.now words.items result.items }
-    ensures reached { SettleWithin p.now rounds words.items result.items }
 {
-    sweep_listed(p, words.as_mut_slice(), list, rounds);
+    relax_listed(p, words.as_mut_slice(), list);
     words
 }
 
@@ -81,15 +69,11 @@ impl Settler for ListedSettler {
         p: &Problem,
         b: &Barrier,
     ) -> Result<Vec<Bound>, SettleFault> {
-        p.recall_conditions();
         let start = match edge_words(alloc, p, b) {
             Ok(start) => start,
             Err(AllocError) => return Err(SettleFault::Memory),
         };
-        let words = listed(p, start, self.list.as_slice(), self.rounds);
-        match first_open(p, words.as_slice()) {
-            None => Ok(words),
-            Some((cell, side)) => Err(SettleFault::Unfinished(Open { cell, side, words })),
-        }
+        let words = words_after_list(p, start, self.list.as_slice());
+        PlainSettler::new(self.rounds).settle_from(p, b, words)
     }
 }

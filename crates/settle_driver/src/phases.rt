@@ -1,5 +1,5 @@
 // One phase: the seats are made, the workers make their turns, the seats are joined, and the table is closed.
-ghost use Rattle.std.specs.Prelude.{◌≡◌, ℕ, ◌+◌, ◌%◌, ◌<◌, ◌≤◌, length, slice_index_or, IfOk, All, vec_len};
+ghost use Rattle.std.specs.Prelude.{◌≡◌, ℕ, ◌+◌, ◌<◌, ◌≤◌, length, slice_index_or, IfOk, All, vec_len};
 ghost use Rattle.step_problem.specs.Heads.{AreOnTheWay};
 ghost use Rattle.head_table.specs.declared.table.HeadSeat.{HeadSeat};
 ghost use Rattle.cell_relax.specs.Sides.{AreNoLooser};
@@ -91,7 +91,7 @@ pub(crate) fn work_at<R: Threads + Sync, G: Gate + Sync>(
 }
 
 // The seats after their workers' turns.
-fn worked<R: Threads + Sync, G: Gate + Sync>(
+fn seats_after_turns<R: Threads + Sync, G: Gate + Sync>(
     rt: &R,
     table: &HeadTable,
     mut seats: Vec<HeadSeat>,
@@ -128,7 +128,7 @@ pub(crate) fn phase<R: Threads + Sync, G: Gate + Sync>(
     let turns = turns_of_each(plan, p.len() as u32);
     let (table, mut seat) = HeadTable::new(alloc, p, b, words)?;
     let seats = deal(alloc, &table, &mut seat, plan.workers as usize)?;
-    let seats = worked(rt, &table, seats, turns, gate);
+    let seats = seats_after_turns(rt, &table, seats, turns, gate);
     gather(&table, &mut seat, seats);
     table.close(seat)
 }

@@ -29,7 +29,7 @@ impl PlainSettler {
 }
 
 // The words after at most `rounds` sweeps.
-fn swept(p: &Problem, mut words: Vec<Bound>, rounds: u32) -> Vec<Bound>
+fn words_after_sweeps(p: &Problem, mut words: Vec<Bound>, rounds: u32) -> Vec<Bound>
     requires words { AreWords p.now words.items }
     ensures words { AreWords p.now result.items }
     ensures way { StayOnTheWay p.now words.items result.items }
@@ -52,7 +52,7 @@ impl PlainSettler {
         ensures { Settles p.now b.now self.now.rounds result }
     {
         p.recall_conditions();
-        let words = swept(p, words, self.rounds);
+        let words = words_after_sweeps(p, words, self.rounds);
         match first_open(p, words.as_slice()) {
             None => Ok(words),
             Some((cell, side)) => Err(SettleFault::Unfinished(Open { cell, side, words })),

@@ -1,5 +1,5 @@
 // Phases of workers in threads, until no cell can move.
-ghost use Rattle.std.specs.Prelude.{◌≡◌, ◌<◌, ◌≤◌, length, Ok, Err};
+ghost use Rattle.std.specs.Prelude.{◌<◌, length, Ok, Err};
 ghost use Rattle.step_problem.specs.Heads.{AreOnTheWay, IsBarrier};
 ghost use Rattle.step_problem.specs.Settling.{Settles};
 ghost use Rattle.settle_driver.specs.Phases.{IsPlan};

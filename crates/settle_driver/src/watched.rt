@@ -39,7 +39,7 @@ fn work_all<R: Threads + Sync, G: Gate + Sync>(
 }
 
 // The seats after their workers' turns, while one more seat watches.
-fn worked_watched<R: Threads + Sync, G: Gate + Sync, V: Viewer + Send>(
+fn seats_after_watched_turns<R: Threads + Sync, G: Gate + Sync, V: Viewer + Send>(
     rt: &R,
     table: &HeadTable,
     mut seats: Vec<HeadSeat>,
@@ -105,7 +105,9 @@ fn watched_phase<R: Threads + Sync, G: Gate + Sync, V: Viewer + Send>(
         seat: table.split(&mut seat),
         heads,
     };
-    let seats = worked_watched(rt, &table, seats, turns, gate, watch, p, b, views, viewer);
+    let seats = seats_after_watched_turns(
+        rt, &table, seats, turns, gate, watch, p, b, views, viewer,
+    );
     gather(&table, &mut seat, seats);
     table.close(seat)
 }

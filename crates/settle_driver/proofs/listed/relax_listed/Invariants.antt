@@ -1,4 +1,4 @@
-use Rattle.settle_driver.proofs.InOrder.{Listed}
+use Rattle.settle_driver.proofs.Sweeping.{Listed}
 use Rattle.settle_driver.proofs.listed.relax_listed.Given as goal
 
 abbrev pub invariant-loop-cell : goal.invariant-loop-cell

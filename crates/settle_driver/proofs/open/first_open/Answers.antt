@@ -1,4 +1,4 @@
-use Rattle.settle_driver.proofs.Common.{arith, below_more, Low, High}
+use Rattle.std.proofs.Common.{arith, below_more}
 use Rattle.settle_driver.proofs.Opening.{none_open}
 use Rattle.settle_driver.proofs.open.first_open.Goals as goal
 
@@ -6,7 +6,4 @@ pub loop-cell-preserved : goal.loop-cell-preserved
 loop-cell-preserved c = below_more _ _ c.loop-cell.invariant c.in_default.ensures
 
 pub returns : goal.returns
-returns c =
-    none_open c.args.p.now c.args.words.now
-    (λ d i. c.loop-cell.invariant d (omega (arith, i, c.loop-cell-test.false, c.len-cells.ensures.count)) Low)
-    (λ d i. c.loop-cell.invariant d (omega (arith, i, c.loop-cell-test.false, c.len-cells.ensures.count)) High)
+returns c = none_open c.args.p.now c.args.words.now (λ side d i. c.loop-cell.invariant d (omega (arith, i, c.loop-cell-test.false, c.len-cells.ensures.count)) side)

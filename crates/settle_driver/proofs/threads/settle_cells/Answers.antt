@@ -1,4 +1,5 @@
-use Rattle.settle_driver.proofs.Common.{◌≡◌, ℕ, ◌<◌, arith, refl, sym, ◌∙◌, subst, ap, List, MatchOption, not, Bound, IsFirstOpen, AreWords, AreBothSettled}
+use Rattle.settle_driver.proofs.Common.{is_some, ◌≡◌, ℕ, ◌<◌, arith, refl, sym, ◌∙◌, subst, ap, List, MatchOption, not, Bound, IsFirstOpen, AreWords}
+use Rattle.settle_driver.proofs.Common.{AreBothSettled}
 use Rattle.settle_driver.proofs.Opening.{where_none, where_some}
 use Rattle.settle_driver.proofs.Phasing.{ArePhased, phased_again, phased_unfinished, settled_on_the_way}
 use Rattle.settle_driver.proofs.threads.settle_cells.Goals as goal
@@ -32,3 +33,8 @@ returns-in-Some g c =
     let phased = subst (λ (k : ℕ). ArePhased p c.args.b.now k words) all c.loop-round.invariant.phased in
     let first = where_some c.loop-round.open (c.in-Some.cell, c.in-Some.side) _ _ c.in-Some.is (c.loop-round.invariant.tested some) in
     phased_unfinished p c.args.b.now c.recall_conditions.ensures.fits words c.args.plan.rounds _ c.requires.barrier phased refl first
+
+pub returns-in-None : goal.returns-in-None
+returns-in-None g c =
+    let some : 0 < c.loop-round._round = omega (arith, c.loop-round-test.false, c.loop-round.auto._round-end, c.requires.plan.some_round) in
+    settled_on_the_way c.args.p.now c.args.b.now c.recall_conditions.ensures.fits c.loop-round.words.items c.loop-round.invariant.phased.way (where_none c.loop-round.open _ _ (ap is_some c.in-None.is) (c.loop-round.invariant.tested some))

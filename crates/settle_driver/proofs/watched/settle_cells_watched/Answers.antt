@@ -1,4 +1,4 @@
-use Rattle.settle_driver.proofs.Common.{◌≡◌, ℕ, ◌+◌, ◌<◌, arith, refl, sym, ◌∙◌, subst, ap, List, MatchOption, not, Bound, IsFirstOpen, AreWords}
+use Rattle.settle_driver.proofs.Common.{is_some, ◌≡◌, ℕ, ◌+◌, ◌<◌, arith, refl, sym, ◌∙◌, subst, ap, List, MatchOption, not, Bound, IsFirstOpen, AreWords}
 use Rattle.settle_driver.proofs.Common.{AreBothSettled}
 use Rattle.settle_driver.proofs.Opening.{where_none, where_some}
 use Rattle.settle_driver.proofs.Phasing.{ArePhased, phased_never, phased_again, phased_unfinished, settled_on_the_way}
@@ -60,3 +60,8 @@ pub returns-in-None-clause-viewed : goal.returns-in-None-clause-viewed
 returns-in-None-clause-viewed g c =
     let some : 0 < c.loop-round._round = omega (arith, c.loop-round-test.false, c.loop-round.auto._round-end, c.requires.plan.some_round) in
     phases_made _ _ _ _ c.loop-round._round _ _ _ some c.requires.some_cell c.loop-round.invariant.views
+
+pub returns-in-None-clause-settles : goal.returns-in-None-clause-settles
+returns-in-None-clause-settles g c =
+    let some : 0 < c.loop-round._round = omega (arith, c.loop-round-test.false, c.loop-round.auto._round-end, c.requires.plan.some_round) in
+    settled_on_the_way c.args.p.now c.args.b.now c.recall_conditions.ensures.fits c.loop-round.words.items c.loop-round.invariant.phased.way (where_none c.loop-round.open _ _ (ap is_some c.in-None.is) (c.loop-round.invariant.tested some))
