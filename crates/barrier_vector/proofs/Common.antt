@@ -13,6 +13,7 @@ pub use Rattle.std.specs.Int.{int_div_euclid, int_max, int_min, int_rem_euclid, 
 pub use Rattle.std.specs.List.{AllZip}
 pub use Rattle.std.specs.Option.{is_some, unwrap_or}
 pub use Rattle.std.specs.Prelude.{map}
+pub use Rattle.barrier_vector.specs.Barriers.{BarrierExcludesRefusal, BarrierIsOne, RefusalIsOne}
 pub use Rattle.barrier_vector.specs.Bounds.{AnchorRoot, IsAnchorPath, IsAnchoredBound, IsBoundOn, IsCarriedFloor, IsCeiling, IsFloor, IsInnerPath, IsLongest}
 pub use Rattle.barrier_vector.specs.Bounds.{IsUnanchored, LeastRoot, anchor_on, greatest, moved_out}
 pub use Rattle.barrier_vector.specs.CutLaws.{BarrierIsCut, ClampedFits, CutBarrierExcludesRefusal, CutBarrierIsOne, CutRefusalIsOne}
@@ -37,7 +38,7 @@ pub use Rattle.cell_balance.proofs.Cancel.{IsMutual, cut_link, cut_links}
 pub use Rattle.cell_balance.proofs.Spread.{carried_not_dry, cell_within}
 pub use Rattle.cell_balance.proofs.Sums.{sum-add, sum-same, sum-zero, term-le-sum}
 pub use Rattle.cell_balance.proofs.Totals.{add_mul, le_trans_z, same_z, sub_mul, total-same, total_more, total_neg, total_nonneg}
-pub use Rattle.cell_balance.proofs.Whole.{WholeCell, WholeEvap, WholeLink, no_whole, whole_at, whole_balance, whole_deep, whole_drain, whole_evap, whole_fixed}
+pub use Rattle.cell_balance.proofs.Whole.{WholeCell, WholeEntry, WholeLink, no_whole, whole_at, whole_balance, whole_deep, whole_drain, whole_evap, whole_fixed}
 pub use Rattle.cell_balance.proofs.Whole.{whole_link, whole_river}
 pub use Rattle.cell_balance.proofs.Within.{CellWithin, DrainWithin, FixedWithin, FlowWithin, IsDry, LinkWithin, RiverWithin}
 pub use Rattle.cell_balance.proofs.Zips.{All-zip, AllZip-at, AllZip-length}

@@ -3,6 +3,7 @@ use Rattle.barrier_vector.proofs.Common.{◌≡◌, ℕ, ◌<◌, ◌≤ℤ◌, 
 use Rattle.barrier_vector.proofs.Common.{NoBound, Entries, Edges, head_at, IsProblem, IsHead, head_limit, number_of, IsHeldBelow, IsSolution, IsFloor}
 use Rattle.barrier_vector.proofs.Common.{IsCeiling, HasNoBound, no_barrier_on, cut_on, AreCutBounds, IsCutBarrierOf, IsCutFaultOn, Refuses, EnclosesUncut}
 use Rattle.barrier_vector.proofs.Common.{IsCutFault, BarrierFault, Memory, CutBarrierIsOne, BarrierIsCut, CutBarrierExcludesRefusal, CutRefusalIsOne}
+use Rattle.barrier_vector.proofs.Common.{BarrierIsOne}
 use Rattle.step_problem.specs.declared.refusal.StepRefusal.{StepRefusal}
 use Rattle.barrier_vector.specs.declared.BarrierFault.TheVariants.{NoBound as AFault}
 use Rattle.barrier_vector.proofs.Uniques.{bound_one}
@@ -59,6 +60,9 @@ barrier_is_cut p b is = record {
   floors = record { whole = is.fits.floors; each = λ c i. (head_at b.floor c, is.floors c i, head_is_cut Low (head_at b.floor c) (is.fits.floor c i)) };
   ceilings = record { whole = is.fits.ceilings; each = λ c i. (head_at b.ceiling c, is.ceilings c i, head_is_cut High (head_at b.ceiling c) (is.fits.ceiling c i)) };
 }
+
+pub barrier_is_one : BarrierIsOne
+barrier_is_one p b c ok x y = cut_barrier_is_one p b c ok (barrier_is_cut p b x) (barrier_is_cut p c y)
 
 -- a fault of the high side after the low side's cut bounds were found
 pub high_cut_fault : (p : List Entries) → IsProblem p → (vs : List ℤ) → AreCutBounds Low p vs → (e : BarrierFault) → IsCutFaultOn High p e → IsCutFault p e

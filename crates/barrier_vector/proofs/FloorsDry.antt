@@ -10,10 +10,10 @@ module _ (m n cells : ℕ) (b : ℤ) where
 
   pub cell_dry : (p : Entries) (w : WholeCell) → CellWithin m n cells p w → ((v : ℤ) → IsCellMark Low p v → b ≤ℤ v) → IsDry (b *ℤ pos n) w
   cell_dry p w e marks = record {
-    fixed = All-zip (FixedWithin m n) (λ x. 0 < x.hi → b ≤ℤ x.head_lo) (λ z. (z.c ≡ 0) ⊎ ((b *ℤ pos n) ≤ℤ z.head)) (λ x z r h. dry_head x.hi z.c x.head_lo z.head h r.c.upper r.head.lower) p.fixed w.fixed e.fixed
+    fixed = All-zip (FixedWithin m n) (λ x. 0 < x.hi → b ≤ℤ x.head_lo) (λ z. (z.c ≡ 0) ⊎ ((b *ℤ pos n) ≤ℤ z.top)) (λ x z r h. dry_head x.hi z.c x.head_lo z.top h r.c.upper r.top.lower) p.fixed w.fixed e.fixed
         (λ k d i some. marks _ (inl (get_or p.fixed k d, Contains-get_or p.fixed k d i, some_at _ _ some)));
-    rivers = All-zip (RiverWithin m n) (λ x. 0 < x.hi → b ≤ℤ x.bottom_lo) (λ z. (z.c ≡ 0) ⊎ ((b *ℤ pos n) ≤ℤ z.bottom)) (λ x z r h. dry_head x.hi z.c x.bottom_lo z.bottom h r.c.upper r.bottom.lower) p.rivers w.rivers e.rivers
+    rivers = All-zip (RiverWithin m n) (λ x. 0 < x.hi → b ≤ℤ x.bottom_lo) (λ z. (z.c ≡ 0) ⊎ ((b *ℤ pos n) ≤ℤ z.foot)) (λ x z r h. dry_head x.hi z.c x.bottom_lo z.foot h r.c.upper r.foot.lower) p.rivers w.rivers e.rivers
         (λ k d i some. marks _ (inr (inl (get_or p.rivers k d, Contains-get_or p.rivers k d i, some_at _ _ some))));
-    drains = All-zip (DrainWithin m n) (λ x. 0 < x.hi → b ≤ℤ x.elev_lo) (λ z. (z.c ≡ 0) ⊎ ((b *ℤ pos n) ≤ℤ z.elev)) (λ x z r h. dry_head x.hi z.c x.elev_lo z.elev h r.c.upper r.elev.lower) p.drains w.drains e.drains
+    drains = All-zip (DrainWithin m n) (λ x. 0 < x.hi → b ≤ℤ x.elev_lo) (λ z. (z.c ≡ 0) ⊎ ((b *ℤ pos n) ≤ℤ z.foot)) (λ x z r h. dry_head x.hi z.c x.elev_lo z.foot h r.c.upper r.foot.lower) p.drains w.drains e.drains
         (λ k d i some. marks _ (inr (inr (get_or p.drains k d, Contains-get_or p.drains k d i, some_at _ _ some))));
   }

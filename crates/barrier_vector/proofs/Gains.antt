@@ -2,7 +2,7 @@
 use Rattle.barrier_vector.proofs.Common.{◌≡◌, ℕ, zero, suc, ◌*◌, ◌<◌, ◌≤◌, ◌⊎◌, inl, inr, refl, ◌∙◌, ap, subst, arith, ℤ, pos, negsuc, neg_ℤ, ◌+ℤ◌, ◌-ℤ◌, ◌*ℤ◌}
 use Rattle.barrier_vector.proofs.Common.{◌≤ℤ◌, ◌<ℤ◌, List, [], ◌∷◌, get_or, All, max, int_max, int_min, AllZip, mul-le-mul_right, cases_lt, ints, clamps}
 use Rattle.barrier_vector.proofs.Common.{All-head, All-tail, Contains-get_or, Side, Low, High, Entries, total, mul_mono, mul_nonneg, le_trans_z, total_more}
-use Rattle.barrier_vector.proofs.Common.{total_neg, total_nonneg, mul_mono_right, WholeLink, WholeCell, WholeEvap, whole_balance, whole_deep, whole_link}
+use Rattle.barrier_vector.proofs.Common.{total_neg, total_nonneg, mul_mono_right, WholeLink, WholeCell, WholeEntry, whole_balance, whole_deep, whole_link}
 use Rattle.barrier_vector.proofs.Common.{whole_fixed, whole_river, whole_drain, whole_evap, CellWithin, FixedWithin, RiverWithin, DrainWithin, FlowWithin}
 use Rattle.barrier_vector.proofs.Common.{IsCellMark, IsInside, greatest, anchor_on, need_on, negative_part, positive_part, deep_low, high_flow, total-same}
 use Rattle.step_problem.proofs.Leasts.{mul_neg}
@@ -87,7 +87,7 @@ module _ (m n cells : ℕ) (b : ℤ) (p : Entries) (w : WholeCell) (e : CellWith
   gives_low marks low =
       let far : pos 0 ≤ℤ (b *ℤ pos n -ℤ y) = omega (arith, ints, low) in
       let fixed = all_gain m (b *ℤ pos n -ℤ y) far (FixedWithin m n) (λ x. 0 < x.hi → b ≤ℤ x.head_lo) (λ x. x.lo) (whole_fixed y)
-      (λ x z r h. gain x.lo m z.c _ _ r.c.lower far (near z.c z.head (inside_base Low x.hi z.c x.head_lo z.head h r.c.upper r.head.lower))) p.fixed w.fixed e.fixed
+      (λ x z r h. gain x.lo m z.c _ _ r.c.lower far (near z.c z.top (inside_base Low x.hi z.c x.head_lo z.top h r.c.upper r.top.lower))) p.fixed w.fixed e.fixed
       (λ k d i some. marks _ (inl (get_or p.fixed k d, Contains-get_or p.fixed k d i, some_at _ _ some))) in
       let dry = dry_balance (λ k. pos 0) y (b *ℤ pos n) w (omega (arith, ints, low)) (cell_dry m n cells b p w e marks) in
       sum (total (λ q. q) w.flows) (total (whole_link (λ k. pos 0) y) w.links) _ _ _ _ _ _ _ fixed dry (lacking (deep_low p) (whole_deep w) (m * n) (deep_less m n cells p w e))
@@ -104,13 +104,13 @@ module _ (m n cells : ℕ) (b : ℤ) (p : Entries) (w : WholeCell) (e : CellWith
       let d = y -ℤ b *ℤ pos n in
       let far : pos 0 ≤ℤ d = omega (arith, ints, high) in
       let fixed = all_gain m d far (FixedWithin m n) (λ x. 0 < x.hi → x.head_hi ≤ℤ b) (λ x. x.lo) (λ z. neg_ℤ (whole_fixed y z))
-      (λ x z r h. out z.c _ (gain x.lo m z.c _ _ r.c.lower far (near z.c z.head (neg_ℤ (z.head -ℤ y)) (inside_base High x.hi z.c x.head_hi z.head h r.c.upper r.head.upper) (λ k. omega (arith, ints, k))))) p.fixed w.fixed e.fixed
+      (λ x z r h. out z.c _ (gain x.lo m z.c _ _ r.c.lower far (near z.c z.top (neg_ℤ (z.top -ℤ y)) (inside_base High x.hi z.c x.head_hi z.top h r.c.upper r.top.upper) (λ k. omega (arith, ints, k))))) p.fixed w.fixed e.fixed
       (λ k d i some. marks _ (inl (get_or p.fixed k d, Contains-get_or p.fixed k d i, some_at _ _ some))) in
       let rivers = all_gain m d far (RiverWithin m n) (λ x. 0 < x.hi → int_max x.stage_hi x.bottom_hi ≤ℤ b) (λ x. x.lo) (λ z. neg_ℤ (whole_river y z))
-      (λ x z r h. out z.c _ (gain x.lo m z.c _ _ r.c.lower far (near z.c z.stage (neg_ℤ (z.stage -ℤ int_max y z.bottom)) (inside_base High x.hi z.c x.stage_hi z.stage (λ some. lower x.stage_hi x.bottom_hi (h some)) r.c.upper r.stage.upper) (λ k. omega (arith, ints, clamps, k))))) p.rivers w.rivers e.rivers
+      (λ x z r h. out z.c _ (gain x.lo m z.c _ _ r.c.lower far (near z.c z.top (neg_ℤ (z.top -ℤ int_max y z.foot)) (inside_base High x.hi z.c x.stage_hi z.top (λ some. lower x.stage_hi x.bottom_hi (h some)) r.c.upper r.top.upper) (λ k. omega (arith, ints, clamps, k))))) p.rivers w.rivers e.rivers
       (λ k d i some. marks _ (inr (inl (get_or p.rivers k d, Contains-get_or p.rivers k d i, some_at _ _ some)))) in
       let drains = all_gain m d far (DrainWithin m n) (λ x. 0 < x.hi → x.elev_hi ≤ℤ b) (λ x. x.lo) (λ z. neg_ℤ (whole_drain y z))
-      (λ x z r h. twice (gain x.lo m z.c _ _ r.c.lower far (near z.c z.elev (int_max (y -ℤ z.elev) (pos 0)) (inside_base High x.hi z.c x.elev_hi z.elev h r.c.upper r.elev.upper) (λ k. omega (arith, ints, clamps, k))))) p.drains w.drains e.drains
+      (λ x z r h. twice (gain x.lo m z.c _ _ r.c.lower far (near z.c z.foot (int_max (y -ℤ z.foot) (pos 0)) (inside_base High x.hi z.c x.elev_hi z.foot h r.c.upper r.foot.upper) (λ k. omega (arith, ints, clamps, k))))) p.drains w.drains e.drains
       (λ k d i some. marks _ (inr (inr (get_or p.drains k d, Contains-get_or p.drains k d i, some_at _ _ some)))) in
       let evaps = total_nonneg (λ z. Unit {0}) (λ z. neg_ℤ (whole_evap y z)) w.evaps (λ z u. takes z) (λ k d i. tt) in
       let flows = exceeding (high_flow p) _ (m * n) (total_more (FlowWithin m n) (λ x. x.hi) (pos (m * n)) (λ z. z) (λ x z r. r.flow.upper) p.flows w.flows e.flows) in
@@ -130,8 +130,8 @@ module _ (m n cells : ℕ) (b : ℤ) (p : Entries) (w : WholeCell) (e : CellWith
       twice : {k a : ℤ} → k ≤ℤ a → k ≤ℤ neg_ℤ (neg_ℤ a)
       twice {k} {a} h = omega (arith, ints)
 
-      takes : (x : WholeEvap) → pos 0 ≤ℤ neg_ℤ (whole_evap y x)
-      takes x = twice (mul_nonneg (pos x.c) (int_max (int_min y x.surf -ℤ x.ext) (pos 0)) (omega (arith, ints)) (omega (arith, ints, clamps)))
+      takes : (x : WholeEntry) → pos 0 ≤ℤ neg_ℤ (whole_evap y x)
+      takes x = twice (mul_nonneg (pos x.c) (int_max (int_min y x.top -ℤ x.foot) (pos 0)) (omega (arith, ints)) (omega (arith, ints, clamps)))
 
       sum : (f a r d v g need : ℤ) → g ≤ℤ (neg_ℤ a +ℤ (neg_ℤ r +ℤ neg_ℤ d)) → pos 0 ≤ℤ neg_ℤ v → f ≤ℤ need → g ≤ℤ (neg_ℤ (f +ℤ a +ℤ r +ℤ d +ℤ v) +ℤ need)
       sum f a r d v g need p q s = omega (arith, ints)

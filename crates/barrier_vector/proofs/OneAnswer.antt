@@ -1,10 +1,9 @@
 -- A problem has one barrier or one refusal, and not both.
 use Rattle.barrier_vector.proofs.Common.{◌≡◌, ℕ, suc, ◌<◌, inl, inr, refl, sym, ◌∙◌, ap, subst, arith, List, [], ◌∷◌, length, ℤ, cases_lt, Side, Low, High}
-use Rattle.barrier_vector.proofs.Common.{NoBound, Entries, entries_at, Edges, head_at, IsProblem, IsHead, number_of, IsBoundOn, HasNoBound, IsOutOfRange}
-use Rattle.barrier_vector.proofs.Common.{LeavesRange, no_barrier_on, range_on, Nowhere, IsLeastWith, Names, IsRefusedOn}
+use Rattle.barrier_vector.proofs.Common.{NoBound, Entries, entries_at, head_at, IsProblem, IsHead, number_of, IsBoundOn, HasNoBound, IsOutOfRange, LeavesRange}
+use Rattle.barrier_vector.proofs.Common.{no_barrier_on, range_on, Nowhere, IsLeastWith, Names, IsRefusedOn, BarrierExcludesRefusal, RefusalIsOne}
 use Rattle.step_problem.specs.declared.place.Place.{Place}
 use Rattle.step_problem.specs.declared.place.Place.TheVariants.{Cell}
-use Rattle.barrier_vector.specs.Barriers.{BarrierIsOne, BarrierExcludesRefusal, RefusalIsOne}
 use Rattle.barrier_vector.proofs.Uniques.{bound_one, has_a_bound}
 use Rattle.barrier_vector.proofs.Sides.{head_in_range}
 
@@ -15,14 +14,6 @@ same_heads (x ∷ xs) [] whole same = absurd (omega arith)
 same_heads (x ∷ xs) (y ∷ ys) whole same =
     let rest = same_heads xs ys (omega arith) (λ c within. same (suc c) (omega arith)) in
     ap (λ b. b ∷ xs) (same 0 (omega arith)) ∙ ap (λ bs. y ∷ bs) rest
-
-pub barrier_is_one : BarrierIsOne
-barrier_is_one p b c ok x y =
-    let floors = same_heads b.floor c.floor (x.fits.floors ∙ sym y.fits.floors) (λ k within. let i : k < length p = subst (λ (n : ℕ). k < n) x.fits.floors within in bound_one Low p ok k (head_at b.floor k) (head_at c.floor k) (x.floors k i) (y.floors k i)) in
-    let ceilings = same_heads b.ceiling c.ceiling (x.fits.ceilings ∙ sym y.fits.ceilings) (λ k within. let i : k < length p = subst (λ (n : ℕ). k < n) x.fits.ceilings within in bound_one High p ok k (head_at b.ceiling k) (head_at c.ceiling k) (x.ceilings k i) (y.ceilings k i)) in
-    let by_floor : List ℤ → Edges = λ f. record { floor = f; ceiling = b.ceiling } in
-    let by_ceiling : List ℤ → Edges = λ f. record { floor = c.floor; ceiling = f } in
-    ap by_floor floors ∙ ap by_ceiling ceilings
 
 -- a side with a bound in range for each cell isn't refused
 side_stands : (side : Side) (p : List Entries) (h : ℕ → ℤ) (n : NoBound) → IsProblem p → ((c : ℕ) → c < length p → IsBoundOn side p c (h c)) → ((c : ℕ) → c < length p → IsHead (h c)) → IsRefusedOn side p n → ⊥

@@ -1,7 +1,7 @@
 -- The fractions of a step have a common denominator.
-use Rattle.cell_balance.proofs.Common.{◌≡◌, ℕ, suc, ◌*◌, ◌<◌, refl, ap, sym, ◌∙◌, arith, ℤ, pos, ◌*ℤ◌, List, [], ◌∷◌, All, mul-pos, All-nil, All-cons}
-use Rattle.cell_balance.proofs.Common.{All-weaker, Ratio, Fraction, den, IsOver, IsShare, mul_assoc, ExactFlow, ExactLink, ExactFixed, ExactRiver, ExactDrain}
-use Rattle.cell_balance.proofs.Common.{ExactEvap, ExactCell}
+use Rattle.cell_balance.proofs.Common.{◌≡◌, ℕ, ◌*◌, ◌<◌, refl, ap, sym, ◌∙◌, arith, ℤ, pos, ◌*ℤ◌, List, [], ◌∷◌, All, mul-pos, All-nil, All-cons, All-weaker}
+use Rattle.cell_balance.proofs.Common.{Ratio, Fraction, den, IsOver, IsShare, mul_assoc, ExactFlow, ExactLink, ExactFixed, ExactRiver, ExactDrain, ExactEvap}
+use Rattle.cell_balance.proofs.Common.{ExactCell}
 use Rattle.decimal_input.specs.Ratios.{den as ratio_den}
 
 -- d goes into n
@@ -49,17 +49,20 @@ flow_den x = den x.flow
 abbrev pub link_den : ExactLink → ℕ
 link_den x = ratio_den x.conductance
 
+abbrev pub entry_den : Ratio → Fraction → Fraction → ℕ
+entry_den r top foot = ratio_den r * (den top * den foot)
+
 abbrev pub fixed_den : ExactFixed → ℕ
-fixed_den x = ratio_den x.conductance * den x.head
+fixed_den x = entry_den x.conductance x.head x.head
 
 abbrev pub river_den : ExactRiver → ℕ
-river_den x = ratio_den x.conductance * (den x.stage * den x.bottom)
+river_den x = entry_den x.conductance x.stage x.bottom
 
 abbrev pub drain_den : ExactDrain → ℕ
-drain_den x = ratio_den x.conductance * den x.elevation
+drain_den x = entry_den x.conductance x.elevation x.elevation
 
 abbrev pub evap_den : ExactEvap → ℕ
-evap_den x = ratio_den x.conductance * (den x.surface * den x.extinction)
+evap_den x = entry_den x.conductance x.surface x.extinction
 
 -- d is a common denominator of a list of entries, and of a cell's entries
 abbrev pub AllGo : {X : Type 0} → (X → ℕ) → ℕ → List X → Type 0
@@ -93,11 +96,8 @@ common_of f some (x ∷ xs) =
     let (d, some_d, all) = common_of f some xs in
     (f x * d, mul-pos (some x) some_d, All-cons (λ y. Goes (f y) (f x * d)) x xs (Goes-first (f x) d) (AllGo-more f d (f x * d) xs (Goes-second (f x) d) all))
 
-some_two : (a b : ℕ) → 0 < suc a * suc b
-some_two a b = mul-pos (omega arith) (omega arith)
-
-pub some_three : (a b c : ℕ) → 0 < suc a * (suc b * suc c)
-some_three a b c = mul-pos (omega arith) (some_two b c)
+pub some_entry : (r : Ratio) (top foot : Fraction) → 0 < entry_den r top foot
+some_entry r top foot = mul-pos (omega arith) (mul-pos (omega arith) (omega arith))
 
 -- the product of six numbers
 abbrev six : ℕ → ℕ → ℕ → ℕ → ℕ → ℕ → ℕ
@@ -125,10 +125,10 @@ pub cell_common : (c : ExactCell) → (d : ℕ) × (0 < d) × IsCommon d c
 cell_common c =
     let (x, hx, flows) = common_of flow_den (λ e. omega arith) c.flows in
     let (y, hy, links) = common_of link_den (λ e. omega arith) c.links in
-    let (z, hz, fixed) = common_of fixed_den (λ e. some_two e.conductance.less e.head.less) c.fixed in
-    let (u, hu, rivers) = common_of river_den (λ e. some_three e.conductance.less e.stage.less e.bottom.less) c.rivers in
-    let (v, hv, drains) = common_of drain_den (λ e. some_two e.conductance.less e.elevation.less) c.drains in
-    let (t, ht, evaps) = common_of evap_den (λ e. some_three e.conductance.less e.surface.less e.extinction.less) c.evaps in
+    let (z, hz, fixed) = common_of fixed_den (λ e. some_entry e.conductance e.head e.head) c.fixed in
+    let (u, hu, rivers) = common_of river_den (λ e. some_entry e.conductance e.stage e.bottom) c.rivers in
+    let (v, hv, drains) = common_of drain_den (λ e. some_entry e.conductance e.elevation e.elevation) c.drains in
+    let (t, ht, evaps) = common_of evap_den (λ e. some_entry e.conductance e.surface e.extinction) c.evaps in
     (six x y z u v t, some_six x y z u v t hx hy hz hu hv ht, join c x y z u v t flows links fixed rivers drains evaps)
 
 -- a step's cells have a common denominator

@@ -4,33 +4,33 @@ use Rattle.cell_balance.proofs.Common.{cond, int_max, int_min, ints, clamps, zer
 use Rattle.cell_balance.proofs.Totals.{total-same, total_nonneg, total_at_most, total_neg}
 use Rattle.cell_balance.proofs.Sums.{sum-same, sum-add, sum_at_most, sum_nonneg}
 use Rattle.cell_balance.proofs.Cancel.{IsMutual, cut_link, cut_links}
-use Rattle.cell_balance.proofs.Whole.{WholeLink, WholeFixed, WholeRiver, WholeDrain, WholeEvap, WholeCell, whole_link, whole_fixed, whole_river, whole_drain, whole_evap, whole_balance, whole_deep_river, whole_full, whole_deep, whole_at}
+use Rattle.cell_balance.proofs.Whole.{WholeLink, WholeEntry, WholeCell, whole_link, whole_fixed, whole_river, whole_drain, whole_evap, whole_balance, whole_deep_river, whole_full, whole_deep, whole_at}
 use Rattle.cell_balance.proofs.Within.{IsDry}
 
-dry_river : (y t : ℤ) → y ≤ℤ t → (x : WholeRiver) → (x.c ≡ 0) ⊎ (t ≤ℤ x.bottom) → whole_river y x ≡ whole_deep_river x
-dry_river y t h x (inl e) = rw e (zero-*ℤ (x.stage -ℤ int_max y x.bottom) ∙ sym (zero-*ℤ (x.stage -ℤ x.bottom)))
-dry_river y t h x (inr k) = let e : int_max y x.bottom ≡ x.bottom = omega (arith, ints, clamps) in rw e refl
+dry_river : (y t : ℤ) → y ≤ℤ t → (x : WholeEntry) → (x.c ≡ 0) ⊎ (t ≤ℤ x.foot) → whole_river y x ≡ whole_deep_river x
+dry_river y t h x (inl e) = rw e (zero-*ℤ (x.top -ℤ int_max y x.foot) ∙ sym (zero-*ℤ (x.top -ℤ x.foot)))
+dry_river y t h x (inr k) = let e : int_max y x.foot ≡ x.foot = omega (arith, ints, clamps) in rw e refl
 
-dry_drain : (y t : ℤ) → y ≤ℤ t → (x : WholeDrain) → (x.c ≡ 0) ⊎ (t ≤ℤ x.elev) → pos 0 ≤ℤ whole_drain y x
+dry_drain : (y t : ℤ) → y ≤ℤ t → (x : WholeEntry) → (x.c ≡ 0) ⊎ (t ≤ℤ x.foot) → pos 0 ≤ℤ whole_drain y x
 dry_drain y t h x (inl e) = rw (e, zero-*ℤ) (omega (arith, ints))
-dry_drain y t h x (inr k) = let e : int_max (y -ℤ x.elev) (pos 0) ≡ pos 0 = omega (arith, ints, clamps) in rw (e, *ℤ-zero) (omega (arith, ints))
+dry_drain y t h x (inr k) = let e : int_max (y -ℤ x.foot) (pos 0) ≡ pos 0 = omega (arith, ints, clamps) in rw (e, *ℤ-zero) (omega (arith, ints))
 
-pub dry_fixed : (y t : ℤ) → y ≤ℤ t → (x : WholeFixed) → (x.c ≡ 0) ⊎ (t ≤ℤ x.head) → pos 0 ≤ℤ whole_fixed y x
+pub dry_fixed : (y t : ℤ) → y ≤ℤ t → (x : WholeEntry) → (x.c ≡ 0) ⊎ (t ≤ℤ x.top) → pos 0 ≤ℤ whole_fixed y x
 dry_fixed y t h x (inl e) = rw (e, zero-*ℤ) (omega (arith, ints))
-dry_fixed y t h x (inr k) = mul_nonneg (pos x.c) (x.head -ℤ y) (omega (arith, ints)) (omega (arith, ints))
+dry_fixed y t h x (inr k) = mul_nonneg (pos x.c) (x.top -ℤ y) (omega (arith, ints)) (omega (arith, ints))
 
 -- an evaporation takes no more than its full rate
-pub evap_within_full : (y : ℤ) (x : WholeEvap) → neg_ℤ (whole_full x) ≤ℤ whole_evap y x
+pub evap_within_full : (y : ℤ) (x : WholeEntry) → neg_ℤ (whole_full x) ≤ℤ whole_evap y x
 evap_within_full y x =
-    let h = mul_mono x.c (int_max (int_min y x.surf -ℤ x.ext) (pos 0)) (int_max (x.surf -ℤ x.ext) (pos 0)) (omega (arith, ints, clamps)) in
+    let h = mul_mono x.c (int_max (int_min y x.top -ℤ x.foot) (pos 0)) (int_max (x.top -ℤ x.foot) (pos 0)) (omega (arith, ints, clamps)) in
     omega (arith, ints, h)
 
 -- the balance of a cell whose head lies below all bottoms and drains
 pub dry_balance : (Y : ℕ → ℤ) (y t : ℤ) (w : WholeCell) → y ≤ℤ t → IsDry t w → (whole_deep w +ℤ (total (whole_link Y y) w.links +ℤ total (whole_fixed y) w.fixed)) ≤ℤ whole_balance w y Y
 dry_balance Y y t w h dry =
     six (total (λ q. q) w.flows) (total (whole_link Y y) w.links) (total (whole_fixed y) w.fixed) _ _ _ _ _ _
-    (total-same (λ x. (x.c ≡ 0) ⊎ (t ≤ℤ x.bottom)) (whole_river y) whole_deep_river w.rivers (dry_river y t h) dry.rivers)
-    (total_nonneg (λ x. (x.c ≡ 0) ⊎ (t ≤ℤ x.elev)) (whole_drain y) w.drains (dry_drain y t h) dry.drains)
+    (total-same (λ x. (x.c ≡ 0) ⊎ (t ≤ℤ x.foot)) (whole_river y) whole_deep_river w.rivers (dry_river y t h) dry.rivers)
+    (total_nonneg (λ x. (x.c ≡ 0) ⊎ (t ≤ℤ x.foot)) (whole_drain y) w.drains (dry_drain y t h) dry.drains)
     (total_at_most (λ x. Unit {0}) (λ x. neg_ℤ (whole_full x)) (whole_evap y) w.evaps (λ x u. evap_within_full y x) (λ k d i. tt))
     (total_neg whole_full w.evaps)
   where

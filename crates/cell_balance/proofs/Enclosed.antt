@@ -1,16 +1,15 @@
 -- Bounds that enclose an exact step enclose its whole numbers: conductances over m * 10^s, heads over n * 10^9; and such a step is linked.
 use Rattle.cell_balance.proofs.Common.{◌≡◌, ℕ, ◌+◌, ◌*◌, ◌^◌, ◌<◌, ◌≤◌, ap, ◌∙◌, subst, arith, ℤ, pos, ◌*ℤ◌, List, All, AllZip, mul-le-mul_right}
 use Rattle.cell_balance.proofs.Common.{le_of_mul-le-mul_right, Ratio, Fraction, den, IsOver, Encloses, EnclosesSigned, IsShare, IsBetweenWhole, IsBetweenSigned}
-use Rattle.cell_balance.proofs.Common.{cancel_right, mul_mono_right, swap, Flow, Link, Fixed, River, Drain, Evap, Entries, mul_assoc, ExactFlow, ExactLink}
-use Rattle.cell_balance.proofs.Common.{ExactFixed, ExactRiver, ExactDrain, ExactEvap, ExactCell, FlowEncloses, LinkEncloses, FixedEncloses, RiverEncloses}
-use Rattle.cell_balance.proofs.Common.{DrainEncloses, EvapEncloses, CellEncloses, sym, length, All-get_or, All-from_get_or, entries_at, no_entries, IsProblem}
-use Rattle.cell_balance.proofs.Common.{LinkFits, cell_at, no_cell, AreLinked, no_link, EnclosesStep}
+use Rattle.cell_balance.proofs.Common.{cancel_right, mul_mono_right, swap, Flow, Link, Entries, mul_assoc, ExactFlow, ExactLink, ExactCell, FlowEncloses}
+use Rattle.cell_balance.proofs.Common.{LinkEncloses, FixedEncloses, RiverEncloses, DrainEncloses, EvapEncloses, CellEncloses, sym, length, All-get_or}
+use Rattle.cell_balance.proofs.Common.{All-from_get_or, entries_at, no_entries, IsProblem, LinkFits, cell_at, no_cell, AreLinked, no_link, EnclosesStep}
 use Rattle.std.proofs.lemmas.Nat.{pow-add}
 use Rattle.decimal_input.specs.Ratios.{den as ratio_den}
 use Rattle.cell_balance.proofs.Zips.{AllZip-compose, AllZip-at, AllZip-length, All-zip}
-use Rattle.cell_balance.proofs.Whole.{WholeLink, WholeFixed, WholeRiver, WholeDrain, WholeEvap, WholeCell}
-use Rattle.cell_balance.proofs.Over.{FlowOver, LinkOver, FixedOver, RiverOver, DrainOver, EvapOver, CellOver}
-use Rattle.cell_balance.proofs.Within.{FlowWithin, LinkWithin, FixedWithin, RiverWithin, DrainWithin, EvapWithin, CellWithin}
+use Rattle.cell_balance.proofs.Whole.{WholeLink, WholeEntry, WholeCell}
+use Rattle.cell_balance.proofs.Over.{FlowOver, LinkOver, EntryOver, FixedOver, RiverOver, DrainOver, EvapOver, CellOver}
+use Rattle.cell_balance.proofs.Within.{FlowWithin, LinkWithin, EntryWithin, FixedWithin, RiverWithin, DrainWithin, EvapWithin, CellWithin}
 use Rattle.step_problem.specs.Entries.{no_link as no_bounds}
 
 cross_low : (lo x a c m t : ℕ) → 0 < x → lo * x ≤ a * t → a * (m * t) ≡ c * x → lo * m ≤ c
@@ -52,30 +51,11 @@ module _ (s m n : ℕ) where
   pub link_within : (cells : ℕ) (p : Link) (e : ExactLink) (w : WholeLink) → LinkEncloses s p e → LinkOver (m * 10 ^ s) (n * 10 ^ 9) e w → (p.cell < cells) × (0 < p.lo) → LinkWithin m n cells p w
   link_within cells p e w r o good = record { same = r.cell ∙ o.same; range = good.0; conducts = good.1; c = between_share p.lo p.hi s m w.c e.conductance r.conductance o.c }
 
-  pub fixed_within : (p : Fixed) (e : ExactFixed) (w : WholeFixed) → FixedEncloses s p e → FixedOver (m * 10 ^ s) (n * 10 ^ 9) e w → FixedWithin m n p w
-  fixed_within p e w r o = record {
-    c = between_share p.lo p.hi s m w.c e.conductance r.conductance o.c;
-    head = between_over p.head_lo p.head_hi 9 n e.head w.head r.head o.head;
-  }
-
-  pub river_within : (p : River) (e : ExactRiver) (w : WholeRiver) → RiverEncloses s p e → RiverOver (m * 10 ^ s) (n * 10 ^ 9) e w → RiverWithin m n p w
-  river_within p e w r o = record {
-    c = between_share p.lo p.hi s m w.c e.conductance r.conductance o.c;
-    stage = between_over p.stage_lo p.stage_hi 9 n e.stage w.stage r.stage o.stage;
-    bottom = between_over p.bottom_lo p.bottom_hi 9 n e.bottom w.bottom r.bottom o.bottom;
-  }
-
-  pub drain_within : (p : Drain) (e : ExactDrain) (w : WholeDrain) → DrainEncloses s p e → DrainOver (m * 10 ^ s) (n * 10 ^ 9) e w → DrainWithin m n p w
-  drain_within p e w r o = record {
-    c = between_share p.lo p.hi s m w.c e.conductance r.conductance o.c;
-    elev = between_over p.elev_lo p.elev_hi 9 n e.elevation w.elev r.elevation o.elev;
-  }
-
-  pub evap_within : (p : Evap) (e : ExactEvap) (w : WholeEvap) → EvapEncloses s p e → EvapOver (m * 10 ^ s) (n * 10 ^ 9) e w → EvapWithin m n p w
-  evap_within p e w r o = record {
-    c = between_share p.lo p.hi s m w.c e.conductance r.conductance o.c;
-    surf = between_over p.surf_lo p.surf_hi 9 n e.surface w.surf r.surface o.surf;
-    ext = between_over p.ext_lo p.ext_hi 9 n e.extinction w.ext r.extinction o.ext;
+  pub entry_within : (lo hi : ℕ) (a b p q : ℤ) (r : Ratio) (top foot : Fraction) (w : WholeEntry) → Encloses lo hi s r → EnclosesSigned a b 9 top → EnclosesSigned p q 9 foot → EntryOver (m * 10 ^ s) (n * 10 ^ 9) r top foot w → EntryWithin m n lo hi a b p q w
+  entry_within lo hi a b p q r top foot w conductance high low o = record {
+    c = between_share lo hi s m w.c r conductance o.c;
+    top = between_over a b 9 n top w.top high o.top;
+    foot = between_over p q 9 n foot w.foot low o.foot;
   }
 
   module _ (cells : ℕ) where
@@ -83,10 +63,10 @@ module _ (s m n : ℕ) where
     cell_within p e w h o good = record {
       flows = AllZip-compose (FlowEncloses s) (FlowOver (m * 10 ^ s) (n * 10 ^ 9)) (FlowWithin m n) (λ x. Unit {0}) (λ x y z r q u. flow_within x y z r q) p.flows e.flows w.flows h.flows o.flows (λ k d i. tt);
       links = AllZip-compose (LinkEncloses s) (LinkOver (m * 10 ^ s) (n * 10 ^ 9)) (LinkWithin m n cells) (λ x. (x.cell < cells) × (0 < x.lo)) (link_within cells) p.links e.links w.links h.links o.links good;
-      fixed = AllZip-compose (FixedEncloses s) (FixedOver (m * 10 ^ s) (n * 10 ^ 9)) (FixedWithin m n) (λ x. Unit {0}) (λ x y z r q u. fixed_within x y z r q) p.fixed e.fixed w.fixed h.fixed o.fixed (λ k d i. tt);
-      rivers = AllZip-compose (RiverEncloses s) (RiverOver (m * 10 ^ s) (n * 10 ^ 9)) (RiverWithin m n) (λ x. Unit {0}) (λ x y z r q u. river_within x y z r q) p.rivers e.rivers w.rivers h.rivers o.rivers (λ k d i. tt);
-      drains = AllZip-compose (DrainEncloses s) (DrainOver (m * 10 ^ s) (n * 10 ^ 9)) (DrainWithin m n) (λ x. Unit {0}) (λ x y z r q u. drain_within x y z r q) p.drains e.drains w.drains h.drains o.drains (λ k d i. tt);
-      evaps = AllZip-compose (EvapEncloses s) (EvapOver (m * 10 ^ s) (n * 10 ^ 9)) (EvapWithin m n) (λ x. Unit {0}) (λ x y z r q u. evap_within x y z r q) p.evaps e.evaps w.evaps h.evaps o.evaps (λ k d i. tt);
+      fixed = AllZip-compose (FixedEncloses s) (FixedOver (m * 10 ^ s) (n * 10 ^ 9)) (FixedWithin m n) (λ x. Unit {0}) (λ x y z r o u. entry_within x.lo x.hi _ _ _ _ y.conductance y.head y.head z r.conductance r.head r.head o) p.fixed e.fixed w.fixed h.fixed o.fixed (λ k d i. tt);
+      rivers = AllZip-compose (RiverEncloses s) (RiverOver (m * 10 ^ s) (n * 10 ^ 9)) (RiverWithin m n) (λ x. Unit {0}) (λ x y z r o u. entry_within x.lo x.hi _ _ _ _ y.conductance y.stage y.bottom z r.conductance r.stage r.bottom o) p.rivers e.rivers w.rivers h.rivers o.rivers (λ k d i. tt);
+      drains = AllZip-compose (DrainEncloses s) (DrainOver (m * 10 ^ s) (n * 10 ^ 9)) (DrainWithin m n) (λ x. Unit {0}) (λ x y z r o u. entry_within x.lo x.hi _ _ _ _ y.conductance y.elevation y.elevation z r.conductance r.elevation r.elevation o) p.drains e.drains w.drains h.drains o.drains (λ k d i. tt);
+      evaps = AllZip-compose (EvapEncloses s) (EvapOver (m * 10 ^ s) (n * 10 ^ 9)) (EvapWithin m n) (λ x. Unit {0}) (λ x y z r o u. entry_within x.lo x.hi _ _ _ _ y.conductance y.surface y.extinction z r.conductance r.surface r.extinction o) p.evaps e.evaps w.evaps h.evaps o.evaps (λ k d i. tt);
     }
 
     pub step_within : (p : List Entries) (e : List ExactCell) (w : List WholeCell) → AllZip (CellEncloses s) p e → AllZip (CellOver (m * 10 ^ s) (n * 10 ^ 9)) e w → All (LinksGood cells) p → AllZip (CellWithin m n cells) p w

@@ -5,11 +5,11 @@ use Rattle.cell_balance.proofs.Common.{IsOver, IsShare, mul_nonneg, mul_neg, Exa
 use Rattle.cell_balance.proofs.Common.{drain_flow, evap_flow, full_rate, over_difference, FixedLaws, RiverLaws, DrainLaws, EvapLaws, FlowsAreRight}
 use Rattle.cell_balance.proofs.Scaling.{IsOver-times, IsOver-minus, IsOver-negated, IsOver-signed, over_zero}
 use Rattle.cell_balance.proofs.EntryScaled.{over_le, le_over, same_over, negative_over, negative_below, positive_above, below_over}
-use Rattle.cell_balance.proofs.Denominators.{Goes, fraction_over, fixed_den, river_den, drain_den, evap_den}
-use Rattle.cell_balance.proofs.Over.{FixedOver, RiverOver, DrainOver, EvapOver, fixed_over, river_over, drain_over, evap_over, full_over}
-use Rattle.cell_balance.proofs.Wholes.{fixed, river, drain, evap}
+use Rattle.cell_balance.proofs.Denominators.{Goes, fraction_over, entry_den, some_entry}
+use Rattle.cell_balance.proofs.Over.{EntryOver, FixedOver, RiverOver, DrainOver, EvapOver, fixed_over, river_over, drain_over, evap_over, full_over}
+use Rattle.cell_balance.proofs.Wholes.{entry}
 use Rattle.cell_balance.proofs.Dry.{evap_within_full}
-use Rattle.cell_balance.proofs.Whole.{WholeFixed, WholeRiver, WholeDrain, WholeEvap, whole_fixed, whole_river, whole_drain, whole_evap, whole_full}
+use Rattle.cell_balance.proofs.Whole.{WholeEntry, whole_fixed, whole_river, whole_drain, whole_evap, whole_full}
 
 -- what conducts has a positive share
 some_share : (d c : ℕ) (r : Ratio) → 0 < d → 0 < r.num → IsShare d r c → 0 < c
@@ -32,98 +32,85 @@ module _ (k m : ℕ) (some_k : 0 < k) (some_m : 0 < m) (v : Fraction) (y : ℤ) 
   some : 0 < k * m
   some = mul-pos some_k some_m
 
-  fixed_laws : (x : ExactFixed) (w : WholeFixed) → FixedOver k m x w → FixedLaws v x
+  fixed_laws : (x : ExactFixed) (w : WholeEntry) → FixedOver k m x w → FixedLaws v x
   fixed_laws x w r = record {
-    gives = λ c h. positive_above (k * m) (fixed_flow v x) (whole_fixed y w) some (fixed_over k m v y own x w r) (mul_positive w.c (w.head -ℤ y) (some_share k w.c x.conductance some_k c r.c) (let b = below_over m v x.head y w.head some_m own r.head h in omega (arith, ints, b)));
-    takes = λ c h. negative_below (k * m) (fixed_flow v x) (whole_fixed y w) some (fixed_over k m v y own x w r) (mul_negative w.c (w.head -ℤ y) (some_share k w.c x.conductance some_k c r.c) (let b = below_over m x.head v w.head y some_m r.head own h in omega (arith, ints, b)));
+    gives = λ c h. positive_above (k * m) (fixed_flow v x) (whole_fixed y w) some (fixed_over k m v y own x w r) (mul_positive w.c (w.top -ℤ y) (some_share k w.c x.conductance some_k c r.c) (let b = below_over m v x.head y w.top some_m own r.top h in omega (arith, ints, b)));
+    takes = λ c h. negative_below (k * m) (fixed_flow v x) (whole_fixed y w) some (fixed_over k m v y own x w r) (mul_negative w.c (w.top -ℤ y) (some_share k w.c x.conductance some_k c r.c) (let b = below_over m x.head v w.top y some_m r.top own h in omega (arith, ints, b)));
   }
 
-  river_laws : (x : ExactRiver) (w : WholeRiver) → RiverOver k m x w → RiverLaws v x
+  river_laws : (x : ExactRiver) (w : WholeEntry) → RiverOver k m x w → RiverLaws v x
   river_laws x w r = record {
-    takes = λ c h. negative_below (k * m) (river_flow v x) (whole_river y w) some (river_over k m v y own x w r) (mul_negative w.c (w.stage -ℤ int_max y w.bottom) (some_share k w.c x.conductance some_k c r.c) (let b = below_over m x.stage v w.stage y some_m r.stage own h in omega (arith, ints, clamps, b)));
-    above = λ h. same_over (k * m) _ _ _ _ some (river_over k m v y own x w r) (difference_over k m w.c x.conductance x.stage v w.stage y r.c r.stage own) (ap (λ (z : ℤ). pos w.c *ℤ (w.stage -ℤ z)) (left (over_le m x.bottom v w.bottom y r.bottom own h)));
-    below = λ h. same_over (k * m) _ _ _ _ some (river_over k m v y own x w r) (difference_over k m w.c x.conductance x.stage x.bottom w.stage w.bottom r.c r.stage r.bottom) (ap (λ (z : ℤ). pos w.c *ℤ (w.stage -ℤ z)) (right (over_le m v x.bottom y w.bottom own r.bottom h)));
+    takes = λ c h. negative_below (k * m) (river_flow v x) (whole_river y w) some (river_over k m v y own x w r) (mul_negative w.c (w.top -ℤ int_max y w.foot) (some_share k w.c x.conductance some_k c r.c) (let b = below_over m x.stage v w.top y some_m r.top own h in omega (arith, ints, clamps, b)));
+    above = λ h. same_over (k * m) _ _ _ _ some (river_over k m v y own x w r) (difference_over k m w.c x.conductance x.stage v w.top y r.c r.top own) (ap (λ (z : ℤ). pos w.c *ℤ (w.top -ℤ z)) (left (over_le m x.bottom v w.foot y r.foot own h)));
+    below = λ h. same_over (k * m) _ _ _ _ some (river_over k m v y own x w r) (difference_over k m w.c x.conductance x.stage x.bottom w.top w.foot r.c r.top r.foot) (ap (λ (z : ℤ). pos w.c *ℤ (w.top -ℤ z)) (right (over_le m v x.bottom y w.foot own r.foot h)));
   }
     where
-      left : w.bottom ≤ℤ y → int_max y w.bottom ≡ y
+      left : w.foot ≤ℤ y → int_max y w.foot ≡ y
       left h = omega (arith, ints, clamps)
 
-      right : y ≤ℤ w.bottom → int_max y w.bottom ≡ w.bottom
+      right : y ≤ℤ w.foot → int_max y w.foot ≡ w.foot
       right h = omega (arith, ints, clamps)
 
-  drain_laws : (x : ExactDrain) (w : WholeDrain) → DrainOver k m x w → DrainLaws v x
+  drain_laws : (x : ExactDrain) (w : WholeEntry) → DrainOver k m x w → DrainLaws v x
   drain_laws x w r = record {
-    never_gives = negative_over (k * m) (drain_flow v x) (whole_drain y w) some (drain_over k m v y own x w r) (out (mul_nonneg (pos w.c) (int_max (y -ℤ w.elev) (pos 0)) (omega (arith, ints)) (omega (arith, ints, clamps))));
-    below = λ h. over_zero (k * m) (drain_flow v x) some (subst (λ (z : ℤ). IsOver (k * m) (drain_flow v x) z) (none (over_le m v x.elevation y w.elev own r.elev h)) (drain_over k m v y own x w r));
-    above = λ h. same_over (k * m) _ _ _ _ some (drain_over k m v y own x w r) (difference_over k m w.c x.conductance x.elevation v w.elev y r.c r.elev own) (wet (over_le m x.elevation v w.elev y r.elev own h));
+    never_gives = negative_over (k * m) (drain_flow v x) (whole_drain y w) some (drain_over k m v y own x w r) (out (mul_nonneg (pos w.c) (int_max (y -ℤ w.foot) (pos 0)) (omega (arith, ints)) (omega (arith, ints, clamps))));
+    below = λ h. over_zero (k * m) (drain_flow v x) some (subst (λ (z : ℤ). IsOver (k * m) (drain_flow v x) z) (none (over_le m v x.elevation y w.foot own r.foot h)) (drain_over k m v y own x w r));
+    above = λ h. same_over (k * m) _ _ _ _ some (drain_over k m v y own x w r) (difference_over k m w.c x.conductance x.elevation v w.foot y r.c r.foot own) (wet (over_le m x.elevation v w.foot y r.foot own h));
   }
     where
-      out : pos 0 ≤ℤ (pos w.c *ℤ int_max (y -ℤ w.elev) (pos 0)) → whole_drain y w ≤ℤ pos 0
+      out : pos 0 ≤ℤ (pos w.c *ℤ int_max (y -ℤ w.foot) (pos 0)) → whole_drain y w ≤ℤ pos 0
       out h = omega (arith, ints, h)
 
-      none : y ≤ℤ w.elev → whole_drain y w ≡ pos 0
-      none h = let e : int_max (y -ℤ w.elev) (pos 0) ≡ pos 0 = omega (arith, ints, clamps) in rw (e, *ℤ-zero) refl
+      none : y ≤ℤ w.foot → whole_drain y w ≡ pos 0
+      none h = let e : int_max (y -ℤ w.foot) (pos 0) ≡ pos 0 = omega (arith, ints, clamps) in rw (e, *ℤ-zero) refl
 
-      wet : w.elev ≤ℤ y → whole_drain y w ≡ pos w.c *ℤ (w.elev -ℤ y)
-      wet h = let e : neg_ℤ (int_max (y -ℤ w.elev) (pos 0)) ≡ w.elev -ℤ y = omega (arith, ints, clamps) in sym (mul_neg (pos w.c) (int_max (y -ℤ w.elev) (pos 0))) ∙ ap (λ (z : ℤ). pos w.c *ℤ z) e
+      wet : w.foot ≤ℤ y → whole_drain y w ≡ pos w.c *ℤ (w.foot -ℤ y)
+      wet h = let e : neg_ℤ (int_max (y -ℤ w.foot) (pos 0)) ≡ w.foot -ℤ y = omega (arith, ints, clamps) in sym (mul_neg (pos w.c) (int_max (y -ℤ w.foot) (pos 0))) ∙ ap (λ (z : ℤ). pos w.c *ℤ z) e
 
-  all_out : (x : ExactEvap) (w : WholeEvap) → EvapOver k m x w → IsOver (k * m) (negated (full_rate x)) (neg_ℤ (whole_full w))
+  all_out : (x : ExactEvap) (w : WholeEntry) → EvapOver k m x w → IsOver (k * m) (negated (full_rate x)) (neg_ℤ (whole_full w))
   all_out x w r = IsOver-negated (k * m) (full_rate x) (whole_full w) (full_over k m x w r)
 
-  evap_laws : (x : ExactEvap) (w : WholeEvap) → EvapOver k m x w → EvapLaws v x
+  evap_laws : (x : ExactEvap) (w : WholeEntry) → EvapOver k m x w → EvapLaws v x
   evap_laws x w r = record {
-    never_gives = negative_over (k * m) (evap_flow v x) (whole_evap y w) some flow (out (mul_nonneg (pos w.c) (int_max (int_min y w.surf -ℤ w.ext) (pos 0)) (omega (arith, ints)) (omega (arith, ints, clamps))));
+    never_gives = negative_over (k * m) (evap_flow v x) (whole_evap y w) some flow (out (mul_nonneg (pos w.c) (int_max (int_min y w.top -ℤ w.foot) (pos 0)) (omega (arith, ints)) (omega (arith, ints, clamps))));
     at_most_full = le_over (k * m) (negated (full_rate x)) (evap_flow v x) (neg_ℤ (whole_full w)) (whole_evap y w) some (all_out x w r) flow (evap_within_full y w);
-    below = λ h. over_zero (k * m) (evap_flow v x) some (subst (λ (z : ℤ). IsOver (k * m) (evap_flow v x) z) (none (over_le m v x.extinction y w.ext own r.ext h)) flow);
-    between = λ h i. same_over (k * m) _ _ _ _ some flow (difference_over k m w.c x.conductance x.extinction v w.ext y r.c r.ext own) (middle (over_le m x.extinction v w.ext y r.ext own h) (over_le m v x.surface y w.surf own r.surf i));
-    above = λ h. same_over (k * m) _ _ _ _ some flow (all_out x w r) (top (over_le m x.surface v w.surf y r.surf own h));
+    below = λ h. over_zero (k * m) (evap_flow v x) some (subst (λ (z : ℤ). IsOver (k * m) (evap_flow v x) z) (none (over_le m v x.extinction y w.foot own r.foot h)) flow);
+    between = λ h i. same_over (k * m) _ _ _ _ some flow (difference_over k m w.c x.conductance x.extinction v w.foot y r.c r.foot own) (middle (over_le m x.extinction v w.foot y r.foot own h) (over_le m v x.surface y w.top own r.top i));
+    above = λ h. same_over (k * m) _ _ _ _ some flow (all_out x w r) (top (over_le m x.surface v w.top y r.top own h));
   }
     where
       flow : IsOver (k * m) (evap_flow v x) (whole_evap y w)
       flow = evap_over k m v y own x w r
 
-      out : pos 0 ≤ℤ (pos w.c *ℤ int_max (int_min y w.surf -ℤ w.ext) (pos 0)) → whole_evap y w ≤ℤ pos 0
+      out : pos 0 ≤ℤ (pos w.c *ℤ int_max (int_min y w.top -ℤ w.foot) (pos 0)) → whole_evap y w ≤ℤ pos 0
       out h = omega (arith, ints, h)
 
-      none : y ≤ℤ w.ext → whole_evap y w ≡ pos 0
-      none h = let e : int_max (int_min y w.surf -ℤ w.ext) (pos 0) ≡ pos 0 = omega (arith, ints, clamps) in rw (e, *ℤ-zero) refl
+      none : y ≤ℤ w.foot → whole_evap y w ≡ pos 0
+      none h = let e : int_max (int_min y w.top -ℤ w.foot) (pos 0) ≡ pos 0 = omega (arith, ints, clamps) in rw (e, *ℤ-zero) refl
 
-      middle : w.ext ≤ℤ y → y ≤ℤ w.surf → whole_evap y w ≡ pos w.c *ℤ (w.ext -ℤ y)
-      middle h i = let e : neg_ℤ (int_max (int_min y w.surf -ℤ w.ext) (pos 0)) ≡ w.ext -ℤ y = omega (arith, ints, clamps) in sym (mul_neg (pos w.c) (int_max (int_min y w.surf -ℤ w.ext) (pos 0))) ∙ ap (λ (z : ℤ). pos w.c *ℤ z) e
+      middle : w.foot ≤ℤ y → y ≤ℤ w.top → whole_evap y w ≡ pos w.c *ℤ (w.foot -ℤ y)
+      middle h i = let e : neg_ℤ (int_max (int_min y w.top -ℤ w.foot) (pos 0)) ≡ w.foot -ℤ y = omega (arith, ints, clamps) in sym (mul_neg (pos w.c) (int_max (int_min y w.top -ℤ w.foot) (pos 0))) ∙ ap (λ (z : ℤ). pos w.c *ℤ z) e
 
-      top : w.surf ≤ℤ y → whole_evap y w ≡ neg_ℤ (whole_full w)
-      top h = let e : int_min y w.surf ≡ w.surf = omega (arith, ints, clamps) in ap (λ (z : ℤ). neg_ℤ (pos w.c *ℤ int_max (z -ℤ w.ext) (pos 0))) e
+      top : w.top ≤ℤ y → whole_evap y w ≡ neg_ℤ (whole_full w)
+      top h = let e : int_min y w.top ≡ w.top = omega (arith, ints, clamps) in ap (λ (z : ℤ). neg_ℤ (pos w.c *ℤ int_max (z -ℤ w.foot) (pos 0))) e
+
+-- an entry and a head have whole numbers over one denominator
+module _ (v : Fraction) (r : Ratio) (top foot : Fraction) where
+  by_wholes : {L : Type 0} → ((k m : ℕ) → 0 < k → 0 < m → (y : ℤ) → IsOver m v y → (w : WholeEntry) → EntryOver k m r top foot w → L) → L
+  by_wholes law =
+      let d = den v * entry_den r top foot in
+      let some : 0 < d = mul-pos (omega arith) (some_entry r top foot) in
+      let (w, over) = entry d 1 1 r top foot (second (den v) (entry_den r top foot)) in
+      let (y, own) = fraction_over d 1 v (entry_den r top foot, refl) in
+      law (d * 1) (d * 1) (omega (arith, some)) (omega (arith, some)) y own w over
+    where
+      second : (a b : ℕ) → Goes b (a * b)
+      second a b = (a, omega arith)
 
 pub flows_are_right : FlowsAreRight
 flows_are_right = record {
-  fixed = λ v x.
-      let d = den v * fixed_den x in
-      let some : 0 < d = mul-pos (omega arith) (mul-pos (omega arith) (omega arith)) in
-      let (w, r) = fixed d 1 1 x (second (den v) (fixed_den x)) in
-      let (y, own) = fraction_over d 1 v (fixed_den x, refl) in
-      fixed_laws (d * 1) (d * 1) (omega (arith, some)) (omega (arith, some)) v y own x w r;
-  rivers = λ v x.
-      let d = den v * river_den x in
-      let some : 0 < d = mul-pos (omega arith) (some_three x.conductance.less x.stage.less x.bottom.less) in
-      let (w, r) = river d 1 1 x (second (den v) (river_den x)) in
-      let (y, own) = fraction_over d 1 v (river_den x, refl) in
-      river_laws (d * 1) (d * 1) (omega (arith, some)) (omega (arith, some)) v y own x w r;
-  drains = λ v x.
-      let d = den v * drain_den x in
-      let some : 0 < d = mul-pos (omega arith) (mul-pos (omega arith) (omega arith)) in
-      let (w, r) = drain d 1 1 x (second (den v) (drain_den x)) in
-      let (y, own) = fraction_over d 1 v (drain_den x, refl) in
-      drain_laws (d * 1) (d * 1) (omega (arith, some)) (omega (arith, some)) v y own x w r;
-  evaps = λ v x.
-      let d = den v * evap_den x in
-      let some : 0 < d = mul-pos (omega arith) (some_three x.conductance.less x.surface.less x.extinction.less) in
-      let (w, r) = evap d 1 1 x (second (den v) (evap_den x)) in
-      let (y, own) = fraction_over d 1 v (evap_den x, refl) in
-      evap_laws (d * 1) (d * 1) (omega (arith, some)) (omega (arith, some)) v y own x w r;
+  fixed = λ v x. by_wholes v x.conductance x.head x.head (λ k m hk hm y own. fixed_laws k m hk hm v y own x);
+  rivers = λ v x. by_wholes v x.conductance x.stage x.bottom (λ k m hk hm y own. river_laws k m hk hm v y own x);
+  drains = λ v x. by_wholes v x.conductance x.elevation x.elevation (λ k m hk hm y own. drain_laws k m hk hm v y own x);
+  evaps = λ v x. by_wholes v x.conductance x.surface x.extinction (λ k m hk hm y own. evap_laws k m hk hm v y own x);
 }
-  where
-    second : (a b : ℕ) → Goes b (a * b)
-    second a b = (a, omega arith)
-
-    some_three : (a b c : ℕ) → 0 < suc a * (suc b * suc c)
-    some_three a b c = mul-pos (omega arith) (mul-pos (omega arith) (omega arith))

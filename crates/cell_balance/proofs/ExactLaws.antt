@@ -58,9 +58,9 @@ module _ (k m : ℕ) (e : List ExactCell) (w : List WholeCell) (over : AllZip (C
 
   dry_over : (v : Fraction) (y : ℤ) (c : ExactCell) (u : WholeCell) → IsOver m v y → CellOver k m c u → LiesBelow v c → IsDry y u
   dry_over v y c u own o h = record {
-    fixed = All-zip (FixedOver k m) (λ x. 0 < x.conductance.num → AtMost v x.head) (λ x. (x.c ≡ 0) ⊎ (y ≤ℤ x.head)) (λ x z r b. case x.conductance z.c x.head z.head r.c r.head b) c.fixed u.fixed o.fixed h.fixed;
-    rivers = All-zip (RiverOver k m) (λ x. 0 < x.conductance.num → AtMost v x.bottom) (λ x. (x.c ≡ 0) ⊎ (y ≤ℤ x.bottom)) (λ x z r b. case x.conductance z.c x.bottom z.bottom r.c r.bottom b) c.rivers u.rivers o.rivers h.rivers;
-    drains = All-zip (DrainOver k m) (λ x. 0 < x.conductance.num → AtMost v x.elevation) (λ x. (x.c ≡ 0) ⊎ (y ≤ℤ x.elev)) (λ x z r b. case x.conductance z.c x.elevation z.elev r.c r.elev b) c.drains u.drains o.drains h.drains;
+    fixed = All-zip (FixedOver k m) (λ x. 0 < x.conductance.num → AtMost v x.head) (λ x. (x.c ≡ 0) ⊎ (y ≤ℤ x.top)) (λ x z r b. case x.conductance z.c x.head z.top r.c r.top b) c.fixed u.fixed o.fixed h.fixed;
+    rivers = All-zip (RiverOver k m) (λ x. 0 < x.conductance.num → AtMost v x.bottom) (λ x. (x.c ≡ 0) ⊎ (y ≤ℤ x.foot)) (λ x z r b. case x.conductance z.c x.bottom z.foot r.c r.foot b) c.rivers u.rivers o.rivers h.rivers;
+    drains = All-zip (DrainOver k m) (λ x. 0 < x.conductance.num → AtMost v x.elevation) (λ x. (x.c ≡ 0) ⊎ (y ≤ℤ x.foot)) (λ x z r b. case x.conductance z.c x.elevation z.foot r.c r.foot b) c.drains u.drains o.drains h.drains;
   }
     where
       no_share : (n d c x : ℕ) → n ≡ 0 → n * d ≡ c * suc x → c ≡ 0

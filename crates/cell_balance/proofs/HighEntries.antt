@@ -4,7 +4,7 @@ use Rattle.cell_balance.proofs.Common.{link_high, fixed_high, river_high, drain_
 use Rattle.cell_balance.proofs.Common.{neg_mul, mul_neg, IsBetweenWhole, turned}
 use Rattle.cell_balance.proofs.Totals.{sub_mul, le_trans_z, same_z}
 use Rattle.cell_balance.proofs.Products.{entry_more, max_below, min_below, sub_less}
-use Rattle.cell_balance.proofs.Whole.{WholeLink, WholeFixed, WholeRiver, WholeDrain, WholeEvap, whole_link, whole_fixed, whole_river, whole_drain, whole_evap}
+use Rattle.cell_balance.proofs.Whole.{WholeLink, WholeEntry, whole_link, whole_fixed, whole_river, whole_drain, whole_evap}
 use Rattle.cell_balance.proofs.Within.{LinkWithin, FixedWithin, RiverWithin, DrainWithin, EvapWithin}
 
 link_ring : (c a v n own other : ℤ) → c *ℤ (other -ℤ own) +ℤ c *ℤ ((own -ℤ v *ℤ n) -ℤ (other -ℤ a *ℤ n)) ≡ c *ℤ ((a -ℤ v) *ℤ n)
@@ -22,15 +22,15 @@ fixed_ring : (c h v n y : ℤ) → c *ℤ (h -ℤ y) +ℤ c *ℤ (y -ℤ v *ℤ 
 fixed_ring c h v n y = rw (as_diff c, as_diff h, as_diff v, as_diff n, as_diff y) (simp diffs (same_diff _ _ _ _ (omega arith)))
 
 -- a fixed link's flow falls short of its bound by the conductance times the cell's excess
-pub fixed_gap : (m n : ℕ) (v y : ℤ) (p : Fixed) (w : WholeFixed) → FixedWithin m n p w → (whole_fixed y w +ℤ pos w.c *ℤ (y -ℤ v *ℤ pos n)) ≤ℤ (fixed_high v p *ℤ pos (m * n))
+pub fixed_gap : (m n : ℕ) (v y : ℤ) (p : Fixed) (w : WholeEntry) → FixedWithin m n p w → (whole_fixed y w +ℤ pos w.c *ℤ (y -ℤ v *ℤ pos n)) ≤ℤ (fixed_high v p *ℤ pos (m * n))
 fixed_gap m n v y p w e =
-    let near = mul_mono w.c (w.head -ℤ v *ℤ pos n) ((p.head_hi -ℤ v) *ℤ pos n) (rw sub_mul (sub_less _ _ _ _ e.head.upper (same_z _))) in
-    move _ _ _ (fixed_ring (pos w.c) w.head v (pos n) y) (le_trans_z _ _ _ near (most_times p.lo p.hi w.c m n (p.head_hi -ℤ v) e.c.lower e.c.upper))
+    let near = mul_mono w.c (w.top -ℤ v *ℤ pos n) ((p.head_hi -ℤ v) *ℤ pos n) (rw sub_mul (sub_less _ _ _ _ e.top.upper (same_z _))) in
+    move _ _ _ (fixed_ring (pos w.c) w.top v (pos n) y) (le_trans_z _ _ _ near (most_times p.lo p.hi w.c m n (p.head_hi -ℤ v) e.c.lower e.c.upper))
 
-pub river_more : (m n : ℕ) (v y : ℤ) → (v *ℤ pos n) ≤ℤ y → (p : River) (w : WholeRiver) → RiverWithin m n p w → whole_river y w ≤ℤ (river_high v p *ℤ pos (m * n))
+pub river_more : (m n : ℕ) (v y : ℤ) → (v *ℤ pos n) ≤ℤ y → (p : River) (w : WholeEntry) → RiverWithin m n p w → whole_river y w ≤ℤ (river_high v p *ℤ pos (m * n))
 river_more m n v y at p w e =
     entry_more p.lo p.hi w.c m n _ _ e.c
-    (rw sub_mul (sub_less _ _ _ _ e.stage.upper (max_below n v p.bottom_lo y w.bottom at e.bottom.lower)))
+    (rw sub_mul (sub_less _ _ _ _ e.top.upper (max_below n v p.bottom_lo y w.foot at e.foot.lower)))
 
 -- what goes out by a depth of water: bounded where the depth is
 pub out_more : (lo hi c m n : ℕ) (depth exact : ℤ) → IsBetweenWhole lo hi m c → pos 0 ≤ℤ depth → (depth *ℤ pos n) ≤ℤ exact → neg_ℤ (pos c *ℤ exact) ≤ℤ (neg_ℤ (pos lo *ℤ depth) *ℤ pos (m * n))
@@ -38,15 +38,15 @@ out_more lo hi c m n depth exact b some h =
     rw (neg_most lo hi _ some, ← mul_neg)
     (entry_more lo hi c m n _ _ b (rw neg_mul (turned _ _ h)))
 
-pub drain_more : (m n : ℕ) (v y : ℤ) → (v *ℤ pos n) ≤ℤ y → (p : Drain) (w : WholeDrain) → DrainWithin m n p w → whole_drain y w ≤ℤ (drain_high v p *ℤ pos (m * n))
+pub drain_more : (m n : ℕ) (v y : ℤ) → (v *ℤ pos n) ≤ℤ y → (p : Drain) (w : WholeEntry) → DrainWithin m n p w → whole_drain y w ≤ℤ (drain_high v p *ℤ pos (m * n))
 drain_more m n v y at p w e =
-    let wet : ((v -ℤ p.elev_hi) *ℤ pos n) ≤ℤ (y -ℤ w.elev) = rw sub_mul (sub_less _ _ _ _ at e.elev.upper) in
+    let wet : ((v -ℤ p.elev_hi) *ℤ pos n) ≤ℤ (y -ℤ w.foot) = rw sub_mul (sub_less _ _ _ _ at e.foot.upper) in
     let none : (pos 0 *ℤ pos n) ≤ℤ pos 0 = omega (arith, ints) in
-    out_more p.lo p.hi w.c m n _ _ e.c (omega (arith, ints, clamps)) (max_below n (v -ℤ p.elev_hi) (pos 0) (y -ℤ w.elev) (pos 0) wet none)
+    out_more p.lo p.hi w.c m n _ _ e.c (omega (arith, ints, clamps)) (max_below n (v -ℤ p.elev_hi) (pos 0) (y -ℤ w.foot) (pos 0) wet none)
 
-pub evap_more : (m n : ℕ) (v y : ℤ) → (v *ℤ pos n) ≤ℤ y → (p : Evap) (w : WholeEvap) → EvapWithin m n p w → whole_evap y w ≤ℤ (evap_high v p *ℤ pos (m * n))
+pub evap_more : (m n : ℕ) (v y : ℤ) → (v *ℤ pos n) ≤ℤ y → (p : Evap) (w : WholeEntry) → EvapWithin m n p w → whole_evap y w ≤ℤ (evap_high v p *ℤ pos (m * n))
 evap_more m n v y at p w e =
-    let top = min_below n v p.surf_lo y w.surf at e.surf.lower in
-    let wet : ((int_min v p.surf_lo -ℤ p.ext_hi) *ℤ pos n) ≤ℤ (int_min y w.surf -ℤ w.ext) = rw sub_mul (sub_less _ _ _ _ top e.ext.upper) in
+    let top = min_below n v p.surf_lo y w.top at e.top.lower in
+    let wet : ((int_min v p.surf_lo -ℤ p.ext_hi) *ℤ pos n) ≤ℤ (int_min y w.top -ℤ w.foot) = rw sub_mul (sub_less _ _ _ _ top e.foot.upper) in
     let none : (pos 0 *ℤ pos n) ≤ℤ pos 0 = omega (arith, ints) in
-    out_more p.lo p.hi w.c m n _ _ e.c (omega (arith, ints, clamps)) (max_below n (int_min v p.surf_lo -ℤ p.ext_hi) (pos 0) (int_min y w.surf -ℤ w.ext) (pos 0) wet none)
+    out_more p.lo p.hi w.c m n _ _ e.c (omega (arith, ints, clamps)) (max_below n (int_min v p.surf_lo -ℤ p.ext_hi) (pos 0) (int_min y w.top -ℤ w.foot) (pos 0) wet none)

@@ -6,36 +6,36 @@ use Rattle.cell_balance.proofs.Totals.{add_mul, sub_mul, le_trans_z, total_less,
 use Rattle.cell_balance.proofs.Zips.{AllZip-left, AllZip-right}
 use Rattle.cell_balance.proofs.Products.{cancel_le, conducting, IsTight, slack_open, link_closed, fixed_closed, no_lo}
 use Rattle.cell_balance.proofs.LowEntries.{link_gap, fixed_gap, river_less, drain_less, evap_less}
-use Rattle.cell_balance.proofs.Whole.{WholeLink, WholeFixed, WholeRiver, WholeDrain, WholeCell, whole_link, whole_fixed, whole_river, whole_drain, whole_evap, whole_balance}
+use Rattle.cell_balance.proofs.Whole.{WholeLink, WholeEntry, WholeCell, whole_link, whole_fixed, whole_river, whole_drain, whole_evap, whole_balance}
 use Rattle.cell_balance.proofs.Within.{FlowWithin, LinkWithin, FixedWithin, RiverWithin, DrainWithin, EvapWithin, CellWithin}
 
 -- a river that gives no more than its bound at the higher head has its bottom above the lower one
-dry_river : (m n : ℕ) (v y : ℤ) → y <ℤ (v *ℤ pos n) → (p : River) (w : WholeRiver) → RiverWithin m n p w → whole_river y w ≤ℤ (river_low v p *ℤ pos (m * n)) → (w.c ≡ 0) ⊎ (y ≤ℤ w.bottom)
+dry_river : (m n : ℕ) (v y : ℤ) → y <ℤ (v *ℤ pos n) → (p : River) (w : WholeEntry) → RiverWithin m n p w → whole_river y w ≤ℤ (river_low v p *ℤ pos (m * n)) → (w.c ≡ 0) ⊎ (y ≤ℤ w.foot)
 dry_river m n v y above p w e tight =
     elim (cases_eq w.c 0) [
       | inl z ↦ inl z
       | inr some ↦
           let bound = le_trans_z _ _ _ tight (least_times p.lo p.hi w.c m n (p.stage_lo -ℤ int_max v p.bottom_hi) e.c.lower e.c.upper) in
           let order = cancel_le w.c _ _ (omega arith) bound in
-          inr (dry (int_max y w.bottom) (int_max v p.bottom_hi *ℤ pos n) (p.stage_lo *ℤ pos n) (rw sub_mul at order) e.stage.lower (mul_mono_right n v (int_max v p.bottom_hi) (omega (arith, ints, clamps))) refl)
+          inr (dry (int_max y w.foot) (int_max v p.bottom_hi *ℤ pos n) (p.stage_lo *ℤ pos n) (rw sub_mul at order) e.top.lower (mul_mono_right n v (int_max v p.bottom_hi) (omega (arith, ints, clamps))) refl)
     ]
   where
-    dry : (top high s : ℤ) → (w.stage -ℤ top) ≤ℤ (s -ℤ high) → s ≤ℤ w.stage → (v *ℤ pos n) ≤ℤ high → top ≡ int_max y w.bottom → y ≤ℤ w.bottom
+    dry : (top high s : ℤ) → (w.top -ℤ top) ≤ℤ (s -ℤ high) → s ≤ℤ w.top → (v *ℤ pos n) ≤ℤ high → top ≡ int_max y w.foot → y ≤ℤ w.foot
     dry top high s a b d is = omega (arith, ints, clamps, is)
 
-dry_drain : (m n : ℕ) (v y : ℤ) → y <ℤ (v *ℤ pos n) → (p : Drain) (w : WholeDrain) → DrainWithin m n p w → whole_drain y w ≤ℤ (drain_low v p *ℤ pos (m * n)) → (w.c ≡ 0) ⊎ (y ≤ℤ w.elev)
+dry_drain : (m n : ℕ) (v y : ℤ) → y <ℤ (v *ℤ pos n) → (p : Drain) (w : WholeEntry) → DrainWithin m n p w → whole_drain y w ≤ℤ (drain_low v p *ℤ pos (m * n)) → (w.c ≡ 0) ⊎ (y ≤ℤ w.foot)
 dry_drain m n v y above p w e tight =
     elim (cases_eq w.c 0) [
       | inl z ↦ inl z
       | inr some ↦
           let some_depth : pos 0 ≤ℤ int_max (v -ℤ p.elev_lo) (pos 0) = omega (arith, ints, clamps) in
           let bound : (drain_low v p *ℤ pos (m * n)) ≤ℤ (pos w.c *ℤ (neg_ℤ (int_max (v -ℤ p.elev_lo) (pos 0)) *ℤ pos n)) = rw (neg_least p.lo p.hi _ some_depth) (least_times p.lo p.hi w.c m n _ e.c.lower e.c.upper) in
-          let order = cancel_le w.c (neg_ℤ (int_max (y -ℤ w.elev) (pos 0))) (neg_ℤ (int_max (v -ℤ p.elev_lo) (pos 0)) *ℤ pos n) (omega arith) (rw (mul_neg (pos w.c) (int_max (y -ℤ w.elev) (pos 0))) (le_trans_z _ _ _ tight bound)) in
+          let order = cancel_le w.c (neg_ℤ (int_max (y -ℤ w.foot) (pos 0))) (neg_ℤ (int_max (v -ℤ p.elev_lo) (pos 0)) *ℤ pos n) (omega arith) (rw (mul_neg (pos w.c) (int_max (y -ℤ w.foot) (pos 0))) (le_trans_z _ _ _ tight bound)) in
           let deep = mul_mono_right n (v -ℤ p.elev_lo) (int_max (v -ℤ p.elev_lo) (pos 0)) (omega (arith, ints, clamps)) in
-          inr (dry (int_max (y -ℤ w.elev) (pos 0)) (int_max (v -ℤ p.elev_lo) (pos 0) *ℤ pos n) (p.elev_lo *ℤ pos n) (rw neg_mul at order) e.elev.lower (rw sub_mul at deep) refl)
+          inr (dry (int_max (y -ℤ w.foot) (pos 0)) (int_max (v -ℤ p.elev_lo) (pos 0) *ℤ pos n) (p.elev_lo *ℤ pos n) (rw neg_mul at order) e.foot.lower (rw sub_mul at deep) refl)
     ]
   where
-    dry : (depth deep el : ℤ) → neg_ℤ depth ≤ℤ neg_ℤ deep → el ≤ℤ w.elev → (v *ℤ pos n -ℤ el) ≤ℤ deep → depth ≡ int_max (y -ℤ w.elev) (pos 0) → y ≤ℤ w.elev
+    dry : (depth deep el : ℤ) → neg_ℤ depth ≤ℤ neg_ℤ deep → el ≤ℤ w.foot → (v *ℤ pos n -ℤ el) ≤ℤ deep → depth ≡ int_max (y -ℤ w.foot) (pos 0) → y ≤ℤ w.foot
     dry depth deep el a b d is = omega (arith, ints, clamps, is)
 
 six : (a b c d e f k a' b' c' d' e' f' : ℤ) → (a *ℤ k) ≤ℤ a' → (b *ℤ k) ≤ℤ b' → (c *ℤ k) ≤ℤ c' → (d *ℤ k) ≤ℤ d' → (e *ℤ k) ≤ℤ e' → (f *ℤ k) ≤ℤ f' → pos 0 ≤ℤ ((a +ℤ b +ℤ c +ℤ d +ℤ e +ℤ f) *ℤ k) → a' +ℤ b' +ℤ c' +ℤ d' +ℤ e' +ℤ f' ≡ pos 0 → (b' ≤ℤ (b *ℤ k)) × (c' ≤ℤ (c *ℤ k)) × (d' ≤ℤ (d *ℤ k)) × (e' ≤ℤ (e *ℤ k))
@@ -56,13 +56,13 @@ module _ (m n cells : ℕ) (some_m : 0 < m) (l Y : ℕ → ℤ) (v y : ℤ) (som
         subst (λ (k : ℕ). l k *ℤ pos n -ℤ Y k ≡ v *ℤ pos n -ℤ y) (sym e.same)
         (link_closed w.c _ _ (conducting m p.lo w.c some_m e.conducts e.c.lower) (most w.cell (omega (arith, e.same, e.range))) (omega (arith, ints, gap, tight)))
 
-    fixed_less : (p : Fixed) (w : WholeFixed) → FixedWithin m n p w → (fixed_low v p *ℤ pos (m * n)) ≤ℤ whole_fixed y w
+    fixed_less : (p : Fixed) (w : WholeEntry) → FixedWithin m n p w → (fixed_low v p *ℤ pos (m * n)) ≤ℤ whole_fixed y w
     fixed_less p w e =
         let gap = fixed_gap m n v y p w e in
         let slack = mul_nonneg (pos w.c) (v *ℤ pos n -ℤ y) (omega (arith, ints)) (omega (arith, ints, some)) in
         omega (arith, ints, gap, slack)
 
-    fixed_tight : (p : Fixed) (w : WholeFixed) → FixedWithin m n p w → whole_fixed y w ≤ℤ (fixed_low v p *ℤ pos (m * n)) → (p.lo ≡ 0) × (w.c ≡ 0)
+    fixed_tight : (p : Fixed) (w : WholeEntry) → FixedWithin m n p w → whole_fixed y w ≤ℤ (fixed_low v p *ℤ pos (m * n)) → (p.lo ≡ 0) × (w.c ≡ 0)
     fixed_tight p w e tight =
         let gap = fixed_gap m n v y p w e in
         let none = fixed_closed w.c _ some (omega (arith, ints, gap, tight)) in
@@ -87,8 +87,8 @@ module _ (m n cells : ℕ) (some_m : 0 < m) (l Y : ℕ → ℤ) (v y : ℤ) (som
           links = AllZip-left _ _ (λ x z h. h) p.links w.links (tight_less (LinkWithin m n cells) (λ x z. l x.cell *ℤ pos n -ℤ Y x.cell ≡ v *ℤ pos n -ℤ y) (link_low l v) (pos (m * n)) (whole_link Y y) link_less link_tight p.links w.links e.links links);
           fixed = AllZip-left _ _ (λ x z h. h.0) p.fixed w.fixed closed;
           dry = record {
-            fixed = AllZip-right _ (λ z. (z.c ≡ 0) ⊎ (y ≤ℤ z.head)) (λ x z h. inl h.1) p.fixed w.fixed closed;
-            rivers = AllZip-right _ _ (λ x z h. h) p.rivers w.rivers (tight_less (RiverWithin m n) (λ x z. (z.c ≡ 0) ⊎ (y ≤ℤ z.bottom)) (river_low v) (pos (m * n)) (whole_river y) (river_less m n v y weak) (dry_river m n v y under) p.rivers w.rivers e.rivers rivers);
-            drains = AllZip-right _ _ (λ x z h. h) p.drains w.drains (tight_less (DrainWithin m n) (λ x z. (z.c ≡ 0) ⊎ (y ≤ℤ z.elev)) (drain_low v) (pos (m * n)) (whole_drain y) (drain_less m n v y weak) (dry_drain m n v y under) p.drains w.drains e.drains drains);
+            fixed = AllZip-right _ (λ z. (z.c ≡ 0) ⊎ (y ≤ℤ z.top)) (λ x z h. inl h.1) p.fixed w.fixed closed;
+            rivers = AllZip-right _ _ (λ x z h. h) p.rivers w.rivers (tight_less (RiverWithin m n) (λ x z. (z.c ≡ 0) ⊎ (y ≤ℤ z.foot)) (river_low v) (pos (m * n)) (whole_river y) (river_less m n v y weak) (dry_river m n v y under) p.rivers w.rivers e.rivers rivers);
+            drains = AllZip-right _ _ (λ x z h. h) p.drains w.drains (tight_less (DrainWithin m n) (λ x z. (z.c ≡ 0) ⊎ (y ≤ℤ z.foot)) (drain_low v) (pos (m * n)) (whole_drain y) (drain_less m n v y weak) (dry_drain m n v y under) p.drains w.drains e.drains drains);
           };
         }

@@ -1,9 +1,9 @@
 -- An exact step and its whole numbers: conductances over k, heads over m, flows over k * m.
 use Rattle.cell_balance.proofs.Common.{◌≡◌, ℕ, ◌*◌, subst, arith, ℤ, pos, ◌+ℤ◌, ◌-ℤ◌, ◌*ℤ◌, AllZip, int_max, int_min, ints, Fraction, IsOver, whole, signed}
-use Rattle.cell_balance.proofs.Common.{times, IsShare, total, ExactFlow, ExactLink, ExactFixed, ExactRiver, ExactDrain, ExactEvap, ExactCell, minus, greater}
-use Rattle.cell_balance.proofs.Common.{lesser, link_flow, fixed_flow, river_flow, drain_flow, evap_flow, balance, deep_flow, deep_river, full_rate}
+use Rattle.cell_balance.proofs.Common.{times, Ratio, IsShare, total, ExactFlow, ExactLink, ExactFixed, ExactRiver, ExactDrain, ExactEvap, ExactCell, minus}
+use Rattle.cell_balance.proofs.Common.{greater, lesser, link_flow, fixed_flow, river_flow, drain_flow, evap_flow, balance, deep_flow, deep_river, full_rate}
 use Rattle.cell_balance.proofs.Scaling.{IsOver-plus, IsOver-times, IsOver-negated, IsOver-minus, IsOver-none, IsOver-signed, IsOver-greater, IsOver-lesser, IsOver-total}
-use Rattle.cell_balance.proofs.Whole.{WholeLink, WholeFixed, WholeRiver, WholeDrain, WholeEvap, WholeCell, whole_link, whole_fixed, whole_river, whole_drain, whole_evap, whole_balance, whole_deep, whole_deep_river, whole_full}
+use Rattle.cell_balance.proofs.Whole.{WholeLink, WholeEntry, WholeCell, whole_link, whole_fixed, whole_river, whole_drain, whole_evap, whole_balance, whole_deep, whole_deep_river, whole_full}
 
 module _ (k m : ℕ) where
   pub record FlowOver (e : ExactFlow) (q : ℤ) : Type 0 where
@@ -13,23 +13,22 @@ module _ (k m : ℕ) where
     pub same : e.cell ≡ w.cell
     pub c : IsShare k e.conductance w.c
 
-  pub record FixedOver (e : ExactFixed) (w : WholeFixed) : Type 0 where
-    pub c : IsShare k e.conductance w.c
-    pub head : IsOver m e.head w.head
+  pub record EntryOver (r : Ratio) (f g : Fraction) (w : WholeEntry) : Type 0 where
+    pub c : IsShare k r w.c
+    pub top : IsOver m f w.top
+    pub foot : IsOver m g w.foot
 
-  pub record RiverOver (e : ExactRiver) (w : WholeRiver) : Type 0 where
-    pub c : IsShare k e.conductance w.c
-    pub stage : IsOver m e.stage w.stage
-    pub bottom : IsOver m e.bottom w.bottom
+  abbrev pub FixedOver : ExactFixed → WholeEntry → Type 0
+  FixedOver e = EntryOver e.conductance e.head e.head
 
-  pub record DrainOver (e : ExactDrain) (w : WholeDrain) : Type 0 where
-    pub c : IsShare k e.conductance w.c
-    pub elev : IsOver m e.elevation w.elev
+  abbrev pub RiverOver : ExactRiver → WholeEntry → Type 0
+  RiverOver e = EntryOver e.conductance e.stage e.bottom
 
-  pub record EvapOver (e : ExactEvap) (w : WholeEvap) : Type 0 where
-    pub c : IsShare k e.conductance w.c
-    pub surf : IsOver m e.surface w.surf
-    pub ext : IsOver m e.extinction w.ext
+  abbrev pub DrainOver : ExactDrain → WholeEntry → Type 0
+  DrainOver e = EntryOver e.conductance e.elevation e.elevation
+
+  abbrev pub EvapOver : ExactEvap → WholeEntry → Type 0
+  EvapOver e = EntryOver e.conductance e.surface e.extinction
 
   pub record CellOver (e : ExactCell) (w : WholeCell) : Type 0 where
     pub flows : AllZip FlowOver e.flows w.flows
@@ -39,12 +38,12 @@ module _ (k m : ℕ) where
     pub drains : AllZip DrainOver e.drains w.drains
     pub evaps : AllZip EvapOver e.evaps w.evaps
 
-  pub deep_river_over : (e : ExactRiver) (w : WholeRiver) → RiverOver e w → IsOver (k * m) (deep_river e) (whole_deep_river w)
-  deep_river_over e w r = IsOver-times k m (signed e.conductance) (minus e.stage e.bottom) (pos w.c) _ (IsOver-signed k e.conductance w.c r.c) (IsOver-minus m e.stage e.bottom w.stage w.bottom r.stage r.bottom)
+  pub deep_river_over : (e : ExactRiver) (w : WholeEntry) → RiverOver e w → IsOver (k * m) (deep_river e) (whole_deep_river w)
+  deep_river_over e w r = IsOver-times k m (signed e.conductance) (minus e.stage e.bottom) (pos w.c) _ (IsOver-signed k e.conductance w.c r.c) (IsOver-minus m e.stage e.bottom w.top w.foot r.top r.foot)
 
-  pub full_over : (e : ExactEvap) (w : WholeEvap) → EvapOver e w → IsOver (k * m) (full_rate e) (whole_full w)
+  pub full_over : (e : ExactEvap) (w : WholeEntry) → EvapOver e w → IsOver (k * m) (full_rate e) (whole_full w)
   full_over e w r =
-      let depth = IsOver-greater m (minus e.surface e.extinction) (whole (pos 0)) (w.surf -ℤ w.ext) (pos 0) (IsOver-minus m e.surface e.extinction w.surf w.ext r.surf r.ext) (IsOver-none m) in
+      let depth = IsOver-greater m (minus e.surface e.extinction) (whole (pos 0)) (w.top -ℤ w.foot) (pos 0) (IsOver-minus m e.surface e.extinction w.top w.foot r.top r.foot) (IsOver-none m) in
       IsOver-times k m (signed e.conductance) (greater (minus e.surface e.extinction) (whole (pos 0))) (pos w.c) _ (IsOver-signed k e.conductance w.c r.c) depth
 
   pub deep_over : (e : ExactCell) (w : WholeCell) → CellOver e w → IsOver (k * m) (deep_flow e) (whole_deep w)
@@ -63,26 +62,26 @@ module _ (k m : ℕ) where
         IsOver-times k m (signed e.conductance) (minus (h e.cell) v) (pos w.c) (Y w.cell -ℤ y) (IsOver-signed k e.conductance w.c r.c)
         (IsOver-minus m (h e.cell) v (Y w.cell) y (subst (λ (z : ℕ). IsOver m (h e.cell) (Y z)) r.same (heads e.cell)) own)
 
-    pub fixed_over : (e : ExactFixed) (w : WholeFixed) → FixedOver e w → IsOver (k * m) (fixed_flow v e) (whole_fixed y w)
-    fixed_over e w r = IsOver-times k m (signed e.conductance) (minus e.head v) (pos w.c) (w.head -ℤ y) (IsOver-signed k e.conductance w.c r.c) (IsOver-minus m e.head v w.head y r.head own)
+    pub fixed_over : (e : ExactFixed) (w : WholeEntry) → FixedOver e w → IsOver (k * m) (fixed_flow v e) (whole_fixed y w)
+    fixed_over e w r = IsOver-times k m (signed e.conductance) (minus e.head v) (pos w.c) (w.top -ℤ y) (IsOver-signed k e.conductance w.c r.c) (IsOver-minus m e.head v w.top y r.top own)
 
-    pub river_over : (e : ExactRiver) (w : WholeRiver) → RiverOver e w → IsOver (k * m) (river_flow v e) (whole_river y w)
+    pub river_over : (e : ExactRiver) (w : WholeEntry) → RiverOver e w → IsOver (k * m) (river_flow v e) (whole_river y w)
     river_over e w r =
-        IsOver-times k m (signed e.conductance) (minus e.stage (greater v e.bottom)) (pos w.c) (w.stage -ℤ int_max y w.bottom) (IsOver-signed k e.conductance w.c r.c)
-        (IsOver-minus m e.stage (greater v e.bottom) w.stage (int_max y w.bottom) r.stage (IsOver-greater m v e.bottom y w.bottom own r.bottom))
+        IsOver-times k m (signed e.conductance) (minus e.stage (greater v e.bottom)) (pos w.c) (w.top -ℤ int_max y w.foot) (IsOver-signed k e.conductance w.c r.c)
+        (IsOver-minus m e.stage (greater v e.bottom) w.top (int_max y w.foot) r.top (IsOver-greater m v e.bottom y w.foot own r.foot))
 
-    pub drain_over : (e : ExactDrain) (w : WholeDrain) → DrainOver e w → IsOver (k * m) (drain_flow v e) (whole_drain y w)
+    pub drain_over : (e : ExactDrain) (w : WholeEntry) → DrainOver e w → IsOver (k * m) (drain_flow v e) (whole_drain y w)
     drain_over e w r =
-        let depth = IsOver-greater m (minus v e.elevation) (whole (pos 0)) (y -ℤ w.elev) (pos 0) (IsOver-minus m v e.elevation y w.elev own r.elev) (IsOver-none m) in
-        let out = IsOver-times k m (signed e.conductance) (greater (minus v e.elevation) (whole (pos 0))) (pos w.c) (int_max (y -ℤ w.elev) (pos 0)) (IsOver-signed k e.conductance w.c r.c) depth in
-        IsOver-negated (k * m) (times (signed e.conductance) (greater (minus v e.elevation) (whole (pos 0)))) (pos w.c *ℤ int_max (y -ℤ w.elev) (pos 0)) out
+        let depth = IsOver-greater m (minus v e.elevation) (whole (pos 0)) (y -ℤ w.foot) (pos 0) (IsOver-minus m v e.elevation y w.foot own r.foot) (IsOver-none m) in
+        let out = IsOver-times k m (signed e.conductance) (greater (minus v e.elevation) (whole (pos 0))) (pos w.c) (int_max (y -ℤ w.foot) (pos 0)) (IsOver-signed k e.conductance w.c r.c) depth in
+        IsOver-negated (k * m) (times (signed e.conductance) (greater (minus v e.elevation) (whole (pos 0)))) (pos w.c *ℤ int_max (y -ℤ w.foot) (pos 0)) out
 
-    pub evap_over : (e : ExactEvap) (w : WholeEvap) → EvapOver e w → IsOver (k * m) (evap_flow v e) (whole_evap y w)
+    pub evap_over : (e : ExactEvap) (w : WholeEntry) → EvapOver e w → IsOver (k * m) (evap_flow v e) (whole_evap y w)
     evap_over e w r =
-        let top = IsOver-lesser m v e.surface y w.surf own r.surf in
-        let depth = IsOver-greater m (minus (lesser v e.surface) e.extinction) (whole (pos 0)) (int_min y w.surf -ℤ w.ext) (pos 0) (IsOver-minus m (lesser v e.surface) e.extinction (int_min y w.surf) w.ext top r.ext) (IsOver-none m) in
-        let out = IsOver-times k m (signed e.conductance) (greater (minus (lesser v e.surface) e.extinction) (whole (pos 0))) (pos w.c) (int_max (int_min y w.surf -ℤ w.ext) (pos 0)) (IsOver-signed k e.conductance w.c r.c) depth in
-        IsOver-negated (k * m) (times (signed e.conductance) (greater (minus (lesser v e.surface) e.extinction) (whole (pos 0)))) (pos w.c *ℤ int_max (int_min y w.surf -ℤ w.ext) (pos 0)) out
+        let top = IsOver-lesser m v e.surface y w.top own r.top in
+        let depth = IsOver-greater m (minus (lesser v e.surface) e.extinction) (whole (pos 0)) (int_min y w.top -ℤ w.foot) (pos 0) (IsOver-minus m (lesser v e.surface) e.extinction (int_min y w.top) w.foot top r.foot) (IsOver-none m) in
+        let out = IsOver-times k m (signed e.conductance) (greater (minus (lesser v e.surface) e.extinction) (whole (pos 0))) (pos w.c) (int_max (int_min y w.top -ℤ w.foot) (pos 0)) (IsOver-signed k e.conductance w.c r.c) depth in
+        IsOver-negated (k * m) (times (signed e.conductance) (greater (minus (lesser v e.surface) e.extinction) (whole (pos 0)))) (pos w.c *ℤ int_max (int_min y w.top -ℤ w.foot) (pos 0)) out
 
     pub balance_over : (h : ℕ → Fraction) (Y : ℕ → ℤ) → ((c : ℕ) → IsOver m (h c) (Y c)) → (e : ExactCell) (w : WholeCell) → CellOver e w → IsOver (k * m) (balance e v h) (whole_balance w y Y)
     balance_over h Y heads e w r =

@@ -1,7 +1,7 @@
 -- When the bounds of a problem's entries enclose whole numbers: conductances over m, heads over n, flows over m * n.
 use Rattle.cell_balance.proofs.Common.{AllZip, IsBetweenWhole, IsBetweenSigned, Flow, Link, Fixed, River, Drain, Evap, Entries}
 use Rattle.std.specs.Prelude.{◌≡◌, ℕ, ◌*◌, ◌<◌, ◌⊎◌, All, ℤ, ◌≤ℤ◌}
-use Rattle.cell_balance.proofs.Whole.{WholeLink, WholeFixed, WholeRiver, WholeDrain, WholeEvap, WholeCell}
+use Rattle.cell_balance.proofs.Whole.{WholeLink, WholeEntry, WholeCell}
 
 module _ (m n : ℕ) where
   pub record FlowWithin (p : Flow) (q : ℤ) : Type 0 where
@@ -14,23 +14,23 @@ module _ (m n : ℕ) where
     pub conducts : 0 < p.lo
     pub c : IsBetweenWhole p.lo p.hi m w.c
 
-  pub record FixedWithin (p : Fixed) (w : WholeFixed) : Type 0 where
-    pub c : IsBetweenWhole p.lo p.hi m w.c
-    pub head : IsBetweenSigned p.head_lo p.head_hi n w.head
+  -- an entry of which the heads are known by bounds
+  pub record EntryWithin (lo hi : ℕ) (top_lo top_hi foot_lo foot_hi : ℤ) (w : WholeEntry) : Type 0 where
+    pub c : IsBetweenWhole lo hi m w.c
+    pub top : IsBetweenSigned top_lo top_hi n w.top
+    pub foot : IsBetweenSigned foot_lo foot_hi n w.foot
 
-  pub record RiverWithin (p : River) (w : WholeRiver) : Type 0 where
-    pub c : IsBetweenWhole p.lo p.hi m w.c
-    pub stage : IsBetweenSigned p.stage_lo p.stage_hi n w.stage
-    pub bottom : IsBetweenSigned p.bottom_lo p.bottom_hi n w.bottom
+  abbrev pub FixedWithin : Fixed → WholeEntry → Type 0
+  FixedWithin p = EntryWithin p.lo p.hi p.head_lo p.head_hi p.head_lo p.head_hi
 
-  pub record DrainWithin (p : Drain) (w : WholeDrain) : Type 0 where
-    pub c : IsBetweenWhole p.lo p.hi m w.c
-    pub elev : IsBetweenSigned p.elev_lo p.elev_hi n w.elev
+  abbrev pub RiverWithin : River → WholeEntry → Type 0
+  RiverWithin p = EntryWithin p.lo p.hi p.stage_lo p.stage_hi p.bottom_lo p.bottom_hi
 
-  pub record EvapWithin (p : Evap) (w : WholeEvap) : Type 0 where
-    pub c : IsBetweenWhole p.lo p.hi m w.c
-    pub surf : IsBetweenSigned p.surf_lo p.surf_hi n w.surf
-    pub ext : IsBetweenSigned p.ext_lo p.ext_hi n w.ext
+  abbrev pub DrainWithin : Drain → WholeEntry → Type 0
+  DrainWithin p = EntryWithin p.lo p.hi p.elev_lo p.elev_hi p.elev_lo p.elev_hi
+
+  abbrev pub EvapWithin : Evap → WholeEntry → Type 0
+  EvapWithin p = EntryWithin p.lo p.hi p.surf_lo p.surf_hi p.ext_lo p.ext_hi
 
   pub record CellWithin (cells : ℕ) (p : Entries) (w : WholeCell) : Type 0 where
     pub flows : AllZip FlowWithin p.flows w.flows
@@ -42,6 +42,6 @@ module _ (m n : ℕ) where
 
 -- a cell of which no entry that conducts has its head, bottom or elevation below t
 pub record IsDry (t : ℤ) (w : WholeCell) : Type 0 where
-  pub fixed : All (λ x. (x.c ≡ 0) ⊎ (t ≤ℤ x.head)) w.fixed
-  pub rivers : All (λ x. (x.c ≡ 0) ⊎ (t ≤ℤ x.bottom)) w.rivers
-  pub drains : All (λ x. (x.c ≡ 0) ⊎ (t ≤ℤ x.elev)) w.drains
+  pub fixed : All (λ x. (x.c ≡ 0) ⊎ (t ≤ℤ x.top)) w.fixed
+  pub rivers : All (λ x. (x.c ≡ 0) ⊎ (t ≤ℤ x.foot)) w.rivers
+  pub drains : All (λ x. (x.c ≡ 0) ⊎ (t ≤ℤ x.foot)) w.drains

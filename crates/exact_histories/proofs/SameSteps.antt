@@ -5,7 +5,7 @@ use Rattle.cell_balance.proofs.Denominators.{step_common}
 use Rattle.cell_balance.proofs.Encloses.{share_is, whole_solves}
 use Rattle.cell_balance.proofs.Over.{FlowOver, LinkOver, FixedOver, RiverOver, DrainOver, EvapOver, CellOver, balance_over}
 use Rattle.cell_balance.proofs.Scaling.{over_zero}
-use Rattle.cell_balance.proofs.Whole.{WholeFixed, WholeCell, whole_at, no_whole}
+use Rattle.cell_balance.proofs.Whole.{WholeEntry, WholeCell, whole_at, no_whole}
 use Rattle.cell_balance.proofs.Wholes.{whole_step}
 use Rattle.cell_balance.proofs.Zips.{AllZip-at, AllZip-length}
 
@@ -38,14 +38,14 @@ over_same m f g z same h = record {
 }
 
 module _ (k m : ℕ) where
-  fixed_over : (xs ys : List ExactFixed) (ws : List WholeFixed) → AllZip FixedAgrees xs ys → AllZip (FixedOver k m) xs ws → AllZip (FixedOver k m) ys ws
+  fixed_over : (xs ys : List ExactFixed) (ws : List WholeEntry) → AllZip FixedAgrees xs ys → AllZip (FixedOver k m) xs ws → AllZip (FixedOver k m) ys ws
   fixed_over [] [] [] a h = tt
   fixed_over [] [] (w ∷ ws) a h = absurd h
   fixed_over [] (y ∷ ys) ws a h = absurd a
   fixed_over (x ∷ xs) [] ws a h = absurd a
   fixed_over (x ∷ xs) (y ∷ ys) [] a h = absurd h
   fixed_over (x ∷ xs) (y ∷ ys) (w ∷ ws) a h =
-      (record { c = rw a.0.conductance at h.0.c; head = over_same m x.head y.head w.head a.0.head h.0.head }, fixed_over xs ys ws a.1 h.1)
+      (record { c = rw a.0.conductance at h.0.c; top = over_same m x.head y.head w.top a.0.head h.0.top; foot = over_same m x.head y.head w.foot a.0.head h.0.foot }, fixed_over xs ys ws a.1 h.1)
 
   cell_over : (x y : ExactCell) (w : WholeCell) → CellAgrees x y → CellOver k m x w → CellOver k m y w
   cell_over x y w a h = record {

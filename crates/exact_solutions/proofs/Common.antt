@@ -12,13 +12,13 @@ pub use Rattle.cell_balance.proofs.Cancel.{IsMutual, by_weight, closed_cancel, w
 pub use Rattle.cell_balance.proofs.Denominators.{step_common}
 pub use Rattle.cell_balance.proofs.Encloses.{share_is, whole_solves}
 pub use Rattle.cell_balance.proofs.Mutual.{mutual_whole}
-pub use Rattle.cell_balance.proofs.Over.{CellOver, DrainOver, EvapOver, FixedOver, FlowOver, LinkOver, RiverOver, balance_over, deep_over}
+pub use Rattle.cell_balance.proofs.Over.{CellOver, DrainOver, EntryOver, EvapOver, FixedOver, FlowOver, LinkOver, RiverOver, balance_over, deep_over}
 pub use Rattle.cell_balance.proofs.Products.{cancel_le, conducting, not_zero}
 pub use Rattle.cell_balance.proofs.Scaling.{IsOver-none, max_times, min_times, over_zero}
 pub use Rattle.cell_balance.proofs.Sums.{max_of, sum-add, sum-neg, sum-same, sum-swap, sum-times, sum-zero, sum_at_most, sum_nonneg}
 pub use Rattle.cell_balance.proofs.Totals.{add_mul, sub_mul, total-same}
-pub use Rattle.cell_balance.proofs.Whole.{WholeCell, WholeDrain, WholeEvap, WholeFixed, WholeLink, WholeRiver, no_whole, whole_at, whole_balance, whole_deep}
-pub use Rattle.cell_balance.proofs.Whole.{whole_deep_river, whole_drain, whole_evap, whole_fixed, whole_full, whole_link, whole_river}
+pub use Rattle.cell_balance.proofs.Whole.{WholeCell, WholeEntry, WholeLink, no_whole, whole_at, whole_balance, whole_deep, whole_deep_river, whole_drain}
+pub use Rattle.cell_balance.proofs.Whole.{whole_evap, whole_fixed, whole_full, whole_link, whole_river}
 pub use Rattle.cell_balance.proofs.Wholes.{whole_step}
 pub use Rattle.cell_balance.proofs.Within.{CellWithin, DrainWithin, FixedWithin, LinkWithin, RiverWithin}
 pub use Rattle.cell_balance.proofs.Zips.{All-zip, AllZip-at, AllZip-length}
@@ -30,6 +30,7 @@ pub use Rattle.cell_balance.specs.Steps.{ExactCell, ExactLink, cell_at, no_cell}
 pub use Rattle.decimal_input.proofs.Signs.{cancel_right, mul_mono_right, swap}
 pub use Rattle.decimal_input.specs.Enclosures.{IsBetweenWhole, IsShare}
 pub use Rattle.decimal_input.specs.Fractions.{Fraction, IsOver, Same, den, whole}
+pub use Rattle.decimal_input.specs.Ratios.{Ratio}
 pub use Rattle.step_problem.proofs.BothSides.{le_anti}
 pub use Rattle.step_problem.proofs.Falls.{loss_falls, total_mono}
 pub use Rattle.step_problem.proofs.Ring.{as_diff, diffs, mul_add, mul_assoc, mul_le, mul_mono, mul_nonneg, mul_sub, same_diff}

@@ -1,7 +1,7 @@
 -- Links, known heads and ramps that conduct, from sums that do; and sums that are 0.
 use Rattle.exact_solutions.proofs.Common.{[], ◌*ℤ◌, ◌+ℤ◌, ◌+◌, ◌<ℤ◌, ◌<◌, ◌∷◌, ◌≡◌, ◌≤ℤ◌, All, Bool, List, arith, cond, false, inl, inr, nat_eq, pos, refl}
 use Rattle.exact_solutions.proofs.Common.{subst, true, ℕ, ℤ, AllZip, zero-*ℤ, cases_eq, eq-eqb, ne_eqb, ints, All-cons, All-head, All-nil, All-tail, total}
-use Rattle.exact_solutions.proofs.Common.{weight, WholeFixed, WholeLink}
+use Rattle.exact_solutions.proofs.Common.{weight, WholeEntry, WholeLink}
 use Rattle.exact_solutions.proofs.WholeRamps.{known_conductance, known_flow}
 
 -- a fact of each right element passes to the left one
@@ -55,13 +55,13 @@ pub total_positive : {X : Type 0} (f : X → ℕ) (xs : List X) → pos 0 ≤ℤ
 total_positive f [] = omega (arith, ints)
 total_positive f (x ∷ xs) = omega (arith, ints, total_positive f xs)
 
-pub no_known_conductance : (xs : List WholeFixed) → known_conductance xs ≡ 0 → All (λ x. x.c ≡ 0) xs
+pub no_known_conductance : (xs : List WholeEntry) → known_conductance xs ≡ 0 → All (λ x. x.c ≡ 0) xs
 no_known_conductance [] h = All-nil (λ x. x.c ≡ 0)
 no_known_conductance (x ∷ xs) h = All-cons (λ x. x.c ≡ 0) x xs (omega arith) (no_known_conductance xs (omega arith))
 
-pub no_known_flow : (xs : List WholeFixed) → known_conductance xs ≡ 0 → total known_flow xs ≡ pos 0
+pub no_known_flow : (xs : List WholeEntry) → known_conductance xs ≡ 0 → total known_flow xs ≡ pos 0
 no_known_flow [] h = refl
-no_known_flow (x ∷ xs) h = let e : x.c ≡ 0 = omega arith in rw (e, no_known_flow xs (omega arith)) (none x.head)
+no_known_flow (x ∷ xs) h = let e : x.c ≡ 0 = omega arith in rw (e, no_known_flow xs (omega arith)) (none x.top)
   where
     none : (z : ℤ) → pos 0 *ℤ z +ℤ pos 0 ≡ pos 0
     none z = rw (zero-*ℤ z) refl

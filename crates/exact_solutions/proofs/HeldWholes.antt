@@ -2,8 +2,8 @@
 use Rattle.exact_solutions.proofs.Common.{◌*ℤ◌, ◌*◌, ◌+ℤ◌, ◌-ℤ◌, ◌<ℤ◌, ◌<◌, ◌≡◌, ◌≤ℤ◌, All, Bool, List, arith, cond, false, get_or, inl, inr, length, pos, refl}
 use Rattle.exact_solutions.proofs.Common.{subst, suc, sym, true, zero, ℕ, ℤ, mul-pos, AllZip, zero-*ℤ, ints, All-contains, Contains-get_or, IsBetweenWhole}
 use Rattle.exact_solutions.proofs.Common.{total, IsHeldBelow, Reaches, deep_low, sum_inside, IsMutual, conducting, sum-times, sum_at_most, WholeCell}
-use Rattle.exact_solutions.proofs.Common.{WholeDrain, WholeEvap, WholeRiver, no_whole, whole_at, whole_deep, whole_deep_river, whole_full, CellWithin}
-use Rattle.exact_solutions.proofs.Common.{DrainWithin, FixedWithin, LinkWithin, RiverWithin, All-zip, AllZip-at, AllZip-length, mul_mono_right}
+use Rattle.exact_solutions.proofs.Common.{WholeEntry, no_whole, whole_at, whole_deep, whole_deep_river, whole_full, CellWithin, DrainWithin, FixedWithin}
+use Rattle.exact_solutions.proofs.Common.{LinkWithin, RiverWithin, All-zip, AllZip-at, AllZip-length, mul_mono_right}
 use Rattle.step_problem.specs.Entries.{Entries, entries_at, no_entries}
 use Rattle.cell_balance.proofs.Deep.{deep_less}
 use Rattle.cell_balance.proofs.Spread.{Reaches-more}
@@ -16,7 +16,7 @@ use Rattle.exact_solutions.proofs.Conducting.{All-back, weight_nonneg, links_lea
 deep-loose : (w : List WholeCell) (i : ℕ) → b_of w i ≡ 0 → deep (length w) (a_of w) (b_of w) (q_of w) (ramps_from 0 w) i ≡ whole_deep (whole_at w i)
 deep-loose w i none =
     let u = whole_at w i in
-    rw (ramps_at_cell (λ r. pos r.c *ℤ extent r.foot r.top) i w, no_known_flow u.fixed none, total_nothing (λ (x : WholeRiver). x.c) u.rivers, total_nothing (λ (x : WholeDrain). x.c) u.drains)
+    rw (ramps_at_cell (λ r. pos r.c *ℤ extent r.foot r.top) i w, no_known_flow u.fixed none, total_nothing (λ (x : WholeEntry). x.c) u.rivers, total_nothing (λ (x : WholeEntry). x.c) u.drains)
     (regroup (total (λ q. q) u.flows) (total whole_deep_river u.rivers) (total whole_full u.evaps))
   where
     regroup : (f r e : ℤ) → f +ℤ pos 0 +ℤ r -ℤ (pos 0 +ℤ (pos 0 +ℤ e)) ≡ f +ℤ r -ℤ e
@@ -112,11 +112,11 @@ module _ (m n : ℕ) (some_m : 0 < m) (some_n : 0 < n) (p : List Entries) (w : L
         no_highest : (k : ℕ) → k < length p → pos (b_of w k) +ℤ total (open_conductance_at k) (ramps_from 0 w) ≡ pos 0 → IsAnchoredAbove p k → ⊥
         no_highest k k_in e anchored =
             let u = whole_at w k in
-            let (no_b, no_r, no_d) = first (b_of w k) (total (λ (x : WholeRiver). pos x.c) u.rivers) (total (λ (x : WholeDrain). pos x.c) u.drains) (total (λ (x : WholeEvap). pos 0) u.evaps)
-            (total_positive (λ (x : WholeRiver). x.c) u.rivers) (total_positive (λ (x : WholeDrain). x.c) u.drains) (total_positive (λ (x : WholeEvap). 0) u.evaps)
+            let (no_b, no_r, no_d) = first (b_of w k) (total (λ (x : WholeEntry). pos x.c) u.rivers) (total (λ (x : WholeEntry). pos x.c) u.drains) (total (λ (x : WholeEntry). pos 0) u.evaps)
+            (total_positive (λ (x : WholeEntry). x.c) u.rivers) (total_positive (λ (x : WholeEntry). x.c) u.drains) (total_positive (λ (x : WholeEntry). 0) u.evaps)
             (rw (ramps_at_cell (λ r. pos (open_conductance r.c r.top)) k w) at e) in
             elim anchored [
               | inl (x, has, conducts) ↦ All-contains (λ x. 0 < x.lo → ⊥) (entries_at p k).fixed x (no_fixed k k_in no_b) has conducts
-              | inr (inl (x, has, conducts)) ↦ All-contains (λ x. 0 < x.lo → ⊥) (entries_at p k).rivers x (All-back (RiverWithin m n) (λ x. 0 < x.lo → ⊥) (λ x. x.c ≡ 0) (λ x y r e. some_conducts x.lo x.hi y.c r.c e) (entries_at p k).rivers u.rivers (cell_within k k_in).rivers (none_conduct (λ (x : WholeRiver). x.c) u.rivers no_r)) has conducts
-              | inr (inr (x, has, conducts)) ↦ All-contains (λ x. 0 < x.lo → ⊥) (entries_at p k).drains x (All-back (DrainWithin m n) (λ x. 0 < x.lo → ⊥) (λ x. x.c ≡ 0) (λ x y r e. some_conducts x.lo x.hi y.c r.c e) (entries_at p k).drains u.drains (cell_within k k_in).drains (none_conduct (λ (x : WholeDrain). x.c) u.drains no_d)) has conducts
+              | inr (inl (x, has, conducts)) ↦ All-contains (λ x. 0 < x.lo → ⊥) (entries_at p k).rivers x (All-back (RiverWithin m n) (λ x. 0 < x.lo → ⊥) (λ x. x.c ≡ 0) (λ x y r e. some_conducts x.lo x.hi y.c r.c e) (entries_at p k).rivers u.rivers (cell_within k k_in).rivers (none_conduct (λ (x : WholeEntry). x.c) u.rivers no_r)) has conducts
+              | inr (inr (x, has, conducts)) ↦ All-contains (λ x. 0 < x.lo → ⊥) (entries_at p k).drains x (All-back (DrainWithin m n) (λ x. 0 < x.lo → ⊥) (λ x. x.c ≡ 0) (λ x y r e. some_conducts x.lo x.hi y.c r.c e) (entries_at p k).drains u.drains (cell_within k k_in).drains (none_conduct (λ (x : WholeEntry). x.c) u.drains no_d)) has conducts
             ]

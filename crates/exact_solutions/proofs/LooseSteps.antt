@@ -3,10 +3,9 @@ use Rattle.exact_solutions.proofs.Common.{◌≡◌, ◌*◌, ◌<◌, ◌∙◌
 use Rattle.exact_solutions.proofs.Common.{All, Bool, true, false, cond, mul-pos, int_max, AllZip, zero-*ℤ, ints, clamps, All-head, All-tail, IsShare, Same}
 use Rattle.exact_solutions.proofs.Common.{total, total_mono, mul_assoc, mul_mono, sum_below, sum_inside, deep_flow, AreLinked, share, SolvesStep, ExactCell}
 use Rattle.exact_solutions.proofs.Common.{cell_at, no_cell, IsMutual, closed_cancel, step_common, whole_solves, mutual_whole, LinkOver, FixedOver, RiverOver}
-use Rattle.exact_solutions.proofs.Common.{DrainOver, EvapOver, CellOver, IsOver-none, sum-same, sum-add, sum-zero, sub_mul, WholeRiver, WholeDrain, WholeCell}
-use Rattle.exact_solutions.proofs.Common.{whole_at, no_whole, whole_link, whole_fixed, whole_river, whole_drain, whole_evap, whole_balance, whole_deep_river}
-use Rattle.exact_solutions.proofs.Common.{whole_full, whole_deep, whole_step, AllZip-at, AllZip-length, All-zip, le_anti, deep_over}
-use Rattle.decimal_input.specs.Ratios.{Ratio}
+use Rattle.exact_solutions.proofs.Common.{DrainOver, EvapOver, CellOver, IsOver-none, sum-same, sum-add, sum-zero, sub_mul, WholeEntry, WholeCell, whole_at}
+use Rattle.exact_solutions.proofs.Common.{no_whole, whole_link, whole_fixed, whole_river, whole_drain, whole_evap, whole_balance, whole_deep_river, whole_full}
+use Rattle.exact_solutions.proofs.Common.{whole_deep, whole_step, AllZip-at, AllZip-length, All-zip, le_anti, deep_over, Ratio}
 use Rattle.decimal_input.proofs.Integers.{le-trans}
 use Rattle.cell_balance.proofs.ExactLaws.{heads_over}
 use Rattle.cell_balance.proofs.Falling.{whole_falls}
@@ -40,20 +39,20 @@ nothing_times c z e = rw (e, zero-*ℤ z) refl
 -- a cell's flows but for its links are at most its deep flow, where no known head conducts and nothing evaporates
 flows_at_most_deep : (u : WholeCell) (v : ℤ) (h : ℕ → ℤ) → All (λ x. x.c ≡ 0) u.fixed → length u.evaps ≡ 0 → whole_balance (without_links u) v h ≤ℤ whole_deep u
 flows_at_most_deep u v h fixed evaps =
-    sum _ _ _ _ _ _ _ (total-none (λ x. x.c ≡ 0) (whole_fixed v) u.fixed (λ x e. nothing_times x.c (x.head -ℤ v) e) fixed) (total-no_length (whole_evap v) u.evaps evaps) (total-no_length whole_full u.evaps evaps)
+    sum _ _ _ _ _ _ _ (total-none (λ x. x.c ≡ 0) (whole_fixed v) u.fixed (λ x e. nothing_times x.c (x.top -ℤ v) e) fixed) (total-no_length (whole_evap v) u.evaps evaps) (total-no_length whole_full u.evaps evaps)
     (total_mono (whole_river v) whole_deep_river u.rivers river) (drains u.drains)
   where
     sum : (f k r r' d e g : ℤ) → k ≡ pos 0 → e ≡ pos 0 → g ≡ pos 0 → r ≤ℤ r' → d ≤ℤ pos 0 → (f +ℤ pos 0 +ℤ k +ℤ r +ℤ d +ℤ e) ≤ℤ (f +ℤ r' -ℤ g)
     sum f k r r' d e g x y z p q = omega (arith, ints)
 
-    river : (x : WholeRiver) → whole_river v x ≤ℤ whole_deep_river x
-    river x = mul_mono x.c _ _ (deeper x.stage v x.bottom)
+    river : (x : WholeEntry) → whole_river v x ≤ℤ whole_deep_river x
+    river x = mul_mono x.c _ _ (deeper x.top v x.foot)
       where
         deeper : (s v b : ℤ) → (s -ℤ int_max v b) ≤ℤ (s -ℤ b)
         deeper s v b = omega (arith, ints, clamps)
 
-    drain : (x : WholeDrain) → whole_drain v x ≤ℤ pos 0
-    drain x = takes _ _ (mul_mono x.c (pos 0) (int_max (v -ℤ x.elev) (pos 0)) (omega (arith, ints, clamps))) (nothing x.c)
+    drain : (x : WholeEntry) → whole_drain v x ≤ℤ pos 0
+    drain x = takes _ _ (mul_mono x.c (pos 0) (int_max (v -ℤ x.foot) (pos 0)) (omega (arith, ints, clamps))) (nothing x.c)
       where
         nothing : (c : ℕ) → pos c *ℤ pos 0 ≡ pos 0
         nothing c = omega (arith, ints)
@@ -61,16 +60,16 @@ flows_at_most_deep u v h fixed evaps =
         takes : (a b : ℤ) → a ≤ℤ b → a ≡ pos 0 → neg_ℤ b ≤ℤ pos 0
         takes a b h e = omega (arith, ints)
 
-    drains : (xs : List WholeDrain) → total (whole_drain v) xs ≤ℤ pos 0
+    drains : (xs : List WholeEntry) → total (whole_drain v) xs ≤ℤ pos 0
     drains [] = omega (arith, ints)
     drains (x ∷ xs) = omega (arith, ints, drain x, drains xs)
 
 -- and are its constant flows, where no river or drain conducts either
 flows_constant : (u : WholeCell) (v : ℤ) (h : ℕ → ℤ) → All (λ x. x.c ≡ 0) u.fixed → All (λ x. x.c ≡ 0) u.rivers → All (λ x. x.c ≡ 0) u.drains → length u.evaps ≡ 0 → whole_balance (without_links u) v h ≡ total (λ q. q) u.flows
 flows_constant u v h fixed rivers drains evaps =
-    sum _ _ _ _ _ (total-none (λ x. x.c ≡ 0) (whole_fixed v) u.fixed (λ x e. nothing_times x.c (x.head -ℤ v) e) fixed)
-    (total-none (λ x. x.c ≡ 0) (whole_river v) u.rivers (λ x e. nothing_times x.c (x.stage -ℤ int_max v x.bottom) e) rivers)
-    (total-none (λ x. x.c ≡ 0) (whole_drain v) u.drains (λ x e. ap neg_ℤ (nothing_times x.c (int_max (v -ℤ x.elev) (pos 0)) e)) drains)
+    sum _ _ _ _ _ (total-none (λ x. x.c ≡ 0) (whole_fixed v) u.fixed (λ x e. nothing_times x.c (x.top -ℤ v) e) fixed)
+    (total-none (λ x. x.c ≡ 0) (whole_river v) u.rivers (λ x e. nothing_times x.c (x.top -ℤ int_max v x.foot) e) rivers)
+    (total-none (λ x. x.c ≡ 0) (whole_drain v) u.drains (λ x e. ap neg_ℤ (nothing_times x.c (int_max (v -ℤ x.foot) (pos 0)) e)) drains)
     (total-no_length (whole_evap v) u.evaps evaps)
   where
     sum : (f k r d e : ℤ) → k ≡ pos 0 → r ≡ pos 0 → d ≡ pos 0 → e ≡ pos 0 → f +ℤ pos 0 +ℤ k +ℤ r +ℤ d +ℤ e ≡ f

@@ -1,19 +1,22 @@
 -- The balance of a cell in whole numbers is its net flow in the step with ramps.
 use Rattle.exact_solutions.proofs.Common.{[], ◌*ℤ◌, ◌+ℤ◌, ◌-ℤ◌, ◌<◌, ◌∷◌, ◌≡◌, All, List, arith, length, map, neg_ℤ, pos, refl, sym, ℕ, ℤ, int_max, *ℤ-zero}
-use Rattle.exact_solutions.proofs.Common.{zero-*ℤ, clamps, ints, total, as_diff, diffs, same_diff, sum_below, weight, by_weight, WholeCell, WholeFixed}
-use Rattle.exact_solutions.proofs.Common.{WholeRiver, whole_at, whole_balance, whole_deep_river, whole_drain, whole_evap, whole_fixed, whole_river}
+use Rattle.exact_solutions.proofs.Common.{zero-*ℤ, clamps, ints, total, as_diff, diffs, same_diff, sum_below, weight, by_weight, WholeCell, WholeEntry}
+use Rattle.exact_solutions.proofs.Common.{whole_at, whole_balance, whole_deep_river, whole_drain, whole_evap, whole_fixed, whole_river}
 use Rattle.exact_solutions.proofs.Ramps.{Ramp, rise, net_flow}
 use Rattle.exact_solutions.proofs.WholeRamps.{known_conductance, known_flow, river_ramp, drain_ramp, evap_ramp, ramps_from, a_of, b_of, q_of, ramps_at_cell}
 
 -- a cell's entries with heads and flows times d
+abbrev pub scaled_entry : ℕ → WholeEntry → WholeEntry
+scaled_entry d x = record { c = x.c; top = x.top *ℤ pos d; foot = x.foot *ℤ pos d }
+
 abbrev pub scaled : ℕ → WholeCell → WholeCell
 scaled d w = record {
   flows = map (λ z. z *ℤ pos d) w.flows;
   links = w.links;
-  fixed = map (λ x. record { c = x.c; head = x.head *ℤ pos d }) w.fixed;
-  rivers = map (λ x. record { c = x.c; stage = x.stage *ℤ pos d; bottom = x.bottom *ℤ pos d }) w.rivers;
-  drains = map (λ x. record { c = x.c; elev = x.elev *ℤ pos d }) w.drains;
-  evaps = map (λ x. record { c = x.c; surf = x.surf *ℤ pos d; ext = x.ext *ℤ pos d }) w.evaps;
+  fixed = map (scaled_entry d) w.fixed;
+  rivers = map (scaled_entry d) w.rivers;
+  drains = map (scaled_entry d) w.drains;
+  evaps = map (scaled_entry d) w.evaps;
 }
 
 total-map : {X Y : Type 0} (f : Y → ℤ) (g : X → Y) (xs : List X) → total f (map g xs) ≡ total (λ x. f (g x)) xs
@@ -27,12 +30,12 @@ flows_scaled_total d (x ∷ xs) = rw (flows_scaled_total d xs) (ring x (pos d) (
     ring : (x d t : ℤ) → x *ℤ d +ℤ d *ℤ t ≡ d *ℤ (x +ℤ t)
     ring x d t = rw (as_diff x, as_diff d, as_diff t) (simp diffs (same_diff _ _ _ _ (omega arith)))
 
-fixed_scaled_total : (d : ℕ) (y : ℤ) (xs : List WholeFixed) → total (whole_fixed y) (map (λ x. record { c = x.c; head = x.head *ℤ pos d }) xs) ≡ pos d *ℤ total known_flow xs -ℤ pos (known_conductance xs) *ℤ y
+fixed_scaled_total : (d : ℕ) (y : ℤ) (xs : List WholeEntry) → total (whole_fixed y) (map (scaled_entry d) xs) ≡ pos d *ℤ total known_flow xs -ℤ pos (known_conductance xs) *ℤ y
 fixed_scaled_total d y [] = none (pos d) y
   where
     none : (d y : ℤ) → pos 0 ≡ d *ℤ pos 0 -ℤ pos 0 *ℤ y
     none d y = rw (*ℤ-zero d, zero-*ℤ y) refl
-fixed_scaled_total d y (x ∷ xs) = rw (fixed_scaled_total d y xs) (ring (pos x.c) x.head (pos d) y (total known_flow xs) (pos (known_conductance xs)))
+fixed_scaled_total d y (x ∷ xs) = rw (fixed_scaled_total d y xs) (ring (pos x.c) x.top (pos d) y (total known_flow xs) (pos (known_conductance xs)))
   where
     ring : (c h d y t g : ℤ) → c *ℤ (h *ℤ d -ℤ y) +ℤ (d *ℤ t -ℤ g *ℤ y) ≡ d *ℤ (c *ℤ h +ℤ t) -ℤ (c +ℤ g) *ℤ y
     ring c h d y t g = rw (as_diff c, as_diff h, as_diff d, as_diff y, as_diff t, as_diff g) (simp diffs (same_diff _ _ _ _ (omega arith)))
@@ -40,12 +43,12 @@ fixed_scaled_total d y (x ∷ xs) = rw (fixed_scaled_total d y xs) (ring (pos x.
 abbrev pub ramp_gives : ℕ → ℤ → Ramp → ℤ
 ramp_gives d y r = neg_ℤ (pos r.c *ℤ rise r.foot r.top d y)
 
-rivers_scaled_total : (d i : ℕ) (y : ℤ) (xs : List WholeRiver) → total (whole_river y) (map (λ x. record { c = x.c; stage = x.stage *ℤ pos d; bottom = x.bottom *ℤ pos d }) xs) ≡ pos d *ℤ total whole_deep_river xs +ℤ total (λ x. ramp_gives d y (river_ramp i x)) xs
+rivers_scaled_total : (d i : ℕ) (y : ℤ) (xs : List WholeEntry) → total (whole_river y) (map (scaled_entry d) xs) ≡ pos d *ℤ total whole_deep_river xs +ℤ total (λ x. ramp_gives d y (river_ramp i x)) xs
 rivers_scaled_total d i y [] = none (pos d)
   where
     none : (d : ℤ) → pos 0 ≡ d *ℤ pos 0 +ℤ pos 0
     none d = rw (*ℤ-zero d) refl
-rivers_scaled_total d i y (x ∷ xs) = rw (rivers_scaled_total d i y xs, apart y (x.bottom *ℤ pos d)) (ring (pos x.c) x.stage x.bottom (pos d) (int_max (y -ℤ x.bottom *ℤ pos d) (pos 0)) (total whole_deep_river xs) (total (λ x. ramp_gives d y (river_ramp i x)) xs))
+rivers_scaled_total d i y (x ∷ xs) = rw (rivers_scaled_total d i y xs, apart y (x.foot *ℤ pos d)) (ring (pos x.c) x.top x.foot (pos d) (int_max (y -ℤ x.foot *ℤ pos d) (pos 0)) (total whole_deep_river xs) (total (λ x. ramp_gives d y (river_ramp i x)) xs))
   where
     apart : (y b : ℤ) → int_max y b ≡ b +ℤ int_max (y -ℤ b) (pos 0)
     apart y b = omega (arith, ints, clamps)
@@ -61,8 +64,8 @@ scaled_balance w d X i range =
       flows_scaled_total d u.flows,
       fixed_scaled_total d (X i) u.fixed,
       rivers_scaled_total d i (X i) u.rivers,
-      total-map (whole_drain (X i)) (λ x. record { c = x.c; elev = x.elev *ℤ pos d }) u.drains,
-      total-map (whole_evap (X i)) (λ x. record { c = x.c; surf = x.surf *ℤ pos d; ext = x.ext *ℤ pos d }) u.evaps,
+      total-map (whole_drain (X i)) (scaled_entry d) u.drains,
+      total-map (whole_evap (X i)) (scaled_entry d) u.evaps,
       by_weight (length w) u.links (λ k. X k -ℤ X i) range,
       ramps_at_cell (ramp_gives d (X i)) i w,
     )

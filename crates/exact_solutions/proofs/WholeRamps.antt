@@ -1,28 +1,27 @@
 -- The ramps of a step in whole numbers: those of each cell are its rivers, drains and evapotranspirations.
 use Rattle.exact_solutions.proofs.Common.{[], ◌*ℤ◌, ◌++◌, ◌+ℤ◌, ◌+◌, ◌<◌, ◌∙◌, ◌∷◌, ◌≡◌, List, None, Some, arith, cond, map, nat_eq, pos, refl, subst, suc, sym}
-use Rattle.exact_solutions.proofs.Common.{zero, ℕ, ℤ, eq-eqb, ne_eqb, ints, total, weight, WholeCell, WholeDrain, WholeEvap, WholeFixed, WholeRiver, whole_at}
-use Rattle.exact_solutions.proofs.Common.{whole_deep_river}
+use Rattle.exact_solutions.proofs.Common.{zero, ℕ, ℤ, eq-eqb, ne_eqb, ints, total, weight, WholeCell, WholeEntry, whole_at, whole_deep_river}
 use Rattle.exact_solutions.proofs.Ramps.{Ramp}
 
 -- a cell's conductance to known heads, and what they and its constant and deep flows give at a head of 0
-abbrev pub known_conductance : List WholeFixed → ℕ
+abbrev pub known_conductance : List WholeEntry → ℕ
 known_conductance [] = 0
 known_conductance (x ∷ xs) = x.c + known_conductance xs
 
-abbrev pub known_flow : WholeFixed → ℤ
-known_flow x = pos x.c *ℤ x.head
+abbrev pub known_flow : WholeEntry → ℤ
+known_flow x = pos x.c *ℤ x.top
 
 abbrev pub own_flow : WholeCell → ℤ
 own_flow w = total (λ q. q) w.flows +ℤ total known_flow w.fixed +ℤ total whole_deep_river w.rivers
 
-abbrev pub river_ramp : ℕ → WholeRiver → Ramp
-river_ramp i x = record { cell = i; c = x.c; foot = x.bottom; top = None }
+abbrev pub river_ramp : ℕ → WholeEntry → Ramp
+river_ramp i x = record { cell = i; c = x.c; foot = x.foot; top = None }
 
-abbrev pub drain_ramp : ℕ → WholeDrain → Ramp
-drain_ramp i x = record { cell = i; c = x.c; foot = x.elev; top = None }
+abbrev pub drain_ramp : ℕ → WholeEntry → Ramp
+drain_ramp i x = record { cell = i; c = x.c; foot = x.foot; top = None }
 
-abbrev pub evap_ramp : ℕ → WholeEvap → Ramp
-evap_ramp i x = record { cell = i; c = x.c; foot = x.ext; top = Some x.surf }
+abbrev pub evap_ramp : ℕ → WholeEntry → Ramp
+evap_ramp i x = record { cell = i; c = x.c; foot = x.foot; top = Some x.top }
 
 abbrev pub cell_ramps : ℕ → WholeCell → List Ramp
 cell_ramps i w = map (river_ramp i) w.rivers ++ (map (drain_ramp i) w.drains ++ map (evap_ramp i) w.evaps)

@@ -2,11 +2,11 @@
 use Rattle.exact_solutions.proofs.Common.{[], ◌*ℤ◌, ◌*◌, ◌-◌, ◌<◌, ◌∙◌, ◌∷◌, ◌≡◌, List, ap, arith, length, map, pos, refl, subst, suc, sym, zero, ℕ, ℤ, mul-pos}
 use Rattle.exact_solutions.proofs.Common.{AllZip, Fraction, IsOver, den, mul_assoc, SolvesStep, share, ExactCell, cell_at, no_cell, IsMutual, share_is}
 use Rattle.exact_solutions.proofs.Common.{whole_solves, CellOver, DrainOver, EvapOver, FixedOver, FlowOver, LinkOver, RiverOver, balance_over, over_zero}
-use Rattle.exact_solutions.proofs.Common.{WholeCell, no_whole, whole_at, whole_balance, AllZip-at, AllZip-length, swap}
+use Rattle.exact_solutions.proofs.Common.{WholeCell, WholeEntry, no_whole, whole_at, whole_balance, AllZip-at, AllZip-length, swap, EntryOver, Ratio}
 use Rattle.cell_balance.specs.Balance.{balance}
 use Rattle.exact_solutions.proofs.Ramps.{IsSolution}
 use Rattle.exact_solutions.proofs.WholeRamps.{ramps_from, a_of, b_of, q_of}
-use Rattle.exact_solutions.proofs.WholeBalances.{scaled, scaled_balance}
+use Rattle.exact_solutions.proofs.WholeBalances.{scaled, scaled_entry, scaled_balance}
 
 AllZip-map : {X Y Z : Type 0} (R : X → Y → Type 0) (S : X → Z → Type 0) (f : Y → Z) → ((x : X) (y : Y) → R x y → S x (f y)) → (xs : List X) (ys : List Y) → AllZip R xs ys → AllZip S xs (map f ys)
 AllZip-map R S f each [] [] h = tt
@@ -18,14 +18,17 @@ pub IsOver-scaled : (m d : ℕ) (f : Fraction) (z : ℤ) → IsOver m f z → Is
 IsOver-scaled m d f z h = record { is = sym (mul_assoc f.num (pos m) (pos d)) ∙ ap (λ (y : ℤ). y *ℤ pos d) h.is ∙ swap z (pos (den f)) (pos d) }
 
 module _ (k m d : ℕ) where
+  entry_scaled : (r : Ratio) (top foot : Fraction) (w : WholeEntry) → EntryOver k m r top foot w → EntryOver k (m * d) r top foot (scaled_entry d w)
+  entry_scaled r top foot w h = record { c = h.c; top = IsOver-scaled m d top w.top h.top; foot = IsOver-scaled m d foot w.foot h.foot }
+
   cell_scaled : (e : ExactCell) (w : WholeCell) → CellOver k m e w → CellOver k (m * d) e (scaled d w)
   cell_scaled e w h = record {
     flows = AllZip-map (FlowOver k m) (FlowOver k (m * d)) (λ z. z *ℤ pos d) (λ x y r. record { flow = subst (λ (n : ℕ). IsOver n x.flow (y *ℤ pos d)) (assoc k m d) (IsOver-scaled (k * m) d x.flow y r.flow) }) e.flows w.flows h.flows;
     links = AllZip-links e.links w.links h.links;
-    fixed = AllZip-map (FixedOver k m) (FixedOver k (m * d)) (λ x. record { c = x.c; head = x.head *ℤ pos d }) (λ x y r. record { c = r.c; head = IsOver-scaled m d x.head y.head r.head }) e.fixed w.fixed h.fixed;
-    rivers = AllZip-map (RiverOver k m) (RiverOver k (m * d)) (λ x. record { c = x.c; stage = x.stage *ℤ pos d; bottom = x.bottom *ℤ pos d }) (λ x y r. record { c = r.c; stage = IsOver-scaled m d x.stage y.stage r.stage; bottom = IsOver-scaled m d x.bottom y.bottom r.bottom }) e.rivers w.rivers h.rivers;
-    drains = AllZip-map (DrainOver k m) (DrainOver k (m * d)) (λ x. record { c = x.c; elev = x.elev *ℤ pos d }) (λ x y r. record { c = r.c; elev = IsOver-scaled m d x.elevation y.elev r.elev }) e.drains w.drains h.drains;
-    evaps = AllZip-map (EvapOver k m) (EvapOver k (m * d)) (λ x. record { c = x.c; surf = x.surf *ℤ pos d; ext = x.ext *ℤ pos d }) (λ x y r. record { c = r.c; surf = IsOver-scaled m d x.surface y.surf r.surf; ext = IsOver-scaled m d x.extinction y.ext r.ext }) e.evaps w.evaps h.evaps;
+    fixed = AllZip-map (FixedOver k m) (FixedOver k (m * d)) (scaled_entry d) (λ x y r. entry_scaled x.conductance x.head x.head y r) e.fixed w.fixed h.fixed;
+    rivers = AllZip-map (RiverOver k m) (RiverOver k (m * d)) (scaled_entry d) (λ x y r. entry_scaled x.conductance x.stage x.bottom y r) e.rivers w.rivers h.rivers;
+    drains = AllZip-map (DrainOver k m) (DrainOver k (m * d)) (scaled_entry d) (λ x y r. entry_scaled x.conductance x.elevation x.elevation y r) e.drains w.drains h.drains;
+    evaps = AllZip-map (EvapOver k m) (EvapOver k (m * d)) (scaled_entry d) (λ x y r. entry_scaled x.conductance x.surface x.extinction y r) e.evaps w.evaps h.evaps;
   }
     where
       assoc : (a b c : ℕ) → a * b * c ≡ a * (b * c)

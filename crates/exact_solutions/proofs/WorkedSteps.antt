@@ -37,7 +37,7 @@ abbrev IsBalanced : ℕ → ℕ → ℤ → Type 0
 IsBalanced taken d x = int_max x (pos 0) +ℤ pos taken *ℤ pos d ≡ pos 5 *ℤ pos d
 
 abbrev river_whole : ℕ → ℕ → List WholeCell
-river_whole taken d = record { flows = (neg_ℤ (pos taken) *ℤ pos d) ∷ []; links = []; fixed = []; rivers = record { c = 1; stage = pos 5 *ℤ pos d; bottom = pos 0 *ℤ pos d } ∷ []; drains = []; evaps = [] } ∷ []
+river_whole taken d = record { flows = (neg_ℤ (pos taken) *ℤ pos d) ∷ []; links = []; fixed = []; rivers = record { c = 1; top = pos 5 *ℤ pos d; foot = pos 0 *ℤ pos d } ∷ []; drains = []; evaps = [] } ∷ []
 
 river_over : (taken d : ℕ) → AllZip (CellOver 1 d) (river_and_well taken) (river_whole taken d)
 river_over taken d = (
@@ -45,7 +45,7 @@ river_over taken d = (
     flows = (record { flow = whole_flow_over d (neg_ℤ (pos taken)) }, tt);
     links = tt;
     fixed = tt;
-    rivers = (record { c = record { is = refl }; stage = whole_over d (pos 5); bottom = whole_over d (pos 0) }, tt);
+    rivers = (record { c = record { is = refl }; top = whole_over d (pos 5); foot = whole_over d (pos 0) }, tt);
     drains = tt;
     evaps = tt;
   },

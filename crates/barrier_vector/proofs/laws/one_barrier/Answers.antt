@@ -1,4 +1,4 @@
-use Rattle.barrier_vector.proofs.OneAnswer.{barrier_is_one}
+use Rattle.barrier_vector.proofs.Cutting.{barrier_is_one}
 use Rattle.barrier_vector.proofs.laws.one_barrier.Goals as goal
 
 pub returns : goal.returns
