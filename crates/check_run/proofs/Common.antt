@@ -30,7 +30,7 @@ pub use Rattle.check_run.specs.Verdicts.{Checks, IsVerdict, ListingEncloses, Sto
 pub use Rattle.check_run.specs.declared.fault.CheckFault.{CheckFault}
 pub use Rattle.check_run.specs.declared.verdict.ListingVerdict.{ListingVerdict}
 pub use Rattle.check_run.specs.declared.verdict.ListingVerdict.TheVariants.{Certified, Fails, Refused}
-pub use Rattle.chosen_histories.specs.Decks.{ChoicesHaveOne, HaveOneBy, HaveOneHistory}
+pub use Rattle.exact_histories.specs.Decks.{ChoicesHaveOne, HaveOneBy, HaveOneHistory}
 pub use Rattle.decimal_input.specs.Fractions.{Fraction, den}
 pub use Rattle.deck_problems.proofs.Members.{HasCellsOf, between_cells, cell_of_member, constant_same, each_member, encloses_first, encloses_member}
 pub use Rattle.deck_problems.proofs.Members.{member_cells, of_member}

@@ -3,7 +3,7 @@ ghost use Rattle.std.specs.Prelude.{◌≡◌, ◌≤◌, length, option_map, If
 ghost use Rattle.zone_pairs.specs.Pairs.{pairs_in};
 ghost use Rattle.zone_pairs.specs.Zones.{AreZones};
 ghost use Rattle.listing_io.specs.Listed.{AreListed};
-ghost use Rattle.chosen_histories.specs.Decks.{HaveOneHistory};
+ghost use Rattle.exact_histories.specs.Decks.{HaveOneHistory};
 ghost use Rattle.deck_problems.specs.Decks.{AreDecks};
 ghost use Rattle.deck_problems.specs.Kept.{AreDeckTables, digits_of};
 ghost use Rattle.check_run.specs.declared.verdict.ListingVerdict.TheVariants.{Certified};

@@ -17,7 +17,7 @@ pub use Rattle.check_run.specs.Runs.{IsReadable, RunIsCertified, RunIsReadAgain,
 pub use Rattle.check_run.specs.Verdicts.{IsVerdict, ListingEncloses}
 pub use Rattle.check_run.specs.declared.verdict.ListingVerdict.{ListingVerdict}
 pub use Rattle.check_run.specs.declared.verdict.ListingVerdict.TheVariants.{Fails}
-pub use Rattle.chosen_histories.specs.Decks.{ChoicesHaveOne, HaveOneHistory}
+pub use Rattle.exact_histories.specs.Decks.{ChoicesHaveOne, HaveOneHistory}
 pub use Rattle.command_line.proofs.DigitLemmas.{check_digits, check_to_digits}
 pub use Rattle.command_line.specs.Wants.{Batches, Checks, ChecksTo, Lists, ListsTo, Wanted, Writes, wanted_of}
 pub use Rattle.deck_alike.specs.declared.difference.Difference.{Difference}
@@ -110,7 +110,7 @@ pub use Rattle.run_puts.specs.Statuses.{code_of}
 pub use Rattle.run_puts.specs.Tails.{failed, memory_put, status_after, wanting}
 pub use Rattle.run_puts.specs.declared.status.Status.{Status}
 pub use Rattle.settle_driver.specs.Views.{AddsPhases, EnclosesPair}
-pub use Rattle.span_steps.specs.Steps.{AreAllSteps, AreSteps, two}
+pub use Rattle.step_chain.specs.Steps.{AreAllSteps, AreSteps, two}
 pub use Rattle.step_chain.specs.Barriers.{edges_by}
 pub use Rattle.step_chain.specs.declared.solved.Solved.{Solved}
 pub use Rattle.step_problem.specs.Entries.{Entries}

@@ -6,7 +6,7 @@ use Rattle.engine.proofs.Common.{ChoicesHaveOne, ListingVerdict, IsVerdict, Aske
 use Rattle.engine.proofs.Common.{verdict_line, ArePairOf, OneSpan, SpanCertified, SpanHeadline, SpanVerdict, Second, second_in, deck_task, pairs_of, Bool, true}
 use Rattle.std.specs.Prelude.{true}
 use Rattle.listing_run.specs.declared.listing_end.ListingEnd.TheVariants.{Whole}
-use Rattle.chosen_histories.proofs.ChosenHistories.{choices_history, choices_one}
+use Rattle.exact_histories.proofs.ChosenHistories.{choices_history, choices_one}
 use Rattle.engine.proofs.Certifying.{is_certified}
 use Rattle.engine.proofs.Readings.{named_read, second_parts, zoned_parts}
 use Rattle.run_puts.specs.declared.status.Status.TheVariants as status

@@ -24,7 +24,7 @@ use Rattle.zone_pairs.specs.Zones.{AreZonesOf}
 use Rattle.deck_span.specs.Alike.{AreAlike}
 use Rattle.deck_problems.specs.declared.decks.Decks.{Decks}
 use Rattle.deck_problems.specs.Decks.{one_deck}
-use Rattle.span_steps.specs.Steps.{two}
+use Rattle.step_chain.specs.Steps.{two}
 use Rattle.listing_run.specs.Tasks.{deck_task, one_task}
 use Rattle.engine.specs.declared.zoned.ZonedListing.{ZonedListing}
 use Rattle.engine.specs.TwoDecks.{Second, second_in}

@@ -10,7 +10,7 @@ use Rattle.run_puts.specs.declared.status.Status.TheVariants as status
 use Rattle.engine.specs.declared.zoned.ZonedListing.{ZonedListing}
 use Rattle.check_run.specs.declared.verdict.ListingVerdict.{ListingVerdict}
 use Rattle.check_run.specs.declared.verdict.ListingVerdict.TheVariants.{Certified, Fails, Refused}
-use Rattle.chosen_histories.specs.Decks.{HaveOneHistory}
+use Rattle.exact_histories.specs.Decks.{HaveOneHistory}
 use Rattle.check_run.specs.Verdicts.{IsVerdict, ListingEncloses}
 
 abbrev pub certified_line : Text

@@ -25,7 +25,7 @@ use Rattle.engine.specs.declared.two_decks.Second.{Second as SecondBy}
 use Rattle.engine.specs.TwoDecks.{AreDecksRead, Second, not_alike, second_in}
 use Rattle.deck_alike.specs.declared.difference.Difference.{Difference}
 use Rattle.deck_alike.specs.Differences.{IsFirstDifference}
-use Rattle.span_steps.specs.Steps.{two}
+use Rattle.step_chain.specs.Steps.{two}
 use Rattle.run_puts.specs.Ends.{IsEnd, IsLast, IsWanting}
 use Rattle.run_puts.specs.Lines.{Text, read_fault_line}
 use Rattle.run_puts.specs.Runs.{IsRun, NeverCut}

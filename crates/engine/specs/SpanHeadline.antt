@@ -11,8 +11,8 @@ use Rattle.model_types.specs.Valid.{IsModel}
 use Rattle.model_reader.specs.Model.{reads}
 use Rattle.deck_span.specs.Alike.{AreAlike}
 use Rattle.deck_span.specs.Histories.{SolvesBetween}
-use Rattle.span_steps.specs.Steps.{two}
-use Rattle.chosen_histories.specs.Decks.{ChoicesHaveOne}
+use Rattle.step_chain.specs.Steps.{two}
+use Rattle.exact_histories.specs.Decks.{ChoicesHaveOne}
 use Rattle.listing_io.specs.declared.listing.ListedStep.{ListedStep}
 use Rattle.run_puts.specs.Lines.{Text, end_line}
 use Rattle.listing_run.specs.declared.step.Step.{Step}

@@ -9,7 +9,7 @@ use Rattle.model_types.specs.Valid.{IsModel}
 use Rattle.model_reader.specs.Model.{reads}
 use Rattle.zone_pairs.specs.Zones.{AreNumbers}
 use Rattle.deck_problems.specs.Decks.{AreDecks}
-use Rattle.span_steps.specs.Steps.{two}
+use Rattle.step_chain.specs.Steps.{two}
 use Rattle.run_puts.specs.Lines.{Text}
 use Rattle.run_puts.specs.declared.status.Status.TheVariants as status
 use Rattle.listing_run.specs.declared.task.Task.{Task}

@@ -1,67 +1,60 @@
--- One step more: times that can be solved in turn, and whose histories are the same, after a step whose solutions lie within the heads that they start from.
-use Rattle.exact_histories.proofs.Common.{Limits, ◌≡◌, ◌<◌, [], ◌∷◌, length, ℕ, true, inl, inr, refl, subst, arith, ℤ, List, All, Contains, cases_Bool}
-use Rattle.exact_histories.proofs.Common.{Fraction, Same, cell_count, is_variable, is_constant, index_of, variable_cells, times, IsModel, FlowModel, TimeStep}
-use Rattle.exact_histories.proofs.Common.{Entries, Edges, Bound, share, exact_step, heads_of, variable_heads, SolvesAt, SolvesFrom, AreGridHeads, HeadsEnclose}
-use Rattle.exact_histories.proofs.Common.{one_deck, IsPosed, AreSameHeads, AreSame}
-use Rattle.decimal_input.proofs.Fractional.{Same-sym, Same-trans}
-use Rattle.model_types.proofs.Members.{All-In}
-use Rattle.exact_solutions.proofs.Shares.{same_share}
-use Rattle.problem_builder.proofs.ActiveCells.{variable_active}
-use Rattle.problem_builder.proofs.Members.{variable-In}
-use Rattle.step_chain.proofs.Assembled.{active_constant, index_below, count_is, number_is}
-use Rattle.exact_histories.proofs.SameTimes.{balances_same}
-use Rattle.exact_histories.proofs.JoinedSteps.{GoOn}
-use Rattle.exact_histories.proofs.PosedSteps.{has_vector, has_at_most_one}
+-- Turns of one deck or of two: a problem for each time, and heads that each solution of a member lands within. By them each
+-- choice of members has a history, and one alone, by induction on the choices.
+use Rattle.exact_histories.proofs.Common.{Limits, ◌<◌, [], ◌∷◌, ℕ, ℤ, List, All, Contains, map, All-head, All-tail, Fraction, Same-sym, TimeStep, Bound}
+use Rattle.exact_histories.proofs.Common.{heads_of, HeadsEnclose, AreGridHeads, AreSameHeads, AreSame, IsBefore, AreDecks, Choice, SolvesChoicesFrom, times}
+use Rattle.exact_histories.proofs.Common.{AreSteps, Solved, PairKind, pair_fits, Decks, IsMember, first_in, next_in}
+use Rattle.step_chain.proofs.OneStep.{all_fit}
+use Rattle.exact_histories.proofs.Multiples.{GoOn}
+use Rattle.exact_histories.proofs.OneTurn.{IsTurn, turn_of, has_vector, heads_same}
 
--- the heads of two solutions of one time, from heads before it that are the same numbers
-module _ (limits : Limits) (m : FlowModel) (s : ℕ) (at : TimeStep) (old : List Bound) (p : List Entries) (b : Edges) (valid : IsModel m) (time : Contains (times m) at) (grid : AreGridHeads m old) (posed : IsPosed limits (one_deck m) s at old p b)
-    (before other : ℕ → Fraction) (olds : HeadsEnclose m old before) (same : AreSameHeads m other before)
-    (d e : ℕ) (X Y : ℕ → ℤ) (some_d : 0 < d) (some_e : 0 < e) (first : SolvesAt m at before d X) (second : SolvesAt m at other e Y)
-  where
-    all_same : All (λ c. Same (other c) (before c)) (variable_cells m at.period)
-    all_same = All-In (λ c. Same (other c) (before c)) (variable_cells m at.period) (λ c in_cells. let (v, lt) = variable-In m at.period (cell_count m.grid) c in_cells in same c (record { within = lt; active = variable_active m at.period c v }))
+-- the time of a choice
+abbrev pub time_of : Choice → TimeStep
+time_of c = c.at
 
-    variable_same : (c : ℕ) → c < cell_count m.grid → is_variable m at.period c ≡ true → Same (share d (X c)) (share e (Y c))
-    variable_same c lt v =
-        let step = exact_step m at.period at.step before in
-        let turned = balances_same m at.period at.step other before all_same e e Y Y some_e some_e (λ z. refl) second.balances in
-        let inside : index_of m at.period c < length step = omega (arith, count_is m at.period at.step before, index_below m at.period c v lt) in
-        let one = has_at_most_one limits m s at old p b valid time grid posed before olds d e (variable_heads step X) (variable_heads step Y) some_d some_e first.balances turned (index_of m at.period c) inside in
-        subst (λ (i : ℕ). Same (share d (X i)) (share e (Y i))) (number_is m at.period at.step c before v lt) one
+abbrev pub heads_at : Solved → List Bound
+heads_at x = x.heads
 
-    constant_same : (c : ℕ) → c < cell_count m.grid → is_constant m at.period c ≡ true → Same (share d (X c)) (share e (Y c))
-    constant_same c lt k = Same-trans (Same-sym (same_share d _ (X c) some_d (first.constant c lt k))) (same_share e _ (Y c) some_e (second.constant c lt k))
+module _ (limits : Limits) (ds : Decks) (s : ℕ) where
+  -- turns of these times, each from the heads that the one before landed within
+  abbrev pub AreTurns : List Bound → List TimeStep → List (List Bound) → Type 0
+  AreTurns old [] [] = Unit {0}
+  AreTurns old [] (new ∷ news) = ⊥
+  AreTurns old (at ∷ ats) [] = ⊥
+  AreTurns old (at ∷ ats) (new ∷ news) = IsTurn limits ds s at old new × AreTurns new ats news
 
-    pub heads_same : AreSameHeads m (heads_of d X) (heads_of e Y)
-    heads_same c a = elim (cases_Bool (is_variable m at.period c)) [
-      | inl v ↦ variable_same c a.within v
-      | inr v ↦ constant_same c a.within (active_constant m at.period c a.active v)
-    ]
+  pub turns_of : (kind : PairKind) (decks : AreDecks ds) (old : List Bound) (ats : List TimeStep) (xs : List Solved) → ((at : TimeStep) → Contains ats at → Contains (times ds.first) at) → AreGridHeads ds.first old → AreSteps limits ds s kind old ats xs → AreTurns old ats (map heads_at xs)
+  turns_of kind decks old [] [] these grid steps = tt
+  turns_of kind decks old [] (x ∷ xs) these grid steps = absurd steps
+  turns_of kind decks old (at ∷ ats) [] these grid steps = absurd steps
+  turns_of kind decks old (at ∷ ats) (x ∷ xs) these grid (step, steps) =
+      let start : IsBefore ds at old = record { decks = decks; time = these at (first_in at ats); heads = grid } in
+      (turn_of limits ds s at old kind x start step, turns_of kind decks x.heads ats xs (λ u k. these u (next_in at ats u k)) (all_fit pair_fits limits ds s at old kind x start step) steps)
 
--- histories of these times, from heads before them that are the same numbers, are the same
-abbrev pub AreOne : FlowModel → List TimeStep → (ℕ → Fraction) → (ℕ → Fraction) → Type 0
-AreOne m steps before other =
-    (d e : ℕ) (Xs Ys : List (ℕ → ℤ)) → 0 < d → 0 < e → SolvesFrom m d before steps Xs → SolvesFrom m e other steps Ys → AreSame m d e Xs Ys
+  -- the model of each of these choices is a member
+  abbrev pub AreMembers : List Choice → Type 0
+  AreMembers cs = All (λ c. IsMember ds c.model) cs
 
--- one step more before some times, where each of its solutions lies within the heads that these times start from
-module _ (limits : Limits) (m : FlowModel) (s : ℕ) (at : TimeStep) (old : List Bound) (p : List Entries) (b : Edges) (valid : IsModel m) (time : Contains (times m) at) (grid : AreGridHeads m old) (posed : IsPosed limits (one_deck m) s at old p b)
-    (new : List Bound) (lands : (before : ℕ → Fraction) (d : ℕ) (X : ℕ → ℤ) → HeadsEnclose m old before → 0 < d → SolvesAt m at before d X → HeadsEnclose m new (heads_of d X)) (rest : List TimeStep)
-  where
-    pub go_on_more : ((before : ℕ → Fraction) → HeadsEnclose m new before → GoOn m rest before) → (before : ℕ → Fraction) → HeadsEnclose m old before → GoOn m (at ∷ rest) before
-    go_on_more others before olds = (
-      has_vector limits m s at old p b valid time grid posed before olds,
-      (λ d X some solves. others (heads_of d X) (lands before d X olds some solves)),
-    )
+  pub goes_on : (cs : List Choice) → AreMembers cs → (old : List Bound) (news : List (List Bound)) (before : ℕ → Fraction) → HeadsEnclose ds.first old before → AreTurns old (map time_of cs) news → GoOn cs before
+  goes_on [] members old news before olds turns = tt
+  goes_on (c ∷ cs) members old [] before olds turns = absurd turns
+  goes_on (c ∷ cs) members old (new ∷ news) before olds (turn, turns) =
+      let here = All-head (λ c. IsMember ds c.model) c cs members in (
+        has_vector limits ds s c.at old new turn c.model here before olds,
+        (λ d X some solves. goes_on cs (All-tail (λ c. IsMember ds c.model) c cs members) new news (heads_of d X) (turn.lands c.model here before d X olds some solves) turns),
+      )
 
-    pub one_more : ((before other : ℕ → Fraction) → HeadsEnclose m new before → AreSameHeads m other before → AreOne m rest before other) →
-        (before other : ℕ → Fraction) → HeadsEnclose m old before → AreSameHeads m other before → AreOne m (at ∷ rest) before other
-    one_more others before other olds same d e [] Ys some_d some_e first second = absurd first
-    one_more others before other olds same d e (X ∷ Xs) [] some_d some_e first second = absurd second
-    one_more others before other olds same d e (X ∷ Xs) (Y ∷ Ys) some_d some_e (first, firsts) (second, seconds) =
-        let here = heads_same limits m s at old p b valid time grid posed before other olds same d e X Y some_d some_e first second in
-        (here, others (heads_of d X) (heads_of e Y) (lands before d X olds some_d first) (λ c a. Same-sym (here c a)) d e Xs Ys some_d some_e firsts seconds)
-
-pub nothing_more : (m : FlowModel) (before other : ℕ → Fraction) → AreOne m [] before other
-nothing_more m before other d e [] [] some_d some_e first second = tt
-nothing_more m before other d e [] (Y ∷ Ys) some_d some_e first second = absurd second
-nothing_more m before other d e (X ∷ Xs) Ys some_d some_e first second = absurd first
+  pub are_one : (cs : List Choice) → AreMembers cs → (old : List Bound) (news : List (List Bound)) (before other : ℕ → Fraction) → HeadsEnclose ds.first old before → AreSameHeads ds.first other before → AreTurns old (map time_of cs) news →
+      (d e : ℕ) (Xs Ys : List (ℕ → ℤ)) → 0 < d → 0 < e → SolvesChoicesFrom d before cs Xs → SolvesChoicesFrom e other cs Ys → AreSame ds.first d e Xs Ys
+  are_one [] members old news before other olds same turns d e [] [] some_d some_e first second = tt
+  are_one [] members old news before other olds same turns d e [] (Y ∷ Ys) some_d some_e first second = absurd second
+  are_one [] members old news before other olds same turns d e (X ∷ Xs) Ys some_d some_e first second = absurd first
+  are_one (c ∷ cs) members old [] before other olds same turns d e Xs Ys some_d some_e first second = absurd turns
+  are_one (c ∷ cs) members old (new ∷ news) before other olds same turns d e [] Ys some_d some_e first second = absurd first
+  are_one (c ∷ cs) members old (new ∷ news) before other olds same turns d e (X ∷ Xs) [] some_d some_e first second = absurd second
+  are_one (c ∷ cs) members old (new ∷ news) before other olds same (turn, turns) d e (X ∷ Xs) (Y ∷ Ys) some_d some_e (first, firsts) (second, seconds) =
+      let chosen = All-head (λ c. IsMember ds c.model) c cs members in
+      let here = heads_same limits ds s c.at old new turn c.model chosen before olds other same d e X Y some_d some_e first second in (
+        here,
+        are_one cs (All-tail (λ c. IsMember ds c.model) c cs members) new news (heads_of d X) (heads_of e Y)
+            (turn.lands c.model chosen before d X olds some_d first) (λ k act. Same-sym (here k act)) turns d e Xs Ys some_d some_e firsts seconds,
+      )

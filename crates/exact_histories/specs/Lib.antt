@@ -1,2 +1,5 @@
+pub mod Choices
+pub mod Decks
+pub mod Laws
 pub mod Histories
 pub mod RunLaws

@@ -3,4 +3,5 @@
 //! Nothing of this crate runs: its public functions are laws, each the contract of an empty function.
 #![tactic(auto)]
 
+pub mod laws;
 pub mod runs;

@@ -1,15 +1,14 @@
 -- From a step's settled pair to the enclosure of every solution of every member.
 use Rattle.step_chain.proofs.Common.{◌≡◌, ◌∙◌, ℕ, ◌<◌, ◌^◌, inl, inr, true, List, length, sym, ap, subst, arith, ℤ, pos, ◌*ℤ◌, ◌≤ℤ◌, cases_Bool, Fraction}
-use Rattle.step_chain.proofs.Common.{Bound, Entries, Edges, lower_at, upper_at, IsProblem, AreWords, IsBarrierBy, IsCertificate, Limits, edges_by}
+use Rattle.step_chain.proofs.Common.{Bound, Entries, Edges, lower_at, upper_at, IsCertificate, IsProblem, AreWords, IsBarrierBy, edges_by, Limits}
 use Rattle.step_chain.proofs.Common.{CertificateEncloses, FlowModel, TimeStep, cell_count, is_variable, is_constant, index_of, exact_step, variable_heads}
 use Rattle.step_chain.proofs.Common.{IsActive, Decks, IsConstantPairFor, ProblemFits, ProblemEncloses, ConstantPairEncloses, EnclosesSteps, HasCellsOf}
 use Rattle.step_chain.proofs.Common.{constant_same, each_member, of_member, member_cells, bound_at, AreHeadsOf, Solved, IsMove, EnclosesMove, EnclosesMoves}
-use Rattle.step_chain.proofs.Common.{StepEncloses, PairKind, IsPairOf, settled, certified, EnclosesStep, CellEncloses, LiesBetween}
+use Rattle.step_chain.proofs.Common.{StepEncloses, PairKind, IsPairOf, settled, certified, EnclosesStep, CellEncloses, LiesBetween, constant_head}
 use Rattle.decimal_input.specs.Enclosures.{EnclosesSigned}
 use Rattle.decimal_input.proofs.Enclosing.{whole_signed}
 use Rattle.cell_balance.specs.SolutionBounds.{EnclosesSolutions}
 use Rattle.cell_balance.proofs.Zips.{AllZip-length}
-use Rattle.model_types.specs.Heads.{constant_head}
 use Rattle.step_chain.proofs.Limits.{held_by, uncut_by}
 use Rattle.step_chain.proofs.Assembled.{active_constant, index_below, count_is, number_is}
 

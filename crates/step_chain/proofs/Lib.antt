@@ -1,4 +1,5 @@
 mod Common
+pub mod Histories
 pub mod Assembled
 pub mod Limits
 pub mod Clamped

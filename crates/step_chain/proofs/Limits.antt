@@ -1,5 +1,5 @@
 -- Barriers by limits: each is a cut one, from which settling begins at a barrier of heads.
-use Rattle.step_chain.proofs.Common.{ℕ, ◌<◌, List, length, ℤ, Edges, head_at, IsProblem, Entries, IsBarrierBy, Limits, Plain, Wide, edges_by, IsCutBarrierOf}
+use Rattle.step_chain.proofs.Common.{ℕ, ◌<◌, List, length, ℤ, Edges, head_at, IsProblem, Entries, IsBarrierBy, edges_by, Limits, Plain, Wide, IsCutBarrierOf}
 use Rattle.step_chain.proofs.Common.{EnclosesUncut, ClampedPairEncloses, SettledPairEncloses, LiesBetweenBy, Result, Ok, Err, IfOk, BarrierFault, IsBarrier}
 use Rattle.step_chain.proofs.Common.{IsSettledPair, ExactCell, EnclosesStep, SolvesStep, clamped_fits}
 use Rattle.cell_balance.specs.Components.{IsHeldBelow}

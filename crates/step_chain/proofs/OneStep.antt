@@ -1,8 +1,8 @@
 -- A time has one step, or one refusal, from the heads before it.
 use Rattle.step_chain.proofs.Common.{◌≡◌, ℕ, suc, ◌<◌, inl, inr, List, [], ◌∷◌, length, sym, ap, ◌∙◌, subst, refl, arith, ℤ, cases_Bool, Bound, IsProblem}
-use Rattle.step_chain.proofs.Common.{Entries, Edges, lower_at, upper_at, SettledPairIsOne, AreSettled, IsBarrierBy, CutBarrierIsOne, Limits, Plain, edges_by}
+use Rattle.step_chain.proofs.Common.{Entries, Edges, lower_at, upper_at, SettledPairIsOne, AreSettled, IsBarrierBy, edges_by, CutBarrierIsOne, Limits, Plain}
 use Rattle.step_chain.proofs.Common.{TimeStep, cell_count, is_active, is_variable, Decks, IsBefore, ProblemIsOne, ProblemFits, ConstantPairIsOne}
-use Rattle.step_chain.proofs.Common.{ConstantPairFits, Solved, bound_at, AreHeadsOf, StepIsOne, HeadsFit, IsPairOf, clamped_fits, WideKeepsSteps}
+use Rattle.step_chain.proofs.Common.{ConstantPairFits, Solved, bound_at, AreHeadsOf, StepIsOne, HeadsFit, WideKeepsSteps, IsPairOf, clamped_fits}
 use Rattle.step_chain.proofs.Limits.{cut_by}
 use Rattle.deck_problems.proofs.Counted.{problem_count}
 use Rattle.step_chain.proofs.Assembled.{active_constant, heads_in_range}

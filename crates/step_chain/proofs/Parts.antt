@@ -2,7 +2,7 @@
 use Rattle.step_chain.proofs.Common.{ℕ, inl, inr, Bool, List, Bound, IsProblem, Entries, SettledPairExists, Edges, IsCertificate, lower_at, upper_at}
 use Rattle.step_chain.proofs.Common.{IsBarrierBy, edges_by, Limits, SettledPairEncloses, ClampedPairEncloses, TimeStep, exact_step, variable_heads, Decks}
 use Rattle.step_chain.proofs.Common.{EnclosesSteps, IsProblemFor, each_member, of_member, Solved, LieBetween, AreHeadsOf, PairKind, IsPairOf, IsStepBy}
-use Rattle.deck_problems.specs.Decks.{EachMember}
+use Rattle.step_chain.proofs.Common.{EachMember}
 use Rattle.step_chain.proofs.Limits.{edges_fit, pair_lies}
 use Rattle.step_chain.specs.Leads.{LeadsBy, LeadsOrRests, LeadsWithout}
 

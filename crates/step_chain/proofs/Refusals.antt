@@ -1,7 +1,7 @@
 -- A step that is posed has no refusal before it settles, a settled step none at all, and a time at most one.
 use Rattle.step_chain.proofs.Common.{◌≡◌, ℕ, inl, inr, sym, subst, List, Bound, Entries, Edges, IsProblem, AreSettled, IsPairOf, PairKind, SettledPairIsOne}
 use Rattle.step_chain.proofs.Common.{Solved, Decks, TimeStep, IsBefore, ProblemIsOne, ProblemFits, ProblemExcludesRefusal, CutBarrierExcludesRefusal}
-use Rattle.step_chain.proofs.Common.{CutBarrierIsOne, IsBarrierBy, Limits, Plain, Wide, edges_by, StepExcludesRefusal, RefusalIsOne, NoBound, settled}
+use Rattle.step_chain.proofs.Common.{CutBarrierIsOne, IsBarrierBy, edges_by, Limits, Plain, Wide, StepExcludesRefusal, RefusalIsOne, NoBound, settled}
 use Rattle.step_chain.proofs.Common.{CutRefusalIsOne, IsRangeRefusal, CertificateExcludesRefusal, RangeRefusalIsOne, HasNoBarrier, HasNoPose, IsPosed, IsStepBy}
 use Rattle.step_chain.proofs.Common.{LeavesRange}
 use Rattle.barrier_vector.specs.Barriers.{BarrierExcludesRefusal, RefusalIsOne as BarrierRefusalIsOne}

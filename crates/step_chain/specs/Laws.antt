@@ -1,5 +1,5 @@
 -- Laws of the steps of decks: a time has one step, or one refusal, from the heads before it.
-use Rattle.std.specs.Prelude.{◌≡◌, ◌⊎◌, ℕ, List}
+use Rattle.std.specs.Prelude.{◌≡◌, ◌⊎◌, ℕ, List, ℤ}
 use Rattle.step_problem.specs.declared.heads.Bound.{Bound}
 use Rattle.step_problem.specs.declared.place.NoBound.{NoBound}
 use Rattle.deck_problems.specs.declared.decks.Decks.{Decks}
@@ -14,6 +14,9 @@ use Rattle.step_chain.specs.Enclosing.{EnclosesMoves}
 use Rattle.step_problem.specs.Settling.{PairKind}
 use Rattle.step_problem.specs.Settling.PairKind.{settled}
 use Rattle.step_chain.specs.Steps.{IsStepBy, IsSettledStep, HasNoHeads}
+use Rattle.model_types.specs.declared.model.FlowModel.{FlowModel}
+use Rattle.deck_span.specs.Histories.{SolvesBetween}
+use Rattle.step_chain.specs.Steps.{AreAllSteps, LieWithin}
 
 -- there is at most one settled step
 abbrev pub StepIsOne : Type 0
@@ -51,3 +54,9 @@ abbrev pub WideKeepsSteps : Type 0
 WideKeepsSteps =
     (d : Decks) (s : ℕ) (at : TimeStep) (old : List Bound) (kind : PairKind) (x : Solved) →
     IsStepBy Plain d s at old kind x → IsStepBy Wide d s at old kind x
+
+-- every history between the two, whose stresses are chosen anew at each step, lies within the heads of all steps
+abbrev pub HistoriesLieWithin : Type 0
+HistoriesLieWithin =
+    (limits : Limits) (a b : FlowModel) (s : ℕ) (kind : PairKind) (xs : List Solved) → AreAllSteps limits a b s kind xs →
+    (d : ℕ) (Xs : List (ℕ → ℤ)) → SolvesBetween a b d Xs → LieWithin a d xs Xs

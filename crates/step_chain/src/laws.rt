@@ -1,5 +1,6 @@
 // Laws of the steps of decks. Each is the contract of an empty function, but for the laws below that it calls.
 ghost use Rattle.step_chain.specs.Laws.{StepIsOne, StepExcludesRefusal, RefusalIsOne, HeadsFit, StepEncloses, WideKeepsSteps};
+ghost use Rattle.step_chain.specs.Laws.{HistoriesLieWithin};
 
 use barrier_vector::laws::{
     no_barrier_beside_a_refusal, no_cut_barrier_beside_a_refusal, one_cut_barrier, one_cut_refusal,
@@ -10,7 +11,7 @@ use certificate_check::laws::{
 };
 use deck_problems::laws::{
     constant_pairs, no_problem_beside_a_refusal, one_problem,
-    one_refusal as one_refusal_of_a_problem, problems_fit,
+    one_refusal as one_refusal_of_a_problem, problems_fit, start_heads,
 };
 use step_problem::laws::settled_pair;
 
@@ -76,3 +77,12 @@ pub fn steps_enclose()
 pub fn wide_keeps_steps()
     ensures { WideKeepsSteps }
 {}
+
+/// Every history between two decks lies within the heads of their steps.
+pub fn histories_lie_within()
+    ensures { HistoriesLieWithin }
+{
+    start_heads();
+    steps_enclose();
+    heads_fit();
+}

@@ -1,6 +1,18 @@
 -- Names that several proofs of this crate cite, of the crates below and of its own definitions, passed on from one place. Declares nothing.
-pub use Rattle.std.proofs.Common.{Bool, Err, List, None, Ok, Option, Result, Some, [], ap, arith, false, inl, inr, length, map, pos, refl, subst, sym, true, ℕ}
-pub use Rattle.std.proofs.Common.{ℤ, ◌<ℤ◌, ◌<◌, ◌∙◌, ◌∷◌, ◌≡◌, ◌≤ℤ◌, ◌⊎◌}
+pub use Rattle.std.proofs.Common.{Bool, Contains, Err, List, None, Ok, Option, Result, Some, [], add-one, ap, arith, cond, false, inl, inr, length, map, neg_ℤ}
+pub use Rattle.std.proofs.Common.{pos, refl, subst, suc, sym, true, zero, ℕ, ℤ, ◌+◌, ◌-ℤ◌, ◌<ℤ◌, ◌<◌, ◌∙◌, ◌∷◌, ◌≡◌, ◌≤ℤ◌, ◌≤◌, ◌⊎◌}
+pub use Rattle.std.proofs.lemmas.Bool.{cases_Bool, cases_eq, cases_lt, false≢true}
+pub use Rattle.std.proofs.lemmas.Int.{by_lt_z, ints}
+pub use Rattle.std.proofs.lemmas.List.FromFn.{get_or-map-range_with_len, length-map-range_with_len}
+pub use Rattle.std.specs.List.{range_with_len}
+pub use Rattle.barrier_vector.proofs.Backs.{join_ways, leads_within, reaches_within}
+pub use Rattle.barrier_vector.proofs.Uniques.{has_a_bound, inner_one}
+pub use Rattle.barrier_vector.specs.Bounds.{AnchorRoot, IsAnchoredBound, IsBoundOn, IsInnerPath, IsLongest, IsUnanchored, LeastRoot, anchor_on, moved_out}
+pub use Rattle.barrier_vector.specs.Cuts.{AreCutBounds, IsCutBoundOn, Refuses, RefusesOn, clamped, cut_on}
+pub use Rattle.barrier_vector.specs.Lacks.{lack, need}
+pub use Rattle.barrier_vector.specs.Paths.{IsLevel, IsPath, LeadsToRoot, SumsTo, ceil_over}
+pub use Rattle.barrier_vector.specs.Refusals.{HasNoBound, IsLeastWith, IsOutOfRange, IsRefusedOn, Names, Nowhere, no_barrier_on, range_on}
+pub use Rattle.cell_balance.specs.Components.{IsCarried, IsComponent, Reaches, deep_low, sum_inside}
 pub use Rattle.deck_problems.specs.Decks.{one_deck}
 pub use Rattle.deck_problems.specs.Laws.{IsBefore}
 pub use Rattle.model_types.specs.declared.model.FlowModel.{FlowModel}
@@ -10,8 +22,12 @@ pub use Rattle.problem_or_refusal.specs.Laws.{ConstantPairsExist, ProblemOrRefus
 pub use Rattle.step_chain.proofs.Limits.{edges_fit}
 pub use Rattle.step_chain.specs.Steps.{HasNoHeads, IsSettledStep}
 pub use Rattle.step_chain.specs.declared.solved.Solved.{Solved}
-pub use Rattle.step_or_refusal.specs.Laws.{ListingOrRefusal, StepOrRefusal}
+pub use Rattle.step_or_refusal.specs.Laws.{BarrierOrRefusal, CutBarrierOrRefusal, ListingOrRefusal, StepOrRefusal}
+pub use Rattle.step_problem.specs.Conditions.{IsHead, IsProblem, head_limit}
 pub use Rattle.step_problem.specs.Entries.{Entries, entries_at}
 pub use Rattle.step_problem.specs.Heads.{Edges, IsCertificate, IsSettledPair, head_at, lower_at, no_bound, upper_at}
+pub use Rattle.step_problem.specs.declared.entry.Link.{Link}
 pub use Rattle.step_problem.specs.declared.heads.Bound.{Bound}
+pub use Rattle.step_problem.specs.declared.heads.Side.{Side}
+pub use Rattle.step_problem.specs.declared.heads.Side.TheVariants.{High, Low}
 pub use Rattle.step_problem.specs.declared.place.NoBound.{NoBound}

@@ -1,4 +1,11 @@
 mod Common
+pub mod Decided
+pub mod Ways
+pub mod RootPaths
+pub mod Bases
+pub mod Components
+pub mod Bounds
+pub mod Barrier
 pub mod Settled
 pub mod Step
 pub mod Listing

@@ -1,11 +1,8 @@
 -- A problem with a barrier has a settled pair as a list, and the heads of all cells by that pair.
 use Rattle.step_or_refusal.proofs.Common.{◌≡◌, ℕ, ◌<◌, ◌∙◌, inl, inr, Bool, true, false, List, length, map, refl, sym, ap, subst, arith, ℤ, Bound, Edges}
-use Rattle.step_or_refusal.proofs.Common.{no_bound, lower_at, upper_at, IsSettledPair, FlowModel, TimeStep, one_deck, Entries}
-use Rattle.std.specs.List.{range_with_len}
+use Rattle.step_or_refusal.proofs.Common.{no_bound, lower_at, upper_at, IsSettledPair, FlowModel, TimeStep, one_deck, Entries, range_with_len, cases_Bool}
+use Rattle.step_or_refusal.proofs.Common.{false≢true, length-map-range_with_len, get_or-map-range_with_len, IsProblem, IsHead}
 use Rattle.std.specs.Prelude.{not, ◌&&◌}
-use Rattle.std.proofs.lemmas.Bool.{cases_Bool, false≢true}
-use Rattle.std.proofs.lemmas.List.FromFn.{length-map-range_with_len, get_or-map-range_with_len}
-use Rattle.step_problem.specs.Conditions.{IsProblem, IsHead}
 use Rattle.step_problem.specs.Settling.{AreSettled}
 use Rattle.step_problem.specs.Sides.{IsFirstSettled}
 use Rattle.step_problem.proofs.BothSides.{low_side, high_side}

@@ -1,20 +1,15 @@
 -- A time of a valid model, from heads of all its cells, has a settled step or a refusal.
-use Rattle.step_or_refusal.proofs.Common.{inl, inr, ProblemFits, ProblemOrRefusal, ConstantPairsExist, StepOrRefusal, ℕ, ℤ, List, pos, arith, ◌≤ℤ◌, ◌<ℤ◌, ◌⊎◌}
-use Rattle.step_or_refusal.proofs.Common.{Bound, Edges, FlowModel, TimeStep, lower_at, upper_at, one_deck, IsBefore, NoBound, Entries, entries_at, head_at}
-use Rattle.step_or_refusal.proofs.Common.{IsCertificate, Solved, HasNoHeads, IsSettledStep, edges_fit}
+use Rattle.step_or_refusal.proofs.Common.{inl, inr, ℕ, ℤ, List, pos, arith, ◌≤ℤ◌, ◌<ℤ◌, ◌⊎◌, ProblemFits, ProblemOrRefusal, ConstantPairsExist, StepOrRefusal}
+use Rattle.step_or_refusal.proofs.Common.{Bound, Edges, lower_at, upper_at, head_at, FlowModel, TimeStep, one_deck, IsBefore, NoBound, Entries, entries_at}
+use Rattle.step_or_refusal.proofs.Common.{IsCertificate, Solved, HasNoHeads, IsSettledStep, edges_fit, BarrierOrRefusal, CutBarrierOrRefusal, by_lt_z, ints}
+use Rattle.step_or_refusal.proofs.Common.{Side, Low, High, clamped, range_on}
 use Rattle.step_problem.specs.Laws.{SettledPairExists}
-use Rattle.barrier_or_refusal.specs.Laws.{BarrierOrRefusal, CutBarrierOrRefusal}
 use Rattle.step_or_refusal.proofs.Settled.{settled_list, heads_list}
-use Rattle.std.proofs.lemmas.Int.{by_lt_z, ints}
-use Rattle.step_problem.specs.declared.heads.Side.{Side}
-use Rattle.step_problem.specs.declared.heads.Side.TheVariants.{Low, High}
 use Rattle.step_problem.specs.Balances.{lower_balance, upper_balance}
 use Rattle.step_problem.proofs.BothSettle.{pair_certifies}
 use Rattle.model_types.specs.declared.limits.Limits.TheVariants.{Plain, Wide}
-use Rattle.barrier_vector.specs.Cuts.{clamped}
-use Rattle.barrier_vector.specs.Refusals.{range_on}
-use Rattle.barrier_or_refusal.proofs.Decided.{Decided}
-use Rattle.barrier_or_refusal.proofs.CutBarrier.{refuses_or_not}
+use Rattle.step_or_refusal.proofs.Decided.{Decided}
+use Rattle.step_or_refusal.proofs.Barrier.{refuses_or_not}
 use Rattle.certificate_check.specs.Certificates.{HoldsAt, IsRangeRefusal}
 
 -- one of two comparisons holds, or none does

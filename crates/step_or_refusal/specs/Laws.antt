@@ -13,8 +13,14 @@ use Rattle.step_chain.specs.Steps.{IsSettledStep, HasNoHeads}
 use Rattle.listing_run.specs.declared.step.Step.{Step}
 use Rattle.listing_run.specs.Steps.{AllSteps}
 use Rattle.listing_run.specs.Tasks.{one_task}
-use Rattle.listing_run.specs.declared.listing_end.ListingEnd.TheVariants as ends
 use Rattle.zone_pairs.specs.Zones.{AreZones}
+use Rattle.step_problem.specs.Conditions.{IsProblem}
+use Rattle.step_problem.specs.Entries.{Entries}
+use Rattle.step_problem.specs.Heads.{Edges}
+use Rattle.barrier_vector.specs.Barriers.{IsBarrierOf}
+use Rattle.barrier_vector.specs.Refusals.{IsRefused}
+use Rattle.barrier_vector.specs.Cuts.{IsCutBarrierOf, IsUnbounded}
+use Rattle.listing_run.specs.declared.listing_end.ListingEnd.TheVariants as ends
 
 -- A time of a valid model, from heads of all its cells, has a settled step or a refusal.
 abbrev pub StepOrRefusal : Type 0
@@ -28,3 +34,11 @@ ListingOrRefusal =
     (limits : Limits) (m : FlowModel) (s : ℕ) (zones : Option (List ℕ)) (rounds : ℕ) (quick : Bool) → IsModel m → AreZones m zones →
     ((values : List Step) × AllSteps (one_task limits m s zones rounds quick) values ends.Whole)
     ⊎ ((values : List Step) × (at : TimeStep) × (n : NoBound) × AllSteps (one_task limits m s zones rounds quick) values (ends.NoBound at n))
+
+-- A problem has a barrier, or it has a refusal: a first cause, at the least cell that has it.
+abbrev pub BarrierOrRefusal : Type 0
+BarrierOrRefusal = (p : List Entries) → IsProblem p → ((b : Edges) × IsBarrierOf p b) ⊎ ((n : NoBound) × IsRefused p n)
+
+-- A problem has a cut barrier, or it is refused at the least cell without a bound.
+abbrev pub CutBarrierOrRefusal : Type 0
+CutBarrierOrRefusal = (p : List Entries) → IsProblem p → ((b : Edges) × IsCutBarrierOf p b) ⊎ ((n : NoBound) × IsUnbounded p n)

@@ -1,7 +1,7 @@
 // Steps and listings exist, or a refusal says why not. Each law is the contract of a function without results, which calls the laws below that it stands on.
 ghost use Rattle.step_or_refusal.specs.Laws.{StepOrRefusal, ListingOrRefusal};
+ghost use Rattle.step_or_refusal.specs.Laws.{BarrierOrRefusal, CutBarrierOrRefusal};
 
-use barrier_or_refusal::laws::{barrier_or_refusal, cut_barrier_or_refusal};
 use problem_builder::laws::{problems_fit, start_heads_fit};
 use problem_or_refusal::laws::{constant_pairs_exist, problem_or_refusal, start_heads_exist};
 use step_chain::laws::heads_fit;
@@ -29,3 +29,13 @@ pub fn listing_or_refusal()
     start_heads_exist();
     start_heads_fit();
 }
+
+/// A problem has a barrier, or a refusal says why it has none.
+pub fn barrier_or_refusal()
+    ensures { BarrierOrRefusal }
+{}
+
+/// A problem has a cut barrier, or a refusal says which cell has no bound.
+pub fn cut_barrier_or_refusal()
+    ensures { CutBarrierOrRefusal }
+{}

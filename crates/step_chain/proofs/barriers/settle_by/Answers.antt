@@ -1,4 +1,4 @@
-use Rattle.step_chain.proofs.Common.{subst, sym, IsBarrierBy, IsPairOf, Limits, Plain, edges_by, either_certifies, given_is}
+use Rattle.step_chain.proofs.Common.{subst, sym, IsBarrierBy, edges_by, IsPairOf, Limits, Plain, either_certifies, given_is}
 use Rattle.step_chain.proofs.Limits.{edges_fit}
 use Rattle.step_chain.proofs.barriers.settle_by.Goals as goal
 

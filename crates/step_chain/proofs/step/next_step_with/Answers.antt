@@ -1,4 +1,4 @@
-use Rattle.step_chain.proofs.Common.{List, subst, sym, true, Bound, IsBefore, Solved, AreHeadsOf, IsCertificate, PairKind, IsPairOf, edges_by, lower_at}
+use Rattle.step_chain.proofs.Common.{List, subst, sym, true, Bound, IsBefore, Solved, AreHeadsOf, IsCertificate, lower_at, PairKind, IsPairOf, edges_by}
 use Rattle.step_chain.proofs.Common.{upper_at}
 use Rattle.std.proofs.lemmas.Result.{err_from_is_err_and}
 use Rattle.deck_problems.specs.Kept.{digits_of}

@@ -1,5 +1,0 @@
-use Rattle.barrier_or_refusal.proofs.CutBarrier.{cut_barrier_or_refusal}
-use Rattle.barrier_or_refusal.proofs.laws.cut_barrier_or_refusal.Goals as goal
-
-pub returns : goal.returns
-returns c = cut_barrier_or_refusal
