@@ -3,33 +3,19 @@ ghost use Rattle.model_types.specs.Grids.{HasSize};
 
 use model_maker::make;
 use model_types::FlowModel;
-use model_writer::{DeckNames, write_model};
+use model_writer::write_deck;
 use outside::{Folder, Found, MemFolder};
 use std::alloc::AllocError;
-use test_lines::Page;
+use test_lines::{Deck, Page};
 
 const MADE: [&str; 7] = [
     "m.nam", "m.dis", "m.bas", "m.lpf", "m.wel", "m.riv", "m.rch",
 ];
 
 const WRITTEN: [&str; 11] = [
-    "w.nam", "w.dis", "w.bas", "w.lpf", "w.wel", "w.riv", "w.drn", "w.ghb", "w.rch", "w.chd",
-    "w.evt",
+    "p.nam", "p.dis", "p.bas", "p.lpf", "p.wel", "p.riv", "p.drn", "p.ghb", "p.rch", "p.chd",
+    "p.evt",
 ];
-
-const NAMES: DeckNames<'static> = DeckNames {
-    name: "w.nam",
-    dis: "w.dis",
-    bas: "w.bas",
-    lpf: "w.lpf",
-    wel: "w.wel",
-    riv: "w.riv",
-    drn: "w.drn",
-    ghb: "w.ghb",
-    rch: "w.rch",
-    chd: "w.chd",
-    evt: "w.evt",
-};
 
 // The files of these names.
 fn push_files(page: &mut Page, folder: &mut MemFolder, names: &[&str]) {
@@ -52,6 +38,20 @@ pub fn push_made(page: &mut Page, seed: u32, size: u32) -> Result<(), AllocError
     Ok(())
 }
 
+// The files of the text of a deck, each after its line FILE.
+fn files_of(page: &Page, text: &[u8]) -> Result<Deck, AllocError> {
+    let mut deck = Deck::new(page.alloc());
+    for line in text.split(|byte| *byte == b'\n') {
+        let line = str::from_utf8(line).unwrap_or("");
+        match line.strip_prefix("FILE ") {
+            Some(name) => deck.begin_file(page.alloc(), name)?,
+            None if line == "END" => break,
+            None => deck.push_line(line)?,
+        }
+    }
+    Ok(deck)
+}
+
 /// Writes a model as a deck, and puts its files, which are the folder's from now on.
 pub fn push_written(
     page: &mut Page,
@@ -60,7 +60,10 @@ pub fn push_written(
 ) -> Result<(), AllocError>
     requires { HasSize model.now.grid }
 {
-    *folder = write_model(page.alloc(), model, &NAMES)?;
+    let text = write_deck(page.alloc(), model)?;
+    let mut deck = files_of(page, text.as_slice())?;
+    deck.end_file(page.alloc())?;
+    *folder = deck.folder;
     push_files(page, folder, &WRITTEN);
     Ok(())
 }

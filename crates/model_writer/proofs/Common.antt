@@ -1,6 +1,6 @@
 -- Names that several proofs of this crate cite, of the crates below and of its own definitions, passed on from one place. Declares nothing.
-pub use Rattle.std.proofs.Common.{Bool, List, [], ap, append_assoc, arith, codes, cond, decimal, drop, drop-cons, false, filter, fold, get_or, length, lit≤}
-pub use Rattle.std.proofs.Common.{map, max, min, refl, replicate, suc, sym, take, true, ℕ, ◌++◌, ◌+◌, ◌-◌, ◌<◌, ◌∙◌, ◌∷◌, ◌≡◌, ◌≤◌}
+pub use Rattle.std.proofs.Common.{Bool, List, [], ap, append_assoc, arith, codes, decimal, drop, false, filter, fold, get_or, length, lit≤, map, max, min, refl}
+pub use Rattle.std.proofs.Common.{replicate, suc, sym, take, true, ℕ, ◌++◌, ◌+◌, ◌-◌, ◌<◌, ◌∙◌, ◌∷◌, ◌≡◌, ◌≤◌}
 pub use Rattle.std.proofs.lemmas.Grind.{flat_map-append, replicate_next}
 pub use Rattle.std.proofs.lemmas.List.{append-nil, drop_all, length-map, map-append, map-id, take_more}
 pub use Rattle.std.specs.List.{flat_map, range_with_len}
@@ -15,13 +15,10 @@ unfoldable pub use Rattle.model_text.specs.Decks.{deck_text, file_text, file_tex
 pub use Rattle.model_text.specs.Discretization.{dis_item_6, dis_item_7, layer_values, lpf_arrays, storage_option}
 unfoldable pub use Rattle.model_text.specs.Discretization.{dis_item_1}
 unfoldable pub use Rattle.model_text.specs.Lists.{list_item_2, list_item_5, list_item_6, list_lines, period_list}
-pub use Rattle.model_text.specs.Names.{packages}
-unfoldable pub use Rattle.model_text.specs.Names.{name_item}
+pub use Rattle.model_text.specs.Names.{name_item, packages}
 pub use Rattle.model_text.specs.Written.{has, name_file, package_file}
 unfoldable pub use Rattle.model_text.specs.Written.{written}
 pub use Rattle.model_types.specs.declared.model.FlowModel.{FlowModel}
-unfoldable pub use Rattle.model_writer.specs.Lines.{line_bytes, spaced}
+unfoldable pub use Rattle.model_writer.specs.Lines.{chosen, line_bytes, spaced}
 unfoldable pub use Rattle.model_writer.specs.Lists.{entry_line}
-pub use Rattle.model_writer.specs.Names.{names_of}
 pub use Rattle.name_file.specs.declared.package.Package.TheVariants.{Dis}
-pub use Rattle.outside.specs.Files.{File}

@@ -4,6 +4,5 @@ pub mod Spaces
 pub mod Repeats
 pub mod Items
 pub mod Fixed
-pub mod Files
+pub mod Chosen
 pub mod ListTexts
-pub mod DeckTexts

@@ -1,4 +1,4 @@
-//! A model, written as the files of a deck in MODFLOW's free format.
+//! A model, written as the text of a deck in MODFLOW's free format.
 #![tactic(auto)]
 
 mod areas;
@@ -13,5 +13,4 @@ mod names;
 mod packages;
 mod words;
 
-pub use deck_text::{write_deck, write_model};
-pub use names::DeckNames;
+pub use deck_text::write_deck;

@@ -1,49 +1,31 @@
 // The names of the files of a deck, and its name file.
-ghost use Rattle.std.specs.Prelude.{◌≡◌, [], ◌∷◌, ◌++◌, filter, map, IfOk};
-ghost use Rattle.array_text.specs.Lines.{text};
+ghost use Rattle.std.specs.Prelude.{◌≡◌, [], ◌∷◌, ◌++◌, IfOk};
+ghost use Rattle.std.specs.List.{flat_map};
+ghost use Rattle.model_text.specs.Decks.{deck_names};
 ghost use Rattle.model_text.specs.Names.{file_type, file_unit, name_item, packages};
 ghost use Rattle.model_text.specs.Written.{has};
-ghost use Rattle.model_writer.specs.Lines.{line_bytes};
-ghost use Rattle.model_writer.specs.Names.{names_of};
+ghost use Rattle.model_writer.specs.Lines.{chosen, line_bytes};
 
 use crate::packages::{PACKAGES, has_package};
 use model_types::FlowModel;
 use name_file::Package;
 use std::alloc::AllocError;
 
-/// The names of a deck's files: of the name file, and of each package's file.
-#[derive(Clone, Copy)]
-pub struct DeckNames<'a> {
-    pub name: &'a str,
-    pub dis: &'a str,
-    pub bas: &'a str,
-    pub lpf: &'a str,
-    pub wel: &'a str,
-    pub riv: &'a str,
-    pub drn: &'a str,
-    pub ghb: &'a str,
-    pub rch: &'a str,
-    pub chd: &'a str,
-    pub evt: &'a str,
-}
-
-impl<'a> DeckNames<'a> {
-    /// The name of a package's file.
-    pub fn of(&self, kind: Package) -> &'a str
-        ensures { result.now ≡ names_of self.now kind }
-    {
-        match kind {
-            Package::Dis => self.dis,
-            Package::Bas => self.bas,
-            Package::Lpf => self.lpf,
-            Package::Wel => self.wel,
-            Package::Riv => self.riv,
-            Package::Drn => self.drn,
-            Package::Ghb => self.ghb,
-            Package::Rch => self.rch,
-            Package::Chd => self.chd,
-            Package::Evt => self.evt,
-        }
+/// The name of a package's file in the text of a deck.
+pub(crate) fn name_of(kind: Package) -> &'static str
+    ensures { result.now ≡ deck_names kind }
+{
+    match kind {
+        Package::Dis => "p.dis",
+        Package::Bas => "p.bas",
+        Package::Lpf => "p.lpf",
+        Package::Wel => "p.wel",
+        Package::Riv => "p.riv",
+        Package::Drn => "p.drn",
+        Package::Ghb => "p.ghb",
+        Package::Rch => "p.rch",
+        Package::Chd => "p.chd",
+        Package::Evt => "p.evt",
     }
 }
 
@@ -66,43 +48,33 @@ fn type_and_unit(kind: Package) -> &'static [u8]
 }
 
 #[tactic(auto, using(crate::proofs::Texts::texts), unfolding(crate::specs::Lines::line_bytes, array_text::specs::Lines::line_text, model_text::specs::Names::name_item))]
-fn push_name(bytes: &mut Vec<u8>, names: &DeckNames<'_>, kind: Package) -> Result<(), AllocError>
-    ensures { IfOk result (λ _. bytes.new.items ≡ bytes.old.items ++ line_bytes (name_item (names_of names.now) kind)) }
+fn push_name(bytes: &mut Vec<u8>, kind: Package) -> Result<(), AllocError>
+    ensures { IfOk result (λ _. bytes.new.items ≡ bytes.old.items ++ line_bytes (name_item deck_names kind)) }
 {
     bytes.extend_from_slice(type_and_unit(kind))?;
-    bytes.extend_from_slice(names.of(kind).as_bytes())?;
+    bytes.extend_from_slice(name_of(kind).as_bytes())?;
     bytes.push(b'\n')?;
     Ok(())
 }
 
-#[tactic(auto, using(crate::proofs::Files::one_name, crate::proofs::Texts::texts))]
-fn push_name_if(
-    bytes: &mut Vec<u8>,
-    model: &FlowModel,
-    names: &DeckNames<'_>,
-    kind: Package,
-) -> Result<(), AllocError>
-    ensures { IfOk result (λ _. bytes.new.items ≡ bytes.old.items
-        ++ text (map (name_item (names_of names.now)) (filter (has model.now) (kind ∷ [])))) }
+#[tactic(auto, using(crate::proofs::Chosen::one_item, crate::proofs::Texts::texts))]
+fn push_name_if(bytes: &mut Vec<u8>, model: &FlowModel, kind: Package) -> Result<(), AllocError>
+    ensures { IfOk result (λ _. bytes.new.items ≡ bytes.old.items ++ chosen (has model.now) (λ k. line_bytes (name_item deck_names k)) kind) }
 {
     if has_package(model, kind) {
-        push_name(bytes, names, kind)?;
+        push_name(bytes, kind)?;
     }
     Ok(())
 }
 
 /// Appends the name file: a line for each package that the model has.
-#[tactic(auto, using(crate::proofs::Files::no_names, crate::proofs::Texts::texts))]
-pub(crate) fn push_names(
-    bytes: &mut Vec<u8>,
-    model: &FlowModel,
-    names: &DeckNames<'_>,
-) -> Result<(), AllocError>
+#[tactic(auto, using(crate::proofs::Texts::texts))]
+pub(crate) fn push_names(bytes: &mut Vec<u8>, model: &FlowModel) -> Result<(), AllocError>
     ensures { IfOk result (λ _. bytes.new.items ≡ bytes.old.items
-        ++ text (map (name_item (names_of names.now)) (filter (has model.now) packages))) }
+        ++ flat_map (chosen (has model.now) (λ k. line_bytes (name_item deck_names k))) packages) }
 {
     for kind in PACKAGES {
-        push_name_if(bytes, model, names, kind)?;
+        push_name_if(bytes, model, kind)?;
     }
     Ok(())
 }

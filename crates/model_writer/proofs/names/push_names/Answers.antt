@@ -1,8 +1,7 @@
-use Rattle.model_writer.proofs.Common.{Dis, name_item, packages, has, names_of}
-use Rattle.model_writer.proofs.Files.{names_step}
+use Rattle.model_writer.proofs.Common.{line_bytes, deck_names, name_item, packages, has, Dis}
+use Rattle.model_writer.proofs.Chosen.{one_more}
 use Rattle.model_writer.proofs.names.push_names.Goals as goal
 
 pub loop-kind-preserved : goal.loop-kind-preserved
 loop-kind-preserved c =
-    names_step (name_item (names_of c.args.names.now)) (has c.args.model.now) packages c.loop-kind.kind-index Dis _ _ _
-    c.loop-kind-test.true c.loop-kind.invariant c.in_ok-push_name_if.ensures
+    one_more (has c.args.model.now) (λ k. line_bytes (name_item deck_names k)) packages c.loop-kind.kind-index Dis _ _ _ c.loop-kind-test.true c.loop-kind.invariant c.in_ok-push_name_if.ensures
