@@ -1,11 +1,12 @@
 -- What a file of a package of arrays gives.
 use Rattle.model_forms.proofs.Common.{◌≡◌, ℕ, ℤ, true, List, map, All, Ok, refl, FileSet, words, Refusal, Left, left_from, without_comments, for_each, Grid}
-use Rattle.model_forms.proofs.Common.{Period, HasSize, item_line, steps, area_at, nothing_yet, is_option, option_at, ArrayKind, contents, with_area}
-use Rattle.model_forms.proofs.Common.{tested_area, period_at, unit_if, option_line, arrays_in, Area, InForce, ArrayFile, goes, ends}
-use Rattle.period_arrays.specs.Packages.{periods_of}
+use Rattle.model_forms.proofs.Common.{Period, HasSize, item_line, steps, area_at, nothing_yet, is_option, option_at, ArrayKind, contents, with_area, Area}
+use Rattle.model_forms.proofs.Common.{InForce, goes, ends, Limits, FlowModel, pos, ◌∙◌, ◌>>=◌}
+use Rattle.period_arrays.specs.Packages.{tested_area, period_at, unit_if, option_line, arrays_in, periods_of}
+use Rattle.period_arrays.specs.declared.read.ArrayFile.{ArrayFile}
 use Rattle.model_forms.proofs.AreaForms.{HasArrays, IsState, first_state, area_is}
 use Rattle.model_forms.proofs.FlagForms.{option_is}
-use Rattle.model_forms.proofs.PeriodForms.{each_are}
+use Rattle.model_forms.proofs.PeriodForms.{IsKnown, IsStage, each_are}
 
 -- an option from 1 to 3, and periods with arrays by it
 pub record AreRead (Q : ℤ → Period → Type 0) (ps : List Period) (a : ArrayFile) : Type 0 where
@@ -68,3 +69,25 @@ module _ (kind : ArrayKind) (files : FileSet) (file : List ℕ) (g : Grid) (size
       let made : ArrayFile = record { option = option.item.0; periods = qs.item } in
       let is : AreRead Q ps made = record { active = active; each = are.0; same = are.1 } in
       ends {E = Refusal} (λ (y : ArrayFile). AreRead Q ps y) made a qs.then_ is
+
+-- a model with the arrays of a file by its option, on which NRCHOP and NEVTOP depend so
+pub record HasOption (limits : Limits) (core : FlowModel) (rain air : ℤ → ℤ) (n : FlowModel) : Type 0 where
+  pub option : ℤ
+  pub active : is_option option ≡ true
+  pub stage : IsStage limits core (rain option) (air option) n
+
+module _ (limits : Limits) (kind : ArrayKind) (files : FileSet) (file bytes : List ℕ) (core : FlowModel) (size : HasSize core.grid) (rain air : ℤ → ℤ) where
+  abbrev Known : ℤ → Period → Type 0
+  Known option = IsKnown limits core.grid core.ibound (rain option) (air option)
+
+  abbrev at_stage : ℤ → List Period → FlowModel
+  at_stage option ps = record core { nrchop = rain option; nevtop = air option; periods = ps }
+
+  pub package_is : ((option : ℤ) → is_option option ≡ true → (p : Period) (a : Area) → Known (pos 0) p → IsTested kind file core.grid core.ibound option a → Known option (with_area kind p a))
+      → (ps : List Period) (n : FlowModel) → All (Known (pos 0)) ps → map steps ps ≡ map steps core.periods
+      → (arrays_in kind files file bytes core.grid core.ibound ps >>= λ a. Ok (at_stage a.option a.periods)) ≡ Ok n → HasOption limits core rain air n
+  package_is put ps n all same h =
+      let a = goes (arrays_in kind files file bytes core.grid core.ibound ps) _ n h in
+      let are = arrays_are_read kind files file core.grid size core.ibound (Known (pos 0)) Known put bytes ps a.item a.first all in
+      let is : HasOption limits core rain air (at_stage a.item.option a.item.periods) = record { option = a.item.option; active = are.active; stage = record { is = refl; same = are.same ∙ same; each = are.each } } in
+      ends {E = Refusal} (λ (y : FlowModel). HasOption limits core rain air y) (at_stage a.item.option a.item.periods) n a.then_ is

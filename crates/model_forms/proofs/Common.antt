@@ -35,26 +35,27 @@ unfoldable pub use Rattle.dis_package.specs.Discretization.{dis_of, head_of}
 pub use Rattle.dis_package.specs.Forms.{IsFrame, IsNewPeriod, IsSize, IsTime, without_stresses}
 unfoldable pub use Rattle.dis_package.specs.Frames.{beds_of, count_at, frame_of, size_at}
 unfoldable pub use Rattle.dis_package.specs.Grids.{bottom_at, bottoms_of, grid_of, widths}
-pub use Rattle.dis_package.specs.Times.{is_time, kind_of, known, period_of}
+pub use Rattle.dis_package.specs.Times.{is_time, known, period_of}
 unfoldable pub use Rattle.dis_package.specs.Times.{periods_of, time_of}
 pub use Rattle.dis_package.specs.declared.frame.Size.{Size}
 pub use Rattle.evt_package.specs.Columns.{cell_tested, chosen_cell, column_step, column_tested, source}
 unfoldable pub use Rattle.evt_package.specs.Columns.{columns_tested}
-pub use Rattle.evt_package.specs.Evaporation.{area_in, evaporation_arrays, with_evaporation}
+pub use Rattle.evt_package.specs.Evaporation.{area_in, evaporation_arrays}
 unfoldable pub use Rattle.evt_package.specs.Evaporation.{evt_of}
 pub use Rattle.list_package.proofs.ModelLemmas.{same_count, same_view, steps}
 pub use Rattle.list_package.specs.GivenHeads.{given_heads, is_growing}
 pub use Rattle.list_package.specs.Headers.{Count, again, count_of, entries, has_parameters, is_reused, item_line}
 unfoldable pub use Rattle.list_package.specs.Headers.{header_of}
-pub use Rattle.list_package.specs.Kinds.{Kind, first_fault, with_list}
+pub use Rattle.list_package.specs.Kinds.{Kind, entries_in, first_fault, kind_of, with_list}
+pub use Rattle.list_package.specs.declared.entries.ListKind.{ListKind}
+pub use Rattle.list_package.specs.declared.entries.ListKind.TheVariants.{Drains, Generals, Rivers, Wells}
 pub use Rattle.lpf_package.specs.Flow.{SameBut, is_transient, with_contents, with_properties}
 unfoldable pub use Rattle.lpf_package.specs.Flow.{contents_of, lpf_of}
 pub use Rattle.lpf_package.specs.Layers.{joined, nth_layer}
 unfoldable pub use Rattle.lpf_package.specs.Layers.{layer_at, layers_of, properties_of, storage_layer}
 pub use Rattle.lpf_package.specs.declared.layer.Properties.{Properties}
 pub use Rattle.model_reader.specs.Model.{list_in, names_in, needed, where_named}
-unfoldable pub use Rattle.model_reader.specs.Model.{bas_in, basics_tested, dis_in, evt_in, file_in, lpf_in, model_of, rch_in, reads, with_entries}
-unfoldable pub use Rattle.model_reader.specs.Model.{with_stresses}
+unfoldable pub use Rattle.model_reader.specs.Model.{bas_in, basics_tested, dis_in, evt_in, file_in, lpf_in, model_of, rch_in, reads, with_stresses}
 pub use Rattle.model_text.proofs.DeckNames.{all_plain, good_names}
 pub use Rattle.model_text.proofs.ModelTexts.{model_reads}
 pub use Rattle.model_text.specs.Entries.{IsEntry, IsListOf}
@@ -71,6 +72,7 @@ pub use Rattle.model_types.specs.declared.grid.Grid.{Grid}
 pub use Rattle.model_types.specs.declared.limits.Limits.{Limits}
 pub use Rattle.model_types.specs.declared.model.FlowModel.{FlowModel}
 pub use Rattle.model_types.specs.declared.period.Period.{Period}
+pub use Rattle.model_types.specs.declared.period.Stresses.{Stresses}
 pub use Rattle.name_file.specs.Pairs.{Pairs, file_of}
 pub use Rattle.name_file.specs.declared.package.Package.TheVariants.{Bas, Chd, Dis, Drn, Evt, Ghb, Lpf, Rch, Riv, Wel}
 pub use Rattle.number_limits.proofs.Canonical.{dec_at_is, no_number_is}
@@ -88,13 +90,10 @@ pub use Rattle.period_arrays.specs.Flags.{flag_if, is_negative, is_option}
 unfoldable pub use Rattle.period_arrays.specs.Flags.{flag_at, flags_of, option_at}
 pub use Rattle.period_arrays.specs.Forms.{AreFlags, IsArea, IsReals, IsWhole}
 pub use Rattle.period_arrays.specs.Kinds.{ArrayKind, contents, with_area}
-pub use Rattle.period_arrays.specs.Packages.{unit_if}
-unfoldable pub use Rattle.period_arrays.specs.Packages.{arrays_in, option_line, period_at, tested_area}
 pub use Rattle.period_arrays.specs.declared.area.Area.{Area}
 pub use Rattle.period_arrays.specs.declared.area.InForce.{InForce}
 pub use Rattle.period_arrays.specs.declared.flags.Contents.{Contents}
 pub use Rattle.period_arrays.specs.declared.flags.Flags.{Flags}
-pub use Rattle.period_arrays.specs.declared.read.ArrayFile.{ArrayFile}
 pub use Rattle.record_lines.specs.Items.{line_at}
 pub use Rattle.record_lines.specs.Layout.{Left, left_from, without_comments}
 pub use Rattle.record_lines.specs.Reading.{◌>>=◌}

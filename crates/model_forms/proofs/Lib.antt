@@ -14,7 +14,6 @@ pub mod FlagForms
 pub mod AreaForms
 pub mod ArrayFileForms
 pub mod RchForms
-pub mod EvtForms
 pub mod StageForms
 pub mod CoreForms
 pub mod ModelForms

@@ -4,7 +4,7 @@ use Rattle.model_forms.proofs.Common.{All, Ok, refl, sym, ap, subst, ◌∙◌, 
 use Rattle.model_forms.proofs.Common.{FlowModel, Period, cell_count, HasSize, IsTimed, bas_of, is_transient, lpf_of, SameBut, checked, fault_at, Check}
 use Rattle.model_forms.proofs.Common.{Thickness, StartHead, steps, same_count, same_view, dis_in, basics_tested, bas_in, lpf_in, model_of, reads, goes, ends}
 use Rattle.model_forms.proofs.Common.{IsShort, HasFlow, IsRecharged, IsEvaporating, IsDry, IsStill, HasNoRecharge, HasNoEvaporation, IsWritable, Limits}
-use Rattle.model_forms.proofs.Common.{good_names, model_reads, most_bytes, names_in, needed}
+use Rattle.model_forms.proofs.Common.{good_names, model_reads, most_bytes, names_in, needed, Wells, Rivers, Drains, Generals}
 use Rattle.cell_checks.specs.declared.passing.Check.TheVariants.{Properties as PropertyCheck}
 use Rattle.model_forms.proofs.DisForms.{HasBasics, bas_is, IsStarted, dis_is}
 use Rattle.model_forms.proofs.LpfForms.{lpf_is}
@@ -56,22 +56,22 @@ module _ (limits : Limits) (core : FlowModel) (nrchop nevtop : ℤ) (ps : List P
   each_is P known = All-weaker Known P known ps each
 
   rain_is : IsOption nrchop → IsRecharged m ⊎ HasNoRecharge m
-  rain_is (inl e) = inr (record { option = e; none = each_is IsDry (λ p k. k.dry e) })
+  rain_is (inl e) = inr (record { option = e; none = each_is IsDry (λ p k. let d = k.arrays.dry e in record { recharge = d.0; irch = d.1 }) })
   rain_is (inr e) = inl (record {
     option = e;
-    recharge = λ k d lt. ((each k d lt).rain e).recharge;
-    irch = λ k d lt. ((each k d lt).rain e).irch;
+    recharge = λ k d lt. ((each k d lt).arrays.rain e).0;
+    irch = λ k d lt. ((each k d lt).arrays.rain e).1;
   })
 
   air_is : IsOption nevtop → IsEvaporating m ⊎ HasNoEvaporation m
-  air_is (inl e) = inr (record { option = e; none = each_is IsStill (λ p k. k.still e) })
+  air_is (inl e) = inr (record { option = e; none = each_is IsStill (λ p k. let d = k.arrays.still e in record { surf = d.0; evtr = d.1; exdp = d.2; ievt = d.3 }) })
   air_is (inr e) = inl (record {
     option = e;
-    surf = λ k d lt. ((each k d lt).air e).surf;
-    evtr = λ k d lt. ((each k d lt).air e).evtr;
-    exdp = λ k d lt. ((each k d lt).air e).exdp;
-    ievt = λ k d lt. ((each k d lt).air e).ievt;
-    passed = λ file k d lt. ((each k d lt).air e).passed file;
+    surf = λ k d lt. ((each k d lt).arrays.air e).surf;
+    evtr = λ k d lt. ((each k d lt).arrays.air e).evtr;
+    exdp = λ k d lt. ((each k d lt).arrays.air e).exdp;
+    ievt = λ k d lt. ((each k d lt).arrays.air e).ievt;
+    passed = λ file k d lt. ((each k d lt).arrays.air e).passed file;
   })
 
   writable : IsWritable limits m
@@ -81,12 +81,12 @@ module _ (limits : Limits) (core : FlowModel) (nrchop nevtop : ℤ) (ps : List P
     basic = record { ibound = (f.ibound, short); strt = f.strt };
     flow = flow_again core nrchop nevtop ps same f.flow;
     passed = λ check file. checks_kept core nrchop nevtop ps check file ∙ f.passed check file;
-    wel = λ k d lt. (each k d lt).wel;
-    riv = λ k d lt. (each k d lt).riv;
-    drn = λ k d lt. (each k d lt).drn;
-    ghb = λ k d lt. (each k d lt).ghb;
+    wel = λ k d lt. (each k d lt).entries Wells;
+    riv = λ k d lt. (each k d lt).entries Rivers;
+    drn = λ k d lt. (each k d lt).entries Drains;
+    ghb = λ k d lt. (each k d lt).entries Generals;
     rch = rain_is options.0;
-    chd = λ k d lt. (each k d lt).chd;
+    chd = λ k d lt. (each k d lt).given;
     evt = air_is options.1;
   }
 

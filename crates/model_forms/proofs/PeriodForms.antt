@@ -1,36 +1,37 @@
 -- What is known of the stress periods of a model while its packages of stresses are read.
 use Rattle.model_forms.proofs.Common.{◌≡◌, ◌⊎◌, inl, inr, ℕ, ℤ, pos, true, false, List, [], ◌∷◌, map, All, Result, Ok, refl, ◌∙◌, All-nil, All-cons, All-head}
 use Rattle.model_forms.proofs.Common.{All-tail, Refusal, for_each, Grid, FlowModel, Period, cell_count, IsTimed, IsGrowing, number_one, given_heads, Kind}
-use Rattle.model_forms.proofs.Common.{with_list, steps, wells, rivers, drains, generals, is_option, IsReals, columns_tested, area_in, goes, ends, IsListOf}
-use Rattle.model_forms.proofs.Common.{IsLayers, IsDry, IsStill, Limits}
+use Rattle.model_forms.proofs.Common.{subst, sym, with_list, steps, wells, rivers, drains, generals, is_option, IsReals, columns_tested, area_in, goes, ends}
+use Rattle.model_forms.proofs.Common.{IsListOf, IsLayers, Limits, entries_in, kind_of, ListKind, Wells, Rivers, Drains, Generals, Stresses}
+use Rattle.list_package.specs.Kinds.{with_entries}
 use Rattle.model_types.specs.declared.entry.Entry.{Entry}
 use Rattle.model_types.specs.declared.entry.Given.{Given}
-use Rattle.model_types.specs.declared.period.Stresses.{Stresses}
 
--- recharge and evapotranspiration of a period, by these options
-pub record HasRecharge (g : Grid) (option : ℤ) (p : Period) : Type 0 where
-  pub recharge : IsReals g p.stresses.recharge
-  pub irch : IsLayers g option p.stresses.irch
+-- evapotranspiration of stresses by this option
+pub record HasEvaporation (g : Grid) (ibound : List ℤ) (option : ℤ) (s : Stresses) : Type 0 where
+  pub surf : IsReals g s.surf
+  pub evtr : IsReals g s.evtr
+  pub exdp : IsReals g s.exdp
+  pub ievt : IsLayers g option s.ievt
+  pub passed : (file : List ℕ) → columns_tested file g ibound option (area_in s) ≡ Ok tt
 
-pub record HasEvaporation (g : Grid) (ibound : List ℤ) (option : ℤ) (p : Period) : Type 0 where
-  pub surf : IsReals g p.stresses.surf
-  pub evtr : IsReals g p.stresses.evtr
-  pub exdp : IsReals g p.stresses.exdp
-  pub ievt : IsLayers g option p.stresses.ievt
-  pub passed : (file : List ℕ) → columns_tested file g ibound option (area_in p.stresses) ≡ Ok tt
+-- recharge and evapotranspiration of stresses by NRCHOP and NEVTOP
+pub record HasArrays (g : Grid) (ibound : List ℤ) (nrchop nevtop : ℤ) (s : Stresses) : Type 0 where
+  pub dry : nrchop ≡ pos 0 → (s.recharge ≡ []) × (s.irch ≡ [])
+  pub rain : is_option nrchop ≡ true → IsReals g s.recharge × IsLayers g nrchop s.irch
+  pub still : nevtop ≡ pos 0 → (s.surf ≡ []) × (s.evtr ≡ []) × (s.exdp ≡ []) × (s.ievt ≡ [])
+  pub air : is_option nevtop ≡ true → HasEvaporation g ibound nevtop s
+
+-- stresses without their lists
+abbrev pub arrays_of : Stresses → Stresses
+arrays_of s = record s { wells = []; rivers = []; drains = []; generals = []; given = [] }
 
 -- a period of a model with this grid, IBOUND, NRCHOP and NEVTOP, read by these limits
 pub record IsKnown (limits : Limits) (g : Grid) (ibound : List ℤ) (nrchop nevtop : ℤ) (p : Period) : Type 0 where
   pub times : IsTimed p
-  pub wel : IsListOf limits wells (cell_count g) p p.stresses.wells
-  pub riv : IsListOf limits rivers (cell_count g) p p.stresses.rivers
-  pub drn : IsListOf limits drains (cell_count g) p p.stresses.drains
-  pub ghb : IsListOf limits generals (cell_count g) p p.stresses.generals
-  pub chd : IsListOf limits given_heads (cell_count g) p p.stresses.given
-  pub dry : nrchop ≡ pos 0 → IsDry p
-  pub rain : is_option nrchop ≡ true → HasRecharge g nrchop p
-  pub still : nevtop ≡ pos 0 → IsStill p
-  pub air : is_option nevtop ≡ true → HasEvaporation g ibound nevtop p
+  pub entries : (k : ListKind) → IsListOf limits (kind_of k) (cell_count g) p (entries_in k p.stresses)
+  pub given : IsListOf limits given_heads (cell_count g) p p.stresses.given
+  pub arrays : HasArrays g ibound nrchop nevtop (arrays_of p.stresses)
 
 -- another model with its own options and stresses
 pub record IsStage (limits : Limits) (core : FlowModel) (nrchop nevtop : ℤ) (m : FlowModel) : Type 0 where
@@ -70,76 +71,43 @@ list_again limits kind cells p q xs same h = record { few = h.few; entries = h.e
 pub no_option : is_option (pos 0) ≡ true → ⊥
 no_option e = let clash : false ≡ true = e in cc
 
-module _ (limits : Limits) (g : Grid) (ibound : List ℤ) where
-  abbrev cells : ℕ
-  cells = cell_count g
+module _ (limits : Limits) (g : Grid) (ibound : List ℤ) (nrchop nevtop : ℤ) (p : Period) where
+  abbrev IsList : {E : Type 0} → Kind E → List E → Type 0
+  IsList kind xs = IsListOf limits kind (cell_count g) p xs
 
-  pub with_wells : (p : Period) (xs : List Entry) → IsKnown limits g ibound (pos 0) (pos 0) p → IsListOf limits wells cells p xs → IsKnown limits g ibound (pos 0) (pos 0) (with_list wells p xs)
-  with_wells p xs h list = record {
-    times = timed p (with_list wells p xs).stresses h.times;
-    wel = list_again limits wells cells p (with_list wells p xs) xs refl list;
-    riv = list_again limits rivers cells p (with_list wells p xs) p.stresses.rivers refl h.riv;
-    drn = list_again limits drains cells p (with_list wells p xs) p.stresses.drains refl h.drn;
-    ghb = list_again limits generals cells p (with_list wells p xs) p.stresses.generals refl h.ghb;
-    chd = list_again limits given_heads cells p (with_list wells p xs) p.stresses.given refl h.chd;
-    dry = λ e. let d = h.dry e in record { recharge = d.recharge; irch = d.irch };
-    rain = λ e. absurd (no_option e);
-    still = λ e. let d = h.still e in record { surf = d.surf; evtr = d.evtr; exdp = d.exdp; ievt = d.ievt };
-    air = λ e. absurd (no_option e);
+  abbrev Known : Period → Type 0
+  Known = IsKnown limits g ibound nrchop nevtop
+
+  -- the period with other stresses
+  pub with_stresses : (s : Stresses) → IsTimed p → ((k : ListKind) → IsList (kind_of k) (entries_in k s)) → IsList given_heads s.given → HasArrays g ibound nrchop nevtop (arrays_of s)
+      → Known (record p { stresses = s })
+  with_stresses s times entries given arrays = record {
+    times = timed p s times;
+    entries = λ k. list_again limits (kind_of k) (cell_count g) p (record p { stresses = s }) (entries_in k s) refl (entries k);
+    given = list_again limits given_heads (cell_count g) p (record p { stresses = s }) s.given refl given;
+    arrays = arrays;
   }
 
-  pub with_rivers : (p : Period) (xs : List Entry) → IsKnown limits g ibound (pos 0) (pos 0) p → IsListOf limits rivers cells p xs → IsKnown limits g ibound (pos 0) (pos 0) (with_list rivers p xs)
-  with_rivers p xs h list = record {
-    times = timed p (with_list rivers p xs).stresses h.times;
-    wel = list_again limits wells cells p (with_list rivers p xs) p.stresses.wells refl h.wel;
-    riv = list_again limits rivers cells p (with_list rivers p xs) xs refl list;
-    drn = list_again limits drains cells p (with_list rivers p xs) p.stresses.drains refl h.drn;
-    ghb = list_again limits generals cells p (with_list rivers p xs) p.stresses.generals refl h.ghb;
-    chd = list_again limits given_heads cells p (with_list rivers p xs) p.stresses.given refl h.chd;
-    dry = λ e. let d = h.dry e in record { recharge = d.recharge; irch = d.irch };
-    rain = λ e. absurd (no_option e);
-    still = λ e. let d = h.still e in record { surf = d.surf; evtr = d.evtr; exdp = d.exdp; ievt = d.ievt };
-    air = λ e. absurd (no_option e);
-  }
+  entries_put : (k j : ListKind) (s : Stresses) (xs : List Entry) → IsList (kind_of k) xs → IsList (kind_of j) (entries_in j s) → IsList (kind_of j) (entries_in j (with_entries k s xs))
+  entries_put Wells Wells s xs list last = list
+  entries_put Rivers Rivers s xs list last = list
+  entries_put Drains Drains s xs list last = list
+  entries_put Generals Generals s xs list last = list
+  entries_put k j s xs list last = last
 
-  pub with_drains : (p : Period) (xs : List Entry) → IsKnown limits g ibound (pos 0) (pos 0) p → IsListOf limits drains cells p xs → IsKnown limits g ibound (pos 0) (pos 0) (with_list drains p xs)
-  with_drains p xs h list = record {
-    times = timed p (with_list drains p xs).stresses h.times;
-    wel = list_again limits wells cells p (with_list drains p xs) p.stresses.wells refl h.wel;
-    riv = list_again limits rivers cells p (with_list drains p xs) p.stresses.rivers refl h.riv;
-    drn = list_again limits drains cells p (with_list drains p xs) xs refl list;
-    ghb = list_again limits generals cells p (with_list drains p xs) p.stresses.generals refl h.ghb;
-    chd = list_again limits given_heads cells p (with_list drains p xs) p.stresses.given refl h.chd;
-    dry = λ e. let d = h.dry e in record { recharge = d.recharge; irch = d.irch };
-    rain = λ e. absurd (no_option e);
-    still = λ e. let d = h.still e in record { surf = d.surf; evtr = d.evtr; exdp = d.exdp; ievt = d.ievt };
-    air = λ e. absurd (no_option e);
-  }
+  others_kept : (k : ListKind) (s : Stresses) (xs : List Entry) → ((with_entries k s xs).given ≡ s.given) × (arrays_of (with_entries k s xs) ≡ arrays_of s)
+  others_kept Wells s xs = (refl, refl)
+  others_kept k s xs = (refl, refl)
 
-  pub with_generals : (p : Period) (xs : List Entry) → IsKnown limits g ibound (pos 0) (pos 0) p → IsListOf limits generals cells p xs → IsKnown limits g ibound (pos 0) (pos 0) (with_list generals p xs)
-  with_generals p xs h list = record {
-    times = timed p (with_list generals p xs).stresses h.times;
-    wel = list_again limits wells cells p (with_list generals p xs) p.stresses.wells refl h.wel;
-    riv = list_again limits rivers cells p (with_list generals p xs) p.stresses.rivers refl h.riv;
-    drn = list_again limits drains cells p (with_list generals p xs) p.stresses.drains refl h.drn;
-    ghb = list_again limits generals cells p (with_list generals p xs) xs refl list;
-    chd = list_again limits given_heads cells p (with_list generals p xs) p.stresses.given refl h.chd;
-    dry = λ e. let d = h.dry e in record { recharge = d.recharge; irch = d.irch };
-    rain = λ e. absurd (no_option e);
-    still = λ e. let d = h.still e in record { surf = d.surf; evtr = d.evtr; exdp = d.exdp; ievt = d.ievt };
-    air = λ e. absurd (no_option e);
-  }
+  pub with_entry_list : (k : ListKind) (xs : List Entry) → Known p → IsList (kind_of k) xs → Known (with_list (kind_of k) p xs)
+  with_entry_list k xs h list =
+      let kept = others_kept k p.stresses xs in
+      with_stresses (with_entries k p.stresses xs) h.times (λ j. entries_put k j p.stresses xs list (h.entries j))
+      (subst (λ ys. IsList given_heads ys) (sym kept.0) h.given) (subst (HasArrays g ibound nrchop nevtop) (sym kept.1) h.arrays)
 
-  pub with_given : (nrchop : ℤ) (p : Period) (xs : List Given) → IsKnown limits g ibound nrchop (pos 0) p → IsListOf limits given_heads cells p xs → IsKnown limits g ibound nrchop (pos 0) (with_list given_heads p xs)
-  with_given nrchop p xs h list = record {
-    times = timed p (with_list given_heads p xs).stresses h.times;
-    wel = list_again limits wells cells p (with_list given_heads p xs) p.stresses.wells refl h.wel;
-    riv = list_again limits rivers cells p (with_list given_heads p xs) p.stresses.rivers refl h.riv;
-    drn = list_again limits drains cells p (with_list given_heads p xs) p.stresses.drains refl h.drn;
-    ghb = list_again limits generals cells p (with_list given_heads p xs) p.stresses.generals refl h.ghb;
-    chd = list_again limits given_heads cells p (with_list given_heads p xs) xs refl list;
-    dry = λ e. let d = h.dry e in record { recharge = d.recharge; irch = d.irch };
-    rain = λ e. let d = h.rain e in record { recharge = d.recharge; irch = d.irch };
-    still = λ e. let d = h.still e in record { surf = d.surf; evtr = d.evtr; exdp = d.exdp; ievt = d.ievt };
-    air = λ e. absurd (no_option e);
-  }
+  given_put : (k : ListKind) (s : Stresses) (xs : List Given) → IsList (kind_of k) (entries_in k s) → IsList (kind_of k) (entries_in k (record s { given = xs }))
+  given_put Wells s xs h = h
+  given_put k s xs h = h
+
+  pub with_given_list : (xs : List Given) → Known p → IsList given_heads xs → Known (with_list given_heads p xs)
+  with_given_list xs h list = with_stresses (record p.stresses { given = xs }) h.times (λ k. given_put k p.stresses xs (h.entries k)) list h.arrays

@@ -3,11 +3,11 @@ use Rattle.model_forms.proofs.Common.{◌≡◌, ◌⊎◌, inl, inr, ℕ, ℤ, 
 use Rattle.model_forms.proofs.Common.{if◌then◌else◌, All-nil, All-weaker, Dec, FileSet, file_at, Refusal, Pairs, file_of, Wel, Riv, Drn, Ghb, Rch, Chd, Evt}
 use Rattle.model_forms.proofs.Common.{CellId, Grid, FlowModel, Period, cell_count, HasSize, IsTimed, IsNewPeriod, without_stresses, given_heads, is_growing}
 use Rattle.model_forms.proofs.Common.{Kind, with_list, wells, rivers, drains, generals, is_option, goes, ends, IsEntry, IsListOf, Limits, where_named, file_in}
-use Rattle.model_forms.proofs.Common.{list_in, rch_in, evt_in, with_entries, with_stresses}
+use Rattle.model_forms.proofs.Common.{list_in, rch_in, evt_in, with_stresses, entries_in, kind_of, ListKind, Wells, Rivers, Drains, Generals}
+use Rattle.model_reader.specs.Model.{with_entries}
 use Rattle.model_forms.proofs.ListForms.{package_is}
-use Rattle.model_forms.proofs.RchForms.{rch_is}
-use Rattle.model_forms.proofs.EvtForms.{evt_is}
-use Rattle.model_forms.proofs.PeriodForms.{IsKnown, IsStage, no_option, with_wells, with_rivers, with_drains, with_generals, with_given}
+use Rattle.model_forms.proofs.RchForms.{evt_is, rch_is}
+use Rattle.model_forms.proofs.PeriodForms.{IsKnown, IsStage, no_option, with_entry_list, with_given_list}
 
 -- RCH or EVT is there by an option, or it isn't there
 abbrev pub IsOption : ℤ → Type 0
@@ -21,18 +21,16 @@ either : (b : Bool) → (if b then true else true) ≡ true
 either true = refl
 either false = refl
 
+no_entries : (limits : Limits) (cells : ℕ) (p : Period) (k : ListKind) → IsListOf limits (kind_of k) cells (without_stresses p) (entries_in k (without_stresses p).stresses)
+no_entries limits cells p Wells = empty_list limits wells cells (without_stresses p) refl
+no_entries limits cells p k = empty_list limits (kind_of k) cells (without_stresses p) refl
+
 bare : (limits : Limits) (g : Grid) (ibound : List ℤ) (p : Period) → IsTimed (without_stresses p) → IsKnown limits g ibound (pos 0) (pos 0) (without_stresses p)
 bare limits g ibound p times = record {
   times = times;
-  wel = empty_list limits wells (cell_count g) (without_stresses p) refl;
-  riv = empty_list limits rivers (cell_count g) (without_stresses p) refl;
-  drn = empty_list limits drains (cell_count g) (without_stresses p) refl;
-  ghb = empty_list limits generals (cell_count g) (without_stresses p) refl;
-  chd = empty_list limits given_heads (cell_count g) (without_stresses p) (either (is_growing p));
-  dry = λ e. record { recharge = refl; irch = refl };
-  rain = λ e. absurd (no_option e);
-  still = λ e. record { surf = refl; evtr = refl; exdp = refl; ievt = refl };
-  air = λ e. absurd (no_option e);
+  entries = no_entries limits (cell_count g) p;
+  given = empty_list limits given_heads (cell_count g) (without_stresses p) (either (is_growing p));
+  arrays = record { dry = λ e. (refl, refl); rain = λ e. absurd (no_option e); still = λ e. (refl, refl, refl, refl); air = λ e. absurd (no_option e) };
 }
 
 new_known : (limits : Limits) (g : Grid) (ibound : List ℤ) (p : Period) → IsNewPeriod p → IsKnown limits g ibound (pos 0) (pos 0) p
@@ -74,10 +72,10 @@ module _ (limits : Limits) (core : FlowModel) (size : HasSize core.grid) (files 
       let a = goes (where_named (file_of Wel names) (list_in limits wells files) m) _ n h in
       let b = goes (where_named (file_of Riv names) (list_in limits rivers files) a.item) _ n a.then_ in
       let d = goes (where_named (file_of Drn names) (list_in limits drains files) b.item) _ n b.then_ in
-      let w = list_stage wells (λ c ds. refl) (pos 0) (with_wells limits core.grid core.ibound) (file_of Wel names) m a.item stage a.first in
-      let r = list_stage rivers (λ c ds. refl) (pos 0) (with_rivers limits core.grid core.ibound) (file_of Riv names) a.item b.item w b.first in
-      let s = list_stage drains (λ c ds. refl) (pos 0) (with_drains limits core.grid core.ibound) (file_of Drn names) b.item d.item r d.first in
-      list_stage generals (λ c ds. refl) (pos 0) (with_generals limits core.grid core.ibound) (file_of Ghb names) d.item n s d.then_
+      let w = list_stage wells (λ c ds. refl) (pos 0) (λ p. with_entry_list limits core.grid core.ibound (pos 0) (pos 0) p Wells) (file_of Wel names) m a.item stage a.first in
+      let r = list_stage rivers (λ c ds. refl) (pos 0) (λ p. with_entry_list limits core.grid core.ibound (pos 0) (pos 0) p Rivers) (file_of Riv names) a.item b.item w b.first in
+      let s = list_stage drains (λ c ds. refl) (pos 0) (λ p. with_entry_list limits core.grid core.ibound (pos 0) (pos 0) p Drains) (file_of Drn names) b.item d.item r d.first in
+      list_stage generals (λ c ds. refl) (pos 0) (λ p. with_entry_list limits core.grid core.ibound (pos 0) (pos 0) p Generals) (file_of Ghb names) d.item n s d.then_
 
   rain_stage : (named : Option (List ℕ)) (m n : FlowModel) → IsStage limits core (pos 0) (pos 0) m → where_named named (rch_in files) m ≡ Ok n → HasRain limits core n
   unfolding rch_in
@@ -107,5 +105,5 @@ module _ (limits : Limits) (core : FlowModel) (size : HasSize core.grid) (files 
       let given = goes (where_named (file_of Chd names) (list_in limits given_heads files) rain.item) _ n rain.then_ in
       let a = entries_stage names core entries.item stage entries.first in
       let b = rain_stage (file_of Rch names) entries.item rain.item a rain.first in
-      let d = list_stage given_heads (λ c ds. refl) b.nrchop (with_given limits core.grid core.ibound b.nrchop) (file_of Chd names) rain.item given.item b.stage given.first in
+      let d = list_stage given_heads (λ c ds. refl) b.nrchop (λ p. with_given_list limits core.grid core.ibound b.nrchop (pos 0) p) (file_of Chd names) rain.item given.item b.stage given.first in
       air_stage b.nrchop b.option (file_of Evt names) given.item n d given.then_

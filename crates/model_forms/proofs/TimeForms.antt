@@ -1,9 +1,8 @@
 -- What is read of the stress periods' lines.
 use Rattle.model_forms.proofs.Common.{◌≡◌, ℕ, zero, suc, ◌+◌, ◌≤◌, nat_le, ◌&&◌, List, [], ◌∷◌, length, sum_by, All, Ok, refl, arith, and_parts, leb-true}
 use Rattle.model_forms.proofs.Common.{All-nil, All-cons, sum_by-cons, Dec, IsDec, refusal, words, BadGrid, Refusal, line_at, Left, repeated, number_at, number}
-use Rattle.model_forms.proofs.Common.{Period, IsTime, IsNewPeriod, count_at, kind_of, known, is_time, time_of, period_of, periods_of, item_is, number_is, goes}
-use Rattle.model_forms.proofs.Common.{ends}
-use Rattle.dis_package.specs.Times.{period_at}
+use Rattle.model_forms.proofs.Common.{Period, IsTime, IsNewPeriod, count_at, known, is_time, time_of, period_of, periods_of, item_is, number_is, goes, ends}
+use Rattle.dis_package.specs.Times.{kind_of, period_at}
 use Rattle.dis_package.specs.declared.time.Time.{Time}
 use Rattle.dis_package.proofs.TimeLemmas.{new_of}
 use Rattle.model_forms.proofs.FrameForms.{count_is}
