@@ -62,11 +62,14 @@ fn package_of<E: ListEntry>(
     })
 }
 
-/// The model with the lists of a package's file in its periods, by these limits. `file` is the file's name, for refusals. A list that
-/// a period reuses is shared, so it is in memory once.
+/// The model with the lists of a package's file in its periods, by these limits. `file` is the file's name, for refusals.
+/// A list that a period reuses is shared, so it is in memory once; given heads start again at their heads at the start.
 ///
 /// # Errors
-/// The first item that is wrong is refused on its line.
+/// The first item that is wrong is refused on its line: TooManyEntries past the most entries of a list, NothingToReuse
+/// where the first list is to be reused, OutOfProfile for parameters, another file's entries, or a given head that changes
+/// in a steady period of growing steps; of an entry CellOutside, HeadTooLarge, or BadProperty, also where a list of given
+/// heads has named the cell before. (TM 6-A16, WEL, RIV, DRN, GHB, CHD)
 pub fn read_package<E: ListEntry>(
     alloc: Global,
     limits: Limits,

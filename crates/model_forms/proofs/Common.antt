@@ -46,7 +46,9 @@ pub use Rattle.list_package.proofs.ModelLemmas.{same_count, same_view, steps}
 pub use Rattle.list_package.specs.GivenHeads.{given_heads, is_growing}
 pub use Rattle.list_package.specs.Headers.{Count, again, count_of, entries, has_parameters, is_reused, item_line}
 unfoldable pub use Rattle.list_package.specs.Headers.{header_of}
-pub use Rattle.list_package.specs.Kinds.{Kind, entries_in, first_fault, kind_of, with_list}
+pub use Rattle.list_package.specs.Kinds.{Kind, entries_in, first_fault, kind_of, with_entries, with_list}
+pub use Rattle.list_package.specs.Lists.{list_of}
+unfoldable pub use Rattle.list_package.specs.Lists.{list_at, lists_of, package_of}
 pub use Rattle.list_package.specs.declared.entries.ListKind.{ListKind}
 pub use Rattle.list_package.specs.declared.entries.ListKind.TheVariants.{Drains, Generals, Rivers, Wells}
 pub use Rattle.lpf_package.specs.Flow.{SameBut, is_transient, with_contents, with_properties}
@@ -54,8 +56,8 @@ unfoldable pub use Rattle.lpf_package.specs.Flow.{contents_of, lpf_of}
 pub use Rattle.lpf_package.specs.Layers.{joined, nth_layer}
 unfoldable pub use Rattle.lpf_package.specs.Layers.{layer_at, layers_of, properties_of, storage_layer}
 pub use Rattle.lpf_package.specs.declared.layer.Properties.{Properties}
-pub use Rattle.model_reader.specs.Model.{list_in, names_in, needed, where_named}
-unfoldable pub use Rattle.model_reader.specs.Model.{bas_in, basics_tested, dis_in, evt_in, file_in, lpf_in, model_of, rch_in, reads, with_stresses}
+pub use Rattle.model_reader.specs.Model.{names_in, needed, stress_in, stresses, where_named}
+unfoldable pub use Rattle.model_reader.specs.Model.{bas_in, basics_tested, dis_in, file_in, lpf_in, model_of, reads, with_stresses}
 pub use Rattle.model_text.proofs.DeckNames.{all_plain, good_names}
 pub use Rattle.model_text.proofs.ModelTexts.{model_reads}
 pub use Rattle.model_text.specs.Entries.{IsEntry, IsListOf}
@@ -99,3 +101,5 @@ pub use Rattle.record_lines.specs.Layout.{Left, left_from, without_comments}
 pub use Rattle.record_lines.specs.Reading.{◌>>=◌}
 unfoldable pub use Rattle.record_lines.specs.Reading.{counted, for_each, repeated}
 pub use Rattle.stress_packages.specs.Packages.{drains, generals, rivers, wells}
+pub use Rattle.stress_packages.specs.Recharge.{recharge_arrays}
+unfoldable pub use Rattle.stress_packages.specs.Recharge.{rch_of}

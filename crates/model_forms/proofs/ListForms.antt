@@ -3,8 +3,8 @@ use Rattle.model_forms.proofs.Common.{◌≡◌, ℕ, ◌≤◌, nat_le, ℤ, po
 use Rattle.model_forms.proofs.Common.{refl, subst, ◌∙◌, if◌then◌else◌, leb-true, Dec, refusal, words, OutOfProfile, TooManyEntries, NothingToReuse, Refusal}
 use Rattle.model_forms.proofs.Common.{line_at, Left, left_from, without_comments, for_each, number_at, integer, CellId, Grid, FlowModel, Period, cell_count}
 use Rattle.model_forms.proofs.Common.{HasSize, Count, entries, again, count_of, is_reused, has_parameters, header_of, item_line, Kind, with_list, steps, goes}
-use Rattle.model_forms.proofs.Common.{ends, IsListOf, Limits, most_entries}
-use Rattle.list_package.specs.Lists.{list_of, list_at, period_at, periods_of, lists_of, package_of}
+use Rattle.model_forms.proofs.Common.{ends, IsListOf, Limits, most_entries, list_of, list_at, lists_of, package_of}
+use Rattle.list_package.specs.Lists.{period_at, periods_of}
 use Rattle.model_forms.proofs.EntryForms.{IsNewList, no_list, new_list_is}
 use Rattle.model_forms.proofs.Parts.{if_true, if_false}
 use Rattle.model_forms.proofs.PeriodForms.{IsKnown, IsStage, each_are}

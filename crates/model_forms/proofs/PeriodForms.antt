@@ -2,8 +2,7 @@
 use Rattle.model_forms.proofs.Common.{◌≡◌, ◌⊎◌, inl, inr, ℕ, ℤ, pos, true, false, List, [], ◌∷◌, map, All, Result, Ok, refl, ◌∙◌, All-nil, All-cons, All-head}
 use Rattle.model_forms.proofs.Common.{All-tail, Refusal, for_each, Grid, FlowModel, Period, cell_count, IsTimed, IsGrowing, number_one, given_heads, Kind}
 use Rattle.model_forms.proofs.Common.{subst, sym, with_list, steps, wells, rivers, drains, generals, is_option, IsReals, columns_tested, area_in, goes, ends}
-use Rattle.model_forms.proofs.Common.{IsListOf, IsLayers, Limits, entries_in, kind_of, ListKind, Wells, Rivers, Drains, Generals, Stresses}
-use Rattle.list_package.specs.Kinds.{with_entries}
+use Rattle.model_forms.proofs.Common.{IsListOf, IsLayers, Limits, entries_in, kind_of, ListKind, Wells, Rivers, Drains, Generals, Stresses, with_entries}
 use Rattle.model_types.specs.declared.entry.Entry.{Entry}
 use Rattle.model_types.specs.declared.entry.Given.{Given}
 

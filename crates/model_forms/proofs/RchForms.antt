@@ -1,7 +1,7 @@
 -- What a file of RCH or of EVT gives.
 use Rattle.model_forms.proofs.Common.{◌≡◌, ℕ, ℤ, pos, true, List, Ok, refl, subst, FileSet, Grid, FlowModel, Period, HasSize, is_option, with_area, Area}
-use Rattle.model_forms.proofs.Common.{Limits, evaporation_arrays, evt_of, IsListOf, cell_count, Stresses, entries_in, kind_of, ListKind, Wells}
-use Rattle.stress_packages.specs.Recharge.{recharge_arrays, rch_of}
+use Rattle.model_forms.proofs.Common.{Limits, evaporation_arrays, evt_of, IsListOf, cell_count, Stresses, entries_in, kind_of, ListKind, Wells, recharge_arrays}
+use Rattle.model_forms.proofs.Common.{rch_of}
 use Rattle.model_forms.proofs.ArrayFileForms.{HasOption, IsTested, package_is}
 use Rattle.model_forms.proofs.CheckForms.{columns_again}
 use Rattle.model_forms.proofs.PeriodForms.{IsKnown, IsStage, no_option, with_stresses}

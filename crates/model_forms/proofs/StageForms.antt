@@ -2,9 +2,9 @@
 use Rattle.model_forms.proofs.Common.{◌≡◌, ◌⊎◌, inl, inr, ℕ, ℤ, pos, Bool, true, false, List, [], All, Option, Some, None, Ok, refl, sym, subst, arith}
 use Rattle.model_forms.proofs.Common.{if◌then◌else◌, All-nil, All-weaker, Dec, FileSet, file_at, Refusal, Pairs, file_of, Wel, Riv, Drn, Ghb, Rch, Chd, Evt}
 use Rattle.model_forms.proofs.Common.{CellId, Grid, FlowModel, Period, cell_count, HasSize, IsTimed, IsNewPeriod, without_stresses, given_heads, is_growing}
-use Rattle.model_forms.proofs.Common.{Kind, with_list, wells, rivers, drains, generals, is_option, goes, ends, IsEntry, IsListOf, Limits, where_named, file_in}
-use Rattle.model_forms.proofs.Common.{list_in, rch_in, evt_in, with_stresses, entries_in, kind_of, ListKind, Wells, Rivers, Drains, Generals}
-use Rattle.model_reader.specs.Model.{with_entries}
+use Rattle.model_forms.proofs.Common.{Kind, with_list, wells, is_option, goes, ends, IsEntry, IsListOf, Limits, where_named, file_in}
+use Rattle.model_forms.proofs.Common.{stress_in, stresses, with_stresses, evt_of, entries_in, kind_of, ListKind, Wells, Rivers, Drains, Generals, package_of}
+use Rattle.model_forms.proofs.Common.{rch_of}
 use Rattle.model_forms.proofs.ListForms.{package_is}
 use Rattle.model_forms.proofs.RchForms.{evt_is, rch_is}
 use Rattle.model_forms.proofs.PeriodForms.{IsKnown, IsStage, no_option, with_entry_list, with_given_list}
@@ -56,29 +56,26 @@ record HasRain (limits : Limits) (core n : FlowModel) : Type 0 where
   pub option : IsOption nrchop
   pub stage : IsStage limits core nrchop (pos 0) n
 
+placed : (k : ListKind) (c : CellId) (ds : List Dec) → (kind_of k).place ((kind_of k).entry c ds) ≡ c.0
+placed Wells c ds = refl
+placed k c ds = refl
+
 module _ (limits : Limits) (core : FlowModel) (size : HasSize core.grid) (files : FileSet) where
   list_stage : {E : Type 0} (kind : Kind E) → ((c : CellId) (ds : List Dec) → kind.place (kind.entry c ds) ≡ c.0) → (nrchop : ℤ)
       → ((p : Period) (xs : List E) → IsKnown limits core.grid core.ibound nrchop (pos 0) p → IsListOf limits kind (cell_count core.grid) p xs → IsKnown limits core.grid core.ibound nrchop (pos 0) (with_list kind p xs))
-      → (named : Option (List ℕ)) (m n : FlowModel) → IsStage limits core nrchop (pos 0) m → where_named named (list_in limits kind files) m ≡ Ok n → IsStage limits core nrchop (pos 0) n
+      → (named : Option (List ℕ)) (m n : FlowModel) → IsStage limits core nrchop (pos 0) m → where_named named (file_in (package_of limits kind) files) m ≡ Ok n → IsStage limits core nrchop (pos 0) n
   unfolding file_in
   list_stage kind placed nrchop put None m n stage h = ends {E = Refusal} (λ (y : FlowModel). IsStage limits core nrchop (pos 0) y) m n h stage
   list_stage kind placed nrchop put (Some name) m n stage h =
       let bytes = goes (file_at files name) _ n h in
       package_is limits kind placed core size nrchop put name bytes.item m n stage bytes.then_
 
-  entries_stage : (names : Pairs) (m n : FlowModel) → IsStage limits core (pos 0) (pos 0) m → with_entries limits files names m ≡ Ok n → IsStage limits core (pos 0) (pos 0) n
-  unfolding with_entries
-  entries_stage names m n stage h =
-      let a = goes (where_named (file_of Wel names) (list_in limits wells files) m) _ n h in
-      let b = goes (where_named (file_of Riv names) (list_in limits rivers files) a.item) _ n a.then_ in
-      let d = goes (where_named (file_of Drn names) (list_in limits drains files) b.item) _ n b.then_ in
-      let w = list_stage wells (λ c ds. refl) (pos 0) (λ p. with_entry_list limits core.grid core.ibound (pos 0) (pos 0) p Wells) (file_of Wel names) m a.item stage a.first in
-      let r = list_stage rivers (λ c ds. refl) (pos 0) (λ p. with_entry_list limits core.grid core.ibound (pos 0) (pos 0) p Rivers) (file_of Riv names) a.item b.item w b.first in
-      let s = list_stage drains (λ c ds. refl) (pos 0) (λ p. with_entry_list limits core.grid core.ibound (pos 0) (pos 0) p Drains) (file_of Drn names) b.item d.item r d.first in
-      list_stage generals (λ c ds. refl) (pos 0) (λ p. with_entry_list limits core.grid core.ibound (pos 0) (pos 0) p Generals) (file_of Ghb names) d.item n s d.then_
+  entries_stage : (k : ListKind) (named : Option (List ℕ)) (m n : FlowModel) → IsStage limits core (pos 0) (pos 0) m → where_named named (file_in (package_of limits (kind_of k)) files) m ≡ Ok n
+      → IsStage limits core (pos 0) (pos 0) n
+  entries_stage k = list_stage (kind_of k) (placed k) (pos 0) (λ p. with_entry_list limits core.grid core.ibound (pos 0) (pos 0) p k)
 
-  rain_stage : (named : Option (List ℕ)) (m n : FlowModel) → IsStage limits core (pos 0) (pos 0) m → where_named named (rch_in files) m ≡ Ok n → HasRain limits core n
-  unfolding rch_in
+  rain_stage : (named : Option (List ℕ)) (m n : FlowModel) → IsStage limits core (pos 0) (pos 0) m → where_named named (file_in (rch_of files) files) m ≡ Ok n → HasRain limits core n
+  unfolding file_in
   rain_stage None m n stage h =
       let is : IsStage limits core (pos 0) (pos 0) n = ends {E = Refusal} (λ (y : FlowModel). IsStage limits core (pos 0) (pos 0) y) m n h stage in
       record { nrchop = pos 0; option = inl refl; stage = is }
@@ -87,8 +84,8 @@ module _ (limits : Limits) (core : FlowModel) (size : HasSize core.grid) (files 
       let is = rch_is limits files name bytes.item core size m n stage bytes.then_ in
       record { nrchop = is.option; option = inr is.active; stage = is.stage }
 
-  air_stage : (nrchop : ℤ) → IsOption nrchop → (named : Option (List ℕ)) (m n : FlowModel) → IsStage limits core nrchop (pos 0) m → where_named named (evt_in files) m ≡ Ok n → IsStressed limits core n
-  unfolding evt_in
+  air_stage : (nrchop : ℤ) → IsOption nrchop → (named : Option (List ℕ)) (m n : FlowModel) → IsStage limits core nrchop (pos 0) m → where_named named (file_in (evt_of files) files) m ≡ Ok n → IsStressed limits core n
+  unfolding file_in
   air_stage nrchop option None m n stage h =
       let is : IsStage limits core nrchop (pos 0) n = ends {E = Refusal} (λ (y : FlowModel). IsStage limits core nrchop (pos 0) y) m n h stage in
       record { nrchop = nrchop; nevtop = pos 0; options = (option, inl refl); stage = is }
@@ -97,13 +94,20 @@ module _ (limits : Limits) (core : FlowModel) (size : HasSize core.grid) (files 
       let is = evt_is limits files name bytes.item core size nrchop m n stage bytes.then_ in
       record { nrchop = nrchop; nevtop = is.option; options = (option, inr is.active); stage = is.stage }
 
-  pub stresses_are : (names : Pairs) (n : FlowModel) → IsStage limits core (pos 0) (pos 0) core → with_stresses limits files names core ≡ Ok n → IsStressed limits core n
+  pub stresses_are : (names : Pairs) (n : FlowModel) → IsStage limits core (pos 0) (pos 0) core → with_stresses limits files names stresses core ≡ Ok n → IsStressed limits core n
   unfolding with_stresses
   stresses_are names n stage h =
-      let entries = goes (with_entries limits files names core) _ n h in
-      let rain = goes (where_named (file_of Rch names) (rch_in files) entries.item) _ n entries.then_ in
-      let given = goes (where_named (file_of Chd names) (list_in limits given_heads files) rain.item) _ n rain.then_ in
-      let a = entries_stage names core entries.item stage entries.first in
-      let b = rain_stage (file_of Rch names) entries.item rain.item a rain.first in
-      let d = list_stage given_heads (λ c ds. refl) b.nrchop (λ p. with_given_list limits core.grid core.ibound b.nrchop (pos 0) p) (file_of Chd names) rain.item given.item b.stage given.first in
-      air_stage b.nrchop b.option (file_of Evt names) given.item n d given.then_
+      let wel = goes (stress_in limits files names Wel core) _ n h in
+      let riv = goes (stress_in limits files names Riv wel.item) _ n wel.then_ in
+      let drn = goes (stress_in limits files names Drn riv.item) _ n riv.then_ in
+      let ghb = goes (stress_in limits files names Ghb drn.item) _ n drn.then_ in
+      let rch = goes (stress_in limits files names Rch ghb.item) _ n ghb.then_ in
+      let chd = goes (stress_in limits files names Chd rch.item) _ n rch.then_ in
+      let evt = goes (stress_in limits files names Evt chd.item) _ n chd.then_ in
+      let w = entries_stage Wells (file_of Wel names) core wel.item stage wel.first in
+      let r = entries_stage Rivers (file_of Riv names) wel.item riv.item w riv.first in
+      let d = entries_stage Drains (file_of Drn names) riv.item drn.item r drn.first in
+      let g = entries_stage Generals (file_of Ghb names) drn.item ghb.item d ghb.first in
+      let rain = rain_stage (file_of Rch names) ghb.item rch.item g rch.first in
+      let given = list_stage given_heads (λ c ds. refl) rain.nrchop (λ p. with_given_list limits core.grid core.ibound rain.nrchop (pos 0) p) (file_of Chd names) rch.item chd.item rain.stage chd.first in
+      ends {E = Refusal} (IsStressed limits core) evt.item n evt.then_ (air_stage rain.nrchop rain.option (file_of Evt names) chd.item evt.item given evt.first)

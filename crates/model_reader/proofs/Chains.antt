@@ -1,11 +1,14 @@
 -- Readings one behind the other.
-use Rattle.model_reader.proofs.Common.{◌≡◌, ℕ, List, Option, Some, refl, sym, subst, Result, Ok, FileSet, file_at, TextFault, input_fault, ◌>>=◌, Has, Stops}
-use Rattle.model_reader.proofs.Common.{StopsText, FlowModel, file_in, where_named}
+use Rattle.model_reader.proofs.Common.{◌≡◌, ℕ, ◌+◌, ◌<◌, List, length, refl, sym, subst, Result, Ok, FileSet, TextFault, input_fault, ◌>>=◌, Has, Stops}
+use Rattle.model_reader.proofs.Common.{StopsText, FlowModel, stress_in, with_stresses, ◌∙◌, drop, drop-cons, get_or, add-one, ReadsOn, ◌≤◌}
 use Rattle.outside.specs.declared.refusals.Refusal.{Refusal}
 use Rattle.outside.specs.Counts.{InputCounts}
-use Rattle.outside.specs.Folders.{ReadsOn}
 use Rattle.outside.specs.declared.traits.Folder.{Ghosts as FolderOf}
 use Rattle.outside.specs.declared.refusals.InputFault.{InputFault}
+use Rattle.std.proofs.lemmas.List.{drop_all}
+use Rattle.model_types.specs.declared.limits.Limits.{Limits}
+use Rattle.name_file.specs.Pairs.{Pairs}
+use Rattle.name_file.specs.declared.package.Package.{Package}
 use Rattle.outside.specs.declared.refusals.InputFault.TheVariants as input
 use Rattle.outside.specs.declared.refusals.TextFault.TheVariants as texts
 
@@ -32,12 +35,23 @@ pub text_stops_here : {X Y : Type 0} (fault : TextFault) (r : Result X Refusal) 
 text_stops_here (texts.Refused refusal) r k h = rw h refl
 text_stops_here texts.Memory r k h = tt
 
--- the file that is named, and its reading
-pub named_read : (files : FileSet) (named : Option (List ℕ)) (reading : List ℕ → List ℕ → FlowModel → Result FlowModel Refusal) (file bytes : List ℕ) (m read n : FlowModel)
-    → named ≡ Some file
-    → file_at files file ≡ Ok bytes
-    → read ≡ m
-    → reading file bytes read ≡ Ok n
-    → where_named named (file_in reading files) m ≡ Ok n
-unfolding file_in
-named_read files named reading file bytes m read n a b same d = rw (a, b, ← same, d) refl
+-- nothing was read
+pub reads_nothing : {S T : Type 0} {F : FolderOf S} {s : S} {x : T} → ReadsOn F s s (Ok x)
+reads_nothing = record { since = λ files agree. agree; counts = refl; still = λ name h. h }
+
+-- the next package of stresses is read, or its reading stops
+module _ (limits : Limits) (files : FileSet) (names : Pairs) (ks : List Package) (i : ℕ) (d : Package) (inside : i < length ks) (m : FlowModel) where
+  next : with_stresses limits files names (drop i ks) m ≡ (stress_in limits files names (get_or ks i d) m >>= with_stresses limits files names (drop (i + 1) ks))
+  unfolding with_stresses
+  next = rw (drop-cons ks i d inside, add-one i) refl
+
+  pub stress_read : (n : FlowModel) (r : Result FlowModel Refusal) → stress_in limits files names (get_or ks i d) m ≡ Ok n → with_stresses limits files names (drop i ks) m ≡ r → with_stresses limits files names (drop (i + 1) ks) n ≡ r
+  stress_read n r h so_far = let one : with_stresses limits files names (drop i ks) m ≡ with_stresses limits files names (drop (i + 1) ks) n = next ∙ rw h refl in sym one ∙ so_far
+
+  pub stress_stops : (fault : InputFault) (r : Result FlowModel Refusal) → Stops fault (stress_in limits files names (get_or ks i d) m) → with_stresses limits files names (drop i ks) m ≡ r → Stops fault r
+  stress_stops fault r h so_far = subst (Stops fault) so_far (subst (Stops fault) (sym next) (stops_here fault (stress_in limits files names (get_or ks i d) m) (with_stresses limits files names (drop (i + 1) ks)) h))
+
+pub stresses_done : (limits : Limits) (files : FileSet) (names : Pairs) (ks : List Package) (i : ℕ) (m : FlowModel) (r : Result FlowModel Refusal) → length ks ≤ i
+    → with_stresses limits files names (drop i ks) m ≡ r → r ≡ Ok m
+unfolding with_stresses
+stresses_done limits files names ks i m r le so_far = let none : with_stresses limits files names (drop i ks) m ≡ Ok m = rw (drop_all i ks le) refl in sym so_far ∙ none

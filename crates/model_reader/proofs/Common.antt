@@ -1,6 +1,6 @@
 -- Names that several proofs of this crate cite, of the crates below and of its own definitions, passed on from one place. Declares nothing.
-pub use Rattle.std.proofs.Common.{All, Bool, Err, List, None, Ok, Option, Result, Some, [], ap, arith, cond, false, inl, inr, length, nat_le, nat_lt, not, pos}
-pub use Rattle.std.proofs.Common.{refl, subst, sym, true, ℕ, ℤ, ◌&&◌, ◌+◌, ◌<◌, ◌==◌, ◌||◌, ◌∷◌, ◌≡◌, ◌≤ℤ◌, ◌⊎◌}
+pub use Rattle.std.proofs.Common.{All, Bool, Err, List, None, Ok, Result, Some, [], add-one, ap, arith, cond, drop, drop-cons, false, get_or, inl, inr, length}
+pub use Rattle.std.proofs.Common.{nat_le, nat_lt, not, pos, refl, subst, sym, true, ℕ, ℤ, ◌&&◌, ◌+◌, ◌<◌, ◌==◌, ◌||◌, ◌∙◌, ◌∷◌, ◌≡◌, ◌≤ℤ◌, ◌≤◌, ◌⊎◌}
 pub use Rattle.std.proofs.lemmas.Bool.{and_parts, lt-leb, lt-ltb, not-true, or_parts}
 pub use Rattle.std.proofs.lemmas.Result.{err_from_is_err_and}
 pub use Rattle.cell_checks.proofs.PassedCells.{each_passed}
@@ -11,14 +11,15 @@ pub use Rattle.decimal_input.specs.declared.dec.Dec.{Dec}
 pub use Rattle.dis_package.specs.Forms.{IsBegun, IsNewPeriod, without_stresses}
 pub use Rattle.lpf_package.specs.Flow.{SameBut, is_transient, lpf_of, with_properties}
 pub use Rattle.model_reader.specs.Forms.{IsBasic}
-pub use Rattle.model_reader.specs.Model.{basics_tested, lists_of, where_named}
-unfoldable pub use Rattle.model_reader.specs.Model.{bas_in, file_in, lpf_in, model_of, with_entries, with_stresses}
+pub use Rattle.model_reader.specs.Model.{basics_tested, stress_in, stresses}
+unfoldable pub use Rattle.model_reader.specs.Model.{bas_in, lpf_in, model_of, with_stresses}
 pub use Rattle.model_types.specs.Cells.{cell_count, layer_size}
 pub use Rattle.model_types.specs.Grids.{IsGrid}
 pub use Rattle.model_types.specs.Valid.{IsBedChecked, IsBedValid, IsCellValid, IsEvapValid, IsModel, IsPeriod, IsTimed}
 pub use Rattle.model_types.specs.declared.model.FlowModel.{FlowModel}
 pub use Rattle.name_file.proofs.Forward.{file_named, names_still}
 pub use Rattle.outside.specs.Files.{FileSet}
+pub use Rattle.outside.specs.Folders.{ReadsOn}
 pub use Rattle.outside.specs.Inputs.{file_at}
 pub use Rattle.outside.specs.Refusals.{input_fault}
 pub use Rattle.outside.specs.declared.refusals.TextFault.{TextFault}

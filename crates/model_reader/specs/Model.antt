@@ -1,5 +1,5 @@
 -- A model from its files, in reading order: each file is read when its turn comes.
-use Rattle.std.specs.Prelude.{ℕ, List, Result, Ok, [], unwrap_or, Option, Some, None}
+use Rattle.std.specs.Prelude.{ℕ, List, Result, Ok, [], ◌∷◌, unwrap_or, Option, Some, None}
 use Rattle.outside.specs.Files.{FileSet}
 use Rattle.outside.specs.Inputs.{file_at}
 use Rattle.outside.specs.declared.refusals.Refusal.{Refusal}
@@ -16,7 +16,6 @@ use Rattle.cell_checks.specs.declared.passing.Check.TheVariants.{Thickness, Star
 use Rattle.name_file.specs.Reading.{names_of}
 use Rattle.name_file.specs.declared.package.Package.{Package}
 use Rattle.list_package.specs.GivenHeads.{given_heads}
-use Rattle.list_package.specs.Kinds.{Kind}
 use Rattle.list_package.specs.Lists.{package_of}
 use Rattle.stress_packages.specs.Packages.{wells, rivers, drains, generals}
 use Rattle.stress_packages.specs.Recharge.{rch_of}
@@ -33,7 +32,6 @@ names_in files name = do
 abbrev pub needed : Package → Pairs → List ℕ
 needed asked names = unwrap_or (file_of asked names) []
 
--- The stresses of a model, in reading order: each file is read when its turn comes, where the name file names it.
 -- the model with a package, if the name file names one
 abbrev pub where_named : Option (List ℕ) → (List ℕ → FlowModel → Result FlowModel Refusal) → FlowModel → Result FlowModel Refusal
 where_named None read m = Ok m
@@ -45,43 +43,27 @@ file_in read files name m = do
   bytes ← file_at files name
   read name bytes m
 
-abbrev pub list_in : {E : Type 0} → Limits → Kind E → FileSet → List ℕ → FlowModel → Result FlowModel Refusal
-list_in limits kind = file_in (package_of limits kind)
+-- the reading of a package of stresses
+abbrev pub stress_of : Limits → FileSet → Package → List ℕ → List ℕ → FlowModel → Result FlowModel Refusal
+stress_of limits files Wel = package_of limits wells
+stress_of limits files Riv = package_of limits rivers
+stress_of limits files Drn = package_of limits drains
+stress_of limits files Ghb = package_of limits generals
+stress_of limits files Rch = rch_of files
+stress_of limits files Chd = package_of limits given_heads
+stress_of limits files Evt = evt_of files
+stress_of limits files other = λ file bytes m. Ok m
 
-unfoldable pub rch_in : FileSet → List ℕ → FlowModel → Result FlowModel Refusal
-rch_in files rch m = do
-  bytes ← file_at files rch
-  rch_of files rch bytes m
+abbrev pub stress_in : Limits → FileSet → Pairs → Package → FlowModel → Result FlowModel Refusal
+stress_in limits files names k = where_named (file_of k names) (file_in (stress_of limits files k) files)
 
-unfoldable pub evt_in : FileSet → List ℕ → FlowModel → Result FlowModel Refusal
-evt_in files evt m = do
-  bytes ← file_at files evt
-  evt_of files evt bytes m
+-- The stresses of a model, in reading order: each file is read when its turn comes, where the name file names it.
+abbrev pub stresses : List Package
+stresses = Wel ∷ Riv ∷ Drn ∷ Ghb ∷ Rch ∷ Chd ∷ Evt ∷ []
 
--- the reading of a package of lists
-abbrev pub lists_of : Limits → Package → List ℕ → List ℕ → FlowModel → Result FlowModel Refusal
-lists_of limits Wel file bytes m = package_of limits wells file bytes m
-lists_of limits Riv file bytes m = package_of limits rivers file bytes m
-lists_of limits Drn file bytes m = package_of limits drains file bytes m
-lists_of limits Ghb file bytes m = package_of limits generals file bytes m
-lists_of limits Chd file bytes m = package_of limits given_heads file bytes m
-lists_of limits other file bytes m = Ok m
-
--- WEL, RIV, DRN, GHB
-unfoldable pub with_entries : Limits → FileSet → Pairs → FlowModel → Result FlowModel Refusal
-with_entries limits files names flow = do
-  with_wells ← where_named (file_of Wel names) (list_in limits wells files) flow
-  with_rivers ← where_named (file_of Riv names) (list_in limits rivers files) with_wells
-  with_drains ← where_named (file_of Drn names) (list_in limits drains files) with_rivers
-  where_named (file_of Ghb names) (list_in limits generals files) with_drains
-
--- then RCH, CHD, EVT
-unfoldable pub with_stresses : Limits → FileSet → Pairs → FlowModel → Result FlowModel Refusal
-with_stresses limits files names flow = do
-  with_generals ← with_entries limits files names flow
-  with_recharge ← where_named (file_of Rch names) (rch_in files) with_generals
-  with_given ← where_named (file_of Chd names) (list_in limits given_heads files) with_recharge
-  where_named (file_of Evt names) (evt_in files) with_given
+unfoldable pub with_stresses : Limits → FileSet → Pairs → List Package → FlowModel → Result FlowModel Refusal
+with_stresses limits files names [] m = Ok m
+with_stresses limits files names (k ∷ ks) m = stress_in limits files names k m >>= with_stresses limits files names ks
 
 unfoldable pub dis_in : Limits → FileSet → List ℕ → Result FlowModel Refusal
 dis_in limits files dis = do
@@ -114,7 +96,7 @@ model_of limits files names = do
   begun ← dis_in limits files (needed Dis names)
   basic ← bas_in files (needed Dis names) (needed Bas names) begun
   flow ← lpf_in files (needed Lpf names) basic
-  with_stresses limits files names flow
+  with_stresses limits files names stresses flow
 
 -- the model that a name file describes, or the first refusal
 unfoldable pub reads : Limits → FileSet → List ℕ → Result FlowModel Refusal

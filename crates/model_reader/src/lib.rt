@@ -1,9 +1,7 @@
 //! A model from its files, in reading order.
 #![tactic(auto)]
 
-mod arrays;
 mod basics;
-mod lists;
 mod model;
 mod stresses;
 

@@ -55,9 +55,8 @@ pub use Rattle.lpf_package.specs.Flow.{is_transient, with_properties}
 unfoldable pub use Rattle.lpf_package.specs.Flow.{contents_of, lpf_of}
 pub use Rattle.lpf_package.specs.Layers.{nth_layer}
 unfoldable pub use Rattle.lpf_package.specs.Layers.{layer_at, layers_of, properties_of, storage_layer}
-pub use Rattle.model_reader.specs.Model.{list_in, needed, where_named}
-unfoldable pub use Rattle.model_reader.specs.Model.{bas_in, basics_tested, dis_in, evt_in, lpf_in, model_of, names_in, rch_in, reads, with_entries}
-unfoldable pub use Rattle.model_reader.specs.Model.{with_stresses}
+pub use Rattle.model_reader.specs.Model.{needed, stress_in, stresses, where_named}
+unfoldable pub use Rattle.model_reader.specs.Model.{bas_in, basics_tested, dis_in, lpf_in, model_of, names_in, reads, with_stresses}
 unfoldable pub use Rattle.model_text.specs.Areas.{evt_item_2, evt_items, evt_lines, rch_item_2, rch_items, rch_lines}
 pub use Rattle.model_text.specs.Discretization.{each_layer, layer_values, steady_word, storage_option}
 unfoldable pub use Rattle.model_text.specs.Discretization.{bas_item_1, bas_item_2, bas_item_3, bas_item_4, bas_lines, dis_item_1, dis_item_2, dis_item_3}

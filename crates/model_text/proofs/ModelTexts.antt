@@ -1,10 +1,9 @@
 -- A model is read as written.
 use Rattle.model_text.proofs.Common.{with_limit, ◌≡◌, ℕ, ◌≤◌, pos, Bool, true, false, if◌then◌else◌, List, [], ◌∷◌, length, map, All, Some, None, Ok, refl, ap}
 use Rattle.model_text.proofs.Common.{list_any, FileSet, file_at, Pairs, is_same_package, file_of, Package, Dis, Bas, Lpf, Wel, Riv, Drn, Ghb, Rch, Chd, Evt}
-use Rattle.model_text.proofs.Common.{FlowModel, Period, HasSize, where_named, list_in, rch_in, evt_in, with_entries, with_stresses, text, numbers_of, heads_of}
-use Rattle.model_text.proofs.Common.{packages, AreNames, has, lines_of, written, IsWritable, IsDry, IsStill, Limits, cell_of, begun, without_stresses}
-use Rattle.model_text.proofs.Common.{with_basics, wells, rivers, drains, generals, given_heads, names_in, needed, dis_in, basics_tested, bas_in, lpf_in}
-use Rattle.model_text.proofs.Common.{model_of, reads}
+use Rattle.model_text.proofs.Common.{FlowModel, Period, HasSize, stress_in, stresses, with_stresses, text, numbers_of, heads_of, packages, AreNames, has}
+use Rattle.model_text.proofs.Common.{lines_of, written, IsWritable, IsDry, IsStill, Limits, cell_of, begun, without_stresses, with_basics, wells, rivers}
+use Rattle.model_text.proofs.Common.{drains, generals, given_heads, names_in, needed, dis_in, basics_tested, bas_in, lpf_in, model_of, reads}
 use Rattle.model_text.proofs.DisTexts.{dis_reads}
 use Rattle.cell_checks.specs.Checks.{checked, fault_at}
 use Rattle.cell_checks.specs.declared.passing.Check.TheVariants.{Thickness, StartHead, Properties}
@@ -97,35 +96,31 @@ module _ (limits : Limits) (m : FlowModel) (w : IsWritable limits m) (names : Pa
       let read = lpf_reads files (names Lpf) m w.discretization w.flow (basic_part m) refl (bare_twice m.periods) in
       rw (there Lpf refl, read, properties_kept m (names Lpf), w.passed Properties (names Lpf)) refl
 
-  wells_there : where_named (file_of Wel pairs) (list_in limits wells files) (staged m (pos 0) (pos 0) without_stresses) ≡ Ok (staged m (pos 0) (pos 0) with_wells)
+  wells_there : stress_in limits files pairs Wel (staged m (pos 0) (pos 0) without_stresses) ≡ Ok (staged m (pos 0) (pos 0) with_wells)
   wells_there = list_stage limits wells cell_of numbers_of list_packages.wel m size w.wel files (names Wel) (pos 0) (pos 0) without_stresses (λ p xs. refl) (λ p. refl) (file_of Wel pairs) (named Wel) (there Wel)
 
-  rivers_there : where_named (file_of Riv pairs) (list_in limits rivers files) (staged m (pos 0) (pos 0) with_wells) ≡ Ok (staged m (pos 0) (pos 0) with_rivers)
+  rivers_there : stress_in limits files pairs Riv (staged m (pos 0) (pos 0) with_wells) ≡ Ok (staged m (pos 0) (pos 0) with_rivers)
   rivers_there = list_stage limits rivers cell_of numbers_of list_packages.riv m size w.riv files (names Riv) (pos 0) (pos 0) with_wells (λ p xs. refl) (λ p. refl) (file_of Riv pairs) (named Riv) (there Riv)
 
-  drains_there : where_named (file_of Drn pairs) (list_in limits drains files) (staged m (pos 0) (pos 0) with_rivers) ≡ Ok (staged m (pos 0) (pos 0) with_drains)
+  drains_there : stress_in limits files pairs Drn (staged m (pos 0) (pos 0) with_rivers) ≡ Ok (staged m (pos 0) (pos 0) with_drains)
   drains_there = list_stage limits drains cell_of numbers_of list_packages.drn m size w.drn files (names Drn) (pos 0) (pos 0) with_rivers (λ p xs. refl) (λ p. refl) (file_of Drn pairs) (named Drn) (there Drn)
 
-  generals_there : where_named (file_of Ghb pairs) (list_in limits generals files) (staged m (pos 0) (pos 0) with_drains) ≡ Ok (staged m (pos 0) (pos 0) with_generals)
+  generals_there : stress_in limits files pairs Ghb (staged m (pos 0) (pos 0) with_drains) ≡ Ok (staged m (pos 0) (pos 0) with_generals)
   generals_there = list_stage limits generals cell_of numbers_of list_packages.ghb m size w.ghb files (names Ghb) (pos 0) (pos 0) with_drains (λ p xs. refl) (λ p. refl) (file_of Ghb pairs) (named Ghb) (there Ghb)
 
-  rain_there : where_named (file_of Rch pairs) (rch_in files) (staged m (pos 0) (pos 0) with_generals) ≡ Ok (staged m m.nrchop (pos 0) with_rain)
+  rain_there : stress_in limits files pairs Rch (staged m (pos 0) (pos 0) with_generals) ≡ Ok (staged m m.nrchop (pos 0) with_rain)
   rain_there = recharge_stage m size files (names Rch) with_generals (file_of Rch pairs) w.rch dry (named Rch) (there Rch)
 
-  given_there : where_named (file_of Chd pairs) (list_in limits given_heads files) (staged m m.nrchop (pos 0) with_rain) ≡ Ok (staged m m.nrchop (pos 0) with_given)
+  given_there : stress_in limits files pairs Chd (staged m m.nrchop (pos 0) with_rain) ≡ Ok (staged m m.nrchop (pos 0) with_given)
   given_there =
       list_stage limits given_heads (λ x. x.cell.0) heads_of list_packages.chd m size w.chd files (names Chd) m.nrchop (pos 0) with_rain (λ p xs. refl) (λ p. refl) (file_of Chd pairs) (named Chd) (there Chd)
 
-  all_there : where_named (file_of Evt pairs) (evt_in files) (staged m m.nrchop (pos 0) with_given) ≡ Ok (staged m m.nrchop m.nevtop with_all)
+  all_there : stress_in limits files pairs Evt (staged m m.nrchop (pos 0) with_given) ≡ Ok (staged m m.nrchop m.nevtop with_all)
   all_there = evaporation_stage m size files (names Evt) with_given (file_of Evt pairs) w.evt still (named Evt) (there Evt)
 
-  entries_there : with_entries limits files pairs (staged m (pos 0) (pos 0) without_stresses) ≡ Ok (staged m (pos 0) (pos 0) with_generals)
-  unfolding with_entries
-  entries_there = rw (wells_there, rivers_there, drains_there) generals_there
-
-  stresses_there : with_stresses limits files pairs (staged m (pos 0) (pos 0) without_stresses) ≡ Ok m
+  stresses_there : with_stresses limits files pairs stresses (staged m (pos 0) (pos 0) without_stresses) ≡ Ok m
   unfolding with_stresses
-  stresses_there = rw (entries_there, rain_there, given_there, all_there, all_back m.periods) refl
+  stresses_there = rw (wells_there, rivers_there, drains_there, generals_there, rain_there, given_there, all_there, all_back m.periods) refl
 
   model_there : model_of limits files pairs ≡ Ok m
   unfolding model_of

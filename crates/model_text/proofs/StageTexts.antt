@@ -1,10 +1,10 @@
 -- A model's packages of stresses are read one after the other, each where the model has it.
 use Rattle.model_text.proofs.Common.{◌≡◌, ◌⊎◌, inl, inr, ℕ, zero, suc, ℤ, pos, negsuc, Bool, true, false, not, nat_lt, if◌then◌else◌, List, [], ◌∷◌, length}
 use Rattle.model_text.proofs.Common.{map, All, Option, Some, None, Ok, refl, ap, ◌∙◌, arith, AllZip, or_parts, nat_tests, length-map, nil_from_length, All-head}
-use Rattle.model_text.proofs.Common.{All-tail, FileSet, file_at, FlowModel, Period, HasSize, where_named, list_in, rch_in, evt_in, text, list_lines, is_listed}
-use Rattle.model_text.proofs.Common.{HasLists, IsDry, IsStill, HasNoRecharge, HasNoEvaporation, Limits, Dec, cell_count, is_int, Kind, is_option, ArrayKind}
-use Rattle.model_text.proofs.Common.{with_area, recharge_arrays, evaporation_arrays, IsListOf, with_lists, ListsReadAsWritten, rch_lines, evt_lines}
-use Rattle.model_text.proofs.Common.{IsRecharged, IsEvaporating, with_areas}
+use Rattle.model_text.proofs.Common.{All-tail, FileSet, file_at, FlowModel, Period, HasSize, where_named, text, list_lines, is_listed, HasLists, IsDry, IsStill}
+use Rattle.model_text.proofs.Common.{HasNoRecharge, HasNoEvaporation, Limits, Dec, cell_count, is_int, Kind, is_option, ArrayKind, with_area, recharge_arrays}
+use Rattle.model_text.proofs.Common.{evaporation_arrays, IsListOf, with_lists, ListsReadAsWritten, rch_lines, evt_lines, IsRecharged, IsEvaporating, with_areas}
+use Rattle.model_text.proofs.Common.{evt_of, rch_of}
 use Rattle.list_package.specs.Kinds.{with_list as put}
 use Rattle.list_package.specs.Lists.{package_of}
 use Rattle.model_reader.specs.Model.{file_in}
@@ -53,7 +53,7 @@ module _ {E : Type 0} (limits : Limits) (kind : Kind E) (cell : E → ℕ) (numb
     (m : FlowModel) (size : HasSize m.grid) (lists : HasLists limits kind m) (files : FileSet) (name : List ℕ) (nrchop nevtop : ℤ) (stage : Period → Period)
     (suits : (p : Period) (xs : List E) → kind.suits (stage p) xs ≡ kind.suits p xs) (empty : (p : Period) → put kind (stage p) [] ≡ stage p) where
   list_there : file_at files name ≡ Ok (text (list_lines m.grid cell numbers (map (λ p. kind.list p.stresses) m.periods)))
-      → list_in limits kind files name (staged m nrchop nevtop stage) ≡ Ok (staged m nrchop nevtop (with_list kind stage))
+      → file_in (package_of limits kind) files name (staged m nrchop nevtop stage) ≡ Ok (staged m nrchop nevtop (with_list kind stage))
   unfolding file_in package_of
   list_there there =
       let good = all_lists kind stage limits (cell_count m.grid) suits m.periods lists in
@@ -61,10 +61,10 @@ module _ {E : Type 0} (limits : Limits) (kind : Kind E) (cell : E → ℕ) (numb
 
   pub list_stage : (named : Option (List ℕ)) → named ≡ (if is_listed (λ p. kind.list p.stresses) m.periods then Some name else None)
       → (is_listed (λ p. kind.list p.stresses) m.periods ≡ true → file_at files name ≡ Ok (text (list_lines m.grid cell numbers (map (λ p. kind.list p.stresses) m.periods))))
-      → where_named named (list_in limits kind files) (staged m nrchop nevtop stage) ≡ Ok (staged m nrchop nevtop (with_list kind stage))
+      → where_named named (file_in (package_of limits kind) files) (staged m nrchop nevtop stage) ≡ Ok (staged m nrchop nevtop (with_list kind stage))
   list_stage named asked there = by_case (is_listed (λ p. kind.list p.stresses) m.periods) refl
     where
-      by_case : (b : Bool) → is_listed (λ p. kind.list p.stresses) m.periods ≡ b → where_named named (list_in limits kind files) (staged m nrchop nevtop stage) ≡ Ok (staged m nrchop nevtop (with_list kind stage))
+      by_case : (b : Bool) → is_listed (λ p. kind.list p.stresses) m.periods ≡ b → where_named named (file_in (package_of limits kind) files) (staged m nrchop nevtop stage) ≡ Ok (staged m nrchop nevtop (with_list kind stage))
       by_case true e = let is : named ≡ Some name = rw e at asked in rw is (list_there (there e))
       by_case false e = let is : named ≡ None = rw e at asked in rw (is, none_put kind stage empty m.periods e) refl
 
@@ -86,13 +86,13 @@ abbrev pub with_recharge : (Period → Period) → Period → Period
 with_recharge stage = with_arrays recharge_arrays stage
 
 module _ (m : FlowModel) (size : HasSize m.grid) (files : FileSet) (name : List ℕ) (stage : Period → Period) where
-  recharge_there : IsRecharged m → file_at files name ≡ Ok (text (rch_lines m)) → rch_in files name (staged m (pos 0) (pos 0) stage) ≡ Ok (staged m m.nrchop (pos 0) (with_recharge stage))
-  unfolding rch_in
+  recharge_there : IsRecharged m → file_at files name ≡ Ok (text (rch_lines m)) → file_in (rch_of files) files name (staged m (pos 0) (pos 0) stage) ≡ Ok (staged m m.nrchop (pos 0) (with_recharge stage))
+  unfolding file_in
   recharge_there w there = rw (there, rch_reads files name m size w (staged m (pos 0) (pos 0) stage) refl (length-map m.periods stage), arrays_put recharge_arrays stage m.periods) refl
 
   pub recharge_stage : (named : Option (List ℕ)) → IsRecharged m ⊎ HasNoRecharge m → ((p : Period) → IsDry p → with_recharge stage p ≡ stage p)
       → named ≡ (if not (is_int m.nrchop 0) then Some name else None) → (not (is_int m.nrchop 0) ≡ true → file_at files name ≡ Ok (text (rch_lines m)))
-      → where_named named (rch_in files) (staged m (pos 0) (pos 0) stage) ≡ Ok (staged m m.nrchop (pos 0) (with_recharge stage))
+      → where_named named (file_in (rch_of files) files) (staged m (pos 0) (pos 0) stage) ≡ Ok (staged m m.nrchop (pos 0) (with_recharge stage))
   recharge_stage named (inl w) dry asked there =
       let is_in : is_int m.nrchop 0 ≡ false = option_is_some m.nrchop w.option in
       let is : named ≡ Some name = rw is_in at asked in
@@ -107,13 +107,13 @@ abbrev pub with_evaporation : (Period → Period) → Period → Period
 with_evaporation stage = with_arrays evaporation_arrays stage
 
 module _ (m : FlowModel) (size : HasSize m.grid) (files : FileSet) (name : List ℕ) (stage : Period → Period) where
-  evaporation_there : IsEvaporating m → file_at files name ≡ Ok (text (evt_lines m)) → evt_in files name (staged m m.nrchop (pos 0) stage) ≡ Ok (staged m m.nrchop m.nevtop (with_evaporation stage))
-  unfolding evt_in
+  evaporation_there : IsEvaporating m → file_at files name ≡ Ok (text (evt_lines m)) → file_in (evt_of files) files name (staged m m.nrchop (pos 0) stage) ≡ Ok (staged m m.nrchop m.nevtop (with_evaporation stage))
+  unfolding file_in
   evaporation_there w there = rw (there, evt_reads files name m size w (staged m m.nrchop (pos 0) stage) refl refl (length-map m.periods stage), arrays_put evaporation_arrays stage m.periods) refl
 
   pub evaporation_stage : (named : Option (List ℕ)) → IsEvaporating m ⊎ HasNoEvaporation m → ((p : Period) → IsStill p → with_evaporation stage p ≡ stage p)
       → named ≡ (if not (is_int m.nevtop 0) then Some name else None) → (not (is_int m.nevtop 0) ≡ true → file_at files name ≡ Ok (text (evt_lines m)))
-      → where_named named (evt_in files) (staged m m.nrchop (pos 0) stage) ≡ Ok (staged m m.nrchop m.nevtop (with_evaporation stage))
+      → where_named named (file_in (evt_of files) files) (staged m m.nrchop (pos 0) stage) ≡ Ok (staged m m.nrchop m.nevtop (with_evaporation stage))
   evaporation_stage named (inl w) still asked there =
       let is_in : is_int m.nevtop 0 ≡ false = option_is_some m.nevtop w.option in
       let is : named ≡ Some name = rw is_in at asked in

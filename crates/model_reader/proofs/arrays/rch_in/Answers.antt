@@ -1,8 +1,0 @@
-use Rattle.name_file.proofs.Forward.{file_named}
-use Rattle.model_reader.proofs.arrays.rch_in.Goals as goal
-
-pub opened-requires-clause-may : goal.opened-requires-clause-may
-opened-requires-clause-may g c = file_named _ _ _ _ c.requires.names c.in-Some.ensures.pair
-
-pub read_rch-requires-clause-text : goal.read_rch-requires-clause-text
-read_rch-requires-clause-text g c = rw c.deref.ensures.value c.in_ok-bytes-in-Some.ensures.words
