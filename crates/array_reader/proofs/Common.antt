@@ -4,28 +4,25 @@ pub use Rattle.std.proofs.Common.{nat_lt, neg_ℤ, negsuc, pos, pow-suc, refl, s
 pub use Rattle.std.proofs.Common.{◌↔◌, ◌∙◌, ◌≡◌, ◌≤ℤ◌, ◌≤◌}
 pub use Rattle.std.proofs.lemmas.Result.{err_from_is_err_and}
 pub use Rattle.std.specs.Prelude.{IfOk, IfSome}
-pub use Rattle.array_reader.specs.Arrays.{layer_array}
-unfoldable pub use Rattle.array_reader.specs.Arrays.{layers}
-pub use Rattle.array_reader.specs.Items.{at_line, number_at}
-pub use Rattle.array_reader.specs.Kinds.{with_multiplier}
-pub use Rattle.array_reader.specs.Lists.{in_file}
-unfoldable pub use Rattle.array_reader.specs.Lists.{free_list, free_rows, value_alone, value_at}
-pub use Rattle.array_reader.specs.Numbers.{is_exponent, or_bad, spelt_number, tested}
+pub use Rattle.array_reader.specs.Arrays.{in_file, layer_array}
+unfoldable pub use Rattle.array_reader.specs.Arrays.{free_list, free_rows, layers, value_alone, value_at, zero_at, zero_list, zero_step}
+pub use Rattle.array_reader.specs.Control.{Control, ControlMay, at_line, format_at, keyword, number_at, of_keyword}
+unfoldable pub use Rattle.array_reader.specs.Control.{constant_at, control_at, internal_at, named_at}
+pub use Rattle.array_reader.specs.Numbers.{is_exponent, or_bad, spelt_number, tested, with_multiplier}
 unfoldable pub use Rattle.array_reader.specs.Numbers.{canonical, integer, number, product, significant, zeros}
-unfoldable pub use Rattle.array_reader.specs.PackageItems.{zero_at, zero_list, zero_step}
 pub use Rattle.decimal_input.specs.declared.dec.NumFault.{NumFault}
-pub use Rattle.outside.specs.Names.{IsGoodName, folder_name, is_good_name}
-pub use Rattle.outside.specs.Refusals.{IsRefusal, refusal}
+pub use Rattle.outside.specs.Codes.{IsRefusal, refusal}
+pub use Rattle.outside.specs.Names.{IsGoodName, WordsMay, folder_name, is_good_name, words}
 pub use Rattle.outside.specs.declared.codes.Code.TheVariants.{BadName, OutOfProfile}
-pub use Rattle.outside.specs.declared.refusals.TextFault.{TextFault}
-pub use Rattle.outside.specs.declared.refusals.TextFault.TheVariants.{Memory, Refused}
+pub use Rattle.outside.specs.declared.inputs.TextFault.{TextFault}
+pub use Rattle.outside.specs.declared.inputs.TextFault.TheVariants.{Memory, Refused}
 pub use Rattle.record_lines.proofs.Forward.{after, appended_held, chain, counted_held, either, given, leaves, line_words, name_held, repeated_held, value_held}
 pub use Rattle.record_lines.proofs.Forward.{word_held}
-pub use Rattle.record_lines.proofs.Loops.{ends_text, goes_on, is_done, list_ends, list_goes_on, list_stops, lists_done, with_front}
-pub use Rattle.record_lines.specs.Asking.{LineMay, LinesMay}
+pub use Rattle.record_lines.proofs.Loops.{ends_text, goes_on, is_done, list_ends, list_goes_on, list_stops, lists_done, step_goes_on, steps_done, steps_end}
+pub use Rattle.record_lines.proofs.Loops.{with_front}
 pub use Rattle.record_lines.specs.Items.{is_word, line_at, word_at}
 unfoldable pub use Rattle.record_lines.specs.Items.{name_at}
-pub use Rattle.record_lines.specs.Layout.{Left, Numbered}
+pub use Rattle.record_lines.specs.Layout.{Left, LineMay, LinesMay, Numbered}
 pub use Rattle.record_lines.specs.Reading.{StopsText, appended, counted, repeated, ◌>>=◌}
 pub use Rattle.record_lines.specs.Spread.{Taking, beginning, source, taken}
 unfoldable pub use Rattle.record_lines.specs.Spread.{next_value}

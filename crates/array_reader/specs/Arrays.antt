@@ -1,16 +1,54 @@
 -- Arrays with their control records, and plain lists.
-use Rattle.std.specs.Prelude.{ℕ, ℤ, ◌*◌, List, Result, Ok, replicate}
+use Rattle.std.specs.Prelude.{ℕ, ℤ, ◌*◌, List, Result, Ok, replicate, Err, Bool, if◌then◌else◌}
 use Rattle.decimal_input.specs.declared.dec.Dec.{Dec}
 use Rattle.outside.specs.Files.{FileSet}
 use Rattle.outside.specs.Inputs.{file_at}
-use Rattle.outside.specs.declared.refusals.Refusal.{Refusal}
+use Rattle.outside.specs.declared.inputs.Refusal.{Refusal}
 use Rattle.record_lines.specs.Items.{line_at}
-use Rattle.outside.specs.Words.{words}
+use Rattle.outside.specs.Names.{words}
 use Rattle.record_lines.specs.Layout.{Left, left_from}
-use Rattle.record_lines.specs.Reading.{◌>>=◌, appended}
-use Rattle.array_reader.specs.Control.{Control, constant, internal, named, control_at}
-use Rattle.array_reader.specs.Kinds.{Kind, multiplied, real, whole}
-use Rattle.array_reader.specs.Lists.{free_rows}
+use Rattle.record_lines.specs.Reading.{◌>>=◌, appended, repeated, counted}
+use Rattle.array_reader.specs.Control.{Control, constant, internal, named, control_at, at_line}
+use Rattle.array_reader.specs.Numbers.{Kind, multiplied, real, whole, integer}
+use Rattle.decimal_input.specs.declared.dec.NumFault.{NumFault}
+use Rattle.outside.specs.declared.codes.Code.TheVariants.{EndOfFile, BadNumber, OutOfProfile}
+use Rattle.outside.specs.Codes.{refusal}
+use Rattle.record_lines.specs.Spread.{Taking, beginning, next_value}
+use Rattle.record_lines.specs.declared.free.FreeFault.{FreeFault}
+use Rattle.model_types.specs.Layers.{is_nonzero}
+use Rattle.record_lines.specs.declared.free.FreeFault.TheVariants as free
+
+-- Free lists of numbers.
+-- the refusal for a fault of a free list in this file
+abbrev pub free_refusal : List ℕ → FreeFault → Refusal
+free_refusal file (free.EndOfFile line) = refusal EndOfFile file line
+free_refusal file (free.BadNumber line) = refusal BadNumber file line
+
+abbrev pub in_file : {X : Type 0} → List ℕ → Result X FreeFault → Result X Refusal
+in_file file (Ok x) = Ok x
+in_file file (Err fault) = Err (free_refusal file fault)
+
+-- the next value of a free list, with its line
+unfoldable pub value_at : {X : Type 0} → (List ℕ → Result X NumFault) → List ℕ → (Taking × Left) → Result ((X × ℕ) × (Taking × Left)) Refusal
+value_at read file s = do
+  v ← in_file file (next_value s.0 s.1)
+  x ← at_line file v.0.1 (read v.0.0)
+  Ok ((x, v.0.1), v.1)
+
+-- the same without its line
+unfoldable pub value_alone : {X : Type 0} → (List ℕ → Result X NumFault) → List ℕ → (Taking × Left) → Result (X × (Taking × Left)) Refusal
+value_alone read file s = value_at read file s >>= λ x. Ok (x.0.0, x.1)
+
+abbrev pub left_of : {X : Type 0} → Result (X × (Taking × Left)) Refusal → Result (X × Left) Refusal
+left_of read = read >>= λ x. Ok (x.0, x.1.1)
+
+-- a free list of this many values, from a new line
+unfoldable pub free_list : {X : Type 0} → (List ℕ → Result X NumFault) → List ℕ → ℕ → Left → Result (List X × Left) Refusal
+free_list read file count left = left_of (repeated count (value_alone read file) (beginning, left))
+
+-- one free list for each row
+unfoldable pub free_rows : {X : Type 0} → (List ℕ → Result X NumFault) → List ℕ → ℕ → ℕ → Left → Result (List X × Left) Refusal
+free_rows read file rows cols left = appended rows (free_list read file cols) left
 
 -- rows * cols values by their control record, row by row; the values of a named file begin at its first line
 abbrev pub values_of : {X : Type 0} → Kind X → FileSet → List ℕ → ℕ → ℕ → Left → Control X → Result (List X × Left) Refusal
@@ -51,3 +89,21 @@ integer_layer files file rows cols left = layer_array whole files file rows cols
 -- this many layers, one array for each, as one list
 unfoldable pub layers : {X : Type 0} → Kind X → FileSet → List ℕ → ℕ → ℕ → ℕ → Left → Result (List X × Left) Refusal
 layers kind files file count rows cols left = appended count (layer_array kind files file rows cols) left
+
+-- Items that several package files have.
+-- the next value of a free list, an integer that must be 0: any other is refused on its own line
+unfoldable pub zero_at : List ℕ → (Taking × Left) → Result (ℤ × (Taking × Left)) Refusal
+zero_at file s = do
+  z ← value_at integer file s
+  if is_nonzero z.0.0 then Err (refusal OutOfProfile file z.0.1) else Ok (z.0.0, z.1)
+
+unfoldable pub zero_step : List ℕ → ℕ → (Taking × Left) → Result (Taking × Left) Refusal
+zero_step file i s = zero_at file s >>= λ z. Ok z.1
+
+-- a free list of this many of them
+unfoldable pub zero_list : List ℕ → ℕ → Left → Result (Unit {0} × Left) Refusal
+zero_list file count left = counted (zero_step file) 0 count (beginning, left) >>= λ s. Ok (tt, s.1)
+
+-- a layer of numbers where the file has it, else the same number in each of its cells
+unfoldable pub layer_or : FileSet → List ℕ → ℕ → ℕ → Bool → Dec → Left → Result (List Dec × Left) Refusal
+layer_or files file rows cols is_there other left = if is_there then real_layer files file rows cols left else Ok (replicate (rows * cols) other, left)

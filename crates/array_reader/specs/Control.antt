@@ -1,14 +1,34 @@
 -- The control record that precedes an array.
-use Rattle.std.specs.Prelude.{ℕ, Bool, true, List, Result, Ok, Err, if◌then◌else◌, codes}
+use Rattle.std.specs.Prelude.{ℕ, Bool, true, List, Result, Ok, Err, if◌then◌else◌, codes, [], ◌∷◌}
 use Rattle.decimal_input.specs.declared.dec.NumFault.{NumFault}
-use Rattle.outside.specs.declared.codes.Code.TheVariants.{BadControl, OutOfProfile}
-use Rattle.outside.specs.declared.refusals.Refusal.{Refusal}
+use Rattle.outside.specs.declared.codes.Code.TheVariants.{BadControl, OutOfProfile, BadNumber, TooManyDigits}
+use Rattle.outside.specs.declared.inputs.Refusal.{Refusal}
 use Rattle.record_lines.specs.Items.{word_at, name_at, is_word}
-use Rattle.outside.specs.Refusals.{refusal}
+use Rattle.outside.specs.Codes.{refusal}
 use Rattle.record_lines.specs.Reading.{◌>>=◌}
-use Rattle.array_reader.specs.Items.{number_at}
 use Rattle.array_reader.specs.declared.keyword.Keyword.{Keyword}
 use Rattle.array_reader.specs.declared.keyword.Keyword.TheVariants.{Constant, Internal, OpenClose, External, Other}
+use Rattle.outside.specs.declared.codes.Code.{Code}
+use Rattle.outside.specs.Names.{folder_name}
+use Rattle.decimal_input.specs.declared.dec.NumFault.TheVariants as faults
+
+-- Numbers in lines.
+-- the code of a word that is no number
+abbrev pub number_code : NumFault → Code
+number_code faults.BadNumber = BadNumber
+number_code faults.TooManyDigits = TooManyDigits
+
+-- a number, or its refusal on this line
+abbrev pub at_line : {X : Type 0} → List ℕ → ℕ → Result X NumFault → Result X Refusal
+at_line file line (Ok x) = Ok x
+at_line file line (Err fault) = Err (refusal (number_code fault) file line)
+
+-- the next word of a line item, read as a number
+unfoldable pub number_at : {X : Type 0} → (List ℕ → Result X NumFault) → List ℕ → ℕ → List (List ℕ) → Result (X × List (List ℕ)) Refusal
+number_at read file line [] = Err (refusal BadNumber file line)
+number_at read file line (w ∷ ws) = do
+  x ← at_line file line (read w)
+  Ok (x, ws)
 
 -- the first word of a control record, in any letter case
 unfoldable pub keyword : List ℕ → Keyword
@@ -60,3 +80,10 @@ unfoldable pub control_at : {X : Type 0} → (List ℕ → Result X NumFault) �
 control_at read file line words = do
   word ← word_at (refusal BadControl file line) words
   of_keyword (keyword word.0) read file line word.1
+
+-- The file that a control record names.
+-- where it names one, it may be asked for
+abbrev pub ControlMay : {X : Type 0} → (List ℕ → Type 0) → Control X → Type 0
+ControlMay may (constant value) = Unit {0}
+ControlMay may (internal by) = Unit {0}
+ControlMay may (named name by) = may (folder_name name)

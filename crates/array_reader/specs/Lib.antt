@@ -1,10 +1,4 @@
-pub mod PackageItems
-pub mod Items
 pub mod Numbers
-pub mod Kinds
-pub mod Lists
 pub mod Control
 pub mod Arrays
 pub mod Seen
-pub mod Laws
-pub mod Asking

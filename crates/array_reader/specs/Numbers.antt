@@ -1,13 +1,13 @@
 -- The number that a word names, and products, each exact and in canonical form, or the first test
 -- that it fails.
-use Rattle.std.specs.Prelude.{ℕ, zero, suc, ◌+◌, ◌*◌, ◌/◌, ◌%◌, Bool, ◌==◌, nat_le, nat_lt, if◌then◌else◌, List, length}
-use Rattle.std.specs.Prelude.{Option, Some, None, Result, Ok, Err, ℤ, pos, negsuc, ◌+ℤ◌, ◌*ℤ◌, false}
+use Rattle.std.specs.Prelude.{ℕ, zero, suc, ◌+◌, ◌*◌, ◌/◌, ◌%◌, Bool, ◌==◌, nat_le, nat_lt, if◌then◌else◌, List, length, Option, Some, None, Result, Ok, Err, ℤ}
+use Rattle.std.specs.Prelude.{pos, negsuc, ◌+ℤ◌, ◌*ℤ◌, false, ◌≡◌, ◌↔◌}
 use Rattle.decimal_input.specs.declared.dec.Dec.{Dec}
 use Rattle.decimal_input.specs.declared.dec.NumFault.{NumFault}
 use Rattle.decimal_input.specs.declared.dec.NumFault.TheVariants.{BadNumber, TooManyDigits}
-use Rattle.decimal_input.specs.Grammar.{Spelling}
-use Rattle.decimal_input.specs.Outcomes.{differ}
-use Rattle.decimal_input.specs.Words.{spelt, integer_of}
+use Rattle.decimal_input.specs.Grammar.{Spelling, IsInteger, spelt, integer_of}
+use Rattle.decimal_input.specs.Outcomes.{differ, IsCanonical, Names}
+use Rattle.record_lines.specs.Reading.{◌>>=◌}
 
 -- c without its trailing zeros, of which at most n are removed
 unfoldable pub significant : ℕ → ℕ → ℕ
@@ -61,3 +61,49 @@ is_short (negsuc n) = nat_lt n 9223372036854775808
 
 unfoldable pub integer_product : ℤ → ℤ → Result ℤ NumFault
 integer_product a b = if is_short (a *ℤ b) then Ok (a *ℤ b) else Err BadNumber
+
+-- The two kinds of number that an array may have.
+-- how a word is read, and how a value is multiplied
+pub record Kind (V : Type 0) : Type 0 where
+  pub reading : List ℕ → Result V NumFault
+  pub scaling : V → V → Result V NumFault
+
+-- a multiplier of zero isn't applied
+unfoldable pub scaled : Dec → Dec → Result Dec NumFault
+scaled by value = if by.digits == 0 then Ok value else product value by
+
+abbrev pub is_zero : ℤ → Bool
+is_zero (pos n) = n == 0
+is_zero (negsuc n) = false
+
+unfoldable pub integer_scaled : ℤ → ℤ → Result ℤ NumFault
+integer_scaled by value = if is_zero by then Ok value else integer_product value by
+
+abbrev pub real : Kind Dec
+real = record { reading = number; scaling = scaled }
+
+abbrev pub whole : Kind ℤ
+whole = record { reading = integer; scaling = integer_scaled }
+
+-- a word's value, times its multiplier where the array has one
+unfoldable pub multiplied : {V : Type 0} → Kind V → V → List ℕ → Result V NumFault
+multiplied kind by word = do
+  value ← kind.reading word
+  kind.scaling by value
+
+abbrev pub with_multiplier : {V : Type 0} → Kind V → Option V → List ℕ → Result V NumFault
+with_multiplier kind None = kind.reading
+with_multiplier kind (Some by) = multiplied kind by
+
+-- Statements of laws.
+-- a word is read as the integer that it is by the grammar
+abbrev pub IntegersFollowGrammar : Type 0
+IntegersFollowGrammar = (word : List ℕ) (z : ℤ) → (integer word ≡ Ok z) ↔ IsInteger word z
+
+-- a word is read as the number, or refused with the fault, that it names by the grammar
+abbrev pub NumbersFollowGrammar : Type 0
+NumbersFollowGrammar = (word : List ℕ) (r : Result Dec NumFault) → (number word ≡ r) ↔ Names word r
+
+-- a product is the canonical form of the exact product, or its refusal
+abbrev pub ProductsAreExact : Type 0
+ProductsAreExact = (a b : Dec) (r : Result Dec NumFault) → (product a b ≡ r) ↔ IsCanonical (differ a.neg b.neg) (a.digits * b.digits) (a.exp +ℤ b.exp) r

@@ -1,16 +1,16 @@
 ghost use Rattle.std.specs.Prelude.{◌≡◌, ◌*◌, length, IfOk, All, List};
 ghost use Rattle.outside.specs.Files.{FileSet};
 ghost use Rattle.outside.specs.Folders.{ReadsOn};
-ghost use Rattle.record_lines.specs.Asking.{LinesMay};
+ghost use Rattle.record_lines.specs.Layout.{LinesMay};
 ghost use Rattle.record_lines.specs.Reading.{Gives};
 ghost use Rattle.array_reader.specs.Arrays.{values_of, array_at};
-ghost use Rattle.array_reader.specs.Asking.{ControlMay};
+ghost use Rattle.array_reader.specs.Control.{ControlMay};
 ghost use Rattle.array_reader.specs.Seen.{control_of, Has_good};
 
 use crate::control::{Control, control_record};
-use crate::kinds::Value;
 use crate::line_items::next_line;
 use crate::lists::{constants, free_rows};
+use crate::numbers::Value;
 use outside::{Folder, InputFault, read_input};
 use record_lines::{Lines, Words};
 use std::alloc::Global;

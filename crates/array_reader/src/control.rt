@@ -5,8 +5,8 @@ ghost use Rattle.array_reader.specs.Seen.{control_of, Has_good};
 
 use crate::items::value_item;
 use crate::keyword::{Keyword, format, keyword_of, next_word};
-use crate::kinds::Value;
 use crate::line_items::name_of;
+use crate::numbers::Value;
 use outside::{Code, TextFault, refused};
 use record_lines::Words;
 use std::alloc::Global;

@@ -1,11 +1,11 @@
 ghost use Rattle.std.specs.Prelude.{◌≡◌, IfOk};
-ghost use Rattle.decimal_input.specs.Canonical.{IsDec};
-ghost use Rattle.outside.specs.Refusals.{IsRefusal};
+ghost use Rattle.decimal_input.specs.Decimals.{IsDec};
+ghost use Rattle.outside.specs.Codes.{IsRefusal};
 ghost use Rattle.record_lines.specs.Reading.{GivesText};
-ghost use Rattle.array_reader.specs.Items.{number_at, number_code};
+ghost use Rattle.array_reader.specs.Control.{number_at, number_code};
 ghost use Rattle.array_reader.specs.Numbers as numbers;
 
-use crate::kinds::Value;
+use crate::numbers::Value;
 use decimal_input::dec::{Dec, NumFault};
 use outside::{Code, TextFault, refused};
 use record_lines::Words;
@@ -22,7 +22,7 @@ pub fn number_refused(alloc: Global, fault: NumFault, file: &str, line: u32) -> 
 }
 
 /// The next word of a line item as a number of this kind.
-#[tactic(auto, unfolding(crate::specs::Items::number_at))]
+#[tactic(auto, unfolding(crate::specs::Control::number_at))]
 pub fn value_item<V: Value>(
     alloc: Global,
     words: &mut Words,

@@ -1,7 +1,7 @@
 ghost use Rattle.std.specs.Prelude.{◌≡◌};
 ghost use Rattle.outside.specs.declared.codes.Code.TheVariants.{BadControl};
 ghost use Rattle.record_lines.specs.Items.{word_at};
-ghost use Rattle.outside.specs.Refusals.{refusal};
+ghost use Rattle.outside.specs.Codes.{refusal};
 ghost use Rattle.record_lines.specs.Reading.{GivesText};
 ghost use Rattle.array_reader.specs.Control.{keyword, format_at};
 

@@ -1,5 +1,5 @@
 // Laws of the numbers that are read. Each is the contract of an empty function.
-ghost use Rattle.array_reader.specs.Laws.{IntegersFollowGrammar, NumbersFollowGrammar, ProductsAreExact};
+ghost use Rattle.array_reader.specs.Numbers.{IntegersFollowGrammar, NumbersFollowGrammar, ProductsAreExact};
 
 /// A word is read as an integer exactly where it is one by the grammar.
 pub fn integers_follow_the_grammar()
@@ -7,6 +7,7 @@ pub fn integers_follow_the_grammar()
 {}
 
 /// A word is read as the number, or refused with the fault, that it names by the grammar.
+#[tactic(auto, using(crate::proofs::NumberLemmas::numbers_are))]
 pub fn numbers_follow_the_grammar()
     ensures { NumbersFollowGrammar }
 {}

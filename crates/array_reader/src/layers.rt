@@ -1,15 +1,14 @@
 ghost use Rattle.std.specs.Prelude.{◌≡◌, ◌*◌, length, IfOk, All, List};
-ghost use Rattle.decimal_input.specs.Canonical.{IsDec};
+ghost use Rattle.decimal_input.specs.Decimals.{IsDec};
 ghost use Rattle.outside.specs.Files.{FileSet};
 ghost use Rattle.outside.specs.Folders.{ReadsOn};
-ghost use Rattle.record_lines.specs.Asking.{LinesMay};
+ghost use Rattle.record_lines.specs.Layout.{LinesMay};
 ghost use Rattle.record_lines.specs.Reading.{Gives};
-ghost use Rattle.array_reader.specs.Arrays.{reals, layer_array, layers, real_layer, integer_layer};
-ghost use Rattle.array_reader.specs.PackageItems.{layer_or};
+ghost use Rattle.array_reader.specs.Arrays.{reals, layer_array, layers, real_layer, integer_layer, layer_or};
 
 use crate::arrays::read_array;
 use crate::constants;
-use crate::kinds::Value;
+use crate::numbers::Value;
 use decimal_input::dec::Dec;
 use outside::{Folder, InputFault};
 use record_lines::Lines;
@@ -123,7 +122,7 @@ pub fn read_layers<V: Value, F: Folder>(
 }
 
 /// A layer of numbers where the file has it, else the same number in each of its cells.
-#[tactic(auto, unfolding(crate::specs::PackageItems::layer_or))]
+#[tactic(auto, unfolding(crate::specs::Arrays::layer_or))]
 pub fn layer_or<F: Folder>(
     alloc: Global,
     lines: &mut Lines,

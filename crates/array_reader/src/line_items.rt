@@ -2,7 +2,7 @@ ghost use Rattle.std.specs.Prelude.{◌≡◌, IfOk};
 ghost use Rattle.outside.specs.Names.{IsGoodName};
 ghost use Rattle.record_lines.specs.Items.{line_at, name_at};
 ghost use Rattle.record_lines.specs.Reading.{GivesText, HasText};
-ghost use Rattle.record_lines.specs.Seen.{numbered_of};
+ghost use Rattle.record_lines.specs.Layout.{numbered_of};
 
 use outside::{Code, TextFault, good_name, refused};
 use record_lines::{Line, Lines};

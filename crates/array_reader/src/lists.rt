@@ -1,11 +1,11 @@
 ghost use Rattle.std.specs.Prelude.{◌≡◌, ◌*◌, Ok, length, replicate, IfOk, IfSome, All};
-ghost use Rattle.outside.specs.Refusals.{IsRefusal};
+ghost use Rattle.outside.specs.Codes.{IsRefusal};
 ghost use Rattle.record_lines.specs.Reading.{GivesText, appended, repeated};
-ghost use Rattle.array_reader.specs.Kinds.{with_multiplier};
-ghost use Rattle.array_reader.specs.Lists.{free_refusal, value_alone, value_at, free_list, free_rows};
+ghost use Rattle.array_reader.specs.Numbers.{with_multiplier};
+ghost use Rattle.array_reader.specs.Arrays.{free_refusal, value_alone, value_at, free_list, free_rows};
 
 use crate::items::number_refused;
-use crate::kinds::{Value, value_of};
+use crate::numbers::{Value, value_of};
 use outside::{Code, TextFault, refused};
 use record_lines::{Free, FreeFault, Lines};
 use std::alloc::{AllocError, Global};
@@ -21,7 +21,7 @@ pub fn free_refused(alloc: Global, fault: FreeFault, file: &str) -> TextFault
 }
 
 /// The next value of a free list, and the number of its line.
-#[tactic(auto, unfolding(crate::specs::Lists::value_at))]
+#[tactic(auto, unfolding(crate::specs::Arrays::value_at))]
 pub fn next_value<'a, V: Value>(
     alloc: Global,
     free: &mut Free<'a>,
@@ -43,7 +43,7 @@ pub fn next_value<'a, V: Value>(
 }
 
 // The next value. It is `last`, the value of the last word, if it is one of that word's repeats.
-#[tactic(auto, unfolding(crate::specs::Lists::value_alone))]
+#[tactic(auto, unfolding(crate::specs::Arrays::value_alone))]
 fn next_kept<'a, V: Value>(
     alloc: Global,
     free: &mut Free<'a>,
@@ -94,7 +94,7 @@ pub fn values<'a, V: Value>(
 }
 
 /// A free list of numbers, each times the multiplier where there is one.
-#[tactic(auto, unfolding(crate::specs::Lists::free_list))]
+#[tactic(auto, unfolding(crate::specs::Arrays::free_list))]
 pub fn free_list<V: Value>(
     alloc: Global,
     lines: &mut Lines<'_>,
@@ -112,7 +112,7 @@ pub fn free_list<V: Value>(
 }
 
 /// Reads `rows` free lists of `cols` values, as one list.
-#[tactic(auto, unfolding(crate::specs::Lists::free_rows))]
+#[tactic(auto, unfolding(crate::specs::Arrays::free_rows))]
 pub fn free_rows<V: Value>(
     alloc: Global,
     lines: &mut Lines<'_>,

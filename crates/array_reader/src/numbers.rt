@@ -1,14 +1,13 @@
 // Numbers of words and their products, by the functions that define them.
-ghost use Rattle.std.specs.Prelude.{◌≡◌, IfOk};
-ghost use Rattle.decimal_input.specs.Canonical.{IsDec};
-ghost use Rattle.decimal_input.specs.Words.{integer_of};
-ghost use Rattle.array_reader.specs.Numbers.{number, product, integer, integer_product};
-ghost use Rattle.array_reader.specs.Kinds.{scaled, integer_scaled};
+ghost use Rattle.std.specs.Prelude.{◌≡◌, IfOk, IfSome};
+ghost use Rattle.decimal_input.specs.Decimals.{IsDec};
+ghost use Rattle.decimal_input.specs.Grammar.{integer_of};
+ghost use Rattle.array_reader.specs.Numbers.{number, product, integer, integer_product, scaled, integer_scaled, Kind, real, whole, with_multiplier, multiplied};
 
 use decimal_input::dec::{Dec, NumFault};
-use decimal_input::integer::read_int;
 use decimal_input::product::times;
 use decimal_input::read::read_dec;
+use decimal_input::word::read_int;
 
 pub fn real_of(word: &[u8]) -> Result<Dec, NumFault>
     ensures value { result ≡ number word.now }
@@ -27,7 +26,7 @@ fn real_product(a: Dec, b: Dec) -> Result<Dec, NumFault>
 }
 
 /// A value times its multiplier; unchanged where the multiplier is zero.
-#[tactic(auto, unfolding(crate::specs::Kinds::scaled))]
+#[tactic(auto, unfolding(crate::specs::Numbers::scaled))]
 pub fn scaled_real(value: Dec, by: Dec) -> Result<Dec, NumFault>
     requires value { IsDec value }
     requires by { IsDec by }
@@ -69,7 +68,7 @@ fn integer_product(a: i64, b: i64) -> Result<i64, NumFault>
 }
 
 /// A value times its multiplier; unchanged where the multiplier is zero.
-#[tactic(auto, unfolding(crate::specs::Kinds::integer_scaled))]
+#[tactic(auto, unfolding(crate::specs::Numbers::integer_scaled))]
 pub fn scaled_integer(value: i64, by: i64) -> Result<i64, NumFault>
     ensures { result ≡ integer_scaled by value }
 {
@@ -77,5 +76,66 @@ pub fn scaled_integer(value: i64, by: i64) -> Result<i64, NumFault>
         Ok(value)
     } else {
         integer_product(value, by)
+    }
+}
+
+/// A kind of number that an array may have.
+pub trait Value: Copy {
+    ghost kind: { Kind Self };
+
+    // What each value keeps: for a number its canonical form.
+    ghost Good: { Self → Type 0 };
+
+    fn of_word(word: &[u8]) -> Result<Self, NumFault>
+        ensures value { result ≡ kind.reading word.now }
+        ensures good { IfOk result Good };
+
+    /// The value times a multiplier; unchanged where the multiplier is zero.
+    fn scaled(self, by: Self) -> Result<Self, NumFault>
+        requires value { Good self }
+        requires by { Good by }
+        ensures value { result ≡ kind.scaling by self }
+        ensures good { IfOk result Good };
+}
+
+impl Value for Dec {
+    ghost kind = { real };
+
+    ghost Good = { IsDec };
+
+    fn of_word(word: &[u8]) -> Result<Dec, NumFault> {
+        real_of(word)
+    }
+
+    fn scaled(self, by: Dec) -> Result<Dec, NumFault> {
+        scaled_real(self, by)
+    }
+}
+
+impl Value for i64 {
+    ghost kind = { whole };
+
+    ghost Good = { λ _. Unit {0} };
+
+    fn of_word(word: &[u8]) -> Result<i64, NumFault> {
+        integer_of(word)
+    }
+
+    fn scaled(self, by: i64) -> Result<i64, NumFault> {
+        scaled_integer(self, by)
+    }
+}
+
+/// The value of a word, times the multiplier where there is one.
+#[tactic(auto, unfolding(crate::specs::Numbers::multiplied))]
+pub fn value_of<V: Value>(word: &[u8], by: Option<V>) -> Result<V, NumFault>
+    requires by { IfSome by V.Good }
+    ensures value { result ≡ with_multiplier V.kind by word.now }
+    ensures good { IfOk result V.Good }
+{
+    let value = V::of_word(word)?;
+    match by {
+        None => Ok(value),
+        Some(by) => value.scaled(by),
     }
 }

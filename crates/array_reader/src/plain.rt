@@ -1,7 +1,7 @@
 ghost use Rattle.std.specs.Prelude.{◌≡◌, length, IfOk, All};
-ghost use Rattle.decimal_input.specs.Canonical.{IsDec};
+ghost use Rattle.decimal_input.specs.Decimals.{IsDec};
 ghost use Rattle.record_lines.specs.Reading.{GivesText};
-ghost use Rattle.array_reader.specs.Lists.{free_list};
+ghost use Rattle.array_reader.specs.Arrays.{free_list};
 ghost use Rattle.array_reader.specs.Numbers.{number, integer};
 
 use crate::lists::free_list;

@@ -1,7 +1,7 @@
 // Free lists whose values must be 0.
 ghost use Rattle.std.specs.Prelude.{◌≡◌, MatchResult, Ok, IfOk, pos};
 ghost use Rattle.record_lines.specs.Reading.{GivesText, StopsText, counted};
-ghost use Rattle.array_reader.specs.PackageItems.{zero_at, zero_step, zero_list};
+ghost use Rattle.array_reader.specs.Arrays.{zero_at, zero_step, zero_list};
 
 use crate::next_value;
 use outside::{Code, TextFault, refused};
@@ -9,7 +9,7 @@ use record_lines::{Free, Lines};
 use std::alloc::Global;
 
 /// The next value of a free list, which must be 0; any other value is OutOfProfile on its own line.
-#[tactic(auto, unfolding(crate::specs::PackageItems::zero_at))]
+#[tactic(auto, unfolding(crate::specs::Arrays::zero_at))]
 pub fn zero_item<'a>(
     alloc: Global,
     free: &mut Free<'a>,
@@ -26,7 +26,7 @@ pub fn zero_item<'a>(
     Ok(value)
 }
 
-#[tactic(auto, unfolding(crate::specs::PackageItems::zero_step))]
+#[tactic(auto, unfolding(crate::specs::Arrays::zero_step))]
 fn zero_items<'a>(
     alloc: Global,
     free: &mut Free<'a>,
@@ -45,7 +45,7 @@ fn zero_items<'a>(
 }
 
 /// Reads a free list of `count` values that must be 0.
-#[tactic(auto, unfolding(crate::specs::PackageItems::zero_list))]
+#[tactic(auto, unfolding(crate::specs::Arrays::zero_list))]
 pub fn zero_list(
     alloc: Global,
     lines: &mut Lines<'_>,

@@ -1,17 +1,44 @@
 -- An array that is read has a value for each place.
 use Rattle.array_text.proofs.Common.{◌≡◌, ℕ, ◌*◌, ℤ, List, [], ◌∷◌, length, replicate, All, Result, Ok, Err, refl, arith, length-replicate, All-replicate}
-use Rattle.array_text.proofs.Common.{NumFault, IsDec, Refusal, Left, left_from, Kind, real, whole, multiplied, free_rows, ArraysHaveForm, FileSet, words}
-use Rattle.array_text.proofs.Common.{line_at, word_at, name_at, at_line, number_at, Control, constant, internal, named, keyword, format_at, constant_at}
-use Rattle.array_text.proofs.Common.{internal_at, named_at, of_keyword, control_at, values_of, array_at, without_line, reals, layer_array, real_layer}
-use Rattle.array_text.proofs.Common.{integer_layer, layers}
+use Rattle.array_text.proofs.Common.{NumFault, IsDec, Left, left_from, Kind, real, whole, multiplied, free_rows, ArraysHaveForm, FileSet, words, line_at}
+use Rattle.array_text.proofs.Common.{word_at, name_at, at_line, number_at, Control, constant, internal, named, keyword, format_at, constant_at, internal_at}
+use Rattle.array_text.proofs.Common.{named_at, of_keyword, control_at, values_of, array_at, without_line, reals, layer_array, real_layer, integer_layer, layers}
+use Rattle.array_text.proofs.Common.{repeated, number, integer, value_at, value_alone, free_list, IsShort, ListsHaveForm, Taking, beginning}
+use Rattle.outside.specs.declared.inputs.Refusal.{Refusal}
 use Rattle.outside.specs.Inputs.{file_at}
-use Rattle.outside.specs.Refusals.{refusal}
+use Rattle.outside.specs.Codes.{refusal}
 use Rattle.outside.specs.declared.codes.Code.TheVariants.{BadControl}
 use Rattle.array_reader.specs.declared.keyword.Keyword.{Keyword}
 use Rattle.array_reader.specs.declared.keyword.Keyword.TheVariants.{Constant, Internal, OpenClose, External, Other}
-use Rattle.array_text.proofs.Readings.{clash, goes, ends, appended_are}
-use Rattle.array_text.proofs.NumberForms.{number_is, multiplied_is}
-use Rattle.array_text.proofs.ListForms.{rows_are}
+use Rattle.array_text.proofs.Readings.{clash, goes, ends, appended_are, repeated_are}
+use Rattle.array_text.proofs.NumberForms.{number_is, multiplied_is, integer_is}
+use Rattle.array_reader.proofs.StepLemmas.{value_word}
+
+-- A free list that is read has as many values as it asked for, and each is as its word is read.
+module _ {X : Type 0} (read : List ℕ → Result X NumFault) (P : X → Type 0) (form : (w : List ℕ) (x : X) → read w ≡ Ok x → P x) (file : List ℕ) where
+  pub value_is : (s t : Taking × Left) (x : X) → value_alone read file s ≡ Ok (x, t) → P x
+  unfolding value_alone
+  value_is s t x h =
+      let a = goes (value_at read file s) _ (x, t) h in
+      let word = value_word read file s a.item.1 a.item.0.0 a.item.0.1 a.first in
+      ends {E = Refusal} (λ (y : X × (Taking × Left)). P y.0) (a.item.0.0, a.item.1) (x, t) a.then_ (form a.item.1.0.word a.item.0.0 word)
+
+  pub list_is : (count : ℕ) (left after : Left) (xs : List X) → free_list read file count left ≡ Ok (xs, after) → (length xs ≡ count) × All P xs
+  unfolding free_list
+  list_is count left after xs h =
+      let a = goes (repeated count (value_alone read file) (beginning, left)) _ (xs, after) h in
+      let are = repeated_are (value_alone read file) P value_is count (beginning, left) a.item.1 a.item.0 a.first in
+      ends {E = Refusal} (λ (y : List X × Left). (length y.0 ≡ count) × All P y.0) (a.item.0, a.item.1.1) (xs, after) a.then_ are
+
+  pub rows_are : (rows cols : ℕ) (left after : Left) (xs : List X) → free_rows read file rows cols left ≡ Ok (xs, after) → (length xs ≡ rows * cols) × All P xs
+  unfolding free_rows
+  rows_are rows cols left after xs h = appended_are (free_list read file cols) cols P (λ s t ys k. list_is cols s t ys k) rows left after xs h
+
+pub lists : ListsHaveForm
+lists = record {
+  numbers = λ file count. record { gives = λ left after xs h. list_is number (λ d. IsDec d) number_is file count left after xs h };
+  integers = λ file count. record { gives = λ left after xs h. list_is integer (λ z. IsShort z) integer_is file count left after xs h };
+}
 
 -- the value of a constant array has this form
 abbrev Stands : {X : Type 0} → (X → Type 0) → Control X → Type 0

@@ -10,36 +10,28 @@ pub use Rattle.std.proofs.lemmas.List.Elements.{All-append, All-cons, All-drop, 
 pub use Rattle.std.proofs.lemmas.List.Elements.{All-weaker}
 pub use Rattle.std.specs.Fmt.{decimal, signed_decimal}
 pub use Rattle.std.specs.List.{join_with_byte, list_all, position_or_len}
-pub use Rattle.std.specs.Prelude.{codes}
 pub use Rattle.array_reader.proofs.NumberLemmas.{canonical_is, integers_are, is_product, is_word_number}
 pub use Rattle.array_reader.specs.Arrays.{values_of, without_line}
-unfoldable pub use Rattle.array_reader.specs.Arrays.{array_at, integer_layer, layer_array, layers, real_layer, reals}
-pub use Rattle.array_reader.specs.Control.{Control, constant, internal, named, of_keyword}
-unfoldable pub use Rattle.array_reader.specs.Control.{constant_at, control_at, format_at, internal_at, keyword, named_at}
-pub use Rattle.array_reader.specs.Items.{at_line}
-unfoldable pub use Rattle.array_reader.specs.Items.{number_at}
-pub use Rattle.array_reader.specs.Kinds.{Kind, real, whole}
-unfoldable pub use Rattle.array_reader.specs.Kinds.{integer_scaled, multiplied, scaled}
-unfoldable pub use Rattle.array_reader.specs.Lists.{free_list, free_rows, value_alone, value_at}
-pub use Rattle.array_reader.specs.Numbers.{is_exponent, is_short, spelt_number}
-unfoldable pub use Rattle.array_reader.specs.Numbers.{canonical, integer, integer_product, number, product, significant, zeros}
-pub use Rattle.array_text.specs.Arrays.{array_lines, control_record}
-unfoldable pub use Rattle.array_text.specs.Arrays.{integer_array, real_array, row_line, row_lines}
+unfoldable pub use Rattle.array_reader.specs.Arrays.{array_at, free_list, free_rows, integer_layer, layer_array, layers, real_layer, reals, value_alone}
+unfoldable pub use Rattle.array_reader.specs.Arrays.{value_at}
+pub use Rattle.array_reader.specs.Control.{Control, at_line, constant, internal, named, of_keyword}
+unfoldable pub use Rattle.array_reader.specs.Control.{constant_at, control_at, format_at, internal_at, keyword, named_at, number_at}
+pub use Rattle.array_reader.specs.Numbers.{Kind, is_exponent, is_short, real, spelt_number, whole}
+unfoldable pub use Rattle.array_reader.specs.Numbers.{canonical, integer, integer_product, integer_scaled, multiplied, number, product, scaled, significant}
+unfoldable pub use Rattle.array_reader.specs.Numbers.{zeros}
 pub use Rattle.array_text.specs.Laws.{ArraysHaveForm, ArraysReadAsWritten, FreeListsReadAsWritten, ListsHaveForm, WritesLines}
-pub use Rattle.array_text.specs.Lines.{IsLine, Line, Reads}
-unfoldable pub use Rattle.array_text.specs.Lines.{line_text, number_after, numbered_lines, text, unread}
-pub use Rattle.array_text.specs.Words.{IsShort, IsWord, IsWordByte, sign}
-unfoldable pub use Rattle.array_text.specs.Words.{integer_word, number_word}
+pub use Rattle.array_text.specs.Lines.{IsLine, IsShort, IsWord, IsWordByte, Line, Reads, array_lines, control_record, sign}
+unfoldable pub use Rattle.array_text.specs.Lines.{integer_array, integer_word, line_text, number_after, number_word, numbered_lines, real_array, row_line}
+unfoldable pub use Rattle.array_text.specs.Lines.{row_lines, text, unread}
 pub use Rattle.decimal_input.proofs.Spelled.{names_read, number_append, reads_spelt}
-pub use Rattle.decimal_input.specs.Canonical.{IsDec}
-pub use Rattle.decimal_input.specs.Grammar.{AreDigits, IsExponent, IsInteger, IsSign, Spelling, Spells, is_digit, number_from}
+pub use Rattle.decimal_input.specs.Decimals.{IsDec, with_sign}
+pub use Rattle.decimal_input.specs.Grammar.{AreDigits, IsExponent, IsInteger, IsSign, Spelling, Spells, is_digit, number_from, spelt}
 pub use Rattle.decimal_input.specs.Outcomes.{IsCanonical, IsTested, differ}
 pub use Rattle.decimal_input.specs.declared.dec.Dec.{Dec}
 pub use Rattle.decimal_input.specs.declared.dec.NumFault.{NumFault}
 pub use Rattle.outside.specs.Files.{FileSet}
-pub use Rattle.outside.specs.Words.{is_separator}
-unfoldable pub use Rattle.outside.specs.Words.{lines, words}
-pub use Rattle.outside.specs.declared.refusals.Refusal.{Refusal}
+pub use Rattle.outside.specs.Names.{is_separator}
+unfoldable pub use Rattle.outside.specs.Names.{lines, words}
 pub use Rattle.record_lines.specs.Items.{name_at}
 unfoldable pub use Rattle.record_lines.specs.Items.{line_at, word_at}
 pub use Rattle.record_lines.specs.Layout.{Left, left_from, next_number}

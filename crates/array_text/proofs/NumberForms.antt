@@ -3,10 +3,8 @@ use Rattle.array_text.proofs.Common.{◌≡◌, ◌⊎◌, inl, inr, ℕ, zero, 
 use Rattle.array_text.proofs.Common.{if◌then◌else◌, List, [], ◌∷◌, length, Option, Some, None, Result, Ok, Err, refl, sym, subst, arith, ℤ, pos, negsuc, neg_ℤ}
 use Rattle.array_text.proofs.Common.{◌+ℤ◌, ◌≤ℤ◌, ◌<ℤ◌, unsigned_abs, NumFault, IsDec, is_exponent, canonical, spelt_number, number, product, integer, scaled}
 use Rattle.array_text.proofs.Common.{real, multiplied, IsShort, ints, nat_tests, Dec, Spelling, AreDigits, IsInteger, number_from, IsTested, IsCanonical}
-use Rattle.array_text.proofs.Common.{differ, canonical_is, integers_are}
+use Rattle.array_text.proofs.Common.{differ, canonical_is, integers_are, with_sign, spelt}
 use Rattle.decimal_input.specs.declared.dec.NumFault.TheVariants.{BadNumber}
-use Rattle.decimal_input.specs.Decimals.{with_sign}
-use Rattle.decimal_input.specs.Words.{spelt}
 use Rattle.decimal_input.proofs.Canon.{zero_number}
 use Rattle.decimal_input.proofs.Named.{digit_small}
 use Rattle.decimal_input.proofs.Short.{longer, within}

@@ -1,18 +1,14 @@
 -- Statements of laws: what is written is read as itself.
 use Rattle.std.specs.Prelude.{◌≡◌, ℕ, ◌*◌, ◌≤◌, ℤ, List, [], ◌∷◌, All, length, Ok, Result}
 use Rattle.decimal_input.specs.declared.dec.Dec.{Dec}
-use Rattle.decimal_input.specs.Canonical.{IsDec}
+use Rattle.decimal_input.specs.Decimals.{IsDec}
 use Rattle.outside.specs.Files.{FileSet}
-use Rattle.outside.specs.Words.{words}
+use Rattle.outside.specs.Names.{words}
 use Rattle.record_lines.specs.Layout.{left_from, Left}
-use Rattle.array_reader.specs.Numbers.{number, integer}
-use Rattle.array_reader.specs.Lists.{free_list}
-use Rattle.array_reader.specs.Arrays.{reals, real_layer, integer_layer, layers}
-use Rattle.array_text.specs.Words.{IsShort, number_word, integer_word}
-use Rattle.array_text.specs.Lines.{Line, IsLine, line_text, text, unread, Reads}
-use Rattle.array_text.specs.Arrays.{row_line, real_array, integer_array}
-use Rattle.outside.specs.declared.refusals.Refusal.{Refusal}
-use Rattle.array_reader.specs.Kinds.{real, whole}
+use Rattle.array_reader.specs.Numbers.{number, integer, real, whole}
+use Rattle.array_reader.specs.Arrays.{free_list, reals, real_layer, integer_layer, layers}
+use Rattle.array_text.specs.Lines.{IsShort, number_word, integer_word, Line, IsLine, line_text, text, unread, Reads, row_line, real_array, integer_array}
+use Rattle.outside.specs.declared.inputs.Refusal.{Refusal}
 
 -- a number in canonical form
 abbrev pub NumbersReadAsWritten : Type 0

@@ -1,4 +1,2 @@
 pub mod Laws
-pub mod Words
 pub mod Lines
-pub mod Arrays

@@ -4,36 +4,43 @@ ghost use Rattle.array_text.specs.Laws.{FreeListsReadAsWritten, ArraysReadAsWrit
 ghost use Rattle.array_text.specs.Laws.{NumbersAreCanonical, IntegersAreShort, ListsHaveForm, ArraysHaveForm};
 
 /// A number's word is read as that number.
+#[tactic(auto, using(crate::proofs::NumberTexts::number_reads))]
 pub fn numbers_read_as_written()
     ensures { NumbersReadAsWritten }
 {}
 
 /// An integer's word is read as that integer.
+#[tactic(auto, using(crate::proofs::NumberTexts::integer_reads))]
 pub fn integers_read_as_written()
     ensures { IntegersReadAsWritten }
 {}
 
 /// A line has the words that were written on it.
+#[tactic(auto, using(crate::proofs::LineTexts::line_words))]
 pub fn lines_read_as_written()
     ensures { LinesReadAsWritten }
 {}
 
 /// A text has the lines that were written to it, each with its number.
+#[tactic(auto, using(crate::proofs::LineTexts::text_left))]
 pub fn texts_read_as_written()
     ensures { TextsReadAsWritten }
 {}
 
 /// What is written of values is lines.
+#[tactic(auto, using(crate::proofs::ArrayTexts::are_lines))]
 pub fn values_are_written_as_lines()
     ensures { WritesLines }
 {}
 
 /// A free list on one line is read as its values.
+#[tactic(auto, using(crate::proofs::ArrayTexts::free_lists))]
 pub fn free_lists_read_as_written()
     ensures { FreeListsReadAsWritten }
 {}
 
 /// An array with its control record is read as its values.
+#[tactic(auto, using(crate::proofs::ArrayTexts::arrays))]
 pub fn arrays_read_as_written()
     ensures { ArraysReadAsWritten }
 {}
@@ -44,16 +51,19 @@ pub fn numbers_are_canonical()
 {}
 
 /// An integer that is read has at most 18 digits.
+#[tactic(auto, using(crate::proofs::NumberForms::integer_is))]
 pub fn integers_are_short()
     ensures { IntegersAreShort }
 {}
 
 /// A free list that is read has as many values as it asked for.
+#[tactic(auto, using(crate::proofs::ArrayForms::lists))]
 pub fn lists_have_form()
     ensures { ListsHaveForm }
 {}
 
 /// An array that is read has a value for each place.
+#[tactic(auto, using(crate::proofs::ArrayForms::arrays))]
 pub fn arrays_have_form()
     ensures { ArraysHaveForm }
 {}

@@ -13,23 +13,19 @@ pub use Rattle.std.specs.Int.{int_div_euclid, int_max, int_min, int_rem_euclid, 
 pub use Rattle.std.specs.List.{AllZip}
 pub use Rattle.std.specs.Option.{is_some, unwrap_or}
 pub use Rattle.std.specs.Prelude.{map}
-pub use Rattle.barrier_vector.specs.Barriers.{BarrierExcludesRefusal, BarrierIsOne, RefusalIsOne}
-pub use Rattle.barrier_vector.specs.Bounds.{AnchorRoot, IsAnchorPath, IsAnchoredBound, IsBoundOn, IsCarriedFloor, IsCeiling, IsFloor, IsInnerPath, IsLongest}
-pub use Rattle.barrier_vector.specs.Bounds.{IsUnanchored, LeastRoot, anchor_on, greatest, moved_out}
-pub use Rattle.barrier_vector.specs.CutLaws.{BarrierIsCut, ClampedFits, CutBarrierExcludesRefusal, CutBarrierIsOne, CutRefusalIsOne}
+pub use Rattle.barrier_vector.specs.Barriers.{BarrierExcludesRefusal, BarrierIsCut, BarrierIsOne, CeilingsEnclose, ClampedFits, CutBarrierExcludesRefusal}
+pub use Rattle.barrier_vector.specs.Barriers.{CutBarrierIsOne, CutRefusalIsOne, FloorsEnclose, FloorsHold, IsSolution, RefusalIsOne}
+pub use Rattle.barrier_vector.specs.Bounds.{AnchorRoot, IsAnchorPath, IsAnchoredBound, IsBoundOn, IsCarriedFloor, IsCeiling, IsFloor, IsInnerPath, IsLevel}
+pub use Rattle.barrier_vector.specs.Bounds.{IsLongest, IsOutline, IsParent, IsPath, IsUnanchored, LeadsToRoot, LeastRoot, SumsTo, anchor_on, ceil_over}
+pub use Rattle.barrier_vector.specs.Bounds.{greatest, moved_out}
 pub use Rattle.barrier_vector.specs.Cuts.{AreCutBounds, EnclosesUncut, IsCutBarrierOf, IsCutBoundOn, IsCutFault, Refuses, RefusesOn, clamp, cut_on}
-pub use Rattle.barrier_vector.specs.Labels.{AreLabels, Fills, IsGreatestOf, flow_sum, is_label, labelled, number_at, sum_at}
-pub use Rattle.barrier_vector.specs.Lacks.{capped_flow, high_flow, lack, need, need_on, negative_part, positive_part}
-pub use Rattle.barrier_vector.specs.Laws.{CeilingsEnclose, FloorsEnclose, FloorsHold, IsSolution}
-pub use Rattle.barrier_vector.specs.Marks.{IsBase, IsCellMark, IsInside, IsMarkBelow, IsMarkIn, IsOutermost, drain_mark, fixed_mark, if_some, outer_of}
-pub use Rattle.barrier_vector.specs.Marks.{river_mark}
-pub use Rattle.barrier_vector.specs.Outlines.{IsOutline}
-pub use Rattle.barrier_vector.specs.Paths.{IsLevel, IsParent, IsPath, LeadsToRoot, SumsTo, ceil_over}
+pub use Rattle.barrier_vector.specs.Marks.{IsBase, IsCellMark, IsInside, IsMarkBelow, IsMarkIn, IsOutermost, capped_flow, drain_mark, fixed_mark, high_flow}
+pub use Rattle.barrier_vector.specs.Marks.{if_some, lack, need, need_on, negative_part, outer_of, positive_part, river_mark}
 pub use Rattle.barrier_vector.specs.Refusals.{HasNoBound, IsLeastWith, IsOutOfRange, IsRefused, IsRefusedOn, LeavesRange, Names, Nowhere, no_barrier_on}
 pub use Rattle.barrier_vector.specs.Refusals.{range_on}
 pub use Rattle.barrier_vector.specs.Roots.{AreAnchorPaths, AreBounds, AreComponents, AreRoots, IsAnchoredOrNone, IsBoundOrNone, ListAnchor, SelfRoot, bound_at}
-pub use Rattle.barrier_vector.specs.Searches.{ContinuesTo, IsNearest, IsSearched, IsStart, ListRoot, path_limit}
-pub use Rattle.barrier_vector.specs.Spreads.{FrontLeads, LinkLeads, Spreads, mark_at, unmarked}
+pub use Rattle.barrier_vector.specs.Searches.{AreLabels, ContinuesTo, Fills, FrontLeads, IsGreatestOf, IsNearest, IsSearched, IsStart, LinkLeads, ListRoot}
+pub use Rattle.barrier_vector.specs.Searches.{Spreads, flow_sum, is_label, labelled, mark_at, number_at, path_limit, sum_at, unmarked}
 pub use Rattle.barrier_vector.specs.Tests.{AreHeadsOf, IsCutFaultOn, IsFaultOn, IsFirst, IsMissing, IsWholeSide, LiesOut}
 pub use Rattle.barrier_vector.specs.declared.BarrierFault.{BarrierFault}
 pub use Rattle.barrier_vector.specs.declared.BarrierFault.TheVariants.{Memory}
@@ -47,10 +43,10 @@ pub use Rattle.cell_balance.specs.Steps.{ExactCell}
 pub use Rattle.decimal_input.proofs.Signs.{mul_mono_right}
 pub use Rattle.step_problem.proofs.Ring.{mul_mono, mul_nonneg}
 pub use Rattle.step_problem.proofs.Sums.{total_step}
+pub use Rattle.step_problem.specs.Balances.{total}
 pub use Rattle.step_problem.specs.Conditions.{CellFits, DrainFits, FixedFits, IsHead, IsProblem, IsWithin, LinkFits, RiverFits, deep_river_high, deep_river_low}
 pub use Rattle.step_problem.specs.Conditions.{full_rate, head_limit, magnitude}
 pub use Rattle.step_problem.specs.Entries.{Entries, entries_at, link_at, no_entries, no_link}
-pub use Rattle.step_problem.specs.Flows.{total}
 pub use Rattle.step_problem.specs.Heads.{Edges, head_at}
 pub use Rattle.step_problem.specs.StepRefusals.{number_of}
 pub use Rattle.step_problem.specs.declared.entry.Drain.{Drain}

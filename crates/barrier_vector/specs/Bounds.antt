@@ -1,12 +1,48 @@
 -- The floor and the ceiling of a cell, by the base of its side and its path to an anchor.
-use Rattle.std.specs.Prelude.{◌≡◌, ℕ, ◌+◌, ◌<◌, ◌≤◌, ◌⊎◌, List, [], ◌∷◌, length, max, ℤ, pos, ◌+ℤ◌, ◌-ℤ◌}
+use Rattle.std.specs.Prelude.{◌≡◌, ℕ, ◌+◌, ◌<◌, ◌≤◌, ◌⊎◌, List, [], ◌∷◌, length, max, ℤ, pos, ◌+ℤ◌, ◌-ℤ◌, zero, suc, ◌-◌, ◌/◌, Contains, take, sum_by, Option}
+use Rattle.std.specs.Prelude.{slice_index}
 use Rattle.step_problem.specs.declared.heads.Side.{Side}
 use Rattle.step_problem.specs.declared.heads.Side.TheVariants.{Low, High}
 use Rattle.step_problem.specs.Entries.{Entries, entries_at}
 use Rattle.cell_balance.specs.Components.{Reaches, IsCarried}
-use Rattle.barrier_vector.specs.Marks.{IsBase}
-use Rattle.barrier_vector.specs.Lacks.{need}
-use Rattle.barrier_vector.specs.Paths.{ceil_over, IsPath}
+use Rattle.barrier_vector.specs.Marks.{IsBase, IsOutermost, IsMarkBelow, need, need_on, capped_flow}
+use Rattle.step_problem.specs.declared.entry.Link.{Link}
+
+-- Paths along the branches of a problem to its roots, which are the cells that bound the others, and the drops of head on them. Each branch carries at most q.
+-- the least whole number not below q / lo
+abbrev pub ceil_over : ℕ → ℕ → ℕ
+ceil_over q lo = (q + (lo - 1)) / lo
+
+-- `Root c d` says that cell c is a root, whose own drop is d
+module _ (p : List Entries) (q : ℕ) (Root : ℕ → ℕ → Type 0) where
+  -- k links lead from cell c to a root
+  pub record LeadsToRoot (k c : ℕ) : Type 0 where
+    pub root : ℕ
+    pub drop : ℕ
+    pub is_root : Root root drop
+    pub reaches : Reaches p k c root
+
+  -- The level of cell c is k: the least number of links that lead to a root.
+  pub record IsLevel (c k : ℕ) : Type 0 where
+    pub leads : LeadsToRoot k c
+    pub least : (j : ℕ) → LeadsToRoot j c → k ≤ j
+
+  -- x leads from cell c to its parent, the neighbour of level k with the least number.
+  pub record IsParent (k c : ℕ) (x : Link) : Type 0 where
+    pub has : Contains (entries_at p c).links x
+    pub level : IsLevel x.cell k
+    pub least : (z : Link) → Contains (entries_at p c).links z → IsLevel z.cell k → x.cell ≤ z.cell
+
+  -- s is the sum of the drops from cell c, of level k, through its parents, including the root's own drop
+  abbrev pub SumsTo : ℕ → ℕ → ℕ → Type 0
+  SumsTo zero c s = Root c s
+  SumsTo (suc k) c s = (x : Link) × IsParent k c x × (rest : ℕ) × SumsTo k x.cell rest × (s ≡ ceil_over q x.lo + rest)
+
+  -- The path of cell c is s.
+  pub record IsPath (c s : ℕ) : Type 0 where
+    pub level : ℕ
+    pub is_level : IsLevel c level
+    pub sums : SumsTo level c s
 
 -- the greatest of f over a list, 0 if it is empty
 abbrev pub greatest : {X : Type 0} → (X → ℕ) → List X → ℕ
@@ -72,3 +108,11 @@ IsCeiling p c f = IsAnchoredBound High p c f
 abbrev pub IsBoundOn : Side → List Entries → ℕ → ℤ → Type 0
 IsBoundOn Low = IsFloor
 IsBoundOn High = IsCeiling
+
+-- What a side needs of the cells, found in one pass over them.
+-- one side of the first n cells: the outermost mark, the sum of what they add to the lack or the surplus, at most 2 ^ 126, and the greatest anchor of each
+pub record IsOutline (side : Side) (p : List Entries) (n : ℕ) (mark : Option ℤ) (need : ℕ) (anchors : List ℕ) : Type 0 where
+  pub outermost : IsOutermost side (IsMarkBelow side p n) mark
+  pub sum : need ≡ capped_flow (sum_by (need_on side) (take n p))
+  pub whole : length anchors ≡ n
+  pub each : (c : ℕ) → c < n → slice_index anchors c ≡ anchor_on side (entries_at p c)

@@ -11,7 +11,7 @@ use Rattle.step_problem.specs.Conditions.{head_limit}
 use Rattle.step_problem.specs.Heads.{Edges, head_at}
 use Rattle.cell_balance.specs.Steps.{ExactCell}
 use Rattle.cell_balance.specs.Enclosures.{EnclosesStep}
-use Rattle.cell_balance.specs.Solutions.{SolvesStep}
+use Rattle.cell_balance.specs.Balance.{SolvesStep}
 use Rattle.barrier_vector.specs.Bounds.{IsBoundOn}
 use Rattle.barrier_vector.specs.Refusals.{HasNoBound, no_barrier_on, Nowhere, IsLeastWith, Names}
 use Rattle.barrier_vector.specs.declared.BarrierFault.{BarrierFault}

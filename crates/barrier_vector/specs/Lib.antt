@@ -1,16 +1,9 @@
-pub mod Lacks
-pub mod Paths
 pub mod Bounds
-pub mod Laws
 pub mod Refusals
 pub mod Cuts
 pub mod Barriers
-pub mod CutLaws
 pub mod Held
-pub mod Spreads
 pub mod Searches
-pub mod Labels
 pub mod Marks
 pub mod Roots
-pub mod Outlines
 pub mod Tests

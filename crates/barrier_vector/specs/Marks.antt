@@ -1,5 +1,5 @@
 -- The base of each side: the outermost of the known heads, stages, bottoms and elevations of a problem that may conduct.
-use Rattle.std.specs.Prelude.{◌≡◌, ℕ, zero, suc, ◌<◌, ◌⊎◌, List, length, Contains, Option, None, Some, ℤ, pos, ◌≤ℤ◌}
+use Rattle.std.specs.Prelude.{◌≡◌, ℕ, zero, suc, ◌<◌, ◌⊎◌, List, length, Contains, Option, None, Some, ℤ, pos, ◌≤ℤ◌, ◌^◌, min, sum_by, negsuc}
 use Rattle.std.specs.Int.{int_max, int_min}
 use Rattle.std.specs.Option.{unwrap_or}
 use Rattle.step_problem.specs.declared.heads.Side.{Side}
@@ -8,6 +8,8 @@ use Rattle.step_problem.specs.declared.entry.Fixed.{Fixed}
 use Rattle.step_problem.specs.declared.entry.River.{River}
 use Rattle.step_problem.specs.declared.entry.Drain.{Drain}
 use Rattle.step_problem.specs.Entries.{Entries, entries_at}
+use Rattle.step_problem.specs.Balances.{total}
+use Rattle.cell_balance.specs.Components.{deep_low}
 
 -- v where the upper conductance hi is above 0
 abbrev pub if_some : ℕ → ℤ → Option ℤ
@@ -61,3 +63,36 @@ IsMarkBelow side p n v = (c : ℕ) × (c < n) × IsCellMark side (entries_at p c
 -- the base of a side: the outermost mark of the problem, 0 if it has none
 abbrev pub IsBase : Side → List Entries → ℤ → Type 0
 IsBase side p b = (o : Option ℤ) × IsOutermost side (IsMarkBelow side p (length p)) o × (b ≡ unwrap_or o (pos 0))
+
+-- The lack and the surplus of flow of all cells of a problem.
+-- the negative part of a number, as a magnitude
+abbrev pub negative_part : ℤ → ℕ
+negative_part (pos n) = 0
+negative_part (negsuc n) = suc n
+
+abbrev pub positive_part : ℤ → ℕ
+positive_part (pos n) = n
+positive_part (negsuc n) = 0
+
+-- the greatest sum of a cell's constant flows
+abbrev pub high_flow : Entries → ℤ
+high_flow c = total (λ x. x.hi) c.flows
+
+-- what a cell adds to the need of a side: the negative part of its least deep flow, or the positive part of its greatest constant flow
+abbrev pub need_on : Side → Entries → ℕ
+need_on Low c = negative_part (deep_low c)
+need_on High c = positive_part (high_flow c)
+
+-- the need of a side: the lack of flow of all cells, or their surplus
+abbrev pub need : Side → List Entries → ℕ
+need side p = sum_by (need_on side) p
+
+abbrev pub lack : List Entries → ℕ
+lack = need Low
+
+abbrev pub surplus : List Entries → ℕ
+surplus = need High
+
+-- a flow, at most 2 ^ 126. Over any conductance of a problem, which is below 2 ^ 60, so great a flow drops farther than heads can lie apart.
+abbrev pub capped_flow : ℕ → ℕ
+capped_flow q = min q (2 ^ 126)

@@ -4,13 +4,10 @@ use Rattle.step_problem.specs.declared.heads.Side.{Side}
 use Rattle.step_problem.specs.Entries.{Entries, entries_at}
 use Rattle.cell_balance.specs.Components.{sum_inside, deep_low}
 use Rattle.barrier_vector.specs.Marks.{IsBase}
-use Rattle.barrier_vector.specs.Bounds.{IsAnchorPath, IsInnerPath, IsUnanchored, IsAnchoredBound}
-use Rattle.barrier_vector.specs.Paths.{ceil_over}
+use Rattle.barrier_vector.specs.Bounds.{IsAnchorPath, IsInnerPath, IsUnanchored, IsAnchoredBound, ceil_over}
 use Rattle.barrier_vector.specs.Refusals.{HasNoBound}
 use Rattle.barrier_vector.specs.Cuts.{cut_on, IsCutBoundOn}
-use Rattle.barrier_vector.specs.Spreads.{mark_at}
-use Rattle.barrier_vector.specs.Searches.{path_limit}
-use Rattle.barrier_vector.specs.Labels.{AreLabels, labelled, sum_at, IsGreatestOf}
+use Rattle.barrier_vector.specs.Searches.{mark_at, path_limit, AreLabels, labelled, sum_at, IsGreatestOf}
 use Rattle.barrier_vector.specs.declared.gathered.FlowSum.{FlowSum}
 
 -- by a list of greatest anchors, a cell with one above 0 is a root, with the drop of that anchor

@@ -3,10 +3,9 @@ ghost use Rattle.std.specs.Prelude.{◌≡◌, ◌<◌, ◌≤◌, ◌^◌, ◌�
 ghost use Rattle.step_problem.specs.declared.heads.Side.TheVariants.{Low, High};
 ghost use Rattle.step_problem.specs.Conditions.{IsHead, IsWithin, head_limit};
 ghost use Rattle.barrier_vector.specs.Marks.{IsBase};
-ghost use Rattle.barrier_vector.specs.Bounds.{moved_out};
+ghost use Rattle.barrier_vector.specs.Bounds.{moved_out, IsOutline};
 ghost use Rattle.barrier_vector.specs.Cuts.{cut_on};
 ghost use Rattle.barrier_vector.specs.Roots.{AreAnchorPaths, IsAnchoredOrNone, IsBoundOrNone, AreBounds};
-ghost use Rattle.barrier_vector.specs.Outlines.{IsOutline};
 
 use crate::carried::with_carried_floors;
 use crate::outline::Outline;

@@ -1,20 +1,22 @@
 // Laws of floors and ceilings: they enclose every solution, and a problem has one barrier or one refusal. Each is the contract of an empty function.
 ghost use Rattle.cell_balance.specs.Example.{example_problem, example_step, example_heads};
-ghost use Rattle.barrier_vector.specs.Laws.{IsSolution, FloorsEnclose, CeilingsEnclose, FloorsHold};
-ghost use Rattle.barrier_vector.specs.Barriers.{BarrierIsOne, BarrierExcludesRefusal, RefusalIsOne};
-ghost use Rattle.barrier_vector.specs.CutLaws.{CutBarrierIsOne, BarrierIsCut, CutBarrierExcludesRefusal, CutRefusalIsOne, ClampedFits};
+ghost use Rattle.barrier_vector.specs.Barriers.{IsSolution, FloorsEnclose, CeilingsEnclose, FloorsHold, BarrierIsOne, BarrierExcludesRefusal, RefusalIsOne};
+ghost use Rattle.barrier_vector.specs.Barriers.{CutBarrierIsOne, BarrierIsCut, CutBarrierExcludesRefusal, CutRefusalIsOne, ClampedFits};
 
 /// No solution lies below a floor, in an anchored or in a carried component.
+#[tactic(auto, using(crate::proofs::Floors::floors_enclose))]
 pub fn floors_enclose()
     ensures { FloorsEnclose }
 {}
 
 /// No solution lies above a ceiling.
+#[tactic(auto, using(crate::proofs::Floors::ceilings_enclose))]
 pub fn ceilings_enclose()
     ensures { CeilingsEnclose }
 {}
 
 /// A problem whose cells all have floors is held below: each component is anchored or carried.
+#[tactic(auto, using(crate::proofs::CarriedHeld::floors_hold))]
 pub fn floors_hold()
     ensures { FloorsHold }
 {}
@@ -25,6 +27,7 @@ pub fn solved_example()
 {}
 
 /// A problem has at most one barrier.
+#[tactic(auto, using(crate::proofs::Cutting::barrier_is_one))]
 pub fn one_barrier()
     ensures { BarrierIsOne }
 {}
@@ -40,11 +43,13 @@ pub fn one_refusal()
 {}
 
 /// A problem has at most one cut barrier.
+#[tactic(auto, using(crate::proofs::Cutting::cut_barrier_is_one))]
 pub fn one_cut_barrier()
     ensures { CutBarrierIsOne }
 {}
 
 /// A problem's barrier is its cut barrier.
+#[tactic(auto, using(crate::proofs::Cutting::barrier_is_cut))]
 pub fn barrier_is_cut()
     ensures { BarrierIsCut }
 {}
@@ -55,11 +60,13 @@ pub fn no_cut_barrier_beside_a_refusal()
 {}
 
 /// A problem has at most one refusal of its cut barrier.
+#[tactic(auto, using(crate::proofs::Cutting::cut_refusal_is_one))]
 pub fn one_cut_refusal()
     ensures { CutRefusalIsOne }
 {}
 
 /// Clamped floors and ceilings are a barrier of heads, and heads stay as they are.
+#[tactic(auto, using(crate::proofs::Clamping::clamped_fits))]
 pub fn clamped_fits()
     ensures { ClampedFits }
 {}

@@ -4,7 +4,7 @@
 ghost use Rattle.std.specs.Prelude.{ℕ, ◌<◌, length, IfOk, IfErr};
 ghost use Rattle.step_problem.specs.Heads.{head_at, IsBarrier};
 ghost use Rattle.cell_balance.specs.Components.{IsHeldBelow};
-ghost use Rattle.cell_balance.specs.SolutionBounds.{EnclosesSolutions};
+ghost use Rattle.cell_balance.specs.Enclosures.{EnclosesSolutions};
 ghost use Rattle.barrier_vector.specs.Bounds.{IsFloor, IsCeiling};
 ghost use Rattle.barrier_vector.specs.Refusals.{IsFault};
 ghost use Rattle.barrier_vector.specs.Cuts.{IsCutBarrierOf, IsCutFault, EnclosesUncut};
@@ -15,7 +15,6 @@ mod carried;
 mod clamped;
 mod flows;
 mod gathered;
-mod labels;
 pub mod laws;
 mod marks;
 mod outline;

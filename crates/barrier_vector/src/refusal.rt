@@ -3,7 +3,7 @@ ghost use Rattle.std.specs.Prelude.{◌<◌, ◌↔◌, length, IfOk, IfErr, IsT
 ghost use Rattle.step_problem.specs.StepRefusals.{number_of};
 ghost use Rattle.barrier_vector.specs.Refusals.{IsOutOfRange, no_barrier_on, range_on, Names};
 ghost use Rattle.barrier_vector.specs.Cuts.{AreCutBounds};
-ghost use Rattle.barrier_vector.specs.Outlines.{IsOutline};
+ghost use Rattle.barrier_vector.specs.Bounds.{IsOutline};
 ghost use Rattle.barrier_vector.specs.Tests.{IsFirst, IsMissing, LiesOut, AreHeadsOf, IsWholeSide, IsFaultOn, IsCutFaultOn};
 
 use crate::BarrierFault;

@@ -1,7 +1,6 @@
 // The roots of the searches: anchored cells, and the least cells of components.
 ghost use Rattle.std.specs.Prelude.{◌≡◌, ℕ, ◌<◌, ◌≤◌, ◌^◌, length, IfOk, Some, max};
-ghost use Rattle.barrier_vector.specs.Paths.{ceil_over};
-ghost use Rattle.barrier_vector.specs.Bounds.{anchor_on, greatest};
+ghost use Rattle.barrier_vector.specs.Bounds.{ceil_over, anchor_on, greatest};
 ghost use Rattle.barrier_vector.specs.Roots.{ListAnchor, SelfRoot, AreRoots};
 
 use crate::search::drop_over;

@@ -1,13 +1,12 @@
 -- The line of options and HNOFLO leave lines that they were given.
-use Rattle.bas_package.proofs.Common.{LineMay, LinesMay, chain, after, either, line_held, leaves}
+use Rattle.bas_package.proofs.Common.{LineMay, LinesMay, chain, after, either, line_held, leaves, Left, Numbered}
 use Rattle.std.proofs.Common.{◌≡◌, ℕ, List, Result, Ok, Err, All}
 use Rattle.std.specs.Prelude.{IfOk}
-use Rattle.outside.specs.Words.{words}
-use Rattle.outside.specs.Refusals.{refusal}
+use Rattle.outside.specs.Names.{words}
+use Rattle.outside.specs.Codes.{refusal}
 use Rattle.outside.specs.declared.codes.Code.TheVariants.{OutOfProfile}
 use Rattle.record_lines.specs.Items.{line_at}
-use Rattle.record_lines.specs.Layout.{Left, Numbered}
-use Rattle.array_reader.specs.Items.{number_at}
+use Rattle.array_reader.specs.Control.{number_at}
 use Rattle.array_reader.specs.Numbers.{number}
 use Rattle.bas_package.specs.Basics.{is_in_profile, option_line, head_item}
 

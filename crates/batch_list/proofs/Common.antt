@@ -4,6 +4,6 @@ pub use Rattle.std.proofs.Common.{length-append, map, option_and_then, refl, sym
 pub use Rattle.std.specs.List.{cons_option}
 pub use Rattle.batch_list.specs.Names.{Entry, entries, first_entry, refusal_of, refusals, unless_refused, with_entries, words_of}
 unfoldable pub use Rattle.batch_list.specs.Names.{entry_of, names_in}
-pub use Rattle.outside.specs.Names.{IsGoodName, folder_name}
-pub use Rattle.outside.specs.declared.refusals.Refusal.{Refusal}
-pub use Rattle.record_lines.specs.Layout.{Left, Numbered, is_comment, left_from}
+pub use Rattle.outside.specs.Names.{IsGoodName, TextMay, WordsMay, folder_name, words}
+pub use Rattle.outside.specs.declared.inputs.Refusal.{Refusal}
+pub use Rattle.record_lines.specs.Layout.{Left, LineMay, Numbered, is_comment, left_from, numbered_of}

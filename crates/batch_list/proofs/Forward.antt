@@ -1,11 +1,9 @@
 -- The names of a list are words of it.
 use Rattle.batch_list.proofs.Common.{◌≡◌, ℕ, Bool, true, false, List, [], ◌∷◌, Option, Some, None, Ok, All, if◌then◌else◌, cons_option, folder_name, Refusal}
 use Rattle.batch_list.proofs.Common.{Numbered, left_from, is_comment, Entry, first_entry, entry_of, entries, refusals, unless_refused, words_of, names_in}
+use Rattle.batch_list.proofs.Common.{WordsMay, TextMay, words, LineMay}
 use Rattle.std.specs.Prelude.{IfOk, IfSome}
 use Rattle.std.proofs.lemmas.List.Elements.{All-nil, All-cons, All-head, All-tail}
-use Rattle.outside.specs.Asking.{WordsMay, TextMay}
-use Rattle.outside.specs.Words.{words}
-use Rattle.record_lines.specs.Asking.{LineMay}
 use Rattle.record_lines.proofs.Forward.{given, text_held}
 
 module _ (may : List ℕ → Type 0) where

@@ -4,20 +4,18 @@ pub use Rattle.std.proofs.Common.{true, zero, ℕ, ℤ, ◌+ℤ◌, ◌+◌, ◌
 pub use Rattle.std.proofs.lemmas.Int.{clamps, ints}
 pub use Rattle.std.specs.Int.{int_max, int_min}
 pub use Rattle.std.specs.List.{AllZip, filter}
-pub use Rattle.budget_bounds.specs.Capped.{IsSum, capped, plus_pair}
+pub use Rattle.budget_bounds.specs.Capped.{AreSums, IsSum, capped, plus_pair, sum_of}
+unfoldable pub use Rattle.budget_bounds.specs.Capped.{tested, tested_budget, tested_terms}
 pub use Rattle.budget_bounds.specs.Covers.{CoverEncloses, Reaches}
 pub use Rattle.budget_bounds.specs.Exact.{AreWithin, EnclosesBudgets, HeadsAreWithin, exact_part}
 unfoldable pub use Rattle.budget_bounds.specs.Exact.{exact_singles, exact_term}
-pub use Rattle.budget_bounds.specs.Singles.{drain_pair, evap_pair, fixed_pair, fixed_term, flow_pair, flow_term, is_term, part, place_of, river_pair}
-unfoldable pub use Rattle.budget_bounds.specs.Singles.{singles}
-pub use Rattle.budget_bounds.specs.Terms.{all_terms, bounds_in, is_small, no_pair, term_limit, too_large, ◌>>=◌}
-unfoldable pub use Rattle.budget_bounds.specs.Terms.{budget_of, parts, term_of, term_pair, terms_of}
-pub use Rattle.budget_bounds.specs.Tested.{AreSums, sum_of}
-unfoldable pub use Rattle.budget_bounds.specs.Tested.{tested, tested_budget, tested_terms}
+pub use Rattle.budget_bounds.specs.Terms.{all_terms, bounds_in, drain_pair, evap_pair, fixed_pair, fixed_term, flow_pair, flow_term, is_small, is_term, no_pair}
+pub use Rattle.budget_bounds.specs.Terms.{part, place_of, river_pair, term_limit, too_large, ◌>>=◌}
+unfoldable pub use Rattle.budget_bounds.specs.Terms.{budget_of, parts, singles, term_of, term_pair, terms_of}
 pub use Rattle.budget_bounds.specs.declared.pair.TermPair.{TermPair}
 pub use Rattle.cell_balance.specs.Components.{sum_below}
-pub use Rattle.decimal_input.specs.Enclosures.{EnclosesSigned}
 pub use Rattle.decimal_input.specs.Fractions.{Fraction, den, fraction_total}
+pub use Rattle.decimal_input.specs.Wholes.{EnclosesSigned}
 pub use Rattle.step_problem.specs.Entries.{Entries, entries_at, no_entries}
 pub use Rattle.step_problem.specs.Heads.{lower_at, upper_at}
 pub use Rattle.step_problem.specs.declared.entry.Fixed.{Fixed}

@@ -3,7 +3,7 @@ use Rattle.budget_bounds.proofs.Common.{◌≡◌, ℕ, refl, ap, ◌∙◌, ari
 use Rattle.budget_bounds.proofs.Common.{TermPair, all_terms, budget_of, term_limit, term_of, term_pair, terms_of, capped, sum_of, tested, tested_terms}
 use Rattle.budget_bounds.proofs.Common.{tested_budget}
 use Rattle.std.specs.Int.Signed.{lt_z}
-use Rattle.budget_bounds.specs.declared.walk.TermSums.{TermSums}
+use Rattle.budget_bounds.specs.declared.terms.TermSums.{TermSums}
 
 alike : (limit a : ℤ) (s t : Bool) → lt_z (int_min a limit) limit ≡ s → lt_z a limit ≡ t → s ≡ t
 alike limit a true true e f = refl

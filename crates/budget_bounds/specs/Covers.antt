@@ -7,8 +7,7 @@ use Rattle.step_problem.specs.declared.place.Term.{Term}
 use Rattle.cell_balance.specs.Steps.{ExactCell}
 use Rattle.budget_bounds.specs.declared.pair.TermPair.{TermPair}
 use Rattle.budget_bounds.specs.declared.pair.Budget.{Budget}
-use Rattle.budget_bounds.specs.Singles.{place_of}
-use Rattle.budget_bounds.specs.Terms.{bounds_in}
+use Rattle.budget_bounds.specs.Terms.{place_of, bounds_in}
 use Rattle.budget_bounds.specs.Exact.{BudgetEncloses}
 
 -- the bounds a reach as far as b: the lower one is at most that of b, and the upper one at least that of b

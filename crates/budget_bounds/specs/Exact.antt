@@ -2,20 +2,18 @@
 use Rattle.std.specs.Prelude.{ℕ, ◌+◌, ◌<◌, List, map, length, ℤ, pos}
 use Rattle.std.specs.List.{filter}
 use Rattle.decimal_input.specs.Fractions.{Fraction, whole, negated, fraction_total}
-use Rattle.decimal_input.specs.Enclosures.{EnclosesSigned}
+use Rattle.decimal_input.specs.Wholes.{EnclosesSigned}
 use Rattle.step_problem.specs.declared.place.Dir.{Dir}
 use Rattle.step_problem.specs.declared.place.Dir.TheVariants.{In, Out}
 use Rattle.step_problem.specs.declared.place.Term.{Term}
 use Rattle.step_problem.specs.declared.place.Term.TheVariants.{Storage, ConstantHead, Wells, Drains, RiverLeakage, HeadDepBounds, Recharge, Et}
 use Rattle.step_problem.specs.Entries.{Entries}
 use Rattle.cell_balance.specs.Steps.{ExactFlow, ExactFixed, ExactCell, cell_at}
-use Rattle.cell_balance.specs.Balance.{greater, fixed_flow, river_flow, drain_flow, evap_flow}
-use Rattle.cell_balance.specs.Solutions.{share, LiesBetween}
+use Rattle.cell_balance.specs.Balance.{greater, fixed_flow, river_flow, drain_flow, evap_flow, share, LiesBetween}
 use Rattle.cell_balance.specs.Deep.{total_below}
 use Rattle.cell_balance.specs.Enclosures.{EnclosesStep}
 use Rattle.budget_bounds.specs.declared.pair.Budget.{Budget}
-use Rattle.budget_bounds.specs.Singles.{fixed_term, flow_term, is_term}
-use Rattle.budget_bounds.specs.Terms.{bounds_in}
+use Rattle.budget_bounds.specs.Terms.{fixed_term, flow_term, is_term, bounds_in}
 
 -- the known heads, and the constant flows, whose flows are of a term
 abbrev pub exact_fixed_of : Term → List ExactFixed → List ExactFixed

@@ -1,6 +1,4 @@
-pub mod Singles
 pub mod Terms
 pub mod Exact
 pub mod Covers
 pub mod Capped
-pub mod Tested

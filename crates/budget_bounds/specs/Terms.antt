@@ -1,20 +1,96 @@
 -- The bounds of a budget's terms, or the first term that is too large for the listing.
-use Rattle.std.specs.Prelude.{ℕ, ◌^◌, Bool, ◌&&◌, if◌then◌else◌, List, [], ◌∷◌, length, ℤ, pos, Result, Ok, Err, slice_index_or}
+use Rattle.std.specs.Prelude.{ℕ, ◌^◌, Bool, ◌&&◌, if◌then◌else◌, List, [], ◌∷◌, length, ℤ, pos, Result, Ok, Err, slice_index_or, nat_eq, map, neg_ℤ}
 use Rattle.std.specs.Int.Signed.{lt_z}
 use Rattle.step_problem.specs.declared.place.Dir.{Dir}
 use Rattle.step_problem.specs.declared.place.Dir.TheVariants.{In, Out}
 use Rattle.step_problem.specs.declared.place.Term.{Term}
 use Rattle.step_problem.specs.declared.place.Term.TheVariants.{Storage, ConstantHead, Wells, Drains, RiverLeakage, HeadDepBounds, Recharge, Et}
 use Rattle.step_problem.specs.declared.place.NoBound.{NoBound}
-use Rattle.step_problem.specs.declared.place.Place.TheVariants as places
 use Rattle.step_problem.specs.declared.refusal.StepRefusal.TheVariants.{FlowTooLarge}
 use Rattle.step_problem.specs.StepRefusals.{number_of}
 use Rattle.step_problem.specs.Entries.{Entries, entries_at}
-use Rattle.step_problem.specs.Flows.{total}
+use Rattle.step_problem.specs.Balances.{total, fixed_low, river_low, drain_low, evap_low, fixed_high, river_high, drain_high, evap_high}
 use Rattle.cell_balance.specs.Components.{sum_below}
 use Rattle.budget_bounds.specs.declared.pair.TermPair.{TermPair}
 use Rattle.budget_bounds.specs.declared.pair.Budget.{Budget}
-use Rattle.budget_bounds.specs.Singles.{place_of, singles, part}
+use Rattle.std.specs.List.{filter}
+use Rattle.std.specs.Int.{int_max}
+use Rattle.step_problem.specs.declared.entry.FixedKind.{FixedKind}
+use Rattle.step_problem.specs.declared.entry.FlowKind.{FlowKind}
+use Rattle.step_problem.specs.declared.entry.Fixed.{Fixed}
+use Rattle.step_problem.specs.declared.entry.River.{River}
+use Rattle.step_problem.specs.declared.entry.Drain.{Drain}
+use Rattle.step_problem.specs.declared.entry.Evap.{Evap}
+use Rattle.step_problem.specs.declared.entry.Flow.{Flow}
+use Rattle.step_problem.specs.declared.entry.FixedKind.TheVariants as kinds
+use Rattle.step_problem.specs.declared.entry.FlowKind.TheVariants as packages
+use Rattle.step_problem.specs.declared.place.Place.TheVariants as places
+
+-- The single flows of each term into a variable cell, each known by its least and its greatest value (TM 6-A16,
+-- chapter 3, the volumetric budget). A flow into the cell is positive.
+-- the place of a term in the listing
+abbrev pub place_of : Term → ℕ
+place_of Storage = 0
+place_of ConstantHead = 1
+place_of Wells = 2
+place_of Drains = 3
+place_of RiverLeakage = 4
+place_of HeadDepBounds = 5
+place_of Recharge = 6
+place_of Et = 7
+
+-- the term of a flow to a known head, and that of a constant flow
+abbrev pub fixed_term : FixedKind → Term
+fixed_term kinds.Storage = Storage
+fixed_term kinds.Constant = ConstantHead
+fixed_term kinds.General = HeadDepBounds
+
+abbrev pub flow_term : FlowKind → Term
+flow_term packages.Wells = Wells
+flow_term packages.Recharge = Recharge
+
+abbrev pub is_term : Term → Term → Bool
+is_term a b = nat_eq (place_of a) (place_of b)
+
+-- The bounds of a single flow into a cell whose head lies between l and u: a flow falls in the cell's head, so its
+-- least value is the lower one at u, and its greatest the upper one at l.
+abbrev pub flow_pair : Flow → TermPair
+flow_pair x = record { lo = x.lo; hi = x.hi }
+
+abbrev pub fixed_pair : ℤ → ℤ → Fixed → TermPair
+fixed_pair l u x = record { lo = fixed_low u x; hi = fixed_high l x }
+
+abbrev pub river_pair : ℤ → ℤ → River → TermPair
+river_pair l u x = record { lo = river_low u x; hi = river_high l x }
+
+abbrev pub drain_pair : ℤ → ℤ → Drain → TermPair
+drain_pair l u x = record { lo = drain_low u x; hi = drain_high l x }
+
+abbrev pub evap_pair : ℤ → ℤ → Evap → TermPair
+evap_pair l u x = record { lo = evap_low u x; hi = evap_high l x }
+
+-- the known heads, and the constant flows, whose flows are of a term
+abbrev pub fixed_of : Term → List Fixed → List Fixed
+fixed_of t xs = filter (λ x. is_term t (fixed_term x.kind)) xs
+
+abbrev pub flows_of : Term → List Flow → List Flow
+flows_of t xs = filter (λ x. is_term t (flow_term x.kind)) xs
+
+-- the single flows of a term into a cell with these entries, whose head lies between l and u
+unfoldable pub singles : Term → Entries → ℤ → ℤ → List TermPair
+singles Storage c l u = map (fixed_pair l u) (fixed_of Storage c.fixed)
+singles ConstantHead c l u = map (fixed_pair l u) (fixed_of ConstantHead c.fixed)
+singles Wells c l u = map flow_pair (flows_of Wells c.flows)
+singles Drains c l u = map (drain_pair l u) c.drains
+singles RiverLeakage c l u = map (river_pair l u) c.rivers
+singles HeadDepBounds c l u = map (fixed_pair l u) (fixed_of HeadDepBounds c.fixed)
+singles Recharge c l u = map flow_pair (flows_of Recharge c.flows)
+singles Et c l u = map (evap_pair l u) c.evaps
+
+-- the part of a flow that goes into the variable cells, and the part that goes out of them, as a magnitude
+abbrev pub part : Dir → TermPair → TermPair
+part In x = record { lo = int_max x.lo (pos 0); hi = int_max x.hi (pos 0) }
+part Out x = record { lo = int_max (neg_ℤ x.hi) (pos 0); hi = int_max (neg_ℤ x.lo) (pos 0) }
 
 -- the sum of the parts of these flows that go in, or out
 unfoldable pub parts : Dir → List TermPair → TermPair

@@ -1,12 +1,10 @@
 // Whether the bounds of one budget reach as far as those of another.
 ghost use Rattle.std.specs.Prelude.{◌≡◌, ◌<◌, ◌↔◌, IsTrue, MatchOption};
 ghost use Rattle.budget_bounds.specs.Covers.{Covers, IsFirstShort, IsFirstUncovered, Reaches};
-ghost use Rattle.budget_bounds.specs.Singles.{place_of};
-ghost use Rattle.budget_bounds.specs.Terms.{bounds_in};
+ghost use Rattle.budget_bounds.specs.Terms.{place_of, bounds_in, fixed_term, flow_term, is_term};
 
-use crate::kinds::{place_of, term_at};
 use crate::pair::{Budget, TermPair};
-use step_problem::{Dir, Term};
+use step_problem::{Dir, FixedKind, FlowKind, Term};
 
 fn reaches(a: TermPair, b: TermPair) -> bool
     ensures { IsTrue result ↔ Reaches a b }
@@ -57,4 +55,66 @@ pub fn first_uncovered(listed: &Budget, computed: &Budget) -> Option<(Dir, Term)
         Some(term) => Some((Dir::Out, term)),
         None => None,
     }
+}
+
+// The term of an entry's flow.
+
+/// The place of a term in the listing.
+pub(crate) fn place_of(term: Term) -> usize
+    ensures place { result ≡ place_of term }
+    ensures eight { result < 8 }
+{
+    match term {
+        Term::Storage => 0,
+        Term::ConstantHead => 1,
+        Term::Wells => 2,
+        Term::Drains => 3,
+        Term::RiverLeakage => 4,
+        Term::HeadDepBounds => 5,
+        Term::Recharge => 6,
+        Term::Et => 7,
+    }
+}
+
+/// The term at a place in the listing.
+pub(crate) fn term_at(place: usize) -> Term
+    requires { place < 8 }
+    ensures { place_of result ≡ place }
+{
+    match place {
+        0 => Term::Storage,
+        1 => Term::ConstantHead,
+        2 => Term::Wells,
+        3 => Term::Drains,
+        4 => Term::RiverLeakage,
+        5 => Term::HeadDepBounds,
+        6 => Term::Recharge,
+        _ => Term::Et,
+    }
+}
+
+pub(crate) fn fixed_term(kind: FixedKind) -> Term
+    ensures { result ≡ fixed_term kind }
+{
+    match kind {
+        FixedKind::Storage => Term::Storage,
+        FixedKind::Constant => Term::ConstantHead,
+        FixedKind::General => Term::HeadDepBounds,
+    }
+}
+
+pub(crate) fn flow_term(kind: FlowKind) -> Term
+    ensures { result ≡ flow_term kind }
+{
+    match kind {
+        FlowKind::Wells => Term::Wells,
+        FlowKind::Recharge => Term::Recharge,
+    }
+}
+
+/// Whether two terms are the same.
+pub(crate) fn is_term(a: Term, b: Term) -> bool
+    ensures { result ≡ is_term a b }
+{
+    place_of(a) == place_of(b)
 }

@@ -1,10 +1,10 @@
 // The single flows of entries, by their bounds.
 ghost use Rattle.std.specs.Prelude.{◌≡◌, ◌<◌, ◌^◌, ℤ, Bool, true};
 ghost use Rattle.step_problem.specs.Conditions.{FixedFits, RiverFits, DrainFits, EvapFits, magnitude};
-ghost use Rattle.budget_bounds.specs.Singles.{flow_pair, fixed_pair, river_pair, drain_pair, evap_pair, fixed_term, flow_term, is_term};
+ghost use Rattle.budget_bounds.specs.Terms.{flow_pair, fixed_pair, river_pair, drain_pair, evap_pair, fixed_term, flow_term, is_term};
 ghost use Rattle.budget_bounds.specs.Capped.{AreHeads, IsFlow};
 
-use crate::kinds::{fixed_term, flow_term, is_term};
+use crate::cover::{fixed_term, flow_term, is_term};
 use crate::pair::TermPair;
 use step_problem::{Bound, Branch, Drain, Evap, Fixed, Flow, River, Side, Term};
 

@@ -3,6 +3,7 @@ ghost use Rattle.budget_bounds.specs.Covers.{CoverEncloses};
 ghost use Rattle.budget_bounds.specs.Exact.{HeadsAreWithin};
 
 /// Heads of a solution that lie between the bounds are among the heads that a budget is about.
+#[tactic(auto, using(crate::proofs::Enclosed::heads_within))]
 pub fn heads_within()
     ensures { HeadsAreWithin }
 {}

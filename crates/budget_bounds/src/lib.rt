@@ -3,12 +3,10 @@
 
 mod cover;
 mod flows;
-mod kinds;
 pub mod laws;
 pub mod pair;
 mod sums;
 mod terms;
-mod walk;
 
 pub use cover::first_uncovered;
 pub use pair::{Budget, TermPair};

@@ -3,8 +3,7 @@ ghost use Rattle.std.specs.Prelude.{◌≡◌, ◌^◌, cond, map, All, pos, ◌
 ghost use Rattle.std.specs.Int.{int_max, int_min};
 ghost use Rattle.std.specs.List.{filter};
 ghost use Rattle.step_problem.specs.Conditions.{CellFits};
-ghost use Rattle.budget_bounds.specs.Singles.{part, singles};
-ghost use Rattle.budget_bounds.specs.Terms.{parts, term_limit};
+ghost use Rattle.budget_bounds.specs.Terms.{part, singles, parts, term_limit};
 ghost use Rattle.budget_bounds.specs.Capped.{AreHeads, IsFlow, IsPart, IsSum, capped, plus_pair};
 
 use crate::flows::Entry;

@@ -10,30 +10,29 @@ pub use Rattle.std.proofs.lemmas.List.Elements.{All-cons, All-contains, All-from
 pub use Rattle.std.specs.Int.{int_max, int_min}
 pub use Rattle.std.specs.List.{AllZip, filter}
 pub use Rattle.std.specs.Prelude.{slice_index_or}
-pub use Rattle.cell_balance.specs.Balance.{balance, drain_flow, evap_flow, fixed_flow, greater, lesser, link_flow, minus, river_flow}
+pub use Rattle.cell_balance.specs.Balance.{LiesBetween, SolvesStep, balance, drain_flow, evap_flow, fixed_flow, greater, lesser, link_flow, minus, river_flow}
+pub use Rattle.cell_balance.specs.Balance.{share}
 pub use Rattle.cell_balance.specs.Components.{IsCarried, IsComponent, IsHeldBelow, Leads, Reaches, deep_low, sum_below, sum_inside}
 pub use Rattle.cell_balance.specs.Deep.{IsClosed, LiesBelow, deep_flow, deep_river, full_rate, total_below, total_inside}
 pub use Rattle.cell_balance.specs.Enclosures.{CellEncloses, DrainEncloses, EnclosesStep, EvapEncloses, FixedEncloses, FlowEncloses, LinkEncloses, RiverEncloses}
-pub use Rattle.cell_balance.specs.EntryLaws.{BoundsHold, DrainLaws, EvapLaws, FixedLaws, FlowsAreRight, IsBelow, RiverLaws, over_difference}
 pub use Rattle.cell_balance.specs.Example.{example_barrier, example_heads, example_highs, example_lows, example_problem, example_step, first_cell}
 pub use Rattle.cell_balance.specs.Example.{first_entries, one, second_cell, second_entries, third_cell, third_entries}
-pub use Rattle.cell_balance.specs.Laws.{BalanceFalls, BalanceRises, Compares, DryLaw, IsComparable, LinksCancel}
-pub use Rattle.cell_balance.specs.Links.{AreLinked, HasEqualEnds, HasLinkBack, no_link}
-pub use Rattle.cell_balance.specs.Solutions.{LiesBetween, SolvesStep, share}
-pub use Rattle.cell_balance.specs.Steps.{ExactCell, ExactDrain, ExactEvap, ExactFixed, ExactFlow, ExactLink, ExactRiver, cell_at, no_cell}
+pub use Rattle.cell_balance.specs.Laws.{BalanceFalls, BalanceRises, BoundsHold, Compares, DrainLaws, DryLaw, EvapLaws, FixedLaws, FlowsAreRight, IsBelow}
+pub use Rattle.cell_balance.specs.Laws.{IsComparable, LinksCancel, RiverLaws, over_difference}
+pub use Rattle.cell_balance.specs.Steps.{AreLinked, ExactCell, ExactDrain, ExactEvap, ExactFixed, ExactFlow, ExactLink, ExactRiver, HasEqualEnds, HasLinkBack}
+pub use Rattle.cell_balance.specs.Steps.{cell_at, no_cell, no_link}
 pub use Rattle.decimal_input.proofs.Integers.{le-add, le-antisym, le-of}
 pub use Rattle.decimal_input.proofs.Signs.{cancel_right, mul_mono_right, swap, turned}
-pub use Rattle.decimal_input.specs.Enclosures.{Encloses, EnclosesSigned, IsBetweenSigned, IsBetweenWhole, IsShare}
 pub use Rattle.decimal_input.specs.Fractions.{AtMost, Fraction, IsOver, Same, den, fraction_total, negated, plus, signed, times, whole}
 pub use Rattle.decimal_input.specs.Ratios.{Ratio}
+pub use Rattle.decimal_input.specs.Wholes.{Encloses, EnclosesSigned, IsBetweenSigned, IsBetweenWhole, IsShare}
 pub use Rattle.step_problem.proofs.Leasts.{least_times, most_times, mul_neg, neg_least, neg_most, neg_mul}
 pub use Rattle.step_problem.proofs.Ring.{as_diff, diffs, mul_add, mul_assoc, mul_mono, mul_nonneg, same_diff}
-pub use Rattle.step_problem.specs.Balances.{drain_high, drain_low, evap_high, evap_low, fixed_high, fixed_low, link_high, link_low, lower_balance, river_high}
-pub use Rattle.step_problem.specs.Balances.{river_low, upper_balance}
+pub use Rattle.step_problem.specs.Balances.{drain_high, drain_low, evap_high, evap_low, fixed_high, fixed_low, least, link_high, link_low, lower_balance, most}
+pub use Rattle.step_problem.specs.Balances.{river_high, river_low, total, upper_balance}
 pub use Rattle.step_problem.specs.Conditions.{CellFits, DrainFits, EvapFits, FixedFits, IsHead, IsProblem, LinkFits, LinksFit, RiverFits, deep_river_low}
 pub use Rattle.step_problem.specs.Conditions.{head_limit}
 pub use Rattle.step_problem.specs.Entries.{Entries, entries_at, no_entries}
-pub use Rattle.step_problem.specs.Flows.{least, most, total}
 pub use Rattle.step_problem.specs.Heads.{IsCertificate, head_at}
 pub use Rattle.step_problem.specs.declared.entry.Drain.{Drain}
 pub use Rattle.step_problem.specs.declared.entry.Evap.{Evap}

@@ -3,7 +3,7 @@ use Rattle.std.specs.Prelude.{◌≡◌, ℕ, zero, suc, ◌<◌, ◌⊎◌, Lis
 use Rattle.step_problem.specs.declared.entry.Link.{Link}
 use Rattle.step_problem.specs.declared.entry.Fixed.{Fixed}
 use Rattle.step_problem.specs.Entries.{Entries, entries_at}
-use Rattle.step_problem.specs.Flows.{total}
+use Rattle.step_problem.specs.Balances.{total}
 use Rattle.step_problem.specs.Conditions.{deep_river_low, full_rate}
 
 -- f 0 + .. + f (n - 1)

@@ -1,9 +1,9 @@
 -- When the whole bounds of a step's problem enclose an exact step: they have the same entries at the same cells,
 -- place by place, and each exact value lies between its two bounds. Conductances are known to s decimals, heads to 9,
 -- flows to s + 9.
-use Rattle.std.specs.Prelude.{◌≡◌, ℕ, ◌+◌, List}
+use Rattle.std.specs.Prelude.{◌≡◌, ℕ, ◌+◌, List, ◌<◌, length, ℤ}
 use Rattle.std.specs.List.{AllZip}
-use Rattle.decimal_input.specs.Enclosures.{Encloses, EnclosesSigned}
+use Rattle.decimal_input.specs.Wholes.{Encloses, EnclosesSigned}
 use Rattle.step_problem.specs.declared.entry.Flow.{Flow}
 use Rattle.step_problem.specs.declared.entry.Link.{Link}
 use Rattle.step_problem.specs.declared.entry.Fixed.{Fixed}
@@ -11,8 +11,8 @@ use Rattle.step_problem.specs.declared.entry.River.{River}
 use Rattle.step_problem.specs.declared.entry.Drain.{Drain}
 use Rattle.step_problem.specs.declared.entry.Evap.{Evap}
 use Rattle.step_problem.specs.Entries.{Entries}
-use Rattle.cell_balance.specs.Steps.{ExactFlow, ExactLink, ExactFixed, ExactRiver, ExactDrain, ExactEvap, ExactCell}
-use Rattle.cell_balance.specs.Links.{HasEqualEnds}
+use Rattle.cell_balance.specs.Steps.{ExactFlow, ExactLink, ExactFixed, ExactRiver, ExactDrain, ExactEvap, ExactCell, HasEqualEnds}
+use Rattle.cell_balance.specs.Balance.{SolvesStep, LiesBetween}
 
 module _ (s : ℕ) where
   pub record FlowEncloses (p : Flow) (e : ExactFlow) : Type 0 where
@@ -56,3 +56,8 @@ module _ (s : ℕ) where
 pub record EnclosesStep (s : ℕ) (p : List Entries) (e : List ExactCell) : Type 0 where
   pub cells : AllZip (CellEncloses s) p e
   pub ends : HasEqualEnds e
+
+-- Heads that enclose all solutions of a step.
+-- Every solution of every exact step that the problem encloses lies between the heads l and u.
+abbrev pub EnclosesSolutions : List Entries → (ℕ → ℤ) → (ℕ → ℤ) → Type 0
+EnclosesSolutions p l u = (s : ℕ) (e : List ExactCell) (d : ℕ) (X : ℕ → ℤ) → EnclosesStep s p e → 0 < d → SolvesStep e d X → LiesBetween (length p) d X l u

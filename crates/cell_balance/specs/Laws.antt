@@ -1,16 +1,21 @@
 -- Laws of exact balances, and the comparison of bounds with solutions. Heads are whole numerators over one denominator d.
-use Rattle.std.specs.Prelude.{◌≡◌, ℕ, ◌<◌, List, length, All, Bool, true, ℤ, pos, ◌≤ℤ◌}
-use Rattle.decimal_input.specs.Fractions.{fraction_total, AtMost}
+use Rattle.std.specs.Prelude.{◌≡◌, ℕ, ◌<◌, List, length, All, Bool, true, ℤ, pos, ◌≤ℤ◌, ◌+◌, ◌*ℤ◌, ◌<ℤ◌}
+use Rattle.decimal_input.specs.Fractions.{fraction_total, AtMost, Fraction, den, signed, negated, times, Same}
 use Rattle.step_problem.specs.Entries.{Entries}
 use Rattle.step_problem.specs.Conditions.{IsProblem}
 use Rattle.step_problem.specs.Heads.{Edges, head_at, IsCertificate}
-use Rattle.cell_balance.specs.Steps.{ExactCell, cell_at}
-use Rattle.cell_balance.specs.Links.{AreLinked}
-use Rattle.cell_balance.specs.Balance.{link_flow, balance}
-use Rattle.cell_balance.specs.Solutions.{share, SolvesStep, LiesBetween}
-use Rattle.cell_balance.specs.Enclosures.{EnclosesStep}
+use Rattle.cell_balance.specs.Steps.{ExactCell, cell_at, AreLinked, ExactLink, ExactFixed, ExactRiver, ExactDrain, ExactEvap}
+use Rattle.cell_balance.specs.Balance.{link_flow, balance, share, SolvesStep, LiesBetween, minus, fixed_flow, river_flow, drain_flow, evap_flow}
+use Rattle.cell_balance.specs.Enclosures.{EnclosesStep, LinkEncloses, FixedEncloses, RiverEncloses, DrainEncloses, EvapEncloses}
 use Rattle.cell_balance.specs.Components.{IsHeldBelow}
-use Rattle.cell_balance.specs.Deep.{total_inside, IsClosed, deep_flow, LiesBelow}
+use Rattle.cell_balance.specs.Deep.{total_inside, IsClosed, deep_flow, LiesBelow, deep_river, full_rate}
+use Rattle.decimal_input.specs.Wholes.{EnclosesSigned}
+use Rattle.step_problem.specs.declared.entry.Link.{Link}
+use Rattle.step_problem.specs.declared.entry.Fixed.{Fixed}
+use Rattle.step_problem.specs.declared.entry.River.{River}
+use Rattle.step_problem.specs.declared.entry.Drain.{Drain}
+use Rattle.step_problem.specs.declared.entry.Evap.{Evap}
+use Rattle.step_problem.specs.Balances.{link_low, fixed_low, river_low, drain_low, evap_low, link_high, fixed_high, river_high, drain_high, evap_high}
 
 -- over a set of cells closed under links, the flows over links cancel
 abbrev pub LinksCancel : Type 0
@@ -55,3 +60,59 @@ abbrev pub Compares : Type 0
 Compares =
     (p : List Entries) (b : Edges) (l u : ℕ → ℤ) (s : ℕ) (e : List ExactCell) (d : ℕ) (X : ℕ → ℤ) →
     IsComparable p b l u s e d X → LiesBetween (length p) d X l u
+
+-- The manual's rules of single flows into a cell, and that the bounds of a flow enclose it.
+-- f < g
+pub record IsBelow (f g : Fraction) : Type 0 where
+  pub below : (f.num *ℤ pos (den g)) <ℤ (g.num *ℤ pos (den f))
+
+-- C * (f - g)
+abbrev pub over_difference : Fraction → Fraction → Fraction → Fraction
+over_difference c f g = times c (minus f g)
+
+-- a known head above the cell's gives water, one below takes it
+pub record FixedLaws (v : Fraction) (x : ExactFixed) : Type 0 where
+  pub gives : 0 < x.conductance.num → IsBelow v x.head → pos 0 <ℤ (fixed_flow v x).num
+  pub takes : 0 < x.conductance.num → IsBelow x.head v → (fixed_flow v x).num <ℤ pos 0
+
+-- a river takes water where the head is above its stage, gives C * (stage - head) above its bottom and the constant C * (stage - bottom) below it
+pub record RiverLaws (v : Fraction) (x : ExactRiver) : Type 0 where
+  pub takes : 0 < x.conductance.num → IsBelow x.stage v → (river_flow v x).num <ℤ pos 0
+  pub above : AtMost x.bottom v → Same (river_flow v x) (over_difference (signed x.conductance) x.stage v)
+  pub below : AtMost v x.bottom → Same (river_flow v x) (deep_river x)
+
+-- a drain never gives water, takes none at or below its elevation, and takes C * (head - elevation) above it
+pub record DrainLaws (v : Fraction) (x : ExactDrain) : Type 0 where
+  pub never_gives : (drain_flow v x).num ≤ℤ pos 0
+  pub below : AtMost v x.elevation → (drain_flow v x).num ≡ pos 0
+  pub above : AtMost x.elevation v → Same (drain_flow v x) (over_difference (signed x.conductance) x.elevation v)
+
+-- an evapotranspiration takes between nothing and its full rate: nothing at or below the extinction elevation, the
+-- full rate at or above the surface, and in proportion between
+pub record EvapLaws (v : Fraction) (x : ExactEvap) : Type 0 where
+  pub never_gives : (evap_flow v x).num ≤ℤ pos 0
+  pub at_most_full : AtMost (negated (full_rate x)) (evap_flow v x)
+  pub below : AtMost v x.extinction → (evap_flow v x).num ≡ pos 0
+  pub between : AtMost x.extinction v → AtMost v x.surface → Same (evap_flow v x) (over_difference (signed x.conductance) x.extinction v)
+  pub above : AtMost x.surface v → Same (evap_flow v x) (negated (full_rate x))
+
+pub record FlowsAreRight : Type 0 where
+  pub fixed : (v : Fraction) (x : ExactFixed) → FixedLaws v x
+  pub rivers : (v : Fraction) (x : ExactRiver) → RiverLaws v x
+  pub drains : (v : Fraction) (x : ExactDrain) → DrainLaws v x
+  pub evaps : (v : Fraction) (x : ExactEvap) → EvapLaws v x
+
+-- Where a cell's head lies between l and u, in units of 10^-9, and the head at the other end of a link between L and
+-- U, each exact flow lies between the lower flow at u and the upper flow at l. For storage this takes the old head's
+-- lower bound on the one side and its upper bound on the other.
+pub record FlowsAreEnclosed (s : ℕ) (v : Fraction) (l u : ℤ) : Type 0 where
+  pub links : (p : Link) (x : ExactLink) (h : ℕ → Fraction) (L U : ℕ → ℤ) → LinkEncloses s p x →
+      EnclosesSigned (L x.cell) (U x.cell) 9 (h x.cell) →
+      EnclosesSigned (link_low L u p) (link_high U l p) (s + 9) (link_flow h v x)
+  pub fixed : (p : Fixed) (x : ExactFixed) → FixedEncloses s p x → EnclosesSigned (fixed_low u p) (fixed_high l p) (s + 9) (fixed_flow v x)
+  pub rivers : (p : River) (x : ExactRiver) → RiverEncloses s p x → EnclosesSigned (river_low u p) (river_high l p) (s + 9) (river_flow v x)
+  pub drains : (p : Drain) (x : ExactDrain) → DrainEncloses s p x → EnclosesSigned (drain_low u p) (drain_high l p) (s + 9) (drain_flow v x)
+  pub evaps : (p : Evap) (x : ExactEvap) → EvapEncloses s p x → EnclosesSigned (evap_low u p) (evap_high l p) (s + 9) (evap_flow v x)
+
+abbrev pub BoundsHold : Type 0
+BoundsHold = (s : ℕ) (v : Fraction) (l u : ℤ) → EnclosesSigned l u 9 v → FlowsAreEnclosed s v l u

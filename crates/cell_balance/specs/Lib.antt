@@ -1,11 +1,7 @@
 pub mod Steps
-pub mod Links
 pub mod Balance
-pub mod Solutions
 pub mod Enclosures
-pub mod SolutionBounds
 pub mod Components
 pub mod Deep
 pub mod Laws
-pub mod EntryLaws
 pub mod Example

@@ -1,8 +1,8 @@
 -- The exact finite-difference equations of one time step as plain data: for each variable cell all that flows into it
 -- (TM 6-A16, chapters 2, 5 and 6). Conductances, heads and flows are exact fractions, in the model's units of length
 -- and time.
-use Rattle.std.specs.Prelude.{ℕ, List, [], slice_index_or}
-use Rattle.decimal_input.specs.Ratios.{Ratio}
+use Rattle.std.specs.Prelude.{ℕ, List, [], slice_index_or, ◌≡◌, ◌<◌, length, All, Contains}
+use Rattle.decimal_input.specs.Ratios.{Ratio, Same}
 use Rattle.decimal_input.specs.Fractions.{Fraction}
 use Rattle.step_problem.specs.declared.entry.FixedKind.{FixedKind}
 use Rattle.step_problem.specs.declared.entry.FlowKind.{FlowKind}
@@ -60,3 +60,25 @@ no_cell = record { id = 0; flows = []; links = []; fixed = []; rivers = []; drai
 -- the cell of index c in a step
 abbrev pub cell_at : List ExactCell → ℕ → ExactCell
 cell_at e c = slice_index_or e c no_cell
+
+-- The links of an exact step: a branch between two variable cells is an entry at each of them.
+-- x, a link of cell c, has a link back at its other end, with the same conductance
+pub record HasLinkBack (e : List ExactCell) (c : ℕ) (x : ExactLink) : Type 0 where
+  pub back : ExactLink
+  pub is_there : Contains (cell_at e x.cell).links back
+  pub leads_back : back.cell ≡ c
+  pub same : Same back.conductance x.conductance
+
+-- the two ends of each link have the same conductance
+abbrev pub HasEqualEnds : List ExactCell → Type 0
+HasEqualEnds e = (c : ℕ) → c < length e → All (HasLinkBack e c) (cell_at e c).links
+
+abbrev pub no_link : ExactLink
+no_link = record { cell = 0; conductance = record { num = 0; less = 0 } }
+
+-- The links of a step: each cell's lead to different cells of the step, and the two ends of a link have the same conductance.
+pub record AreLinked (e : List ExactCell) : Type 0 where
+  pub range : (c : ℕ) → c < length e → All (λ x. x.cell < length e) (cell_at e c).links
+  pub apart : (c i j : ℕ) → c < length e → i < j → j < length (cell_at e c).links →
+      (slice_index_or (cell_at e c).links i no_link).cell ≡ (slice_index_or (cell_at e c).links j no_link).cell → ⊥
+  pub ends : HasEqualEnds e

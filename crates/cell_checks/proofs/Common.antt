@@ -3,7 +3,7 @@ pub use Rattle.std.proofs.Common.{All, Bool, Err, List, None, Ok, Option, Result
 pub use Rattle.std.proofs.Common.{zero, ℕ, ◌+◌, ◌-◌, ◌<◌, ◌≡◌, ◌≤◌, ◌⊎◌}
 pub use Rattle.cell_checks.specs.Checks.{at_cell, cell_step, code_of, passes}
 unfoldable pub use Rattle.cell_checks.specs.Checks.{checked, fault_at}
-pub use Rattle.model_types.specs.Cells.{cell_count, layer_size}
+pub use Rattle.model_types.specs.Faces.{cell_count, layer_size}
 pub use Rattle.model_types.specs.Layers.{bottom_at, dec_at, has_bed, is_active, lowest, top_at}
 pub use Rattle.model_types.specs.declared.model.FlowModel.{FlowModel}
 pub use Rattle.number_limits.proofs.Canonical.{dec_at_is}

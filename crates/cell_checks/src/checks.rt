@@ -1,7 +1,7 @@
 // Checks over all cells.
 ghost use Rattle.std.specs.Prelude.{◌≡◌, ◌<◌, All};
-ghost use Rattle.decimal_input.specs.Canonical.{IsDec};
-ghost use Rattle.model_types.specs.Cells.{cell_count};
+ghost use Rattle.decimal_input.specs.Decimals.{IsDec};
+ghost use Rattle.model_types.specs.Faces.{cell_count};
 ghost use Rattle.model_types.specs.Grids.{IsGrid, HasSize};
 ghost use Rattle.record_lines.specs.Reading.{HasText};
 ghost use Rattle.cell_checks.specs.Checks.{at_cell, cell_step, checked, fault_at};

@@ -1,7 +1,7 @@
 // The tests of a cell.
 ghost use Rattle.std.specs.Prelude.{◌≡◌, ◌<◌, All};
-ghost use Rattle.decimal_input.specs.Canonical.{IsDec};
-ghost use Rattle.model_types.specs.Cells.{cell_count};
+ghost use Rattle.decimal_input.specs.Decimals.{IsDec};
+ghost use Rattle.model_types.specs.Faces.{cell_count};
 ghost use Rattle.model_types.specs.Grids.{IsGrid};
 ghost use Rattle.model_types.specs.Layers.{dec_at, bottom_at, lowest, top_at};
 ghost use Rattle.cell_checks.specs.Checks.{has_head, has_good_properties, passes, code_of, fault_at, is_checked_bed, is_thick_cell};

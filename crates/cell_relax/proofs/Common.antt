@@ -3,8 +3,7 @@ pub use Rattle.std.proofs.Common.{All, FitsSigned, List, [], ap, arith, get_or, 
 pub use Rattle.std.proofs.Common.{ℤ, ◌++◌, ◌+◌, ◌-ℤ◌, ◌<ℤ◌, ◌<◌, ◌∙◌, ◌∷◌, ◌≡◌, ◌≤ℤ◌, ◌⊎◌}
 pub use Rattle.std.proofs.lemmas.Int.{by_lt_z, clamps, ints, to_z-of_z}
 pub use Rattle.std.specs.Int.{w128, w64}
-pub use Rattle.cell_relax.specs.Sides.{IsAsTight, IsRelaxedOn, LetsMove, Moves, other, tighter_of, turned_on}
-pub use Rattle.cell_relax.specs.Words.{AreWords, heads_on}
+pub use Rattle.cell_relax.specs.Sides.{AreWords, IsAsTight, IsRelaxedOn, LetsMove, Moves, RelaxedKeepOrder, heads_on, other, tighter_of, turned_on}
 pub use Rattle.step_problem.proofs.BothSides.{high_side, le_trans, low_side}
 pub use Rattle.step_problem.proofs.Falls.{lower_falls, lower_rises, upper_falls, upper_rises}
 pub use Rattle.step_problem.specs.Conditions.{IsHead, IsProblem}

@@ -1,6 +1,5 @@
 -- Relaxed heads keep the order of heads.
-use Rattle.cell_relax.proofs.Common.{inl, inr, subst, sym, ℤ, ◌≤ℤ◌, Low, High, entries_at, le_trans, lower_rises, upper_rises}
-use Rattle.cell_relax.specs.Laws.{RelaxedKeepOrder}
+use Rattle.cell_relax.proofs.Common.{inl, inr, subst, sym, ℤ, ◌≤ℤ◌, Low, High, entries_at, le_trans, lower_rises, upper_rises, RelaxedKeepOrder}
 
 pub relaxed_keep_order : RelaxedKeepOrder
 relaxed_keep_order Low p c h k r s above from to =

@@ -1,3 +1,1 @@
-pub mod Words
 pub mod Sides
-pub mod Laws

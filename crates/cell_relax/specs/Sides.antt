@@ -1,13 +1,30 @@
 -- The order of tightness and the moves of either side.
-use Rattle.std.specs.Prelude.{ℕ, ◌<◌, List, length, ℤ, pos, neg_ℤ, ◌≤ℤ◌}
+use Rattle.std.specs.Prelude.{ℕ, ◌<◌, List, length, ℤ, pos, neg_ℤ, ◌≤ℤ◌, ◌≡◌, slice_index_or, All}
 use Rattle.std.specs.Int.{int_max, int_min}
 use Rattle.step_problem.specs.declared.heads.Side.{Side}
 use Rattle.step_problem.specs.declared.heads.Side.TheVariants.{Low, High}
 use Rattle.step_problem.specs.Entries.{Entries, entries_at}
-use Rattle.step_problem.specs.BothSides.{balance}
+use Rattle.step_problem.specs.Balances.{balance}
 use Rattle.step_problem.specs.declared.heads.Bound.{Bound}
 use Rattle.step_problem.specs.Sides.{IsRelaxed}
-use Rattle.cell_relax.specs.Words.{heads_on}
+use Rattle.step_problem.specs.Conditions.{IsHead}
+use Rattle.step_problem.specs.Heads.{no_bound, lower_at, upper_at}
+
+-- Heads of a problem's cells, kept as one bound for each cell.
+-- the head of a bound on one side
+abbrev pub head_of : Side → Bound → ℤ
+head_of Low word = word.low
+head_of High word = word.high
+
+-- the heads of one side, by cell
+abbrev pub heads_on : Side → List Bound → ℕ → ℤ
+heads_on side words c = head_of side (slice_index_or words c no_bound)
+
+-- one bound for each cell, with heads in range
+pub record AreWords (p : List Entries) (words : List Bound) : Type 0 where
+  pub whole : length words ≡ length p
+  pub low : (c : ℕ) → c < length p → IsHead (lower_at words c)
+  pub high : (c : ℕ) → c < length p → IsHead (upper_at words c)
 
 -- the head y is as tight as x: lower heads rise, upper heads sink
 abbrev pub IsAsTight : Side → ℤ → ℤ → Type 0
@@ -44,3 +61,12 @@ AreNoLooser p old new = (side : Side) (c : ℕ) → c < length p → IsAsTight s
 abbrev pub other : Side → Side
 other Low = High
 other High = Low
+
+-- Relaxed heads keep the order of the heads from which they are computed.
+-- the heads k are nowhere below h, at cell c and at the other ends of its links
+pub record AreNoLower (p : List Entries) (c : ℕ) (h k : ℕ → ℤ) : Type 0 where
+  pub own : h c ≤ℤ k c
+  pub others : All (λ x. h x.cell ≤ℤ k x.cell) (entries_at p c).links
+
+abbrev pub RelaxedKeepOrder : Type 0
+RelaxedKeepOrder = (side : Side) (p : List Entries) (c : ℕ) (h k : ℕ → ℤ) (r s : ℤ) → AreNoLower p c h k → IsRelaxedOn side p h c r → IsRelaxedOn side p k c s → r ≤ℤ s

@@ -5,9 +5,6 @@ pub mod laws;
 mod middle;
 pub mod range;
 pub mod relax;
-mod trend;
-pub mod words;
 
 pub use range::are_words;
-pub use relax::{lets_move, raise_to, relax_to, sink_to};
-pub use words::{balance_in, head_on, relax_in};
+pub use relax::{balance_in, head_on, lets_move, raise_to, relax_in, relax_to, sink_to};

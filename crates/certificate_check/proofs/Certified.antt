@@ -2,9 +2,8 @@
 use Rattle.certificate_check.proofs.Common.{ℕ, ◌<◌, List, length, ℤ, Edges, head_at, IsCertificate, IsProblem, pair_certifies, SettledPairEncloses}
 use Rattle.step_problem.specs.Entries.{Entries}
 use Rattle.cell_balance.specs.Steps.{ExactCell}
-use Rattle.cell_balance.specs.Enclosures.{EnclosesStep}
-use Rattle.cell_balance.specs.Solutions.{SolvesStep, LiesBetween}
-use Rattle.cell_balance.specs.SolutionBounds.{EnclosesSolutions}
+use Rattle.cell_balance.specs.Enclosures.{EnclosesStep, EnclosesSolutions}
+use Rattle.cell_balance.specs.Balance.{SolvesStep, LiesBetween}
 use Rattle.cell_balance.specs.Components.{IsHeldBelow}
 use Rattle.cell_balance.proofs.Encloses.{compares}
 

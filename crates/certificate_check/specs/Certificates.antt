@@ -1,14 +1,22 @@
 -- Where a certificate holds, and the first place where it fails.
-use Rattle.std.specs.Prelude.{◌≡◌, ℕ, ◌<◌, ◌⊎◌, List, length, pos, ◌≤ℤ◌}
+use Rattle.std.specs.Prelude.{◌≡◌, ℕ, ◌<◌, ◌⊎◌, List, length, pos, ◌≤ℤ◌, ℤ, neg_ℤ, ◌<ℤ◌}
 use Rattle.step_problem.specs.declared.heads.Bound.{Bound}
 use Rattle.step_problem.specs.declared.heads.Side.{Side}
 use Rattle.step_problem.specs.declared.heads.Side.TheVariants.{Low, High}
 use Rattle.step_problem.specs.declared.place.NoBound.{NoBound}
 use Rattle.step_problem.specs.Entries.{Entries, entries_at}
 use Rattle.step_problem.specs.Balances.{lower_balance, upper_balance}
-use Rattle.step_problem.specs.Heads.{Edges, head_at, lower_at, upper_at}
+use Rattle.step_problem.specs.Heads.{Edges, head_at, lower_at, upper_at, IsBarrier, IsSettledPair, IsCertificate}
 use Rattle.barrier_vector.specs.Refusals.{range_on}
-use Rattle.barrier_vector.specs.Cuts.{Refuses}
+use Rattle.barrier_vector.specs.Cuts.{Refuses, EnclosesUncut, clamped}
+use Rattle.certificate_check.specs.declared.Verdict.{Verdict}
+use Rattle.certificate_check.specs.declared.Verdict.TheVariants.{Yes, No}
+use Rattle.step_problem.specs.Conditions.{IsProblem, head_limit}
+use Rattle.cell_relax.specs.Sides.{AreWords}
+use Rattle.cell_balance.specs.Components.{IsHeldBelow}
+use Rattle.cell_balance.specs.Steps.{ExactCell}
+use Rattle.cell_balance.specs.Enclosures.{EnclosesStep, EnclosesSolutions}
+use Rattle.cell_balance.specs.Balance.{SolvesStep, LiesBetween}
 
 module _ (p : List Entries) (b : Edges) (bounds : List Bound) where
   -- The certificate holds at that side of cell c: its lower head is at most the floor, or its lower balance is not negative; the upper side mirrored.
@@ -27,3 +35,53 @@ module _ (p : List Entries) (b : Edges) (bounds : List Bound) where
 -- leave the end of the range of heads.
 abbrev pub IsRangeRefusal : List Entries → Edges → List Bound → NoBound → Type 0
 IsRangeRefusal p b bounds = Refuses range_on (λ side c. HoldsAt p b bounds c side → ⊥) p
+
+-- Facts of a verdict.
+abbrev pub IsYes : Verdict → Type 0
+IsYes Yes = Unit {0}
+IsYes (No cell side) = ⊥
+
+-- a fact of the place that a No names
+abbrev pub IfNo : Verdict → (ℕ → Side → Type 0) → Type 0
+IfNo Yes P = Unit {0}
+IfNo (No cell side) P = P cell side
+
+-- What certificates enclose, and where they can fail.
+-- The settled pair over a barrier that encloses every solution encloses every solution, where each component of the problem is anchored or carried.
+abbrev pub SettledPairEncloses : Type 0
+SettledPairEncloses =
+    (p : List Entries) (b : Edges) (l u : ℕ → ℤ) → IsProblem p → IsBarrier p b → IsHeldBelow p → IsSettledPair p b l u →
+    EnclosesSolutions p (head_at b.floor) (head_at b.ceiling) → EnclosesSolutions p l u
+
+-- Words that are a certificate over a cut barrier enclose every solution, where each component is anchored or carried: no head is at a bound that was cut.
+abbrev pub CertificateEncloses : Type 0
+CertificateEncloses =
+    (p : List Entries) (b : Edges) (words : List Bound) → IsProblem p → AreWords p words → IsHeldBelow p →
+    IsCertificate p b (lower_at words) (upper_at words) → EnclosesUncut p b → EnclosesSolutions p (lower_at words) (upper_at words)
+
+-- the floor of cell c lies below all heads, or its ceiling above all of them
+abbrev pub IsCutAt : Edges → ℕ → Side → Type 0
+IsCutAt b c Low = head_at b.floor c <ℤ neg_ℤ (pos head_limit)
+IsCutAt b c High = pos head_limit <ℤ head_at b.ceiling c
+
+-- Words that are a certificate over the clamped barrier are one over the cut barrier, but perhaps at the cells whose floor or ceiling was cut.
+abbrev pub FailsOnlyWhereCut : Type 0
+FailsOnlyWhereCut =
+    (p : List Entries) (b : Edges) (words : List Bound) → IsCertificate p (clamped b) (lower_at words) (upper_at words) →
+    (c : ℕ) (side : Side) → c < length p → (IsCutAt b c side → ⊥) → HoldsAt p b words c side
+
+-- Words that are a certificate over the cut barrier have no refusal for the range of heads.
+abbrev pub CertificateExcludesRefusal : Type 0
+CertificateExcludesRefusal =
+    (p : List Entries) (b : Edges) (words : List Bound) (n : NoBound) → IsCertificate p b (lower_at words) (upper_at words) → IsRangeRefusal p b words n → ⊥
+
+-- Words have at most one such refusal.
+abbrev pub RangeRefusalIsOne : Type 0
+RangeRefusalIsOne = (p : List Entries) (b : Edges) (words : List Bound) (n m : NoBound) → IsRangeRefusal p b words n → IsRangeRefusal p b words m → n ≡ m
+
+-- The settled pair over the clamped barrier encloses every solution whose heads are in the range of heads, also where it is refused.
+abbrev pub ClampedPairEncloses : Type 0
+ClampedPairEncloses =
+    (p : List Entries) (b : Edges) (l u : ℕ → ℤ) → IsProblem p → IsBarrier p (clamped b) → IsHeldBelow p → EnclosesUncut p b → IsSettledPair p (clamped b) l u →
+    (s : ℕ) (e : List ExactCell) (d : ℕ) (X : ℕ → ℤ) → EnclosesStep s p e → 0 < d → SolvesStep e d X →
+    LiesBetween (length p) d X (λ c. neg_ℤ (pos head_limit)) (λ c. pos head_limit) → LiesBetween (length p) d X l u

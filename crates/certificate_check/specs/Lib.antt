@@ -1,3 +1,1 @@
 pub mod Certificates
-pub mod Verdicts
-pub mod Laws

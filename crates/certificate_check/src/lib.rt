@@ -3,22 +3,18 @@
 
 ghost use Rattle.std.specs.Prelude.{◌≡◌, ℕ, ℤ, List, length, ◌<◌, ◌↔◌};
 ghost use Rattle.step_problem.specs.Heads.{head_at, lower_at, upper_at, IsCertificate};
-ghost use Rattle.cell_relax.specs.Words.{AreWords};
+ghost use Rattle.cell_relax.specs.Sides.{AreWords};
 ghost use Rattle.cell_balance.specs.Steps.{ExactCell};
-ghost use Rattle.cell_balance.specs.Enclosures.{EnclosesStep};
-ghost use Rattle.cell_balance.specs.Solutions.{SolvesStep, LiesBetween};
+ghost use Rattle.cell_balance.specs.Enclosures.{EnclosesStep, EnclosesSolutions};
+ghost use Rattle.cell_balance.specs.Balance.{SolvesStep, LiesBetween};
 ghost use Rattle.cell_balance.specs.Components.{IsHeldBelow};
-ghost use Rattle.cell_balance.specs.SolutionBounds.{EnclosesSolutions};
-ghost use Rattle.certificate_check.specs.Certificates.{IsFirstFailing};
-ghost use Rattle.certificate_check.specs.Verdicts.{IsYes, IfNo};
+ghost use Rattle.certificate_check.specs.Certificates.{IsFirstFailing, IsYes, IfNo};
 
 pub mod laws;
-mod out_of_range;
 mod search;
-mod sides;
 
-pub use out_of_range::range_refusal;
 use search::first_failing;
+pub use search::range_refusal;
 use step_problem::{Barrier, Bound, Problem, Side};
 
 /// Whether bounds are a certificate, or the first place that fails: a variable cell, by its index, and a side of it.

@@ -1,11 +1,17 @@
 // The first place where a certificate fails.
-ghost use Rattle.std.specs.Prelude.{◌≡◌, ◌<◌, length, MatchOption};
+ghost use Rattle.std.specs.Prelude.{◌≡◌, ◌<◌, length, MatchOption, ◌↔◌, IsTrue, ℕ, IsNone};
 ghost use Rattle.step_problem.specs.Heads.{lower_at, upper_at, IsCertificate};
-ghost use Rattle.cell_relax.specs.Words.{AreWords};
-ghost use Rattle.certificate_check.specs.Certificates.{HoldsAt, IsFirstFailing};
+ghost use Rattle.cell_relax.specs.Sides.{AreWords};
+ghost use Rattle.certificate_check.specs.Certificates.{HoldsAt, IsFirstFailing, IsRangeRefusal, IsCutAt};
+ghost use Rattle.cell_balance.specs.Components.{IsHeldBelow};
+ghost use Rattle.cell_balance.specs.Enclosures.{EnclosesSolutions};
+ghost use Rattle.barrier_vector.specs.Refusals.{IsLeastWith};
+ghost use Rattle.barrier_vector.specs.Cuts.{EnclosesUncut, clamped};
 
-use crate::sides::holds_at;
-use step_problem::{Barrier, Bound, Problem, Side};
+use barrier_vector::out_of_range;
+use cell_relax::balance_in;
+use step_problem::problem::HEAD_LIMIT;
+use step_problem::{Barrier, Bound, NoBound, Problem, Side};
 
 // The side of a cell that fails, the lower one first.
 fn failing_side(p: &Problem, barrier: &Barrier, bounds: &[Bound], cell: usize) -> Option<Side>
@@ -39,6 +45,89 @@ pub fn first_failing(p: &Problem, barrier: &Barrier, bounds: &[Bound]) -> Option
         if let Some(side) = failing_side(p, barrier, bounds, cell) {
             return Some((cell as u32, side));
         }
+    }
+    None
+}
+
+// Whether a certificate holds at one side of a cell.
+
+pub fn holds_at(p: &Problem, barrier: &Barrier, bounds: &[Bound], cell: usize, side: Side) -> bool
+    requires index { cell < length p.now }
+    requires floors { length barrier.now.floor ≡ length p.now }
+    requires ceilings { length barrier.now.ceiling ≡ length p.now }
+    requires bounds { AreWords p.now bounds.now }
+    ensures { IsTrue result ↔ HoldsAt p.now barrier.now bounds.now cell side }
+{
+    match side {
+        Side::Low => bounds[cell].low <= barrier.floor[cell]
+            || balance_in(p, bounds, cell, Side::Low) >= 0,
+        Side::High => bounds[cell].high >= barrier.ceiling[cell]
+            || balance_in(p, bounds, cell, Side::High) <= 0,
+    }
+}
+
+// The refusal of heads that can't leave the end of the range of heads.
+
+fn is_cut(barrier: &Barrier, cell: usize, side: Side) -> bool
+    requires floors { cell < length barrier.now.floor }
+    requires ceilings { cell < length barrier.now.ceiling }
+    ensures { IsTrue result ↔ IsCutAt barrier.now cell side }
+{
+    match side {
+        Side::Low => barrier.floor[cell] < -HEAD_LIMIT,
+        Side::High => barrier.ceiling[cell] > HEAD_LIMIT,
+    }
+}
+
+// Whether the certificate holds at a side of a cell. It does where neither the floor nor the ceiling was cut.
+fn holds(p: &Problem, barrier: &Barrier, bounds: &[Bound], cell: usize, side: Side) -> bool
+    requires index { cell < length p.now }
+    requires floors { length barrier.now.floor ≡ length p.now }
+    requires ceilings { length barrier.now.ceiling ≡ length p.now }
+    requires bounds { AreWords p.now bounds.now }
+    requires settled { IsCertificate p.now (clamped barrier.now) (lower_at bounds.now) (upper_at bounds.now) }
+    ensures { IsTrue result ↔ HoldsAt p.now barrier.now bounds.now cell side }
+{
+    !is_cut(barrier, cell, side) || holds_at(p, barrier, bounds, cell, side)
+}
+
+// The first cell that fails at a side, by its index.
+fn first_on(p: &Problem, barrier: &Barrier, bounds: &[Bound], side: Side) -> Option<usize>
+    requires floors { length barrier.now.floor ≡ length p.now }
+    requires ceilings { length barrier.now.ceiling ≡ length p.now }
+    requires bounds { AreWords p.now bounds.now }
+    requires settled { IsCertificate p.now (clamped barrier.now) (lower_at bounds.now) (upper_at bounds.now) }
+    ensures { MatchOption result ((c : ℕ) → c < length p.now → HoldsAt p.now barrier.now bounds.now c side)
+        (IsLeastWith p.now (λ c. HoldsAt p.now barrier.now bounds.now c side → ⊥)) }
+{
+    for cell in 0..p.len() {
+        if !holds(p, barrier, bounds, cell, side) {
+            return Some(cell);
+        }
+    }
+    None
+}
+
+/// The refusal of heads that settled from a cut barrier, clamped, where they are no certificate over it: 26 where a lower head
+/// can't leave the least head, else 27 where an upper head can't leave the greatest one, each at the least such cell.
+/// None where they are a certificate over the cut barrier.
+pub fn range_refusal(p: &Problem, barrier: &Barrier, bounds: &[Bound]) -> Option<NoBound>
+    requires floors { length barrier.now.floor ≡ length p.now }
+    requires ceilings { length barrier.now.ceiling ≡ length p.now }
+    requires bounds { AreWords p.now bounds.now }
+    requires settled { IsCertificate p.now (clamped barrier.now) (lower_at bounds.now) (upper_at bounds.now) }
+    ensures exact { MatchOption result (IsCertificate p.now barrier.now (lower_at bounds.now) (upper_at bounds.now))
+        (IsRangeRefusal p.now barrier.now bounds.now) }
+    // So without a refusal the heads enclose every solution, where each component is anchored or carried.
+    ensures encloses { IsNone result → IsHeldBelow p.now → EnclosesUncut p.now barrier.now →
+        EnclosesSolutions p.now (lower_at bounds.now) (upper_at bounds.now) }
+{
+    p.recall_conditions();
+    if let Some(cell) = first_on(p, barrier, bounds, Side::Low) {
+        return Some(out_of_range(p, cell, Side::Low));
+    }
+    if let Some(cell) = first_on(p, barrier, bounds, Side::High) {
+        return Some(out_of_range(p, cell, Side::High));
     }
     None
 }

@@ -7,7 +7,7 @@ use Rattle.check_run.proofs.Common.{heads_before, Passes, Checks, StopsAt, IsVer
 use Rattle.check_run.proofs.Common.{EachMember, HaveOneHistory, histories_bound, AreStartHeadsFor}
 use Rattle.check_run.proofs.Passed.{ArePassed, all_move, have_one}
 use Rattle.check_run.proofs.Listed.{grid_of}
-use Rattle.check_run.specs.declared.fault.CheckFault.TheVariants as fault
+use Rattle.check_run.specs.declared.listing.CheckFault.TheVariants as fault
 
 -- what holds of the heads before a step and of the step, as they were lent
 pub here : (P : List Bound → ListedStep → Type 0) (old olds heads : List Bound) (budget : Budget) (flows : List ZoneFlow) (w : ListedStep) → old ≡ olds → heads ≡ w.heads → budget ≡ w.budget → flows ≡ w.zones →

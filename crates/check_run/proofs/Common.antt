@@ -14,62 +14,55 @@ pub use Rattle.std.specs.Prelude.{IfErr, IfSome, filter, if◌then◌else◌, in
 pub use Rattle.budget_bounds.specs.Covers.{CoverEncloses, Covers, IsFirstUncovered, line_of}
 pub use Rattle.budget_bounds.specs.Exact.{BudgetEncloses, EnclosesBudgets, HeadsAreWithin}
 pub use Rattle.budget_bounds.specs.Terms.{all_terms, is_small, no_pair, term_limit, too_large, ◌>>=◌}
-unfoldable pub use Rattle.budget_bounds.specs.Terms.{budget_of, parts, term_of, term_pair, terms_of}
+unfoldable pub use Rattle.budget_bounds.specs.Terms.{budget_of, parts, singles, term_of, term_pair, terms_of}
 pub use Rattle.budget_bounds.specs.declared.pair.Budget.{Budget}
 pub use Rattle.budget_bounds.specs.declared.pair.TermPair.{TermPair}
-pub use Rattle.cell_balance.specs.SolutionBounds.{EnclosesSolutions}
-pub use Rattle.cell_relax.specs.Words.{AreWords}
+pub use Rattle.cell_balance.specs.Enclosures.{CellEncloses, EnclosesSolutions, EnclosesStep}
+pub use Rattle.cell_relax.specs.Sides.{AreWords}
 pub use Rattle.certificate_check.specs.Certificates.{HoldsAt, IsFirstFailing}
-pub use Rattle.check_run.specs.Flows.{CoversFlow, IsFirstNarrow}
 pub use Rattle.check_run.specs.Parts.{AreNarrow, ArePosed, AreWide, FailsBy, IsCovered, IsUncovered, IsUnposed, IsVerdictAt, heads_before, of_barrier}
-pub use Rattle.check_run.specs.Reaching.{ConstantsReach, IsConstantCell, IsFirstShort, ReachesAt, ReachesOn, variable_bounds}
-pub use Rattle.check_run.specs.Runs.{IsReadable, RunIsCertified, RunIsReadAgain, as_listed}
-pub use Rattle.check_run.specs.Steps.{FailsAt, HeadsHold, IsRefused, Passes, TermsHold, at_constant, at_term, at_variable, at_zones, bounds, no_budget}
-pub use Rattle.check_run.specs.Steps.{no_flows, no_heads}
-pub use Rattle.check_run.specs.Verdicts.{Checks, IsVerdict, ListingEncloses, StopsAt, checked_task, step_of, steps_of}
-pub use Rattle.check_run.specs.declared.fault.CheckFault.{CheckFault}
+pub use Rattle.check_run.specs.Steps.{ConstantsReach, CoversFlow, FailsAt, HeadsHold, IsConstantCell, IsFirstNarrow, IsFirstShort, IsRefused, Passes, ReachesAt}
+pub use Rattle.check_run.specs.Steps.{ReachesOn, TermsHold, at_constant, at_term, at_variable, at_zones, bounds, no_budget, no_flows, no_heads, variable_bounds}
+pub use Rattle.check_run.specs.Verdicts.{Checks, IsReadable, IsVerdict, ListingEncloses, RunIsCertified, RunIsReadAgain, StopsAt, VerdictIsOne, as_listed}
+pub use Rattle.check_run.specs.Verdicts.{checked_task, step_of, steps_of}
+pub use Rattle.check_run.specs.declared.listing.CheckFault.{CheckFault}
 pub use Rattle.check_run.specs.declared.verdict.ListingVerdict.{ListingVerdict}
 pub use Rattle.check_run.specs.declared.verdict.ListingVerdict.TheVariants.{Certified, Fails, Refused}
-pub use Rattle.exact_histories.specs.Decks.{ChoicesHaveOne, HaveOneBy, HaveOneHistory}
 pub use Rattle.decimal_input.specs.Fractions.{Fraction, den}
-pub use Rattle.deck_problems.proofs.Members.{HasCellsOf, between_cells, cell_of_member, constant_same, each_member, encloses_first, encloses_member}
-pub use Rattle.deck_problems.proofs.Members.{member_cells, of_member}
-pub use Rattle.deck_problems.specs.ConstantHeads.{AreConstantHeadsFor}
-pub use Rattle.deck_problems.specs.Decks.{AreDecks, EachMember, HoldsOf, IsMember, one_deck}
-pub use Rattle.deck_problems.specs.Kept.{AreDeckTables, digits_of}
+pub use Rattle.deck_problems.proofs.Members.{HasCellsOf, cell_of_member, constant_same, each_member, encloses_member, member_cells, of_member}
+pub use Rattle.deck_problems.specs.ConstantHeads.{AreConstantHeadsFor, AreStartHeadsFor}
+pub use Rattle.deck_problems.specs.Decks.{AreDecks, EachMember, HoldsOf, IsMember}
+pub use Rattle.deck_problems.specs.Kept.{AreDeckTables, EnclosesSteps, digits_of}
 pub use Rattle.deck_problems.specs.Laws.{ConstantPairEncloses, ConstantPairIsOne, IsBefore, ProblemExcludesRefusal, ProblemFits, ProblemIsOne, StartHeadsAreOne}
 pub use Rattle.deck_problems.specs.Laws.{StartHeadsFit}
 pub use Rattle.deck_problems.specs.Problems.{IsProblemBy, IsProblemFor}
-pub use Rattle.deck_problems.specs.StartHeads.{AreStartHeadsFor}
 pub use Rattle.deck_problems.specs.declared.decks.Decks.{Decks}
+pub use Rattle.exact_histories.specs.Decks.{HaveOneBy, HaveOneHistory}
 pub use Rattle.flow_equations.proofs.Links.{below_is, index_is}
 pub use Rattle.flow_equations.specs.ExactStep.{exact_step}
-pub use Rattle.flow_equations.specs.Histories.{SolvesAt, heads_of, variable_heads}
-pub use Rattle.listing_io.specs.Listed.{AreCellBounds, AreFlows, AreFlowsAt, AreListed, IsCellBound, IsFlowPair, IsListedStep, step_in}
+pub use Rattle.flow_equations.specs.Histories.{heads_of, variable_heads}
+pub use Rattle.listing_io.specs.Laws.{AreCellBounds, AreFlows, AreFlowsAt, AreListed, IsCellBound, IsFlowPair, IsListedStep, IsTime, IsWritable}
+pub use Rattle.listing_io.specs.Laws.{ListingsAreReadAgain, step_in}
 pub use Rattle.listing_io.specs.Listing.{ended, first_line, has_evt, step_lines, zone_pair}
 unfoldable pub use Rattle.listing_io.specs.Listing.{all_step_lines, first_text, step_text}
 pub use Rattle.listing_io.specs.declared.listing.ListedStep.{ListedStep}
 pub use Rattle.listing_run.proofs.HistoriesBound.{AllBoundMoves, BoundsMovesOf, histories_bound}
 pub use Rattle.listing_run.proofs.Unique.{IsRest, first_in, ok_not_err, one_err, one_ok, rest_more, rest_whole}
-pub use Rattle.listing_run.specs.Bounding.{BoundAll, BoundBetween, Bounds, BoundsMoves, EnclosesHistories, HistoriesBound}
+pub use Rattle.listing_run.specs.Listing.{BoundAll, BoundBetween, Bounds, BoundsMoves, EnclosesHistories, HistoriesBound, is_between, listing, text_of}
 pub use Rattle.listing_run.specs.Steps.{AllSteps, IsStep, Steps, budget_at}
-pub use Rattle.listing_run.specs.Tasks.{deck_task, pairs_of}
-pub use Rattle.listing_run.specs.Zones.{AreFlowsOf, HasLargeFlowOf, faces_of}
-pub use Rattle.listing_run.specs.declared.listing_end.ListingEnd.TheVariants.{Whole}
-pub use Rattle.listing_run.specs.declared.step.Step.{Step}
-pub use Rattle.listing_run.specs.declared.task.Task.{Task}
+pub use Rattle.listing_run.specs.Tasks.{AreFlowsOf, HasLargeFlowOf, deck_task, faces_of, pairs_of}
+pub use Rattle.listing_run.specs.declared.solving.Step.{Step}
+pub use Rattle.listing_run.specs.declared.steps.Task.{Task}
+pub use Rattle.listing_run.specs.declared.text.ListingEnd.TheVariants.{Whole}
 pub use Rattle.model_types.proofs.Leads.{end_within, face_back, faces_are, faces_have, passing_are, turned}
 pub use Rattle.model_types.proofs.Members.{Contains-In, In, In-map, map-In}
 pub use Rattle.model_types.proofs.Ranks.{IsAt, at_rank, is_at, passing}
-pub use Rattle.model_types.specs.Cells.{cell_count}
-pub use Rattle.model_types.specs.Faces.{through}
+pub use Rattle.model_types.specs.Faces.{cell_count, through}
 pub use Rattle.model_types.specs.Grids.{HasSize}
-pub use Rattle.model_types.specs.Heads.{constant_head, start_head}
-pub use Rattle.model_types.specs.Kinds.{index_of, is_constant, is_given, is_variable, kind_of, variable_below, variable_cells}
+pub use Rattle.model_types.specs.Heads.{constant_head, index_of, is_constant, is_given, is_variable, kind_of, start_head, variable_below, variable_cells}
 pub use Rattle.model_types.specs.Layers.{int_at, is_active, is_nonzero}
 pub use Rattle.model_types.specs.Sources.{FixedSource, as_general, constant_faces, evap_sources, fixed_sources, local_entries, storage_at, variable_faces}
 pub use Rattle.model_types.specs.Times.{period_at, times}
-pub use Rattle.model_types.specs.Valid.{IsModel}
 pub use Rattle.model_types.specs.declared.limits.Limits.{Limits}
 pub use Rattle.model_types.specs.declared.model.FlowModel.{FlowModel}
 pub use Rattle.model_types.specs.declared.time_steps.TimeStep.{TimeStep}
@@ -77,16 +70,15 @@ pub use Rattle.problem_builder.proofs.Members.{In-append, In-variable, variable-
 pub use Rattle.problem_builder.proofs.StepEnclosed.{ids_are}
 pub use Rattle.problem_builder.specs.Cells.{IsCellOf, IsEvap, IsFixed, IsLink}
 pub use Rattle.problem_builder.specs.GridHeads.{AreGridHeads, HeadsEnclose, IsActive, IsNamed}
-pub use Rattle.problem_builder.specs.Thicknesses.{Thicknesses}
-pub use Rattle.problem_hull.specs.Hulls.{IsCellHull, IsEvapHull, IsFixedHull, IsHull, IsLinkHull}
-pub use Rattle.problem_hull.specs.Threes.{AllThree, next, none}
+pub use Rattle.problem_builder.specs.Widths.{Thicknesses}
+pub use Rattle.problem_hull.specs.Hulls.{AllThree, IsCellHull, IsEvapHull, IsFixedHull, IsHull, IsLinkHull, next, none}
 pub use Rattle.step_chain.proofs.Assembled.{active_constant, constant_not_variable, count_is, index_below, number_is}
 pub use Rattle.step_chain.proofs.Limits.{cut_by}
-pub use Rattle.step_chain.proofs.OneStep.{same_bound, same_bounds}
+pub use Rattle.step_chain.proofs.OneStep.{pair_words, same_bound, same_bounds}
 pub use Rattle.step_chain.specs.Barriers.{IsBarrierBy, IsBarrierFault, edges_by}
-pub use Rattle.step_chain.specs.GridHeads.{bound_at}
+pub use Rattle.step_chain.specs.Enclosing.{IsMove, LiesWithin}
 pub use Rattle.step_chain.specs.Laws.{HeadsFit}
-pub use Rattle.step_chain.specs.Steps.{HasNoPose, IsPosed, IsStepBy}
+pub use Rattle.step_chain.specs.Steps.{HasNoPose, IsPosed, IsStepBy, bound_at}
 pub use Rattle.step_chain.specs.declared.solved.Solved.{Solved}
 pub use Rattle.step_problem.specs.Conditions.{IsHead, IsProblem}
 pub use Rattle.step_problem.specs.Entries.{Entries, entries_at, no_entries}
@@ -111,8 +103,6 @@ pub use Rattle.zone_flows.specs.Pairs.{AreZoneFlows, IsBeforeAll, IsZoneFlow, Pa
 pub use Rattle.zone_flows.specs.Tables.{key_of}
 pub use Rattle.zone_pairs.proofs.Joined.{SharedFace, any_in, face_of, in_any, join_of, shared_small, shares, zone_small}
 pub use Rattle.zone_pairs.proofs.Small.{are_numbers, pairs_small}
-pub use Rattle.zone_pairs.specs.Keys.{pair_of}
-pub use Rattle.zone_pairs.specs.Pairs.{joins, pairs_below, pairs_in, share_face, zones_of_flow}
+pub use Rattle.zone_pairs.specs.Pairs.{AreNumbers, joins, pair_of, pairs_below, pairs_in, share_face, zones_of_flow}
 unfoldable pub use Rattle.zone_pairs.specs.Pairs.{zone_pairs}
-pub use Rattle.zone_pairs.specs.Zones.{AreNumbers}
 pub use Rattle.zone_pairs.specs.declared.pair.ZonePair.{ZonePair}

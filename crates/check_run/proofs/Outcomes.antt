@@ -8,7 +8,7 @@ use Rattle.check_run.specs.declared.posed.Posed.{Posed}
 use Rattle.check_run.proofs.Listed.{bounds_are}
 use Rattle.check_run.proofs.Passing.{member_moves}
 use Rattle.step_problem.specs.declared.place.Place.TheVariants as places
-use Rattle.check_run.specs.declared.fault.CheckFault.TheVariants as fault
+use Rattle.check_run.specs.declared.listing.CheckFault.TheVariants as fault
 
 module _ (limits : Limits) (ds : Decks) (s : ℕ) (zones : Option (List ℕ)) (at : TimeStep) (old : List Bound) (x : Posed) (posed : ArePosed limits ds s at old x) (heads : List Bound) (listed : Budget) (flows : List ZoneFlow) where
   pub constant_fails : (c : ℕ) (side : Side) → IsFirstShort ds at heads c side → FailsBy limits ds s zones at old (record { heads = heads; budget = listed; zones = flows }) (fault.Fails (places.Cell c side))

@@ -6,16 +6,13 @@ use Rattle.check_run.proofs.Common.{EnclosesSolutions, exact_step, heads_of, var
 use Rattle.check_run.proofs.Common.{is_constant, index_of, times, IsActive, IsNamed, bound_at, active_constant, index_below, count_is, number_is, EncloseExact}
 use Rattle.check_run.proofs.Common.{exact_faces, exact_flow, ZonePair, CoversFlow, AreWide, ConstantsReach, IsConstantCell, variable_bounds, checked_task}
 use Rattle.check_run.proofs.Common.{step_of, Decks, AreDecks, EachMember, IsMember, AreConstantHeadsFor, ConstantPairEncloses, HasCellsOf, cell_of_member}
-use Rattle.check_run.proofs.Common.{constant_same, member_cells, of_member, BoundsMovesOf}
-use Rattle.decimal_input.specs.Enclosures.{EnclosesSigned}
-use Rattle.deck_problems.specs.Made.{EnclosesSteps}
+use Rattle.check_run.proofs.Common.{constant_same, member_cells, of_member, BoundsMovesOf, EnclosesSteps, EnclosesStep, CellEncloses, IsMove, LiesWithin}
+use Rattle.decimal_input.specs.Wholes.{EnclosesSigned}
 use Rattle.decimal_input.proofs.Enclosing.{whole_signed}
 use Rattle.cell_balance.specs.Steps.{ExactCell}
-use Rattle.cell_balance.specs.Enclosures.{EnclosesStep, CellEncloses}
-use Rattle.cell_balance.specs.Solutions.{LiesBetween}
+use Rattle.cell_balance.specs.Balance.{LiesBetween}
 use Rattle.cell_balance.proofs.Totals.{le_trans_z}
 use Rattle.cell_balance.proofs.Zips.{AllZip-length}
-use Rattle.step_chain.specs.Enclosing.{IsMove, LiesWithin}
 use Rattle.listing_run.proofs.Zoned.{flows_enclose, heads_named, within_enclosed}
 use Rattle.check_run.proofs.Listed.{variable_listed}
 use Rattle.decimal_input.proofs.Signs.{mul_mono_right}

@@ -2,7 +2,7 @@
 use Rattle.check_run.proofs.Common.{◌≡◌, ℕ, ◌+◌, ◌<◌, ◌≤◌, inl, inr, true, cond, List, Contains, sym, ap, ◌∙◌, subst, arith, cases_order, Bound, Side, Low}
 use Rattle.check_run.proofs.Common.{High, FlowModel, TimeStep, cell_count, is_constant, kind_of, times, bound_at, constant_not_variable, same_bound}
 use Rattle.check_run.proofs.Common.{ConstantsReach, IsConstantCell, IsFirstShort, ReachesAt, ReachesOn, Decks, AreDecks, AreConstantHeadsFor, ConstantPairIsOne}
-use Rattle.model_types.specs.declared.kind.Kind.TheVariants.{NoFlow, Constant, Variable}
+use Rattle.model_types.specs.declared.given_heads.Kind.TheVariants.{NoFlow, Constant, Variable}
 use Rattle.problem_builder.proofs.KindsOf.{constant_kind}
 
 kind_constant : (m : FlowModel) (p c : ℕ) → is_constant m p c ≡ true → kind_of m p c ≡ Constant

@@ -8,7 +8,7 @@ use Rattle.check_run.proofs.Common.{IsFlowPair, IsListedStep, has_evt, zone_pair
 use Rattle.check_run.proofs.Common.{IsRest, first_in, rest_more, rest_whole, as_listed, nat_tests, IsZoneFlow, is_nonzero, IsEvapHull, IsHull, AllThree, next}
 use Rattle.check_run.proofs.Common.{none, IsProblemBy, IsBefore, StartHeadsFit, deck_task, Decks, AreDecks, PairKind, IsStepBy, pairs_of, Bool}
 use Rattle.step_problem.specs.declared.place.Dir.TheVariants.{In}
-use Rattle.step_problem.specs.Flows.{total}
+use Rattle.step_problem.specs.Balances.{total}
 use Rattle.model_types.specs.Receivers.{is_chosen}
 use Rattle.step_problem.specs.declared.entry.Evap.{Evap}
 use Rattle.check_run.proofs.HullPairs.{flows_have_pairs}

@@ -5,10 +5,9 @@ use Rattle.check_run.proofs.Common.{budget_of, TimeStep, cell_count, is_variable
 use Rattle.check_run.proofs.Common.{bound_at, HeadsFit, Task, Step, Whole, IsStep, Steps, budget_at, IsRest, first_in, rest_more, rest_whole, Certified}
 use Rattle.check_run.proofs.Common.{CoversFlow, ConstantsReach, ReachesOn, variable_bounds, RunIsCertified, as_listed, Passes, Checks, same_bounds, IsProblem}
 use Rattle.check_run.proofs.Common.{ConstantPairIsOne, IsBefore, ProblemFits, StartHeadsFit, deck_task, Decks, AreDecks, PairKind, IsStepBy, pairs_of, Bool}
-use Rattle.check_run.proofs.Common.{edges_by}
-use Rattle.step_chain.proofs.Following.{pair_words}
+use Rattle.check_run.proofs.Common.{edges_by, pair_words}
 use Rattle.check_run.proofs.DeckCells.{decks_ids}
-use Rattle.listing_run.specs.Zones.{AreFlowsAt}
+use Rattle.listing_run.specs.Tasks.{AreFlowsAt}
 use Rattle.check_run.proofs.Listed.{count_is}
 
 reaches : (side : Side) (listed pair : Bound) → (listed.low ≡ pair.low) × (listed.high ≡ pair.high) → ReachesOn side listed pair

@@ -2,15 +2,13 @@
 use Rattle.check_run.proofs.Common.{◌≡◌, ℕ, zero, suc, ◌^◌, ◌<◌, Bool, true, false, List, [], ◌∷◌, length, nat_abs, All, get_or, Result, Ok, Err, refl, sym, ap}
 use Rattle.check_run.proofs.Common.{◌∙◌, subst, arith, ℤ, pos, negsuc, ◌+ℤ◌, ◌≤ℤ◌, if◌then◌else◌, AllZip, ints, Dir, Out, NoBound, Term, Entries, entries_at}
 use Rattle.check_run.proofs.Common.{TermPair, Budget, ◌>>=◌, all_terms, budget_of, is_small, no_pair, parts, term_limit, term_of, term_pair, terms_of}
-use Rattle.check_run.proofs.Common.{too_large, IsFlowPair}
+use Rattle.check_run.proofs.Common.{too_large, IsFlowPair, singles, and_parts}
 use Rattle.step_problem.specs.declared.place.Dir.TheVariants.{In}
 use Rattle.std.specs.Int.Signed.{lt_z}
 use Rattle.step_problem.specs.declared.place.Term.TheVariants.{Storage, Et}
 use Rattle.cell_balance.specs.Components.{sum_below}
-use Rattle.budget_bounds.specs.Singles.{singles}
 use Rattle.budget_bounds.proofs.Caps.{parts_lo, parts_hi}
-use Rattle.std.proofs.lemmas.Bool.{and_parts}
-use Rattle.listing_io.proofs.Each.{same_ok, goes, clash}
+use Rattle.listing_io.proofs.Terms.{same_ok, goes, clash}
 
 -- what goes on was not refused
 record Goes {A B E : Type 0} (r : Result A E) (f : A → Result B E) (y : B) : Type 0 where

@@ -3,7 +3,7 @@ use Rattle.check_run.proofs.Common.{Limits, ℕ, List, Option, inr, Bound, Entri
 use Rattle.check_run.proofs.Common.{Decks, IsProblemFor, IsBarrierFault}
 use Rattle.barrier_vector.specs.declared.BarrierFault.{BarrierFault}
 use Rattle.barrier_vector.specs.declared.BarrierFault.TheVariants as barrier
-use Rattle.check_run.specs.declared.fault.CheckFault.TheVariants as fault
+use Rattle.check_run.specs.declared.listing.CheckFault.TheVariants as fault
 
 module _ (limits : Limits) (ds : Decks) (s : ℕ) (at : TimeStep) (old : List Bound) where
   pub barrier_unposed : (p : List Entries) → IsProblemFor ds s at old p → (f : BarrierFault) → IsBarrierFault limits p f → IsUnposed limits ds s at old (of_barrier f)

@@ -18,27 +18,26 @@ use Rattle.barrier_vector.specs.declared.BarrierFault.TheVariants as barrier
 use Rattle.cell_balance.specs.Components.{IsHeldBelow}
 use Rattle.model_types.specs.declared.limits.Limits.{Limits}
 use Rattle.model_types.specs.declared.time_steps.TimeStep.{TimeStep}
-use Rattle.model_types.specs.Kinds.{variable_cells}
+use Rattle.model_types.specs.Heads.{variable_cells}
 use Rattle.problem_builder.specs.declared.fault.BuildFault.{BuildFault}
 use Rattle.problem_builder.specs.declared.fault.BuildFault.TheVariants as build
 use Rattle.problem_builder.specs.GridHeads.{IsActive, IsNamed}
 use Rattle.deck_problems.specs.declared.decks.Decks.{Decks}
 use Rattle.deck_problems.specs.ConstantHeads.{AreConstantHeadsFor}
 use Rattle.deck_problems.specs.Decks.{EachMember}
-use Rattle.deck_problems.specs.Made.{EnclosesSteps}
+use Rattle.deck_problems.specs.Kept.{EnclosesSteps}
 use Rattle.step_chain.specs.Steps.{IsPosed, HasNoPose}
 use Rattle.zone_flows.specs.declared.fault.ZoneFault.{ZoneFault}
 use Rattle.zone_flows.specs.declared.fault.ZoneFault.TheVariants as flows
-use Rattle.listing_run.specs.Zones.{AreFlowsOf, FlowsEnclose, HasLargeFlowOf}
+use Rattle.listing_run.specs.Tasks.{AreFlowsOf, FlowsEnclose, HasLargeFlowOf}
 use Rattle.listing_io.specs.declared.listing.ListedStep.{ListedStep}
-use Rattle.listing_io.specs.Listed.{step_in}
-use Rattle.check_run.specs.declared.fault.CheckFault.{CheckFault}
-use Rattle.check_run.specs.declared.fault.CheckFault.TheVariants as fault
+use Rattle.listing_io.specs.Laws.{step_in}
+use Rattle.check_run.specs.declared.listing.CheckFault.{CheckFault}
+use Rattle.check_run.specs.declared.listing.CheckFault.TheVariants as fault
 use Rattle.check_run.specs.declared.posed.Posed.{Posed}
 use Rattle.check_run.specs.declared.verdict.ListingVerdict.{ListingVerdict}
 use Rattle.check_run.specs.declared.verdict.ListingVerdict.TheVariants as verdict
-use Rattle.check_run.specs.Flows.{CoversFlow, IsFirstNarrow}
-use Rattle.check_run.specs.Steps.{FailsAt, IsRefused}
+use Rattle.check_run.specs.Steps.{CoversFlow, IsFirstNarrow, FailsAt, IsRefused}
 
 -- a fault of a step by that of its builder, or its barrier
 abbrev pub of_build : BuildFault → CheckFault

@@ -1,12 +1,11 @@
 -- Whether a step of a listing is certified, and the first place where it isn't.
-use Rattle.std.specs.Prelude.{◌≡◌, ℕ, List, Ok, Err, Option, Result}
+use Rattle.std.specs.Prelude.{◌≡◌, ℕ, List, Ok, Err, Option, Result, ◌<◌, true, map, ◌≤ℤ◌, [], ◌∷◌, ◌⊎◌}
 use Rattle.std.specs.List.{AllZip}
 use Rattle.step_problem.specs.declared.heads.Bound.{Bound}
 use Rattle.step_problem.specs.declared.heads.Side.{Side}
 use Rattle.step_problem.specs.declared.place.Dir.{Dir}
 use Rattle.step_problem.specs.declared.place.NoBound.{NoBound}
 use Rattle.step_problem.specs.declared.place.Place.{Place}
-use Rattle.step_problem.specs.declared.place.Place.TheVariants as places
 use Rattle.step_problem.specs.declared.place.Term.{Term}
 use Rattle.step_problem.specs.declared.place.ZoneFlow.{ZoneFlow}
 use Rattle.step_problem.specs.Entries.{Entries, entries_at}
@@ -18,11 +17,62 @@ use Rattle.certificate_check.specs.Certificates.{IsFirstFailing}
 use Rattle.model_types.specs.declared.limits.Limits.{Limits}
 use Rattle.model_types.specs.declared.time_steps.TimeStep.{TimeStep}
 use Rattle.deck_problems.specs.declared.decks.Decks.{Decks}
-use Rattle.step_chain.specs.Steps.{IsPosed, HasNoPose}
+use Rattle.step_chain.specs.Steps.{IsPosed, HasNoPose, bound_at}
 use Rattle.listing_io.specs.declared.listing.ListedStep.{ListedStep}
-use Rattle.listing_run.specs.Zones.{AreFlowsOf, HasLargeFlowOf}
-use Rattle.check_run.specs.Reaching.{variable_bounds, ConstantsReach, IsFirstShort}
-use Rattle.check_run.specs.Flows.{CoversFlow, IsFirstNarrow}
+use Rattle.listing_run.specs.Tasks.{AreFlowsOf, HasLargeFlowOf}
+use Rattle.step_problem.specs.declared.heads.Side.TheVariants.{Low, High}
+use Rattle.model_types.specs.Faces.{cell_count}
+use Rattle.model_types.specs.Heads.{is_constant, variable_cells}
+use Rattle.deck_problems.specs.ConstantHeads.{IsConstantPairFor}
+use Rattle.zone_pairs.specs.Pairs.{zones_of_flow}
+use Rattle.step_problem.specs.declared.place.Place.TheVariants as places
+
+-- The listed heads of a time's constant and variable cells.
+-- a listed bound is as wide as a pair on one side: at most its lower head, at least its upper one
+abbrev pub ReachesOn : Side → Bound → Bound → Type 0
+ReachesOn Low listed pair = listed.low ≤ℤ pair.low
+ReachesOn High listed pair = pair.high ≤ℤ listed.high
+
+-- a cell with a constant head at a time
+pub record IsConstantCell (d : Decks) (at : TimeStep) (c : ℕ) : Type 0 where
+  pub within : c < cell_count d.first.grid
+  pub constant : is_constant d.first at.period c ≡ true
+
+-- A time of decks, where `heads` are the listed heads of all cells.
+module _ (d : Decks) (at : TimeStep) (heads : List Bound) where
+  -- the listed bounds of the variable cells, by ascending cell number
+  abbrev pub variable_bounds : List Bound
+  variable_bounds = map (bound_at heads) (variable_cells d.first at.period)
+
+  -- the listed bound of cell c is as wide as the pair of its constant head, on one side
+  abbrev pub ReachesAt : ℕ → Side → Type 0
+  ReachesAt c side = (pair : Bound) → IsConstantPairFor d at c pair.low pair.high → ReachesOn side (bound_at heads c) pair
+
+  -- this holds at each constant cell, on both sides
+  abbrev pub ConstantsReach : Type 0
+  ConstantsReach = (c : ℕ) → IsConstantCell d at c → (side : Side) → ReachesAt c side
+
+  -- the first constant cell and side where it doesn't, the lower side first
+  pub record IsFirstShort (c : ℕ) (side : Side) : Type 0 where
+    pub cell : IsConstantCell d at c
+    pub short : ReachesAt c side → ⊥
+    pub least : (e : ℕ) → e < c → IsConstantCell d at e → (other : Side) → ReachesAt e other
+    pub low_first : side ≡ High → ReachesAt c Low
+
+-- Whether listed flows between zones are as wide as others, flow by flow.
+-- a listed flow is as wide as a computed one between the same zones: its lower value is at most, its upper value at least
+-- the computed one
+pub record CoversFlow (listed computed : ZoneFlow) : Type 0 where
+  pub zones : zones_of_flow listed ≡ zones_of_flow computed
+  pub lower : listed.lo ≤ℤ computed.lo
+  pub upper : computed.hi ≤ℤ listed.hi
+
+-- the first listed flow that isn't as wide as the computed one in its place is that between these zones
+abbrev pub IsFirstNarrow : List ZoneFlow → List ZoneFlow → ℕ → ℕ → Type 0
+IsFirstNarrow (v ∷ listed) (w ∷ computed) from to =
+    ((CoversFlow v w → ⊥) × (from ≡ v.from) × (to ≡ v.to)) ⊎ (CoversFlow v w × IsFirstNarrow listed computed from to)
+IsFirstNarrow [] computed from to = ⊥
+IsFirstNarrow (v ∷ listed) [] from to = ⊥
 
 -- A listed step w of decks, by these limits, with s digits of conductances and the zones of a zone file, if there is one, where `old` are
 -- the heads of all cells before it.

@@ -1,20 +1,28 @@
 -- The verdict on a listing, and how a certified listing encloses every history.
-use Rattle.std.specs.Prelude.{◌≡◌, ℕ, ◌⊎◌, List, [], ◌∷◌, Option, false}
+use Rattle.std.specs.Prelude.{◌≡◌, ℕ, ◌⊎◌, List, [], ◌∷◌, Option, false, ◌<◌, ◌≤◌, ◌^◌, map, nat_abs, Ok, Bool}
 use Rattle.step_problem.specs.declared.heads.Bound.{Bound}
 use Rattle.model_types.specs.declared.limits.Limits.{Limits}
 use Rattle.model_types.specs.declared.limits.Limits.TheVariants.{Plain}
 use Rattle.model_types.specs.declared.time_steps.TimeStep.{TimeStep}
 use Rattle.model_types.specs.Times.{times}
 use Rattle.deck_problems.specs.declared.decks.Decks.{Decks}
-use Rattle.deck_problems.specs.StartHeads.{AreStartHeadsFor}
+use Rattle.deck_problems.specs.ConstantHeads.{AreStartHeadsFor}
 use Rattle.listing_io.specs.declared.listing.ListedStep.{ListedStep}
-use Rattle.listing_run.specs.declared.task.Task.{Task}
-use Rattle.listing_run.specs.declared.step.Step.{Step}
+use Rattle.listing_run.specs.declared.steps.Task.{Task}
+use Rattle.listing_run.specs.declared.solving.Step.{Step}
 use Rattle.listing_run.specs.Tasks.{deck_task}
-use Rattle.listing_run.specs.Bounding.{EnclosesHistories}
+use Rattle.listing_run.specs.Listing.{EnclosesHistories, is_between, listing}
 use Rattle.check_run.specs.declared.verdict.ListingVerdict.{ListingVerdict}
 use Rattle.check_run.specs.declared.verdict.ListingVerdict.TheVariants.{Certified, Fails, Refused}
 use Rattle.check_run.specs.Steps.{Passes, FailsAt, IsRefused}
+use Rattle.std.specs.List.{concat}
+use Rattle.deck_problems.specs.Decks.{AreDecks}
+use Rattle.zone_pairs.specs.Pairs.{pairs_in, AreNumbers}
+use Rattle.listing_io.specs.Reading.{all_lines, listing_at}
+use Rattle.run_puts.specs.Runs.{end_line}
+use Rattle.listing_run.specs.declared.text.ListingEnd.TheVariants.{Whole}
+use Rattle.listing_run.specs.Steps.{AllSteps}
+use Rattle.listing_io.specs.Laws.{AreListed}
 
 module _ (limits : Limits) (d : Decks) (s : ℕ) (zones : Option (List ℕ)) where
   -- the check ends at this step with this verdict
@@ -55,3 +63,37 @@ steps_of (at ∷ rest) [] = []
 -- between the listed terms, and each of its flows between two zones of a zone file between its two listed numbers.
 abbrev pub ListingEncloses : Decks → ℕ → Option (List ℕ) → List ListedStep → Type 0
 ListingEncloses d s zones steps = EnclosesHistories (checked_task d s zones) (steps_of (times d.first) steps)
+
+-- The listing of a run, as a check reads and judges it.
+-- a step of a run, as it is listed
+abbrev pub as_listed : Step → ListedStep
+as_listed v = record { heads = v.heads; budget = v.budget; zones = v.zones }
+
+-- Where all steps of valid decks have values, the listing of these values is certified.
+abbrev pub RunIsCertified : Type 0
+RunIsCertified =
+    (limits : Limits) (d : Decks) (s : ℕ) (zones : Option (List ℕ)) (rounds : ℕ) (quick : Bool) (values : List Step) → AreDecks d → AreNumbers zones →
+    AllSteps (deck_task limits d s zones rounds quick) values Whole → IsVerdict limits d s zones (map as_listed values) Certified
+
+-- valid decks with a LENUNI of 64 bits, as the reader of models gives it, at most 18 digits, and zones of at most 999 if
+-- there is a zone file
+pub record IsReadable (d : Decks) (s : ℕ) (zones : Option (List ℕ)) : Type 0 where
+  pub decks : AreDecks d
+  pub digits : s ≤ 18
+  pub numbers : AreNumbers zones
+  pub unit : nat_abs d.first.lenuni < 2 ^ 64
+
+-- The bytes of such a listing are read as these values.
+abbrev pub RunIsReadAgain : Type 0
+RunIsReadAgain =
+    (limits : Limits) (d : Decks) (s : ℕ) (zones : Option (List ℕ)) (rounds : ℕ) (quick : Bool) (values : List Step) → IsReadable d s zones →
+    AllSteps (deck_task limits d s zones rounds quick) values Whole →
+    listing_at (is_between (deck_task limits d s zones rounds quick)) d.first s (pairs_in d.first zones)
+    (all_lines (concat (listing (deck_task limits d s zones rounds quick) values end_line))) ≡ Ok (map as_listed values)
+
+-- Laws of verdicts.
+-- a listing of decks has at most one verdict
+abbrev pub VerdictIsOne : Type 0
+VerdictIsOne =
+    (limits : Limits) (d : Decks) (s : ℕ) (zones : Option (List ℕ)) (steps : List ListedStep) (a b : ListingVerdict) → AreDecks d →
+    AreListed d.first (pairs_in d.first zones) steps → IsVerdict limits d s zones steps a → IsVerdict limits d s zones steps b → a ≡ b

@@ -3,13 +3,12 @@ ghost use Rattle.std.specs.Prelude.{◌≡◌, ℕ, List, Bool, true, false, map
 ghost use Rattle.std.specs.List.{AllZip};
 ghost use Rattle.step_problem.specs.declared.place.ZoneFlow.{ZoneFlow as Flow};
 ghost use Rattle.problem_builder.specs.GridHeads.{AreGridHeads, IsActive, IsNamed};
-ghost use Rattle.zone_pairs.specs.Pairs.{zones_of_flow};
-ghost use Rattle.zone_pairs.specs.Zones.{AreZones};
-ghost use Rattle.listing_run.specs.Zones.{AreFlowsOf};
-ghost use Rattle.check_run.specs.Flows.{CoversFlow, IsFirstNarrow};
+ghost use Rattle.zone_pairs.specs.Pairs.{zones_of_flow, AreZones};
+ghost use Rattle.listing_run.specs.Tasks.{AreFlowsOf};
+ghost use Rattle.check_run.specs.Steps.{CoversFlow, IsFirstNarrow};
 ghost use Rattle.check_run.specs.Parts.{AreNarrow, AreWide};
 
-use crate::fault::CheckFault;
+use crate::listing::CheckFault;
 use listing_run::flows_of;
 use model_types::FlowModel;
 use std::alloc::Global;

@@ -2,7 +2,6 @@
 #![tactic(auto)]
 
 mod constants;
-mod fault;
 mod flows;
 pub mod laws;
 mod listing;

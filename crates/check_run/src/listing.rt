@@ -1,24 +1,26 @@
 // The check of a listing.
 ghost use Rattle.std.specs.Prelude.{◌≡◌, ◌≤◌, length, option_map, IfOk};
-ghost use Rattle.zone_pairs.specs.Pairs.{pairs_in};
-ghost use Rattle.zone_pairs.specs.Zones.{AreZones};
-ghost use Rattle.listing_io.specs.Listed.{AreListed};
+ghost use Rattle.zone_pairs.specs.Pairs.{pairs_in, AreZones};
+ghost use Rattle.listing_io.specs.Laws.{AreListed};
 ghost use Rattle.exact_histories.specs.Decks.{HaveOneHistory};
 ghost use Rattle.deck_problems.specs.Decks.{AreDecks};
 ghost use Rattle.deck_problems.specs.Kept.{AreDeckTables, digits_of};
 ghost use Rattle.check_run.specs.declared.verdict.ListingVerdict.TheVariants.{Certified};
-ghost use Rattle.check_run.specs.Parts.{heads_before, IsVerdictAt};
+ghost use Rattle.check_run.specs.Parts.{heads_before, IsVerdictAt, of_barrier, of_build, of_flows};
 ghost use Rattle.check_run.specs.Verdicts.{IsVerdict, ListingEncloses};
+ghost use Rattle.check_run.specs.declared.listing.CheckFault.TheVariants.{Memory as OutOfMemory};
 
-use crate::fault::CheckFault;
 use crate::laws::one_verdict;
 use crate::step::check_listed;
 use crate::verdict::ListingVerdict;
+use barrier_vector::BarrierFault;
 use deck_problems::{DeckTables, Decks, start_heads_for};
 use listing_io::Listing;
 use model_types::{Limits, TimeStep, times};
-use std::alloc::{AllocError, Global};
-use step_problem::Bound;
+use problem_builder::BuildFault;
+use std::alloc::{AllocError, AllocFailed, Global};
+use step_problem::{Bound, NoBound, Place};
+use zone_flows::ZoneFault;
 
 // The heads before a step: the listing's own of the step before, or those of STRT.
 fn heads_before<'a>(start: &'a [Bound], listing: &'a Listing, index: usize) -> &'a [Bound]
@@ -113,5 +115,56 @@ pub fn check_listing(
     match DeckTables::new(alloc, decks, s) {
         Ok(mut tables) => check_steps(alloc, limits, decks, &mut tables, zones, listing),
         Err(fault) => Err(fault),
+    }
+}
+
+// Why a step of a listing isn't certified.
+
+/// The first place that fails, a refusal of the step, or lack of memory.
+#[derive(Clone, Copy)]
+pub enum CheckFault {
+    Fails(Place),
+    Refused(NoBound),
+    Memory,
+}
+
+impl From<AllocError> for CheckFault {
+    ghost from_gives = { λ _ e. e ≡ OutOfMemory };
+
+    fn from(_e: AllocError) -> CheckFault {
+        CheckFault::Memory
+    }
+}
+
+impl From<BuildFault> for CheckFault {
+    ghost from_gives = { λ fault e. e ≡ of_build fault };
+
+    fn from(fault: BuildFault) -> CheckFault {
+        match fault {
+            BuildFault::NoBound(refusal) => CheckFault::Refused(refusal),
+            BuildFault::Memory => CheckFault::Memory,
+        }
+    }
+}
+
+impl From<BarrierFault> for CheckFault {
+    ghost from_gives = { λ fault e. e ≡ of_barrier fault };
+
+    fn from(fault: BarrierFault) -> CheckFault {
+        match fault {
+            BarrierFault::NoBound(refusal) => CheckFault::Refused(refusal),
+            BarrierFault::Memory => CheckFault::Memory,
+        }
+    }
+}
+
+impl From<ZoneFault> for CheckFault {
+    ghost from_gives = { λ fault e. e ≡ of_flows fault };
+
+    fn from(fault: ZoneFault) -> CheckFault {
+        match fault {
+            ZoneFault::NoBound(refusal) => CheckFault::Refused(refusal),
+            ZoneFault::Memory => CheckFault::Memory,
+        }
     }
 }

@@ -6,7 +6,7 @@ ghost use Rattle.deck_problems.specs.Decks.{AreDecks};
 ghost use Rattle.deck_problems.specs.Kept.{AreDeckTables, digits_of};
 ghost use Rattle.check_run.specs.Parts.{ArePosed, IsUnposed};
 
-use crate::fault::CheckFault;
+use crate::listing::CheckFault;
 use deck_problems::{DeckTables, Decks, problem_for};
 use model_types::{Limits, Listed, TimeStep};
 use std::alloc::Global;

@@ -1,9 +1,9 @@
 // Whether the listed terms are as wide as the budget of the listed heads.
 ghost use Rattle.std.specs.Prelude.{IfOk, IfErr};
-ghost use Rattle.cell_relax.specs.Words.{AreWords};
+ghost use Rattle.cell_relax.specs.Sides.{AreWords};
 ghost use Rattle.check_run.specs.Parts.{IsCovered, IsUncovered};
 
-use crate::fault::CheckFault;
+use crate::listing::CheckFault;
 use budget_bounds::{Budget, budget, first_uncovered};
 use step_problem::{Bound, Place, Problem};
 

@@ -1,5 +1,5 @@
 -- The command line, as clap sees it: one command with five subcommands, of which one is needed.
-use Rattle.std.specs.Prelude.{◌≡◌, Some, true, false, codes}
+use Rattle.std.specs.Prelude.{◌≡◌, Some, true, false, codes, List, ℕ}
 use Rattle.clap.specs.declared.builder.action.ArgAction.TheVariants.{SetTrue}
 use Rattle.clap.specs.declared.builder.command.Command.{Command}
 use Rattle.clap.specs.declared.builder.command.Command.TheViews.{out-Command as fields_of}
@@ -61,3 +61,8 @@ heads_app =
 -- no argument belongs to all subcommands
 abbrev pub IsLocal : Command → Type 0
 IsLocal c = (fields_of c).has_globals ≡ false
+
+-- The line where the words aren't accepted. It names neither `write NAME`, nor `--zones` of `check`, nor `--to` of `run` and `check`,
+-- nor `--quick` of `run` and `batch`, nor `--wide` of all commands but `make`, which are accepted too.
+abbrev pub usage_line : List ℕ
+usage_line = codes "USAGE: heads run NAME [--digits S] [--workers W] [--rounds P] [--zones Z] [--watch N] | heads check NAME LISTING [--digits S] | heads make SEED SIZE | heads batch LIST [--digits S] [--workers W] [--rounds P]\n"

@@ -1,12 +1,27 @@
 -- What the words of the command line ask for.
-use Rattle.std.specs.Prelude.{ℕ, Bool, true, false, List, [], ◌∷◌, Option, Some, None, cond, codes, option_map, option_and_then}
+use Rattle.std.specs.Prelude.{ℕ, Bool, true, false, List, [], ◌∷◌, Option, Some, None, cond, codes, option_map, option_and_then, ◌&&◌, decimal, nat_le}
+use Rattle.std.specs.Prelude.{if◌then◌else◌}
 use Rattle.std.specs.Option.{option_map_or}
 use Rattle.std.specs.Str.{bytes_eq}
 use Rattle.clap.specs.Words.{Text, Row, Kinds, fault_of, subcommand_of, first_of}
 use Rattle.command_line.specs.Commands.{heads_app}
-use Rattle.command_line.specs.Numbers.{number_in, number_or}
 use Rattle.command_line.specs.declared.orders.Order.{Order}
+use Rattle.std.specs.Str.Parse.{digits_value}
 use Rattle.command_line.specs.declared.orders.Order.TheVariants as order
+
+-- Numbers of the command line: decimal digits, without a sign and without needless leading zeros, within a range.
+-- the text is n in decimal digits, and n lies in the range
+abbrev pub is_number : ℕ → ℕ → List ℕ → ℕ → Bool
+is_number low high text n = bytes_eq text (decimal n) && nat_le low n && nat_le n high
+
+-- the number from low to high that a text gives
+abbrev pub number_in : ℕ → ℕ → List ℕ → Option ℕ
+number_in low high text = if is_number low high text (digits_value 10 text) then Some (digits_value 10 text) else None
+
+-- the number that an option's value gives; the default where the option is omitted
+abbrev pub number_or : ℕ → ℕ → ℕ → Option (List ℕ) → Option ℕ
+number_or low high given None = Some given
+number_or low high given (Some text) = number_in low high text
 
 infixl 10 ◌>>=◌
 abbrev ◌>>=◌ : {A B : Type 0} → Option A → (A → Option B) → Option B

@@ -1,6 +1,5 @@
 ghost use Rattle.std.specs.Prelude.{◌≡◌, ◌≤◌, option_map, IfSome};
-ghost use Rattle.command_line.specs.Numbers.{number_in, number_or};
-ghost use Rattle.command_line.specs.Wants.{turns_of};
+ghost use Rattle.command_line.specs.Wants.{number_in, number_or, turns_of};
 
 use itoa::Buffer;
 

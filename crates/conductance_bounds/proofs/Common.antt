@@ -12,13 +12,12 @@ pub use Rattle.conductance_bounds.specs.Branches.{storativity_term, thickness_of
 pub use Rattle.conductance_bounds.specs.Branches.{vertical_term}
 pub use Rattle.conductance_bounds.specs.Calls.{IsBed, IsColHalf, IsHalf, IsVertHalf, LiesWithin}
 pub use Rattle.conductance_bounds.specs.Formulas.{column_k_term, evap_term, face_term, recharge_term, storage_term, thick_term}
-pub use Rattle.conductance_bounds.specs.Growth.{IsSlow}
-unfoldable pub use Rattle.conductance_bounds.specs.Growth.{power_term, sum_term}
 pub use Rattle.conductance_bounds.specs.Intervals.{AreBounds, IsOrdered}
 unfoldable pub use Rattle.conductance_bounds.specs.Intervals.{reach}
 pub use Rattle.conductance_bounds.specs.Pairs.{IsFlow, IsFlowPair, IsPair, IsWholePair, high_end, low_end}
-pub use Rattle.conductance_bounds.specs.Parts.{IsCeilingOf, IsFloorOf, IsGivenPair, IsGrowingPart, IsHeadUnits, IsPart, IsPassed, IsWithin, blend, is_whole}
-pub use Rattle.conductance_bounds.specs.Parts.{part_term}
+pub use Rattle.conductance_bounds.specs.Parts.{IsCeilingOf, IsFloorOf, IsGivenPair, IsGrowingPart, IsHeadUnits, IsPart, IsPassed, IsSlow, IsWithin, blend}
+pub use Rattle.conductance_bounds.specs.Parts.{is_whole, part_term}
+unfoldable pub use Rattle.conductance_bounds.specs.Parts.{power_term, sum_term}
 pub use Rattle.conductance_bounds.specs.Terms.{Holds, IsBetween, IsBound, IsRounded, Side, Term, exact}
 pub use Rattle.conductance_bounds.specs.Terms.Side.{Lower, Upper}
 pub use Rattle.conductance_bounds.specs.Terms.Term.{Number, Product, Quotient, Sum, Within}
@@ -31,24 +30,23 @@ pub use Rattle.decimal_input.proofs.Orders.{num_plus, num_times, over-AtMost, pl
 pub use Rattle.decimal_input.proofs.Powers.{cross_of, den_scaled, num_scaled, power_within, scaled-AtMost, scaled_shift, ten_pos}
 pub use Rattle.decimal_input.proofs.SameNumbers.{Same-self, over-Same, over-positive, plus-Same, plus-positive, times-Same, times-positive}
 pub use Rattle.decimal_input.proofs.Signs.{add_times, cancel_right, mul_mono_right, neg_times, swap}
-pub use Rattle.decimal_input.specs.Canonical.{number, size}
-pub use Rattle.decimal_input.specs.Decimals.{down, up, with_sign}
+pub use Rattle.decimal_input.specs.Decimals.{down, number, size, up, with_sign}
 unfoldable pub use Rattle.decimal_input.specs.Decimals.{scaled}
-pub use Rattle.decimal_input.specs.Enclosures.{Encloses, EnclosesSigned}
 pub use Rattle.decimal_input.specs.Fractions.{Fraction, signed}
 pub use Rattle.decimal_input.specs.Ratios.{AtMost, Ratio, Same, den, over, plus, times}
 unfoldable pub use Rattle.decimal_input.specs.Ratios.{ratio}
-pub use Rattle.decimal_input.specs.Wholes.{IsCeiling, IsCeilingPast, IsFloor, IsFloorPast, IsSignedCeiling, IsSignedFloor, Passes, Reaches}
+pub use Rattle.decimal_input.specs.Wholes.{Encloses, EnclosesSigned, IsCeiling, IsCeilingPast, IsFloor, IsFloorPast, IsSignedCeiling, IsSignedFloor, Passes}
+pub use Rattle.decimal_input.specs.Wholes.{Reaches}
 pub use Rattle.decimal_input.specs.declared.dec.Dec.{Dec}
 pub use Rattle.model_types.proofs.Growth.{horner, power-positive}
-pub use Rattle.model_types.specs.Cells.{cell_count, column_of, layer_size, row_of}
 pub use Rattle.model_types.specs.Conductances.{conductance, one, two}
 unfoldable pub use Rattle.model_types.specs.Conductances.{column_conductance, half, in_a_row, row_conductance, vertical_conductance, vertical_half}
+pub use Rattle.model_types.specs.Faces.{cell_count, column_of, layer_size, row_of, stride}
+pub use Rattle.model_types.specs.Grids.{IsPositive, IsThick}
 pub use Rattle.model_types.specs.Heads.{between_heads}
 pub use Rattle.model_types.specs.Layers.{bed_thickness, bottom_at, dec_at, delc_at, delr_at, gap, hani_at, has_bed, hk_at, is_active, is_ratio, lowest}
 pub use Rattle.model_types.specs.Layers.{no_number, thickness, top_at, vka_at, vkcb_at}
 unfoldable pub use Rattle.model_types.specs.Layers.{area}
-pub use Rattle.model_types.specs.Numbers.{IsPositive, IsThick}
 pub use Rattle.model_types.specs.Times.{multiplier}
 unfoldable pub use Rattle.model_types.specs.Times.{geometric, passed, power}
 pub use Rattle.model_types.specs.Valid.{IsModel, IsTimed, number_one}

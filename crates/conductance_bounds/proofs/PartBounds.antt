@@ -8,7 +8,7 @@ use Rattle.conductance_bounds.proofs.Common.{IsPassed, part_term, over-Same, pow
 use Rattle.conductance_bounds.proofs.Positive.{size_positive}
 use Rattle.conductance_bounds.proofs.Enclosing.{bound_on, below_units, above_units}
 use Rattle.conductance_bounds.proofs.Horner.{sum_is, sum_holds}
-use Rattle.scaled_decimal.proofs.Sums.{more_plus}
+use Rattle.scaled_decimal.proofs.Products.{more_plus}
 
 next : (t : Ratio) (m : ℕ) → AtMost (geometric t m) (geometric t (suc m))
 unfolding geometric

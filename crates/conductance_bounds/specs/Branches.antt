@@ -2,7 +2,7 @@
 -- it bounds, in the manual's form (TM 6-A16, chapters 5 and 6).
 use Rattle.std.specs.Prelude.{ℕ, ◌-◌, ◌==◌, Bool, cond, Option, Some, None}
 use Rattle.decimal_input.specs.declared.dec.Dec.{Dec}
-use Rattle.decimal_input.specs.Canonical.{number, size}
+use Rattle.decimal_input.specs.Decimals.{number, size}
 use Rattle.decimal_input.specs.Ratios.{Ratio, plus, times, over}
 use Rattle.decimal_input.specs.Fractions.{Fraction, signed, times as product}
 use Rattle.scaled_decimal.specs.declared.decimal.Sd.{Sd}
@@ -14,7 +14,7 @@ use Rattle.conductance_bounds.specs.declared.vertical.VertHalf.{VertHalf}
 use Rattle.conductance_bounds.specs.declared.vertical.Bed.{Bed}
 use Rattle.conductance_bounds.specs.Terms.{Term}
 use Rattle.conductance_bounds.specs.Terms.Term.{Number, Within, Sum, Product, Quotient}
-use Rattle.conductance_bounds.specs.Growth.{sum_term, power_term}
+use Rattle.conductance_bounds.specs.Parts.{sum_term, power_term}
 
 abbrev pub twice : Term → Term
 twice t = Sum t t

@@ -1,7 +1,6 @@
 pub mod Terms
 pub mod Thicknesses
 pub mod Intervals
-pub mod Growth
 pub mod Calls
 pub mod Pairs
 pub mod Branches

@@ -2,17 +2,16 @@
 -- recharge, of an evapotranspiration or of a given head encloses the exact value.
 use Rattle.std.specs.Prelude.{◌≡◌, ℕ, ◌+◌, ◌<◌, ◌≤◌, true, false, ℤ}
 use Rattle.decimal_input.specs.declared.dec.Dec.{Dec}
-use Rattle.decimal_input.specs.Enclosures.{Encloses, EnclosesSigned}
+use Rattle.decimal_input.specs.Wholes.{Encloses, EnclosesSigned}
 use Rattle.model_types.specs.declared.entry.Given.{Given}
 use Rattle.model_types.specs.declared.face.Axis.{Axis}
 use Rattle.model_types.specs.declared.model.FlowModel.{FlowModel}
 use Rattle.model_types.specs.declared.period.Period.{Period}
-use Rattle.model_types.specs.Cells.{cell_count, layer_size}
+use Rattle.model_types.specs.Faces.{cell_count, layer_size, stride}
 use Rattle.model_types.specs.Conductances.{conductance}
-use Rattle.model_types.specs.Faces.{stride}
 use Rattle.model_types.specs.Heads.{between_heads}
 use Rattle.model_types.specs.Layers.{is_active, top_at, bottom_at, lowest, bed_thickness}
-use Rattle.model_types.specs.Numbers.{IsPositive}
+use Rattle.model_types.specs.Grids.{IsPositive}
 use Rattle.model_types.specs.Receivers.{EvapSource, recharge_flow, evap_conductance}
 use Rattle.model_types.specs.Storage.{storage}
 use Rattle.model_types.specs.Times.{passed}

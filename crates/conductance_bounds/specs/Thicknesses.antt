@@ -1,8 +1,7 @@
 -- The two decimals between which a thickness is known.
 use Rattle.std.specs.Prelude.{ℤ, pos, neg_ℤ, ◌-ℤ◌, unsigned_abs}
 use Rattle.decimal_input.specs.declared.dec.Dec.{Dec}
-use Rattle.decimal_input.specs.Canonical.{number}
-use Rattle.decimal_input.specs.Decimals.{scaled}
+use Rattle.decimal_input.specs.Decimals.{number, scaled}
 use Rattle.decimal_input.specs.Ratios.{AtMost}
 use Rattle.decimal_input.specs.Wholes.{IsSignedFloor, IsSignedCeiling}
 use Rattle.scaled_decimal.specs.declared.decimal.Sd.{Sd}

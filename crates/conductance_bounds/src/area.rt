@@ -1,7 +1,7 @@
 // The area of a cell.
 ghost use Rattle.std.specs.Prelude.{◌<◌, ◌≤◌};
-ghost use Rattle.decimal_input.specs.Canonical.{size};
-ghost use Rattle.model_types.specs.Numbers.{IsPositive};
+ghost use Rattle.decimal_input.specs.Decimals.{size};
+ghost use Rattle.model_types.specs.Grids.{IsPositive};
 ghost use Rattle.conductance_bounds.specs.Branches.{area_formula};
 ghost use Rattle.conductance_bounds.specs.Intervals.{IsOrdered, reach, AreBounds};
 

@@ -1,8 +1,8 @@
 // Evapotranspiration as a conductance.
 ghost use Rattle.std.specs.Prelude.{◌≤◌, IfSome};
-ghost use Rattle.decimal_input.specs.Canonical.{size};
-ghost use Rattle.decimal_input.specs.Enclosures.{Encloses};
-ghost use Rattle.model_types.specs.Numbers.{IsPositive, IsNotNegative};
+ghost use Rattle.decimal_input.specs.Decimals.{size};
+ghost use Rattle.decimal_input.specs.Wholes.{Encloses};
+ghost use Rattle.model_types.specs.Grids.{IsPositive, IsNotNegative};
 ghost use Rattle.conductance_bounds.specs.Branches.{evap_formula, evap_exact};
 ghost use Rattle.conductance_bounds.specs.Pairs.{IsWholePair};
 

@@ -1,17 +1,15 @@
 // A head given at the start and at the end of a stress period.
-ghost use Rattle.std.specs.Prelude.{◌≡◌, ◌≤◌, ◌^◌, ℤ, FitsSigned};
+ghost use Rattle.std.specs.Prelude.{◌≡◌, ◌≤◌, ◌^◌, ℤ, FitsSigned, ◌*◌, pos, ◌*ℤ◌};
 ghost use Rattle.std.specs.Int.{w64};
-ghost use Rattle.decimal_input.specs.Canonical.{IsDec, number};
-ghost use Rattle.decimal_input.specs.Enclosures.{EnclosesSigned};
+ghost use Rattle.decimal_input.specs.Decimals.{IsDec, number};
+ghost use Rattle.decimal_input.specs.Wholes.{EnclosesSigned, IsSignedFloor, IsSignedCeiling};
 ghost use Rattle.decimal_input.specs.Ratios.{Ratio};
-ghost use Rattle.decimal_input.specs.Wholes.{IsSignedFloor, IsSignedCeiling};
 ghost use Rattle.model_types.specs.declared.entry.Given.{Given};
-ghost use Rattle.model_types.specs.Numbers.{IsHeadNumber};
+ghost use Rattle.model_types.specs.Grids.{IsHeadNumber};
 ghost use Rattle.model_types.specs.Heads.{between_heads};
-ghost use Rattle.conductance_bounds.specs.Parts.{IsPassed, IsHeadUnits, IsGivenPair};
+ghost use Rattle.conductance_bounds.specs.Parts.{IsPassed, IsHeadUnits, IsGivenPair, IsWithin, blend, IsFloorOf, IsCeilingOf};
 
-use crate::blend::{blend, head_ceiling, head_floor};
-use crate::part::Part;
+use crate::part::{Part, WHOLE};
 use decimal_input::dec::Dec;
 use decimal_input::units::{ceil_at, floor_at};
 
@@ -87,4 +85,44 @@ fn ceiling_64(x: Dec) -> i64
         Some(high) => high as i64,
         None => unreachable!(),
     }
+}
+
+// Numbers between those at the start and at the end of a stress period.
+
+/// The head at a part of the period, in units of 10 ^ -27.
+pub(crate) fn blend(start: i64, end: i64, part: u64) -> i128
+    requires start { IsHeadUnits start }
+    requires end { IsHeadUnits end }
+    requires part { part ≤ 10 ^ 18 }
+    ensures value { result ≡ blend start end part }
+    ensures range { IsWithin result (4 * 10 ^ 36) }
+{
+    share(start, WHOLE - part) + share(end, part)
+}
+
+fn share(head: i64, part: u64) -> i128
+    requires head { IsHeadUnits head }
+    requires part { part ≤ 10 ^ 18 }
+    ensures value { result ≡ head *ℤ pos part }
+    ensures range { IsWithin result (4 * 10 ^ 18 * part) }
+{
+    head as i128 * part as i128
+}
+
+/// A number in units of 10 ^ -27 as one in units of 10 ^ -9, rounded down.
+pub(crate) fn head_floor(x: i128) -> i64
+    requires range { IsWithin x (4 * 10 ^ 36) }
+    ensures floor { IsFloorOf x result }
+    ensures range { IsHeadUnits result }
+{
+    x.div_euclid(WHOLE as i128) as i64
+}
+
+/// A number in units of 10 ^ -27 as one in units of 10 ^ -9, rounded up.
+pub(crate) fn head_ceiling(x: i128) -> i64
+    requires range { IsWithin x (4 * 10 ^ 36) }
+    ensures ceiling { IsCeilingOf x result }
+    ensures range { IsHeadUnits result }
+{
+    -head_floor(-x)
 }

@@ -1,9 +1,9 @@
 // Branches along rows and columns.
 ghost use Rattle.std.specs.Prelude.{◌<◌, ◌≤◌, IfSome};
-ghost use Rattle.decimal_input.specs.Canonical.{size};
-ghost use Rattle.decimal_input.specs.Enclosures.{Encloses};
+ghost use Rattle.decimal_input.specs.Decimals.{size};
+ghost use Rattle.decimal_input.specs.Wholes.{Encloses};
 ghost use Rattle.decimal_input.specs.Ratios.{Ratio};
-ghost use Rattle.model_types.specs.Numbers.{IsPositive};
+ghost use Rattle.model_types.specs.Grids.{IsPositive};
 ghost use Rattle.model_types.specs.Conductances.{one};
 ghost use Rattle.conductance_bounds.specs.Terms.{Term, IsBetween};
 ghost use Rattle.conductance_bounds.specs.Terms.Term.{Number, Sum, Quotient};

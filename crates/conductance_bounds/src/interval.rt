@@ -1,11 +1,11 @@
 // Arithmetic on spans. Each operation is rounded down for the lower decimal and up for the upper one.
 ghost use Rattle.std.specs.Prelude.{◌≡◌, ◌+◌, ◌<◌, ◌≤◌, ℕ, false, pos, neg_ℤ, ◌+ℤ◌};
 ghost use Rattle.std.specs.Int.{int_max};
-ghost use Rattle.decimal_input.specs.Canonical.{IsDec, size};
+ghost use Rattle.decimal_input.specs.Decimals.{IsDec, size};
 ghost use Rattle.decimal_input.specs.Ratios.{Ratio, AtMost};
 ghost use Rattle.scaled_decimal.specs.Nearest.{IsSd, HasSize, value};
 ghost use Rattle.model_types.specs.Conductances.{one};
-ghost use Rattle.conductance_bounds.specs.Growth.{AreFactors};
+ghost use Rattle.conductance_bounds.specs.Parts.{AreFactors};
 ghost use Rattle.conductance_bounds.specs.Terms.{Term, IsBound};
 ghost use Rattle.conductance_bounds.specs.Terms.Side.{Lower, Upper};
 ghost use Rattle.conductance_bounds.specs.Terms.Term.{Number, Within, Sum, Product, Quotient};

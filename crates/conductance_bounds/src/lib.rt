@@ -3,9 +3,7 @@
 #![tactic(auto)]
 
 mod area;
-mod blend;
 pub mod evaporation;
-pub mod factors;
 pub mod head;
 pub mod horizontal;
 mod interval;
@@ -18,12 +16,11 @@ pub mod storage;
 pub mod vertical;
 
 pub use evaporation::evap_branch;
-pub use factors::{Factors, step_factors};
 pub use head::{HeadPair, given_head, head_bounds, whole_bounds};
 pub use horizontal::{ColHalf, Half, col_branch, row_branch};
 pub use pair::{FlowPair, Pair, number_pair};
 pub use part::{Part, time_part};
 pub use recharge::{number_flow, recharge_flow};
 pub use span::{Span, thickness};
-pub use storage::storage_branch;
+pub use storage::{Factors, step_factors, storage_branch};
 pub use vertical::{Bed, VertHalf, vert_branch};

@@ -1,6 +1,6 @@
 // Two whole bounds.
-ghost use Rattle.decimal_input.specs.Canonical.{size};
-ghost use Rattle.model_types.specs.Numbers.{IsNotNegative};
+ghost use Rattle.decimal_input.specs.Decimals.{size};
+ghost use Rattle.model_types.specs.Grids.{IsNotNegative};
 ghost use Rattle.conductance_bounds.specs.Terms.{Term};
 ghost use Rattle.conductance_bounds.specs.Terms.Term.{Number};
 ghost use Rattle.conductance_bounds.specs.Pairs.{IsWholePair};

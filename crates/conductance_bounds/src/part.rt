@@ -6,12 +6,11 @@ ghost use Rattle.scaled_decimal.specs.Nearest.{IsSd, value};
 ghost use Rattle.model_types.specs.Conductances.{one};
 ghost use Rattle.model_types.specs.Times.{multiplier, passed};
 ghost use Rattle.model_types.specs.Valid.{IsTimed};
-ghost use Rattle.conductance_bounds.specs.Growth.{sum_term};
+ghost use Rattle.conductance_bounds.specs.Parts.{sum_term, is_whole, IsPart, IsPassed};
 ghost use Rattle.conductance_bounds.specs.Intervals.{IsOrdered, reach, AreBounds};
-ghost use Rattle.conductance_bounds.specs.Parts.{is_whole, IsPart, IsPassed};
 
-use crate::factors::sum_of;
 use crate::span::Span;
+use crate::storage::sum_of;
 use decimal_input::dec::Dec;
 use model_types::Period;
 use scaled_decimal::{Sd, ceil_units, floor_units};

@@ -1,8 +1,8 @@
 // Recharge over a cell's area, and flows of the input.
 ghost use Rattle.std.specs.Prelude.{◌≡◌, ◌+◌, ◌<◌, ◌≤◌, ◌^◌, pos, neg_ℤ, IfSome};
-ghost use Rattle.decimal_input.specs.Canonical.{IsDec, size};
-ghost use Rattle.decimal_input.specs.Enclosures.{EnclosesSigned};
-ghost use Rattle.model_types.specs.Numbers.{IsPositive};
+ghost use Rattle.decimal_input.specs.Decimals.{IsDec, size};
+ghost use Rattle.decimal_input.specs.Wholes.{EnclosesSigned};
+ghost use Rattle.model_types.specs.Grids.{IsPositive};
 ghost use Rattle.conductance_bounds.specs.Terms.{Term};
 ghost use Rattle.conductance_bounds.specs.Terms.Term.{Number};
 ghost use Rattle.conductance_bounds.specs.Intervals.{IsOrdered, reach, AreBounds};

@@ -1,22 +1,22 @@
 // Storage of a time step.
-ghost use Rattle.std.specs.Prelude.{ℕ, ◌<◌, ◌≤◌, IfSome};
-ghost use Rattle.decimal_input.specs.Canonical.{size};
-ghost use Rattle.decimal_input.specs.Enclosures.{Encloses};
+ghost use Rattle.std.specs.Prelude.{ℕ, ◌<◌, ◌≤◌, IfSome, ◌≡◌, ◌+◌, ◌-◌, MatchBool};
+ghost use Rattle.decimal_input.specs.Decimals.{size};
+ghost use Rattle.decimal_input.specs.Wholes.{Encloses};
 ghost use Rattle.decimal_input.specs.Ratios.{Ratio};
-ghost use Rattle.model_types.specs.Numbers.{IsPositive, IsNotNegative};
+ghost use Rattle.model_types.specs.Grids.{IsPositive, IsNotNegative};
 ghost use Rattle.conductance_bounds.specs.Intervals.{IsOrdered, reach, AreBounds};
-ghost use Rattle.conductance_bounds.specs.Growth.{IsUsable, IsGrown};
+ghost use Rattle.conductance_bounds.specs.Parts.{IsUsable, IsGrown, sum_term, power_term, IsSlow, IsMultiplier, AreFactors};
 ghost use Rattle.conductance_bounds.specs.Branches.{storativity_term, thickness_of, storage_of, storage_exact};
 ghost use Rattle.conductance_bounds.specs.Pairs.{IsWholePair};
 ghost use Rattle.conductance_bounds.specs.Calls.{IsThickness, LiesWithin};
+ghost use Rattle.model_types.specs.Valid.{number_one};
 
 use crate::area::area;
-use crate::factors::Factors;
-use crate::interval::{exactly, factor, span_of};
+use crate::interval::{exactly, factor, one, span_of};
 use crate::pair::{Pair, rounded_pair};
 use crate::span::Span;
 use decimal_input::dec::Dec;
-use scaled_decimal::Sd;
+use scaled_decimal::{Sd, of_units_dn};
 
 /// The bounds of a cell's storage over a time step, as a conductance in units of 10 ^ -s; None where the upper one is
 /// 2 ^ 60 or more. `thick` has the lower and the upper bound of the thickness, and is None under the option
@@ -62,4 +62,106 @@ fn storativity(ss: Dec, thick: Option<(Sd, Sd)>) -> Span
         Some((lo, hi)) => ss.times(span_of(lo, hi)),
         None => ss,
     }
+}
+
+// The factors of growing time steps.
+
+/// The bounds of two factors of a time step, with T for TSMULT: the sum 1 + T + .. + T ^ (NSTP - 1), and the power
+/// T ^ (m - 1) of step m.
+#[derive(Clone, Copy)]
+pub struct Factors {
+    pub sum_lo: Sd,
+    pub sum_hi: Sd,
+    pub power_lo: Sd,
+    pub power_hi: Sd,
+}
+
+/// The factors of a step of a period of `nstp` steps. (TM 6-A16, chapter 4, DIS.)
+pub fn step_factors(tsmult: Dec, nstp: u32, step: u32) -> Factors
+    requires tsmult { IsPositive tsmult }
+    requires multiplier { IsMultiplier tsmult nstp }
+    requires steps { nstp ≤ 100000 }
+    requires step { (1 ≤ step) × (step ≤ nstp) }
+    ensures grown { IsGrown (size tsmult) nstp step result }
+    ensures usable { IsUsable result }
+{
+    let sum = sum_of(tsmult, nstp);
+    let power = power_of(tsmult, step);
+    Factors {
+        sum_lo: sum.lo,
+        sum_hi: sum.hi,
+        power_lo: power.lo,
+        power_hi: power.hi,
+    }
+}
+
+/// The bounds of 1 + T + .. + T ^ (n - 1), without a loop where T is 1.
+pub(crate) fn sum_of(tsmult: Dec, n: u32) -> Span
+    requires tsmult { IsPositive tsmult }
+    requires multiplier { IsMultiplier tsmult n }
+    requires steps { (1 ≤ n) × (n ≤ 100000) }
+    ensures bounds { AreBounds (sum_term (size tsmult) (n - 1)) result }
+    ensures factors { AreFactors 5000 result.lo result.hi }
+{
+    if is_one(tsmult) {
+        let whole = of_units_dn(n as u128, 0);
+        Span {
+            lo: whole,
+            hi: whole,
+        }
+    } else {
+        growing_sum(tsmult, n - 1)
+    }
+}
+
+/// The bounds of T ^ (n - 1), without a loop where T is 1.
+fn power_of(tsmult: Dec, n: u32) -> Span
+    requires tsmult { IsPositive tsmult }
+    requires multiplier { IsMultiplier tsmult n }
+    requires steps { (1 ≤ n) × (n ≤ 100000) }
+    ensures bounds { AreBounds (power_term (size tsmult) (n - 1)) result }
+    ensures factors { AreFactors 4000 result.lo result.hi }
+{
+    if is_one(tsmult) {
+        one()
+    } else {
+        growing_power(tsmult, n - 1)
+    }
+}
+
+fn is_one(tsmult: Dec) -> bool
+    requires tsmult { IsPositive tsmult }
+    ensures { MatchBool result (tsmult ≡ number_one) (tsmult ≡ number_one → ⊥) }
+{
+    tsmult.digits == 1 && tsmult.exp == 0
+}
+
+// By Horner's rule.
+fn growing_sum(tsmult: Dec, more: u32) -> Span
+    requires tsmult { IsPositive tsmult }
+    requires slow { IsSlow tsmult (more + 1) }
+    ensures bounds { AreBounds (sum_term (size tsmult) more) result }
+    ensures factors { AreFactors 5000 result.lo result.hi }
+{
+    let t = exactly(tsmult);
+    let one = one();
+    let mut sum = one;
+    for _step in 0..more {
+        sum = sum.times(t).plus(one);
+    }
+    sum
+}
+
+fn growing_power(tsmult: Dec, more: u32) -> Span
+    requires tsmult { IsPositive tsmult }
+    requires slow { IsSlow tsmult (more + 1) }
+    ensures bounds { AreBounds (power_term (size tsmult) more) result }
+    ensures factors { AreFactors 4000 result.lo result.hi }
+{
+    let t = exactly(tsmult);
+    let mut power = one();
+    for _step in 0..more {
+        power = power.times(t);
+    }
+    power
 }

@@ -1,9 +1,9 @@
 // Branches from layer to layer.
 ghost use Rattle.std.specs.Prelude.{◌<◌, ◌≤◌, ◌==◌, IfSome};
-ghost use Rattle.decimal_input.specs.Canonical.{size};
-ghost use Rattle.decimal_input.specs.Enclosures.{Encloses};
+ghost use Rattle.decimal_input.specs.Decimals.{size};
+ghost use Rattle.decimal_input.specs.Wholes.{Encloses};
 ghost use Rattle.decimal_input.specs.Ratios.{Ratio};
-ghost use Rattle.model_types.specs.Numbers.{IsPositive};
+ghost use Rattle.model_types.specs.Grids.{IsPositive};
 ghost use Rattle.conductance_bounds.specs.Terms.{Term, IsBetween};
 ghost use Rattle.conductance_bounds.specs.Intervals.{IsOrdered, reach, AreBounds};
 ghost use Rattle.conductance_bounds.specs.Branches.{vertical_k_term, resistance_sum, vertical_half_of, bed_of, vertical_of, vertical_exact};

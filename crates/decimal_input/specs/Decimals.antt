@@ -1,6 +1,7 @@
-use Rattle.std.specs.Prelude.{ℕ, suc, ◌*◌, ◌^◌, Bool, true, false, ℤ, pos, negsuc, neg_ℤ}
+use Rattle.std.specs.Prelude.{ℕ, suc, ◌*◌, ◌^◌, Bool, true, false, ℤ, pos, negsuc, neg_ℤ, ◌≡◌, ◌<◌, ◌%◌, ◌⊎◌, ◌≤ℤ◌}
 use Rattle.decimal_input.specs.Ratios.{Ratio, ratio}
 use Rattle.decimal_input.specs.Fractions.{Fraction}
+use Rattle.decimal_input.specs.declared.dec.Dec.{Dec}
 
 -- The power of ten above the line, in 10 ^ e.
 abbrev pub up : ℤ → ℕ
@@ -24,3 +25,18 @@ with_sign false n = pos n
 -- The fraction m * 10 ^ e, with a sign.
 abbrev pub decimal : Bool → ℕ → ℤ → Fraction
 decimal neg m e = record { num = with_sign neg (scaled m e).num; less = (scaled m e).less }
+
+-- The magnitude of a number of the input: digits * 10 ^ exp.
+abbrev pub size : Dec → Ratio
+size d = scaled d.digits d.exp
+
+-- The value of a number of the input, with its sign.
+abbrev pub number : Dec → Fraction
+number d = decimal d.neg d.digits d.exp
+
+-- The canonical form: at most 18 digits, the last one not 0, or the one spelling of zero; an exponent from -40 to 40.
+pub record IsDec (d : Dec) : Type 0 where
+  pub few : d.digits < 10 ^ 18
+  pub form : ((d.digits ≡ 0) × (d.neg ≡ false) × (d.exp ≡ pos 0)) ⊎ ((0 < d.digits) × (0 < d.digits % 10))
+  pub above : neg_ℤ (pos 40) ≤ℤ d.exp
+  pub below : d.exp ≤ℤ pos 40

@@ -4,9 +4,8 @@ use Rattle.decimal_input.specs.declared.dec.Dec.{Dec}
 use Rattle.decimal_input.specs.declared.dec.NumFault.{NumFault}
 use Rattle.decimal_input.specs.Ratios.{Ratio, plus, times, over, AtMost as RatioAtMost}
 use Rattle.decimal_input.specs.Fractions.{Fraction, AtMost, Same, IsOver}
-use Rattle.decimal_input.specs.Canonical.{IsDec, number}
-use Rattle.decimal_input.specs.Enclosures.{EnclosesSigned, IsBetweenSigned}
-use Rattle.decimal_input.specs.Wholes.{IsSignedCeiling, IsSignedFloor}
+use Rattle.decimal_input.specs.Decimals.{IsDec, number}
+use Rattle.decimal_input.specs.Wholes.{EnclosesSigned, IsBetweenSigned, IsSignedCeiling, IsSignedFloor}
 use Rattle.decimal_input.specs.Outcomes.{Names}
 
 -- the floor and the ceiling of a fraction, in units of 10 ^ -s, enclose it

@@ -1,12 +1,7 @@
 pub mod Ratios
 pub mod Fractions
 pub mod Decimals
-pub mod Canonical
-pub mod Enclosures
 pub mod Wholes
 pub mod Grammar
-pub mod Words
-pub mod Exponents
 pub mod Outcomes
-pub mod Coefficients
 pub mod Laws

@@ -1,8 +1,11 @@
-use Rattle.std.specs.Prelude.{◌≡◌, ℕ, ◌*◌, ◌<◌, ◌≤◌, ◌^◌, ◌%◌, ◌⊎◌, not, List, length, Bool, true, false, Result, Ok, Err, ℤ, pos, neg_ℤ, ◌+ℤ◌, ◌≤ℤ◌, ◌<ℤ◌}
+use Rattle.std.specs.Prelude.{◌≡◌, ℕ, ◌*◌, ◌<◌, ◌≤◌, ◌^◌, ◌%◌, ◌⊎◌, not, List, length, Bool, true, false, Result, Ok, Err, ℤ, pos, neg_ℤ, ◌+ℤ◌, ◌≤ℤ◌, ◌<ℤ◌, min}
+use Rattle.std.specs.Prelude.{Option, Some, None}
 use Rattle.decimal_input.specs.declared.dec.Dec.{Dec}
 use Rattle.decimal_input.specs.declared.dec.NumFault.{NumFault}
 use Rattle.decimal_input.specs.declared.dec.NumFault.TheVariants.{BadNumber, TooManyDigits}
 use Rattle.decimal_input.specs.Grammar.{Spelling, Spells}
+use Rattle.decimal_input.specs.declared.coefficient.Coefficient.{Coefficient}
+use Rattle.decimal_input.specs.Decimals.{with_sign}
 
 -- c is d with z zeros after it, and the last digit of d isn't 0.
 pub record IsTrimmed (c d z : ℕ) : Type 0 where
@@ -33,3 +36,20 @@ pub record Names (w : List ℕ) (r : Result Dec NumFault) : Type 0 where
 abbrev pub differ : Bool → Bool → Bool
 differ true b = not b
 differ false b = b
+
+-- What is known of the number c: its digits and the number of zeros after them, or that it has more than 18 digits.
+abbrev pub IsOf : Coefficient → ℕ → Type 0
+IsOf k c = ((k.many ≡ true) × (d : ℕ) × (z : ℕ) × IsTrimmed c d z × (10 ^ 18 ≤ d))
+    ⊎ ((k.many ≡ false) × ((c ≡ 0) × (k.digits ≡ 0)))
+    ⊎ ((k.many ≡ false) × (k.digits < 10 ^ 18) × IsTrimmed c k.digits k.zeros)
+
+-- e is the exponent f, or both are beyond 10000 on the same side
+pub record IsCap (e f : ℤ) : Type 0 where
+  pub is : (neg : Bool) × (n : ℕ) × (f ≡ with_sign neg n) × (e ≡ with_sign neg (min n 10000))
+
+-- the same for exponents that may be missing
+abbrev pub IsCapped : Option ℤ → Option ℤ → Type 0
+IsCapped None None = Unit {0}
+IsCapped None (Some f) = ⊥
+IsCapped (Some e) None = ⊥
+IsCapped (Some e) (Some f) = IsCap e f

@@ -1,8 +1,7 @@
 // The canonical form of a number.
 ghost use Rattle.std.specs.Prelude.{ℕ, ◌<◌, ◌≤◌, ◌^◌, ℤ, pos, neg_ℤ, ◌≤ℤ◌, IfOk};
-ghost use Rattle.decimal_input.specs.Coefficients.{IsOf};
-ghost use Rattle.decimal_input.specs.Canonical.{IsDec};
-ghost use Rattle.decimal_input.specs.Outcomes.{IsCanonical};
+ghost use Rattle.decimal_input.specs.Outcomes.{IsOf, IsCanonical};
+ghost use Rattle.decimal_input.specs.Decimals.{IsDec};
 
 use crate::coefficient::Coefficient;
 use crate::dec::{Dec, NumFault};

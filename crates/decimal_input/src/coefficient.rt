@@ -1,6 +1,6 @@
 // The digits of a number, without its leading and trailing zeros.
 ghost use Rattle.std.specs.Prelude.{◌≡◌, ℕ, ◌+◌, ◌*◌, ◌<◌, ◌≤◌, ◌^◌, length, slice_index, true};
-ghost use Rattle.decimal_input.specs.Coefficients.{IsOf};
+ghost use Rattle.decimal_input.specs.Outcomes.{IsOf};
 ghost use Rattle.decimal_input.specs.Grammar.{number_from, is_digit};
 
 /// A word with more digits than this names no number.

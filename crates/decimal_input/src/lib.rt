@@ -4,12 +4,8 @@
 mod canonical;
 mod coefficient;
 pub mod dec;
-mod digit;
-mod exponent;
-pub mod integer;
 pub mod laws;
 pub mod product;
 pub mod read;
 pub mod units;
-pub mod whole;
-mod word;
+pub mod word;

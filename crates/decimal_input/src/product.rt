@@ -1,9 +1,8 @@
 // The exact product of two numbers.
 ghost use Rattle.std.specs.Prelude.{◌+◌, ◌*◌, ◌<◌, ◌≤◌, ◌^◌, ◌+ℤ◌, IfOk};
-ghost use Rattle.decimal_input.specs.Canonical.{IsDec, number};
-ghost use Rattle.decimal_input.specs.Coefficients.{IsOf};
+ghost use Rattle.decimal_input.specs.Decimals.{IsDec, number};
+ghost use Rattle.decimal_input.specs.Outcomes.{IsOf, IsCanonical, differ};
 ghost use Rattle.decimal_input.specs.Fractions.{times as product_of, Same};
-ghost use Rattle.decimal_input.specs.Outcomes.{IsCanonical, differ};
 
 use crate::canonical::canonical;
 use crate::coefficient::{Coefficient, LIMIT, NOTHING};

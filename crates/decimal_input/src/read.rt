@@ -1,7 +1,6 @@
 // Reading a number.
 ghost use Rattle.std.specs.Prelude.{IfOk};
-ghost use Rattle.decimal_input.specs.Canonical.{IsDec, number};
-ghost use Rattle.decimal_input.specs.Decimals.{decimal};
+ghost use Rattle.decimal_input.specs.Decimals.{IsDec, number, decimal};
 ghost use Rattle.decimal_input.specs.Fractions.{Same};
 ghost use Rattle.decimal_input.specs.Grammar.{Spelling, Spells};
 ghost use Rattle.decimal_input.specs.Outcomes.{Names};
@@ -9,8 +8,7 @@ ghost use Rattle.decimal_input.specs.Outcomes.{Names};
 use crate::canonical::canonical;
 use crate::coefficient::{NOTHING, with_digits};
 use crate::dec::{Dec, NumFault};
-use crate::exponent::exponent;
-use crate::word::{split_digits, split_part, split_sign};
+use crate::word::{exponent, split_digits, split_part, split_sign};
 
 // A longer word names no number.
 const MOST_BYTES: usize = 64;

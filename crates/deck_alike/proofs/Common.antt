@@ -1,23 +1,18 @@
 -- Names that several proofs of this crate cite, of the crates below and of its own definitions, passed on from one place. Declares nothing.
 pub use Rattle.std.proofs.Common.{All, Bool, List, MatchBool, MatchOption, None, Option, Some, [], ap, arith, false, get_or, inl, inr, leb, length, lit<, pos}
 pub use Rattle.std.proofs.Common.{refl, subst, suc, sym, take, true, zero, ℕ, ℤ, ◌*◌, ◌+ℤ◌, ◌+◌, ◌/◌, ◌<◌, ◌^◌, ◌∙◌, ◌∷◌, ◌≡◌, ◌≤◌, ◌⊎◌}
-pub use Rattle.std.proofs.Math.Nat.{mul-le-mul_right, mul-pos}
 pub use Rattle.std.proofs.lemmas.Bool.{cases_lt, cases_order, cond_above, cond_below, le-leb, lt-leb}
 pub use Rattle.std.proofs.lemmas.Int.{ints}
 pub use Rattle.std.proofs.lemmas.List.Elements.{All-cons, All-head, All-more, All-nil, All-tail, AllZip-get_or}
 pub use Rattle.std.proofs.lemmas.Option.{get_or_from_slice_get, slice_get_read, slice_get_within}
 pub use Rattle.std.specs.List.{AllZip, each_same}
-pub use Rattle.decimal_input.proofs.Powers.{cross_of, num_scaled, power_within, ten_pos, up_down}
-pub use Rattle.decimal_input.specs.Canonical.{number, size}
-pub use Rattle.decimal_input.specs.Decimals.{decimal, down, scaled, up}
 pub use Rattle.decimal_input.specs.declared.dec.Dec.{Dec}
 pub use Rattle.deck_alike.specs.Cells.{IsCell, IsCellIn, IsHeadCell, IsPeriodCell, SharesOptions, SharesSizes, bottoms, properties}
-pub use Rattle.deck_alike.specs.Items.{AreSame, IsFirst}
-pub use Rattle.deck_alike.specs.Order.{Finds, InOrder, IsArrayCell, IsFirstOfLayers, IsLayerCell, IsListCell, array_at, named}
-pub use Rattle.deck_alike.specs.Places.{AreArraysSame, IsFound, earlier}
+pub use Rattle.deck_alike.specs.Order.{AreArraysSame, AreSame, Finds, InOrder, IsArrayCell, IsFirst, IsFirstOfLayers, IsFound, IsLayerCell, IsListCell}
+pub use Rattle.deck_alike.specs.Order.{array_at, earlier, named}
 pub use Rattle.deck_alike.specs.Shared.{Shares, SharesBounds, SharesEvaporation, SharesGrid, SharesIn, SharesProperties, SharesTimes, reading_order}
 pub use Rattle.deck_span.specs.Alike.{AreAlike, AreEntriesAlike, AreGivenAlike, ArePeriodsAlike, AreRatesAlike}
-pub use Rattle.model_types.specs.Cells.{cell_count, layer_size}
+pub use Rattle.model_types.specs.Faces.{cell_count, layer_size}
 pub use Rattle.model_types.specs.declared.grid.CellId.{CellId}
 pub use Rattle.model_types.specs.declared.model.FlowModel.{FlowModel}
 pub use Rattle.model_types.specs.declared.period.Period.{Period}

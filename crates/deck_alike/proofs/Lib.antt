@@ -1,6 +1,5 @@
 mod Common
 pub mod NumberOrders
-pub mod SignedOrders
 pub mod ZipLemmas
 pub mod Layers
 pub mod Finding

@@ -1,8 +1,22 @@
 -- The order in which a deck is read, and the cell of what differs first.
-use Rattle.std.specs.Prelude.{◌≡◌, ℕ, ◌≤◌, ◌<◌, ◌/◌, ◌⊎◌, List, [], Option, Some, None, length, nat_lt, cond, slice_index_or}
+use Rattle.std.specs.Prelude.{◌≡◌, ℕ, ◌≤◌, ◌<◌, ◌/◌, ◌⊎◌, List, [], Option, Some, None, length, nat_lt, cond, slice_index_or, take, slice_get}
 use Rattle.decimal_input.specs.declared.dec.Dec.{Dec}
 use Rattle.model_types.specs.declared.grid.CellId.{CellId}
-use Rattle.deck_alike.specs.Items.{AreSame, IsFirst}
+use Rattle.std.specs.List.{AllZip}
+
+-- The items of two lists that stand at one place: whether they are alike, and the first place at which they aren't.
+-- numbers
+abbrev pub AreSame : {X : Type 0} → X → X → Type 0
+AreSame x y = y ≡ x
+
+-- k is the first place at which the items of two lists aren't alike
+pub record IsFirst {X : Type 0} (Alike : X → X → Type 0) (xs ys : List X) (k : ℕ) : Type 0 where
+  pub before : AllZip Alike (take k xs) (take k ys)
+  pub first : X
+  pub second : X
+  pub of_first : slice_get xs k ≡ Some first
+  pub of_second : slice_get ys k ≡ Some second
+  pub unlike : Alike first second → ⊥
 
 -- of two parts, read one after the other, the first one that isn't shared names the cell
 abbrev pub InOrder : Type 0 → Type 0 → Type 0 → Type 0
@@ -54,3 +68,19 @@ pub record IsLayerCell (layer_size cells : ℕ) (xss yss : List (List Dec)) (cel
   pub place : ℕ
   pub first : IsFirstOfLayers layer_size xss yss place
   pub names : cell ≡ named cells place
+
+-- Which of two places is read first, and what a walk over arrays finds.
+-- of the first differences of two arrays, the first array's unless the other's lies in a layer above
+abbrev pub earlier : ℕ → Option ℕ → Option ℕ → Option ℕ
+earlier layer_size None q = q
+earlier layer_size (Some p) None = Some p
+earlier layer_size (Some p) (Some q) = cond (nat_lt (q / layer_size) (p / layer_size)) (Some q) (Some p)
+
+-- each of these arrays is the same
+abbrev pub AreArraysSame : List (List Dec) → List (List Dec) → Type 0
+AreArraysSame xss yss = (i : ℕ) → AllZip AreSame (array_at xss i) (array_at yss i)
+
+-- what a walk over arrays finds that are read layer by layer: the first difference, or that all are the same
+abbrev pub IsFound : ℕ → List (List Dec) → List (List Dec) → Option ℕ → Type 0
+IsFound layer_size xss yss None = AreArraysSame xss yss
+IsFound layer_size xss yss (Some k) = IsFirstOfLayers layer_size xss yss k

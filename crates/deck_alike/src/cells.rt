@@ -1,7 +1,6 @@
 // The cells of places.
 ghost use Rattle.std.specs.Prelude.{◌≡◌, ◌<◌};
-ghost use Rattle.deck_alike.specs.Order.{named};
-ghost use Rattle.deck_alike.specs.Places.{earlier};
+ghost use Rattle.deck_alike.specs.Order.{named, earlier};
 
 use model_types::CellId;
 

@@ -1,6 +1,6 @@
 // The first difference of two models.
 ghost use Rattle.std.specs.Prelude.{◌<◌, IfNone, IfSome};
-ghost use Rattle.model_types.specs.Cells.{cell_count};
+ghost use Rattle.model_types.specs.Faces.{cell_count};
 ghost use Rattle.model_types.specs.Grids.{HasSize};
 ghost use Rattle.deck_span.specs.Alike.{AreAlike};
 ghost use Rattle.deck_alike.specs.Differences.{IsFirstDifference};

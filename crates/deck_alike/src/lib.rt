@@ -4,7 +4,6 @@
 mod areas;
 mod cells;
 mod difference;
-mod items;
 pub mod laws;
 mod lists;
 mod once;

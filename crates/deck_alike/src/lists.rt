@@ -1,12 +1,13 @@
 // The first difference of two lists, and of two arrays.
-ghost use Rattle.std.specs.Prelude.{◌≡◌, ℕ};
+ghost use Rattle.std.specs.Prelude.{◌≡◌, ℕ, MatchBool, MatchOption, length};
 ghost use Rattle.std.specs.List.{AllZip};
 ghost use Rattle.model_types.specs.Sources.{cell_of};
-ghost use Rattle.deck_span.specs.Alike.{AreRatesAlike};
-ghost use Rattle.deck_alike.specs.Order.{Finds, IsArrayCell, IsListCell};
+ghost use Rattle.deck_span.specs.Alike.{AreRatesAlike, AreEntriesAlike, AreGivenAlike};
+ghost use Rattle.deck_alike.specs.Order.{Finds, IsArrayCell, IsListCell, AreSame, IsFirst};
+ghost use Rattle.deck_span.specs.Models.{IsGivenAtMost};
 
 use crate::cells::numbered_cell;
-use crate::items::{Compared, first_apart, first_idle_apart};
+use crate::order::is_at_most;
 use decimal_input::dec::Dec;
 use model_types::{CellId, Entry, Given};
 
@@ -74,4 +75,95 @@ pub fn idle_apart(cells: u32, xs: &[Dec], ys: &[Dec]) -> Option<Option<CellId>>
     }
     let place = first_idle_apart(xs, ys)?;
     Some(numbered_cell(cells, place))
+}
+
+// The items of lists and arrays, and the first place at which two lists differ.
+
+/// An item that another model's may be compared with.
+pub trait Compared: Copy {
+    ghost alike: { Self → Self → Type 0 };
+
+    fn is_alike(self, other: Self) -> bool
+        ensures { MatchBool result (alike self other) (alike self other → ⊥) };
+}
+
+impl Compared for Dec {
+    ghost alike = { AreSame };
+
+    fn is_alike(self, other: Dec) -> bool {
+        self == other
+    }
+}
+
+impl Compared for i64 {
+    ghost alike = { AreSame };
+
+    fn is_alike(self, other: i64) -> bool {
+        self == other
+    }
+}
+
+impl Compared for Entry {
+    ghost alike = { AreEntriesAlike };
+
+    fn is_alike(self, other: Entry) -> bool {
+        match self {
+            Entry::Well { cell, .. } =>
+                matches!(other, Entry::Well { cell: c, .. } if c.0 == cell.0),
+            Entry::River { cell, .. } =>
+                matches!(other, Entry::River { cell: c, .. } if c.0 == cell.0),
+            Entry::Drain { cell, .. } =>
+                matches!(other, Entry::Drain { cell: c, .. } if c.0 == cell.0),
+            Entry::General { cell, .. } =>
+                matches!(other, Entry::General { cell: c, .. } if c.0 == cell.0),
+        }
+    }
+}
+
+// Whether both heads of one entry are at most those of the other.
+fn are_at_most(a: Given, b: Given) -> bool
+    ensures { MatchBool result (IsGivenAtMost a b) (IsGivenAtMost a b → ⊥) }
+{
+    is_at_most(a.shead, b.shead) && is_at_most(a.ehead, b.ehead)
+}
+
+impl Compared for Given {
+    ghost alike = { AreGivenAlike };
+
+    fn is_alike(self, other: Given) -> bool {
+        self.cell.0 == other.cell.0 && (are_at_most(self, other) || are_at_most(other, self))
+    }
+}
+
+/// The first place at which two lists of one length differ.
+pub fn first_apart<T: Compared + Drop>(xs: &[T], ys: &[T]) -> Option<usize>
+    requires long { length ys.now ≡ length xs.now }
+    ensures { MatchOption result (AllZip T.alike xs.now ys.now) (IsFirst T.alike xs.now ys.now) }
+{
+    for i in 0..xs.len() {
+        if !xs[i].is_alike(ys[i]) {
+            return Some(i);
+        }
+    }
+    None
+}
+
+// Whether both rates are 0, or neither.
+fn are_rates_alike(x: Dec, y: Dec) -> bool
+    ensures { MatchBool result (AreRatesAlike x y) (AreRatesAlike x y → ⊥) }
+{
+    (x.digits == 0) == (y.digits == 0)
+}
+
+/// The first place at which one of two rates is 0 and the other isn't.
+pub fn first_idle_apart(xs: &[Dec], ys: &[Dec]) -> Option<usize>
+    requires long { length ys.now ≡ length xs.now }
+    ensures { MatchOption result (AllZip AreRatesAlike xs.now ys.now) (IsFirst AreRatesAlike xs.now ys.now) }
+{
+    for i in 0..xs.len() {
+        if !are_rates_alike(xs[i], ys[i]) {
+            return Some(i);
+        }
+    }
+    None
 }

@@ -1,17 +1,15 @@
 // The first difference of what a package has once.
 ghost use Rattle.std.specs.Prelude.{◌≡◌, ◌<◌, MatchBool, length};
 ghost use Rattle.std.specs.List.{AllZip};
-ghost use Rattle.model_types.specs.Cells.{cell_count, layer_size};
+ghost use Rattle.model_types.specs.Faces.{cell_count, layer_size};
 ghost use Rattle.model_types.specs.Grids.{HasSize};
 ghost use Rattle.name_file.specs.declared.package.Package.TheVariants.{Bas, Dis, Lpf};
-ghost use Rattle.deck_alike.specs.Order.{Finds, IsLayerCell};
-ghost use Rattle.deck_alike.specs.Places.{AreArraysSame, IsFound};
+ghost use Rattle.deck_alike.specs.Order.{Finds, IsLayerCell, AreArraysSame, IsFound};
 ghost use Rattle.deck_alike.specs.Shared.{SharesBounds, SharesGrid, SharesHead, SharesProperties};
 ghost use Rattle.deck_alike.specs.Cells.{IsHeadCell, SharesCounts, SharesLengths, SharesOptions, SharesSizes, SharesWidths, bottoms, properties};
 
 use crate::cells::{earlier_place, numbered_cell};
-use crate::items::{Compared, first_apart};
-use crate::lists::array_apart;
+use crate::lists::{Compared, array_apart, first_apart};
 use decimal_input::dec::Dec;
 use model_types::{CellId, FlowModel, Grid};
 use name_file::Package;

@@ -6,12 +6,12 @@ pub use Rattle.std.specs.Int.{int_max, int_min}
 pub use Rattle.std.specs.List.{AllZip}
 pub use Rattle.std.specs.Prelude.{IfSome, not, ◌&&◌}
 pub use Rattle.decimal_input.specs.Fractions.{Fraction}
-pub use Rattle.deck_problems.specs.ConstantHeads.{AreConstantHeadsFor, IsConstantHull, IsPairOf}
+pub use Rattle.deck_problems.specs.ConstantHeads.{AreConstantHeadsFor, AreHullBounds, AreStartHeadsFor, AreStartHulls, AreStartsBy, IsConstantHull, IsHullBound}
+pub use Rattle.deck_problems.specs.ConstantHeads.{IsPairOf}
 pub use Rattle.deck_problems.specs.Decks.{AreDecks, EachMember, HoldsOf, IsMember, IsOf, IsSecond, one_deck}
-pub use Rattle.deck_problems.specs.HullBounds.{AreHullBounds, IsHullBound}
-pub use Rattle.deck_problems.specs.Laws.{ConstantPairEncloses, ConstantPairFits, ConstantPairIsOne, ProblemEncloses, ProblemExcludesRefusal, ProblemFits}
-pub use Rattle.deck_problems.specs.Laws.{ProblemIsOne, ProblemsAreAlike, RefusalIsOne, StartHeadsAreOne, StartHeadsEnclose, StartHeadsFit}
-pub use Rattle.deck_problems.specs.Made.{EnclosesSteps, HasCellsOf, IsHullRefusal}
+pub use Rattle.deck_problems.specs.Kept.{EnclosesSteps, HasCellsOf, IsHullRefusal, digits_of}
+pub use Rattle.deck_problems.specs.Laws.{ConstantPairEncloses, ConstantPairFits, ConstantPairIsOne, IsBefore, ProblemEncloses, ProblemExcludesRefusal}
+pub use Rattle.deck_problems.specs.Laws.{ProblemFits, ProblemIsOne, ProblemsAreAlike, RefusalIsOne, StartHeadsAreOne, StartHeadsEnclose, StartHeadsFit}
 pub use Rattle.deck_problems.specs.Problems.{HasNoHullProblem, IsFaultFor, IsHullProblem, IsProblemBy, IsProblemFor, IsRefusedBy}
 pub use Rattle.deck_problems.specs.Problems.HasNoHullProblem.{of_first, of_hull, of_second}
 pub use Rattle.deck_problems.specs.declared.decks.Decks.{Decks}
@@ -20,9 +20,8 @@ pub use Rattle.deck_span.proofs.HullBounds.{hull_of_numbers}
 pub use Rattle.deck_span.proofs.SameFrames.{active_are, constants_between, counts_are, index_is, starts_between, times_are, variable_are}
 pub use Rattle.deck_span.proofs.StepsBetween.{framed_is, steps_between}
 pub use Rattle.deck_span.specs.Models.{IsBetween, IsPeriodBetween}
-pub use Rattle.model_types.specs.Cells.{cell_count}
-pub use Rattle.model_types.specs.Heads.{constant_head, start_head}
-pub use Rattle.model_types.specs.Kinds.{given_heads, index_of, is_constant, is_variable, variable_below, variable_cells}
+pub use Rattle.model_types.specs.Faces.{cell_count}
+pub use Rattle.model_types.specs.Heads.{constant_head, given_heads, index_of, is_constant, is_variable, start_head, variable_below, variable_cells}
 pub use Rattle.model_types.specs.Layers.{dec_at, is_active}
 pub use Rattle.model_types.specs.Times.{period_at, times}
 pub use Rattle.model_types.specs.Valid.{IsModel}
@@ -31,14 +30,13 @@ pub use Rattle.model_types.specs.declared.time_steps.TimeStep.{TimeStep}
 pub use Rattle.problem_builder.proofs.OneCell.{one_constant_pair, one_link}
 pub use Rattle.problem_builder.proofs.TimesOf.{time_of}
 pub use Rattle.problem_builder.specs.Cells.{IsCellOf, IsDrain, IsEvap, IsFixed, IsFlow, IsLink, IsRiver}
-pub use Rattle.problem_builder.specs.GridHeads.{AreGridHeads, HeadsEnclose, IsActive, IsNamed}
+pub use Rattle.problem_builder.specs.GridHeads.{AreConstantHeads, AreGridHeads, AreStartHeads, HeadsEnclose, IsActive, IsNamed}
 pub use Rattle.problem_builder.specs.Problems.{HasNoProblem, IsBuildFault, IsProblemOf}
 pub use Rattle.problem_builder.specs.Tables.{bound_in}
 pub use Rattle.problem_hull.proofs.Fits.{lower_head, upper_head}
 pub use Rattle.problem_hull.proofs.Threes.{three_lengths, three_within}
-pub use Rattle.problem_hull.specs.Hulls.{IsCellHull, IsFixedHull, IsHull}
-pub use Rattle.problem_hull.specs.Threes.{AllThree}
-pub use Rattle.problem_hull.specs.Threes.AllThree.{next, none}
+pub use Rattle.problem_hull.specs.Hulls.{AllThree, IsCellHull, IsFixedHull, IsHull}
+pub use Rattle.problem_hull.specs.Hulls.AllThree.{next, none}
 pub use Rattle.step_problem.specs.Conditions.{IsHead, IsProblem}
 pub use Rattle.step_problem.specs.Entries.{Entries, no_entries}
 pub use Rattle.step_problem.specs.Heads.{lower_at, no_bound, upper_at}

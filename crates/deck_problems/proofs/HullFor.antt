@@ -3,9 +3,8 @@ use Rattle.deck_problems.proofs.Common.{◌≡◌, ◌∷◌, ◌∙◌, ◌<◌
 use Rattle.deck_problems.proofs.Common.{int_min, int_max, IfSome, get_or_default, Fixed, Bound, IsProblem, Entries, no_entries, lower_at, upper_at, FlowModel}
 use Rattle.deck_problems.proofs.Common.{TimeStep, IsNamed, IsProblemOf, IsBuildFault, IsFixedHull, IsCellHull, IsHull, AllThree, none, next, three_lengths}
 use Rattle.deck_problems.proofs.Common.{three_within, Decks, AreConstantHeadsFor, IsSecond, AreDecks, AreHullBounds, HasCellsOf, IsHullRefusal, IsProblemFor}
-use Rattle.deck_problems.proofs.Common.{IsProblemBy, IsRefusedBy, IsFaultFor, of_second, of_hull}
+use Rattle.deck_problems.proofs.Common.{IsProblemBy, IsRefusedBy, IsFaultFor, of_second, of_hull, AreConstantHeads}
 use Rattle.problem_builder.specs.declared.fault.BuildFault.{BuildFault}
-use Rattle.problem_builder.specs.ConstantHeads.{AreConstantHeads}
 use Rattle.deck_problems.proofs.Enclosing.{second_cells}
 use Rattle.deck_problems.proofs.Members.{constant_same}
 use Rattle.problem_builder.specs.declared.fault.BuildFault.TheVariants as build

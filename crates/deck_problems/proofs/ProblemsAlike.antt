@@ -18,7 +18,7 @@ use Rattle.problem_hull.specs.Shapes.{flow_shape, fixed_shape, river_shape, drai
 use Rattle.deck_span.proofs.SourcesBetween.{IsFlowSourceBetween, IsFixedSourceBetween, IsRiverSourceBetween, IsDrainSourceBetween, IsEvapSourceBetween, framed, cells_are, faces_are, three_flows, three_fixed, three_rivers, three_drains, three_evaps}
 use Rattle.deck_span.proofs.SourcesBetween.IsFlowSourceBetween.{pumped, received}
 use Rattle.deck_span.proofs.SourcesBetween.IsFixedSourceBetween.{constant, general, stored}
-use Rattle.problem_builder.specs.Thicknesses.{Thicknesses, AreThicknesses}
+use Rattle.problem_builder.specs.Widths.{Thicknesses, AreThicknesses}
 use Rattle.problem_builder.proofs.Members.{variable-In}
 use Rattle.problem_builder.proofs.Zipped.{zip_one_list}
 use Rattle.deck_problems.proofs.LikeShapes.{one_shape, like_shapes}

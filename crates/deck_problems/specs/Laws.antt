@@ -1,15 +1,14 @@
 -- Laws of the problems of one deck, or of two: problems and refusals are unique, and problems meet their conditions.
 use Rattle.std.specs.Prelude.{◌≡◌, ℕ, ◌<◌, true, ℤ, List, Contains}
-use Rattle.decimal_input.specs.Enclosures.{EnclosesSigned}
+use Rattle.decimal_input.specs.Wholes.{EnclosesSigned}
 use Rattle.step_problem.specs.declared.heads.Bound.{Bound}
 use Rattle.step_problem.specs.declared.place.NoBound.{NoBound}
 use Rattle.step_problem.specs.Conditions.{IsProblem, IsHead}
 use Rattle.step_problem.specs.Entries.{Entries}
 use Rattle.model_types.specs.declared.model.FlowModel.{FlowModel}
 use Rattle.model_types.specs.declared.time_steps.TimeStep.{TimeStep}
-use Rattle.model_types.specs.Cells.{cell_count}
-use Rattle.model_types.specs.Heads.{constant_head, start_head}
-use Rattle.model_types.specs.Kinds.{is_constant}
+use Rattle.model_types.specs.Faces.{cell_count}
+use Rattle.model_types.specs.Heads.{constant_head, start_head, is_constant}
 use Rattle.model_types.specs.Times.{times}
 use Rattle.model_types.specs.Valid.{IsModel}
 use Rattle.problem_builder.specs.GridHeads.{AreGridHeads, HeadsEnclose}
@@ -18,10 +17,9 @@ use Rattle.problem_hull.specs.Shapes.{AreAlike as AreProblemsAlike}
 use Rattle.deck_span.specs.Alike.{AreAlike}
 use Rattle.deck_problems.specs.declared.decks.Decks.{Decks}
 use Rattle.deck_problems.specs.Decks.{AreDecks, EachMember}
-use Rattle.deck_problems.specs.ConstantHeads.{IsConstantPairFor}
-use Rattle.deck_problems.specs.Made.{EnclosesSteps}
+use Rattle.deck_problems.specs.ConstantHeads.{IsConstantPairFor, AreStartHeadsFor}
+use Rattle.deck_problems.specs.Kept.{EnclosesSteps}
 use Rattle.deck_problems.specs.Problems.{IsProblemFor, HasNoProblemFor}
-use Rattle.deck_problems.specs.StartHeads.{AreStartHeadsFor}
 
 -- the problems of two models that are alike are alike, so that they have a hull
 abbrev pub ProblemsAreAlike : Type 0

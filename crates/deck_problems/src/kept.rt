@@ -1,6 +1,6 @@
 // The tables that a run keeps from step to step.
 ghost use Rattle.std.specs.Prelude.{◌≡◌, ◌-◌, ◌<◌, ◌≤◌, IfOk, OnOk, length};
-ghost use Rattle.model_types.specs.Kinds.{given_heads};
+ghost use Rattle.model_types.specs.Heads.{given_heads};
 ghost use Rattle.model_types.specs.Valid.{IsModel};
 ghost use Rattle.deck_problems.specs.Kept.{AreRunTables, digits_of};
 

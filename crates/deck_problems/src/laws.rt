@@ -10,16 +10,19 @@ pub fn problems_are_alike()
 {}
 
 /// Decks, a time and the heads before it have at most one problem.
+#[tactic(auto, using(crate::proofs::OneProblem::problem_is_one))]
 pub fn one_problem()
     ensures { ProblemIsOne }
 {}
 
 /// A step with a problem has no refusal.
+#[tactic(auto, using(crate::proofs::OneProblem::problem_excludes_refusal))]
 pub fn no_problem_beside_a_refusal()
     ensures { ProblemExcludesRefusal }
 {}
 
 /// A step has at most one refusal.
+#[tactic(auto, using(crate::proofs::OneProblem::refusal_is_one_for))]
 pub fn one_refusal()
     ensures { RefusalIsOne }
 {}

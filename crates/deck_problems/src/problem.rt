@@ -1,5 +1,5 @@
 // The problem of a step of one deck, or of two.
-ghost use Rattle.std.specs.Prelude.{◌≡◌, ◌≤◌, Contains, IfOk, IfErr, OnOk};
+ghost use Rattle.std.specs.Prelude.{◌≡◌, ◌≤◌, Contains, IfOk, IfErr, OnOk, Some};
 ghost use Rattle.step_problem.specs.Conditions.{IsProblem};
 ghost use Rattle.model_types.specs.Times.{times};
 ghost use Rattle.problem_builder.specs.GridHeads.{AreGridHeads};
@@ -7,19 +7,20 @@ ghost use Rattle.problem_hull.specs.Hulls.{IsHull};
 ghost use Rattle.problem_hull.specs.Shapes.{AreAlike as AreProblemsAlike};
 ghost use Rattle.deck_problems.specs.Decks.{AreDecks, EachMember};
 ghost use Rattle.deck_problems.specs.ConstantHeads.{AreConstantHeadsFor};
-ghost use Rattle.deck_problems.specs.Kept.{AreDeckTables, digits_of};
-ghost use Rattle.deck_problems.specs.Made.{EnclosesSteps, HasCellsOf, IsHullRefusal};
+ghost use Rattle.deck_problems.specs.Kept.{AreDeckTables, digits_of, EnclosesSteps, HasCellsOf, IsHullRefusal, AreRunTables, AreTablesOf, IsModelProblem};
 ghost use Rattle.deck_problems.specs.Problems.{IsProblemFor, IsFaultFor};
+ghost use Rattle.model_types.specs.Valid.{IsModel};
+ghost use Rattle.problem_builder.specs.Problems.{IsBuildFault};
+ghost use Rattle.problem_builder.specs.Filled.{BothOrNone};
 
-use crate::bounds::hull_bounds;
-use crate::deck_tables::DeckTables;
 use crate::decks::Decks;
+use crate::kept::RunTables;
 use crate::laws::problems_are_alike;
-use crate::model::{model_problem, second_problem};
-use model_types::{Listed, TimeStep};
-use problem_builder::BuildFault;
+use crate::start::hull_bounds;
+use model_types::{FlowModel, Listed, TimeStep};
+use problem_builder::{BuildFault, StepTables, build_with};
 use problem_hull::{HullFault, hull};
-use std::alloc::Global;
+use std::alloc::{AllocError, Global};
 use step_problem::{Bound, Problem};
 
 /// A step's problem, and for each cell of the grid the bounds of its head if that is constant, in units of 10^-9, and
@@ -82,4 +83,84 @@ pub fn problem_for(
         problem,
         constant_heads: hull_bounds(first.constant_heads, second.constant_heads.as_slice()),
     })
+}
+
+// The problem and the constant heads of one model.
+
+// The problem of a model's step, and its constant heads. `tables` move to the step's period.
+pub(crate) fn model_problem(
+    alloc: Global,
+    model: &FlowModel,
+    tables: &mut RunTables,
+    at: TimeStep,
+    old: &[Bound],
+) -> Result<DeckProblem, BuildFault>
+    requires model { IsModel model.now }
+    requires time { Contains (times model.now) at }
+    requires old { AreGridHeads model.now old.now }
+    requires digits { digits_of tables.old ≤ 18 }
+    requires tables { AreRunTables model.now tables.old }
+    ensures digits { digits_of tables.new ≡ digits_of tables.old }
+    ensures tables { AreRunTables model.now tables.new }
+    ensures there { OnOk result (tables.new.period.period ≡ at.period) }
+    ensures problem { IfOk result (IsModelProblem model.now (digits_of tables.old) at old.now) }
+    ensures fault { IfErr result (IsBuildFault model.now (digits_of tables.old) at old.now) }
+{
+    tables.go_to(alloc, model, at.period)?;
+    let step = StepTables::new(alloc, model, &tables.period, at)?;
+    let problem = build_with(alloc, model, &tables.tables, &tables.period, &step, at, old)?;
+    Ok(DeckProblem {
+        problem,
+        constant_heads: step.heads,
+    })
+}
+
+// The same of the second deck.
+pub(crate) fn second_problem(
+    alloc: Global,
+    model: &FlowModel,
+    tables: &mut Option<RunTables>,
+    at: TimeStep,
+    old: &[Bound],
+    s: u32,
+) -> Result<DeckProblem, BuildFault>
+    requires model { IsModel model.now }
+    requires time { Contains (times model.now) at }
+    requires old { AreGridHeads model.now old.now }
+    requires digits { s ≤ 18 }
+    requires tables { BothOrNone (λ m r. AreTablesOf m s r) (Some model.now) tables.old }
+    ensures tables { BothOrNone (λ m r. AreTablesOf m s r) (Some model.now) tables.new }
+    ensures problem { IfOk result (IsModelProblem model.now s at old.now) }
+    ensures fault { IfErr result (IsBuildFault model.now s at old.now) }
+{
+    let _s = s;
+    match tables {
+        Some(tables) => model_problem(alloc, model, tables, at, old),
+        None => unreachable!(),
+    }
+}
+
+// The tables of each deck of a run.
+
+/// The tables that all steps of a run share, for each of its decks.
+#[derive(Drop)]
+pub struct DeckTables {
+    pub first: RunTables,
+    pub second: Option<RunTables>,
+}
+
+impl DeckTables {
+    /// The tables of decks with s digits of conductances, at the first period.
+    pub fn new(alloc: Global, decks: &Decks, s: u32) -> Result<DeckTables, AllocError>
+        requires decks { AreDecks decks.now }
+        requires digits { s ≤ 18 }
+        ensures { IfOk result (AreDeckTables decks.now s) }
+    {
+        let first = RunTables::new(alloc, &decks.first, s)?;
+        let second = match &decks.second {
+            Some(model) => Some(RunTables::new(alloc, model, s)?),
+            None => None,
+        };
+        Ok(DeckTables { first, second })
+    }
 }

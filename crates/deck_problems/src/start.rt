@@ -1,11 +1,11 @@
 // The heads before the first time step.
-ghost use Rattle.std.specs.Prelude.{IfOk};
+ghost use Rattle.std.specs.Prelude.{IfOk, ◌≡◌, ◌<◌, length};
 ghost use Rattle.model_types.specs.Heads.{start_head};
 ghost use Rattle.problem_builder.specs.GridHeads.{AreGridHeads, HeadsEnclose};
 ghost use Rattle.deck_problems.specs.Decks.{AreDecks, EachMember};
-ghost use Rattle.deck_problems.specs.StartHeads.{AreStartHeadsFor};
+ghost use Rattle.deck_problems.specs.ConstantHeads.{AreStartHeadsFor, IsHullBound, AreHullBounds};
+ghost use Rattle.problem_builder.specs.Tables.{bound_in};
 
-use crate::bounds::hull_bounds;
 use crate::decks::Decks;
 use crate::laws;
 use model_types::Listed;
@@ -28,4 +28,36 @@ pub fn start_heads_for(alloc: Global, decks: &Decks) -> Result<Listed<Bound>, Al
     };
     let second = start_heads(alloc, model)?;
     Ok(hull_bounds(first, &second))
+}
+
+// The hull of the bounds of two decks.
+
+fn bound_at(bounds: &[Bound], cell: usize) -> Bound
+    requires { cell < length bounds.now }
+    ensures { result ≡ bound_in bounds.now cell }
+{
+    bounds[cell]
+}
+
+fn hull_bound(a: Bound, b: Bound) -> Bound
+    ensures { IsHullBound a b result }
+{
+    Bound {
+        low: a.low.min(b.low),
+        high: a.high.max(b.high),
+    }
+}
+
+// The hulls of the bounds of each cell, in place of the first.
+pub(crate) fn hull_bounds(first: Listed<Bound>, second: &[Bound]) -> Listed<Bound>
+    requires { length second.now ≡ length first }
+    ensures { AreHullBounds first second.now result }
+{
+    let mut hulls = first;
+    for cell in 0..second.len() {
+        let a = bound_at(hulls.as_slice(), cell);
+        let b = bound_at(second, cell);
+        hulls.set(cell, hull_bound(a, b));
+    }
+    hulls
 }

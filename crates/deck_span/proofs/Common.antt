@@ -7,26 +7,24 @@ pub use Rattle.std.proofs.lemmas.List.{get_or_default, reverse-append}
 pub use Rattle.std.specs.List.{AllZip, cons_option, filter, filter_map, find, flat_map, range_with_len}
 pub use Rattle.std.specs.Prelude.{int_lt, is_some, not, unsigned_abs, ◌&&◌, ◌==◌, ◌||◌}
 pub use Rattle.cell_balance.proofs.Totals.{add_mul, le_trans_z}
-pub use Rattle.cell_balance.specs.Steps.{ExactCell, ExactDrain, ExactEvap, ExactFixed, ExactFlow, ExactLink, ExactRiver, cell_at}
+pub use Rattle.cell_balance.specs.Steps.{ExactCell, ExactDrain, ExactEvap, ExactFixed, ExactFlow, ExactLink, ExactRiver, HasEqualEnds, HasLinkBack, cell_at}
 pub use Rattle.decimal_input.proofs.Differences.{as_diff, diffs, same_diff}
 pub use Rattle.decimal_input.proofs.Orders.{AtMost-refl, AtMost-trans, den_plus, num_plus, over-AtMost, times-AtMost}
 pub use Rattle.decimal_input.proofs.Signs.{cancel_right, mul_mono_right, swap}
-pub use Rattle.decimal_input.specs.Canonical.{number, size}
+pub use Rattle.decimal_input.specs.Decimals.{number, size}
 pub use Rattle.decimal_input.specs.Fractions.{AtMost, Fraction, den, negated, plus, signed}
 pub use Rattle.decimal_input.specs.Ratios.{Ratio, over}
 pub use Rattle.decimal_input.specs.declared.dec.Dec.{Dec}
 pub use Rattle.deck_span.specs.Alike.{AreAlike, AreEntriesAlike, AreGivenAlike, ArePeriodsAlike, AreRatesAlike}
-pub use Rattle.deck_span.specs.Models.{IsBetween, IsEntryBetween, IsGivenAtMost, IsGivenBetween, IsPeriodBetween, IsRateBetween, frame, period_frame}
+pub use Rattle.deck_span.specs.Models.{IsBetween, IsDecBetween, IsEntryBetween, IsFractionBetween, IsGivenAtMost, IsGivenBetween, IsPeriodBetween}
+pub use Rattle.deck_span.specs.Models.{IsRateBetween, IsRatioBetween, IsSizeBetween, frame, period_frame}
 pub use Rattle.deck_span.specs.Models.IsEntryBetween.{drains, generals, rivers, wells}
-pub use Rattle.deck_span.specs.Numbers.{IsDecBetween, IsFractionBetween, IsRatioBetween, IsSizeBetween}
 pub use Rattle.deck_span.specs.Steps.{IsCellBetween, IsDrainBetween, IsEvapBetween, IsFixedBetween, IsFlowBetween, IsRiverBetween, IsStepBetween}
-pub use Rattle.model_types.specs.Cells.{cell_count, place_in_layer}
 pub use Rattle.model_types.specs.Conductances.{conductance, one}
 unfoldable pub use Rattle.model_types.specs.Conductances.{column_conductance, row_conductance, vertical_conductance, vertical_half}
-pub use Rattle.model_types.specs.Heads.{between_heads, head_or_kept, kept_head, start_head}
-unfoldable pub use Rattle.model_types.specs.Heads.{constant_head}
-pub use Rattle.model_types.specs.Kinds.{index_of, is_variable, last_given, variable_cells}
-unfoldable pub use Rattle.model_types.specs.Kinds.{given_in, variable_below}
+pub use Rattle.model_types.specs.Faces.{cell_count, faces, place_in_layer, through}
+pub use Rattle.model_types.specs.Heads.{between_heads, head_or_kept, index_of, is_variable, kept_head, last_given, start_head, variable_cells}
+unfoldable pub use Rattle.model_types.specs.Heads.{constant_head, given_in, variable_below}
 pub use Rattle.model_types.specs.Layers.{dec_at, int_at, is_active, no_number}
 unfoldable pub use Rattle.model_types.specs.Layers.{area}
 pub use Rattle.model_types.specs.Receivers.{EvapSource, evap_at, evap_source, is_chosen, recharge_at}
@@ -42,6 +40,5 @@ pub use Rattle.model_types.specs.declared.grid.CellId.{CellId}
 pub use Rattle.model_types.specs.declared.model.FlowModel.{FlowModel}
 pub use Rattle.model_types.specs.declared.period.Period.{Period}
 pub use Rattle.problem_hull.proofs.Threes.{three_append, three_at, three_lengths}
-pub use Rattle.problem_hull.specs.Hulls.{IsCellHull, IsDrainHull, IsEvapHull, IsFixedHull, IsFlowHull, IsHull, IsHullPair, IsHullSize, IsRiverHull}
-pub use Rattle.problem_hull.specs.Threes.{AllThree}
-pub use Rattle.problem_hull.specs.Threes.AllThree.{next, none}
+pub use Rattle.problem_hull.specs.Hulls.{AllThree, IsCellHull, IsDrainHull, IsEvapHull, IsFixedHull, IsFlowHull, IsHull, IsHullPair, IsHullSize, IsRiverHull}
+pub use Rattle.problem_hull.specs.Hulls.AllThree.{next, none}

@@ -3,7 +3,7 @@ use Rattle.deck_span.proofs.Common.{ℕ, ◌*◌, ◌^◌, ◌≤◌, ◌<◌, �
 use Rattle.deck_span.proofs.Common.{swap, cancel_right, signed, IsFractionBetween, IsRatioBetween, IsHullPair, IsHullSize, le_trans_z}
 use Rattle.std.specs.Int.{int_min, int_max}
 use Rattle.decimal_input.specs.Ratios.{AtMost as IsRatioAtMost}
-use Rattle.decimal_input.specs.Enclosures.{Encloses, EnclosesSigned}
+use Rattle.decimal_input.specs.Wholes.{Encloses, EnclosesSigned}
 
 -- lo ≤ n / d, n / d ≤ k / e (all over a unit S) give lo ≤ k / e
 low_cross : (lo n k : ℤ) (d e S : ℕ) → 0 < d → (lo *ℤ pos d) ≤ℤ (n *ℤ pos S) → (n *ℤ pos e) ≤ℤ (k *ℤ pos d) → (lo *ℤ pos e) ≤ℤ (k *ℤ pos S)

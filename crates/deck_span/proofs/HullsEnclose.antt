@@ -2,7 +2,7 @@
 use Rattle.deck_span.proofs.Common.{◌≡◌, ℕ, zero, suc, ◌+◌, refl, sym, subst, ap, ◌∙◌, List, length, AllZip, ExactFlow, ExactLink, ExactFixed, ExactRiver}
 use Rattle.deck_span.proofs.Common.{ExactDrain, ExactEvap, ExactCell, cell_at, AllThree, none, next, IsFlowBetween, IsFixedBetween, IsRiverBetween}
 use Rattle.deck_span.proofs.Common.{IsDrainBetween, IsEvapBetween, IsCellBetween, IsStepBetween, IsFlowHull, IsFixedHull, IsRiverHull, IsDrainHull, IsEvapHull}
-use Rattle.deck_span.proofs.Common.{IsCellHull, IsHull}
+use Rattle.deck_span.proofs.Common.{IsCellHull, IsHull, HasEqualEnds, HasLinkBack}
 use Rattle.step_problem.specs.declared.entry.Flow.{Flow}
 use Rattle.step_problem.specs.declared.entry.Fixed.{Fixed}
 use Rattle.step_problem.specs.declared.entry.River.{River}
@@ -10,7 +10,6 @@ use Rattle.step_problem.specs.declared.entry.Drain.{Drain}
 use Rattle.step_problem.specs.declared.entry.Evap.{Evap}
 use Rattle.step_problem.specs.declared.entry.Link.{Link}
 use Rattle.step_problem.specs.Entries.{Entries}
-use Rattle.cell_balance.specs.Links.{HasEqualEnds, HasLinkBack}
 use Rattle.cell_balance.specs.Enclosures.{FlowEncloses, LinkEncloses, FixedEncloses, RiverEncloses, DrainEncloses, EvapEncloses, CellEncloses, EnclosesStep}
 use Rattle.problem_hull.proofs.Links.{links_are}
 use Rattle.deck_span.proofs.HullBounds.{hull_of_numbers, hull_of_sizes}

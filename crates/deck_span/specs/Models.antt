@@ -2,19 +2,39 @@
 -- these lies between the two others' number at its place. Which number may differ:
 -- WEL: the rate. RIV: stage, conductance, bottom. DRN: elevation, conductance. GHB: head, conductance. RCH: the flux.
 -- EVT: surface and rate, and a rate is 0 in all three or in none. CHD: both heads, in one order. BAS6: STRT.
-use Rattle.std.specs.Prelude.{◌≡◌, ◌⊎◌, ◌==◌, []}
+use Rattle.std.specs.Prelude.{◌≡◌, ◌⊎◌, ◌==◌, [], ℕ, ◌<◌, ℤ, List, ◌∷◌}
 use Rattle.decimal_input.specs.declared.dec.Dec.{Dec}
-use Rattle.decimal_input.specs.Canonical.{number}
-use Rattle.decimal_input.specs.Fractions.{AtMost}
+use Rattle.decimal_input.specs.Decimals.{number, size}
+use Rattle.decimal_input.specs.Fractions.{AtMost, Fraction}
 use Rattle.model_types.specs.declared.grid.CellId.{CellId}
 use Rattle.model_types.specs.declared.model.FlowModel.{FlowModel}
 use Rattle.model_types.specs.declared.period.Period.{Period}
-use Rattle.model_types.specs.Times.{no_stresses}
+use Rattle.model_types.specs.Times.{no_stresses, times}
 use Rattle.model_types.specs.declared.entry.Given.{Given}
 use Rattle.model_types.specs.declared.entry.Entry.{Entry}
 use Rattle.model_types.specs.declared.entry.Entry.TheVariants.{Well, River, Drain, General}
-use Rattle.problem_hull.specs.Threes.{AllThree}
-use Rattle.deck_span.specs.Numbers.{IsDecBetween, IsSizeBetween}
+use Rattle.problem_hull.specs.Hulls.{AllThree}
+use Rattle.decimal_input.specs.Ratios.{Ratio, AtMost as IsRatioAtMost}
+use Rattle.model_types.specs.declared.time_steps.TimeStep.{TimeStep}
+use Rattle.model_types.specs.Heads.{start_head}
+use Rattle.flow_equations.specs.Histories.{SolvesAt, heads_of}
+
+-- When a number lies between two others, whichever of these is the greater one.
+-- a ≤ m ≤ b, or b ≤ m ≤ a
+pub record IsFractionBetween (a m b : Fraction) : Type 0 where
+  pub lies : (AtMost a m × AtMost m b) ⊎ (AtMost b m × AtMost m a)
+
+-- the same of numbers that aren't negative
+pub record IsRatioBetween (a m b : Ratio) : Type 0 where
+  pub lies : (IsRatioAtMost a m × IsRatioAtMost m b) ⊎ (IsRatioAtMost b m × IsRatioAtMost m a)
+
+-- the same of numbers of a file
+abbrev pub IsDecBetween : Dec → Dec → Dec → Type 0
+IsDecBetween a m b = IsFractionBetween (number a) (number m) (number b)
+
+-- the same of numbers of a file that can't be negative, as conductances
+abbrev pub IsSizeBetween : Dec → Dec → Dec → Type 0
+IsSizeBetween a m b = IsRatioBetween (size a) (size m) (size b)
 
 -- entries of WEL, RIV, DRN and GHB: the same package and cell, and each number between
 pub data IsEntryBetween : Entry → Entry → Entry → Type 0 where
@@ -68,3 +88,25 @@ pub record IsBetween (a m b : FlowModel) : Type 0 where
   pub alike : frame b ≡ frame a
   pub strt : AllThree IsDecBetween a.strt m.strt b.strt
   pub periods : AllThree IsPeriodBetween a.periods m.periods b.periods
+
+-- Histories in which the stresses of each time step lie anywhere between those of two models, chosen anew at each step.
+-- X over d solves a time step of some model between a and b, where the heads of the step before are `old`
+pub record SolvesBetweenAt (a b : FlowModel) (at : TimeStep) (old : ℕ → Fraction) (d : ℕ) (X : ℕ → ℤ) : Type 0 where
+  pub model : FlowModel
+  pub between : IsBetween a model b
+  pub solves : SolvesAt model at old d X
+
+-- one vector for each of these time steps, each from the heads of the vector before
+abbrev pub SolvesBetweenFrom : FlowModel → FlowModel → ℕ → (ℕ → Fraction) → List TimeStep → List (ℕ → ℤ) → Type 0
+SolvesBetweenFrom a b d old [] [] = Unit {0}
+SolvesBetweenFrom a b d old (at ∷ steps) (X ∷ Xs) = SolvesBetweenAt a b at old d X × SolvesBetweenFrom a b d (heads_of d X) steps Xs
+SolvesBetweenFrom a b d old [] (X ∷ Xs) = ⊥
+SolvesBetweenFrom a b d old (at ∷ steps) [] = ⊥
+
+-- The history Xs over d solves models between a and b: d is above 0, and its vectors solve all time steps in turn,
+-- each of some model between, from the starting heads of some model between.
+pub record SolvesBetween (a b : FlowModel) (d : ℕ) (Xs : List (ℕ → ℤ)) : Type 0 where
+  pub some : 0 < d
+  pub first : FlowModel
+  pub between : IsBetween a first b
+  pub steps : SolvesBetweenFrom a b d (start_head first) (times a) Xs

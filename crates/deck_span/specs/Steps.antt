@@ -2,8 +2,8 @@
 -- gives lies between those of the two. The links are the same.
 use Rattle.std.specs.Prelude.{◌≡◌, List}
 use Rattle.cell_balance.specs.Steps.{ExactFlow, ExactFixed, ExactRiver, ExactDrain, ExactEvap, ExactCell}
-use Rattle.problem_hull.specs.Threes.{AllThree}
-use Rattle.deck_span.specs.Numbers.{IsFractionBetween, IsRatioBetween}
+use Rattle.problem_hull.specs.Hulls.{AllThree}
+use Rattle.deck_span.specs.Models.{IsFractionBetween, IsRatioBetween}
 
 pub record IsFlowBetween (a m b : ExactFlow) : Type 0 where
   pub kind : m.kind ≡ a.kind

@@ -1,7 +1,7 @@
 // Time steps, and the kinds of the cells from period to period.
 ghost use Rattle.std.specs.Prelude.{◌≡◌, ◌<◌, ◌≤◌, All, length, IsTrue};
 ghost use Rattle.model_types.specs.Grids.{HasSize};
-ghost use Rattle.model_types.specs.Kinds.{given_heads};
+ghost use Rattle.model_types.specs.Heads.{given_heads};
 
 use model_types::{CellId, FlowModel, Given, GivenHeads, Kind, kind_at, times};
 use std::alloc::{AllocError, Global};

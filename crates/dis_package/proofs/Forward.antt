@@ -1,14 +1,12 @@
 -- The first line and LAYCBD leave lines that they were given.
 use Rattle.dis_package.proofs.Common.{◌≡◌, ℕ, ◌-◌, ℤ, List, Result, Ok, All, IfOk, LineMay, LinesMay, line_at, Left, Numbered, repeated, chain, after}
-use Rattle.dis_package.proofs.Common.{line_held, leaves, repeated_held, head_of, Frame, Limits}
-use Rattle.outside.specs.Words.{words}
+use Rattle.dis_package.proofs.Common.{line_held, leaves, repeated_held, head_of, Frame, Limits, beds_of, frame_of}
+use Rattle.outside.specs.Names.{words}
 use Rattle.record_lines.specs.Spread.{beginning}
-use Rattle.array_reader.specs.Lists.{value_alone}
+use Rattle.array_reader.specs.Arrays.{value_alone, zero_at}
 use Rattle.array_reader.specs.Numbers.{integer}
 use Rattle.array_reader.proofs.Forward.{value_alone_held}
-use Rattle.array_reader.specs.PackageItems.{zero_at}
 use Rattle.array_reader.proofs.PackageForward.{zero_held}
-use Rattle.dis_package.specs.Frames.{beds_of, frame_of}
 
 module _ (P : Numbered → Type 0) (file : List ℕ) where
   beds_held : (layers : ℕ) (left : Left) → All P left.lines → IfOk (beds_of file layers left) (λ x. All P x.1.lines)

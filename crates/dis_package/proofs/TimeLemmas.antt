@@ -3,11 +3,10 @@ use Rattle.dis_package.proofs.Common.{◌≡◌, Bool, true, false, not, ◌&&�
 use Rattle.dis_package.proofs.Common.{IsTime, IsNewPeriod, period_of, is_growth, is_time}
 use Rattle.std.proofs.lemmas.Bool.{and_parts, not-true, leb-true}
 use Rattle.model_types.specs.Valid.{IsTimed, IsGrowing, number_one}
-use Rattle.number_limits.specs.Magnitudes.{is_at_most, is_at_least}
-use Rattle.number_limits.specs.Signs.{is_one, is_positive}
+use Rattle.number_limits.specs.Magnitudes.{is_at_most, is_at_least, is_one, is_positive}
 use Rattle.number_limits.proofs.MagnitudeLemmas.{at_least_thousandth, at_most_thousand}
 use Rattle.number_limits.proofs.SignLemmas.{positive_of, one_of}
-use Rattle.dis_package.specs.declared.time.Time.{Time}
+use Rattle.dis_package.specs.declared.periods.Time.{Time}
 
 growing : (t : Time) → (nat_le t.nstp 1000 && (is_at_least 3 (size t.tsmult) && is_at_most 1000 (size t.tsmult))) ≡ true → IsGrowing (period_of t)
 growing t e =

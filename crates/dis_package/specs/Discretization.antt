@@ -1,18 +1,17 @@
 -- A file of the discretization, item by item (TM 6-A16, DIS).
 use Rattle.std.specs.Prelude.{ℕ, ℤ, pos, List, [], false, Result, Ok}
 use Rattle.outside.specs.Files.{FileSet}
-use Rattle.outside.specs.declared.refusals.Refusal.{Refusal}
+use Rattle.outside.specs.declared.inputs.Refusal.{Refusal}
 use Rattle.record_lines.specs.Items.{line_at}
-use Rattle.outside.specs.Words.{words}
+use Rattle.outside.specs.Names.{words}
 use Rattle.record_lines.specs.Layout.{Left, left_from, without_comments}
 use Rattle.record_lines.specs.Reading.{◌>>=◌}
 use Rattle.model_types.specs.declared.grid.Grid.{Grid}
 use Rattle.model_types.specs.declared.limits.Limits.{Limits}
 use Rattle.model_types.specs.declared.model.FlowModel.{FlowModel}
 use Rattle.model_types.specs.declared.period.Period.{Period}
-use Rattle.dis_package.specs.Frames.{frame_of, beds_of}
+use Rattle.dis_package.specs.Frames.{frame_of, beds_of, periods_of}
 use Rattle.dis_package.specs.Grids.{grid_of}
-use Rattle.dis_package.specs.Times.{periods_of}
 use Rattle.dis_package.specs.declared.frame.Frame.{Frame}
 
 -- a model of which only this has been read

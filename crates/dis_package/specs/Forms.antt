@@ -1,6 +1,6 @@
 -- What is known of a discretization that was read, whatever the folder returned: limits, lengths and signs.
 use Rattle.std.specs.Prelude.{◌≡◌, ◌*◌, ◌≤◌, [], All, length, sum_by}
-use Rattle.decimal_input.specs.Canonical.{IsDec}
+use Rattle.decimal_input.specs.Decimals.{IsDec}
 use Rattle.model_types.specs.declared.model.FlowModel.{FlowModel}
 use Rattle.model_types.specs.declared.period.Period.{Period}
 use Rattle.model_types.specs.Grids.{IsGrid}
@@ -9,7 +9,7 @@ use Rattle.model_types.specs.Valid.{IsTimed}
 use Rattle.dis_package.specs.Discretization.{begun}
 use Rattle.dis_package.specs.declared.frame.Frame.{Frame}
 use Rattle.dis_package.specs.declared.frame.Size.{Size}
-use Rattle.dis_package.specs.declared.time.Time.{Time}
+use Rattle.dis_package.specs.declared.periods.Time.{Time}
 
 -- the size of a grid in the wide limits
 pub record IsSize (s : Size) : Type 0 where

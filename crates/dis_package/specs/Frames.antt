@@ -1,20 +1,26 @@
 -- The first line of a file of the discretization: NLAY NROW NCOL NPER ITMUNI LENUNI (TM 6-A16, DIS, item 1).
-use Rattle.std.specs.Prelude.{ℕ, ◌*◌, List, nat_le, Option, Some, None, Result, Ok, Err, if◌then◌else◌, ◌-◌, ℤ, [], ◌∷◌, ◌++◌}
-use Rattle.outside.specs.Refusals.{refusal}
+use Rattle.std.specs.Prelude.{ℕ, ◌*◌, List, nat_le, Option, Some, None, Result, Ok, Err, if◌then◌else◌, ◌-◌, ℤ, [], ◌∷◌, ◌++◌, ◌+◌, Bool, true, false, not}
+use Rattle.std.specs.Prelude.{◌&&◌, ◌||◌, codes}
+use Rattle.outside.specs.Codes.{refusal}
 use Rattle.outside.specs.declared.codes.Code.TheVariants.{BadGrid}
-use Rattle.outside.specs.declared.refusals.Refusal.{Refusal}
+use Rattle.outside.specs.declared.inputs.Refusal.{Refusal}
 use Rattle.record_lines.specs.Reading.{◌>>=◌, repeated}
-use Rattle.array_reader.specs.Items.{number_at}
-use Rattle.array_reader.specs.Numbers.{integer}
+use Rattle.array_reader.specs.Control.{number_at}
+use Rattle.array_reader.specs.Numbers.{integer, number}
 use Rattle.model_types.specs.declared.limits.Limits.{Limits}
 use Rattle.model_types.specs.Limits.{most_layers, most_in_row, most_cells}
-use Rattle.number_limits.specs.Signs.{within}
+use Rattle.number_limits.specs.Magnitudes.{within, is_positive, is_one, is_at_most, is_at_least}
 use Rattle.dis_package.specs.declared.frame.Frame.{Frame}
 use Rattle.dis_package.specs.declared.frame.Size.{Size}
 use Rattle.record_lines.specs.Layout.{Left}
 use Rattle.record_lines.specs.Spread.{beginning}
-use Rattle.array_reader.specs.Lists.{value_alone}
-use Rattle.array_reader.specs.PackageItems.{zero_at}
+use Rattle.array_reader.specs.Arrays.{value_alone, zero_at}
+use Rattle.decimal_input.specs.Decimals.{size}
+use Rattle.record_lines.specs.Items.{is_word, line_at}
+use Rattle.outside.specs.Names.{words}
+use Rattle.model_types.specs.declared.period.Period.{Period}
+use Rattle.model_types.specs.Times.{no_stresses}
+use Rattle.dis_package.specs.declared.periods.Time.{Time}
 
 abbrev pub inside : Option ℕ → Refusal → Result ℕ Refusal
 inside None r = Err r
@@ -51,3 +57,44 @@ beds_of file layers left = do
   above ← repeated (layers - 1) (value_alone integer file) (beginning, left)
   last ← zero_at file above.1
   Ok (above.0 ++ last.0 ∷ [], last.1.1)
+
+-- The lines of the stress periods: PERLEN NSTP TSMULT and SS or TR (TM 6-A16, DIS, item 7). Limits are this program's own.
+-- whether the period is steady, SS, or transient, TR, in any letter case
+abbrev pub kind_of : List (List ℕ) → Option Bool
+kind_of [] = None
+kind_of (w ∷ ws) = if is_word (codes "SS") w then Some true else (if is_word (codes "TR") w then Some false else None)
+
+abbrev pub known : Option Bool → Refusal → Result Bool Refusal
+known None r = Err r
+known (Some steady) r = Ok steady
+
+-- a transient period's TSMULT is 1, or it is from 0.001 to 1000 and NSTP is at most 1000
+abbrev pub is_growth : Time → Bool
+is_growth t = is_one t.tsmult || (nat_le t.nstp 1000 && (is_at_least 3 (size t.tsmult) && is_at_most 1000 (size t.tsmult)))
+
+-- PERLEN isn't below 0, and is above 0 in a transient period; TSMULT is above 0
+abbrev pub is_time : Time → Bool
+is_time t = if t.steady then not t.perlen.neg && is_positive t.tsmult else (is_positive t.perlen && is_positive t.tsmult) && is_growth t
+
+-- NSTP is at most 100000
+unfoldable pub time_of : List ℕ → ℕ → List (List ℕ) → Result Time Refusal
+time_of file line words = do
+  perlen ← number_at number file line words
+  nstp ← count_at file line 100000 perlen.1
+  tsmult ← number_at number file line nstp.1
+  steady ← known (kind_of tsmult.1) (refusal BadGrid file line)
+  Ok (record { perlen = perlen.0; nstp = nstp.0; tsmult = tsmult.0; steady = steady })
+
+-- a period of these times, without stresses
+abbrev pub period_of : Time → Period
+period_of t = record { perlen = t.perlen; nstp = t.nstp; tsmult = t.tsmult; steady = t.steady; stresses = no_stresses }
+
+-- a period after periods with this many steps; with its own they are at most 100000
+unfoldable pub period_at : List ℕ → (ℕ × Left) → Result (Period × (ℕ × Left)) Refusal
+period_at file s = do
+  line ← line_at file s.1
+  time ← time_of file line.0.number (words line.0.bytes)
+  if is_time time && nat_le (s.0 + time.nstp) 100000 then Ok (period_of time, (s.0 + time.nstp, line.1)) else Err (refusal BadGrid file line.0.number)
+
+unfoldable pub periods_of : List ℕ → ℕ → Left → Result (List Period) Refusal
+periods_of file count left = repeated count (period_at file) (0, left) >>= λ x. Ok x.0

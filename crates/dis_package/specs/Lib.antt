@@ -1,5 +1,4 @@
 pub mod Frames
 pub mod Grids
-pub mod Times
 pub mod Forms
 pub mod Discretization

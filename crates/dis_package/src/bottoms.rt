@@ -1,9 +1,9 @@
 // The bottoms of the layers and of the confining beds below them.
 ghost use Rattle.std.specs.Prelude.{◌≡◌, ◌*◌, IfOk, length, [], ◌+◌, ◌++◌, All, List};
-ghost use Rattle.decimal_input.specs.Canonical.{IsDec};
+ghost use Rattle.decimal_input.specs.Decimals.{IsDec};
 ghost use Rattle.outside.specs.Files.{FileSet};
 ghost use Rattle.outside.specs.Folders.{ReadsOn};
-ghost use Rattle.record_lines.specs.Asking.{LinesMay};
+ghost use Rattle.record_lines.specs.Layout.{LinesMay};
 ghost use Rattle.record_lines.specs.Reading.{Gives, counted};
 ghost use Rattle.dis_package.specs.Grids.{bottom_at, bottoms_of};
 

@@ -4,11 +4,9 @@
 mod bottoms;
 mod frame;
 mod grid;
-mod model;
 mod periods;
-mod time;
 
 pub use bottoms::Bottoms;
 pub use frame::{Frame, Size};
-pub use model::read_dis;
-pub use time::Time;
+pub use grid::read_dis;
+pub use periods::Time;

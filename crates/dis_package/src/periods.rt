@@ -1,14 +1,17 @@
 // The stress periods.
 ghost use Rattle.std.specs.Prelude.{◌≡◌, ◌+◌, ◌≤◌, IfOk, length, All, sum_by, []};
 ghost use Rattle.record_lines.specs.Reading.{GivesText, HasText, repeated};
-ghost use Rattle.dis_package.specs.Times.{period_at, period_of, periods_of};
-ghost use Rattle.dis_package.specs.Forms.{IsNewPeriod};
+ghost use Rattle.dis_package.specs.Frames.{period_at, period_of, periods_of, kind_of, is_growth, is_time, time_of};
+ghost use Rattle.dis_package.specs.Forms.{IsNewPeriod, IsTime};
+ghost use Rattle.decimal_input.specs.Decimals.{IsDec};
 
-use crate::time::{Time, is_time, time_of};
-use array_reader::next_line;
+use crate::frame::count_at;
+use array_reader::{next_line, number};
+use decimal_input::dec::Dec;
 use model_types::{Period, Stresses};
+use number_limits::{is_at_least, is_at_most, is_one, is_positive};
 use outside::{Code, TextFault, refused};
-use record_lines::{Lines, Words};
+use record_lines::{Lines, Words, is_word};
 use std::alloc::Global;
 
 /// A period of these times, without stresses.
@@ -25,7 +28,7 @@ fn period_of(time: &Time) -> Period
 }
 
 /// The next period; `steps` is the number of steps of the periods before it.
-#[tactic(auto, unfolding(crate::specs::Times::period_at), using(crate::proofs::TimeLemmas::new_of))]
+#[tactic(auto, unfolding(crate::specs::Frames::period_at), using(crate::proofs::TimeLemmas::new_of))]
 fn period_at(
     alloc: Global,
     lines: &mut Lines,
@@ -71,7 +74,7 @@ fn list_of(
 }
 
 /// Reads `count` periods, which have at most 100000 steps in all.
-#[tactic(auto, unfolding(crate::specs::Times::periods_of))]
+#[tactic(auto, unfolding(crate::specs::Frames::periods_of))]
 pub fn periods_of(
     alloc: Global,
     lines: &mut Lines,
@@ -86,4 +89,71 @@ pub fn periods_of(
     let mut steps = 0;
     let periods = list_of(alloc, lines, file, count, &mut steps)?;
     Ok(periods)
+}
+
+// The times of a stress period: PERLEN NSTP TSMULT and SS or TR.
+
+/// The times of a stress period.
+#[derive(Clone, Copy)]
+pub struct Time {
+    pub perlen: Dec,
+    pub nstp: u32,
+    pub tsmult: Dec,
+    pub steady: bool,
+}
+
+/// Whether the next word is SS, a steady period, or TR, a transient one.
+fn kind_of(words: &mut Words) -> Option<bool>
+    ensures { result ≡ kind_of words.old }
+{
+    match words.next() {
+        None => None,
+        Some(word) => {
+            if is_word(b"SS", word) {
+                Some(true)
+            } else if is_word(b"TR", word) {
+                Some(false)
+            } else {
+                None
+            }
+        }
+    }
+}
+
+fn is_growth(time: &Time) -> bool
+    requires { IsDec time.now.tsmult }
+    ensures { result ≡ is_growth time.now }
+{
+    is_one(time.tsmult)
+        || (time.nstp <= 1000 && is_at_least(3, time.tsmult) && is_at_most(1000, time.tsmult))
+}
+
+pub fn is_time(time: &Time) -> bool
+    requires { IsTime time.now }
+    ensures { result ≡ is_time time.now }
+{
+    if time.steady {
+        !time.perlen.neg && is_positive(time.tsmult)
+    } else {
+        is_positive(time.perlen) && is_positive(time.tsmult) && is_growth(time)
+    }
+}
+
+#[tactic(auto, unfolding(crate::specs::Frames::time_of))]
+pub fn time_of(alloc: Global, words: &mut Words, file: &str, line: u32) -> Result<Time, TextFault>
+    ensures time { HasText (λ t. t) result (time_of file.now line words.old) }
+    ensures form { IfOk result IsTime }
+{
+    let perlen = number(alloc, words, file, line)?;
+    let nstp = count_at(alloc, words, file, line, 100_000)?;
+    let tsmult = number(alloc, words, file, line)?;
+    let Some(steady) = kind_of(words) else {
+        return Err(refused(alloc, Code::BadGrid, file, line));
+    };
+    Ok(Time {
+        perlen,
+        nstp,
+        tsmult,
+        steady,
+    })
 }

@@ -8,7 +8,7 @@ use Rattle.engine.proofs.BatchOutcomes.{batch_complete, batch_decided, batch_put
 use Rattle.engine.proofs.Certifying.{not_stopped}
 use Rattle.engine.proofs.Beside.{beside_both, beside_complete, beside_decided, beside_made, beside_put_rose, beside_read_rose, takes_known, viewless, wider_batch, wider_batch_comes}
 use Rattle.engine.proofs.Told.{AnyTold, Laws, first_of, only_check, only_span_check, second_of}
-use Rattle.run_puts.specs.declared.status.Status.TheVariants as status
+use Rattle.run_puts.specs.declared.puts.Status.TheVariants as status
 
 -- a batch, or another command
 match_map : {X A B : Type 0} {C D : X → Type 0} (o : Option X) → MatchOption o A C → (A → B) → ((b : X) → C b → D b) → MatchOption o B D

@@ -10,8 +10,8 @@ use Rattle.std.specs.Prelude.{IfSome, length}
 use Rattle.batch_book.specs.Ends.{AreJobEnds}
 use Rattle.engine.proofs.Beside.{not_ok}
 use Rattle.engine.proofs.Ends.{ends_without_words, read_stops, wanting_stops}
-use Rattle.outside.specs.declared.refusals.InputFault.TheVariants as input
-use Rattle.run_puts.specs.declared.status.Status.TheVariants as status
+use Rattle.outside.specs.declared.inputs.InputFault.TheVariants as input
+use Rattle.run_puts.specs.declared.puts.Status.TheVariants as status
 
 -- words that ask for a batch ask for no other command
 pub other_none : (words : List Text) (b : AskedBatch) → batch_asked words ≡ Some b → asked_in words ≡ None

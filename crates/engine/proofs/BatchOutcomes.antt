@@ -4,14 +4,14 @@ use Rattle.engine.proofs.Common.{All-tail, AllZip, concat, FileSet, Rose, Put, S
 use Rattle.engine.proofs.Common.{NeverCut, Agree, Status, all_written, Task, IsListing, IsWhole, whole_listing, history_exists, history_is_one, JobEnd}
 use Rattle.engine.proofs.Common.{batch_settles, batches_agree, Job, Batched, HasEnded, HasNoList, IsJobListing, AskedBatch, BatchCase, BatchDefines, IsJobEnd}
 use Rattle.engine.proofs.Common.{IsRunText, Jobs, NoList, batch_asked, batch_case, job_case, job_of, job_task, model_line, names_read, task_read, AreValid}
-use Rattle.engine.proofs.Common.{BatchAnswers, BatchComes, BatchDecided, HasJob, IsBatchRun, IsValidJob, IsStopped, IsPlainJob, IsPlainBatch}
+use Rattle.engine.proofs.Common.{BatchAnswers, BatchComes, BatchDecided, HasJob, IsBatchRun, IsValidJob, IsStopped, IsPlainJob, IsPlainBatch, first_not_ok}
+use Rattle.engine.proofs.Common.{or_else, texts}
 use Rattle.std.specs.Prelude.{false}
-use Rattle.batch_puts.specs.Ended.{first_not_ok, or_else, texts}
 use Rattle.engine.proofs.Certifying.{IsFault, not_stopped, stopped_by_fault}
 use Rattle.engine.proofs.Dues.{Delivers, Ended, delivers, read_failed, write_failed, run_ended, end_decided, end_comes}
 use Rattle.engine.proofs.Outcomes.{agree, goes_through, never_stopped}
 use Rattle.engine.proofs.Told.{Laws}
-use Rattle.run_puts.specs.declared.status.Status.TheVariants as status
+use Rattle.run_puts.specs.declared.puts.Status.TheVariants as status
 
 -- no job ends with a status that stops a run
 job_not_stopped : (read : Result Task Refusal) (before : Text) (e : JobEnd) → IsRunText (job_case read) before e → IsStopped e.status → ⊥

@@ -6,8 +6,8 @@ use Rattle.engine.proofs.Common.{IsNamedFault, AreJobsRead, AreTasks, HasNames, 
 use Rattle.std.specs.declared.vec.Vec.{Vec}
 use Rattle.std.specs.declared.alloc.Global.{Global}
 use Rattle.engine.proofs.Readings.{bad_named, good_named}
-use Rattle.outside.specs.declared.refusals.InputFault.TheVariants as input
-use Rattle.outside.specs.declared.refusals.TextFault.TheVariants as texts
+use Rattle.outside.specs.declared.inputs.InputFault.TheVariants as input
+use Rattle.outside.specs.declared.inputs.TextFault.TheVariants as texts
 
 abbrev made_job : Text → Result Task Refusal → Job
 made_job name read = record { name = name; read = read }

@@ -8,8 +8,8 @@ use Rattle.engine.proofs.Common.{views_asked, views_in, IsListingOf, Span, CutOf
 use Rattle.engine.specs.declared.asked.Command.{Command as CommandBy}
 use Rattle.engine.proofs.Outcomes.{complete, decided, put_rose, read_rose}
 use Rattle.engine.proofs.Told.{Both, Laws, both, made}
-use Rattle.outside.specs.declared.refusals.InputFault.TheVariants as input
-use Rattle.run_puts.specs.declared.status.Status.TheVariants as status
+use Rattle.outside.specs.declared.inputs.InputFault.TheVariants as input
+use Rattle.run_puts.specs.declared.puts.Status.TheVariants as status
 
 -- nothing was put to the side
 pub quiet : (leads : List Put → Type 0) (words : List Text) (files : FileSet) (views : Option ℕ) → leads [] → SidePuts leads words files views

@@ -6,7 +6,7 @@ use Rattle.engine.proofs.Common.{verdict_status, Defines, OneVerdict, IsListed, 
 use Rattle.std.specs.Prelude.{false}
 use Rattle.check_run.specs.declared.verdict.ListingVerdict.TheVariants.{Certified as Holds, Refused as Unbounded}
 use Rattle.engine.proofs.Readings.{named_read, zoned_parts}
-use Rattle.run_puts.specs.declared.status.Status.TheVariants as status
+use Rattle.run_puts.specs.declared.puts.Status.TheVariants as status
 
 -- a fault outside or lack of memory, which no words and files define
 abbrev pub IsFault : Status → Type 0

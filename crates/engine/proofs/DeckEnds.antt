@@ -9,8 +9,8 @@ use Rattle.engine.proofs.Common.{all_due, cut, early, nothing, whole, readings_o
 use Rattle.engine.proofs.Common.{AreAlike, IfSome, option_map, is_some, unread, case_decks, check_to, run_to, AreRead, IsDecksRefusal, listing}
 use Rattle.engine.proofs.Ends.{any_case, any_readings, could_read, ends_without_words, is_any_case, no_steps, of_model_read, refused, unreadable}
 use Rattle.engine.proofs.Readings.{named_read, no_zones}
-use Rattle.outside.specs.declared.refusals.InputFault.TheVariants as input
-use Rattle.run_puts.specs.declared.status.Status.TheVariants as status
+use Rattle.outside.specs.declared.inputs.InputFault.TheVariants as input
+use Rattle.run_puts.specs.declared.puts.Status.TheVariants as status
 
 -- The words read decks, and then come to this case.
 pub record ReadDecks (words : List Text) (limits : Limits) (name : Text) (to : Option Text) (come : Readings → Decks → Case) : Type 0 where

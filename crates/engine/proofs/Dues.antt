@@ -1,7 +1,7 @@
 -- How a run ended, by the pieces that are due: those that are defined of its end, or the line of a read fault.
 use Rattle.engine.proofs.Common.{◌≡◌, List, map, refl, inl, inr, ◌⊎◌, Put, Seen, PutsMake, taken, Rose, Text, whole, early, IsRun, Status, IsLate, tail_late}
 use Rattle.engine.proofs.Common.{write_rose, late_not_read, IsUnfinished, Agree, IsStopped, IsDue, defined, unread}
-use Rattle.run_puts.specs.declared.status.Status.TheVariants as status
+use Rattle.run_puts.specs.declared.puts.Status.TheVariants as status
 
 pub late_stops : (end : Status) → IsLate end → IsStopped end
 late_stops end (inl e) = inr (inl e)

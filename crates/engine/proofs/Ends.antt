@@ -5,11 +5,11 @@ use Rattle.engine.proofs.Common.{refused_line, Text, read_fault_line, IsEnd, IsL
 use Rattle.engine.proofs.Common.{lacks_at_first, weaker, AreZonesOf, Case, Command, Make, NoWords, Refuses, Making, IsCase, CouldList, CouldRead, asked_in}
 use Rattle.engine.proofs.Common.{built, case_asked, made_model, Due, ReadsFolder, CutOf, IsMade, Answers, IsMadeRun, IsStopped, IsValid, defined, Comparing}
 use Rattle.engine.proofs.Common.{Readings, readings_of, some_readings, Second, unread}
-use Rattle.command_line.specs.Usage.{usage_line}
+use Rattle.command_line.specs.Commands.{usage_line}
 use Rattle.engine.proofs.Dues.{late_stops}
 use Rattle.engine.proofs.Readings.{no_second, no_zones}
-use Rattle.outside.specs.declared.refusals.InputFault.TheVariants as input
-use Rattle.run_puts.specs.declared.status.Status.TheVariants as status
+use Rattle.outside.specs.declared.inputs.InputFault.TheVariants as input
+use Rattle.run_puts.specs.declared.puts.Status.TheVariants as status
 
 -- what an order asks for, the words ask for
 pub asked_by : (words : List Text) (wanted : Wanted) (asked : Option Command) → wanted_of words ≡ Some wanted → asked ≡ built wanted → asked_in words ≡ asked

@@ -1,10 +1,9 @@
 -- The files of a command are those that its words name.
 use Rattle.engine.proofs.Common.{◌≡◌, ℕ, List, [], ◌∷◌, Option, Some, None, subst, option_and_then, All-head, All-tail, folder_name, Wanted, Lists, ListsTo}
 use Rattle.engine.proofs.Common.{Checks, ChecksTo, Batches, Writes, wanted_of, Text, AskedBatch, batch_of, batch_asked, Asked, AskedCheck, Command, Run, Check}
-use Rattle.engine.proofs.Common.{Write, Make, Limits, built, asked_in, CheckSpan, Span, All, MayRead, check_to, run_to}
+use Rattle.engine.proofs.Common.{Write, Make, Limits, built, asked_in, CheckSpan, Span, All, MayRead, check_to, run_to, WordsMay, files_of, files_if}
+use Rattle.engine.proofs.Common.{files_named}
 use Rattle.std.specs.Prelude.{IfSome}
-use Rattle.outside.specs.Asking.{WordsMay}
-use Rattle.engine.specs.Asking.{files_of, files_if, files_named}
 
 module _ (may : List ℕ → Type 0) where
   abbrev May : Text → Type 0

@@ -1,6 +1,6 @@
 -- What the number of a status says of it.
 use Rattle.engine.proofs.Common.{◌≡◌, ap, inl, inr, refl, code_of, Status, IsStopped, IsStopNumber}
-use Rattle.run_puts.specs.declared.status.Status.TheVariants as status
+use Rattle.run_puts.specs.declared.puts.Status.TheVariants as status
 
 -- 0 is that of Ok alone
 pub ok_from_zero : (end : Status) → code_of end ≡ 0 → end ≡ status.Ok

@@ -9,8 +9,8 @@ use Rattle.engine.proofs.Certifying.{IsFault, certifies, check_is_no_fault, neve
 use Rattle.check_run.specs.declared.verdict.ListingVerdict.TheVariants.{Certified as Holds}
 use Rattle.engine.proofs.Told.{Laws}
 use Rattle.engine.proofs.Dues.{Ended, read_failed, write_failed, run_ended, end_decided, end_comes}
-use Rattle.run_puts.specs.declared.status.Status.TheVariants as status
-use Rattle.listing_run.specs.declared.listing_end.ListingEnd.TheVariants as ends
+use Rattle.run_puts.specs.declared.puts.Status.TheVariants as status
+use Rattle.listing_run.specs.declared.text.ListingEnd.TheVariants as ends
 
 -- no case defines the end of a fault outside or of lack of memory
 last_is_no_fault : (last : ListingEnd) → IsFault (status_of last) → ⊥

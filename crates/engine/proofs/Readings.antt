@@ -6,16 +6,16 @@ use Rattle.engine.proofs.Common.{ListedStep, pairs_in, AreListed, listing_in, zo
 use Rattle.engine.proofs.Common.{steps_in, steps_read, with_zones, zoned_steps, zones_named, AreStepsAs, AreZonesAs, IsListedAs, IsNamedFault, IsReadAs, Limits}
 use Rattle.engine.proofs.Common.{◌>>=◌, model_of, AreAlike, Difference, two, one_deck, AreDecksAs, IsSecondAs, IsUnlikeFault, second_by, Second, of_both}
 use Rattle.engine.proofs.Common.{of_first, of_second, second_in, Pairs, InputCounts, cell_count, false, AreDecks, Decks, AreDecksOf, IsNoSecond, IfErr}
-use Rattle.deck_alike.specs.Differences.{IsFirstDifference}
+use Rattle.engine.proofs.Common.{IsFirstDifference}
+use Rattle.outside.specs.Folders.{ReadsOn}
 use Rattle.std.proofs.Common.{All}
 use Rattle.model_reader.specs.Model.{names_in}
 use Rattle.engine.specs.declared.two_decks.Second.{Second as SecondBy}
-use Rattle.outside.specs.Folders.{ReadsOn}
 use Rattle.outside.specs.declared.traits.Folder.{Ghosts as FolderOf}
 use Rattle.outside.proofs.NameTests.{is_taken, is_good}
-use Rattle.model_reader.proofs.Chains.{both_read as in_a_row}
-use Rattle.outside.specs.declared.refusals.TextFault.TheVariants as texts
-use Rattle.outside.specs.declared.refusals.InputFault.TheVariants as input
+use Rattle.model_reader.proofs.BasicLemmas.{both_read as in_a_row}
+use Rattle.outside.specs.declared.inputs.TextFault.TheVariants as texts
+use Rattle.outside.specs.declared.inputs.InputFault.TheVariants as input
 
 not_good : (name : Text) → (IsGoodName name → ⊥) → is_good_name name ≡ false
 not_good name bad = by_test (is_good_name name) refl

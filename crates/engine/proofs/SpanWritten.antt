@@ -13,8 +13,8 @@ use Rattle.check_run.specs.declared.verdict.ListingVerdict.TheVariants.{Certifie
 use Rattle.engine.proofs.Readings.{named_read}
 use Rattle.engine.proofs.Spans.{have_choices}
 use Rattle.engine.proofs.Written.{clash, read_numbers, with_bytes}
-use Rattle.run_puts.specs.declared.status.Status.TheVariants as status
-use Rattle.listing_run.specs.declared.listing_end.ListingEnd.TheVariants as ends
+use Rattle.run_puts.specs.declared.puts.Status.TheVariants as status
+use Rattle.listing_run.specs.declared.text.ListingEnd.TheVariants as ends
 
 -- a check has at most 18 digits
 built_check : (asked : AskedSpanCheck) (w : Wanted) → built w ≡ Some (CheckSpan asked) → (wide : Bool) × (w ≡ ChecksTo asked.check.name asked.to asked.check.listing asked.check.digits asked.check.zones wide)

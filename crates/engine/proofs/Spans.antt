@@ -5,11 +5,11 @@ use Rattle.engine.proofs.Common.{certified_line, IsWhole, Limits, AllSteps, List
 use Rattle.engine.proofs.Common.{ChoicesHaveOne, ListingVerdict, IsVerdict, AskedSpan, AskedSpanCheck, CheckSpan, Span, listing_read, span_task_of, IsCheck}
 use Rattle.engine.proofs.Common.{verdict_line, ArePairOf, OneSpan, SpanCertified, SpanHeadline, SpanVerdict, Second, second_in, deck_task, pairs_of, Bool, true}
 use Rattle.std.specs.Prelude.{true}
-use Rattle.listing_run.specs.declared.listing_end.ListingEnd.TheVariants.{Whole}
+use Rattle.listing_run.specs.declared.text.ListingEnd.TheVariants.{Whole}
 use Rattle.exact_histories.proofs.ChosenHistories.{choices_history, choices_one}
 use Rattle.engine.proofs.Certifying.{is_certified}
 use Rattle.engine.proofs.Readings.{named_read, second_parts, zoned_parts}
-use Rattle.run_puts.specs.declared.status.Status.TheVariants as status
+use Rattle.run_puts.specs.declared.puts.Status.TheVariants as status
 
 -- All steps of a listing of two decks are steps of theirs, so each choice of models between has one history.
 module _ (limits : Limits) (a b : FlowModel) (s : ℕ) (zones : Option (List ℕ)) (rounds : ℕ) (quick : Bool) where

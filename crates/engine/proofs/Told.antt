@@ -8,19 +8,16 @@ use Rattle.engine.proofs.Common.{task_of, zones_read, Certified, OneDeck, Define
 use Rattle.engine.proofs.Common.{IsStopped, IsValid, Plain, Limits, ListingIsOne, ListingExcludesRefusal, RefusalIsOne, ZonedListing, CheckSpan, Comparing}
 use Rattle.engine.proofs.Common.{Span, case_listed, two, true, readings_of, some_readings, Second, not_alike, second_in, most_bytes, with_limit, AskedSpan}
 use Rattle.engine.proofs.Common.{AskedSpanCheck, case_decks, span_task_of, IsDeck, OneSpan, SpanCertified, SpanHeadline, SpanVerdict, deck_text, concat}
-use Rattle.engine.proofs.Common.{ReadsFolder, CutOf, deck_reads}
+use Rattle.engine.proofs.Common.{ReadsFolder, CutOf, deck_reads, summary_of, summary_text, DifferenceIsOne}
 use Rattle.std.specs.Prelude.{false}
 use Rattle.std.specs.Io.KnownBytes.{Appends}
 use Rattle.engine.specs.Headline.{Headline}
-use Rattle.listing_summary.specs.Summaries.{summary_of}
-use Rattle.listing_summary.specs.Texts.{summary_text}
 use Rattle.engine.proofs.Certifying.{certified_and_one, not_stopped}
 use Rattle.engine.proofs.Dues.{Delivers, delivers}
 use Rattle.engine.proofs.Readings.{named_read}
-use Rattle.deck_alike.specs.Laws.{DifferenceIsOne}
 use Rattle.engine.proofs.Spans.{span_checked, span_listed}
-use Rattle.run_puts.specs.declared.status.Status.TheVariants as status
-use Rattle.listing_run.specs.declared.listing_end.ListingEnd.TheVariants as ends
+use Rattle.run_puts.specs.declared.puts.Status.TheVariants as status
+use Rattle.listing_run.specs.declared.text.ListingEnd.TheVariants as ends
 
 -- the laws of listings and of verdicts
 pub record Laws : Type 0 where

@@ -6,11 +6,11 @@ use Rattle.engine.proofs.Common.{write_rose, AreAllShown, IsStopPut, LeadOn, Vie
 use Rattle.engine.proofs.Common.{PairEncloses, Reaches, ReachesFirst, begun, rests, settled, AreFirstViews, AreViews, AreWatched, ArePutInTurn, IsView}
 use Rattle.engine.proofs.Common.{IsWatched, Shows, ViewPutsOf, lines_of, edges_by, false}
 use Rattle.std.proofs.Common.{All}
-use Rattle.listing_io.specs.Views.{view_text}
+use Rattle.listing_io.specs.Listing.{view_text}
 use Rattle.view_puts.proofs.Views.{lead_more}
 use Rattle.model_types.specs.Times.{times as times_of}
 use Rattle.outside.specs.declared.traits.SinkError.TheVariants as error
-use Rattle.run_puts.specs.declared.status.Status.TheVariants as status
+use Rattle.run_puts.specs.declared.puts.Status.TheVariants as status
 
 pieces_of : (text : List Bound → List ℕ) (views : List (List Bound)) → map (λ heads. taken (text heads)) views ≡ map taken (map text views)
 pieces_of text [] = refl

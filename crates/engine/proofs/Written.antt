@@ -8,11 +8,11 @@ use Rattle.engine.proofs.Common.{zoned_steps, zones_read, IsCheck, certified_lin
 use Rattle.engine.proofs.Common.{RunIsCertified, RunIsReadAgain, as_listed, run_encloses, Step, EnclosesHistories, AllSteps, Asked, ChecksWritten}
 use Rattle.engine.proofs.Common.{OneListingIsCertified, WrittenIsCertified, readings_of, Task, case_decks, false}
 use Rattle.std.specs.Prelude.{if◌then◌else◌, option_and_then}
-use Rattle.zone_file.proofs.SmallZones.{numbers_small}
+use Rattle.zone_file.proofs.ZoneLemmas.{numbers_small}
 use Rattle.check_run.specs.declared.verdict.ListingVerdict.TheVariants.{Certified as Holds}
 use Rattle.engine.proofs.Readings.{named_read}
-use Rattle.run_puts.specs.declared.status.Status.TheVariants as status
-use Rattle.listing_run.specs.declared.listing_end.ListingEnd.TheVariants as ends
+use Rattle.run_puts.specs.declared.puts.Status.TheVariants as status
+use Rattle.listing_run.specs.declared.text.ListingEnd.TheVariants as ends
 
 pub clash : {B E : Type 0} (e : E) (y : B) (r : Result B E) → r ≡ Err e → r ≡ Ok y → ⊥
 clash e y r h k = cc

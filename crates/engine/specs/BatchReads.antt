@@ -1,16 +1,17 @@
 -- What the reading of a batch returns.
-use Rattle.std.specs.Prelude.{◌≡◌, ℕ, List, map, Result, Ok, Err, Option, Some, None, IfOk, All}
+use Rattle.std.specs.Prelude.{◌≡◌, ℕ, List, map, Result, Ok, Err, Option, Some, None, IfOk, All, ◌≤◌}
 use Rattle.std.specs.declared.vec.Vec.{Vec}
 use Rattle.std.specs.declared.alloc.Global.{Global}
 use Rattle.outside.specs.Files.{FileSet}
 use Rattle.outside.specs.Inputs.{IsReading}
-use Rattle.outside.specs.declared.refusals.InputFault.{InputFault}
-use Rattle.outside.specs.declared.refusals.InputFault.TheVariants as input
+use Rattle.outside.specs.declared.inputs.InputFault.{InputFault}
 use Rattle.model_reader.specs.Model.{reads}
-use Rattle.run_puts.specs.Lines.{Text}
+use Rattle.run_puts.specs.Runs.{Text}
 use Rattle.listing_run.specs.Ends.{IsTask}
 use Rattle.engine.specs.declared.job.Job.{Job}
 use Rattle.engine.specs.Batches.{AskedBatch, Jobs, NoList, IsBatchCase, IsSomeJob, job_of, names_read}
+use Rattle.engine.specs.declared.asked_batch.BatchOrder.{BatchOrder}
+use Rattle.outside.specs.declared.inputs.InputFault.TheVariants as input
 
 -- each task that is to be listed meets the conditions on tasks
 abbrev pub AreTasks : List Job → Type 0
@@ -48,3 +49,12 @@ NeverRefused (Ok value) = Unit {0}
 NeverRefused (Err (input.Refused refusal)) = ⊥
 NeverRefused (Err input.ReadFault) = Unit {0}
 NeverRefused (Err input.Memory) = Unit {0}
+
+-- A batch that is asked for, in the form of the code.
+-- the batch; of its settling only the rounds are part of a definition
+abbrev pub batch_by : BatchOrder → AskedBatch
+batch_by a = record { limits = a.limits; list = a.list.now; digits = a.digits; rounds = a.rounds; quick = a.quick }
+
+-- the ranges of its numbers
+abbrev pub IsBatchOrder : BatchOrder → Type 0
+IsBatchOrder a = (a.digits ≤ 18) × (1 ≤ a.workers) × (a.workers ≤ 64)

@@ -1,20 +1,18 @@
 -- What a batch puts, how it ends, and which end is certain.
 use Rattle.std.specs.Prelude.{◌≡◌, ◌⊎◌, ℕ, List, false, Ok, Option, All, IfOk, MatchOption}
-use Rattle.outside.specs.Counts.{Rose}
+use Rattle.outside.specs.Puts.{Rose, Put}
 use Rattle.outside.specs.Files.{FileSet}
-use Rattle.outside.specs.Puts.{Put}
 use Rattle.step_problem.specs.declared.place.NoBound.{NoBound}
 use Rattle.model_types.specs.declared.model.FlowModel.{FlowModel}
 use Rattle.model_types.specs.declared.time_steps.TimeStep.{TimeStep}
 use Rattle.model_reader.specs.Model.{reads}
-use Rattle.run_puts.specs.Lines.{Text}
-use Rattle.run_puts.specs.Runs.{IsRun, NeverCut}
-use Rattle.run_puts.specs.Agreement.{IsUnfinished}
-use Rattle.run_puts.specs.declared.status.Status.{Status}
-use Rattle.run_puts.specs.declared.status.Status.TheVariants as status
+use Rattle.run_puts.specs.Runs.{Text, IsRun, NeverCut}
+use Rattle.run_puts.specs.Statuses.{IsUnfinished}
+use Rattle.run_puts.specs.declared.puts.Status.{Status}
+use Rattle.run_puts.specs.declared.puts.Status.TheVariants as status
 use Rattle.deck_problems.specs.Decks.{AreDecks}
-use Rattle.listing_run.specs.declared.step.Step.{Step}
-use Rattle.listing_run.specs.declared.listing_end.ListingEnd.TheVariants as ends
+use Rattle.listing_run.specs.declared.solving.Step.{Step}
+use Rattle.listing_run.specs.declared.text.ListingEnd.TheVariants as ends
 use Rattle.listing_run.specs.Steps.{AllSteps}
 use Rattle.engine.specs.declared.job.Job.{Job}
 use Rattle.engine.specs.Defined.{IsDue}

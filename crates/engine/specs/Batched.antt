@@ -3,23 +3,22 @@ use Rattle.std.specs.Prelude.{◌≡◌, ℕ, ℤ, List, false, [], ◌∷◌, �
 use Rattle.std.specs.List.{AllZip, concat}
 use Rattle.std.specs.Io.KnownBytes.{Appends}
 use Rattle.outside.specs.Files.{FileSet}
-use Rattle.outside.specs.declared.refusals.Refusal.{Refusal}
+use Rattle.outside.specs.declared.inputs.Refusal.{Refusal}
 use Rattle.model_types.specs.declared.model.FlowModel.{FlowModel}
 use Rattle.model_types.specs.Heads.{start_head}
 use Rattle.model_types.specs.Valid.{IsModel}
 use Rattle.model_reader.specs.Model.{reads}
 use Rattle.flow_equations.specs.Histories.{Solves}
-use Rattle.run_puts.specs.Lines.{Text, end_line}
-use Rattle.run_puts.specs.declared.status.Status.{Status}
-use Rattle.run_puts.specs.declared.status.Status.TheVariants as status
-use Rattle.listing_run.specs.declared.step.Step.{Step}
-use Rattle.listing_run.specs.declared.listing_end.ListingEnd.TheVariants.{Whole}
+use Rattle.run_puts.specs.Runs.{Text, end_line}
+use Rattle.run_puts.specs.declared.puts.Status.{Status}
+use Rattle.run_puts.specs.declared.puts.Status.TheVariants as status
+use Rattle.listing_run.specs.declared.solving.Step.{Step}
+use Rattle.listing_run.specs.declared.text.ListingEnd.TheVariants.{Whole}
 use Rattle.listing_run.specs.Steps.{AllSteps}
-use Rattle.listing_run.specs.Listing.{listing}
-use Rattle.listing_run.specs.Bounding.{BoundAll}
+use Rattle.listing_run.specs.Listing.{listing, BoundAll}
 use Rattle.exact_histories.specs.Histories.{HasHistory, AreSame}
 use Rattle.batch_puts.specs.declared.job_end.JobEnd.{JobEnd}
-use Rattle.batch_puts.specs.Ended.{first_not_ok, texts}
+use Rattle.batch_puts.specs.Batches.{first_not_ok, texts}
 use Rattle.engine.specs.Batches.{AskedBatch, IsJobEnd, batch_asked, job_of, job_task, model_line, names_read}
 
 -- The text of a name is a listing that its files define, and without --quick the one; and every history of heads that solves

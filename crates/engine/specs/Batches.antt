@@ -3,17 +3,17 @@ use Rattle.std.specs.Prelude.{◌≡◌, ℕ, Bool, List, [], ◌∷◌, ◌++�
 use Rattle.std.specs.List.{concat}
 use Rattle.outside.specs.Files.{FileSet}
 use Rattle.outside.specs.Inputs.{file_at}
-use Rattle.outside.specs.declared.refusals.Refusal.{Refusal}
+use Rattle.outside.specs.declared.inputs.Refusal.{Refusal}
 use Rattle.command_line.specs.Wants.{Wanted, Batches, wanted_of}
 use Rattle.model_types.specs.declared.limits.Limits.{Limits}
 use Rattle.model_types.specs.declared.model.FlowModel.{FlowModel}
 use Rattle.model_types.specs.Valid.{IsModel}
 use Rattle.model_reader.specs.Model.{reads}
 use Rattle.listing_io.specs.LastLines.{refused_line}
-use Rattle.run_puts.specs.Lines.{Text}
-use Rattle.run_puts.specs.declared.status.Status.{Status}
-use Rattle.run_puts.specs.declared.status.Status.TheVariants as status
-use Rattle.listing_run.specs.declared.task.Task.{Task}
+use Rattle.run_puts.specs.Runs.{Text}
+use Rattle.run_puts.specs.declared.puts.Status.{Status}
+use Rattle.run_puts.specs.declared.puts.Status.TheVariants as status
+use Rattle.listing_run.specs.declared.steps.Task.{Task}
 use Rattle.listing_run.specs.Tasks.{one_task}
 use Rattle.batch_list.specs.Names.{names_in}
 use Rattle.batch_puts.specs.declared.job_end.JobEnd.{JobEnd}

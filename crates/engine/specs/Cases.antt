@@ -5,7 +5,7 @@ use Rattle.model_types.specs.Limits.{most_bytes}
 use Rattle.outside.specs.Inputs.{file_at, file_refusal}
 use Rattle.outside.specs.Names.{is_good_name}
 use Rattle.outside.specs.declared.codes.Code.TheVariants.{BadName}
-use Rattle.outside.specs.declared.refusals.Refusal.{Refusal}
+use Rattle.outside.specs.declared.inputs.Refusal.{Refusal}
 use Rattle.command_line.specs.Wants.{Wanted, Lists, ListsTo, Checks, ChecksTo, Makes, Writes, wanted_of}
 use Rattle.model_types.specs.declared.limits.Limits.{Limits}
 use Rattle.model_types.specs.declared.limits.Limits.TheVariants.{Plain, Wide}
@@ -14,13 +14,12 @@ use Rattle.model_types.specs.Valid.{IsModel}
 use Rattle.model_reader.specs.Model.{reads}
 use Rattle.zone_file.specs.Zones.{zones_of}
 use Rattle.model_maker.specs.Files.{made_files, made_name}
-use Rattle.zone_pairs.specs.Pairs.{pairs_in}
+use Rattle.zone_pairs.specs.Pairs.{pairs_in, AreZonesOf}
 use Rattle.listing_io.specs.declared.listing.ListedStep.{ListedStep}
-use Rattle.listing_io.specs.Listed.{AreListed}
+use Rattle.listing_io.specs.Laws.{AreListed}
 use Rattle.listing_io.specs.Reading.{listing_in}
-use Rattle.run_puts.specs.Lines.{Text}
-use Rattle.listing_run.specs.declared.task.Task.{Task}
-use Rattle.zone_pairs.specs.Zones.{AreZonesOf}
+use Rattle.run_puts.specs.Runs.{Text}
+use Rattle.listing_run.specs.declared.steps.Task.{Task}
 use Rattle.deck_span.specs.Alike.{AreAlike}
 use Rattle.deck_problems.specs.declared.decks.Decks.{Decks}
 use Rattle.deck_problems.specs.Decks.{one_deck}

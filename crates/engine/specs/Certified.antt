@@ -9,8 +9,8 @@ use Rattle.model_types.specs.Valid.{IsModel}
 use Rattle.model_reader.specs.Model.{reads}
 use Rattle.flow_equations.specs.Histories.{Solves}
 use Rattle.listing_io.specs.declared.listing.ListedStep.{ListedStep}
-use Rattle.run_puts.specs.Lines.{Text}
-use Rattle.listing_run.specs.Bounding.{BoundAll}
+use Rattle.run_puts.specs.Runs.{Text}
+use Rattle.listing_run.specs.Listing.{BoundAll}
 use Rattle.deck_problems.specs.Decks.{one_deck}
 use Rattle.check_run.specs.Verdicts.{checked_task, steps_of}
 use Rattle.exact_histories.specs.Histories.{HasHistory, AreSame}

@@ -7,7 +7,7 @@ use Rattle.engine.specs.declared.asked.Asked.{Asked as AskedBy}
 use Rattle.engine.specs.declared.asked.AskedCheck.{AskedCheck as AskedCheckBy}
 use Rattle.engine.specs.declared.asked.Command.{Command as CommandBy}
 use Rattle.engine.specs.declared.asked.Command.TheVariants as command
-use Rattle.run_puts.specs.Lines.{Text}
+use Rattle.run_puts.specs.Runs.{Text}
 use Rattle.engine.specs.Cases.{Asked, AskedCheck, Command, Run, Span, Make, Check, CheckSpan, Write}
 
 -- the listing that is asked for; of how it is settled only the rounds are part of a definition

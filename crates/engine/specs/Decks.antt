@@ -6,10 +6,10 @@ use Rattle.model_types.specs.declared.limits.Limits.{Limits}
 use Rattle.model_types.specs.declared.model.FlowModel.{FlowModel}
 use Rattle.model_types.specs.Valid.{IsModel}
 use Rattle.model_reader.specs.Model.{reads}
-use Rattle.model_text.specs.Decks.{deck_text, IsReadAgain}
-use Rattle.run_puts.specs.Lines.{Text}
-use Rattle.run_puts.specs.declared.status.Status.{Status}
-use Rattle.run_puts.specs.declared.status.Status.TheVariants as status
+use Rattle.model_text.specs.Written.{deck_text, IsReadAgain}
+use Rattle.run_puts.specs.Runs.{Text}
+use Rattle.run_puts.specs.declared.puts.Status.{Status}
+use Rattle.run_puts.specs.declared.puts.Status.TheVariants as status
 use Rattle.engine.specs.Cases.{Write, asked_in}
 
 -- The writing of a model's deck ends Ok, and its text is one piece.

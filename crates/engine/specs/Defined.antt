@@ -1,10 +1,10 @@
 -- The end and the pieces that a case defines.
 use Rattle.std.specs.Prelude.{◌≡◌, ◌⊎◌, List, [], ◌∷◌}
-use Rattle.command_line.specs.Usage.{usage_line}
+use Rattle.command_line.specs.Commands.{usage_line}
 use Rattle.listing_io.specs.LastLines.{refused_line}
-use Rattle.run_puts.specs.Lines.{Text, read_fault_line}
-use Rattle.run_puts.specs.declared.status.Status.{Status}
-use Rattle.run_puts.specs.declared.status.Status.TheVariants as status
+use Rattle.run_puts.specs.Runs.{Text, read_fault_line}
+use Rattle.run_puts.specs.declared.puts.Status.{Status}
+use Rattle.run_puts.specs.declared.puts.Status.TheVariants as status
 use Rattle.listing_run.specs.Listing.{IsListing, IsCutListing}
 use Rattle.engine.specs.Cases.{Case, NoWords, Refuses, Listing, Making, Checking, Writing, Comparing}
 use Rattle.deck_span.specs.Alike.{AreAlike}

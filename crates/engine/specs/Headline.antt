@@ -8,10 +8,9 @@ use Rattle.model_types.specs.Heads.{start_head}
 use Rattle.model_types.specs.Valid.{IsModel}
 use Rattle.model_reader.specs.Model.{reads}
 use Rattle.flow_equations.specs.Histories.{Solves}
-use Rattle.run_puts.specs.Lines.{Text, end_line}
-use Rattle.listing_run.specs.declared.step.Step.{Step}
-use Rattle.listing_run.specs.Listing.{listing}
-use Rattle.listing_run.specs.Bounding.{BoundAll}
+use Rattle.run_puts.specs.Runs.{Text, end_line}
+use Rattle.listing_run.specs.declared.solving.Step.{Step}
+use Rattle.listing_run.specs.Listing.{listing, BoundAll}
 use Rattle.exact_histories.specs.Histories.{HasHistory, AreSame}
 use Rattle.engine.specs.Cases.{Asked, Run, asked_in, task_of, zones_read}
 

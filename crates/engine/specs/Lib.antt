@@ -18,6 +18,4 @@ pub mod Serving
 pub mod Batches
 pub mod BatchRuns
 pub mod Batched
-pub mod BatchCommands
 pub mod BatchReads
-pub mod Asking

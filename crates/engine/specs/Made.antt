@@ -3,7 +3,7 @@ use Rattle.outside.specs.Files.{with_limit}
 use Rattle.model_types.specs.Limits.{most_bytes}
 use Rattle.std.specs.Prelude.{◌≡◌, ℕ, ℤ, false, List, [], ◌∷◌, Ok, Err, Option, Some, None, Result}
 use Rattle.std.specs.Io.KnownBytes.{Appends}
-use Rattle.outside.specs.declared.refusals.Refusal.{Refusal}
+use Rattle.outside.specs.declared.inputs.Refusal.{Refusal}
 use Rattle.model_types.specs.declared.limits.Limits.TheVariants.{Plain}
 use Rattle.model_types.specs.declared.grid.Grid.{Grid}
 use Rattle.model_types.specs.declared.model.FlowModel.{FlowModel}
@@ -13,18 +13,16 @@ use Rattle.model_maker.specs.Files.{made_files, made_name}
 use Rattle.model_reader.specs.Model.{reads}
 use Rattle.flow_equations.specs.Histories.{Solves}
 use Rattle.listing_io.specs.LastLines.{refused_line}
-use Rattle.run_puts.specs.Lines.{Text}
-use Rattle.run_puts.specs.declared.status.Status.{Status}
-use Rattle.run_puts.specs.declared.status.Status.TheVariants as status
-use Rattle.listing_run.specs.declared.listing_end.ListingEnd.{ListingEnd}
-use Rattle.listing_run.specs.declared.listing_end.ListingEnd.TheVariants as ends
-use Rattle.listing_run.specs.declared.task.Task.{Task}
-use Rattle.listing_run.specs.declared.step.Step.{Step}
-use Rattle.listing_run.specs.Bounding.{BoundAll}
-use Rattle.listing_run.specs.Listing.{IsListing, last_line}
+use Rattle.run_puts.specs.Runs.{Text}
+use Rattle.run_puts.specs.declared.puts.Status.{Status}
+use Rattle.run_puts.specs.declared.puts.Status.TheVariants as status
+use Rattle.listing_run.specs.declared.text.ListingEnd.{ListingEnd}
+use Rattle.listing_run.specs.declared.text.ListingEnd.TheVariants as ends
+use Rattle.listing_run.specs.declared.steps.Task.{Task}
+use Rattle.listing_run.specs.declared.solving.Step.{Step}
+use Rattle.listing_run.specs.Listing.{BoundAll, IsListing, last_line}
 use Rattle.listing_summary.specs.declared.summary.Summary.{Summary}
-use Rattle.listing_summary.specs.Summaries.{summary_of}
-use Rattle.listing_summary.specs.Texts.{summary_text}
+use Rattle.listing_summary.specs.Summaries.{summary_of, summary_text}
 use Rattle.exact_histories.specs.Histories.{HasHistory, AreSame}
 use Rattle.engine.specs.Cases.{asked_in, task_of, Make}
 

@@ -10,14 +10,12 @@ use Rattle.model_types.specs.Valid.{IsModel}
 use Rattle.model_maker.specs.Files.{made_files, made_name}
 use Rattle.model_reader.specs.Model.{reads}
 use Rattle.listing_io.specs.declared.listing.ListedStep.{ListedStep}
-use Rattle.run_puts.specs.Lines.{Text, end_line}
-use Rattle.listing_run.specs.declared.step.Step.{Step}
-use Rattle.listing_run.specs.declared.listing_end.ListingEnd.TheVariants.{Whole}
+use Rattle.run_puts.specs.Runs.{Text, end_line}
+use Rattle.listing_run.specs.declared.solving.Step.{Step}
+use Rattle.listing_run.specs.declared.text.ListingEnd.TheVariants.{Whole}
 use Rattle.listing_run.specs.Steps.{AllSteps}
-use Rattle.listing_run.specs.Bounding.{EnclosesHistories}
-use Rattle.listing_run.specs.Listing.{listing}
-use Rattle.listing_summary.specs.Summaries.{summary_of}
-use Rattle.listing_summary.specs.Texts.{summary_text}
+use Rattle.listing_run.specs.Listing.{EnclosesHistories, listing}
+use Rattle.listing_summary.specs.Summaries.{summary_of, summary_text}
 use Rattle.check_run.specs.declared.verdict.ListingVerdict.TheVariants.{Certified as Holds}
 use Rattle.deck_problems.specs.Decks.{one_deck}
 use Rattle.check_run.specs.Verdicts.{IsVerdict}

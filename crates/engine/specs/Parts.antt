@@ -1,23 +1,21 @@
 -- What the parts of a run return and put.
 use Rattle.std.specs.Prelude.{◌≡◌, ◌⊎◌, ℕ, ℤ, Bool, List, map, unsigned_abs, Result, Option, Some, None, IfOk, IfSome, codes, option_map}
-use Rattle.outside.specs.Counts.{Rose}
+use Rattle.outside.specs.Puts.{Rose, Put}
 use Rattle.outside.specs.Files.{FileSet}
-use Rattle.outside.specs.Puts.{Put}
 use Rattle.outside.specs.Inputs.{IsReading, file_refusal}
 use Rattle.outside.specs.declared.codes.Code.TheVariants.{BadName}
-use Rattle.outside.specs.declared.refusals.Refusal.{Refusal}
-use Rattle.outside.specs.declared.refusals.InputFault.{InputFault}
-use Rattle.outside.specs.declared.refusals.InputFault.TheVariants as input
+use Rattle.outside.specs.declared.inputs.Refusal.{Refusal}
+use Rattle.outside.specs.declared.inputs.InputFault.{InputFault}
+use Rattle.outside.specs.declared.inputs.InputFault.TheVariants as input
 use Rattle.model_types.specs.declared.limits.Limits.{Limits}
 use Rattle.model_types.specs.declared.model.FlowModel.{FlowModel}
 use Rattle.model_types.specs.Valid.{IsModel}
 use Rattle.model_reader.specs.Model.{reads}
 use Rattle.listing_io.specs.declared.listing.ListedStep.{ListedStep}
-use Rattle.listing_io.specs.Listed.{AreListed}
-use Rattle.zone_pairs.specs.Pairs.{pairs_in}
+use Rattle.listing_io.specs.Laws.{AreListed}
+use Rattle.zone_pairs.specs.Pairs.{pairs_in, AreZones, AreZonesOf}
 use Rattle.engine.specs.declared.zoned.ZonedListing.{ZonedListing}
 use Rattle.listing_io.specs.LastLines.{refused_line}
-use Rattle.zone_pairs.specs.Zones.{AreZones, AreZonesOf}
 use Rattle.deck_problems.specs.Decks.{AreDecks}
 use Rattle.deck_problems.specs.declared.decks.Decks.{Decks}
 use Rattle.deck_span.specs.Alike.{AreAlike}
@@ -26,11 +24,9 @@ use Rattle.engine.specs.TwoDecks.{AreDecksRead, Second, not_alike, second_in}
 use Rattle.deck_alike.specs.declared.difference.Difference.{Difference}
 use Rattle.deck_alike.specs.Differences.{IsFirstDifference}
 use Rattle.step_chain.specs.Steps.{two}
-use Rattle.run_puts.specs.Ends.{IsEnd, IsLast, IsWanting}
-use Rattle.run_puts.specs.Lines.{Text, read_fault_line}
-use Rattle.run_puts.specs.Runs.{IsRun, NeverCut}
-use Rattle.run_puts.specs.declared.status.Status.{Status}
-use Rattle.run_puts.specs.declared.status.Status.TheVariants as status
+use Rattle.run_puts.specs.Runs.{IsEnd, IsLast, IsWanting, Text, read_fault_line, IsRun, NeverCut}
+use Rattle.run_puts.specs.declared.puts.Status.{Status}
+use Rattle.run_puts.specs.declared.puts.Status.TheVariants as status
 use Rattle.engine.specs.Cases.{AskedCheck, Case, Listing, Making, Checking, Writing, Comparing, CouldList, IsCase, listing_read, made_model, named, steps_read, zoned_steps, zones_named, zones_read}
 use Rattle.engine.specs.Made.{IsMade}
 use Rattle.engine.specs.Runs.{IsLeft, IsRunOf}

@@ -1,20 +1,62 @@
 -- How a program ends that runs its words and ends with the number of the run's status.
-use Rattle.std.specs.Prelude.{◌≡◌, ◌⊎◌, ℕ, List, IfSome, Option, Some}
+use Rattle.std.specs.Prelude.{◌≡◌, ◌⊎◌, ℕ, List, IfSome, Option, Some, [], ◌∷◌, None}
 use Rattle.outside.specs.Files.{FileSet}
 use Rattle.outside.specs.Puts.{Put, Seen}
-use Rattle.run_puts.specs.Lines.{Text}
+use Rattle.run_puts.specs.Runs.{Text}
 use Rattle.run_puts.specs.Statuses.{code_of}
-use Rattle.run_puts.specs.declared.status.Status.{Status}
+use Rattle.run_puts.specs.declared.puts.Status.{Status}
 use Rattle.engine.specs.Certified.{Certified}
 use Rattle.engine.specs.Decks.{OneDeck}
 use Rattle.engine.specs.Headline.{Headline}
 use Rattle.engine.specs.Made.{Made}
 use Rattle.engine.specs.OneListing.{OneListing, OneSummary, OneVerdict}
 use Rattle.engine.specs.SpanHeadline.{OneSpan, SpanCertified, SpanHeadline, SpanVerdict}
-use Rattle.engine.specs.Asking.{bytes_asked}
 use Rattle.engine.specs.BatchRuns.{AnyPuts}
 use Rattle.engine.specs.Batched.{Batched, HasNoList}
 use Rattle.engine.specs.Batches.{AskedBatch, batch_asked}
+use Rattle.model_types.specs.Limits.{most_bytes}
+use Rattle.model_types.specs.declared.limits.Limits.{Limits}
+use Rattle.model_types.specs.declared.limits.Limits.TheVariants.{Plain}
+use Rattle.command_line.specs.Wants.{Wanted, Lists, ListsTo, Checks, ChecksTo, Makes, Batches, Writes, wanted_of}
+use Rattle.engine.specs.Cases.{limits_of}
+
+-- The files that the words name, and how many bytes of one are read.
+-- the name file of a run, the second one if there is one, and its zone file if there is one; the same of a check, and its
+-- listing; the list of a batch; the name file of a deck
+abbrev pub files_of : Wanted → List Text
+files_of (Lists name digits workers rounds None turns quick wide) = name ∷ []
+files_of (Lists name digits workers rounds (Some zones) turns quick wide) = name ∷ zones ∷ []
+files_of (ListsTo name to digits workers rounds None turns quick wide) = name ∷ to ∷ []
+files_of (ListsTo name to digits workers rounds (Some zones) turns quick wide) = name ∷ to ∷ zones ∷ []
+files_of (Checks name listing digits None wide) = name ∷ listing ∷ []
+files_of (Checks name listing digits (Some zones) wide) = name ∷ zones ∷ listing ∷ []
+files_of (ChecksTo name to listing digits None wide) = name ∷ to ∷ listing ∷ []
+files_of (ChecksTo name to listing digits (Some zones) wide) = name ∷ to ∷ zones ∷ listing ∷ []
+files_of (Makes seed size) = []
+files_of (Batches list digits workers rounds quick wide) = list ∷ []
+files_of (Writes name wide) = name ∷ []
+
+abbrev pub files_if : Option Wanted → List Text
+files_if None = []
+files_if (Some wanted) = files_of wanted
+
+-- what the words name, if they are accepted
+abbrev pub files_named : List Text → List Text
+files_named words = files_if (wanted_of words)
+
+-- the limits that are asked for
+abbrev pub limits_asked : Option Wanted → Limits
+limits_asked (Some (Lists name digits workers rounds zones turns quick wide)) = limits_of wide
+limits_asked (Some (ListsTo name to digits workers rounds zones turns quick wide)) = limits_of wide
+limits_asked (Some (Checks name listing digits zones wide)) = limits_of wide
+limits_asked (Some (ChecksTo name to listing digits zones wide)) = limits_of wide
+limits_asked (Some (Batches list digits workers rounds quick wide)) = limits_of wide
+limits_asked (Some (Writes name wide)) = limits_of wide
+limits_asked other = Plain
+
+-- how many bytes of a file are read
+abbrev pub bytes_asked : List Text → ℕ
+bytes_asked words = most_bytes (limits_asked (wanted_of words))
 
 -- The headline: of a listing, of a made model whose listing is summed up, of a listing that was checked, of a deck, of a
 -- listing of two decks, of the check of one, or of each listing of a batch.

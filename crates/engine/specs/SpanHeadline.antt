@@ -10,16 +10,15 @@ use Rattle.model_types.specs.Times.{times}
 use Rattle.model_types.specs.Valid.{IsModel}
 use Rattle.model_reader.specs.Model.{reads}
 use Rattle.deck_span.specs.Alike.{AreAlike}
-use Rattle.deck_span.specs.Histories.{SolvesBetween}
+use Rattle.deck_span.specs.Models.{SolvesBetween}
 use Rattle.step_chain.specs.Steps.{two}
 use Rattle.exact_histories.specs.Decks.{ChoicesHaveOne}
 use Rattle.listing_io.specs.declared.listing.ListedStep.{ListedStep}
-use Rattle.run_puts.specs.Lines.{Text, end_line}
-use Rattle.listing_run.specs.declared.step.Step.{Step}
-use Rattle.listing_run.specs.declared.listing_end.ListingEnd.TheVariants.{Whole}
-use Rattle.listing_run.specs.Listing.{listing}
+use Rattle.run_puts.specs.Runs.{Text, end_line}
+use Rattle.listing_run.specs.declared.solving.Step.{Step}
+use Rattle.listing_run.specs.declared.text.ListingEnd.TheVariants.{Whole}
+use Rattle.listing_run.specs.Listing.{listing, BoundBetween, EnclosesHistories}
 use Rattle.listing_run.specs.Steps.{AllSteps}
-use Rattle.listing_run.specs.Bounding.{BoundBetween, EnclosesHistories}
 use Rattle.check_run.specs.declared.verdict.ListingVerdict.TheVariants.{Certified as Holds}
 use Rattle.check_run.specs.Verdicts.{IsVerdict, checked_task, steps_of}
 use Rattle.engine.specs.Cases.{AskedSpan, AskedSpanCheck, CheckSpan, Span, asked_in, span_task_of, steps_read, zones_read}

@@ -10,14 +10,14 @@ use Rattle.command_line.specs.Wants.{Wanted, Lists, ListsTo, wanted_of}
 use Rattle.model_types.specs.declared.grid.Grid.{Grid}
 use Rattle.model_types.specs.declared.time_steps.TimeStep.{TimeStep}
 use Rattle.model_types.specs.Times.{times}
-use Rattle.deck_problems.specs.StartHeads.{AreStartHeadsFor}
+use Rattle.deck_problems.specs.ConstantHeads.{AreStartHeadsFor}
 use Rattle.settle_driver.specs.Views.{AddsPhases, EnclosesPair}
 use Rattle.step_chain.specs.Barriers.{edges_by}
 use Rattle.step_chain.specs.Steps.{IsPosed}
-use Rattle.listing_io.specs.Views.{view_text}
-use Rattle.run_puts.specs.Lines.{Text}
-use Rattle.listing_run.specs.declared.task.Task.{Task}
-use Rattle.listing_run.specs.declared.step.Step.{Step}
+use Rattle.listing_io.specs.Listing.{view_text}
+use Rattle.run_puts.specs.Runs.{Text}
+use Rattle.listing_run.specs.declared.steps.Task.{Task}
+use Rattle.listing_run.specs.declared.solving.Step.{Step}
 use Rattle.listing_run.specs.Listing.{time}
 use Rattle.listing_run.specs.Settlers.{EnclosesSolutions}
 use Rattle.listing_run.specs.Steps.{IsStep}

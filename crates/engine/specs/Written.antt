@@ -7,12 +7,12 @@ use Rattle.model_types.specs.declared.limits.Limits.{Limits}
 use Rattle.model_types.specs.declared.model.FlowModel.{FlowModel}
 use Rattle.model_types.specs.Valid.{IsModel}
 use Rattle.model_reader.specs.Model.{reads}
-use Rattle.zone_pairs.specs.Zones.{AreNumbers}
+use Rattle.zone_pairs.specs.Pairs.{AreNumbers}
 use Rattle.deck_problems.specs.Decks.{AreDecks}
 use Rattle.step_chain.specs.Steps.{two}
-use Rattle.run_puts.specs.Lines.{Text}
-use Rattle.run_puts.specs.declared.status.Status.TheVariants as status
-use Rattle.listing_run.specs.declared.task.Task.{Task}
+use Rattle.run_puts.specs.Runs.{Text}
+use Rattle.run_puts.specs.declared.puts.Status.TheVariants as status
+use Rattle.listing_run.specs.declared.steps.Task.{Task}
 use Rattle.listing_run.specs.Tasks.{deck_task, one_task}
 use Rattle.engine.specs.Cases.{AskedCheck, AskedSpanCheck, Check, CheckSpan, Listing, asked_in, case_of, named, span_task_of, task_of, zones_read}
 use Rattle.engine.specs.Checked.{certified_line}

@@ -1,6 +1,6 @@
 // Whether the words ask for a batch.
 ghost use Rattle.std.specs.Prelude.{◌≡◌, map, option_map, IfOk, IfSome};
-ghost use Rattle.engine.specs.BatchCommands.{batch_by, IsBatchOrder};
+ghost use Rattle.engine.specs.BatchReads.{batch_by, IsBatchOrder};
 ghost use Rattle.engine.specs.Batches.{batch_asked, batch_of};
 ghost use Rattle.command_line.specs.Ranges.{IsInRange};
 ghost use Rattle.command_line.specs.Wants.{wanted};

@@ -1,31 +1,29 @@
 // A batch of models.
-ghost use Rattle.std.specs.Prelude.{◌≡◌, ◌≤◌, List, ◌++◌, length, map, IfSome, None, Option};
-ghost use Rattle.outside.specs.Asking.{WordsMay};
-ghost use Rattle.outside.specs.Names.{folder_name};
-ghost use Rattle.engine.specs.Asking.{files_named};
+ghost use Rattle.std.specs.Prelude.{◌≡◌, ◌≤◌, List, ◌++◌, length, map, IfSome, None, Option, ◌<◌, ◌^◌, slice_get};
+ghost use Rattle.outside.specs.Names.{WordsMay, folder_name};
+ghost use Rattle.engine.specs.Serving.{files_named};
 ghost use Rattle.outside.specs.Files.{FileSet};
-ghost use Rattle.outside.specs.Puts.{Put};
+ghost use Rattle.outside.specs.Puts.{Put, Rose};
 ghost use Rattle.run_puts.specs.Runs.{IsRun, NeverCut};
 ghost use Rattle.batch_puts.specs.Batches.{IsBatch};
-ghost use Rattle.engine.specs.BatchCommands.{batch_by, IsBatchOrder};
-ghost use Rattle.engine.specs.BatchReads.{AreTasks};
+ghost use Rattle.engine.specs.BatchReads.{batch_by, IsBatchOrder, AreTasks};
 ghost use Rattle.engine.specs.BatchRuns.{AnyAnswers, BatchAnswers};
 ghost use Rattle.engine.specs.Batches.{IsJobEnd, batch_asked};
 ghost use Rattle.engine.specs.Cases.{asked_in, ReadsNothing};
 ghost use Rattle.engine.specs.Watched.{SidePuts, views_in};
-ghost use Rattle.outside.specs.Counts.{Rose};
+ghost use Rattle.engine.specs.declared.job.Job.{Job as JobRead};
 
 use crate::asked_batch::{BatchOrder, asked_batch};
-use crate::batch_jobs::ReadJobs;
 use crate::batch_reading::read_batch;
 use crate::ending::end_reading;
-use crate::job::Job;
+use crate::job::{Job, end_of_job};
 use crate::running::answer;
-use batch_book::run_batch;
-use batch_puts::put_ends;
+use batch_book::{Jobs, run_batch};
+use batch_puts::{JobEnd, put_ends};
 use outside::{Folder, Gate, Sink};
 use run_puts::{Status, put_memory};
 use std::alloc::{AllocError, Global};
+use std::marker::Model;
 use std::sync::Wait;
 use std::thread::Threads;
 
@@ -105,5 +103,47 @@ pub(crate) fn answer_any<
         Ok(Some(asked)) => put_batch(rt, alloc, asked, folder, out, gate),
         Ok(None) => answer(rt, alloc, words, folder, out, side, gate),
         Err(AllocError) => put_memory(out),
+    }
+}
+
+// The jobs of a batch, as workers run them.
+
+/// Jobs whose models are valid. Clauses see the jobs.
+#[derive(Drop)]
+pub(crate) struct ReadJobs<'a> {
+    jobs: &'a [Job],
+}
+
+impl<'a> Model for ReadJobs<'a> {
+    ghost Value = { List JobRead };
+
+    ghost view = { λ b. b.jobs.now };
+
+    ghost invariant = { λ b. (length b.jobs.now < 2 ^ 32) × AreTasks b.jobs.now };
+}
+
+impl<'a> ReadJobs<'a> {
+    pub(crate) fn new(jobs: &'a [Job]) -> ReadJobs<'a>
+        requires few { length jobs.now ≤ 1000 }
+        requires tasks { AreTasks jobs.now }
+        ensures { result ≡ jobs.entry.now }
+    {
+        ReadJobs { jobs }
+    }
+}
+
+impl<'a> Jobs for ReadJobs<'a> {
+    type End = JobEnd;
+
+    ghost number = { λ s. length s };
+
+    ghost is_end = { λ s i e. IfSome (slice_get s i) (λ job. IsJobEnd job e) };
+
+    fn count(&self) -> u32 {
+        self.jobs.len() as u32
+    }
+
+    fn end_of(&self, alloc: Global, job: u32) -> Result<JobEnd, AllocError> {
+        end_of_job(alloc, &self.jobs[job as usize])
     }
 }

@@ -4,7 +4,6 @@
 mod asked;
 mod asked_batch;
 mod asked_files;
-mod batch_jobs;
 mod batch_reading;
 mod batching;
 mod checking;
@@ -16,7 +15,6 @@ mod listing;
 mod making;
 mod reading;
 mod running;
-mod serving;
 mod two_decks;
 mod verdict;
 mod view_lines;
@@ -25,7 +23,6 @@ mod writing;
 pub mod zoned;
 
 pub use asked_files::{bytes_asked, files_named};
-pub use commands::run;
+pub use commands::{run, serve};
 pub use run_puts::Status;
 pub use running::run_one;
-pub use serving::serve;

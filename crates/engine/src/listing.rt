@@ -1,7 +1,6 @@
 // A listing by workers in threads.
 ghost use Rattle.std.specs.Prelude.{◌≡◌, List, ◌++◌, IfSome, None, false};
-ghost use Rattle.outside.specs.Counts.{Rose};
-ghost use Rattle.outside.specs.Puts.{Put};
+ghost use Rattle.outside.specs.Puts.{Rose, Put};
 ghost use Rattle.run_puts.specs.Runs.{IsRun};
 ghost use Rattle.step_problem.specs.Heads.{IsBarrier};
 ghost use Rattle.step_problem.specs.Settling.{Settles};

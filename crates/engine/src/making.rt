@@ -5,7 +5,7 @@ ghost use Rattle.step_problem.specs.Heads.{IsBarrier};
 ghost use Rattle.step_problem.specs.Settling.{Settles};
 ghost use Rattle.model_types.specs.Valid.{IsModel};
 ghost use Rattle.listing_run.specs.Ends.{IsTask};
-ghost use Rattle.listing_summary.specs.Ends.{IsSummarized};
+ghost use Rattle.listing_summary.specs.Summaries.{IsSummarized};
 ghost use Rattle.engine.specs.Cases.{made_model};
 ghost use Rattle.engine.specs.Commands.{IsMakeable};
 ghost use Rattle.engine.specs.Made.{summed_text};

@@ -4,7 +4,7 @@ ghost use Rattle.outside.specs.Names.{folder_name};
 ghost use Rattle.outside.specs.Files.{FileSet};
 ghost use Rattle.outside.specs.Folders.{ReadsOn};
 ghost use Rattle.model_types.specs.Valid.{IsModel};
-ghost use Rattle.zone_pairs.specs.Zones.{AreZones};
+ghost use Rattle.zone_pairs.specs.Pairs.{AreZones};
 ghost use Rattle.engine.specs.Parts.{AreZonesAs, IsNamedFault, IsReadAs};
 
 use model_reader::read_named_model;

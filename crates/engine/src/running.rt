@@ -1,13 +1,11 @@
 ghost use Rattle.std.specs.Prelude.{◌≡◌, ◌⊎◌, ℕ, List, ◌++◌, map, IfSome, Ok, Option, Some};
-ghost use Rattle.outside.specs.Asking.{WordsMay};
-ghost use Rattle.outside.specs.Names.{folder_name};
-ghost use Rattle.engine.specs.Asking.{files_named};
+ghost use Rattle.outside.specs.Names.{WordsMay, folder_name};
+ghost use Rattle.engine.specs.Serving.{files_named};
 ghost use Rattle.outside.specs.Files.{FileSet};
-ghost use Rattle.outside.specs.Puts.{Put};
-ghost use Rattle.outside.specs.Counts.{Rose};
+ghost use Rattle.outside.specs.Puts.{Put, Rose};
 ghost use Rattle.run_puts.specs.Runs.{IsRun};
 ghost use Rattle.listing_run.specs.Listing.{IsListingBeside, IsCutListing};
-ghost use Rattle.zone_pairs.specs.Zones.{AreZones};
+ghost use Rattle.zone_pairs.specs.Pairs.{AreZones};
 ghost use Rattle.engine.specs.Headline.{Headline};
 ghost use Rattle.engine.specs.Runs.{Puts, Decided, Comes};
 ghost use Rattle.engine.specs.Cases.{asked_in, decks_task, AskedCheck, AskedSpanCheck, Check, CheckSpan, Make, ReadsNothing};

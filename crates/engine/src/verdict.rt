@@ -2,7 +2,7 @@
 ghost use Rattle.std.specs.Prelude.{◌≡◌, List, ◌++◌, IfOk};
 ghost use Rattle.model_types.specs.Grids.{HasSize};
 ghost use Rattle.outside.specs.Puts.{Put};
-ghost use Rattle.run_puts.specs.Ends.{IsEnd};
+ghost use Rattle.run_puts.specs.Runs.{IsEnd};
 ghost use Rattle.engine.specs.Checked.{verdict_line, verdict_status};
 
 use check_run::ListingVerdict;

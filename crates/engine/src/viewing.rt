@@ -1,7 +1,6 @@
 // A listing by workers in threads, whose heads are viewed while they settle.
 ghost use Rattle.std.specs.Prelude.{◌≡◌, ◌⊎◌, List, ◌++◌, None, Some, false};
-ghost use Rattle.outside.specs.Counts.{Rose};
-ghost use Rattle.outside.specs.Puts.{Put};
+ghost use Rattle.outside.specs.Puts.{Rose, Put};
 ghost use Rattle.outside.specs.declared.traits.SinkError.TheVariants.{Write};
 ghost use Rattle.run_puts.specs.Runs.{IsRun};
 ghost use Rattle.step_problem.specs.Heads.{IsBarrier};

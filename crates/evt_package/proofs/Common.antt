@@ -9,21 +9,19 @@ pub use Rattle.std.proofs.lemmas.List.Elements.{All-cons, All-nil, All-weaker}
 pub use Rattle.std.proofs.lemmas.Nat.{div-add-mod', mod_below}
 pub use Rattle.std.specs.Option.{option_map, option_to_list}
 pub use Rattle.std.specs.Prelude.{if◌then◌else◌}
-pub use Rattle.evt_package.specs.Columns.{cell_tested, chosen_cell, column_step, column_tested, in_layer, source}
-unfoldable pub use Rattle.evt_package.specs.Columns.{columns_tested, highest_active}
-pub use Rattle.evt_package.specs.Evaporation.{area_in, evaporation_arrays, with_evaporation}
-pub use Rattle.evt_package.specs.Faults.{evap_fault, is_reached}
-unfoldable pub use Rattle.evt_package.specs.Faults.{has_extinction}
+pub use Rattle.evt_package.specs.Evaporation.{area_in, cell_tested, chosen_cell, column_step, column_tested, evap_fault, evaporation_arrays, in_layer}
+pub use Rattle.evt_package.specs.Evaporation.{is_reached, source, with_evaporation}
+unfoldable pub use Rattle.evt_package.specs.Evaporation.{columns_tested, has_extinction, highest_active}
 pub use Rattle.evt_package.specs.Forms.{AreArrays, HasEvaporation, IsEvaporating, SameBut}
 pub use Rattle.model_types.proofs.Numbering.{layer_below, size_some}
-pub use Rattle.model_types.specs.Cells.{cell_count, layer_of, layer_size, place_in_layer}
+pub use Rattle.model_types.specs.Faces.{cell_count, layer_of, layer_size, place_in_layer}
 pub use Rattle.model_types.specs.Grids.{HasSize}
 pub use Rattle.model_types.specs.Layers.{dec_at, int_at, is_active, is_nonzero}
 pub use Rattle.model_types.specs.Receivers.{EvapSource, is_chosen, is_highest, is_int}
 pub use Rattle.model_types.specs.Valid.{IsEvapValid, IsModel, IsPeriod}
 pub use Rattle.model_types.specs.declared.grid.Grid.{Grid}
 pub use Rattle.model_types.specs.declared.model.FlowModel.{FlowModel}
-pub use Rattle.number_limits.specs.Signs.{is_positive, within}
+pub use Rattle.number_limits.specs.Magnitudes.{is_head, is_positive, within}
 pub use Rattle.period_arrays.specs.Kinds.{contents, without}
 pub use Rattle.record_lines.specs.Reading.{◌>>=◌}
 unfoldable pub use Rattle.record_lines.specs.Reading.{counted}

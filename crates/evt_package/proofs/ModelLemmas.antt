@@ -6,7 +6,7 @@ use Rattle.evt_package.proofs.Common.{IsModel, IsPeriod, size_some, without, cel
 use Rattle.evt_package.proofs.Common.{area_in, evaporation_arrays, HasEvaporation, IsEvaporating, SameBut}
 use Rattle.std.proofs.lemmas.List.{get_or_past}
 use Rattle.outside.specs.declared.codes.Code.{Code}
-use Rattle.outside.specs.declared.refusals.InputFault.{InputFault}
+use Rattle.outside.specs.declared.inputs.InputFault.{InputFault}
 use Rattle.model_types.specs.declared.period.Period.{Period}
 use Rattle.model_types.specs.Sources.{evap_sources}
 use Rattle.model_types.specs.Times.{no_period, period_at}

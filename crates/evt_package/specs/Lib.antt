@@ -1,4 +1,2 @@
-pub mod Faults
-pub mod Columns
 pub mod Evaporation
 pub mod Forms

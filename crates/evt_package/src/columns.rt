@@ -1,18 +1,18 @@
 // The tests of the columns of layers.
-ghost use Rattle.std.specs.Prelude.{◌≡◌, ◌<◌, All, None, if◌then◌else◌};
-ghost use Rattle.decimal_input.specs.Canonical.{IsDec};
+ghost use Rattle.std.specs.Prelude.{◌≡◌, ◌<◌, All, None, if◌then◌else◌, ◌^◌, IfSome, unsigned_abs};
+ghost use Rattle.decimal_input.specs.Decimals.{IsDec};
 ghost use Rattle.record_lines.specs.Reading.{HasText};
-ghost use Rattle.model_types.specs.Cells.{cell_count, layer_size};
+ghost use Rattle.model_types.specs.Faces.{cell_count, layer_size};
 ghost use Rattle.model_types.specs.Grids.{HasSize};
 ghost use Rattle.model_types.specs.Layers.{int_at, is_nonzero};
 ghost use Rattle.period_arrays.specs.Forms.{IsReals};
-ghost use Rattle.evt_package.specs.Columns.{cell_tested, column_step, columns_tested, source};
-ghost use Rattle.evt_package.specs.Faults.{evap_fault};
+ghost use Rattle.evt_package.specs.Evaporation.{cell_tested, column_step, columns_tested, source, evap_fault, has_extinction, is_reached};
 
 use crate::chosen::chosen_cell;
-use crate::fault::evap_fault;
+use decimal_input::dec::Dec;
 use model_types::Grid;
 use model_types::layers::{dec_at, int_at};
+use number_limits::{ceiling, floor, is_head, is_positive};
 use outside::{Code, TextFault};
 use period_arrays::{Area, cell_refused};
 use std::alloc::Global;
@@ -85,7 +85,7 @@ fn column_tested(
 }
 
 /// Refuses the first column whose chosen cell is active and fails a test, at that cell.
-#[tactic(auto, unfolding(crate::specs::Columns::columns_tested))]
+#[tactic(auto, unfolding(crate::specs::Evaporation::columns_tested))]
 pub fn columns_tested(
     alloc: Global,
     file: &str,
@@ -104,4 +104,51 @@ pub fn columns_tested(
         column_tested(alloc, file, grid, ibound, option, area, column)?;
     }
     Ok(())
+}
+
+// The tests of an evapotranspiration.
+
+/// The first test that a rate, a surface and a depth fail.
+pub fn evap_fault(rate: Dec, surface: Dec, depth: Dec) -> Option<Code>
+    requires surface { IsDec surface }
+    requires depth { IsDec depth }
+    ensures { result ≡ evap_fault (record { rate = rate; surface = surface; depth = depth }) }
+{
+    if rate.neg {
+        Some(Code::BadProperty)
+    } else if rate.digits == 0 {
+        None
+    } else if !is_positive(depth) {
+        Some(Code::BadProperty)
+    } else if is_head(surface) && has_extinction(surface, depth) {
+        None
+    } else {
+        Some(Code::HeadTooLarge)
+    }
+}
+
+// The extinction elevation, which is the surface less the depth.
+
+fn is_reached(surface: Option<i128>, depth: Option<i128>) -> bool
+    requires surface { IfSome surface (λ z. unsigned_abs z < 2 ^ 126) }
+    requires depth { IfSome depth (λ z. unsigned_abs z < 2 ^ 126) }
+    ensures { result ≡ is_reached surface depth }
+{
+    match (surface, depth) {
+        (Some(f), Some(c)) => c - 4_000_000_000_000_000_000 <= f,
+        _ => false,
+    }
+}
+
+/// Whether the extinction elevation is a head, by the floor of the surface and the ceiling of the depth in units of
+/// 10 ^ -9 length units.
+#[tactic(auto, unfolding(crate::specs::Evaporation::has_extinction))]
+pub fn has_extinction(surface: Dec, depth: Dec) -> bool
+    requires surface { IsDec surface }
+    requires depth { IsDec depth }
+    ensures { result ≡ has_extinction surface depth }
+{
+    let top = floor(surface, 9);
+    let down = ceiling(depth, 9);
+    is_reached(top, down)
 }

@@ -4,7 +4,6 @@
 
 mod chosen;
 mod columns;
-mod fault;
 mod read;
 
 pub use read::read_evt;

@@ -1,6 +1,6 @@
 // A model with its evapotranspiration.
 ghost use Rattle.std.specs.Prelude.{IfOk, List};
-ghost use Rattle.outside.specs.Asking.{TextMay};
+ghost use Rattle.outside.specs.Names.{TextMay};
 ghost use Rattle.outside.specs.Files.{FileSet};
 ghost use Rattle.outside.specs.Folders.{ReadsOn};
 ghost use Rattle.record_lines.specs.Reading.{Has};

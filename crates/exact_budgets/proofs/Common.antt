@@ -11,25 +11,22 @@ pub use Rattle.std.specs.List.{AllZip, filter, flat_map}
 pub use Rattle.std.specs.Prelude.{slice_index}
 pub use Rattle.budget_bounds.specs.Exact.{BudgetEncloses, exact_part}
 unfoldable pub use Rattle.budget_bounds.specs.Exact.{exact_singles, exact_term}
-pub use Rattle.budget_bounds.specs.Singles.{fixed_term, flow_term, is_term}
-pub use Rattle.budget_bounds.specs.Terms.{all_terms, bounds_in}
+pub use Rattle.budget_bounds.specs.Terms.{all_terms, bounds_in, fixed_term, flow_term, is_term}
 pub use Rattle.cell_balance.proofs.EntryScaled.{same_over}
 pub use Rattle.cell_balance.proofs.Over.{CellOver, DrainOver, EvapOver, FixedOver, FlowOver, LinkOver, RiverOver, drain_over, evap_over, fixed_over, link_over}
 pub use Rattle.cell_balance.proofs.Over.{river_over}
 pub use Rattle.cell_balance.proofs.Scaling.{IsOver-greater, IsOver-minus, IsOver-negated, IsOver-none, IsOver-plus, IsOver-total, over_zero, zero_over}
 pub use Rattle.cell_balance.proofs.Whole.{WholeCell, no_whole, whole_at, whole_balance, whole_drain, whole_evap, whole_fixed, whole_link, whole_river}
-pub use Rattle.cell_balance.specs.Balance.{drain_flow, evap_flow, fixed_flow, link_flow, minus, river_flow}
-pub use Rattle.cell_balance.specs.Links.{AreLinked, HasLinkBack, no_link}
-pub use Rattle.cell_balance.specs.Solutions.{SolvesStep, share}
-pub use Rattle.cell_balance.specs.Steps.{ExactCell, ExactFixed, ExactFlow, ExactLink, cell_at, no_cell}
+pub use Rattle.cell_balance.specs.Balance.{SolvesStep, drain_flow, evap_flow, fixed_flow, link_flow, minus, river_flow, share}
+pub use Rattle.cell_balance.specs.Steps.{AreLinked, ExactCell, ExactFixed, ExactFlow, ExactLink, HasLinkBack, cell_at, no_cell, no_link}
 pub use Rattle.decimal_input.proofs.Differences.{as_diff, diffs, same_diff}
 pub use Rattle.decimal_input.specs.Fractions.{Fraction, IsOver, Same, den, fraction_total, negated, plus, signed, times, whole}
 pub use Rattle.decimal_input.specs.Ratios.{Ratio}
-pub use Rattle.exact_budgets.specs.Laws.{CertifiedHaveTheirTimes, NetTermsLieInTheOthers, SolutionsBalance, StepsHaveTheirTimes}
 pub use Rattle.exact_budgets.specs.LoneCell.{IsAlone, LoneCellsHaveTheirFlows, constants_in, inflow_from, is_constant, links_to, own_zone}
-pub use Rattle.exact_budgets.specs.NetTerms.{NetTermsLie, lower_by_others, net_flow, net_lower, net_upper, others, upper_by_others}
+pub use Rattle.exact_budgets.specs.NetTerms.{AllNetTermsLie, CertifiedHaveTheirTimes, NetTermsLie, NetTermsLieAt, NetTermsLieInTheOthers, SolutionsBalance}
+pub use Rattle.exact_budgets.specs.NetTerms.{StepsHaveTheirTimes, lower_by_others, net_flow, net_lower, net_upper, others, upper_by_others}
 pub use Rattle.flow_equations.specs.Histories.{SolvesAt, SolvesFrom, heads_of, variable_heads}
-pub use Rattle.step_problem.specs.Flows.{total}
+pub use Rattle.step_problem.specs.Balances.{total}
 pub use Rattle.step_problem.specs.declared.entry.FixedKind.{FixedKind}
 pub use Rattle.step_problem.specs.declared.entry.FixedKind.TheVariants.{Constant, General}
 pub use Rattle.step_problem.specs.declared.place.Dir.TheVariants.{In, Out}

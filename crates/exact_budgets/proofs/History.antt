@@ -1,6 +1,7 @@
 -- The budgets of a history, step by step: by induction on the time steps.
 use Rattle.exact_budgets.proofs.Common.{◌≡◌, ℕ, ◌<◌, inl, inr, refl, sym, ap, subst, List, [], ◌∷◌, map, Option, ℤ, Fraction, ExactCell, AreLinked, heads_of}
 use Rattle.exact_budgets.proofs.Common.{variable_heads, SolvesAt, SolvesFrom, NetTermsLieInTheOthers, StepsHaveTheirTimes, CertifiedHaveTheirTimes, Bool}
+use Rattle.exact_budgets.proofs.Common.{NetTermsLieAt, AllNetTermsLie}
 use Rattle.model_types.specs.declared.limits.Limits.{Limits}
 use Rattle.model_types.specs.declared.model.FlowModel.{FlowModel}
 use Rattle.model_types.specs.declared.time_steps.TimeStep.{TimeStep}
@@ -15,13 +16,12 @@ use Rattle.check_run.specs.declared.verdict.ListingVerdict.TheVariants.{Certifie
 use Rattle.deck_problems.specs.declared.decks.Decks.{Decks}
 use Rattle.deck_problems.specs.Decks.{one_deck}
 use Rattle.check_run.specs.Verdicts.{Checks, steps_of}
-use Rattle.listing_run.specs.declared.task.Task.{Task}
-use Rattle.listing_run.specs.declared.step.Step.{Step}
-use Rattle.listing_run.specs.declared.listing_end.ListingEnd.TheVariants.{Whole}
+use Rattle.listing_run.specs.declared.steps.Task.{Task}
+use Rattle.listing_run.specs.declared.solving.Step.{Step}
+use Rattle.listing_run.specs.declared.text.ListingEnd.TheVariants.{Whole}
 use Rattle.listing_run.specs.Steps.{Steps}
 use Rattle.listing_run.specs.Tasks.{one_task}
-use Rattle.listing_run.specs.Bounding.{Bounds, BoundAll}
-use Rattle.exact_budgets.specs.Histories.{NetTermsLieAt, AllNetTermsLie}
+use Rattle.listing_run.specs.Listing.{Bounds, BoundAll}
 use Rattle.exact_budgets.proofs.Balance.{terms_over, solutions_balance}
 use Rattle.exact_budgets.proofs.Bounds.{net_terms_lie}
 

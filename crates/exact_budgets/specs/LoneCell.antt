@@ -4,8 +4,7 @@ use Rattle.std.specs.List.{filter}
 use Rattle.decimal_input.specs.Fractions.{Fraction, negated, plus, fraction_total, Same}
 use Rattle.step_problem.specs.declared.entry.FixedKind.{FixedKind}
 use Rattle.step_problem.specs.declared.entry.FixedKind.TheVariants.{Storage, Constant, General}
-use Rattle.cell_balance.specs.Steps.{ExactLink, ExactFixed, ExactCell, cell_at}
-use Rattle.cell_balance.specs.Links.{AreLinked}
+use Rattle.cell_balance.specs.Steps.{ExactLink, ExactFixed, ExactCell, cell_at, AreLinked}
 use Rattle.cell_balance.specs.Balance.{link_flow, fixed_flow}
 use Rattle.zone_flows.specs.Exact.{exact_faces, exact_flow}
 

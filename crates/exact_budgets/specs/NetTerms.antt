@@ -1,18 +1,34 @@
 -- The net terms of a volumetric budget, exact and by their bounds (TM 6-A16, chapter 3, the volumetric budget).
-use Rattle.std.specs.Prelude.{◌≡◌, ℕ, ◌+◌, not, List, ℤ, pos, neg_ℤ, ◌-ℤ◌}
+use Rattle.std.specs.Prelude.{◌≡◌, ℕ, ◌+◌, not, List, ℤ, pos, neg_ℤ, ◌-ℤ◌, [], ◌∷◌, ◌<◌, map, Bool, Option}
 use Rattle.std.specs.List.{filter}
 use Rattle.decimal_input.specs.Fractions.{Fraction, Same, fraction_total}
-use Rattle.decimal_input.specs.Enclosures.{EnclosesSigned}
-use Rattle.step_problem.specs.Flows.{total}
+use Rattle.decimal_input.specs.Wholes.{EnclosesSigned}
+use Rattle.step_problem.specs.Balances.{total}
 use Rattle.step_problem.specs.declared.place.Dir.{Dir}
 use Rattle.step_problem.specs.declared.place.Dir.TheVariants.{In, Out}
 use Rattle.step_problem.specs.declared.place.Term.{Term}
-use Rattle.cell_balance.specs.Steps.{ExactCell}
-use Rattle.cell_balance.specs.Balance.{minus}
+use Rattle.cell_balance.specs.Steps.{ExactCell, AreLinked}
+use Rattle.cell_balance.specs.Balance.{minus, SolvesStep}
 use Rattle.budget_bounds.specs.declared.pair.Budget.{Budget}
-use Rattle.budget_bounds.specs.Singles.{is_term}
-use Rattle.budget_bounds.specs.Terms.{all_terms, bounds_in}
+use Rattle.budget_bounds.specs.Terms.{is_term, all_terms, bounds_in}
 use Rattle.budget_bounds.specs.Exact.{exact_term}
+use Rattle.model_types.specs.declared.model.FlowModel.{FlowModel}
+use Rattle.flow_equations.specs.ExactStep.{exact_step}
+use Rattle.flow_equations.specs.Histories.{heads_of, variable_heads, Solves}
+use Rattle.listing_run.specs.declared.solving.Step.{Step}
+use Rattle.model_types.specs.declared.limits.Limits.{Limits}
+use Rattle.model_types.specs.Heads.{start_head}
+use Rattle.model_types.specs.Times.{times}
+use Rattle.model_types.specs.Valid.{IsModel}
+use Rattle.listing_run.specs.declared.steps.Task.{Task}
+use Rattle.listing_run.specs.declared.text.ListingEnd.TheVariants.{Whole}
+use Rattle.listing_run.specs.Steps.{AllSteps}
+use Rattle.deck_problems.specs.Decks.{one_deck}
+use Rattle.listing_run.specs.Tasks.{one_task}
+use Rattle.listing_run.specs.Listing.{EnclosesHistories}
+use Rattle.listing_io.specs.declared.listing.ListedStep.{ListedStep}
+use Rattle.check_run.specs.declared.verdict.ListingVerdict.TheVariants.{Certified}
+use Rattle.check_run.specs.Verdicts.{IsVerdict, steps_of}
 
 -- TOTAL IN or TOTAL OUT: the sum of all terms in this direction
 abbrev pub total_flow : List ExactCell → (ℕ → Fraction) → Dir → Fraction
@@ -49,3 +65,41 @@ upper_by_others b t = neg_ℤ (total (net_lower b) (others t))
 pub record NetTermsLie (s : ℕ) (e : List ExactCell) (h : ℕ → Fraction) (b : Budget) : Type 0 where
   pub listed : (t : Term) → EnclosesSigned (net_lower b t) (net_upper b t) (s + 9) (net_flow e h t)
   pub in_the_others : (t : Term) → EnclosesSigned (lower_by_others b t) (upper_by_others b t) (s + 9) (net_flow e h t)
+
+-- What the steps of a listing say of the budgets of a history of heads.
+-- At a step of a listing of a model, with s digits of conductances, the exact budget of the vector X over d is balanced, and its net terms lie between both pairs of
+-- bounds, where `before` are the exact heads before it.
+pub record NetTermsLieAt (m : FlowModel) (s : ℕ) (v : Step) (before : ℕ → Fraction) (d : ℕ) (X : ℕ → ℤ) : Type 0 where
+  pub balanced : IsBalanced (exact_step m v.at.period v.at.step before)
+      (heads_of d (variable_heads (exact_step m v.at.period v.at.step before) X))
+  pub nets : NetTermsLie s (exact_step m v.at.period v.at.step before)
+      (heads_of d (variable_heads (exact_step m v.at.period v.at.step before) X)) v.budget
+
+-- this holds of each step and its vector, in turn
+abbrev pub AllNetTermsLie : FlowModel → ℕ → ℕ → (ℕ → Fraction) → List Step → List (ℕ → ℤ) → Type 0
+AllNetTermsLie m s d before [] [] = Unit {0}
+AllNetTermsLie m s d before (v ∷ values) (X ∷ Xs) = NetTermsLieAt m s v before d X × AllNetTermsLie m s d (heads_of d X) values Xs
+AllNetTermsLie m s d before [] (X ∷ Xs) = ⊥
+AllNetTermsLie m s d before (v ∷ values) [] = ⊥
+
+-- The volumetric budget of an exact solution.
+-- The budget of each solution of a step is balanced. (The steps of a model are linked: `links_are_mutual` of flow_equations.)
+abbrev pub SolutionsBalance : Type 0
+SolutionsBalance = (e : List ExactCell) (d : ℕ) (X : ℕ → ℤ) → AreLinked e → 0 < d → SolvesStep e d X → IsBalanced e (heads_of d X)
+
+-- Values at the times of a model's steps that enclose its histories: of each history that solves its equations each net
+-- term lies between its listed bounds, and in minus the sum of the others.
+abbrev pub NetTermsLieInTheOthers : Type 0
+NetTermsLieInTheOthers =
+    (limits : Limits) (m : FlowModel) (s : ℕ) (zones : Option (List ℕ)) (rounds : ℕ) (quick : Bool) (values : List Step) → IsModel m → map (λ v. v.at) values ≡ times m →
+    EnclosesHistories (one_task limits m s zones rounds quick) values →
+    (d : ℕ) (history : List (ℕ → ℤ)) → Solves m d history → AllNetTermsLie m s d (start_head m) values history
+
+-- The values of a whole listing are at those times, and so are those of a certified one.
+abbrev pub StepsHaveTheirTimes : Type 0
+StepsHaveTheirTimes = (k : Task) (values : List Step) → AllSteps k values Whole → map (λ v. v.at) values ≡ times k.decks.first
+
+abbrev pub CertifiedHaveTheirTimes : Type 0
+CertifiedHaveTheirTimes =
+    (limits : Limits) (m : FlowModel) (s : ℕ) (zones : Option (List ℕ)) (steps : List ListedStep) → IsVerdict limits (one_deck m) s zones steps Certified →
+    map (λ v. v.at) (steps_of (times m) steps) ≡ times m

@@ -1,8 +1,7 @@
 // What the budgets of exact solutions are.
-ghost use Rattle.exact_budgets.specs.Laws.{SolutionsBalance, NetTermsLieInTheOthers, StepsHaveTheirTimes, CertifiedHaveTheirTimes};
+ghost use Rattle.exact_budgets.specs.NetTerms.{SolutionsBalance, NetTermsLieInTheOthers, StepsHaveTheirTimes, CertifiedHaveTheirTimes};
 ghost use Rattle.exact_budgets.specs.LoneCell.{LoneCellsHaveTheirFlows};
-ghost use Rattle.exact_budgets.specs.Worked.{PumpedCell};
-ghost use Rattle.exact_budgets.specs.WorkedZones.{MiddleCell};
+ghost use Rattle.exact_budgets.specs.Worked.{PumpedCell, MiddleCell};
 
 /// In the budget of each solution of a step TOTAL IN is TOTAL OUT, and the net terms sum to 0.
 pub fn in_is_out()

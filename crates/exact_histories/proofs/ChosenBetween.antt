@@ -1,7 +1,6 @@
 -- A history of chosen models between two others is one between them.
 use Rattle.exact_histories.proofs.Common.{[], ◌∷◌, ℕ, ℤ, subst, List, All, map, All-head, All-tail, Fraction, start_head, FlowModel, TimeStep, heads_of}
-use Rattle.exact_histories.proofs.Common.{IsBetween, Choice, SolvesChoicesFrom, ChoicesLieBetween}
-use Rattle.deck_span.specs.Histories.{SolvesBetweenFrom}
+use Rattle.exact_histories.proofs.Common.{IsBetween, Choice, SolvesChoicesFrom, ChoicesLieBetween, SolvesBetweenFrom}
 
 between_from : (a b : FlowModel) (d : ℕ) (cs : List Choice) (before : ℕ → Fraction) (Xs : List (ℕ → ℤ)) → All (λ c. IsBetween a c.model b) cs → SolvesChoicesFrom d before cs Xs → SolvesBetweenFrom a b d before (map (λ (c : Choice). c.at) cs) Xs
 between_from a b d [] before [] between h = tt

@@ -3,13 +3,10 @@ pub use Rattle.std.proofs.Common.{All, Bool, Contains, List, Option, [], ap, ari
 pub use Rattle.std.proofs.Common.{refl, subst, suc, sym, true, zero, ℕ, ℤ, ◌*ℤ◌, ◌*◌, ◌-◌, ◌<◌, ◌∙◌, ◌∷◌, ◌≡◌}
 pub use Rattle.std.proofs.lemmas.Bool.{and_parts, cases_Bool, cases_eq, cases_lt, eq-eqb, ne_eqb, not-true}
 pub use Rattle.std.proofs.lemmas.List.Elements.{All-cons, All-head, All-nil, All-tail}
-pub use Rattle.std.specs.List.{AllZip}
 pub use Rattle.std.specs.Prelude.{None, Some}
-pub use Rattle.cell_balance.specs.Balance.{balance, drain_flow, evap_flow, fixed_flow, link_flow, minus, river_flow}
-pub use Rattle.cell_balance.specs.Solutions.{SolvesStep, share}
-pub use Rattle.cell_balance.specs.Steps.{ExactCell, ExactFixed, ExactLink, cell_at, no_cell}
+pub use Rattle.cell_balance.specs.Balance.{SolvesStep, balance, drain_flow, evap_flow, fixed_flow, link_flow, minus, river_flow, share}
+pub use Rattle.cell_balance.specs.Steps.{AreLinked, ExactCell, ExactFixed, ExactLink, cell_at, no_cell}
 pub use Rattle.decimal_input.proofs.Fractional.{Same-sym, Same-trans}
-pub use Rattle.decimal_input.proofs.Signs.{swap}
 pub use Rattle.decimal_input.specs.Fractions.{Fraction, IsOver, Same, den, fraction_total, plus, signed}
 pub use Rattle.deck_problems.proofs.Enclosing.{pair_encloses, pair_fits, problem_encloses}
 pub use Rattle.deck_problems.proofs.Members.{HasCellsOf, between_cells, cell_of_first, cell_of_member, encloses_first, encloses_member, member_cells, of_member}
@@ -18,24 +15,24 @@ pub use Rattle.deck_problems.proofs.Starting.{start_encloses, starts_enclose_mem
 pub use Rattle.deck_problems.specs.Decks.{AreDecks, HoldsOf, IsMember, IsOf, one_deck}
 pub use Rattle.deck_problems.specs.Laws.{IsBefore}
 pub use Rattle.deck_problems.specs.declared.decks.Decks.{Decks}
-pub use Rattle.deck_span.specs.Models.{IsBetween}
+pub use Rattle.deck_span.specs.Models.{IsBetween, SolvesBetweenFrom}
 pub use Rattle.exact_histories.specs.Choices.{Choice, SolvesChoicesFrom}
 pub use Rattle.exact_histories.specs.Decks.{ChoicesHaveOne, HaveOneBy}
-pub use Rattle.exact_histories.specs.Histories.{AreSame, AreSameHeads, HasOneHistory}
+pub use Rattle.exact_histories.specs.Histories.{AreSame, AreSameHeads, HasOneHistory, RunsHaveAHistory, RunsHaveOneHistory}
 pub use Rattle.exact_histories.specs.Laws.{ChoicesHaveAHistory, ChoicesHaveOneHistory, ChoicesLieBetween}
-pub use Rattle.exact_solutions.proofs.Scaling.{cancel_same}
+pub use Rattle.exact_solutions.specs.Held.{HasAtMostOne, IsAnchoredAbove, IsHeldAbove}
 pub use Rattle.flow_equations.specs.ExactStep.{exact_cell, exact_fixed, exact_step}
 pub use Rattle.flow_equations.specs.Histories.{SolvesAt, SolvesFrom, heads_of, variable_heads}
-pub use Rattle.model_types.specs.Cells.{cell_count}
+pub use Rattle.model_types.specs.Faces.{cell_count}
 pub use Rattle.model_types.specs.Grids.{HasSize}
-pub use Rattle.model_types.specs.Heads.{constant_head, start_head}
-pub use Rattle.model_types.specs.Kinds.{index_of, is_constant, is_variable, variable_cells}
+pub use Rattle.model_types.specs.Heads.{constant_head, index_of, is_constant, is_variable, start_head, variable_cells}
 pub use Rattle.model_types.specs.Times.{times}
 pub use Rattle.model_types.specs.declared.limits.Limits.{Limits}
 pub use Rattle.model_types.specs.declared.model.FlowModel.{FlowModel}
 pub use Rattle.model_types.specs.declared.time_steps.TimeStep.{TimeStep}
 pub use Rattle.problem_builder.specs.GridHeads.{AreGridHeads, HeadsEnclose}
 pub use Rattle.step_chain.proofs.Histories.{first_in, lies_encloses, lies_in_first, next_in}
+pub use Rattle.step_chain.proofs.OneStep.{all_fit, steps_enclose}
 pub use Rattle.step_chain.specs.Steps.{AreAllSteps, AreSteps, IsPosed, IsStepBy, two}
 pub use Rattle.step_chain.specs.declared.solved.Solved.{Solved}
 pub use Rattle.step_problem.proofs.Ring.{mul_assoc}

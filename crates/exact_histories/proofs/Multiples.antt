@@ -3,7 +3,7 @@
 use Rattle.exact_histories.proofs.Common.{◌≡◌, ◌*◌, ◌-◌, ◌<◌, ◌∙◌, ◌*ℤ◌, [], ◌∷◌, ℕ, suc, refl, sym, ap, subst, arith, ℤ, pos, List, map, mul_comm, mul-pos}
 use Rattle.exact_histories.proofs.Common.{Fraction, Same, share, heads_of, SolvesAt, Choice, SolvesChoicesFrom, mul_assoc}
 use Rattle.exact_histories.proofs.GridVectors.{HasVector}
-use Rattle.exact_histories.proofs.SameTimes.{solves_same}
+use Rattle.exact_histories.proofs.SameSteps.{solves_same}
 
 -- a vector times k
 abbrev multiplied : ℕ → (ℕ → ℤ) → ℕ → ℤ

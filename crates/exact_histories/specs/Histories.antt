@@ -1,10 +1,16 @@
 -- That a model has a history of heads that solves its exact equations, and when two histories are the same.
-use Rattle.std.specs.Prelude.{ℕ, ℤ, List}
+use Rattle.std.specs.Prelude.{ℕ, ℤ, List, Bool, Option}
 use Rattle.std.specs.List.{AllZip}
 use Rattle.decimal_input.specs.Fractions.{Fraction, Same}
 use Rattle.model_types.specs.declared.model.FlowModel.{FlowModel}
 use Rattle.flow_equations.specs.Histories.{heads_of, Solves}
 use Rattle.problem_builder.specs.GridHeads.{IsActive}
+use Rattle.model_types.specs.declared.limits.Limits.{Limits}
+use Rattle.model_types.specs.Valid.{IsModel}
+use Rattle.listing_run.specs.declared.solving.Step.{Step}
+use Rattle.listing_run.specs.declared.text.ListingEnd.TheVariants.{Whole}
+use Rattle.listing_run.specs.Steps.{AllSteps}
+use Rattle.listing_run.specs.Tasks.{one_task}
 
 -- A history of heads, over some denominator, solves the model's exact equations.
 abbrev pub HasHistory : FlowModel → Type 0
@@ -22,3 +28,15 @@ AreSame m d e = AllZip (λ X Y. AreSameHeads m (heads_of d X) (heads_of e Y))
 pub record HasOneHistory (m : FlowModel) : Type 0 where
   pub solvable : HasHistory m
   pub one : (d e : ℕ) (history other : List (ℕ → ℤ)) → Solves m d history → Solves m e other → AreSame m d e history other
+
+-- What a whole run says of the exact equations of its model: they have a solution, and one alone.
+-- Where all time steps of a task of one deck have heads, its model has a history.
+abbrev pub RunsHaveAHistory : Type 0
+RunsHaveAHistory =
+    (limits : Limits) (m : FlowModel) (s : ℕ) (zones : Option (List ℕ)) (rounds : ℕ) (quick : Bool) (values : List Step) → IsModel m → AllSteps (one_task limits m s zones rounds quick) values Whole → HasHistory m
+
+-- And one alone.
+abbrev pub RunsHaveOneHistory : Type 0
+RunsHaveOneHistory =
+    (limits : Limits) (m : FlowModel) (s : ℕ) (zones : Option (List ℕ)) (rounds : ℕ) (quick : Bool) (values : List Step) → IsModel m → AllSteps (one_task limits m s zones rounds quick) values Whole →
+    (d e : ℕ) (Xs Ys : List (ℕ → ℤ)) → Solves m d Xs → Solves m e Ys → AreSame m d e Xs Ys

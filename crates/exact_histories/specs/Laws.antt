@@ -4,7 +4,7 @@ use Rattle.std.specs.Prelude.{ℕ, ℤ, List}
 use Rattle.model_types.specs.declared.model.FlowModel.{FlowModel}
 use Rattle.step_chain.specs.declared.solved.Solved.{Solved}
 use Rattle.exact_histories.specs.Histories.{AreSame}
-use Rattle.deck_span.specs.Histories.{SolvesBetween}
+use Rattle.deck_span.specs.Models.{SolvesBetween}
 use Rattle.step_problem.specs.Settling.{PairKind}
 use Rattle.step_chain.specs.Steps.{AreAllSteps}
 use Rattle.exact_histories.specs.Choices.{Choice, SolvesChoices, AreChoices}

@@ -2,4 +2,3 @@ pub mod Choices
 pub mod Decks
 pub mod Laws
 pub mod Histories
-pub mod RunLaws

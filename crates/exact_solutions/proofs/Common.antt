@@ -20,18 +20,18 @@ pub use Rattle.cell_balance.proofs.Totals.{add_mul, sub_mul, total-same}
 pub use Rattle.cell_balance.proofs.Whole.{WholeCell, WholeEntry, WholeLink, no_whole, whole_at, whole_balance, whole_deep, whole_deep_river, whole_drain}
 pub use Rattle.cell_balance.proofs.Whole.{whole_evap, whole_fixed, whole_full, whole_link, whole_river}
 pub use Rattle.cell_balance.proofs.Wholes.{whole_step}
-pub use Rattle.cell_balance.proofs.Within.{CellWithin, DrainWithin, FixedWithin, LinkWithin, RiverWithin}
 pub use Rattle.cell_balance.proofs.Zips.{All-zip, AllZip-at, AllZip-length}
+pub use Rattle.cell_balance.specs.Balance.{SolvesStep, balance, share}
 pub use Rattle.cell_balance.specs.Components.{IsHeldBelow, Reaches, deep_low, sum_below, sum_inside}
 pub use Rattle.cell_balance.specs.Deep.{IsClosed, deep_flow}
-pub use Rattle.cell_balance.specs.Links.{AreLinked, HasLinkBack}
-pub use Rattle.cell_balance.specs.Solutions.{SolvesStep, share}
-pub use Rattle.cell_balance.specs.Steps.{ExactCell, ExactLink, cell_at, no_cell}
+pub use Rattle.cell_balance.specs.Steps.{AreLinked, ExactCell, ExactLink, HasLinkBack, cell_at, no_cell}
 pub use Rattle.decimal_input.proofs.Signs.{cancel_right, mul_mono_right, swap}
-pub use Rattle.decimal_input.specs.Enclosures.{IsBetweenWhole, IsShare}
 pub use Rattle.decimal_input.specs.Fractions.{Fraction, IsOver, Same, den, whole}
 pub use Rattle.decimal_input.specs.Ratios.{Ratio}
+pub use Rattle.decimal_input.specs.Wholes.{IsBetweenWhole, IsShare}
+pub use Rattle.exact_solutions.specs.Held.{AfloatHaveAnother, DrainedHaveAnother, HasNoneOrMany, HeldHaveASolution, HeldHaveAtMostOne, IsAnchoredAbove}
+pub use Rattle.exact_solutions.specs.Held.{IsHeldAbove, IsLoose}
 pub use Rattle.step_problem.proofs.BothSides.{le_anti}
 pub use Rattle.step_problem.proofs.Falls.{loss_falls, total_mono}
 pub use Rattle.step_problem.proofs.Ring.{as_diff, diffs, mul_add, mul_assoc, mul_le, mul_mono, mul_nonneg, mul_sub, same_diff}
-pub use Rattle.step_problem.specs.Flows.{total}
+pub use Rattle.step_problem.specs.Balances.{total}

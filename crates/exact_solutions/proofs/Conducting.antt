@@ -2,7 +2,7 @@
 use Rattle.exact_solutions.proofs.Common.{[], ◌*ℤ◌, ◌+ℤ◌, ◌+◌, ◌<ℤ◌, ◌<◌, ◌∷◌, ◌≡◌, ◌≤ℤ◌, All, Bool, List, arith, cond, false, inl, inr, nat_eq, pos, refl}
 use Rattle.exact_solutions.proofs.Common.{subst, true, ℕ, ℤ, AllZip, zero-*ℤ, cases_eq, eq-eqb, ne_eqb, ints, All-cons, All-head, All-nil, All-tail, total}
 use Rattle.exact_solutions.proofs.Common.{weight, WholeEntry, WholeLink}
-use Rattle.exact_solutions.proofs.WholeRamps.{known_conductance, known_flow}
+use Rattle.exact_solutions.proofs.WholeBalances.{known_conductance, known_flow}
 
 -- a fact of each right element passes to the left one
 pub All-back : {X Y : Type 0} (R : X → Y → Type 0) (P : X → Type 0) (Q : Y → Type 0) → ((x : X) (y : Y) → R x y → Q y → P x) → (xs : List X) (ys : List Y) → AllZip R xs ys → All Q ys → All P xs

@@ -1,11 +1,9 @@
 mod Common
-pub mod Scaling
 pub mod Shares
 pub mod Ramps
 pub mod LastCell
 pub mod Elimination
 pub mod ClosedSets
-pub mod Rises
 pub mod RampFlows
 pub mod TightSums
 pub mod Comparison
@@ -13,13 +11,10 @@ pub mod Added
 pub mod LinearSteps
 pub mod Regimes
 pub mod OneRamp
-pub mod Sinking
 pub mod Existence
-pub mod WholeRamps
 pub mod WholeBalances
 pub mod WholeSolutions
 pub mod Conducting
-pub mod HeldWholes
 pub mod HeldSteps
 pub mod WorkedSteps
 pub mod Lowered

@@ -5,13 +5,12 @@ use Rattle.exact_solutions.proofs.Common.{total, total_mono, mul_assoc, mul_mono
 use Rattle.exact_solutions.proofs.Common.{cell_at, no_cell, IsMutual, closed_cancel, step_common, whole_solves, mutual_whole, LinkOver, FixedOver, RiverOver}
 use Rattle.exact_solutions.proofs.Common.{DrainOver, EvapOver, CellOver, IsOver-none, sum-same, sum-add, sum-zero, sub_mul, WholeEntry, WholeCell, whole_at}
 use Rattle.exact_solutions.proofs.Common.{no_whole, whole_link, whole_fixed, whole_river, whole_drain, whole_evap, whole_balance, whole_deep_river, whole_full}
-use Rattle.exact_solutions.proofs.Common.{whole_deep, whole_step, AllZip-at, AllZip-length, All-zip, le_anti, deep_over, Ratio}
+use Rattle.exact_solutions.proofs.Common.{whole_deep, whole_step, AllZip-at, AllZip-length, All-zip, le_anti, deep_over, Ratio, IsLoose, DrainedHaveAnother}
+use Rattle.exact_solutions.proofs.Common.{AfloatHaveAnother}
 use Rattle.decimal_input.proofs.Integers.{le-trans}
 use Rattle.cell_balance.proofs.ExactLaws.{heads_over}
 use Rattle.cell_balance.proofs.Falling.{whole_falls}
 use Rattle.cell_balance.proofs.EntryScaled.{over_le, IsOver-inside}
-use Rattle.exact_solutions.specs.Loose.{IsLoose}
-use Rattle.exact_solutions.specs.LooseLaws.{DrainedHaveAnother, AfloatHaveAnother}
 use Rattle.exact_solutions.proofs.Lowered.{without_links, lowered, balance-links, lowered_balances}
 use Rattle.exact_solutions.proofs.Shares.{same_crossed}
 use Rattle.exact_solutions.proofs.TightSums.{sum_below-tight}

@@ -1,9 +1,15 @@
 -- What holds the heads of a problem on the high side: from each cell links lead to one that can always let more water out.
-use Rattle.std.specs.Prelude.{ℕ, ◌<◌, ◌⊎◌, List, length, Contains}
+use Rattle.std.specs.Prelude.{ℕ, ◌<◌, ◌⊎◌, List, length, Contains, ℤ, ◌≡◌, [], All, Bool, true, pos}
 use Rattle.step_problem.specs.declared.entry.River.{River}
 use Rattle.step_problem.specs.declared.entry.Drain.{Drain}
 use Rattle.step_problem.specs.Entries.{Entries, entries_at}
-use Rattle.cell_balance.specs.Components.{Reaches, IsAnchored}
+use Rattle.cell_balance.specs.Components.{Reaches, IsAnchored, IsHeldBelow}
+use Rattle.decimal_input.specs.Fractions.{Same, whole, AtMost}
+use Rattle.cell_balance.specs.Steps.{ExactCell, cell_at, AreLinked}
+use Rattle.cell_balance.specs.Balance.{share, SolvesStep}
+use Rattle.step_problem.specs.Conditions.{IsProblem}
+use Rattle.cell_balance.specs.Enclosures.{EnclosesStep}
+use Rattle.cell_balance.specs.Deep.{IsClosed, total_inside, deep_flow}
 
 -- A cell that is anchored above: a fixed link, a river or a drain of it certainly conducts.
 -- (An evapotranspiration doesn't count: it takes no more than its full rate.)
@@ -16,3 +22,60 @@ IsAnchoredAbove p c =
 -- From each cell of the problem links lead to one that is anchored above.
 abbrev pub IsHeldAbove : List Entries → Type 0
 IsHeldAbove p = (c : ℕ) → c < length p → (j : ℕ) × (k : ℕ) × Reaches p j c k × IsAnchoredAbove p k
+
+-- How many solutions an exact step has. Heads are whole numerators over one denominator, by the index of the variable cell.
+-- Some heads solve the step.
+abbrev pub HasSolution : List ExactCell → Type 0
+HasSolution e = (d : ℕ) × (X : ℕ → ℤ) × (0 < d) × SolvesStep e d X
+
+-- No heads solve it.
+abbrev pub HasNoSolution : List ExactCell → Type 0
+HasNoSolution e = (d : ℕ) (X : ℕ → ℤ) → 0 < d → SolvesStep e d X → ⊥
+
+-- Any two solutions are the same numbers at each variable cell.
+abbrev pub HasAtMostOne : List ExactCell → Type 0
+HasAtMostOne e =
+    (d k : ℕ) (X Y : ℕ → ℤ) → 0 < d → 0 < k → SolvesStep e d X → SolvesStep e k Y →
+    (c : ℕ) → c < length e → Same (share d (X c)) (share k (Y c))
+
+-- With each solution there is another one, which differs from it at a variable cell: so there is none, or there are many.
+abbrev pub HasNoneOrMany : List ExactCell → Type 0
+HasNoneOrMany e =
+    (d : ℕ) (X : ℕ → ℤ) → 0 < d → SolvesStep e d X →
+    (k : ℕ) × (Y : ℕ → ℤ) × (0 < k) × SolvesStep e k Y × (c : ℕ) × (c < length e) × (Same (share d (X c)) (share k (Y c)) → ⊥)
+
+-- Steps whose heads are held have a solution, and one alone.
+-- A problem whose components are held below (each anchored or carried) and above: each exact step that it encloses has a solution.
+abbrev pub HeldHaveASolution : Type 0
+HeldHaveASolution =
+    (p : List Entries) → IsProblem p → IsHeldBelow p → IsHeldAbove p → (s : ℕ) (e : List ExactCell) → EnclosesStep s p e → HasSolution e
+
+-- A problem whose components are held below: each exact step that it encloses has at most one.
+abbrev pub HeldHaveAtMostOne : Type 0
+HeldHaveAtMostOne =
+    (p : List Entries) → IsProblem p → IsHeldBelow p → (s : ℕ) (e : List ExactCell) → EnclosesStep s p e → HasAtMostOne e
+
+-- Cells of an exact step that nothing holds.
+-- A set of cells that no link leaves, with a member, without a known head that conducts and without evapotranspiration.
+pub record IsLoose (e : List ExactCell) (inside : ℕ → Bool) : Type 0 where
+  pub closed : IsClosed e inside
+  pub member : (c : ℕ) × (c < length e) × (inside c ≡ true)
+  pub fixed : (c : ℕ) → c < length e → inside c ≡ true → All (λ x. x.conductance.num ≡ 0) (cell_at e c).fixed
+  pub evaps : (c : ℕ) → c < length e → inside c ≡ true → (cell_at e c).evaps ≡ []
+
+-- And without a river or a drain that conducts.
+pub record IsAfloat (e : List ExactCell) (inside : ℕ → Bool) : Type 0 where
+  pub loose : IsLoose e inside
+  pub rivers : (c : ℕ) → c < length e → inside c ≡ true → All (λ x. x.conductance.num ≡ 0) (cell_at e c).rivers
+  pub drains : (c : ℕ) → c < length e → inside c ≡ true → All (λ x. x.conductance.num ≡ 0) (cell_at e c).drains
+
+-- Without evapotranspiration what holds a step's heads is needed too: steps with cells that nothing holds have no solution or many.
+-- Cells that nothing holds, and whose deep flows sum to at most 0.
+abbrev pub DrainedHaveAnother : Type 0
+DrainedHaveAnother =
+    (e : List ExactCell) (inside : ℕ → Bool) → AreLinked e → IsLoose e inside →
+    AtMost (total_inside (length e) inside (λ c. deep_flow (cell_at e c))) (whole (pos 0)) → HasNoneOrMany e
+
+-- Cells that nothing holds, and where no river or drain conducts.
+abbrev pub AfloatHaveAnother : Type 0
+AfloatHaveAnother = (e : List ExactCell) (inside : ℕ → Bool) → AreLinked e → IsAfloat e inside → HasNoneOrMany e

@@ -2,8 +2,7 @@
 use Rattle.flow_equations.proofs.Common.{◌≡◌, ℕ, zero, suc, ◌<◌, inl, inr, Bool, true, List, [], ◌∷◌, length, get_or, map, refl, sym, ap, ◌∙◌, subst, arith}
 use Rattle.flow_equations.proofs.Common.{Fraction, Same, ExactLink, ExactCell, cell_at, no_cell, FlowModel, cell_count, is_variable, variable_below}
 use Rattle.flow_equations.proofs.Common.{variable_cells, index_of, variable_faces, HasSize, In, In-map, map-In, Contains-In, All-In, Ordered, Ordered-at}
-use Rattle.flow_equations.proofs.Common.{passing, rank, rank_below, at_rank, is_at, IsAt, exact_step, exact_cell, exact_link}
-use Rattle.cell_balance.specs.Links.{HasLinkBack, AreLinked, no_link}
+use Rattle.flow_equations.proofs.Common.{passing, rank, rank_below, at_rank, is_at, IsAt, exact_step, exact_cell, exact_link, HasLinkBack, AreLinked, no_link}
 use Rattle.model_types.specs.declared.face.Face.{Face}
 use Rattle.model_types.proofs.Leads.{IsFaceOf, passing_are, passing_have, end_within, face_back, turned, ends_ascend}
 

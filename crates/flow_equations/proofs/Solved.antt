@@ -2,10 +2,9 @@
 use Rattle.flow_equations.proofs.Common.{◌≡◌, ℕ, zero, suc, ◌<◌, true, ℤ, pos, negsuc, [], ◌∷◌, refl, arith, false≢true, scaled, ratio, plus, over, IsOver}
 use Rattle.flow_equations.proofs.Common.{power, geometric, storage, given_in, variable_below, is_constant, constant_head, start_head, half, in_a_row}
 use Rattle.flow_equations.proofs.Common.{row_conductance, entries_of, SolvesStep, exact_step, Solves, heads_of, variable_heads, three_cells, idle_wells}
-use Rattle.flow_equations.proofs.Common.{one_cell}
+use Rattle.flow_equations.proofs.Common.{one_cell, vector}
 use Rattle.decimal_input.specs.Ratios.{times as product}
 use Rattle.model_types.specs.Times.{times}
-use Rattle.flow_equations.specs.WorkedLaws.{vector}
 
 -- heads of 10, 15 and 20
 abbrev rising : ℕ → ℤ

@@ -1,11 +1,11 @@
 -- Conductances by the manual and the textbook (TM 6-A16, chapter 5).
 use Rattle.std.specs.Prelude.{◌≡◌, ℕ, ◌<◌}
-use Rattle.decimal_input.specs.Canonical.{size}
+use Rattle.decimal_input.specs.Decimals.{size}
 use Rattle.decimal_input.specs.Ratios.{Ratio, times, over, AtMost, Same}
 use Rattle.model_types.specs.declared.model.FlowModel.{FlowModel}
-use Rattle.model_types.specs.Cells.{row_of, column_of}
+use Rattle.model_types.specs.Faces.{row_of, column_of}
 use Rattle.model_types.specs.Layers.{delr_at, delc_at, hk_at, hani_at, thickness}
-use Rattle.model_types.specs.Numbers.{IsPositive}
+use Rattle.model_types.specs.Grids.{IsPositive}
 use Rattle.model_types.specs.Conductances.{one, two, in_a_row, row_conductance, column_conductance}
 
 -- A branch is the same from both ends: between two cells of one row, and of one column.

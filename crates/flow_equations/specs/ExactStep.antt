@@ -1,7 +1,7 @@
 -- The exact finite-difference equations of one time step of a model (TM 6-A16, chapters 2, 5 and 6): for each
 -- variable cell of the period all that flows into it, each with its exact conductance, head or flow.
 use Rattle.std.specs.Prelude.{ℕ, List, map}
-use Rattle.decimal_input.specs.Canonical.{number, size}
+use Rattle.decimal_input.specs.Decimals.{number, size}
 use Rattle.decimal_input.specs.Fractions.{Fraction}
 use Rattle.step_problem.specs.declared.entry.FixedKind.TheVariants.{Constant, General, Storage}
 use Rattle.step_problem.specs.declared.entry.FlowKind.TheVariants.{Wells, Recharge}
@@ -11,8 +11,7 @@ use Rattle.model_types.specs.declared.face.Face.{Face}
 use Rattle.model_types.specs.Conductances.{conductance}
 use Rattle.model_types.specs.Times.{period_at}
 use Rattle.model_types.specs.Storage.{storage}
-use Rattle.model_types.specs.Kinds.{variable_cells, index_of}
-use Rattle.model_types.specs.Heads.{constant_head}
+use Rattle.model_types.specs.Heads.{variable_cells, index_of, constant_head}
 use Rattle.model_types.specs.Receivers.{EvapSource, recharge_flow, evap_conductance, extinction}
 use Rattle.model_types.specs.Sources.{FixedSource, FlowSource, RiverSource, DrainSource, variable_faces, flow_sources}
 use Rattle.model_types.specs.Sources.{fixed_sources, river_sources, drain_sources, evap_sources}

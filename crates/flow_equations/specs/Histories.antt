@@ -4,12 +4,11 @@ use Rattle.std.specs.Prelude.{◌≡◌, ℕ, ◌<◌, true, ℤ, List, [], ◌�
 use Rattle.decimal_input.specs.Fractions.{Fraction, IsOver}
 use Rattle.model_types.specs.declared.model.FlowModel.{FlowModel}
 use Rattle.model_types.specs.declared.time_steps.TimeStep.{TimeStep}
-use Rattle.model_types.specs.Cells.{cell_count}
+use Rattle.model_types.specs.Faces.{cell_count}
 use Rattle.model_types.specs.Times.{times}
-use Rattle.model_types.specs.Kinds.{is_constant}
-use Rattle.model_types.specs.Heads.{start_head, constant_head}
+use Rattle.model_types.specs.Heads.{is_constant, start_head, constant_head}
 use Rattle.cell_balance.specs.Steps.{ExactCell, cell_at}
-use Rattle.cell_balance.specs.Solutions.{share, SolvesStep}
+use Rattle.cell_balance.specs.Balance.{share, SolvesStep}
 use Rattle.flow_equations.specs.ExactStep.{exact_step}
 
 -- a vector X over d, as fractions

@@ -1,6 +1,5 @@
 pub mod ExactStep
 pub mod Histories
-pub mod StepLaws
 pub mod BranchLaws
 pub mod VerticalLaws
 pub mod ReceiverLaws
@@ -8,4 +7,3 @@ pub mod GivenHeadLaws
 pub mod SignLaws
 pub mod TimeLaws
 pub mod Worked
-pub mod WorkedLaws

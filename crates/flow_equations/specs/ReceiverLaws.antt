@@ -1,18 +1,19 @@
 -- What recharge and evapotranspiration owe to the manual (TM 6-A16, chapter 6, RCH and EVT).
-use Rattle.std.specs.Prelude.{◌≡◌, ℕ, suc, ℤ, pos, List, All, Contains, true, false}
-use Rattle.decimal_input.specs.Canonical.{number, size}
+use Rattle.std.specs.Prelude.{◌≡◌, ℕ, suc, ℤ, pos, List, All, Contains, true, false, map}
+use Rattle.decimal_input.specs.Decimals.{number, size}
 use Rattle.decimal_input.specs.Ratios.{times}
 use Rattle.decimal_input.specs.Fractions.{Fraction, signed, negated, times as product, AtMost, Same}
 use Rattle.step_problem.specs.declared.entry.FlowKind.TheVariants.{Wells, Recharge}
-use Rattle.cell_balance.specs.Steps.{ExactEvap}
+use Rattle.cell_balance.specs.Steps.{ExactEvap, AreLinked}
 use Rattle.cell_balance.specs.Balance.{minus, evap_flow}
 use Rattle.model_types.specs.declared.model.FlowModel.{FlowModel}
-use Rattle.model_types.specs.Cells.{layer_of, place_in_layer}
+use Rattle.model_types.specs.Faces.{layer_of, place_in_layer}
 use Rattle.model_types.specs.Layers.{dec_at, int_at, is_active, area}
-use Rattle.model_types.specs.Numbers.{IsPositive}
+use Rattle.model_types.specs.Grids.{IsPositive, HasSize}
 use Rattle.model_types.specs.Times.{period_at}
 use Rattle.model_types.specs.Receivers.{EvapSource, is_chosen, is_highest}
-use Rattle.flow_equations.specs.ExactStep.{exact_cell, exact_evap}
+use Rattle.flow_equations.specs.ExactStep.{exact_cell, exact_evap, exact_step}
+use Rattle.model_types.specs.Heads.{variable_cells}
 
 -- An option chooses at most one cell of a column of layers: under 1 its cell of layer 1, under 2 the cell of the layer that the
 -- array names, under 3 its highest active cell.
@@ -41,3 +42,12 @@ pub record Evaporates (m : FlowModel) (c : ℕ) (v : Fraction) (x : EvapSource) 
 abbrev pub TakesEvapotranspiration : FlowModel → Type 0
 TakesEvapotranspiration m = (p n : ℕ) (old : ℕ → Fraction) (c : ℕ) (v : Fraction) (x : EvapSource) → IsPositive x.depth →
     Evaporates m c v x (exact_evap m p n old c x)
+
+-- The exact equations of a step by the manual.
+-- one equation for each variable cell of the period, by ascending cell number
+abbrev pub HasAnEquationEach : Type 0
+HasAnEquationEach = (m : FlowModel) (p n : ℕ) (old : ℕ → Fraction) → map (λ e. e.id) (exact_step m p n old) ≡ variable_cells m p
+
+-- each link leads to another variable cell, different links lead to different cells, and the two ends of a link have the same conductance
+abbrev pub LinksAreMutual : Type 0
+LinksAreMutual = (m : FlowModel) (p n : ℕ) (old : ℕ → Fraction) → HasSize m.grid → AreLinked (exact_step m p n old)

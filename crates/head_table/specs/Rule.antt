@@ -1,18 +1,39 @@
 -- The rule of a table of heads: what holds between any two steps, of its words and of what each seat has seen.
-use Rattle.std.specs.Prelude.{◌≡◌, ℕ, ◌+◌, ◌*◌, ◌<◌, List, [], ◌∷◌, length, true, false}
+use Rattle.std.specs.Prelude.{◌≡◌, ℕ, ◌+◌, ◌*◌, ◌<◌, List, [], ◌∷◌, length, true, false, max, min, ℤ, pos, ◌-ℤ◌, slice_index}
 use Rattle.std.specs.Int.{int_max, int_min}
 use mathlib.Core.Option.{some}
 use lib.ListN.{get_elem?}
-use Rattle.atomic_table.specs.Table.{State}
+use Rattle.atomic_table.specs.Table.{State, Me, Step}
 use Rattle.step_problem.specs.declared.heads.Bound.{Bound}
 use Rattle.step_problem.specs.declared.heads.Side.{Side}
 use Rattle.step_problem.specs.Entries.{Entries}
-use Rattle.step_problem.specs.Conditions.{IsHead}
+use Rattle.step_problem.specs.Conditions.{IsHead, head_limit}
 use Rattle.step_problem.specs.Heads.{Edges}
-use Rattle.cell_relax.specs.Words.{heads_on}
+use Rattle.cell_relax.specs.Sides.{heads_on, IsAsTight, Moves, other}
 use Rattle.head_table.specs.declared.known.Known.{Known}
-use Rattle.head_table.specs.Words.{words_on}
 use Rattle.relax_core.specs.Kept.{edge_on, OnTheWay, WereSeen}
+use Rattle.step_problem.specs.declared.heads.Side.TheVariants.{Low, High}
+use Rattle.step_problem.specs.Sides.{AsTight, AreHeads, IsPast, IsSettled}
+
+-- How heads are kept in the words of a table: word 0 is the counter of claims, word 2 c + 1 has the lower head of
+-- cell c, and word 2 c + 2 its upper head. A head h is kept as h + head_limit.
+-- the head of a word
+abbrev pub head_of_word : ℕ → ℤ
+head_of_word n = pos n -ℤ pos head_limit
+
+-- the word of cell c on a side
+abbrev pub word_of : Side → ℕ → ℕ
+word_of Low c = 2 * c + 1
+word_of High c = 2 * c + 2
+
+-- the heads of words on a side, by cell
+abbrev pub words_on : Side → List ℕ → ℕ → ℤ
+words_on side ws c = head_of_word (slice_index ws (word_of side c))
+
+-- the word of the tighter head
+abbrev pub tighter_word : Side → ℕ → ℕ → ℕ
+tighter_word Low = max
+tighter_word High = min
 
 -- what was seen is one bound for each cell, with heads in range
 pub record IsSound (v : Known) : Type 0 where
@@ -49,3 +70,54 @@ join_views v w = record v { seen = tightest v.seen w.seen }
 -- the view of a seat that was joined away
 abbrev pub spent_view : Known
 spent_view = record { live = false; seen = []; problem = []; barrier = record { floor = []; ceiling = [] } }
+
+-- Facts of shared heads, on the lower or on the upper side of a problem.
+module _ (side : Side) (p : List Entries) where
+  -- x is as tight as the raise or the sink value of cell c from the heads l
+  abbrev pub HasMoved : (ℕ → ℤ) → ℕ → ℤ → Type 0
+  HasMoved l c x = IsPast (IsAsTight side) (Moves side p) (length p) l c x
+
+  -- x is no tighter than what any settled heads, nowhere looser than the edge, have at cell c
+  abbrev pub IsNoTighterThanSettled : (ℕ → ℤ) → ℕ → ℤ → Type 0
+  IsNoTighterThanSettled edge c x =
+      (m : ℕ → ℤ) → AreHeads (IsAsTight side) (Moves side p) (length p) m → IsSettled (IsAsTight side) (Moves side p) (length p) m →
+      AsTight (IsAsTight side) (Moves side p) (length p) edge m → IsAsTight side x (m c)
+
+-- the bounds are no tighter than any settled heads past the barrier
+abbrev pub AreHeld : List Entries → Edges → List Bound → Type 0
+AreHeld p b bounds = (side : Side) (c : ℕ) → c < length p → IsNoTighterThanSettled side p (edge_on side b) c (heads_on side bounds c)
+
+-- What each step of a seat ensures: the word that it found, and what the seat has then seen.
+abbrev Sat : Type 0
+Sat = Me (Unit {0}) Known
+
+-- the seat is unchanged, except for what it has seen
+pub record Stays (m m' : Sat) : Type 0 where
+  pub live : m'.0.live ≡ m.0.live
+  pub problem : m'.0.problem ≡ m.0.problem
+  pub barrier : m'.0.barrier ≡ m.0.barrier
+  pub whole : length m'.0.seen ≡ length m.0.seen
+  pub slots : m'.1 ≡ m.1
+
+-- the head of cell c that was seen on a side is now h, and all else is as it was
+pub record SeesHead (side : Side) (m : Sat) (c : ℕ) (h : ℤ) (m' : Sat) : Type 0 where
+  pub stays : Stays m m'
+  pub here : heads_on side m'.0.seen c ≡ h
+  pub others : (d : ℕ) → (d ≡ c → ⊥) → heads_on side m'.0.seen d ≡ heads_on side m.0.seen d
+  pub opposite : (d : ℕ) → heads_on (other side) m'.0.seen d ≡ heads_on (other side) m.0.seen d
+
+-- a load of a word on a side: it is as tight as what was seen, and no tighter than any settled heads; the seat has then seen it
+abbrev pub load_play : Side → Step (Unit {0}) → Sat → ℕ → Sat → Type 0
+load_play side st m r m' =
+    (c : ℕ) → st.word ≡ word_of side c → IsHead (head_of_word r) × IsAsTight side (heads_on side m.0.seen c) (head_of_word r)
+    × SeesHead side m c (head_of_word r) m' × IsNoTighterThanSettled side m.0.problem (edge_on side m.0.barrier) c (head_of_word r)
+
+-- a raise or a sink: the tighter of the word found and the operand is then seen
+abbrev pub exchange_play : Side → Step (Unit {0}) → Sat → ℕ → Sat → Type 0
+exchange_play side st m r m' =
+    (c : ℕ) → st.word ≡ word_of side c → IsHead (head_of_word r) × IsHead (head_of_word (tighter_word side r st.first))
+    × IsAsTight side (heads_on side m.0.seen c) (head_of_word r) × SeesHead side m c (head_of_word (tighter_word side r st.first)) m'
+
+-- a claim changes nothing that was seen
+abbrev pub claim_play : Step (Unit {0}) → Sat → ℕ → Sat → Type 0
+claim_play st m r m' = m' ≡ m

@@ -4,8 +4,7 @@ use Rattle.step_problem.specs.declared.heads.Bound.{Bound}
 use Rattle.step_problem.specs.declared.heads.Side.{Side}
 use Rattle.step_problem.specs.Entries.{Entries}
 use Rattle.step_problem.specs.Heads.{Edges}
-use Rattle.cell_relax.specs.Sides.{tighter_of}
-use Rattle.cell_relax.specs.Words.{heads_on}
+use Rattle.cell_relax.specs.Sides.{tighter_of, heads_on}
 use Rattle.head_table.specs.declared.table.HeadTable.{HeadTable}
 use Rattle.head_table.specs.declared.table.HeadSeat.{HeadSeat}
 

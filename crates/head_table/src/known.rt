@@ -36,7 +36,7 @@ pub(crate) struct LookLow;
 
 impl Play<(), Known> for LookLow {
     ghost use Rattle.step_problem.specs.declared.heads.Side.TheVariants.{Low};
-    ghost use Rattle.head_table.specs.Plays.{load_play};
+    ghost use Rattle.head_table.specs.Rule.{load_play};
 
     ghost then = { load_play Low };
 }
@@ -45,7 +45,7 @@ pub(crate) struct LookHigh;
 
 impl Play<(), Known> for LookHigh {
     ghost use Rattle.step_problem.specs.declared.heads.Side.TheVariants.{High};
-    ghost use Rattle.head_table.specs.Plays.{load_play};
+    ghost use Rattle.head_table.specs.Rule.{load_play};
 
     ghost then = { load_play High };
 }
@@ -54,7 +54,7 @@ pub(crate) struct Raise;
 
 impl Play<(), Known> for Raise {
     ghost use Rattle.step_problem.specs.declared.heads.Side.TheVariants.{Low};
-    ghost use Rattle.head_table.specs.Plays.{exchange_play};
+    ghost use Rattle.head_table.specs.Rule.{exchange_play};
 
     ghost then = { exchange_play Low };
 }
@@ -63,7 +63,7 @@ pub(crate) struct Sink;
 
 impl Play<(), Known> for Sink {
     ghost use Rattle.step_problem.specs.declared.heads.Side.TheVariants.{High};
-    ghost use Rattle.head_table.specs.Plays.{exchange_play};
+    ghost use Rattle.head_table.specs.Rule.{exchange_play};
 
     ghost then = { exchange_play High };
 }
@@ -71,7 +71,7 @@ impl Play<(), Known> for Sink {
 pub(crate) struct Claim;
 
 impl Play<(), Known> for Claim {
-    ghost use Rattle.head_table.specs.Plays.{claim_play};
+    ghost use Rattle.head_table.specs.Rule.{claim_play};
 
     ghost then = { claim_play };
 }

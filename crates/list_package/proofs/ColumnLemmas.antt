@@ -4,7 +4,7 @@ use Rattle.list_package.proofs.Common.{if◌then◌else◌, All-head, All-tail, 
 use Rattle.std.specs.List.{AllZip}
 use Rattle.decimal_input.specs.declared.dec.Dec.{Dec}
 use Rattle.outside.specs.declared.codes.Code.{Code}
-use Rattle.model_types.specs.Numbers.{IsHeadNumber, IsNotNegative}
+use Rattle.model_types.specs.Grids.{IsHeadNumber, IsNotNegative}
 use Rattle.number_limits.specs.Magnitudes.{is_head}
 use Rattle.number_limits.proofs.HeadLemmas.{head_of}
 use Rattle.list_package.specs.declared.columns.Column.{Column}

@@ -1,7 +1,7 @@
 -- The first line of items leaves lines that it was given.
 use Rattle.list_package.proofs.Common.{ℕ, List, Ok, Err, All, IfOk, codes, OutOfProfile}
-use Rattle.outside.specs.Words.{words}
-use Rattle.outside.specs.Refusals.{refusal}
+use Rattle.outside.specs.Names.{words}
+use Rattle.outside.specs.Codes.{refusal}
 use Rattle.record_lines.specs.Items.{begins_with, line_at}
 use Rattle.record_lines.specs.Layout.{Left, Numbered}
 use Rattle.record_lines.proofs.Forward.{chain, either, line_held}

@@ -7,7 +7,7 @@ use Rattle.model_types.specs.Layers.{dec_at, is_active}
 use Rattle.std.proofs.Common.{IfOk}
 use Rattle.std.specs.Option.{option_to_list}
 use Rattle.std.proofs.lemmas.List.Sums.{sum-map}
-use Rattle.outside.specs.declared.refusals.TextFault.{TextFault}
+use Rattle.outside.specs.declared.inputs.TextFault.{TextFault}
 use Rattle.model_types.specs.declared.model.FlowModel.{FlowModel}
 use Rattle.model_types.specs.Receivers.{EvapSource, is_chosen}
 use Rattle.model_types.specs.Sources.{evap_sources}

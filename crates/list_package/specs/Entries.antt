@@ -1,21 +1,26 @@
 -- An entry of a list: Layer Row Column, and the numbers of its package (TM 6-A16, WEL, RIV, DRN, GHB, CHD).
-use Rattle.std.specs.Prelude.{ℕ, ◌-◌, ℤ, Bool, true, false, ◌||◌, List, length, Option, Some, None, Result, Ok, Err}
-use Rattle.std.specs.Prelude.{if◌then◌else◌, cond, codes, replicate, slice_index_or, slice_set}
-use Rattle.outside.specs.Refusals.{refusal}
+use Rattle.std.specs.Prelude.{ℕ, ◌-◌, ℤ, Bool, true, false, ◌||◌, List, length, Option, Some, None, Result, Ok, Err, if◌then◌else◌, cond, codes, replicate}
+use Rattle.std.specs.Prelude.{slice_index_or, slice_set, not, ◌&&◌, nat_lt, [], ◌∷◌}
+use Rattle.outside.specs.Codes.{refusal}
 use Rattle.outside.specs.declared.codes.Code.{Code}
 use Rattle.outside.specs.declared.codes.Code.TheVariants.{OutOfProfile, CellOutside, BadProperty}
-use Rattle.outside.specs.declared.refusals.Refusal.{Refusal}
+use Rattle.outside.specs.declared.inputs.Refusal.{Refusal}
 use Rattle.record_lines.specs.Items.{begins_with, line_at}
-use Rattle.outside.specs.Words.{words}
+use Rattle.outside.specs.Names.{words}
 use Rattle.record_lines.specs.Layout.{Left}
 use Rattle.record_lines.specs.Reading.{◌>>=◌, repeated}
-use Rattle.array_reader.specs.Items.{number_at}
+use Rattle.array_reader.specs.Control.{number_at}
 use Rattle.array_reader.specs.Numbers.{integer, number}
 use Rattle.model_types.specs.declared.grid.Grid.{Grid}
 use Rattle.model_types.specs.declared.grid.CellId.{CellId}
-use Rattle.model_types.specs.Cells.{cell_count, cell_number}
-use Rattle.number_limits.specs.Signs.{within}
+use Rattle.model_types.specs.Faces.{cell_count, cell_number}
+use Rattle.number_limits.specs.Magnitudes.{within, is_one, is_same_number}
 use Rattle.list_package.specs.Kinds.{Kind, first_fault}
+use Rattle.std.specs.List.{list_all}
+use Rattle.model_types.specs.declared.entry.Given.{Given}
+use Rattle.model_types.specs.declared.period.Period.{Period}
+use Rattle.model_types.specs.Layers.{dec_at}
+use Rattle.list_package.specs.declared.columns.Column.TheVariants.{Head}
 
 abbrev pub inside : Option ℕ → Refusal → Result ℕ Refusal
 inside None r = Err r
@@ -66,3 +71,29 @@ without_marks read = read >>= λ x. Ok (x.0, x.1.1)
 -- a list of this many entries
 unfoldable pub new_list : {E : Type 0} → Kind E → List ℕ → Grid → ℕ → Left → Result (List E × Left) Refusal
 new_list kind file grid n left = without_marks (repeated n (entry_at kind file grid) (no_marks kind grid, left))
+
+-- Time-variant specified heads: Shead Ehead after Layer Row Column (TM 6-A16, CHD). That a list names a cell at most
+-- once, and the rule of growing steps, are this program's own.
+-- an entry whose two heads are the same number
+abbrev pub is_level : Given → Bool
+is_level x = is_same_number x.shead x.ehead
+
+-- a steady period of more than one step whose TSMULT isn't 1
+abbrev pub is_growing : Period → Bool
+is_growing p = p.steady && (nat_lt 1 p.nstp && not (is_one p.tsmult))
+
+-- in such a period no head may change
+abbrev pub suits_heads : Period → List Given → Bool
+suits_heads p list = if is_growing p then list_all is_level list else true
+
+abbrev pub given_heads : Kind Given
+given_heads =
+    record {
+      columns = Head ∷ Head ∷ [];
+      entry = λ cell xs. record { cell = cell; shead = dec_at xs 0; ehead = dec_at xs 1 };
+      place = λ x. x.cell.0;
+      once = true;
+      suits = suits_heads;
+      list = λ s. s.given;
+      put = λ s list. record s { given = list };
+    }

@@ -1,15 +1,15 @@
 -- The lines before entries: the first line of a file, and ITMP and NP of a stress period (TM 6-A16, WEL, RIV, DRN, GHB, CHD).
 use Rattle.std.specs.Prelude.{ℕ, ℤ, pos, negsuc, Bool, true, false, not, ◌&&◌, List, [], ◌∷◌, nat_le, nat_lt, Option}
 use Rattle.std.specs.Prelude.{Some, None, Result, Ok, Err, if◌then◌else◌, codes}
-use Rattle.decimal_input.specs.Words.{integer_of}
-use Rattle.outside.specs.Refusals.{refusal}
+use Rattle.decimal_input.specs.Grammar.{integer_of}
+use Rattle.outside.specs.Codes.{refusal}
 use Rattle.outside.specs.declared.codes.Code.TheVariants.{OutOfProfile, TooManyEntries, NothingToReuse}
-use Rattle.outside.specs.declared.refusals.Refusal.{Refusal}
+use Rattle.outside.specs.declared.inputs.Refusal.{Refusal}
 use Rattle.record_lines.specs.Items.{begins_with, line_at}
-use Rattle.outside.specs.Words.{words}
+use Rattle.outside.specs.Names.{words}
 use Rattle.record_lines.specs.Layout.{Numbered, Left}
 use Rattle.record_lines.specs.Reading.{◌>>=◌}
-use Rattle.array_reader.specs.Items.{number_at}
+use Rattle.array_reader.specs.Control.{number_at}
 use Rattle.array_reader.specs.Numbers.{integer}
 use Rattle.model_types.specs.declared.limits.Limits.{Limits}
 use Rattle.model_types.specs.Limits.{most_entries}

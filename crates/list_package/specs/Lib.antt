@@ -1,5 +1,4 @@
 pub mod Kinds
-pub mod GivenHeads
 pub mod Entries
 pub mod Headers
 pub mod Seen

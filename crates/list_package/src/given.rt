@@ -2,7 +2,7 @@
 ghost use Rattle.std.specs.Prelude.{◌≡◌, ◌↔◌, IsTrue, All, []};
 ghost use Rattle.std.specs.List.{list_all};
 ghost use Rattle.model_types.specs.Valid.{IsGivenValid};
-ghost use Rattle.list_package.specs.GivenHeads.{given_heads, is_level, is_growing, suits_heads};
+ghost use Rattle.list_package.specs.Entries.{given_heads, is_level, is_growing, suits_heads};
 
 use crate::columns::Column;
 use crate::kind::ListEntry;

@@ -1,7 +1,7 @@
 // A list for each stress period.
 ghost use Rattle.std.specs.Prelude.{◌≡◌, IfOk, IfSome, All, map};
 ghost use Rattle.record_lines.specs.Reading.{GivesText, HasText, for_each};
-ghost use Rattle.model_types.specs.Cells.{cell_count};
+ghost use Rattle.model_types.specs.Faces.{cell_count};
 ghost use Rattle.model_types.specs.Grids.{HasSize};
 ghost use Rattle.list_package.specs.Forms.{IsList};
 ghost use Rattle.list_package.specs.Kinds.{with_list, without};

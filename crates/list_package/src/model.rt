@@ -1,7 +1,7 @@
 // A model with the lists of a package.
 ghost use Rattle.std.specs.Prelude.{◌≡◌, IfOk, All, map};
 ghost use Rattle.record_lines.specs.Reading.{HasText};
-ghost use Rattle.model_types.specs.Cells.{cell_count};
+ghost use Rattle.model_types.specs.Faces.{cell_count};
 ghost use Rattle.model_types.specs.Grids.{HasSize};
 ghost use Rattle.model_types.specs.Valid.{IsModel};
 ghost use Rattle.list_package.specs.Forms.{IsList, SameBut};

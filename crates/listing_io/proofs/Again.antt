@@ -8,8 +8,7 @@ use Rattle.listing_io.proofs.Common.{zone_front, zone_line, zone_pair, step_line
 use Rattle.listing_io.proofs.Common.{term_if, terms_at, flow_at, step_with, step_at, first_at, listing_at, AreCellBounds, IsFlowPair, AreFlows, AreFlowsAt}
 use Rattle.listing_io.proofs.Common.{AreTerms, IsListedStep, AreListed, all_terms, is_printed, each_lines}
 use Rattle.listing_io.proofs.Exactly.{line_whole}
-use Rattle.listing_io.proofs.Each.{left_of, grouped, each_again}
-use Rattle.listing_io.proofs.Terms.{line_if, term_rows, IsPairIf, IsTermPair, terms_good, lines_in, lines_out}
+use Rattle.listing_io.proofs.Terms.{left_of, grouped, each_again, line_if, term_rows, IsPairIf, IsTermPair, terms_good, lines_in, lines_out}
 
 -- two numbers that a line can have
 pub record Fits (f : Form) (p : TermPair) : Type 0 where

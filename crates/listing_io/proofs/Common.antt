@@ -16,50 +16,45 @@ pub use Rattle.std.specs.Fmt.{signed_decimal}
 pub use Rattle.std.specs.List.{AllByRecursion, AllZip, flat_map, list_all, position_or_len, range_with_len}
 pub use Rattle.std.specs.Str.{bytes_eq}
 pub use Rattle.std.specs.Str.Parse.{AllDigits, digits_value_after}
-pub use Rattle.budget_bounds.specs.Singles.{place_of}
-pub use Rattle.budget_bounds.specs.Terms.{all_terms, no_pair}
+pub use Rattle.budget_bounds.specs.Terms.{all_terms, no_pair, place_of}
 pub use Rattle.budget_bounds.specs.declared.pair.Budget.{Budget}
 pub use Rattle.budget_bounds.specs.declared.pair.TermPair.{TermPair}
 pub use Rattle.fixed_text.specs.Fixed.{fixed_text, padded, sign}
-pub use Rattle.listing_io.specs.Forms.{Form, IsForm, IsPairLine, LinesReadExactly, behind_word, first_word, is_within, pair_line}
-unfoldable pub use Rattle.listing_io.specs.Forms.{candidate, pair_in}
-pub use Rattle.listing_io.specs.Laws.{AreZonePairs, IsListing, IsTime, IsWritable, ListingsAreApart, ListingsAreReadAgain, ListingsWereWritten}
-pub use Rattle.listing_io.specs.Listed.{AreCellBounds, AreFlows, AreFlowsAt, AreListed, AreTerms, IsCellBound, IsFlowPair, IsListedStep}
+pub use Rattle.listing_io.specs.Forms.{Form, IsForm, IsPairLine, LinesReadExactly, behind_word, first_word, is_negative, is_within, pair_line, value_of}
+pub use Rattle.listing_io.specs.Forms.{with_byte}
+unfoldable pub use Rattle.listing_io.specs.Forms.{candidate, digits_behind, pair_in}
+pub use Rattle.listing_io.specs.Laws.{AreCellBounds, AreFlows, AreFlowsAt, AreListed, AreTerms, AreZonePairs, IsCellBound, IsFlowPair, IsListedStep, IsListing}
+pub use Rattle.listing_io.specs.Laws.{IsTime, IsWritable, ListingsAreApart, ListingsAreReadAgain, ListingsWereWritten}
 pub use Rattle.listing_io.specs.Listing.{Line, dir_front, each_lines, end_line, ended, first_line, flow_form, has_evt, head_form, head_front, head_line}
 pub use Rattle.listing_io.specs.Listing.{head_pair, model_line, numbers_text, printed_terms, step_line, term_form, term_line, text_of, zone_front, zone_line}
 pub use Rattle.listing_io.specs.Listing.{zone_pair}
-unfoldable pub use Rattle.listing_io.specs.Listing.{all_step_lines, head_lines, listing, step_lines, step_text, term_lines}
-pub use Rattle.listing_io.specs.Numbers.{is_negative, value_of, with_byte}
-unfoldable pub use Rattle.listing_io.specs.Numbers.{digits_behind}
+unfoldable pub use Rattle.listing_io.specs.Listing.{all_step_lines, head_lines, listing, step_lines, step_text, term_lines, variable_lines}
 pub use Rattle.listing_io.specs.Reading.{Has, Left, Stops, all_lines, bound_of, first_line_before, first_of, flow_of, head_if, is_first, is_printed, line_at}
 pub use Rattle.listing_io.specs.Reading.{none_of, or_refused, over_at, step_at, term_if}
 unfoldable pub use Rattle.listing_io.specs.Reading.{first_at, flow_at, heads_at, listing_at, pair_at, step_with, terms_at, text_at}
-unfoldable pub use Rattle.listing_io.specs.Views.{variable_lines}
 pub use Rattle.listing_io.specs.declared.fault.Fault.{Fault}
 pub use Rattle.listing_io.specs.declared.fault.Fault.TheVariants.{BadLine, Memory}
 pub use Rattle.listing_io.specs.declared.listing.ListedStep.{ListedStep}
-pub use Rattle.model_types.specs.Cells.{cell_count, layer_size, place}
+pub use Rattle.model_types.specs.Faces.{cell_count, layer_size, place}
 pub use Rattle.model_types.specs.Layers.{is_active}
 pub use Rattle.model_types.specs.Times.{period_at, steps_of}
 unfoldable pub use Rattle.model_types.specs.Times.{times}
 pub use Rattle.model_types.specs.declared.grid.Grid.{Grid}
 pub use Rattle.model_types.specs.declared.model.FlowModel.{FlowModel}
 pub use Rattle.model_types.specs.declared.time_steps.TimeStep.{TimeStep}
-unfoldable pub use Rattle.outside.specs.Words.{lines}
-pub use Rattle.record_lines.proofs.Each.{each_done, each_goes_on}
-pub use Rattle.record_lines.proofs.Loops.{regroup, with_front}
+unfoldable pub use Rattle.outside.specs.Names.{lines}
+pub use Rattle.record_lines.proofs.Loops.{each_done, each_goes_on, regroup, with_front}
 pub use Rattle.record_lines.specs.Layout.{next_number}
 pub use Rattle.record_lines.specs.Reading.{◌>>=◌}
 unfoldable pub use Rattle.record_lines.specs.Reading.{for_each}
 pub use Rattle.step_problem.specs.Conditions.{IsHead, head_limit}
 pub use Rattle.step_problem.specs.Heads.{no_bound}
-pub use Rattle.step_problem.specs.Names.{term_name}
+pub use Rattle.step_problem.specs.StepRefusals.{term_name}
 pub use Rattle.step_problem.specs.declared.heads.Bound.{Bound}
 pub use Rattle.step_problem.specs.declared.place.Dir.{Dir}
 pub use Rattle.step_problem.specs.declared.place.Dir.TheVariants.{In, Out}
 pub use Rattle.step_problem.specs.declared.place.Term.{Term}
 pub use Rattle.step_problem.specs.declared.place.Term.TheVariants.{ConstantHead, Drains, Et, HeadDepBounds, Recharge, RiverLeakage, Storage, Wells}
 pub use Rattle.step_problem.specs.declared.place.ZoneFlow.{ZoneFlow}
-pub use Rattle.zone_pairs.specs.Pairs.{pairs_in, zones_of_flow}
-pub use Rattle.zone_pairs.specs.Periods.{ArePairs, zones_of}
+pub use Rattle.zone_pairs.specs.Pairs.{ArePairs, pairs_in, zones_of, zones_of_flow}
 pub use Rattle.zone_pairs.specs.declared.pair.ZonePair.{ZonePair}

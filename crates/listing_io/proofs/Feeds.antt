@@ -9,8 +9,7 @@ use Rattle.listing_io.proofs.Common.{listing_at, AreCellBounds, AreFlows, AreFlo
 use Rattle.listing_io.proofs.Common.{ListingsAreReadAgain, model_line, signed_decimal, all_terms, is_printed, each_lines}
 use Rattle.listing_io.proofs.Blanks.{Without, Without-append, by_test, decimal_without, fixed_without}
 use Rattle.listing_io.proofs.Exactly.{fits_wide}
-use Rattle.listing_io.proofs.Each.{left_of}
-use Rattle.listing_io.proofs.Terms.{line_if, term_rows, IsPairIf, IsTermPair, terms_good, lines_in, lines_out}
+use Rattle.listing_io.proofs.Terms.{left_of, line_if, term_rows, IsPairIf, IsTermPair, terms_good, lines_in, lines_out}
 use Rattle.listing_io.proofs.Again.{Fits, IsSmall, flow_fits, head_fits, term_fits, rows_again}
 
 abbrev pub NoFeed : List ℕ → Type 0

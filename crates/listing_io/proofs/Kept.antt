@@ -6,8 +6,7 @@ use Rattle.listing_io.proofs.Common.{head_form, head_front, dir_front, term_form
 use Rattle.listing_io.proofs.Common.{bound_of, head_if, heads_at, term_if, terms_at, flow_of, flow_at, step_with, step_at, first_at, over_at, listing_at}
 use Rattle.listing_io.proofs.Common.{IsCellBound, AreCellBounds, IsFlowPair, AreFlows, AreFlowsAt, AreTerms, IsListedStep, AreListed, all_terms, is_printed}
 use Rattle.listing_io.proofs.Written.{pair_row}
-use Rattle.listing_io.proofs.Each.{goes, same_ok, zip_length, zip_all, each_holds}
-use Rattle.listing_io.proofs.Terms.{IsPairIf, IsTermPair, good_terms}
+use Rattle.listing_io.proofs.Terms.{goes, same_ok, zip_length, zip_all, each_holds, IsPairIf, IsTermPair, good_terms}
 use Rattle.listing_io.proofs.Again.{IsSmall, IsStepAt}
 
 is_head : (z : ℤ) → nat_abs z ≤ head_limit → IsHead z

@@ -2,7 +2,6 @@ mod Common
 pub mod NumberLemmas
 pub mod Blanks
 pub mod Exactly
-pub mod Each
 pub mod Terms
 pub mod Written
 pub mod Again
@@ -10,7 +9,6 @@ pub mod Feeds
 pub mod Kept
 pub mod Walks
 pub mod Ends
-pub mod Joined
 pub mod Periods
 pub mod Rows
 pub mod Apart

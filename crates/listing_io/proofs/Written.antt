@@ -8,8 +8,7 @@ use Rattle.listing_io.proofs.Common.{all_lines, line_at, first_of, or_refused, p
 use Rattle.listing_io.proofs.Common.{flow_at, step_with, step_at, first_line_before, first_at, none_of, over_at, listing_at, IsListing, ListingsWereWritten}
 use Rattle.listing_io.proofs.Common.{is_first, Budget, all_terms, is_printed, each_lines, length}
 use Rattle.listing_io.proofs.Exactly.{line_sound}
-use Rattle.listing_io.proofs.Each.{same_ok, clash, goes, grouped, each_row, each_whole}
-use Rattle.listing_io.proofs.Terms.{line_if, term_rows, lines_in, lines_out}
+use Rattle.listing_io.proofs.Terms.{same_ok, clash, goes, grouped, each_row, each_whole, line_if, term_rows, lines_in, lines_out}
 
 first_row : (n : ℕ) (rows : List Line) (got : Line × Left) → first_of n rows ≡ Ok got → rows ≡ got.0 ∷ got.1.lines
 first_row n [] got h = absurd (clash n got (first_of n []) refl h)

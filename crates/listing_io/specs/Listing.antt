@@ -11,18 +11,19 @@ use Rattle.step_problem.specs.declared.place.Term.{Term}
 use Rattle.step_problem.specs.declared.place.Term.TheVariants.{Storage, ConstantHead, Wells, Drains, RiverLeakage, HeadDepBounds, Recharge, Et}
 use Rattle.step_problem.specs.declared.place.ZoneFlow.{ZoneFlow}
 use Rattle.step_problem.specs.Conditions.{head_limit}
-use Rattle.step_problem.specs.Names.{dir_name, term_name}
+use Rattle.step_problem.specs.StepRefusals.{dir_name, term_name}
 use Rattle.budget_bounds.specs.declared.pair.TermPair.{TermPair}
 use Rattle.budget_bounds.specs.declared.pair.Budget.{Budget}
 use Rattle.budget_bounds.specs.Terms.{bounds_in}
 use Rattle.model_types.specs.declared.grid.Grid.{Grid}
 use Rattle.model_types.specs.declared.model.FlowModel.{FlowModel}
 use Rattle.model_types.specs.declared.time_steps.TimeStep.{TimeStep}
-use Rattle.model_types.specs.Cells.{place}
+use Rattle.model_types.specs.Faces.{place}
 use Rattle.model_types.specs.Layers.{is_active, is_nonzero}
 use Rattle.model_types.specs.Times.{times}
 use Rattle.listing_io.specs.declared.listing.ListedStep.{ListedStep}
 use Rattle.listing_io.specs.Forms.{Form, pair_line}
+use Rattle.step_problem.specs.Entries.{Entries, entries_at}
 
 -- a line, without its line feed
 abbrev pub Line : Type 0
@@ -134,3 +135,16 @@ first_text between m s = text_of (first_line between m s ∷ [])
 
 unfoldable pub step_text : FlowModel → ℕ → TimeStep → List Bound → Budget → List ZoneFlow → List ℕ
 step_text m s at heads b zones = text_of (step_lines m s at heads b zones)
+
+-- The text of a view: the line WATCH, and the line HEAD of each variable cell.
+-- a view of a time step, by its stress period and its number
+abbrev pub watch_line : TimeStep → Line
+watch_line at = codes "WATCH" ++ numbers_text (at.period ∷ at.step ∷ [])
+
+-- the variable cells of a problem, from the one of index c on, whose heads these are
+unfoldable pub variable_lines : Grid → List Entries → ℕ → List Bound → List Line
+variable_lines g p c [] = []
+variable_lines g p c (b ∷ bs) = head_line g (entries_at p c).id b ∷ variable_lines g p (c + 1) bs
+
+unfoldable pub view_text : Grid → TimeStep → List Entries → List Bound → List ℕ
+view_text g at p heads = ended (watch_line at) ++ text_of (variable_lines g p 0 heads)

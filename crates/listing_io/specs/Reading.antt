@@ -2,9 +2,9 @@
 use Rattle.std.specs.Prelude.{◌≡◌, ℕ, zero, suc, ◌+◌, Bool, true, false, ◌||◌, codes, if◌then◌else◌, List, [], ◌∷◌, Option, Some, None, Result, Ok, Err}
 use Rattle.std.specs.Str.{bytes_eq}
 use Rattle.outside.specs.declared.codes.Code.TheVariants.{BadListing}
-use Rattle.outside.specs.declared.refusals.Refusal.{Refusal}
-use Rattle.outside.specs.Refusals.{refusal}
-use Rattle.outside.specs.Words.{lines}
+use Rattle.outside.specs.declared.inputs.Refusal.{Refusal}
+use Rattle.outside.specs.Codes.{refusal}
+use Rattle.outside.specs.Names.{lines}
 use Rattle.record_lines.specs.Layout.{next_number}
 use Rattle.record_lines.specs.Reading.{◌>>=◌, for_each}
 use Rattle.step_problem.specs.declared.heads.Bound.{Bound}
@@ -18,7 +18,7 @@ use Rattle.budget_bounds.specs.declared.pair.TermPair.{TermPair}
 use Rattle.budget_bounds.specs.Terms.{all_terms, no_pair}
 use Rattle.model_types.specs.declared.model.FlowModel.{FlowModel}
 use Rattle.model_types.specs.declared.time_steps.TimeStep.{TimeStep}
-use Rattle.model_types.specs.Cells.{cell_count}
+use Rattle.model_types.specs.Faces.{cell_count}
 use Rattle.model_types.specs.Layers.{is_active}
 use Rattle.model_types.specs.Times.{times}
 use Rattle.zone_pairs.specs.declared.pair.ZonePair.{ZonePair}

@@ -3,21 +3,25 @@ ghost use Rattle.listing_io.specs.Forms.{LinesReadExactly};
 ghost use Rattle.listing_io.specs.Laws.{ListingsAreApart, ListingsAreReadAgain, ListingsWereWritten};
 
 /// A line is read as the numbers that are written as this line, and as nothing else.
+#[tactic(auto, using(crate::proofs::Exactly::lines_read_exactly))]
 pub fn lines_read_exactly()
     ensures { LinesReadExactly }
 {}
 
 /// The text written for a model's steps is read as these steps.
+#[tactic(auto, using(crate::proofs::Feeds::listings_are_read_again))]
 pub fn listings_are_read_again()
     ensures { ListingsAreReadAgain }
 {}
 
 /// A text that is read is the one written for the steps read, except for a first line of version 1.
+#[tactic(auto, using(crate::proofs::Written::listings_were_written))]
 pub fn listings_were_written()
     ensures { ListingsWereWritten }
 {}
 
 /// No text is read both as the listing for all models between two decks and as that of a model.
+#[tactic(auto, using(crate::proofs::Apart::listings_are_apart))]
 pub fn listings_are_apart()
     ensures { ListingsAreApart }
 {}

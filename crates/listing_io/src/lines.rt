@@ -1,6 +1,6 @@
 // The lines of a listing.
 ghost use Rattle.std.specs.Prelude.{◌≡◌, ◌∷◌, [], MatchResult, IfOk};
-ghost use Rattle.outside.specs.Words.{lines};
+ghost use Rattle.outside.specs.Names.{lines};
 ghost use Rattle.record_lines.specs.Layout.{next_number};
 ghost use Rattle.listing_io.specs.Reading.{Gives, Has, Left, Passes, all_lines, line_at, over_at, text_at};
 
@@ -49,7 +49,7 @@ impl<'a> AllLines<'a> {
     }
 
     /// The next line.
-    #[tactic(auto, unfolding(outside::specs::Words::lines))]
+    #[tactic(auto, unfolding(outside::specs::Names::lines))]
     pub(crate) fn take(&mut self) -> Result<&'a [u8], Fault>
         ensures { Gives (λ line. line.now) result self.new (line_at self.old) }
     {
@@ -77,7 +77,7 @@ impl<'a> AllLines<'a> {
     }
 
     /// Tests that no line is left.
-    #[tactic(auto, using(crate::proofs::Ends::has_a_line), unfolding(outside::specs::Words::lines))]
+    #[tactic(auto, using(crate::proofs::Ends::has_a_line), unfolding(outside::specs::Names::lines))]
     pub(crate) fn end(&self) -> Result<(), Fault>
         ensures { Has (λ done. done) result (over_at self.now) }
     {

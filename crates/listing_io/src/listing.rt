@@ -1,7 +1,7 @@
 // A listing that was read.
 ghost use Rattle.std.specs.Prelude.{◌≡◌, ◌<◌, List, length};
 ghost use Rattle.listing_io.specs.declared.listing.ListedStep.{ListedStep};
-ghost use Rattle.listing_io.specs.Listed.{step_in};
+ghost use Rattle.listing_io.specs.Laws.{step_in};
 
 use budget_bounds::Budget;
 use model_types::Listed;

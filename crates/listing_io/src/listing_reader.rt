@@ -3,9 +3,8 @@ ghost use Rattle.std.specs.Prelude.{◌≡◌, ◌≤◌, All, length, option_ma
 ghost use Rattle.model_types.specs.Grids.{HasSize};
 ghost use Rattle.model_types.specs.Times.{times};
 ghost use Rattle.record_lines.specs.Reading.{HasText, for_each};
-ghost use Rattle.zone_pairs.specs.Pairs.{pairs_in};
-ghost use Rattle.zone_pairs.specs.Periods.{ArePairs, CanPair, zones_of};
-ghost use Rattle.listing_io.specs.Listed.{AreListed};
+ghost use Rattle.zone_pairs.specs.Pairs.{pairs_in, ArePairs, CanPair, zones_of};
+ghost use Rattle.listing_io.specs.Laws.{AreListed};
 ghost use Rattle.listing_io.specs.Listing.{end_line, first_line};
 ghost use Rattle.listing_io.specs.Reading.{Gives, Has, Passes, all_lines, first_at, listing_at, listing_in, step_at};
 

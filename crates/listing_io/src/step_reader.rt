@@ -2,7 +2,7 @@
 ghost use Rattle.std.specs.Prelude.{◌≡◌, ◌≤◌, ◌<◌, ◌^◌, length, nat_abs, IfOk};
 ghost use Rattle.step_problem.specs.Conditions.{head_limit};
 ghost use Rattle.step_problem.specs.declared.place.Term.TheVariants.{Et};
-ghost use Rattle.model_types.specs.Cells.{cell_count};
+ghost use Rattle.model_types.specs.Faces.{cell_count};
 ghost use Rattle.model_types.specs.Grids.{HasSize};
 ghost use Rattle.model_types.specs.Layers.{is_active};
 ghost use Rattle.record_lines.specs.Reading.{for_each};

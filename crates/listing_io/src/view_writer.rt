@@ -2,8 +2,7 @@
 ghost use Rattle.std.specs.Prelude.{◌≡◌, ◌++◌, ◌<◌, length, IfOk};
 ghost use Rattle.step_problem.specs.Entries.{entries_at};
 ghost use Rattle.model_types.specs.Grids.{HasSize};
-ghost use Rattle.listing_io.specs.Listing.{ended, text_of};
-ghost use Rattle.listing_io.specs.Views.{variable_lines, view_text, watch_line};
+ghost use Rattle.listing_io.specs.Listing.{ended, text_of, variable_lines, view_text, watch_line};
 
 use crate::listing_writer::push_head;
 use crate::places::push_two;
@@ -45,7 +44,7 @@ fn push_variable_cells(
 }
 
 /// A view of a time step: the line WATCH, then the heads of the problem's variable cells.
-#[tactic(auto, unfolding(crate::specs::Views::view_text))]
+#[tactic(auto, unfolding(crate::specs::Listing::view_text))]
 pub fn write_view(
     alloc: Global,
     grid: &Grid,

@@ -6,27 +6,25 @@ pub use Rattle.std.specs.Prelude.{IfErr, IfOk, IfSome, MatchResult, false, if◌
 pub use Rattle.budget_bounds.specs.declared.pair.Budget.{Budget}
 pub use Rattle.decimal_input.specs.Fractions.{Fraction}
 pub use Rattle.deck_problems.proofs.Members.{between_cells, cell_of_member, each_member, encloses_first, encloses_member, member_cells, of_member}
+pub use Rattle.deck_problems.specs.ConstantHeads.{AreStartHeadsFor}
 pub use Rattle.deck_problems.specs.Decks.{AreDecks, EachMember, HoldsOf}
-pub use Rattle.deck_problems.specs.StartHeads.{AreStartHeadsFor}
 pub use Rattle.flow_equations.specs.ExactStep.{exact_step}
 pub use Rattle.flow_equations.specs.Histories.{SolvesFrom, heads_of, variable_heads}
 pub use Rattle.listing_io.specs.Listing.{first_text}
-pub use Rattle.listing_run.specs.Bounding.{BoundAll, BoundBetween, Bounds, BoundsMoves, EnclosesHistories, HistoriesBound}
 pub use Rattle.listing_run.specs.Ends.{FlowsStopBy, IsAtFirst, IsNext, IsNextText, IsStopEnd, IsWalk, StopsAt, stop_of, times_left}
 pub use Rattle.listing_run.specs.Laws.{ListingExcludesRefusal, ListingIsOne, RefusalIsOne, SettledListingIsClosed, WideKeepsListings}
-pub use Rattle.listing_run.specs.Listing.{IsCutListing, IsListing, IsListingBeside, IsPushed, begun, is_between, last_line, left, listed, listing, status_of}
-pub use Rattle.listing_run.specs.Listing.{text_of}
+pub use Rattle.listing_run.specs.Listing.{BoundAll, BoundBetween, Bounds, BoundsMoves, EnclosesHistories, HistoriesBound, IsCutListing, IsListing}
+pub use Rattle.listing_run.specs.Listing.{IsListingBeside, IsPushed, begun, is_between, last_line, left, listed, listing, status_of, text_of}
 pub use Rattle.listing_run.specs.Settlers.{AllSettledBy, AreSettledBy, IsSettledBy, PairEncloses, Reaches, ReachesFirst, RestsOrSettles, RestsOrSettlesFirst}
 pub use Rattle.listing_run.specs.Settlers.{rests, settled}
 pub use Rattle.listing_run.specs.Steps.{AllSettle, AllSteps, EndsAt, FirstSteps, HasNoBound, IsSolved, IsStep, StepsThen, budget_at, no_budget, no_heads}
 pub use Rattle.listing_run.specs.Steps.{no_zones}
-pub use Rattle.listing_run.specs.Tasks.{deck_task, pairs_of}
-pub use Rattle.listing_run.specs.Zones.{AreFlowsAt, FlowsEnclose, FlowsEncloseAt, HasLargeFlow, faces_at}
-pub use Rattle.listing_run.specs.declared.listing_end.ListingEnd.{ListingEnd}
-pub use Rattle.listing_run.specs.declared.step.Step.{Step}
+pub use Rattle.listing_run.specs.Tasks.{AreFlowsAt, FlowsEnclose, FlowsEncloseAt, HasLargeFlow, deck_task, faces_at, pairs_of}
+pub use Rattle.listing_run.specs.declared.solving.Step.{Step}
 pub use Rattle.listing_run.specs.declared.steps.Steps.{Steps}
-pub use Rattle.listing_run.specs.declared.task.Task.{Task}
-pub use Rattle.model_types.specs.Cells.{cell_count}
+pub use Rattle.listing_run.specs.declared.steps.Task.{Task}
+pub use Rattle.listing_run.specs.declared.text.ListingEnd.{ListingEnd}
+pub use Rattle.model_types.specs.Faces.{cell_count}
 pub use Rattle.model_types.specs.Heads.{start_head}
 pub use Rattle.model_types.specs.Times.{times}
 pub use Rattle.model_types.specs.declared.limits.Limits.{Limits}
@@ -39,10 +37,8 @@ pub use Rattle.outside.specs.declared.traits.SinkError.TheVariants.{Write}
 pub use Rattle.problem_builder.specs.GridHeads.{AreGridHeads, HeadsEnclose, IsActive, IsNamed}
 pub use Rattle.run_puts.proofs.Pieces.{IsAt, IsLate, at_more, ends_or_lacks, joined, joined_thrice, lacks_after, lacks_at_first, late_not_ok, put_was, stops_at}
 pub use Rattle.run_puts.proofs.Pieces.{tail_late, weaker}
-pub use Rattle.run_puts.specs.Ends.{IsEnd, IsLast, IsPut, IsWanting}
-pub use Rattle.run_puts.specs.Lines.{Text, end_line}
-pub use Rattle.run_puts.specs.Runs.{IsRun, whole}
-pub use Rattle.run_puts.specs.declared.status.Status.{Status}
+pub use Rattle.run_puts.specs.Runs.{IsEnd, IsLast, IsPut, IsRun, IsWanting, Text, end_line, memory_put, status_after, wanting, whole}
+pub use Rattle.run_puts.specs.declared.puts.Status.{Status}
 pub use Rattle.step_chain.specs.Barriers.{edges_by}
 pub use Rattle.step_chain.specs.Enclosing.{EnclosesMoves, IsMove, LieBetween, LiesBetweenBy, LiesWithin}
 pub use Rattle.step_chain.specs.Laws.{HeadsFit, StepExcludesRefusal, StepIsOne, WideKeepsSteps}

@@ -6,7 +6,6 @@ pub mod HistoriesBound
 pub mod UnderWay
 pub mod Pieces
 pub mod Settled
-pub mod Stopping
 pub mod Unique
 mod WideListings
 pub mod Wholes

@@ -8,11 +8,11 @@ use Rattle.budget_bounds.specs.Exact.{EnclosesBudgets, HeadsAreWithin}
 use Rattle.budget_bounds.specs.Terms.{budget_of}
 use Rattle.step_chain.specs.declared.solved.StepFault.{StepFault}
 use Rattle.step_chain.specs.Faults.{FailsBy as StepFailsBy}
-use Rattle.listing_run.specs.declared.stop.Stop.{Stop}
+use Rattle.listing_run.specs.declared.solving.Stop.{Stop}
 use Rattle.listing_run.proofs.Zoned.{within_enclosed, heads_named, flows_enclose}
 use Rattle.step_chain.specs.declared.solved.StepFault.TheVariants as chain
-use Rattle.listing_run.specs.declared.listing_end.ListingEnd.TheVariants as ends
-use Rattle.listing_run.specs.declared.stop.Stop.TheVariants as stops
+use Rattle.listing_run.specs.declared.text.ListingEnd.TheVariants as ends
+use Rattle.listing_run.specs.declared.solving.Stop.TheVariants as stops
 
 -- the budget by bounds that a slice lent
 budget_by : (x : Solved) (lent : List Bound) (r : Result Budget NoBound) → lent ≡ x.bounds → r ≡ budget_of x.problem (lower_at lent) (upper_at lent) → budget_at x ≡ r

@@ -4,7 +4,7 @@ use Rattle.listing_run.proofs.Common.{SinkError, Bound, Entries, Edges, IsSettle
 use Rattle.listing_run.proofs.Common.{each_member, of_member, Text, LieBetween, IsPosed, Steps, Task, AllSettledBy, AreSettledBy, IsSettledBy, PairEncloses}
 use Rattle.listing_run.proofs.Common.{Reaches, ReachesFirst, RestsOrSettles, RestsOrSettlesFirst, rests, settled, IsAtFirst, IsNextText, IsWalk, times_left}
 use Rattle.listing_run.proofs.Common.{Limits, Plain, Wide, exact_step, variable_heads, edges_by, LiesBetweenBy}
-use Rattle.cell_balance.specs.Solutions.{LiesBetween}
+use Rattle.cell_balance.specs.Balance.{LiesBetween}
 use Rattle.settle_driver.specs.Views.{HoldsPair}
 use Rattle.cell_balance.proofs.Totals.{le_trans_z}
 use Rattle.deck_problems.specs.Problems.{IsProblemFor}

@@ -4,7 +4,7 @@ use Rattle.listing_run.proofs.Common.{TimeStep, start_head, times, HeadsEnclose,
 use Rattle.listing_run.proofs.Common.{IsStep, StepsThen, EachMember, BoundsMoves, EnclosesHistories, begun, listing, IsListing, IsCutListing, last_line}
 use Rattle.listing_run.proofs.Common.{status_of, Steps, IsAtFirst, IsNext, IsNextText, IsWalk, times_left}
 use Rattle.listing_run.proofs.HistoriesBound.{AllBoundMoves, histories_bound}
-use Rattle.listing_run.specs.declared.listing_end.ListingEnd.TheVariants as ends
+use Rattle.listing_run.specs.declared.text.ListingEnd.TheVariants as ends
 
 module _ (k : Task) where
   -- these heads and times are left

@@ -7,9 +7,9 @@ use Rattle.listing_run.proofs.Common.{SettledListingIsClosed, RefusalIsOne}
 use Rattle.deck_problems.specs.Laws.{IsBefore, StartHeadsAreOne, StartHeadsFit}
 use Rattle.step_problem.specs.Settling.PairKind.{settled as settled_kind, certified as certified_kind}
 use Rattle.step_chain.specs.Laws.{RefusalIsOne as StepRefusalIsOne}
-use Rattle.zone_flows.specs.Laws.{FlowsAreOne, FlowsExcludeRefusal, RefusalIsOne as ZoneRefusalIsOne}
+use Rattle.zone_flows.specs.Pairs.{FlowsAreOne, FlowsExcludeRefusal, RefusalIsOne as ZoneRefusalIsOne}
 use Rattle.listing_run.specs.Steps.{Steps}
-use Rattle.listing_run.specs.declared.listing_end.ListingEnd.TheVariants as ends
+use Rattle.listing_run.specs.declared.text.ListingEnd.TheVariants as ends
 
 abbrev the_ok : {X E : Type 0} → X → Result X E → X
 the_ok x (Ok y) = y

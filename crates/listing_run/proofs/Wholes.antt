@@ -1,8 +1,8 @@
 -- A listing whose status is Ok is whole.
 use Rattle.listing_run.proofs.Common.{◌≡◌, List, refl, subst, Text, end_line, ListingEnd, Step, Task, EnclosesHistories, IsListing, last_line, listing}
 use Rattle.listing_run.proofs.Common.{status_of, AllSteps}
-use Rattle.run_puts.specs.declared.status.Status.TheVariants as status
-use Rattle.listing_run.specs.declared.listing_end.ListingEnd.TheVariants as ends
+use Rattle.run_puts.specs.declared.puts.Status.TheVariants as status
+use Rattle.listing_run.specs.declared.text.ListingEnd.TheVariants as ends
 
 pub record IsWhole (k : Task) (pieces : List Text) : Type 0 where
   pub values : List Step

@@ -4,7 +4,7 @@ use Rattle.listing_run.proofs.Common.{IsStep, deck_task, pairs_of}
 use Rattle.std.specs.Prelude.{Bool}
 use Rattle.deck_problems.specs.declared.decks.Decks.{Decks}
 use Rattle.listing_run.specs.Steps.{Steps}
-use Rattle.listing_run.specs.declared.listing_end.ListingEnd.TheVariants as ends
+use Rattle.listing_run.specs.declared.text.ListingEnd.TheVariants as ends
 
 module _ (keeps : WideKeepsSteps) (d : Decks) (s : ℕ) (zones : Option (List ℕ)) (rounds : ℕ) (quick : Bool) where
   abbrev task : Limits → Task

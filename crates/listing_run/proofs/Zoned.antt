@@ -4,7 +4,7 @@ use Rattle.listing_run.proofs.Common.{IfSome, Fraction, Bound, ZoneFlow, Entries
 use Rattle.listing_run.proofs.Common.{IsActive, IsNamed, LiesWithin, FlowsEnclose}
 use Rattle.std.specs.Prelude.{Contains}
 use Rattle.std.proofs.lemmas.List.Elements.{All-contains_itself, All-weaker}
-use Rattle.decimal_input.specs.Enclosures.{EnclosesSigned}
+use Rattle.decimal_input.specs.Wholes.{EnclosesSigned}
 use Rattle.step_problem.specs.declared.entry.Fixed.{Fixed}
 use Rattle.cell_balance.specs.Enclosures.{EnclosesStep}
 use Rattle.cell_balance.specs.Steps.{ExactCell}

@@ -11,29 +11,27 @@ use Rattle.model_types.specs.Times.{times}
 use Rattle.deck_problems.specs.Decks.{AreDecks, EachMember}
 use Rattle.model_types.specs.declared.time_steps.TimeStep.{TimeStep}
 use Rattle.problem_builder.specs.GridHeads.{AreGridHeads, HeadsEnclose}
-use Rattle.deck_problems.specs.StartHeads.{AreStartHeadsFor}
+use Rattle.deck_problems.specs.ConstantHeads.{AreStartHeadsFor}
 use Rattle.deck_problems.specs.Kept.{AreDeckTables}
-use Rattle.deck_problems.specs.declared.deck_tables.DeckTables.{DeckTables}
+use Rattle.deck_problems.specs.declared.problem.DeckTables.{DeckTables}
 use Rattle.step_chain.specs.declared.solved.Solved.{Solved}
 use Rattle.step_chain.specs.declared.solved.StepFault.TheVariants as chain
 use Rattle.step_chain.specs.declared.solved.StepFault.{StepFault}
-use Rattle.run_puts.specs.Ends.{IsWanting}
-use Rattle.run_puts.specs.Lines.{Text}
-use Rattle.run_puts.specs.declared.status.Status.TheVariants as status
-use Rattle.run_puts.specs.declared.status.Status.{Status}
-use Rattle.listing_run.specs.Bounding.{BoundsMoves}
-use Rattle.listing_run.specs.Listing.{text_of}
+use Rattle.run_puts.specs.Runs.{IsWanting, Text}
+use Rattle.run_puts.specs.declared.puts.Status.TheVariants as status
+use Rattle.run_puts.specs.declared.puts.Status.{Status}
+use Rattle.listing_run.specs.Listing.{BoundsMoves, text_of}
 use Rattle.listing_run.specs.Settlers.{IsSettledBy}
 use Rattle.listing_run.specs.Steps.{EndsAt, IsStep}
-use Rattle.zone_pairs.specs.Zones.{AreZones}
-use Rattle.listing_run.specs.Zones.{HasLargeFlow}
-use Rattle.listing_run.specs.declared.listing_end.ListingEnd.TheVariants as ends
-use Rattle.listing_run.specs.declared.step.Step.{Step}
+use Rattle.zone_pairs.specs.Pairs.{AreZones}
+use Rattle.listing_run.specs.Tasks.{HasLargeFlow}
+use Rattle.listing_run.specs.declared.text.ListingEnd.TheVariants as ends
+use Rattle.listing_run.specs.declared.solving.Step.{Step}
 use Rattle.listing_run.specs.declared.steps.StepFlows.{StepFlows}
 use Rattle.listing_run.specs.declared.steps.Steps.{Steps}
-use Rattle.listing_run.specs.declared.stop.Stop.TheVariants as stop
-use Rattle.listing_run.specs.declared.stop.Stop.{Stop}
-use Rattle.listing_run.specs.declared.task.Task.{Task}
+use Rattle.listing_run.specs.declared.solving.Stop.TheVariants as stop
+use Rattle.listing_run.specs.declared.solving.Stop.{Stop}
+use Rattle.listing_run.specs.declared.steps.Task.{Task}
 
 -- the conditions on a task: valid decks, alike where there are two, at most 18 digits, and a zone for each cell if there is a zone file
 pub record IsTask (k : Task) : Type 0 where

@@ -7,7 +7,7 @@ use Rattle.step_problem.specs.Entries.{Entries}
 use Rattle.step_problem.specs.Heads.{Edges, lower_at, upper_at}
 use Rattle.deck_problems.specs.declared.decks.Decks.{Decks}
 use Rattle.deck_problems.specs.Decks.{EachMember}
-use Rattle.deck_problems.specs.StartHeads.{AreStartHeadsFor}
+use Rattle.deck_problems.specs.ConstantHeads.{AreStartHeadsFor}
 use Rattle.model_types.specs.declared.limits.Limits.{Limits}
 use Rattle.model_types.specs.declared.time_steps.TimeStep.{TimeStep}
 use Rattle.model_types.specs.Times.{times}
@@ -15,8 +15,8 @@ use Rattle.settle_driver.specs.Views.{HoldsPair}
 use Rattle.step_chain.specs.Barriers.{edges_by}
 use Rattle.step_chain.specs.Steps.{IsPosed}
 use Rattle.step_chain.specs.Enclosing.{LieBetween}
-use Rattle.listing_run.specs.declared.task.Task.{Task}
-use Rattle.listing_run.specs.declared.step.Step.{Step}
+use Rattle.listing_run.specs.declared.steps.Task.{Task}
+use Rattle.listing_run.specs.declared.solving.Step.{Step}
 use Rattle.listing_run.specs.Steps.{IsStep}
 
 -- Every solution of the exact step of each member, from all exact heads within the old ones, lies between these heads at the problem's variable cells; with

@@ -8,16 +8,15 @@ use Rattle.budget_bounds.specs.declared.pair.Budget.{Budget}
 use Rattle.budget_bounds.specs.Terms.{budget_of}
 use Rattle.model_types.specs.declared.time_steps.TimeStep.{TimeStep}
 use Rattle.model_types.specs.Times.{times}
-use Rattle.deck_problems.specs.StartHeads.{AreStartHeadsFor}
+use Rattle.deck_problems.specs.ConstantHeads.{AreStartHeadsFor}
 use Rattle.step_chain.specs.declared.solved.Solved.{Solved}
 use Rattle.step_chain.specs.Barriers.{edges_by}
 use Rattle.step_chain.specs.Steps.{IsPosed, IsStepBy, HasNoHeads, SettlesIn}
-use Rattle.listing_run.specs.declared.listing_end.ListingEnd.{ListingEnd}
-use Rattle.listing_run.specs.declared.listing_end.ListingEnd.TheVariants as ends
-use Rattle.listing_run.specs.declared.task.Task.{Task}
-use Rattle.listing_run.specs.declared.step.Step.{Step}
-use Rattle.listing_run.specs.Tasks.{pairs_of}
-use Rattle.listing_run.specs.Zones.{AreFlowsAt, HasLargeFlow}
+use Rattle.listing_run.specs.declared.text.ListingEnd.{ListingEnd}
+use Rattle.listing_run.specs.declared.text.ListingEnd.TheVariants as ends
+use Rattle.listing_run.specs.declared.steps.Task.{Task}
+use Rattle.listing_run.specs.declared.solving.Step.{Step}
+use Rattle.listing_run.specs.Tasks.{pairs_of, AreFlowsAt, HasLargeFlow}
 
 -- the bounds of a solved step's budget, or its first term that is too large
 abbrev pub budget_at : Solved → Result Budget NoBound

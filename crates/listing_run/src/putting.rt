@@ -2,17 +2,15 @@
 ghost use Rattle.std.specs.Prelude.{◌≡◌, ◌⊎◌, List, ◌++◌, IfOk, IfErr, None, Some};
 ghost use Rattle.outside.specs.Puts.{Put};
 ghost use Rattle.outside.specs.declared.traits.SinkError.TheVariants.{Write};
-ghost use Rattle.run_puts.specs.Ends.{IsEnd, IsPut};
-ghost use Rattle.run_puts.specs.Runs.{IsRun};
+ghost use Rattle.run_puts.specs.Runs.{IsEnd, IsPut, IsRun};
 ghost use Rattle.listing_run.specs.Listing.{IsListingBeside, IsCutListing, last_line, status_of};
 ghost use Rattle.listing_run.specs.Settlers.{AllSettledBy, ReachesFirst, RestsOrSettlesFirst};
 ghost use Rattle.listing_run.specs.Ends.{IsAtFirst, IsNextText, IsStopEnd, IsTask, IsWalk, StopsAt, times_left};
 ghost use Rattle.listing_run.specs.Tasks.{pairs_of};
 
-use crate::listing_end::ListingEnd;
-use crate::steps::Steps;
-use crate::stop::Stop;
-use crate::task::Task;
+use crate::solving::Stop;
+use crate::steps::{Steps, Task};
+use crate::text::ListingEnd;
 use listing_io::write_first;
 use model_types::TimeStep;
 use outside::{Sink, SinkError};

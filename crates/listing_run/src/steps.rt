@@ -4,14 +4,12 @@ ghost use Rattle.listing_run.specs.Ends.{IsAtFirst, IsNext, IsNextText, IsTask, 
 ghost use Rattle.listing_run.specs.Settlers.{RestsOrSettlesFirst};
 ghost use Rattle.listing_run.specs.Tasks.{pairs_of};
 
-use crate::listing_end::ListingEnd;
-use crate::solving::solve;
-use crate::stop::Stop;
-use crate::task::Task;
+use crate::solving::{Stop, solve};
+use crate::text::ListingEnd;
 use budget_bounds::Budget;
-use deck_problems::{DeckTables, start_heads_for};
+use deck_problems::{DeckTables, Decks, start_heads_for};
 use listing_io::write_step;
-use model_types::{Listed, TimeStep, times};
+use model_types::{Limits, Listed, TimeStep, times};
 use std::alloc::{AllocError, Global};
 use step_problem::{Bound, Settler, ZoneFlow};
 
@@ -143,4 +141,18 @@ impl Steps {
         )?;
         Ok(text)
     }
+}
+
+// A task: what is to be listed.
+
+/// What is to be listed, by these limits: the decks, the digits s of conductances, the zone of each cell, if there is a zone file, the
+/// number of plain rounds in which each step must settle, and whether a step may have any pair that is a certificate.
+#[derive(Drop)]
+pub struct Task {
+    pub limits: Limits,
+    pub decks: Decks,
+    pub digits: u32,
+    pub zones: Option<Listed<u32>>,
+    pub rounds: u32,
+    pub quick: bool,
 }

@@ -3,15 +3,15 @@ ghost use Rattle.std.specs.Prelude.{◌≡◌, ◌++◌, IfOk};
 ghost use Rattle.listing_run.specs.Ends.{IsAtFirst, IsTask, IsWalk};
 ghost use Rattle.listing_run.specs.Listing.{IsPushed, last_line, status_of};
 ghost use Rattle.listing_run.specs.Tasks.{pairs_of};
+ghost use Rattle.model_types.specs.Grids.{HasSize};
 
-use crate::listing_end::ListingEnd;
-use crate::steps::Steps;
-use crate::stop::Stop;
-use crate::task::Task;
-use listing_io::write_first;
+use crate::solving::Stop;
+use crate::steps::{Steps, Task};
+use listing_io::{write_first, write_no_bound, write_unfinished};
+use model_types::{Grid, TimeStep};
 use run_puts::Status;
 use std::alloc::{AllocError, Global};
-use step_problem::Settler;
+use step_problem::{NoBound, Settler};
 
 // Adds the last line of a listing that ends so, and returns its status.
 fn push_end(
@@ -78,4 +78,46 @@ pub fn push_listing<S: Settler>(
 {
     let mut steps = Steps::new(alloc, task)?;
     push_steps(alloc, text, task, &mut steps, settler)
+}
+
+// How a listing ends.
+
+/// How a listing ends: with all steps, at the first step that has no bounds, or at the first that the rounds don't settle.
+#[derive(Clone, Copy)]
+pub enum ListingEnd {
+    Whole,
+    NoBound(TimeStep, NoBound),
+    Unfinished(TimeStep),
+}
+
+impl ListingEnd {
+    /// The status of a run whose listing ends so.
+    pub fn status(self) -> Status
+        ensures { result ≡ status_of self }
+    {
+        match self {
+            ListingEnd::Whole => Status::Ok,
+            ListingEnd::NoBound(at, fault) => Status::NoBound {
+                period: at.period,
+                step: at.step,
+                fault,
+            },
+            ListingEnd::Unfinished(at) => Status::Unfinished {
+                period: at.period,
+                step: at.step,
+            },
+        }
+    }
+
+    /// The last line of a listing that ends so.
+    pub fn line(self, alloc: Global, grid: &Grid) -> Result<Vec<u8>, AllocError>
+        requires { HasSize grid.now }
+        ensures { IfOk result (λ line. line.items ≡ last_line grid.now self) }
+    {
+        match self {
+            ListingEnd::Whole => Vec::from_slice(alloc, b"END\n"),
+            ListingEnd::NoBound(at, fault) => write_no_bound(alloc, grid, at, fault),
+            ListingEnd::Unfinished(at) => write_unfinished(alloc, at),
+        }
+    }
 }

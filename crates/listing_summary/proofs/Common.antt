@@ -4,9 +4,7 @@ pub use Rattle.std.proofs.Common.{◌∙◌, ◌∷◌, ◌≡◌, ◌≤◌}
 pub use Rattle.std.specs.List.{fold}
 pub use Rattle.listing_run.specs.Ends.{IsAtFirst, IsNext, IsWalk, times_left, with_heads}
 pub use Rattle.listing_run.specs.Steps.{EndsAt}
-pub use Rattle.listing_run.specs.declared.step.Step.{Step}
-pub use Rattle.listing_summary.specs.Counting.{Fits, counted, nothing, stepped}
-pub use Rattle.listing_summary.specs.Summaries.{printed_heads, summary_of, width}
+pub use Rattle.listing_summary.specs.Summaries.{Fits, IsSummarized, counted, nothing, printed_heads, stepped, summary_of, width}
 unfoldable pub use Rattle.listing_summary.specs.Summaries.{printed}
 pub use Rattle.listing_summary.specs.declared.summary.Summary.{Summary}
 pub use Rattle.step_problem.specs.Conditions.{IsHead, IsWithin}

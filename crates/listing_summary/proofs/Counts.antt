@@ -1,12 +1,19 @@
 -- What is counted, one line HEAD after another.
 use Rattle.listing_summary.proofs.Common.{◌≡◌, ℕ, ◌+◌, ◌<◌, ◌≤◌, ◌^◌, List, [], ◌∷◌, ◌++◌, length, drop, get_or, cond, refl, sym, ap, ◌∙◌, arith, ℤ, ◌+ℤ◌, fold}
-use Rattle.listing_summary.proofs.Common.{Bound, IsHead, IsWithin, Step, Summary, counted, stepped, nothing, Fits, printed, printed_heads, summary_of, width}
+use Rattle.listing_summary.proofs.Common.{Bound, IsHead, IsWithin, Summary, counted, stepped, nothing, Fits, printed, printed_heads, summary_of, width, Bool}
+use Rattle.listing_summary.proofs.Common.{Edges, EndsAt, IsAtFirst, IsNext, IsWalk, times_left, IsSummarized}
+use Rattle.listing_run.specs.declared.solving.Step.{Step}
 use Rattle.std.proofs.lemmas.Int.{ints, clamps}
 use Rattle.std.proofs.lemmas.List.{drop_more, drop_all, length-append}
 use Rattle.std.proofs.lemmas.List.Sums.{fold-append, fold_push}
 use Rattle.std.specs.Int.{int_max}
 use Rattle.model_types.specs.declared.model.FlowModel.{FlowModel}
 use Rattle.model_types.specs.Layers.{is_active}
+use Rattle.step_problem.specs.Entries.{Entries}
+use Rattle.listing_run.specs.declared.text.ListingEnd.{ListingEnd}
+use Rattle.listing_run.specs.declared.steps.Steps.{Steps}
+use Rattle.listing_run.specs.declared.steps.Task.{Task}
+use Rattle.listing_run.proofs.UnderWay.{IsSolved, encloses_if_whole, ended, none_solved, one_more_solved}
 
 -- the cells that are left
 pub one_cell : (m : FlowModel) (bs : List Bound) (c : ℕ) (d : Bound) (s t whole : Summary) → c < length bs → t ≡ fold counted s (cond (is_active m c) (get_or bs c d ∷ []) []) → fold counted s (printed m c (drop c bs)) ≡ whole → fold counted t (printed m (c + 1) (drop (c + 1) bs)) ≡ whole
@@ -83,3 +90,29 @@ one_step m values v heads s t same so_far is =
 
 pub all_counted_is : (m : FlowModel) (values : List Step) → all_counted m values ≡ summary_of m values
 all_counted_is m values = stepped_all m nothing values ∙ same (omega arith) (omega arith) refl refl refl
+
+-- The steps are counted, from one to the next, up to the listing's end.
+module _ (k : Task) where
+  -- the steps so far are solved and counted
+  pub record IsCounted (s : Steps) (n : Summary) : Type 0 where
+    pub values : List Step
+    pub solved : IsSolved k s.heads (times_left s) values
+    pub counts : n ≡ all_counted k.decks.first values
+
+  pub none_counted : (s : Steps) (n : Summary) → n ≡ nothing → IsWalk k s → IsAtFirst k s → IsCounted s n
+  none_counted s n none w f = record { values = []; solved = none_solved k s w f; counts = none }
+
+  pub one_more_counted : {S : Type 0} (leads : S → List Entries → Edges → Bool → S → Type 0) (s t : Steps) (before after : S) (v : Step) (n m : Summary) → IsNext leads k s t before after v → m ≡ stepped k.decks.first n t.heads → IsCounted s n → IsCounted t m
+  one_more_counted leads s t before after v n m next is so = record {
+    values = so.values ++ (v ∷ []);
+    solved = one_more_solved k leads s t before after v so.values so.solved next;
+    counts = one_step k.decks.first so.values v t.heads n m next.heads so.counts is;
+  }
+
+  pub all_counted_to_end : (s : Steps) (n : Summary) (last : ListingEnd) → EndsAt k last s.heads (times_left s) → IsCounted s n → IsSummarized k n last
+  all_counted_to_end s n last here so = record {
+    values = so.values;
+    steps = ended k s.heads (times_left s) so.values last so.solved here;
+    encloses = encloses_if_whole k s.heads (times_left s) so.values last so.solved here;
+    is = so.counts ∙ all_counted_is k.decks.first so.values;
+  }

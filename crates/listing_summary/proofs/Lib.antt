@@ -1,3 +1,2 @@
 mod Common
 pub mod Counts
-pub mod Walks

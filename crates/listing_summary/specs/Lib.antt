@@ -1,4 +1,1 @@
 pub mod Summaries
-pub mod Texts
-pub mod Ends
-pub mod Counting

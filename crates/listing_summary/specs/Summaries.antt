@@ -1,12 +1,20 @@
 -- A listing summed up in a few numbers.
-use Rattle.std.specs.Prelude.{ℕ, ◌+◌, ℤ, pos, ◌+ℤ◌, ◌-ℤ◌, cond, List, [], ◌∷◌, ◌++◌, length}
+use Rattle.std.specs.Prelude.{ℕ, ◌+◌, ℤ, pos, ◌+ℤ◌, ◌-ℤ◌, cond, List, [], ◌∷◌, ◌++◌, length, ◌*◌, ◌≡◌, codes}
 use Rattle.std.specs.Int.{int_max}
 use Rattle.std.specs.List.{flat_map, fold}
 use Rattle.step_problem.specs.declared.heads.Bound.{Bound}
 use Rattle.model_types.specs.declared.model.FlowModel.{FlowModel}
 use Rattle.model_types.specs.Layers.{is_active}
-use Rattle.listing_run.specs.declared.step.Step.{Step}
+use Rattle.listing_run.specs.declared.solving.Step.{Step}
 use Rattle.listing_summary.specs.declared.summary.Summary.{Summary}
+use Rattle.step_problem.specs.Conditions.{IsWithin, head_limit}
+use Rattle.listing_run.specs.declared.text.ListingEnd.{ListingEnd}
+use Rattle.listing_run.specs.declared.text.ListingEnd.TheVariants.{Whole}
+use Rattle.listing_run.specs.declared.steps.Task.{Task}
+use Rattle.listing_run.specs.Listing.{EnclosesHistories}
+use Rattle.listing_run.specs.Steps.{AllSteps}
+use Rattle.fixed_text.specs.Fixed.{fixed_text}
+use Rattle.listing_io.specs.Listing.{ended, numbers_text}
 
 -- The bounds that a step's lines HEAD print: those of the cells from c on whose IBOUND isn't 0.
 unfoldable pub printed : FlowModel → ℕ → List Bound → List Bound
@@ -43,3 +51,53 @@ summary_of m values =
       low_sum = low_sum (printed_heads m values);
       high_sum = high_sum (printed_heads m values);
     }
+
+-- A summary from one line HEAD and one step to the next, and facts that the counting calls pass to each other.
+-- nothing is counted yet
+abbrev pub nothing : Summary
+nothing = record { steps = 0; heads = 0; widest = pos 0; low_sum = pos 0; high_sum = pos 0 }
+
+-- after one more line HEAD
+abbrev pub counted : Summary → Bound → Summary
+counted s b =
+    record {
+      steps = s.steps;
+      heads = s.heads + 1;
+      widest = int_max (width b) s.widest;
+      low_sum = s.low_sum +ℤ b.low;
+      high_sum = s.high_sum +ℤ b.high;
+    }
+
+-- after one more step, with these heads of all cells
+abbrev pub stepped : FlowModel → Summary → List Bound → Summary
+stepped m s heads = record (fold counted s (printed m 0 heads)) { steps = s.steps + 1 }
+
+-- the sums are no greater than this many heads can make them
+pub record Fits (s : Summary) : Type 0 where
+  pub widest : IsWithin s.widest (2 * head_limit)
+  pub low : IsWithin s.low_sum (s.heads * head_limit)
+  pub high : IsWithin s.high_sum (s.heads * head_limit)
+
+-- What a summary says about its task.
+-- The steps of the task up to this end have values, which enclose every history if they are all, and this is the summary
+-- of their listing.
+pub record IsSummarized (k : Task) (s : Summary) (last : ListingEnd) : Type 0 where
+  pub values : List Step
+  pub steps : AllSteps k values last
+  pub encloses : last ≡ Whole → EnclosesHistories k values
+  pub is : s ≡ summary_of k.decks.first values
+
+-- The text of a made model's summary.
+-- a line of a word and whole numbers
+abbrev pub count_line : List ℕ → List ℕ → List ℕ
+count_line word ns = ended (word ++ numbers_text ns)
+
+-- a line of a word and a head with 9 decimals
+abbrev pub head_line : List ℕ → ℤ → List ℕ
+head_line word z = ended (word ++ codes " " ++ fixed_text 9 z)
+
+unfoldable pub summary_text : ℕ → ℕ → Summary → List ℕ
+summary_text seed size s =
+    count_line (codes "MADE") (seed ∷ size ∷ []) ++ count_line (codes "STEPS") (s.steps ∷ [])
+    ++ count_line (codes "HEADS") (s.heads ∷ []) ++ head_line (codes "WIDEST") s.widest
+    ++ head_line (codes "LOWSUM") s.low_sum ++ head_line (codes "HIGHSUM") s.high_sum ++ codes "END\n"

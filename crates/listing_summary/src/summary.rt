@@ -4,8 +4,7 @@ ghost use Rattle.std.specs.Int.{int_max};
 ghost use Rattle.std.specs.List.{fold};
 ghost use Rattle.step_problem.specs.Conditions.{IsHead, IsWithin};
 ghost use Rattle.model_types.specs.Layers.{is_active};
-ghost use Rattle.listing_summary.specs.Counting.{counted, stepped, nothing, Fits};
-ghost use Rattle.listing_summary.specs.Summaries.{printed, width};
+ghost use Rattle.listing_summary.specs.Summaries.{counted, stepped, nothing, Fits, printed, width};
 
 use model_types::FlowModel;
 use step_problem::Bound;

@@ -1,7 +1,7 @@
 // The text of a made model's summary.
 ghost use Rattle.std.specs.Prelude.{◌≡◌, ◌++◌, [], ◌∷◌, codes, IfOk};
 ghost use Rattle.listing_io.specs.Listing.{numbers_text};
-ghost use Rattle.listing_summary.specs.Texts.{count_line, head_line, summary_text};
+ghost use Rattle.listing_summary.specs.Summaries.{count_line, head_line, summary_text};
 
 use crate::summary::Summary;
 use fixed_text::{push_fixed, push_number};
@@ -44,7 +44,7 @@ fn push_title(text: &mut Vec<u8>, seed: u32, size: u32) -> Result<(), AllocError
 }
 
 /// The summary of the model that is made of a seed, with this number of rows and of columns.
-#[tactic(auto, unfolding(crate::specs::Texts::summary_text))]
+#[tactic(auto, unfolding(crate::specs::Summaries::summary_text))]
 pub fn write_summary(
     alloc: Global,
     seed: u32,

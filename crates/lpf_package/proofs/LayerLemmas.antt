@@ -1,13 +1,24 @@
 -- Lengths and forms of the layers' arrays.
 use Rattle.lpf_package.proofs.Common.{◌≡◌, ℕ, ◌+◌, ◌*◌, Bool, true, false, cond, List, [], ◌++◌, All, ℤ, length, refl, sym, subst, arith, AreLayers}
-use Rattle.lpf_package.proofs.Common.{HasProperties, joined}
+use Rattle.lpf_package.proofs.Common.{HasProperties, joined, pos, Result, Ok, Err, IfOk, int_lt, codes, LineMay, LinesMay, chain, after, either, line_held}
+use Rattle.lpf_package.proofs.Common.{leaves, is_transient, with_properties, option_line, settings_of, Left, Numbered}
 use Rattle.std.proofs.lemmas.List.{length-append}
 use Rattle.std.proofs.lemmas.List.Elements.{All-append, All-nil}
 use Rattle.decimal_input.specs.declared.dec.Dec.{Dec}
-use Rattle.decimal_input.specs.Canonical.{IsDec}
+use Rattle.decimal_input.specs.Decimals.{IsDec}
 use Rattle.model_types.specs.declared.model.FlowModel.{FlowModel}
-use Rattle.lpf_package.specs.Flow.{is_transient, with_properties}
 use Rattle.lpf_package.specs.declared.layer.Properties.{Properties}
+use Rattle.std.specs.List.{list_any}
+use Rattle.outside.specs.Names.{words}
+use Rattle.outside.specs.Codes.{refusal}
+use Rattle.outside.specs.declared.codes.Code.TheVariants.{OutOfProfile}
+use Rattle.record_lines.specs.Items.{is_word, line_at}
+use Rattle.array_reader.specs.Control.{number_at}
+use Rattle.array_reader.specs.Arrays.{zero_list, free_list}
+use Rattle.array_reader.specs.Numbers.{number, integer}
+use Rattle.array_reader.proofs.Forward.{list_held}
+use Rattle.array_reader.proofs.PackageForward.{zeros_held}
+use Rattle.lpf_package.specs.declared.settings.Settings.{Settings}
 
 -- lists of a and b numbers, one behind the other
 both : (xs ys : List Dec) (a b n : ℕ) → a + b ≡ n → (length xs ≡ a) × All IsDec xs → (length ys ≡ b) × All IsDec ys → (length (xs ++ ys) ≡ n) × All IsDec (xs ++ ys)
@@ -44,3 +55,31 @@ at_first stores n = record { hk = (nothing n, All-nil IsDec); hani = (nothing n,
 
 pub has_properties : (m n : FlowModel) (coefficient : Bool) (layvka : List ℤ) (p : Properties) → n ≡ with_properties m coefficient layvka p → length layvka ≡ m.grid.layers → AreLayers (m.grid.layers * (m.grid.rows * m.grid.cols)) (cond (is_transient m.periods) (m.grid.layers * (m.grid.rows * m.grid.cols)) 0) p → HasProperties n
 has_properties m n coefficient layvka p e count h = subst HasProperties (sym e) (record { layvka = count; hk = h.hk; hani = h.hani; vka = h.vka; ss = h.ss; vkcb = h.vkcb })
+
+-- The items before the layers' arrays leave lines that they were given.
+module _ (P : Numbered → Type 0) (file : List ℕ) where
+  option_held : (left : Left) → All P left.lines → IfOk (option_line file left) (λ x. All P x.1.lines)
+  unfolding option_line
+  option_held left h =
+      chain (λ x. P x.0 × All P x.1.lines) (λ x. All P x.1.lines) (line_at file left) _ (line_held P file left h)
+      (λ line hl. after (λ x. All P x.1.lines) (number_at integer file line.0.number (words line.0.bytes)) _
+      (λ ilpfcb. after (λ x. All P x.1.lines) (number_at number file line.0.number ilpfcb.1) _
+      (λ hdry. after (λ x. All P x.1.lines) (number_at integer file line.0.number hdry.1) _
+      (λ nplpf. either (λ x. All P x.1.lines) (int_lt (pos 0) nplpf.0) (Err (refusal OutOfProfile file line.0.number))
+      (Ok (list_any (is_word (codes "STORAGECOEFFICIENT")) nplpf.1, line.1)) tt hl.1))))
+
+  settings_held : (layers : ℕ) (left : Left) → All P left.lines → IfOk (settings_of file layers left) (λ x. All P x.1.lines)
+  unfolding settings_of
+  settings_held layers left h =
+      chain (λ x. All P x.1.lines) (λ x. All P x.1.lines) (zero_list file layers left) _ (zeros_held P file layers left h)
+      (λ a ha. chain (λ x. All P x.1.lines) (λ x. All P x.1.lines) (zero_list file layers a.1) _ (zeros_held P file layers a.1 ha)
+      (λ b hb. chain (λ x. All P x.1.lines) (λ x. All P x.1.lines) (free_list number file layers b.1) _ (list_held P number file layers b.1 hb)
+      (λ c hc. chain (λ x. All P x.1.lines) (λ x. All P x.1.lines) (free_list integer file layers c.1) _ (list_held P integer file layers c.1 hc)
+      (λ d hd. chain (λ x. All P x.1.lines) (λ x. All P x.1.lines) (zero_list file layers d.1) _ (zeros_held P file layers d.1 hd) (λ e he. he)))))
+
+module _ (may : List ℕ → Type 0) (file : List ℕ) where
+  pub option_leaves : (left rest : Left) (x : Bool) → option_line file left ≡ Ok (x, rest) → LinesMay may left → LinesMay may rest
+  option_leaves left rest x e h = leaves may (option_line file left) x rest e (option_held (LineMay may) file left h.each)
+
+  pub settings_leave : (layers : ℕ) (left rest : Left) (x : Settings) → settings_of file layers left ≡ Ok (x, rest) → LinesMay may left → LinesMay may rest
+  settings_leave layers left rest x e h = leaves may (settings_of file layers left) x rest e (settings_held (LineMay may) file layers left h.each)

@@ -1,3 +1,2 @@
 mod Common
 pub mod LayerLemmas
-pub mod Forward

@@ -1,17 +1,78 @@
 -- A file of the layer-property flow package, item by item (TM 6-A16, LPF).
-use Rattle.std.specs.Prelude.{◌≡◌, ℕ, ℤ, List, Bool, not, Result, Ok}
+use Rattle.std.specs.Prelude.{◌≡◌, ℕ, ℤ, List, Bool, not, Result, Ok, pos, int_lt, Err, if◌then◌else◌, codes, [], ◌++◌}
 use Rattle.std.specs.List.{list_any}
 use Rattle.outside.specs.Files.{FileSet}
-use Rattle.outside.specs.declared.refusals.Refusal.{Refusal}
-use Rattle.record_lines.specs.Layout.{left_from, without_comments}
-use Rattle.record_lines.specs.Reading.{◌>>=◌}
+use Rattle.outside.specs.declared.inputs.Refusal.{Refusal}
+use Rattle.record_lines.specs.Layout.{left_from, without_comments, Left}
+use Rattle.record_lines.specs.Reading.{◌>>=◌, counted}
 use Rattle.model_types.specs.declared.grid.Grid.{Grid}
 use Rattle.model_types.specs.declared.model.FlowModel.{FlowModel}
 use Rattle.model_types.specs.declared.period.Period.{Period}
-use Rattle.lpf_package.specs.Settings.{option_line, settings_of}
-use Rattle.lpf_package.specs.Layers.{layers_of}
 use Rattle.lpf_package.specs.declared.layer.Properties.{Properties}
 use Rattle.lpf_package.specs.declared.model.Contents.{Contents}
+use Rattle.outside.specs.Codes.{refusal}
+use Rattle.outside.specs.declared.codes.Code.TheVariants.{OutOfProfile}
+use Rattle.record_lines.specs.Items.{is_word, line_at}
+use Rattle.outside.specs.Names.{words}
+use Rattle.array_reader.specs.Control.{number_at}
+use Rattle.array_reader.specs.Arrays.{free_list, zero_list, real_layer, layer_or}
+use Rattle.array_reader.specs.Numbers.{number, integer}
+use Rattle.lpf_package.specs.declared.settings.Settings.{Settings}
+use Rattle.decimal_input.specs.declared.dec.Dec.{Dec}
+use Rattle.model_types.specs.Layers.{dec_at, int_at, no_number, is_nonzero}
+use Rattle.number_limits.specs.Magnitudes.{is_positive}
+use Rattle.lpf_package.specs.declared.layer.Layer.{Layer}
+
+-- The items before the layers' arrays (TM 6-A16, LPF, items 1 to 7).
+-- ILPFCB HDRY NPLPF and option words: no parameters; whether the option STORAGECOEFFICIENT is there
+unfoldable pub option_line : List ℕ → Left → Result (Bool × Left) Refusal
+option_line file left = do
+  line ← line_at file left
+  ilpfcb ← number_at integer file line.0.number (words line.0.bytes)
+  hdry ← number_at number file line.0.number ilpfcb.1
+  nplpf ← number_at integer file line.0.number hdry.1
+  if int_lt (pos 0) nplpf.0 then Err (refusal OutOfProfile file line.0.number) else Ok (list_any (is_word (codes "STORAGECOEFFICIENT")) nplpf.1, line.1)
+
+-- by layer: LAYTYP 0, confined; LAYAVG 0, harmonic mean; CHANI; LAYVKA; LAYWET 0, no wetting
+unfoldable pub settings_of : List ℕ → ℕ → Left → Result (Settings × Left) Refusal
+settings_of file layers left = do
+  laytyp ← zero_list file layers left
+  layavg ← zero_list file layers laytyp.1
+  chani ← free_list number file layers layavg.1
+  layvka ← free_list integer file layers chani.1
+  laywet ← zero_list file layers layvka.1
+  Ok (record { chani = chani.0; layvka = layvka.0 }, laywet.1)
+
+-- The arrays of the layers (TM 6-A16, LPF, items 10 to 16).
+-- SS, which the file has only for a layer with storage
+unfoldable pub storage_layer : FileSet → List ℕ → Layer → Left → Result (List Dec × Left) Refusal
+storage_layer files file x left = if x.stores then real_layer files file x.rows x.cols left else Ok ([], left)
+
+-- HK; HANI where CHANI isn't above 0, else CHANI everywhere; VKA; SS; VKCB where a bed lies below, else 0
+unfoldable pub properties_of : FileSet → List ℕ → Layer → Left → Result (Properties × Left) Refusal
+properties_of files file x left = do
+  hk ← real_layer files file x.rows x.cols left
+  hani ← layer_or files file x.rows x.cols (not (is_positive x.chani)) x.chani hk.1
+  vka ← real_layer files file x.rows x.cols hani.1
+  ss ← storage_layer files file x vka.1
+  vkcb ← layer_or files file x.rows x.cols x.has_bed no_number ss.1
+  Ok (record { hk = hk.0; hani = hani.0; vka = vka.0; ss = ss.0; vkcb = vkcb.0 }, vkcb.1)
+
+abbrev pub joined : Properties → Properties → Properties
+joined above p = record { hk = above.hk ++ p.hk; hani = above.hani ++ p.hani; vka = above.vka ++ p.vka; ss = above.ss ++ p.ss; vkcb = above.vkcb ++ p.vkcb }
+
+-- what is read for layer k, from 0
+abbrev pub nth_layer : Grid → List Dec → Bool → ℕ → Layer
+nth_layer g chani stores k = record { rows = g.rows; cols = g.cols; chani = dec_at chani k; stores = stores; has_bed = is_nonzero (int_at g.laycbd k) }
+
+unfoldable pub layer_at : FileSet → List ℕ → Grid → List Dec → Bool → ℕ → (Properties × Left) → Result (Properties × Left) Refusal
+layer_at files file g chani stores k s = properties_of files file (nth_layer g chani stores k) s.1 >>= λ x. Ok (joined s.0 x.0, x.1)
+
+-- layer by layer
+unfoldable pub layers_of : FileSet → List ℕ → Grid → List Dec → Bool → ℕ → Left → Result (Properties × Left) Refusal
+layers_of files file g chani stores count left =
+    counted (layer_at files file g chani stores) 0 count
+    (record { hk = []; hani = []; vka = []; ss = []; vkcb = [] }, left)
 
 -- whether a stress period is transient
 abbrev pub is_transient : List Period → Bool

@@ -1,4 +1,2 @@
-pub mod Settings
-pub mod Layers
 pub mod Flow
 pub mod Forms

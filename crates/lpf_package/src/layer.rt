@@ -1,12 +1,12 @@
 // The arrays of one layer.
 ghost use Rattle.std.specs.Prelude.{◌≡◌, ◌*◌, ◌++◌, cond, IfOk, length, All, List};
-ghost use Rattle.decimal_input.specs.Canonical.{IsDec};
+ghost use Rattle.decimal_input.specs.Decimals.{IsDec};
 ghost use Rattle.outside.specs.Files.{FileSet};
 ghost use Rattle.outside.specs.Folders.{ReadsOn};
-ghost use Rattle.record_lines.specs.Asking.{LinesMay};
+ghost use Rattle.record_lines.specs.Layout.{LinesMay};
 ghost use Rattle.record_lines.specs.Reading.{Gives};
 ghost use Rattle.lpf_package.specs.Forms.{AreLayers};
-ghost use Rattle.lpf_package.specs.Layers.{storage_layer, properties_of, joined};
+ghost use Rattle.lpf_package.specs.Flow.{storage_layer, properties_of, joined};
 
 use array_reader::{layer_or, read_layer};
 use decimal_input::dec::Dec;
@@ -38,7 +38,7 @@ pub struct Layer {
 }
 
 /// SS, which only a model with a transient period has.
-#[tactic(auto, unfolding(crate::specs::Layers::storage_layer))]
+#[tactic(auto, unfolding(crate::specs::Flow::storage_layer))]
 fn storage_layer<F: Folder>(
     alloc: Global,
     lines: &mut Lines,
@@ -61,7 +61,7 @@ fn storage_layer<F: Folder>(
 }
 
 /// The arrays of a layer: HK, HANI where CHANI isn't above 0, VKA, SS, and VKCB where a bed lies below.
-#[tactic(auto, unfolding(crate::specs::Layers::properties_of))]
+#[tactic(auto, unfolding(crate::specs::Flow::properties_of))]
 pub fn properties_of<F: Folder>(
     alloc: Global,
     lines: &mut Lines,

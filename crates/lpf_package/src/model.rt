@@ -1,7 +1,7 @@
 // The model with its properties.
 ghost use Rattle.std.specs.Prelude.{◌≡◌, ◌*◌, cond, IfOk, length, not, List};
 ghost use Rattle.std.specs.List.{list_any};
-ghost use Rattle.outside.specs.Asking.{TextMay};
+ghost use Rattle.outside.specs.Names.{TextMay};
 ghost use Rattle.outside.specs.Files.{FileSet};
 ghost use Rattle.outside.specs.Folders.{ReadsOn};
 ghost use Rattle.record_lines.specs.Reading.{Has};

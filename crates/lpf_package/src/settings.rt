@@ -1,13 +1,12 @@
 // The first line, and the lists by layer.
 ghost use Rattle.std.specs.Prelude.{◌≡◌, IfOk, length, All, ◌*◌, ◌+◌, cond, List};
-ghost use Rattle.decimal_input.specs.Canonical.{IsDec};
+ghost use Rattle.decimal_input.specs.Decimals.{IsDec};
 ghost use Rattle.record_lines.specs.Reading.{GivesText, Gives};
-ghost use Rattle.lpf_package.specs.Settings.{option_line, settings_of};
+ghost use Rattle.lpf_package.specs.Flow.{option_line, settings_of, layer_at, layers_of, nth_layer};
 ghost use Rattle.outside.specs.Files.{FileSet};
 ghost use Rattle.outside.specs.Folders.{ReadsOn};
-ghost use Rattle.record_lines.specs.Asking.{LinesMay};
+ghost use Rattle.record_lines.specs.Layout.{LinesMay};
 ghost use Rattle.lpf_package.specs.Forms.{AreLayers};
-ghost use Rattle.lpf_package.specs.Layers.{layer_at, layers_of, nth_layer};
 
 use crate::layer::{Layer, Properties, joined, properties_of};
 use array_reader::{has_keyword, integer, next_line, number, plain_ints, plain_reals, zero_list};
@@ -26,7 +25,7 @@ pub struct Settings {
 }
 
 /// The first line: whether SS is a storage coefficient.
-#[tactic(auto, unfolding(crate::specs::Settings::option_line))]
+#[tactic(auto, unfolding(crate::specs::Flow::option_line))]
 pub fn option_line(alloc: Global, lines: &mut Lines, file: &str) -> Result<bool, TextFault>
     ensures { GivesText (λ b. b) result lines.new (option_line file.now lines.old) }
 {
@@ -42,7 +41,7 @@ pub fn option_line(alloc: Global, lines: &mut Lines, file: &str) -> Result<bool,
 }
 
 /// The lists by layer: LAYTYP and LAYAVG, which are 0, CHANI, LAYVKA, and LAYWET, which is 0.
-#[tactic(auto, unfolding(crate::specs::Settings::settings_of))]
+#[tactic(auto, unfolding(crate::specs::Flow::settings_of))]
 pub fn settings_of(
     alloc: Global,
     lines: &mut Lines,
@@ -82,7 +81,7 @@ fn nth_layer(grid: &Grid, chani: &[Dec], stores: bool, k: u32) -> Layer
 }
 
 /// One more layer.
-#[tactic(auto, unfolding(crate::specs::Layers::layer_at))]
+#[tactic(auto, unfolding(crate::specs::Flow::layer_at))]
 fn layer_at<F: Folder>(
     alloc: Global,
     lines: &mut Lines,
@@ -109,7 +108,7 @@ fn layer_at<F: Folder>(
 }
 
 /// The arrays of `count` layers.
-#[tactic(auto, unfolding(crate::specs::Layers::layers_of), using(crate::proofs::LayerLemmas::at_first))]
+#[tactic(auto, unfolding(crate::specs::Flow::layers_of), using(crate::proofs::LayerLemmas::at_first))]
 pub fn layers_of<F: Folder>(
     alloc: Global,
     lines: &mut Lines,

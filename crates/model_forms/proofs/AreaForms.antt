@@ -2,9 +2,8 @@
 use Rattle.model_forms.proofs.Common.{◌≡◌, ℕ, ◌<◌, ◌≤◌, ℤ, pos, negsuc, Bool, true, false, List, [], length, All, Result, Ok, refl, sym, subst, arith, leb-true}
 use Rattle.model_forms.proofs.Common.{get_or_default, Dec, FileSet, words, CellOutside, Refusal, line_at, Left, real_layer, integer_layer, Grid, layer_size}
 use Rattle.model_forms.proofs.Common.{HasSize, int_at, area_at, array_or, arrays_of, nothing_yet, flags_of, AreFlags, IsArea, IsReals, IsWhole, Area, InForce}
-use Rattle.model_forms.proofs.Common.{Contents, Flags, arrays, goes, ends, IsShort, IsLayers}
+use Rattle.model_forms.proofs.Common.{Contents, Flags, arrays, goes, ends, IsShort, IsLayers, is_layer, refusal_at, layer_step, layers_tested, layers_at}
 use Rattle.model_types.specs.Receivers.{is_int}
-use Rattle.period_arrays.specs.Layers.{is_layer, refusal_at, layer_step, layers_tested, layers_at}
 use Rattle.period_arrays.proofs.AreaLemmas.{is_area}
 use Rattle.evt_package.proofs.EvapLemmas.{each_step}
 use Rattle.model_forms.proofs.FlagForms.{flags_are}

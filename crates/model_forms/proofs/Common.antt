@@ -9,41 +9,36 @@ pub use Rattle.std.proofs.lemmas.List.Elements.{All-append, All-cons, All-from_r
 pub use Rattle.std.proofs.lemmas.List.Sums.{sum-map, sum_by-cons}
 pub use Rattle.std.specs.List.{AllPairs, list_all, list_any}
 pub use Rattle.std.specs.Prelude.{if◌then◌else◌}
-pub use Rattle.array_reader.specs.Arrays.{array_at, integer_layer, layers, real_layer}
-pub use Rattle.array_reader.specs.Items.{number_at}
-pub use Rattle.array_reader.specs.Kinds.{real, whole}
-pub use Rattle.array_reader.specs.Lists.{free_list, value_alone, value_at}
-pub use Rattle.array_reader.specs.Numbers.{integer, number}
-pub use Rattle.array_reader.specs.PackageItems.{zero_list}
-unfoldable pub use Rattle.array_reader.specs.PackageItems.{layer_or, zero_at}
-pub use Rattle.array_text.proofs.ArrayForms.{array_is, arrays, item_is}
-pub use Rattle.array_text.proofs.ListForms.{lists, value_is}
+pub use Rattle.array_reader.specs.Arrays.{array_at, free_list, integer_layer, layers, real_layer, value_alone, value_at, zero_list}
+unfoldable pub use Rattle.array_reader.specs.Arrays.{layer_or, zero_at}
+pub use Rattle.array_reader.specs.Control.{number_at}
+pub use Rattle.array_reader.specs.Numbers.{integer, number, real, whole}
+pub use Rattle.array_text.proofs.ArrayForms.{array_is, arrays, item_is, lists, value_is}
 pub use Rattle.array_text.proofs.NumberForms.{integer_is, multiplied_is, number_is}
 pub use Rattle.array_text.proofs.Readings.{clash, ends, goes, repeated_are}
-pub use Rattle.array_text.specs.Words.{IsShort}
-unfoldable pub use Rattle.array_text.specs.Words.{integer_word, number_word}
+pub use Rattle.array_text.specs.Lines.{IsShort}
+unfoldable pub use Rattle.array_text.specs.Lines.{integer_array, integer_word, line_text, number_word, real_array, row_line, row_lines, text}
 pub use Rattle.bas_package.specs.Basics.{head_item, with_basics}
-unfoldable pub use Rattle.bas_package.specs.Basics.{bas_of, basics_of}
+unfoldable pub use Rattle.bas_package.specs.Basics.{bas_of, basics_of, option_line}
 pub use Rattle.cell_checks.specs.Checks.{at_cell, cell_step}
 unfoldable pub use Rattle.cell_checks.specs.Checks.{checked, fault_at}
 pub use Rattle.cell_checks.specs.declared.passing.Check.{Check}
 pub use Rattle.cell_checks.specs.declared.passing.Check.TheVariants.{StartHead, Thickness}
-pub use Rattle.decimal_input.specs.Canonical.{IsDec}
+pub use Rattle.decimal_input.specs.Decimals.{IsDec}
+unfoldable pub use Rattle.decimal_input.specs.Decimals.{scaled}
 pub use Rattle.decimal_input.specs.declared.dec.Dec.{Dec}
 pub use Rattle.dis_package.specs.Discretization.{begun}
 unfoldable pub use Rattle.dis_package.specs.Discretization.{dis_of, head_of}
 pub use Rattle.dis_package.specs.Forms.{IsFrame, IsNewPeriod, IsSize, IsTime, without_stresses}
-unfoldable pub use Rattle.dis_package.specs.Frames.{beds_of, count_at, frame_of, size_at}
+pub use Rattle.dis_package.specs.Frames.{is_time, known, period_of}
+unfoldable pub use Rattle.dis_package.specs.Frames.{beds_of, count_at, frame_of, period_at, periods_of, size_at, time_of}
 unfoldable pub use Rattle.dis_package.specs.Grids.{bottom_at, bottoms_of, grid_of, widths}
-pub use Rattle.dis_package.specs.Times.{is_time, known, period_of}
-unfoldable pub use Rattle.dis_package.specs.Times.{periods_of, time_of}
 pub use Rattle.dis_package.specs.declared.frame.Size.{Size}
-pub use Rattle.evt_package.specs.Columns.{cell_tested, chosen_cell, column_step, column_tested, source}
-unfoldable pub use Rattle.evt_package.specs.Columns.{columns_tested}
-pub use Rattle.evt_package.specs.Evaporation.{area_in, evaporation_arrays}
-unfoldable pub use Rattle.evt_package.specs.Evaporation.{evt_of}
+pub use Rattle.evt_package.specs.Evaporation.{area_in, cell_tested, chosen_cell, column_step, column_tested, evap_fault, evaporation_arrays, source}
+unfoldable pub use Rattle.evt_package.specs.Evaporation.{columns_tested, evt_of}
 pub use Rattle.list_package.proofs.ModelLemmas.{same_count, same_view, steps}
-pub use Rattle.list_package.specs.GivenHeads.{given_heads, is_growing}
+pub use Rattle.list_package.specs.Entries.{given_heads, inside, is_growing, is_left_out, no_marks, passed}
+unfoldable pub use Rattle.list_package.specs.Entries.{cell_at, entry_at, entry_of, new_list}
 pub use Rattle.list_package.specs.Headers.{Count, again, count_of, entries, has_parameters, is_reused, item_line}
 unfoldable pub use Rattle.list_package.specs.Headers.{header_of}
 pub use Rattle.list_package.specs.Kinds.{Kind, entries_in, first_fault, kind_of, with_entries, with_list}
@@ -51,23 +46,21 @@ pub use Rattle.list_package.specs.Lists.{list_of}
 unfoldable pub use Rattle.list_package.specs.Lists.{list_at, lists_of, package_of}
 pub use Rattle.list_package.specs.declared.entries.ListKind.{ListKind}
 pub use Rattle.list_package.specs.declared.entries.ListKind.TheVariants.{Drains, Generals, Rivers, Wells}
-pub use Rattle.lpf_package.specs.Flow.{SameBut, is_transient, with_contents, with_properties}
-unfoldable pub use Rattle.lpf_package.specs.Flow.{contents_of, lpf_of}
-pub use Rattle.lpf_package.specs.Layers.{joined, nth_layer}
-unfoldable pub use Rattle.lpf_package.specs.Layers.{layer_at, layers_of, properties_of, storage_layer}
+pub use Rattle.lpf_package.specs.Flow.{SameBut, is_transient, joined, nth_layer, with_contents, with_properties}
+unfoldable pub use Rattle.lpf_package.specs.Flow.{contents_of, layer_at, layers_of, lpf_of, properties_of, settings_of, storage_layer}
 pub use Rattle.lpf_package.specs.declared.layer.Properties.{Properties}
 pub use Rattle.model_reader.specs.Model.{names_in, needed, stress_in, stresses, where_named}
 unfoldable pub use Rattle.model_reader.specs.Model.{bas_in, basics_tested, dis_in, file_in, lpf_in, model_of, reads, with_stresses}
-pub use Rattle.model_text.proofs.DeckNames.{all_plain, good_names}
+pub use Rattle.model_text.proofs.FileTexts.{all_plain, good_names}
 pub use Rattle.model_text.proofs.ModelTexts.{model_reads}
-pub use Rattle.model_text.specs.Entries.{IsEntry, IsListOf}
 pub use Rattle.model_text.specs.Readable.{HasFlow, IsBasic, IsDiscretized, IsEvaporating, IsGridWithin, IsLayers, IsOfBeds, IsRecharged}
-pub use Rattle.model_text.specs.Writable.{HasNoEvaporation, HasNoRecharge, IsDry, IsStill, IsWritable}
-pub use Rattle.model_types.specs.Cells.{cell_count, cell_number, layer_size}
-pub use Rattle.model_types.specs.Grids.{HasSize, IsGrid}
+pub use Rattle.model_text.specs.Writable.{HasNoEvaporation, HasNoRecharge, IsDry, IsEntry, IsListOf, IsStill, IsWritable}
+pub use Rattle.model_text.specs.Written.{IsReadAgain, deck_name, deck_names}
+unfoldable pub use Rattle.model_text.specs.Written.{written}
+pub use Rattle.model_types.specs.Faces.{cell_count, cell_number, layer_size}
+pub use Rattle.model_types.specs.Grids.{HasSize, IsGrid, IsPositive}
 pub use Rattle.model_types.specs.Layers.{int_at, is_nonzero, no_number}
 pub use Rattle.model_types.specs.Limits.{most_bytes, most_cells, most_entries, most_in_row, most_layers}
-pub use Rattle.model_types.specs.Numbers.{IsPositive}
 pub use Rattle.model_types.specs.Valid.{IsGrowing, IsTimed, number_one}
 pub use Rattle.model_types.specs.declared.grid.CellId.{CellId}
 pub use Rattle.model_types.specs.declared.grid.Grid.{Grid}
@@ -78,20 +71,18 @@ pub use Rattle.model_types.specs.declared.period.Stresses.{Stresses}
 pub use Rattle.name_file.specs.Pairs.{Pairs, file_of}
 pub use Rattle.name_file.specs.declared.package.Package.TheVariants.{Bas, Chd, Dis, Drn, Evt, Ghb, Lpf, Rch, Riv, Wel}
 pub use Rattle.number_limits.proofs.Canonical.{dec_at_is, no_number_is}
-pub use Rattle.number_limits.specs.Signs.{is_positive, within}
+pub use Rattle.number_limits.specs.Magnitudes.{is_positive, within}
+unfoldable pub use Rattle.number_limits.specs.Magnitudes.{is_at_most}
+pub use Rattle.outside.specs.Codes.{refusal}
 pub use Rattle.outside.specs.Files.{FileSet}
 pub use Rattle.outside.specs.Inputs.{file_at}
-pub use Rattle.outside.specs.Refusals.{refusal}
-pub use Rattle.outside.specs.Words.{words}
+pub use Rattle.outside.specs.Names.{words}
 pub use Rattle.outside.specs.declared.codes.Code.{Code}
 pub use Rattle.outside.specs.declared.codes.Code.TheVariants.{BadGrid, BadProperty, CellOutside, NothingToReuse, OutOfProfile, TooManyEntries}
-pub use Rattle.outside.specs.declared.refusals.Refusal.{Refusal}
-pub use Rattle.period_arrays.specs.Areas.{array_or, nothing_yet}
-unfoldable pub use Rattle.period_arrays.specs.Areas.{area_at, arrays_of}
-pub use Rattle.period_arrays.specs.Flags.{flag_if, is_negative, is_option}
-unfoldable pub use Rattle.period_arrays.specs.Flags.{flag_at, flags_of, option_at}
+pub use Rattle.outside.specs.declared.inputs.Refusal.{Refusal}
+pub use Rattle.period_arrays.specs.Areas.{array_or, flag_if, is_layer, is_negative, is_option, layer_step, nothing_yet, refusal_at}
+unfoldable pub use Rattle.period_arrays.specs.Areas.{area_at, arrays_of, flag_at, flags_of, layers_at, layers_tested, option_at}
 pub use Rattle.period_arrays.specs.Forms.{AreFlags, IsArea, IsReals, IsWhole}
-pub use Rattle.period_arrays.specs.Kinds.{ArrayKind, contents, with_area}
 pub use Rattle.period_arrays.specs.declared.area.Area.{Area}
 pub use Rattle.period_arrays.specs.declared.area.InForce.{InForce}
 pub use Rattle.period_arrays.specs.declared.flags.Contents.{Contents}
@@ -100,6 +91,5 @@ pub use Rattle.record_lines.specs.Items.{line_at}
 pub use Rattle.record_lines.specs.Layout.{Left, left_from, without_comments}
 pub use Rattle.record_lines.specs.Reading.{◌>>=◌}
 unfoldable pub use Rattle.record_lines.specs.Reading.{counted, for_each, repeated}
-pub use Rattle.stress_packages.specs.Packages.{drains, generals, rivers, wells}
-pub use Rattle.stress_packages.specs.Recharge.{recharge_arrays}
-unfoldable pub use Rattle.stress_packages.specs.Recharge.{rch_of}
+pub use Rattle.stress_packages.specs.Packages.{drains, generals, recharge_arrays, rivers, wells}
+unfoldable pub use Rattle.stress_packages.specs.Packages.{rch_of}

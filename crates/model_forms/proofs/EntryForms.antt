@@ -3,10 +3,10 @@ use Rattle.model_forms.proofs.Common.{◌≡◌, ℕ, zero, suc, ◌-◌, ◌<�
 use Rattle.model_forms.proofs.Common.{Ok, refl, sym, ap, ◌∙◌, arith, AllPairs, get_or-set_same, get_or-set_other, length-set, length-replicate, All-nil}
 use Rattle.model_forms.proofs.Common.{All-cons, Dec, IsDec, refusal, words, Code, OutOfProfile, CellOutside, BadProperty, Refusal, line_at, Left, ◌>>=◌}
 use Rattle.model_forms.proofs.Common.{repeated, number_at, number, integer, CellId, Grid, cell_count, cell_number, HasSize, within, Kind, first_fault, item_is}
-use Rattle.model_forms.proofs.Common.{number_is, clash, goes, ends, repeated_are, IsEntry, Limits, most_entries}
+use Rattle.model_forms.proofs.Common.{number_is, clash, goes, ends, repeated_are, IsEntry, Limits, most_entries, inside, cell_at, passed, entry_of, is_left_out}
+use Rattle.model_forms.proofs.Common.{entry_at, no_marks, new_list}
 use Rattle.std.proofs.lemmas.List.Kept.{AllPairs-cons}
 use Rattle.model_types.proofs.Numbering.{cell_within}
-use Rattle.list_package.specs.Entries.{inside, cell_at, passed, entry_of, is_left_out, entry_at, no_marks, new_list}
 use Rattle.list_package.specs.Forms.{Differ}
 use Rattle.model_forms.proofs.FrameForms.{within_is}
 use Rattle.model_forms.proofs.Parts.{if_false}

@@ -2,9 +2,7 @@ mod Common
 pub mod Parts
 pub mod FrameForms
 pub mod GridForms
-pub mod TimeForms
 pub mod DisForms
-pub mod LayerForms
 pub mod LpfForms
 pub mod CheckForms
 pub mod EntryForms
@@ -12,9 +10,7 @@ pub mod ListForms
 pub mod PeriodForms
 pub mod FlagForms
 pub mod AreaForms
-pub mod ArrayFileForms
 pub mod RchForms
 pub mod StageForms
-pub mod CoreForms
 pub mod ModelForms
 pub mod WorkedForms

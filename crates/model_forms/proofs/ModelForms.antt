@@ -4,14 +4,14 @@ use Rattle.model_forms.proofs.Common.{All, Ok, refl, sym, ap, subst, ◌∙◌, 
 use Rattle.model_forms.proofs.Common.{FlowModel, Period, cell_count, HasSize, IsTimed, bas_of, is_transient, lpf_of, SameBut, checked, fault_at, Check}
 use Rattle.model_forms.proofs.Common.{Thickness, StartHead, steps, same_count, same_view, dis_in, basics_tested, bas_in, lpf_in, model_of, reads, goes, ends}
 use Rattle.model_forms.proofs.Common.{IsShort, HasFlow, IsRecharged, IsEvaporating, IsDry, IsStill, HasNoRecharge, HasNoEvaporation, IsWritable, Limits}
-use Rattle.model_forms.proofs.Common.{good_names, model_reads, most_bytes, names_in, needed, Wells, Rivers, Drains, Generals}
+use Rattle.model_forms.proofs.Common.{good_names, model_reads, most_bytes, names_in, needed, Wells, Rivers, Drains, Generals, deck_name, deck_names}
+use Rattle.model_forms.proofs.Common.{IsReadAgain}
 use Rattle.cell_checks.specs.declared.passing.Check.TheVariants.{Properties as PropertyCheck}
 use Rattle.model_forms.proofs.DisForms.{HasBasics, bas_is, IsStarted, dis_is}
 use Rattle.model_forms.proofs.LpfForms.{lpf_is}
 use Rattle.model_forms.proofs.PeriodForms.{IsKnown}
 use Rattle.model_forms.proofs.StageForms.{IsOption, IsStressed, first_stage, stresses_are}
-use Rattle.model_forms.proofs.CoreForms.{discretized_again, IsFlow, flow_is}
-use Rattle.model_text.specs.Decks.{deck_name, deck_names, IsReadAgain}
+use Rattle.model_forms.proofs.CheckForms.{discretized_again, IsFlow, flow_is}
 
 -- a model with the stresses of a stage
 abbrev staged : FlowModel → ℤ → ℤ → List Period → FlowModel

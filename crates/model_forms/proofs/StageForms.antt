@@ -2,9 +2,8 @@
 use Rattle.model_forms.proofs.Common.{◌≡◌, ◌⊎◌, inl, inr, ℕ, ℤ, pos, Bool, true, false, List, [], All, Option, Some, None, Ok, refl, sym, subst, arith}
 use Rattle.model_forms.proofs.Common.{if◌then◌else◌, All-nil, All-weaker, Dec, FileSet, file_at, Refusal, Pairs, file_of, Wel, Riv, Drn, Ghb, Rch, Chd, Evt}
 use Rattle.model_forms.proofs.Common.{CellId, Grid, FlowModel, Period, cell_count, HasSize, IsTimed, IsNewPeriod, without_stresses, given_heads, is_growing}
-use Rattle.model_forms.proofs.Common.{Kind, with_list, wells, is_option, goes, ends, IsEntry, IsListOf, Limits, where_named, file_in}
-use Rattle.model_forms.proofs.Common.{stress_in, stresses, with_stresses, evt_of, entries_in, kind_of, ListKind, Wells, Rivers, Drains, Generals, package_of}
-use Rattle.model_forms.proofs.Common.{rch_of}
+use Rattle.model_forms.proofs.Common.{Kind, with_list, wells, is_option, goes, ends, IsEntry, IsListOf, Limits, where_named, file_in, stress_in, stresses}
+use Rattle.model_forms.proofs.Common.{with_stresses, evt_of, entries_in, kind_of, ListKind, Wells, Rivers, Drains, Generals, package_of, rch_of}
 use Rattle.model_forms.proofs.ListForms.{package_is}
 use Rattle.model_forms.proofs.RchForms.{evt_is, rch_is}
 use Rattle.model_forms.proofs.PeriodForms.{IsKnown, IsStage, no_option, with_entry_list, with_given_list}

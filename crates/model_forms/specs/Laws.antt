@@ -1,15 +1,17 @@
 -- Statements of laws: a model that is read can be written.
-use Rattle.std.specs.Prelude.{◌≡◌, ℕ, ◌≤◌, List, All, length, Ok}
-use Rattle.outside.specs.Files.{FileSet, with_limit}
+use Rattle.std.specs.Prelude.{◌≡◌, ℕ, ◌≤◌, List, All, length, Ok, codes}
+use Rattle.outside.specs.Files.{FileSet, with_limit, File}
 use Rattle.name_file.specs.declared.package.Package.{Package}
 use Rattle.model_types.specs.declared.limits.Limits.{Limits}
 use Rattle.model_types.specs.declared.model.FlowModel.{FlowModel}
 use Rattle.model_reader.specs.Model.{reads}
-use Rattle.array_text.specs.Words.{IsShort}
-use Rattle.model_text.specs.Names.{AreNames}
-use Rattle.model_text.specs.Written.{written}
+use Rattle.array_text.specs.Lines.{IsShort}
+use Rattle.model_text.specs.Names.{AreNames, file_type}
+use Rattle.model_text.specs.Written.{written, IsReadAgain}
 use Rattle.model_text.specs.Writable.{IsWritable}
-use Rattle.model_text.specs.Decks.{IsReadAgain}
+use Rattle.model_types.specs.Limits.{most_bytes}
+use Rattle.model_types.specs.declared.limits.Limits.TheVariants.{Plain}
+use Rattle.flow_equations.specs.Worked.{three_cells}
 
 -- A model that is read is writable by the same limits. Each other integer of a file is a word of at most 18 digits; an IBOUND is a word times a multiplier.
 abbrev pub ModelsReadAreWritable : Type 0
@@ -24,3 +26,17 @@ ModelsReadAreReadAsWritten = (limits : Limits) (files : FileSet) (name : List �
 -- So of the deck that `heads write` puts, under the names that it gives.
 abbrev pub DecksAreReadAgain : Type 0
 DecksAreReadAgain = (limits : Limits) (files : FileSet) (name : List ℕ) (m : FlowModel) → reads limits files name ≡ Ok m → IsReadAgain limits m
+
+-- A worked model: three cells in a row, with constant heads at both ends.
+-- the name file of a deck in which each package's file is named by its type, as DIS
+abbrev pub name_of_deck : List ℕ
+name_of_deck = codes "NAM"
+
+abbrev pub deck : List File
+deck = written three_cells file_type name_of_deck
+
+-- the model is writable, and the files that are written of it are read as it
+pub record ThreeCells : Type 0 where
+  pub writable : IsWritable Plain three_cells
+  pub names : AreNames file_type name_of_deck
+  pub read : reads Plain (with_limit (most_bytes Plain) deck) name_of_deck ≡ Ok three_cells

@@ -1,8 +1,21 @@
 -- The files of a made model, by the number n of its rows and of its columns: two layers of n by n cells, and one
 -- transient stress period of four steps. `x` is the generator's state where a text's draws begin.
-use Rattle.std.specs.Prelude.{ℕ, zero, suc, ◌+◌, ◌-◌, ◌*◌, List, [], ◌∷◌, ◌++◌, codes, decimal}
+use Rattle.std.specs.Prelude.{ℕ, zero, suc, ◌+◌, ◌-◌, ◌*◌, List, [], ◌∷◌, ◌++◌, codes, decimal, ◌/◌, ◌%◌}
 use Rattle.outside.specs.Files.{File}
-use Rattle.model_maker.specs.Draws.{after, drawn}
+
+-- The generator of the numbers of a made model: linear congruential.
+-- the state after x
+unfoldable pub next_state : ℕ → ℕ
+next_state x = (x * 1103515245 + 12345) % 2147483648
+
+-- the state k draws after x
+unfoldable pub after : ℕ → ℕ → ℕ
+after zero x = x
+after (suc k) x = next_state (after k x)
+
+-- the number drawn at the state x: a number below n
+abbrev pub drawn : ℕ → ℕ → ℕ
+drawn n x = next_state x / 65536 % n
 
 abbrev pub Text : Type 0
 Text = List ℕ

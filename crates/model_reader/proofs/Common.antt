@@ -6,21 +6,21 @@ pub use Rattle.std.proofs.lemmas.Result.{err_from_is_err_and}
 pub use Rattle.cell_checks.proofs.PassedCells.{each_passed}
 pub use Rattle.cell_checks.specs.Checks.{checked, has_good_properties, is_checked_bed}
 pub use Rattle.cell_checks.specs.declared.passing.Check.TheVariants.{Properties, StartHead, Thickness}
-pub use Rattle.decimal_input.specs.Canonical.{IsDec, number}
+pub use Rattle.decimal_input.specs.Decimals.{IsDec, number}
 pub use Rattle.decimal_input.specs.declared.dec.Dec.{Dec}
-pub use Rattle.dis_package.specs.Forms.{IsBegun, IsNewPeriod, without_stresses}
 pub use Rattle.lpf_package.specs.Flow.{SameBut, is_transient, lpf_of, with_properties}
 pub use Rattle.model_reader.specs.Forms.{IsBasic}
 pub use Rattle.model_reader.specs.Model.{basics_tested, stress_in, stresses}
 unfoldable pub use Rattle.model_reader.specs.Model.{bas_in, lpf_in, model_of, with_stresses}
-pub use Rattle.model_types.specs.Cells.{cell_count, layer_size}
+pub use Rattle.model_types.specs.Faces.{cell_count, layer_size}
 pub use Rattle.model_types.specs.Grids.{IsGrid}
 pub use Rattle.model_types.specs.Valid.{IsBedChecked, IsBedValid, IsCellValid, IsEvapValid, IsModel, IsPeriod, IsTimed}
 pub use Rattle.model_types.specs.declared.model.FlowModel.{FlowModel}
 pub use Rattle.name_file.proofs.Forward.{file_named, names_still}
+pub use Rattle.name_file.specs.Pairs.{NamesMay, Pairs}
+pub use Rattle.outside.specs.Codes.{input_fault}
 pub use Rattle.outside.specs.Files.{FileSet}
 pub use Rattle.outside.specs.Folders.{ReadsOn}
 pub use Rattle.outside.specs.Inputs.{file_at}
-pub use Rattle.outside.specs.Refusals.{input_fault}
-pub use Rattle.outside.specs.declared.refusals.TextFault.{TextFault}
+pub use Rattle.outside.specs.declared.inputs.TextFault.{TextFault}
 pub use Rattle.record_lines.specs.Reading.{Has, Stops, StopsText, ◌>>=◌}

@@ -8,13 +8,12 @@ use Rattle.std.proofs.lemmas.Int.{ints}
 use Rattle.model_types.specs.Layers.{dec_at, is_active, has_bed, top_at, bottom_at, lowest}
 use Rattle.lpf_package.specs.Forms.{HasProperties}
 use Rattle.number_limits.specs.Room.{is_thick}
-use Rattle.number_limits.specs.Signs.{is_positive, is_same_number}
+use Rattle.number_limits.specs.Magnitudes.{is_positive, is_same_number}
 use Rattle.number_limits.proofs.Canonical.{dec_at_is}
 use Rattle.number_limits.proofs.HeadLemmas.{head_of}
-use Rattle.number_limits.proofs.RoomLemmas.{thick_sound}
+use Rattle.number_limits.proofs.FloorLemmas.{thick_sound}
 use Rattle.number_limits.proofs.SignLemmas.{one_dec, positive_of}
-use Rattle.model_reader.proofs.Chains.{text_stops_here}
-use Rattle.model_reader.proofs.PeriodLemmas.{all_periods, all_steady, no_evaps}
+use Rattle.model_reader.proofs.BasicLemmas.{text_stops_here, all_periods, all_steady, no_evaps}
 use Rattle.lpf_package.specs.declared.layer.Properties as layer
 
 second : (a b : Bool) → (not a || b) ≡ true → a ≡ true → b ≡ true

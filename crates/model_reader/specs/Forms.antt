@@ -1,8 +1,8 @@
 -- What is known of a model after BAS6, whatever the folder returned.
 use Rattle.std.specs.Prelude.{◌≡◌, ℕ, ◌<◌, ◌≤◌, true, pos, All, length, sum_by}
-use Rattle.decimal_input.specs.Canonical.{IsDec}
+use Rattle.decimal_input.specs.Decimals.{IsDec}
 use Rattle.model_types.specs.declared.model.FlowModel.{FlowModel}
-use Rattle.model_types.specs.Cells.{cell_count}
+use Rattle.model_types.specs.Faces.{cell_count}
 use Rattle.model_types.specs.Grids.{IsGrid}
 use Rattle.model_types.specs.Layers.{is_active}
 use Rattle.cell_checks.specs.Checks.{is_thick_cell, has_head}

@@ -2,7 +2,7 @@
 use Rattle.std.specs.Prelude.{ℕ, List, Result, Ok, [], ◌∷◌, unwrap_or, Option, Some, None}
 use Rattle.outside.specs.Files.{FileSet}
 use Rattle.outside.specs.Inputs.{file_at}
-use Rattle.outside.specs.declared.refusals.Refusal.{Refusal}
+use Rattle.outside.specs.declared.inputs.Refusal.{Refusal}
 use Rattle.record_lines.specs.Reading.{◌>>=◌}
 use Rattle.name_file.specs.Pairs.{Pairs, file_of}
 use Rattle.name_file.specs.declared.package.Package.TheVariants.{Dis, Bas, Lpf, Wel, Riv, Drn, Ghb, Rch, Chd, Evt}
@@ -15,10 +15,9 @@ use Rattle.cell_checks.specs.Checks.{checked}
 use Rattle.cell_checks.specs.declared.passing.Check.TheVariants.{Thickness, StartHead, Properties}
 use Rattle.name_file.specs.Reading.{names_of}
 use Rattle.name_file.specs.declared.package.Package.{Package}
-use Rattle.list_package.specs.GivenHeads.{given_heads}
+use Rattle.list_package.specs.Entries.{given_heads}
 use Rattle.list_package.specs.Lists.{package_of}
-use Rattle.stress_packages.specs.Packages.{wells, rivers, drains, generals}
-use Rattle.stress_packages.specs.Recharge.{rch_of}
+use Rattle.stress_packages.specs.Packages.{wells, rivers, drains, generals, rch_of}
 use Rattle.evt_package.specs.Evaporation.{evt_of}
 
 -- The packages of a model.

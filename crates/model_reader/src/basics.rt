@@ -2,9 +2,9 @@
 ghost use Rattle.std.specs.Prelude.{◌≡◌, Ok, All, IfOk, List};
 ghost use Rattle.outside.specs.Files.{FileSet};
 ghost use Rattle.outside.specs.Folders.{ReadsOn};
-ghost use Rattle.outside.specs.Names.{IsGoodName, folder_name};
+ghost use Rattle.outside.specs.Names.{IsGoodName, folder_name, TextMay};
 ghost use Rattle.record_lines.specs.Reading.{Has, HasText};
-ghost use Rattle.decimal_input.specs.Canonical.{IsDec};
+ghost use Rattle.decimal_input.specs.Decimals.{IsDec};
 ghost use Rattle.model_types.specs.Grids.{IsGrid};
 ghost use Rattle.model_types.specs.Valid.{IsModel};
 ghost use Rattle.cell_checks.specs.Checks.{checked};
@@ -12,7 +12,6 @@ ghost use Rattle.cell_checks.specs.declared.passing.Check.TheVariants.{Thickness
 ghost use Rattle.dis_package.specs.Forms.{IsBegun};
 ghost use Rattle.model_reader.specs.Forms.{IsBasic};
 ghost use Rattle.model_reader.specs.Model.{dis_in, basics_tested, bas_in, lpf_in};
-ghost use Rattle.outside.specs.Asking.{TextMay};
 ghost use Rattle.outside.specs.Inputs.{file_at};
 
 use bas_package::read_bas;

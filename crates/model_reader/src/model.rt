@@ -4,10 +4,9 @@ ghost use Rattle.outside.specs.Files.{FileSet};
 ghost use Rattle.outside.specs.Folders.{ReadsOn};
 ghost use Rattle.outside.specs.Names.{IsGoodName, folder_name};
 ghost use Rattle.record_lines.specs.Reading.{Has};
-ghost use Rattle.name_file.specs.Asking.{NamesMay};
+ghost use Rattle.name_file.specs.Pairs.{NamesMay, file_of, is_needed};
 ghost use Rattle.model_types.specs.Valid.{IsModel};
 ghost use Rattle.model_reader.specs.Model.{model_of, reads, names_in, needed};
-ghost use Rattle.name_file.specs.Pairs.{file_of, is_needed};
 
 use crate::basics::{bas_in, dis_in, lpf_in};
 use crate::stresses::with_stresses;

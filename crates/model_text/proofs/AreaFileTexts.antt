@@ -5,12 +5,12 @@ use Rattle.model_text.proofs.Common.{nothing_yet, flags_of, is_option, IsReals, 
 use Rattle.model_text.proofs.Common.{line_by_test, IsEvaporating, IsLayers, IsRecharged, with_areas, flat_map, append-nil, FlowModel, Period, item_line}
 use Rattle.model_text.proofs.Common.{ArrayKind, with_area, recharge_arrays, rch_of, area_in, evaporation_arrays, evt_of, line_words, next_line, rch_item_2}
 use Rattle.model_text.proofs.Common.{rch_items, rch_lines, evt_item_2, evt_items, evt_lines}
-use Rattle.model_text.proofs.CountTexts.{zero_item}
+use Rattle.model_text.proofs.FrameTexts.{zero_item}
 use Rattle.model_text.proofs.DisTexts.{AreLines, no_lines, one_line, joined, file_begins, line_is_item}
 use Rattle.period_arrays.specs.Packages.{arrays_in, option_line, period_at, periods_of, tested_area, unit_if}
 use Rattle.period_arrays.specs.declared.area.Area.{Area}
 use Rattle.period_arrays.specs.declared.area.InForce.{InForce}
-use Rattle.model_text.proofs.LineCounts.{number_after-append}
+use Rattle.model_text.proofs.GridTexts.{number_after-append}
 use Rattle.model_text.proofs.AreaTexts.{flag_reads, flag_if_reads, option_reads, option_is_short, option_is_item, option_is_line, layers_lines, layers_are_lines, reals_are_lines, reals_read, layers_read}
 
 -- each array is read anew

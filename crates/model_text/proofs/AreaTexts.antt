@@ -3,11 +3,9 @@ use Rattle.model_text.proofs.Common.{◌≡◌, ℕ, zero, suc, ◌+◌, ◌^◌
 use Rattle.model_text.proofs.Common.{drop, All, Ok, refl, arith, ℤ, pos, negsuc, codes, All-from_recursion, Dec, FileSet, is_comment, counted, Grid, HasSize}
 use Rattle.model_text.proofs.Common.{is_int, real_layer, array_or, flag_at, flag_if, is_option, option_at, IsReals, IsWhole, IsShort, IsWord, integer_word}
 use Rattle.model_text.proofs.Common.{Line, IsLine, number_after, unread, real_array, integer_array, integer_is_word, word_by_test, IsLayers, nat_tests, is_word}
-use Rattle.model_text.proofs.Common.{number_at, integer, layer_size, int_at, arrays, are_lines, digits_spell}
-use Rattle.model_text.proofs.CountTexts.{integer_item}
+use Rattle.model_text.proofs.Common.{number_at, integer, layer_size, int_at, arrays, are_lines, digits_spell, is_layer, layer_step, layers_tested, layers_at}
+use Rattle.model_text.proofs.FrameTexts.{integer_item, no_keyword}
 use Rattle.model_text.proofs.DisTexts.{AreLines, no_lines, decimal_is_item}
-use Rattle.period_arrays.specs.Layers.{is_layer, layer_step, layers_tested, layers_at}
-use Rattle.model_text.proofs.PlaceTexts.{no_keyword}
 
 one_item : (file : List ℕ) (line : ℕ) (ws : Line) → number_at integer file line (codes "1" ∷ ws) ≡ Ok (pos 1, ws)
 unfolding number_at integer

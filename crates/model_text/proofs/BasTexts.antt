@@ -5,12 +5,11 @@ use Rattle.model_text.proofs.Common.{is_comment, next_number, appended, real, la
 use Rattle.model_text.proofs.Common.{cell_count, IsShort, Line, IsLine, line_text, text, number_after, unread, Reads, line_by_test, line_words, next_line}
 use Rattle.model_text.proofs.Common.{arrays, are_lines, layer_values, each_layer, IsDiscretized, IsBasic, head_item, basics_of, with_basics, bas_of, bas_item_1}
 use Rattle.model_text.proofs.Common.{bas_item_2, bas_item_3, bas_item_4, bas_lines}
-use Rattle.array_reader.specs.Kinds.{whole}
+use Rattle.array_reader.specs.Numbers.{whole}
 use Rattle.bas_package.specs.Basics.{option_line}
 use Rattle.model_text.specs.Discretization.{real_layer as real_layer_lines, integer_layer as integer_layer_lines}
-use Rattle.model_text.proofs.LineCounts.{number_after-append, layers_are_lines, layer_length, layer_has}
-use Rattle.model_text.proofs.CountTexts.{zero_number_item}
-use Rattle.model_text.proofs.GridTexts.{layer_reads}
+use Rattle.model_text.proofs.GridTexts.{number_after-append, layers_are_lines, layer_length, layer_has, layer_reads}
+use Rattle.model_text.proofs.FrameTexts.{zero_number_item}
 use Rattle.model_text.proofs.DisTexts.{AreLines, one_line, joined, layer_is_lines, file_begins, line_is_item}
 
 -- Readings that each take a layer's lines take those of all layers.

@@ -7,9 +7,8 @@ use Rattle.model_text.proofs.Common.{count_is_word, integer_is_word, line_words,
 use Rattle.model_text.proofs.Common.{dis_item_2, dis_item_3, dis_item_4, dis_item_5, dis_item_6, dis_item_7, dis_lines, IsDiscretized, IsGridWithin, Limits}
 use Rattle.model_text.proofs.Common.{is_digit, begun, head_of, dis_of, digits_spell}
 use Rattle.model_text.specs.Discretization.{real_layer}
-use Rattle.model_text.proofs.LineCounts.{layers_are_lines, layer_length, layer_has}
+use Rattle.model_text.proofs.GridTexts.{layers_are_lines, layer_length, layer_has, grid_reads, grid_end, grid_lines}
 use Rattle.model_text.proofs.FrameTexts.{frame_reads, beds_read}
-use Rattle.model_text.proofs.GridTexts.{grid_reads, grid_end, grid_lines}
 use Rattle.model_text.proofs.TimeTexts.{time_is_line, periods_read}
 
 -- lines, and lines after each other

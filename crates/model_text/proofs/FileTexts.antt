@@ -1,8 +1,10 @@
 -- The files of a deck are found by their names.
 use Rattle.model_text.proofs.Common.{◌≡◌, ℕ, ◌≤◌, ◌==◌, Bool, true, false, nat_le, List, [], ◌∷◌, length, map, filter, All, Option, Some, Ok, refl, sym, ap}
-use Rattle.model_text.proofs.Common.{◌∙◌, arith, list_any, bytes_eq, All-head, All-tail, nat_tests, File, bytes_under, file_at, folder_name, is_same_package}
-use Rattle.model_text.proofs.Common.{Package, FlowModel, text, packages, name_item, IsFileName, AreNames, has, lines_of, package_file, name_file, written}
-use Rattle.model_text.proofs.Common.{with_limit, is_same, is_itself}
+use Rattle.model_text.proofs.Common.{◌∙◌, arith, list_any, All-head, All-tail, nat_tests, File, bytes_under, file_at, folder_name, is_same_package, Package}
+use Rattle.model_text.proofs.Common.{FlowModel, text, packages, name_item, IsFileName, AreNames, has, lines_of, package_file, name_file, written, with_limit}
+use Rattle.model_text.proofs.Common.{is_same, is_itself, not, cond, None, list_all, and_parts, not-true, All-nil, All-cons, Dis, word_by_test, deck_name}
+use Rattle.model_text.proofs.Common.{deck_names}
+use Rattle.std.specs.Str.{bytes_eq}
 use Rattle.std.proofs.lemmas.Slice.Eq.{bytes_eq-Decides}
 
 -- a folder is asked for a name without a backslash by the name itself
@@ -89,3 +91,44 @@ module _ (m : FlowModel) (names : Package → List ℕ) (name : List ℕ) (h : A
       let other = other_bytes (names k) name (h.apart k) in
       let found : bytes_under (names k) (name_file m names name ∷ map (package_file m names) (filter (has m) packages)) ≡ Some (text (lines_of m k)) = rw other (package_bytes k is_in packages there) in
       small_file most (names k) (text (lines_of m k)) (name_file m names name ∷ map (package_file m names) (filter (has m) packages)) (h.each k) small found
+
+-- The names of the files of a deck are good names.
+-- a name without a backslash
+pub all_plain : (w : List ℕ) → list_all (λ b. not (b == 92)) w ≡ true → All (λ b. b ≡ 92 → ⊥) w
+all_plain [] h = All-nil (λ b. b ≡ 92 → ⊥)
+all_plain (x ∷ w) h =
+    let p = and_parts (not (x == 92)) (list_all (λ b. not (b == 92)) w) h in
+    let other : x ≡ 92 → ⊥ = λ e. apart x (not-true (x == 92) p.0) e in
+    All-cons (λ b. b ≡ 92 → ⊥) x w other (all_plain w p.1)
+  where
+    apart : (x : ℕ) → (x == 92) ≡ false → x ≡ 92 → ⊥
+    apart x e same = grind (arith, nat_tests)
+
+good_name : (k : Package) → IsFileName (deck_names k)
+good_name Dis = record { word = word_by_test (deck_names Dis) refl; few = omega arith; plain = all_plain (deck_names Dis) refl }
+good_name x = record { word = word_by_test (deck_names x) refl; few = omega arith; plain = all_plain (deck_names x) refl }
+
+-- the first of some packages whose file has a name
+first_named : List ℕ → List Package → Option Package
+first_named w [] = None
+first_named w (k ∷ ks) = cond (bytes_eq w (deck_names k)) (Some k) (first_named w ks)
+
+abbrev named_by : List ℕ → Option Package
+named_by w = first_named w packages
+
+named_back : (k : Package) → named_by (deck_names k) ≡ Some k
+unfolding first_named
+named_back Dis = refl
+named_back x = refl
+
+none_named : named_by deck_name ≡ None
+unfolding first_named
+none_named = refl
+
+pub good_names : AreNames deck_names deck_name
+good_names = record {
+  each = good_name;
+  first = record { word = word_by_test deck_name refl; few = omega arith; plain = all_plain deck_name refl };
+  distinct = λ a b e. (let same : Some a ≡ Some b = sym (named_back a) ∙ ap (λ (w : List ℕ). named_by w) e ∙ named_back b in cc);
+  apart = λ k e. (let clash : Some k ≡ None = sym (named_back k) ∙ ap (λ (w : List ℕ). named_by w) e ∙ none_named in cc);
+}

@@ -5,7 +5,49 @@ use Rattle.model_text.proofs.Common.{All-weaker, nat_tests, Left, next_number, r
 use Rattle.model_text.proofs.Common.{IsGrid, int_at, zero_at, size_at, frame_of, IsShort, IsWord, integer_word, Line, unread, row_line, IsWrittenAs, on_line}
 use Rattle.model_text.proofs.Common.{value_reads, values_read, last_word, line_begins, alone_begins, same_start, row_is_words, integer_written, dis_item_1}
 use Rattle.model_text.proofs.Common.{dis_item_2, IsDiscretized, IsGridWithin, Limits, most_layers, most_in_row, most_cells, layers_few, in_row_few, beds_of}
-use Rattle.model_text.proofs.CountTexts.{count_reads, integer_item, zero_item}
+use Rattle.model_text.proofs.Common.{◌^◌, nat_lt, Some, Dec, IsDec, number, canonical, no_number, within, count_at, number_word, number_reads, integer_reads}
+use Rattle.model_text.proofs.Common.{number_at, ◌==◌, false, drop, All-head, is_word, CellId, cell_count, layer_of, row_of, column_of, row_below, column_below}
+use Rattle.model_text.proofs.Common.{layer_below, place_gives, cell_at, is_left_out, digits_spell, is_digit}
+use Rattle.std.specs.Char.{to_ascii_lowercase}
+
+-- Counts in lines.
+-- the words of numbers are read where they stand
+pub number_item : (file : List ℕ) (line : ℕ) (d : Dec) (ws : Line) → IsDec d → number_at number file line (number_word d ∷ ws) ≡ Ok (d, ws)
+unfolding number_at
+number_item file line d ws h = rw (number_reads d h) refl
+
+pub integer_item : (file : List ℕ) (line : ℕ) (z : ℤ) (ws : Line) → IsShort z → number_at integer file line (integer_word z ∷ ws) ≡ Ok (z, ws)
+unfolding number_at
+integer_item file line z ws h = rw (integer_reads z h) refl
+
+pub decimal_reads : (n : ℕ) → n < 10 ^ 18 → integer (decimal n) ≡ Ok (pos n)
+unfolding integer_word
+decimal_reads n h = integer_reads (pos n) (record { few = h })
+
+pub decimal_item : (file : List ℕ) (line n : ℕ) (ws : Line) → n < 10 ^ 18 → number_at integer file line (decimal n ∷ ws) ≡ Ok (pos n, ws)
+unfolding number_at
+decimal_item file line n ws h = rw (decimal_reads n h) refl
+
+pub is_within : (n limit : ℕ) → 1 ≤ n → n ≤ limit → within (pos n) limit ≡ Some n
+is_within n limit some few =
+    let low : nat_lt 0 n ≡ true = grind (arith, nat_tests) in
+    let high : nat_le n limit ≡ true = grind (arith, nat_tests) in
+    rw (low, high) refl
+
+pub count_reads : (file : List ℕ) (line limit n : ℕ) (ws : Line) → 1 ≤ n → n ≤ limit → limit < 10 ^ 18 → count_at file line limit (decimal n ∷ ws) ≡ Ok (n, ws)
+unfolding count_at
+count_reads file line limit n ws some few small =
+    let short : n < 10 ^ 18 = omega arith in
+    rw (decimal_item file line n ws short, is_within n limit some few) refl
+
+-- the word 0, as an integer and as a number
+pub zero_item : (file : List ℕ) (line : ℕ) (ws : Line) → number_at integer file line (codes "0" ∷ ws) ≡ Ok (pos 0, ws)
+unfolding number_at integer
+zero_item file line ws = refl
+
+pub zero_number_item : (file : List ℕ) (line : ℕ) (ws : Line) → number_at number file line (codes "0" ∷ ws) ≡ Ok (no_number, ws)
+unfolding number_at number canonical
+zero_number_item file line ws = refl
 
 -- item 1
 pub frame_reads : (limits : Limits) (file : List ℕ) (line : ℕ) (m : FlowModel) → IsDiscretized m → IsGridWithin limits m.grid
@@ -80,3 +122,38 @@ beds_read file n others g h short =
     let words : map integer_word above ++ (integer_word (pos 0) ∷ []) ≡ map integer_word g.laycbd = sym (map-append integer_word above (pos 0 ∷ [])) ∙ ap (λ (xs : List ℤ). map integer_word xs) split in
     let read = beds_after file n others above (All-take (λ z. IsShort z) (g.layers - 1) g.laycbd short) in
     rw (count, words, split) at read
+
+-- The place of a cell is read as the cell.
+-- a keyword that begins with no digit is no number
+digit_stays : (b : ℕ) → is_digit b ≡ true → to_ascii_lowercase b ≡ b
+digit_stays b h = let low : nat_lt b 65 ≡ true = grind (arith, nat_tests) in rw low refl
+
+digits_are_no_keyword : (c : ℕ) (cs ds : List ℕ) → 1 ≤ length ds → All (λ b. is_digit b ≡ true) ds → 57 < to_ascii_lowercase c → is_word (c ∷ cs) ds ≡ false
+digits_are_no_keyword c cs [] some h past = absurd (omega arith)
+digits_are_no_keyword c cs (b ∷ bs) some h past =
+    let digit : is_digit b ≡ true = All-head (λ x. is_digit x ≡ true) b bs h in
+    let low : b ≤ 57 = grind (arith, nat_tests) in
+    let other : (b == to_ascii_lowercase c) ≡ false = grind (arith, nat_tests) in
+    rw (digit_stays b digit, other) refl
+
+pub no_keyword : (c : ℕ) (cs : List ℕ) (n : ℕ) → n < 10 ^ 18 → 57 < to_ascii_lowercase c → is_word (c ∷ cs) (decimal n) ≡ false
+no_keyword c cs n small past = let d = digits_spell n small in digits_are_no_keyword c cs (decimal n) d.some d.digits past
+
+pub is_entry : (n : ℕ) (ws : Line) → n < 10 ^ 18 → is_left_out (decimal n ∷ ws) ≡ false
+is_entry n ws small =
+    let open_close : is_word (codes "OPEN/CLOSE") (decimal n) ≡ false = no_keyword 79 (drop 1 (codes "OPEN/CLOSE")) n small (omega arith) in
+    let external : is_word (codes "EXTERNAL") (decimal n) ≡ false = no_keyword 69 (drop 1 (codes "EXTERNAL")) n small (omega arith) in
+    let factor : is_word (codes "SFAC") (decimal n) ≡ false = no_keyword 83 (drop 1 (codes "SFAC")) n small (omega arith) in
+    rw (open_close, external, factor) refl
+
+module _ (g : Grid) (h : HasSize g) (file : List ℕ) (line : ℕ) (cell : CellId) (low : cell.0 < cell_count g) where
+  pub cell_reads : cell_at file line g (pos (layer_of g cell.0 + 1)) (pos (row_of g cell.0 + 1)) (pos (column_of g cell.0 + 1)) ≡ Ok cell
+  unfolding cell_at
+  cell_reads =
+      let k = is_within (layer_of g cell.0 + 1) g.layers (omega arith) (omega (arith, layer_below g h cell.0 low)) in
+      let i = is_within (row_of g cell.0 + 1) g.rows (omega arith) (omega (arith, row_below g h cell.0 low)) in
+      let j = is_within (column_of g cell.0 + 1) g.cols (omega arith) (omega (arith, column_below g h cell.0 low)) in
+      let k0 : layer_of g cell.0 + 1 - 1 ≡ layer_of g cell.0 = omega arith in
+      let i0 : row_of g cell.0 + 1 - 1 ≡ row_of g cell.0 = omega arith in
+      let j0 : column_of g cell.0 + 1 - 1 ≡ column_of g cell.0 = omega arith in
+      rw (k, i, j, k0, i0, j0, place_gives g h cell.0 low) refl

@@ -1,19 +1,13 @@
 mod Common
-pub mod LineCounts
-pub mod CountTexts
 pub mod FrameTexts
 pub mod GridTexts
 pub mod TimeTexts
 pub mod DisTexts
 pub mod BasTexts
 pub mod SettingTexts
-pub mod PropertyTexts
 pub mod LpfTexts
-pub mod PlaceTexts
-pub mod MarkTexts
 pub mod EntryTexts
 pub mod ListTexts
-pub mod KindTexts
 pub mod AreaTexts
 pub mod AreaFileTexts
 pub mod PackageTexts
@@ -21,4 +15,3 @@ pub mod NameTexts
 pub mod FileTexts
 pub mod StageTexts
 pub mod ModelTexts
-pub mod DeckNames

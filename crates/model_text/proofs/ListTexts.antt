@@ -4,14 +4,13 @@ use Rattle.model_text.proofs.Common.{All, Option, Some, None, is_some, Ok, refl,
 use Rattle.model_text.proofs.Common.{All-weaker, All-from_recursion, nat_tests, Dec, next_number, for_each, is_word, Grid, cell_count, HasSize, Kind, IsWord}
 use Rattle.model_text.proofs.Common.{Line, IsLine, line_text, text, number_after, unread, digits_spell, count_is_word, word_by_test, line_words, next_line}
 use Rattle.model_text.proofs.Common.{list_item_2, list_item_5, period_list, list_lines, IsEntry, IsListOf, with_lists, Limits, Period, most_entries}
-use Rattle.model_text.proofs.Common.{entries_few, entries, header_of, item_line, list_at, lists_of}
-use Rattle.model_text.proofs.CountTexts.{decimal_item}
+use Rattle.model_text.proofs.Common.{entries_few, entries, header_of, item_line, list_at, lists_of, CellId, numbers_of, heads_of, dec_at, cell_of, given_heads}
+use Rattle.model_text.proofs.Common.{wells, rivers, drains, generals, ListPackagesReadAsWritten}
+use Rattle.model_text.proofs.FrameTexts.{decimal_item, no_keyword}
 use Rattle.list_package.specs.Lists.{period_at, periods_of}
-use Rattle.model_text.proofs.LineCounts.{number_after-append}
+use Rattle.model_text.proofs.GridTexts.{number_after-append}
 use Rattle.model_text.proofs.DisTexts.{AreLines, no_lines, one_line, joined, file_begins, line_is_item, decimal_is_item}
-use Rattle.model_text.proofs.PlaceTexts.{no_keyword}
-use Rattle.model_text.proofs.MarkTexts.{all_free}
-use Rattle.model_text.proofs.EntryTexts.{WritesNumbers, entry_line, entry_is_line, list_reads}
+use Rattle.model_text.proofs.EntryTexts.{all_free, WritesNumbers, entry_line, entry_is_line, list_reads}
 
 -- a count and a 0 on a line
 pub counts_are_line : (n : ℕ) → n < 10 ^ 18 → IsLine (decimal n ∷ codes "0" ∷ [])
@@ -115,3 +114,47 @@ module _ {E : Type 0} (limits : Limits) (kind : Kind E) (cell : E → ℕ) (numb
       let end : tail ++ [] ≡ tail = append-nil tail in
       let each = rw end at (each_reads ps lists good None (next_number 1) []) in
       rw (start, first_line most 1 tail small, line_words head (counts_are_line most small).words, decimal_item file 1 most (codes "0" ∷ []) small, each) refl
+
+-- The numbers of WEL, RIV, DRN, GHB and CHD are written as they were read, and so their files are read as written.
+wells_write : WritesNumbers wells cell_of numbers_of
+wells_write = record { numbers_are = are; cell_is = λ at c. refl; place_is = λ at c. refl }
+  where
+    are : (at : CellId) (c : List Dec) → length c ≡ 1 → numbers_of (wells.entry at c) ≡ c
+    are at [] n = absurd (omega (arith, n))
+    are at (q ∷ []) n = refl
+    are at (q ∷ x ∷ c) n = absurd (omega (arith, n))
+
+rivers_write : WritesNumbers rivers cell_of numbers_of
+rivers_write = record { numbers_are = are; cell_is = λ at c. refl; place_is = λ at c. refl }
+  where
+    are : (at : CellId) (c : List Dec) → length c ≡ 3 → numbers_of (rivers.entry at c) ≡ c
+    are at [] n = absurd (omega (arith, n))
+    are at (stage ∷ []) n = absurd (omega (arith, n))
+    are at (stage ∷ k ∷ []) n = absurd (omega (arith, n))
+    are at (stage ∷ k ∷ bottom ∷ []) n = refl
+    are at (stage ∷ k ∷ bottom ∷ x ∷ c) n = absurd (omega (arith, n))
+
+-- the numbers of a list of two
+two : (c : List Dec) → length c ≡ 2 → dec_at c 0 ∷ dec_at c 1 ∷ [] ≡ c
+two [] n = absurd (omega (arith, n))
+two (x ∷ []) n = absurd (omega (arith, n))
+two (x ∷ y ∷ []) n = refl
+two (x ∷ y ∷ z ∷ c) n = absurd (omega (arith, n))
+
+drains_write : WritesNumbers drains cell_of numbers_of
+drains_write = record { numbers_are = λ at c n. two c n; cell_is = λ at c. refl; place_is = λ at c. refl }
+
+generals_write : WritesNumbers generals cell_of numbers_of
+generals_write = record { numbers_are = λ at c n. two c n; cell_is = λ at c. refl; place_is = λ at c. refl }
+
+heads_write : WritesNumbers given_heads (λ x. x.cell.0) heads_of
+heads_write = record { numbers_are = λ at c n. two c n; cell_is = λ at c. refl; place_is = λ at c. refl }
+
+pub list_packages : ListPackagesReadAsWritten
+list_packages = record {
+  wel = λ limits file g ps lists size good. file_reads limits wells cell_of numbers_of wells_write file g size ps lists good;
+  riv = λ limits file g ps lists size good. file_reads limits rivers cell_of numbers_of rivers_write file g size ps lists good;
+  drn = λ limits file g ps lists size good. file_reads limits drains cell_of numbers_of drains_write file g size ps lists good;
+  ghb = λ limits file g ps lists size good. file_reads limits generals cell_of numbers_of generals_write file g size ps lists good;
+  chd = λ limits file g ps lists size good. file_reads limits given_heads (λ x. x.cell.0) heads_of heads_write file g size ps lists good;
+}

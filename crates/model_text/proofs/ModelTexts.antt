@@ -9,7 +9,7 @@ use Rattle.cell_checks.specs.Checks.{checked, fault_at}
 use Rattle.cell_checks.specs.declared.passing.Check.TheVariants.{Thickness, StartHead, Properties}
 use Rattle.model_text.proofs.BasTexts.{bas_reads}
 use Rattle.model_text.proofs.LpfTexts.{lpf_reads}
-use Rattle.model_text.proofs.KindTexts.{list_packages}
+use Rattle.model_text.proofs.ListTexts.{list_packages}
 use Rattle.model_text.proofs.NameTexts.{pairs_of, absent, present, names_read}
 use Rattle.model_text.proofs.FileTexts.{name_file_there, package_file_there}
 use Rattle.model_text.proofs.StageTexts.{staged, with_list, with_recharge, with_evaporation, list_stage, recharge_stage, evaporation_stage}

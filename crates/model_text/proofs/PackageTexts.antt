@@ -1,7 +1,7 @@
 -- Packages: their file types and units are words that are read as the package, and two packages are the same or apart.
 use Rattle.model_text.proofs.Common.{◌≡◌, Bool, true, false, not, ◌&&◌, List, [], ◌∷◌, All, Some, refl, list_all, All-nil, All-cons, is_comment}
-use Rattle.model_text.proofs.Common.{is_same_package, is_integer, Package, Dis, IsWord, word_by_test, packages, file_type, file_unit, and_parts}
-use Rattle.name_file.specs.Kinds.{package_of, is_passed_over}
+use Rattle.model_text.proofs.Common.{is_same_package, is_integer, Package, Dis, IsWord, word_by_test, packages, file_type, file_unit, and_parts, package_of}
+use Rattle.model_text.proofs.Common.{is_passed_over}
 
 pub type_is_word : (k : Package) → IsWord (file_type k)
 type_is_word Dis = word_by_test (file_type Dis) refl

@@ -4,9 +4,9 @@ use Rattle.model_text.proofs.Common.{list_any, length-replicate, All-nil, All-co
 use Rattle.model_text.proofs.Common.{number, integer, canonical, significant, zeros, value_at, free_list, FlowModel, zero_at, zero_step, zero_list, IsWord}
 use Rattle.model_text.proofs.Common.{Line, IsLine, unread, number_after, row_line, word_by_test, line_by_test, line_words, next_line, IsWrittenAs, on_line}
 use Rattle.model_text.proofs.Common.{value_reads, line_begins, free_list_reads, free_lists, are_lines, storage_option, lpf_item_1, lpf_zeros, lpf_item_4}
-use Rattle.model_text.proofs.Common.{lpf_item_5, IsDiscretized, HasFlow, is_word}
-use Rattle.lpf_package.specs.Settings.{option_line, settings_of}
-use Rattle.model_text.proofs.CountTexts.{zero_item, zero_number_item}
+use Rattle.model_text.proofs.Common.{lpf_item_5, IsDiscretized, HasFlow, is_word, settings_of}
+use Rattle.lpf_package.specs.Flow.{option_line}
+use Rattle.model_text.proofs.FrameTexts.{zero_item, zero_number_item}
 
 zero_word : IsWord (codes "0")
 zero_word = word_by_test (codes "0") refl

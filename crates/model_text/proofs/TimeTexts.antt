@@ -3,13 +3,12 @@ use Rattle.model_text.proofs.Common.{◌≡◌, ℕ, ◌+◌, ◌*◌, ◌≤◌
 use Rattle.model_text.proofs.Common.{refl, arith, codes, decimal, All-nil, All-cons, All-head, All-tail, nat_tests, Dec, IsDec, size, Refusal, next_number}
 use Rattle.model_text.proofs.Common.{repeated, Period, IsTimed, IsGrowing, number_one, is_one, without_stresses, IsWord, number_word, Line, IsLine}
 use Rattle.model_text.proofs.Common.{number_after, unread, short_exponent, word_by_test, number_is_word, count_is_word, line_words, next_line, steady_word}
-use Rattle.model_text.proofs.Common.{dis_item_7}
+use Rattle.model_text.proofs.Common.{dis_item_7, is_at_most, is_at_least, kind_of, known, is_growth, is_time, time_of}
 use Rattle.std.proofs.lemmas.List.Sums.{sum_by_from}
 use Rattle.decimal_input.specs.Ratios.{Ratio, ratio, den, AtMost}
-use Rattle.number_limits.specs.Magnitudes.{is_at_most, is_at_least}
-use Rattle.dis_package.specs.Times.{kind_of, known, is_growth, is_time, time_of, period_at, periods_of}
-use Rattle.dis_package.specs.declared.time.Time.{Time}
-use Rattle.model_text.proofs.CountTexts.{number_item, count_reads}
+use Rattle.dis_package.specs.Frames.{period_at, periods_of}
+use Rattle.dis_package.specs.declared.periods.Time.{Time}
+use Rattle.model_text.proofs.FrameTexts.{number_item, count_reads}
 use Rattle.model_text.proofs.GridTexts.{is_above}
 
 pub canonical_word : (d : Dec) → IsDec d → IsWord (number_word d)

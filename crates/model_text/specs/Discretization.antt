@@ -4,12 +4,10 @@ use Rattle.model_types.specs.declared.grid.Grid.{Grid}
 use Rattle.model_types.specs.declared.model.FlowModel.{FlowModel}
 use Rattle.model_types.specs.declared.period.Period.{Period}
 use Rattle.model_types.specs.Layers.{int_at, is_nonzero}
-use Rattle.array_text.specs.Words.{number_word, integer_word}
-use Rattle.array_text.specs.Lines.{Line}
-use Rattle.array_text.specs.Arrays.{row_line, real_array, integer_array}
+use Rattle.array_text.specs.Lines.{number_word, integer_word, Line, row_line, real_array, integer_array}
 use Rattle.std.specs.List.{flat_map, range_with_len}
 use Rattle.decimal_input.specs.declared.dec.Dec.{Dec}
-use Rattle.model_types.specs.Cells.{layer_size}
+use Rattle.model_types.specs.Faces.{layer_size}
 use Rattle.lpf_package.specs.Flow.{is_transient}
 
 -- Lists by cell, layer by layer.

@@ -6,27 +6,23 @@ use Rattle.model_types.specs.declared.limits.Limits.{Limits}
 use Rattle.model_types.specs.declared.model.FlowModel.{FlowModel}
 use Rattle.model_reader.specs.Model.{reads}
 use Rattle.model_text.specs.Names.{AreNames}
-use Rattle.model_text.specs.Written.{written}
-use Rattle.model_text.specs.Writable.{IsWritable}
-use Rattle.model_text.specs.Decks.{deck_name, deck_names}
+use Rattle.model_text.specs.Written.{written, deck_name, deck_names}
+use Rattle.model_text.specs.Writable.{IsWritable, IsListOf, with_lists}
 use Rattle.model_types.specs.Grids.{HasSize}
-use Rattle.stress_packages.specs.Recharge.{rch_of, recharge_arrays}
+use Rattle.stress_packages.specs.Packages.{rch_of, recharge_arrays, wells, rivers, drains, generals}
 use Rattle.evt_package.specs.Evaporation.{evaporation_arrays, evt_of}
 use Rattle.array_text.specs.Lines.{text}
-use Rattle.model_text.specs.Areas.{rch_lines, evt_lines}
+use Rattle.model_text.specs.Lists.{rch_lines, evt_lines, numbers_of, heads_of, list_lines}
 use Rattle.model_text.specs.Readable.{IsRecharged, IsEvaporating, with_areas}
 use Rattle.std.specs.List.{AllZip}
 use Rattle.decimal_input.specs.declared.dec.Dec.{Dec}
 use Rattle.model_types.specs.declared.grid.Grid.{Grid}
 use Rattle.model_types.specs.declared.period.Period.{Period}
-use Rattle.model_types.specs.Cells.{cell_count}
+use Rattle.model_types.specs.Faces.{cell_count}
 use Rattle.model_types.specs.Sources.{cell_of}
-use Rattle.list_package.specs.GivenHeads.{given_heads}
+use Rattle.list_package.specs.Entries.{given_heads}
 use Rattle.list_package.specs.Kinds.{Kind}
 use Rattle.list_package.specs.Lists.{lists_of}
-use Rattle.stress_packages.specs.Packages.{wells, rivers, drains, generals}
-use Rattle.model_text.specs.Lists.{numbers_of, heads_of, list_lines}
-use Rattle.model_text.specs.Entries.{IsListOf, with_lists}
 use Rattle.dis_package.specs.Discretization.{begun, dis_of}
 use Rattle.dis_package.specs.Forms.{without_stresses}
 use Rattle.bas_package.specs.Basics.{with_basics, bas_of}

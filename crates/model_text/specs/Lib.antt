@@ -2,9 +2,6 @@ pub mod Discretization
 pub mod Readable
 pub mod Laws
 pub mod Lists
-pub mod Entries
-pub mod Areas
 pub mod Names
 pub mod Written
 pub mod Writable
-pub mod Decks

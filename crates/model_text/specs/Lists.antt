@@ -1,5 +1,5 @@
 -- The files of list packages (TM 6-A16, input instructions, WEL, RIV, DRN, GHB, CHD).
-use Rattle.std.specs.Prelude.{ℕ, List, [], ◌∷◌, ◌++◌, map, length, max, fold, codes, decimal}
+use Rattle.std.specs.Prelude.{ℕ, List, [], ◌∷◌, ◌++◌, map, length, max, fold, codes, decimal, if◌then◌else◌}
 use Rattle.std.specs.List.{flat_map}
 use Rattle.decimal_input.specs.declared.dec.Dec.{Dec}
 use Rattle.model_types.specs.declared.entry.Entry.{Entry}
@@ -7,10 +7,11 @@ use Rattle.model_types.specs.declared.entry.Entry.TheVariants.{Well, River, Drai
 use Rattle.model_types.specs.declared.entry.Given.{Given}
 use Rattle.model_types.specs.declared.grid.Grid.{Grid}
 use Rattle.model_types.specs.declared.model.FlowModel.{FlowModel}
-use Rattle.model_types.specs.Cells.{place}
+use Rattle.model_types.specs.Faces.{place}
 use Rattle.model_types.specs.Sources.{cell_of}
-use Rattle.array_text.specs.Words.{number_word}
-use Rattle.array_text.specs.Lines.{Line}
+use Rattle.array_text.specs.Lines.{number_word, Line, integer_word, real_array, integer_array}
+use Rattle.model_types.specs.declared.period.Period.{Period}
+use Rattle.model_types.specs.Receivers.{is_int}
 
 -- WEL: Q; RIV: Stage Cond Rbot; DRN: Elevation Cond; GHB: Bhead Cond
 abbrev pub numbers_of : Entry → List Dec
@@ -57,3 +58,32 @@ module _ (m : FlowModel) where
 
   abbrev pub chd_lines : List Line
   chd_lines = list_lines m.grid (λ x. x.cell.0) heads_of (map (λ p. p.stresses.given) m.periods)
+
+-- The files of recharge and evapotranspiration (TM 6-A16, input instructions, RCH and EVT).
+module _ (m : FlowModel) where
+  -- RCH item 2: NRCHOP IRCHCB
+  unfoldable pub rch_item_2 : Line
+  rch_item_2 = integer_word m.nrchop ∷ codes "0" ∷ []
+
+  -- RCH items 5, 6 and 8: INRECH INIRCH; RECH(NCOL,NROW) - U2DREL; where NRCHOP is 2, IRCH(NCOL,NROW) - U2DINT
+  unfoldable pub rch_items : Period → List Line
+  rch_items p =
+      (codes "1" ∷ codes "1" ∷ []) ∷ (real_array m.grid.rows m.grid.cols p.stresses.recharge
+      ++ (if is_int m.nrchop 2 then integer_array m.grid.rows m.grid.cols p.stresses.irch else []))
+
+  unfoldable pub rch_lines : List Line
+  rch_lines = rch_item_2 ∷ flat_map rch_items m.periods
+
+  -- EVT item 2: NEVTOP IEVTCB
+  unfoldable pub evt_item_2 : Line
+  evt_item_2 = integer_word m.nevtop ∷ codes "0" ∷ []
+
+  -- EVT items 5, 6, 7, 9 and 10: INSURF INEVTR INEXDP INIEVT; SURF, EVTR and EXDP, each (NCOL,NROW) - U2DREL; where NEVTOP is 2, IEVT(NCOL,NROW) - U2DINT
+  unfoldable pub evt_items : Period → List Line
+  evt_items p =
+      (codes "1" ∷ codes "1" ∷ codes "1" ∷ codes "1" ∷ []) ∷ (real_array m.grid.rows m.grid.cols p.stresses.surf
+      ++ (real_array m.grid.rows m.grid.cols p.stresses.evtr ++ (real_array m.grid.rows m.grid.cols p.stresses.exdp
+      ++ (if is_int m.nevtop 2 then integer_array m.grid.rows m.grid.cols p.stresses.ievt else []))))
+
+  unfoldable pub evt_lines : List Line
+  evt_lines = evt_item_2 ∷ flat_map evt_items m.periods

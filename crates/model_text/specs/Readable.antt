@@ -3,18 +3,16 @@ use Rattle.std.specs.Prelude.{◌≡◌, ℕ, ◌<◌, ℤ, true, false, List, [
 use Rattle.model_types.specs.declared.model.FlowModel.{FlowModel}
 use Rattle.model_types.specs.declared.grid.Grid.{Grid}
 use Rattle.model_types.specs.declared.period.Period.{Period}
-use Rattle.model_types.specs.Cells.{layer_size, cell_count}
+use Rattle.model_types.specs.Faces.{layer_size, cell_count}
 use Rattle.model_types.specs.Layers.{int_at, is_nonzero, no_number}
 use Rattle.model_types.specs.Receivers.{is_int}
-use Rattle.period_arrays.specs.Flags.{is_option}
+use Rattle.period_arrays.specs.Areas.{is_option, is_layer}
 use Rattle.period_arrays.specs.Forms.{IsReals, IsWhole}
 use Rattle.period_arrays.specs.Kinds.{ArrayKind, with_area}
-use Rattle.period_arrays.specs.Layers.{is_layer}
-use Rattle.evt_package.specs.Columns.{columns_tested}
-use Rattle.evt_package.specs.Evaporation.{area_in}
-use Rattle.array_text.specs.Words.{IsShort}
+use Rattle.evt_package.specs.Evaporation.{columns_tested, area_in}
+use Rattle.array_text.specs.Lines.{IsShort}
 use Rattle.decimal_input.specs.declared.dec.Dec.{Dec}
-use Rattle.decimal_input.specs.Canonical.{IsDec}
+use Rattle.decimal_input.specs.Decimals.{IsDec}
 use Rattle.model_types.specs.declared.limits.Limits.{Limits}
 use Rattle.model_types.specs.Grids.{IsGrid}
 use Rattle.model_types.specs.Limits.{most_layers, most_in_row, most_cells}

@@ -1,17 +1,45 @@
 -- What is asked of a model, so that files can say it.
-use Rattle.std.specs.Prelude.{◌≡◌, ◌⊎◌, ℕ, pos, List, [], All, Ok}
+use Rattle.std.specs.Prelude.{◌≡◌, ◌⊎◌, ℕ, pos, List, [], All, Ok, ◌<◌, ◌≤◌, true, None, ◌∷◌, length}
 use Rattle.model_types.specs.declared.limits.Limits.{Limits}
 use Rattle.model_types.specs.declared.model.FlowModel.{FlowModel}
 use Rattle.model_types.specs.declared.period.Period.{Period}
-use Rattle.model_types.specs.Cells.{cell_count}
+use Rattle.model_types.specs.Faces.{cell_count}
 use Rattle.cell_checks.specs.Checks.{checked}
 use Rattle.cell_checks.specs.declared.passing.Check.{Check}
-use Rattle.list_package.specs.GivenHeads.{given_heads}
-use Rattle.list_package.specs.Kinds.{Kind}
+use Rattle.list_package.specs.Entries.{given_heads}
+use Rattle.list_package.specs.Kinds.{Kind, first_fault, with_list}
 use Rattle.stress_packages.specs.Packages.{wells, rivers, drains, generals}
-use Rattle.model_text.specs.Readable.{IsDiscretized, IsGridWithin, IsBasic, HasFlow}
-use Rattle.model_text.specs.Entries.{IsListOf}
-use Rattle.model_text.specs.Readable.{IsRecharged, IsEvaporating}
+use Rattle.model_text.specs.Readable.{IsDiscretized, IsGridWithin, IsBasic, HasFlow, IsRecharged, IsEvaporating}
+use Rattle.std.specs.List.{AllPairs}
+use Rattle.decimal_input.specs.declared.dec.Dec.{Dec}
+use Rattle.decimal_input.specs.Decimals.{IsDec}
+use Rattle.model_types.specs.declared.grid.CellId.{CellId}
+use Rattle.model_types.specs.Limits.{most_entries}
+use Rattle.list_package.specs.Forms.{Differ}
+
+-- What is asked of the lists of a package, so that its file can say them.
+-- x is the entry of a cell of the grid, with a number in canonical form for each column, which pass their tests
+pub record IsEntry {E : Type 0} (kind : Kind E) (cells : ℕ) (x : E) : Type 0 where
+  pub cell : CellId
+  pub numbers : List Dec
+  pub inside : cell.0 < cells
+  pub count : length numbers ≡ length kind.columns
+  pub canonical : All IsDec numbers
+  pub passes : first_fault kind.columns numbers ≡ None
+  pub is : x ≡ kind.entry cell numbers
+
+-- a period's list: at most as many entries as the limits say; where a list may name a cell at most once, it does; and the period may have it
+pub record IsListOf {E : Type 0} (limits : Limits) (kind : Kind E) (cells : ℕ) (p : Period) (xs : List E) : Type 0 where
+  pub few : length xs ≤ most_entries limits
+  pub entries : All (IsEntry kind cells) xs
+  pub once : kind.once ≡ true → AllPairs (Differ kind) xs
+  pub suits : kind.suits p xs ≡ true
+
+-- the periods with these lists
+abbrev pub with_lists : {E : Type 0} → Kind E → List Period → List (List E) → List Period
+with_lists kind [] lists = []
+with_lists kind (p ∷ ps) [] = []
+with_lists kind (p ∷ ps) (xs ∷ lists) = with_list kind p xs ∷ with_lists kind ps lists
 
 -- each stress period has a list of this package that its file can say
 abbrev pub HasLists : {E : Type 0} → Limits → Kind E → FlowModel → Type 0

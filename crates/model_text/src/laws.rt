@@ -9,37 +9,43 @@ pub fn models_read_as_written()
 {}
 
 /// The names of the files of a deck that is put are good names.
-#[tactic(auto, using(crate::proofs::DeckNames::good_names))]
+#[tactic(auto, using(crate::proofs::FileTexts::good_names))]
 pub fn deck_names_are_names()
     ensures { DeckNamesAreNames }
 {}
 
 /// The file of RCH is read as the recharge that was written.
+#[tactic(auto, using(crate::proofs::AreaFileTexts::rch_reads))]
 pub fn rch_reads_as_written()
     ensures { RchReadsAsWritten }
 {}
 
 /// The file of EVT is read as the evapotranspiration that was written.
+#[tactic(auto, using(crate::proofs::AreaFileTexts::evt_reads))]
 pub fn evt_reads_as_written()
     ensures { EvtReadsAsWritten }
 {}
 
 /// The file of each list package is read as the lists that were written.
+#[tactic(auto, using(crate::proofs::ListTexts::list_packages))]
 pub fn list_packages_read_as_written()
     ensures { ListPackagesReadAsWritten }
 {}
 
 /// The file of the discretization is read as the grid and the stress periods that were written.
+#[tactic(auto, using(crate::proofs::DisTexts::dis_reads))]
 pub fn dis_reads_as_written()
     ensures { DisReadsAsWritten }
 {}
 
 /// The file of the basic package is read as the IBOUND and STRT that were written.
+#[tactic(auto, using(crate::proofs::BasTexts::bas_reads))]
 pub fn bas_reads_as_written()
     ensures { BasReadsAsWritten }
 {}
 
 /// The file of the layer-property flow package is read as the properties that were written.
+#[tactic(auto, using(crate::proofs::LpfTexts::lpf_reads))]
 pub fn lpf_reads_as_written()
     ensures { LpfReadsAsWritten }
 {}

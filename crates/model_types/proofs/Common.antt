@@ -10,11 +10,11 @@ pub use Rattle.std.proofs.lemmas.List.FromFn.{fill_by_all, get_or-map-range_with
 pub use Rattle.std.proofs.lemmas.Nat.{div-add-mod', div-mul-add, div_below, mod-mul-add, mod_below, mul-add-lt}
 pub use Rattle.std.specs.List.{Contains, cons_option, filter, filter_map, find, flat_map, list_any, range_with_len, sum_by}
 pub use Rattle.std.specs.Prelude.{min, nat_le, nat_lt, replicate, reverse, ◌==◌}
-pub use Rattle.model_types.specs.Cells.{back, cell_count, cell_number, column_of, down, front, layer_of, layer_size, left, place, right, row_of, up}
-pub use Rattle.model_types.specs.Faces.{face_after, face_before, faces, has_after, has_before, span, stride, through}
+pub use Rattle.model_types.specs.Faces.{back, cell_count, cell_number, column_of, down, face_after, face_before, faces, front, has_after, has_before, layer_of}
+pub use Rattle.model_types.specs.Faces.{layer_size, left, place, right, row_of, span, stride, through, up}
 pub use Rattle.model_types.specs.Grids.{HasSize, IsInGrid, IsPlace}
-pub use Rattle.model_types.specs.Kinds.{kind_of, last_given}
-unfoldable pub use Rattle.model_types.specs.Kinds.{given_heads, given_in, kinds}
+pub use Rattle.model_types.specs.Heads.{kind_of, last_given}
+unfoldable pub use Rattle.model_types.specs.Heads.{given_heads, given_in, kinds}
 pub use Rattle.model_types.specs.Times.{no_period, no_stresses, period_at, steps_of}
 unfoldable pub use Rattle.model_types.specs.Times.{geometric, power}
 pub use Rattle.model_types.specs.declared.entry.Given.{Given}

@@ -1,11 +1,39 @@
 -- What DIS promises of a grid: its limits, and the lengths and the signs of its lists.
-use Rattle.std.specs.Prelude.{◌≡◌, ◌-◌, ◌<◌, ◌≤◌, ℕ, pos, All, length, Option, IfSome}
-use Rattle.decimal_input.specs.Canonical.{IsDec}
+use Rattle.std.specs.Prelude.{◌≡◌, ◌-◌, ◌<◌, ◌≤◌, ℕ, pos, All, length, Option, IfSome, ◌^◌, ℤ, neg_ℤ, ◌+ℤ◌, ◌≤ℤ◌, false, unsigned_abs}
+use Rattle.decimal_input.specs.Decimals.{IsDec, number}
 use Rattle.model_types.specs.declared.grid.Grid.{Grid}
 use Rattle.model_types.specs.declared.face.Face.{Face}
-use Rattle.model_types.specs.Cells.{layer_size, cell_count}
+use Rattle.model_types.specs.Faces.{layer_size, cell_count}
 use Rattle.model_types.specs.Layers.{int_at}
-use Rattle.model_types.specs.Numbers.{IsPositive}
+use Rattle.decimal_input.specs.declared.dec.Dec.{Dec}
+use Rattle.decimal_input.specs.Wholes.{EnclosesSigned, IsSignedFloor, IsSignedCeiling}
+
+-- The tests of the readers on single numbers of the input. The limits are this program's own.
+-- above 0
+pub record IsPositive (d : Dec) : Type 0 where
+  pub decimal : IsDec d
+  pub sign : d.neg ≡ false
+  pub positive : 0 < d.digits
+
+-- not below 0
+pub record IsNotNegative (d : Dec) : Type 0 where
+  pub decimal : IsDec d
+  pub sign : d.neg ≡ false
+
+-- a head or an elevation: from -4000000000 to 4000000000 length units
+pub record IsHeadNumber (d : Dec) : Type 0 where
+  pub decimal : IsDec d
+  pub range : EnclosesSigned (neg_ℤ (pos 4000000000)) (pos 4000000000) 0 (number d)
+
+-- The room between two elevations, from the floor of the upper one and the ceiling of the lower one in units of
+-- 10^-18: at least 10^6 units, and both are below 2^126.
+pub record IsThick (top bottom : Dec) : Type 0 where
+  pub floor : ℤ
+  pub ceiling : ℤ
+  pub is_floor : IsSignedFloor floor (number top) 18
+  pub is_ceiling : IsSignedCeiling ceiling (number bottom) 18
+  pub small : (unsigned_abs floor < 2 ^ 126) × (unsigned_abs ceiling < 2 ^ 126)
+  pub room : (ceiling +ℤ pos 1000000) ≤ℤ floor
 
 -- The limits on NLAY, NROW, NCOL and the number of cells. Most calls need no more of a grid.
 pub record HasSize (g : Grid) : Type 0 where

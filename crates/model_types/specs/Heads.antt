@@ -1,13 +1,63 @@
 -- The heads of constant-head cells (TM 6-A16, chapters 4 and 6, BAS and CHD; where the manual leaves room, this program's choice).
-use Rattle.std.specs.Prelude.{ℕ, ◌-◌, Option, Some, None, take}
-use Rattle.decimal_input.specs.Canonical.{number}
+use Rattle.std.specs.Prelude.{ℕ, ◌-◌, Option, Some, None, take, pos, Bool, cond, not, ◌&&◌, ◌==◌, int_lt, List, length, filter, map, is_some, reverse}
+use Rattle.decimal_input.specs.Decimals.{number}
 use Rattle.decimal_input.specs.Ratios.{Ratio}
 use Rattle.decimal_input.specs.Fractions.{Fraction, signed, negated, plus, times}
 use Rattle.model_types.specs.declared.model.FlowModel.{FlowModel}
 use Rattle.model_types.specs.declared.entry.Given.{Given}
-use Rattle.model_types.specs.Layers.{dec_at}
+use Rattle.model_types.specs.Layers.{dec_at, int_at, is_active}
 use Rattle.model_types.specs.Times.{period_at, passed}
-use Rattle.model_types.specs.Kinds.{given_in, last_given}
+use Rattle.std.specs.List.{range_with_len, find, flat_map}
+use Rattle.model_types.specs.declared.period.Period.{Period}
+use Rattle.model_types.specs.declared.given_heads.Kind.{Kind}
+use Rattle.model_types.specs.declared.given_heads.GivenHeads.{GivenHeads}
+use Rattle.model_types.specs.declared.given_heads.Kind.TheVariants.{NoFlow, Constant, Variable}
+use Rattle.model_types.specs.Faces.{cell_count}
+
+-- Which cells have a variable head in a stress period, which a constant one, and which no flow (TM 6-A16, chapters 4
+-- and 6, BAS and CHD; where the manual leaves room, this program's choice: a cell that a CHD list names is constant
+-- from then on).
+-- the last entry of a CHD list that names a cell
+unfoldable pub given_in : List Given → ℕ → Option Given
+given_in xs c = find (λ x. x.cell.0 == c) (reverse xs)
+
+-- the last entry of these periods' CHD lists, in their order, that names a cell
+abbrev pub last_given : List Period → ℕ → Option Given
+last_given ps c = given_in (flat_map (λ p. p.stresses.given) ps) c
+
+module _ (m : FlowModel) (p : ℕ) where
+  -- whether a CHD list of a period up to p names the cell
+  abbrev pub is_given : ℕ → Bool
+  is_given c = is_some (last_given (take p m.periods) c)
+
+  -- A variable cell: IBOUND is above 0, and no CHD list up to this period names it.
+  abbrev pub is_variable : ℕ → Bool
+  is_variable c = int_lt (pos 0) (int_at m.ibound c) && not (is_given c)
+
+  -- A constant-head cell: IBOUND isn't 0, and the cell isn't variable.
+  abbrev pub is_constant : ℕ → Bool
+  is_constant c = is_active m c && not (is_variable c)
+
+  abbrev pub kind_of : ℕ → Kind
+  kind_of c = cond (is_variable c) Variable (cond (is_constant c) Constant NoFlow)
+
+  -- the kinds of all cells, by cell number
+  unfoldable pub kinds : List Kind
+  kinds = map kind_of (range_with_len 0 (cell_count m.grid))
+
+  -- the given heads so far of all cells, by cell number
+  unfoldable pub given_heads : GivenHeads
+  given_heads = record { period = p; last = map (last_given (take p m.periods)) (range_with_len 0 (cell_count m.grid)) }
+
+  -- The variable cells, by ascending cell number. A variable cell's index is the number of those below it.
+  unfoldable pub variable_below : ℕ → List ℕ
+  variable_below n = filter is_variable (range_with_len 0 n)
+
+  abbrev pub variable_cells : List ℕ
+  variable_cells = variable_below (cell_count m.grid)
+
+  abbrev pub index_of : ℕ → ℕ
+  index_of c = length (variable_below c)
 
 -- STRT, the starting head of a cell
 abbrev pub start_head : FlowModel → ℕ → Fraction

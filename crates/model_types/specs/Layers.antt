@@ -1,11 +1,11 @@
 -- The properties of a cell: its widths, its elevations and thickness, and its conductivities, with the exact numbers of the input (TM 6-A16, chapters 2 and 5).
 use Rattle.std.specs.Prelude.{ℕ, ◌+◌, ◌-◌, ◌*◌, ℤ, pos, ◌*ℤ◌, ◌-ℤ◌, Bool, cond, not, nat_lt, ◌==◌, List, slice_index_or, unsigned_abs, false}
 use Rattle.decimal_input.specs.declared.dec.Dec.{Dec}
-use Rattle.decimal_input.specs.Canonical.{number, size}
+use Rattle.decimal_input.specs.Decimals.{number, size}
 use Rattle.decimal_input.specs.Ratios.{Ratio, over, times}
 use Rattle.decimal_input.specs.Fractions.{Fraction, den}
 use Rattle.model_types.specs.declared.model.FlowModel.{FlowModel}
-use Rattle.model_types.specs.Cells.{layer_size, layer_of, row_of, column_of}
+use Rattle.model_types.specs.Faces.{layer_size, layer_of, row_of, column_of}
 
 abbrev pub no_number : Dec
 no_number = record { neg = false; digits = 0; exp = pos 0 }

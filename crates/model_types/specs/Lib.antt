@@ -1,14 +1,11 @@
-pub mod Cells
 pub mod Faces
 pub mod Layers
 pub mod Conductances
 pub mod Times
 pub mod Storage
-pub mod Kinds
 pub mod Heads
 pub mod Receivers
 pub mod Sources
-pub mod Numbers
 pub mod Grids
 pub mod Valid
 pub mod Limits

@@ -10,7 +10,7 @@ use Rattle.model_types.specs.declared.entry.Entry.{Entry}
 use Rattle.model_types.specs.declared.entry.Entry.TheVariants.{Well, River, Drain, General}
 use Rattle.model_types.specs.Faces.{faces, through}
 use Rattle.model_types.specs.Times.{period_at, entries}
-use Rattle.model_types.specs.Kinds.{is_variable, is_constant}
+use Rattle.model_types.specs.Heads.{is_variable, is_constant}
 use Rattle.model_types.specs.Receivers.{EvapSource, recharge_at, evap_at}
 
 -- A branch to a known head: through a face to a constant-head neighbour, to a general head over its conductance, or

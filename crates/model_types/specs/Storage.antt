@@ -1,6 +1,6 @@
 -- Storage of a cell over a time step (TM 6-A16, chapters 2 and 5).
 use Rattle.std.specs.Prelude.{ℕ, ◌-◌, cond}
-use Rattle.decimal_input.specs.Canonical.{size}
+use Rattle.decimal_input.specs.Decimals.{size}
 use Rattle.decimal_input.specs.Ratios.{Ratio, times, over}
 use Rattle.model_types.specs.declared.model.FlowModel.{FlowModel}
 use Rattle.model_types.specs.declared.period.Period.{Period}

@@ -3,7 +3,7 @@
 use Rattle.std.specs.Prelude.{◌≡◌, ℕ, ◌+◌, ◌<◌, ◌≤◌, ◌⊎◌, ℤ, pos, neg_ℤ, ◌+ℤ◌, ◌≤ℤ◌, true, false, List, All, length, sum_by}
 use Rattle.std.specs.List.{AllPairs}
 use Rattle.decimal_input.specs.declared.dec.Dec.{Dec}
-use Rattle.decimal_input.specs.Canonical.{IsDec, number, size}
+use Rattle.decimal_input.specs.Decimals.{IsDec, number, size}
 use Rattle.decimal_input.specs.Ratios.{ratio, AtMost}
 use Rattle.decimal_input.specs.Wholes.{IsSignedFloor, IsSignedCeiling}
 use Rattle.model_types.specs.declared.grid.Grid.{Grid}
@@ -13,12 +13,11 @@ use Rattle.model_types.specs.declared.period.Stresses.{Stresses}
 use Rattle.model_types.specs.declared.entry.Given.{Given}
 use Rattle.model_types.specs.declared.entry.Entry.{Entry}
 use Rattle.model_types.specs.declared.entry.Entry.TheVariants.{Well, River, Drain, General}
-use Rattle.model_types.specs.Cells.{layer_size, cell_count}
+use Rattle.model_types.specs.Faces.{layer_size, cell_count}
 use Rattle.model_types.specs.Layers.{dec_at, is_active, has_bed, top_at, bottom_at, lowest}
 use Rattle.model_types.specs.Receivers.{EvapSource, is_int}
 use Rattle.model_types.specs.Sources.{evap_sources}
-use Rattle.model_types.specs.Numbers.{IsPositive, IsNotNegative, IsHeadNumber, IsThick}
-use Rattle.model_types.specs.Grids.{IsGrid}
+use Rattle.model_types.specs.Grids.{IsPositive, IsNotNegative, IsHeadNumber, IsThick, IsGrid}
 
 abbrev pub number_one : Dec
 number_one = record { neg = false; digits = 1; exp = pos 0 }

@@ -6,7 +6,6 @@ pub mod face;
 pub mod faces;
 pub mod given_heads;
 pub mod grid;
-pub mod kind;
 pub mod layers;
 pub mod limits;
 pub mod listed;
@@ -20,9 +19,8 @@ pub mod time_steps;
 
 pub use entry::{Entry, Given};
 pub use face::{Axis, Face};
-pub use given_heads::GivenHeads;
+pub use given_heads::{GivenHeads, Kind, kind_at};
 pub use grid::{CellId, Grid};
-pub use kind::{Kind, kind_at};
 pub use limits::Limits;
 pub use listed::Listed;
 pub use model::FlowModel;

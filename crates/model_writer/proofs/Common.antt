@@ -4,20 +4,15 @@ pub use Rattle.std.proofs.Common.{replicate, suc, sym, take, true, ℕ, ◌++◌
 pub use Rattle.std.proofs.lemmas.Grind.{flat_map-append, replicate_next}
 pub use Rattle.std.proofs.lemmas.List.{append-nil, drop_all, length-map, map-append, map-id, take_more}
 pub use Rattle.std.specs.List.{flat_map, range_with_len}
-pub use Rattle.array_text.specs.Arrays.{array_lines, in_rows}
-unfoldable pub use Rattle.array_text.specs.Arrays.{row_line, row_lines}
-pub use Rattle.array_text.specs.Lines.{Line}
-unfoldable pub use Rattle.array_text.specs.Lines.{line_text, text}
-pub use Rattle.array_text.specs.Words.{integer_word, number_word}
-pub use Rattle.model_text.specs.Areas.{evt_items, rch_items}
-pub use Rattle.model_text.specs.Decks.{deck_name, deck_names, file_line}
-unfoldable pub use Rattle.model_text.specs.Decks.{deck_text, file_text, file_texts}
+pub use Rattle.array_text.specs.Lines.{Line, array_lines, in_rows, integer_word, number_word}
+unfoldable pub use Rattle.array_text.specs.Lines.{line_text, row_line, row_lines, text}
 pub use Rattle.model_text.specs.Discretization.{dis_item_6, dis_item_7, layer_values, lpf_arrays, storage_option}
 unfoldable pub use Rattle.model_text.specs.Discretization.{dis_item_1}
+pub use Rattle.model_text.specs.Lists.{evt_items, rch_items}
 unfoldable pub use Rattle.model_text.specs.Lists.{list_item_2, list_item_5, list_item_6, list_lines, period_list}
 pub use Rattle.model_text.specs.Names.{name_item, packages}
-pub use Rattle.model_text.specs.Written.{has, name_file, package_file}
-unfoldable pub use Rattle.model_text.specs.Written.{written}
+pub use Rattle.model_text.specs.Written.{deck_name, deck_names, file_line, has, package_file}
+unfoldable pub use Rattle.model_text.specs.Written.{deck_text, file_text, file_texts, written}
 pub use Rattle.model_types.specs.declared.model.FlowModel.{FlowModel}
 unfoldable pub use Rattle.model_writer.specs.Lines.{chosen, line_bytes, spaced}
 unfoldable pub use Rattle.model_writer.specs.Lists.{entry_line}

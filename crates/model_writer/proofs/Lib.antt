@@ -1,8 +1,4 @@
 mod Common
 pub mod Texts
-pub mod Spaces
-pub mod Repeats
-pub mod Items
-pub mod Fixed
 pub mod Chosen
 pub mod ListTexts

@@ -1,7 +1,8 @@
 -- The bytes of lines, one after another.
 use Rattle.model_writer.proofs.Common.{◌≡◌, ℕ, suc, ◌+◌, ◌≤◌, ◌<◌, List, [], ◌∷◌, ◌++◌, refl, sym, ap, ◌∙◌, length, take, drop, get_or, map, min, ◌-◌, arith}
 use Rattle.model_writer.proofs.Common.{append_assoc, flat_map, range_with_len, flat_map-append, take_more, append-nil, map-append, map-id, drop_all, Line}
-use Rattle.model_writer.proofs.Common.{line_text, text, row_line, row_lines, in_rows, line_bytes, spaced}
+use Rattle.model_writer.proofs.Common.{line_text, text, row_line, row_lines, in_rows, line_bytes, spaced, replicate, replicate_next, Bool, true, false, codes}
+use Rattle.model_writer.proofs.Common.{decimal, lit≤, FlowModel, integer_word, dis_item_1, storage_option}
 use Rattle.std.proofs.lemmas.List.FromFn.{map-range_with_len_more}
 
 pub text-nil : text [] ≡ []
@@ -100,3 +101,61 @@ pub spaced_push : {X : Type 0} (word : X → List ℕ) (xs : List X) (x : X) →
 unfolding spaced
 spaced_push word xs x =
     flat_map-append (λ y. word y ++ (32 ∷ [])) xs (x ∷ []) ∙ ap (λ t. flat_map (λ y. word y ++ (32 ∷ [])) xs ++ t) (append-nil (word x ++ (32 ∷ [])))
+
+-- A line of one word several times.
+-- words that are in bytes already
+unfoldable pub repeated_words : ℕ → List ℕ → List ℕ
+repeated_words count word = spaced (λ w. w) (replicate count word)
+
+pub no_words : (word : List ℕ) → repeated_words 0 word ≡ []
+unfolding repeated_words
+no_words word = spaced-nil (λ w. w)
+
+pub one_more_word : (count : ℕ) (word : List ℕ) → repeated_words (count + 1) word ≡ repeated_words count word ++ (word ++ (32 ∷ []))
+unfolding repeated_words
+one_more_word count word = ap (spaced (λ w. w)) (replicate_next count word) ∙ spaced_push (λ w. w) (replicate count word) word
+
+-- the same line, as a row of words
+words_line : (ws : List (List ℕ)) → line_bytes ws ≡ line_bytes (row_line (λ w. w) ws)
+unfolding row_line
+words_line ws = ap line_bytes (sym (map-id ws))
+
+pub last_word : (count : ℕ) (word : List ℕ) → 1 ≤ count → line_bytes (replicate count word) ≡ repeated_words (count - 1) word ++ (word ++ (10 ∷ []))
+unfolding repeated_words
+last_word count word some =
+    let one : count ≡ (count - 1) + 1 = omega arith in
+    ap (λ n. line_bytes (replicate n word)) one ∙ ap line_bytes (replicate_next (count - 1) word)
+    ∙ words_line (replicate (count - 1) word ++ (word ∷ [])) ∙ line_of_last (λ w. w) (replicate (count - 1) word) word
+
+pub ruleset repeats = (no_words, one_more_word, last_word)
+
+-- Words with a blank after each, and then a line.
+pub then_line : {X : Type 0} (word : X → List ℕ) (xs : List X) (line : Line) → 1 ≤ length line → line_bytes (map word xs ++ line) ≡ spaced word xs ++ line_bytes line
+then_line word xs [] some = absurd (let none : 1 ≤ 0 = some in omega arith)
+then_line word xs (w ∷ ws) some = spaced_line word xs w ws
+
+-- Lines of words that are known.
+pub size_line : (m : FlowModel) → line_bytes (dis_item_1 m)
+    ≡ spaced decimal (m.grid.layers ∷ m.grid.rows ∷ m.grid.cols ∷ length m.periods ∷ []) ++ (codes "0 " ++ line_bytes (row_line integer_word (m.lenuni ∷ [])))
+unfolding dis_item_1 line_bytes line_text row_line
+size_line m = then_line decimal (m.grid.layers ∷ m.grid.rows ∷ m.grid.cols ∷ length m.periods ∷ []) (codes "0" ∷ integer_word m.lenuni ∷ []) (lit≤ tt)
+
+pub with_option : (coefficient : Bool) → coefficient ≡ true →
+    line_bytes (codes "0" ∷ codes "0" ∷ codes "0" ∷ storage_option coefficient) ≡ codes "0 0 0 STORAGECOEFFICIENT\n"
+unfolding line_bytes line_text
+with_option coefficient h = ap (λ b. line_bytes (codes "0" ∷ codes "0" ∷ codes "0" ∷ storage_option b)) h
+
+pub without_option : (coefficient : Bool) → coefficient ≡ false →
+    line_bytes (codes "0" ∷ codes "0" ∷ codes "0" ∷ storage_option coefficient) ≡ codes "0 0 0\n"
+unfolding line_bytes line_text
+without_option coefficient h = ap (λ b. line_bytes (codes "0" ∷ codes "0" ∷ codes "0" ∷ storage_option b)) h
+
+pub ruleset options = (with_option, without_option)
+
+pub two_flags : line_bytes (codes "1" ∷ codes "1" ∷ []) ≡ codes "1 1\n"
+unfolding line_bytes line_text
+two_flags = refl
+
+pub four_flags : line_bytes (codes "1" ∷ codes "1" ∷ codes "1" ∷ codes "1" ∷ []) ≡ codes "1 1 1 1\n"
+unfolding line_bytes line_text
+four_flags = refl

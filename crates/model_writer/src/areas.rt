@@ -2,10 +2,8 @@
 ghost use Rattle.std.specs.Prelude.{◌≡◌, [], ◌∷◌, ◌++◌, codes, if◌then◌else◌, IfOk};
 ghost use Rattle.std.specs.List.{flat_map};
 ghost use Rattle.model_types.specs.Receivers.{is_int};
-ghost use Rattle.array_text.specs.Arrays.{integer_array};
-ghost use Rattle.array_text.specs.Lines.{text};
-ghost use Rattle.array_text.specs.Words.{integer_word};
-ghost use Rattle.model_text.specs.Areas.{evt_items, evt_lines, rch_items, rch_lines};
+ghost use Rattle.array_text.specs.Lines.{integer_array, text, integer_word};
+ghost use Rattle.model_text.specs.Lists.{evt_items, evt_lines, rch_items, rch_lines};
 ghost use Rattle.model_writer.specs.Lines.{line_bytes};
 
 use crate::arrays::push_array;
@@ -29,7 +27,7 @@ fn push_choice(bytes: &mut Vec<u8>, option: i64) -> Result<(), AllocError>
 }
 
 /// Appends IRCH or IEVT where NRCHOP or NEVTOP is 2.
-#[tactic(auto, using(crate::proofs::Texts::texts), unfolding(array_text::specs::Arrays::integer_array))]
+#[tactic(auto, using(crate::proofs::Texts::texts), unfolding(array_text::specs::Lines::integer_array))]
 fn push_layers_if_two(
     bytes: &mut Vec<u8>,
     option: i64,
@@ -45,7 +43,7 @@ fn push_layers_if_two(
     Ok(())
 }
 
-#[tactic(auto, using(crate::proofs::Fixed::two_flags, crate::proofs::Texts::texts), unfolding(model_text::specs::Areas::rch_items, array_text::specs::Arrays::real_array))]
+#[tactic(auto, using(crate::proofs::Texts::two_flags, crate::proofs::Texts::texts), unfolding(model_text::specs::Lists::rch_items, array_text::specs::Lines::real_array))]
 fn push_recharge(bytes: &mut Vec<u8>, model: &FlowModel, period: &Period) -> Result<(), AllocError>
     ensures { IfOk result (λ _. bytes.new.items ≡ bytes.old.items ++ text (rch_items model.now period.now)) }
 {
@@ -60,7 +58,7 @@ fn push_recharge(bytes: &mut Vec<u8>, model: &FlowModel, period: &Period) -> Res
     push_layers_if_two(bytes, model.nrchop, grid, period.stresses.irch.as_slice())
 }
 
-#[tactic(auto, using(crate::proofs::Items::items, crate::proofs::Texts::texts))]
+#[tactic(auto, using(crate::proofs::ListTexts::items, crate::proofs::Texts::texts))]
 fn push_recharge_of_periods(bytes: &mut Vec<u8>, model: &FlowModel) -> Result<(), AllocError>
     ensures { IfOk result (λ _. bytes.new.items ≡ bytes.old.items ++ text (flat_map (rch_items model.now) model.now.periods)) }
 {
@@ -71,7 +69,7 @@ fn push_recharge_of_periods(bytes: &mut Vec<u8>, model: &FlowModel) -> Result<()
 }
 
 /// Appends the file of RCH.
-#[tactic(auto, using(crate::proofs::Texts::texts), unfolding(model_text::specs::Areas::rch_lines, model_text::specs::Areas::rch_item_2))]
+#[tactic(auto, using(crate::proofs::Texts::texts), unfolding(model_text::specs::Lists::rch_lines, model_text::specs::Lists::rch_item_2))]
 pub(crate) fn push_rch(bytes: &mut Vec<u8>, model: &FlowModel) -> Result<(), AllocError>
     ensures { IfOk result (λ _. bytes.new.items ≡ bytes.old.items ++ text (rch_lines model.now)) }
 {
@@ -79,7 +77,7 @@ pub(crate) fn push_rch(bytes: &mut Vec<u8>, model: &FlowModel) -> Result<(), All
     push_recharge_of_periods(bytes, model)
 }
 
-#[tactic(auto, using(crate::proofs::Fixed::four_flags, crate::proofs::Texts::texts), unfolding(model_text::specs::Areas::evt_items, array_text::specs::Arrays::real_array))]
+#[tactic(auto, using(crate::proofs::Texts::four_flags, crate::proofs::Texts::texts), unfolding(model_text::specs::Lists::evt_items, array_text::specs::Lines::real_array))]
 fn push_evaporation(
     bytes: &mut Vec<u8>,
     model: &FlowModel,
@@ -95,7 +93,7 @@ fn push_evaporation(
     push_layers_if_two(bytes, model.nevtop, grid, period.stresses.ievt.as_slice())
 }
 
-#[tactic(auto, using(crate::proofs::Items::items, crate::proofs::Texts::texts))]
+#[tactic(auto, using(crate::proofs::ListTexts::items, crate::proofs::Texts::texts))]
 fn push_evaporation_of_periods(bytes: &mut Vec<u8>, model: &FlowModel) -> Result<(), AllocError>
     ensures { IfOk result (λ _. bytes.new.items ≡ bytes.old.items ++ text (flat_map (evt_items model.now) model.now.periods)) }
 {
@@ -106,7 +104,7 @@ fn push_evaporation_of_periods(bytes: &mut Vec<u8>, model: &FlowModel) -> Result
 }
 
 /// Appends the file of EVT.
-#[tactic(auto, using(crate::proofs::Texts::texts), unfolding(model_text::specs::Areas::evt_lines, model_text::specs::Areas::evt_item_2))]
+#[tactic(auto, using(crate::proofs::Texts::texts), unfolding(model_text::specs::Lists::evt_lines, model_text::specs::Lists::evt_item_2))]
 pub(crate) fn push_evt(bytes: &mut Vec<u8>, model: &FlowModel) -> Result<(), AllocError>
     ensures { IfOk result (λ _. bytes.new.items ≡ bytes.old.items ++ text (evt_lines model.now)) }
 {

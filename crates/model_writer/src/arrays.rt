@@ -1,8 +1,7 @@
 // Arrays and the layers of lists by cell.
 ghost use Rattle.std.specs.Prelude.{◌≡◌, ◌<◌, [], ◌++◌, take, drop, if◌then◌else◌, IfOk};
 ghost use Rattle.model_types.specs.Grids.{HasSize};
-ghost use Rattle.array_text.specs.Arrays.{array_lines, row_lines};
-ghost use Rattle.array_text.specs.Lines.{text};
+ghost use Rattle.array_text.specs.Lines.{array_lines, row_lines, text};
 ghost use Rattle.model_text.specs.Discretization.{each_layer, layer_values, real_layer};
 
 use crate::lines::push_line;
@@ -71,7 +70,7 @@ pub(crate) fn push_layer<T: Word>(
 }
 
 /// Appends the array of a layer if the model has it.
-#[tactic(auto, using(crate::proofs::Texts::texts), unfolding(array_text::specs::Arrays::real_array))]
+#[tactic(auto, using(crate::proofs::Texts::texts), unfolding(array_text::specs::Lines::real_array))]
 pub(crate) fn push_layer_if(
     bytes: &mut Vec<u8>,
     present: bool,

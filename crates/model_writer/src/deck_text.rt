@@ -2,9 +2,8 @@
 ghost use Rattle.std.specs.Prelude.{◌≡◌, ◌++◌, IfOk};
 ghost use Rattle.std.specs.List.{flat_map};
 ghost use Rattle.model_types.specs.Grids.{HasSize};
-ghost use Rattle.model_text.specs.Decks.{deck_names, deck_text, file_line, file_text};
+ghost use Rattle.model_text.specs.Written.{deck_names, deck_text, file_line, file_text, has, package_file};
 ghost use Rattle.model_text.specs.Names.{packages};
-ghost use Rattle.model_text.specs.Written.{has, package_file};
 ghost use Rattle.model_writer.specs.Lines.{chosen};
 
 use crate::names::{name_of, push_names};
@@ -14,7 +13,7 @@ use name_file::Package;
 use std::alloc::{AllocError, Global};
 
 /// Appends the line before a file.
-#[tactic(auto, using(crate::proofs::Texts::texts), unfolding(model_text::specs::Decks::file_line))]
+#[tactic(auto, using(crate::proofs::Texts::texts), unfolding(model_text::specs::Written::file_line))]
 fn push_file_line(text: &mut Vec<u8>, name: &str) -> Result<(), AllocError>
     ensures { IfOk result (λ _. text.new.items ≡ text.old.items ++ file_line name.now) }
 {
@@ -25,7 +24,7 @@ fn push_file_line(text: &mut Vec<u8>, name: &str) -> Result<(), AllocError>
 }
 
 /// Appends the file of a package, after its line.
-#[tactic(auto, using(crate::proofs::Texts::texts), unfolding(model_text::specs::Decks::file_text))]
+#[tactic(auto, using(crate::proofs::Texts::texts), unfolding(model_text::specs::Written::file_text))]
 fn push_file(text: &mut Vec<u8>, model: &FlowModel, kind: Package) -> Result<(), AllocError>
     requires { HasSize model.now.grid }
     ensures { IfOk result (λ _. text.new.items ≡ text.old.items ++ file_text (package_file model.now deck_names kind)) }

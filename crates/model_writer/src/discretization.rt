@@ -12,7 +12,7 @@ use model_types::layers::int_at;
 use model_types::{FlowModel, Grid, Period};
 use std::alloc::AllocError;
 
-#[tactic(auto, using(crate::proofs::Fixed::size_line, crate::proofs::Texts::texts))]
+#[tactic(auto, using(crate::proofs::Texts::size_line, crate::proofs::Texts::texts))]
 fn push_size(bytes: &mut Vec<u8>, model: &FlowModel) -> Result<(), AllocError>
     ensures { IfOk result (λ _. bytes.new.items ≡ bytes.old.items ++ line_bytes (dis_item_1 model.now)) }
 {
@@ -28,7 +28,7 @@ fn push_size(bytes: &mut Vec<u8>, model: &FlowModel) -> Result<(), AllocError>
     push_line(bytes, &[model.lenuni])
 }
 
-#[tactic(auto, using(crate::proofs::Texts::texts), unfolding(model_text::specs::Discretization::dis_item_2, model_text::specs::Discretization::dis_item_3, model_text::specs::Discretization::dis_item_4, model_text::specs::Discretization::dis_item_5, array_text::specs::Arrays::real_array))]
+#[tactic(auto, using(crate::proofs::Texts::texts), unfolding(model_text::specs::Discretization::dis_item_2, model_text::specs::Discretization::dis_item_3, model_text::specs::Discretization::dis_item_4, model_text::specs::Discretization::dis_item_5, array_text::specs::Lines::real_array))]
 fn push_widths(bytes: &mut Vec<u8>, grid: &Grid) -> Result<(), AllocError>
     ensures { IfOk result (λ _. bytes.new.items ≡ bytes.old.items
         ++ text (dis_item_2 grid.now ∷ (dis_item_3 grid.now ++ (dis_item_4 grid.now ++ dis_item_5 grid.now)))) }
@@ -39,7 +39,7 @@ fn push_widths(bytes: &mut Vec<u8>, grid: &Grid) -> Result<(), AllocError>
     push_array(bytes, grid.rows, grid.cols, grid.top.as_slice())
 }
 
-#[tactic(auto, using(crate::proofs::Texts::texts), unfolding(model_text::specs::Discretization::dis_item_6, array_text::specs::Arrays::real_array))]
+#[tactic(auto, using(crate::proofs::Texts::texts), unfolding(model_text::specs::Discretization::dis_item_6, array_text::specs::Lines::real_array))]
 fn push_bottom(bytes: &mut Vec<u8>, grid: &Grid, layer: u32) -> Result<(), AllocError>
     requires size { HasSize grid.now }
     requires layer { layer < grid.now.layers }
@@ -71,7 +71,7 @@ fn push_time(bytes: &mut Vec<u8>, period: &Period) -> Result<(), AllocError>
     bytes.extend_from_slice(if period.steady { b"SS\n" } else { b"TR\n" })
 }
 
-#[tactic(auto, using(crate::proofs::Items::items, crate::proofs::Texts::texts))]
+#[tactic(auto, using(crate::proofs::ListTexts::items, crate::proofs::Texts::texts))]
 fn push_times(bytes: &mut Vec<u8>, periods: &[Period]) -> Result<(), AllocError>
     ensures { IfOk result (λ _. bytes.new.items ≡ bytes.old.items ++ text (map dis_item_7 periods.now)) }
 {
@@ -96,7 +96,7 @@ pub(crate) fn push_dis(bytes: &mut Vec<u8>, model: &FlowModel) -> Result<(), All
 // The file of BAS6.
 
 /// Appends the file of BAS6.
-#[tactic(auto, using(crate::proofs::Texts::texts), unfolding(model_text::specs::Discretization::bas_lines, model_text::specs::Discretization::bas_item_1, model_text::specs::Discretization::bas_item_2, model_text::specs::Discretization::bas_item_3, model_text::specs::Discretization::bas_item_4, crate::specs::Lines::line_bytes, array_text::specs::Lines::line_text, array_text::specs::Arrays::real_array, array_text::specs::Arrays::integer_array))]
+#[tactic(auto, using(crate::proofs::Texts::texts), unfolding(model_text::specs::Discretization::bas_lines, model_text::specs::Discretization::bas_item_1, model_text::specs::Discretization::bas_item_2, model_text::specs::Discretization::bas_item_3, model_text::specs::Discretization::bas_item_4, crate::specs::Lines::line_bytes, array_text::specs::Lines::line_text, array_text::specs::Lines::real_array, array_text::specs::Lines::integer_array))]
 pub(crate) fn push_bas(bytes: &mut Vec<u8>, model: &FlowModel) -> Result<(), AllocError>
     requires { HasSize model.now.grid }
     ensures { IfOk result (λ _. bytes.new.items ≡ bytes.old.items ++ text (bas_lines model.now)) }

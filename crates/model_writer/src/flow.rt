@@ -19,7 +19,7 @@ fn is_transient(periods: &[Period]) -> bool
 }
 
 /// Appends a line of the same word for each layer.
-#[tactic(auto, using(crate::proofs::Repeats::repeats, crate::proofs::Texts::texts))]
+#[tactic(auto, using(crate::proofs::Texts::repeats, crate::proofs::Texts::texts))]
 fn push_repeated(bytes: &mut Vec<u8>, word: &[u8], layers: u32) -> Result<(), AllocError>
     requires { 1 ≤ layers }
     ensures { IfOk result (λ _. bytes.new.items ≡ bytes.old.items ++ line_bytes (replicate layers word.now)) }
@@ -34,7 +34,7 @@ fn push_repeated(bytes: &mut Vec<u8>, word: &[u8], layers: u32) -> Result<(), Al
 }
 
 /// The line of ILPFCB, HDRY and NPLPF, which are 0, and of the option.
-#[tactic(auto, using(crate::proofs::Fixed::options))]
+#[tactic(auto, using(crate::proofs::Texts::options))]
 fn option_line(coefficient: bool) -> &'static [u8]
     ensures { result.now ≡ line_bytes (codes "0" ∷ codes "0" ∷ codes "0" ∷ storage_option coefficient) }
 {
@@ -60,7 +60,7 @@ fn push_settings(bytes: &mut Vec<u8>, model: &FlowModel) -> Result<(), AllocErro
     push_repeated(bytes, b"0", layers)
 }
 
-#[tactic(auto, using(crate::proofs::Texts::texts), unfolding(model_text::specs::Discretization::lpf_arrays, array_text::specs::Arrays::real_array))]
+#[tactic(auto, using(crate::proofs::Texts::texts), unfolding(model_text::specs::Discretization::lpf_arrays, array_text::specs::Lines::real_array))]
 fn push_properties(
     bytes: &mut Vec<u8>,
     model: &FlowModel,

@@ -8,7 +8,6 @@ mod discretization;
 mod entries;
 mod flow;
 mod lines;
-mod lists;
 mod names;
 mod packages;
 mod words;

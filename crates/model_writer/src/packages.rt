@@ -10,7 +10,7 @@ use crate::areas::{push_evt, push_rch};
 use crate::discretization::{push_bas, push_dis};
 use crate::entries::ListEntry;
 use crate::flow::push_lpf;
-use crate::lists::push_lists;
+use crate::lines::push_lists;
 use model_types::{Entry, FlowModel, Given, Period};
 use name_file::Package;
 use std::alloc::AllocError;

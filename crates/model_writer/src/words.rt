@@ -1,6 +1,6 @@
 // Values as words of a line.
 ghost use Rattle.std.specs.Prelude.{◌≡◌, ℕ, List, ◌++◌, decimal, IfOk};
-ghost use Rattle.array_text.specs.Words.{integer_word, number_word};
+ghost use Rattle.array_text.specs.Lines.{integer_word, number_word};
 
 use decimal_input::dec::Dec;
 use itoa::Buffer;
@@ -27,7 +27,7 @@ impl Word for usize {
 impl Word for i64 {
     ghost word = { integer_word };
 
-    #[tactic(auto, unfolding(array_text::specs::Words::integer_word))]
+    #[tactic(auto, unfolding(array_text::specs::Lines::integer_word))]
     fn push_to(&self, bytes: &mut Vec<u8>) -> Result<(), AllocError> {
         let mut buffer = Buffer::new();
         bytes.extend_from_slice(buffer.format(*self).as_bytes())
@@ -38,7 +38,7 @@ impl Word for Dec {
     ghost word = { number_word };
 
     /// Appends the sign, the digits, and the exponent after an E.
-    #[tactic(auto, unfolding(array_text::specs::Words::number_word))]
+    #[tactic(auto, unfolding(array_text::specs::Lines::number_word))]
     fn push_to(&self, bytes: &mut Vec<u8>) -> Result<(), AllocError> {
         if self.neg {
             bytes.push(b'-')?;

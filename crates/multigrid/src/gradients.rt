@@ -1,5 +1,5 @@
 // Steps of flexible conjugate gradients on one level.
-use crate::level::Level;
+use crate::levels::Level;
 use crate::numbers::{at, cut, put};
 use crate::scaled::{inner_product, times};
 

@@ -5,9 +5,7 @@
 mod aggregates;
 mod budget;
 mod coarsen;
-mod cycle;
 mod gradients;
-mod level;
 mod levels;
 mod matrix;
 pub mod numbers;

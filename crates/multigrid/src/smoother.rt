@@ -1,6 +1,6 @@
 // The smoother of a level, and its transfers to and from the next one.
 use crate::aggregates::aggregate_of;
-use crate::level::Level;
+use crate::levels::Level;
 use crate::numbers::{at, cut, long_at, put};
 
 // A Gauss-Seidel step at one unknown.

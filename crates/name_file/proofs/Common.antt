@@ -2,13 +2,11 @@
 pub use Rattle.std.proofs.Common.{All, Bool, Contains, Err, List, None, Ok, Option, Some, [], ap, arith, false, if◌then◌else◌, is_some, length, refl, rules}
 pub use Rattle.std.proofs.Common.{sym, true, ℕ, ◌++◌, ◌∙◌, ◌∷◌, ◌≡◌}
 pub use Rattle.std.proofs.lemmas.List.Elements.{All-contains, All-head, All-nil, All-push, All-tail}
-pub use Rattle.std.specs.Map.{keys_of, lookup}
 pub use Rattle.std.specs.Prelude.{IfOk, IsTrue}
-pub use Rattle.name_file.specs.Pairs.{AreFiles, IsWhole, Pairs, file_of, has_package, is_needed, is_same_package, packages_of}
-pub use Rattle.name_file.specs.Reading.{after_type, after_words, is_integer, missing}
+pub use Rattle.name_file.specs.Pairs.{AreFiles, IsWhole, NamesMay, Pairs, file_of, has_package, is_needed, is_same_package, packages_of}
+pub use Rattle.name_file.specs.Reading.{after_type, after_words, is_integer, is_passed_over, missing, package_of}
 unfoldable pub use Rattle.name_file.specs.Reading.{after_line, after_lines, after_package, file_in, names_of, whole}
-pub use Rattle.name_file.specs.contracts.package.PackagePartialEq.TheImpl.{ghosts}
 pub use Rattle.name_file.specs.declared.package.Package.{Package}
 pub use Rattle.name_file.specs.declared.package.Package.TheVariants.{Bas, Chd, Dis, Drn, Evt, Ghb, Lpf, Rch, Riv, Wel}
-pub use Rattle.outside.specs.Names.{IsGoodName, folder_name}
-pub use Rattle.record_lines.specs.Layout.{Left, Numbered, is_comment, left_from}
+pub use Rattle.outside.specs.Names.{IsGoodName, TextMay, WordsMay, folder_name, words}
+pub use Rattle.record_lines.specs.Layout.{Left, LineMay, Numbered, is_comment, left_from, numbered_of}

@@ -1,5 +1,3 @@
 mod Common
-pub mod FileLemmas
 pub mod NameLemmas
-pub mod SamePackage
 pub mod Forward

@@ -1,13 +1,46 @@
 -- A package that is new goes last; and a name file goes on, stops or ends line by line.
-use Rattle.name_file.proofs.Common.{◌≡◌, ℕ, false, List, [], ◌∷◌, ◌++◌, Option, Some, None, Ok, refl, ap, ◌∙◌, is_some, Package, ghosts, Pairs, has_package}
-use Rattle.name_file.proofs.Common.{after_line, after_lines, Left, Numbered}
+use Rattle.name_file.proofs.Common.{◌≡◌, ℕ, false, List, [], ◌∷◌, ◌++◌, Option, Some, None, Ok, refl, ap, ◌∙◌, is_some, Package, Pairs, has_package, after_line}
+use Rattle.name_file.proofs.Common.{after_lines, Left, Numbered, Dis, Bas, Lpf, Wel, Riv, Drn, Ghb, Rch, Chd, Evt, is_same_package, file_of, Bool, true, sym}
+use Rattle.name_file.proofs.Common.{Contains, rules, arith, IsTrue, All-contains, All-push, IsGoodName, AreFiles, IsWhole, is_needed, packages_of}
+use Rattle.name_file.specs.contracts.package.PackagePartialEq.TheImpl.{ghosts}
+use Rattle.std.specs.Map.{lookup, keys_of}
 use Rattle.std.specs.HashMap.{HashMap}
 use Rattle.indexmap.specs.IndexMap.{get, insert_entry}
 use Rattle.indexmap.proofs.CallerLemmas.{insert_entry-new}
-use Rattle.name_file.proofs.SamePackage.{looked_up}
 use Rattle.record_lines.specs.Reading.{StopsText}
-use Rattle.outside.specs.declared.refusals.TextFault.{TextFault}
-use Rattle.outside.specs.declared.refusals.TextFault.TheVariants.{Refused, Memory}
+use Rattle.outside.specs.declared.inputs.TextFault.{TextFault}
+use Rattle.outside.specs.declared.inputs.TextFault.TheVariants.{Refused, Memory}
+use Rattle.std.proofs.lemmas.Map.Keys.{IsDistinct-push}
+use Rattle.std.proofs.lemmas.Map.Made.{is_some-lookup}
+use Rattle.std.proofs.lemmas.Map.Views.{Contains-from_lookup, IsSome-lookup_from_Contains}
+use Rattle.std.specs.Cmp.{IsEquivalence}
+use Rattle.std.specs.List.{IsDistinct}
+use denote.Enum.Bare.{same_true}
+use Rattle.name_file.specs.contracts.package.Package.{the_type}
+
+-- The derived equality of packages is `is_same_package`, so a map's look-up finds the file of a package.
+at_each : (P : Package → Type 0) → P Dis → P Bas → P Lpf → P Wel → P Riv → P Drn → P Ghb → P Rch → P Chd → P Evt → (b : Package) → P b
+at_each P dis bas lpf wel riv drn ghb rch chd evt Dis = dis
+at_each P dis bas lpf wel riv drn ghb rch chd evt Bas = bas
+at_each P dis bas lpf wel riv drn ghb rch chd evt Lpf = lpf
+at_each P dis bas lpf wel riv drn ghb rch chd evt Wel = wel
+at_each P dis bas lpf wel riv drn ghb rch chd evt Riv = riv
+at_each P dis bas lpf wel riv drn ghb rch chd evt Drn = drn
+at_each P dis bas lpf wel riv drn ghb rch chd evt Ghb = ghb
+at_each P dis bas lpf wel riv drn ghb rch chd evt Rch = rch
+at_each P dis bas lpf wel riv drn ghb rch chd evt Chd = chd
+at_each P dis bas lpf wel riv drn ghb rch chd evt Evt = evt
+
+abbrev IsDerived : Package → Package → Type 0
+IsDerived a b = ghosts.eq a b ≡ is_same_package a b
+
+pub derived_is : (a b : Package) → ghosts.eq a b ≡ is_same_package a b
+derived_is Dis b = at_each (IsDerived Dis) refl refl refl refl refl refl refl refl refl refl b
+derived_is x b = at_each (IsDerived x) refl refl refl refl refl refl refl refl refl refl b
+
+pub looked_up : (asked : Package) (names : Pairs) → lookup (ghosts.eq asked) names ≡ file_of asked names
+looked_up asked [] = refl
+looked_up asked (pair ∷ names) = rw (derived_is asked pair.0, looked_up asked names) refl
 
 is_none : {A : Type 0} (o : Option A) → is_some o ≡ false → o ≡ None
 is_none None e = refl
@@ -33,3 +66,68 @@ stops file left after line names Memory e read = tt
 pub is_over : (file : List ℕ) (left : Left) (end : ℕ) (names : Pairs) → left ≡ record { lines = []; end = end } → after_lines file left.lines names ≡ Ok names
 unfolding after_lines
 is_over file left end names e = rw e refl
+
+-- What a look-up by a package finds.
+pub is_same : (x y : Package) → is_same_package x y ≡ true → x ≡ y
+is_same x y e = same_true the_type (search rules) x y (derived_is x y ∙ e)
+
+pub is_itself : (x : Package) → is_same_package x x ≡ true
+is_itself Dis = refl
+is_itself x = refl
+
+turned : (x y : Package) → is_same_package x y ≡ true → is_same_package y x ≡ true
+turned x y e = rw (is_same x y e) (is_itself y)
+
+same_sides : (x y : Package) (a b : Bool) → is_same_package x y ≡ a → is_same_package y x ≡ b → a ≡ b
+same_sides x y true true e f = refl
+same_sides x y true false e f = sym (turned x y e) ∙ f
+same_sides x y false true e f = sym e ∙ turned y x f
+same_sides x y false false e f = refl
+
+is_equivalence : IsEquivalence is_same_package
+is_equivalence = record {
+  refl = is_itself;
+  symm = λ x y. same_sides x y (is_same_package x y) (is_same_package y x) refl refl;
+  congr = λ x y z e. rw (is_same x y e) refl;
+}
+
+held : (asked : Package) (names : Pairs) (name : List ℕ) → file_of asked names ≡ Some name → Contains names (asked, name)
+held asked names name e = Contains-from_lookup is_same asked name names e
+
+-- what a map's look-up finds
+pub is_held : (asked : Package) (names : Pairs) (name : List ℕ) → lookup (ghosts.eq asked) names ≡ Some name → Contains names (asked, name)
+is_held asked names name e = held asked names name (sym (looked_up asked names) ∙ e)
+
+pub is_not_named : (asked : Package) (names : Pairs) → lookup (ghosts.eq asked) names ≡ None → Contains (keys_of names) asked → ⊥
+is_not_named asked names e contained =
+    let found : is_some (file_of asked names) ≡ true = IsSome-lookup_from_Contains is_equivalence asked names contained in
+    let none : is_some (file_of asked names) ≡ false = rw (sym (looked_up asked names) ∙ e) refl in
+    let clash : true ≡ false = sym found ∙ none in
+    cc
+
+pub is_good_file : (asked : Package) (names : Pairs) (name : List ℕ) → AreFiles names → lookup (ghosts.eq asked) names ≡ Some name → IsGoodName name
+is_good_file asked names name h e = All-contains (λ pair. IsGoodName pair.1) names (asked, name) h.good (is_held asked names name e)
+
+pub no_files : (names : Pairs) → names ≡ [] → AreFiles names
+unfolding IsDistinct
+no_files names e = rw e (record { distinct = tt; good = λ k d lt. absurd (omega arith) })
+
+one_more_package : (found : Package) (name : List ℕ) (old : Pairs) → packages_of (old ++ (found, name) ∷ []) ≡ packages_of old ++ found ∷ []
+one_more_package found name [] = refl
+one_more_package found name (pair ∷ old) = rw (one_more_package found name old) refl
+
+-- one more package, which is new, with a good name
+pub one_more : (found : Package) (name : List ℕ) (old new : Pairs) → AreFiles old → has_package found old ≡ false → IsGoodName name → new ≡ old ++ (found, name) ∷ [] → AreFiles new
+one_more found name old new h absent good e =
+    let apart = sym (is_some-lookup (is_same_package found) old) ∙ absent in
+    rw e (record {
+      distinct = rw (one_more_package found name old) (IsDistinct-push is_equivalence (packages_of old) found h.distinct apart);
+      good = All-push (λ pair. IsGoodName pair.1) old (found, name) h.good good;
+    })
+
+pub is_there : (asked : Package) (names : Pairs) → IsWhole names → IsTrue (is_needed asked) → has_package asked names ≡ true
+is_there Dis names h needed = h.discretization
+is_there Bas names h needed = h.basic
+is_there Lpf names h needed = h.flow
+is_there Wel names h needed = cc
+is_there x names h needed = cc

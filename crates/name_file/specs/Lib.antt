@@ -1,4 +1,2 @@
-pub mod Kinds
 pub mod Pairs
 pub mod Reading
-pub mod Asking

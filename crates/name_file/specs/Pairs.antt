@@ -2,7 +2,7 @@
 use Rattle.std.specs.Prelude.{◌≡◌, ℕ, Bool, true, false, List, map, Option, is_some, All}
 use Rattle.std.specs.List.{IsDistinct}
 use Rattle.std.specs.Map.{lookup}
-use Rattle.outside.specs.Names.{IsGoodName}
+use Rattle.outside.specs.Names.{IsGoodName, folder_name}
 use Rattle.name_file.specs.declared.package.Package.{Package}
 use Rattle.name_file.specs.declared.package.Package.TheVariants.{Dis, Bas, Lpf, Wel, Riv, Drn, Ghb, Rch, Chd, Evt}
 
@@ -58,3 +58,8 @@ is_needed Ghb = false
 is_needed Rch = false
 is_needed Chd = false
 is_needed Evt = false
+
+-- Files of packages that a folder may be asked for.
+-- the file of each package may be
+pub record NamesMay (may : List ℕ → Type 0) (names : Pairs) : Type 0 where
+  pub each : All (λ pair. may (folder_name pair.1)) names

@@ -1,17 +1,41 @@
 -- A name file, line by line: `Ftype Nunit Fname`. (TM 6-A16, name file)
-use Rattle.std.specs.Prelude.{ℕ, Bool, List, [], ◌∷◌, ◌++◌, Option, Some, None, Result, Ok, Err, if◌then◌else◌, is_some}
-use Rattle.decimal_input.specs.Words.{integer_of}
+use Rattle.std.specs.Prelude.{ℕ, Bool, List, [], ◌∷◌, ◌++◌, Option, Some, None, Result, Ok, Err, if◌then◌else◌, is_some, ◌||◌, codes}
+use Rattle.decimal_input.specs.Grammar.{integer_of}
 use Rattle.outside.specs.declared.codes.Code.TheVariants.{BadNameLine, DuplicatePackage, UnsupportedPackage, MissingPackage}
-use Rattle.outside.specs.declared.refusals.Refusal.{Refusal}
-use Rattle.outside.specs.Refusals.{refusal}
+use Rattle.outside.specs.declared.inputs.Refusal.{Refusal}
+use Rattle.outside.specs.Codes.{refusal}
 use Rattle.record_lines.specs.Reading.{◌>>=◌}
-use Rattle.outside.specs.Words.{words}
+use Rattle.outside.specs.Names.{words}
 use Rattle.record_lines.specs.Layout.{Numbered, is_comment, left_from}
-use Rattle.record_lines.specs.Items.{word_at, name_at}
-use Rattle.name_file.specs.Kinds.{package_of, is_passed_over}
+use Rattle.record_lines.specs.Items.{word_at, name_at, is_word}
 use Rattle.name_file.specs.Pairs.{Pairs, has_package}
 use Rattle.name_file.specs.declared.package.Package.{Package}
-use Rattle.name_file.specs.declared.package.Package.TheVariants.{Dis, Bas, Lpf}
+use Rattle.name_file.specs.declared.package.Package.TheVariants.{Dis, Bas, Lpf, Wel, Riv, Drn, Ghb, Rch, Chd, Evt}
+
+-- What the first word of a line of a name file, its Ftype, says. (MODFLOW-2005 manual, TM 6-A16, name file)
+-- the package that a word names, in any letter case
+unfoldable pub package_of : List ℕ → Option Package
+package_of word =
+    if is_word (codes "DIS") word then Some Dis
+    else if is_word (codes "BAS6") word then Some Bas
+    else if is_word (codes "LPF") word then Some Lpf
+    else if is_word (codes "WEL") word then Some Wel
+    else if is_word (codes "RIV") word then Some Riv
+    else if is_word (codes "DRN") word then Some Drn
+    else if is_word (codes "GHB") word then Some Ghb
+    else if is_word (codes "RCH") word then Some Rch
+    else if is_word (codes "CHD") word then Some Chd
+    else if is_word (codes "EVT") word then Some Evt
+    else None
+
+-- the listing, output control, solvers, links to transport, parameters and data files: the heads
+-- don't depend on them; in any letter case
+unfoldable pub is_passed_over : List ℕ → Bool
+is_passed_over word =
+    is_word (codes "LIST") word || (is_word (codes "OC") word || (is_word (codes "PCG") word || (is_word (codes "PCGN") word
+    || (is_word (codes "SIP") word || (is_word (codes "DE4") word || (is_word (codes "GMG") word || (is_word (codes "LMT6") word
+    || (is_word (codes "MULT") word || (is_word (codes "ZONE") word || (is_word (codes "PVAL") word || (is_word (codes "DATA") word
+    || is_word (codes "DATA(BINARY)") word)))))))))))
 
 -- an optional sign and 1 to 18 digits
 unfoldable pub is_integer : List ℕ → Bool

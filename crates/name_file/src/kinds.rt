@@ -1,11 +1,11 @@
 ghost use Rattle.std.specs.Prelude.{◌≡◌};
-ghost use Rattle.name_file.specs.Kinds.{package_of, is_passed_over};
+ghost use Rattle.name_file.specs.Reading.{package_of, is_passed_over};
 
 use crate::package::Package;
 use record_lines::is_word;
 
 /// The package that a line's first word names, in any letter case.
-#[tactic(auto, unfolding(crate::specs::Kinds::package_of))]
+#[tactic(auto, unfolding(crate::specs::Reading::package_of))]
 pub fn package_of(word: &[u8]) -> Option<Package>
     ensures { result ≡ package_of word.now }
 {
@@ -35,7 +35,7 @@ pub fn package_of(word: &[u8]) -> Option<Package>
 }
 
 /// Whether lines with this first word are skipped.
-#[tactic(auto, unfolding(crate::specs::Kinds::is_passed_over))]
+#[tactic(auto, unfolding(crate::specs::Reading::is_passed_over))]
 pub fn is_passed_over(word: &[u8]) -> bool
     ensures { result ≡ is_passed_over word.now }
 {

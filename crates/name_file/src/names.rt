@@ -28,7 +28,7 @@ impl Model for Names {
 impl Names {
     /// The name of a package's file; None exactly where no pair has that package. The packages that
     /// every model has are always present.
-    #[tactic(auto, using(crate::proofs::FileLemmas::is_there))]
+    #[tactic(auto, using(crate::proofs::NameLemmas::is_there))]
     pub fn file_of(&self, asked: Package) -> Option<&str>
         ensures file { option_map (λ name. name.now) result ≡ file_of asked self.now }
         ensures pair { MatchOption result (¬ Contains (packages_of self.now) asked) (λ name. Contains self.now (asked, name.now)) }
@@ -70,7 +70,7 @@ impl Gathered {
         }
     }
 
-    #[tactic(auto, using(crate::proofs::SamePackage::looked_up))]
+    #[tactic(auto, using(crate::proofs::NameLemmas::looked_up))]
     pub fn has(&self, asked: Package) -> bool
         ensures { result ≡ has_package asked self.now }
     {
@@ -87,7 +87,7 @@ impl Gathered {
         Ok(())
     }
 
-    #[tactic(auto, using(crate::proofs::SamePackage::looked_up, crate::proofs::FileLemmas::is_held, crate::proofs::FileLemmas::is_not_named, crate::proofs::FileLemmas::is_good_file))]
+    #[tactic(auto, using(crate::proofs::NameLemmas::looked_up, crate::proofs::NameLemmas::is_held, crate::proofs::NameLemmas::is_not_named, crate::proofs::NameLemmas::is_good_file))]
     pub fn file_of(&self, asked: Package) -> Option<&str>
         ensures file { option_map (λ name. name.now) result ≡ file_of asked self.now }
         ensures pair { MatchOption result (¬ Contains (packages_of self.now) asked) (λ name. Contains self.now (asked, name.now)) }

@@ -5,8 +5,7 @@ ghost use Rattle.step_problem.specs.Settling.{Settles};
 ghost use Rattle.step_problem.specs.Settling.PairKind.{settled};
 
 use crate::first::{first_sweeps, has_few_cells};
-use crate::guesser::{Guesser, NearGuesser};
-use crate::guessing::Guessing;
+use crate::guessing::{Guesser, Guessing, NearGuesser};
 use settle_driver::PlainSettler;
 use std::alloc::Global;
 use step_problem::{Barrier, Bound, Problem, SettleFault, Settler};

@@ -4,11 +4,10 @@
 
 mod alone;
 mod first;
-mod guesser;
 mod guessing;
 mod settling;
 mod watching;
 
 pub use alone::AloneSettler;
-pub use guesser::{BesideGuesser, Guesser, NearGuesser};
+pub use guessing::{BesideGuesser, Guesser, NearGuesser};
 pub use settling::NearSettler;

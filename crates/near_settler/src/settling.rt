@@ -5,8 +5,7 @@ ghost use Rattle.step_problem.specs.Settling.{Settles};
 ghost use Rattle.settle_driver.specs.Phases.{IsPlan};
 
 use crate::first::{first_phases, first_plan, has_few_cells, plan_for};
-use crate::guesser::{BesideGuesser, Guesser};
-use crate::guessing::Guessing;
+use crate::guessing::{BesideGuesser, Guesser, Guessing};
 use outside::Gate;
 use settle_driver::{Plan, ThreadSettler};
 use std::alloc::Global;

@@ -6,7 +6,7 @@ ghost use Rattle.settle_driver.specs.Phases.{IsPlan};
 ghost use Rattle.settle_driver.specs.Views.{AddsPhases, had_memory};
 
 use crate::first::{first_phases, first_plan, plan_for};
-use crate::guesser::Guesser;
+use crate::guessing::Guesser;
 use crate::settling::NearSettler;
 use outside::Gate;
 use settle_driver::{Plan, Viewer, WatchSettler};

@@ -6,14 +6,11 @@ pub use Rattle.std.proofs.lemmas.Bool.{and_parts, cases_lt, eqb-true, le-leb, le
 pub use Rattle.std.proofs.lemmas.Bool.Decides.{leb_tells}
 pub use Rattle.std.proofs.lemmas.Int.{ints}
 pub use Rattle.std.specs.Prelude.{if◌then◌else◌, unsigned_abs}
-pub use Rattle.decimal_input.specs.Canonical.{IsDec, number, size}
+pub use Rattle.decimal_input.specs.Decimals.{IsDec, number, size, with_sign}
 pub use Rattle.decimal_input.specs.Ratios.{AtMost, Ratio, den}
 unfoldable pub use Rattle.decimal_input.specs.Ratios.{ratio}
-pub use Rattle.decimal_input.specs.Wholes.{IsCeiling, IsFloor, IsSignedCeiling, IsSignedFloor, Passes, Reaches}
+pub use Rattle.decimal_input.specs.Wholes.{EnclosesSigned, IsCeiling, IsFloor, IsSignedCeiling, IsSignedFloor, Passes, Reaches}
 pub use Rattle.decimal_input.specs.declared.dec.Dec.{Dec}
-pub use Rattle.model_types.specs.Numbers.{IsHeadNumber, IsPositive, IsThick}
-pub use Rattle.number_limits.specs.Magnitudes.{is_head}
+pub use Rattle.model_types.specs.Grids.{IsHeadNumber, IsPositive, IsThick}
+pub use Rattle.number_limits.specs.Magnitudes.{is_head, is_one, is_positive, is_same_number}
 unfoldable pub use Rattle.number_limits.specs.Magnitudes.{is_at_least, is_at_most}
-pub use Rattle.number_limits.specs.Room.{ceiling, floor, has_room, small}
-unfoldable pub use Rattle.number_limits.specs.Room.{ceiling_of, floor_of, is_thick}
-pub use Rattle.number_limits.specs.Signs.{is_one, is_positive, is_same_number}

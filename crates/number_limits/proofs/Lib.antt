@@ -4,4 +4,3 @@ pub mod SignLemmas
 pub mod MagnitudeLemmas
 pub mod HeadLemmas
 pub mod FloorLemmas
-pub mod RoomLemmas

@@ -1,3 +1,2 @@
-pub mod Signs
 pub mod Magnitudes
 pub mod Room

@@ -1,8 +1,10 @@
 -- Magnitudes of numbers of the input against limits.
-use Rattle.std.specs.Prelude.{ℕ, ◌*◌, ◌^◌, Bool, nat_le}
+use Rattle.std.specs.Prelude.{ℕ, ◌*◌, ◌^◌, Bool, nat_le, ℤ, pos, negsuc, not, ◌&&◌, nat_lt, ◌==◌, unsigned_abs, Option, Some, None, if◌then◌else◌}
 use Rattle.decimal_input.specs.declared.dec.Dec.{Dec}
-use Rattle.decimal_input.specs.Canonical.{size}
+use Rattle.decimal_input.specs.Decimals.{size}
 use Rattle.decimal_input.specs.Ratios.{Ratio, den}
+use Rattle.std.specs.Ordering.{int_eq}
+use Rattle.std.proofs.Math.Bool.{beq}
 
 -- at most k
 unfoldable pub is_at_most : ℕ → Ratio → Bool
@@ -15,3 +17,21 @@ is_at_least s f = nat_le (den f) (f.num * 10 ^ s)
 -- a head or an elevation: from -4000000000 to 4000000000 length units
 abbrev pub is_head : Dec → Bool
 is_head d = is_at_most 4000000000 (size d)
+
+-- Signs of numbers of the input, whether two are the same, and counts.
+-- above 0
+abbrev pub is_positive : Dec → Bool
+is_positive d = not d.neg && nat_lt 0 d.digits
+
+-- 1
+abbrev pub is_one : Dec → Bool
+is_one d = not d.neg && (d.digits == 1 && (unsigned_abs d.exp == 0))
+
+-- the same number, of two in canonical form: the same digits, exponent and sign
+abbrev pub is_same_number : Dec → Dec → Bool
+is_same_number a b = (a.digits == b.digits) && (int_eq a.exp b.exp && beq a.neg b.neg)
+
+-- a count from 1 to a limit
+abbrev pub within : ℤ → ℕ → Option ℕ
+within (pos n) limit = if nat_lt 0 n && nat_le n limit then Some n else None
+within (negsuc n) limit = None

@@ -2,13 +2,11 @@
 #![tactic(auto)]
 
 mod magnitudes;
-mod room;
 mod signs;
 mod units;
 mod whole;
 
 pub use magnitudes::{is_at_least, is_at_most, is_head};
-pub use room::is_thick;
 pub use signs::{all_positive, is_one, is_positive};
-pub use units::{ceiling, floor};
+pub use units::{ceiling, floor, is_thick};
 pub use whole::within;

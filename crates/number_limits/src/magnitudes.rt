@@ -1,11 +1,11 @@
 // Magnitudes of numbers.
 ghost use Rattle.std.specs.Prelude.{◌≡◌, ◌↔◌, IsTrue, ◌≤◌};
-ghost use Rattle.decimal_input.specs.Canonical.{IsDec, size};
-ghost use Rattle.model_types.specs.Numbers.{IsHeadNumber};
+ghost use Rattle.decimal_input.specs.Decimals.{IsDec, size};
+ghost use Rattle.model_types.specs.Grids.{IsHeadNumber};
 ghost use Rattle.number_limits.specs.Magnitudes.{is_at_most, is_at_least, is_head};
 
 use decimal_input::dec::Dec;
-use decimal_input::whole::{whole_dn, whole_up};
+use decimal_input::units::{whole_dn, whole_up};
 
 /// Whether the magnitude of a number is at most this.
 #[tactic(auto, using(crate::proofs::MagnitudeLemmas::of_ceiling, crate::proofs::MagnitudeLemmas::of_no_ceiling))]

@@ -1,9 +1,9 @@
 // Numbers of the input, and numbers as text.
 use decimal_input::dec::{Dec, NumFault};
-use decimal_input::integer::read_int;
 use decimal_input::product::times;
 use decimal_input::read::read_dec;
 use decimal_input::units::{ceil_at, floor_at};
+use decimal_input::word::read_int;
 use fixed_text::{push_fixed, push_number as push_number_text};
 use std::alloc::AllocError;
 use std::{fmt, str};

@@ -1,7 +1,7 @@
 // The words of a line, as the numbers that calls take.
 ghost use Rattle.std.specs.Prelude.{◌≤◌, ◌^◌, IfSome};
-ghost use Rattle.decimal_input.specs.Canonical.{IsDec};
-ghost use Rattle.model_types.specs.Numbers.{IsPositive, IsNotNegative, IsHeadNumber};
+ghost use Rattle.decimal_input.specs.Decimals.{IsDec};
+ghost use Rattle.model_types.specs.Grids.{IsPositive, IsNotNegative, IsHeadNumber};
 ghost use Rattle.conductance_bounds.specs.Thicknesses.{AreThick};
 
 use conductance_bounds::{Span, thickness};

@@ -1,9 +1,7 @@
 -- Names that were given, or that are words of a file that was read.
 use Rattle.outside.proofs.Common.{◌≡◌, ℕ, ◌⊎◌, inl, inr, Bool, true, false, List, [], ◌∷◌, cond, Option, Some, refl, ap, sym, subst, arith, get_or, Contains}
 use Rattle.outside.proofs.Common.{bytes_eq, Contains-get_or, Contains-append_left, Contains-append_right, folder_name, Read, FoundNames, IsNamedBy, reading_of}
-use Rattle.outside.proofs.Common.{Found, Bytes, Missing, TooLong}
-use Rattle.outside.specs.Asking.{FoundMay}
-use Rattle.outside.specs.Words.{lines, words}
+use Rattle.outside.proofs.Common.{Found, Bytes, Missing, TooLong, FoundMay, lines, words}
 
 -- what holds of each name among the words of what was found
 found_may : (P : List ℕ → Type 0) (found : Found) → ((name : List ℕ) → FoundNames name found → P name) → FoundMay P found

@@ -1,7 +1,14 @@
 -- The refusals of inputs: the number and the word that each is printed with.
-use Rattle.std.specs.Prelude.{ℕ, List, codes}
+use Rattle.std.specs.Prelude.{ℕ, List, codes, ◌≡◌, None}
 use Rattle.outside.specs.declared.codes.Code.{Code}
-use Rattle.outside.specs.declared.codes.Code.TheVariants.{MissingFile, TooLong, BadName, BadNameLine, DuplicatePackage, UnsupportedPackage, MissingPackage, EndOfFile, BadNumber, TooManyDigits, OutOfProfile, BadGrid, BadControl, BadThickness, BadProperty, CellOutside, TooManyEntries, NothingToReuse, HeadTooLarge, BadListing, NotAlike}
+use Rattle.outside.specs.declared.codes.Code.TheVariants.{MissingFile, TooLong, BadName, BadNameLine, DuplicatePackage, UnsupportedPackage, MissingPackage}
+use Rattle.outside.specs.declared.codes.Code.TheVariants.{EndOfFile, BadNumber, TooManyDigits, OutOfProfile, BadGrid, BadControl, BadThickness, BadProperty}
+use Rattle.outside.specs.declared.codes.Code.TheVariants.{CellOutside, TooManyEntries, NothingToReuse, HeadTooLarge, BadListing, NotAlike}
+use Rattle.outside.specs.declared.inputs.Refusal.{Refusal}
+use Rattle.outside.specs.declared.inputs.TextFault.{TextFault}
+use Rattle.outside.specs.declared.inputs.InputFault.{InputFault}
+use Rattle.outside.specs.declared.inputs.InputFault.TheVariants.{Refused, Memory}
+use Rattle.outside.specs.declared.inputs.TextFault.TheVariants as texts
 
 pub record CodeRow : Type 0 where
   pub number : ℕ
@@ -32,3 +39,18 @@ code_row NothingToReuse = row 18 (codes "NothingToReuse")
 code_row HeadTooLarge = row 19 (codes "HeadTooLarge")
 code_row BadListing = row 20 (codes "BadListing")
 code_row NotAlike = row 28 (codes "NotAlike")
+
+-- Refusals of lines, and faults of texts among the faults of inputs.
+-- the refusal of a line of a file
+abbrev pub refusal : Code → List ℕ → ℕ → Refusal
+refusal code file line = record { code = code; file = file; line = line; at = None }
+
+-- a refusal of a line, or lack of memory for the file's name
+abbrev pub IsRefusal : Code → List ℕ → ℕ → TextFault → Type 0
+IsRefusal code file line (texts.Refused r) = r ≡ refusal code file line
+IsRefusal code file line texts.Memory = Unit {0}
+
+-- a fault of a text as a fault of an input
+abbrev pub input_fault : TextFault → InputFault
+input_fault (texts.Refused r) = Refused r
+input_fault texts.Memory = Memory

@@ -4,9 +4,9 @@ use Rattle.outside.specs.Files.{FileSet, bytes_under}
 use Rattle.outside.specs.Names.{folder_name}
 use Rattle.outside.specs.declared.codes.Code.{Code}
 use Rattle.outside.specs.declared.codes.Code.TheVariants.{MissingFile, TooLong}
-use Rattle.outside.specs.declared.refusals.Refusal.{Refusal}
-use Rattle.outside.specs.declared.refusals.InputFault.{InputFault}
-use Rattle.outside.specs.declared.refusals.InputFault.TheVariants.{Refused, ReadFault, Memory}
+use Rattle.outside.specs.declared.inputs.Refusal.{Refusal}
+use Rattle.outside.specs.declared.inputs.InputFault.{InputFault}
+use Rattle.outside.specs.declared.inputs.InputFault.TheVariants.{Refused, ReadFault, Memory}
 
 -- a refusal of a file as a whole, which has line 0
 abbrev pub file_refusal : Code → List ℕ → Refusal

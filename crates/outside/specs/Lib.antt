@@ -1,12 +1,7 @@
 pub mod Files
-pub mod Readings
-pub mod Counts
+pub mod Folders
 pub mod Puts
 pub mod Memory
 pub mod Names
 pub mod Codes
 pub mod Inputs
-pub mod Refusals
-pub mod Words
-pub mod Asking
-pub mod Folders

@@ -2,8 +2,7 @@
 use Rattle.std.specs.Prelude.{◌≡◌, ℕ, List, [], ◌∷◌, ◌++◌, take, cond, None, Some, Option, Ok, Err, Result, Contains}
 use Rattle.std.specs.Bool.{nat_eq}
 use Rattle.outside.specs.Files.{File}
-use Rattle.outside.specs.Counts.{counted}
-use Rattle.outside.specs.Puts.{Seen}
+use Rattle.outside.specs.Puts.{counted, Seen}
 use Rattle.outside.specs.declared.traits.FolderError.{FolderError}
 use Rattle.outside.specs.declared.traits.FolderError.TheVariants as folder
 use Rattle.outside.specs.declared.traits.SinkError.{SinkError}

@@ -2,24 +2,20 @@
 //! turn; and how an input is refused.
 #![tactic(auto)]
 
-mod accepted;
 mod codes;
 mod inputs;
 mod memory;
 mod names;
-mod readings;
 mod real;
 mod real_folder;
-mod refusals;
 mod stored;
 mod traits;
 
 pub use codes::Code;
-pub use inputs::{FILE_LIMIT, file_refusal, read_input, refused};
+pub use inputs::{FILE_LIMIT, InputFault, Refusal, TextFault, file_refusal, read_input, refused};
 pub use memory::FreeGate;
 pub use names::{Name, folder_name, good_name, is_good_name};
 pub use real::{RealSink, read_whole};
 pub use real_folder::RealFolder;
-pub use refusals::{InputFault, Refusal, TextFault};
 pub use stored::{MemFolder, MemSink};
 pub use traits::{Folder, FolderError, Found, Gate, Sink, SinkError};

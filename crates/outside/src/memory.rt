@@ -1,9 +1,8 @@
 ghost use Rattle.std.specs.Prelude.{◌≡◌, ℕ, List, [], ◌∷◌, ◌++◌, refl, IfOk, OnOk, OnErr};
 ghost use Rattle.outside.specs.Memory.{SinkState, seen_in_memory, ReadsInMemory, PutsInMemory};
-ghost use Rattle.outside.specs.Counts.{ReadCounts};
-ghost use Rattle.outside.specs.Asking.{FoundMay};
+ghost use Rattle.outside.specs.Puts.{ReadCounts, Put, PutMakes, PutsMake};
+ghost use Rattle.outside.specs.Names.{FoundMay};
 ghost use Rattle.outside.specs.Files.{FileSet, IsFound, with_limit};
-ghost use Rattle.outside.specs.Puts.{Put, PutMakes, PutsMake};
 
 use crate::stored::{Fail, MemFolder, MemSink, Stored, find_bytes, find_kept};
 use crate::traits::{Folder, FolderError, Found, Gate, Sink, SinkError};

@@ -1,13 +1,13 @@
-ghost use Rattle.std.specs.Prelude.{◌≡◌, ℕ, ◌<◌, ◌≤◌, List, [], length, take, refl, IfOk, IfSome, IfNone, Some};
+ghost use Rattle.std.specs.Prelude.{◌≡◌, ℕ, ◌<◌, ◌≤◌, List, [], length, take, refl, IfOk, IfSome, IfNone, Some, ◌++◌};
 ghost use Rattle.std.specs.Io.KnownBytes.{Appends, Consumes, IsAtEnd, Keeps};
 ghost use Rattle.outside.specs.Files.{IsWhole};
 ghost use Rattle.outside.specs.Puts.{Put, PutsMake, Seen};
+ghost use Rattle.std.specs.Borrow.{ftrue};
 
-use crate::accepted::Accepted;
 use crate::traits::{FolderError, Found, Sink, SinkError};
 use std::alloc::Global;
 use std::io::{ErrorKind, Read, Write};
-use std::marker::Model;
+use std::marker::{Model, PhantomData};
 
 // The number of bytes that one read put at the start of the piece; None if it failed. A read that a signal interrupts is
 // no failure: it is made again, as `read_to_end` does.
@@ -121,5 +121,38 @@ impl<W: Write + Drop> Sink for RealSink<W> {
             }
         }
         Ok(())
+    }
+}
+
+// What a writer has accepted. Only proofs read it: it takes no memory, and its methods do nothing at run time.
+
+/// The writer as it was, and the bytes that it has accepted since.
+#[derive(Drop)]
+pub struct Accepted<W> {
+    of: PhantomData<W>,
+    pub ghost first: { W } by { W.code },
+    pub ghost bytes: { List ℕ },
+}
+
+impl<W> Model for Accepted<W> {
+    ghost also_owns = { λ _. ftrue };
+}
+
+// It owns nothing.
+unsafe impl<W: Send> Send for Accepted<W> {}
+
+impl<W> Accepted<W> {
+    /// A writer that has accepted nothing yet.
+    pub(crate) fn nothing(first: &W) -> Accepted<W>
+        ensures { (result.first ≡ first.now) × (result.bytes ≡ []) }
+    {
+        Accepted { of: PhantomData }
+    }
+
+    /// The same, after more bytes.
+    pub(crate) fn and(&self, more: &[u8]) -> Accepted<W>
+        ensures { (result.first ≡ self.now.first) × (result.bytes ≡ self.now.bytes ++ more.now) }
+    {
+        Accepted { of: PhantomData }
     }
 }

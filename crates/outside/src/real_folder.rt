@@ -1,14 +1,12 @@
 // The files of the system as a folder.
-ghost use Rattle.std.specs.Prelude.{◌≡◌, ℕ, [], List, IfErr, IfOk, IfSome, map};
-ghost use Rattle.outside.specs.Asking.{FoundMay};
-ghost use Rattle.outside.specs.Counts.{ReadCounts};
-ghost use Rattle.outside.specs.Files.{FileSet, IsFound, IsWithin};
-ghost use Rattle.outside.specs.Readings.{ReadState, AgreesWith, IsNamed, MayAsk, reading_of};
+ghost use Rattle.std.specs.Prelude.{◌≡◌, ℕ, [], List, IfErr, IfOk, IfSome, map, option_map, Option};
+ghost use Rattle.outside.specs.Names.{FoundMay};
+ghost use Rattle.outside.specs.Puts.{ReadCounts};
+ghost use Rattle.outside.specs.Files.{FileSet, IsFound, IsWithin, ReadState, AgreesWith, IsNamed, MayAsk, reading_of, Read, FoundNames, IsAsFound};
 
-use crate::readings::{Reading, reading_of};
 use crate::real::read_whole;
 use crate::traits::{Folder, FolderError, Found};
-use std::alloc::Global;
+use std::alloc::{AllocError, Global};
 use std::io::ErrorKind;
 use std::marker::Model;
 use std::rt::Files;
@@ -111,4 +109,52 @@ impl<'a, R: Files> Folder for RealFolder<'a, R> {
     }
 
     fn some_agree(&self) {}
+}
+
+// What was read of the system, kept so that a file is read once.
+
+/// The name that was asked for, and what was found.
+#[derive(Drop)]
+pub struct Reading {
+    pub(crate) name: Vec<u8>,
+    pub(crate) found: Found,
+}
+
+impl Model for Reading {
+    ghost Value = { Read };
+
+    ghost view = { λ r. record { name = r.name.items; found = r.found } };
+}
+
+impl Reading {
+    /// A copy of what it found, with this limit.
+    pub(crate) fn answer(&self, alloc: Global, limit: u64) -> Result<Found, AllocError>
+        ensures found { IfOk result (λ found. (under : Option (List ℕ)) → IsAsFound under limit self.now.found → IsAsFound under limit found) }
+        ensures within { IfOk result (IsWithin limit) }
+        ensures words { IfOk result (λ found. (name : List ℕ) → FoundNames name found → FoundNames name self.now.found) }
+    {
+        Ok(match &self.found {
+            Found::Bytes(bytes) => {
+                if bytes.len() as u64 <= limit {
+                    Found::Bytes(Vec::from_slice(alloc, bytes.as_slice())?)
+                } else {
+                    Found::TooLong
+                }
+            }
+            Found::Missing => Found::Missing,
+            Found::TooLong => Found::TooLong,
+        })
+    }
+}
+
+/// The reading of a name.
+pub(crate) fn reading_of<'a>(readings: &'a [Reading], name: &str) -> Option<&'a Reading>
+    ensures { option_map (λ r. r.now) result ≡ reading_of name.now readings.now }
+{
+    for reading in readings {
+        if name.as_bytes() == reading.name.as_slice() {
+            return Some(reading);
+        }
+    }
+    None
 }

@@ -1,19 +1,83 @@
 -- The arrays of RCH and EVT that are in force in a stress period (TM 6-A16, RCH and EVT).
-use Rattle.std.specs.Prelude.{ℕ, Bool, true, false, List, [], Result, Ok, if◌then◌else◌}
+use Rattle.std.specs.Prelude.{ℕ, Bool, true, false, List, [], Result, Ok, if◌then◌else◌, ℤ, pos, negsuc, not, ◌&&◌, nat_lt, nat_le, Err, Some}
 use Rattle.outside.specs.Files.{FileSet}
-use Rattle.outside.specs.Words.{words}
-use Rattle.outside.specs.declared.refusals.Refusal.{Refusal}
+use Rattle.outside.specs.Names.{words}
+use Rattle.outside.specs.declared.inputs.Refusal.{Refusal}
 use Rattle.record_lines.specs.Items.{line_at}
 use Rattle.record_lines.specs.Layout.{Left}
-use Rattle.record_lines.specs.Reading.{◌>>=◌}
-use Rattle.array_reader.specs.Arrays.{real_layer}
+use Rattle.record_lines.specs.Reading.{◌>>=◌, counted}
+use Rattle.array_reader.specs.Arrays.{real_layer, integer_layer}
 use Rattle.model_types.specs.declared.grid.Grid.{Grid}
-use Rattle.period_arrays.specs.Flags.{flags_of}
-use Rattle.period_arrays.specs.Layers.{layers_at}
 use Rattle.period_arrays.specs.declared.area.Area.{Area}
 use Rattle.period_arrays.specs.declared.area.InForce.{InForce}
 use Rattle.period_arrays.specs.declared.flags.Contents.{Contents}
 use Rattle.period_arrays.specs.declared.flags.Flags.{Flags}
+use Rattle.outside.specs.Codes.{refusal}
+use Rattle.outside.specs.declared.codes.Code.TheVariants.{OutOfProfile, NothingToReuse, CellOutside}
+use Rattle.array_reader.specs.Control.{number_at}
+use Rattle.array_reader.specs.Numbers.{integer}
+use Rattle.outside.specs.declared.codes.Code.{Code}
+use Rattle.model_types.specs.Faces.{layer_size, place}
+use Rattle.model_types.specs.Layers.{int_at}
+
+-- Words of the lines before arrays (TM 6-A16, RCH and EVT).
+-- NRCHOP or NEVTOP, the option that chooses a cell in each column of layers: 1, 2 or 3
+abbrev pub is_option : ℤ → Bool
+is_option (pos n) = nat_lt 0 n && nat_le n 3
+is_option (negsuc n) = false
+
+unfoldable pub option_at : List ℕ → ℕ → List (List ℕ) → Result (ℤ × List (List ℕ)) Refusal
+option_at file line words = do
+  z ← number_at integer file line words
+  if is_option z.0 then Ok z else Err (refusal OutOfProfile file line)
+
+abbrev pub is_negative : ℤ → Bool
+is_negative (pos n) = false
+is_negative (negsuc n) = true
+
+-- whether an array is read anew; where the flag is below 0 the last array is used again, and there must be one
+unfoldable pub flag_at : List ℕ → ℕ → Bool → List (List ℕ) → Result (Bool × List (List ℕ)) Refusal
+flag_at file line listed words = do
+  z ← number_at integer file line words
+  if is_negative z.0 && not listed then Err (refusal NothingToReuse file line) else Ok (not (is_negative z.0), z.1)
+
+-- a flag that a file has only where it has the array
+abbrev pub flag_if : Bool → List ℕ → ℕ → Bool → List (List ℕ) → Result (Bool × List (List ℕ)) Refusal
+flag_if present file line listed words = if present then flag_at file line listed words else Ok (false, words)
+
+-- INSURF INEVTR INEXDP INIEVT; of recharge INRECH INIRCH; the layers' flag is there only under option 2
+unfoldable pub flags_of : Contents → List ℕ → ℕ → Bool → List (List ℕ) → Result Flags Refusal
+flags_of contents file line listed words = do
+  surface ← flag_if contents.evaporates file line listed words
+  rate ← flag_at file line listed surface.1
+  depth ← flag_if contents.evaporates file line listed rate.1
+  layer ← flag_if contents.layered file line listed depth.1
+  Ok (record { surface = surface.0; rate = rate.0; depth = depth.0; layer = layer.0 })
+
+-- Arrays that name a layer for each column of layers: IRCH and IEVT (TM 6-A16, RCH and EVT). That 0 names none is this program's own.
+-- the refusal of a cell, with line 0 and its layer, row and column
+abbrev pub refusal_at : Code → List ℕ → Grid → ℕ → Refusal
+refusal_at code file grid cell = record { code = code; file = file; line = 0; at = Some (place grid cell) }
+
+-- from 0 to the number of layers
+abbrev pub is_layer : Grid → ℤ → Bool
+is_layer grid (pos n) = nat_le n grid.layers
+is_layer grid (negsuc n) = false
+
+-- any other number is refused at the cell of layer 1
+abbrev pub layer_step : List ℕ → Grid → List ℤ → ℕ → Unit {0} → Result (Unit {0}) Refusal
+layer_step file grid xs i s = if is_layer grid (int_at xs i) then Ok tt else Err (refusal_at CellOutside file grid i)
+
+-- the first number of an array that is refused
+unfoldable pub layers_tested : List ℕ → Grid → List ℤ → Result (Unit {0}) Refusal
+layers_tested file grid xs = counted (layer_step file grid xs) 0 (layer_size grid) tt
+
+-- an array of layers, which is tested as soon as it is read
+unfoldable pub layers_at : FileSet → List ℕ → Grid → Left → Result (List ℤ × Left) Refusal
+layers_at files file grid left = do
+  xs ← integer_layer files file grid.rows grid.cols left
+  good ← layers_tested file grid xs.0
+  Ok xs
 
 abbrev pub no_area : Area
 no_area = record { surfaces = []; rates = []; depths = []; layers = [] }

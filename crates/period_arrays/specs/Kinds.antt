@@ -1,6 +1,6 @@
 -- The trait of a package of arrays: where its arrays go, and how those of a period are tested.
 use Rattle.std.specs.Prelude.{ℕ, ℤ, Bool, List, Result}
-use Rattle.outside.specs.declared.refusals.Refusal.{Refusal}
+use Rattle.outside.specs.declared.inputs.Refusal.{Refusal}
 use Rattle.model_types.specs.declared.grid.Grid.{Grid}
 use Rattle.model_types.specs.declared.period.Period.{Period}
 use Rattle.model_types.specs.declared.period.Stresses.{Stresses}

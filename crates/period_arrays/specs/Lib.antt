@@ -1,5 +1,3 @@
-pub mod Flags
-pub mod Layers
 pub mod Areas
 pub mod Forms
 pub mod Kinds

@@ -2,13 +2,12 @@
 ghost use Rattle.std.specs.Prelude.{◌≡◌, IfOk, true, false, List};
 ghost use Rattle.outside.specs.Files.{FileSet};
 ghost use Rattle.outside.specs.Folders.{ReadsOn};
-ghost use Rattle.record_lines.specs.Asking.{LinesMay};
+ghost use Rattle.record_lines.specs.Layout.{LinesMay};
 ghost use Rattle.record_lines.specs.Reading.{Gives};
 ghost use Rattle.array_reader.specs.Arrays.{real_layer};
 ghost use Rattle.model_types.specs.Grids.{HasSize};
-ghost use Rattle.period_arrays.specs.Areas.{area_at, array_or, arrays_of, no_area, nothing_yet};
+ghost use Rattle.period_arrays.specs.Areas.{area_at, array_or, arrays_of, no_area, nothing_yet, layers_at};
 ghost use Rattle.period_arrays.specs.Forms.{AreFlags, IsArea, IsInForce, IsReals, IsWhole};
-ghost use Rattle.period_arrays.specs.Layers.{layers_at};
 
 use crate::flags::{Contents, Flags, flags_of};
 use crate::layers::layers_tested;
@@ -97,7 +96,7 @@ fn reals_or<F: Folder>(
 }
 
 /// An array of layers, each tested.
-#[tactic(auto, unfolding(crate::specs::Layers::layers_at))]
+#[tactic(auto, unfolding(crate::specs::Areas::layers_at))]
 fn layers_at<F: Folder>(
     alloc: Global,
     lines: &mut Lines,

@@ -1,7 +1,7 @@
 // Words of the lines before arrays.
 ghost use Rattle.std.specs.Prelude.{◌≡◌, ◌≤ℤ◌, pos, true, false, IfOk};
 ghost use Rattle.record_lines.specs.Reading.{GivesText, HasText};
-ghost use Rattle.period_arrays.specs.Flags.{flag_at, flag_if, flags_of, option_at};
+ghost use Rattle.period_arrays.specs.Areas.{flag_at, flag_if, flags_of, option_at};
 ghost use Rattle.period_arrays.specs.Forms.{AreFlags};
 
 use array_reader::integer;
@@ -28,7 +28,7 @@ pub struct Flags {
 }
 
 /// The option that chooses a cell in each column of layers, from 1 to 3; any other is OutOfProfile.
-#[tactic(auto, unfolding(crate::specs::Flags::option_at))]
+#[tactic(auto, unfolding(crate::specs::Areas::option_at))]
 pub fn option_at(alloc: Global, words: &mut Words, file: &str, line: u32) -> Result<i64, TextFault>
     ensures option { GivesText (λ z. z) result words.new (option_at file.now line words.old) }
     ensures range { IfOk result (λ z. (pos 1 ≤ℤ z) × (z ≤ℤ pos 3)) }
@@ -41,7 +41,7 @@ pub fn option_at(alloc: Global, words: &mut Words, file: &str, line: u32) -> Res
 }
 
 /// Whether an array is read anew, by the next word. If it isn't, there must be an array before it.
-#[tactic(auto, unfolding(crate::specs::Flags::flag_at))]
+#[tactic(auto, unfolding(crate::specs::Areas::flag_at))]
 pub fn flag_at(
     alloc: Global,
     words: &mut Words,
@@ -79,7 +79,7 @@ fn flag_if(
 }
 
 /// The flags of a period by the words of its line; `listed` says whether there was a period before.
-#[tactic(auto, unfolding(crate::specs::Flags::flags_of))]
+#[tactic(auto, unfolding(crate::specs::Areas::flags_of))]
 pub fn flags_of(
     alloc: Global,
     words: &mut Words,

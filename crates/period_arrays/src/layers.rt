@@ -1,9 +1,9 @@
 // The test of arrays of layers.
 ghost use Rattle.std.specs.Prelude.{◌≡◌, ◌<◌};
 ghost use Rattle.record_lines.specs.Reading.{HasText};
-ghost use Rattle.model_types.specs.Cells.{layer_size, cell_count};
+ghost use Rattle.model_types.specs.Faces.{layer_size, cell_count};
 ghost use Rattle.model_types.specs.Grids.{HasSize};
-ghost use Rattle.period_arrays.specs.Layers.{is_layer, layer_step, layers_tested};
+ghost use Rattle.period_arrays.specs.Areas.{is_layer, layer_step, layers_tested};
 ghost use Rattle.period_arrays.specs.Forms.{IsCellRefusal};
 
 use model_types::layers::int_at;
@@ -37,7 +37,7 @@ fn layer_tested(
 }
 
 /// Refuses the first number of an array that is neither a layer nor 0, at its row and column.
-#[tactic(auto, unfolding(crate::specs::Layers::layers_tested))]
+#[tactic(auto, unfolding(crate::specs::Areas::layers_tested))]
 pub fn layers_tested(
     alloc: Global,
     file: &str,

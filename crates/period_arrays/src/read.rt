@@ -1,6 +1,6 @@
 // The file of a package of arrays.
 ghost use Rattle.std.specs.Prelude.{◌≡◌, ◌≤ℤ◌, pos, All, IfOk, List, map};
-ghost use Rattle.outside.specs.Asking.{TextMay};
+ghost use Rattle.outside.specs.Names.{TextMay};
 ghost use Rattle.outside.specs.Files.{FileSet};
 ghost use Rattle.outside.specs.Folders.{ReadsOn};
 ghost use Rattle.record_lines.specs.Reading.{GivesText, Has, HasText};

@@ -26,10 +26,9 @@ pub use Rattle.conductance_bounds.specs.Branches.{thickness_of, vertical_of, ver
 pub use Rattle.conductance_bounds.specs.Calls.{IsBed, IsColHalf, IsHalf, IsVertHalf}
 pub use Rattle.conductance_bounds.specs.Formulas.{area_term, bed_term, column_k_term, evap_term, face_term, recharge_term, storage_term, vertical_half_term}
 pub use Rattle.conductance_bounds.specs.Formulas.{vertical_k_at}
-pub use Rattle.conductance_bounds.specs.Growth.{IsGrown, IsUsable, sum_term}
-unfoldable pub use Rattle.conductance_bounds.specs.Growth.{power_term}
 pub use Rattle.conductance_bounds.specs.Pairs.{IsCapped, IsCappedFlow, IsPair, IsPast, high_end, low_end}
-pub use Rattle.conductance_bounds.specs.Parts.{IsCeilingOf, IsFloorOf, IsGivenPair, IsHeadUnits, IsPart, blend, part_term}
+pub use Rattle.conductance_bounds.specs.Parts.{IsCeilingOf, IsFloorOf, IsGivenPair, IsGrown, IsHeadUnits, IsPart, IsUsable, blend, part_term, sum_term}
+unfoldable pub use Rattle.conductance_bounds.specs.Parts.{power_term}
 pub use Rattle.conductance_bounds.specs.Terms.{Holds, IsBound, IsRounded, Side, Term, other}
 pub use Rattle.conductance_bounds.specs.Terms.Side.{Lower, Upper}
 pub use Rattle.conductance_bounds.specs.Terms.Term.{Number, Product, Quotient, Sum, Within}
@@ -39,14 +38,12 @@ pub use Rattle.conductance_bounds.specs.declared.span.Span.{Span}
 pub use Rattle.decimal_input.proofs.FloorLaws.{floor_ceiling_enclose, one_ceiling, one_floor}
 pub use Rattle.decimal_input.proofs.Orders.{AtMost-trans, Same-sym, Same-trans}
 pub use Rattle.decimal_input.proofs.Signs.{cancel_right, mul_mono_right}
-pub use Rattle.decimal_input.specs.Canonical.{IsDec, number, size}
-pub use Rattle.decimal_input.specs.Decimals.{with_sign}
+pub use Rattle.decimal_input.specs.Decimals.{IsDec, number, size, with_sign}
 unfoldable pub use Rattle.decimal_input.specs.Decimals.{scaled}
-pub use Rattle.decimal_input.specs.Enclosures.{Encloses, EnclosesSigned}
 pub use Rattle.decimal_input.specs.Fractions.{Fraction, negated, plus}
 pub use Rattle.decimal_input.specs.Ratios.{Ratio, Same, den, over}
 unfoldable pub use Rattle.decimal_input.specs.Ratios.{ratio}
-pub use Rattle.decimal_input.specs.Wholes.{IsCeiling, IsFloor, IsSignedCeiling, IsSignedFloor, Passes}
+pub use Rattle.decimal_input.specs.Wholes.{Encloses, EnclosesSigned, IsCeiling, IsFloor, IsSignedCeiling, IsSignedFloor, Passes}
 pub use Rattle.decimal_input.specs.declared.dec.Dec.{Dec}
 pub use Rattle.flow_equations.proofs.Links.{are_linked, below_is, index_is}
 pub use Rattle.flow_equations.specs.ExactStep.{exact_cell, exact_drain, exact_evap, exact_fixed, exact_flow, exact_link, exact_river, exact_step}
@@ -55,17 +52,14 @@ pub use Rattle.model_types.proofs.Leads.{first_within, passing_are, passing_have
 pub use Rattle.model_types.proofs.Members.{All-In, Contains-In, In, In-All, In-get_or, Ordered, Ordered-at, filter_map-In, map-In}
 pub use Rattle.model_types.proofs.Ranks.{IsAt, at_rank, fails_next, is_at, passes_next, passing, range_more, rank, rank_apart, rank_below, rank_fails, rank_few}
 pub use Rattle.model_types.proofs.Ranks.{rank_passes}
-pub use Rattle.model_types.specs.Cells.{cell_count, layer_of, layer_size, place_in_layer}
 pub use Rattle.model_types.specs.Conductances.{conductance}
-pub use Rattle.model_types.specs.Faces.{face_after, faces, has_after, span, stride, through}
-pub use Rattle.model_types.specs.Grids.{HasSize, IsGrid}
-pub use Rattle.model_types.specs.Heads.{head_or_kept, kept_head, start_head}
-unfoldable pub use Rattle.model_types.specs.Heads.{constant_head}
-pub use Rattle.model_types.specs.Kinds.{index_of, is_constant, is_variable, kind_of, last_given, variable_below, variable_cells}
-unfoldable pub use Rattle.model_types.specs.Kinds.{given_heads, given_in, kinds}
+pub use Rattle.model_types.specs.Faces.{cell_count, face_after, faces, has_after, layer_of, layer_size, place_in_layer, span, stride, through}
+pub use Rattle.model_types.specs.Grids.{HasSize, IsGrid, IsHeadNumber, IsNotNegative, IsPositive, IsThick}
+pub use Rattle.model_types.specs.Heads.{head_or_kept, index_of, is_constant, is_variable, kept_head, kind_of, last_given, start_head, variable_below}
+pub use Rattle.model_types.specs.Heads.{variable_cells}
+unfoldable pub use Rattle.model_types.specs.Heads.{constant_head, given_heads, given_in, kinds}
 pub use Rattle.model_types.specs.Layers.{bed_thickness, bottom_at, dec_at, delc_at, delr_at, has_bed, hk_at, int_at, is_active, lowest, no_number, thickness}
 pub use Rattle.model_types.specs.Layers.{top_at, vkcb_at}
-pub use Rattle.model_types.specs.Numbers.{IsHeadNumber, IsNotNegative, IsPositive, IsThick}
 pub use Rattle.model_types.specs.Receivers.{EvapSource, evap_at, evap_conductance, evap_source, extinction, is_chosen, is_highest, is_int, recharge_at}
 pub use Rattle.model_types.specs.Receivers.{recharge_flow}
 pub use Rattle.model_types.specs.Sources.{DrainSource, FixedSource, FlowSource, RiverSource, as_drain, as_general, as_river, as_well, cell_of, constant_faces}
@@ -83,31 +77,28 @@ pub use Rattle.model_types.specs.declared.entry.Given.{Given}
 pub use Rattle.model_types.specs.declared.face.Axis.{Axis}
 pub use Rattle.model_types.specs.declared.face.Axis.TheVariants.{Column, Row, Vertical}
 pub use Rattle.model_types.specs.declared.face.Face.{Face}
+pub use Rattle.model_types.specs.declared.given_heads.Kind.{Kind}
+pub use Rattle.model_types.specs.declared.given_heads.Kind.TheVariants.{Constant, NoFlow, Variable}
 pub use Rattle.model_types.specs.declared.grid.Grid.{Grid}
-pub use Rattle.model_types.specs.declared.kind.Kind.{Kind}
-pub use Rattle.model_types.specs.declared.kind.Kind.TheVariants.{Constant, NoFlow, Variable}
 pub use Rattle.model_types.specs.declared.model.FlowModel.{FlowModel}
 pub use Rattle.model_types.specs.declared.period.Period.{Period}
 pub use Rattle.model_types.specs.declared.time_steps.TimeStep.{TimeStep}
 pub use Rattle.problem_builder.specs.Cells.{IsCellOf, IsConstant, IsDrain, IsEvap, IsFixed, IsFlow, IsLink, IsReceived, IsRiver, IsStorage}
-pub use Rattle.problem_builder.specs.ConstantHeads.{AreConstantHeads, HasConstantHead, IsGivenOrKept, IsKeptPair}
-unfoldable pub use Rattle.problem_builder.specs.ConstantHeads.{IsConstantPair}
 pub use Rattle.problem_builder.specs.Filled.{BothOrNone, Filled}
-pub use Rattle.problem_builder.specs.GridHeads.{AreGridHeads, HeadsEnclose, IsActive}
-pub use Rattle.problem_builder.specs.InputBounds.{IsCond, IsHeadPair, IsRechargePair, IsWellPair}
+pub use Rattle.problem_builder.specs.GridHeads.{AreConstantHeads, AreGridHeads, AreStartHeads, HasConstantHead, HeadsEnclose, IsActive, IsGivenOrKept}
+pub use Rattle.problem_builder.specs.GridHeads.{IsKeptPair, IsStart}
+unfoldable pub use Rattle.problem_builder.specs.GridHeads.{IsConstantPair}
+pub use Rattle.problem_builder.specs.InputBounds.{IsCond, IsDepth, IsHeadPair, IsRechargePair, IsWellPair}
 pub use Rattle.problem_builder.specs.LocalBounds.{AreAppended, AreLocalBounds, IsEntryIn, IsGeneralSource, IsWellSource, LocalBounds, kept_bounds, local_in}
 pub use Rattle.problem_builder.specs.LocalBounds.{no_bounds}
 pub use Rattle.problem_builder.specs.Made.{HasPair, IsCellFault, IsFirstFault, IsStartInRange, IsVariableCell}
-pub use Rattle.problem_builder.specs.Moments.{IsTimeOf}
 pub use Rattle.problem_builder.specs.PeriodTables.{IsCovered, IsEvaporated, IsIndex, IsKept, IsKind, IsNamed, IsRecharged}
-pub use Rattle.problem_builder.specs.Problems.{AreCells, HasNoProblem, IsProblemOf, IsRefused}
-pub use Rattle.problem_builder.specs.Refusals.{has_small_branch}
-unfoldable pub use Rattle.problem_builder.specs.Refusals.{fault_of}
-pub use Rattle.problem_builder.specs.StepTables.{AreEvenFactors, AreFactorsOf, HasEvenSteps, HasEvenStorage, HasStorage}
+pub use Rattle.problem_builder.specs.Problems.{AreCells, HasNoProblem, IsProblemOf, IsRefused, has_small_branch}
+unfoldable pub use Rattle.problem_builder.specs.Problems.{fault_of}
+pub use Rattle.problem_builder.specs.StepTables.{AreEvenFactors, AreFactorsOf, HasEvenSteps, HasEvenStorage, HasOldHeads, HasStorage, IsTimeOf}
 pub use Rattle.problem_builder.specs.Tables.{AreEvenStorages, AreInputs, ArePeriodTables, AreTables, Inputs, no_pair, no_span, pair_at, pair_in, span_in}
 pub use Rattle.problem_builder.specs.Tables.{widths_of}
-pub use Rattle.problem_builder.specs.Thicknesses.{AreThicknesses, Thicknesses}
-pub use Rattle.problem_builder.specs.Widths.{HasConductance, IsBedBelow, IsBedOf, IsNoBed, IsThickness, layer_half}
+pub use Rattle.problem_builder.specs.Widths.{AreThicknesses, HasConductance, IsBedBelow, IsBedOf, IsNoBed, IsThickness, Thicknesses, layer_half}
 pub use Rattle.scaled_decimal.specs.declared.decimal.Sd.{Sd}
 pub use Rattle.step_problem.specs.Conditions.{CellFits, DrainFits, EvapFits, FixedFits, IsHead, IsProblem, LinkFits, LinksFit, RiverFits, conductance_of}
 pub use Rattle.step_problem.specs.Conditions.{flow_of, head_limit, magnitude}

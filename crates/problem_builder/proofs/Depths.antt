@@ -1,9 +1,8 @@
 -- Extinction depths and elevations are in range.
 use Rattle.problem_builder.proofs.Common.{◌^◌, refl, arith, ℤ, pos, ◌-ℤ◌, ◌≤ℤ◌, w64, ints, Dec, number, IsSignedFloor, IsSignedCeiling, one_floor, one_ceiling}
-use Rattle.problem_builder.proofs.Common.{cancel_right, mul_mono_right, IsHead, EvapSource, IsEvapValid, IsHeadPair}
+use Rattle.problem_builder.proofs.Common.{cancel_right, mul_mono_right, IsHead, EvapSource, IsEvapValid, IsHeadPair, IsDepth}
 use Rattle.std.specs.Prelude.{FitsSigned}
 use Rattle.decimal_input.specs.Fractions.{den}
-use Rattle.problem_builder.specs.Depths.{IsDepth}
 use Rattle.problem_builder.proofs.Fits.{not_negative, floor_not_negative, floor_below, head_pair_range}
 use Rattle.problem_builder.proofs.HeadRange.{floor_in_range}
 

@@ -3,8 +3,7 @@ use Rattle.problem_builder.proofs.Common.{◌≡◌, ℕ, ◌<◌, inl, inr, Boo
 use Rattle.problem_builder.proofs.Common.{filter_map, option_to_list, Bound, Fixed, Entries, entries_at, no_entries, FlowModel, TimeStep, cell_count, HasSize}
 use Rattle.problem_builder.proofs.Common.{is_variable, is_constant, variable_below, period_at, FixedSource, fixed_sources, constant_faces, local_entries}
 use Rattle.problem_builder.proofs.Common.{as_general, ToConstant, ToGeneral, FromStorage, In, In-get_or, Contains-In, passing_are, end_within, Thicknesses}
-use Rattle.problem_builder.proofs.Common.{IsFixed, IsCellOf, IsActive, AreCells}
-use Rattle.problem_builder.specs.Stored.{HasOldHeads}
+use Rattle.problem_builder.proofs.Common.{IsFixed, IsCellOf, IsActive, AreCells, HasOldHeads}
 use Rattle.problem_builder.specs.GridHeads.{IsNamed}
 use Rattle.problem_builder.proofs.ActiveCells.{variable_active, constant_active}
 use Rattle.problem_builder.proofs.Members.{variable-In, fixed_source}

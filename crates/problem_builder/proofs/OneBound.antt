@@ -8,7 +8,7 @@ use Rattle.problem_builder.proofs.Common.{IsCappedFlow, Sd}
 use Rattle.std.proofs.Common.{unsigned_abs}
 use Rattle.decimal_input.specs.Ratios.{plus, times}
 use Rattle.scaled_decimal.specs.Nearest.{IsSd, value, IsDown, IsUp}
-use Rattle.scaled_decimal.proofs.Unique.{one_decimal}
+use Rattle.scaled_decimal.proofs.Monotone.{one_decimal}
 use Rattle.conductance_bounds.specs.Pairs.{IsFlow}
 use Rattle.decimal_input.proofs.SameNumbers.{Same-both}
 

@@ -1,6 +1,6 @@
 -- Tables under another name, or by another number.
 use Rattle.problem_builder.proofs.Common.{◌≡◌, ℕ, Option, None, List, sym, subst, Given, Filled, IsNamed, FlowModel, ArePeriodTables}
-use Rattle.problem_builder.specs.declared.period.PeriodTables.{PeriodTables}
+use Rattle.problem_builder.specs.declared.index.PeriodTables.{PeriodTables}
 
 -- a list with the same items
 pub filled_as : {X : Type 0} (P : ℕ → X → Type 0) (d : X) (n : ℕ) (xs ys : List X) → xs ≡ ys → Filled P d n ys → Filled P d n xs

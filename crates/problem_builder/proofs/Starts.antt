@@ -1,7 +1,7 @@
 -- The bounds of STRT.
 use Rattle.problem_builder.proofs.Common.{◌≡◌, ℕ, ◌<◌, inl, inr, List, sym, ◌∙◌, subst, arith, pos, cases_Bool, Bound, no_bound, IsHead, FlowModel, cell_count}
 use Rattle.problem_builder.proofs.Common.{start_head, dec_at, is_active, Filled, AreGridHeads, HeadsEnclose, IsStartInRange, ints, IsModel, get_or_default}
-use Rattle.problem_builder.specs.StartHeads.{IsStart, AreStartHeads}
+use Rattle.problem_builder.proofs.Common.{IsStart, AreStartHeads}
 use Rattle.problem_builder.proofs.CellEnclosed.{head_encloses}
 use Rattle.problem_builder.proofs.Fits.{head_pair_range}
 use Rattle.problem_builder.proofs.Filling.{one_filled}

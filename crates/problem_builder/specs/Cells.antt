@@ -18,7 +18,7 @@ use Rattle.model_types.specs.declared.face.Face.{Face}
 use Rattle.model_types.specs.declared.model.FlowModel.{FlowModel}
 use Rattle.model_types.specs.declared.time_steps.TimeStep.{TimeStep}
 use Rattle.model_types.specs.Times.{period_at}
-use Rattle.model_types.specs.Kinds.{index_of}
+use Rattle.model_types.specs.Heads.{index_of}
 use Rattle.model_types.specs.Receivers.{EvapSource}
 use Rattle.model_types.specs.Sources.{FixedSource, FlowSource, RiverSource, DrainSource, variable_faces, flow_sources}
 use Rattle.model_types.specs.Sources.{fixed_sources, river_sources, drain_sources, evap_sources}
@@ -27,8 +27,8 @@ use Rattle.model_types.specs.Sources.FlowSource.{Pumped, Received}
 use Rattle.conductance_bounds.specs.Pairs.{IsCapped}
 use Rattle.conductance_bounds.specs.Formulas.{face_term, storage_term, evap_term}
 use Rattle.problem_builder.specs.InputBounds.{IsCond, IsWellPair, IsHeadPair}
-use Rattle.problem_builder.specs.Thicknesses.{Thicknesses}
-use Rattle.problem_builder.specs.ConstantHeads.{IsConstantPair}
+use Rattle.problem_builder.specs.Widths.{Thicknesses}
+use Rattle.problem_builder.specs.GridHeads.{IsConstantPair}
 use Rattle.problem_builder.specs.InputBounds.{IsRechargePair}
 
 -- Entries, by the numbers of a list.

@@ -1,15 +1,22 @@
 -- Bounds of the heads of all cells of the grid, by cell number, in units of 10^-9.
-use Rattle.std.specs.Prelude.{◌≡◌, ℕ, ◌<◌, ◌⊎◌, true, List, All, Contains, length}
+use Rattle.std.specs.Prelude.{◌≡◌, ℕ, ◌<◌, ◌⊎◌, true, List, All, Contains, length, ◌-◌, ℤ, false, Option, Some, None, take}
 use Rattle.decimal_input.specs.Fractions.{Fraction}
-use Rattle.decimal_input.specs.Enclosures.{EnclosesSigned}
+use Rattle.decimal_input.specs.Wholes.{EnclosesSigned}
 use Rattle.step_problem.specs.declared.heads.Bound.{Bound}
 use Rattle.step_problem.specs.declared.entry.Fixed.{Fixed}
 use Rattle.step_problem.specs.Entries.{Entries, entries_at}
-use Rattle.step_problem.specs.Heads.{lower_at, upper_at}
+use Rattle.step_problem.specs.Heads.{lower_at, upper_at, no_bound}
 use Rattle.step_problem.specs.Conditions.{IsHead}
 use Rattle.model_types.specs.declared.model.FlowModel.{FlowModel}
-use Rattle.model_types.specs.Cells.{cell_count}
-use Rattle.model_types.specs.Layers.{is_active}
+use Rattle.model_types.specs.Faces.{cell_count}
+use Rattle.model_types.specs.Layers.{is_active, dec_at}
+use Rattle.model_types.specs.declared.entry.Given.{Given}
+use Rattle.model_types.specs.declared.time_steps.TimeStep.{TimeStep}
+use Rattle.model_types.specs.Times.{period_at}
+use Rattle.model_types.specs.Heads.{is_constant, given_in, last_given}
+use Rattle.conductance_bounds.specs.Parts.{IsPart, IsGivenPair}
+use Rattle.problem_builder.specs.Filled.{Filled}
+use Rattle.problem_builder.specs.InputBounds.{IsHeadPair}
 
 -- one bound for each cell, with heads in range
 pub record AreGridHeads (m : FlowModel) (bounds : List Bound) : Type 0 where
@@ -28,3 +35,35 @@ HeadsEnclose m bounds heads = (c : ℕ) → IsActive m c → EnclosesSigned (low
 -- a cell number that a problem names: a variable cell's own, or the source of a known head
 abbrev pub IsNamed : List Entries → ℕ → Type 0
 IsNamed p c = (k : ℕ) × (k < length p) × ((c ≡ (entries_at p k).id) ⊎ ((x : Fixed) × Contains (entries_at p k).fixed x × (c ≡ x.source)))
+
+-- The head of a constant-head cell at a time, as a whole pair in units of 10^-9.
+-- the head that a constant cell keeps: the Ehead of the last list that named it, or STRT
+abbrev pub IsKeptPair : FlowModel → ℕ → Option Given → ℤ → ℤ → Type 0
+IsKeptPair m c None lo hi = IsHeadPair (dec_at m.strt c) lo hi
+IsKeptPair m c (Some x) lo hi = IsHeadPair x.ehead lo hi
+
+-- where the period's list names the cell, between Shead and Ehead by the part of the period that has passed; else the head that the cell keeps
+abbrev pub IsGivenOrKept : FlowModel → TimeStep → ℕ → Option Given → ℤ → ℤ → Type 0
+IsGivenOrKept m at c None lo hi = IsKeptPair m c (last_given (take (at.period - 1) m.periods) c) lo hi
+IsGivenOrKept m at c (Some x) lo hi = (f : ℕ) × (g : ℕ) × IsPart (period_at m at.period) at.step f g × IsGivenPair x.shead x.ehead f g lo hi
+
+unfoldable pub IsConstantPair : FlowModel → TimeStep → ℕ → ℤ → ℤ → Type 0
+IsConstantPair m at c lo hi = IsGivenOrKept m at c (given_in (period_at m at.period).stresses.given c) lo hi
+
+-- the pair of cell c's head if that is constant, zeros in any other cell
+pub record HasConstantHead (m : FlowModel) (at : TimeStep) (c : ℕ) (x : Bound) : Type 0 where
+  pub constant : is_constant m at.period c ≡ true → IsConstantPair m at c x.low x.high
+  pub other : is_constant m at.period c ≡ false → x ≡ no_bound
+
+-- for each cell of the grid
+abbrev pub AreConstantHeads : FlowModel → TimeStep → List Bound → Type 0
+AreConstantHeads m at heads = Filled (HasConstantHead m at) no_bound (cell_count m.grid) heads
+
+-- The bounds of STRT: floor and ceiling in units of 10^-9, zeros where there is no flow.
+pub record IsStart (m : FlowModel) (c : ℕ) (b : Bound) : Type 0 where
+  pub active : is_active m c ≡ true → IsHeadPair (dec_at m.strt c) b.low b.high
+  pub no_flow : is_active m c ≡ false → b ≡ no_bound
+
+-- for each cell of the grid
+abbrev pub AreStartHeads : FlowModel → List Bound → Type 0
+AreStartHeads m bounds = Filled (IsStart m) no_bound (cell_count m.grid) bounds

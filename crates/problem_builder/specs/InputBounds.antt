@@ -1,12 +1,13 @@
 -- Numbers of the input as whole bounds: conductances in units of 10^-s, flows of 10^-(s+9), heads of 10^-9.
-use Rattle.std.specs.Prelude.{ℕ, ◌+◌, ℤ}
+use Rattle.std.specs.Prelude.{ℕ, ◌+◌, ℤ, pos, ◌≤ℤ◌}
 use Rattle.decimal_input.specs.declared.dec.Dec.{Dec}
-use Rattle.decimal_input.specs.Canonical.{size, number}
+use Rattle.decimal_input.specs.Decimals.{size, number}
 use Rattle.decimal_input.specs.Wholes.{IsSignedFloor, IsSignedCeiling}
 use Rattle.model_types.specs.declared.model.FlowModel.{FlowModel}
 use Rattle.conductance_bounds.specs.Formulas.{recharge_term}
 use Rattle.conductance_bounds.specs.Pairs.{IsCapped, IsCappedFlow}
 use Rattle.conductance_bounds.specs.Terms.Term.{Number}
+use Rattle.model_types.specs.Grids.{IsPositive}
 
 -- a conductance as its own formula
 abbrev pub IsCond : ℕ → Dec → ℕ → ℕ → Type 0
@@ -23,3 +24,11 @@ IsRechargePair m s c rate lo hi = IsCappedFlow (recharge_term m rate c) rate.neg
 pub record IsHeadPair (d : Dec) (lo hi : ℤ) : Type 0 where
   pub floor : IsSignedFloor lo (number d) 9
   pub ceiling : IsSignedCeiling hi (number d) 9
+
+-- An extinction depth whose bounds are whole numbers of 64 bits.
+-- above 0, and at most 8000000000 length units in whole units of 10^-9
+pub record IsDepth (d : Dec) : Type 0 where
+  pub positive : IsPositive d
+  pub ceiling : ℤ
+  pub is : IsSignedCeiling ceiling (number d) 9
+  pub small : ceiling ≤ℤ pos 8000000000000000000

@@ -1,21 +1,18 @@
 -- Problems and refusals are unique, and problems meet their conditions: for valid models and their times.
 use Rattle.std.specs.Prelude.{◌≡◌, ℕ, ◌<◌, true, ℤ, List, Contains}
-use Rattle.decimal_input.specs.Enclosures.{EnclosesSigned}
+use Rattle.decimal_input.specs.Wholes.{EnclosesSigned}
 use Rattle.step_problem.specs.declared.heads.Bound.{Bound}
 use Rattle.step_problem.specs.declared.place.NoBound.{NoBound}
 use Rattle.step_problem.specs.Entries.{Entries}
 use Rattle.step_problem.specs.Conditions.{IsProblem, IsHead}
 use Rattle.model_types.specs.declared.model.FlowModel.{FlowModel}
 use Rattle.model_types.specs.declared.time_steps.TimeStep.{TimeStep}
-use Rattle.model_types.specs.Cells.{cell_count}
-use Rattle.model_types.specs.Heads.{constant_head}
-use Rattle.model_types.specs.Kinds.{is_constant}
+use Rattle.model_types.specs.Faces.{cell_count}
+use Rattle.model_types.specs.Heads.{constant_head, is_constant}
 use Rattle.model_types.specs.Times.{times}
 use Rattle.model_types.specs.Valid.{IsModel}
-use Rattle.problem_builder.specs.ConstantHeads.{IsConstantPair, AreConstantHeads}
-use Rattle.problem_builder.specs.GridHeads.{AreGridHeads}
+use Rattle.problem_builder.specs.GridHeads.{IsConstantPair, AreConstantHeads, AreGridHeads, AreStartHeads}
 use Rattle.problem_builder.specs.Problems.{IsProblemOf, HasNoProblem}
-use Rattle.problem_builder.specs.StartHeads.{AreStartHeads}
 
 -- a model, a time and the heads before it have at most one problem
 abbrev pub ProblemIsOne : Type 0

@@ -6,17 +6,16 @@ use Rattle.model_types.specs.declared.face.Face.{Face}
 use Rattle.model_types.specs.declared.model.FlowModel.{FlowModel}
 use Rattle.step_problem.specs.declared.heads.Bound.{Bound}
 use Rattle.step_problem.specs.Conditions.{IsHead}
-use Rattle.problem_builder.specs.StartHeads.{IsStart}
-use Rattle.model_types.specs.Kinds.{is_variable}
-use Rattle.model_types.specs.Cells.{cell_count}
+use Rattle.problem_builder.specs.GridHeads.{IsStart}
+use Rattle.model_types.specs.Heads.{is_variable}
+use Rattle.model_types.specs.Faces.{cell_count}
 use Rattle.model_types.specs.Layers.{is_active}
 use Rattle.conductance_bounds.specs.Pairs.{IsCapped}
 use Rattle.conductance_bounds.specs.Formulas.{face_term}
 use Rattle.problem_builder.specs.declared.fault.BuildFault.{BuildFault}
 use Rattle.problem_builder.specs.declared.fault.BuildFault.TheVariants.{NoBound as Refused, Memory}
 use Rattle.problem_builder.specs.Cells.{IsCellOf}
-use Rattle.problem_builder.specs.Refusals.{fault_of}
-use Rattle.problem_builder.specs.Problems.{AreCells, IsRefused}
+use Rattle.problem_builder.specs.Problems.{fault_of, AreCells, IsRefused}
 use Rattle.problem_builder.specs.Tables.{Inputs, widths_of, pair_at}
 
 -- a cell of the grid that is variable

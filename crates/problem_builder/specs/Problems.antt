@@ -1,6 +1,6 @@
 -- The problem of a time step, and the refusal of a step that has none.
-use Rattle.std.specs.Prelude.{◌≡◌, ℕ, ◌<◌, true, List, All, Some, None}
-use Rattle.std.specs.List.{AllZip}
+use Rattle.std.specs.Prelude.{◌≡◌, ℕ, ◌<◌, true, List, All, Some, None, ◌^◌, ◌&&◌, ◌||◌, ◌==◌, nat_le, Bool, false, cond, Option}
+use Rattle.std.specs.List.{AllZip, list_any}
 use Rattle.step_problem.specs.declared.heads.Bound.{Bound}
 use Rattle.step_problem.specs.declared.heads.Side.TheVariants.{Low}
 use Rattle.step_problem.specs.declared.place.NoBound.{NoBound}
@@ -8,13 +8,35 @@ use Rattle.step_problem.specs.declared.place.Place.TheVariants.{Cell}
 use Rattle.step_problem.specs.Entries.{Entries}
 use Rattle.model_types.specs.declared.model.FlowModel.{FlowModel}
 use Rattle.model_types.specs.declared.time_steps.TimeStep.{TimeStep}
-use Rattle.model_types.specs.Cells.{cell_count}
-use Rattle.model_types.specs.Kinds.{is_variable, variable_below}
+use Rattle.model_types.specs.Faces.{cell_count}
+use Rattle.model_types.specs.Heads.{is_variable, variable_below}
 use Rattle.problem_builder.specs.declared.fault.BuildFault.{BuildFault}
 use Rattle.problem_builder.specs.declared.fault.BuildFault.TheVariants.{NoBound as Refused, Memory}
-use Rattle.problem_builder.specs.Thicknesses.{Thicknesses, AreThicknesses}
+use Rattle.problem_builder.specs.Widths.{Thicknesses, AreThicknesses}
 use Rattle.problem_builder.specs.Cells.{IsCellOf}
-use Rattle.problem_builder.specs.Refusals.{fault_of}
+use Rattle.step_problem.specs.declared.entry.FixedKind.{FixedKind}
+use Rattle.step_problem.specs.declared.entry.FixedKind.TheVariants.{Constant, General, Storage}
+use Rattle.step_problem.specs.declared.refusal.StepRefusal.TheVariants.{ConductanceTooSmall, ConductanceTooLarge, FlowTooLarge}
+use Rattle.step_problem.specs.StepRefusals.{number_of}
+use Rattle.step_problem.specs.Conditions.{conductance_of, flow_of}
+
+-- The refusals of a cell, in their order.
+-- a branch to a constant-head neighbour
+abbrev pub is_branch : FixedKind → Bool
+is_branch Constant = true
+is_branch General = false
+is_branch Storage = false
+
+-- whether the lower conductance to an active neighbour is 0
+abbrev pub has_small_branch : Entries → Bool
+has_small_branch e = list_any (λ x. x.lo == 0) e.links || list_any (λ x. is_branch x.kind && (x.lo == 0)) e.fixed
+
+-- the number of the first refusal that a cell has
+unfoldable pub fault_of : Entries → Option ℕ
+fault_of e =
+    cond (has_small_branch e) (Some (number_of ConductanceTooSmall))
+    (cond (nat_le (2 ^ 60) (conductance_of e)) (Some (number_of ConductanceTooLarge))
+    (cond (nat_le (2 ^ 109) (flow_of e)) (Some (number_of FlowTooLarge)) None))
 
 module _ (m : FlowModel) (w : Thicknesses) (s : ℕ) (at : TimeStep) (old : List Bound) where
   -- the variable cells below cell n, none of which has a refusal

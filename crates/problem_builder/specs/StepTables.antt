@@ -1,20 +1,22 @@
 -- The contents of the tables of a time step, cell by cell.
-use Rattle.std.specs.Prelude.{◌≡◌, ℕ, ◌≤◌, ◌^◌, true, false, Option, Some, None}
-use Rattle.decimal_input.specs.Canonical.{size}
+use Rattle.std.specs.Prelude.{◌≡◌, ℕ, ◌≤◌, ◌^◌, true, false, Option, Some, None, ◌<◌, List, length, Contains}
+use Rattle.decimal_input.specs.Decimals.{size}
 use Rattle.model_types.specs.declared.model.FlowModel.{FlowModel}
 use Rattle.model_types.specs.declared.period.Period.{Period}
 use Rattle.model_types.specs.declared.time_steps.TimeStep.{TimeStep}
 use Rattle.model_types.specs.Times.{period_at}
-use Rattle.model_types.specs.Kinds.{is_variable}
-use Rattle.model_types.specs.Valid.{number_one}
-use Rattle.conductance_bounds.specs.declared.factors.Factors.{Factors}
+use Rattle.model_types.specs.Heads.{is_variable}
+use Rattle.model_types.specs.Valid.{number_one, IsPeriod}
+use Rattle.conductance_bounds.specs.declared.storage.Factors.{Factors}
 use Rattle.conductance_bounds.specs.declared.pair.Pair.{Pair}
 use Rattle.conductance_bounds.specs.declared.part.Part.{Part}
 use Rattle.conductance_bounds.specs.declared.span.Span.{Span}
 use Rattle.conductance_bounds.specs.Formulas.{storage_term}
-use Rattle.conductance_bounds.specs.Growth.{IsUsable, IsGrown}
+use Rattle.conductance_bounds.specs.Parts.{IsUsable, IsGrown, IsPart}
 use Rattle.conductance_bounds.specs.Pairs.{IsCapped}
-use Rattle.conductance_bounds.specs.Parts.{IsPart}
+use Rattle.step_problem.specs.declared.entry.Fixed.{Fixed}
+use Rattle.step_problem.specs.declared.entry.FixedKind.TheVariants.{Storage}
+use Rattle.step_problem.specs.Entries.{Entries, entries_at}
 
 -- the factors of a step of a transient period
 pub record AreStepFactors (m : FlowModel) (at : TimeStep) (f : Factors) : Type 0 where
@@ -51,3 +53,15 @@ HasEvenStorage m thick s p c x = (n : ℕ) → HasStorage m thick s (record { pe
 pub record IsPartOf (m : FlowModel) (at : TimeStep) (part : Part) : Type 0 where
   pub is : IsPart (period_at m at.period) at.step part.lo part.hi
   pub range : (part.lo ≤ 10 ^ 18) × (part.hi ≤ 10 ^ 18)
+
+-- Storage of the cells of a problem.
+-- each variable cell has a branch to its old head
+abbrev pub HasOldHeads : List Entries → Type 0
+HasOldHeads p = (c : ℕ) → c < length p → (x : Fixed) × Contains (entries_at p c).fixed x × (x.kind ≡ Storage) × (x.source ≡ (entries_at p c).id)
+
+-- A time step of a model.
+-- one of a period's steps, and the period is one of the model's
+pub record IsTimeOf (m : FlowModel) (at : TimeStep) : Type 0 where
+  pub period : (1 ≤ at.period) × (at.period ≤ length m.periods)
+  pub step : (1 ≤ at.step) × (at.step ≤ (period_at m at.period).nstp)
+  pub valid : IsPeriod m (period_at m at.period)

@@ -5,10 +5,10 @@ use Rattle.step_problem.specs.Heads.{no_bound}
 use Rattle.scaled_decimal.specs.declared.decimal.Sd.{Sd}
 use Rattle.model_types.specs.declared.face.Axis.{Axis}
 use Rattle.model_types.specs.declared.face.Axis.TheVariants.{Row, Column, Vertical}
-use Rattle.model_types.specs.declared.kind.Kind.TheVariants.{NoFlow}
+use Rattle.model_types.specs.declared.given_heads.Kind.TheVariants.{NoFlow}
 use Rattle.model_types.specs.declared.model.FlowModel.{FlowModel}
 use Rattle.model_types.specs.declared.time_steps.TimeStep.{TimeStep}
-use Rattle.model_types.specs.Cells.{cell_count}
+use Rattle.model_types.specs.Faces.{cell_count}
 use Rattle.model_types.specs.Grids.{HasSize}
 use Rattle.model_types.specs.Times.{period_at}
 use Rattle.model_types.specs.Sources.{local_entries}
@@ -16,17 +16,14 @@ use Rattle.model_types.specs.Valid.{IsModel}
 use Rattle.conductance_bounds.specs.declared.span.Span.{Span}
 use Rattle.conductance_bounds.specs.declared.pair.Pair.{Pair}
 use Rattle.problem_builder.specs.declared.tables.Tables.{Tables}
-use Rattle.problem_builder.specs.declared.period.PeriodTables.{PeriodTables}
+use Rattle.problem_builder.specs.declared.index.PeriodTables.{PeriodTables}
 use Rattle.problem_builder.specs.declared.step.StepTables.{StepTables}
-use Rattle.problem_builder.specs.Thicknesses.{Thicknesses, AreThicknesses}
-use Rattle.problem_builder.specs.ConstantHeads.{AreConstantHeads}
+use Rattle.problem_builder.specs.Widths.{Thicknesses, AreThicknesses, IsThickness, IsBedBelow, HasConductance}
+use Rattle.problem_builder.specs.GridHeads.{AreConstantHeads, AreGridHeads}
 use Rattle.problem_builder.specs.Filled.{Filled}
 use Rattle.problem_builder.specs.PeriodTables.{IsKind, IsIndex, IsNamed, IsKept, IsRecharged, IsEvaporated}
-use Rattle.problem_builder.specs.GridHeads.{AreGridHeads}
 use Rattle.problem_builder.specs.LocalBounds.{AreLocalBounds, local_in}
-use Rattle.problem_builder.specs.Moments.{IsTimeOf}
-use Rattle.problem_builder.specs.StepTables.{AreFactorsOf, HasEvenSteps, HasEvenStorage}
-use Rattle.problem_builder.specs.Widths.{IsThickness, IsBedBelow, HasConductance}
+use Rattle.problem_builder.specs.StepTables.{IsTimeOf, AreFactorsOf, HasEvenSteps, HasEvenStorage}
 
 abbrev pub no_pair : Pair
 no_pair = record { lo = 0; hi = 0 }

@@ -2,19 +2,19 @@
 use Rattle.std.specs.Prelude.{◌≡◌, ℕ, ◌+◌, ◌<◌, ◌⊎◌, true}
 use Rattle.model_types.specs.declared.model.FlowModel.{FlowModel}
 use Rattle.model_types.specs.declared.face.Axis.{Axis}
-use Rattle.model_types.specs.Faces.{stride, has_after}
+use Rattle.model_types.specs.Faces.{stride, has_after, cell_count, layer_size}
 use Rattle.conductance_bounds.specs.declared.pair.Pair.{Pair}
 use Rattle.conductance_bounds.specs.declared.horizontal.Half.{Half}
 use Rattle.conductance_bounds.specs.declared.horizontal.ColHalf.{ColHalf}
 use Rattle.conductance_bounds.specs.declared.vertical.VertHalf.{VertHalf}
 use Rattle.conductance_bounds.specs.Pairs.{IsCapped}
 use Rattle.conductance_bounds.specs.Formulas.{face_term}
-use Rattle.model_types.specs.Cells.{cell_count, layer_size}
 use Rattle.model_types.specs.Layers.{is_active, top_at, bottom_at, lowest, bed_thickness, delr_at, delc_at, hk_at, hani_at, vka_at, vkcb_at, is_ratio}
-use Rattle.model_types.specs.Numbers.{IsPositive}
+use Rattle.model_types.specs.Grids.{IsPositive}
 use Rattle.conductance_bounds.specs.declared.span.Span.{Span}
 use Rattle.conductance_bounds.specs.Calls.{IsZero}
 use Rattle.conductance_bounds.specs.Thicknesses.{IsSpan, AreThick}
+use Rattle.conductance_bounds.specs.ModelLaws.{AreSpanned}
 
 -- the decimals of an active cell's thickness
 pub record IsThicknessOf (m : FlowModel) (c : ℕ) (t : Span) : Type 0 where
@@ -62,3 +62,13 @@ column_half m thick c = record { along = delc_at m c; hk = hk_at m c; hani = han
 
 abbrev pub layer_half : FlowModel → (ℕ → Span) → ℕ → VertHalf
 layer_half m thick c = record { hk = hk_at m c; vka = vka_at m c; ratio = is_ratio m c; thick_lo = (thick c).lo; thick_hi = (thick c).hi }
+
+-- Thicknesses of cells and of confining beds, each known between two decimals of 18 digits.
+-- for each cell its thickness, and that of the bed below it
+pub record Thicknesses : Type 0 where
+  pub thick : ℕ → Span
+  pub bed : ℕ → Span
+
+-- the thicknesses of a model's active cells, and of the beds between two of them
+abbrev pub AreThicknesses : FlowModel → Thicknesses → Type 0
+AreThicknesses m w = AreSpanned m w.thick w.bed

@@ -1,22 +1,20 @@
 // The branches of a cell to its neighbours.
-ghost use Rattle.std.specs.Prelude.{◌≡◌, ◌<◌, All, IfOk};
+ghost use Rattle.std.specs.Prelude.{◌≡◌, ◌<◌, All, IfOk, ◌++◌};
 ghost use Rattle.std.specs.List.{AllZip, filter_map};
-ghost use Rattle.model_types.specs.Cells.{cell_count};
-ghost use Rattle.model_types.specs.Faces.{through};
-ghost use Rattle.model_types.specs.Kinds.{is_variable, is_constant};
+ghost use Rattle.model_types.specs.Faces.{cell_count, through};
+ghost use Rattle.model_types.specs.Heads.{is_variable, is_constant};
 ghost use Rattle.model_types.specs.Sources.{variable_faces, constant_faces};
 ghost use Rattle.problem_builder.specs.Cells.{IsLink, IsConstant};
 ghost use Rattle.problem_builder.specs.Made.{IsVariableCell, HasPair};
 ghost use Rattle.problem_builder.specs.Tables.{AreInputs, pair_at, widths_of};
 ghost use Rattle.problem_builder.specs.Filled.{BothOrNone};
+ghost use Rattle.std.specs.Option.{option_to_list};
 
 use crate::input::StepInput;
-use crate::known::known_head;
-use crate::pushing::push_some;
-use conductance_bounds::Pair;
+use conductance_bounds::{FlowPair, Pair};
 use model_types::{Axis, Face};
 use std::alloc::{AllocError, Global};
-use step_problem::{Fixed, FixedKind, Link};
+use step_problem::{Bound, Fixed, FixedKind, Flow, FlowKind, Link};
 
 // The bounds of a face's conductance.
 fn face_pair(input: &StepInput, face: Face) -> Pair
@@ -128,4 +126,46 @@ pub fn constants(alloc: Global, input: &StepInput, cell: u32) -> Result<Vec<Fixe
 {
     let faces = input.model.grid.faces(cell);
     constants_through(alloc, input, &faces)
+}
+
+// Entries from their bounds.
+
+/// A branch to a known head.
+pub fn known_head(kind: FixedKind, source: u32, pair: Pair, head: Bound) -> Fixed
+    ensures { result ≡ record { kind = kind; source = source; lo = pair.lo; hi = pair.hi; head_lo = head.low; head_hi = head.high } }
+{
+    Fixed {
+        kind,
+        source,
+        lo: pair.lo,
+        hi: pair.hi,
+        head_lo: head.low,
+        head_hi: head.high,
+    }
+}
+
+/// A flow that no head changes.
+pub fn constant_flow(kind: FlowKind, pair: FlowPair) -> Flow
+    ensures { result ≡ record { kind = kind; lo = pair.lo; hi = pair.hi } }
+{
+    Flow {
+        kind,
+        lo: pair.lo,
+        hi: pair.hi,
+    }
+}
+
+// Appending optional items.
+
+/// Appends an item, if there is one. Most lists get one item, so the first one has no room for more beside it.
+pub fn push_some<T: Copy>(items: &mut Vec<T>, item: Option<T>) -> Result<(), AllocError>
+    ensures { IfOk result (λ _. items.new.items ≡ items.old.items ++ option_to_list item) }
+{
+    if let Some(item) = item {
+        if items.is_empty() {
+            items.reserve_exact(1)?;
+        }
+        items.push(item)?;
+    }
+    Ok(())
 }

@@ -1,22 +1,22 @@
 // The problem of a step, cell by cell.
 ghost use Rattle.std.specs.Prelude.{◌≡◌, ◌<◌, ◌≤◌, ℕ, false, Contains, IfOk, IfErr, map};
-ghost use Rattle.model_types.specs.Cells.{cell_count};
+ghost use Rattle.model_types.specs.Faces.{cell_count};
 ghost use Rattle.decimal_input.specs.Fractions.{Fraction};
 ghost use Rattle.cell_balance.specs.Enclosures.{EnclosesStep};
-ghost use Rattle.model_types.specs.Kinds.{is_variable, variable_cells};
+ghost use Rattle.model_types.specs.Heads.{is_variable, variable_cells};
 ghost use Rattle.model_types.specs.Times.{times, period_at};
 ghost use Rattle.model_types.specs.Valid.{IsModel};
 ghost use Rattle.flow_equations.specs.ExactStep.{exact_step};
 ghost use Rattle.problem_builder.specs.GridHeads.{AreGridHeads, HeadsEnclose, IsActive, IsNamed};
 ghost use Rattle.problem_builder.specs.Problems.{AreCells, IsProblemOf, IsBuildFault};
-ghost use Rattle.problem_builder.specs.Stored.{HasOldHeads};
+ghost use Rattle.problem_builder.specs.StepTables.{HasOldHeads};
 ghost use Rattle.problem_builder.specs.Made.{IsVariableCell, IsCheckedCell, IsCellFault, IsFirstFault};
 ghost use Rattle.problem_builder.specs.Tables.{AreInputs, AreTables, ArePeriodTables, AreStepTables, AreEvenStorages, span_in, widths_of};
 
 use crate::cell::cell;
 use crate::fault::{BuildFault, fault};
+use crate::index::PeriodTables;
 use crate::input::StepInput;
-use crate::period::PeriodTables;
 use crate::step::StepTables;
 use crate::tables::Tables;
 use model_types::{FlowModel, TimeStep};

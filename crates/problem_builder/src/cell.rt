@@ -8,10 +8,8 @@ ghost use Rattle.problem_builder.specs.Made.{IsVariableCell};
 ghost use Rattle.problem_builder.specs.Tables.{AreInputs, widths_of};
 ghost use Rattle.problem_builder.specs.Filled.{BothOrNone};
 
-use crate::branches::{constants, links};
+use crate::branches::{constant_flow, constants, links, push_some};
 use crate::input::StepInput;
-use crate::known::constant_flow;
-use crate::pushing::push_some;
 use crate::stored::stored_branch;
 use std::alloc::{AllocError, Global};
 use step_problem::{Cell, Evap, Fixed, Flow, FlowKind};

@@ -1,6 +1,6 @@
 // The cells that receive recharge, and those that evaporate.
 ghost use Rattle.std.specs.Prelude.{◌≡◌, ◌+◌, ◌<◌, ◌==◌, ◌&&◌, ◌||◌, false, IfOk};
-ghost use Rattle.model_types.specs.Cells.{cell_count, layer_of, place_in_layer};
+ghost use Rattle.model_types.specs.Faces.{cell_count, layer_of, place_in_layer};
 ghost use Rattle.model_types.specs.Grids.{HasSize};
 ghost use Rattle.model_types.specs.Layers.{int_at, is_active};
 ghost use Rattle.model_types.specs.Receivers.{is_int, is_highest, is_chosen};

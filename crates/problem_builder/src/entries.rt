@@ -7,9 +7,8 @@ ghost use Rattle.problem_builder.specs.Cells.{IsRiver, IsDrain};
 ghost use Rattle.problem_builder.specs.LocalBounds.{AreLocalBounds, IsWellSource, IsGeneralSource, no_bounds};
 ghost use Rattle.problem_builder.specs.Filled.{BothOrNone};
 
-use crate::known::{constant_flow, known_head};
-use crate::pushing::push_some;
-use crate::rounded::{cond_pair, head_pair, well_pair};
+use crate::branches::{constant_flow, known_head, push_some};
+use crate::start::{cond_pair, head_pair, well_pair};
 use model_types::Entry;
 use std::alloc::{AllocError, Global};
 use std::marker::Model;

@@ -1,8 +1,8 @@
 // Evapotranspiration, by cell.
 ghost use Rattle.std.specs.Prelude.{◌≡◌, ◌<◌, ◌≤◌, ◌-ℤ◌, false, IfOk, None, length};
-ghost use Rattle.decimal_input.specs.Canonical.{number};
+ghost use Rattle.decimal_input.specs.Decimals.{number};
 ghost use Rattle.step_problem.specs.Conditions.{IsHead};
-ghost use Rattle.model_types.specs.Cells.{cell_count};
+ghost use Rattle.model_types.specs.Faces.{cell_count};
 ghost use Rattle.model_types.specs.Layers.{is_active};
 ghost use Rattle.model_types.specs.Receivers.{is_highest, evaporates, evap_source};
 ghost use Rattle.model_types.specs.Valid.{IsModel, IsEvapValid};
@@ -12,7 +12,7 @@ ghost use Rattle.problem_builder.specs.PeriodTables.{IsCovered, IsEvaporated};
 
 use crate::chosen::{is_chosen, is_uncovered};
 use crate::periods::stress_period;
-use crate::rounded::{capped_pair, depth_pair, head_pair};
+use crate::start::{capped_pair, depth_pair, head_pair};
 use conductance_bounds::{Pair, evap_branch};
 use decimal_input::dec::Dec;
 use model_types::layers::dec_at;

@@ -5,16 +5,15 @@ ghost use Rattle.conductance_bounds.specs.Calls.{IsHalf, IsColHalf, IsVertHalf};
 ghost use Rattle.conductance_bounds.specs.Pairs.{IsCapped};
 ghost use Rattle.conductance_bounds.specs.Formulas.{face_term};
 ghost use Rattle.model_types.specs.declared.face.Axis.TheVariants.{Row, Column, Vertical};
-ghost use Rattle.model_types.specs.Cells.{cell_count};
+ghost use Rattle.model_types.specs.Faces.{cell_count, has_after, stride};
 ghost use Rattle.model_types.specs.Grids.{HasSize};
-ghost use Rattle.model_types.specs.Faces.{has_after, stride};
 ghost use Rattle.model_types.specs.Layers.{is_active, is_ratio};
 ghost use Rattle.model_types.specs.Valid.{IsModel};
 ghost use Rattle.problem_builder.specs.Filled.{Filled};
 ghost use Rattle.problem_builder.specs.Tables.{no_span, no_pair, span_in};
 ghost use Rattle.problem_builder.specs.Widths.{IsThickness, IsBedBelow, IsBranch, HasConductance, row_half, column_half, layer_half};
 
-use crate::rounded::capped_pair;
+use crate::start::capped_pair;
 use conductance_bounds::{
     Bed, ColHalf, Half, Pair, Span, VertHalf, col_branch, row_branch, vert_branch,
 };

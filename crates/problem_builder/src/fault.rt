@@ -2,7 +2,7 @@
 ghost use Rattle.std.specs.Prelude.{◌≡◌, ◌==◌, ◌&&◌, All};
 ghost use Rattle.std.specs.List.{list_any};
 ghost use Rattle.step_problem.specs.Conditions.{RiverFits, EvapFits};
-ghost use Rattle.problem_builder.specs.Refusals.{fault_of, is_branch};
+ghost use Rattle.problem_builder.specs.Problems.{fault_of, is_branch};
 ghost use Rattle.problem_builder.specs.declared.fault.BuildFault.TheVariants.{Memory};
 
 use std::alloc::{AllocError, AllocFailed};
@@ -57,7 +57,7 @@ fn is_small_constant(x: &Fixed) -> bool
 }
 
 /// The number of the first refusal of a cell, if it has one.
-#[tactic(auto, unfolding(crate::specs::Refusals::fault_of))]
+#[tactic(auto, unfolding(crate::specs::Problems::fault_of))]
 pub fn fault(cell: &Cell) -> Option<u8>
     requires rivers { All RiverFits cell.now.rivers }
     requires evaps { All EvapFits cell.now.evaps }

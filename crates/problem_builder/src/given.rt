@@ -1,16 +1,16 @@
 // Heads that CHD lists give, and heads that constant-head cells keep.
 ghost use Rattle.std.specs.Prelude.{◌≡◌, ◌<◌, All, None, IfOk, IfSome, take};
 ghost use Rattle.step_problem.specs.Heads.{no_bound};
-ghost use Rattle.model_types.specs.Cells.{cell_count};
+ghost use Rattle.model_types.specs.Faces.{cell_count};
 ghost use Rattle.model_types.specs.Layers.{dec_at};
-ghost use Rattle.model_types.specs.Numbers.{IsHeadNumber};
-ghost use Rattle.model_types.specs.Kinds.{given_heads, last_given};
+ghost use Rattle.model_types.specs.Grids.{IsHeadNumber};
+ghost use Rattle.model_types.specs.Heads.{given_heads, last_given};
 ghost use Rattle.model_types.specs.Valid.{IsModel};
-ghost use Rattle.problem_builder.specs.ConstantHeads.{IsKeptPair};
+ghost use Rattle.problem_builder.specs.GridHeads.{IsKeptPair};
 ghost use Rattle.problem_builder.specs.Filled.{Filled};
 ghost use Rattle.problem_builder.specs.PeriodTables.{IsNamed, IsKept};
 
-use crate::rounded::{NO_BOUND, head_pair};
+use crate::start::{NO_BOUND, head_pair};
 use model_types::layers::dec_at;
 use model_types::{FlowModel, Given, GivenHeads, Optional};
 use std::alloc::{AllocError, Global};

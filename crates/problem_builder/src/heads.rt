@@ -1,18 +1,17 @@
 // The heads of constant-head cells at a time.
 ghost use Rattle.std.specs.Prelude.{◌≡◌, ℕ, ◌<◌, ◌≤◌, ◌^◌, true, IfOk};
 ghost use Rattle.conductance_bounds.specs.Parts.{IsGivenPair};
-ghost use Rattle.model_types.specs.Cells.{cell_count};
-ghost use Rattle.model_types.specs.Kinds.{is_constant};
-ghost use Rattle.model_types.specs.Numbers.{IsHeadNumber};
+ghost use Rattle.model_types.specs.Faces.{cell_count};
+ghost use Rattle.model_types.specs.Heads.{is_constant};
+ghost use Rattle.model_types.specs.Grids.{IsHeadNumber};
 ghost use Rattle.model_types.specs.Valid.{IsModel};
-ghost use Rattle.problem_builder.specs.ConstantHeads.{IsConstantPair, HasConstantHead, AreConstantHeads};
-ghost use Rattle.problem_builder.specs.Moments.{IsTimeOf};
-ghost use Rattle.problem_builder.specs.StepTables.{IsPartOf};
+ghost use Rattle.problem_builder.specs.GridHeads.{IsConstantPair, HasConstantHead, AreConstantHeads};
+ghost use Rattle.problem_builder.specs.StepTables.{IsTimeOf, IsPartOf};
 ghost use Rattle.problem_builder.specs.Tables.{ArePeriodTables};
 
-use crate::period::PeriodTables;
+use crate::index::PeriodTables;
 use crate::periods::stress_period;
-use crate::rounded::{NO_BOUND, bound_of};
+use crate::start::{NO_BOUND, bound_of};
 use conductance_bounds::{Part, given_head, time_part};
 use decimal_input::dec::Dec;
 use model_types::{FlowModel, Kind, TimeStep};

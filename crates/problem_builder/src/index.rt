@@ -1,14 +1,26 @@
 // Kinds of cells, and the indices of the variable ones.
-ghost use Rattle.std.specs.Prelude.{◌≡◌, ◌<◌, IfOk};
-ghost use Rattle.model_types.specs.declared.kind.Kind.TheVariants.{NoFlow};
-ghost use Rattle.model_types.specs.Cells.{cell_count};
+ghost use Rattle.std.specs.Prelude.{◌≡◌, ◌<◌, IfOk, ◌+◌, ◌≤◌, length, slice_index_or};
+ghost use Rattle.model_types.specs.declared.given_heads.Kind.TheVariants.{NoFlow};
+ghost use Rattle.model_types.specs.Faces.{cell_count};
 ghost use Rattle.model_types.specs.Grids.{HasSize};
-ghost use Rattle.model_types.specs.Kinds.{is_variable, given_heads};
+ghost use Rattle.model_types.specs.Heads.{is_variable, given_heads};
 ghost use Rattle.problem_builder.specs.Filled.{Filled};
 ghost use Rattle.problem_builder.specs.PeriodTables.{IsIndex};
+ghost use Rattle.model_types.specs.Valid.{IsModel};
+ghost use Rattle.problem_builder.specs.Tables.{AreTables, ArePeriodTables, AreEvenStorages, bound_in, item_in, span_in};
 
-use model_types::{FlowModel, GivenHeads, Kind};
+use crate::chosen::cover_flags;
+use crate::evaporation::evaps;
+use crate::given::{kept_heads, last_entries};
+use crate::local::Local;
+use crate::periods::{given_before, stress_period};
+use crate::recharge::recharges;
+use crate::storages::even_storages;
+use crate::tables::Tables;
+use conductance_bounds::{FlowPair, Pair};
+use model_types::{FlowModel, Given, GivenHeads, Kind, Listed, Optional};
 use std::alloc::{AllocError, Global};
+use step_problem::{Bound, Evap};
 
 fn is_variable(model: &FlowModel, given: &GivenHeads, cell: u32) -> bool
     requires given { given.now ≡ given_heads model.now given.now.period }
@@ -38,4 +50,120 @@ pub fn indices(alloc: Global, model: &FlowModel, given: &GivenHeads) -> Result<V
         }
     }
     Ok(indices)
+}
+
+// The tables that all time steps of a stress period share.
+
+/// The data that depend on the stress period alone, by cell: its kind, its index if it is variable, what the period's
+/// CHD list gives, the head that a constant-head cell keeps, the bounds of its entries, of the recharge that it
+/// receives, in units of 10^-(s+9), and of its evapotranspiration; and where all steps are equally long, its storage.
+#[derive(Drop)]
+pub struct PeriodTables {
+    pub period: u32,
+    pub steady: bool,
+    pub kinds: Listed<Kind>,
+    pub index: Listed<u32>,
+    pub given: Optional<Given>,
+    pub kept: Listed<Bound>,
+    pub local: Local,
+    pub recharge: Optional<FlowPair>,
+    pub evaps: Optional<Evap>,
+    pub storage: Option<Listed<Pair>>,
+}
+
+impl PeriodTables {
+    /// The tables of the stress period after `given`, with the digits of the run's tables.
+    pub fn new(
+        alloc: Global,
+        model: &FlowModel,
+        tables: &Tables,
+        given: &GivenHeads,
+    ) -> Result<PeriodTables, AllocError>
+        requires model { IsModel model.now }
+        requires digits { tables.now.digits ≤ 18 }
+        requires tables { AreTables model.now tables.now.digits tables.now }
+        requires given { given.now ≡ given_heads model.now given.now.period }
+        requires period { given.now.period < length model.now.periods }
+        ensures tables { IfOk result (ArePeriodTables model.now tables.now.digits (given.now.period + 1)) }
+        ensures storage { IfOk result
+            (λ t. AreEvenStorages model.now (span_in tables.now.thick) tables.now.digits (given.now.period + 1) t.storage) }
+    {
+        let s = tables.digits;
+        let next = given.next(alloc, model)?;
+        let number = next.period;
+        let kinds = next.kinds(alloc, model)?;
+        let storage = even_storages(alloc, model, tables, kinds.as_slice(), number)?;
+        let index = indices(alloc, model, &next)?;
+        let kept = kept_heads(alloc, model, given)?;
+        let covered = cover_flags(alloc, model)?;
+        let recharge = recharges(alloc, model, covered.as_slice(), number, s)?;
+        let evaps = evaps(alloc, model, covered.as_slice(), number, s)?;
+        let period = stress_period(model, number);
+        let count = model.grid.cell_count();
+        let given = last_entries(alloc, period.stresses.given.as_slice(), count)?;
+        let local = Local::of_period(alloc, period, count, s)?;
+        Ok(PeriodTables {
+            period: number,
+            steady: period.steady,
+            kinds: Listed::new(kinds),
+            index: Listed::new(index),
+            given,
+            kept: Listed::new(kept),
+            local,
+            recharge,
+            evaps,
+            storage,
+        })
+    }
+
+    /// The tables of a stress period, counted from 1. It reads the CHD lists up to the period.
+    pub fn at(
+        alloc: Global,
+        model: &FlowModel,
+        tables: &Tables,
+        period: u32,
+    ) -> Result<PeriodTables, AllocError>
+        requires model { IsModel model.now }
+        requires digits { tables.now.digits ≤ 18 }
+        requires tables { AreTables model.now tables.now.digits tables.now }
+        requires period { (1 ≤ period) × (period ≤ length model.now.periods) }
+        ensures tables { IfOk result (ArePeriodTables model.now tables.now.digits period) }
+        ensures storage { IfOk result
+            (λ t. AreEvenStorages model.now (span_in tables.now.thick) tables.now.digits period t.storage) }
+    {
+        let given = given_before(alloc, model, period)?;
+        PeriodTables::new(alloc, model, tables, &given)
+    }
+
+    /// The kind of a cell.
+    pub fn kind_at(&self, cell: u32) -> Kind
+        requires { cell < length self.now.kinds }
+        ensures { result ≡ slice_index_or self.now.kinds cell NoFlow }
+    {
+        self.kinds.as_slice()[cell as usize]
+    }
+
+    /// The index of a variable cell among the variable cells.
+    pub fn index_at(&self, cell: u32) -> u32
+        requires { cell < length self.now.index }
+        ensures { result ≡ slice_index_or self.now.index cell 0 }
+    {
+        self.index.as_slice()[cell as usize]
+    }
+
+    /// The entry of the period's CHD list that names a cell.
+    pub fn given_at(&self, cell: u32) -> Option<Given>
+        requires { cell < length self.now.given }
+        ensures { result ≡ item_in self.now.given cell }
+    {
+        self.given.at(cell)
+    }
+
+    /// The head that a constant-head cell keeps.
+    pub fn kept_at(&self, cell: u32) -> Bound
+        requires { cell < length self.now.kept }
+        ensures { result ≡ bound_in self.now.kept cell }
+    {
+        self.kept.as_slice()[cell as usize]
+    }
 }

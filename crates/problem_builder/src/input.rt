@@ -1,13 +1,13 @@
 // The data from which a step's cells are made.
 ghost use Rattle.std.specs.Prelude.{◌≡◌, ◌<◌};
-ghost use Rattle.model_types.specs.Cells.{cell_count};
-ghost use Rattle.model_types.specs.Kinds.{kind_of, is_variable, is_constant, index_of};
+ghost use Rattle.model_types.specs.Faces.{cell_count};
+ghost use Rattle.model_types.specs.Heads.{kind_of, is_variable, is_constant, index_of};
 ghost use Rattle.model_types.specs.Times.{period_at};
 ghost use Rattle.problem_builder.specs.LocalBounds.{local_in};
 ghost use Rattle.problem_builder.specs.Tables.{AreInputs, bound_in, item_in};
 
 use crate::entries::CellEntries;
-use crate::period::PeriodTables;
+use crate::index::PeriodTables;
 use crate::step::StepTables;
 use crate::tables::Tables;
 use conductance_bounds::FlowPair;

@@ -1,6 +1,6 @@
 // Stress periods by their numbers, and the heads that CHD lists have given up to them.
 ghost use Rattle.std.specs.Prelude.{◌≡◌, ◌+◌, ◌≤◌, IfOk, length};
-ghost use Rattle.model_types.specs.Kinds.{given_heads};
+ghost use Rattle.model_types.specs.Heads.{given_heads};
 ghost use Rattle.model_types.specs.Times.{period_at};
 ghost use Rattle.model_types.specs.Valid.{IsModel};
 

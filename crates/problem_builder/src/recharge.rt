@@ -1,7 +1,7 @@
 // Recharge, by cell.
 ghost use Rattle.std.specs.Prelude.{◌≡◌, ◌<◌, ◌≤◌, false, IfOk, IfSome, None, length};
-ghost use Rattle.decimal_input.specs.Canonical.{IsDec};
-ghost use Rattle.model_types.specs.Cells.{cell_count};
+ghost use Rattle.decimal_input.specs.Decimals.{IsDec};
+ghost use Rattle.model_types.specs.Faces.{cell_count};
 ghost use Rattle.model_types.specs.Receivers.{is_highest, recharge_at};
 ghost use Rattle.model_types.specs.Valid.{IsModel};
 ghost use Rattle.problem_builder.specs.Filled.{Filled};
@@ -10,7 +10,7 @@ ghost use Rattle.problem_builder.specs.InputBounds.{IsRechargePair};
 
 use crate::chosen::{is_chosen, is_uncovered};
 use crate::periods::stress_period;
-use crate::rounded::capped_flow;
+use crate::start::capped_flow;
 use conductance_bounds::{FlowPair, recharge_flow};
 use decimal_input::dec::Dec;
 use model_types::layers::dec_at;

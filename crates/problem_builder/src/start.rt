@@ -1,15 +1,23 @@
 // The heads before the first time step.
-ghost use Rattle.std.specs.Prelude.{◌<◌, IfOk};
+ghost use Rattle.std.specs.Prelude.{◌<◌, IfOk, ◌≡◌, ℕ, ◌≤◌, Bool};
 ghost use Rattle.step_problem.specs.Heads.{no_bound};
-ghost use Rattle.model_types.specs.Cells.{cell_count};
+ghost use Rattle.model_types.specs.Faces.{cell_count};
 ghost use Rattle.model_types.specs.Heads.{start_head};
 ghost use Rattle.model_types.specs.Valid.{IsModel};
 ghost use Rattle.problem_builder.specs.Filled.{Filled};
-ghost use Rattle.problem_builder.specs.GridHeads.{AreGridHeads, HeadsEnclose};
-ghost use Rattle.problem_builder.specs.StartHeads.{AreStartHeads};
+ghost use Rattle.problem_builder.specs.GridHeads.{AreGridHeads, HeadsEnclose, AreStartHeads};
 ghost use Rattle.problem_builder.specs.Made.{IsStartInRange};
+ghost use Rattle.decimal_input.specs.Decimals.{IsDec};
+ghost use Rattle.conductance_bounds.specs.Pairs.{IsWholePair, IsCapped, IsFlowPair, IsCappedFlow};
+ghost use Rattle.conductance_bounds.specs.Terms.{Term};
+ghost use Rattle.step_problem.specs.Conditions.{IsHead};
+ghost use Rattle.model_types.specs.Grids.{IsNotNegative, IsHeadNumber};
+ghost use Rattle.problem_builder.specs.InputBounds.{IsDepth, IsCond, IsWellPair, IsHeadPair};
 
-use crate::rounded::{NO_BOUND, head_pair};
+use conductance_bounds::{
+    FlowPair, HeadPair, Pair, head_bounds, number_flow, number_pair, whole_bounds,
+};
+use decimal_input::dec::Dec;
 use model_types::FlowModel;
 use model_types::layers::dec_at;
 use std::alloc::{AllocError, Global};
@@ -50,3 +58,81 @@ pub fn start_heads(alloc: Global, model: &FlowModel) -> Result<Vec<Bound>, Alloc
     let bounds = bounds_of(alloc, model)?;
     Ok(bounds)
 }
+
+// Numbers of the input as whole bounds.
+
+/// The pair in place of a conductance whose upper bound reaches 2^60 units.
+const PAST: Pair = Pair { lo: 1, hi: 1 << 60 };
+
+/// The pair in place of a flow with a magnitude that reaches 2^126 units.
+const PAST_FLOW: FlowPair = FlowPair {
+    lo: 1 << 109,
+    hi: 1 << 109,
+};
+
+/// The pair, or the pair (1, 2^60) that a table keeps in place of one that reaches 2^60 units.
+pub fn capped_pair(pair: Option<Pair>) -> Pair
+    ensures { (t : Term) (s : ℕ) → IsWholePair t s pair → IsCapped t s result.lo result.hi }
+{
+    match pair {
+        Some(pair) => pair,
+        None => PAST,
+    }
+}
+
+/// The pair, or that which a table keeps in place of one with a magnitude that reaches 2^126 units.
+pub fn capped_flow(pair: Option<FlowPair>) -> FlowPair
+    ensures { (t : Term) (neg : Bool) (s : ℕ) → IsFlowPair t neg s pair → IsCappedFlow t neg s result.lo result.hi }
+{
+    match pair {
+        Some(pair) => pair,
+        None => PAST_FLOW,
+    }
+}
+
+/// The bounds of a conductance of an entry.
+pub fn cond_pair(cond: Dec, s: u32) -> Pair
+    requires cond { IsNotNegative cond }
+    ensures { IsCond s cond result.lo result.hi }
+{
+    capped_pair(number_pair(cond, s))
+}
+
+/// The bounds of a well's flow.
+pub fn well_pair(q: Dec, s: u32) -> FlowPair
+    requires q { IsDec q }
+    requires places { s ≤ 18 }
+    ensures { IsWellPair s q result.lo result.hi }
+{
+    capped_flow(number_flow(q, s))
+}
+
+/// The bounds of a head of the input.
+pub fn head_pair(head: Dec) -> Bound
+    requires head { IsHeadNumber head }
+    ensures is { IsHeadPair head result.low result.high }
+    ensures range { IsHead result.low × IsHead result.high }
+{
+    bound_of(head_bounds(head))
+}
+
+/// The bounds of an extinction depth.
+pub fn depth_pair(depth: Dec) -> Bound
+    requires depth { IsDepth depth }
+    ensures { IsHeadPair depth result.low result.high }
+{
+    bound_of(whole_bounds(depth))
+}
+
+/// A pair of heads as a bound.
+pub fn bound_of(pair: HeadPair) -> Bound
+    ensures { result ≡ record { low = pair.lo; high = pair.hi } }
+{
+    Bound {
+        low: pair.lo,
+        high: pair.hi,
+    }
+}
+
+/// The bounds of the head of a cell that has none.
+pub const NO_BOUND: Bound = Bound { low: 0, high: 0 };

@@ -5,7 +5,7 @@ ghost use Rattle.model_types.specs.Valid.{IsModel};
 ghost use Rattle.problem_builder.specs.Tables.{ArePeriodTables, AreStepTables};
 
 use crate::heads::constant_heads;
-use crate::period::PeriodTables;
+use crate::index::PeriodTables;
 use crate::storages::factors_of;
 use conductance_bounds::Factors;
 use model_types::{FlowModel, Listed, TimeStep};

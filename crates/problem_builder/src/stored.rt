@@ -6,9 +6,9 @@ ghost use Rattle.problem_builder.specs.StepTables.{HasStorage};
 ghost use Rattle.problem_builder.specs.Tables.{AreInputs, span_in, widths_of};
 ghost use Rattle.problem_builder.specs.Filled.{BothOrNone};
 
+use crate::branches::known_head;
 use crate::faces::NO_PAIR;
 use crate::input::StepInput;
-use crate::known::known_head;
 use crate::storages::storage_at;
 use conductance_bounds::Pair;
 use step_problem::{Fixed, FixedKind};

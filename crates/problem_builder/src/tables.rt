@@ -1,12 +1,16 @@
 // The tables that all time steps of a run share.
-ghost use Rattle.std.specs.Prelude.{◌≤◌, IfOk};
+ghost use Rattle.std.specs.Prelude.{◌≤◌, IfOk, ◌≡◌, ◌+◌, ◌<◌, ◌↔◌, true, false, IsTrue};
 ghost use Rattle.model_types.specs.Valid.{IsModel};
-ghost use Rattle.problem_builder.specs.Tables.{AreTables};
+ghost use Rattle.problem_builder.specs.Tables.{AreTables, no_span};
+ghost use Rattle.model_types.specs.Faces.{cell_count, layer_size};
+ghost use Rattle.model_types.specs.Layers.{is_active, has_bed, lowest, bottom_at, bed_thickness};
+ghost use Rattle.problem_builder.specs.Filled.{Filled};
+ghost use Rattle.problem_builder.specs.Widths.{IsThickness, IsBedBelow};
 
 use crate::faces::pairs;
-use crate::widths::{beds, thicknesses};
-use conductance_bounds::{Pair, Span};
+use conductance_bounds::{Pair, Span, thickness};
 use model_types::{Axis, FlowModel, Listed};
+use scaled_decimal::Sd;
 use std::alloc::{AllocError, Global};
 
 /// The data that depend on a model and the number of digits alone, made once a run: for each cell its thickness and
@@ -57,4 +61,82 @@ impl Tables {
             vertical: Listed::new(vertical),
         })
     }
+}
+
+// Thicknesses of cells and of the beds below them.
+
+/// The decimals of a missing thickness.
+pub const NO_SPAN: Span = Span {
+    lo: Sd { m: 0, e: 0 },
+    hi: Sd { m: 0, e: 0 },
+};
+
+fn thickness_at(model: &FlowModel, cell: u32) -> Span
+    requires model { IsModel model.now }
+    requires cell { cell < cell_count model.now.grid }
+    ensures { IsThickness model.now cell result }
+{
+    if model.is_active(cell) {
+        thickness(model.top_at(cell), model.bottom_at(cell))
+    } else {
+        NO_SPAN
+    }
+}
+
+/// The thicknesses of all cells.
+pub fn thicknesses(alloc: Global, model: &FlowModel) -> Result<Vec<Span>, AllocError>
+    requires { IsModel model.now }
+    ensures { IfOk result (λ v. Filled (IsThickness model.now) no_span (cell_count model.now.grid) v.items) }
+{
+    let mut spans = Vec::new(alloc);
+    let count = model.grid.cell_count();
+    for cell in 0..count {
+        spans.push(thickness_at(model, cell))?;
+    }
+    Ok(spans)
+}
+
+// Whether both cells of a vertical branch are active.
+fn is_branch_below(model: &FlowModel, cell: u32) -> bool
+    requires model { IsModel model.now }
+    requires cell { cell < cell_count model.now.grid }
+    ensures { IsTrue result ↔ ((cell + layer_size model.now.grid < cell_count model.now.grid)
+        × (is_active model.now cell ≡ true) × (is_active model.now (cell + layer_size model.now.grid) ≡ true)) }
+{
+    let below = cell + model.grid.layer_size();
+    below < model.grid.cell_count() && model.is_active(cell) && model.is_active(below)
+}
+
+// Whether the bed below a cell has a thickness.
+fn has_bed(model: &FlowModel, cell: u32) -> bool
+    requires model { IsModel model.now }
+    ensures bed { IsTrue result → (has_bed model.now cell ≡ true) × (lowest model.now cell ≡ bottom_at model.now cell → ⊥) }
+    ensures none { result ≡ false → (bed_thickness model.now cell).num ≡ 0 }
+{
+    model.has_bed(cell) && model.lowest(cell) != model.bottom_at(cell)
+}
+
+fn bed_at(model: &FlowModel, cell: u32) -> Span
+    requires model { IsModel model.now }
+    requires cell { cell < cell_count model.now.grid }
+    ensures { IsBedBelow model.now cell result }
+{
+    if is_branch_below(model, cell) && has_bed(model, cell) {
+        thickness(model.bottom_at(cell), model.lowest(cell))
+    } else {
+        NO_SPAN
+    }
+}
+
+/// The thicknesses of the beds below all cells.
+pub fn beds(alloc: Global, model: &FlowModel) -> Result<Vec<Span>, AllocError>
+    requires { IsModel model.now }
+    ensures { IfOk result (λ v. Filled (IsBedBelow model.now) no_span (cell_count model.now.grid) v.items) }
+{
+    let mut spans = Vec::new(alloc);
+    let count = model.grid.cell_count();
+    for cell in 0..count {
+        spans.push(bed_at(model, cell))?;
+    }
+    Ok(spans)
 }

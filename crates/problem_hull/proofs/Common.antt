@@ -5,12 +5,12 @@ pub use Rattle.std.proofs.lemmas.Bool.Decides.{nat_tests}
 pub use Rattle.std.proofs.lemmas.Int.{clamps, ints}
 pub use Rattle.std.proofs.lemmas.List.{get_or-map, get_or_default, take_more}
 pub use Rattle.std.specs.Int.{int_max, int_min}
-pub use Rattle.problem_hull.specs.Hulls.{IsCellHull, IsDrainHull, IsEvapHull, IsFixedHull, IsFlowHull, IsHull, IsHullPair, IsHullSize, IsLinkHull, IsRiverHull}
+pub use Rattle.problem_hull.specs.Hulls.{AllThree, IsCellHull, IsDrainHull, IsEvapHull, IsFixedHull, IsFlowHull, IsHull, IsHullPair, IsHullSize, IsLinkHull}
+pub use Rattle.problem_hull.specs.Hulls.{IsRiverHull}
+pub use Rattle.problem_hull.specs.Hulls.AllThree.{next, none}
 pub use Rattle.problem_hull.specs.Refusals.{IsFirstTooLarge, IsTooLarge, IsUnlike}
 unfoldable pub use Rattle.problem_hull.specs.Refusals.{sum_refusal}
 pub use Rattle.problem_hull.specs.Shapes.{AreAlike, cell_shape, drain_shape, evap_shape, fixed_shape, flow_shape, link_shape, river_shape}
-pub use Rattle.problem_hull.specs.Threes.{AllThree}
-pub use Rattle.problem_hull.specs.Threes.AllThree.{next, none}
 pub use Rattle.step_problem.specs.Conditions.{CellFits, DrainFits, EvapFits, FixedFits, IsHead, IsProblem, LinkFits, LinksFit, RiverFits, conductance_of}
 pub use Rattle.step_problem.specs.Conditions.{flow_of}
 pub use Rattle.step_problem.specs.Entries.{Entries, entries_at, link_at, no_entries}

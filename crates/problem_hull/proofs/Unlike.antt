@@ -1,7 +1,7 @@
 -- What two items lack in common, the lists that they stand in lack too.
 use Rattle.problem_hull.proofs.Common.{◌≡◌, ◌<◌, ℕ, List, length, get_or_default, Entries, entries_at, AreAlike, cell_shape, IsUnlike}
-use Rattle.problem_hull.specs.declared.fault.HullFault.{HullFault}
-use Rattle.problem_hull.specs.declared.fault.HullFault.TheVariants.{NotAlike, NoBound, Memory}
+use Rattle.problem_hull.specs.declared.problem.HullFault.{HullFault}
+use Rattle.problem_hull.specs.declared.problem.HullFault.TheVariants.{NotAlike, NoBound, Memory}
 use Rattle.problem_hull.proofs.Threes.{unlike_at}
 
 unlike_more : (A B : Type 0) → ((A → ⊥) → B → ⊥) → (e : HullFault) → IsUnlike A e → IsUnlike B e

@@ -1,6 +1,6 @@
 -- The hull of two problems that are alike: each number has the lesser of the two lower bounds and the greater of the
 -- two upper ones.
-use Rattle.std.specs.Prelude.{◌≡◌, ℕ, ℤ, List, min, max}
+use Rattle.std.specs.Prelude.{◌≡◌, ℕ, ℤ, List, min, max, [], ◌∷◌}
 use Rattle.std.specs.Int.{int_min, int_max}
 use Rattle.step_problem.specs.declared.entry.Link.{Link}
 use Rattle.step_problem.specs.declared.entry.Flow.{Flow}
@@ -9,7 +9,12 @@ use Rattle.step_problem.specs.declared.entry.River.{River}
 use Rattle.step_problem.specs.declared.entry.Drain.{Drain}
 use Rattle.step_problem.specs.declared.entry.Evap.{Evap}
 use Rattle.step_problem.specs.Entries.{Entries}
-use Rattle.problem_hull.specs.Threes.{AllThree}
+
+-- Three lists that are related place by place.
+-- The lists are equally long, and R holds of the three items at each place.
+pub data AllThree {X Y Z : Type 0} (R : X → Y → Z → Type 0) : List X → List Y → List Z → Type 0 where
+  none : AllThree R [] [] []
+  next : {x : X} {y : Y} {z : Z} {xs : List X} {ys : List Y} {zs : List Z} → R x y z → AllThree R xs ys zs → AllThree R (x ∷ xs) (y ∷ ys) (z ∷ zs)
 
 -- lo and hi are the hull of the bounds a, b and of c, d
 pub record IsHullPair (a b c d lo hi : ℤ) : Type 0 where

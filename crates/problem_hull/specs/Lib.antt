@@ -1,5 +1,3 @@
-pub mod Threes
 pub mod Shapes
 pub mod Hulls
 pub mod Refusals
-pub mod Laws

@@ -1,14 +1,14 @@
 -- Why two problems have no hull that is a problem.
-use Rattle.std.specs.Prelude.{◌≡◌, ℕ, ◌<◌, ◌^◌, nat_le, cond, List, length, Option, Some, None}
+use Rattle.std.specs.Prelude.{◌≡◌, ℕ, ◌<◌, ◌^◌, nat_le, cond, List, length, Option, Some, None, ◌↔◌}
 use Rattle.step_problem.specs.declared.heads.Side.TheVariants.{Low}
 use Rattle.step_problem.specs.declared.place.NoBound.{NoBound}
 use Rattle.step_problem.specs.declared.place.Place.TheVariants.{Cell}
 use Rattle.step_problem.specs.declared.refusal.StepRefusal.TheVariants.{ConductanceTooLarge, FlowTooLarge}
 use Rattle.step_problem.specs.StepRefusals.{number_of}
-use Rattle.step_problem.specs.Conditions.{conductance_of, flow_of}
+use Rattle.step_problem.specs.Conditions.{conductance_of, flow_of, IsProblem}
 use Rattle.step_problem.specs.Entries.{Entries, entries_at}
-use Rattle.problem_hull.specs.declared.fault.HullFault.{HullFault}
-use Rattle.problem_hull.specs.declared.fault.HullFault.TheVariants.{NotAlike, NoBound as Refused, Memory}
+use Rattle.problem_hull.specs.declared.problem.HullFault.{HullFault}
+use Rattle.problem_hull.specs.declared.problem.HullFault.TheVariants.{NotAlike, NoBound as Refused, Memory}
 use Rattle.problem_hull.specs.Shapes.{AreAlike}
 use Rattle.problem_hull.specs.Hulls.{IsHull}
 
@@ -43,3 +43,24 @@ abbrev pub IsUnlike : Type 0 → HullFault → Type 0
 IsUnlike alike NotAlike = alike → ⊥
 IsUnlike alike (Refused refusal) = ⊥
 IsUnlike alike Memory = Unit {0}
+
+-- Which problems have a hull; and two problems have one hull, or one refusal.
+-- two problems have a hull exactly where they are alike
+abbrev pub AlikeHaveAHull : Type 0
+AlikeHaveAHull = (p q : List Entries) → AreAlike p q ↔ ((r : List Entries) × IsHull p q r)
+
+-- and no other
+abbrev pub HullIsOne : Type 0
+HullIsOne = (p q r s : List Entries) → IsHull p q r → IsHull p q s → s ≡ r
+
+-- the hull of a problem and itself is that problem
+abbrev pub HullOfOne : Type 0
+HullOfOne = (p : List Entries) → IsHull p p p
+
+-- two problems whose hull is a problem have no refusal
+abbrev pub HullExcludesRefusal : Type 0
+HullExcludesRefusal = (p q r : List Entries) (refusal : NoBound) → IsHull p q r → IsProblem r → IsTooLarge p q refusal → ⊥
+
+-- two problems have at most one refusal
+abbrev pub RefusalIsOne : Type 0
+RefusalIsOne = (p q : List Entries) (a b : NoBound) → IsTooLarge p q a → IsTooLarge p q b → a ≡ b

@@ -1,10 +1,10 @@
 -- A constant-head cell has a pair at each time.
 use Rattle.problem_or_refusal.proofs.Common.{ℕ, ◌-◌, ◌^◌, inl, inr, Option, Some, None, refl, take, ℤ, min, cases_Bool, Dec, FlowModel, Period, TimeStep}
-use Rattle.problem_or_refusal.proofs.Common.{given_in, last_given, dec_at, period_at, IsTimed, part_term, IsPart, is_whole, blend, IsGivenPair}
+use Rattle.problem_or_refusal.proofs.Common.{given_in, last_given, dec_at, period_at, IsTimed, part_term, IsPart, is_whole, blend, IsGivenPair, IsKeptPair}
+use Rattle.problem_or_refusal.proofs.Common.{IsGivenOrKept, IsConstantPair}
 use Rattle.problem_or_refusal.proofs.Pairs.{pair_of}
 use Rattle.std.specs.Int.{int_min, int_max}
 use Rattle.model_types.specs.declared.entry.Given.{Given}
-use Rattle.problem_builder.specs.ConstantHeads.{IsKeptPair, IsGivenOrKept, IsConstantPair}
 use Rattle.problem_or_refusal.proofs.Formulas.{part_bounded}
 use Rattle.problem_or_refusal.proofs.Rounded.{signed_floor, signed_ceiling, head_pair, floor_over, ceiling_over}
 

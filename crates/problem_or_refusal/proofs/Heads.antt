@@ -1,8 +1,7 @@
 -- The pairs of constant-head cells exist, and the bounds of STRT.
 use Rattle.problem_or_refusal.proofs.Common.{◌≡◌, ℕ, ◌∙◌, Bool, true, false, refl, sym, subst, arith, map, range_with_len, false≢true, true≢false, Bound}
-use Rattle.problem_or_refusal.proofs.Common.{no_bound, FlowModel, cell_count, dec_at, is_active, time_of, ConstantPairsExist, StartHeadsExist}
+use Rattle.problem_or_refusal.proofs.Common.{no_bound, FlowModel, cell_count, dec_at, is_active, time_of, ConstantPairsExist, StartHeadsExist, IsStart}
 use Rattle.std.proofs.lemmas.List.FromFn.{length-map-range_with_len, get_or-map-range_with_len}
-use Rattle.problem_builder.specs.StartHeads.{IsStart}
 use Rattle.problem_or_refusal.proofs.ConstantHeads.{constant_pair}
 use Rattle.problem_or_refusal.proofs.Rounded.{head_pair}
 

@@ -5,8 +5,7 @@ use Rattle.problem_or_refusal.proofs.Common.{time_of, ProblemOrRefusal, add-one}
 use Rattle.step_problem.specs.declared.heads.Side.TheVariants.{Low}
 use Rattle.step_problem.specs.declared.place.NoBound.{NoBound}
 use Rattle.step_problem.specs.declared.place.Place.TheVariants.{Cell}
-use Rattle.problem_builder.specs.Problems.{AreCells, IsRefused, HasNoProblem}
-use Rattle.problem_builder.specs.Refusals.{fault_of}
+use Rattle.problem_builder.specs.Problems.{AreCells, IsRefused, HasNoProblem, fault_of}
 use Rattle.problem_builder.proofs.Steps.{no_cells, next_cell, next_none}
 use Rattle.problem_or_refusal.proofs.CellEntries.{a_cell}
 use Rattle.problem_or_refusal.proofs.Spans.{widths, are_widths}

@@ -1,11 +1,9 @@
 -- Each ratio has a greatest 18-digit decimal not above it, and a least one not below it.
 use Rattle.problem_or_refusal.proofs.Common.{◌≡◌, ℕ, zero, suc, ◌+◌, ◌*◌, ◌-◌, ◌/◌, ◌≤◌, ◌<◌, ◌^◌, inl, inr, refl, subst, arith, pos, negsuc, ◌+ℤ◌, pow-suc}
 use Rattle.problem_or_refusal.proofs.Common.{mul-le-mul_right, lt-mul-div-succ, div-mul-le_self, cases_lt, Ratio, den, AtMost, ten_pos, num_scaled, den_scaled}
-use Rattle.problem_or_refusal.proofs.Common.{Sd, value, IsDown, IsUp, zero_down, zero_up}
+use Rattle.problem_or_refusal.proofs.Common.{Sd, value, IsDown, IsUp, zero_down, zero_up, IsFrom, IsUpTo}
 use Rattle.std.proofs.lemmas.Nat.{pow-add}
-use Rattle.scaled_decimal.specs.Cuts.{IsFrom, IsUpTo}
-use Rattle.scaled_decimal.proofs.Fronts.{up_at_18, up_at_nines}
-use Rattle.scaled_decimal.proofs.Nearest.{cut_down_by}
+use Rattle.scaled_decimal.proofs.Nearest.{up_at_18, up_at_nines, cut_down_by}
 use Rattle.scaled_decimal.proofs.Numbers.{at_least_quotient, below_quotient}
 
 ten_grows : (n : ℕ) → n < 10 ^ n

@@ -1,8 +1,8 @@
 -- What a time step is made from exists: the bounds of a formula, a problem or a refusal, and the heads of constant cells and of STRT.
-use Rattle.std.specs.Prelude.{ℕ, ◌⊎◌, ℤ, List, Contains}
-use Rattle.decimal_input.specs.Ratios.{Ratio}
+use Rattle.std.specs.Prelude.{ℕ, ◌⊎◌, ℤ, List, Contains, ◌<◌}
+use Rattle.decimal_input.specs.Ratios.{Ratio, Same}
 use Rattle.scaled_decimal.specs.declared.decimal.Sd.{Sd}
-use Rattle.scaled_decimal.specs.Nearest.{IsDown, IsUp}
+use Rattle.scaled_decimal.specs.Nearest.{IsDown, IsUp, IsSd, value}
 use Rattle.conductance_bounds.specs.declared.span.Span.{Span}
 use Rattle.conductance_bounds.specs.Intervals.{AreBounds}
 use Rattle.conductance_bounds.specs.Pairs.{IsPair, IsCapped}
@@ -14,10 +14,26 @@ use Rattle.model_types.specs.declared.model.FlowModel.{FlowModel}
 use Rattle.model_types.specs.declared.time_steps.TimeStep.{TimeStep}
 use Rattle.model_types.specs.Times.{times}
 use Rattle.model_types.specs.Valid.{IsModel}
-use Rattle.problem_builder.specs.ConstantHeads.{IsConstantPair}
+use Rattle.problem_builder.specs.GridHeads.{IsConstantPair, AreStartHeads}
 use Rattle.problem_builder.specs.Problems.{IsProblemOf, HasNoProblem}
-use Rattle.problem_builder.specs.StartHeads.{AreStartHeads}
-use Rattle.problem_or_refusal.specs.Bounded.{IsBounded}
+use Rattle.conductance_bounds.specs.Terms.Term.{Number, Within, Sum, Product, Quotient}
+
+-- Formulas that have both bounds.
+-- both bounds of the formula are above 0
+abbrev pub HasPositiveBounds : Term → Type 0
+HasPositiveBounds (Number f) = 0 < f.num
+HasPositiveBounds (Within lo hi f) = (0 < lo.m) × (0 < hi.m)
+HasPositiveBounds (Sum t u) = HasPositiveBounds t ⊎ HasPositiveBounds u
+HasPositiveBounds (Product t u) = HasPositiveBounds t × HasPositiveBounds u
+HasPositiveBounds (Quotient t u) = HasPositiveBounds t
+
+-- each number is a decimal of 18 digits, and each divisor has positive bounds
+abbrev pub IsBounded : Term → Type 0
+IsBounded (Number f) = (x : Sd) × IsSd x × Same (value x) f
+IsBounded (Within lo hi f) = Unit {0}
+IsBounded (Sum t u) = IsBounded t × IsBounded u
+IsBounded (Product t u) = IsBounded t × IsBounded u
+IsBounded (Quotient t u) = IsBounded t × IsBounded u × HasPositiveBounds u
 
 -- each ratio has a greatest 18-digit decimal not above it, and a least one not below it
 abbrev pub RoundingsExist : Type 0

@@ -2,7 +2,7 @@
 pub use Rattle.std.proofs.Common.{All, FitsSigned, List, Result, ap, arith, length, rules, subst, sym, ℕ, ℤ, ◌<◌, ◌∙◌, ◌≡◌}
 pub use Rattle.std.proofs.lemmas.Int.{to_z-of_z}
 pub use Rattle.std.specs.Int.{int_max, int_min, w64}
-pub use Rattle.cell_relax.specs.Words.{AreWords, heads_on}
+pub use Rattle.cell_relax.specs.Sides.{AreWords, heads_on, other}
 pub use Rattle.head_table.specs.Seats.{SameOn, SameOnBut, ShowsSeen, seen_on}
 pub use Rattle.problem_tests.specs.Actors.{IsShown}
 pub use Rattle.step_problem.proofs.BothSides.{high_side, low_side}

@@ -1,15 +1,14 @@
 -- A head that a seat has now seen is written among the bounds that are shown.
 use Rattle.problem_tests.proofs.Common.{◌≡◌, ℕ, ◌<◌, List, length, ℤ, sym, ◌∙◌, subst, Entries, Low, High, IsHead, heads_on, AreWords, seen_on, SameOn}
-use Rattle.problem_tests.proofs.Common.{SameOnBut, ShowsSeen, IsShown, Bound}
+use Rattle.problem_tests.proofs.Common.{SameOnBut, ShowsSeen, IsShown, Bound, other}
 use mathlib.Core.Logic.{dite}
 use native.Mathlib.Decide.{ℕ_discrete}
 use Rattle.step_problem.specs.declared.heads.Side.{Side}
-use Rattle.cell_relax.specs.Sides.{other}
 use Rattle.cell_relax.proofs.Sides.{each_side}
 use Rattle.relax_core.specs.Core.{with_head}
 use Rattle.head_table.specs.declared.table.HeadSeat.{HeadSeat}
 use Rattle.head_table.specs.declared.table.HeadTable.{HeadTable}
-use Rattle.relax_core.proofs.Words.{seen_here, seen_else, other_seen}
+use Rattle.relax_core.proofs.Keeping.{seen_here, seen_else, other_seen}
 
 pub shows_head : (side : Side) (p : List Entries) (s t : HeadSeat) (bs : List Bound) (i : ℕ) (z : ℤ) → i < length bs → seen_on side t i ≡ z → SameOnBut side i s t → SameOn (other side) s t → ShowsSeen p s bs → ShowsSeen p t (with_head side bs i z)
 shows_head side p s t bs i z inside here others opposite shown = each_side side (λ r. (c : ℕ) → c < length p → heads_on r (with_head side bs i z) c ≡ seen_on r t c)

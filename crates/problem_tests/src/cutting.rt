@@ -1,7 +1,7 @@
 // Questions about a problem's cut barrier.
 ghost use Rattle.std.specs.Prelude.{◌≡◌, length};
 ghost use Rattle.step_problem.specs.Heads.{lower_at, upper_at, IsBarrier, IsCertificate};
-ghost use Rattle.cell_relax.specs.Words.{AreWords};
+ghost use Rattle.cell_relax.specs.Sides.{AreWords};
 ghost use Rattle.barrier_vector.specs.Cuts.{clamped};
 
 use crate::answers::{push_barrier, push_fault, push_settled, push_verdict};

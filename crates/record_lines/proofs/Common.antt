@@ -4,13 +4,10 @@ pub use Rattle.std.proofs.Common.{get_or, if◌then◌else◌, inl, inr, length,
 pub use Rattle.std.proofs.Common.{◌*◌, ◌++◌, ◌+◌, ◌-◌, ◌<◌, ◌==◌, ◌^◌, ◌∙◌, ◌∷◌, ◌≡◌, ◌≤◌, ◌⊎◌}
 pub use Rattle.std.proofs.lemmas.List.{append-nil, drop-drop, drop_all, take_all}
 pub use Rattle.std.specs.List.{filter, onto_first, position, position_or_len, slice_split}
-pub use Rattle.outside.specs.Words.{is_separator}
-unfoldable pub use Rattle.outside.specs.Words.{lines, words}
-pub use Rattle.outside.specs.declared.refusals.InputFault.{InputFault}
-pub use Rattle.outside.specs.declared.refusals.InputFault.TheVariants.{Memory, ReadFault, Refused}
-pub use Rattle.outside.specs.declared.refusals.Refusal.{Refusal}
-pub use Rattle.outside.specs.declared.refusals.TextFault.{TextFault}
-pub use Rattle.record_lines.specs.Layout.{Left, Numbered, after_comments, has_word, is_comment, next_number, without_comments}
+pub use Rattle.outside.specs.Names.{TextMay, WordsMay, folder_name, is_good_name, is_separator}
+unfoldable pub use Rattle.outside.specs.Names.{lines, words}
+pub use Rattle.outside.specs.declared.inputs.Refusal.{Refusal}
+pub use Rattle.record_lines.specs.Layout.{Left, LineMay, LinesMay, Numbered, after_comments, has_word, is_comment, next_number, numbered_of, without_comments}
 unfoldable pub use Rattle.record_lines.specs.Layout.{left_from, number_behind, numbered}
 pub use Rattle.record_lines.specs.Reading.{Stops, StopsText, ◌>>=◌}
 unfoldable pub use Rattle.record_lines.specs.Reading.{appended, counted, for_each, repeated}

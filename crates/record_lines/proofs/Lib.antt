@@ -2,8 +2,6 @@ mod Common
 pub mod CutLemmas
 pub mod LeftLemmas
 pub mod Loops
-pub mod Each
-pub mod Counted
 pub mod SpreadLemmas
 pub mod WordLemmas
 pub mod Forward

@@ -1,7 +1,10 @@
 -- Loops that read the same thing so many times.
 use Rattle.record_lines.proofs.Common.{◌≡◌, ℕ, suc, ◌-◌, ◌+◌, ◌≤◌, ◌<◌, List, [], ◌∷◌, ◌++◌, Result, Ok, Err, refl, sym, ap, ◌∙◌, append_assoc, arith}
-use Rattle.record_lines.proofs.Common.{append-nil, Refusal, InputFault, Refused, ReadFault, Memory, ◌>>=◌, Stops, StopsText, appended, repeated, TextFault}
-use Rattle.outside.specs.declared.refusals.TextFault.TheVariants as texts
+use Rattle.record_lines.proofs.Common.{append-nil, Refusal, ◌>>=◌, Stops, StopsText, appended, repeated, length, for_each, counted}
+use Rattle.outside.specs.declared.inputs.InputFault.{InputFault}
+use Rattle.outside.specs.declared.inputs.InputFault.TheVariants.{Refused, ReadFault, Memory}
+use Rattle.outside.specs.declared.inputs.TextFault.{TextFault}
+use Rattle.outside.specs.declared.inputs.TextFault.TheVariants as texts
 
 -- what was read before, and what is still read
 abbrev pub with_front : {X S E : Type 0} → List X → Result (List X × S) E → Result (List X × S) E
@@ -82,3 +85,74 @@ pub list_stops : {X S : Type 0} (read : S → Result (List X × S) Refusal) (fau
 list_stops read (Refused r) front count i s total lt h so_far = list_ends read (texts.Refused r) front count i s total lt h so_far
 list_stops read ReadFault front count i s total lt h so_far = tt
 list_stops read Memory front count i s total lt h so_far = tt
+
+-- Loops that read something for each of a list.
+-- one more of the list is read
+pub each_goes_on : {A X S E : Type 0} (read : A → S → Result (X × S) E) (front : List X) (all others : List A) (a : A) (s after : S) (x : X) (total : Result (List X × S) E) → all ≡ a ∷ others → read a s ≡ Ok (x, after)
+    → with_front front (for_each read all s) ≡ total → with_front (front ++ x ∷ []) (for_each read others after) ≡ total
+unfolding for_each
+each_goes_on read front all others a s after x total e h so_far =
+    let one : with_front front (for_each read all s) ≡ with_front (front ++ x ∷ []) (for_each read others after) = rw (e, h) (regroup front x (for_each read others after)) in
+    sym one ∙ so_far
+
+-- reading stops in the middle
+pub each_ends : {A X S : Type 0} (read : A → S → Result (X × S) Refusal) (fault : TextFault) (front : List X) (all others : List A) (a : A) (s : S) (total : Result (List X × S) Refusal) → all ≡ a ∷ others → StopsText fault (read a s)
+    → with_front front (for_each read all s) ≡ total → StopsText fault total
+unfolding for_each
+each_ends read (texts.Refused r) front all others a s total e h so_far =
+    let one : with_front front (for_each read all s) ≡ Err r = rw (e, h) refl in
+    sym so_far ∙ one
+each_ends read texts.Memory front all others a s total e h so_far = tt
+
+-- the same where a folder is given
+pub each_stops : {A X S : Type 0} (read : A → S → Result (X × S) Refusal) (fault : InputFault) (front : List X) (all others : List A) (a : A) (s : S) (total : Result (List X × S) Refusal) → all ≡ a ∷ others → Stops fault (read a s)
+    → with_front front (for_each read all s) ≡ total → Stops fault total
+each_stops read (Refused r) front all others a s total e h so_far = each_ends read (texts.Refused r) front all others a s total e h so_far
+each_stops read ReadFault front all others a s total e h so_far = tt
+each_stops read Memory front all others a s total e h so_far = tt
+
+-- the whole list is read
+pub each_done : {A X S E : Type 0} (read : A → S → Result (X × S) E) (front : List X) (all : List A) (s : S) (total : Result (List X × S) E) → all ≡ [] → with_front front (for_each read all s) ≡ total → total ≡ Ok (front, s)
+unfolding for_each
+each_done read front all s total e so_far =
+    let one : with_front front (for_each read all s) ≡ Ok (front, s) = rw e (ap (λ xs. Ok (xs, s)) (append-nil front)) in
+    sym so_far ∙ one
+
+pub no_items : {A : Type 0} (xs : List A) → length xs ≡ 0 → xs ≡ []
+no_items [] e = refl
+no_items (x ∷ xs) e = absurd (omega arith)
+
+-- Loops that make the same step for each number of a range.
+-- one more step is made
+pub step_goes_on : {S E : Type 0} (step : ℕ → S → Result S E) (count i : ℕ) (s after : S) (total : Result S E) → i < count → step i s ≡ Ok after
+    → counted step i (count - i) s ≡ total → counted step (i + 1) (count - (i + 1)) after ≡ total
+unfolding counted
+step_goes_on step count i s after total lt h so_far =
+    let k : count - i ≡ suc (count - (i + 1)) = omega arith in
+    let one : counted step i (count - i) s ≡ counted step (i + 1) (count - (i + 1)) after = rw (k, h) refl in
+    sym one ∙ so_far
+
+-- a step stops the loop
+pub steps_stop : {S : Type 0} (step : ℕ → S → Result S Refusal) (fault : InputFault) (count i : ℕ) (s : S) (total : Result S Refusal) → i < count → Stops fault (step i s)
+    → counted step i (count - i) s ≡ total → Stops fault total
+unfolding counted
+steps_stop step (Refused r) count i s total lt h so_far =
+    let k : count - i ≡ suc (count - (i + 1)) = omega arith in
+    let one : counted step i (count - i) s ≡ Err r = rw (k, h) refl in
+    sym so_far ∙ one
+steps_stop step ReadFault count i s total lt h so_far = tt
+steps_stop step Memory count i s total lt h so_far = tt
+
+-- the same where no folder is given
+pub steps_end : {S : Type 0} (step : ℕ → S → Result S Refusal) (fault : TextFault) (count i : ℕ) (s : S) (total : Result S Refusal) → i < count → StopsText fault (step i s)
+    → counted step i (count - i) s ≡ total → StopsText fault total
+steps_end step (texts.Refused r) count i s total lt h so_far = steps_stop step (Refused r) count i s total lt h so_far
+steps_end step texts.Memory count i s total lt h so_far = tt
+
+-- all steps are made
+pub steps_done : {S E : Type 0} (step : ℕ → S → Result S E) (count i : ℕ) (s : S) (total : Result S E) → count ≤ i → counted step i (count - i) s ≡ total → total ≡ Ok s
+unfolding counted
+steps_done step count i s total le so_far =
+    let k : count - i ≡ 0 = omega arith in
+    let one : counted step i (count - i) s ≡ Ok s = rw k refl in
+    sym so_far ∙ one

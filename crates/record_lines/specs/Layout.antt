@@ -1,7 +1,8 @@
 -- A text as lines and words.
-use Rattle.std.specs.Prelude.{◌≡◌, ℕ, ◌+◌, Bool, false, not, List, [], ◌∷◌, nat_lt, ◌==◌, if◌then◌else◌, Result, Ok, Err}
+use Rattle.std.specs.Prelude.{◌≡◌, ℕ, ◌+◌, Bool, false, not, List, [], ◌∷◌, nat_lt, ◌==◌, if◌then◌else◌, Result, Ok, Err, All}
 use Rattle.std.specs.List.{list_any}
-use Rattle.outside.specs.Words.{is_separator, lines}
+use Rattle.outside.specs.Names.{is_separator, lines, WordsMay, words}
+use Rattle.record_lines.specs.declared.lines.Line.{Line}
 
 unfoldable pub has_word : List ℕ → Bool
 has_word line = list_any (λ c. not (is_separator c)) line
@@ -48,3 +49,16 @@ without_comments left = record { lines = after_comments left.lines; end = left.e
 abbrev pub Yields : {X Y S E : Type 0} → (X → Y) → Result X E → S → Result (Y × S) E → Type 0
 Yields view (Ok x) after read = read ≡ Ok (view x, after)
 Yields view (Err e) after read = read ≡ Err e
+
+-- A line as contracts see it.
+abbrev pub numbered_of : Line → Numbered
+numbered_of line = record { number = line.number; bytes = line.bytes.now }
+
+-- Lines whose words are names of files that a folder may be asked for.
+-- each word of a line is such a name
+abbrev pub LineMay : (List ℕ → Type 0) → Numbered → Type 0
+LineMay may line = WordsMay may (words line.bytes)
+
+-- each word of each line that is left
+pub record LinesMay (may : List ℕ → Type 0) (left : Left) : Type 0 where
+  pub each : All (LineMay may) left.lines

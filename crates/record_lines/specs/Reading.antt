@@ -1,11 +1,11 @@
 -- What reading a text gives: a value and what is left to be read, or the first refusal; and what a
 -- call may return besides.
 use Rattle.std.specs.Prelude.{◌≡◌, ℕ, zero, suc, ◌+◌, [], ◌∷◌, ◌++◌, Result, Ok, Err, List}
-use Rattle.outside.specs.declared.refusals.Refusal.{Refusal}
-use Rattle.outside.specs.declared.refusals.TextFault.{TextFault}
-use Rattle.outside.specs.declared.refusals.TextFault.TheVariants as texts
-use Rattle.outside.specs.declared.refusals.InputFault.{InputFault}
-use Rattle.outside.specs.declared.refusals.InputFault.TheVariants.{Refused, ReadFault, Memory}
+use Rattle.outside.specs.declared.inputs.Refusal.{Refusal}
+use Rattle.outside.specs.declared.inputs.TextFault.{TextFault}
+use Rattle.outside.specs.declared.inputs.TextFault.TheVariants as texts
+use Rattle.outside.specs.declared.inputs.InputFault.{InputFault}
+use Rattle.outside.specs.declared.inputs.InputFault.TheVariants.{Refused, ReadFault, Memory}
 
 -- one reading after another; the first refusal ends them
 infixl 10 ◌>>=◌

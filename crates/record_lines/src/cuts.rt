@@ -2,7 +2,7 @@
 
 ghost use Rattle.std.specs.Prelude.{IfSome, ◌&&◌, ◌≡◌, ◌<◌, ◌≤◌, ◌==◌, not, [], ◌∷◌, length, nat_lt, position, if◌then◌else◌};
 ghost use Rattle.std.specs.List.{position_or_len};
-ghost use Rattle.outside.specs.Words.{is_separator, lines, words};
+ghost use Rattle.outside.specs.Names.{is_separator, lines, words};
 ghost use Rattle.record_lines.specs.Layout.{is_comment, has_word};
 
 pub fn is_separator(byte: u8) -> bool

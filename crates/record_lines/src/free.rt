@@ -4,8 +4,7 @@ ghost use Rattle.record_lines.specs.Layout.{Left, Yields};
 ghost use Rattle.record_lines.specs.Spread.{count, spread, Taking, beginning, next_word, next_value};
 
 use crate::cuts::star_at;
-use crate::lines::Lines;
-use crate::words::Words;
+use crate::lines::{Lines, Words};
 use std::marker::Model;
 
 /// Why a free list has no next value.

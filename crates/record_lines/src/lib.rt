@@ -5,9 +5,7 @@
 mod cuts;
 mod free;
 mod lines;
-mod words;
 
 pub use cuts::{cut_line, is_comment};
 pub use free::{Free, FreeFault};
-pub use lines::{EndOfFile, Line, Lines};
-pub use words::{Words, begins_with, is_word};
+pub use lines::{EndOfFile, Line, Lines, Words, begins_with, is_word};

@@ -5,11 +5,9 @@ pub use Rattle.std.proofs.lemmas.Int.{to_z-of_z}
 pub use Rattle.std.proofs.lemmas.List.{get_or-map, get_or_default, length-map, map-set}
 pub use Rattle.std.proofs.lemmas.List.Elements.{All-get_or, All-map, All-set, All-weaker}
 pub use Rattle.cell_relax.proofs.Sides.{each_side, heads_in_range, is_side, tighter_first, tighter_head, tighter_is_one, tighter_second}
-pub use Rattle.cell_relax.specs.Sides.{AreNoLooser, IsAsTight, IsRelaxedOn, other, tighter_of}
-pub use Rattle.cell_relax.specs.Words.{AreWords, head_of, heads_on}
+pub use Rattle.cell_relax.specs.Sides.{AreNoLooser, AreWords, IsAsTight, IsRelaxedOn, head_of, heads_on, other, tighter_of}
 pub use Rattle.relax_core.specs.Core.{Becomes, Core, IsInRange, IsNamed, Path, Puts, Relaxes, Step, seen_by, with_head}
-pub use Rattle.relax_core.specs.Kept.{IsKept, OnTheWay, WasSeen, WereSeen, edge_on}
-pub use Rattle.relax_core.specs.Laws.{AreEdges, KeepsHeads}
+pub use Rattle.relax_core.specs.Kept.{AreEdges, IsKept, KeepsHeads, OnTheWay, WasSeen, WereSeen, edge_on}
 pub use Rattle.relax_core.specs.declared.events.Event.{Event}
 pub use Rattle.relax_core.specs.declared.events.Event.TheVariants.{Claim, Raise, See, Sink}
 pub use Rattle.step_problem.proofs.BothSides.{high_side, low_side}

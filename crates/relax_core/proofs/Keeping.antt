@@ -1,9 +1,102 @@
 -- Every event, and so every list of events, keeps what a state keeps and loosens no word.
 use Rattle.relax_core.proofs.Common.{◌≡◌, ℕ, ◌<◌, List, [], ◌∷◌, length, All, ℤ, sym, subst, arith, All-get_or, All-set, All-weaker, Bound, Side, Low, High}
 use Rattle.relax_core.proofs.Common.{Entries, IsProblem, Edges, AreOnTheWay, IsAsTight, AreNoLooser, tighter_of, other, heads_on, tighter, is_side, each_side}
-use Rattle.relax_core.proofs.Common.{Event, See, Raise, Sink, Claim, Core, seen_by, with_head, Becomes, IsNamed, Relaxes, Step, Path, WasSeen, IsKept}
-use Rattle.relax_core.proofs.Words.{other_seen, tighter_exchange}
-use Rattle.relax_core.proofs.Exchanges.{way_on, look, still, exchange_words, exchange_seen}
+use Rattle.relax_core.proofs.Common.{Event, See, Raise, Sink, Claim, Core, seen_by, with_head, Becomes, IsNamed, Relaxes, Step, Path, WasSeen, IsKept, ap}
+use Rattle.relax_core.proofs.Common.{get_or-set_same, get_or-set_other, length-set, no_bound, lower_at, upper_at, head_of, tighter_first, tighter_second}
+use Rattle.relax_core.proofs.Common.{tighter_is_one, ◌∙◌, IsHead, same_on_the_way, turn_keeps, still_seen, sees, same_seen, refl, IsRelaxedOn, OnTheWay}
+use Rattle.relax_core.proofs.Common.{WereSeen, edge_on}
+use mathlib.Core.Logic.{dite}
+use native.Mathlib.Decide.{ℕ_discrete}
+use Rattle.step_problem.specs.Sides.{IsExchange}
+
+-- What bounds read on each side after one head of them is replaced.
+abbrev bound_with : Side → List Bound → ℕ → ℤ → Bound
+bound_with Low bs c h = record { low = h; high = upper_at bs c }
+bound_with High bs c h = record { low = lower_at bs c; high = h }
+
+pub seen_length : (side : Side) (bs : List Bound) (c : ℕ) (h : ℤ) → length (with_head side bs c h) ≡ length bs
+seen_length Low bs c h = length-set bs c _
+seen_length High bs c h = length-set bs c _
+
+pub seen_here : (side : Side) (bs : List Bound) (c : ℕ) (h : ℤ) → c < length bs → heads_on side (with_head side bs c h) c ≡ h
+seen_here Low bs c h l = ap (λ (b : Bound). b.low) (get_or-set_same bs c (bound_with Low bs c h) no_bound l)
+seen_here High bs c h l = ap (λ (b : Bound). b.high) (get_or-set_same bs c (bound_with High bs c h) no_bound l)
+
+both_else : (side t : Side) (bs : List Bound) (c : ℕ) (h : ℤ) (d : ℕ) → (d ≡ c → ⊥) → heads_on t (with_head side bs c h) d ≡ heads_on t bs d
+both_else Low t bs c h d ne = ap (head_of t) (get_or-set_other bs c d (bound_with Low bs c h) no_bound ne)
+both_else High t bs c h d ne = ap (head_of t) (get_or-set_other bs c d (bound_with High bs c h) no_bound ne)
+
+pub seen_else : (side : Side) (bs : List Bound) (c : ℕ) (h : ℤ) (d : ℕ) → (d ≡ c → ⊥) → heads_on side (with_head side bs c h) d ≡ heads_on side bs d
+seen_else side = both_else side side
+
+pub other_seen : (side : Side) (bs : List Bound) (c : ℕ) (h : ℤ) → c < length bs → (d : ℕ) → heads_on (other side) (with_head side bs c h) d ≡ heads_on (other side) bs d
+other_seen side bs c h l d = dite (ℕ_discrete d c)
+    (λ e. subst (λ (k : ℕ). heads_on (other side) (with_head side bs c h) k ≡ heads_on (other side) bs k) (sym e) (at side))
+    (λ ne. both_else side (other side) bs c h d ne)
+  where
+    at : (s : Side) → heads_on (other s) (with_head s bs c h) c ≡ heads_on (other s) bs c
+    at Low = ap (λ (b : Bound). b.high) (get_or-set_same bs c (bound_with Low bs c h) no_bound l)
+    at High = ap (λ (b : Bound). b.low) (get_or-set_same bs c (bound_with High bs c h) no_bound l)
+
+-- the tighter of the word and r is put there
+pub tighter_exchange : (side : Side) (ws : List Bound) (c : ℕ) (r : ℤ) → c < length ws →
+    IsExchange (IsAsTight side) (heads_on side ws) c r (tighter_of side (heads_on side ws c) r) (heads_on side (with_head side ws c (tighter_of side (heads_on side ws c) r)))
+tighter_exchange side ws c r wide = record {
+  here = seen_here side ws c _ wide;
+  elsewhere = seen_else side ws c _;
+  old = tighter_first side _ r;
+  new = tighter_second side _ r;
+  one = tighter_is_one side _ r;
+}
+
+-- One exchange, or one look, on words and on what was seen of them.
+-- words on the way from a barrier are so on each side
+pub way_on : (side : Side) (p : List Entries) (b : Edges) (ws : List Bound) → AreOnTheWay p b ws → OnTheWay side p (edge_on side b) (heads_on side ws)
+way_on Low p b ws k = k.low
+way_on High p b ws k = k.high
+
+module _ (p : List Entries) (ok : IsProblem p) (side : Side) where
+  -- a look
+  pub look : (ws v : List Bound) (c : ℕ) → c < length p → IsHead (heads_on side ws c) → WasSeen p ws v → WasSeen p ws (with_head side v c (heads_on side ws c))
+  look ws v c h head f = let long : c < length v = omega (arith, f.whole) in record {
+    whole = seen_length side v c _ ∙ f.whole;
+    heads = each_side side (λ t. WereSeen t p (heads_on t ws) (heads_on t (with_head side v c (heads_on side ws c))))
+        (sees (is_side side p ok) (heads_on side ws) (heads_on side v) _ c head (seen_here side v c _ long) (seen_else side v c _) (f.heads side))
+        (same_seen (is_side (other side) p ok) (heads_on (other side) ws) (heads_on (other side) ws) (heads_on (other side) v) _ (λ d i. refl) (λ d i. other_seen side v c _ long d) (f.heads (other side)));
+  }
+
+  module _ (ws : List Bound) (c : ℕ) (r : ℤ) where
+    -- the words after an exchange for the tighter of the word and r
+    abbrev pub exchanged : List Bound
+    exchanged = with_head side ws c (tighter_of side (heads_on side ws c) r)
+
+    -- what was seen of the words before was seen of the words after
+    pub still : c < length ws → (u : List Bound) → WasSeen p ws u → WasSeen p exchanged u
+    still wide u f = record {
+      whole = f.whole;
+      heads = each_side side (λ t. WereSeen t p (heads_on t exchanged) (heads_on t u))
+          (still_seen (is_side side p ok) (heads_on side ws) (heads_on side exchanged) (heads_on side u) (tighter (is_side side p ok) (heads_on side ws) c r _ _ (tighter_exchange side ws c r wide)) (f.heads side))
+          (same_seen (is_side (other side) p ok) (heads_on (other side) ws) (heads_on (other side) exchanged) (heads_on (other side) u) (heads_on (other side) u) (λ d i. other_seen side ws c _ wide d) (λ d i. refl) (f.heads (other side)));
+    }
+
+    module _ (b : Edges) (v : List Bound) (h : c < length p) (k : AreOnTheWay p b ws) (f : WasSeen p ws v) (turn : IsRelaxedOn side p (heads_on side v) c r) where
+      wide : c < length ws
+      wide = omega (arith, k.whole, h)
+
+      way : (t : Side) → OnTheWay t p (edge_on t b) (heads_on t exchanged)
+      way = each_side side (λ t. OnTheWay t p (edge_on t b) (heads_on t exchanged))
+          (turn_keeps (is_side side p ok) (edge_on side b) (heads_on side ws) (heads_on side v) (heads_on side exchanged) c r _ h (way_on side p b ws k) (f.heads side) turn (tighter_exchange side ws c r wide))
+          (same_on_the_way (is_side (other side) p ok) (edge_on (other side) b) (heads_on (other side) ws) (heads_on (other side) exchanged) (λ d i. other_seen side ws c _ wide d) (way_on (other side) p b ws k))
+
+      -- an exchange for the relaxed head from seen heads keeps the words on the way
+      pub exchange_words : AreOnTheWay p b exchanged
+      exchange_words = record { whole = seen_length side ws c _ ∙ k.whole; low = way Low; high = way High }
+
+      -- what the actor has then seen
+      pub exchange_seen : WasSeen p exchanged (with_head side v c (tighter_of side (heads_on side ws c) r))
+      exchange_seen =
+          subst (λ (y : ℤ). WasSeen p exchanged (with_head side v c y)) (seen_here side ws c (tighter_of side (heads_on side ws c) r) wide)
+          (look exchanged v c h ((way side).heads c h) (still wide v f))
 
 -- words of the state after, from facts of the words that it becomes
 becomes_kept : (p : List Entries) (b : Edges) (s t : Core) (ws : List Bound) (a : ℕ) (v : List Bound) → Becomes s t ws a v → IsKept p b s → AreOnTheWay p b ws → ((u : List Bound) → WasSeen p s.words u → WasSeen p ws u) → WasSeen p ws v → IsKept p b t

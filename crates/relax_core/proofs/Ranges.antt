@@ -2,7 +2,7 @@
 use Rattle.relax_core.proofs.Common.{◌≡◌, ℕ, ◌<◌, List, [], length, All, ℤ, sym, ap, subst, ◌∙◌, arith, length-set, All-get_or, All-set, Bound, Side, Low, High}
 use Rattle.relax_core.proofs.Common.{Entries, IsHead, IsProblem, relaxed_head, by_cell, other, heads_on, AreWords, is_side, each_side, Event, See, Raise, Sink}
 use Rattle.relax_core.proofs.Common.{Claim, Core, seen_by, with_head, Becomes, IsInRange, IsNamed, Relaxes, Step, tighter_head, heads_in_range}
-use Rattle.relax_core.proofs.Words.{seen_length, seen_here, seen_else, other_seen}
+use Rattle.relax_core.proofs.Keeping.{seen_length, seen_here, seen_else, other_seen}
 
 module _ (p : List Entries) where
   put_in_range : (side : Side) (bs : List Bound) (c : ℕ) (h : ℤ) → c < length p → AreWords p bs → IsHead h → AreWords p (with_head side bs c h)

@@ -1,6 +1,6 @@
 // Tests of the premises of `apply` on a state and an event.
 ghost use Rattle.std.specs.Prelude.{◌↔◌, IsTrue, All};
-ghost use Rattle.cell_relax.specs.Words.{AreWords};
+ghost use Rattle.cell_relax.specs.Sides.{AreWords};
 ghost use Rattle.relax_core.specs.Core.{IsInRange, IsNamed};
 
 use crate::events::Event;

@@ -6,8 +6,8 @@ pub use Rattle.std.specs.Int.{w64}
 pub use Rattle.cell_relax.proofs.Reading.{ends_in_range, read_more}
 pub use Rattle.cell_relax.proofs.Sides.{is_side}
 pub use Rattle.cell_relax.specs.Sides.{AreNoLooser, IsAsTight, IsRelaxedOn, other, tighter_of}
-pub use Rattle.head_table.proofs.Looser.{moves_no_looser, no_looser_trans, same_no_looser}
-pub use Rattle.head_table.specs.BySide.{HasMoved}
+pub use Rattle.head_table.proofs.WordReads.{moves_no_looser, no_looser_trans, same_no_looser}
+pub use Rattle.head_table.specs.Rule.{HasMoved}
 pub use Rattle.head_table.specs.Seats.{IsSeatOf, SameOn, SameOnBut, seen_of, seen_on}
 pub use Rattle.head_table.specs.declared.table.HeadSeat.{HeadSeat}
 pub use Rattle.step_problem.specs.Conditions.{IsProblem}

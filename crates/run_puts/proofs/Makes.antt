@@ -1,12 +1,11 @@
 -- What the puts of a run make of the sink.
 use Rattle.run_puts.proofs.Common.{◌≡◌, ℕ, List, [], ◌∷◌, ◌++◌, map, Ok, Err, Result, Option, None, Some, subst, sym, refl, ◌∙◌, append_assoc, append-nil, Put}
 use Rattle.run_puts.proofs.Common.{Seen, PutMakes, PutsMake, taken, SinkError, Text, IsTail, failed, wanting, sink_wanting, status_after, IsRun, whole, early}
-use Rattle.run_puts.proofs.Common.{Status}
+use Rattle.run_puts.proofs.Common.{Status, Rose}
 use Rattle.std.specs.List.{concat}
 use Rattle.std.specs.Io.KnownBytes.{Appends}
-use Rattle.outside.specs.Counts.{Rose}
 use Rattle.outside.specs.declared.traits.SinkError.TheVariants as error
-use Rattle.run_puts.specs.declared.status.Status.TheVariants as status
+use Rattle.run_puts.specs.declared.puts.Status.TheVariants as status
 
 Appends-join : (a b c : Option (List ℕ)) (xs ys : List ℕ) → Appends a b xs → Appends b c ys → Appends a c (xs ++ ys)
 Appends-join None b c xs ys h k = tt

@@ -1,10 +1,9 @@
 -- A run from one piece to the next, and its ends.
 use Rattle.run_puts.proofs.Common.{◌≡◌, List, [], ◌∷◌, ◌++◌, map, Ok, Err, Result, Option, subst, sym, ap, refl, ◌∙◌, inl, inr, ◌⊎◌, append_assoc, append-nil}
 use Rattle.run_puts.proofs.Common.{map-append, Put, taken, SinkError, Text, IsTail, failed, wanting, sink_wanting, memory_put, status_after, IsRun, whole}
-use Rattle.run_puts.proofs.Common.{early, Begins, nothing, all_due, cut, Status}
-use Rattle.run_puts.specs.Ends.{IsPut, IsLast, IsWanting, IsEnd}
+use Rattle.run_puts.proofs.Common.{early, Begins, nothing, all_due, cut, Status, IsPut, IsLast, IsWanting, IsEnd}
 use Rattle.outside.specs.declared.traits.SinkError.TheVariants as error
-use Rattle.run_puts.specs.declared.status.Status.TheVariants as status
+use Rattle.run_puts.specs.declared.puts.Status.TheVariants as status
 
 -- a run that failed to write or lacked memory
 abbrev pub IsLate : Status → Type 0

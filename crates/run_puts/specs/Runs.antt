@@ -1,10 +1,44 @@
 -- What a run puts to its sink and how it ends, whatever its pieces are: `Due end pieces` says which pieces are due if a run
 -- ends so, and `Cut pieces` which pieces it may have put when memory runs out.
-use Rattle.std.specs.Prelude.{List, [], ◌∷◌, ◌++◌, map}
-use Rattle.outside.specs.Puts.{Put, taken}
-use Rattle.run_puts.specs.Lines.{Text}
-use Rattle.run_puts.specs.Tails.{IsTail}
-use Rattle.run_puts.specs.declared.status.Status.{Status}
+use Rattle.std.specs.Prelude.{List, [], ◌∷◌, ◌++◌, map, ℕ, codes, Ok, Err, Result, ◌≡◌, ◌⊎◌, Option, None, Some}
+use Rattle.outside.specs.Puts.{Put, taken, refused}
+use Rattle.run_puts.specs.declared.puts.Status.{Status}
+use Rattle.outside.specs.declared.traits.SinkError.{SinkError}
+use Rattle.outside.specs.declared.traits.SinkError.TheVariants as error
+use Rattle.run_puts.specs.declared.puts.Status.TheVariants as status
+
+-- The last lines that are the same in each run.
+-- the bytes of a piece
+abbrev pub Text : Type 0
+Text = List ℕ
+
+abbrev pub end_line : Text
+end_line = codes "END\n"
+
+abbrev pub read_fault_line : Text
+read_fault_line = codes "READFAULT\n"
+
+abbrev pub memory_line : Text
+memory_line = codes "MEMORY\n"
+
+-- How a run stops before all its pieces are put.
+-- the put of the line MEMORY, with this result
+abbrev pub memory_put : Result (Unit {0}) SinkError → Put
+memory_put answer = record { piece = memory_line; answer = answer }
+
+-- the status after the put of the line MEMORY with this result
+abbrev pub status_after : Result (Unit {0}) SinkError → Status
+status_after (Ok done) = status.Memory
+status_after (Err error.Write) = status.WriteFault
+status_after (Err error.Memory) = status.Memory
+
+-- The last puts of a run with these pieces left: the write of the next one failed, memory ran out, or the sink had no
+-- memory for the next one. Nothing follows a failed write.
+pub data IsTail : List Text → Status → List Put → Type 0 where
+  failed : (piece : Text) (after : List Text) → IsTail (piece ∷ after) status.WriteFault (refused piece error.Write ∷ [])
+  wanting : (after : List Text) (answer : Result (Unit {0}) SinkError) → IsTail after (status_after answer) (memory_put answer ∷ [])
+  sink_wanting : (piece : Text) (after : List Text) (answer : Result (Unit {0}) SinkError) →
+      IsTail (piece ∷ after) (status_after answer) (refused piece error.Memory ∷ memory_put answer ∷ [])
 
 -- How a run may stop early that has put some pieces whole and has others left: it has put none, and has none; of all that are
 -- due for some end at least one is left; or it breaks off with some, of which any are left.
@@ -22,3 +56,21 @@ pub data IsRun (Due : Status → List Text → Type 0) (Cut : List Text → Type
 -- A run that doesn't break off by itself: whatever it has put is a beginning of pieces that are due.
 abbrev pub NeverCut : List Text → Type 0
 NeverCut pieces = ⊥
+
+-- What the calls of a run put.
+-- the puts of a piece: it was taken and the run continues, or the run ends with this status, whatever pieces follow this one
+abbrev pub IsPut : Text → Option Status → List Put → Type 0
+IsPut piece None puts = puts ≡ taken piece ∷ []
+IsPut piece (Some end) puts = (after : List Text) → IsTail (piece ∷ after) end puts
+
+-- the puts of a last line: it was taken and the run ends with the status meant, or it wasn't taken
+abbrev pub IsLast : Text → Status → Status → List Put → Type 0
+IsLast line meant end puts = ((end ≡ meant) × (puts ≡ taken line ∷ [])) ⊎ IsTail (line ∷ []) end puts
+
+-- the puts of an end because memory ran out
+abbrev pub IsWanting : Status → List Put → Type 0
+IsWanting end puts = (answer : Result (Unit {0}) SinkError) × (end ≡ status_after answer) × (puts ≡ memory_put answer ∷ [])
+
+-- the puts of an end with a last line, or because memory ran out
+abbrev pub IsEnd : Text → Status → Status → List Put → Type 0
+IsEnd line meant end puts = IsLast line meant end puts ⊎ IsWanting end puts

@@ -2,7 +2,5 @@
 #![tactic(auto)]
 
 mod puts;
-mod status;
 
-pub use puts::{put_last, put_line, put_memory, put_piece};
-pub use status::Status;
+pub use puts::{Status, put_last, put_line, put_memory, put_piece};

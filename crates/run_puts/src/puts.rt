@@ -1,10 +1,11 @@
-ghost use Rattle.std.specs.Prelude.{List, ◌++◌, MatchResult};
+ghost use Rattle.std.specs.Prelude.{List, ◌++◌, MatchResult, ◌≡◌};
 ghost use Rattle.outside.specs.Puts.{Put};
-ghost use Rattle.run_puts.specs.Ends.{IsLast, IsPut, IsWanting};
+ghost use Rattle.run_puts.specs.Runs.{IsLast, IsPut, IsWanting};
+ghost use Rattle.run_puts.specs.Statuses.{code_of};
 
-use crate::status::Status;
-use outside::{Sink, SinkError};
+use outside::{Refusal, Sink, SinkError};
 use std::alloc::AllocError;
+use step_problem::{NoBound, Place};
 
 /// Puts the line MEMORY once, and ends the run.
 pub fn put_memory<K: Sink>(out: &mut K) -> Status
@@ -50,5 +51,58 @@ pub fn put_line<K: Sink>(out: &mut K, line: Result<Vec<u8>, AllocError>, meant: 
     match line {
         Ok(text) => put_last(out, text.as_slice(), meant),
         Err(_) => put_memory(out),
+    }
+}
+
+/// How a run ends. Periods and steps are counted from 1.
+#[derive(Drop)]
+pub enum Status {
+    /// The command was done.
+    Ok,
+    /// The words don't form a command.
+    Usage,
+    /// The files are refused.
+    Refused(Refusal),
+    /// A step has no bounds.
+    NoBound {
+        period: u32,
+        step: u32,
+        fault: NoBound,
+    },
+    /// The rounds didn't settle a step.
+    Unfinished {
+        period: u32,
+        step: u32,
+    },
+    /// The folder failed to read.
+    ReadFault,
+    /// A sink failed to write.
+    WriteFault,
+    /// Memory ran out.
+    Memory,
+    /// A listing isn't certified at a step.
+    NotCertified {
+        period: u32,
+        step: u32,
+        place: Place,
+    },
+}
+
+impl Status {
+    /// The exit code of the program.
+    pub fn code(&self) -> u8
+        ensures { result ≡ code_of self.now }
+    {
+        match self {
+            Status::Ok => 0,
+            Status::Usage => 1,
+            Status::Refused(_) => 2,
+            Status::NoBound { .. } => 3,
+            Status::Unfinished { .. } => 4,
+            Status::ReadFault => 5,
+            Status::WriteFault => 6,
+            Status::Memory => 7,
+            Status::NotCertified { .. } => 8,
+        }
     }
 }

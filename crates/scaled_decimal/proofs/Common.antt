@@ -1,6 +1,6 @@
 -- Names that several proofs of this crate cite, of the crates below and of its own definitions, passed on from one place. Declares nothing.
-pub use Rattle.std.proofs.Common.{MatchOption, None, Option, Some, add-one, ap, arith, inl, inr, neg_ℤ, pos, refl, subst, suc, sym, ℕ, ℤ, ◌*◌, ◌+ℤ◌, ◌+◌, ◌-◌}
-pub use Rattle.std.proofs.Common.{◌/◌, ◌<◌, ◌^◌, ◌∙◌, ◌≡◌, ◌≤ℤ◌, ◌≤◌}
+pub use Rattle.std.proofs.Common.{add-one, ap, arith, inl, inr, neg_ℤ, pos, refl, subst, suc, sym, ℕ, ℤ, ◌*◌, ◌+ℤ◌, ◌+◌, ◌-◌, ◌/◌, ◌<◌, ◌^◌, ◌∙◌, ◌≡◌, ◌≤ℤ◌}
+pub use Rattle.std.proofs.Common.{◌≤◌}
 pub use Rattle.std.proofs.Math.Nat.{div-div-eq-div-mul, div-lt_iff_lt-mul, div-mul-le_self, le-div_iff_mul-le, le_of_mul-le-mul_right, lt-mul-div-succ}
 pub use Rattle.std.proofs.Math.Nat.{lt_of_mul-lt-mul_right, mul-le-mul, mul-le-mul_left, mul-le-mul_right, pow-suc}
 pub use Rattle.std.proofs.lemmas.Bool.{cases_lt}
@@ -8,11 +8,10 @@ pub use Rattle.std.proofs.lemmas.Int.{clamps, ints}
 pub use Rattle.std.proofs.lemmas.Nat.{pow-add}
 pub use Rattle.decimal_input.proofs.Cross.{le_cancel, lt_cancel, lt_right}
 pub use Rattle.decimal_input.proofs.Orders.{AtMost-Below, AtMost-refl, AtMost-trans, Below-AtMost, Same-AtMost, Same-back, Same-trans, den_over, den_plus}
-pub use Rattle.decimal_input.proofs.Orders.{num_over, num_plus, over-AtMost, plus-AtMost, times-AtMost}
+pub use Rattle.decimal_input.proofs.Orders.{num_over, num_plus, plus-AtMost}
 pub use Rattle.decimal_input.proofs.Powers.{cross_of, den_scaled, num_scaled, power_within, scaled-AtMost, scaled_shift, scaled_times, ten_pos, up_down}
 pub use Rattle.decimal_input.proofs.SameNumbers.{Same-both, plus-comm}
 pub use Rattle.decimal_input.specs.Decimals.{down, scaled, up}
-pub use Rattle.decimal_input.specs.Ratios.{AtMost, Below, Ratio, Same, den, over, plus, ratio, times}
-pub use Rattle.scaled_decimal.specs.Cuts.{IsFrom, IsUpTo}
-pub use Rattle.scaled_decimal.specs.Nearest.{HasSize, IsDown, IsSd, IsUp, IsWithin, value}
+pub use Rattle.decimal_input.specs.Ratios.{AtMost, Below, Ratio, Same, den, over, plus, times}
+pub use Rattle.scaled_decimal.specs.Nearest.{HasSize, IsDown, IsFrom, IsSd, IsUp, IsUpTo, IsWithin, RoundingsKeepOrder, value}
 pub use Rattle.scaled_decimal.specs.declared.decimal.Sd.{Sd}

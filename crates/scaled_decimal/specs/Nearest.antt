@@ -1,8 +1,9 @@
-use Rattle.std.specs.Prelude.{◌≡◌, ℕ, ◌≤◌, ◌<◌, ◌^◌, ◌⊎◌, ℤ, pos, neg_ℤ, ◌≤ℤ◌}
+use Rattle.std.specs.Prelude.{◌≡◌, ℕ, ◌≤◌, ◌<◌, ◌^◌, ◌⊎◌, ℤ, pos, neg_ℤ, ◌≤ℤ◌, ◌+◌}
 use Rattle.std.specs.Int.{int_min, int_max}
-use Rattle.decimal_input.specs.Ratios.{Ratio, AtMost}
+use Rattle.decimal_input.specs.Ratios.{Ratio, AtMost, Below}
 use Rattle.decimal_input.specs.Decimals.{scaled}
 use Rattle.scaled_decimal.specs.declared.decimal.Sd.{Sd}
+use Rattle.decimal_input.specs.Wholes.{IsFloor, IsCeiling}
 
 -- 18 digits, or zero with the exponent 0
 abbrev pub IsSd : Sd → Type 0
@@ -39,3 +40,20 @@ pub record HasSize (r : Sd) (low high : ℤ) : Type 0 where
 pub record IsWithin (e low high : ℤ) : Type 0 where
   pub above : int_min low (pos 0) ≤ℤ e
   pub below : e ≤ℤ int_max high (pos 0)
+
+-- f lies from q to just below q + 1, in units of 10 ^ e
+pub record IsFrom (q : ℕ) (e : ℤ) (f : Ratio) : Type 0 where
+  pub from : AtMost (scaled q e) f
+  pub before : Below f (scaled (q + 1) e)
+
+-- f lies above p and not above p + 1, in units of 10 ^ e
+pub record IsUpTo (p : ℕ) (e : ℤ) (f : Ratio) : Type 0 where
+  pub after : Below (scaled p e) f
+  pub up_to : AtMost f (scaled (p + 1) e)
+
+-- f ≤ g gives f rounded ≤ g rounded, both down or both up, to 18 digits or to whole units of 10 ^ -s
+pub record RoundingsKeepOrder : Type 0 where
+  pub down : (f g : Ratio) (q r : Sd) → AtMost f g → IsDown q f → IsDown r g → AtMost (value q) (value r)
+  pub up : (f g : Ratio) (q r : Sd) → AtMost f g → IsUp q f → IsUp r g → AtMost (value q) (value r)
+  pub floors : (f g : Ratio) (n m s : ℕ) → AtMost f g → IsFloor n f s → IsFloor m g s → n ≤ m
+  pub ceilings : (f g : Ratio) (n m s : ℕ) → AtMost f g → IsCeiling n f s → IsCeiling m g s → n ≤ m

@@ -5,15 +5,12 @@ pub mod convert;
 pub mod decimal;
 pub mod laws;
 mod power;
-pub mod product;
-pub mod quotient;
-mod rounding;
+pub mod rounding;
 pub mod sum;
 pub mod units;
 
 pub use convert::{of_dec, of_units_dn, of_units_up};
 pub use decimal::Sd;
-pub use product::{mul_dn, mul_up};
-pub use quotient::{div_dn, div_up};
+pub use rounding::{div_dn, div_up, mul_dn, mul_up};
 pub use sum::{add_dn, add_up};
 pub use units::{ceil_units, floor_units};

@@ -5,7 +5,7 @@ ghost use Rattle.scaled_decimal.specs.Nearest.{IsSd, value};
 ghost use Rattle.decimal_input.specs.Wholes.{IsFloor, IsCeiling, Reaches, Passes};
 
 use crate::decimal::Sd;
-use decimal_input::whole::{whole_dn, whole_up};
+use decimal_input::units::{whole_dn, whole_up};
 
 /// The greatest whole number of units of 10 ^ -s not above the value; none where that is 2 ^ 126 or more.
 pub fn floor_units(x: Sd, s: u32) -> Option<u128>

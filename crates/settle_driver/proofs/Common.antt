@@ -6,21 +6,19 @@ pub use Rattle.std.proofs.lemmas.Int.{by_lt_z, ints, to_z-of_z}
 pub use Rattle.std.specs.Int.{w64}
 pub use Rattle.std.specs.Prelude.{IfOk, MatchOption, None, Option, Some, is_some, not, ◌&&◌, ◌||◌}
 pub use Rattle.cell_relax.proofs.Sides.{heads_in_range, is_side, tighter_first, tighter_second}
-pub use Rattle.cell_relax.specs.Sides.{AreNoLooser, IsAsTight, Moves}
-pub use Rattle.cell_relax.specs.Words.{AreWords, head_of, heads_on}
-pub use Rattle.head_table.proofs.Looser.{no_looser_trans, tight_refl}
-pub use Rattle.head_table.specs.BySide.{AreHeld, HasMoved}
+pub use Rattle.cell_relax.specs.Sides.{AreNoLooser, AreWords, IsAsTight, Moves, head_of, heads_on}
+pub use Rattle.head_table.proofs.WordReads.{no_looser_trans, tight_refl}
+pub use Rattle.head_table.specs.Rule.{AreHeld, HasMoved}
 pub use Rattle.head_table.specs.Seats.{HasTighter, IsSeatOf, ShowsSeen, barrier_of, seen_of, seen_on}
 pub use Rattle.head_table.specs.declared.table.HeadSeat.{HeadSeat}
 pub use Rattle.head_table.specs.declared.table.HeadTable.{HeadTable}
-pub use Rattle.relax_core.proofs.Exchanges.{way_on}
+pub use Rattle.relax_core.proofs.Keeping.{way_on}
 pub use Rattle.relax_core.specs.Kept.{edge_on}
-pub use Rattle.settle_driver.specs.Near.{IsHeadFrom}
-pub use Rattle.settle_driver.specs.Phases.{HasSeen, HasWorked}
+pub use Rattle.settle_driver.specs.Phases.{HasSeen, HasWorked, IsFirstSide, IsHeadFrom}
 pub use Rattle.settle_driver.specs.Sweeps.{AreBothSettled, IsPastCell, IsRelaxedCell, SettleWithin, StayOnTheWay}
 pub use Rattle.settle_driver.specs.Views.{AddsPhases, AddsTurns, AddsViews, ArePastBarrier, EnclosesPair, had_memory}
-pub use Rattle.step_problem.proofs.Sides.{IsSide, as_tight_refl, as_tight_trans, edge_kept, first_settled, passes_more, turn_passes}
-pub use Rattle.step_problem.proofs.SidesRounds.{CoversRounds, covers_more, covers_none, past_covers, rounds_settle}
+pub use Rattle.step_problem.proofs.Sides.{CoversRounds, IsSide, as_tight_refl, as_tight_trans, covers_more, covers_none, edge_kept, first_settled, passes_more}
+pub use Rattle.step_problem.proofs.Sides.{past_covers, rounds_settle, turn_passes}
 pub use Rattle.step_problem.specs.Conditions.{IsHead, IsProblem}
 pub use Rattle.step_problem.specs.Entries.{Entries}
 pub use Rattle.step_problem.specs.Heads.{AreOnTheWay, Edges, Ge, IsBarrier, IsRaise, IsSink, OpenHeads, RoundsSettleBoth, head_at, lower_at, no_bound, upper_at}

@@ -3,7 +3,7 @@ use Rattle.settle_driver.proofs.Common.{◌≡◌, ℕ, zero, suc, ◌%◌, ◌<
 use Rattle.settle_driver.proofs.Common.{Entries, IsProblem, IsPast, IsSide, as_tight_refl, passes_more, AreNoLooser, IsAsTight, heads_on, is_side, HeadTable}
 use Rattle.settle_driver.proofs.Common.{HeadSeat, HasMoved, HasTighter, seen_of, seen_on, HasSeen, HasWorked, IsPastCell, ◌≤◌, Vec, Global, Result, vec_len}
 use Rattle.settle_driver.proofs.Common.{IfOk, tighter_first, tighter_second}
-use Rattle.head_table.proofs.Closing.{ok_under}
+use Rattle.head_table.proofs.Joining.{ok_under}
 use Rattle.std.specs.declared.alloc.AllocError.{AllocError}
 use Rattle.std.proofs.Math.ListN.{get_or-append}
 use native.Mathlib.Nat.{mod-lt}

@@ -1,8 +1,7 @@
 -- A cell that can move, and one that can't.
 use Rattle.settle_driver.proofs.Common.{◌≡◌, ℕ, ◌<◌, inl, inr, subst, arith, false, List, length, ℤ, ◌≤ℤ◌, ◌<ℤ◌, ints, by_lt_z, Option, Some, None, MatchOption}
-use Rattle.settle_driver.proofs.Common.{is_some, Bound, Side, Low, High, Entries, lower_at, upper_at, IsRaise, IsSink, CanMove, AreBothSettled}
+use Rattle.settle_driver.proofs.Common.{is_some, Bound, Side, Low, High, Entries, lower_at, upper_at, IsRaise, IsSink, CanMove, AreBothSettled, IsFirstSide}
 use lib.Signed.{lt_z}
-use Rattle.settle_driver.specs.Opening.{IsFirstSide}
 
 module _ (p : List Entries) (w : List Bound) (c : ℕ) (r : ℤ) where
   pub raise_moves : IsRaise p (lower_at w) c r → lower_at w c <ℤ r → CanMove p w c Low

@@ -4,10 +4,9 @@ use Rattle.step_problem.specs.declared.heads.Bound.{Bound}
 use Rattle.step_problem.specs.declared.heads.Side.{Side}
 use Rattle.step_problem.specs.Entries.{Entries}
 use Rattle.step_problem.specs.Sides.{AreHeads, IsSettled, RoundsSettle}
-use Rattle.cell_relax.specs.Sides.{IsAsTight, IsRelaxedOn, Moves}
-use Rattle.cell_relax.specs.Words.{heads_on}
+use Rattle.cell_relax.specs.Sides.{IsAsTight, IsRelaxedOn, Moves, heads_on}
 use Rattle.relax_core.specs.Kept.{OnTheWay}
-use Rattle.head_table.specs.BySide.{HasMoved}
+use Rattle.head_table.specs.Rule.{HasMoved}
 
 module _ (p : List Entries) where
   -- the words of cell c are its raise and its sink value from the old words

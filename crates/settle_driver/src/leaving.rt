@@ -1,7 +1,7 @@
 // Whether heads have left a barrier inside another one.
 ghost use Rattle.std.specs.Prelude.{◌≡◌, ◌<◌, ◌⊎◌, ℕ, ◌≤ℤ◌, ◌<ℤ◌, length, true};
 ghost use Rattle.step_problem.specs.Heads.{IsBarrier, head_at, lower_at, upper_at};
-ghost use Rattle.step_problem.specs.Leaving.{HaveLeft};
+ghost use Rattle.step_problem.specs.Laws.{HaveLeft};
 
 use step_problem::{Barrier, Bound, Problem};
 

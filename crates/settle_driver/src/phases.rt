@@ -1,13 +1,12 @@
 // One phase: the seats are made, the workers make their turns, the seats are joined, and the table is closed.
-ghost use Rattle.std.specs.Prelude.{◌≡◌, ℕ, ◌+◌, ◌<◌, ◌≤◌, length, slice_index_or, IfOk, All, vec_len};
+ghost use Rattle.std.specs.Prelude.{◌≡◌, ℕ, ◌+◌, ◌<◌, ◌≤◌, length, slice_index_or, IfOk, All, vec_len, ◌*◌, ◌↔◌, IsTrue};
 ghost use Rattle.step_problem.specs.Heads.{AreOnTheWay};
 ghost use Rattle.head_table.specs.declared.table.HeadSeat.{HeadSeat};
 ghost use Rattle.cell_relax.specs.Sides.{AreNoLooser};
 ghost use Rattle.head_table.specs.Seats.{IsSeatOf, seen_of};
-ghost use Rattle.settle_driver.specs.Phases.{HasSeen, HasWorked, IsPlan};
+ghost use Rattle.settle_driver.specs.Phases.{HasSeen, HasWorked, IsPlan, AreShared};
 ghost use Rattle.settle_driver.specs.Sweeps.{IsPastCell};
 
-use crate::plan::{Plan, turns_of_each};
 use head_table::{HeadSeat, HeadTable};
 use outside::Gate;
 use relax_worker::{own_turns, work};
@@ -131,4 +130,33 @@ pub(crate) fn phase<R: Threads + Sync, G: Gate + Sync>(
     let seats = seats_after_turns(rt, &table, seats, turns, gate);
     gather(&table, &mut seat, seats);
     table.close(seat)
+}
+
+// How a problem is settled by workers.
+
+/// The number of workers, from 1 to 64; the turns for each cell in a phase, at most 512; and at least one
+/// round, which is the greatest number of phases.
+#[derive(Clone, Copy, Debug)]
+pub struct Plan {
+    pub workers: u32,
+    pub turns_per_cell: u32,
+    pub rounds: u32,
+}
+
+impl Plan {
+    /// Whether the plan keeps its limits.
+    pub fn fits(&self) -> bool
+        ensures { IsTrue result ↔ IsPlan self.now }
+    {
+        1 <= self.workers && self.workers <= 64 && self.turns_per_cell <= 512 && 1 <= self.rounds
+    }
+}
+
+// The turns of each worker in a phase.
+pub(crate) fn turns_of_each(plan: Plan, cells: u32) -> u32
+    requires plan { IsPlan plan }
+    requires cells { cells ≤ 4194304 }
+    ensures { AreShared (plan.turns_per_cell * cells) plan.workers result }
+{
+    (plan.turns_per_cell * cells).div_ceil(plan.workers)
 }

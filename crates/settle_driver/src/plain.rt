@@ -3,7 +3,7 @@ ghost use Rattle.std.specs.Prelude.{◌≡◌};
 ghost use Rattle.step_problem.specs.Heads.{AreOnTheWay, IsBarrier};
 ghost use Rattle.step_problem.specs.Settling.{Settles};
 ghost use Rattle.step_problem.specs.Settling.PairKind.{settled};
-ghost use Rattle.cell_relax.specs.Words.{AreWords};
+ghost use Rattle.cell_relax.specs.Sides.{AreWords};
 ghost use Rattle.settle_driver.specs.Sweeps.{StayOnTheWay, SettleWithin};
 
 use crate::open::first_open;

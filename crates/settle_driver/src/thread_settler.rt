@@ -5,7 +5,7 @@ ghost use Rattle.step_problem.specs.Settling.{Settles};
 ghost use Rattle.step_problem.specs.Settling.PairKind.{settled};
 ghost use Rattle.settle_driver.specs.Phases.{IsPlan};
 
-use crate::plan::Plan;
+use crate::phases::Plan;
 use crate::threads::{settle, settle_from};
 use outside::Gate;
 use std::alloc::Global;

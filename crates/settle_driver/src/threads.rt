@@ -5,8 +5,7 @@ ghost use Rattle.step_problem.specs.Settling.{Settles};
 ghost use Rattle.settle_driver.specs.Phases.{IsPlan};
 
 use crate::open::first_open;
-use crate::phases::phase;
-use crate::plan::Plan;
+use crate::phases::{Plan, phase};
 use head_table::edge_words;
 use outside::Gate;
 use std::alloc::{AllocError, Global};

@@ -2,7 +2,7 @@
 ghost use Rattle.std.specs.Prelude.{◌≡◌};
 ghost use Rattle.step_problem.specs.Settling.PairKind.{settled};
 
-use crate::viewer::Viewer;
+use crate::watch_settler::Viewer;
 use std::alloc::Global;
 use step_problem::{Barrier, Bound, Problem, SettleFault, Settler};
 

@@ -10,9 +10,8 @@ ghost use Rattle.settle_driver.specs.Sweeps.{IsPastCell};
 ghost use Rattle.settle_driver.specs.Views.{AddsPhases, AddsTurns, ArePastBarrier, had_memory};
 
 use crate::open::first_open;
-use crate::phases::{deal, gather, work_at};
-use crate::plan::{Plan, turns_of_each};
-use crate::viewer::Viewer;
+use crate::phases::{Plan, deal, gather, turns_of_each, work_at};
+use crate::watch_settler::Viewer;
 use crate::watching::{Watch, watch_phase};
 use head_table::{HeadSeat, HeadTable, edge_words};
 use outside::Gate;

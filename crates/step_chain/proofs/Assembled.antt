@@ -1,12 +1,14 @@
 -- Kinds of cells by their tests, indices of variable cells, and the range of a step's heads.
 use Rattle.step_chain.proofs.Common.{◌≡◌, ℕ, ◌<◌, inl, inr, true, false, List, length, get_or, sym, ap, ◌∙◌, subst, arith, ℤ, cases_Bool, and_parts}
-use Rattle.step_chain.proofs.Common.{false_from_ne_true, not-true, true≢false, get_or_default, get_or-map, length-map, Fraction, Bound, IsHead, no_bound}
-use Rattle.step_chain.proofs.Common.{lower_at, upper_at, AreWords, Entries, FlowModel, TimeStep, cell_count, is_active, is_variable, is_constant, index_of}
-use Rattle.step_chain.proofs.Common.{variable_cells, exact_step, Decks, IsConstantPairFor, AreGridHeads, bound_at, AreHeadsOf, ◌&&◌, not, ints, ExactCell}
-use Rattle.step_chain.proofs.Common.{cell_at, no_cell}
+use Rattle.step_chain.proofs.Common.{false_from_ne_true, not-true, true≢false, Fraction, Bound, IsHead, no_bound, lower_at, upper_at, AreWords, Entries}
+use Rattle.step_chain.proofs.Common.{FlowModel, TimeStep, cell_count, is_active, is_variable, is_constant, index_of, variable_cells, exact_step, Decks}
+use Rattle.step_chain.proofs.Common.{IsConstantPairFor, AreGridHeads, bound_at, AreHeadsOf, ◌&&◌, not, ints, ExactCell, cell_at, no_cell, ◌+◌, ◌≤◌, cond, set}
+use Rattle.step_chain.proofs.Common.{cases_order, kind_of, HasConstantHeadFor, AreConstantHeadsFor}
+use Rattle.std.proofs.lemmas.List.{get_or_default, get_or-map, length-map, length-set, get_or-set_same, get_or-set_other}
 use Rattle.model_types.proofs.Ranks.{passing, rank_below, at_rank}
 use Rattle.flow_equations.proofs.Links.{ids_are, below_is, index_is}
 use Rattle.problem_builder.proofs.ActiveCells.{variable_active, constant_active}
+use Rattle.model_types.specs.declared.given_heads.Kind.TheVariants.{NoFlow, Constant, Variable}
 
 -- Kinds of cells by their tests.
 
@@ -65,4 +67,53 @@ module _ (d : Decks) (at : TimeStep) (p : List Entries) (bounds heads : List Bou
   heads_in_range = record {
     whole = are.whole;
     range = λ k b lt. subst AreHeads (get_or_default heads k no_bound b lt) (each_fits k (omega (arith, lt, are.whole)));
+  }
+
+-- The heads of all cells, filled in place: those of the variable cells among the constant heads of a time.
+pub kind_variable : (m : FlowModel) (p c : ℕ) → is_variable m p c ≡ true → kind_of m p c ≡ Variable
+kind_variable m p c e = ap (λ v. cond v Variable (cond (is_constant m p c) Constant NoFlow)) e
+
+-- the variable cells among the first n have their bounds, all other cells their constant heads
+pub record IsPartly (d : Decks) (at : TimeStep) (bounds heads : List Bound) (n : ℕ) : Type 0 where
+  pub whole : length heads ≡ cell_count d.first.grid
+  pub variable : (c : ℕ) → c < n → is_variable d.first at.period c ≡ true → bound_at heads c ≡ bound_at bounds (index_of d.first at.period c)
+  pub other : (c : ℕ) → c < cell_count d.first.grid → is_variable d.first at.period c ≡ false → HasConstantHeadFor d at c (bound_at heads c)
+
+module _ (d : Decks) (at : TimeStep) (bounds heads : List Bound) where
+  pub partly_at_first : AreConstantHeadsFor d at heads → IsPartly d at bounds heads 0
+  partly_at_first h = record { whole = h.count; variable = λ c lt v. absurd (omega (arith, lt)); other = λ c lt v. h.each c lt }
+
+  pub partly_other : (n : ℕ) → (is_variable d.first at.period n ≡ true → ⊥) → IsPartly d at bounds heads n → IsPartly d at bounds heads (n + 1)
+  partly_other n not_variable h = record {
+    whole = h.whole;
+    variable = λ c lt v. elim (cases_order c n) [
+      | inl same ↦ (let P : ℕ → Type 0 = λ k. is_variable d.first at.period k ≡ true in absurd (not_variable (subst P same v)))
+      | inr (inl less) ↦ h.variable c less v
+      | inr (inr more) ↦ absurd (omega (arith, lt, more))
+    ];
+    other = h.other;
+  }
+
+  pub partly_variable : (n : ℕ) (b : Bound) → n < cell_count d.first.grid → is_variable d.first at.period n ≡ true → b ≡ bound_at bounds (index_of d.first at.period n) →
+      IsPartly d at bounds heads n → IsPartly d at bounds (set heads n b) (n + 1)
+  partly_variable n b inside here is h = record {
+    whole = length-set heads n b ∙ h.whole;
+    variable = λ c lt v. elim (cases_order c n) [
+      | inl same ↦ (let P : ℕ → Type 0 = λ k. bound_at (set heads n b) k ≡ bound_at bounds (index_of d.first at.period k) in
+          subst P (sym same) (get_or-set_same heads n b no_bound (omega (arith, inside, h.whole)) ∙ is))
+      | inr (inl less) ↦ get_or-set_other heads n c b no_bound (λ same. omega (arith, same, less)) ∙ h.variable c less v
+      | inr (inr more) ↦ absurd (omega (arith, lt, more))
+    ];
+    other = λ c lt v.
+        let H : Bound → Type 0 = HasConstantHeadFor d at c in
+        let P : ℕ → Type 0 = λ k. is_variable d.first at.period k ≡ false in
+        subst H (sym (get_or-set_other heads n c b no_bound (λ same. true≢false (sym here ∙ subst P same v)))) (h.other c lt v);
+  }
+
+  pub all_filled : (n : ℕ) → cell_count d.first.grid ≤ n → IsPartly d at bounds heads n → AreHeadsOf d at bounds heads
+  all_filled n past h = record {
+    whole = h.whole;
+    variable = λ c lt v. h.variable c (omega (arith, lt, past)) v;
+    constant = λ c lt k. (h.other c lt (constant_not_variable d.first at.period c k)).constant k;
+    no_flow = λ c lt idle. (h.other c lt (idle_not_variable d.first at.period c idle)).other (idle_not_constant d.first at.period c idle);
   }

@@ -3,33 +3,31 @@ pub use Rattle.std.proofs.Common.{Bool, Contains, List, [], ap, arith, cond, fal
 pub use Rattle.std.proofs.Common.{ℤ, ◌*ℤ◌, ◌+◌, ◌-◌, ◌<ℤ◌, ◌<◌, ◌^◌, ◌∙◌, ◌∷◌, ◌≡◌, ◌≤ℤ◌, ◌≤◌}
 pub use Rattle.std.proofs.lemmas.Bool.{and_parts, cases_Bool, cases_order, false_from_ne_true, not-true, true≢false}
 pub use Rattle.std.proofs.lemmas.Int.{clamps, ints}
-pub use Rattle.std.proofs.lemmas.List.{get_or-map, get_or-set_other, get_or-set_same, get_or_default, length-map, length-set}
 pub use Rattle.std.specs.Prelude.{Err, IfOk, Ok, Result, not, ◌&&◌}
 pub use Rattle.barrier_vector.proofs.Clamping.{clamped_at, clamped_fits}
-pub use Rattle.barrier_vector.specs.CutLaws.{CutBarrierExcludesRefusal, CutBarrierIsOne, CutRefusalIsOne}
+pub use Rattle.barrier_vector.specs.Barriers.{BarrierExcludesRefusal, CutBarrierExcludesRefusal, CutBarrierIsOne, CutRefusalIsOne}
 pub use Rattle.barrier_vector.specs.Cuts.{EnclosesUncut, IsCutBarrierOf, clamp, clamped}
 pub use Rattle.barrier_vector.specs.declared.BarrierFault.{BarrierFault}
-pub use Rattle.cell_balance.specs.Enclosures.{CellEncloses, EnclosesStep}
-pub use Rattle.cell_balance.specs.Solutions.{LiesBetween, SolvesStep}
+pub use Rattle.cell_balance.specs.Balance.{LiesBetween, SolvesStep}
+pub use Rattle.cell_balance.specs.Enclosures.{CellEncloses, EnclosesSolutions, EnclosesStep}
 pub use Rattle.cell_balance.specs.Steps.{ExactCell, cell_at, no_cell}
-pub use Rattle.cell_relax.specs.Words.{AreWords}
-pub use Rattle.certificate_check.specs.Certificates.{IsRangeRefusal}
-pub use Rattle.certificate_check.specs.Laws.{CertificateEncloses, CertificateExcludesRefusal, ClampedPairEncloses, RangeRefusalIsOne, SettledPairEncloses}
+pub use Rattle.cell_relax.specs.Sides.{AreWords}
+pub use Rattle.certificate_check.specs.Certificates.{CertificateEncloses, CertificateExcludesRefusal, ClampedPairEncloses, IsRangeRefusal, RangeRefusalIsOne}
+pub use Rattle.certificate_check.specs.Certificates.{SettledPairEncloses}
 pub use Rattle.decimal_input.specs.Fractions.{Fraction}
 pub use Rattle.deck_problems.proofs.Members.{HasCellsOf, between_cells, cell_of_member, constant_same, each_member, encloses_first, encloses_member}
 pub use Rattle.deck_problems.proofs.Members.{member_cells, of_member}
 pub use Rattle.deck_problems.specs.ConstantHeads.{AreConstantHeadsFor, HasConstantHeadFor, IsConstantPairFor}
 pub use Rattle.deck_problems.specs.Decks.{AreDecks, EachMember}
+pub use Rattle.deck_problems.specs.Kept.{EnclosesSteps, digits_of}
 pub use Rattle.deck_problems.specs.Laws.{ConstantPairEncloses, ConstantPairFits, ConstantPairIsOne, IsBefore, ProblemEncloses, ProblemExcludesRefusal}
 pub use Rattle.deck_problems.specs.Laws.{ProblemFits, ProblemIsOne, StartHeadsEnclose, StartHeadsFit}
-pub use Rattle.deck_problems.specs.Made.{EnclosesSteps}
 pub use Rattle.deck_problems.specs.Problems.{IsProblemFor}
 pub use Rattle.deck_problems.specs.declared.decks.Decks.{Decks}
 pub use Rattle.flow_equations.specs.ExactStep.{exact_step}
 pub use Rattle.flow_equations.specs.Histories.{heads_of, variable_heads}
-pub use Rattle.model_types.specs.Cells.{cell_count}
-pub use Rattle.model_types.specs.Heads.{constant_head, start_head}
-pub use Rattle.model_types.specs.Kinds.{index_of, is_constant, is_variable, kind_of, variable_cells}
+pub use Rattle.model_types.specs.Faces.{cell_count}
+pub use Rattle.model_types.specs.Heads.{constant_head, index_of, is_constant, is_variable, kind_of, start_head, variable_cells}
 pub use Rattle.model_types.specs.Layers.{is_active}
 pub use Rattle.model_types.specs.declared.limits.Limits.{Limits}
 pub use Rattle.model_types.specs.declared.limits.Limits.TheVariants.{Plain, Wide}
@@ -39,9 +37,8 @@ pub use Rattle.problem_builder.specs.GridHeads.{AreGridHeads, HeadsEnclose, IsAc
 pub use Rattle.step_chain.specs.Barriers.{HasNoBarrier, IsBarrierBy, IsBarrierFault, edges_by}
 pub use Rattle.step_chain.specs.Enclosing.{EnclosesMove, EnclosesMoves, IsMove, LieBetween, LiesBetweenBy, LiesWithin}
 pub use Rattle.step_chain.specs.Faults.{FailsBy, IsNoCertificate, SettlesNot, of_barrier}
-pub use Rattle.step_chain.specs.GridHeads.{AreHeadsOf, bound_at}
 pub use Rattle.step_chain.specs.Laws.{HeadsFit, HistoriesLieWithin, RefusalIsOne, StepEncloses, StepExcludesRefusal, StepIsOne, WideKeepsSteps}
-pub use Rattle.step_chain.specs.Steps.{AreSteps, HasNoHeads, HasNoPose, IsPosed, IsStepBy, LeavesRange, LieWithin, two}
+pub use Rattle.step_chain.specs.Steps.{AreHeadsOf, AreSteps, HasNoHeads, HasNoPose, IsPosed, IsStepBy, LeavesRange, LieWithin, bound_at, two}
 pub use Rattle.step_chain.specs.declared.solved.Solved.{Solved}
 pub use Rattle.step_problem.proofs.Pairs.{either_certifies, given_is}
 pub use Rattle.step_problem.specs.Conditions.{IsHead, IsProblem, head_limit}

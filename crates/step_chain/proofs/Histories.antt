@@ -6,7 +6,7 @@ use Rattle.step_chain.proofs.Common.{LiesWithin, StepEncloses, HeadsFit, PairKin
 use Rattle.model_types.specs.Times.{times}
 use Rattle.model_types.proofs.Members.{Contains-In}
 use Rattle.problem_builder.proofs.Named.{In-Contains}
-use Rattle.deck_span.specs.Histories.{SolvesBetweenFrom}
+use Rattle.deck_span.specs.Models.{SolvesBetweenFrom}
 
 pub first_in : (t : TimeStep) (ts : List TimeStep) → Contains (t ∷ ts) t
 first_in t ts = Contains-In (t ∷ ts) t (inl refl)

@@ -1,11 +1,17 @@
 -- Barriers by limits: each is a cut one, from which settling begins at a barrier of heads.
 use Rattle.step_chain.proofs.Common.{ℕ, ◌<◌, List, length, ℤ, Edges, head_at, IsProblem, Entries, IsBarrierBy, edges_by, Limits, Plain, Wide, IsCutBarrierOf}
 use Rattle.step_chain.proofs.Common.{EnclosesUncut, ClampedPairEncloses, SettledPairEncloses, LiesBetweenBy, Result, Ok, Err, IfOk, BarrierFault, IsBarrier}
-use Rattle.step_chain.proofs.Common.{IsSettledPair, ExactCell, EnclosesStep, SolvesStep, clamped_fits}
+use Rattle.step_chain.proofs.Common.{IsSettledPair, ExactCell, EnclosesStep, SolvesStep, clamped_fits, ◌≡◌, ◌≤ℤ◌, inl, inr, arith, pos, Bound, PairKind}
+use Rattle.step_chain.proofs.Common.{IsPairOf, IsCertificate, lower_at, upper_at, no_bound, neg_ℤ, ◌<ℤ◌, ints, clamps, NoBound, head_limit, AreInside, IsGiven}
+use Rattle.step_chain.proofs.Common.{settled, certified, either_certifies, given_is, clamp, clamped, clamped_at, IsRangeRefusal, IsNoCertificate, Bool}
+use Rattle.step_chain.proofs.Common.{SettledPairExists, TimeStep, exact_step, variable_heads, Decks, EnclosesSteps, IsProblemFor, each_member, of_member}
+use Rattle.step_chain.proofs.Common.{Solved, LieBetween, AreHeadsOf, IsStepBy, EachMember}
 use Rattle.cell_balance.specs.Components.{IsHeldBelow}
 use Rattle.barrier_vector.proofs.Enclosing.{encloses_all}
 use Rattle.barrier_vector.specs.Bounds.{IsFloor, IsCeiling}
 use Rattle.barrier_vector.proofs.Cutting.{barrier_is_cut, cut_encloses, cut_holds}
+use Rattle.certificate_check.proofs.Cut.{excludes_refusal}
+use Rattle.step_chain.specs.Leads.{LeadsBy, LeadsOrRests, LeadsWithout}
 
 pub cut_by : (limits : Limits) (p : List Entries) (b : Edges) → IsBarrierBy limits p b → IsCutBarrierOf p b
 cut_by Plain p b h = barrier_is_cut p b h
@@ -42,3 +48,87 @@ module _ (p : List Entries) (fits : IsProblem p) where
   pub plain_uncut : (r : Result Edges BarrierFault) → IfOk r (IsBarrierBy Plain p) → IfOk r (EnclosesUncut p)
   plain_uncut (Ok b) h = uncut_by Plain p b fits h
   plain_uncut (Err e) h = tt
+
+-- A pair over the clamped barrier: it is a certificate over the cut barrier, or the settled pair is refused.
+-- a head above the least one that is at most a clamped floor is at most the floor; below the greatest one, for ceilings
+low_unclamped : (v f g : ℤ) → g ≡ clamp f → neg_ℤ (pos head_limit) <ℤ v → v ≤ℤ g → v ≤ℤ f
+low_unclamped v f g is inside h = omega (arith, ints, clamps, is, inside, h)
+
+high_unclamped : (v f g : ℤ) → g ≡ clamp f → v <ℤ pos head_limit → g ≤ℤ v → f ≤ℤ v
+high_unclamped v f g is inside h = omega (arith, ints, clamps, is, inside, h)
+
+module _ (p : List Entries) (b : Edges) (bounds : List Bound) where
+  -- so no head inside the range needs a bound that was cut
+  inside_certifies : AreInside p (clamped b) bounds → IsCertificate p b (lower_at bounds) (upper_at bounds)
+  inside_certifies h = record {
+    low = λ c lt. elim (h.certified.certificate.low c lt) [
+      | inl edge ↦ inl (low_unclamped (lower_at bounds c) (head_at b.floor c) _ (clamped_at b.floor c) (h.inside c no_bound (in_range lt)).0 edge)
+      | inr sign ↦ inr sign
+    ];
+    high = λ c lt. elim (h.certified.certificate.high c lt) [
+      | inl edge ↦ inl (high_unclamped (upper_at bounds c) (head_at b.ceiling c) _ (clamped_at b.ceiling c) (h.inside c no_bound (in_range lt)).1 edge)
+      | inr sign ↦ inr sign
+    ];
+  }
+    where
+      in_range : {c : ℕ} → c < length p → c < length bounds
+      in_range lt = omega (arith, lt, h.certified.whole)
+
+  module _ (fits : IsProblem p) (of_p : IsCutBarrierOf p b) (kind : PairKind) (given : IsGiven p kind (clamped b) bounds) where
+    bars : IsBarrier p (clamped b)
+    bars = edges_fit Wide p b of_p
+
+    pub is_pair : IsPairOf p kind (clamped b) bounds
+    is_pair = given_is p (clamped b) fits bars kind bounds given
+
+    pub certifies_clamped : IsCertificate p (clamped b) (lower_at bounds) (upper_at bounds)
+    certifies_clamped = (either_certifies p (clamped b) fits bars kind bounds is_pair).certificate
+
+  -- a refusal has the settled pair as its cause
+  pub settled_refused : (kind : PairKind) → IsGiven p kind (clamped b) bounds → (n : NoBound) → IsRangeRefusal p b bounds n → IsNoCertificate Wide p b n
+  settled_refused settled given n refused = (bounds, given, refused)
+  settled_refused certified (inl given) n refused = (bounds, given, refused)
+  settled_refused certified (inr inside) n refused = absurd (excludes_refusal p b bounds n (inside_certifies inside) refused)
+
+-- What the calls of a step gave, put together.
+-- a step's problem, barrier, pair of this kind, and heads
+pub record AreParts (limits : Limits) (d : Decks) (s : ℕ) (at : TimeStep) (old : List Bound) (kind : PairKind) (barrier : Edges) (x : Solved) : Type 0 where
+  pub problem : IsProblemFor d s at old x.problem
+  pub of_problem : IsBarrierBy limits x.problem barrier
+  pub pair : IsPairOf x.problem kind (edges_by limits barrier) x.bounds
+  pub certificate : IsCertificate x.problem barrier (lower_at x.bounds) (upper_at x.bounds)
+  pub heads : AreHeadsOf d at x.bounds x.heads
+
+module _ (limits : Limits) (d : Decks) (s : ℕ) (at : TimeStep) (old : List Bound) (kind : PairKind) (barrier : Edges) (x : Solved) (parts : AreParts limits d s at old kind barrier x) where
+  pub is_step : IsStepBy limits d s at old kind x
+  is_step = record {
+    barrier = barrier;
+    posed = record { problem = parts.problem; barrier = parts.of_problem };
+    pair = parts.pair;
+    certificate = parts.certificate;
+    heads = parts.heads;
+  }
+
+-- what a settling did to its settler, and the settled pair, which there is whether or not the settling reached it
+module _ (limits : Limits) (d : Decks) (s : ℕ) (at : TimeStep) (old : List Bound) (p : List Entries) (barrier : Edges) (fits : IsProblem p) (of_problem : IsBarrierBy limits p barrier)
+    (steps : EachMember d (EnclosesSteps s at old p)) (pair_exists : SettledPairExists) (pair_encloses : SettledPairEncloses) (clamped_encloses : ClampedPairEncloses) where
+  pub led_by : {S : Type 0} (leads : S → List Entries → Edges → Bool → S → Type 0) (ended : Bool) (before after : S) → leads before p (edges_by limits barrier) ended after → LeadsBy leads limits d at old p ended before after
+  led_by leads ended before after led =
+      let (l, u, pair) = pair_exists p (edges_by limits barrier) fits (edges_fit limits p barrier of_problem) in
+      let solutions = pair_lies pair_encloses clamped_encloses limits p barrier l u fits of_problem pair in
+      record {
+        barrier = barrier;
+        is = of_problem;
+        low = l;
+        high = u;
+        pair = pair;
+        encloses = each_member d (λ m. LieBetween limits m at old p l u) (λ m k.
+            λ heads n X move. solutions s (exact_step m at.period at.step heads) n (variable_heads (exact_step m at.period at.step heads) X)
+            (of_member d (EnclosesSteps s at old p) steps m k heads move.within) move.some move.solves.balances);
+        led = led;
+      }
+
+  -- so did that of a step without heads, or its settler is unchanged
+  pub leads_or_rests : {S : Type 0} (leads : S → List Entries → Edges → Bool → S → Type 0) → IsProblemFor d s at old p → (before after : S) → LeadsWithout leads limits p barrier before after → LeadsOrRests leads limits d s at old before after
+  leads_or_rests leads is before after (inl same) = inl same
+  leads_or_rests leads is before after (inr (ended, plain, led)) = inr (p, is, ended, plain, led_by leads ended before after led)

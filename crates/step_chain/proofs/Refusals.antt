@@ -3,10 +3,14 @@ use Rattle.step_chain.proofs.Common.{◌≡◌, ℕ, inl, inr, sym, subst, List,
 use Rattle.step_chain.proofs.Common.{Solved, Decks, TimeStep, IsBefore, ProblemIsOne, ProblemFits, ProblemExcludesRefusal, CutBarrierExcludesRefusal}
 use Rattle.step_chain.proofs.Common.{CutBarrierIsOne, IsBarrierBy, edges_by, Limits, Plain, Wide, StepExcludesRefusal, RefusalIsOne, NoBound, settled}
 use Rattle.step_chain.proofs.Common.{CutRefusalIsOne, IsRangeRefusal, CertificateExcludesRefusal, RangeRefusalIsOne, HasNoBarrier, HasNoPose, IsPosed, IsStepBy}
-use Rattle.step_chain.proofs.Common.{LeavesRange}
-use Rattle.barrier_vector.specs.Barriers.{BarrierExcludesRefusal, RefusalIsOne as BarrierRefusalIsOne}
+use Rattle.step_chain.proofs.Common.{LeavesRange, IsBarrierFault, IsProblemFor, BarrierFault, FailsBy, IsNoCertificate, SettlesNot, of_barrier, HasNoHeads}
+use Rattle.step_chain.proofs.Common.{BarrierExcludesRefusal}
+use Rattle.barrier_vector.specs.Barriers.{RefusalIsOne as BarrierRefusalIsOne}
 use Rattle.deck_problems.specs.Laws.{RefusalIsOne as ProblemRefusalIsOne}
 use Rattle.step_chain.proofs.OneStep.{settled_one}
+use Rattle.step_chain.specs.declared.solved.StepFault.{StepFault}
+use Rattle.step_chain.specs.declared.solved.StepFault.TheVariants as step
+use Rattle.barrier_vector.specs.declared.BarrierFault.TheVariants as barrier
 
 -- a problem with a barrier by limits has no refusal by them
 barrier_excludes : BarrierExcludesRefusal → CutBarrierExcludesRefusal → (limits : Limits) (p : List Entries) (b : Edges) (n : NoBound) → IsProblem p → IsBarrierBy limits p b → HasNoBarrier limits p n → ⊥
@@ -79,3 +83,23 @@ module _ (problem_one : ProblemIsOne) (problem_fits : ProblemFits) (problem_excl
       absurd (posed_excludes problem_one problem_fits problem_excludes plain cut Wide d s at old x.problem x.barrier b before x.posed y)
   refusals_one of_problem of_plain of_cut of_range Wide d s at old a b before (inr x) (inr y) =
       of_range x.problem x.barrier x.bounds a b x.refused (ranges_one problem_one problem_fits barrier_one pair_one d s at old x.problem x.barrier x.bounds b before x.posed x.pair y)
+
+-- The faults of a step, by those of its builder, its barrier and its settling.
+pub unposed : (limits : Limits) (d : Decks) (s : ℕ) (at : TimeStep) (old : List Bound) (n : NoBound) → HasNoPose limits d s at old n → HasNoHeads limits d s at old n
+unposed Plain d s at old n h = h
+unposed Wide d s at old n h = inl h
+
+module _ (d : Decks) (s : ℕ) (at : TimeStep) (old : List Bound) (rounds : ℕ) (p : List Entries) (is : IsProblemFor d s at old p) where
+  pub barrier_fails : (limits : Limits) (fault : BarrierFault) → IsBarrierFault limits p fault → FailsBy limits d s at old rounds (of_barrier fault)
+  barrier_fails limits (barrier.NoBound n) h = unposed limits d s at old n (inr (p, is, h))
+  barrier_fails limits barrier.Memory h = tt
+
+  -- a settled pair that is no certificate over its barrier
+  out_of_range : (limits : Limits) (b : Edges) → IsBarrierBy limits p b → (n : NoBound) → IsNoCertificate limits p b n → HasNoHeads limits d s at old n
+  out_of_range Plain b of_p n h = absurd h
+  out_of_range Wide b of_p n (bounds, pair, refused) = inr (record { problem = p; barrier = b; posed = record { problem = is; barrier = of_p }; bounds = bounds; pair = pair; refused = refused })
+
+  pub settle_fails : (limits : Limits) (b : Edges) → IsBarrierBy limits p b → (fault : StepFault) → SettlesNot limits p b rounds fault → FailsBy limits d s at old rounds fault
+  settle_fails limits b of_p (step.NoBound n) h = out_of_range limits b of_p n h
+  settle_fails limits b of_p (step.Unfinished o) h = record { problem = p; barrier = b; posed = record { problem = is; barrier = of_p }; unfinished = h }
+  settle_fails limits b of_p step.Memory h = tt

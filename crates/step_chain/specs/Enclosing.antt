@@ -6,7 +6,7 @@ use Rattle.step_problem.specs.Entries.{Entries}
 use Rattle.step_problem.specs.Conditions.{head_limit}
 use Rattle.step_problem.specs.Heads.{lower_at, upper_at}
 use Rattle.cell_balance.specs.Enclosures.{EnclosesStep}
-use Rattle.cell_balance.specs.Solutions.{LiesBetween}
+use Rattle.cell_balance.specs.Balance.{LiesBetween}
 use Rattle.model_types.specs.declared.limits.Limits.{Limits}
 use Rattle.model_types.specs.declared.limits.Limits.TheVariants.{Plain, Wide}
 use Rattle.model_types.specs.declared.model.FlowModel.{FlowModel}

@@ -15,7 +15,7 @@ use Rattle.step_problem.specs.Settling.{PairKind}
 use Rattle.step_problem.specs.Settling.PairKind.{settled}
 use Rattle.step_chain.specs.Steps.{IsStepBy, IsSettledStep, HasNoHeads}
 use Rattle.model_types.specs.declared.model.FlowModel.{FlowModel}
-use Rattle.deck_span.specs.Histories.{SolvesBetween}
+use Rattle.deck_span.specs.Models.{SolvesBetween}
 use Rattle.step_chain.specs.Steps.{AreAllSteps, LieWithin}
 
 -- there is at most one settled step

@@ -1,6 +1,5 @@
 pub mod Steps
 pub mod Laws
-pub mod GridHeads
 pub mod Barriers
 pub mod Enclosing
 pub mod Faults

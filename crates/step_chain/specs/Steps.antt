@@ -1,9 +1,9 @@
 -- A time step of one deck, or of two: its problem, from the heads before it, its barrier, its settled pair, and the heads of all cells; or why it has none.
-use Rattle.std.specs.Prelude.{ℕ, ◌⊎◌, List, ℤ, [], ◌∷◌, Some}
+use Rattle.std.specs.Prelude.{ℕ, ◌⊎◌, List, ℤ, [], ◌∷◌, Some, ◌≡◌, ◌<◌, true, false, length, slice_index_or}
 use Rattle.step_problem.specs.declared.heads.Bound.{Bound}
 use Rattle.step_problem.specs.declared.place.NoBound.{NoBound}
 use Rattle.step_problem.specs.Entries.{Entries}
-use Rattle.step_problem.specs.Heads.{Edges, lower_at, upper_at, IsCertificate, RoundsSettleBoth}
+use Rattle.step_problem.specs.Heads.{Edges, lower_at, upper_at, IsCertificate, RoundsSettleBoth, no_bound}
 use Rattle.step_problem.specs.Settling.{PairKind, AreSettled, IsPairOf}
 use Rattle.step_problem.specs.Settling.PairKind.{settled}
 use Rattle.certificate_check.specs.Certificates.{IsRangeRefusal}
@@ -14,12 +14,28 @@ use Rattle.deck_problems.specs.declared.decks.Decks.{Decks}
 use Rattle.deck_problems.specs.Problems.{IsProblemFor, HasNoProblemFor}
 use Rattle.step_chain.specs.declared.solved.Solved.{Solved}
 use Rattle.step_chain.specs.Barriers.{IsBarrierBy, HasNoBarrier, edges_by}
-use Rattle.step_chain.specs.GridHeads.{AreHeadsOf}
 use Rattle.model_types.specs.declared.model.FlowModel.{FlowModel}
 use Rattle.model_types.specs.Times.{times}
 use Rattle.deck_problems.specs.Decks.{AreDecks}
-use Rattle.deck_problems.specs.StartHeads.{AreStartHeadsFor}
+use Rattle.deck_problems.specs.ConstantHeads.{AreStartHeadsFor, IsConstantPairFor}
 use Rattle.step_chain.specs.Enclosing.{LiesWithin}
+use Rattle.model_types.specs.Faces.{cell_count}
+use Rattle.model_types.specs.Layers.{is_active}
+use Rattle.model_types.specs.Heads.{is_variable, is_constant, index_of}
+
+-- The heads of all cells of the grid at the end of a step, from those of its variable cells.
+-- the bound of a cell, or of an index
+abbrev pub bound_at : List Bound → ℕ → Bound
+bound_at bounds c = slice_index_or bounds c no_bound
+
+-- One bound for each cell of the grid, by cell number: a variable cell has that of its index, a constant-head cell
+-- that of its head at this time, or the hull of both decks' ones, a cell without flow zeros.
+pub record AreHeadsOf (d : Decks) (at : TimeStep) (bounds heads : List Bound) : Type 0 where
+  pub whole : length heads ≡ cell_count d.first.grid
+  pub variable : (c : ℕ) → c < cell_count d.first.grid → is_variable d.first at.period c ≡ true →
+      bound_at heads c ≡ bound_at bounds (index_of d.first at.period c)
+  pub constant : (c : ℕ) → c < cell_count d.first.grid → is_constant d.first at.period c ≡ true → IsConstantPairFor d at c (lower_at heads c) (upper_at heads c)
+  pub no_flow : (c : ℕ) → c < cell_count d.first.grid → is_active d.first c ≡ false → bound_at heads c ≡ no_bound
 
 -- A step of decks with s digits of conductances, by these limits, where `old` are the heads of all cells before it.
 module _ (limits : Limits) (d : Decks) (s : ℕ) (at : TimeStep) (old : List Bound) where

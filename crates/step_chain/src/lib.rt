@@ -2,12 +2,9 @@
 //! cells, between which every solution of the exact equations lies.
 #![tactic(auto)]
 
-mod barriers;
-mod heads;
 pub mod laws;
 pub mod solved;
 mod step;
 
-pub use barriers::barrier_by;
-pub use solved::{Solved, StepFault};
+pub use solved::{Solved, StepFault, barrier_by};
 pub use step::{next_step, next_step_with};

@@ -1,22 +1,24 @@
 // The next step of one deck, or of two.
 ghost use Rattle.std.specs.Prelude.{◌≡◌, ◌≤◌, ℕ, Contains, IfOk, IfErr, MatchResult, true};
-ghost use Rattle.cell_relax.specs.Words.{AreWords};
+ghost use Rattle.cell_relax.specs.Sides.{AreWords};
 ghost use Rattle.model_types.specs.Times.{times};
 ghost use Rattle.problem_builder.specs.GridHeads.{AreGridHeads, IsActive, IsNamed};
 ghost use Rattle.deck_problems.specs.Decks.{AreDecks, EachMember};
 ghost use Rattle.deck_problems.specs.Kept.{AreDeckTables, digits_of};
-ghost use Rattle.step_chain.specs.Steps.{IsStepBy};
+ghost use Rattle.step_chain.specs.Steps.{IsStepBy, bound_at, AreHeadsOf};
 ghost use Rattle.step_chain.specs.Faults.{FailsBy};
 ghost use Rattle.step_chain.specs.Leads.{LeadsBy, LeadsOrRests};
 ghost use Rattle.step_chain.specs.Enclosing.{EnclosesMoves};
+ghost use Rattle.model_types.specs.Grids.{HasSize};
+ghost use Rattle.deck_problems.specs.ConstantHeads.{AreConstantHeadsFor};
+ghost use Rattle.problem_builder.specs.Tables.{ArePeriodTables};
 
-use crate::barriers::{barrier_by, settle_by};
-use crate::heads::fill_in;
 use crate::laws::{heads_fit, steps_enclose};
-use crate::solved::{Solved, StepFault};
+use crate::solved::{Solved, StepFault, barrier_by, settle_by};
 use certificate_check::laws::{clamped_pair_encloses, settled_pair_encloses};
 use deck_problems::{DeckTables, Decks, problem_for};
-use model_types::{Limits, Listed, TimeStep};
+use model_types::{Kind, Limits, Listed, TimeStep};
+use problem_builder::PeriodTables;
 use std::alloc::Global;
 use step_problem::laws::settled_pair;
 use step_problem::{Bound, Settler};
@@ -109,4 +111,42 @@ pub fn next_step<S: Settler>(
 {
     let mut tables = DeckTables::new(alloc, decks, s)?;
     next_step_with(alloc, limits, decks, &mut tables, at, old, settler)
+}
+
+// The heads of all cells of the grid.
+
+const NONE: Bound = Bound { low: 0, high: 0 };
+
+// The bound of an index, zeros past the end.
+fn bound_at(bounds: &[Bound], index: u32) -> Bound
+    ensures { result ≡ bound_at bounds.now index }
+{
+    match bounds.get(index as usize) {
+        Some(bound) => *bound,
+        None => NONE,
+    }
+}
+
+/// The heads of all cells, from the constant heads of a time and the bounds of its variable cells. It takes no memory.
+pub fn fill_in(
+    decks: &Decks,
+    period: &PeriodTables,
+    at: TimeStep,
+    constant_heads: Listed<Bound>,
+    bounds: &[Bound],
+) -> Listed<Bound>
+    requires size { HasSize decks.now.first.grid }
+    requires period { (s : ℕ) × ArePeriodTables decks.now.first s at.period period.now }
+    requires constant { AreConstantHeadsFor decks.now at constant_heads }
+    ensures { AreHeadsOf decks.now at bounds.now result }
+{
+    let _at = at;
+    let mut heads = constant_heads;
+    let count = decks.first.grid.cell_count();
+    for cell in 0..count {
+        if let Kind::Variable = period.kind_at(cell) {
+            heads.set(cell as usize, bound_at(bounds, period.index_at(cell)));
+        }
+    }
+    heads
 }

@@ -1,8 +1,8 @@
 -- A problem has a base on each side: the outermost of its marks, or 0.
 use Rattle.step_or_refusal.proofs.Common.{◌≡◌, ℕ, zero, suc, ◌⊎◌, inl, inr, refl, subst, add-one, List, [], ◌∷◌, length, Option, None, Some, ℤ, pos, Side}
-use Rattle.step_or_refusal.proofs.Common.{Entries, entries_at}
+use Rattle.step_or_refusal.proofs.Common.{Entries, entries_at, fixed_mark, river_mark, drain_mark, outer_of, IsOutermost, IsMarkIn, IsCellMark, IsMarkBelow}
+use Rattle.step_or_refusal.proofs.Common.{IsBase}
 use Rattle.std.specs.Option.{unwrap_or}
-use Rattle.barrier_vector.specs.Marks.{fixed_mark, river_mark, drain_mark, outer_of, IsOutermost, IsMarkIn, IsCellMark, IsMarkBelow, IsBase}
 use Rattle.barrier_vector.proofs.Marking.{outer_joins, no_marks, no_cells, cells_more, outermost_as, one_mark}
 use Rattle.step_or_refusal.proofs.Decided.{of_all, first_entry, later_entry}
 

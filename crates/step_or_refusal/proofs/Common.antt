@@ -7,20 +7,21 @@ pub use Rattle.std.proofs.lemmas.List.FromFn.{get_or-map-range_with_len, length-
 pub use Rattle.std.specs.List.{range_with_len}
 pub use Rattle.barrier_vector.proofs.Backs.{join_ways, leads_within, reaches_within}
 pub use Rattle.barrier_vector.proofs.Uniques.{has_a_bound, inner_one}
-pub use Rattle.barrier_vector.specs.Bounds.{AnchorRoot, IsAnchoredBound, IsBoundOn, IsInnerPath, IsLongest, IsUnanchored, LeastRoot, anchor_on, moved_out}
+pub use Rattle.barrier_vector.specs.Bounds.{AnchorRoot, IsAnchoredBound, IsBoundOn, IsInnerPath, IsLevel, IsLongest, IsPath, IsUnanchored, LeadsToRoot}
+pub use Rattle.barrier_vector.specs.Bounds.{LeastRoot, SumsTo, anchor_on, ceil_over, moved_out}
 pub use Rattle.barrier_vector.specs.Cuts.{AreCutBounds, IsCutBoundOn, Refuses, RefusesOn, clamped, cut_on}
-pub use Rattle.barrier_vector.specs.Lacks.{lack, need}
-pub use Rattle.barrier_vector.specs.Paths.{IsLevel, IsPath, LeadsToRoot, SumsTo, ceil_over}
+pub use Rattle.barrier_vector.specs.Marks.{IsBase, IsCellMark, IsMarkBelow, IsMarkIn, IsOutermost, drain_mark, fixed_mark, lack, need, outer_of, river_mark}
 pub use Rattle.barrier_vector.specs.Refusals.{HasNoBound, IsLeastWith, IsOutOfRange, IsRefusedOn, Names, Nowhere, no_barrier_on, range_on}
 pub use Rattle.cell_balance.specs.Components.{IsCarried, IsComponent, Reaches, deep_low, sum_inside}
 pub use Rattle.deck_problems.specs.Decks.{one_deck}
 pub use Rattle.deck_problems.specs.Laws.{IsBefore}
 pub use Rattle.model_types.specs.declared.model.FlowModel.{FlowModel}
 pub use Rattle.model_types.specs.declared.time_steps.TimeStep.{TimeStep}
+pub use Rattle.problem_builder.specs.GridHeads.{AreGridHeads, IsConstantPair}
 pub use Rattle.problem_builder.specs.Laws.{ProblemFits, StartHeadsFit}
 pub use Rattle.problem_or_refusal.specs.Laws.{ConstantPairsExist, ProblemOrRefusal, StartHeadsExist}
 pub use Rattle.step_chain.proofs.Limits.{edges_fit}
-pub use Rattle.step_chain.specs.Steps.{HasNoHeads, IsSettledStep}
+pub use Rattle.step_chain.specs.Steps.{AreHeadsOf, HasNoHeads, IsSettledStep, bound_at}
 pub use Rattle.step_chain.specs.declared.solved.Solved.{Solved}
 pub use Rattle.step_or_refusal.specs.Laws.{BarrierOrRefusal, CutBarrierOrRefusal, ListingOrRefusal, StepOrRefusal}
 pub use Rattle.step_problem.specs.Conditions.{IsHead, IsProblem, head_limit}

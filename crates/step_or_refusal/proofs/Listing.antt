@@ -1,27 +1,24 @@
 -- A model has a whole listing, or a first refusal at one of its times.
 use Rattle.step_or_refusal.proofs.Common.{◌≡◌, ℕ, ◌⊎◌, inl, inr, Option, None, Some, Ok, Err, Result, List, [], ◌∷◌, refl, sym, subst, Bound, lower_at}
 use Rattle.step_or_refusal.proofs.Common.{upper_at, FlowModel, TimeStep, StartHeadsFit, StartHeadsExist, one_deck, StepOrRefusal, ListingOrRefusal, Bool}
-use Rattle.step_or_refusal.proofs.Common.{ProblemFits, NoBound, IsBefore, Solved, edges_fit, IsSettledStep}
+use Rattle.step_or_refusal.proofs.Common.{ProblemFits, NoBound, IsBefore, Solved, edges_fit, IsSettledStep, AreGridHeads}
 use Rattle.step_problem.specs.declared.place.ZoneFlow.{ZoneFlow}
 use Rattle.model_types.specs.Times.{times}
 use Rattle.model_types.specs.Valid.{IsModel}
-use Rattle.problem_builder.specs.GridHeads.{AreGridHeads}
 use Rattle.step_chain.specs.Laws.{HeadsFit}
 use Rattle.step_problem.proofs.Pairs.{settled_is}
 use Rattle.model_types.specs.declared.limits.Limits.{Limits}
 use Rattle.step_chain.specs.Barriers.{edges_by}
-use Rattle.zone_flows.specs.TableFlows.{listed_flows}
-use Rattle.zone_flows.specs.Tables.{with_faces}
+use Rattle.zone_flows.specs.Tables.{listed_flows, with_faces}
 use Rattle.zone_flows.proofs.Fitting.{faces_fit}
 use Rattle.zone_flows.proofs.Meaning.{are_flows, is_first}
-use Rattle.listing_run.specs.declared.step.Step.{Step}
-use Rattle.listing_run.specs.declared.task.Task.{Task}
+use Rattle.listing_run.specs.declared.solving.Step.{Step}
+use Rattle.listing_run.specs.declared.steps.Task.{Task}
 use Rattle.listing_run.specs.Steps.{budget_at, IsSolved, IsStep, HasNoBound, no_heads, no_budget, no_zones, Steps}
-use Rattle.listing_run.specs.Tasks.{one_task, pairs_of}
-use Rattle.zone_pairs.specs.Zones.{AreZones}
-use Rattle.listing_run.specs.Zones.{AreFlowsAt, HasLargeFlow, faces_at}
+use Rattle.listing_run.specs.Tasks.{one_task, pairs_of, AreFlowsAt, HasLargeFlow, faces_at}
+use Rattle.zone_pairs.specs.Pairs.{AreZones}
 use Rattle.listing_run.proofs.Unique.{IsRest, rest_whole, rest_more, first_in}
-use Rattle.listing_run.specs.declared.listing_end.ListingEnd.TheVariants as ends
+use Rattle.listing_run.specs.declared.text.ListingEnd.TheVariants as ends
 
 ok_or_err : {X : Type 0} (r : Result X NoBound) → ((x : X) × (r ≡ Ok x)) ⊎ ((n : NoBound) × (r ≡ Err n))
 ok_or_err (Ok x) = inl (x, refl)

@@ -1,18 +1,17 @@
 -- A problem with a barrier has a settled pair as a list, and the heads of all cells by that pair.
 use Rattle.step_or_refusal.proofs.Common.{◌≡◌, ℕ, ◌<◌, ◌∙◌, inl, inr, Bool, true, false, List, length, map, refl, sym, ap, subst, arith, ℤ, Bound, Edges}
 use Rattle.step_or_refusal.proofs.Common.{no_bound, lower_at, upper_at, IsSettledPair, FlowModel, TimeStep, one_deck, Entries, range_with_len, cases_Bool}
-use Rattle.step_or_refusal.proofs.Common.{false≢true, length-map-range_with_len, get_or-map-range_with_len, IsProblem, IsHead}
+use Rattle.step_or_refusal.proofs.Common.{false≢true, length-map-range_with_len, get_or-map-range_with_len, IsProblem, IsHead, IsConstantPair, bound_at}
+use Rattle.step_or_refusal.proofs.Common.{AreHeadsOf}
 use Rattle.std.specs.Prelude.{not, ◌&&◌}
 use Rattle.step_problem.specs.Settling.{AreSettled}
 use Rattle.step_problem.specs.Sides.{IsFirstSettled}
 use Rattle.step_problem.proofs.BothSides.{low_side, high_side}
 use Rattle.step_problem.proofs.Sides.{IsSide, same_as_tight, as_tight_trans, same_settled}
-use Rattle.model_types.specs.Cells.{cell_count}
-use Rattle.model_types.specs.Kinds.{is_variable, index_of}
+use Rattle.model_types.specs.Faces.{cell_count}
+use Rattle.model_types.specs.Heads.{is_variable, index_of}
 use Rattle.model_types.specs.Layers.{is_active}
-use Rattle.problem_builder.specs.ConstantHeads.{IsConstantPair}
 use Rattle.problem_builder.proofs.ActiveCells.{variable_active, constant_active}
-use Rattle.step_chain.specs.GridHeads.{bound_at, AreHeadsOf}
 
 -- being the first settled vector is of the cells below n alone
 same_first : {Le : ℤ → ℤ → Type 0} {Moves : ℕ → ℤ → (ℕ → ℤ) → Type 0} {n : ℕ} (s : IsSide Le Moves n) (edge l m : ℕ → ℤ) → ((c : ℕ) → c < n → m c ≡ l c) → IsFirstSettled Le Moves n edge l → IsFirstSettled Le Moves n edge m

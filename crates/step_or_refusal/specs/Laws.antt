@@ -10,17 +10,17 @@ use Rattle.deck_problems.specs.Decks.{one_deck}
 use Rattle.deck_problems.specs.Laws.{IsBefore}
 use Rattle.step_chain.specs.declared.solved.Solved.{Solved}
 use Rattle.step_chain.specs.Steps.{IsSettledStep, HasNoHeads}
-use Rattle.listing_run.specs.declared.step.Step.{Step}
+use Rattle.listing_run.specs.declared.solving.Step.{Step}
 use Rattle.listing_run.specs.Steps.{AllSteps}
 use Rattle.listing_run.specs.Tasks.{one_task}
-use Rattle.zone_pairs.specs.Zones.{AreZones}
+use Rattle.zone_pairs.specs.Pairs.{AreZones}
 use Rattle.step_problem.specs.Conditions.{IsProblem}
 use Rattle.step_problem.specs.Entries.{Entries}
 use Rattle.step_problem.specs.Heads.{Edges}
 use Rattle.barrier_vector.specs.Barriers.{IsBarrierOf}
 use Rattle.barrier_vector.specs.Refusals.{IsRefused}
 use Rattle.barrier_vector.specs.Cuts.{IsCutBarrierOf, IsUnbounded}
-use Rattle.listing_run.specs.declared.listing_end.ListingEnd.TheVariants as ends
+use Rattle.listing_run.specs.declared.text.ListingEnd.TheVariants as ends
 
 -- A time of a valid model, from heads of all its cells, has a settled step or a refusal.
 abbrev pub StepOrRefusal : Type 0

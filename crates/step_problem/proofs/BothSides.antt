@@ -1,7 +1,8 @@
 -- The lower and the upper side of a problem are sides.
 use Rattle.step_problem.proofs.Common.{◌≡◌, ℕ, ◌<◌, arith, ℤ, ◌≤ℤ◌, List, length, ints, All, All-weaker, Link, Entries, entries_at, IsProblem, Ge, CanRise}
-use Rattle.step_problem.proofs.Common.{CanSink}
-use Rattle.step_problem.proofs.Falls.{lower_rises, upper_rises}
+use Rattle.step_problem.proofs.Common.{CanSink, pos, neg_ℤ, ◌+ℤ◌, ◌-ℤ◌, ◌<ℤ◌, clamps, by_lt_z, int_min, int_max, IsHead, head_limit, AreHeads, IsSettled}
+use Rattle.step_problem.proofs.Common.{LowerShifts, UpperShifts}
+use Rattle.step_problem.proofs.Falls.{lower_rises, upper_rises, lower_moves, upper_moves}
 use Rattle.step_problem.proofs.Sides.{IsSide}
 
 pub le_refl : (x : ℤ) → x ≤ℤ x
@@ -32,3 +33,66 @@ high_side p ok = record {
   anti = λ x y a b. le_anti x y b a;
   helps = λ c v l m h up can. le_trans _ _ _ (upper_rises (entries_at p c) v m l (at_ends (λ k. m k ≤ℤ l k) p ok up c h)) can;
 }
+
+-- A shift of all heads by so many units: balances get no better, so settled heads stay settled.
+pub lower_shifts : LowerShifts
+lower_shifts c k v w h g up ends =
+    lower_moves c v w g h (omega (arith, ints)) (All-weaker (λ (x : Link). g x.cell ≤ℤ (h x.cell +ℤ pos k)) (λ (x : Link). (g x.cell -ℤ v) ≤ℤ (h x.cell -ℤ w)) (λ x i. omega (arith, ints, i)) c.links ends)
+
+pub upper_shifts : UpperShifts
+upper_shifts c k v w h g down ends =
+    upper_moves c w v h g (omega (arith, ints)) (All-weaker (λ (x : Link). (h x.cell -ℤ pos k) ≤ℤ g x.cell) (λ (x : Link). (h x.cell -ℤ w) ≤ℤ (g x.cell -ℤ v)) (λ x i. omega (arith, ints, i)) c.links ends)
+
+-- a head so many units tighter, cut at the end of the range
+abbrev pub raised : ℕ → ℤ → ℤ
+raised k x = int_min (x +ℤ pos k) (pos head_limit)
+
+abbrev pub sunk : ℕ → ℤ → ℤ
+sunk k x = int_max (x -ℤ pos k) (neg_ℤ (pos head_limit))
+
+raised_at_most : (k : ℕ) (x : ℤ) → raised k x ≤ℤ (x +ℤ pos k)
+raised_at_most k x = omega (arith, ints, clamps)
+
+sunk_at_least : (k : ℕ) (x : ℤ) → (x -ℤ pos k) ≤ℤ sunk k x
+sunk_at_least k x = omega (arith, ints, clamps)
+
+pub raised_reaches : (k : ℕ) (v x : ℤ) → v ≤ℤ pos head_limit → (v -ℤ pos k) ≤ℤ x → v ≤ℤ raised k x
+raised_reaches k v x a b = omega (arith, ints, clamps)
+
+pub sunk_reaches : (k : ℕ) (v x : ℤ) → neg_ℤ (pos head_limit) ≤ℤ v → x ≤ℤ (v +ℤ pos k) → sunk k x ≤ℤ v
+sunk_reaches k v x a b = omega (arith, ints, clamps)
+
+back_up : (v k : ℤ) → ((v -ℤ k) +ℤ k) ≤ℤ v
+back_up v k = omega (arith, ints)
+
+back_down : (v k : ℤ) → v ≤ℤ ((v +ℤ k) -ℤ k)
+back_down v k = omega (arith, ints)
+
+-- a head so many units back, where that is a head
+lower_head : (v : ℤ) (k : ℕ) → IsHead v → neg_ℤ (pos head_limit) ≤ℤ (v -ℤ pos k) → IsHead (v -ℤ pos k)
+lower_head v k head far = record { above = far; below = omega (arith, ints, head.below) }
+
+higher_head : (v : ℤ) (k : ℕ) → IsHead v → (v +ℤ pos k) ≤ℤ pos head_limit → IsHead (v +ℤ pos k)
+higher_head v k head far = record { above = omega (arith, ints, head.above); below = far }
+
+-- lower heads that are settled stay so when all are raised by so many units
+pub raised_settled : (p : List Entries) → IsProblem p → (k : ℕ) (m : ℕ → ℤ) → AreHeads ◌≤ℤ◌ (CanRise p) (length p) m → IsSettled ◌≤ℤ◌ (CanRise p) (length p) m → IsSettled ◌≤ℤ◌ (CanRise p) (length p) (λ c. raised k (m c))
+raised_settled p ok k m heads settled c h v head can = raised_reaches k v (m c) head.below (by_lt_z (v -ℤ pos k) (neg_ℤ (pos head_limit)) out within)
+  where
+    out : (v -ℤ pos k) <ℤ neg_ℤ (pos head_limit) → (v -ℤ pos k) ≤ℤ m c
+    out a = omega (arith, ints, a, (heads c h).above)
+
+    within : neg_ℤ (pos head_limit) ≤ℤ (v -ℤ pos k) → (v -ℤ pos k) ≤ℤ m c
+    within a = settled c h (v -ℤ pos k) (lower_head v k head a)
+        (le_trans _ _ _ can (lower_shifts (entries_at p c) k v (v -ℤ pos k) m (λ d. raised k (m d)) (back_up v (pos k)) (at_ends (λ d. raised k (m d) ≤ℤ (m d +ℤ pos k)) p ok (λ d i. raised_at_most k (m d)) c h)))
+
+-- and upper heads when all are sunk
+pub sunk_settled : (p : List Entries) → IsProblem p → (k : ℕ) (m : ℕ → ℤ) → AreHeads Ge (CanSink p) (length p) m → IsSettled Ge (CanSink p) (length p) m → IsSettled Ge (CanSink p) (length p) (λ c. sunk k (m c))
+sunk_settled p ok k m heads settled c h v head can = sunk_reaches k v (m c) head.above (by_lt_z (pos head_limit) (v +ℤ pos k) out within)
+  where
+    out : pos head_limit <ℤ (v +ℤ pos k) → m c ≤ℤ (v +ℤ pos k)
+    out a = omega (arith, ints, a, (heads c h).below)
+
+    within : (v +ℤ pos k) ≤ℤ pos head_limit → m c ≤ℤ (v +ℤ pos k)
+    within a = settled c h (v +ℤ pos k) (higher_head v k head a)
+        (le_trans _ _ _ (upper_shifts (entries_at p c) k v (v +ℤ pos k) m (λ d. sunk k (m d)) (back_down v (pos k)) (at_ends (λ d. (m d -ℤ pos k) ≤ℤ sunk k (m d)) p ok (λ d i. sunk_at_least k (m d)) c h)) can)

@@ -1,7 +1,7 @@
 -- A balance falls weakly in its own head and rises weakly in the heads at the other ends.
 use Rattle.step_problem.proofs.Common.{ℕ, arith, ℤ, pos, neg_ℤ, ◌+ℤ◌, ◌-ℤ◌, ◌*ℤ◌, ◌≤ℤ◌, List, [], ◌∷◌, ints, clamps, All-head, All-tail, Link, Entries}
-use Rattle.step_problem.proofs.Common.{All-weaker, total, FallsInOwnHead, RisesInOtherHeads}
-use Rattle.step_problem.specs.Balances.{link_low, fixed_low, river_low, drain_low, evap_low, lower_balance, link_high, fixed_high, river_high, drain_high, evap_high, upper_balance}
+use Rattle.step_problem.proofs.Common.{All-weaker, total, FallsInOwnHead, RisesInOtherHeads, link_low, fixed_low, river_low, drain_low, evap_low, lower_balance}
+use Rattle.step_problem.proofs.Common.{link_high, fixed_high, river_high, drain_high, evap_high, upper_balance}
 use Rattle.std.proofs.Common.{All}
 use Rattle.step_problem.proofs.Ring.{mul_mono}
 use Rattle.step_problem.proofs.Leasts.{least_rises, most_rises}

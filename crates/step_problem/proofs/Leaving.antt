@@ -3,8 +3,7 @@ use Rattle.step_problem.proofs.Common.{ℕ, zero, suc, ◌*◌, ◌<◌, ◌⊎�
 use Rattle.step_problem.proofs.Common.{IsHead, IsProblem, head_limit, AsTight, AreHeads, IsSettled, IsFirstSettled, Ge, CanRise, CanSink, head_at}
 use Rattle.step_problem.proofs.Common.{LeavingSettles}
 use Rattle.step_problem.proofs.Sides.{IsSide, as_tight_trans}
-use Rattle.step_problem.proofs.BothSides.{low_side, high_side}
-use Rattle.step_problem.proofs.Shifts.{raised, sunk, raised_settled, sunk_settled}
+use Rattle.step_problem.proofs.BothSides.{low_side, high_side, raised, sunk, raised_settled, sunk_settled}
 
 -- all heads of a side can be made tighter by so many units
 record IsShiftable (Le : ℤ → ℤ → Type 0) (Moves : ℕ → ℤ → (ℕ → ℤ) → Type 0) (n : ℕ) : Type 0 where

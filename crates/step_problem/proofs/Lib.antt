@@ -3,13 +3,11 @@ pub mod Ring
 pub mod Leasts
 pub mod Falls
 pub mod Sides
-pub mod SidesRounds
 pub mod SidesTurns
 pub mod BothSides
 pub mod Searches
 pub mod SidesSettled
 pub mod BothSettle
 pub mod Sums
-pub mod Shifts
 pub mod Leaving
 pub mod Pairs

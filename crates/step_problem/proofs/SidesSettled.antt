@@ -1,8 +1,7 @@
 -- On one side the first settled heads are there: rounds from the barrier reach them, since each makes the room that is left less.
 use Rattle.step_problem.proofs.Common.{◌≡◌, ℕ, zero, suc, ◌+◌, ◌<◌, ◌≤◌, sym, subst, arith, ℤ, ⊎_elim, cases_lt, cases_eq, AsTight, AreHeads, IsRound}
 use Rattle.step_problem.proofs.Common.{IsSettled, IsCertified, IsFirstSettled, IsOnTheWay}
-use Rattle.step_problem.proofs.Sides.{IsSide, edge_kept, first_settled, first_settled_is_one, same_certified}
-use Rattle.step_problem.proofs.SidesRounds.{round_tightens, round_on_the_way}
+use Rattle.step_problem.proofs.Sides.{IsSide, edge_kept, first_settled, first_settled_is_one, same_certified, round_tightens, round_on_the_way}
 use Rattle.step_problem.proofs.Searches.{IsSearchable, round_is_there}
 
 -- the sum of f over the numbers below k

@@ -6,7 +6,7 @@ use Rattle.step_problem.specs.declared.entry.River.{River}
 use Rattle.step_problem.specs.declared.entry.Drain.{Drain}
 use Rattle.step_problem.specs.declared.entry.Evap.{Evap}
 use Rattle.step_problem.specs.Entries.{Entries, entries_at, link_at}
-use Rattle.step_problem.specs.Flows.{least, most}
+use Rattle.step_problem.specs.Balances.{least, most}
 
 -- z lies from -b to b
 pub record IsWithin (z : ℤ) (b : ℕ) : Type 0 where

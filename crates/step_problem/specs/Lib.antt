@@ -1,13 +1,8 @@
 pub mod Entries
-pub mod Flows
 pub mod Balances
 pub mod Conditions
 pub mod Sides
-pub mod Exchanges
 pub mod Heads
 pub mod Settling
 pub mod Laws
-pub mod BothSides
-pub mod Names
 pub mod StepRefusals
-pub mod Leaving

@@ -2,8 +2,14 @@
 use Rattle.std.specs.Prelude.{ℕ, ◌==◌, List, [], ◌∷◌, Option, codes}
 use Rattle.std.specs.List.{find}
 use Rattle.step_problem.specs.declared.refusal.StepRefusal.{StepRefusal}
-use Rattle.step_problem.specs.declared.refusal.StepRefusal.TheVariants.{ConductanceTooSmall, ConductanceTooLarge, FlowTooLarge}
-use Rattle.step_problem.specs.declared.refusal.StepRefusal.TheVariants.{NoBarrierLow, NoBarrierHigh, RangeLow, RangeHigh}
+use Rattle.step_problem.specs.declared.refusal.StepRefusal.TheVariants.{ConductanceTooSmall, ConductanceTooLarge, FlowTooLarge, NoBarrierLow, NoBarrierHigh}
+use Rattle.step_problem.specs.declared.refusal.StepRefusal.TheVariants.{RangeLow, RangeHigh}
+use Rattle.step_problem.specs.declared.heads.Side.{Side}
+use Rattle.step_problem.specs.declared.heads.Side.TheVariants.{Low, High}
+use Rattle.step_problem.specs.declared.place.Dir.{Dir}
+use Rattle.step_problem.specs.declared.place.Dir.TheVariants.{In, Out}
+use Rattle.step_problem.specs.declared.place.Term.{Term}
+use Rattle.step_problem.specs.declared.place.Term.TheVariants.{Storage, ConstantHead, Wells, Drains, RiverLeakage, HeadDepBounds, Recharge, Et}
 
 abbrev pub number_of : StepRefusal → ℕ
 number_of ConductanceTooSmall = 21
@@ -29,3 +35,23 @@ all_refusals = ConductanceTooSmall ∷ ConductanceTooLarge ∷ FlowTooLarge ∷ 
 -- the refusal that has this number
 abbrev pub refusal_of : ℕ → Option StepRefusal
 refusal_of number = find (λ refusal. number_of refusal == number) all_refusals
+
+-- The words of the listing, as ASCII text.
+abbrev pub side_name : Side → List ℕ
+side_name Low = codes "LOW"
+side_name High = codes "HIGH"
+
+abbrev pub dir_name : Dir → List ℕ
+dir_name In = codes "IN"
+dir_name Out = codes "OUT"
+
+-- the terms of the volumetric budget (TM 6-A16, chapter 3)
+abbrev pub term_name : Term → List ℕ
+term_name Storage = codes "STORAGE"
+term_name ConstantHead = codes "CONSTANT HEAD"
+term_name Wells = codes "WELLS"
+term_name Drains = codes "DRAINS"
+term_name RiverLeakage = codes "RIVER LEAKAGE"
+term_name HeadDepBounds = codes "HEAD DEP BOUNDS"
+term_name Recharge = codes "RECHARGE"
+term_name Et = codes "ET"

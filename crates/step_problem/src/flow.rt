@@ -1,6 +1,6 @@
 // The flow over a conductance that is known by two bounds.
 ghost use Rattle.std.specs.Prelude.{◌≡◌, ◌≤◌, ◌*◌, ◌^◌};
-ghost use Rattle.step_problem.specs.Flows.{least, most};
+ghost use Rattle.step_problem.specs.Balances.{least, most};
 ghost use Rattle.step_problem.specs.Conditions.{IsWithin};
 
 /// The least flow over a conductance from `lo` to `hi`, where the head at its other end is higher by `difference`.

@@ -18,7 +18,7 @@ pub enum Side {
 
 impl fmt::Display for Side {
     ghost use Rattle.std.specs.Prelude.{Some};
-    ghost use Rattle.step_problem.specs.Names.{side_name};
+    ghost use Rattle.step_problem.specs.StepRefusals.{side_name};
 
     ghost output = { λ s. Some (side_name s) };
 

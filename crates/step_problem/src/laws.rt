@@ -1,7 +1,7 @@
 // Laws that the layers above use. Each is the contract of an empty function.
 ghost use Rattle.step_problem.specs.Balances.{lower_balance, upper_balance};
-ghost use Rattle.step_problem.specs.Leaving.{LowerShifts, UpperShifts, LeavingSettles};
-ghost use Rattle.step_problem.specs.Laws.{FallsInOwnHead, RisesInOtherHeads, RoundsKeepOrder, SettledPairExists, SettledPairIsOne, SettledPairCertifies};
+ghost use Rattle.step_problem.specs.Laws.{LowerShifts, UpperShifts, LeavingSettles, FallsInOwnHead, RisesInOtherHeads, RoundsKeepOrder, SettledPairExists};
+ghost use Rattle.step_problem.specs.Laws.{SettledPairIsOne, SettledPairCertifies};
 
 /// A balance falls weakly in its own head.
 #[tactic(auto, using(crate::proofs::Falls::lower_falls, crate::proofs::Falls::upper_falls))]
@@ -36,7 +36,7 @@ pub fn settled_pair_certifies()
 
 /// If a cell's head rises by k units and its neighbours' by at most k, its lower balance does not rise
 /// (mirrored for the upper one).
-#[tactic(auto, using(crate::proofs::Shifts::lower_shifts, crate::proofs::Shifts::upper_shifts))]
+#[tactic(auto, using(crate::proofs::BothSides::lower_shifts, crate::proofs::BothSides::upper_shifts))]
 pub fn balances_shift()
     ensures lower { LowerShifts }
     ensures upper { UpperShifts }

@@ -1,6 +1,6 @@
 // Why a step has no bounds, and where.
 ghost use Rattle.std.specs.Prelude.{Some};
-ghost use Rattle.step_problem.specs.Names.{dir_name, term_name};
+ghost use Rattle.step_problem.specs.StepRefusals.{dir_name, term_name};
 
 use crate::heads::Side;
 use std::fmt;

@@ -4,4 +4,4 @@ pub use Rattle.model_types.specs.declared.model.FlowModel.{FlowModel}
 pub use Rattle.model_types.specs.declared.period.Period.{Period}
 pub use Rattle.period_arrays.specs.Kinds.{contents, without}
 pub use Rattle.stress_packages.specs.Forms.{AreArrays, HasRecharge, IsRecharged, SameBut}
-pub use Rattle.stress_packages.specs.Recharge.{recharge_arrays}
+pub use Rattle.stress_packages.specs.Packages.{recharge_arrays}

@@ -2,7 +2,7 @@
 use Rattle.stress_packages.proofs.Common.{◌≡◌, ℤ, pos, ◌≤ℤ◌, List, map, IfOk, Result, Ok, Err, refl, sym, ap, subst, arith, FlowModel, Period, without}
 use Rattle.stress_packages.proofs.Common.{HasRecharge, IsRecharged, SameBut, recharge_arrays}
 use Rattle.std.proofs.lemmas.Int.{ints}
-use Rattle.outside.specs.declared.refusals.InputFault.{InputFault}
+use Rattle.outside.specs.declared.inputs.InputFault.{InputFault}
 use Rattle.model_types.specs.Valid.{IsModel, IsPeriod}
 use Rattle.list_package.proofs.ModelLemmas.{each_period, evaporation_of, replaced, same_evaps, same_view, steps, with_stresses}
 

@@ -4,12 +4,12 @@ use Rattle.model_types.specs.declared.grid.Grid.{Grid}
 use Rattle.model_types.specs.declared.model.FlowModel.{FlowModel}
 use Rattle.model_types.specs.declared.period.Period.{Period}
 use Rattle.model_types.specs.declared.period.Stresses.{Stresses}
-use Rattle.model_types.specs.Cells.{layer_size}
+use Rattle.model_types.specs.Faces.{layer_size}
 use Rattle.model_types.specs.Receivers.{is_int}
 use Rattle.model_types.specs.Valid.{IsLayerArray}
 use Rattle.period_arrays.specs.Forms.{IsReals, IsWhole}
 use Rattle.period_arrays.specs.Kinds.{without}
-use Rattle.stress_packages.specs.Recharge.{recharge_arrays}
+use Rattle.stress_packages.specs.Packages.{recharge_arrays}
 
 -- a period's arrays; there are layers only under option 2
 pub record AreArrays (layered : Bool) (grid : Grid) (s : Stresses) : Type 0 where

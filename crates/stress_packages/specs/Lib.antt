@@ -1,3 +1,2 @@
-pub mod Recharge
 pub mod Forms
 pub mod Packages

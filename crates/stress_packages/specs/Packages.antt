@@ -2,6 +2,14 @@
 use Rattle.model_types.specs.declared.entry.Entry.{Entry}
 use Rattle.list_package.specs.declared.entries.ListKind.TheVariants.{Wells, Rivers, Drains, Generals}
 use Rattle.list_package.specs.Kinds.{kind_of, Kind}
+use Rattle.std.specs.Prelude.{ℕ, false, List, [], Result, Ok}
+use Rattle.outside.specs.Files.{FileSet}
+use Rattle.outside.specs.declared.inputs.Refusal.{Refusal}
+use Rattle.record_lines.specs.Reading.{◌>>=◌}
+use Rattle.model_types.specs.declared.model.FlowModel.{FlowModel}
+use Rattle.period_arrays.specs.Kinds.{ArrayKind}
+use Rattle.period_arrays.specs.Packages.{arrays_in}
+use Rattle.period_arrays.specs.declared.read.ArrayFile.{ArrayFile}
 
 abbrev pub wells : Kind Entry
 wells = kind_of Wells
@@ -14,3 +22,22 @@ drains = kind_of Drains
 
 abbrev pub generals : Kind Entry
 generals = kind_of Generals
+
+-- The recharge package (TM 6-A16, RCH).
+-- RECH, and under option 2 IRCH
+abbrev pub recharge_arrays : ArrayKind
+recharge_arrays = record {
+  evaporates = false;
+  area = λ s. record { surfaces = []; rates = s.recharge; depths = []; layers = s.irch };
+  put = λ s area. record s { recharge = area.rates; irch = area.layers };
+  test = λ file grid ibound option area. Ok tt;
+}
+
+-- the model with NRCHOP and the arrays of its periods
+abbrev pub with_recharge : FlowModel → ArrayFile → FlowModel
+with_recharge m a = record m { nrchop = a.option; periods = a.periods }
+
+unfoldable pub rch_of : FileSet → List ℕ → List ℕ → FlowModel → Result FlowModel Refusal
+rch_of files file bytes m = do
+  arrays ← arrays_in recharge_arrays files file bytes m.grid m.ibound m.periods
+  Ok (with_recharge m arrays)

@@ -4,7 +4,7 @@
 // name, for refusals. The first item that is wrong is refused on its line.
 ghost use Rattle.std.specs.Prelude.{◌≡◌, IfOk, All};
 ghost use Rattle.record_lines.specs.Reading.{HasText};
-ghost use Rattle.model_types.specs.Cells.{cell_count};
+ghost use Rattle.model_types.specs.Faces.{cell_count};
 ghost use Rattle.model_types.specs.Grids.{HasSize};
 ghost use Rattle.model_types.specs.Valid.{IsEntryList, IsModel};
 ghost use Rattle.list_package.specs.Forms.{SameBut};

@@ -1,6 +1,6 @@
 // A model with its recharge.
 ghost use Rattle.std.specs.Prelude.{IfOk, List};
-ghost use Rattle.outside.specs.Asking.{TextMay};
+ghost use Rattle.outside.specs.Names.{TextMay};
 ghost use Rattle.outside.specs.Files.{FileSet};
 ghost use Rattle.outside.specs.Folders.{ReadsOn};
 ghost use Rattle.record_lines.specs.Reading.{Has};
@@ -8,7 +8,7 @@ ghost use Rattle.model_types.specs.Grids.{HasSize};
 ghost use Rattle.model_types.specs.Receivers.{is_int};
 ghost use Rattle.model_types.specs.Valid.{IsModel};
 ghost use Rattle.stress_packages.specs.Forms.{AreArrays, IsRecharged, SameBut};
-ghost use Rattle.stress_packages.specs.Recharge.{rch_of, recharge_arrays};
+ghost use Rattle.stress_packages.specs.Packages.{rch_of, recharge_arrays};
 
 use model_types::{FlowModel, Grid, Stresses};
 use outside::{Folder, InputFault, TextFault};
@@ -49,7 +49,7 @@ impl ArrayPackage for Recharge {
 }
 
 /// The model with the arrays of its periods.
-#[tactic(auto, unfolding(crate::specs::Recharge::rch_of), using(crate::proofs::ArrayLemmas::is_recharged))]
+#[tactic(auto, unfolding(crate::specs::Packages::rch_of), using(crate::proofs::ArrayLemmas::is_recharged))]
 fn with_recharge<F: Folder>(
     alloc: Global,
     file: &str,

@@ -1,11 +1,13 @@
 // A viewer that puts each view to a sink.
-ghost use Rattle.std.specs.Prelude.{◌≡◌, None};
+ghost use Rattle.std.specs.Prelude.{◌≡◌, None, ℕ, List, length, IfOk};
+ghost use Rattle.step_problem.specs.declared.heads.Bound.{Bound};
+ghost use Rattle.step_problem.specs.Entries.{Entries};
+ghost use Rattle.outside.specs.Puts.{Put};
+ghost use Rattle.view_puts.specs.Puts.{IsPutOf, LeadOn};
 
-use crate::putting::put_text;
-use crate::text::ViewText;
 use outside::{Sink, SinkError};
 use settle_driver::{StepViewer, Viewer};
-use std::alloc::Global;
+use std::alloc::{AllocError, Global};
 use step_problem::{Barrier, Bound, Problem};
 
 /// Puts each view to a sink, which it borrows, as one piece of text, with the time that it was told last. It stops at
@@ -81,5 +83,39 @@ impl<'a, W: Sink, X: ViewText> SinkViewer<'a, W, X> {
             step: 0,
             stop: None,
         }
+    }
+}
+
+// What a view is as text.
+
+/// Writes heads of a time step's problem as one piece of text.
+pub trait ViewText: Drop {
+    ghost text: { Self → ℕ → ℕ → List Entries → List Bound → List ℕ };
+
+    /// Takes the stress period and the number of the step, and one bound for each cell.
+    fn write(
+        &self,
+        alloc: Global,
+        period: u32,
+        step: u32,
+        p: &Problem,
+        heads: &[Bound],
+    ) -> Result<Vec<u8>, AllocError>
+        requires { length heads.now ≡ length p.now }
+        ensures { IfOk result (λ t. t.items ≡ text self.now period step p.now heads.now) };
+}
+
+// One piece is put.
+
+/// Puts a text, where there was memory for it, and gives why viewing stops.
+pub(crate) fn put_text<W: Sink>(
+    sink: &mut W,
+    text: Result<Vec<u8>, AllocError>,
+) -> Option<SinkError>
+    ensures { (tail : List Put) × IsPutOf text result tail × LeadOn W.leads sink.old sink.new tail }
+{
+    match text {
+        Err(AllocError) => Some(SinkError::Memory),
+        Ok(text) => sink.put(text.as_slice()).err(),
     }
 }

@@ -1,3 +1,2 @@
 mod Common
 pub mod ZoneLemmas
-pub mod SmallZones

@@ -5,14 +5,14 @@ use Rattle.std.specs.List.{position}
 use Rattle.outside.specs.Files.{FileSet}
 use Rattle.outside.specs.Inputs.{file_at}
 use Rattle.outside.specs.declared.codes.Code.TheVariants.{BadProperty}
-use Rattle.outside.specs.declared.refusals.Refusal.{Refusal}
+use Rattle.outside.specs.declared.inputs.Refusal.{Refusal}
 use Rattle.record_lines.specs.Items.{name_at}
 use Rattle.record_lines.specs.Layout.{left_from}
 use Rattle.record_lines.specs.Reading.{◌>>=◌}
 use Rattle.array_reader.specs.Arrays.{layers}
-use Rattle.array_reader.specs.Kinds.{whole}
+use Rattle.array_reader.specs.Numbers.{whole}
 use Rattle.model_types.specs.declared.grid.Grid.{Grid}
-use Rattle.period_arrays.specs.Layers.{refusal_at}
+use Rattle.period_arrays.specs.Areas.{refusal_at}
 
 -- a cell's zone is 1 to 999, or 0 where it is in none
 abbrev pub IsZone : ℤ → Type 0

@@ -4,7 +4,7 @@ ghost use Rattle.outside.specs.Files.{FileSet};
 ghost use Rattle.outside.specs.Folders.{ReadsOn};
 ghost use Rattle.outside.specs.Names.{folder_name};
 ghost use Rattle.record_lines.specs.Reading.{Has, HasText};
-ghost use Rattle.model_types.specs.Cells.{cell_count};
+ghost use Rattle.model_types.specs.Faces.{cell_count};
 ghost use Rattle.model_types.specs.Grids.{HasSize};
 ghost use Rattle.zone_file.specs.Zones.{IsZone, zones_of, is_zone, zones_tested};
 ghost use Rattle.std.specs.List.{position};

@@ -18,16 +18,16 @@ pub use Rattle.std.specs.declared.cmp.Ordering.{Ordering}
 pub use Rattle.std.specs.declared.cmp.Ordering.TheVariants.{Equal, Greater, Less}
 pub use Rattle.budget_bounds.proofs.Caps.{capped_twice, nothing_more, part_hi, part_lo, parts_hi, parts_lo}
 pub use Rattle.budget_bounds.specs.Capped.{IsSum, capped, plus_pair}
-pub use Rattle.budget_bounds.specs.Terms.{term_limit, ◌>>=◌}
+pub use Rattle.budget_bounds.specs.Terms.{part, term_limit, ◌>>=◌}
 unfoldable pub use Rattle.budget_bounds.specs.Terms.{parts}
 pub use Rattle.budget_bounds.specs.declared.pair.TermPair.{TermPair}
 pub use Rattle.cell_balance.specs.Enclosures.{CellEncloses, EnclosesStep, FixedEncloses, LinkEncloses}
 pub use Rattle.cell_balance.specs.Steps.{ExactCell, ExactFixed, ExactLink, cell_at}
-pub use Rattle.decimal_input.specs.Enclosures.{Encloses, EnclosesSigned}
 pub use Rattle.decimal_input.specs.Fractions.{Fraction, signed, times}
+pub use Rattle.decimal_input.specs.Wholes.{Encloses, EnclosesSigned}
+pub use Rattle.step_problem.specs.Balances.{least, most, total}
 pub use Rattle.step_problem.specs.Conditions.{IsProblem, IsWithin}
 pub use Rattle.step_problem.specs.Entries.{Entries, entries_at, no_entries, no_link}
-pub use Rattle.step_problem.specs.Flows.{least, most, total}
 pub use Rattle.step_problem.specs.Heads.{lower_at, upper_at}
 pub use Rattle.step_problem.specs.declared.entry.Fixed.{Fixed}
 pub use Rattle.step_problem.specs.declared.entry.FixedKind.{FixedKind}
@@ -40,9 +40,8 @@ pub use Rattle.zone_flows.specs.Exact.{EncloseEveryStep, ExactFace, HeadsLieWith
 unfoldable pub use Rattle.zone_flows.specs.Exact.{exact_cell, exact_faces, exact_from}
 pub use Rattle.zone_flows.specs.Faces.{Face, face_between, faces_by_kind, fixed_faces, is_between, is_lower_zone, link_faces}
 unfoldable pub use Rattle.zone_flows.specs.Faces.{cell_faces, face_from, faces, flows_between}
-pub use Rattle.zone_flows.specs.Pairs.{AreZoneFlows, IsBefore, IsBeforeAll, IsBelowLimit, IsFirstTooLarge, IsZoneFlow, PairsAscend, ShareFace}
-pub use Rattle.zone_flows.specs.TableFlows.{flow_or_refusal, is_below_limit, too_large, zone_flow}
-unfoldable pub use Rattle.zone_flows.specs.TableFlows.{listed_flows}
-pub use Rattle.zone_flows.specs.Tables.{IsTable, IsZoneSum, Table, key_of, no_flows, no_pair, plus_flow}
-unfoldable pub use Rattle.zone_flows.specs.Tables.{faces_keyed, plus_flows, sum_at, with_face, with_faces}
-pub use Rattle.zone_flows.specs.declared.sum.ZoneSum.{ZoneSum}
+pub use Rattle.zone_flows.specs.Pairs.{AreZoneFlows, FlowsAreOne, FlowsExcludeRefusal, IsBefore, IsBeforeAll, IsBelowLimit, IsFirstTooLarge, IsZoneFlow}
+pub use Rattle.zone_flows.specs.Pairs.{PairsAscend, RefusalIsOne, Returns, ReturnsFlows, ShareFace}
+pub use Rattle.zone_flows.specs.Tables.{IsTable, IsZoneSum, Table, flow_or_refusal, is_below_limit, key_of, no_flows, no_pair, plus_flow, too_large, zone_flow}
+unfoldable pub use Rattle.zone_flows.specs.Tables.{faces_keyed, listed_flows, plus_flows, sum_at, with_face, with_faces}
+pub use Rattle.zone_flows.specs.declared.flows.ZoneSum.{ZoneSum}

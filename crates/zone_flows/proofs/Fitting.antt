@@ -3,11 +3,11 @@ use Rattle.zone_flows.proofs.Common.{ℕ, zero, suc, ◌+◌, ◌≤◌, Bool, t
 use Rattle.zone_flows.proofs.Common.{IfOk, flat_map, All-append, All-cons, All-nil, All-head, All-tail, All-contains, All-weaker, Fixed, FixedKind, Storage}
 use Rattle.zone_flows.proofs.Common.{Constant, General, Link, ZoneFlow, IsProblem, Entries, entries_at, Fraction, EnclosesSigned, ExactCell, EnclosesStep}
 use Rattle.zone_flows.proofs.Common.{total, TermPair, EncloseEveryStep, HeadsLieWithin, exact_flow, exact_faces, Face, face_between, face_from, link_faces}
-use Rattle.zone_flows.proofs.Common.{faces_by_kind, fixed_faces, cell_faces, faces, flows_between, listed_flows, IsZoneFlow, AreZoneFlows, with_faces}
+use Rattle.zone_flows.proofs.Common.{faces_by_kind, fixed_faces, cell_faces, faces, flows_between, listed_flows, IsZoneFlow, AreZoneFlows, with_faces, Returns}
+use Rattle.zone_flows.proofs.Common.{ReturnsFlows}
 use Rattle.std.specs.declared.vec.Vec.{Vec}
 use Rattle.std.specs.declared.alloc.Global.{Global}
 use Rattle.zone_flows.specs.declared.fault.ZoneFault.{ZoneFault}
-use Rattle.zone_flows.specs.Results.{Returns, ReturnsFlows}
 use Rattle.zone_flows.proofs.Enclosed.{sums_enclose}
 use Rattle.zone_flows.proofs.Pairing.{FaceFits, FacesFit}
 use Rattle.zone_flows.proofs.Meaning.{are_flows, is_first}

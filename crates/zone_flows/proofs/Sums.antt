@@ -3,9 +3,8 @@ use Rattle.zone_flows.proofs.Common.{◌≡◌, ℕ, Bool, true, false, cond, re
 use Rattle.zone_flows.proofs.Common.{◌+ℤ◌, ◌-ℤ◌, ◌≤ℤ◌, ◌<ℤ◌, Option, Some, int_max, int_min, nat_tests, ints, clamps, Ordering, Less, Equal, Greater}
 use Rattle.zone_flows.proofs.Common.{insert_entry, is_at, lookup, unwrap_or, nat_cmp, match_ordering, total, In, Out, TermPair, IsSum, capped, plus_pair, parts}
 use Rattle.zone_flows.proofs.Common.{term_limit, capped_twice, nothing_more, part_lo, part_hi, parts_lo, parts_hi, ZoneSum, Face, IsZoneSum, Table, key_of}
-use Rattle.zone_flows.proofs.Common.{no_flows, plus_flow, plus_flows, faces_keyed, sum_at, with_face, with_faces}
+use Rattle.zone_flows.proofs.Common.{no_flows, plus_flow, plus_flows, faces_keyed, sum_at, with_face, with_faces, part}
 use Rattle.step_problem.specs.declared.place.Dir.{Dir}
-use Rattle.budget_bounds.specs.Singles.{part}
 
 pub same_key : (q k : ℕ) → is_at (nat_cmp q) k ≡ true → q ≡ k
 same_key q k h = grind (arith, nat_tests)

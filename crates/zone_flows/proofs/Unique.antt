@@ -1,7 +1,7 @@
 -- A step has one list of flows between zones, or one refusal.
 use Rattle.zone_flows.proofs.Common.{cases_order, ◌≡◌, ℕ, zero, suc, ◌⊎◌, inl, inr, refl, sym, ◌∙◌, subst, arith, List, [], ◌∷◌, Contains, All-contains}
-use Rattle.zone_flows.proofs.Common.{ZoneFlow, Face, IsBefore, IsBeforeAll, PairsAscend, IsBelowLimit, IsZoneFlow, AreZoneFlows}
-use Rattle.zone_flows.specs.Laws.{FlowsAreOne, FlowsExcludeRefusal, RefusalIsOne}
+use Rattle.zone_flows.proofs.Common.{ZoneFlow, Face, IsBefore, IsBeforeAll, PairsAscend, IsBelowLimit, IsZoneFlow, AreZoneFlows, FlowsAreOne}
+use Rattle.zone_flows.proofs.Common.{FlowsExcludeRefusal, RefusalIsOne}
 use Rattle.zone_flows.proofs.Pairing.{flow_of}
 
 never_both : (a b c d : ℕ) → IsBefore a b c d → IsBefore c d a b → ⊥

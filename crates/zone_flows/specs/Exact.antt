@@ -3,7 +3,7 @@ use Rattle.std.specs.Prelude.{ℕ, ◌+◌, ◌<◌, ◌==◌, Bool, ◌&&◌, c
 use Rattle.std.specs.List.{filter, flat_map}
 use Rattle.decimal_input.specs.Ratios.{Ratio}
 use Rattle.decimal_input.specs.Fractions.{Fraction, signed, times, fraction_total}
-use Rattle.decimal_input.specs.Enclosures.{EnclosesSigned}
+use Rattle.decimal_input.specs.Wholes.{EnclosesSigned}
 use Rattle.step_problem.specs.declared.entry.FixedKind.{FixedKind}
 use Rattle.step_problem.specs.declared.entry.FixedKind.TheVariants.{Storage, Constant, General}
 use Rattle.step_problem.specs.declared.place.ZoneFlow.{ZoneFlow}

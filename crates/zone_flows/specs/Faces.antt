@@ -1,13 +1,15 @@
 -- The faces between cells of two zones, and the bounds of the flow across each. Zone 0 is no zone.
-use Rattle.std.specs.Prelude.{ℕ, ◌==◌, Bool, ◌&&◌, cond, List, [], ◌∷◌, ◌++◌, map, nat_lt, slice_index, ℤ, ◌-ℤ◌}
+use Rattle.std.specs.Prelude.{ℕ, ◌==◌, Bool, ◌&&◌, cond, List, [], ◌∷◌, ◌++◌, map, nat_lt, slice_index, ℤ, ◌-ℤ◌, ◌≡◌, ◌≤◌, ◌<◌, All, length}
 use Rattle.std.specs.List.{filter, flat_map}
 use Rattle.step_problem.specs.declared.entry.FixedKind.{FixedKind}
 use Rattle.step_problem.specs.declared.entry.FixedKind.TheVariants.{Storage, Constant, General}
 use Rattle.step_problem.specs.declared.entry.Fixed.{Fixed}
 use Rattle.step_problem.specs.declared.entry.Link.{Link}
 use Rattle.step_problem.specs.Entries.{Entries, entries_at}
-use Rattle.step_problem.specs.Flows.{least, most}
+use Rattle.step_problem.specs.Balances.{least, most}
 use Rattle.budget_bounds.specs.declared.pair.TermPair.{TermPair}
+use Rattle.step_problem.specs.declared.heads.Bound.{Bound}
+use Rattle.budget_bounds.specs.Capped.{AreHeads}
 
 -- a face between a cell of the zone from and a cell of the zone to, and the least and the greatest flow across it
 pub record Face : Type 0 where
@@ -59,3 +61,21 @@ is_between a b f = (f.from == a) && (f.to == b)
 -- the flows across the faces from zone a to zone b
 unfoldable pub flows_between : ℕ → ℕ → List Face → List TermPair
 flows_between a b fs = map (λ f. f.flow) (filter (is_between a b) fs)
+
+-- The zone of each variable cell, by index.
+-- own has the zone of each variable cell, by its index; zones has that of each cell of the grid, by its number
+abbrev pub AreOwnZones : List Entries → List ℕ → List ℕ → Type 0
+AreOwnZones p zones own = own ≡ map (λ e. slice_index zones e.id) p
+
+-- What a walk over the faces of a step works with.
+-- the zone of each cell of the grid, and the bounds of its head
+pub record AreOfGrid (zones : List ℕ) (heads : List Bound) : Type 0 where
+  pub small : All (λ z. z ≤ 999) zones
+  pub bounds : All AreHeads heads
+  pub same : length heads ≡ length zones
+
+-- a problem whose cells are cells of the grid, with their zones by index
+pub record IsWalk (p : List Entries) (zones own : List ℕ) (heads : List Bound) : Type 0 where
+  pub grid : AreOfGrid zones heads
+  pub owned : AreOwnZones p zones own
+  pub ids : (c : ℕ) → c < length p → (entries_at p c).id < length zones

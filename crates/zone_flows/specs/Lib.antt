@@ -1,9 +1,4 @@
 pub mod Faces
-pub mod OwnZones
-pub mod Walks
 pub mod Exact
 pub mod Tables
-pub mod TableFlows
 pub mod Pairs
-pub mod Results
-pub mod Laws

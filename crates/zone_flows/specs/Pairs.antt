@@ -1,11 +1,15 @@
 -- The flows between zones in one time step: one for each pair of zones that share a face, in order of the pairs; or the first pair whose flow is too large.
-use Rattle.std.specs.Prelude.{◌≡◌, ℕ, ◌<◌, ◌⊎◌, List, [], ◌∷◌, All, Contains, pos, unsigned_abs, ◌<ℤ◌}
+use Rattle.std.specs.Prelude.{◌≡◌, ℕ, ◌<◌, ◌⊎◌, List, [], ◌∷◌, All, Contains, pos, unsigned_abs, ◌<ℤ◌, Result, Ok, Err}
 use Rattle.step_problem.specs.declared.place.NoBound.{NoBound}
-use Rattle.step_problem.specs.declared.place.Place.TheVariants as places
 use Rattle.step_problem.specs.declared.place.ZoneFlow.{ZoneFlow}
-use Rattle.step_problem.specs.Flows.{total}
+use Rattle.step_problem.specs.Balances.{total}
 use Rattle.budget_bounds.specs.Terms.{term_limit}
 use Rattle.zone_flows.specs.Faces.{Face, flows_between}
+use Rattle.std.specs.declared.vec.Vec.{Vec}
+use Rattle.std.specs.declared.alloc.Global.{Global}
+use Rattle.zone_flows.specs.declared.fault.ZoneFault.{ZoneFault}
+use Rattle.step_problem.specs.declared.place.Place.TheVariants as places
+use Rattle.zone_flows.specs.declared.fault.ZoneFault.TheVariants as faults
 
 -- the pair of zones a, b comes before the pair c, d
 abbrev pub IsBefore : ℕ → ℕ → ℕ → ℕ → Type 0
@@ -55,3 +59,29 @@ module _ (fs : List Face) where
     pub shared : ShareFace from to
     pub large : IsBelowLimit from to → ⊥
     pub first : (a b : ℕ) → ShareFace a b → IsBefore a b from to → IsBelowLimit a b
+
+-- What a call for the flows between zones returns.
+-- the flows between zones of these faces, or the first pair that is too large; out of memory may come at any place
+abbrev pub ReturnsFlows : List Face → Result (Vec ZoneFlow Global) ZoneFault → Type 0
+ReturnsFlows fs (Ok flows) = AreZoneFlows fs flows.items
+ReturnsFlows fs (Err (faults.NoBound refusal)) = IsFirstTooLarge fs refusal
+ReturnsFlows fs (Err faults.Memory) = Unit {0}
+
+-- the same, where it is known which flows or which refusal
+abbrev pub Returns : Result (List ZoneFlow) NoBound → Result (Vec ZoneFlow Global) ZoneFault → Type 0
+Returns listed (Ok flows) = listed ≡ Ok flows.items
+Returns listed (Err (faults.NoBound refusal)) = listed ≡ Err refusal
+Returns listed (Err faults.Memory) = Unit {0}
+
+-- Laws of the flows between zones: a step has one list of them, or one refusal.
+-- faces have at most one list of flows
+abbrev pub FlowsAreOne : Type 0
+FlowsAreOne = (fs : List Face) (vs ws : List ZoneFlow) → AreZoneFlows fs vs → AreZoneFlows fs ws → ws ≡ vs
+
+-- faces with flows have no refusal
+abbrev pub FlowsExcludeRefusal : Type 0
+FlowsExcludeRefusal = (fs : List Face) (vs : List ZoneFlow) (n : NoBound) → AreZoneFlows fs vs → IsFirstTooLarge fs n → ⊥
+
+-- faces have at most one refusal
+abbrev pub RefusalIsOne : Type 0
+RefusalIsOne = (fs : List Face) (a b : NoBound) → IsFirstTooLarge fs a → IsFirstTooLarge fs b → a ≡ b

@@ -4,13 +4,12 @@ ghost use Rattle.std.specs.List.{flat_map};
 ghost use Rattle.step_problem.specs.Heads.{lower_at, upper_at};
 ghost use Rattle.step_problem.specs.Entries.{entries_at};
 ghost use Rattle.step_problem.specs.Conditions.{CellFits};
-ghost use Rattle.zone_flows.specs.Faces.{cell_faces, face_from, faces, faces_by_kind};
+ghost use Rattle.zone_flows.specs.Faces.{cell_faces, face_from, faces, faces_by_kind, AreOfGrid, IsWalk};
 ghost use Rattle.zone_flows.specs.Tables.{IsTable, with_faces};
-ghost use Rattle.zone_flows.specs.Walks.{AreOfGrid, IsWalk};
 
-use crate::face::{add_face_from, is_face};
+use crate::flows::ZoneSum;
 use crate::own::{id_at, zone_at};
-use crate::sum::ZoneSum;
+use crate::table::{add_face_from, is_face};
 use std::alloc::AllocError;
 use std::collections::BTreeMap;
 use step_problem::{Bound, Cell, Fixed, FixedKind, Link, Problem};

@@ -1,7 +1,6 @@
 -- The zones of a pair are at most 999.
 use Rattle.zone_pairs.proofs.Common.{ℕ, ◌≤◌, List, All, Option, Some, None, All-nil, All-weaker, filter_passes, FlowModel, ZonePair, pairs_below, pairs_in}
-use Rattle.zone_pairs.proofs.Common.{share_face, zone_pairs}
-use Rattle.zone_pairs.specs.Zones.{AreNumbers, AreZones}
+use Rattle.zone_pairs.proofs.Common.{share_face, zone_pairs, AreNumbers, AreZones}
 use Rattle.zone_pairs.proofs.Joined.{shared_small}
 
 -- the zones of a pair

@@ -1,13 +1,19 @@
 -- The pairs of zones that share a face in a stress period. Zone 0 is no zone.
-use Rattle.std.specs.Prelude.{ℕ, ◌==◌, nat_lt, Bool, false, ◌&&◌, ◌||◌, List, [], filter, map, slice_index, Option, Some, None}
+use Rattle.std.specs.Prelude.{ℕ, ◌==◌, nat_lt, Bool, false, ◌&&◌, ◌||◌, List, [], filter, map, slice_index, Option, Some, None, ◌≡◌, ◌/◌, ◌%◌, ◌≤◌, All, length}
+use Rattle.std.specs.Prelude.{IfSome, option_map}
 use Rattle.std.specs.List.{flat_map, list_any, range_with_len}
 use Rattle.step_problem.specs.declared.place.ZoneFlow.{ZoneFlow}
 use Rattle.model_types.specs.declared.face.Face.{Face}
 use Rattle.model_types.specs.declared.model.FlowModel.{FlowModel}
-use Rattle.model_types.specs.Faces.{faces}
-use Rattle.model_types.specs.Kinds.{variable_cells}
+use Rattle.model_types.specs.Faces.{faces, cell_count}
+use Rattle.model_types.specs.Heads.{variable_cells, given_heads}
 use Rattle.model_types.specs.Layers.{is_active}
 use Rattle.zone_pairs.specs.declared.pair.ZonePair.{ZonePair}
+use Rattle.std.specs.BTreeSet.{BTreeSet, contains}
+use Rattle.std.specs.Ordering.{nat_cmp}
+use Rattle.model_types.specs.Valid.{IsModel}
+use Rattle.zone_pairs.specs.declared.periods.Walk.{Walk}
+use Rattle.zone_pairs.specs.declared.periods.ZonePairs.{ZonePairs}
 
 -- the two zones of a flow
 abbrev pub zones_of_flow : ZoneFlow → ZonePair
@@ -40,3 +46,53 @@ zone_pairs m zones p = filter (share_face m zones p) (pairs_below 1000)
 abbrev pub pairs_in : FlowModel → Option (List ℕ) → ℕ → List ZonePair
 pairs_in m None p = []
 pairs_in m (Some zones) p = zone_pairs m zones p
+
+-- The set of pairs that a stress period's walk over the cells fills. A pair a, b has the key 1000 * a + b.
+-- the pair of a key
+abbrev pub pair_of : ℕ → ZonePair
+pair_of q = record { from = q / 1000; to = q % 1000 }
+
+-- a set of keys has gained those whose pairs pass a test
+abbrev pub Gains : BTreeSet ℕ → BTreeSet ℕ → (ZonePair → Bool) → Type 0
+Gains old new test = (q : ℕ) → contains nat_cmp new q ≡ (contains nat_cmp old q || test (pair_of q))
+
+-- The zones of a model's cells.
+-- a zone for each cell of the grid, 1 to 999, or 0 for a cell in no zone
+pub record AreZonesOf (m : FlowModel) (zones : List ℕ) : Type 0 where
+  pub count : length zones ≡ cell_count m.grid
+  pub limits : All (λ z. z ≤ 999) zones
+
+-- numbers of zones, if there is a zone file, are at most 999
+abbrev pub AreNumbers : Option (List ℕ) → Type 0
+AreNumbers zones = IfSome zones (λ zs. All (λ z. z ≤ 999) zs)
+
+-- the zones of a model, if there is a zone file
+abbrev pub AreZones : FlowModel → Option (List ℕ) → Type 0
+AreZones m zones = IfSome zones (AreZonesOf m)
+
+-- The pairs of zones at a stress period, as a walk over the periods keeps them.
+-- zones with which a model's pairs can be found: they are zones of its cells, and it is valid
+pub record CanPair (m : FlowModel) (zones : List ℕ) : Type 0 where
+  pub model : IsModel m
+  pub cells : AreZonesOf m zones
+
+-- the pairs of the period of the walk's given heads
+pub record IsWalk (m : FlowModel) (w : Walk) : Type 0 where
+  pub can : CanPair m w.zones.now
+  pub given : w.given ≡ given_heads m w.given.period
+  pub pairs : w.pairs ≡ zone_pairs m w.zones.now w.given.period
+
+abbrev pub ArePairs : FlowModel → ZonePairs → Type 0
+ArePairs m x = IfSome x.walk (IsWalk m)
+
+-- the zones, if there is a zone file
+abbrev pub zones_of : ZonePairs → Option (List ℕ)
+zones_of x = option_map (λ w. w.zones.now) x.walk
+
+-- the pairs at the current period
+abbrev pub pairs_at : Option Walk → List ZonePair
+pairs_at None = []
+pairs_at (Some w) = w.pairs
+
+abbrev pub listed_pairs : ZonePairs → List ZonePair
+listed_pairs x = pairs_at x.walk

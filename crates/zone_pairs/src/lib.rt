@@ -1,7 +1,6 @@
 //! The pairs of zones that share a face in a stress period of a model.
 #![tactic(auto)]
 
-mod faces;
 pub mod pair;
 mod pairs;
 pub mod periods;

@@ -1,17 +1,15 @@
 // The pairs of zones of a stress period.
-ghost use Rattle.std.specs.Prelude.{◌≡◌, ◌<◌, IfOk, OnOk, map};
+ghost use Rattle.std.specs.Prelude.{◌≡◌, ◌<◌, IfOk, OnOk, map, ◌≤◌, All, length};
 ghost use Rattle.std.specs.BTreeSet.{IsOrdered};
 ghost use Rattle.std.specs.Ordering.{nat_cmp};
-ghost use Rattle.model_types.specs.Cells.{cell_count};
-ghost use Rattle.model_types.specs.Grids.{HasSize};
-ghost use Rattle.model_types.specs.Kinds.{given_heads, is_variable};
-ghost use Rattle.zone_pairs.specs.Keys.{Gains, pair_of};
-ghost use Rattle.zone_pairs.specs.Pairs.{share_face, zone_pairs};
-ghost use Rattle.zone_pairs.specs.Zones.{AreZonesOf};
+ghost use Rattle.model_types.specs.Faces.{cell_count, faces};
+ghost use Rattle.model_types.specs.Grids.{HasSize, IsInGrid};
+ghost use Rattle.model_types.specs.Heads.{given_heads, is_variable};
+ghost use Rattle.zone_pairs.specs.Pairs.{Gains, pair_of, share_face, zone_pairs, AreZonesOf, joins, joins_by};
+ghost use Rattle.std.specs.List.{list_any};
 
-use crate::faces::add_cell;
 use crate::pair::ZonePair;
-use model_types::{FlowModel, GivenHeads, Kind};
+use model_types::{Face, FlowModel, GivenHeads, Kind};
 use std::alloc::{AllocError, Global};
 use std::collections::BTreeSet;
 
@@ -82,4 +80,76 @@ pub(crate) fn zone_pairs(
     let mut keys = BTreeSet::new(alloc);
     add_cells(&mut keys, model, given, zones)?;
     pairs_of(alloc, &keys)
+}
+
+// The pairs of zones of a cell's faces, as keys.
+
+// Adds the pair of two zones, the lower first, if neither is 0 and they differ.
+fn add_pair(keys: &mut BTreeSet<u32>, a: u32, b: u32) -> Result<(), AllocError>
+    requires a { a ≤ 999 }
+    requires b { b ≤ 999 }
+    ensures { OnOk result (Gains keys.old keys.new (λ z. joins z a b)) }
+{
+    let (from, to) = if a < b { (a, b) } else { (b, a) };
+    if 0 < from && from < to {
+        keys.insert(from * 1000 + to)?;
+    }
+    Ok(())
+}
+
+// Adds the pair of a face to an active neighbour.
+fn add_face(
+    keys: &mut BTreeSet<u32>,
+    model: &FlowModel,
+    zones: &[u32],
+    cell: u32,
+    face: Option<Face>,
+) -> Result<(), AllocError>
+    requires zones { AreZonesOf model.now zones.now }
+    requires cell { cell < cell_count model.now.grid }
+    requires face { IsInGrid model.now.grid face }
+    ensures { OnOk result (Gains keys.old keys.new (λ z. joins_by model.now zones.now z cell face)) }
+{
+    match face {
+        Some(face) => {
+            if model.is_active(face.end) {
+                add_pair(keys, zones[cell as usize], zones[face.end as usize])?;
+            }
+            Ok(())
+        }
+        None => Ok(()),
+    }
+}
+
+fn add_faces(
+    keys: &mut BTreeSet<u32>,
+    model: &FlowModel,
+    zones: &[u32],
+    cell: u32,
+    faces: &[Option<Face>],
+) -> Result<(), AllocError>
+    requires zones { AreZonesOf model.now zones.now }
+    requires cell { cell < cell_count model.now.grid }
+    requires faces { All (IsInGrid model.now.grid) faces.now }
+    ensures { OnOk result (Gains keys.old keys.new (λ z. list_any (joins_by model.now zones.now z cell) faces.now)) }
+{
+    for face in faces {
+        add_face(keys, model, zones, cell, *face)?;
+    }
+    Ok(())
+}
+
+/// Adds the pairs of a variable cell's faces.
+pub(crate) fn add_cell(
+    keys: &mut BTreeSet<u32>,
+    model: &FlowModel,
+    zones: &[u32],
+    cell: u32,
+) -> Result<(), AllocError>
+    requires size { HasSize model.now.grid }
+    requires zones { AreZonesOf model.now zones.now }
+    requires cell { cell < cell_count model.now.grid }
+    ensures { OnOk result (Gains keys.old keys.new (λ z. list_any (joins_by model.now zones.now z cell) (faces model.now.grid cell))) }
+{
+    add_faces(keys, model, zones, cell, &model.grid.faces(cell))
 }

@@ -1,9 +1,8 @@
 // The pairs of zones from stress period to stress period.
 ghost use Rattle.std.specs.Prelude.{◌≡◌, ◌≤◌, IfOk, IfSome, OnOk, length, option_map};
-ghost use Rattle.model_types.specs.Kinds.{given_heads};
+ghost use Rattle.model_types.specs.Heads.{given_heads};
 ghost use Rattle.model_types.specs.Valid.{IsModel};
-ghost use Rattle.zone_pairs.specs.Pairs.{pairs_in};
-ghost use Rattle.zone_pairs.specs.Periods.{ArePairs, CanPair, IsWalk, listed_pairs, zones_of};
+ghost use Rattle.zone_pairs.specs.Pairs.{pairs_in, ArePairs, CanPair, IsWalk, listed_pairs, zones_of};
 
 use crate::pair::ZonePair;
 use crate::pairs::zone_pairs;

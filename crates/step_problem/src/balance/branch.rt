@@ -2,7 +2,7 @@
 ghost use Rattle.std.specs.Prelude.{◌≡◌, ◌≤◌, ◌*◌, ◌^◌, ◌-ℤ◌, ◌*ℤ◌, neg_ℤ, pos, ℕ, ℤ};
 ghost use Rattle.std.specs.Int.{int_max, int_min};
 ghost use Rattle.step_problem.specs.Conditions.{IsHead, IsWithin, FixedFits, RiverFits, DrainFits, EvapFits};
-ghost use Rattle.step_problem.specs.BothSides.{fixed_flow, river_flow, drain_flow, evap_flow};
+ghost use Rattle.step_problem.specs.Balances.{fixed_flow, river_flow, drain_flow, evap_flow};
 
 use crate::entry::{Drain, Evap, Fixed, River};
 use crate::flow::{least_flow, most_flow};

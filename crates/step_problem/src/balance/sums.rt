@@ -1,9 +1,8 @@
 // The sums of a cell's flows, a kind of entry at a time.
 ghost use Rattle.std.specs.Prelude.{◌≡◌, ◌<◌, ◌≤◌, ◌+◌, ◌*◌, ◌^◌, ℕ, ℤ, ◌-ℤ◌, All, length, sum_by};
 ghost use Rattle.step_problem.specs.Entries.{ends_in};
-ghost use Rattle.step_problem.specs.Flows.{total};
+ghost use Rattle.step_problem.specs.Balances.{total, branch_flow, flow_bound, link_flow};
 ghost use Rattle.step_problem.specs.Conditions.{IsHead, IsWithin, LinkFits, magnitude};
-ghost use Rattle.step_problem.specs.BothSides.{branch_flow, flow_bound, link_flow};
 
 use crate::balance::branch::Branch;
 use crate::entry::{Flow, Link};

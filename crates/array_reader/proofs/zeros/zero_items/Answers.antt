@@ -1,5 +1,4 @@
-use Rattle.std.proofs.lemmas.Result.{err_from_is_err_and}
-use Rattle.record_lines.proofs.Counted.{step_goes_on, steps_end, steps_done}
+use Rattle.array_reader.proofs.Common.{err_from_is_err_and, step_goes_on, steps_end, steps_done}
 use Rattle.array_reader.proofs.ZeroLemmas.{step_goes, step_stops}
 use Rattle.array_reader.proofs.zeros.zero_items.Goals as goal
 

@@ -1,6 +1,5 @@
-use Rattle.std.proofs.Common.{sym, ◌∙◌}
+use Rattle.batch_list.proofs.Common.{sym, ◌∙◌, numbered_of}
 use Rattle.std.proofs.lemmas.Result.{err_from_is_err_and}
-use Rattle.record_lines.specs.Seen.{numbered_of}
 use Rattle.batch_list.proofs.LineLemmas.{goes_on, stops, is_over}
 use Rattle.batch_list.proofs.reading.after_lines.Goals as goal
 

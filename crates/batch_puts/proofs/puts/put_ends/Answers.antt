@@ -1,6 +1,6 @@
 use Rattle.batch_puts.proofs.Common.{◌≡◌, ◌<◌, ◌≤◌, ◌++◌, List, length, get_or, Some, None, subst, refl, Put, Text, end_line, IsLast, Status, joined, put_was}
 use Rattle.batch_puts.proofs.Common.{JobEnd, first_not_ok}
-use Rattle.batch_puts.proofs.Putting.{one_more, stops_at, ends_whole, text_at, all_texts}
+use Rattle.batch_puts.proofs.Batches.{one_more, stops_at, ends_whole, text_at, all_texts}
 use Rattle.batch_puts.proofs.puts.put_ends.Goals as goal
 
 pub loop-end-preserved : goal.loop-end-preserved

@@ -1,5 +1,5 @@
 use Rattle.batch_puts.proofs.Common.{List, ◌++◌, Put}
-use Rattle.batch_puts.proofs.Putting.{ArePut}
+use Rattle.batch_puts.proofs.Batches.{ArePut}
 use Rattle.batch_puts.proofs.puts.put_ends.Given as goal
 
 abbrev pub invariant-loop-end : goal.invariant-loop-end

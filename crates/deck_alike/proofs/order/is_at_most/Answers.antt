@@ -1,4 +1,4 @@
-use Rattle.deck_alike.proofs.SignedOrders.{order_below, order_not_across, order_plain}
+use Rattle.deck_alike.proofs.NumberOrders.{order_below, order_not_across, order_plain}
 use Rattle.deck_alike.proofs.order.is_at_most.Goals as goal
 
 pub returns-then-b : goal.returns-then-b

@@ -1,5 +1,5 @@
 use Rattle.std.proofs.Common.{◌≡◌}
-use Rattle.model_types.specs.Kinds.{given_heads}
+use Rattle.model_types.specs.Heads.{given_heads}
 use Rattle.deck_tests.proofs.kinds.push_periods.Given as goal
 
 abbrev pub invariant-loop-turn : goal.invariant-loop-turn

@@ -1,5 +1,4 @@
-use Rattle.dis_package.proofs.Common.{◌∙◌, arith, err_from_is_err_and, bottoms_of}
-use Rattle.record_lines.proofs.Counted.{step_goes_on, steps_stop, steps_done}
+use Rattle.dis_package.proofs.Common.{◌∙◌, arith, err_from_is_err_and, bottoms_of, step_goes_on, steps_stop, steps_done}
 use Rattle.dis_package.proofs.bottoms.bottoms_of.Goals as goal
 
 pub returns-in_err-more-clause-bottoms : goal.returns-in_err-more-clause-bottoms

@@ -1,6 +1,6 @@
 use Rattle.std.proofs.Common.{ap, refl}
 use Rattle.engine.proofs.BatchEnds.{refusal_text}
-use Rattle.run_puts.specs.declared.status.Status.TheVariants as status
+use Rattle.run_puts.specs.declared.puts.Status.TheVariants as status
 use Rattle.engine.proofs.job.end_of_refusal.Goals as goal
 
 pub returns : goal.returns

@@ -1,5 +1,5 @@
 use Rattle.engine.proofs.Common.{refl, deck_text, NeverCut, lone, ends_by, IsDeck}
-use Rattle.run_puts.specs.declared.status.Status.TheVariants as status
+use Rattle.run_puts.specs.declared.puts.Status.TheVariants as status
 use Rattle.engine.proofs.writing.put_deck.Goals as goal
 
 pub returns : goal.returns

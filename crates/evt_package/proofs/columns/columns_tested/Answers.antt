@@ -1,6 +1,6 @@
 use Rattle.evt_package.proofs.Common.{sym, columns_tested}
 use Rattle.std.proofs.lemmas.Result.{err_from_is_err_and}
-use Rattle.record_lines.proofs.Counted.{step_goes_on, steps_end, steps_done}
+use Rattle.record_lines.proofs.Loops.{step_goes_on, steps_end, steps_done}
 use Rattle.evt_package.proofs.columns.columns_tested.Goals as goal
 
 pub returns-in_err-column_tested : goal.returns-in_err-column_tested

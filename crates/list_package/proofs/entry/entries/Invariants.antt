@@ -1,5 +1,4 @@
-use Rattle.list_package.proofs.Common.{◌≡◌, ◌-◌, true, All, length, repeated, with_front, cell_count, AreMarked}
-use Rattle.list_package.specs.Entries.{entry_at}
+use Rattle.list_package.proofs.Common.{◌≡◌, ◌-◌, true, All, length, repeated, with_front, cell_count, AreMarked, entry_at}
 use Rattle.list_package.proofs.entry.entries.Given as goal
 
 abbrev pub invariant-loop : goal.invariant-loop

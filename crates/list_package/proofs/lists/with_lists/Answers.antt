@@ -1,5 +1,5 @@
-use Rattle.list_package.proofs.Common.{◌∙◌, sym, into_iter_items, err_from_is_err_and, all_pushed, cell_count, IsList, without}
-use Rattle.record_lines.proofs.Each.{no_items, each_goes_on, each_ends, each_done}
+use Rattle.list_package.proofs.Common.{◌∙◌, sym, into_iter_items, err_from_is_err_and, all_pushed, cell_count, IsList, without, no_items, each_goes_on}
+use Rattle.list_package.proofs.Common.{each_ends, each_done}
 use Rattle.list_package.proofs.PeriodLemmas.{one_more_same, all_same}
 use Rattle.list_package.proofs.lists.with_lists.Goals as goal
 

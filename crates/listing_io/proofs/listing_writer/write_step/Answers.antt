@@ -1,6 +1,6 @@
 use Rattle.listing_io.proofs.Common.{rules, ◌≡◌, ◌++◌, ◌∙◌, [], map, In, Out, ended, head_lines, step_line, step_text, step_lines, term_lines, text_of}
 use Rattle.listing_io.proofs.Common.{zone_line}
-use Rattle.listing_io.proofs.Joined.{step_joined}
+use Rattle.listing_io.proofs.Apart.{step_joined}
 use Rattle.listing_io.proofs.listing_writer.write_step.Goals as goal
 
 pub returns : goal.returns

@@ -1,5 +1,5 @@
 use Rattle.listing_run.proofs.Common.{List, [], refl, subst, sym, append-nil, Put, SinkError, IsStopEnd}
-use Rattle.run_puts.specs.declared.status.Status.TheVariants.{WriteFault}
+use Rattle.run_puts.specs.declared.puts.Status.TheVariants.{WriteFault}
 use Rattle.listing_run.proofs.putting.end_stopped.Goals as goal
 
 pub returns-in-Write : goal.returns-in-Write

@@ -1,5 +1,5 @@
 use Rattle.listing_run.proofs.Common.{◌≡◌, Some, inl, refl, lacks_at_first, IsListingBeside, IsCutListing, Write}
-use Rattle.listing_run.proofs.Stopping.{wanting_not_ok}
+use Rattle.listing_run.proofs.Pieces.{wanting_not_ok}
 use Rattle.listing_run.proofs.putting.put_steps.Goals as goal
 
 pub returns-in_default-clause-puts : goal.returns-in_default-clause-puts

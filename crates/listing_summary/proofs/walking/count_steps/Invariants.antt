@@ -1,5 +1,5 @@
 use Rattle.listing_summary.proofs.Common.{◌≡◌, ◌*◌, ◌≤◌, length, IsWalk, times_left, Fits}
-use Rattle.listing_summary.proofs.Walks.{IsCounted}
+use Rattle.listing_summary.proofs.Counts.{IsCounted}
 use Rattle.listing_summary.proofs.walking.count_steps.Given as goal
 
 abbrev pub invariant-loop-summary : goal.invariant-loop-summary

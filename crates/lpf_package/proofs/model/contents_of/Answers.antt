@@ -1,5 +1,5 @@
 use Rattle.lpf_package.proofs.Common.{begun_held, LinesMay}
-use Rattle.lpf_package.proofs.Forward.{option_leaves, settings_leave}
+use Rattle.lpf_package.proofs.LayerLemmas.{option_leaves, settings_leave}
 use Rattle.lpf_package.proofs.model.contents_of.Goals as goal
 
 pub layers_of-requires-clause-lines : goal.layers_of-requires-clause-lines

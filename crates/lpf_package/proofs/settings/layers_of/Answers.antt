@@ -1,6 +1,6 @@
 use Rattle.lpf_package.proofs.Common.{◌∙◌, layers_of}
 use Rattle.std.proofs.lemmas.Result.{err_from_is_err_and}
-use Rattle.record_lines.proofs.Counted.{step_goes_on, steps_stop, steps_done}
+use Rattle.record_lines.proofs.Loops.{step_goes_on, steps_stop, steps_done}
 use Rattle.lpf_package.proofs.settings.layers_of.Goals as goal
 
 pub returns-in_err-more-clause-properties : goal.returns-in_err-more-clause-properties

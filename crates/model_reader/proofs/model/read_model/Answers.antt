@@ -1,5 +1,5 @@
 use Rattle.model_reader.proofs.Common.{err_from_is_err_and, Err, model_of, file_named, names_still}
-use Rattle.model_reader.proofs.Chains.{both_read, goes_on, stops_here}
+use Rattle.model_reader.proofs.BasicLemmas.{both_read, goes_on, stops_here}
 use Rattle.model_reader.proofs.model.read_model.Goals as goal
 
 pub returns-in_err-flow-clause-model : goal.returns-in_err-flow-clause-model

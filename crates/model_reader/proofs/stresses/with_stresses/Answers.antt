@@ -1,6 +1,6 @@
 use Rattle.model_reader.proofs.Common.{err_from_is_err_and, names_still, refl, stresses}
 use Rattle.name_file.specs.declared.package.Package.TheVariants.{Dis}
-use Rattle.model_reader.proofs.Chains.{both_read, reads_nothing, stress_read, stress_stops, stresses_done}
+use Rattle.model_reader.proofs.BasicLemmas.{both_read, reads_nothing, stress_read, stress_stops, stresses_done}
 use Rattle.model_reader.proofs.stresses.with_stresses.Goals as goal
 
 pub loop-asked-init : goal.loop-asked-init

@@ -1,5 +1,5 @@
 use Rattle.std.proofs.Common.{◌≡◌, ◌++◌}
-use Rattle.model_writer.proofs.Repeats.{repeated_words}
+use Rattle.model_writer.proofs.Texts.{repeated_words}
 use Rattle.model_writer.proofs.flow.push_repeated.Given as goal
 
 abbrev pub invariant-loop : goal.invariant-loop

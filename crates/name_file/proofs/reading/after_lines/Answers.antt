@@ -1,6 +1,5 @@
-use Rattle.std.proofs.Common.{sym, ◌∙◌}
+use Rattle.name_file.proofs.Common.{sym, ◌∙◌, numbered_of}
 use Rattle.std.proofs.lemmas.Result.{err_from_is_err_and}
-use Rattle.record_lines.specs.Seen.{numbered_of}
 use Rattle.name_file.proofs.NameLemmas.{goes_on, stops, is_over}
 use Rattle.name_file.proofs.reading.after_lines.Goals as goal
 

@@ -1,5 +1,4 @@
-use Rattle.period_arrays.proofs.Common.{sym, err_from_is_err_and, layers_tested}
-use Rattle.record_lines.proofs.Counted.{step_goes_on, steps_end, steps_done}
+use Rattle.period_arrays.proofs.Common.{sym, err_from_is_err_and, layers_tested, step_goes_on, steps_end, steps_done}
 use Rattle.period_arrays.proofs.layers.layers_tested.Goals as goal
 
 pub returns-in_err-layer_tested : goal.returns-in_err-layer_tested

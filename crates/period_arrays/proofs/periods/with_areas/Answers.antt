@@ -1,5 +1,4 @@
-use Rattle.period_arrays.proofs.Common.{◌∙◌, sym, into_iter_items, err_from_is_err_and, without}
-use Rattle.record_lines.proofs.Each.{no_items, each_goes_on, each_stops, each_done}
+use Rattle.period_arrays.proofs.Common.{◌∙◌, sym, into_iter_items, err_from_is_err_and, without, no_items, each_goes_on, each_stops, each_done}
 use Rattle.array_reader.proofs.ListLemmas.{all_pushed}
 use Rattle.list_package.proofs.PeriodLemmas.{one_more_same, all_same}
 use Rattle.period_arrays.proofs.periods.with_areas.Goals as goal

@@ -1,6 +1,6 @@
 use Rattle.relax_core.proofs.Common.{◌≡◌, List, subst, sym, All, All-weaker, Bound, Entries, IsProblem, Edges, IsBarrier, AreOnTheWay, head_at, lower_at}
 use Rattle.relax_core.proofs.Common.{upper_at, edge_kept, same_on_the_way, seen_itself, low_side, high_side, WasSeen, AreEdges, edge_on, heads_on, is_side}
-use Rattle.relax_core.proofs.Exchanges.{way_on}
+use Rattle.relax_core.proofs.Keeping.{way_on}
 use Rattle.relax_core.proofs.laws.edges_are_kept.Goals as goal
 
 words_kept : (p : List Entries) (b : Edges) (words : List Bound) → IsProblem p → IsBarrier p b → AreEdges p b words → AreOnTheWay p b words

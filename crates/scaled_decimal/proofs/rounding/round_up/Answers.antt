@@ -1,5 +1,5 @@
 use Rattle.scaled_decimal.proofs.Common.{◌≡◌, ℕ, ◌+◌, ◌/◌, ◌-◌, ◌^◌, ap, ◌∙◌, refl, arith, ints}
-use Rattle.scaled_decimal.proofs.Fronts.{up_at_18, up_at_nines, up_at_19}
+use Rattle.scaled_decimal.proofs.Nearest.{up_at_18, up_at_nines, up_at_19}
 use Rattle.scaled_decimal.proofs.rounding.round_up.Goals as goal
 
 pub returns-then-front-clause-nearest : goal.returns-then-front-clause-nearest

@@ -1,4 +1,4 @@
-use Rattle.step_chain.proofs.Following.{steps_enclose}
+use Rattle.step_chain.proofs.OneStep.{steps_enclose}
 use Rattle.step_chain.proofs.laws.steps_enclose.Goals as goal
 
 pub returns : goal.returns

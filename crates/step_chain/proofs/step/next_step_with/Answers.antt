@@ -1,10 +1,9 @@
 use Rattle.step_chain.proofs.Common.{List, subst, sym, true, Bound, IsBefore, Solved, AreHeadsOf, IsCertificate, lower_at, PairKind, IsPairOf, edges_by}
-use Rattle.step_chain.proofs.Common.{upper_at}
+use Rattle.step_chain.proofs.Common.{upper_at, digits_of}
 use Rattle.std.proofs.lemmas.Result.{err_from_is_err_and}
-use Rattle.deck_problems.specs.Kept.{digits_of}
-use Rattle.step_chain.proofs.Failing.{barrier_fails, settle_fails}
-use Rattle.step_chain.proofs.Following.{pair_words}
-use Rattle.step_chain.proofs.Parts.{AreParts, is_step, leads_or_rests, led_by}
+use Rattle.step_chain.proofs.Refusals.{barrier_fails, settle_fails}
+use Rattle.step_chain.proofs.OneStep.{pair_words}
+use Rattle.step_chain.proofs.Limits.{AreParts, is_step, leads_or_rests, led_by}
 use Rattle.step_chain.proofs.step.next_step_with.Goals.{After-heads_fit}
 use Rattle.step_chain.proofs.step.next_step_with.Given as given
 use Rattle.step_chain.proofs.step.next_step_with.Goals as goal

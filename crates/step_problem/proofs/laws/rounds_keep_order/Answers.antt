@@ -1,5 +1,5 @@
 use Rattle.step_problem.proofs.BothSides.{low_side, high_side}
-use Rattle.step_problem.proofs.SidesRounds.{rounds_keep}
+use Rattle.step_problem.proofs.Sides.{rounds_keep}
 use Rattle.step_problem.proofs.laws.rounds_keep_order.Goals as goal
 
 pub returns : goal.returns

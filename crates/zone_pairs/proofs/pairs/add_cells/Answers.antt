@@ -1,5 +1,4 @@
-use Rattle.zone_pairs.proofs.Common.{◌≡◌, ◌∙◌, ℕ, Bool, ap, sym, arith, list_any, faces, share_face, variable_below, joins_by, ZonePair}
-use Rattle.model_types.specs.Cells.{cell_count}
+use Rattle.zone_pairs.proofs.Common.{◌≡◌, ◌∙◌, ℕ, Bool, ap, sym, arith, list_any, faces, share_face, variable_below, joins_by, ZonePair, cell_count}
 use Rattle.zone_pairs.proofs.Gains.{gains_cell, gains_no_cell, gains_nothing, gains_same}
 use Rattle.zone_pairs.proofs.pairs.add_cells.Goals.{then-is_variable+in_ok-add_cell, else-is_variable}
 use Rattle.zone_pairs.proofs.pairs.add_cells.Goals as goal

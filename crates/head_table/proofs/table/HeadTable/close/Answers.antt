@@ -1,5 +1,5 @@
 use Rattle.head_table.proofs.Common.{List, subst, arith, IfOk, AreOnTheWay, AreNoLooser, slots_items, Entries, barrier_of}
-use Rattle.head_table.proofs.Closing.{AtEnd, ends, closes, ok_of_two, ok_under}
+use Rattle.head_table.proofs.Joining.{AtEnd, ends, closes, ok_of_two, ok_under}
 use Rattle.head_table.proofs.table.HeadTable.close.Goals as goal
 
 pub read_all-bounds-requires-clause-range : goal.read_all-bounds-requires-clause-range

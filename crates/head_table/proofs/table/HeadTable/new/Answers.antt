@@ -1,5 +1,5 @@
 use Rattle.head_table.proofs.Common.{◌≡◌, ℕ, ◌+◌, ◌*◌, ◌<◌, List, length, ap, subst, arith, Bound, Side, heads_on, words_on}
-use Rattle.head_table.proofs.Closing.{opens}
+use Rattle.head_table.proofs.Joining.{opens}
 use Rattle.head_table.proofs.table.HeadTable.new.Goals as goal
 
 pub of_words-requires : goal.of_words-requires

@@ -1,6 +1,5 @@
 use Rattle.name_file.proofs.Common.{sym, AreFiles}
-use Rattle.name_file.proofs.FileLemmas.{one_more}
-use Rattle.name_file.proofs.NameLemmas.{goes_last}
+use Rattle.name_file.proofs.NameLemmas.{one_more, goes_last}
 use Rattle.name_file.proofs.names.Gathered.add.Goals as goal
 
 pub returns : goal.returns

@@ -1,4 +1,4 @@
-use Rattle.name_file.proofs.FileLemmas.{no_files}
+use Rattle.name_file.proofs.NameLemmas.{no_files}
 use Rattle.name_file.proofs.names.Gathered.new.Goals as goal
 
 pub invariant_of-result : goal.invariant_of-result

@@ -1,0 +1,75 @@
+-- `nothing` makes the empty struct, with the writer that its clause names. Assumes `Logic`.
+use Rattle.outside.proofs.Common.{List, [], ◌∷◌, ◌++◌, refl, Ura, Fn, Args, a_type, Val, vptr, inst_fn, SProp, ent, Memory, Routine, Calls, Loops, WpFn, Tables}
+use Rattle.outside.proofs.Common.{Fun, tables, WpFn-mono, Logic, ‵, raw, ◌⊛◌, prop, ◌$◌, ◌∵◌, !, qed, move, keep, split, fsplit, fjoin, feq_l, regoal, suffices}
+use Rattle.outside.proofs.Common.{done, agg, enter, returns, and_then, no_more, alloc_all, pass_all, free_all, look_at, get, sets, yes, RattleType, owns, RefOf}
+use Rattle.outside.proofs.Common.{Is, param, layouts, plain, types_at, nothing, owned, makes, Clauses, Ended, closing, alive, Meets, triple_of, entered, says}
+use Rattle.outside.proofs.Common.{Stays, stay_dropped, walk_of, ends_at, walk_Meets, Goes-dropped}
+use contract.Running.{tables_of}
+use types.Kit.{drop}
+use Rattle.outside.proofs.Made.{none, one, one_made}
+use Rattle.outside.specs.contracts.real.Accepted.nothing.Key.{name as #self}
+use Rattle.std.specs.contracts.marker.PhantomData as Mark
+use Rattle.outside.specs.contracts.real.Accepted as Accepted
+use Rattle.outside.specs.contracts.real.Accepted.nothing as F
+use Rattle.outside.proofs.real.Accepted.nothing.Statement as stated
+use Rattle.outside.proofs.real.Accepted.nothing.Code as code
+
+module _ (W : RattleType) where
+  abbrev args : Args
+  args = layouts (a_type ∷ []) (W, tt)
+
+  abbrev writer : RattleType
+  writer = param 0 W
+
+  abbrev function : Fn
+  function = inst_fn args code.function
+
+  abbrev ended : Ended
+  ended = F.ended W
+
+  abbrev stayed : Stays ended.signature.params ended.kept
+  stayed = (stay_dropped (RefOf (0 ∷ []) tt (plain (λ _. writer)) (λ _. tt)) yes, tt)
+
+  module _ {M : Type 1} {𝓤 : Ura M} (𝓛 : Logic 𝓤) (at_mem : Memory → SProp 𝓤) (run : Routine → Fun 𝓤) where
+    open 𝓛 use {H}
+
+    abbrev held : Clauses 𝓤 ended
+    held = F.clauses W 𝓛 at_mem run
+
+    module _ (C : Calls 𝓤 H) (Λ : Loops 𝓤 H) (z : (walk_of 𝓛 ended stayed held).Ghost) where
+      abbrev Post : Val → SProp 𝓤
+      Post = (walk_of 𝓛 ended stayed held).post z
+
+      abbrev toks : SProp 𝓤
+      toks = alive 𝓛 ended.signature z.0.0 z.0.1
+
+      walks : ent 𝓤 ((walk_of 𝓛 ended stayed held).pre z) (WpFn 𝓤 H C Λ function ((walk_of 𝓛 ended stayed held).args z) Post)
+      walks =
+          let a = z.0.3 in
+          let vss = z.0.4 in
+          let made : (Accepted.the_row writer).Denot = record { of = record {}; first = a.0.now; bytes = [] } in
+          qed 𝓛 ((raw toks ⊛ ‵ (owns (types_at ended.signature.params z.0.0) a vss)) ∷ raw ((held z.0.0 a).requires z.1) ∷ []) ∵
+          keep ! (0 ∷ []) $ split ! $ move ! (1 ∷ []) $
+          fsplit ! $ fsplit ! $ feq_l ! (λ is₀. drop ! $ drop ! $
+          let p = vptr a.0.ref_ptr.0 a.0.ref_ptr.1 in
+          regoal ! (λ (us : List Val). prop (WpFn 𝓤 H C Λ function (us ++ []) Post)) is₀ refl $
+          enter ! C Λ function (p ∷ []) Post $ alloc_all ! (λ l. pass_all ! refl ((tt, tt), tt) $
+          sets ! (agg ! (no_more !)) refl (tt, tt) $
+          sets ! (agg ! (and_then ! (get ! refl) (no_more !))) refl (tt, (tt, tt)) $
+          nothing ! $ owned ! (Mark.the_row writer) (Is (Mark.the_row writer)) (makes (Mark.the_type writer) tt 𝓛) (record {}) (none ∷ []) (tt, (refl, tt)) $
+          one_made ! (Mark.the_row writer) (record {}) none $ fjoin ! $
+          returns ! (look_at ! 0 refl) $ free_all ! refl $
+          suffices ! _ (ends_at 𝓛 ended stayed held z (one none) made (tt, tt) (tt, tt)) $ says ! (refl, refl) $
+          nothing ! $ nothing ! $ fjoin ! $ move ! (2 ∷ 0 ∷ 1 ∷ []) $ done !))
+
+    meets : (𝓣 : Tables 𝓤 H) → Meets 𝓛 ended.signature (WpFn 𝓤 H 𝓣.C 𝓣.Λ function) (closing 𝓛 ended held)
+    meets 𝓣 =
+        walk_Meets 𝓛 ended stayed (Goes-dropped 𝓛 2 (RefOf (0 ∷ []) tt (plain (λ _. writer)) (λ _. tt)) yes (λ κs x f. refl), tt) held
+        (WpFn 𝓤 H 𝓣.C 𝓣.Λ function) (WpFn-mono 𝓤 H 𝓛.laws 𝓣 function) (walks 𝓣.C 𝓣.Λ)
+
+pub nothing_spec : {M : Type 1} → stated.statement M
+unfolding tables_of
+nothing_spec 𝓤 𝓛 𝓜 𝓡 wired W LW =
+    let 𝓣 : Tables 𝓤 𝓛.H = tables_of 𝓤 𝓛.H 𝓜 (tables 𝓤 𝓛.H 𝓜 𝓡 𝓡.env) in
+    entered 𝓤 𝓛.H (triple_of 𝓛 (ended W).signature (closing 𝓛 (ended W) (held W 𝓛 𝓜.mem 𝓡.returns))) 𝓣.C 𝓣.Λ (#self (args W)) (function W)
+    (code.unfolded 𝓤 𝓛.H 𝓜 𝓡 wired (W, tt)) (meets W 𝓛 𝓜.mem 𝓡.returns 𝓣)

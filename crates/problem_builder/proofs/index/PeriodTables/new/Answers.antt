@@ -1,0 +1,42 @@
+use Rattle.problem_builder.proofs.Common.{ℕ, subst, ap, ◌∙◌, refl, arith, no_bound, NoFlow, Period, cell_count, entries_of, entries, AreLocalBounds, local_in}
+use Rattle.problem_builder.proofs.Common.{◌≡◌, ◌-◌, Filled, IsKind, IsIndex, IsKept, AreEvenStorages, span_in}
+use Rattle.problem_builder.proofs.CellTables.{kinds_filled}
+use Rattle.problem_builder.proofs.PeriodMade.{filled_as, named_as, period_as}
+use Rattle.problem_builder.proofs.PeriodsOf.{entries_in}
+use Rattle.problem_builder.proofs.index.PeriodTables.new.Goals as goal
+
+pub of_period-requires-clause-entries : goal.of_period-requires-clause-entries
+of_period-requires-clause-entries c = entries_in c.args.model.now c.in_ok-next.next.period c.cell_count-count.result _ c.requires.model (omega (arith, c.in_ok-next.ensures.period), omega (arith, c.in_ok-next.ensures.period, c.requires.period)) c.stress_period-period.ensures c.cell_count-count.ensures.count
+
+pub even_storages-requires-clause-kinds : goal.even_storages-requires-clause-kinds
+even_storages-requires-clause-kinds c =
+    let m = c.args.model.now in
+    let p = c.in_ok-next.next.period in
+    filled_as (IsKind m p) NoFlow (cell_count m.grid) _ _ c.as_slice.ensures.value (kinds_filled m p _ c.in_ok-kinds.ensures)
+
+pub returns-clause-storage : goal.returns-clause-storage
+returns-clause-storage c =
+    let t = c.args.tables.now in
+    subst (λ (q : ℕ). AreEvenStorages c.args.model.now (span_in t.thick) t.digits q c.in_ok-storage.storage) c.in_ok-next.ensures.period c.in_ok-storage.ensures
+
+pub returns-clause-tables : goal.returns-clause-tables
+returns-clause-tables c =
+    let m = c.args.model.now in
+    let n = cell_count m.grid in
+    let s = c.args.tables.now.digits in
+    let p = c.in_ok-next.next.period in
+    let per = c.stress_period-period.ensures in
+    let count = c.cell_count-count.ensures.count in
+    let before : c.args.given.now.period ≡ p - 1 = omega (arith, c.in_ok-next.ensures.period) in
+    period_as m s _ p _ c.in_ok-next.ensures.period (record {
+      period = refl;
+      steady = ap (λ (x : Period). x.steady) per;
+      kinds = filled_as (IsKind m p) NoFlow n _ _ c.new.ensures (kinds_filled m p _ c.in_ok-kinds.ensures);
+      index = filled_as (IsIndex m p) 0 n _ _ c.new-2.ensures c.in_ok-index.ensures;
+      given = named_as _ _ _ _ _ (c.as_slice-4.ensures ∙ ap (λ (x : Period). x.stresses.given) per) count c.in_ok-given.ensures;
+      kept = subst (λ (q : ℕ). Filled (IsKept m q) no_bound n c.new-3.result) before (filled_as (IsKept m c.args.given.now.period) no_bound n _ _ c.new-3.ensures c.in_ok-kept.ensures);
+      locals = c.in_ok-local.ensures.len ∙ count;
+      local = (λ d. subst (λ (x : Period). AreLocalBounds s d (local_in c.in_ok-local.local d) (entries_of d (entries x))) per (c.in_ok-local.ensures.are d));
+      recharge = c.in_ok-recharge.ensures;
+      evaps = c.in_ok-evaps.ensures;
+    })

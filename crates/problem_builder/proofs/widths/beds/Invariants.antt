@@ -1,5 +1,0 @@
-use Rattle.problem_builder.proofs.Common.{Filled, no_span, IsBedBelow}
-use Rattle.problem_builder.proofs.widths.beds.Given as goal
-
-abbrev pub invariant-loop-cell : goal.invariant-loop-cell
-invariant-loop-cell l = Filled (IsBedBelow l.model) no_span l.cell l.spans.items

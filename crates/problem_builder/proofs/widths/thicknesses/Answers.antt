@@ -1,9 +1,0 @@
-use Rattle.problem_builder.proofs.Common.{no_span, IsThickness}
-use Rattle.problem_builder.proofs.Filling.{none_filled, next_filled}
-use Rattle.problem_builder.proofs.widths.thicknesses.Goals as goal
-
-pub loop-cell-init : goal.loop-cell-init
-loop-cell-init c = none_filled (IsThickness c.args.model.now) no_span _ c.new-spans.ensures.items
-
-pub loop-cell-preserved : goal.loop-cell-preserved
-loop-cell-preserved c = next_filled (IsThickness c.args.model.now) no_span c.loop-cell.cell c.loop-cell.spans.items _ _ c.in_ok-push.ensures.items c.thickness_at.ensures c.loop-cell.invariant

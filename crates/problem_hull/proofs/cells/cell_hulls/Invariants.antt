@@ -1,5 +1,0 @@
-use Rattle.problem_hull.proofs.Common.{take, IsHull}
-use Rattle.problem_hull.proofs.cells.cell_hulls.Given as goal
-
-abbrev pub invariant-loop-i : goal.invariant-loop-i
-invariant-loop-i l = IsHull (take l.i l.p) (take l.i l.q) l.cells.items
