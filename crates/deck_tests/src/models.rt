@@ -1,26 +1,64 @@
 // The model of a name file, and what is asked of it.
 ghost use Rattle.std.specs.Prelude.{IfOk};
+ghost use Rattle.model_types.specs.Grids.{HasSize};
 ghost use Rattle.model_types.specs.Valid.{IsModel};
-ghost use Rattle.deck_problems.specs.Decks.{AreDecks};
 
-use crate::files::push_written;
-use crate::kinds::push_periods;
-use crate::lists::{push_integers, push_lists};
 use crate::steps::push_steps;
 use deck_problems::Decks;
 use model_reader::read_named_model;
 use model_types::{FlowModel, Limits};
-use outside::{InputFault, MemFolder, good_name};
+use model_writer::write_deck;
+use outside::{Folder, Found, InputFault, MemFolder, good_name};
 use std::alloc::{AllocError, Global};
-use test_lines::{Page, count_of};
-use zone_file::read_zones;
+use test_lines::{Deck, Page, count_of};
 
-/// The model that a name file describes.
-pub fn read_model(
-    alloc: Global,
+// The files of a deck that is written.
+const WRITTEN: [&str; 11] = [
+    "p.nam", "p.dis", "p.bas", "p.lpf", "p.wel", "p.riv", "p.drn", "p.ghb", "p.rch", "p.chd",
+    "p.evt",
+];
+
+fn push_files(page: &mut Page, folder: &mut MemFolder) {
+    for name in WRITTEN {
+        page.line(format_args!("@file {name}"));
+        match folder.read_file(page.alloc(), name) {
+            Ok(Found::Bytes(bytes)) => page.file(bytes.as_slice()),
+            _ => page.line("no file"),
+        }
+    }
+}
+
+// The files of the text of a deck, each after its line FILE.
+fn files_of(page: &Page, text: &[u8]) -> Result<Deck, AllocError> {
+    let mut deck = Deck::new(page.alloc());
+    for line in text.split(|byte| *byte == b'\n') {
+        let line = str::from_utf8(line).unwrap_or("");
+        match line.strip_prefix("FILE ") {
+            Some(name) => deck.begin_file(page.alloc(), name)?,
+            None if line == "END" => break,
+            None => deck.push_line(line)?,
+        }
+    }
+    Ok(deck)
+}
+
+// Writes a model as a deck, and puts its files, which are the folder's from now on.
+fn push_written(
+    page: &mut Page,
     folder: &mut MemFolder,
-    name: &str,
-) -> Result<FlowModel, InputFault>
+    model: &FlowModel,
+) -> Result<(), AllocError>
+    requires { HasSize model.now.grid }
+{
+    let text = write_deck(page.alloc(), model)?;
+    let mut deck = files_of(page, text.as_slice())?;
+    deck.end_file(page.alloc())?;
+    *folder = deck.folder;
+    push_files(page, folder);
+    Ok(())
+}
+
+fn read_model(alloc: Global, folder: &mut MemFolder, name: &str) -> Result<FlowModel, InputFault>
     ensures { IfOk result IsModel }
 {
     match good_name(name.as_bytes()) {
@@ -29,86 +67,20 @@ pub fn read_model(
     }
 }
 
-/// That a read failed, or that there is no model by another cause.
-pub fn push_fault(page: &mut Page, fault: &InputFault) {
-    match fault {
-        InputFault::ReadFault => page.line("ReadFault"),
-        _ => page.line("no model"),
-    }
-}
-
-// The zones of its cells.
-fn push_zones(page: &mut Page, folder: &mut MemFolder, model: &FlowModel, name: &str)
-    requires { IsModel model.now }
-{
-    match read_zones(page.alloc(), model, name, folder) {
-        Ok(zones) => push_integers(page, "ZONES", zones.as_slice()),
-        Err(fault) => push_fault(page, &fault),
-    }
-}
-
-// The answer to a question about a model.
-fn push_answer(
-    page: &mut Page,
-    folder: &mut MemFolder,
-    decks: &Decks,
-    question: &str,
-    more: &str,
-) -> Result<(), AllocError>
-    requires { AreDecks decks.now }
-{
-    let model = &decks.first;
-    match question {
-        "@read" => Ok(push_lists(page, model)),
-        "@zones" => Ok(push_zones(page, folder, model, more)),
-        "@periods" => push_periods(page, model),
-        "@write" => push_written(page, folder, model),
-        _ => push_steps(page, decks, count_of(more).min(18)),
-    }
-}
-
-/// The answer to a question about the model of a name file, or why there is no model.
+/// The answer to a question about the model of a name file, or that there is no model.
 pub fn push_model_answer(
     page: &mut Page,
     folder: &mut MemFolder,
     question: &str,
     name: &str,
-    more: &str,
+    digits: &str,
 ) -> Result<(), AllocError> {
-    match read_model(page.alloc(), folder, name) {
-        Ok(first) => {
-            let second = None;
-            push_answer(page, folder, &Decks { first, second }, question, more)
-        }
-        Err(fault) => Ok(push_fault(page, &fault)),
-    }
-}
-
-fn push_wide_fault(page: &mut Page, fault: &InputFault) {
-    match fault {
-        InputFault::Refused(refusal) => {
-            let (word, file) = (refusal.code.word(), refusal.file.as_str());
-            page.line(format_args!("{word} {file} {}", refusal.line));
-        }
-        InputFault::ReadFault => page.line("ReadFault"),
-        InputFault::Memory => page.line("Memory"),
-    }
-}
-
-/// The size of the model that a name file describes by wide limits, or its refusal.
-pub fn push_wide(page: &mut Page, folder: &mut MemFolder, name: &str) {
-    let Some(name) = good_name(name.as_bytes()) else {
-        return page.line("no name");
+    let Ok(first) = read_model(page.alloc(), folder, name) else {
+        return Ok(page.line("no model"));
     };
-    match read_named_model(page.alloc(), Limits::Wide, name, folder) {
-        Ok(model) => {
-            let grid = &model.grid;
-            let bottoms = grid.bottom.as_slice().len();
-            page.text("GRID");
-            page.word(grid.layers);
-            page.word(grid.rows);
-            page.line(format_args!(" {}, {bottoms} bottoms", grid.cols));
-        }
-        Err(fault) => push_wide_fault(page, &fault),
+    if question == "@write" {
+        return push_written(page, folder, &first);
     }
+    let second = None;
+    push_steps(page, &Decks { first, second }, count_of(digits).min(18))
 }

@@ -6,8 +6,8 @@ ghost use Rattle.problem_builder.specs.GridHeads.{AreGridHeads};
 ghost use Rattle.deck_problems.specs.Decks.{AreDecks};
 
 use deck_problems::{Decks, start_heads_for};
-use model_types::{FlowModel, Kind, Limits, Listed, TimeStep, times};
-use problem_builder::{BuildFault, PeriodTables, StepTables, Tables, build};
+use model_types::{FlowModel, Limits, Listed, TimeStep, times};
+use problem_builder::{BuildFault, build};
 use settle_driver::PlainSettler;
 use std::alloc::AllocError;
 use step_chain::{StepFault, next_step};
@@ -15,32 +15,6 @@ use step_problem::{Bound, NoBound, Place, Side};
 use test_lines::Page;
 
 const ROUNDS: u32 = 1_000_000;
-
-fn push_site(page: &mut Page, kind: Kind, head: Bound) {
-    match kind {
-        Kind::NoFlow => page.text(" no-flow"),
-        Kind::Variable => page.text(" variable"),
-        Kind::Constant => page.word(format_args!("{},{}", head.low, head.high)),
-    }
-}
-
-// What each cell is at a time, with its constant head.
-fn push_sites(page: &mut Page, model: &FlowModel, at: TimeStep, s: u32) -> Result<(), AllocError>
-    requires model { IsModel model.now }
-    requires time { Contains (times model.now) at }
-    requires digits { s ≤ 18 }
-{
-    let tables = Tables::new(page.alloc(), model, s)?;
-    let period = PeriodTables::at(page.alloc(), model, &tables, at.period)?;
-    let step = StepTables::new(page.alloc(), model, &period, at)?;
-    page.text("sites");
-    let (kinds, heads) = (period.kinds.as_slice(), step.heads.as_slice());
-    for (kind, head) in kinds.iter().zip(heads.iter()) {
-        push_site(page, *kind, *head);
-    }
-    page.end();
-    Ok(())
-}
 
 fn push_refusal(page: &mut Page, refusal: NoBound) {
     let code = refusal.code;
@@ -102,7 +76,6 @@ pub fn push_steps(page: &mut Page, decks: &Decks, s: u32) -> Result<(), AllocErr
     let steps = times(page.alloc(), &decks.first)?;
     for at in steps.as_slice() {
         page.line(format_args!("step {} {}", at.period, at.step));
-        push_sites(page, &decks.first, *at, s)?;
         push_problem(page, &decks.first, *at, old.as_slice(), s);
         match next_heads(page, decks, *at, old.as_slice(), s) {
             Some(heads) => old = heads,

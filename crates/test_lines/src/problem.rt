@@ -1,6 +1,6 @@
 // A problem's cells with their entries, one in a line.
 use crate::page::Page;
-use step_problem::{Cell, Drain, Evap, Fixed, FixedKind, Flow, FlowKind, Link, Problem, River};
+use step_problem::{Cell, Fixed, FixedKind, Flow, FlowKind, Problem};
 
 fn push_flow(page: &mut Page, flow: Flow) {
     let kind = match flow.kind {
@@ -10,41 +10,21 @@ fn push_flow(page: &mut Page, flow: Flow) {
     page.line(format_args!("{kind} {} {}", flow.lo, flow.hi));
 }
 
+// The bounds of a conductance and of heads.
+fn push_branch(page: &mut Page, kind: &str, lo: u64, hi: u64, heads: &[i64]) {
+    page.value(format_args!("{kind} {lo} {hi}"));
+    page.integers(heads);
+    page.end();
+}
+
 fn push_fixed(page: &mut Page, x: Fixed) {
-    let kind = match x.kind {
-        FixedKind::Storage => "storage",
-        FixedKind::Constant => "constant",
-        FixedKind::General => "general",
-    };
-    page.text(kind);
-    page.word(x.source);
-    page.line(format_args!(" {} {} {} {}", x.lo, x.hi, x.head_lo, x.head_hi));
-}
-
-fn push_link(page: &mut Page, link: Link) {
-    page.line(format_args!("link {} {} {}", link.cell, link.lo, link.hi));
-}
-
-fn push_river(page: &mut Page, x: River) {
-    page.text("river");
-    for conductance in [x.lo, x.hi] {
-        page.word(conductance);
-    }
-    page.integers(&[x.stage_lo, x.stage_hi, x.bottom_lo, x.bottom_hi]);
-    page.end();
-}
-
-fn push_drain(page: &mut Page, x: Drain) {
-    page.line(format_args!("drain {} {} {} {}", x.lo, x.hi, x.elev_lo, x.elev_hi));
-}
-
-fn push_evaporation(page: &mut Page, x: Evap) {
-    page.text("evaporation");
-    for conductance in [x.lo, x.hi] {
-        page.word(conductance);
-    }
-    page.integers(&[x.ext_lo, x.ext_hi, x.surf_lo, x.surf_hi]);
-    page.end();
+    page.text(match x.kind {
+        FixedKind::Storage => "storage ",
+        FixedKind::Constant => "constant ",
+        FixedKind::General => "general ",
+    });
+    page.value(x.source);
+    push_branch(page, "", x.lo, x.hi, &[x.head_lo, x.head_hi]);
 }
 
 fn push_cell(page: &mut Page, cell: &Cell) {
@@ -53,19 +33,21 @@ fn push_cell(page: &mut Page, cell: &Cell) {
         push_flow(page, *x);
     }
     for x in &cell.links {
-        push_link(page, *x);
+        page.line(format_args!("link {} {} {}", x.cell, x.lo, x.hi));
     }
     for x in &cell.fixed {
         push_fixed(page, *x);
     }
     for x in &cell.rivers {
-        push_river(page, *x);
+        let heads = [x.stage_lo, x.stage_hi, x.bottom_lo, x.bottom_hi];
+        push_branch(page, "river", x.lo, x.hi, &heads);
     }
     for x in &cell.drains {
-        push_drain(page, *x);
+        push_branch(page, "drain", x.lo, x.hi, &[x.elev_lo, x.elev_hi]);
     }
     for x in &cell.evaps {
-        push_evaporation(page, *x);
+        let heads = [x.ext_lo, x.ext_hi, x.surf_lo, x.surf_hi];
+        push_branch(page, "evaporation", x.lo, x.hi, &heads);
     }
 }
 
