@@ -1,6 +1,7 @@
 -- A head that a seat has now seen is written among the bounds that are shown.
 use Rattle.problem_tests.proofs.Common.{◌≡◌, ℕ, ◌<◌, List, length, ℤ, sym, ◌∙◌, subst, Entries, Low, High, IsHead, heads_on, AreWords, seen_on, SameOn}
-use Rattle.problem_tests.proofs.Common.{SameOnBut, ShowsSeen, IsShown, Bound, other}
+use Rattle.problem_tests.proofs.Common.{SameOnBut, ShowsSeen, IsShown, other}
+use Rattle.step_problem.specs.declared.heads.Bound.{Bound}
 use mathlib.Core.Logic.{dite}
 use native.Mathlib.Decide.{ℕ_discrete}
 use Rattle.step_problem.specs.declared.heads.Side.{Side}

@@ -1,9 +1,20 @@
 // Answers as lines.
-use crate::covering::TERM_NAMES;
 use budget_bounds::{Budget, TermPair};
 use certificate_check::Verdict;
 use step_problem::{Barrier, Bound, NoBound, Open, Place, SettleFault};
 use test_lines::Page;
+
+// The terms of a budget, in the order of the listing.
+const TERM_NAMES: [&str; 8] = [
+    "STORAGE",
+    "CONSTANT HEAD",
+    "WELLS",
+    "DRAINS",
+    "RIVER LEAKAGE",
+    "HEAD DEP BOUNDS",
+    "RECHARGE",
+    "ET",
+];
 
 pub fn push_barrier(page: &mut Page, b: &Barrier) {
     page.text("barrier");

@@ -1,25 +1,47 @@
 // Questions about a problem.
 use crate::answers::{push_barrier, push_budget, push_fault, push_verdict};
-use crate::balances::{push_balances, push_rivers};
-use crate::batches::{push_batch, push_book, push_meeting};
+use crate::batches::push_batch;
 use crate::case::Case;
-use crate::covering::push_cover;
-use crate::cutting::push_cut_answer;
 use crate::events::push_events;
 use crate::given::{Given, Stage};
 use crate::networks::{push_fit, push_network};
 use crate::seats::push_seats;
 use crate::solvers::{push_products, push_system};
-use crate::zoning::push_zone_flows;
 use barrier_vector::{BarrierFault, barrier};
 use budget_bounds::budget;
-use cell_relax::are_words;
+use cell_relax::{are_words, raise_to, sink_to};
 use certificate_check::check_step;
 use std::alloc::AllocError;
 use std::sync::Wait;
 use std::thread::Threads;
-use step_problem::Problem;
-use test_lines::{Page, first_word, number_at, numbers_of};
+use step_problem::{Problem, are_heads, is_head};
+use test_lines::{Page, first_word, head_at, number_at, numbers_of};
+
+// The raise or the sink value of a cell, at its own head and those of its links.
+fn push_relaxed(
+    page: &mut Page,
+    p: &Problem,
+    question: &str,
+    numbers: &[i128],
+) -> Result<(), AllocError> {
+    let (cell, own) = (number_at(numbers, 0) as usize, head_at(numbers, 1));
+    let mut values = Vec::new(page.alloc());
+    for place in 2..numbers.len() {
+        values.push(head_at(numbers, place))?;
+    }
+    let values = values.as_slice();
+    if cell >= p.len() || !is_head(own) || !are_heads(values) {
+        return Ok(page.line("no heads"));
+    }
+    if p.cell(cell).links.len() != values.len() {
+        return Ok(page.line("no heads of this cell"));
+    }
+    let head = match question {
+        "raised" => raise_to(p, cell, own, values),
+        _ => sink_to(p, cell, own, values),
+    };
+    Ok(page.line(format_args!("{question} {head}")))
+}
 
 impl<R: Threads + Sync> Case<'_, R> {
     // The certificate or the budget of the bounds.
@@ -36,30 +58,23 @@ impl<R: Threads + Sync> Case<'_, R> {
 
     fn push_answer(&self, page: &mut Page) -> Result<(), AllocError> {
         match self.question {
-            "barrier" => Ok(push_barrier(page, self.b)),
-            "check" | "budget" => Ok(self.push_of_bounds(page)),
-            "events" => push_events(page, self.p, self.b, self.moves),
-            "seats" => push_seats(page, self.p, self.b, self.moves),
-            "guess" => self.push_guesses(page),
-            "pair" | "spoilt_pair" => self.push_pair(page),
-            "sweeps" => Ok(self.push_sweeps(page)),
-            "listed" => self.push_listed(page),
-            "near" => self.push_near(page),
+            "barrier" => push_barrier(page, self.b),
+            "check" | "budget" => self.push_of_bounds(page),
+            "events" => return push_events(page, self.p, self.b, self.moves),
+            "seats" => return push_seats(page, self.p, self.b, self.moves),
+            "guess" => return self.push_guesses(page),
+            "pair" | "spoilt_pair" => return self.push_pair(page),
+            "sweeps" => self.push_sweeps(page),
+            "listed" => return self.push_listed(page),
+            "near" => return self.push_near(page),
             _ => self.push_by_plan(page),
         }
+        Ok(())
     }
 }
 
-/// Why there is no barrier.
-pub fn push_barrier_fault(page: &mut Page, fault: BarrierFault) {
-    match fault {
-        BarrierFault::NoBound(fault) => push_fault(page, fault),
-        BarrierFault::Memory => page.line("memory"),
-    }
-}
-
-// The answer to a question about a problem with its barrier, or why there is no barrier.
-fn push_between<R: Threads + Sync>(
+// The answer to a question about a problem, most often with its barrier, or why there is no barrier.
+fn push_of_problem<R: Threads + Sync>(
     rt: &R,
     page: &mut Page,
     p: &Problem,
@@ -67,9 +82,15 @@ fn push_between<R: Threads + Sync>(
     question: &str,
     numbers: &[i128],
 ) -> Result<(), AllocError> {
+    match question {
+        "fits" => return Ok(page.line(format_args!("cells {}", p.len()))),
+        "raised" | "sunk" => return push_relaxed(page, p, question, numbers),
+        _ => {}
+    }
     let b = match barrier(page.alloc(), p) {
         Ok(b) => b,
-        Err(fault) => return Ok(push_barrier_fault(page, fault)),
+        Err(BarrierFault::NoBound(fault)) => return Ok(push_fault(page, fault)),
+        Err(BarrierFault::Memory) => return Ok(page.line("memory")),
     };
     let case = Case {
         rt,
@@ -81,44 +102,6 @@ fn push_between<R: Threads + Sync>(
         numbers,
     };
     case.push_answer(page)
-}
-
-fn push_of_problem<R: Threads + Sync>(
-    rt: &R,
-    page: &mut Page,
-    p: &Problem,
-    given: &Given,
-    question: &str,
-    numbers: &[i128],
-) -> Result<(), AllocError> {
-    match question {
-        "fits" => Ok(page.line(format_args!("cells {}", p.len()))),
-        "balances" | "raised" | "sunk" => push_balances(page, p, question, numbers),
-        "rivers" => Ok(push_rivers(page, p, numbers)),
-        "zones" => push_zone_flows(page, p, numbers),
-        "cut" | "wide" | "wide_check" => {
-            push_cut_answer(page, p, given.bounds.as_slice(), question, numbers)
-        }
-        _ => push_between(rt, page, p, given, question, numbers),
-    }
-}
-
-// The answer to a question that may be one about the problem given so far.
-fn push_of_given<R: Threads + Sync>(
-    rt: &R,
-    page: &mut Page,
-    given: &mut Given,
-    question: &str,
-    numbers: &[i128],
-) -> Result<(), AllocError> {
-    given.finish();
-    if question == "hull" {
-        return Ok(given.take_hull(page));
-    }
-    match &given.stage {
-        Stage::Made(p) => push_of_problem(rt, page, p, given, question, numbers),
-        _ => Ok(page.line("no problem")),
-    }
 }
 
 /// Takes what a line gives, or puts the answer to its question.
@@ -136,14 +119,17 @@ pub fn push_answer<R: Threads + Wait + Sync>(
     }
     match word {
         "@" => Ok(page.line(line)),
-        "covers" => Ok(push_cover(page, &given.budgets)),
         "system" => push_system(page, number_at(numbers, 0)),
         "products" => push_products(page, number_at(numbers, 0)),
         "network" => push_network(page, numbers),
         "fit" => push_fit(page, numbers),
-        "batch" => push_batch(rt, page, numbers),
-        "book" => push_book(page),
-        "meeting" => push_meeting(rt, page),
-        _ => push_of_given(rt, page, given, word, numbers),
+        "batch" => Ok(push_batch(rt, page, numbers)),
+        _ => {
+            given.finish();
+            match &given.stage {
+                Stage::Made(p) => push_of_problem(rt, page, p, given, word, numbers),
+                _ => Ok(page.line("no problem")),
+            }
+        }
     }
 }

@@ -112,14 +112,14 @@ impl<R: Threads + Sync> Case<'_, R> {
     }
 
     /// By a plan, which is the first three numbers.
-    pub fn push_by_plan(&self, page: &mut Page) -> Result<(), AllocError> {
+    pub fn push_by_plan(&self, page: &mut Page) {
         let plan = Plan {
             workers: self.number(0),
             turns_per_cell: self.number(1),
             rounds: self.number(2),
         };
         if !plan.fits() {
-            return Ok(page.line("no plan"));
+            return page.line("no plan");
         }
         match self.question {
             "workers" => self.push_workers(page, plan),
@@ -130,10 +130,7 @@ impl<R: Threads + Sync> Case<'_, R> {
                 self.push_run(page, plan, 2);
                 self.push_twice_alone(page, plan.rounds);
             }
-            "watched" | "watched_run" | "spoilt_views" => return self.push_watched(page, plan),
-            "pieces" => return self.push_pieces(page, plan),
             other => page.line(format_args!("unknown: {other}")),
         }
-        Ok(())
     }
 }
