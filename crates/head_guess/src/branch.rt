@@ -20,20 +20,20 @@ pub fn product(a: i64, b: i64) -> i128 {
     a as i128 * b as i128
 }
 
-fn signed(number: u64) -> i64 {
+fn to_signed(number: u64) -> i64 {
     i64::try_from(number).unwrap_or(i64::MAX)
 }
 
 impl Branch {
     pub fn new(lo: u64, hi: u64) -> Branch {
         Branch {
-            lo: signed(lo),
-            hi: signed(hi),
+            lo: to_signed(lo),
+            hi: to_signed(hi),
         }
     }
 
     // The branch for flows in the other direction.
-    fn reversed(&self) -> Branch {
+    fn reverse(&self) -> Branch {
         Branch {
             lo: self.hi,
             hi: self.lo,
@@ -59,7 +59,7 @@ impl Branch {
 
     /// What it gives to a cell when the other end's head rises by `units`, where that stood `above` the cell's.
     pub fn gain(&self, above: i64, units: i64) -> i128 {
-        self.reversed().loss(above, units)
+        self.reverse().loss(above, units)
     }
 
     /// What it takes from its cell when the cell's head rises by one unit, where it stood `above` the other end.
@@ -69,7 +69,7 @@ impl Branch {
 
     /// What it gives to a cell when the other end's head rises by one unit, where that stood `above` the cell's.
     pub fn unit_gain(&self, above: i64) -> i64 {
-        self.reversed().unit_loss(above)
+        self.reverse().unit_loss(above)
     }
 }
 

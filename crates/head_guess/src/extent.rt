@@ -1,6 +1,6 @@
 // How wide the room of a problem is, and what the turns in which heads settle say of it.
 use crate::links::Links;
-use multigrid::numbers::{cut, greatest};
+use multigrid::numbers::{clamp_long, greatest};
 
 /// The whole room, as a share.
 pub const WHOLE: i64 = 1_048_576;
@@ -124,7 +124,7 @@ impl Extent {
     fn even_step(&self, turns: u64) -> i64 {
         let parts = (turns as i128).saturating_mul(self.parts);
         let step = (WHOLE as i128).wrapping_mul(self.cells as i128);
-        cut(step.checked_div(parts).unwrap_or(WHOLE as i128))
+        clamp_long(step.checked_div(parts).unwrap_or(WHOLE as i128))
     }
 
     /// How far up a share can go that settled in these turns, a little less than these promise. Where the room is wide they promise too little:
@@ -138,7 +138,7 @@ impl Extent {
             return STEP;
         }
         let step = (WHOLE as i128 * 3 / 4).wrapping_mul(self.cells as i128);
-        let sure = cut(step.checked_div(more.saturating_mul(PARTS)).unwrap_or(0));
+        let sure = clamp_long(step.checked_div(more.saturating_mul(PARTS)).unwrap_or(0));
         if is_sure {
             sure
         } else {

@@ -86,10 +86,10 @@ impl Linear {
         places: i64,
         bits: u32,
     ) -> &[i64] {
-        let left = work.budget.left();
+        let left = work.budget.visits_left();
         self.solver.set_right_side(balances, places);
         let unknowns = self.solver.solve(work, ROUNDS, bits);
-        let visits = left.saturating_sub(work.budget.left());
+        let visits = left.saturating_sub(work.budget.visits_left());
         self.visits = self.visits.saturating_add(visits);
         unknowns
     }

@@ -4,7 +4,7 @@ use crate::linear::Linear;
 use crate::one_side::OneSide;
 use crate::ramp::Bends;
 use crate::work::Work;
-use multigrid::numbers::{at, cut, put, shifted, width};
+use multigrid::numbers::{at, clamp_long, put, shift, width};
 use std::alloc::AllocError;
 use step_problem::problem::HEAD_LIMIT;
 
@@ -104,7 +104,7 @@ impl Newton {
         self.slack = HEAD_LIMIT;
         let sum = self.sum_at(side, 0);
         let fall = sum.saturating_sub(self.sum_at(side, UNIT)) / UNIT as i128;
-        let level = cut(sum.checked_div(fall.max(1)).unwrap_or(0));
+        let level = clamp_long(sum.checked_div(fall.max(1)).unwrap_or(0));
         self.sum_at(side, level.clamp(-HEAD_LIMIT, HEAD_LIMIT));
         if self.longest_move() >= far {
             self.slack = 0;
@@ -128,7 +128,7 @@ impl Newton {
         for (balance, slope) in self.balances.iter().zip(self.slopes.as_slice()) {
             let size = balance.saturating_abs();
             if size > product(longest, *slope) {
-                longest = cut(size.checked_div(*slope as i128).unwrap_or(0));
+                longest = clamp_long(size.checked_div(*slope as i128).unwrap_or(0));
             }
         }
         longest
@@ -137,10 +137,10 @@ impl Newton {
     // Moves the heads by unknowns of 2^-places, and returns the longest move.
     fn advance(&mut self, side: &OneSide, unknowns: &[i64], places: i64) -> i128 {
         let mut longest = 0_i128;
-        let half = shifted(1, places.saturating_sub(1));
+        let half = shift(1, places.saturating_sub(1));
         for cell in 0..self.heads.len() {
             let unknown = (at(unknowns, cell) as i128).wrapping_add(half);
-            let way = shifted(unknown, 0_i64.saturating_sub(places));
+            let way = shift(unknown, 0_i64.saturating_sub(places));
             longest = longest.max(way.saturating_abs());
             let head = at(self.heads.as_slice(), cell);
             let moved = side.above_floor(cell, (head as i128).saturating_add(way));
@@ -164,7 +164,7 @@ impl Newton {
         let longest = self.advance(work.side, unknowns, places);
         let is_solved = linear.check(bits);
         let bits_of_slack = if is_solved { BITS_OF_SLACK } else { 0 };
-        self.slack = cut(longest.wrapping_shr(bits_of_slack));
+        self.slack = clamp_long(longest.wrapping_shr(bits_of_slack));
         let may_end = match until {
             Until::Straight => longest < LONGEST && self.is_straight(work.side),
             _ => alone < SHORT && longest < LONG,

@@ -3,7 +3,7 @@ use crate::links::{Edge, Row};
 use crate::marks::Marks;
 use crate::one_side::OneSide;
 use crate::state::State;
-use multigrid::numbers::{at, cut, long_at, put, width};
+use multigrid::numbers::{at, clamp_long, long_at, put, width};
 use std::alloc::AllocError;
 use step_problem::problem::HEAD_LIMIT;
 
@@ -56,7 +56,7 @@ fn quotient(number: i128, divisor: i64) -> i64 {
     let dropped = width(number).saturating_sub(63);
     let leading = i64::try_from(number.wrapping_shr(dropped)).unwrap_or(0);
     let units = leading.checked_div(divisor).unwrap_or(0);
-    cut((units as i128).wrapping_shl(dropped.min(63)))
+    clamp_long((units as i128).wrapping_shl(dropped.min(63)))
 }
 
 impl Nodes {
@@ -133,7 +133,7 @@ impl Nodes {
     }
 
     // The heads of the cells that a cell is linked with.
-    fn around(&self, edges: &[Edge]) -> [i64; 6] {
+    fn neighbour_heads(&self, edges: &[Edge]) -> [i64; 6] {
         let mut around = [0; 6];
         for (place, edge) in around.iter_mut().zip(edges) {
             *place = self.node(edge.other as usize).head;
@@ -146,7 +146,7 @@ impl Nodes {
         let units = if row.is_straight() {
             self.straight_units(side, row, node)
         } else {
-            let around = self.around(side.links.edges(row));
+            let around = self.neighbour_heads(side.links.edges(row));
             side.raised_amid(cell, node.head, &around)
                 .wrapping_sub(node.head)
         };

@@ -80,10 +80,10 @@ pub fn raise_within(
 ) -> Result<Raised, AllocError> {
     let mut nodes = Nodes::new(work.side, state, caps, u32::MAX)?;
     let mut part = work.split(turns);
-    let given = part.budget.left();
+    let given = part.budget.visits_left();
     let is_settled = raise(&mut part, &mut nodes)?;
     nodes.write_to(state);
-    let turns = given.saturating_sub(part.budget.left());
+    let turns = given.saturating_sub(part.budget.visits_left());
     work.join(part);
     Ok(Raised { is_settled, turns })
 }

@@ -64,13 +64,13 @@ fn evap_ramp(side: Side, evap: &Evap) -> Ramp {
 /// Adds the ramps of a cell, turned.
 pub fn add_ramps(ramps: &mut Vec<Ramp>, side: Side, cell: &Cell) -> Result<(), AllocError> {
     for river in &cell.rivers {
-        ramps.push(river_ramp(side, river).turned(side))?;
+        ramps.push(river_ramp(side, river).turn_to(side))?;
     }
     for drain in &cell.drains {
-        ramps.push(drain_ramp(side, drain).turned(side))?;
+        ramps.push(drain_ramp(side, drain).turn_to(side))?;
     }
     for evap in &cell.evaps {
-        ramps.push(evap_ramp(side, evap).turned(side))?;
+        ramps.push(evap_ramp(side, evap).turn_to(side))?;
     }
     Ok(())
 }
@@ -84,7 +84,7 @@ fn is_above(side: Side, head: i64, other: i64) -> bool {
 }
 
 impl Ramp {
-    fn turned(self, side: Side) -> Ramp {
+    fn turn_to(self, side: Side) -> Ramp {
         match side {
             Side::Low => self,
             Side::High => Ramp {

@@ -32,7 +32,7 @@ pub struct Sink {
 }
 
 // The nearest number of 64 bits.
-fn narrow(number: i128) -> i64 {
+fn clamp_to_long(number: i128) -> i64 {
     let farthest = if number < 0 { i64::MIN } else { i64::MAX };
     i64::try_from(number).unwrap_or(farthest)
 }
@@ -56,7 +56,7 @@ impl Sink {
         };
         for (cell, head) in heads.iter().enumerate() {
             let spot = Spot {
-                sum: narrow(long_at(fire.sums.as_slice(), cell)),
+                sum: clamp_to_long(long_at(fire.sums.as_slice(), cell)),
                 rate: 0,
                 head: *head,
                 burnt_at: fire.burnt_at(cell),
@@ -78,7 +78,7 @@ impl Sink {
     pub fn heads(&self, side: &OneSide) -> Result<Vec<i64>, AllocError> {
         self.spots
             .iter()
-            .map(|spot| self.depth.own(spot))
+            .map(|spot| self.depth.head_of(spot))
             .collect(side.alloc)
     }
 
@@ -91,7 +91,7 @@ impl Sink {
         if !spot.falls() {
             return REST;
         }
-        let own = self.depth.own(spot).wrapping_sub(1);
+        let own = self.depth.head_of(spot).wrapping_sub(1);
         let mut until = 0;
         if row.is_straight() {
             until = self
@@ -101,7 +101,7 @@ impl Sink {
         for known in side.knowns(row) {
             until = until.min(self.depth.end_of(own.wrapping_sub(known.head)));
         }
-        let rate = narrow(side.fall_beside_links(row, own, 1));
+        let rate = clamp_to_long(side.fall_beside_links(row, own, 1));
         Pace { rate, until }
     }
 
@@ -178,7 +178,7 @@ impl Sink {
     // A cell leaves the set, if it would rise again, and stays where it is.
     fn leave(&mut self, side: &OneSide, cell: usize) -> Result<(), AllocError> {
         let mut spot = self.spot(cell);
-        let own = self.depth.own(&spot);
+        let own = self.depth.head_of(&spot);
         if !spot.falls() || spot.sum < 0 && !side.is_at_floor(cell, own) {
             return Ok(());
         }

@@ -2,7 +2,7 @@
 use crate::links::Links;
 use crate::one_side::OneSide;
 use crate::work::Work;
-use multigrid::numbers::{at, shifted};
+use multigrid::numbers::{at, shift};
 use multigrid::{Levels, Matrix};
 use star_mesh::{Factor, Pattern};
 use std::alloc::AllocError;
@@ -177,7 +177,7 @@ impl Solver {
     pub fn set_right_side(&mut self, numbers: &[i128], places: i64) {
         let scale = self.scale;
         for (right, number) in self.method.right_side().iter_mut().zip(numbers) {
-            *right = shifted(*number, places).wrapping_shr(scale);
+            *right = shift(*number, places).wrapping_shr(scale);
         }
     }
 
@@ -216,7 +216,7 @@ impl Solver {
         let scale = self.scale;
         let rights = self.method.right_side().iter_mut();
         for (right, slope) in rights.zip(self.slopes.as_slice()) {
-            *right = shifted(*slope as i128, 20).wrapping_shr(scale);
+            *right = shift(*slope as i128, 20).wrapping_shr(scale);
         }
         let alloc = work.side.alloc;
         let unknowns = self.solve(work, rounds, bits).iter();

@@ -67,7 +67,7 @@ pub struct Depth {
 
 impl Depth {
     /// The head of a cell.
-    pub fn own(&self, spot: &Spot) -> i64 {
+    pub fn head_of(&self, spot: &Spot) -> i64 {
         if spot.falls() {
             spot.head.wrapping_sub(self.units as i64)
         } else {
@@ -95,7 +95,7 @@ impl Depth {
 
     // How far a cell of the set is above one that has burnt.
     fn above(&self, falling: &Spot, burnt: &Spot) -> i64 {
-        self.own(falling).wrapping_sub(burnt.head)
+        self.head_of(falling).wrapping_sub(burnt.head)
     }
 
     // The pace of a cell of the set by one that has burnt, as far below.

@@ -4,7 +4,7 @@ use crate::half::Ended;
 use crate::linear::Linear;
 use crate::links::Links;
 use crate::one_side::turned_head;
-use multigrid::numbers::{at, cut};
+use multigrid::numbers::{at, clamp_long};
 use std::alloc::{AllocError, Global};
 use std::mem::replace;
 use step_problem::{Barrier, Cell, FixedKind, Problem, Side};
@@ -114,7 +114,7 @@ fn first_head(p: &Problem, b: &Barrier, cell: usize) -> i64 {
 fn continued_heads(alloc: Global, before: &[i64], heads: &[i64]) -> Result<Vec<i64>, AllocError> {
     let next = heads.iter().enumerate().map(|(cell, head)| {
         let way = *head as i128 - at(before, cell) as i128;
-        turned_head(Side::Low, cut((*head as i128).wrapping_add(way)))
+        turned_head(Side::Low, clamp_long((*head as i128).wrapping_add(way)))
     });
     next.collect(alloc)
 }
@@ -162,7 +162,7 @@ pub fn high_start(
             Some(last) => units_apart(last, cell),
             None => 0,
         };
-        turned_head(Side::Low, cut(apart.wrapping_sub(*head as i128)))
+        turned_head(Side::Low, clamp_long(apart.wrapping_sub(*head as i128)))
     });
     heads.collect(alloc)
 }

@@ -45,7 +45,7 @@ fn find_strongest(couplings: &[Coupling], of: &[u32]) -> Strongest {
 }
 
 // Puts an unknown into a new aggregate, and returns the number of aggregates.
-fn found(of: &mut [u32], unknown: usize, count: u32) -> u32 {
+fn begin_aggregate(of: &mut [u32], unknown: usize, count: u32) -> u32 {
     put(of, unknown, count);
     count.saturating_add(1)
 }
@@ -56,7 +56,7 @@ fn found(of: &mut [u32], unknown: usize, count: u32) -> u32 {
 fn join(of: &mut [u32], unknown: usize, strongest: Strongest, count: u32, lone: bool) -> u32 {
     let Some(any) = strongest.any else {
         return if lone {
-            found(of, unknown, count)
+            begin_aggregate(of, unknown, count)
         } else {
             count
         };
@@ -65,7 +65,7 @@ fn join(of: &mut [u32], unknown: usize, strongest: Strongest, count: u32, lone: 
         && free.weight >= any.weight / 4
     {
         put(of, free.other as usize, count);
-        return found(of, unknown, count);
+        return begin_aggregate(of, unknown, count);
     }
     let joined = aggregate_of(of, any.other as usize);
     put(of, unknown, joined);
@@ -87,7 +87,7 @@ pub fn pairs(alloc: Global, matrix: &Matrix, lone: bool) -> Result<Aggregates, A
 }
 
 /// The aggregates of aggregates.
-pub fn merged(alloc: Global, of: &[u32], pairs: &[u32]) -> Result<Vec<u32>, AllocError> {
+pub fn merge(alloc: Global, of: &[u32], pairs: &[u32]) -> Result<Vec<u32>, AllocError> {
     let mut merged = Vec::with_capacity(alloc, of.len())?;
     for aggregate in of {
         merged.push(aggregate_of(pairs, *aggregate as usize))?;

@@ -22,7 +22,7 @@ impl Budget {
         self.left == 0
     }
 
-    pub fn left(&self) -> u64 {
+    pub fn visits_left(&self) -> u64 {
         self.left
     }
 

@@ -1,6 +1,6 @@
 // The matrix over aggregates: sums of the entries over the members of each (Galerkin, with constants for each
 // aggregate).
-use crate::aggregates::{ALONE, Aggregates, aggregate_of, merged, pairs};
+use crate::aggregates::{ALONE, Aggregates, aggregate_of, merge, pairs};
 use crate::matrix::{Matrix, Row};
 use crate::numbers::{label, put};
 use std::alloc::{AllocError, Global};
@@ -115,7 +115,7 @@ pub fn coarser(alloc: Global, matrix: &Matrix) -> Result<Option<Coarsening>, All
     let halved = over_aggregates(alloc, matrix, &first)?;
     let second = pairs(alloc, &halved, true)?;
     let quartered = over_aggregates(alloc, &halved, &second)?;
-    let aggregates = merged(alloc, first.of.as_slice(), second.of.as_slice())?;
+    let aggregates = merge(alloc, first.of.as_slice(), second.of.as_slice())?;
     Ok(Some(Coarsening {
         aggregates,
         matrix: quartered,

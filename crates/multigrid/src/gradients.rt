@@ -1,6 +1,6 @@
 // Steps of flexible conjugate gradients on one level.
 use crate::levels::Level;
-use crate::numbers::{at, cut, put};
+use crate::numbers::{at, clamp_long, put};
 use crate::scaled::{inner_product, times};
 
 /// Begins at 0.
@@ -15,7 +15,7 @@ fn turn(level: &mut Level) {
     let factor = along.over(level.energy);
     for (direction, correction) in level.direction.iter_mut().zip(level.correction.as_slice()) {
         let last = times(factor, *direction as i128);
-        *direction = cut((*correction as i128).wrapping_sub(last));
+        *direction = clamp_long((*correction as i128).wrapping_sub(last));
     }
 }
 
@@ -40,7 +40,7 @@ pub fn advance(level: &mut Level) -> bool {
     let along = inner_product(level.direction.as_slice(), level.residual.as_slice());
     let factor = along.over(level.energy);
     for (x, d) in level.solution.iter_mut().zip(level.direction.as_slice()) {
-        *x = cut((*x as i128).wrapping_add(times(factor, *d as i128)));
+        *x = clamp_long((*x as i128).wrapping_add(times(factor, *d as i128)));
     }
     for (r, q) in level.residual.iter_mut().zip(level.image.as_slice()) {
         *r = r.wrapping_sub(times(factor, *q));

@@ -1,5 +1,5 @@
 // A sparse matrix by rows.
-use crate::numbers::{at, cut, long_at};
+use crate::numbers::{at, clamp_long, long_at};
 use std::alloc::{AllocError, Global};
 
 /// An entry off the diagonal: the other unknown, and the weight, which is negated in the matrix.
@@ -33,8 +33,8 @@ impl Pivot {
 
     /// An approximate quotient of a number by the weight.
     pub fn quotient(&self, x: i128) -> i64 {
-        let x = cut(x.wrapping_shr(self.bits.saturating_sub(1)));
-        cut((x as i128 * self.reciprocal as i128).wrapping_shr(62))
+        let x = clamp_long(x.wrapping_shr(self.bits.saturating_sub(1)));
+        clamp_long((x as i128 * self.reciprocal as i128).wrapping_shr(62))
     }
 
     /// The magnitude of a number over the weight, up to a factor of 2.

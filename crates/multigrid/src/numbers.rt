@@ -26,7 +26,7 @@ pub fn label(index: usize) -> u32 {
 }
 
 /// The nearest number from -2^60 to 2^60.
-pub fn cut(x: i128) -> i64 {
+pub fn clamp_long(x: i128) -> i64 {
     x.clamp(-LONGEST, LONGEST) as i64
 }
 
@@ -36,7 +36,7 @@ pub fn width(x: i128) -> u32 {
 }
 
 /// A number times a power of two, rounded down; 0 where it is too long.
-pub fn shifted(x: i128, places: i64) -> i128 {
+pub fn shift(x: i128, places: i64) -> i128 {
     let by = places.unsigned_abs().min(127) as u32;
     if places < 0 {
         x.wrapping_shr(by)

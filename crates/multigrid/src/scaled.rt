@@ -1,5 +1,5 @@
 // Inner products, and their quotients, for conjugate gradients in whole numbers.
-use crate::numbers::{cut, shifted, width};
+use crate::numbers::{clamp_long, shift, width};
 
 /// A number times a power of two.
 #[derive(Clone, Copy)]
@@ -67,7 +67,7 @@ impl Scaled {
             .saturating_sub(raised as i64)
             .saturating_sub(divisor.exponent as i64)
             .saturating_sub(dropped as i64);
-        cut(shifted(quotient, places)).clamp(-GREATEST, GREATEST)
+        clamp_long(shift(quotient, places)).clamp(-GREATEST, GREATEST)
     }
 }
 

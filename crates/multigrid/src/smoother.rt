@@ -1,7 +1,7 @@
 // The smoother of a level, and its transfers to and from the next one.
 use crate::aggregates::aggregate_of;
 use crate::levels::Level;
-use crate::numbers::{at, cut, long_at, put};
+use crate::numbers::{at, clamp_long, long_at, put};
 
 // A Gauss-Seidel step at one unknown.
 fn relax(level: &mut Level, i: usize) {
@@ -47,6 +47,6 @@ pub fn prolong(level: &mut Level, coarse: &Level) {
         let aggregate = aggregate_of(level.aggregates.as_slice(), i) as usize;
         let own = at(level.correction.as_slice(), i);
         let corrected = own as i128 + at(coarse.solution.as_slice(), aggregate) as i128;
-        put(level.correction.as_mut_slice(), i, cut(corrected));
+        put(level.correction.as_mut_slice(), i, clamp_long(corrected));
     }
 }

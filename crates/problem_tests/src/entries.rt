@@ -3,7 +3,7 @@ use std::alloc::{AllocError, Global};
 use step_problem::{Cell, Drain, Evap, Fixed, FixedKind, Flow, FlowKind, Link, River};
 use test_lines::{conductance_at, head_at, number_at, wide_at};
 
-pub fn empty(alloc: Global, id: u32) -> Cell {
+pub fn empty_cell(alloc: Global, id: u32) -> Cell {
     Cell {
         id,
         flows: Vec::new(alloc),
@@ -23,7 +23,7 @@ fn flow(kind: FlowKind, n: &[i128]) -> Flow {
     }
 }
 
-fn fixed(kind: FixedKind, source: u32, n: &[i128]) -> Fixed {
+fn fixed_entry(kind: FixedKind, source: u32, n: &[i128]) -> Fixed {
     Fixed {
         kind,
         source,
@@ -77,12 +77,16 @@ fn evaporation(n: &[i128]) -> Evap {
 pub fn push_entry(cell: &mut Cell, word: &str, n: &[i128]) -> Result<bool, AllocError> {
     match word {
         "link" => cell.links.push(link(n))?,
-        "storage" => cell.fixed.push(fixed(FixedKind::Storage, cell.id, n))?,
-        "general" => cell.fixed.push(fixed(FixedKind::General, cell.id, n))?,
+        "storage" => cell
+            .fixed
+            .push(fixed_entry(FixedKind::Storage, cell.id, n))?,
+        "general" => cell
+            .fixed
+            .push(fixed_entry(FixedKind::General, cell.id, n))?,
         "constant" => {
             let rest = n.get(1..).unwrap_or(&[]);
             cell.fixed
-                .push(fixed(FixedKind::Constant, number_at(n, 0), rest))?;
+                .push(fixed_entry(FixedKind::Constant, number_at(n, 0), rest))?;
         }
         "well" => cell.flows.push(flow(FlowKind::Wells, n))?,
         "recharge" => cell.flows.push(flow(FlowKind::Recharge, n))?,
@@ -100,7 +104,7 @@ const METRE: i64 = 1_000_000_000;
 
 /// A cell of a row of `count` cells, each beside a general head of its own, from 0 to 9 in turn.
 pub fn cell_of_row(alloc: Global, index: u32, count: u32) -> Result<Cell, AllocError> {
-    let mut cell = empty(alloc, index.wrapping_add(1));
+    let mut cell = empty_cell(alloc, index.wrapping_add(1));
     for other in [index.wrapping_sub(1), index.wrapping_add(1)] {
         if other < count {
             cell.links.push(Link {

@@ -1,5 +1,5 @@
 // The data of the lines so far.
-use crate::entries::{cell_of_row, empty, push_entry};
+use crate::entries::{cell_of_row, empty_cell, push_entry};
 use crate::moves::Move;
 use cell_balance::example::example;
 use std::alloc::{AllocError, Global};
@@ -22,7 +22,7 @@ pub struct Given {
     pub moves: Vec<Move>,
 }
 
-fn made(cells: Vec<Cell>) -> Stage {
+fn stage_of(cells: Vec<Cell>) -> Stage {
     if fits(cells.as_slice()) {
         Stage::Made(Problem::new(cells))
     } else {
@@ -50,7 +50,7 @@ impl Given {
             return Ok(false);
         };
         match word {
-            "cell" => cells.push(empty(alloc, number_at(numbers, 0)))?,
+            "cell" => cells.push(empty_cell(alloc, number_at(numbers, 0)))?,
             "row" => {
                 let count = number_at(numbers, 0);
                 for index in 0..count {
@@ -94,7 +94,7 @@ impl Given {
     pub fn finish(&mut self) {
         let stage = std::mem::replace(&mut self.stage, Stage::NoProblem);
         self.stage = match stage {
-            Stage::Cells(cells) => made(cells),
+            Stage::Cells(cells) => stage_of(cells),
             stage => stage,
         };
     }

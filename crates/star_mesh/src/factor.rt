@@ -3,7 +3,7 @@ use crate::elimination::{Elimination, eliminate};
 use crate::pattern::Pattern;
 use crate::substitution::{substitute_back, substitute_forward};
 use multigrid::Matrix;
-use multigrid::numbers::{at, cut, long_at, put, shifted};
+use multigrid::numbers::{at, clamp_long, long_at, put, shift};
 use std::alloc::{AllocError, Global};
 
 // Solutions of the residual that a solution leaves.
@@ -57,7 +57,7 @@ impl Factor {
     fn correct(&mut self, pattern: &Pattern) {
         for place in 0..pattern.len() {
             let flow = long_at(self.residual.as_slice(), pattern.unknown(place));
-            let flow = shifted(flow, self.scale as i64);
+            let flow = shift(flow, self.scale as i64);
             put(self.flows.as_mut_slice(), place, flow);
         }
         substitute_forward(pattern, self.parts.as_slice(), self.flows.as_mut_slice());
@@ -79,7 +79,7 @@ impl Factor {
         for i in 0..self.matrix.len() {
             let own = at(self.correction.as_slice(), i);
             let solution = at(self.solution.as_slice(), i) as i128;
-            let solution = cut(solution.wrapping_add(own as i128));
+            let solution = clamp_long(solution.wrapping_add(own as i128));
             put(self.solution.as_mut_slice(), i, solution);
             let residual = self.residual.as_slice();
             let left = self

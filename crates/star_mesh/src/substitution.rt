@@ -2,7 +2,7 @@
 use crate::elimination::WHOLE;
 use crate::lists::{range, value};
 use crate::pattern::Pattern;
-use multigrid::numbers::{at, cut, long_at, put, width};
+use multigrid::numbers::{at, clamp_long, long_at, put, width};
 
 /// A flow by its leading bits.
 #[derive(Clone, Copy)]
@@ -15,7 +15,7 @@ impl Flow {
     fn new(flow: i128) -> Flow {
         let dropped = width(flow).saturating_sub(60).min(62);
         Flow {
-            leading: cut(flow.wrapping_shr(dropped)),
+            leading: clamp_long(flow.wrapping_shr(dropped)),
             dropped,
         }
     }
@@ -72,6 +72,6 @@ pub fn substitute_back(
         let own = long_at(flows, column)
             .checked_div(value(diagonals, column, 1) as i128)
             .unwrap_or(0);
-        put(unknowns, column, cut(mean.wrapping_add(own)));
+        put(unknowns, column, clamp_long(mean.wrapping_add(own)));
     }
 }
