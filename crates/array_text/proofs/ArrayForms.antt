@@ -1,43 +1,36 @@
 -- An array that is read has a value for each place.
-use Rattle.array_text.proofs.Common.{◌≡◌, ℕ, ◌*◌, ℤ, List, [], ◌∷◌, length, replicate, All, Result, Ok, Err, refl, arith, length-replicate, All-replicate}
-use Rattle.array_text.proofs.Common.{NumFault, IsDec, Left, left_from, Kind, real, whole, multiplied, free_rows, ArraysHaveForm, FileSet, words, line_at}
-use Rattle.array_text.proofs.Common.{word_at, name_at, at_line, number_at, Control, constant, internal, named, keyword, format_at, constant_at, internal_at}
-use Rattle.array_text.proofs.Common.{named_at, of_keyword, control_at, values_of, array_at, without_line, reals, layer_array, real_layer, integer_layer, layers}
-use Rattle.array_text.proofs.Common.{repeated, number, integer, value_at, value_alone, free_list, IsShort, ListsHaveForm, Taking, beginning}
-use Rattle.outside.specs.declared.inputs.Refusal.{Refusal}
+use Rattle.array_text.proofs.Common.{◌≡◌, ℕ, ◌*◌, ℤ, List, [], ◌∷◌, length, All, Result, Ok, Err, refl, arith, length-replicate, All-replicate, NumFault, IsDec}
+use Rattle.array_text.proofs.Common.{Left, left_from, Kind, real, whole, multiplied, free_rows, ArraysHaveForm, Gives, FileSet, words, line_at, word_at}
+use Rattle.array_text.proofs.Common.{name_at, at_line, number_at, Control, constant, internal, named, keyword, format_at, constant_at, internal_at, named_at}
+use Rattle.array_text.proofs.Common.{of_keyword, control_at, values_of, array_at, without_line, reals, layer_array, real_layer, integer_layer, layers, number}
+use Rattle.array_text.proofs.Common.{integer, value_at, value_alone, free_list, IsShort, ListsHaveForm, Taking, beginning}
 use Rattle.outside.specs.Inputs.{file_at}
 use Rattle.outside.specs.Codes.{refusal}
 use Rattle.outside.specs.declared.codes.Code.TheVariants.{BadControl}
 use Rattle.array_reader.specs.declared.keyword.Keyword.{Keyword}
 use Rattle.array_reader.specs.declared.keyword.Keyword.TheVariants.{Constant, Internal, OpenClose, External, Other}
-use Rattle.array_text.proofs.Readings.{clash, goes, ends, appended_are, repeated_are}
+use Rattle.array_text.proofs.Readings.{done, refused, goes_on, then_, weaker, appended_are, repeated_are}
 use Rattle.array_text.proofs.NumberForms.{number_is, multiplied_is, integer_is}
 use Rattle.array_reader.proofs.StepLemmas.{value_word}
 
 -- A free list that is read has as many values as it asked for, and each is as its word is read.
-module _ {X : Type 0} (read : List ℕ → Result X NumFault) (P : X → Type 0) (form : (w : List ℕ) (x : X) → read w ≡ Ok x → P x) (file : List ℕ) where
-  pub value_is : (s t : Taking × Left) (x : X) → value_alone read file s ≡ Ok (x, t) → P x
+module _ {X : Type 0} (read : List ℕ → Result X NumFault) (P : X → Type 0) (form : (w : List ℕ) → Gives P (read w)) (file : List ℕ) where
+  pub value_is : (s : Taking × Left) → Gives (λ x. P x.0) (value_alone read file s)
   unfolding value_alone
-  value_is s t x h =
-      let a = goes (value_at read file s) _ (x, t) h in
-      let word = value_word read file s a.item.1 a.item.0.0 a.item.0.1 a.first in
-      ends {E = Refusal} (λ (y : X × (Taking × Left)). P y.0) (a.item.0.0, a.item.1) (x, t) a.then_ (form a.item.1.0.word a.item.0.0 word)
+  value_is s = goes_on (value_at read file s) _ (λ a e. done ((form a.1.0.word).gives a.0.0 (value_word read file s a.1 a.0.0 a.0.1 e)))
 
-  pub list_is : (count : ℕ) (left after : Left) (xs : List X) → free_list read file count left ≡ Ok (xs, after) → (length xs ≡ count) × All P xs
+  pub list_is : (count : ℕ) (left : Left) → Gives (λ x. (length x.0 ≡ count) × All P x.0) (free_list read file count left)
   unfolding free_list
-  list_is count left after xs h =
-      let a = goes (repeated count (value_alone read file) (beginning, left)) _ (xs, after) h in
-      let are = repeated_are (value_alone read file) P value_is count (beginning, left) a.item.1 a.item.0 a.first in
-      ends {E = Refusal} (λ (y : List X × Left). (length y.0 ≡ count) × All P y.0) (a.item.0, a.item.1.1) (xs, after) a.then_ are
+  list_is count left = then_ _ (repeated_are (value_alone read file) P value_is count (beginning, left)) (λ x are. done are)
 
-  pub rows_are : (rows cols : ℕ) (left after : Left) (xs : List X) → free_rows read file rows cols left ≡ Ok (xs, after) → (length xs ≡ rows * cols) × All P xs
+  pub rows_are : (rows cols : ℕ) (left : Left) → Gives (λ x. (length x.0 ≡ rows * cols) × All P x.0) (free_rows read file rows cols left)
   unfolding free_rows
-  rows_are rows cols left after xs h = appended_are (free_list read file cols) cols P (λ s t ys k. list_is cols s t ys k) rows left after xs h
+  rows_are rows cols = appended_are (free_list read file cols) cols P (list_is cols) rows
 
 pub lists : ListsHaveForm
 lists = record {
-  numbers = λ file count. record { gives = λ left after xs h. list_is number (λ d. IsDec d) number_is file count left after xs h };
-  integers = λ file count. record { gives = λ left after xs h. list_is integer (λ z. IsShort z) integer_is file count left after xs h };
+  numbers = list_is number IsDec number_is;
+  integers = list_is integer IsShort integer_is;
 }
 
 -- the value of a constant array has this form
@@ -46,104 +39,66 @@ Stands P (constant value) = P value
 Stands P (internal by) = Unit {0}
 Stands P (named name by) = Unit {0}
 
-module _ {X : Type 0} (read : List ℕ → Result X NumFault) (P : X → Type 0) (form : (w : List ℕ) (x : X) → read w ≡ Ok x → P x) (file : List ℕ) (line : ℕ) where
-  at_word : (w : List ℕ) (r : Result X NumFault) (x : X) → read w ≡ r → at_line file line r ≡ Ok x → P x
-  at_word w (Ok y) x e h = ends {E = Refusal} P y x h (form w y e)
-  at_word w (Err fault) x e h = absurd (clash _ x (at_line file line (Err fault)) refl h)
+module _ {X : Type 0} (read : List ℕ → Result X NumFault) (P : X → Type 0) (form : (w : List ℕ) → Gives P (read w)) (file : List ℕ) (line : ℕ) where
+  at_word : (r : Result X NumFault) → Gives P r → Gives P (at_line file line r)
+  at_word (Ok x) g = done (g.gives x refl)
+  at_word (Err fault) g = refused
 
-  pub item_is : (ws : List (List ℕ)) (x : X × List (List ℕ)) → number_at read file line ws ≡ Ok x → P x.0
+  pub item_is : (ws : List (List ℕ)) → Gives (λ x. P x.0) (number_at read file line ws)
   unfolding number_at
-  item_is [] x h = absurd (clash _ x (number_at read file line []) refl h)
-  item_is (w ∷ ws) x h =
-      let a = goes (at_line file line (read w)) _ x h in
-      ends {E = Refusal} (λ (y : X × List (List ℕ)). P y.0) (a.item, ws) x a.then_ (at_word w (read w) a.item refl a.first)
+  item_is [] = refused
+  item_is (w ∷ ws) = then_ _ (at_word (read w) (form w)) (λ x h. done h)
 
-  constant_is : (ws : List (List ℕ)) (c : Control X) → constant_at read file line ws ≡ Ok c → Stands P c
-  unfolding constant_at
-  constant_is ws c h =
-      let a = goes (number_at read file line ws) _ c h in
-      ends {E = Refusal} (Stands P) (constant a.item.0) c a.then_ (item_is ws a.item a.first)
+  by_keyword : (k : Keyword) (ws : List (List ℕ)) → Gives (Stands P) (of_keyword k read file line ws)
+  unfolding constant_at internal_at named_at
+  by_keyword Constant ws = then_ _ (item_is ws) (λ x h. done h)
+  by_keyword Internal ws = goes_on (number_at read file line ws) _ (λ by e. goes_on (format_at file line by.1) _ (λ format k. done tt))
+  by_keyword OpenClose ws =
+      goes_on (word_at (refusal BadControl file line) ws) _ (λ word a. goes_on (name_at file line word.0) _
+      (λ name b. goes_on (number_at read file line word.1) _ (λ by c. goes_on (format_at file line by.1) _ (λ format d. done tt))))
+  by_keyword External ws = refused
+  by_keyword Other ws = refused
 
-  internal_is : (ws : List (List ℕ)) (c : Control X) → internal_at read file line ws ≡ Ok c → Stands P c
-  unfolding internal_at
-  internal_is ws c h =
-      let a = goes (number_at read file line ws) _ c h in
-      let b = goes (format_at file line a.item.1) _ c a.then_ in
-      ends {E = Refusal} (Stands P) (internal a.item.0) c b.then_ tt
-
-  named_is : (ws : List (List ℕ)) (c : Control X) → named_at read file line ws ≡ Ok c → Stands P c
-  unfolding named_at
-  named_is ws c h =
-      let a = goes (word_at (refusal BadControl file line) ws) _ c h in
-      let b = goes (name_at file line a.item.0) _ c a.then_ in
-      let by = goes (number_at read file line a.item.1) _ c b.then_ in
-      let d = goes (format_at file line by.item.1) _ c by.then_ in
-      ends {E = Refusal} (Stands P) (named b.item by.item.0) c d.then_ tt
-
-  by_keyword : (k : Keyword) (ws : List (List ℕ)) (c : Control X) → of_keyword k read file line ws ≡ Ok c → Stands P c
-  by_keyword Constant ws c h = constant_is ws c h
-  by_keyword Internal ws c h = internal_is ws c h
-  by_keyword OpenClose ws c h = named_is ws c h
-  by_keyword External ws c h = absurd (clash _ c (of_keyword External read file line ws) refl h)
-  by_keyword Other ws c h = absurd (clash _ c (of_keyword Other read file line ws) refl h)
-
-  control_is : (ws : List (List ℕ)) (c : Control X) → control_at read file line ws ≡ Ok c → Stands P c
+  control_is : (ws : List (List ℕ)) → Gives (Stands P) (control_at read file line ws)
   unfolding control_at
-  control_is ws c h =
-      let a = goes (word_at (refusal BadControl file line) ws) _ c h in
-      by_keyword (keyword a.item.0) a.item.1 c a.then_
+  control_is ws = goes_on (word_at (refusal BadControl file line) ws) _ (λ word e. by_keyword (keyword word.0) word.1)
 
-module _ {X : Type 0} (kind : Kind X) (P : X → Type 0) (form : (w : List ℕ) (x : X) → kind.reading w ≡ Ok x → P x)
-    (scaled : (by : X) (w : List ℕ) (x : X) → multiplied kind by w ≡ Ok x → P x) (files : FileSet) (file : List ℕ) where
-  values_are : (rows cols : ℕ) (left after : Left) (c : Control X) (xs : List X) → Stands P c → values_of kind files file rows cols left c ≡ Ok (xs, after) → (length xs ≡ rows * cols) × All P xs
-  values_are rows cols left after (constant value) xs stands h =
-      ends {E = Refusal} (λ (y : List X × Left). (length y.0 ≡ rows * cols) × All P y.0) (replicate (rows * cols) value, left) (xs, after) h (length-replicate (rows * cols) value, All-replicate P (rows * cols) value stands)
-  values_are rows cols left after (internal by) xs stands h = rows_are (multiplied kind by) P (scaled by) file rows cols left after xs h
-  values_are rows cols left after (named name by) xs stands h =
-      let a = goes (file_at files name) _ (xs, after) h in
-      let b = goes (free_rows (multiplied kind by) name rows cols (left_from 1 a.item)) _ (xs, after) a.then_ in
-      let are = rows_are (multiplied kind by) P (scaled by) name rows cols (left_from 1 a.item) b.item.1 b.item.0 b.first in
-      ends {E = Refusal} (λ (y : List X × Left). (length y.0 ≡ rows * cols) × All P y.0) (b.item.0, left) (xs, after) b.then_ are
+module _ {X : Type 0} (kind : Kind X) (P : X → Type 0) (form : (w : List ℕ) → Gives P (kind.reading w)) (scaled : (by : X) (w : List ℕ) → Gives P (multiplied kind by w)) (files : FileSet) (file : List ℕ) where
+  values_are : (rows cols : ℕ) (left : Left) (c : Control X) → Stands P c → Gives (λ x. (length x.0 ≡ rows * cols) × All P x.0) (values_of kind files file rows cols left c)
+  values_are rows cols left (constant value) stands = done (length-replicate (rows * cols) value, All-replicate P (rows * cols) value stands)
+  values_are rows cols left (internal by) stands = rows_are (multiplied kind by) P (scaled by) file rows cols left
+  values_are rows cols left (named name by) stands =
+      goes_on (file_at files name) _ (λ bytes e. then_ _ (rows_are (multiplied kind by) P (scaled by) name rows cols (left_from 1 bytes)) (λ values are. done are))
 
-  pub array_is : (rows cols : ℕ) (left after : Left) (x : List X × ℕ) → array_at kind files file rows cols left ≡ Ok (x, after) → (length x.0 ≡ rows * cols) × All P x.0
+  pub array_is : (rows cols : ℕ) (left : Left) → Gives (λ x. (length x.0.0 ≡ rows * cols) × All P x.0.0) (array_at kind files file rows cols left)
   unfolding array_at
-  array_is rows cols left after x h =
-      let line = goes (line_at file left) _ (x, after) h in
-      let control = goes (control_at kind.reading file line.item.0.number (words line.item.0.bytes)) _ (x, after) line.then_ in
-      let values = goes (values_of kind files file rows cols line.item.1 control.item) _ (x, after) control.then_ in
-      let stands = control_is kind.reading P form file line.item.0.number (words line.item.0.bytes) control.item control.first in
-      let are = values_are rows cols line.item.1 values.item.1 control.item values.item.0 stands values.first in
-      ends {E = Refusal} (λ (y : (List X × ℕ) × Left). (length y.0.0 ≡ rows * cols) × All P y.0.0) ((values.item.0, line.item.0.number), values.item.1) (x, after) values.then_ are
+  array_is rows cols left =
+      goes_on (line_at file left) _ (λ line e. then_ _ (control_is kind.reading P form file line.0.number (words line.0.bytes))
+      (λ control stands. then_ _ (values_are rows cols line.1 control stands) (λ values are. done are)))
 
-  plain_is : (rows cols : ℕ) (left after : Left) (xs : List X) → without_line (array_at kind files file rows cols left) ≡ Ok (xs, after) → (length xs ≡ rows * cols) × All P xs
-  plain_is rows cols left after xs h =
-      let a = goes (array_at kind files file rows cols left) _ (xs, after) h in
-      ends {E = Refusal} (λ (y : List X × Left). (length y.0 ≡ rows * cols) × All P y.0) (a.item.0.0, a.item.1) (xs, after) a.then_ (array_is rows cols left a.item.1 a.item.0 a.first)
+  plain_is : (rows cols : ℕ) (left : Left) → Gives (λ x. (length x.0 ≡ rows * cols) × All P x.0) (without_line (array_at kind files file rows cols left))
+  plain_is rows cols left = then_ _ (array_is rows cols left) (λ x are. done are)
 
-  pub layer_is : (rows cols : ℕ) (left after : Left) (xs : List X) → layer_array kind files file rows cols left ≡ Ok (xs, after) → (length xs ≡ rows * cols) × All P xs
+  pub layer_is : (rows cols : ℕ) (left : Left) → Gives (λ x. (length x.0 ≡ rows * cols) × All P x.0) (layer_array kind files file rows cols left)
   unfolding layer_array
-  layer_is rows cols left after xs h = plain_is rows cols left after xs h
+  layer_is = plain_is
 
-  pub layers_are : (count rows cols : ℕ) (left after : Left) (xs : List X) → layers kind files file count rows cols left ≡ Ok (xs, after) → (length xs ≡ count * (rows * cols)) × All P xs
+  pub layers_are : (count rows cols : ℕ) (left : Left) → Gives (λ x. (length x.0 ≡ count * (rows * cols)) × All P x.0) (layers kind files file count rows cols left)
   unfolding layers
-  layers_are count rows cols left after xs h =
-      appended_are (layer_array kind files file rows cols) (rows * cols) P (λ s t ys k. layer_is rows cols s t ys k) count left after xs h
+  layers_are count rows cols = appended_are (layer_array kind files file rows cols) (rows * cols) P (layer_is rows cols) count
 
 abbrev Any : ℤ → Type 0
 Any z = Unit {0}
 
-one_row : (count n : ℕ) → n ≡ 1 * count → n ≡ count
-one_row count n h = omega (arith, h)
+any : {E : Type 0} (r : Result ℤ E) → Gives Any r
+any r = record { gives = λ x e. tt }
 
 pub arrays : ArraysHaveForm
 unfolding reals real_layer integer_layer
 arrays = record {
-  lists = λ files file count. record {
-    gives = λ left after xs h.
-        let are = plain_is real (λ d. IsDec d) number_is multiplied_is files file 1 count left after xs h in (one_row count (length xs) are.0, are.1);
-  };
-  real_layers = λ files file rows cols. record { gives = λ left after xs h. layer_is real (λ d. IsDec d) number_is multiplied_is files file rows cols left after xs h };
-  integer_layers = λ files file rows cols. record { gives = λ left after xs h. (layer_is whole Any (λ w x e. tt) (λ by w x e. tt) files file rows cols left after xs h).0 };
-  real_grids = λ files file count rows cols. record { gives = λ left after xs h. layers_are real (λ d. IsDec d) number_is multiplied_is files file count rows cols left after xs h };
-  integer_grids = λ files file count rows cols. record { gives = λ left after xs h. (layers_are whole Any (λ w x e. tt) (λ by w x e. tt) files file count rows cols left after xs h).0 };
+  lists = λ files file count left. weaker (plain_is real IsDec number_is multiplied_is files file 1 count left) (λ x are. (omega (arith, are.0), are.1));
+  real_layers = layer_is real IsDec number_is multiplied_is;
+  integer_layers = λ files file rows cols left. weaker (layer_is whole Any (λ w. any _) (λ by w. any _) files file rows cols left) (λ x are. are.0);
+  real_grids = layers_are real IsDec number_is multiplied_is;
+  integer_grids = λ files file count rows cols left. weaker (layers_are whole Any (λ w. any _) (λ by w. any _) files file count rows cols left) (λ x are. are.0);
 }

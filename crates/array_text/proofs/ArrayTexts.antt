@@ -2,15 +2,15 @@
 use Rattle.array_text.proofs.Common.{◌≡◌, ◌^◌, ◌<◌, true, List, length, All, Ok, refl, arith, ℤ, pos, negsuc, ◌*ℤ◌, unsigned_abs, ints, All-weaker, nat_tests}
 use Rattle.array_text.proofs.Common.{Dec, IsDec, number, significant, zeros, canonical, integer, is_short, integer_product, scaled, integer_scaled, real, whole}
 use Rattle.array_text.proofs.Common.{multiplied, reals, layer_array, real_layer, integer_layer, number_word, integer_word, IsShort, real_array, integer_array}
-use Rattle.array_text.proofs.Common.{WritesLines, FreeListsReadAsWritten, ArraysReadAsWritten, ℕ, zero, suc, ◌*◌, ◌≤◌, [], ◌∷◌, ◌++◌, take, drop, Result}
-use Rattle.array_text.proofs.Common.{length-take-le, length-drop, length-map, take-append-drop, nil_from_length, All-nil, All-cons, All-take, All-drop}
-use Rattle.array_text.proofs.Common.{NumFault, next_number, appended, word_at, Kind, free_list, free_rows, array_at, without_line, Line, IsLine, number_after}
-use Rattle.array_text.proofs.Common.{unread, Reads, control_record, row_line, row_lines, array_lines, FileSet, number_at, keyword, format_at, internal}
-use Rattle.array_text.proofs.Common.{internal_at, control_at}
-use Rattle.std.specs.Prelude.{codes}
+use Rattle.array_text.proofs.Common.{FreeListsReadAsWritten, ArraysReadAsWritten, ℕ, zero, suc, ◌*◌, ◌≤◌, [], ◌∷◌, ◌++◌, take, drop, Result, length-take-le}
+use Rattle.array_text.proofs.Common.{length-drop, take-append-drop, nil_from_length, All-cons, All-take, All-drop, NumFault, next_number, appended, word_at}
+use Rattle.array_text.proofs.Common.{Kind, free_list, free_rows, array_at, without_line, Line, IsLine, number_after, unread, Reads, Takes, Left, ◌>>=◌}
+use Rattle.array_text.proofs.Common.{control_record, row_line, row_lines, array_lines, FileSet, number_at, keyword, format_at, internal, internal_at}
+use Rattle.array_text.proofs.Common.{control_at, codes, Refusal}
 use Rattle.array_text.proofs.NumberTexts.{short_exponent, number_reads, integer_reads, one, times_one}
 use Rattle.array_text.proofs.WordTexts.{number_is_word, integer_is_word, line_by_test}
-use Rattle.array_text.proofs.FreeTexts.{IsWrittenAs, free_list_reads, row_is_words}
+use Rattle.array_text.proofs.FreeTexts.{IsWrittenAs, free_list_reads}
+use Rattle.array_text.proofs.Takes.{takes_none, then_takes, last_takes}
 use Rattle.array_text.proofs.LineTexts.{line_words, next_line}
 
 -- Lines of values are read as rows of them, and a control record with rows as an array.
@@ -18,25 +18,16 @@ row_reads : {X : Type 0} (read : List ℕ → Result X NumFault) (word : X → L
     → Reads (free_list read file cols) (row_line word xs ∷ []) xs
 row_reads read word file cols xs e some h = let few : 1 ≤ length xs = omega arith in rw e at (free_list_reads read word file xs few h)
 
-rows_read_on : {X : Type 0} (read : List ℕ → Result X NumFault) (word : X → List ℕ) (file : List ℕ) (rows cols : ℕ) (xs : List X) → 1 ≤ cols → length xs ≡ rows * cols → All (λ x. IsWrittenAs read word x) xs
-    → (n : ℕ) (others : List Line) → appended rows (free_list read file cols) (unread n (row_lines word rows cols xs ++ others)) ≡ Ok (xs, unread (number_after n (row_lines word rows cols xs)) others)
-unfolding appended row_lines number_after
-rows_read_on read word file zero cols xs some e h n others =
-    let none : xs ≡ [] = nil_from_length xs (omega arith) in
-    rw none refl
-rows_read_on read word file (suc rows) cols xs some e h n others =
+rows_read : {X : Type 0} (read : List ℕ → Result X NumFault) (word : X → List ℕ) (file : List ℕ) (rows cols : ℕ) (xs : List X) → 1 ≤ cols → length xs ≡ rows * cols → All (λ x. IsWrittenAs read word x) xs
+    → Reads (appended rows (free_list read file cols)) (row_lines word rows cols xs) xs
+unfolding appended row_lines
+rows_read read word file zero cols xs some e h = let none : xs ≡ [] = nil_from_length xs (omega arith) in rw none takes_none
+rows_read read word file (suc rows) cols xs some e h =
     let enough : cols ≤ length xs = omega arith in
     let front_length : length (take cols xs) ≡ cols = length-take-le cols xs enough in
     let back_length : length (drop cols xs) ≡ rows * cols = omega (arith, length-drop cols xs) in
-    let front = row_reads read word file cols (take cols xs) front_length some (All-take (λ x. IsWrittenAs read word x) cols xs h) in
-    let back = rows_read_on read word file rows cols (drop cols xs) some back_length (All-drop (λ x. IsWrittenAs read word x) cols xs h) (next_number n) others in
-    rw (front.reads n (row_lines word rows cols (drop cols xs) ++ others), back, take-append-drop cols xs) refl
-
--- lines of values are read as rows of them
-pub rows_read : {X : Type 0} (read : List ℕ → Result X NumFault) (word : X → List ℕ) (file : List ℕ) (rows cols : ℕ) (xs : List X) → 1 ≤ cols → length xs ≡ rows * cols → All (λ x. IsWrittenAs read word x) xs
-    → Reads (free_rows read file rows cols) (row_lines word rows cols xs) xs
-unfolding free_rows
-rows_read read word file rows cols xs some e h = record { reads = rows_read_on read word file rows cols xs some e h }
+    then_takes _ (row_reads read word file cols (take cols xs) front_length some (All-take (λ x. IsWrittenAs read word x) cols xs h))
+    (last_takes _ (rows_read read word file rows cols (drop cols xs) some back_length (All-drop (λ x. IsWrittenAs read word x) cols xs h)) (λ left. rw (take-append-drop cols xs) refl))
 
 control_is_line : IsLine control_record
 control_is_line = line_by_test control_record refl
@@ -49,43 +40,24 @@ control_reads read file n by e = rw e refl
 pub array_reads : {X : Type 0} (kind : Kind X) (word : X → List ℕ) (by : X) (files : FileSet) (file : List ℕ) (rows cols : ℕ) (xs : List X) → kind.reading (codes "1") ≡ Ok by
     → 1 ≤ cols → length xs ≡ rows * cols → All (λ x. IsWrittenAs (multiplied kind by) word x) xs → (n : ℕ) (others : List Line)
     → array_at kind files file rows cols (unread n (array_lines word rows cols xs ++ others)) ≡ Ok ((xs, n), unread (number_after n (array_lines word rows cols xs)) others)
-unfolding array_at number_after
+unfolding array_at free_rows number_after
 array_reads kind word by files file rows cols xs one some e h n others =
     let rows_are = (rows_read (multiplied kind by) word file rows cols xs some e h).reads (next_number n) others in
     rw (next_line file n control_record (row_lines word rows cols xs ++ others), line_words control_record control_is_line.words, control_reads kind.reading file n by one, rows_are) refl
 
--- the same without that line
+-- an array, and what is made of it whatever the line of its control record
+pub array_takes : {X Z : Type 0} {out : Left → Z} (f : (List X × ℕ) × Left → Result Z Refusal) (kind : Kind X) (word : X → List ℕ) (by : X) (files : FileSet) (file : List ℕ) (rows cols : ℕ) (xs : List X)
+    → kind.reading (codes "1") ≡ Ok by → 1 ≤ cols → length xs ≡ rows * cols → All (λ x. IsWrittenAs (multiplied kind by) word x) xs → ((n : ℕ) (left : Left) → f ((xs, n), left) ≡ Ok (out left))
+    → Takes (λ left. array_at kind files file rows cols left >>= f) (array_lines word rows cols xs) out
+array_takes f kind word by files file rows cols xs one some e h ends = record {
+  are = All-cons (λ line. IsLine line) control_record (row_lines word rows cols xs) control_is_line (rows_read (multiplied kind by) word file rows cols xs some e h).are;
+  reads = λ n rest. rw (array_reads kind word by files file rows cols xs one some e h n rest) (ends n (unread (number_after n (array_lines word rows cols xs)) rest));
+}
+
 pub layer_reads : {X : Type 0} (kind : Kind X) (word : X → List ℕ) (by : X) (files : FileSet) (file : List ℕ) (rows cols : ℕ) (xs : List X) → kind.reading (codes "1") ≡ Ok by
     → 1 ≤ cols → length xs ≡ rows * cols → All (λ x. IsWrittenAs (multiplied kind by) word x) xs
     → Reads (λ left. without_line (array_at kind files file rows cols left)) (array_lines word rows cols xs) xs
-layer_reads kind word by files file rows cols xs one some e h =
-    record { reads = λ n others. rw (array_reads kind word by files file rows cols xs one some e h n others) refl }
-
-row_length : {X : Type 0} (word : X → List ℕ) (xs : List X) → length (row_line word xs) ≡ length xs
-unfolding row_line
-row_length word xs = length-map xs word
-
-pub row_is_line : {X : Type 0} (read : List ℕ → Result X NumFault) (word : X → List ℕ) (xs : List X) → 1 ≤ length xs → All (λ x. IsWrittenAs read word x) xs → IsLine (row_line word xs)
-row_is_line read word xs some h = record { some = as_long; words = row_is_words read word xs h }
-  where
-    as_long : 1 ≤ length (row_line word xs)
-    as_long = omega (arith, row_length word xs)
-
-rows_are_lines : {X : Type 0} (read : List ℕ → Result X NumFault) (word : X → List ℕ) (rows cols : ℕ) (xs : List X) → 1 ≤ cols → length xs ≡ rows * cols → All (λ x. IsWrittenAs read word x) xs → All (λ line. IsLine line) (row_lines word rows cols xs)
-unfolding row_lines
-rows_are_lines read word zero cols xs some e h = All-nil (λ line. IsLine line)
-rows_are_lines read word (suc rows) cols xs some e h =
-    let enough : cols ≤ length xs = omega arith in
-    let front_length : length (take cols xs) ≡ cols = length-take-le cols xs enough in
-    let back_length : length (drop cols xs) ≡ rows * cols = omega (arith, length-drop cols xs) in
-    let front = row_is_line read word (take cols xs) (omega arith) (All-take (λ x. IsWrittenAs read word x) cols xs h) in
-    All-cons (λ line. IsLine line) (row_line word (take cols xs)) (row_lines word rows cols (drop cols xs)) front
-    (rows_are_lines read word rows cols (drop cols xs) some back_length (All-drop (λ x. IsWrittenAs read word x) cols xs h))
-
--- what is written of an array is lines
-pub array_is_lines : {X : Type 0} (read : List ℕ → Result X NumFault) (word : X → List ℕ) (rows cols : ℕ) (xs : List X) → 1 ≤ cols → length xs ≡ rows * cols → All (λ x. IsWrittenAs read word x) xs → All (λ line. IsLine line) (array_lines word rows cols xs)
-array_is_lines read word rows cols xs some e h =
-    All-cons (λ line. IsLine line) control_record (row_lines word rows cols xs) control_is_line (rows_are_lines read word rows cols xs some e h)
+layer_reads kind word by files file rows cols xs one some e h = array_takes _ kind word by files file rows cols xs one some e h (λ n left. refl)
 
 pub number_written : (d : Dec) → IsDec d → IsWrittenAs number number_word d
 number_written d h = record { is_word = number_is_word d h.few (short_exponent d.exp h.above h.below); reads = number_reads d h }
@@ -135,13 +107,4 @@ arrays = record {
   lists = λ files file xs some h. layer_reads real number_word one files file 1 (length xs) xs real_one some (omega arith) (reals_written xs h);
   layers = λ files file rows cols xs some e h. layer_reads real number_word one files file rows cols xs real_one some e (reals_written xs h);
   integer_layers = λ files file rows cols xs some e h. layer_reads whole integer_word (pos 1) files file rows cols xs whole_one some e (wholes_written xs h);
-}
-
-pub are_lines : WritesLines
-unfolding real_array integer_array
-are_lines = record {
-  rows = λ xs some h. row_is_line number number_word xs some (All-weaker (λ d. IsDec d) (λ d. IsWrittenAs number number_word d) number_written xs h);
-  integer_rows = λ xs some h. row_is_line integer integer_word xs some (All-weaker (λ z. IsShort z) (λ z. IsWrittenAs integer integer_word z) integer_written xs h);
-  layers = λ rows cols xs some e h. array_is_lines (multiplied real one) number_word rows cols xs some e (reals_written xs h);
-  integer_layers = λ rows cols xs some e h. array_is_lines (multiplied whole (pos 1)) integer_word rows cols xs some e (wholes_written xs h);
 }

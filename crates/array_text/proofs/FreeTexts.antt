@@ -2,10 +2,11 @@
 use Rattle.array_text.proofs.Common.{◌≡◌, ℕ, suc, ◌≤◌, ◌==◌, false, List, [], ◌∷◌, ◌++◌, length, map, nat_lt, All, Some, Result, Ok, refl, ◌∙◌, arith}
 use Rattle.array_text.proofs.Common.{position_or_len, append-nil, All-head, All-tail, All-map, All-weaker, nat_tests, NumFault, words, Left, next_number}
 use Rattle.array_text.proofs.Common.{repeated, value_at, value_alone, free_list, IsWordByte, IsWord, Line, line_text, numbered_lines, number_after, unread}
-use Rattle.array_text.proofs.Common.{Reads, row_line, Taking, beginning, spread, next_word, next_value}
+use Rattle.array_text.proofs.Common.{IsLine, length-map, Reads, row_line, Taking, beginning, spread, next_word, next_value}
 use Rattle.record_lines.proofs.WordLemmas.{word_found, goes_on}
 use Rattle.array_text.proofs.WordTexts.{no_star}
 use Rattle.array_text.proofs.LineTexts.{line_words}
+use Rattle.array_text.proofs.Takes.{one_line}
 
 -- x is written as a word that is read as x
 pub record IsWrittenAs {X : Type 0} (read : List ℕ → Result X NumFault) (word : X → List ℕ) (x : X) : Type 0 where
@@ -81,6 +82,16 @@ pub row_is_words : {X : Type 0} (read : List ℕ → Result X NumFault) (word : 
 unfolding row_line
 row_is_words read word xs h = All-map (λ w. IsWord w) word xs (All-weaker (λ x. IsWrittenAs read word x) (λ x. IsWord (word x)) (λ x k. k.is_word) xs h)
 
+row_length : {X : Type 0} (word : X → List ℕ) (xs : List X) → length (row_line word xs) ≡ length xs
+unfolding row_line
+row_length word xs = length-map xs word
+
+pub row_is_line : {X : Type 0} (read : List ℕ → Result X NumFault) (word : X → List ℕ) (xs : List X) → 1 ≤ length xs → All (λ x. IsWrittenAs read word x) xs → IsLine (row_line word xs)
+row_is_line read word xs some h = record { some = as_long; words = row_is_words read word xs h }
+  where
+    as_long : 1 ≤ length (row_line word xs)
+    as_long = omega (arith, row_length word xs)
+
 values_at_start : {X : Type 0} (read : List ℕ → Result X NumFault) (word : X → List ℕ) (file : List ℕ) (n : ℕ) (xs : List X) (others : List Line) → 1 ≤ length xs → All (λ x. IsWrittenAs read word x) xs
     → repeated (length xs) (value_alone read file) (beginning, unread n (row_line word xs ∷ others)) ≡ Ok (xs, (on_line n (last_word word [] xs) [], unread (next_number n) others))
 unfolding row_line
@@ -94,4 +105,4 @@ values_at_start read word file n (x ∷ xs) others some h =
 pub free_list_reads : {X : Type 0} (read : List ℕ → Result X NumFault) (word : X → List ℕ) (file : List ℕ) (xs : List X) → 1 ≤ length xs → All (λ x. IsWrittenAs read word x) xs
     → Reads (free_list read file (length xs)) (row_line word xs ∷ []) xs
 unfolding free_list number_after
-free_list_reads read word file xs some h = record { reads = λ n others. rw (values_at_start read word file n xs others some h) refl }
+free_list_reads read word file xs some h = record { are = one_line (row_is_line read word xs some h); reads = λ n others. rw (values_at_start read word file n xs others some h) refl }

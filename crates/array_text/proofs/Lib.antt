@@ -6,5 +6,6 @@ pub mod DigitTexts
 pub mod NumberTexts
 pub mod WordTexts
 pub mod LineTexts
+pub mod Takes
 pub mod FreeTexts
 pub mod ArrayTexts

@@ -1,46 +1,59 @@
--- A reading that gives something: each of its parts gave something.
-use Rattle.array_text.proofs.Common.{◌≡◌, ℕ, zero, suc, ◌*◌, List, [], ◌∷◌, ◌++◌, length, All, Result, Ok, Err, refl, subst, arith, length-append, All-nil}
-use Rattle.array_text.proofs.Common.{All-cons, All-append, ◌>>=◌, repeated, appended}
+-- What a reading gives, from what its parts give.
+use Rattle.array_text.proofs.Common.{◌≡◌, ℕ, zero, suc, ◌*◌, Bool, true, false, if◌then◌else◌, List, [], ◌∷◌, length, All, Result, Ok, Err, refl, subst, arith}
+use Rattle.array_text.proofs.Common.{length-append, All-nil, All-cons, All-append, ◌>>=◌, repeated, appended, Gives}
 
-pub clash : {B E : Type 0} (e : E) (y : B) (r : Result B E) → r ≡ Err e → r ≡ Ok y → ⊥
-clash e y r h k = cc
+module _ {A E : Type 0} {P : A → Type 0} where
+  pub done : {x : A} → P x → Gives {A = A} {E = E} P (Ok x)
+  done {x} h = record { gives = λ y e. subst P (same y e) h }
+    where
+      same : (y : A) → Path (Result A E) (Ok x) (Ok y) → x ≡ y
+      same y e = cc
 
-same : {B E : Type 0} (x y : B) (r : Result B E) → r ≡ Ok x → r ≡ Ok y → x ≡ y
-same x y r h k = cc
+  pub refused : {e : E} → Gives {A = A} {E = E} P (Err e)
+  refused {e} = record { gives = λ y h. absurd (clash y h) }
+    where
+      clash : (y : A) → Path (Result A E) (Err e) (Ok y) → ⊥
+      clash y h = cc
 
--- a reading that goes on was not refused
-pub record Goes {A B E : Type 0} (r : Result A E) (f : A → Result B E) (y : B) : Type 0 where
-  pub item : A
-  pub first : r ≡ Ok item
-  pub then_ : f item ≡ Ok y
+  -- a test that is passed, and a fault that is not found
+  pub if_passed : (b : Bool) (e : E) (r : Result A E) → (b ≡ true → Gives P r) → Gives P (if b then r else Err e)
+  if_passed true e r h = h refl
+  if_passed false e r h = refused
 
-pub goes : {A B E : Type 0} (r : Result A E) (f : A → Result B E) (y : B) → (r >>= f) ≡ Ok y → Goes r f y
-goes (Ok x) f y h = record { item = x; first = refl; then_ = h }
-goes {A = A} {B = B} {E = E} (Err e) f y h = absurd (clash e y (Err e) refl h)
+  pub if_clear : (b : Bool) (e : E) (r : Result A E) → (b ≡ false → Gives P r) → Gives P (if b then Err e else r)
+  if_clear true e r h = refused
+  if_clear false e r h = h refl
 
--- what holds of what a reading ends with
-pub ends : {B E : Type 0} (P : B → Type 0) (x y : B) → Path (Result B E) (Ok x) (Ok y) → P x → P y
-ends {E = E} P x y h k = subst P (same {E = E} x y (Ok x) refl h) k
+module _ {A B E : Type 0} {Q : B → Type 0} where
+  -- a reading that goes on with what was read
+  pub goes_on : (r : Result A E) (f : A → Result B E) → ((x : A) → r ≡ Ok x → Gives Q (f x)) → Gives Q (r >>= f)
+  goes_on (Ok x) f h = h x refl
+  goes_on (Err e) f h = refused
 
-module _ {X S E : Type 0} (read : S → Result (X × S) E) (P : X → Type 0) (each : (s t : S) (x : X) → read s ≡ Ok (x, t) → P x) where
-  pub repeated_are : (count : ℕ) (s t : S) (xs : List X) → repeated count read s ≡ Ok (xs, t) → (length xs ≡ count) × All P xs
+  pub then_ : {P : A → Type 0} {r : Result A E} (f : A → Result B E) → Gives P r → ((x : A) → P x → Gives Q (f x)) → Gives Q (r >>= f)
+  then_ {r = r} f g h = goes_on r f (λ x e. h x (g.gives x e))
+
+pub weaker : {A E : Type 0} {P Q : A → Type 0} {r : Result A E} → Gives P r → ((x : A) → P x → Q x) → Gives Q r
+weaker g h = record { gives = λ x e. h x (g.gives x e) }
+
+pub both : {A E : Type 0} {P Q : A → Type 0} {r : Result A E} → Gives P r → Gives Q r → Gives (λ x. P x × Q x) r
+both g h = record { gives = λ x e. (g.gives x e, h.gives x e) }
+
+-- readings in a row, with what is known of the list by the state at its start
+module _ {X S E : Type 0} (read : S → Result (X × S) E) (R : ℕ → S → List X × S → Type 0) (none : (s : S) → R 0 s ([], s))
+    (one : (n : ℕ) (s : S) → Gives (λ x. (more : List X × S) → R n x.1 more → R (suc n) s (x.0 ∷ more.0, more.1)) (read s)) where
+  pub repeated_gives : (n : ℕ) (s : S) → Gives (R n s) (repeated n read s)
   unfolding repeated
-  repeated_are zero s t xs h = ends (λ (y : List X × S). (length y.0 ≡ 0) × All P y.0) ([], s) (xs, t) h (refl, All-nil P)
-  repeated_are (suc n) s t xs h =
-      let a = goes (read s) _ (xs, t) h in
-      let b = goes (repeated n read a.item.1) _ (xs, t) a.then_ in
-      let rest = repeated_are n a.item.1 b.item.1 b.item.0 b.first in
-      let longer : length (a.item.0 ∷ b.item.0) ≡ suc n = omega (arith, rest.0) in
-      ends (λ (y : List X × S). (length y.0 ≡ suc n) × All P y.0) (a.item.0 ∷ b.item.0, b.item.1) (xs, t) b.then_ (longer, All-cons P a.item.0 b.item.0 (each s a.item.1 a.item.0 a.first) rest.1)
+  repeated_gives zero s = done (none s)
+  repeated_gives (suc n) s = then_ _ (one n s) (λ x k. then_ _ (repeated_gives n x.1) (λ more h. done (k more h)))
 
-module _ {X S E : Type 0} (read : S → Result (List X × S) E) (width : ℕ) (P : X → Type 0) (each : (s t : S) (xs : List X) → read s ≡ Ok (xs, t) → (length xs ≡ width) × All P xs) where
-  pub appended_are : (count : ℕ) (s t : S) (xs : List X) → appended count read s ≡ Ok (xs, t) → (length xs ≡ count * width) × All P xs
+module _ {X S E : Type 0} (read : S → Result (X × S) E) (P : X → Type 0) (each : (s : S) → Gives (λ x. P x.0) (read s)) where
+  pub repeated_are : (n : ℕ) (s : S) → Gives (λ x. (length x.0 ≡ n) × All P x.0) (repeated n read s)
+  repeated_are = repeated_gives read (λ n s x. (length x.0 ≡ n) × All P x.0) (λ s. (refl, All-nil P))
+      (λ n s. weaker (each s) (λ x p more h. (omega (arith, h.0), All-cons P x.0 more.0 p h.1)))
+
+module _ {X S E : Type 0} (read : S → Result (List X × S) E) (width : ℕ) (P : X → Type 0) (each : (s : S) → Gives (λ x. (length x.0 ≡ width) × All P x.0) (read s)) where
+  pub appended_are : (n : ℕ) (s : S) → Gives (λ x. (length x.0 ≡ n * width) × All P x.0) (appended n read s)
   unfolding appended
-  appended_are zero s t xs h = let none : 0 ≡ 0 * width = omega arith in ends (λ (y : List X × S). (length y.0 ≡ 0 * width) × All P y.0) ([], s) (xs, t) h (none, All-nil P)
-  appended_are (suc n) s t xs h =
-      let a = goes (read s) _ (xs, t) h in
-      let b = goes (appended n read a.item.1) _ (xs, t) a.then_ in
-      let first = each s a.item.1 a.item.0 a.first in
-      let rest = appended_are n a.item.1 b.item.1 b.item.0 b.first in
-      let longer : length (a.item.0 ++ b.item.0) ≡ suc n * width = omega (arith, length-append a.item.0 b.item.0, first.0, rest.0) in
-      ends (λ (y : List X × S). (length y.0 ≡ suc n * width) × All P y.0) (a.item.0 ++ b.item.0, b.item.1) (xs, t) b.then_ (longer, All-append P a.item.0 b.item.0 first.1 rest.1)
+  appended_are zero s = done (omega arith, All-nil P)
+  appended_are (suc n) s = then_ _ (each s) (λ x p. then_ _ (appended_are n x.1) (λ more h. done (omega (arith, length-append x.0 more.0, p.0, h.0), All-append P x.0 more.0 p.1 h.1)))

@@ -24,13 +24,6 @@ LinesReadAsWritten = (line : Line) → IsLine line → words (line_text line) �
 abbrev pub TextsReadAsWritten : Type 0
 TextsReadAsWritten = (n : ℕ) (lines : List Line) → All IsLine lines → left_from n (text lines) ≡ unread n lines
 
--- what is written of values is lines: a list of values, a layer of numbers, and one of integers
-pub record WritesLines : Type 0 where
-  pub rows : (xs : List Dec) → 1 ≤ length xs → All IsDec xs → IsLine (row_line number_word xs)
-  pub integer_rows : (xs : List ℤ) → 1 ≤ length xs → All IsShort xs → IsLine (row_line integer_word xs)
-  pub layers : (rows cols : ℕ) (xs : List Dec) → 1 ≤ cols → length xs ≡ rows * cols → All IsDec xs → All IsLine (real_array rows cols xs)
-  pub integer_layers : (rows cols : ℕ) (xs : List ℤ) → 1 ≤ cols → length xs ≡ rows * cols → All IsShort xs → All IsLine (integer_array rows cols xs)
-
 -- at least one value, all on one line
 pub record FreeListsReadAsWritten : Type 0 where
   pub numbers : (file : List ℕ) (xs : List Dec) → 1 ≤ length xs → All IsDec xs →
@@ -48,29 +41,33 @@ pub record ArraysReadAsWritten : Type 0 where
       Reads (integer_layer files file rows cols) (integer_array rows cols xs) xs
 
 -- whatever the reading gives has this form
-pub record Gives {X : Type 0} (read : Left → Result (X × Left) Refusal) (P : X → Type 0) : Type 0 where
-  pub gives : (left after : Left) (x : X) → read left ≡ Ok (x, after) → P x
+pub record Gives {A E : Type 0} (P : A → Type 0) (reading : Result A E) : Type 0 where
+  pub gives : (x : A) → reading ≡ Ok x → P x
+
+-- wherever the reading begins, each value that it gives has this form
+abbrev pub GivesEach : {X : Type 0} → (Left → Result (X × Left) Refusal) → (X → Type 0) → Type 0
+GivesEach read P = (left : Left) → Gives (λ x. P x.0) (read left)
 
 -- this many values of this form
 abbrev pub Are : {X : Type 0} → ℕ → (X → Type 0) → List X → Type 0
 Are count P xs = (length xs ≡ count) × All P xs
 
 abbrev pub NumbersAreCanonical : Type 0
-NumbersAreCanonical = (w : List ℕ) (d : Dec) → number w ≡ Ok d → IsDec d
+NumbersAreCanonical = (w : List ℕ) → Gives IsDec (number w)
 
 abbrev pub IntegersAreShort : Type 0
-IntegersAreShort = (w : List ℕ) (z : ℤ) → integer w ≡ Ok z → IsShort z
+IntegersAreShort = (w : List ℕ) → Gives IsShort (integer w)
 
 pub record ListsHaveForm : Type 0 where
-  pub numbers : (file : List ℕ) (count : ℕ) → Gives (free_list number file count) (Are count IsDec)
-  pub integers : (file : List ℕ) (count : ℕ) → Gives (free_list integer file count) (Are count IsShort)
+  pub numbers : (file : List ℕ) (count : ℕ) → GivesEach (free_list number file count) (Are count IsDec)
+  pub integers : (file : List ℕ) (count : ℕ) → GivesEach (free_list integer file count) (Are count IsShort)
 
 -- a list, a layer of numbers, and one of integers; and the layers of a grid, of numbers and of integers
 pub record ArraysHaveForm : Type 0 where
-  pub lists : (files : FileSet) (file : List ℕ) (count : ℕ) → Gives (reals files file count) (Are count IsDec)
-  pub real_layers : (files : FileSet) (file : List ℕ) (rows cols : ℕ) → Gives (real_layer files file rows cols) (Are (rows * cols) IsDec)
-  pub integer_layers : (files : FileSet) (file : List ℕ) (rows cols : ℕ) → Gives (integer_layer files file rows cols) (λ xs. length xs ≡ rows * cols)
+  pub lists : (files : FileSet) (file : List ℕ) (count : ℕ) → GivesEach (reals files file count) (Are count IsDec)
+  pub real_layers : (files : FileSet) (file : List ℕ) (rows cols : ℕ) → GivesEach (real_layer files file rows cols) (Are (rows * cols) IsDec)
+  pub integer_layers : (files : FileSet) (file : List ℕ) (rows cols : ℕ) → GivesEach (integer_layer files file rows cols) (λ xs. length xs ≡ rows * cols)
   pub real_grids : (files : FileSet) (file : List ℕ) (count rows cols : ℕ) →
-      Gives (layers real files file count rows cols) (Are (count * (rows * cols)) IsDec)
+      GivesEach (layers real files file count rows cols) (Are (count * (rows * cols)) IsDec)
   pub integer_grids : (files : FileSet) (file : List ℕ) (count rows cols : ℕ) →
-      Gives (layers whole files file count rows cols) (λ xs. length xs ≡ count * (rows * cols))
+      GivesEach (layers whole files file count rows cols) (λ xs. length xs ≡ count * (rows * cols))

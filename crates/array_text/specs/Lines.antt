@@ -68,9 +68,14 @@ number_after n (line ∷ others) = number_after (next_number n) others
 unfoldable pub unread : ℕ → List Line → Left
 unread n lines = record { lines = numbered_lines n lines; end = number_after n lines }
 
--- A reading takes these lines, wherever they stand, and gives x: it leaves what follows them.
-pub record Reads {X : Type 0} (read : Left → Result (X × Left) Refusal) (lines : List Line) (x : X) : Type 0 where
-  pub reads : (n : ℕ) (rest : List Line) → read (unread n (lines ++ rest)) ≡ Ok (x, unread (number_after n lines) rest)
+-- A reading takes these lines, wherever they stand, and gives something with what it leaves: what follows them. Each of them is a line.
+pub record Takes {Z : Type 0} (read : Left → Result Z Refusal) (lines : List Line) (out : Left → Z) : Type 0 where
+  pub are : All IsLine lines
+  pub reads : (n : ℕ) (rest : List Line) → read (unread n (lines ++ rest)) ≡ Ok (out (unread (number_after n lines) rest))
+
+-- it gives x
+abbrev pub Reads : {X : Type 0} → (Left → Result (X × Left) Refusal) → List Line → X → Type 0
+Reads read lines x = Takes read lines (λ left. (x, left))
 
 -- Arrays as lines (TM 6-A16, U1DREL, U2DREL and U2DINT): a control record, and each row of values on a line of its own.
 -- the values follow in free format, times 1, and aren't printed: INTERNAL CNSTNT FMTIN IPRN

@@ -1,5 +1,5 @@
 // What is written is read as itself. Each law is the contract of an empty function.
-ghost use Rattle.array_text.specs.Laws.{NumbersReadAsWritten, IntegersReadAsWritten, LinesReadAsWritten, TextsReadAsWritten, WritesLines};
+ghost use Rattle.array_text.specs.Laws.{NumbersReadAsWritten, IntegersReadAsWritten, LinesReadAsWritten, TextsReadAsWritten};
 ghost use Rattle.array_text.specs.Laws.{FreeListsReadAsWritten, ArraysReadAsWritten};
 ghost use Rattle.array_text.specs.Laws.{NumbersAreCanonical, IntegersAreShort, ListsHaveForm, ArraysHaveForm};
 
@@ -27,12 +27,6 @@ pub fn texts_read_as_written()
     ensures { TextsReadAsWritten }
 {}
 
-/// What is written of values is lines.
-#[tactic(auto, using(crate::proofs::ArrayTexts::are_lines))]
-pub fn values_are_written_as_lines()
-    ensures { WritesLines }
-{}
-
 /// A free list on one line is read as its values.
 #[tactic(auto, using(crate::proofs::ArrayTexts::free_lists))]
 pub fn free_lists_read_as_written()
@@ -46,6 +40,7 @@ pub fn arrays_read_as_written()
 {}
 
 /// A number that is read is in canonical form.
+#[tactic(auto, using(crate::proofs::NumberForms::number_is))]
 pub fn numbers_are_canonical()
     ensures { NumbersAreCanonical }
 {}

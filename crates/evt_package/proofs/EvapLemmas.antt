@@ -18,19 +18,15 @@ use Rattle.number_limits.proofs.SignLemmas.{positive_of}
 pub each_step : (step : ℕ → Unit {0} → Result (Unit {0}) Refusal) (n c : ℕ) → counted step c n tt ≡ Ok tt → (k : ℕ) → c ≤ k → k < c + n → step k tt ≡ Ok tt
 unfolding counted
 each_step step zero c h k low high = absurd (omega (arith, low, high))
-each_step step (suc n) c h k low high = by_case (λ so l. each_step step n (c + 1) so k l (omega (arith, high))) (step c tt) refl h
+each_step step (suc n) c h k low high = by_case (λ so l. each_step step n (c + 1) so k l (omega (arith, high))) (step c tt) refl h (leb_tells (c + 1) k)
   where
-    here : (counted step (c + 1) n tt ≡ Ok tt → c + 1 ≤ k → step k tt ≡ Ok tt) → ((nat_le (c + 1) k ≡ true) × (c + 1 ≤ k)) ⊎ ((nat_le (c + 1) k ≡ false) × (k < c + 1)) → step c tt ≡ Ok tt → counted step (c + 1) n tt ≡ Ok tt → step k tt ≡ Ok tt
-    here others (inl a) e so = others so a.1
-    here others (inr a) e so =
+    by_case : (counted step (c + 1) n tt ≡ Ok tt → c + 1 ≤ k → step k tt ≡ Ok tt) → (x : Result (Unit {0}) Refusal) → step c tt ≡ x → (x >>= counted step (c + 1) n) ≡ Ok tt
+        → ((nat_le (c + 1) k ≡ true) × (c + 1 ≤ k)) ⊎ ((nat_le (c + 1) k ≡ false) × (k < c + 1)) → step k tt ≡ Ok tt
+    by_case others (Ok u) e so (inl a) = others so a.1
+    by_case others (Ok u) e so (inr a) =
         let same : k ≡ c = omega (arith, a.1, low) in
         rw same e
-
-    by_case : (counted step (c + 1) n tt ≡ Ok tt → c + 1 ≤ k → step k tt ≡ Ok tt) → (x : Result (Unit {0}) Refusal) → step c tt ≡ x → (step c tt >>= counted step (c + 1) n) ≡ Ok tt → step k tt ≡ Ok tt
-    by_case others (Ok u) e so = here others (leb_tells (c + 1) k) e (rw e at so)
-    by_case others (Err r) e so =
-        let wrong : (Err r >>= counted step (c + 1) n) ≡ Ok tt = rw e at so in
-        absurd cc
+    by_case others (Err r) e so t = absurd (cc)
 
 some_is : (n : ℕ) (view : ℕ → ℤ) (z : ℤ) → option_map view (small n) ≡ Some z → z ≡ view n
 some_is n view z h = by_case (nat_lt n (2 ^ 126)) refl h

@@ -1,18 +1,18 @@
 -- A model in limits stays so with evapotranspiration.
 use Rattle.evt_package.proofs.Common.{◌≡◌, ◌⊎◌, inl, inr, ℕ, ◌-◌, ◌<◌, ◌≤◌, ℤ, pos, ◌≤ℤ◌, Bool, true, false, not, cond, ◌&&◌, ◌==◌, List, [], map, All, Option}
-use Rattle.evt_package.proofs.Common.{Some, None, IfOk, Result, Ok, Err, length, refl, sym, ap, subst, arith, option_to_list, cases_lt, ints, All-nil, All-cons}
-use Rattle.evt_package.proofs.Common.{mod_below, Grid, FlowModel, cell_count, layer_size, place_in_layer, HasSize, dec_at, is_active, is_chosen, IsEvapValid}
-use Rattle.evt_package.proofs.Common.{IsModel, IsPeriod, size_some, without, cell_tested, column_step, column_tested, columns_tested, source, evap_fault}
-use Rattle.evt_package.proofs.Common.{area_in, evaporation_arrays, HasEvaporation, IsEvaporating, SameBut}
+use Rattle.evt_package.proofs.Common.{Some, None, Ok, length, refl, sym, ap, subst, arith, option_to_list, cases_lt, ints, All-nil, All-cons, mod_below, Grid}
+use Rattle.evt_package.proofs.Common.{FlowModel, cell_count, layer_size, place_in_layer, HasSize, dec_at, is_active, is_chosen, IsEvapValid, IsModel, IsPeriod}
+use Rattle.evt_package.proofs.Common.{size_some, without, cell_tested, column_step, column_tested, columns_tested, source, evap_fault, area_in}
+use Rattle.evt_package.proofs.Common.{evaporation_arrays, HasEvaporation, IsEvaporating, AreArrays, SameBut, ◌∙◌}
 use Rattle.std.proofs.lemmas.List.{get_or_past}
 use Rattle.outside.specs.declared.codes.Code.{Code}
-use Rattle.outside.specs.declared.inputs.InputFault.{InputFault}
 use Rattle.model_types.specs.declared.period.Period.{Period}
 use Rattle.model_types.specs.Sources.{evap_sources}
 use Rattle.model_types.specs.Times.{no_period, period_at}
 use Rattle.number_limits.proofs.Canonical.{dec_at_is}
 use Rattle.list_package.proofs.ModelLemmas.{each_period, evaporation_of, replaced, same_view, sources_by, steps, with_stresses}
 use Rattle.evt_package.proofs.ChosenLemmas.{chosen_is}
+use Rattle.evt_package.proofs.ArrayLemmas.{is_evaporating}
 use Rattle.evt_package.proofs.EvapLemmas.{each_step, source_sound}
 
 period : (file : List ℕ) (m : FlowModel) (e : ℤ) (ps : List Period) (p q : Period) → without evaporation_arrays p ≡ without evaporation_arrays q → IsPeriod m q → HasEvaporation file (record m { nevtop = e; periods = ps }) p → IsPeriod (record m { nevtop = e; periods = ps }) p
@@ -66,9 +66,8 @@ evaporating file m e ps same has h = replaced m m.nrchop e ps h (same_view (with
     (each_period (without evaporation_arrays) (IsPeriod (record m { nevtop = e; periods = ps })) (IsPeriod m) (HasEvaporation file (record m { nevtop = e; periods = ps })) (period file m e ps) ps m.periods same h.periods has.periods)
     (evaps file (record m { nevtop = e; periods = ps }) h.grid.size has.periods)
 
-evaporating_model : (file : List ℕ) (m n : FlowModel) → SameBut m n → IsEvaporating file n → IsModel m → IsModel n
-evaporating_model file m n same has h = subst IsModel (sym same.model) (evaporating file m n.nevtop n.periods same.periods (subst (IsEvaporating file) same.model has) h)
-
-pub evaporation_valid : (file : List ℕ) (m : FlowModel) (r : Result FlowModel InputFault) → IfOk r (SameBut m) → IfOk r (IsEvaporating file) → IsModel m → IfOk r IsModel
-evaporation_valid file m (Ok n) same has h = evaporating_model file m n same has h
-evaporation_valid file m (Err fault) same has h = tt
+pub evaporation_stays : (file : List ℕ) (m n : FlowModel) (ibound : List ℤ) (option : ℤ) → m.ibound ≡ ibound → n.nevtop ≡ option → SameBut m n → (pos 1 ≤ℤ option) × (option ≤ℤ pos 3)
+    → All (λ p. AreArrays file m.grid ibound option p.stresses) n.periods → IsModel m → IsModel n
+evaporation_stays file m n ibound option active e same range has h =
+    let is : n ≡ record m { nevtop = option; periods = n.periods } = same.model ∙ ap (λ z. record m { nevtop = z; periods = n.periods }) e in
+    subst IsModel (sym is) (evaporating file m option n.periods same.periods (is_evaporating file m ibound (record { option = option; periods = n.periods }) active range has) h)

@@ -50,9 +50,18 @@ impl ArrayPackage for Evapotranspiration {
     }
 }
 
-/// The model with the arrays of its periods.
+/// The model with the evapotranspiration of a file of the package EVT: the option NEVTOP, and in each stress period the
+/// surfaces, greatest rates and extinction depths and, under option 2, the layers. `file` is the file's name, for
+/// refusals, and `folder` has the files that its arrays name. An array that a period reuses is shared, so it is in
+/// memory once.
+///
+/// # Errors
+/// The first item that is wrong is refused on its line: OutOfProfile for parameters and for another option,
+/// NothingToReuse where there is no array to reuse; with line 0 and the cell CellOutside for a layer that the grid
+/// lacks, and, once all arrays of a period are read, BadProperty or HeadTooLarge at an active cell that is chosen. A read
+/// fault comes only from the folder. (TM 6-A16, EVT)
 #[tactic(auto, unfolding(crate::specs::Evaporation::evt_of), using(crate::proofs::ArrayLemmas::is_evaporating))]
-fn with_evaporation<F: Folder>(
+pub fn read_evt<F: Folder>(
     alloc: Global,
     file: &str,
     bytes: &[u8],
@@ -65,6 +74,7 @@ fn with_evaporation<F: Folder>(
     ensures model { (files : FileSet) → F.agrees folder.new files → Has (λ m. m) result (evt_of files file.now bytes.now model) }
     ensures form { IfOk result (IsEvaporating file.now) }
     ensures others { IfOk result (SameBut model) }
+    ensures valid { IsModel model → IfOk result IsModel }
 {
     let periods = model.periods.into_vec();
     let evaporation = read_arrays::<Evapotranspiration, F>(
@@ -81,32 +91,4 @@ fn with_evaporation<F: Folder>(
         periods: evaporation.periods,
         ..model
     })
-}
-
-/// The model with the evapotranspiration of a file of the package EVT: the option NEVTOP, and in each stress period the
-/// surfaces, greatest rates and extinction depths and, under option 2, the layers. `file` is the file's name, for
-/// refusals, and `folder` has the files that its arrays name. An array that a period reuses is shared, so it is in
-/// memory once.
-///
-/// # Errors
-/// The first item that is wrong is refused on its line: OutOfProfile for parameters and for another option,
-/// NothingToReuse where there is no array to reuse; with line 0 and the cell CellOutside for a layer that the grid
-/// lacks, and, once all arrays of a period are read, BadProperty or HeadTooLarge at an active cell that is chosen. A read
-/// fault comes only from the folder. (TM 6-A16, EVT)
-pub fn read_evt<F: Folder>(
-    alloc: Global,
-    file: &str,
-    bytes: &[u8],
-    folder: &mut F,
-    model: FlowModel,
-) -> Result<FlowModel, InputFault>
-    requires size { HasSize model.grid }
-    requires text { TextMay (F.may folder.old) bytes.now }
-    ensures folder { ReadsOn F.Folder folder.old folder.new result }
-    ensures model { (files : FileSet) → F.agrees folder.new files → Has (λ m. m) result (evt_of files file.now bytes.now model) }
-    ensures form { IfOk result (IsEvaporating file.now) }
-    ensures others { IfOk result (SameBut model) }
-    ensures valid { IsModel model → IfOk result IsModel }
-{
-    with_evaporation(alloc, file, bytes, folder, model)
 }

@@ -1,8 +1,8 @@
 -- Names that several proofs of this crate cite, of the crates below and of its own definitions, passed on from one place. Declares nothing.
-pub use Rattle.std.proofs.Common.{All, Bool, Err, IfSome, List, None, Ok, Option, Result, Some, [], ap, append_assoc, arith, cond, drop, false, get_or, inl}
-pub use Rattle.std.proofs.Common.{inr, length, map, not, pos, refl, subst, suc, sum, sum_by, sym, true, zero, ℕ, ℤ, ◌&&◌, ◌++◌, ◌-◌, ◌<◌, ◌==◌, ◌∙◌, ◌∷◌, ◌≡◌}
-pub use Rattle.std.proofs.Common.{◌≤ℤ◌, ◌≤◌, ◌⊎◌}
-pub use Rattle.std.proofs.lemmas.List.{append-nil, get_or-set_other, get_or-set_same, length-set, map-append}
+pub use Rattle.std.proofs.Common.{All, Bool, Err, IfSome, List, None, Ok, Option, Some, [], ap, append_assoc, arith, cond, drop, false, get_or, inl, inr}
+pub use Rattle.std.proofs.Common.{length, map, not, pos, refl, subst, suc, sum, sum_by, sym, true, zero, ℕ, ℤ, ◌&&◌, ◌++◌, ◌-◌, ◌<◌, ◌==◌, ◌∙◌, ◌∷◌, ◌≡◌, ◌≤ℤ◌}
+pub use Rattle.std.proofs.Common.{◌≤◌, ◌⊎◌}
+pub use Rattle.std.proofs.lemmas.List.{append-nil, get_or-set_other, get_or-set_same, length-map, length-set, map-append}
 pub use Rattle.std.proofs.lemmas.List.Elements.{All-head, All-push, All-tail, All-weaker}
 pub use Rattle.std.proofs.lemmas.Result.{err_from_is_err_and}
 pub use Rattle.std.specs.Prelude.{IfOk, codes, if◌then◌else◌}

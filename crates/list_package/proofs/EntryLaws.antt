@@ -7,21 +7,15 @@ use Rattle.list_package.specs.declared.entries.ListKind.TheVariants.{Wells, Rive
 
 replaces : (k : ListKind) (s : Stresses) (xs ys : List Entry) → (kind_of k).put ((kind_of k).put s xs) ys ≡ (kind_of k).put s ys
 replaces Wells s xs ys = refl
-replaces Rivers s xs ys = refl
-replaces Drains s xs ys = refl
-replaces Generals s xs ys = refl
+replaces k s xs ys = refl
 
 unchanged : (k : ListKind) (s : Stresses) → (kind_of k).put s ((kind_of k).list s) ≡ s
 unchanged Wells s = refl
-unchanged Rivers s = refl
-unchanged Drains s = refl
-unchanged Generals s = refl
+unchanged k s = refl
 
 evaporation : (k : ListKind) (s : Stresses) (xs : List Entry) → evap_arrays ((kind_of k).put s xs) ≡ evap_arrays s
 evaporation Wells s xs = refl
-evaporation Rivers s xs = refl
-evaporation Drains s xs = refl
-evaporation Generals s xs = refl
+evaporation k s xs = refl
 
 entry_list : (k : ListKind) (cells : ℕ) (xs : List Entry) → IsList (kind_of k) (IsEntryValid cells) xs → IsEntryList cells xs
 entry_list k cells xs h = record { few = h.few; entries = h.entries }

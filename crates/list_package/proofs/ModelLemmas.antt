@@ -1,46 +1,34 @@
 -- A model in limits stays so where its periods have other stresses in limits.
 use Rattle.list_package.proofs.Common.{◌≡◌, ◌⊎◌, inl, inr, ℕ, zero, suc, ◌-◌, ◌<◌, ◌≤◌, ℤ, pos, ◌≤ℤ◌, Bool, true, not, cond, ◌&&◌, ◌==◌, List, [], ◌∷◌, map}
-use Rattle.list_package.proofs.Common.{All, Some, None, Result, Ok, Err, length, get_or, sum, sum_by, refl, sym, ap, ◌∙◌, subst, All-weaker, Period, Stresses}
-use Rattle.list_package.proofs.Common.{cell_count, place_in_layer, AreStresses, IsModel, IsPeriod, IsTimed, IsGrowing, IsBedChecked, IsEvapValid, number_one}
-use Rattle.list_package.proofs.Common.{EvapArrays, evap_arrays, IsList, KeepsLimits, SameBut, Kind, with_list, without}
+use Rattle.list_package.proofs.Common.{All, Some, None, length, get_or, sum, sum_by, refl, sym, ap, ◌∙◌, subst, All-weaker, Period, Stresses, cell_count}
+use Rattle.list_package.proofs.Common.{place_in_layer, AreStresses, IsModel, IsPeriod, IsTimed, IsGrowing, IsBedChecked, IsEvapValid, number_one, EvapArrays}
+use Rattle.list_package.proofs.Common.{evap_arrays, IsList, KeepsLimits, SameBut, Kind, with_list, without, length-map}
 use Rattle.model_types.specs.Layers.{dec_at, is_active}
-use Rattle.std.proofs.Common.{IfOk}
 use Rattle.std.specs.Option.{option_to_list}
 use Rattle.std.proofs.lemmas.List.Sums.{sum-map}
-use Rattle.outside.specs.declared.inputs.TextFault.{TextFault}
 use Rattle.model_types.specs.declared.model.FlowModel.{FlowModel}
 use Rattle.model_types.specs.Receivers.{EvapSource, is_chosen}
 use Rattle.model_types.specs.Sources.{evap_sources}
 use Rattle.model_types.specs.Times.{no_period}
 
 pub same_count : {A : Type 0} (f : Period → A) (ps qs : List Period) → map f ps ≡ map f qs → length ps ≡ length qs
-same_count f [] [] e = refl
-same_count f [] (q ∷ qs) e = absurd cc
-same_count f (p ∷ ps) [] e = absurd cc
-same_count f (p ∷ ps) (q ∷ qs) e =
-    let tail : map f ps ≡ map f qs = cc in
-    ap suc (same_count f ps qs tail)
+same_count f ps qs e = sym (length-map ps f) ∙ ap length e ∙ length-map qs f
+
+seen_at : {A : Type 0} (f : Period → A) (ps : List Period) (k : ℕ) (d : Period) → get_or (map f ps) k (f d) ≡ f (get_or ps k d)
+seen_at f [] k d = refl
+seen_at f (p ∷ ps) zero d = refl
+seen_at f (p ∷ ps) (suc k) d = seen_at f ps k d
 
 pub same_at : {A : Type 0} (f : Period → A) (ps qs : List Period) (k : ℕ) (d : Period) → map f ps ≡ map f qs → f (get_or ps k d) ≡ f (get_or qs k d)
-same_at f [] [] k d e = refl
-same_at f [] (q ∷ qs) k d e = absurd cc
-same_at f (p ∷ ps) [] k d e = absurd cc
-same_at f (p ∷ ps) (q ∷ qs) zero d e =
-    let here : f p ≡ f q = cc in
-    here
-same_at f (p ∷ ps) (q ∷ qs) (suc k) d e =
-    let tail : map f ps ≡ map f qs = cc in
-    same_at f ps qs k d tail
+same_at f ps qs k d e = sym (seen_at f ps k d) ∙ ap (λ xs. get_or xs k (f d)) e ∙ seen_at f qs k d
 
 -- what is seen of periods through what is the same is the same
 pub same_view : {A B : Type 0} (f : Period → A) (g : A → B) (h : Period → B) → ((p : Period) → g (f p) ≡ h p) → (ps qs : List Period) → map f ps ≡ map f qs → map h ps ≡ map h qs
-same_view f g h seen [] [] e = refl
-same_view f g h seen [] (q ∷ qs) e = absurd cc
-same_view f g h seen (p ∷ ps) [] e = absurd cc
-same_view f g h seen (p ∷ ps) (q ∷ qs) e =
-    let here : f p ≡ f q = cc in
-    let tail : map f ps ≡ map f qs = cc in
-    rw (sym (seen p) ∙ ap g here ∙ seen q, same_view f g h seen ps qs tail) refl
+same_view {A = A} f g h seen ps qs e = sym (viewed ps) ∙ ap (λ (xs : List A). map g xs) e ∙ viewed qs
+  where
+    viewed : (xs : List Period) → map g (map f xs) ≡ map h xs
+    viewed [] = refl
+    viewed (p ∷ xs) = λ i. seen p i ∷ viewed xs i
 
 same_sum : {A : Type 0} (f : Period → A) (g : A → ℕ) (ps qs : List Period) → map f ps ≡ map f qs → sum_by (λ p. g (f p)) ps ≡ sum_by (λ p. g (f p)) qs
 same_sum f g ps qs e = sym (sum-map (λ p. g (f p)) ps) ∙ ap sum (same_view f g (λ p. g (f p)) (λ p. refl) ps qs e) ∙ sum-map (λ p. g (f p)) qs
@@ -124,12 +112,8 @@ module _ {E : Type 0} (kind : Kind E) (Valid : ℕ → E → Type 0) (laws : Kee
   period_stays m p q same h list =
       with_stresses m m p q (kind.put q.stresses (kind.list p.stresses)) (put_back p q same) h (laws.fits m.grid m.nrchop m.nevtop q.stresses (kind.list p.stresses) list h.stresses)
 
-  model_stays : (m n : FlowModel) → SameBut kind m n → All (λ p. IsList kind (Valid (cell_count m.grid)) (kind.list p.stresses)) n.periods → IsModel m → IsModel n
+  pub model_stays : (m n : FlowModel) → SameBut kind m n → All (λ p. IsList kind (Valid (cell_count m.grid)) (kind.list p.stresses)) n.periods → IsModel m → IsModel n
   model_stays m n same lists h = subst IsModel (sym same.model) (with_lists m n.periods h
       (same_view (without kind) steps steps (λ p. refl) n.periods m.periods same.periods)
       (same_view (without kind) evaporation_of evaporation_of (λ p. laws.evaporation p.stresses []) n.periods m.periods same.periods)
       (each_period (without kind) (IsPeriod m) (IsPeriod m) (λ p. IsList kind (Valid (cell_count m.grid)) (kind.list p.stresses)) (period_stays m) n.periods m.periods same.periods h.periods lists))
-
-  pub still_valid : (m : FlowModel) (r : Result FlowModel TextFault) → IfOk r (λ n. All (λ p. IsList kind (Valid (cell_count m.grid)) (kind.list p.stresses)) n.periods) → IfOk r (SameBut kind m) → IsModel m → IfOk r IsModel
-  still_valid m (Ok n) lists same h = model_stays m n same lists h
-  still_valid m (Err fault) lists same h = tt

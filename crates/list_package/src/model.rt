@@ -40,28 +40,6 @@ fn lists_of<E: ListEntry>(
     periods_of::<E>(alloc, limits, lists, &mut lines, file, grid, periods)
 }
 
-#[tactic(auto, unfolding(crate::specs::Lists::package_of))]
-fn package_of<E: ListEntry>(
-    alloc: Global,
-    limits: Limits,
-    lists: E::Lists,
-    file: &str,
-    bytes: &[u8],
-    model: FlowModel,
-) -> Result<FlowModel, TextFault>
-    requires size { HasSize model.grid }
-    ensures model { HasText (λ m. m) result (package_of limits (E.kind lists) file.now bytes.now model) }
-    ensures lists { IfOk result (λ m. All (λ p. IsList (E.kind lists) (E.Valid (cell_count model.grid)) ((E.kind lists).list p.stresses)) m.periods) }
-    ensures others { IfOk result (SameBut (E.kind lists) model) }
-{
-    let periods = model.periods.into_vec();
-    let periods = lists_of::<E>(alloc, limits, lists, file, bytes, &model.grid, periods)?;
-    Ok(FlowModel {
-        periods: Listed::new(periods),
-        ..model
-    })
-}
-
 /// The model with the lists of a package's file in its periods, by these limits. `file` is the file's name, for refusals.
 /// A list that a period reuses is shared, so it is in memory once; given heads start again at their heads at the start.
 ///
@@ -70,6 +48,7 @@ fn package_of<E: ListEntry>(
 /// where the first list is to be reused, OutOfProfile for parameters, another file's entries, or a given head that changes
 /// in a steady period of growing steps; of an entry CellOutside, HeadTooLarge, or BadProperty, also where a list of given
 /// heads has named the cell before. (TM 6-A16, WEL, RIV, DRN, GHB, CHD)
+#[tactic(auto, unfolding(crate::specs::Lists::package_of))]
 pub fn read_package<E: ListEntry>(
     alloc: Global,
     limits: Limits,
@@ -85,5 +64,10 @@ pub fn read_package<E: ListEntry>(
     ensures valid { IsModel model → IfOk result IsModel }
 {
     E::lists_keep_limits(lists);
-    package_of::<E>(alloc, limits, lists, file, bytes, model)
+    let periods = model.periods.into_vec();
+    let periods = lists_of::<E>(alloc, limits, lists, file, bytes, &model.grid, periods)?;
+    Ok(FlowModel {
+        periods: Listed::new(periods),
+        ..model
+    })
 }

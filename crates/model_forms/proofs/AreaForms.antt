@@ -1,25 +1,52 @@
 -- What is read of the arrays of a stress period.
 use Rattle.model_forms.proofs.Common.{◌≡◌, ℕ, ◌<◌, ◌≤◌, ℤ, pos, negsuc, Bool, true, false, List, [], length, All, Result, Ok, refl, sym, subst, arith, leb-true}
-use Rattle.model_forms.proofs.Common.{get_or_default, Dec, FileSet, words, CellOutside, Refusal, line_at, Left, real_layer, integer_layer, Grid, layer_size}
-use Rattle.model_forms.proofs.Common.{HasSize, int_at, area_at, array_or, arrays_of, nothing_yet, flags_of, AreFlags, IsArea, IsReals, IsWhole, Area, InForce}
-use Rattle.model_forms.proofs.Common.{Contents, Flags, arrays, goes, ends, IsShort, IsLayers, is_layer, refusal_at, layer_step, layers_tested, layers_at}
+use Rattle.model_forms.proofs.Common.{get_or_default, Dec, FileSet, words, Refusal, line_at, Left, real_layer, Grid, layer_size, HasSize, int_at, area_at}
+use Rattle.model_forms.proofs.Common.{array_or, arrays_of, nothing_yet, AreFlags, IsArea, IsReals, IsWhole, Area, InForce, arrays, Gives, done, goes_on, then_}
+use Rattle.model_forms.proofs.Common.{if_passed, weaker, both, IsShort, IsLayers, is_layer, layer_step, layers_tested, layers_at, not, ◌&&◌, number_at, integer}
+use Rattle.model_forms.proofs.Common.{is_option, option_at, is_negative, flag_at, flag_if, flags_of, if_clear}
+use Rattle.period_arrays.specs.declared.flags.Contents.{Contents}
+use Rattle.period_arrays.specs.declared.flags.Flags.{Flags}
 use Rattle.model_types.specs.Receivers.{is_int}
 use Rattle.period_arrays.proofs.AreaLemmas.{is_area}
 use Rattle.evt_package.proofs.EvapLemmas.{each_step}
-use Rattle.model_forms.proofs.FlagForms.{flags_are}
 use Rattle.model_forms.proofs.GridForms.{layer_is}
-use Rattle.model_forms.proofs.Parts.{if_true}
+
+-- What is read of the option and the flags of a package of arrays.
+reused : (a b : Bool) → (a && not b) ≡ false → not a ≡ false → b ≡ true
+reused true true e f = refl
+reused true false e f = absurd (let clash : true ≡ false = e in cc)
+reused false b e f = absurd (let clash : true ≡ false = f in cc)
+
+-- an array that isn't read anew was read before; a flag that isn't there reads none
+record IsFlag (present listed flag : Bool) : Type 0 where
+  there : present ≡ true → flag ≡ false → listed ≡ true
+  none : present ≡ false → flag ≡ false
+
+module _ (file : List ℕ) (line : ℕ) where
+  flag_is : (listed : Bool) (ws : List (List ℕ)) → Gives (λ x. x.0 ≡ false → listed ≡ true) (flag_at file line listed ws)
+  unfolding flag_at
+  flag_is listed ws = goes_on (number_at integer file line ws) _ (λ z e. if_clear (is_negative z.0 && not listed) _ _ (λ clear. done (reused (is_negative z.0) listed clear)))
+
+  flag_if_is : (present listed : Bool) (ws : List (List ℕ)) → Gives (λ x. IsFlag present listed x.0) (flag_if present file line listed ws)
+  flag_if_is true listed ws = weaker (flag_is listed ws) (λ x h. record { there = λ e. h; none = λ e. absurd (let clash : true ≡ false = e in cc) })
+  flag_if_is false listed ws = done (record { there = λ e. absurd (let clash : false ≡ true = e in cc); none = λ e. refl })
+
+  pub flags_are : (contents : Contents) (listed : Bool) (ws : List (List ℕ)) → Gives (λ f. AreFlags contents listed f × (contents.layered ≡ false → f.layer ≡ false)) (flags_of contents file line listed ws)
+  unfolding flags_of
+  flags_are contents listed ws =
+      then_ _ (flag_if_is contents.evaporates listed ws) (λ surface a. then_ _ (flag_is listed surface.1) (λ rate b. then_ _ (flag_if_is contents.evaporates listed rate.1)
+      (λ depth c. then_ _ (flag_if_is contents.layered listed depth.1) (λ layer d. done (record { surface = a.there; rate = b; depth = c.there; layer = d.there }, d.none)))))
+
+  pub option_is : (ws : List (List ℕ)) → Gives (λ x. is_option x.0 ≡ true) (option_at file line ws)
+  unfolding option_at
+  option_is ws = goes_on (number_at integer file line ws) _ (λ z e. if_passed (is_option z.0) _ _ (λ active. done active))
 
 module _ {X : Type 0} (read : Left → Result (List X × Left) Refusal) where
   -- an array is read anew, or it is the last one
-  array_is : (P : List X → Type 0) → ((left : Left) (x : List X × Left) → read left ≡ Ok x → P x.0) → (anew : Bool) (before : List X) (left : Left) (x : List X × Left) → array_or read anew before left ≡ Ok x
-      → (anew ≡ false → P before) → P x.0
-  array_is P each true before left x h last = each left x h
-  array_is P each false before left x h last = ends {E = Refusal} (λ (y : List X × Left). P y.0) (before, left) x h (last refl)
-
-  array_kept : (P : List X → Type 0) (anew : Bool) (before : List X) (left : Left) (x : List X × Left) → array_or read anew before left ≡ Ok x → anew ≡ false → P before → P x.0
-  array_kept P true before left x h e last = absurd (let clash : true ≡ false = e in cc)
-  array_kept P false before left x h e last = ends {E = Refusal} (λ (y : List X × Left). P y.0) (before, left) x h last
+  array_is : (P : List X → Type 0) → ((left : Left) → Gives (λ x. P x.0) (read left)) → (anew : Bool) (before : List X) (left : Left)
+      → Gives (λ x. (anew ≡ false → P before) → P x.0) (array_or read anew before left)
+  array_is P each true before left = weaker (each left) (λ x h last. h)
+  array_is P each false before left = done (λ last. last refl)
 
 -- layers of the grid, or 0
 pub record AreOfGrid (g : Grid) (xs : List ℤ) : Type 0 where
@@ -68,67 +95,43 @@ pub first_state : (contents : Contents) (g : Grid) (option : ℤ) → IsState co
 first_state contents g option = record { has = λ e. absurd (let clash : false ≡ true = e in cc); none = λ e. refl }
 
 module _ (files : FileSet) (file : List ℕ) (g : Grid) where
-  reals_are : (anew : Bool) (before : List Dec) (left : Left) (x : List Dec × Left) → array_or (real_layer files file g.rows g.cols) anew before left ≡ Ok x → (anew ≡ false → IsReals g before) → IsReals g x.0
-  reals_are anew before left x h last = array_is (real_layer files file g.rows g.cols) (IsReals g) (λ l y k. layer_is files file g.rows g.cols l y k) anew before left x h last
+  reals_are : (anew : Bool) (before : List Dec) (left : Left) → Gives (λ x. (anew ≡ false → IsReals g before) → IsReals g x.0) (array_or (real_layer files file g.rows g.cols) anew before left)
+  reals_are = array_is (real_layer files file g.rows g.cols) (IsReals g) (layer_is files file g.rows g.cols)
 
   tested_are : (xs : List ℤ) (u : Unit {0}) → layers_tested file g xs ≡ Ok u → (i : ℕ) → i < layer_size g → is_layer g (int_at xs i) ≡ true
   unfolding layers_tested
   tested_are xs u h i lt =
       let step : layer_step file g xs i tt ≡ Ok tt = each_step (layer_step file g xs) (layer_size g) 0 h i (omega arith) (omega (arith, lt)) in
-      (if_true tt (is_layer g (int_at xs i)) (refusal_at CellOutside file g i) (Ok tt) step).0
+      let is : Gives (λ (v : Unit {0}). is_layer g (int_at xs i) ≡ true) (layer_step file g xs i tt) = if_passed (is_layer g (int_at xs i)) _ _ (λ e. done e) in
+      is.gives tt step
 
-  layers_are : (left : Left) (x : List ℤ × Left) → layers_at files file g left ≡ Ok x → AreOfGrid g x.0
+  layers_are : (left : Left) → Gives (λ x. AreOfGrid g x.0) (layers_at files file g left)
   unfolding layers_at
-  layers_are left x h =
-      let xs = goes (integer_layer files file g.rows g.cols left) _ x h in
-      let tested = goes (layers_tested file g xs.item.0) _ x xs.then_ in
-      let many = (arrays.integer_layers files file g.rows g.cols).gives left xs.item.1 xs.item.0 xs.first in
-      let is : AreOfGrid g xs.item.0 = record { whole = many; inside = tested_are xs.item.0 tested.item tested.first } in
-      ends {E = Refusal} (λ (y : List ℤ × Left). AreOfGrid g y.0) xs.item x tested.then_ is
+  layers_are left =
+      then_ _ (arrays.integer_layers files file g.rows g.cols left) (λ xs many. goes_on (layers_tested file g xs.0) _ (λ tested e. done (record { whole = many; inside = tested_are xs.0 tested e })))
 
-  layers_now : (size : HasSize g) (option : ℤ) (anew : Bool) (before : List ℤ) (left : Left) (x : List ℤ × Left) → array_or (layers_at files file g) anew before left ≡ Ok x
-      → (is_int option 2 ≡ true → anew ≡ false → AreOfGrid g before) → (is_int option 2 ≡ false → (anew ≡ false) × (before ≡ [])) → IsLayers g option x.0
-  layers_now size option anew before left x h last none =
-      let inside : is_int option 2 ≡ true → AreOfGrid g x.0 = λ e. array_is (layers_at files file g) (AreOfGrid g) layers_are anew before left x h (last e) in
-      let empty : is_int option 2 ≡ false → x.0 ≡ [] = λ e. array_kept (layers_at files file g) (λ zs. zs ≡ []) anew before left x h (none e).0 (none e).1 in
-      by_option g option x.0 size inside empty
-
-  whole_now : (anew : Bool) (before : List ℤ) (left : Left) (x : List ℤ × Left) → array_or (layers_at files file g) anew before left ≡ Ok x → (anew ≡ false → IsWhole g before) → IsWhole g x.0
-  whole_now anew before left x h last = array_is (layers_at files file g) (λ zs. IsWhole g zs) (λ l y k. (layers_are l y k).whole) anew before left x h last
+  layers_now : (size : HasSize g) (option : ℤ) (anew : Bool) (before : List ℤ) (left : Left) → (is_int option 2 ≡ true → anew ≡ false → AreOfGrid g before) → (is_int option 2 ≡ false → (anew ≡ false) × (before ≡ []))
+      → Gives (λ x. IsLayers g option x.0) (array_or (layers_at files file g) anew before left)
+  layers_now size option true before left last none =
+      weaker (layers_are left) (λ x is. by_option g option x.0 size (λ e. is) (λ e. absurd (let clash : true ≡ false = (none e).0 in cc)))
+  layers_now size option false before left last none = done (by_option g option before size (λ e. last e refl) (λ e. (none e).1))
 
   module _ (evaporates : Bool) (size : HasSize g) (option : ℤ) where
     abbrev its : Contents
     its = record { evaporates = evaporates; layered = is_int option 2 }
 
-    arrays_are : (f : Flags) (s : InForce) (left : Left) (x : Area × Left) → arrays_of files file g f s.area left ≡ Ok x → AreFlags its s.listed f → (is_int option 2 ≡ false → f.layer ≡ false) → IsState its g option s
-        → HasArrays its g option x.0
+    arrays_are : (f : Flags) (s : InForce) (left : Left) → AreFlags its s.listed f → (is_int option 2 ≡ false → f.layer ≡ false) → IsState its g option s
+        → Gives (λ x. HasArrays its g option x.0) (arrays_of files file g f s.area left)
     unfolding arrays_of
-    arrays_are f s left x h are unread so =
+    arrays_are f s left are unread so =
         let before = s.area in
-        let surfaces = goes (array_or (real_layer files file g.rows g.cols) f.surface before.surfaces left) _ x h in
-        let rates = goes (array_or (real_layer files file g.rows g.cols) f.rate before.rates surfaces.item.1) _ x surfaces.then_ in
-        let depths = goes (array_or (real_layer files file g.rows g.cols) f.depth before.depths rates.item.1) _ x rates.then_ in
-        let layers = goes (array_or (layers_at files file g) f.layer before.layers depths.item.1) _ x depths.then_ in
-        let made : Area = record { surfaces = surfaces.item.0; rates = rates.item.0; depths = depths.item.0; layers = layers.item.0 } in
-        let has : HasArrays its g option made = record {
-          arrays = is_area its g s f surfaces.item.0 rates.item.0 depths.item.0 layers.item.0 are (λ e. (so.has e).arrays)
-              (reals_are f.surface before.surfaces left surfaces.item surfaces.first)
-              (reals_are f.rate before.rates surfaces.item.1 rates.item rates.first)
-              (reals_are f.depth before.depths rates.item.1 depths.item depths.first)
-              (whole_now f.layer before.layers depths.item.1 layers.item layers.first);
-          layers = layers_now size option f.layer before.layers depths.item.1 layers.item layers.first
-              (λ e k. of_grid g option before.layers (so.has (are.layer e k)).layers e) (λ e. (unread e, so.none e));
-        } in
-        ends {E = Refusal} (λ (y : Area × Left). HasArrays its g option y.0) (made, layers.item.1) x layers.then_ has
+        then_ _ (reals_are f.surface before.surfaces left) (λ surfaces a. then_ _ (reals_are f.rate before.rates surfaces.1) (λ rates b. then_ _ (reals_are f.depth before.depths rates.1)
+        (λ depths c. then_ _ (both (array_is (layers_at files file g) (λ zs. IsWhole g zs) (λ l. weaker (layers_are l) (λ x is. is.whole)) f.layer before.layers depths.1)
+        (layers_now size option f.layer before.layers depths.1 (λ e k. of_grid g option before.layers (so.has (are.layer e k)).layers e) (λ e. (unread e, so.none e))))
+        (λ layers d. done (record { arrays = is_area its g s f surfaces.0 rates.0 depths.0 layers.0 are (λ e. (so.has e).arrays) a b c d.0; layers = d.1 })))))
 
-    pub area_is : (s : InForce × Left) (x : Area × (InForce × Left)) → area_at its files file g s ≡ Ok x → IsState its g option s.0 → HasArrays its g option x.0 × IsState its g option x.1.0
+    pub area_is : (s : InForce × Left) → IsState its g option s.0 → Gives (λ x. HasArrays its g option x.0 × IsState its g option x.1.0) (area_at its files file g s)
     unfolding area_at
-    area_is s x h so =
-        let line = goes (line_at file s.1) _ x h in
-        let flags = goes (flags_of its file line.item.0.number s.0.listed (words line.item.0.bytes)) _ x line.then_ in
-        let area = goes (arrays_of files file g flags.item s.0.area line.item.1) _ x flags.then_ in
-        let f = flags_are file line.item.0.number its s.0.listed (words line.item.0.bytes) flags.item flags.first in
-        let has = arrays_are flags.item s.0 line.item.1 area.item area.first f.0 f.1 so in
-        let now : InForce = record { listed = true; area = area.item.0 } in
-        let state : IsState its g option now = record { has = λ e. has; none = has.layers.none } in
-        ends {E = Refusal} (λ (y : Area × (InForce × Left)). HasArrays its g option y.0 × IsState its g option y.1.0) (area.item.0, (now, area.item.1)) x area.then_ (has, state)
+    area_is s so =
+        goes_on (line_at file s.1) _ (λ line e. then_ _ (flags_are file line.0.number its s.0.listed (words line.0.bytes)) (λ flags f. then_ _ (arrays_are flags s.0 line.1 f.0 f.1 so)
+        (λ area has. done (has, record { has = λ e. has; none = has.layers.none }))))

@@ -1,19 +1,17 @@
 -- A test of cells or of columns that is passed with one file's name in its refusals is passed with any other.
 use Rattle.model_forms.proofs.Common.{◌≡◌, ℕ, zero, suc, ◌+◌, ℤ, List, Option, Some, None, Result, Ok, refl, if◌then◌else◌, Code, Refusal, counted, Grid}
 use Rattle.model_forms.proofs.Common.{FlowModel, cell_count, layer_size, int_at, is_nonzero, at_cell, cell_step, checked, fault_at, Check, Area, cell_tested}
-use Rattle.model_forms.proofs.Common.{chosen_cell, column_tested, column_step, columns_tested, source, goes, ◌≤◌, pos, Bool, length, sum, sum_by, All, sym, ap}
-use Rattle.model_forms.proofs.Common.{subst, ◌∙◌, Dec, IsDec, Period, IsGrid, IsTimed, IsNewPeriod, with_properties, SameBut, Properties, Thickness, StartHead}
-use Rattle.model_forms.proofs.Common.{IsShort, IsOfBeds, IsDiscretized, HasFlow, Limits, IsGridWithin, evap_fault}
+use Rattle.model_forms.proofs.Common.{chosen_cell, column_tested, column_step, columns_tested, source, Gives, done, goes_on, ◌≤◌, pos, Bool, length, sum}
+use Rattle.model_forms.proofs.Common.{sum_by, All, sym, ap, subst, ◌∙◌, Dec, IsDec, Period, IsGrid, IsTimed, IsNewPeriod, with_properties, SameBut, Properties}
+use Rattle.model_forms.proofs.Common.{Thickness, StartHead, IsShort, IsOfBeds, IsDiscretized, HasFlow, Limits, IsGridWithin, evap_fault}
 use Rattle.cell_checks.specs.declared.passing.Check.TheVariants.{Properties as PropertyCheck}
 use Rattle.model_forms.proofs.DisForms.{HasBasics, IsStarted}
 
 -- where each step that is passed is passed otherwise too
-passed_again : (step other : ℕ → Unit {0} → Result (Unit {0}) Refusal) → ((i : ℕ) → step i tt ≡ Ok tt → other i tt ≡ Ok tt) → (n i : ℕ) → counted step i n tt ≡ Ok tt → counted other i n tt ≡ Ok tt
+passed_again : (step other : ℕ → Unit {0} → Result (Unit {0}) Refusal) → ((i : ℕ) → step i tt ≡ Ok tt → other i tt ≡ Ok tt) → (n i : ℕ) → Gives (λ u. counted other i n tt ≡ Ok tt) (counted step i n tt)
 unfolding counted
-passed_again step other again zero i h = refl
-passed_again step other again (suc n) i h =
-    let a = goes (step i tt) (counted step (i + 1) n) tt h in
-    rw (again i a.first) (passed_again step other again n (i + 1) a.then_)
+passed_again step other again zero i = done refl
+passed_again step other again (suc n) i = goes_on (step i tt) _ (λ u e. rw (again i e) (passed_again step other again n (i + 1)))
 
 cell_again : (g : Grid) (file other : List ℕ) (c : ℕ) (o : Option Code) → at_cell g file c o ≡ Ok tt → at_cell g other c o ≡ Ok tt
 cell_again g file other c None h = refl
@@ -21,7 +19,7 @@ cell_again g file other c (Some code) h = absurd cc
 
 pub checked_again : (m : FlowModel) (file other : List ℕ) (check : Check) → checked m file check ≡ Ok tt → checked m other check ≡ Ok tt
 unfolding checked
-checked_again m file other check h = passed_again (cell_step m file check) (cell_step m other check) (λ c k. cell_again m.grid file other c (fault_at check m c) k) (cell_count m.grid) 0 h
+checked_again m file other check h = (passed_again (cell_step m file check) (cell_step m other check) (λ c k. cell_again m.grid file other c (fault_at check m c) k) (cell_count m.grid) 0).gives tt h
 
 tested_again : (file other : List ℕ) (g : Grid) (c : ℕ) (o : Option Code) → cell_tested file g c o ≡ Ok tt → cell_tested other g c o ≡ Ok tt
 tested_again file other g c None h = refl
@@ -34,7 +32,7 @@ column_again file other g ibound a i (Some c) h = tested_again file other g c (i
 pub columns_again : (file other : List ℕ) (g : Grid) (ibound : List ℤ) (option : ℤ) (a : Area) → columns_tested file g ibound option a ≡ Ok tt → columns_tested other g ibound option a ≡ Ok tt
 unfolding columns_tested
 columns_again file other g ibound option a h =
-    passed_again (column_step file g ibound option a) (column_step other g ibound option a) (λ i k. column_again file other g ibound a i (chosen_cell g ibound option a.layers i) k) (layer_size g) 0 h
+    (passed_again (column_step file g ibound option a) (column_step other g ibound option a) (λ i k. column_again file other g ibound a i (chosen_cell g ibound option a.layers i) k) (layer_size g) 0).gives tt h
 
 -- What is known of a model after LPF.
 -- another model with this grid, LENUNI, and as many periods of as many steps

@@ -8,7 +8,6 @@ pub mod CheckForms
 pub mod EntryForms
 pub mod ListForms
 pub mod PeriodForms
-pub mod FlagForms
 pub mod AreaForms
 pub mod RchForms
 pub mod StageForms

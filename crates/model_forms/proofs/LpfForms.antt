@@ -1,15 +1,15 @@
 -- What a file of the layer-property flow package gives can be written.
-use Rattle.model_forms.proofs.Common.{◌≡◌, ℕ, ◌*◌, Bool, true, false, cond, List, length, All, Ok, refl, arith, IsDec, FileSet, Refusal, Left, left_from}
-use Rattle.model_forms.proofs.Common.{without_comments, free_list, number, integer, Grid, FlowModel, cell_count, layer_size, zero_list, is_transient}
-use Rattle.model_forms.proofs.Common.{contents_of, with_contents, lpf_of, SameBut, layers_of, lists, goes, ends, IsShort, HasFlow, ◌+◌, not, [], replicate}
-use Rattle.model_forms.proofs.Common.{if◌then◌else◌, All-nil, All-append, Dec, real_layer, no_number, is_positive, no_number_is, dec_at_is, layer_or}
-use Rattle.model_forms.proofs.Common.{storage_layer, properties_of, joined, nth_layer, layer_at, Properties, settings_of}
+use Rattle.model_forms.proofs.Common.{◌≡◌, ℕ, ◌*◌, Bool, true, false, cond, List, length, All, Ok, refl, arith, IsDec, FileSet, Left, left_from}
+use Rattle.model_forms.proofs.Common.{without_comments, Grid, FlowModel, cell_count, layer_size, zero_list, is_transient, contents_of, with_contents, lpf_of}
+use Rattle.model_forms.proofs.Common.{SameBut, layers_of, lists, Gives, done, goes_on, then_, IsShort, HasFlow, ◌+◌, not, [], replicate, if◌then◌else◌, All-nil}
+use Rattle.model_forms.proofs.Common.{All-append, Dec, real_layer, no_number, is_positive, no_number_is, dec_at_is, storage_layer, properties_of, nth_layer}
+use Rattle.model_forms.proofs.Common.{layer_at, Properties, settings_of}
 use Rattle.lpf_package.specs.Flow.{option_line}
 use Rattle.lpf_package.specs.declared.model.Contents.{Contents}
 use Rattle.lpf_package.specs.declared.settings.Settings.{Settings}
-use Rattle.model_forms.proofs.GridForms.{of_beds, layer_is, layer_or_is, IsBedLayer}
+use Rattle.model_forms.proofs.GridForms.{layer_is, layer_or_is, IsBedLayer}
 use Rattle.lpf_package.specs.declared.layer.Layer.{Layer}
-use Rattle.model_forms.proofs.Parts.{all_counted, one_more, AreLayers, no_layers, one_more_layer}
+use Rattle.model_forms.proofs.Parts.{counted_gives, one_more, AreLayers, no_layers, one_more_layer}
 
 -- What is read of the properties of layers.
 -- the properties of one layer of this many cells
@@ -22,35 +22,20 @@ record IsLayer (cells : ℕ) (x : Layer) (p : Properties) : Type 0 where
   pub bed : x.has_bed ≡ false → p.vkcb ≡ replicate cells no_number
 
 module _ (files : FileSet) (file : List ℕ) where
-  storage_by : (stores : Bool) (rows cols : ℕ) (left : Left) (y : List Dec × Left) → (if stores then real_layer files file rows cols left else Ok ([], left)) ≡ Ok y
-      → (length y.0 ≡ cond stores (rows * cols) 0) × All IsDec y.0
-  storage_by true rows cols left y h = layer_is files file rows cols left y h
-  storage_by false rows cols left y h = ends {E = Refusal} (λ (z : List Dec × Left). (length z.0 ≡ 0) × All IsDec z.0) ([], left) y h (refl, All-nil IsDec)
+  storage_by : (stores : Bool) (rows cols : ℕ) (left : Left) → Gives (λ y. (length y.0 ≡ cond stores (rows * cols) 0) × All IsDec y.0) (if stores then real_layer files file rows cols left else Ok ([], left))
+  storage_by true rows cols left = layer_is files file rows cols left
+  storage_by false rows cols left = done (refl, All-nil IsDec)
 
-  storage_is : (x : Layer) (left : Left) (y : List Dec × Left) → storage_layer files file x left ≡ Ok y → (length y.0 ≡ cond x.stores (x.rows * x.cols) 0) × All IsDec y.0
+  storage_is : (x : Layer) (left : Left) → Gives (λ y. (length y.0 ≡ cond x.stores (x.rows * x.cols) 0) × All IsDec y.0) (storage_layer files file x left)
   unfolding storage_layer
-  storage_is x left y h = storage_by x.stores x.rows x.cols left y h
+  storage_is x left = storage_by x.stores x.rows x.cols left
 
-  properties_are : (x : Layer) (left : Left) (y : Properties × Left) → IsDec x.chani → properties_of files file x left ≡ Ok y → IsLayer (x.rows * x.cols) x y.0
+  properties_are : (x : Layer) (left : Left) → IsDec x.chani → Gives (λ y. IsLayer (x.rows * x.cols) x y.0) (properties_of files file x left)
   unfolding properties_of
-  properties_are x left y chani h =
-      let hk = goes (real_layer files file x.rows x.cols left) _ y h in
-      let hani = goes (layer_or files file x.rows x.cols (not (is_positive x.chani)) x.chani hk.item.1) _ y hk.then_ in
-      let vka = goes (real_layer files file x.rows x.cols hani.item.1) _ y hani.then_ in
-      let ss = goes (storage_layer files file x vka.item.1) _ y vka.then_ in
-      let vkcb = goes (layer_or files file x.rows x.cols x.has_bed no_number ss.item.1) _ y ss.then_ in
-      let b = layer_or_is files file x.rows x.cols (not (is_positive x.chani)) x.chani hk.item.1 hani.item chani hani.first in
-      let e = layer_or_is files file x.rows x.cols x.has_bed no_number ss.item.1 vkcb.item no_number_is vkcb.first in
-      let made : Properties = record { hk = hk.item.0; hani = hani.item.0; vka = vka.item.0; ss = ss.item.0; vkcb = vkcb.item.0 } in
-      let is : IsLayer (x.rows * x.cols) x made = record {
-        hk = layer_is files file x.rows x.cols left hk.item hk.first;
-        hani = (b.0, b.1);
-        vka = layer_is files file x.rows x.cols hani.item.1 vka.item vka.first;
-        ss = storage_is x vka.item.1 ss.item ss.first;
-        vkcb = (e.0, e.1);
-        bed = e.2;
-      } in
-      ends {E = Refusal} (λ (z : Properties × Left). IsLayer (x.rows * x.cols) x z.0) (made, vkcb.item.1) y vkcb.then_ is
+  properties_are x left chani =
+      then_ _ (layer_is files file x.rows x.cols left) (λ hk a. then_ _ (layer_or_is files file x.rows x.cols (not (is_positive x.chani)) x.chani hk.1 chani)
+      (λ hani b. then_ _ (layer_is files file x.rows x.cols hani.1) (λ vka c. then_ _ (storage_is x vka.1) (λ ss d. then_ _ (layer_or_is files file x.rows x.cols x.has_bed no_number ss.1 no_number_is)
+      (λ vkcb e. done (record { hk = a; hani = (b.0, b.1); vka = c; ss = d; vkcb = (e.0, e.1); bed = e.2 }))))))
 
 -- the properties of i layers
 pub record AreProperties (g : Grid) (stores : Bool) (i : ℕ) (p : Properties) : Type 0 where
@@ -65,34 +50,29 @@ module _ (files : FileSet) (file : List ℕ) (g : Grid) (chani : List Dec) (stor
   abbrev Are : ℕ → Properties × Left → Type 0
   Are i s = AreProperties g stores i s.0
 
-  one_layer : (i : ℕ) (s t : Properties × Left) → layer_at files file g chani stores i s ≡ Ok t → Are i s → Are (i + 1) t
+  one_layer : (i : ℕ) (s : Properties × Left) → Are i s → Gives (Are (i + 1)) (layer_at files file g chani stores i s)
   unfolding layer_at
-  one_layer i s t h so =
-      let x = goes (properties_of files file (nth_layer g chani stores i) s.1) _ t h in
-      let p = properties_are files file (nth_layer g chani stores i) s.1 x.item (dec_at_is chani i decimals) x.first in
-      let is : AreProperties g stores (i + 1) (joined s.0 x.item.0) = record {
-        hk = one_more IsDec (layer_size g) i s.0.hk x.item.0.hk so.hk p.hk;
-        hani = one_more IsDec (layer_size g) i s.0.hani x.item.0.hani so.hani p.hani;
-        vka = one_more IsDec (layer_size g) i s.0.vka x.item.0.vka so.vka p.vka;
-        ss = one_more IsDec (cond stores (layer_size g) 0) i s.0.ss x.item.0.ss so.ss p.ss;
-        vkcb = All-append IsDec s.0.vkcb x.item.0.vkcb so.vkcb p.vkcb.1;
-        beds = one_more_layer (layer_size g) (IsBedLayer g.laycbd (layer_size g)) i s.0.vkcb x.item.0.vkcb so.beds p.vkcb.0 p.bed;
-      } in
-      ends {E = Refusal} (λ (y : Properties × Left). Are (i + 1) y) (joined s.0 x.item.0, x.item.1) t x.then_ is
+  one_layer i s so =
+      then_ _ (properties_are files file (nth_layer g chani stores i) s.1 (dec_at_is chani i decimals)) (λ x p. done (record {
+        hk = one_more IsDec (layer_size g) i s.0.hk x.0.hk so.hk p.hk;
+        hani = one_more IsDec (layer_size g) i s.0.hani x.0.hani so.hani p.hani;
+        vka = one_more IsDec (layer_size g) i s.0.vka x.0.vka so.vka p.vka;
+        ss = one_more IsDec (cond stores (layer_size g) 0) i s.0.ss x.0.ss so.ss p.ss;
+        vkcb = All-append IsDec s.0.vkcb x.0.vkcb so.vkcb p.vkcb.1;
+        beds = one_more_layer (layer_size g) (IsBedLayer g.laycbd (layer_size g)) i s.0.vkcb x.0.vkcb so.beds p.vkcb.0 p.bed;
+      }))
 
-  pub layers_are : (count : ℕ) (left : Left) (x : Properties × Left) → layers_of files file g chani stores count left ≡ Ok x → AreProperties g stores count x.0
+  pub layers_are : (count : ℕ) (left : Left) → Gives (Are count) (layers_of files file g chani stores count left)
   unfolding layers_of
-  layers_are count left x h =
-      let none : Properties = record { hk = []; hani = []; vka = []; ss = []; vkcb = [] } in
-      let start : AreProperties g stores 0 none = record {
+  layers_are count left =
+      counted_gives (layer_at files file g chani stores) Are one_layer count _ (record {
         hk = (omega arith, All-nil IsDec);
         hani = (omega arith, All-nil IsDec);
         vka = (omega arith, All-nil IsDec);
         ss = (omega arith, All-nil IsDec);
         vkcb = All-nil IsDec;
         beds = no_layers (layer_size g) (IsBedLayer g.laycbd (layer_size g));
-      } in
-      all_counted {E = Refusal} (layer_at files file g chani stores) Are one_layer count (none, left) x h start
+      })
 
 -- by layer: CHANI and LAYVKA
 record AreSettings (layers : ℕ) (s : Settings) : Type 0 where
@@ -109,31 +89,17 @@ stored g true n h = h
 stored g false n h = omega (arith, h)
 
 module _ (files : FileSet) (file : List ℕ) where
-  settings_are : (layers : ℕ) (left : Left) (x : Settings × Left) → settings_of file layers left ≡ Ok x → AreSettings layers x.0
+  settings_are : (layers : ℕ) (left : Left) → Gives (λ x. AreSettings layers x.0) (settings_of file layers left)
   unfolding settings_of
-  settings_are layers left x h =
-      let laytyp = goes (zero_list file layers left) _ x h in
-      let layavg = goes (zero_list file layers laytyp.item.1) _ x laytyp.then_ in
-      let chani = goes (free_list number file layers layavg.item.1) _ x layavg.then_ in
-      let layvka = goes (free_list integer file layers chani.item.1) _ x chani.then_ in
-      let laywet = goes (zero_list file layers layvka.item.1) _ x layvka.then_ in
-      let a = (lists.numbers file layers).gives layavg.item.1 chani.item.1 chani.item.0 chani.first in
-      let b = (lists.integers file layers).gives chani.item.1 layvka.item.1 layvka.item.0 layvka.first in
-      let made : Settings = record { chani = chani.item.0; layvka = layvka.item.0 } in
-      let are : AreSettings layers made = record { chani = a.1; layvka = b } in
-      ends {E = Refusal} (λ (y : Settings × Left). AreSettings layers y.0) (made, laywet.item.1) x laywet.then_ are
+  settings_are layers left =
+      goes_on (zero_list file layers left) _ (λ laytyp a. goes_on (zero_list file layers laytyp.1) _ (λ layavg b. then_ _ (lists.numbers file layers layavg.1)
+      (λ chani c. then_ _ (lists.integers file layers chani.1) (λ layvka d. goes_on (zero_list file layers layvka.1) _ (λ laywet e. done (record { chani = c.1; layvka = d }))))))
 
-  contents_are : (bytes : List ℕ) (g : Grid) (stores : Bool) (c : Contents) → contents_of files file bytes g stores ≡ Ok c → AreContents g stores c
+  contents_are : (bytes : List ℕ) (g : Grid) (stores : Bool) → Gives (AreContents g stores) (contents_of files file bytes g stores)
   unfolding contents_of
-  contents_are bytes g stores c h =
-      let coefficient = goes (option_line file (without_comments (left_from 1 bytes))) _ c h in
-      let settings = goes (settings_of file g.layers coefficient.item.1) _ c coefficient.then_ in
-      let layers = goes (layers_of files file g settings.item.0.chani stores g.layers settings.item.1) _ c settings.then_ in
-      let s = settings_are g.layers coefficient.item.1 settings.item settings.first in
-      let p = layers_are files file g settings.item.0.chani stores s.chani g.layers settings.item.1 layers.item layers.first in
-      let made : Contents = record { coefficient = coefficient.item.0; layvka = settings.item.0.layvka; properties = layers.item.0 } in
-      let are : AreContents g stores made = record { layvka = s.layvka; properties = p } in
-      ends {E = Refusal} (λ (y : Contents). AreContents g stores y) made c layers.then_ are
+  contents_are bytes g stores =
+      goes_on (option_line file (without_comments (left_from 1 bytes))) _ (λ coefficient e. then_ _ (settings_are g.layers coefficient.1)
+      (λ settings s. then_ _ (layers_are files file g settings.0.chani stores s.chani g.layers settings.1) (λ layers p. done (record { layvka = s.layvka; properties = p }))))
 
   has_flow : (m : FlowModel) (c : Contents) → AreContents m.grid (is_transient m.periods) c → HasFlow (with_contents m c)
   has_flow m c are = record {
@@ -143,12 +109,9 @@ module _ (files : FileSet) (file : List ℕ) where
     vka = are.properties.vka;
     ss = (stored m.grid (is_transient m.periods) (length c.properties.ss) are.properties.ss.0, are.properties.ss.1);
     vkcb = (are.properties.beds.count, are.properties.vkcb);
-    beds = of_beds m.grid c.properties.vkcb are.properties.beds;
+    beds = are.properties.beds.each;
   }
 
-  pub lpf_is : (bytes : List ℕ) (m n : FlowModel) → lpf_of files file bytes m ≡ Ok n → HasFlow n × SameBut m n
+  pub lpf_is : (bytes : List ℕ) (m : FlowModel) → Gives (λ n. HasFlow n × SameBut m n) (lpf_of files file bytes m)
   unfolding lpf_of
-  lpf_is bytes m n h =
-      let c = goes (contents_of files file bytes m.grid (is_transient m.periods)) _ n h in
-      let are = contents_are bytes m.grid (is_transient m.periods) c.item c.first in
-      ends {E = Refusal} (λ (y : FlowModel). HasFlow y × SameBut m y) (with_contents m c.item) n c.then_ (has_flow m c.item are, refl)
+  lpf_is bytes m = then_ _ (contents_are bytes m.grid (is_transient m.periods)) (λ c are. done (has_flow m c are, refl))

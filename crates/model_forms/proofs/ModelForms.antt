@@ -1,11 +1,10 @@
 -- A model that is read is writable.
 use Rattle.model_forms.proofs.Common.{pos, negsuc, nat_abs, ◌<◌, ◌^◌, arith, ◌≡◌, ◌⊎◌, inl, inr, ℕ, ℤ, Bool, not, ◌||◌, cond, List, [], ◌∷◌, map, sum, sum_by}
-use Rattle.model_forms.proofs.Common.{All, Ok, refl, sym, ap, subst, ◌∙◌, list_any, All-weaker, sum-map, FileSet, file_at, Refusal, Pairs, Dis, Bas, Lpf}
-use Rattle.model_forms.proofs.Common.{FlowModel, Period, cell_count, HasSize, IsTimed, bas_of, is_transient, lpf_of, SameBut, checked, fault_at, Check}
-use Rattle.model_forms.proofs.Common.{Thickness, StartHead, steps, same_count, same_view, dis_in, basics_tested, bas_in, lpf_in, model_of, reads, goes, ends}
-use Rattle.model_forms.proofs.Common.{IsShort, HasFlow, IsRecharged, IsEvaporating, IsDry, IsStill, HasNoRecharge, HasNoEvaporation, IsWritable, Limits}
-use Rattle.model_forms.proofs.Common.{good_names, model_reads, most_bytes, names_in, needed, Wells, Rivers, Drains, Generals, deck_name, deck_names}
-use Rattle.model_forms.proofs.Common.{IsReadAgain}
+use Rattle.model_forms.proofs.Common.{All, Ok, refl, sym, ap, subst, ◌∙◌, list_any, All-weaker, sum-map, FileSet, file_at, Pairs, Dis, Bas, Lpf, FlowModel}
+use Rattle.model_forms.proofs.Common.{Period, cell_count, IsTimed, is_transient, SameBut, checked, fault_at, Check, Thickness, StartHead, steps, same_count}
+use Rattle.model_forms.proofs.Common.{same_view, dis_in, basics_tested, bas_in, lpf_in, model_of, reads, Gives, done, goes_on, then_, weaker, IsShort, HasFlow}
+use Rattle.model_forms.proofs.Common.{IsRecharged, IsEvaporating, IsDry, IsStill, HasNoRecharge, HasNoEvaporation, IsWritable, Limits, good_names, model_reads}
+use Rattle.model_forms.proofs.Common.{most_bytes, names_in, needed, Wells, Rivers, Drains, Generals, deck_name, deck_names, IsReadAgain}
 use Rattle.cell_checks.specs.declared.passing.Check.TheVariants.{Properties as PropertyCheck}
 use Rattle.model_forms.proofs.DisForms.{HasBasics, bas_is, IsStarted, dis_is}
 use Rattle.model_forms.proofs.LpfForms.{lpf_is}
@@ -113,66 +112,48 @@ below_word (pos n) h = omega (arith, h.few)
 below_word (negsuc n) h = omega (arith, h.few)
 
 module _ (limits : Limits) (files : FileSet) where
-  begun_is : (dis : List ℕ) (m : FlowModel) → dis_in limits files dis ≡ Ok m → IsStarted limits m
+  begun_is : (dis : List ℕ) → Gives (IsStarted limits) (dis_in limits files dis)
   unfolding dis_in
-  begun_is dis m h =
-      let bytes = goes (file_at files dis) _ m h in
-      dis_is limits files dis bytes.item m bytes.then_
+  begun_is dis = goes_on (file_at files dis) _ (λ bytes e. dis_is limits files dis bytes)
 
-  both_tested : (dis bas : List ℕ) (basic : FlowModel) (u : Unit {0}) → basics_tested dis bas basic ≡ Ok u → (checked basic dis Thickness ≡ Ok tt) × (checked basic bas StartHead ≡ Ok tt)
+  both_tested : (dis bas : List ℕ) (basic : FlowModel) → Gives (λ u. (checked basic dis Thickness ≡ Ok tt) × (checked basic bas StartHead ≡ Ok tt)) (basics_tested dis bas basic)
   unfolding basics_tested
-  both_tested dis bas basic u h =
-      let thick = goes (checked basic dis Thickness) _ u h in
-      (thick.first, thick.then_)
+  both_tested dis bas basic = goes_on (checked basic dis Thickness) _ (λ thick a. record { gives = λ u b. (a, b) })
 
-  basic_is : (dis bas : List ℕ) (begun basic : FlowModel) → bas_in files dis bas begun ≡ Ok basic → IsTested dis bas begun basic
+  basic_is : (dis bas : List ℕ) (begun : FlowModel) → Gives (IsTested dis bas begun) (bas_in files dis bas begun)
   unfolding bas_in
-  basic_is dis bas begun basic h =
-      let bytes = goes (file_at files bas) _ basic h in
-      let read = goes (bas_of files bas bytes.item begun) _ basic bytes.then_ in
-      let tested = goes (basics_tested dis bas read.item) _ basic read.then_ in
-      let both = both_tested dis bas read.item tested.item tested.first in
-      let is : IsTested dis bas begun read.item = record { basics = bas_is files bas bytes.item begun read.item read.first; thick = both.0; heads = both.1 } in
-      ends {E = Refusal} (λ (y : FlowModel). IsTested dis bas begun y) read.item basic tested.then_ is
+  basic_is dis bas begun =
+      goes_on (file_at files bas) _ (λ bytes e. then_ _ (bas_is files bas bytes begun) (λ basic is. then_ _ (both_tested dis bas basic)
+      (λ tested both. done (record { basics = is; thick = both.0; heads = both.1 }))))
 
-  lpf_read : (lpf : List ℕ) (basic flow : FlowModel) → lpf_in files lpf basic ≡ Ok flow → HasFlow flow × SameBut basic flow × (checked flow lpf PropertyCheck ≡ Ok tt)
+  lpf_read : (lpf : List ℕ) (basic : FlowModel) → Gives (λ flow. HasFlow flow × SameBut basic flow × (checked flow lpf PropertyCheck ≡ Ok tt)) (lpf_in files lpf basic)
   unfolding lpf_in
-  lpf_read lpf basic flow h =
-      let bytes = goes (file_at files lpf) _ flow h in
-      let read = goes (lpf_of files lpf bytes.item basic) _ flow bytes.then_ in
-      let good = goes (checked read.item lpf PropertyCheck) _ flow read.then_ in
-      let is = lpf_is files lpf bytes.item basic read.item read.first in
-      ends {E = Refusal} (λ (y : FlowModel). HasFlow y × SameBut basic y × (checked y lpf PropertyCheck ≡ Ok tt)) read.item flow good.then_ (is.0, is.1, good.first)
+  lpf_read lpf basic =
+      goes_on (file_at files lpf) _ (λ bytes a. then_ _ (lpf_is files lpf bytes basic) (λ flow is. goes_on (checked flow lpf PropertyCheck) _ (λ good b. done (is.0, is.1, b))))
 
-  model_is : (names : Pairs) (m : FlowModel) → model_of limits files names ≡ Ok m → IsRead limits m
+  model_is : (names : Pairs) → Gives (IsRead limits) (model_of limits files names)
   unfolding model_of
-  model_is names m h =
-      let begun = goes (dis_in limits files (needed Dis names)) _ m h in
-      let basic = goes (bas_in files (needed Dis names) (needed Bas names) begun.item) _ m begun.then_ in
-      let flow = goes (lpf_in files (needed Lpf names) basic.item) _ m basic.then_ in
-      let a = begun_is (needed Dis names) begun.item begun.first in
-      let b = basic_is (needed Dis names) (needed Bas names) begun.item basic.item basic.first in
-      let d = lpf_read (needed Lpf names) basic.item flow.item flow.first in
-      let f = flow_is limits begun.item basic.item flow.item (needed Dis names) (needed Bas names) (needed Lpf names) a b.basics d.0 d.1 b.thick b.heads d.2 in
-      let stage = first_stage limits flow.item f.options.0 f.options.1 f.new in
-      let size : HasSize flow.item.grid = f.discretized.grid.size in
-      record { core = flow.item; flow = f; stressed = stresses_are limits flow.item size files names m stage flow.then_ }
+  model_is names =
+      let dis = needed Dis names in
+      let bas = needed Bas names in
+      let lpf = needed Lpf names in
+      then_ _ (begun_is dis) (λ begun a. then_ _ (basic_is dis bas begun) (λ basic b. then_ _ (lpf_read lpf basic) (λ flow c.
+      let f = flow_is limits begun basic flow dis bas lpf a b.basics c.0 c.1 b.thick b.heads c.2 in
+      weaker (stresses_are limits flow f.discretized.grid.size files names (first_stage limits flow f.options.0 f.options.1 f.new)) (λ m s. record { core = flow; flow = f; stressed = s }))))
 
-  read_is : (name : List ℕ) (m : FlowModel) → reads limits files name ≡ Ok m → IsRead limits m
+  read_is : (name : List ℕ) → Gives (IsRead limits) (reads limits files name)
   unfolding reads
-  read_is name m h =
-      let names = goes (names_in files name) _ m h in
-      model_is names.item m names.then_
+  read_is name = goes_on (names_in files name) _ (λ names e. model_is names)
 
   pub read_writable : (name : List ℕ) (m : FlowModel) → reads limits files name ≡ Ok m → All IsShort m.ibound → IsWritable limits m
   read_writable name m h short =
-      let r = read_is name m h in
+      let r = (read_is name).gives m h in
       stressed_writable limits r.core m r.flow r.stressed short
 
   -- the unit of length of a model that is read is a word of 64 bits
   pub unit_is_short : (name : List ℕ) (m : FlowModel) → reads limits files name ≡ Ok m → nat_abs m.lenuni < 2 ^ 64
   unit_is_short name m h =
-      let r = read_is name m h in
+      let r = (read_is name).gives m h in
       let same : m.lenuni ≡ r.core.lenuni = ap (λ (n : FlowModel). n.lenuni) r.stressed.stage.is in
       subst (λ (z : ℤ). nat_abs z < 2 ^ 64) (sym same) (below_word r.core.lenuni r.flow.discretized.lenuni)
 

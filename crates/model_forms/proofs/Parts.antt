@@ -1,35 +1,19 @@
--- Parts of a reading that gives something: tests that were passed, counted steps, and lists of layers.
-use Rattle.model_forms.proofs.Common.{◌≡◌, ◌⊎◌, inl, inr, ℕ, zero, suc, ◌+◌, ◌-◌, ◌*◌, ◌<◌, ◌≤◌, Bool, true, false, List, [], ◌++◌, length, take, drop, All}
-use Rattle.model_forms.proofs.Common.{Result, Ok, Err, refl, subst, arith, if◌then◌else◌, cases_lt, length-append, length-drop, take-append-le, drop-append-le}
-use Rattle.model_forms.proofs.Common.{take_all, drop_at, All-append, counted, clash, goes, ends}
+-- Counted steps, and lists of layers.
+use Rattle.model_forms.proofs.Common.{◌≡◌, ◌⊎◌, inl, inr, ℕ, zero, suc, ◌+◌, ◌-◌, ◌*◌, ◌<◌, ◌≤◌, List, [], ◌++◌, length, take, drop, All, Result, refl, arith}
+use Rattle.model_forms.proofs.Common.{cases_lt, length-append, length-drop, take-append-le, drop-append-le, take_all, drop_at, All-append, counted, Gives, done}
+use Rattle.model_forms.proofs.Common.{then_}
 use Rattle.std.proofs.Math.Nat.{mul-le-mul_right}
 
--- a test that was passed
-pub if_true : {B E : Type 0} (y : B) (b : Bool) (e : E) (r : Result B E) → (if b then r else Err e) ≡ Ok y → (b ≡ true) × (r ≡ Ok y)
-if_true y true e r h = (refl, h)
-if_true {B = B} {E = E} y false e r h = absurd (clash {B = B} {E = E} e y (Err e) refl h)
-
--- a fault that was not found
-pub if_false : {B E : Type 0} (y : B) (b : Bool) (e : E) (r : Result B E) → (if b then Err e else r) ≡ Ok y → (b ≡ false) × (r ≡ Ok y)
-if_false {B = B} {E = E} y true e r h = absurd (clash {B = B} {E = E} e y (Err e) refl h)
-if_false y false e r h = (refl, h)
-
-module _ {S E : Type 0} (step : ℕ → S → Result S E) (I : ℕ → S → Type 0) (each : (i : ℕ) (s t : S) → step i s ≡ Ok t → I i s → I (i + 1) t) where
-  pub counted_are : (n i : ℕ) (s t : S) → counted step i n s ≡ Ok t → I i s → I (i + n) t
+module _ {S E : Type 0} (step : ℕ → S → Result S E) (I : ℕ → S → Type 0) (each : (i : ℕ) (s : S) → I i s → Gives (I (i + 1)) (step i s)) where
+  steps_give : (n i : ℕ) (s : S) → I i s → Gives (I (i + n)) (counted step i n s)
   unfolding counted
-  counted_are zero i s t h start =
-      let e : i ≡ i + 0 = omega arith in
-      ends {E = E} (λ (x : S). I (i + 0) x) s t h (subst (λ (k : ℕ). I k s) e start)
-  counted_are (suc n) i s t h start =
-      let a = goes (step i s) (counted step (i + 1) n) t h in
-      let rest : I ((i + 1) + n) t = counted_are n (i + 1) a.item t a.then_ (each i s a.item a.first start) in
-      let e : (i + 1) + n ≡ i + suc n = omega arith in
-      subst (λ (k : ℕ). I k t) e rest
+  steps_give zero i s start = let e : i + 0 ≡ i = omega arith in done (rw e start)
+  steps_give (suc n) i s start =
+      let e : i + suc n ≡ (i + 1) + n = omega arith in
+      rw e (then_ _ (each i s start) (λ t so. steps_give n (i + 1) t so))
 
-  pub all_counted : (n : ℕ) (s t : S) → counted step 0 n s ≡ Ok t → I 0 s → I n t
-  all_counted n s t h start =
-      let e : 0 + n ≡ n = omega arith in
-      subst (λ (k : ℕ). I k t) e (counted_are n 0 s t h start)
+  pub counted_gives : (n : ℕ) (s : S) → I 0 s → Gives (I n) (counted step 0 n s)
+  counted_gives n s start = let e : 0 + n ≡ n = omega arith in rw e at (steps_give n 0 s start)
 
 -- this many values of this form, layer after layer
 pub one_more : {X : Type 0} (P : X → Type 0) (n i : ℕ) (xs ys : List X) → (length xs ≡ i * n) × All P xs → (length ys ≡ n) × All P ys → (length (xs ++ ys) ≡ (i + 1) * n) × All P (xs ++ ys)

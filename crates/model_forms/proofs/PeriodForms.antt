@@ -1,8 +1,8 @@
 -- What is known of the stress periods of a model while its packages of stresses are read.
 use Rattle.model_forms.proofs.Common.{◌≡◌, ◌⊎◌, inl, inr, ℕ, ℤ, pos, true, false, List, [], ◌∷◌, map, All, Result, Ok, refl, ◌∙◌, All-nil, All-cons, All-head}
 use Rattle.model_forms.proofs.Common.{All-tail, Refusal, for_each, Grid, FlowModel, Period, cell_count, IsTimed, IsGrowing, number_one, given_heads, Kind}
-use Rattle.model_forms.proofs.Common.{subst, sym, with_list, steps, wells, rivers, drains, generals, is_option, IsReals, columns_tested, area_in, goes, ends}
-use Rattle.model_forms.proofs.Common.{IsListOf, IsLayers, Limits, entries_in, kind_of, ListKind, Wells, Rivers, Drains, Generals, Stresses, with_entries}
+use Rattle.model_forms.proofs.Common.{subst, sym, with_list, steps, wells, rivers, drains, generals, is_option, IsReals, columns_tested, area_in, Gives, done}
+use Rattle.model_forms.proofs.Common.{then_, IsListOf, IsLayers, Limits, entries_in, kind_of, ListKind, Wells, Rivers, Drains, Generals, Stresses, with_entries}
 use Rattle.model_types.specs.declared.entry.Entry.{Entry}
 use Rattle.model_types.specs.declared.entry.Given.{Given}
 
@@ -42,17 +42,13 @@ cons_same : {A : Type 0} (x y : A) (xs ys : List A) → x ≡ y → xs ≡ ys �
 cons_same x y xs ys e f = cc
 
 module _ {S : Type 0} (read : Period → S → Result (Period × S) Refusal) (I : S → Type 0) (P Q : Period → Type 0)
-    (step : (p : Period) (s : S) (x : Period × S) → read p s ≡ Ok x → I s → P p → Q x.0 × I x.1 × (steps x.0 ≡ steps p)) where
-  pub each_are : (ps : List Period) (s : S) (x : List Period × S) → for_each read ps s ≡ Ok x → I s → All P ps → All Q x.0 × (map steps x.0 ≡ map steps ps)
+    (step : (p : Period) (s : S) → I s → P p → Gives (λ x. Q x.0 × I x.1 × (steps x.0 ≡ steps p)) (read p s)) where
+  pub each_are : (ps : List Period) (s : S) → I s → All P ps → Gives (λ x. All Q x.0 × (map steps x.0 ≡ map steps ps)) (for_each read ps s)
   unfolding for_each
-  each_are [] s x h good all = ends {E = Refusal} (λ (y : List Period × S). All Q y.0 × (map steps y.0 ≡ [])) ([], s) x h (All-nil Q, refl)
-  each_are (p ∷ ps) s x h good all =
-      let a = goes (read p s) _ x h in
-      let b = goes (for_each read ps a.item.1) _ x a.then_ in
-      let one = step p s a.item a.first good (All-head P p ps all) in
-      let rest = each_are ps a.item.1 b.item b.first one.1 (All-tail P p ps all) in
-      ends {E = Refusal} (λ (y : List Period × S). All Q y.0 × (map steps y.0 ≡ map steps (p ∷ ps))) (a.item.0 ∷ b.item.0, b.item.1) x b.then_
-      (All-cons Q a.item.0 b.item.0 one.0 rest.0, cons_same (steps a.item.0) (steps p) (map steps b.item.0) (map steps ps) one.2 rest.1)
+  each_are [] s good all = done (All-nil Q, refl)
+  each_are (p ∷ ps) s good all =
+      then_ _ (step p s good (All-head P p ps all)) (λ x one. then_ _ (each_are ps x.1 one.1 (All-tail P p ps all))
+      (λ more rest. done (All-cons Q x.0 more.0 one.0 rest.0, cons_same (steps x.0) (steps p) (map steps more.0) (map steps ps) one.2 rest.1)))
 
 module _ (p : Period) (s : Stresses) where
   grown : (p.tsmult ≡ number_one) ⊎ IsGrowing p → (p.tsmult ≡ number_one) ⊎ IsGrowing (record p { stresses = s })

@@ -1,15 +1,14 @@
 -- What a file of RCH or of EVT gives.
-use Rattle.model_forms.proofs.Common.{◌≡◌, ℕ, ℤ, pos, true, List, Ok, refl, subst, FileSet, Grid, FlowModel, Period, HasSize, is_option, Area, Limits}
+use Rattle.model_forms.proofs.Common.{◌≡◌, ℕ, ℤ, pos, true, List, Ok, refl, sym, subst, FileSet, Grid, FlowModel, Period, HasSize, is_option, Area, Limits}
 use Rattle.model_forms.proofs.Common.{evaporation_arrays, evt_of, IsListOf, cell_count, Stresses, entries_in, kind_of, ListKind, Wells, recharge_arrays, rch_of}
-use Rattle.model_forms.proofs.Common.{map, All, words, Refusal, Left, left_from, without_comments, for_each, item_line, steps, area_at, nothing_yet, option_at}
-use Rattle.model_forms.proofs.Common.{InForce, goes, ends, ◌∙◌, ◌>>=◌}
+use Rattle.model_forms.proofs.Common.{map, All, words, Left, left_from, without_comments, item_line, steps, nothing_yet, InForce, Gives, done, goes_on, then_}
+use Rattle.model_forms.proofs.Common.{◌∙◌, ◌>>=◌}
 use Rattle.period_arrays.specs.Kinds.{with_area, ArrayKind, contents}
 use Rattle.model_forms.proofs.CheckForms.{columns_again}
 use Rattle.model_forms.proofs.PeriodForms.{IsKnown, IsStage, no_option, with_stresses, each_are}
 use Rattle.period_arrays.specs.Packages.{tested_area, period_at, unit_if, option_line, arrays_in, periods_of}
 use Rattle.period_arrays.specs.declared.read.ArrayFile.{ArrayFile}
-use Rattle.model_forms.proofs.AreaForms.{HasArrays, IsState, first_state, area_is}
-use Rattle.model_forms.proofs.FlagForms.{option_is}
+use Rattle.model_forms.proofs.AreaForms.{HasArrays, IsState, first_state, area_is, option_is}
 
 -- What a file of a package of arrays gives.
 -- an option from 1 to 3, and periods with arrays by it
@@ -29,50 +28,29 @@ module _ (kind : ArrayKind) (files : FileSet) (file : List ℕ) (g : Grid) (size
     abbrev State : InForce × Left → Type 0
     State s = IsState (contents kind option) g option s.0
 
-    tested_is : (s : InForce × Left) (x : Area × (InForce × Left)) → tested_area kind files file g ibound option s ≡ Ok x → State s → IsTested kind file g ibound option x.0 × State x.1
+    tested_is : (s : InForce × Left) → State s → Gives (λ x. IsTested kind file g ibound option x.0 × State x.1) (tested_area kind files file g ibound option s)
     unfolding tested_area
-    tested_is s x h so =
-        let area = goes (area_at (contents kind option) files file g s) _ x h in
-        let test = goes (kind.test file g ibound option area.item.0) _ x area.then_ in
-        let is = area_is files file g kind.evaporates size option s area.item area.first so in
-        let tested : IsTested kind file g ibound option area.item.0 = record { has = is.0; passed = test.first } in
-        ends {E = Refusal} (λ (y : Area × (InForce × Left)). IsTested kind file g ibound option y.0 × State y.1) area.item x test.then_ (tested, is.1)
+    tested_is s so =
+        then_ _ (area_is files file g kind.evaporates size option s so) (λ area is. goes_on (kind.test file g ibound option area.0) _ (λ test e. done (record { has = is.0; passed = e }, is.1)))
 
-    period_is : (p : Period) (s : InForce × Left) (x : Period × (InForce × Left)) → period_at kind files file g ibound option p s ≡ Ok x → State s → P p → Q option x.0 × State x.1 × (steps x.0 ≡ steps p)
+    period_is : (p : Period) (s : InForce × Left) → State s → P p → Gives (λ x. Q option x.0 × State x.1 × (steps x.0 ≡ steps p)) (period_at kind files file g ibound option p s)
     unfolding period_at
-    period_is p s x h so known =
-        let area = goes (tested_area kind files file g ibound option s) _ x h in
-        let is = tested_is s area.item area.first so in
-        ends {E = Refusal} (λ (y : Period × (InForce × Left)). Q option y.0 × State y.1 × (steps y.0 ≡ steps p)) (with_area kind p area.item.0, area.item.1) x area.then_
-        (put option active p area.item.0 known is.0, is.1, refl)
+    period_is p s so known = then_ _ (tested_is s so) (λ area is. done (put option active p area.0 known is.0, is.1, refl))
 
-    periods_are : (ps qs : List Period) (left : Left) → periods_of kind files file g ibound option ps left ≡ Ok qs → All P ps → All (Q option) qs × (map steps qs ≡ map steps ps)
+    periods_are : (ps : List Period) (left : Left) → All P ps → Gives (λ qs. All (Q option) qs × (map steps qs ≡ map steps ps)) (periods_of kind files file g ibound option ps left)
     unfolding periods_of
-    periods_are ps qs left h all =
-        let x = goes (for_each (period_at kind files file g ibound option) ps (nothing_yet, left)) _ qs h in
-        let start : State (nothing_yet, left) = first_state (contents kind option) g option in
-        let are = each_are (period_at kind files file g ibound option) State P (Q option) period_is ps (nothing_yet, left) x.item x.first start all in
-        ends {E = Refusal} (λ (y : List Period). All (Q option) y × (map steps y ≡ map steps ps)) x.item.0 qs x.then_ are
+    periods_are ps left all =
+        then_ _ (each_are (period_at kind files file g ibound option) State P (Q option) period_is ps (nothing_yet, left) (first_state (contents kind option) g option) all) (λ x are. done are)
 
-  line_is : (left : Left) (x : ℤ × Left) → option_line kind file left ≡ Ok x → is_option x.0 ≡ true
+  line_is : (left : Left) → Gives (λ x. is_option x.0 ≡ true) (option_line kind file left)
   unfolding option_line
-  line_is left x h =
-      let line = goes (item_line file left) _ x h in
-      let option = goes (option_at file line.item.0.number (words line.item.0.bytes)) _ x line.then_ in
-      let unit = goes (unit_if kind.evaporates file line.item.0.number option.item.1) _ x option.then_ in
-      let active = option_is file line.item.0.number (words line.item.0.bytes) option.item option.first in
-      ends {E = Refusal} (λ (y : ℤ × Left). is_option y.0 ≡ true) (option.item.0, line.item.1) x unit.then_ active
+  line_is left =
+      goes_on (item_line file left) _ (λ line a. then_ _ (option_is file line.0.number (words line.0.bytes)) (λ option active. goes_on (unit_if kind.evaporates file line.0.number option.1) _ (λ unit b. done active)))
 
-  pub arrays_are_read : (bytes : List ℕ) (ps : List Period) (a : ArrayFile) → arrays_in kind files file bytes g ibound ps ≡ Ok a → All P ps → AreRead Q ps a
+  pub arrays_are_read : (bytes : List ℕ) (ps : List Period) → All P ps → Gives (AreRead Q ps) (arrays_in kind files file bytes g ibound ps)
   unfolding arrays_in
-  arrays_are_read bytes ps a h all =
-      let option = goes (option_line kind file (without_comments (left_from 1 bytes))) _ a h in
-      let qs = goes (periods_of kind files file g ibound option.item.0 ps option.item.1) _ a option.then_ in
-      let active = line_is (without_comments (left_from 1 bytes)) option.item option.first in
-      let are = periods_are option.item.0 active ps qs.item option.item.1 qs.first all in
-      let made : ArrayFile = record { option = option.item.0; periods = qs.item } in
-      let is : AreRead Q ps made = record { active = active; each = are.0; same = are.1 } in
-      ends {E = Refusal} (λ (y : ArrayFile). AreRead Q ps y) made a qs.then_ is
+  arrays_are_read bytes ps all =
+      then_ _ (line_is (without_comments (left_from 1 bytes))) (λ option active. then_ _ (periods_are option.0 active ps option.1 all) (λ qs are. done (record { active = active; each = are.0; same = are.1 })))
 
 -- a model with the arrays of a file by its option, on which NRCHOP and NEVTOP depend so
 pub record HasOption (limits : Limits) (core : FlowModel) (rain air : ℤ → ℤ) (n : FlowModel) : Type 0 where
@@ -88,13 +66,11 @@ module _ (limits : Limits) (kind : ArrayKind) (files : FileSet) (file bytes : Li
   at_stage option ps = record core { nrchop = rain option; nevtop = air option; periods = ps }
 
   pub package_is : ((option : ℤ) → is_option option ≡ true → (p : Period) (a : Area) → Known (pos 0) p → IsTested kind file core.grid core.ibound option a → Known option (with_area kind p a))
-      → (ps : List Period) (n : FlowModel) → All (Known (pos 0)) ps → map steps ps ≡ map steps core.periods
-      → (arrays_in kind files file bytes core.grid core.ibound ps >>= λ a. Ok (at_stage a.option a.periods)) ≡ Ok n → HasOption limits core rain air n
-  package_is put ps n all same h =
-      let a = goes (arrays_in kind files file bytes core.grid core.ibound ps) _ n h in
-      let are = arrays_are_read kind files file core.grid size core.ibound (Known (pos 0)) Known put bytes ps a.item a.first all in
-      let is : HasOption limits core rain air (at_stage a.item.option a.item.periods) = record { option = a.item.option; active = are.active; stage = record { is = refl; same = are.same ∙ same; each = are.each } } in
-      ends {E = Refusal} (λ (y : FlowModel). HasOption limits core rain air y) (at_stage a.item.option a.item.periods) n a.then_ is
+      → (ps : List Period) → All (Known (pos 0)) ps → map steps ps ≡ map steps core.periods
+      → Gives (HasOption limits core rain air) (arrays_in kind files file bytes core.grid core.ibound ps >>= λ a. Ok (at_stage a.option a.periods))
+  package_is put ps all same =
+      then_ _ (arrays_are_read kind files file core.grid size core.ibound (Known (pos 0)) Known put bytes ps all)
+      (λ a are. done (record { option = a.option; active = are.active; stage = record { is = refl; same = are.same ∙ same; each = are.each } }))
 
 module _ (limits : Limits) (file : List ℕ) (g : Grid) (ibound : List ℤ) (p : Period) (a : Area) where
   abbrev IsList : ListKind → Stresses → Type 0
@@ -131,14 +107,14 @@ module _ (limits : Limits) (file : List ℕ) (g : Grid) (ibound : List ℤ) (p :
   })
 
 module _ (limits : Limits) (files : FileSet) (file bytes : List ℕ) (core : FlowModel) (size : HasSize core.grid) where
-  pub rch_is : (m n : FlowModel) → IsStage limits core (pos 0) (pos 0) m → rch_of files file bytes m ≡ Ok n → HasOption limits core (λ z. z) (λ z. pos 0) n
+  pub rch_is : (m : FlowModel) → IsStage limits core (pos 0) (pos 0) m → Gives (HasOption limits core (λ z. z) (λ z. pos 0)) (rch_of files file bytes m)
   unfolding rch_of
-  rch_is m n stage h =
-      let there : rch_of files file bytes (record core { nrchop = pos 0; nevtop = pos 0; periods = m.periods }) ≡ Ok n = subst (λ (x : FlowModel). rch_of files file bytes x ≡ Ok n) stage.is h in
-      package_is limits recharge_arrays files file bytes core size (λ z. z) (λ z. pos 0) (λ z active p a. recharged limits file core.grid core.ibound p a z active) m.periods n stage.each stage.same there
+  rch_is m stage =
+      subst (λ (x : FlowModel). Gives (HasOption limits core (λ z. z) (λ z. pos 0)) (rch_of files file bytes x)) (sym stage.is)
+      (package_is limits recharge_arrays files file bytes core size (λ z. z) (λ z. pos 0) (λ z active p a. recharged limits file core.grid core.ibound p a z active) m.periods stage.each stage.same)
 
-  pub evt_is : (nrchop : ℤ) (m n : FlowModel) → IsStage limits core nrchop (pos 0) m → evt_of files file bytes m ≡ Ok n → HasOption limits core (λ z. nrchop) (λ z. z) n
+  pub evt_is : (nrchop : ℤ) (m : FlowModel) → IsStage limits core nrchop (pos 0) m → Gives (HasOption limits core (λ z. nrchop) (λ z. z)) (evt_of files file bytes m)
   unfolding evt_of
-  evt_is nrchop m n stage h =
-      let there : evt_of files file bytes (record core { nrchop = nrchop; nevtop = pos 0; periods = m.periods }) ≡ Ok n = subst (λ (x : FlowModel). evt_of files file bytes x ≡ Ok n) stage.is h in
-      package_is limits evaporation_arrays files file bytes core size (λ z. nrchop) (λ z. z) (λ z active p a. evaporating limits file core.grid core.ibound p a nrchop z active) m.periods n stage.each stage.same there
+  evt_is nrchop m stage =
+      subst (λ (x : FlowModel). Gives (HasOption limits core (λ z. nrchop) (λ z. z)) (evt_of files file bytes x)) (sym stage.is)
+      (package_is limits evaporation_arrays files file bytes core size (λ z. nrchop) (λ z. z) (λ z active p a. evaporating limits file core.grid core.ibound p a nrchop z active) m.periods stage.each stage.same)

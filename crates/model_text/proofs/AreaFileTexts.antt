@@ -1,17 +1,18 @@
 -- The files of RCH and EVT are read as written.
-use Rattle.model_text.proofs.Common.{◌≡◌, ℕ, ℤ, Bool, true, false, if◌then◌else◌, List, [], ◌∷◌, ◌++◌, append_assoc, length, All, Ok, refl, arith, codes}
-use Rattle.model_text.proofs.Common.{All-head, All-tail, Dec, FileSet, next_number, for_each, Grid, HasSize, is_int, real_layer, area_at, array_or, arrays_of}
-use Rattle.model_text.proofs.Common.{nothing_yet, flags_of, is_option, IsReals, integer_word, Line, IsLine, line_text, text, number_after, unread, real_array}
-use Rattle.model_text.proofs.Common.{line_by_test, IsEvaporating, IsLayers, IsRecharged, with_areas, flat_map, append-nil, FlowModel, Period, item_line}
-use Rattle.model_text.proofs.Common.{ArrayKind, with_area, recharge_arrays, rch_of, area_in, evaporation_arrays, evt_of, line_words, next_line, rch_item_2}
-use Rattle.model_text.proofs.Common.{rch_items, rch_lines, evt_item_2, evt_items, evt_lines}
+use Rattle.model_text.proofs.Common.{◌≡◌, ℕ, ℤ, Bool, true, false, if◌then◌else◌, List, [], ◌∷◌, ◌++◌, length, All, Ok, refl, arith, codes, All-head, All-tail}
+use Rattle.model_text.proofs.Common.{Dec, FileSet, Grid, HasSize, is_int, real_layer, area_at, array_or, arrays_of, nothing_yet, flags_of, is_option, IsReals}
+use Rattle.model_text.proofs.Common.{integer_word, Line, IsLine, text, real_array, line_by_test, IsEvaporating, IsLayers, IsRecharged, with_areas, flat_map}
+use Rattle.model_text.proofs.Common.{FlowModel, Period, AllZip, ArrayKind, with_area, recharge_arrays, rch_of, area_in, evaporation_arrays, evt_of, rch_item_2}
+use Rattle.model_text.proofs.Common.{rch_items, rch_lines, evt_item_2, evt_items, evt_lines, contents, Takes, takes_none, takes_where, then_takes, last_takes}
+use Rattle.model_text.proofs.Common.{line_takes}
 use Rattle.model_text.proofs.FrameTexts.{zero_item}
-use Rattle.model_text.proofs.DisTexts.{AreLines, no_lines, one_line, joined, file_begins, line_is_item}
+use Rattle.model_text.proofs.DisTexts.{line_is_item}
 use Rattle.period_arrays.specs.Packages.{arrays_in, option_line, period_at, periods_of, tested_area, unit_if}
 use Rattle.period_arrays.specs.declared.area.Area.{Area}
 use Rattle.period_arrays.specs.declared.area.InForce.{InForce}
-use Rattle.model_text.proofs.GridTexts.{number_after-append}
-use Rattle.model_text.proofs.AreaTexts.{flag_reads, flag_if_reads, option_reads, option_is_short, option_is_item, option_is_line, layers_lines, layers_are_lines, reals_are_lines, reals_read, layers_read}
+use Rattle.model_text.proofs.GridTexts.{reals_take}
+use Rattle.model_text.proofs.FileTakes.{item_takes, file_takes, each_takes}
+use Rattle.model_text.proofs.AreaTexts.{flag_reads, flag_if_reads, option_reads, option_is_short, option_is_item, option_is_line, layers_lines, layers_take}
 
 -- each array is read anew
 abbrev flags : Bool → Line
@@ -36,12 +37,6 @@ flags_read file line false layered listed = rw (flag_reads file line listed (cod
 unit_reads : (file : List ℕ) (line : ℕ) (evaporates : Bool) → unit_if evaporates file line (codes "0" ∷ []) ≡ Ok tt
 unit_reads file line true = rw (zero_item file line []) refl
 unit_reads file line false = refl
-
-after_four : (a b c d others : List Line) → (a ++ (b ++ (c ++ d))) ++ others ≡ a ++ (b ++ (c ++ (d ++ others)))
-after_four a b c d others = rw (append_assoc a (b ++ (c ++ d)) others, append_assoc b (c ++ d) others, append_assoc c d others) refl
-
-number_after_four : (n : ℕ) (a b c d : List Line) → number_after n (a ++ (b ++ (c ++ d))) ≡ number_after (number_after (number_after (number_after n a) b) c) d
-number_after_four n a b c d = rw (number_after-append n a (b ++ (c ++ d)), number_after-append (number_after n a) b (c ++ d), number_after-append (number_after (number_after n a) b) c d) refl
 
 -- arrays that can be written
 record IsWritable (kind : ArrayKind) (file : List ℕ) (g : Grid) (ibound : List ℤ) (option : ℤ) (a : Area) : Type 0 where
@@ -78,113 +73,62 @@ module _ (kind : ArrayKind) (files : FileSet) (file : List ℕ) (g : Grid) (size
   lacks_now : (p : Period) → CanWrite p → Lacks kind option (now p)
   lacks_now p good = record { surfaces = good.no_surfaces; depths = good.no_depths; layers = good.layers.none }
 
-  reals_if_read : (present : Bool) (xs : List Dec) → (present ≡ false → xs ≡ []) → (present ≡ true → IsReals g xs) → (last : List Dec) → (present ≡ false → last ≡ []) → (n : ℕ) (others : List Line)
-      → array_or (real_layer files file g.rows g.cols) present last (unread n (reals_if present xs ++ others)) ≡ Ok (xs, unread (number_after n (reals_if present xs)) others)
-  unfolding number_after
-  reals_if_read true xs empty whole last none n others = reals_read files file g size xs (whole refl) last n others
-  reals_if_read false xs empty whole last none n others = rw (none refl, empty refl) refl
+  reals_if_take : (present : Bool) (xs : List Dec) → (present ≡ false → xs ≡ []) → (present ≡ true → IsReals g xs) → (last : List Dec) → (present ≡ false → last ≡ [])
+      → Takes (array_or (real_layer files file g.rows g.cols) present last) (reals_if present xs) (λ left. (xs, left))
+  reals_if_take present xs empty whole last none = takes_where present (λ e. reals_take files file g size xs (whole e)) (λ e. rw (none e, empty e) takes_none)
 
-  reals_if_are_lines : (present : Bool) (xs : List Dec) → (present ≡ true → IsReals g xs) → AreLines (reals_if present xs)
-  reals_if_are_lines true xs whole = reals_are_lines g xs size (whole refl)
-  reals_if_are_lines false xs whole = no_lines
+  module _ (before p : Period) (last : InForce) (h : CanWrite p) (lacks : Lacks kind option last) where
+    abbrev a : Area
+    a = kind.area p.stresses
 
-  arrays_are_read : (a : Area) → IsWritable kind file g ibound option a → (last : InForce) → Lacks kind option last → (n : ℕ) (others : List Line)
-      → arrays_of files file g (record { surface = kind.evaporates; rate = true; depth = kind.evaporates; layer = is_int option 2 }) last.area
-      (unread n (reals_if kind.evaporates a.surfaces ++ (real_array g.rows g.cols a.rates ++ (reals_if kind.evaporates a.depths ++ (layers_lines g option a.layers ++ others)))))
-      ≡ Ok (a, unread (number_after (number_after (number_after (number_after n (reals_if kind.evaporates a.surfaces)) (real_array g.rows g.cols a.rates)) (reals_if kind.evaporates a.depths)) (layers_lines g option a.layers)) others)
-  unfolding arrays_of
-  arrays_are_read a good last lacks n others =
-      let surfaces = reals_if kind.evaporates a.surfaces in
-      let rates = real_array g.rows g.cols a.rates in
-      let depths = reals_if kind.evaporates a.depths in
-      let layers = layers_lines g option a.layers in
-      let second = number_after n surfaces in
-      let third = number_after second rates in
-      let fourth = number_after third depths in
-      rw (
-        reals_if_read kind.evaporates a.surfaces good.no_surfaces good.surfaces last.area.surfaces lacks.surfaces n (rates ++ (depths ++ (layers ++ others))),
-        reals_read files file g size a.rates good.rates last.area.rates second (depths ++ (layers ++ others)),
-        reals_if_read kind.evaporates a.depths good.no_depths good.depths last.area.depths lacks.depths third (layers ++ others),
-        layers_read files file g size option a.layers good.layers last.area.layers lacks.layers fourth others,
-      ) refl
+    arrays_take : Takes (arrays_of files file g (record { surface = kind.evaporates; rate = true; depth = kind.evaporates; layer = is_int option 2 }) last.area) (array_lines a) (λ left. (a, left))
+    unfolding arrays_of
+    arrays_take =
+        then_takes _ (reals_if_take kind.evaporates a.surfaces h.no_surfaces h.surfaces last.area.surfaces lacks.surfaces) (then_takes _ (reals_take files file g size a.rates h.rates)
+        (then_takes _ (reals_if_take kind.evaporates a.depths h.no_depths h.depths last.area.depths lacks.depths)
+        (last_takes _ (layers_take files file g size option a.layers h.layers last.area.layers lacks.layers) (λ left. refl))))
 
-  period_reads : (before p : Period) → CanWrite p → (last : InForce) → Lacks kind option last → (n : ℕ) (others : List Line)
-      → period_at kind files file g ibound option before (last, unread n (items p ++ others)) ≡ Ok (with_area kind before (kind.area p.stresses), (now p, unread (number_after n (items p)) others))
-  unfolding period_at tested_area area_at number_after
-  period_reads before p good last lacks n others =
-      let a = kind.area p.stresses in
-      let surfaces = reals_if kind.evaporates a.surfaces in
-      let rates = real_array g.rows g.cols a.rates in
-      let depths = reals_if kind.evaporates a.depths in
-      let layers = layers_lines g option a.layers in
-      rw (
-        next_line file n (flags kind.evaporates) (array_lines a ++ others),
-        line_words (flags kind.evaporates) (flags_are_line kind.evaporates).words,
-        flags_read file n kind.evaporates (is_int option 2) last.listed,
-        after_four surfaces rates depths layers others,
-        arrays_are_read a good last lacks (next_number n) others,
-        good.passed,
-        number_after_four (next_number n) surfaces rates depths layers,
-      ) refl
+    area_takes : Takes (λ left. area_at (contents kind option) files file g (last, left)) (items p) (λ left. (a, (now p, left)))
+    unfolding area_at
+    area_takes = line_takes _ file (flags_are_line kind.evaporates) (λ n e. rw (e, flags_read file n kind.evaporates (is_int option 2) last.listed) (last_takes _ arrays_take (λ left. refl)))
 
-  abbrev last_after : InForce → List Period → InForce
-  last_after last [] = last
-  last_after last (p ∷ ps) = last_after (now p) ps
+    tested_takes : Takes (λ left. tested_area kind files file g ibound option (last, left)) (items p) (λ left. (a, (now p, left)))
+    unfolding tested_area
+    tested_takes = last_takes _ area_takes (λ left. rw h.passed refl)
 
-  each_reads : (before ps : List Period) → length before ≡ length ps → All (λ p. CanWrite p) ps → (last : InForce) → Lacks kind option last → (n : ℕ) (others : List Line)
-      → for_each (period_at kind files file g ibound option) before (last, unread n (flat_map items ps ++ others))
-      ≡ Ok (with_areas kind before ps, (last_after last ps, unread (number_after n (flat_map items ps)) others))
-  unfolding for_each number_after
-  each_reads [] [] e good last lacks n others = refl
-  each_reads [] (p ∷ ps) e good last lacks n others = absurd (omega arith)
-  each_reads (b ∷ before) [] e good last lacks n others = absurd (omega arith)
-  each_reads (b ∷ before) (p ∷ ps) e good last lacks n others =
-      let tail = flat_map items ps in
-      let first = All-head (λ q. CanWrite q) p ps good in
-      rw (
-        append_assoc (items p) tail others,
-        period_reads b p first last lacks n (tail ++ others),
-        each_reads before ps (omega arith) (All-tail (λ q. CanWrite q) p ps good) (now p) (lacks_now p first) (number_after n (items p)) others,
-        number_after-append n (items p) tail,
-      ) refl
+    period_takes : Takes (λ left. period_at kind files file g ibound option before (last, left)) (items p) (λ left. (with_area kind before a, (now p, left)))
+    unfolding period_at
+    period_takes = last_takes _ tested_takes (λ left. refl)
 
-  items_are_lines : (ps : List Period) → All (λ p. CanWrite p) ps → AreLines (flat_map items ps)
-  items_are_lines [] good = no_lines
-  items_are_lines (p ∷ ps) good =
-      let a = kind.area p.stresses in
-      let first = All-head (λ q. CanWrite q) p ps good in
-      let depths = joined (reals_if_are_lines kind.evaporates a.depths first.depths) (layers_are_lines g option a.layers size first.layers) in
-      let arrays = joined (reals_if_are_lines kind.evaporates a.surfaces first.surfaces) (joined (reals_are_lines g a.rates size first.rates) depths) in
-      one_line (flags_are_line kind.evaporates) (joined arrays (items_are_lines ps (All-tail (λ q. CanWrite q) p ps good)))
+  zipped : (before ps : List Period) → length before ≡ length ps → All (λ p. CanWrite p) ps → AllZip (λ b p. CanWrite p) before ps
+  zipped [] [] e can = tt
+  zipped [] (p ∷ ps) e can = absurd (omega arith)
+  zipped (b ∷ before) [] e can = absurd (omega arith)
+  zipped (b ∷ before) (p ∷ ps) e can = (All-head (λ q. CanWrite q) p ps can, zipped before ps (omega arith) (All-tail (λ q. CanWrite q) p ps can))
+
+  periods_take : (before ps : List Period) → length before ≡ length ps → All (λ p. CanWrite p) ps → Takes (periods_of kind files file g ibound option before) (flat_map items ps) (λ left. with_areas kind before ps)
+  unfolding periods_of
+  periods_take before ps e can =
+      last_takes _ (each_takes (period_at kind files file g ibound option) items (λ b p. with_area kind b (kind.area p.stresses)) (λ s p. now p) (λ b p. CanWrite p) (Lacks kind option)
+      (λ b p s h lacks. period_takes b p s h lacks) (λ b p s h. lacks_now p h) (with_areas kind) refl (λ b p bs ps. refl) before ps (zipped before ps e can) nothing_yet
+      (record { surfaces = λ f. refl; depths = λ f. refl; layers = λ f. refl }))
+      (λ left. refl)
 
   abbrev head : Line
   head = integer_word option ∷ codes "0" ∷ []
 
-  head_line : (n : ℕ) (others : List Line) → item_line file (unread n (head ∷ others)) ≡ Ok (record { number = n; bytes = line_text head }, unread (next_number n) others)
-  unfolding item_line
-  head_line n others = rw (next_line file n head others, line_words head (option_is_line option good).words, (option_is_item option good).2) refl
-
-  head_reads : (n : ℕ) (others : List Line) → option_line kind file (unread n (head ∷ others)) ≡ Ok (option, unread (next_number n) others)
+  head_takes : Takes (option_line kind file) (head ∷ []) (λ left. (option, left))
   unfolding option_line
-  head_reads n others =
-      rw (
-        head_line n others,
-        line_words head (option_is_line option good).words,
-        option_reads file n option (codes "0" ∷ []) (option_is_short option good) good,
-        unit_reads file n kind.evaporates,
-      ) refl
+  head_takes =
+      item_takes _ file (option_is_line option good) (option_is_item option good).2
+      (λ n e. rw (e, option_reads file n option (codes "0" ∷ []) (option_is_short option good) good, unit_reads file n kind.evaporates) takes_none)
 
   arrays_read : (before ps : List Period) → length before ≡ length ps → All (λ p. CanWrite p) ps
       → arrays_in kind files file (text (head ∷ flat_map items ps)) g ibound before ≡ Ok (record { option = option; periods = with_areas kind before ps })
-  unfolding arrays_in periods_of
+  unfolding arrays_in
   arrays_read before ps e can =
-      let tail = flat_map items ps in
-      let whole : AreLines (head ∷ tail) = one_line (option_is_line option good) (items_are_lines ps can) in
-      let start = file_begins head tail whole.all (let k = option_is_item option good in line_is_item (integer_word option) (codes "0" ∷ []) k.0 k.1) in
-      let end : tail ++ [] ≡ tail = append-nil tail in
-      let none : Lacks kind option nothing_yet = record { surfaces = λ f. refl; depths = λ f. refl; layers = λ f. refl } in
-      let each = rw end at (each_reads before ps e can nothing_yet none (next_number 1) []) in
-      rw (start, head_reads 1 tail, each) refl
+      let k = option_is_item option good in
+      file_takes _ (line_is_item (integer_word option) (codes "0" ∷ []) k.0 k.1) head_takes (last_takes _ (periods_take before ps e can) (λ left. refl))
 
 module _ (files : FileSet) (file : List ℕ) (m : FlowModel) (size : HasSize m.grid) where
   rain_is_writable : IsRecharged m → (ibound : List ℤ) → All (λ p. IsWritable recharge_arrays file m.grid ibound m.nrchop (recharge_arrays.area p.stresses)) m.periods

@@ -1,11 +1,11 @@
 -- Flags, arrays of one layer, and arrays of layers are read as written.
-use Rattle.model_text.proofs.Common.{◌≡◌, ℕ, zero, suc, ◌+◌, ◌^◌, ◌<◌, ◌≤◌, Bool, true, false, ◌&&◌, nat_lt, nat_le, if◌then◌else◌, List, [], ◌∷◌, ◌++◌, length}
-use Rattle.model_text.proofs.Common.{drop, All, Ok, refl, arith, ℤ, pos, negsuc, codes, All-from_recursion, Dec, FileSet, is_comment, counted, Grid, HasSize}
-use Rattle.model_text.proofs.Common.{is_int, real_layer, array_or, flag_at, flag_if, is_option, option_at, IsReals, IsWhole, IsShort, IsWord, integer_word}
-use Rattle.model_text.proofs.Common.{Line, IsLine, number_after, unread, real_array, integer_array, integer_is_word, word_by_test, IsLayers, nat_tests, is_word}
-use Rattle.model_text.proofs.Common.{number_at, integer, layer_size, int_at, arrays, are_lines, digits_spell, is_layer, layer_step, layers_tested, layers_at}
+use Rattle.model_text.proofs.Common.{◌≡◌, ℕ, zero, suc, ◌+◌, ◌^◌, ◌<◌, ◌≤◌, Bool, true, false, ◌&&◌, nat_lt, nat_le, if◌then◌else◌, List, [], ◌∷◌, length, drop}
+use Rattle.model_text.proofs.Common.{All, Ok, refl, arith, ℤ, pos, negsuc, codes, All-from_recursion, FileSet, is_comment, counted, Grid, HasSize, is_int}
+use Rattle.model_text.proofs.Common.{array_or, flag_at, flag_if, is_option, option_at, IsWhole, IsShort, IsWord, integer_word, Line, IsLine, integer_array}
+use Rattle.model_text.proofs.Common.{integer_is_word, word_by_test, IsLayers, nat_tests, is_word, number_at, integer, layer_size, int_at, arrays, digits_spell}
+use Rattle.model_text.proofs.Common.{is_layer, layer_step, layers_tested, layers_at, Takes, takes_none, takes_where, last_takes}
 use Rattle.model_text.proofs.FrameTexts.{integer_item, no_keyword}
-use Rattle.model_text.proofs.DisTexts.{AreLines, no_lines, decimal_is_item}
+use Rattle.model_text.proofs.DisTexts.{decimal_is_item}
 
 one_item : (file : List ℕ) (line : ℕ) (ws : Line) → number_at integer file line (codes "1" ∷ ws) ≡ Ok (pos 1, ws)
 unfolding number_at integer
@@ -56,21 +56,7 @@ pub flag_if_reads : (file : List ℕ) (line : ℕ) (present listed : Bool) → f
 flag_if_reads file line true listed = flag_reads file line listed []
 flag_if_reads file line false listed = refl
 
-pub layers_are_lines : (g : Grid) (option : ℤ) (xs : List ℤ) → HasSize g → IsLayers g option xs → AreLines (layers_lines g option xs)
-layers_are_lines g option xs size h = by_case (is_int option 2) h.whole
-  where
-    by_case : (b : Bool) → (b ≡ true → IsWhole g xs) → AreLines (if b then integer_array g.rows g.cols xs else [])
-    by_case true whole = record { all = are_lines.integer_layers g.rows g.cols xs size.cols.0 (whole refl) h.short }
-    by_case false whole = no_lines
-
-pub reals_are_lines : (g : Grid) (xs : List Dec) → HasSize g → IsReals g xs → AreLines (real_array g.rows g.cols xs)
-reals_are_lines g xs size h = record { all = are_lines.layers g.rows g.cols xs size.cols.0 h.0 h.1 }
-
 module _ (files : FileSet) (file : List ℕ) (g : Grid) (size : HasSize g) where
-  pub reals_read : (xs : List Dec) → IsReals g xs → (last : List Dec) (n : ℕ) (others : List Line)
-      → array_or (real_layer files file g.rows g.cols) true last (unread n (real_array g.rows g.cols xs ++ others)) ≡ Ok (xs, unread (number_after n (real_array g.rows g.cols xs)) others)
-  reals_read xs h last n others = (arrays.layers files file g.rows g.cols xs size.cols.0 h.0 h.1).reads n others
-
   tests_pass : (xs : List ℤ) → ((i : ℕ) → i < layer_size g → is_layer g (int_at xs i) ≡ true) → (count i : ℕ) → i + count ≡ layer_size g → counted (layer_step file g xs) i count tt ≡ Ok tt
   unfolding counted
   tests_pass xs h zero i e = refl
@@ -84,20 +70,14 @@ module _ (files : FileSet) (file : List ℕ) (g : Grid) (size : HasSize g) where
   unfolding layers_tested
   layers_pass xs h = tests_pass xs h (layer_size g) 0 (omega arith)
 
-  layers_anew : (xs : List ℤ) → IsWhole g xs → All (λ z. IsShort z) xs → ((i : ℕ) → i < layer_size g → is_layer g (int_at xs i) ≡ true) → (n : ℕ) (others : List Line)
-      → layers_at files file g (unread n (integer_array g.rows g.cols xs ++ others)) ≡ Ok (xs, unread (number_after n (integer_array g.rows g.cols xs)) others)
+  layers_anew : (xs : List ℤ) → IsWhole g xs → All (λ z. IsShort z) xs → ((i : ℕ) → i < layer_size g → is_layer g (int_at xs i) ≡ true)
+      → Takes (layers_at files file g) (integer_array g.rows g.cols xs) (λ left. (xs, left))
   unfolding layers_at
-  layers_anew xs whole short good n others = rw ((arrays.integer_layers files file g.rows g.cols xs size.cols.0 whole short).reads n others, layers_pass xs good) refl
-
-  layers_by : (b : Bool) (xs : List ℤ) → (b ≡ false → xs ≡ []) → (b ≡ true → IsWhole g xs) → All (λ z. IsShort z) xs → (b ≡ true → (i : ℕ) → i < layer_size g → is_layer g (int_at xs i) ≡ true)
-      → (last : List ℤ) → (b ≡ false → last ≡ []) → (n : ℕ) (others : List Line)
-      → array_or (layers_at files file g) b last (unread n ((if b then integer_array g.rows g.cols xs else []) ++ others))
-      ≡ Ok (xs, unread (number_after n (if b then integer_array g.rows g.cols xs else [])) others)
-  unfolding number_after
-  layers_by true xs empty whole short good last none n others = layers_anew xs (whole refl) short (good refl) n others
-  layers_by false xs empty whole short good last none n others = rw (none refl, empty refl) refl
+  layers_anew xs whole short good =
+      last_takes _ (arrays.integer_layers files file g.rows g.cols xs size.cols.0 whole short)
+      (λ left. rw (layers_pass xs good) refl)
 
   -- an array of layers, which a period has under option 2
-  pub layers_read : (option : ℤ) (xs : List ℤ) → IsLayers g option xs → (last : List ℤ) → (is_int option 2 ≡ false → last ≡ []) → (n : ℕ) (others : List Line)
-      → array_or (layers_at files file g) (is_int option 2) last (unread n (layers_lines g option xs ++ others)) ≡ Ok (xs, unread (number_after n (layers_lines g option xs)) others)
-  layers_read option xs h last none n others = layers_by (is_int option 2) xs h.none h.whole h.short h.layers last none n others
+  pub layers_take : (option : ℤ) (xs : List ℤ) → IsLayers g option xs → (last : List ℤ) → (is_int option 2 ≡ false → last ≡ [])
+      → Takes (array_or (layers_at files file g) (is_int option 2) last) (layers_lines g option xs) (λ left. (xs, left))
+  layers_take option xs h last none = takes_where (is_int option 2) (λ e. layers_anew xs (h.whole e) h.short (h.layers e)) (λ e. rw (none e, h.none e) takes_none)

@@ -16,14 +16,15 @@ unfoldable pub use Rattle.array_reader.specs.Arrays.{integer_layer, layer_or, la
 unfoldable pub use Rattle.array_reader.specs.Control.{number_at}
 pub use Rattle.array_reader.specs.Numbers.{real}
 unfoldable pub use Rattle.array_reader.specs.Numbers.{canonical, integer, number, significant, zeros}
-pub use Rattle.array_text.proofs.ArrayTexts.{are_lines, array_reads, arrays, free_lists, integer_written, real_one, reals_written}
+pub use Rattle.array_text.proofs.ArrayTexts.{array_takes, arrays, free_lists, integer_written, real_one, reals_written}
 pub use Rattle.array_text.proofs.DigitTexts.{digits_spell}
 pub use Rattle.array_text.proofs.FreeTexts.{IsWrittenAs, alone_begins, free_list_reads, last_word, line_begins, on_line, row_is_words, same_start, value_reads}
 pub use Rattle.array_text.proofs.FreeTexts.{values_read}
 pub use Rattle.array_text.proofs.LineTexts.{line_words, next_line, text_left}
 pub use Rattle.array_text.proofs.NumberTexts.{integer_reads, number_reads, one, short_exponent}
+pub use Rattle.array_text.proofs.Takes.{counted_take, last_takes, line_takes, one_line, takes_none, takes_where, then_takes}
 pub use Rattle.array_text.proofs.WordTexts.{count_is_word, integer_is_word, line_by_test, number_is_word, word_by_test}
-pub use Rattle.array_text.specs.Lines.{IsLine, IsShort, IsWord, IsWordByte, Line, Reads, integer_array, number_word, text}
+pub use Rattle.array_text.specs.Lines.{IsLine, IsShort, IsWord, IsWordByte, Line, Takes, integer_array, number_word, text}
 unfoldable pub use Rattle.array_text.specs.Lines.{integer_word, line_text, number_after, numbered_lines, real_array, row_line, unread}
 pub use Rattle.bas_package.specs.Basics.{with_basics}
 unfoldable pub use Rattle.bas_package.specs.Basics.{bas_of, basics_of, head_item}
@@ -41,7 +42,7 @@ pub use Rattle.list_package.specs.Entries.{given_heads, is_left_out, no_marks}
 unfoldable pub use Rattle.list_package.specs.Entries.{cell_at, entry_at, entry_of, new_list}
 pub use Rattle.list_package.specs.Headers.{entries}
 unfoldable pub use Rattle.list_package.specs.Headers.{header_of, item_line}
-pub use Rattle.list_package.specs.Kinds.{Kind, first_fault}
+pub use Rattle.list_package.specs.Kinds.{Kind, first_fault, with_list}
 unfoldable pub use Rattle.list_package.specs.Lists.{list_at, lists_of}
 pub use Rattle.lpf_package.specs.Flow.{is_transient, nth_layer, with_properties}
 unfoldable pub use Rattle.lpf_package.specs.Flow.{contents_of, layer_at, layers_of, lpf_of, properties_of, settings_of, storage_layer}
@@ -69,7 +70,6 @@ pub use Rattle.model_types.specs.Layers.{dec_at, int_at, is_nonzero, no_number}
 pub use Rattle.model_types.specs.Limits.{most_cells, most_entries, most_in_row, most_layers}
 pub use Rattle.model_types.specs.Receivers.{is_int}
 pub use Rattle.model_types.specs.Sources.{cell_of}
-pub use Rattle.model_types.specs.Valid.{IsGrowing, IsTimed, number_one}
 pub use Rattle.model_types.specs.declared.grid.CellId.{CellId}
 pub use Rattle.model_types.specs.declared.grid.Grid.{Grid}
 pub use Rattle.model_types.specs.declared.limits.Limits.{Limits}
@@ -84,16 +84,17 @@ pub use Rattle.number_limits.specs.Magnitudes.{is_one, is_positive, within}
 unfoldable pub use Rattle.number_limits.specs.Magnitudes.{is_at_least, is_at_most}
 pub use Rattle.outside.specs.Files.{File, FileSet, bytes_under, with_limit}
 pub use Rattle.outside.specs.Inputs.{file_at}
-pub use Rattle.outside.specs.Names.{folder_name}
+pub use Rattle.outside.specs.Names.{folder_name, words}
 unfoldable pub use Rattle.outside.specs.Names.{is_good_name}
 pub use Rattle.outside.specs.declared.inputs.Refusal.{Refusal}
 pub use Rattle.period_arrays.specs.Areas.{array_or, flag_if, is_layer, is_option, layer_step, nothing_yet}
 unfoldable pub use Rattle.period_arrays.specs.Areas.{area_at, arrays_of, flag_at, flags_of, layers_at, layers_tested, option_at}
 pub use Rattle.period_arrays.specs.Forms.{IsReals, IsWhole}
-pub use Rattle.period_arrays.specs.Kinds.{ArrayKind, with_area}
-pub use Rattle.record_lines.specs.Items.{is_word}
+pub use Rattle.period_arrays.specs.Kinds.{ArrayKind, contents, with_area}
+pub use Rattle.record_lines.specs.Items.{begins_with, is_word}
 unfoldable pub use Rattle.record_lines.specs.Items.{name_at, word_at}
-pub use Rattle.record_lines.specs.Layout.{Left, is_comment, left_from, next_number, without_comments}
+pub use Rattle.record_lines.specs.Layout.{Left, Numbered, is_comment, left_from, next_number, without_comments}
+pub use Rattle.record_lines.specs.Reading.{◌>>=◌}
 unfoldable pub use Rattle.record_lines.specs.Reading.{appended, counted, for_each, repeated}
 pub use Rattle.record_lines.specs.Spread.{beginning}
 pub use Rattle.stress_packages.specs.Packages.{drains, generals, recharge_arrays, rivers, wells}

@@ -1,10 +1,10 @@
 -- The entries of a list are read as written.
-use Rattle.model_text.proofs.Common.{◌≡◌, ℕ, ◌+◌, ◌^◌, ◌<◌, Bool, true, false, List, [], ◌∷◌, ◌++◌, length, map, get_or, set, All, None, Ok, refl, sym, subst}
-use Rattle.model_text.proofs.Common.{arith, decimal, All-append, All-map, All-weaker, All-head, All-tail, All-from_recursion, Dec, next_number, repeated, Grid}
-use Rattle.model_text.proofs.Common.{CellId, cell_count, layer_of, row_of, column_of, place, HasSize, row_below, column_below, layer_below, entry_of, entry_at}
-use Rattle.model_text.proofs.Common.{is_left_out, no_marks, new_list, Kind, first_fault, IsWord, number_word, Line, IsLine, number_after, unread, count_is_word}
-use Rattle.model_text.proofs.Common.{line_words, next_line, list_item_6, IsEntry, IsDec, number_at, number, zero, suc, cond, replicate, ◌∙◌, AllPairs}
-use Rattle.model_text.proofs.Common.{get_or-set_other}
+use Rattle.model_text.proofs.Common.{◌≡◌, ℕ, ◌+◌, ◌^◌, ◌<◌, Bool, true, false, List, [], ◌∷◌, length, map, get_or, set, All, None, Ok, refl, sym, subst, arith}
+use Rattle.model_text.proofs.Common.{decimal, All-append, All-map, All-weaker, All-head, All-tail, All-from_recursion, Dec, repeated, Grid, CellId, cell_count}
+use Rattle.model_text.proofs.Common.{layer_of, row_of, column_of, place, HasSize, row_below, column_below, layer_below, entry_of, entry_at, is_left_out}
+use Rattle.model_text.proofs.Common.{no_marks, new_list, Kind, first_fault, IsWord, number_word, Line, IsLine, count_is_word, list_item_6, IsEntry, IsDec}
+use Rattle.model_text.proofs.Common.{number_at, number, zero, suc, cond, replicate, ◌∙◌, AllPairs, get_or-set_other, Takes, takes_none, then_takes, last_takes}
+use Rattle.model_text.proofs.Common.{line_takes}
 use Rattle.model_text.proofs.FrameTexts.{decimal_item, number_item, is_entry, cell_reads}
 use Rattle.model_text.proofs.TimeTexts.{canonical_word}
 use Rattle.list_package.specs.Forms.{Differ}
@@ -118,24 +118,21 @@ module _ {E : Type 0} (kind : Kind E) (cell : E → ℕ) (numbers : E → List D
   cell_inside : (x : E) → IsGood x → cell x < cell_count g
   cell_inside = for_good (λ x. cell x < cell_count g) (λ at c low count canonical passes. rw (w.cell_is at c) low)
 
-  line_reads : (file : List ℕ) (marks : List Bool) (n : ℕ) (others : List Line) (x : E) → IsGood x → get_or marks (kind.place x) false ≡ false
-      → entry_at kind file g (marks, unread n (entry_line x ∷ others)) ≡ Ok (x, (set marks (kind.place x) true, unread (next_number n) others))
+  entry_takes : (file : List ℕ) (marks : List Bool) (x : E) → IsGood x → get_or marks (kind.place x) false ≡ false
+      → Takes (λ left. entry_at kind file g (marks, left)) (entry_line x ∷ []) (λ left. (x, (set marks (kind.place x) true, left)))
   unfolding entry_at
-  line_reads file marks n others x good free =
-      rw (next_line file n (entry_line x) others, line_words (entry_line x) (entry_is_line x good).words, left_out (cell x) (numbers x) (cell_inside x good), entry_reads file n marks x good free) refl
+  entry_takes file marks x good free =
+      line_takes _ file (entry_is_line x good) (λ n e. rw (e, left_out (cell x) (numbers x) (cell_inside x good), entry_reads file n marks x good free) takes_none)
 
-  lines_read : (file : List ℕ) (marks : List Bool) (n : ℕ) (others : List Line) (xs : List E) → All IsGood xs → AreFree kind marks xs
-      → repeated (length xs) (entry_at kind file g) (marks, unread n (map entry_line xs ++ others)) ≡ Ok (xs, (marks_after kind marks xs, unread (number_after n (map entry_line xs)) others))
-  unfolding repeated number_after
-  lines_read file marks n others [] good free = refl
-  lines_read file marks n others (x ∷ xs) good free =
-      rw (
-        line_reads file marks n (map entry_line xs ++ others) x (All-head (λ y. IsGood y) x xs good) free.0,
-        lines_read file (set marks (kind.place x) true) (next_number n) others xs (All-tail (λ y. IsGood y) x xs good) free.1,
-      ) refl
+  entries_take : (file : List ℕ) (marks : List Bool) (xs : List E) → All IsGood xs → AreFree kind marks xs
+      → Takes (λ left. repeated (length xs) (entry_at kind file g) (marks, left)) (map entry_line xs) (λ left. (xs, (marks_after kind marks xs, left)))
+  unfolding repeated
+  entries_take file marks [] good free = takes_none
+  entries_take file marks (x ∷ xs) good free =
+      then_takes _ (entry_takes file marks x (All-head (λ y. IsGood y) x xs good) free.0)
+      (last_takes _ (entries_take file (set marks (kind.place x) true) xs (All-tail (λ y. IsGood y) x xs good) free.1) (λ left. refl))
 
   -- item 6 of each entry
-  pub list_reads : (file : List ℕ) (n : ℕ) (others : List Line) (xs : List E) → All IsGood xs → AreFree kind (no_marks kind g) xs
-      → new_list kind file g (length xs) (unread n (map entry_line xs ++ others)) ≡ Ok (xs, unread (number_after n (map entry_line xs)) others)
+  pub list_takes : (file : List ℕ) (xs : List E) → All IsGood xs → AreFree kind (no_marks kind g) xs → Takes (new_list kind file g (length xs)) (map entry_line xs) (λ left. (xs, left))
   unfolding new_list
-  list_reads file n others xs good free = rw (lines_read file (no_marks kind g) n others xs good free) refl
+  list_takes file xs good free = last_takes _ (entries_take file (no_marks kind g) xs good free) (λ left. refl)

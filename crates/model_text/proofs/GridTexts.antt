@@ -1,45 +1,15 @@
 -- DIS items 3 to 6 are read as written.
-use Rattle.model_text.proofs.Common.{◌≡◌, ℕ, ◌+◌, ◌*◌, ◌<◌, ◌≤◌, Bool, true, false, if◌then◌else◌, List, [], ◌∷◌, ◌++◌, append_assoc, length, take, replicate}
-use Rattle.model_text.proofs.Common.{nat_lt, All, Ok, refl, arith, list_all, All-head, All-tail, All-weaker, nat_tests, Dec, IsDec, FileSet, real, real_layer}
-use Rattle.model_text.proofs.Common.{Grid, layer_size, cell_count, HasSize, IsGrid, int_at, is_nonzero, no_number, IsPositive, is_positive, layer_or}
-use Rattle.model_text.proofs.Common.{number_word, Line, number_after, unread, Reads, real_array, one, real_one, reals_written, arrays, layer_values, each_layer}
-use Rattle.model_text.proofs.Common.{dis_item_3, dis_item_4, dis_item_5, dis_item_6, IsOfBeds, zero, suc, ◌-◌, drop, Result, ap, ◌∙◌, flat_map, range_with_len}
-use Rattle.model_text.proofs.Common.{length-drop, length-take-le, take_all, All-nil, All-append, All-take, All-drop, Refusal, Left, next_number, counted}
-use Rattle.model_text.proofs.Common.{IsLine, array_reads}
+use Rattle.model_text.proofs.Common.{◌≡◌, ℕ, ◌+◌, ◌*◌, ◌<◌, ◌≤◌, Bool, true, false, if◌then◌else◌, List, [], ◌∷◌, ◌++◌, length, take, replicate, nat_lt, All}
+use Rattle.model_text.proofs.Common.{refl, arith, list_all, All-head, All-tail, All-weaker, nat_tests, Dec, IsDec, FileSet, real, real_layer, Grid, layer_size}
+use Rattle.model_text.proofs.Common.{cell_count, HasSize, IsGrid, int_at, is_nonzero, no_number, IsPositive, is_positive, layer_or, number_word, real_array}
+use Rattle.model_text.proofs.Common.{one, real_one, reals_written, arrays, layer_values, each_layer, dis_item_3, dis_item_4, dis_item_5, dis_item_6, IsOfBeds}
+use Rattle.model_text.proofs.Common.{zero, suc, ◌-◌, drop, ap, ◌∙◌, length-drop, length-take-le, take_all, All-take, All-drop, array_takes, Takes, takes_none}
+use Rattle.model_text.proofs.Common.{takes_where, then_takes, last_takes, counted_take}
 use Rattle.dis_package.specs.Grids.{widths, bottom_at, bottoms_of, grid_of}
 use Rattle.dis_package.specs.declared.frame.Size.{Size}
 use Rattle.dis_package.specs.declared.bottoms.Bottoms.{Bottoms}
 use Rattle.model_text.specs.Discretization.{real_layer as real_layer_lines}
 use Rattle.std.proofs.Math.Nat.{mul-le-mul_right}
-
--- The number of the line after lines that follow each other, and lines made layer by layer.
-pub number_after-append : (n : ℕ) (front back : List Line) → number_after n (front ++ back) ≡ number_after (number_after n front) back
-unfolding number_after
-number_after-append n [] back = refl
-number_after-append n (line ∷ front) back = number_after-append (next_number n) front back
-
--- Steps that each take the lines of their number take all of these lines.
-pub counted_reads : {S : Type 0} (step : ℕ → (S × Left) → Result (S × Left) Refusal) (lines : ℕ → List Line) (state : ℕ → S) (total : ℕ)
-    → ((k : ℕ) → k < total → (n : ℕ) (others : List Line) → step k (state k, unread n (lines k ++ others)) ≡ Ok (state (k + 1), unread (number_after n (lines k)) others))
-    → (count k : ℕ) → k + count ≡ total → (n : ℕ) (others : List Line)
-    → counted step k count (state k, unread n (flat_map lines (range_with_len k count) ++ others))
-    ≡ Ok (state total, unread (number_after n (flat_map lines (range_with_len k count))) others)
-unfolding counted number_after
-counted_reads step lines state total h zero k e n others = let same : k ≡ total = omega arith in rw same refl
-counted_reads step lines state total h (suc count) k e n others =
-    let low : k < total = omega arith in
-    let more : (k + 1) + count ≡ total = omega arith in
-    let tail = flat_map lines (range_with_len (k + 1) count) in
-    let split : (lines k ++ tail) ++ others ≡ lines k ++ (tail ++ others) = append_assoc (lines k) tail others in
-    rw (split, h k low n (tail ++ others), number_after-append n (lines k) tail) (counted_reads step lines state total h count (k + 1) more (number_after n (lines k)) others)
-
--- what is made layer by layer is lines
-pub layers_are_lines : (lines : ℕ → List Line) (total : ℕ) → ((k : ℕ) → k < total → All (λ line. IsLine line) (lines k))
-    → (count k : ℕ) → k + count ≡ total → All (λ line. IsLine line) (flat_map lines (range_with_len k count))
-layers_are_lines lines total h zero k e = All-nil (λ line. IsLine line)
-layers_are_lines lines total h (suc count) k e =
-    let low : k < total = omega arith in
-    All-append (λ line. IsLine line) (lines k) (flat_map lines (range_with_len (k + 1) count)) (h k low) (layers_are_lines lines total h count (k + 1) (omega arith))
 
 take_more : {X : Type 0} (a b : ℕ) (xs : List X) → take a xs ++ take b (drop a xs) ≡ take (a + b) xs
 take_more zero b xs = let e : 0 + b ≡ b = omega arith in rw e refl
@@ -77,29 +47,25 @@ all_above [] h = refl
 all_above (d ∷ xs) h = rw (is_above d (All-head (λ x. IsPositive x) d xs h), all_above xs (All-tail (λ x. IsPositive x) d xs h)) refl
 
 -- an array of widths
-pub widths_read : (files : FileSet) (file : List ℕ) (count : ℕ) (xs : List Dec) → length xs ≡ count → 1 ≤ count → All (λ d. IsPositive d) xs
-    → Reads (widths files file count) (real_array 1 count xs) xs
+widths_take : (files : FileSet) (file : List ℕ) (count : ℕ) (xs : List Dec) → 1 ≤ count → (length xs ≡ count) × All (λ d. IsPositive d) xs → Takes (widths files file count) (real_array 1 count xs) (λ left. (xs, left))
 unfolding widths real_array
-widths_read files file count xs e some h =
-    let numbers = All-weaker (λ d. IsPositive d) (λ d. IsDec d) (λ d k. k.decimal) xs h in
-    record { reads = λ n others. rw (array_reads real number_word one files file 1 count xs real_one some (omega arith) (reals_written xs numbers) n others, all_above xs h) refl }
+widths_take files file count xs some h =
+    let numbers = All-weaker (λ d. IsPositive d) (λ d. IsDec d) (λ d k. k.decimal) xs h.1 in
+    array_takes _ real number_word one files file 1 count xs real_one some (omega (arith, h.0)) (reals_written xs numbers) (λ n left. rw (all_above xs h.1) refl)
 
--- a layer of a list by cell
-pub layer_reads : (files : FileSet) (file : List ℕ) (g : Grid) (k : ℕ) (xs : List Dec) → HasSize g → k < g.layers → length xs ≡ cell_count g → All IsDec xs
-    → Reads (real_layer files file g.rows g.cols) (real_layer_lines g xs k) (layer_values g k xs)
-layer_reads files file g k xs size low e h = arrays.layers files file g.rows g.cols (layer_values g k xs) size.cols.0 (layer_length g k xs low e) (layer_has g IsDec k xs h)
+module _ (files : FileSet) (file : List ℕ) (g : Grid) (size : HasSize g) where
+  pub reals_take : (xs : List Dec) → (length xs ≡ layer_size g) × All IsDec xs → Takes (real_layer files file g.rows g.cols) (real_array g.rows g.cols xs) (λ left. (xs, left))
+  reals_take xs h = arrays.layers files file g.rows g.cols xs size.cols.0 h.0 h.1
 
-pub layer_or_by : (b : Bool) (files : FileSet) (file : List ℕ) (g : Grid) (k : ℕ) (xs : List Dec) (other : Dec) → HasSize g → k < g.layers → length xs ≡ cell_count g → All IsDec xs
-    → (b ≡ false → layer_values g k xs ≡ replicate (layer_size g) other)
-    → Reads (layer_or files file g.rows g.cols b other) (if b then real_layer_lines g xs k else []) (layer_values g k xs)
-unfolding layer_or number_after
-layer_or_by true files file g k xs other size low e h none = record { reads = λ n others. (layer_reads files file g k xs size low e h).reads n others }
-layer_or_by false files file g k xs other size low e h none = record { reads = λ n others. rw (none refl) refl }
+  -- a layer of a list by cell
+  pub layer_takes : (xs : List Dec) → (length xs ≡ cell_count g) × All IsDec xs → (k : ℕ) → k < g.layers → Takes (real_layer files file g.rows g.cols) (real_layer_lines g xs k) (λ left. (layer_values g k xs, left))
+  layer_takes xs h k low = reals_take (layer_values g k xs) (layer_length g k xs low h.0, layer_has g IsDec k xs h.1)
 
--- a layer that is written where the file has it
-pub layer_or_reads : (files : FileSet) (file : List ℕ) (g : Grid) (k : ℕ) (xs : List Dec) → HasSize g → k < g.layers → length xs ≡ cell_count g → All IsDec xs → IsOfBeds g xs
-    → Reads (layer_or files file g.rows g.cols (is_nonzero (int_at g.laycbd k)) no_number) (if is_nonzero (int_at g.laycbd k) then real_layer_lines g xs k else []) (layer_values g k xs)
-layer_or_reads files file g k xs size low e h beds = layer_or_by (is_nonzero (int_at g.laycbd k)) files file g k xs no_number size low e h (beds k low)
+  -- a layer that is written where the file has it
+  pub layer_or_takes : (b : Bool) (xs : List Dec) (other : Dec) → (length xs ≡ cell_count g) × All IsDec xs → (k : ℕ) → k < g.layers → (b ≡ false → layer_values g k xs ≡ replicate (layer_size g) other)
+      → Takes (layer_or files file g.rows g.cols b other) (if b then real_layer_lines g xs k else []) (λ left. (layer_values g k xs, left))
+  unfolding layer_or
+  layer_or_takes b xs other h k low none = takes_where b (λ e. layer_takes xs h k low) (λ e. rw (none e) takes_none)
 
 module _ (files : FileSet) (file : List ℕ) (g : Grid) (h : IsGrid g) (beds : IsOfBeds g g.bed_bottom) where
   abbrev size_of : Size
@@ -109,41 +75,23 @@ module _ (files : FileSet) (file : List ℕ) (g : Grid) (h : IsGrid g) (beds : I
   abbrev upper : ℕ → Bottoms
   upper k = record { layers = take (k * layer_size g) g.bottom; beds = take (k * layer_size g) g.bed_bottom }
 
-  bottom_reads : (k : ℕ) → k < g.layers → (n : ℕ) (others : List Line)
-      → bottom_at files file size_of g.laycbd k (upper k, unread n (dis_item_6 g k ++ others)) ≡ Ok (upper (k + 1), unread (number_after n (dis_item_6 g k)) others)
+  bottom_takes : (k : ℕ) → k < g.layers → Takes (λ left. bottom_at files file size_of g.laycbd k (upper k, left)) (dis_item_6 g k) (λ left. (upper (k + 1), left))
   unfolding bottom_at dis_item_6
-  bottom_reads k low n others =
-      let first = real_layer_lines g g.bottom k in
-      let second = if is_nonzero (int_at g.laycbd k) then real_layer_lines g g.bed_bottom k else [] in
-      let bottom = (layer_reads files file g k g.bottom h.size low h.bottom.0 h.bottom.1).reads n (second ++ others) in
-      let bed = (layer_or_reads files file g k g.bed_bottom h.size low h.bed_bottom.0 h.bed_bottom.1 beds).reads (number_after n first) others in
-      rw (append_assoc first second others, bottom, bed, number_after-append n first second, one_more_layer g k g.bottom, one_more_layer g k g.bed_bottom) refl
+  bottom_takes k low =
+      then_takes _ (layer_takes files file g h.size g.bottom h.bottom k low)
+      (last_takes _ (layer_or_takes files file g h.size (is_nonzero (int_at g.laycbd k)) g.bed_bottom no_number h.bed_bottom k low (beds k low))
+      (λ left. rw (one_more_layer g k g.bottom, one_more_layer g k g.bed_bottom) refl))
 
-  bottoms_read : (n : ℕ) (others : List Line)
-      → bottoms_of files file size_of g.laycbd g.layers (unread n (each_layer g (dis_item_6 g) ++ others))
-      ≡ Ok (record { layers = g.bottom; beds = g.bed_bottom }, unread (number_after n (each_layer g (dis_item_6 g))) others)
+  bottoms_take : Takes (bottoms_of files file size_of g.laycbd g.layers) (each_layer g (dis_item_6 g)) (λ left. (record { layers = g.bottom; beds = g.bed_bottom }, left))
   unfolding bottoms_of
-  bottoms_read n others =
+  bottoms_take =
       let none : 0 * layer_size g ≡ 0 = omega arith in
-      let read = counted_reads (bottom_at files file size_of g.laycbd) (dis_item_6 g) upper g.layers bottom_reads g.layers 0 (omega arith) n others in
-      rw (none, all_layers g g.bottom h.bottom.0, all_layers g g.bed_bottom h.bed_bottom.0) at read
-
-  abbrev pub grid_lines : List Line → List Line
-  grid_lines others = dis_item_3 g ++ (dis_item_4 g ++ (dis_item_5 g ++ (each_layer g (dis_item_6 g) ++ others)))
-
-  -- the number of the line after these items
-  abbrev pub grid_end : ℕ → ℕ
-  grid_end n = number_after (number_after (number_after (number_after n (dis_item_3 g)) (dis_item_4 g)) (dis_item_5 g)) (each_layer g (dis_item_6 g))
+      rw (none, all_layers g g.bottom h.bottom.0, all_layers g g.bed_bottom h.bed_bottom.0) at
+      (counted_take (bottom_at files file size_of g.laycbd) (dis_item_6 g) (λ k left. (upper k, left)) g.layers bottom_takes)
 
   -- items 3 to 6
-  pub grid_reads : (n : ℕ) (others : List Line) → grid_of files file size_of g.laycbd (unread n (grid_lines others)) ≡ Ok (g, unread (grid_end n) others)
+  pub grid_takes : Takes (grid_of files file size_of g.laycbd) (dis_item_3 g ++ (dis_item_4 g ++ (dis_item_5 g ++ each_layer g (dis_item_6 g)))) (λ left. (g, left))
   unfolding grid_of dis_item_3 dis_item_4 dis_item_5
-  grid_reads n others =
-      let size : HasSize g = h.size in
-      let delr = (widths_read files file g.cols g.delr h.delr.0 size.cols.0 h.delr.1).reads n (dis_item_4 g ++ (dis_item_5 g ++ (each_layer g (dis_item_6 g) ++ others))) in
-      let n1 = number_after n (dis_item_3 g) in
-      let delc = (widths_read files file g.rows g.delc h.delc.0 size.rows.0 h.delc.1).reads n1 (dis_item_5 g ++ (each_layer g (dis_item_6 g) ++ others)) in
-      let n2 = number_after n1 (dis_item_4 g) in
-      let top = (arrays.layers files file g.rows g.cols g.top size.cols.0 h.top.0 h.top.1).reads n2 (each_layer g (dis_item_6 g) ++ others) in
-      let n3 = number_after n2 (dis_item_5 g) in
-      rw (delr, delc, top, bottoms_read n3 others) refl
+  grid_takes =
+      then_takes _ (widths_take files file g.cols g.delr h.size.cols.0 h.delr) (then_takes _ (widths_take files file g.rows g.delc h.size.rows.0 h.delc)
+      (then_takes _ (reals_take files file g h.size g.top h.top) (last_takes _ bottoms_take (λ left. refl))))

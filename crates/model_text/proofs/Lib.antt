@@ -1,4 +1,5 @@
 mod Common
+pub mod FileTakes
 pub mod FrameTexts
 pub mod GridTexts
 pub mod TimeTexts

@@ -1,16 +1,15 @@
 -- The file of a list package is read as written.
-use Rattle.model_text.proofs.Common.{◌≡◌, ℕ, suc, ◌^◌, ◌<◌, ◌≤◌, max, Bool, true, false, nat_le, fold, List, [], ◌∷◌, ◌++◌, append_assoc, length, map, drop}
-use Rattle.model_text.proofs.Common.{All, Option, Some, None, is_some, Ok, refl, arith, codes, decimal, AllZip, flat_map, append-nil, All-cons, All-map}
-use Rattle.model_text.proofs.Common.{All-weaker, All-from_recursion, nat_tests, Dec, next_number, for_each, is_word, Grid, cell_count, HasSize, Kind, IsWord}
-use Rattle.model_text.proofs.Common.{Line, IsLine, line_text, text, number_after, unread, digits_spell, count_is_word, word_by_test, line_words, next_line}
-use Rattle.model_text.proofs.Common.{list_item_2, list_item_5, period_list, list_lines, IsEntry, IsListOf, with_lists, Limits, Period, most_entries}
-use Rattle.model_text.proofs.Common.{entries_few, entries, header_of, item_line, list_at, lists_of, CellId, numbers_of, heads_of, dec_at, cell_of, given_heads}
-use Rattle.model_text.proofs.Common.{wells, rivers, drains, generals, ListPackagesReadAsWritten}
+use Rattle.model_text.proofs.Common.{◌≡◌, ℕ, suc, ◌^◌, ◌<◌, ◌≤◌, max, Bool, true, false, nat_le, fold, List, [], ◌∷◌, length, map, drop, All, Option, Some}
+use Rattle.model_text.proofs.Common.{None, is_some, Ok, refl, arith, codes, decimal, AllZip, flat_map, All-cons, All-from_recursion, nat_tests, Dec, is_word}
+use Rattle.model_text.proofs.Common.{Grid, cell_count, HasSize, Kind, IsWord, Line, IsLine, text, digits_spell, count_is_word, word_by_test, list_item_2}
+use Rattle.model_text.proofs.Common.{list_item_5, period_list, list_lines, IsListOf, with_lists, Limits, Period, most_entries, entries_few, entries, header_of}
+use Rattle.model_text.proofs.Common.{item_line, list_at, lists_of, CellId, numbers_of, heads_of, dec_at, cell_of, given_heads, wells, rivers, drains, generals}
+use Rattle.model_text.proofs.Common.{ListPackagesReadAsWritten, number_at, integer, with_list, ◌>>=◌, words, Takes, last_takes, line_takes}
 use Rattle.model_text.proofs.FrameTexts.{decimal_item, no_keyword}
 use Rattle.list_package.specs.Lists.{period_at, periods_of}
-use Rattle.model_text.proofs.GridTexts.{number_after-append}
-use Rattle.model_text.proofs.DisTexts.{AreLines, no_lines, one_line, joined, file_begins, line_is_item, decimal_is_item}
-use Rattle.model_text.proofs.EntryTexts.{all_free, WritesNumbers, entry_line, entry_is_line, list_reads}
+use Rattle.model_text.proofs.FileTakes.{item_takes, whole_file, each_takes}
+use Rattle.model_text.proofs.DisTexts.{line_is_item, decimal_is_item}
+use Rattle.model_text.proofs.EntryTexts.{all_free, WritesNumbers, list_takes}
 
 -- a count and a 0 on a line
 pub counts_are_line : (n : ℕ) → n < 10 ^ 18 → IsLine (decimal n ∷ codes "0" ∷ [])
@@ -37,54 +36,22 @@ module _ {E : Type 0} (limits : Limits) (kind : Kind E) (cell : E → ℕ) (numb
   abbrev lines_of : List E → List Line
   lines_of xs = period_list g cell numbers xs
 
-  period_is_lines : (p : Period) (xs : List E) → IsGood p xs → AreLines (lines_of xs)
-  unfolding period_list list_item_5
-  period_is_lines p xs good =
-      let line = entry_line kind cell numbers w g h in
-      one_line (counts_are_line (length xs) (omega (arith, good.few, entries_few limits)))
-      (record { all = All-map (λ l. IsLine l) line xs (All-weaker (λ x. IsEntry kind (cell_count g) x) (λ x. IsLine (line x)) (entry_is_line kind cell numbers w g h) xs good.entries) })
+  period_list_takes : (p : Period) (xs : List E) → IsGood p xs → (last : Option (List E)) → Takes (λ left. list_at limits kind file g p (last, left)) (lines_of xs) (λ left. (xs, (Some xs, left)))
+  unfolding list_at period_list list_item_5
+  period_list_takes p xs good last =
+      line_takes _ file (counts_are_line (length xs) (omega (arith, good.few, entries_few limits))) (λ n e. rw (e, header_reads limits file n (is_some last) (length xs) good.few)
+      (last_takes _ (list_takes kind cell numbers w g h file xs good.entries (all_free kind g xs good.once)) (λ left. rw good.suits refl)))
 
-  period_list_reads : (p : Period) (xs : List E) → IsGood p xs → (last : Option (List E)) (n : ℕ) (others : List Line)
-      → list_at limits kind file g p (last, unread n (lines_of xs ++ others)) ≡ Ok (xs, (Some xs, unread (number_after n (lines_of xs)) others))
-  unfolding list_at period_list list_item_5 number_after
-  period_list_reads p xs good last n others =
-      let line = entry_line kind cell numbers w g h in
-      let head = decimal (length xs) ∷ codes "0" ∷ [] in
-      let read = list_reads kind cell numbers w g h file (next_number n) others xs good.entries (all_free kind g xs good.once) in
-      rw (
-        next_line file n head (map line xs ++ others),
-        line_words head (counts_are_line (length xs) (omega (arith, good.few, entries_few limits))).words,
-        header_reads limits file n (is_some last) (length xs) good.few,
-        read,
-        good.suits,
-      ) refl
+  period_takes : (p : Period) (xs : List E) (last : Option (List E)) → IsGood p xs → Takes (λ left. period_at limits kind file g p (last, left)) (lines_of xs) (λ left. (with_list kind p xs, (Some xs, left)))
+  unfolding period_at
+  period_takes p xs last good = last_takes _ (period_list_takes p xs good last) (λ left. refl)
 
-  -- the list in force after these
-  abbrev last_after : Option (List E) → List (List E) → Option (List E)
-  last_after last [] = last
-  last_after last (xs ∷ lists) = last_after (Some xs) lists
-
-  each_reads : (ps : List Period) (lists : List (List E)) → AllZip IsGood ps lists → (last : Option (List E)) (n : ℕ) (others : List Line)
-      → for_each (period_at limits kind file g) ps (last, unread n (flat_map lines_of lists ++ others))
-      ≡ Ok (with_lists kind ps lists, (last_after last lists, unread (number_after n (flat_map lines_of lists)) others))
-  unfolding for_each period_at number_after
-  each_reads [] [] good last n others = refl
-  each_reads [] (xs ∷ lists) good last n others = absurd good
-  each_reads (p ∷ ps) [] good last n others = absurd good
-  each_reads (p ∷ ps) (xs ∷ lists) good last n others =
-      let tail = flat_map lines_of lists in
-      rw (
-        append_assoc (lines_of xs) tail others,
-        period_list_reads p xs good.0 last n (tail ++ others),
-        each_reads ps lists good.1 (Some xs) (number_after n (lines_of xs)) others,
-        number_after-append n (lines_of xs) tail,
-      ) refl
-
-  all_lines : (ps : List Period) (lists : List (List E)) → AllZip IsGood ps lists → AreLines (flat_map lines_of lists)
-  all_lines [] [] good = no_lines
-  all_lines [] (xs ∷ lists) good = absurd good
-  all_lines (p ∷ ps) [] good = absurd good
-  all_lines (p ∷ ps) (xs ∷ lists) good = joined (period_is_lines p xs good.0) (all_lines ps lists good.1)
+  periods_take : (ps : List Period) (lists : List (List E)) → AllZip IsGood ps lists → Takes (periods_of limits kind file g ps) (flat_map lines_of lists) (λ left. with_lists kind ps lists)
+  unfolding periods_of
+  periods_take ps lists good =
+      last_takes _ (each_takes (period_at limits kind file g) lines_of (with_list kind) (λ s xs. Some xs) IsGood (λ s. Unit {0}) (λ p xs s h t. period_takes p xs s h) (λ p xs s h. tt)
+      (with_lists kind) refl (λ p xs ps lists. refl) ps lists good None tt)
+      (λ left. refl)
 
   all_few : (ps : List Period) (lists : List (List E)) → AllZip IsGood ps lists → All (λ n. n ≤ most_entries limits) (map (λ xs. length xs) lists)
   all_few [] [] good = λ k d lt. absurd (omega arith)
@@ -92,28 +59,18 @@ module _ {E : Type 0} (limits : Limits) (kind : Kind E) (cell : E → ℕ) (numb
   all_few (p ∷ ps) [] good = absurd good
   all_few (p ∷ ps) (xs ∷ lists) good = All-cons (λ n. n ≤ most_entries limits) (length xs) (map (λ ys. length ys) lists) good.0.few (all_few ps lists good.1)
 
-  first_line : (most n : ℕ) (others : List Line) → most < 10 ^ 18
-      → item_line file (unread n ((decimal most ∷ codes "0" ∷ []) ∷ others)) ≡ Ok (record { number = n; bytes = line_text (decimal most ∷ codes "0" ∷ []) }, unread (next_number n) others)
-  unfolding item_line
-  first_line most n others small =
-      let head = decimal most ∷ codes "0" ∷ [] in
-      let item : is_word (codes "PARAMETER") (decimal most) ≡ false = no_keyword 80 (drop 1 (codes "PARAMETER")) most small (omega arith) in
-      rw (next_line file n head others, line_words head (counts_are_line most small).words, item) refl
-
   pub file_reads : (ps : List Period) (lists : List (List E)) → AllZip IsGood ps lists → lists_of limits kind file (text (list_lines g cell numbers lists)) g ps ≡ Ok (with_lists kind ps lists)
-  unfolding lists_of periods_of list_lines list_item_2
+  unfolding lists_of list_lines list_item_2
   file_reads ps lists good =
       let most = fold max 0 (map (λ xs. length xs) lists) in
       let few : most ≤ most_entries limits = greatest 0 (map (λ xs. length xs) lists) (most_entries limits) (omega arith) (all_few ps lists good) in
       let small : most < 10 ^ 18 = omega (arith, entries_few limits) in
-      let head = decimal most ∷ codes "0" ∷ [] in
-      let tail = flat_map lines_of lists in
-      let whole : AreLines (head ∷ tail) = one_line (counts_are_line most small) (all_lines ps lists good) in
       let item = line_is_item (decimal most) (codes "0" ∷ []) (digits_spell most small).some (decimal_is_item most small) in
-      let start = file_begins head tail whole.all item in
-      let end : tail ++ [] ≡ tail = append-nil tail in
-      let each = rw end at (each_reads ps lists good None (next_number 1) []) in
-      rw (start, first_line most 1 tail small, line_words head (counts_are_line most small).words, decimal_item file 1 most (codes "0" ∷ []) small, each) refl
+      let plain : is_word (codes "PARAMETER") (decimal most) ≡ false = no_keyword 80 (drop 1 (codes "PARAMETER")) most small (omega arith) in
+      let whole : Takes (λ left. item_line file left >>= λ line. number_at integer file line.0.number (words line.0.bytes) >>= λ count. periods_of limits kind file g ps line.1)
+      ((decimal most ∷ codes "0" ∷ []) ∷ flat_map lines_of lists) (λ left. with_lists kind ps lists) =
+      item_takes _ file (counts_are_line most small) plain (λ n e. rw (e, decimal_item file n most (codes "0" ∷ []) small) (periods_take ps lists good)) in
+      whole_file item whole
 
 -- The numbers of WEL, RIV, DRN, GHB and CHD are written as they were read, and so their files are read as written.
 wells_write : WritesNumbers wells cell_of numbers_of

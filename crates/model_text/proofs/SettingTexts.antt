@@ -2,9 +2,9 @@
 use Rattle.model_text.proofs.Common.{◌≡◌, ℕ, zero, suc, ◌+◌, ◌≤◌, Bool, true, false, List, [], ◌∷◌, length, replicate, All, Ok, refl, ap, arith, pos, codes}
 use Rattle.model_text.proofs.Common.{list_any, length-replicate, All-nil, All-cons, All-append, All-replicate, Dec, Left, next_number, counted, beginning}
 use Rattle.model_text.proofs.Common.{number, integer, canonical, significant, zeros, value_at, free_list, FlowModel, zero_at, zero_step, zero_list, IsWord}
-use Rattle.model_text.proofs.Common.{Line, IsLine, unread, number_after, row_line, word_by_test, line_by_test, line_words, next_line, IsWrittenAs, on_line}
-use Rattle.model_text.proofs.Common.{value_reads, line_begins, free_list_reads, free_lists, are_lines, storage_option, lpf_item_1, lpf_zeros, lpf_item_4}
-use Rattle.model_text.proofs.Common.{lpf_item_5, IsDiscretized, HasFlow, is_word, settings_of}
+use Rattle.model_text.proofs.Common.{Line, IsLine, unread, number_after, row_line, word_by_test, line_by_test, IsWrittenAs, on_line, value_reads, line_begins}
+use Rattle.model_text.proofs.Common.{free_list_reads, free_lists, storage_option, lpf_item_1, lpf_zeros, lpf_item_4, lpf_item_5, IsDiscretized, HasFlow}
+use Rattle.model_text.proofs.Common.{is_word, settings_of, Takes, one_line, takes_none, then_takes, last_takes, line_takes}
 use Rattle.lpf_package.specs.Flow.{option_line}
 use Rattle.model_text.proofs.FrameTexts.{zero_item, zero_number_item}
 
@@ -40,10 +40,12 @@ steps_begin file count n others =
       steps_read file count (0 + 1) n (unread (next_number n) others),
     ) refl
 
-zeros_by : (file : List ℕ) (count n : ℕ) (others : List Line) → 1 ≤ count → zero_list file count (unread n (replicate count (codes "0") ∷ others)) ≡ Ok (tt, unread (next_number n) others)
-unfolding zero_list
-zeros_by file zero n others some = absurd (omega arith)
-zeros_by file (suc count) n others some = rw (steps_begin file count n others) refl
+zeros_by : (file : List ℕ) (count : ℕ) → 1 ≤ count → Takes (zero_list file count) (replicate count (codes "0") ∷ []) (λ left. (tt, left))
+unfolding zero_list number_after
+zeros_by file zero some = absurd (omega arith)
+zeros_by file (suc count) some =
+    let line : IsLine (replicate (suc count) (codes "0")) = record { some = omega arith; words = All-replicate (λ w. IsWord w) (suc count) (codes "0") zero_word } in
+    record { are = one_line line; reads = λ n others. rw (steps_begin file count n others) refl }
 
 -- the anisotropy that says that HANI follows
 abbrev pub minus_one : Dec
@@ -65,63 +67,29 @@ minus_one_written : IsWrittenAs number minus_one_word minus_one
 minus_one_written = record { is_word = word_by_test (codes "-1") refl; reads = minus_one_reads }
 
 module _ (file : List ℕ) (m : FlowModel) (d : IsDiscretized m) (f : HasFlow m) where
-  zeros_read : (n : ℕ) (others : List Line) → zero_list file m.grid.layers (unread n (lpf_zeros m ∷ others)) ≡ Ok (tt, unread (next_number n) others)
+  zeros_take : Takes (zero_list file m.grid.layers) (lpf_zeros m ∷ []) (λ left. (tt, left))
   unfolding lpf_zeros
-  zeros_read n others = zeros_by file m.grid.layers n others d.grid.size.layers.0
+  zeros_take = zeros_by file m.grid.layers d.grid.size.layers.0
 
-  chani_read : (n : ℕ) (others : List Line) → free_list number file m.grid.layers (unread n (lpf_item_4 m ∷ others)) ≡ Ok (replicate m.grid.layers minus_one, unread (next_number n) others)
-  unfolding lpf_item_4 number_after
-  chani_read n others =
+  chani_takes : Takes (free_list number file m.grid.layers) (lpf_item_4 m ∷ []) (λ left. (replicate m.grid.layers minus_one, left))
+  unfolding lpf_item_4
+  chani_takes =
       let xs = replicate m.grid.layers minus_one in
       let count : length xs ≡ m.grid.layers = length-replicate m.grid.layers minus_one in
-      let some : 1 ≤ length xs = omega (arith, d.grid.size.layers.0) in
-      let read = (free_list_reads number minus_one_word file xs some (All-replicate (λ x. IsWrittenAs number minus_one_word x) m.grid.layers minus_one minus_one_written)).reads n others in
+      let some : 1 ≤ m.grid.layers = d.grid.size.layers.0 in
+      let read = free_list_reads number minus_one_word file xs (omega arith) (All-replicate (λ x. IsWrittenAs number minus_one_word x) m.grid.layers minus_one minus_one_written) in
       rw (count, minus_one_row m.grid.layers) at read
 
-  layvka_read : (n : ℕ) (others : List Line) → free_list integer file m.grid.layers (unread n (lpf_item_5 m ∷ others)) ≡ Ok (m.layvka, unread (next_number n) others)
-  unfolding lpf_item_5 number_after
-  layvka_read n others =
+  layvka_takes : Takes (free_list integer file m.grid.layers) (lpf_item_5 m ∷ []) (λ left. (m.layvka, left))
+  unfolding lpf_item_5
+  layvka_takes =
       let some : 1 ≤ length m.layvka = omega (arith, f.layvka.0, d.grid.size.layers.0) in
-      rw f.layvka.0 at ((free_lists.integers file m.layvka some f.layvka.1).reads n others)
-
-  abbrev pub settings_lines : List Line → List Line
-  settings_lines others = lpf_zeros m ∷ lpf_zeros m ∷ lpf_item_4 m ∷ lpf_item_5 m ∷ lpf_zeros m ∷ others
-
-  abbrev pub settings_end : ℕ → ℕ
-  settings_end n = next_number (next_number (next_number (next_number (next_number n))))
+      rw f.layvka.0 at (free_lists.integers file m.layvka some f.layvka.1)
 
   -- items 2 to 6
-  pub settings_read : (n : ℕ) (others : List Line)
-      → settings_of file m.grid.layers (unread n (settings_lines others)) ≡ Ok (record { chani = replicate m.grid.layers minus_one; layvka = m.layvka }, unread (settings_end n) others)
+  pub settings_take : Takes (settings_of file m.grid.layers) (lpf_zeros m ∷ lpf_zeros m ∷ lpf_item_4 m ∷ lpf_item_5 m ∷ lpf_zeros m ∷ []) (λ left. (record { chani = replicate m.grid.layers minus_one; layvka = m.layvka }, left))
   unfolding settings_of
-  settings_read n others =
-      let n1 = next_number n in
-      let n2 = next_number n1 in
-      let n3 = next_number n2 in
-      let n4 = next_number n3 in
-      rw (
-        zeros_read n (lpf_zeros m ∷ lpf_item_4 m ∷ lpf_item_5 m ∷ lpf_zeros m ∷ others),
-        zeros_read n1 (lpf_item_4 m ∷ lpf_item_5 m ∷ lpf_zeros m ∷ others),
-        chani_read n2 (lpf_item_5 m ∷ lpf_zeros m ∷ others),
-        layvka_read n3 (lpf_zeros m ∷ others),
-        zeros_read n4 others,
-      ) refl
-
-  pub zeros_are_line : IsLine (lpf_zeros m)
-  unfolding lpf_zeros
-  zeros_are_line =
-      let few : length (replicate m.grid.layers (codes "0")) ≡ m.grid.layers = length-replicate m.grid.layers (codes "0") in
-      record { some = omega (arith, d.grid.size.layers.0); words = All-replicate (λ w. IsWord w) m.grid.layers (codes "0") zero_word }
-
-  pub chani_is_line : IsLine (lpf_item_4 m)
-  unfolding lpf_item_4
-  chani_is_line =
-      let few : length (replicate m.grid.layers (codes "-1")) ≡ m.grid.layers = length-replicate m.grid.layers (codes "-1") in
-      record { some = omega (arith, d.grid.size.layers.0); words = All-replicate (λ w. IsWord w) m.grid.layers (codes "-1") (word_by_test (codes "-1") refl) }
-
-  pub layvka_is_line : IsLine (lpf_item_5 m)
-  unfolding lpf_item_5
-  layvka_is_line = are_lines.integer_rows m.layvka (omega (arith, f.layvka.0, d.grid.size.layers.0)) f.layvka.1
+  settings_take = then_takes _ zeros_take (then_takes _ zeros_take (then_takes _ chani_takes (then_takes _ layvka_takes (last_takes _ zeros_take (λ left. refl)))))
 
 option_by : (b : Bool) → list_any (is_word (codes "STORAGECOEFFICIENT")) (storage_option b) ≡ b
 option_by true = refl
@@ -131,22 +99,15 @@ option_is_words : (b : Bool) → All (λ w. IsWord w) (storage_option b)
 option_is_words true = All-cons (λ w. IsWord w) (codes "STORAGECOEFFICIENT") [] (word_by_test (codes "STORAGECOEFFICIENT") refl) (All-nil (λ w. IsWord w))
 option_is_words false = All-nil (λ w. IsWord w)
 
-pub option_is_line : (m : FlowModel) → IsLine (lpf_item_1 m)
+option_is_line : (m : FlowModel) → IsLine (lpf_item_1 m)
 unfolding lpf_item_1
 option_is_line m =
     let front = (line_by_test (codes "0" ∷ codes "0" ∷ codes "0" ∷ []) refl).words in
     record { some = omega arith; words = All-append (λ w. IsWord w) (codes "0" ∷ codes "0" ∷ codes "0" ∷ []) (storage_option m.coefficient) front (option_is_words m.coefficient) }
 
 -- item 1
-pub option_read : (file : List ℕ) (m : FlowModel) (n : ℕ) (others : List Line) → option_line file (unread n (lpf_item_1 m ∷ others)) ≡ Ok (m.coefficient, unread (next_number n) others)
+pub option_takes : (file : List ℕ) (m : FlowModel) → Takes (option_line file) (lpf_item_1 m ∷ []) (λ left. (m.coefficient, left))
 unfolding option_line lpf_item_1
-option_read file m n others =
+option_takes file m =
     let o = storage_option m.coefficient in
-    rw (
-      next_line file n (lpf_item_1 m) others,
-      line_words (lpf_item_1 m) (option_is_line m).words,
-      zero_item file n (codes "0" ∷ codes "0" ∷ o),
-      zero_number_item file n (codes "0" ∷ o),
-      zero_item file n o,
-      option_by m.coefficient,
-    ) refl
+    line_takes _ file (option_is_line m) (λ n e. rw (e, zero_item file n (codes "0" ∷ codes "0" ∷ o), zero_number_item file n (codes "0" ∷ o), zero_item file n o, option_by m.coefficient) takes_none)

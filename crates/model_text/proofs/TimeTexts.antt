@@ -1,9 +1,10 @@
 -- DIS item 7 is read as written.
 use Rattle.model_text.proofs.Common.{◌≡◌, ℕ, ◌+◌, ◌*◌, ◌≤◌, ◌⊎◌, inl, inr, Bool, true, false, ◌||◌, List, [], ◌∷◌, length, map, nat_le, sum_by, fold, All, Ok}
-use Rattle.model_text.proofs.Common.{refl, arith, codes, decimal, All-nil, All-cons, All-head, All-tail, nat_tests, Dec, IsDec, size, Refusal, next_number}
-use Rattle.model_text.proofs.Common.{repeated, Period, IsTimed, IsGrowing, number_one, is_one, without_stresses, IsWord, number_word, Line, IsLine}
-use Rattle.model_text.proofs.Common.{number_after, unread, short_exponent, word_by_test, number_is_word, count_is_word, line_words, next_line, steady_word}
-use Rattle.model_text.proofs.Common.{dis_item_7, is_at_most, is_at_least, kind_of, known, is_growth, is_time, time_of}
+use Rattle.model_text.proofs.Common.{refl, arith, codes, decimal, All-nil, All-cons, All-head, All-tail, nat_tests, Dec, IsDec, size, Refusal, repeated, Period}
+use Rattle.model_text.proofs.Common.{is_one, without_stresses, IsWord, number_word, IsLine, short_exponent, word_by_test, number_is_word, count_is_word}
+use Rattle.model_text.proofs.Common.{steady_word, dis_item_7, is_at_most, is_at_least, kind_of, known, is_growth, is_time, time_of, Takes, takes_none}
+use Rattle.model_text.proofs.Common.{line_takes, then_takes, last_takes}
+use Rattle.model_types.specs.Valid.{IsTimed, IsGrowing, number_one}
 use Rattle.std.proofs.lemmas.List.Sums.{sum_by_from}
 use Rattle.decimal_input.specs.Ratios.{Ratio, ratio, den, AtMost}
 use Rattle.dis_package.specs.Frames.{period_at, periods_of}
@@ -66,29 +67,27 @@ time_passes : (p : Period) (b : Bool) → p.steady ≡ b → IsTimed p → is_ti
 time_passes p true e h = rw (e, h.perlen.sign, is_above p.tsmult h.tsmult) refl
 time_passes p false e h = rw (e, is_above p.perlen (h.lasts e), is_above p.tsmult h.tsmult) (grows p (h.growth e))
 
-period_reads : (file : List ℕ) (steps n : ℕ) (p : Period) (others : List Line) → IsTimed p → steps + p.nstp ≤ 100000
-    → period_at file (steps, unread n (dis_item_7 p ∷ others)) ≡ Ok (without_stresses p, (steps + p.nstp, unread (next_number n) others))
+period_takes : (file : List ℕ) (steps : ℕ) (p : Period) → IsTimed p → steps + p.nstp ≤ 100000
+    → Takes (λ left. period_at file (steps, left)) (dis_item_7 p ∷ []) (λ left. (without_stresses p, (steps + p.nstp, left)))
 unfolding period_at
-period_reads file steps n p others h room =
+period_takes file steps p h room =
     let few : nat_le (steps + p.nstp) 100000 ≡ true = grind (arith, nat_tests) in
-    rw (next_line file n (dis_item_7 p) others, line_words (dis_item_7 p) (time_is_line p h).words, time_reads file n p h, time_passes p p.steady refl h, few) refl
+    line_takes _ file (time_is_line p h) (λ n w. rw (w, time_reads file n p h, time_passes p p.steady refl h, few) takes_none)
 
 -- the steps so far, and those of these periods
 abbrev steps_after : ℕ → List Period → ℕ
 steps_after steps ps = fold (λ a p. a + p.nstp) steps ps
 
-periods_repeat : (file : List ℕ) (steps n : ℕ) (ps : List Period) → All (λ p. IsTimed p) ps → steps_after steps ps ≤ 100000
-    → repeated (length ps) (period_at file) (steps, unread n (map dis_item_7 ps)) ≡ Ok (map without_stresses ps, (steps_after steps ps, unread (number_after n (map dis_item_7 ps)) []))
-unfolding repeated number_after
-periods_repeat file steps n [] h room = refl
-periods_repeat file steps n (p ∷ ps) h room =
-    let one : IsTimed p = All-head (λ q. IsTimed q) p ps h in
+periods_repeat : (file : List ℕ) (steps : ℕ) (ps : List Period) → All (λ p. IsTimed p) ps → steps_after steps ps ≤ 100000
+    → Takes (λ left. repeated (length ps) (period_at file) (steps, left)) (map dis_item_7 ps) (λ left. (map without_stresses ps, (steps_after steps ps, left)))
+unfolding repeated
+periods_repeat file steps [] h room = takes_none
+periods_repeat file steps (p ∷ ps) h room =
     let low : steps + p.nstp ≤ 100000 = omega (arith, room, sum_by_from (λ q. q.nstp) (steps + p.nstp) ps) in
-    let rest = periods_repeat file (steps + p.nstp) (next_number n) ps (All-tail (λ q. IsTimed q) p ps h) room in
-    rw (period_reads file steps n p (map dis_item_7 ps) one low, rest) refl
+    then_takes _ (period_takes file steps p (All-head (λ q. IsTimed q) p ps h) low)
+    (last_takes _ (periods_repeat file (steps + p.nstp) ps (All-tail (λ q. IsTimed q) p ps h) room) (λ left. refl))
 
 -- item 7 of each stress period
-pub periods_read : (file : List ℕ) (n : ℕ) (ps : List Period) → All (λ p. IsTimed p) ps → sum_by (λ p. p.nstp) ps ≤ 100000
-    → periods_of file (length ps) (unread n (map dis_item_7 ps)) ≡ Ok (map without_stresses ps)
+pub periods_take : (file : List ℕ) (ps : List Period) → All (λ p. IsTimed p) ps → sum_by (λ p. p.nstp) ps ≤ 100000 → Takes (periods_of file (length ps)) (map dis_item_7 ps) (λ left. map without_stresses ps)
 unfolding periods_of
-periods_read file n ps h room = rw (periods_repeat file 0 n ps h room) refl
+periods_take file ps h room = last_takes _ (periods_repeat file 0 ps h room) (λ left. refl)

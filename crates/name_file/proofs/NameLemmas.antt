@@ -19,24 +19,10 @@ use denote.Enum.Bare.{same_true}
 use Rattle.name_file.specs.contracts.package.Package.{the_type}
 
 -- The derived equality of packages is `is_same_package`, so a map's look-up finds the file of a package.
-at_each : (P : Package → Type 0) → P Dis → P Bas → P Lpf → P Wel → P Riv → P Drn → P Ghb → P Rch → P Chd → P Evt → (b : Package) → P b
-at_each P dis bas lpf wel riv drn ghb rch chd evt Dis = dis
-at_each P dis bas lpf wel riv drn ghb rch chd evt Bas = bas
-at_each P dis bas lpf wel riv drn ghb rch chd evt Lpf = lpf
-at_each P dis bas lpf wel riv drn ghb rch chd evt Wel = wel
-at_each P dis bas lpf wel riv drn ghb rch chd evt Riv = riv
-at_each P dis bas lpf wel riv drn ghb rch chd evt Drn = drn
-at_each P dis bas lpf wel riv drn ghb rch chd evt Ghb = ghb
-at_each P dis bas lpf wel riv drn ghb rch chd evt Rch = rch
-at_each P dis bas lpf wel riv drn ghb rch chd evt Chd = chd
-at_each P dis bas lpf wel riv drn ghb rch chd evt Evt = evt
-
-abbrev IsDerived : Package → Package → Type 0
-IsDerived a b = ghosts.eq a b ≡ is_same_package a b
-
 pub derived_is : (a b : Package) → ghosts.eq a b ≡ is_same_package a b
-derived_is Dis b = at_each (IsDerived Dis) refl refl refl refl refl refl refl refl refl refl b
-derived_is x b = at_each (IsDerived x) refl refl refl refl refl refl refl refl refl refl b
+derived_is Dis Dis = refl
+derived_is a Dis = refl
+derived_is a b = refl
 
 pub looked_up : (asked : Package) (names : Pairs) → lookup (ghosts.eq asked) names ≡ file_of asked names
 looked_up asked [] = refl

@@ -1,9 +1,8 @@
 -- Stresses with arrays, and a model whose periods have them.
-use Rattle.stress_packages.proofs.Common.{ℤ, ◌≤ℤ◌, pos, List, All, FlowModel, Period, contents, AreArrays, HasRecharge, IsRecharged, recharge_arrays}
+use Rattle.stress_packages.proofs.Common.{ℤ, ◌≤ℤ◌, pos, List, All, FlowModel, Period, contents, AreArrays, HasRecharge, IsRecharged, recharge_arrays, is_int}
 use Rattle.std.proofs.lemmas.List.Elements.{All-weaker}
 use Rattle.model_types.specs.declared.grid.Grid.{Grid}
 use Rattle.model_types.specs.declared.period.Stresses.{Stresses}
-use Rattle.model_types.specs.Receivers.{is_int}
 use Rattle.period_arrays.specs.Forms.{IsArea}
 use Rattle.period_arrays.specs.declared.area.Area.{Area}
 

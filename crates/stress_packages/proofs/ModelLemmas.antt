@@ -1,8 +1,8 @@
 -- A model in limits stays so with recharge.
-use Rattle.stress_packages.proofs.Common.{◌≡◌, ℤ, pos, ◌≤ℤ◌, List, map, IfOk, Result, Ok, Err, refl, sym, ap, subst, arith, FlowModel, Period, without}
-use Rattle.stress_packages.proofs.Common.{HasRecharge, IsRecharged, SameBut, recharge_arrays}
+use Rattle.stress_packages.proofs.Common.{◌≡◌, ℤ, pos, ◌≤ℤ◌, List, All, map, refl, sym, ap, subst, arith, FlowModel, Period, without, AreArrays, HasRecharge}
+use Rattle.stress_packages.proofs.Common.{IsRecharged, SameBut, recharge_arrays, ◌∙◌, is_int}
 use Rattle.std.proofs.lemmas.Int.{ints}
-use Rattle.outside.specs.declared.inputs.InputFault.{InputFault}
+use Rattle.stress_packages.proofs.ArrayLemmas.{is_recharged}
 use Rattle.model_types.specs.Valid.{IsModel, IsPeriod}
 use Rattle.list_package.proofs.ModelLemmas.{each_period, evaporation_of, replaced, same_evaps, same_view, steps, with_stresses}
 
@@ -20,9 +20,7 @@ recharged m r ps same has h = replaced m r m.nevtop ps h (same_view (without rec
     (each_period (without recharge_arrays) (IsPeriod (record m { nrchop = r; periods = ps })) (IsPeriod m) (HasRecharge (record m { nrchop = r; periods = ps })) (period m r ps) ps m.periods same h.periods has.periods)
     (same_evaps m r ps h (same_view (without recharge_arrays) evaporation_of evaporation_of (λ p. refl) ps m.periods same))
 
-recharged_model : (m n : FlowModel) → SameBut m n → IsRecharged n → IsModel m → IsModel n
-recharged_model m n same has h = subst IsModel (sym same.model) (recharged m n.nrchop n.periods same.periods (subst IsRecharged same.model has) h)
-
-pub recharge_valid : (m : FlowModel) (r : Result FlowModel InputFault) → IfOk r (SameBut m) → IfOk r IsRecharged → IsModel m → IfOk r IsModel
-recharge_valid m (Ok n) same has h = recharged_model m n same has h
-recharge_valid m (Err fault) same has h = tt
+pub recharge_stays : (m n : FlowModel) (option : ℤ) → n.nrchop ≡ option → SameBut m n → (pos 1 ≤ℤ option) × (option ≤ℤ pos 3) → All (λ p. AreArrays (is_int option 2) m.grid p.stresses) n.periods → IsModel m → IsModel n
+recharge_stays m n option e same range has h =
+    let is : n ≡ record m { nrchop = option; periods = n.periods } = same.model ∙ ap (λ z. record m { nrchop = z; periods = n.periods }) e in
+    subst IsModel (sym is) (recharged m option n.periods same.periods (is_recharged m option n.periods range has) h)

@@ -48,9 +48,16 @@ impl ArrayPackage for Recharge {
     }
 }
 
-/// The model with the arrays of its periods.
+/// The model with the recharge of a file of the package RCH: the option NRCHOP, and in each stress period the rates and,
+/// under option 2, the layers. `file` is the file's name, for refusals, and `folder` has the files that its arrays
+/// name. An array that a period reuses is shared, so it is in memory once.
+///
+/// # Errors
+/// The first item that is wrong is refused on its line: OutOfProfile for parameters and for another option,
+/// NothingToReuse where there is no array to reuse; CellOutside, with line 0 and the cell, for a layer that the grid
+/// lacks. A read fault comes only from the folder. (TM 6-A16, RCH)
 #[tactic(auto, unfolding(crate::specs::Packages::rch_of), using(crate::proofs::ArrayLemmas::is_recharged))]
-fn with_recharge<F: Folder>(
+pub fn read_rch<F: Folder>(
     alloc: Global,
     file: &str,
     bytes: &[u8],
@@ -63,6 +70,7 @@ fn with_recharge<F: Folder>(
     ensures model { (files : FileSet) → F.agrees folder.new files → Has (λ m. m) result (rch_of files file.now bytes.now model) }
     ensures form { IfOk result IsRecharged }
     ensures others { IfOk result (SameBut model) }
+    ensures valid { IsModel model → IfOk result IsModel }
 {
     let periods = model.periods.into_vec();
     let recharge = read_arrays::<Recharge, F>(
@@ -79,30 +87,4 @@ fn with_recharge<F: Folder>(
         periods: recharge.periods,
         ..model
     })
-}
-
-/// The model with the recharge of a file of the package RCH: the option NRCHOP, and in each stress period the rates and,
-/// under option 2, the layers. `file` is the file's name, for refusals, and `folder` has the files that its arrays
-/// name. An array that a period reuses is shared, so it is in memory once.
-///
-/// # Errors
-/// The first item that is wrong is refused on its line: OutOfProfile for parameters and for another option,
-/// NothingToReuse where there is no array to reuse; CellOutside, with line 0 and the cell, for a layer that the grid
-/// lacks. A read fault comes only from the folder. (TM 6-A16, RCH)
-pub fn read_rch<F: Folder>(
-    alloc: Global,
-    file: &str,
-    bytes: &[u8],
-    folder: &mut F,
-    model: FlowModel,
-) -> Result<FlowModel, InputFault>
-    requires size { HasSize model.grid }
-    requires text { TextMay (F.may folder.old) bytes.now }
-    ensures folder { ReadsOn F.Folder folder.old folder.new result }
-    ensures model { (files : FileSet) → F.agrees folder.new files → Has (λ m. m) result (rch_of files file.now bytes.now model) }
-    ensures form { IfOk result IsRecharged }
-    ensures others { IfOk result (SameBut model) }
-    ensures valid { IsModel model → IfOk result IsModel }
-{
-    with_recharge(alloc, file, bytes, folder, model)
 }
