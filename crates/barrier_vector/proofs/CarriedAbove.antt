@@ -34,5 +34,5 @@ module _ (m n : ℕ) (some_m : 0 < m) (some_n : 0 < n) (p : List Entries) (w : L
     somewhere_above c carried =
         elim (all_or_some (length p) carried.inside Y (b *ℤ pos n)) [
           | inr found ↦ found
-          | inl all ↦ absurd (carried_not_dry m n some_m some_n p w Y within both solves c carried (λ k. b *ℤ pos n) (λ k j e. (all k j e, cell_dry m n (length p) b (entries_at p k) (whole_at w k) (cell_within m n some_m some_n p w Y within both solves k j) (λ v mark. base v (k, j, mark)))))
+          | inl all ↦ absurd (carried_not_dry m n some_m some_n p w Y within both solves c carried (λ k. b *ℤ pos n) (λ k j e. (all k j e, cell_dry m n (length p) b (entries_at p k) (whole_at w k) (cell_within m n p w within k j) (λ v mark. base v (k, j, mark)))))
         ]

@@ -33,7 +33,7 @@ pub use Rattle.barrier_vector.specs.declared.gathered.FlowSum.{FlowSum}
 pub use Rattle.cell_balance.proofs.Cancel.{IsMutual, cut_link, cut_links}
 pub use Rattle.cell_balance.proofs.Spread.{carried_not_dry, cell_within}
 pub use Rattle.cell_balance.proofs.Sums.{sum-add, sum-same, sum-zero, term-le-sum}
-pub use Rattle.cell_balance.proofs.Totals.{add_mul, le_trans_z, same_z, sub_mul, total-same, total_more, total_neg, total_nonneg}
+pub use Rattle.cell_balance.proofs.Totals.{add_mul, le_trans_z, same_z, sub_mul, total-same, total_neg, total_nonneg}
 pub use Rattle.cell_balance.proofs.Whole.{WholeCell, WholeEntry, WholeLink, no_whole, whole_at, whole_balance, whole_deep, whole_drain, whole_evap, whole_fixed}
 pub use Rattle.cell_balance.proofs.Whole.{whole_link, whole_river}
 pub use Rattle.cell_balance.proofs.Within.{CellWithin, DrainWithin, FixedWithin, FlowWithin, IsDry, LinkWithin, RiverWithin}

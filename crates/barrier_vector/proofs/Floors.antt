@@ -4,7 +4,7 @@ use Rattle.barrier_vector.proofs.Common.{Contains, AllZip, mul-le-mul_right, int
 use Rattle.barrier_vector.proofs.Common.{sub_mul, same_z, IsMutual, WholeCell, whole_at, whole_balance, whole_link, total, cell_within, CellWithin, IsMarkBelow}
 use Rattle.barrier_vector.proofs.Common.{IsInside, need, need_on, anchor_on, LeastRoot, IsAnchorPath, IsInnerPath, IsLongest, IsAnchoredBound, IsBoundOn}
 use Rattle.barrier_vector.proofs.Common.{FloorsEnclose, CeilingsEnclose, IsSolution, ExactCell}
-use Rattle.cell_balance.proofs.Encloses.{whole_head, whole_solution, low_back, high_back}
+use Rattle.cell_balance.proofs.Encloses.{whole_head, whole_solution, bound_back}
 use Rattle.barrier_vector.proofs.Backs.{join_ways, turn_way}
 use Rattle.barrier_vector.proofs.FloorsSteps.{ceil_enough}
 use Rattle.barrier_vector.proofs.FloorsLinks.{falls_over, falls_at}
@@ -24,7 +24,7 @@ module _ (m n : ℕ) (some_m : 0 < m) (some_n : 0 < n) (p : List Entries) (w : L
       solved c i = inward_balance side (whole_at w c) (Y c) Y (solves c i)
 
       gives_here : (c : ℕ) → c < length p → inward side (Y c) <ℤ inward side (b *ℤ pos n) → (pos (anchor_on side (entries_at p c) * m) *ℤ (inward side (b *ℤ pos n) -ℤ inward side (Y c))) ≤ℤ (inward side (rest_of (whole_at w c) (Y c)) +ℤ pos (need_on side (entries_at p c)) *ℤ pos (m * n))
-      gives_here c i = gives m n (length p) b (entries_at p c) (whole_at w c) (cell_within m n some_m some_n p w Y within both solves c i) (Y c) side (λ v mark. base v (c, i, mark))
+      gives_here c i = gives m n (length p) b (entries_at p c) (whole_at w c) (cell_within m n p w within c i) (Y c) side (λ v mark. base v (c, i, mark))
 
       over : (t : ℤ) → t ≤ℤ inward side (b *ℤ pos n) → (drop c : ℕ) → c < length p → (x : Link) → Contains (entries_at p c).links x → need side p ≤ drop * x.lo → t ≤ℤ inward side (Y x.cell) → (t -ℤ pos (drop * n)) ≤ℤ inward side (Y c)
       over = falls_over m n some_m p w within both (λ k. inward side (Y k)) (λ k. inward side (rest_of (whole_at w k) (Y k))) (need_on side) (anchor_on side) (inward side (b *ℤ pos n)) solved gives_here
@@ -89,8 +89,8 @@ bounds_enclose side p s e d X given c f i bound =
     back side n whole.some (bound_encloses n (n * d) whole.some whole.some_heads p w (whole_head n X) whole.within whole.both whole.solves given.problem side c f i bound)
   where
     back : (side : Side) (n : ℕ) → 0 < n → IsInside side (f *ℤ pos (n * d)) (whole_head n X c) → IsInside side (f *ℤ pos d) (X c *ℤ pos (10 ^ 9))
-    back Low n some h = low_back n d f (X c *ℤ pos (10 ^ 9)) some h
-    back High n some h = high_back n d f (X c *ℤ pos (10 ^ 9)) some h
+    back Low n some h = bound_back n d f (X c *ℤ pos (10 ^ 9)) Low some h
+    back High n some h = bound_back n d f (X c *ℤ pos (10 ^ 9)) High some h
 
 pub floors_enclose : FloorsEnclose
 floors_enclose p = bounds_enclose Low p

@@ -1,12 +1,13 @@
 -- Beyond the base of a side a cell gets, besides its links, at least what its anchor gives less what it needs: each side with its heads and flows turned so that flows go in.
 use Rattle.barrier_vector.proofs.Common.{◌≡◌, ℕ, zero, suc, ◌*◌, ◌<◌, ◌≤◌, ◌⊎◌, inl, inr, refl, ◌∙◌, ap, subst, arith, ℤ, pos, negsuc, neg_ℤ, ◌+ℤ◌, ◌-ℤ◌, ◌*ℤ◌}
 use Rattle.barrier_vector.proofs.Common.{◌≤ℤ◌, ◌<ℤ◌, List, [], ◌∷◌, get_or, All, max, int_max, int_min, AllZip, mul-le-mul_right, cases_lt, ints, clamps}
-use Rattle.barrier_vector.proofs.Common.{All-head, All-tail, Contains-get_or, Side, Low, High, Entries, total, mul_mono, mul_nonneg, le_trans_z, total_more}
-use Rattle.barrier_vector.proofs.Common.{total_neg, total_nonneg, mul_mono_right, WholeLink, WholeCell, WholeEntry, whole_balance, whole_deep, whole_link}
-use Rattle.barrier_vector.proofs.Common.{whole_fixed, whole_river, whole_drain, whole_evap, CellWithin, FixedWithin, RiverWithin, DrainWithin, FlowWithin}
-use Rattle.barrier_vector.proofs.Common.{IsCellMark, IsInside, greatest, anchor_on, need_on, negative_part, positive_part, deep_low, high_flow, total-same}
+use Rattle.barrier_vector.proofs.Common.{All-head, All-tail, Contains-get_or, Side, Low, High, Entries, total, mul_mono, mul_nonneg, le_trans_z, total_neg}
+use Rattle.barrier_vector.proofs.Common.{total_nonneg, mul_mono_right, WholeLink, WholeCell, WholeEntry, whole_balance, whole_deep, whole_link, whole_fixed}
+use Rattle.barrier_vector.proofs.Common.{whole_river, whole_drain, whole_evap, CellWithin, FixedWithin, RiverWithin, DrainWithin, FlowWithin, IsCellMark}
+use Rattle.barrier_vector.proofs.Common.{IsInside, greatest, anchor_on, need_on, negative_part, positive_part, deep_low, high_flow, total-same}
 use Rattle.step_problem.proofs.Leasts.{mul_neg}
 use Rattle.std.proofs.Math.IntN.{zero-*ℤ}
+use Rattle.cell_balance.proofs.Sided.{total_bounds}
 use Rattle.cell_balance.proofs.Deep.{deep_less}
 use Rattle.cell_balance.proofs.Dry.{dry_balance}
 use Rattle.barrier_vector.proofs.Marking.{some_at}
@@ -113,7 +114,7 @@ module _ (m n cells : ℕ) (b : ℤ) (p : Entries) (w : WholeCell) (e : CellWith
       (λ x z r h. twice (gain x.lo m z.c _ _ r.c.lower far (near z.c z.foot (int_max (y -ℤ z.foot) (pos 0)) (inside_base High x.hi z.c x.elev_hi z.foot h r.c.upper r.foot.upper) (λ k. omega (arith, ints, clamps, k))))) p.drains w.drains e.drains
       (λ k d i some. marks _ (inr (inr (get_or p.drains k d, Contains-get_or p.drains k d i, some_at _ _ some)))) in
       let evaps = total_nonneg (λ z. Unit {0}) (λ z. neg_ℤ (whole_evap y z)) w.evaps (λ z u. takes z) (λ k d i. tt) in
-      let flows = exceeding (high_flow p) _ (m * n) (total_more (FlowWithin m n) (λ x. x.hi) (pos (m * n)) (λ z. z) (λ x z r. r.flow.upper) p.flows w.flows e.flows) in
+      let flows = exceeding (high_flow p) _ (m * n) (total_bounds High (FlowWithin m n) (λ x. x.hi) (pos (m * n)) (λ z. z) (λ x z r. r.flow.upper) p.flows w.flows e.flows) in
       let anchors = both_gains m d far _ _ _ _ fixed (both_gains m d far _ _ _ _ rivers drains) in
       sum (total (λ z. z) w.flows) _ _ _ _ _ _ (rw (total_neg (whole_fixed y) w.fixed, total_neg (whole_river y) w.rivers, total_neg (whole_drain y) w.drains) at anchors) (rw (total_neg (whole_evap y) w.evaps) at evaps) flows
     where

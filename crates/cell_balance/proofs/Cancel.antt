@@ -1,8 +1,8 @@
 -- Over all cells the flows over links cancel, and over any set only the links that leave it count.
-use Rattle.cell_balance.proofs.Common.{◌≡◌, ℕ, ◌<◌, refl, sym, ap, ◌∙◌, arith, ℤ, pos, neg_ℤ, ◌+ℤ◌, ◌-ℤ◌, ◌*ℤ◌, List, [], ◌∷◌, length, All, Bool, true, false}
-use Rattle.cell_balance.proofs.Common.{cond, nat_eq, All-head, All-tail, ints, zero-*ℤ, *ℤ-zero, total, mul_neg, sum_below, sum_inside}
-use Rattle.cell_balance.proofs.Totals.{add_mul, total-same}
-use Rattle.cell_balance.proofs.Sums.{sum-same, sum-add, sum-neg, sum-zero, sum-swap, sum-one}
+use Rattle.cell_balance.proofs.Common.{◌≡◌, ℕ, ◌<◌, refl, sym, ◌∙◌, arith, ℤ, pos, neg_ℤ, ◌+ℤ◌, ◌-ℤ◌, ◌*ℤ◌, List, [], ◌∷◌, length, All, Bool, true, false, cond}
+use Rattle.cell_balance.proofs.Common.{nat_eq, All-head, All-tail, ints, zero-*ℤ, *ℤ-zero, total, mul_neg, sum_below, sum_inside}
+use Rattle.cell_balance.proofs.Totals.{add_mul}
+use Rattle.cell_balance.proofs.Sums.{sum-same, sum-add, sum-zero, sum-one, turned_cancel}
 use Rattle.cell_balance.proofs.Whole.{WholeLink, WholeCell, whole_link, whole_at}
 
 -- what the links of a list conduct to the cell k
@@ -27,21 +27,8 @@ by_weight n (x ∷ xs) g h =
 -- flows that change their sign at the other end cancel
 cancel : (n : ℕ) (links : ℕ → List WholeLink) (g : ℕ → ℕ → ℤ) → ((c : ℕ) → c < n → All (λ x. x.cell < n) (links c)) → ((c k : ℕ) → c < n → k < n → weight (links c) k ≡ weight (links k) c) → ((c k : ℕ) → g c k ≡ neg_ℤ (g k c)) → sum_below n (λ c. total (λ x. pos x.c *ℤ g c x.cell) (links c)) ≡ pos 0
 cancel n links g range same turned =
-    no_sign _ (by_cells
-    ∙ sum-same n _ _ (λ c i. sum-same n _ _ (λ k j. turn_term c k i j))
-    ∙ sum-swap n n (λ c k. neg_ℤ (weight (links k) c *ℤ g k c))
-    ∙ sum-same n _ _ (λ k j. sum-neg n (λ c. weight (links k) c *ℤ g k c))
-    ∙ sum-neg n (λ k. sum_below n (λ c. weight (links k) c *ℤ g k c))
-    ∙ ap neg_ℤ (sym by_cells))
-  where
-    by_cells : sum_below n (λ c. total (λ x. pos x.c *ℤ g c x.cell) (links c)) ≡ sum_below n (λ c. sum_below n (λ k. weight (links c) k *ℤ g c k))
-    by_cells = sum-same n _ _ (λ c i. by_weight n (links c) (g c) (range c i))
-
-    turn_term : (c k : ℕ) → c < n → k < n → weight (links c) k *ℤ g c k ≡ neg_ℤ (weight (links k) c *ℤ g k c)
-    turn_term c k i j = rw (same c k i j, turned c k) (mul_neg (weight (links k) c) (g k c))
-
-    no_sign : (a : ℤ) → a ≡ neg_ℤ a → a ≡ pos 0
-    no_sign a e = omega (arith, ints)
+    sum-same n _ _ (λ c i. by_weight n (links c) (g c) (range c i))
+    ∙ turned_cancel n (λ c k. weight (links c) k *ℤ g c k) (λ c k i j. rw (same c k i j, turned c k) (mul_neg (weight (links k) c) (g k c)))
 
 -- the flow over a link that leaves the set
 abbrev pub cut_link : (ℕ → Bool) → (ℕ → ℤ) → ℤ → WholeLink → ℤ
@@ -83,22 +70,3 @@ cut_links w inside Y other both =
     sum-same n _ _ (λ c i. one_cell inside Y (Y c) (other c) (whole_at w c).links (inside c))
     ∙ sum-add n _ (λ c. total (λ x. pos x.c *ℤ inner inside Y c x.cell) (whole_at w c).links)
     ∙ rw none_inside (omega (arith, ints))
-
--- over a set that no link leaves the flows over links cancel
-pub closed_cancel : (w : List WholeCell) (inside : ℕ → Bool) (Y : ℕ → ℤ) → IsMutual w → ((c : ℕ) → c < length w → inside c ≡ true → All (λ x. inside x.cell ≡ true) (whole_at w c).links) → sum_inside (length w) inside (λ c. total (whole_link Y (Y c)) (whole_at w c).links) ≡ pos 0
-closed_cancel w inside Y both closed =
-    sum-same (length w) _ _ (λ c i. with_none (inside c) (total (whole_link Y (Y c)) (whole_at w c).links))
-    ∙ cut_links w inside Y (λ c. pos 0) both
-    ∙ sum-same (length w) _ (λ c. pos 0) (λ c i. none_cut c i (inside c) refl)
-    ∙ sum-zero (length w)
-  where
-    with_none : (b : Bool) (a : ℤ) → cond b a (pos 0) ≡ cond b (a +ℤ pos 0) (pos 0)
-    with_none true a = omega (arith, ints)
-    with_none false a = refl
-
-    no_cut : (y : ℤ) (x : WholeLink) → inside x.cell ≡ true → cut_link inside Y y x ≡ pos 0
-    no_cut y x e = rw e refl
-
-    none_cut : (c : ℕ) → c < length w → (b : Bool) → inside c ≡ b → cond b (total (cut_link inside Y (Y c)) (whole_at w c).links +ℤ pos 0) (pos 0) ≡ pos 0
-    none_cut c i true e = rw (total-same (λ x. inside x.cell ≡ true) (cut_link inside Y (Y c)) (λ x. pos 0) (whole_at w c).links (no_cut (Y c)) (closed c i e), total-zeros (λ x. pos 0) (whole_at w c).links (λ x. refl)) refl
-    none_cut c i false e = refl

@@ -1,71 +1,54 @@
 -- The comparison in whole numbers: a certificate over a barrier encloses every solution that the barrier does.
-use Rattle.cell_balance.proofs.Common.{◌≡◌, ℕ, ◌<◌, ◌⊎◌, inl, inr, sym, subst, arith, ℤ, pos, ◌-ℤ◌, ◌*ℤ◌, ◌≤ℤ◌, ◌<ℤ◌, List, length, AllZip, ints, by_lt_z}
-use Rattle.cell_balance.proofs.Common.{Entries, entries_at, lower_balance, upper_balance, IsHeldBelow, mul_mono_right}
+use Rattle.cell_balance.proofs.Common.{◌≡◌, ℕ, ◌*◌, ◌<◌, ◌⊎◌, inl, inr, arith, ℤ, pos, ◌*ℤ◌, ◌≤ℤ◌, ◌<ℤ◌, List, length, AllZip, ints, zero-*ℤ, Entries}
+use Rattle.cell_balance.proofs.Common.{entries_at, IsHeldBelow, mul_mono_right, Side, Low, High}
+use Rattle.step_problem.specs.Balances.{balance}
+use Rattle.cell_balance.proofs.Sided.{Bounds, bounds_trans}
+use Rattle.cell_balance.proofs.SideCell.{balance_bounds}
 use Rattle.cell_balance.proofs.Zips.{AllZip-length}
-use Rattle.cell_balance.proofs.Products.{not_zero, IsTight}
-use Rattle.cell_balance.proofs.Sums.{max_of}
 use Rattle.cell_balance.proofs.Cancel.{IsMutual}
-use Rattle.cell_balance.proofs.LowCell.{low_cell}
-use Rattle.cell_balance.proofs.HighCell.{high_cell}
-use Rattle.cell_balance.proofs.Spread.{cell_within, no_anchor, not_carried}
+use Rattle.cell_balance.proofs.Comparison.{comparison}
+use Rattle.cell_balance.proofs.Conducting.{both_ways}
+use Rattle.cell_balance.proofs.HeldBelow.{held_below}
+use Rattle.cell_balance.proofs.Spread.{cell_within}
 use Rattle.cell_balance.proofs.Whole.{WholeCell, whole_at, whole_balance}
+use Rattle.cell_balance.proofs.WholeBalances.{ramps_from, a_of, b_of, q_of, balance_is_net_flow}
 use Rattle.cell_balance.proofs.Within.{CellWithin}
 
-module _ (m n : ℕ) (some_m : 0 < m) (some_n : 0 < n) (p : List Entries) (w : List WholeCell) (Y : ℕ → ℤ)
-    (within : AllZip (CellWithin m n (length p)) p w) (both : IsMutual w)
-    (solves : (c : ℕ) → c < length w → whole_balance (whole_at w c) (Y c) Y ≡ pos 0) (held : IsHeldBelow p)
+bounds_times : (side : Side) (k : ℕ) (a b : ℤ) → Bounds side a b → Bounds side (a *ℤ pos k) (b *ℤ pos k)
+bounds_times Low k a b h = mul_mono_right k a b h
+bounds_times High k a b h = mul_mono_right k b a h
+
+module _ (m n : ℕ) (some_m : 0 < m) (some_n : 0 < n) (p : List Entries) (w : List WholeCell)
+    (within : AllZip (CellWithin m n (length p)) p w) (both : IsMutual w) (held : IsHeldBelow p)
   where
-    -- where each cell of the greatest excess is tight, none is above 0
-    nowhere_above : (excess : ℕ → ℤ) → ((top : ℤ) → pos 0 <ℤ top → ((k : ℕ) → k < length p → excess k ≤ℤ top) → (c : ℕ) → c < length p → excess c ≡ top → IsTight excess top (Y c) (entries_at p c) (whole_at w c)) → (c : ℕ) → c < length p → excess c ≤ℤ pos 0
-    nowhere_above excess tight c i =
-        let (top, some, above, reached) = max_of excess (length p) in
-        by_lt_z (pos 0) top
-        (λ h.
-        elim reached [
-          | inl none ↦ absurd (not_zero top h none)
-          | inr (k, k_in, is) ↦ elim (held k k_in) [
-            | inl leads ↦ absurd (no_anchor m n some_m some_n p w Y within both solves excess top (tight top h above) leads.0 k k_in is leads.1)
-            | inr carried ↦ absurd (not_carried m n some_m some_n p w Y within both solves excess top (tight top h above) k k_in is carried)
+    same_length : length p ≡ length w
+    same_length = AllZip-length (CellWithin m n (length p)) p w within
+
+    -- heads X at which no cell gains water lie nowhere below heads Z at which none loses water
+    highest : (X Z : ℕ → ℤ) → ((c : ℕ) → c < length p → X c <ℤ Z c → whole_balance (whole_at w c) (X c) X ≤ℤ pos 0) → ((c : ℕ) → c < length p → X c <ℤ Z c → pos 0 ≤ℤ whole_balance (whole_at w c) (Z c) Z) → (c : ℕ) → c < length p → Z c ≤ℤ X c
+    highest X Z loses gains c i =
+        comparison (length w) (a_of w) (b_of w) (q_of w) (ramps_from 0 w) (both_ways w both) (held_below m n some_m some_n p w within held) 1 X Z (omega arith)
+        (λ k j up. rw (← balance_is_net_flow w X k (both.range k j)) (loses k (omega (arith, j, same_length)) up))
+        (λ k j up. rw (← balance_is_net_flow w Z k (both.range k j)) (gains k (omega (arith, j, same_length)) up))
+        c (omega (arith, i, same_length))
+
+    module _ (Y : ℕ → ℤ) (solves : (c : ℕ) → c < length w → whole_balance (whole_at w c) (Y c) Y ≡ pos 0) (h edge : ℕ → ℤ) where
+      -- a bound past the solution lies past its edge, or its balance lets it lie there
+      lets : (side : Side) → ((c : ℕ) → c < length p → Bounds side (h c) (edge c) ⊎ Bounds side (pos 0) (balance side (entries_at p c) (h c) h)) → ((c : ℕ) → c < length p → Bounds side (edge c *ℤ pos n) (Y c)) →
+          (c : ℕ) → c < length p → Bounds side (h c *ℤ pos n) (Y c) ⊎ Bounds side (pos 0) (whole_balance (whole_at w c) (h c *ℤ pos n) (λ k. h k *ℤ pos n))
+      lets side certificate barrier c i =
+          elim (certificate c i) [
+            | inl inner ↦ inl (bounds_trans side _ _ _ (bounds_times side n _ _ inner) (barrier c i))
+            | inr can ↦ inr (bounds_trans side _ _ _ (rw zero-*ℤ at (bounds_times side (m * n) _ _ can)) (balance_bounds side m n (length p) (entries_at p c) (whole_at w c) (cell_within m n p w within c i) (h c) h))
           ]
-        ])
-        (λ h. omega (arith, ints, above c i))
 
-    solved : (c : ℕ) → c < length p → whole_balance (whole_at w c) (Y c) Y ≡ pos 0
-    solved c i = solves c (omega (arith, same))
-      where
-        same : length p ≡ length w
-        same = AllZip-length (CellWithin m n (length p)) p w within
+      zero_at : (c : ℕ) → c < length p → whole_balance (whole_at w c) (Y c) Y ≡ pos 0
+      zero_at c i = solves c (omega (arith, i, same_length))
 
-    pub compare_low : (l floor : ℕ → ℤ) → ((c : ℕ) → c < length p → (l c ≤ℤ floor c) ⊎ (pos 0 ≤ℤ lower_balance (entries_at p c) (l c) l)) → ((c : ℕ) → c < length p → (floor c *ℤ pos n) ≤ℤ Y c) → (c : ℕ) → c < length p → (l c *ℤ pos n) ≤ℤ Y c
-    compare_low l floor certificate barrier c i = done _ _ (nowhere_above (λ k. l k *ℤ pos n -ℤ Y k) tight c i)
-      where
-        done : (a b : ℤ) → (a -ℤ b) ≤ℤ pos 0 → a ≤ℤ b
-        done a b h = omega (arith, ints)
-
-        tight : (top : ℤ) → pos 0 <ℤ top → ((k : ℕ) → k < length p → (l k *ℤ pos n -ℤ Y k) ≤ℤ top) → (c : ℕ) → c < length p → l c *ℤ pos n -ℤ Y c ≡ top → IsTight (λ k. l k *ℤ pos n -ℤ Y k) top (Y c) (entries_at p c) (whole_at w c)
-        tight top some most c i e =
-            elim (certificate c i) [
-              | inl under ↦ absurd (omega (arith, ints, mul_mono_right n (l c) (floor c) under, barrier c i))
-              | inr high ↦
-                  let some' = subst (λ (z : ℤ). pos 0 <ℤ z) (sym e) some in
-                  let most' = subst (λ (z : ℤ). (k : ℕ) → k < length p → (l k *ℤ pos n -ℤ Y k) ≤ℤ z) (sym e) most in
-                  subst (λ (z : ℤ). IsTight (λ k. l k *ℤ pos n -ℤ Y k) z (Y c) (entries_at p c) (whole_at w c)) e
-                  (low_cell m n (length p) some_m l Y (l c) (Y c) some' most' (entries_at p c) (whole_at w c) (cell_within m n some_m some_n p w Y within both solves c i) high (solved c i))
-            ]
-
-    pub compare_high : (u ceiling : ℕ → ℤ) → ((c : ℕ) → c < length p → (ceiling c ≤ℤ u c) ⊎ (upper_balance (entries_at p c) (u c) u ≤ℤ pos 0)) → ((c : ℕ) → c < length p → Y c ≤ℤ (ceiling c *ℤ pos n)) → (c : ℕ) → c < length p → Y c ≤ℤ (u c *ℤ pos n)
-    compare_high u ceiling certificate barrier c i = done _ _ (nowhere_above (λ k. Y k -ℤ u k *ℤ pos n) tight c i)
-      where
-        done : (a b : ℤ) → (a -ℤ b) ≤ℤ pos 0 → a ≤ℤ b
-        done a b h = omega (arith, ints)
-
-        tight : (top : ℤ) → pos 0 <ℤ top → ((k : ℕ) → k < length p → (Y k -ℤ u k *ℤ pos n) ≤ℤ top) → (c : ℕ) → c < length p → Y c -ℤ u c *ℤ pos n ≡ top → IsTight (λ k. Y k -ℤ u k *ℤ pos n) top (Y c) (entries_at p c) (whole_at w c)
-        tight top some most c i e =
-            elim (certificate c i) [
-              | inl over ↦ absurd (omega (arith, ints, mul_mono_right n (ceiling c) (u c) over, barrier c i))
-              | inr low ↦
-                  let some' = subst (λ (z : ℤ). pos 0 <ℤ z) (sym e) some in
-                  let most' = subst (λ (z : ℤ). (k : ℕ) → k < length p → (Y k -ℤ u k *ℤ pos n) ≤ℤ z) (sym e) most in
-                  subst (λ (z : ℤ). IsTight (λ k. Y k -ℤ u k *ℤ pos n) z (Y c) (entries_at p c) (whole_at w c)) e
-                  (high_cell m n (length p) some_m u Y (u c) (Y c) some' most' (entries_at p c) (whole_at w c) (cell_within m n some_m some_n p w Y within both solves c i) low (solved c i))
-            ]
+      pub compare : (side : Side) → ((c : ℕ) → c < length p → Bounds side (h c) (edge c) ⊎ Bounds side (pos 0) (balance side (entries_at p c) (h c) h)) → ((c : ℕ) → c < length p → Bounds side (edge c *ℤ pos n) (Y c)) → (c : ℕ) → c < length p → Bounds side (h c *ℤ pos n) (Y c)
+      compare Low certificate barrier =
+          highest Y (λ k. h k *ℤ pos n) (λ c i up. omega (arith, ints, zero_at c i))
+          (λ c i up. elim (lets Low certificate barrier c i) [ inl under ↦ absurd (omega (arith, ints, up, under)) | inr can ↦ can ])
+      compare High certificate barrier =
+          highest (λ k. h k *ℤ pos n) Y (λ c i up. elim (lets High certificate barrier c i) [ inl over ↦ absurd (omega (arith, ints, up, over)) | inr can ↦ can ])
+          (λ c i up. omega (arith, ints, zero_at c i))

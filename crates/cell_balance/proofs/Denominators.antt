@@ -14,7 +14,7 @@ Goes-first a b = (b, refl)
 Goes-second : (a b : ℕ) → Goes b (a * b)
 Goes-second a b = (a, omega arith)
 
-Goes-trans : (a b c : ℕ) → Goes a b → Goes b c → Goes a c
+pub Goes-trans : (a b c : ℕ) → Goes a b → Goes b c → Goes a c
 Goes-trans a b c (q, e) (r, f) = (q * r, f ∙ ap (λ (z : ℕ). z * r) e ∙ assoc a q r)
   where
     assoc : (a q r : ℕ) → a * q * r ≡ a * (q * r)
@@ -64,6 +64,14 @@ drain_den x = entry_den x.conductance x.elevation x.elevation
 abbrev pub evap_den : ExactEvap → ℕ
 evap_den x = entry_den x.conductance x.surface x.extinction
 
+-- the product of the denominators of a list, of a cell's entries, and of a step's cells
+abbrev pub product : {X : Type 0} → (X → ℕ) → List X → ℕ
+product f [] = 1
+product f (x ∷ xs) = f x * product f xs
+
+abbrev pub cell_den : ExactCell → ℕ
+cell_den c = product flow_den c.flows * (product link_den c.links * (product fixed_den c.fixed * (product river_den c.rivers * (product drain_den c.drains * product evap_den c.evaps))))
+
 -- d is a common denominator of a list of entries, and of a cell's entries
 abbrev pub AllGo : {X : Type 0} → (X → ℕ) → ℕ → List X → Type 0
 AllGo f d xs = All (λ x. Goes (f x) d) xs
@@ -76,65 +84,43 @@ pub record IsCommon (d : ℕ) (c : ExactCell) : Type 0 where
   pub drains : AllGo drain_den d c.drains
   pub evaps : AllGo evap_den d c.evaps
 
-AllGo-more : {X : Type 0} (f : X → ℕ) (d n : ℕ) (xs : List X) → Goes d n → AllGo f d xs → AllGo f n xs
-AllGo-more f d n xs g h = All-weaker (λ x. Goes (f x) d) (λ x. Goes (f x) n) (λ x k. Goes-trans (f x) d n k g) xs h
+pub some_product : {X : Type 0} (f : X → ℕ) → ((x : X) → 0 < f x) → (xs : List X) → 0 < product f xs
+some_product f some [] = omega arith
+some_product f some (x ∷ xs) = mul-pos (some x) (some_product f some xs)
 
-IsCommon-more : (d n : ℕ) (c : ExactCell) → Goes d n → IsCommon d c → IsCommon n c
-IsCommon-more d n c g h = record {
-  flows = AllGo-more flow_den d n c.flows g h.flows;
-  links = AllGo-more link_den d n c.links g h.links;
-  fixed = AllGo-more fixed_den d n c.fixed g h.fixed;
-  rivers = AllGo-more river_den d n c.rivers g h.rivers;
-  drains = AllGo-more drain_den d n c.drains g h.drains;
-  evaps = AllGo-more evap_den d n c.evaps g h.evaps;
-}
-
--- a list of numbers above 0 has a common multiple above 0
-common_of : {X : Type 0} (f : X → ℕ) → ((x : X) → 0 < f x) → (xs : List X) → (d : ℕ) × (0 < d) × AllGo f d xs
-common_of f some [] = (1, omega arith, All-nil (λ x. Goes (f x) 1))
-common_of f some (x ∷ xs) =
-    let (d, some_d, all) = common_of f some xs in
-    (f x * d, mul-pos (some x) some_d, All-cons (λ y. Goes (f y) (f x * d)) x xs (Goes-first (f x) d) (AllGo-more f d (f x * d) xs (Goes-second (f x) d) all))
+each_goes : {X : Type 0} (f : X → ℕ) (xs : List X) (d : ℕ) → Goes (product f xs) d → AllGo f d xs
+each_goes f [] d g = All-nil (λ x. Goes (f x) d)
+each_goes f (x ∷ xs) d g = All-cons (λ y. Goes (f y) d) x xs (left_goes (f x) (product f xs) d g) (each_goes f xs d (right_goes (f x) (product f xs) d g))
 
 pub some_entry : (r : Ratio) (top foot : Fraction) → 0 < entry_den r top foot
 some_entry r top foot = mul-pos (omega arith) (mul-pos (omega arith) (omega arith))
 
--- the product of six numbers
-abbrev six : ℕ → ℕ → ℕ → ℕ → ℕ → ℕ → ℕ
-six a b c d e f = a * (b * (c * (d * (e * f))))
+some_cell : (c : ExactCell) → 0 < cell_den c
+some_cell c =
+    mul-pos (some_product flow_den (λ e. omega arith) c.flows) (mul-pos (some_product link_den (λ e. omega arith) c.links)
+    (mul-pos (some_product fixed_den (λ e. some_entry e.conductance e.head e.head) c.fixed)
+    (mul-pos (some_product river_den (λ e. some_entry e.conductance e.stage e.bottom) c.rivers)
+    (mul-pos (some_product drain_den (λ e. some_entry e.conductance e.elevation e.elevation) c.drains)
+    (some_product evap_den (λ e. some_entry e.conductance e.surface e.extinction) c.evaps)))))
 
-some_six : (a b c d e f : ℕ) → 0 < a → 0 < b → 0 < c → 0 < d → 0 < e → 0 < f → 0 < six a b c d e f
-some_six a b c d e f ha hb hc hd he hf = mul-pos ha (mul-pos hb (mul-pos hc (mul-pos hd (mul-pos he hf))))
-
-go_six : (a b c d e f : ℕ) → Goes a (six a b c d e f) × Goes b (six a b c d e f) × Goes c (six a b c d e f) × Goes d (six a b c d e f) × Goes e (six a b c d e f) × Goes f (six a b c d e f)
-go_six a b c d e f = ((b * (c * (d * (e * f))), refl), (a * (c * (d * (e * f))), omega arith), (a * b * (d * (e * f)), omega arith), (a * b * c * (e * f), omega arith), (a * b * c * d * f, omega arith), (a * b * c * d * e, omega arith))
-
-join : (c : ExactCell) (x y z u v t : ℕ) → AllGo flow_den x c.flows → AllGo link_den y c.links → AllGo fixed_den z c.fixed → AllGo river_den u c.rivers → AllGo drain_den v c.drains → AllGo evap_den t c.evaps → IsCommon (six x y z u v t) c
-join c x y z u v t flows links fixed rivers drains evaps =
-    let go = go_six x y z u v t in
+common_by : (d : ℕ) (c : ExactCell) → Goes (cell_den c) d → IsCommon d c
+common_by d c g =
+    let links = right_goes _ _ d g in
+    let fixed = right_goes _ _ d links in
+    let rivers = right_goes _ _ d fixed in
+    let drains = right_goes _ _ d rivers in
     record {
-      flows = AllGo-more flow_den x (six x y z u v t) c.flows go.0 flows;
-      links = AllGo-more link_den y (six x y z u v t) c.links go.1 links;
-      fixed = AllGo-more fixed_den z (six x y z u v t) c.fixed go.2 fixed;
-      rivers = AllGo-more river_den u (six x y z u v t) c.rivers go.3 rivers;
-      drains = AllGo-more drain_den v (six x y z u v t) c.drains go.4 drains;
-      evaps = AllGo-more evap_den t (six x y z u v t) c.evaps go.5 evaps;
+      flows = each_goes flow_den c.flows d (left_goes _ _ d g);
+      links = each_goes link_den c.links d (left_goes _ _ d links);
+      fixed = each_goes fixed_den c.fixed d (left_goes _ _ d fixed);
+      rivers = each_goes river_den c.rivers d (left_goes _ _ d rivers);
+      drains = each_goes drain_den c.drains d (left_goes _ _ d drains);
+      evaps = each_goes evap_den c.evaps d (right_goes _ _ d drains);
     }
 
 pub cell_common : (c : ExactCell) → (d : ℕ) × (0 < d) × IsCommon d c
-cell_common c =
-    let (x, hx, flows) = common_of flow_den (λ e. omega arith) c.flows in
-    let (y, hy, links) = common_of link_den (λ e. omega arith) c.links in
-    let (z, hz, fixed) = common_of fixed_den (λ e. some_entry e.conductance e.head e.head) c.fixed in
-    let (u, hu, rivers) = common_of river_den (λ e. some_entry e.conductance e.stage e.bottom) c.rivers in
-    let (v, hv, drains) = common_of drain_den (λ e. some_entry e.conductance e.elevation e.elevation) c.drains in
-    let (t, ht, evaps) = common_of evap_den (λ e. some_entry e.conductance e.surface e.extinction) c.evaps in
-    (six x y z u v t, some_six x y z u v t hx hy hz hu hv ht, join c x y z u v t flows links fixed rivers drains evaps)
+cell_common c = (cell_den c, some_cell c, common_by (cell_den c) c (1, omega arith))
 
 -- a step's cells have a common denominator
 pub step_common : (e : List ExactCell) → (d : ℕ) × (0 < d) × All (IsCommon d) e
-step_common [] = (1, omega arith, All-nil (IsCommon 1))
-step_common (c ∷ cs) =
-    let (a, some_a, own) = cell_common c in
-    let (b, some_b, others) = step_common cs in
-    (a * b, mul-pos some_a some_b, All-cons (IsCommon (a * b)) c cs (IsCommon-more a (a * b) c (Goes-first a b) own) (All-weaker (IsCommon b) (IsCommon (a * b)) (λ x k. IsCommon-more b (a * b) x (Goes-second a b) k) cs others))
+step_common e = let d = product cell_den e in (d, some_product cell_den some_cell e, All-weaker (λ c. Goes (cell_den c) d) (IsCommon d) (common_by d) e (each_goes cell_den e d (1, omega arith)))

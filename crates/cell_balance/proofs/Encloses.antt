@@ -1,7 +1,7 @@
 -- The comparison: from fractions to whole numbers and back.
-use Rattle.cell_balance.proofs.Common.{◌≡◌, ℕ, suc, ◌-◌, ◌*◌, ◌^◌, ◌<◌, ◌≤◌, sym, ap, ◌∙◌, subst, arith, ℤ, pos, ◌*ℤ◌, ◌≤ℤ◌, List, length, mul-pos, AllZip}
-use Rattle.cell_balance.proofs.Common.{IsOver, cancel_right, mul_mono_right, swap, mul_assoc, head_at, ExactCell, cell_at, no_cell, balance, share, SolvesStep}
-use Rattle.cell_balance.proofs.Common.{Compares, Entries, IsProblem, EnclosesStep}
+use Rattle.cell_balance.proofs.Common.{◌≡◌, ℕ, suc, ◌-◌, ◌*◌, ◌^◌, ◌<◌, sym, ap, ◌∙◌, subst, arith, ℤ, pos, ◌*ℤ◌, List, length, mul-pos, AllZip, IsOver}
+use Rattle.cell_balance.proofs.Common.{cancel_right, mul_mono_right, swap, mul_assoc, head_at, ExactCell, cell_at, no_cell, balance, share, SolvesStep}
+use Rattle.cell_balance.proofs.Common.{Compares, Entries, IsProblem, EnclosesStep, Side, Low, High}
 use Rattle.cell_balance.proofs.Zips.{AllZip-at, AllZip-length}
 use Rattle.cell_balance.proofs.Scaling.{zero_over}
 use Rattle.cell_balance.proofs.Over.{CellOver, balance_over}
@@ -9,7 +9,8 @@ use Rattle.cell_balance.proofs.Denominators.{step_common}
 use Rattle.cell_balance.proofs.Wholes.{whole_step}
 use Rattle.cell_balance.proofs.Enclosed.{step_within, linked, links_good}
 use Rattle.cell_balance.proofs.Mutual.{mutual_whole}
-use Rattle.cell_balance.proofs.Compare.{compare_low, compare_high}
+use Rattle.cell_balance.proofs.Compare.{compare}
+use Rattle.cell_balance.proofs.Sided.{Bounds}
 use Rattle.cell_balance.proofs.Cancel.{IsMutual}
 use Rattle.cell_balance.proofs.Within.{CellWithin}
 use Rattle.cell_balance.proofs.Whole.{WholeCell, whole_at, no_whole, whole_balance}
@@ -77,22 +78,19 @@ module _ (n d : ℕ) (a y : ℤ) where
   spread : a *ℤ pos (n * d) ≡ (a *ℤ pos d) *ℤ pos n
   spread = sym (swap a (pos d) (pos n) ∙ mul_assoc a (pos n) (pos d))
 
-  low_over : (a *ℤ pos d) ≤ℤ y → (a *ℤ pos (n * d)) ≤ℤ (y *ℤ pos n)
-  low_over h = rw spread (mul_mono_right n _ _ h)
+  bound_over : (side : Side) → Bounds side (a *ℤ pos d) y → Bounds side (a *ℤ pos (n * d)) (y *ℤ pos n)
+  bound_over Low h = rw spread (mul_mono_right n _ _ h)
+  bound_over High h = rw spread (mul_mono_right n _ _ h)
 
-  high_over : y ≤ℤ (a *ℤ pos d) → (y *ℤ pos n) ≤ℤ (a *ℤ pos (n * d))
-  high_over h = rw spread (mul_mono_right n _ _ h)
-
-  pub low_back : 0 < n → (a *ℤ pos (n * d)) ≤ℤ (y *ℤ pos n) → (a *ℤ pos d) ≤ℤ y
-  low_back some k = cancel_right n _ _ some (rw spread at k)
-
-  pub high_back : 0 < n → (y *ℤ pos n) ≤ℤ (a *ℤ pos (n * d)) → y ≤ℤ (a *ℤ pos d)
-  high_back some k = cancel_right n _ _ some (rw spread at k)
+  pub bound_back : (side : Side) → 0 < n → Bounds side (a *ℤ pos (n * d)) (y *ℤ pos n) → Bounds side (a *ℤ pos d) y
+  bound_back Low some k = cancel_right n _ _ some (rw spread at k)
+  bound_back High some k = cancel_right n _ _ some (rw spread at k)
 
 pub compares : Compares
 compares p b l u s e d X given =
     let (n, w, whole) = whole_solution p s e d X given.problem given.encloses given.some given.solves in
+    let on = compare n (n * d) whole.some whole.some_heads p w whole.within whole.both given.held (whole_head n X) whole.solves in
     record {
-      low = λ c i. low_back n d _ _ whole.some (compare_low n (n * d) whole.some whole.some_heads p w (whole_head n X) whole.within whole.both whole.solves given.held l (head_at b.floor) given.certificate.low (λ k j. low_over n d _ _ (given.barrier.low k j)) c i);
-      high = λ c i. high_back n d _ _ whole.some (compare_high n (n * d) whole.some whole.some_heads p w (whole_head n X) whole.within whole.both whole.solves given.held u (head_at b.ceiling) given.certificate.high (λ k j. high_over n d _ _ (given.barrier.high k j)) c i);
+      low = λ c i. bound_back n d _ _ Low whole.some (on l (head_at b.floor) Low given.certificate.low (λ k j. bound_over n d _ _ Low (given.barrier.low k j)) c i);
+      high = λ c i. bound_back n d _ _ High whole.some (on u (head_at b.ceiling) High given.certificate.high (λ k j. bound_over n d _ _ High (given.barrier.high k j)) c i);
     }

@@ -1,10 +1,9 @@
 -- Sums of enclosed fractions, and their parts, are enclosed.
-use Rattle.cell_balance.proofs.Common.{◌≡◌, ℕ, zero, suc, ◌+◌, ◌*◌, ◌^◌, ◌<◌, refl, arith, List, [], ◌∷◌, Bool, true, false, map, ℤ, pos, neg_ℤ, ◌+ℤ◌, ◌*ℤ◌}
-use Rattle.cell_balance.proofs.Common.{◌≤ℤ◌, mul-pos, filter, AllZip, int_max, ints, Fraction, den, whole, negated, plus, fraction_total, EnclosesSigned, total}
-use Rattle.cell_balance.proofs.Common.{greater, sum_below, total_below, le-add}
+use Rattle.cell_balance.proofs.Common.{◌≡◌, ℕ, zero, suc, ◌*◌, ◌^◌, ◌<◌, refl, arith, List, [], ◌∷◌, Bool, true, false, map, ℤ, pos, neg_ℤ, ◌+ℤ◌, mul-pos}
+use Rattle.cell_balance.proofs.Common.{filter, AllZip, int_max, ints, Fraction, den, whole, negated, plus, fraction_total, EnclosesSigned, total, greater}
+use Rattle.cell_balance.proofs.Common.{sum_below, total_below, le-add, clamps, zero-*ℤ}
 use Rattle.cell_balance.proofs.Totals.{add_mul}
-use Rattle.cell_balance.proofs.Products.{max_above, max_below}
-use Rattle.cell_balance.proofs.Scaling.{IsOver-plus, IsOver-greater, IsOver-none}
+use Rattle.cell_balance.proofs.Scaling.{IsOver-plus, IsOver-greater, IsOver-none, max_times}
 use Rattle.cell_balance.proofs.Enclosed.{between_over}
 use Rattle.cell_balance.proofs.EntryScaled.{enclosed_over}
 use Rattle.cell_balance.proofs.Denominators.{Goes, fraction_over}
@@ -29,14 +28,8 @@ plus_encloses a b c d k f g p q =
     enclosed_over (a +ℤ c) (b +ℤ d) k n (plus f g) (y +ℤ z) (mul-pos (omega arith) (omega arith)) (IsOver-plus (n * 10 ^ k) f g y z over_f over_g)
     (rw add_mul (le-add _ _ _ _ in_f.lower in_g.lower)) (rw add_mul (le-add _ _ _ _ in_f.upper in_g.upper))
 
-nothing_less : (n : ℕ) → (pos 0 *ℤ pos n) ≤ℤ pos 0
-nothing_less n = omega (arith, ints)
-
-nothing_more : (n : ℕ) → pos 0 ≤ℤ (pos 0 *ℤ pos n)
-nothing_more n = omega (arith, ints)
-
 pub none_encloses : (k : ℕ) → EnclosesSigned (pos 0) (pos 0) k (whole (pos 0))
-none_encloses k = enclosed_over (pos 0) (pos 0) k 1 (whole (pos 0)) (pos 0) (omega arith) (IsOver-none (1 * 10 ^ k)) (nothing_less 1) (nothing_more 1)
+none_encloses k = enclosed_over (pos 0) (pos 0) k 1 (whole (pos 0)) (pos 0) (omega arith) (IsOver-none (1 * 10 ^ k)) (omega (arith, ints)) (omega (arith, ints))
 
 pub greater_encloses : (a b : ℤ) (k : ℕ) (f : Fraction) → EnclosesSigned a b k f → EnclosesSigned (int_max a (pos 0)) (int_max b (pos 0)) k (greater f (whole (pos 0)))
 greater_encloses a b k f p =
@@ -44,7 +37,7 @@ greater_encloses a b k f p =
     let (z, over) = fraction_over n (10 ^ k) f (same (den f)) in
     let inside = between_over a b k n f z p over in
     enclosed_over _ _ k n (greater f (whole (pos 0))) (int_max z (pos 0)) (omega arith) (IsOver-greater (n * 10 ^ k) f (whole (pos 0)) z (pos 0) over (IsOver-none (n * 10 ^ k)))
-    (max_below n a (pos 0) z (pos 0) inside.lower (nothing_less n)) (max_above n b (pos 0) z (pos 0) inside.upper (nothing_more n))
+    (rw (max_times, zero-*ℤ) (omega (arith, ints, clamps, inside.lower))) (rw (max_times, zero-*ℤ) (omega (arith, ints, clamps, inside.upper)))
 
 -- what of an enclosed flow goes in is its positive part, and what goes out that of the negated flow
 pub in_encloses : (a b : ℤ) (k : ℕ) (f : Fraction) → EnclosesSigned a b k f → EnclosesSigned (int_max a (pos 0)) (int_max b (pos 0)) k (greater f (whole (pos 0)))

@@ -1,25 +1,23 @@
 -- The bounds of single flows enclose them, from their whole numbers.
-use Rattle.cell_balance.proofs.Common.{ℕ, ◌+◌, ◌*◌, ◌^◌, ◌<◌, refl, sym, subst, arith, ℤ, pos, ◌+ℤ◌, ◌-ℤ◌, ◌*ℤ◌, ◌≤ℤ◌, mul-pos, ints, Ratio, Fraction, den}
-use Rattle.cell_balance.proofs.Common.{IsOver, EnclosesSigned, IsBetweenSigned, Link, link_low, link_high, least, most, mul_nonneg, ExactLink, link_flow}
-use Rattle.cell_balance.proofs.Common.{fixed_flow, river_flow, drain_flow, evap_flow, LinkEncloses, BoundsHold}
+use Rattle.cell_balance.proofs.Common.{ℕ, ◌+◌, ◌*◌, ◌^◌, ◌<◌, refl, sym, subst, arith, ℤ, pos, ◌-ℤ◌, ◌*ℤ◌, ◌≤ℤ◌, mul-pos, ints, Ratio, Fraction, den, IsOver}
+use Rattle.cell_balance.proofs.Common.{EnclosesSigned, IsBetweenSigned, Link, link_low, link_high, least, most, ExactLink, link_flow, fixed_flow, river_flow}
+use Rattle.cell_balance.proofs.Common.{drain_flow, evap_flow, LinkEncloses, BoundsHold, Side, Low, High}
 use Rattle.cell_balance.proofs.Totals.{sub_mul}
-use Rattle.cell_balance.proofs.Products.{entry_less, entry_more, sub_less}
-use Rattle.cell_balance.proofs.LowEntries.{fixed_gap, river_less, drain_less, evap_less}
-use Rattle.cell_balance.proofs.HighEntries.{river_more, drain_more, evap_more, fixed_gap as fixed_gap_high}
+use Rattle.step_problem.specs.Balances.{fixed_flow as fixed_on, river_flow as river_on, drain_flow as drain_on, evap_flow as evap_on}
+use Rattle.cell_balance.proofs.Sided.{entry_bounds}
+use Rattle.cell_balance.proofs.Gaps.{Kind, whole_flow, IsSeen, seen_bounds, fixed_seen, river_seen, drain_seen, evap_seen}
+use Rattle.cell_balance.proofs.Gaps.Kind.{OfFixed, OfRiver, OfDrain, OfEvap}
 use Rattle.cell_balance.proofs.Enclosed.{between_share, between_over, flow_denominator, entry_within}
 use Rattle.cell_balance.proofs.EntryScaled.{enclosed_over}
 use Rattle.cell_balance.proofs.EntryFlows.{difference_over}
 use Rattle.cell_balance.proofs.Denominators.{Goes, fraction_over, share_over, left_goes, right_goes, link_den, entry_den, some_entry}
-use Rattle.cell_balance.proofs.Whole.{WholeEntry, whole_fixed, whole_river, whole_drain, whole_evap}
+use Rattle.cell_balance.proofs.Whole.{WholeEntry}
 use Rattle.cell_balance.proofs.Over.{EntryOver, fixed_over, river_over, drain_over, evap_over}
 use Rattle.cell_balance.proofs.Wholes.{entry}
 
 -- an entry's flow in whole numbers over d and d, with its head
 enclosed : (s d : ℕ) (f : Fraction) (z lo hi : ℤ) → 0 < d → IsOver (d * 10 ^ s * (d * 10 ^ 9)) f z → (lo *ℤ pos (d * d)) ≤ℤ z → z ≤ℤ (hi *ℤ pos (d * d)) → EnclosesSigned lo hi (s + 9) f
 enclosed s d f z lo hi some over low high = enclosed_over lo hi (s + 9) (d * d) f z (mul-pos some some) (subst (λ (k : ℕ). IsOver k f z) (flow_denominator s d d) over) low high
-
-less_slack : (a b c : ℤ) → (a +ℤ b) ≤ℤ c → pos 0 ≤ℤ b → a ≤ℤ c
-less_slack a b c h k = omega (arith, ints)
 
 first : (a b : ℕ) → Goes a (a * b)
 first a b = (b, refl)
@@ -32,16 +30,17 @@ module _ (s : ℕ) (v : Fraction) (l u : ℤ) (own : EnclosesSigned l u 9 v) whe
   head : (d : ℕ) → Goes (den v) d → (y : ℤ) × IsOver (d * 10 ^ 9) v y × IsBetweenSigned l u d y
   head d go = let (y, over) = fraction_over d (10 ^ 9) v go in (y, over, between_over l u 9 d v y own over)
 
-  -- an entry's flow at that head, where its whole numbers are so bounded
-  entry_holds : (r : Ratio) (top foot f : Fraction) (lo hi : ℤ) →
-      ((d : ℕ) (y : ℤ) → IsOver (d * 10 ^ 9) v y → IsBetweenSigned l u d y → (w : WholeEntry) → EntryOver (d * 10 ^ s) (d * 10 ^ 9) r top foot w → (z : ℤ) × IsOver (d * 10 ^ s * (d * 10 ^ 9)) f z × ((lo *ℤ pos (d * d)) ≤ℤ z) × (z ≤ℤ (hi *ℤ pos (d * d)))) →
-      EnclosesSigned lo hi (s + 9) f
-  entry_holds r top foot f lo hi bounded =
+  -- an entry's flow at that head, by a flow that bounds it on each side
+  entry_holds : (k : Kind) (r : Ratio) (top foot f : Fraction) (bound : Side → ℤ → ℤ) →
+      ((d : ℕ) (y : ℤ) → IsOver (d * 10 ^ 9) v y → (w : WholeEntry) → EntryOver (d * 10 ^ s) (d * 10 ^ 9) r top foot w → IsOver (d * 10 ^ s * (d * 10 ^ 9)) f (whole_flow k y w) × ((side : Side) → IsSeen side k d d (bound side) w)) →
+      EnclosesSigned (bound Low u) (bound High l) (s + 9) f
+  entry_holds k r top foot f bound seen =
       let d = den v * entry_den r top foot in
       let (y, over, between) = head d (first (den v) _) in
       let (w, e) = entry d (10 ^ s) (10 ^ 9) r top foot (second (den v) _) in
-      let (z, is, low, high) = bounded d y over between w e in
-      enclosed s d f z lo hi (mul-pos (omega arith) (some_entry r top foot)) is low high
+      let (is, by) = seen d y over w e in
+      enclosed s d f (whole_flow k y w) _ _ (mul-pos (omega arith) (some_entry r top foot)) is
+      (seen_bounds Low k d d (bound Low) w (by Low) u y between.upper) (seen_bounds High k d d (bound High) w (by High) l y between.lower)
 
   link_holds : (d : ℕ) → 0 < d → Goes (den v) d → (p : Link) (x : ExactLink) (h : ℕ → Fraction) (L U : ℕ → ℤ) → Goes (den (h x.cell)) d → Goes (link_den x) d → LinkEncloses s p x → EnclosesSigned (L x.cell) (U x.cell) 9 (h x.cell) → EnclosesSigned (link_low L u p) (link_high U l p) (s + 9) (link_flow h v x)
   link_holds d some go p x h L U there goes e other =
@@ -52,26 +51,18 @@ module _ (s : ℕ) (v : Fraction) (l u : ℤ) (own : EnclosesSigned l u 9 v) whe
       let conducts = between_share p.lo p.hi s d c x.conductance e.conductance part in
       enclosed s d (link_flow h v x) (pos c *ℤ (z -ℤ y)) _ _ some
       (difference_over (d * 10 ^ s) (d * 10 ^ 9) c x.conductance (h x.cell) v z y part over_z over)
-      (subst (λ (k : ℕ). (least p.lo p.hi (L k -ℤ u) *ℤ pos (d * d)) ≤ℤ (pos c *ℤ (z -ℤ y))) (sym e.cell) (entry_less p.lo p.hi c d d (L x.cell -ℤ u) (z -ℤ y) conducts (rw sub_mul (sub_less _ _ _ _ between_z.lower between.upper))))
-      (subst (λ (k : ℕ). (pos c *ℤ (z -ℤ y)) ≤ℤ (most p.lo p.hi (U k -ℤ l) *ℤ pos (d * d))) (sym e.cell) (entry_more p.lo p.hi c d d (U x.cell -ℤ l) (z -ℤ y) conducts (rw sub_mul (sub_less _ _ _ _ between_z.upper between.lower))))
+      (subst (λ (k : ℕ). (least p.lo p.hi (L k -ℤ u) *ℤ pos (d * d)) ≤ℤ (pos c *ℤ (z -ℤ y))) (sym e.cell) (entry_bounds Low p.lo p.hi c d d (L x.cell -ℤ u) (z -ℤ y) conducts (rw sub_mul (omega (arith, ints, between_z.lower, between.upper)))))
+      (subst (λ (k : ℕ). (pos c *ℤ (z -ℤ y)) ≤ℤ (most p.lo p.hi (U k -ℤ l) *ℤ pos (d * d))) (sym e.cell) (entry_bounds High p.lo p.hi c d d (U x.cell -ℤ l) (z -ℤ y) conducts (rw sub_mul (omega (arith, ints, between_z.upper, between.lower)))))
 
 pub bounds_hold : BoundsHold
 bounds_hold s v l u own = record {
   links = λ p x h L U e other. link_holds s v l u own (den v * (den (h x.cell) * link_den x)) (mul-pos (omega arith) (mul-pos (omega arith) (omega arith))) (first (den v) _) p x h L U (left_goes (den (h x.cell)) (link_den x) _ (second (den v) _)) (right_goes (den (h x.cell)) (link_den x) _ (second (den v) _)) e other;
-  fixed = λ p x e. entry_holds s v l u own x.conductance x.head x.head (fixed_flow v x) _ _ (λ d y over between w o.
-      let within = entry_within s d d p.lo p.hi _ _ _ _ x.conductance x.head x.head w e.conductance e.head e.head o in (
-        whole_fixed y w,
-        fixed_over (d * 10 ^ s) (d * 10 ^ 9) v y over x w o,
-        less_slack _ _ _ (fixed_gap d d u y p w within) (mul_nonneg (pos w.c) (u *ℤ pos d -ℤ y) (omega (arith, ints)) (let h = between.upper in omega (arith, ints, h))),
-        less_slack _ _ _ (fixed_gap_high d d l y p w within) (mul_nonneg (pos w.c) (y -ℤ l *ℤ pos d) (omega (arith, ints)) (let h = between.lower in omega (arith, ints, h))),
-      ));
-  rivers = λ p x e. entry_holds s v l u own x.conductance x.stage x.bottom (river_flow v x) _ _ (λ d y over between w o.
-      let within = entry_within s d d p.lo p.hi _ _ _ _ x.conductance x.stage x.bottom w e.conductance e.stage e.bottom o in
-      (whole_river y w, river_over (d * 10 ^ s) (d * 10 ^ 9) v y over x w o, river_less d d u y between.upper p w within, river_more d d l y between.lower p w within));
-  drains = λ p x e. entry_holds s v l u own x.conductance x.elevation x.elevation (drain_flow v x) _ _ (λ d y over between w o.
-      let within = entry_within s d d p.lo p.hi _ _ _ _ x.conductance x.elevation x.elevation w e.conductance e.elevation e.elevation o in
-      (whole_drain y w, drain_over (d * 10 ^ s) (d * 10 ^ 9) v y over x w o, drain_less d d u y between.upper p w within, drain_more d d l y between.lower p w within));
-  evaps = λ p x e. entry_holds s v l u own x.conductance x.surface x.extinction (evap_flow v x) _ _ (λ d y over between w o.
-      let within = entry_within s d d p.lo p.hi _ _ _ _ x.conductance x.surface x.extinction w e.conductance e.surface e.extinction o in
-      (whole_evap y w, evap_over (d * 10 ^ s) (d * 10 ^ 9) v y over x w o, evap_less d d u y between.upper p w within, evap_more d d l y between.lower p w within));
+  fixed = λ p x e. entry_holds s v l u own OfFixed x.conductance x.head x.head (fixed_flow v x) (λ side z. fixed_on side z p)
+      (λ d y over w o. (fixed_over (d * 10 ^ s) (d * 10 ^ 9) v y over x w o, λ side. fixed_seen d d side p w (entry_within s d d p.lo p.hi _ _ _ _ x.conductance x.head x.head w e.conductance e.head e.head o)));
+  rivers = λ p x e. entry_holds s v l u own OfRiver x.conductance x.stage x.bottom (river_flow v x) (λ side z. river_on side z p)
+      (λ d y over w o. (river_over (d * 10 ^ s) (d * 10 ^ 9) v y over x w o, λ side. river_seen d d side p w (entry_within s d d p.lo p.hi _ _ _ _ x.conductance x.stage x.bottom w e.conductance e.stage e.bottom o)));
+  drains = λ p x e. entry_holds s v l u own OfDrain x.conductance x.elevation x.elevation (drain_flow v x) (λ side z. drain_on side z p)
+      (λ d y over w o. (drain_over (d * 10 ^ s) (d * 10 ^ 9) v y over x w o, λ side. drain_seen d d side p w (entry_within s d d p.lo p.hi _ _ _ _ x.conductance x.elevation x.elevation w e.conductance e.elevation e.elevation o)));
+  evaps = λ p x e. entry_holds s v l u own OfEvap x.conductance x.surface x.extinction (evap_flow v x) (λ side z. evap_on side z p)
+      (λ d y over w o. (evap_over (d * 10 ^ s) (d * 10 ^ 9) v y over x w o, λ side. evap_seen d d side p w (entry_within s d d p.lo p.hi _ _ _ _ x.conductance x.surface x.extinction w e.conductance e.surface e.extinction o)));
 }

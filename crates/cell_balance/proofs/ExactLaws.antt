@@ -10,7 +10,7 @@ use Rattle.cell_balance.proofs.Over.{LinkOver, FixedOver, RiverOver, DrainOver, 
 use Rattle.cell_balance.proofs.Denominators.{cell_common, step_common}
 use Rattle.cell_balance.proofs.Wholes.{whole_cell, whole_step}
 use Rattle.cell_balance.proofs.Mutual.{mutual_whole}
-use Rattle.cell_balance.proofs.Cancel.{closed_cancel}
+use Rattle.cell_balance.proofs.Conducting.{closed_cancel}
 use Rattle.cell_balance.proofs.Dry.{dry_law}
 use Rattle.cell_balance.proofs.Falling.{whole_falls, whole_rises}
 use Rattle.cell_balance.proofs.Encloses.{share_is}

@@ -1,14 +1,12 @@
--- The greatest excess spreads over links; so it reaches no anchored cell, and no carried component.
+-- The cells of a carried component do not all lie below their bottoms and drains.
 use Rattle.cell_balance.proofs.Common.{◌≡◌, ℕ, suc, zero, ◌*◌, ◌<◌, ◌≤◌, refl, sym, ◌∙◌, subst, arith, ℤ, pos, ◌*ℤ◌, ◌≤ℤ◌, ◌<ℤ◌, List, length, get_or, All}
-use Rattle.cell_balance.proofs.Common.{Contains, Bool, true, false, cond, AllZip, mul-le-mul_right, zero-*ℤ, ints, All-contains, Contains-get_or, Link, Entries}
-use Rattle.cell_balance.proofs.Common.{entries_at, no_entries, deep_low, Reaches, Leads, IsCarried, mul_mono_right}
-use Rattle.cell_balance.proofs.Totals.{same_z}
-use Rattle.cell_balance.proofs.Zips.{AllZip-at, AllZip-length, AllZip-left, All-zip}
+use Rattle.cell_balance.proofs.Common.{Contains, Bool, true, false, cond, AllZip, mul-le-mul_right, zero-*ℤ, ints, Contains-get_or, Link, Entries, entries_at}
+use Rattle.cell_balance.proofs.Common.{no_entries, deep_low, Reaches, IsCarried, mul_mono_right}
+use Rattle.cell_balance.proofs.Zips.{AllZip-at, AllZip-length, All-zip}
 use Rattle.cell_balance.proofs.Sums.{sum-same, sum-zero, sum-times, sum_at_most}
 use Rattle.cell_balance.proofs.Cancel.{IsMutual}
 use Rattle.cell_balance.proofs.Dry.{dry_law}
 use Rattle.cell_balance.proofs.Deep.{deep_less}
-use Rattle.cell_balance.proofs.Products.{IsTight}
 use Rattle.cell_balance.proofs.Whole.{WholeCell, no_whole, whole_at, whole_balance, whole_deep}
 use Rattle.cell_balance.proofs.Within.{LinkWithin, CellWithin, IsDry}
 
@@ -16,6 +14,9 @@ use Rattle.cell_balance.proofs.Within.{LinkWithin, CellWithin, IsDry}
 pub Reaches-more : (p : List Entries) (j a k : ℕ) (x : Link) → Reaches p j a k → Contains (entries_at p k).links x → Reaches p (suc j) a x.cell
 Reaches-more p zero a k x way has = (x, subst (λ (z : ℕ). Contains (entries_at p z).links x) (sym way) has, refl)
 Reaches-more p (suc j) a k x (z, there, rest) has = (z, there, Reaches-more p j z.cell k x rest has)
+
+pub cell_within : (m n : ℕ) (p : List Entries) (w : List WholeCell) → AllZip (CellWithin m n (length p)) p w → (c : ℕ) → c < length p → CellWithin m n (length p) (entries_at p c) (whole_at w c)
+cell_within m n p w within c i = AllZip-at (CellWithin m n (length p)) p w c no_entries no_whole within i
 
 clash : (a b c : ℤ) → pos 0 <ℤ a → a ≤ℤ b → b ≤ℤ c → c ≡ pos 0 → ⊥
 clash a b c p q r z = omega (arith, ints)
@@ -26,12 +27,6 @@ module _ (m n : ℕ) (some_m : 0 < m) (some_n : 0 < n) (p : List Entries) (w : L
   where
     same_length : length p ≡ length w
     same_length = AllZip-length (CellWithin m n (length p)) p w within
-
-    pub cell_within : (c : ℕ) → c < length p → CellWithin m n (length p) (entries_at p c) (whole_at w c)
-    cell_within c i = AllZip-at (CellWithin m n (length p)) p w c no_entries no_whole within i
-
-    pub links_range : (c : ℕ) → c < length p → All (λ x. x.cell < length p) (entries_at p c).links
-    links_range c i = AllZip-left (LinkWithin m n (length p)) (λ x. x.cell < length p) (λ x z r. r.range) (entries_at p c).links (whole_at w c).links (cell_within c i).links
 
     -- the cells of a carried component don't all lie below their bottoms and drains
     pub carried_not_dry : (c : ℕ) (held : IsCarried p c) (t : ℕ → ℤ) → ((k : ℕ) → k < length p → held.inside k ≡ true → (Y k ≤ℤ t k) × IsDry (t k) (whole_at w k)) → ⊥
@@ -45,7 +40,7 @@ module _ (m n : ℕ) (some_m : 0 < m) (some_n : 0 < n) (p : List Entries) (w : L
         closed : (k : ℕ) → k < length p → held.inside k ≡ true → All (λ x. held.inside x.cell ≡ true) (whole_at w k).links
         closed k j e =
             let (steps, way) = held.component.reached k e in
-            All-zip (LinkWithin m n (length p)) (λ x. held.inside x.cell ≡ true) (λ x. held.inside x.cell ≡ true) (λ x z r h. subst (λ (i : ℕ). held.inside i ≡ true) r.same h) (entries_at p k).links (whole_at w k).links (cell_within k j).links
+            All-zip (LinkWithin m n (length p)) (λ x. held.inside x.cell ≡ true) (λ x. held.inside x.cell ≡ true) (λ x z r h. subst (λ (i : ℕ). held.inside i ≡ true) r.same h) (entries_at p k).links (whole_at w k).links (cell_within m n p w within k j).links
             (λ g d h. held.component.whole (suc steps) _ (Reaches-more p steps c k (get_or (entries_at p k).links g d) way (Contains-get_or (entries_at p k).links g d h)))
 
         solved_cell : (k : ℕ) → k < length w → (b : Bool) → cond b (whole_balance (whole_at w k) (Y k) Y) (pos 0) ≡ pos 0
@@ -53,7 +48,7 @@ module _ (m n : ℕ) (some_m : 0 < m) (some_n : 0 < n) (p : List Entries) (w : L
         solved_cell k j false = refl
 
         deep_cell : (k : ℕ) → k < length p → (b : Bool) → (cond b (deep_low (entries_at p k)) (pos 0) *ℤ pos (m * n)) ≤ℤ cond b (whole_deep (whole_at w k)) (pos 0)
-        deep_cell k j true = deep_less m n (length p) (entries_at p k) (whole_at w k) (cell_within k j)
+        deep_cell k j true = deep_less m n (length p) (entries_at p k) (whole_at w k) (cell_within m n p w within k j)
         deep_cell k j false = rw zero-*ℤ (omega (arith, ints))
 
         positive : (s : ℤ) → pos 0 <ℤ s → pos 0 <ℤ (s *ℤ pos (m * n))
@@ -61,24 +56,3 @@ module _ (m n : ℕ) (some_m : 0 < m) (some_n : 0 < n) (p : List Entries) (w : L
             let one = mul_mono_right (m * n) (pos 1) s (omega (arith, ints)) in
             let some : 1 * n ≤ m * n = mul-le-mul_right n some_m in
             omega (arith, ints, one, some, some_n)
-
-    module _ (excess : ℕ → ℤ) (top : ℤ)
-        (tight : (c : ℕ) → c < length p → excess c ≡ top → IsTight excess top (Y c) (entries_at p c) (whole_at w c))
-      where
-        spreads : (j a b : ℕ) → a < length p → excess a ≡ top → Reaches p j a b → (b < length p) × (excess b ≡ top)
-        spreads zero a b i e way = (subst (λ (k : ℕ). k < length p) way i, subst (λ (k : ℕ). excess k ≡ top) way e)
-        spreads (suc j) a b i e (x, has, way) =
-            spreads j x.cell b (All-contains (λ z. z.cell < length p) (entries_at p a).links x (links_range a i) has) (All-contains (λ z. excess z.cell ≡ top) (entries_at p a).links x (tight a i e).links has) way
-
-        pub no_anchor : (j c : ℕ) → c < length p → excess c ≡ top → Leads p j c → ⊥
-        no_anchor j c i e (a, way, anchored) =
-            let (there, same) = spreads j c a i e way in
-            let (x, has, conducts) = anchored in
-            let none = All-contains (λ z. z.lo ≡ 0) (entries_at p a).fixed x (tight a there same).fixed has in
-            omega (arith, none, conducts)
-
-        pub not_carried : (c : ℕ) → c < length p → excess c ≡ top → IsCarried p c → ⊥
-        not_carried c i e held =
-            carried_not_dry c held Y (λ k j t.
-            let (steps, way) = held.component.reached k t in
-            (same_z (Y k), (tight k j (spreads steps c k i e way).1).dry))

@@ -43,6 +43,14 @@ pub sum-swap : (n m : ℕ) (f : ℕ → ℕ → ℤ) → sum_below n (λ i. sum_
 sum-swap zero m f = sym (sum-zero m)
 sum-swap (suc n) m f = rw (sum-swap n m f) (sym (sum-add m (λ j. sum_below n (λ i. f i j)) (λ j. f n j)))
 
+-- terms that change their sign with their two indices cancel
+pub turned_cancel : (n : ℕ) (f : ℕ → ℕ → ℤ) → ((i j : ℕ) → i < n → j < n → f i j ≡ neg_ℤ (f j i)) → sum_below n (λ i. sum_below n (f i)) ≡ pos 0
+turned_cancel n f turned =
+    no_sign _ (sum-same n _ _ (λ i h. sum-same n _ _ (λ j k. turned i j h k)) ∙ sum-swap n n (λ i j. neg_ℤ (f j i)) ∙ sum-same n _ _ (λ j h. sum-neg n (f j)) ∙ sum-neg n (λ j. sum_below n (f j)))
+  where
+    no_sign : (a : ℤ) → a ≡ neg_ℤ a → a ≡ pos 0
+    no_sign a e = omega (arith, ints)
+
 pub sum_at_most : (n : ℕ) (f g : ℕ → ℤ) → ((k : ℕ) → k < n → f k ≤ℤ g k) → sum_below n f ≤ℤ sum_below n g
 sum_at_most zero f g h = omega (arith, ints)
 sum_at_most (suc n) f g h = let a = sum_at_most n f g (λ k i. h k (omega arith)) in let b = h n (omega arith) in omega (arith, ints, a, b)

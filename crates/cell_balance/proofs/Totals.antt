@@ -1,6 +1,6 @@
 -- Sums over lists that are related place by place.
-use Rattle.cell_balance.proofs.Common.{◌≡◌, refl, arith, ℤ, pos, neg_ℤ, ◌+ℤ◌, ◌-ℤ◌, ◌*ℤ◌, ◌≤ℤ◌, List, [], ◌∷◌, All, AllZip, ints, All-head, All-tail, zero-*ℤ}
-use Rattle.cell_balance.proofs.Common.{diffs, as_diff, same_diff, total}
+use Rattle.cell_balance.proofs.Common.{◌≡◌, refl, arith, ℤ, pos, neg_ℤ, ◌+ℤ◌, ◌-ℤ◌, ◌*ℤ◌, ◌≤ℤ◌, List, [], ◌∷◌, All, ints, All-head, All-tail, diffs, as_diff}
+use Rattle.cell_balance.proofs.Common.{same_diff, total}
 
 pub add_mul : (a b k : ℤ) → (a +ℤ b) *ℤ k ≡ a *ℤ k +ℤ b *ℤ k
 add_mul a b k = rw (as_diff a, as_diff b, as_diff k) (simp diffs (same_diff _ _ _ _ (omega arith)))
@@ -13,46 +13,6 @@ le_trans_z a b c h k = omega (arith, ints)
 
 pub same_z : (a : ℤ) → a ≤ℤ a
 same_z a = omega (arith, ints)
-
--- where each left term, scaled, is at most the right one, so are the sums
-pub total_less : {X Y : Type 0} (R : X → Y → Type 0) (f : X → ℤ) (k : ℤ) (g : Y → ℤ) → ((x : X) (y : Y) → R x y → (f x *ℤ k) ≤ℤ g y) → (xs : List X) (ys : List Y) → AllZip R xs ys → (total f xs *ℤ k) ≤ℤ total g ys
-total_less R f k g each [] [] h = rw zero-*ℤ (omega (arith, ints))
-total_less R f k g each [] (y ∷ ys) h = absurd h
-total_less R f k g each (x ∷ xs) [] h = absurd h
-total_less R f k g each (x ∷ xs) (y ∷ ys) h =
-    let a = each x y h.0 in
-    let b = total_less R f k g each xs ys h.1 in
-    rw add_mul (omega (arith, ints, a, b))
-
-pub total_more : {X Y : Type 0} (R : X → Y → Type 0) (f : X → ℤ) (k : ℤ) (g : Y → ℤ) → ((x : X) (y : Y) → R x y → g y ≤ℤ (f x *ℤ k)) → (xs : List X) (ys : List Y) → AllZip R xs ys → total g ys ≤ℤ (total f xs *ℤ k)
-total_more R f k g each [] [] h = rw zero-*ℤ (omega (arith, ints))
-total_more R f k g each [] (y ∷ ys) h = absurd h
-total_more R f k g each (x ∷ xs) [] h = absurd h
-total_more R f k g each (x ∷ xs) (y ∷ ys) h =
-    let a = each x y h.0 in
-    let b = total_more R f k g each xs ys h.1 in
-    rw add_mul (omega (arith, ints, a, b))
-
--- and where the sums are no further apart, no two terms are
-pub tight_less : {X Y : Type 0} (R S : X → Y → Type 0) (f : X → ℤ) (k : ℤ) (g : Y → ℤ) → ((x : X) (y : Y) → R x y → (f x *ℤ k) ≤ℤ g y) → ((x : X) (y : Y) → R x y → g y ≤ℤ (f x *ℤ k) → S x y) → (xs : List X) (ys : List Y) → AllZip R xs ys → total g ys ≤ℤ (total f xs *ℤ k) → AllZip S xs ys
-tight_less R S f k g each then [] [] h t = tt
-tight_less R S f k g each then [] (y ∷ ys) h t = absurd h
-tight_less R S f k g each then (x ∷ xs) [] h t = absurd h
-tight_less R S f k g each then (x ∷ xs) (y ∷ ys) h t =
-    let a = each x y h.0 in
-    let b = total_less R f k g each xs ys h.1 in
-    let t' = rw add_mul at t in
-    (then x y h.0 (omega (arith, ints, a, b, t')), tight_less R S f k g each then xs ys h.1 (omega (arith, ints, a, b, t')))
-
-pub tight_more : {X Y : Type 0} (R S : X → Y → Type 0) (f : X → ℤ) (k : ℤ) (g : Y → ℤ) → ((x : X) (y : Y) → R x y → g y ≤ℤ (f x *ℤ k)) → ((x : X) (y : Y) → R x y → (f x *ℤ k) ≤ℤ g y → S x y) → (xs : List X) (ys : List Y) → AllZip R xs ys → (total f xs *ℤ k) ≤ℤ total g ys → AllZip S xs ys
-tight_more R S f k g each then [] [] h t = tt
-tight_more R S f k g each then [] (y ∷ ys) h t = absurd h
-tight_more R S f k g each then (x ∷ xs) [] h t = absurd h
-tight_more R S f k g each then (x ∷ xs) (y ∷ ys) h t =
-    let a = each x y h.0 in
-    let b = total_more R f k g each xs ys h.1 in
-    let t' = rw add_mul at t in
-    (then x y h.0 (omega (arith, ints, a, b, t')), tight_more R S f k g each then xs ys h.1 (omega (arith, ints, a, b, t')))
 
 -- sums of terms that hold the same place or sign
 pub total-same : {X : Type 0} (P : X → Type 0) (f g : X → ℤ) (xs : List X) → ((x : X) → P x → f x ≡ g x) → All P xs → total f xs ≡ total g xs

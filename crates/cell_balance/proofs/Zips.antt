@@ -15,18 +15,6 @@ AllZip-length R [] (y ∷ ys) h = absurd h
 AllZip-length R (x ∷ xs) [] h = absurd h
 AllZip-length R (x ∷ xs) (y ∷ ys) h = ap suc (AllZip-length R xs ys h.1)
 
--- what the relation says of each left element, and of each right one
-pub AllZip-left : {X Y : Type 0} (R : X → Y → Type 0) (P : X → Type 0) → ((x : X) (y : Y) → R x y → P x) → (xs : List X) (ys : List Y) → AllZip R xs ys → All P xs
-AllZip-left R P each [] ys h = All-nil P
-AllZip-left R P each (x ∷ xs) [] h = absurd h
-AllZip-left R P each (x ∷ xs) (y ∷ ys) h = All-cons P x xs (each x y h.0) (AllZip-left R P each xs ys h.1)
-
-pub AllZip-right : {X Y : Type 0} (R : X → Y → Type 0) (P : Y → Type 0) → ((x : X) (y : Y) → R x y → P y) → (xs : List X) (ys : List Y) → AllZip R xs ys → All P ys
-AllZip-right R P each [] [] h = All-nil P
-AllZip-right R P each [] (y ∷ ys) h = absurd h
-AllZip-right R P each (x ∷ xs) [] h = absurd h
-AllZip-right R P each (x ∷ xs) (y ∷ ys) h = All-cons P y ys (each x y h.0) (AllZip-right R P each xs ys h.1)
-
 -- a fact of each left element passes to the right one
 pub All-zip : {X Y : Type 0} (R : X → Y → Type 0) (P : X → Type 0) (Q : Y → Type 0) → ((x : X) (y : Y) → R x y → P x → Q y) → (xs : List X) (ys : List Y) → AllZip R xs ys → All P xs → All Q ys
 All-zip R P Q each [] [] h a = All-nil Q

@@ -3,11 +3,9 @@ use Rattle.exact_budgets.proofs.Common.{◌≡◌, ℕ, zero, suc, ◌*◌, ◌<
 use Rattle.exact_budgets.proofs.Common.{true, mul-pos, AllZip, ints, All-from_get_or, Fraction, fraction_total, IsOver, total, In, Out, Term, ExactCell}
 use Rattle.exact_budgets.proofs.Common.{cell_at, no_cell, AreLinked, no_link, link_flow, share, SolvesStep, IsOver-plus, IsOver-minus, IsOver-none}
 use Rattle.exact_budgets.proofs.Common.{IsOver-total, zero_over, over_zero, LinkOver, CellOver, link_over, WholeCell, whole_at, no_whole, whole_link, same_over}
-use Rattle.exact_budgets.proofs.Common.{all_terms, exact_part, exact_singles, exact_term, heads_of, net_flow, SolutionsBalance}
+use Rattle.exact_budgets.proofs.Common.{all_terms, exact_part, exact_singles, exact_term, heads_of, net_flow, SolutionsBalance, AllZip-at, AllZip-length}
+use Rattle.exact_budgets.proofs.Common.{step_common, whole_step}
 use Rattle.cell_balance.specs.Deep.{total_below}
-use Rattle.cell_balance.proofs.Zips.{AllZip-at, AllZip-length}
-use Rattle.cell_balance.proofs.Denominators.{step_common}
-use Rattle.cell_balance.proofs.Wholes.{whole_step}
 use Rattle.cell_balance.proofs.Encloses.{whole_solves}
 use Rattle.cell_balance.proofs.ExactLaws.{heads_over, links_cancel}
 use Rattle.exact_budgets.proofs.Kept.{Parts}

@@ -1,28 +1,28 @@
 -- Names that several proofs of this crate cite, of the crates below and of its own definitions, passed on from one place. Declares nothing.
-pub use Rattle.std.proofs.Common.{All, Bool, Contains, List, Option, [], ap, arith, cond, false, get_or, inl, inr, length, map, mul-pos, neg_ℤ, not, pos, refl}
+pub use Rattle.std.proofs.Common.{All, Bool, List, Option, [], ap, arith, cond, false, get_or, inl, inr, length, map, mul-pos, nat_eq, neg_ℤ, not, pos, refl}
 pub use Rattle.std.proofs.Common.{subst, suc, sym, true, zero, ℕ, ℤ, ◌&&◌, ◌*ℤ◌, ◌*◌, ◌++◌, ◌+ℤ◌, ◌+◌, ◌-ℤ◌, ◌<◌, ◌==◌, ◌^◌, ◌∙◌, ◌∷◌, ◌≡◌, ◌⊎◌}
-pub use Rattle.std.proofs.lemmas.Bool.{and_parts, eqb-true}
-pub use Rattle.std.proofs.lemmas.Bool.Decides.{nat_tests}
+pub use Rattle.std.proofs.lemmas.Bool.{and_parts, cases_eq, eq-eqb, eqb-true, ne_eqb}
 pub use Rattle.std.proofs.lemmas.Int.{clamps, ints}
-pub use Rattle.std.proofs.lemmas.List.{append-nil, get_or_default}
-pub use Rattle.std.proofs.lemmas.List.Elements.{All-contains, All-filter, All-from_get_or, All-from_recursion, All-head, All-tail, filter-append, filter_agree}
-pub use Rattle.std.proofs.lemmas.List.Elements.{filter_passes}
+pub use Rattle.std.proofs.lemmas.List.Elements.{All-from_get_or, All-from_recursion, All-head, All-tail, All-weaker}
 pub use Rattle.std.specs.List.{AllZip, filter, flat_map}
 pub use Rattle.std.specs.Prelude.{slice_index}
 pub use Rattle.budget_bounds.specs.Exact.{BudgetEncloses, exact_part}
 unfoldable pub use Rattle.budget_bounds.specs.Exact.{exact_singles, exact_term}
 pub use Rattle.budget_bounds.specs.Terms.{all_terms, bounds_in, fixed_term, flow_term, is_term}
+pub use Rattle.cell_balance.proofs.Denominators.{Goes, Goes-trans, fraction_over, product, some_product, step_common}
 pub use Rattle.cell_balance.proofs.EntryScaled.{same_over}
 pub use Rattle.cell_balance.proofs.Over.{CellOver, DrainOver, EvapOver, FixedOver, FlowOver, LinkOver, RiverOver, drain_over, evap_over, fixed_over, link_over}
 pub use Rattle.cell_balance.proofs.Over.{river_over}
 pub use Rattle.cell_balance.proofs.Scaling.{IsOver-greater, IsOver-minus, IsOver-negated, IsOver-none, IsOver-plus, IsOver-total, over_zero, zero_over}
-pub use Rattle.cell_balance.proofs.Whole.{WholeCell, no_whole, whole_at, whole_balance, whole_drain, whole_evap, whole_fixed, whole_link, whole_river}
+pub use Rattle.cell_balance.proofs.Whole.{WholeCell, WholeEntry, WholeLink, no_whole, whole_at, whole_balance, whole_drain, whole_evap, whole_fixed, whole_link}
+pub use Rattle.cell_balance.proofs.Whole.{whole_river}
+pub use Rattle.cell_balance.proofs.Wholes.{whole_step}
+pub use Rattle.cell_balance.proofs.Zips.{All-zip, AllZip-at, AllZip-length}
 pub use Rattle.cell_balance.specs.Balance.{SolvesStep, drain_flow, evap_flow, fixed_flow, link_flow, minus, river_flow, share}
-pub use Rattle.cell_balance.specs.Steps.{AreLinked, ExactCell, ExactFixed, ExactFlow, ExactLink, HasLinkBack, cell_at, no_cell, no_link}
-pub use Rattle.decimal_input.proofs.Differences.{as_diff, diffs, same_diff}
-pub use Rattle.decimal_input.specs.Fractions.{Fraction, IsOver, Same, den, fraction_total, negated, plus, signed, times, whole}
-pub use Rattle.decimal_input.specs.Ratios.{Ratio}
-pub use Rattle.exact_budgets.specs.LoneCell.{IsAlone, LoneCellsHaveTheirFlows, constants_in, inflow_from, is_constant, links_to, own_zone}
+pub use Rattle.cell_balance.specs.Components.{sum_below}
+pub use Rattle.cell_balance.specs.Steps.{AreLinked, ExactCell, ExactFixed, ExactFlow, ExactLink, cell_at, no_cell, no_link}
+pub use Rattle.decimal_input.specs.Fractions.{Fraction, IsOver, Same, den, fraction_total, negated, signed, times, whole}
+pub use Rattle.exact_budgets.specs.LoneCell.{IsAlone, LoneCellsHaveTheirFlows, inflow_from, is_constant, own_zone}
 pub use Rattle.exact_budgets.specs.NetTerms.{AllNetTermsLie, CertifiedHaveTheirTimes, NetTermsLie, NetTermsLieAt, NetTermsLieInTheOthers, SolutionsBalance}
 pub use Rattle.exact_budgets.specs.NetTerms.{StepsHaveTheirTimes, lower_by_others, net_flow, net_lower, net_upper, others, upper_by_others}
 pub use Rattle.flow_equations.specs.Histories.{SolvesAt, SolvesFrom, heads_of, variable_heads}

@@ -1,7 +1,7 @@
 -- Flows over one denominator, as whole numbers: what of them goes in, and out; of a whole list, and of those that a test keeps.
 use Rattle.exact_budgets.proofs.Common.{◌≡◌, ℕ, refl, arith, ℤ, pos, neg_ℤ, ◌+ℤ◌, ◌-ℤ◌, List, [], ◌∷◌, map, Bool, true, false, cond, AllZip, filter, ints}
 use Rattle.exact_budgets.proofs.Common.{clamps, Fraction, whole, negated, fraction_total, IsOver, total, In, Out, IsOver-plus, IsOver-negated, IsOver-none}
-use Rattle.exact_budgets.proofs.Common.{IsOver-greater, exact_part}
+use Rattle.exact_budgets.proofs.Common.{IsOver-greater, exact_part, All, All-head, All-tail}
 use Rattle.std.specs.Int.{int_max}
 
 -- what of these flows goes in, and out, over D; their sum is z
@@ -51,6 +51,41 @@ module _ {X Y : Type 0} (R : X → Y → Type 0) (D : ℕ) (f : X → Fraction) 
   kept_parts p [] (y ∷ ys) h = absurd h
   kept_parts p (x ∷ xs) [] h = absurd h
   kept_parts p (x ∷ xs) (y ∷ ys) h = one_kept p x y xs ys h.0 (kept_parts p xs ys h.1) (p x) refl
+
+  pub kept_over : (p : X → Bool) (xs : List X) (ys : List Y) → AllZip R xs ys → IsOver D (fraction_total f (filter p xs)) (kept p g xs ys)
+  kept_over p [] [] h = IsOver-none D
+  kept_over p [] (y ∷ ys) h = absurd h
+  kept_over p (x ∷ xs) [] h = absurd h
+  kept_over p (x ∷ xs) (y ∷ ys) h = one (kept_over p xs ys h.1) (p x) refl
+    where
+      none_more : (z : ℤ) → pos 0 +ℤ z ≡ z
+      none_more z = omega (arith, ints)
+
+      one : IsOver D (fraction_total f (filter p xs)) (kept p g xs ys) → (b : Bool) → p x ≡ b → IsOver D (fraction_total f (filter p (x ∷ xs))) (kept p g (x ∷ xs) (y ∷ ys))
+      one rest true e = rw e (IsOver-plus D (f x) (fraction_total f (filter p xs)) (g y) (kept p g xs ys) (each x y h.0) rest)
+      one rest false e = rw (e, none_more (kept p g xs ys)) rest
+
+-- a sum of kept elements, term by term
+pub kept_is : {X Y : Type 0} (R : X → Y → Type 0) (P : X → Type 0) (p : X → Bool) (g z : Y → ℤ) → ((x : X) (y : Y) → R x y → P x → cond (p x) (g y) (pos 0) ≡ z y) → (xs : List X) (ys : List Y) → AllZip R xs ys → All P xs → kept p g xs ys ≡ total z ys
+kept_is R P p g z each [] [] h a = refl
+kept_is R P p g z each [] (y ∷ ys) h a = absurd h
+kept_is R P p g z each (x ∷ xs) [] h a = absurd h
+kept_is R P p g z each (x ∷ xs) (y ∷ ys) h a = rw (each x y h.0 (All-head P x xs a), kept_is R P p g z each xs ys h.1 (All-tail P x xs a)) refl
+
+pub kept_none : {X Y : Type 0} (p : X → Bool) (g : Y → ℤ) → ((x : X) → p x ≡ false) → (xs : List X) (ys : List Y) → kept p g xs ys ≡ pos 0
+kept_none p g none [] ys = refl
+kept_none p g none (x ∷ xs) [] = refl
+kept_none p g none (x ∷ xs) (y ∷ ys) = rw (none x, kept_none p g none xs ys) refl
+
+-- of turned flows, by a test that keeps the same
+pub kept_turned : {X Y : Type 0} (p q : X → Bool) (g z : Y → ℤ) → ((x : X) → p x ≡ q x) → ((y : Y) → g y ≡ neg_ℤ (z y)) → (xs : List X) (ys : List Y) → kept p g xs ys ≡ neg_ℤ (kept q z xs ys)
+kept_turned p q g z same turned [] ys = refl
+kept_turned p q g z same turned (x ∷ xs) [] = refl
+kept_turned p q g z same turned (x ∷ xs) (y ∷ ys) = rw (same x, turned y, kept_turned p q g z same turned xs ys) (by_test (q x))
+  where
+    by_test : (b : Bool) → cond b (neg_ℤ (z y)) (pos 0) +ℤ neg_ℤ (kept q z xs ys) ≡ neg_ℤ (cond b (z y) (pos 0) +ℤ kept q z xs ys)
+    by_test true = omega (arith, ints)
+    by_test false = omega (arith, ints)
 
 module _ {X Y : Type 0} (R : X → Y → Type 0) (g : Y → ℤ) where
   -- tests of which each element passes one alone

@@ -5,10 +5,5 @@ pub mod Balance
 pub mod Bounds
 pub mod History
 pub mod Worked
-pub mod Sums
-pub mod IndexedSums
-pub mod SingleLinks
+pub mod FaceSums
 pub mod LoneCells
-pub mod Passing
-pub mod LowerFaces
-pub mod LowerZones

@@ -1,216 +1,265 @@
--- The faces of a lone cell are its links and its branches to constant heads.
-use Rattle.exact_budgets.proofs.Common.{◌≡◌, ℕ, zero, suc, ◌<◌, ◌==◌, Bool, true, false, cond, ◌&&◌, List, [], ◌∷◌, ◌++◌, length, map, get_or, All, refl, sym}
-use Rattle.exact_budgets.proofs.Common.{ap, ◌∙◌, subst, arith, pos, ◌*ℤ◌, slice_index, filter, flat_map, and_parts, eqb-true, nat_tests, append-nil}
-use Rattle.exact_budgets.proofs.Common.{get_or_default, filter-append, All-head, All-tail, Ratio, Fraction, den, negated, plus, times, signed, fraction_total}
-use Rattle.exact_budgets.proofs.Common.{Same, FixedKind, Constant, General, ExactLink, ExactFixed, ExactCell, cell_at, no_cell, minus, link_flow, fixed_flow}
-use Rattle.exact_budgets.proofs.Common.{ExactFace, exact_from, exact_link, exact_by_kind, exact_fixed, exact_cell, exact_faces, is_exact_between, exact_flow}
-use Rattle.exact_budgets.proofs.Common.{is_constant, own_zone, IsAlone, links_to, constants_in, inflow_from}
-use Rattle.step_problem.specs.declared.entry.FixedKind.TheVariants.{Storage}
-use Rattle.zone_flows.specs.Faces.{is_lower_zone}
-use Rattle.exact_budgets.proofs.Sums.{total-append, total-negated, negated_sum, turned}
+-- What flows between the zone of a lone cell and another zone is what flows over the cell's links and from its constant heads.
+use Rattle.exact_budgets.proofs.Common.{◌≡◌, ◌⊎◌, inl, inr, ℕ, zero, suc, ◌+◌, ◌*◌, ◌<◌, ◌==◌, Bool, true, false, cond, ◌&&◌, List, [], ◌∷◌, length, All, refl}
+use Rattle.exact_budgets.proofs.Common.{sym, ap, ◌∙◌, subst, arith, mul-pos, ℤ, pos, neg_ℤ, ◌+ℤ◌, ◌-ℤ◌, ◌*ℤ◌, slice_index, flat_map, AllZip, ints, total}
+use Rattle.exact_budgets.proofs.Common.{Fraction, den, negated, times, signed, IsOver, Same, Constant, ExactLink, ExactFixed, ExactCell, cell_at, no_cell}
+use Rattle.exact_budgets.proofs.Common.{AreLinked, minus, link_flow, fixed_flow, ExactFace, exact_link, exact_fixed, exact_cell, exact_faces, is_exact_between}
+use Rattle.exact_budgets.proofs.Common.{exact_flow, is_constant, own_zone, IsAlone, inflow_from, LoneCellsHaveTheirFlows, same_over, IsOver-plus}
+use Rattle.exact_budgets.proofs.Common.{IsOver-negated, LinkOver, FixedOver, CellOver, link_over, fixed_over, WholeCell, whole_at, no_whole, whole_link}
+use Rattle.exact_budgets.proofs.Common.{whole_fixed, cases_eq, eq-eqb, ne_eqb, All-weaker, nat_eq, sum_below, WholeLink, WholeEntry, AllZip-at, AllZip-length}
+use Rattle.exact_budgets.proofs.Common.{All-zip, Goes, Goes-trans, product, some_product, fraction_over, step_common, whole_step}
+use Rattle.std.proofs.Math.IntN.{*ℤ-zero, zero-*ℤ}
+use Rattle.std.proofs.Math.Bool.{and-true, and-false}
+use Rattle.cell_balance.proofs.Cancel.{weight, by_weight, IsMutual}
+use Rattle.cell_balance.proofs.Sums.{sum-add, sum-one}
+use Rattle.cell_balance.proofs.Mutual.{mutual_whole}
+use Rattle.step_problem.proofs.Leasts.{mul_neg}
+use Rattle.cell_balance.proofs.Totals.{add_mul}
+use Rattle.cell_balance.proofs.EntryFlows.{difference_over}
+use Rattle.cell_balance.proofs.WholeBalances.{times_one}
+use Rattle.exact_budgets.proofs.Kept.{kept, kept_over, kept_is, kept_none, kept_turned}
+use Rattle.exact_budgets.proofs.FaceSums.{sum_over, sum_append, sum_none, sum_kept, sum_at, leads, Between, from_sum, from_none, known_sum}
 
-module _ {X A : Type 0} (p : A → Bool) (f : X → List A) where
-  pub filter-flat_map : (xs : List X) → filter p (flat_map f xs) ≡ flat_map (λ x. filter p (f x)) xs
-  filter-flat_map [] = refl
-  filter-flat_map (x ∷ xs) = filter-append p (f x) (flat_map f xs) ∙ ap (λ (ys : List A). filter p (f x) ++ ys) (filter-flat_map xs)
+-- a flow from its other end
+turned : (c x y : ℤ) → c *ℤ (x -ℤ y) ≡ neg_ℤ (c *ℤ (y -ℤ x))
+turned c x y = let e : x -ℤ y ≡ neg_ℤ (y -ℤ x) = omega (arith, ints) in rw e (mul_neg c (y -ℤ x))
 
-module _ {X A : Type 0} (f : X → List A) where
-  pub none_of : (xs : List X) → All (λ x. f x ≡ []) xs → flat_map f xs ≡ []
-  none_of [] h = refl
-  none_of (x ∷ xs) h = rw (All-head (λ y. f y ≡ []) x xs h, none_of xs (All-tail (λ y. f y ≡ []) x xs h)) refl
-
-  -- where only the element k gives something
-  only_at : (xs : List X) (k : ℕ) (d : X) → k < length xs → ((j : ℕ) → j < length xs → (j ≡ k → ⊥) → f (get_or xs j d) ≡ []) → flat_map f xs ≡ f (get_or xs k d)
-  only_at [] k d lt h = absurd (omega (arith, lt))
-  only_at (x ∷ xs) zero d lt h =
-      let rest : flat_map f xs ≡ [] = none_of xs (λ j y low. again j y low) in
-      rw rest (append-nil (f x))
-    where
-      again : (j : ℕ) (y : X) → j < length xs → f (get_or xs j y) ≡ []
-      again j y low = subst (λ (z : X). f z ≡ []) (get_or_default xs j d y low) (h (suc j) (omega (arith, low)) (λ e. absurd (omega (arith, e))))
-  only_at (x ∷ xs) (suc k) d lt h =
-      let first : f x ≡ [] = h 0 (omega arith) (λ e. absurd (omega (arith, e))) in
-      rw first (only_at xs k d (omega (arith, lt)) (λ j low other. h (suc j) (omega (arith, low)) (λ e. other (omega (arith, e)))))
-
-  module _ (test : X → Bool) (g : X → A) where
-    -- where each element that passes gives one, and no other gives any
-    pub ones : (xs : List X) → All (λ x. f x ≡ cond (test x) (g x ∷ []) []) xs → flat_map f xs ≡ map g (filter test xs)
-    ones [] h = refl
-    ones (x ∷ xs) h =
-        let first = All-head (λ y. f y ≡ cond (test y) (g y ∷ []) []) x xs h in
-        let rest = ones xs (All-tail (λ y. f y ≡ cond (test y) (g y ∷ []) []) x xs h) in
-        rw (first, rest) (by_case (test x))
-      where
-        by_case : (b : Bool) → cond b (g x ∷ []) [] ++ map g (filter test xs) ≡ map g (cond b (x ∷ filter test xs) (filter test xs))
-        by_case true = refl
-        by_case false = refl
-
-pub differs : (a x : ℕ) → (x ≡ a → ⊥) → (x == a) ≡ false
-differs a x h = by_case (x == a) refl
+-- the whole numbers of the step over k and m, and of the heads of its cells over m
+module _ (zones : List ℕ) (e : List ExactCell) (i b : ℕ) (h : ℕ → Fraction) (alone : IsAlone zones e i) (apart : own_zone zones e i ≡ b → ⊥)
+    (heads : All (λ x. x.kind ≡ Constant → h x.source ≡ x.head) (cell_at e i).fixed)
+    (k m : ℕ) (w : List WholeCell) (over : AllZip (CellOver k m) e w) (H : ℕ → ℤ) (is : (j : ℕ) → IsOver m (h (cell_at e j).id) (H j))
   where
-    by_case : (b : Bool) → (x == a) ≡ b → b ≡ false
-    by_case true e = absurd (h (eqb-true x a e))
-    by_case false e = refl
+    abbrev a : ℕ
+    a = own_zone zones e i
 
-module _ (zones : List ℕ) (h : ℕ → Fraction) (a b : ℕ) (some : 0 < a) (lower : a < b) where
-  abbrev zone : ℕ → ℕ
-  zone c = slice_index zones c
+    abbrev zone : ℕ → ℕ
+    zone j = slice_index zones (cell_at e j).id
 
-  abbrev between : ExactFace → Bool
-  between f = is_exact_between a b f
+    abbrev to_links : ExactLink → Bool
+    to_links x = zone x.cell == b
 
-  abbrev face : ℕ → ℕ → Ratio → ExactFace
-  face x y c = record { from = zone x; to = zone y; flow = times (signed c) (minus (h x) (h y)) }
+    abbrev to_known : ExactFixed → Bool
+    to_known x = is_constant x.kind && (slice_index zones x.source == b)
 
-  -- no face from another zone
-  pub from_elsewhere : (x y : ℕ) (c : Ratio) → (zone x ≡ a → ⊥) → filter between (exact_from zones h x y c) ≡ []
-  unfolding exact_from
-  from_elsewhere x y c other = by_case (is_lower_zone (zone x) (zone y))
-    where
-      apart : between (face x y c) ≡ false
-      apart = rw (differs a (zone x) other) refl
+    cell : (j : ℕ) → j < length e → CellOver k m (cell_at e j) (whole_at w j)
+    cell j lt = AllZip-at (CellOver k m) e w j no_cell no_whole over lt
 
-      by_case : (low : Bool) → filter between (cond low (face x y c ∷ []) []) ≡ []
-      by_case true = rw apart refl
-      by_case false = refl
+    -- what flows into the lone cell from zone b
+    abbrev linked : ℤ
+    linked = kept to_links (whole_link H (H i)) (cell_at e i).links (whole_at w i).links
 
-  is_lower : is_lower_zone a b ≡ true
-  is_lower = grind (arith, nat_tests)
+    abbrev known : ℤ
+    known = kept to_known (whole_fixed (H i)) (cell_at e i).fixed (whole_at w i).fixed
 
-  -- the face from the zone, where the other cell is in zone b
-  pub from_here : (x y : ℕ) (c : Ratio) → zone x ≡ a → filter between (exact_from zones h x y c) ≡ cond (zone y == b) (face x y c ∷ []) []
-  unfolding exact_from
-  from_here x y c here = by_case (zone y == b) refl
-    where
-      same : (zone x == a) ≡ true
-      same = grind (arith, nat_tests)
+    inflow_over : IsOver (k * m) (inflow_from zones e i h b) (linked +ℤ known)
+    inflow_over =
+        let own = cell i alone.inside in
+        IsOver-plus (k * m) _ _ _ _
+        (kept_over (LinkOver k m) (k * m) (link_flow (λ c. h (cell_at e c).id) (h (cell_at e i).id)) (whole_link H (H i)) (link_over k m (h (cell_at e i).id) (H i) (is i) (λ c. h (cell_at e c).id) H is) to_links (cell_at e i).links (whole_at w i).links own.links)
+        (kept_over (FixedOver k m) (k * m) (fixed_flow (h (cell_at e i).id)) (whole_fixed (H i)) (fixed_over k m (h (cell_at e i).id) (H i) (is i)) to_known (cell_at e i).fixed (whole_at w i).fixed own.fixed)
 
-      by_zone : (t low : Bool) → (zone y == b) ≡ t → is_lower_zone (zone x) (zone y) ≡ low → (t ≡ true → low ≡ true) → filter between (cond low (face x y c ∷ []) []) ≡ cond t (face x y c ∷ []) []
-      by_zone true true e d f = rw (same, e) refl
-      by_zone true false e d f = absurd (let clash : false ≡ true = f refl in cc)
-      by_zone false true e d f = rw (same, e) refl
-      by_zone false false e d f = refl
+    -- from zone u to zone v
+    module _ (u v : ℕ) (some : 0 < u) (less : u < v) where
+      abbrev Flows : List ExactFace → ℤ → Type 0
+      Flows = Between (k * m) zones h u v some less
 
-      by_case : (t : Bool) → (zone y == b) ≡ t → filter between (cond (is_lower_zone (zone x) (zone y)) (face x y c ∷ []) []) ≡ cond t (face x y c ∷ []) []
-      by_case true e =
-          let there : zone y ≡ b = eqb-true (zone y) b e in
-          let low : is_lower_zone (zone x) (zone y) ≡ true = rw (here, there) is_lower in
-          by_zone true (is_lower_zone (zone x) (zone y)) e refl (λ d. low)
-      by_case false e = by_zone false (is_lower_zone (zone x) (zone y)) e refl (λ d. absurd (let clash : false ≡ true = d in cc))
+      abbrev crosses : ℕ → ExactLink → Bool
+      crosses j x = (zone j == u) && (zone x.cell == v)
 
-  -- a branch to a known head
-  fixed_elsewhere : (kind : FixedKind) (x y : ℕ) (c : Ratio) → (zone x ≡ a → ⊥) → (kind ≡ Constant → zone y ≡ a → ⊥) → filter between (exact_by_kind zones h kind x y c) ≡ []
-  fixed_elsewhere Storage x y c other apart = refl
-  fixed_elsewhere Constant x y c other apart =
-      filter-append between (exact_from zones h x y c) (exact_from zones h y x c) ∙ rw (from_elsewhere x y c other, from_elsewhere y x c (apart refl)) refl
-  fixed_elsewhere General x y c other apart = refl
+      links_cross : (j : ℕ) → j < length e → Flows (flat_map (exact_link zones h e (cell_at e j)) (cell_at e j).links) (kept (crosses j) (λ (y : WholeLink). pos y.c *ℤ (H j -ℤ H y.cell)) (cell_at e j).links (whole_at w j).links)
+      links_cross j lt =
+          sum_kept (k * m) (is_exact_between u v) (exact_link zones h e (cell_at e j)) (LinkOver k m) (λ x. Unit {0}) (crosses j) (λ (y : WholeLink). pos y.c *ℤ (H j -ℤ H y.cell))
+          (λ x y r t. from_sum (k * m) zones h u v some less (cell_at e j).id (cell_at e x.cell).id x.conductance (pos y.c *ℤ (H j -ℤ H y.cell)) (crosses j x) refl
+          (λ f. difference_over k m y.c x.conductance (h (cell_at e j).id) (h (cell_at e x.cell).id) (H j) (H y.cell) r.c (is j) (subst (λ (n : ℕ). IsOver m (h (cell_at e x.cell).id) (H n)) r.same (is x.cell))))
+          (cell_at e j).links (whole_at w j).links (cell j lt).links (λ n d l. tt)
 
-  fixed_here : (kind : FixedKind) (x y : ℕ) (c : Ratio) → zone x ≡ a → (kind ≡ Constant → zone y ≡ a → ⊥)
-      → filter between (exact_by_kind zones h kind x y c) ≡ cond (is_constant kind && (zone y == b)) (face x y c ∷ []) []
-  fixed_here Storage x y c here apart = refl
-  fixed_here Constant x y c here apart =
-      filter-append between (exact_from zones h x y c) (exact_from zones h y x c) ∙ rw (from_here x y c here, from_elsewhere y x c (apart refl)) (append-nil (cond (zone y == b) (face x y c ∷ []) []))
-  fixed_here General x y c here apart = refl
+      -- no face of another cell's known heads
+      module _ (own : (u ≡ a) ⊎ (v ≡ a)) where
+        no_face : (x y : ℕ) → (slice_index zones x ≡ a → ⊥) → (slice_index zones y ≡ a → ⊥) → leads (k * m) zones h u v some less x y ≡ false
+        no_face x y p q = elim own [
+          | inl s ↦ rw (s, ne_eqb (slice_index zones x) a p) refl
+          | inr s ↦ rw (s, ne_eqb (slice_index zones y) a q) (and-false (slice_index zones x == u))
+        ]
 
-  module _ (e : List ExactCell) where
-    abbrev link_face : ExactCell → ExactLink → ExactFace
-    link_face c x = face c.id (cell_at e x.cell).id x.conductance
+        no_known : (j : ℕ) → j < length e → (j ≡ i → ⊥) → Flows (flat_map (exact_fixed zones h (cell_at e j)) (cell_at e j).fixed) (pos 0)
+        no_known j lt other =
+            sum_none (k * m) (is_exact_between u v) (exact_fixed zones h (cell_at e j)) (cell_at e j).fixed
+            (All-weaker (λ x. x.kind ≡ Constant → slice_index zones x.source ≡ a → ⊥) (λ x. Flows (exact_fixed zones h (cell_at e j) x) (pos 0))
+            (λ x source. subst (Flows (exact_fixed zones h (cell_at e j) x)) (nothing (is_constant x.kind))
+            (known_sum (k * m) zones h u v some less x.kind (cell_at e j).id x.source x.conductance (pos 0) (pos 0)
+            (λ c. from_none (k * m) zones h u v some less (cell_at e j).id x.source x.conductance (no_face (cell_at e j).id x.source (λ s. other (alone.others j lt s)) (source c)))
+            (λ c. from_none (k * m) zones h u v some less x.source (cell_at e j).id x.conductance (no_face x.source (cell_at e j).id (source c) (λ s. other (alone.others j lt s))))))
+            (cell_at e j).fixed (alone.sources j lt))
+          where
+            nothing : (t : Bool) → cond t (pos 0 +ℤ pos 0) (pos 0) ≡ pos 0
+            nothing true = refl
+            nothing false = refl
 
-    abbrev fixed_face : ExactCell → ExactFixed → ExactFace
-    fixed_face c x = face c.id x.source x.conductance
+      -- the faces of the lone cell's known heads, of which q is the flow over one
+      own_known : (q : WholeEntry → ℤ) → ((x : ExactFixed) (y : WholeEntry) → FixedOver k m x y → (x.kind ≡ Constant → h x.source ≡ x.head) → (x.kind ≡ Constant → slice_index zones x.source ≡ a → ⊥) → Flows (exact_fixed zones h (cell_at e i) x) (cond (to_known x) (q y) (pos 0))) →
+          Flows (flat_map (exact_fixed zones h (cell_at e i)) (cell_at e i).fixed) (kept to_known q (cell_at e i).fixed (whole_at w i).fixed)
+      own_known q each =
+          sum_kept (k * m) (is_exact_between u v) (exact_fixed zones h (cell_at e i)) (FixedOver k m) (λ x. (x.kind ≡ Constant → h x.source ≡ x.head) × (x.kind ≡ Constant → slice_index zones x.source ≡ a → ⊥)) to_known q
+          (λ x y r f. each x y r f.0 f.1) (cell_at e i).fixed (whole_at w i).fixed (cell i alone.inside).fixed (λ n d l. (heads n d l, alone.sources i alone.inside n d l))
 
-    abbrev to_links : ExactCell → List ExactLink
-    to_links c = filter (λ x. zone (cell_at e x.cell).id == b) c.links
+      all_cells : (z : ℕ → ℤ) → ((j : ℕ) → j < length e → Flows (exact_cell zones h e (cell_at e j)) (z j)) → IsOver (k * m) (exact_flow u v (exact_faces zones h e)) (sum_below (length e) z)
+      unfolding exact_faces
+      all_cells z each = sum_over (k * m) (is_exact_between u v) (flat_map (exact_cell zones h e) e) _ (sum_at (k * m) (is_exact_between u v) (exact_cell zones h e) no_cell e z each)
 
-    abbrev to_constants : ExactCell → List ExactFixed
-    to_constants c = filter (λ x. is_constant x.kind && (zone x.source == b)) c.fixed
+      cell_sum : (c : ExactCell) (p q : ℤ) → Flows (flat_map (exact_link zones h e c) c.links) p → Flows (flat_map (exact_fixed zones h c) c.fixed) q → Flows (exact_cell zones h e c) (p +ℤ q)
+      unfolding exact_cell
+      cell_sum c p q links fixed = sum_append (k * m) (is_exact_between u v) (flat_map (exact_link zones h e c) c.links) (flat_map (exact_fixed zones h c) c.fixed) p q links fixed
 
-    elsewhere : (c : ExactCell) → (zone c.id ≡ a → ⊥) → All (λ x. x.kind ≡ Constant → zone x.source ≡ a → ⊥) c.fixed → filter between (exact_cell zones h e c) ≡ []
-    unfolding exact_cell
-    elsewhere c other apart =
-        let links : filter between (flat_map (exact_link zones h e c) c.links) ≡ [] =
-        filter-flat_map between (exact_link zones h e c) c.links ∙ none_of (λ x. filter between (exact_link zones h e c x)) c.links
-        (λ j d lt. from_elsewhere c.id (cell_at e (get_or c.links j d).cell).id (get_or c.links j d).conductance other) in
-        let fixed : filter between (flat_map (exact_fixed zones h c) c.fixed) ≡ [] =
-        filter-flat_map between (exact_fixed zones h c) c.fixed ∙ none_of (λ x. filter between (exact_fixed zones h c x)) c.fixed
-        (λ j d lt. fixed_elsewhere (get_or c.fixed j d).kind c.id (get_or c.fixed j d).source (get_or c.fixed j d).conductance other (apart j d lt)) in
-        filter-append between (flat_map (exact_link zones h e c) c.links) (flat_map (exact_fixed zones h c) c.fixed) ∙ rw (links, fixed) refl
+    same_zone : (a == a) ≡ true
+    same_zone = eq-eqb a a refl
 
-    here : (c : ExactCell) → zone c.id ≡ a → All (λ x. x.kind ≡ Constant → zone x.source ≡ a → ⊥) c.fixed
-        → filter between (exact_cell zones h e c) ≡ map (link_face c) (to_links c) ++ map (fixed_face c) (to_constants c)
-    unfolding exact_cell
-    here c own apart =
-        let links : filter between (flat_map (exact_link zones h e c) c.links) ≡ map (link_face c) (to_links c) =
-        filter-flat_map between (exact_link zones h e c) c.links ∙ ones (λ x. filter between (exact_link zones h e c x)) (λ x. zone (cell_at e x.cell).id == b) (link_face c) c.links
-        (λ j d lt. from_here c.id (cell_at e (get_or c.links j d).cell).id (get_or c.links j d).conductance own) in
-        let fixed : filter between (flat_map (exact_fixed zones h c) c.fixed) ≡ map (fixed_face c) (to_constants c) =
-        filter-flat_map between (exact_fixed zones h c) c.fixed ∙ ones (λ x. filter between (exact_fixed zones h c x)) (λ x. is_constant x.kind && (zone x.source == b)) (fixed_face c) c.fixed
-        (λ j d lt. fixed_here (get_or c.fixed j d).kind c.id (get_or c.fixed j d).source (get_or c.fixed j d).conductance own (apart j d lt)) in
-        filter-append between (flat_map (exact_link zones h e c) c.links) (flat_map (exact_fixed zones h c) c.fixed) ∙ rw (links, fixed) refl
+    other_zone : (a == b) ≡ false
+    other_zone = ne_eqb a b apart
 
-pub total-same : {X : Type 0} (test : X → Bool) (f g : X → Fraction) (xs : List X) → All (λ x. test x ≡ true → f x ≡ g x) xs → fraction_total f (filter test xs) ≡ fraction_total g (filter test xs)
-total-same test f g [] h = refl
-total-same test f g (x ∷ xs) h = by_case (total-same test f g xs (All-tail (λ y. test y ≡ true → f y ≡ g y) x xs h)) (test x) refl
+    -- to a higher zone
+    module _ (some : 0 < a) (less : a < b) where
+      one_known : (x : ExactFixed) (y : WholeEntry) → FixedOver k m x y → (x.kind ≡ Constant → h x.source ≡ x.head) → (x.kind ≡ Constant → slice_index zones x.source ≡ a → ⊥) → Flows a b some less (exact_fixed zones h (cell_at e i) x) (cond (to_known x) (neg_ℤ (whole_fixed (H i) y)) (pos 0))
+      one_known x y r head source =
+          subst (Flows a b some less (exact_fixed zones h (cell_at e i) x)) (nested (is_constant x.kind) (slice_index zones x.source == b) _)
+          (known_sum (k * m) zones h a b some less x.kind (cell_at e i).id x.source x.conductance _ (pos 0)
+          (λ c. from_sum (k * m) zones h a b some less (cell_at e i).id x.source x.conductance (neg_ℤ (whole_fixed (H i) y)) (slice_index zones x.source == b) (rw same_zone refl)
+          (λ f. subst (IsOver (k * m) (times (signed x.conductance) (minus (h (cell_at e i).id) (h x.source)))) (turned (pos y.c) (H i) y.top) (difference_over k m y.c x.conductance (h (cell_at e i).id) (h x.source) (H i) y.top r.c (is i) (subst (λ (z : Fraction). IsOver m z y.top) (sym (head c)) r.top))))
+          (λ c. from_none (k * m) zones h a b some less x.source (cell_at e i).id x.conductance (rw (ne_eqb (slice_index zones x.source) a (source c)) refl)))
+        where
+          nested : (s t : Bool) (q : ℤ) → cond s (cond t q (pos 0) +ℤ pos 0) (pos 0) ≡ cond (s && t) q (pos 0)
+          nested true true q = omega (arith, ints)
+          nested true false q = refl
+          nested false t q = refl
+
+      shares : ℕ → ℤ
+      shares j = cond (nat_eq i j) (neg_ℤ (linked +ℤ known)) (pos 0) *ℤ pos 1
+
+      each_cell : (j : ℕ) → j < length e → Flows a b some less (exact_cell zones h e (cell_at e j)) (shares j)
+      unfolding shares
+      each_cell j lt = elim (cases_eq i j) [
+        | inl s ↦ subst (λ (n : ℕ). Flows a b some less (exact_cell zones h e (cell_at e n)) (cond (nat_eq i n) (neg_ℤ (linked +ℤ known)) (pos 0) *ℤ pos 1)) s
+            (subst (Flows a b some less (exact_cell zones h e (cell_at e i))) own_share
+            (cell_sum a b some less (cell_at e i) _ _ (links_cross a b some less i alone.inside) (own_known a b some less (λ y. neg_ℤ (whole_fixed (H i) y)) one_known)))
+        | inr o ↦ subst (Flows a b some less (exact_cell zones h e (cell_at e j))) (rw (kept_none (crosses a b some less j) (λ (y : WholeLink). pos y.c *ℤ (H j -ℤ H y.cell)) (λ x. rw (ne_eqb (zone j) a (λ z. o (sym (alone.others j lt z)))) refl) (cell_at e j).links (whole_at w j).links, ne_eqb i j o) refl)
+            (cell_sum a b some less (cell_at e j) _ (pos 0) (links_cross a b some less j lt) (no_known a b some less (inl refl) j lt (λ z. o (sym z))))
+      ]
+        where
+          own_share : kept (crosses a b some less i) (λ (y : WholeLink). pos y.c *ℤ (H i -ℤ H y.cell)) (cell_at e i).links (whole_at w i).links +ℤ kept to_known (λ y. neg_ℤ (whole_fixed (H i) y)) (cell_at e i).fixed (whole_at w i).fixed ≡ cond (nat_eq i i) (neg_ℤ (linked +ℤ known)) (pos 0) *ℤ pos 1
+          own_share =
+              let links = kept_turned (crosses a b some less i) to_links (λ (y : WholeLink). pos y.c *ℤ (H i -ℤ H y.cell)) (whole_link H (H i)) (λ x. rw same_zone refl) (λ y. turned (pos y.c) (H i) (H y.cell)) (cell_at e i).links (whole_at w i).links in
+              let heads = kept_turned to_known to_known (λ y. neg_ℤ (whole_fixed (H i) y)) (whole_fixed (H i)) (λ x. refl) (λ y. refl) (cell_at e i).fixed (whole_at w i).fixed in
+              rw (eq-eqb i i refl) (sums _ _ linked known links heads)
+            where
+              sums : (p q x y : ℤ) → p ≡ neg_ℤ x → q ≡ neg_ℤ y → p +ℤ q ≡ neg_ℤ (x +ℤ y) *ℤ pos 1
+              sums p q x y f g = omega (arith, ints)
+
+      pub higher : 0 < k * m → Same (exact_flow a b (exact_faces zones h e)) (negated (inflow_from zones e i h b))
+      unfolding shares
+      higher some_product =
+          same_over (k * m) _ _ _ _ some_product (all_cells a b some less shares each_cell) (IsOver-negated (k * m) (inflow_from zones e i h b) (linked +ℤ known) inflow_over)
+          (sum-one (length e) i (neg_ℤ (linked +ℤ known)) (λ j. pos 1) alone.inside ∙ times_one (neg_ℤ (linked +ℤ known)))
+
+    -- from a lower zone
+    module _ (some : 0 < b) (less : b < a) (are_linked : AreLinked e) (both : IsMutual w) where
+      -- the difference of heads to a cell of zone b
+      drop : ℕ → ℤ
+      drop j = cond (zone j == b) (H j -ℤ H i) (pos 0)
+
+      one_source : (x : ExactFixed) (y : WholeEntry) → FixedOver k m x y → (x.kind ≡ Constant → h x.source ≡ x.head) → (x.kind ≡ Constant → slice_index zones x.source ≡ a → ⊥) → Flows b a some less (exact_fixed zones h (cell_at e i) x) (cond (to_known x) (whole_fixed (H i) y) (pos 0))
+      one_source x y r head source =
+          subst (Flows b a some less (exact_fixed zones h (cell_at e i) x)) (nested (is_constant x.kind) (slice_index zones x.source == b) _)
+          (known_sum (k * m) zones h b a some less x.kind (cell_at e i).id x.source x.conductance (pos 0) _
+          (λ c. from_none (k * m) zones h b a some less (cell_at e i).id x.source x.conductance (rw other_zone refl))
+          (λ c. from_sum (k * m) zones h b a some less x.source (cell_at e i).id x.conductance (whole_fixed (H i) y) (slice_index zones x.source == b) (rw same_zone (and-true (slice_index zones x.source == b)))
+          (λ f. difference_over k m y.c x.conductance (h x.source) (h (cell_at e i).id) y.top (H i) r.c (subst (λ (z : Fraction). IsOver m z y.top) (sym (head c)) r.top) (is i))))
+        where
+          nested : (s t : Bool) (q : ℤ) → cond s (pos 0 +ℤ cond t q (pos 0)) (pos 0) ≡ cond (s && t) q (pos 0)
+          nested true true q = omega (arith, ints)
+          nested true false q = refl
+          nested false t q = refl
+
+      pick : (t : Bool) (c d : ℤ) → cond t (c *ℤ d) (pos 0) ≡ c *ℤ cond t d (pos 0)
+      pick true c d = refl
+      pick false c d = sym (*ℤ-zero c)
+
+      total_times : (xs : List WholeLink) (z : ℤ) → total (λ y. cond (nat_eq y.cell i) (pos y.c) (pos 0) *ℤ z) xs ≡ weight xs i *ℤ z
+      total_times [] z = sym (zero-*ℤ z)
+      total_times (x ∷ xs) z = rw (total_times xs z) (sym (add_mul (cond (nat_eq x.cell i) (pos x.c) (pos 0)) (weight xs i) z))
+
+      -- the links of another cell that cross lead to the lone cell
+      links_home : (j : ℕ) → j < length e → kept (crosses b a some less j) (λ (y : WholeLink). pos y.c *ℤ (H j -ℤ H y.cell)) (cell_at e j).links (whole_at w j).links ≡ weight (whole_at w i).links j *ℤ drop j
+      unfolding drop
+      links_home j lt =
+          kept_is (LinkOver k m) (λ x. x.cell < length e) (crosses b a some less j) (λ (y : WholeLink). pos y.c *ℤ (H j -ℤ H y.cell)) (λ y. cond (nat_eq y.cell i) (pos y.c) (pos 0) *ℤ cond (zone j == b) (H j -ℤ H i) (pos 0)) one (cell_at e j).links (whole_at w j).links (cell j lt).links (are_linked.range j lt)
+          ∙ total_times (whole_at w j).links (cond (zone j == b) (H j -ℤ H i) (pos 0))
+          ∙ ap (λ (z : ℤ). z *ℤ cond (zone j == b) (H j -ℤ H i) (pos 0)) (both.same j i (omega (arith, lt, same_length)) (omega (arith, alone.inside, same_length)))
+        where
+          same_length : length e ≡ length w
+          same_length = AllZip-length (CellOver k m) e w over
+
+          one : (x : ExactLink) (y : WholeLink) → LinkOver k m x y → x.cell < length e → cond ((zone j == b) && (zone x.cell == a)) (pos y.c *ℤ (H j -ℤ H y.cell)) (pos 0) ≡ cond (nat_eq y.cell i) (pos y.c) (pos 0) *ℤ cond (zone j == b) (H j -ℤ H i) (pos 0)
+          one x y r range = elim (cases_eq x.cell i) [
+            | inl s ↦ let there : y.cell ≡ i = sym r.same ∙ s in rw (s, same_zone, and-true (zone j == b), eq-eqb y.cell i there, there) (pick (zone j == b) (pos y.c) (H j -ℤ H i))
+            | inr o ↦ let elsewhere : y.cell ≡ i → ⊥ = λ s. o (r.same ∙ s) in rw (ne_eqb (zone x.cell) a (λ s. o (alone.others x.cell range s)), and-false (zone j == b), ne_eqb y.cell i elsewhere) (sym (zero-*ℤ (cond (zone j == b) (H j -ℤ H i) (pos 0))))
+          ]
+
+      inflows : ℕ → ℤ
+      inflows j = cond (nat_eq i j) known (pos 0) *ℤ pos 1 +ℤ weight (whole_at w i).links j *ℤ drop j
+
+      each_inflow : (j : ℕ) → j < length e → Flows b a some less (exact_cell zones h e (cell_at e j)) (inflows j)
+      unfolding inflows drop
+      each_inflow j lt = elim (cases_eq i j) [
+        | inl s ↦ subst (λ (n : ℕ). Flows b a some less (exact_cell zones h e (cell_at e n)) (cond (nat_eq i n) known (pos 0) *ℤ pos 1 +ℤ weight (whole_at w i).links n *ℤ drop n)) s
+            (subst (Flows b a some less (exact_cell zones h e (cell_at e i))) own_share
+            (cell_sum b a some less (cell_at e i) _ _ (links_cross b a some less i alone.inside) (own_known b a some less (whole_fixed (H i)) one_source)))
+        | inr o ↦ subst (Flows b a some less (exact_cell zones h e (cell_at e j))) (rw (links_home j lt, ne_eqb i j o) (swap (weight (whole_at w i).links j *ℤ drop j)))
+            (cell_sum b a some less (cell_at e j) _ (pos 0) (links_cross b a some less j lt) (no_known b a some less (inr refl) j lt (λ z. o (sym z))))
+      ]
+        where
+          swap : (z : ℤ) → z +ℤ pos 0 ≡ pos 0 *ℤ pos 1 +ℤ z
+          swap z = omega (arith, ints)
+
+          own_share : kept (crosses b a some less i) (λ (y : WholeLink). pos y.c *ℤ (H i -ℤ H y.cell)) (cell_at e i).links (whole_at w i).links +ℤ known ≡ cond (nat_eq i i) known (pos 0) *ℤ pos 1 +ℤ weight (whole_at w i).links i *ℤ drop i
+          own_share =
+              let none = kept_none (crosses b a some less i) (λ (y : WholeLink). pos y.c *ℤ (H i -ℤ H y.cell)) (λ x. rw other_zone refl) (cell_at e i).links (whole_at w i).links in
+              rw (none, eq-eqb i i refl, other_zone, *ℤ-zero (weight (whole_at w i).links i)) (omega (arith, ints))
+
+      over_links : linked ≡ total (λ y. pos y.c *ℤ drop y.cell) (whole_at w i).links
+      unfolding drop
+      over_links =
+          kept_is (LinkOver k m) (λ x. Unit {0}) to_links (whole_link H (H i)) (λ y. pos y.c *ℤ cond (zone y.cell == b) (H y.cell -ℤ H i) (pos 0))
+          (λ x y r t. rw r.same (pick (zone y.cell == b) (pos y.c) (H y.cell -ℤ H i))) (cell_at e i).links (whole_at w i).links (cell i alone.inside).links (λ n d l. tt)
+
+      pub lower : 0 < k * m → Same (exact_flow b a (exact_faces zones h e)) (inflow_from zones e i h b)
+      unfolding inflows
+      lower some_product =
+          let range = All-zip (LinkOver k m) (λ x. x.cell < length e) (λ y. y.cell < length e) (λ x y r s. subst (λ (n : ℕ). n < length e) r.same s) (cell_at e i).links (whole_at w i).links (cell i alone.inside).links (are_linked.range i alone.inside) in
+          let links = over_links ∙ by_weight (length e) (whole_at w i).links drop range in
+          let sum = sum-add (length e) (λ j. cond (nat_eq i j) known (pos 0) *ℤ pos 1) (λ j. weight (whole_at w i).links j *ℤ drop j) in
+          let own = sum-one (length e) i known (λ j. pos 1) alone.inside in
+          same_over (k * m) _ _ _ _ some_product (all_cells b a some less inflows each_inflow) inflow_over (sums _ _ _ linked known sum own links)
+        where
+          sums : (s p q l g : ℤ) → s ≡ p +ℤ q → p ≡ g *ℤ pos 1 → l ≡ q → s ≡ l +ℤ g
+          sums s p q l g x y z = omega (arith, ints)
+
+-- a common denominator of the heads
+goes_at : (h : ℕ → Fraction) (e : List ExactCell) (j : ℕ) → Goes (den (h (cell_at e j).id)) (den (h 0) * product (λ (c : ExactCell). den (h c.id)) e)
+goes_at h [] j = (1, omega arith)
+goes_at h (c ∷ cs) zero = (den (h 0) * product (λ (c : ExactCell). den (h c.id)) cs, omega arith)
+goes_at h (c ∷ cs) (suc j) = Goes-trans _ (den (h 0) * product (λ (c : ExactCell). den (h c.id)) cs) _ (goes_at h cs j) (den (h c.id), omega arith)
+
+pub lone_cells : LoneCellsHaveTheirFlows
+lone_cells zones e i b h alone some zone heads =
+    let (n, some_n, common) = step_common e in
+    let d = den (h 0) * product (λ (c : ExactCell). den (h c.id)) e in
+    let some_d : 0 < d = mul-pos (omega arith) (some_product (λ (c : ExactCell). den (h c.id)) (λ c. omega arith) e) in
+    let (w, over) = whole_step n 1 d e common in
+    let H = λ (j : ℕ). (fraction_over d n (h (cell_at e j).id) (goes_at h e j)).0 in
+    let is = λ (j : ℕ). subst (λ (z : ℕ). IsOver z (h (cell_at e j).id) (H j)) (comm d n) (fraction_over d n (h (cell_at e j).id) (goes_at h e j)).1 in
+    let positive = mul-pos {m = n * 1} {n = n * d} (omega arith) (mul-pos some_n some_d) in
+    record {
+      higher = λ low. higher zones e i b h alone (λ s. omega (arith, s, low)) heads (n * 1) (n * d) w over H is some low positive;
+      lower = λ linked low. lower zones e i b h alone (λ s. omega (arith, s, low)) heads (n * 1) (n * d) w over H is zone low linked (mutual_whole (n * 1) (n * d) e w linked over) positive;
+    }
   where
-    by_case : fraction_total f (filter test xs) ≡ fraction_total g (filter test xs) → (b : Bool) → test x ≡ b
-        → fraction_total f (cond b (x ∷ filter test xs) (filter test xs)) ≡ fraction_total g (cond b (x ∷ filter test xs) (filter test xs))
-    by_case rest true e = rw (All-head (λ y. test y ≡ true → f y ≡ g y) x xs h e, rest) refl
-    by_case rest false e = rest
-
-pub constant_is : (kind : FixedKind) → is_constant kind ≡ true → kind ≡ Constant
-constant_is Storage e = absurd (let clash : false ≡ true = e in cc)
-constant_is Constant e = refl
-constant_is General e = absurd (let clash : false ≡ true = e in cc)
-
-module _ (zones : List ℕ) (e : List ExactCell) (k b : ℕ) (h : ℕ → Fraction) (alone : IsAlone zones e k) (some : 0 < own_zone zones e k) (lower : own_zone zones e k < b)
-    (heads : All (λ x. x.kind ≡ Constant → h x.source ≡ x.head) (cell_at e k).fixed) where
-  abbrev a : ℕ
-  a = own_zone zones e k
-
-  abbrev c : ExactCell
-  c = cell_at e k
-
-  abbrev v : Fraction
-  v = h c.id
-
-  abbrev flow_of : ExactFace → Fraction
-  flow_of f = f.flow
-
-  abbrev leaving_links : List ExactFace
-  leaving_links = map (link_face zones h a b some lower e c) (links_to zones e k b)
-
-  abbrev leaving_constants : List ExactFace
-  leaving_constants = map (fixed_face zones h a b some lower e c) (constants_in zones e k b)
-
-  faces : filter (is_exact_between a b) (exact_faces zones h e) ≡ leaving_links ++ leaving_constants
-  unfolding exact_faces
-  faces =
-      filter-flat_map (is_exact_between a b) (exact_cell zones h e) e
-      ∙ only_at (λ x. filter (is_exact_between a b) (exact_cell zones h e x)) e k no_cell alone.inside
-      (λ j lt other. elsewhere zones h a b some lower e (cell_at e j) (λ same. other (alone.others j lt same)) (alone.sources j lt))
-      ∙ here zones h a b some lower e c refl (alone.sources k alone.inside)
-
-  over_links : fraction_total flow_of leaving_links ≡ negated (fraction_total (link_flow (λ i. h (cell_at e i).id) v) (links_to zones e k b))
-  over_links = total-negated flow_of (link_flow (λ i. h (cell_at e i).id) v) (link_face zones h a b some lower e c) (λ x. turned x.conductance v (h (cell_at e x.cell).id)) (links_to zones e k b)
-
-  abbrev from_source : ExactFixed → Fraction
-  from_source x = times (signed x.conductance) (minus (h x.source) v)
-
-  sources_are : fraction_total from_source (constants_in zones e k b) ≡ fraction_total (fixed_flow v) (constants_in zones e k b)
-  sources_are = total-same (λ x. is_constant x.kind && (slice_index zones x.source == b)) from_source (fixed_flow v) c.fixed
-      (λ j d lt t. ap (λ (f : Fraction). times (signed (get_or c.fixed j d).conductance) (minus f v)) (heads j d lt
-      (constant_is (get_or c.fixed j d).kind (and_parts (is_constant (get_or c.fixed j d).kind) (slice_index zones (get_or c.fixed j d).source == b) t).0)))
-
-  to_constant_heads : fraction_total flow_of leaving_constants ≡ negated (fraction_total (fixed_flow v) (constants_in zones e k b))
-  to_constant_heads =
-      total-negated flow_of from_source (fixed_face zones h a b some lower e c) (λ x. turned x.conductance v (h x.source)) (constants_in zones e k b)
-      ∙ ap (λ (f : Fraction). negated f) sources_are
-
-  flows : exact_flow a b (exact_faces zones h e) ≡ negated (inflow_from zones e k h b)
-  flows =
-      ap (λ (fs : List ExactFace). fraction_total flow_of fs) faces ∙ total-append flow_of leaving_links leaving_constants
-      ∙ (λ i. plus (over_links i) (to_constant_heads i))
-      ∙ negated_sum (fraction_total (link_flow (λ i. h (cell_at e i).id) v) (links_to zones e k b)) (fraction_total (fixed_flow v) (constants_in zones e k b))
-
-  pub lone_flows : Same (exact_flow a b (exact_faces zones h e)) (negated (inflow_from zones e k h b))
-  lone_flows = record { same = (λ i. (flows i).num *ℤ pos (den (negated (inflow_from zones e k h b)))) ∙ (λ i. (negated (inflow_from zones e k h b)).num *ℤ pos (den (sym flows i))) }
+    comm : (a b : ℕ) → a * b ≡ b * a
+    comm a b = omega arith

@@ -20,7 +20,7 @@ pub fn steps_have_their_times()
 {}
 
 /// The zone flows of a cell that is alone in its zone are the flows over its links and to constant heads.
-#[tactic(auto, using(crate::proofs::LowerZones::lone_cells))]
+#[tactic(auto, using(crate::proofs::LoneCells::lone_cells))]
 pub fn lone_cells_have_their_flows()
     ensures { LoneCellsHaveTheirFlows }
 {}

@@ -44,33 +44,32 @@ over_same m f g z same h = record {
       (swap g.num (pos m) (pos (den f)) ∙ ap (λ (x : ℤ). x *ℤ pos m) (sym same.same) ∙ swap f.num (pos (den g)) (pos m) ∙ ap (λ (x : ℤ). x *ℤ pos (den g)) h.is ∙ swap z (pos (den f)) (pos (den g)));
 }
 
+-- what holds of lists place by place passes on to a list that agrees with the first one
+module _ {X Y : Type 0} (A : X → X → Type 0) (R : X → Y → Type 0) (each : (x y : X) (w : Y) → A x y → R x w → R y w) where
+  AllZip-agree : (xs ys : List X) (ws : List Y) → AllZip A xs ys → AllZip R xs ws → AllZip R ys ws
+  AllZip-agree [] [] [] a h = tt
+  AllZip-agree [] [] (w ∷ ws) a h = absurd h
+  AllZip-agree [] (y ∷ ys) ws a h = absurd a
+  AllZip-agree (x ∷ xs) [] ws a h = absurd a
+  AllZip-agree (x ∷ xs) (y ∷ ys) [] a h = absurd h
+  AllZip-agree (x ∷ xs) (y ∷ ys) (w ∷ ws) a h = (each x y w a.0 h.0, AllZip-agree xs ys ws a.1 h.1)
+
 module _ (k m : ℕ) where
-  fixed_over : (xs ys : List ExactFixed) (ws : List WholeEntry) → AllZip FixedAgrees xs ys → AllZip (FixedOver k m) xs ws → AllZip (FixedOver k m) ys ws
-  fixed_over [] [] [] a h = tt
-  fixed_over [] [] (w ∷ ws) a h = absurd h
-  fixed_over [] (y ∷ ys) ws a h = absurd a
-  fixed_over (x ∷ xs) [] ws a h = absurd a
-  fixed_over (x ∷ xs) (y ∷ ys) [] a h = absurd h
-  fixed_over (x ∷ xs) (y ∷ ys) (w ∷ ws) a h =
-      (record { c = rw a.0.conductance at h.0.c; top = over_same m x.head y.head w.top a.0.head h.0.top; foot = over_same m x.head y.head w.foot a.0.head h.0.foot }, fixed_over xs ys ws a.1 h.1)
+  fixed_over : (x y : ExactFixed) (w : WholeEntry) → FixedAgrees x y → FixedOver k m x w → FixedOver k m y w
+  fixed_over x y w a h = record { c = rw a.conductance at h.c; top = over_same m x.head y.head w.top a.head h.top; foot = over_same m x.head y.head w.foot a.head h.foot }
 
   cell_over : (x y : ExactCell) (w : WholeCell) → CellAgrees x y → CellOver k m x w → CellOver k m y w
   cell_over x y w a h = record {
     flows = subst (λ (l : List _). AllZip (FlowOver k m) l w.flows) a.flows h.flows;
     links = subst (λ (l : List _). AllZip (LinkOver k m) l w.links) a.links h.links;
-    fixed = fixed_over x.fixed y.fixed w.fixed a.fixed h.fixed;
+    fixed = AllZip-agree FixedAgrees (FixedOver k m) fixed_over x.fixed y.fixed w.fixed a.fixed h.fixed;
     rivers = subst (λ (l : List _). AllZip (RiverOver k m) l w.rivers) a.rivers h.rivers;
     drains = subst (λ (l : List _). AllZip (DrainOver k m) l w.drains) a.drains h.drains;
     evaps = subst (λ (l : List _). AllZip (EvapOver k m) l w.evaps) a.evaps h.evaps;
   }
 
   step_over : (e f : List ExactCell) (w : List WholeCell) → AllZip CellAgrees e f → AllZip (CellOver k m) e w → AllZip (CellOver k m) f w
-  step_over [] [] [] a h = tt
-  step_over [] [] (w ∷ ws) a h = absurd h
-  step_over [] (y ∷ ys) ws a h = absurd a
-  step_over (x ∷ xs) [] ws a h = absurd a
-  step_over (x ∷ xs) (y ∷ ys) [] a h = absurd h
-  step_over (x ∷ xs) (y ∷ ys) (w ∷ ws) a h = (cell_over x y w a.0 h.0, step_over xs ys ws a.1 h.1)
+  step_over = AllZip-agree CellAgrees (CellOver k m) cell_over
 
 -- the same heads, however they are written, solve the same step, however it is written
 pub same_heads_solve : (e f : List ExactCell) → AllZip CellAgrees e f → (d k : ℕ) (X Y : ℕ → ℤ) → 0 < d → 0 < k → ((c : ℕ) → X c *ℤ pos k ≡ Y c *ℤ pos d) → SolvesStep e d X → SolvesStep f k Y

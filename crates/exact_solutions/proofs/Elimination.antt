@@ -1,6 +1,7 @@
 -- A linear step whose matrix is inverse-positive has a solution: the last cell is eliminated without fractions.
-use Rattle.exact_solutions.proofs.Common.{◌*ℤ◌, ◌*◌, ◌+ℤ◌, ◌-ℤ◌, ◌<ℤ◌, ◌<◌, ◌∙◌, ◌≡◌, ◌≤ℤ◌, ap, arith, inl, inr, neg_ℤ, negsuc, pos, refl, subst, suc, zero, ℕ}
-use Rattle.exact_solutions.proofs.Common.{ℤ, mul-pos, *ℤ-zero, zero-*ℤ, cases_eq, by_lt_z, ints, as_diff, diffs, mul_nonneg, same_diff, sum_below, cancel_le}
+use Rattle.exact_solutions.proofs.Common.{◌*ℤ◌, ◌*◌, ◌+ℤ◌, ◌-ℤ◌, ◌<ℤ◌, ◌<◌, ◌∙◌, ◌≡◌, ◌≤ℤ◌, ap, arith, inl, inr, neg_ℤ, negsuc, pos, subst, suc, zero, ℕ, ℤ}
+use Rattle.exact_solutions.proofs.Common.{mul-pos, *ℤ-zero, zero-*ℤ, cases_eq, by_lt_z, ints, as_diff, diffs, mul_nonneg, same_diff, sum_below}
+use Rattle.cell_balance.proofs.Products.{cancel_le, positive_natural}
 use Rattle.exact_solutions.proofs.LastCell.{with_last, with_last-at, with_last-below, sum_below-with_last, sum_below-combined}
 
 -- An inverse-positive matrix: where D i * X i is at least the sum of a i j * X j in each row, no X i is below 0. (Textbook; cell i has the total conductance D i, and conducts a i j to cell j.)
@@ -40,11 +41,6 @@ pivot_positive n a D nonneg mono =
       where
         rest : (d b : ℤ) → pos 0 ≤ℤ b → neg_ℤ b ≤ℤ (d *ℤ (pos 0 *ℤ pos 0))
         rest d b h = rw (*ℤ-zero d) (omega (arith, ints))
-
--- a number above 0, as a natural one
-pub positive_natural : (z : ℤ) → pos 0 <ℤ z → (s : ℕ) × (0 < s) × (z ≡ pos s)
-positive_natural (pos s) h = (s, omega (arith, ints), refl)
-positive_natural (negsuc s) h = absurd (omega (arith, ints))
 
 -- what is left when cell n is eliminated, where s is its conductance to others
 abbrev reduced_a : ℕ → (ℕ → ℕ → ℤ) → ℕ → ℕ → ℕ → ℤ

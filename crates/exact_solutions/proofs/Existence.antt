@@ -1,7 +1,7 @@
 -- A step with ramps that is held from below and above has a solution: by induction on its ramps.
 use Rattle.exact_solutions.proofs.Common.{[], ◌*ℤ◌, ◌<ℤ◌, ◌<◌, ◌∙◌, ◌∷◌, ◌≡◌, ◌≤ℤ◌, List, None, Option, Some, arith, inl, inr, neg_ℤ, pos, refl, suc, zero, ℕ}
-use Rattle.exact_solutions.proofs.Common.{ℤ, *ℤ-zero, zero-*ℤ, cases_lt, by_lt_z, ints}
-use Rattle.exact_solutions.proofs.Ramps.{Ramp, rise, AreMutual, IsHeldFromBelow, IsHeldFromAbove, HasWholeSolution, HasSinking, rise-no_extent, rise-no_top, rise-between}
+use Rattle.exact_solutions.proofs.Common.{ℤ, *ℤ-zero, zero-*ℤ, cases_lt, by_lt_z, ints, Ramp, rise, AreMutual, IsHeldFromBelow, IsHeldFromAbove}
+use Rattle.exact_solutions.proofs.Common.{HasWholeSolution, HasSinking, rise-no_extent, rise-no_top, rise-between}
 use Rattle.exact_solutions.proofs.Added.{conductance_added, flow_added}
 use Rattle.exact_solutions.proofs.LinearSteps.{linear_solution, not_loose}
 use Rattle.exact_solutions.proofs.Regimes.{cond_same, cond_none, ramp, held_middle, sinking_middle, sinking_exists}

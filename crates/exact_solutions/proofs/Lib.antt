@@ -1,20 +1,13 @@
 mod Common
 pub mod Shares
-pub mod Ramps
 pub mod LastCell
 pub mod Elimination
-pub mod ClosedSets
-pub mod RampFlows
-pub mod TightSums
-pub mod Comparison
 pub mod Added
 pub mod LinearSteps
 pub mod Regimes
 pub mod OneRamp
 pub mod Existence
-pub mod WholeBalances
 pub mod WholeSolutions
-pub mod Conducting
 pub mod HeldSteps
 pub mod WorkedSteps
 pub mod Lowered

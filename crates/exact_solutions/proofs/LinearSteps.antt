@@ -2,11 +2,10 @@
 use Rattle.exact_solutions.proofs.Common.{[], ◌*ℤ◌, ◌+ℤ◌, ◌-ℤ◌, ◌<◌, ◌≡◌, ◌≤ℤ◌, Bool, arith, pos, refl, suc, true, zero, ℕ, ℤ, *ℤ-zero, zero-*ℤ, ints, as_diff}
 use Rattle.exact_solutions.proofs.Common.{diffs, same_diff, sum_below, sum_nonneg, add_mul, cancel_right, le_anti, ◌*◌, ◌∙◌, ◌∷◌, List, None, Option, Some}
 use Rattle.exact_solutions.proofs.Common.{cond, false, nat_eq, neg_ℤ, subst, sym, mul-pos, int_min, total, mul_assoc, max_times, min_times, sum-same, sum-times}
-use Rattle.exact_solutions.proofs.Common.{sub_mul, mul_mono_right}
-use Rattle.exact_solutions.proofs.Ramps.{IsClosed, AreMutual, net_flow, IsHeldFromBelow, IsSolution, Ramp, rise, ramp_flow, link_flow}
+use Rattle.exact_solutions.proofs.Common.{sub_mul, mul_mono_right, IsClosed, AreMutual, net_flow, IsHeldFromBelow, IsSolution, Ramp, rise, ramp_flow, link_flow}
 use Rattle.exact_solutions.proofs.Elimination.{IsInversePositive, inverse_positive_solved}
-use Rattle.exact_solutions.proofs.ClosedSets.{carried_gain}
-use Rattle.exact_solutions.proofs.Comparison.{comparison}
+use Rattle.cell_balance.proofs.ClosedSets.{carried_gain}
+use Rattle.cell_balance.proofs.Comparison.{comparison}
 
 -- no closed set of cells is without a conductance to a known head
 abbrev pub IsNowhereLoose : ℕ → (ℕ → ℕ → ℤ) → (ℕ → ℕ) → Type 0
@@ -27,8 +26,8 @@ module _ (n : ℕ) (a : ℕ → ℕ → ℤ) (b : ℕ → ℕ) (both : AreMutual
   inverse_positive : IsInversePositive n a (total_conductance n a b)
   inverse_positive X draws i h =
       comparison n a b (λ k. pos 0) [] both (λ S closed none c g inside. absurd (known S closed none c g inside)) 1 X (λ k. pos 0) (omega arith)
-      (λ k g. omega (arith, ints, sum_below-differences n (a k) X (X k), add_mul (sum_below n (a k)) (pos (b k)) (X k), draws k g))
-      (λ k g. gains _ _ (sum_nonneg n (λ j. a k j *ℤ (pos 0 -ℤ pos 0)) (λ j j_in. nothing (a k j))) (*ℤ-zero (pos (b k))))
+      (λ k g more. omega (arith, ints, sum_below-differences n (a k) X (X k), add_mul (sum_below n (a k)) (pos (b k)) (X k), draws k g))
+      (λ k g more. gains _ _ (sum_nonneg n (λ j. a k j *ℤ (pos 0 -ℤ pos 0)) (λ j j_in. nothing (a k j))) (*ℤ-zero (pos (b k))))
       i h
     where
       gains : (l p : ℤ) → pos 0 ≤ℤ l → p ≡ pos 0 → pos 0 ≤ℤ (l +ℤ (pos 1 *ℤ pos 0 -ℤ p) +ℤ pos 0)
@@ -108,8 +107,8 @@ module _ (n : ℕ) (a : ℕ → ℕ → ℤ) where
   pub comparison_over : (b : ℕ → ℕ) (q : ℕ → ℤ) (rs : List Ramp) → AreMutual n a → IsHeldFromBelow n a b q rs → (d e : ℕ) (X Y : ℕ → ℤ) → 0 < d → 0 < e → ((i : ℕ) → i < n → net_flow n a b q rs d X i ≤ℤ pos 0) → ((i : ℕ) → i < n → pos 0 ≤ℤ net_flow n a b q rs e Y i) → (i : ℕ) → i < n → (Y i *ℤ pos d) ≤ℤ (X i *ℤ pos e)
   comparison_over b q rs both held d e X Y some_d some_e loses gains i h =
       comparison n a b q rs both held (d * e) (λ j. X j *ℤ pos e) (λ j. Y j *ℤ pos d) (mul-pos some_d some_e)
-      (λ k j. rw (net_flow-scaled b q rs d e X k) (less e _ (loses k j)))
-      (λ k j. subst (λ (z : ℕ). pos 0 ≤ℤ net_flow n a b q rs z (λ j. Y j *ℤ pos d) k) (turn e d) (rw (net_flow-scaled b q rs e d Y k) (more d _ (gains k j))))
+      (λ k j up. rw (net_flow-scaled b q rs d e X k) (less e _ (loses k j)))
+      (λ k j up. subst (λ (z : ℕ). pos 0 ≤ℤ net_flow n a b q rs z (λ j. Y j *ℤ pos d) k) (turn e d) (rw (net_flow-scaled b q rs e d Y k) (more d _ (gains k j))))
       i h
     where
       turn : (x y : ℕ) → x * y ≡ y * x

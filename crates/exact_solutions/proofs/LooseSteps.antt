@@ -1,19 +1,20 @@
 -- Steps with cells that nothing holds: heads one lower over these cells are another solution, where their deep flows sum to at most 0 or no river or drain of them conducts.
 use Rattle.exact_solutions.proofs.Common.{◌≡◌, ◌*◌, ◌<◌, ◌∙◌, ◌+ℤ◌, ◌-ℤ◌, ◌*ℤ◌, ◌≤ℤ◌, [], ◌∷◌, ℕ, zero, suc, refl, sym, ap, arith, ℤ, pos, neg_ℤ, List, length}
-use Rattle.exact_solutions.proofs.Common.{All, Bool, true, false, cond, mul-pos, int_max, AllZip, zero-*ℤ, ints, clamps, All-head, All-tail, IsShare, Same}
-use Rattle.exact_solutions.proofs.Common.{total, total_mono, mul_assoc, mul_mono, sum_below, sum_inside, deep_flow, AreLinked, share, SolvesStep, ExactCell}
-use Rattle.exact_solutions.proofs.Common.{cell_at, no_cell, IsMutual, closed_cancel, step_common, whole_solves, mutual_whole, LinkOver, FixedOver, RiverOver}
-use Rattle.exact_solutions.proofs.Common.{DrainOver, EvapOver, CellOver, IsOver-none, sum-same, sum-add, sum-zero, sub_mul, WholeEntry, WholeCell, whole_at}
-use Rattle.exact_solutions.proofs.Common.{no_whole, whole_link, whole_fixed, whole_river, whole_drain, whole_evap, whole_balance, whole_deep_river, whole_full}
-use Rattle.exact_solutions.proofs.Common.{whole_deep, whole_step, AllZip-at, AllZip-length, All-zip, le_anti, deep_over, Ratio, IsLoose, DrainedHaveAnother}
-use Rattle.exact_solutions.proofs.Common.{AfloatHaveAnother}
+use Rattle.exact_solutions.proofs.Common.{All, Bool, true, false, cond, mul-pos, int_max, AllZip, zero-*ℤ, ints, clamps, All-head, All-tail, Same, total}
+use Rattle.exact_solutions.proofs.Common.{total_mono, mul_assoc, mul_mono, sum_below, sum_inside, deep_flow, AreLinked, share, SolvesStep, ExactCell, cell_at}
+use Rattle.exact_solutions.proofs.Common.{no_cell, IsMutual, step_common, whole_solves, mutual_whole, LinkOver, FixedOver, RiverOver, DrainOver, EvapOver}
+use Rattle.exact_solutions.proofs.Common.{CellOver, IsOver-none, sum-same, sum-add, sum-zero, sub_mul, WholeEntry, WholeCell, whole_at, no_whole, whole_link}
+use Rattle.exact_solutions.proofs.Common.{whole_fixed, whole_river, whole_drain, whole_evap, whole_balance, whole_deep_river, whole_full, whole_deep}
+use Rattle.exact_solutions.proofs.Common.{whole_step, AllZip-at, AllZip-length, All-zip, le_anti, deep_over, Ratio, IsLoose, DrainedHaveAnother}
+use Rattle.exact_solutions.proofs.Common.{AfloatHaveAnother, closed_cancel}
+use Rattle.decimal_input.specs.Wholes.{IsShare}
 use Rattle.decimal_input.proofs.Integers.{le-trans}
 use Rattle.cell_balance.proofs.ExactLaws.{heads_over}
 use Rattle.cell_balance.proofs.Falling.{whole_falls}
 use Rattle.cell_balance.proofs.EntryScaled.{over_le, IsOver-inside}
 use Rattle.exact_solutions.proofs.Lowered.{without_links, lowered, balance-links, lowered_balances}
 use Rattle.exact_solutions.proofs.Shares.{same_crossed}
-use Rattle.exact_solutions.proofs.TightSums.{sum_below-tight}
+use Rattle.cell_balance.proofs.TightSums.{sum_below-tight}
 use Rattle.exact_solutions.proofs.WholeSolutions.{whole_balances_solve}
 
 total-none : {X : Type 0} (P : X → Type 0) (f : X → ℤ) (xs : List X) → ((x : X) → P x → f x ≡ pos 0) → All P xs → total f xs ≡ pos 0

@@ -1,8 +1,9 @@
 -- Heads that are one lower over a set of cells that no link leaves: the flows over links stay, so the heads solve the step where all other flows of these cells stay too.
 use Rattle.exact_solutions.proofs.Common.{◌≡◌, ◌<◌, ◌∙◌, ◌+ℤ◌, ◌-ℤ◌, ◌*ℤ◌, [], ◌∷◌, ℕ, inl, inr, sym, ap, arith, ℤ, pos, List, length, All, Bool, true, false}
-use Rattle.exact_solutions.proofs.Common.{cond, AllZip, true≢false, cases_Bool, ints, All-nil, All-cons, All-head, All-tail, All-contains, total, IsClosed}
-use Rattle.exact_solutions.proofs.Common.{HasLinkBack, AreLinked, ExactLink, ExactCell, cell_at, no_cell, LinkOver, CellOver, total-same, WholeLink, WholeCell}
-use Rattle.exact_solutions.proofs.Common.{whole_at, no_whole, whole_link, whole_balance, AllZip-at, AllZip-length, All-zip}
+use Rattle.exact_solutions.proofs.Common.{cond, AllZip, true≢false, cases_Bool, ints, All-nil, All-cons, All-head, All-tail, All-contains, total, HasLinkBack}
+use Rattle.exact_solutions.proofs.Common.{AreLinked, ExactLink, ExactCell, cell_at, no_cell, LinkOver, CellOver, total-same, WholeLink, WholeCell, whole_at}
+use Rattle.exact_solutions.proofs.Common.{no_whole, whole_link, whole_balance, AllZip-at, AllZip-length, All-zip}
+use Rattle.cell_balance.specs.Deep.{IsClosed}
 
 -- a cell without its links
 abbrev pub without_links : WholeCell → WholeCell

@@ -1,8 +1,9 @@
 -- One ramp more: solve with it as a conductance to its foot; where that head lies on the ramp it is the solution, else solve without the ramp, or with its full rate.
 use Rattle.exact_solutions.proofs.Common.{◌*ℤ◌, ◌+ℤ◌, ◌-ℤ◌, ◌<◌, ◌∙◌, ◌∷◌, ◌≡◌, ◌≤ℤ◌, List, Option, Some, ap, arith, cond, nat_eq, neg_ℤ, pos, refl, subst, sym}
 use Rattle.exact_solutions.proofs.Common.{ℕ, ℤ, *ℤ-zero, ints, cancel_right, mul_mono_right, swap, loss_falls, as_diff, diffs, mul_mono, same_diff, sub_mul}
+use Rattle.exact_solutions.proofs.Common.{Ramp, rise, ramp_flow, AreMutual, net_flow, IsHeldFromBelow, IsSolution, HasWholeSolution, IsSinking, HasSinking}
+use Rattle.exact_solutions.proofs.Common.{rise_within_extent, rise-below_foot, rise-above_top, extent-between}
 use Rattle.exact_solutions.proofs.LinearSteps.{same_at_most, same_at_least, comparison_over}
-use Rattle.exact_solutions.proofs.Ramps.{Ramp, rise, ramp_flow, AreMutual, net_flow, IsHeldFromBelow, IsSolution, HasWholeSolution, IsSinking, HasSinking, rise_within_extent, rise-below_foot, rise-above_top, extent-between}
 use Rattle.exact_solutions.proofs.Added.{net_flow-cons, conductance_added, flow_added, net_flow-added}
 use Rattle.exact_solutions.proofs.Regimes.{cond_same, cond_less, cond_nonneg, cond_none, ramp, flow-middle, flow-full, held_without, held_full}
 

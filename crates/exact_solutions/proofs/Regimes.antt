@@ -1,9 +1,8 @@
 -- A ramp in one regime: as a conductance to its foot, or at its full rate; and a step that is held stays held where its first ramp is left out or put in one regime.
 use Rattle.exact_solutions.proofs.Common.{◌≡◌, ◌≤ℤ◌, arith, cond, inl, inr, nat_eq, pos, refl, ℕ, ℤ, cases_eq, eq-eqb, ne_eqb, ints, ◌*ℤ◌, ◌+ℤ◌, ◌-ℤ◌, ◌∙◌, ◌∷◌}
 use Rattle.exact_solutions.proofs.Common.{Bool, List, None, Option, Some, false, neg_ℤ, suc, true, zero-*ℤ, total, as_diff, diffs, same_diff, [], ap, subst}
-use Rattle.exact_solutions.proofs.Common.{int_max, clamps, loss_falls}
-use Rattle.exact_solutions.proofs.Ramps.{Ramp, full_rate, IsHeldFromBelow, IsHeldFromAbove, extent-between, ramp_flow, AreMutual, HasSinking, rise_within_height, rise-no_top}
-use Rattle.exact_solutions.proofs.RampFlows.{full_rate_nonneg, flow_leaves}
+use Rattle.exact_solutions.proofs.Common.{int_max, clamps, loss_falls, Ramp, full_rate, IsHeldFromBelow, IsHeldFromAbove, extent-between, ramp_flow, AreMutual}
+use Rattle.exact_solutions.proofs.Common.{HasSinking, rise_within_height, rise-no_top, full_rate_nonneg, flow_leaves}
 use Rattle.exact_solutions.proofs.Added.{held_where_deeper, conductance_added, flow_added, added_zero, added_zero_away, flow_added-away, flow_added-at, conductance_added-at, net_flow_lifted, net_flow-cons, net_flow-added}
 use Rattle.exact_solutions.proofs.LinearSteps.{same_at_most, linear_solution}
 

@@ -1,10 +1,9 @@
 -- Heads solve an exact step just where they solve its whole numbers.
-use Rattle.exact_solutions.proofs.Common.{[], ◌*ℤ◌, ◌*◌, ◌-◌, ◌<◌, ◌∙◌, ◌∷◌, ◌≡◌, List, ap, arith, length, map, pos, refl, subst, suc, sym, zero, ℕ, ℤ, mul-pos}
+use Rattle.exact_solutions.proofs.Common.{[], ◌*ℤ◌, ◌*◌, ◌<◌, ◌∙◌, ◌∷◌, ◌≡◌, List, ap, arith, length, map, pos, refl, subst, suc, sym, zero, ℕ, ℤ, mul-pos}
 use Rattle.exact_solutions.proofs.Common.{AllZip, Fraction, IsOver, den, mul_assoc, SolvesStep, share, ExactCell, cell_at, no_cell, IsMutual, share_is}
 use Rattle.exact_solutions.proofs.Common.{whole_solves, CellOver, DrainOver, EvapOver, FixedOver, FlowOver, LinkOver, RiverOver, balance_over, over_zero}
 use Rattle.exact_solutions.proofs.Common.{WholeCell, WholeEntry, no_whole, whole_at, whole_balance, AllZip-at, AllZip-length, swap, EntryOver, Ratio, balance}
-use Rattle.exact_solutions.proofs.Ramps.{IsSolution}
-use Rattle.exact_solutions.proofs.WholeBalances.{ramps_from, a_of, b_of, q_of, scaled, scaled_entry, scaled_balance}
+use Rattle.exact_solutions.proofs.Common.{IsSolution, ramps_from, a_of, b_of, q_of, scaled, scaled_entry, scaled_balance}
 
 AllZip-map : {X Y Z : Type 0} (R : X → Y → Type 0) (S : X → Z → Type 0) (f : Y → Z) → ((x : X) (y : Y) → R x y → S x (f y)) → (xs : List X) (ys : List Y) → AllZip R xs ys → AllZip S xs (map f ys)
 AllZip-map R S f each [] [] h = tt

@@ -1,8 +1,9 @@
 -- Over a set of cells that no link leaves the flows over links cancel; so where its deep flows sum above 0, some cell gains water.
-use Rattle.exact_solutions.proofs.Common.{◌*ℤ◌, ◌+ℤ◌, ◌-ℤ◌, ◌<ℤ◌, ◌<◌, ◌∙◌, ◌≡◌, ◌≤ℤ◌, Bool, ap, arith, cond, false, neg_ℤ, pos, refl, suc, sym, true, zero, ℕ}
-use Rattle.exact_solutions.proofs.Common.{ℤ, *ℤ-zero, zero-*ℤ, true≢false, by_lt_z, ints, as_diff, diffs, mul_add, same_diff, sum_below, sum_inside, cancel_le}
-use Rattle.exact_solutions.proofs.Common.{sum-add, sum-neg, sum-same, sum-swap, sum-zero, sum_at_most}
-use Rattle.exact_solutions.proofs.Ramps.{link_flow, IsClosed, AreMutual}
+use Rattle.cell_balance.proofs.Common.{◌*ℤ◌, ◌+ℤ◌, ◌-ℤ◌, ◌<ℤ◌, ◌<◌, ◌∙◌, ◌≡◌, ◌≤ℤ◌, Bool, arith, cond, false, neg_ℤ, pos, refl, suc, sym, true, zero, ℕ, ℤ}
+use Rattle.cell_balance.proofs.Common.{*ℤ-zero, zero-*ℤ, by_lt_z, ints, as_diff, diffs, mul_add, same_diff, sum_below, sum_inside, true≢false}
+use Rattle.cell_balance.proofs.Products.{cancel_le}
+use Rattle.cell_balance.proofs.Sums.{sum-add, sum-same, sum-zero, sum_at_most, turned_cancel}
+use Rattle.cell_balance.proofs.Ramps.{link_flow, IsClosed, AreMutual}
 
 -- the flow from j into i, where both are inside
 abbrev inside_flow : (ℕ → Bool) → (ℕ → ℕ → ℤ) → (ℕ → ℤ) → ℕ → ℕ → ℤ
@@ -18,17 +19,7 @@ inside_flow_turned false true a b y z e = refl
 inside_flow_turned false false a b y z e = refl
 
 pub link_flows_cancel : (n : ℕ) (a : ℕ → ℕ → ℤ) (T : ℕ → Bool) (Y : ℕ → ℤ) → AreMutual n a → IsClosed n a T → sum_inside n T (link_flow n a Y) ≡ pos 0
-link_flows_cancel n a T Y both closed =
-    omega (
-      arith,
-      ints,
-      by_cells
-          ∙ sum-same n _ _ (λ i h. sum-same n _ _ (λ j k. inside_flow_turned (T i) (T j) (a i j) (a j i) (Y j) (Y i) (both.same i j h k)))
-          ∙ sum-swap n n (λ i j. neg_ℤ (inside_flow T a Y j i))
-          ∙ sum-same n _ _ (λ j h. sum-neg n (λ i. inside_flow T a Y j i))
-          ∙ sum-neg n (λ j. sum_below n (λ i. inside_flow T a Y j i))
-          ∙ ap neg_ℤ (sym by_cells),
-    )
+link_flows_cancel n a T Y both closed = sum-same n _ _ (λ i h. row i h (T i) refl) ∙ turned_cancel n (inside_flow T a Y) (λ i j h k. inside_flow_turned (T i) (T j) (a i j) (a j i) (Y j) (Y i) (both.same i j h k))
   where
     none : (i j : ℕ) → i < n → j < n → T i ≡ true → T j ≡ false → (z : ℤ) → a i j *ℤ z ≡ pos 0
     none i j h k inside outside z =
@@ -43,9 +34,6 @@ link_flows_cancel n a T Y both closed =
     row : (i : ℕ) → i < n → (s : Bool) → T i ≡ s → cond s (link_flow n a Y i) (pos 0) ≡ sum_below n (λ j. cond s (cond (T j) (a i j *ℤ (Y j -ℤ Y i)) (pos 0)) (pos 0))
     row i h true e = sum-same n _ _ (λ j k. term i j h k e (T j) refl)
     row i h false e = sym (sum-zero n)
-
-    by_cells : sum_inside n T (link_flow n a Y) ≡ sum_below n (λ i. sum_below n (λ j. inside_flow T a Y i j))
-    by_cells = sum-same n _ _ (λ i h. row i h (T i) refl)
 
 -- over a closed set whose flows g sum above 0 not every cell loses water
 pub carried_gain : (n : ℕ) (a : ℕ → ℕ → ℤ) (T : ℕ → Bool) (Y g : ℕ → ℤ) (d : ℕ) → AreMutual n a → IsClosed n a T → 0 < d → pos 0 <ℤ sum_inside n T g → ((i : ℕ) → i < n → T i ≡ true → (link_flow n a Y i +ℤ pos d *ℤ g i) ≤ℤ pos 0) → ⊥

@@ -1,9 +1,10 @@
 -- The balance of a cell in whole numbers is its net flow in the step with ramps.
-use Rattle.exact_solutions.proofs.Common.{[], ◌*ℤ◌, ◌+ℤ◌, ◌-ℤ◌, ◌<◌, ◌∷◌, ◌≡◌, All, List, arith, length, map, neg_ℤ, pos, refl, sym, ℕ, ℤ, int_max, *ℤ-zero}
-use Rattle.exact_solutions.proofs.Common.{zero-*ℤ, clamps, ints, total, as_diff, diffs, same_diff, sum_below, weight, by_weight, WholeCell, WholeEntry}
-use Rattle.exact_solutions.proofs.Common.{whole_at, whole_balance, whole_deep_river, whole_drain, whole_evap, whole_fixed, whole_river, ◌++◌, ◌+◌, ◌∙◌, None}
-use Rattle.exact_solutions.proofs.Common.{Some, cond, nat_eq, subst, suc, zero, eq-eqb, ne_eqb}
-use Rattle.exact_solutions.proofs.Ramps.{Ramp, rise, net_flow}
+use Rattle.cell_balance.proofs.Common.{[], ◌*ℤ◌, ◌+ℤ◌, ◌-ℤ◌, ◌<◌, ◌∷◌, ◌≡◌, All, List, arith, length, map, neg_ℤ, pos, refl, sym, ℕ, ℤ, int_max, *ℤ-zero}
+use Rattle.cell_balance.proofs.Common.{zero-*ℤ, clamps, ints, total, as_diff, diffs, same_diff, sum_below, ◌+◌, ◌∙◌, cond, nat_eq, subst, suc, zero, eq-eqb}
+use Rattle.cell_balance.proofs.Common.{ne_eqb, ◌++◌, None, Some}
+use Rattle.cell_balance.proofs.Cancel.{weight, by_weight}
+use Rattle.cell_balance.proofs.Whole.{WholeCell, WholeEntry, whole_at, whole_balance, whole_deep_river, whole_drain, whole_evap, whole_fixed, whole_river}
+use Rattle.cell_balance.proofs.Ramps.{Ramp, rise, net_flow}
 
 -- The ramps of a step in whole numbers: those of each cell are its rivers, drains and evapotranspirations.
 -- a cell's conductance to known heads, and what they and its constant and deep flows give at a head of 0
@@ -161,3 +162,20 @@ scaled_balance w d X i range =
   where
     ring : (d f l g b s r o e : ℤ) → d *ℤ f +ℤ l +ℤ (d *ℤ g -ℤ b) +ℤ (d *ℤ s +ℤ r) +ℤ o +ℤ e ≡ l +ℤ (d *ℤ (f +ℤ g +ℤ s) -ℤ b) +ℤ (r +ℤ (o +ℤ e))
     ring d f l g b s r o e = rw (as_diff d, as_diff f, as_diff l, as_diff g, as_diff b, as_diff s, as_diff r, as_diff o, as_diff e) (simp diffs (same_diff _ _ _ _ (omega arith)))
+
+-- and at heads over 1
+map-same : {X : Type 0} (f : X → X) (xs : List X) → ((x : X) → f x ≡ x) → map f xs ≡ xs
+map-same f [] same = refl
+map-same f (x ∷ xs) same = rw (same x, map-same f xs same) refl
+
+pub times_one : (z : ℤ) → z *ℤ pos 1 ≡ z
+times_one z = omega (arith, ints)
+
+scaled_one : (u : WholeCell) → scaled 1 u ≡ u
+scaled_one u = rw (map-same (λ z. z *ℤ pos 1) u.flows times_one, map-same (scaled_entry 1) u.fixed entry, map-same (scaled_entry 1) u.rivers entry, map-same (scaled_entry 1) u.drains entry, map-same (scaled_entry 1) u.evaps entry) refl
+  where
+    entry : (x : WholeEntry) → scaled_entry 1 x ≡ x
+    entry x = rw (times_one x.top, times_one x.foot) refl
+
+pub balance_is_net_flow : (w : List WholeCell) (X : ℕ → ℤ) (i : ℕ) → All (λ x. x.cell < length w) (whole_at w i).links → whole_balance (whole_at w i) (X i) X ≡ net_flow (length w) (a_of w) (b_of w) (q_of w) (ramps_from 0 w) 1 X i
+balance_is_net_flow w X i range = subst (λ (u : WholeCell). whole_balance u (X i) X ≡ net_flow (length w) (a_of w) (b_of w) (q_of w) (ramps_from 0 w) 1 X i) (scaled_one (whole_at w i)) (scaled_balance w 1 X i range)

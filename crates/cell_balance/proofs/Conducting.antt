@@ -1,8 +1,13 @@
 -- Links, known heads and ramps that conduct, from sums that do; and sums that are 0.
-use Rattle.exact_solutions.proofs.Common.{[], ◌*ℤ◌, ◌+ℤ◌, ◌+◌, ◌<ℤ◌, ◌<◌, ◌∷◌, ◌≡◌, ◌≤ℤ◌, All, Bool, List, arith, cond, false, inl, inr, nat_eq, pos, refl}
-use Rattle.exact_solutions.proofs.Common.{subst, true, ℕ, ℤ, AllZip, zero-*ℤ, cases_eq, eq-eqb, ne_eqb, ints, All-cons, All-head, All-nil, All-tail, total}
-use Rattle.exact_solutions.proofs.Common.{weight, WholeEntry, WholeLink}
-use Rattle.exact_solutions.proofs.WholeBalances.{known_conductance, known_flow}
+use Rattle.cell_balance.proofs.Common.{[], ◌*ℤ◌, ◌+ℤ◌, ◌<ℤ◌, ◌<◌, ◌∷◌, ◌≡◌, ◌≤ℤ◌, All, Bool, List, arith, cond, false, inl, inr, nat_eq, pos, refl, subst, true}
+use Rattle.cell_balance.proofs.Common.{ℕ, ℤ, AllZip, zero-*ℤ, cases_eq, eq-eqb, ne_eqb, ints, All-cons, All-head, All-nil, All-tail, total, ◌-ℤ◌, ◌∙◌, length}
+use Rattle.cell_balance.proofs.Common.{ap, sum_inside}
+use Rattle.cell_balance.proofs.Cancel.{weight, by_weight, IsMutual}
+use Rattle.cell_balance.proofs.Whole.{WholeEntry, WholeLink, WholeCell, whole_at, whole_link}
+use Rattle.cell_balance.proofs.WholeBalances.{known_conductance, known_flow, a_of}
+use Rattle.cell_balance.proofs.Ramps.{AreMutual}
+use Rattle.cell_balance.proofs.ClosedSets.{link_flows_cancel}
+use Rattle.cell_balance.proofs.Sums.{sum-same}
 
 -- a fact of each right element passes to the left one
 pub All-back : {X Y : Type 0} (R : X → Y → Type 0) (P : X → Type 0) (Q : Y → Type 0) → ((x : X) (y : Y) → R x y → Q y → P x) → (xs : List X) (ys : List Y) → AllZip R xs ys → All Q ys → All P xs
@@ -69,3 +74,12 @@ no_known_flow (x ∷ xs) h = let e : x.c ≡ 0 = omega arith in rw (e, no_known_
 pub total_nothing : {X : Type 0} (f : X → ℕ) (xs : List X) → total (λ x. pos (f x) *ℤ pos 0) xs ≡ pos 0
 total_nothing f [] = refl
 total_nothing f (x ∷ xs) = rw (total_nothing f xs) (omega (arith, ints))
+
+pub both_ways : (w : List WholeCell) → IsMutual w → AreMutual (length w) (a_of w)
+both_ways w both = record { nonneg = λ i j. weight_nonneg (whole_at w i).links j; same = both.same }
+
+-- over a set that no link leaves the flows over links cancel
+pub closed_cancel : (w : List WholeCell) (inside : ℕ → Bool) (Y : ℕ → ℤ) → IsMutual w → ((c : ℕ) → c < length w → inside c ≡ true → All (λ x. inside x.cell ≡ true) (whole_at w c).links) → sum_inside (length w) inside (λ c. total (whole_link Y (Y c)) (whole_at w c).links) ≡ pos 0
+closed_cancel w inside Y both closed =
+    sum-same (length w) _ _ (λ c i. ap (λ (z : ℤ). cond (inside c) z (pos 0)) (by_weight (length w) (whole_at w c).links (λ k. Y k -ℤ Y c) (both.range c i)))
+    ∙ link_flows_cancel (length w) (a_of w) inside Y (both_ways w both) (λ i j h k t conducts. weight_is_of_links (λ z. inside z ≡ true) (whole_at w i).links j (closed i h t) conducts)

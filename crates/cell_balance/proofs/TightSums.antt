@@ -1,5 +1,6 @@
 -- Where two sums are no further apart than their terms, no two terms are apart.
-use Rattle.exact_solutions.proofs.Common.{◌<◌, ◌≤ℤ◌, arith, inl, inr, suc, zero, ℕ, ℤ, cases_eq, ints, sum_below, sum_at_most}
+use Rattle.cell_balance.proofs.Common.{◌<◌, ◌≤ℤ◌, arith, inl, inr, suc, zero, ℕ, ℤ, cases_eq, ints, sum_below}
+use Rattle.cell_balance.proofs.Sums.{sum_at_most}
 
 -- where two sums are no further apart, no two terms are
 pub sum_below-tight : (n : ℕ) (f g : ℕ → ℤ) → ((k : ℕ) → k < n → f k ≤ℤ g k) → sum_below n g ≤ℤ sum_below n f → (j : ℕ) → j < n → g j ≤ℤ f j

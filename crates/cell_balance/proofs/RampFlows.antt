@@ -1,7 +1,8 @@
 -- The flows of ramps: they leave the cell, fall as its head rises, and where they are the same at two heads they are within the full rates.
-use Rattle.exact_solutions.proofs.Common.{[], ◌*ℤ◌, ◌+ℤ◌, ◌<ℤ◌, ◌∷◌, ◌≡◌, ◌≤ℤ◌, Bool, List, None, Option, Some, arith, cond, false, nat_eq, neg_ℤ, pos, suc}
-use Rattle.exact_solutions.proofs.Common.{true, zero, ℕ, ℤ, *ℤ-zero, clamps, ints, total, as_diff, diffs, mul_mono, same_diff, cancel_le}
-use Rattle.exact_solutions.proofs.Ramps.{Ramp, rise, extent, ramp_flow, full_rate, rise_grows, rise_within_extent, extent_nonneg, rise_nonneg}
+use Rattle.cell_balance.proofs.Common.{[], ◌*ℤ◌, ◌+ℤ◌, ◌<ℤ◌, ◌∷◌, ◌≡◌, ◌≤ℤ◌, Bool, List, arith, cond, false, nat_eq, neg_ℤ, pos, suc, true, zero, ℕ, ℤ, *ℤ-zero}
+use Rattle.cell_balance.proofs.Common.{clamps, ints, total, as_diff, diffs, mul_mono, same_diff, None, Option, Some}
+use Rattle.cell_balance.proofs.Products.{cancel_le}
+use Rattle.cell_balance.proofs.Ramps.{Ramp, rise, extent, ramp_flow, full_rate, rise_grows, rise_within_extent, extent_nonneg, rise_nonneg}
 
 -- a ramp gives a higher head no more
 pub flow_falls : (d : ℕ) (x y : ℤ) (i : ℕ) (r : Ramp) → x ≤ℤ y → ramp_flow d y i r ≤ℤ ramp_flow d x i r

@@ -1,14 +1,15 @@
 -- Where a step is held from below, heads at which no cell gains water lie nowhere below heads at which no cell loses water.
-use Rattle.exact_solutions.proofs.Common.{◌*ℤ◌, ◌+ℤ◌, ◌-ℤ◌, ◌<ℤ◌, ◌<◌, ◌≡◌, ◌≤ℤ◌, Bool, List, arith, inl, inr, int_lt, neg_ℤ, pos, refl, suc, true, zero, ℕ, ℤ}
-use Rattle.exact_solutions.proofs.Common.{zero-*ℤ, by_lt_z, ints, total, mul_le, mul_mono, mul_sub, cancel_le, not_zero, sum_at_most, max_of}
-use Rattle.exact_solutions.proofs.Ramps.{Ramp, ramp_flow, full_rate, link_flow, IsClosed, AreMutual, net_flow, deep, IsHeldFromBelow}
-use Rattle.exact_solutions.proofs.Elimination.{positive_natural}
-use Rattle.exact_solutions.proofs.ClosedSets.{carried_gain}
-use Rattle.exact_solutions.proofs.RampFlows.{flows_fall, flows_within_full}
-use Rattle.exact_solutions.proofs.TightSums.{sum_below-tight}
+use Rattle.cell_balance.proofs.Common.{◌*ℤ◌, ◌+ℤ◌, ◌-ℤ◌, ◌<ℤ◌, ◌<◌, ◌≡◌, ◌≤ℤ◌, Bool, List, arith, inl, inr, neg_ℤ, pos, refl, suc, true, zero, ℕ, ℤ, zero-*ℤ}
+use Rattle.cell_balance.proofs.Common.{by_lt_z, ints, total, mul_mono, int_lt, mul_le, mul_sub}
+use Rattle.cell_balance.proofs.Products.{cancel_le, not_zero, positive_natural}
+use Rattle.cell_balance.proofs.Sums.{sum_at_most, max_of}
+use Rattle.cell_balance.proofs.Ramps.{Ramp, ramp_flow, full_rate, link_flow, IsClosed, AreMutual, net_flow, deep, IsHeldFromBelow}
+use Rattle.cell_balance.proofs.ClosedSets.{carried_gain}
+use Rattle.cell_balance.proofs.RampFlows.{flows_fall, flows_within_full}
+use Rattle.cell_balance.proofs.TightSums.{sum_below-tight}
 
 module _ (n : ℕ) (a : ℕ → ℕ → ℤ) (b : ℕ → ℕ) (q : ℕ → ℤ) (ramps : List Ramp) (both : AreMutual n a) (d : ℕ) (X Y : ℕ → ℤ) (some : 0 < d)
-    (loses : (i : ℕ) → i < n → net_flow n a b q ramps d X i ≤ℤ pos 0) (gains : (i : ℕ) → i < n → pos 0 ≤ℤ net_flow n a b q ramps d Y i)
+    (loses : (i : ℕ) → i < n → X i <ℤ Y i → net_flow n a b q ramps d X i ≤ℤ pos 0) (gains : (i : ℕ) → i < n → X i <ℤ Y i → pos 0 ≤ℤ net_flow n a b q ramps d Y i)
     (m : ℤ) (over : pos 0 <ℤ m) (above : (k : ℕ) → k < n → (Y k -ℤ X k) ≤ℤ m)
   where
     -- the cells where Y lies highest above X
@@ -50,13 +51,13 @@ module _ (n : ℕ) (a : ℕ → ℕ → ℤ) (b : ℕ → ℕ) (q : ℕ → ℤ)
 
     -- so each is the same
     links_same : (k : ℕ) → k < n → m ≤ℤ (Y k -ℤ X k) → link_flow n a X k ≤ℤ link_flow n a Y k
-    links_same k i h = omega (arith, ints, loses k i, gains k i, own_less k h, ramps_less k h)
+    links_same k i h = omega (arith, ints, loses k i (higher k h), gains k i (higher k h), own_less k h, ramps_less k h)
 
     own_same : (k : ℕ) → k < n → m ≤ℤ (Y k -ℤ X k) → (pos d *ℤ q k -ℤ pos (b k) *ℤ X k) ≤ℤ (pos d *ℤ q k -ℤ pos (b k) *ℤ Y k)
-    own_same k i h = omega (arith, ints, loses k i, gains k i, links_less k h, ramps_less k h)
+    own_same k i h = omega (arith, ints, loses k i (higher k h), gains k i (higher k h), links_less k h, ramps_less k h)
 
     ramps_same : (k : ℕ) → k < n → m ≤ℤ (Y k -ℤ X k) → total (ramp_flow d (X k) k) ramps ≤ℤ total (ramp_flow d (Y k) k) ramps
-    ramps_same k i h = omega (arith, ints, loses k i, gains k i, links_less k h, own_less k h)
+    ramps_same k i h = omega (arith, ints, loses k i (higher k h), gains k i (higher k h), links_less k h, own_less k h)
 
     -- no link leaves the set
     closed : IsClosed n a top
@@ -84,7 +85,7 @@ module _ (n : ℕ) (a : ℕ → ℕ → ℤ) (b : ℕ → ℕ) (q : ℕ → ℤ)
     deep_at_most k i inside =
         let high = top_is k inside in
         let none : pos (b k) *ℤ Y k ≡ pos 0 = rw (loose k i inside) (zero-*ℤ (Y k)) in
-        step (pos d) (q k) (total (full_rate k) ramps) _ _ _ _ _ _ none (loses k i) (links_less k high) (own_less k high) (ramps_less k high)
+        step (pos d) (q k) (total (full_rate k) ramps) _ _ _ _ _ _ none (loses k i (higher k high)) (links_less k high) (own_less k high) (ramps_less k high)
         (flows_within_full d (X k) (Y k) k ramps (higher k high) (ramps_same k i high))
       where
         step : (d q f l l' o r r' y : ℤ) → y ≡ pos 0 → (l +ℤ o +ℤ r) ≤ℤ pos 0 → l' ≤ℤ l → (d *ℤ q -ℤ y) ≤ℤ o → r' ≤ℤ r → neg_ℤ (d *ℤ f) ≤ℤ r' → (l' +ℤ d *ℤ (q -ℤ f)) ≤ℤ pos 0
@@ -95,9 +96,9 @@ module _ (n : ℕ) (a : ℕ → ℕ → ℤ) (b : ℕ → ℕ) (q : ℕ → ℤ)
         let (T, carried) = held top closed loose c i (is_top c (omega (arith, ints))) in
         carried_gain n a T Y (deep n a b q ramps) d both carried.closed some carried.carries (λ k h inside. deep_at_most k h (carried.within k h inside))
 
--- heads X at which no cell gains water lie nowhere below heads Y at which no cell loses water
+-- where each cell with a higher head in Y than in X gains no water at X and loses none at Y, there is none
 pub comparison : (n : ℕ) (a : ℕ → ℕ → ℤ) (b : ℕ → ℕ) (q : ℕ → ℤ) (ramps : List Ramp) → AreMutual n a → IsHeldFromBelow n a b q ramps →
-    (d : ℕ) (X Y : ℕ → ℤ) → 0 < d → ((i : ℕ) → i < n → net_flow n a b q ramps d X i ≤ℤ pos 0) → ((i : ℕ) → i < n → pos 0 ≤ℤ net_flow n a b q ramps d Y i) →
+    (d : ℕ) (X Y : ℕ → ℤ) → 0 < d → ((i : ℕ) → i < n → X i <ℤ Y i → net_flow n a b q ramps d X i ≤ℤ pos 0) → ((i : ℕ) → i < n → X i <ℤ Y i → pos 0 ≤ℤ net_flow n a b q ramps d Y i) →
     (i : ℕ) → i < n → Y i ≤ℤ X i
 comparison n a b q ramps both held d X Y some loses gains i h =
     let (m, nonneg, above, at) = max_of (λ k. Y k -ℤ X k) n in

@@ -1,0 +1,94 @@
+-- What holds the components of a problem holds the closed sets of the whole numbers of each step that it encloses.
+use Rattle.cell_balance.proofs.Common.{◌*◌, arith, length, pos, mul-pos, ◌*ℤ◌, ◌+ℤ◌, ◌-ℤ◌, ◌<ℤ◌, ◌<◌, ◌≡◌, ◌≤ℤ◌, All, Bool, List, cond, false, get_or, inl, inr}
+use Rattle.cell_balance.proofs.Common.{refl, subst, suc, sym, true, zero, ℕ, ℤ, AllZip, zero-*ℤ, ints, All-contains, Contains-get_or, IsBetweenWhole, total}
+use Rattle.cell_balance.proofs.Common.{IsHeldBelow, Reaches, deep_low, sum_inside, mul_mono_right, Entries, entries_at}
+use Rattle.cell_balance.proofs.Zips.{AllZip-length, All-zip}
+use Rattle.cell_balance.proofs.Products.{conducting}
+use Rattle.cell_balance.proofs.Sums.{sum-times, sum_at_most}
+use Rattle.cell_balance.proofs.Whole.{WholeCell, WholeEntry, whole_at, whole_deep, whole_deep_river, whole_full}
+use Rattle.cell_balance.proofs.Within.{CellWithin, FixedWithin, LinkWithin}
+use Rattle.cell_balance.proofs.WholeBalances.{ramps_from, a_of, b_of, q_of, ramps_at_cell}
+use Rattle.cell_balance.proofs.Deep.{deep_less}
+use Rattle.cell_balance.proofs.Spread.{Reaches-more, cell_within}
+use Rattle.cell_balance.proofs.Ramps.{IsClosed, extent, deep, IsHeldFromBelow}
+use Rattle.cell_balance.proofs.Conducting.{All-back, links_lead_to_weight, weight_is_of_links, no_known_conductance, no_known_flow, total_nothing}
+
+-- a cell without a conductance to a known head has its deep flow
+deep-loose : (w : List WholeCell) (i : ℕ) → b_of w i ≡ 0 → deep (length w) (a_of w) (b_of w) (q_of w) (ramps_from 0 w) i ≡ whole_deep (whole_at w i)
+deep-loose w i none =
+    let u = whole_at w i in
+    rw (ramps_at_cell (λ r. pos r.c *ℤ extent r.foot r.top) i w, no_known_flow u.fixed none, total_nothing (λ (x : WholeEntry). x.c) u.rivers, total_nothing (λ (x : WholeEntry). x.c) u.drains)
+    (regroup (total (λ q. q) u.flows) (total whole_deep_river u.rivers) (total whole_full u.evaps))
+  where
+    regroup : (f r e : ℤ) → f +ℤ pos 0 +ℤ r -ℤ (pos 0 +ℤ (pos 0 +ℤ e)) ≡ f +ℤ r -ℤ e
+    regroup f r e = omega (arith, ints)
+
+module _ (m n : ℕ) (some_m : 0 < m) (some_n : 0 < n) (p : List Entries) (w : List WholeCell)
+    (within : AllZip (CellWithin m n (length p)) p w)
+  where
+    same_length : length p ≡ length w
+    same_length = AllZip-length (CellWithin m n (length p)) p w within
+
+    -- a closed set has the cells that links lead to from it
+    goes_on : (S : ℕ → Bool) → IsClosed (length w) (a_of w) S → (c : ℕ) → c < length p → S c ≡ true → All (λ x. (x.cell < length p) × (S x.cell ≡ true)) (entries_at p c).links
+    goes_on S closed c i inside =
+        All-back (LinkWithin m n (length p)) (λ x. (x.cell < length p) × (S x.cell ≡ true)) (λ x. 0 < x.c → x.cell < length w → S x.cell ≡ true)
+        (λ x y r h. (r.range, subst (λ (z : ℕ). S z ≡ true) (sym r.same) (h (conducting m x.lo y.c some_m r.conducts r.c.lower) (omega (arith, r.range, r.same, same_length)))))
+        (entries_at p c).links (whole_at w c).links (cell_within m n p w within c i).links
+        (links_lead_to_weight (λ k. S k ≡ true) (length w) (whole_at w c).links (λ k k_in conducts. closed c k (omega (arith, i, same_length)) k_in inside conducts))
+
+    pub along : (S : ℕ → Bool) → IsClosed (length w) (a_of w) S → (j c k : ℕ) → c < length p → S c ≡ true → Reaches p j c k → (k < length p) × (S k ≡ true)
+    along S closed zero c k i inside way = (subst (λ (z : ℕ). z < length p) way i, subst (λ (z : ℕ). S z ≡ true) way inside)
+    along S closed (suc j) c k i inside (x, has, way) =
+        let (range, there) = All-contains (λ x. (x.cell < length p) × (S x.cell ≡ true)) (entries_at p c).links x (goes_on S closed c i inside) has in
+        along S closed j x.cell k range there way
+
+    -- what certainly conducts in the problem conducts
+    pub some_conducts : (lo hi c : ℕ) → IsBetweenWhole lo hi m c → c ≡ 0 → 0 < lo → ⊥
+    some_conducts lo hi c between none h = omega (arith, conducting m lo c some_m h between.lower)
+
+    pub no_fixed : (c : ℕ) → c < length p → b_of w c ≡ 0 → All (λ x. 0 < x.lo → ⊥) (entries_at p c).fixed
+    no_fixed c i none = All-back (FixedWithin m n) (λ x. 0 < x.lo → ⊥) (λ x. x.c ≡ 0) (λ x y r e. some_conducts x.lo x.hi y.c r.c e) (entries_at p c).fixed (whole_at w c).fixed (cell_within m n p w within c i).fixed (no_known_conductance (whole_at w c).fixed none)
+
+    -- held below
+    pub held_below : IsHeldBelow p → IsHeldFromBelow (length w) (a_of w) (b_of w) (q_of w) (ramps_from 0 w)
+    held_below held S closed none c h inside =
+        let i : c < length p = omega (arith, h, same_length) in
+        elim (held c i) [
+          | inl (j, (a, way, (x, has, conducts))) ↦
+              let (a_in, there) = along S closed j c a i inside way in
+              absurd (All-contains (λ x. 0 < x.lo → ⊥) (entries_at p a).fixed x (no_fixed a a_in (none a (omega (arith, a_in, same_length)) there)) has conducts)
+          | inr carried ↦ (
+            carried.inside,
+            record {
+              closed = λ k z k_in z_in k_inside conducts.
+                  weight_is_of_links (λ y. carried.inside y ≡ true) (whole_at w k).links z (closed_links carried.inside c k (omega (arith, k_in, same_length)) (λ s y way. carried.component.whole s y way) (carried.component.reached k k_inside)) conducts;
+              within = λ k k_in k_inside. let (j, way) = carried.component.reached k k_inside in (along S closed j c k i inside way).1;
+              carries = sums carried.inside carried.carries (λ k k_in k_inside. let (j, way) = carried.component.reached k k_inside in none k (omega (arith, k_in, same_length)) (along S closed j c k i inside way).1);
+            },
+          )
+        ]
+      where
+        closed_links : (T : ℕ → Bool) (c k : ℕ) → k < length p → ((s y : ℕ) → Reaches p s c y → T y ≡ true) → ((j : ℕ) × Reaches p j c k) → All (λ x. T x.cell ≡ true) (whole_at w k).links
+        closed_links T c k i whole (steps, way) =
+            All-zip (LinkWithin m n (length p)) (λ x. T x.cell ≡ true) (λ x. T x.cell ≡ true) (λ x z r h. subst (λ (i : ℕ). T i ≡ true) r.same h) (entries_at p k).links (whole_at w k).links (cell_within m n p w within k i).links
+            (λ g d h. whole (suc steps) _ (Reaches-more p steps c k (get_or (entries_at p k).links g d) way (Contains-get_or (entries_at p k).links g d h)))
+
+        sums : (T : ℕ → Bool) → pos 0 <ℤ sum_inside (length p) T (λ k. deep_low (entries_at p k)) → ((k : ℕ) → k < length p → T k ≡ true → b_of w k ≡ 0) → pos 0 <ℤ sum_inside (length w) T (deep (length w) (a_of w) (b_of w) (q_of w) (ramps_from 0 w))
+        sums T some none =
+            let less = sum_at_most (length p) (λ k. cond (T k) (deep_low (entries_at p k)) (pos 0) *ℤ pos (m * n)) (λ k. cond (T k) (deep (length w) (a_of w) (b_of w) (q_of w) (ramps_from 0 w) k) (pos 0)) (λ k k_in. cell k k_in (T k) refl) in
+            let less' = rw (← sum-times (length p) (λ k. cond (T k) (deep_low (entries_at p k)) (pos 0)) (pos (m * n))) at less in
+            subst (λ (z : ℕ). pos 0 <ℤ sum_inside z T (deep (length w) (a_of w) (b_of w) (q_of w) (ramps_from 0 w))) same_length (above _ _ (positive _ (m * n) (mul-pos some_m some_n) some) less')
+          where
+            cell : (k : ℕ) → k < length p → (s : Bool) → T k ≡ s → (cond s (deep_low (entries_at p k)) (pos 0) *ℤ pos (m * n)) ≤ℤ cond s (deep (length w) (a_of w) (b_of w) (q_of w) (ramps_from 0 w) k) (pos 0)
+            cell k k_in true e = rw (deep-loose w k (none k k_in e)) (deep_less m n (length p) (entries_at p k) (whole_at w k) (cell_within m n p w within k k_in))
+            cell k k_in false e = rw (zero-*ℤ (pos (m * n))) (omega (arith, ints))
+
+            above : (x y : ℤ) → pos 0 <ℤ x → x ≤ℤ y → pos 0 <ℤ y
+            above x y h k = omega (arith, ints)
+
+            positive : (z : ℤ) (k : ℕ) → 0 < k → pos 0 <ℤ z → pos 0 <ℤ (z *ℤ pos k)
+            positive z k some h = step z k some (mul_mono_right k (pos 1) z (omega (arith, ints)))
+              where
+                step : (z : ℤ) (k : ℕ) → 0 < k → (pos 1 *ℤ pos k) ≤ℤ (z *ℤ pos k) → pos 0 <ℤ (z *ℤ pos k)
+                step z k h e = omega (arith, ints)
