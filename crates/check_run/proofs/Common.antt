@@ -71,7 +71,8 @@ pub use Rattle.problem_builder.proofs.StepEnclosed.{ids_are}
 pub use Rattle.problem_builder.specs.Cells.{IsCellOf, IsEvap, IsFixed, IsLink}
 pub use Rattle.problem_builder.specs.GridHeads.{AreGridHeads, HeadsEnclose, IsActive, IsNamed}
 pub use Rattle.problem_builder.specs.Widths.{Thicknesses}
-pub use Rattle.problem_hull.specs.Hulls.{AllThree, IsCellHull, IsEvapHull, IsFixedHull, IsHull, IsLinkHull, next, none}
+pub use Rattle.problem_hull.specs.Hulls.{AllThree, IsCellHull, IsHull, IsHullOf, evap_hull, fixed_hull, link_hull, next, none}
+pub use Rattle.problem_hull.specs.Shapes.{evap_shape, fixed_shape, link_shape}
 pub use Rattle.step_chain.proofs.Assembled.{active_constant, constant_not_variable, count_is, index_below, number_is}
 pub use Rattle.step_chain.proofs.Limits.{cut_by}
 pub use Rattle.step_chain.proofs.OneStep.{pair_words, same_bound, same_bounds}

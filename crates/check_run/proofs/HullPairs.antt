@@ -3,7 +3,8 @@
 use Rattle.check_run.proofs.Common.{◌≡◌, ◌∙◌, ℕ, zero, suc, ◌++◌, ℤ, List, map, refl, sym, ap, Option, Some, None, Bound, TimeStep, ZoneFlow, HasSize}
 use Rattle.check_run.proofs.Common.{FlowModel, Entries, entries_at, lower_at, upper_at, cell_faces, faces_by_kind, fixed_faces, link_faces, flat_map}
 use Rattle.check_run.proofs.Common.{AreNumbers, AreFlowsOf, faces_of, zones_of_flow, pairs_in, faces, face_from, Fixed, FixedKind, Constant, Storage, Link}
-use Rattle.check_run.proofs.Common.{IsCellHull, IsFixedHull, IsHull, IsLinkHull, AllThree, next, none, Decks, IsProblemBy, IsProblemFor}
+use Rattle.check_run.proofs.Common.{IsCellHull, IsHull, IsHullOf, AllThree, next, none, Decks, IsProblemBy, IsProblemFor, fixed_hull, link_hull, fixed_shape}
+use Rattle.check_run.proofs.Common.{link_shape}
 use Rattle.step_problem.specs.declared.entry.FixedKind.TheVariants.{General}
 use Rattle.check_run.proofs.FaceKeys.{face_keys, keys_from}
 use Rattle.check_run.proofs.FlowPairs.{both_keys, from_key, joined, keys_have_pairs, keys_of, model_keys}
@@ -25,11 +26,11 @@ module _ (zones : List ℕ) (l u : ℕ → ℤ) where
       both_keys zones l u x y lo hi ∙ (λ i. keys_from zones (e i) (f i) ++ keys_from zones (f i) (e i)) ∙ sym (both_keys zones l u a b low high)
 
   module _ (c e : Entries) (id : e.id ≡ c.id) where
-    fixed_same : (xs ys zs : List Fixed) → AllThree IsFixedHull xs ys zs → keys_of (flat_map (fixed_faces zones l u e) zs) ≡ keys_of (flat_map (fixed_faces zones l u c) xs)
+    fixed_same : (xs ys zs : List Fixed) → AllThree (IsHullOf fixed_shape fixed_hull) xs ys zs → keys_of (flat_map (fixed_faces zones l u e) zs) ≡ keys_of (flat_map (fixed_faces zones l u c) xs)
     fixed_same xs ys zs none = refl
     fixed_same xs ys zs (next {x = x} {z = z} {xs = us} {zs = ws} h hs) =
         joined (fixed_faces zones l u e z) (flat_map (fixed_faces zones l u e) ws)
-        ∙ ap (λ (ks : List ℕ). ks ++ keys_of (flat_map (fixed_faces zones l u e) ws)) (ap (λ (k : FixedKind). keys_of (faces_by_kind zones l u k e.id z.source z.lo z.hi)) h.kind ∙ kind_same x.kind e.id z.source c.id x.source z.lo z.hi x.lo x.hi id h.source)
+        ∙ ap (λ (ks : List ℕ). ks ++ keys_of (flat_map (fixed_faces zones l u e) ws)) (ap (λ (k : FixedKind). keys_of (faces_by_kind zones l u k e.id z.source z.lo z.hi)) (ap (λ (y : Fixed). y.kind) h.is) ∙ kind_same x.kind e.id z.source c.id x.source z.lo z.hi x.lo x.hi id (ap (λ (y : Fixed). y.source) h.is))
         ∙ ap (λ (ks : List ℕ). keys_of (fixed_faces zones l u c x) ++ ks) (fixed_same us _ ws hs)
         ∙ sym (joined (fixed_faces zones l u c x) (flat_map (fixed_faces zones l u c) us))
 
@@ -39,11 +40,11 @@ module _ (zones : List ℕ) (l u : ℕ → ℤ) where
           ap (λ (y : Link). keys_of (link_faces zones l u r e y)) same
           ∙ face_same e.id (entries_at r x.cell).id c.id (entries_at p x.cell).id x.lo x.hi x.lo x.hi id (ids x.cell)
 
-      links_same : (xs ys zs : List Link) → AllThree IsLinkHull xs ys zs → keys_of (flat_map (link_faces zones l u r e) zs) ≡ keys_of (flat_map (link_faces zones l u p c) xs)
+      links_same : (xs ys zs : List Link) → AllThree (IsHullOf link_shape link_hull) xs ys zs → keys_of (flat_map (link_faces zones l u r e) zs) ≡ keys_of (flat_map (link_faces zones l u p c) xs)
       links_same xs ys zs none = refl
       links_same xs ys zs (next {x = x} {z = z} {xs = us} {zs = ws} h hs) =
           joined (link_faces zones l u r e z) (flat_map (link_faces zones l u r e) ws)
-          ∙ ap (λ (ks : List ℕ). ks ++ keys_of (flat_map (link_faces zones l u r e) ws)) (link_same x z h.kept)
+          ∙ ap (λ (ks : List ℕ). ks ++ keys_of (flat_map (link_faces zones l u r e) ws)) (link_same x z h.is)
           ∙ ap (λ (ks : List ℕ). keys_of (link_faces zones l u p c x) ++ ks) (links_same us _ ws hs)
           ∙ sym (joined (link_faces zones l u p c x) (flat_map (link_faces zones l u p c) us))
 

@@ -5,8 +5,9 @@ use Rattle.check_run.proofs.Common.{ZoneFlow, Entries, entries_at, no_bound, low
 use Rattle.check_run.proofs.Common.{pairs_in, AreNumbers, FlowModel, TimeStep, cell_count, variable_below, evap_sources, period_at, times, IsCellOf, IsEvap}
 use Rattle.check_run.proofs.Common.{AreGridHeads, Thicknesses, Solved, bound_at, HeadsFit, AreCellBounds, AreFlows, AreFlowsAt, AreListed, IsCellBound}
 use Rattle.check_run.proofs.Common.{IsFlowPair, IsListedStep, has_evt, zone_pair, Task, Step, Whole, AllSteps, IsStep, Steps, budget_at, AreFlowsOf, faces_of}
-use Rattle.check_run.proofs.Common.{IsRest, first_in, rest_more, rest_whole, as_listed, nat_tests, IsZoneFlow, is_nonzero, IsEvapHull, IsHull, AllThree, next}
-use Rattle.check_run.proofs.Common.{none, IsProblemBy, IsBefore, StartHeadsFit, deck_task, Decks, AreDecks, PairKind, IsStepBy, pairs_of, Bool}
+use Rattle.check_run.proofs.Common.{IsRest, first_in, rest_more, rest_whole, as_listed, nat_tests, IsZoneFlow, is_nonzero, IsHullOf, IsHull, AllThree, next}
+use Rattle.check_run.proofs.Common.{none, IsProblemBy, IsBefore, StartHeadsFit, deck_task, Decks, AreDecks, PairKind, IsStepBy, pairs_of, Bool, evap_hull}
+use Rattle.check_run.proofs.Common.{evap_shape}
 use Rattle.step_problem.specs.declared.place.Dir.TheVariants.{In}
 use Rattle.step_problem.specs.Balances.{total}
 use Rattle.model_types.specs.Receivers.{is_chosen}
@@ -60,7 +61,7 @@ hull_evaps : (p q r : List Entries) → IsHull p q r → ((k : ℕ) → k < leng
 hull_evaps p q r none h k lt = absurd (omega (arith, lt))
 hull_evaps p q r (next {x = x} {z = z} c hs) h zero lt = no_hull x.evaps _ z.evaps c.evaps (h zero (omega arith))
   where
-    no_hull : (xs ys zs : List Evap) → AllThree IsEvapHull xs ys zs → xs ≡ [] → zs ≡ []
+    no_hull : (xs ys zs : List Evap) → AllThree (IsHullOf evap_shape evap_hull) xs ys zs → xs ≡ [] → zs ≡ []
     no_hull xs ys zs none e = refl
     no_hull xs ys zs (next {x = x} {xs = us} d ds) e = absurd (let bad : x ∷ us ≡ [] = e in cc)
 hull_evaps p q r (next c hs) h (suc k) lt = hull_evaps _ _ _ hs (λ i l. h (suc i) (omega (arith, l))) k (omega (arith, lt))

@@ -1,7 +1,7 @@
 -- Arithmetic on spans: operations keep the order, and exponents grow with each by 18 at most.
 use Rattle.conductance_bounds.proofs.Common.{ℕ, zero, suc, ◌+◌, ◌*◌, ◌≤◌, ◌<◌, ◌^◌, arith, ℤ, pos, negsuc, neg_ℤ, ◌+ℤ◌, ◌-ℤ◌, unsigned_abs, int_min, int_max}
 use Rattle.conductance_bounds.proofs.Common.{ints, clamps, AtMost, plus, times, over, up, down, AtMost-trans, plus-AtMost, times-AtMost, over-AtMost, ten_pos}
-use Rattle.conductance_bounds.proofs.Common.{cross_of, Sd, value, IsDown, IsUp, IsNear, HasSize, Span, IsOrdered, reach, mul-pos}
+use Rattle.conductance_bounds.proofs.Common.{cross_of, Sd, value, IsDown, IsUp, IsNear, HasSize, Span, IsOrdered, reach, mul-pos, AreOperands}
 use Rattle.scaled_decimal.specs.Nearest.{IsWithin}
 use Rattle.conductance_bounds.proofs.Enclosing.{positive_value}
 
@@ -25,20 +25,18 @@ pub reach_within : (x : Span) (n : ℕ) → IsNear x.lo.e n → IsNear x.hi.e n 
 unfolding reach
 reach_within x n h k = omega (arith, by_near x.lo.e n h, by_near x.hi.e n k)
 
--- the exponents of both operands, where an operation asks for 10000
-pub record AreNear (x y : Span) : Type 0 where
-  pub low : IsNear x.lo.e 10000
-  pub high : IsNear x.hi.e 10000
-  pub other_low : IsNear y.lo.e 10000
-  pub other_high : IsNear y.hi.e 10000
+-- both decimals of two spans as operands, of one side and of both
+pub operands : (x y : Span) → IsOrdered x → IsOrdered y → reach x + reach y ≤ 10000 → AreOperands x.lo y.lo × AreOperands x.hi y.hi
+operands x y p q h = (
+  record { a_decimal = p.low; b_decimal = q.low; a_near = low_near x 10000 (omega (arith, h)); b_near = low_near y 10000 (omega (arith, h)) },
+  record { a_decimal = p.high; b_decimal = q.high; a_near = high_near x 10000 (omega (arith, h)); b_near = high_near y 10000 (omega (arith, h)) },
+)
 
-pub nears : (x y : Span) → reach x + reach y ≤ 10000 → AreNear x y
-nears x y h = record {
-  low = low_near x 10000 (omega (arith, h));
-  high = high_near x 10000 (omega (arith, h));
-  other_low = low_near y 10000 (omega (arith, h));
-  other_high = high_near y 10000 (omega (arith, h));
-}
+pub cross_operands : (x y : Span) → IsOrdered x → IsOrdered y → reach x + reach y ≤ 10000 → AreOperands x.lo y.hi × AreOperands x.hi y.lo
+cross_operands x y p q h = let (l, r) = operands x y p q h in (
+  record { a_decimal = l.a_decimal; b_decimal = r.b_decimal; a_near = l.a_near; b_near = r.b_near },
+  record { a_decimal = r.a_decimal; b_decimal = l.b_decimal; a_near = r.a_near; b_near = l.b_near },
+)
 
 within_near : (e low high : ℤ) (n : ℕ) → IsWithin e low high → IsNear low n → IsNear high n → IsNear e n
 within_near e low high n w l h = record {

@@ -1,7 +1,7 @@
 -- Names that several proofs of this crate cite, of the crates below and of its own definitions, passed on from one place. Declares nothing.
 pub use Rattle.std.proofs.Common.{Bool, FitsSigned, None, Option, Some, ap, arith, cond, false, inl, inr, min, mul-pos, neg_ℤ, negsuc, pos, refl, rules, subst}
 pub use Rattle.std.proofs.Common.{suc, sym, to_z, true, zero, ℕ, ℤ, ◌*ℤ◌, ◌*◌, ◌+ℤ◌, ◌+◌, ◌-ℤ◌, ◌-◌, ◌/◌, ◌<ℤ◌, ◌<◌, ◌^◌, ◌∙◌, ◌≡◌, ◌≤ℤ◌, ◌≤◌, ◌⊎◌}
-pub use Rattle.std.proofs.Math.Nat.{div-mul-le_self, le_of_mul-le-mul_right, lt-mul-div-succ, lt_of_mul-lt-mul_right, mul-le-mul, mul-le-mul_right, pow-suc}
+pub use Rattle.std.proofs.Math.Nat.{le_of_mul-le-mul_right, mul-le-mul, mul-le-mul_right, pow-suc}
 pub use Rattle.std.proofs.lemmas.Bool.{cases_Bool, cases_lt, false≢true, true≢false}
 pub use Rattle.std.proofs.lemmas.Int.{by_lt_z, clamps, ints, to_z-of_z, to_z_pos}
 pub use Rattle.std.specs.Int.{int_max, int_min, w128, w64}
@@ -53,5 +53,5 @@ pub use Rattle.model_types.specs.Valid.{IsModel, IsTimed, number_one}
 pub use Rattle.model_types.specs.declared.entry.Given.{Given}
 pub use Rattle.model_types.specs.declared.model.FlowModel.{FlowModel}
 pub use Rattle.model_types.specs.declared.period.Period.{Period}
-pub use Rattle.scaled_decimal.specs.Nearest.{HasSize, IsDown, IsNear, IsSd, IsUp, value}
+pub use Rattle.scaled_decimal.specs.Nearest.{AreOperands, HasSize, IsDown, IsNear, IsSd, IsUp, value}
 pub use Rattle.scaled_decimal.specs.declared.decimal.Sd.{Sd}

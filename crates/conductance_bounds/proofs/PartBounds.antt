@@ -1,10 +1,9 @@
 -- The part of a period that has passed lies between its bounds, and is at most 1.
-use Rattle.conductance_bounds.proofs.Common.{◌≡◌, ℕ, zero, suc, ◌+◌, ◌*◌, ◌-◌, ◌/◌, ◌≤◌, ◌<◌, ◌^◌, inl, inr, Bool, true, false, cond, min, arith, refl, subst}
-use Rattle.conductance_bounds.proofs.Common.{sym, ap, mul-le-mul_right, le_of_mul-le-mul_right, lt-mul-div-succ, div-mul-le_self, lt_of_mul-lt-mul_right, ints}
-use Rattle.conductance_bounds.proofs.Common.{cases_lt, size, Ratio, den, ratio, over, AtMost, Same, AtMost-trans, AtMost-refl, Same-AtMost, Same-back, num_plus}
-use Rattle.conductance_bounds.proofs.Common.{num_over, den_over, scaled, IsCeiling, Sd, value, IsPositive, IsTimed, number_one, Span, AreBounds, Period, one}
-use Rattle.conductance_bounds.proofs.Common.{power, geometric, multiplier, passed, exact, IsBound, Lower, Upper, Quotient, sum_term, IsPart, IsGrowingPart}
-use Rattle.conductance_bounds.proofs.Common.{IsPassed, part_term, over-Same, power-positive}
+use Rattle.conductance_bounds.proofs.Common.{◌≡◌, ℕ, zero, suc, ◌+◌, ◌*◌, ◌-◌, ◌≤◌, ◌<◌, ◌^◌, inl, inr, Bool, true, false, cond, min, arith, refl, subst, sym}
+use Rattle.conductance_bounds.proofs.Common.{ap, mul-le-mul_right, le_of_mul-le-mul_right, ints, cases_lt, size, Ratio, den, ratio, over, AtMost, Same}
+use Rattle.conductance_bounds.proofs.Common.{AtMost-trans, AtMost-refl, Same-AtMost, Same-back, num_plus, num_over, den_over, scaled, Sd, value, IsPositive}
+use Rattle.conductance_bounds.proofs.Common.{IsTimed, number_one, Span, AreBounds, Period, one, power, geometric, multiplier, passed, exact, IsBound, Lower}
+use Rattle.conductance_bounds.proofs.Common.{Upper, Quotient, sum_term, IsPart, IsGrowingPart, IsPassed, part_term, over-Same, power-positive}
 use Rattle.conductance_bounds.proofs.Positive.{size_positive}
 use Rattle.conductance_bounds.proofs.Enclosing.{bound_on, below_units, above_units}
 use Rattle.conductance_bounds.proofs.Horner.{sum_is, sum_holds}
@@ -97,16 +96,6 @@ lower_at_most p n x some few h b =
 pub few_units : (n : ℕ) (f : Ratio) → AtMost f one → n * den f ≤ f.num * 10 ^ 18 → n ≤ 10 ^ 18
 unfolding ratio
 few_units n f h k = le_of_mul-le-mul_right {k = den f} (omega (arith, k, mul-le-mul_right (10 ^ 18) h.cross)) (omega arith)
-
--- each number has a ceiling
-pub has_ceiling : (f : Ratio) (s : ℕ) → (n : ℕ) × IsCeiling n f s
-has_ceiling f s = ((f.num * 10 ^ s + f.less) / den f, record { at_least = covers (f.num * 10 ^ s) f.less; least = (λ k h. lowest (f.num * 10 ^ s) f.less k h) })
-  where
-    covers : (N l : ℕ) → N ≤ (N + l) / suc l * suc l
-    covers N l = let some : 0 < suc l = omega arith in omega (arith, lt-mul-div-succ (N + l) some)
-
-    lowest : (N l k : ℕ) → N ≤ k * suc l → (N + l) / suc l ≤ k
-    lowest N l k h = let lt : (N + l) / suc l < k + 1 = lt_of_mul-lt-mul_right (suc l) (omega (arith, div-mul-le_self (N + l) (suc l), h)) in omega (arith, lt)
 
 unit_positive : 0 < one.num
 unfolding ratio

@@ -5,7 +5,7 @@ ghost use Rattle.model_types.specs.Grids.{IsPositive};
 ghost use Rattle.conductance_bounds.specs.Branches.{area_formula};
 ghost use Rattle.conductance_bounds.specs.Intervals.{IsOrdered, reach, AreBounds};
 
-use crate::interval::exactly;
+use crate::interval::exact_span;
 use crate::span::Span;
 use decimal_input::dec::Dec;
 
@@ -18,5 +18,5 @@ pub(crate) fn area(delr: Dec, delc: Dec) -> Span
     ensures reach { reach result ≤ 132 }
     ensures positive { 0 < result.lo.m }
 {
-    exactly(delr).times(exactly(delc))
+    exact_span(delr).times(exact_span(delc))
 }

@@ -7,7 +7,7 @@ ghost use Rattle.conductance_bounds.specs.Branches.{evap_formula, evap_exact};
 ghost use Rattle.conductance_bounds.specs.Pairs.{IsWholePair};
 
 use crate::area::area;
-use crate::interval::exactly;
+use crate::interval::exact_span;
 use crate::pair::{Pair, rounded_pair};
 use decimal_input::dec::Dec;
 
@@ -22,6 +22,6 @@ pub fn evap_branch(evtr: Dec, exdp: Dec, delr: Dec, delc: Dec, s: u32) -> Option
     ensures rounded { IsWholePair (evap_formula (size evtr) (size delr) (size delc) (size exdp)) s result }
     ensures encloses { IfSome result (λ p. Encloses p.lo p.hi s (evap_exact evtr exdp delr delc)) }
 {
-    let rate = exactly(evtr).times(area(delr, delc));
-    rounded_pair(rate.over(exactly(exdp)), s)
+    let rate = exact_span(evtr).times(area(delr, delc));
+    rounded_pair(rate.over(exact_span(exdp)), s)
 }

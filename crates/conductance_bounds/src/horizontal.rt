@@ -12,7 +12,7 @@ ghost use Rattle.conductance_bounds.specs.Branches.{half_term, column_k, row_of,
 ghost use Rattle.conductance_bounds.specs.Pairs.{IsWholePair};
 ghost use Rattle.conductance_bounds.specs.Calls.{IsHalf, IsColHalf};
 
-use crate::interval::{exactly, one, span_of};
+use crate::interval::{exact_span, one, span_of};
 use crate::pair::{Pair, rounded_pair};
 use crate::span::Span;
 use decimal_input::dec::Dec;
@@ -48,17 +48,17 @@ pub fn row_branch(a: &Half, b: &Half, width: Dec, s: u32) -> Option<Pair>
     ensures encloses { (f g : Ratio) → IsBetween a.now.thick_lo a.now.thick_hi f → IsBetween b.now.thick_lo b.now.thick_hi g →
         IfSome result (λ p. Encloses p.lo p.hi s (row_exact a.now b.now width f g)) }
 {
-    let width = exactly(width);
+    let width = exact_span(width);
     let first = resistance(
         a.along,
         width,
-        exactly(a.hk),
+        exact_span(a.hk),
         span_of(a.thick_lo, a.thick_hi),
     );
     let second = resistance(
         b.along,
         width,
-        exactly(b.hk),
+        exact_span(b.hk),
         span_of(b.thick_lo, b.thick_hi),
     );
     rounded_pair(in_a_row(first, second), s)
@@ -75,7 +75,7 @@ pub fn col_branch(a: &ColHalf, b: &ColHalf, width: Dec, s: u32) -> Option<Pair>
     ensures encloses { (f g : Ratio) → IsBetween a.now.thick_lo a.now.thick_hi f → IsBetween b.now.thick_lo b.now.thick_hi g →
         IfSome result (λ p. Encloses p.lo p.hi s (column_exact a.now b.now width f g)) }
 {
-    let width = exactly(width);
+    let width = exact_span(width);
     let first = resistance(
         a.along,
         width,
@@ -99,7 +99,7 @@ fn along_column(a: &ColHalf) -> Span
     ensures reach { reach result ≤ 132 }
     ensures positive { 0 < result.lo.m }
 {
-    exactly(a.hk).times(exactly(a.hani))
+    exact_span(a.hk).times(exact_span(a.hani))
 }
 
 // Half of a branch's resistance.
@@ -118,7 +118,7 @@ fn resistance(along: Dec, width: Span, k: Span, thick: Span) -> Span
     ensures reach { reach result ≤ 500 }
     ensures positive { 0 < result.lo.m }
 {
-    exactly(along).over(width.plus(width).times(k.times(thick)))
+    exact_span(along).over(width.plus(width).times(k.times(thick)))
 }
 
 // The conductance of two resistances in series.

@@ -37,7 +37,7 @@ pub(crate) fn one() -> Span
 }
 
 /// A number of the input, exactly.
-pub(crate) fn exactly(a: Dec) -> Span
+pub(crate) fn exact_span(a: Dec) -> Span
     requires number { IsDec a }
     requires sign { a.neg ≡ false }
     ensures ordered { IsOrdered result }

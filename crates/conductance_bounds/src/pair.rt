@@ -6,7 +6,7 @@ ghost use Rattle.conductance_bounds.specs.Terms.Term.{Number};
 ghost use Rattle.conductance_bounds.specs.Pairs.{IsWholePair};
 ghost use Rattle.conductance_bounds.specs.Intervals.{IsOrdered, AreBounds};
 
-use crate::interval::exactly;
+use crate::interval::exact_span;
 use crate::span::Span;
 use decimal_input::dec::Dec;
 use scaled_decimal::{ceil_units, floor_units};
@@ -54,5 +54,5 @@ pub fn number_pair(conductance: Dec, s: u32) -> Option<Pair>
     requires { IsNotNegative conductance }
     ensures { IsWholePair (Number (size conductance)) s result }
 {
-    rounded_pair(exactly(conductance), s)
+    rounded_pair(exact_span(conductance), s)
 }

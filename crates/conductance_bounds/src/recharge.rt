@@ -9,7 +9,7 @@ ghost use Rattle.conductance_bounds.specs.Intervals.{IsOrdered, reach, AreBounds
 ghost use Rattle.conductance_bounds.specs.Branches.{recharge_formula, recharge_exact};
 ghost use Rattle.conductance_bounds.specs.Pairs.{IsFlowPair};
 
-use crate::interval::exactly;
+use crate::interval::exact_span;
 use crate::pair::FlowPair;
 use crate::span::Span;
 use decimal_input::dec::Dec;
@@ -25,7 +25,9 @@ pub fn recharge_flow(rech: Dec, delr: Dec, delc: Dec, s: u32) -> Option<FlowPair
     ensures rounded { IsFlowPair (recharge_formula (size rech) (size delr) (size delc)) rech.neg (s + 9) result }
     ensures encloses { IfSome result (λ p. EnclosesSigned p.lo p.hi (s + 9) (recharge_exact rech delr delc)) }
 {
-    let flow = magnitude(rech).times(exactly(delr)).times(exactly(delc));
+    let flow = magnitude(rech)
+        .times(exact_span(delr))
+        .times(exact_span(delc));
     flow_of(flow, rech.neg, s + 9)
 }
 
@@ -46,7 +48,7 @@ fn magnitude(x: Dec) -> Span
 {
     let mut plain = x;
     plain.neg = false;
-    exactly(plain)
+    exact_span(plain)
 }
 
 // The whole bounds in units of 10 ^ -places, negated and exchanged for a flow below 0.
@@ -63,25 +65,25 @@ fn flow_of(x: Span, neg: bool, places: u32) -> Option<FlowPair>
     };
     if neg {
         Some(FlowPair {
-            lo: negative(most),
-            hi: negative(least),
+            lo: loss(most),
+            hi: loss(least),
         })
     } else {
         Some(FlowPair {
-            lo: positive(least),
-            hi: positive(most),
+            lo: gain(least),
+            hi: gain(most),
         })
     }
 }
 
-fn positive(units: u128) -> i128
+fn gain(units: u128) -> i128
     requires small { units < 2 ^ 126 }
     ensures { result ≡ pos units }
 {
     units as i128
 }
 
-fn negative(units: u128) -> i128
+fn loss(units: u128) -> i128
     requires small { units < 2 ^ 126 }
     ensures { result ≡ neg_ℤ (pos units) }
 {

@@ -12,7 +12,7 @@ ghost use Rattle.conductance_bounds.specs.Calls.{IsThickness, LiesWithin};
 ghost use Rattle.model_types.specs.Valid.{number_one};
 
 use crate::area::area;
-use crate::interval::{exactly, factor, one, span_of};
+use crate::interval::{exact_span, factor, one, span_of};
 use crate::pair::{Pair, rounded_pair};
 use crate::span::Span;
 use decimal_input::dec::Dec;
@@ -46,7 +46,7 @@ pub fn storage_branch(
     let capacity = storativity(ss, thick).times(area(delr, delc));
     let sum = factor(factors.sum_lo, factors.sum_hi);
     let power = factor(factors.power_lo, factors.power_hi);
-    rounded_pair(capacity.times(sum).over(exactly(perlen).times(power)), s)
+    rounded_pair(capacity.times(sum).over(exact_span(perlen).times(power)), s)
 }
 
 // SS times the thickness, or SS alone.
@@ -57,7 +57,7 @@ fn storativity(ss: Dec, thick: Option<(Sd, Sd)>) -> Span
     ensures bounds { (f : Ratio) → AreBounds (storativity_term (size ss) (thickness_of thick f)) result }
     ensures reach { reach result ≤ 175 }
 {
-    let ss = exactly(ss);
+    let ss = exact_span(ss);
     match thick {
         Some((lo, hi)) => ss.times(span_of(lo, hi)),
         None => ss,
@@ -143,7 +143,7 @@ fn growing_sum(tsmult: Dec, more: u32) -> Span
     ensures bounds { AreBounds (sum_term (size tsmult) more) result }
     ensures factors { AreFactors 5000 result.lo result.hi }
 {
-    let t = exactly(tsmult);
+    let t = exact_span(tsmult);
     let one = one();
     let mut sum = one;
     for _step in 0..more {
@@ -158,7 +158,7 @@ fn growing_power(tsmult: Dec, more: u32) -> Span
     ensures bounds { AreBounds (power_term (size tsmult) more) result }
     ensures factors { AreFactors 4000 result.lo result.hi }
 {
-    let t = exactly(tsmult);
+    let t = exact_span(tsmult);
     let mut power = one();
     for _step in 0..more {
         power = power.times(t);

@@ -11,7 +11,7 @@ ghost use Rattle.conductance_bounds.specs.Pairs.{IsWholePair};
 ghost use Rattle.conductance_bounds.specs.Calls.{IsVertHalf, IsBed};
 
 use crate::area::area;
-use crate::interval::{exactly, span_of};
+use crate::interval::{exact_span, span_of};
 use crate::pair::{Pair, rounded_pair};
 use crate::span::Span;
 use decimal_input::dec::Dec;
@@ -73,9 +73,9 @@ fn conductivity(a: &VertHalf) -> Span
     ensures reach { reach result ≤ 132 }
     ensures positive { 0 < result.lo.m }
 {
-    let vka = exactly(a.vka);
+    let vka = exact_span(a.vka);
     if a.ratio {
-        exactly(a.hk).over(vka)
+        exact_span(a.hk).over(vka)
     } else {
         vka
     }
@@ -110,7 +110,7 @@ fn joined_resistance(first: Span, bed: &Bed, second: Span) -> Span
     if bed.thick_lo.m == 0 {
         first.plus(second)
     } else {
-        let bed = span_of(bed.thick_lo, bed.thick_hi).over(exactly(bed.vkcb));
+        let bed = span_of(bed.thick_lo, bed.thick_hi).over(exact_span(bed.vkcb));
         first.plus(bed).plus(second)
     }
 }

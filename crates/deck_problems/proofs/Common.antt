@@ -21,7 +21,7 @@ pub use Rattle.deck_span.proofs.SameFrames.{active_are, constants_between, count
 pub use Rattle.deck_span.proofs.StepsBetween.{framed_is, steps_between}
 pub use Rattle.deck_span.specs.Models.{IsBetween, IsPeriodBetween}
 pub use Rattle.model_types.specs.Faces.{cell_count}
-pub use Rattle.model_types.specs.Heads.{constant_head, given_heads, index_of, is_constant, is_variable, start_head, variable_below, variable_cells}
+pub use Rattle.model_types.specs.Heads.{constant_head, index_of, is_constant, is_variable, start_head, variable_below, variable_cells}
 pub use Rattle.model_types.specs.Layers.{dec_at, is_active}
 pub use Rattle.model_types.specs.Times.{period_at, times}
 pub use Rattle.model_types.specs.Valid.{IsModel}
@@ -31,12 +31,13 @@ pub use Rattle.problem_builder.proofs.OneCell.{one_constant_pair, one_link}
 pub use Rattle.problem_builder.proofs.TimesOf.{time_of}
 pub use Rattle.problem_builder.specs.Cells.{IsCellOf, IsDrain, IsEvap, IsFixed, IsFlow, IsLink, IsRiver}
 pub use Rattle.problem_builder.specs.GridHeads.{AreConstantHeads, AreGridHeads, AreStartHeads, HeadsEnclose, IsActive, IsNamed}
-pub use Rattle.problem_builder.specs.Problems.{HasNoProblem, IsBuildFault, IsProblemOf}
+pub use Rattle.problem_builder.specs.Problems.{HasNoProblem, IsBuildFault, IsBuilt, IsProblemOf}
 pub use Rattle.problem_builder.specs.Tables.{bound_in}
 pub use Rattle.problem_hull.proofs.Fits.{lower_head, upper_head}
 pub use Rattle.problem_hull.proofs.Threes.{three_lengths, three_within}
-pub use Rattle.problem_hull.specs.Hulls.{AllThree, IsCellHull, IsFixedHull, IsHull}
+pub use Rattle.problem_hull.specs.Hulls.{AllThree, IsCellHull, IsHull, IsHullOf, fixed_hull}
 pub use Rattle.problem_hull.specs.Hulls.AllThree.{next, none}
+pub use Rattle.problem_hull.specs.Shapes.{cell_shape, drain_shape, evap_shape, fixed_shape, flow_shape, river_shape}
 pub use Rattle.step_problem.specs.Conditions.{IsHead, IsProblem}
 pub use Rattle.step_problem.specs.Entries.{Entries, no_entries}
 pub use Rattle.step_problem.specs.Heads.{lower_at, no_bound, upper_at}

@@ -1,9 +1,9 @@
 -- The hull of two decks' problems and constant heads.
 use Rattle.deck_problems.proofs.Common.{◌≡◌, ◌∷◌, ◌∙◌, ◌<◌, ℕ, inl, inr, Option, Some, None, List, Contains, get_or, length, map, refl, sym, subst, ap, arith}
 use Rattle.deck_problems.proofs.Common.{int_min, int_max, IfSome, get_or_default, Fixed, Bound, IsProblem, Entries, no_entries, lower_at, upper_at, FlowModel}
-use Rattle.deck_problems.proofs.Common.{TimeStep, IsNamed, IsProblemOf, IsBuildFault, IsFixedHull, IsCellHull, IsHull, AllThree, none, next, three_lengths}
-use Rattle.deck_problems.proofs.Common.{three_within, Decks, AreConstantHeadsFor, IsSecond, AreDecks, AreHullBounds, HasCellsOf, IsHullRefusal, IsProblemFor}
-use Rattle.deck_problems.proofs.Common.{IsProblemBy, IsRefusedBy, IsFaultFor, of_second, of_hull, AreConstantHeads}
+use Rattle.deck_problems.proofs.Common.{TimeStep, IsNamed, IsProblemOf, IsBuildFault, IsHullOf, fixed_shape, fixed_hull, IsCellHull, IsHull, AllThree, none}
+use Rattle.deck_problems.proofs.Common.{next, three_lengths, three_within, Decks, AreConstantHeadsFor, IsSecond, AreDecks, AreHullBounds, HasCellsOf}
+use Rattle.deck_problems.proofs.Common.{IsHullRefusal, IsProblemFor, IsProblemBy, IsRefusedBy, IsFaultFor, of_second, of_hull, AreConstantHeads}
 use Rattle.problem_builder.specs.declared.fault.BuildFault.{BuildFault}
 use Rattle.deck_problems.proofs.Enclosing.{second_cells}
 use Rattle.deck_problems.proofs.Members.{constant_same}
@@ -15,10 +15,10 @@ pub hull_ids : (p q r : List Entries) → IsHull p q r → map (λ (e : Entries)
 hull_ids p q r none = refl
 hull_ids p q r (next h hs) = λ i. h.id i ∷ hull_ids _ _ _ hs i
 
-named_fixed : (p q r : List Fixed) → AllThree IsFixedHull p q r → (c : ℕ) → (x : Fixed) × Contains r x × (c ≡ x.source) → (x : Fixed) × Contains p x × (c ≡ x.source)
+named_fixed : (p q r : List Fixed) → AllThree (IsHullOf fixed_shape fixed_hull) p q r → (c : ℕ) → (x : Fixed) × Contains r x × (c ≡ x.source) → (x : Fixed) × Contains p x × (c ≡ x.source)
 named_fixed p q r h c (x, (i, lt, e), source) =
-    let inside : i < length p = omega (arith, lt, (three_lengths IsFixedHull p q r h).1) in
-    (get_or p i x, (i, inside, get_or_default p i (get_or p i x) x inside), source ∙ ap (λ (y : Fixed). y.source) (sym e) ∙ (three_within IsFixedHull p q r i x x x h inside).source)
+    let inside : i < length p = omega (arith, lt, (three_lengths (IsHullOf fixed_shape fixed_hull) p q r h).1) in
+    (get_or p i x, (i, inside, get_or_default p i (get_or p i x) x inside), source ∙ ap (λ (y : Fixed). y.source) (sym e) ∙ ap (λ (y : Fixed). y.source) (three_within (IsHullOf fixed_shape fixed_hull) p q r i x x x h inside).is)
 
 hull_named : (p q r : List Entries) → IsHull p q r → (c : ℕ) → IsNamed r c → IsNamed p c
 hull_named p q r h c (k, lt, by) =

@@ -1,7 +1,8 @@
 -- The problems of two valid models that are alike are alike.
 use Rattle.deck_problems.proofs.Common.{◌≡◌, ◌<◌, ◌∙◌, ℕ, pos, true, refl, sym, ap, subst, List, length, map, AllZip, Bound, Fixed, Entries, FlowModel}
 use Rattle.deck_problems.proofs.Common.{TimeStep, cell_count, is_variable, variable_below, AllThree, IsPeriodBetween, alike_between, framed_is, IsFlow, IsLink}
-use Rattle.deck_problems.proofs.Common.{IsFixed, IsRiver, IsDrain, IsEvap, IsCellOf, IsProblemOf, one_link, ProblemsAreAlike}
+use Rattle.deck_problems.proofs.Common.{IsFixed, IsRiver, IsDrain, IsEvap, IsCellOf, IsProblemOf, one_link, ProblemsAreAlike, flow_shape, fixed_shape}
+use Rattle.deck_problems.proofs.Common.{river_shape, drain_shape, evap_shape, cell_shape}
 use Rattle.decimal_input.specs.declared.dec.Dec.{Dec}
 use Rattle.step_problem.specs.declared.entry.Flow.{Flow}
 use Rattle.step_problem.specs.declared.entry.Link.{Link}
@@ -14,7 +15,6 @@ use Rattle.model_types.specs.Sources.{FixedSource, FlowSource, variable_faces}
 use Rattle.conductance_bounds.specs.Formulas.{face_term}
 use Rattle.conductance_bounds.specs.Pairs.{IsCapped}
 use Rattle.conductance_bounds.specs.Terms.{Term}
-use Rattle.problem_hull.specs.Shapes.{flow_shape, fixed_shape, river_shape, drain_shape, evap_shape, cell_shape}
 use Rattle.deck_span.proofs.SourcesBetween.{IsFlowSourceBetween, IsFixedSourceBetween, IsRiverSourceBetween, IsDrainSourceBetween, IsEvapSourceBetween, framed, cells_are, faces_are, three_flows, three_fixed, three_rivers, three_drains, three_evaps}
 use Rattle.deck_span.proofs.SourcesBetween.IsFlowSourceBetween.{pumped, received}
 use Rattle.deck_span.proofs.SourcesBetween.IsFixedSourceBetween.{constant, general, stored}

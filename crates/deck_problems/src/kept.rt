@@ -1,6 +1,5 @@
 // The tables that a run keeps from step to step.
-ghost use Rattle.std.specs.Prelude.{◌≡◌, ◌-◌, ◌<◌, ◌≤◌, IfOk, OnOk, length};
-ghost use Rattle.model_types.specs.Heads.{given_heads};
+ghost use Rattle.std.specs.Prelude.{◌≡◌, ◌≤◌, IfOk, OnOk, length};
 ghost use Rattle.model_types.specs.Valid.{IsModel};
 ghost use Rattle.deck_problems.specs.Kept.{AreRunTables, digits_of};
 
@@ -48,43 +47,9 @@ impl RunTables {
         ensures there { OnOk result (self.new.period.period ≡ period) }
     {
         if self.period.period != period {
-            go_before(&mut self.given, alloc, model, period)?;
+            self.given.advance_to(alloc, model, period - 1)?;
             self.period = PeriodTables::new(alloc, model, &self.tables, &self.given)?;
         }
         Ok(())
     }
-}
-
-// Starts anew before the first period, if the given heads are those of this period or of a later one.
-fn begin_before(given: &mut GivenHeads, alloc: Global, model: &FlowModel, period: u32)
-    requires model { IsModel model.now }
-    requires given { given.old ≡ given_heads model.now given.old.period }
-    requires first { 1 ≤ period }
-    ensures given { given.new ≡ given_heads model.now given.new.period }
-    ensures before { given.new.period < period }
-{
-    if given.period >= period {
-        *given = GivenHeads::new(alloc, model);
-    }
-}
-
-// Moves to the given heads of the period before this one.
-fn go_before(
-    given: &mut GivenHeads,
-    alloc: Global,
-    model: &FlowModel,
-    period: u32,
-) -> Result<(), AllocError>
-    requires model { IsModel model.now }
-    requires given { given.old ≡ given_heads model.now given.old.period }
-    requires first { 1 ≤ period }
-    requires last { period ≤ length model.now.periods }
-    ensures given { given.new ≡ given_heads model.now given.new.period }
-    ensures there { OnOk result (given.new.period ≡ period - 1) }
-{
-    begin_before(given, alloc, model, period);
-    for _ in given.period..period - 1 {
-        *given = given.next(alloc, model)?;
-    }
-    Ok(())
 }

@@ -1,41 +1,27 @@
 -- Each of two models that are alike lies between the two.
-use Rattle.deck_span.proofs.Common.{◌≡◌, ◌≤ℤ◌, ◌*ℤ◌, ◌*◌, ◌⊎◌, [], ◌∷◌, ℤ, pos, negsuc, refl, subst, inl, inr, arith, List, length, AllZip, cases_lt, ints, Dec}
-use Rattle.deck_span.proofs.Common.{number, size, Ratio, Fraction, den, AtMost, Entry, Given, CellId, FlowModel, Period, AllThree, none, next}
-use Rattle.deck_span.proofs.Common.{IsFractionBetween, IsRatioBetween, IsDecBetween, IsSizeBetween, IsEntryBetween, IsGivenAtMost, IsGivenBetween}
-use Rattle.deck_span.proofs.Common.{IsRateBetween, IsPeriodBetween, IsBetween, wells, rivers, drains, generals, AreGivenAlike, ArePeriodsAlike, AreAlike}
-use Rattle.deck_span.proofs.Common.{AreEntriesAlike, AreRatesAlike}
+use Rattle.deck_span.proofs.Common.{◌≡◌, ◌*ℤ◌, ◌*◌, ◌⊎◌, [], ◌∷◌, pos, refl, subst, inl, inr, arith, List, length, AllZip, cases_lt, ints, Dec, number, size}
+use Rattle.deck_span.proofs.Common.{Ratio, Fraction, den, AtMost, Entry, Given, CellId, FlowModel, Period, AllThree, none, next, IsFractionBetween}
+use Rattle.deck_span.proofs.Common.{IsRatioBetween, IsDecBetween, IsSizeBetween, IsEntryBetween, IsGivenAtMost, IsGivenBetween, IsRateBetween, IsPeriodBetween}
+use Rattle.deck_span.proofs.Common.{IsBetween, wells, rivers, drains, generals, AreGivenAlike, ArePeriodsAlike, AreAlike, AreEntriesAlike, AreRatesAlike}
+use Rattle.deck_span.proofs.Common.{LiesBetween, AtMost-refl, by_lt_z}
+use Rattle.deck_span.proofs.Monotone.{least}
 use Rattle.decimal_input.specs.Ratios.{den as ratio_den, AtMost as IsRatioAtMost}
 use Rattle.model_types.specs.declared.entry.Entry.TheVariants.{Well, River, Drain, General}
-
--- Of two numbers one is at most the other.
-
-total : (x y : ℤ) → (x ≤ℤ y) ⊎ (y ≤ℤ x)
-total (pos m) (pos n) = elim (cases_lt m n) [ inl h ↦ inl (omega (arith, ints, h)) | inr h ↦ inr (omega (arith, ints, h)) ]
-total (pos m) (negsuc n) = inr (omega (arith, ints))
-total (negsuc m) (pos n) = inl (omega (arith, ints))
-total (negsuc m) (negsuc n) = elim (cases_lt n m) [ inl h ↦ inl (omega (arith, ints, h)) | inr h ↦ inr (omega (arith, ints, h)) ]
-
-itself : (f : Fraction) → AtMost f f
-itself f = record { at_most = omega (arith, ints) }
-
-ratio_itself : (f : Ratio) → IsRatioAtMost f f
-ratio_itself f = record { cross = omega arith }
 
 -- both ends lie between
 abbrev Both : {X : Type 0} → (X → X → X → Type 0) → X → X → Type 0
 Both R x y = R x x y × R x y y
 
+both_between : {X : Type 0} (R : X → X → Type 0) → ((x : X) → R x x) → (x y : X) → R x y ⊎ R y x → Both (LiesBetween R) x y
+both_between R itself x y (inl h) = (record { lies = inl (itself x, h) }, record { lies = inl (h, itself y) })
+both_between R itself x y (inr h) = (record { lies = inr (h, itself x) }, record { lies = inr (itself y, h) })
+
 fractions : (f g : Fraction) → Both IsFractionBetween f g
-fractions f g = elim (total (f.num *ℤ pos (den g)) (g.num *ℤ pos (den f))) [
-  | inl h ↦ (record { lies = inl (itself f, record { at_most = h }) }, record { lies = inl (record { at_most = h }, itself g) })
-  | inr h ↦ (record { lies = inr (record { at_most = h }, itself f) }, record { lies = inr (itself g, record { at_most = h }) })
-]
+fractions f g =
+    both_between AtMost least f g (by_lt_z (f.num *ℤ pos (den g)) (g.num *ℤ pos (den f)) (λ lt. inl (record { at_most = omega (arith, ints, lt) })) (λ le. inr (record { at_most = le })))
 
 ratios : (f g : Ratio) → Both IsRatioBetween f g
-ratios f g = elim (cases_lt (f.num * ratio_den g) (g.num * ratio_den f)) [
-  | inl h ↦ (record { lies = inl (ratio_itself f, record { cross = omega (arith, h) }) }, record { lies = inl (record { cross = omega (arith, h) }, ratio_itself g) })
-  | inr h ↦ (record { lies = inr (record { cross = omega (arith, h) }, ratio_itself f) }, record { lies = inr (ratio_itself g, record { cross = omega (arith, h) }) })
-]
+ratios f g = both_between IsRatioAtMost AtMost-refl f g (elim (cases_lt (f.num * ratio_den g) (g.num * ratio_den f)) [ inl h ↦ inl (record { cross = omega (arith, h) }) | inr h ↦ inr (record { cross = omega (arith, h) }) ])
 
 decs : (x y : Dec) → Both IsDecBetween x y
 decs x y = fractions (number x) (number y)
@@ -80,13 +66,12 @@ entries (General c s₁ k₁) (General d s₂ k₂) e =
 entries x y e = absurd (cc)
 
 at_most_itself : (x : Given) → IsGivenAtMost x x
-at_most_itself x = record { start = itself (number x.shead); end = itself (number x.ehead) }
+at_most_itself x = record { start = least (number x.shead); end = least (number x.ehead) }
 
 given_heads : (x y : Given) → AreGivenAlike x y → Both IsGivenBetween x y
-given_heads x y h = elim h.heads [
-  | inl k ↦ (record { cell = refl; alike = h.cell; heads = inl (at_most_itself x, k) }, record { cell = h.cell; alike = h.cell; heads = inl (k, at_most_itself y) })
-  | inr k ↦ (record { cell = refl; alike = h.cell; heads = inr (k, at_most_itself x) }, record { cell = h.cell; alike = h.cell; heads = inr (at_most_itself y, k) })
-]
+given_heads x y h =
+    let (first, second) = both_between IsGivenAtMost at_most_itself x y h.heads in
+    (record { cell = refl; alike = h.cell; heads = first }, record { cell = h.cell; alike = h.cell; heads = second })
 
 rates : (x y : Dec) → AreRatesAlike x y → Both IsRateBetween x y
 rates x y e = (record { rate = (sizes x y).0; idle = refl; alike = e }, record { rate = (sizes x y).1; idle = e; alike = e })

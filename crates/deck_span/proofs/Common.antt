@@ -1,11 +1,11 @@
 -- Names that several proofs of this crate cite, of the crates below and of its own definitions, passed on from one place. Declares nothing.
-pub use Rattle.std.proofs.Common.{All, Bool, List, None, Option, Some, [], ap, arith, cond, false, inl, inr, length, map, neg_ℤ, negsuc, pos, refl, reverse}
-pub use Rattle.std.proofs.Common.{subst, suc, sym, take, true, zero, ℕ, ℤ, ◌*ℤ◌, ◌*◌, ◌++◌, ◌+ℤ◌, ◌+◌, ◌-◌, ◌<◌, ◌^◌, ◌∙◌, ◌∷◌, ◌≡◌, ◌≤ℤ◌, ◌≤◌, ◌⊎◌}
+pub use Rattle.std.proofs.Common.{All, Bool, List, None, Option, Some, [], ap, arith, cond, false, inl, inr, length, map, neg_ℤ, pos, refl, reverse, subst, suc}
+pub use Rattle.std.proofs.Common.{sym, take, true, zero, ℕ, ℤ, ◌*ℤ◌, ◌*◌, ◌++◌, ◌+ℤ◌, ◌+◌, ◌-◌, ◌<◌, ◌^◌, ◌∙◌, ◌∷◌, ◌≡◌, ◌≤ℤ◌, ◌≤◌, ◌⊎◌}
 pub use Rattle.std.proofs.lemmas.Bool.{and_parts, cases_lt}
-pub use Rattle.std.proofs.lemmas.Int.{clamps, ints}
+pub use Rattle.std.proofs.lemmas.Int.{by_lt_z, clamps, ints}
 pub use Rattle.std.proofs.lemmas.List.{get_or_default, reverse-append}
 pub use Rattle.std.specs.List.{AllZip, cons_option, filter, filter_map, find, flat_map, range_with_len}
-pub use Rattle.std.specs.Prelude.{int_lt, is_some, not, unsigned_abs, ◌&&◌, ◌==◌, ◌||◌}
+pub use Rattle.std.specs.Prelude.{int_lt, is_some, max, min, negsuc, not, unsigned_abs, ◌&&◌, ◌==◌, ◌||◌}
 pub use Rattle.cell_balance.proofs.Totals.{add_mul, le_trans_z}
 pub use Rattle.cell_balance.specs.Steps.{ExactCell, ExactDrain, ExactEvap, ExactFixed, ExactFlow, ExactLink, ExactRiver, HasEqualEnds, HasLinkBack, cell_at}
 pub use Rattle.decimal_input.proofs.Differences.{as_diff, diffs, same_diff}
@@ -17,9 +17,10 @@ pub use Rattle.decimal_input.specs.Ratios.{Ratio, over}
 pub use Rattle.decimal_input.specs.declared.dec.Dec.{Dec}
 pub use Rattle.deck_span.specs.Alike.{AreAlike, AreEntriesAlike, AreGivenAlike, ArePeriodsAlike, AreRatesAlike}
 pub use Rattle.deck_span.specs.Models.{IsBetween, IsDecBetween, IsEntryBetween, IsFractionBetween, IsGivenAtMost, IsGivenBetween, IsPeriodBetween}
-pub use Rattle.deck_span.specs.Models.{IsRateBetween, IsRatioBetween, IsSizeBetween, frame, period_frame}
+pub use Rattle.deck_span.specs.Models.{IsRateBetween, IsRatioBetween, IsSizeBetween, LiesBetween, frame, period_frame}
 pub use Rattle.deck_span.specs.Models.IsEntryBetween.{drains, generals, rivers, wells}
 pub use Rattle.deck_span.specs.Steps.{IsCellBetween, IsDrainBetween, IsEvapBetween, IsFixedBetween, IsFlowBetween, IsRiverBetween, IsStepBetween}
+pub use Rattle.flow_equations.specs.ExactStep.{exact_cell, exact_drain, exact_evap, exact_fixed, exact_flow, exact_link, exact_river, exact_step}
 pub use Rattle.model_types.specs.Conductances.{conductance, one}
 unfoldable pub use Rattle.model_types.specs.Conductances.{column_conductance, row_conductance, vertical_conductance, vertical_half}
 pub use Rattle.model_types.specs.Faces.{cell_count, faces, place_in_layer, through}
@@ -40,5 +41,5 @@ pub use Rattle.model_types.specs.declared.grid.CellId.{CellId}
 pub use Rattle.model_types.specs.declared.model.FlowModel.{FlowModel}
 pub use Rattle.model_types.specs.declared.period.Period.{Period}
 pub use Rattle.problem_hull.proofs.Threes.{three_append, three_at, three_lengths}
-pub use Rattle.problem_hull.specs.Hulls.{AllThree, IsCellHull, IsDrainHull, IsEvapHull, IsFixedHull, IsFlowHull, IsHull, IsHullPair, IsHullSize, IsRiverHull}
+pub use Rattle.problem_hull.specs.Hulls.{AllThree, IsCellHull, IsHull, IsHullOf, IsHullPair, drain_hull, evap_hull, fixed_hull, flow_hull, river_hull}
 pub use Rattle.problem_hull.specs.Hulls.AllThree.{next, none}

@@ -1,12 +1,13 @@
 -- A given head lies between those of the other two decks at each step.
-use Rattle.deck_span.proofs.Common.{◌≡◌, ℕ, zero, suc, ◌+◌, ◌*◌, ◌-◌, ◌≤◌, ◌⊎◌, inl, inr, arith, sym, ap, ◌∙◌, subst, Bool, true, false, cond, ℤ, pos, neg_ℤ}
-use Rattle.deck_span.proofs.Common.{◌+ℤ◌, ◌*ℤ◌, ◌≤ℤ◌, ◌==◌, ◌||◌, number, Ratio, Fraction, den, AtMost, signed, negated, plus, mul_mono_right, diffs, as_diff}
-use Rattle.deck_span.proofs.Common.{same_diff, AtMost-refl, num_plus, den_plus, Period, Given, one, power, geometric, multiplier, passed, between_heads}
-use Rattle.deck_span.proofs.Common.{IsFractionBetween, IsGivenAtMost, IsGivenBetween, AtMost-trans, add_mul}
+use Rattle.deck_span.proofs.Common.{◌≡◌, ℕ, zero, suc, ◌+◌, ◌*◌, ◌-◌, ◌≤◌, arith, sym, ap, ◌∙◌, subst, Bool, true, false, cond, ℤ, pos, neg_ℤ, ◌+ℤ◌, ◌*ℤ◌, ◌≤ℤ◌}
+use Rattle.deck_span.proofs.Common.{◌==◌, ◌||◌, number, Ratio, Fraction, den, AtMost, signed, negated, plus, mul_mono_right, diffs, as_diff, same_diff}
+use Rattle.deck_span.proofs.Common.{AtMost-refl, num_plus, den_plus, Period, Given, one, power, geometric, multiplier, passed, between_heads, IsFractionBetween}
+use Rattle.deck_span.proofs.Common.{IsGivenAtMost, IsGivenBetween, AtMost-trans, add_mul}
 use Rattle.decimal_input.specs.Ratios.{den as size_den, AtMost as IsRatioAtMost, plus as size_plus, over as size_over, ratio as size_ratio}
 use Rattle.decimal_input.specs.Fractions.{times}
 use Rattle.step_problem.proofs.Ring.{mul_assoc}
 use Rattle.decimal_input.proofs.Integers.{le-add}
+use Rattle.deck_span.proofs.Monotone.{between_image}
 
 -- the head over the denominators of its ends: a / x at the start, b / y at the end, u of w + u passed
 top_is : (a b x y w u : ℤ) → a *ℤ ((y *ℤ x) *ℤ (w +ℤ u)) +ℤ ((b *ℤ x +ℤ neg_ℤ a *ℤ y) *ℤ u) *ℤ x ≡ a *ℤ (w *ℤ (y *ℤ x)) +ℤ b *ℤ (u *ℤ (x *ℤ x))
@@ -67,15 +68,7 @@ module _ (F : Ratio) (part : F.num ≤ size_den F) where
   }
 
   pub heads_between : (x y z : Given) → IsGivenBetween x y z → IsFractionBetween (between_heads x F) (between_heads y F) (between_heads z F)
-  heads_between x y z h = record { lies = by h.heads }
-    where
-      each : (a b : Given) → IsGivenAtMost a b → AtMost (between_heads a F) (between_heads b F)
-      each a b k = keeps (number a.shead) (number a.ehead) (number b.shead) (number b.ehead) k.start k.end
-
-      by : ((IsGivenAtMost x y × IsGivenAtMost y z) ⊎ (IsGivenAtMost z y × IsGivenAtMost y x)) →
-          ((AtMost (between_heads x F) (between_heads y F) × AtMost (between_heads y F) (between_heads z F)) ⊎ (AtMost (between_heads z F) (between_heads y F) × AtMost (between_heads y F) (between_heads x F)))
-      by (inl o) = inl (each x y o.0, each y z o.1)
-      by (inr o) = inr (each z y o.0, each y x o.1)
+  heads_between x y z h = between_image IsGivenAtMost AtMost (λ a. between_heads a F) (λ a b k. keeps (number a.shead) (number a.ehead) (number b.shead) (number b.ehead) k.start k.end) x y z h.heads
 
 -- the part of a period that has passed is at most 1
 

@@ -1,9 +1,10 @@
 -- A number between two enclosed ones lies between the outer bounds.
-use Rattle.deck_span.proofs.Common.{ℕ, ◌*◌, ◌^◌, ◌≤◌, ◌<◌, ◌⊎◌, inl, inr, arith, ℤ, pos, ◌*ℤ◌, ◌≤ℤ◌, ints, clamps, Ratio, Fraction, den, AtMost, mul_mono_right}
-use Rattle.deck_span.proofs.Common.{swap, cancel_right, signed, IsFractionBetween, IsRatioBetween, IsHullPair, IsHullSize, le_trans_z}
+use Rattle.deck_span.proofs.Common.{◌≡◌, ℕ, ◌*◌, ◌^◌, ◌≤◌, ◌<◌, ◌⊎◌, inl, inr, arith, ℤ, pos, ◌*ℤ◌, ◌≤ℤ◌, ints, clamps, Ratio, Fraction, den, AtMost}
+use Rattle.deck_span.proofs.Common.{mul_mono_right, swap, cancel_right, signed, IsFractionBetween, IsRatioBetween, le_trans_z, min, max, IsHullPair}
 use Rattle.std.specs.Int.{int_min, int_max}
 use Rattle.decimal_input.specs.Ratios.{AtMost as IsRatioAtMost}
 use Rattle.decimal_input.specs.Wholes.{Encloses, EnclosesSigned}
+use Rattle.deck_span.proofs.Monotone.{between_image}
 
 -- lo ≤ n / d, n / d ≤ k / e (all over a unit S) give lo ≤ k / e
 low_cross : (lo n k : ℤ) (d e S : ℕ) → 0 < d → (lo *ℤ pos d) ≤ℤ (n *ℤ pos S) → (n *ℤ pos e) ≤ℤ (k *ℤ pos d) → (lo *ℤ pos e) ≤ℤ (k *ℤ pos S)
@@ -21,9 +22,8 @@ lower_down lo l e z h p = le_trans_z _ _ _ (mul_mono_right e _ _ h) p
 upper_up : (hi u : ℤ) (e : ℕ) (z : ℤ) → u ≤ℤ hi → z ≤ℤ (u *ℤ pos e) → z ≤ℤ (hi *ℤ pos e)
 upper_up hi u e z h p = le_trans_z _ _ _ p (mul_mono_right e _ _ h)
 
-pub hull_of_numbers : (a b c d lo hi : ℤ) (s : ℕ) (f g h : Fraction) → IsHullPair a b c d lo hi → EnclosesSigned a b s f → EnclosesSigned c d s h → IsFractionBetween f g h → EnclosesSigned lo hi s g
-hull_of_numbers a b c d lo hi s f g h is p q m =
-    rw (is.low, is.high) (by_order m.lies)
+pub numbers_enclose : {a b c d : ℤ} (s : ℕ) (f g h : Fraction) → EnclosesSigned a b s f → EnclosesSigned c d s h → IsFractionBetween f g h → EnclosesSigned (int_min a c) (int_max b d) s g
+numbers_enclose {a} {b} {c} {d} s f g h p q m = by_order m.lies
   where
     up : (x y : ℤ) (u : Fraction) → EnclosesSigned x y s u → AtMost u g → (x *ℤ pos (den g)) ≤ℤ (g.num *ℤ pos (10 ^ s))
     up x y u e o = low_cross x u.num g.num (den u) (den g) (10 ^ s) (omega arith) e.lower o.at_most
@@ -41,20 +41,21 @@ hull_of_numbers a b c d lo hi s f g h is p q m =
       upper = upper_up (int_max b d) b (den g) _ (omega (arith, ints, clamps)) (down a b f p o.1);
     }
 
+pub hull_of_numbers : (a b c d lo hi : ℤ) (s : ℕ) (f g h : Fraction) → IsHullPair a b c d lo hi → EnclosesSigned a b s f → EnclosesSigned c d s h → IsFractionBetween f g h → EnclosesSigned lo hi s g
+hull_of_numbers a b c d lo hi s f g h is p q m = rw (is.low, is.high) (numbers_enclose s f g h p q m)
+
 signed_at_most : (f g : Ratio) → IsRatioAtMost f g → AtMost (signed f) (signed g)
 signed_at_most f g h = record { at_most = omega (arith, ints, h.cross) }
 
 signed_between : (f g h : Ratio) → IsRatioBetween f g h → IsFractionBetween (signed f) (signed g) (signed h)
-signed_between f g h m = record { lies = by m.lies }
-  where
-    by : ((IsRatioAtMost f g × IsRatioAtMost g h) ⊎ (IsRatioAtMost h g × IsRatioAtMost g f)) → (AtMost (signed f) (signed g) × AtMost (signed g) (signed h)) ⊎ (AtMost (signed h) (signed g) × AtMost (signed g) (signed f))
-    by (inl o) = inl (signed_at_most f g o.0, signed_at_most g h o.1)
-    by (inr o) = inr (signed_at_most h g o.0, signed_at_most g f o.1)
+signed_between f g h = between_image IsRatioAtMost AtMost signed signed_at_most f g h
 
 -- the same of numbers that aren't negative
-pub hull_of_sizes : (a b c d lo hi : ℕ) (s : ℕ) (f g h : Ratio) → IsHullSize a b c d lo hi → Encloses a b s f → Encloses c d s h → IsRatioBetween f g h → Encloses lo hi s g
-hull_of_sizes a b c d lo hi s f g h is p q m =
+pub sizes_enclose : {a b c d : ℕ} (s : ℕ) (f g h : Ratio) → Encloses a b s f → Encloses c d s h → IsRatioBetween f g h → Encloses (min a c) (max b d) s g
+sizes_enclose {a} {b} {c} {d} s f g h p q m =
     let first : EnclosesSigned (pos a) (pos b) s (signed f) = record { lower = omega (arith, ints, p.lower); upper = omega (arith, ints, p.upper) } in
     let second : EnclosesSigned (pos c) (pos d) s (signed h) = record { lower = omega (arith, ints, q.lower); upper = omega (arith, ints, q.upper) } in
-    let e = hull_of_numbers (pos a) (pos b) (pos c) (pos d) (pos lo) (pos hi) s (signed f) (signed g) (signed h) record { low = omega (arith, ints, clamps, is.low); high = omega (arith, ints, clamps, is.high) } first second (signed_between f g h m) in
+    let low : pos (min a c) ≡ int_min (pos a) (pos c) = omega (arith, ints, clamps) in
+    let high : pos (max b d) ≡ int_max (pos b) (pos d) = omega (arith, ints, clamps) in
+    let e : EnclosesSigned (pos (min a c)) (pos (max b d)) s (signed g) = rw (low, high) (numbers_enclose s (signed f) (signed g) (signed h) first second (signed_between f g h m)) in
     record { lower = omega (arith, ints, e.lower); upper = omega (arith, ints, e.upper) }

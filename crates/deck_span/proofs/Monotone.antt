@@ -1,11 +1,11 @@
 -- Numbers that are made from numbers between two others.
-use Rattle.deck_span.proofs.Common.{◌≡◌, ℕ, suc, ◌+◌, ◌*◌, ◌<◌, ◌⊎◌, inl, inr, arith, refl, ℤ, pos, ◌+ℤ◌, ◌*ℤ◌, ◌≤ℤ◌, ints, Ratio, Fraction, den, AtMost}
-use Rattle.deck_span.proofs.Common.{signed, plus, mul_mono_right, diffs, as_diff, same_diff, AtMost-refl, times-AtMost, over-AtMost, IsFractionBetween}
-use Rattle.deck_span.proofs.Common.{IsRatioBetween}
+use Rattle.deck_span.proofs.Common.{◌≡◌, ℕ, suc, ◌+◌, ◌*◌, ◌<◌, inl, inr, arith, refl, ℤ, pos, ◌+ℤ◌, ◌*ℤ◌, ◌≤ℤ◌, ints, Ratio, Fraction, den, AtMost, signed}
+use Rattle.deck_span.proofs.Common.{plus, mul_mono_right, diffs, as_diff, same_diff, AtMost-refl, times-AtMost, over-AtMost, IsFractionBetween, IsRatioBetween}
+use Rattle.deck_span.proofs.Common.{LiesBetween}
 use Rattle.decimal_input.specs.Ratios.{AtMost as IsRatioAtMost, times as size_times, over as size_over}
 use Rattle.decimal_input.specs.Fractions.{times}
 
-least : (f : Fraction) → AtMost f f
+pub least : (f : Fraction) → AtMost f f
 least f = record { at_most = omega (arith, ints) }
 
 pub number_itself : (f : Fraction) → IsFractionBetween f f f
@@ -15,19 +15,8 @@ pub size_itself : (f : Ratio) → IsRatioBetween f f f
 size_itself f = record { lies = inl (AtMost-refl f, AtMost-refl f) }
 
 -- what keeps the order keeps what lies between
-pub number_image : (u : Fraction → Fraction) → ((f g : Fraction) → AtMost f g → AtMost (u f) (u g)) → (f g h : Fraction) → IsFractionBetween f g h → IsFractionBetween (u f) (u g) (u h)
-number_image u keeps f g h b = record { lies = by b.lies }
-  where
-    by : ((AtMost f g × AtMost g h) ⊎ (AtMost h g × AtMost g f)) → ((AtMost (u f) (u g) × AtMost (u g) (u h)) ⊎ (AtMost (u h) (u g) × AtMost (u g) (u f)))
-    by (inl o) = inl (keeps f g o.0, keeps g h o.1)
-    by (inr o) = inr (keeps h g o.0, keeps g f o.1)
-
-pub size_image : (u : Ratio → Ratio) → ((f g : Ratio) → IsRatioAtMost f g → IsRatioAtMost (u f) (u g)) → (f g h : Ratio) → IsRatioBetween f g h → IsRatioBetween (u f) (u g) (u h)
-size_image u keeps f g h b = record { lies = by b.lies }
-  where
-    by : ((IsRatioAtMost f g × IsRatioAtMost g h) ⊎ (IsRatioAtMost h g × IsRatioAtMost g f)) → ((IsRatioAtMost (u f) (u g) × IsRatioAtMost (u g) (u h)) ⊎ (IsRatioAtMost (u h) (u g) × IsRatioAtMost (u g) (u f)))
-    by (inl o) = inl (keeps f g o.0, keeps g h o.1)
-    by (inr o) = inr (keeps h g o.0, keeps g f o.1)
+pub between_image : {X Y : Type 0} (R : X → X → Type 0) (S : Y → Y → Type 0) (u : X → Y) → ((f g : X) → R f g → S (u f) (u g)) → (f g h : X) → LiesBetween R f g h → LiesBetween S (u f) (u g) (u h)
+between_image R S u keeps f g h b = record { lies = elim b.lies [ inl o ↦ inl (keeps f g o.0, keeps g h o.1) | inr o ↦ inr (keeps h g o.0, keeps g f o.1) ] }
 
 product : (a b : ℕ) → pos (a * b) ≡ pos a *ℤ pos b
 product a b = omega (arith, ints)

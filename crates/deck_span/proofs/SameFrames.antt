@@ -78,7 +78,7 @@ same_order x y z h k = record { start = AtMost-trans h.start k.start; end = AtMo
 same_given : (x y z : Given) → IsGivenBetween x y z → AreGivenAlike x z
 same_given x y z h = record {
   cell = h.alike;
-  heads = elim h.heads [ inl o ↦ inl (same_order x y z o.0 o.1) | inr o ↦ inr (same_order z y x o.0 o.1) ];
+  heads = elim h.heads.lies [ inl o ↦ inl (same_order x y z o.0 o.1) | inr o ↦ inr (same_order z y x o.0 o.1) ];
 }
 
 same_period : (p m q : Period) → IsPeriodBetween p m q → ArePeriodsAlike p q

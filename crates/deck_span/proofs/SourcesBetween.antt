@@ -6,7 +6,7 @@ use Rattle.deck_span.proofs.Common.{is_chosen, EvapSource, recharge_at, evap_sou
 use Rattle.deck_span.proofs.Common.{as_well, as_river, as_drain, as_general, entries_of, local_entries, variable_faces, constant_faces, storage_at}
 use Rattle.deck_span.proofs.Common.{flow_sources, fixed_sources, river_sources, drain_sources, evap_sources, AllThree, none, IsDecBetween, IsSizeBetween}
 use Rattle.deck_span.proofs.Common.{IsEntryBetween, IsGivenBetween, IsRateBetween, IsPeriodBetween, wells, rivers, drains, generals, three_at, three_append}
-use Rattle.deck_span.proofs.Common.{faces, through}
+use Rattle.deck_span.proofs.Common.{faces, through, IsRiverBetween, IsDrainBetween, exact_river, exact_drain}
 use Rattle.model_types.specs.Sources.FixedSource.{ToConstant, ToGeneral, FromStorage}
 use Rattle.model_types.specs.Sources.FlowSource.{Pumped, Received}
 use Rattle.deck_span.proofs.ThreeLists.{OptionThree, option_list, option_all_or_none, three_map, three_images, three_take, three_flat_map, three_reverse, three_filter, three_find, three_filter_map}
@@ -23,14 +23,11 @@ pub data IsFixedSourceBetween : FixedSource → FixedSource → FixedSource → 
   general : {h₁ h₂ h₃ k₁ k₂ k₃ : Dec} → IsDecBetween h₁ h₂ h₃ → IsSizeBetween k₁ k₂ k₃ → IsFixedSourceBetween (ToGeneral h₁ k₁) (ToGeneral h₂ k₂) (ToGeneral h₃ k₃)
   stored : IsFixedSourceBetween FromStorage FromStorage FromStorage
 
-pub record IsRiverSourceBetween (a m b : RiverSource) : Type 0 where
-  pub stage : IsDecBetween a.stage m.stage b.stage
-  pub cond : IsSizeBetween a.cond m.cond b.cond
-  pub bottom : IsDecBetween a.bottom m.bottom b.bottom
+abbrev pub IsRiverSourceBetween : RiverSource → RiverSource → RiverSource → Type 0
+IsRiverSourceBetween a m b = IsRiverBetween (exact_river a) (exact_river m) (exact_river b)
 
-pub record IsDrainSourceBetween (a m b : DrainSource) : Type 0 where
-  pub elevation : IsDecBetween a.elevation m.elevation b.elevation
-  pub cond : IsSizeBetween a.cond m.cond b.cond
+abbrev pub IsDrainSourceBetween : DrainSource → DrainSource → DrainSource → Type 0
+IsDrainSourceBetween a m b = IsDrainBetween (exact_drain a) (exact_drain m) (exact_drain b)
 
 pub record IsEvapSourceBetween (a m b : EvapSource) : Type 0 where
   pub rate : IsSizeBetween a.rate m.rate b.rate
@@ -86,11 +83,11 @@ by_well x y z (wells h) = something (pumped h)
 by_well x y z h = nothing
 
 by_river : (x y z : Entry) → IsEntryBetween x y z → OptionThree IsRiverSourceBetween (as_river x) (as_river y) (as_river z)
-by_river x y z (rivers h k r) = something (record { stage = h; cond = k; bottom = r })
+by_river x y z (rivers h k r) = something (record { conductance = k; stage = h; bottom = r })
 by_river x y z h = nothing
 
 by_drain : (x y z : Entry) → IsEntryBetween x y z → OptionThree IsDrainSourceBetween (as_drain x) (as_drain y) (as_drain z)
-by_drain x y z (drains h k) = something (record { elevation = h; cond = k })
+by_drain x y z (drains h k) = something (record { conductance = k; elevation = h })
 by_drain x y z h = nothing
 
 by_general : (x y z : Entry) → IsEntryBetween x y z → OptionThree IsFixedSourceBetween (as_general x) (as_general y) (as_general z)

@@ -1,26 +1,26 @@
 -- Each exact step of a model between two others lies between theirs.
-use Rattle.deck_span.proofs.Common.{◌≡◌, ℕ, zero, suc, ◌-◌, ◌≤◌, ◌<◌, inl, inr, refl, sym, ap, ◌∙◌, subst, arith, true, Option, List, [], ◌∷◌, length, map, All}
-use Rattle.deck_span.proofs.Common.{int_lt, not, Dec, number, size, Ratio, over, Fraction, signed, negated, plus, ExactEvap, FlowModel, Period, Given, Face}
-use Rattle.deck_span.proofs.Common.{cell_count, no_number, is_active, area, int_at, conductance, row_conductance, column_conductance, vertical_conductance}
-use Rattle.deck_span.proofs.Common.{vertical_half, period_at, passed, is_variable, variable_below, variable_cells, start_head, kept_head, head_or_kept}
-use Rattle.deck_span.proofs.Common.{constant_head, between_heads, EvapSource, FixedSource, FlowSource, RiverSource, DrainSource, variable_faces, evap_sources}
-use Rattle.deck_span.proofs.Common.{AllThree, get_or_default, ◌==◌, unsigned_abs, none, next, IsFractionBetween, IsRatioBetween, IsDecBetween, IsFlowBetween}
-use Rattle.deck_span.proofs.Common.{IsFixedBetween, IsRiverBetween, IsDrainBetween, IsEvapBetween, IsCellBetween, IsStepBetween, IsGivenBetween}
-use Rattle.deck_span.proofs.Common.{IsPeriodBetween, IsBetween, frame, period_frame, three_at, and_parts}
-use Rattle.std.specs.Prelude.{pos, negsuc, ℤ}
-use Rattle.decimal_input.specs.Ratios.{times as size_times}
+use Rattle.deck_span.proofs.Common.{◌≡◌, ℕ, zero, suc, ◌-◌, ◌≤◌, ◌<◌, refl, sym, ap, ◌∙◌, subst, arith, true, Option, List, [], ◌∷◌, length, map, All, int_lt}
+use Rattle.deck_span.proofs.Common.{not, Dec, number, size, Ratio, over, Fraction, signed, negated, plus, ExactEvap, FlowModel, Period, Given, Face, cell_count}
+use Rattle.deck_span.proofs.Common.{no_number, is_active, area, int_at, conductance, row_conductance, column_conductance, vertical_conductance, vertical_half}
+use Rattle.deck_span.proofs.Common.{period_at, passed, is_variable, variable_below, variable_cells, start_head, kept_head, head_or_kept, constant_head}
+use Rattle.deck_span.proofs.Common.{between_heads, EvapSource, FixedSource, FlowSource, variable_faces, evap_sources, AllThree, get_or_default, ◌==◌}
+use Rattle.deck_span.proofs.Common.{unsigned_abs, none, next, IsFractionBetween, IsRatioBetween, IsDecBetween, IsFlowBetween, IsFixedBetween, IsRiverBetween}
+use Rattle.deck_span.proofs.Common.{IsDrainBetween, IsEvapBetween, IsCellBetween, IsStepBetween, IsGivenBetween, IsPeriodBetween, IsBetween, IsGivenAtMost}
+use Rattle.deck_span.proofs.Common.{AtMost, frame, period_frame, three_at, and_parts, exact_river, exact_drain, exact_link, exact_fixed, exact_flow, exact_evap}
+use Rattle.deck_span.proofs.Common.{exact_cell, exact_step, negsuc}
+use Rattle.std.specs.Prelude.{pos, ℤ}
+use Rattle.decimal_input.specs.Ratios.{times as size_times, AtMost as IsRatioAtMost}
 use Rattle.decimal_input.specs.Fractions.{times}
 use Rattle.model_types.specs.declared.face.Axis.{Axis}
 use Rattle.model_types.specs.declared.face.Axis.TheVariants.{Row, Column, Vertical}
 use Rattle.model_types.specs.Storage.{storage}
 use Rattle.model_types.specs.Valid.{IsModel, IsEvapValid}
 use Rattle.model_types.proofs.Ranks.{passing, is_at}
-use Rattle.flow_equations.specs.ExactStep.{exact_river, exact_drain, exact_link, exact_fixed, exact_flow, exact_evap, exact_cell, exact_step}
 use Rattle.std.proofs.lemmas.List.Elements.{All-head, All-tail}
 use Rattle.std.proofs.lemmas.Bool.Decides.{nat_tests}
 use Rattle.deck_span.proofs.ThreeLists.{OptionThree, three_map}
 use Rattle.deck_span.proofs.ThreeLists.OptionThree.{nothing, something}
-use Rattle.deck_span.proofs.Monotone.{number_itself, size_itself, number_image, size_image, times_keeps, plus_keeps, rate_keeps}
+use Rattle.deck_span.proofs.Monotone.{number_itself, size_itself, between_image, times_keeps, plus_keeps, rate_keeps}
 use Rattle.deck_span.proofs.GivenHeadsBetween.{heads_between, part_of}
 use Rattle.deck_span.proofs.SourcesBetween.{IsFlowSourceBetween, IsFixedSourceBetween, IsRiverSourceBetween, IsDrainSourceBetween, IsEvapSourceBetween, framed, no_dec, given_three, last_three, at_period, cells_are, faces_are, three_flows, three_fixed, three_rivers, three_drains, three_evaps}
 use Rattle.deck_span.proofs.SourcesBetween.IsFlowSourceBetween.{pumped, received}
@@ -79,7 +79,7 @@ module _ (f : FlowModel) (s₁ s₂ s₃ : List Dec) (ps qs rs : List Period) (s
   started c = three_at IsDecBetween s₁ s₂ s₃ c no_number no_number no_number starts no_dec
 
   ended : (x y z : Given) → IsGivenBetween x y z → IsFractionBetween (number x.ehead) (number y.ehead) (number z.ehead)
-  ended x y z h = record { lies = elim h.heads [ inl k ↦ inl (k.0.end, k.1.end) | inr k ↦ inr (k.0.end, k.1.end) ] }
+  ended x y z h = between_image IsGivenAtMost AtMost (λ a. number a.ehead) (λ a b k. k.end) x y z h.heads
 
   kept : (c : ℕ) (o q r : Option Given) → OptionThree IsGivenBetween o q r → IsFractionBetween (kept_head A o c) (kept_head M q c) (kept_head B r c)
   kept c o q r nothing = started c
@@ -102,7 +102,7 @@ module _ (f : FlowModel) (s₁ s₂ s₃ : List Dec) (ps qs rs : List Period) (s
   flow c x y z (pumped h) = record { kind = refl; flow = h }
   flow c x y z (received {q₁ = a} {q₂ = m} {q₃ = b} h) = record {
     kind = refl;
-    flow = rw (area_is f s₁ ps c, area_is f s₂ qs c, area_is f s₃ rs c) (number_image (λ r. times r (signed (area f c))) (times_keeps (area f c)) (number a) (number m) (number b) h);
+    flow = rw (area_is f s₁ ps c, area_is f s₂ qs c, area_is f s₃ rs c) (between_image AtMost AtMost (λ r. times r (signed (area f c))) (times_keeps (area f c)) (number a) (number m) (number b) h);
   }
 
   through_face : (x : Face) → IsRatioBetween (conductance A x.axis x.first) (conductance M x.axis x.first) (conductance B x.axis x.first)
@@ -118,18 +118,12 @@ module _ (f : FlowModel) (s₁ s₂ s₃ : List Dec) (ps qs rs : List Period) (s
     head = number_itself (old c);
   }
 
-  river : (x y z : RiverSource) → IsRiverSourceBetween x y z → IsRiverBetween (exact_river x) (exact_river y) (exact_river z)
-  river x y z h = record { conductance = h.cond; stage = h.stage; bottom = h.bottom }
-
-  drain : (x y z : DrainSource) → IsDrainSourceBetween x y z → IsDrainBetween (exact_drain x) (exact_drain y) (exact_drain z)
-  drain x y z h = record { conductance = h.cond; elevation = h.elevation }
-
   evap : (c : ℕ) (x y z : EvapSource) → IsEvapSourceBetween x y z → 0 < (size x.depth).num → IsEvapBetween (exact_evap A p n old c x) (exact_evap M p n old c y) (exact_evap B p n old c z)
   evap c x y z h some = record {
     conductance = rw (area_is f s₁ ps c, area_is f s₂ qs c, area_is f s₃ rs c, h.depth, h.ends)
-        (size_image (λ r. over (size_times r (area f c)) (size x.depth)) (rate_keeps (area f c) (size x.depth) some) (size x.rate) (size y.rate) (size z.rate) h.rate);
+        (between_image IsRatioAtMost IsRatioAtMost (λ r. over (size_times r (area f c)) (size x.depth)) (rate_keeps (area f c) (size x.depth) some) (size x.rate) (size y.rate) (size z.rate) h.rate);
     surface = h.surface;
-    extinction = rw (h.depth, h.ends) (number_image (λ r. plus r (negated (number x.depth))) (plus_keeps (negated (number x.depth))) (number x.surface) (number y.surface) (number z.surface) h.surface);
+    extinction = rw (h.depth, h.ends) (between_image AtMost AtMost (λ r. plus r (negated (number x.depth))) (plus_keeps (negated (number x.depth))) (number x.surface) (number y.surface) (number z.surface) h.surface);
   }
 
   link : (x : Face) → (exact_link M p n old x ≡ exact_link A p n old x) × (exact_link B p n old x ≡ exact_link A p n old x)
@@ -151,8 +145,8 @@ module _ (f : FlowModel) (s₁ s₂ s₃ : List Dec) (ps qs rs : List Period) (s
     flows = three_map IsFlowSourceBetween IsFlowBetween _ _ _ (flow c) _ _ _ (three_flows f s₁ s₂ s₃ ps qs rs periods p c);
     links = (links c).0;
     fixed = three_map IsFixedSourceBetween IsFixedBetween _ _ _ (fixed c) _ _ _ (three_fixed f s₁ s₂ s₃ ps qs rs periods p c);
-    rivers = three_map IsRiverSourceBetween IsRiverBetween exact_river exact_river exact_river river _ _ _ (three_rivers f s₁ s₂ s₃ ps qs rs periods p c);
-    drains = three_map IsDrainSourceBetween IsDrainBetween exact_drain exact_drain exact_drain drain _ _ _ (three_drains f s₁ s₂ s₃ ps qs rs periods p c);
+    rivers = three_map IsRiverSourceBetween IsRiverBetween exact_river exact_river exact_river (λ x y z h. h) _ _ _ (three_rivers f s₁ s₂ s₃ ps qs rs periods p c);
+    drains = three_map IsDrainSourceBetween IsDrainBetween exact_drain exact_drain exact_drain (λ x y z h. h) _ _ _ (three_drains f s₁ s₂ s₃ ps qs rs periods p c);
     evaps = evaps;
   }
 

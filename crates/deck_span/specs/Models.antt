@@ -20,13 +20,16 @@ use Rattle.model_types.specs.Heads.{start_head}
 use Rattle.flow_equations.specs.Histories.{SolvesAt, heads_of}
 
 -- When a number lies between two others, whichever of these is the greater one.
--- a ≤ m ≤ b, or b ≤ m ≤ a
-pub record IsFractionBetween (a m b : Fraction) : Type 0 where
-  pub lies : (AtMost a m × AtMost m b) ⊎ (AtMost b m × AtMost m a)
+-- a ≤ m ≤ b, or b ≤ m ≤ a, by the order Le
+pub record LiesBetween {X : Type 0} (Le : X → X → Type 0) (a m b : X) : Type 0 where
+  pub lies : (Le a m × Le m b) ⊎ (Le b m × Le m a)
+
+abbrev pub IsFractionBetween : Fraction → Fraction → Fraction → Type 0
+IsFractionBetween = LiesBetween AtMost
 
 -- the same of numbers that aren't negative
-pub record IsRatioBetween (a m b : Ratio) : Type 0 where
-  pub lies : (IsRatioAtMost a m × IsRatioAtMost m b) ⊎ (IsRatioAtMost b m × IsRatioAtMost m a)
+abbrev pub IsRatioBetween : Ratio → Ratio → Ratio → Type 0
+IsRatioBetween = LiesBetween IsRatioAtMost
 
 -- the same of numbers of a file
 abbrev pub IsDecBetween : Dec → Dec → Dec → Type 0
@@ -54,7 +57,7 @@ pub record IsGivenAtMost (a b : Given) : Type 0 where
 pub record IsGivenBetween (a m b : Given) : Type 0 where
   pub cell : m.cell ≡ a.cell
   pub alike : b.cell ≡ a.cell
-  pub heads : (IsGivenAtMost a m × IsGivenAtMost m b) ⊎ (IsGivenAtMost b m × IsGivenAtMost m a)
+  pub heads : LiesBetween IsGivenAtMost a m b
 
 -- rates of EVT: a cell whose rate is 0 has no evapotranspiration
 pub record IsRateBetween (a m b : Dec) : Type 0 where

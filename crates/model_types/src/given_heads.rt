@@ -1,9 +1,10 @@
 // The heads that CHD lists have given so far.
-ghost use Rattle.std.specs.Prelude.{◌≡◌, ◌+◌, ◌<◌, ◌≤◌, All, length, IfOk, ◌==◌, ℕ};
+ghost use Rattle.std.specs.Prelude.{◌≡◌, ◌+◌, ◌<◌, ◌≤◌, All, length, IfOk, OnOk, ◌==◌, ℕ};
 ghost use Rattle.model_types.specs.Faces.{cell_count};
 ghost use Rattle.model_types.specs.Times.{period_at};
 ghost use Rattle.model_types.specs.Heads.{given_heads, kind_of, kinds, is_given};
 ghost use Rattle.model_types.specs.Grids.{HasSize};
+ghost use Rattle.model_types.specs.Valid.{IsModel};
 ghost use Rattle.std.specs.List.{list_any};
 
 use crate::entry::Given;
@@ -57,6 +58,38 @@ impl GivenHeads {
             period: self.period + 1,
             last,
         })
+    }
+
+    /// Moves to the given heads of this period. It starts anew before an earlier one.
+    pub fn advance_to(
+        &mut self,
+        alloc: Global,
+        model: &FlowModel,
+        period: u32,
+    ) -> Result<(), AllocError>
+        requires model { IsModel model.now }
+        requires given { self.old ≡ given_heads model.now self.old.period }
+        requires last { period ≤ length model.now.periods }
+        ensures given { self.new ≡ given_heads model.now self.new.period }
+        ensures there { OnOk result (self.new.period ≡ period) }
+    {
+        self.begin_until(alloc, model, period);
+        for _ in self.period..period {
+            *self = self.next(alloc, model)?;
+        }
+        Ok(())
+    }
+
+    // Starts anew before the first period, if the given heads are those of a later period than this one.
+    fn begin_until(&mut self, alloc: Global, model: &FlowModel, period: u32)
+        requires model { IsModel model.now }
+        requires given { self.old ≡ given_heads model.now self.old.period }
+        ensures given { self.new ≡ given_heads model.now self.new.period }
+        ensures before { self.new.period ≤ period }
+    {
+        if self.period > period {
+            *self = GivenHeads::new(alloc, model);
+        }
     }
 
     /// The kind of a cell in the period.

@@ -1,18 +1,15 @@
 -- A cell without a refusal keeps what a problem asks of a cell alone.
-use Rattle.problem_builder.proofs.Common.{◌≡◌, ℕ, ◌*◌, ◌<◌, ◌≤◌, ◌^◌, inl, inr, true, Some, None, List, sym, subst, arith, All, ◌==◌, list_any}
-use Rattle.problem_builder.proofs.Common.{le_of_mul-le-mul_right, none-some, Ratio, den, Encloses, Bound, Link, Fixed, Drain, Entries, no_bound, lower_at}
-use Rattle.problem_builder.proofs.Common.{upper_at, LinkFits, FixedFits, RiverFits, DrainFits, EvapFits, CellFits, IsHead, Entry, Face, FlowModel, TimeStep}
-use Rattle.problem_builder.proofs.Common.{cell_count, is_active, conductance, IsHeadNumber, IsNotNegative, is_variable, is_constant, FixedSource, DrainSource}
-use Rattle.problem_builder.proofs.Common.{as_river, as_drain, local_entries, variable_faces, fixed_sources, river_sources, drain_sources, evap_sources}
-use Rattle.problem_builder.proofs.Common.{ToConstant, ToGeneral, FromStorage, IsModel, IsEntryValid, IsEvapValid, In, All-In, In-All, filter_map-In, IsFaceOf}
-use Rattle.problem_builder.proofs.Common.{passing_are, end_within, Term, IsCapped, face_term, Thicknesses, IsRiver, IsDrain, IsEvap, IsLink, IsFixed, IsCellOf}
+use Rattle.problem_builder.proofs.Common.{◌≡◌, ℕ, ◌*◌, ◌<◌, ◌≤◌, ◌^◌, inl, inr, true, None, List, sym, subst, arith, All, ◌==◌, list_any}
+use Rattle.problem_builder.proofs.Common.{le_of_mul-le-mul_right, Ratio, den, Encloses, Bound, Link, Fixed, Entries, no_bound, lower_at, upper_at, LinkFits}
+use Rattle.problem_builder.proofs.Common.{FixedFits, CellFits, IsHead, Face, FlowModel, TimeStep, cell_count, is_active, conductance, is_variable, is_constant}
+use Rattle.problem_builder.proofs.Common.{FixedSource, local_entries, variable_faces, fixed_sources, ToConstant, ToGeneral, FromStorage, IsModel, IsEntryValid}
+use Rattle.problem_builder.proofs.Common.{In, All-In, IsFaceOf, passing_are, end_within, Term, IsCapped, face_term, Thicknesses, IsLink, IsFixed, IsCellOf}
 use Rattle.problem_builder.proofs.Common.{AreGridHeads, IsTimeOf, fault_of, or_parts}
-use Rattle.model_types.specs.declared.entry.Entry.TheVariants.{Drain as DrainEntry}
 use Rattle.problem_builder.proofs.ActiveCells.{variable_active, constant_active}
 use Rattle.problem_builder.proofs.Bounds.{BoundsEnclose}
 use Rattle.problem_builder.proofs.FacePairs.{face_range, face_active}
-use Rattle.problem_builder.proofs.Fits.{cond_ordered, head_pair_range, river_valid, river_fits, evap_fits}
-use Rattle.problem_builder.proofs.Members.{fixed_source, some_same}
+use Rattle.problem_builder.proofs.Fits.{cond_ordered, head_pair_range, rivers_fit, drains_fit, evaps_fit}
+use Rattle.problem_builder.proofs.Members.{fixed_source}
 use Rattle.problem_builder.proofs.Sound.{sound, none_passes, positive_unless_zero}
 use Rattle.problem_builder.proofs.ValidEntries.{local_valid}
 use Rattle.problem_builder.proofs.Zipped.{zip_all, left_of}
@@ -24,15 +21,6 @@ enclosed_ordered lo hi s r h = let q : lo * den r ≤ hi * den r = omega (arith,
 pub capped_in_order : (t : Term) (s lo hi : ℕ) (r : Ratio) → IsCapped t s lo hi → (hi < 2 ^ 60 → Encloses lo hi s r) → lo ≤ hi
 capped_in_order t s lo hi r (inl k) h = enclosed_ordered lo hi s r (h k.1)
 capped_in_order t s lo hi r (inr k) h = omega (arith, k.lower, k.upper)
-
-pub drain_valid : (y : Entry) (r : DrainSource) → as_drain y ≡ Some r → IsEntryValid 4194304 y → IsHeadNumber r.elevation × IsNotNegative r.cond
-drain_valid (DrainEntry cell a k) r e h = let P : DrainSource → Type 0 = λ z. IsHeadNumber z.elevation × IsNotNegative z.cond in subst P (some_same e) (h.1, h.2)
-drain_valid y r e h = absurd (none-some r e)
-
-drain_fits : (s : ℕ) (x : Drain) (r : DrainSource) → IsHeadNumber r.elevation → IsDrain s x r → DrainFits x
-drain_fits s x r p k =
-    let a = head_pair_range r.elevation x.elev_lo x.elev_hi p k.elevation in
-    record { ordered = cond_ordered s r.cond x.lo x.hi k.cond; elev_lo = a.0; elev_hi = a.1 }
 
 module _ (m : FlowModel) (w : Thicknesses) (s : ℕ) (at : TimeStep) (old : List Bound) (valid : IsModel m) (time : IsTimeOf m at) (near : BoundsEnclose m w s at) (heads : AreGridHeads m old)
     (e : Entries) (c : ℕ) (lt : c < cell_count m.grid) (v : is_variable m at.period c ≡ true) (is : IsCellOf m w s at old e c) where
@@ -76,15 +64,9 @@ module _ (m : FlowModel) (w : Thicknesses) (s : ℕ) (at : TimeStep) (old : List
             let (g, b) = passing_are m.grid (is_variable m at.period) c f j in
             record { conducts = positive_unless_zero x.lo (none_passes (λ (y : Link). y.lo == 0) e.links small x i); ordered = face_ordered f x.lo x.hi g (variable_active m at.period f.end b) r.conductance });
         fixed = zip_all FixedFits (IsFixed m w s at old c) e.fixed (fixed_sources m at.period c) one_fixed is.fixed;
-        rivers = zip_all RiverFits (IsRiver s) e.rivers (river_sources m at.period c)
-            (λ x r j q. let (y, l, o) = filter_map-In as_river (local_entries m at.period c) r j in
-            let z = river_valid y r o (In-All (IsEntryValid 4194304) (local_entries m at.period c) y entries_fit l) in
-            river_fits s x r z.0 z.2 q) is.rivers;
-        drains = zip_all DrainFits (IsDrain s) e.drains (drain_sources m at.period c)
-            (λ x r j q. let (y, l, o) = filter_map-In as_drain (local_entries m at.period c) r j in
-            drain_fits s x r (drain_valid y r o (In-All (IsEntryValid 4194304) (local_entries m at.period c) y entries_fit l)).0 q) is.drains;
-        evaps = zip_all EvapFits (IsEvap m s c) e.evaps (evap_sources m at.period c)
-            (λ x r j q. evap_fits m s c x r (In-All IsEvapValid (evap_sources m at.period c) r (valid.evaps at.period c lt here) j) q) is.evaps;
+        rivers = rivers_fit m s at.period c valid time.valid e.rivers is.rivers;
+        drains = drains_fit m s at.period c valid time.valid e.drains is.drains;
+        evaps = evaps_fit m s at.period c valid time.valid lt v e.evaps is.evaps;
         conductances = k.conductances;
         flows = k.flows;
       }

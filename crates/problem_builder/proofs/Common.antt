@@ -3,11 +3,11 @@ pub use Rattle.std.proofs.Common.{All, Bool, FitsSigned, List, None, Option, Som
 pub use Rattle.std.proofs.Common.{pos, refl, replicate, rules, set, slice_index_or, subst, suc, sym, take, true, zero, ℕ, ℤ, ◌%◌, ◌*ℤ◌, ◌*◌, ◌++◌, ◌+ℤ◌, ◌+◌}
 pub use Rattle.std.proofs.Common.{◌-ℤ◌, ◌-◌, ◌/◌, ◌<◌, ◌^◌, ◌∙◌, ◌∷◌, ◌≡◌, ◌≤ℤ◌, ◌≤◌, ◌⊎◌}
 pub use Rattle.std.proofs.Math.Nat.{le_of_mul-le-mul_right, mul-le-mul_right}
-pub use Rattle.std.proofs.lemmas.Bool.{and_parts, cases_Bool, cases_eq, cases_lt, cases_order, cond-true, eq-eqb, false≢true, leb-false, ne_eqb, or_parts}
+pub use Rattle.std.proofs.lemmas.Bool.{and_parts, cases_Bool, cases_eq, cases_order, cond-true, eq-eqb, false≢true, leb-false, ne_eqb, or_parts}
 pub use Rattle.std.proofs.lemmas.Int.{by_lt_z, int_max_is, int_min_is, ints, to_z-of_z}
 pub use Rattle.std.proofs.lemmas.List.{append-nil, append_assoc, drop_at, ext_get_or, get_or-map, get_or-replicate, get_or-set_other, get_or-set_same}
-pub use Rattle.std.proofs.lemmas.List.{get_or_append_left, get_or_default, get_or_past, get_or_push, get_or_read, length-map, length-replicate, length-set}
-pub use Rattle.std.proofs.lemmas.List.{length_push, map-set, reverse-append, take_at, take_more}
+pub use Rattle.std.proofs.lemmas.List.{get_or_append_left, get_or_default, get_or_push, get_or_read, length-map, length-replicate, length-set, length_push}
+pub use Rattle.std.proofs.lemmas.List.{map-set, reverse-append, take_at, take_more}
 pub use Rattle.std.proofs.lemmas.List.Elements.{All-append, All-cons, All-drop, All-filter, All-nil, All-push, All-replicate, All-take, All-weaker}
 pub use Rattle.std.proofs.lemmas.List.Elements.{filter-append, filter_map-append}
 pub use Rattle.std.proofs.lemmas.Nat.{div-add-mod', div-mul-add, mod-mul-add, mod_below}
@@ -42,7 +42,7 @@ pub use Rattle.decimal_input.specs.Decimals.{IsDec, number, size, with_sign}
 unfoldable pub use Rattle.decimal_input.specs.Decimals.{scaled}
 pub use Rattle.decimal_input.specs.Fractions.{Fraction, negated, plus}
 pub use Rattle.decimal_input.specs.Ratios.{Ratio, Same, den, over}
-unfoldable pub use Rattle.decimal_input.specs.Ratios.{ratio}
+unfoldable pub use Rattle.decimal_input.specs.Ratios.{ratio, times}
 pub use Rattle.decimal_input.specs.Wholes.{Encloses, EnclosesSigned, IsCeiling, IsFloor, IsSignedCeiling, IsSignedFloor, Passes}
 pub use Rattle.decimal_input.specs.declared.dec.Dec.{Dec}
 pub use Rattle.flow_equations.proofs.Links.{are_linked, below_is, index_is}
@@ -69,7 +69,6 @@ pub use Rattle.model_types.specs.Sources.FixedSource.{FromStorage, ToConstant, T
 pub use Rattle.model_types.specs.Sources.FlowSource.{Pumped, Received}
 pub use Rattle.model_types.specs.Storage.{storage}
 pub use Rattle.model_types.specs.Times.{entries, no_period, period_at, steps_of}
-unfoldable pub use Rattle.model_types.specs.Times.{times}
 pub use Rattle.model_types.specs.Valid.{IsBedValid, IsCellValid, IsEntryValid, IsEvapValid, IsGivenValid, IsModel, IsPeriod, number_one}
 pub use Rattle.model_types.specs.declared.entry.Entry.{Entry}
 pub use Rattle.model_types.specs.declared.entry.Entry.TheVariants.{General, Well}
@@ -83,6 +82,7 @@ pub use Rattle.model_types.specs.declared.grid.Grid.{Grid}
 pub use Rattle.model_types.specs.declared.model.FlowModel.{FlowModel}
 pub use Rattle.model_types.specs.declared.period.Period.{Period}
 pub use Rattle.model_types.specs.declared.time_steps.TimeStep.{TimeStep}
+pub use Rattle.number_limits.proofs.Canonical.{dec_at_is}
 pub use Rattle.problem_builder.specs.Cells.{IsCellOf, IsConstant, IsDrain, IsEvap, IsFixed, IsFlow, IsLink, IsReceived, IsRiver, IsStorage}
 pub use Rattle.problem_builder.specs.Filled.{BothOrNone, Filled}
 pub use Rattle.problem_builder.specs.GridHeads.{AreConstantHeads, AreGridHeads, AreStartHeads, HasConstantHead, HeadsEnclose, IsActive, IsGivenOrKept}

@@ -1,30 +1,21 @@
 -- Elevations of a valid model are numbers of the input, and a bed is one where its elevations differ.
-use Rattle.problem_builder.proofs.Common.{get_or_past, ◌≡◌, ℕ, suc, ◌+◌, ◌-◌, ◌<◌, inl, inr, Bool, true, false, cond, List, length, refl, sym, ap, ◌∙◌, subst}
-use Rattle.problem_builder.proofs.Common.{arith, All, pos, ◌*ℤ◌, ints, cases_lt, Dec, IsDec, number, Fraction, FlowModel, cell_count, layer_size, no_number}
-use Rattle.problem_builder.proofs.Common.{dec_at, is_active, has_bed, top_at, bottom_at, lowest, bed_thickness, IsModel, IsBedValid, nat_lt, no_gap}
+use Rattle.problem_builder.proofs.Common.{◌≡◌, ℕ, suc, ◌+◌, ◌-◌, ◌<◌, inl, inr, Bool, true, false, cond, sym, ap, ◌∙◌, pos, ◌*ℤ◌, Dec, IsDec, number, Fraction}
+use Rattle.problem_builder.proofs.Common.{FlowModel, cell_count, layer_size, dec_at, is_active, has_bed, top_at, bottom_at, lowest, bed_thickness, IsModel}
+use Rattle.problem_builder.proofs.Common.{IsBedValid, nat_lt, no_gap, dec_at_is}
 use Rattle.decimal_input.proofs.OneNumber.{one_number}
-
-no_number_valid : IsDec no_number
-no_number_valid = record { few = omega arith; form = inl (refl, refl, refl); above = omega (arith, ints); below = omega (arith, ints) }
-
-pub dec_valid : (xs : List Dec) (i : ℕ) → All IsDec xs → IsDec (dec_at xs i)
-dec_valid xs i h = elim (cases_lt i (length xs)) [
-  | inl lt ↦ h i no_number lt
-  | inr le ↦ subst IsDec (sym (get_or_past xs i no_number le)) no_number_valid
-]
 
 either : (b : Bool) (x y : Dec) → IsDec x → IsDec y → IsDec (cond b x y)
 either true x y h k = h
 either false x y h k = k
 
 pub bottom_valid : (m : FlowModel) (c : ℕ) → IsModel m → IsDec (bottom_at m c)
-bottom_valid m c valid = dec_valid m.grid.bottom c valid.grid.bottom.1
+bottom_valid m c valid = dec_at_is m.grid.bottom c valid.grid.bottom.1
 
 pub lowest_valid : (m : FlowModel) (c : ℕ) → IsModel m → IsDec (lowest m c)
-lowest_valid m c valid = either (has_bed m c) (dec_at m.grid.bed_bottom c) (bottom_at m c) (dec_valid m.grid.bed_bottom c valid.grid.bed_bottom.1) (bottom_valid m c valid)
+lowest_valid m c valid = either (has_bed m c) (dec_at m.grid.bed_bottom c) (bottom_at m c) (dec_at_is m.grid.bed_bottom c valid.grid.bed_bottom.1) (bottom_valid m c valid)
 
 pub top_valid : (m : FlowModel) (c : ℕ) → IsModel m → IsDec (top_at m c)
-top_valid m c valid = either (nat_lt c (layer_size m.grid)) (dec_at m.grid.top c) (lowest m (c - layer_size m.grid)) (dec_valid m.grid.top c valid.grid.top.1) (lowest_valid m (c - layer_size m.grid) valid)
+top_valid m c valid = either (nat_lt c (layer_size m.grid)) (dec_at m.grid.top c) (lowest m (c - layer_size m.grid)) (dec_at_is m.grid.top c valid.grid.top.1) (lowest_valid m (c - layer_size m.grid) valid)
 
 pub no_bed_gap : (m : FlowModel) (c : ℕ) → has_bed m c ≡ false → (bed_thickness m c).num ≡ 0
 no_bed_gap m c e = no_gap (number (lowest m c)) (number (bottom_at m c)) (ap (λ b. number (cond b (dec_at m.grid.bed_bottom c) (dec_at m.grid.bottom c))) e)

@@ -1,12 +1,13 @@
--- Rivers and evapotranspirations of a cell: bounds in order, heads in range.
+-- Rivers, drains and evapotranspirations of a cell: bounds in order, heads in range.
 use Rattle.problem_builder.proofs.Common.{◌≡◌, ℕ, ◌≤◌, ◌^◌, inl, inr, Bool, Some, refl, sym, subst, arith, All, ℤ, pos, ◌+ℤ◌, ◌≤ℤ◌, ints, by_lt_z, none-some}
 use Rattle.problem_builder.proofs.Common.{Fraction, with_sign, cancel_right, mul_mono_right, Dec, number, size, AtMost-trans, IsSignedFloor, IsSignedCeiling}
-use Rattle.problem_builder.proofs.Common.{one_floor, one_ceiling, floor_ceiling_enclose, River, Evap, Entries, RiverFits, EvapFits, IsHead, Entry, FlowModel}
-use Rattle.problem_builder.proofs.Common.{IsPositive, IsNotNegative, IsHeadNumber, EvapSource, RiverSource, as_river, local_entries, river_sources}
-use Rattle.problem_builder.proofs.Common.{evap_sources, IsEntryValid, IsEvapValid, In-All, filter_map-In, Term, Holds, Lower, Upper, IsPair, IsCapped, Number}
-use Rattle.problem_builder.proofs.Common.{evap_term, IsCond, IsHeadPair, IsRiver, IsEvap, IsCellOf, IsVariableCell, Inputs, AreInputs, widths_of, bound_on}
+use Rattle.problem_builder.proofs.Common.{one_floor, one_ceiling, floor_ceiling_enclose, River, Evap, RiverFits, EvapFits, IsHead, Entry, FlowModel, IsPositive}
+use Rattle.problem_builder.proofs.Common.{IsNotNegative, IsHeadNumber, EvapSource, RiverSource, as_river, local_entries, river_sources, evap_sources}
+use Rattle.problem_builder.proofs.Common.{IsEntryValid, IsEvapValid, In-All, filter_map-In, Term, Holds, Lower, Upper, IsPair, IsCapped, Number, evap_term}
+use Rattle.problem_builder.proofs.Common.{IsCond, IsHeadPair, IsRiver, IsDrain, IsEvap, bound_on, Drain, DrainFits, DrainSource, as_drain, drain_sources, ◌<◌}
+use Rattle.problem_builder.proofs.Common.{true, List, AllZip, IsModel, IsPeriod, period_at, cell_count, is_variable}
 use Rattle.decimal_input.specs.Fractions.{den}
-use Rattle.model_types.specs.declared.entry.Entry.TheVariants.{River as RiverEntry}
+use Rattle.model_types.specs.declared.entry.Entry.TheVariants.{River as RiverEntry, Drain as DrainEntry}
 use Rattle.conductance_bounds.proofs.Whole.{floor-ceiling}
 use Rattle.problem_builder.proofs.ActiveCells.{variable_active}
 use Rattle.problem_builder.proofs.HeadRange.{floor_in_range, ceiling_in_range}
@@ -42,6 +43,15 @@ river_fits s x r p q k =
     let b = head_pair_range r.bottom x.bottom_lo x.bottom_hi q k.bottom in
     record { ordered = cond_ordered s r.cond x.lo x.hi k.cond; stage_lo = a.0; stage_hi = a.1; bottom_lo = b.0; bottom_hi = b.1 }
 
+pub drain_valid : (y : Entry) (r : DrainSource) → as_drain y ≡ Some r → IsEntryValid 4194304 y → IsHeadNumber r.elevation × IsNotNegative r.cond
+drain_valid (DrainEntry cell a k) r e h = let P : DrainSource → Type 0 = λ z. IsHeadNumber z.elevation × IsNotNegative z.cond in subst P (some_same e) (h.1, h.2)
+drain_valid y r e h = absurd (none-some r e)
+
+drain_fits : (s : ℕ) (x : Drain) (r : DrainSource) → IsHeadNumber r.elevation → IsDrain s x r → DrainFits x
+drain_fits s x r p k =
+    let a = head_pair_range r.elevation x.elev_lo x.elev_hi p k.elevation in
+    record { ordered = cond_ordered s r.cond x.lo x.hi k.cond; elev_lo = a.0; elev_hi = a.1 }
+
 pub not_negative : (d : Dec) → IsPositive d → pos 0 ≤ℤ (number d).num
 not_negative d h = subst (λ (b : Bool). pos 0 ≤ℤ with_sign b (size d).num) (sym h.sign) (omega (arith, ints))
 
@@ -70,13 +80,22 @@ evap_fits m s c x r v k =
       deep = omega (arith, ints, k.lowest_extinction, depth, some, order);
     }
 
-module _ (i : Inputs) (c : ℕ) (e : Entries) (are : AreInputs i) (v : IsVariableCell i c) (is : IsCellOf i.model (widths_of i.tables) i.tables.digits i.at i.old e c) where
-  pub rivers_fit : All RiverFits e.rivers
-  rivers_fit = zip_all RiverFits (IsRiver i.tables.digits) e.rivers (river_sources i.model i.at.period c)
-      (λ x r j k. let (y, l, q) = filter_map-In as_river (local_entries i.model i.at.period c) r j in
-      let w = river_valid y r q (In-All (IsEntryValid 4194304) (local_entries i.model i.at.period c) y (local_valid i.model i.at.period c are.model are.time.valid) l) in
-      river_fits i.tables.digits x r w.0 w.2 k) is.rivers
+-- of a cell in a valid model
+module _ (m : FlowModel) (s p c : ℕ) (valid : IsModel m) (period : IsPeriod m (period_at m p)) where
+  local : All (IsEntryValid 4194304) (local_entries m p c)
+  local = local_valid m p c valid period
 
-  pub evaps_fit : All EvapFits e.evaps
-  evaps_fit = zip_all EvapFits (IsEvap i.model i.tables.digits c) e.evaps (evap_sources i.model i.at.period c)
-      (λ x r j k. evap_fits i.model i.tables.digits c x r (In-All IsEvapValid (evap_sources i.model i.at.period c) r (are.model.evaps i.at.period c v.within (variable_active i.model i.at.period c v.variable)) j) k) is.evaps
+  pub rivers_fit : (xs : List River) → AllZip (IsRiver s) xs (river_sources m p c) → All RiverFits xs
+  rivers_fit xs = zip_all RiverFits (IsRiver s) xs (river_sources m p c)
+      (λ x r j k. let (y, l, q) = filter_map-In as_river (local_entries m p c) r j in
+      let w = river_valid y r q (In-All (IsEntryValid 4194304) (local_entries m p c) y local l) in
+      river_fits s x r w.0 w.2 k)
+
+  pub drains_fit : (xs : List Drain) → AllZip (IsDrain s) xs (drain_sources m p c) → All DrainFits xs
+  drains_fit xs = zip_all DrainFits (IsDrain s) xs (drain_sources m p c)
+      (λ x r j k. let (y, l, q) = filter_map-In as_drain (local_entries m p c) r j in
+      drain_fits s x r (drain_valid y r q (In-All (IsEntryValid 4194304) (local_entries m p c) y local l)).0 k)
+
+  pub evaps_fit : c < cell_count m.grid → is_variable m p c ≡ true → (xs : List Evap) → AllZip (IsEvap m s c) xs (evap_sources m p c) → All EvapFits xs
+  evaps_fit lt v xs = zip_all EvapFits (IsEvap m s c) xs (evap_sources m p c)
+      (λ x r j k. evap_fits m s c x r (In-All IsEvapValid (evap_sources m p c) r (valid.evaps p c lt (variable_active m p c v)) j) k)

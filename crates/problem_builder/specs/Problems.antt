@@ -1,5 +1,5 @@
 -- The problem of a time step, and the refusal of a step that has none.
-use Rattle.std.specs.Prelude.{◌≡◌, ℕ, ◌<◌, true, List, All, Some, None, ◌^◌, ◌&&◌, ◌||◌, ◌==◌, nat_le, Bool, false, cond, Option}
+use Rattle.std.specs.Prelude.{◌≡◌, ℕ, ◌<◌, true, List, All, Some, None, ◌^◌, ◌&&◌, ◌||◌, ◌==◌, nat_le, Bool, false, cond, map, Option}
 use Rattle.std.specs.List.{AllZip, list_any}
 use Rattle.step_problem.specs.declared.heads.Bound.{Bound}
 use Rattle.step_problem.specs.declared.heads.Side.TheVariants.{Low}
@@ -9,11 +9,17 @@ use Rattle.step_problem.specs.Entries.{Entries}
 use Rattle.model_types.specs.declared.model.FlowModel.{FlowModel}
 use Rattle.model_types.specs.declared.time_steps.TimeStep.{TimeStep}
 use Rattle.model_types.specs.Faces.{cell_count}
-use Rattle.model_types.specs.Heads.{is_variable, variable_below}
+use Rattle.model_types.specs.Heads.{is_variable, variable_below, variable_cells}
+use Rattle.model_types.specs.Times.{period_at}
+use Rattle.decimal_input.specs.Fractions.{Fraction}
+use Rattle.cell_balance.specs.Enclosures.{EnclosesStep}
+use Rattle.flow_equations.specs.ExactStep.{exact_step}
 use Rattle.problem_builder.specs.declared.fault.BuildFault.{BuildFault}
 use Rattle.problem_builder.specs.declared.fault.BuildFault.TheVariants.{NoBound as Refused, Memory}
 use Rattle.problem_builder.specs.Widths.{Thicknesses, AreThicknesses}
 use Rattle.problem_builder.specs.Cells.{IsCellOf}
+use Rattle.problem_builder.specs.GridHeads.{HeadsEnclose, IsActive, IsNamed}
+use Rattle.problem_builder.specs.StepTables.{HasOldHeads}
 use Rattle.step_problem.specs.declared.entry.FixedKind.{FixedKind}
 use Rattle.step_problem.specs.declared.entry.FixedKind.TheVariants.{Constant, General, Storage}
 use Rattle.step_problem.specs.declared.refusal.StepRefusal.TheVariants.{ConductanceTooSmall, ConductanceTooLarge, FlowTooLarge}
@@ -57,6 +63,15 @@ module _ (m : FlowModel) (s : ℕ) (at : TimeStep) (old : List Bound) where
     pub widths : Thicknesses
     pub thicknesses : AreThicknesses m widths
     pub cells : AreCells m widths s at old (cell_count m.grid) p
+
+  -- It has the variable cells, names active cells alone, encloses the exact step from all exact heads within the old ones,
+  -- and in a transient period has their branches.
+  pub record IsBuilt (p : List Entries) : Type 0 where
+    pub problem : IsProblemOf p
+    pub cells : map (λ e. e.id) p ≡ variable_cells m at.period
+    pub named : (c : ℕ) → IsNamed p c → IsActive m c
+    pub encloses : (before : ℕ → Fraction) → HeadsEnclose m old before → EnclosesStep s p (exact_step m at.period at.step before)
+    pub stored : (period_at m at.period).steady ≡ false → HasOldHeads p
 
   -- The step has none: the least variable cell that has a refusal has this one.
   pub record HasNoProblem (fault : NoBound) : Type 0 where

@@ -1,15 +1,10 @@
 // The problem of a step, cell by cell.
-ghost use Rattle.std.specs.Prelude.{◌≡◌, ◌<◌, ◌≤◌, ℕ, false, Contains, IfOk, IfErr, map};
+ghost use Rattle.std.specs.Prelude.{◌≤◌, Contains, IfOk, IfErr};
 ghost use Rattle.model_types.specs.Faces.{cell_count};
-ghost use Rattle.decimal_input.specs.Fractions.{Fraction};
-ghost use Rattle.cell_balance.specs.Enclosures.{EnclosesStep};
-ghost use Rattle.model_types.specs.Heads.{is_variable, variable_cells};
-ghost use Rattle.model_types.specs.Times.{times, period_at};
+ghost use Rattle.model_types.specs.Times.{times};
 ghost use Rattle.model_types.specs.Valid.{IsModel};
-ghost use Rattle.flow_equations.specs.ExactStep.{exact_step};
-ghost use Rattle.problem_builder.specs.GridHeads.{AreGridHeads, HeadsEnclose, IsActive, IsNamed};
-ghost use Rattle.problem_builder.specs.Problems.{AreCells, IsProblemOf, IsBuildFault};
-ghost use Rattle.problem_builder.specs.StepTables.{HasOldHeads};
+ghost use Rattle.problem_builder.specs.GridHeads.{AreGridHeads};
+ghost use Rattle.problem_builder.specs.Problems.{AreCells, IsBuilt, IsBuildFault};
 ghost use Rattle.problem_builder.specs.Made.{IsVariableCell, IsCheckedCell, IsCellFault, IsFirstFault};
 ghost use Rattle.problem_builder.specs.Tables.{AreInputs, AreTables, ArePeriodTables, AreStepTables, AreEvenStorages, span_in, widths_of};
 
@@ -61,15 +56,8 @@ pub(crate) fn cells(alloc: Global, input: &StepInput) -> Result<Vec<Cell>, Build
 // The problem of these inputs.
 fn problem_of(alloc: Global, input: &StepInput) -> Result<Problem, BuildFault>
     requires { AreInputs input.now }
-    ensures problem { IfOk result (λ p. IsProblemOf input.now.model input.now.tables.digits input.now.at input.now.old p) }
+    ensures built { IfOk result (IsBuilt input.now.model input.now.tables.digits input.now.at input.now.old) }
     ensures refusal { IfErr result (IsBuildFault input.now.model input.now.tables.digits input.now.at input.now.old) }
-    ensures cells { IfOk result (λ p. map (λ e. e.id) p ≡ variable_cells input.now.model input.now.at.period) }
-    ensures named { IfOk result (λ p. (c : ℕ) → IsNamed p c → IsActive input.now.model c) }
-    ensures encloses { IfOk result
-        (λ p. (before : ℕ → Fraction) → HeadsEnclose input.now.model input.now.old before →
-        EnclosesStep input.now.tables.digits p
-        (exact_step input.now.model input.now.at.period input.now.at.step before)) }
-    ensures stored { IfOk result (λ p. (period_at input.now.model input.now.at.period).steady ≡ false → HasOldHeads p) }
 {
     let cells = cells(alloc, input)?;
     Ok(Problem::new(cells))
@@ -94,14 +82,8 @@ pub fn build_with(
     requires period { ArePeriodTables model.now tables.now.digits at.period period.now }
     requires storage { AreEvenStorages model.now (span_in tables.now.thick) tables.now.digits at.period period.now.storage }
     requires step { AreStepTables model.now at step.now }
-    ensures problem { IfOk result (λ p. IsProblemOf model.now tables.now.digits at old.now p) }
+    ensures built { IfOk result (IsBuilt model.now tables.now.digits at old.now) }
     ensures refusal { IfErr result (IsBuildFault model.now tables.now.digits at old.now) }
-    ensures cells { IfOk result (λ p. map (λ e. e.id) p ≡ variable_cells model.now at.period) }
-    ensures named { IfOk result (λ p. (c : ℕ) → IsNamed p c → IsActive model.now c) }
-    ensures encloses { IfOk result
-        (λ p. (before : ℕ → Fraction) → HeadsEnclose model.now old.now before →
-        EnclosesStep tables.now.digits p (exact_step model.now at.period at.step before)) }
-    ensures stored { IfOk result (λ p. (period_at model.now at.period).steady ≡ false → HasOldHeads p) }
 {
     let input = StepInput {
         model,
@@ -127,14 +109,8 @@ pub fn build(
     requires time { Contains (times model.now) at }
     requires old { AreGridHeads model.now old.now }
     requires digits { s ≤ 18 }
-    ensures problem { IfOk result (λ p. IsProblemOf model.now s at old.now p) }
+    ensures built { IfOk result (IsBuilt model.now s at old.now) }
     ensures refusal { IfErr result (IsBuildFault model.now s at old.now) }
-    ensures cells { IfOk result (λ p. map (λ e. e.id) p ≡ variable_cells model.now at.period) }
-    ensures named { IfOk result (λ p. (c : ℕ) → IsNamed p c → IsActive model.now c) }
-    ensures encloses { IfOk result
-        (λ p. (before : ℕ → Fraction) → HeadsEnclose model.now old.now before →
-        EnclosesStep s p (exact_step model.now at.period at.step before)) }
-    ensures stored { IfOk result (λ p. (period_at model.now at.period).steady ≡ false → HasOldHeads p) }
 {
     let tables = Tables::new(alloc, model, s)?;
     let period = PeriodTables::at(alloc, model, &tables, at.period)?;

@@ -33,17 +33,6 @@ pub fn span_at(spans: &[Span], cell: u32) -> Span
     spans[cell as usize]
 }
 
-fn row_half_of(along: Dec, hk: Dec, thickness: Span) -> Half
-    ensures { result ≡ record { along = along; hk = hk; thick_lo = thickness.lo; thick_hi = thickness.hi } }
-{
-    Half {
-        along,
-        hk,
-        thick_lo: thickness.lo,
-        thick_hi: thickness.hi,
-    }
-}
-
 fn row_half(model: &FlowModel, thick: &[Span], cell: u32) -> Half
     requires model { IsModel model.now }
     requires cell { cell < cell_count model.now.grid }
@@ -55,16 +44,9 @@ fn row_half(model: &FlowModel, thick: &[Span], cell: u32) -> Half
     let along = model.delr_at(cell);
     let hk = dec_at(model.hk.as_slice(), cell);
     let thickness = span_at(thick, cell);
-    row_half_of(along, hk, thickness)
-}
-
-fn col_half_of(along: Dec, hk: Dec, hani: Dec, thickness: Span) -> ColHalf
-    ensures { result ≡ record { along = along; hk = hk; hani = hani; thick_lo = thickness.lo; thick_hi = thickness.hi } }
-{
-    ColHalf {
+    Half {
         along,
         hk,
-        hani,
         thick_lo: thickness.lo,
         thick_hi: thickness.hi,
     }
@@ -82,16 +64,10 @@ fn col_half(model: &FlowModel, thick: &[Span], cell: u32) -> ColHalf
     let hk = dec_at(model.hk.as_slice(), cell);
     let hani = dec_at(model.hani.as_slice(), cell);
     let thickness = span_at(thick, cell);
-    col_half_of(along, hk, hani, thickness)
-}
-
-fn vert_half_of(hk: Dec, vka: Dec, ratio: bool, thickness: Span) -> VertHalf
-    ensures { result ≡ record { hk = hk; vka = vka; ratio = ratio; thick_lo = thickness.lo; thick_hi = thickness.hi } }
-{
-    VertHalf {
+    ColHalf {
+        along,
         hk,
-        vka,
-        ratio,
+        hani,
         thick_lo: thickness.lo,
         thick_hi: thickness.hi,
     }
@@ -117,16 +93,12 @@ fn vert_half(model: &FlowModel, thick: &[Span], cell: u32) -> VertHalf
     let vka = dec_at(model.vka.as_slice(), cell);
     let ratio = is_ratio(model, cell);
     let thickness = span_at(thick, cell);
-    vert_half_of(hk, vka, ratio, thickness)
-}
-
-fn bed_with(thickness: Span, vkcb: Dec) -> Bed
-    ensures { result ≡ record { thick_lo = thickness.lo; thick_hi = thickness.hi; vkcb = vkcb } }
-{
-    Bed {
+    VertHalf {
+        hk,
+        vka,
+        ratio,
         thick_lo: thickness.lo,
         thick_hi: thickness.hi,
-        vkcb,
     }
 }
 
@@ -166,7 +138,11 @@ fn vertical_pair(model: &FlowModel, thick: &[Span], beds: &[Span], first: u32, s
     let b = vert_half(model, thick, first + model.grid.layer_size());
     let span = span_at(beds, first);
     let vkcb = dec_at(model.vkcb.as_slice(), first);
-    let bed = bed_with(span, vkcb);
+    let bed = Bed {
+        thick_lo: span.lo,
+        thick_hi: span.hi,
+        vkcb,
+    };
     capped_pair(vert_branch(&a, &b, &bed, model.delr_at(first), model.delc_at(first), s))
 }
 

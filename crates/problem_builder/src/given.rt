@@ -1,10 +1,10 @@
 // Heads that CHD lists give, and heads that constant-head cells keep.
-ghost use Rattle.std.specs.Prelude.{◌≡◌, ◌<◌, All, None, IfOk, IfSome, take};
+ghost use Rattle.std.specs.Prelude.{◌≡◌, ◌<◌, All, None, IfOk, IfSome};
 ghost use Rattle.step_problem.specs.Heads.{no_bound};
 ghost use Rattle.model_types.specs.Faces.{cell_count};
 ghost use Rattle.model_types.specs.Layers.{dec_at};
 ghost use Rattle.model_types.specs.Grids.{IsHeadNumber};
-ghost use Rattle.model_types.specs.Heads.{given_heads, last_given};
+ghost use Rattle.model_types.specs.Heads.{given_heads};
 ghost use Rattle.model_types.specs.Valid.{IsModel};
 ghost use Rattle.problem_builder.specs.GridHeads.{IsKeptPair};
 ghost use Rattle.problem_builder.specs.Filled.{Filled};
@@ -32,16 +32,6 @@ pub fn last_entries(
     Ok(table)
 }
 
-// The last entry that names a cell.
-fn last_at(model: &FlowModel, given: &GivenHeads, cell: u32) -> Option<Given>
-    requires given { given.now ≡ given_heads model.now given.now.period }
-    requires cell { cell < cell_count model.now.grid }
-    ensures { result ≡ last_given (take given.now.period model.now.periods) cell }
-{
-    let _model = model;
-    given.last.at(cell)
-}
-
 // The head that an active cell keeps, where this is its last entry.
 fn kept_of(model: &FlowModel, last: Option<Given>, cell: u32) -> Bound
     requires strt { IsHeadNumber (dec_at model.now.strt cell) }
@@ -63,8 +53,7 @@ fn kept_at(model: &FlowModel, given: &GivenHeads, cell: u32) -> Bound
     if !model.is_active(cell) {
         return NO_BOUND;
     }
-    let last = last_at(model, given, cell);
-    kept_of(model, last, cell)
+    kept_of(model, given.last.at(cell), cell)
 }
 
 /// The head that each active cell keeps after the period of `given`, if it is a constant-head cell.

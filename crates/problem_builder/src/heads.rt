@@ -1,9 +1,7 @@
 // The heads of constant-head cells at a time.
-ghost use Rattle.std.specs.Prelude.{◌≡◌, ℕ, ◌<◌, ◌≤◌, ◌^◌, true, IfOk};
-ghost use Rattle.conductance_bounds.specs.Parts.{IsGivenPair};
+ghost use Rattle.std.specs.Prelude.{◌≡◌, ℕ, ◌<◌, true, IfOk};
 ghost use Rattle.model_types.specs.Faces.{cell_count};
 ghost use Rattle.model_types.specs.Heads.{is_constant};
-ghost use Rattle.model_types.specs.Grids.{IsHeadNumber};
 ghost use Rattle.model_types.specs.Valid.{IsModel};
 ghost use Rattle.problem_builder.specs.GridHeads.{IsConstantPair, HasConstantHead, AreConstantHeads};
 ghost use Rattle.problem_builder.specs.StepTables.{IsTimeOf, IsPartOf};
@@ -13,7 +11,6 @@ use crate::index::PeriodTables;
 use crate::periods::stress_period;
 use crate::start::{NO_BOUND, bound_of};
 use conductance_bounds::{Part, given_head, time_part};
-use decimal_input::dec::Dec;
 use model_types::{FlowModel, Kind, TimeStep};
 use std::alloc::{AllocError, Global};
 use step_problem::Bound;
@@ -25,16 +22,6 @@ fn part_passed(model: &FlowModel, at: TimeStep) -> Part
     ensures { IsPartOf model.now at result }
 {
     time_part(stress_period(model, at.period), at.step)
-}
-
-// The bounds of a head between two heads.
-fn given_bounds(shead: Dec, ehead: Dec, part: Part) -> Bound
-    requires start { IsHeadNumber shead }
-    requires end { IsHeadNumber ehead }
-    requires part { (part.lo ≤ 10 ^ 18) × (part.hi ≤ 10 ^ 18) }
-    ensures { IsGivenPair shead ehead part.lo part.hi result.low result.high }
-{
-    bound_of(given_head(shead, ehead, part))
 }
 
 // The bounds of the head of a constant-head cell, where `part` of the period has passed.
@@ -49,7 +36,7 @@ fn head_at(model: &FlowModel, period: &PeriodTables, at: TimeStep, part: Part, c
 {
     let _model = model;
     match period.given_at(cell) {
-        Some(x) => given_bounds(x.shead, x.ehead, part),
+        Some(x) => bound_of(given_head(x.shead, x.ehead, part)),
         None => period.kept_at(cell),
     }
 }

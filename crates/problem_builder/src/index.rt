@@ -13,7 +13,7 @@ use crate::chosen::cover_flags;
 use crate::evaporation::evaps;
 use crate::given::{kept_heads, last_entries};
 use crate::local::Local;
-use crate::periods::{given_before, stress_period};
+use crate::periods::stress_period;
 use crate::recharge::recharges;
 use crate::storages::even_storages;
 use crate::tables::Tables;
@@ -131,7 +131,8 @@ impl PeriodTables {
         ensures storage { IfOk result
             (λ t. AreEvenStorages model.now (span_in tables.now.thick) tables.now.digits period t.storage) }
     {
-        let given = given_before(alloc, model, period)?;
+        let mut given = GivenHeads::new(alloc, model);
+        given.advance_to(alloc, model, period - 1)?;
         PeriodTables::new(alloc, model, tables, &given)
     }
 

@@ -1,10 +1,8 @@
 // The heads before the first time step.
 ghost use Rattle.std.specs.Prelude.{◌<◌, IfOk, ◌≡◌, ℕ, ◌≤◌, Bool};
-ghost use Rattle.step_problem.specs.Heads.{no_bound};
 ghost use Rattle.model_types.specs.Faces.{cell_count};
 ghost use Rattle.model_types.specs.Heads.{start_head};
 ghost use Rattle.model_types.specs.Valid.{IsModel};
-ghost use Rattle.problem_builder.specs.Filled.{Filled};
 ghost use Rattle.problem_builder.specs.GridHeads.{AreGridHeads, HeadsEnclose, AreStartHeads};
 ghost use Rattle.problem_builder.specs.Made.{IsStartInRange};
 ghost use Rattle.decimal_input.specs.Decimals.{IsDec};
@@ -35,18 +33,6 @@ fn start_at(model: &FlowModel, cell: u32) -> Bound
     }
 }
 
-fn bounds_of(alloc: Global, model: &FlowModel) -> Result<Vec<Bound>, AllocError>
-    requires { IsModel model.now }
-    ensures { IfOk result (λ v. Filled (IsStartInRange model.now) no_bound (cell_count model.now.grid) v.items) }
-{
-    let mut bounds = Vec::new(alloc);
-    let count = model.grid.cell_count();
-    for cell in 0..count {
-        bounds.push(start_at(model, cell))?;
-    }
-    Ok(bounds)
-}
-
 /// The bounds of STRT of all cells, by cell number, in units of 10^-9: floor and ceiling, or zeros in a cell without
 /// flow.
 pub fn start_heads(alloc: Global, model: &FlowModel) -> Result<Vec<Bound>, AllocError>
@@ -55,7 +41,11 @@ pub fn start_heads(alloc: Global, model: &FlowModel) -> Result<Vec<Bound>, Alloc
     ensures heads { IfOk result (λ v. AreGridHeads model.now v.items) }
     ensures encloses { IfOk result (λ v. HeadsEnclose model.now v.items (start_head model.now)) }
 {
-    let bounds = bounds_of(alloc, model)?;
+    let mut bounds = Vec::new(alloc);
+    let count = model.grid.cell_count();
+    for cell in 0..count {
+        bounds.push(start_at(model, cell))?;
+    }
     Ok(bounds)
 }
 

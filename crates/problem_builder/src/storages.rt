@@ -12,7 +12,7 @@ ghost use Rattle.model_types.specs.Valid.{IsModel};
 ghost use Rattle.problem_builder.specs.Filled.{Filled};
 ghost use Rattle.problem_builder.specs.StepTables.{IsTimeOf, AreFactorsOf, AreEvenFactors, HasEvenStorage};
 ghost use Rattle.problem_builder.specs.PeriodTables.{IsKind};
-ghost use Rattle.problem_builder.specs.Tables.{AreTables, AreEvenStorages, no_pair, span_in};
+ghost use Rattle.problem_builder.specs.Tables.{AreTables, AreEvenStorages, span_in};
 
 use crate::faces::{NO_PAIR, span_at};
 use crate::periods::stress_period;
@@ -127,31 +127,6 @@ fn even_storage(
     }
 }
 
-// For each cell the bounds of its storage in every step, if it is a variable cell.
-fn storages(
-    alloc: Global,
-    model: &FlowModel,
-    tables: &Tables,
-    kinds: &[Kind],
-    number: u32,
-    factors: &Factors,
-) -> Result<Vec<Pair>, AllocError>
-    requires model { IsModel model.now }
-    requires number { (1 ≤ number) × (number ≤ length model.now.periods) }
-    requires digits { tables.now.digits ≤ 18 }
-    requires tables { AreTables model.now tables.now.digits tables.now }
-    requires kinds { Filled (IsKind model.now number) NoFlow (cell_count model.now.grid) kinds.now }
-    requires factors { AreEvenFactors model.now number (Some factors.now) }
-    ensures { IfOk result (λ v. Filled (HasEvenStorage model.now (span_in tables.now.thick) tables.now.digits number) no_pair (cell_count model.now.grid) v.items) }
-{
-    let mut pairs = Vec::new(alloc);
-    let count = model.grid.cell_count();
-    for cell in 0..count {
-        pairs.push(even_storage(model, tables, kinds, number, factors, cell))?;
-    }
-    Ok(pairs)
-}
-
 /// For each cell the bounds of its storage in every step, if it is a variable cell; None where the period is steady,
 /// or its steps are not equally long.
 pub fn even_storages(
@@ -171,6 +146,10 @@ pub fn even_storages(
     let Some(factors) = even_factors(model, number) else {
         return Ok(None);
     };
-    let pairs = storages(alloc, model, tables, kinds, number, &factors)?;
+    let mut pairs = Vec::new(alloc);
+    let count = model.grid.cell_count();
+    for cell in 0..count {
+        pairs.push(even_storage(model, tables, kinds, number, &factors, cell))?;
+    }
     Ok(Some(Listed::new(pairs)))
 }

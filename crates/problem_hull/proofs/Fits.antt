@@ -1,55 +1,61 @@
 -- The hull of two problems is a problem, if the sums of its cells fit.
-use Rattle.problem_hull.proofs.Common.{◌≡◌, ◌<◌, ◌≤◌, ◌^◌, ◌≤ℤ◌, ℕ, ℤ, arith, List, length, sym, subst, get_or, All, Contains, int_min, int_max, ints, clamps}
-use Rattle.problem_hull.proofs.Common.{Link, Fixed, River, Drain, Evap, Entries, entries_at, no_entries, link_at, IsHead, LinkFits, FixedFits, RiverFits}
-use Rattle.problem_hull.proofs.Common.{DrainFits, EvapFits, CellFits, LinksFit, IsProblem, conductance_of, flow_of, IsHullPair, IsHullSize, IsFixedHull}
-use Rattle.problem_hull.proofs.Common.{IsRiverHull, IsDrainHull, IsEvapHull, IsCellHull, IsHull}
+use Rattle.problem_hull.proofs.Common.{◌≡◌, ◌<◌, ◌≤◌, ◌^◌, ◌≤ℤ◌, ℕ, ℤ, arith, List, length, min, max, sym, subst, get_or, All, Contains, int_min, int_max, ints}
+use Rattle.problem_hull.proofs.Common.{clamps, Link, Entries, entries_at, no_entries, link_at, IsHead, LinkFits, FixedFits, RiverFits, DrainFits, EvapFits}
+use Rattle.problem_hull.proofs.Common.{CellFits, LinksFit, IsProblem, conductance_of, flow_of, AllThree, IsHullPair, IsHullOf, fixed_shape, river_shape}
+use Rattle.problem_hull.proofs.Common.{drain_shape, evap_shape, fixed_hull, river_hull, drain_hull, evap_hull, IsCellHull, IsHull}
+use Rattle.step_problem.specs.declared.entry.Fixed.{Fixed}
+use Rattle.step_problem.specs.declared.entry.River.{River}
+use Rattle.step_problem.specs.declared.entry.Drain.{Drain}
+use Rattle.step_problem.specs.declared.entry.Evap.{Evap}
 use Rattle.problem_hull.proofs.Threes.{three_lengths, three_within, three_all}
 use Rattle.problem_hull.proofs.Links.{links_at, ids_at}
 
+min_head : (a c : ℤ) → IsHead a → IsHead c → IsHead (int_min a c)
+min_head a c f g = record { above = omega (arith, ints, clamps, f.above, g.above); below = omega (arith, ints, clamps, f.below, g.below) }
+
+max_head : (a c : ℤ) → IsHead a → IsHead c → IsHead (int_max a c)
+max_head a c f g = record { above = omega (arith, ints, clamps, f.above, g.above); below = omega (arith, ints, clamps, f.below, g.below) }
+
 pub lower_head : (a b c d lo hi : ℤ) → IsHullPair a b c d lo hi → IsHead a → IsHead c → IsHead lo
-lower_head a b c d lo hi h f g = record { above = omega (arith, ints, clamps, h.low, f.above, g.above); below = omega (arith, ints, clamps, h.low, f.below, g.below) }
+lower_head a b c d lo hi h f g = subst IsHead (sym h.low) (min_head a c f g)
 
 pub upper_head : (a b c d lo hi : ℤ) → IsHullPair a b c d lo hi → IsHead b → IsHead d → IsHead hi
-upper_head a b c d lo hi h f g = record { above = omega (arith, ints, clamps, h.high, f.above, g.above); below = omega (arith, ints, clamps, h.high, f.below, g.below) }
+upper_head a b c d lo hi h f g = subst IsHead (sym h.high) (max_head b d f g)
 
-ordered : (a b c d lo hi : ℕ) → IsHullSize a b c d lo hi → a ≤ b → lo ≤ hi
-ordered a b c d lo hi h f = omega (arith, h.low, h.high, f)
+ordered : (a b c d : ℕ) → a ≤ b → min a c ≤ max b d
+ordered a b c d f = omega (arith, f)
 
-deep : (a c b d lo hi : ℤ) → lo ≡ int_min a c → hi ≡ int_max b d → a ≤ℤ b → lo ≤ℤ hi
-deep a c b d lo hi low high f = omega (arith, ints, clamps, low, high, f)
+deep : (a c b d : ℤ) → a ≤ℤ b → int_min a c ≤ℤ int_max b d
+deep a c b d f = omega (arith, ints, clamps, f)
 
-fixed_fits : (a b r : Fixed) → IsFixedHull a b r → FixedFits a → FixedFits b → FixedFits r
-fixed_fits a b r h f g = record {
-  ordered = ordered _ _ _ _ _ _ h.conductance f.ordered;
-  head_lo = lower_head _ _ _ _ _ _ h.head f.head_lo g.head_lo;
-  head_hi = upper_head _ _ _ _ _ _ h.head f.head_hi g.head_hi;
+fixed_fits : (a b : Fixed) → FixedFits a → FixedFits b → FixedFits (fixed_hull a b)
+fixed_fits a b f g = record { ordered = ordered _ _ _ _ f.ordered; head_lo = min_head _ _ f.head_lo g.head_lo; head_hi = max_head _ _ f.head_hi g.head_hi }
+
+river_fits : (a b : River) → RiverFits a → RiverFits b → RiverFits (river_hull a b)
+river_fits a b f g = record {
+  ordered = ordered _ _ _ _ f.ordered;
+  stage_lo = min_head _ _ f.stage_lo g.stage_lo;
+  stage_hi = max_head _ _ f.stage_hi g.stage_hi;
+  bottom_lo = min_head _ _ f.bottom_lo g.bottom_lo;
+  bottom_hi = max_head _ _ f.bottom_hi g.bottom_hi;
 }
 
-river_fits : (a b r : River) → IsRiverHull a b r → RiverFits a → RiverFits b → RiverFits r
-river_fits a b r h f g = record {
-  ordered = ordered _ _ _ _ _ _ h.conductance f.ordered;
-  stage_lo = lower_head _ _ _ _ _ _ h.stage f.stage_lo g.stage_lo;
-  stage_hi = upper_head _ _ _ _ _ _ h.stage f.stage_hi g.stage_hi;
-  bottom_lo = lower_head _ _ _ _ _ _ h.bottom f.bottom_lo g.bottom_lo;
-  bottom_hi = upper_head _ _ _ _ _ _ h.bottom f.bottom_hi g.bottom_hi;
+drain_fits : (a b : Drain) → DrainFits a → DrainFits b → DrainFits (drain_hull a b)
+drain_fits a b f g = record { ordered = ordered _ _ _ _ f.ordered; elev_lo = min_head _ _ f.elev_lo g.elev_lo; elev_hi = max_head _ _ f.elev_hi g.elev_hi }
+
+evap_fits : (a b : Evap) → EvapFits a → EvapFits b → EvapFits (evap_hull a b)
+evap_fits a b f g = record {
+  ordered = ordered _ _ _ _ f.ordered;
+  ext_lo = min_head _ _ f.ext_lo g.ext_lo;
+  ext_hi = max_head _ _ f.ext_hi g.ext_hi;
+  surf_lo = min_head _ _ f.surf_lo g.surf_lo;
+  surf_hi = max_head _ _ f.surf_hi g.surf_hi;
+  deep = deep _ _ _ _ f.deep;
 }
 
-drain_fits : (a b r : Drain) → IsDrainHull a b r → DrainFits a → DrainFits b → DrainFits r
-drain_fits a b r h f g = record {
-  ordered = ordered _ _ _ _ _ _ h.conductance f.ordered;
-  elev_lo = lower_head _ _ _ _ _ _ h.elevation f.elev_lo g.elev_lo;
-  elev_hi = upper_head _ _ _ _ _ _ h.elevation f.elev_hi g.elev_hi;
-}
-
-evap_fits : (a b r : Evap) → IsEvapHull a b r → EvapFits a → EvapFits b → EvapFits r
-evap_fits a b r h f g = record {
-  ordered = ordered _ _ _ _ _ _ h.conductance f.ordered;
-  ext_lo = lower_head _ _ _ _ _ _ h.extinction f.ext_lo g.ext_lo;
-  ext_hi = upper_head _ _ _ _ _ _ h.extinction f.ext_hi g.ext_hi;
-  surf_lo = lower_head _ _ _ _ _ _ h.surface f.surf_lo g.surf_lo;
-  surf_hi = upper_head _ _ _ _ _ _ h.surface f.surf_hi g.surf_hi;
-  deep = deep _ _ _ _ _ _ h.extinction.low h.surface.high f.deep;
-}
+entries_fit : {X : Type 0} (shape : X → X) (hull : X → X → X) (P : X → Type 0) → ((a b : X) → P a → P b → P (hull a b)) →
+    (xs ys zs : List X) → AllThree (IsHullOf shape hull) xs ys zs → All P xs → All P ys → All P zs
+entries_fit shape hull P each = three_all (IsHullOf shape hull) P P P (λ a b r h f g. subst P (sym h.is) (each a b f g))
 
 module _ (p q r : List Entries) (first : IsProblem p) (second : IsProblem q) (h : IsHull p q r) where
   count : length r ≡ length p
@@ -69,17 +75,17 @@ module _ (p q r : List Entries) (first : IsProblem p) (second : IsProblem q) (h 
     here = three_within IsCellHull p q r c no_entries no_entries no_entries h in_first
 
     pub rivers_fit : All RiverFits (entries_at r c).rivers
-    rivers_fit = three_all IsRiverHull RiverFits RiverFits RiverFits river_fits _ _ _ here.rivers (first.cells c in_first).rivers (second.cells c in_second).rivers
+    rivers_fit = entries_fit river_shape river_hull RiverFits river_fits _ _ _ here.rivers (first.cells c in_first).rivers (second.cells c in_second).rivers
 
     pub evaps_fit : All EvapFits (entries_at r c).evaps
-    evaps_fit = three_all IsEvapHull EvapFits EvapFits EvapFits evap_fits _ _ _ here.evaps (first.cells c in_first).evaps (second.cells c in_second).evaps
+    evaps_fit = entries_fit evap_shape evap_hull EvapFits evap_fits _ _ _ here.evaps (first.cells c in_first).evaps (second.cells c in_second).evaps
 
     cell_fits : conductance_of (entries_at r c) < 2 ^ 60 → flow_of (entries_at r c) < 2 ^ 109 → CellFits (entries_at r c)
     cell_fits conductances flows = record {
       links = subst (λ (l : List Link). All LinkFits l) (sym (links_at p q r c h)) (first.cells c in_first).links;
-      fixed = three_all IsFixedHull FixedFits FixedFits FixedFits fixed_fits _ _ _ here.fixed (first.cells c in_first).fixed (second.cells c in_second).fixed;
+      fixed = entries_fit fixed_shape fixed_hull FixedFits fixed_fits _ _ _ here.fixed (first.cells c in_first).fixed (second.cells c in_second).fixed;
       rivers = rivers_fit;
-      drains = three_all IsDrainHull DrainFits DrainFits DrainFits drain_fits _ _ _ here.drains (first.cells c in_first).drains (second.cells c in_second).drains;
+      drains = entries_fit drain_shape drain_hull DrainFits drain_fits _ _ _ here.drains (first.cells c in_first).drains (second.cells c in_second).drains;
       evaps = evaps_fit;
       conductances = conductances;
       flows = flows;

@@ -9,6 +9,7 @@ use Rattle.step_problem.specs.declared.entry.River.{River}
 use Rattle.step_problem.specs.declared.entry.Drain.{Drain}
 use Rattle.step_problem.specs.declared.entry.Evap.{Evap}
 use Rattle.step_problem.specs.Entries.{Entries}
+use Rattle.problem_hull.specs.Shapes.{link_shape, flow_shape, fixed_shape, river_shape, drain_shape, evap_shape}
 
 -- Three lists that are related place by place.
 -- The lists are equally long, and R holds of the three items at each place.
@@ -21,53 +22,54 @@ pub record IsHullPair (a b c d lo hi : ℤ) : Type 0 where
   pub low : lo ≡ int_min a c
   pub high : hi ≡ int_max b d
 
--- the same of the bounds of a conductance
-pub record IsHullSize (a b c d lo hi : ℕ) : Type 0 where
-  pub low : lo ≡ min a c
-  pub high : hi ≡ max b d
+-- the hull of two entries
+abbrev pub link_hull : Link → Link → Link
+link_hull a b = a
 
--- r is the hull of the entries a and b
-pub record IsLinkHull (a b r : Link) : Type 0 where
-  pub kept : r ≡ a
-  pub alike : b ≡ a
+abbrev pub flow_hull : Flow → Flow → Flow
+flow_hull a b = record a { lo = int_min a.lo b.lo; hi = int_max a.hi b.hi }
 
-pub record IsFlowHull (a b r : Flow) : Type 0 where
-  pub kind : r.kind ≡ a.kind
-  pub alike : b.kind ≡ a.kind
-  pub flow : IsHullPair a.lo a.hi b.lo b.hi r.lo r.hi
+abbrev pub fixed_hull : Fixed → Fixed → Fixed
+fixed_hull a b = record a { lo = min a.lo b.lo; hi = max a.hi b.hi; head_lo = int_min a.head_lo b.head_lo; head_hi = int_max a.head_hi b.head_hi }
 
-pub record IsFixedHull (a b r : Fixed) : Type 0 where
-  pub kind : r.kind ≡ a.kind
-  pub alike : b.kind ≡ a.kind
-  pub source : r.source ≡ a.source
-  pub alike_source : b.source ≡ a.source
-  pub conductance : IsHullSize a.lo a.hi b.lo b.hi r.lo r.hi
-  pub head : IsHullPair a.head_lo a.head_hi b.head_lo b.head_hi r.head_lo r.head_hi
+abbrev pub river_hull : River → River → River
+river_hull a b = record {
+  lo = min a.lo b.lo;
+  hi = max a.hi b.hi;
+  stage_lo = int_min a.stage_lo b.stage_lo;
+  stage_hi = int_max a.stage_hi b.stage_hi;
+  bottom_lo = int_min a.bottom_lo b.bottom_lo;
+  bottom_hi = int_max a.bottom_hi b.bottom_hi;
+}
 
-pub record IsRiverHull (a b r : River) : Type 0 where
-  pub conductance : IsHullSize a.lo a.hi b.lo b.hi r.lo r.hi
-  pub stage : IsHullPair a.stage_lo a.stage_hi b.stage_lo b.stage_hi r.stage_lo r.stage_hi
-  pub bottom : IsHullPair a.bottom_lo a.bottom_hi b.bottom_lo b.bottom_hi r.bottom_lo r.bottom_hi
+abbrev pub drain_hull : Drain → Drain → Drain
+drain_hull a b = record { lo = min a.lo b.lo; hi = max a.hi b.hi; elev_lo = int_min a.elev_lo b.elev_lo; elev_hi = int_max a.elev_hi b.elev_hi }
 
-pub record IsDrainHull (a b r : Drain) : Type 0 where
-  pub conductance : IsHullSize a.lo a.hi b.lo b.hi r.lo r.hi
-  pub elevation : IsHullPair a.elev_lo a.elev_hi b.elev_lo b.elev_hi r.elev_lo r.elev_hi
+abbrev pub evap_hull : Evap → Evap → Evap
+evap_hull a b = record {
+  lo = min a.lo b.lo;
+  hi = max a.hi b.hi;
+  ext_lo = int_min a.ext_lo b.ext_lo;
+  ext_hi = int_max a.ext_hi b.ext_hi;
+  surf_lo = int_min a.surf_lo b.surf_lo;
+  surf_hi = int_max a.surf_hi b.surf_hi;
+}
 
-pub record IsEvapHull (a b r : Evap) : Type 0 where
-  pub conductance : IsHullSize a.lo a.hi b.lo b.hi r.lo r.hi
-  pub extinction : IsHullPair a.ext_lo a.ext_hi b.ext_lo b.ext_hi r.ext_lo r.ext_hi
-  pub surface : IsHullPair a.surf_lo a.surf_hi b.surf_lo b.surf_hi r.surf_lo r.surf_hi
+-- r is the hull of two entries of one shape
+pub record IsHullOf {X : Type 0} (shape : X → X) (hull : X → X → X) (a b r : X) : Type 0 where
+  pub alike : shape b ≡ shape a
+  pub is : r ≡ hull a b
 
 -- r is the hull of the cells a and b
 pub record IsCellHull (a b r : Entries) : Type 0 where
   pub id : r.id ≡ a.id
   pub alike : b.id ≡ a.id
-  pub flows : AllThree IsFlowHull a.flows b.flows r.flows
-  pub links : AllThree IsLinkHull a.links b.links r.links
-  pub fixed : AllThree IsFixedHull a.fixed b.fixed r.fixed
-  pub rivers : AllThree IsRiverHull a.rivers b.rivers r.rivers
-  pub drains : AllThree IsDrainHull a.drains b.drains r.drains
-  pub evaps : AllThree IsEvapHull a.evaps b.evaps r.evaps
+  pub flows : AllThree (IsHullOf flow_shape flow_hull) a.flows b.flows r.flows
+  pub links : AllThree (IsHullOf link_shape link_hull) a.links b.links r.links
+  pub fixed : AllThree (IsHullOf fixed_shape fixed_hull) a.fixed b.fixed r.fixed
+  pub rivers : AllThree (IsHullOf river_shape river_hull) a.rivers b.rivers r.rivers
+  pub drains : AllThree (IsHullOf drain_shape drain_hull) a.drains b.drains r.drains
+  pub evaps : AllThree (IsHullOf evap_shape evap_hull) a.evaps b.evaps r.evaps
 
 -- r is the hull of the problems p and q, cell by cell
 abbrev pub IsHull : List Entries → List Entries → List Entries → Type 0

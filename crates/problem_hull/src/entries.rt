@@ -1,26 +1,26 @@
 // The hull of two entries of one shape.
 ghost use Rattle.std.specs.Prelude.{◌≡◌, MatchOption};
 ghost use Rattle.problem_hull.specs.Shapes.{link_shape, flow_shape, fixed_shape, river_shape, drain_shape, evap_shape};
-ghost use Rattle.problem_hull.specs.Hulls.{IsLinkHull, IsFlowHull, IsFixedHull, IsRiverHull, IsDrainHull, IsEvapHull};
+ghost use Rattle.problem_hull.specs.Hulls.{IsHullOf, link_hull, flow_hull, fixed_hull, river_hull, drain_hull, evap_hull};
 
 use crate::kinds::{same_fixed_kind, same_flow_kind};
 use step_problem::{Drain, Evap, Fixed, Flow, Link, River};
 
-/// An entry that is known by bounds. `shape` is the entry without its bounds.
+/// An entry that is known by bounds. `shape` is the entry without its bounds; `hull_of` is the hull of two of one shape.
 pub trait Bounded: Copy {
     ghost shape: { Self → Self };
 
-    ghost is_hull: { Self → Self → Self → Type 0 };
+    ghost hull_of: { Self → Self → Self };
 
     /// The hull of two entries, or None where their shapes differ.
     fn hull(self, other: Self) -> Option<Self>
-        ensures { MatchOption result (shape other ≡ shape self → ⊥) (λ r. is_hull self other r) };
+        ensures { MatchOption result (shape other ≡ shape self → ⊥) (λ r. IsHullOf shape hull_of self other r) };
 }
 
 impl Bounded for Link {
     ghost shape = { link_shape };
 
-    ghost is_hull = { IsLinkHull };
+    ghost hull_of = { link_hull };
 
     fn hull(self, other: Link) -> Option<Link> {
         if self == other { Some(self) } else { None }
@@ -30,7 +30,7 @@ impl Bounded for Link {
 impl Bounded for Flow {
     ghost shape = { flow_shape };
 
-    ghost is_hull = { IsFlowHull };
+    ghost hull_of = { flow_hull };
 
     fn hull(self, other: Flow) -> Option<Flow> {
         if same_flow_kind(self.kind, other.kind) {
@@ -48,7 +48,7 @@ impl Bounded for Flow {
 impl Bounded for Fixed {
     ghost shape = { fixed_shape };
 
-    ghost is_hull = { IsFixedHull };
+    ghost hull_of = { fixed_hull };
 
     fn hull(self, other: Fixed) -> Option<Fixed> {
         if same_fixed_kind(self.kind, other.kind) && self.source == other.source {
@@ -69,7 +69,7 @@ impl Bounded for Fixed {
 impl Bounded for River {
     ghost shape = { river_shape };
 
-    ghost is_hull = { IsRiverHull };
+    ghost hull_of = { river_hull };
 
     fn hull(self, other: River) -> Option<River> {
         Some(River {
@@ -86,7 +86,7 @@ impl Bounded for River {
 impl Bounded for Drain {
     ghost shape = { drain_shape };
 
-    ghost is_hull = { IsDrainHull };
+    ghost hull_of = { drain_hull };
 
     fn hull(self, other: Drain) -> Option<Drain> {
         Some(Drain {
@@ -101,7 +101,7 @@ impl Bounded for Drain {
 impl Bounded for Evap {
     ghost shape = { evap_shape };
 
-    ghost is_hull = { IsEvapHull };
+    ghost hull_of = { evap_hull };
 
     fn hull(self, other: Evap) -> Option<Evap> {
         Some(Evap {

@@ -1,6 +1,6 @@
 // The hull of two problems.
 ghost use Rattle.std.specs.Prelude.{◌≡◌, IfOk, IfErr, map, ◌<◌, length, ℕ, All, None, MatchOption};
-ghost use Rattle.problem_hull.specs.Hulls.{IsHull, AllThree, IsCellHull};
+ghost use Rattle.problem_hull.specs.Hulls.{IsHull, IsHullOf, AllThree, IsCellHull};
 ghost use Rattle.problem_hull.specs.Refusals.{IsHullFault, IsUnlike, sum_refusal, IsFirstTooLarge};
 ghost use Rattle.step_problem.specs.Entries.{entries_at};
 ghost use Rattle.problem_hull.specs.Shapes.{cell_shape, AreAlike};
@@ -30,7 +30,7 @@ pub fn hull(alloc: Global, p: &Problem, q: &Problem) -> Result<Problem, HullFaul
 // The hulls of two lists of entries, place by place.
 
 pub fn hulls<E: Bounded + Drop>(alloc: Global, a: &[E], b: &[E]) -> Result<Vec<E>, HullFault>
-    ensures hulls { IfOk result (λ v. AllThree E.is_hull a.now b.now v.items) }
+    ensures hulls { IfOk result (λ v. AllThree (IsHullOf E.shape E.hull_of) a.now b.now v.items) }
     ensures fault { IfErr result (IsUnlike (map E.shape b.now ≡ map E.shape a.now)) }
 {
     if a.len() != b.len() {

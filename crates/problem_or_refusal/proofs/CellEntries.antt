@@ -23,8 +23,7 @@ use Rattle.model_types.specs.Sources.FixedSource.{ToConstant, ToGeneral, FromSto
 use Rattle.model_types.specs.Sources.FlowSource.{Pumped, Received}
 use Rattle.model_types.proofs.Leads.{IsFaceOf, passing_are}
 use Rattle.model_types.proofs.Members.{In, In-All, filter_map-In}
-use Rattle.problem_builder.proofs.CellFits.{drain_valid}
-use Rattle.problem_builder.proofs.Fits.{pair_ordered, river_valid}
+use Rattle.problem_builder.proofs.Fits.{pair_ordered, river_valid, drain_valid}
 use Rattle.problem_builder.proofs.ValidEntries.{local_valid}
 use Rattle.problem_builder.proofs.ActiveCells.{variable_active, constant_active}
 use Rattle.problem_builder.proofs.ChosenRates.{rate_valid}

@@ -5,7 +5,6 @@ pub use Rattle.std.proofs.Math.Nat.{div-mul-le_self, lt-mul-div-succ, mul-le-mul
 pub use Rattle.std.proofs.lemmas.Bool.{cases_Bool, cases_lt, false≢true, true≢false}
 pub use Rattle.std.specs.List.{All, AllZip, range_with_len}
 pub use Rattle.std.specs.Prelude.{min, unsigned_abs, ◌==◌}
-pub use Rattle.conductance_bounds.proofs.PartBounds.{has_ceiling, unity_positive}
 pub use Rattle.conductance_bounds.proofs.Whole.{ceiling-passes}
 pub use Rattle.conductance_bounds.specs.Formulas.{bed_term, column_k_term, evap_term, face_term, recharge_term, storage_term, thick_term, vertical_half_term}
 pub use Rattle.conductance_bounds.specs.Formulas.{vertical_k_at}
@@ -15,11 +14,11 @@ unfoldable pub use Rattle.conductance_bounds.specs.Parts.{power_term, sum_term}
 pub use Rattle.conductance_bounds.specs.Terms.{Holds, IsBound, IsRounded, Side, Term, end, other}
 pub use Rattle.conductance_bounds.specs.Terms.Side.{Lower, Upper}
 pub use Rattle.conductance_bounds.specs.Terms.Term.{Number, Product, Quotient, Sum, Within}
+pub use Rattle.decimal_input.proofs.Past.{a_ceiling, a_floor}
 pub use Rattle.decimal_input.proofs.Powers.{den_scaled, num_scaled, scaled_shift, ten_pos}
 pub use Rattle.decimal_input.specs.Decimals.{IsDec, number, size, up}
 unfoldable pub use Rattle.decimal_input.specs.Decimals.{scaled}
 pub use Rattle.decimal_input.specs.Ratios.{AtMost, Ratio, Same, den, over, plus, times}
-pub use Rattle.decimal_input.specs.Wholes.{IsFloor, IsSignedCeiling, IsSignedFloor}
 pub use Rattle.decimal_input.specs.declared.dec.Dec.{Dec}
 pub use Rattle.model_types.specs.Faces.{cell_count, layer_size, place_in_layer, stride}
 pub use Rattle.model_types.specs.Grids.{IsNotNegative, IsPositive, IsThick}

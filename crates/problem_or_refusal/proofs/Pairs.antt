@@ -1,28 +1,15 @@
 -- Each formula that has both bounds has both whole bounds.
-use Rattle.problem_or_refusal.proofs.Common.{ℕ, ◌+◌, ◌*◌, ◌-◌, ◌/◌, ◌<◌, ◌^◌, inl, inr, refl, arith, lt-mul-div-succ, div-mul-le_self, cases_lt, Ratio, den}
-use Rattle.problem_or_refusal.proofs.Common.{value, Term, Lower, Upper, IsBounded, IsFloor, IsPair, IsCapped, has_ceiling, ceiling-passes, RoundingsExist}
-use Rattle.problem_or_refusal.proofs.Common.{BoundsExist, PairsExist}
+use Rattle.problem_or_refusal.proofs.Common.{ℕ, ◌-◌, ◌^◌, inl, inr, refl, arith, cases_lt, value, Term, Lower, Upper, IsBounded, IsPair, IsCapped}
+use Rattle.problem_or_refusal.proofs.Common.{ceiling-passes, RoundingsExist, BoundsExist, PairsExist, a_floor, a_ceiling}
 use Rattle.problem_or_refusal.proofs.Roundings.{down_of, up_of}
 use Rattle.problem_or_refusal.proofs.TermBounds.{bound_of}
-
-pub floor_of : (f : Ratio) (s : ℕ) → (n : ℕ) × IsFloor n f s
-floor_of f s = (
-  f.num * 10 ^ s / den f,
-  record {
-    at_most = div-mul-le_self (f.num * 10 ^ s) (den f);
-    next = turned (f.num * 10 ^ s) (f.num * 10 ^ s / den f) (den f) (lt-mul-div-succ (f.num * 10 ^ s) (omega arith));
-  },
-)
-  where
-    turned : (x q d : ℕ) → x < d * (q + 1) → x < (q + 1) * d
-    turned x q d h = omega arith
 
 pub pair_of : (t : Term) → IsBounded t → (s : ℕ) → (lo : ℕ) × (hi : ℕ) × IsPair t s lo hi
 pair_of t is s =
     let (low, low_is) = bound_of t is Lower in
     let (high, high_is) = bound_of t is Upper in
-    let (lo, floor) = floor_of (value low) s in
-    let (hi, ceiling) = has_ceiling (value high) s in
+    let (lo, floor) = a_floor (value low) s in
+    let (hi, ceiling) = a_ceiling (value high) s in
     (lo, hi, record { low = low; high = high; low_is = low_is; high_is = high_is; floor = floor; ceiling = ceiling })
 
 pub capped_of : (t : Term) → IsBounded t → (s : ℕ) → (lo : ℕ) × (hi : ℕ) × IsCapped t s lo hi

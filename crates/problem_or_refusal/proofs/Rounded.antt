@@ -1,24 +1,24 @@
 -- Numbers of the input have whole bounds, and are decimals of 18 digits.
 use Rattle.problem_or_refusal.proofs.Common.{◌≡◌, ℕ, zero, suc, ◌+◌, ◌-◌, ◌*◌, ◌/◌, ◌≤◌, ◌<◌, ◌^◌, inl, inr, refl, subst, arith, ℤ, pos, negsuc, neg_ℤ, ◌+ℤ◌}
 use Rattle.problem_or_refusal.proofs.Common.{◌-ℤ◌, ◌*ℤ◌, ◌≤ℤ◌, ◌<ℤ◌, cases_lt, cases_Bool, Dec, IsDec, size, number, scaled, Same, scaled_shift, IsFloorOf}
-use Rattle.problem_or_refusal.proofs.Common.{IsCeilingOf, Number, has_ceiling, IsBounded, pow-suc, lt-mul-div-succ, div-mul-le_self, IsSignedFloor}
-use Rattle.problem_or_refusal.proofs.Common.{IsSignedCeiling, nothing_same, IsHeadPair}
-use Rattle.problem_or_refusal.proofs.Pairs.{floor_of}
+use Rattle.problem_or_refusal.proofs.Common.{IsCeilingOf, Number, IsBounded, pow-suc, lt-mul-div-succ, div-mul-le_self, nothing_same, IsHeadPair, a_floor}
+use Rattle.problem_or_refusal.proofs.Common.{a_ceiling}
+use Rattle.decimal_input.specs.Wholes.{IsSignedFloor, IsSignedCeiling}
 use Rattle.std.proofs.lemmas.Int.{ints}
 use Rattle.decimal_input.proofs.SignedFloors.{floor_of_floor, floor_of_ceiling, ceiling_of_ceiling, ceiling_of_floor}
 
 pub signed_floor : (d : Dec) (s : ℕ) → (z : ℤ) × IsSignedFloor z (number d) s
 signed_floor d s =
     elim (cases_Bool d.neg) [
-      | inl minus ↦ let (k, is) = has_ceiling (size d) s in (neg_ℤ (pos k), floor_of_ceiling d s k (neg_ℤ (pos k)) minus refl is)
-      | inr plus ↦ let (k, is) = floor_of (size d) s in (pos k, floor_of_floor d s k (pos k) plus refl is)
+      | inl minus ↦ let (k, is) = a_ceiling (size d) s in (neg_ℤ (pos k), floor_of_ceiling d s k (neg_ℤ (pos k)) minus refl is)
+      | inr plus ↦ let (k, is) = a_floor (size d) s in (pos k, floor_of_floor d s k (pos k) plus refl is)
     ]
 
 pub signed_ceiling : (d : Dec) (s : ℕ) → (z : ℤ) × IsSignedCeiling z (number d) s
 signed_ceiling d s =
     elim (cases_Bool d.neg) [
-      | inl minus ↦ let (k, is) = floor_of (size d) s in (neg_ℤ (pos k), ceiling_of_floor d s k (neg_ℤ (pos k)) minus refl is)
-      | inr plus ↦ let (k, is) = has_ceiling (size d) s in (pos k, ceiling_of_ceiling d s k (pos k) plus refl is)
+      | inl minus ↦ let (k, is) = a_floor (size d) s in (neg_ℤ (pos k), ceiling_of_floor d s k (neg_ℤ (pos k)) minus refl is)
+      | inr plus ↦ let (k, is) = a_ceiling (size d) s in (pos k, ceiling_of_ceiling d s k (pos k) plus refl is)
     ]
 
 pub head_pair : (d : Dec) → (lo : ℤ) × (hi : ℤ) × IsHeadPair d lo hi

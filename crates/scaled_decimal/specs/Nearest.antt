@@ -30,6 +30,13 @@ pub record IsNear (e : ℤ) (b : ℕ) : Type 0 where
   pub above : neg_ℤ (pos b) ≤ℤ e
   pub below : e ≤ℤ pos b
 
+-- two decimals with exponents from -10000 to 10000
+pub record AreOperands (a b : Sd) : Type 0 where
+  pub a_decimal : IsSd a
+  pub b_decimal : IsSd b
+  pub a_near : IsNear a.e 10000
+  pub b_near : IsNear b.e 10000
+
 -- r is positive, with an exponent from low to high
 pub record HasSize (r : Sd) (low high : ℤ) : Type 0 where
   pub positive : 0 < r.m

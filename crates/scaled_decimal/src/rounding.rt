@@ -1,7 +1,7 @@
 // Rounding a longer number to its leading 18 digits.
 ghost use Rattle.std.specs.Prelude.{◌≡◌, ◌+◌, ◌-◌, ◌*◌, ◌^◌, ◌≤◌, ◌<◌, pos, ◌+ℤ◌, ◌-ℤ◌};
 ghost use Rattle.decimal_input.specs.Ratios.{Ratio, over, times};
-ghost use Rattle.scaled_decimal.specs.Nearest.{IsDown, IsUp, IsNear, HasSize, IsFrom, IsUpTo, IsSd, value, IsWithin};
+ghost use Rattle.scaled_decimal.specs.Nearest.{IsDown, IsUp, IsNear, AreOperands, HasSize, IsFrom, IsUpTo, value, IsWithin};
 
 use crate::decimal::{LEAST, LIMIT, Sd, ZERO};
 use crate::power::{ONE, Power};
@@ -59,10 +59,7 @@ pub(crate) fn round_up(p: u128, behind: Power, e: i16) -> Sd
 
 /// The greatest decimal of 18 digits not above a over b.
 pub fn div_dn(a: Sd, b: Sd) -> Sd
-    requires a_decimal { IsSd a }
-    requires b_decimal { IsSd b }
-    requires a_near { IsNear a.e 10000 }
-    requires b_near { IsNear b.e 10000 }
+    requires operands { AreOperands a b }
     requires divisor { 0 < b.m }
     ensures nearest { IsDown result (over (value a) (value b)) }
     ensures size { 0 < a.m → HasSize result (a.e -ℤ b.e -ℤ pos 18) (a.e -ℤ b.e -ℤ pos 17) }
@@ -79,10 +76,7 @@ pub fn div_dn(a: Sd, b: Sd) -> Sd
 
 /// The least decimal of 18 digits not below a over b.
 pub fn div_up(a: Sd, b: Sd) -> Sd
-    requires a_decimal { IsSd a }
-    requires b_decimal { IsSd b }
-    requires a_near { IsNear a.e 10000 }
-    requires b_near { IsNear b.e 10000 }
+    requires operands { AreOperands a b }
     requires divisor { 0 < b.m }
     ensures nearest { IsUp result (over (value a) (value b)) }
     ensures size { 0 < a.m → HasSize result (a.e -ℤ b.e -ℤ pos 18) (a.e -ℤ b.e -ℤ pos 17) }
@@ -107,10 +101,7 @@ const BEHIND_PRODUCT: Power = Power {
 
 /// The greatest decimal of 18 digits not above the product.
 pub fn mul_dn(a: Sd, b: Sd) -> Sd
-    requires a_decimal { IsSd a }
-    requires b_decimal { IsSd b }
-    requires a_near { IsNear a.e 10000 }
-    requires b_near { IsNear b.e 10000 }
+    requires operands { AreOperands a b }
     ensures nearest { IsDown result (times (value a) (value b)) }
     ensures size { 0 < a.m → 0 < b.m → HasSize result (a.e +ℤ b.e +ℤ pos 17) (a.e +ℤ b.e +ℤ pos 18) }
     ensures exponent { IsWithin result.e (a.e +ℤ b.e +ℤ pos 17) (a.e +ℤ b.e +ℤ pos 18) }
@@ -125,10 +116,7 @@ pub fn mul_dn(a: Sd, b: Sd) -> Sd
 
 /// The least decimal of 18 digits not below the product.
 pub fn mul_up(a: Sd, b: Sd) -> Sd
-    requires a_decimal { IsSd a }
-    requires b_decimal { IsSd b }
-    requires a_near { IsNear a.e 10000 }
-    requires b_near { IsNear b.e 10000 }
+    requires operands { AreOperands a b }
     ensures nearest { IsUp result (times (value a) (value b)) }
     ensures size { 0 < a.m → 0 < b.m → HasSize result (a.e +ℤ b.e +ℤ pos 17) (a.e +ℤ b.e +ℤ pos 18) }
     ensures exponent { IsWithin result.e (a.e +ℤ b.e +ℤ pos 17) (a.e +ℤ b.e +ℤ pos 18) }

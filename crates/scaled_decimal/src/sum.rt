@@ -3,7 +3,7 @@
 ghost use Rattle.std.specs.Prelude.{◌<◌, pos, ◌+ℤ◌, ◌≤ℤ◌};
 ghost use Rattle.std.specs.Int.{int_min, int_max};
 ghost use Rattle.decimal_input.specs.Ratios.{plus};
-ghost use Rattle.scaled_decimal.specs.Nearest.{IsSd, value, IsDown, IsUp, IsNear, HasSize, IsWithin};
+ghost use Rattle.scaled_decimal.specs.Nearest.{value, IsDown, IsUp, AreOperands, HasSize, IsWithin};
 
 use crate::decimal::Sd;
 use crate::power::{TEN, power_of_ten};
@@ -11,12 +11,9 @@ use crate::rounding::{round_dn, round_up};
 
 // The sum of two positive decimals, the greater exponent first.
 fn sum_dn(a: Sd, b: Sd) -> Sd
-    requires a_decimal { IsSd a }
-    requires b_decimal { IsSd b }
+    requires operands { AreOperands a b }
     requires a_positive { 0 < a.m }
     requires b_positive { 0 < b.m }
-    requires a_near { IsNear a.e 10000 }
-    requires b_near { IsNear b.e 10000 }
     requires order { b.e ≤ℤ a.e }
     ensures nearest { IsDown result (plus (value a) (value b)) }
     ensures size { HasSize result a.e (a.e +ℤ pos 1) }
@@ -33,12 +30,9 @@ fn sum_dn(a: Sd, b: Sd) -> Sd
 
 // The same, rounded up.
 fn sum_up(a: Sd, b: Sd) -> Sd
-    requires a_decimal { IsSd a }
-    requires b_decimal { IsSd b }
+    requires operands { AreOperands a b }
     requires a_positive { 0 < a.m }
     requires b_positive { 0 < b.m }
-    requires a_near { IsNear a.e 10000 }
-    requires b_near { IsNear b.e 10000 }
     requires order { b.e ≤ℤ a.e }
     ensures nearest { IsUp result (plus (value a) (value b)) }
     ensures size { HasSize result a.e (a.e +ℤ pos 1) }
@@ -55,10 +49,7 @@ fn sum_up(a: Sd, b: Sd) -> Sd
 
 /// The greatest decimal of 18 digits not above the sum.
 pub fn add_dn(a: Sd, b: Sd) -> Sd
-    requires a_decimal { IsSd a }
-    requires b_decimal { IsSd b }
-    requires a_near { IsNear a.e 10000 }
-    requires b_near { IsNear b.e 10000 }
+    requires operands { AreOperands a b }
     ensures nearest { IsDown result (plus (value a) (value b)) }
     ensures size { 0 < a.m → 0 < b.m → HasSize result (int_max a.e b.e) (int_max a.e b.e +ℤ pos 1) }
     ensures exponent { IsWithin result.e (int_min a.e b.e) (int_max a.e b.e +ℤ pos 1) }
@@ -76,10 +67,7 @@ pub fn add_dn(a: Sd, b: Sd) -> Sd
 
 /// The least decimal of 18 digits not below the sum.
 pub fn add_up(a: Sd, b: Sd) -> Sd
-    requires a_decimal { IsSd a }
-    requires b_decimal { IsSd b }
-    requires a_near { IsNear a.e 10000 }
-    requires b_near { IsNear b.e 10000 }
+    requires operands { AreOperands a b }
     ensures nearest { IsUp result (plus (value a) (value b)) }
     ensures size { 0 < a.m → 0 < b.m → HasSize result (int_max a.e b.e) (int_max a.e b.e +ℤ pos 1) }
     ensures exponent { IsWithin result.e (int_min a.e b.e) (int_max a.e b.e +ℤ pos 1) }

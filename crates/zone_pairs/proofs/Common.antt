@@ -7,7 +7,7 @@ pub use Rattle.std.proofs.lemmas.List.Elements.{All-nil, All-weaker, filter_pass
 pub use Rattle.std.specs.List.{AllByRecursion, list_any, range_with_len}
 pub use Rattle.std.specs.Ordering.{nat_cmp}
 pub use Rattle.model_types.specs.Faces.{cell_count, faces}
-pub use Rattle.model_types.specs.Heads.{given_heads, is_variable, variable_cells}
+pub use Rattle.model_types.specs.Heads.{is_variable, variable_cells}
 unfoldable pub use Rattle.model_types.specs.Heads.{variable_below}
 pub use Rattle.model_types.specs.declared.model.FlowModel.{FlowModel}
 pub use Rattle.zone_pairs.specs.Pairs.{AreNumbers, AreZones, Gains, joins, joins_by, pair_of, pairs_in}

@@ -1,7 +1,5 @@
 // The pairs of zones from stress period to stress period.
 ghost use Rattle.std.specs.Prelude.{◌≡◌, ◌≤◌, IfOk, IfSome, OnOk, length, option_map};
-ghost use Rattle.model_types.specs.Heads.{given_heads};
-ghost use Rattle.model_types.specs.Valid.{IsModel};
 ghost use Rattle.zone_pairs.specs.Pairs.{pairs_in, ArePairs, CanPair, IsWalk, listed_pairs, zones_of};
 
 use crate::pair::ZonePair;
@@ -21,38 +19,6 @@ struct Walk<'a> {
 #[derive(Drop)]
 pub struct ZonePairs<'a> {
     walk: Option<Walk<'a>>,
-}
-
-// Moves to the given heads of this period. It starts anew before an earlier one.
-fn advance_to(
-    given: &mut GivenHeads,
-    alloc: Global,
-    model: &FlowModel,
-    period: u32,
-) -> Result<(), AllocError>
-    requires model { IsModel model.now }
-    requires given { given.old ≡ given_heads model.now given.old.period }
-    requires last { period ≤ length model.now.periods }
-    ensures given { given.new ≡ given_heads model.now given.new.period }
-    ensures there { OnOk result (given.new.period ≡ period) }
-{
-    begin_until(given, alloc, model, period);
-    for _ in given.period..period {
-        *given = given.next(alloc, model)?;
-    }
-    Ok(())
-}
-
-// Starts anew before the first period, if the given heads are those of a later period than this one.
-fn begin_until(given: &mut GivenHeads, alloc: Global, model: &FlowModel, period: u32)
-    requires model { IsModel model.now }
-    requires given { given.old ≡ given_heads model.now given.old.period }
-    ensures given { given.new ≡ given_heads model.now given.new.period }
-    ensures before { given.new.period ≤ period }
-{
-    if given.period > period {
-        *given = GivenHeads::new(alloc, model);
-    }
 }
 
 impl<'a> Walk<'a> {
@@ -78,7 +44,7 @@ impl<'a> Walk<'a> {
         ensures zones { self.new.zones.now ≡ self.old.zones.now }
     {
         if self.given.period != period {
-            advance_to(&mut self.given, alloc, model, period)?;
+            self.given.advance_to(alloc, model, period)?;
             self.pairs = Listed::new(zone_pairs(alloc, model, &self.given, self.zones)?);
         }
         Ok(())

@@ -1,4 +1,4 @@
 use Rattle.conductance_bounds.proofs.area.area.Goals as goal
 
 pub returns-clause-bounds : goal.returns-clause-bounds
-returns-clause-bounds c = c.times.ensures.bounds _ _ c.exactly.ensures.bounds c.exactly-2.ensures.bounds
+returns-clause-bounds c = c.times.ensures.bounds _ _ c.exact_span.ensures.bounds c.exact_span-2.ensures.bounds

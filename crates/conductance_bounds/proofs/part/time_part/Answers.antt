@@ -1,5 +1,6 @@
 use Rattle.conductance_bounds.proofs.Common.{◌≡◌, ◌^◌, true, false, inl, inr, refl, sym, ◌∙◌, value, is_whole}
-use Rattle.conductance_bounds.proofs.PartBounds.{part_encloses, lower_at_most, has_ceiling, multiplier_positive}
+use Rattle.conductance_bounds.proofs.PartBounds.{part_encloses, lower_at_most, multiplier_positive}
+use Rattle.decimal_input.proofs.Past.{a_ceiling}
 use Rattle.conductance_bounds.proofs.part.time_part.Goals as goal
 
 pub returns-then-is_over-clause-encloses : goal.returns-then-is_over-clause-encloses
@@ -16,7 +17,7 @@ pub returns-clause-rounded : goal.returns-clause-rounded
 returns-clause-rounded c =
     let going : is_whole c.args.period.now c.args.step ≡ false = sym c.is_over.ensures ∙ c.if-is_over.false in
     let bounds = c.over-passed.ensures.bounds _ _ c.sum_at.ensures.bounds c.sum_at-2.ensures.bounds in
-    let ceiling = has_ceiling (value c.over-passed.result.hi) 18 in
+    let ceiling = a_ceiling (value c.over-passed.result.hi) 18 in
     inr (
       going,
       record {

@@ -1,4 +1,4 @@
-use Rattle.deck_problems.proofs.Common.{ℕ, subst, IsProblemOf, time_of}
+use Rattle.deck_problems.proofs.Common.{ℕ, subst, time_of, IsBuilt}
 use Rattle.deck_problems.proofs.problem.model_problem.Goals as goal
 
 pub go_to-requires-clause-first : goal.go_to-requires-clause-first
@@ -9,10 +9,11 @@ go_to-requires-clause-last c = (time_of c.args.model.now c.args.at c.requires.mo
 
 pub returns-clause-problem : goal.returns-clause-problem
 returns-clause-problem c =
-    let P : ℕ → Type 0 = λ s. IsProblemOf c.args.model.now s c.args.at c.args.old.now c.in_ok-problem.problem in
+    let P : ℕ → Type 0 = λ s. IsBuilt c.args.model.now s c.args.at c.args.old.now c.in_ok-problem.problem in
+    let built = subst P c.go_to.ensures.digits c.in_ok-problem.ensures.built in
     record {
-      problem = subst P c.go_to.ensures.digits c.in_ok-problem.ensures.problem;
+      problem = built.problem;
       constant = c.in_ok-step.ensures.heads;
-      cells = record { cells = c.in_ok-problem.ensures.cells; named = c.in_ok-problem.ensures.named };
-      encloses = rw c.go_to.ensures.digits at c.in_ok-problem.ensures.encloses;
+      cells = record { cells = built.cells; named = built.named };
+      encloses = built.encloses;
     }

@@ -11,19 +11,17 @@ new-requires c =
     let are = c.requires in
     is_problem i.model (widths_of i.tables) i.tables.digits i.at i.old are.model are.time (bounds_enclose i.model (widths_of i.tables) i.tables.digits i.at are.model are.tables.thicknesses are.time) are.old c.in_ok-cells.cells.items c.in_ok-cells.ensures.cells
 
-pub returns-clause-cells : goal.returns-clause-cells
-returns-clause-cells c = let i = c.args.input.now in rw c.new.ensures (ids_are i.model (widths_of i.tables) i.tables.digits i.at i.old c.in_ok-cells.cells.items c.in_ok-cells.ensures.cells)
-
-pub returns-clause-named : goal.returns-clause-named
-returns-clause-named c =
-    let i = c.args.input.now in rw c.new.ensures (named_active i.model (widths_of i.tables) i.tables.digits i.at i.old c.requires.size c.in_ok-cells.cells.items c.in_ok-cells.ensures.cells)
-
-pub returns-clause-encloses : goal.returns-clause-encloses
-returns-clause-encloses c = λ before olds.
+pub returns-clause-built : goal.returns-clause-built
+returns-clause-built c =
     let i = c.args.input.now in
+    let w = widths_of i.tables in
     let are = c.requires in
-    rw c.new.ensures (step_encloses i.model (widths_of i.tables) i.tables.digits i.at i.old c.in_ok-cells.cells.items before are.size (bounds_enclose i.model (widths_of i.tables) i.tables.digits i.at are.model are.tables.thicknesses are.time) olds c.in_ok-cells.ensures.cells)
-
-pub returns-clause-stored : goal.returns-clause-stored
-returns-clause-stored c = λ steady.
-    let i = c.args.input.now in rw c.new.ensures (old_heads i.model (widths_of i.tables) i.tables.digits i.at i.old c.requires.size c.in_ok-cells.cells.items c.in_ok-cells.ensures.cells steady)
+    let es = c.in_ok-cells.cells.items in
+    let cells = c.in_ok-cells.ensures.cells in
+    rw c.new.ensures (record {
+      problem = record { widths = w; thicknesses = are.tables.thicknesses; cells = cells };
+      cells = ids_are i.model w i.tables.digits i.at i.old es cells;
+      named = named_active i.model w i.tables.digits i.at i.old are.size es cells;
+      encloses = λ before olds. step_encloses i.model w i.tables.digits i.at i.old es before are.size (bounds_enclose i.model w i.tables.digits i.at are.model are.tables.thicknesses are.time) olds cells;
+      stored = old_heads i.model w i.tables.digits i.at i.old are.size es cells;
+    })

@@ -7,14 +7,10 @@ returns-clause-is c =
     let along = c.delr_at-along.ensures in
     let hk = c.dec_at-hk.ensures ∙ ap (λ xs. dec_at xs c.args.cell) c.as_slice.ensures in
     let t = c.span_at-thickness.ensures in
-    c.row_half_of.ensures ∙ (λ q. record { along = along q; hk = hk q; thick_lo = (t q).lo; thick_hi = (t q).hi })
+    λ q. record { along = along q; hk = hk q; thick_lo = (t q).lo; thick_hi = (t q).hi }
 
 pub returns-clause-fits : goal.returns-clause-fits
 returns-clause-fits c =
-    let along = c.delr_at-along.ensures in
-    let hk = c.dec_at-hk.ensures ∙ ap (λ xs. dec_at xs c.args.cell) c.as_slice.ensures in
-    let t = c.span_at-thickness.ensures in
-    let same = c.row_half_of.ensures ∙ (λ q. record { along = along q; hk = hk q; thick_lo = (t q).lo; thick_hi = (t q).hi }) in
     let valid = c.requires.model.cells c.args.cell c.requires.cell c.requires.active in
     let P : Half → Type 0 = λ h. IsHalf h in
-    subst P (sym same) (record { along = delr_positive c.args.model.now c.args.cell c.requires.model; hk = valid.hk; thick = (c.requires.thick.each c.args.cell c.requires.cell c.requires.active).thick })
+    subst P (sym (returns-clause-is c)) (record { along = delr_positive c.args.model.now c.args.cell c.requires.model; hk = valid.hk; thick = (c.requires.thick.each c.args.cell c.requires.cell c.requires.active).thick })

@@ -8,15 +8,10 @@ returns-clause-is c =
     let vka = c.dec_at-vka.ensures ∙ ap (λ xs. dec_at xs c.args.cell) c.as_slice-2.ensures in
     let r = c.is_ratio-ratio.ensures in
     let t = c.span_at-thickness.ensures in
-    c.vert_half_of.ensures ∙ (λ q. record { hk = hk q; vka = vka q; ratio = r q; thick_lo = (t q).lo; thick_hi = (t q).hi })
+    λ q. record { hk = hk q; vka = vka q; ratio = r q; thick_lo = (t q).lo; thick_hi = (t q).hi }
 
 pub returns-clause-fits : goal.returns-clause-fits
 returns-clause-fits c =
-    let hk = c.dec_at-hk.ensures ∙ ap (λ xs. dec_at xs c.args.cell) c.as_slice.ensures in
-    let vka = c.dec_at-vka.ensures ∙ ap (λ xs. dec_at xs c.args.cell) c.as_slice-2.ensures in
-    let r = c.is_ratio-ratio.ensures in
-    let t = c.span_at-thickness.ensures in
-    let same = c.vert_half_of.ensures ∙ (λ q. record { hk = hk q; vka = vka q; ratio = r q; thick_lo = (t q).lo; thick_hi = (t q).hi }) in
     let valid = c.requires.model.cells c.args.cell c.requires.cell c.requires.active in
     let P : VertHalf → Type 0 = λ h. IsVertHalf h in
-    subst P (sym same) (record { hk = valid.hk; vka = valid.vka c.requires.layers; thick = (c.requires.thick.each c.args.cell c.requires.cell c.requires.active).thick })
+    subst P (sym (returns-clause-is c)) (record { hk = valid.hk; vka = valid.vka c.requires.layers; thick = (c.requires.thick.each c.args.cell c.requires.cell c.requires.active).thick })

@@ -1,18 +1,18 @@
 use Rattle.problem_builder.proofs.Common.{◌-◌, take, Option, sym, ◌∙◌, subst, Bound, Given, cell_count, last_given, period_at, IsKeptPair, IsGivenOrKept}
-use Rattle.problem_builder.proofs.Common.{IsConstantPair}
+use Rattle.problem_builder.proofs.Common.{IsConstantPair, IsGivenPair}
 use Rattle.problem_builder.proofs.ActiveCells.{constant_active}
 use Rattle.problem_builder.proofs.GivenValid.{given_valid}
 use Rattle.problem_builder.proofs.heads.head_at.Goals as goal
 
-pub given_bounds-requires-clause-start : goal.given_bounds-requires-clause-start
-given_bounds-requires-clause-start c =
+pub given_head-requires-clause-start : goal.given_head-requires-clause-start
+given_head-requires-clause-start c =
     let m = c.args.model.now in
     let list = (period_at m c.args.at.period).stresses.given in
     let e = sym (c.requires.period.1.given.each c.args.cell c.requires.cell) ∙ sym c.in-Some.ensures in
     (given_valid (cell_count m.grid) list c.args.cell c.in-Some.x c.requires.time.valid.stresses.given.entries e).shead
 
-pub given_bounds-requires-clause-end : goal.given_bounds-requires-clause-end
-given_bounds-requires-clause-end c =
+pub given_head-requires-clause-end : goal.given_head-requires-clause-end
+given_head-requires-clause-end c =
     let m = c.args.model.now in
     let list = (period_at m c.args.at.period).stresses.given in
     let e = sym (c.requires.period.1.given.each c.args.cell c.requires.cell) ∙ sym c.in-Some.ensures in
@@ -23,7 +23,7 @@ unfolding IsConstantPair
 returns-in-Some c =
     let m = c.args.model.now in
     let e = sym (c.requires.period.1.given.each c.args.cell c.requires.cell) ∙ sym c.in-Some.ensures in
-    subst (λ (o : Option Given). IsGivenOrKept m c.args.at c.args.cell o c.given_bounds.result.low c.given_bounds.result.high) (sym e) (c.args.part.lo, c.args.part.hi, c.requires.part.is, c.given_bounds.ensures)
+    subst (λ (o : Option Given). IsGivenOrKept m c.args.at c.args.cell o c.bound_of.result.low c.bound_of.result.high) (sym e) (c.args.part.lo, c.args.part.hi, c.requires.part.is, subst (λ (b : Bound). IsGivenPair c.in-Some.x.shead c.in-Some.x.ehead c.args.part.lo c.args.part.hi b.low b.high) (sym c.bound_of.ensures) c.given_head.ensures.rounded)
 
 pub returns-in-None : goal.returns-in-None
 unfolding IsConstantPair

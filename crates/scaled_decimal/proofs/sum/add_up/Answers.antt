@@ -5,10 +5,10 @@ use Rattle.scaled_decimal.proofs.Products.{left_nothing, right_nothing, more_plu
 use Rattle.scaled_decimal.proofs.sum.add_up.Goals as goal
 
 pub returns-then-a-eq0-clause-nearest : goal.returns-then-a-eq0-clause-nearest
-returns-then-a-eq0-clause-nearest c = up_self c.args.b _ c.requires.b_decimal (more_plus_left _ _) (left_nothing c.args.a.m c.args.b.m c.args.a.e c.args.b.e (omega arith))
+returns-then-a-eq0-clause-nearest c = up_self c.args.b _ c.requires.operands.b_decimal (more_plus_left _ _) (left_nothing c.args.a.m c.args.b.m c.args.a.e c.args.b.e (omega arith))
 
 pub returns-then-b-eq0-clause-nearest : goal.returns-then-b-eq0-clause-nearest
-returns-then-b-eq0-clause-nearest c = up_self c.args.a _ c.requires.a_decimal (more_plus _ _) (right_nothing c.args.a.m c.args.b.m c.args.a.e c.args.b.e (omega arith))
+returns-then-b-eq0-clause-nearest c = up_self c.args.a _ c.requires.operands.a_decimal (more_plus _ _) (right_nothing c.args.a.m c.args.b.m c.args.a.e c.args.b.e (omega arith))
 
 pub returns-then-a-b-clause-size : goal.returns-then-a-b-clause-size
 returns-then-a-b-clause-size c = λ pa pb. HasSize-wider _ _ _ _ _ (omega (arith, ints, clamps)) (omega (arith, ints, clamps)) c.sum_up.ensures.size

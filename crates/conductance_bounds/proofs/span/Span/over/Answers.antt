@@ -1,20 +1,14 @@
-use Rattle.conductance_bounds.proofs.Arithmetic.{nears, positive_above, quotient_ordered, quotient_reach}
+use Rattle.conductance_bounds.proofs.Arithmetic.{cross_operands, positive_above, quotient_ordered, quotient_reach}
 use Rattle.conductance_bounds.proofs.span.Span.over.Goals as goal
 
-pub div_dn-requires-clause-a_near : goal.div_dn-requires-clause-a_near
-div_dn-requires-clause-a_near c = (nears c.args.self c.args.divisor c.requires.near).low
+pub div_dn-requires-clause-operands : goal.div_dn-requires-clause-operands
+div_dn-requires-clause-operands c = (cross_operands c.args.self c.args.divisor c.requires.first c.requires.second c.requires.near).0
 
-pub div_dn-requires-clause-b_near : goal.div_dn-requires-clause-b_near
-div_dn-requires-clause-b_near c = (nears c.args.self c.args.divisor c.requires.near).other_high
+pub div_up-requires-clause-operands : goal.div_up-requires-clause-operands
+div_up-requires-clause-operands c = (cross_operands c.args.self c.args.divisor c.requires.first c.requires.second c.requires.near).1
 
 pub div_dn-requires-clause-divisor : goal.div_dn-requires-clause-divisor
 div_dn-requires-clause-divisor c = positive_above c.args.divisor.lo c.args.divisor.hi c.requires.second.order c.requires.divisor_positive
-
-pub div_up-requires-clause-a_near : goal.div_up-requires-clause-a_near
-div_up-requires-clause-a_near c = (nears c.args.self c.args.divisor c.requires.near).high
-
-pub div_up-requires-clause-b_near : goal.div_up-requires-clause-b_near
-div_up-requires-clause-b_near c = (nears c.args.self c.args.divisor c.requires.near).other_low
 
 pub returns-clause-ordered : goal.returns-clause-ordered
 returns-clause-ordered c = quotient_ordered c.args.self c.args.divisor _ c.requires.first c.requires.second c.requires.divisor_positive c.div_dn.ensures.nearest c.div_up.ensures.nearest

@@ -1,17 +1,11 @@
-use Rattle.conductance_bounds.proofs.Arithmetic.{nears, sum_ordered, sum_reach}
+use Rattle.conductance_bounds.proofs.Arithmetic.{operands, sum_ordered, sum_reach}
 use Rattle.conductance_bounds.proofs.span.Span.plus.Goals as goal
 
-pub add_dn-requires-clause-a_near : goal.add_dn-requires-clause-a_near
-add_dn-requires-clause-a_near c = (nears c.args.self c.args.other c.requires.near).low
+pub add_dn-requires : goal.add_dn-requires
+add_dn-requires c = record { operands = (operands c.args.self c.args.other c.requires.first c.requires.second c.requires.near).0 }
 
-pub add_dn-requires-clause-b_near : goal.add_dn-requires-clause-b_near
-add_dn-requires-clause-b_near c = (nears c.args.self c.args.other c.requires.near).other_low
-
-pub add_up-requires-clause-a_near : goal.add_up-requires-clause-a_near
-add_up-requires-clause-a_near c = (nears c.args.self c.args.other c.requires.near).high
-
-pub add_up-requires-clause-b_near : goal.add_up-requires-clause-b_near
-add_up-requires-clause-b_near c = (nears c.args.self c.args.other c.requires.near).other_high
+pub add_up-requires : goal.add_up-requires
+add_up-requires c = record { operands = (operands c.args.self c.args.other c.requires.first c.requires.second c.requires.near).1 }
 
 pub returns-clause-ordered : goal.returns-clause-ordered
 returns-clause-ordered c = sum_ordered c.args.self c.args.other _ c.requires.first c.requires.second c.add_dn.ensures.nearest c.add_up.ensures.nearest

@@ -1,6 +1,6 @@
 use Rattle.conductance_bounds.proofs.Common.{AtMost-refl, value}
 use Rattle.conductance_bounds.proofs.Arithmetic.{number_reach}
-use Rattle.conductance_bounds.proofs.interval.exactly.Goals as goal
+use Rattle.conductance_bounds.proofs.interval.exact_span.Goals as goal
 
 pub returns-clause-ordered : goal.returns-clause-ordered
 returns-clause-ordered c = record { low = c.of_dec-x.ensures.decimal; high = c.of_dec-x.ensures.decimal; order = AtMost-refl (value c.of_dec-x.result) }

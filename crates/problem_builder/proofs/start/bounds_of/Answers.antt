@@ -1,9 +1,0 @@
-use Rattle.problem_builder.proofs.Common.{no_bound, IsStartInRange}
-use Rattle.problem_builder.proofs.Filling.{none_filled, next_filled}
-use Rattle.problem_builder.proofs.start.bounds_of.Goals as goal
-
-pub loop-cell-init : goal.loop-cell-init
-loop-cell-init c = none_filled (IsStartInRange c.args.model.now) no_bound _ c.new-bounds.ensures.items
-
-pub loop-cell-preserved : goal.loop-cell-preserved
-loop-cell-preserved c = next_filled (IsStartInRange c.args.model.now) no_bound c.loop-cell.cell c.loop-cell.bounds.items _ _ c.in_ok-push.ensures.items c.start_at.ensures c.loop-cell.invariant
