@@ -1,8 +1,7 @@
 -- Sums of parts, and sums that stand still at the limit.
 use Rattle.budget_bounds.proofs.Common.{◌≡◌, ℕ, ◌+◌, ◌<◌, ◌≤◌, Bool, true, false, cond, refl, sym, ap, ◌∙◌, arith, List, [], ◌∷◌, length, get_or, drop, map}
 use Rattle.budget_bounds.proofs.Common.{add-one, drop-cons, ℤ, pos, neg_ℤ, ◌+ℤ◌, ◌≤ℤ◌, filter, int_min, int_max, ints, clamps, Dir, In, Out, sum_below}
-use Rattle.budget_bounds.proofs.Common.{TermPair, part, parts, term_limit, IsSum, capped, plus_pair}
-use Rattle.std.proofs.lemmas.List.{drop_all}
+use Rattle.budget_bounds.proofs.Common.{TermPair, part, parts, term_limit, IsSum, capped, plus_pair, drop_all}
 
 pub filter_all : {X : Type 0} (xs : List X) → filter (λ x. true) xs ≡ xs
 filter_all [] = refl

@@ -3,7 +3,6 @@ use Rattle.budget_bounds.proofs.Common.{◌≡◌, ℕ, refl, ap, ◌∙◌, ari
 use Rattle.budget_bounds.proofs.Common.{TermPair, all_terms, budget_of, term_limit, term_of, term_pair, terms_of, capped, sum_of, tested, tested_terms}
 use Rattle.budget_bounds.proofs.Common.{tested_budget}
 use Rattle.std.specs.Int.Signed.{lt_z}
-use Rattle.budget_bounds.specs.declared.terms.TermSums.{TermSums}
 
 alike : (limit a : ℤ) (s t : Bool) → lt_z (int_min a limit) limit ≡ s → lt_z a limit ≡ t → s ≡ t
 alike limit a true true e f = refl
@@ -26,7 +25,7 @@ by_tests dir t x false high e f = rw (kept term_limit x.lo false e, e) refl
 tested_capped : (dir : Dir) (t : Term) (x : TermPair) → tested dir t (capped x) ≡ tested dir t x
 tested_capped dir t x = by_tests dir t x (lt_z x.lo term_limit) (lt_z x.hi term_limit) refl refl
 
-module _ (p : List Entries) (l u : ℕ → ℤ) (dir : Dir) (sums : TermSums) (are : (t : Term) → sum_of sums t ≡ capped (term_pair p l u dir t)) where
+module _ (p : List Entries) (l u : ℕ → ℤ) (dir : Dir) (sums : List TermPair) (are : (t : Term) → sum_of sums t ≡ capped (term_pair p l u dir t)) where
   term_tested : (t : Term) → tested dir t (sum_of sums t) ≡ term_of p l u dir t
   unfolding tested term_of
   term_tested t = ap (tested dir t) (are t) ∙ tested_capped dir t (term_pair p l u dir t)
@@ -36,6 +35,6 @@ module _ (p : List Entries) (l u : ℕ → ℤ) (dir : Dir) (sums : TermSums) (a
   terms_tested [] = refl
   terms_tested (t ∷ ts) = rw (term_tested t, terms_tested ts) refl
 
-pub budget_tested : (p : List Entries) (l u : ℕ → ℤ) (into out : TermSums) → ((t : Term) → sum_of into t ≡ capped (term_pair p l u In t)) → ((t : Term) → sum_of out t ≡ capped (term_pair p l u Out t)) → tested_budget into out ≡ budget_of p l u
+pub budget_tested : (p : List Entries) (l u : ℕ → ℤ) (into out : List TermPair) → ((t : Term) → sum_of into t ≡ capped (term_pair p l u In t)) → ((t : Term) → sum_of out t ≡ capped (term_pair p l u Out t)) → tested_budget into out ≡ budget_of p l u
 unfolding tested_budget budget_of
 budget_tested p l u into out are_into are_out = rw (terms_tested p l u In into are_into all_terms, terms_tested p l u Out out are_out all_terms) refl

@@ -1,17 +1,15 @@
 -- Sums of flows that stop at the limit, and the flows that may be added to them.
-use Rattle.std.specs.Prelude.{◌^◌, pos, ◌+ℤ◌, ◌≤ℤ◌, if◌then◌else◌, List, [], ◌∷◌, Result, Ok, Err}
+use Rattle.std.specs.Prelude.{◌^◌, pos, ◌+ℤ◌, ◌≤ℤ◌, if◌then◌else◌, List, [], ◌∷◌, Result, Ok, Err, slice_index_or}
 use Rattle.std.specs.Int.{int_min}
 use Rattle.step_problem.specs.declared.heads.Bound.{Bound}
 use Rattle.step_problem.specs.Conditions.{IsWithin, IsHead}
 use Rattle.budget_bounds.specs.declared.pair.TermPair.{TermPair}
-use Rattle.budget_bounds.specs.Terms.{term_limit, all_terms, is_small, too_large, ◌>>=◌}
+use Rattle.budget_bounds.specs.Terms.{term_limit, all_terms, is_small, no_pair, place_of, too_large, ◌>>=◌}
 use Rattle.step_problem.specs.declared.place.Dir.{Dir}
 use Rattle.step_problem.specs.declared.place.Dir.TheVariants.{In, Out}
 use Rattle.step_problem.specs.declared.place.Term.{Term}
-use Rattle.step_problem.specs.declared.place.Term.TheVariants.{Storage, ConstantHead, Wells, Drains, RiverLeakage, HeadDepBounds, Recharge, Et}
 use Rattle.step_problem.specs.declared.place.NoBound.{NoBound}
 use Rattle.budget_bounds.specs.declared.pair.Budget.{Budget}
-use Rattle.budget_bounds.specs.declared.terms.TermSums.{TermSums}
 
 abbrev pub plus_pair : TermPair → TermPair → TermPair
 plus_pair a b = record { lo = a.lo +ℤ b.lo; hi = a.hi +ℤ b.hi }
@@ -43,33 +41,26 @@ pub record AreHeads (b : Bound) : Type 0 where
   pub low : IsHead b.low
   pub high : IsHead b.high
 
--- Sums of all terms that stop at the limit, and what they are once each is tested.
-abbrev pub sum_of : TermSums → Term → TermPair
-sum_of s Storage = s.storage
-sum_of s ConstantHead = s.constant
-sum_of s Wells = s.wells
-sum_of s Drains = s.drains
-sum_of s RiverLeakage = s.rivers
-sum_of s HeadDepBounds = s.general
-sum_of s Recharge = s.recharge
-sum_of s Et = s.et
+-- Sums of all terms that stop at the limit, in the order of the listing, and what they are once each is tested.
+abbrev pub sum_of : List TermPair → Term → TermPair
+sum_of sums t = slice_index_or sums (place_of t) no_pair
 
-abbrev pub AreSums : TermSums → Type 0
-AreSums s = (t : Term) → IsSum (sum_of s t)
+abbrev pub AreSums : List TermPair → Type 0
+AreSums sums = (t : Term) → IsSum (sum_of sums t)
 
 -- a term's bounds, or FlowTooLarge at the term
 unfoldable pub tested : Dir → Term → TermPair → Result TermPair NoBound
 tested dir t x = if is_small x then Ok x else Err (too_large dir t)
 
 -- those of several terms, or FlowTooLarge at the first that is too large
-unfoldable pub tested_terms : TermSums → Dir → List Term → Result (List TermPair) NoBound
+unfoldable pub tested_terms : List TermPair → Dir → List Term → Result (List TermPair) NoBound
 tested_terms s dir [] = Ok []
 tested_terms s dir (t ∷ ts) = do
   x ← tested dir t (sum_of s t)
   xs ← tested_terms s dir ts
   Ok (x ∷ xs)
 
-unfoldable pub tested_budget : TermSums → TermSums → Result Budget NoBound
+unfoldable pub tested_budget : List TermPair → List TermPair → Result Budget NoBound
 tested_budget into out = do
   into ← tested_terms into In all_terms
   out ← tested_terms out Out all_terms

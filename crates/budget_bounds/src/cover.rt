@@ -1,7 +1,7 @@
 // Whether the bounds of one budget reach as far as those of another.
 ghost use Rattle.std.specs.Prelude.{◌≡◌, ◌<◌, ◌↔◌, IsTrue, MatchOption};
 ghost use Rattle.budget_bounds.specs.Covers.{Covers, IsFirstShort, IsFirstUncovered, Reaches};
-ghost use Rattle.budget_bounds.specs.Terms.{place_of, bounds_in, fixed_term, flow_term, is_term};
+ghost use Rattle.budget_bounds.specs.Terms.{place_of, bounds_in, fixed_term, flow_term};
 
 use crate::pair::{Budget, TermPair};
 use step_problem::{Dir, FixedKind, FlowKind, Term};
@@ -110,11 +110,4 @@ pub(crate) fn flow_term(kind: FlowKind) -> Term
         FlowKind::Wells => Term::Wells,
         FlowKind::Recharge => Term::Recharge,
     }
-}
-
-/// Whether two terms are the same.
-pub(crate) fn is_term(a: Term, b: Term) -> bool
-    ensures { result ≡ is_term a b }
-{
-    place_of(a) == place_of(b)
 }

@@ -1,10 +1,11 @@
 // The single flows of entries, by their bounds.
-ghost use Rattle.std.specs.Prelude.{◌≡◌, ◌<◌, ◌^◌, ℤ, Bool, true};
+ghost use Rattle.std.specs.Prelude.{◌≡◌, ◌<◌, ◌^◌, ℤ};
 ghost use Rattle.step_problem.specs.Conditions.{FixedFits, RiverFits, DrainFits, EvapFits, magnitude};
-ghost use Rattle.budget_bounds.specs.Terms.{flow_pair, fixed_pair, river_pair, drain_pair, evap_pair, fixed_term, flow_term, is_term};
+ghost use Rattle.budget_bounds.specs.Terms.{flow_pair, fixed_pair, river_pair, drain_pair, evap_pair, fixed_term, flow_term};
+ghost use Rattle.step_problem.specs.declared.place.Term.TheVariants.{Drains, Et, RiverLeakage};
 ghost use Rattle.budget_bounds.specs.Capped.{AreHeads, IsFlow};
 
-use crate::cover::{fixed_term, flow_term, is_term};
+use crate::cover::{fixed_term, flow_term};
 use crate::pair::TermPair;
 use step_problem::{Bound, Branch, Drain, Evap, Fixed, Flow, River, Side, Term};
 
@@ -13,15 +14,15 @@ pub(crate) trait Entry {
     ghost use Rattle.step_problem.specs.declared.place.Term.{Term};
     ghost use Rattle.budget_bounds.specs.declared.pair.TermPair.{TermPair};
 
-    ghost of: { Term → Self → Bool };
+    ghost of: { Self → Term };
 
     ghost pair: { ℤ → ℤ → Self → TermPair };
 
     ghost fits: { Self → Type 0 };
 
-    /// Whether it is a flow of this term.
-    fn is_of(&self, term: Term) -> bool
-        ensures { result ≡ of term self.now };
+    /// The term of its flow.
+    fn term(&self) -> Term
+        ensures { result ≡ of self.now };
 
     /// Its bounds where the cell's head lies between the two bounds `own`.
     fn pair_at(&self, own: Bound) -> TermPair
@@ -46,14 +47,14 @@ fn branch_pair<B: Branch>(x: &B, own: Bound) -> TermPair
 }
 
 impl Entry for Flow {
-    ghost of = { λ t x. is_term t (flow_term x.kind) };
+    ghost of = { λ x. flow_term x.kind };
 
     ghost pair = { λ l u x. flow_pair x };
 
     ghost fits = { λ x. magnitude x.lo x.hi < 2 ^ 109 };
 
-    fn is_of(&self, term: Term) -> bool {
-        is_term(term, flow_term(self.kind))
+    fn term(&self) -> Term {
+        flow_term(self.kind)
     }
 
     fn pair_at(&self, own: Bound) -> TermPair {
@@ -65,14 +66,14 @@ impl Entry for Flow {
 }
 
 impl Entry for Fixed {
-    ghost of = { λ t x. is_term t (fixed_term x.kind) };
+    ghost of = { λ x. fixed_term x.kind };
 
     ghost pair = { fixed_pair };
 
     ghost fits = { λ x. FixedFits x × (x.hi < 2 ^ 60) };
 
-    fn is_of(&self, term: Term) -> bool {
-        is_term(term, fixed_term(self.kind))
+    fn term(&self) -> Term {
+        fixed_term(self.kind)
     }
 
     fn pair_at(&self, own: Bound) -> TermPair {
@@ -81,14 +82,14 @@ impl Entry for Fixed {
 }
 
 impl Entry for River {
-    ghost of = { λ t x. true };
+    ghost of = { λ x. RiverLeakage };
 
     ghost pair = { river_pair };
 
     ghost fits = { λ x. RiverFits x × (x.hi < 2 ^ 60) };
 
-    fn is_of(&self, term: Term) -> bool {
-        true
+    fn term(&self) -> Term {
+        Term::RiverLeakage
     }
 
     fn pair_at(&self, own: Bound) -> TermPair {
@@ -97,14 +98,14 @@ impl Entry for River {
 }
 
 impl Entry for Drain {
-    ghost of = { λ t x. true };
+    ghost of = { λ x. Drains };
 
     ghost pair = { drain_pair };
 
     ghost fits = { λ x. DrainFits x × (x.hi < 2 ^ 60) };
 
-    fn is_of(&self, term: Term) -> bool {
-        true
+    fn term(&self) -> Term {
+        Term::Drains
     }
 
     fn pair_at(&self, own: Bound) -> TermPair {
@@ -113,14 +114,14 @@ impl Entry for Drain {
 }
 
 impl Entry for Evap {
-    ghost of = { λ t x. true };
+    ghost of = { λ x. Et };
 
     ghost pair = { evap_pair };
 
     ghost fits = { λ x. EvapFits x × (x.hi < 2 ^ 60) };
 
-    fn is_of(&self, term: Term) -> bool {
-        true
+    fn term(&self) -> Term {
+        Term::Et
     }
 
     fn pair_at(&self, own: Bound) -> TermPair {

@@ -3,9 +3,11 @@ ghost use Rattle.std.specs.Prelude.{◌≡◌, ◌^◌, cond, map, All, pos, ◌
 ghost use Rattle.std.specs.Int.{int_max, int_min};
 ghost use Rattle.std.specs.List.{filter};
 ghost use Rattle.step_problem.specs.Conditions.{CellFits};
-ghost use Rattle.budget_bounds.specs.Terms.{part, singles, parts, term_limit};
-ghost use Rattle.budget_bounds.specs.Capped.{AreHeads, IsFlow, IsPart, IsSum, capped, plus_pair};
+ghost use Rattle.step_problem.specs.declared.place.Term.{Term};
+ghost use Rattle.budget_bounds.specs.Terms.{is_term, part, singles, parts, term_limit};
+ghost use Rattle.budget_bounds.specs.Capped.{AreHeads, AreSums, IsFlow, IsPart, IsSum, capped, plus_pair, sum_of};
 
+use crate::cover::place_of;
 use crate::flows::Entry;
 use crate::pair::TermPair;
 use step_problem::{Bound, Cell, Dir, Term};
@@ -66,63 +68,48 @@ pub fn plus_part(dir: Dir, sum: TermPair, flow: TermPair) -> TermPair
     }
 }
 
-// Adds an entry's flow, if it is of the term.
-fn add_single<E: Entry>(dir: Dir, term: Term, own: Bound, sum: TermPair, x: &E) -> TermPair
-    requires own { AreHeads own }
-    requires sum { IsSum sum }
-    requires fits { E.fits x.now }
-    ensures value { result ≡ cond (E.of term x.now) (capped (plus_pair sum (part dir (E.pair own.low own.high x.now)))) sum }
-    ensures sum { IsSum result }
+/// The sum of a term.
+pub(crate) fn sum_of(sums: &[TermPair; 8], term: Term) -> TermPair
+    ensures { result ≡ sum_of sums.now term }
 {
-    if x.is_of(term) {
-        plus_part(dir, sum, x.pair_at(own))
-    } else {
-        sum
-    }
+    sums[place_of(term)]
 }
 
-fn add_singles<E: Entry>(
-    dir: Dir,
-    term: Term,
-    own: Bound,
-    start: TermPair,
-    entries: &[E],
-) -> TermPair
+// Adds a flow to the sum of its term.
+fn add_flow(sums: &mut [TermPair; 8], dir: Dir, term: Term, flow: TermPair)
+    requires sums { AreSums sums.old }
+    requires flow { IsFlow flow }
+    ensures value { (t : Term) → sum_of sums.new t ≡ cond (is_term t term) (capped (plus_pair (sum_of sums.old t) (part dir flow))) (sum_of sums.old t) }
+    ensures sums { AreSums sums.new }
+{
+    let sum = plus_part(dir, sum_of(sums, term), flow);
+    sums[place_of(term)] = sum;
+}
+
+fn add_entries<E: Entry>(sums: &mut [TermPair; 8], dir: Dir, own: Bound, entries: &[E])
     requires own { AreHeads own }
-    requires start { IsSum start }
+    requires sums { AreSums sums.old }
     requires fit { All E.fits entries.now }
-    ensures value { result ≡ capped (plus_pair start (parts dir (map (E.pair own.low own.high) (filter (E.of term) entries.now)))) }
-    ensures sum { IsSum result }
+    ensures value { (t : Term) → sum_of sums.new t
+        ≡ capped (plus_pair (sum_of sums.old t) (parts dir (map (E.pair own.low own.high) (filter (λ x. is_term t (E.of x)) entries.now)))) }
+    ensures sums { AreSums sums.new }
 {
-    let mut sum = start;
     for x in entries {
-        sum = add_single(dir, term, own, sum, x);
+        add_flow(sums, dir, x.term(), x.pair_at(own));
     }
-    sum
 }
 
-/// A sum with what of a cell's flows of the term goes in, or out.
-pub(crate) fn add_entries(
-    dir: Dir,
-    term: Term,
-    own: Bound,
-    start: TermPair,
-    cell: &Cell,
-) -> TermPair
+/// Adds what of a cell's flows goes in, or out, each to the sum of its term.
+pub(crate) fn add_cell(sums: &mut [TermPair; 8], dir: Dir, own: Bound, cell: &Cell)
     requires own { AreHeads own }
-    requires start { IsSum start }
+    requires sums { AreSums sums.old }
     requires fits { CellFits cell.now }
-    ensures value { result ≡ capped (plus_pair start (parts dir (singles term cell.now own.low own.high))) }
-    ensures sum { IsSum result }
+    ensures value { (t : Term) → sum_of sums.new t ≡ capped (plus_pair (sum_of sums.old t) (parts dir (singles t cell.now own.low own.high))) }
+    ensures sums { AreSums sums.new }
 {
-    match term {
-        Term::Storage => add_singles(dir, term, own, start, &cell.fixed),
-        Term::ConstantHead => add_singles(dir, term, own, start, &cell.fixed),
-        Term::Wells => add_singles(dir, term, own, start, &cell.flows),
-        Term::Drains => add_singles(dir, term, own, start, &cell.drains),
-        Term::RiverLeakage => add_singles(dir, term, own, start, &cell.rivers),
-        Term::HeadDepBounds => add_singles(dir, term, own, start, &cell.fixed),
-        Term::Recharge => add_singles(dir, term, own, start, &cell.flows),
-        Term::Et => add_singles(dir, term, own, start, &cell.evaps),
-    }
+    add_entries(sums, dir, own, &cell.fixed);
+    add_entries(sums, dir, own, &cell.flows);
+    add_entries(sums, dir, own, &cell.drains);
+    add_entries(sums, dir, own, &cell.rivers);
+    add_entries(sums, dir, own, &cell.evaps);
 }

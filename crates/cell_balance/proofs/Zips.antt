@@ -39,3 +39,9 @@ AllZip-choose R P each (x ∷ xs) a =
     let (y, r) = each x (All-head P x xs a) in
     let (ys, h) = AllZip-choose R P each xs (All-tail P x xs a) in
     (y ∷ ys, (r, h))
+
+pub AllZip-right : {X Y : Type 0} (R : X → Y → Type 0) (P : Y → Type 0) → ((x : X) (y : Y) → R x y → P y) → (xs : List X) (ys : List Y) → AllZip R xs ys → All P ys
+AllZip-right R P each [] [] h = All-nil P
+AllZip-right R P each [] (y ∷ ys) h = absurd h
+AllZip-right R P each (x ∷ xs) [] h = absurd h
+AllZip-right R P each (x ∷ xs) (y ∷ ys) h = All-cons P y ys (each x y h.0) (AllZip-right R P each xs ys h.1)

@@ -1,22 +1,22 @@
 -- Names that several proofs of this crate cite, of the crates below and of its own definitions, passed on from one place. Declares nothing.
-pub use Rattle.std.proofs.Common.{All, Bool, Contains, Err, IfOk, List, None, Ok, Option, Result, Some, [], add-one, ap, arith, cond, drop, drop-cons, false}
-pub use Rattle.std.proofs.Common.{get_or, inl, inr, length, map, nat_abs, negsuc, option_map, pos, refl, subst, suc, sym, take, true, unsigned_abs, zero, ℕ, ℤ}
-pub use Rattle.std.proofs.Common.{◌%◌, ◌&&◌, ◌*ℤ◌, ◌++◌, ◌+ℤ◌, ◌+◌, ◌/◌, ◌<ℤ◌, ◌<◌, ◌^◌, ◌∙◌, ◌∷◌, ◌≡◌, ◌≢◌, ◌≤ℤ◌, ◌≤◌, ◌⊎◌}
-pub use Rattle.std.proofs.lemmas.Bool.{and_from, and_parts, cases_Bool, cases_order, eq-eqb, leb-true, lt-ltb, or_left, or_right}
+pub use Rattle.std.proofs.Common.{All, Bool, Contains, Err, IfOk, List, None, Ok, Option, Result, Some, [], ap, arith, cond, drop, false, get_or, inl, inr}
+pub use Rattle.std.proofs.Common.{length, map, nat_abs, negsuc, option_map, pos, refl, subst, suc, sym, take, true, unsigned_abs, zero, ℕ, ℤ, ◌%◌, ◌*ℤ◌, ◌++◌}
+pub use Rattle.std.proofs.Common.{◌+ℤ◌, ◌+◌, ◌/◌, ◌<ℤ◌, ◌<◌, ◌^◌, ◌∙◌, ◌∷◌, ◌≡◌, ◌≢◌, ◌≤ℤ◌, ◌≤◌, ◌⊎◌}
+pub use Rattle.std.proofs.lemmas.Bool.{and_from, and_parts, cases_Bool, cases_order, leb-true, lt-ltb}
 pub use Rattle.std.proofs.lemmas.Bool.Decides.{nat_tests}
 pub use Rattle.std.proofs.lemmas.Int.{ints}
-pub use Rattle.std.proofs.lemmas.List.{append-nil, append_assoc, drop_all, drop_more, get_or-map, get_or_default, length-map, map-append}
-pub use Rattle.std.proofs.lemmas.List.Concat.{flat_map-append}
-pub use Rattle.std.proofs.lemmas.List.Elements.{All-contains_itself, All-from_recursion, All-head, All-tail, All-weaker, recursion_from_All}
+pub use Rattle.std.proofs.lemmas.List.{append-nil, append_assoc, drop_all, drop_more, get_or-map, get_or_default, length-map}
+pub use Rattle.std.proofs.lemmas.List.Elements.{All-contains_itself, All-head, All-tail, All-weaker, recursion_from_All}
 pub use Rattle.std.proofs.lemmas.Result.{err_from_is_err_and}
-pub use Rattle.std.specs.List.{AllByRecursion, AllZip, concat, cons_option, filter_map, flat_map}
-pub use Rattle.std.specs.Prelude.{IfErr, IfSome, filter, if◌then◌else◌, int_lt, nat_lt, not, slice_index, ◌==◌}
+pub use Rattle.std.specs.List.{AllByRecursion, AllZip, concat, filter_map, flat_map}
+pub use Rattle.std.specs.Prelude.{IfErr, IfSome, filter, if◌then◌else◌, nat_lt, slice_index}
 pub use Rattle.budget_bounds.specs.Covers.{CoverEncloses, Covers, IsFirstUncovered, line_of}
 pub use Rattle.budget_bounds.specs.Exact.{BudgetEncloses, EnclosesBudgets, HeadsAreWithin}
-pub use Rattle.budget_bounds.specs.Terms.{all_terms, is_small, no_pair, term_limit, too_large, ◌>>=◌}
+pub use Rattle.budget_bounds.specs.Terms.{all_terms, is_small, no_pair, term_limit, too_large}
 unfoldable pub use Rattle.budget_bounds.specs.Terms.{budget_of, parts, singles, term_of, term_pair, terms_of}
 pub use Rattle.budget_bounds.specs.declared.pair.Budget.{Budget}
 pub use Rattle.budget_bounds.specs.declared.pair.TermPair.{TermPair}
+pub use Rattle.cell_balance.proofs.Zips.{AllZip-at, AllZip-length, AllZip-right}
 pub use Rattle.cell_balance.specs.Enclosures.{CellEncloses, EnclosesSolutions, EnclosesStep}
 pub use Rattle.cell_relax.specs.Sides.{AreWords}
 pub use Rattle.certificate_check.specs.Certificates.{HoldsAt, IsFirstFailing}
@@ -54,24 +54,23 @@ pub use Rattle.listing_run.specs.Tasks.{AreFlowsOf, HasLargeFlowOf, deck_task, f
 pub use Rattle.listing_run.specs.declared.solving.Step.{Step}
 pub use Rattle.listing_run.specs.declared.steps.Task.{Task}
 pub use Rattle.listing_run.specs.declared.text.ListingEnd.TheVariants.{Whole}
-pub use Rattle.model_types.proofs.Leads.{end_within, face_back, faces_are, faces_have, passing_are, turned}
-pub use Rattle.model_types.proofs.Members.{Contains-In, In, In-map, map-In}
+pub use Rattle.model_types.proofs.Members.{Contains-In, In-map, map-In}
 pub use Rattle.model_types.proofs.Ranks.{IsAt, at_rank, is_at, passing}
-pub use Rattle.model_types.specs.Faces.{cell_count, through}
+pub use Rattle.model_types.specs.Faces.{cell_count}
 pub use Rattle.model_types.specs.Grids.{HasSize}
-pub use Rattle.model_types.specs.Heads.{constant_head, index_of, is_constant, is_given, is_variable, kind_of, start_head, variable_below, variable_cells}
-pub use Rattle.model_types.specs.Layers.{int_at, is_active, is_nonzero}
+pub use Rattle.model_types.specs.Heads.{constant_head, index_of, is_constant, is_variable, kind_of, start_head, variable_cells}
+pub use Rattle.model_types.specs.Layers.{is_active, is_nonzero}
 pub use Rattle.model_types.specs.Sources.{FixedSource, as_general, constant_faces, evap_sources, fixed_sources, local_entries, storage_at, variable_faces}
 pub use Rattle.model_types.specs.Times.{period_at, times}
 pub use Rattle.model_types.specs.declared.limits.Limits.{Limits}
 pub use Rattle.model_types.specs.declared.model.FlowModel.{FlowModel}
 pub use Rattle.model_types.specs.declared.time_steps.TimeStep.{TimeStep}
-pub use Rattle.problem_builder.proofs.Members.{In-append, In-variable, variable-In}
-pub use Rattle.problem_builder.proofs.StepEnclosed.{ids_are}
+pub use Rattle.problem_builder.proofs.Joined.{AllZip-weaker}
+pub use Rattle.problem_builder.proofs.TimesOf.{flat-In, time_of}
 pub use Rattle.problem_builder.specs.Cells.{IsCellOf, IsEvap, IsFixed, IsLink}
 pub use Rattle.problem_builder.specs.GridHeads.{AreGridHeads, HeadsEnclose, IsActive, IsNamed}
-pub use Rattle.problem_builder.specs.Widths.{Thicknesses}
-pub use Rattle.problem_hull.specs.Hulls.{AllThree, IsCellHull, IsHull, IsHullOf, evap_hull, fixed_hull, link_hull, next, none}
+pub use Rattle.problem_builder.specs.Problems.{IsProblemOf}
+pub use Rattle.problem_hull.specs.Hulls.{AllThree, IsCellHull, IsHullOf, evap_hull, fixed_hull, link_hull, next, none}
 pub use Rattle.problem_hull.specs.Shapes.{evap_shape, fixed_shape, link_shape}
 pub use Rattle.step_chain.proofs.Assembled.{active_constant, constant_not_variable, count_is, index_below, number_is}
 pub use Rattle.step_chain.proofs.Limits.{cut_by}
@@ -85,15 +84,11 @@ pub use Rattle.step_problem.specs.Conditions.{IsHead, IsProblem}
 pub use Rattle.step_problem.specs.Entries.{Entries, entries_at, no_entries}
 pub use Rattle.step_problem.specs.Heads.{Edges, IsCertificate, lower_at, no_bound, upper_at}
 pub use Rattle.step_problem.specs.Settling.{PairKind}
-pub use Rattle.step_problem.specs.declared.entry.Fixed.{Fixed}
-pub use Rattle.step_problem.specs.declared.entry.FixedKind.{FixedKind}
-pub use Rattle.step_problem.specs.declared.entry.FixedKind.TheVariants.{Constant, Storage}
-pub use Rattle.step_problem.specs.declared.entry.Link.{Link}
 pub use Rattle.step_problem.specs.declared.heads.Bound.{Bound}
 pub use Rattle.step_problem.specs.declared.heads.Side.{Side}
 pub use Rattle.step_problem.specs.declared.heads.Side.TheVariants.{High, Low}
 pub use Rattle.step_problem.specs.declared.place.Dir.{Dir}
-pub use Rattle.step_problem.specs.declared.place.Dir.TheVariants.{Out}
+pub use Rattle.step_problem.specs.declared.place.Dir.TheVariants.{In, Out}
 pub use Rattle.step_problem.specs.declared.place.NoBound.{NoBound}
 pub use Rattle.step_problem.specs.declared.place.Term.{Term}
 pub use Rattle.step_problem.specs.declared.place.ZoneFlow.{ZoneFlow}
@@ -101,8 +96,7 @@ pub use Rattle.zone_flows.specs.Exact.{EncloseExact, exact_faces, exact_flow}
 pub use Rattle.zone_flows.specs.Faces.{Face, face_between, faces_by_kind, fixed_faces, flows_between, is_lower_zone, link_faces}
 unfoldable pub use Rattle.zone_flows.specs.Faces.{cell_faces, face_from, faces}
 pub use Rattle.zone_flows.specs.Pairs.{AreZoneFlows, IsBeforeAll, IsZoneFlow, PairsAscend, ShareFace}
-pub use Rattle.zone_flows.specs.Tables.{key_of}
-pub use Rattle.zone_pairs.proofs.Joined.{SharedFace, any_in, face_of, in_any, join_of, shared_small, shares, zone_small}
+pub use Rattle.zone_pairs.proofs.Joined.{any_in, face_of, in_any, join_of, shared_small, shares}
 pub use Rattle.zone_pairs.proofs.Small.{are_numbers, pairs_small}
 pub use Rattle.zone_pairs.specs.Pairs.{AreNumbers, joins, pair_of, pairs_below, pairs_in, share_face, zones_of_flow}
 unfoldable pub use Rattle.zone_pairs.specs.Pairs.{zone_pairs}

@@ -1,8 +1,7 @@
 -- What is first is one: a cell and its side, a term of a budget, and a pair of zones.
 use Rattle.check_run.proofs.Common.{◌≡◌, ◌∙◌, ℕ, ◌<◌, inl, inr, List, [], ◌∷◌, Option, Some, None, refl, sym, ap, subst, arith, AllZip, cases_order, Side, Low}
 use Rattle.check_run.proofs.Common.{High, Dir, Out, Bound, NoBound, Term, ZoneFlow, Entries, Budget, IsFirstUncovered, line_of, AreFlowsOf, HasLargeFlowOf}
-use Rattle.check_run.proofs.Common.{faces_of, CoversFlow, IsFirstNarrow}
-use Rattle.step_problem.specs.declared.place.Dir.TheVariants.{In}
+use Rattle.check_run.proofs.Common.{faces_of, CoversFlow, IsFirstNarrow, In, length, map, get_or, pos, get_or-map, length-map, ZonePair, zones_of_flow}
 use Rattle.budget_bounds.proofs.Covering.{same_place}
 use Rattle.budget_bounds.proofs.Ordered.{place_within}
 use Rattle.zone_flows.proofs.Unique.{flows_are_one, flows_exclude_refusal, refusal_is_one}
@@ -69,3 +68,21 @@ module _ (p : List Entries) (heads : List Bound) where
   pub large_one : (o : Option (List ℕ)) (a b : NoBound) → HasLargeFlowOf p heads o a → HasLargeFlowOf p heads o b → a ≡ b
   large_one None a b h i = absurd h
   large_one (Some zones) a b h i = refusal_is_one (faces_of p heads zones) a b h i
+
+-- The walk over listed flows between zones and computed ones.
+-- what holds of the rest holds of all
+pub record GoesOn (listed computed xs ys : List ZoneFlow) : Type 0 where
+  pub wide : AllZip CoversFlow xs ys → AllZip CoversFlow listed computed
+  pub narrow : (a b : ℕ) → IsFirstNarrow xs ys a b → IsFirstNarrow listed computed a b
+
+abbrev no_flow : ZoneFlow
+no_flow = record { from = 0; to = 0; lo = pos 0; hi = pos 0 }
+
+module _ (listed computed : List ZoneFlow) (same : map zones_of_flow listed ≡ map zones_of_flow computed) where
+  as_many : length listed ≡ length computed
+  as_many = sym (length-map listed zones_of_flow) ∙ ap length same ∙ length-map computed zones_of_flow
+
+  pub same_zones_at : (i : ℕ) → i < length listed → zones_of_flow (get_or listed i no_flow) ≡ zones_of_flow (get_or computed i no_flow)
+  same_zones_at i lt =
+      let none : ZonePair = zones_of_flow no_flow in
+      sym (get_or-map zones_of_flow listed i no_flow none lt) ∙ ap (λ zs. get_or zs i none) same ∙ get_or-map zones_of_flow computed i no_flow none (omega (arith, lt, as_many))

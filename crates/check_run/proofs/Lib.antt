@@ -2,15 +2,11 @@ mod Common
 pub mod Firsts
 pub mod Reached
 pub mod Listed
-pub mod Unposed
 pub mod Passing
 pub mod Outcomes
 pub mod OneVerdict
-pub mod Narrow
-pub mod FaceKeys
-pub mod FlowKeys
+pub mod Branches
 pub mod FlowPairs
-pub mod HullPairs
 pub mod Passed
 pub mod Checking
 pub mod DeckCells

@@ -1,18 +1,17 @@
 -- A listed step that passes bounds every solution.
-use Rattle.check_run.proofs.Common.{◌≡◌, ℕ, ◌+◌, ◌<◌, ◌^◌, inl, inr, true, List, [], ◌∷◌, length, Contains, Option, Some, None, sym, ◌∙◌, subst, arith, ℤ, pos}
-use Rattle.check_run.proofs.Common.{◌*ℤ◌, ◌≤ℤ◌, AllByRecursion, AllZip, IfSome, All-from_recursion, recursion_from_All, cases_Bool, ints, Fraction, den, Bound}
-use Rattle.check_run.proofs.Common.{Low, High, ZoneFlow, Entries, lower_at, upper_at, Budget, CoverEncloses, Covers, EnclosesBudgets, HeadsAreWithin}
-use Rattle.check_run.proofs.Common.{EnclosesSolutions, exact_step, heads_of, variable_heads, FlowModel, TimeStep, cell_count, constant_head, is_variable}
-use Rattle.check_run.proofs.Common.{is_constant, index_of, times, IsActive, IsNamed, bound_at, active_constant, index_below, count_is, number_is, EncloseExact}
-use Rattle.check_run.proofs.Common.{exact_faces, exact_flow, ZonePair, CoversFlow, AreWide, ConstantsReach, IsConstantCell, variable_bounds, checked_task}
-use Rattle.check_run.proofs.Common.{step_of, Decks, AreDecks, EachMember, IsMember, AreConstantHeadsFor, ConstantPairEncloses, HasCellsOf, cell_of_member}
-use Rattle.check_run.proofs.Common.{constant_same, member_cells, of_member, BoundsMovesOf, EnclosesSteps, EnclosesStep, CellEncloses, IsMove, LiesWithin}
+use Rattle.check_run.proofs.Common.{◌≡◌, ℕ, ◌+◌, ◌<◌, ◌^◌, inl, inr, true, List, length, Contains, Option, Some, None, sym, ◌∙◌, subst, arith, ℤ, pos, ◌*ℤ◌}
+use Rattle.check_run.proofs.Common.{◌≤ℤ◌, AllZip, IfSome, cases_Bool, ints, Fraction, den, Bound, Low, High, ZoneFlow, Entries, lower_at, upper_at, Budget}
+use Rattle.check_run.proofs.Common.{CoverEncloses, Covers, EnclosesBudgets, HeadsAreWithin, EnclosesSolutions, exact_step, heads_of, variable_heads, FlowModel}
+use Rattle.check_run.proofs.Common.{TimeStep, cell_count, constant_head, is_variable, is_constant, index_of, times, IsActive, IsNamed, bound_at}
+use Rattle.check_run.proofs.Common.{active_constant, index_below, count_is, number_is, EncloseExact, exact_faces, exact_flow, ZonePair, CoversFlow, AreWide}
+use Rattle.check_run.proofs.Common.{ConstantsReach, IsConstantCell, variable_bounds, checked_task, step_of, Decks, AreDecks, EachMember, IsMember}
+use Rattle.check_run.proofs.Common.{AreConstantHeadsFor, ConstantPairEncloses, HasCellsOf, cell_of_member, constant_same, member_cells, of_member}
+use Rattle.check_run.proofs.Common.{BoundsMovesOf, EnclosesSteps, EnclosesStep, CellEncloses, IsMove, LiesWithin, AllZip-at, AllZip-length, get_or}
 use Rattle.decimal_input.specs.Wholes.{EnclosesSigned}
 use Rattle.decimal_input.proofs.Enclosing.{whole_signed}
 use Rattle.cell_balance.specs.Steps.{ExactCell}
 use Rattle.cell_balance.specs.Balance.{LiesBetween}
 use Rattle.cell_balance.proofs.Totals.{le_trans_z}
-use Rattle.cell_balance.proofs.Zips.{AllZip-length}
 use Rattle.listing_run.proofs.Zoned.{flows_enclose, heads_named, within_enclosed}
 use Rattle.check_run.proofs.Listed.{variable_listed}
 use Rattle.decimal_input.proofs.Signs.{mul_mono_right}
@@ -41,20 +40,11 @@ flow_wider s e zones h v w covers encloses =
       upper = le_trans_z _ _ _ same.upper (mul_mono_right d w.hi v.hi covers.upper);
     }
 
-flows_wider : (s : ℕ) (e : List ExactCell) (zones : List ℕ) (h : ℕ → Fraction) (listed flows : List ZoneFlow) → AllZip CoversFlow listed flows →
-    AllByRecursion (λ (v : ZoneFlow). EnclosesSigned v.lo v.hi (s + 9) (exact_flow v.from v.to (exact_faces zones h e))) flows →
-    AllByRecursion (λ (v : ZoneFlow). EnclosesSigned v.lo v.hi (s + 9) (exact_flow v.from v.to (exact_faces zones h e))) listed
-flows_wider s e zones h [] [] covers encloses = tt
-flows_wider s e zones h [] (w ∷ flows) covers encloses = absurd covers
-flows_wider s e zones h (v ∷ listed) [] covers encloses = absurd covers
-flows_wider s e zones h (v ∷ listed) (w ∷ flows) covers encloses = (flow_wider s e zones h v w covers.0 encloses.0, flows_wider s e zones h listed flows covers.1 encloses.1)
-
 wide_enclose : (s : ℕ) (e : List ExactCell) (o : Option (List ℕ)) (h : ℕ → Fraction) (listed flows : List ZoneFlow) → AllZip CoversFlow listed flows →
     IfSome o (λ zones. EncloseExact s e zones h flows) → IfSome o (λ zones. EncloseExact s e zones h listed)
 wide_enclose s e None h listed flows covers encloses = tt
-wide_enclose s e (Some zones) h listed flows covers encloses =
-    let E : ZoneFlow → Type 0 = λ v. EnclosesSigned v.lo v.hi (s + 9) (exact_flow v.from v.to (exact_faces zones h e)) in
-    All-from_recursion E listed (flows_wider s e zones h listed flows covers (recursion_from_All E flows encloses))
+wide_enclose s e (Some zones) h listed flows covers encloses = λ k d lt.
+    flow_wider s e zones h (get_or listed k d) (get_or flows k d) (AllZip-at CoversFlow listed flows k d d covers lt) (encloses k d (omega (arith, lt, AllZip-length CoversFlow listed flows covers)))
 
 module _ (ds : Decks) (s : ℕ) (at : TimeStep) (old : List Bound) (p : List Entries) (constant_heads heads : List Bound)
     (valid : AreDecks ds) (time : Contains (times ds.first) at) (are : AreConstantHeadsFor ds at constant_heads) (pair_encloses : ConstantPairEncloses)

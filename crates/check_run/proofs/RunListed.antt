@@ -1,19 +1,19 @@
 -- The steps of a run are steps that a listing can have.
-use Rattle.check_run.proofs.Common.{Limits, ◌≡◌, ℕ, zero, suc, ◌+◌, ◌<◌, false, List, [], ◌∷◌, length, map, All, Ok, refl, sym, ap, subst, arith, ℤ, pos}
-use Rattle.check_run.proofs.Common.{negsuc, ◌+ℤ◌, ◌≤ℤ◌, ◌<ℤ◌, unsigned_abs, nat_abs, ◌^◌, ◌≤◌, Option, Some, None, AllZip, ints, All-weaker, Bound, Out}
-use Rattle.check_run.proofs.Common.{ZoneFlow, Entries, entries_at, no_bound, lower_at, upper_at, Budget, TermPair, all_terms, term_limit, Face, flows_between}
-use Rattle.check_run.proofs.Common.{pairs_in, AreNumbers, FlowModel, TimeStep, cell_count, variable_below, evap_sources, period_at, times, IsCellOf, IsEvap}
-use Rattle.check_run.proofs.Common.{AreGridHeads, Thicknesses, Solved, bound_at, HeadsFit, AreCellBounds, AreFlows, AreFlowsAt, AreListed, IsCellBound}
-use Rattle.check_run.proofs.Common.{IsFlowPair, IsListedStep, has_evt, zone_pair, Task, Step, Whole, AllSteps, IsStep, Steps, budget_at, AreFlowsOf, faces_of}
-use Rattle.check_run.proofs.Common.{IsRest, first_in, rest_more, rest_whole, as_listed, nat_tests, IsZoneFlow, is_nonzero, IsHullOf, IsHull, AllThree, next}
-use Rattle.check_run.proofs.Common.{none, IsProblemBy, IsBefore, StartHeadsFit, deck_task, Decks, AreDecks, PairKind, IsStepBy, pairs_of, Bool, evap_hull}
-use Rattle.check_run.proofs.Common.{evap_shape}
-use Rattle.step_problem.specs.declared.place.Dir.TheVariants.{In}
+use Rattle.check_run.proofs.Common.{IsHullOf, evap_hull, evap_shape, Limits, ◌≡◌, ℕ, zero, suc, ◌+◌, ◌<◌, false, List, [], ◌∷◌, length, map, All, Ok, refl, sym}
+use Rattle.check_run.proofs.Common.{ap, subst, arith, ℤ, pos, negsuc, ◌+ℤ◌, ◌≤ℤ◌, ◌<ℤ◌, unsigned_abs, nat_abs, ◌^◌, ◌≤◌, Option, Some, None, AllZip, ints}
+use Rattle.check_run.proofs.Common.{All-weaker, Bound, Out, ZoneFlow, Entries, no_bound, lower_at, upper_at, Budget, TermPair, term_limit, Face, flows_between}
+use Rattle.check_run.proofs.Common.{pairs_in, AreNumbers, FlowModel, TimeStep, evap_sources, period_at, times, IsCellOf, IsEvap, AreGridHeads, Solved, bound_at}
+use Rattle.check_run.proofs.Common.{HeadsFit, AreCellBounds, AreFlows, AreFlowsAt, AreListed, IsCellBound, IsFlowPair, IsListedStep, has_evt, zone_pair, Task}
+use Rattle.check_run.proofs.Common.{Step, Whole, AllSteps, IsStep, Steps, budget_at, AreFlowsOf, faces_of, IsRest, first_in, rest_more, rest_whole, as_listed}
+use Rattle.check_run.proofs.Common.{nat_tests, IsZoneFlow, is_nonzero, AllThree, next, none, IsProblemBy, IsBefore, StartHeadsFit, deck_task, Decks, AreDecks}
+use Rattle.check_run.proofs.Common.{PairKind, IsStepBy, pairs_of, Bool, In, IsCellHull, ListedStep, no_entries, variable_cells, AllZip-at, AllZip-length}
+use Rattle.check_run.proofs.Common.{AllZip-right, AllZip-weaker, IsProblemOf}
+use Rattle.check_run.proofs.Branches.{hull_zip}
 use Rattle.step_problem.specs.Balances.{total}
 use Rattle.model_types.specs.Receivers.{is_chosen}
 use Rattle.step_problem.specs.declared.entry.Evap.{Evap}
-use Rattle.check_run.proofs.HullPairs.{flows_have_pairs}
-use Rattle.check_run.proofs.RunTerms.{as_many, budget_are, flows_are, no_et}
+use Rattle.check_run.proofs.FlowPairs.{flows_have_pairs}
+use Rattle.check_run.proofs.RunTerms.{budget_are, eight, flows_are, no_et}
 
 -- Without EVT no cell evaporates.
 
@@ -35,12 +35,25 @@ empty_zip R [] ys h e = refl
 empty_zip R (x ∷ xs) [] h e = absurd h
 empty_zip R (x ∷ xs) (y ∷ ys) h e = absurd (let bad : y ∷ ys ≡ [] = e in cc)
 
-module _ (m : FlowModel) (w : Thicknesses) (s : ℕ) (at : TimeStep) (old : List Bound) (evt : has_evt m ≡ false) where
-  no_evaps : (es : List Entries) (cs : List ℕ) → AllZip (IsCellOf m w s at old) es cs → (k : ℕ) → k < length es → (entries_at es k).evaps ≡ []
-  no_evaps [] cs h k lt = absurd (omega (arith, lt))
-  no_evaps (e ∷ es) [] h k lt = absurd h
-  no_evaps (e ∷ es) (c ∷ cs) h zero lt = empty_zip (IsEvap m s c) e.evaps (evap_sources m at.period c) h.0.evaps (no_source m at.period c evt)
-  no_evaps (e ∷ es) (c ∷ cs) h (suc k) lt = no_evaps es cs h.1 k (omega (arith, lt))
+-- a cell without evaporation, whatever its number
+abbrev NoEvaps : Entries → ℕ → Type 0
+NoEvaps e c = e.evaps ≡ []
+
+no_evaps : (m : FlowModel) (s : ℕ) (at : TimeStep) (old : List Bound) (p : List Entries) → has_evt m ≡ false → IsProblemOf m s at old p → AllZip NoEvaps p (variable_cells m at.period)
+no_evaps m s at old p evt is =
+    AllZip-weaker (IsCellOf m is.widths s at old) NoEvaps (λ e c h. empty_zip (IsEvap m s c) e.evaps (evap_sources m at.period c) h.evaps (no_source m at.period c evt)) p (variable_cells m at.period) is.cells.each
+
+-- a hull has none if the first problem has none
+hull_evaps : (a b r : Entries) (c : ℕ) → IsCellHull a b r → NoEvaps a c → NoEvaps r c
+hull_evaps a b r c h e = no_hull a.evaps b.evaps r.evaps h.evaps e
+  where
+    no_hull : (xs ys zs : List Evap) → AllThree (IsHullOf evap_shape evap_hull) xs ys zs → xs ≡ [] → zs ≡ []
+    no_hull xs ys zs none e = refl
+    no_hull xs ys zs (next {x = x} {xs = us} d ds) e = absurd (let bad : x ∷ us ≡ [] = e in cc)
+
+decks_no_evaps : (a : FlowModel) (o : Option FlowModel) (s : ℕ) (at : TimeStep) (old : List Bound) → has_evt a ≡ false → (p : List Entries) → IsProblemBy a o s at old p → AllZip NoEvaps p (variable_cells a at.period)
+decks_no_evaps a None s at old e p is = no_evaps a s at old p e is
+decks_no_evaps a (Some b) s at old e p is = hull_zip IsCellHull NoEvaps hull_evaps is.first is.second p (variable_cells a at.period) is.hull (no_evaps a s at old is.first e is.is_first)
 
 -- Heads in range are those of a listing.
 
@@ -56,21 +69,6 @@ cell_bounds m c (b ∷ bs) h =
           subst Q next (h (suc k) (omega (arith, lt)))),
     )
 
--- the hull of a problem without evaporation has none
-hull_evaps : (p q r : List Entries) → IsHull p q r → ((k : ℕ) → k < length p → (entries_at p k).evaps ≡ []) → (k : ℕ) → k < length r → (entries_at r k).evaps ≡ []
-hull_evaps p q r none h k lt = absurd (omega (arith, lt))
-hull_evaps p q r (next {x = x} {z = z} c hs) h zero lt = no_hull x.evaps _ z.evaps c.evaps (h zero (omega arith))
-  where
-    no_hull : (xs ys zs : List Evap) → AllThree (IsHullOf evap_shape evap_hull) xs ys zs → xs ≡ [] → zs ≡ []
-    no_hull xs ys zs none e = refl
-    no_hull xs ys zs (next {x = x} {xs = us} d ds) e = absurd (let bad : x ∷ us ≡ [] = e in cc)
-hull_evaps p q r (next c hs) h (suc k) lt = hull_evaps _ _ _ hs (λ i l. h (suc i) (omega (arith, l))) k (omega (arith, lt))
-
-decks_no_evaps : (a : FlowModel) (o : Option FlowModel) (s : ℕ) (at : TimeStep) (old : List Bound) → has_evt a ≡ false → (p : List Entries) → IsProblemBy a o s at old p → (k : ℕ) → k < length p → (entries_at p k).evaps ≡ []
-decks_no_evaps a None s at old e p is = no_evaps a is.widths s at old e p (variable_below a at.period (cell_count a.grid)) is.cells.each
-decks_no_evaps a (Some b) s at old e p is =
-    hull_evaps is.first is.second p is.hull (no_evaps a is.is_first.widths s at old e is.first (variable_below a at.period (cell_count a.grid)) is.is_first.cells.each)
-
 module _ (limits : Limits) (ds : Decks) (s : ℕ) (at : TimeStep) (old : List Bound) (kind : PairKind) (x : Solved) (solves : IsStepBy limits ds s at old kind x) (grid : AreGridHeads ds.first x.heads) where
   cell_bound : (c : ℕ) → c < length x.heads → IsCellBound ds.first (0 + c) (bound_at x.heads c)
   cell_bound c lt =
@@ -82,18 +80,19 @@ module _ (limits : Limits) (ds : Decks) (s : ℕ) (at : TimeStep) (old : List Bo
   is_listed : (b : Budget) (flows : List ZoneFlow) → budget_at x ≡ Ok b → IsListedStep ds.first (record { heads = x.heads; budget = b; zones = flows })
   is_listed b flows is =
       let (into, out) = budget_are x.problem (lower_at x.bounds) (upper_at x.bounds) b is in
-      let none = λ (e : has_evt ds.first ≡ false). decks_no_evaps ds.first ds.second s at old e x.problem solves.posed.problem in
+      let none = λ (e : has_evt ds.first ≡ false) (k : ℕ) (lt : k < length x.problem).
+      AllZip-at NoEvaps x.problem (variable_cells ds.first at.period) k no_entries 0 (decks_no_evaps ds.first ds.second s at old e x.problem solves.posed.problem) lt in
       record {
         whole = grid.whole;
         heads = cell_bounds ds.first 0 x.heads cell_bound;
         into = record {
-          eight = as_many x.problem (lower_at x.bounds) (upper_at x.bounds) In all_terms b.into into;
-          small = flows_are x.problem (lower_at x.bounds) (upper_at x.bounds) In all_terms b.into into;
+          eight = eight x.problem (lower_at x.bounds) (upper_at x.bounds) In b.into into;
+          small = flows_are x.problem (lower_at x.bounds) (upper_at x.bounds) In b.into into;
           no_et = λ e. no_et x.problem (lower_at x.bounds) (upper_at x.bounds) (none e) In b.into into;
         };
         out = record {
-          eight = as_many x.problem (lower_at x.bounds) (upper_at x.bounds) Out all_terms b.out out;
-          small = flows_are x.problem (lower_at x.bounds) (upper_at x.bounds) Out all_terms b.out out;
+          eight = eight x.problem (lower_at x.bounds) (upper_at x.bounds) Out b.out out;
+          small = flows_are x.problem (lower_at x.bounds) (upper_at x.bounds) Out b.out out;
           no_et = λ e. no_et x.problem (lower_at x.bounds) (upper_at x.bounds) (none e) Out b.out out;
         };
       }
@@ -164,28 +163,23 @@ module _ (fits : HeadsFit) (limits : Limits) (ds : Decks) (s : ℕ) (zones : Opt
     next_heads : AreGridHeads ds.first v.heads
     next_heads = subst (AreGridHeads ds.first) (sym is.heads) solved_heads
 
-  all_listed : (old : List Bound) (rest : List TimeStep) (values : List Step) → IsRest (times ds.first) rest → AreGridHeads ds.first old → Steps task old rest values Whole → (length (map as_listed values) ≡ length rest) × All (IsListedStep ds.first) (map as_listed values)
-  all_listed old [] [] r heads h = (refl, λ i d lt. absurd (omega (arith, lt)))
+  abbrev IsListedAt : TimeStep → ListedStep → Type 0
+  IsListedAt at x = IsListedStep ds.first x × AreFlowsAt (pairs_in ds.first zones) at x
+
+  all_listed : (old : List Bound) (rest : List TimeStep) (values : List Step) → IsRest (times ds.first) rest → AreGridHeads ds.first old → Steps task old rest values Whole → AllZip IsListedAt rest (map as_listed values)
+  all_listed old [] [] r heads h = tt
   all_listed old [] (v ∷ values) r heads h = absurd h
   all_listed old (at ∷ rest) [] r heads h = absurd h
   all_listed old (at ∷ rest) (v ∷ values) r heads (is, h) =
       let before : IsBefore ds at old = record { decks = valid; time = r.each at (first_in at rest); heads = heads } in
-      let others = all_listed v.heads rest values (rest_more (times ds.first) at rest r) (next_heads at old before v is) h in
-      (ap suc others.0, each (step_listed at old before v is) others.1)
-    where
-      each : IsListedStep ds.first (as_listed v) → All (IsListedStep ds.first) (map as_listed values) → All (IsListedStep ds.first) (as_listed v ∷ map as_listed values)
-      each first more zero d lt = first
-      each first more (suc i) d lt = more i d (omega (arith, lt))
-
-  all_flows : (old : List Bound) (rest : List TimeStep) (values : List Step) → IsRest (times ds.first) rest → AreGridHeads ds.first old → Steps task old rest values Whole → AllZip (AreFlowsAt (pairs_in ds.first zones)) rest (map as_listed values)
-  all_flows old [] [] r heads h = tt
-  all_flows old [] (v ∷ values) r heads h = absurd h
-  all_flows old (at ∷ rest) [] r heads h = absurd h
-  all_flows old (at ∷ rest) (v ∷ values) r heads (is, h) =
-      let before : IsBefore ds at old = record { decks = valid; time = r.each at (first_in at rest); heads = heads } in
-      (step_flows at old before v is, all_flows v.heads rest values (rest_more (times ds.first) at rest r) (next_heads at old before v is) h)
+      ((step_listed at old before v is, step_flows at old before v is), all_listed v.heads rest values (rest_more (times ds.first) at rest r) (next_heads at old before v is) h)
 
   pub are_listed : StartHeadsFit → (values : List Step) → AllSteps task values Whole → AreListed ds.first (pairs_in ds.first zones) (map as_listed values)
   are_listed start_fits values h =
+      let listed = map as_listed values in
       let all = all_listed h.start (times ds.first) values (rest_whole (times ds.first)) (start_fits ds h.start valid h.is_start) h.steps in
-      record { whole = all.0; steps = all.1; flows = all_flows h.start (times ds.first) values (rest_whole (times ds.first)) (start_fits ds h.start valid h.is_start) h.steps }
+      record {
+        whole = sym (AllZip-length IsListedAt (times ds.first) listed all);
+        steps = AllZip-right IsListedAt (IsListedStep ds.first) (λ at x k. k.0) (times ds.first) listed all;
+        flows = AllZip-weaker IsListedAt (AreFlowsAt (pairs_in ds.first zones)) (λ at x k. k.1) (times ds.first) listed all;
+      }

@@ -1,20 +1,13 @@
 -- The terms of a step's budget are flows that a listing can have.
-use Rattle.check_run.proofs.Common.{◌≡◌, ℕ, zero, suc, ◌^◌, ◌<◌, Bool, true, false, List, [], ◌∷◌, length, nat_abs, All, get_or, Result, Ok, Err, refl, sym, ap}
-use Rattle.check_run.proofs.Common.{◌∙◌, subst, arith, ℤ, pos, negsuc, ◌+ℤ◌, ◌≤ℤ◌, if◌then◌else◌, AllZip, ints, Dir, Out, NoBound, Term, Entries, entries_at}
-use Rattle.check_run.proofs.Common.{TermPair, Budget, ◌>>=◌, all_terms, budget_of, is_small, no_pair, parts, term_limit, term_of, term_pair, terms_of}
-use Rattle.check_run.proofs.Common.{too_large, IsFlowPair, singles, and_parts}
-use Rattle.step_problem.specs.declared.place.Dir.TheVariants.{In}
+use Rattle.check_run.proofs.Common.{◌≡◌, ℕ, zero, suc, ◌^◌, ◌<◌, Bool, true, false, List, [], ◌∷◌, length, nat_abs, All, get_or, Ok, Err, refl, sym, ap, ◌∙◌}
+use Rattle.check_run.proofs.Common.{subst, arith, ℤ, pos, negsuc, ◌+ℤ◌, ◌≤ℤ◌, if◌then◌else◌, AllZip, ints, Dir, Out, NoBound, Term, Entries, entries_at}
+use Rattle.check_run.proofs.Common.{TermPair, Budget, all_terms, budget_of, is_small, no_pair, parts, term_limit, term_of, term_pair, terms_of, too_large}
+use Rattle.check_run.proofs.Common.{IsFlowPair, singles, and_parts, In, AllZip-at, AllZip-length, AllZip-right}
 use Rattle.std.specs.Int.Signed.{lt_z}
 use Rattle.step_problem.specs.declared.place.Term.TheVariants.{Storage, Et}
 use Rattle.cell_balance.specs.Components.{sum_below}
 use Rattle.budget_bounds.proofs.Caps.{parts_lo, parts_hi}
 use Rattle.listing_io.proofs.Terms.{same_ok, goes, clash}
-
--- what goes on was not refused
-record Goes {A B E : Type 0} (r : Result A E) (f : A → Result B E) (y : B) : Type 0 where
-  item : A
-  first : r ≡ Ok item
-  then_ : f item ≡ Ok y
 
 tested : (test : Bool) (q x : TermPair) (e : NoBound) → (if test then Ok q else Err e) ≡ Ok x → (test ≡ true) × (x ≡ q)
 tested true q x e h = (refl, sym (same_ok q x (Ok q) refl h))
@@ -81,26 +74,11 @@ module _ (p : List Entries) (l u : ℕ → ℤ) where
       let none : N x = subst N (sym h.is) (lo_none dir t, hi_none dir t) in
       record { lo = small_flow x.lo none.0 lo; hi = small_flow x.hi none.1 hi }
 
-  pub flows_are : (dir : Dir) (ts : List Term) (xs : List TermPair) → AllZip (IsTermOf dir) ts xs → All IsFlowPair xs
-  flows_are dir ts [] h = λ k d lt. absurd (omega (arith, lt))
-  flows_are dir [] (x ∷ xs) h = absurd h
-  flows_are dir (t ∷ ts) (x ∷ xs) h = each (flow_is dir t x h.0) (flows_are dir ts xs h.1)
-    where
-      each : IsFlowPair x → All IsFlowPair xs → All IsFlowPair (x ∷ xs)
-      each first more zero d lt = first
-      each first more (suc k) d lt = more k d (omega (arith, lt))
+  pub flows_are : (dir : Dir) (xs : List TermPair) → AllZip (IsTermOf dir) all_terms xs → All IsFlowPair xs
+  flows_are dir xs h = AllZip-right (IsTermOf dir) IsFlowPair (flow_is dir) all_terms xs h
 
-  pub as_many : (dir : Dir) (ts : List Term) (xs : List TermPair) → AllZip (IsTermOf dir) ts xs → length xs ≡ length ts
-  as_many dir [] [] h = refl
-  as_many dir [] (x ∷ xs) h = absurd h
-  as_many dir (t ∷ ts) [] h = absurd h
-  as_many dir (t ∷ ts) (x ∷ xs) h = ap suc (as_many dir ts xs h.1)
-
-  at_place : (dir : Dir) (k : ℕ) (ts : List Term) (xs : List TermPair) → AllZip (IsTermOf dir) ts xs → k < length ts → IsTermOf dir (get_or ts k Storage) (get_or xs k no_pair)
-  at_place dir k [] xs h lt = absurd (omega (arith, lt))
-  at_place dir k (t ∷ ts) [] h lt = absurd h
-  at_place dir zero (t ∷ ts) (x ∷ xs) h lt = h.0
-  at_place dir (suc k) (t ∷ ts) (x ∷ xs) h lt = at_place dir k ts xs h.1 (omega (arith, lt))
+  pub eight : (dir : Dir) (xs : List TermPair) → AllZip (IsTermOf dir) all_terms xs → length xs ≡ 8
+  eight dir xs h = sym (AllZip-length (IsTermOf dir) all_terms xs h)
 
   -- where no cell evaporates, ET is none
   module _ (none : (c : ℕ) → c < length p → (entries_at p c).evaps ≡ []) where
@@ -116,4 +94,4 @@ module _ (p : List Entries) (l u : ℕ → ℤ) where
         rw (lo, hi) refl
 
     pub no_et : (dir : Dir) (xs : List TermPair) → AllZip (IsTermOf dir) all_terms xs → get_or xs 7 no_pair ≡ no_pair
-    no_et dir xs h = (at_place dir 7 all_terms xs h (omega arith)).is ∙ no_et_pair dir
+    no_et dir xs h = (AllZip-at (IsTermOf dir) all_terms xs 7 Storage no_pair h (omega arith)).is ∙ no_et_pair dir

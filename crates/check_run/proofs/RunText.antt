@@ -1,11 +1,11 @@
 -- The text of a run's listing is that of its steps, and is read as these.
 use Rattle.check_run.proofs.Common.{Limits, Option, ◌≡◌, ℕ, List, [], ◌∷◌, ◌++◌, map, get_or, Contains, Ok, refl, sym, ap, ◌∙◌, subst, arith, concat}
-use Rattle.check_run.proofs.Common.{append_assoc, append-nil, get_or_default, flat_map-append, Bound, FlowModel, TimeStep, times, HeadsFit, pairs_in}
-use Rattle.check_run.proofs.Common.{pairs_small, all_step_lines, ended, first_line, first_text, step_lines, step_text, Task, Step, Whole, AllSteps, IsStep}
-use Rattle.check_run.proofs.Common.{Steps, IsReadable, RunIsReadAgain, as_listed, deck_task, Decks, StartHeadsFit, Bool, IsTime, IsWritable}
-use Rattle.check_run.proofs.Common.{ListingsAreReadAgain, is_between, listing, text_of}
+use Rattle.check_run.proofs.Common.{append_assoc, append-nil, get_or_default, Bound, FlowModel, TimeStep, times, HeadsFit, pairs_in, pairs_small}
+use Rattle.check_run.proofs.Common.{all_step_lines, ended, first_line, first_text, step_lines, step_text, Task, Step, Whole, AllSteps, IsStep, Steps}
+use Rattle.check_run.proofs.Common.{IsReadable, RunIsReadAgain, as_listed, deck_task, Decks, StartHeadsFit, Bool, IsTime, IsWritable, ListingsAreReadAgain}
+use Rattle.check_run.proofs.Common.{is_between, listing, text_of, time_of}
+use Rattle.std.proofs.lemmas.List.Concat.{flat_map-append}
 use Rattle.model_types.specs.Valid.{IsModel}
-use Rattle.problem_builder.proofs.TimesOf.{time_of}
 use Rattle.listing_io.specs.Listing.{end_line as last_row, listing as rows_of, text_of as text}
 use Rattle.listing_io.specs.Reading.{all_lines, listing_at}
 use Rattle.run_puts.specs.Runs.{end_line}

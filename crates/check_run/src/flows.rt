@@ -38,7 +38,7 @@ fn first_narrow(listed: &[ZoneFlow], computed: &[ZoneFlow]) -> Option<(u32, u32)
 }
 
 /// Tests listed flows between the zones of a zone file against those of a problem at these heads of all cells.
-pub(crate) fn wide(
+pub(crate) fn test_flows(
     alloc: Global,
     model: &FlowModel,
     zones: Option<&[u32]>,

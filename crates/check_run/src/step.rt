@@ -12,11 +12,11 @@ ghost use Rattle.check_run.specs.Steps.{Passes};
 ghost use Rattle.check_run.specs.Verdicts.{checked_task, step_of};
 
 use crate::constants::first_unreached;
-use crate::flows::wide;
+use crate::flows::test_flows;
 use crate::listing::CheckFault;
 use crate::posed::pose;
-use crate::terms::covered;
-use crate::variables::{bounds_of, certified};
+use crate::terms::test_terms;
+use crate::variables::{bounds_of, test_heads};
 use budget_bounds::Budget;
 use budget_bounds::laws::{cover_encloses, heads_within};
 use deck_problems::laws::constant_pairs;
@@ -74,7 +74,7 @@ pub(crate) fn check_listed(
         return Err(CheckFault::Fails(Place::Cell(cell, side)));
     }
     let bounds = bounds_of(alloc, &posed.problem, heads)?;
-    certified(&posed.problem, &posed.barrier, bounds.as_slice())?;
-    covered(&posed.problem, bounds.as_slice(), listed)?;
-    wide(alloc, &decks.first, zones, &posed.problem, heads, flows)
+    test_heads(&posed.problem, &posed.barrier, bounds.as_slice())?;
+    test_terms(&posed.problem, bounds.as_slice(), listed)?;
+    test_flows(alloc, &decks.first, zones, &posed.problem, heads, flows)
 }

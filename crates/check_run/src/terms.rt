@@ -8,7 +8,7 @@ use budget_bounds::{Budget, budget, first_uncovered};
 use step_problem::{Bound, Place, Problem};
 
 /// Tests listed terms against the budget of the heads between these bounds. It takes no memory.
-pub(crate) fn covered(
+pub(crate) fn test_terms(
     problem: &Problem,
     bounds: &[Bound],
     listed: &Budget,

@@ -35,7 +35,7 @@ pub(crate) fn bounds_of(
 }
 
 /// Tests the bounds of a problem's cells over its barrier. It takes no memory.
-pub(crate) fn certified(
+pub(crate) fn test_heads(
     problem: &Problem,
     barrier: &Barrier,
     bounds: &[Bound],

@@ -2,9 +2,8 @@
 use Rattle.listing_io.proofs.Common.{◌≡◌, ℕ, ◌+◌, ◌<◌, ◌^◌, ◌==◌, true, false, List, [], ◌∷◌, ◌++◌, codes, decimal, inl, inr, refl, subst, sym, arith, ℤ, pos}
 use Rattle.listing_io.proofs.Common.{negsuc, suc, nat_abs, nat_tests, decimal_is_IsNumeral_wide, digit_value, AllDigits, FlowModel, ListedStep, Line}
 use Rattle.listing_io.proofs.Common.{first_line, first_line_before, listing, model_line, numbers_text, IsListing, IsWritable, signed_decimal, ListingsAreApart}
-use Rattle.listing_io.proofs.Common.{Bool, cond, map, ap, ◌∙◌, append_assoc, flat_map-cons, flat_map-append, ended, text_of}
 use Rattle.listing_io.proofs.Blanks.{Without, Without-append, by_test}
-use Rattle.listing_io.proofs.Written.{listings_were_written}
+use Rattle.listing_io.proofs.Steps.{listings_were_written}
 
 -- a letter is no digit
 no_digit : (c : ℕ) → digit_value c < 10 → (c == 79) ≡ false
@@ -53,36 +52,3 @@ apart m n s t steps more rows good (inr (bad, e)) other = absurd (cc)
 pub listings_are_apart : ListingsAreApart
 listings_are_apart m n s t pairs others text steps more good h k =
     apart m n s t steps more _ good (listings_were_written true m s pairs text steps h) (listings_were_written false n t others text more k)
-
--- Lines that were written one after another are the text of their list.
--- one line more in front
-pub with_line : (t : List ℕ) (row : Line) (rows : List Line) → (t ++ ended row) ++ text_of rows ≡ t ++ text_of (row ∷ rows)
-with_line t row rows = append_assoc t (ended row) (text_of rows) ∙ ap (λ (x : List ℕ). t ++ x) (sym (flat_map-cons ended row rows))
-
--- lines more in front
-pub with_lines : (t : List ℕ) (front rows : List Line) → (t ++ text_of front) ++ text_of rows ≡ t ++ text_of (front ++ rows)
-with_lines t front rows = append_assoc t (text_of front) (text_of rows) ∙ ap (λ (x : List ℕ). t ++ x) (sym (flat_map-append ended front rows))
-
--- a line and four lists of lines
-pub step_joined : (title : Line) (a b c d : List Line) → [] ++ ended title ++ text_of a ++ text_of b ++ text_of c ++ text_of d ≡ text_of (title ∷ (a ++ (b ++ (c ++ d))))
-step_joined title a b c d =
-    with_lines ([] ++ ended title ++ text_of a ++ text_of b) c d
-    ∙ with_lines ([] ++ ended title ++ text_of a) b (c ++ d)
-    ∙ with_lines ([] ++ ended title) a (b ++ (c ++ d))
-    ∙ with_line [] title (a ++ (b ++ (c ++ d)))
-
--- seven lines, and others after them
-pub seven_joined : (t : List ℕ) (a b c d e f g : Line) (more : List Line) → t ++ ended a ++ ended b ++ ended c ++ ended d ++ ended e ++ ended f ++ ended g ++ text_of more ≡ t ++ text_of (a ∷ b ∷ c ∷ d ∷ e ∷ f ∷ g ∷ more)
-seven_joined t a b c d e f g more =
-    with_line (t ++ ended a ++ ended b ++ ended c ++ ended d ++ ended e ++ ended f) g more
-    ∙ with_line (t ++ ended a ++ ended b ++ ended c ++ ended d ++ ended e) f (g ∷ more)
-    ∙ with_line (t ++ ended a ++ ended b ++ ended c ++ ended d) e (f ∷ g ∷ more)
-    ∙ with_line (t ++ ended a ++ ended b ++ ended c) d (e ∷ f ∷ g ∷ more)
-    ∙ with_line (t ++ ended a ++ ended b) c (d ∷ e ∷ f ∷ g ∷ more)
-    ∙ with_line (t ++ ended a) b (c ∷ d ∷ e ∷ f ∷ g ∷ more)
-    ∙ with_line t a (b ∷ c ∷ d ∷ e ∷ f ∷ g ∷ more)
-
--- the line of what is there on a condition
-pub line_if : {T : Type 0} (line : T → Line) (there : Bool) (t : T) → cond there (line t ∷ []) [] ≡ map line (cond there (t ∷ []) [])
-line_if line true t = refl
-line_if line false t = refl

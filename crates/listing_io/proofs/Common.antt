@@ -5,7 +5,6 @@ pub use Rattle.std.proofs.Common.{subst, suc, sym, take, true, zero, ℕ, ℤ, �
 pub use Rattle.std.proofs.lemmas.Bool.{and_parts, le-leb, leb-true}
 pub use Rattle.std.proofs.lemmas.Bool.Decides.{nat_tests}
 pub use Rattle.std.proofs.lemmas.Fmt.{decimal_is_IsNumeral_wide, length-decimal-le_wide}
-pub use Rattle.std.proofs.lemmas.Int.{ints}
 pub use Rattle.std.proofs.lemmas.List.{append-nil, append_assoc, drop_all, drop_at, take_at}
 pub use Rattle.std.proofs.lemmas.List.Concat.{flat_map-append, flat_map-cons}
 pub use Rattle.std.proofs.lemmas.List.Elements.{All-from_recursion, recursion_from_All}
@@ -19,12 +18,13 @@ pub use Rattle.std.specs.Str.Parse.{AllDigits, digits_value_after}
 pub use Rattle.budget_bounds.specs.Terms.{all_terms, no_pair, place_of}
 pub use Rattle.budget_bounds.specs.declared.pair.Budget.{Budget}
 pub use Rattle.budget_bounds.specs.declared.pair.TermPair.{TermPair}
+pub use Rattle.cell_balance.proofs.Zips.{AllZip-length, AllZip-right}
 pub use Rattle.fixed_text.specs.Fixed.{fixed_text, padded, sign}
 pub use Rattle.listing_io.specs.Forms.{Form, IsForm, IsPairLine, LinesReadExactly, behind_word, first_word, is_negative, is_within, pair_line, value_of}
 pub use Rattle.listing_io.specs.Forms.{with_byte}
 unfoldable pub use Rattle.listing_io.specs.Forms.{candidate, digits_behind, pair_in}
-pub use Rattle.listing_io.specs.Laws.{AreCellBounds, AreFlows, AreFlowsAt, AreListed, AreTerms, AreZonePairs, IsCellBound, IsFlowPair, IsListedStep, IsListing}
-pub use Rattle.listing_io.specs.Laws.{IsTime, IsWritable, ListingsAreApart, ListingsAreReadAgain, ListingsWereWritten}
+pub use Rattle.listing_io.specs.Laws.{AreFlows, AreFlowsAt, AreListed, AreTerms, AreZonePairs, IsCellBound, IsFlowPair, IsListedStep, IsListing, IsTime}
+pub use Rattle.listing_io.specs.Laws.{IsWritable, ListingsAreApart, ListingsAreReadAgain, ListingsWereWritten}
 pub use Rattle.listing_io.specs.Listing.{Line, dir_front, each_lines, end_line, ended, first_line, flow_form, has_evt, head_form, head_front, head_line}
 pub use Rattle.listing_io.specs.Listing.{head_pair, model_line, numbers_text, printed_terms, step_line, term_form, term_line, text_of, zone_front, zone_line}
 pub use Rattle.listing_io.specs.Listing.{zone_pair}
@@ -39,15 +39,13 @@ pub use Rattle.model_types.specs.Faces.{cell_count, layer_size, place}
 pub use Rattle.model_types.specs.Layers.{is_active}
 pub use Rattle.model_types.specs.Times.{period_at, steps_of}
 unfoldable pub use Rattle.model_types.specs.Times.{times}
-pub use Rattle.model_types.specs.declared.grid.Grid.{Grid}
 pub use Rattle.model_types.specs.declared.model.FlowModel.{FlowModel}
 pub use Rattle.model_types.specs.declared.time_steps.TimeStep.{TimeStep}
 unfoldable pub use Rattle.outside.specs.Names.{lines}
-pub use Rattle.record_lines.proofs.Loops.{each_done, each_goes_on, regroup, with_front}
+pub use Rattle.record_lines.proofs.Loops.{each_done, each_goes_on, with_front}
 pub use Rattle.record_lines.specs.Layout.{next_number}
 pub use Rattle.record_lines.specs.Reading.{◌>>=◌}
 unfoldable pub use Rattle.record_lines.specs.Reading.{for_each}
-pub use Rattle.step_problem.specs.Conditions.{IsHead, head_limit}
 pub use Rattle.step_problem.specs.Heads.{no_bound}
 pub use Rattle.step_problem.specs.StepRefusals.{term_name}
 pub use Rattle.step_problem.specs.declared.heads.Bound.{Bound}

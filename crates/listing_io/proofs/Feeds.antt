@@ -1,16 +1,18 @@
 -- No line of a listing has a line feed, so the lines of its text are the listing's.
-use Rattle.listing_io.proofs.Common.{◌≡◌, ℕ, zero, suc, ◌+◌, ◌/◌, ◌%◌, ◌<◌, ◌≤◌, ◌^◌, Bool, true, false, cond, List, [], ◌∷◌, ◌++◌, length, codes, map, decimal}
+use Rattle.listing_io.proofs.Common.{◌≡◌, ℕ, zero, suc, ◌+◌, ◌/◌, ◌%◌, ◌<◌, ◌≤◌, ◌^◌, Bool, true, false, cond, List, [], ◌∷◌, ◌++◌, codes, map, decimal}
 use Rattle.listing_io.proofs.Common.{nat_abs, All, refl, sym, ap, ◌∙◌, subst, arith, ℤ, pos, negsuc, AllByRecursion, AllZip, recursion_from_All, flat_map-cons}
-use Rattle.listing_io.proofs.Common.{lines, Bound, Dir, In, Out, Term, Storage, ZoneFlow, term_name, TermPair, fixed_text, Grid, FlowModel, TimeStep}
-use Rattle.listing_io.proofs.Common.{layer_size, place, is_active, times, ZonePair, zones_of_flow, ListedStep, Form, pair_line, Line, ended, text_of}
-use Rattle.listing_io.proofs.Common.{numbers_text, first_line, step_line, head_form, head_front, head_line, head_lines, head_pair, dir_front, term_form}
-use Rattle.listing_io.proofs.Common.{term_lines, has_evt, flow_form, zone_front, zone_line, zone_pair, step_lines, all_step_lines, end_line, listing}
-use Rattle.listing_io.proofs.Common.{listing_at, AreCellBounds, AreFlows, AreFlowsAt, AreTerms, IsListedStep, AreListed, AreZonePairs, IsTime, IsWritable}
+use Rattle.listing_io.proofs.Common.{lines, Bound, Dir, In, Out, Term, Storage, ZoneFlow, term_name, TermPair, fixed_text, FlowModel, TimeStep, layer_size}
+use Rattle.listing_io.proofs.Common.{place, is_active, times, ZonePair, zones_of_flow, ListedStep, Form, pair_line, Line, ended, text_of, numbers_text}
+use Rattle.listing_io.proofs.Common.{first_line, step_line, head_form, head_front, head_line, head_lines, head_pair, dir_front, term_form, term_lines, has_evt}
+use Rattle.listing_io.proofs.Common.{flow_form, zone_front, zone_line, zone_pair, step_lines, all_step_lines, end_line, listing, range_with_len, cell_count}
+use Rattle.listing_io.proofs.Common.{IsForm, listing_at, IsCellBound, AreFlows, AreTerms, IsListedStep, AreListed, AreZonePairs, IsTime, IsWritable}
 use Rattle.listing_io.proofs.Common.{ListingsAreReadAgain, model_line, signed_decimal, all_terms, is_printed, each_lines}
+use Rattle.model_types.specs.declared.grid.Grid.{Grid}
 use Rattle.listing_io.proofs.Blanks.{Without, Without-append, by_test, decimal_without, fixed_without}
 use Rattle.listing_io.proofs.Exactly.{fits_wide}
-use Rattle.listing_io.proofs.Terms.{left_of, line_if, term_rows, IsPairIf, IsTermPair, terms_good, lines_in, lines_out}
-use Rattle.listing_io.proofs.Again.{Fits, IsSmall, flow_fits, head_fits, term_fits, rows_again}
+use Rattle.listing_io.proofs.Terms.{left_of, line_if, term_rows, IsPairIf, IsTermPair, terms_good, lines_in, lines_out, cell_lines}
+use Rattle.listing_io.proofs.Readers.{IsFlowOf, IsInLimit, flow_is_form, flow_rows, head_is_form, head_small, in_limit, term_is_form}
+use Rattle.listing_io.proofs.Steps.{IsSmall, IsStepAt, bounds_of, flow_lines, flows_of, rows_again, steps_at}
 
 abbrev pub NoFeed : List ℕ → Type 0
 NoFeed = Without 10
@@ -33,13 +35,13 @@ numbers_without (n ∷ ns) h =
     (Without-append 10 (codes " ") (decimal n) (by_test 10 (codes " ") refl) (decimal_without 10 (omega arith) n h.0))
     (numbers_without ns h.1)
 
-pair_without : (front : List ℕ) (f : Form) (p : TermPair) → Fits f p → NoFeed front → NoFeed f.back → NoFeed (pair_line front f p)
-pair_without front f p h start back =
+pair_without : (front : List ℕ) (f : Form) (p : TermPair) → IsForm f → IsInLimit f p → NoFeed front → NoFeed f.back → NoFeed (pair_line front f p)
+pair_without front f p form h start back =
     let low : 10 < 45 = omega arith in
     Without-append 10 front _ start
-    (Without-append 10 (fixed_text f.places p.lo) _ (fixed_without 10 low f.places p.lo (fits_wide (nat_abs p.lo) f.limit h.form.small h.lo))
+    (Without-append 10 (fixed_text f.places p.lo) _ (fixed_without 10 low f.places p.lo (fits_wide (nat_abs p.lo) f.limit form.small h.0))
     (Without-append 10 (codes " ") _ (by_test 10 (codes " ") refl)
-    (Without-append 10 (fixed_text f.places p.hi) f.back (fixed_without 10 low f.places p.hi (fits_wide (nat_abs p.hi) f.limit h.form.small h.hi)) back)))
+    (Without-append 10 (fixed_text f.places p.hi) f.back (fixed_without 10 low f.places p.hi (fits_wide (nat_abs p.hi) f.limit form.small h.1)) back)))
 
 -- a cell's place is small
 below : (n p top : ℕ) → n < top → n / p < top
@@ -67,19 +69,28 @@ all_appended : {X : Type 0} (P : X → Type 0) (xs ys : List X) → AllByRecursi
 all_appended P [] ys h k = k
 all_appended P (x ∷ xs) ys h k = (h.0, all_appended P xs ys h.1 k)
 
-cell_without : (g : Grid) (c : ℕ) (flag : Bool) (b : Bound) → c < 4194304 → NoFeed (head_line g c b) → AllByRecursion NoFeed (cond flag (head_line g c b ∷ []) [])
-cell_without g c true b lt h = (h, tt)
-cell_without g c false b lt h = tt
+-- the lines of several things
+each_without : {T X : Type 0} (P : T → Type 0) (R : T → X → Type 0) (row : T → X → List Line) → ((t : T) (x : X) → P t → R t x → AllByRecursion NoFeed (row t x)) →
+    (ts : List T) (xs : List X) → AllByRecursion P ts → AllZip R ts xs → AllByRecursion NoFeed (each_lines row ts xs)
+each_without P R row one [] [] p h = tt
+each_without P R row one [] (x ∷ xs) p h = absurd h
+each_without P R row one (t ∷ ts) [] p h = absurd h
+each_without P R row one (t ∷ ts) (x ∷ xs) p h = all_appended NoFeed (row t x) (each_lines row ts xs) (one t x p.0 h.0) (each_without P R row one ts xs p.1 h.1)
 
-heads_without : (m : FlowModel) (c : ℕ) (bs : List Bound) → c + length bs ≤ 4194304 → AreCellBounds m c bs → AllByRecursion NoFeed (head_lines m c bs)
+cell_without : (m : FlowModel) (c : ℕ) (b : Bound) → c < 4194304 → IsCellBound m c b → AllByRecursion NoFeed (cell_lines m c b)
+cell_without m c b lt h = of_flag (is_active m c)
+  where
+    of_flag : (flag : Bool) → AllByRecursion NoFeed (cond flag (head_line m.grid c b ∷ []) [])
+    of_flag true = (pair_without (head_front m.grid c) head_form (head_pair b) head_is_form (head_small b.low h.low, head_small b.high h.high) (front_without m.grid c lt) tt, tt)
+    of_flag false = tt
+
+cells_below : (a n : ℕ) → a + n ≤ 4194304 → AllByRecursion (λ c. c < 4194304) (range_with_len a n)
+cells_below a zero few = tt
+cells_below a (suc n) few = (omega (arith, few), cells_below (a + 1) n (omega (arith, few)))
+
+heads_without : (m : FlowModel) (bs : List Bound) → cell_count m.grid ≤ 4194304 → AllZip (IsCellBound m) (range_with_len 0 (cell_count m.grid)) bs → AllByRecursion NoFeed (head_lines m bs)
 unfolding head_lines
-heads_without m c [] few h = tt
-heads_without m c (b ∷ bs) few h =
-    let lt : c < 4194304 = omega (arith, few) in
-    let more : c + 1 + length bs ≤ 4194304 = omega (arith, few) in
-    all_appended NoFeed (cond (is_active m c) (head_line m.grid c b ∷ []) []) (head_lines m (c + 1) bs)
-    (cell_without m.grid c (is_active m c) b lt (pair_without (head_front m.grid c) head_form (head_pair b) (head_fits b h.0.low h.0.high) (front_without m.grid c lt) tt))
-    (heads_without m (c + 1) bs more h.1)
+heads_without m bs few h = each_without (λ c. c < 4194304) (IsCellBound m) (cell_lines m) (cell_without m) (range_with_len 0 (cell_count m.grid)) bs (cells_below 0 (cell_count m.grid) (omega (arith, few))) h
 
 dir_without : (dir : Dir) → NoFeed (dir_front dir)
 dir_without In = by_test 10 (dir_front In) refl
@@ -89,21 +100,14 @@ name_without : (t : Term) → NoFeed (codes " " ++ term_name t)
 name_without Storage = by_test 10 (codes " " ++ term_name Storage) refl
 name_without other = by_test 10 (codes " " ++ term_name other) refl
 
--- the lines of several things
-each_without : {T X : Type 0} (R : T → X → Type 0) (row : T → X → List Line) → ((t : T) (x : X) → R t x → AllByRecursion NoFeed (row t x)) → (ts : List T) (xs : List X) → AllZip R ts xs → AllByRecursion NoFeed (each_lines row ts xs)
-each_without R row one [] [] h = tt
-each_without R row one [] (x ∷ xs) h = absurd h
-each_without R row one (t ∷ ts) [] h = absurd h
-each_without R row one (t ∷ ts) (x ∷ xs) h = all_appended NoFeed (row t x) (each_lines row ts xs) (one t x h.0) (each_without R row one ts xs h.1)
-
 term_without : (flag : Bool) (s : ℕ) (dir : Dir) (t : Term) (p : TermPair) → s ≤ 18 → IsPairIf flag p → AllByRecursion NoFeed (line_if flag s dir t p)
-term_without true s dir t p few h = (pair_without (dir_front dir) (term_form s t) p (term_fits s t p few h.small) (dir_without dir) (name_without t), tt)
+term_without true s dir t p few h = (pair_without (dir_front dir) (term_form s t) p (term_is_form s t few) (in_limit s (codes " " ++ term_name t) p h.small) (dir_without dir) (name_without t), tt)
 term_without false s dir t p few h = tt
 
 terms_without : (m : FlowModel) (s : ℕ) (dir : Dir) (rows : List Line) (pairs : List TermPair) → s ≤ 18 → AreTerms m pairs → each_lines (term_rows (has_evt m) s dir) all_terms pairs ≡ rows → AllByRecursion NoFeed rows
 terms_without m s dir rows pairs few h are =
     let evt = has_evt m in
-    rw (← are) (each_without (IsTermPair evt) (term_rows evt s dir) (λ t p good. term_without (is_printed evt t) s dir t p few good) all_terms pairs (terms_good m pairs h))
+    rw (← are) (each_without (λ t. Unit {0}) (IsTermPair evt) (term_rows evt s dir) (λ t p any good. term_without (is_printed evt t) s dir t p few good) all_terms pairs (tt, (tt, (tt, (tt, (tt, (tt, (tt, (tt, tt)))))))) (terms_good m pairs h))
 
 title_without : (at : TimeStep) → IsTime at → NoFeed (step_line at)
 title_without at h =
@@ -120,38 +124,30 @@ zone_without : (s : ℕ) (v : ZoneFlow) → s ≤ 18 → IsPair (zones_of_flow v
 zone_without s v few pair h =
     let a = pair.0 in
     let b = pair.1 in
-    pair_without (zone_front v.from v.to) (flow_form s []) (zone_pair v) (flow_fits s (zone_pair v) few h)
+    pair_without (zone_front v.from v.to) (flow_form s []) (zone_pair v) (flow_is_form s few) (in_limit s [] (zone_pair v) h)
     (Without-append 10 (codes "ZONE" ++ numbers_text (v.from ∷ v.to ∷ [])) (codes " ")
     (Without-append 10 (codes "ZONE") (numbers_text (v.from ∷ v.to ∷ [])) (by_test 10 (codes "ZONE") refl) (numbers_without (v.from ∷ v.to ∷ []) (omega (arith, a), (omega (arith, b), tt))))
     (by_test 10 (codes " ") refl))
     tt
 
-zones_without : (s : ℕ) (vs : List ZoneFlow) → s ≤ 18 → AllByRecursion IsPair (map zones_of_flow vs) → AllByRecursion IsSmall vs → AllByRecursion NoFeed (map (zone_line s) vs)
-zones_without s [] few pairs h = tt
-zones_without s (v ∷ vs) few pairs h = (zone_without s v few pairs.0 h.0, zones_without s vs few pairs.1 h.1)
-
 flows_without : (s : ℕ) (zs : List ZonePair) (vs : List ZoneFlow) → s ≤ 18 → All IsPair zs → AreFlows zs vs → AllByRecursion NoFeed (map (zone_line s) vs)
 flows_without s zs vs few pairs h =
-    let P : List ZonePair → Type 0 = λ ps. AllByRecursion IsPair ps in
-    zones_without s vs few (subst P (sym h.pairs) (recursion_from_All IsPair zs pairs)) (recursion_from_All IsSmall vs h.small)
+    let are = flows_of zs vs h in
+    rw (← flow_lines s zs vs are) (each_without IsPair IsFlowOf (flow_rows s) (λ z v pair of. (zone_without s v few (subst IsPair (sym of.pair) pair) of.small, tt)) zs vs (recursion_from_All IsPair zs pairs) are)
 
 step_without : (m : FlowModel) (s : ℕ) (zs : List ZonePair) (at : TimeStep) (x : ListedStep) → IsWritable m s → All IsPair zs → IsTime at → IsListedStep m x → AreFlows zs x.zones → AllByRecursion NoFeed (step_lines m s at x.heads x.budget x.zones)
 unfolding step_lines
-step_without m s zs at x good pairs time h g =
-    let cells = good.size.cells in
-    let whole = h.whole in
-    let few : 0 + length x.heads ≤ 4194304 = omega (arith, cells, whole) in (
-      title_without at time,
-      all_appended NoFeed (head_lines m 0 x.heads) (term_lines m s In x.budget ++ (term_lines m s Out x.budget ++ map (zone_line s) x.zones)) (heads_without m 0 x.heads few h.heads)
-          (all_appended NoFeed (term_lines m s In x.budget) (term_lines m s Out x.budget ++ map (zone_line s) x.zones) (terms_without m s In (term_lines m s In x.budget) x.budget.into good.digits h.into (lines_in m s x.budget h.into.eight))
-          (all_appended NoFeed (term_lines m s Out x.budget) (map (zone_line s) x.zones) (terms_without m s Out (term_lines m s Out x.budget) x.budget.out good.digits h.out (lines_out m s x.budget h.out.eight)) (flows_without s zs x.zones good.digits pairs g))),
-    )
+step_without m s zs at x good pairs time h g = (
+  title_without at time,
+  all_appended NoFeed (head_lines m x.heads) (term_lines m s In x.budget ++ (term_lines m s Out x.budget ++ map (zone_line s) x.zones)) (heads_without m x.heads good.size.cells (bounds_of m x h))
+      (all_appended NoFeed (term_lines m s In x.budget) (term_lines m s Out x.budget ++ map (zone_line s) x.zones) (terms_without m s In (term_lines m s In x.budget) x.budget.into good.digits h.into (lines_in m s x.budget h.into.eight))
+      (all_appended NoFeed (term_lines m s Out x.budget) (map (zone_line s) x.zones) (terms_without m s Out (term_lines m s Out x.budget) x.budget.out good.digits h.out (lines_out m s x.budget h.out.eight)) (flows_without s zs x.zones good.digits pairs g))),
+)
 
-steps_without : (m : FlowModel) (s : ℕ) (pairs : ℕ → List ZonePair) (ats : List TimeStep) (xs : List ListedStep) → IsWritable m s → AreZonePairs pairs → AllByRecursion IsTime ats → AllByRecursion (IsListedStep m) xs → AllZip (AreFlowsAt pairs) ats xs → AllByRecursion NoFeed (all_step_lines m s ats xs)
+steps_without : (m : FlowModel) (s : ℕ) (pairs : ℕ → List ZonePair) (xs : List ListedStep) → IsWritable m s → AreZonePairs pairs → AllZip (IsStepAt m s pairs) (times m) xs → AllByRecursion NoFeed (all_step_lines m s (times m) xs)
 unfolding all_step_lines
-steps_without m s pairs [] xs good are time h g = tt
-steps_without m s pairs (at ∷ ats) [] good are time h g = tt
-steps_without m s pairs (at ∷ ats) (x ∷ xs) good are time h g = all_appended NoFeed (step_lines m s at x.heads x.budget x.zones) (all_step_lines m s ats xs) (step_without m s (pairs at.period) at x good (are at.period) time.0 h.0 g.0) (steps_without m s pairs ats xs good are time.1 h.1 g.1)
+steps_without m s pairs xs good are h =
+    each_without IsTime (IsStepAt m s pairs) (λ at x. step_lines m s at x.heads x.budget x.zones) (λ at x time step. step_without m s (pairs at.period) at x good (are at.period) time step.0 step.1) (times m) xs (recursion_from_All IsTime (times m) good.times) h
 
 signed_without : (z : ℤ) → nat_abs z < 2 ^ 64 → NoFeed (signed_decimal z)
 signed_without (pos n) h = decimal_without 10 (omega arith) n (omega arith)
@@ -173,7 +169,7 @@ first_without true m s good = Without-append 10 (model_line m s) (codes " TO") (
 listing_without : (between : Bool) (m : FlowModel) (s : ℕ) (pairs : ℕ → List ZonePair) (steps : List ListedStep) → IsWritable m s → AreZonePairs pairs → AreListed m pairs steps → AllByRecursion NoFeed (listing between m s steps)
 unfolding listing
 listing_without between m s pairs steps good are h =
-    (first_without between m s good, all_appended NoFeed (all_step_lines m s (times m) steps) (end_line ∷ []) (steps_without m s pairs (times m) steps good are (recursion_from_All IsTime (times m) good.times) (recursion_from_All (IsListedStep m) steps h.steps) h.flows) (by_test 10 end_line refl, tt))
+    (first_without between m s good, all_appended NoFeed (all_step_lines m s (times m) steps) (end_line ∷ []) (steps_without m s pairs steps good are (steps_at m s pairs (times m) steps (recursion_from_All (IsListedStep m) steps h.steps) h.flows)) (by_test 10 end_line refl, tt))
 
 pub listings_are_read_again : ListingsAreReadAgain
 listings_are_read_again between m s pairs steps good are h =

@@ -3,10 +3,9 @@ pub mod NumberLemmas
 pub mod Blanks
 pub mod Exactly
 pub mod Terms
-pub mod Written
-pub mod Again
+pub mod Readers
+pub mod Steps
 pub mod Feeds
-pub mod Kept
 pub mod Walks
 pub mod Ends
 pub mod Periods

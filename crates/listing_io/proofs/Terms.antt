@@ -1,8 +1,8 @@
 -- The terms of a budget in one direction: the pairs of all eight, and the lines of those that are printed.
-use Rattle.listing_io.proofs.Common.{◌≡◌, ℕ, Bool, true, false, cond, List, [], ◌∷◌, length, map, refl, arith, slice_index_or, AllByRecursion, AllZip}
-use Rattle.listing_io.proofs.Common.{All-from_recursion, recursion_from_All, Dir, In, Out, Term, TermPair, no_pair, FlowModel, Line, term_line, term_lines}
-use Rattle.listing_io.proofs.Common.{printed_terms, has_evt, each_lines, is_printed, IsFlowPair, AreTerms, place_of, all_terms, Budget, suc, ◌++◌, sym, ap, ◌∙◌}
-use Rattle.listing_io.proofs.Common.{subst, Result, Ok, Err, append_assoc, ◌>>=◌, for_each, Left}
+use Rattle.listing_io.proofs.Common.{◌≡◌, ℕ, ◌≤◌, Bool, true, false, cond, List, [], ◌∷◌, length, map, refl, arith, slice_index_or, AllByRecursion, AllZip}
+use Rattle.listing_io.proofs.Common.{recursion_from_All, Dir, In, Out, Term, TermPair, no_pair, FlowModel, Line, term_line, term_lines, printed_terms, has_evt}
+use Rattle.listing_io.proofs.Common.{each_lines, is_printed, IsFlowPair, AreTerms, place_of, all_terms, Budget, ◌++◌, sym, ap, ◌∙◌, subst, Result, Ok, Err}
+use Rattle.listing_io.proofs.Common.{append_assoc, ◌>>=◌, for_each, Left, AllZip-length, AllZip-right, Bound, head_line, is_active}
 
 -- What is read for each of a list, and the lines of what is read.
 -- a reading that goes on was not refused
@@ -27,63 +27,45 @@ grouped a b c = append_assoc a b c
 abbrev pub left_of : List Line → ℕ → Left
 left_of rows n = record { lines = rows; number = n }
 
-module _ {T X : Type 0} (R : T → X → Type 0) where
-  pub zip_length : (ts : List T) (xs : List X) → AllZip R ts xs → length xs ≡ length ts
-  zip_length [] [] h = refl
-  zip_length [] (x ∷ xs) h = absurd h
-  zip_length (t ∷ ts) [] h = absurd h
-  zip_length (t ∷ ts) (x ∷ xs) h = ap suc (zip_length ts xs h.1)
+-- What is read was written so, and is sound; and what is sound and written is read again, with at most 18 digits.
+pub record IsReader {X : Type 0} (s : ℕ) (read : Left → Result (X × Left) ℕ) (rows : X → List Line) (Sound : X → Type 0) : Type 0 where
+  pub again : s ≤ 18 → (x : X) (rest : List Line) (n : ℕ) → Sound x → (k : ℕ) × (read (left_of (rows x ++ rest) n) ≡ Ok (x, left_of rest k))
+  pub was : (left : Left) (got : X × Left) → read left ≡ Ok got → Sound got.0 × (left.lines ≡ rows got.0 ++ got.1.lines)
 
-  -- what holds of each of the second list
-  pub zip_all : (P : X → Type 0) → ((t : T) (x : X) → R t x → P x) → (ts : List T) (xs : List X) → AllZip R ts xs → AllByRecursion P xs
-  zip_all P one [] [] h = tt
-  zip_all P one [] (x ∷ xs) h = absurd h
-  zip_all P one (t ∷ ts) [] h = absurd h
-  zip_all P one (t ∷ ts) (x ∷ xs) h = (one t x h.0, zip_all P one ts xs h.1)
-
-module _ {T X : Type 0} (read : T → Left → Result (X × Left) ℕ) where
-  -- what holds of each that is read
-  pub each_holds : (R : T → X → Type 0) → ((t : T) (left : Left) (got : X × Left) → read t left ≡ Ok got → R t got.0)
-      → (ts : List T) (left : Left) (got : List X × Left) → for_each read ts left ≡ Ok got → AllZip R ts got.0
+-- one thing is read for each of a list
+module _ {T X : Type 0} (s : ℕ) (read : T → Left → Result (X × Left) ℕ) (rows : T → X → List Line) (Sound : T → X → Type 0) (each : (t : T) → IsReader s (read t) (rows t) (Sound t)) where
+  all_again : s ≤ 18 → (ts : List T) (xs : List X) (rest : List Line) (n : ℕ) → AllZip Sound ts xs → (k : ℕ) × (for_each read ts (left_of (each_lines rows ts xs ++ rest) n) ≡ Ok (xs, left_of rest k))
   unfolding for_each
-  each_holds R one [] left got h = let P : List X × Left → Type 0 = λ x. AllZip R [] x.0 in subst P (same_ok ([], left) got (for_each read [] left) refl h) tt
-  each_holds R one (t ∷ ts) left got h =
+  all_again few [] [] rest n h = (n, refl)
+  all_again few [] (x ∷ xs) rest n h = absurd h
+  all_again few (t ∷ ts) [] rest n h = absurd h
+  all_again few (t ∷ ts) (x ∷ xs) rest n h =
+      let (j, first) = (each t).again few x (each_lines rows ts xs ++ rest) n h.0 in
+      let (k, more) = all_again few ts xs rest j h.1 in
+      (k, rw (grouped (rows t x) (each_lines rows ts xs) rest, first, more) refl)
+
+  all_was : (ts : List T) (left : Left) (got : List X × Left) → for_each read ts left ≡ Ok got → AllZip Sound ts got.0 × (left.lines ≡ each_lines rows ts got.0 ++ got.1.lines)
+  unfolding for_each
+  all_was [] left got h =
+      let P : List X × Left → Type 0 = λ x. AllZip Sound [] x.0 × (left.lines ≡ each_lines rows [] x.0 ++ x.1.lines) in
+      subst P (same_ok ([], left) got (for_each read [] left) refl h) (tt, refl)
+  all_was (t ∷ ts) left got h =
       let first = goes (read t left) _ got h in
       let more = goes (for_each read ts first.item.1) _ got first.then_ in
-      let P : List X × Left → Type 0 = λ x. AllZip R (t ∷ ts) x.0 in
-      subst P (same_ok (first.item.0 ∷ more.item.0, more.item.1) got _ refl more.then_)
-      (one t left first.item first.first, each_holds R one ts first.item.1 more.item more.first)
+      let here = (each t).was left first.item first.first in
+      let others = all_was ts first.item.1 more.item more.first in
+      let P : List X × Left → Type 0 = λ x. AllZip Sound (t ∷ ts) x.0 × (left.lines ≡ each_lines rows (t ∷ ts) x.0 ++ x.1.lines) in
+      subst P (same_ok (first.item.0 ∷ more.item.0, more.item.1) got _ refl more.then_) (
+        (here.0, others.0),
+        here.1 ∙ ap (λ (r : List Line). rows t first.item.0 ++ r) others.1 ∙ sym (grouped (rows t first.item.0) (each_lines rows ts more.item.0) more.item.1.lines),
+      )
 
-  -- one is read for each
-  pub each_whole : (ts : List T) (left : Left) (got : List X × Left) → for_each read ts left ≡ Ok got → length got.0 ≡ length ts
-  each_whole ts left got h = let R : T → X → Type 0 = λ t x. Unit {0} in zip_length R ts got.0 (each_holds R (λ t left got h. tt) ts left got h)
+  pub all_read : (ts : List T) → IsReader s (for_each read ts) (each_lines rows ts) (AllZip Sound ts)
+  all_read ts = record { again = λ few xs rest n h. all_again few ts xs rest n h; was = all_was ts }
 
-  module _ (row : T → X → List Line) where
-    -- what was read has these lines
-    pub each_row : ((t : T) (left : Left) (got : X × Left) → read t left ≡ Ok got → left.lines ≡ row t got.0 ++ got.1.lines)
-        → (ts : List T) (left : Left) (got : List X × Left) → for_each read ts left ≡ Ok got → left.lines ≡ each_lines row ts got.0 ++ got.1.lines
-    unfolding for_each
-    each_row one [] left got h = ap (λ (x : List X × Left). each_lines row [] x.0 ++ x.1.lines) (same_ok ([], left) got (for_each read [] left) refl h)
-    each_row one (t ∷ ts) left got h =
-        let first = goes (read t left) _ got h in
-        let more = goes (for_each read ts first.item.1) _ got first.then_ in
-        let here = row t first.item.0 in
-        one t left first.item first.first
-        ∙ ap (λ (r : List Line). here ++ r) (each_row one ts first.item.1 more.item more.first)
-        ∙ sym (grouped here (each_lines row ts more.item.0) more.item.1.lines)
-        ∙ ap (λ (x : List X × Left). each_lines row (t ∷ ts) x.0 ++ x.1.lines) (same_ok (first.item.0 ∷ more.item.0, more.item.1) got _ refl more.then_)
-
-    -- these lines are read again
-    pub each_again : (R : T → X → Type 0) → ((t : T) (x : X) (rest : List Line) (n : ℕ) → R t x → (k : ℕ) × (read t (left_of (row t x ++ rest) n) ≡ Ok (x, left_of rest k)))
-        → (ts : List T) (xs : List X) (rest : List Line) (n : ℕ) → AllZip R ts xs → (k : ℕ) × (for_each read ts (left_of (each_lines row ts xs ++ rest) n) ≡ Ok (xs, left_of rest k))
-    unfolding for_each
-    each_again R one [] [] rest n h = (n, refl)
-    each_again R one [] (x ∷ xs) rest n h = absurd h
-    each_again R one (t ∷ ts) [] rest n h = absurd h
-    each_again R one (t ∷ ts) (x ∷ xs) rest n h =
-        let (j, first) = one t x (each_lines row ts xs ++ rest) n h.0 in
-        let (k, more) = each_again R one ts xs rest j h.1 in
-        (k, rw (grouped (row t x) (each_lines row ts xs) rest, first, more) refl)
+-- the line of a cell, if it has one
+abbrev pub cell_lines : FlowModel → ℕ → Bound → List Line
+cell_lines m c b = cond (is_active m c) (head_line m.grid c b ∷ []) []
 
 -- the line of a term, if it has one
 abbrev pub line_if : Bool → ℕ → Dir → Term → TermPair → List Line
@@ -117,10 +99,10 @@ no_et_of evt other whole h none = absurd (omega (arith, whole))
 
 pub good_terms : (m : FlowModel) (ps : List TermPair) → AllZip (IsTermPair (has_evt m)) all_terms ps → AreTerms m ps
 good_terms m ps h =
-    let whole = zip_length (IsTermPair (has_evt m)) all_terms ps h in
+    let whole = sym (AllZip-length (IsTermPair (has_evt m)) all_terms ps h) in
     record {
       eight = whole;
-      small = All-from_recursion IsFlowPair ps (zip_all (IsTermPair (has_evt m)) IsFlowPair (λ t p good. good.small) all_terms ps h);
+      small = AllZip-right (IsTermPair (has_evt m)) IsFlowPair (λ t p good. good.small) all_terms ps h;
       no_et = no_et_of (has_evt m) ps whole h;
     }
 

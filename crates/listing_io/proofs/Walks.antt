@@ -1,34 +1,15 @@
 -- Loops that read or write one thing after another.
-use Rattle.listing_io.proofs.Common.{◌≡◌, ℕ, suc, ◌+◌, ◌-◌, ◌<◌, ◌≤◌, List, [], ◌∷◌, ◌++◌, length, drop, get_or, drop-cons, add-one, cond, map, refl, sym, ap}
-use Rattle.listing_io.proofs.Common.{◌∙◌, arith, Result, Ok, Err, append-nil, drop_all, flat_map-cons, flat_map-append, for_each, with_front, regroup, Bound}
-use Rattle.listing_io.proofs.Common.{Grid, FlowModel, is_active, Fault, BadLine, Memory, Line, ended, text_of, head_front, head_line, head_lines}
-use Rattle.listing_io.proofs.Common.{variable_lines, Left, Stops, head_if, heads_at}
+use Rattle.listing_io.proofs.Common.{Bool, cond, true, false, ◌≡◌, ℕ, suc, ◌+◌, ◌-◌, ◌<◌, ◌≤◌, List, [], ◌∷◌, ◌++◌, length, drop, get_or, drop-cons, add-one}
+use Rattle.listing_io.proofs.Common.{map, refl, sym, ap, ◌∙◌, arith, Result, Err, append-nil, flat_map-cons, flat_map-append, for_each, with_front, Fault}
+use Rattle.listing_io.proofs.Common.{BadLine, Memory, Line, ended, text_of, Stops, range_with_len}
 use Rattle.std.proofs.Common.{append_assoc}
-use Rattle.step_problem.specs.Entries.{Entries, entries_at}
 
--- the cells whose heads are read
-module _ (m : FlowModel) (front : List Bound) (count i : ℕ) (left : Left) (whole : Result (List Bound × Left) ℕ) where
-  pub heads_go_on : (after : Left) (b : Bound) → i < count → head_if (is_active m i) (head_front m.grid i) left ≡ Ok (b, after) → with_front front (heads_at m i (count - i) left) ≡ whole → with_front (front ++ b ∷ []) (heads_at m (i + 1) (count - (i + 1)) after) ≡ whole
-  unfolding heads_at
-  heads_go_on after b lt h so_far =
-      let k : count - i ≡ suc (count - (i + 1)) = omega arith in
-      let one : with_front front (heads_at m i (count - i) left) ≡ with_front (front ++ b ∷ []) (heads_at m (i + 1) (count - (i + 1)) after) = rw (k, h) (regroup front b (heads_at m (i + 1) (count - (i + 1)) after)) in
-      sym one ∙ so_far
+-- the cells that are left, of n
+pub cells_next : (n i : ℕ) → i < n → range_with_len i (n - i) ≡ i ∷ range_with_len (i + 1) (n - (i + 1))
+cells_next n i lt = let k : n - i ≡ suc (n - (i + 1)) = omega arith in rw k refl
 
-  pub heads_end : (fault : Fault) → i < count → Stops fault (head_if (is_active m i) (head_front m.grid i) left) → with_front front (heads_at m i (count - i) left) ≡ whole → Stops fault whole
-  unfolding heads_at
-  heads_end (BadLine n) lt h so_far =
-      let k : count - i ≡ suc (count - (i + 1)) = omega arith in
-      let one : with_front front (heads_at m i (count - i) left) ≡ Err n = rw (k, h) refl in
-      sym so_far ∙ one
-  heads_end Memory lt h so_far = tt
-
-  pub heads_done : count ≤ i → with_front front (heads_at m i (count - i) left) ≡ whole → whole ≡ Ok (front, left)
-  unfolding heads_at
-  heads_done le so_far =
-      let k : count - i ≡ 0 = omega arith in
-      let one : with_front front (heads_at m i (count - i) left) ≡ Ok (front, left) = rw k (ap (λ xs. Ok (xs, left)) (append-nil front)) in
-      sym so_far ∙ one
+pub no_cells : (n i : ℕ) → n ≤ i → range_with_len i (n - i) ≡ []
+no_cells n i le = let k : n - i ≡ 0 = omega arith in rw k refl
 
 -- a reading for each of a list that meets a fault
 pub each_stops : {A X S : Type 0} (read : A → S → Result (X × S) ℕ) (fault : Fault) (front : List X) (all others : List A) (a : A) (s : S) (total : Result (List X × S) ℕ) → all ≡ a ∷ others → Stops fault (read a s)
@@ -42,47 +23,46 @@ each_stops read Memory front all others a s total e h so_far = tt
 pub next_of : {X : Type 0} (xs : List X) (i : ℕ) (d : X) → i < length xs → drop i xs ≡ get_or xs i d ∷ drop (i + 1) xs
 next_of xs i d lt = rw (add-one, drop-cons xs i d) refl
 
--- the cells whose heads are written
-pub cell_written : (m : FlowModel) (bs : List Bound) (i : ℕ) (d : Bound) (t whole : List ℕ) → i < length bs → t ++ text_of (head_lines m i (drop i bs)) ≡ whole
-    → (t ++ text_of (cond (is_active m i) (head_line m.grid i (get_or bs i d) ∷ []) [])) ++ text_of (head_lines m (i + 1) (drop (i + 1) bs)) ≡ whole
-unfolding head_lines
-cell_written m bs i d t whole lt h =
-    let row = cond (is_active m i) (head_line m.grid i (get_or bs i d) ∷ []) [] in
-    let rest = head_lines m (i + 1) (drop (i + 1) bs) in
-    let one : t ++ text_of (head_lines m i (drop i bs)) ≡ (t ++ text_of row) ++ text_of rest = rw (next_of bs i d lt) (ap (λ (xs : List ℕ). t ++ xs) (flat_map-append ended row rest) ∙ sym (append_assoc t (text_of row) (text_of rest))) in
-    sym one ∙ h
+-- Lines that were written one after another are the text of their list.
+-- one line more in front
+pub with_line : (t : List ℕ) (row : Line) (rows : List Line) → (t ++ ended row) ++ text_of rows ≡ t ++ text_of (row ∷ rows)
+with_line t row rows = append_assoc t (ended row) (text_of rows) ∙ ap (λ (x : List ℕ). t ++ x) (sym (flat_map-cons ended row rows))
 
-pub cells_written : (m : FlowModel) (bs : List Bound) (i : ℕ) (t whole : List ℕ) → length bs ≤ i → t ++ text_of (head_lines m i (drop i bs)) ≡ whole → t ≡ whole
-unfolding head_lines
-cells_written m bs i t whole le h =
-    let one : t ++ text_of (head_lines m i (drop i bs)) ≡ t = rw (drop_all i bs le) (append-nil t) in
-    sym one ∙ h
+-- lines more in front
+pub with_lines : (t : List ℕ) (front rows : List Line) → (t ++ text_of front) ++ text_of rows ≡ t ++ text_of (front ++ rows)
+with_lines t front rows = append_assoc t (text_of front) (text_of rows) ∙ ap (λ (x : List ℕ). t ++ x) (sym (flat_map-append ended front rows))
 
--- the variable cells whose heads are written
-pub variable_written : (g : Grid) (p : List Entries) (bs : List Bound) (i : ℕ) (d : Bound) (t whole : List ℕ) → i < length bs → t ++ text_of (variable_lines g p i (drop i bs)) ≡ whole
-    → (t ++ ended (head_line g (entries_at p i).id (get_or bs i d))) ++ text_of (variable_lines g p (i + 1) (drop (i + 1) bs)) ≡ whole
-unfolding variable_lines
-variable_written g p bs i d t whole lt h =
-    let row = head_line g (entries_at p i).id (get_or bs i d) in
-    let rest = variable_lines g p (i + 1) (drop (i + 1) bs) in
-    let one : t ++ text_of (variable_lines g p i (drop i bs)) ≡ (t ++ ended row) ++ text_of rest = rw (next_of bs i d lt) (ap (λ (xs : List ℕ). t ++ xs) (flat_map-cons ended row rest) ∙ sym (append_assoc t (ended row) (text_of rest))) in
-    sym one ∙ h
+-- the next of the lines that are left, several of them, and none
+module _ (t whole : List ℕ) (left : List Line) (h : t ++ text_of left ≡ whole) where
+  pub line_written : (row : Line) (rest : List Line) → left ≡ row ∷ rest → (t ++ ended row) ++ text_of rest ≡ whole
+  line_written row rest e = with_line t row rest ∙ ap (λ (rows : List Line). t ++ text_of rows) (sym e) ∙ h
 
-pub variables_written : (g : Grid) (p : List Entries) (bs : List Bound) (i : ℕ) (t whole : List ℕ) → length bs ≤ i → t ++ text_of (variable_lines g p i (drop i bs)) ≡ whole → t ≡ whole
-unfolding variable_lines
-variables_written g p bs i t whole le h =
-    let one : t ++ text_of (variable_lines g p i (drop i bs)) ≡ t = rw (drop_all i bs le) (append-nil t) in
-    sym one ∙ h
+  pub lines_written : (front rest : List Line) → left ≡ front ++ rest → (t ++ text_of front) ++ text_of rest ≡ whole
+  lines_written front rest e = with_lines t front rest ∙ ap (λ (rows : List Line). t ++ text_of rows) (sym e) ∙ h
 
--- one more line of a list of lines
-pub row_written : {X : Type 0} (row : X → Line) (xs : List X) (i : ℕ) (d : X) (t whole : List ℕ) → i < length xs → t ++ text_of (map row (drop i xs)) ≡ whole
-    → (t ++ ended (row (get_or xs i d))) ++ text_of (map row (drop (i + 1) xs)) ≡ whole
-row_written row xs i d t whole lt h =
-    let rest = map row (drop (i + 1) xs) in
-    let one : t ++ text_of (map row (drop i xs)) ≡ (t ++ ended (row (get_or xs i d))) ++ text_of rest = ap (λ ys. t ++ text_of (map row ys)) (next_of xs i d lt) ∙ ap (λ (ys : List ℕ). t ++ ys) (flat_map-cons ended (row (get_or xs i d)) rest) ∙ sym (append_assoc t (ended (row (get_or xs i d))) (text_of rest)) in
-    sym one ∙ h
+  pub all_written : left ≡ [] → t ≡ whole
+  all_written e = sym (append-nil t) ∙ ap (λ (rows : List Line). t ++ text_of rows) (sym e) ∙ h
 
-pub rows_written : {X : Type 0} (row : X → Line) (xs : List X) (i : ℕ) (t whole : List ℕ) → length xs ≤ i → t ++ text_of (map row (drop i xs)) ≡ whole → t ≡ whole
-rows_written row xs i t whole le h =
-    let one : t ++ text_of (map row (drop i xs)) ≡ t = ap (λ ys. t ++ text_of (map row ys)) (drop_all i xs le) ∙ append-nil t in
-    sym one ∙ h
+-- a line and four lists of lines
+pub step_joined : (title : Line) (a b c d : List Line) → [] ++ ended title ++ text_of a ++ text_of b ++ text_of c ++ text_of d ≡ text_of (title ∷ (a ++ (b ++ (c ++ d))))
+step_joined title a b c d =
+    with_lines ([] ++ ended title ++ text_of a ++ text_of b) c d
+    ∙ with_lines ([] ++ ended title ++ text_of a) b (c ++ d)
+    ∙ with_lines ([] ++ ended title) a (b ++ (c ++ d))
+    ∙ with_line [] title (a ++ (b ++ (c ++ d)))
+
+-- seven lines, and others after them
+pub seven_joined : (t : List ℕ) (a b c d e f g : Line) (more : List Line) → t ++ ended a ++ ended b ++ ended c ++ ended d ++ ended e ++ ended f ++ ended g ++ text_of more ≡ t ++ text_of (a ∷ b ∷ c ∷ d ∷ e ∷ f ∷ g ∷ more)
+seven_joined t a b c d e f g more =
+    with_line (t ++ ended a ++ ended b ++ ended c ++ ended d ++ ended e ++ ended f) g more
+    ∙ with_line (t ++ ended a ++ ended b ++ ended c ++ ended d ++ ended e) f (g ∷ more)
+    ∙ with_line (t ++ ended a ++ ended b ++ ended c ++ ended d) e (f ∷ g ∷ more)
+    ∙ with_line (t ++ ended a ++ ended b ++ ended c) d (e ∷ f ∷ g ∷ more)
+    ∙ with_line (t ++ ended a ++ ended b) c (d ∷ e ∷ f ∷ g ∷ more)
+    ∙ with_line (t ++ ended a) b (c ∷ d ∷ e ∷ f ∷ g ∷ more)
+    ∙ with_line t a (b ∷ c ∷ d ∷ e ∷ f ∷ g ∷ more)
+
+-- the line of what is there on a condition
+pub line_if : {T : Type 0} (line : T → Line) (there : Bool) (t : T) → cond there (line t ∷ []) [] ≡ map line (cond there (t ∷ []) [])
+line_if line true t = refl
+line_if line false t = refl

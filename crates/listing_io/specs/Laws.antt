@@ -9,7 +9,7 @@ use Rattle.zone_pairs.specs.declared.pair.ZonePair.{ZonePair}
 use Rattle.listing_io.specs.declared.listing.ListedStep.{ListedStep}
 use Rattle.listing_io.specs.Listing.{Line, all_step_lines, end_line, listing, text_of, has_evt, zone_pair}
 use Rattle.listing_io.specs.Reading.{first_line_before, all_lines, listing_at}
-use Rattle.std.specs.List.{AllZip}
+use Rattle.std.specs.List.{AllZip, range_with_len}
 use Rattle.step_problem.specs.declared.heads.Bound.{Bound}
 use Rattle.step_problem.specs.declared.place.ZoneFlow.{ZoneFlow}
 use Rattle.step_problem.specs.Conditions.{IsHead}
@@ -37,8 +37,7 @@ pub record IsCellBound (m : FlowModel) (c : ℕ) (b : Bound) : Type 0 where
 
 -- the same for the cells from c on
 abbrev pub AreCellBounds : FlowModel → ℕ → List Bound → Type 0
-AreCellBounds m c [] = Unit {0}
-AreCellBounds m c (b ∷ bs) = IsCellBound m c b × AreCellBounds m (c + 1) bs
+AreCellBounds m c bs = AllZip (IsCellBound m) (range_with_len c (length bs)) bs
 
 -- a flow of a listing: its magnitude is below 2^126 units
 pub record IsFlowPair (p : TermPair) : Type 0 where

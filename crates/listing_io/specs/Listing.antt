@@ -3,7 +3,7 @@
 -- END.
 use Rattle.std.specs.Prelude.{ℕ, ◌+◌, ◌-◌, ◌^◌, Bool, cond, List, [], ◌∷◌, ◌++◌, codes, decimal, map, true, false}
 use Rattle.std.specs.Fmt.{signed_decimal}
-use Rattle.std.specs.List.{flat_map}
+use Rattle.std.specs.List.{flat_map, range_with_len, zip}
 use Rattle.step_problem.specs.declared.heads.Bound.{Bound}
 use Rattle.step_problem.specs.declared.place.Dir.{Dir}
 use Rattle.step_problem.specs.declared.place.Dir.TheVariants.{In, Out}
@@ -18,12 +18,12 @@ use Rattle.budget_bounds.specs.Terms.{bounds_in}
 use Rattle.model_types.specs.declared.grid.Grid.{Grid}
 use Rattle.model_types.specs.declared.model.FlowModel.{FlowModel}
 use Rattle.model_types.specs.declared.time_steps.TimeStep.{TimeStep}
-use Rattle.model_types.specs.Faces.{place}
+use Rattle.model_types.specs.Faces.{cell_count, place}
 use Rattle.model_types.specs.Layers.{is_active, is_nonzero}
 use Rattle.model_types.specs.Times.{times}
 use Rattle.listing_io.specs.declared.listing.ListedStep.{ListedStep}
 use Rattle.listing_io.specs.Forms.{Form, pair_line}
-use Rattle.step_problem.specs.Entries.{Entries, entries_at}
+use Rattle.step_problem.specs.Entries.{Entries}
 
 -- a line, without its line feed
 abbrev pub Line : Type 0
@@ -72,10 +72,9 @@ head_pair b = record { lo = b.low; hi = b.high }
 abbrev pub head_line : Grid → ℕ → Bound → Line
 head_line g c b = pair_line (head_front g c) head_form (head_pair b)
 
--- the lines of the cells from c on, with these heads; a cell with IBOUND 0 has no line
-unfoldable pub head_lines : FlowModel → ℕ → List Bound → List Line
-head_lines m c [] = []
-head_lines m c (b ∷ bs) = cond (is_active m c) (head_line m.grid c b ∷ []) [] ++ head_lines m (c + 1) bs
+-- the lines of a grid's cells, with these heads; a cell with IBOUND 0 has no line
+unfoldable pub head_lines : FlowModel → List Bound → List Line
+head_lines m bs = flat_map (λ e. cond (is_active m e.0) (head_line m.grid e.0 e.1 ∷ []) []) (zip (range_with_len 0 (cell_count m.grid)) bs)
 
 -- a term: its lower and its upper flow into the variable cells, or out of them, and its name (TM 6-A16, chapter 3, the volumetric budget)
 abbrev pub dir_front : Dir → List ℕ
@@ -110,16 +109,14 @@ zone_line s z = pair_line (zone_front z.from z.to) (flow_form s []) (zone_pair z
 
 -- a whole step; its heads are those of all cells of the grid
 unfoldable pub step_lines : FlowModel → ℕ → TimeStep → List Bound → Budget → List ZoneFlow → List Line
-step_lines m s at heads b zones = step_line at ∷ (head_lines m 0 heads ++ (term_lines m s In b ++ (term_lines m s Out b ++ map (zone_line s) zones)))
+step_lines m s at heads b zones = step_line at ∷ (head_lines m heads ++ (term_lines m s In b ++ (term_lines m s Out b ++ map (zone_line s) zones)))
 
 abbrev pub end_line : Line
 end_line = codes "END"
 
 -- the lines of several things, each by its own of another list
 abbrev pub each_lines : {A X : Type 0} → (A → X → List Line) → List A → List X → List Line
-each_lines row [] xs = []
-each_lines row (a ∷ others) [] = []
-each_lines row (a ∷ others) (x ∷ xs) = row a x ++ each_lines row others xs
+each_lines row xs ys = flat_map (λ e. row e.0 e.1) (zip xs ys)
 
 -- several steps, at these times
 unfoldable pub all_step_lines : FlowModel → ℕ → List TimeStep → List ListedStep → List Line
@@ -141,10 +138,9 @@ step_text m s at heads b zones = text_of (step_lines m s at heads b zones)
 abbrev pub watch_line : TimeStep → Line
 watch_line at = codes "WATCH" ++ numbers_text (at.period ∷ at.step ∷ [])
 
--- the variable cells of a problem, from the one of index c on, whose heads these are
-unfoldable pub variable_lines : Grid → List Entries → ℕ → List Bound → List Line
-variable_lines g p c [] = []
-variable_lines g p c (b ∷ bs) = head_line g (entries_at p c).id b ∷ variable_lines g p (c + 1) bs
+-- the variable cells of a problem, with these heads
+unfoldable pub variable_lines : Grid → List Entries → List Bound → List Line
+variable_lines g p bs = each_lines (λ e b. head_line g e.id b ∷ []) p bs
 
 unfoldable pub view_text : Grid → TimeStep → List Entries → List Bound → List ℕ
-view_text g at p heads = ended (watch_line at) ++ text_of (variable_lines g p 0 heads)
+view_text g at p heads = ended (watch_line at) ++ text_of (variable_lines g p heads)

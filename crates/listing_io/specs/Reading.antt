@@ -1,5 +1,6 @@
 -- Reading a listing: the lines that are due, one after another. A refusal is the number of the first line of another form than the one due.
-use Rattle.std.specs.Prelude.{◌≡◌, ℕ, zero, suc, ◌+◌, Bool, true, false, ◌||◌, codes, if◌then◌else◌, List, [], ◌∷◌, Option, Some, None, Result, Ok, Err}
+use Rattle.std.specs.Prelude.{◌≡◌, ℕ, Bool, true, false, ◌||◌, codes, if◌then◌else◌, List, [], ◌∷◌, Option, Some, None, Result, Ok, Err}
+use Rattle.std.specs.List.{range_with_len}
 use Rattle.std.specs.Str.{bytes_eq}
 use Rattle.outside.specs.declared.codes.Code.TheVariants.{BadListing}
 use Rattle.outside.specs.declared.inputs.Refusal.{Refusal}
@@ -70,13 +71,9 @@ abbrev pub head_if : Bool → List ℕ → Left → Result (Bound × Left) ℕ
 head_if true front left = pair_at front head_form left >>= λ p. Ok (bound_of p.0, p.1)
 head_if false front left = Ok (no_bound, left)
 
--- the heads of this many cells from c on
-unfoldable pub heads_at : FlowModel → ℕ → ℕ → Left → Result (List Bound × Left) ℕ
-heads_at m c zero left = Ok ([], left)
-heads_at m c (suc k) left = do
-  head ← head_if (is_active m c) (head_front m.grid c) left
-  more ← heads_at m (c + 1) k head.1
-  Ok (head.0 ∷ more.0, more.1)
+-- the heads of a grid's cells
+unfoldable pub heads_at : FlowModel → Left → Result (List Bound × Left) ℕ
+heads_at m left = for_each (λ c. head_if (is_active m c) (head_front m.grid c)) (range_with_len 0 (cell_count m.grid)) left
 
 abbrev pub term_at : ℕ → Dir → Term → Left → Result (TermPair × Left) ℕ
 term_at s dir t left = pair_at (dir_front dir) (term_form s t) left
@@ -108,7 +105,7 @@ flow_at s z left = do
 unfoldable pub step_with : FlowModel → ℕ → List ZonePair → TimeStep → Left → Result (ListedStep × Left) ℕ
 step_with m s pairs at left = do
   after ← text_at (step_line at) left
-  heads ← heads_at m 0 (cell_count m.grid) after
+  heads ← heads_at m after
   into ← terms_at (has_evt m) s In heads.1
   out ← terms_at (has_evt m) s Out into.1
   flows ← for_each (flow_at s) pairs out.1

@@ -15,7 +15,7 @@ pub fn listings_are_read_again()
 {}
 
 /// A text that is read is the one written for the steps read, except for a first line of version 1.
-#[tactic(auto, using(crate::proofs::Written::listings_were_written))]
+#[tactic(auto, using(crate::proofs::Steps::listings_were_written))]
 pub fn listings_were_written()
     ensures { ListingsWereWritten }
 {}

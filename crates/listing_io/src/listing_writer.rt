@@ -139,8 +139,8 @@ fn push_cell(
 
 fn push_heads(text: &mut Vec<u8>, model: &FlowModel, heads: &[Bound]) -> Result<(), AllocError>
     requires size { HasSize model.now.grid }
-    requires few { length heads.now ≤ 4194304 }
-    ensures { IfOk result (λ _. text.new.items ≡ text.old.items ++ text_of (head_lines model.now 0 heads.now)) }
+    requires heads { length heads.now ≡ cell_count model.now.grid }
+    ensures { IfOk result (λ _. text.new.items ≡ text.old.items ++ text_of (head_lines model.now heads.now)) }
 {
     for cell in 0..heads.len() {
         push_cell(text, model, cell as u32, heads[cell])?;

@@ -2,7 +2,6 @@
 ghost use Rattle.std.specs.Prelude.{◌≡◌, ◌≤◌, ◌<◌, ◌^◌, length, nat_abs, IfOk};
 ghost use Rattle.step_problem.specs.Conditions.{head_limit};
 ghost use Rattle.step_problem.specs.declared.place.Term.TheVariants.{Et};
-ghost use Rattle.model_types.specs.Faces.{cell_count};
 ghost use Rattle.model_types.specs.Grids.{HasSize};
 ghost use Rattle.model_types.specs.Layers.{is_active};
 ghost use Rattle.record_lines.specs.Reading.{for_each};
@@ -81,6 +80,7 @@ fn read_bound(
     })
 }
 
+#[tactic(auto, unfolding(crate::specs::Reading::heads_at))]
 fn read_heads(
     alloc: Global,
     text: &mut Vec<u8>,
@@ -88,7 +88,7 @@ fn read_heads(
     lines: &mut AllLines,
 ) -> Result<Vec<Bound>, Fault>
     requires { HasSize model.now.grid }
-    ensures { Gives (λ v. v.items) result lines.new (heads_at model.now 0 (cell_count model.now.grid) lines.old) }
+    ensures { Gives (λ v. v.items) result lines.new (heads_at model.now lines.old) }
 {
     let mut heads = Vec::new(alloc);
     for cell in 0..model.grid.cell_count() {

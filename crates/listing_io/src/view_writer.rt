@@ -35,7 +35,7 @@ fn push_variable_cells(
 ) -> Result<(), AllocError>
     requires size { HasSize grid.now }
     requires whole { length heads.now ≡ length p.now }
-    ensures { IfOk result (λ _. text.new.items ≡ text.old.items ++ text_of (variable_lines grid.now p.now 0 heads.now)) }
+    ensures { IfOk result (λ _. text.new.items ≡ text.old.items ++ text_of (variable_lines grid.now p.now heads.now)) }
 {
     for cell in 0..heads.len() {
         push_head(text, grid, id_at(p, cell), heads[cell])?;

@@ -5,7 +5,7 @@ use Rattle.model_types.specs.Times.{times}
 use Rattle.problem_builder.proofs.Members.{In-append, range-In}
 use Rattle.problem_builder.proofs.Named.{In-Contains}
 
-flat-In : {X Y : Type 0} (f : X → List Y) (xs : List X) (y : Y) → In (flat_map f xs) y → (x : X) × In xs x × In (f x) y
+pub flat-In : {X Y : Type 0} (f : X → List Y) (xs : List X) (y : Y) → In (flat_map f xs) y → (x : X) × In xs x × In (f x) y
 flat-In f [] y i = absurd i
 flat-In f (z ∷ zs) y i = elim (In-append (f z) (flat_map f zs) y i) [
   | inl j ↦ (z, inl refl, j)

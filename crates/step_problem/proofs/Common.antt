@@ -20,4 +20,4 @@ pub use Rattle.step_problem.specs.Laws.{SettledPairIsOne, UpperShifts}
 pub use Rattle.step_problem.specs.Sides.{AreHeads, AreSeen, AsTight, IsCertified, IsExchange, IsFirstSettled, IsNoTighterThanSettled, IsOnTheWay, IsPast}
 pub use Rattle.step_problem.specs.Sides.{IsRelaxed, IsRound, IsSettled, Rounds, RoundsSettle}
 pub use Rattle.step_problem.specs.declared.entry.Link.{Link}
-pub use borrow.Author.Differences.{down, le_out, product_is, same_in, up}
+pub use borrow.Author.Differences.{le_out, up}

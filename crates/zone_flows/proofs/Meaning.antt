@@ -1,10 +1,10 @@
 -- The flows of a table of sums, entry by entry, are those of the definition.
 use Rattle.zone_flows.proofs.Common.{◌≡◌, ℕ, suc, ◌/◌, ◌%◌, ◌<◌, ◌≤◌, ◌⊎◌, inl, inr, Bool, true, false, refl, sym, ap, ◌∙◌, subst, arith, List, [], ◌∷◌, All}
-use Rattle.zone_flows.proofs.Common.{Result, Ok, Err, Contains, if◌then◌else◌, All-cons, All-nil, NoBound, ZoneFlow, ◌>>=◌, ZoneSum, Face, is_below_limit}
-use Rattle.zone_flows.proofs.Common.{zone_flow, too_large, listed_flows, IsBeforeAll, PairsAscend, ShareFace, IsBelowLimit, IsZoneFlow, AreZoneFlows}
-use Rattle.zone_flows.proofs.Common.{IsFirstTooLarge, Table, key_of, with_faces}
-use Rattle.zone_flows.proofs.Keys.{Above, KeysAscend, IsEntry, entry_has, HasKey, table_ascends}
-use Rattle.zone_flows.proofs.Pairing.{FacesFit, key_div, key_mod, key_before, before_key, IsSumOf, entry_is, shared_has, small_true, true_small, flow_of, flow_is}
+use Rattle.zone_flows.proofs.Common.{Result, Ok, Err, Contains, if◌then◌else◌, All-cons, All-nil, All-tail, NoBound, ZoneFlow, ◌>>=◌, ZoneSum, Face}
+use Rattle.zone_flows.proofs.Common.{is_below_limit, zone_flow, too_large, listed_flows, IsBeforeAll, PairsAscend, ShareFace, IsBelowLimit, IsZoneFlow}
+use Rattle.zone_flows.proofs.Common.{AreZoneFlows, IsFirstTooLarge, Table, key_of, with_faces, keys_of}
+use Rattle.zone_flows.proofs.Keys.{Above, KeysAscend, IsEntry, entry_above, table_ascends}
+use Rattle.zone_flows.proofs.Pairing.{FacesFit, key_div, key_mod, key_before, before_key, IsSumOf, entry_is, shared_entry, small_true, true_small, flow_of, flow_is}
 use Rattle.step_problem.specs.declared.place.Place.TheVariants as places
 
 -- the flow of each entry, all small
@@ -87,8 +87,8 @@ module _ (fs : List Face) (fit : FacesFit fs) where
   before_all k v (e ∷ t) [] p a h all = absurd h
   before_all k v (e ∷ t) (w ∷ vs) p a h all =
       let q = has_pair e w (all e (inl refl)) h.0 h.1 in
-      let less : key_of v.from v.to < key_of w.from w.to = (let l = a e.0 (inl refl) in omega (arith, p.key, q.key, l)) in
-      (key_before v.from v.to w.from w.to p.fits q.fits less, before_all k v t vs p (λ r i. a r (inr i)) h.2 (later e t all))
+      let less : key_of v.from v.to < key_of w.from w.to = (let l = entry_above k (e ∷ t) e a (inl refl) in omega (arith, p.key, q.key, l)) in
+      (key_before v.from v.to w.from w.to p.fits q.fits less, before_all k v t vs p (All-tail (λ r. k < r) e.0 (keys_of t) a) h.2 (later e t all))
 
   ascend : (t : Table) (vs : List ZoneFlow) → KeysAscend t → Lists t vs → AreSums t → PairsAscend vs
   ascend [] [] a h all = tt
@@ -96,11 +96,11 @@ module _ (fs : List Face) (fit : FacesFit fs) where
   ascend (e ∷ t) [] a h all = absurd h
   ascend (e ∷ t) (v ∷ vs) a h all = (before_all e.0 v t vs (has_pair e v (all e (inl refl)) h.0 h.1) a.0 h.2 (later e t all), ascend t vs a.1 h.2 (later e t all))
 
-  found : (q : ℕ) (t : Table) (vs : List ZoneFlow) → HasKey q t → Lists t vs → AreSums t → (v : ZoneFlow) × Contains vs v × HasPair q v
-  found q [] vs k h all = absurd k
-  found q (e ∷ t) [] k h all = absurd h
-  found q (e ∷ t) (v ∷ vs) (inl i) h all = (v, (0, omega arith, refl), subst (λ (n : ℕ). HasPair n v) i (has_pair e v (all e (inl refl)) h.0 h.1))
-  found q (e ∷ t) (v ∷ vs) (inr i) h all = let r = found q t vs i h.2 (later e t all) in let l = r.1.1 in (r.0, (suc r.1.0, omega (arith, l), r.1.2), r.2)
+  found : (e : ℕ × ZoneSum) (t : Table) (vs : List ZoneFlow) → IsEntry e t → Lists t vs → AreSums t → (v : ZoneFlow) × Contains vs v × HasPair e.0 v
+  found e [] vs k h all = absurd k
+  found e (d ∷ t) [] k h all = absurd h
+  found e (d ∷ t) (v ∷ vs) (inl i) h all = (v, (0, omega arith, refl), subst (λ (x : ℕ × ZoneSum). HasPair x.0 v) (sym i) (has_pair d v (all d (inl refl)) h.0 h.1))
+  found e (d ∷ t) (v ∷ vs) (inr i) h all = let r = found e t vs i h.2 (later d t all) in let l = r.1.1 in (r.0, (suc r.1.0, omega (arith, l), r.1.2), r.2)
 
   abbrev table : Table
   table = with_faces [] fs
@@ -117,10 +117,11 @@ module _ (fs : List Face) (fit : FacesFit fs) where
         ascend = ascend table vs (table_ascends [] fs tt) lists all_sums;
         each = each table vs lists all_sums;
         all = λ a b shared.
-            let r = found (key_of a b) table vs (shared_has fs a b shared) lists all_sums in
+            let (e, i, key) = shared_entry fs a b shared in
+            let r = found e table vs i lists all_sums in
             let v : ZoneFlow = r.0 in
             let fits = shared_fits a b shared in
-            let p = r.2 in
+            let p : HasPair (key_of a b) v = subst (λ (n : ℕ). HasPair n v) key r.2 in
             (v, r.1, sym (key_div v.from v.to p.fits) ∙ ap (λ n. n / 1000) (sym p.key) ∙ key_div a b fits, sym (key_mod v.from v.to p.fits) ∙ ap (λ n. n % 1000) (sym p.key) ∙ key_mod a b fits);
       }
 
@@ -134,7 +135,7 @@ module _ (fs : List Face) (fit : FacesFit fs) where
 
   first_here : (e : ℕ × ZoneSum) (t : Table) → KeysAscend (e ∷ t) → (d : ℕ × ZoneSum) → IsEntry d (e ∷ t) → d.0 < e.0 → is_below_limit d.1 ≡ true
   first_here e t a d (inl i) l = absurd (let k = ap (λ (x : ℕ × ZoneSum). x.0) i in omega (arith, k, l))
-  first_here e t a d (inr i) l = absurd (let k = a.0 d.0 (entry_has d t i) in omega (arith, k, l))
+  first_here e t a d (inr i) l = absurd (let k = entry_above e.0 t d a.0 i in omega (arith, k, l))
 
   first_later : (e d : ℕ × ZoneSum) (t : Table) (k : ℕ) → is_below_limit e.1 ≡ true → ((c : ℕ × ZoneSum) → IsEntry c t → c.0 < k → is_below_limit c.1 ≡ true) → IsEntry d (e ∷ t) → d.0 < k → is_below_limit d.1 ≡ true
   first_later e d t k s f (inl i) l = subst (λ (x : ℕ × ZoneSum). is_below_limit x.1 ≡ true) (sym i) s
@@ -151,11 +152,6 @@ module _ (fs : List Face) (fit : FacesFit fs) where
         is = r.is;
         first = λ d j l. first_later e d t r.entry.0 i.0 r.first j l;
       }
-
-  has_entry : (q : ℕ) (t : Table) → HasKey q t → (e : ℕ × ZoneSum) × IsEntry e t × (e.0 ≡ q)
-  has_entry q [] h = absurd h
-  has_entry q (e ∷ t) (inl i) = (e, inl refl, i)
-  has_entry q (e ∷ t) (inr i) = let r = has_entry q t i in (r.0, inr r.1, r.2)
 
   small_pair : (a b : ℕ) (e : ℕ × ZoneSum) (s : IsSumOf fs e) → b ≤ 999 → e.0 ≡ key_of a b → is_below_limit e.1 ≡ true → IsBelowLimit fs a b
   small_pair a b e s fits key h =
@@ -176,7 +172,7 @@ module _ (fs : List Face) (fit : FacesFit fs) where
         large = λ small. let t : is_below_limit r.entry.1 ≡ true = subst (λ (x : ZoneSum). is_below_limit x ≡ true) (sym s.sum) (true_small fs s.from s.to small) in absurd (let f = r.large in cc);
         first = λ a b shared before.
             let fits = shared_fits a b shared in
-            let e = has_entry (key_of a b) table (shared_has fs a b shared) in
+            let e = shared_entry fs a b shared in
             let less : e.0.0 < r.entry.0 = let k = before_key a b s.from s.to fits s.fits before in let i = e.2 in let j = s.key in omega (arith, i, j, k) in
             small_pair a b e.0 (all_sums e.0 e.1) fits e.2 (r.first e.0 e.1 less);
       }

@@ -1,12 +1,13 @@
 -- What a table of sums has for each pair of zones, by the faces.
-use Rattle.zone_flows.proofs.Common.{◌≡◌, ℕ, zero, suc, ◌/◌, ◌%◌, ◌<◌, ◌≤◌, inl, inr, Bool, true, false, cond, refl, sym, ap, ◌∙◌, subst, arith, List, [], ◌∷◌}
-use Rattle.zone_flows.proofs.Common.{length, map, ℤ, pos, ◌+ℤ◌, ◌-ℤ◌, ◌≤ℤ◌, ◌<ℤ◌, Contains, filter, nat_tests, ints, is_at, nat_cmp, In, Out, ZoneFlow, total}
-use Rattle.zone_flows.proofs.Common.{TermPair, IsSum, capped, plus_pair, parts, term_limit, parts_lo, parts_hi, ZoneSum, Face, is_between, flows_between}
-use Rattle.zone_flows.proofs.Common.{is_below_limit, zone_flow, IsBefore, ShareFace, IsBelowLimit, IsZoneSum, key_of, faces_keyed, no_pair, no_flows}
-use Rattle.zone_flows.proofs.Common.{plus_flows, sum_at, with_faces, and_parts}
+use Rattle.zone_flows.proofs.Common.{◌≡◌, ℕ, zero, suc, ◌/◌, ◌%◌, ◌<◌, ◌≤◌, ◌⊎◌, inl, inr, Bool, true, false, cond, refl, sym, ap, ◌∙◌, subst, arith, List, []}
+use Rattle.zone_flows.proofs.Common.{◌∷◌, length, map, ℤ, pos, ◌+ℤ◌, ◌-ℤ◌, ◌≤ℤ◌, ◌<ℤ◌, Contains, filter, nat_tests, ints, is_at, nat_cmp, In, Out, ZoneFlow}
+use Rattle.zone_flows.proofs.Common.{total, TermPair, capped, plus_pair, parts, term_limit, parts_lo, parts_hi, ZoneSum, Face, is_between, flows_between}
+use Rattle.zone_flows.proofs.Common.{is_below_limit, zone_flow, IsBefore, ShareFace, IsBelowLimit, key_of, faces_keyed, no_pair, no_flows, plus_flows}
+use Rattle.zone_flows.proofs.Common.{with_faces, and_parts, found, None, Some, get_or}
 use Rattle.std.specs.Int.Signed.{lt_z}
-use Rattle.zone_flows.proofs.Sums.{table_sums, flows_are_parts, net_lo, net_hi, magnitudes_lo, magnitudes_hi, together_below, below_together, is_whole}
-use Rattle.zone_flows.proofs.Keys.{IsEntry, HasKey, HasKeyed, table_ascends, table_into, table_from, entry_has, entry_sum}
+use Rattle.zone_flows.proofs.Tables.{none_is_sum}
+use Rattle.zone_flows.proofs.Sums.{same_key, found_faces, flows_are_parts, net_lo, net_hi, magnitudes_lo, magnitudes_hi, together_below, below_together, is_whole}
+use Rattle.zone_flows.proofs.Keys.{IsEntry, table_ascends, entry_found, found_entry}
 
 -- the two zones of a face are below 1000
 pub record FaceFits (f : Face) : Type 0 where
@@ -52,12 +53,6 @@ keyed_pair a b (f ∷ fs) h fit = rw (key_is_pair a b f h (head_fits f fs fit).t
 abbrev pub sums : List TermPair → ZoneSum
 sums xs = record { into = capped (parts In xs); out = capped (parts Out xs) }
 
-zero_sum : IsZoneSum no_flows
-zero_sum = record { into = zero_one; out = zero_one }
-  where
-    zero_one : IsSum (record { lo = pos 0; hi = pos 0 })
-    zero_one = record { lo_above = omega (arith, ints); lo_below = omega (arith, ints); hi_above = omega (arith, ints); hi_below = omega (arith, ints) }
-
 none_added : (z : ℤ) → pos 0 +ℤ z ≡ z
 none_added z = omega (arith, ints)
 
@@ -70,14 +65,12 @@ capped_both a b = record { into = capped a; out = capped b }
 both_sums : (a b c d : TermPair) → a ≡ c → b ≡ d → capped_both a b ≡ capped_both c d
 both_sums a b c d e f = rw (e, f) refl
 
-empty_sum : (q : ℕ) → sum_at [] q ≡ no_flows
-unfolding sum_at
-empty_sum q = refl
-
-sum_of : (fs : List Face) (q : ℕ) → sum_at (with_faces [] fs) q ≡ sums (map (λ f. f.flow) (faces_keyed q fs))
-sum_of fs q =
-    let xs : List TermPair = map (λ f. f.flow) (faces_keyed q fs) in
-    table_sums [] fs q ∙ ap (λ (s : ZoneSum). plus_flows s xs) (empty_sum q) ∙ flows_are_parts no_flows xs zero_sum ∙ both_sums (plus_pair no_flows.into (parts In xs)) (plus_pair no_flows.out (parts Out xs)) (parts In xs) (parts Out xs) (none_more (parts In xs)) (none_more (parts Out xs))
+-- a table has the sums of a pair that has faces, and none of another
+found_of : (fs : List Face) (q : ℕ) (x : TermPair) (xs : List TermPair) → map (λ f. f.flow) (faces_keyed q fs) ≡ x ∷ xs → found (with_faces [] fs) q ≡ Some (sums (x ∷ xs))
+unfolding plus_flows
+found_of fs q x xs e =
+    found_faces q [] fs ∙ ap (plus_flows None) e ∙ flows_are_parts no_flows (x ∷ xs) none_is_sum
+    ∙ ap Some (both_sums (plus_pair no_flows.into (parts In (x ∷ xs))) (plus_pair no_flows.out (parts Out (x ∷ xs))) (parts In (x ∷ xs)) (parts Out (x ∷ xs)) (none_more (parts In (x ∷ xs))) (none_more (parts Out (x ∷ xs))))
 
 -- what an entry of the table of some faces stands for
 pub record IsSumOf (fs : List Face) (e : ℕ × ZoneSum) : Type 0 where
@@ -88,37 +81,70 @@ pub record IsSumOf (fs : List Face) (e : ℕ × ZoneSum) : Type 0 where
   pub shared : ShareFace fs from to
   pub sum : e.1 ≡ sums (flows_between from to fs)
 
-pub keyed_face : (q : ℕ) (fs : List Face) → HasKeyed q fs → (f : Face) × Contains fs f × (key_of f.from f.to ≡ q)
-keyed_face q [] h = absurd h
-keyed_face q (f ∷ fs) (inl i) = (f, (0, omega arith, refl), i)
-keyed_face q (f ∷ fs) (inr i) = let r = keyed_face q fs i in let l = r.1.1 in (r.0, (suc r.1.0, omega (arith, l), r.1.2), r.2)
+-- a face of a key, out of the flows that are keyed with it
+face_of : (q : ℕ) (fs : List Face) (x : TermPair) (xs : List TermPair) → map (λ f. f.flow) (faces_keyed q fs) ≡ x ∷ xs → (f : Face) × Contains fs f × (key_of f.from f.to ≡ q)
+unfolding faces_keyed
+face_of q [] x xs h = absurd cc
+face_of q (f ∷ fs) x xs h = by_test (is_at (nat_cmp q) (key_of f.from f.to)) refl (face_of q fs x xs)
+  where
+    by_test : (b : Bool) → is_at (nat_cmp q) (key_of f.from f.to) ≡ b → (map (λ f. f.flow) (faces_keyed q fs) ≡ x ∷ xs → (g : Face) × Contains fs g × (key_of g.from g.to ≡ q)) → (g : Face) × Contains (f ∷ fs) g × (key_of g.from g.to ≡ q)
+    by_test true is more = (f, (0, omega arith, refl), sym (same_key q (key_of f.from f.to) is))
+    by_test false is more = let (g, i, e) = more (rw is at h) in let l = i.1 in (g, (suc i.0, omega (arith, l), i.2), e)
+
+-- and the flows of a face with a key
+pub its_key : (q k : ℕ) → k ≡ q → is_at (nat_cmp q) k ≡ true
+its_key q k e = grind (arith, nat_tests)
+
+abbrev Begins : List TermPair → Type 0
+Begins ys = (x : TermPair) × (xs : List TermPair) × (ys ≡ x ∷ xs)
+
+abbrev flows_of : ℕ → List Face → List TermPair
+flows_of q fs = map (λ f. f.flow) (faces_keyed q fs)
+
+one_keyed : (b : Bool) (g : Face) (fs : List Face) → Begins (map (λ f. f.flow) fs) ⊎ (b ≡ true) → Begins (map (λ f. f.flow) (cond b (g ∷ fs) fs))
+one_keyed true g fs h = (g.flow, map (λ f. f.flow) fs, refl)
+one_keyed false g fs (inl h) = h
+one_keyed false g fs (inr e) = absurd cc
+
+keyed : (q : ℕ) (fs : List Face) (k : ℕ) (f : Face) → k < length fs → get_or fs k f ≡ f → key_of f.from f.to ≡ q → Begins (flows_of q fs)
+unfolding faces_keyed
+keyed q [] k f lt is e = absurd (omega (arith, lt))
+keyed q (g ∷ fs) zero f lt is e =
+    let same : key_of g.from g.to ≡ q = subst (λ (x : Face). key_of x.from x.to ≡ q) (sym is) e in
+    one_keyed (is_at (nat_cmp q) (key_of g.from g.to)) g (faces_keyed q fs) (inr (its_key q (key_of g.from g.to) same))
+keyed q (g ∷ fs) (suc k) f lt is e = one_keyed (is_at (nat_cmp q) (key_of g.from g.to)) g (faces_keyed q fs) (inl (keyed q fs k f (omega (arith, lt)) is e))
+
+-- the flows with the key of an entry are some
+some_flows : (ys : List TermPair) (s : ZoneSum) → plus_flows None ys ≡ Some s → (x : TermPair) × (xs : List TermPair) × (ys ≡ x ∷ xs)
+unfolding plus_flows
+some_flows [] s h = absurd (let bad : None ≡ Some s = h in cc)
+some_flows (x ∷ xs) s h = (x, xs, refl)
 
 pub entry_is : (fs : List Face) → FacesFit fs → (e : ℕ × ZoneSum) → IsEntry e (with_faces [] fs) → IsSumOf fs e
 entry_is fs fit e i =
-    let r = keyed_face e.0 fs (elim (table_from e.0 [] fs (entry_has e (with_faces [] fs) i)) [ inl k ↦ k | inr k ↦ absurd k ]) in
-    let f : Face = r.0 in
-    let ok = fit f r.1 in
-    let value : sum_at (with_faces [] fs) e.0 ≡ e.1 = entry_sum e (with_faces [] fs) (table_ascends [] fs tt) i in
-    let here : e.1 ≡ sums (map (λ f. f.flow) (faces_keyed (key_of f.from f.to) fs)) = sym value ∙ sum_of fs e.0 ∙ ap (λ (k : ℕ). sums (map (λ f. f.flow) (faces_keyed k fs))) (sym r.2) in
+    let value : found (with_faces [] fs) e.0 ≡ Some e.1 = entry_found e (with_faces [] fs) (table_ascends [] fs tt) i in
+    let (x, xs, some) = some_flows (map (λ f. f.flow) (faces_keyed e.0 fs)) e.1 (sym (found_faces e.0 [] fs) ∙ value) in
+    let (f, has, key) = face_of e.0 fs x xs some in
+    let ok = fit f has in
+    let here : e.1 ≡ sums (map (λ f. f.flow) (faces_keyed e.0 fs)) = some_same (sym value ∙ found_of fs e.0 x xs some ∙ ap (λ (ys : List TermPair). Some (sums ys)) (sym some)) in
     record {
       from = f.from;
       to = f.to;
-      key = sym r.2;
+      key = sym key;
       fits = ok.to;
-      shared = record { face = f; stands = r.1; from = refl; to = refl };
-      sum = here ∙ ap sums (keyed_pair f.from f.to fs ok.to fit);
+      shared = record { face = f; stands = has; from = refl; to = refl };
+      sum = here ∙ ap (λ (k : ℕ). sums (map (λ f. f.flow) (faces_keyed k fs))) (sym key) ∙ ap sums (keyed_pair f.from f.to fs ok.to fit);
     }
+  where
+    some_same : {X : Type 0} {a b : X} → Some a ≡ Some b → a ≡ b
+    some_same e = cc
 
-contains_keyed : (q : ℕ) (fs : List Face) (k : ℕ) (f : Face) → k < length fs → key_of f.from f.to ≡ q → Contains fs f → HasKeyed q fs
-contains_keyed q [] k f h e (j, l, is) = absurd (omega (arith, l))
-contains_keyed q (g ∷ fs) k f h e (zero, l, is) = inl (subst (λ (x : Face). key_of x.from x.to ≡ q) (sym is) e)
-contains_keyed q (g ∷ fs) k f h e (suc j, l, is) = inr (contains_keyed q fs j f (omega (arith, l)) e (j, omega (arith, l), is))
-
--- a pair that shares a face has its key in the table
-pub shared_has : (fs : List Face) (a b : ℕ) → ShareFace fs a b → HasKey (key_of a b) (with_faces [] fs)
-shared_has fs a b h =
-    let e : key_of h.face.from h.face.to ≡ key_of a b = rw (h.from, h.to) refl in
-    table_into (key_of a b) [] fs (inl (contains_keyed (key_of a b) fs h.stands.0 h.face h.stands.1 e h.stands))
+-- a pair that shares a face has an entry in the table
+pub shared_entry : (fs : List Face) (a b : ℕ) → ShareFace fs a b → (e : ℕ × ZoneSum) × IsEntry e (with_faces [] fs) × (e.0 ≡ key_of a b)
+shared_entry fs a b h =
+    let key : key_of h.face.from h.face.to ≡ key_of a b = rw (h.from, h.to) refl in
+    let (x, xs, some) = keyed (key_of a b) fs h.stands.0 h.face h.stands.1 h.stands.2 key in
+    found_entry (key_of a b) (with_faces [] fs) (sums (x ∷ xs)) (found_of fs (key_of a b) x xs some)
 
 true_lt : (x l : ℤ) → x <ℤ l → lt_z x l ≡ true
 true_lt x l h = tested (lt_z x l) refl

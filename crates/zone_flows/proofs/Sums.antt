@@ -1,9 +1,9 @@
 -- What a table of sums has for a pair of zones: the sums of the flows with its key.
 use Rattle.zone_flows.proofs.Common.{◌≡◌, ℕ, Bool, true, false, cond, refl, sym, ap, ◌∙◌, subst, arith, List, [], ◌∷◌, map, ℤ, pos, negsuc, neg_ℤ, unsigned_abs}
 use Rattle.zone_flows.proofs.Common.{◌+ℤ◌, ◌-ℤ◌, ◌≤ℤ◌, ◌<ℤ◌, Option, Some, int_max, int_min, nat_tests, ints, clamps, Ordering, Less, Equal, Greater}
-use Rattle.zone_flows.proofs.Common.{insert_entry, is_at, lookup, unwrap_or, nat_cmp, match_ordering, total, In, Out, TermPair, IsSum, capped, plus_pair, parts}
-use Rattle.zone_flows.proofs.Common.{term_limit, capped_twice, nothing_more, part_lo, part_hi, parts_lo, parts_hi, ZoneSum, Face, IsZoneSum, Table, key_of}
-use Rattle.zone_flows.proofs.Common.{no_flows, plus_flow, plus_flows, faces_keyed, sum_at, with_face, with_faces, part}
+use Rattle.zone_flows.proofs.Common.{insert_entry, is_at, nat_cmp, match_ordering, total, In, Out, TermPair, IsSum, capped, plus_pair, parts, term_limit}
+use Rattle.zone_flows.proofs.Common.{capped_twice, nothing_more, part_lo, part_hi, parts_lo, parts_hi, ZoneSum, Face, IsZoneSum, Table, key_of, plus_flow}
+use Rattle.zone_flows.proofs.Common.{plus_flows, faces_keyed, sum_at, with_face, with_faces, part, found}
 use Rattle.step_problem.specs.declared.place.Dir.{Dir}
 
 pub same_key : (q k : ℕ) → is_at (nat_cmp q) k ≡ true → q ≡ k
@@ -15,58 +15,41 @@ equal_keys q k h = grind (arith, nat_tests)
 not_greater : (k : ℕ) → nat_cmp k k ≡ Greater → ⊥
 not_greater k h = grind (arith, nat_tests)
 
-pick : (b : Bool) (x : ZoneSum) (o : Option ZoneSum) → unwrap_or (cond b (Some x) o) no_flows ≡ cond b x (unwrap_or o no_flows)
-pick true x o = refl
-pick false x o = refl
+module _ (q : ℕ) where
+  twice : (b : Bool) (x y : ZoneSum) (o : Option ZoneSum) → cond b (Some x) (cond b (Some y) o) ≡ cond b (Some x) o
+  twice true x y o = refl
+  twice false x y o = refl
 
-twice : (b : Bool) (x y z : ZoneSum) → cond b x (cond b y z) ≡ cond b x z
-twice true x y z = refl
-twice false x y z = refl
+  apart : (a b : Bool) (x y : ZoneSum) (o : Option ZoneSum) → (a ≡ true → b ≡ true → ⊥) → cond a (Some y) (cond b (Some x) o) ≡ cond b (Some x) (cond a (Some y) o)
+  apart true true x y o h = absurd (h refl refl)
+  apart true false x y o h = refl
+  apart false b x y o h = refl
 
-apart : (a b : Bool) (x y z : ZoneSum) → (a ≡ true → b ≡ true → ⊥) → cond a y (cond b x z) ≡ cond b x (cond a y z)
-apart true true x y z h = absurd (h refl refl)
-apart true false x y z h = refl
-apart false true x y z h = refl
-apart false false x y z h = refl
+  placed : (o : Ordering) (k : ℕ) (x : ZoneSum) (e : ℕ × ZoneSum) (t others : Table) → nat_cmp k e.0 ≡ o → found others q ≡ cond (is_at (nat_cmp q) k) (Some x) (found t q) →
+      found (match_ordering o ((k, x) ∷ e ∷ t) ((e.0, x) ∷ t) (e ∷ others)) q ≡ cond (is_at (nat_cmp q) k) (Some x) (found (e ∷ t) q)
+  placed Less k x e t others o h = refl
+  placed Equal k x e t others o h = sym (twice (is_at (nat_cmp q) e.0) x e.1 (found t q)) ∙ ap (λ (n : ℕ). cond (is_at (nat_cmp q) n) (Some x) (found (e ∷ t) q)) (sym (equal_keys k e.0 o))
+  placed Greater k x e t others o h =
+      ap (λ (z : Option ZoneSum). cond (is_at (nat_cmp q) e.0) (Some e.1) z) h
+      ∙ apart (is_at (nat_cmp q) e.0) (is_at (nat_cmp q) k) x e.1 (found t q) (λ a b. not_greater e.0 (subst (λ (n : ℕ). nat_cmp n e.0 ≡ Greater) (sym (same_key q k b) ∙ same_key q e.0 a) o))
 
-pub sum_front : (e : ℕ × ZoneSum) (t : Table) (q : ℕ) → sum_at (e ∷ t) q ≡ cond (is_at (nat_cmp q) e.0) e.1 (sum_at t q)
-unfolding sum_at
-sum_front e t q = pick (is_at (nat_cmp q) e.0) e.1 (lookup (is_at (nat_cmp q)) t)
+  found_insert : (t : Table) (k : ℕ) (x : ZoneSum) → found (insert_entry nat_cmp t k x) q ≡ cond (is_at (nat_cmp q) k) (Some x) (found t q)
+  found_insert [] k x = refl
+  found_insert (e ∷ t) k x = placed (nat_cmp k e.0) k x e t (insert_entry nat_cmp t k x) refl (found_insert t k x)
 
-placed : (o : Ordering) (q k : ℕ) (x : ZoneSum) (e : ℕ × ZoneSum) (t others : Table) → nat_cmp k e.0 ≡ o → sum_at others q ≡ cond (is_at (nat_cmp q) k) x (sum_at t q) → sum_at (match_ordering o ((k, x) ∷ e ∷ t) ((e.0, x) ∷ t) (e ∷ others)) q ≡ cond (is_at (nat_cmp q) k) x (sum_at (e ∷ t) q)
-placed Less q k x e t others o h = sum_front (k, x) (e ∷ t) q
-placed Equal q k x e t others o h =
-    sum_front (e.0, x) t q
-    ∙ sym (twice (is_at (nat_cmp q) e.0) x e.1 (sum_at t q))
-    ∙ ap (λ (z : ZoneSum). cond (is_at (nat_cmp q) e.0) x z) (sym (sum_front e t q))
-    ∙ ap (λ (n : ℕ). cond (is_at (nat_cmp q) n) x (sum_at (e ∷ t) q)) (sym (equal_keys k e.0 o))
-placed Greater q k x e t others o h =
-    sum_front e others q
-    ∙ ap (λ (z : ZoneSum). cond (is_at (nat_cmp q) e.0) e.1 z) h
-    ∙ apart (is_at (nat_cmp q) e.0) (is_at (nat_cmp q) k) x e.1 (sum_at t q) (λ a b. not_greater e.0 (subst (λ (n : ℕ). nat_cmp n e.0 ≡ Greater) (sym (same_key q k b) ∙ same_key q e.0 a) o))
-    ∙ ap (λ (z : ZoneSum). cond (is_at (nat_cmp q) k) x z) (sym (sum_front e t q))
+  one_face : (t : Table) (f : Face) (fs : List Face) (b : Bool) → is_at (nat_cmp q) (key_of f.from f.to) ≡ b → plus_flows (found (with_face t f) q) (map (λ f. f.flow) (faces_keyed q fs)) ≡ plus_flows (found t q) (map (λ f. f.flow) (faces_keyed q (f ∷ fs)))
+  unfolding with_face plus_flows faces_keyed sum_at
+  one_face t f fs true h =
+      let k = key_of f.from f.to in
+      rw (found_insert t k (plus_flow (sum_at t k) f.flow), h) (ap (λ (n : ℕ). plus_flows (Some (plus_flow (sum_at t n) f.flow)) (map (λ f. f.flow) (faces_keyed q fs))) (sym (same_key q k h)))
+  one_face t f fs false h =
+      let k = key_of f.from f.to in
+      rw (found_insert t k (plus_flow (sum_at t k) f.flow), h) refl
 
-pub sum_at_insert : (t : Table) (q k : ℕ) (x : ZoneSum) → sum_at (insert_entry nat_cmp t k x) q ≡ cond (is_at (nat_cmp q) k) x (sum_at t q)
-sum_at_insert [] q k x = sum_front (k, x) [] q
-sum_at_insert (e ∷ t) q k x = placed (nat_cmp k e.0) q k x e t (insert_entry nat_cmp t k x) refl (sum_at_insert t q k x)
-
-one_face : (t : Table) (f : Face) (fs : List Face) (q : ℕ) (b : Bool) → is_at (nat_cmp q) (key_of f.from f.to) ≡ b → plus_flows (sum_at (with_face t f) q) (map (λ f. f.flow) (faces_keyed q fs)) ≡ plus_flows (sum_at t q) (map (λ f. f.flow) (faces_keyed q (f ∷ fs)))
-unfolding with_face plus_flows faces_keyed
-one_face t f fs q true h =
-    let k = key_of f.from f.to in
-    rw (sum_at_insert t q k (plus_flow (sum_at t k) f.flow), h) (ap (λ (n : ℕ). plus_flows (plus_flow (sum_at t n) f.flow) (map (λ f. f.flow) (faces_keyed q fs))) (sym (same_key q k h)))
-one_face t f fs q false h =
-    let k = key_of f.from f.to in
-    rw (sum_at_insert t q k (plus_flow (sum_at t k) f.flow), h) refl
-
-nothing : (t : Table) (q : ℕ) → sum_at t q ≡ plus_flows (sum_at t q) (map (λ f. f.flow) (faces_keyed q []))
-unfolding plus_flows faces_keyed
-nothing t q = refl
-
-pub table_sums : (t : Table) (fs : List Face) (q : ℕ) → sum_at (with_faces t fs) q ≡ plus_flows (sum_at t q) (map (λ f. f.flow) (faces_keyed q fs))
-unfolding with_faces
-table_sums t [] q = nothing t q
-table_sums t (f ∷ fs) q = table_sums (with_face t f) fs q ∙ one_face t f fs q (is_at (nat_cmp q) (key_of f.from f.to)) refl
+  pub found_faces : (t : Table) (fs : List Face) → found (with_faces t fs) q ≡ plus_flows (found t q) (map (λ f. f.flow) (faces_keyed q fs))
+  unfolding with_faces plus_flows faces_keyed
+  found_faces t [] = refl
+  found_faces t (f ∷ fs) = found_faces (with_face t f) fs ∙ one_face t f fs (is_at (nat_cmp q) (key_of f.from f.to)) refl
 
 cap_below : (limit a b : ℤ) → int_min (a +ℤ b) limit ≤ℤ limit
 cap_below limit a b = omega (arith, ints, clamps)
@@ -87,7 +70,7 @@ split : (dir : Dir) (s x : TermPair) (xs : List TermPair) → capped (plus_pair 
 split dir s x xs = capped_twice s (part dir x) (parts dir xs) (parts_lo dir xs) (parts_hi dir xs) ∙ ap (λ (z : TermPair). capped (plus_pair s z)) (sym (front_part dir x xs))
 
 -- The sums of a list of flows are what they bring in and what they take out, each standing still at 2^126.
-pub flows_are_parts : (s : ZoneSum) (xs : List TermPair) → IsZoneSum s → plus_flows s xs ≡ record { into = capped (plus_pair s.into (parts In xs)); out = capped (plus_pair s.out (parts Out xs)) }
+pub flows_are_parts : (s : ZoneSum) (xs : List TermPair) → IsZoneSum s → plus_flows (Some s) xs ≡ Some (record { into = capped (plus_pair s.into (parts In xs)); out = capped (plus_pair s.out (parts Out xs)) })
 unfolding plus_flows
 flows_are_parts s [] h = rw (nothing_more In s.into h.into, nothing_more Out s.out h.out) refl
 flows_are_parts s (x ∷ xs) h =

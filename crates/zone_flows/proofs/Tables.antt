@@ -1,10 +1,10 @@
 -- Tables of sums.
 use Rattle.zone_flows.proofs.Common.{◌≡◌, ℕ, ◌+◌, ◌<◌, ◌≤◌, ◌++◌, length, get_or, drop, drop-cons, add-one, sym, ap, subst, ◌∙◌, Bool, true, false, cond, refl}
-use Rattle.zone_flows.proofs.Common.{arith, List, [], ◌∷◌, pos, Some, ints, All-cons, All-head, All-tail, Ordering, Less, Equal, Greater, insert_entry, is_at}
-use Rattle.zone_flows.proofs.Common.{flat_map, drop_all, lookup, unwrap_or, nat_cmp, match_ordering, IsSum, ZoneSum, Face, IsTable, IsZoneSum, Table, no_flows}
-use Rattle.zone_flows.proofs.Common.{sum_at, with_face, with_faces}
+use Rattle.zone_flows.proofs.Common.{arith, List, [], ◌∷◌, pos, Some, ints, All-head, All-tail, insert_entry, is_at, flat_map, drop_all, lookup, nat_cmp, IsSum}
+use Rattle.zone_flows.proofs.Common.{ZoneSum, Face, IsTable, IsZoneSum, Table, no_flows, sum_at, with_face, with_faces, values_of, All-values-insert_entry}
+use Rattle.std.specs.Option.{unwrap_or}
 
-none_is_sum : IsZoneSum no_flows
+pub none_is_sum : IsZoneSum no_flows
 none_is_sum = record { into = zero; out = zero }
   where
     zero : IsSum (record { lo = pos 0; hi = pos 0 })
@@ -18,19 +18,10 @@ chosen false x t q h k = k
 pub sum_in_table : (t : Table) (q : ℕ) → IsTable t → IsZoneSum (sum_at t q)
 unfolding sum_at
 sum_in_table [] q h = none_is_sum
-sum_in_table (e ∷ t) q h = chosen (is_at (nat_cmp q) e.0) e.1 t q (All-head (λ (e : ℕ × ZoneSum). IsZoneSum e.1) e t h) (sum_in_table t q (All-tail (λ (e : ℕ × ZoneSum). IsZoneSum e.1) e t h))
-
-placed : (o : Ordering) (q : ℕ) (x : ZoneSum) (e : ℕ × ZoneSum) (t others : Table) → IsZoneSum x → IsZoneSum e.1 → IsTable t → IsTable others → IsTable (match_ordering o ((q, x) ∷ e ∷ t) ((e.0, x) ∷ t) (e ∷ others))
-placed Less q x e t others h k i j = All-cons (λ (e : ℕ × ZoneSum). IsZoneSum e.1) (q, x) (e ∷ t) h (All-cons (λ (e : ℕ × ZoneSum). IsZoneSum e.1) e t k i)
-placed Equal q x e t others h k i j = All-cons (λ (e : ℕ × ZoneSum). IsZoneSum e.1) (e.0, x) t h i
-placed Greater q x e t others h k i j = All-cons (λ (e : ℕ × ZoneSum). IsZoneSum e.1) e others k j
+sum_in_table (e ∷ t) q h = chosen (is_at (nat_cmp q) e.0) e.1 t q (All-head IsZoneSum e.1 (values_of t) h) (sum_in_table t q (All-tail IsZoneSum e.1 (values_of t) h))
 
 pub table_grows : (t : Table) (q : ℕ) (x : ZoneSum) → IsTable t → IsZoneSum x → IsTable (insert_entry nat_cmp t q x)
-table_grows [] q x h k = All-cons (λ (e : ℕ × ZoneSum). IsZoneSum e.1) (q, x) [] k h
-table_grows (e ∷ t) q x h k =
-    let front = All-head (λ (e : ℕ × ZoneSum). IsZoneSum e.1) e t h in
-    let rest = All-tail (λ (e : ℕ × ZoneSum). IsZoneSum e.1) e t h in
-    placed (nat_cmp q e.0) q x e t (insert_entry nat_cmp t q x) k front rest (table_grows t q x rest k)
+table_grows t q x h is = All-values-insert_entry nat_cmp q x IsZoneSum t h is
 
 pub with_faces-append : (t : Table) (xs ys : List Face) → with_faces t (xs ++ ys) ≡ with_faces (with_faces t xs) ys
 unfolding with_faces

@@ -1,7 +1,7 @@
 -- The sums for each pair of zones, in order of the pairs. The pair a, b has the key 1000 * a + b.
-use Rattle.std.specs.Prelude.{ℕ, ◌+◌, ◌*◌, List, [], ◌∷◌, All, pos, ◌/◌, ◌%◌, Bool, ◌&&◌, if◌then◌else◌, ◌+ℤ◌, ◌-ℤ◌, Result, Ok, Err}
+use Rattle.std.specs.Prelude.{ℕ, ◌+◌, ◌*◌, List, [], ◌∷◌, All, pos, ◌/◌, ◌%◌, Bool, ◌&&◌, if◌then◌else◌, ◌+ℤ◌, ◌-ℤ◌, Result, Ok, Err, Option, Some}
 use Rattle.std.specs.BTreeMap.{insert_entry, is_at}
-use Rattle.std.specs.Map.{lookup}
+use Rattle.std.specs.Map.{lookup, values_of}
 use Rattle.std.specs.List.{filter}
 use Rattle.std.specs.Option.{unwrap_or}
 use Rattle.std.specs.Ordering.{nat_cmp}
@@ -34,14 +34,18 @@ abbrev pub Table : Type 0
 Table = List (ℕ × ZoneSum)
 
 abbrev pub IsTable : Table → Type 0
-IsTable t = All (λ e. IsZoneSum e.1) t
+IsTable t = All IsZoneSum (values_of t)
 
 abbrev pub key_of : ℕ → ℕ → ℕ
 key_of a b = a * 1000 + b
 
--- the sums of the pair with this key
+-- the sums of the pair with this key, if it has any
+abbrev pub found : Table → ℕ → Option ZoneSum
+found t q = lookup (is_at (nat_cmp q)) t
+
+-- and those of a pair that may have none
 unfoldable pub sum_at : Table → ℕ → ZoneSum
-sum_at t q = unwrap_or (lookup (is_at (nat_cmp q)) t) no_flows
+sum_at t q = unwrap_or (found t q) no_flows
 
 unfoldable pub with_face : Table → Face → Table
 with_face t f = insert_entry nat_cmp t (key_of f.from f.to) (plus_flow (sum_at t (key_of f.from f.to)) f.flow)
@@ -51,9 +55,9 @@ with_faces t [] = t
 with_faces t (f ∷ fs) = with_faces (with_face t f) fs
 
 -- the sums after all these flows
-unfoldable pub plus_flows : ZoneSum → List TermPair → ZoneSum
+unfoldable pub plus_flows : Option ZoneSum → List TermPair → Option ZoneSum
 plus_flows s [] = s
-plus_flows s (x ∷ xs) = plus_flows (plus_flow s x) xs
+plus_flows s (x ∷ xs) = plus_flows (Some (plus_flow (unwrap_or s no_flows) x)) xs
 
 -- the faces between the pair with this key
 unfoldable pub faces_keyed : ℕ → List Face → List Face

@@ -53,40 +53,16 @@ fn links_in_range(links: &[Link]) -> bool
     links.iter().all(link_fits)
 }
 
-fn fixed_in_range(fixed: &[Fixed]) -> bool
-    ensures { IsTrue result ↔ All FixedFits fixed.now }
-{
-    fixed.iter().all(fixed_fits)
-}
-
-fn rivers_in_range(rivers: &[River]) -> bool
-    ensures { IsTrue result ↔ All RiverFits rivers.now }
-{
-    rivers.iter().all(river_fits)
-}
-
-fn drains_in_range(drains: &[Drain]) -> bool
-    ensures { IsTrue result ↔ All DrainFits drains.now }
-{
-    drains.iter().all(drain_fits)
-}
-
-fn evaps_in_range(evaps: &[Evap]) -> bool
-    ensures { IsTrue result ↔ All EvapFits evaps.now }
-{
-    evaps.iter().all(evap_fits)
-}
-
 fn sources_in_range(fixed: &[Fixed], rivers: &[River]) -> bool
     ensures { IsTrue result ↔ (All FixedFits fixed.now × All RiverFits rivers.now) }
 {
-    fixed_in_range(fixed) && rivers_in_range(rivers)
+    fixed.iter().all(fixed_fits) && rivers.iter().all(river_fits)
 }
 
 fn sinks_in_range(drains: &[Drain], evaps: &[Evap]) -> bool
     ensures { IsTrue result ↔ (All DrainFits drains.now × All EvapFits evaps.now) }
 {
-    drains_in_range(drains) && evaps_in_range(evaps)
+    drains.iter().all(drain_fits) && evaps.iter().all(evap_fits)
 }
 
 pub(crate) fn in_range(

@@ -8,10 +8,10 @@ loop-c-preserved c =
     let l = lower_at c.args.bounds.now in
     let u = upper_at c.args.bounds.now in
     record {
-      into = λ t. one_more p l u In t c.loop-c.c _ _ (c.loop-c.invariant.into t) (rw c.cell-cell.ensures at c.with_cell-into.ensures.value t);
-      into_sums = c.with_cell-into.ensures.sums;
-      out = λ t. one_more p l u Out t c.loop-c.c _ _ (c.loop-c.invariant.out t) (rw c.cell-cell.ensures at c.with_cell-out.ensures.value t);
-      out_sums = c.with_cell-out.ensures.sums;
+      into = λ t. one_more p l u In t c.loop-c.c _ _ (c.loop-c.invariant.into t) (rw c.cell-cell.ensures at (c.add_cell.ensures.value t));
+      into_sums = c.add_cell.ensures.sums;
+      out = λ t. one_more p l u Out t c.loop-c.c _ _ (c.loop-c.invariant.out t) (rw c.cell-cell.ensures at (c.add_cell-in-loop-c.ensures.value t));
+      out_sums = c.add_cell-in-loop-c.ensures.sums;
     }
 
 pub returns-clause-into : goal.returns-clause-into

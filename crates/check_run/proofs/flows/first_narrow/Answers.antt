@@ -1,5 +1,5 @@
 use Rattle.std.proofs.Common.{◌<◌, length, arith}
-use Rattle.check_run.proofs.Narrow.{same_zones_at}
+use Rattle.check_run.proofs.Firsts.{same_zones_at}
 use Rattle.check_run.proofs.flows.first_narrow.Goals as goal
 
 pub covers-requires : goal.covers-requires

@@ -1,5 +1,5 @@
 use Rattle.std.proofs.Common.{drop}
-use Rattle.check_run.proofs.Narrow.{GoesOn}
+use Rattle.check_run.proofs.Firsts.{GoesOn}
 use Rattle.check_run.proofs.flows.first_narrow.Given as goal
 
 abbrev pub invariant-loop-place : goal.invariant-loop-place

@@ -1,5 +1,5 @@
 use Rattle.listing_io.proofs.Common.{option_map, pairs_in}
-use Rattle.listing_io.proofs.Kept.{listed_is}
+use Rattle.listing_io.proofs.Steps.{listed_is}
 use Rattle.listing_io.proofs.listing_reader.read_listing.Goals as goal
 
 pub returns-in-Ok-clause-listed : goal.returns-in-Ok-clause-listed

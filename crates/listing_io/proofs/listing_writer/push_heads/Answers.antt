@@ -1,11 +1,26 @@
-use Rattle.listing_io.proofs.Common.{◌<◌, arith, length, no_bound}
-use Rattle.listing_io.proofs.Walks.{cell_written, cells_written}
+use Rattle.listing_io.proofs.Common.{◌≡◌, ◌++◌, ◌+◌, ◌-◌, ◌<◌, ℕ, List, [], refl, subst, arith, drop, each_lines, get_or, length, no_bound, range_with_len}
+use Rattle.listing_io.proofs.Common.{text_of, head_lines, Bound}
+use Rattle.listing_io.proofs.Walks.{all_written, cells_next, lines_written, next_of, no_cells}
+use Rattle.listing_io.proofs.Terms.{cell_lines}
 use Rattle.listing_io.proofs.listing_writer.push_heads.Goals as goal
 
 pub loop-cell-preserved : goal.loop-cell-preserved
 loop-cell-preserved c =
-    let lt : c.loop-cell.cell < length c.args.heads.now = omega arith in
-    rw c.in_ok-push_cell.ensures (cell_written c.args.model.now c.args.heads.now c.loop-cell.cell no_bound c.loop-cell.text.items _ lt c.loop-cell.invariant)
+    let bs = c.args.heads.now in
+    let n = length bs in
+    let i = c.loop-cell.cell in
+    let lt : i < n = omega arith in
+    let rows = λ (cs : List ℕ) (hs : List Bound). each_lines (cell_lines c.args.model.now) cs hs in
+    let next : rows (range_with_len i (n - i)) (drop i bs) ≡ cell_lines c.args.model.now i (get_or bs i no_bound) ++ rows (range_with_len (i + 1) (n - (i + 1))) (drop (i + 1) bs) = rw (cells_next n i lt, next_of bs i no_bound lt) refl in
+    rw c.in_ok-push_cell.ensures (lines_written c.loop-cell.text.items _ (rows (range_with_len i (n - i)) (drop i bs)) c.loop-cell.invariant _ _ next)
 
 pub returns : goal.returns
-returns c = cells_written c.args.model.now c.args.heads.now c.loop-cell.cell c.loop-cell.text.items _ (omega arith) c.loop-cell.invariant
+unfolding head_lines
+returns c =
+    let bs = c.args.heads.now in
+    let n = length bs in
+    let i = c.loop-cell.cell in
+    let rows = λ (cs : List ℕ). each_lines (cell_lines c.args.model.now) cs (drop i bs) in
+    let none : rows (range_with_len i (n - i)) ≡ [] = rw (no_cells n i (omega arith)) refl in
+    let P : ℕ → Type 0 = λ k. c.loop-cell.text.items ≡ c.args.text.now.items ++ text_of (each_lines (cell_lines c.args.model.now) (range_with_len 0 k) bs) in
+    subst P c.requires.heads (all_written c.loop-cell.text.items _ (rows (range_with_len i (n - i))) c.loop-cell.invariant none)

@@ -1,6 +1,6 @@
 use Rattle.listing_io.proofs.Common.{rules, ◌≡◌, ◌++◌, ◌∙◌, ap, cond, List, [], ◌∷◌, slice_index_or, Term, Storage, ConstantHead, Wells, Drains, RiverLeakage}
 use Rattle.listing_io.proofs.Common.{HeadDepBounds, Recharge, Et, no_pair, Line, ended, term_line, text_of, place_of}
-use Rattle.listing_io.proofs.Apart.{seven_joined, line_if}
+use Rattle.listing_io.proofs.Walks.{seven_joined, line_if}
 use Rattle.listing_io.proofs.listing_writer.push_terms.Goals as goal
 
 pub returns : goal.returns

@@ -1,12 +1,12 @@
 use Rattle.listing_io.proofs.Common.{rules, ◌≡◌, ◌++◌, ◌∙◌, [], map, In, Out, ended, head_lines, step_line, step_text, step_lines, term_lines, text_of}
 use Rattle.listing_io.proofs.Common.{zone_line}
-use Rattle.listing_io.proofs.Apart.{step_joined}
+use Rattle.listing_io.proofs.Walks.{step_joined}
 use Rattle.listing_io.proofs.listing_writer.write_step.Goals as goal
 
 pub returns : goal.returns
 unfolding step_text step_lines term_lines
 returns c =
-    let heads = head_lines c.args.model.now 0 c.args.heads.now in
+    let heads = head_lines c.args.model.now c.args.heads.now in
     let into = term_lines c.args.model.now c.args.s In c.args.budget.now in
     let out = term_lines c.args.model.now c.args.s Out c.args.budget.now in
     let zones = map (zone_line c.args.s) c.args.zones.now in

@@ -1,0 +1,231 @@
+-- The branches of a step's problem, and of a hull of two, are those of the first deck's cells; so its faces join the pairs of zones that share a face.
+use Rattle.check_run.proofs.Common.{IsHullOf, fixed_hull, link_hull, fixed_shape, link_shape, ◌≡◌, inl, inr, ℕ, suc, ◌<◌, ◌++◌, ◌⊎◌, Bool, true, false, cond}
+use Rattle.check_run.proofs.Common.{List, [], ◌∷◌, length, get_or, Option, Some, None, refl, sym, ap, ◌∙◌, subst, arith, ℤ, AllZip, flat_map, filter_map}
+use Rattle.check_run.proofs.Common.{nat_lt, slice_index, and_from, and_parts, cases_Bool, leb-true, lt-ltb, nat_tests, Bound, Entries, entries_at, no_entries}
+use Rattle.check_run.proofs.Common.{FlowModel, TimeStep, cell_count, HasSize, is_variable, is_constant, is_active, index_of, variable_cells, FixedSource}
+use Rattle.check_run.proofs.Common.{as_general, constant_faces, fixed_sources, local_entries, storage_at, variable_faces, passing, at_rank, below_is, index_is}
+use Rattle.check_run.proofs.Common.{index_below, IsCellOf, IsFixed, IsLink, IsCellHull, AllThree, next, none, IsProblemBy, Contains-In, In-map, Face, ShareFace}
+use Rattle.check_run.proofs.Common.{cell_faces, face_between, face_from, faces, faces_by_kind, fixed_faces, link_faces, is_lower_zone, ZonePair, share_face}
+use Rattle.check_run.proofs.Common.{joins, face_of, join_of, shares, AllZip-at, AllZip-length, flat-In, IsProblemOf, AllZip-weaker}
+use Rattle.step_problem.specs.declared.entry.Fixed.{Fixed}
+use Rattle.step_problem.specs.declared.entry.FixedKind.TheVariants.{Constant, Storage, General}
+use Rattle.step_problem.specs.declared.entry.Link.{Link}
+use Rattle.model_types.proofs.Members.{In}
+use Rattle.problem_builder.proofs.Members.{In-append, In-variable, variable-In, fixed_source}
+use Rattle.model_types.proofs.Leads.{end_within, face_back, faces_are, faces_have, passing_are, turned, IsFaceOf, passing_have}
+use Rattle.model_types.specs.declared.face.Face.{Face as ModelFace}
+use Rattle.model_types.specs.Sources.FixedSource.{ToConstant, ToGeneral, FromStorage}
+use Rattle.problem_builder.proofs.ActiveCells.{constant_active, variable_active}
+use Rattle.problem_builder.proofs.Zipped.{left_of, right_of}
+use Rattle.std.specs.Option.{option_to_list}
+
+-- Members of lists that are made of others.
+
+left_in : {X : Type 0} (xs ys : List X) (x : X) → In xs x → In (xs ++ ys) x
+left_in [] ys x i = absurd i
+left_in (z ∷ xs) ys x (inl e) = inl e
+left_in (z ∷ xs) ys x (inr i) = inr (left_in xs ys x i)
+
+right_in : {X : Type 0} (xs ys : List X) (x : X) → In ys x → In (xs ++ ys) x
+right_in [] ys x i = i
+right_in (z ∷ xs) ys x i = inr (right_in xs ys x i)
+
+flat_in : {X Y : Type 0} (f : X → List Y) (xs : List X) (x : X) (y : Y) → In xs x → In (f x) y → In (flat_map f xs) y
+flat_in f [] x y i j = absurd i
+flat_in f (z ∷ xs) x y (inl e) j = left_in (f z) (flat_map f xs) y (subst (λ w. In (f w) y) (sym e) j)
+flat_in f (z ∷ xs) x y (inr i) j = right_in (f z) (flat_map f xs) y (flat_in f xs x y i j)
+
+only : (b : Bool) (x y : Face) → In (cond b (x ∷ []) []) y → (b ≡ true) × (x ≡ y)
+only true x y (inl e) = (refl, e)
+only true x y (inr i) = absurd i
+only false x y i = absurd i
+
+-- what holds of the items of a list beside another holds of those of a hull with it
+pub hull_zip : {X Y : Type 0} (H : X → X → X → Type 0) (R : X → Y → Type 0) → ((x y z : X) (w : Y) → H x y z → R x w → R z w) →
+    (xs ys zs : List X) (ws : List Y) → AllThree H xs ys zs → AllZip R xs ws → AllZip R zs ws
+hull_zip H R f xs ys zs [] none k = tt
+hull_zip H R f xs ys zs (w ∷ ws) none k = absurd k
+hull_zip H R f xs ys zs [] (next h hs) k = absurd k
+hull_zip H R f xs ys zs (w ∷ ws) (next h hs) k = (f _ _ _ w h k.0, hull_zip H R f _ _ _ ws hs k.1)
+
+module _ (m : FlowModel) (p : ℕ) where
+  -- a link leads to the cell at a face, and a branch to a known head is of a source
+  abbrev pub LeadsTo : Link → ModelFace → Type 0
+  LeadsTo x f = x.cell ≡ index_of m p f.end
+
+  abbrev pub IsTo : Fixed → FixedSource → Type 0
+  IsTo x (ToConstant f) = (x.kind ≡ Constant) × (x.source ≡ f.end)
+  IsTo x (ToGeneral head k) = x.kind ≡ General
+  IsTo x FromStorage = x.kind ≡ Storage
+
+  -- the branches of a problem's cell are those of the model's
+  pub record HasBranches (e : Entries) (c : ℕ) : Type 0 where
+    pub id : e.id ≡ c
+    pub links : AllZip LeadsTo e.links (variable_faces m p c)
+    pub fixed : AllZip IsTo e.fixed (fixed_sources m p c)
+
+  hull_is_to : (x y z : Fixed) (t : FixedSource) → IsHullOf fixed_shape fixed_hull x y z → IsTo x t → IsTo z t
+  hull_is_to x y z (ToConstant f) h k = (ap (λ (e : Fixed). e.kind) h.is ∙ k.0, ap (λ (e : Fixed). e.source) h.is ∙ k.1)
+  hull_is_to x y z (ToGeneral head conductance) h k = ap (λ (e : Fixed). e.kind) h.is ∙ k
+  hull_is_to x y z FromStorage h k = ap (λ (e : Fixed). e.kind) h.is ∙ k
+
+  hull_branches : (a b r : Entries) (c : ℕ) → IsCellHull a b r → HasBranches a c → HasBranches r c
+  hull_branches a b r c h k = record {
+    id = h.id ∙ k.id;
+    links = hull_zip (IsHullOf link_shape link_hull) LeadsTo (λ x y z f q e. ap (λ (l : Link). l.cell) q.is ∙ e) a.links b.links r.links (variable_faces m p c) h.links k.links;
+    fixed = hull_zip (IsHullOf fixed_shape fixed_hull) IsTo hull_is_to a.fixed b.fixed r.fixed (fixed_sources m p c) h.fixed k.fixed;
+  }
+
+  -- all variable cells, by ascending number
+  abbrev pub HaveBranches : List Entries → Type 0
+  HaveBranches es = AllZip HasBranches es (variable_cells m p)
+
+module _ (m : FlowModel) (s : ℕ) (at : TimeStep) (old : List Bound) (es : List Entries) where
+  of_problem : IsProblemOf m s at old es → HaveBranches m at.period es
+  of_problem is = AllZip-weaker (IsCellOf m is.widths s at old) (HasBranches m at.period) cell_branches es (variable_cells m at.period) is.cells.each
+    where
+      is_to : (c : ℕ) (x : Fixed) (t : FixedSource) → IsFixed m is.widths s at old c x t → IsTo m at.period x t
+      is_to c x (ToConstant f) k = (k.kind, k.source)
+      is_to c x (ToGeneral head conductance) k = k.kind
+      is_to c x FromStorage k = k.kind
+
+      cell_branches : (e : Entries) (c : ℕ) → IsCellOf m is.widths s at old e c → HasBranches m at.period e c
+      cell_branches e c k = record {
+        id = k.id;
+        links = AllZip-weaker (IsLink m is.widths s at) (LeadsTo m at.period) (λ x f l. l.cell) e.links (variable_faces m at.period c) k.links;
+        fixed = AllZip-weaker (IsFixed m is.widths s at old c) (IsTo m at.period) (is_to c) e.fixed (fixed_sources m at.period c) k.fixed;
+      }
+
+pub have_branches : (a : FlowModel) (o : Option FlowModel) (s : ℕ) (at : TimeStep) (old : List Bound) (es : List Entries) → IsProblemBy a o s at old es → HaveBranches a at.period es
+have_branches a None s at old es is = of_problem a s at old es is
+have_branches a (Some b) s at old es is =
+    hull_zip IsCellHull (HasBranches a at.period) (hull_branches a at.period) is.first is.second es (variable_cells a at.period) is.hull (of_problem a s at old is.first is.is_first)
+
+-- the two zones of a face
+abbrev pub zones_of_face : Face → ZonePair
+zones_of_face f = record { from = f.from; to = f.to }
+
+module _ (zones : List ℕ) (l u : ℕ → ℤ) where
+  abbrev zone : ℕ → ℕ
+  zone c = slice_index zones c
+
+  -- z is the pair of the zones of two cells, the lower zone first
+  record Crosses (x y : ℕ) (z : ZonePair) : Type 0 where
+    lower : (0 < z.from) × (z.from < z.to)
+    from : zone x ≡ z.from
+    to : zone y ≡ z.to
+
+  crosses : (x y lo hi c d : ℕ) (f : Face) → x ≡ c → y ≡ d → In (face_from zones l u x y lo hi) f → Crosses c d (zones_of_face f)
+  unfolding face_from
+  crosses x y lo hi c d f e k i =
+      let (t, same) = only (is_lower_zone (zone x) (zone y)) (face_between zones l u x y lo hi) f i in
+      let (a, b) = and_parts (nat_lt 0 (zone x)) (nat_lt (zone x) (zone y)) t in
+      let P : Face → Type 0 = λ g. Crosses c d (zones_of_face g) in
+      subst P same (record { lower = (leb-true 1 (zone x) a, leb-true (suc (zone x)) (zone y) b); from = ap zone (sym e); to = ap zone (sym k) })
+
+  crossed : (x y lo hi c d : ℕ) (z : ZonePair) → x ≡ c → y ≡ d → Crosses c d z → (f : Face) × In (face_from zones l u x y lo hi) f × (f.from ≡ z.from) × (f.to ≡ z.to)
+  unfolding face_from
+  crossed x y lo hi c d z e k h =
+      let from : zone x ≡ z.from = ap zone e ∙ h.from in
+      let to : zone y ≡ z.to = ap zone k ∙ h.to in
+      let above = lt-ltb 0 (zone x) (omega (arith, h.lower, from)) in
+      let below = lt-ltb (zone x) (zone y) (omega (arith, h.lower, from, to)) in
+      let lower : is_lower_zone (zone x) (zone y) ≡ true = and_from (nat_lt 0 (zone x)) (nat_lt (zone x) (zone y)) above below in
+      (face_between zones l u x y lo hi, rw lower (inl refl), from, to)
+
+  module _ (m : FlowModel) (p : ℕ) (size : HasSize m.grid) (es : List Entries) (are : HaveBranches m p es) where
+    -- the cell of the index of a variable cell
+    end_is : (c : ℕ) → is_variable m p c ≡ true → c < cell_count m.grid → (entries_at es (index_of m p c)).id ≡ c
+    end_is c v lt =
+        let k = index_of m p c in
+        let inside : k < length es = omega (arith, index_below m p c v lt, AllZip-length (HasBranches m p) es (variable_cells m p) are) in
+        (AllZip-at (HasBranches m p) es (variable_cells m p) k no_entries 0 are inside).id
+        ∙ ap (λ cs. get_or cs k 0) (below_is m p (cell_count m.grid))
+        ∙ ap (λ i. get_or (passing (is_variable m p) (cell_count m.grid)) i 0) (index_is m p c)
+        ∙ at_rank (is_variable m p) (cell_count m.grid) c v lt
+
+    -- the end of a link through a face
+    link_end : (c : ℕ) (x : Link) (g : ModelFace) → In (variable_cells m p) c → IsFaceOf m.grid c g → is_variable m p g.end ≡ true → LeadsTo m p x g → (entries_at es x.cell).id ≡ g.end
+    link_end c x g i face v e = ap (λ k. (entries_at es k).id) e ∙ end_is g.end v (end_within m.grid c g size (variable-In m p (cell_count m.grid) c i).1 face)
+
+    -- A face joins a pair that share_face names.
+    share : (c : ℕ) (g : ModelFace) (z : ZonePair) → In (variable_cells m p) c → IsFaceOf m.grid c g → is_active m g.end ≡ true → Crosses c g.end z ⊎ Crosses g.end c z → share_face m zones p z ≡ true
+    share c g z i face active h =
+        shares m zones p z (record { cell = c; face = g; variable = i; neighbour = faces_have m.grid c g face; active = active; join = joined h })
+      where
+        joined : Crosses c g.end z ⊎ Crosses g.end c z → joins z (zone c) (zone g.end) ≡ true
+        joined (inl k) = (let a = k.from in let b = k.to in let d = k.lower in grind (arith, nat_tests))
+        joined (inr k) = (let a = k.from in let b = k.to in let d = k.lower in grind (arith, nat_tests))
+
+    fixed_shares : (e : Entries) (c : ℕ) (x : Fixed) (t : FixedSource) (f : Face) → e.id ≡ c → In (variable_cells m p) c → In (fixed_sources m p c) t → IsTo m p x t → In (fixed_faces zones l u e x) f → share_face m zones p (zones_of_face f) ≡ true
+    fixed_shares e c x (ToConstant g) f id i j is k =
+        let (face, constant) = passing_are m.grid (is_constant m p) c g (fixed_source m p c (ToConstant g) j) in
+        share c g (zones_of_face f) i face (constant_active m p g.end constant)
+        (elim (In-append (face_from zones l u e.id x.source x.lo x.hi) (face_from zones l u x.source e.id x.lo x.hi) f (subst (λ kind. In (faces_by_kind zones l u kind e.id x.source x.lo x.hi) f) is.0 k)) [
+          | inl n ↦ inl (crosses e.id x.source x.lo x.hi c g.end f id is.1 n)
+          | inr n ↦ inr (crosses x.source e.id x.lo x.hi g.end c f is.1 id n)
+        ])
+    fixed_shares e c x (ToGeneral head conductance) f id i j is k = absurd (subst (λ kind. In (faces_by_kind zones l u kind e.id x.source x.lo x.hi) f) is k)
+    fixed_shares e c x FromStorage f id i j is k = absurd (subst (λ kind. In (faces_by_kind zones l u kind e.id x.source x.lo x.hi) f) is k)
+
+    pub face_shares : (f : Face) → In (faces zones l u es) f → share_face m zones p (zones_of_face f) ≡ true
+    unfolding faces cell_faces
+    face_shares f i =
+        let (e, j, k) = flat-In (cell_faces zones l u es) es f i in
+        let (c, v, is) = left_of (HasBranches m p) es (variable_cells m p) e are j in
+        elim (In-append (flat_map (link_faces zones l u es e) e.links) (flat_map (fixed_faces zones l u e) e.fixed) f k) [
+          | inl n ↦
+              (let (x, a, b) = flat-In (link_faces zones l u es e) e.links f n in
+              let (g, d, leads) = left_of (LeadsTo m p) e.links (variable_faces m p c) x is.links a in
+              let (face, variable) = passing_are m.grid (is_variable m p) c g d in
+              share c g (zones_of_face f) v face (variable_active m p g.end variable) (inl (crosses e.id (entries_at es x.cell).id x.lo x.hi c g.end f is.id (link_end c x g v face variable leads) b)))
+          | inr n ↦
+              (let (x, a, b) = flat-In (fixed_faces zones l u e) e.fixed f n in
+              let (t, d, to) = left_of (IsTo m p) e.fixed (fixed_sources m p c) x is.fixed a in
+              fixed_shares e c x t f is.id v d to b)
+        ]
+
+    -- A pair that share_face names has a face.
+    link_has : (c : ℕ) (g : ModelFace) (z : ZonePair) → In (variable_cells m p) c → IsFaceOf m.grid c g → is_variable m p g.end ≡ true → Crosses c g.end z → ShareFace (faces zones l u es) z.from z.to
+    unfolding faces cell_faces
+    link_has c g z i face variable h =
+        let (e, j, is) = right_of (HasBranches m p) es (variable_cells m p) c are i in
+        let (x, k, leads) = right_of (LeadsTo m p) e.links (variable_faces m p c) g is.links (passing_have m.grid (is_variable m p) c g face variable) in
+        let (f, n, from, to) = crossed e.id (entries_at es x.cell).id x.lo x.hi c g.end z is.id (link_end c x g i face variable leads) h in
+        let among = left_in (flat_map (link_faces zones l u es e) e.links) (flat_map (fixed_faces zones l u e) e.fixed) f (flat_in (link_faces zones l u es e) e.links x f k n) in
+        record { face = f; stands = Contains-In (faces zones l u es) f (flat_in (cell_faces zones l u es) es e f j among); from = from; to = to }
+
+    fixed_has : (c : ℕ) (g : ModelFace) (z : ZonePair) → In (variable_cells m p) c → IsFaceOf m.grid c g → is_constant m p g.end ≡ true → Crosses c g.end z ⊎ Crosses g.end c z → ShareFace (faces zones l u es) z.from z.to
+    unfolding faces cell_faces
+    fixed_has c g z i face constant h =
+        let (e, j, is) = right_of (HasBranches m p) es (variable_cells m p) c are i in
+        let source = left_in _ (filter_map as_general (local_entries m p c)) (ToConstant g) (right_in (option_to_list (storage_at m p)) _ (ToConstant g) (In-map ToConstant (constant_faces m p c) g (passing_have m.grid (is_constant m p) c g face constant))) in
+        let (x, k, to) = right_of (IsTo m p) e.fixed (fixed_sources m p c) (ToConstant g) is.fixed source in
+        let ahead = face_from zones l u e.id x.source x.lo x.hi in
+        let back = face_from zones l u x.source e.id x.lo x.hi in
+        let (f, n, ends) = either e c x g z is.id to.1 h in
+        let among = right_in (flat_map (link_faces zones l u es e) e.links) (flat_map (fixed_faces zones l u e) e.fixed) f (flat_in (fixed_faces zones l u e) e.fixed x f k (subst (λ kind. In (faces_by_kind zones l u kind e.id x.source x.lo x.hi) f) (sym to.0) n)) in
+        record { face = f; stands = Contains-In (faces zones l u es) f (flat_in (cell_faces zones l u es) es e f j among); from = ends.0; to = ends.1 }
+      where
+        either : (e : Entries) (c : ℕ) (x : Fixed) (g : ModelFace) (z : ZonePair) → e.id ≡ c → x.source ≡ g.end → Crosses c g.end z ⊎ Crosses g.end c z →
+            (f : Face) × In (face_from zones l u e.id x.source x.lo x.hi ++ face_from zones l u x.source e.id x.lo x.hi) f × ((f.from ≡ z.from) × (f.to ≡ z.to))
+        either e c x g z id to (inl h) = let (f, n, a, b) = crossed e.id x.source x.lo x.hi c g.end z id to h in (f, left_in (face_from zones l u e.id x.source x.lo x.hi) (face_from zones l u x.source e.id x.lo x.hi) f n, (a, b))
+        either e c x g z id to (inr h) = let (f, n, a, b) = crossed x.source e.id x.lo x.hi g.end c z to id h in (f, right_in (face_from zones l u e.id x.source x.lo x.hi) (face_from zones l u x.source e.id x.lo x.hi) f n, (a, b))
+
+    pub shared_has : (z : ZonePair) → share_face m zones p z ≡ true → ShareFace (faces zones l u es) z.from z.to
+    shared_has z t =
+        let s = face_of m zones p z t in
+        let c = s.cell in
+        let g = s.face in
+        let join = join_of z (zone c) (zone g.end) s.join in
+        let (v, within) = variable-In m p (cell_count m.grid) c s.variable in
+        let face = faces_are m.grid c g s.neighbour in
+        let end = end_within m.grid c g size within face in
+        elim (cases_Bool (is_variable m p g.end)) [
+          | inl variable ↦ (elim join.ends [
+            | inl (a, b) ↦ link_has c g z s.variable face variable (record { lower = join.zones; from = a; to = b })
+            | inr (a, b) ↦ link_has g.end (turned c g) z (In-variable m p (cell_count m.grid) g.end variable end) (face_back m.grid c g size face) v (record { lower = join.zones; from = b; to = a })
+          ])
+          | inr other ↦ fixed_has c g z s.variable face (rw (s.active, other) refl)
+              (elim join.ends [ inl (a, b) ↦ inl (record { lower = join.zones; from = a; to = b }) | inr (a, b) ↦ inr (record { lower = join.zones; from = b; to = a }) ])
+        ]
