@@ -2,7 +2,7 @@
 use Rattle.command_line.proofs.Common.{◌≡◌, ℕ, ◌≤◌, Bool, true, false, cond, List, [], ◌∷◌, Option, Some, None, codes, refl, subst, arith, bytes_eq}
 use Rattle.command_line.proofs.Common.{digits_value, leb-true, and_parts, Text, Row, Kinds, fault_of, subcommand_of, first_of, heads_app, is_number, number_in}
 use Rattle.command_line.proofs.Common.{number_or, Wanted, Checks, batch_in, write_in, check_in, command_in, digits_in, make_in, rounds_in, run_in, wanted_if}
-use Rattle.command_line.proofs.Common.{wanted_of, watch_in, workers_in, checks_to, lists_to, ChecksTo, flag_in, unwatched}
+use Rattle.command_line.proofs.Common.{wanted_of, watch_in, workers_in, flag_in, unwatched}
 use Rattle.std.specs.Prelude.{◌&&◌, if◌then◌else◌, decimal, nat_le, option_and_then}
 
 -- a number that was taken is one of its range
@@ -21,8 +21,7 @@ few (Some text) n e =
 
 -- a check has at most 18
 abbrev Fits : Option Wanted → Type 0
-Fits (Some (Checks name listing digits zones wide)) = digits ≤ 18
-Fits (Some (ChecksTo name to listing digits zones wide)) = digits ≤ 18
+Fits (Some (Checks name to listing digits zones wide)) = digits ≤ 18
 Fits other = Unit {0}
 
 then_fits : {A : Type 0} (x : Option A) (f : A → Option Wanted) → ((a : A) → x ≡ Some a → Fits (f a)) → Fits (option_and_then f x)
@@ -33,22 +32,13 @@ cond_fits : (test : Bool) (x y : Option Wanted) → Fits x → Fits y → Fits (
 cond_fits true x y h k = h
 cond_fits false x y h k = k
 
--- a listing is no check, whether of one model or of every model between two
-lists_fit : (to : Option Text) (name : Text) (digits workers rounds : ℕ) (zones : Option Text) (turns : Option ℕ) (quick wide : Bool) → Fits (Some (lists_to to name digits workers rounds zones turns quick wide))
-lists_fit None name digits workers rounds zones turns quick wide = tt
-lists_fit (Some to) name digits workers rounds zones turns quick wide = tt
-
-checks_fit : (to : Option Text) (name listing : Text) (digits : ℕ) (zones : Option Text) (wide : Bool) → digits ≤ 18 → Fits (Some (checks_to to name listing digits zones wide))
-checks_fit None name listing digits zones wide h = h
-checks_fit (Some to) name listing digits zones wide h = h
-
 run_fits : (rows : List Row) → Fits (run_in rows)
 run_fits rows =
-    then_fits (first_of (codes "name") rows) _ (λ name a. then_fits (digits_in rows) _ (λ digits b. then_fits (workers_in rows) _ (λ workers c. then_fits (rounds_in rows) _ (λ rounds d. then_fits (watch_in rows) _ (λ turns e. then_fits (unwatched turns (flag_in (codes "quick") rows)) _ (λ quick f. lists_fit (first_of (codes "to") rows) name digits workers rounds (first_of (codes "zones") rows) turns quick (flag_in (codes "wide") rows)))))))
+    then_fits (first_of (codes "name") rows) _ (λ name a. then_fits (digits_in rows) _ (λ digits b. then_fits (workers_in rows) _ (λ workers c. then_fits (rounds_in rows) _ (λ rounds d. then_fits (watch_in rows) _ (λ turns e. then_fits (unwatched turns (flag_in (codes "quick") rows)) _ (λ quick f. tt))))))
 
 check_fits : (rows : List Row) → Fits (check_in rows)
 check_fits rows =
-    then_fits (first_of (codes "name") rows) _ (λ name a. then_fits (first_of (codes "listing") rows) _ (λ listing b. then_fits (digits_in rows) _ (λ digits c. checks_fit (first_of (codes "to") rows) name listing digits (first_of (codes "zones") rows) (flag_in (codes "wide") rows) (few (first_of (codes "digits") rows) digits c))))
+    then_fits (first_of (codes "name") rows) _ (λ name a. then_fits (first_of (codes "listing") rows) _ (λ listing b. then_fits (digits_in rows) _ (λ digits c. (few (first_of (codes "digits") rows) digits c))))
 
 make_fits : (rows : List Row) → Fits (make_in rows)
 make_fits rows =
@@ -73,9 +63,5 @@ found_fits : (faults : Kinds) (found : Option (Text × List Row)) → Fits (want
 found_fits [] found = then_fits found (λ p. command_in p.0 p.1) (λ p e. command_fits p.0 p.1)
 found_fits (fault ∷ faults) found = tt
 
-pub check_digits : (words : List Text) (name listing : Text) (digits : ℕ) (zones : Option Text) {wide : Bool} → wanted_of words ≡ Some (Checks name listing digits zones wide) → digits ≤ 18
-check_digits words name listing digits zones e = subst Fits e (found_fits (fault_of heads_app words) (subcommand_of heads_app words))
-
--- and so has the check of a listing of two decks
-pub check_to_digits : (words : List Text) (name to listing : Text) (digits : ℕ) (zones : Option Text) {wide : Bool} → wanted_of words ≡ Some (ChecksTo name to listing digits zones wide) → digits ≤ 18
-check_to_digits words name to listing digits zones e = subst Fits e (found_fits (fault_of heads_app words) (subcommand_of heads_app words))
+pub check_digits : (words : List Text) (name : Text) (to : Option Text) (listing : Text) (digits : ℕ) (zones : Option Text) {wide : Bool} → wanted_of words ≡ Some (Checks name to listing digits zones wide) → digits ≤ 18
+check_digits words name to listing digits zones e = subst Fits e (found_fits (fault_of heads_app words) (subcommand_of heads_app words))

@@ -27,15 +27,12 @@ infixl 10 ◌>>=◌
 abbrev ◌>>=◌ : {A B : Type 0} → Option A → (A → Option B) → Option B
 x >>= f = option_and_then f x
 
--- A listing of a model: its name file, digits, workers, rounds, zone file, turns of the watching seat, and whether its pairs
--- may be any certificates. A check: name file, listing, digits, zone file. Both for every model between two: the second name
--- file comes after the first. A made model: seed, size. A batch of models: list, digits, workers, rounds, and whether its pairs
+-- A listing of a model: its name file, a second one if it is of every model between two, digits, workers, rounds, zone file, turns of
+-- the watching seat, and whether its pairs may be any certificates. A check: the name files, listing, digits, zone file. A made model: seed, size. A batch of models: list, digits, workers, rounds, and whether its pairs
 -- may be any certificates. A model's deck: its name file. All but a made model last: whether the limits are wide.
 pub data Wanted : Type 0 where
-  Lists : Text → ℕ → ℕ → ℕ → Option Text → Option ℕ → Bool → Bool → Wanted
-  ListsTo : Text → Text → ℕ → ℕ → ℕ → Option Text → Option ℕ → Bool → Bool → Wanted
-  Checks : Text → Text → ℕ → Option Text → Bool → Wanted
-  ChecksTo : Text → Text → Text → ℕ → Option Text → Bool → Wanted
+  Lists : Text → Option Text → ℕ → ℕ → ℕ → Option Text → Option ℕ → Bool → Bool → Wanted
+  Checks : Text → Option Text → Text → ℕ → Option Text → Bool → Wanted
   Makes : ℕ → ℕ → Wanted
   Batches : Text → ℕ → ℕ → ℕ → Bool → Bool → Wanted
   Writes : Text → Bool → Wanted
@@ -67,15 +64,6 @@ abbrev pub unwatched : Option ℕ → Bool → Option Bool
 unwatched (Some turns) true = None
 unwatched turns quick = Some quick
 
--- a listing and a check, of one model or of every model between two
-abbrev pub lists_to : Option Text → Text → ℕ → ℕ → ℕ → Option Text → Option ℕ → Bool → Bool → Wanted
-lists_to None name digits workers rounds zones turns quick wide = Lists name digits workers rounds zones turns quick wide
-lists_to (Some to) name digits workers rounds zones turns quick wide = ListsTo name to digits workers rounds zones turns quick wide
-
-abbrev pub checks_to : Option Text → Text → Text → ℕ → Option Text → Bool → Wanted
-checks_to None name listing digits zones wide = Checks name listing digits zones wide
-checks_to (Some to) name listing digits zones wide = ChecksTo name to listing digits zones wide
-
 -- what the words after a command ask for, by the values that they give to its arguments
 abbrev pub run_in : List Row → Option Wanted
 run_in rows = do
@@ -85,14 +73,14 @@ run_in rows = do
   rounds ← rounds_in rows
   turns ← watch_in rows
   quick ← unwatched turns (flag_in (codes "quick") rows)
-  Some (lists_to (first_of (codes "to") rows) name digits workers rounds (first_of (codes "zones") rows) turns quick (flag_in (codes "wide") rows))
+  Some (Lists name (first_of (codes "to") rows) digits workers rounds (first_of (codes "zones") rows) turns quick (flag_in (codes "wide") rows))
 
 abbrev pub check_in : List Row → Option Wanted
 check_in rows = do
   name ← first_of (codes "name") rows
   listing ← first_of (codes "listing") rows
   digits ← digits_in rows
-  Some (checks_to (first_of (codes "to") rows) name listing digits (first_of (codes "zones") rows) (flag_in (codes "wide") rows))
+  Some (Checks name (first_of (codes "to") rows) listing digits (first_of (codes "zones") rows) (flag_in (codes "wide") rows))
 
 abbrev pub make_in : List Row → Option Wanted
 make_in rows = do
@@ -134,8 +122,8 @@ wanted_of words = wanted_if (fault_of heads_app words) (subcommand_of heads_app 
 -- what an order asks for
 abbrev pub wanted : Order → Wanted
 wanted (order.Run name to digits workers rounds zones watch quick wide) =
-    lists_to (option_map (λ t. t.now) to) name.now digits workers rounds (option_map (λ z. z.now) zones) watch quick wide
-wanted (order.Check name to listing digits zones wide) = checks_to (option_map (λ t. t.now) to) name.now listing.now digits (option_map (λ z. z.now) zones) wide
+    Lists name.now (option_map (λ t. t.now) to) digits workers rounds (option_map (λ z. z.now) zones) watch quick wide
+wanted (order.Check name to listing digits zones wide) = Checks name.now (option_map (λ t. t.now) to) listing.now digits (option_map (λ z. z.now) zones) wide
 wanted (order.Make seed size) = Makes seed size
 wanted (order.Batch list digits workers rounds quick wide) = Batches list.now digits workers rounds quick wide
 wanted (order.Write name wide) = Writes name.now wide

@@ -1,10 +1,8 @@
 -- The jobs of a batch, name by name, and what the reading of its list gives.
 use Rattle.engine.proofs.Common.{◌≡◌, ℕ, ◌+◌, ◌<◌, List, [], ◌∷◌, ◌++◌, length, take, get_or, Result, Ok, Err, Option, Some, None, IfOk, IfSome, sym, ap, refl}
 use Rattle.engine.proofs.Common.{◌∙◌, map-append, take_more, All-push, FileSet, InputFault, Refusal, IsReading, file_at, IsGoodName, input_fault, TextFault}
-use Rattle.engine.proofs.Common.{names_in, StopsText, FlowModel, IsModel, reads, Text, IsTask, Task, Job, AskedBatch, IsSomeJob, job_of, names_at, task_read}
-use Rattle.engine.proofs.Common.{IsNamedFault, AreJobsRead, AreTasks, HasNames, IsJobRead}
-use Rattle.std.specs.declared.vec.Vec.{Vec}
-use Rattle.std.specs.declared.alloc.Global.{Global}
+use Rattle.engine.proofs.Common.{names_in, StopsText, FlowModel, IsModel, Text, IsTask, Task, Job, IsNamedFault, AreJobsRead, AreTasks, HasNames, IsJobRead}
+use Rattle.engine.proofs.Common.{Vec, Global, AskedBatch, IsSomeJob, job_of, names_at, task_read, reads}
 use Rattle.engine.proofs.Readings.{bad_named, good_named}
 use Rattle.outside.specs.declared.inputs.InputFault.TheVariants as input
 use Rattle.outside.specs.declared.inputs.TextFault.TheVariants as texts

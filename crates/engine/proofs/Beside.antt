@@ -1,49 +1,46 @@
 -- The public clauses of a run beside which a side sink is led.
 use Rattle.engine.proofs.Common.{◌≡◌, ℕ, List, [], ◌∷◌, ◌++◌, Option, Some, None, IfSome, ap, sym, subst, refl, ◌∙◌, inl, inr, ◌⊎◌, option_and_then, Rose}
-use Rattle.engine.proofs.Common.{FileSet, Put, PutsMake, Seen, InputFault, Lists, ListsTo, Wanted, wanted_of, IsLast, Text, read_fault_line, Begins, IsRun}
-use Rattle.engine.proofs.Common.{all_due, cut, early, nothing, whole, Status, late_not_ok, tail_late, AreDecks, Task, IsCutListing, IsListing, IsListingBeside}
-use Rattle.engine.proofs.Common.{left, listed, wanting_not_ok, AskedBatch, views_of, BatchComes, BatchDecided, Case, Command, IsCase, Make, Run, asked_in}
-use Rattle.engine.proofs.Common.{built, Made, Answers, AnswersBeside, IsReadingEnd, Comes, Decided, IsLeft, IsWatched, SidePuts, ViewPutsOf, Watched}
-use Rattle.engine.proofs.Common.{views_asked, views_in, IsListingOf, Span, CutOf}
+use Rattle.engine.proofs.Common.{FileSet, Put, PutsMake, Seen, InputFault, Lists, Wanted, IsLast, Text, read_fault_line, Begins, IsRun, all_due, cut, early}
+use Rattle.engine.proofs.Common.{nothing, whole, Status, late_not_ok, tail_late, AreDecks, Task, IsCutListing, IsListing, IsListingBeside, left, listed}
+use Rattle.engine.proofs.Common.{wanting_not_ok, views_of, Case, Command, IsCase, Make, Run, asked_in, Made, Answers, AnswersBeside, IsReadingEnd, Comes}
+use Rattle.engine.proofs.Common.{Decided, IsLeft, IsWatched, SidePuts, ViewPutsOf, Watched, views_asked, views_in, IsListingOf, CutOf, but_batch}
 use Rattle.engine.specs.declared.asked.Command.{Command as CommandBy}
 use Rattle.engine.proofs.Outcomes.{complete, decided, put_rose, read_rose}
-use Rattle.engine.proofs.Told.{Both, Laws, both, made}
+use Rattle.engine.proofs.Told.{Laws, OneOrBatch, made, one_of}
 use Rattle.outside.specs.declared.inputs.InputFault.TheVariants as input
 use Rattle.run_puts.specs.declared.puts.Status.TheVariants as status
 
 -- nothing was put to the side
-pub quiet : (leads : List Put → Type 0) (words : List Text) (files : FileSet) (views : Option ℕ) → leads [] → SidePuts leads words files views
-quiet leads words files None h = h
-quiet leads words files (Some n) h = inl h
+pub quiet : (leads : List Put → Type 0) (order : Option Wanted) (files : FileSet) (views : Option ℕ) → leads [] → SidePuts leads order files views
+quiet leads order files None h = h
+quiet leads order files (Some n) h = inl h
 
-quiet_by : (leads : List Put → Type 0) (words : List Text) (files : Option FileSet) (views : Option ℕ) → leads [] → IfSome files (λ fs. SidePuts leads words fs views)
-quiet_by leads words None views h = tt
-quiet_by leads words (Some fs) views h = quiet leads words fs views h
+quiet_by : (leads : List Put → Type 0) (order : Option Wanted) (files : Option FileSet) (views : Option ℕ) → leads [] → IfSome files (λ fs. SidePuts leads order fs views)
+quiet_by leads order None views h = tt
+quiet_by leads order (Some fs) views h = quiet leads order fs views h
 
 -- the views of a listing
-listing_puts : (leads : List Put → Type 0) (words : List Text) (files : Option FileSet) (k : Task) (case : Case) (views : Option ℕ) → IsListingOf k case → IsCase words files case → ViewPutsOf k leads views → IfSome files (λ fs. SidePuts leads words fs views)
-listing_puts leads words None k case views has is h = tt
-listing_puts leads words (Some fs) k case None has is h = h
-listing_puts leads words (Some fs) k case (Some n) has is (inl h) = inl h
-listing_puts leads words (Some fs) k case (Some n) has is (inr w) = inr (record { task = k; is = subst (IsListingOf k) is has; watched = w })
+listing_puts : (leads : List Put → Type 0) (order : Option Wanted) (files : Option FileSet) (k : Task) (case : Case) (views : Option ℕ) → IsListingOf k case → IsCase order files case → ViewPutsOf k leads views → IfSome files (λ fs. SidePuts leads order fs views)
+listing_puts leads order None k case views has is h = tt
+listing_puts leads order (Some fs) k case None has is h = h
+listing_puts leads order (Some fs) k case (Some n) has is (inl h) = inl h
+listing_puts leads order (Some fs) k case (Some n) has is (inr w) = inr (record { task = k; is = subst (IsListingOf k) is has; watched = w })
 
 -- the views that a command asks for
-pub views_by : (words : List Text) (w : Wanted) (x y : CommandBy) → wanted_of words ≡ Some w → x ≡ y → views_of x ≡ views_asked w → views_in words ≡ views_of y
-views_by words w x y e same v = ap (option_and_then views_asked) e ∙ sym v ∙ ap views_of same
+pub views_by : (order : Option Wanted) (w : Wanted) (x y : CommandBy) → order ≡ Some w → x ≡ y → views_of x ≡ views_in (but_batch (Some w)) → views_in (but_batch order) ≡ views_of y
+views_by order w x y e same v = ap (λ (o : Option Wanted). views_in (but_batch o)) e ∙ sym v ∙ ap views_of same
 
 -- the words ask for views only of a listing
 abbrev pub IsViewed : Option Command → Type 0
-IsViewed (Some (Run asked)) = Unit {0}
-IsViewed (Some (Span asked)) = Unit {0}
+IsViewed (Some (Run asked to)) = Unit {0}
 IsViewed other = ⊥
 
-viewed_is : (w : Option Wanted) (n : ℕ) → option_and_then views_asked w ≡ Some n → IsViewed (option_and_then built w)
-viewed_is (Some (Lists name digits workers rounds zones watch quick wide)) n e = tt
-viewed_is (Some (ListsTo name to digits workers rounds zones watch quick wide)) n e = tt
+viewed_is : (w : Option Wanted) (n : ℕ) → option_and_then views_asked w ≡ Some n → IsViewed (asked_in w)
+viewed_is (Some (Lists name to digits workers rounds zones watch quick wide)) n e = tt
 viewed_is other n e = absurd (let bad : Path (Option ℕ) None (Some n) = e in cc)
 
-pub viewless : (words : List Text) (command : Option Command) → asked_in words ≡ command → (IsViewed command → ⊥) → (n : ℕ) → views_in words ≡ Some n → ⊥
-viewless words command is never n e = never (subst IsViewed is (viewed_is (wanted_of words) n e))
+pub viewless : (order : Option Wanted) (command : Option Command) → asked_in order ≡ command → (IsViewed command → ⊥) → (n : ℕ) → views_in order ≡ Some n → ⊥
+viewless order command is never n e = never (subst IsViewed is (viewed_is (order) n e))
 
 end_not_ok : (line : Text) (meant end : Status) (tail : List Put) → (meant ≡ status.Ok → ⊥) → IsLast line meant end tail → end ≡ status.Ok → ⊥
 end_not_ok line meant end tail not (inl (same, t)) e = not (sym same ∙ e)
@@ -74,39 +71,39 @@ if_never P None never = tt
 if_never P (Some x) never = absurd never
 
 -- a run of a listing, beside which views were put
-left_of : (words : List Text) (files : Option FileSet) (n m : ℕ) (failed : Type 0) (k : Task) (c : Case) (end : Status) (puts : List Put) → ((pieces : List Text) → IsCutListing k pieces → CutOf c pieces) → IsCase words files c → (IsRun (IsListing k) (IsCutListing k) end puts → Answers words files n m end puts) → IsRun (IsListingBeside failed k) (IsCutListing k) end puts → Answers words files n m end puts ⊎ ((case : Case) × IsCase words files case × IsLeft failed case end puts)
-left_of words files n m failed k c end puts cuts is answers (whole meant pieces (listed same all d)) = inl (answers (whole meant pieces d))
-left_of words files n m failed k c end puts cuts is answers (whole meant pieces (left all f d)) = inr (c, is, record { why = f; is = refl; pieces = pieces; cut = cuts pieces d; taken_whole = refl })
-left_of words files n m failed k c end puts cuts is answers (early meant before after tail b t) = inl (answers (early meant before after tail (alone_begins failed k before after b) t))
+left_of : (order : Option Wanted) (files : Option FileSet) (n m : ℕ) (failed : Type 0) (k : Task) (c : Case) (end : Status) (puts : List Put) → ((pieces : List Text) → IsCutListing k pieces → CutOf c pieces) → IsCase order files c → (IsRun (IsListing k) (IsCutListing k) end puts → Answers order files n m end puts) → IsRun (IsListingBeside failed k) (IsCutListing k) end puts → Answers order files n m end puts ⊎ ((case : Case) × IsCase order files case × IsLeft failed case end puts)
+left_of order files n m failed k c end puts cuts is answers (whole meant pieces (listed same all d)) = inl (answers (whole meant pieces d))
+left_of order files n m failed k c end puts cuts is answers (whole meant pieces (left all f d)) = inr (c, is, record { why = f; is = refl; pieces = pieces; cut = cuts pieces d; taken_whole = refl })
+left_of order files n m failed k c end puts cuts is answers (early meant before after tail b t) = inl (answers (early meant before after tail (alone_begins failed k before after b) t))
 
-module _ (words : List Text) (files : Option FileSet) (n m : ℕ) (failed : Type 0) (leads : List Put → Type 0) (end : Status) (puts : List Put) where
+module _ (order : Option Wanted) (files : Option FileSet) (n m : ℕ) (failed : Type 0) (leads : List Put → Type 0) (end : Status) (puts : List Put) where
   abbrev Besides : Type 0
-  Besides = AnswersBeside words files n m failed leads end puts
+  Besides = AnswersBeside order files n m failed leads end puts
 
   -- no views are asked for, or the run didn't end Ok
-  pub without_views : leads [] → (command : Option Command) → asked_in words ≡ command → (IsViewed command → ⊥) → Answers words files n m end puts → Besides
+  pub without_views : leads [] → (command : Option Command) → asked_in order ≡ command → (IsViewed command → ⊥) → Answers order files n m end puts → Besides
   without_views silent command is never a =
-      record { answers = inl a; watched = λ e j v. if_never (λ fs. Watched words fs j leads) files (viewless words command is never j v); side = quiet_by leads words files (views_in words) silent }
+      record { answers = inl a; watched = λ e j v. if_never (λ fs. Watched order fs j leads) files (viewless order command is never j v); side = quiet_by leads order files (views_in order) silent }
 
-  pub not_ok : leads [] → Answers words files n m end puts → (end ≡ status.Ok → ⊥) → Besides
-  not_ok silent a bad = record { answers = inl a; watched = λ e j v. if_never (λ fs. Watched words fs j leads) files (bad e); side = quiet_by leads words files (views_in words) silent }
+  pub not_ok : leads [] → Answers order files n m end puts → (end ≡ status.Ok → ⊥) → Besides
+  not_ok silent a bad = record { answers = inl a; watched = λ e j v. if_never (λ fs. Watched order fs j leads) files (bad e); side = quiet_by leads order files (views_in order) silent }
 
-  views_of_case : (k : Task) (case : Case) (o : Option FileSet) → IsListingOf k case → IsCase words o case → (j : ℕ) → IsWatched k j leads → IfSome o (λ fs. Watched words fs j leads)
+  views_of_case : (k : Task) (case : Case) (o : Option FileSet) → IsListingOf k case → IsCase order o case → (j : ℕ) → IsWatched k j leads → IfSome o (λ fs. Watched order fs j leads)
   views_of_case k case (Some fs) has is j w = record { task = k; is = subst (IsListingOf k) is has; watched = w }
   views_of_case k case None has is j w = tt
 
-  asked_views : (k : Task) (watch : Option ℕ) → views_in words ≡ watch → IfSome watch (λ j. IsWatched k j leads) → (j : ℕ) → views_in words ≡ Some j → IsWatched k j leads
+  asked_views : (k : Task) (watch : Option ℕ) → views_in order ≡ watch → IfSome watch (λ j. IsWatched k j leads) → (j : ℕ) → views_in order ≡ Some j → IsWatched k j leads
   asked_views k watch same h j e = let P : Option ℕ → Type 0 = λ o. IfSome o (λ i. IsWatched k i leads) in subst P (sym same ∙ e) h
 
-  pub of_listing : (k : Task) (c : Case) → IsListingOf k c → ((pieces : List Text) → IsCutListing k pieces → CutOf c pieces) → (watch : Option ℕ) → views_in words ≡ watch → IsCase words files c → AreDecks k.decks → (IsRun (IsListing k) (IsCutListing k) end puts → Answers words files n m end puts) → IsRun (IsListingBeside failed k) (IsCutListing k) end puts → (end ≡ status.Ok → IfSome watch (λ j. IsWatched k j leads)) → ViewPutsOf k leads watch → Besides
+  pub of_listing : (k : Task) (c : Case) → IsListingOf k c → ((pieces : List Text) → IsCutListing k pieces → CutOf c pieces) → (watch : Option ℕ) → views_in order ≡ watch → IsCase order files c → AreDecks k.decks → (IsRun (IsListing k) (IsCutListing k) end puts → Answers order files n m end puts) → IsRun (IsListingBeside failed k) (IsCutListing k) end puts → (end ≡ status.Ok → IfSome watch (λ j. IsWatched k j leads)) → ViewPutsOf k leads watch → Besides
   of_listing k c has cuts watch same is model answers run w views = record {
-    answers = left_of words files n m failed k c end puts cuts is answers run;
+    answers = left_of order files n m failed k c end puts cuts is answers run;
     watched = λ e j v. views_of_case k c files has is j (asked_views k watch same (w e) j v);
-    side = (let P : Option ℕ → Type 0 = λ o. IfSome files (λ fs. SidePuts leads words fs o) in subst P (sym same) (listing_puts leads words files k c watch has is views));
+    side = (let P : Option ℕ → Type 0 = λ o. IfSome files (λ fs. SidePuts leads order fs o) in subst P (sym same) (listing_puts leads order files k c watch has is views));
   }
 
   -- what all answers say, and what a write says that failed beside
-  pub told_by : {T : Type 0} → (Answers words files n m end puts → T) → (failed → end ≡ status.WriteFault → T) → Besides → T
+  pub told_by : {T : Type 0} → (Answers order files n m end puts → T) → (failed → end ≡ status.WriteFault → T) → Besides → T
   told_by t f b = elim (b.answers) [ inl a ↦ t a | inr l ↦ f l.2.why l.2.is ]
 
   not_left : {T : Type 0} → end ≡ status.Ok → failed → end ≡ status.WriteFault → T
@@ -119,11 +116,11 @@ module _ (words : List Text) (files : Option FileSet) (n m : ℕ) (failed : Type
     pub beside_put_rose : Besides → end ≡ status.WriteFault → Rose old.faults new.faults ⊎ failed
     beside_put_rose b e = told_by (λ a. inl (put_rose (Rose n m) a.case end puts old new a.run e makes)) (λ f is. inr f) b
 
-    pub beside_both : Laws → Besides → end ≡ status.Ok → IfSome files (λ fs. Both words fs old new)
-    beside_both laws b e = told_by (λ a. both laws words files n m end puts old new a makes e) (not_left e) b
+    pub beside_one : Laws → Besides → end ≡ status.Ok → IfSome files (λ fs. OneOrBatch order fs old new)
+    beside_one laws b e = told_by (λ a. one_of laws order files n m end puts old new a makes e) (not_left e) b
 
-    pub beside_made : Laws → Besides → end ≡ status.Ok → (seed size : ℕ) → asked_in words ≡ Some (Make seed size) → Made words old.written new.written
-    beside_made laws b e seed size wanted = told_by (λ a. made laws words files n m end puts old new a makes e seed size wanted) (not_left e) b
+    pub beside_made : Laws → Besides → end ≡ status.Ok → (seed size : ℕ) → asked_in order ≡ Some (Make seed size) → Made order old.written new.written
+    beside_made laws b e seed size wanted = told_by (λ a. made laws order files n m end puts old new a makes e seed size wanted) (not_left e) b
 
 -- A fault of one account is one of another.
 module _ (fault other : Type 0) (takes : fault → other) where
@@ -136,19 +133,13 @@ module _ (fault other : Type 0) (takes : fault → other) where
   wider_one (inl f) = inl (takes f)
   wider_one (inr a) = inr a
 
-  wider_decided : (words : List Text) (fs : FileSet) (end : Status) → Decided fault words fs end → Decided other words fs end
-  wider_decided words fs end h = λ plain meant pieces d. wider_sum (h plain meant pieces d)
+  wider_decided : (order : Option Wanted) (fs : FileSet) (end : Status) → Decided fault order fs end → Decided other order fs end
+  wider_decided order fs end h = λ plain meant pieces d. wider_sum (h plain meant pieces d)
 
-  wider_comes : (words : List Text) (fs : FileSet) (end : Status) → Comes fault words fs end → Comes other words fs end
-  wider_comes words fs end h = λ has. wider_one (h has)
+  wider_comes : (order : Option Wanted) (fs : FileSet) (end : Status) → Comes fault order fs end → Comes other order fs end
+  wider_comes order fs end h = λ has. wider_one (h has)
 
-  pub wider_batch : (b : AskedBatch) (fs : FileSet) (end : Status) → BatchDecided fault b fs end → BatchDecided other b fs end
-  wider_batch b fs end h = λ plain meant pieces d. wider_sum (h plain meant pieces d)
-
-  pub wider_batch_comes : (b : AskedBatch) (fs : FileSet) (end : Status) → BatchComes fault b fs end → BatchComes other b fs end
-  wider_batch_comes b fs end h = λ has. wider_one (h has)
-
-module _ (laws : Laws) (words : List Text) (fs : FileSet) (n m : ℕ) (failed : Type 0) (leads : List Put → Type 0) (end : Status) (puts : List Put) (old new : Seen) (makes : PutsMake old puts new) where
+module _ (laws : Laws) (order : Option Wanted) (fs : FileSet) (n m : ℕ) (failed : Type 0) (leads : List Put → Type 0) (end : Status) (puts : List Put) (old new : Seen) (makes : PutsMake old puts new) where
   abbrev Known : Type 0
   Known = Rose n m ⊎ Rose old.faults new.faults
 
@@ -159,10 +150,10 @@ module _ (laws : Laws) (words : List Text) (fs : FileSet) (n m : ℕ) (failed : 
   takes_known (inl f) = inl f
   takes_known (inr f) = inr (inl f)
 
-  pub beside_decided : AnswersBeside words (Some fs) n m failed leads end puts → Decided Fault words fs end
-  beside_decided = told_by words (Some fs) n m failed leads end puts
-      (λ a. wider_decided Known Fault takes_known words fs end (decided laws words (Some fs) n m end puts old new a makes)) (λ f is plain meant pieces d. inl (inl (inr (inr f))))
+  pub beside_decided : AnswersBeside order (Some fs) n m failed leads end puts → Decided Fault order fs end
+  beside_decided = told_by order (Some fs) n m failed leads end puts
+      (λ a. wider_decided Known Fault takes_known order fs end (decided laws order (Some fs) n m end puts old new a makes)) (λ f is plain meant pieces d. inl (inl (inr (inr f))))
 
-  pub beside_complete : AnswersBeside words (Some fs) n m failed leads end puts → Comes Fault words fs end
-  beside_complete = told_by words (Some fs) n m failed leads end puts
-      (λ a. wider_comes Known Fault takes_known words fs end (complete laws words (Some fs) n m end puts old new a makes)) (λ f is has. inl (inr (inr f)))
+  pub beside_complete : AnswersBeside order (Some fs) n m failed leads end puts → Comes Fault order fs end
+  beside_complete = told_by order (Some fs) n m failed leads end puts
+      (λ a. wider_comes Known Fault takes_known order fs end (complete laws order (Some fs) n m end puts old new a makes)) (λ f is has. inl (inr (inr f)))

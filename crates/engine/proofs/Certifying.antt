@@ -1,8 +1,8 @@
 -- What a check that ended Ok says, and that a check has one end.
-use Rattle.engine.proofs.Common.{◌≡◌, ◌⊎◌, ℕ, List, [], ◌∷◌, Some, Ok, map, subst, sym, ap, refl, inl, inr, ◌∙◌, FileSet, Put, Seen, PutsMake, taken, FlowModel}
-use Rattle.engine.proofs.Common.{IsModel, reads, ZonedListing, Text, Status, all_written, ListingVerdict, Fails, VerdictIsOne, IsVerdict, AskedCheck, Check}
-use Rattle.engine.proofs.Common.{Checking, asked_in, listing_read, named, steps_read, zones_read, Certified, IsCheck, certified_line, verdict_line}
-use Rattle.engine.proofs.Common.{verdict_status, Defines, OneVerdict, IsListed, IsStopped, Limits, Decks, AreDecks, one_deck, listing, place}
+use Rattle.engine.proofs.Common.{◌≡◌, ◌⊎◌, ℕ, List, [], ◌∷◌, None, Some, Ok, map, subst, sym, ap, refl, inl, inr, ◌∙◌, FileSet, Put, Seen, PutsMake, taken}
+use Rattle.engine.proofs.Common.{FlowModel, IsModel, ZonedListing, Text, Status, all_written, ListingVerdict, Fails, VerdictIsOne, IsVerdict, AskedCheck, Check}
+use Rattle.engine.proofs.Common.{Checking, asked_in, listing_read, named, steps_read, zones_read, IsCheck, certified_line, verdict_line, verdict_status}
+use Rattle.engine.proofs.Common.{Defines, OneVerdict, IsListed, IsStopped, Limits, Decks, AreDecks, one_deck, listing, place, Wanted, reads, Option}
 use Rattle.std.specs.Prelude.{false}
 use Rattle.check_run.specs.declared.verdict.ListingVerdict.TheVariants.{Certified as Holds, Refused as Unbounded}
 use Rattle.engine.proofs.Readings.{named_read, zoned_parts}
@@ -36,16 +36,17 @@ verdict_is_no_fault other h = h
 pub check_is_no_fault : (limits : Limits) (m : Decks) (s : ℕ) (listing : ZonedListing) (end : Status) (pieces : List Text) → IsCheck limits m s listing end pieces → IsFault end → ⊥
 check_is_no_fault limits m s listing end pieces c h = verdict_is_no_fault c.verdict (subst IsFault c.status h)
 
-module _ (words : List Text) (files : FileSet) (old new : Seen) (puts : List Put) (pieces : List Text) (asked : AskedCheck) (wanted : asked_in words ≡ Some (Check asked)) (written : puts ≡ map taken pieces) (makes : PutsMake old puts new) where
-  pub certified_and_one : (f : FlowModel) (listing : ZonedListing) → IsModel f → named asked.name (reads asked.limits files) ≡ Ok f → listing_read false files asked f ≡ Ok listing → Defines (Checking asked.limits (one_deck f) asked.digits listing) status.Ok pieces → Certified words files old.written new.written × OneVerdict words files
+module _ (order : Option Wanted) (files : FileSet) (old new : Seen) (puts : List Put) (pieces : List Text) (asked : AskedCheck) (wanted : asked_in order ≡ Some (Check asked None)) (written : puts ≡ map taken pieces) (makes : PutsMake old puts new) where
+  pub certified_and_one : (f : FlowModel) (listing : ZonedListing) → IsModel f → named asked.name (reads asked.limits files) ≡ Ok f → listing_read false files asked f ≡ Ok listing → Defines (Checking asked.limits (one_deck f) asked.digits listing) status.Ok pieces → OneVerdict order files old.written new.written
   certified_and_one f listing model read listed d =
       let parts = zoned_parts (zones_read files asked.zones f) (steps_read false files asked f) listing listed in
       let is = named_read asked.name (reads asked.limits files) f read in
       let holds = is_certified d.verdict d.status in
       let L : ListingVerdict → Type 0 = λ v. pieces ≡ verdict_line f.grid v ∷ [] in
       let V : ListingVerdict → Type 0 = λ v. IsVerdict asked.limits (one_deck f) asked.digits listing.zones listing.steps v in
-      let history = d.history holds in (
-        record {
+      let history = d.history holds in
+      record {
+        certified = record {
           asked = asked;
           wanted = wanted;
           model = f;
@@ -59,9 +60,9 @@ module _ (words : List Text) (files : FileSet) (old new : Seen) (puts : List Put
           encloses = d.encloses holds;
           solvable = history.solvable;
           one = history.one;
-        },
-        record { asked = asked; wanted = wanted; model = f; read = is; valid = model; zones = listing.zones; zoned = parts.0; steps = listing.steps; listed = parts.1; verdict = subst V holds d.is },
-      )
+        };
+        verdict = subst V holds d.is;
+      }
 
 -- A check has one end.
 module _ (limits : Limits) (m : Decks) (s : ℕ) (listing : ZonedListing) where

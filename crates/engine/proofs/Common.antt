@@ -6,44 +6,40 @@ pub use Rattle.std.proofs.lemmas.List.{append-nil, append_assoc, length-map, map
 pub use Rattle.std.proofs.lemmas.List.Elements.{All-append, All-cons, All-head, All-nil, All-push, All-tail, All-weaker}
 pub use Rattle.std.proofs.lemmas.Result.{err_from_is_err_and}
 pub use Rattle.std.specs.List.{AllZip, concat}
-pub use Rattle.std.specs.Prelude.{All, IfErr, MatchOption, is_some, slice_get}
+pub use Rattle.std.specs.Prelude.{All, IfErr, is_some, slice_get}
+pub use Rattle.std.specs.declared.alloc.Global.{Global}
+pub use Rattle.std.specs.declared.vec.Vec.{Vec}
 pub use Rattle.batch_list.specs.Names.{names_in}
 pub use Rattle.batch_puts.proofs.Batches.{batch_run, batch_settles, batches_agree, ends_of_jobs}
 pub use Rattle.batch_puts.specs.Batches.{IsBatch, first_not_ok, or_else, texts}
 pub use Rattle.batch_puts.specs.declared.job_end.JobEnd.{JobEnd}
-pub use Rattle.check_run.proofs.RunEnclosed.{run_encloses}
 pub use Rattle.check_run.specs.Verdicts.{IsReadable, IsVerdict, ListingEncloses, RunIsCertified, RunIsReadAgain, VerdictIsOne, as_listed}
 pub use Rattle.check_run.specs.declared.verdict.ListingVerdict.{ListingVerdict}
 pub use Rattle.check_run.specs.declared.verdict.ListingVerdict.TheVariants.{Fails}
-pub use Rattle.command_line.proofs.DigitLemmas.{check_digits, check_to_digits}
-pub use Rattle.command_line.specs.Wants.{Batches, Checks, ChecksTo, Lists, ListsTo, Wanted, Writes, wanted_of}
+pub use Rattle.command_line.specs.Wants.{Batches, Checks, Lists, Makes, Wanted, Writes, wanted_of}
 pub use Rattle.deck_alike.specs.Differences.{DifferenceIsOne, IsFirstDifference}
 pub use Rattle.deck_alike.specs.declared.difference.Difference.{Difference}
 pub use Rattle.deck_problems.proofs.Members.{one_valid}
 pub use Rattle.deck_problems.specs.Decks.{AreDecks, one_deck}
 pub use Rattle.deck_problems.specs.declared.decks.Decks.{Decks}
 pub use Rattle.deck_span.specs.Alike.{AreAlike}
-pub use Rattle.engine.specs.BatchReads.{AreJobsRead, AreTasks, HasNames, IsFaultOf, IsJobRead, batch_by}
-pub use Rattle.engine.specs.BatchRuns.{AnyAnswers, AnyComes, AnyDecided, AnyPuts, AreValid, BatchAnswers, BatchComes, BatchDecided, BatchDue, HasJob}
-pub use Rattle.engine.specs.BatchRuns.{IsBatchRun, IsPlainBatch, IsPlainJob, IsValidJob}
+pub use Rattle.engine.specs.BatchReads.{AreJobsRead, AreTasks, HasNames, IsBatchOf, IsBatchRead, IsJobRead, batch_by}
 pub use Rattle.engine.specs.Batched.{Batched, HasEnded, HasNoList, IsJobListing}
-pub use Rattle.engine.specs.Batches.{AskedBatch, BatchCase, BatchDefines, IsBatchCase, IsJobEnd, IsRunText, IsSomeJob, Jobs, NoList, batch_asked, batch_case}
-pub use Rattle.engine.specs.Batches.{batch_case_of, batch_of, job_case, job_of, job_task, model_line, names_at, names_read, task_read}
-pub use Rattle.engine.specs.Cases.{Asked, AskedCheck, AskedSpan, AskedSpanCheck, Case, Check, CheckSpan, Checking, Command, Comparing, CouldList, CouldRead}
-pub use Rattle.engine.specs.Cases.{IsCase, IsCheckingOf, IsListingOf, Listing, Make, Making, NoWords, Readings, ReadsNothing, Refuses, Run, Span, Write}
-pub use Rattle.engine.specs.Cases.{Writing, asked_in, built, case_asked, case_decks, case_listed, case_of, case_zoned, decks_task, limits_of, listing_read}
-pub use Rattle.engine.specs.Cases.{made_model, named, numbers_of, readings_of, some_readings, span_task_of, steps_in, steps_read, task_of, with_zones}
-pub use Rattle.engine.specs.Cases.{zoned_steps, zones_named, zones_read}
+pub use Rattle.engine.specs.Cases.{Asked, AskedBatch, AskedCheck, Batch, Case, Check, Checking, Command, Comparing, CouldList, CouldRead, IsCase, IsCheckingOf}
+pub use Rattle.engine.specs.Cases.{IsListingOf, IsSomeJob, Jobs, Listing, Make, Making, NoWords, Readings, ReadsNothing, Refuses, Run, Write, Writing, asked_in}
+pub use Rattle.engine.specs.Cases.{built, but_batch, case_asked, case_decks, case_jobs, case_listed, case_of, case_zoned, decks_task, job_of, job_task, jobs_of}
+pub use Rattle.engine.specs.Cases.{jobs_read, limits_of, listing_read, made_model, named, names_at, names_read, numbers_of, readings_of, some_readings}
+pub use Rattle.engine.specs.Cases.{span_task_of, steps_in, steps_read, task_of, task_read, with_zones, zoned_steps, zones_named, zones_read}
 pub use Rattle.engine.specs.Certified.{Certified}
 pub use Rattle.engine.specs.Checked.{IsCheck, certified_line, verdict_line, verdict_status}
-pub use Rattle.engine.specs.Commands.{MayRead, asked_of, check_of, check_to, command_of, run_to, to_of, views_of}
+pub use Rattle.engine.specs.Commands.{MayRead, asked_of, check_of, command_of, to_of, views_of}
 pub use Rattle.engine.specs.Decks.{IsDeck, OneDeck}
-pub use Rattle.engine.specs.Defined.{CutOf, Defines, Due, IsDue, ReadsFolder, defined, unread}
+pub use Rattle.engine.specs.Defined.{CutOf, Defines, Due, IsDue, IsJobEnd, IsRunText, JobDefines, ReadsFolder, defined, model_line, unread}
 pub use Rattle.engine.specs.Made.{IsMade, Made, made_task, summed_text}
 pub use Rattle.engine.specs.OneListing.{OneListing, OneSummary, OneVerdict}
 pub use Rattle.engine.specs.Parts.{Answers, AnswersBeside, AreDecksAs, AreDecksOf, AreStepsAs, AreZonesAs, IsListed, IsListedAs, IsMadeRun, IsNamedFault}
-pub use Rattle.engine.specs.Parts.{IsNoSecond, IsReadAs, IsReadingEnd, IsSecondAs, IsStopped, IsUnlikeFault, IsValid, made_fault, second_by}
-pub use Rattle.engine.specs.Runs.{Comes, Decided, HasCertified, HasDeck, HasListing, HasTask, IsLeft, IsPlain, IsRunOf, Puts}
+pub use Rattle.engine.specs.Parts.{IsNoSecond, IsReadAs, IsReadingEnd, IsSecondAs, IsStopped, IsUnlikeFault, IsValid, IsValidJob, made_fault, second_by}
+pub use Rattle.engine.specs.Runs.{Comes, Decided, GoesThrough, HasBatch, HasCertified, HasDeck, HasListing, HasTask, IsLeft, IsPlain, IsPlainJob, IsRunOf, Puts}
 pub use Rattle.engine.specs.Serving.{IsStopNumber, files_if, files_named, files_of}
 pub use Rattle.engine.specs.SpanHeadline.{ArePairOf, OneSpan, SpanCertified, SpanHeadline, SpanVerdict}
 pub use Rattle.engine.specs.TwoDecks.{AreRead, IsDecksRefusal, Second, not_alike, of_both, of_first, of_second}

@@ -1,22 +1,22 @@
 -- The ends of a run, by its words, its reading and its listing.
-use Rattle.engine.proofs.Common.{◌≡◌, ℕ, List, [], ◌∷◌, Ok, Err, Result, Option, None, Some, IfOk, subst, sym, ap, refl, inl, inr, ◌∙◌, codes, option_and_then}
-use Rattle.engine.proofs.Common.{map, unsigned_abs, FileSet, Rose, file_refusal, Put, BadName, Refusal, Wanted, wanted_of, FlowModel, IsModel, ListedStep}
-use Rattle.engine.proofs.Common.{refused_line, Text, read_fault_line, IsEnd, IsLast, IsWanting, wanting, memory_put, status_after, Status, tail_late, lone}
-use Rattle.engine.proofs.Common.{lacks_at_first, weaker, AreZonesOf, Case, Command, Make, NoWords, Refuses, Making, IsCase, CouldList, CouldRead, asked_in}
-use Rattle.engine.proofs.Common.{built, case_asked, made_model, Due, ReadsFolder, CutOf, IsMade, Answers, IsMadeRun, IsStopped, IsValid, defined, Comparing}
-use Rattle.engine.proofs.Common.{Readings, readings_of, some_readings, Second, unread}
+use Rattle.engine.proofs.Common.{◌≡◌, ℕ, List, [], ◌∷◌, Ok, Err, Result, Option, None, Some, IfOk, subst, sym, ap, refl, inl, inr, ◌∙◌, codes, map}
+use Rattle.engine.proofs.Common.{unsigned_abs, FileSet, Rose, file_refusal, Put, BadName, Refusal, Wanted, FlowModel, IsModel, ListedStep, refused_line}
+use Rattle.engine.proofs.Common.{read_fault_line, IsEnd, IsLast, IsWanting, wanting, memory_put, status_after, Status, tail_late, lone, lacks_at_first, weaker}
+use Rattle.engine.proofs.Common.{AreZonesOf, Case, Command, Make, NoWords, Refuses, Making, IsCase, CouldList, CouldRead, asked_in, case_asked, made_model, Due}
+use Rattle.engine.proofs.Common.{ReadsFolder, CutOf, IsMade, Answers, IsMadeRun, IsStopped, IsValid, defined, Comparing, Readings, readings_of, some_readings}
+use Rattle.engine.proofs.Common.{Second, unread, but_batch}
 use Rattle.command_line.specs.Commands.{usage_line}
 use Rattle.engine.proofs.Dues.{late_stops}
 use Rattle.engine.proofs.Readings.{no_second, no_zones}
 use Rattle.outside.specs.declared.inputs.InputFault.TheVariants as input
 use Rattle.run_puts.specs.declared.puts.Status.TheVariants as status
 
--- what an order asks for, the words ask for
-pub asked_by : (words : List Text) (wanted : Wanted) (asked : Option Command) → wanted_of words ≡ Some wanted → asked ≡ built wanted → asked_in words ≡ asked
-asked_by words wanted asked e is = ap (option_and_then built) e ∙ sym is
+-- what an order for one model asks for, the words ask for
+pub asked_by : (order : Option Wanted) (wanted : Wanted) (asked : Option Command) → order ≡ Some wanted → asked ≡ asked_in (but_batch (Some wanted)) → asked_in (but_batch order) ≡ asked
+asked_by order wanted asked e is = ap (λ (o : Option Wanted). asked_in (but_batch o)) e ∙ sym is
 
-pub asked_none : (words : List Text) → wanted_of words ≡ None → asked_in words ≡ None
-asked_none words e = ap (option_and_then built) e
+pub asked_none : (order : Option Wanted) → order ≡ None → asked_in (but_batch order) ≡ None
+asked_none order e = ap (λ (o : Option Wanted). asked_in (but_batch o)) e
 
 pub wanting_stops : (end : Status) (puts : List Put) → IsWanting end puts → IsStopped end
 wanting_stops end puts (answer, s, t) = let P : Status → Type 0 = IsStopped in subst P (sym s) (late_stops (status_after answer) (tail_late [] (status_after answer) (memory_put answer ∷ []) (wanting [] answer)))
@@ -31,17 +31,17 @@ stopped (Refuses refusal) end h = tt
 stopped (Comparing a b case) end h = inr (stopped case end h)
 stopped other end h = inr h
 
-module _ (words : List Text) (files : Option FileSet) (n m : ℕ) where
-  lacking : (case : Case) (end : Status) (puts : List Put) → IsCase words files case → IsWanting end puts → Answers words files n m end puts
+module _ (order : Option Wanted) (files : Option FileSet) (n m : ℕ) where
+  lacking : (case : Case) (end : Status) (puts : List Put) → IsCase order files case → IsWanting end puts → Answers order files n m end puts
   lacking case end puts is h = record { case = case; is = is; run = lacks_at_first (Due (Rose n m) case) (CutOf case) end puts h; valid = stopped case end (wanting_stops end puts h) }
 
-  pub unreadable : (case : Case) (end : Status) (puts : List Put) → IsCase words files case → ReadsFolder case → Rose n m → IsLast read_fault_line status.ReadFault end puts → Answers words files n m end puts
+  pub unreadable : (case : Case) (end : Status) (puts : List Put) → IsCase order files case → ReadsFolder case → Rose n m → IsLast read_fault_line status.ReadFault end puts → Answers order files n m end puts
   unreadable case end puts is worded rose h = record { case = case; is = is; run = lone (Due (Rose n m) case) (CutOf case) read_fault_line status.ReadFault end puts (unread (rose, worded)) (inl h); valid = stopped case end (read_stops end puts h) }
 
-  pub ends_usage : (end : Status) (puts : List Put) → IsCase words files NoWords → IsLast usage_line status.Usage end puts → Answers words files n m end puts
+  pub ends_usage : (end : Status) (puts : List Put) → IsCase order files NoWords → IsLast usage_line status.Usage end puts → Answers order files n m end puts
   ends_usage end puts is h = record { case = NoWords; is = is; run = lone (Due (Rose n m) NoWords) (CutOf NoWords) usage_line status.Usage end puts (defined status.Usage (usage_line ∷ []) (refl, refl)) (inl h); valid = tt }
 
-  pub refused : (refusal : Refusal) (end : Status) (puts : List Put) → IsCase words files (Refuses refusal) → IsEnd (refused_line refusal) (status.Refused refusal) end puts → Answers words files n m end puts
+  pub refused : (refusal : Refusal) (end : Status) (puts : List Put) → IsCase order files (Refuses refusal) → IsEnd (refused_line refusal) (status.Refused refusal) end puts → Answers order files n m end puts
   refused refusal end puts is h = record { case = Refuses refusal; is = is; run = lone (Due (Rose n m) (Refuses refusal)) (CutOf (Refuses refusal)) (refused_line refusal) (status.Refused refusal) end puts (defined (status.Refused refusal) (refused_line refusal ∷ []) (refl, refl)) h; valid = tt }
 
 -- a reading that gave no model, and one that gave no steps
@@ -73,28 +73,28 @@ abbrev pub any_readings : Option FileSet → Readings
 any_readings (Some fs) = readings_of fs
 any_readings None = some_readings no_model no_second no_zones no_steps
 
-abbrev pub any_case : List Text → Option FileSet → Case
-any_case words files = case_asked (asked_in words) (any_readings files)
+abbrev pub any_case : Option Wanted → Option FileSet → Case
+any_case order files = case_asked (asked_in order) (any_readings files)
 
-pub is_any_case : (words : List Text) (files : Option FileSet) → IsCase words files (any_case words files)
-is_any_case words (Some fs) = refl
-is_any_case words None = (no_model, no_second, no_zones, no_steps, could_read no_model no_second tt tt, refl)
+pub is_any_case : (order : Option Wanted) (files : Option FileSet) → IsCase order files (any_case order files)
+is_any_case order (Some fs) = refl
+is_any_case order None = inr (no_model, no_second, no_zones, no_steps, could_read no_model no_second tt tt, refl)
 
-pub no_words : (words : List Text) (files : Option FileSet) → asked_in words ≡ None → IsCase words files NoWords
-no_words words files e = let P : Option Command → Type 0 = λ a. IsCase words files (case_asked a (any_readings files)) in subst P e (is_any_case words files)
+pub no_words : (order : Option Wanted) (files : Option FileSet) → asked_in order ≡ None → IsCase order files NoWords
+no_words order files e = let P : Option Command → Type 0 = λ a. IsCase order files (case_asked a (any_readings files)) in subst P e (is_any_case order files)
 
-pub ends_without_words : (words : List Text) (files : Option FileSet) (n m : ℕ) (end : Status) (puts : List Put) → IsWanting end puts → Answers words files n m end puts
-ends_without_words words files n m end puts h = lacking words files n m (any_case words files) end puts (is_any_case words files) h
+pub ends_without_words : (order : Option Wanted) (files : Option FileSet) (n m : ℕ) (end : Status) (puts : List Put) → IsWanting end puts → Answers order files n m end puts
+ends_without_words order files n m end puts h = lacking order files n m (any_case order files) end puts (is_any_case order files) h
 
 -- a made model
-module _ (words : List Text) (seed size : ℕ) (wanted : asked_in words ≡ Some (Make seed size)) where
+module _ (order : Option Wanted) (seed size : ℕ) (wanted : asked_in order ≡ Some (Make seed size)) where
   abbrev made_case : Case
   made_case = Making seed size (made_model seed size)
 
-  is_made : (files : Option FileSet) → IsCase words files made_case
-  is_made files = let P : Option Command → Type 0 = λ a. IsCase words files (case_asked a (any_readings files)) in subst P wanted (is_any_case words files)
+  is_made : (files : Option FileSet) → IsCase order files made_case
+  is_made files = let P : Option Command → Type 0 = λ a. IsCase order files (case_asked a (any_readings files)) in subst P wanted (is_any_case order files)
 
-  pub ends_made : (files : Option FileSet) (n m : ℕ) (end : Status) (puts : List Put) → IsMadeRun seed size end puts → Answers words files n m end puts
+  pub ends_made : (files : Option FileSet) (n m : ℕ) (end : Status) (puts : List Put) → IsMadeRun seed size end puts → Answers order files n m end puts
   ends_made files n m end puts h = record {
     case = made_case;
     is = is_made files;

@@ -19,5 +19,6 @@ pub mod SideViews
 pub mod BatchEnds
 pub mod BatchOutcomes
 pub mod BatchReading
-pub mod AnyOutcomes
+pub mod ListingEnds
+pub mod Facts
 pub mod Naming

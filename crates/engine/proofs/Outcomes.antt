@@ -1,11 +1,11 @@
 -- The public clauses, from all that a run comes to.
 use Rattle.engine.proofs.Common.{◌≡◌, ℕ, List, Option, Some, None, IfSome, Ok, Err, subst, sym, ◌∙◌, ap, refl, inl, inr, ◌⊎◌, FileSet, Rose, Put, Seen}
-use Rattle.engine.proofs.Common.{PutsMake, NoBound, FlowModel, TimeStep, Text, Agree, Status, AreDecks, one_valid, Task, Step, ListingEnd, AllSteps, listing}
-use Rattle.engine.proofs.Common.{status_of, IsListing, VerdictIsOne, Case, NoWords, Refuses, Listing, Making, Checking, Writing, CutOf, Defines, made_task}
-use Rattle.engine.proofs.Common.{Decided, Comes, HasCertified, HasDeck, HasListing, HasTask, IsRunOf, Answers, IsStopped, IsValid, Limits, Decks, ZonedListing}
-use Rattle.engine.proofs.Common.{IsVerdict, Difference, Comparing, IsCheckingOf, IsListingOf, Second, not_alike, IsPlain, AreAlike, ReadsFolder}
-use Rattle.std.specs.Prelude.{false}
+use Rattle.engine.proofs.Common.{PutsMake, FlowModel, Text, Agree, Status, one_valid, Task, listing, IsListing, VerdictIsOne, Case, NoWords, Refuses, Listing}
+use Rattle.engine.proofs.Common.{Making, Checking, Writing, CutOf, Defines, made_task, Decided, Comes, HasCertified, HasDeck, HasListing, HasTask, IsRunOf}
+use Rattle.engine.proofs.Common.{Answers, IsStopped, IsValid, Limits, Decks, ZonedListing, IsVerdict, Difference, Comparing, IsCheckingOf, IsListingOf, Second}
+use Rattle.engine.proofs.Common.{not_alike, IsPlain, AreAlike, ReadsFolder, Wanted, Jobs, HasBatch}
 use Rattle.engine.proofs.Certifying.{IsFault, certifies, check_is_no_fault, never_stopped_check, one_end, stopped_by_fault}
+use Rattle.engine.proofs.ListingEnds.{agree, goes_through, jobs_agree, jobs_end_ok, jobs_no_fault, listing_is_no_fault, never_stopped}
 use Rattle.check_run.specs.declared.verdict.ListingVerdict.TheVariants.{Certified as Holds}
 use Rattle.engine.proofs.Told.{Laws}
 use Rattle.engine.proofs.Dues.{Ended, read_failed, write_failed, run_ended, end_decided, end_comes}
@@ -13,13 +13,6 @@ use Rattle.run_puts.specs.declared.puts.Status.TheVariants as status
 use Rattle.listing_run.specs.declared.text.ListingEnd.TheVariants as ends
 
 -- no case defines the end of a fault outside or of lack of memory
-last_is_no_fault : (last : ListingEnd) → IsFault (status_of last) → ⊥
-last_is_no_fault ends.Whole h = h
-last_is_no_fault other h = h
-
-listing_is_no_fault : (k : Task) (end : Status) (pieces : List Text) → IsListing k end pieces → IsFault end → ⊥
-listing_is_no_fault k end pieces l h = last_is_no_fault l.last (subst IsFault l.status h)
-
 defines_no_fault : (case : Case) (end : Status) (pieces : List Text) → Defines case end pieces → IsFault end → ⊥
 defines_no_fault NoWords end pieces d h = subst IsFault d.0 h
 defines_no_fault (Refuses refusal) end pieces d h = subst IsFault d.0 h
@@ -27,6 +20,7 @@ defines_no_fault (Listing k) end pieces d h = listing_is_no_fault k end pieces d
 defines_no_fault (Making seed size (Ok m)) end pieces d h = listing_is_no_fault (made_task m) end d.all d.listed h
 defines_no_fault (Making seed size (Err refusal)) end pieces d h = subst IsFault d.0 h
 defines_no_fault (Checking limits m s steps) end pieces d h = check_is_no_fault limits m s steps end pieces d h
+defines_no_fault (Jobs jobs) end pieces d h = jobs_no_fault jobs d.ends d.each (subst IsFault d.ended.status_is h)
 defines_no_fault (Writing m) end pieces d h = subst IsFault d.0 h
 defines_no_fault (Comparing a b c) end pieces (inl unlike) h = subst IsFault unlike.status h
 defines_no_fault (Comparing a b c) end pieces (inr (alike, d)) h = defines_no_fault c end pieces d h
@@ -39,38 +33,6 @@ read_rose read_fault case end puts run e = (read_failed (read_fault × ReadsFold
 
 pub put_rose : (read_fault : Type 0) (case : Case) (end : Status) (puts : List Put) (old new : Seen) → IsRunOf read_fault case end puts → end ≡ status.WriteFault → PutsMake old puts new → Rose old.faults new.faults
 put_rose read_fault case = write_failed (read_fault × ReadsFolder case) (Defines case) (CutOf case) (defines_not_stopped case)
-
-same_refusal : (s t : TimeStep) (a b : NoBound) → s ≡ t → a ≡ b → status.NoBound t.period t.step b ≡ status.NoBound s.period s.step a
-same_refusal s t a b at is = sym (ap (λ (x : TimeStep). status.NoBound x.period x.step a) at ∙ ap (λ n. status.NoBound t.period t.step n) is)
-
-module _ (laws : Laws) (k : Task) (valid : AreDecks k.decks) (plain : k.quick ≡ false) where
-  ends_agree : (meant end : ListingEnd) (values others : List Step) → AllSteps k values meant → AllSteps k others end → Agree (status_of meant) (status_of end)
-  ends_agree ends.Whole ends.Whole values others x y = inr (inl refl)
-  ends_agree ends.Whole (ends.NoBound at n) values others x y = absurd (laws.bound k values others at n valid plain x y)
-  ends_agree (ends.NoBound at n) ends.Whole values others x y = absurd (laws.bound k others values at n valid plain y x)
-  ends_agree (ends.NoBound at n) (ends.NoBound t m) values others x y = let one = laws.refusal k values others at t n m valid plain x y in inr (inl (same_refusal at t n m one.0 one.1))
-  ends_agree (ends.Unfinished at) end values others x y = inl tt
-  ends_agree meant (ends.Unfinished at) values others x y = inr (inr tt)
-
-  pub agree : (meant end : Status) (p q : List Text) → IsListing k meant p → IsListing k end q → Agree meant end
-  agree meant end p q x y =
-      let P : Status → Type 0 = λ s. Agree s end in
-      let Q : Status → Type 0 = λ s. Agree (status_of x.last) s in
-      subst P (sym x.status) (subst Q (sym y.status) (ends_agree x.last y.last x.values y.values x.steps y.steps))
-
--- where no step has a refusal, and the rounds leave none open, no other end comes
-module _ (k : Task) (no_refusal : (before : List Step) (at : TimeStep) (n : NoBound) → AllSteps k before (ends.NoBound at n) → ⊥)
-    (none_open : (before : List Step) (at : TimeStep) → AllSteps k before (ends.Unfinished at) → ⊥) where
-  all_done : (last : ListingEnd) (values : List Step) → AllSteps k values last → status_of last ≡ status.Ok
-  all_done ends.Whole values x = refl
-  all_done (ends.NoBound at n) values x = absurd (no_refusal values at n x)
-  all_done (ends.Unfinished at) values x = absurd (none_open values at x)
-
-  pub goes_through : (end : Status) (q : List Text) → IsListing k end q → end ≡ status.Ok
-  goes_through end q y = y.status ∙ all_done y.last y.values y.steps
-
-pub never_stopped : (k : Task) (end : Status) (q : List Text) → IsStopped end → IsListing k end q → ⊥
-never_stopped k end q stops y = listing_is_no_fault k end q y (stopped_by_fault end stops)
 
 ended : (n m : ℕ) (case : Case) (end : Status) (puts : List Put) (old new : Seen) → IsRunOf (Rose n m) case end puts → PutsMake old puts new → Ended (Rose n m ⊎ Rose old.faults new.faults) (Defines case) end
 ended n m case end puts old new =
@@ -86,6 +48,8 @@ decides laws (Making seed size (Ok m)) meant end p q plain (inl valid) x y = agr
 decides laws (Making seed size (Ok m)) meant end p q plain (inr stops) x y = absurd (never_stopped (made_task m) end y.all stops y.listed)
 decides laws (Checking limits m s steps) meant end p q plain (inl (model, listed)) x y = inr (inl (one_end limits m s steps laws.verdict model listed meant end p q x y))
 decides laws (Checking limits m s steps) meant end p q plain (inr stops) x y = absurd (never_stopped_check limits m s steps end q stops y)
+decides laws (Jobs jobs) meant end p q plain (inl valid) x y = jobs_agree laws jobs meant end p q plain valid x y
+decides laws (Jobs jobs) meant end p q plain (inr stops) x y = absurd (defines_not_stopped (Jobs jobs) end q y stops)
 decides laws (Writing m) meant end p q plain valid (x, a) (y, b) = inr (inl (y ∙ sym x))
 decides laws (Comparing a b c) meant end p q plain valid (inl x) (inl y) = inr (inl (y.status ∙ ap (λ (d : Difference). status.Refused (not_alike b d)) (laws.difference a b.model y.difference x.difference y.first x.first) ∙ sym x.status))
 decides laws (Comparing a b c) meant end p q plain valid (inl x) (inr (alike, y)) = absurd (x.unlike alike)
@@ -93,12 +57,12 @@ decides laws (Comparing a b c) meant end p q plain valid (inr (alike, x)) (inl y
 decides laws (Comparing a b c) meant end p q plain (inl never) (inr (alike, x)) (inr (also, y)) = absurd (never alike)
 decides laws (Comparing a b c) meant end p q plain (inr valid) (inr (alike, x)) (inr (also, y)) = decides laws c meant end p q plain valid x y
 
-pub decided : (laws : Laws) (words : List Text) (files : Option FileSet) (n m : ℕ) (end : Status) (puts : List Put) (old new : Seen) → Answers words files n m end puts → PutsMake old puts new → IfSome files (λ fs. Decided (Rose n m ⊎ Rose old.faults new.faults) words fs end)
-decided laws words (Some fs) n m end puts old new a makes = λ plain meant pieces x.
+pub decided : (laws : Laws) (order : Option Wanted) (files : Option FileSet) (n m : ℕ) (end : Status) (puts : List Put) (old new : Seen) → Answers order files n m end puts → PutsMake old puts new → IfSome files (λ fs. Decided (Rose n m ⊎ Rose old.faults new.faults) order fs end)
+decided laws order (Some fs) n m end puts old new a makes = λ plain meant pieces x.
     let P : Case → Type 0 = λ case. Defines case meant pieces in
     end_decided (Rose n m ⊎ Rose old.faults new.faults) (Defines a.case) end meant
     (λ q y. decides laws a.case meant end pieces q (subst IsPlain (sym a.is) plain) a.valid (subst P (sym a.is) x) y) (ended n m a.case end puts old new a.run makes)
-decided laws words None n m end puts old new a makes = tt
+decided laws order None n m end puts old new a makes = tt
 
 -- an end that a case defines is one of the listing that is put or summed up
 abbrev AreEndsOf : Task → Status → Case → Type 0
@@ -141,25 +105,28 @@ checks_certify law limits d s l verdict fault end (Comparing a b case) (alike, h
 checks_certify law limits d s l verdict fault end (Comparing a b case) (alike, has) (inr valid) (inr (inr (q, inr (also, y)))) = checks_certify law limits d s l verdict fault end case has valid (inr (inr (q, y)))
 checks_certify law limits d s l verdict fault end other has valid ended = absurd has
 
-module _ (laws : Laws) (words : List Text) (files : FileSet) (n m : ℕ) (end : Status) (puts : List Put) (old new : Seen) (a : Answers words (Some files) n m end puts) (makes : PutsMake old puts new) where
+module _ (laws : Laws) (order : Option Wanted) (files : FileSet) (n m : ℕ) (end : Status) (puts : List Put) (old new : Seen) (a : Answers order (Some files) n m end puts) (makes : PutsMake old puts new) where
   abbrev Fault : Type 0
   Fault = Rose n m ⊎ Rose old.faults new.faults
 
   ends_here : Ended Fault (Defines a.case) end
   ends_here = ended n m a.case end puts old new a.run makes
 
-  complete_by : HasListing words files ⊎ (HasCertified words files ⊎ HasDeck words files) → Fault ⊎ ((end ≡ status.Ok) ⊎ (end ≡ status.Memory))
+  complete_by : HasListing order files ⊎ (HasCertified order files ⊎ (HasDeck order files ⊎ HasBatch order files)) → Fault ⊎ ((end ≡ status.Ok) ⊎ (end ≡ status.Memory))
   complete_by (inl l) =
       let P : Case → Type 0 = λ case. HasTask case l.task in
       let listed_end = ends_of l.task a.case end (subst P (sym a.is) l.is) in
-      end_comes Fault (Defines a.case) end (λ q y. let p = listed_end q y in goes_through l.task l.no_refusal l.none_open end p.0 p.1) ends_here
+      end_comes Fault (Defines a.case) end (λ q y. let p = listed_end q y in goes_through l.task l.goes end p.0 p.1) ends_here
   complete_by (inr (inl l)) =
       let P : Case → Type 0 = IsCheckingOf l.limits l.decks l.digits l.listing in
       checks_certify laws.verdict l.limits l.decks l.digits l.listing l.verdict Fault end a.case (subst P (sym a.is) l.is) a.valid ends_here
-  complete_by (inr (inr l)) =
+  complete_by (inr (inr (inl l))) =
       let E : Case → Type 0 = λ case. Ended Fault (Defines case) end in
       end_comes Fault (Defines (Writing l.model)) end (λ q d. d.0) (subst E (a.is ∙ l.is) ends_here)
+  complete_by (inr (inr (inr l))) =
+      let E : Case → Type 0 = λ case. Ended Fault (Defines case) end in
+      end_comes Fault (Defines (Jobs l.jobs)) end (λ q d. jobs_end_ok l.jobs end q l.each d) (subst E (a.is ∙ l.is) ends_here)
 
-pub complete : (laws : Laws) (words : List Text) (files : Option FileSet) (n m : ℕ) (end : Status) (puts : List Put) (old new : Seen) → Answers words files n m end puts → PutsMake old puts new → IfSome files (λ fs. Comes (Rose n m ⊎ Rose old.faults new.faults) words fs end)
-complete laws words (Some fs) n m end puts old new a makes = complete_by laws words fs n m end puts old new a makes
-complete laws words None n m end puts old new a makes = tt
+pub complete : (laws : Laws) (order : Option Wanted) (files : Option FileSet) (n m : ℕ) (end : Status) (puts : List Put) (old new : Seen) → Answers order files n m end puts → PutsMake old puts new → IfSome files (λ fs. Comes (Rose n m ⊎ Rose old.faults new.faults) order fs end)
+complete laws order (Some fs) n m end puts old new a makes = complete_by laws order fs n m end puts old new a makes
+complete laws order None n m end puts old new a makes = tt

@@ -1,16 +1,16 @@
 -- What a reading gives, by the name and the files of the folder.
 use Rattle.engine.proofs.Common.{◌≡◌, ◌⊎◌, inl, inr, ℕ, ◌≤◌, Bool, true, IfSome, length, List, Option, None, Some, Result, Ok, Err, IfOk, sym, ap, refl, ◌∙◌}
 use Rattle.engine.proofs.Common.{codes, if◌then◌else◌, map, subst, ℤ, unsigned_abs, length-map, FileSet, IsReading, file_at, file_refusal, input_fault}
-use Rattle.engine.proofs.Common.{TextFault, IsGoodName, is_good_name, BadName, InputFault, Refusal, Has, Stops, StopsText, FlowModel, IsModel, reads, Text}
-use Rattle.engine.proofs.Common.{ListedStep, pairs_in, AreListed, listing_in, zones_of, AreZonesOf, ZonedListing, AskedCheck, CouldList, named, numbers_of}
-use Rattle.engine.proofs.Common.{steps_in, steps_read, with_zones, zoned_steps, zones_named, AreStepsAs, AreZonesAs, IsListedAs, IsNamedFault, IsReadAs, Limits}
-use Rattle.engine.proofs.Common.{◌>>=◌, model_of, AreAlike, Difference, two, one_deck, AreDecksAs, IsSecondAs, IsUnlikeFault, second_by, Second, of_both}
-use Rattle.engine.proofs.Common.{of_first, of_second, second_in, Pairs, InputCounts, cell_count, false, AreDecks, Decks, AreDecksOf, IsNoSecond, IfErr}
-use Rattle.engine.proofs.Common.{IsFirstDifference}
-use Rattle.outside.specs.Folders.{ReadsOn}
+use Rattle.engine.proofs.Common.{TextFault, IsGoodName, is_good_name, BadName, InputFault, Refusal, Has, Stops, StopsText, FlowModel, IsModel, Text, ListedStep}
+use Rattle.engine.proofs.Common.{pairs_in, AreListed, listing_in, zones_of, AreZonesOf, ZonedListing, AskedCheck, CouldList, named, numbers_of, steps_in}
+use Rattle.engine.proofs.Common.{steps_read, with_zones, zoned_steps, zones_named, AreStepsAs, AreZonesAs, IsListedAs, IsNamedFault, IsReadAs, Limits, ◌>>=◌}
+use Rattle.engine.proofs.Common.{model_of, AreAlike, Difference, two, one_deck, AreDecksAs, IsSecondAs, IsUnlikeFault, second_by, Second, of_both, of_first}
+use Rattle.engine.proofs.Common.{of_second, Pairs, InputCounts, cell_count, false, AreDecks, Decks, AreDecksOf, IsNoSecond, IfErr, IsFirstDifference, second_in}
+use Rattle.engine.proofs.Common.{reads}
 use Rattle.std.proofs.Common.{All}
 use Rattle.model_reader.specs.Model.{names_in}
 use Rattle.engine.specs.declared.two_decks.Second.{Second as SecondBy}
+use Rattle.outside.specs.Folders.{ReadsOn}
 use Rattle.outside.specs.declared.traits.Folder.{Ghosts as FolderOf}
 use Rattle.outside.proofs.NameTests.{is_taken, is_good}
 use Rattle.model_reader.proofs.BasicLemmas.{both_read as in_a_row}

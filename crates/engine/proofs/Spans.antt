@@ -1,9 +1,9 @@
 -- What a run of two decks, or the check of such a listing, that ended Ok says.
-use Rattle.engine.proofs.Common.{◌≡◌, ℕ, List, [], ◌∷◌, Option, Some, Ok, map, subst, ap, ◌∙◌, FileSet, Put, Seen, PutsMake, taken, FlowModel, reads}
-use Rattle.engine.proofs.Common.{ZonedListing, Text, all_written, end_line, AreDecks, Task, Step, asked_in, listing, named, steps_read, zones_read}
-use Rattle.engine.proofs.Common.{certified_line, IsWhole, Limits, AllSteps, ListingIsOne, Steps, Bound, Solved, TimeStep, times, AreAllSteps, AreSteps, two}
-use Rattle.engine.proofs.Common.{ChoicesHaveOne, ListingVerdict, IsVerdict, AskedSpan, AskedSpanCheck, CheckSpan, Span, listing_read, span_task_of, IsCheck}
-use Rattle.engine.proofs.Common.{verdict_line, ArePairOf, OneSpan, SpanCertified, SpanHeadline, SpanVerdict, Second, second_in, deck_task, pairs_of, Bool, true}
+use Rattle.engine.proofs.Common.{◌≡◌, ℕ, List, [], ◌∷◌, Option, Some, Ok, map, subst, ap, ◌∙◌, FileSet, Put, Seen, PutsMake, taken, FlowModel, ZonedListing}
+use Rattle.engine.proofs.Common.{Text, all_written, end_line, AreDecks, Task, Step, asked_in, listing, named, steps_read, zones_read, certified_line, IsWhole}
+use Rattle.engine.proofs.Common.{Limits, AllSteps, ListingIsOne, Steps, Bound, Solved, TimeStep, times, AreAllSteps, AreSteps, two, ChoicesHaveOne}
+use Rattle.engine.proofs.Common.{ListingVerdict, IsVerdict, Asked, AskedCheck, Run, Check, listing_read, span_task_of, IsCheck, verdict_line, ArePairOf}
+use Rattle.engine.proofs.Common.{OneSpan, SpanVerdict, Second, deck_task, pairs_of, Bool, true, Wanted, second_in, reads}
 use Rattle.std.specs.Prelude.{true}
 use Rattle.listing_run.specs.declared.text.ListingEnd.TheVariants.{Whole}
 use Rattle.exact_histories.proofs.ChosenHistories.{choices_history, choices_one}
@@ -43,52 +43,42 @@ pair_of limits files name to a b first second valid = record {
   alike = valid.second.alike;
 }
 
-module _ (one : ListingIsOne) (words : List Text) (files : FileSet) (old new : Seen) (puts : List Put) (pieces : List Text) (written : puts ≡ map taken pieces) (makes : PutsMake old puts new) (a : FlowModel) (b : Second) where
+module _ (one : ListingIsOne) (order : Option Wanted) (files : FileSet) (old new : Seen) (puts : List Put) (pieces : List Text) (written : puts ≡ map taken pieces) (makes : PutsMake old puts new) (a : FlowModel) (b : Second) where
   -- a run
-  pub span_listed : (s : AskedSpan) → asked_in words ≡ Some (Span s) → named s.run.name (reads s.run.limits files) ≡ Ok a → named s.to (second_in s.run.limits files) ≡ Ok b → (zones : Option (List ℕ)) → zones_read files s.run.zones a ≡ Ok zones →
-      AreDecks (two a b.model) → IsWhole (span_task_of s.run a b.model zones) pieces → SpanHeadline words files old.written new.written × OneSpan words files old.written new.written
-  span_listed s wanted first second zones zoned valid v =
-      let k = span_task_of s.run a b.model zones in
-      let all = all_written (listing k v.values end_line) old new puts (written ∙ ap (map taken) v.are) makes in
-      let pair = pair_of s.run.limits files s.run.name s.to a b first second valid in (
-        record {
+  pub span_listed : (s : Asked) (to : Text) → asked_in order ≡ Some (Run s (Some to)) → named s.name (reads s.limits files) ≡ Ok a → named to (second_in s.limits files) ≡ Ok b → (zones : Option (List ℕ)) → zones_read files s.zones a ≡ Ok zones →
+      AreDecks (two a b.model) → IsWhole (span_task_of s a b.model zones) pieces → OneSpan order files old.written new.written
+  span_listed s to wanted first second zones zoned valid v =
+      let k = span_task_of s a b.model zones in
+      record {
+        headline = record {
           asked = s;
+          to = to;
           wanted = wanted;
-          decks = pair;
+          decks = pair_of s.limits files s.name to a b first second valid;
           zones = zones;
           zoned = zoned;
           values = v.values;
-          written = all;
+          written = all_written (listing k v.values end_line) old new puts (written ∙ ap (map taken) v.are) makes;
           encloses = v.encloses;
-          choices = have_choices s.run.limits a b.model s.run.digits zones s.run.rounds s.run.quick valid v.values v.steps;
-        },
-        record {
-          asked = s;
-          wanted = wanted;
-          decks = pair;
-          zones = zones;
-          zoned = zoned;
-          values = v.values;
-          steps = v.steps;
-          only = λ plain others steps. one k v.values others valid plain v.steps steps;
-          encloses = v.encloses;
-          written = all;
-        },
-      )
+          choices = have_choices s.limits a b.model s.digits zones s.rounds s.quick valid v.values v.steps;
+        };
+        values = record { steps = v.steps; only = λ plain others steps. one k v.values others valid plain v.steps steps; encloses = v.encloses };
+      }
 
   -- a check
-  pub span_checked : (s : AskedSpanCheck) → asked_in words ≡ Some (CheckSpan s) → named s.check.name (reads s.check.limits files) ≡ Ok a → named s.to (second_in s.check.limits files) ≡ Ok b → (l : ZonedListing) → listing_read true files s.check a ≡ Ok l →
-      AreDecks (two a b.model) → IsCheck s.check.limits (two a b.model) s.check.digits l status.Ok pieces → SpanCertified words files old.written new.written × SpanVerdict words files
-  span_checked s wanted first second l listed valid d =
-      let parts = zoned_parts (zones_read files s.check.zones a) (steps_read true files s.check a) l listed in
+  pub span_checked : (s : AskedCheck) (to : Text) → asked_in order ≡ Some (Check s (Some to)) → named s.name (reads s.limits files) ≡ Ok a → named to (second_in s.limits files) ≡ Ok b → (l : ZonedListing) → listing_read true files s a ≡ Ok l →
+      AreDecks (two a b.model) → IsCheck s.limits (two a b.model) s.digits l status.Ok pieces → SpanVerdict order files old.written new.written
+  span_checked s to wanted first second l listed valid d =
+      let parts = zoned_parts (zones_read files s.zones a) (steps_read true files s a) l listed in
       let holds = is_certified d.verdict d.status in
       let L : ListingVerdict → Type 0 = λ v. pieces ≡ verdict_line a.grid v ∷ [] in
-      let V : ListingVerdict → Type 0 = λ v. IsVerdict s.check.limits (two a b.model) s.check.digits l.zones l.steps v in
-      let pair = pair_of s.check.limits files s.check.name s.to a b first second valid in (
-        record {
+      let V : ListingVerdict → Type 0 = λ v. IsVerdict s.limits (two a b.model) s.digits l.zones l.steps v in
+      record {
+        certified = record {
           asked = s;
+          to = to;
           wanted = wanted;
-          decks = pair;
+          decks = pair_of s.limits files s.name to a b first second valid;
           zones = l.zones;
           zoned = parts.0;
           steps = l.steps;
@@ -96,6 +86,6 @@ module _ (one : ListingIsOne) (words : List Text) (files : FileSet) (old new : S
           written = all_written (certified_line ∷ []) old new puts (written ∙ ap (map taken) (subst L holds d.are)) makes;
           encloses = d.encloses holds;
           choices = d.history holds;
-        },
-        record { asked = s; wanted = wanted; decks = pair; zones = l.zones; zoned = parts.0; steps = l.steps; listed = parts.1; verdict = subst V holds d.is },
-      )
+        };
+        verdict = subst V holds d.is;
+      }

@@ -1,8 +1,8 @@
 -- The ends of the run of a made model.
 use Rattle.engine.proofs.Common.{◌≡◌, ℕ, List, [], ◌∷◌, Ok, Err, Result, IfOk, Some, ap, subst, sym, refl, inl, inr, FileSet, IsReading, Put, InputFault}
 use Rattle.engine.proofs.Common.{Refusal, FlowModel, IsModel, refused_line, IsEnd, IsWanting, Text, Status, lone, lacks_at_first, ListingEnd, last_line}
-use Rattle.engine.proofs.Common.{listing, status_of, made_files, made_name, reads, made_model, named, IsMade, made_task, summed_text, IsMadeRun, IsReadAs}
-use Rattle.engine.proofs.Common.{IsReadingEnd, made_fault, Plain, most_bytes, with_limit, IsSummarized}
+use Rattle.engine.proofs.Common.{listing, status_of, made_files, made_name, made_model, named, IsMade, made_task, summed_text, IsMadeRun, IsReadAs}
+use Rattle.engine.proofs.Common.{IsReadingEnd, made_fault, Plain, most_bytes, with_limit, IsSummarized, reads}
 use Rattle.listing_summary.specs.declared.summary.Summary.{Summary}
 use Rattle.engine.proofs.Ends.{wanting_stops}
 use Rattle.outside.specs.declared.inputs.InputFault.TheVariants as input

@@ -9,7 +9,8 @@ use Rattle.model_reader.specs.Model.{reads}
 use Rattle.run_puts.specs.Runs.{Text}
 use Rattle.listing_run.specs.Ends.{IsTask}
 use Rattle.engine.specs.declared.job.Job.{Job}
-use Rattle.engine.specs.Batches.{AskedBatch, Jobs, NoList, IsBatchCase, IsSomeJob, job_of, names_read}
+use Rattle.engine.specs.Cases.{AskedBatch, IsSomeJob, job_of, jobs_read, names_read, Batch, asked_in, but_batch}
+use Rattle.command_line.specs.Wants.{Wanted}
 use Rattle.engine.specs.declared.asked_batch.BatchOrder.{BatchOrder}
 use Rattle.outside.specs.declared.inputs.InputFault.TheVariants as input
 
@@ -22,16 +23,10 @@ abbrev pub IsJobRead : AskedBatch → Text → Option FileSet → Job → Type 0
 IsJobRead b name (Some files) job = job ≡ job_of b (reads b.limits files) name
 IsJobRead b name None job = IsSomeJob b job
 
--- a fault of reading a batch: its list's refusal; a read fault and lack of memory say nothing of the files
-abbrev pub IsFaultOf : AskedBatch → Option FileSet → InputFault → Type 0
-IsFaultOf b files (input.Refused refusal) = IsBatchCase b files (NoList refusal)
-IsFaultOf b files input.ReadFault = Unit {0}
-IsFaultOf b files input.Memory = Unit {0}
-
--- A reading of a batch gave its jobs, or failed by its cause.
+-- A reading of a batch gave its jobs: by these files, or where none are known some jobs or a refusal.
 abbrev pub IsBatchRead : AskedBatch → Option FileSet → Result (Vec Job Global) InputFault → Type 0
-IsBatchRead b files (Ok jobs) = IsBatchCase b files (Jobs jobs.items)
-IsBatchRead b files (Err fault) = IsFaultOf b files fault
+IsBatchRead b (Some files) answer = IsReading (λ (jobs : Vec Job Global). jobs.items) (jobs_read files b) answer
+IsBatchRead b None answer = IfOk answer (λ jobs. All (IsSomeJob b) jobs.items)
 
 -- the jobs that names stand for, in order
 abbrev pub AreJobsRead : AskedBatch → List Text → Option FileSet → List Job → Type 0
@@ -54,6 +49,11 @@ NeverRefused (Err input.Memory) = Unit {0}
 -- the batch; of its settling only the rounds are part of a definition
 abbrev pub batch_by : BatchOrder → AskedBatch
 batch_by a = record { limits = a.limits; list = a.list.now; digits = a.digits; rounds = a.rounds; quick = a.quick }
+
+-- the order is for this batch, or for none
+abbrev pub IsBatchOf : Option BatchOrder → Option Wanted → Type 0
+IsBatchOf (Some a) order = asked_in order ≡ Some (Batch (batch_by a))
+IsBatchOf None order = but_batch order ≡ order
 
 -- the ranges of its numbers
 abbrev pub IsBatchOrder : BatchOrder → Type 0

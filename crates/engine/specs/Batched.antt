@@ -19,7 +19,9 @@ use Rattle.listing_run.specs.Listing.{listing, BoundAll}
 use Rattle.exact_histories.specs.Histories.{HasHistory, AreSame}
 use Rattle.batch_puts.specs.declared.job_end.JobEnd.{JobEnd}
 use Rattle.batch_puts.specs.Batches.{first_not_ok, texts}
-use Rattle.engine.specs.Batches.{AskedBatch, IsJobEnd, batch_asked, job_of, job_task, model_line, names_read}
+use Rattle.command_line.specs.Wants.{Wanted}
+use Rattle.engine.specs.Cases.{AskedBatch, Batch, asked_in, job_of, job_task, names_read}
+use Rattle.engine.specs.Defined.{IsJobEnd, model_line}
 
 -- The text of a name is a listing that its files define, and without --quick the one; and every history of heads that solves
 -- the manual's exact equations of these files lies, step by step and cell by cell, between its heads, with each of its budget
@@ -49,10 +51,10 @@ pub record HasEnded (b : AskedBatch) (files : FileSet) (name : Text) (e : JobEnd
 -- A batch with these words over these files whose jobs ran, where a sink had the bytes `old` before it and `new` after
 -- it, has written one text for each name of its list, in the order of the list, and END; and its status is that of the
 -- first job that didn't end Ok.
-pub record Batched (words : List Text) (files : FileSet) (end : Status) (old new : Option (List ℕ)) : Type 0 where
+pub record Batched (order : Option Wanted) (files : FileSet) (end : Status) (old new : Option (List ℕ)) : Type 0 where
   -- The words ask for a batch, and its list has these names.
   pub asked : AskedBatch
-  pub wanted : batch_asked words ≡ Some asked
+  pub wanted : asked_in order ≡ Some (Batch asked)
   pub names : List Text
   pub read : names_read files asked ≡ Ok names
   -- Each has one end.

@@ -1,12 +1,13 @@
 -- The case of a run: what its words and files define.
-use Rattle.std.specs.Prelude.{◌≡◌, ◌⊎◌, ℕ, ℤ, Bool, true, false, List, map, Result, Ok, Err, Option, Some, None, IfOk, codes, if◌then◌else◌, option_and_then, unsigned_abs}
+use Rattle.std.specs.Prelude.{◌≡◌, ◌⊎◌, ℕ, ℤ, Bool, true, false, List, map, Result, Ok, Err, Option, Some, None, IfOk, codes, if◌then◌else◌, option_map, is_some, All}
+use Rattle.std.specs.Prelude.{unsigned_abs}
 use Rattle.outside.specs.Files.{FileSet, with_limit}
 use Rattle.model_types.specs.Limits.{most_bytes}
 use Rattle.outside.specs.Inputs.{file_at, file_refusal}
 use Rattle.outside.specs.Names.{is_good_name}
 use Rattle.outside.specs.declared.codes.Code.TheVariants.{BadName}
 use Rattle.outside.specs.declared.inputs.Refusal.{Refusal}
-use Rattle.command_line.specs.Wants.{Wanted, Lists, ListsTo, Checks, ChecksTo, Makes, Writes, wanted_of}
+use Rattle.command_line.specs.Wants.{Wanted, Lists, Checks, Makes, Batches, Writes}
 use Rattle.model_types.specs.declared.limits.Limits.{Limits}
 use Rattle.model_types.specs.declared.limits.Limits.TheVariants.{Plain, Wide}
 use Rattle.model_types.specs.declared.model.FlowModel.{FlowModel}
@@ -25,6 +26,8 @@ use Rattle.deck_problems.specs.declared.decks.Decks.{Decks}
 use Rattle.deck_problems.specs.Decks.{one_deck}
 use Rattle.step_chain.specs.Steps.{two}
 use Rattle.listing_run.specs.Tasks.{deck_task, one_task}
+use Rattle.batch_list.specs.Names.{names_in}
+use Rattle.engine.specs.declared.job.Job.{Job}
 use Rattle.engine.specs.declared.zoned.ZonedListing.{ZonedListing}
 use Rattle.engine.specs.TwoDecks.{Second, second_in}
 
@@ -52,53 +55,49 @@ pub record AskedCheck : Type 0 where
   pub digits : ℕ
   pub zones : Option Text
 
--- A listing for all models between two decks: as a listing of the first one, and the name of the second one's name file.
-pub record AskedSpan : Type 0 where
-  pub run : Asked
-  pub to : Text
+-- A batch of models that the words ask for: the limits of all its jobs, the name of its list, the digits of conductances, the number of
+-- plain rounds in which a step must settle, and whether a step may have any pair that is a certificate.
+pub record AskedBatch : Type 0 where
+  pub limits : Limits
+  pub list : Text
+  pub digits : ℕ
+  pub rounds : ℕ
+  pub quick : Bool
 
--- The check of such a listing.
-pub record AskedSpanCheck : Type 0 where
-  pub check : AskedCheck
-  pub to : Text
-
--- A command: to list a model, or all models between two; to make one from this seed, with this many rows and columns, and sum
--- it up; to check a listing of a model, or of all between two; or to write the deck of the model of this name file, by these limits.
+-- A command: to list a model, or with the name of a second name file all models between two; to make one from this seed, with this
+-- many rows and columns, and sum it up; to check a listing of a model, or of all between two; to list the models of a batch; or to write the deck of the model of this name file, by these limits.
 pub data Command : Type 0 where
-  Run : Asked → Command
-  Span : AskedSpan → Command
+  Run : Asked → Option Text → Command
   Make : ℕ → ℕ → Command
-  Check : AskedCheck → Command
-  CheckSpan : AskedSpanCheck → Command
+  Check : AskedCheck → Option Text → Command
+  Batch : AskedBatch → Command
   Write : Limits → Text → Command
 
--- The commands that are implemented here. What is put does not depend on the number of workers, nor on views.
-abbrev pub built : Wanted → Option Command
-built (Lists name digits workers rounds zones watch quick wide) =
-    Some (Run (record { limits = limits_of wide; name = name; digits = digits; rounds = rounds; zones = zones; quick = quick }))
-built (ListsTo name to digits workers rounds zones watch quick wide) =
-    Some (Span (record { run = record { limits = limits_of wide; name = name; digits = digits; rounds = rounds; zones = zones; quick = quick }; to = to }))
-built (Makes seed size) = Some (Make seed size)
-built (Checks name listing digits zones wide) =
-    Some (Check (record { limits = limits_of wide; name = name; listing = listing; digits = digits; zones = zones }))
-built (ChecksTo name to listing digits zones wide) =
-    Some (CheckSpan (record { check = record { limits = limits_of wide; name = name; listing = listing; digits = digits; zones = zones }; to = to }))
-built (Writes name wide) = Some (Write (limits_of wide) name)
-built other = None
+-- The command of an order. What is put does not depend on the number of workers, nor on views.
+abbrev pub built : Wanted → Command
+built (Lists name to digits workers rounds zones watch quick wide) =
+    Run (record { limits = limits_of wide; name = name; digits = digits; rounds = rounds; zones = zones; quick = quick }) to
+built (Makes seed size) = Make seed size
+built (Checks name to listing digits zones wide) =
+    Check (record { limits = limits_of wide; name = name; listing = listing; digits = digits; zones = zones }) to
+built (Batches list digits workers rounds quick wide) =
+    Batch (record { limits = limits_of wide; list = list; digits = digits; rounds = rounds; quick = quick })
+built (Writes name wide) = Write (limits_of wide) name
 
--- the command that the words ask for; None where they aren't accepted
-abbrev pub asked_in : List Text → Option Command
-asked_in words = option_and_then built (wanted_of words)
+-- the command that an order asks for, which words give; None where they aren't accepted
+abbrev pub asked_in : Option Wanted → Option Command
+asked_in order = option_map built order
+
+-- the order for one model: none if it is for a batch
+abbrev pub but_batch : Option Wanted → Option Wanted
+but_batch (Some (Batches list digits workers rounds quick wide)) = None
+but_batch order = order
 
 -- no file of the folder is read: without a command, and to make a model
 abbrev pub ReadsNothing : Option Command → Type 0
 ReadsNothing None = Unit {0}
-ReadsNothing (Some (Run asked)) = ⊥
-ReadsNothing (Some (Span asked)) = ⊥
 ReadsNothing (Some (Make seed size)) = Unit {0}
-ReadsNothing (Some (Check asked)) = ⊥
-ReadsNothing (Some (CheckSpan asked)) = ⊥
-ReadsNothing (Some (Write limits name)) = ⊥
+ReadsNothing asked = ⊥
 
 -- what is listed of a model, with the zones of its cells if there is a zone file
 abbrev pub task_of : Asked → FlowModel → Option (List ℕ) → Task
@@ -113,13 +112,15 @@ span_task_of asked first second zones = decks_task asked (two first second) zone
 
 -- The case of a run: the words aren't accepted; this is the first refusal; this is listed; a model is made from this
 -- seed and size, whose files read as this one or have this refusal; this listing of decks is checked, by these limits and
--- with these digits; the deck of a model is written; or two decks are compared, and where they are alike this is the case.
+-- with these digits; these jobs of a batch are run; the deck of a model is written; or two decks are compared, and where they are alike
+-- this is the case.
 pub data Case : Type 0 where
   NoWords : Case
   Refuses : Refusal → Case
   Listing : Task → Case
   Making : ℕ → ℕ → Result FlowModel Refusal → Case
   Checking : Limits → Decks → ℕ → ZonedListing → Case
+  Jobs : List Job → Case
   Writing : FlowModel → Case
   Comparing : FlowModel → Second → Case → Case
 
@@ -179,6 +180,34 @@ zoned_steps (Err refusal) read = Err refusal
 abbrev pub listing_read : Bool → FileSet → AskedCheck → FlowModel → Result ZonedListing Refusal
 listing_read between files asked m = zoned_steps (zones_read files asked.zones m) (steps_read between files asked m)
 
+abbrev pub names_at : Text → Result (List ℕ) Refusal → Result (List Text) Refusal
+names_at name (Ok bytes) = names_in name bytes
+names_at name (Err refusal) = Err refusal
+
+-- the names of a batch's list; the list's own name is tested before its file
+abbrev pub names_read : FileSet → AskedBatch → Result (List Text) Refusal
+names_read files b = named b.list (λ name. names_at name (file_at files name))
+
+-- what is listed of a model of the batch
+abbrev pub job_task : AskedBatch → FlowModel → Task
+job_task b m = one_task b.limits m b.digits None b.rounds b.quick
+
+abbrev pub task_read : AskedBatch → Result FlowModel Refusal → Result Task Refusal
+task_read b (Ok m) = Ok (job_task b m)
+task_read b (Err refusal) = Err refusal
+
+-- the job of a name, by this reading of models: what is listed, or the first refusal of its files
+abbrev pub job_of : AskedBatch → (Text → Result FlowModel Refusal) → Text → Job
+job_of b read name = record { name = name; read = task_read b (read name) }
+
+-- the jobs of a batch, or its list's first refusal
+abbrev pub jobs_of : AskedBatch → Result (List Text) Refusal → (Text → Result FlowModel Refusal) → Result (List Job) Refusal
+jobs_of b (Ok names) read = Ok (map (job_of b read) names)
+jobs_of b (Err refusal) read = Err refusal
+
+abbrev pub jobs_read : FileSet → AskedBatch → Result (List Job) Refusal
+jobs_read files b = jobs_of b (names_read files b) (reads b.limits files)
+
 -- Decks that are read, a first one and a second one if there is one, come to this case, or to the refusal of the first or else
 -- of the second. Two are compared.
 abbrev pub case_decks : Result FlowModel Refusal → Option (Result Second Refusal) → (Decks → Case) → Case
@@ -195,27 +224,29 @@ abbrev pub case_listed : AskedCheck → Decks → Result ZonedListing Refusal �
 case_listed asked d (Ok listing) = Checking asked.limits d asked.digits listing
 case_listed asked d (Err refusal) = Refuses refusal
 
--- readings of models and of second decks by limits, of zone files, and of listings of a model or of all models between two
+abbrev pub case_jobs : Result (List Job) Refusal → Case
+case_jobs (Ok jobs) = Jobs jobs
+case_jobs (Err refusal) = Refuses refusal
+
+-- readings of models and of second decks by limits, of zone files, of listings of a model or of all models between two, and of batches
 pub record Readings : Type 0 where
   pub model : Limits → Text → Result FlowModel Refusal
   pub second : Limits → Text → Result Second Refusal
   pub zones : Option Text → FlowModel → Result (Option (List ℕ)) Refusal
   pub listing : Bool → AskedCheck → FlowModel → Result ZonedListing Refusal
+  pub jobs : AskedBatch → Result (List Job) Refusal
 
 -- the case of a command, by these readings
 abbrev pub case_asked : Option Command → Readings → Case
 case_asked None read = NoWords
-case_asked (Some (Run asked)) read =
-    case_decks (named asked.name (read.model asked.limits)) None (λ d. case_zoned asked d (read.zones asked.zones d.first))
-case_asked (Some (Span asked)) read =
-    case_decks (named asked.run.name (read.model asked.run.limits)) (Some (named asked.to (read.second asked.run.limits)))
-    (λ d. case_zoned asked.run d (read.zones asked.run.zones d.first))
+case_asked (Some (Run asked to)) read =
+    case_decks (named asked.name (read.model asked.limits)) (option_map (λ last. named last (read.second asked.limits)) to)
+    (λ d. case_zoned asked d (read.zones asked.zones d.first))
 case_asked (Some (Make seed size)) read = Making seed size (made_model seed size)
-case_asked (Some (Check asked)) read =
-    case_decks (named asked.name (read.model asked.limits)) None (λ d. case_listed asked d (read.listing false asked d.first))
-case_asked (Some (CheckSpan asked)) read =
-    case_decks (named asked.check.name (read.model asked.check.limits)) (Some (named asked.to (read.second asked.check.limits)))
-    (λ d. case_listed asked.check d (read.listing true asked.check d.first))
+case_asked (Some (Check asked to)) read =
+    case_decks (named asked.name (read.model asked.limits)) (option_map (λ last. named last (read.second asked.limits)) to)
+    (λ d. case_listed asked d (read.listing (is_some to) asked d.first))
+case_asked (Some (Batch b)) read = case_jobs (read.jobs b)
 case_asked (Some (Write limits name)) read = case_decks (named name (read.model limits)) None (λ d. Writing d.first)
 
 -- the readings of these files
@@ -225,11 +256,12 @@ readings_of files = record {
   second = λ limits. second_in limits files;
   zones = zones_read files;
   listing = λ between. listing_read between files;
+  jobs = jobs_read files;
 }
 
--- the case of these words and files
-abbrev pub case_of : List Text → FileSet → Case
-case_of words files = case_asked (asked_in words) (readings_of files)
+-- the case of this order and these files
+abbrev pub case_of : Option Wanted → FileSet → Case
+case_of order files = case_asked (asked_in order) (readings_of files)
 
 -- a listing that could be read of a model, without zones or with these
 pub record CouldList (m : FlowModel) (zoned : Result (List ℤ) Refusal) (steps : List ListedStep) : Type 0 where
@@ -252,12 +284,25 @@ some_readings read second zoned listed = record {
   second = λ limits name. second;
   zones = λ zones m. zones_named zones (λ name. zoned);
   listing = λ between asked m. zoned_steps (zones_named asked.zones (λ name. zoned)) (λ zones. named asked.listing (λ name. listed));
+  jobs = λ b. Err (file_refusal BadName (codes "-"));
 }
 
--- The case of the words by these files. Where none are known there is some possible result of reading.
-abbrev pub IsCase : List Text → Option FileSet → Case → Type 0
-IsCase words (Some files) case = case ≡ case_of words files
-IsCase words None case =
-    (read : Result FlowModel Refusal) × (second : Result Second Refusal) × (zoned : Result (List ℤ) Refusal)
+-- a possible job where no files are known: a valid model is listed, or there is a refusal
+abbrev pub IsSomeJob : AskedBatch → Job → Type 0
+IsSomeJob b job = IfOk job.read (λ k. IsModel k.decks.first × (k ≡ job_task b k.decks.first))
+
+-- a possible case of a batch where no files are known: a name that stands twice may be read differently each time
+pub record IsSomeBatch (order : Option Wanted) (case : Case) : Type 0 where
+  pub batch : AskedBatch
+  pub wanted : asked_in order ≡ Some (Batch batch)
+  pub jobs : Result (List Job) Refusal
+  pub each : IfOk jobs (All (IsSomeJob batch))
+  pub is : case ≡ case_jobs jobs
+
+-- The case of an order by these files. Where none are known there is some possible result of reading.
+abbrev pub IsCase : Option Wanted → Option FileSet → Case → Type 0
+IsCase order (Some files) case = case ≡ case_of order files
+IsCase order None case = IsSomeBatch order case ⊎
+    ((read : Result FlowModel Refusal) × (second : Result Second Refusal) × (zoned : Result (List ℤ) Refusal)
     × (listed : Result (List ListedStep) Refusal) × CouldRead read second zoned listed
-    × (case ≡ case_asked (asked_in words) (some_readings read second zoned listed))
+    × (case ≡ case_asked (asked_in order) (some_readings read second zoned listed)))

@@ -1,6 +1,7 @@
 -- What a certified listing promises.
-use Rattle.std.specs.Prelude.{◌≡◌, ℕ, ℤ, false, List, Ok, Option, Some}
+use Rattle.std.specs.Prelude.{◌≡◌, ℕ, ℤ, false, List, Ok, Option, Some, None}
 use Rattle.std.specs.Io.KnownBytes.{Appends}
+use Rattle.command_line.specs.Wants.{Wanted}
 use Rattle.outside.specs.Files.{FileSet}
 use Rattle.model_types.specs.declared.model.FlowModel.{FlowModel}
 use Rattle.model_types.specs.Heads.{start_head}
@@ -21,11 +22,11 @@ use Rattle.engine.specs.Checked.{certified_line}
 -- it: the files have a listing, whoever wrote it, and every history of heads that solves the manual's exact equations
 -- of the files lies, step by step and cell by cell, between its heads, with each of its budget flows between its terms, and
 -- each of its flows between two zones of a zone file between its two numbers. How it was judged stands in `OneVerdict`.
-pub record Certified (words : List Text) (files : FileSet) (old new : Option (List ℕ)) : Type 0 where
+pub record Certified (order : Option Wanted) (files : FileSet) (old new : Option (List ℕ)) : Type 0 where
   -- The words ask for a check, the files read as a model, which is valid, and as zones of its cells where the words name a
   -- zone file, and the named file as a listing of it.
   pub asked : AskedCheck
-  pub wanted : asked_in words ≡ Some (Check asked)
+  pub wanted : asked_in order ≡ Some (Check asked None)
   pub model : FlowModel
   pub read : reads asked.limits files asked.name ≡ Ok model
   pub valid : IsModel model

@@ -8,7 +8,7 @@ use Rattle.engine.specs.declared.asked.AskedCheck.{AskedCheck as AskedCheckBy}
 use Rattle.engine.specs.declared.asked.Command.{Command as CommandBy}
 use Rattle.engine.specs.declared.asked.Command.TheVariants as command
 use Rattle.run_puts.specs.Runs.{Text}
-use Rattle.engine.specs.Cases.{Asked, AskedCheck, Command, Run, Span, Make, Check, CheckSpan, Write}
+use Rattle.engine.specs.Cases.{Asked, AskedCheck, Command, Run, Make, Check, Write}
 
 -- the listing that is asked for; of how it is settled only the rounds are part of a definition
 abbrev pub asked_of : AskedBy → Asked
@@ -23,19 +23,10 @@ check_of a = record { limits = a.limits; name = a.name.now; listing = a.listing.
 abbrev pub to_of : Option (Bor Text) → Option Text
 to_of to = option_map (λ name. name.now) to
 
--- a listing, or a check of one, of one deck or of all models between two
-abbrev pub run_to : Asked → Option Text → Command
-run_to asked None = Run asked
-run_to asked (Some to) = Span (record { run = asked; to = to })
-
-abbrev pub check_to : AskedCheck → Option Text → Command
-check_to asked None = Check asked
-check_to asked (Some to) = CheckSpan (record { check = asked; to = to })
-
 abbrev pub command_of : CommandBy → Command
-command_of (command.Run a) = run_to (asked_of a) (to_of a.to)
+command_of (command.Run a) = Run (asked_of a) (to_of a.to)
 command_of (command.Make seed size) = Make seed size
-command_of (command.Check a) = check_to (check_of a) (to_of a.to)
+command_of (command.Check a) = Check (check_of a) (to_of a.to)
 command_of (command.Write limits name) = Write limits name.now
 
 -- the number of views in each phase

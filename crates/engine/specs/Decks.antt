@@ -1,6 +1,7 @@
 -- What is promised of a deck that is written.
 use Rattle.std.specs.Prelude.{◌≡◌, ℕ, List, [], ◌∷◌, Ok, Option, Some}
 use Rattle.std.specs.Io.KnownBytes.{Appends}
+use Rattle.command_line.specs.Wants.{Wanted}
 use Rattle.outside.specs.Files.{FileSet}
 use Rattle.model_types.specs.declared.limits.Limits.{Limits}
 use Rattle.model_types.specs.declared.model.FlowModel.{FlowModel}
@@ -18,11 +19,11 @@ IsDeck m end pieces = (end ≡ status.Ok) × (pieces ≡ deck_text m ∷ [])
 
 -- A run with these words over these files that ended Ok, where a sink had the bytes `old` before it and `new` after it,
 -- has written the one deck of the model that the files read as; and the files of that deck are read as the same model.
-pub record OneDeck (words : List Text) (files : FileSet) (old new : Option (List ℕ)) : Type 0 where
+pub record OneDeck (order : Option Wanted) (files : FileSet) (old new : Option (List ℕ)) : Type 0 where
   -- The words ask for a deck, and the files read as a model, which is valid.
   pub limits : Limits
   pub name : Text
-  pub wanted : asked_in words ≡ Some (Write limits name)
+  pub wanted : asked_in order ≡ Some (Write limits name)
   pub model : FlowModel
   pub read : reads limits files name ≡ Ok model
   pub valid : IsModel model

@@ -1,27 +1,57 @@
 -- The end and the pieces that a case defines.
-use Rattle.std.specs.Prelude.{◌≡◌, ◌⊎◌, List, [], ◌∷◌}
+use Rattle.std.specs.Prelude.{◌≡◌, ◌⊎◌, List, [], ◌∷◌, ◌++◌, Result, Ok, Err, codes}
+use Rattle.std.specs.List.{concat}
+use Rattle.outside.specs.declared.inputs.Refusal.{Refusal}
 use Rattle.command_line.specs.Commands.{usage_line}
 use Rattle.listing_io.specs.LastLines.{refused_line}
 use Rattle.run_puts.specs.Runs.{Text, read_fault_line}
 use Rattle.run_puts.specs.declared.puts.Status.{Status}
 use Rattle.run_puts.specs.declared.puts.Status.TheVariants as status
+use Rattle.listing_run.specs.declared.steps.Task.{Task}
+use Rattle.batch_puts.specs.declared.job_end.JobEnd.{JobEnd}
+use Rattle.batch_puts.specs.Batches.{IsBatch}
+use Rattle.engine.specs.declared.job.Job.{Job}
 use Rattle.listing_run.specs.Listing.{IsListing, IsCutListing}
-use Rattle.engine.specs.Cases.{Case, NoWords, Refuses, Listing, Making, Checking, Writing, Comparing}
+use Rattle.engine.specs.Cases.{Case, NoWords, Refuses, Listing, Making, Checking, Jobs, Writing, Comparing}
 use Rattle.deck_span.specs.Alike.{AreAlike}
 use Rattle.engine.specs.TwoDecks.{IsUnlike}
 use Rattle.engine.specs.Made.{IsMade}
 use Rattle.engine.specs.Checked.{IsCheck}
 use Rattle.engine.specs.Decks.{IsDeck}
 
+-- a refusal has this end and these pieces: its line
+abbrev pub IsRefusal : Refusal → Status → List Text → Type 0
+IsRefusal refusal end pieces = (end ≡ status.Refused refusal) × (pieces ≡ refused_line refusal ∷ [])
+
+-- the line before the text of a job
+abbrev pub model_line : Text → Text
+model_line name = codes "MODEL " ++ (name ++ codes "\n")
+
+-- what was read of a job's name has this end and these pieces: those of its listing, or of its refusal
+abbrev pub JobDefines : Result Task Refusal → Status → List Text → Type 0
+JobDefines (Ok k) end pieces = IsListing k end pieces
+JobDefines (Err refusal) end pieces = IsRefusal refusal end pieces
+
+-- A job may have this status, and its pieces are this text after the bytes `before`.
+pub record IsRunText (read : Result Task Refusal) (before : Text) (e : JobEnd) : Type 0 where
+  pub pieces : List Text
+  pub defined : JobDefines read e.status pieces
+  pub text : e.text.items ≡ before ++ concat pieces
+
+-- A job may end with this status and this text: its name, and then the pieces of a run of its model.
+abbrev pub IsJobEnd : Job → JobEnd → Type 0
+IsJobEnd job e = IsRunText job.read (model_line job.name) e
+
 -- A run of this case has this end and these pieces: the usage line; the line of the refusal; a listing, whole or up
 -- to a step without bounds or one that the rounds don't settle; the pieces of a made model; the line of a check's
--- verdict; the text of a deck; or of two decks the refusal of their first difference, or where they are alike what is due then.
+-- verdict; the text of each job of a batch, in the order of the list, and END; the text of a deck; or of two decks the refusal of their first difference, or where they are alike what is due then.
 abbrev pub Defines : Case → Status → List Text → Type 0
 Defines NoWords end pieces = (end ≡ status.Usage) × (pieces ≡ usage_line ∷ [])
-Defines (Refuses refusal) end pieces = (end ≡ status.Refused refusal) × (pieces ≡ refused_line refusal ∷ [])
+Defines (Refuses refusal) end pieces = IsRefusal refusal end pieces
 Defines (Listing k) end pieces = IsListing k end pieces
 Defines (Making seed size read) end pieces = IsMade seed size read end pieces
 Defines (Checking limits d s listing) end pieces = IsCheck limits d s listing end pieces
+Defines (Jobs jobs) end pieces = IsBatch IsJobEnd jobs end pieces
 Defines (Writing m) end pieces = IsDeck m end pieces
 Defines (Comparing a b case) end pieces = IsUnlike a b end pieces ⊎ (AreAlike a b.model × Defines case end pieces)
 

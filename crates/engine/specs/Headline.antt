@@ -1,7 +1,8 @@
 -- The headline.
-use Rattle.std.specs.Prelude.{◌≡◌, ℕ, ℤ, List, Ok, Option, Some}
+use Rattle.std.specs.Prelude.{◌≡◌, ℕ, ℤ, List, Ok, Option, Some, None}
 use Rattle.std.specs.List.{concat}
 use Rattle.std.specs.Io.KnownBytes.{Appends}
+use Rattle.command_line.specs.Wants.{Wanted}
 use Rattle.outside.specs.Files.{FileSet}
 use Rattle.model_types.specs.declared.model.FlowModel.{FlowModel}
 use Rattle.model_types.specs.Heads.{start_head}
@@ -19,10 +20,10 @@ use Rattle.engine.specs.Cases.{Asked, Run, asked_in, task_of, zones_read}
 -- equations of these files lies, step by step and cell by cell, between its heads, with each of its budget flows
 -- between its terms, and each of its flows between two zones of a zone file between its two numbers. That it is the one
 -- listing which the files define stands in `OneListing`.
-pub record Headline (words : List Text) (files : FileSet) (old new : Option (List ℕ)) : Type 0 where
+pub record Headline (order : Option Wanted) (files : FileSet) (old new : Option (List ℕ)) : Type 0 where
   -- The words ask for a listing, and the files read as a model, which is valid, and as zones of its cells where the words name a zone file.
   pub asked : Asked
-  pub wanted : asked_in words ≡ Some (Run asked)
+  pub wanted : asked_in order ≡ Some (Run asked None)
   pub model : FlowModel
   pub read : reads asked.limits files asked.name ≡ Ok model
   pub valid : IsModel model

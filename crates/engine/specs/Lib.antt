@@ -15,7 +15,5 @@ pub mod Storage
 pub mod Parts
 pub mod Written
 pub mod Serving
-pub mod Batches
-pub mod BatchRuns
 pub mod Batched
 pub mod BatchReads

@@ -1,4 +1,5 @@
 -- A model that is made from a seed: the end and the pieces of its run.
+use Rattle.command_line.specs.Wants.{Wanted}
 use Rattle.outside.specs.Files.{with_limit}
 use Rattle.model_types.specs.Limits.{most_bytes}
 use Rattle.std.specs.Prelude.{◌≡◌, ℕ, ℤ, false, List, [], ◌∷◌, Ok, Err, Option, Some, None, Result}
@@ -50,11 +51,11 @@ IsMade seed size (Ok m) end pieces = IsSummed seed size (made_task m) end pieces
 -- summary of a listing of the model that the made files read as; and every history of heads that solves the manual's
 -- exact equations of these files lies between the heads and the terms of that listing. That it is the one listing which
 -- the made files define stands in `OneSummary`.
-pub record Made (words : List Text) (old new : Option (List ℕ)) : Type 0 where
+pub record Made (order : Option Wanted) (old new : Option (List ℕ)) : Type 0 where
   -- The words ask for a made model, and its files read as a model, which is valid.
   pub seed : ℕ
   pub size : ℕ
-  pub wanted : asked_in words ≡ Some (Make seed size)
+  pub wanted : asked_in order ≡ Some (Make seed size)
   pub model : FlowModel
   pub read : reads Plain (with_limit (most_bytes Plain) (made_files seed size)) made_name ≡ Ok model
   pub valid : IsModel model

@@ -1,5 +1,5 @@
 -- What the parts of a run return and put.
-use Rattle.std.specs.Prelude.{◌≡◌, ◌⊎◌, ℕ, ℤ, Bool, List, map, unsigned_abs, Result, Option, Some, None, IfOk, IfSome, codes, option_map}
+use Rattle.std.specs.Prelude.{◌≡◌, ◌⊎◌, ℕ, ℤ, Bool, List, map, unsigned_abs, Result, Option, Some, None, IfOk, IfSome, codes, option_map, All}
 use Rattle.outside.specs.Puts.{Rose, Put}
 use Rattle.outside.specs.Files.{FileSet}
 use Rattle.outside.specs.Inputs.{IsReading, file_refusal}
@@ -27,7 +27,9 @@ use Rattle.step_chain.specs.Steps.{two}
 use Rattle.run_puts.specs.Runs.{IsEnd, IsLast, IsWanting, Text, read_fault_line, IsRun, NeverCut}
 use Rattle.run_puts.specs.declared.puts.Status.{Status}
 use Rattle.run_puts.specs.declared.puts.Status.TheVariants as status
-use Rattle.engine.specs.Cases.{AskedCheck, Case, Listing, Making, Checking, Writing, Comparing, CouldList, IsCase, listing_read, made_model, named, steps_read, zoned_steps, zones_named, zones_read}
+use Rattle.engine.specs.Cases.{AskedCheck, Case, Listing, Making, Checking, Jobs, Writing, Comparing, CouldList, IsCase, listing_read, made_model, named, steps_read, zoned_steps, zones_named, zones_read}
+use Rattle.command_line.specs.Wants.{Wanted}
+use Rattle.engine.specs.declared.job.Job.{Job}
 use Rattle.engine.specs.Made.{IsMade}
 use Rattle.engine.specs.Runs.{IsLeft, IsRunOf}
 use Rattle.engine.specs.Watched.{SidePuts, Watched, views_in}
@@ -115,29 +117,34 @@ pub record IsListed (m : FlowModel) (listing : ZonedListing) : Type 0 where
 abbrev pub IsStopped : Status → Type 0
 IsStopped end = (end ≡ status.ReadFault) ⊎ ((end ≡ status.WriteFault) ⊎ (end ≡ status.Memory))
 
--- the model of a listing, of made files or of a deck is valid, and so are the steps that are checked, unless they weren't read whole
+-- the model of a job that has no refusal is valid
+abbrev pub IsValidJob : Job → Type 0
+IsValidJob job = IfOk job.read (λ k. AreDecks k.decks)
+
+-- the model of a listing, of made files, of each job or of a deck is valid, and so are the steps that are checked, unless they weren't read whole
 abbrev pub IsValid : Case → Status → Type 0
 IsValid (Listing k) end = AreDecks k.decks ⊎ IsStopped end
 IsValid (Making seed size read) end = IfOk read IsModel ⊎ IsStopped end
 IsValid (Checking limits d s listing) end = (AreDecks d × IsListed d.first listing) ⊎ IsStopped end
+IsValid (Jobs jobs) end = All IsValidJob jobs ⊎ IsStopped end
 IsValid (Writing m) end = IsModel m ⊎ IsStopped end
 IsValid (Comparing a b case) end = (AreAlike a b.model → ⊥) ⊎ IsValid case end
 IsValid other end = Unit {0}
 
 -- all facts of a run's result
-pub record Answers (words : List Text) (files : Option FileSet) (before after : ℕ) (end : Status) (puts : List Put) : Type 0 where
+pub record Answers (order : Option Wanted) (files : Option FileSet) (before after : ℕ) (end : Status) (puts : List Put) : Type 0 where
   pub case : Case
-  pub is : IsCase words files case
+  pub is : IsCase order files case
   pub run : IsRunOf (Rose before after) case end puts
   pub valid : IsValid case end
 
 -- Facts of a run's result beside which a side sink is led so: all of the above, or it stopped since a write beside it
 -- failed; and the side sink got the views that are asked for: of the first steps, and if the run ended Ok of all.
-pub record AnswersBeside (words : List Text) (files : Option FileSet) (before after : ℕ) (failed_beside : Type 0)
+pub record AnswersBeside (order : Option Wanted) (files : Option FileSet) (before after : ℕ) (failed_beside : Type 0)
     (leads : List Put → Type 0) (end : Status) (puts : List Put) : Type 0 where
-  pub answers : Answers words files before after end puts ⊎ ((case : Case) × IsCase words files case × IsLeft failed_beside case end puts)
-  pub watched : end ≡ status.Ok → (n : ℕ) → views_in words ≡ Some n → IfSome files (λ fs. Watched words fs n leads)
-  pub side : IfSome files (λ fs. SidePuts leads words fs (views_in words))
+  pub answers : Answers order files before after end puts ⊎ ((case : Case) × IsCase order files case × IsLeft failed_beside case end puts)
+  pub watched : end ≡ status.Ok → (n : ℕ) → views_in order ≡ Some n → IfSome files (λ fs. Watched order fs n leads)
+  pub side : IfSome files (λ fs. SidePuts leads order fs (views_in order))
 
 -- a fault of reading made files: they are in memory, so one that is no refusal is lack of memory
 abbrev pub made_fault : InputFault → InputFault

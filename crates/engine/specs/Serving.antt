@@ -11,27 +11,26 @@ use Rattle.engine.specs.Headline.{Headline}
 use Rattle.engine.specs.Made.{Made}
 use Rattle.engine.specs.OneListing.{OneListing, OneSummary, OneVerdict}
 use Rattle.engine.specs.SpanHeadline.{OneSpan, SpanCertified, SpanHeadline, SpanVerdict}
-use Rattle.engine.specs.BatchRuns.{AnyPuts}
+use Rattle.engine.specs.Runs.{Puts}
 use Rattle.engine.specs.Batched.{Batched, HasNoList}
-use Rattle.engine.specs.Batches.{AskedBatch, batch_asked}
+use Rattle.command_line.specs.Wants.{Wanted, wanted_of, Lists, Checks, Makes, Batches, Writes}
+use Rattle.engine.specs.Cases.{AskedBatch, Batch, asked_in, limits_of}
 use Rattle.model_types.specs.Limits.{most_bytes}
 use Rattle.model_types.specs.declared.limits.Limits.{Limits}
 use Rattle.model_types.specs.declared.limits.Limits.TheVariants.{Plain}
-use Rattle.command_line.specs.Wants.{Wanted, Lists, ListsTo, Checks, ChecksTo, Makes, Batches, Writes, wanted_of}
-use Rattle.engine.specs.Cases.{limits_of}
 
 -- The files that the words name, and how many bytes of one are read.
 -- the name file of a run, the second one if there is one, and its zone file if there is one; the same of a check, and its
 -- listing; the list of a batch; the name file of a deck
 abbrev pub files_of : Wanted → List Text
-files_of (Lists name digits workers rounds None turns quick wide) = name ∷ []
-files_of (Lists name digits workers rounds (Some zones) turns quick wide) = name ∷ zones ∷ []
-files_of (ListsTo name to digits workers rounds None turns quick wide) = name ∷ to ∷ []
-files_of (ListsTo name to digits workers rounds (Some zones) turns quick wide) = name ∷ to ∷ zones ∷ []
-files_of (Checks name listing digits None wide) = name ∷ listing ∷ []
-files_of (Checks name listing digits (Some zones) wide) = name ∷ zones ∷ listing ∷ []
-files_of (ChecksTo name to listing digits None wide) = name ∷ to ∷ listing ∷ []
-files_of (ChecksTo name to listing digits (Some zones) wide) = name ∷ to ∷ zones ∷ listing ∷ []
+files_of (Lists name None digits workers rounds None turns quick wide) = name ∷ []
+files_of (Lists name None digits workers rounds (Some zones) turns quick wide) = name ∷ zones ∷ []
+files_of (Lists name (Some to) digits workers rounds None turns quick wide) = name ∷ to ∷ []
+files_of (Lists name (Some to) digits workers rounds (Some zones) turns quick wide) = name ∷ to ∷ zones ∷ []
+files_of (Checks name None listing digits None wide) = name ∷ listing ∷ []
+files_of (Checks name None listing digits (Some zones) wide) = name ∷ zones ∷ listing ∷ []
+files_of (Checks name (Some to) listing digits None wide) = name ∷ to ∷ listing ∷ []
+files_of (Checks name (Some to) listing digits (Some zones) wide) = name ∷ to ∷ zones ∷ listing ∷ []
 files_of (Makes seed size) = []
 files_of (Batches list digits workers rounds quick wide) = list ∷ []
 files_of (Writes name wide) = name ∷ []
@@ -46,10 +45,8 @@ files_named words = files_if (wanted_of words)
 
 -- the limits that are asked for
 abbrev pub limits_asked : Option Wanted → Limits
-limits_asked (Some (Lists name digits workers rounds zones turns quick wide)) = limits_of wide
-limits_asked (Some (ListsTo name to digits workers rounds zones turns quick wide)) = limits_of wide
-limits_asked (Some (Checks name listing digits zones wide)) = limits_of wide
-limits_asked (Some (ChecksTo name to listing digits zones wide)) = limits_of wide
+limits_asked (Some (Lists name to digits workers rounds zones turns quick wide)) = limits_of wide
+limits_asked (Some (Checks name to listing digits zones wide)) = limits_of wide
 limits_asked (Some (Batches list digits workers rounds quick wide)) = limits_of wide
 limits_asked (Some (Writes name wide)) = limits_of wide
 limits_asked other = Plain
@@ -60,19 +57,19 @@ bytes_asked words = most_bytes (limits_asked (wanted_of words))
 
 -- The headline: of a listing, of a made model whose listing is summed up, of a listing that was checked, of a deck, of a
 -- listing of two decks, of the check of one, or of each listing of a batch.
-abbrev pub AnyHeadline : List Text → FileSet → Status → Seen → Seen → Type 0
-AnyHeadline words files end old new =
-    (Headline words files old.written new.written ⊎ (Made words old.written new.written ⊎ (Certified words files old.written new.written
-    ⊎ (OneDeck words files old.written new.written ⊎ (SpanHeadline words files old.written new.written ⊎ SpanCertified words files old.written new.written)))))
-    ⊎ Batched words files end old.written new.written
+abbrev pub AnyHeadline : Option Wanted → FileSet → Status → Seen → Seen → Type 0
+AnyHeadline order files end old new =
+    (Headline order files old.written new.written ⊎ (Made order old.written new.written ⊎ (Certified order files old.written new.written
+    ⊎ (OneDeck order files old.written new.written ⊎ (SpanHeadline order files old.written new.written ⊎ SpanCertified order files old.written new.written)))))
+    ⊎ Batched order files end old.written new.written
 
 -- And what was put is the one listing that the files define, or with --quick one by certificates; or sums it up, or each step of
 -- the one that was checked is certified, or what was put is the one deck.
-abbrev pub AnyOne : List Text → FileSet → Status → Seen → Seen → Type 0
-AnyOne words files end old new =
-    (OneListing words files old.written new.written ⊎ (OneSummary words old.written new.written ⊎ (OneVerdict words files
-    ⊎ (OneDeck words files old.written new.written ⊎ (OneSpan words files old.written new.written ⊎ SpanVerdict words files)))))
-    ⊎ Batched words files end old.written new.written
+abbrev pub AnyOne : Option Wanted → FileSet → Status → Seen → Seen → Type 0
+AnyOne order files end old new =
+    (OneListing order files old.written new.written ⊎ (OneSummary order old.written new.written ⊎ (OneVerdict order files old.written new.written
+    ⊎ (OneDeck order files old.written new.written ⊎ (OneSpan order files old.written new.written ⊎ SpanVerdict order files old.written new.written)))))
+    ⊎ Batched order files end old.written new.written
 
 -- the numbers of a run that stopped: since a read failed, a write failed, or memory ran out
 abbrev pub IsStopNumber : ℕ → Type 0
@@ -86,10 +83,10 @@ pub record IsProgramEnd (leads : List Put → Type 0) (agrees : FileSet → Type
     (failed_beside : Type 0) (old new : Seen) (number : ℕ) : Type 0 where
   pub end : Status
   pub number_is : number ≡ code_of end
-  pub puts : (files : Option FileSet) → IfSome files agrees → AnyPuts leads words files before after failed_beside end
+  pub puts : (files : Option FileSet) → IfSome files agrees → Puts leads (wanted_of words) files before after failed_beside end
   pub some : (files : FileSet) × agrees files
   pub limit : (files : FileSet) → agrees files → files.limit ≡ bytes_asked words
-  pub headline : number ≡ 0 → (files : FileSet) → agrees files → AnyHeadline words files end old new
-  pub one : number ≡ 0 → (files : FileSet) → agrees files → AnyOne words files end old new
-  pub batch : (IsStopNumber number → ⊥) → (asked : AskedBatch) → batch_asked words ≡ Some asked → (files : FileSet) → agrees files →
-      HasNoList asked files end ⊎ Batched words files end old.written new.written
+  pub headline : number ≡ 0 → (files : FileSet) → agrees files → AnyHeadline (wanted_of words) files end old new
+  pub one : number ≡ 0 → (files : FileSet) → agrees files → AnyOne (wanted_of words) files end old new
+  pub batch : (IsStopNumber number → ⊥) → (asked : AskedBatch) → asked_in (wanted_of words) ≡ Some (Batch asked) → (files : FileSet) → agrees files →
+      HasNoList asked files end ⊎ Batched (wanted_of words) files end old.written new.written

@@ -1,7 +1,8 @@
 -- The headline of a run of all models between two decks, and of the check of such a listing.
-use Rattle.std.specs.Prelude.{◌≡◌, ℕ, ℤ, true, false, List, Ok, Option, Some}
+use Rattle.std.specs.Prelude.{◌≡◌, ℕ, ℤ, true, List, Ok, Option, Some}
 use Rattle.std.specs.List.{concat}
 use Rattle.std.specs.Io.KnownBytes.{Appends}
+use Rattle.command_line.specs.Wants.{Wanted}
 use Rattle.outside.specs.Files.{FileSet}
 use Rattle.model_types.specs.declared.limits.Limits.{Limits}
 use Rattle.model_types.specs.declared.model.FlowModel.{FlowModel}
@@ -16,13 +17,12 @@ use Rattle.exact_histories.specs.Decks.{ChoicesHaveOne}
 use Rattle.listing_io.specs.declared.listing.ListedStep.{ListedStep}
 use Rattle.run_puts.specs.Runs.{Text, end_line}
 use Rattle.listing_run.specs.declared.solving.Step.{Step}
-use Rattle.listing_run.specs.declared.text.ListingEnd.TheVariants.{Whole}
-use Rattle.listing_run.specs.Listing.{listing, BoundBetween, EnclosesHistories}
-use Rattle.listing_run.specs.Steps.{AllSteps}
+use Rattle.listing_run.specs.Listing.{listing, BoundBetween}
 use Rattle.check_run.specs.declared.verdict.ListingVerdict.TheVariants.{Certified as Holds}
 use Rattle.check_run.specs.Verdicts.{IsVerdict, checked_task, steps_of}
-use Rattle.engine.specs.Cases.{AskedSpan, AskedSpanCheck, CheckSpan, Span, asked_in, span_task_of, steps_read, zones_read}
+use Rattle.engine.specs.Cases.{Asked, AskedCheck, Check, Run, asked_in, span_task_of, steps_read, zones_read}
 use Rattle.engine.specs.Checked.{certified_line}
+use Rattle.engine.specs.OneListing.{AreItsSteps}
 
 -- The files of two names read by limits as valid models that are alike: they differ only in numbers of their stresses and in STRT.
 pub record ArePairOf (limits : Limits) (files : FileSet) (name to : Text) : Type 0 where
@@ -39,67 +39,52 @@ pub record ArePairOf (limits : Limits) (files : FileSet) (name to : Text) : Type
 -- some model between the two decks, chosen anew at each step, lies, step by step and cell by cell, between its heads, with
 -- each of its budget flows between its terms, and each of its flows between two zones of a zone file between its two numbers.
 -- That it is the one listing which the files define stands in `OneSpan`.
-pub record SpanHeadline (words : List Text) (files : FileSet) (old new : Option (List ℕ)) : Type 0 where
+pub record SpanHeadline (order : Option Wanted) (files : FileSet) (old new : Option (List ℕ)) : Type 0 where
   -- The words ask for such a listing, the files read as two valid models that are alike, and as zones of their cells where
   -- the words name a zone file.
-  pub asked : AskedSpan
-  pub wanted : asked_in words ≡ Some (Span asked)
-  pub decks : ArePairOf asked.run.limits files asked.run.name asked.to
+  pub asked : Asked
+  pub to : Text
+  pub wanted : asked_in order ≡ Some (Run asked (Some to))
+  pub decks : ArePairOf asked.limits files asked.name to
   pub zones : Option (List ℕ)
-  pub zoned : zones_read files asked.run.zones decks.first ≡ Ok zones
+  pub zoned : zones_read files asked.zones decks.first ≡ Ok zones
   -- The listing of some values, which are the heads, the budget and the flows between zones of each step, was appended, and nothing else.
   pub values : List Step
-  pub written : Appends old new (concat (listing (span_task_of asked.run decks.first decks.second zones) values end_line))
+  pub written : Appends old new (concat (listing (span_task_of asked decks.first decks.second zones) values end_line))
   -- Every history between the two decks over any denominator d lies between them.
   pub encloses : (d : ℕ) (history : List (ℕ → ℤ)) (h : SolvesBetween decks.first decks.second d history) →
-      BoundBetween (span_task_of asked.run decks.first decks.second zones) decks.first decks.second d (start_head h.first)
+      BoundBetween (span_task_of asked decks.first decks.second zones) decks.first decks.second d (start_head h.first)
       (times decks.first) values history h.steps
   -- And each choice of models between has one: a history solves it, and any two are the same heads at all active cells, step by step.
   pub choices : ChoicesHaveOne decks.first decks.second
 
 -- Such a run has written a listing each step of which has a pair that is a certificate; without --quick the one that the files define.
-pub record OneSpan (words : List Text) (files : FileSet) (old new : Option (List ℕ)) : Type 0 where
-  pub asked : AskedSpan
-  pub wanted : asked_in words ≡ Some (Span asked)
-  pub decks : ArePairOf asked.run.limits files asked.run.name asked.to
-  pub zones : Option (List ℕ)
-  pub zoned : zones_read files asked.run.zones decks.first ≡ Ok zones
-  -- All time steps have these values, which are heads, budgets and flows between zones, and without --quick no others. They enclose
-  -- every history.
-  pub values : List Step
-  pub steps : AllSteps (span_task_of asked.run decks.first decks.second zones) values Whole
-  pub only : asked.run.quick ≡ false → (others : List Step) → AllSteps (span_task_of asked.run decks.first decks.second zones) others Whole → others ≡ values
-  pub encloses : EnclosesHistories (span_task_of asked.run decks.first decks.second zones) values
-  -- Their listing was appended, and nothing else.
-  pub written : Appends old new (concat (listing (span_task_of asked.run decks.first decks.second zones) values end_line))
+pub record OneSpan (order : Option Wanted) (files : FileSet) (old new : Option (List ℕ)) : Type 0 where
+  pub headline : SpanHeadline order files old new
+  pub values : AreItsSteps (span_task_of headline.asked headline.decks.first headline.decks.second headline.zones) headline.values
 
 -- A check of such a listing that ended Ok: the files have a listing of two decks, whoever wrote it, and every history between
 -- the decks lies between its heads, with each of its budget flows between its terms, and each of its flows between two zones
 -- of a zone file between its two numbers. How it was judged stands in `SpanVerdict`.
-pub record SpanCertified (words : List Text) (files : FileSet) (old new : Option (List ℕ)) : Type 0 where
-  pub asked : AskedSpanCheck
-  pub wanted : asked_in words ≡ Some (CheckSpan asked)
-  pub decks : ArePairOf asked.check.limits files asked.check.name asked.to
+pub record SpanCertified (order : Option Wanted) (files : FileSet) (old new : Option (List ℕ)) : Type 0 where
+  pub asked : AskedCheck
+  pub to : Text
+  pub wanted : asked_in order ≡ Some (Check asked (Some to))
+  pub decks : ArePairOf asked.limits files asked.name to
   pub zones : Option (List ℕ)
-  pub zoned : zones_read files asked.check.zones decks.first ≡ Ok zones
+  pub zoned : zones_read files asked.zones decks.first ≡ Ok zones
   pub steps : List ListedStep
-  pub listed : steps_read true files asked.check decks.first zones ≡ Ok steps
+  pub listed : steps_read true files asked decks.first zones ≡ Ok steps
   -- The line CERTIFIED was appended, and nothing else.
   pub written : Appends old new certified_line
   -- Every history between the two decks over any denominator d lies within what it lists.
   pub encloses : (d : ℕ) (history : List (ℕ → ℤ)) (h : SolvesBetween decks.first decks.second d history) →
-      BoundBetween (checked_task (two decks.first decks.second) asked.check.digits zones) decks.first decks.second d (start_head h.first) (times decks.first)
+      BoundBetween (checked_task (two decks.first decks.second) asked.digits zones) decks.first decks.second d (start_head h.first) (times decks.first)
       (steps_of (times decks.first) steps) history h.steps
   -- And each choice of models between has one.
   pub choices : ChoicesHaveOne decks.first decks.second
 
 -- Such a check found that each step of the named listing is certified.
-pub record SpanVerdict (words : List Text) (files : FileSet) : Type 0 where
-  pub asked : AskedSpanCheck
-  pub wanted : asked_in words ≡ Some (CheckSpan asked)
-  pub decks : ArePairOf asked.check.limits files asked.check.name asked.to
-  pub zones : Option (List ℕ)
-  pub zoned : zones_read files asked.check.zones decks.first ≡ Ok zones
-  pub steps : List ListedStep
-  pub listed : steps_read true files asked.check decks.first zones ≡ Ok steps
-  pub verdict : IsVerdict asked.check.limits (two decks.first decks.second) asked.check.digits zones steps Holds
+pub record SpanVerdict (order : Option Wanted) (files : FileSet) (old new : Option (List ℕ)) : Type 0 where
+  pub certified : SpanCertified order files old new
+  pub verdict : IsVerdict certified.asked.limits (two certified.decks.first certified.decks.second) certified.asked.digits certified.zones certified.steps Holds

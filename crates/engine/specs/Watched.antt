@@ -6,7 +6,7 @@ use Rattle.outside.specs.declared.traits.SinkError.{SinkError}
 use Rattle.step_problem.specs.declared.heads.Bound.{Bound}
 use Rattle.step_problem.specs.Entries.{Entries}
 use Rattle.step_problem.specs.Heads.{Edges}
-use Rattle.command_line.specs.Wants.{Wanted, Lists, ListsTo, wanted_of}
+use Rattle.command_line.specs.Wants.{Wanted, Lists}
 use Rattle.model_types.specs.declared.grid.Grid.{Grid}
 use Rattle.model_types.specs.declared.time_steps.TimeStep.{TimeStep}
 use Rattle.model_types.specs.Times.{times}
@@ -25,12 +25,11 @@ use Rattle.engine.specs.Cases.{IsListingOf, case_of}
 
 -- the number of views in each phase that the words ask for
 abbrev pub views_asked : Wanted → Option ℕ
-views_asked (Lists name digits workers rounds zones watch quick wide) = watch
-views_asked (ListsTo name to digits workers rounds zones watch quick wide) = watch
+views_asked (Lists name to digits workers rounds zones watch quick wide) = watch
 views_asked other = None
 
-abbrev pub views_in : List Text → Option ℕ
-views_in words = option_and_then views_asked (wanted_of words)
+abbrev pub views_in : Option Wanted → Option ℕ
+views_in order = option_and_then views_asked order
 
 -- the text of a view, by the stress period and the number of its step
 abbrev pub lines_of : Grid → ℕ → ℕ → List Entries → List Bound → List ℕ
@@ -70,9 +69,9 @@ pub record IsWatched (k : Task) (each_phase : ℕ) (leads : List Put → Type 0)
   pub led : leads (map taken texts)
 
 -- so it is with the listing of these words and files
-pub record Watched (words : List Text) (files : FileSet) (each_phase : ℕ) (leads : List Put → Type 0) : Type 0 where
+pub record Watched (order : Option Wanted) (files : FileSet) (each_phase : ℕ) (leads : List Put → Type 0) : Type 0 where
   pub task : Task
-  pub is : IsListingOf task (case_of words files)
+  pub is : IsListingOf task (case_of order files)
   pub watched : IsWatched task each_phase leads
 
 -- These are the texts of views of a step: of all its views, or of the first ones.
@@ -113,15 +112,15 @@ ViewPutsOf k leads None = leads []
 ViewPutsOf k leads (Some n) = leads [] ⊎ IsWatchedSoFar k n leads
 
 -- so it is with the listing of these words and files
-pub record WatchedSoFar (words : List Text) (files : FileSet) (each_phase : ℕ) (leads : List Put → Type 0) : Type 0 where
+pub record WatchedSoFar (order : Option Wanted) (files : FileSet) (each_phase : ℕ) (leads : List Put → Type 0) : Type 0 where
   pub task : Task
-  pub is : IsListingOf task (case_of words files)
+  pub is : IsListingOf task (case_of order files)
   pub watched : IsWatchedSoFar task each_phase leads
 
 -- What is put to the side sink, whatever the status: nothing; or, with `--watch`, the views of the first steps.
-abbrev pub SidePuts : (List Put → Type 0) → List Text → FileSet → Option ℕ → Type 0
-SidePuts leads words files None = leads []
-SidePuts leads words files (Some n) = leads [] ⊎ WatchedSoFar words files n leads
+abbrev pub SidePuts : (List Put → Type 0) → Option Wanted → FileSet → Option ℕ → Type 0
+SidePuts leads order files None = leads []
+SidePuts leads order files (Some n) = leads [] ⊎ WatchedSoFar order files n leads
 
 -- what a settling shows to a viewer, with this many views in each phase
 abbrev pub Shows : {V : Type 0} → (V → List Entries → Edges → ℕ → V → Type 0) → (V → Type 0) → ℕ → V → List Entries → Edges → Bool → V → Type 0

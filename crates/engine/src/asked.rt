@@ -1,10 +1,10 @@
 // What an order asks for.
-ghost use Rattle.std.specs.Prelude.{◌≡◌, option_map, IfSome};
+ghost use Rattle.std.specs.Prelude.{◌≡◌, option_map, IfSome, Some};
 ghost use Rattle.command_line.specs.Wants.{wanted};
 ghost use Rattle.command_line.specs.Ranges.{IsInRange};
-ghost use Rattle.engine.specs.Cases.{built, limits_of};
+ghost use Rattle.engine.specs.Cases.{asked_in, but_batch, limits_of};
 ghost use Rattle.engine.specs.Commands.{command_of, views_of, IsCommand};
-ghost use Rattle.engine.specs.Watched.{views_asked};
+ghost use Rattle.engine.specs.Watched.{views_in};
 
 use command_line::Order;
 use model_types::Limits;
@@ -68,9 +68,9 @@ pub(crate) fn limits_of(wide: bool) -> Limits
 /// The command that an order asks for; None for a batch, which is no command of one model.
 pub(crate) fn command_of<'a>(order: Order<'a>) -> Option<Command<'a>>
     requires { IsInRange (wanted order) }
-    ensures is { option_map command_of result ≡ built (wanted order.entry) }
+    ensures is { option_map command_of result ≡ asked_in (but_batch (Some (wanted order.entry))) }
     ensures in_range { IfSome result IsCommand }
-    ensures views { IfSome result (λ c. views_of c ≡ views_asked (wanted order.entry)) }
+    ensures views { IfSome result (λ c. views_of c ≡ views_in (but_batch (Some (wanted order.entry)))) }
 {
     match order {
         Order::Run {

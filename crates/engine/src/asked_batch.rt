@@ -1,9 +1,8 @@
 // Whether the words ask for a batch.
-ghost use Rattle.std.specs.Prelude.{◌≡◌, map, option_map, IfOk, IfSome};
-ghost use Rattle.engine.specs.BatchReads.{batch_by, IsBatchOrder};
-ghost use Rattle.engine.specs.Batches.{batch_asked, batch_of};
+ghost use Rattle.std.specs.Prelude.{map, IfOk, IfSome, Some};
+ghost use Rattle.engine.specs.BatchReads.{IsBatchOf, IsBatchOrder};
 ghost use Rattle.command_line.specs.Ranges.{IsInRange};
-ghost use Rattle.command_line.specs.Wants.{wanted};
+ghost use Rattle.command_line.specs.Wants.{wanted, wanted_of};
 
 use crate::asked::limits_of;
 use command_line::{Order, WordsFault, read_order};
@@ -25,7 +24,7 @@ pub(crate) struct BatchOrder<'a> {
 // The batch that an order asks for; None where it asks for something else.
 fn batch_order<'a>(order: Order<'a>) -> Option<BatchOrder<'a>>
     requires { IsInRange (wanted order) }
-    ensures is { option_map batch_by result ≡ batch_of (wanted order.entry) }
+    ensures is { IsBatchOf result (Some (wanted order.entry)) }
     ensures in_range { IfSome result IsBatchOrder }
 {
     match order {
@@ -53,7 +52,7 @@ pub(crate) fn asked_batch<'a>(
     alloc: Global,
     words: &'a [&'a str],
 ) -> Result<Option<BatchOrder<'a>>, AllocError>
-    ensures is { IfOk result (λ o. option_map batch_by o ≡ batch_asked (map (λ w. w.now) words.entry.now)) }
+    ensures is { IfOk result (λ o. IsBatchOf o (wanted_of (map (λ w. w.now) words.entry.now))) }
     ensures in_range { IfOk result (λ o. IfSome o IsBatchOrder) }
 {
     match read_order(alloc, words) {

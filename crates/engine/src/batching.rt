@@ -1,5 +1,5 @@
 // A batch of models.
-ghost use Rattle.std.specs.Prelude.{◌≡◌, ◌≤◌, List, ◌++◌, length, map, IfSome, None, Option, ◌<◌, ◌^◌, slice_get};
+ghost use Rattle.std.specs.Prelude.{◌≡◌, ◌≤◌, List, ◌++◌, length, map, IfSome, Option, Some, ◌<◌, ◌^◌, slice_get};
 ghost use Rattle.outside.specs.Names.{WordsMay, folder_name};
 ghost use Rattle.engine.specs.Serving.{files_named};
 ghost use Rattle.outside.specs.Files.{FileSet};
@@ -7,10 +7,10 @@ ghost use Rattle.outside.specs.Puts.{Put, Rose};
 ghost use Rattle.run_puts.specs.Runs.{IsRun, NeverCut};
 ghost use Rattle.batch_puts.specs.Batches.{IsBatch};
 ghost use Rattle.engine.specs.BatchReads.{batch_by, IsBatchOrder, AreTasks};
-ghost use Rattle.engine.specs.BatchRuns.{AnyAnswers, BatchAnswers};
-ghost use Rattle.engine.specs.Batches.{IsJobEnd, batch_asked};
-ghost use Rattle.engine.specs.Cases.{asked_in, ReadsNothing};
-ghost use Rattle.engine.specs.Watched.{SidePuts, views_in};
+ghost use Rattle.command_line.specs.Wants.{wanted_of, Wanted};
+ghost use Rattle.engine.specs.Cases.{asked_in, Batch, ReadsNothing};
+ghost use Rattle.engine.specs.Defined.{IsJobEnd};
+ghost use Rattle.engine.specs.Parts.{Answers, AnswersBeside};
 ghost use Rattle.engine.specs.declared.job.Job.{Job as JobRead};
 
 use crate::asked_batch::{BatchOrder, asked_batch};
@@ -62,8 +62,8 @@ fn put_batch<'a, R: Threads + Wait + Sync, F: Folder, K: Sink, G: Gate + Sync>(
     ensures since { (files : FileSet) → F.agrees folder.new files → F.agrees folder.old files }
     ensures answers { (start : _) (puts : List Put) → K.leads start puts out.old →
         (more : List Put) × K.leads start (puts ++ more) out.new
-        × ((files : Option FileSet) → IfSome files (F.agrees folder.new) →
-        BatchAnswers (batch_by asked.entry) files (F.faults folder.old) (F.faults folder.new) result more) }
+        × ((order : Option Wanted) → asked_in order ≡ Some (Batch (batch_by asked.entry)) → (files : Option FileSet) →
+        IfSome files (F.agrees folder.new) → Answers order files (F.faults folder.old) (F.faults folder.new) result more) }
 {
     match read_batch(alloc, folder, asked) {
         Ok(jobs) => put_jobs(rt, alloc, jobs.as_slice(), asked.workers, out, gate),
@@ -89,15 +89,12 @@ pub(crate) fn answer_any<
 ) -> Status
     requires may { WordsMay (F.may folder.old) (files_named (map (λ w. w.now) words.now)) }
     ensures since { (files : FileSet) → F.agrees folder.new files → F.agrees folder.old files }
-    ensures unasked { batch_asked (map (λ w. w.now) words.now) ≡ None →
-        ReadsNothing (asked_in (map (λ w. w.now) words.now)) → folder.new ≡ folder.old }
+    ensures unasked { ReadsNothing (asked_in (wanted_of (map (λ w. w.now) words.now))) → folder.new ≡ folder.old }
     ensures answers { (start : _) (puts : List Put) → K.leads start puts out.old →
         (more : List Put) × K.leads start (puts ++ more) out.new
         × ((files : Option FileSet) → IfSome files (F.agrees folder.new) →
-        AnyAnswers (map (λ w. w.now) words.now) files (F.faults folder.old) (F.faults folder.new)
+        AnswersBeside (wanted_of (map (λ w. w.now) words.now)) files (F.faults folder.old) (F.faults folder.new)
         (Rose (W.seen side.old).faults (W.seen side.new).faults) (λ puts. W.leads side.old puts side.new) result more) }
-    ensures side { (files : FileSet) → F.agrees folder.new files →
-        SidePuts (λ puts. W.leads side.old puts side.new) (map (λ w. w.now) words.now) files (views_in (map (λ w. w.now) words.now)) }
 {
     match asked_batch(alloc, words) {
         Ok(Some(asked)) => put_batch(rt, alloc, asked, folder, out, gate),

@@ -1,6 +1,7 @@
 // The check of a listing of the folder.
 ghost use Rattle.std.specs.Prelude.{◌≡◌, ◌≤◌, List, ◌++◌, Ok, IfOk, IfSome, Option, Some, option_map};
 ghost use Rattle.outside.specs.Names.{folder_name};
+ghost use Rattle.command_line.specs.Wants.{Wanted};
 ghost use Rattle.outside.specs.Files.{FileSet};
 ghost use Rattle.outside.specs.Folders.{ReadsOn};
 ghost use Rattle.outside.specs.Puts.{Put};
@@ -10,8 +11,8 @@ ghost use Rattle.listing_io.specs.Laws.{AreListed};
 ghost use Rattle.run_puts.specs.Runs.{Text, IsRun, NeverCut};
 ghost use Rattle.engine.specs.Checked.{IsCheck};
 ghost use Rattle.deck_problems.specs.Decks.{AreDecks};
-ghost use Rattle.engine.specs.Cases.{asked_in};
-ghost use Rattle.engine.specs.Commands.{check_of, check_to, to_of, MayRead};
+ghost use Rattle.engine.specs.Cases.{asked_in, Check};
+ghost use Rattle.engine.specs.Commands.{check_of, to_of, MayRead};
 ghost use Rattle.engine.specs.Parts.{Answers, AreDecksAs, AreStepsAs, IsListed, IsListedAs};
 
 use crate::asked::AskedCheck;
@@ -127,10 +128,10 @@ fn check_decks<'a, F: Folder, K: Sink>(
     ensures since { (files : FileSet) → F.agrees folder.new files → F.agrees folder.old files }
     ensures answers { (start : _) (puts : List Put) → K.leads start puts out.old →
         (more : List Put) × K.leads start (puts ++ more) out.new
-        × ((words : List Text) → asked_in words ≡ Some (check_to (check_of asked.entry) (to_of asked.entry.to)) →
+        × ((order : Option Wanted) → asked_in order ≡ Some (Check (check_of asked.entry) (to_of asked.entry.to)) →
         (files : Option FileSet) → IfSome files (F.agrees folder.new) →
         AreDecksAs (check_of asked.entry).limits (check_of asked.entry).name (to_of asked.entry.to) files (Ok decks.now) →
-        Answers words files (F.faults folder.old) (F.faults folder.new) result more) }
+        Answers order files (F.faults folder.old) (F.faults folder.new) result more) }
 {
     match read_listed(alloc, folder, asked.to.is_some(), &decks.first, asked) {
         Ok(listing) => put_check(alloc, asked.limits, decks, &listing, asked.digits, out),
@@ -152,12 +153,17 @@ pub(crate) fn check<'a, F: Folder, K: Sink>(
     ensures since { (files : FileSet) → F.agrees folder.new files → F.agrees folder.old files }
     ensures answers { (start : _) (puts : List Put) → K.leads start puts out.old →
         (more : List Put) × K.leads start (puts ++ more) out.new
-        × ((words : List Text) → asked_in words ≡ Some (check_to (check_of asked.entry) (to_of asked.entry.to)) →
+        × ((order : Option Wanted) → asked_in order ≡ Some (Check (check_of asked.entry) (to_of asked.entry.to)) →
         (files : Option FileSet) → IfSome files (F.agrees folder.new) →
-        Answers words files (F.faults folder.old) (F.faults folder.new) result more) }
+        Answers order files (F.faults folder.old) (F.faults folder.new) result more) }
 {
     match read_decks(alloc, asked.limits, folder, asked.name, asked.to) {
-        Ok(decks) => check_decks(alloc, asked, &decks, folder, out),
+        Ok(decks) => {
+            let status = check_decks(alloc, asked, &decks, folder, out);
+            // one call, so that the proof has no part for each of their fields
+            drop(decks);
+            status
+        }
         Err(fault) => end_reading(alloc, fault, out),
     }
 }

@@ -1,9 +1,8 @@
 // A job of a batch, and its run.
-ghost use Rattle.std.specs.Prelude.{◌≡◌, IfOk};
+ghost use Rattle.std.specs.Prelude.{◌≡◌, Err, IfOk, Ok};
 ghost use Rattle.listing_run.specs.Ends.{IsTask};
 ghost use Rattle.listing_run.specs.Tasks.{pairs_of};
-ghost use Rattle.engine.specs.Batches.{IsJobEnd, IsRunText, model_line};
-ghost use Rattle.engine.specs.Cases.{Listing, Refuses};
+ghost use Rattle.engine.specs.Defined.{IsJobEnd, IsRunText, model_line};
 
 use batch_puts::JobEnd;
 use certified_pair::QuickPairs;
@@ -55,7 +54,7 @@ fn end_by<S: Settler>(
     requires rounds { S.rounds settler.old ≡ task.now.rounds }
     requires pairs { S.pairs ≡ pairs_of task.now }
     requires task { IsTask task.now }
-    ensures { IfOk result (IsRunText (Listing task.now) text.items) }
+    ensures { IfOk result (IsRunText (Ok task.now) text.items) }
 {
     let status = push_listing(alloc, &mut text, task, settler)?;
     Ok(JobEnd { status, text })
@@ -64,7 +63,7 @@ fn end_by<S: Settler>(
 // Adds the listing of a task to the line of its name.
 fn end_of_task(alloc: Global, text: Vec<u8>, task: &Task) -> Result<JobEnd, AllocError>
     requires { IsTask task.now }
-    ensures { IfOk result (IsRunText (Listing task.now) text.items) }
+    ensures { IfOk result (IsRunText (Ok task.now) text.items) }
 {
     let mut settler = AloneSettler::new(task.rounds);
     if task.quick {
@@ -76,7 +75,7 @@ fn end_of_task(alloc: Global, text: Vec<u8>, task: &Task) -> Result<JobEnd, Allo
 
 // Adds the line of a refusal to the line of a name.
 fn end_of_refusal(alloc: Global, mut text: Vec<u8>, refusal: &Refusal) -> Result<JobEnd, AllocError>
-    ensures { IfOk result (IsRunText (Refuses refusal.now) text.items) }
+    ensures { IfOk result (IsRunText (Err refusal.now) text.items) }
 {
     let line = write_refused(alloc, refusal)?;
     text.extend_from_slice(line.as_slice())?;

@@ -108,9 +108,12 @@ fn put_summary<R: Threads + Sync, K: Sink, G: Gate + Sync>(
         quick: false,
     };
     let Ok((summary, end)) = summarize_by_workers(rt, alloc, &task, gate) else {
+        drop(task);
         return put_memory(out);
     };
     let line = summary_line(alloc, seed, size, &task, &summary, end);
+    // one call, so that the proof has no part for each of its fields
+    drop(task);
     put_line(out, line, end.status())
 }
 

@@ -1,6 +1,7 @@
-ghost use Rattle.std.specs.Prelude.{◌≡◌, ◌⊎◌, ℕ, List, ◌++◌, map, IfSome, Ok, Option, Some};
+ghost use Rattle.std.specs.Prelude.{◌≡◌, ◌⊎◌, ℕ, List, ◌++◌, map, IfSome, None, Ok, Option, Some};
 ghost use Rattle.outside.specs.Names.{WordsMay, folder_name};
 ghost use Rattle.engine.specs.Serving.{files_named};
+ghost use Rattle.command_line.specs.Wants.{wanted_of, Wanted};
 ghost use Rattle.outside.specs.Files.{FileSet};
 ghost use Rattle.outside.specs.Puts.{Put, Rose};
 ghost use Rattle.run_puts.specs.Runs.{IsRun};
@@ -8,8 +9,8 @@ ghost use Rattle.listing_run.specs.Listing.{IsListingBeside, IsCutListing};
 ghost use Rattle.zone_pairs.specs.Pairs.{AreZones};
 ghost use Rattle.engine.specs.Headline.{Headline};
 ghost use Rattle.engine.specs.Runs.{Puts, Decided, Comes};
-ghost use Rattle.engine.specs.Cases.{asked_in, decks_task, AskedCheck, AskedSpanCheck, Check, CheckSpan, Make, ReadsNothing};
-ghost use Rattle.engine.specs.Commands.{asked_of, run_to, to_of, IsAsked, MayRead};
+ghost use Rattle.engine.specs.Cases.{asked_in, but_batch, decks_task, AskedCheck, Check, Make, ReadsNothing, Run};
+ghost use Rattle.engine.specs.Commands.{asked_of, to_of, IsAsked, MayRead};
 ghost use Rattle.engine.specs.Made.{Made};
 ghost use Rattle.engine.specs.Certified.{Certified};
 ghost use Rattle.engine.specs.Decks.{OneDeck};
@@ -67,21 +68,22 @@ pub fn run_one<R: Threads + Sync, F: Folder, K: Sink + Send, W: Sink + Send, G: 
     // What is put to `out`, for every status, with the status' cause, by the files that agree with all results of the
     // folder, or by any files.
     ensures puts { (files : Option FileSet) → IfSome files (F.agrees folder.new) →
-        Puts (λ puts. K.leads out.old puts out.new) (map (λ w. w.now) words.now) files (F.faults folder.old) (F.faults folder.new)
+        Puts (λ puts. K.leads out.old puts out.new) (but_batch (wanted_of (map (λ w. w.now) words.now))) files (F.faults folder.old) (F.faults folder.new)
         (Rose (W.seen side.old).faults (W.seen side.new).faults) result }
 
     // What is put to `side`, for every status: nothing without `--watch`, else the views of the first steps, in turn, up to the
     // first put that failed. If the run ends Ok, they are the views of all steps.
     ensures side { (files : FileSet) → F.agrees folder.new files →
-        SidePuts (λ puts. W.leads side.old puts side.new) (map (λ w. w.now) words.now) files (views_in (map (λ w. w.now) words.now)) }
-    ensures watched { result ≡ Status.Ok → (n : ℕ) → views_in (map (λ w. w.now) words.now) ≡ Some n → (files : FileSet) →
-        F.agrees folder.new files → Watched (map (λ w. w.now) words.now) files n (λ puts. W.leads side.old puts side.new) }
+        SidePuts (λ puts. W.leads side.old puts side.new) (but_batch (wanted_of (map (λ w. w.now) words.now))) files
+        (views_in (but_batch (wanted_of (map (λ w. w.now) words.now)))) }
+    ensures watched { result ≡ Status.Ok → (n : ℕ) → views_in (but_batch (wanted_of (map (λ w. w.now) words.now))) ≡ Some n → (files : FileSet) →
+        F.agrees folder.new files → Watched (but_batch (wanted_of (map (λ w. w.now) words.now))) files n (λ puts. W.leads side.old puts side.new) }
 
     // Files that agree with all results of the folder agreed with it before.
     ensures since { (files : FileSet) → F.agrees folder.new files → F.agrees folder.old files }
 
     // A folder of which no file is read isn't asked.
-    ensures unasked { ReadsNothing (asked_in (map (λ w. w.now) words.now)) → folder.new ≡ folder.old }
+    ensures unasked { ReadsNothing (asked_in (but_batch (wanted_of (map (λ w. w.now) words.now)))) → folder.new ≡ folder.old }
 
     // Some files agree with all that the folder has answered.
     ensures told { (files : FileSet) × F.agrees folder.new files }
@@ -89,34 +91,34 @@ pub fn run_one<R: Threads + Sync, F: Folder, K: Sink + Send, W: Sink + Send, G: 
     // The headline: of a listing, of the listing that a made model's summary sums up, of one that was checked, of a deck,
     // of a listing of two decks, or of one of these that was checked.
     ensures headline { result ≡ Status.Ok → (files : FileSet) → F.agrees folder.new files →
-        Headline (map (λ w. w.now) words.now) files (K.seen out.old).written (K.seen out.new).written
-        ⊎ (Made (map (λ w. w.now) words.now) (K.seen out.old).written (K.seen out.new).written
-        ⊎ (Certified (map (λ w. w.now) words.now) files (K.seen out.old).written (K.seen out.new).written
-        ⊎ (OneDeck (map (λ w. w.now) words.now) files (K.seen out.old).written (K.seen out.new).written
-        ⊎ (SpanHeadline (map (λ w. w.now) words.now) files (K.seen out.old).written (K.seen out.new).written
-        ⊎ SpanCertified (map (λ w. w.now) words.now) files (K.seen out.old).written (K.seen out.new).written)))) }
+        Headline (but_batch (wanted_of (map (λ w. w.now) words.now))) files (K.seen out.old).written (K.seen out.new).written
+        ⊎ (Made (but_batch (wanted_of (map (λ w. w.now) words.now))) (K.seen out.old).written (K.seen out.new).written
+        ⊎ (Certified (but_batch (wanted_of (map (λ w. w.now) words.now))) files (K.seen out.old).written (K.seen out.new).written
+        ⊎ (OneDeck (but_batch (wanted_of (map (λ w. w.now) words.now))) files (K.seen out.old).written (K.seen out.new).written
+        ⊎ (SpanHeadline (but_batch (wanted_of (map (λ w. w.now) words.now))) files (K.seen out.old).written (K.seen out.new).written
+        ⊎ SpanCertified (but_batch (wanted_of (map (λ w. w.now) words.now))) files (K.seen out.old).written (K.seen out.new).written)))) }
 
     // And it is the one listing that the files define, or with `--quick` one by certificates, or each step of the one that was
     // checked is certified, or it is the one deck of the model that the files read as.
     ensures one { result ≡ Status.Ok → (files : FileSet) → F.agrees folder.new files →
-        OneListing (map (λ w. w.now) words.now) files (K.seen out.old).written (K.seen out.new).written
-        ⊎ (OneSummary (map (λ w. w.now) words.now) (K.seen out.old).written (K.seen out.new).written
-        ⊎ (OneVerdict (map (λ w. w.now) words.now) files
-        ⊎ (OneDeck (map (λ w. w.now) words.now) files (K.seen out.old).written (K.seen out.new).written
-        ⊎ (OneSpan (map (λ w. w.now) words.now) files (K.seen out.old).written (K.seen out.new).written
-        ⊎ SpanVerdict (map (λ w. w.now) words.now) files)))) }
+        OneListing (but_batch (wanted_of (map (λ w. w.now) words.now))) files (K.seen out.old).written (K.seen out.new).written
+        ⊎ (OneSummary (but_batch (wanted_of (map (λ w. w.now) words.now))) (K.seen out.old).written (K.seen out.new).written
+        ⊎ (OneVerdict (but_batch (wanted_of (map (λ w. w.now) words.now))) files (K.seen out.old).written (K.seen out.new).written
+        ⊎ (OneDeck (but_batch (wanted_of (map (λ w. w.now) words.now))) files (K.seen out.old).written (K.seen out.new).written
+        ⊎ (OneSpan (but_batch (wanted_of (map (λ w. w.now) words.now))) files (K.seen out.old).written (K.seen out.new).written
+        ⊎ SpanVerdict (but_batch (wanted_of (map (λ w. w.now) words.now))) files (K.seen out.old).written (K.seen out.new).written)))) }
 
     // Of a made model it holds whatever the folder is.
-    ensures made { result ≡ Status.Ok → (seed size : ℕ) → asked_in (map (λ w. w.now) words.now) ≡ Some (Make seed size) →
-        Made (map (λ w. w.now) words.now) (K.seen out.old).written (K.seen out.new).written }
+    ensures made { result ≡ Status.Ok → (seed size : ℕ) → asked_in (but_batch (wanted_of (map (λ w. w.now) words.now))) ≡ Some (Make seed size) →
+        Made (but_batch (wanted_of (map (λ w. w.now) words.now))) (K.seen out.old).written (K.seen out.new).written }
 
     // A check that ends Ok certifies the listing that the words name.
     ensures certified { result ≡ Status.Ok → (asked : AskedCheck) →
-        asked_in (map (λ w. w.now) words.now) ≡ Some (Check asked) → (files : FileSet) → F.agrees folder.new files →
-        Certified (map (λ w. w.now) words.now) files (K.seen out.old).written (K.seen out.new).written }
-    ensures span_certified { result ≡ Status.Ok → (asked : AskedSpanCheck) →
-        asked_in (map (λ w. w.now) words.now) ≡ Some (CheckSpan asked) → (files : FileSet) → F.agrees folder.new files →
-        SpanCertified (map (λ w. w.now) words.now) files (K.seen out.old).written (K.seen out.new).written }
+        asked_in (but_batch (wanted_of (map (λ w. w.now) words.now))) ≡ Some (Check asked None) → (files : FileSet) → F.agrees folder.new files →
+        Certified (but_batch (wanted_of (map (λ w. w.now) words.now))) files (K.seen out.old).written (K.seen out.new).written }
+    ensures span_certified { result ≡ Status.Ok → (asked : AskedCheck) (to : List ℕ) →
+        asked_in (but_batch (wanted_of (map (λ w. w.now) words.now))) ≡ Some (Check asked (Some to)) → (files : FileSet) → F.agrees folder.new files →
+        SpanCertified (but_batch (wanted_of (map (λ w. w.now) words.now))) files (K.seen out.old).written (K.seen out.new).written }
 
     // These statuses have a count as their cause.
     ensures read_fault { result ≡ Status.ReadFault → Rose (F.faults folder.old) (F.faults folder.new) }
@@ -127,11 +129,11 @@ pub fn run_one<R: Threads + Sync, F: Folder, K: Sink + Send, W: Sink + Send, G: 
     ensures decided { (files : FileSet) → F.agrees folder.new files →
         Decided (Rose (F.faults folder.old) (F.faults folder.new)
         ⊎ (Rose (K.seen out.old).faults (K.seen out.new).faults
-        ⊎ Rose (W.seen side.old).faults (W.seen side.new).faults)) (map (λ w. w.now) words.now) files result }
+        ⊎ Rose (W.seen side.old).faults (W.seen side.new).faults)) (but_batch (wanted_of (map (λ w. w.now) words.now))) files result }
     ensures complete { (files : FileSet) → F.agrees folder.new files →
         Comes (Rose (F.faults folder.old) (F.faults folder.new)
         ⊎ (Rose (K.seen out.old).faults (K.seen out.new).faults
-        ⊎ Rose (W.seen side.old).faults (W.seen side.new).faults)) (map (λ w. w.now) words.now) files result }
+        ⊎ Rose (W.seen side.old).faults (W.seen side.new).faults)) (but_batch (wanted_of (map (λ w. w.now) words.now))) files result }
 {
     one_listing();
     one_verdict();
@@ -153,11 +155,11 @@ pub(crate) fn answer<R: Threads + Sync, F: Folder, K: Sink + Send, W: Sink + Sen
 ) -> Status
     requires may { WordsMay (F.may folder.old) (files_named (map (λ w. w.now) words.now)) }
     ensures since { (files : FileSet) → F.agrees folder.new files → F.agrees folder.old files }
-    ensures unasked { ReadsNothing (asked_in (map (λ w. w.now) words.now)) → folder.new ≡ folder.old }
+    ensures unasked { ReadsNothing (asked_in (but_batch (wanted_of (map (λ w. w.now) words.now)))) → folder.new ≡ folder.old }
     ensures answers { (start : _) (puts : List Put) → K.leads start puts out.old →
         (more : List Put) × K.leads start (puts ++ more) out.new
         × ((files : Option FileSet) → IfSome files (F.agrees folder.new) →
-        AnswersBeside (map (λ w. w.now) words.now) files (F.faults folder.old) (F.faults folder.new)
+        AnswersBeside (but_batch (wanted_of (map (λ w. w.now) words.now))) files (F.faults folder.old) (F.faults folder.new)
         (Rose (W.seen side.old).faults (W.seen side.new).faults) (λ puts. W.leads side.old puts side.new) result more) }
 {
     let order = match read_order(alloc, words) {
@@ -204,7 +206,10 @@ fn put_decks<'a, R: Threads + Sync, K: Sink + Send, W: Sink + Send, G: Gate + Sy
         rounds: asked.plan.rounds,
         quick: asked.quick,
     };
-    put_listing(rt, alloc, &task, asked.plan, asked.watch, out, side, gate)
+    let status = put_listing(rt, alloc, &task, asked.plan, asked.watch, out, side, gate);
+    // one call, so that the proof has no part for each of its fields
+    drop(task);
+    status
 }
 
 // Reads the zones of decks' cells, and puts the listing of the decks.
@@ -224,10 +229,10 @@ fn list_decks<'a, R: Threads + Sync, F: Folder, K: Sink + Send, W: Sink + Send, 
     ensures since { (files : FileSet) → F.agrees folder.new files → F.agrees folder.old files }
     ensures answers { (start : _) (puts : List Put) → K.leads start puts out.old →
         (more : List Put) × K.leads start (puts ++ more) out.new
-        × ((words : List (List ℕ)) → asked_in words ≡ Some (run_to (asked_of asked.entry) (to_of asked.entry.to)) →
-        views_in words ≡ asked.entry.watch → (files : Option FileSet) → IfSome files (F.agrees folder.new) →
+        × ((order : Option Wanted) → asked_in order ≡ Some (Run (asked_of asked.entry) (to_of asked.entry.to)) →
+        views_in order ≡ asked.entry.watch → (files : Option FileSet) → IfSome files (F.agrees folder.new) →
         AreDecksAs (asked_of asked.entry).limits (asked_of asked.entry).name (to_of asked.entry.to) files (Ok decks) →
-        AnswersBeside words files (F.faults folder.old) (F.faults folder.new)
+        AnswersBeside order files (F.faults folder.old) (F.faults folder.new)
         (Rose (W.seen side.old).faults (W.seen side.new).faults) (λ puts. W.leads side.old puts side.new) result more) }
 {
     match read_zones_of(alloc, &decks.first, asked.zones, folder) {
@@ -251,9 +256,9 @@ fn list<'a, R: Threads + Sync, F: Folder, K: Sink + Send, W: Sink + Send, G: Gat
     ensures since { (files : FileSet) → F.agrees folder.new files → F.agrees folder.old files }
     ensures answers { (start : _) (puts : List Put) → K.leads start puts out.old →
         (more : List Put) × K.leads start (puts ++ more) out.new
-        × ((words : List (List ℕ)) → asked_in words ≡ Some (run_to (asked_of asked.entry) (to_of asked.entry.to)) →
-        views_in words ≡ asked.entry.watch → (files : Option FileSet) → IfSome files (F.agrees folder.new) →
-        AnswersBeside words files (F.faults folder.old) (F.faults folder.new)
+        × ((order : Option Wanted) → asked_in order ≡ Some (Run (asked_of asked.entry) (to_of asked.entry.to)) →
+        views_in order ≡ asked.entry.watch → (files : Option FileSet) → IfSome files (F.agrees folder.new) →
+        AnswersBeside order files (F.faults folder.old) (F.faults folder.new)
         (Rose (W.seen side.old).faults (W.seen side.new).faults) (λ puts. W.leads side.old puts side.new) result more) }
 {
     match read_decks(alloc, asked.limits, folder, asked.name, asked.to) {

@@ -92,7 +92,13 @@ fn decks_of<'a>(alloc: Global, first: FlowModel, second: Second<'a>) -> Result<D
             first,
             second: Some(second.model),
         }),
-        Some(difference) => Err(unlike(alloc, &second, difference)),
+        Some(difference) => {
+            let fault = unlike(alloc, &second, difference);
+            // by calls, so that the proof has no part for each of their fields
+            drop(first);
+            drop(second);
+            Err(fault)
+        }
     }
 }
 
@@ -117,6 +123,12 @@ pub(crate) fn read_decks<F: Folder>(
             second: None,
         });
     };
-    let second = read_second(alloc, limits, folder, to)?;
-    decks_of(alloc, first, second)
+    match read_second(alloc, limits, folder, to) {
+        Ok(second) => decks_of(alloc, first, second),
+        Err(fault) => {
+            // one call, so that the proof has no part for each of its fields
+            drop(first);
+            Err(fault)
+        }
+    }
 }

@@ -1,6 +1,7 @@
 // The deck of a model of the folder.
 ghost use Rattle.std.specs.Prelude.{◌≡◌, List, ◌++◌, IfSome, Option, Some};
 ghost use Rattle.outside.specs.Names.{folder_name};
+ghost use Rattle.command_line.specs.Wants.{Wanted};
 ghost use Rattle.outside.specs.Files.{FileSet};
 ghost use Rattle.outside.specs.Puts.{Put};
 ghost use Rattle.model_types.specs.Grids.{HasSize};
@@ -39,12 +40,17 @@ pub(crate) fn write<F: Folder, K: Sink>(
     ensures since { (files : FileSet) → F.agrees folder.new files → F.agrees folder.old files }
     ensures answers { (start : _) (puts : List Put) → K.leads start puts out.old →
         (more : List Put) × K.leads start (puts ++ more) out.new
-        × ((words : List Text) → asked_in words ≡ Some (Write limits name.now) → (files : Option FileSet) →
+        × ((order : Option Wanted) → asked_in order ≡ Some (Write limits name.now) → (files : Option FileSet) →
         IfSome files (F.agrees folder.new) →
-        Answers words files (F.faults folder.old) (F.faults folder.new) result more) }
+        Answers order files (F.faults folder.old) (F.faults folder.new) result more) }
 {
     match read_decks(alloc, limits, folder, name, None) {
-        Ok(decks) => put_deck(alloc, &decks.first, out),
+        Ok(decks) => {
+            let status = put_deck(alloc, &decks.first, out);
+            // one call, so that the proof has no part for each of their fields
+            drop(decks);
+            status
+        }
         Err(fault) => end_reading(alloc, fault, out),
     }
 }

@@ -42,7 +42,7 @@ pub use Rattle.decimal_input.specs.Decimals.{IsDec, number, size, with_sign}
 unfoldable pub use Rattle.decimal_input.specs.Decimals.{scaled}
 pub use Rattle.decimal_input.specs.Fractions.{Fraction, negated, plus}
 pub use Rattle.decimal_input.specs.Ratios.{Ratio, Same, den, over}
-unfoldable pub use Rattle.decimal_input.specs.Ratios.{ratio, times}
+unfoldable pub use Rattle.decimal_input.specs.Ratios.{ratio}
 pub use Rattle.decimal_input.specs.Wholes.{Encloses, EnclosesSigned, IsCeiling, IsFloor, IsSignedCeiling, IsSignedFloor, Passes}
 pub use Rattle.decimal_input.specs.declared.dec.Dec.{Dec}
 pub use Rattle.flow_equations.proofs.Links.{are_linked, below_is, index_is}
@@ -69,6 +69,7 @@ pub use Rattle.model_types.specs.Sources.FixedSource.{FromStorage, ToConstant, T
 pub use Rattle.model_types.specs.Sources.FlowSource.{Pumped, Received}
 pub use Rattle.model_types.specs.Storage.{storage}
 pub use Rattle.model_types.specs.Times.{entries, no_period, period_at, steps_of}
+unfoldable pub use Rattle.model_types.specs.Times.{times}
 pub use Rattle.model_types.specs.Valid.{IsBedValid, IsCellValid, IsEntryValid, IsEvapValid, IsGivenValid, IsModel, IsPeriod, number_one}
 pub use Rattle.model_types.specs.declared.entry.Entry.{Entry}
 pub use Rattle.model_types.specs.declared.entry.Entry.TheVariants.{General, Well}

@@ -1,8 +1,8 @@
 -- The example meets all that a problem of its step is built of.
 use Rattle.problem_builder.proofs.Common.{All-nil, ℕ, zero, suc, ◌<◌, inl, inr, cond, Some, None, List, [], ◌∷◌, ◌-◌, get_or, refl, arith, All, pos, not, ◌&&◌}
 use Rattle.problem_builder.proofs.Common.{◌==◌, option_to_list, Contains, false≢true, ints, Dec, IsDec, scaled, IsHead, start_head, Period, place_in_layer}
-use Rattle.problem_builder.proofs.Common.{dec_at, IsPositive, IsNotNegative, IsHeadNumber, IsThick, evap_sources, EvapSource, is_chosen, times, no_period}
-use Rattle.problem_builder.proofs.Common.{IsModel, IsPeriod, IsEvapValid, IsEntryValid, AreGridHeads, HeadsEnclose, ratio, IsGrid, IsCellValid, All-replicate}
+use Rattle.problem_builder.proofs.Common.{dec_at, IsPositive, IsNotNegative, IsHeadNumber, IsThick, evap_sources, EvapSource, is_chosen, no_period, IsModel}
+use Rattle.problem_builder.proofs.Common.{IsPeriod, IsEvapValid, IsEntryValid, AreGridHeads, HeadsEnclose, ratio, IsGrid, IsCellValid, All-replicate, times}
 use Rattle.problem_builder.specs.Example.{IsBuildable, whole, thousandths, example_grid, example_period, example_model, example_time, example_bound, example_heads}
 
 zero_valid : IsDec (whole 0)

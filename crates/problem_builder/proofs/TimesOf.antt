@@ -1,7 +1,6 @@
 -- The times of a model: a step of one of its periods.
 use Rattle.problem_builder.proofs.Common.{◌-◌, inl, inr, List, [], ◌∷◌, length, refl, subst, arith, Contains, flat_map, range_with_len, FlowModel, TimeStep}
-use Rattle.problem_builder.proofs.Common.{period_at, no_period, steps_of, IsModel, In, map-In, IsTimeOf}
-use Rattle.model_types.specs.Times.{times}
+use Rattle.problem_builder.proofs.Common.{period_at, no_period, steps_of, IsModel, In, map-In, IsTimeOf, times}
 use Rattle.problem_builder.proofs.Members.{In-append, range-In}
 use Rattle.problem_builder.proofs.Named.{In-Contains}
 

@@ -6,12 +6,12 @@ use Rattle.engine.proofs.checking.check.Goals as goal
 
 pub returns-in-Ok-clause-answers : goal.returns-in-Ok-clause-answers
 returns-in-Ok-clause-answers g c = λ start puts h.
-    let m = c.check_decks.ensures.answers start puts h in (
+    let m = c.check_decks-status.ensures.answers start puts h in (
       m.0,
       m.1,
-      λ words wanted files agree.
-          let A : ℕ → Type 0 = λ n. Answers words files n (g.F.Folder.faults c.check_decks.new.folder) c.check_decks.result m.0 in
-          subst A c.in-Ok.ensures.folder.counts (m.2 words wanted files agree (c.in-Ok.ensures.reads files (of_known files c.check_decks.ensures.since agree))),
+      λ order wanted files agree.
+          let A : ℕ → Type 0 = λ n. Answers order files n (g.F.Folder.faults c.check_decks-status.new.folder) c.check_decks-status.result m.0 in
+          subst A c.in-Ok.ensures.folder.counts (m.2 order wanted files agree (c.in-Ok.ensures.reads files (of_known files c.check_decks-status.ensures.since agree))),
     )
 
 pub returns-in-Err-clause-answers : goal.returns-in-Err-clause-answers
@@ -21,12 +21,12 @@ returns-in-Err-clause-answers g c = λ start puts h.
     let to = to_of c.args.asked.to in (
       m.0,
       m.1,
-      λ words wanted files agree.
-          ends_undecked words (g.F.Folder.faults c.args.folder.now) _ asked.limits asked.name to (to_check asked to) (check_reads words asked to wanted) files c.in-Err.fault c.end_reading.result m.0 (c.in-Err.ensures.reads files agree) c.in-Err.ensures.folder.counts m.2,
+      λ order wanted files agree.
+          ends_undecked order (g.F.Folder.faults c.args.folder.now) _ asked.limits asked.name to (to_check asked to) (check_reads order asked to wanted) files c.in-Err.fault c.end_reading.result m.0 (c.in-Err.ensures.reads files agree) c.in-Err.ensures.folder.counts m.2,
     )
 
-pub check_decks-requires-clause-zones : goal.check_decks-requires-clause-zones
-check_decks-requires-clause-zones g c = file_still _ _ (check_of c.args.asked).zones c.in-Ok.ensures.folder.still c.requires.may.2
+pub check_decks-status-requires-clause-zones : goal.check_decks-status-requires-clause-zones
+check_decks-status-requires-clause-zones g c = file_still _ _ (check_of c.args.asked).zones c.in-Ok.ensures.folder.still c.requires.may.2
 
-pub check_decks-requires-clause-may : goal.check_decks-requires-clause-may
-check_decks-requires-clause-may g c = c.in-Ok.ensures.folder.still _ c.requires.listing
+pub check_decks-status-requires-clause-may : goal.check_decks-status-requires-clause-may
+check_decks-status-requires-clause-may g c = c.in-Ok.ensures.folder.still _ c.requires.listing

@@ -14,9 +14,9 @@ returns-in-Ok-clause-answers g c = λ start puts h.
     let d = c.args.decks.now in (
       m.0,
       m.1,
-      λ words wanted files agree read.
+      λ order wanted files agree read.
           let L : Bool → Type 0 = λ b. IsListedAs b asked d.first files (Ok c.in-Ok.listing) in
-          ends_check words files (g.F.Folder.faults c.args.folder.now) _ asked (to_of c.args.asked.to) wanted d read c.requires.decks c.in-Ok.listing c.put_check.result m.0
+          ends_check order files (g.F.Folder.faults c.args.folder.now) _ asked (to_of c.args.asked.to) wanted d read c.requires.decks c.in-Ok.listing c.put_check.result m.0
           (subst L (c.is_some.ensures ∙ is_second c.args.asked.to) (c.in-Ok.ensures.reads files agree)) c.in-Ok.ensures.listed m.2,
     )
 
@@ -27,8 +27,8 @@ returns-in-Err-clause-answers g c = λ start puts h.
     let d = c.args.decks.now in (
       m.0,
       m.1,
-      λ words wanted files agree read.
+      λ order wanted files agree read.
           let L : Bool → Type 0 = λ b. IsListedAs b asked d.first files (Err c.in-Err.fault) in
-          ends_unlisted words files (g.F.Folder.faults c.args.folder.now) _ asked (to_of c.args.asked.to) wanted d read c.in-Err.fault c.end_reading.result m.0
+          ends_unlisted order files (g.F.Folder.faults c.args.folder.now) _ asked (to_of c.args.asked.to) wanted d read c.in-Err.fault c.end_reading.result m.0
           (subst L (c.is_some.ensures ∙ is_second c.args.asked.to) (c.in-Err.ensures.reads files agree)) c.in-Err.ensures.folder.counts m.2,
     )

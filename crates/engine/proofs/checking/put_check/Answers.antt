@@ -1,6 +1,6 @@
 use Rattle.engine.proofs.Common.{◌≡◌, ℕ, List, Option, subst, sym, pairs_in, AreListed, NeverCut, lacks_at_first, IsVerdict, ListingEncloses, IsCheck, lone}
-use Rattle.engine.proofs.Common.{refl, Limits, Decks, ZonedListing, ListingVerdict, Status, Put, HaveOneHistory, IsEnd, IsRun, verdict_line, verdict_status}
-use Rattle.engine.proofs.Common.{listing}
+use Rattle.engine.proofs.Common.{refl, Limits, Decks, ZonedListing, ListingVerdict, Status, Put, IsEnd, IsRun, verdict_line, verdict_status, listing}
+use Rattle.engine.proofs.Common.{HaveOneHistory}
 use Rattle.check_run.specs.declared.verdict.ListingVerdict.TheVariants.{Certified}
 use Rattle.engine.proofs.checking.put_check.Goals as goal
 

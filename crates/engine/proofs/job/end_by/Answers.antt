@@ -1,4 +1,5 @@
 use Rattle.engine.proofs.job.end_by.Goals as goal
+use Rattle.engine.specs.Defined.{defined}
 
 pub returns : goal.returns
 returns g c = record { pieces = c.in_ok-status.ensures.pieces; defined = c.in_ok-status.ensures.listed; text = c.in_ok-status.ensures.text }

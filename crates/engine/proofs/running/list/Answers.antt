@@ -12,9 +12,9 @@ returns-in-Ok-clause-answers g c = λ start puts h.
     let leads : List Put → Type 0 = λ puts. g.W.Sink.leads c.args.side.now puts c.list_decks.new.side in (
       m.0,
       m.1,
-      λ words wanted watch files agree.
-          let A : ℕ → Type 0 = λ n. AnswersBeside words files n (g.F.Folder.faults c.list_decks.new.folder) failed leads c.list_decks.result m.0 in
-          subst A c.in-Ok.ensures.folder.counts (m.2 words wanted watch files agree (c.in-Ok.ensures.reads files (of_known files c.list_decks.ensures.since agree))),
+      λ order wanted watch files agree.
+          let A : ℕ → Type 0 = λ n. AnswersBeside order files n (g.F.Folder.faults c.list_decks.new.folder) failed leads c.list_decks.result m.0 in
+          subst A c.in-Ok.ensures.folder.counts (m.2 order wanted watch files agree (c.in-Ok.ensures.reads files (of_known files c.list_decks.ensures.since agree))),
     )
 
 pub returns-in-Err-clause-answers : goal.returns-in-Err-clause-answers
@@ -24,8 +24,8 @@ returns-in-Err-clause-answers g c = λ start puts h.
     let to = to_of c.args.asked.to in (
       m.0,
       m.1,
-      λ words wanted watch files agree. not_ok words files (g.F.Folder.faults c.args.folder.now) _ _ (λ puts. g.W.Sink.leads c.args.side.now puts c.args.side.now) c.end_reading.result m.0 (((g.met.W.Sink g.world.𝓛 g.world.𝓜 g.world.𝓡 ((λ s x. x), (λ x. x), (λ x. x), λ x. x))).rests c.args.side.now)
-          (ends_undecked words (g.F.Folder.faults c.args.folder.now) _ asked.limits asked.name to (to_list asked) (run_reads words asked to wanted) files c.in-Err.fault c.end_reading.result m.0 (c.in-Err.ensures.reads files agree) c.in-Err.ensures.folder.counts m.2) (reading_not_ok c.in-Err.fault c.end_reading.result m.0 m.2),
+      λ order wanted watch files agree. not_ok order files (g.F.Folder.faults c.args.folder.now) _ _ (λ puts. g.W.Sink.leads c.args.side.now puts c.args.side.now) c.end_reading.result m.0 (((g.met.W.Sink g.world.𝓛 g.world.𝓜 g.world.𝓡 ((λ s x. x), (λ x. x), (λ x. x), λ x. x))).rests c.args.side.now)
+          (ends_undecked order (g.F.Folder.faults c.args.folder.now) _ asked.limits asked.name to (to_list asked) (run_reads order asked to wanted) files c.in-Err.fault c.end_reading.result m.0 (c.in-Err.ensures.reads files agree) c.in-Err.ensures.folder.counts m.2) (reading_not_ok c.in-Err.fault c.end_reading.result m.0 m.2),
     )
 
 pub list_decks-requires-clause-zones : goal.list_decks-requires-clause-zones

@@ -10,28 +10,25 @@ returns-in_err-first-clause-reads g c =
     let p = err_from_is_err_and c.from_residual.result c.from_residual.ensures.1 in
     λ files agree. rw (p.1, p.2) (unread_first c.args.limits c.args.name.now (to_of c.args.to) files c.in_err-first.field-0.0 (c.in_err-first.ensures.reads files agree))
 
-pub returns-in_err-second-clause-reads : goal.returns-in_err-second-clause-reads
-returns-in_err-second-clause-reads g c =
-    let p = err_from_is_err_and c.from_residual-in_err-second.result c.from_residual-in_err-second.ensures.1 in
-    λ files agree. rw (c.in-Some.is, p.1, p.2) (unread_second c.args.limits c.args.name.now c.in-Some.to.now files c.in_ok-first.first c.in_err-second.field-0.0 (c.in_ok-first.ensures.reads files (of_known files c.read_second.ensures.folder.since agree)) (c.in_err-second.ensures.reads files agree))
+pub returns-in-Err-clause-reads : goal.returns-in-Err-clause-reads
+returns-in-Err-clause-reads g c = λ files agree.
+    rw c.in-Some.is (unread_second c.args.limits c.args.name.now c.in-Some.to.now files c.in_ok-first.first c.in-Err.fault (c.in_ok-first.ensures.reads files (of_known files c.read_second.ensures.folder.since agree)) (c.in-Err.ensures.reads files agree))
 
 pub returns-in_default-clause-reads : goal.returns-in_default-clause-reads
 returns-in_default-clause-reads g c = λ files agree. rw c.in_default.is (one_read c.args.limits c.args.name.now files c.in_ok-first.first (c.in_ok-first.ensures.reads files agree))
 
-pub returns-clause-reads : goal.returns-clause-reads
-returns-clause-reads g c = λ files agree.
-    rw c.in-Some.is (compared_decks c.args.limits c.args.name.now c.in-Some.to.now files c.in_ok-first.first c.in_ok-second.second (c.in_ok-first.ensures.reads files (of_known files c.read_second.ensures.folder.since agree)) (c.in_ok-second.ensures.reads files agree)
+pub returns-in-Ok-clause-reads : goal.returns-in-Ok-clause-reads
+returns-in-Ok-clause-reads g c = λ files agree.
+    rw c.in-Some.is (compared_decks c.args.limits c.args.name.now c.in-Some.to.now files c.in_ok-first.first c.in-Ok.second (c.in_ok-first.ensures.reads files (of_known files c.read_second.ensures.folder.since agree)) (c.in-Ok.ensures.reads files agree)
     c.decks_of.result c.decks_of.ensures.alike c.decks_of.ensures.unlike)
 
-pub returns-clause-decks : goal.returns-clause-decks
-returns-clause-decks g c = compared_valid c.in_ok-first.first c.in_ok-second.second.model c.decks_of.result c.in_ok-first.ensures.model c.in_ok-second.ensures.model c.decks_of.ensures.alike
+pub returns-in-Ok-clause-decks : goal.returns-in-Ok-clause-decks
+returns-in-Ok-clause-decks g c = compared_valid c.in_ok-first.first c.in-Ok.second.model c.decks_of.result c.in_ok-first.ensures.model c.in-Ok.ensures.model c.decks_of.ensures.alike
 
-pub returns-in_err-second-clause-folder : goal.returns-in_err-second-clause-folder
-returns-in_err-second-clause-folder g c =
-    let p = err_from_is_err_and c.from_residual-in_err-second.result c.from_residual-in_err-second.ensures.1 in
-    rw (p.1, p.2) (stops_after g.F.Folder c.args.folder.now c.read_named.new.folder c.read_second.new.folder c.in_ok-first.first c.in_err-second.field-0.0 c.in_ok-first.ensures.folder c.in_err-second.ensures.folder)
+pub returns-in-Err-clause-folder : goal.returns-in-Err-clause-folder
+returns-in-Err-clause-folder g c = stops_after g.F.Folder c.args.folder.now c.read_named.new.folder c.read_second.new.folder c.in_ok-first.first c.in-Err.fault c.in_ok-first.ensures.folder c.in-Err.ensures.folder
 
-pub returns-clause-folder : goal.returns-clause-folder
-returns-clause-folder g c =
-    reads_both g.F.Folder c.args.folder.now c.read_named.new.folder c.read_second.new.folder c.in_ok-first.first c.in_ok-second.second c.decks_of.result c.in_ok-first.ensures.folder c.in_ok-second.ensures.folder
-    (compared_counts c.in_ok-first.first (second_by c.in_ok-second.second) c.decks_of.result (g.F.Folder.faults c.args.folder.now) c.decks_of.ensures.unlike)
+pub returns-in-Ok-clause-folder : goal.returns-in-Ok-clause-folder
+returns-in-Ok-clause-folder g c =
+    reads_both g.F.Folder c.args.folder.now c.read_named.new.folder c.read_second.new.folder c.in_ok-first.first c.in-Ok.second c.decks_of.result c.in_ok-first.ensures.folder c.in-Ok.ensures.folder
+    (compared_counts c.in_ok-first.first (second_by c.in-Ok.second) c.decks_of.result (g.F.Folder.faults c.args.folder.now) c.decks_of.ensures.unlike)
