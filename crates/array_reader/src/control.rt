@@ -7,7 +7,7 @@ use crate::items::value_item;
 use crate::keyword::{Keyword, format, keyword_of, next_word};
 use crate::line_items::name_of;
 use crate::numbers::Value;
-use outside::{Code, TextFault, refused};
+use outside::{Code, TextFault, text_fault};
 use record_lines::Words;
 use std::alloc::Global;
 
@@ -51,7 +51,7 @@ fn internal<'a, V: Value>(
 }
 
 #[tactic(auto, unfolding(crate::specs::Control::named_at))]
-fn named<'a, V: Value>(
+fn open_close<'a, V: Value>(
     alloc: Global,
     words: &mut Words<'a>,
     file: &str,
@@ -82,8 +82,8 @@ pub fn control_record<'a, V: Value>(
     match keyword_of(word) {
         Keyword::Constant => constant(alloc, words, file, line),
         Keyword::Internal => internal(alloc, words, file, line),
-        Keyword::OpenClose => named(alloc, words, file, line),
-        Keyword::External => Err(refused(alloc, Code::OutOfProfile, file, line)),
-        Keyword::Other => Err(refused(alloc, Code::BadControl, file, line)),
+        Keyword::OpenClose => open_close(alloc, words, file, line),
+        Keyword::External => Err(text_fault(alloc, Code::OutOfProfile, file, line)),
+        Keyword::Other => Err(text_fault(alloc, Code::BadControl, file, line)),
     }
 }

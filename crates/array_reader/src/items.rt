@@ -7,7 +7,7 @@ ghost use Rattle.array_reader.specs.Numbers as numbers;
 
 use crate::numbers::Value;
 use decimal_input::dec::{Dec, NumFault};
-use outside::{Code, TextFault, refused};
+use outside::{Code, TextFault, text_fault};
 use record_lines::Words;
 use std::alloc::Global;
 
@@ -16,8 +16,8 @@ pub fn number_refused(alloc: Global, fault: NumFault, file: &str, line: u32) -> 
     ensures { IsRefusal (number_code fault) file.now line result }
 {
     match fault {
-        NumFault::BadNumber => refused(alloc, Code::BadNumber, file, line),
-        NumFault::TooManyDigits => refused(alloc, Code::TooManyDigits, file, line),
+        NumFault::BadNumber => text_fault(alloc, Code::BadNumber, file, line),
+        NumFault::TooManyDigits => text_fault(alloc, Code::TooManyDigits, file, line),
     }
 }
 
@@ -33,7 +33,7 @@ pub fn value_item<V: Value>(
     ensures good { IfOk result V.Good }
 {
     let Some(word) = words.next() else {
-        return Err(refused(alloc, Code::BadNumber, file, line));
+        return Err(text_fault(alloc, Code::BadNumber, file, line));
     };
     match V::of_word(word) {
         Ok(value) => Ok(value),

@@ -5,7 +5,7 @@ ghost use Rattle.outside.specs.Codes.{refusal};
 ghost use Rattle.record_lines.specs.Reading.{GivesText};
 ghost use Rattle.array_reader.specs.Control.{keyword, format_at};
 
-use outside::{Code, TextFault, refused};
+use outside::{Code, TextFault, text_fault};
 use record_lines::{Words, is_word};
 use std::alloc::Global;
 
@@ -48,7 +48,7 @@ pub fn next_word<'a>(
 {
     match words.next() {
         Some(word) => Ok(word),
-        None => Err(refused(alloc, Code::BadControl, file, line)),
+        None => Err(text_fault(alloc, Code::BadControl, file, line)),
     }
 }
 
@@ -61,6 +61,6 @@ pub fn format(alloc: Global, words: &mut Words, file: &str, line: u32) -> Result
     if is_word(b"(FREE)", word) {
         Ok(true)
     } else {
-        Err(refused(alloc, Code::OutOfProfile, file, line))
+        Err(text_fault(alloc, Code::OutOfProfile, file, line))
     }
 }

@@ -4,7 +4,7 @@ ghost use Rattle.record_lines.specs.Items.{line_at, name_at};
 ghost use Rattle.record_lines.specs.Reading.{GivesText, HasText};
 ghost use Rattle.record_lines.specs.Layout.{numbered_of};
 
-use outside::{Code, TextFault, good_name, refused};
+use outside::{Code, TextFault, good_name, text_fault};
 use record_lines::{Line, Lines};
 use std::alloc::Global;
 
@@ -19,7 +19,7 @@ pub fn next_line<'a>(
 {
     match lines.next_line() {
         Ok(line) => Ok(line),
-        Err(end) => Err(refused(alloc, Code::EndOfFile, file, end.line)),
+        Err(end) => Err(text_fault(alloc, Code::EndOfFile, file, end.line)),
     }
 }
 
@@ -35,6 +35,6 @@ pub fn name_of<'a>(
 {
     match good_name(word) {
         Some(name) => Ok(name),
-        None => Err(refused(alloc, Code::BadName, file, line)),
+        None => Err(text_fault(alloc, Code::BadName, file, line)),
     }
 }

@@ -6,7 +6,7 @@ ghost use Rattle.array_reader.specs.Arrays.{free_refusal, value_alone, value_at,
 
 use crate::items::number_refused;
 use crate::numbers::{Value, value_of};
-use outside::{Code, TextFault, refused};
+use outside::{Code, TextFault, text_fault};
 use record_lines::{Free, FreeFault, Lines};
 use std::alloc::{AllocError, Global};
 
@@ -15,8 +15,8 @@ pub fn free_refused(alloc: Global, fault: FreeFault, file: &str) -> TextFault
     ensures { IsRefusal (free_refusal file.now fault).code file.now (free_refusal file.now fault).line result }
 {
     match fault {
-        FreeFault::EndOfFile(line) => refused(alloc, Code::EndOfFile, file, line),
-        FreeFault::BadNumber(line) => refused(alloc, Code::BadNumber, file, line),
+        FreeFault::EndOfFile(line) => text_fault(alloc, Code::EndOfFile, file, line),
+        FreeFault::BadNumber(line) => text_fault(alloc, Code::BadNumber, file, line),
     }
 }
 

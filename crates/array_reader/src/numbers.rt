@@ -91,7 +91,7 @@ pub trait Value: Copy {
         ensures good { IfOk result Good };
 
     /// The value times a multiplier; unchanged where the multiplier is zero.
-    fn scaled(self, by: Self) -> Result<Self, NumFault>
+    fn scale(self, by: Self) -> Result<Self, NumFault>
         requires value { Good self }
         requires by { Good by }
         ensures value { result ≡ kind.scaling by self }
@@ -107,7 +107,7 @@ impl Value for Dec {
         real_of(word)
     }
 
-    fn scaled(self, by: Dec) -> Result<Dec, NumFault> {
+    fn scale(self, by: Dec) -> Result<Dec, NumFault> {
         scaled_real(self, by)
     }
 }
@@ -121,7 +121,7 @@ impl Value for i64 {
         integer_of(word)
     }
 
-    fn scaled(self, by: i64) -> Result<i64, NumFault> {
+    fn scale(self, by: i64) -> Result<i64, NumFault> {
         scaled_integer(self, by)
     }
 }
@@ -136,6 +136,6 @@ pub fn value_of<V: Value>(word: &[u8], by: Option<V>) -> Result<V, NumFault>
     let value = V::of_word(word)?;
     match by {
         None => Ok(value),
-        Some(by) => value.scaled(by),
+        Some(by) => value.scale(by),
     }
 }

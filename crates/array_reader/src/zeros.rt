@@ -4,7 +4,7 @@ ghost use Rattle.record_lines.specs.Reading.{GivesText, StopsText, counted};
 ghost use Rattle.array_reader.specs.Arrays.{zero_at, zero_step, zero_list};
 
 use crate::next_value;
-use outside::{Code, TextFault, refused};
+use outside::{Code, TextFault, text_fault};
 use record_lines::{Free, Lines};
 use std::alloc::Global;
 
@@ -21,7 +21,7 @@ pub fn zero_item<'a>(
 {
     let (value, line) = next_value::<i64>(alloc, free, lines, file, None)?;
     if value != 0 {
-        return Err(refused(alloc, Code::OutOfProfile, file, line));
+        return Err(text_fault(alloc, Code::OutOfProfile, file, line));
     }
     Ok(value)
 }

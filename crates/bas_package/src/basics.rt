@@ -11,7 +11,7 @@ ghost use Rattle.bas_package.specs.Basics.{basics_of, with_basics, bas_of, is_in
 use array_reader::{has_keyword, next_line, number, read_layers};
 use decimal_input::dec::Dec;
 use model_types::{FlowModel, Grid, Listed};
-use outside::{Code, Folder, InputFault, TextFault, refused};
+use outside::{Code, Folder, InputFault, TextFault, text_fault};
 use record_lines::{Line, Lines, Words};
 use std::alloc::Global;
 
@@ -103,7 +103,7 @@ pub fn option_line(alloc: Global, lines: &mut Lines, file: &str) -> Result<(), T
 {
     let line = next_line(alloc, lines, file)?;
     if !is_in_profile(&line) {
-        return Err(refused(alloc, Code::OutOfProfile, file, line.number));
+        return Err(text_fault(alloc, Code::OutOfProfile, file, line.number));
     }
     Ok(())
 }

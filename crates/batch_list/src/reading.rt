@@ -5,7 +5,7 @@ ghost use Rattle.record_lines.specs.Layout.{numbered_of};
 ghost use Rattle.batch_list.specs.Names.{entries, entry_at, names_in, with_entries};
 
 use array_reader::name_of;
-use outside::{Code, Name, TextFault, refused};
+use outside::{Code, Name, TextFault, text_fault};
 use record_lines::{Line, Lines, Words, is_comment};
 use std::alloc::Global;
 
@@ -31,7 +31,7 @@ fn after_word(
 {
     let name = name_of(alloc, word, file, line)?;
     if names.len() >= MOST_NAMES {
-        return Err(refused(alloc, Code::TooManyEntries, file, line));
+        return Err(text_fault(alloc, Code::TooManyEntries, file, line));
     }
     let name = Name::new(alloc, name)?;
     names.push(name)?;

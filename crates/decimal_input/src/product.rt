@@ -9,7 +9,7 @@ use crate::coefficient::{Coefficient, LIMIT, NOTHING};
 use crate::dec::{Dec, NumFault};
 
 // The digits of n, and the number of zeros after them.
-fn trimmed(n: u128) -> Coefficient
+fn trim_zeros(n: u128) -> Coefficient
     ensures value { IsOf result n }
     ensures few { result.digits < 10 ^ 18 }
     ensures room { result.zeros ≤ 39 }
@@ -46,6 +46,6 @@ pub fn times(a: Dec, b: Dec) -> Result<Dec, NumFault>
     ensures value { IfOk result (λ d. Same (number d) (product_of (number a) (number b))) }
     ensures canonical { IfOk result IsDec }
 {
-    let product = trimmed(a.digits as u128 * b.digits as u128);
+    let product = trim_zeros(a.digits as u128 * b.digits as u128);
     canonical(a.neg != b.neg, product, a.exp as i32 + b.exp as i32)
 }

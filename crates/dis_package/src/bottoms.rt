@@ -24,7 +24,7 @@ pub struct Bottoms {
 }
 
 #[tactic(auto, using(array_reader::proofs::ListLemmas::all_joined))]
-fn extended(list: Listed<Dec>, more: &[Dec]) -> Result<Listed<Dec>, AllocError>
+fn append(list: Listed<Dec>, more: &[Dec]) -> Result<Listed<Dec>, AllocError>
     requires list { All IsDec list }
     requires more { All IsDec more.now }
     ensures list { IfOk result (λ l. l ≡ list ++ more.now) }
@@ -70,8 +70,8 @@ fn bottom_at<F: Folder>(
         alloc, lines, file, folder, size.rows, size.cols, has_bed, none,
     )?;
     Ok(Bottoms {
-        layers: extended(layers, &bottom)?,
-        beds: extended(beds, &bed)?,
+        layers: append(layers, &bottom)?,
+        beds: append(beds, &bed)?,
     })
 }
 

@@ -8,7 +8,7 @@ ghost use Rattle.model_types.specs.Layers.{int_at};
 use array_reader::{integer, values, zero_item};
 use model_types::Limits;
 use number_limits::within;
-use outside::{Code, TextFault, refused};
+use outside::{Code, TextFault, text_fault};
 use record_lines::{Free, Lines, Words};
 use std::alloc::Global;
 
@@ -43,7 +43,7 @@ pub fn count_at(
     let z = integer(alloc, words, file, line)?;
     match within(z, limit) {
         Some(n) => Ok(n),
-        None => Err(refused(alloc, Code::BadGrid, file, line)),
+        None => Err(text_fault(alloc, Code::BadGrid, file, line)),
     }
 }
 
@@ -62,7 +62,7 @@ fn size_at(
     let rows = count_at(alloc, words, file, line, limits.in_row())?;
     let cols = count_at(alloc, words, file, line, limits.in_row())?;
     if layers as u64 * (rows as u64 * cols as u64) > limits.cells() as u64 {
-        return Err(refused(alloc, Code::BadGrid, file, line));
+        return Err(text_fault(alloc, Code::BadGrid, file, line));
     }
     Ok(Size { layers, rows, cols })
 }

@@ -18,7 +18,7 @@ use array_reader::{next_line, read_array, read_layer};
 use decimal_input::dec::Dec;
 use model_types::{FlowModel, Grid, Limits, Listed, Period};
 use number_limits::all_positive;
-use outside::{Code, Folder, InputFault, TextFault, refused};
+use outside::{Code, Folder, InputFault, TextFault, text_fault};
 use record_lines::{Lines, Words};
 use std::alloc::Global;
 
@@ -40,7 +40,7 @@ fn widths<F: Folder>(
 {
     let (values, line) = read_array::<Dec, F>(alloc, lines, file, folder, 1, count)?;
     if !all_positive(&values) {
-        return Err(InputFault::from(refused(alloc, Code::BadGrid, file, line)));
+        return Err(InputFault::from(text_fault(alloc, Code::BadGrid, file, line)));
     }
     Ok(values)
 }

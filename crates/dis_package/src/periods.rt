@@ -10,7 +10,7 @@ use array_reader::{next_line, number};
 use decimal_input::dec::Dec;
 use model_types::{Period, Stresses};
 use number_limits::{is_at_least, is_at_most, is_one, is_positive};
-use outside::{Code, TextFault, refused};
+use outside::{Code, TextFault, text_fault};
 use record_lines::{Lines, Words, is_word};
 use std::alloc::Global;
 
@@ -46,7 +46,7 @@ fn period_at(
     let time = time_of(alloc, &mut words, file, line.number)?;
     let more = *steps + time.nstp;
     if !is_time(&time) || more > 100_000 {
-        return Err(refused(alloc, Code::BadGrid, file, line.number));
+        return Err(text_fault(alloc, Code::BadGrid, file, line.number));
     }
     *steps = more;
     Ok(period_of(&time))
@@ -148,7 +148,7 @@ pub fn time_of(alloc: Global, words: &mut Words, file: &str, line: u32) -> Resul
     let nstp = count_at(alloc, words, file, line, 100_000)?;
     let tsmult = number(alloc, words, file, line)?;
     let Some(steady) = kind_of(words) else {
-        return Err(refused(alloc, Code::BadGrid, file, line));
+        return Err(text_fault(alloc, Code::BadGrid, file, line));
     };
     Ok(Time {
         perlen,

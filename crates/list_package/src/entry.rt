@@ -15,7 +15,7 @@ use array_reader::{integer, next_line};
 use decimal_input::dec::Dec;
 use model_types::{CellId, Grid, cell_of};
 use number_limits::within;
-use outside::{Code, TextFault, refused};
+use outside::{Code, TextFault, text_fault};
 use record_lines::{Line, Lines, Words, begins_with};
 use std::alloc::Global;
 
@@ -39,7 +39,7 @@ fn cell_at(
         within(row, grid.rows),
         within(col, grid.cols),
     ) else {
-        return Err(refused(alloc, Code::CellOutside, file, line));
+        return Err(text_fault(alloc, Code::CellOutside, file, line));
     };
     Ok(cell_of(grid, k, i, j))
 }
@@ -70,10 +70,10 @@ fn entry_of<E: ListEntry>(
     read_numbers(alloc, words, file, line, columns, numbers)?;
     let cell = cell_at(alloc, file, line, grid, layer, row, col)?;
     if let Some(code) = first_fault(columns, numbers) {
-        return Err(refused(alloc, code, file, line));
+        return Err(text_fault(alloc, code, file, line));
     }
     if marks.is_marked(cell.0) {
-        return Err(refused(alloc, Code::BadProperty, file, line));
+        return Err(text_fault(alloc, Code::BadProperty, file, line));
     }
     Ok((E::entry(lists, cell, numbers), cell))
 }
@@ -102,7 +102,7 @@ fn entry_at<E: ListEntry>(
 {
     let line = next_line(alloc, lines, file)?;
     if is_left_out(&line) {
-        return Err(refused(alloc, Code::OutOfProfile, file, line.number));
+        return Err(text_fault(alloc, Code::OutOfProfile, file, line.number));
     }
     let mut words = Words::of(&line);
     let (entry, cell) = entry_of::<E>(

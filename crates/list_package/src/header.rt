@@ -9,7 +9,7 @@ ghost use Rattle.list_package.specs.Seen.{count_seen, IsFew};
 
 use array_reader::{integer, next_line, short_integer};
 use model_types::Limits;
-use outside::{Code, TextFault, refused};
+use outside::{Code, TextFault, text_fault};
 use record_lines::{Line, Lines, Words, begins_with};
 use std::alloc::Global;
 
@@ -33,7 +33,7 @@ pub fn item_line<'a>(
 {
     let line = next_line(alloc, lines, file)?;
     if begins_with(b"PARAMETER", &line) {
-        return Err(refused(alloc, Code::OutOfProfile, file, line.number));
+        return Err(text_fault(alloc, Code::OutOfProfile, file, line.number));
     }
     Ok(line)
 }
@@ -49,7 +49,7 @@ fn count_of(
     ensures few { IfOk result IsFew }
 {
     if itmp > limits.entries() as i64 {
-        return Err(refused(alloc, Code::TooManyEntries, file, line));
+        return Err(text_fault(alloc, Code::TooManyEntries, file, line));
     }
     if itmp < 0 {
         Ok(Count::Again)
@@ -87,10 +87,10 @@ pub fn header_of(
     let itmp = integer(alloc, words, file, line)?;
     let count = count_of(alloc, limits, itmp, file, line)?;
     if count == Count::Again && !listed {
-        return Err(refused(alloc, Code::NothingToReuse, file, line));
+        return Err(text_fault(alloc, Code::NothingToReuse, file, line));
     }
     if has_parameters(words) {
-        return Err(refused(alloc, Code::OutOfProfile, file, line));
+        return Err(text_fault(alloc, Code::OutOfProfile, file, line));
     }
     Ok(count)
 }

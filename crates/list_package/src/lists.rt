@@ -13,7 +13,7 @@ use crate::header::{Count, header_of};
 use crate::kind::ListEntry;
 use array_reader::next_line;
 use model_types::{Grid, Limits, Period, Shared};
-use outside::{Code, TextFault, refused};
+use outside::{Code, TextFault, text_fault};
 use record_lines::{Lines, Words};
 use std::alloc::Global;
 
@@ -68,7 +68,7 @@ fn list_at<E: ListEntry>(
     let count = header_of(alloc, limits, &mut words, file, line.number, last.is_some())?;
     let list = list_of::<E>(alloc, lists, lines, file, grid, count, last)?;
     if !E::suits(lists, period, list.as_slice()) {
-        return Err(refused(alloc, Code::OutOfProfile, file, line.number));
+        return Err(text_fault(alloc, Code::OutOfProfile, file, line.number));
     }
     let kept = list.again()?;
     *last = Some(kept);

@@ -106,7 +106,7 @@ pub fn properties_of<F: Folder>(
     })
 }
 
-fn extended(list: Listed<Dec>, more: &[Dec]) -> Result<Listed<Dec>, AllocError>
+fn append(list: Listed<Dec>, more: &[Dec]) -> Result<Listed<Dec>, AllocError>
     ensures { IfOk result (λ l. l ≡ list ++ more.now) }
 {
     let mut items = list.into_vec();
@@ -115,14 +115,14 @@ fn extended(list: Listed<Dec>, more: &[Dec]) -> Result<Listed<Dec>, AllocError>
 }
 
 /// The arrays of a layer after those of the layers above it.
-pub fn joined(above: Properties, layer: &Properties) -> Result<Properties, AllocError>
+pub fn add_layer(above: Properties, layer: &Properties) -> Result<Properties, AllocError>
     ensures { IfOk result (λ p. p ≡ joined above layer.now) }
 {
     Ok(Properties {
-        hk: extended(above.hk, layer.hk.as_slice())?,
-        hani: extended(above.hani, layer.hani.as_slice())?,
-        vka: extended(above.vka, layer.vka.as_slice())?,
-        ss: extended(above.ss, layer.ss.as_slice())?,
-        vkcb: extended(above.vkcb, layer.vkcb.as_slice())?,
+        hk: append(above.hk, layer.hk.as_slice())?,
+        hani: append(above.hani, layer.hani.as_slice())?,
+        vka: append(above.vka, layer.vka.as_slice())?,
+        ss: append(above.ss, layer.ss.as_slice())?,
+        vkcb: append(above.vkcb, layer.vkcb.as_slice())?,
     })
 }

@@ -8,12 +8,12 @@ ghost use Rattle.outside.specs.Folders.{ReadsOn};
 ghost use Rattle.record_lines.specs.Layout.{LinesMay};
 ghost use Rattle.lpf_package.specs.Forms.{AreLayers};
 
-use crate::layer::{Layer, Properties, joined, properties_of};
+use crate::layer::{Layer, Properties, add_layer, properties_of};
 use array_reader::{has_keyword, integer, next_line, number, plain_ints, plain_reals, zero_list};
 use decimal_input::dec::Dec;
 use model_types::layers::{dec_at, int_at};
 use model_types::{Grid, Listed};
-use outside::{Code, Folder, InputFault, TextFault, refused};
+use outside::{Code, Folder, InputFault, TextFault, text_fault};
 use record_lines::{Lines, Words};
 use std::alloc::Global;
 
@@ -35,7 +35,7 @@ pub fn option_line(alloc: Global, lines: &mut Lines, file: &str) -> Result<bool,
     number(alloc, &mut words, file, line.number)?;
     let parameters = integer(alloc, &mut words, file, line.number)?;
     if parameters > 0 {
-        return Err(refused(alloc, Code::OutOfProfile, file, line.number));
+        return Err(text_fault(alloc, Code::OutOfProfile, file, line.number));
     }
     Ok(has_keyword(b"STORAGECOEFFICIENT", &mut words))
 }
@@ -104,7 +104,7 @@ fn layer_at<F: Folder>(
 {
     let layer = nth_layer(grid, chani, stores, k);
     let properties = properties_of(alloc, lines, file, folder, &layer)?;
-    Ok(joined(above, &properties)?)
+    Ok(add_layer(above, &properties)?)
 }
 
 /// The arrays of `count` layers.

@@ -41,7 +41,7 @@ pub fn dis_in<F: Folder>(
 }
 
 /// The model, if its cells pass a check.
-fn checked(
+fn check_model(
     alloc: Global,
     model: FlowModel,
     file: &str,
@@ -72,8 +72,8 @@ fn basics_tested(
     ensures thickness { IfOk result (λ m. checked m dis.now Thickness ≡ Ok tt) }
     ensures heads { IfOk result (λ m. checked m bas.now StartHead ≡ Ok tt) }
 {
-    let thick = checked(alloc, model, dis, Check::Thickness)?;
-    checked(alloc, thick, bas, Check::StartHead)
+    let thick = check_model(alloc, model, dis, Check::Thickness)?;
+    check_model(alloc, thick, bas, Check::StartHead)
 }
 
 /// The model with BAS6. Then the thickness of each active cell is checked, and then the starting head of each.
@@ -92,7 +92,7 @@ pub fn bas_in<F: Folder>(
     ensures model { (files : FileSet) → F.agrees folder.new files → Has (λ m. m) result (bas_in files dis.now name.now model) }
     ensures form { IfOk result IsBasic }
 {
-    let (bytes, begun) = opened(alloc, folder, name, model)?;
+    let (bytes, begun) = open_file(alloc, folder, name, model)?;
     let basic = read_bas(alloc, name, &bytes, folder, begun)?;
     let tested = basics_tested(alloc, basic, dis, name)?;
     Ok(tested)
@@ -113,16 +113,16 @@ pub fn lpf_in<F: Folder>(
     ensures model { (files : FileSet) → F.agrees folder.new files → Has (λ m. m) result (lpf_in files name.now model) }
     ensures form { IfOk result IsModel }
 {
-    let (bytes, basic) = opened(alloc, folder, name, model)?;
+    let (bytes, basic) = open_file(alloc, folder, name, model)?;
     let flow = read_lpf(alloc, name, &bytes, folder, basic)?;
-    let good = checked(alloc, flow, name, Check::Properties)?;
+    let good = check_model(alloc, flow, name, Check::Properties)?;
     Ok(good)
 }
 
 // A file, read with the model that its contents are added to.
 
 /// The bytes of a file of the folder, and the model unchanged.
-pub fn opened<F: Folder>(
+pub fn open_file<F: Folder>(
     alloc: Global,
     folder: &mut F,
     name: &str,

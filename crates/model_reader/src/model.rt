@@ -33,9 +33,9 @@ pub fn read_model<F: Folder>(
     ensures model { (files : FileSet) → F.agrees folder.new files → Has (λ m. m) result (model_of limits files names.now) }
     ensures form { IfOk result IsModel }
 {
-    let dis = needed(names, Package::Dis);
-    let bas = needed(names, Package::Bas);
-    let lpf = needed(names, Package::Lpf);
+    let dis = file_needed(names, Package::Dis);
+    let bas = file_needed(names, Package::Bas);
+    let lpf = file_needed(names, Package::Lpf);
     let begun = dis_in(alloc, limits, folder, dis)?;
     let basic = bas_in(alloc, folder, dis, bas, begun)?;
     let flow = lpf_in(alloc, folder, lpf, basic)?;
@@ -88,7 +88,7 @@ pub fn read_name_file<F: Folder>(
 }
 
 /// The file of a package that every model has.
-pub fn needed(names: &Names, asked: Package) -> &str
+pub fn file_needed(names: &Names, asked: Package) -> &str
     requires asked { IsTrue (is_needed asked) }
     ensures file { result.now ≡ needed asked names.now }
     ensures pair { Contains names.now (asked, result.now) }

@@ -11,7 +11,7 @@ ghost use Rattle.name_file.specs.Pairs.{NamesMay};
 ghost use Rattle.model_types.specs.Valid.{IsModel};
 ghost use Rattle.model_reader.specs.Model.{stress_in, stress_of, stresses, with_stresses};
 
-use crate::basics::opened;
+use crate::basics::open_file;
 use chd_package::read_chd;
 use evt_package::read_evt;
 use model_types::{FlowModel, Limits};
@@ -78,7 +78,7 @@ fn stress_in<F: Folder>(
     match names.file_of(asked) {
         None => Ok(model),
         Some(name) => {
-            let (bytes, model) = opened(alloc, folder, name, model)?;
+            let (bytes, model) = open_file(alloc, folder, name, model)?;
             stress_of(alloc, limits, asked, name, &bytes, folder, model)
         }
     }

@@ -18,7 +18,7 @@ impl<T> Model for Optional<T> {
     ghost view = { λ l. replicate l.nones None ++ l.rest.items };
 }
 
-fn whole<T: Copy>(
+fn all_items<T: Copy>(
     alloc: Global,
     nones: u32,
     rest: &[Option<T>],
@@ -87,7 +87,7 @@ impl<T: Copy> Optional<T> {
             self.rest[(place - self.nones) as usize] = item;
             return Ok(());
         }
-        let mut items = whole(alloc, self.nones, &self.rest)?;
+        let mut items = all_items(alloc, self.nones, &self.rest)?;
         items[place as usize] = item;
         self.nones = 0;
         self.rest = items;

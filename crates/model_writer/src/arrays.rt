@@ -12,7 +12,7 @@ use std::alloc::AllocError;
 
 /// The first values, and the others.
 #[tactic(auto, using(std::proofs::lemmas::List::take_min, crate::proofs::Texts::drop_min))]
-fn cut<T>(values: &[T], count: usize) -> (&[T], &[T])
+fn split_first<T>(values: &[T], count: usize) -> (&[T], &[T])
     ensures first { result.0.now ≡ take count values.now }
     ensures others { result.1.now ≡ drop count values.now }
 {
@@ -30,7 +30,7 @@ fn push_rows<T: Word>(
 {
     let mut left = values;
     for _ in 0..rows {
-        let (row, others) = cut(left, cols as usize);
+        let (row, others) = split_first(left, cols as usize);
         push_line(bytes, row)?;
         left = others;
     }
@@ -64,8 +64,8 @@ pub(crate) fn push_layer<T: Word>(
         ++ text (array_lines T.word grid.now.rows grid.now.cols (layer_values grid.now layer values.now))) }
 {
     let size = grid.layer_size() as usize;
-    let (_, left) = cut(values, layer as usize * size);
-    let (cells, _) = cut(left, size);
+    let (_, left) = split_first(values, layer as usize * size);
+    let (cells, _) = split_first(left, size);
     push_array(bytes, grid.rows, grid.cols, cells)
 }
 

@@ -8,7 +8,7 @@ use crate::kinds::{is_passed_over, package_of};
 use crate::names::{Gathered, Names};
 use crate::package::Package;
 use array_reader::{name_of, short_integer};
-use outside::{Code, Name, TextFault, refused};
+use outside::{Code, Name, TextFault, text_fault};
 use record_lines::{Line, Lines, Words, is_comment};
 use std::alloc::Global;
 
@@ -32,13 +32,13 @@ fn file_in<'a>(
     ensures good { IfOk result (λ name. IsGoodName name.now) }
 {
     let Some(unit) = words.next() else {
-        return Err(refused(alloc, Code::BadNameLine, file, line));
+        return Err(text_fault(alloc, Code::BadNameLine, file, line));
     };
     let Some(name) = words.next() else {
-        return Err(refused(alloc, Code::BadNameLine, file, line));
+        return Err(text_fault(alloc, Code::BadNameLine, file, line));
     };
     if !is_integer(unit) {
-        return Err(refused(alloc, Code::BadNameLine, file, line));
+        return Err(text_fault(alloc, Code::BadNameLine, file, line));
     }
     name_of(alloc, name, file, line)
 }
@@ -59,7 +59,7 @@ fn after_package(
 {
     let name = file_in(alloc, words, file, line)?;
     if names.has(found) {
-        return Err(refused(alloc, Code::DuplicatePackage, file, line));
+        return Err(text_fault(alloc, Code::DuplicatePackage, file, line));
     }
     let name = Name::new(alloc, name)?;
     names.add(found, name)?;
@@ -84,7 +84,7 @@ fn after_line(alloc: Global, names: &mut Gathered, line: &Line, file: &str) -> R
         return Ok(());
     }
     match package_of(kind) {
-        None => Err(refused(alloc, Code::UnsupportedPackage, file, line.number)),
+        None => Err(text_fault(alloc, Code::UnsupportedPackage, file, line.number)),
         Some(found) => after_package(alloc, names, found, &mut words, file, line.number),
     }
 }
@@ -108,11 +108,11 @@ fn after_lines(
 
 /// The names of a whole model, or the refusal of a missing package that every model has.
 #[tactic(auto, unfolding(crate::specs::Reading::whole))]
-fn whole(alloc: Global, files: Gathered, file: &str) -> Result<Names, TextFault>
+fn names_of(alloc: Global, files: Gathered, file: &str) -> Result<Names, TextFault>
     ensures { HasText (λ names. names) result (whole file.now files) }
 {
     if !files.has(Package::Dis) || !files.has(Package::Bas) || !files.has(Package::Lpf) {
-        return Err(refused(alloc, Code::MissingPackage, file, 0));
+        return Err(text_fault(alloc, Code::MissingPackage, file, 0));
     }
     Ok(Names { files })
 }
@@ -126,5 +126,5 @@ pub fn read_names(alloc: Global, file: &str, bytes: &[u8]) -> Result<Names, Text
     let mut files = Gathered::new(alloc);
     let mut lines = Lines::new(bytes);
     after_lines(alloc, &mut files, &mut lines, file)?;
-    whole(alloc, files, file)
+    names_of(alloc, files, file)
 }

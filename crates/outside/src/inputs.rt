@@ -53,7 +53,7 @@ pub fn file_refusal(alloc: Global, code: Code, name: &str) -> Result<Refusal, Al
 }
 
 /// The refusal of a line of a file, or `Memory` where there is no memory for the file's name.
-pub fn refused(alloc: Global, code: Code, file: &str, line: u32) -> TextFault
+pub fn text_fault(alloc: Global, code: Code, file: &str, line: u32) -> TextFault
     ensures { IsRefusal code file.now line result }
 {
     match Name::new(alloc, file) {

@@ -72,11 +72,11 @@ pub fn folder_name(alloc: Global, name: &str) -> Result<String, AllocError>
     requires { IsGoodName name.now }
     ensures { IfOk result (λ asked. string_bytes asked ≡ folder_name name.now) }
 {
-    let turned = turned(alloc, name.as_bytes())?;
+    let turned = with_slashes(alloc, name.as_bytes())?;
     Ok(String::from_utf8(turned).unwrap())
 }
 
-fn turned(alloc: Global, name: &[u8]) -> Result<Vec<u8>, AllocError>
+fn with_slashes(alloc: Global, name: &[u8]) -> Result<Vec<u8>, AllocError>
     ensures { IfOk result (λ v. v.items ≡ folder_name name.now) }
 {
     name.iter()

@@ -5,7 +5,7 @@ ghost use Rattle.period_arrays.specs.Areas.{flag_at, flag_if, flags_of, option_a
 ghost use Rattle.period_arrays.specs.Forms.{AreFlags};
 
 use array_reader::integer;
-use outside::{Code, TextFault, refused};
+use outside::{Code, TextFault, text_fault};
 use record_lines::Words;
 use std::alloc::Global;
 
@@ -35,7 +35,7 @@ pub fn option_at(alloc: Global, words: &mut Words, file: &str, line: u32) -> Res
 {
     let option = integer(alloc, words, file, line)?;
     if option < 1 || option > 3 {
-        return Err(refused(alloc, Code::OutOfProfile, file, line));
+        return Err(text_fault(alloc, Code::OutOfProfile, file, line));
     }
     Ok(option)
 }
@@ -54,7 +54,7 @@ pub fn flag_at(
 {
     let flag = integer(alloc, words, file, line)?;
     if flag < 0 && !listed {
-        return Err(refused(alloc, Code::NothingToReuse, file, line));
+        return Err(text_fault(alloc, Code::NothingToReuse, file, line));
     }
     Ok(flag >= 0)
 }

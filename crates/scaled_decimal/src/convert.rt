@@ -14,7 +14,7 @@ use decimal_input::dec::Dec;
 const FOUR_ZEROS_FIT: u64 = 100_000_000_000_000;
 
 // The digits with zeros appended until there are 18.
-fn padded(digits: u64, exponent: i16) -> Sd
+fn to_digits(digits: u64, exponent: i16) -> Sd
     requires positive { 0 < digits }
     requires few { digits < 10 ^ 18 }
     requires range { IsNear exponent 10000 }
@@ -47,7 +47,7 @@ pub fn of_dec(a: Dec) -> Sd
     if a.digits == 0 {
         ZERO
     } else {
-        padded(a.digits, a.exp)
+        to_digits(a.digits, a.exp)
     }
 }
 
@@ -63,7 +63,7 @@ pub fn of_units_dn(units: u128, places: u16) -> Sd
     if units == 0 {
         ZERO
     } else if units < LIMIT as u128 {
-        padded(units as u64, e)
+        to_digits(units as u64, e)
     } else {
         round_dn(units, behind_18_digits(units), e)
     }
@@ -81,7 +81,7 @@ pub fn of_units_up(units: u128, places: u16) -> Sd
     if units == 0 {
         ZERO
     } else if units < LIMIT as u128 {
-        padded(units as u64, e)
+        to_digits(units as u64, e)
     } else {
         round_up(units - 1, behind_18_digits(units), e)
     }

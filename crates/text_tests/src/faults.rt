@@ -1,7 +1,7 @@
 // Faults, refusals as calls make them, and their codes.
 use array_reader::{free_refused, number_refused};
 use decimal_input::dec::NumFault;
-use outside::{Code, InputFault, Refusal, TextFault, file_refusal, refused};
+use outside::{Code, InputFault, Refusal, TextFault, file_refusal, text_fault};
 use record_lines::FreeFault;
 use std::alloc::AllocError;
 use test_lines::Page;
@@ -27,7 +27,7 @@ pub fn push_fault(page: &mut Page, fault: &InputFault) {
 pub fn push_refusals(page: &mut Page) -> Result<(), AllocError> {
     let alloc = page.alloc();
     for fault in [
-        refused(alloc, Code::BadGrid, "a.dis", 3),
+        text_fault(alloc, Code::BadGrid, "a.dis", 3),
         number_refused(alloc, NumFault::BadNumber, "a.dis", 4),
         number_refused(alloc, NumFault::TooManyDigits, "a.dis", 5),
         free_refused(alloc, FreeFault::EndOfFile(7), "a.lpf"),

@@ -2,11 +2,11 @@ use Rattle.std.proofs.lemmas.Result.{err_from_is_err_and}
 use Rattle.model_reader.proofs.FlowLemmas.{grid_kept, heads_kept, lpf_read, lpf_refused, model_of}
 use Rattle.model_reader.proofs.basics.lpf_in.Goals as goal
 
-pub checked-requires-clause-grid : goal.checked-requires-clause-grid
-checked-requires-clause-grid g c = grid_kept c.in_ok-bytes.basic c.in_ok-flow.flow c.in_ok-flow.ensures.others (rw c.in_ok-bytes.ensures.same c.requires.basic)
+pub check_model-requires-clause-grid : goal.check_model-requires-clause-grid
+check_model-requires-clause-grid g c = grid_kept c.in_ok-bytes.basic c.in_ok-flow.flow c.in_ok-flow.ensures.others (rw c.in_ok-bytes.ensures.same c.requires.basic)
 
-pub checked-requires-clause-strt : goal.checked-requires-clause-strt
-checked-requires-clause-strt g c = heads_kept c.in_ok-bytes.basic c.in_ok-flow.flow c.in_ok-flow.ensures.others (rw c.in_ok-bytes.ensures.same c.requires.basic)
+pub check_model-requires-clause-strt : goal.check_model-requires-clause-strt
+check_model-requires-clause-strt g c = heads_kept c.in_ok-bytes.basic c.in_ok-flow.flow c.in_ok-flow.ensures.others (rw c.in_ok-bytes.ensures.same c.requires.basic)
 
 pub returns-in_err-good-clause-model : goal.returns-in_err-good-clause-model
 returns-in_err-good-clause-model g c = λ files agree.

@@ -7,9 +7,9 @@ unfolding model_of
 returns-in_err-flow-clause-model g c = λ files agree.
     let p = err_from_is_err_and c.from_residual-in_err-flow.result c.from_residual-in_err-flow.ensures.1 in
     let basic = c.in_err-flow.ensures.folder.since files agree in
-    rw (p.1, p.2) (goes_on (λ m. m) (Err c.in_err-flow.field-0.0) _ _ _ (rw c.needed-dis.ensures.file at (c.in_ok-begun.ensures.model files (c.in_ok-basic.ensures.folder.since files basic)))
-    (goes_on (λ m. m) (Err c.in_err-flow.field-0.0) _ _ _ (rw (c.needed-dis.ensures.file, c.needed-bas.ensures.file) at (c.in_ok-basic.ensures.model files basic))
-    (stops_here c.in_err-flow.field-0.0 _ _ (rw c.needed-lpf.ensures.file at (c.in_err-flow.ensures.model files agree)))))
+    rw (p.1, p.2) (goes_on (λ m. m) (Err c.in_err-flow.field-0.0) _ _ _ (rw c.file_needed-dis.ensures.file at (c.in_ok-begun.ensures.model files (c.in_ok-basic.ensures.folder.since files basic)))
+    (goes_on (λ m. m) (Err c.in_err-flow.field-0.0) _ _ _ (rw (c.file_needed-dis.ensures.file, c.file_needed-bas.ensures.file) at (c.in_ok-basic.ensures.model files basic))
+    (stops_here c.in_err-flow.field-0.0 _ _ (rw c.file_needed-lpf.ensures.file at (c.in_err-flow.ensures.model files agree)))))
 
 pub returns-clause-folder : goal.returns-clause-folder
 returns-clause-folder g c =
@@ -20,19 +20,19 @@ unfolding model_of
 returns-clause-model g c = λ files agree.
     let flow = c.with_stresses.ensures.folder.since files agree in
     let basic = c.in_ok-flow.ensures.folder.since files flow in
-    goes_on (λ m. m) c.with_stresses.result _ _ _ (rw c.needed-dis.ensures.file at (c.in_ok-begun.ensures.model files (c.in_ok-basic.ensures.folder.since files basic)))
-    (goes_on (λ m. m) c.with_stresses.result _ _ _ (rw (c.needed-dis.ensures.file, c.needed-bas.ensures.file) at (c.in_ok-basic.ensures.model files basic))
-    (goes_on (λ m. m) c.with_stresses.result _ _ _ (rw c.needed-lpf.ensures.file at (c.in_ok-flow.ensures.model files flow))
+    goes_on (λ m. m) c.with_stresses.result _ _ _ (rw c.file_needed-dis.ensures.file at (c.in_ok-begun.ensures.model files (c.in_ok-basic.ensures.folder.since files basic)))
+    (goes_on (λ m. m) c.with_stresses.result _ _ _ (rw (c.file_needed-dis.ensures.file, c.file_needed-bas.ensures.file) at (c.in_ok-basic.ensures.model files basic))
+    (goes_on (λ m. m) c.with_stresses.result _ _ _ (rw c.file_needed-lpf.ensures.file at (c.in_ok-flow.ensures.model files flow))
     (c.with_stresses.ensures.model files agree)))
 
 pub dis_in-requires-clause-may : goal.dis_in-requires-clause-may
-dis_in-requires-clause-may g c = file_named _ _ _ _ c.requires.names c.needed-dis.ensures.pair
+dis_in-requires-clause-may g c = file_named _ _ _ _ c.requires.names c.file_needed-dis.ensures.pair
 
 pub bas_in-requires-clause-may : goal.bas_in-requires-clause-may
-bas_in-requires-clause-may g c = c.in_ok-begun.ensures.folder.still _ (file_named _ _ _ _ c.requires.names c.needed-bas.ensures.pair)
+bas_in-requires-clause-may g c = c.in_ok-begun.ensures.folder.still _ (file_named _ _ _ _ c.requires.names c.file_needed-bas.ensures.pair)
 
 pub lpf_in-requires-clause-may : goal.lpf_in-requires-clause-may
-lpf_in-requires-clause-may g c = c.in_ok-basic.ensures.folder.still _ (c.in_ok-begun.ensures.folder.still _ (file_named _ _ _ _ c.requires.names c.needed-lpf.ensures.pair))
+lpf_in-requires-clause-may g c = c.in_ok-basic.ensures.folder.still _ (c.in_ok-begun.ensures.folder.still _ (file_named _ _ _ _ c.requires.names c.file_needed-lpf.ensures.pair))
 
 pub with_stresses-requires-clause-names : goal.with_stresses-requires-clause-names
 with_stresses-requires-clause-names g c = names_still _ _ _ (λ name h. c.in_ok-flow.ensures.folder.still name (c.in_ok-basic.ensures.folder.still name (c.in_ok-begun.ensures.folder.still name h))) c.requires.names

@@ -10,7 +10,7 @@ pub returns-then-units-eq0-clause-exact : goal.returns-then-units-eq0-clause-exa
 returns-then-units-eq0-clause-exact c = λ _. nothing_same 0 c.args.units (pos 0) (neg_ℤ (pos c.args.places)) refl (omega arith)
 
 pub returns-then-units-clause-nearest : goal.returns-then-units-clause-nearest
-returns-then-units-clause-nearest c = down_same c.padded.result c.args.units _ (neg_ℤ (pos c.args.places)) (omega (arith, ints)) c.padded.ensures.decimal c.padded.ensures.same
+returns-then-units-clause-nearest c = down_same c.to_digits.result c.args.units _ (neg_ℤ (pos c.args.places)) (omega (arith, ints)) c.to_digits.ensures.decimal c.to_digits.ensures.same
 
 pub returns-else-units-clause-nearest : goal.returns-else-units-clause-nearest
 returns-else-units-clause-nearest c = c.round_dn.ensures.nearest _ (exact_from_at c.args.units _ (neg_ℤ (pos c.args.places)) (omega (arith, ints)))
