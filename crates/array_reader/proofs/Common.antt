@@ -4,15 +4,12 @@ pub use Rattle.std.proofs.Common.{nat_lt, neg_ℤ, negsuc, pos, pow-suc, refl, s
 pub use Rattle.std.proofs.Common.{◌↔◌, ◌∙◌, ◌≡◌, ◌≤ℤ◌, ◌≤◌}
 pub use Rattle.std.proofs.lemmas.Result.{err_from_is_err_and}
 pub use Rattle.std.specs.Prelude.{IfOk, IfSome}
-pub use Rattle.array_reader.specs.Arrays.{in_file, layer_array}
-unfoldable pub use Rattle.array_reader.specs.Arrays.{free_list, free_rows, layers, value_alone, value_at, zero_at, zero_list, zero_step}
-pub use Rattle.array_reader.specs.Control.{Control, ControlMay, at_line, format_at, keyword, number_at, of_keyword}
-unfoldable pub use Rattle.array_reader.specs.Control.{constant_at, control_at, internal_at, named_at}
-pub use Rattle.array_reader.specs.Numbers.{is_exponent, or_bad, spelt_number, tested, with_multiplier}
-unfoldable pub use Rattle.array_reader.specs.Numbers.{canonical, integer, number, product, significant, zeros}
+pub use Rattle.array_reader.specs.{ControlMay, at_line, format_at, in_file, is_exponent, keyword, layer_array, number_at, of_keyword, or_bad, spelt_number}
+pub use Rattle.array_reader.specs.{tested, with_multiplier}
+unfoldable pub use Rattle.array_reader.specs.{canonical, constant_at, control_at, free_list, free_rows, integer, internal_at, layers, named_at, number, product}
+unfoldable pub use Rattle.array_reader.specs.{significant, value_alone, value_at, zero_at, zero_list, zero_step, zeros}
 pub use Rattle.decimal_input.specs.declared.dec.NumFault.{NumFault}
-pub use Rattle.outside.specs.Codes.{IsRefusal, refusal}
-pub use Rattle.outside.specs.Names.{IsGoodName, WordsMay, folder_name, is_good_name, words}
+pub use Rattle.outside.specs.{FileSet, IsGoodName, IsRefusal, WordsMay, folder_name, is_good_name, refusal, words}
 pub use Rattle.outside.specs.declared.codes.Code.TheVariants.{BadName, OutOfProfile}
 pub use Rattle.outside.specs.declared.inputs.TextFault.{TextFault}
 pub use Rattle.outside.specs.declared.inputs.TextFault.TheVariants.{Memory, Refused}
@@ -20,10 +17,7 @@ pub use Rattle.record_lines.proofs.Forward.{after, appended_held, chain, counted
 pub use Rattle.record_lines.proofs.Forward.{word_held}
 pub use Rattle.record_lines.proofs.Loops.{ends_text, goes_on, is_done, list_ends, list_goes_on, list_stops, lists_done, step_goes_on, steps_done, steps_end}
 pub use Rattle.record_lines.proofs.Loops.{with_front}
-pub use Rattle.record_lines.specs.Items.{is_word, line_at, word_at}
-unfoldable pub use Rattle.record_lines.specs.Items.{name_at}
-pub use Rattle.record_lines.specs.Layout.{Left, LineMay, LinesMay, Numbered}
-pub use Rattle.record_lines.specs.Reading.{StopsText, appended, counted, repeated, ◌>>=◌}
-pub use Rattle.record_lines.specs.Spread.{Taking, beginning, source, taken}
-unfoldable pub use Rattle.record_lines.specs.Spread.{next_value}
+pub use Rattle.record_lines.specs.{Left, LineMay, LinesMay, Numbered, StopsText, Taking, appended, beginning, counted, is_word, line_at, repeated, source}
+pub use Rattle.record_lines.specs.{taken, word_at, ◌>>=◌}
+unfoldable pub use Rattle.record_lines.specs.{name_at, next_value}
 pub use Rattle.record_lines.specs.declared.free.FreeFault.{FreeFault}

@@ -2,8 +2,8 @@
 use Rattle.array_reader.proofs.Common.{◌≡◌, ℕ, List, Result, Ok, Err, All, refl, IfOk, folder_name, NumFault, LineMay, LinesMay, word_at, line_at, name_at}
 use Rattle.array_reader.proofs.Common.{Left, Numbered, repeated, Taking, beginning, next_value, FreeFault, chain, after, given, repeated_held, appended_held}
 use Rattle.array_reader.proofs.Common.{value_held, word_held, name_held, line_words, leaves, number_at, at_line, in_file, value_at, value_alone, free_list}
-use Rattle.array_reader.proofs.Common.{free_rows, WordsMay, words, ControlMay, Control, keyword, format_at, constant_at, internal_at, named_at, of_keyword}
-use Rattle.array_reader.proofs.Common.{control_at}
+use Rattle.array_reader.proofs.Common.{free_rows, WordsMay, words, ControlMay, keyword, format_at, constant_at, internal_at, named_at, of_keyword, control_at}
+use Rattle.array_reader.specs.Control.{Control}
 use Rattle.array_reader.specs.declared.keyword.Keyword.{Keyword}
 use Rattle.array_reader.specs.declared.keyword.Keyword.TheVariants.{Constant, Internal, OpenClose, External, Other}
 

@@ -6,8 +6,7 @@ use Rattle.array_reader.proofs.Common.{integer, or_bad}
 use Rattle.std.proofs.lemmas.Int.{ints}
 use Rattle.std.proofs.lemmas.Bool.Decides.{nat_tests}
 use Rattle.decimal_input.specs.declared.dec.Dec.{Dec}
-use Rattle.decimal_input.specs.Grammar.{Spelling, IsInteger, spelt, integer_of}
-use Rattle.decimal_input.specs.Outcomes.{IsTrimmed, IsTested, IsCanonical, Names, differ}
+use Rattle.decimal_input.specs.{Spelling, IsInteger, spelt, integer_of, IsTrimmed, IsTested, IsCanonical, Names, differ}
 use Rattle.decimal_input.proofs.Named.{IsNumber}
 use Rattle.decimal_input.proofs.Spelled.{names_read, long_names, reads_integer, integer_read}
 use Rattle.decimal_input.proofs.Unique.{names_one, canonical_one}

@@ -2,7 +2,7 @@
 use Rattle.array_reader.proofs.Common.{◌≡◌, ℕ, List, Result, Ok, Err, All, Left, Numbered, counted, Taking, beginning, zero_at, zero_step, zero_list, IfOk}
 use Rattle.array_reader.proofs.Common.{refusal, OutOfProfile, chain, either, counted_held, value_at, integer}
 use Rattle.array_reader.proofs.Forward.{value_at_held}
-use Rattle.model_types.specs.Layers.{is_nonzero}
+use Rattle.model_types.specs.{is_nonzero}
 
 module _ (P : Numbered → Type 0) (file : List ℕ) where
   pub zero_held : (s : Taking × Left) → All P s.1.lines → IfOk (zero_at file s) (λ x. All P x.1.1.lines)

@@ -1,21 +1,15 @@
 -- Arrays with their control records, and plain lists.
 use Rattle.std.specs.Prelude.{ℕ, ℤ, ◌*◌, List, Result, Ok, replicate, Err, Bool, if◌then◌else◌}
 use Rattle.decimal_input.specs.declared.dec.Dec.{Dec}
-use Rattle.outside.specs.Files.{FileSet}
-use Rattle.outside.specs.Inputs.{file_at}
+use Rattle.outside.specs.{FileSet, file_at, words, refusal}
 use Rattle.outside.specs.declared.inputs.Refusal.{Refusal}
-use Rattle.record_lines.specs.Items.{line_at}
-use Rattle.outside.specs.Names.{words}
-use Rattle.record_lines.specs.Layout.{Left, left_from}
-use Rattle.record_lines.specs.Reading.{◌>>=◌, appended, repeated, counted}
+use Rattle.record_lines.specs.{line_at, Left, left_from, ◌>>=◌, appended, repeated, counted, Taking, beginning, next_value}
 use Rattle.array_reader.specs.Control.{Control, constant, internal, named, control_at, at_line}
 use Rattle.array_reader.specs.Numbers.{Kind, multiplied, real, whole, integer}
 use Rattle.decimal_input.specs.declared.dec.NumFault.{NumFault}
 use Rattle.outside.specs.declared.codes.Code.TheVariants.{EndOfFile, BadNumber, OutOfProfile}
-use Rattle.outside.specs.Codes.{refusal}
-use Rattle.record_lines.specs.Spread.{Taking, beginning, next_value}
 use Rattle.record_lines.specs.declared.free.FreeFault.{FreeFault}
-use Rattle.model_types.specs.Layers.{is_nonzero}
+use Rattle.model_types.specs.{is_nonzero}
 use Rattle.record_lines.specs.declared.free.FreeFault.TheVariants as free
 
 -- Free lists of numbers.

@@ -3,13 +3,11 @@ use Rattle.std.specs.Prelude.{ℕ, Bool, true, List, Result, Ok, Err, if◌then�
 use Rattle.decimal_input.specs.declared.dec.NumFault.{NumFault}
 use Rattle.outside.specs.declared.codes.Code.TheVariants.{BadControl, OutOfProfile, BadNumber, TooManyDigits}
 use Rattle.outside.specs.declared.inputs.Refusal.{Refusal}
-use Rattle.record_lines.specs.Items.{word_at, name_at, is_word}
-use Rattle.outside.specs.Codes.{refusal}
-use Rattle.record_lines.specs.Reading.{◌>>=◌}
+use Rattle.record_lines.specs.{word_at, name_at, is_word, ◌>>=◌}
+use Rattle.outside.specs.{refusal, folder_name}
 use Rattle.array_reader.specs.declared.keyword.Keyword.{Keyword}
 use Rattle.array_reader.specs.declared.keyword.Keyword.TheVariants.{Constant, Internal, OpenClose, External, Other}
 use Rattle.outside.specs.declared.codes.Code.{Code}
-use Rattle.outside.specs.Names.{folder_name}
 use Rattle.decimal_input.specs.declared.dec.NumFault.TheVariants as faults
 
 -- Numbers in lines.

@@ -5,9 +5,8 @@ use Rattle.std.specs.Prelude.{pos, negsuc, ◌+ℤ◌, ◌*ℤ◌, false, ◌≡
 use Rattle.decimal_input.specs.declared.dec.Dec.{Dec}
 use Rattle.decimal_input.specs.declared.dec.NumFault.{NumFault}
 use Rattle.decimal_input.specs.declared.dec.NumFault.TheVariants.{BadNumber, TooManyDigits}
-use Rattle.decimal_input.specs.Grammar.{Spelling, IsInteger, spelt, integer_of}
-use Rattle.decimal_input.specs.Outcomes.{differ, IsCanonical, Names}
-use Rattle.record_lines.specs.Reading.{◌>>=◌}
+use Rattle.decimal_input.specs.{Spelling, IsInteger, spelt, integer_of, differ, IsCanonical, Names}
+use Rattle.record_lines.specs.{◌>>=◌}
 
 -- c without its trailing zeros, of which at most n are removed
 unfoldable pub significant : ℕ → ℕ → ℕ

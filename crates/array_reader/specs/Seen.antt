@@ -1,5 +1,5 @@
 -- A control record as contracts see it.
-use Rattle.outside.specs.Names.{IsGoodName}
+use Rattle.outside.specs.{IsGoodName}
 use Rattle.array_reader.specs.Control as spec
 use Rattle.array_reader.specs.declared.control.Control.{Control}
 use Rattle.array_reader.specs.declared.control.Control.TheVariants.{Constant, Internal, Named}

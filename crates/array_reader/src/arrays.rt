@@ -1,11 +1,7 @@
 ghost use Rattle.std.specs.Prelude.{◌≡◌, ◌*◌, length, IfOk, All, List};
-ghost use Rattle.outside.specs.Files.{FileSet};
-ghost use Rattle.outside.specs.Folders.{ReadsOn};
-ghost use Rattle.record_lines.specs.Layout.{LinesMay};
-ghost use Rattle.record_lines.specs.Reading.{Gives};
-ghost use Rattle.array_reader.specs.Arrays.{values_of, array_at};
-ghost use Rattle.array_reader.specs.Control.{ControlMay};
-ghost use Rattle.array_reader.specs.Seen.{control_of, Has_good};
+ghost use Rattle.outside.specs.{FileSet, ReadsOn};
+ghost use Rattle.record_lines.specs.{LinesMay, Gives};
+ghost use Rattle.array_reader.specs.{values_of, array_at, ControlMay, control_of, Has_good};
 
 use crate::control::{Control, control_record};
 use crate::line_items::next_line;

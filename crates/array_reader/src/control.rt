@@ -1,7 +1,6 @@
 ghost use Rattle.std.specs.Prelude.{◌≡◌, IfOk};
-ghost use Rattle.record_lines.specs.Reading.{HasText};
-ghost use Rattle.array_reader.specs.Control.{constant_at, internal_at, named_at, control_at};
-ghost use Rattle.array_reader.specs.Seen.{control_of, Has_good};
+ghost use Rattle.record_lines.specs.{HasText};
+ghost use Rattle.array_reader.specs.{constant_at, internal_at, named_at, control_at, control_of, Has_good};
 
 use crate::items::value_item;
 use crate::keyword::{Keyword, format, keyword_of, next_word};

@@ -1,8 +1,8 @@
 ghost use Rattle.std.specs.Prelude.{◌≡◌, IfOk};
-ghost use Rattle.decimal_input.specs.Decimals.{IsDec};
-ghost use Rattle.outside.specs.Codes.{IsRefusal};
-ghost use Rattle.record_lines.specs.Reading.{GivesText};
-ghost use Rattle.array_reader.specs.Control.{number_at, number_code};
+ghost use Rattle.decimal_input.specs.{IsDec};
+ghost use Rattle.outside.specs.{IsRefusal};
+ghost use Rattle.record_lines.specs.{GivesText};
+ghost use Rattle.array_reader.specs.{number_at, number_code};
 ghost use Rattle.array_reader.specs.Numbers as numbers;
 
 use crate::numbers::Value;

@@ -1,9 +1,8 @@
 ghost use Rattle.std.specs.Prelude.{◌≡◌};
 ghost use Rattle.outside.specs.declared.codes.Code.TheVariants.{BadControl};
-ghost use Rattle.record_lines.specs.Items.{word_at};
-ghost use Rattle.outside.specs.Codes.{refusal};
-ghost use Rattle.record_lines.specs.Reading.{GivesText};
-ghost use Rattle.array_reader.specs.Control.{keyword, format_at};
+ghost use Rattle.record_lines.specs.{word_at, GivesText};
+ghost use Rattle.outside.specs.{refusal};
+ghost use Rattle.array_reader.specs.{keyword, format_at};
 
 use outside::{Code, TextFault, text_fault};
 use record_lines::{Words, is_word};

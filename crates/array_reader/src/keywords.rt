@@ -1,7 +1,7 @@
 // Option words of a line.
 ghost use Rattle.std.specs.Prelude.{◌≡◌};
 ghost use Rattle.std.specs.List.{list_any};
-ghost use Rattle.record_lines.specs.Items.{is_word};
+ghost use Rattle.record_lines.specs.{is_word};
 
 use record_lines::{Words, is_word};
 

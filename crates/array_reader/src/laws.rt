@@ -1,5 +1,5 @@
 // Laws of the numbers that are read. Each is the contract of an empty function.
-ghost use Rattle.array_reader.specs.Numbers.{IntegersFollowGrammar, NumbersFollowGrammar, ProductsAreExact};
+ghost use Rattle.array_reader.specs.{IntegersFollowGrammar, NumbersFollowGrammar, ProductsAreExact};
 
 /// A word is read as an integer exactly where it is one by the grammar.
 pub fn integers_follow_the_grammar()

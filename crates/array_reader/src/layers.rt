@@ -1,10 +1,8 @@
 ghost use Rattle.std.specs.Prelude.{◌≡◌, ◌*◌, length, IfOk, All, List};
-ghost use Rattle.decimal_input.specs.Decimals.{IsDec};
-ghost use Rattle.outside.specs.Files.{FileSet};
-ghost use Rattle.outside.specs.Folders.{ReadsOn};
-ghost use Rattle.record_lines.specs.Layout.{LinesMay};
-ghost use Rattle.record_lines.specs.Reading.{Gives};
-ghost use Rattle.array_reader.specs.Arrays.{reals, layer_array, layers, real_layer, integer_layer, layer_or};
+ghost use Rattle.decimal_input.specs.{IsDec};
+ghost use Rattle.outside.specs.{FileSet, ReadsOn};
+ghost use Rattle.record_lines.specs.{LinesMay, Gives};
+ghost use Rattle.array_reader.specs.{reals, layer_array, layers, real_layer, integer_layer, layer_or};
 
 use crate::arrays::read_array;
 use crate::constants;

@@ -1,8 +1,6 @@
 ghost use Rattle.std.specs.Prelude.{◌≡◌, IfOk};
-ghost use Rattle.outside.specs.Names.{IsGoodName};
-ghost use Rattle.record_lines.specs.Items.{line_at, name_at};
-ghost use Rattle.record_lines.specs.Reading.{GivesText, HasText};
-ghost use Rattle.record_lines.specs.Layout.{numbered_of};
+ghost use Rattle.outside.specs.{IsGoodName};
+ghost use Rattle.record_lines.specs.{line_at, name_at, GivesText, HasText, numbered_of};
 
 use outside::{Code, TextFault, good_name, text_fault};
 use record_lines::{Line, Lines};

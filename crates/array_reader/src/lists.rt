@@ -1,8 +1,7 @@
 ghost use Rattle.std.specs.Prelude.{◌≡◌, ◌*◌, Ok, length, replicate, IfOk, IfSome, All};
-ghost use Rattle.outside.specs.Codes.{IsRefusal};
-ghost use Rattle.record_lines.specs.Reading.{GivesText, appended, repeated};
-ghost use Rattle.array_reader.specs.Numbers.{with_multiplier};
-ghost use Rattle.array_reader.specs.Arrays.{free_refusal, value_alone, value_at, free_list, free_rows};
+ghost use Rattle.outside.specs.{IsRefusal};
+ghost use Rattle.record_lines.specs.{GivesText, appended, repeated};
+ghost use Rattle.array_reader.specs.{with_multiplier, free_refusal, value_alone, value_at, free_list, free_rows};
 
 use crate::items::number_refused;
 use crate::numbers::{Value, value_of};

@@ -1,7 +1,6 @@
 // Numbers of words and their products, by the functions that define them.
 ghost use Rattle.std.specs.Prelude.{◌≡◌, IfOk, IfSome};
-ghost use Rattle.decimal_input.specs.Decimals.{IsDec};
-ghost use Rattle.decimal_input.specs.Grammar.{integer_of};
+ghost use Rattle.decimal_input.specs.{IsDec, integer_of};
 ghost use Rattle.array_reader.specs.Numbers.{number, product, integer, integer_product, scaled, integer_scaled, Kind, real, whole, with_multiplier, multiplied};
 
 use decimal_input::dec::{Dec, NumFault};

@@ -1,8 +1,7 @@
 ghost use Rattle.std.specs.Prelude.{◌≡◌, length, IfOk, All};
-ghost use Rattle.decimal_input.specs.Decimals.{IsDec};
-ghost use Rattle.record_lines.specs.Reading.{GivesText};
-ghost use Rattle.array_reader.specs.Arrays.{free_list};
-ghost use Rattle.array_reader.specs.Numbers.{number, integer};
+ghost use Rattle.decimal_input.specs.{IsDec};
+ghost use Rattle.record_lines.specs.{GivesText};
+ghost use Rattle.array_reader.specs.{free_list, number, integer};
 
 use crate::lists::free_list;
 use decimal_input::dec::Dec;

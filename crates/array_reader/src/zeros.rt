@@ -1,7 +1,7 @@
 // Free lists whose values must be 0.
 ghost use Rattle.std.specs.Prelude.{◌≡◌, MatchResult, Ok, IfOk, pos};
-ghost use Rattle.record_lines.specs.Reading.{GivesText, StopsText, counted};
-ghost use Rattle.array_reader.specs.Arrays.{zero_at, zero_step, zero_list};
+ghost use Rattle.record_lines.specs.{GivesText, StopsText, counted};
+ghost use Rattle.array_reader.specs.{zero_at, zero_step, zero_list};
 
 use crate::next_value;
 use outside::{Code, TextFault, text_fault};

@@ -1,11 +1,10 @@
 -- An array that is read has a value for each place.
 use Rattle.array_text.proofs.Common.{◌≡◌, ℕ, ◌*◌, ℤ, List, [], ◌∷◌, length, All, Result, Ok, Err, refl, arith, length-replicate, All-replicate, NumFault, IsDec}
 use Rattle.array_text.proofs.Common.{Left, left_from, Kind, real, whole, multiplied, free_rows, ArraysHaveForm, Gives, FileSet, words, line_at, word_at}
-use Rattle.array_text.proofs.Common.{name_at, at_line, number_at, Control, constant, internal, named, keyword, format_at, constant_at, internal_at, named_at}
-use Rattle.array_text.proofs.Common.{of_keyword, control_at, values_of, array_at, without_line, reals, layer_array, real_layer, integer_layer, layers, number}
-use Rattle.array_text.proofs.Common.{integer, value_at, value_alone, free_list, IsShort, ListsHaveForm, Taking, beginning}
-use Rattle.outside.specs.Inputs.{file_at}
-use Rattle.outside.specs.Codes.{refusal}
+use Rattle.array_text.proofs.Common.{name_at, at_line, number_at, constant, internal, named, keyword, format_at, constant_at, internal_at, named_at, of_keyword}
+use Rattle.array_text.proofs.Common.{control_at, values_of, array_at, without_line, reals, layer_array, real_layer, integer_layer, layers, number, integer}
+use Rattle.array_text.proofs.Common.{value_at, value_alone, free_list, IsShort, ListsHaveForm, Taking, beginning, file_at, refusal}
+use Rattle.array_reader.specs.Control.{Control}
 use Rattle.outside.specs.declared.codes.Code.TheVariants.{BadControl}
 use Rattle.array_reader.specs.declared.keyword.Keyword.{Keyword}
 use Rattle.array_reader.specs.declared.keyword.Keyword.TheVariants.{Constant, Internal, OpenClose, External, Other}

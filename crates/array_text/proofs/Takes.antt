@@ -3,7 +3,7 @@ use Rattle.array_text.proofs.Common.{◌≡◌, ℕ, zero, suc, ◌+◌, ◌<◌
 use Rattle.array_text.proofs.Common.{All-cons, All-append, Left, next_number, words, line_at, ◌>>=◌, Line, IsLine, line_text, number_after, unread, Takes}
 use Rattle.array_text.proofs.Common.{append_assoc, flat_map, range_with_len, Refusal, Numbered}
 use Rattle.array_text.proofs.LineTexts.{line_words, next_line}
-unfoldable use Rattle.record_lines.specs.Reading.{counted}
+unfoldable use Rattle.record_lines.specs.{counted}
 
 pub number_after-append : (n : ℕ) (front back : List Line) → number_after n (front ++ back) ≡ number_after (number_after n front) back
 unfolding number_after

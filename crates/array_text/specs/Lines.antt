@@ -3,7 +3,7 @@ use Rattle.std.specs.Prelude.{◌≡◌, ℕ, ◌≤◌, List, [], ◌∷◌, �
 use Rattle.std.specs.Prelude.{suc, take, drop, map}
 use Rattle.std.specs.List.{join_with_byte}
 use Rattle.outside.specs.declared.inputs.Refusal.{Refusal}
-use Rattle.record_lines.specs.Layout.{Numbered, Left, next_number}
+use Rattle.record_lines.specs.{Numbered, Left, next_number}
 use Rattle.std.specs.Fmt.{signed_decimal}
 use Rattle.decimal_input.specs.declared.dec.Dec.{Dec}
 

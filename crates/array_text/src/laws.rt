@@ -1,7 +1,6 @@
 // What is written is read as itself. Each law is the contract of an empty function.
-ghost use Rattle.array_text.specs.Laws.{NumbersReadAsWritten, IntegersReadAsWritten, LinesReadAsWritten, TextsReadAsWritten};
-ghost use Rattle.array_text.specs.Laws.{FreeListsReadAsWritten, ArraysReadAsWritten};
-ghost use Rattle.array_text.specs.Laws.{NumbersAreCanonical, IntegersAreShort, ListsHaveForm, ArraysHaveForm};
+ghost use Rattle.array_text.specs.{NumbersReadAsWritten, IntegersReadAsWritten, LinesReadAsWritten, TextsReadAsWritten, FreeListsReadAsWritten};
+ghost use Rattle.array_text.specs.{ArraysReadAsWritten, NumbersAreCanonical, IntegersAreShort, ListsHaveForm, ArraysHaveForm};
 
 /// A number's word is read as that number.
 #[tactic(auto, using(crate::proofs::NumberTexts::number_reads))]

@@ -13,20 +13,17 @@ pub use Rattle.std.specs.Int.{int_div_euclid, int_max, int_min, int_rem_euclid, 
 pub use Rattle.std.specs.List.{AllZip}
 pub use Rattle.std.specs.Option.{is_some, unwrap_or}
 pub use Rattle.std.specs.Prelude.{map}
-pub use Rattle.barrier_vector.specs.Barriers.{BarrierExcludesRefusal, BarrierIsCut, BarrierIsOne, CeilingsEnclose, ClampedFits, CutBarrierExcludesRefusal}
-pub use Rattle.barrier_vector.specs.Barriers.{CutBarrierIsOne, CutRefusalIsOne, FloorsEnclose, FloorsHold, IsSolution, RefusalIsOne}
-pub use Rattle.barrier_vector.specs.Bounds.{AnchorRoot, IsAnchorPath, IsAnchoredBound, IsBoundOn, IsCarriedFloor, IsCeiling, IsFloor, IsInnerPath, IsLevel}
-pub use Rattle.barrier_vector.specs.Bounds.{IsLongest, IsOutline, IsParent, IsPath, IsUnanchored, LeadsToRoot, LeastRoot, SumsTo, anchor_on, ceil_over}
-pub use Rattle.barrier_vector.specs.Bounds.{greatest, moved_out}
-pub use Rattle.barrier_vector.specs.Cuts.{AreCutBounds, EnclosesUncut, IsCutBarrierOf, IsCutBoundOn, IsCutFault, Refuses, RefusesOn, clamp, cut_on}
-pub use Rattle.barrier_vector.specs.Marks.{IsBase, IsCellMark, IsInside, IsMarkBelow, IsMarkIn, IsOutermost, capped_flow, drain_mark, fixed_mark, high_flow}
-pub use Rattle.barrier_vector.specs.Marks.{if_some, lack, need, need_on, negative_part, outer_of, positive_part, river_mark}
-pub use Rattle.barrier_vector.specs.Refusals.{HasNoBound, IsLeastWith, IsOutOfRange, IsRefused, IsRefusedOn, LeavesRange, Names, Nowhere, no_barrier_on}
-pub use Rattle.barrier_vector.specs.Refusals.{range_on}
-pub use Rattle.barrier_vector.specs.Roots.{AreAnchorPaths, AreBounds, AreComponents, AreRoots, IsAnchoredOrNone, IsBoundOrNone, ListAnchor, SelfRoot, bound_at}
-pub use Rattle.barrier_vector.specs.Searches.{AreLabels, ContinuesTo, Fills, FrontLeads, IsGreatestOf, IsNearest, IsSearched, IsStart, LinkLeads, ListRoot}
-pub use Rattle.barrier_vector.specs.Searches.{Spreads, flow_sum, is_label, labelled, mark_at, number_at, path_limit, sum_at, unmarked}
-pub use Rattle.barrier_vector.specs.Tests.{AreHeadsOf, IsCutFaultOn, IsFaultOn, IsFirst, IsMissing, IsWholeSide, LiesOut}
+pub use Rattle.barrier_vector.specs.{AnchorRoot, AreAnchorPaths, AreBounds, AreComponents, AreCutBounds, AreHeadsOf, AreLabels, AreRoots}
+pub use Rattle.barrier_vector.specs.{BarrierExcludesRefusal, BarrierIsCut, BarrierIsOne, CeilingsEnclose, ClampedFits, ContinuesTo, CutBarrierExcludesRefusal}
+pub use Rattle.barrier_vector.specs.{CutBarrierIsOne, CutRefusalIsOne, EnclosesUncut, Fills, FloorsEnclose, FloorsHold, FrontLeads, HasNoBound, HasStorage}
+pub use Rattle.barrier_vector.specs.{IsAnchorPath, IsAnchoredBound, IsAnchoredOrNone, IsBase, IsBoundOn, IsBoundOrNone, IsCarriedFloor, IsCeiling, IsCellMark}
+pub use Rattle.barrier_vector.specs.{IsCutBarrierOf, IsCutBoundOn, IsCutFault, IsCutFaultOn, IsFaultOn, IsFirst, IsFloor, IsGreatestOf, IsInnerPath, IsInside}
+pub use Rattle.barrier_vector.specs.{IsLeastWith, IsLevel, IsLongest, IsMarkBelow, IsMarkIn, IsMissing, IsNearest, IsNotForLackOfAnchors, IsOutOfRange}
+pub use Rattle.barrier_vector.specs.{IsOutermost, IsOutline, IsParent, IsPath, IsRefused, IsRefusedOn, IsSearched, IsSolution, IsStart, IsUnanchored}
+pub use Rattle.barrier_vector.specs.{IsWholeSide, LeadsToRoot, LeastRoot, LeavesRange, LiesOut, LinkLeads, ListAnchor, ListRoot, Names, Nowhere, RefusalIsOne}
+pub use Rattle.barrier_vector.specs.{Refuses, RefusesOn, SelfRoot, Spreads, SumsTo, anchor_on, bound_at, capped_flow, ceil_over, clamp, cut_on, drain_mark}
+pub use Rattle.barrier_vector.specs.{fixed_mark, flow_sum, greatest, high_flow, if_some, is_label, labelled, lack, mark_at, moved_out, need, need_on}
+pub use Rattle.barrier_vector.specs.{negative_part, no_barrier_on, number_at, outer_of, path_limit, positive_part, range_on, river_mark, sum_at, unmarked}
 pub use Rattle.barrier_vector.specs.declared.BarrierFault.{BarrierFault}
 pub use Rattle.barrier_vector.specs.declared.BarrierFault.TheVariants.{Memory}
 pub use Rattle.barrier_vector.specs.declared.gathered.FlowSum.{FlowSum}
@@ -38,17 +35,14 @@ pub use Rattle.cell_balance.proofs.Whole.{WholeCell, WholeEntry, WholeLink, no_w
 pub use Rattle.cell_balance.proofs.Whole.{whole_link, whole_river}
 pub use Rattle.cell_balance.proofs.Within.{CellWithin, DrainWithin, FixedWithin, FlowWithin, IsDry, LinkWithin, RiverWithin}
 pub use Rattle.cell_balance.proofs.Zips.{All-zip, AllZip-at, AllZip-length}
-pub use Rattle.cell_balance.specs.Components.{IsAnchored, IsCarried, IsComponent, IsHeldBelow, Leads, Reaches, deep_low, sum_below, sum_inside}
-pub use Rattle.cell_balance.specs.Steps.{ExactCell}
+pub use Rattle.cell_balance.specs.{EnclosesStep, ExactCell, IsAnchored, IsCarried, IsComponent, IsHeldBelow, Leads, LiesBetween, Reaches, SolvesStep, deep_low}
+pub use Rattle.cell_balance.specs.{sum_below, sum_inside}
 pub use Rattle.decimal_input.proofs.Signs.{mul_mono_right}
 pub use Rattle.step_problem.proofs.Ring.{mul_mono, mul_nonneg}
 pub use Rattle.step_problem.proofs.Sums.{total_step}
-pub use Rattle.step_problem.specs.Balances.{total}
-pub use Rattle.step_problem.specs.Conditions.{CellFits, DrainFits, FixedFits, IsHead, IsProblem, IsWithin, LinkFits, RiverFits, deep_river_high, deep_river_low}
-pub use Rattle.step_problem.specs.Conditions.{full_rate, head_limit, magnitude}
-pub use Rattle.step_problem.specs.Entries.{Entries, entries_at, link_at, no_entries, no_link}
-pub use Rattle.step_problem.specs.Heads.{Edges, head_at}
-pub use Rattle.step_problem.specs.StepRefusals.{number_of}
+pub use Rattle.step_problem.specs.{CellFits, DrainFits, Edges, FixedFits, IsHead, IsProblem, IsWithin, LinkFits, RiverFits, deep_river_high, deep_river_low}
+pub use Rattle.step_problem.specs.{entries_at, full_rate, head_at, head_limit, link_at, magnitude, no_entries, no_link, number_of, total}
+pub use Rattle.step_problem.specs.Entries.{Entries}
 pub use Rattle.step_problem.specs.declared.entry.Drain.{Drain}
 pub use Rattle.step_problem.specs.declared.entry.Fixed.{Fixed}
 pub use Rattle.step_problem.specs.declared.entry.Flow.{Flow}

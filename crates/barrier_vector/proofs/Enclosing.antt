@@ -1,7 +1,6 @@
 -- What a barrier's floors and ceilings give to its caller.
-use Rattle.barrier_vector.proofs.Common.{ℕ, ◌<◌, ℤ, List, length, Entries, IsProblem, IsHeldBelow, IsFloor, IsCeiling, IsSolution, ExactCell}
-use Rattle.cell_balance.specs.Balance.{SolvesStep, LiesBetween}
-use Rattle.cell_balance.specs.Enclosures.{EnclosesStep}
+use Rattle.barrier_vector.proofs.Common.{ℕ, ◌<◌, ℤ, List, length, Entries, IsProblem, IsHeldBelow, IsFloor, IsCeiling, IsSolution, ExactCell, SolvesStep}
+use Rattle.barrier_vector.proofs.Common.{LiesBetween, EnclosesStep}
 use Rattle.barrier_vector.proofs.Floors.{floors_enclose, ceilings_enclose}
 use Rattle.barrier_vector.proofs.CarriedHeld.{held_cell}
 

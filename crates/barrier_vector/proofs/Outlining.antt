@@ -4,7 +4,7 @@ use Rattle.barrier_vector.proofs.Common.{Option, slice_index, ℤ, pos, unwrap_o
 use Rattle.barrier_vector.proofs.Common.{AnchorRoot, need_on, capped_flow, outer_of, IsOutermost, IsCellMark, IsBase, ceil_over, ListAnchor, AreRoots}
 use Rattle.barrier_vector.proofs.Common.{IsOutline}
 use Rattle.std.proofs.Math.Seq.{take-length}
-use Rattle.barrier_vector.specs.Marks.{need as need_of_all}
+use Rattle.barrier_vector.specs.{need as need_of_all}
 use Rattle.barrier_vector.proofs.Starting.{push_before, push_last}
 use Rattle.barrier_vector.proofs.Marking.{cells_more}
 

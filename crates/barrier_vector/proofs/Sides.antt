@@ -3,8 +3,8 @@ use Rattle.barrier_vector.proofs.Common.{◌≡◌, ℕ, ◌<◌, ◌⊎◌, inl
 use Rattle.barrier_vector.proofs.Common.{clamps, by_lt_z, Side, Low, High, NoBound, number_of, Entries, IsProblem, IsHead, head_limit, head_at, IsInside}
 use Rattle.barrier_vector.proofs.Common.{IsBase, IsUnanchored, IsBoundOn, HasNoBound, IsOutOfRange, LeavesRange, no_barrier_on, range_on, Nowhere, Names}
 use Rattle.barrier_vector.proofs.Common.{IsRefusedOn, IsRefused, cut_on, bound_at, IsBoundOrNone, AreBounds, IsFirst, IsMissing, LiesOut, AreHeadsOf}
-use Rattle.barrier_vector.proofs.Common.{IsCutBoundOn, AreCutBounds, RefusesOn, IsWholeSide, IsFaultOn, IsCutFaultOn, BarrierFault, Memory}
-use Rattle.barrier_vector.specs.Held.{HasStorage, IsNotForLackOfAnchors}
+use Rattle.barrier_vector.proofs.Common.{IsCutBoundOn, AreCutBounds, RefusesOn, IsWholeSide, IsFaultOn, IsCutFaultOn, BarrierFault, Memory, HasStorage}
+use Rattle.barrier_vector.proofs.Common.{IsNotForLackOfAnchors}
 use Rattle.barrier_vector.specs.declared.BarrierFault.TheVariants.{NoBound as AFault}
 use Rattle.barrier_vector.proofs.Basing.{base_head}
 use Rattle.barrier_vector.proofs.Rooting.{anchors}

@@ -2,14 +2,10 @@
 use Rattle.std.specs.Prelude.{◌≡◌, ℕ, ◌<◌, List, length, ◌^◌, ℤ, pos, ◌*ℤ◌, ◌≤ℤ◌}
 use Rattle.step_problem.specs.declared.place.NoBound.{NoBound}
 use Rattle.step_problem.specs.Entries.{Entries}
-use Rattle.step_problem.specs.Conditions.{IsProblem}
-use Rattle.step_problem.specs.Heads.{Edges, head_at, IsBarrier}
+use Rattle.step_problem.specs.{IsProblem, Edges, head_at, IsBarrier}
 use Rattle.barrier_vector.specs.Bounds.{IsFloor, IsCeiling}
 use Rattle.barrier_vector.specs.Refusals.{IsRefused}
-use Rattle.cell_balance.specs.Steps.{ExactCell}
-use Rattle.cell_balance.specs.Balance.{SolvesStep}
-use Rattle.cell_balance.specs.Enclosures.{EnclosesStep}
-use Rattle.cell_balance.specs.Components.{IsHeldBelow}
+use Rattle.cell_balance.specs.{ExactCell, SolvesStep, EnclosesStep, IsHeldBelow}
 use Rattle.barrier_vector.specs.Cuts.{IsCutBarrierOf, IsUnbounded, clamped}
 
 -- b is the barrier of the problem: the floor and the ceiling of each cell, all of them heads

@@ -3,8 +3,9 @@ use Rattle.std.specs.Prelude.{◌≡◌, ℕ, ◌+◌, ◌<◌, ◌≤◌, ◌�
 use Rattle.std.specs.Prelude.{slice_index}
 use Rattle.step_problem.specs.declared.heads.Side.{Side}
 use Rattle.step_problem.specs.declared.heads.Side.TheVariants.{Low, High}
-use Rattle.step_problem.specs.Entries.{Entries, entries_at}
-use Rattle.cell_balance.specs.Components.{Reaches, IsCarried}
+use Rattle.step_problem.specs.Entries.{Entries}
+use Rattle.step_problem.specs.{entries_at}
+use Rattle.cell_balance.specs.{Reaches, IsCarried}
 use Rattle.barrier_vector.specs.Marks.{IsBase, IsOutermost, IsMarkBelow, need, need_on, capped_flow}
 use Rattle.step_problem.specs.declared.entry.Link.{Link}
 

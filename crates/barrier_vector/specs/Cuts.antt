@@ -5,13 +5,9 @@ use Rattle.step_problem.specs.declared.heads.Side.{Side}
 use Rattle.step_problem.specs.declared.heads.Side.TheVariants.{Low, High}
 use Rattle.step_problem.specs.declared.place.NoBound.{NoBound}
 use Rattle.step_problem.specs.declared.refusal.StepRefusal.{StepRefusal}
-use Rattle.step_problem.specs.StepRefusals.{number_of}
+use Rattle.step_problem.specs.{number_of, head_limit, Edges, head_at}
 use Rattle.step_problem.specs.Entries.{Entries}
-use Rattle.step_problem.specs.Conditions.{head_limit}
-use Rattle.step_problem.specs.Heads.{Edges, head_at}
-use Rattle.cell_balance.specs.Steps.{ExactCell}
-use Rattle.cell_balance.specs.Enclosures.{EnclosesStep}
-use Rattle.cell_balance.specs.Balance.{SolvesStep}
+use Rattle.cell_balance.specs.{ExactCell, EnclosesStep, SolvesStep}
 use Rattle.barrier_vector.specs.Bounds.{IsBoundOn}
 use Rattle.barrier_vector.specs.Refusals.{HasNoBound, no_barrier_on, Nowhere, IsLeastWith, Names}
 use Rattle.barrier_vector.specs.declared.BarrierFault.{BarrierFault}

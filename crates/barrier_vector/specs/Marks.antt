@@ -7,9 +7,9 @@ use Rattle.step_problem.specs.declared.heads.Side.TheVariants.{Low, High}
 use Rattle.step_problem.specs.declared.entry.Fixed.{Fixed}
 use Rattle.step_problem.specs.declared.entry.River.{River}
 use Rattle.step_problem.specs.declared.entry.Drain.{Drain}
-use Rattle.step_problem.specs.Entries.{Entries, entries_at}
-use Rattle.step_problem.specs.Balances.{total}
-use Rattle.cell_balance.specs.Components.{deep_low}
+use Rattle.step_problem.specs.Entries.{Entries}
+use Rattle.step_problem.specs.{entries_at, total}
+use Rattle.cell_balance.specs.{deep_low}
 
 -- v where the upper conductance hi is above 0
 abbrev pub if_some : ℕ → ℤ → Option ℤ

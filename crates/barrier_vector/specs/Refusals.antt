@@ -6,10 +6,9 @@ use Rattle.step_problem.specs.declared.place.NoBound.{NoBound}
 use Rattle.step_problem.specs.declared.place.Place.TheVariants.{Cell}
 use Rattle.step_problem.specs.declared.refusal.StepRefusal.{StepRefusal}
 use Rattle.step_problem.specs.declared.refusal.StepRefusal.TheVariants.{NoBarrierLow, NoBarrierHigh, RangeLow, RangeHigh}
-use Rattle.step_problem.specs.StepRefusals.{number_of}
-use Rattle.step_problem.specs.Entries.{Entries, entries_at}
-use Rattle.step_problem.specs.Conditions.{head_limit}
-use Rattle.cell_balance.specs.Components.{IsCarried}
+use Rattle.step_problem.specs.{number_of, entries_at, head_limit}
+use Rattle.step_problem.specs.Entries.{Entries}
+use Rattle.cell_balance.specs.{IsCarried}
 use Rattle.barrier_vector.specs.Bounds.{IsUnanchored, IsBoundOn}
 use Rattle.barrier_vector.specs.declared.BarrierFault.{BarrierFault}
 use Rattle.barrier_vector.specs.declared.BarrierFault.TheVariants.{NoBound as IsNoBound, Memory}

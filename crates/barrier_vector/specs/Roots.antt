@@ -1,8 +1,9 @@
 -- The roots of the searches, and the data that the bounds are found from.
 use Rattle.std.specs.Prelude.{◌≡◌, ℕ, ◌<◌, List, length, min, Option, None, Some, slice_index, slice_index_or, ℤ}
 use Rattle.step_problem.specs.declared.heads.Side.{Side}
-use Rattle.step_problem.specs.Entries.{Entries, entries_at}
-use Rattle.cell_balance.specs.Components.{sum_inside, deep_low}
+use Rattle.step_problem.specs.Entries.{Entries}
+use Rattle.step_problem.specs.{entries_at}
+use Rattle.cell_balance.specs.{sum_inside, deep_low}
 use Rattle.barrier_vector.specs.Marks.{IsBase}
 use Rattle.barrier_vector.specs.Bounds.{IsAnchorPath, IsInnerPath, IsUnanchored, IsAnchoredBound, ceil_over}
 use Rattle.barrier_vector.specs.Refusals.{HasNoBound}

@@ -2,9 +2,10 @@
 use Rattle.std.specs.Prelude.{◌≡◌, ℕ, ◌+◌, ◌<◌, ◌≤◌, ◌⊎◌, List, length, Contains, min, Option, None, Some, slice_index, suc, [], ◌∷◌, slice_index_or, ◌^◌, Bool}
 use Rattle.std.specs.Prelude.{false, nat_eq, ℤ, pos, ◌+ℤ◌, ◌*ℤ◌}
 use Rattle.step_problem.specs.declared.entry.Link.{Link}
-use Rattle.step_problem.specs.Entries.{Entries, entries_at, link_at}
+use Rattle.step_problem.specs.Entries.{Entries}
+use Rattle.step_problem.specs.{entries_at, link_at}
 use Rattle.barrier_vector.specs.Bounds.{ceil_over, LeadsToRoot, IsPath}
-use Rattle.cell_balance.specs.Components.{Reaches}
+use Rattle.cell_balance.specs.{Reaches}
 use Rattle.barrier_vector.specs.declared.gathered.FlowSum.{FlowSum}
 
 -- One step of a search: marks go to the cells that have none yet among those that links lead to.

@@ -2,8 +2,7 @@
 use Rattle.std.specs.Prelude.{◌≡◌, ℕ, ◌<◌, List, length, Option, None, Some, ℤ}
 use Rattle.step_problem.specs.declared.heads.Side.{Side}
 use Rattle.step_problem.specs.Entries.{Entries}
-use Rattle.step_problem.specs.Conditions.{IsHead}
-use Rattle.step_problem.specs.Heads.{head_at}
+use Rattle.step_problem.specs.{IsHead, head_at}
 use Rattle.barrier_vector.specs.declared.BarrierFault.{BarrierFault}
 use Rattle.barrier_vector.specs.declared.BarrierFault.TheVariants.{NoBound, Memory}
 use Rattle.barrier_vector.specs.Bounds.{IsBoundOn}

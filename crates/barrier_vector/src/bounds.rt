@@ -1,11 +1,8 @@
 // The bounds of the cells on a side: the floor of each, or its ceiling, or none.
 ghost use Rattle.std.specs.Prelude.{◌≡◌, ◌<◌, ◌≤◌, ◌^◌, ◌↔◌, length, IfOk, IsTrue, IsSome, All, pos, ◌-ℤ◌, ◌≤ℤ◌};
 ghost use Rattle.step_problem.specs.declared.heads.Side.TheVariants.{Low, High};
-ghost use Rattle.step_problem.specs.Conditions.{IsHead, IsWithin, head_limit};
-ghost use Rattle.barrier_vector.specs.Marks.{IsBase};
-ghost use Rattle.barrier_vector.specs.Bounds.{moved_out, IsOutline};
-ghost use Rattle.barrier_vector.specs.Cuts.{cut_on};
-ghost use Rattle.barrier_vector.specs.Roots.{AreAnchorPaths, IsAnchoredOrNone, IsBoundOrNone, AreBounds};
+ghost use Rattle.step_problem.specs.{IsHead, IsWithin, head_limit};
+ghost use Rattle.barrier_vector.specs.{IsBase, moved_out, IsOutline, cut_on, AreAnchorPaths, IsAnchoredOrNone, IsBoundOrNone, AreBounds};
 
 use crate::carried::with_carried_floors;
 use crate::outline::Outline;

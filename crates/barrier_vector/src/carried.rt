@@ -1,9 +1,7 @@
 // The floors of the cells that lead to no anchor: each component of such cells is carried by its deep flows, or it has no floor.
 ghost use Rattle.std.specs.Prelude.{◌≡◌, ◌<◌, length, IfOk};
 ghost use Rattle.step_problem.specs.declared.heads.Side.TheVariants.{Low};
-ghost use Rattle.barrier_vector.specs.Marks.{IsBase, lack, capped_flow};
-ghost use Rattle.barrier_vector.specs.Bounds.{IsUnanchored};
-ghost use Rattle.barrier_vector.specs.Roots.{AreComponents, IsAnchoredOrNone, IsBoundOrNone, AreBounds};
+ghost use Rattle.barrier_vector.specs.{IsBase, lack, capped_flow, IsUnanchored, AreComponents, IsAnchoredOrNone, IsBoundOrNone, AreBounds};
 
 use crate::bounds::move_out;
 use crate::flows::deep_flows;

@@ -1,6 +1,6 @@
 // The floors and ceilings that settling begins at, from those of a cut barrier.
 ghost use Rattle.std.specs.Prelude.{◌≡◌, map, IfOk};
-ghost use Rattle.barrier_vector.specs.Cuts.{clamp, clamped};
+ghost use Rattle.barrier_vector.specs.{clamp, clamped};
 
 use std::alloc::{AllocError, Global};
 use step_problem::Barrier;

@@ -1,10 +1,7 @@
 // The deep flows of cells, and the flow that a cell adds to the lack or the surplus.
 ghost use Rattle.std.specs.Prelude.{◌≡◌, ℕ, ℤ, ◌<◌, ◌≤◌, ◌+◌, ◌^◌, length, All, IfOk, pos, ◌+ℤ◌, ◌-ℤ◌, sum_by};
-ghost use Rattle.step_problem.specs.Entries.{entries_at};
-ghost use Rattle.step_problem.specs.Balances.{total};
-ghost use Rattle.step_problem.specs.Conditions.{IsWithin, CellFits, RiverFits, EvapFits, magnitude};
-ghost use Rattle.step_problem.specs.Conditions.{deep_river_low, deep_river_high, full_rate};
-ghost use Rattle.cell_balance.specs.Components.{deep_low};
+ghost use Rattle.step_problem.specs.{entries_at, total, IsWithin, CellFits, RiverFits, EvapFits, magnitude, deep_river_low, deep_river_high, full_rate};
+ghost use Rattle.cell_balance.specs.{deep_low};
 ghost use Rattle.barrier_vector.specs.Marks.{negative_part, positive_part, need_on};
 ghost use Rattle.barrier_vector.specs.Searches.{number_at};
 

@@ -1,8 +1,8 @@
 // Sums and maxima over the components of a problem.
 ghost use Rattle.std.specs.Prelude.{◌≡◌, ℕ, ◌<◌, ◌^◌, ◌↔◌, max, length, IfOk, IsTrue, None, Some, slice_index, ◌+ℤ◌, ◌<ℤ◌, pos, cond};
-ghost use Rattle.step_problem.specs.Conditions.{IsWithin};
-ghost use Rattle.cell_balance.specs.Components.{sum_inside};
-ghost use Rattle.barrier_vector.specs.Searches.{mark_at, is_label, labelled, number_at, flow_sum, sum_at, IsGreatestOf};
+ghost use Rattle.step_problem.specs.{IsWithin};
+ghost use Rattle.cell_balance.specs.{sum_inside};
+ghost use Rattle.barrier_vector.specs.{mark_at, is_label, labelled, number_at, flow_sum, sum_at, IsGreatestOf};
 
 use std::alloc::{AllocError, Global};
 

@@ -1,7 +1,7 @@
 // Laws of floors and ceilings: they enclose every solution, and a problem has one barrier or one refusal. Each is the contract of an empty function.
-ghost use Rattle.cell_balance.specs.Example.{example_problem, example_step, example_heads};
-ghost use Rattle.barrier_vector.specs.Barriers.{IsSolution, FloorsEnclose, CeilingsEnclose, FloorsHold, BarrierIsOne, BarrierExcludesRefusal, RefusalIsOne};
-ghost use Rattle.barrier_vector.specs.Barriers.{CutBarrierIsOne, BarrierIsCut, CutBarrierExcludesRefusal, CutRefusalIsOne, ClampedFits};
+ghost use Rattle.cell_balance.specs.{example_problem, example_step, example_heads};
+ghost use Rattle.barrier_vector.specs.{IsSolution, FloorsEnclose, CeilingsEnclose, FloorsHold, BarrierIsOne, BarrierExcludesRefusal, RefusalIsOne};
+ghost use Rattle.barrier_vector.specs.{CutBarrierIsOne, BarrierIsCut, CutBarrierExcludesRefusal, CutRefusalIsOne, ClampedFits};
 
 /// No solution lies below a floor, in an anchored or in a carried component.
 #[tactic(auto, using(crate::proofs::Floors::floors_enclose))]

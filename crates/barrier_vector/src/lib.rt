@@ -2,13 +2,9 @@
 #![tactic(auto)]
 
 ghost use Rattle.std.specs.Prelude.{ℕ, ◌<◌, length, IfOk, IfErr};
-ghost use Rattle.step_problem.specs.Heads.{head_at, IsBarrier};
-ghost use Rattle.cell_balance.specs.Components.{IsHeldBelow};
-ghost use Rattle.cell_balance.specs.Enclosures.{EnclosesSolutions};
-ghost use Rattle.barrier_vector.specs.Bounds.{IsFloor, IsCeiling};
-ghost use Rattle.barrier_vector.specs.Refusals.{IsFault};
-ghost use Rattle.barrier_vector.specs.Cuts.{IsCutBarrierOf, IsCutFault, EnclosesUncut};
-ghost use Rattle.barrier_vector.specs.Held.{HasStorage, IsNotForLackOfAnchors};
+ghost use Rattle.step_problem.specs.{head_at, IsBarrier};
+ghost use Rattle.cell_balance.specs.{IsHeldBelow, EnclosesSolutions};
+ghost use Rattle.barrier_vector.specs.{IsFloor, IsCeiling, IsFault, IsCutBarrierOf, IsCutFault, EnclosesUncut, HasStorage, IsNotForLackOfAnchors};
 
 mod bounds;
 mod carried;

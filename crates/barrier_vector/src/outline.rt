@@ -4,8 +4,7 @@ ghost use Rattle.std.specs.Option.{unwrap_or};
 ghost use Rattle.step_problem.specs.declared.heads.Side.{Side};
 ghost use Rattle.step_problem.specs.declared.heads.Side.TheVariants.{Low, High};
 ghost use Rattle.step_problem.specs.Entries.{Entries};
-ghost use Rattle.barrier_vector.specs.Marks.{capped_flow};
-ghost use Rattle.barrier_vector.specs.Bounds.{IsOutline};
+ghost use Rattle.barrier_vector.specs.{capped_flow, IsOutline};
 
 use crate::flows::need_of;
 use crate::marks::{cell_mark, outer_mark};

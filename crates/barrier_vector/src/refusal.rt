@@ -1,10 +1,8 @@
 // A side of a barrier, or its first refusal.
 ghost use Rattle.std.specs.Prelude.{◌<◌, ◌↔◌, length, IfOk, IfErr, IsTrue};
-ghost use Rattle.step_problem.specs.StepRefusals.{number_of};
-ghost use Rattle.barrier_vector.specs.Refusals.{IsOutOfRange, no_barrier_on, range_on, Names};
-ghost use Rattle.barrier_vector.specs.Cuts.{AreCutBounds};
-ghost use Rattle.barrier_vector.specs.Bounds.{IsOutline};
-ghost use Rattle.barrier_vector.specs.Tests.{IsFirst, IsMissing, LiesOut, AreHeadsOf, IsWholeSide, IsFaultOn, IsCutFaultOn};
+ghost use Rattle.step_problem.specs.{number_of};
+ghost use Rattle.barrier_vector.specs.{IsOutOfRange, no_barrier_on, range_on, Names, AreCutBounds, IsOutline, IsFirst, IsMissing, LiesOut, AreHeadsOf};
+ghost use Rattle.barrier_vector.specs.{IsWholeSide, IsFaultOn, IsCutFaultOn};
 
 use crate::BarrierFault;
 use crate::bounds::bounds_on;

@@ -1,8 +1,7 @@
 // The search by levels: each cell's least number of links to a root, and its path there.
-ghost use Rattle.std.specs.Prelude.{◌≡◌, ℕ, ◌<◌, ◌≤◌, ◌+◌, ◌^◌, length, List, [], ◌∷◌, ◌++◌, Option, OnOk, All, IfOk};
-ghost use Rattle.std.specs.Prelude.{min, Some, None, MatchOption, ◌⊎◌, Contains, slice_index};
-ghost use Rattle.barrier_vector.specs.Bounds.{ceil_over};
-ghost use Rattle.barrier_vector.specs.Searches.{mark_at, path_limit, IsNearestOrNone, ContinuesTo, IsSearched, IsStart};
+ghost use Rattle.std.specs.Prelude.{◌≡◌, ℕ, ◌<◌, ◌≤◌, ◌+◌, ◌^◌, length, List, [], ◌∷◌, ◌++◌, Option, OnOk, All, IfOk, min, Some, None, MatchOption, ◌⊎◌};
+ghost use Rattle.std.specs.Prelude.{Contains, slice_index};
+ghost use Rattle.barrier_vector.specs.{ceil_over, mark_at, path_limit, IsNearestOrNone, ContinuesTo, IsSearched, IsStart};
 
 use crate::spread::spread;
 use std::alloc::{AllocError, Global};

@@ -1,6 +1,6 @@
 // One step of a search: marks go from the cells of a frontier over their links to the cells that have none.
 ghost use Rattle.std.specs.Prelude.{◌≡◌, ◌<◌, length, [], All, OnOk, IfOk, ◌+◌, None};
-ghost use Rattle.barrier_vector.specs.Searches.{Spreads, LinkLeads, FrontLeads, mark_at, AreLabels, Fills};
+ghost use Rattle.barrier_vector.specs.{Spreads, LinkLeads, FrontLeads, mark_at, AreLabels, Fills};
 
 use std::alloc::{AllocError, Global};
 use step_problem::{Link, Problem};

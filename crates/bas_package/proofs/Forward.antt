@@ -1,14 +1,11 @@
 -- The line of options and HNOFLO leave lines that they were given.
-use Rattle.bas_package.proofs.Common.{LineMay, LinesMay, chain, after, either, line_held, leaves, Left, Numbered}
+use Rattle.bas_package.proofs.Common.{LineMay, LinesMay, chain, after, either, line_held, leaves, Left, Numbered, line_at}
 use Rattle.std.proofs.Common.{◌≡◌, ℕ, List, Result, Ok, Err, All}
 use Rattle.std.specs.Prelude.{IfOk}
-use Rattle.outside.specs.Names.{words}
-use Rattle.outside.specs.Codes.{refusal}
+use Rattle.outside.specs.{words, refusal}
 use Rattle.outside.specs.declared.codes.Code.TheVariants.{OutOfProfile}
-use Rattle.record_lines.specs.Items.{line_at}
-use Rattle.array_reader.specs.Control.{number_at}
-use Rattle.array_reader.specs.Numbers.{number}
-use Rattle.bas_package.specs.Basics.{is_in_profile, option_line, head_item}
+use Rattle.array_reader.specs.{number_at, number}
+use Rattle.bas_package.specs.{is_in_profile, option_line, head_item}
 
 module _ (P : Numbered → Type 0) (file : List ℕ) where
   option_held : (left : Left) → All P left.lines → IfOk (option_line file left) (λ x. All P x.1.lines)

@@ -2,17 +2,11 @@
 use Rattle.std.specs.Prelude.{ℕ, ℤ, List, Bool, not, ◌&&◌, Result, Ok, Err, if◌then◌else◌, codes}
 use Rattle.std.specs.List.{list_any}
 use Rattle.decimal_input.specs.declared.dec.Dec.{Dec}
-use Rattle.outside.specs.Files.{FileSet}
-use Rattle.outside.specs.Codes.{refusal}
+use Rattle.outside.specs.{FileSet, refusal, words}
 use Rattle.outside.specs.declared.codes.Code.TheVariants.{OutOfProfile}
 use Rattle.outside.specs.declared.inputs.Refusal.{Refusal}
-use Rattle.record_lines.specs.Items.{is_word, line_at}
-use Rattle.outside.specs.Names.{words}
-use Rattle.record_lines.specs.Layout.{Left, left_from, without_comments}
-use Rattle.record_lines.specs.Reading.{◌>>=◌}
-use Rattle.array_reader.specs.Arrays.{layers}
-use Rattle.array_reader.specs.Control.{number_at}
-use Rattle.array_reader.specs.Numbers.{real, whole, number}
+use Rattle.record_lines.specs.{is_word, line_at, Left, left_from, without_comments, ◌>>=◌}
+use Rattle.array_reader.specs.{layers, number_at, real, whole, number}
 use Rattle.model_types.specs.declared.grid.Grid.{Grid}
 use Rattle.model_types.specs.declared.model.FlowModel.{FlowModel}
 

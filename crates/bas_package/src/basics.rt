@@ -1,12 +1,10 @@
 // IBOUND and the starting heads.
 ghost use Rattle.std.specs.Prelude.{◌≡◌, IfOk, length, All, List};
-ghost use Rattle.decimal_input.specs.Decimals.{IsDec};
-ghost use Rattle.outside.specs.Names.{TextMay, words};
-ghost use Rattle.outside.specs.Files.{FileSet};
-ghost use Rattle.outside.specs.Folders.{ReadsOn};
-ghost use Rattle.record_lines.specs.Reading.{Has, GivesText};
-ghost use Rattle.model_types.specs.Faces.{cell_count};
-ghost use Rattle.bas_package.specs.Basics.{basics_of, with_basics, bas_of, is_in_profile, option_line, head_item};
+ghost use Rattle.decimal_input.specs.{IsDec};
+ghost use Rattle.outside.specs.{TextMay, words, FileSet, ReadsOn};
+ghost use Rattle.record_lines.specs.{Has, GivesText};
+ghost use Rattle.model_types.specs.{cell_count};
+ghost use Rattle.bas_package.specs.{basics_of, with_basics, bas_of, is_in_profile, option_line, head_item};
 
 use array_reader::{has_keyword, next_line, number, read_layers};
 use decimal_input::dec::Dec;

@@ -1,5 +1,5 @@
 ghost use Rattle.std.specs.Prelude.{◌≡◌, ℕ, ◌<◌, ◌≤◌, All, IfOk, OnOk};
-ghost use Rattle.batch_book.specs.Ends.{AreJobEnds, HasEnd};
+ghost use Rattle.batch_book.specs.{AreJobEnds, HasEnd};
 
 use crate::book::Book;
 use crate::desks::{Desk, new_desks, worked};

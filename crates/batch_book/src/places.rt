@@ -1,6 +1,6 @@
 // The places of a book. A place is empty or has an end.
 ghost use Rattle.std.specs.Prelude.{◌≡◌, [], ◌∷◌, ◌++◌, length, OnOk};
-ghost use Rattle.batch_book.specs.Ends.{IsGathered, IsMissing, first_of, those_there};
+ghost use Rattle.batch_book.specs.{IsGathered, IsMissing, first_of, those_there};
 
 use std::alloc::AllocError;
 

@@ -1,8 +1,7 @@
 ghost use Rattle.std.specs.Prelude.{◌≡◌, ◌≤◌, [], ◌∷◌, length, All, IfOk, MatchResult, Ok};
-ghost use Rattle.outside.specs.Names.{IsGoodName};
-ghost use Rattle.record_lines.specs.Reading.{HasText, StopsText};
-ghost use Rattle.record_lines.specs.Layout.{numbered_of};
-ghost use Rattle.batch_list.specs.Names.{entries, entry_at, names_in, with_entries};
+ghost use Rattle.outside.specs.{IsGoodName};
+ghost use Rattle.record_lines.specs.{HasText, StopsText, numbered_of};
+ghost use Rattle.batch_list.specs.{entries, entry_at, names_in, with_entries};
 
 use array_reader::name_of;
 use outside::{Code, Name, TextFault, text_fault};

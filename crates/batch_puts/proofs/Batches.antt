@@ -1,10 +1,9 @@
 -- Laws on batches of jobs, whatever is an end of a job.
 use Rattle.batch_puts.proofs.Common.{◌≡◌, ℕ, suc, List, [], ◌∷◌, length, Some, IfSome, subst, sym, ap, refl, ◌∙◌, inl, inr, arith, Put, IsRun, NeverCut, Status}
 use Rattle.batch_puts.proofs.Common.{weaker, JobEnd, or_else, first_not_ok, IsEnded, zero, ◌+◌, ◌<◌, ◌≤◌, ◌++◌, map, take, drop, get_or, append_assoc, taken}
-use Rattle.batch_puts.proofs.Common.{Text, end_line, whole, early, all_due, IsLast, texts, IsBatch, IsTail}
+use Rattle.batch_puts.proofs.Common.{Text, end_line, whole, early, all_due, IsLast, texts, IsBatch, IsTail, Agree, IsUnfinished}
 use Rattle.std.specs.Prelude.{slice_get}
 use Rattle.std.specs.List.{AllZip}
-use Rattle.run_puts.specs.Statuses.{Agree, IsUnfinished}
 use Rattle.std.proofs.lemmas.List.{map-append, take_more, get_or-map, length-map}
 use Rattle.run_puts.specs.declared.puts.Status.TheVariants as status
 

@@ -1,7 +1,7 @@
 ghost use Rattle.std.specs.Prelude.{◌≡◌, List, ◌++◌};
-ghost use Rattle.outside.specs.Puts.{Put};
-ghost use Rattle.run_puts.specs.Runs.{IsRun, NeverCut};
-ghost use Rattle.batch_puts.specs.Batches.{IsEnded, first_not_ok, or_else};
+ghost use Rattle.outside.specs.{Put};
+ghost use Rattle.run_puts.specs.{IsRun, NeverCut};
+ghost use Rattle.batch_puts.specs.{IsEnded, first_not_ok, or_else};
 
 use crate::job_end::JobEnd;
 use outside::Sink;

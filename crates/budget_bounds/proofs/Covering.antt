@@ -1,6 +1,7 @@
 -- Bounds that reach as far, term by term.
-use Rattle.budget_bounds.proofs.Common.{◌≡◌, ℕ, ◌+◌, sym, ap, ◌∙◌, get_or, Term, Fraction, den, EnclosesSigned, TermPair, place_of, all_terms, bounds_in}
+use Rattle.budget_bounds.proofs.Common.{◌≡◌, ℕ, ◌+◌, sym, ap, ◌∙◌, get_or, Term, Fraction, EnclosesSigned, TermPair, place_of, all_terms, bounds_in}
 use Rattle.budget_bounds.proofs.Common.{CoverEncloses, Reaches}
+use Rattle.decimal_input.specs.Fractions.{den}
 use Rattle.budget_bounds.proofs.Ordered.{at_place}
 use Rattle.decimal_input.proofs.Signs.{mul_mono_right}
 use Rattle.cell_balance.proofs.Totals.{le_trans_z}

@@ -3,11 +3,9 @@ use Rattle.budget_bounds.proofs.Common.{◌≡◌, ℕ, suc, ◌+◌, ◌-◌, a
 use Rattle.budget_bounds.proofs.Common.{Fixed, Flow, Dir, In, Out, Term, Storage, ConstantHead, Wells, Drains, RiverLeakage, HeadDepBounds, Recharge, Et}
 use Rattle.budget_bounds.proofs.Common.{Entries, entries_at, no_entries, TermPair, fixed_term, flow_term, is_term, part, singles, flow_pair, fixed_pair}
 use Rattle.budget_bounds.proofs.Common.{river_pair, drain_pair, evap_pair, parts, term_pair, AreWithin, HeadsAreWithin, exact_part, exact_singles, exact_term}
-use Rattle.budget_bounds.proofs.Common.{FixedKind, FlowKind}
-use Rattle.cell_balance.specs.Deep.{total_below}
-use Rattle.cell_balance.specs.Steps.{ExactFlow, ExactFixed, ExactCell, cell_at, no_cell}
-use Rattle.cell_balance.specs.Balance.{fixed_flow, river_flow, drain_flow, evap_flow}
-use Rattle.cell_balance.specs.Enclosures.{FlowEncloses, FixedEncloses, RiverEncloses, DrainEncloses, EvapEncloses, CellEncloses, EnclosesStep}
+use Rattle.budget_bounds.proofs.Common.{FixedKind, FlowKind, total_below, ExactFlow, ExactFixed, ExactCell, cell_at, no_cell, fixed_flow, river_flow}
+use Rattle.budget_bounds.proofs.Common.{drain_flow, evap_flow, FlowEncloses, FixedEncloses, RiverEncloses, DrainEncloses, EvapEncloses, CellEncloses}
+use Rattle.budget_bounds.proofs.Common.{EnclosesStep}
 use Rattle.cell_balance.proofs.EntryBounds.{bounds_hold}
 use Rattle.cell_balance.proofs.Zips.{AllZip-at, AllZip-length}
 use Rattle.cell_balance.proofs.Enclosing.{in_encloses, out_encloses, total_encloses, below_encloses, AllZip-filter, AllZip-map}

@@ -2,7 +2,7 @@
 use Rattle.std.specs.Prelude.{◌^◌, pos, ◌+ℤ◌, ◌≤ℤ◌, if◌then◌else◌, List, [], ◌∷◌, Result, Ok, Err, slice_index_or}
 use Rattle.std.specs.Int.{int_min}
 use Rattle.step_problem.specs.declared.heads.Bound.{Bound}
-use Rattle.step_problem.specs.Conditions.{IsWithin, IsHead}
+use Rattle.step_problem.specs.{IsWithin, IsHead}
 use Rattle.budget_bounds.specs.declared.pair.TermPair.{TermPair}
 use Rattle.budget_bounds.specs.Terms.{term_limit, all_terms, is_small, no_pair, place_of, too_large, ◌>>=◌}
 use Rattle.step_problem.specs.declared.place.Dir.{Dir}

@@ -1,10 +1,10 @@
 -- When the bounds of one budget reach as far as those of another.
 use Rattle.std.specs.Prelude.{ℕ, ◌+◌, ◌<◌, List, ◌≤ℤ◌}
-use Rattle.decimal_input.specs.Fractions.{Fraction}
+use Rattle.decimal_input.specs.{Fraction}
 use Rattle.step_problem.specs.declared.place.Dir.{Dir}
 use Rattle.step_problem.specs.declared.place.Dir.TheVariants.{In, Out}
 use Rattle.step_problem.specs.declared.place.Term.{Term}
-use Rattle.cell_balance.specs.Steps.{ExactCell}
+use Rattle.cell_balance.specs.{ExactCell}
 use Rattle.budget_bounds.specs.declared.pair.TermPair.{TermPair}
 use Rattle.budget_bounds.specs.declared.pair.Budget.{Budget}
 use Rattle.budget_bounds.specs.Terms.{place_of, bounds_in}

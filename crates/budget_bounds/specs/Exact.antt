@@ -1,17 +1,14 @@
 -- The exact budget of an exact step at heads that are fractions, and what it means that bounds enclose it (TM 6-A16, chapter 3, the volumetric budget).
 use Rattle.std.specs.Prelude.{ℕ, ◌+◌, ◌<◌, List, map, length, ℤ, pos}
 use Rattle.std.specs.List.{filter}
-use Rattle.decimal_input.specs.Fractions.{Fraction, whole, negated, fraction_total}
-use Rattle.decimal_input.specs.Wholes.{EnclosesSigned}
+use Rattle.decimal_input.specs.{Fraction, whole, negated, fraction_total, EnclosesSigned}
 use Rattle.step_problem.specs.declared.place.Dir.{Dir}
 use Rattle.step_problem.specs.declared.place.Dir.TheVariants.{In, Out}
 use Rattle.step_problem.specs.declared.place.Term.{Term}
 use Rattle.step_problem.specs.declared.place.Term.TheVariants.{Storage, ConstantHead, Wells, Drains, RiverLeakage, HeadDepBounds, Recharge, Et}
 use Rattle.step_problem.specs.Entries.{Entries}
-use Rattle.cell_balance.specs.Steps.{ExactFlow, ExactFixed, ExactCell, cell_at}
-use Rattle.cell_balance.specs.Balance.{greater, fixed_flow, river_flow, drain_flow, evap_flow, share, LiesBetween}
-use Rattle.cell_balance.specs.Deep.{total_below}
-use Rattle.cell_balance.specs.Enclosures.{EnclosesStep}
+use Rattle.cell_balance.specs.{ExactFlow, ExactFixed, ExactCell, cell_at, greater, fixed_flow, river_flow, drain_flow, evap_flow, share, LiesBetween}
+use Rattle.cell_balance.specs.{total_below, EnclosesStep}
 use Rattle.budget_bounds.specs.declared.pair.Budget.{Budget}
 use Rattle.budget_bounds.specs.Terms.{fixed_term, flow_term, is_term, bounds_in}
 

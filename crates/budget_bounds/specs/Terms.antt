@@ -7,10 +7,9 @@ use Rattle.step_problem.specs.declared.place.Term.{Term}
 use Rattle.step_problem.specs.declared.place.Term.TheVariants.{Storage, ConstantHead, Wells, Drains, RiverLeakage, HeadDepBounds, Recharge, Et}
 use Rattle.step_problem.specs.declared.place.NoBound.{NoBound}
 use Rattle.step_problem.specs.declared.refusal.StepRefusal.TheVariants.{FlowTooLarge}
-use Rattle.step_problem.specs.StepRefusals.{number_of}
-use Rattle.step_problem.specs.Entries.{Entries, entries_at}
-use Rattle.step_problem.specs.Balances.{total, fixed_low, river_low, drain_low, evap_low, fixed_high, river_high, drain_high, evap_high}
-use Rattle.cell_balance.specs.Components.{sum_below}
+use Rattle.step_problem.specs.{number_of, entries_at, total, fixed_low, river_low, drain_low, evap_low, fixed_high, river_high, drain_high, evap_high}
+use Rattle.step_problem.specs.Entries.{Entries}
+use Rattle.cell_balance.specs.{sum_below}
 use Rattle.budget_bounds.specs.declared.pair.TermPair.{TermPair}
 use Rattle.budget_bounds.specs.declared.pair.Budget.{Budget}
 use Rattle.std.specs.List.{filter}

@@ -1,6 +1,5 @@
 // Laws of budgets. Each is the contract of an empty function.
-ghost use Rattle.budget_bounds.specs.Covers.{CoverEncloses};
-ghost use Rattle.budget_bounds.specs.Exact.{HeadsAreWithin};
+ghost use Rattle.budget_bounds.specs.{CoverEncloses, HeadsAreWithin};
 
 /// Heads of a solution that lie between the bounds are among the heads that a budget is about.
 #[tactic(auto, using(crate::proofs::Enclosed::heads_within))]

@@ -1,10 +1,8 @@
 // The budget's terms, each of them tested.
 ghost use Rattle.std.specs.Prelude.{◌≡◌, IfOk};
-ghost use Rattle.step_problem.specs.Heads.{lower_at, upper_at};
-ghost use Rattle.cell_relax.specs.Sides.{AreWords};
-ghost use Rattle.budget_bounds.specs.Exact.{EnclosesBudgets};
-ghost use Rattle.budget_bounds.specs.Terms.{all_terms, budget_of, term_pair};
-ghost use Rattle.budget_bounds.specs.Capped.{capped, sum_of, tested, tested_budget, tested_terms};
+ghost use Rattle.step_problem.specs.{lower_at, upper_at};
+ghost use Rattle.cell_relax.specs.{AreWords};
+ghost use Rattle.budget_bounds.specs.{EnclosesBudgets, all_terms, budget_of, term_pair, capped, sum_of, tested, tested_budget, tested_terms};
 ghost use Rattle.step_problem.specs.declared.place.Term.{Term};
 ghost use Rattle.step_problem.specs.declared.place.Dir.TheVariants.{In, Out};
 

@@ -1,7 +1,7 @@
 -- The comparison in whole numbers: a certificate over a barrier encloses every solution that the barrier does.
 use Rattle.cell_balance.proofs.Common.{◌≡◌, ℕ, ◌*◌, ◌<◌, ◌⊎◌, inl, inr, arith, ℤ, pos, ◌*ℤ◌, ◌≤ℤ◌, ◌<ℤ◌, List, length, AllZip, ints, zero-*ℤ, Entries}
 use Rattle.cell_balance.proofs.Common.{entries_at, IsHeldBelow, mul_mono_right, Side, Low, High}
-use Rattle.step_problem.specs.Balances.{balance}
+use Rattle.step_problem.specs.{balance}
 use Rattle.cell_balance.proofs.Sided.{Bounds, bounds_trans}
 use Rattle.cell_balance.proofs.SideCell.{balance_bounds}
 use Rattle.cell_balance.proofs.Zips.{AllZip-length}

@@ -1,7 +1,7 @@
 -- The least deep flow of a cell is at most the exact one.
 use Rattle.cell_balance.proofs.Common.{ℕ, ◌*◌, arith, ℤ, pos, negsuc, ◌+ℤ◌, ◌-ℤ◌, ◌*ℤ◌, ◌≤ℤ◌, unsigned_abs, int_max, ints, clamps, River, Evap, Entries}
 use Rattle.cell_balance.proofs.Common.{deep_river_low, deep_low, mul_mono_right, zero-*ℤ, Low, High}
-use Rattle.step_problem.specs.Conditions.{full_rate}
+use Rattle.step_problem.specs.{full_rate}
 use Rattle.cell_balance.proofs.Totals.{add_mul, sub_mul, le_trans_z}
 use Rattle.cell_balance.proofs.Scaling.{max_times}
 use Rattle.cell_balance.proofs.Sided.{entry_bounds, total_bounds}

@@ -10,7 +10,7 @@ use Rattle.cell_balance.proofs.Zips.{AllZip-compose, AllZip-at, AllZip-length, A
 use Rattle.cell_balance.proofs.Whole.{WholeLink, WholeEntry, WholeCell}
 use Rattle.cell_balance.proofs.Over.{FlowOver, LinkOver, EntryOver, FixedOver, RiverOver, DrainOver, EvapOver, CellOver}
 use Rattle.cell_balance.proofs.Within.{FlowWithin, LinkWithin, EntryWithin, FixedWithin, RiverWithin, DrainWithin, EvapWithin, CellWithin}
-use Rattle.step_problem.specs.Entries.{no_link as no_bounds}
+use Rattle.step_problem.specs.{no_link as no_bounds}
 
 cross_low : (lo x a c m t : ℕ) → 0 < x → lo * x ≤ a * t → a * (m * t) ≡ c * x → lo * m ≤ c
 cross_low lo x a c m t h q e = le_of_mul-le-mul_right {k = x} (omega (arith, mul-le-mul_right m q, e)) h

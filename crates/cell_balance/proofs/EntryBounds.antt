@@ -3,7 +3,7 @@ use Rattle.cell_balance.proofs.Common.{ℕ, ◌+◌, ◌*◌, ◌^◌, ◌<◌, 
 use Rattle.cell_balance.proofs.Common.{EnclosesSigned, IsBetweenSigned, Link, link_low, link_high, least, most, ExactLink, link_flow, fixed_flow, river_flow}
 use Rattle.cell_balance.proofs.Common.{drain_flow, evap_flow, LinkEncloses, BoundsHold, Side, Low, High}
 use Rattle.cell_balance.proofs.Totals.{sub_mul}
-use Rattle.step_problem.specs.Balances.{fixed_flow as fixed_on, river_flow as river_on, drain_flow as drain_on, evap_flow as evap_on}
+use Rattle.step_problem.specs.{fixed_flow as fixed_on, river_flow as river_on, drain_flow as drain_on, evap_flow as evap_on}
 use Rattle.cell_balance.proofs.Sided.{entry_bounds}
 use Rattle.cell_balance.proofs.Gaps.{Kind, whole_flow, IsSeen, seen_bounds, fixed_seen, river_seen, drain_seen, evap_seen}
 use Rattle.cell_balance.proofs.Gaps.Kind.{OfFixed, OfRiver, OfDrain, OfEvap}

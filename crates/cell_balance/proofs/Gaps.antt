@@ -1,7 +1,7 @@
 -- Entries by kind: a flow is the conductance times a gap between heads, which falls with the cell's head, and its bounds.
 use Rattle.cell_balance.proofs.Common.{◌≡◌, ℕ, ◌*◌, refl, sym, arith, ℤ, pos, neg_ℤ, ◌-ℤ◌, ◌*ℤ◌, ◌≤ℤ◌, int_max, int_min, ints, clamps, zero-*ℤ, neg_mul}
 use Rattle.cell_balance.proofs.Common.{mul_neg, neg_least, neg_most, IsBetweenWhole, Fixed, River, Drain, Evap, Side, Low, High, branch_flow}
-use Rattle.step_problem.specs.Balances.{fixed_flow, river_flow, drain_flow, evap_flow}
+use Rattle.step_problem.specs.{fixed_flow, river_flow, drain_flow, evap_flow}
 use Rattle.cell_balance.proofs.Totals.{sub_mul}
 use Rattle.cell_balance.proofs.Scaling.{max_times, min_times}
 use Rattle.cell_balance.proofs.Sided.{Bounds, entry_bounds}

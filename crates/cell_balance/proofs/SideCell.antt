@@ -1,6 +1,6 @@
 -- The balance of a cell's bounds on a side, scaled, bounds the balance of its whole numbers at the same heads.
 use Rattle.cell_balance.proofs.Common.{◌≡◌, ℕ, ◌*◌, refl, arith, ℤ, pos, ◌+ℤ◌, ◌-ℤ◌, ◌*ℤ◌, ints, Flow, Link, Entries, Side, Low, High, branch_flow, flow_bound}
-use Rattle.step_problem.specs.Balances.{link_flow, fixed_flow, river_flow, drain_flow, evap_flow, balance}
+use Rattle.step_problem.specs.{link_flow, fixed_flow, river_flow, drain_flow, evap_flow, balance}
 use Rattle.cell_balance.proofs.Totals.{add_mul, sub_mul}
 use Rattle.cell_balance.proofs.Sided.{Bounds, bounds_same, entry_bounds, total_bounds}
 use Rattle.cell_balance.proofs.Gaps.Kind.{OfFixed, OfRiver, OfDrain, OfEvap}

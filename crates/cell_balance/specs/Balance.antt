@@ -1,7 +1,8 @@
 -- The flow of each kind into a variable cell, and their sum, at heads that are fractions (TM 6-A16, chapters 2 and 6). A flow into the cell is positive.
 use Rattle.std.specs.Prelude.{ℕ, ◌+◌, ◌*◌, pos, ◌*ℤ◌, ◌≡◌, ◌-◌, ◌^◌, ◌<◌, List, length, ℤ, ◌≤ℤ◌}
 use Rattle.std.specs.Int.{int_max, int_min}
-use Rattle.decimal_input.specs.Fractions.{Fraction, den, whole, signed, negated, plus, times, fraction_total}
+use Rattle.decimal_input.specs.{Fraction, whole, signed, negated, fraction_total}
+use Rattle.decimal_input.specs.Fractions.{den, plus, times}
 use Rattle.cell_balance.specs.Steps.{ExactLink, ExactFixed, ExactRiver, ExactDrain, ExactEvap, ExactCell, cell_at}
 
 -- f - g

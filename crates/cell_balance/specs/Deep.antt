@@ -1,6 +1,7 @@
 -- Sets of cells, sums over them, and the flow into a cell whose head lies below all bottoms, drains and known heads.
 use Rattle.std.specs.Prelude.{◌≡◌, ℕ, zero, suc, ◌<◌, List, length, All, Bool, true, cond, pos}
-use Rattle.decimal_input.specs.Fractions.{Fraction, whole, signed, plus, times, fraction_total, AtMost}
+use Rattle.decimal_input.specs.{Fraction, whole, signed, fraction_total}
+use Rattle.decimal_input.specs.Fractions.{plus, times, AtMost}
 use Rattle.cell_balance.specs.Steps.{ExactRiver, ExactEvap, ExactCell, cell_at}
 use Rattle.cell_balance.specs.Balance.{minus, greater}
 

@@ -3,7 +3,7 @@
 -- flows to s + 9.
 use Rattle.std.specs.Prelude.{◌≡◌, ℕ, ◌+◌, List, ◌<◌, length, ℤ}
 use Rattle.std.specs.List.{AllZip}
-use Rattle.decimal_input.specs.Wholes.{Encloses, EnclosesSigned}
+use Rattle.decimal_input.specs.{Encloses, EnclosesSigned}
 use Rattle.step_problem.specs.declared.entry.Flow.{Flow}
 use Rattle.step_problem.specs.declared.entry.Link.{Link}
 use Rattle.step_problem.specs.declared.entry.Fixed.{Fixed}

@@ -4,12 +4,11 @@
 -- every conductance is 1, and every exact value lies strictly between its two bounds. Conductances are known to one
 -- decimal.
 use Rattle.std.specs.Prelude.{ℕ, List, [], ◌∷◌, ℤ, pos, neg_ℤ}
-use Rattle.decimal_input.specs.Ratios.{Ratio}
-use Rattle.decimal_input.specs.Fractions.{whole}
+use Rattle.decimal_input.specs.{Ratio, whole}
 use Rattle.step_problem.specs.declared.entry.FixedKind.TheVariants.{Constant, Storage}
 use Rattle.step_problem.specs.declared.entry.FlowKind.TheVariants.{Wells}
 use Rattle.step_problem.specs.Entries.{Entries}
-use Rattle.step_problem.specs.Heads.{Edges, head_at}
+use Rattle.step_problem.specs.{Edges, head_at}
 use Rattle.cell_balance.specs.Steps.{ExactCell}
 
 abbrev pub one : Ratio

@@ -1,21 +1,20 @@
 -- Laws of exact balances, and the comparison of bounds with solutions. Heads are whole numerators over one denominator d.
 use Rattle.std.specs.Prelude.{◌≡◌, ℕ, ◌<◌, List, length, All, Bool, true, ℤ, pos, ◌≤ℤ◌, ◌+◌, ◌*ℤ◌, ◌<ℤ◌}
-use Rattle.decimal_input.specs.Fractions.{fraction_total, AtMost, Fraction, den, signed, negated, times, Same}
+use Rattle.decimal_input.specs.{fraction_total, Fraction, signed, negated, EnclosesSigned}
+use Rattle.decimal_input.specs.Fractions.{AtMost, den, times, Same}
 use Rattle.step_problem.specs.Entries.{Entries}
-use Rattle.step_problem.specs.Conditions.{IsProblem}
-use Rattle.step_problem.specs.Heads.{Edges, head_at, IsCertificate}
+use Rattle.step_problem.specs.{IsProblem, Edges, head_at, IsCertificate, link_low, fixed_low, river_low, drain_low, evap_low, link_high, fixed_high, river_high}
+use Rattle.step_problem.specs.{drain_high, evap_high}
 use Rattle.cell_balance.specs.Steps.{ExactCell, cell_at, AreLinked, ExactLink, ExactFixed, ExactRiver, ExactDrain, ExactEvap}
 use Rattle.cell_balance.specs.Balance.{link_flow, balance, share, SolvesStep, LiesBetween, minus, fixed_flow, river_flow, drain_flow, evap_flow}
 use Rattle.cell_balance.specs.Enclosures.{EnclosesStep, LinkEncloses, FixedEncloses, RiverEncloses, DrainEncloses, EvapEncloses}
 use Rattle.cell_balance.specs.Components.{IsHeldBelow}
 use Rattle.cell_balance.specs.Deep.{total_inside, IsClosed, deep_flow, LiesBelow, deep_river, full_rate}
-use Rattle.decimal_input.specs.Wholes.{EnclosesSigned}
 use Rattle.step_problem.specs.declared.entry.Link.{Link}
 use Rattle.step_problem.specs.declared.entry.Fixed.{Fixed}
 use Rattle.step_problem.specs.declared.entry.River.{River}
 use Rattle.step_problem.specs.declared.entry.Drain.{Drain}
 use Rattle.step_problem.specs.declared.entry.Evap.{Evap}
-use Rattle.step_problem.specs.Balances.{link_low, fixed_low, river_low, drain_low, evap_low, link_high, fixed_high, river_high, drain_high, evap_high}
 
 -- over a set of cells closed under links, the flows over links cancel
 abbrev pub LinksCancel : Type 0

@@ -2,8 +2,8 @@
 -- (TM 6-A16, chapters 2, 5 and 6). Conductances, heads and flows are exact fractions, in the model's units of length
 -- and time.
 use Rattle.std.specs.Prelude.{ℕ, List, [], slice_index_or, ◌≡◌, ◌<◌, length, All, Contains}
-use Rattle.decimal_input.specs.Ratios.{Ratio, Same}
-use Rattle.decimal_input.specs.Fractions.{Fraction}
+use Rattle.decimal_input.specs.{Ratio, Fraction}
+use Rattle.decimal_input.specs.Ratios.{Same}
 use Rattle.step_problem.specs.declared.entry.FixedKind.{FixedKind}
 use Rattle.step_problem.specs.declared.entry.FlowKind.{FlowKind}
 

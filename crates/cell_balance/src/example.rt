@@ -1,6 +1,6 @@
 // The problem of the example step, made in code. Heads are in 10^-9 metres, conductances in tenths.
 ghost use Rattle.std.specs.Prelude.{◌≡◌, IfOk, pos, neg_ℤ, ◌+ℤ◌, ◌-ℤ◌, ◌≤ℤ◌};
-ghost use Rattle.cell_balance.specs.Example.{first_entries, second_entries, third_entries, example_problem};
+ghost use Rattle.cell_balance.specs.{first_entries, second_entries, third_entries, example_problem};
 ghost use Rattle.step_problem.specs.declared.entry.FixedKind.TheVariants.{Constant, Storage};
 
 use std::alloc::{AllocError, Global};

@@ -1,6 +1,6 @@
 // Laws of exact balances. Each is the contract of an empty function.
-ghost use Rattle.cell_balance.specs.Laws.{LinksCancel, BalanceFalls, BalanceRises, DryLaw, IsComparable, Compares, FlowsAreRight, BoundsHold};
-ghost use Rattle.cell_balance.specs.Example.{example_problem, example_step, example_heads, example_barrier, example_lows, example_highs};
+ghost use Rattle.cell_balance.specs.{LinksCancel, BalanceFalls, BalanceRises, DryLaw, IsComparable, Compares, FlowsAreRight, BoundsHold, example_problem};
+ghost use Rattle.cell_balance.specs.{example_step, example_heads, example_barrier, example_lows, example_highs};
 
 /// Single flows are what the manual says: rivers, drains and evapotranspirations above and below their elevations.
 #[tactic(auto, using(crate::proofs::EntryFlows::flows_are_right))]

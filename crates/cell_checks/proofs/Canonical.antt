@@ -1,9 +1,8 @@
 -- Elevations are canonical numbers.
 use Rattle.cell_checks.proofs.Common.{◌≡◌, ℕ, ◌-◌, Bool, true, false, cond, nat_lt, List, All, FlowModel, layer_size, dec_at, has_bed, bottom_at, lowest}
-use Rattle.cell_checks.proofs.Common.{top_at, dec_at_is}
+use Rattle.cell_checks.proofs.Common.{top_at, dec_at_is, IsGrid}
 use Rattle.decimal_input.specs.declared.dec.Dec.{Dec}
-use Rattle.decimal_input.specs.Decimals.{IsDec}
-use Rattle.model_types.specs.Grids.{IsGrid}
+use Rattle.decimal_input.specs.{IsDec}
 
 either : (b : Bool) (x y : Dec) → IsDec x → IsDec y → IsDec (cond b x y)
 either true x y p q = p

@@ -2,15 +2,13 @@
 use Rattle.std.specs.Prelude.{ℕ, List, Option, Some, None, Result, Ok, Err, ◌+◌, Bool, true, not, ◌&&◌, ◌||◌, nat_lt, nat_le, if◌then◌else◌}
 use Rattle.outside.specs.declared.codes.Code.{Code}
 use Rattle.outside.specs.declared.inputs.Refusal.{Refusal}
-use Rattle.record_lines.specs.Reading.{counted}
+use Rattle.record_lines.specs.{counted}
 use Rattle.model_types.specs.declared.grid.Grid.{Grid}
 use Rattle.model_types.specs.declared.model.FlowModel.{FlowModel}
-use Rattle.model_types.specs.Faces.{cell_count, place, layer_size}
+use Rattle.model_types.specs.{cell_count, place, layer_size, dec_at, is_active, has_bed, top_at, bottom_at, lowest}
 use Rattle.cell_checks.specs.declared.passing.Check.{Check}
 use Rattle.outside.specs.declared.codes.Code.TheVariants.{BadThickness, BadProperty, HeadTooLarge}
-use Rattle.model_types.specs.Layers.{dec_at, is_active, has_bed, top_at, bottom_at, lowest}
-use Rattle.number_limits.specs.Magnitudes.{is_head, is_positive, is_same_number}
-use Rattle.number_limits.specs.Room.{is_thick}
+use Rattle.number_limits.specs.{is_head, is_positive, is_same_number, is_thick}
 use Rattle.cell_checks.specs.declared.passing.Check.TheVariants.{Thickness, StartHead, Properties}
 
 -- The tests of active cells. The limits are this program's own.

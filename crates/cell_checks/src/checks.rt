@@ -1,10 +1,9 @@
 // Checks over all cells.
 ghost use Rattle.std.specs.Prelude.{◌≡◌, ◌<◌, All};
-ghost use Rattle.decimal_input.specs.Decimals.{IsDec};
-ghost use Rattle.model_types.specs.Faces.{cell_count};
-ghost use Rattle.model_types.specs.Grids.{IsGrid, HasSize};
-ghost use Rattle.record_lines.specs.Reading.{HasText};
-ghost use Rattle.cell_checks.specs.Checks.{at_cell, cell_step, checked, fault_at};
+ghost use Rattle.decimal_input.specs.{IsDec};
+ghost use Rattle.model_types.specs.{cell_count, IsGrid, HasSize};
+ghost use Rattle.record_lines.specs.{HasText};
+ghost use Rattle.cell_checks.specs.{at_cell, cell_step, checked, fault_at};
 
 use crate::passing::{Check, fault_at};
 use model_types::{CellId, FlowModel, Grid, place_of};

@@ -1,10 +1,8 @@
 // The tests of a cell.
 ghost use Rattle.std.specs.Prelude.{◌≡◌, ◌<◌, All};
-ghost use Rattle.decimal_input.specs.Decimals.{IsDec};
-ghost use Rattle.model_types.specs.Faces.{cell_count};
-ghost use Rattle.model_types.specs.Grids.{IsGrid};
-ghost use Rattle.model_types.specs.Layers.{dec_at, bottom_at, lowest, top_at};
-ghost use Rattle.cell_checks.specs.Checks.{has_head, has_good_properties, passes, code_of, fault_at, is_checked_bed, is_thick_cell};
+ghost use Rattle.decimal_input.specs.{IsDec};
+ghost use Rattle.model_types.specs.{cell_count, IsGrid, dec_at, bottom_at, lowest, top_at};
+ghost use Rattle.cell_checks.specs.{has_head, has_good_properties, passes, code_of, fault_at, is_checked_bed, is_thick_cell};
 
 use decimal_input::dec::Dec;
 use model_types::FlowModel;

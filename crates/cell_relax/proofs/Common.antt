@@ -3,10 +3,10 @@ pub use Rattle.std.proofs.Common.{All, FitsSigned, List, [], ap, arith, get_or, 
 pub use Rattle.std.proofs.Common.{ℤ, ◌++◌, ◌+◌, ◌-ℤ◌, ◌<ℤ◌, ◌<◌, ◌∙◌, ◌∷◌, ◌≡◌, ◌≤ℤ◌, ◌⊎◌}
 pub use Rattle.std.proofs.lemmas.Int.{by_lt_z, clamps, ints, to_z-of_z}
 pub use Rattle.std.specs.Int.{w128, w64}
-pub use Rattle.cell_relax.specs.Sides.{AreWords, IsAsTight, IsRelaxedOn, LetsMove, Moves, RelaxedKeepOrder, heads_on, other, tighter_of, turned_on}
+pub use Rattle.cell_relax.specs.{AreWords, IsAsTight, IsRelaxedOn, LetsMove, Moves, RelaxedKeepOrder, heads_on, other, tighter_of, turned_on}
 pub use Rattle.step_problem.proofs.BothSides.{high_side, le_trans, low_side}
 pub use Rattle.step_problem.proofs.Falls.{lower_falls, lower_rises, upper_falls, upper_rises}
-pub use Rattle.step_problem.specs.Conditions.{IsHead, IsProblem}
-pub use Rattle.step_problem.specs.Entries.{Entries, ends_in, entries_at, link_at, no_link}
+pub use Rattle.step_problem.specs.{IsHead, IsProblem, balance, ends_in, entries_at, link_at, no_link}
+pub use Rattle.step_problem.specs.Entries.{Entries}
 pub use Rattle.step_problem.specs.declared.heads.Side.{Side}
 pub use Rattle.step_problem.specs.declared.heads.Side.TheVariants.{High, Low}

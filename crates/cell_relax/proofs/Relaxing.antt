@@ -1,7 +1,7 @@
 -- The search for a relaxed head.
 use Rattle.cell_relax.proofs.Common.{◌≡◌, ℕ, ◌⊎◌, inl, inr, refl, arith, sym, ◌∙◌, subst, List, ℤ, pos, ◌-ℤ◌, ◌≤ℤ◌, ◌<ℤ◌, ints, by_lt_z, Side, Low, High}
 use Rattle.cell_relax.proofs.Common.{Entries, entries_at, ends_in, IsHead, lower_falls, upper_falls, IsAsTight, LetsMove, Moves, IsRelaxedOn, turned_on}
-use Rattle.step_problem.specs.Balances.{balance}
+use Rattle.cell_relax.proofs.Common.{balance}
 
 turned_back : (side : Side) (v : ℤ) → turned_on side (turned_on side v) ≡ v
 turned_back Low v = refl

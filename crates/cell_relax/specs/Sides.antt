@@ -3,12 +3,9 @@ use Rattle.std.specs.Prelude.{ℕ, ◌<◌, List, length, ℤ, pos, neg_ℤ, ◌
 use Rattle.std.specs.Int.{int_max, int_min}
 use Rattle.step_problem.specs.declared.heads.Side.{Side}
 use Rattle.step_problem.specs.declared.heads.Side.TheVariants.{Low, High}
-use Rattle.step_problem.specs.Entries.{Entries, entries_at}
-use Rattle.step_problem.specs.Balances.{balance}
+use Rattle.step_problem.specs.Entries.{Entries}
+use Rattle.step_problem.specs.{entries_at, balance, IsRelaxed, IsHead, no_bound, lower_at, upper_at}
 use Rattle.step_problem.specs.declared.heads.Bound.{Bound}
-use Rattle.step_problem.specs.Sides.{IsRelaxed}
-use Rattle.step_problem.specs.Conditions.{IsHead}
-use Rattle.step_problem.specs.Heads.{no_bound, lower_at, upper_at}
 
 -- Heads of a problem's cells, kept as one bound for each cell.
 -- the head of a bound on one side

@@ -1,6 +1,6 @@
 // Halving an interval of heads.
 ghost use Rattle.std.specs.Prelude.{◌+◌, pos, ◌+ℤ◌, ◌<ℤ◌};
-ghost use Rattle.step_problem.specs.Conditions.{IsWithin, head_limit};
+ghost use Rattle.step_problem.specs.{IsWithin, head_limit};
 
 /// A number strictly between two that are not neighbours.
 pub fn middle_of(low: i64, high: i64) -> i64

@@ -1,6 +1,6 @@
 // A test of heads that are kept as one bound for each cell.
 ghost use Rattle.std.specs.Prelude.{◌↔◌, IsTrue};
-ghost use Rattle.cell_relax.specs.Sides.{AreWords};
+ghost use Rattle.cell_relax.specs.{AreWords};
 
 use step_problem::{Bound, Problem, is_head};
 

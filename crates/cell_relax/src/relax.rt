@@ -1,10 +1,7 @@
 // The relaxed head of one cell, by trials: either balance falls in the cell's own head.
 ghost use Rattle.std.specs.Prelude.{◌≡◌, ◌<◌, ◌+◌, ◌↔◌, ℕ, ℤ, All, IsTrue, length, take};
-ghost use Rattle.step_problem.specs.Entries.{entries_at, ends_in};
-ghost use Rattle.step_problem.specs.Balances.{balance};
-ghost use Rattle.step_problem.specs.Conditions.{IsHead};
-ghost use Rattle.step_problem.specs.Heads.{IsRaise, IsSink};
-ghost use Rattle.cell_relax.specs.Sides.{LetsMove, IsRelaxedOn, turned_on, head_of, heads_on, AreWords};
+ghost use Rattle.step_problem.specs.{entries_at, ends_in, balance, IsHead, IsRaise, IsSink};
+ghost use Rattle.cell_relax.specs.{LetsMove, IsRelaxedOn, turned_on, head_of, heads_on, AreWords};
 
 use crate::middle::Trend;
 use step_problem::problem::HEAD_LIMIT;

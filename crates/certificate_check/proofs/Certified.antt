@@ -1,10 +1,7 @@
 -- A certificate encloses what its barrier encloses.
 use Rattle.certificate_check.proofs.Common.{ℕ, ◌<◌, List, length, ℤ, Edges, head_at, IsCertificate, IsProblem, pair_certifies, SettledPairEncloses}
 use Rattle.step_problem.specs.Entries.{Entries}
-use Rattle.cell_balance.specs.Steps.{ExactCell}
-use Rattle.cell_balance.specs.Enclosures.{EnclosesStep, EnclosesSolutions}
-use Rattle.cell_balance.specs.Balance.{SolvesStep, LiesBetween}
-use Rattle.cell_balance.specs.Components.{IsHeldBelow}
+use Rattle.cell_balance.specs.{ExactCell, EnclosesStep, EnclosesSolutions, SolvesStep, LiesBetween, IsHeldBelow}
 use Rattle.cell_balance.proofs.Encloses.{compares}
 
 module _ (p : List Entries) (b : Edges) (l u : ℕ → ℤ) where

@@ -7,8 +7,7 @@ use Rattle.std.proofs.Math.Nat.{mul-le-mul_right}
 use Rattle.std.proofs.lemmas.Int.{by_lt_z, clamps, ints}
 use Rattle.decimal_input.proofs.Integers.{le-trans}
 use Rattle.decimal_input.proofs.Signs.{mul_mono_right}
-use Rattle.barrier_vector.specs.Cuts.{clamp, clamped}
-use Rattle.barrier_vector.specs.Refusals.{range_on}
+use Rattle.barrier_vector.specs.{clamp, clamped, range_on}
 use Rattle.barrier_vector.proofs.Cutting.{refusal_is_one}
 use Rattle.barrier_vector.proofs.Clamping.{clamped_at}
 use Rattle.certificate_check.proofs.Certified.{certificate_compares}

@@ -4,19 +4,14 @@ use Rattle.step_problem.specs.declared.heads.Bound.{Bound}
 use Rattle.step_problem.specs.declared.heads.Side.{Side}
 use Rattle.step_problem.specs.declared.heads.Side.TheVariants.{Low, High}
 use Rattle.step_problem.specs.declared.place.NoBound.{NoBound}
-use Rattle.step_problem.specs.Entries.{Entries, entries_at}
-use Rattle.step_problem.specs.Balances.{lower_balance, upper_balance}
-use Rattle.step_problem.specs.Heads.{Edges, head_at, lower_at, upper_at, IsBarrier, IsSettledPair, IsCertificate}
-use Rattle.barrier_vector.specs.Refusals.{range_on}
-use Rattle.barrier_vector.specs.Cuts.{Refuses, EnclosesUncut, clamped}
+use Rattle.step_problem.specs.Entries.{Entries}
+use Rattle.step_problem.specs.{entries_at, lower_balance, upper_balance, Edges, head_at, lower_at, upper_at, IsBarrier, IsSettledPair, IsCertificate, IsProblem}
+use Rattle.step_problem.specs.{head_limit}
+use Rattle.barrier_vector.specs.{range_on, Refuses, EnclosesUncut, clamped}
 use Rattle.certificate_check.specs.declared.Verdict.{Verdict}
 use Rattle.certificate_check.specs.declared.Verdict.TheVariants.{Yes, No}
-use Rattle.step_problem.specs.Conditions.{IsProblem, head_limit}
-use Rattle.cell_relax.specs.Sides.{AreWords}
-use Rattle.cell_balance.specs.Components.{IsHeldBelow}
-use Rattle.cell_balance.specs.Steps.{ExactCell}
-use Rattle.cell_balance.specs.Enclosures.{EnclosesStep, EnclosesSolutions}
-use Rattle.cell_balance.specs.Balance.{SolvesStep, LiesBetween}
+use Rattle.cell_relax.specs.{AreWords}
+use Rattle.cell_balance.specs.{IsHeldBelow, ExactCell, EnclosesStep, EnclosesSolutions, SolvesStep, LiesBetween}
 
 module _ (p : List Entries) (b : Edges) (bounds : List Bound) where
   -- The certificate holds at that side of cell c: its lower head is at most the floor, or its lower balance is not negative; the upper side mirrored.

@@ -1,6 +1,6 @@
 // Laws that the layers above use. Each is the contract of an empty function.
-ghost use Rattle.certificate_check.specs.Certificates.{SettledPairEncloses, CertificateEncloses, FailsOnlyWhereCut, CertificateExcludesRefusal};
-ghost use Rattle.certificate_check.specs.Certificates.{RangeRefusalIsOne, ClampedPairEncloses};
+ghost use Rattle.certificate_check.specs.{SettledPairEncloses, CertificateEncloses, FailsOnlyWhereCut, CertificateExcludesRefusal, RangeRefusalIsOne};
+ghost use Rattle.certificate_check.specs.{ClampedPairEncloses};
 
 /// Where each component is anchored or carried, the settled pair over a barrier that encloses every solution encloses every solution, without a check.
 #[tactic(auto, using(crate::proofs::Certified::settled_encloses))]

@@ -2,13 +2,10 @@
 #![tactic(auto)]
 
 ghost use Rattle.std.specs.Prelude.{◌≡◌, ℕ, ℤ, List, length, ◌<◌, ◌↔◌};
-ghost use Rattle.step_problem.specs.Heads.{head_at, lower_at, upper_at, IsCertificate};
-ghost use Rattle.cell_relax.specs.Sides.{AreWords};
-ghost use Rattle.cell_balance.specs.Steps.{ExactCell};
-ghost use Rattle.cell_balance.specs.Enclosures.{EnclosesStep, EnclosesSolutions};
-ghost use Rattle.cell_balance.specs.Balance.{SolvesStep, LiesBetween};
-ghost use Rattle.cell_balance.specs.Components.{IsHeldBelow};
-ghost use Rattle.certificate_check.specs.Certificates.{IsFirstFailing, IsYes, IfNo};
+ghost use Rattle.step_problem.specs.{head_at, lower_at, upper_at, IsCertificate};
+ghost use Rattle.cell_relax.specs.{AreWords};
+ghost use Rattle.cell_balance.specs.{ExactCell, EnclosesStep, EnclosesSolutions, SolvesStep, LiesBetween, IsHeldBelow};
+ghost use Rattle.certificate_check.specs.{IsFirstFailing, IsYes, IfNo};
 
 pub mod laws;
 mod search;

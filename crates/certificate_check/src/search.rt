@@ -1,12 +1,10 @@
 // The first place where a certificate fails.
 ghost use Rattle.std.specs.Prelude.{◌≡◌, ◌<◌, length, MatchOption, ◌↔◌, IsTrue, ℕ, IsNone};
-ghost use Rattle.step_problem.specs.Heads.{lower_at, upper_at, IsCertificate};
-ghost use Rattle.cell_relax.specs.Sides.{AreWords};
-ghost use Rattle.certificate_check.specs.Certificates.{HoldsAt, IsFirstFailing, IsRangeRefusal, IsCutAt};
-ghost use Rattle.cell_balance.specs.Components.{IsHeldBelow};
-ghost use Rattle.cell_balance.specs.Enclosures.{EnclosesSolutions};
-ghost use Rattle.barrier_vector.specs.Refusals.{IsLeastWith};
-ghost use Rattle.barrier_vector.specs.Cuts.{EnclosesUncut, clamped};
+ghost use Rattle.step_problem.specs.{lower_at, upper_at, IsCertificate};
+ghost use Rattle.cell_relax.specs.{AreWords};
+ghost use Rattle.certificate_check.specs.{HoldsAt, IsFirstFailing, IsRangeRefusal, IsCutAt};
+ghost use Rattle.cell_balance.specs.{IsHeldBelow, EnclosesSolutions};
+ghost use Rattle.barrier_vector.specs.{IsLeastWith, EnclosesUncut, clamped};
 
 use barrier_vector::out_of_range;
 use cell_relax::balance_in;

@@ -1,8 +1,7 @@
 // A pair that is tested.
 ghost use Rattle.std.specs.Prelude.{IfOk, IfSome};
-ghost use Rattle.step_problem.specs.Heads.{IsBarrier};
-ghost use Rattle.step_problem.specs.Settling.{AreInside};
-ghost use Rattle.certified_pair.specs.Pairs.{AreOrdered};
+ghost use Rattle.step_problem.specs.{IsBarrier, AreInside};
+ghost use Rattle.certified_pair.specs.{AreOrdered};
 
 use crate::guesser::PairGuesser;
 use crate::test::is_certified;

@@ -1,9 +1,7 @@
 // The test of a pair.
 ghost use Rattle.std.specs.Prelude.{◌↔◌, ◌<ℤ◌, neg_ℤ, pos, All, IsTrue};
-ghost use Rattle.step_problem.specs.Conditions.{head_limit};
-ghost use Rattle.step_problem.specs.Heads.{IsBarrier};
-ghost use Rattle.step_problem.specs.Settling.{AreInside};
-ghost use Rattle.certified_pair.specs.Pairs.{AreOrdered};
+ghost use Rattle.step_problem.specs.{head_limit, IsBarrier, AreInside};
+ghost use Rattle.certified_pair.specs.{AreOrdered};
 
 use cell_relax::are_words;
 use certificate_check::{Verdict, check_step};

@@ -1,12 +1,8 @@
 // The reader of files of given heads.
 ghost use Rattle.std.specs.Prelude.{◌≡◌, IfOk, All};
-ghost use Rattle.record_lines.specs.Reading.{HasText};
-ghost use Rattle.model_types.specs.Faces.{cell_count};
-ghost use Rattle.model_types.specs.Grids.{HasSize};
-ghost use Rattle.model_types.specs.Valid.{IsGivenList, IsModel};
-ghost use Rattle.list_package.specs.Forms.{SameBut};
-ghost use Rattle.list_package.specs.Lists.{package_of};
-ghost use Rattle.list_package.specs.Entries.{given_heads};
+ghost use Rattle.record_lines.specs.{HasText};
+ghost use Rattle.model_types.specs.{cell_count, HasSize, IsGivenList, IsModel};
+ghost use Rattle.list_package.specs.{SameBut, package_of, given_heads};
 
 use list_package::{SpecifiedHeads, read_package};
 use model_types::{FlowModel, Given, Limits};

@@ -3,9 +3,8 @@ use Rattle.check_run.proofs.Common.{◌≡◌, inl, inr, ℕ, ◌/◌, ◌%◌, 
 use Rattle.check_run.proofs.Common.{Some, None, AllByRecursion, nat_tests, recursion_from_All, Bound, ZoneFlow, Entries, lower_at, upper_at, In-map, map-In}
 use Rattle.check_run.proofs.Common.{Face, Decks, AreZoneFlows, IsBeforeAll, IsZoneFlow, PairsAscend, ShareFace, ZonePair, pair_of, pairs_below, zones_of_flow}
 use Rattle.check_run.proofs.Common.{any_in, in_any, AreNumbers, AreFlowsOf, faces_of, pairs_in, share_face, zone_pairs, shared_small, HasSize, TimeStep}
-use Rattle.check_run.proofs.Common.{IsProblemFor}
+use Rattle.check_run.proofs.Common.{IsProblemFor, key_of}
 use Rattle.model_types.proofs.Members.{In}
-use Rattle.zone_flows.specs.Tables.{key_of}
 use Rattle.std.specs.BTreeMap.{is_at}
 use Rattle.std.specs.List.Sorted.{IsStrictlySortedBy}
 use Rattle.std.specs.Ordering.{nat_cmp}

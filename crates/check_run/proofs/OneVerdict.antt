@@ -8,10 +8,10 @@ use Rattle.check_run.proofs.Common.{IsFirstNarrow, bounds, Passes, FailsAt, at_c
 use Rattle.check_run.proofs.Common.{no_flows, Checks, StopsAt, Decks, AreDecks, IsBefore, ProblemIsOne, ProblemFits, ProblemExcludesRefusal, StartHeadsAreOne}
 use Rattle.check_run.proofs.Common.{StartHeadsFit, IsBarrierBy, cut_by, VerdictIsOne}
 use Rattle.step_problem.specs.declared.place.Place.{Place}
-use Rattle.barrier_vector.specs.Barriers.{BarrierExcludesRefusal, RefusalIsOne as BarrierRefusalIsOne, CutBarrierIsOne, CutBarrierExcludesRefusal, CutRefusalIsOne}
-use Rattle.deck_problems.specs.Laws.{RefusalIsOne as ProblemRefusalIsOne}
+use Rattle.barrier_vector.specs.{BarrierExcludesRefusal, RefusalIsOne as BarrierRefusalIsOne, CutBarrierIsOne, CutBarrierExcludesRefusal, CutRefusalIsOne}
+use Rattle.deck_problems.specs.{RefusalIsOne as ProblemRefusalIsOne}
 use Rattle.step_chain.proofs.Refusals.{poses_one, posed_excludes as step_posed_excludes}
-use Rattle.check_run.specs.Steps.{budget_at}
+use Rattle.check_run.specs.{budget_at}
 use Rattle.check_run.proofs.Firsts.{IsFirst, first_one, large_one, narrow_one, never_narrow, none_large, same_flows, term_one}
 use Rattle.check_run.proofs.Listed.{grid_of}
 use Rattle.step_problem.specs.declared.place.Place.TheVariants as places

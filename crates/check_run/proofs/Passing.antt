@@ -1,16 +1,15 @@
 -- A listed step that passes bounds every solution.
 use Rattle.check_run.proofs.Common.{◌≡◌, ℕ, ◌+◌, ◌<◌, ◌^◌, inl, inr, true, List, length, Contains, Option, Some, None, sym, ◌∙◌, subst, arith, ℤ, pos, ◌*ℤ◌}
-use Rattle.check_run.proofs.Common.{◌≤ℤ◌, AllZip, IfSome, cases_Bool, ints, Fraction, den, Bound, Low, High, ZoneFlow, Entries, lower_at, upper_at, Budget}
+use Rattle.check_run.proofs.Common.{◌≤ℤ◌, AllZip, IfSome, cases_Bool, ints, Fraction, Bound, Low, High, ZoneFlow, Entries, lower_at, upper_at, Budget}
 use Rattle.check_run.proofs.Common.{CoverEncloses, Covers, EnclosesBudgets, HeadsAreWithin, EnclosesSolutions, exact_step, heads_of, variable_heads, FlowModel}
-use Rattle.check_run.proofs.Common.{TimeStep, cell_count, constant_head, is_variable, is_constant, index_of, times, IsActive, IsNamed, bound_at}
-use Rattle.check_run.proofs.Common.{active_constant, index_below, count_is, number_is, EncloseExact, exact_faces, exact_flow, ZonePair, CoversFlow, AreWide}
-use Rattle.check_run.proofs.Common.{ConstantsReach, IsConstantCell, variable_bounds, checked_task, step_of, Decks, AreDecks, EachMember, IsMember}
-use Rattle.check_run.proofs.Common.{AreConstantHeadsFor, ConstantPairEncloses, HasCellsOf, cell_of_member, constant_same, member_cells, of_member}
-use Rattle.check_run.proofs.Common.{BoundsMovesOf, EnclosesSteps, EnclosesStep, CellEncloses, IsMove, LiesWithin, AllZip-at, AllZip-length, get_or}
-use Rattle.decimal_input.specs.Wholes.{EnclosesSigned}
+use Rattle.check_run.proofs.Common.{TimeStep, cell_count, constant_head, is_variable, is_constant, index_of, times, IsActive, bound_at, active_constant}
+use Rattle.check_run.proofs.Common.{index_below, count_is, number_is, EncloseExact, exact_faces, exact_flow, ZonePair, CoversFlow, AreWide, ConstantsReach}
+use Rattle.check_run.proofs.Common.{IsConstantCell, variable_bounds, checked_task, step_of, Decks, AreDecks, EachMember, IsMember, AreConstantHeadsFor}
+use Rattle.check_run.proofs.Common.{ConstantPairEncloses, HasCellsOf, cell_of_member, constant_same, member_cells, of_member, BoundsMovesOf, EnclosesSteps}
+use Rattle.check_run.proofs.Common.{EnclosesStep, CellEncloses, IsMove, LiesWithin, AllZip-at, AllZip-length, get_or, EnclosesSigned, ExactCell, LiesBetween}
+use Rattle.decimal_input.specs.Fractions.{den}
+use Rattle.problem_builder.specs.GridHeads.{IsNamed}
 use Rattle.decimal_input.proofs.Enclosing.{whole_signed}
-use Rattle.cell_balance.specs.Steps.{ExactCell}
-use Rattle.cell_balance.specs.Balance.{LiesBetween}
 use Rattle.cell_balance.proofs.Totals.{le_trans_z}
 use Rattle.listing_run.proofs.Zoned.{flows_enclose, heads_named, within_enclosed}
 use Rattle.check_run.proofs.Listed.{variable_listed}

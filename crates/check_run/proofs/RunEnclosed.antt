@@ -3,7 +3,7 @@ use Rattle.check_run.proofs.Common.{ℕ, Option, Some, None, List, [], ◌∷◌
 use Rattle.check_run.proofs.Common.{heads_of, variable_heads, FlowModel, TimeStep, start_head, times, Task, Step, BoundAll, Bounds, EnclosesHistories, Whole}
 use Rattle.check_run.proofs.Common.{AllSteps, IsStep, Steps, as_listed, ListingEncloses, checked_task, step_of, steps_of, Decks, BoundBetween, HistoriesBound}
 use Rattle.check_run.proofs.Common.{deck_task, Bool, Limits}
-use Rattle.deck_span.specs.Models.{SolvesBetweenFrom}
+use Rattle.deck_span.specs.{SolvesBetweenFrom}
 
 module _ (limits : Limits) (ds : Decks) (s : ℕ) (zones : Option (List ℕ)) (rounds : ℕ) (quick : Bool) where
   abbrev task : Task

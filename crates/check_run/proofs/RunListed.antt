@@ -7,10 +7,8 @@ use Rattle.check_run.proofs.Common.{HeadsFit, AreCellBounds, AreFlows, AreFlowsA
 use Rattle.check_run.proofs.Common.{Step, Whole, AllSteps, IsStep, Steps, budget_at, AreFlowsOf, faces_of, IsRest, first_in, rest_more, rest_whole, as_listed}
 use Rattle.check_run.proofs.Common.{nat_tests, IsZoneFlow, is_nonzero, AllThree, next, none, IsProblemBy, IsBefore, StartHeadsFit, deck_task, Decks, AreDecks}
 use Rattle.check_run.proofs.Common.{PairKind, IsStepBy, pairs_of, Bool, In, IsCellHull, ListedStep, no_entries, variable_cells, AllZip-at, AllZip-length}
-use Rattle.check_run.proofs.Common.{AllZip-right, AllZip-weaker, IsProblemOf}
+use Rattle.check_run.proofs.Common.{AllZip-right, AllZip-weaker, IsProblemOf, total, is_chosen}
 use Rattle.check_run.proofs.Branches.{hull_zip}
-use Rattle.step_problem.specs.Balances.{total}
-use Rattle.model_types.specs.Receivers.{is_chosen}
 use Rattle.step_problem.specs.declared.entry.Evap.{Evap}
 use Rattle.check_run.proofs.FlowPairs.{flows_have_pairs}
 use Rattle.check_run.proofs.RunTerms.{budget_are, eight, flows_are, no_et}

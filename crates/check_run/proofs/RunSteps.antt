@@ -7,7 +7,7 @@ use Rattle.check_run.proofs.Common.{CoversFlow, ConstantsReach, ReachesOn, varia
 use Rattle.check_run.proofs.Common.{ConstantPairIsOne, IsBefore, ProblemFits, StartHeadsFit, deck_task, Decks, AreDecks, PairKind, IsStepBy, pairs_of, Bool}
 use Rattle.check_run.proofs.Common.{edges_by, pair_words}
 use Rattle.check_run.proofs.DeckCells.{decks_ids}
-use Rattle.listing_run.specs.Tasks.{AreFlowsAt}
+use Rattle.listing_run.specs.{AreFlowsAt}
 use Rattle.check_run.proofs.Listed.{count_is}
 
 reaches : (side : Side) (listed pair : Bound) → (listed.low ≡ pair.low) × (listed.high ≡ pair.high) → ReachesOn side listed pair

@@ -2,10 +2,9 @@
 use Rattle.check_run.proofs.Common.{◌≡◌, ℕ, zero, suc, ◌^◌, ◌<◌, Bool, true, false, List, [], ◌∷◌, length, nat_abs, All, get_or, Ok, Err, refl, sym, ap, ◌∙◌}
 use Rattle.check_run.proofs.Common.{subst, arith, ℤ, pos, negsuc, ◌+ℤ◌, ◌≤ℤ◌, if◌then◌else◌, AllZip, ints, Dir, Out, NoBound, Term, Entries, entries_at}
 use Rattle.check_run.proofs.Common.{TermPair, Budget, all_terms, budget_of, is_small, no_pair, parts, term_limit, term_of, term_pair, terms_of, too_large}
-use Rattle.check_run.proofs.Common.{IsFlowPair, singles, and_parts, In, AllZip-at, AllZip-length, AllZip-right}
+use Rattle.check_run.proofs.Common.{IsFlowPair, singles, and_parts, In, AllZip-at, AllZip-length, AllZip-right, sum_below}
 use Rattle.std.specs.Int.Signed.{lt_z}
 use Rattle.step_problem.specs.declared.place.Term.TheVariants.{Storage, Et}
-use Rattle.cell_balance.specs.Components.{sum_below}
 use Rattle.budget_bounds.proofs.Caps.{parts_lo, parts_hi}
 use Rattle.listing_io.proofs.Terms.{same_ok, goes, clash}
 

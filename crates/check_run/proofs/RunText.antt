@@ -3,12 +3,10 @@ use Rattle.check_run.proofs.Common.{Limits, Option, ◌≡◌, ℕ, List, [], �
 use Rattle.check_run.proofs.Common.{append_assoc, append-nil, get_or_default, Bound, FlowModel, TimeStep, times, HeadsFit, pairs_in, pairs_small}
 use Rattle.check_run.proofs.Common.{all_step_lines, ended, first_line, first_text, step_lines, step_text, Task, Step, Whole, AllSteps, IsStep, Steps}
 use Rattle.check_run.proofs.Common.{IsReadable, RunIsReadAgain, as_listed, deck_task, Decks, StartHeadsFit, Bool, IsTime, IsWritable, ListingsAreReadAgain}
-use Rattle.check_run.proofs.Common.{is_between, listing, text_of, time_of}
+use Rattle.check_run.proofs.Common.{is_between, listing, text_of, time_of, IsModel, all_lines, listing_at}
 use Rattle.std.proofs.lemmas.List.Concat.{flat_map-append}
-use Rattle.model_types.specs.Valid.{IsModel}
-use Rattle.listing_io.specs.Listing.{end_line as last_row, listing as rows_of, text_of as text}
-use Rattle.listing_io.specs.Reading.{all_lines, listing_at}
-use Rattle.run_puts.specs.Runs.{end_line}
+use Rattle.listing_io.specs.{end_line as last_row, listing as rows_of, text_of as text}
+use Rattle.run_puts.specs.{end_line}
 use Rattle.check_run.proofs.RunListed.{are_listed}
 
 module _ (limits : Limits) (ds : Decks) (s : ℕ) (zones : Option (List ℕ)) (rounds : ℕ) (quick : Bool) where

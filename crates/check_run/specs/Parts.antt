@@ -7,31 +7,29 @@ use Rattle.step_problem.specs.declared.place.Place.TheVariants as places
 use Rattle.step_problem.specs.declared.place.Term.{Term}
 use Rattle.step_problem.specs.declared.place.ZoneFlow.{ZoneFlow}
 use Rattle.step_problem.specs.Entries.{Entries}
-use Rattle.step_problem.specs.Heads.{lower_at, upper_at}
+use Rattle.step_problem.specs.{lower_at, upper_at}
 use Rattle.budget_bounds.specs.declared.pair.Budget.{Budget}
-use Rattle.budget_bounds.specs.Covers.{Covers, IsFirstUncovered}
-use Rattle.budget_bounds.specs.Exact.{EnclosesBudgets}
-use Rattle.budget_bounds.specs.Terms.{budget_of}
-use Rattle.barrier_vector.specs.Cuts.{EnclosesUncut}
+use Rattle.budget_bounds.specs.Covers.{Covers}
+use Rattle.budget_bounds.specs.{IsFirstUncovered, EnclosesBudgets, budget_of}
+use Rattle.barrier_vector.specs.{EnclosesUncut}
 use Rattle.barrier_vector.specs.declared.BarrierFault.{BarrierFault}
 use Rattle.barrier_vector.specs.declared.BarrierFault.TheVariants as barrier
-use Rattle.cell_balance.specs.Components.{IsHeldBelow}
+use Rattle.cell_balance.specs.{IsHeldBelow}
 use Rattle.model_types.specs.declared.limits.Limits.{Limits}
 use Rattle.model_types.specs.declared.time_steps.TimeStep.{TimeStep}
-use Rattle.model_types.specs.Heads.{variable_cells}
+use Rattle.model_types.specs.{variable_cells}
 use Rattle.problem_builder.specs.declared.fault.BuildFault.{BuildFault}
 use Rattle.problem_builder.specs.declared.fault.BuildFault.TheVariants as build
-use Rattle.problem_builder.specs.GridHeads.{IsActive, IsNamed}
+use Rattle.problem_builder.specs.{IsActive}
+use Rattle.problem_builder.specs.GridHeads.{IsNamed}
 use Rattle.deck_problems.specs.declared.decks.Decks.{Decks}
-use Rattle.deck_problems.specs.ConstantHeads.{AreConstantHeadsFor}
-use Rattle.deck_problems.specs.Decks.{EachMember}
-use Rattle.deck_problems.specs.Kept.{EnclosesSteps}
-use Rattle.step_chain.specs.Steps.{IsPosed, HasNoPose}
+use Rattle.deck_problems.specs.{AreConstantHeadsFor, EachMember, EnclosesSteps}
+use Rattle.step_chain.specs.{IsPosed, HasNoPose}
 use Rattle.zone_flows.specs.declared.fault.ZoneFault.{ZoneFault}
 use Rattle.zone_flows.specs.declared.fault.ZoneFault.TheVariants as flows
-use Rattle.listing_run.specs.Tasks.{AreFlowsOf, FlowsEnclose, HasLargeFlowOf}
+use Rattle.listing_run.specs.{AreFlowsOf, FlowsEnclose, HasLargeFlowOf}
 use Rattle.listing_io.specs.declared.listing.ListedStep.{ListedStep}
-use Rattle.listing_io.specs.Laws.{step_in}
+use Rattle.listing_io.specs.{step_in}
 use Rattle.check_run.specs.declared.listing.CheckFault.{CheckFault}
 use Rattle.check_run.specs.declared.listing.CheckFault.TheVariants as fault
 use Rattle.check_run.specs.declared.posed.Posed.{Posed}

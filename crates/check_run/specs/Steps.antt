@@ -8,23 +8,22 @@ use Rattle.step_problem.specs.declared.place.NoBound.{NoBound}
 use Rattle.step_problem.specs.declared.place.Place.{Place}
 use Rattle.step_problem.specs.declared.place.Term.{Term}
 use Rattle.step_problem.specs.declared.place.ZoneFlow.{ZoneFlow}
-use Rattle.step_problem.specs.Entries.{Entries, entries_at}
-use Rattle.step_problem.specs.Heads.{Edges, lower_at, upper_at, IsCertificate}
+use Rattle.step_problem.specs.Entries.{Entries}
+use Rattle.step_problem.specs.{entries_at, Edges, lower_at, upper_at, IsCertificate}
 use Rattle.budget_bounds.specs.declared.pair.Budget.{Budget}
-use Rattle.budget_bounds.specs.Covers.{Covers, IsFirstUncovered}
-use Rattle.budget_bounds.specs.Terms.{budget_of}
-use Rattle.certificate_check.specs.Certificates.{IsFirstFailing}
+use Rattle.budget_bounds.specs.Covers.{Covers}
+use Rattle.budget_bounds.specs.{IsFirstUncovered, budget_of}
+use Rattle.certificate_check.specs.{IsFirstFailing}
 use Rattle.model_types.specs.declared.limits.Limits.{Limits}
 use Rattle.model_types.specs.declared.time_steps.TimeStep.{TimeStep}
 use Rattle.deck_problems.specs.declared.decks.Decks.{Decks}
-use Rattle.step_chain.specs.Steps.{IsPosed, HasNoPose, bound_at}
+use Rattle.step_chain.specs.{IsPosed, HasNoPose, bound_at}
 use Rattle.listing_io.specs.declared.listing.ListedStep.{ListedStep}
-use Rattle.listing_run.specs.Tasks.{AreFlowsOf, HasLargeFlowOf}
+use Rattle.listing_run.specs.{AreFlowsOf, HasLargeFlowOf}
 use Rattle.step_problem.specs.declared.heads.Side.TheVariants.{Low, High}
-use Rattle.model_types.specs.Faces.{cell_count}
-use Rattle.model_types.specs.Heads.{is_constant, variable_cells}
-use Rattle.deck_problems.specs.ConstantHeads.{IsConstantPairFor}
-use Rattle.zone_pairs.specs.Pairs.{zones_of_flow}
+use Rattle.model_types.specs.{cell_count, is_constant, variable_cells}
+use Rattle.deck_problems.specs.{IsConstantPairFor}
+use Rattle.zone_pairs.specs.{zones_of_flow}
 use Rattle.step_problem.specs.declared.place.Place.TheVariants as places
 
 -- The listed heads of a time's constant and variable cells.

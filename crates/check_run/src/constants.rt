@@ -3,12 +3,10 @@ ghost use Rattle.std.specs.Prelude.{◌≡◌, ◌<◌, ℕ, length, Contains, M
 ghost use Rattle.step_problem.specs.declared.heads.Side.{Side};
 ghost use Rattle.step_problem.specs.declared.heads.Side.TheVariants.{Low};
 ghost use Rattle.model_types.specs.declared.given_heads.Kind.TheVariants.{Constant};
-ghost use Rattle.model_types.specs.Faces.{cell_count};
-ghost use Rattle.model_types.specs.Times.{times};
-ghost use Rattle.deck_problems.specs.ConstantHeads.{AreConstantHeadsFor};
-ghost use Rattle.deck_problems.specs.Decks.{AreDecks};
-ghost use Rattle.problem_builder.specs.Tables.{ArePeriodTables};
-ghost use Rattle.check_run.specs.Steps.{ConstantsReach, IsFirstShort, ReachesOn};
+ghost use Rattle.model_types.specs.{cell_count, times};
+ghost use Rattle.deck_problems.specs.{AreConstantHeadsFor, AreDecks};
+ghost use Rattle.problem_builder.specs.{ArePeriodTables};
+ghost use Rattle.check_run.specs.{ConstantsReach, IsFirstShort, ReachesOn};
 
 use deck_problems::Decks;
 use deck_problems::laws::constant_pairs;

@@ -2,11 +2,11 @@
 ghost use Rattle.std.specs.Prelude.{◌≡◌, ℕ, List, Bool, true, false, map, option_map, IfOk, IfErr, MatchOption};
 ghost use Rattle.std.specs.List.{AllZip};
 ghost use Rattle.step_problem.specs.declared.place.ZoneFlow.{ZoneFlow as Flow};
-ghost use Rattle.problem_builder.specs.GridHeads.{AreGridHeads, IsActive, IsNamed};
-ghost use Rattle.zone_pairs.specs.Pairs.{zones_of_flow, AreZones};
-ghost use Rattle.listing_run.specs.Tasks.{AreFlowsOf};
-ghost use Rattle.check_run.specs.Steps.{CoversFlow, IsFirstNarrow};
-ghost use Rattle.check_run.specs.Parts.{AreNarrow, AreWide};
+ghost use Rattle.problem_builder.specs.{AreGridHeads, IsActive};
+ghost use Rattle.problem_builder.specs.GridHeads.{IsNamed};
+ghost use Rattle.zone_pairs.specs.{zones_of_flow, AreZones};
+ghost use Rattle.listing_run.specs.{AreFlowsOf};
+ghost use Rattle.check_run.specs.{CoversFlow, IsFirstNarrow, AreNarrow, AreWide};
 
 use crate::listing::CheckFault;
 use listing_run::flows_of;

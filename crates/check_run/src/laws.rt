@@ -1,5 +1,5 @@
 // Laws of verdicts. Each is the contract of an empty function, but for the laws below that it calls.
-ghost use Rattle.check_run.specs.Verdicts.{VerdictIsOne, RunIsCertified, RunIsReadAgain};
+ghost use Rattle.check_run.specs.{VerdictIsOne, RunIsCertified, RunIsReadAgain};
 
 use barrier_vector::laws::{
     no_barrier_beside_a_refusal, no_cut_barrier_beside_a_refusal, one_cut_barrier, one_cut_refusal,

@@ -1,10 +1,9 @@
 // The check of a listing.
 ghost use Rattle.std.specs.Prelude.{◌≡◌, ◌≤◌, length, option_map, IfOk};
-ghost use Rattle.zone_pairs.specs.Pairs.{pairs_in, AreZones};
-ghost use Rattle.listing_io.specs.Laws.{AreListed};
-ghost use Rattle.exact_histories.specs.Decks.{HaveOneHistory};
-ghost use Rattle.deck_problems.specs.Decks.{AreDecks};
-ghost use Rattle.deck_problems.specs.Kept.{AreDeckTables, digits_of};
+ghost use Rattle.zone_pairs.specs.{pairs_in, AreZones};
+ghost use Rattle.listing_io.specs.{AreListed};
+ghost use Rattle.exact_histories.specs.{HaveOneHistory};
+ghost use Rattle.deck_problems.specs.{AreDecks, AreDeckTables, digits_of};
 ghost use Rattle.check_run.specs.declared.verdict.ListingVerdict.TheVariants.{Certified};
 ghost use Rattle.check_run.specs.Parts.{heads_before, IsVerdictAt, of_barrier, of_build, of_flows};
 ghost use Rattle.check_run.specs.Verdicts.{IsVerdict, ListingEncloses};

@@ -1,10 +1,9 @@
 // The data of a step before it is checked: its constant heads, its problem and the problem's barrier.
 ghost use Rattle.std.specs.Prelude.{◌≡◌, ◌≤◌, Contains, IfOk, IfErr};
-ghost use Rattle.model_types.specs.Times.{times};
-ghost use Rattle.problem_builder.specs.GridHeads.{AreGridHeads};
-ghost use Rattle.deck_problems.specs.Decks.{AreDecks};
-ghost use Rattle.deck_problems.specs.Kept.{AreDeckTables, digits_of};
-ghost use Rattle.check_run.specs.Parts.{ArePosed, IsUnposed};
+ghost use Rattle.model_types.specs.{times};
+ghost use Rattle.problem_builder.specs.{AreGridHeads};
+ghost use Rattle.deck_problems.specs.{AreDecks, AreDeckTables, digits_of};
+ghost use Rattle.check_run.specs.{ArePosed, IsUnposed};
 
 use crate::listing::CheckFault;
 use deck_problems::{DeckTables, Decks, problem_for};

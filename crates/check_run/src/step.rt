@@ -1,15 +1,12 @@
 // The check of one listed step.
 ghost use Rattle.std.specs.Prelude.{◌≡◌, ◌≤◌, Contains, IfOk, IfErr, option_map};
-ghost use Rattle.model_types.specs.Times.{times};
-ghost use Rattle.problem_builder.specs.GridHeads.{AreGridHeads};
-ghost use Rattle.zone_pairs.specs.Pairs.{pairs_in, AreZones};
-ghost use Rattle.listing_io.specs.Laws.{AreFlows};
-ghost use Rattle.deck_problems.specs.Decks.{AreDecks};
-ghost use Rattle.deck_problems.specs.Kept.{AreDeckTables, digits_of};
-ghost use Rattle.listing_run.specs.Listing.{BoundsMoves};
-ghost use Rattle.check_run.specs.Parts.{FailsBy};
-ghost use Rattle.check_run.specs.Steps.{Passes};
-ghost use Rattle.check_run.specs.Verdicts.{checked_task, step_of};
+ghost use Rattle.model_types.specs.{times};
+ghost use Rattle.problem_builder.specs.{AreGridHeads};
+ghost use Rattle.zone_pairs.specs.{pairs_in, AreZones};
+ghost use Rattle.listing_io.specs.{AreFlows};
+ghost use Rattle.deck_problems.specs.{AreDecks, AreDeckTables, digits_of};
+ghost use Rattle.listing_run.specs.{BoundsMoves};
+ghost use Rattle.check_run.specs.{FailsBy, Passes, checked_task, step_of};
 
 use crate::constants::first_unreached;
 use crate::flows::test_flows;

@@ -1,7 +1,7 @@
 // Whether the listed terms are as wide as the budget of the listed heads.
 ghost use Rattle.std.specs.Prelude.{IfOk, IfErr};
-ghost use Rattle.cell_relax.specs.Sides.{AreWords};
-ghost use Rattle.check_run.specs.Parts.{IsCovered, IsUncovered};
+ghost use Rattle.cell_relax.specs.{AreWords};
+ghost use Rattle.check_run.specs.{IsCovered, IsUncovered};
 
 use crate::listing::CheckFault;
 use budget_bounds::{Budget, budget, first_uncovered};

@@ -2,14 +2,12 @@
 ghost use Rattle.std.specs.Prelude.{◌≡◌, ◌<◌, ℕ, length, map, IfOk, IfErr};
 ghost use Rattle.step_problem.specs.declared.heads.Side.{Side};
 ghost use Rattle.step_problem.specs.declared.place.Place.TheVariants.{Cell};
-ghost use Rattle.step_problem.specs.Entries.{entries_at};
-ghost use Rattle.step_problem.specs.Heads.{lower_at, upper_at, IsCertificate};
-ghost use Rattle.cell_balance.specs.Components.{IsHeldBelow};
-ghost use Rattle.cell_balance.specs.Enclosures.{EnclosesSolutions};
-ghost use Rattle.barrier_vector.specs.Cuts.{EnclosesUncut};
-ghost use Rattle.cell_relax.specs.Sides.{AreWords};
-ghost use Rattle.certificate_check.specs.Certificates.{IsFirstFailing};
-ghost use Rattle.step_chain.specs.Steps.{bound_at};
+ghost use Rattle.step_problem.specs.{entries_at, lower_at, upper_at, IsCertificate};
+ghost use Rattle.cell_balance.specs.{IsHeldBelow, EnclosesSolutions};
+ghost use Rattle.barrier_vector.specs.{EnclosesUncut};
+ghost use Rattle.cell_relax.specs.{AreWords};
+ghost use Rattle.certificate_check.specs.{IsFirstFailing};
+ghost use Rattle.step_chain.specs.{bound_at};
 ghost use Rattle.check_run.specs.declared.listing.CheckFault.TheVariants.{Fails};
 
 use crate::listing::CheckFault;

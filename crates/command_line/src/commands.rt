@@ -1,6 +1,6 @@
 ghost use Rattle.std.specs.Prelude.{◌≡◌, IfOk, true};
 ghost use Rattle.clap.specs.Words.{app_of, with_rule, with_subcommand};
-ghost use Rattle.command_line.specs.Commands.{IsLocal, needing, run_app, check_app, make_app, batch_app, write_app, heads_app, word, option, flag, settling};
+ghost use Rattle.command_line.specs.{IsLocal, needing, run_app, check_app, make_app, batch_app, write_app, heads_app, word, option, flag, settling};
 
 use clap::{Arg, ArgAction, Command};
 use std::alloc::{AllocError, Global};

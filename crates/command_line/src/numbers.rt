@@ -1,5 +1,5 @@
 ghost use Rattle.std.specs.Prelude.{◌≡◌, ◌≤◌, option_map, IfSome};
-ghost use Rattle.command_line.specs.Wants.{number_in, number_or, turns_of};
+ghost use Rattle.command_line.specs.{number_in, number_or, turns_of};
 
 use itoa::Buffer;
 

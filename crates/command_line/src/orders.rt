@@ -1,7 +1,6 @@
 ghost use Rattle.std.specs.Prelude.{◌≡◌, map, option_map, option_and_then, IfOk, IfSome, IsErrOf, Some, None, false};
 ghost use Rattle.clap.specs.Words.{rows_of, found_of, first_of, subcommand_rows_of};
-ghost use Rattle.command_line.specs.Ranges.{IsInRange};
-ghost use Rattle.command_line.specs.Wants.{flag_in, unwatched, wanted, wanted_of, run_in, check_in, make_in, batch_in, write_in, command_in};
+ghost use Rattle.command_line.specs.{IsInRange, flag_in, unwatched, wanted, wanted_of, run_in, check_in, make_in, batch_in, write_in, command_in};
 
 use crate::commands::heads_command;
 use crate::numbers::{

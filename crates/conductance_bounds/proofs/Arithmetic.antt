@@ -2,7 +2,7 @@
 use Rattle.conductance_bounds.proofs.Common.{ℕ, zero, suc, ◌+◌, ◌*◌, ◌≤◌, ◌<◌, ◌^◌, arith, ℤ, pos, negsuc, neg_ℤ, ◌+ℤ◌, ◌-ℤ◌, unsigned_abs, int_min, int_max}
 use Rattle.conductance_bounds.proofs.Common.{ints, clamps, AtMost, plus, times, over, up, down, AtMost-trans, plus-AtMost, times-AtMost, over-AtMost, ten_pos}
 use Rattle.conductance_bounds.proofs.Common.{cross_of, Sd, value, IsDown, IsUp, IsNear, HasSize, Span, IsOrdered, reach, mul-pos, AreOperands}
-use Rattle.scaled_decimal.specs.Nearest.{IsWithin}
+use Rattle.scaled_decimal.specs.{IsWithin}
 use Rattle.conductance_bounds.proofs.Enclosing.{positive_value}
 
 near_by : (e : ℤ) (n : ℕ) → unsigned_abs e ≤ n → IsNear e n

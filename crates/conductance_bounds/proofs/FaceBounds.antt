@@ -3,10 +3,9 @@ use Rattle.conductance_bounds.proofs.Common.{◌≡◌, ℕ, zero, suc, ◌+◌,
 use Rattle.conductance_bounds.proofs.Common.{cases_Bool, ints, number, size, Encloses, Fraction, FlowModel, cell_count, layer_size, gap, dec_at, is_active}
 use Rattle.conductance_bounds.proofs.Common.{has_bed, bottom_at, lowest, delr_at, delc_at, thickness, bed_thickness, hk_at, vka_at, vkcb_at, is_ratio}
 use Rattle.conductance_bounds.proofs.Common.{row_conductance, column_conductance, vertical_half, vertical_conductance, conductance, IsModel, Span, Number}
-use Rattle.conductance_bounds.proofs.Common.{IsPair, face_term, column_k_term, times-positive, stride}
+use Rattle.conductance_bounds.proofs.Common.{IsPair, face_term, column_k_term, times-positive, stride, AreSpanned}
 use Rattle.model_types.specs.declared.face.Axis.{Axis}
 use Rattle.model_types.specs.declared.face.Axis.TheVariants.{Row, Column, Vertical}
-use Rattle.conductance_bounds.specs.ModelLaws.{AreSpanned}
 use Rattle.conductance_bounds.proofs.LayerBounds.{IsLayerHalf, IsBedded, layers_enclose, is_some, is_zero}
 use Rattle.conductance_bounds.proofs.Manual.{row_pair_encloses}
 use Rattle.conductance_bounds.proofs.Positive.{size_positive}

@@ -3,9 +3,7 @@ use Rattle.conductance_bounds.proofs.Common.{◌≡◌, ℕ, ◌-◌, ◌<◌, �
 use Rattle.conductance_bounds.proofs.Common.{Ratio, times, over, Given, FlowModel, Period, cell_count, between_heads, area, dec_at, delr_at, delc_at, is_active}
 use Rattle.conductance_bounds.proofs.Common.{top_at, bottom_at, thickness, IsPositive, geometric, power, passed, IsModel, IsTimed, Span, exact, Holds}
 use Rattle.conductance_bounds.proofs.Common.{IsBetween, IsSpan, IsPair, IsFlow, IsPart, IsGivenPair, storativity_term, thick_term, storage_term, recharge_term}
-use Rattle.conductance_bounds.proofs.Common.{evap_term}
-use Rattle.model_types.specs.Receivers.{EvapSource, recharge_flow, evap_conductance}
-use Rattle.model_types.specs.Storage.{storativity, storage}
+use Rattle.conductance_bounds.proofs.Common.{evap_term, EvapSource, recharge_flow, evap_conductance, storativity, storage}
 use Rattle.conductance_bounds.proofs.Enclosing.{pair_encloses}
 use Rattle.conductance_bounds.proofs.GivenHeads.{head_encloses}
 use Rattle.conductance_bounds.proofs.PartBounds.{part_encloses, multiplier_positive}

@@ -3,7 +3,7 @@ use Rattle.conductance_bounds.proofs.Common.{ℕ, Option, Some, None, IfSome, De
 use Rattle.conductance_bounds.proofs.Common.{column_k, column_exact, IsHalf, IsColHalf, IsWholePair, times-positive}
 use Rattle.conductance_bounds.specs.declared.horizontal.Half.{Half}
 use Rattle.conductance_bounds.specs.declared.horizontal.ColHalf.{ColHalf}
-use Rattle.conductance_bounds.specs.Branches.{row_of, column_of}
+use Rattle.conductance_bounds.specs.{row_of, column_of}
 use Rattle.conductance_bounds.proofs.Manual.{row_pair_encloses}
 use Rattle.conductance_bounds.proofs.Positive.{size_positive, positive_between}
 

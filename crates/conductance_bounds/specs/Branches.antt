@@ -2,12 +2,11 @@
 -- it bounds, in the manual's form (TM 6-A16, chapters 5 and 6).
 use Rattle.std.specs.Prelude.{ℕ, ◌-◌, ◌==◌, Bool, cond, Option, Some, None}
 use Rattle.decimal_input.specs.declared.dec.Dec.{Dec}
-use Rattle.decimal_input.specs.Decimals.{number, size}
-use Rattle.decimal_input.specs.Ratios.{Ratio, plus, times, over}
-use Rattle.decimal_input.specs.Fractions.{Fraction, signed, times as product}
+use Rattle.decimal_input.specs.{number, size, Ratio, over, Fraction, signed}
+use Rattle.decimal_input.specs.Ratios.{plus, times}
+use Rattle.decimal_input.specs.Fractions.{times as product}
 use Rattle.scaled_decimal.specs.declared.decimal.Sd.{Sd}
-use Rattle.model_types.specs.Conductances.{one, two, half, in_a_row}
-use Rattle.model_types.specs.Times.{power, geometric}
+use Rattle.model_types.specs.{one, two, half, in_a_row, power, geometric}
 use Rattle.conductance_bounds.specs.declared.horizontal.Half.{Half}
 use Rattle.conductance_bounds.specs.declared.horizontal.ColHalf.{ColHalf}
 use Rattle.conductance_bounds.specs.declared.vertical.VertHalf.{VertHalf}

@@ -1,8 +1,8 @@
 -- What single calls require of their numbers.
 use Rattle.std.specs.Prelude.{◌≡◌, ◌⊎◌, pos, Option, IfSome}
-use Rattle.decimal_input.specs.Ratios.{Ratio}
+use Rattle.decimal_input.specs.{Ratio}
 use Rattle.scaled_decimal.specs.declared.decimal.Sd.{Sd}
-use Rattle.model_types.specs.Grids.{IsPositive}
+use Rattle.model_types.specs.{IsPositive}
 use Rattle.conductance_bounds.specs.declared.horizontal.Half.{Half}
 use Rattle.conductance_bounds.specs.declared.horizontal.ColHalf.{ColHalf}
 use Rattle.conductance_bounds.specs.declared.vertical.VertHalf.{VertHalf}

@@ -1,19 +1,18 @@
 -- The formulas of a model's bounds: those of single calls, with the numbers of its cells and with the exact thicknesses.
 use Rattle.std.specs.Prelude.{ℕ, ◌+◌, ◌-◌, ◌==◌, cond, Some, None}
 use Rattle.decimal_input.specs.declared.dec.Dec.{Dec}
-use Rattle.decimal_input.specs.Decimals.{size}
+use Rattle.decimal_input.specs.{size}
 use Rattle.model_types.specs.declared.face.Axis.{Axis}
 use Rattle.model_types.specs.declared.face.Axis.TheVariants.{Row, Column, Vertical}
 use Rattle.model_types.specs.declared.model.FlowModel.{FlowModel}
 use Rattle.model_types.specs.declared.period.Period.{Period}
-use Rattle.model_types.specs.Faces.{stride}
-use Rattle.model_types.specs.Layers.{dec_at, delr_at, delc_at, thickness, bed_thickness, hk_at, hani_at, vka_at, is_ratio, vkcb_at}
+use Rattle.model_types.specs.{stride, dec_at, delr_at, delc_at, thickness, bed_thickness, hk_at, hani_at, vka_at, is_ratio, vkcb_at}
 use Rattle.conductance_bounds.specs.declared.span.Span.{Span}
 use Rattle.conductance_bounds.specs.Terms.{Term}
 use Rattle.conductance_bounds.specs.Terms.Term.{Number, Within, Product, Quotient}
 use Rattle.conductance_bounds.specs.Parts.{sum_term, power_term}
-use Rattle.conductance_bounds.specs.Branches.{row_term, area_formula, vertical_k_term, vertical_term, resistance_sum}
-use Rattle.conductance_bounds.specs.Branches.{storativity_term, storage_formula, recharge_formula, evap_formula}
+use Rattle.conductance_bounds.specs.Branches.{row_term, area_formula, vertical_k_term, vertical_term, resistance_sum, storativity_term, storage_formula}
+use Rattle.conductance_bounds.specs.Branches.{recharge_formula, evap_formula}
 
 module _ (m : FlowModel) where
   abbrev pub column_k_term : ℕ → Term

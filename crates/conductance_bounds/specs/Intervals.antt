@@ -1,7 +1,7 @@
 -- What the arithmetic on spans keeps.
 use Rattle.std.specs.Prelude.{ℕ, max, unsigned_abs}
 use Rattle.decimal_input.specs.Ratios.{AtMost}
-use Rattle.scaled_decimal.specs.Nearest.{IsSd, value}
+use Rattle.scaled_decimal.specs.{IsSd, value}
 use Rattle.conductance_bounds.specs.declared.span.Span.{Span}
 use Rattle.conductance_bounds.specs.Terms.{Term, IsBound}
 use Rattle.conductance_bounds.specs.Terms.Side.{Lower, Upper}

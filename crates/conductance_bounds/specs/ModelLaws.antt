@@ -2,20 +2,13 @@
 -- recharge, of an evapotranspiration or of a given head encloses the exact value.
 use Rattle.std.specs.Prelude.{◌≡◌, ℕ, ◌+◌, ◌<◌, ◌≤◌, true, false, ℤ}
 use Rattle.decimal_input.specs.declared.dec.Dec.{Dec}
-use Rattle.decimal_input.specs.Wholes.{Encloses, EnclosesSigned}
+use Rattle.decimal_input.specs.{Encloses, EnclosesSigned}
 use Rattle.model_types.specs.declared.entry.Given.{Given}
 use Rattle.model_types.specs.declared.face.Axis.{Axis}
 use Rattle.model_types.specs.declared.model.FlowModel.{FlowModel}
 use Rattle.model_types.specs.declared.period.Period.{Period}
-use Rattle.model_types.specs.Faces.{cell_count, layer_size, stride}
-use Rattle.model_types.specs.Conductances.{conductance}
-use Rattle.model_types.specs.Heads.{between_heads}
-use Rattle.model_types.specs.Layers.{is_active, top_at, bottom_at, lowest, bed_thickness}
-use Rattle.model_types.specs.Grids.{IsPositive}
-use Rattle.model_types.specs.Receivers.{EvapSource, recharge_flow, evap_conductance}
-use Rattle.model_types.specs.Storage.{storage}
-use Rattle.model_types.specs.Times.{passed}
-use Rattle.model_types.specs.Valid.{IsTimed}
+use Rattle.model_types.specs.{cell_count, layer_size, stride, conductance, between_heads, is_active, top_at, bottom_at, lowest, bed_thickness, IsPositive}
+use Rattle.model_types.specs.{EvapSource, recharge_flow, evap_conductance, storage, passed, IsTimed}
 use Rattle.conductance_bounds.specs.declared.span.Span.{Span}
 use Rattle.conductance_bounds.specs.Thicknesses.{IsSpan}
 use Rattle.conductance_bounds.specs.Pairs.{IsPair, IsFlow}

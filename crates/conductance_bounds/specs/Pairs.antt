@@ -1,8 +1,8 @@
 -- Two whole bounds of a formula.
 use Rattle.std.specs.Prelude.{◌≡◌, ℕ, ◌-◌, ◌^◌, ◌<◌, ◌⊎◌, ℤ, pos, neg_ℤ, Bool, true, false, Option, Some, None, unsigned_abs}
-use Rattle.decimal_input.specs.Wholes.{IsFloor, IsCeiling, Passes}
+use Rattle.decimal_input.specs.{IsFloor, IsCeiling, Passes}
 use Rattle.scaled_decimal.specs.declared.decimal.Sd.{Sd}
-use Rattle.scaled_decimal.specs.Nearest.{value}
+use Rattle.scaled_decimal.specs.{value}
 use Rattle.conductance_bounds.specs.declared.pair.Pair.{Pair}
 use Rattle.conductance_bounds.specs.declared.pair.FlowPair.{FlowPair}
 use Rattle.conductance_bounds.specs.Terms.{Term, IsBound}

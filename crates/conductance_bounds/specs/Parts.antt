@@ -2,18 +2,15 @@
 use Rattle.std.specs.Prelude.{◌≡◌, ℕ, ◌-◌, ◌*◌, ◌≤◌, ◌^◌, ◌⊎◌, ℤ, pos, neg_ℤ, ◌+ℤ◌, ◌*ℤ◌, ◌≤ℤ◌, ◌<ℤ◌, Bool, true, false, ◌||◌, ◌==◌, min, zero, suc}
 use Rattle.std.specs.Int.{int_min, int_max}
 use Rattle.decimal_input.specs.declared.dec.Dec.{Dec}
-use Rattle.decimal_input.specs.Decimals.{number, size}
-use Rattle.decimal_input.specs.Ratios.{Ratio, den, ratio, AtMost}
-use Rattle.decimal_input.specs.Wholes.{IsFloor, IsCeiling, IsSignedFloor, IsSignedCeiling}
+use Rattle.decimal_input.specs.{number, size, Ratio, ratio, IsFloor, IsCeiling, IsSignedFloor, IsSignedCeiling}
+use Rattle.decimal_input.specs.Ratios.{den, AtMost}
 use Rattle.scaled_decimal.specs.declared.decimal.Sd.{Sd}
-use Rattle.scaled_decimal.specs.Nearest.{value, IsSd, HasSize}
+use Rattle.scaled_decimal.specs.{value, IsSd, HasSize}
 use Rattle.model_types.specs.declared.period.Period.{Period}
-use Rattle.model_types.specs.Times.{multiplier}
+use Rattle.model_types.specs.{multiplier, one, number_one}
 use Rattle.conductance_bounds.specs.Terms.{Term, IsBound}
 use Rattle.conductance_bounds.specs.Terms.Side.{Lower, Upper}
 use Rattle.conductance_bounds.specs.Terms.Term.{Quotient, Number, Sum, Product}
-use Rattle.model_types.specs.Conductances.{one}
-use Rattle.model_types.specs.Valid.{number_one}
 use Rattle.conductance_bounds.specs.declared.storage.Factors.{Factors}
 
 -- The factors of growing time steps. With T for TSMULT the steps of a period have the lengths 1, T, T ^ 2, .. in units of the first one.

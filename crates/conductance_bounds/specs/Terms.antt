@@ -1,8 +1,9 @@
 -- A formula is data: what is added, multiplied and divided in which order. The exact value and both rounded bounds are defined from the same formula.
 use Rattle.std.specs.Prelude.{◌≡◌, ◌<◌}
-use Rattle.decimal_input.specs.Ratios.{Ratio, plus, times, over, AtMost, Same}
+use Rattle.decimal_input.specs.{Ratio, over}
+use Rattle.decimal_input.specs.Ratios.{plus, times, AtMost, Same}
 use Rattle.scaled_decimal.specs.declared.decimal.Sd.{Sd}
-use Rattle.scaled_decimal.specs.Nearest.{IsSd, value, IsDown, IsUp}
+use Rattle.scaled_decimal.specs.{IsSd, value, IsDown, IsUp}
 
 -- exact numbers, numbers that are known to lie between two decimals, and operations on them
 pub data Term : Type 0 where

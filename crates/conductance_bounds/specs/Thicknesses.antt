@@ -1,11 +1,10 @@
 -- The two decimals between which a thickness is known.
 use Rattle.std.specs.Prelude.{ℤ, pos, neg_ℤ, ◌-ℤ◌, unsigned_abs}
 use Rattle.decimal_input.specs.declared.dec.Dec.{Dec}
-use Rattle.decimal_input.specs.Decimals.{number, scaled}
+use Rattle.decimal_input.specs.{number, scaled, IsSignedFloor, IsSignedCeiling}
 use Rattle.decimal_input.specs.Ratios.{AtMost}
-use Rattle.decimal_input.specs.Wholes.{IsSignedFloor, IsSignedCeiling}
 use Rattle.scaled_decimal.specs.declared.decimal.Sd.{Sd}
-use Rattle.scaled_decimal.specs.Nearest.{IsSd, HasSize, value, IsDown, IsUp}
+use Rattle.scaled_decimal.specs.{IsSd, HasSize, value, IsDown, IsUp}
 use Rattle.conductance_bounds.specs.declared.span.Span.{Span}
 
 -- the decimals of the thickness between two elevations: from their floors and ceilings in units of 10 ^ -18, rounded to 18 digits

@@ -1,9 +1,8 @@
 // The area of a cell.
 ghost use Rattle.std.specs.Prelude.{◌<◌, ◌≤◌};
-ghost use Rattle.decimal_input.specs.Decimals.{size};
-ghost use Rattle.model_types.specs.Grids.{IsPositive};
-ghost use Rattle.conductance_bounds.specs.Branches.{area_formula};
-ghost use Rattle.conductance_bounds.specs.Intervals.{IsOrdered, reach, AreBounds};
+ghost use Rattle.decimal_input.specs.{size};
+ghost use Rattle.model_types.specs.{IsPositive};
+ghost use Rattle.conductance_bounds.specs.{area_formula, IsOrdered, reach, AreBounds};
 
 use crate::interval::exact_span;
 use crate::span::Span;

@@ -1,10 +1,8 @@
 // Evapotranspiration as a conductance.
 ghost use Rattle.std.specs.Prelude.{◌≤◌, IfSome};
-ghost use Rattle.decimal_input.specs.Decimals.{size};
-ghost use Rattle.decimal_input.specs.Wholes.{Encloses};
-ghost use Rattle.model_types.specs.Grids.{IsPositive, IsNotNegative};
-ghost use Rattle.conductance_bounds.specs.Branches.{evap_formula, evap_exact};
-ghost use Rattle.conductance_bounds.specs.Pairs.{IsWholePair};
+ghost use Rattle.decimal_input.specs.{size, Encloses};
+ghost use Rattle.model_types.specs.{IsPositive, IsNotNegative};
+ghost use Rattle.conductance_bounds.specs.{evap_formula, evap_exact, IsWholePair};
 
 use crate::area::area;
 use crate::interval::exact_span;

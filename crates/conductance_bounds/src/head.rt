@@ -1,13 +1,10 @@
 // A head given at the start and at the end of a stress period.
 ghost use Rattle.std.specs.Prelude.{◌≡◌, ◌≤◌, ◌^◌, ℤ, FitsSigned, ◌*◌, pos, ◌*ℤ◌};
 ghost use Rattle.std.specs.Int.{w64};
-ghost use Rattle.decimal_input.specs.Decimals.{IsDec, number};
-ghost use Rattle.decimal_input.specs.Wholes.{EnclosesSigned, IsSignedFloor, IsSignedCeiling};
-ghost use Rattle.decimal_input.specs.Ratios.{Ratio};
+ghost use Rattle.decimal_input.specs.{IsDec, number, EnclosesSigned, IsSignedFloor, IsSignedCeiling, Ratio};
 ghost use Rattle.model_types.specs.declared.entry.Given.{Given};
-ghost use Rattle.model_types.specs.Grids.{IsHeadNumber};
-ghost use Rattle.model_types.specs.Heads.{between_heads};
-ghost use Rattle.conductance_bounds.specs.Parts.{IsPassed, IsHeadUnits, IsGivenPair, IsWithin, blend, IsFloorOf, IsCeilingOf};
+ghost use Rattle.model_types.specs.{IsHeadNumber, between_heads};
+ghost use Rattle.conductance_bounds.specs.{IsPassed, IsHeadUnits, IsGivenPair, IsWithin, blend, IsFloorOf, IsCeilingOf};
 
 use crate::part::{Part, WHOLE};
 use decimal_input::dec::Dec;

@@ -1,16 +1,9 @@
 // Branches along rows and columns.
 ghost use Rattle.std.specs.Prelude.{◌<◌, ◌≤◌, IfSome};
-ghost use Rattle.decimal_input.specs.Decimals.{size};
-ghost use Rattle.decimal_input.specs.Wholes.{Encloses};
-ghost use Rattle.decimal_input.specs.Ratios.{Ratio};
-ghost use Rattle.model_types.specs.Grids.{IsPositive};
-ghost use Rattle.model_types.specs.Conductances.{one};
-ghost use Rattle.conductance_bounds.specs.Terms.{Term, IsBetween};
-ghost use Rattle.conductance_bounds.specs.Terms.Term.{Number, Sum, Quotient};
-ghost use Rattle.conductance_bounds.specs.Intervals.{IsOrdered, reach, AreBounds};
-ghost use Rattle.conductance_bounds.specs.Branches.{half_term, column_k, row_of, row_exact, column_of, column_exact};
-ghost use Rattle.conductance_bounds.specs.Pairs.{IsWholePair};
-ghost use Rattle.conductance_bounds.specs.Calls.{IsHalf, IsColHalf};
+ghost use Rattle.decimal_input.specs.{size, Encloses, Ratio};
+ghost use Rattle.model_types.specs.{IsPositive, one};
+ghost use Rattle.conductance_bounds.specs.{Term, IsBetween, Number, Sum, Quotient, IsOrdered, reach, AreBounds, half_term, column_k, row_of, row_exact};
+ghost use Rattle.conductance_bounds.specs.{column_of, column_exact, IsWholePair, IsHalf, IsColHalf};
 
 use crate::interval::{exact_span, one, span_of};
 use crate::pair::{Pair, rounded_pair};

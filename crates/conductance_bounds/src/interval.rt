@@ -1,16 +1,12 @@
 // Arithmetic on spans. Each operation is rounded down for the lower decimal and up for the upper one.
 ghost use Rattle.std.specs.Prelude.{◌≡◌, ◌+◌, ◌<◌, ◌≤◌, ℕ, false, pos, neg_ℤ, ◌+ℤ◌};
 ghost use Rattle.std.specs.Int.{int_max};
-ghost use Rattle.decimal_input.specs.Decimals.{IsDec, size};
-ghost use Rattle.decimal_input.specs.Ratios.{Ratio, AtMost};
-ghost use Rattle.scaled_decimal.specs.Nearest.{IsSd, HasSize, value};
-ghost use Rattle.model_types.specs.Conductances.{one};
-ghost use Rattle.conductance_bounds.specs.Parts.{AreFactors};
-ghost use Rattle.conductance_bounds.specs.Terms.{Term, IsBound};
-ghost use Rattle.conductance_bounds.specs.Terms.Side.{Lower, Upper};
-ghost use Rattle.conductance_bounds.specs.Terms.Term.{Number, Within, Sum, Product, Quotient};
-ghost use Rattle.conductance_bounds.specs.Thicknesses.{AreThick};
-ghost use Rattle.conductance_bounds.specs.Intervals.{IsOrdered, reach, AreBounds};
+ghost use Rattle.decimal_input.specs.{IsDec, size, Ratio};
+ghost use Rattle.decimal_input.specs.Ratios.{AtMost};
+ghost use Rattle.scaled_decimal.specs.{IsSd, HasSize, value};
+ghost use Rattle.model_types.specs.{one};
+ghost use Rattle.conductance_bounds.specs.{AreFactors, Term, IsBound, Lower, Upper, Number, Within, Sum, Product, Quotient, AreThick, IsOrdered, reach};
+ghost use Rattle.conductance_bounds.specs.{AreBounds};
 
 use crate::span::Span;
 use decimal_input::dec::Dec;

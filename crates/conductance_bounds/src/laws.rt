@@ -1,9 +1,9 @@
 // How the bounds of a valid model enclose its exact numbers.
 ghost use Rattle.std.specs.Prelude.{ℕ};
 ghost use Rattle.model_types.specs.declared.model.FlowModel.{FlowModel};
-ghost use Rattle.model_types.specs.Valid.{IsModel};
+ghost use Rattle.model_types.specs.{IsModel};
 ghost use Rattle.conductance_bounds.specs.declared.span.Span.{Span as Decimals};
-ghost use Rattle.conductance_bounds.specs.ModelLaws.{AreSpanned, FacesEnclose, StoragesEnclose, RechargesEnclose, EvapsEnclose, HeadsEnclose};
+ghost use Rattle.conductance_bounds.specs.{AreSpanned, FacesEnclose, StoragesEnclose, RechargesEnclose, EvapsEnclose, HeadsEnclose};
 
 /// The pairs of a valid model's faces enclose the manual's conductances.
 pub fn faces_enclose()

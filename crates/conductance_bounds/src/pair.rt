@@ -1,10 +1,7 @@
 // Two whole bounds.
-ghost use Rattle.decimal_input.specs.Decimals.{size};
-ghost use Rattle.model_types.specs.Grids.{IsNotNegative};
-ghost use Rattle.conductance_bounds.specs.Terms.{Term};
-ghost use Rattle.conductance_bounds.specs.Terms.Term.{Number};
-ghost use Rattle.conductance_bounds.specs.Pairs.{IsWholePair};
-ghost use Rattle.conductance_bounds.specs.Intervals.{IsOrdered, AreBounds};
+ghost use Rattle.decimal_input.specs.{size};
+ghost use Rattle.model_types.specs.{IsNotNegative};
+ghost use Rattle.conductance_bounds.specs.{Term, Number, IsWholePair, IsOrdered, AreBounds};
 
 use crate::interval::exact_span;
 use crate::span::Span;

@@ -1,13 +1,10 @@
 // The part of a stress period that has passed.
 ghost use Rattle.std.specs.Prelude.{◌≡◌, ℕ, ◌-◌, ◌<◌, ◌≤◌, ◌^◌, min};
 ghost use Rattle.decimal_input.specs.Ratios.{AtMost};
-ghost use Rattle.decimal_input.specs.Wholes.{IsFloor, IsCeiling};
-ghost use Rattle.scaled_decimal.specs.Nearest.{IsSd, value};
-ghost use Rattle.model_types.specs.Conductances.{one};
-ghost use Rattle.model_types.specs.Times.{multiplier, passed};
-ghost use Rattle.model_types.specs.Valid.{IsTimed};
-ghost use Rattle.conductance_bounds.specs.Parts.{sum_term, is_whole, IsPart, IsPassed};
-ghost use Rattle.conductance_bounds.specs.Intervals.{IsOrdered, reach, AreBounds};
+ghost use Rattle.decimal_input.specs.{IsFloor, IsCeiling};
+ghost use Rattle.scaled_decimal.specs.{IsSd, value};
+ghost use Rattle.model_types.specs.{one, multiplier, passed, IsTimed};
+ghost use Rattle.conductance_bounds.specs.{sum_term, is_whole, IsPart, IsPassed, IsOrdered, reach, AreBounds};
 
 use crate::span::Span;
 use crate::storage::sum_of;

@@ -1,13 +1,8 @@
 // Recharge over a cell's area, and flows of the input.
 ghost use Rattle.std.specs.Prelude.{◌≡◌, ◌+◌, ◌<◌, ◌≤◌, ◌^◌, pos, neg_ℤ, IfSome};
-ghost use Rattle.decimal_input.specs.Decimals.{IsDec, size};
-ghost use Rattle.decimal_input.specs.Wholes.{EnclosesSigned};
-ghost use Rattle.model_types.specs.Grids.{IsPositive};
-ghost use Rattle.conductance_bounds.specs.Terms.{Term};
-ghost use Rattle.conductance_bounds.specs.Terms.Term.{Number};
-ghost use Rattle.conductance_bounds.specs.Intervals.{IsOrdered, reach, AreBounds};
-ghost use Rattle.conductance_bounds.specs.Branches.{recharge_formula, recharge_exact};
-ghost use Rattle.conductance_bounds.specs.Pairs.{IsFlowPair};
+ghost use Rattle.decimal_input.specs.{IsDec, size, EnclosesSigned};
+ghost use Rattle.model_types.specs.{IsPositive};
+ghost use Rattle.conductance_bounds.specs.{Term, Number, IsOrdered, reach, AreBounds, recharge_formula, recharge_exact, IsFlowPair};
 
 use crate::interval::exact_span;
 use crate::pair::FlowPair;

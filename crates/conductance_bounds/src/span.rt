@@ -1,11 +1,8 @@
 // The two decimals between which a number is known.
 ghost use Rattle.std.specs.Prelude.{ℤ, ◌<◌, ◌^◌, unsigned_abs};
-ghost use Rattle.decimal_input.specs.Decimals.{IsDec, number};
-ghost use Rattle.decimal_input.specs.Wholes.{IsSignedFloor, IsSignedCeiling};
-ghost use Rattle.model_types.specs.Layers.{gap};
-ghost use Rattle.model_types.specs.Grids.{IsThick};
-ghost use Rattle.conductance_bounds.specs.Terms.{IsBetween};
-ghost use Rattle.conductance_bounds.specs.Thicknesses.{IsSpan, AreThick};
+ghost use Rattle.decimal_input.specs.{IsDec, number, IsSignedFloor, IsSignedCeiling};
+ghost use Rattle.model_types.specs.{gap, IsThick};
+ghost use Rattle.conductance_bounds.specs.{IsBetween, IsSpan, AreThick};
 
 use decimal_input::dec::Dec;
 use decimal_input::units::{ceil_at, floor_at};

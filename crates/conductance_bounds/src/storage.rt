@@ -1,15 +1,9 @@
 // Storage of a time step.
 ghost use Rattle.std.specs.Prelude.{ℕ, ◌<◌, ◌≤◌, IfSome, ◌≡◌, ◌+◌, ◌-◌, MatchBool};
-ghost use Rattle.decimal_input.specs.Decimals.{size};
-ghost use Rattle.decimal_input.specs.Wholes.{Encloses};
-ghost use Rattle.decimal_input.specs.Ratios.{Ratio};
-ghost use Rattle.model_types.specs.Grids.{IsPositive, IsNotNegative};
-ghost use Rattle.conductance_bounds.specs.Intervals.{IsOrdered, reach, AreBounds};
-ghost use Rattle.conductance_bounds.specs.Parts.{IsUsable, IsGrown, sum_term, power_term, IsSlow, IsMultiplier, AreFactors};
-ghost use Rattle.conductance_bounds.specs.Branches.{storativity_term, thickness_of, storage_of, storage_exact};
-ghost use Rattle.conductance_bounds.specs.Pairs.{IsWholePair};
-ghost use Rattle.conductance_bounds.specs.Calls.{IsThickness, LiesWithin};
-ghost use Rattle.model_types.specs.Valid.{number_one};
+ghost use Rattle.decimal_input.specs.{size, Encloses, Ratio};
+ghost use Rattle.model_types.specs.{IsPositive, IsNotNegative, number_one};
+ghost use Rattle.conductance_bounds.specs.{IsOrdered, reach, AreBounds, IsUsable, IsGrown, sum_term, power_term, IsSlow, IsMultiplier, AreFactors};
+ghost use Rattle.conductance_bounds.specs.{storativity_term, thickness_of, storage_of, storage_exact, IsWholePair, IsThickness, LiesWithin};
 
 use crate::area::area;
 use crate::interval::{exact_span, factor, one, span_of};

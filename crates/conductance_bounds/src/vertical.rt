@@ -1,14 +1,9 @@
 // Branches from layer to layer.
 ghost use Rattle.std.specs.Prelude.{◌<◌, ◌≤◌, ◌==◌, IfSome};
-ghost use Rattle.decimal_input.specs.Decimals.{size};
-ghost use Rattle.decimal_input.specs.Wholes.{Encloses};
-ghost use Rattle.decimal_input.specs.Ratios.{Ratio};
-ghost use Rattle.model_types.specs.Grids.{IsPositive};
-ghost use Rattle.conductance_bounds.specs.Terms.{Term, IsBetween};
-ghost use Rattle.conductance_bounds.specs.Intervals.{IsOrdered, reach, AreBounds};
-ghost use Rattle.conductance_bounds.specs.Branches.{vertical_k_term, resistance_sum, vertical_half_of, bed_of, vertical_of, vertical_exact};
-ghost use Rattle.conductance_bounds.specs.Pairs.{IsWholePair};
-ghost use Rattle.conductance_bounds.specs.Calls.{IsVertHalf, IsBed};
+ghost use Rattle.decimal_input.specs.{size, Encloses, Ratio};
+ghost use Rattle.model_types.specs.{IsPositive};
+ghost use Rattle.conductance_bounds.specs.{Term, IsBetween, IsOrdered, reach, AreBounds, vertical_k_term, resistance_sum, vertical_half_of, bed_of};
+ghost use Rattle.conductance_bounds.specs.{vertical_of, vertical_exact, IsWholePair, IsVertHalf, IsBed};
 
 use crate::area::area;
 use crate::interval::{exact_span, span_of};

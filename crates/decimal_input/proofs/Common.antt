@@ -12,16 +12,14 @@ pub use Rattle.std.proofs.lemmas.List.Folds.{length-prefix_len, prefix_len-appen
 pub use Rattle.std.proofs.lemmas.List.Sums.{prefix_len_is, prefix_len_passes}
 pub use Rattle.std.proofs.lemmas.Nat.{pow-add}
 pub use Rattle.std.specs.List.{prefix_len}
-pub use Rattle.decimal_input.specs.Decimals.{IsDec, decimal, down, number, size, up, with_sign}
-unfoldable pub use Rattle.decimal_input.specs.Decimals.{scaled}
-pub use Rattle.decimal_input.specs.Fractions.{Fraction, IsOver, negated}
-pub use Rattle.decimal_input.specs.Grammar.{AreDigits, IsExponent, IsInteger, IsPart, IsSign, Spelling, Spells, behind, behind_part, digits_of, exponent_of}
-pub use Rattle.decimal_input.specs.Grammar.{integer_of, is_digit, is_mark, is_negative, is_sign, number_from, part_of, spelling, spelt, unsigned, whole_number}
-pub use Rattle.decimal_input.specs.Outcomes.{IsCanonical, IsCap, IsCapped, IsOf, IsTested, IsTrimmed, Names, differ}
-pub use Rattle.decimal_input.specs.Ratios.{AtMost, Below, Ratio, Same, den}
-unfoldable pub use Rattle.decimal_input.specs.Ratios.{over, plus, ratio, times}
-pub use Rattle.decimal_input.specs.Wholes.{EnclosesSigned, IsBetweenSigned, IsCeiling, IsCeilingPast, IsFloor, IsFloorPast, IsSignedCeiling, IsSignedFloor}
-pub use Rattle.decimal_input.specs.Wholes.{Passes, Reaches}
+pub use Rattle.decimal_input.specs.{AreDigits, Below, EnclosesSigned, Fraction, IsBetweenSigned, IsCanonical, IsCap, IsCapped, IsCeiling, IsCeilingPast, IsDec}
+pub use Rattle.decimal_input.specs.{IsExponent, IsFloor, IsFloorPast, IsInteger, IsOf, IsOver, IsPart, IsSign, IsSignedCeiling, IsSignedFloor, IsTested}
+pub use Rattle.decimal_input.specs.{IsTrimmed, Names, Passes, Ratio, Reaches, Spelling, Spells, behind, behind_part, decimal, differ, digits_of, down}
+pub use Rattle.decimal_input.specs.{exponent_of, integer_of, is_digit, is_mark, is_negative, is_sign, negated, number, number_from, part_of, size, spelling}
+pub use Rattle.decimal_input.specs.{spelt, unsigned, up, whole_number, with_sign}
+unfoldable pub use Rattle.decimal_input.specs.{over, ratio, scaled}
+pub use Rattle.decimal_input.specs.Ratios.{AtMost, Same, den}
+unfoldable pub use Rattle.decimal_input.specs.Ratios.{plus, times}
 pub use Rattle.decimal_input.specs.declared.coefficient.Coefficient.{Coefficient}
 pub use Rattle.decimal_input.specs.declared.dec.Dec.{Dec}
 pub use Rattle.decimal_input.specs.declared.dec.NumFault.{NumFault}

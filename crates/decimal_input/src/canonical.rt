@@ -1,7 +1,6 @@
 // The canonical form of a number.
 ghost use Rattle.std.specs.Prelude.{ℕ, ◌<◌, ◌≤◌, ◌^◌, ℤ, pos, neg_ℤ, ◌≤ℤ◌, IfOk};
-ghost use Rattle.decimal_input.specs.Outcomes.{IsOf, IsCanonical};
-ghost use Rattle.decimal_input.specs.Decimals.{IsDec};
+ghost use Rattle.decimal_input.specs.{IsOf, IsCanonical, IsDec};
 
 use crate::coefficient::Coefficient;
 use crate::dec::{Dec, NumFault};

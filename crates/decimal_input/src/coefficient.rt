@@ -1,7 +1,6 @@
 // The digits of a number, without its leading and trailing zeros.
 ghost use Rattle.std.specs.Prelude.{◌≡◌, ℕ, ◌+◌, ◌*◌, ◌<◌, ◌≤◌, ◌^◌, length, slice_index, true};
-ghost use Rattle.decimal_input.specs.Outcomes.{IsOf};
-ghost use Rattle.decimal_input.specs.Grammar.{number_from, is_digit};
+ghost use Rattle.decimal_input.specs.{IsOf, number_from, is_digit};
 
 /// A word with more digits than this names no number.
 pub const LIMIT: u128 = 1_000_000_000_000_000_000;

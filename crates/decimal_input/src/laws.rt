@@ -1,7 +1,6 @@
 // Laws of numbers. Each is the contract of an empty function.
-ghost use Rattle.decimal_input.specs.Laws.{FloorsAndCeilingsEnclose, FloorsKeepOrder, CeilingsKeepOrder};
-ghost use Rattle.decimal_input.specs.Laws.{OneCanonicalForm, WordsNameOneThing, OperationsKeepOrder};
-ghost use Rattle.decimal_input.specs.Laws.{BoundsHoldOverADenominator};
+ghost use Rattle.decimal_input.specs.{FloorsAndCeilingsEnclose, FloorsKeepOrder, CeilingsKeepOrder, OneCanonicalForm, WordsNameOneThing, OperationsKeepOrder};
+ghost use Rattle.decimal_input.specs.{BoundsHoldOverADenominator};
 
 /// A number lies between its floor and its ceiling, in units of any size.
 pub fn floors_and_ceilings_enclose()

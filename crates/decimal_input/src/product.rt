@@ -1,7 +1,6 @@
 // The exact product of two numbers.
 ghost use Rattle.std.specs.Prelude.{◌+◌, ◌*◌, ◌<◌, ◌≤◌, ◌^◌, ◌+ℤ◌, IfOk};
-ghost use Rattle.decimal_input.specs.Decimals.{IsDec, number};
-ghost use Rattle.decimal_input.specs.Outcomes.{IsOf, IsCanonical, differ};
+ghost use Rattle.decimal_input.specs.{IsDec, number, IsOf, IsCanonical, differ};
 ghost use Rattle.decimal_input.specs.Fractions.{times as product_of, Same};
 
 use crate::canonical::canonical;

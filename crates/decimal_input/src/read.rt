@@ -1,9 +1,7 @@
 // Reading a number.
 ghost use Rattle.std.specs.Prelude.{IfOk};
-ghost use Rattle.decimal_input.specs.Decimals.{IsDec, number, decimal};
+ghost use Rattle.decimal_input.specs.{IsDec, number, decimal, Spelling, Spells, Names};
 ghost use Rattle.decimal_input.specs.Fractions.{Same};
-ghost use Rattle.decimal_input.specs.Grammar.{Spelling, Spells};
-ghost use Rattle.decimal_input.specs.Outcomes.{Names};
 
 use crate::canonical::canonical;
 use crate::coefficient::{NOTHING, with_digits};

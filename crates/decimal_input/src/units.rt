@@ -1,7 +1,6 @@
 // A number of the input as whole units.
 ghost use Rattle.std.specs.Prelude.{◌<◌, ◌^◌, IfNone, IfSome, unsigned_abs, ◌≡◌, ◌*◌, ◌-◌, ◌≤◌, MatchOption};
-ghost use Rattle.decimal_input.specs.Decimals.{IsDec, number, scaled};
-ghost use Rattle.decimal_input.specs.Wholes.{IsCeilingPast, IsFloorPast, IsSignedCeiling, IsSignedFloor, IsFloor, IsCeiling, Passes, Reaches};
+ghost use Rattle.decimal_input.specs.{IsDec, number, scaled, IsCeilingPast, IsFloorPast, IsSignedCeiling, IsSignedFloor, IsFloor, IsCeiling, Passes, Reaches};
 
 use crate::dec::Dec;
 

@@ -1,8 +1,7 @@
 // The parts of a number's word.
 ghost use Rattle.std.specs.Prelude.{◌≡◌, ℕ, ◌+◌, ◌<◌, ◌≤◌, length, slice_index, true, min, ℤ, pos, neg_ℤ, ◌≤ℤ◌, IfSome, ◌↔◌, ◌^◌, Some};
-ghost use Rattle.decimal_input.specs.Grammar.{is_negative, unsigned, digits_of, behind, part_of, behind_part, is_digit, is_mark, exponent_of, number_from};
-ghost use Rattle.decimal_input.specs.Grammar.{IsInteger, integer_of};
-ghost use Rattle.decimal_input.specs.Outcomes.{IsCapped};
+ghost use Rattle.decimal_input.specs.{is_negative, unsigned, digits_of, behind, part_of, behind_part, is_digit, is_mark, exponent_of, number_from, IsInteger};
+ghost use Rattle.decimal_input.specs.{integer_of, IsCapped};
 
 // The sign, and what follows it.
 pub fn split_sign(word: &[u8]) -> (bool, &[u8])

@@ -1,9 +1,7 @@
 -- Two models are alike exactly where they share each package.
 use Rattle.deck_alike.proofs.Common.{◌≡◌, suc, List, [], ◌∷◌, length, refl, ap, All, lit<, AllZip, All-nil, All-cons, Package, Dis, Bas, Lpf, Wel, Riv, Drn}
 use Rattle.deck_alike.proofs.Common.{Ghb, Rch, Chd, Evt, FlowModel, Period, Shares, SharesBounds, SharesEvaporation, SharesGrid, SharesIn, SharesProperties}
-use Rattle.deck_alike.proofs.Common.{SharesTimes, reading_order, AreAlike, ArePeriodsAlike}
-use Rattle.model_types.specs.Times.{no_stresses}
-use Rattle.deck_span.specs.Models.{frame}
+use Rattle.deck_alike.proofs.Common.{SharesTimes, reading_order, AreAlike, ArePeriodsAlike, no_stresses, frame}
 
 module _ {X : Type 0} where
   each_of : (R S : X → X → Type 0) → ((x y : X) → R x y → S x y) → (xs ys : List X) → AllZip R xs ys → AllZip S xs ys

@@ -7,12 +7,11 @@ pub use Rattle.std.proofs.lemmas.List.Elements.{All-cons, All-head, All-more, Al
 pub use Rattle.std.proofs.lemmas.Option.{get_or_from_slice_get, slice_get_read, slice_get_within}
 pub use Rattle.std.specs.List.{AllZip, each_same}
 pub use Rattle.decimal_input.specs.declared.dec.Dec.{Dec}
-pub use Rattle.deck_alike.specs.Cells.{IsCell, IsCellIn, IsHeadCell, IsPeriodCell, SharesOptions, SharesSizes, bottoms, properties}
-pub use Rattle.deck_alike.specs.Order.{AreArraysSame, AreSame, Finds, InOrder, IsArrayCell, IsFirst, IsFirstOfLayers, IsFound, IsLayerCell, IsListCell}
-pub use Rattle.deck_alike.specs.Order.{array_at, earlier, named}
-pub use Rattle.deck_alike.specs.Shared.{Shares, SharesBounds, SharesEvaporation, SharesGrid, SharesIn, SharesProperties, SharesTimes, reading_order}
-pub use Rattle.deck_span.specs.Alike.{AreAlike, AreEntriesAlike, AreGivenAlike, ArePeriodsAlike, AreRatesAlike}
-pub use Rattle.model_types.specs.Faces.{cell_count, layer_size}
+pub use Rattle.deck_alike.specs.{AreArraysSame, AreSame, Finds, InOrder, IsArrayCell, IsCell, IsCellIn, IsFirst, IsFirstDifference, IsFirstOfLayers, IsFound}
+pub use Rattle.deck_alike.specs.{IsHeadCell, IsLayerCell, IsListCell, IsPeriodCell, Shares, SharesBounds, SharesEvaporation, SharesGrid, SharesIn}
+pub use Rattle.deck_alike.specs.{SharesOptions, SharesProperties, SharesSizes, SharesTimes, array_at, bottoms, earlier, named, properties, reading_order}
+pub use Rattle.deck_span.specs.{AreAlike, AreEntriesAlike, AreGivenAlike, ArePeriodsAlike, AreRatesAlike, frame}
+pub use Rattle.model_types.specs.{cell_count, cell_of, layer_size, no_number, no_stresses}
 pub use Rattle.model_types.specs.declared.grid.CellId.{CellId}
 pub use Rattle.model_types.specs.declared.model.FlowModel.{FlowModel}
 pub use Rattle.model_types.specs.declared.period.Period.{Period}

@@ -2,7 +2,7 @@
 use Rattle.deck_alike.proofs.Common.{◌≡◌, ℕ, ◌+◌, ◌*◌, ◌^◌, ◌<◌, ◌≤◌, ℤ, pos, ◌+ℤ◌, Bool, true, false, subst, sym, arith, ◌⊎◌, inl, inr, leb, MatchBool}
 use Rattle.deck_alike.proofs.Common.{cases_lt, le-leb, lt-leb, ints, Dec, suc}
 use Rattle.std.proofs.Math.Nat.{mul-le-mul_right, mul-pos}
-use Rattle.decimal_input.specs.Decimals.{size, down, up, number, decimal, scaled}
+use Rattle.decimal_input.specs.{size, down, up, number, decimal, scaled}
 use Rattle.decimal_input.proofs.Powers.{cross_of, power_within, ten_pos, up_down, num_scaled}
 use Rattle.std.proofs.lemmas.Nat.{pow-add}
 use Rattle.decimal_input.specs.Ratios.{AtMost as IsRatioAtMost}

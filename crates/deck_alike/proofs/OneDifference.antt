@@ -3,12 +3,10 @@ use Rattle.deck_alike.proofs.Common.{◌≡◌, ℕ, ◌<◌, List, [], ◌∷�
 use Rattle.deck_alike.proofs.Common.{FlowModel, Period, cell_count, layer_size, AreSame, IsFirst, InOrder, IsFirstOfLayers, IsLayerCell, IsListCell, named}
 use Rattle.deck_alike.proofs.Common.{SharesIn, IsCellIn, IsHeadCell, IsPeriodCell, cases_order, Bas, Wel, Riv, Drn, Ghb, Rch, Chd, Evt, CellId, All-head}
 use Rattle.deck_alike.proofs.Common.{All-tail, AreGivenAlike, IsCell, bottoms, properties, AreEntriesAlike, AreRatesAlike, IsArrayCell, array_at, Shares}
-use Rattle.deck_alike.proofs.Common.{reading_order}
+use Rattle.deck_alike.proofs.Common.{reading_order, cell_of, IsFirstDifference}
 use Rattle.std.specs.Prelude.{All, ◌/◌, ◌⊎◌, zero, suc, slice_get, ◌≤◌}
 use Rattle.deck_alike.specs.declared.difference.Difference.{Difference}
 use Rattle.deck_alike.proofs.ZipLemmas.{first_is_one}
-use Rattle.model_types.specs.Sources.{cell_of}
-use Rattle.deck_alike.specs.Differences.{IsFirstDifference}
 
 same_some : {X : Type 0} (x y : X) → Path (Option X) (Some x) (Some y) → x ≡ y
 same_some x y e = cc

@@ -8,9 +8,8 @@ use Rattle.model_types.specs.declared.grid.CellId.{CellId}
 use Rattle.model_types.specs.declared.grid.Grid.{Grid}
 use Rattle.model_types.specs.declared.model.FlowModel.{FlowModel}
 use Rattle.model_types.specs.declared.period.Period.{Period}
-use Rattle.model_types.specs.Faces.{cell_count, layer_size}
-use Rattle.model_types.specs.Sources.{cell_of}
-use Rattle.deck_span.specs.Alike.{AreEntriesAlike, AreGivenAlike, AreRatesAlike}
+use Rattle.model_types.specs.{cell_count, layer_size, cell_of}
+use Rattle.deck_span.specs.{AreEntriesAlike, AreGivenAlike, AreRatesAlike}
 use Rattle.deck_alike.specs.Order.{AreSame, IsFirst, InOrder, IsArrayCell, IsLayerCell, IsListCell}
 use Rattle.deck_alike.specs.Shared.{SharesHead, SharesIn}
 

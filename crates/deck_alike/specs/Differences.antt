@@ -4,7 +4,7 @@ use Rattle.model_types.specs.declared.model.FlowModel.{FlowModel}
 use Rattle.deck_alike.specs.declared.difference.Difference.{Difference}
 use Rattle.deck_alike.specs.Shared.{Shares, reading_order}
 use Rattle.deck_alike.specs.Cells.{IsCell}
-use Rattle.deck_span.specs.Alike.{AreAlike}
+use Rattle.deck_span.specs.{AreAlike}
 
 -- The package is the first one in reading order that two models don't share, and the cell is that of the package's
 -- first difference.

@@ -5,7 +5,7 @@ use Rattle.name_file.specs.declared.package.Package.{Package}
 use Rattle.name_file.specs.declared.package.Package.TheVariants.{Dis, Bas, Lpf, Wel, Riv, Drn, Ghb, Rch, Chd, Evt}
 use Rattle.model_types.specs.declared.model.FlowModel.{FlowModel}
 use Rattle.model_types.specs.declared.period.Period.{Period}
-use Rattle.deck_span.specs.Alike.{AreEntriesAlike, AreGivenAlike, AreRatesAlike}
+use Rattle.deck_span.specs.{AreEntriesAlike, AreGivenAlike, AreRatesAlike}
 
 -- the packages in reading order
 abbrev pub reading_order : List Package

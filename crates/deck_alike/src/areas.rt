@@ -1,7 +1,5 @@
 // The first difference of the arrays of RCH and EVT in a stress period.
-ghost use Rattle.deck_alike.specs.Order.{Finds};
-ghost use Rattle.deck_alike.specs.Shared.{SharesEvaporation, SharesRecharge};
-ghost use Rattle.deck_alike.specs.Cells.{IsCellIn};
+ghost use Rattle.deck_alike.specs.{Finds, SharesEvaporation, SharesRecharge, IsCellIn};
 ghost use Rattle.name_file.specs.declared.package.Package.TheVariants.{Evt, Rch};
 
 use crate::lists::{array_apart, idle_apart};

@@ -1,6 +1,6 @@
 // The cells of places.
 ghost use Rattle.std.specs.Prelude.{◌≡◌, ◌<◌};
-ghost use Rattle.deck_alike.specs.Order.{named, earlier};
+ghost use Rattle.deck_alike.specs.{named, earlier};
 
 use model_types::CellId;
 

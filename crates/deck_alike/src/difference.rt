@@ -1,12 +1,8 @@
 // The first difference of two models.
 ghost use Rattle.std.specs.Prelude.{◌<◌, IfNone, IfSome};
-ghost use Rattle.model_types.specs.Faces.{cell_count};
-ghost use Rattle.model_types.specs.Grids.{HasSize};
-ghost use Rattle.deck_span.specs.Alike.{AreAlike};
-ghost use Rattle.deck_alike.specs.Differences.{IsFirstDifference};
-ghost use Rattle.deck_alike.specs.Order.{Finds};
-ghost use Rattle.deck_alike.specs.Shared.{Shares};
-ghost use Rattle.deck_alike.specs.Cells.{IsCell};
+ghost use Rattle.model_types.specs.{cell_count, HasSize};
+ghost use Rattle.deck_span.specs.{AreAlike};
+ghost use Rattle.deck_alike.specs.{IsFirstDifference, Finds, Shares, IsCell};
 
 use crate::once::head_apart;
 use crate::periods::periods_apart;

@@ -1,5 +1,5 @@
 // When two models are alike, and where they differ first.
-ghost use Rattle.deck_alike.specs.Differences.{DifferenceIsOne, SharedPackagesAreAlike};
+ghost use Rattle.deck_alike.specs.{DifferenceIsOne, SharedPackagesAreAlike};
 
 /// Two models are alike exactly where they share each package.
 pub fn shared_packages_are_alike()

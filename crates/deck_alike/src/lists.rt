@@ -1,10 +1,9 @@
 // The first difference of two lists, and of two arrays.
 ghost use Rattle.std.specs.Prelude.{◌≡◌, ℕ, MatchBool, MatchOption, length};
 ghost use Rattle.std.specs.List.{AllZip};
-ghost use Rattle.model_types.specs.Sources.{cell_of};
-ghost use Rattle.deck_span.specs.Alike.{AreRatesAlike, AreEntriesAlike, AreGivenAlike};
+ghost use Rattle.model_types.specs.{cell_of};
+ghost use Rattle.deck_span.specs.{AreRatesAlike, AreEntriesAlike, AreGivenAlike, IsGivenAtMost};
 ghost use Rattle.deck_alike.specs.Order.{Finds, IsArrayCell, IsListCell, AreSame, IsFirst};
-ghost use Rattle.deck_span.specs.Models.{IsGivenAtMost};
 
 use crate::cells::numbered_cell;
 use crate::order::is_at_most;

@@ -1,12 +1,10 @@
 // The first difference of what a package has once.
 ghost use Rattle.std.specs.Prelude.{◌≡◌, ◌<◌, MatchBool, length};
 ghost use Rattle.std.specs.List.{AllZip};
-ghost use Rattle.model_types.specs.Faces.{cell_count, layer_size};
-ghost use Rattle.model_types.specs.Grids.{HasSize};
+ghost use Rattle.model_types.specs.{cell_count, layer_size, HasSize};
 ghost use Rattle.name_file.specs.declared.package.Package.TheVariants.{Bas, Dis, Lpf};
-ghost use Rattle.deck_alike.specs.Order.{Finds, IsLayerCell, AreArraysSame, IsFound};
-ghost use Rattle.deck_alike.specs.Shared.{SharesBounds, SharesGrid, SharesHead, SharesProperties};
-ghost use Rattle.deck_alike.specs.Cells.{IsHeadCell, SharesCounts, SharesLengths, SharesOptions, SharesSizes, SharesWidths, bottoms, properties};
+ghost use Rattle.deck_alike.specs.{Finds, IsLayerCell, AreArraysSame, IsFound, SharesBounds, SharesGrid, SharesHead, SharesProperties, IsHeadCell};
+ghost use Rattle.deck_alike.specs.{SharesCounts, SharesLengths, SharesOptions, SharesSizes, SharesWidths, bottoms, properties};
 
 use crate::cells::{earlier_place, numbered_cell};
 use crate::lists::{Compared, array_apart, first_apart};

@@ -1,6 +1,6 @@
 // The order of two numbers of the input.
 ghost use Rattle.std.specs.Prelude.{◌≡◌, ◌*◌, ◌≤◌, ◌^◌, ◌⊎◌, MatchBool};
-ghost use Rattle.decimal_input.specs.Decimals.{number, size};
+ghost use Rattle.decimal_input.specs.{number, size};
 ghost use Rattle.decimal_input.specs.Fractions.{AtMost};
 ghost use Rattle.decimal_input.specs.Ratios.{AtMost as IsRatioAtMost};
 

@@ -1,9 +1,7 @@
 // The first difference of a package in the stress periods.
 ghost use Rattle.std.specs.Prelude.{◌≡◌, None, length};
 ghost use Rattle.std.specs.List.{AllZip};
-ghost use Rattle.deck_alike.specs.Order.{Finds, InOrder};
-ghost use Rattle.deck_alike.specs.Shared.{SharesIn, SharesTimes};
-ghost use Rattle.deck_alike.specs.Cells.{IsCellIn, IsPeriodCell};
+ghost use Rattle.deck_alike.specs.{Finds, InOrder, SharesIn, SharesTimes, IsCellIn, IsPeriodCell};
 
 use crate::areas::{evaporation_apart, recharge_apart};
 use crate::lists::list_apart;

@@ -1,9 +1,10 @@
 -- The hull of two decks' problems and constant heads.
 use Rattle.deck_problems.proofs.Common.{◌≡◌, ◌∷◌, ◌∙◌, ◌<◌, ℕ, inl, inr, Option, Some, None, List, Contains, get_or, length, map, refl, sym, subst, ap, arith}
 use Rattle.deck_problems.proofs.Common.{int_min, int_max, IfSome, get_or_default, Fixed, Bound, IsProblem, Entries, no_entries, lower_at, upper_at, FlowModel}
-use Rattle.deck_problems.proofs.Common.{TimeStep, IsNamed, IsProblemOf, IsBuildFault, IsHullOf, fixed_shape, fixed_hull, IsCellHull, IsHull, AllThree, none}
-use Rattle.deck_problems.proofs.Common.{next, three_lengths, three_within, Decks, AreConstantHeadsFor, IsSecond, AreDecks, AreHullBounds, HasCellsOf}
-use Rattle.deck_problems.proofs.Common.{IsHullRefusal, IsProblemFor, IsProblemBy, IsRefusedBy, IsFaultFor, of_second, of_hull, AreConstantHeads}
+use Rattle.deck_problems.proofs.Common.{TimeStep, IsProblemOf, IsBuildFault, IsHullOf, fixed_shape, fixed_hull, IsCellHull, IsHull, AllThree, none, next}
+use Rattle.deck_problems.proofs.Common.{three_lengths, three_within, Decks, AreConstantHeadsFor, IsSecond, AreDecks, AreHullBounds, HasCellsOf, IsHullRefusal}
+use Rattle.deck_problems.proofs.Common.{IsProblemFor, IsProblemBy, IsRefusedBy, IsFaultFor, of_second, of_hull, AreConstantHeads}
+use Rattle.problem_builder.specs.GridHeads.{IsNamed}
 use Rattle.problem_builder.specs.declared.fault.BuildFault.{BuildFault}
 use Rattle.deck_problems.proofs.Enclosing.{second_cells}
 use Rattle.deck_problems.proofs.Members.{constant_same}

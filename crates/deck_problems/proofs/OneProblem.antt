@@ -2,10 +2,10 @@
 use Rattle.deck_problems.proofs.Common.{◌≡◌, ℕ, Option, Some, None, List, sym, subst, Contains, Bound, IsProblem, Entries, FlowModel, TimeStep, times, IsModel}
 use Rattle.deck_problems.proofs.Common.{AreGridHeads, IsProblemOf, HasNoProblem, IsHull, IsSecond, ProblemIsOne, ProblemExcludesRefusal, RefusalIsOne}
 use Rattle.deck_problems.proofs.Common.{ProblemFits, IsHullProblem, HasNoHullProblem, IsProblemBy, IsRefusedBy, of_first, of_second, of_hull, IfSome}
+use Rattle.deck_problems.proofs.Common.{IsTooLarge}
 use Rattle.step_problem.specs.declared.place.NoBound.{NoBound}
-use Rattle.problem_builder.specs.Laws.{ProblemFits as ModelProblemFits}
+use Rattle.problem_builder.specs.{ProblemFits as ModelProblemFits}
 use Rattle.problem_builder.proofs.OneProblem.{one_problem, problem_excludes, one_refusal}
-use Rattle.problem_hull.specs.Refusals.{IsTooLarge}
 use Rattle.problem_hull.proofs.OneHull.{hull_is_one}
 use Rattle.problem_hull.proofs.Refusals.{hull_excludes, refusal_is_one}
 

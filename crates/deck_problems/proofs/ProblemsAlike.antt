@@ -2,7 +2,8 @@
 use Rattle.deck_problems.proofs.Common.{◌≡◌, ◌<◌, ◌∙◌, ℕ, pos, true, refl, sym, ap, subst, List, length, map, AllZip, Bound, Fixed, Entries, FlowModel}
 use Rattle.deck_problems.proofs.Common.{TimeStep, cell_count, is_variable, variable_below, AllThree, IsPeriodBetween, alike_between, framed_is, IsFlow, IsLink}
 use Rattle.deck_problems.proofs.Common.{IsFixed, IsRiver, IsDrain, IsEvap, IsCellOf, IsProblemOf, one_link, ProblemsAreAlike, flow_shape, fixed_shape}
-use Rattle.deck_problems.proofs.Common.{river_shape, drain_shape, evap_shape, cell_shape}
+use Rattle.deck_problems.proofs.Common.{river_shape, drain_shape, evap_shape, cell_shape, HasSize, FixedSource, FlowSource, variable_faces, Thicknesses}
+use Rattle.deck_problems.proofs.Common.{AreThicknesses}
 use Rattle.decimal_input.specs.declared.dec.Dec.{Dec}
 use Rattle.step_problem.specs.declared.entry.Flow.{Flow}
 use Rattle.step_problem.specs.declared.entry.Link.{Link}
@@ -10,15 +11,10 @@ use Rattle.model_types.specs.declared.face.Axis.{Axis}
 use Rattle.model_types.specs.declared.face.Axis.TheVariants.{Row, Column, Vertical}
 use Rattle.model_types.specs.declared.face.Face.{Face}
 use Rattle.model_types.specs.declared.period.Period.{Period}
-use Rattle.model_types.specs.Grids.{HasSize}
-use Rattle.model_types.specs.Sources.{FixedSource, FlowSource, variable_faces}
-use Rattle.conductance_bounds.specs.Formulas.{face_term}
-use Rattle.conductance_bounds.specs.Pairs.{IsCapped}
-use Rattle.conductance_bounds.specs.Terms.{Term}
+use Rattle.conductance_bounds.specs.{face_term, IsCapped, Term}
 use Rattle.deck_span.proofs.SourcesBetween.{IsFlowSourceBetween, IsFixedSourceBetween, IsRiverSourceBetween, IsDrainSourceBetween, IsEvapSourceBetween, framed, cells_are, faces_are, three_flows, three_fixed, three_rivers, three_drains, three_evaps}
 use Rattle.deck_span.proofs.SourcesBetween.IsFlowSourceBetween.{pumped, received}
 use Rattle.deck_span.proofs.SourcesBetween.IsFixedSourceBetween.{constant, general, stored}
-use Rattle.problem_builder.specs.Widths.{Thicknesses, AreThicknesses}
 use Rattle.problem_builder.proofs.Members.{variable-In}
 use Rattle.problem_builder.proofs.Zipped.{zip_one_list}
 use Rattle.deck_problems.proofs.LikeShapes.{one_shape, like_shapes}

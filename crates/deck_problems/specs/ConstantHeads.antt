@@ -1,16 +1,14 @@
 -- The head of a constant-head cell at a time, as a whole pair in units of 10^-9: of one deck, or the hull of two decks' pairs.
 use Rattle.std.specs.Prelude.{◌≡◌, ℕ, ℤ, true, false, List, Option, Some, None, ◌<◌, length}
 use Rattle.step_problem.specs.declared.heads.Bound.{Bound}
-use Rattle.step_problem.specs.Heads.{no_bound}
+use Rattle.step_problem.specs.{no_bound}
 use Rattle.model_types.specs.declared.model.FlowModel.{FlowModel}
 use Rattle.model_types.specs.declared.time_steps.TimeStep.{TimeStep}
-use Rattle.model_types.specs.Faces.{cell_count}
-use Rattle.model_types.specs.Heads.{is_constant}
-use Rattle.problem_builder.specs.GridHeads.{IsConstantPair, AreStartHeads}
+use Rattle.model_types.specs.{cell_count, is_constant}
+use Rattle.problem_builder.specs.{IsConstantPair, AreStartHeads, bound_in}
 use Rattle.problem_builder.specs.Filled.{Filled}
-use Rattle.problem_hull.specs.Hulls.{IsHullPair}
+use Rattle.problem_hull.specs.{IsHullPair}
 use Rattle.deck_problems.specs.declared.decks.Decks.{Decks}
-use Rattle.problem_builder.specs.Tables.{bound_in}
 
 -- lo and hi are the hull of the pairs that both models have
 pub record IsConstantHull (a b : FlowModel) (at : TimeStep) (c : ℕ) (lo hi : ℤ) : Type 0 where

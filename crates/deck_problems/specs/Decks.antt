@@ -1,9 +1,8 @@
 -- The models of a run: that of one deck, or all models between those of two decks.
 use Rattle.std.specs.Prelude.{◌≡◌, Option, Some, None, IfSome}
 use Rattle.model_types.specs.declared.model.FlowModel.{FlowModel}
-use Rattle.model_types.specs.Valid.{IsModel}
-use Rattle.deck_span.specs.Alike.{AreAlike}
-use Rattle.deck_span.specs.Models.{IsBetween}
+use Rattle.model_types.specs.{IsModel}
+use Rattle.deck_span.specs.{AreAlike, IsBetween}
 use Rattle.deck_problems.specs.declared.decks.Decks.{Decks}
 
 -- the model of one deck

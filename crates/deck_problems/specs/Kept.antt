@@ -1,23 +1,21 @@
 -- The tables that a run keeps from step to step.
 use Rattle.std.specs.Prelude.{◌≡◌, ℕ, ◌<◌, List, length, map}
 use Rattle.model_types.specs.declared.model.FlowModel.{FlowModel}
-use Rattle.model_types.specs.Heads.{given_heads, variable_cells}
-use Rattle.problem_builder.specs.Tables.{AreTables, ArePeriodTables, AreEvenStorages, span_in}
-use Rattle.problem_builder.specs.Filled.{BothOrNone}
+use Rattle.model_types.specs.{given_heads, variable_cells}
+use Rattle.problem_builder.specs.{AreTables, ArePeriodTables, AreEvenStorages, span_in, BothOrNone, AreConstantHeads, HeadsEnclose, IsActive, IsProblemOf}
 use Rattle.deck_problems.specs.declared.decks.Decks.{Decks}
 use Rattle.deck_problems.specs.declared.kept.RunTables.{RunTables}
 use Rattle.deck_problems.specs.declared.problem.DeckTables.{DeckTables}
-use Rattle.decimal_input.specs.Fractions.{Fraction}
+use Rattle.decimal_input.specs.{Fraction}
 use Rattle.step_problem.specs.declared.heads.Bound.{Bound}
 use Rattle.step_problem.specs.Entries.{Entries}
-use Rattle.cell_balance.specs.Enclosures.{EnclosesStep}
+use Rattle.cell_balance.specs.{EnclosesStep}
 use Rattle.model_types.specs.declared.time_steps.TimeStep.{TimeStep}
-use Rattle.flow_equations.specs.ExactStep.{exact_step}
-use Rattle.problem_builder.specs.GridHeads.{AreConstantHeads, HeadsEnclose, IsActive, IsNamed}
-use Rattle.problem_builder.specs.Problems.{IsProblemOf}
+use Rattle.flow_equations.specs.{exact_step}
+use Rattle.problem_builder.specs.GridHeads.{IsNamed}
 use Rattle.problem_builder.specs.declared.fault.BuildFault.{BuildFault}
 use Rattle.problem_builder.specs.declared.fault.BuildFault.TheVariants.{NoBound as Refused, Memory}
-use Rattle.problem_hull.specs.Refusals.{IsTooLarge}
+use Rattle.problem_hull.specs.{IsTooLarge}
 use Rattle.deck_problems.specs.declared.problem.DeckProblem.{DeckProblem}
 
 -- the digits of conductances

@@ -1,20 +1,16 @@
 -- Laws of the problems of one deck, or of two: problems and refusals are unique, and problems meet their conditions.
 use Rattle.std.specs.Prelude.{◌≡◌, ℕ, ◌<◌, true, ℤ, List, Contains}
-use Rattle.decimal_input.specs.Wholes.{EnclosesSigned}
+use Rattle.decimal_input.specs.{EnclosesSigned}
 use Rattle.step_problem.specs.declared.heads.Bound.{Bound}
 use Rattle.step_problem.specs.declared.place.NoBound.{NoBound}
-use Rattle.step_problem.specs.Conditions.{IsProblem, IsHead}
+use Rattle.step_problem.specs.{IsProblem, IsHead}
 use Rattle.step_problem.specs.Entries.{Entries}
 use Rattle.model_types.specs.declared.model.FlowModel.{FlowModel}
 use Rattle.model_types.specs.declared.time_steps.TimeStep.{TimeStep}
-use Rattle.model_types.specs.Faces.{cell_count}
-use Rattle.model_types.specs.Heads.{constant_head, start_head, is_constant}
-use Rattle.model_types.specs.Times.{times}
-use Rattle.model_types.specs.Valid.{IsModel}
-use Rattle.problem_builder.specs.GridHeads.{AreGridHeads, HeadsEnclose}
-use Rattle.problem_builder.specs.Problems.{IsProblemOf}
-use Rattle.problem_hull.specs.Shapes.{AreAlike as AreProblemsAlike}
-use Rattle.deck_span.specs.Alike.{AreAlike}
+use Rattle.model_types.specs.{cell_count, constant_head, start_head, is_constant, times, IsModel}
+use Rattle.problem_builder.specs.{AreGridHeads, HeadsEnclose, IsProblemOf}
+use Rattle.problem_hull.specs.{AreAlike as AreProblemsAlike}
+use Rattle.deck_span.specs.{AreAlike}
 use Rattle.deck_problems.specs.declared.decks.Decks.{Decks}
 use Rattle.deck_problems.specs.Decks.{AreDecks, EachMember}
 use Rattle.deck_problems.specs.ConstantHeads.{IsConstantPairFor, AreStartHeadsFor}

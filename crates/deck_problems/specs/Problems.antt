@@ -2,15 +2,14 @@
 use Rattle.std.specs.Prelude.{ℕ, List, Option, Some, None}
 use Rattle.step_problem.specs.declared.heads.Bound.{Bound}
 use Rattle.step_problem.specs.declared.place.NoBound.{NoBound}
-use Rattle.step_problem.specs.Conditions.{IsProblem}
+use Rattle.step_problem.specs.{IsProblem}
 use Rattle.step_problem.specs.Entries.{Entries}
 use Rattle.model_types.specs.declared.model.FlowModel.{FlowModel}
 use Rattle.model_types.specs.declared.time_steps.TimeStep.{TimeStep}
 use Rattle.problem_builder.specs.declared.fault.BuildFault.{BuildFault}
 use Rattle.problem_builder.specs.declared.fault.BuildFault.TheVariants.{NoBound as Refused, Memory}
-use Rattle.problem_builder.specs.Problems.{IsProblemOf, HasNoProblem}
-use Rattle.problem_hull.specs.Hulls.{IsHull}
-use Rattle.problem_hull.specs.Refusals.{IsTooLarge}
+use Rattle.problem_builder.specs.{IsProblemOf, HasNoProblem}
+use Rattle.problem_hull.specs.{IsHull, IsTooLarge}
 use Rattle.deck_problems.specs.declared.decks.Decks.{Decks}
 
 -- A step of the models a and b with s digits of conductances, where `old` are the heads of all cells before it.

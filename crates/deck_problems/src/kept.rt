@@ -1,7 +1,7 @@
 // The tables that a run keeps from step to step.
 ghost use Rattle.std.specs.Prelude.{◌≡◌, ◌≤◌, IfOk, OnOk, length};
-ghost use Rattle.model_types.specs.Valid.{IsModel};
-ghost use Rattle.deck_problems.specs.Kept.{AreRunTables, digits_of};
+ghost use Rattle.model_types.specs.{IsModel};
+ghost use Rattle.deck_problems.specs.{AreRunTables, digits_of};
 
 use model_types::{FlowModel, GivenHeads};
 use problem_builder::{PeriodTables, Tables};

@@ -1,8 +1,7 @@
 // Laws of the problems of one deck, or of two. Each is the contract of an empty function, but for the laws below that
 // it calls.
-ghost use Rattle.deck_problems.specs.Laws.{ProblemsAreAlike, ProblemIsOne, ProblemExcludesRefusal, RefusalIsOne};
-ghost use Rattle.deck_problems.specs.Laws.{ProblemFits, ProblemEncloses, ConstantPairIsOne, ConstantPairFits, ConstantPairEncloses};
-ghost use Rattle.deck_problems.specs.Laws.{StartHeadsAreOne, StartHeadsFit, StartHeadsEnclose};
+ghost use Rattle.deck_problems.specs.{ProblemsAreAlike, ProblemIsOne, ProblemExcludesRefusal, RefusalIsOne, ProblemFits, ProblemEncloses, ConstantPairIsOne};
+ghost use Rattle.deck_problems.specs.{ConstantPairFits, ConstantPairEncloses, StartHeadsAreOne, StartHeadsFit, StartHeadsEnclose};
 
 /// The problems of two models that are alike are alike.
 pub fn problems_are_alike()

@@ -1,17 +1,11 @@
 // The problem of a step of one deck, or of two.
 ghost use Rattle.std.specs.Prelude.{◌≡◌, ◌≤◌, Contains, IfOk, IfErr, OnOk, Some};
-ghost use Rattle.step_problem.specs.Conditions.{IsProblem};
-ghost use Rattle.model_types.specs.Times.{times};
-ghost use Rattle.problem_builder.specs.GridHeads.{AreGridHeads};
-ghost use Rattle.problem_hull.specs.Hulls.{IsHull};
-ghost use Rattle.problem_hull.specs.Shapes.{AreAlike as AreProblemsAlike};
-ghost use Rattle.deck_problems.specs.Decks.{AreDecks, EachMember};
-ghost use Rattle.deck_problems.specs.ConstantHeads.{AreConstantHeadsFor};
-ghost use Rattle.deck_problems.specs.Kept.{AreDeckTables, digits_of, EnclosesSteps, HasCellsOf, IsHullRefusal, AreRunTables, AreTablesOf, IsModelProblem};
-ghost use Rattle.deck_problems.specs.Problems.{IsProblemFor, IsFaultFor};
-ghost use Rattle.model_types.specs.Valid.{IsModel};
-ghost use Rattle.problem_builder.specs.Problems.{IsBuildFault};
-ghost use Rattle.problem_builder.specs.Filled.{BothOrNone};
+ghost use Rattle.step_problem.specs.{IsProblem};
+ghost use Rattle.model_types.specs.{times, IsModel};
+ghost use Rattle.problem_builder.specs.{AreGridHeads, IsBuildFault, BothOrNone};
+ghost use Rattle.problem_hull.specs.{IsHull, AreAlike as AreProblemsAlike};
+ghost use Rattle.deck_problems.specs.{AreDecks, EachMember, AreConstantHeadsFor, AreDeckTables, digits_of, EnclosesSteps, HasCellsOf, IsHullRefusal};
+ghost use Rattle.deck_problems.specs.{AreRunTables, AreTablesOf, IsModelProblem, IsProblemFor, IsFaultFor};
 
 use crate::decks::Decks;
 use crate::kept::RunTables;

@@ -1,10 +1,8 @@
 // The heads before the first time step.
 ghost use Rattle.std.specs.Prelude.{IfOk, ◌≡◌, ◌<◌, length};
-ghost use Rattle.model_types.specs.Heads.{start_head};
-ghost use Rattle.problem_builder.specs.GridHeads.{AreGridHeads, HeadsEnclose};
-ghost use Rattle.deck_problems.specs.Decks.{AreDecks, EachMember};
-ghost use Rattle.deck_problems.specs.ConstantHeads.{AreStartHeadsFor, IsHullBound, AreHullBounds};
-ghost use Rattle.problem_builder.specs.Tables.{bound_in};
+ghost use Rattle.model_types.specs.{start_head};
+ghost use Rattle.problem_builder.specs.{AreGridHeads, HeadsEnclose, bound_in};
+ghost use Rattle.deck_problems.specs.{AreDecks, EachMember, AreStartHeadsFor, IsHullBound, AreHullBounds};
 
 use crate::decks::Decks;
 use crate::laws;

@@ -7,33 +7,27 @@ pub use Rattle.std.proofs.lemmas.List.{get_or_default, reverse-append}
 pub use Rattle.std.specs.List.{AllZip, cons_option, filter, filter_map, find, flat_map, range_with_len}
 pub use Rattle.std.specs.Prelude.{int_lt, is_some, max, min, negsuc, not, unsigned_abs, ◌&&◌, ◌==◌, ◌||◌}
 pub use Rattle.cell_balance.proofs.Totals.{add_mul, le_trans_z}
-pub use Rattle.cell_balance.specs.Steps.{ExactCell, ExactDrain, ExactEvap, ExactFixed, ExactFlow, ExactLink, ExactRiver, HasEqualEnds, HasLinkBack, cell_at}
+pub use Rattle.cell_balance.specs.{CellEncloses, DrainEncloses, EnclosesStep, EvapEncloses, ExactCell, ExactDrain, ExactEvap, ExactFixed, ExactFlow, ExactLink}
+pub use Rattle.cell_balance.specs.{ExactRiver, FixedEncloses, FlowEncloses, HasEqualEnds, HasLinkBack, LinkEncloses, RiverEncloses, cell_at}
 pub use Rattle.decimal_input.proofs.Differences.{as_diff, diffs, same_diff}
 pub use Rattle.decimal_input.proofs.Orders.{AtMost-refl, AtMost-trans, den_plus, num_plus, over-AtMost, times-AtMost}
 pub use Rattle.decimal_input.proofs.Signs.{cancel_right, mul_mono_right, swap}
-pub use Rattle.decimal_input.specs.Decimals.{number, size}
-pub use Rattle.decimal_input.specs.Fractions.{AtMost, Fraction, den, negated, plus, signed}
-pub use Rattle.decimal_input.specs.Ratios.{Ratio, over}
+pub use Rattle.decimal_input.specs.{Encloses, EnclosesSigned, Fraction, Ratio, negated, number, over, signed, size}
+pub use Rattle.decimal_input.specs.Fractions.{AtMost, den, plus}
 pub use Rattle.decimal_input.specs.declared.dec.Dec.{Dec}
-pub use Rattle.deck_span.specs.Alike.{AreAlike, AreEntriesAlike, AreGivenAlike, ArePeriodsAlike, AreRatesAlike}
-pub use Rattle.deck_span.specs.Models.{IsBetween, IsDecBetween, IsEntryBetween, IsFractionBetween, IsGivenAtMost, IsGivenBetween, IsPeriodBetween}
-pub use Rattle.deck_span.specs.Models.{IsRateBetween, IsRatioBetween, IsSizeBetween, LiesBetween, frame, period_frame}
-pub use Rattle.deck_span.specs.Models.IsEntryBetween.{drains, generals, rivers, wells}
-pub use Rattle.deck_span.specs.Steps.{IsCellBetween, IsDrainBetween, IsEvapBetween, IsFixedBetween, IsFlowBetween, IsRiverBetween, IsStepBetween}
-pub use Rattle.flow_equations.specs.ExactStep.{exact_cell, exact_drain, exact_evap, exact_fixed, exact_flow, exact_link, exact_river, exact_step}
-pub use Rattle.model_types.specs.Conductances.{conductance, one}
-unfoldable pub use Rattle.model_types.specs.Conductances.{column_conductance, row_conductance, vertical_conductance, vertical_half}
-pub use Rattle.model_types.specs.Faces.{cell_count, faces, place_in_layer, through}
-pub use Rattle.model_types.specs.Heads.{between_heads, head_or_kept, index_of, is_variable, kept_head, last_given, start_head, variable_cells}
-unfoldable pub use Rattle.model_types.specs.Heads.{constant_head, given_in, variable_below}
-pub use Rattle.model_types.specs.Layers.{dec_at, int_at, is_active, no_number}
-unfoldable pub use Rattle.model_types.specs.Layers.{area}
-pub use Rattle.model_types.specs.Receivers.{EvapSource, evap_at, evap_source, is_chosen, recharge_at}
-pub use Rattle.model_types.specs.Sources.{DrainSource, FixedSource, FlowSource, RiverSource, as_drain, as_general, as_river, as_well, cell_of, constant_faces}
-pub use Rattle.model_types.specs.Sources.{drain_sources, evap_sources, fixed_sources, flow_sources, local_entries, river_sources, storage_at, variable_faces}
-unfoldable pub use Rattle.model_types.specs.Sources.{entries_of}
-pub use Rattle.model_types.specs.Times.{entries, multiplier, no_period, period_at, power}
-unfoldable pub use Rattle.model_types.specs.Times.{geometric, passed}
+pub use Rattle.deck_span.specs.{AreAlike, AreEntriesAlike, AreGivenAlike, ArePeriodsAlike, AreRatesAlike, IsBetween, IsCellBetween, IsDecBetween}
+pub use Rattle.deck_span.specs.{IsDrainBetween, IsEntryBetween, IsEvapBetween, IsFixedBetween, IsFlowBetween, IsFractionBetween, IsGivenAtMost, IsGivenBetween}
+pub use Rattle.deck_span.specs.{IsPeriodBetween, IsRateBetween, IsRatioBetween, IsRiverBetween, IsSizeBetween, IsStepBetween, LiesBetween, drains, frame}
+pub use Rattle.deck_span.specs.{generals, period_frame, rivers, wells}
+pub use Rattle.flow_equations.specs.{exact_cell, exact_drain, exact_evap, exact_fixed, exact_flow, exact_link, exact_river, exact_step}
+pub use Rattle.model_types.specs.{DrainSource, EvapSource, FixedSource, FlowSource, FromStorage, IsEvapValid, IsModel, Pumped, Received, RiverSource}
+pub use Rattle.model_types.specs.{ToConstant, ToGeneral, as_drain, as_general, as_river, as_well, between_heads, cell_count, cell_of, conductance}
+pub use Rattle.model_types.specs.{constant_faces, dec_at, drain_sources, entries, evap_at, evap_source, evap_sources, faces, fixed_sources, flow_sources}
+pub use Rattle.model_types.specs.{head_or_kept, index_of, int_at, is_active, is_chosen, is_variable, kept_head, last_given, local_entries, multiplier}
+pub use Rattle.model_types.specs.{no_number, no_period, one, period_at, place_in_layer, power, recharge_at, river_sources, start_head, storage_at, through}
+pub use Rattle.model_types.specs.{variable_cells, variable_faces}
+unfoldable pub use Rattle.model_types.specs.{area, column_conductance, constant_head, entries_of, geometric, given_in, passed, row_conductance, storage}
+unfoldable pub use Rattle.model_types.specs.{variable_below, vertical_conductance, vertical_half}
 pub use Rattle.model_types.specs.declared.entry.Entry.{Entry}
 pub use Rattle.model_types.specs.declared.entry.Given.{Given}
 pub use Rattle.model_types.specs.declared.face.Face.{Face}
@@ -41,5 +35,6 @@ pub use Rattle.model_types.specs.declared.grid.CellId.{CellId}
 pub use Rattle.model_types.specs.declared.model.FlowModel.{FlowModel}
 pub use Rattle.model_types.specs.declared.period.Period.{Period}
 pub use Rattle.problem_hull.proofs.Threes.{three_append, three_at, three_lengths}
-pub use Rattle.problem_hull.specs.Hulls.{AllThree, IsCellHull, IsHull, IsHullOf, IsHullPair, drain_hull, evap_hull, fixed_hull, flow_hull, river_hull}
+pub use Rattle.problem_hull.specs.{AllThree, IsCellHull, IsHull, IsHullOf, IsHullPair, drain_hull, drain_shape, evap_hull, evap_shape, fixed_hull, fixed_shape}
+pub use Rattle.problem_hull.specs.{flow_hull, flow_shape, river_hull, river_shape}
 pub use Rattle.problem_hull.specs.Hulls.AllThree.{next, none}

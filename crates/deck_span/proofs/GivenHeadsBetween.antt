@@ -3,7 +3,8 @@ use Rattle.deck_span.proofs.Common.{◌≡◌, ℕ, zero, suc, ◌+◌, ◌*◌,
 use Rattle.deck_span.proofs.Common.{◌==◌, ◌||◌, number, Ratio, Fraction, den, AtMost, signed, negated, plus, mul_mono_right, diffs, as_diff, same_diff}
 use Rattle.deck_span.proofs.Common.{AtMost-refl, num_plus, den_plus, Period, Given, one, power, geometric, multiplier, passed, between_heads, IsFractionBetween}
 use Rattle.deck_span.proofs.Common.{IsGivenAtMost, IsGivenBetween, AtMost-trans, add_mul}
-use Rattle.decimal_input.specs.Ratios.{den as size_den, AtMost as IsRatioAtMost, plus as size_plus, over as size_over, ratio as size_ratio}
+use Rattle.decimal_input.specs.Ratios.{den as size_den, AtMost as IsRatioAtMost, plus as size_plus}
+use Rattle.decimal_input.specs.{over as size_over, ratio as size_ratio}
 use Rattle.decimal_input.specs.Fractions.{times}
 use Rattle.step_problem.proofs.Ring.{mul_assoc}
 use Rattle.decimal_input.proofs.Integers.{le-add}

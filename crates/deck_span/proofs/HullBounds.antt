@@ -1,9 +1,9 @@
 -- A number between two enclosed ones lies between the outer bounds.
 use Rattle.deck_span.proofs.Common.{◌≡◌, ℕ, ◌*◌, ◌^◌, ◌≤◌, ◌<◌, ◌⊎◌, inl, inr, arith, ℤ, pos, ◌*ℤ◌, ◌≤ℤ◌, ints, clamps, Ratio, Fraction, den, AtMost}
-use Rattle.deck_span.proofs.Common.{mul_mono_right, swap, cancel_right, signed, IsFractionBetween, IsRatioBetween, le_trans_z, min, max, IsHullPair}
+use Rattle.deck_span.proofs.Common.{mul_mono_right, swap, cancel_right, signed, IsFractionBetween, IsRatioBetween, le_trans_z, min, max, IsHullPair, Encloses}
+use Rattle.deck_span.proofs.Common.{EnclosesSigned}
 use Rattle.std.specs.Int.{int_min, int_max}
 use Rattle.decimal_input.specs.Ratios.{AtMost as IsRatioAtMost}
-use Rattle.decimal_input.specs.Wholes.{Encloses, EnclosesSigned}
 use Rattle.deck_span.proofs.Monotone.{between_image}
 
 -- lo ≤ n / d, n / d ≤ k / e (all over a unit S) give lo ≤ k / e

@@ -2,7 +2,8 @@
 use Rattle.deck_span.proofs.Common.{◌≡◌, ℕ, zero, suc, ◌+◌, refl, sym, subst, ap, ◌∙◌, List, length, AllZip, ExactFlow, ExactLink, ExactFixed, ExactRiver}
 use Rattle.deck_span.proofs.Common.{ExactDrain, ExactEvap, ExactCell, cell_at, AllThree, none, next, IsFlowBetween, IsFixedBetween, IsRiverBetween}
 use Rattle.deck_span.proofs.Common.{IsDrainBetween, IsEvapBetween, IsCellBetween, IsStepBetween, IsHullOf, flow_hull, fixed_hull, river_hull, drain_hull}
-use Rattle.deck_span.proofs.Common.{evap_hull, IsCellHull, IsHull, HasEqualEnds, HasLinkBack}
+use Rattle.deck_span.proofs.Common.{evap_hull, IsCellHull, IsHull, HasEqualEnds, HasLinkBack, FlowEncloses, LinkEncloses, FixedEncloses, RiverEncloses}
+use Rattle.deck_span.proofs.Common.{DrainEncloses, EvapEncloses, CellEncloses, EnclosesStep, flow_shape, fixed_shape, river_shape, drain_shape, evap_shape}
 use Rattle.step_problem.specs.declared.entry.Flow.{Flow}
 use Rattle.step_problem.specs.declared.entry.Fixed.{Fixed}
 use Rattle.step_problem.specs.declared.entry.River.{River}
@@ -10,9 +11,7 @@ use Rattle.step_problem.specs.declared.entry.Drain.{Drain}
 use Rattle.step_problem.specs.declared.entry.Evap.{Evap}
 use Rattle.step_problem.specs.declared.entry.Link.{Link}
 use Rattle.step_problem.specs.Entries.{Entries}
-use Rattle.cell_balance.specs.Enclosures.{FlowEncloses, LinkEncloses, FixedEncloses, RiverEncloses, DrainEncloses, EvapEncloses, CellEncloses, EnclosesStep}
 use Rattle.problem_hull.proofs.Links.{links_are}
-use Rattle.problem_hull.specs.Shapes.{flow_shape, fixed_shape, river_shape, drain_shape, evap_shape}
 use Rattle.deck_span.proofs.HullBounds.{numbers_enclose, sizes_enclose}
 
 -- what holds of five items at each place holds of the lists

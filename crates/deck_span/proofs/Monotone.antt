@@ -2,7 +2,8 @@
 use Rattle.deck_span.proofs.Common.{◌≡◌, ℕ, suc, ◌+◌, ◌*◌, ◌<◌, inl, inr, arith, refl, ℤ, pos, ◌+ℤ◌, ◌*ℤ◌, ◌≤ℤ◌, ints, Ratio, Fraction, den, AtMost, signed}
 use Rattle.deck_span.proofs.Common.{plus, mul_mono_right, diffs, as_diff, same_diff, AtMost-refl, times-AtMost, over-AtMost, IsFractionBetween, IsRatioBetween}
 use Rattle.deck_span.proofs.Common.{LiesBetween}
-use Rattle.decimal_input.specs.Ratios.{AtMost as IsRatioAtMost, times as size_times, over as size_over}
+use Rattle.decimal_input.specs.Ratios.{AtMost as IsRatioAtMost, times as size_times}
+use Rattle.decimal_input.specs.{over as size_over}
 use Rattle.decimal_input.specs.Fractions.{times}
 
 pub least : (f : Fraction) → AtMost f f

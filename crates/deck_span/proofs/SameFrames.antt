@@ -4,7 +4,7 @@ use Rattle.deck_span.proofs.Common.{period_at, is_variable, index_of, start_head
 use Rattle.deck_span.proofs.Common.{IsBetween, Fraction, three_at, three_lengths, inl, inr, refl, AllZip, Entry, Given, none, next, IsEntryBetween}
 use Rattle.deck_span.proofs.Common.{IsGivenAtMost, IsGivenBetween, IsRateBetween, wells, rivers, drains, generals, AreGivenAlike, ArePeriodsAlike, AreAlike}
 use Rattle.deck_span.proofs.Common.{AreEntriesAlike, AreRatesAlike}
-use Rattle.model_types.specs.Times.{times}
+use Rattle.model_types.specs.{times}
 use Rattle.deck_span.proofs.SourcesBetween.{framed, no_dec, at_period, variable_is, cells_are}
 use Rattle.deck_span.proofs.StepsBetween.{framed_is, constant_between}
 use Rattle.decimal_input.proofs.Fractional.{AtMost-trans}

@@ -7,14 +7,12 @@ use Rattle.deck_span.proofs.Common.{between_heads, EvapSource, FixedSource, Flow
 use Rattle.deck_span.proofs.Common.{unsigned_abs, none, next, IsFractionBetween, IsRatioBetween, IsDecBetween, IsFlowBetween, IsFixedBetween, IsRiverBetween}
 use Rattle.deck_span.proofs.Common.{IsDrainBetween, IsEvapBetween, IsCellBetween, IsStepBetween, IsGivenBetween, IsPeriodBetween, IsBetween, IsGivenAtMost}
 use Rattle.deck_span.proofs.Common.{AtMost, frame, period_frame, three_at, and_parts, exact_river, exact_drain, exact_link, exact_fixed, exact_flow, exact_evap}
-use Rattle.deck_span.proofs.Common.{exact_cell, exact_step, negsuc}
+use Rattle.deck_span.proofs.Common.{exact_cell, exact_step, negsuc, storage, IsModel, IsEvapValid}
 use Rattle.std.specs.Prelude.{pos, ℤ}
 use Rattle.decimal_input.specs.Ratios.{times as size_times, AtMost as IsRatioAtMost}
 use Rattle.decimal_input.specs.Fractions.{times}
 use Rattle.model_types.specs.declared.face.Axis.{Axis}
 use Rattle.model_types.specs.declared.face.Axis.TheVariants.{Row, Column, Vertical}
-use Rattle.model_types.specs.Storage.{storage}
-use Rattle.model_types.specs.Valid.{IsModel, IsEvapValid}
 use Rattle.model_types.proofs.Ranks.{passing, is_at}
 use Rattle.std.proofs.lemmas.List.Elements.{All-head, All-tail}
 use Rattle.std.proofs.lemmas.Bool.Decides.{nat_tests}

@@ -7,7 +7,7 @@ use Rattle.model_types.specs.declared.period.Period.{Period}
 use Rattle.model_types.specs.declared.entry.Given.{Given}
 use Rattle.model_types.specs.declared.entry.Entry.{Entry}
 use Rattle.model_types.specs.declared.entry.Entry.TheVariants.{Well, River, Drain, General}
-use Rattle.model_types.specs.Layers.{no_number}
+use Rattle.model_types.specs.{no_number}
 use Rattle.deck_span.specs.Models.{IsGivenAtMost, period_frame, frame}
 
 -- an entry of a list with its numbers at 0: its package and its cell

@@ -1,14 +1,12 @@
 -- Which models and exact steps lie between two others, and what the hull of two problems encloses.
 use Rattle.std.specs.Prelude.{ℕ, ◌≤◌, List}
-use Rattle.decimal_input.specs.Fractions.{Fraction}
+use Rattle.decimal_input.specs.{Fraction}
 use Rattle.step_problem.specs.Entries.{Entries}
-use Rattle.cell_balance.specs.Steps.{ExactCell}
-use Rattle.cell_balance.specs.Enclosures.{EnclosesStep}
+use Rattle.cell_balance.specs.{ExactCell, EnclosesStep}
 use Rattle.model_types.specs.declared.model.FlowModel.{FlowModel}
-use Rattle.model_types.specs.Times.{period_at}
-use Rattle.model_types.specs.Valid.{IsModel}
-use Rattle.flow_equations.specs.ExactStep.{exact_step}
-use Rattle.problem_hull.specs.Hulls.{IsHull}
+use Rattle.model_types.specs.{period_at, IsModel}
+use Rattle.flow_equations.specs.{exact_step}
+use Rattle.problem_hull.specs.{IsHull}
 use Rattle.deck_span.specs.Steps.{IsStepBetween}
 use Rattle.deck_span.specs.Models.{IsBetween}
 use Rattle.deck_span.specs.Alike.{AreAlike}

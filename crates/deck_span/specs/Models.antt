@@ -4,20 +4,19 @@
 -- EVT: surface and rate, and a rate is 0 in all three or in none. CHD: both heads, in one order. BAS6: STRT.
 use Rattle.std.specs.Prelude.{◌≡◌, ◌⊎◌, ◌==◌, [], ℕ, ◌<◌, ℤ, List, ◌∷◌}
 use Rattle.decimal_input.specs.declared.dec.Dec.{Dec}
-use Rattle.decimal_input.specs.Decimals.{number, size}
-use Rattle.decimal_input.specs.Fractions.{AtMost, Fraction}
+use Rattle.decimal_input.specs.{number, size, Fraction, Ratio}
+use Rattle.decimal_input.specs.Fractions.{AtMost}
 use Rattle.model_types.specs.declared.grid.CellId.{CellId}
 use Rattle.model_types.specs.declared.model.FlowModel.{FlowModel}
 use Rattle.model_types.specs.declared.period.Period.{Period}
-use Rattle.model_types.specs.Times.{no_stresses, times}
+use Rattle.model_types.specs.{no_stresses, times, start_head}
 use Rattle.model_types.specs.declared.entry.Given.{Given}
 use Rattle.model_types.specs.declared.entry.Entry.{Entry}
 use Rattle.model_types.specs.declared.entry.Entry.TheVariants.{Well, River, Drain, General}
-use Rattle.problem_hull.specs.Hulls.{AllThree}
-use Rattle.decimal_input.specs.Ratios.{Ratio, AtMost as IsRatioAtMost}
+use Rattle.problem_hull.specs.{AllThree}
+use Rattle.decimal_input.specs.Ratios.{AtMost as IsRatioAtMost}
 use Rattle.model_types.specs.declared.time_steps.TimeStep.{TimeStep}
-use Rattle.model_types.specs.Heads.{start_head}
-use Rattle.flow_equations.specs.Histories.{SolvesAt, heads_of}
+use Rattle.flow_equations.specs.{SolvesAt, heads_of}
 
 -- When a number lies between two others, whichever of these is the greater one.
 -- a ≤ m ≤ b, or b ≤ m ≤ a, by the order Le

@@ -1,8 +1,8 @@
 -- When an exact step lies between two others: it has the same entries at the same cells, and each number that a stress
 -- gives lies between those of the two. The links are the same.
 use Rattle.std.specs.Prelude.{◌≡◌, List}
-use Rattle.cell_balance.specs.Steps.{ExactFlow, ExactFixed, ExactRiver, ExactDrain, ExactEvap, ExactCell}
-use Rattle.problem_hull.specs.Hulls.{AllThree}
+use Rattle.cell_balance.specs.{ExactFlow, ExactFixed, ExactRiver, ExactDrain, ExactEvap, ExactCell}
+use Rattle.problem_hull.specs.{AllThree}
 use Rattle.deck_span.specs.Models.{IsFractionBetween, IsRatioBetween}
 
 pub record IsFlowBetween (a m b : ExactFlow) : Type 0 where

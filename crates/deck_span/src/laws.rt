@@ -1,5 +1,5 @@
 // Which models and exact steps lie between two others, and what the hull of two problems encloses.
-ghost use Rattle.deck_span.specs.Laws.{AlikeLieBetween, BetweenAreAlike, HullsEnclose, StepsLieBetween};
+ghost use Rattle.deck_span.specs.{AlikeLieBetween, BetweenAreAlike, HullsEnclose, StepsLieBetween};
 
 /// Each of two models that are alike lies between the two.
 pub fn alike_lie_between()

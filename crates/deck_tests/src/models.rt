@@ -1,7 +1,6 @@
 // The model of a name file, and what is asked of it.
 ghost use Rattle.std.specs.Prelude.{IfOk};
-ghost use Rattle.model_types.specs.Grids.{HasSize};
-ghost use Rattle.model_types.specs.Valid.{IsModel};
+ghost use Rattle.model_types.specs.{HasSize, IsModel};
 
 use crate::steps::push_steps;
 use deck_problems::Decks;

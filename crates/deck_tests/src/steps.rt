@@ -1,9 +1,8 @@
 // The steps of a model.
 ghost use Rattle.std.specs.Prelude.{◌≤◌, Contains, IfSome};
-ghost use Rattle.model_types.specs.Times.{times};
-ghost use Rattle.model_types.specs.Valid.{IsModel};
-ghost use Rattle.problem_builder.specs.GridHeads.{AreGridHeads};
-ghost use Rattle.deck_problems.specs.Decks.{AreDecks};
+ghost use Rattle.model_types.specs.{times, IsModel};
+ghost use Rattle.problem_builder.specs.{AreGridHeads};
+ghost use Rattle.deck_problems.specs.{AreDecks};
 
 use deck_problems::{Decks, start_heads_for};
 use model_types::{FlowModel, Limits, Listed, TimeStep, times};

@@ -1,6 +1,5 @@
 -- The last layer has no bed.
-use Rattle.std.proofs.Common.{◌≡◌, ℕ, ◌-◌, ◌≤◌, ℤ, pos, List, [], ◌∷◌, ◌++◌, length, refl, arith}
-use Rattle.model_types.specs.Layers.{int_at}
+use Rattle.dis_package.proofs.Common.{◌≡◌, ℕ, ◌-◌, ◌≤◌, ℤ, pos, List, [], ◌∷◌, ◌++◌, length, refl, arith, int_at}
 
 at_end : (above : List ℤ) (z : ℤ) → int_at (above ++ z ∷ []) (length above) ≡ z
 at_end [] z = refl

@@ -1,10 +1,7 @@
 -- The first line and LAYCBD leave lines that they were given.
 use Rattle.dis_package.proofs.Common.{◌≡◌, ℕ, ◌-◌, ℤ, List, Result, Ok, All, IfOk, LineMay, LinesMay, line_at, Left, Numbered, repeated, chain, after}
-use Rattle.dis_package.proofs.Common.{line_held, leaves, repeated_held, head_of, Frame, Limits, beds_of, frame_of}
-use Rattle.outside.specs.Names.{words}
-use Rattle.record_lines.specs.Spread.{beginning}
-use Rattle.array_reader.specs.Arrays.{value_alone, zero_at}
-use Rattle.array_reader.specs.Numbers.{integer}
+use Rattle.dis_package.proofs.Common.{line_held, leaves, repeated_held, head_of, Frame, Limits, beds_of, frame_of, words, beginning}
+use Rattle.array_reader.specs.{value_alone, zero_at, integer}
 use Rattle.array_reader.proofs.Forward.{value_alone_held}
 use Rattle.array_reader.proofs.PackageForward.{zero_held}
 

@@ -1,7 +1,6 @@
 -- A discretization, one item behind the other.
 use Rattle.dis_package.proofs.Common.{◌≡◌, refl, ℕ, ℤ, List, Ok, Err, FileSet, Left, left_from, without_comments, Stops, StopsText, Period, grid_of, periods_of}
-use Rattle.dis_package.proofs.Common.{begun, head_of, dis_of, Frame, Limits}
-use Rattle.outside.specs.Codes.{input_fault}
+use Rattle.dis_package.proofs.Common.{begun, head_of, dis_of, Frame, Limits, input_fault}
 use Rattle.outside.specs.declared.inputs.TextFault.{TextFault}
 use Rattle.outside.specs.declared.inputs.TextFault.TheVariants.{Refused, Memory}
 use Rattle.model_types.specs.declared.grid.Grid.{Grid}

@@ -1,9 +1,8 @@
 -- What the tests of a period's line tell of its times.
 use Rattle.dis_package.proofs.Common.{◌≡◌, Bool, true, false, not, ◌&&◌, ◌||◌, nat_le, ◌⊎◌, inl, inr, refl, sym, ◌∙◌, subst, if◌then◌else◌, size, Period}
-use Rattle.dis_package.proofs.Common.{IsTime, IsNewPeriod, period_of, is_growth, is_time}
+use Rattle.dis_package.proofs.Common.{IsTime, IsNewPeriod, period_of, is_growth, is_time, IsTimed, IsGrowing, number_one}
 use Rattle.std.proofs.lemmas.Bool.{and_parts, not-true, leb-true}
-use Rattle.model_types.specs.Valid.{IsTimed, IsGrowing, number_one}
-use Rattle.number_limits.specs.Magnitudes.{is_at_most, is_at_least, is_one, is_positive}
+use Rattle.number_limits.specs.{is_at_most, is_at_least, is_one, is_positive}
 use Rattle.number_limits.proofs.MagnitudeLemmas.{at_least_thousandth, at_most_thousand}
 use Rattle.number_limits.proofs.SignLemmas.{positive_of, one_of}
 use Rattle.dis_package.specs.declared.periods.Time.{Time}

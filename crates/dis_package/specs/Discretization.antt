@@ -1,11 +1,8 @@
 -- A file of the discretization, item by item (TM 6-A16, DIS).
 use Rattle.std.specs.Prelude.{ℕ, ℤ, pos, List, [], false, Result, Ok}
-use Rattle.outside.specs.Files.{FileSet}
+use Rattle.outside.specs.{FileSet, words}
 use Rattle.outside.specs.declared.inputs.Refusal.{Refusal}
-use Rattle.record_lines.specs.Items.{line_at}
-use Rattle.outside.specs.Names.{words}
-use Rattle.record_lines.specs.Layout.{Left, left_from, without_comments}
-use Rattle.record_lines.specs.Reading.{◌>>=◌}
+use Rattle.record_lines.specs.{line_at, Left, left_from, without_comments, ◌>>=◌}
 use Rattle.model_types.specs.declared.grid.Grid.{Grid}
 use Rattle.model_types.specs.declared.limits.Limits.{Limits}
 use Rattle.model_types.specs.declared.model.FlowModel.{FlowModel}

@@ -1,11 +1,9 @@
 -- What is known of a discretization that was read, whatever the folder returned: limits, lengths and signs.
 use Rattle.std.specs.Prelude.{◌≡◌, ◌*◌, ◌≤◌, [], All, length, sum_by}
-use Rattle.decimal_input.specs.Decimals.{IsDec}
+use Rattle.decimal_input.specs.{IsDec}
 use Rattle.model_types.specs.declared.model.FlowModel.{FlowModel}
 use Rattle.model_types.specs.declared.period.Period.{Period}
-use Rattle.model_types.specs.Grids.{IsGrid}
-use Rattle.model_types.specs.Times.{no_stresses}
-use Rattle.model_types.specs.Valid.{IsTimed}
+use Rattle.model_types.specs.{IsGrid, no_stresses, IsTimed}
 use Rattle.dis_package.specs.Discretization.{begun}
 use Rattle.dis_package.specs.declared.frame.Frame.{Frame}
 use Rattle.dis_package.specs.declared.frame.Size.{Size}

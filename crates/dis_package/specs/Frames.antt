@@ -1,25 +1,18 @@
 -- The first line of a file of the discretization: NLAY NROW NCOL NPER ITMUNI LENUNI (TM 6-A16, DIS, item 1).
 use Rattle.std.specs.Prelude.{ℕ, ◌*◌, List, nat_le, Option, Some, None, Result, Ok, Err, if◌then◌else◌, ◌-◌, ℤ, [], ◌∷◌, ◌++◌, ◌+◌, Bool, true, false, not}
 use Rattle.std.specs.Prelude.{◌&&◌, ◌||◌, codes}
-use Rattle.outside.specs.Codes.{refusal}
+use Rattle.outside.specs.{refusal, words}
 use Rattle.outside.specs.declared.codes.Code.TheVariants.{BadGrid}
 use Rattle.outside.specs.declared.inputs.Refusal.{Refusal}
-use Rattle.record_lines.specs.Reading.{◌>>=◌, repeated}
-use Rattle.array_reader.specs.Control.{number_at}
-use Rattle.array_reader.specs.Numbers.{integer, number}
+use Rattle.record_lines.specs.{◌>>=◌, repeated, Left, beginning, is_word, line_at}
+use Rattle.array_reader.specs.{number_at, integer, number, value_alone, zero_at}
 use Rattle.model_types.specs.declared.limits.Limits.{Limits}
-use Rattle.model_types.specs.Limits.{most_layers, most_in_row, most_cells}
-use Rattle.number_limits.specs.Magnitudes.{within, is_positive, is_one, is_at_most, is_at_least}
+use Rattle.model_types.specs.{most_layers, most_in_row, most_cells, no_stresses}
+use Rattle.number_limits.specs.{within, is_positive, is_one, is_at_most, is_at_least}
 use Rattle.dis_package.specs.declared.frame.Frame.{Frame}
 use Rattle.dis_package.specs.declared.frame.Size.{Size}
-use Rattle.record_lines.specs.Layout.{Left}
-use Rattle.record_lines.specs.Spread.{beginning}
-use Rattle.array_reader.specs.Arrays.{value_alone, zero_at}
-use Rattle.decimal_input.specs.Decimals.{size}
-use Rattle.record_lines.specs.Items.{is_word, line_at}
-use Rattle.outside.specs.Names.{words}
+use Rattle.decimal_input.specs.{size}
 use Rattle.model_types.specs.declared.period.Period.{Period}
-use Rattle.model_types.specs.Times.{no_stresses}
 use Rattle.dis_package.specs.declared.periods.Time.{Time}
 
 abbrev pub inside : Option ℕ → Refusal → Result ℕ Refusal

@@ -2,17 +2,14 @@
 use Rattle.std.specs.Prelude.{ℕ, ℤ, List, [], ◌++◌, Result, Ok, Err, if◌then◌else◌}
 use Rattle.std.specs.List.{list_all}
 use Rattle.decimal_input.specs.declared.dec.Dec.{Dec}
-use Rattle.outside.specs.Files.{FileSet}
-use Rattle.outside.specs.Codes.{refusal}
+use Rattle.outside.specs.{FileSet, refusal}
 use Rattle.outside.specs.declared.codes.Code.TheVariants.{BadGrid}
 use Rattle.outside.specs.declared.inputs.Refusal.{Refusal}
-use Rattle.record_lines.specs.Layout.{Left}
-use Rattle.record_lines.specs.Reading.{◌>>=◌, counted}
-use Rattle.array_reader.specs.Arrays.{array_at, real_layer, layer_or}
-use Rattle.array_reader.specs.Numbers.{real}
+use Rattle.record_lines.specs.{Left, ◌>>=◌, counted}
+use Rattle.array_reader.specs.{array_at, real_layer, layer_or, real}
 use Rattle.model_types.specs.declared.grid.Grid.{Grid}
-use Rattle.model_types.specs.Layers.{int_at, no_number, is_nonzero}
-use Rattle.number_limits.specs.Magnitudes.{is_positive}
+use Rattle.model_types.specs.{int_at, no_number, is_nonzero}
+use Rattle.number_limits.specs.{is_positive}
 use Rattle.dis_package.specs.declared.frame.Size.{Size}
 use Rattle.dis_package.specs.declared.bottoms.Bottoms.{Bottoms}
 

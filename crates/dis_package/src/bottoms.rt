@@ -1,11 +1,9 @@
 // The bottoms of the layers and of the confining beds below them.
 ghost use Rattle.std.specs.Prelude.{◌≡◌, ◌*◌, IfOk, length, [], ◌+◌, ◌++◌, All, List};
-ghost use Rattle.decimal_input.specs.Decimals.{IsDec};
-ghost use Rattle.outside.specs.Files.{FileSet};
-ghost use Rattle.outside.specs.Folders.{ReadsOn};
-ghost use Rattle.record_lines.specs.Layout.{LinesMay};
-ghost use Rattle.record_lines.specs.Reading.{Gives, counted};
-ghost use Rattle.dis_package.specs.Grids.{bottom_at, bottoms_of};
+ghost use Rattle.decimal_input.specs.{IsDec};
+ghost use Rattle.outside.specs.{FileSet, ReadsOn};
+ghost use Rattle.record_lines.specs.{LinesMay, Gives, counted};
+ghost use Rattle.dis_package.specs.{bottom_at, bottoms_of};
 
 use crate::frame::Size;
 use array_reader::{layer_or, read_layer};

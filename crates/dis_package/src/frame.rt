@@ -1,9 +1,8 @@
 // The first line: NLAY NROW NCOL NPER ITMUNI LENUNI.
 ghost use Rattle.std.specs.Prelude.{◌≡◌, IfOk, ◌≤◌, ◌*◌, ◌-◌, pos, length};
-ghost use Rattle.record_lines.specs.Reading.{GivesText, HasText};
-ghost use Rattle.dis_package.specs.Frames.{count_at, size_at, frame_of, beds_of};
-ghost use Rattle.dis_package.specs.Forms.{IsSize, IsFrame};
-ghost use Rattle.model_types.specs.Layers.{int_at};
+ghost use Rattle.record_lines.specs.{GivesText, HasText};
+ghost use Rattle.dis_package.specs.{count_at, size_at, frame_of, beds_of, IsSize, IsFrame};
+ghost use Rattle.model_types.specs.{int_at};
 
 use array_reader::{integer, values, zero_item};
 use model_types::Limits;

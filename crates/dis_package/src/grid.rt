@@ -1,15 +1,9 @@
 // Widths and elevations.
 ghost use Rattle.std.specs.Prelude.{◌≡◌, ◌-◌, pos, IfOk, length, All, List};
-ghost use Rattle.outside.specs.Files.{FileSet};
-ghost use Rattle.outside.specs.Folders.{ReadsOn};
-ghost use Rattle.record_lines.specs.Layout.{LinesMay};
-ghost use Rattle.record_lines.specs.Reading.{Gives, Has, GivesText};
-ghost use Rattle.model_types.specs.Grids.{IsGrid, IsPositive};
-ghost use Rattle.model_types.specs.Layers.{int_at};
-ghost use Rattle.dis_package.specs.Forms.{IsSize, IsFrame, IsBegun};
-ghost use Rattle.dis_package.specs.Grids.{widths, grid_of};
-ghost use Rattle.outside.specs.Names.{TextMay};
-ghost use Rattle.dis_package.specs.Discretization.{begun, head_of, dis_of};
+ghost use Rattle.outside.specs.{FileSet, ReadsOn, TextMay};
+ghost use Rattle.record_lines.specs.{LinesMay, Gives, Has, GivesText};
+ghost use Rattle.model_types.specs.{IsGrid, IsPositive, int_at};
+ghost use Rattle.dis_package.specs.{IsSize, IsFrame, IsBegun, widths, grid_of, begun, head_of, dis_of};
 
 use crate::bottoms::bottoms_of;
 use crate::frame::{Frame, Size, beds_of, frame_of};

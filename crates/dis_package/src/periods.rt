@@ -1,9 +1,8 @@
 // The stress periods.
 ghost use Rattle.std.specs.Prelude.{◌≡◌, ◌+◌, ◌≤◌, IfOk, length, All, sum_by, []};
-ghost use Rattle.record_lines.specs.Reading.{GivesText, HasText, repeated};
-ghost use Rattle.dis_package.specs.Frames.{period_at, period_of, periods_of, kind_of, is_growth, is_time, time_of};
-ghost use Rattle.dis_package.specs.Forms.{IsNewPeriod, IsTime};
-ghost use Rattle.decimal_input.specs.Decimals.{IsDec};
+ghost use Rattle.record_lines.specs.{GivesText, HasText, repeated};
+ghost use Rattle.dis_package.specs.{period_at, period_of, periods_of, kind_of, is_growth, is_time, time_of, IsNewPeriod, IsTime};
+ghost use Rattle.decimal_input.specs.{IsDec};
 
 use crate::frame::count_at;
 use array_reader::{next_line, number};

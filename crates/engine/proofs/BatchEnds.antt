@@ -5,7 +5,7 @@ use Rattle.engine.proofs.Common.{defined, model_line, Answers, IsReadingEnd, IsV
 use Rattle.engine.proofs.Common.{InputFault, Refusal, weaker, Status, Err, IfOk, List, None, Ok, Result, Some, ap, inl, refl, subst, sym, ℕ, ◌++◌, ◌∙◌, ◌∷◌}
 use Rattle.engine.proofs.Common.{◌≡◌, [], Option, append-nil, All-weaker, AllZip, All, slice_get}
 use Rattle.std.specs.Prelude.{IfSome, length}
-use Rattle.batch_book.specs.Ends.{AreJobEnds}
+use Rattle.batch_book.specs.{AreJobEnds}
 use Rattle.engine.proofs.Ends.{any_case, any_readings, ends_without_words, is_any_case, refused, unreadable}
 use Rattle.outside.specs.declared.inputs.InputFault.TheVariants as input
 use Rattle.run_puts.specs.declared.puts.Status.TheVariants as status

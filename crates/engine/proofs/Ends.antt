@@ -4,8 +4,7 @@ use Rattle.engine.proofs.Common.{unsigned_abs, FileSet, Rose, file_refusal, Put,
 use Rattle.engine.proofs.Common.{read_fault_line, IsEnd, IsLast, IsWanting, wanting, memory_put, status_after, Status, tail_late, lone, lacks_at_first, weaker}
 use Rattle.engine.proofs.Common.{AreZonesOf, Case, Command, Make, NoWords, Refuses, Making, IsCase, CouldList, CouldRead, asked_in, case_asked, made_model, Due}
 use Rattle.engine.proofs.Common.{ReadsFolder, CutOf, IsMade, Answers, IsMadeRun, IsStopped, IsValid, defined, Comparing, Readings, readings_of, some_readings}
-use Rattle.engine.proofs.Common.{Second, unread, but_batch}
-use Rattle.command_line.specs.Commands.{usage_line}
+use Rattle.engine.proofs.Common.{Second, unread, but_batch, usage_line}
 use Rattle.engine.proofs.Dues.{late_stops}
 use Rattle.engine.proofs.Readings.{no_second, no_zones}
 use Rattle.outside.specs.declared.inputs.InputFault.TheVariants as input

@@ -6,11 +6,10 @@ use Rattle.engine.proofs.Common.{pairs_in, AreListed, listing_in, zones_of, AreZ
 use Rattle.engine.proofs.Common.{steps_read, with_zones, zoned_steps, zones_named, AreStepsAs, AreZonesAs, IsListedAs, IsNamedFault, IsReadAs, Limits, ◌>>=◌}
 use Rattle.engine.proofs.Common.{model_of, AreAlike, Difference, two, one_deck, AreDecksAs, IsSecondAs, IsUnlikeFault, second_by, Second, of_both, of_first}
 use Rattle.engine.proofs.Common.{of_second, Pairs, InputCounts, cell_count, false, AreDecks, Decks, AreDecksOf, IsNoSecond, IfErr, IsFirstDifference, second_in}
-use Rattle.engine.proofs.Common.{reads}
+use Rattle.engine.proofs.Common.{reads, ReadsOn}
 use Rattle.std.proofs.Common.{All}
-use Rattle.model_reader.specs.Model.{names_in}
+use Rattle.model_reader.specs.{names_in}
 use Rattle.engine.specs.declared.two_decks.Second.{Second as SecondBy}
-use Rattle.outside.specs.Folders.{ReadsOn}
 use Rattle.outside.specs.declared.traits.Folder.{Ghosts as FolderOf}
 use Rattle.outside.proofs.NameTests.{is_taken, is_good}
 use Rattle.model_reader.proofs.BasicLemmas.{both_read as in_a_row}

@@ -5,7 +5,7 @@ use Rattle.engine.proofs.Common.{span_task_of, IsCheck, certified_line, Defines,
 use Rattle.engine.proofs.Common.{readings_of, model_of, ◌>>=◌, Pairs, deck_task, RunIsCertified, RunIsReadAgain, ChecksSpan, OneSpanIsCertified}
 use Rattle.engine.proofs.Common.{WrittenSpanIsCertified, Command, Comparing, case_asked, case_decks, false, wanted_of, second_in, reads}
 use Rattle.std.specs.Prelude.{if◌then◌else◌}
-use Rattle.model_reader.specs.Model.{names_in}
+use Rattle.model_reader.specs.{names_in}
 use Rattle.engine.proofs.Spans.{have_choices}
 use Rattle.engine.proofs.Written.{clash, read_numbers, reads_and_checks, whole_of}
 use Rattle.run_puts.specs.declared.puts.Status.TheVariants as status

@@ -1,9 +1,10 @@
 -- What a run of two decks, or the check of such a listing, that ended Ok says.
 use Rattle.engine.proofs.Common.{◌≡◌, ℕ, List, [], ◌∷◌, Option, Some, Ok, map, subst, ap, ◌∙◌, FileSet, Put, Seen, PutsMake, taken, FlowModel, ZonedListing}
 use Rattle.engine.proofs.Common.{Text, all_written, end_line, AreDecks, Task, Step, asked_in, listing, named, steps_read, zones_read, certified_line, IsWhole}
-use Rattle.engine.proofs.Common.{Limits, AllSteps, ListingIsOne, Steps, Bound, Solved, TimeStep, times, AreAllSteps, AreSteps, two, ChoicesHaveOne}
-use Rattle.engine.proofs.Common.{ListingVerdict, IsVerdict, Asked, AskedCheck, Run, Check, listing_read, span_task_of, IsCheck, verdict_line, ArePairOf}
-use Rattle.engine.proofs.Common.{OneSpan, SpanVerdict, Second, deck_task, pairs_of, Bool, true, Wanted, second_in, reads}
+use Rattle.engine.proofs.Common.{Limits, AllSteps, ListingIsOne, Bound, Solved, TimeStep, times, AreAllSteps, AreSteps, two, ChoicesHaveOne, ListingVerdict}
+use Rattle.engine.proofs.Common.{IsVerdict, Asked, AskedCheck, Run, Check, listing_read, span_task_of, IsCheck, verdict_line, ArePairOf, OneSpan, SpanVerdict}
+use Rattle.engine.proofs.Common.{Second, deck_task, pairs_of, Bool, true, Wanted, second_in, reads}
+use Rattle.listing_run.specs.Steps.{Steps}
 use Rattle.std.specs.Prelude.{true}
 use Rattle.listing_run.specs.declared.text.ListingEnd.TheVariants.{Whole}
 use Rattle.exact_histories.proofs.ChosenHistories.{choices_history, choices_one}

@@ -1,20 +1,17 @@
 -- A step whose cells have storage has a floor and a ceiling.
 use Rattle.engine.proofs.Common.{◌≡◌, ◌≢◌, ℕ, Bool, true, cond, List, [], ◌∷◌, Result, Ok, Err, Option, Some, None, inl, inr, sym, ap, subst, arith, ℤ}
 use Rattle.engine.proofs.Common.{if◌then◌else◌, Plain, Limits, Decks, TimeStep, one_deck, Bound, NoBound, Entries, lower_at, upper_at, no_heads, no_budget}
-use Rattle.engine.proofs.Common.{no_zones, Solved, Wide, false, LeavesRange, HasLargeFlow}
+use Rattle.engine.proofs.Common.{no_zones, Solved, Wide, false, LeavesRange, HasLargeFlow, IsStored, StorageHolds}
 use Rattle.step_problem.specs.declared.place.Dir.{Dir}
 use Rattle.step_problem.specs.declared.place.Dir.TheVariants.{In, Out}
 use Rattle.step_problem.specs.declared.place.Term.{Term}
 use Rattle.step_problem.specs.declared.heads.Side.{Side}
 use Rattle.step_problem.specs.declared.heads.Side.TheVariants.{Low, High}
-use Rattle.barrier_vector.specs.Cuts.{IsUnbounded, RefusesOn}
-use Rattle.barrier_vector.specs.Held.{HasStorage}
-use Rattle.barrier_vector.specs.Refusals.{HasNoBound, IsRefused, no_barrier_on}
+use Rattle.barrier_vector.specs.{IsUnbounded, RefusesOn, HasStorage, HasNoBound, IsRefused, no_barrier_on}
 use Rattle.barrier_vector.specs.declared.BarrierFault.TheVariants.{NoBound as AFault}
 use Rattle.barrier_vector.proofs.Sides.{stored_fault, stored_refusal, unbounded_refuses}
-use Rattle.budget_bounds.specs.Terms.{◌>>=◌, all_terms, budget_of, is_small, term_of, term_pair, terms_of, too_large}
-use Rattle.problem_builder.specs.Problems.{fault_of}
-use Rattle.engine.specs.Storage.{IsStored, StorageHolds}
+use Rattle.budget_bounds.specs.{◌>>=◌, all_terms, budget_of, is_small, term_of, term_pair, terms_of, too_large}
+use Rattle.problem_builder.specs.{fault_of}
 
 -- what a refusal is not
 abbrev IsOther : ℕ → Type 0

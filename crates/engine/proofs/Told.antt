@@ -4,11 +4,13 @@ use Rattle.engine.proofs.Common.{FileSet, Rose, Put, Seen, PutsMake, taken, Refu
 use Rattle.engine.proofs.Common.{all_written, one_deck, AreDecks, one_valid, ListingEnd, AllSteps, listing, IsWhole, is_whole, whole_listing, history_exists}
 use Rattle.engine.proofs.Common.{history_is_one, VerdictIsOne, Asked, AskedCheck, Case, Command, Run, Make, Check, Write, NoWords, Refuses, Listing, Making}
 use Rattle.engine.proofs.Common.{Checking, Writing, IsCase, asked_in, case_asked, case_of, case_zoned, listing_read, made_model, named, task_of, zones_read}
-use Rattle.engine.proofs.Common.{Certified, OneDeck, Defines, Made, made_task, summed_text, OneListing, OneSummary, OneVerdict, Answers, IsStopped, IsValid}
-use Rattle.engine.proofs.Common.{Plain, Limits, ListingIsOne, ListingExcludesRefusal, RefusalIsOne, ZonedListing, Comparing, case_listed, two, true}
-use Rattle.engine.proofs.Common.{readings_of, some_readings, Second, not_alike, most_bytes, with_limit, case_decks, span_task_of, IsDeck, OneSpan}
-use Rattle.engine.proofs.Common.{SpanCertified, SpanHeadline, SpanVerdict, deck_text, ReadsFolder, CutOf, deck_reads, summary_of, summary_text, DifferenceIsOne}
-use Rattle.engine.proofs.Common.{Wanted, AskedBatch, Batch, case_jobs, jobs_read, second_in, reads, Decks}
+use Rattle.engine.proofs.Common.{Certified, OneDeck, Defines, Made, made_task, summed_text, OneSummary, OneVerdict, Answers, IsStopped, IsValid, Plain, Limits}
+use Rattle.engine.proofs.Common.{ListingIsOne, ListingExcludesRefusal, RefusalIsOne, ZonedListing, Comparing, case_listed, two, true, readings_of}
+use Rattle.engine.proofs.Common.{some_readings, Second, not_alike, most_bytes, with_limit, case_decks, span_task_of, IsDeck, OneSpan, SpanCertified}
+use Rattle.engine.proofs.Common.{SpanVerdict, deck_text, ReadsFolder, CutOf, deck_reads, summary_of, summary_text, DifferenceIsOne, Wanted, AskedBatch, Batch}
+use Rattle.engine.proofs.Common.{case_jobs, jobs_read, second_in, reads, Decks}
+use Rattle.engine.specs.OneListing.{OneListing}
+use Rattle.engine.specs.SpanHeadline.{SpanHeadline}
 use Rattle.std.specs.Prelude.{false}
 use Rattle.std.specs.Io.KnownBytes.{Appends}
 use Rattle.engine.specs.Headline.{Headline}

@@ -4,11 +4,10 @@ use Rattle.engine.proofs.Common.{refl, arith, is_some, append_assoc, append-nil,
 use Rattle.engine.proofs.Common.{Seen, refused, taken, SinkError, Bound, Entries, Edges, TimeStep, AddsPhases, EnclosesPair, Text, cut, early, failed, Status}
 use Rattle.engine.proofs.Common.{write_rose, AreAllShown, IsStopPut, LeadOn, ViewPuts, no_lead, Task, Step, IsStep, AllSettledBy, AreSettledBy, IsSettledBy}
 use Rattle.engine.proofs.Common.{PairEncloses, Reaches, ReachesFirst, begun, rests, settled, AreFirstViews, AreViews, AreWatched, ArePutInTurn, IsView}
-use Rattle.engine.proofs.Common.{IsWatched, Shows, ViewPutsOf, lines_of, edges_by, false}
+use Rattle.engine.proofs.Common.{IsWatched, Shows, ViewPutsOf, lines_of, edges_by, false, view_text}
 use Rattle.std.proofs.Common.{All}
-use Rattle.listing_io.specs.Listing.{view_text}
 use Rattle.view_puts.proofs.Views.{lead_more}
-use Rattle.model_types.specs.Times.{times as times_of}
+use Rattle.model_types.specs.{times as times_of}
 use Rattle.outside.specs.declared.traits.SinkError.TheVariants as error
 use Rattle.run_puts.specs.declared.puts.Status.TheVariants as status
 

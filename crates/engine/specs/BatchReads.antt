@@ -2,15 +2,14 @@
 use Rattle.std.specs.Prelude.{◌≡◌, ℕ, List, map, Result, Ok, Err, Option, Some, None, IfOk, All, ◌≤◌}
 use Rattle.std.specs.declared.vec.Vec.{Vec}
 use Rattle.std.specs.declared.alloc.Global.{Global}
-use Rattle.outside.specs.Files.{FileSet}
-use Rattle.outside.specs.Inputs.{IsReading}
+use Rattle.outside.specs.{FileSet, IsReading}
 use Rattle.outside.specs.declared.inputs.InputFault.{InputFault}
-use Rattle.model_reader.specs.Model.{reads}
-use Rattle.run_puts.specs.Runs.{Text}
-use Rattle.listing_run.specs.Ends.{IsTask}
+use Rattle.model_reader.specs.{reads}
+use Rattle.run_puts.specs.{Text}
+use Rattle.listing_run.specs.{IsTask}
 use Rattle.engine.specs.declared.job.Job.{Job}
 use Rattle.engine.specs.Cases.{AskedBatch, IsSomeJob, job_of, jobs_read, names_read, Batch, asked_in, but_batch}
-use Rattle.command_line.specs.Wants.{Wanted}
+use Rattle.command_line.specs.{Wanted}
 use Rattle.engine.specs.declared.asked_batch.BatchOrder.{BatchOrder}
 use Rattle.outside.specs.declared.inputs.InputFault.TheVariants as input
 

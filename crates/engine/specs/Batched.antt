@@ -2,24 +2,22 @@
 use Rattle.std.specs.Prelude.{◌≡◌, ℕ, ℤ, List, false, [], ◌∷◌, ◌++◌, Ok, Err, Option, Some}
 use Rattle.std.specs.List.{AllZip, concat}
 use Rattle.std.specs.Io.KnownBytes.{Appends}
-use Rattle.outside.specs.Files.{FileSet}
+use Rattle.outside.specs.{FileSet}
 use Rattle.outside.specs.declared.inputs.Refusal.{Refusal}
 use Rattle.model_types.specs.declared.model.FlowModel.{FlowModel}
-use Rattle.model_types.specs.Heads.{start_head}
-use Rattle.model_types.specs.Valid.{IsModel}
-use Rattle.model_reader.specs.Model.{reads}
-use Rattle.flow_equations.specs.Histories.{Solves}
-use Rattle.run_puts.specs.Runs.{Text, end_line}
+use Rattle.model_types.specs.{start_head, IsModel}
+use Rattle.model_reader.specs.{reads}
+use Rattle.flow_equations.specs.{Solves}
+use Rattle.run_puts.specs.{Text, end_line}
 use Rattle.run_puts.specs.declared.puts.Status.{Status}
 use Rattle.run_puts.specs.declared.puts.Status.TheVariants as status
 use Rattle.listing_run.specs.declared.solving.Step.{Step}
 use Rattle.listing_run.specs.declared.text.ListingEnd.TheVariants.{Whole}
-use Rattle.listing_run.specs.Steps.{AllSteps}
-use Rattle.listing_run.specs.Listing.{listing, BoundAll}
-use Rattle.exact_histories.specs.Histories.{HasHistory, AreSame}
+use Rattle.listing_run.specs.{AllSteps, listing, BoundAll}
+use Rattle.exact_histories.specs.{HasHistory, AreSame}
 use Rattle.batch_puts.specs.declared.job_end.JobEnd.{JobEnd}
-use Rattle.batch_puts.specs.Batches.{first_not_ok, texts}
-use Rattle.command_line.specs.Wants.{Wanted}
+use Rattle.batch_puts.specs.{first_not_ok, texts}
+use Rattle.command_line.specs.{Wanted}
 use Rattle.engine.specs.Cases.{AskedBatch, Batch, asked_in, job_of, job_task, names_read}
 use Rattle.engine.specs.Defined.{IsJobEnd, model_line}
 

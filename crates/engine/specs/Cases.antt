@@ -1,32 +1,28 @@
 -- The case of a run: what its words and files define.
-use Rattle.std.specs.Prelude.{◌≡◌, ◌⊎◌, ℕ, ℤ, Bool, true, false, List, map, Result, Ok, Err, Option, Some, None, IfOk, codes, if◌then◌else◌, option_map, is_some, All}
-use Rattle.std.specs.Prelude.{unsigned_abs}
-use Rattle.outside.specs.Files.{FileSet, with_limit}
-use Rattle.model_types.specs.Limits.{most_bytes}
-use Rattle.outside.specs.Inputs.{file_at, file_refusal}
-use Rattle.outside.specs.Names.{is_good_name}
+use Rattle.std.specs.Prelude.{◌≡◌, ◌⊎◌, ℕ, ℤ, Bool, true, false, List, map, Result, Ok, Err, Option, Some, None, IfOk, codes, if◌then◌else◌, option_map}
+use Rattle.std.specs.Prelude.{is_some, All, unsigned_abs}
+use Rattle.outside.specs.{FileSet, with_limit, file_at, file_refusal, is_good_name}
+use Rattle.model_types.specs.{most_bytes, IsModel}
 use Rattle.outside.specs.declared.codes.Code.TheVariants.{BadName}
 use Rattle.outside.specs.declared.inputs.Refusal.{Refusal}
-use Rattle.command_line.specs.Wants.{Wanted, Lists, Checks, Makes, Batches, Writes}
+use Rattle.command_line.specs.{Wanted, Lists, Checks, Makes, Batches, Writes}
 use Rattle.model_types.specs.declared.limits.Limits.{Limits}
 use Rattle.model_types.specs.declared.limits.Limits.TheVariants.{Plain, Wide}
 use Rattle.model_types.specs.declared.model.FlowModel.{FlowModel}
-use Rattle.model_types.specs.Valid.{IsModel}
-use Rattle.model_reader.specs.Model.{reads}
-use Rattle.zone_file.specs.Zones.{zones_of}
-use Rattle.model_maker.specs.Files.{made_files, made_name}
-use Rattle.zone_pairs.specs.Pairs.{pairs_in, AreZonesOf}
+use Rattle.model_reader.specs.{reads}
+use Rattle.zone_file.specs.{zones_of}
+use Rattle.model_maker.specs.{made_files, made_name}
+use Rattle.zone_pairs.specs.{pairs_in, AreZonesOf}
 use Rattle.listing_io.specs.declared.listing.ListedStep.{ListedStep}
-use Rattle.listing_io.specs.Laws.{AreListed}
-use Rattle.listing_io.specs.Reading.{listing_in}
-use Rattle.run_puts.specs.Runs.{Text}
+use Rattle.listing_io.specs.{AreListed, listing_in}
+use Rattle.run_puts.specs.{Text}
 use Rattle.listing_run.specs.declared.steps.Task.{Task}
-use Rattle.deck_span.specs.Alike.{AreAlike}
+use Rattle.deck_span.specs.{AreAlike}
 use Rattle.deck_problems.specs.declared.decks.Decks.{Decks}
-use Rattle.deck_problems.specs.Decks.{one_deck}
-use Rattle.step_chain.specs.Steps.{two}
-use Rattle.listing_run.specs.Tasks.{deck_task, one_task}
-use Rattle.batch_list.specs.Names.{names_in}
+use Rattle.deck_problems.specs.{one_deck}
+use Rattle.step_chain.specs.{two}
+use Rattle.listing_run.specs.{deck_task, one_task}
+use Rattle.batch_list.specs.{names_in}
 use Rattle.engine.specs.declared.job.Job.{Job}
 use Rattle.engine.specs.declared.zoned.ZonedListing.{ZonedListing}
 use Rattle.engine.specs.TwoDecks.{Second, second_in}

@@ -1,20 +1,18 @@
 -- What a certified listing promises.
 use Rattle.std.specs.Prelude.{◌≡◌, ℕ, ℤ, false, List, Ok, Option, Some, None}
 use Rattle.std.specs.Io.KnownBytes.{Appends}
-use Rattle.command_line.specs.Wants.{Wanted}
-use Rattle.outside.specs.Files.{FileSet}
+use Rattle.command_line.specs.{Wanted}
+use Rattle.outside.specs.{FileSet}
 use Rattle.model_types.specs.declared.model.FlowModel.{FlowModel}
-use Rattle.model_types.specs.Heads.{start_head}
-use Rattle.model_types.specs.Times.{times}
-use Rattle.model_types.specs.Valid.{IsModel}
-use Rattle.model_reader.specs.Model.{reads}
-use Rattle.flow_equations.specs.Histories.{Solves}
+use Rattle.model_types.specs.{start_head, times, IsModel}
+use Rattle.model_reader.specs.{reads}
+use Rattle.flow_equations.specs.{Solves}
 use Rattle.listing_io.specs.declared.listing.ListedStep.{ListedStep}
-use Rattle.run_puts.specs.Runs.{Text}
-use Rattle.listing_run.specs.Listing.{BoundAll}
-use Rattle.deck_problems.specs.Decks.{one_deck}
-use Rattle.check_run.specs.Verdicts.{checked_task, steps_of}
-use Rattle.exact_histories.specs.Histories.{HasHistory, AreSame}
+use Rattle.run_puts.specs.{Text}
+use Rattle.listing_run.specs.{BoundAll}
+use Rattle.deck_problems.specs.{one_deck}
+use Rattle.check_run.specs.{checked_task, steps_of}
+use Rattle.exact_histories.specs.{HasHistory, AreSame}
 use Rattle.engine.specs.Cases.{AskedCheck, Check, asked_in, steps_read, zones_read}
 use Rattle.engine.specs.Checked.{certified_line}
 

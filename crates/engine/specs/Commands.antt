@@ -1,13 +1,13 @@
 -- The commands that are implemented, in the form of the code.
 use Rattle.std.specs.Prelude.{◌≡◌, ℕ, ◌≤◌, List, Option, Some, None, IfSome, option_map, false}
 use denote.Ref.{Bor}
-use Rattle.outside.specs.Names.{folder_name}
-use Rattle.settle_driver.specs.Phases.{IsPlan}
+use Rattle.outside.specs.{folder_name}
+use Rattle.settle_driver.specs.{IsPlan}
 use Rattle.engine.specs.declared.asked.Asked.{Asked as AskedBy}
 use Rattle.engine.specs.declared.asked.AskedCheck.{AskedCheck as AskedCheckBy}
 use Rattle.engine.specs.declared.asked.Command.{Command as CommandBy}
 use Rattle.engine.specs.declared.asked.Command.TheVariants as command
-use Rattle.run_puts.specs.Runs.{Text}
+use Rattle.run_puts.specs.{Text}
 use Rattle.engine.specs.Cases.{Asked, AskedCheck, Command, Run, Make, Check, Write}
 
 -- the listing that is asked for; of how it is settled only the rounds are part of a definition

@@ -1,14 +1,14 @@
 -- What is promised of a deck that is written.
 use Rattle.std.specs.Prelude.{◌≡◌, ℕ, List, [], ◌∷◌, Ok, Option, Some}
 use Rattle.std.specs.Io.KnownBytes.{Appends}
-use Rattle.command_line.specs.Wants.{Wanted}
-use Rattle.outside.specs.Files.{FileSet}
+use Rattle.command_line.specs.{Wanted}
+use Rattle.outside.specs.{FileSet}
 use Rattle.model_types.specs.declared.limits.Limits.{Limits}
 use Rattle.model_types.specs.declared.model.FlowModel.{FlowModel}
-use Rattle.model_types.specs.Valid.{IsModel}
-use Rattle.model_reader.specs.Model.{reads}
-use Rattle.model_text.specs.Written.{deck_text, IsReadAgain}
-use Rattle.run_puts.specs.Runs.{Text}
+use Rattle.model_types.specs.{IsModel}
+use Rattle.model_reader.specs.{reads}
+use Rattle.model_text.specs.{deck_text, IsReadAgain}
+use Rattle.run_puts.specs.{Text}
 use Rattle.run_puts.specs.declared.puts.Status.{Status}
 use Rattle.run_puts.specs.declared.puts.Status.TheVariants as status
 use Rattle.engine.specs.Cases.{Write, asked_in}

@@ -2,17 +2,16 @@
 use Rattle.std.specs.Prelude.{◌≡◌, ℕ, ℤ, List, Ok, Option, Some, None}
 use Rattle.std.specs.List.{concat}
 use Rattle.std.specs.Io.KnownBytes.{Appends}
-use Rattle.command_line.specs.Wants.{Wanted}
-use Rattle.outside.specs.Files.{FileSet}
+use Rattle.command_line.specs.{Wanted}
+use Rattle.outside.specs.{FileSet}
 use Rattle.model_types.specs.declared.model.FlowModel.{FlowModel}
-use Rattle.model_types.specs.Heads.{start_head}
-use Rattle.model_types.specs.Valid.{IsModel}
-use Rattle.model_reader.specs.Model.{reads}
-use Rattle.flow_equations.specs.Histories.{Solves}
-use Rattle.run_puts.specs.Runs.{Text, end_line}
+use Rattle.model_types.specs.{start_head, IsModel}
+use Rattle.model_reader.specs.{reads}
+use Rattle.flow_equations.specs.{Solves}
+use Rattle.run_puts.specs.{Text, end_line}
 use Rattle.listing_run.specs.declared.solving.Step.{Step}
-use Rattle.listing_run.specs.Listing.{listing, BoundAll}
-use Rattle.exact_histories.specs.Histories.{HasHistory, AreSame}
+use Rattle.listing_run.specs.{listing, BoundAll}
+use Rattle.exact_histories.specs.{HasHistory, AreSame}
 use Rattle.engine.specs.Cases.{Asked, Run, asked_in, task_of, zones_read}
 
 -- A run with these words over these files that ended Ok, where a sink had the bytes `old` before it and `new` after it,

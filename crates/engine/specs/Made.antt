@@ -1,30 +1,28 @@
 -- A model that is made from a seed: the end and the pieces of its run.
-use Rattle.command_line.specs.Wants.{Wanted}
-use Rattle.outside.specs.Files.{with_limit}
-use Rattle.model_types.specs.Limits.{most_bytes}
+use Rattle.command_line.specs.{Wanted}
+use Rattle.outside.specs.{with_limit}
+use Rattle.model_types.specs.{most_bytes, start_head, IsModel}
 use Rattle.std.specs.Prelude.{◌≡◌, ℕ, ℤ, false, List, [], ◌∷◌, Ok, Err, Option, Some, None, Result}
 use Rattle.std.specs.Io.KnownBytes.{Appends}
 use Rattle.outside.specs.declared.inputs.Refusal.{Refusal}
 use Rattle.model_types.specs.declared.limits.Limits.TheVariants.{Plain}
 use Rattle.model_types.specs.declared.grid.Grid.{Grid}
 use Rattle.model_types.specs.declared.model.FlowModel.{FlowModel}
-use Rattle.model_types.specs.Heads.{start_head}
-use Rattle.model_types.specs.Valid.{IsModel}
-use Rattle.model_maker.specs.Files.{made_files, made_name}
-use Rattle.model_reader.specs.Model.{reads}
-use Rattle.flow_equations.specs.Histories.{Solves}
-use Rattle.listing_io.specs.LastLines.{refused_line}
-use Rattle.run_puts.specs.Runs.{Text}
+use Rattle.model_maker.specs.{made_files, made_name}
+use Rattle.model_reader.specs.{reads}
+use Rattle.flow_equations.specs.{Solves}
+use Rattle.listing_io.specs.{refused_line}
+use Rattle.run_puts.specs.{Text}
 use Rattle.run_puts.specs.declared.puts.Status.{Status}
 use Rattle.run_puts.specs.declared.puts.Status.TheVariants as status
 use Rattle.listing_run.specs.declared.text.ListingEnd.{ListingEnd}
 use Rattle.listing_run.specs.declared.text.ListingEnd.TheVariants as ends
 use Rattle.listing_run.specs.declared.steps.Task.{Task}
 use Rattle.listing_run.specs.declared.solving.Step.{Step}
-use Rattle.listing_run.specs.Listing.{BoundAll, IsListing, last_line}
+use Rattle.listing_run.specs.{BoundAll, IsListing, last_line}
 use Rattle.listing_summary.specs.declared.summary.Summary.{Summary}
-use Rattle.listing_summary.specs.Summaries.{summary_of, summary_text}
-use Rattle.exact_histories.specs.Histories.{HasHistory, AreSame}
+use Rattle.listing_summary.specs.{summary_of, summary_text}
+use Rattle.exact_histories.specs.{HasHistory, AreSame}
 use Rattle.engine.specs.Cases.{asked_in, task_of, Make}
 
 -- the task of its listing, with the digits and the rounds of a run without options

@@ -1,15 +1,14 @@
 -- What is promised beside the enclosure: that a run writes the one listing which the files define, and how a check judges.
 use Rattle.std.specs.Prelude.{◌≡◌, ℕ, false, List, Option}
-use Rattle.outside.specs.Files.{FileSet}
-use Rattle.command_line.specs.Wants.{Wanted}
+use Rattle.outside.specs.{FileSet}
+use Rattle.command_line.specs.{Wanted}
 use Rattle.listing_run.specs.declared.solving.Step.{Step}
 use Rattle.listing_run.specs.declared.text.ListingEnd.TheVariants.{Whole}
 use Rattle.listing_run.specs.declared.steps.Task.{Task}
-use Rattle.listing_run.specs.Steps.{AllSteps}
-use Rattle.listing_run.specs.Listing.{EnclosesHistories}
+use Rattle.listing_run.specs.{AllSteps, EnclosesHistories}
 use Rattle.check_run.specs.declared.verdict.ListingVerdict.TheVariants.{Certified as Holds}
-use Rattle.deck_problems.specs.Decks.{one_deck}
-use Rattle.check_run.specs.Verdicts.{IsVerdict}
+use Rattle.deck_problems.specs.{one_deck}
+use Rattle.check_run.specs.{IsVerdict}
 use Rattle.engine.specs.Cases.{task_of}
 use Rattle.engine.specs.Certified.{Certified}
 use Rattle.engine.specs.Headline.{Headline}

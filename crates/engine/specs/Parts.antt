@@ -1,34 +1,32 @@
 -- What the parts of a run return and put.
 use Rattle.std.specs.Prelude.{◌≡◌, ◌⊎◌, ℕ, ℤ, Bool, List, map, unsigned_abs, Result, Option, Some, None, IfOk, IfSome, codes, option_map, All}
-use Rattle.outside.specs.Puts.{Rose, Put}
-use Rattle.outside.specs.Files.{FileSet}
-use Rattle.outside.specs.Inputs.{IsReading, file_refusal}
+use Rattle.outside.specs.{Rose, Put, FileSet, IsReading, file_refusal}
 use Rattle.outside.specs.declared.codes.Code.TheVariants.{BadName}
 use Rattle.outside.specs.declared.inputs.Refusal.{Refusal}
 use Rattle.outside.specs.declared.inputs.InputFault.{InputFault}
 use Rattle.outside.specs.declared.inputs.InputFault.TheVariants as input
 use Rattle.model_types.specs.declared.limits.Limits.{Limits}
 use Rattle.model_types.specs.declared.model.FlowModel.{FlowModel}
-use Rattle.model_types.specs.Valid.{IsModel}
-use Rattle.model_reader.specs.Model.{reads}
+use Rattle.model_types.specs.{IsModel}
+use Rattle.model_reader.specs.{reads}
 use Rattle.listing_io.specs.declared.listing.ListedStep.{ListedStep}
-use Rattle.listing_io.specs.Laws.{AreListed}
-use Rattle.zone_pairs.specs.Pairs.{pairs_in, AreZones, AreZonesOf}
+use Rattle.listing_io.specs.{AreListed, refused_line}
+use Rattle.zone_pairs.specs.{pairs_in, AreZones, AreZonesOf}
 use Rattle.engine.specs.declared.zoned.ZonedListing.{ZonedListing}
-use Rattle.listing_io.specs.LastLines.{refused_line}
-use Rattle.deck_problems.specs.Decks.{AreDecks}
+use Rattle.deck_problems.specs.{AreDecks}
 use Rattle.deck_problems.specs.declared.decks.Decks.{Decks}
-use Rattle.deck_span.specs.Alike.{AreAlike}
+use Rattle.deck_span.specs.{AreAlike}
 use Rattle.engine.specs.declared.two_decks.Second.{Second as SecondBy}
 use Rattle.engine.specs.TwoDecks.{AreDecksRead, Second, not_alike, second_in}
 use Rattle.deck_alike.specs.declared.difference.Difference.{Difference}
-use Rattle.deck_alike.specs.Differences.{IsFirstDifference}
-use Rattle.step_chain.specs.Steps.{two}
-use Rattle.run_puts.specs.Runs.{IsEnd, IsLast, IsWanting, Text, read_fault_line, IsRun, NeverCut}
+use Rattle.deck_alike.specs.{IsFirstDifference}
+use Rattle.step_chain.specs.{two}
+use Rattle.run_puts.specs.{IsEnd, IsLast, IsWanting, Text, read_fault_line, IsRun, NeverCut}
 use Rattle.run_puts.specs.declared.puts.Status.{Status}
 use Rattle.run_puts.specs.declared.puts.Status.TheVariants as status
-use Rattle.engine.specs.Cases.{AskedCheck, Case, Listing, Making, Checking, Jobs, Writing, Comparing, CouldList, IsCase, listing_read, made_model, named, steps_read, zoned_steps, zones_named, zones_read}
-use Rattle.command_line.specs.Wants.{Wanted}
+use Rattle.engine.specs.Cases.{AskedCheck, Case, Listing, Making, Checking, Jobs, Writing, Comparing, CouldList, IsCase, listing_read, made_model, named}
+use Rattle.engine.specs.Cases.{steps_read, zoned_steps, zones_named, zones_read}
+use Rattle.command_line.specs.{Wanted}
 use Rattle.engine.specs.declared.job.Job.{Job}
 use Rattle.engine.specs.Made.{IsMade}
 use Rattle.engine.specs.Runs.{IsLeft, IsRunOf}

@@ -1,25 +1,23 @@
 -- What a run puts, how it ends, and which end is certain.
 use Rattle.std.specs.Prelude.{◌≡◌, ◌⊎◌, ℕ, List, false, map, Ok, Option, IfOk, All}
-use Rattle.command_line.specs.Wants.{Wanted}
+use Rattle.command_line.specs.{Wanted}
 use Rattle.engine.specs.declared.job.Job.{Job}
-use Rattle.outside.specs.Puts.{Rose, Put, taken}
-use Rattle.outside.specs.Files.{FileSet}
+use Rattle.outside.specs.{Rose, Put, taken, FileSet}
 use Rattle.step_problem.specs.declared.place.NoBound.{NoBound}
 use Rattle.model_types.specs.declared.limits.Limits.{Limits}
 use Rattle.model_types.specs.declared.model.FlowModel.{FlowModel}
 use Rattle.model_types.specs.declared.time_steps.TimeStep.{TimeStep}
 use Rattle.deck_problems.specs.declared.decks.Decks.{Decks}
 use Rattle.engine.specs.declared.zoned.ZonedListing.{ZonedListing}
-use Rattle.run_puts.specs.Statuses.{IsUnfinished}
-use Rattle.run_puts.specs.Runs.{Text, IsRun}
+use Rattle.run_puts.specs.{IsUnfinished, Text, IsRun}
 use Rattle.run_puts.specs.declared.puts.Status.{Status}
 use Rattle.run_puts.specs.declared.puts.Status.TheVariants as status
 use Rattle.listing_run.specs.declared.steps.Task.{Task}
 use Rattle.listing_run.specs.declared.solving.Step.{Step}
 use Rattle.listing_run.specs.declared.text.ListingEnd.TheVariants as ends
-use Rattle.listing_run.specs.Steps.{AllSteps}
+use Rattle.listing_run.specs.{AllSteps}
 use Rattle.check_run.specs.declared.verdict.ListingVerdict.TheVariants.{Certified}
-use Rattle.check_run.specs.Verdicts.{IsVerdict}
+use Rattle.check_run.specs.{IsVerdict}
 use Rattle.engine.specs.Cases.{Case, Listing, Making, Comparing, Jobs, Writing, IsCase, IsCheckingOf, IsListingOf, case_of}
 use Rattle.engine.specs.Made.{made_task}
 use Rattle.engine.specs.Defined.{Defines, Due, CutOf}

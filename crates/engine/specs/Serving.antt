@@ -1,9 +1,7 @@
 -- How a program ends that runs its words and ends with the number of the run's status.
 use Rattle.std.specs.Prelude.{◌≡◌, ◌⊎◌, ℕ, List, IfSome, Option, Some, [], ◌∷◌, None}
-use Rattle.outside.specs.Files.{FileSet}
-use Rattle.outside.specs.Puts.{Put, Seen}
-use Rattle.run_puts.specs.Runs.{Text}
-use Rattle.run_puts.specs.Statuses.{code_of}
+use Rattle.outside.specs.{FileSet, Put, Seen}
+use Rattle.run_puts.specs.{Text, code_of}
 use Rattle.run_puts.specs.declared.puts.Status.{Status}
 use Rattle.engine.specs.Certified.{Certified}
 use Rattle.engine.specs.Decks.{OneDeck}
@@ -13,9 +11,9 @@ use Rattle.engine.specs.OneListing.{OneListing, OneSummary, OneVerdict}
 use Rattle.engine.specs.SpanHeadline.{OneSpan, SpanCertified, SpanHeadline, SpanVerdict}
 use Rattle.engine.specs.Runs.{Puts}
 use Rattle.engine.specs.Batched.{Batched, HasNoList}
-use Rattle.command_line.specs.Wants.{Wanted, wanted_of, Lists, Checks, Makes, Batches, Writes}
+use Rattle.command_line.specs.{Wanted, wanted_of, Lists, Checks, Makes, Batches, Writes}
 use Rattle.engine.specs.Cases.{AskedBatch, Batch, asked_in, limits_of}
-use Rattle.model_types.specs.Limits.{most_bytes}
+use Rattle.model_types.specs.{most_bytes}
 use Rattle.model_types.specs.declared.limits.Limits.{Limits}
 use Rattle.model_types.specs.declared.limits.Limits.TheVariants.{Plain}
 

@@ -2,24 +2,21 @@
 use Rattle.std.specs.Prelude.{◌≡◌, ℕ, ℤ, true, List, Ok, Option, Some}
 use Rattle.std.specs.List.{concat}
 use Rattle.std.specs.Io.KnownBytes.{Appends}
-use Rattle.command_line.specs.Wants.{Wanted}
-use Rattle.outside.specs.Files.{FileSet}
+use Rattle.command_line.specs.{Wanted}
+use Rattle.outside.specs.{FileSet}
 use Rattle.model_types.specs.declared.limits.Limits.{Limits}
 use Rattle.model_types.specs.declared.model.FlowModel.{FlowModel}
-use Rattle.model_types.specs.Heads.{start_head}
-use Rattle.model_types.specs.Times.{times}
-use Rattle.model_types.specs.Valid.{IsModel}
-use Rattle.model_reader.specs.Model.{reads}
-use Rattle.deck_span.specs.Alike.{AreAlike}
-use Rattle.deck_span.specs.Models.{SolvesBetween}
-use Rattle.step_chain.specs.Steps.{two}
-use Rattle.exact_histories.specs.Decks.{ChoicesHaveOne}
+use Rattle.model_types.specs.{start_head, times, IsModel}
+use Rattle.model_reader.specs.{reads}
+use Rattle.deck_span.specs.{AreAlike, SolvesBetween}
+use Rattle.step_chain.specs.{two}
+use Rattle.exact_histories.specs.{ChoicesHaveOne}
 use Rattle.listing_io.specs.declared.listing.ListedStep.{ListedStep}
-use Rattle.run_puts.specs.Runs.{Text, end_line}
+use Rattle.run_puts.specs.{Text, end_line}
 use Rattle.listing_run.specs.declared.solving.Step.{Step}
-use Rattle.listing_run.specs.Listing.{listing, BoundBetween}
+use Rattle.listing_run.specs.{listing, BoundBetween}
 use Rattle.check_run.specs.declared.verdict.ListingVerdict.TheVariants.{Certified as Holds}
-use Rattle.check_run.specs.Verdicts.{IsVerdict, checked_task, steps_of}
+use Rattle.check_run.specs.{IsVerdict, checked_task, steps_of}
 use Rattle.engine.specs.Cases.{Asked, AskedCheck, Check, Run, asked_in, span_task_of, steps_read, zones_read}
 use Rattle.engine.specs.Checked.{certified_line}
 use Rattle.engine.specs.OneListing.{AreItsSteps}

@@ -5,14 +5,13 @@ use Rattle.step_problem.specs.declared.entry.FixedKind.TheVariants.{Storage}
 use Rattle.step_problem.specs.declared.heads.Bound.{Bound}
 use Rattle.step_problem.specs.declared.place.NoBound.{NoBound}
 use Rattle.step_problem.specs.declared.refusal.StepRefusal.TheVariants.{NoBarrierLow, NoBarrierHigh}
-use Rattle.step_problem.specs.StepRefusals.{number_of}
-use Rattle.step_problem.specs.Entries.{Entries, entries_at}
+use Rattle.step_problem.specs.{number_of, entries_at}
+use Rattle.step_problem.specs.Entries.{Entries}
 use Rattle.model_types.specs.declared.limits.Limits.{Limits}
 use Rattle.model_types.specs.declared.model.FlowModel.{FlowModel}
 use Rattle.model_types.specs.declared.time_steps.TimeStep.{TimeStep}
-use Rattle.problem_builder.specs.Problems.{IsProblemOf}
-use Rattle.listing_run.specs.Steps.{HasNoBound}
-use Rattle.listing_run.specs.Tasks.{one_task}
+use Rattle.problem_builder.specs.{IsProblemOf}
+use Rattle.listing_run.specs.{HasNoBound, one_task}
 
 -- each cell has a storage whose lower bound is at least one unit
 abbrev pub IsStored : List Entries → Type 0

@@ -1,23 +1,24 @@
 -- Decks that are read, one or two, and the refusal where two aren't alike.
 use Rattle.std.specs.Prelude.{◌≡◌, List, [], ◌∷◌, Result, Ok, Err, Option, Some, IfSome, option_map, unwrap_or}
-use Rattle.outside.specs.Files.{FileSet}
+use Rattle.outside.specs.{FileSet}
 use Rattle.outside.specs.declared.codes.Code.TheVariants.{NotAlike}
 use Rattle.outside.specs.declared.inputs.Refusal.{Refusal}
 use Rattle.outside.specs.declared.inputs.InputFault.{InputFault}
 use Rattle.outside.specs.declared.inputs.InputFault.TheVariants as input
-use Rattle.record_lines.specs.Reading.{◌>>=◌}
-use Rattle.name_file.specs.Pairs.{Pairs, file_of}
+use Rattle.record_lines.specs.{◌>>=◌}
+use Rattle.name_file.specs.Pairs.{Pairs}
+use Rattle.name_file.specs.{file_of}
 use Rattle.name_file.specs.declared.package.Package.{Package}
 use Rattle.model_types.specs.declared.limits.Limits.{Limits}
 use Rattle.model_types.specs.declared.model.FlowModel.{FlowModel}
-use Rattle.model_types.specs.Faces.{place}
-use Rattle.model_reader.specs.Model.{model_of, names_in}
-use Rattle.deck_span.specs.Alike.{AreAlike}
+use Rattle.model_types.specs.{place}
+use Rattle.model_reader.specs.{model_of, names_in}
+use Rattle.deck_span.specs.{AreAlike}
 use Rattle.deck_alike.specs.declared.difference.Difference.{Difference}
-use Rattle.deck_alike.specs.Differences.{IsFirstDifference}
+use Rattle.deck_alike.specs.{IsFirstDifference}
 use Rattle.deck_problems.specs.declared.decks.Decks.{Decks}
-use Rattle.listing_io.specs.LastLines.{refused_line}
-use Rattle.run_puts.specs.Runs.{Text}
+use Rattle.listing_io.specs.{refused_line}
+use Rattle.run_puts.specs.{Text}
 use Rattle.run_puts.specs.declared.puts.Status.{Status}
 use Rattle.run_puts.specs.declared.puts.Status.TheVariants as status
 

@@ -1,26 +1,22 @@
 -- What a watched run puts to its side sink.
 use Rattle.std.specs.Prelude.{◌≡◌, ◌⊎◌, ℕ, ◌*◌, ◌<◌, List, [], ◌∷◌, ◌++◌, length, map, All, Bool, Option, Some, None, option_and_then}
-use Rattle.outside.specs.Files.{FileSet}
-use Rattle.outside.specs.Puts.{Put, taken, refused}
+use Rattle.outside.specs.{FileSet, Put, taken, refused}
 use Rattle.outside.specs.declared.traits.SinkError.{SinkError}
 use Rattle.step_problem.specs.declared.heads.Bound.{Bound}
 use Rattle.step_problem.specs.Entries.{Entries}
-use Rattle.step_problem.specs.Heads.{Edges}
-use Rattle.command_line.specs.Wants.{Wanted, Lists}
+use Rattle.step_problem.specs.{Edges}
+use Rattle.command_line.specs.{Wanted, Lists}
 use Rattle.model_types.specs.declared.grid.Grid.{Grid}
 use Rattle.model_types.specs.declared.time_steps.TimeStep.{TimeStep}
-use Rattle.model_types.specs.Times.{times}
-use Rattle.deck_problems.specs.ConstantHeads.{AreStartHeadsFor}
-use Rattle.settle_driver.specs.Views.{AddsPhases, EnclosesPair}
-use Rattle.step_chain.specs.Barriers.{edges_by}
-use Rattle.step_chain.specs.Steps.{IsPosed}
-use Rattle.listing_io.specs.Listing.{view_text}
-use Rattle.run_puts.specs.Runs.{Text}
+use Rattle.model_types.specs.{times}
+use Rattle.deck_problems.specs.{AreStartHeadsFor}
+use Rattle.settle_driver.specs.{AddsPhases, EnclosesPair}
+use Rattle.step_chain.specs.{edges_by, IsPosed}
+use Rattle.listing_io.specs.{view_text}
+use Rattle.run_puts.specs.{Text}
 use Rattle.listing_run.specs.declared.steps.Task.{Task}
 use Rattle.listing_run.specs.declared.solving.Step.{Step}
-use Rattle.listing_run.specs.Listing.{time}
-use Rattle.listing_run.specs.Settlers.{EnclosesSolutions}
-use Rattle.listing_run.specs.Steps.{IsStep}
+use Rattle.listing_run.specs.{time, EnclosesSolutions, IsStep}
 use Rattle.engine.specs.Cases.{IsListingOf, case_of}
 
 -- the number of views in each phase that the words ask for

@@ -1,20 +1,19 @@
 -- The check of what a run wrote.
 use Rattle.std.specs.Prelude.{◌≡◌, ℕ, List, [], ◌∷◌, Ok, Bool, Option, Some, None}
 use Rattle.std.specs.List.{concat}
-use Rattle.command_line.specs.Wants.{wanted_of}
-use Rattle.outside.specs.Files.{FileSet}
-use Rattle.outside.specs.Inputs.{file_at}
+use Rattle.command_line.specs.{wanted_of}
+use Rattle.outside.specs.{FileSet, file_at}
 use Rattle.model_types.specs.declared.limits.Limits.{Limits}
 use Rattle.model_types.specs.declared.model.FlowModel.{FlowModel}
-use Rattle.model_types.specs.Valid.{IsModel}
-use Rattle.model_reader.specs.Model.{reads}
-use Rattle.zone_pairs.specs.Pairs.{AreNumbers}
-use Rattle.deck_problems.specs.Decks.{AreDecks}
-use Rattle.step_chain.specs.Steps.{two}
-use Rattle.run_puts.specs.Runs.{Text}
+use Rattle.model_types.specs.{IsModel}
+use Rattle.model_reader.specs.{reads}
+use Rattle.zone_pairs.specs.{AreNumbers}
+use Rattle.deck_problems.specs.{AreDecks}
+use Rattle.step_chain.specs.{two}
+use Rattle.run_puts.specs.{Text}
 use Rattle.run_puts.specs.declared.puts.Status.TheVariants as status
 use Rattle.listing_run.specs.declared.steps.Task.{Task}
-use Rattle.listing_run.specs.Tasks.{deck_task, one_task}
+use Rattle.listing_run.specs.{deck_task, one_task}
 use Rattle.engine.specs.Cases.{AskedCheck, Check, Listing, asked_in, case_of, named, span_task_of, task_of, zones_read}
 use Rattle.engine.specs.Checked.{certified_line}
 use Rattle.engine.specs.Defined.{Defines}

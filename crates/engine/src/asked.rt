@@ -1,10 +1,7 @@
 // What an order asks for.
 ghost use Rattle.std.specs.Prelude.{◌≡◌, option_map, IfSome, Some};
-ghost use Rattle.command_line.specs.Wants.{wanted};
-ghost use Rattle.command_line.specs.Ranges.{IsInRange};
-ghost use Rattle.engine.specs.Cases.{asked_in, but_batch, limits_of};
-ghost use Rattle.engine.specs.Commands.{command_of, views_of, IsCommand};
-ghost use Rattle.engine.specs.Watched.{views_in};
+ghost use Rattle.command_line.specs.{wanted, IsInRange};
+ghost use Rattle.engine.specs.{asked_in, but_batch, limits_of, command_of, views_of, IsCommand, views_in};
 
 use command_line::Order;
 use model_types::Limits;

@@ -1,8 +1,7 @@
 // Whether the words ask for a batch.
 ghost use Rattle.std.specs.Prelude.{map, IfOk, IfSome, Some};
-ghost use Rattle.engine.specs.BatchReads.{IsBatchOf, IsBatchOrder};
-ghost use Rattle.command_line.specs.Ranges.{IsInRange};
-ghost use Rattle.command_line.specs.Wants.{wanted, wanted_of};
+ghost use Rattle.engine.specs.{IsBatchOf, IsBatchOrder};
+ghost use Rattle.command_line.specs.{IsInRange, wanted, wanted_of};
 
 use crate::asked::limits_of;
 use command_line::{Order, WordsFault, read_order};

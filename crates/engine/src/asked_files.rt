@@ -1,7 +1,7 @@
 // The files that the words name.
 ghost use Rattle.std.specs.Prelude.{◌≡◌, map, IfOk};
-ghost use Rattle.command_line.specs.Wants.{wanted};
-ghost use Rattle.engine.specs.Serving.{bytes_asked, files_named, files_of};
+ghost use Rattle.command_line.specs.{wanted};
+ghost use Rattle.engine.specs.{bytes_asked, files_named, files_of};
 
 use crate::asked::limits_of;
 use command_line::{Order, WordsFault, read_order};

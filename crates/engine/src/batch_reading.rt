@@ -1,10 +1,8 @@
 // The jobs of a batch, read from its list and the files of its models.
 ghost use Rattle.std.specs.Prelude.{◌≡◌, ◌≤◌, length, All, IfOk, IfSome, Option};
-ghost use Rattle.outside.specs.Names.{WordsMay, IsGoodName, folder_name};
-ghost use Rattle.outside.specs.Files.{FileSet};
-ghost use Rattle.outside.specs.Folders.{ReadsOn};
-ghost use Rattle.listing_run.specs.Ends.{IsTask};
-ghost use Rattle.engine.specs.BatchReads.{batch_by, IsBatchOrder, AreTasks, IsBatchRead, IsJobRead, AreJobsRead, NeverRefused, HasNames};
+ghost use Rattle.outside.specs.{WordsMay, IsGoodName, folder_name, FileSet, ReadsOn};
+ghost use Rattle.listing_run.specs.{IsTask};
+ghost use Rattle.engine.specs.{batch_by, IsBatchOrder, AreTasks, IsBatchRead, IsJobRead, AreJobsRead, NeverRefused, HasNames};
 
 use crate::asked_batch::BatchOrder;
 use crate::job::Job;

@@ -1,13 +1,11 @@
 // A batch of models.
 ghost use Rattle.std.specs.Prelude.{◌≡◌, ◌≤◌, List, ◌++◌, length, map, IfSome, Option, Some, ◌<◌, ◌^◌, slice_get};
-ghost use Rattle.outside.specs.Names.{WordsMay, folder_name};
+ghost use Rattle.outside.specs.{WordsMay, folder_name, FileSet, Put, Rose};
 ghost use Rattle.engine.specs.Serving.{files_named};
-ghost use Rattle.outside.specs.Files.{FileSet};
-ghost use Rattle.outside.specs.Puts.{Put, Rose};
-ghost use Rattle.run_puts.specs.Runs.{IsRun, NeverCut};
-ghost use Rattle.batch_puts.specs.Batches.{IsBatch};
+ghost use Rattle.run_puts.specs.{IsRun, NeverCut};
+ghost use Rattle.batch_puts.specs.{IsBatch};
 ghost use Rattle.engine.specs.BatchReads.{batch_by, IsBatchOrder, AreTasks};
-ghost use Rattle.command_line.specs.Wants.{wanted_of, Wanted};
+ghost use Rattle.command_line.specs.{wanted_of, Wanted};
 ghost use Rattle.engine.specs.Cases.{asked_in, Batch, ReadsNothing};
 ghost use Rattle.engine.specs.Defined.{IsJobEnd};
 ghost use Rattle.engine.specs.Parts.{Answers, AnswersBeside};

@@ -1,19 +1,13 @@
 // The check of a listing of the folder.
 ghost use Rattle.std.specs.Prelude.{◌≡◌, ◌≤◌, List, ◌++◌, Ok, IfOk, IfSome, Option, Some, option_map};
-ghost use Rattle.outside.specs.Names.{folder_name};
-ghost use Rattle.command_line.specs.Wants.{Wanted};
-ghost use Rattle.outside.specs.Files.{FileSet};
-ghost use Rattle.outside.specs.Folders.{ReadsOn};
-ghost use Rattle.outside.specs.Puts.{Put};
-ghost use Rattle.model_types.specs.Valid.{IsModel};
-ghost use Rattle.zone_pairs.specs.Pairs.{pairs_in, AreZones};
-ghost use Rattle.listing_io.specs.Laws.{AreListed};
-ghost use Rattle.run_puts.specs.Runs.{Text, IsRun, NeverCut};
-ghost use Rattle.engine.specs.Checked.{IsCheck};
-ghost use Rattle.deck_problems.specs.Decks.{AreDecks};
-ghost use Rattle.engine.specs.Cases.{asked_in, Check};
-ghost use Rattle.engine.specs.Commands.{check_of, to_of, MayRead};
-ghost use Rattle.engine.specs.Parts.{Answers, AreDecksAs, AreStepsAs, IsListed, IsListedAs};
+ghost use Rattle.outside.specs.{folder_name, FileSet, ReadsOn, Put};
+ghost use Rattle.command_line.specs.{Wanted};
+ghost use Rattle.model_types.specs.{IsModel};
+ghost use Rattle.zone_pairs.specs.{pairs_in, AreZones};
+ghost use Rattle.listing_io.specs.{AreListed};
+ghost use Rattle.run_puts.specs.{Text, IsRun, NeverCut};
+ghost use Rattle.engine.specs.{IsCheck, asked_in, Check, check_of, to_of, MayRead, Answers, AreDecksAs, AreStepsAs, IsListed, IsListedAs};
+ghost use Rattle.deck_problems.specs.{AreDecks};
 
 use crate::asked::AskedCheck;
 use crate::ending::end_reading;

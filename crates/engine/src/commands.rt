@@ -1,20 +1,15 @@
 ghost use Rattle.std.specs.Prelude.{◌≡◌, ◌⊎◌, ℕ, List, map, IfSome, None, Option, Some};
-ghost use Rattle.outside.specs.Names.{WordsMay};
-ghost use Rattle.engine.specs.Serving.{files_named, bytes_asked, IsProgramEnd};
-ghost use Rattle.outside.specs.Files.{FileSet};
-ghost use Rattle.outside.specs.Puts.{Rose};
-ghost use Rattle.command_line.specs.Wants.{wanted_of};
-ghost use Rattle.engine.specs.Runs.{Puts, Decided, Comes};
-ghost use Rattle.engine.specs.Batched.{Batched, HasNoList};
-ghost use Rattle.engine.specs.Cases.{asked_in, AskedBatch, AskedCheck, Batch, Check, Make, ReadsNothing};
+ghost use Rattle.outside.specs.{WordsMay, FileSet, Rose};
+ghost use Rattle.engine.specs.{files_named, bytes_asked, IsProgramEnd, Puts, Decided, Comes, HasNoList, asked_in, AskedBatch, AskedCheck, Batch, Check, Make};
+ghost use Rattle.engine.specs.{ReadsNothing, OneDeck, OneSummary, OneVerdict, OneSpan, SpanCertified, SpanVerdict, IsStopped, SidePuts, views_in};
+ghost use Rattle.command_line.specs.{wanted_of};
+ghost use Rattle.engine.specs.Batched.{Batched};
 ghost use Rattle.engine.specs.Certified.{Certified};
-ghost use Rattle.engine.specs.Decks.{OneDeck};
 ghost use Rattle.engine.specs.Headline.{Headline};
 ghost use Rattle.engine.specs.Made.{Made};
-ghost use Rattle.engine.specs.OneListing.{OneListing, OneSummary, OneVerdict};
-ghost use Rattle.engine.specs.SpanHeadline.{OneSpan, SpanCertified, SpanHeadline, SpanVerdict};
-ghost use Rattle.engine.specs.Parts.{IsStopped};
-ghost use Rattle.engine.specs.Watched.{SidePuts, Watched, views_in};
+ghost use Rattle.engine.specs.OneListing.{OneListing};
+ghost use Rattle.engine.specs.SpanHeadline.{SpanHeadline};
+ghost use Rattle.engine.specs.Watched.{Watched};
 ghost use Rattle.std.specs.Process.{exit_status};
 
 use crate::batching::answer_any;

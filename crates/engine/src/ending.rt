@@ -1,7 +1,7 @@
 // The end of a run that has read no model.
 ghost use Rattle.std.specs.Prelude.{List, ◌++◌};
-ghost use Rattle.outside.specs.Puts.{Put};
-ghost use Rattle.engine.specs.Parts.{IsReadingEnd};
+ghost use Rattle.outside.specs.{Put};
+ghost use Rattle.engine.specs.{IsReadingEnd};
 
 use listing_io::write_refused;
 use outside::{InputFault, Sink};

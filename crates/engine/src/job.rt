@@ -1,8 +1,7 @@
 // A job of a batch, and its run.
 ghost use Rattle.std.specs.Prelude.{◌≡◌, Err, IfOk, Ok};
-ghost use Rattle.listing_run.specs.Ends.{IsTask};
-ghost use Rattle.listing_run.specs.Tasks.{pairs_of};
-ghost use Rattle.engine.specs.Defined.{IsJobEnd, IsRunText, model_line};
+ghost use Rattle.listing_run.specs.{IsTask, pairs_of};
+ghost use Rattle.engine.specs.{IsJobEnd, IsRunText, model_line};
 
 use batch_puts::JobEnd;
 use certified_pair::QuickPairs;

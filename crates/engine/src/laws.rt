@@ -1,7 +1,5 @@
 // Laws of what is defined. Each is the contract of an empty function, but for the laws below that it calls.
-ghost use Rattle.engine.specs.Written.{OneListingIsCertified, WrittenIsCertified};
-ghost use Rattle.engine.specs.Written.{OneSpanIsCertified, WrittenSpanIsCertified};
-ghost use Rattle.engine.specs.Storage.{StorageHolds};
+ghost use Rattle.engine.specs.{OneListingIsCertified, WrittenIsCertified, OneSpanIsCertified, WrittenSpanIsCertified, StorageHolds};
 
 use check_run::laws::{run_is_certified, run_is_read_again};
 

@@ -1,14 +1,11 @@
 // A listing by workers in threads.
 ghost use Rattle.std.specs.Prelude.{◌≡◌, List, ◌++◌, IfSome, None, false};
-ghost use Rattle.outside.specs.Puts.{Rose, Put};
-ghost use Rattle.run_puts.specs.Runs.{IsRun};
-ghost use Rattle.step_problem.specs.Heads.{IsBarrier};
-ghost use Rattle.step_problem.specs.Settling.{Settles};
-ghost use Rattle.step_problem.specs.Settling.PairKind.{settled};
-ghost use Rattle.settle_driver.specs.Phases.{IsPlan};
-ghost use Rattle.listing_run.specs.Ends.{IsTask};
-ghost use Rattle.listing_run.specs.Listing.{IsListing, IsListingBeside, IsCutListing};
-ghost use Rattle.engine.specs.Watched.{IsWatched, ViewPutsOf};
+ghost use Rattle.outside.specs.{Rose, Put};
+ghost use Rattle.run_puts.specs.{IsRun};
+ghost use Rattle.step_problem.specs.{IsBarrier, Settles, settled};
+ghost use Rattle.settle_driver.specs.{IsPlan};
+ghost use Rattle.listing_run.specs.{IsTask, IsListing, IsListingBeside, IsCutListing};
+ghost use Rattle.engine.specs.{IsWatched, ViewPutsOf};
 
 use crate::view_lines::ViewLines;
 use crate::viewing::put_texts;

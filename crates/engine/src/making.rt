@@ -1,15 +1,11 @@
 // A model that is made from a seed, and the summary of its listing.
 ghost use Rattle.std.specs.Prelude.{false, ◌≡◌, List, ◌++◌, Ok, IfOk};
-ghost use Rattle.outside.specs.Puts.{Put};
-ghost use Rattle.step_problem.specs.Heads.{IsBarrier};
-ghost use Rattle.step_problem.specs.Settling.{Settles};
-ghost use Rattle.model_types.specs.Valid.{IsModel};
-ghost use Rattle.listing_run.specs.Ends.{IsTask};
-ghost use Rattle.listing_summary.specs.Summaries.{IsSummarized};
-ghost use Rattle.engine.specs.Cases.{made_model};
-ghost use Rattle.engine.specs.Commands.{IsMakeable};
-ghost use Rattle.engine.specs.Made.{summed_text};
-ghost use Rattle.engine.specs.Parts.{IsMadeRun, made_fault};
+ghost use Rattle.outside.specs.{Put};
+ghost use Rattle.step_problem.specs.{IsBarrier, Settles};
+ghost use Rattle.model_types.specs.{IsModel};
+ghost use Rattle.listing_run.specs.{IsTask};
+ghost use Rattle.listing_summary.specs.{IsSummarized};
+ghost use Rattle.engine.specs.{made_model, IsMakeable, summed_text, IsMadeRun, made_fault};
 
 use crate::asked::{MADE_DIGITS, MADE_PLAN};
 use crate::ending::end_reading;

@@ -1,11 +1,9 @@
 // The model of a name, and the zones of its cells.
 ghost use Rattle.std.specs.Prelude.{IfOk, IfSome, List, Option, option_map};
-ghost use Rattle.outside.specs.Names.{folder_name};
-ghost use Rattle.outside.specs.Files.{FileSet};
-ghost use Rattle.outside.specs.Folders.{ReadsOn};
-ghost use Rattle.model_types.specs.Valid.{IsModel};
-ghost use Rattle.zone_pairs.specs.Pairs.{AreZones};
-ghost use Rattle.engine.specs.Parts.{AreZonesAs, IsNamedFault, IsReadAs};
+ghost use Rattle.outside.specs.{folder_name, FileSet, ReadsOn};
+ghost use Rattle.model_types.specs.{IsModel};
+ghost use Rattle.zone_pairs.specs.{AreZones};
+ghost use Rattle.engine.specs.{AreZonesAs, IsNamedFault, IsReadAs};
 
 use model_reader::read_named_model;
 use model_types::{FlowModel, Limits, Listed};

@@ -1,14 +1,9 @@
 // Decks of the folder, one or two, which have to be alike.
 ghost use Rattle.std.specs.Prelude.{◌≡◌, ◌<◌, IfErr, IfOk, IfSome, Option, option_map};
-ghost use Rattle.outside.specs.Names.{folder_name};
-ghost use Rattle.outside.specs.Files.{FileSet};
-ghost use Rattle.outside.specs.Folders.{ReadsOn};
-ghost use Rattle.model_types.specs.Faces.{cell_count, place};
-ghost use Rattle.model_types.specs.Grids.{HasSize};
-ghost use Rattle.model_types.specs.Valid.{IsModel};
-ghost use Rattle.deck_problems.specs.Decks.{AreDecks};
-ghost use Rattle.engine.specs.Commands.{to_of};
-ghost use Rattle.engine.specs.Parts.{AreDecksAs, AreDecksOf, IsNoSecond, IsSecondAs, IsUnlikeFault, second_by};
+ghost use Rattle.outside.specs.{folder_name, FileSet, ReadsOn};
+ghost use Rattle.model_types.specs.{cell_count, place, HasSize, IsModel};
+ghost use Rattle.deck_problems.specs.{AreDecks};
+ghost use Rattle.engine.specs.{to_of, AreDecksAs, AreDecksOf, IsNoSecond, IsSecondAs, IsUnlikeFault, second_by};
 
 use crate::reading::{bad_name, read_named};
 use deck_alike::{Difference, first_difference};

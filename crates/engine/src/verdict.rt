@@ -1,9 +1,9 @@
 // The end of a check with a verdict.
 ghost use Rattle.std.specs.Prelude.{◌≡◌, List, ◌++◌, IfOk};
-ghost use Rattle.model_types.specs.Grids.{HasSize};
-ghost use Rattle.outside.specs.Puts.{Put};
-ghost use Rattle.run_puts.specs.Runs.{IsEnd};
-ghost use Rattle.engine.specs.Checked.{verdict_line, verdict_status};
+ghost use Rattle.model_types.specs.{HasSize};
+ghost use Rattle.outside.specs.{Put};
+ghost use Rattle.run_puts.specs.{IsEnd};
+ghost use Rattle.engine.specs.{verdict_line, verdict_status};
 
 use check_run::ListingVerdict;
 use listing_io::write_not_certified;

@@ -1,7 +1,7 @@
 // A view as text.
 ghost use Rattle.std.specs.Prelude.{◌≡◌};
 ghost use Rattle.model_types.specs.declared.grid.Grid.{Grid as GridData};
-ghost use Rattle.model_types.specs.Grids.{HasSize};
+ghost use Rattle.model_types.specs.{HasSize};
 
 use listing_io::write_view;
 use model_types::{Grid, TimeStep};

@@ -1,16 +1,12 @@
 // A listing by workers in threads, whose heads are viewed while they settle.
 ghost use Rattle.std.specs.Prelude.{◌≡◌, ◌⊎◌, List, ◌++◌, None, Some, false};
-ghost use Rattle.outside.specs.Puts.{Rose, Put};
+ghost use Rattle.outside.specs.{Rose, Put};
 ghost use Rattle.outside.specs.declared.traits.SinkError.TheVariants.{Write};
-ghost use Rattle.run_puts.specs.Runs.{IsRun};
-ghost use Rattle.step_problem.specs.Heads.{IsBarrier};
-ghost use Rattle.step_problem.specs.Settling.{Settles};
-ghost use Rattle.settle_driver.specs.Phases.{IsPlan};
-ghost use Rattle.settle_driver.specs.Views.{AddsPhases, had_memory};
-ghost use Rattle.listing_run.specs.Ends.{IsTask};
-ghost use Rattle.listing_run.specs.Listing.{IsListingBeside, IsCutListing};
-ghost use Rattle.listing_run.specs.Settlers.{AllSettledBy, ReachesFirst};
-ghost use Rattle.engine.specs.Watched.{IsWatched, Shows, ViewPutsOf, lines_of};
+ghost use Rattle.run_puts.specs.{IsRun};
+ghost use Rattle.step_problem.specs.{IsBarrier, Settles};
+ghost use Rattle.settle_driver.specs.{IsPlan, AddsPhases, had_memory};
+ghost use Rattle.listing_run.specs.{IsTask, IsListingBeside, IsCutListing, AllSettledBy, ReachesFirst};
+ghost use Rattle.engine.specs.{IsWatched, Shows, ViewPutsOf, lines_of};
 
 use listing_run::{Task, put_steps};
 use near_settler::NearSettler;

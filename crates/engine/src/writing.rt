@@ -1,14 +1,10 @@
 // The deck of a model of the folder.
 ghost use Rattle.std.specs.Prelude.{◌≡◌, List, ◌++◌, IfSome, Option, Some};
-ghost use Rattle.outside.specs.Names.{folder_name};
-ghost use Rattle.command_line.specs.Wants.{Wanted};
-ghost use Rattle.outside.specs.Files.{FileSet};
-ghost use Rattle.outside.specs.Puts.{Put};
-ghost use Rattle.model_types.specs.Grids.{HasSize};
-ghost use Rattle.run_puts.specs.Runs.{Text, IsRun, NeverCut};
-ghost use Rattle.engine.specs.Decks.{IsDeck};
-ghost use Rattle.engine.specs.Cases.{asked_in, Write};
-ghost use Rattle.engine.specs.Parts.{Answers};
+ghost use Rattle.outside.specs.{folder_name, FileSet, Put};
+ghost use Rattle.command_line.specs.{Wanted};
+ghost use Rattle.model_types.specs.{HasSize};
+ghost use Rattle.run_puts.specs.{Text, IsRun, NeverCut};
+ghost use Rattle.engine.specs.{IsDeck, asked_in, Write, Answers};
 
 use crate::ending::end_reading;
 use crate::two_decks::read_decks;

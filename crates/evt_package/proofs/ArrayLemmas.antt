@@ -1,8 +1,7 @@
 -- Stresses with arrays that passed their test, and a model whose periods have them.
 use Rattle.evt_package.proofs.Common.{◌≡◌, ℕ, ℤ, ◌≤ℤ◌, pos, List, All, Ok, refl, All-weaker, Grid, FlowModel, contents, columns_tested, evaporation_arrays}
-use Rattle.evt_package.proofs.Common.{with_evaporation, AreArrays, HasEvaporation, IsEvaporating}
+use Rattle.evt_package.proofs.Common.{with_evaporation, AreArrays, HasEvaporation, IsEvaporating, IsArea}
 use Rattle.model_types.specs.declared.period.Stresses.{Stresses}
-use Rattle.period_arrays.specs.Forms.{IsArea}
 use Rattle.period_arrays.specs.declared.area.Area.{Area}
 use Rattle.period_arrays.specs.declared.read.ArrayFile.{ArrayFile}
 

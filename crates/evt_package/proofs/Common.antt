@@ -9,19 +9,16 @@ pub use Rattle.std.proofs.lemmas.List.Elements.{All-cons, All-nil, All-weaker}
 pub use Rattle.std.proofs.lemmas.Nat.{div-add-mod', mod_below}
 pub use Rattle.std.specs.Option.{option_map, option_to_list}
 pub use Rattle.std.specs.Prelude.{if◌then◌else◌}
-pub use Rattle.evt_package.specs.Evaporation.{area_in, cell_tested, chosen_cell, column_step, column_tested, evap_fault, evaporation_arrays, in_layer}
-pub use Rattle.evt_package.specs.Evaporation.{is_reached, source, with_evaporation}
-unfoldable pub use Rattle.evt_package.specs.Evaporation.{columns_tested, has_extinction, highest_active}
-pub use Rattle.evt_package.specs.Forms.{AreArrays, HasEvaporation, IsEvaporating, SameBut}
+pub use Rattle.evt_package.specs.{AreArrays, HasEvaporation, IsEvaporating, SameBut, area_in, cell_tested, chosen_cell, column_step, column_tested, evap_fault}
+pub use Rattle.evt_package.specs.{evaporation_arrays, in_layer, is_reached, source, with_evaporation}
+unfoldable pub use Rattle.evt_package.specs.{columns_tested, has_extinction, highest_active}
 pub use Rattle.model_types.proofs.Numbering.{layer_below, size_some}
-pub use Rattle.model_types.specs.Faces.{cell_count, layer_of, layer_size, place_in_layer}
-pub use Rattle.model_types.specs.Grids.{HasSize}
-pub use Rattle.model_types.specs.Layers.{dec_at, int_at, is_active, is_nonzero}
-pub use Rattle.model_types.specs.Receivers.{EvapSource, is_chosen, is_highest, is_int}
-pub use Rattle.model_types.specs.Valid.{IsEvapValid, IsModel, IsPeriod}
+pub use Rattle.model_types.specs.{EvapSource, HasSize, IsEvapValid, IsModel, IsPeriod, cell_count, dec_at, evap_sources, int_at, is_active, is_chosen}
+pub use Rattle.model_types.specs.{is_highest, is_int, is_nonzero, layer_of, layer_size, no_period, period_at, place_in_layer}
 pub use Rattle.model_types.specs.declared.grid.Grid.{Grid}
 pub use Rattle.model_types.specs.declared.model.FlowModel.{FlowModel}
-pub use Rattle.number_limits.specs.Magnitudes.{is_head, is_positive, within}
-pub use Rattle.period_arrays.specs.Kinds.{contents, without}
-pub use Rattle.record_lines.specs.Reading.{◌>>=◌}
-unfoldable pub use Rattle.record_lines.specs.Reading.{counted}
+pub use Rattle.number_limits.specs.{ceiling, floor, is_head, is_positive, small, within}
+unfoldable pub use Rattle.number_limits.specs.{ceiling_of, floor_of}
+pub use Rattle.period_arrays.specs.{IsArea, contents, without}
+pub use Rattle.record_lines.specs.{◌>>=◌}
+unfoldable pub use Rattle.record_lines.specs.{counted}

@@ -1,15 +1,14 @@
 -- What evaporates from a model whose columns passed their tests is in limits.
 use Rattle.evt_package.proofs.Common.{◌≡◌, ◌⊎◌, inl, inr, ℕ, zero, suc, ◌+◌, ◌^◌, ◌≤◌, ◌<◌, ℤ, pos, neg_ℤ, ◌+ℤ◌, ◌≤ℤ◌, Bool, true, false, not, ◌&&◌, ◌==◌}
 use Rattle.evt_package.proofs.Common.{nat_le, nat_lt, Option, Some, None, Result, Ok, Err, refl, sym, ap, ◌∙◌, arith, if◌then◌else◌, option_map, leb_tells}
-use Rattle.evt_package.proofs.Common.{ints, ◌>>=◌, counted, EvapSource, IsEvapValid, is_positive, evap_fault, has_extinction, is_reached, is_head}
+use Rattle.evt_package.proofs.Common.{ints, ◌>>=◌, counted, EvapSource, IsEvapValid, is_positive, evap_fault, has_extinction, is_reached, is_head, small}
+use Rattle.evt_package.proofs.Common.{floor_of, ceiling_of, floor, ceiling}
 use Rattle.decimal_input.specs.declared.dec.Dec.{Dec}
-use Rattle.decimal_input.specs.Decimals.{IsDec, size, number}
-use Rattle.decimal_input.specs.Wholes.{IsSignedFloor, IsSignedCeiling}
+use Rattle.decimal_input.specs.{IsDec, size, number, IsSignedFloor, IsSignedCeiling}
 use Rattle.decimal_input.proofs.Past.{a_floor, a_ceiling}
 use Rattle.decimal_input.proofs.SignedFloors.{floor_of_floor, floor_of_ceiling, ceiling_of_ceiling, ceiling_of_floor}
 use Rattle.outside.specs.declared.codes.Code.TheVariants.{BadProperty, HeadTooLarge}
 use Rattle.outside.specs.declared.inputs.Refusal.{Refusal}
-use Rattle.number_limits.specs.Room.{small, floor_of, ceiling_of, floor, ceiling}
 use Rattle.number_limits.proofs.FloorLemmas.{floor_is, ceiling_is}
 use Rattle.number_limits.proofs.HeadLemmas.{head_of}
 use Rattle.number_limits.proofs.SignLemmas.{positive_of}

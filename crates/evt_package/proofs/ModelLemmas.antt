@@ -3,12 +3,10 @@ use Rattle.evt_package.proofs.Common.{◌≡◌, ◌⊎◌, inl, inr, ℕ, ◌-�
 use Rattle.evt_package.proofs.Common.{Some, None, Ok, length, refl, sym, ap, subst, arith, option_to_list, cases_lt, ints, All-nil, All-cons, mod_below, Grid}
 use Rattle.evt_package.proofs.Common.{FlowModel, cell_count, layer_size, place_in_layer, HasSize, dec_at, is_active, is_chosen, IsEvapValid, IsModel, IsPeriod}
 use Rattle.evt_package.proofs.Common.{size_some, without, cell_tested, column_step, column_tested, columns_tested, source, evap_fault, area_in}
-use Rattle.evt_package.proofs.Common.{evaporation_arrays, HasEvaporation, IsEvaporating, AreArrays, SameBut, ◌∙◌}
+use Rattle.evt_package.proofs.Common.{evaporation_arrays, HasEvaporation, IsEvaporating, AreArrays, SameBut, ◌∙◌, evap_sources, no_period, period_at}
 use Rattle.std.proofs.lemmas.List.{get_or_past}
 use Rattle.outside.specs.declared.codes.Code.{Code}
 use Rattle.model_types.specs.declared.period.Period.{Period}
-use Rattle.model_types.specs.Sources.{evap_sources}
-use Rattle.model_types.specs.Times.{no_period, period_at}
 use Rattle.number_limits.proofs.Canonical.{dec_at_is}
 use Rattle.list_package.proofs.ModelLemmas.{each_period, evaporation_of, replaced, same_view, sources_by, steps, with_stresses}
 use Rattle.evt_package.proofs.ChosenLemmas.{chosen_is}

@@ -1,25 +1,20 @@
 -- The evapotranspiration package (TM 6-A16, EVT).
 use Rattle.std.specs.Prelude.{ℕ, true, List, Result, Ok, pos, neg_ℤ, ℤ, ◌+ℤ◌, Bool, false, not, ◌&&◌, ◌==◌, int_le, Option, Some, None, if◌then◌else◌, zero}
 use Rattle.std.specs.Prelude.{suc, ◌+◌, ◌-◌, ◌*◌, Err}
-use Rattle.outside.specs.Files.{FileSet}
+use Rattle.outside.specs.{FileSet}
 use Rattle.outside.specs.declared.inputs.Refusal.{Refusal}
-use Rattle.record_lines.specs.Reading.{◌>>=◌, counted}
+use Rattle.record_lines.specs.{◌>>=◌, counted}
 use Rattle.model_types.specs.declared.model.FlowModel.{FlowModel}
 use Rattle.model_types.specs.declared.period.Stresses.{Stresses}
-use Rattle.period_arrays.specs.Kinds.{ArrayKind}
-use Rattle.period_arrays.specs.Packages.{arrays_in}
+use Rattle.period_arrays.specs.{ArrayKind, arrays_in, refusal_at}
 use Rattle.period_arrays.specs.declared.area.Area.{Area}
 use Rattle.period_arrays.specs.declared.read.ArrayFile.{ArrayFile}
 use Rattle.decimal_input.specs.declared.dec.Dec.{Dec}
 use Rattle.outside.specs.declared.codes.Code.{Code}
 use Rattle.outside.specs.declared.codes.Code.TheVariants.{BadProperty, HeadTooLarge}
-use Rattle.model_types.specs.Receivers.{EvapSource, is_int}
-use Rattle.number_limits.specs.Magnitudes.{is_head, is_positive, within}
-use Rattle.number_limits.specs.Room.{floor, ceiling}
+use Rattle.model_types.specs.{EvapSource, is_int, layer_size, dec_at, int_at, is_nonzero}
+use Rattle.number_limits.specs.{is_head, is_positive, within, floor, ceiling}
 use Rattle.model_types.specs.declared.grid.Grid.{Grid}
-use Rattle.model_types.specs.Faces.{layer_size}
-use Rattle.model_types.specs.Layers.{dec_at, int_at, is_nonzero}
-use Rattle.period_arrays.specs.Areas.{refusal_at}
 
 -- The tests of an evapotranspiration. Limits are this program's own.
 -- from -4 * 10 ^ 18 on, in units of 10 ^ -9

@@ -1,9 +1,8 @@
 // The cell of a column of layers that evaporates.
 ghost use Rattle.std.specs.Prelude.{◌≡◌, ◌+◌, ◌*◌, ◌<◌, ◌≤◌, IfSome};
-ghost use Rattle.model_types.specs.Faces.{cell_count, layer_size};
-ghost use Rattle.model_types.specs.Grids.{HasSize};
-ghost use Rattle.number_limits.specs.Magnitudes.{within};
-ghost use Rattle.evt_package.specs.Evaporation.{chosen_cell, highest_active, in_layer};
+ghost use Rattle.model_types.specs.{cell_count, layer_size, HasSize};
+ghost use Rattle.number_limits.specs.{within};
+ghost use Rattle.evt_package.specs.{chosen_cell, highest_active, in_layer};
 
 use model_types::Grid;
 use model_types::layers::int_at;

@@ -1,12 +1,10 @@
 // The tests of the columns of layers.
 ghost use Rattle.std.specs.Prelude.{◌≡◌, ◌<◌, All, None, if◌then◌else◌, ◌^◌, IfSome, unsigned_abs};
-ghost use Rattle.decimal_input.specs.Decimals.{IsDec};
-ghost use Rattle.record_lines.specs.Reading.{HasText};
-ghost use Rattle.model_types.specs.Faces.{cell_count, layer_size};
-ghost use Rattle.model_types.specs.Grids.{HasSize};
-ghost use Rattle.model_types.specs.Layers.{int_at, is_nonzero};
-ghost use Rattle.period_arrays.specs.Forms.{IsReals};
-ghost use Rattle.evt_package.specs.Evaporation.{cell_tested, column_step, columns_tested, source, evap_fault, has_extinction, is_reached};
+ghost use Rattle.decimal_input.specs.{IsDec};
+ghost use Rattle.record_lines.specs.{HasText};
+ghost use Rattle.model_types.specs.{cell_count, layer_size, HasSize, int_at, is_nonzero};
+ghost use Rattle.period_arrays.specs.{IsReals};
+ghost use Rattle.evt_package.specs.{cell_tested, column_step, columns_tested, source, evap_fault, has_extinction, is_reached};
 
 use crate::chosen::chosen_cell;
 use decimal_input::dec::Dec;

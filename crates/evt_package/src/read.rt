@@ -1,11 +1,8 @@
 // A model with its evapotranspiration.
 ghost use Rattle.std.specs.Prelude.{IfOk, List};
-ghost use Rattle.outside.specs.Names.{TextMay};
-ghost use Rattle.outside.specs.Files.{FileSet};
-ghost use Rattle.outside.specs.Folders.{ReadsOn};
-ghost use Rattle.record_lines.specs.Reading.{Has};
-ghost use Rattle.model_types.specs.Grids.{HasSize};
-ghost use Rattle.model_types.specs.Valid.{IsModel};
+ghost use Rattle.outside.specs.{TextMay, FileSet, ReadsOn};
+ghost use Rattle.record_lines.specs.{Has};
+ghost use Rattle.model_types.specs.{HasSize, IsModel};
 ghost use Rattle.evt_package.specs.Evaporation.{evaporation_arrays, evt_of};
 ghost use Rattle.evt_package.specs.Forms.{AreArrays, IsEvaporating, SameBut};
 

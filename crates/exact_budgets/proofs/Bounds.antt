@@ -2,8 +2,7 @@
 use Rattle.exact_budgets.proofs.Common.{◌≡◌, ℕ, ◌+◌, ◌^◌, refl, sym, arith, ℤ, pos, neg_ℤ, ◌+ℤ◌, ◌-ℤ◌, List, [], ◌∷◌, Bool, true, false, not, filter, ints}
 use Rattle.exact_budgets.proofs.Common.{Fraction, den, negated, fraction_total, Same, total, In, Out, Term, Storage, ExactCell, IsOver-negated, same_over}
 use Rattle.exact_budgets.proofs.Common.{is_term, all_terms, bounds_in, BudgetEncloses, exact_term, net_flow, net_lower, net_upper, others, lower_by_others}
-use Rattle.exact_budgets.proofs.Common.{upper_by_others, NetTermsLie}
-use Rattle.decimal_input.specs.Wholes.{EnclosesSigned}
+use Rattle.exact_budgets.proofs.Common.{upper_by_others, NetTermsLie, EnclosesSigned}
 use Rattle.decimal_input.proofs.Fractional.{cross_trans_signed}
 use Rattle.decimal_input.proofs.Enclosing.{negated_enclosed}
 use Rattle.cell_balance.proofs.Enclosing.{plus_encloses, none_encloses}

@@ -6,9 +6,8 @@ pub use Rattle.std.proofs.lemmas.Int.{clamps, ints}
 pub use Rattle.std.proofs.lemmas.List.Elements.{All-from_get_or, All-from_recursion, All-head, All-tail, All-weaker}
 pub use Rattle.std.specs.List.{AllZip, filter, flat_map}
 pub use Rattle.std.specs.Prelude.{slice_index}
-pub use Rattle.budget_bounds.specs.Exact.{BudgetEncloses, exact_part}
-unfoldable pub use Rattle.budget_bounds.specs.Exact.{exact_singles, exact_term}
-pub use Rattle.budget_bounds.specs.Terms.{all_terms, bounds_in, fixed_term, flow_term, is_term}
+pub use Rattle.budget_bounds.specs.{BudgetEncloses, all_terms, bounds_in, exact_part, fixed_term, flow_term, is_term}
+unfoldable pub use Rattle.budget_bounds.specs.{exact_singles, exact_term}
 pub use Rattle.cell_balance.proofs.Denominators.{Goes, Goes-trans, fraction_over, product, some_product, step_common}
 pub use Rattle.cell_balance.proofs.EntryScaled.{same_over}
 pub use Rattle.cell_balance.proofs.Over.{CellOver, DrainOver, EvapOver, FixedOver, FlowOver, LinkOver, RiverOver, drain_over, evap_over, fixed_over, link_over}
@@ -18,19 +17,20 @@ pub use Rattle.cell_balance.proofs.Whole.{WholeCell, WholeEntry, WholeLink, no_w
 pub use Rattle.cell_balance.proofs.Whole.{whole_river}
 pub use Rattle.cell_balance.proofs.Wholes.{whole_step}
 pub use Rattle.cell_balance.proofs.Zips.{All-zip, AllZip-at, AllZip-length}
-pub use Rattle.cell_balance.specs.Balance.{SolvesStep, drain_flow, evap_flow, fixed_flow, link_flow, minus, river_flow, share}
-pub use Rattle.cell_balance.specs.Components.{sum_below}
-pub use Rattle.cell_balance.specs.Steps.{AreLinked, ExactCell, ExactFixed, ExactFlow, ExactLink, cell_at, no_cell, no_link}
-pub use Rattle.decimal_input.specs.Fractions.{Fraction, IsOver, Same, den, fraction_total, negated, signed, times, whole}
-pub use Rattle.exact_budgets.specs.LoneCell.{IsAlone, LoneCellsHaveTheirFlows, inflow_from, is_constant, own_zone}
-pub use Rattle.exact_budgets.specs.NetTerms.{AllNetTermsLie, CertifiedHaveTheirTimes, NetTermsLie, NetTermsLieAt, NetTermsLieInTheOthers, SolutionsBalance}
-pub use Rattle.exact_budgets.specs.NetTerms.{StepsHaveTheirTimes, lower_by_others, net_flow, net_lower, net_upper, others, upper_by_others}
-pub use Rattle.flow_equations.specs.Histories.{SolvesAt, SolvesFrom, heads_of, variable_heads}
-pub use Rattle.step_problem.specs.Balances.{total}
+pub use Rattle.cell_balance.specs.{AreLinked, ExactCell, ExactFixed, ExactFlow, ExactLink, SolvesStep, cell_at, drain_flow, evap_flow, fixed_flow, link_flow}
+pub use Rattle.cell_balance.specs.{minus, no_cell, no_link, river_flow, share, sum_below, total_below}
+pub use Rattle.decimal_input.specs.{EnclosesSigned, Fraction, IsOver, Ratio, fraction_total, negated, signed, whole}
+pub use Rattle.decimal_input.specs.Fractions.{Same, den, times}
+pub use Rattle.exact_budgets.specs.{AllNetTermsLie, CertifiedHaveTheirTimes, IsAlone, LoneCellsHaveTheirFlows, MiddleCell, NetTermsLie, NetTermsLieAt}
+pub use Rattle.exact_budgets.specs.{NetTermsLieInTheOthers, PumpedCell, SolutionsBalance, StepsHaveTheirTimes, constant_head, five, inflow_from, is_constant}
+pub use Rattle.exact_budgets.specs.{lower_by_others, middle_step, net_flow, net_lower, net_upper, others, own_zone, own_zones, pumped_budget, pumped_step}
+pub use Rattle.exact_budgets.specs.{upper_by_others}
+pub use Rattle.flow_equations.specs.{SolvesAt, SolvesFrom, exact_step, heads_of, variable_heads}
+pub use Rattle.step_problem.specs.{total}
 pub use Rattle.step_problem.specs.declared.entry.FixedKind.{FixedKind}
 pub use Rattle.step_problem.specs.declared.entry.FixedKind.TheVariants.{Constant, General}
 pub use Rattle.step_problem.specs.declared.place.Dir.TheVariants.{In, Out}
 pub use Rattle.step_problem.specs.declared.place.Term.{Term}
 pub use Rattle.step_problem.specs.declared.place.Term.TheVariants.{ConstantHead, Drains, Et, HeadDepBounds, Recharge, RiverLeakage, Storage, Wells}
-pub use Rattle.zone_flows.specs.Exact.{ExactFace, exact_by_kind, exact_fixed, exact_flow, exact_link, is_exact_between}
-unfoldable pub use Rattle.zone_flows.specs.Exact.{exact_cell, exact_faces, exact_from}
+pub use Rattle.zone_flows.specs.{ExactFace, exact_by_kind, exact_fixed, exact_flow, exact_link, is_exact_between, is_lower_zone}
+unfoldable pub use Rattle.zone_flows.specs.{exact_cell, exact_faces, exact_from}

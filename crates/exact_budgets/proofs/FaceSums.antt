@@ -2,11 +2,9 @@
 use Rattle.exact_budgets.proofs.Common.{◌≡◌, ℕ, zero, suc, ◌<◌, ◌==◌, Bool, true, false, cond, ◌&&◌, List, [], ◌∷◌, ◌++◌, length, get_or, All, refl, sym, subst}
 use Rattle.exact_budgets.proofs.Common.{arith, ℤ, pos, ◌+ℤ◌, slice_index, filter, flat_map, and_parts, eqb-true, All-head, All-tail, AllZip, ints, Fraction}
 use Rattle.exact_budgets.proofs.Common.{whole, times, signed, fraction_total, IsOver, FixedKind, Constant, General, minus, ExactFace, exact_from, exact_by_kind}
-use Rattle.exact_budgets.proofs.Common.{is_exact_between, is_constant, IsOver-plus, IsOver-none, sum_below}
+use Rattle.exact_budgets.proofs.Common.{is_exact_between, is_constant, IsOver-plus, IsOver-none, sum_below, Ratio, is_lower_zone}
 use Rattle.std.proofs.lemmas.Bool.Decides.{nat_tests}
-use Rattle.decimal_input.specs.Ratios.{Ratio}
 use Rattle.step_problem.specs.declared.entry.FixedKind.TheVariants.{Storage}
-use Rattle.zone_flows.specs.Faces.{is_lower_zone}
 use Rattle.exact_budgets.proofs.Kept.{kept}
 
 module _ (D : ℕ) (p : ExactFace → Bool) where

@@ -1,27 +1,23 @@
 -- The budgets of a history, step by step: by induction on the time steps.
 use Rattle.exact_budgets.proofs.Common.{◌≡◌, ℕ, ◌<◌, inl, inr, refl, sym, ap, subst, List, [], ◌∷◌, map, Option, ℤ, Fraction, ExactCell, AreLinked, heads_of}
 use Rattle.exact_budgets.proofs.Common.{variable_heads, SolvesAt, SolvesFrom, NetTermsLieInTheOthers, StepsHaveTheirTimes, CertifiedHaveTheirTimes, Bool}
-use Rattle.exact_budgets.proofs.Common.{NetTermsLieAt, AllNetTermsLie}
+use Rattle.exact_budgets.proofs.Common.{NetTermsLieAt, AllNetTermsLie, exact_step}
 use Rattle.model_types.specs.declared.limits.Limits.{Limits}
 use Rattle.model_types.specs.declared.model.FlowModel.{FlowModel}
 use Rattle.model_types.specs.declared.time_steps.TimeStep.{TimeStep}
-use Rattle.model_types.specs.Heads.{start_head}
-use Rattle.model_types.specs.Times.{times}
-use Rattle.model_types.specs.Valid.{IsModel}
+use Rattle.model_types.specs.{start_head, times, IsModel}
 use Rattle.step_problem.specs.declared.heads.Bound.{Bound}
-use Rattle.flow_equations.specs.ExactStep.{exact_step}
 use Rattle.flow_equations.proofs.Links.{are_linked}
 use Rattle.listing_io.specs.declared.listing.ListedStep.{ListedStep}
 use Rattle.check_run.specs.declared.verdict.ListingVerdict.TheVariants.{Certified}
 use Rattle.deck_problems.specs.declared.decks.Decks.{Decks}
-use Rattle.deck_problems.specs.Decks.{one_deck}
-use Rattle.check_run.specs.Verdicts.{Checks, steps_of}
+use Rattle.deck_problems.specs.{one_deck}
+use Rattle.check_run.specs.{Checks, steps_of}
 use Rattle.listing_run.specs.declared.steps.Task.{Task}
 use Rattle.listing_run.specs.declared.solving.Step.{Step}
 use Rattle.listing_run.specs.declared.text.ListingEnd.TheVariants.{Whole}
 use Rattle.listing_run.specs.Steps.{Steps}
-use Rattle.listing_run.specs.Tasks.{one_task}
-use Rattle.listing_run.specs.Listing.{Bounds, BoundAll}
+use Rattle.listing_run.specs.{one_task, Bounds, BoundAll}
 use Rattle.exact_budgets.proofs.Balance.{terms_over, solutions_balance}
 use Rattle.exact_budgets.proofs.Bounds.{net_terms_lie}
 

@@ -1,8 +1,7 @@
 -- The worked cell and the worked zone: their solutions, the bounds of the cell's terms, and the zone's flows. Everything is computed.
 use Rattle.exact_budgets.proofs.Common.{zero, suc, refl, arith, ints, In, Out, Storage, SolvesStep, BudgetEncloses, exact_term, exact_singles, heads_of, ◌≡◌, ℕ}
 use Rattle.exact_budgets.proofs.Common.{◌<◌, [], ◌∷◌, length, All, slice_index, All-from_recursion, Constant, ExactFixed, cell_at, exact_from, exact_cell}
-use Rattle.exact_budgets.proofs.Common.{exact_faces, IsAlone}
-use Rattle.exact_budgets.specs.Worked.{pumped_step, five, pumped_budget, PumpedCell, constant_head, middle_step, own_zones, MiddleCell}
+use Rattle.exact_budgets.proofs.Common.{exact_faces, IsAlone, pumped_step, five, pumped_budget, PumpedCell, constant_head, middle_step, own_zones, MiddleCell}
 
 solved : SolvesStep pumped_step 1 five
 solved zero h = refl

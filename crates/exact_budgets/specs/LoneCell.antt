@@ -1,12 +1,12 @@
 -- A cell that is alone in its zone, and what flows from it into another zone.
 use Rattle.std.specs.Prelude.{◌≡◌, ℕ, ◌<◌, ◌==◌, Bool, true, false, ◌&&◌, List, length, All, slice_index}
 use Rattle.std.specs.List.{filter}
-use Rattle.decimal_input.specs.Fractions.{Fraction, negated, plus, fraction_total, Same}
+use Rattle.decimal_input.specs.{Fraction, negated, fraction_total}
+use Rattle.decimal_input.specs.Fractions.{plus, Same}
 use Rattle.step_problem.specs.declared.entry.FixedKind.{FixedKind}
 use Rattle.step_problem.specs.declared.entry.FixedKind.TheVariants.{Storage, Constant, General}
-use Rattle.cell_balance.specs.Steps.{ExactLink, ExactFixed, ExactCell, cell_at, AreLinked}
-use Rattle.cell_balance.specs.Balance.{link_flow, fixed_flow}
-use Rattle.zone_flows.specs.Exact.{exact_faces, exact_flow}
+use Rattle.cell_balance.specs.{ExactLink, ExactFixed, ExactCell, cell_at, AreLinked, link_flow, fixed_flow}
+use Rattle.zone_flows.specs.{exact_faces, exact_flow}
 
 abbrev pub is_constant : FixedKind → Bool
 is_constant Storage = false

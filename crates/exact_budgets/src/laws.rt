@@ -1,7 +1,6 @@
 // What the budgets of exact solutions are.
-ghost use Rattle.exact_budgets.specs.NetTerms.{SolutionsBalance, NetTermsLieInTheOthers, StepsHaveTheirTimes, CertifiedHaveTheirTimes};
-ghost use Rattle.exact_budgets.specs.LoneCell.{LoneCellsHaveTheirFlows};
-ghost use Rattle.exact_budgets.specs.Worked.{PumpedCell, MiddleCell};
+ghost use Rattle.exact_budgets.specs.{SolutionsBalance, NetTermsLieInTheOthers, StepsHaveTheirTimes, CertifiedHaveTheirTimes, LoneCellsHaveTheirFlows};
+ghost use Rattle.exact_budgets.specs.{PumpedCell, MiddleCell};
 
 /// In the budget of each solution of a step TOTAL IN is TOTAL OUT, and the net terms sum to 0.
 pub fn in_is_out()

@@ -4,38 +4,33 @@ pub use Rattle.std.proofs.Common.{refl, subst, suc, sym, true, zero, ℕ, ℤ, �
 pub use Rattle.std.proofs.lemmas.Bool.{and_parts, cases_Bool, cases_eq, cases_lt, eq-eqb, ne_eqb, not-true}
 pub use Rattle.std.proofs.lemmas.List.Elements.{All-cons, All-head, All-nil, All-tail}
 pub use Rattle.std.specs.Prelude.{None, Some}
-pub use Rattle.cell_balance.specs.Balance.{SolvesStep, balance, drain_flow, evap_flow, fixed_flow, link_flow, minus, river_flow, share}
-pub use Rattle.cell_balance.specs.Steps.{AreLinked, ExactCell, ExactFixed, ExactLink, cell_at, no_cell}
+pub use Rattle.cell_balance.specs.{AreLinked, EnclosesStep, ExactCell, ExactFixed, ExactLink, SolvesStep, balance, cell_at, drain_flow, evap_flow, fixed_flow}
+pub use Rattle.cell_balance.specs.{link_flow, minus, no_cell, river_flow, share}
 pub use Rattle.decimal_input.proofs.Fractional.{Same-sym, Same-trans}
-pub use Rattle.decimal_input.specs.Fractions.{Fraction, IsOver, Same, den, fraction_total, plus, signed}
+pub use Rattle.decimal_input.specs.{Fraction, IsOver, fraction_total, signed}
+pub use Rattle.decimal_input.specs.Fractions.{Same, den, plus}
 pub use Rattle.deck_problems.proofs.Enclosing.{pair_encloses, pair_fits, problem_encloses}
 pub use Rattle.deck_problems.proofs.Members.{HasCellsOf, between_cells, cell_of_first, cell_of_member, encloses_first, encloses_member, member_cells, of_member}
 pub use Rattle.deck_problems.proofs.Members.{one_valid}
 pub use Rattle.deck_problems.proofs.Starting.{start_encloses, starts_enclose_members, starts_fit_decks}
-pub use Rattle.deck_problems.specs.Decks.{AreDecks, HoldsOf, IsMember, IsOf, one_deck}
-pub use Rattle.deck_problems.specs.Laws.{IsBefore}
+pub use Rattle.deck_problems.specs.{AreDecks, EnclosesSteps, HoldsOf, IsBefore, IsMember, IsOf, one_deck}
 pub use Rattle.deck_problems.specs.declared.decks.Decks.{Decks}
-pub use Rattle.deck_span.specs.Models.{IsBetween, SolvesBetweenFrom}
-pub use Rattle.exact_histories.specs.Choices.{Choice, SolvesChoicesFrom}
-pub use Rattle.exact_histories.specs.Decks.{ChoicesHaveOne, HaveOneBy}
-pub use Rattle.exact_histories.specs.Histories.{AreSame, AreSameHeads, HasOneHistory, RunsHaveAHistory, RunsHaveOneHistory}
-pub use Rattle.exact_histories.specs.Laws.{ChoicesHaveAHistory, ChoicesHaveOneHistory, ChoicesLieBetween}
-pub use Rattle.exact_solutions.specs.Held.{HasAtMostOne, IsAnchoredAbove, IsHeldAbove}
-pub use Rattle.flow_equations.specs.ExactStep.{exact_cell, exact_fixed, exact_step}
-pub use Rattle.flow_equations.specs.Histories.{SolvesAt, SolvesFrom, heads_of, variable_heads}
-pub use Rattle.model_types.specs.Faces.{cell_count}
-pub use Rattle.model_types.specs.Grids.{HasSize}
-pub use Rattle.model_types.specs.Heads.{constant_head, index_of, is_constant, is_variable, start_head, variable_cells}
-pub use Rattle.model_types.specs.Times.{times}
+pub use Rattle.deck_span.specs.{IsBetween, SolvesBetweenFrom}
+pub use Rattle.exact_histories.specs.{AreSame, AreSameHeads, Choice, ChoicesHaveAHistory, ChoicesHaveOne, ChoicesHaveOneHistory, ChoicesLieBetween}
+pub use Rattle.exact_histories.specs.{HasOneHistory, HaveOneBy, RunsHaveAHistory, RunsHaveOneHistory, SolvesChoicesFrom}
+pub use Rattle.exact_solutions.specs.{HasAtMostOne, IsAnchoredAbove, IsHeldAbove}
+pub use Rattle.flow_equations.specs.{SolvesAt, SolvesFrom, exact_cell, exact_fixed, exact_step, heads_of, variable_heads}
+pub use Rattle.model_types.specs.{FixedSource, FromStorage, HasSize, IsModel, ToConstant, ToGeneral, cell_count, constant_head, fixed_sources, index_of}
+pub use Rattle.model_types.specs.{is_active, is_constant, is_variable, start_head, times, variable_cells}
 pub use Rattle.model_types.specs.declared.limits.Limits.{Limits}
 pub use Rattle.model_types.specs.declared.model.FlowModel.{FlowModel}
 pub use Rattle.model_types.specs.declared.time_steps.TimeStep.{TimeStep}
-pub use Rattle.problem_builder.specs.GridHeads.{AreGridHeads, HeadsEnclose}
+pub use Rattle.problem_builder.specs.{AreGridHeads, HeadsEnclose}
 pub use Rattle.step_chain.proofs.Histories.{first_in, lies_encloses, lies_in_first, next_in}
 pub use Rattle.step_chain.proofs.OneStep.{all_fit, steps_enclose}
-pub use Rattle.step_chain.specs.Steps.{AreAllSteps, AreSteps, IsPosed, IsStepBy, two}
+pub use Rattle.step_chain.specs.{AreAllSteps, AreSteps, EnclosesMoves, IsPosed, IsStepBy, two}
 pub use Rattle.step_chain.specs.declared.solved.Solved.{Solved}
 pub use Rattle.step_problem.proofs.Ring.{mul_assoc}
-pub use Rattle.step_problem.specs.Entries.{Entries, entries_at}
-pub use Rattle.step_problem.specs.Settling.{PairKind}
+pub use Rattle.step_problem.specs.{Edges, IsProblem, PairKind, entries_at}
+pub use Rattle.step_problem.specs.Entries.{Entries}
 pub use Rattle.step_problem.specs.declared.heads.Bound.{Bound}

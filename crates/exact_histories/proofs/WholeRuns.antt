@@ -1,10 +1,9 @@
 -- The model of a run all of whose steps have heads has a history, and one alone.
 use Rattle.exact_histories.proofs.Common.{Limits, ◌∷◌, [], ℕ, subst, List, Option, map, times, FlowModel, TimeStep, Bound, Bool, start_encloses, AreSteps}
-use Rattle.exact_histories.proofs.Common.{Solved, starts_fit_decks, one_deck, None, one_valid, HasOneHistory, RunsHaveAHistory, RunsHaveOneHistory}
-use Rattle.model_types.specs.Valid.{IsModel}
+use Rattle.exact_histories.proofs.Common.{Solved, starts_fit_decks, one_deck, None, one_valid, HasOneHistory, RunsHaveAHistory, RunsHaveOneHistory, IsModel}
 use Rattle.listing_run.specs.declared.text.ListingEnd.TheVariants.{Whole}
-use Rattle.listing_run.specs.Steps.{AllSteps, Steps}
-use Rattle.listing_run.specs.Tasks.{one_task, pairs_of}
+use Rattle.listing_run.specs.{AllSteps, one_task, pairs_of}
+use Rattle.listing_run.specs.Steps.{Steps}
 use Rattle.listing_run.specs.declared.solving.Step.{Step}
 use Rattle.listing_run.specs.declared.steps.Task.{Task}
 use Rattle.exact_histories.proofs.Turns.{turns_of, heads_at}

@@ -1,12 +1,11 @@
 -- Histories of chosen models: a model for each time step.
 use Rattle.std.specs.Prelude.{◌≡◌, ℕ, ◌<◌, ℤ, List, [], ◌∷◌, All, map}
-use Rattle.decimal_input.specs.Fractions.{Fraction}
+use Rattle.decimal_input.specs.{Fraction}
 use Rattle.model_types.specs.declared.model.FlowModel.{FlowModel}
 use Rattle.model_types.specs.declared.time_steps.TimeStep.{TimeStep}
-use Rattle.model_types.specs.Times.{times}
-use Rattle.model_types.specs.Heads.{start_head}
-use Rattle.flow_equations.specs.Histories.{SolvesAt, heads_of}
-use Rattle.deck_span.specs.Models.{IsBetween}
+use Rattle.model_types.specs.{times, start_head}
+use Rattle.flow_equations.specs.{SolvesAt, heads_of}
+use Rattle.deck_span.specs.{IsBetween}
 
 -- a time step, and the model that is chosen for it
 pub record Choice : Type 0 where

@@ -1,16 +1,16 @@
 -- That a model has a history of heads that solves its exact equations, and when two histories are the same.
 use Rattle.std.specs.Prelude.{ℕ, ℤ, List, Bool, Option}
 use Rattle.std.specs.List.{AllZip}
-use Rattle.decimal_input.specs.Fractions.{Fraction, Same}
+use Rattle.decimal_input.specs.{Fraction}
+use Rattle.decimal_input.specs.Fractions.{Same}
 use Rattle.model_types.specs.declared.model.FlowModel.{FlowModel}
-use Rattle.flow_equations.specs.Histories.{heads_of, Solves}
-use Rattle.problem_builder.specs.GridHeads.{IsActive}
+use Rattle.flow_equations.specs.{heads_of, Solves}
+use Rattle.problem_builder.specs.{IsActive}
 use Rattle.model_types.specs.declared.limits.Limits.{Limits}
-use Rattle.model_types.specs.Valid.{IsModel}
+use Rattle.model_types.specs.{IsModel}
 use Rattle.listing_run.specs.declared.solving.Step.{Step}
 use Rattle.listing_run.specs.declared.text.ListingEnd.TheVariants.{Whole}
-use Rattle.listing_run.specs.Steps.{AllSteps}
-use Rattle.listing_run.specs.Tasks.{one_task}
+use Rattle.listing_run.specs.{AllSteps, one_task}
 
 -- A history of heads, over some denominator, solves the model's exact equations.
 abbrev pub HasHistory : FlowModel → Type 0

@@ -4,9 +4,9 @@ use Rattle.std.specs.Prelude.{ℕ, ℤ, List}
 use Rattle.model_types.specs.declared.model.FlowModel.{FlowModel}
 use Rattle.step_chain.specs.declared.solved.Solved.{Solved}
 use Rattle.exact_histories.specs.Histories.{AreSame}
-use Rattle.deck_span.specs.Models.{SolvesBetween}
-use Rattle.step_problem.specs.Settling.{PairKind}
-use Rattle.step_chain.specs.Steps.{AreAllSteps}
+use Rattle.deck_span.specs.{SolvesBetween}
+use Rattle.step_problem.specs.{PairKind}
+use Rattle.step_chain.specs.{AreAllSteps}
 use Rattle.exact_histories.specs.Choices.{Choice, SolvesChoices, AreChoices}
 
 -- Where two decks have all their steps, each choice of models between has a history.

@@ -1,5 +1,5 @@
 // Each choice of models between two others has a history, and one alone.
-ghost use Rattle.exact_histories.specs.Laws.{ChoicesHaveAHistory, ChoicesHaveOneHistory, ChoicesLieBetween};
+ghost use Rattle.exact_histories.specs.{ChoicesHaveAHistory, ChoicesHaveOneHistory, ChoicesLieBetween};
 
 /// Each choice of models between two others has a history.
 pub fn choices_have_a_history()

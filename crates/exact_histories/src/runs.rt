@@ -1,5 +1,5 @@
 // What a whole run says of the exact equations of its model.
-ghost use Rattle.exact_histories.specs.Histories.{RunsHaveAHistory, RunsHaveOneHistory};
+ghost use Rattle.exact_histories.specs.{RunsHaveAHistory, RunsHaveOneHistory};
 
 /// Where all time steps of a task of one deck have heads, a history of heads solves the exact equations of its model.
 pub fn history_exists()

@@ -25,16 +25,14 @@ pub use Rattle.cell_balance.proofs.Whole.{whole_evap, whole_fixed, whole_full, w
 pub use Rattle.cell_balance.proofs.WholeBalances.{a_of, b_of, q_of, ramps_at_cell, ramps_from, scaled, scaled_balance, scaled_entry}
 pub use Rattle.cell_balance.proofs.Wholes.{whole_step}
 pub use Rattle.cell_balance.proofs.Zips.{All-zip, AllZip-at, AllZip-length}
-pub use Rattle.cell_balance.specs.Balance.{SolvesStep, balance, share}
-pub use Rattle.cell_balance.specs.Components.{sum_below, sum_inside}
-pub use Rattle.cell_balance.specs.Deep.{deep_flow}
-pub use Rattle.cell_balance.specs.Steps.{AreLinked, ExactCell, ExactLink, HasLinkBack, cell_at, no_cell}
+pub use Rattle.cell_balance.specs.{AreLinked, CellEncloses, ExactCell, ExactLink, HasLinkBack, SolvesStep, balance, cell_at, deep_flow, no_cell, share}
+pub use Rattle.cell_balance.specs.{sum_below, sum_inside}
 pub use Rattle.decimal_input.proofs.Signs.{cancel_right, mul_mono_right, swap}
-pub use Rattle.decimal_input.specs.Fractions.{Fraction, IsOver, Same, den, whole}
-pub use Rattle.decimal_input.specs.Ratios.{Ratio}
-pub use Rattle.exact_solutions.specs.Held.{AfloatHaveAnother, DrainedHaveAnother, HasNoneOrMany, HeldHaveASolution, HeldHaveAtMostOne, IsAnchoredAbove}
-pub use Rattle.exact_solutions.specs.Held.{IsHeldAbove, IsLoose}
+pub use Rattle.decimal_input.specs.{Fraction, IsOver, IsShare, Ratio, whole}
+pub use Rattle.decimal_input.specs.Fractions.{Same, den}
+pub use Rattle.exact_solutions.specs.{AfloatHaveAnother, DrainedHaveAnother, HasNoneOrMany, HeldHaveASolution, HeldHaveAtMostOne, IsAnchoredAbove, IsHeldAbove}
+pub use Rattle.exact_solutions.specs.{IsLoose, TwoLooseCells, WellOfDeepFlow, WellPastDeepFlow, WellWithinDeepFlow, linked_to, river_and_well, two_cells}
 pub use Rattle.step_problem.proofs.BothSides.{le_anti}
 pub use Rattle.step_problem.proofs.Falls.{loss_falls, total_mono}
 pub use Rattle.step_problem.proofs.Ring.{as_diff, diffs, mul_assoc, mul_mono, mul_nonneg, same_diff}
-pub use Rattle.step_problem.specs.Balances.{total}
+pub use Rattle.step_problem.specs.{entries_at, total}

@@ -3,15 +3,15 @@ use Rattle.exact_solutions.proofs.Common.{◌*◌, ◌^◌, ◌∙◌, arith, le
 use Rattle.exact_solutions.proofs.Common.{◌≡◌, ◌≤ℤ◌, List, inl, inr, ℕ, ℤ, AllZip, ints, All-contains, total, WholeCell, WholeEntry, whole_at}
 use Rattle.exact_solutions.proofs.Common.{HeldHaveASolution, HeldHaveAtMostOne, IsAnchoredAbove, IsHeldAbove, ramps_from, a_of, b_of, q_of, ramps_at_cell}
 use Rattle.exact_solutions.proofs.Common.{open_conductance, open_conductance_at, IsHeldFromAbove, both_ways, All-back, none_conduct, total_positive}
+use Rattle.exact_solutions.proofs.Common.{CellEncloses, entries_at}
 use Rattle.cell_balance.proofs.Within.{CellWithin, DrainWithin, RiverWithin}
 use Rattle.decimal_input.proofs.Powers.{ten_pos}
-use Rattle.cell_balance.specs.Enclosures.{CellEncloses}
 use Rattle.cell_balance.proofs.Enclosed.{step_within, linked, links_good}
 use Rattle.exact_solutions.proofs.LinearSteps.{cancel_same, one_whole_solution}
 use Rattle.exact_solutions.proofs.Shares.{crossed_same}
 use Rattle.exact_solutions.proofs.Existence.{whole_solution_exists}
 use Rattle.exact_solutions.proofs.WholeSolutions.{solves_step, solves_whole}
-use Rattle.step_problem.specs.Entries.{Entries, entries_at}
+use Rattle.step_problem.specs.Entries.{Entries}
 use Rattle.cell_balance.proofs.HeldBelow.{held_below, along, no_fixed, some_conducts}
 use Rattle.cell_balance.proofs.Spread.{cell_within}
 

@@ -6,8 +6,7 @@ use Rattle.exact_solutions.proofs.Common.{no_cell, IsMutual, step_common, whole_
 use Rattle.exact_solutions.proofs.Common.{CellOver, IsOver-none, sum-same, sum-add, sum-zero, sub_mul, WholeEntry, WholeCell, whole_at, no_whole, whole_link}
 use Rattle.exact_solutions.proofs.Common.{whole_fixed, whole_river, whole_drain, whole_evap, whole_balance, whole_deep_river, whole_full, whole_deep}
 use Rattle.exact_solutions.proofs.Common.{whole_step, AllZip-at, AllZip-length, All-zip, le_anti, deep_over, Ratio, IsLoose, DrainedHaveAnother}
-use Rattle.exact_solutions.proofs.Common.{AfloatHaveAnother, closed_cancel}
-use Rattle.decimal_input.specs.Wholes.{IsShare}
+use Rattle.exact_solutions.proofs.Common.{AfloatHaveAnother, closed_cancel, IsShare}
 use Rattle.decimal_input.proofs.Integers.{le-trans}
 use Rattle.cell_balance.proofs.ExactLaws.{heads_over}
 use Rattle.cell_balance.proofs.Falling.{whole_falls}

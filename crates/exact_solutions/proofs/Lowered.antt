@@ -3,7 +3,7 @@ use Rattle.exact_solutions.proofs.Common.{◌≡◌, ◌<◌, ◌∙◌, ◌+ℤ
 use Rattle.exact_solutions.proofs.Common.{cond, AllZip, true≢false, cases_Bool, ints, All-nil, All-cons, All-head, All-tail, All-contains, total, HasLinkBack}
 use Rattle.exact_solutions.proofs.Common.{AreLinked, ExactLink, ExactCell, cell_at, no_cell, LinkOver, CellOver, total-same, WholeLink, WholeCell, whole_at}
 use Rattle.exact_solutions.proofs.Common.{no_whole, whole_link, whole_balance, AllZip-at, AllZip-length, All-zip}
-use Rattle.cell_balance.specs.Deep.{IsClosed}
+use Rattle.cell_balance.specs.{IsClosed}
 
 -- a cell without its links
 abbrev pub without_links : WholeCell → WholeCell

@@ -2,14 +2,12 @@
 use Rattle.std.specs.Prelude.{ℕ, ◌<◌, ◌⊎◌, List, length, Contains, ℤ, ◌≡◌, [], All, Bool, true, pos}
 use Rattle.step_problem.specs.declared.entry.River.{River}
 use Rattle.step_problem.specs.declared.entry.Drain.{Drain}
-use Rattle.step_problem.specs.Entries.{Entries, entries_at}
-use Rattle.cell_balance.specs.Components.{Reaches, IsAnchored, IsHeldBelow}
-use Rattle.decimal_input.specs.Fractions.{Same, whole, AtMost}
-use Rattle.cell_balance.specs.Steps.{ExactCell, cell_at, AreLinked}
-use Rattle.cell_balance.specs.Balance.{share, SolvesStep}
-use Rattle.step_problem.specs.Conditions.{IsProblem}
-use Rattle.cell_balance.specs.Enclosures.{EnclosesStep}
-use Rattle.cell_balance.specs.Deep.{IsClosed, total_inside, deep_flow}
+use Rattle.step_problem.specs.Entries.{Entries}
+use Rattle.step_problem.specs.{entries_at, IsProblem}
+use Rattle.cell_balance.specs.{Reaches, IsAnchored, IsHeldBelow, ExactCell, cell_at, AreLinked, share, SolvesStep, EnclosesStep, IsClosed, total_inside}
+use Rattle.cell_balance.specs.{deep_flow}
+use Rattle.decimal_input.specs.Fractions.{Same, AtMost}
+use Rattle.decimal_input.specs.{whole}
 
 -- A cell that is anchored above: a fixed link, a river or a drain of it certainly conducts.
 -- (An evapotranspiration doesn't count: it takes no more than its full rate.)

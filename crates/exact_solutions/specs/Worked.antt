@@ -1,10 +1,8 @@
 -- Steps that are solved by hand. Lengths in metres; every conductance is 1.
 use Rattle.std.specs.Prelude.{ℕ, List, [], ◌∷◌, pos, neg_ℤ, ◌<◌, ◌-ℤ◌}
-use Rattle.decimal_input.specs.Ratios.{Ratio}
-use Rattle.decimal_input.specs.Fractions.{whole}
+use Rattle.decimal_input.specs.{Ratio, whole}
 use Rattle.step_problem.specs.declared.entry.FlowKind.TheVariants.{Wells}
-use Rattle.cell_balance.specs.Steps.{ExactCell}
-use Rattle.cell_balance.specs.Balance.{SolvesStep}
+use Rattle.cell_balance.specs.{ExactCell, SolvesStep}
 use Rattle.exact_solutions.specs.Held.{HasSolution, HasNoSolution, HasAtMostOne, HasNoneOrMany}
 
 abbrev pub one : Ratio

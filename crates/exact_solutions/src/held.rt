@@ -1,5 +1,5 @@
 // Steps whose heads are held have a solution, and one alone.
-ghost use Rattle.exact_solutions.specs.Held.{HeldHaveASolution, HeldHaveAtMostOne};
+ghost use Rattle.exact_solutions.specs.{HeldHaveASolution, HeldHaveAtMostOne};
 
 /// Each exact step that a problem encloses has a solution, where each component of the problem is held below and above.
 #[tactic(auto, using(crate::proofs::HeldSteps::solution_exists))]

@@ -1,5 +1,5 @@
 // Steps with cells that nothing holds have no solution or many.
-ghost use Rattle.exact_solutions.specs.Held.{DrainedHaveAnother, AfloatHaveAnother};
+ghost use Rattle.exact_solutions.specs.{DrainedHaveAnother, AfloatHaveAnother};
 
 /// Cells that nothing holds, and whose deep flows sum to at most 0: with each solution there is another one.
 pub fn drained_have_another()

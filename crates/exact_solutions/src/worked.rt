@@ -1,5 +1,5 @@
 // Steps that are solved by hand.
-ghost use Rattle.exact_solutions.specs.Worked.{WellPastDeepFlow, WellWithinDeepFlow, WellOfDeepFlow, TwoLooseCells};
+ghost use Rattle.exact_solutions.specs.{WellPastDeepFlow, WellWithinDeepFlow, WellOfDeepFlow, TwoLooseCells};
 
 /// A well that takes more than the deep flow of its cell's river: no heads are a solution.
 #[tactic(auto, using(crate::proofs::WorkedSteps::well_past_deep_flow))]

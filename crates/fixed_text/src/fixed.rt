@@ -1,5 +1,5 @@
 ghost use Rattle.std.specs.Prelude.{◌≡◌, ◌≤◌, ◌<◌, ◌^◌, ◌++◌, replicate, decimal, IfOk};
-ghost use Rattle.fixed_text.specs.Fixed.{fixed_text, padded};
+ghost use Rattle.fixed_text.specs.{fixed_text, padded};
 
 use itoa::Buffer;
 use std::alloc::AllocError;

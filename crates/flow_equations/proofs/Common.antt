@@ -10,45 +10,33 @@ pub use Rattle.std.specs.List.{filter_map, find, flat_map, list_any, range_with_
 pub use Rattle.std.specs.Prelude.{All, Contains, nat_lt, replicate, reverse, unsigned_abs, ◌==◌}
 pub use Rattle.cell_balance.proofs.EntryScaled.{same_over}
 pub use Rattle.cell_balance.proofs.Scaling.{IsOver-greater, IsOver-minus, IsOver-negated, IsOver-none, IsOver-plus, IsOver-signed, IsOver-times}
-pub use Rattle.cell_balance.specs.Balance.{SolvesStep, greater, minus, share}
-pub use Rattle.cell_balance.specs.Steps.{AreLinked, ExactCell, ExactFlow, ExactLink, HasLinkBack, cell_at, no_cell, no_link}
+pub use Rattle.cell_balance.specs.{AreLinked, ExactCell, ExactFlow, ExactLink, HasLinkBack, SolvesStep, cell_at, greater, minus, no_cell, no_link, share}
 pub use Rattle.decimal_input.proofs.Differences.{as_diff, diffs, same_diff}
 pub use Rattle.decimal_input.proofs.Fractional.{AtMost-trans}
 pub use Rattle.decimal_input.proofs.Orders.{Same-trans, den_over, den_plus, den_times, num_over, num_plus, num_times}
 pub use Rattle.decimal_input.proofs.SameNumbers.{Same-of, Same-self, over-Same, plus-Same, plus-comm, times-Same}
 pub use Rattle.decimal_input.proofs.Signs.{neg_times, swap}
-pub use Rattle.decimal_input.specs.Decimals.{IsDec, number, size, with_sign}
-unfoldable pub use Rattle.decimal_input.specs.Decimals.{scaled}
-pub use Rattle.decimal_input.specs.Fractions.{Fraction, IsOver, den, negated, signed, whole}
-pub use Rattle.decimal_input.specs.Ratios.{AtMost, Ratio, Same}
-unfoldable pub use Rattle.decimal_input.specs.Ratios.{over, plus, ratio, times}
-pub use Rattle.decimal_input.specs.Wholes.{IsShare}
+pub use Rattle.decimal_input.specs.{Fraction, IsDec, IsOver, IsShare, Ratio, negated, number, signed, size, whole, with_sign}
+unfoldable pub use Rattle.decimal_input.specs.{over, ratio, scaled}
+pub use Rattle.decimal_input.specs.Fractions.{den}
+pub use Rattle.decimal_input.specs.Ratios.{AtMost, Same}
+unfoldable pub use Rattle.decimal_input.specs.Ratios.{plus, times}
 pub use Rattle.decimal_input.specs.declared.dec.Dec.{Dec}
-pub use Rattle.flow_equations.specs.ExactStep.{exact_cell, exact_evap, exact_flow, exact_link, exact_step}
-pub use Rattle.flow_equations.specs.Histories.{Solves, heads_of, variable_heads}
-pub use Rattle.flow_equations.specs.ReceiverLaws.{ChoosesOneCell, Evaporates, ReceivesRecharge, recharge_of}
-pub use Rattle.flow_equations.specs.TimeLaws.{HasEqualSteps, HasManualSteps, Lasts, StoresByOption, ratio_total}
-pub use Rattle.flow_equations.specs.VerticalLaws.{HasVerticalConductivity, IsOneMaterial, LayersFillTheSpace, distance}
-pub use Rattle.flow_equations.specs.Worked.{below_zero, cell, decimal, idle_wells, one_cell, period_with, row_model, row_of_cells, three_cells, two_cells}
-pub use Rattle.flow_equations.specs.Worked.{vector}
+pub use Rattle.flow_equations.specs.{AreAlike, AreAlikeInAColumn, ChoosesOneCell, Evaporates, FlowsChangeSign, HasEqualSteps, HasGivenHead, HasManualSteps}
+pub use Rattle.flow_equations.specs.{HasVerticalConductivity, IsBetweenHalves, IsOneMaterial, IsSameFromBothEnds, Lasts, LayersFillTheSpace, ReceivesRecharge}
+pub use Rattle.flow_equations.specs.{Solves, StoresByOption, below_zero, cell, decimal, distance, exact_cell, exact_evap, exact_flow, exact_link, exact_step}
+pub use Rattle.flow_equations.specs.{heads_of, idle_wells, one_cell, period_with, ratio_total, recharge_of, row_model, row_of_cells, three_cells, two_cells}
+pub use Rattle.flow_equations.specs.{variable_heads, vector}
 pub use Rattle.model_types.proofs.Members.{All-In, Contains-In, In, In-map, Ordered, Ordered-at, filter_map-In, map-In}
 pub use Rattle.model_types.proofs.Ranks.{IsAt, at_rank, is_at, passing, range_more, rank, rank_below}
-pub use Rattle.model_types.specs.Conductances.{one, two}
-unfoldable pub use Rattle.model_types.specs.Conductances.{column_conductance, half, in_a_row, row_conductance, vertical_conductance, vertical_half}
-pub use Rattle.model_types.specs.Faces.{cell_count, layer_of, layer_size, place_in_layer}
-pub use Rattle.model_types.specs.Grids.{HasSize, IsGrid, IsHeadNumber, IsNotNegative, IsPositive, IsThick}
-pub use Rattle.model_types.specs.Heads.{between_heads, head_or_kept, index_of, is_constant, is_variable, kept_head, last_given, start_head, variable_cells}
-unfoldable pub use Rattle.model_types.specs.Heads.{constant_head, given_in, variable_below}
-pub use Rattle.model_types.specs.Layers.{bed_thickness, bottom_at, dec_at, delc_at, delr_at, gap, hani_at, hk_at, int_at, is_active, lowest, no_number}
-pub use Rattle.model_types.specs.Layers.{thickness, top_at, vertical_conductivity, vka_at, vkcb_at}
-unfoldable pub use Rattle.model_types.specs.Layers.{area}
-pub use Rattle.model_types.specs.Receivers.{EvapSource, evap_conductance, is_chosen, is_highest, is_int}
-pub use Rattle.model_types.specs.Sources.{FlowSource, as_well, local_entries, variable_faces}
-unfoldable pub use Rattle.model_types.specs.Sources.{entries_of}
-pub use Rattle.model_types.specs.Storage.{storage_capacity}
-unfoldable pub use Rattle.model_types.specs.Storage.{storage}
-pub use Rattle.model_types.specs.Times.{multiplier, no_period, no_stresses, period_at}
-unfoldable pub use Rattle.model_types.specs.Times.{geometric, passed, power, step_length}
+pub use Rattle.model_types.specs.{AreStresses, EvapSource, FlowSource, HasSize, IsCellValid, IsEntryList, IsEntryValid, IsGrid, IsHeadNumber, IsModel}
+pub use Rattle.model_types.specs.{IsNotNegative, IsPeriod, IsPositive, IsThick, IsTimed, Received, as_well, bed_thickness, between_heads, bottom_at, cell_count}
+pub use Rattle.model_types.specs.{dec_at, delc_at, delr_at, evap_conductance, gap, hani_at, head_or_kept, hk_at, index_of, int_at, is_active, is_chosen}
+pub use Rattle.model_types.specs.{is_constant, is_highest, is_int, is_variable, kept_head, last_given, layer_of, layer_size, local_entries, lowest, multiplier}
+pub use Rattle.model_types.specs.{no_number, no_period, no_stresses, one, period_at, place_in_layer, start_head, storage_capacity, thickness, top_at, two}
+pub use Rattle.model_types.specs.{variable_cells, variable_faces, vertical_conductivity, vka_at, vkcb_at}
+unfoldable pub use Rattle.model_types.specs.{area, column_conductance, constant_head, entries_of, geometric, given_in, half, in_a_row, passed, power}
+unfoldable pub use Rattle.model_types.specs.{row_conductance, step_length, storage, variable_below, vertical_conductance, vertical_half}
 pub use Rattle.model_types.specs.declared.entry.Entry.{Entry}
 pub use Rattle.model_types.specs.declared.entry.Entry.TheVariants.{Drain, General, River, Well}
 pub use Rattle.model_types.specs.declared.model.FlowModel.{FlowModel}

@@ -1,9 +1,8 @@
 -- Conductances by the textbook.
 use Rattle.flow_equations.proofs.Common.{◌≡◌, ℕ, zero, suc, ◌+◌, ◌*◌, ◌<◌, ◌≤◌, sym, ap, ◌∙◌, arith, mul-pos, mul-le-mul_left, size, Ratio, times, over, Same}
 use Rattle.flow_equations.proofs.Common.{AtMost, Same-trans, Same-of, plus-comm, FlowModel, delr_at, delc_at, hk_at, hani_at, thickness, dec_at, one, half}
-use Rattle.flow_equations.proofs.Common.{in_a_row, row_conductance, column_conductance}
+use Rattle.flow_equations.proofs.Common.{in_a_row, row_conductance, column_conductance, IsSameFromBothEnds, AreAlike, AreAlikeInAColumn, IsBetweenHalves}
 use Rattle.decimal_input.specs.Ratios.{den}
-use Rattle.flow_equations.specs.BranchLaws.{IsSameFromBothEnds, AreAlike, AreAlikeInAColumn, IsBetweenHalves}
 use Rattle.flow_equations.proofs.Values.{itself, value_one, value_two, value_times, value_plus, value_over, same_by, cross_by, at_most_by, size_positive}
 
 -- two resistances in either order

@@ -4,12 +4,11 @@ use Rattle.flow_equations.proofs.Common.{length, take, get_or, refl, sym, ap, â—
 use Rattle.flow_equations.proofs.Common.{flat_map, ne_eqb, cases_lt, ints, reverse-append, take_all, take_more, append-nil, number, size, Ratio, ratio, over}
 use Rattle.flow_equations.proofs.Common.{Fraction, den, signed, negated, IsOver, IsShare, diffs, as_diff, same_diff, swap, mul_assoc, IsOver-plus, IsOver-times}
 use Rattle.flow_equations.proofs.Common.{IsOver-negated, IsOver-signed, same_over, FlowModel, Period, one, period_at, no_period, passed, geometric, multiplier}
-use Rattle.flow_equations.proofs.Common.{given_in, last_given, between_heads, head_or_kept, kept_head, constant_head, Lasts, HasEqualSteps}
+use Rattle.flow_equations.proofs.Common.{given_in, last_given, between_heads, head_or_kept, kept_head, constant_head, Lasts, HasEqualSteps, HasGivenHead}
 use Rattle.std.proofs.lemmas.List.Concat.{flat_map-append}
 use Rattle.decimal_input.specs.Ratios.{den as ratio_den, Same as SameRatio}
 use Rattle.decimal_input.specs.Fractions.{plus, times, Same}
 use Rattle.model_types.specs.declared.entry.Given.{Given}
-use Rattle.flow_equations.specs.GivenHeadLaws.{HasGivenHead}
 use Rattle.flow_equations.proofs.Values.{value_one, itself, value_over, cross_by}
 use Rattle.flow_equations.proofs.StepSums.{geometric_one, value_ratio}
 use Rattle.flow_equations.proofs.TurnedFlows.{over_first, over_second}

@@ -4,7 +4,7 @@ use Rattle.flow_equations.proofs.Common.{Fraction, den, signed, IsOver, given_in
 use Rattle.flow_equations.proofs.Common.{entries_of, minus, share, SolvesStep, exact_step, Solves, variable_heads, two_cells}
 use Rattle.std.proofs.Math.IntN.{+ℤ_invr}
 use Rattle.decimal_input.specs.Fractions.{plus, times}
-use Rattle.model_types.specs.Times.{times as all_times}
+use Rattle.model_types.specs.{times as all_times}
 
 nothing_times : (n : ℕ) → pos 0 *ℤ pos n ≡ pos 0
 nothing_times n = ap pos (omega arith)

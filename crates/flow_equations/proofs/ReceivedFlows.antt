@@ -5,7 +5,7 @@ use Rattle.flow_equations.proofs.Common.{Fraction, den, whole, signed, negated, 
 use Rattle.flow_equations.proofs.Common.{IsOver-minus, IsOver-negated, IsOver-none, IsOver-signed, IsOver-greater, same_over, FlowModel, Entry, Well, River}
 use Rattle.flow_equations.proofs.Common.{Drain, General, place_in_layer, dec_at, area, IsPositive, period_at, EvapSource, is_chosen, evap_conductance}
 use Rattle.flow_equations.proofs.Common.{FlowSource, local_entries, as_well, All-In, map-In, filter_map-In, Contains-In, exact_flow, exact_evap, recharge_of}
-use Rattle.flow_equations.proofs.Common.{ReceivesRecharge, Evaporates}
+use Rattle.flow_equations.proofs.Common.{ReceivesRecharge, Evaporates, Received}
 use Rattle.std.specs.Int.{int_max}
 use Rattle.std.specs.Option.{option_to_list}
 use Rattle.decimal_input.specs.Ratios.{den as ratio_den}
@@ -13,7 +13,6 @@ use Rattle.decimal_input.specs.Fractions.{plus, times as product, Same}
 use Rattle.decimal_input.proofs.Fractional.{Same-trans}
 use Rattle.step_problem.specs.declared.entry.FlowKind.TheVariants.{Wells, Recharge}
 use Rattle.cell_balance.proofs.EntryFlows.{flows_are_right}
-use Rattle.model_types.specs.Sources.FlowSource.{Received}
 use Rattle.flow_equations.proofs.Values.{IsValue, itself, value_over, size_positive}
 use Rattle.flow_equations.proofs.TurnedFlows.{over_first, own_share}
 

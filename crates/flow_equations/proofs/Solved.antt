@@ -4,7 +4,7 @@ use Rattle.flow_equations.proofs.Common.{power, geometric, storage, given_in, va
 use Rattle.flow_equations.proofs.Common.{row_conductance, entries_of, SolvesStep, exact_step, Solves, heads_of, variable_heads, three_cells, idle_wells}
 use Rattle.flow_equations.proofs.Common.{one_cell, vector}
 use Rattle.decimal_input.specs.Ratios.{times as product}
-use Rattle.model_types.specs.Times.{times}
+use Rattle.model_types.specs.{times}
 
 -- heads of 10, 15 and 20
 abbrev rising : ℕ → ℤ

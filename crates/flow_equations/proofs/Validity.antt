@@ -3,11 +3,11 @@ use Rattle.flow_equations.proofs.Common.{◌≡◌, ℕ, suc, ◌*◌, ◌%◌, 
 use Rattle.flow_equations.proofs.Common.{sym, ◌∙◌, subst, arith, ints, replicate, nat_lt, cond-true, le-leb, cases_lt, length-replicate, get_or-replicate, Dec}
 use Rattle.flow_equations.proofs.Common.{IsDec, scaled, ratio, FlowModel, Period, Entry, Well, no_number, dec_at, top_at, bottom_at, IsPositive, IsNotNegative}
 use Rattle.flow_equations.proofs.Common.{IsHeadNumber, IsThick, IsGrid, no_stresses, decimal, below_zero, cell, row_of_cells, period_with, row_model}
-use Rattle.flow_equations.proofs.Common.{three_cells, idle_wells, one_cell, two_cells}
+use Rattle.flow_equations.proofs.Common.{three_cells, idle_wells, one_cell, two_cells, AreStresses, IsModel, IsPeriod, IsTimed, IsCellValid, IsEntryList}
+use Rattle.flow_equations.proofs.Common.{IsEntryValid}
 use Rattle.std.proofs.Common.{All}
 use Rattle.std.proofs.Math.ListN.{get_or-eq_default}
 use Rattle.std.proofs.lemmas.List.Elements.{All-nil, All-cons, All-replicate, All-get_or}
-use Rattle.model_types.specs.Valid.{AreStresses, IsModel, IsPeriod, IsTimed, IsCellValid, IsEntryList, IsEntryValid}
 use Rattle.model_types.proofs.NoStresses.{no_stresses_fit}
 
 is_dec : (neg : Bool) (digits e : ℕ) → digits < 10 ^ 18 → 0 < digits → 0 < digits % 10 → e ≤ 40 → IsDec (record { neg = neg; digits = digits; exp = pos e })

@@ -2,7 +2,7 @@
 use Rattle.flow_equations.proofs.Common.{◌≡◌, ℕ, ◌+◌, ◌*◌, ◌<◌, ◌≤◌, refl, sym, ◌∙◌, arith, Ratio, ratio, plus, times, over, Same, AtMost, num_times, den_times}
 use Rattle.flow_equations.proofs.Common.{num_plus, den_plus, num_over, den_over, Dec, size, scaled, one-le-pow, IsPositive, one, two}
 use Rattle.decimal_input.specs.Ratios.{den}
-use Rattle.decimal_input.specs.Decimals.{up}
+use Rattle.decimal_input.specs.{up}
 
 -- f is n over d
 pub record IsValue (f : Ratio) (n d : ℕ) : Type 0 where

@@ -1,12 +1,10 @@
 -- Conductances by the manual and the textbook (TM 6-A16, chapter 5).
 use Rattle.std.specs.Prelude.{◌≡◌, ℕ, ◌<◌}
-use Rattle.decimal_input.specs.Decimals.{size}
-use Rattle.decimal_input.specs.Ratios.{Ratio, times, over, AtMost, Same}
+use Rattle.decimal_input.specs.{size, Ratio, over}
+use Rattle.decimal_input.specs.Ratios.{times, AtMost, Same}
 use Rattle.model_types.specs.declared.model.FlowModel.{FlowModel}
-use Rattle.model_types.specs.Faces.{row_of, column_of}
-use Rattle.model_types.specs.Layers.{delr_at, delc_at, hk_at, hani_at, thickness}
-use Rattle.model_types.specs.Grids.{IsPositive}
-use Rattle.model_types.specs.Conductances.{one, two, in_a_row, row_conductance, column_conductance}
+use Rattle.model_types.specs.{row_of, column_of, delr_at, delc_at, hk_at, hani_at, thickness, IsPositive, one, two, in_a_row, row_conductance}
+use Rattle.model_types.specs.{column_conductance}
 
 -- A branch is the same from both ends: between two cells of one row, and of one column.
 pub record IsSameFromBothEnds (m : FlowModel) : Type 0 where

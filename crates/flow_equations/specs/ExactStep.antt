@@ -1,22 +1,15 @@
 -- The exact finite-difference equations of one time step of a model (TM 6-A16, chapters 2, 5 and 6): for each
 -- variable cell of the period all that flows into it, each with its exact conductance, head or flow.
 use Rattle.std.specs.Prelude.{ℕ, List, map}
-use Rattle.decimal_input.specs.Decimals.{number, size}
-use Rattle.decimal_input.specs.Fractions.{Fraction}
+use Rattle.decimal_input.specs.{number, size, Fraction}
 use Rattle.step_problem.specs.declared.entry.FixedKind.TheVariants.{Constant, General, Storage}
 use Rattle.step_problem.specs.declared.entry.FlowKind.TheVariants.{Wells, Recharge}
-use Rattle.cell_balance.specs.Steps.{ExactFlow, ExactLink, ExactFixed, ExactRiver, ExactDrain, ExactEvap, ExactCell}
+use Rattle.cell_balance.specs.{ExactFlow, ExactLink, ExactFixed, ExactRiver, ExactDrain, ExactEvap, ExactCell}
 use Rattle.model_types.specs.declared.model.FlowModel.{FlowModel}
 use Rattle.model_types.specs.declared.face.Face.{Face}
-use Rattle.model_types.specs.Conductances.{conductance}
-use Rattle.model_types.specs.Times.{period_at}
-use Rattle.model_types.specs.Storage.{storage}
-use Rattle.model_types.specs.Heads.{variable_cells, index_of, constant_head}
-use Rattle.model_types.specs.Receivers.{EvapSource, recharge_flow, evap_conductance, extinction}
-use Rattle.model_types.specs.Sources.{FixedSource, FlowSource, RiverSource, DrainSource, variable_faces, flow_sources}
-use Rattle.model_types.specs.Sources.{fixed_sources, river_sources, drain_sources, evap_sources}
-use Rattle.model_types.specs.Sources.FixedSource.{ToConstant, ToGeneral, FromStorage}
-use Rattle.model_types.specs.Sources.FlowSource.{Pumped, Received}
+use Rattle.model_types.specs.{conductance, period_at, storage, variable_cells, index_of, constant_head, EvapSource, recharge_flow, evap_conductance, extinction}
+use Rattle.model_types.specs.{FixedSource, FlowSource, RiverSource, DrainSource, variable_faces, flow_sources, fixed_sources, river_sources, drain_sources}
+use Rattle.model_types.specs.{evap_sources, ToConstant, ToGeneral, FromStorage, Pumped, Received}
 
 -- a river and a drain, with the numbers of their entries (TM 6-A16, chapter 6, RIV and DRN)
 abbrev pub exact_river : RiverSource → ExactRiver

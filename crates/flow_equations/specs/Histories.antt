@@ -1,14 +1,11 @@
 -- What it means that a history of heads solves a model's equations at every time step (TM 6-A16, chapter 2). A vector
 -- of heads has a whole numerator for each cell, by cell number; all vectors of a history have one denominator d.
 use Rattle.std.specs.Prelude.{◌≡◌, ℕ, ◌<◌, true, ℤ, List, [], ◌∷◌}
-use Rattle.decimal_input.specs.Fractions.{Fraction, IsOver}
+use Rattle.decimal_input.specs.{Fraction, IsOver}
 use Rattle.model_types.specs.declared.model.FlowModel.{FlowModel}
 use Rattle.model_types.specs.declared.time_steps.TimeStep.{TimeStep}
-use Rattle.model_types.specs.Faces.{cell_count}
-use Rattle.model_types.specs.Times.{times}
-use Rattle.model_types.specs.Heads.{is_constant, start_head, constant_head}
-use Rattle.cell_balance.specs.Steps.{ExactCell, cell_at}
-use Rattle.cell_balance.specs.Balance.{share, SolvesStep}
+use Rattle.model_types.specs.{cell_count, times, is_constant, start_head, constant_head}
+use Rattle.cell_balance.specs.{ExactCell, cell_at, share, SolvesStep}
 use Rattle.flow_equations.specs.ExactStep.{exact_step}
 
 -- a vector X over d, as fractions

@@ -1,13 +1,11 @@
 -- What vertical conductances owe to the manual (TM 6-A16, chapter 5, LPF, and chapter 2, layers and confining beds).
 use Rattle.std.specs.Prelude.{◌≡◌, ℕ, ◌+◌, ◌<◌, ◌⊎◌, true, false}
-use Rattle.decimal_input.specs.Decimals.{number, size}
-use Rattle.decimal_input.specs.Ratios.{Ratio, plus, times, over, Same}
+use Rattle.decimal_input.specs.{number, size, Ratio, over}
+use Rattle.decimal_input.specs.Ratios.{plus, times, Same}
 use Rattle.decimal_input.specs.Fractions.{AtMost}
 use Rattle.model_types.specs.declared.model.FlowModel.{FlowModel}
-use Rattle.model_types.specs.Faces.{layer_size}
-use Rattle.model_types.specs.Layers.{gap, area, thickness, bed_thickness, top_at, bottom_at, lowest, hk_at, vka_at, vkcb_at, is_ratio, vertical_conductivity}
-use Rattle.model_types.specs.Grids.{IsPositive}
-use Rattle.model_types.specs.Conductances.{two, vertical_conductance}
+use Rattle.model_types.specs.{layer_size, gap, area, thickness, bed_thickness, top_at, bottom_at, lowest, hk_at, vka_at, vkcb_at, is_ratio}
+use Rattle.model_types.specs.{vertical_conductivity, IsPositive, two, vertical_conductance}
 
 -- the distance between the centres of a cell and of the cell below it: half of each thickness, and the thickness of the bed between them
 abbrev pub distance : FlowModel → ℕ → ℕ → Ratio

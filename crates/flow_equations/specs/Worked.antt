@@ -8,9 +8,7 @@ use Rattle.model_types.specs.declared.model.FlowModel.{FlowModel}
 use Rattle.model_types.specs.declared.period.Period.{Period}
 use Rattle.model_types.specs.declared.entry.Entry.{Entry}
 use Rattle.model_types.specs.declared.entry.Entry.TheVariants.{Well}
-use Rattle.model_types.specs.Layers.{no_number}
-use Rattle.model_types.specs.Times.{no_stresses}
-use Rattle.model_types.specs.Valid.{IsModel}
+use Rattle.model_types.specs.{no_number, no_stresses, IsModel}
 use Rattle.flow_equations.specs.Histories.{Solves}
 
 -- a whole number, and its negative, in canonical form: digits without a trailing zero

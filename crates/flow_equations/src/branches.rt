@@ -1,9 +1,8 @@
 // Conductances by the textbook.
 ghost use Rattle.std.specs.Prelude.{ℕ};
 ghost use Rattle.model_types.specs.declared.model.FlowModel.{FlowModel};
-ghost use Rattle.flow_equations.specs.BranchLaws.{IsSameFromBothEnds, MeetsDarcy, MeetsDarcyAlongColumns, HasUnitBranches, IsHarmonic};
-ghost use Rattle.flow_equations.specs.SignLaws.{FlowsChangeSign};
-ghost use Rattle.flow_equations.specs.VerticalLaws.{MeetsDarcyDownwards, HasVerticalConductivity, LayersFillTheSpace};
+ghost use Rattle.flow_equations.specs.{IsSameFromBothEnds, MeetsDarcy, MeetsDarcyAlongColumns, HasUnitBranches, IsHarmonic, FlowsChangeSign};
+ghost use Rattle.flow_equations.specs.{MeetsDarcyDownwards, HasVerticalConductivity, LayersFillTheSpace};
 
 /// A branch is the same from both ends.
 #[tactic(auto, using(crate::proofs::Darcy::from_both_ends))]

@@ -1,5 +1,5 @@
 // The exact equations of a step.
-ghost use Rattle.flow_equations.specs.ReceiverLaws.{HasAnEquationEach, LinksAreMutual};
+ghost use Rattle.flow_equations.specs.{HasAnEquationEach, LinksAreMutual};
 
 /// The exact step has one equation for each variable cell of the period, by ascending cell number.
 #[tactic(auto, using(crate::proofs::Links::ids_are))]

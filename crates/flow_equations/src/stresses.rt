@@ -1,9 +1,8 @@
 // Recharge, evapotranspiration and given heads by the manual.
 ghost use Rattle.std.specs.Prelude.{ℕ, ℤ, List};
-ghost use Rattle.decimal_input.specs.Fractions.{Fraction};
+ghost use Rattle.decimal_input.specs.{Fraction};
 ghost use Rattle.model_types.specs.declared.model.FlowModel.{FlowModel};
-ghost use Rattle.flow_equations.specs.ReceiverLaws.{ChoosesOneCell, ReceivesRecharge, TakesEvapotranspiration};
-ghost use Rattle.flow_equations.specs.GivenHeadLaws.{HasGivenHeads};
+ghost use Rattle.flow_equations.specs.{ChoosesOneCell, ReceivesRecharge, TakesEvapotranspiration, HasGivenHeads};
 
 /// An option of RCH or EVT chooses at most one cell of a column of layers.
 #[tactic(auto, using(crate::proofs::ChosenCells::chooses_one))]

@@ -1,5 +1,5 @@
 // Time steps and storage by the manual.
-ghost use Rattle.flow_equations.specs.TimeLaws.{StepsAreTheManuals, StoresByTheOption, StoresOverTheStep};
+ghost use Rattle.flow_equations.specs.{StepsAreTheManuals, StoresByTheOption, StoresOverTheStep};
 
 /// Steps grow by TSMULT from the manual's first one, are equal where it is 1, and sum to the period.
 pub fn steps_of_a_period()

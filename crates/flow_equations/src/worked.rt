@@ -1,5 +1,5 @@
 // Models that are solved by hand.
-ghost use Rattle.flow_equations.specs.Worked.{ThreeCells, IdleWells, OneCell, TwoCells};
+ghost use Rattle.flow_equations.specs.{ThreeCells, IdleWells, OneCell, TwoCells};
 
 /// Three cells in a row: heads of 10, 15 and 20.
 #[tactic(auto, using(crate::proofs::Validity::three_valid, crate::proofs::Solved::three_solved))]

@@ -1,6 +1,6 @@
 // The guess of both sides, in two threads.
 ghost use Rattle.std.specs.Prelude.{IfOk};
-ghost use Rattle.cell_relax.specs.Sides.{AreWords};
+ghost use Rattle.cell_relax.specs.{AreWords};
 
 use crate::guess::{Guess, guess_of};
 use crate::half::{HalfGuess, Start, VISITS_OF_NEWTON, half_guess};

@@ -1,6 +1,6 @@
 // The guess of both sides.
 ghost use Rattle.std.specs.Prelude.{IfOk};
-ghost use Rattle.cell_relax.specs.Sides.{AreWords};
+ghost use Rattle.cell_relax.specs.{AreWords};
 
 use crate::half::{HalfGuess, Start, half_guess};
 use crate::links::Links;

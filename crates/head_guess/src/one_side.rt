@@ -1,7 +1,6 @@
 // One side of a problem.
 ghost use Rattle.std.specs.Prelude.{◌≡◌, ◌<◌, All, length, take};
-ghost use Rattle.step_problem.specs.Entries.{entries_at};
-ghost use Rattle.step_problem.specs.Conditions.{IsHead};
+ghost use Rattle.step_problem.specs.{entries_at, IsHead};
 
 use crate::branch::{Known, constant_inflow, known_head};
 use crate::links::{Links, Row};

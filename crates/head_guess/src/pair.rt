@@ -1,6 +1,6 @@
 // Pairs of heads that may be certificates of a problem: the balanced heads of each side, moved outwards by the room at each cell.
 ghost use Rattle.std.specs.Prelude.{IfOk};
-ghost use Rattle.cell_relax.specs.Sides.{AreWords};
+ghost use Rattle.cell_relax.specs.{AreWords};
 
 use crate::guess::bounds_of;
 use crate::linear::Linear;

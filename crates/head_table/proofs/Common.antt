@@ -10,18 +10,17 @@ pub use native.Mathlib.Decide.{ℕ_discrete}
 pub use Rattle.atomic_table.proofs.Lists.{at_set, at_snoc, set_again, set_else}
 pub use Rattle.atomic_table.specs.Table.{Allows, Final, Joins, Me, Seen, Splits, State, keeps, opening, step, stepped}
 pub use Rattle.cell_relax.proofs.Sides.{each_side, is_side, tighter_first, tighter_head, tighter_is_one, tighter_second}
-pub use Rattle.cell_relax.specs.Sides.{AreNoLooser, IsAsTight, IsRelaxedOn, head_of, heads_on, other, tighter_of}
-pub use Rattle.head_table.specs.Rule.{IsKnown, IsNoTighterThanSettled, IsSound, IsTableKept, SeesHead, claim_play, exchange_play, head_of_word, join_views}
-pub use Rattle.head_table.specs.Rule.{load_play, spent_view, starting, tighter_word, tightest, word_of, words_on}
-pub use Rattle.head_table.specs.Seats.{IsSeatOf, SameOn, SameOnBut, barrier_of, seen_of, seen_on}
+pub use Rattle.cell_relax.specs.{AreNoLooser, IsAsTight, IsRelaxedOn, head_of, heads_on, other, tighter_of}
+pub use Rattle.head_table.specs.{IsKnown, IsNoTighterThanSettled, IsSeatOf, IsSound, IsTableKept, SameOn, SameOnBut, SeesHead, barrier_of, claim_play}
+pub use Rattle.head_table.specs.{exchange_play, head_of_word, join_views, load_play, seen_of, seen_on, spent_view, starting, tighter_word, tightest, word_of}
+pub use Rattle.head_table.specs.{words_on}
 pub use Rattle.head_table.specs.declared.known.Known.{Known}
 pub use Rattle.relax_core.proofs.Keeping.{other_seen, seen_else, seen_here, seen_length, way_on}
-pub use Rattle.relax_core.specs.Kept.{OnTheWay, WereSeen, edge_on}
+pub use Rattle.relax_core.specs.{OnTheWay, WereSeen, edge_on, with_head}
 pub use Rattle.step_problem.proofs.Sides.{relaxed_head, same_on_the_way}
 pub use Rattle.step_problem.proofs.SidesTurns.{same_seen, seen_itself, sees, still_seen, tighter, turn_keeps}
-pub use Rattle.step_problem.specs.Conditions.{IsHead, IsProblem}
+pub use Rattle.step_problem.specs.{AreOnTheWay, Edges, IsExchange, IsHead, IsProblem, head_at, lower_at, no_bound, upper_at}
 pub use Rattle.step_problem.specs.Entries.{Entries}
-pub use Rattle.step_problem.specs.Heads.{AreOnTheWay, Edges, head_at, lower_at, no_bound, upper_at}
 pub use Rattle.step_problem.specs.declared.heads.Bound.{Bound}
 pub use Rattle.step_problem.specs.declared.heads.Side.{Side}
 pub use Rattle.step_problem.specs.declared.heads.Side.TheVariants.{High, Low}

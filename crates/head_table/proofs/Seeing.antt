@@ -4,11 +4,9 @@ use Rattle.head_table.proofs.Common.{◌≡◌, ℕ, ◌≢◌, List, get_or, se
 use Rattle.head_table.proofs.Common.{Entries, Edges, Known, IsKnown, IsTableKept, ◌<◌, length, refl, arith, none, step, Allows, Side, IsHead, IsProblem, sees}
 use Rattle.head_table.proofs.Common.{IsAsTight, other, heads_on, is_side, each_side, head_of_word, word_of, words_on, edge_on, WereSeen, IsNoTighterThanSettled}
 use Rattle.head_table.proofs.Common.{SeesHead, load_play, ℤ, length-set, turn_keeps, tighter, still_seen, IsRelaxedOn, tighter_word, OnTheWay, exchange_play}
-use Rattle.head_table.proofs.Common.{dite, ℕ_discrete, IsSound, seen_length, seen_here, seen_else, other_seen}
-use Rattle.relax_core.specs.Core.{with_head}
+use Rattle.head_table.proofs.Common.{dite, ℕ_discrete, IsSound, seen_length, seen_here, seen_else, other_seen, with_head, IsExchange}
 use lib.Seq.{set-get_or}
 use Rattle.head_table.proofs.WordReads.{one_cell, word_within, word_here, word_else, other_words, tighter_old, tighter_new, tighter_one}
-use Rattle.step_problem.specs.Sides.{IsExchange}
 
 abbrev pub KnownMe : Type 0
 KnownMe = Me (Unit {0}) Known

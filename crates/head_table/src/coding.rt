@@ -1,7 +1,7 @@
 // Heads as words.
 ghost use Rattle.std.specs.Prelude.{◌≡◌, ◌≤◌};
-ghost use Rattle.step_problem.specs.Conditions.{IsHead};
-ghost use Rattle.head_table.specs.Rule.{head_of_word};
+ghost use Rattle.step_problem.specs.{IsHead};
+ghost use Rattle.head_table.specs.{head_of_word};
 
 use step_problem::problem::HEAD_LIMIT;
 

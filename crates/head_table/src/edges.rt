@@ -1,7 +1,7 @@
 // The words with which settling begins.
 ghost use Rattle.std.specs.Prelude.{◌<◌, IfOk};
-ghost use Rattle.step_problem.specs.Heads.{AreOnTheWay, IsBarrier};
-ghost use Rattle.relax_core.specs.Kept.{AreEdges};
+ghost use Rattle.step_problem.specs.{AreOnTheWay, IsBarrier};
+ghost use Rattle.relax_core.specs.{AreEdges};
 
 use std::alloc::{AllocError, Global};
 use step_problem::{Barrier, Bound, Problem};

@@ -1,12 +1,10 @@
 // Making a table from words, and getting them back.
 ghost use Rattle.std.specs.Prelude.{◌≡◌, ℕ, ◌+◌, ◌*◌, ◌<◌, ◌≤◌, length, IfOk, vec_len};
 ghost use Rattle.std.specs.Mem.Slots.{slots_items, slots_len, IsFull};
-ghost use Rattle.step_problem.specs.Conditions.{IsHead};
+ghost use Rattle.step_problem.specs.{IsHead, AreOnTheWay};
 ghost use Rattle.step_problem.specs.declared.heads.Side.{Side};
-ghost use Rattle.step_problem.specs.Heads.{AreOnTheWay};
-ghost use Rattle.cell_relax.specs.Sides.{AreNoLooser, heads_on};
-ghost use Rattle.head_table.specs.Rule.{words_on};
-ghost use Rattle.head_table.specs.Seats.{IsSeatOf, barrier_of, seen_of};
+ghost use Rattle.cell_relax.specs.{AreNoLooser, heads_on};
+ghost use Rattle.head_table.specs.{words_on, IsSeatOf, barrier_of, seen_of};
 
 use crate::coding::{head_from_word, word_of_head};
 use crate::known::Facts;

@@ -1,9 +1,9 @@
 // Single exchanges of words: each is one atomic step.
 ghost use Rattle.std.specs.Prelude.{◌≡◌, ◌<◌, length, ◌≤ℤ◌};
 ghost use Rattle.std.specs.Int.{int_max, int_min};
-ghost use Rattle.step_problem.specs.Heads.{IsRaise, IsSink};
+ghost use Rattle.step_problem.specs.{IsRaise, IsSink};
 ghost use Rattle.step_problem.specs.declared.heads.Side.TheVariants.{Low, High};
-ghost use Rattle.head_table.specs.Seats.{IsSeatOf, SameOn, SameOnBut, seen_of, seen_on};
+ghost use Rattle.head_table.specs.{IsSeatOf, SameOn, SameOnBut, seen_of, seen_on};
 
 use crate::coding::{head_from_word, word_of_head};
 use crate::known::{Claim, Raise, Sink};

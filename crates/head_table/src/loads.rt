@@ -1,10 +1,9 @@
 // Loads of single words. Each is one atomic load.
 ghost use Rattle.std.specs.Prelude.{◌≡◌, ◌<◌, length, ◌≤ℤ◌};
 ghost use Rattle.step_problem.specs.declared.heads.Side.TheVariants.{Low, High};
-ghost use Rattle.cell_relax.specs.Sides.{AreNoLooser};
-ghost use Rattle.relax_core.specs.Kept.{edge_on};
-ghost use Rattle.head_table.specs.Rule.{AreHeld, IsNoTighterThanSettled};
-ghost use Rattle.head_table.specs.Seats.{IsSeatOf, SameOn, SameOnBut, ShowsSeen, barrier_of, seen_of, seen_on};
+ghost use Rattle.cell_relax.specs.{AreNoLooser};
+ghost use Rattle.relax_core.specs.{edge_on};
+ghost use Rattle.head_table.specs.{AreHeld, IsNoTighterThanSettled, IsSeatOf, SameOn, SameOnBut, ShowsSeen, barrier_of, seen_of, seen_on};
 
 use crate::coding::head_from_word;
 use crate::known::{LookHigh, LookLow};

@@ -1,6 +1,6 @@
 // Splitting and joining seats.
 ghost use Rattle.std.specs.Prelude.{◌≡◌};
-ghost use Rattle.head_table.specs.Seats.{HasTighter, IsSeatOf, seen_of};
+ghost use Rattle.head_table.specs.{HasTighter, IsSeatOf, seen_of};
 
 use crate::known::{Both, Same};
 use crate::table::{HeadSeat, HeadTable};

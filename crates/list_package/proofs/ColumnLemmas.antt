@@ -1,11 +1,11 @@
 -- Numbers that passed the tests of their columns.
 use Rattle.list_package.proofs.Common.{◌≡◌, ℕ, zero, suc, ◌≤◌, Bool, true, false, List, [], ◌∷◌, length, drop, All, Option, Some, None, refl, arith}
 use Rattle.list_package.proofs.Common.{if◌then◌else◌, All-head, All-tail, IsDec, HeadTooLarge, BadProperty, IsColumn, column_fault, first_fault, or_later}
+use Rattle.list_package.proofs.Common.{IsHeadNumber, IsNotNegative}
 use Rattle.std.specs.List.{AllZip}
 use Rattle.decimal_input.specs.declared.dec.Dec.{Dec}
 use Rattle.outside.specs.declared.codes.Code.{Code}
-use Rattle.model_types.specs.Grids.{IsHeadNumber, IsNotNegative}
-use Rattle.number_limits.specs.Magnitudes.{is_head}
+use Rattle.number_limits.specs.{is_head}
 use Rattle.number_limits.proofs.HeadLemmas.{head_of}
 use Rattle.list_package.specs.declared.columns.Column.{Column}
 use Rattle.list_package.specs.declared.columns.Column.TheVariants.{Rate, Head, Conductance}

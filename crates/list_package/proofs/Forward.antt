@@ -1,11 +1,7 @@
 -- The first line of items leaves lines that it was given.
-use Rattle.list_package.proofs.Common.{ℕ, List, Ok, Err, All, IfOk, codes, OutOfProfile}
-use Rattle.outside.specs.Names.{words}
-use Rattle.outside.specs.Codes.{refusal}
-use Rattle.record_lines.specs.Items.{begins_with, line_at}
-use Rattle.record_lines.specs.Layout.{Left, Numbered}
+use Rattle.list_package.proofs.Common.{ℕ, List, Ok, Err, All, IfOk, codes, OutOfProfile, begins_with, line_at, Left, Numbered, item_line}
+use Rattle.outside.specs.{words, refusal}
 use Rattle.record_lines.proofs.Forward.{chain, either, line_held}
-use Rattle.list_package.specs.Headers.{item_line}
 
 pub item_held : (P : Numbered → Type 0) (file : List ℕ) (left : Left) → All P left.lines → IfOk (item_line file left) (λ x. All P x.1.lines)
 unfolding item_line

@@ -2,14 +2,11 @@
 use Rattle.list_package.proofs.Common.{◌≡◌, ◌⊎◌, inl, inr, ℕ, zero, suc, ◌-◌, ◌<◌, ◌≤◌, ℤ, pos, ◌≤ℤ◌, Bool, true, not, cond, ◌&&◌, ◌==◌, List, [], ◌∷◌, map}
 use Rattle.list_package.proofs.Common.{All, Some, None, length, get_or, sum, sum_by, refl, sym, ap, ◌∙◌, subst, All-weaker, Period, Stresses, cell_count}
 use Rattle.list_package.proofs.Common.{place_in_layer, AreStresses, IsModel, IsPeriod, IsTimed, IsGrowing, IsBedChecked, IsEvapValid, number_one, EvapArrays}
-use Rattle.list_package.proofs.Common.{evap_arrays, IsList, KeepsLimits, SameBut, Kind, with_list, without, length-map}
-use Rattle.model_types.specs.Layers.{dec_at, is_active}
+use Rattle.list_package.proofs.Common.{evap_arrays, IsList, KeepsLimits, SameBut, Kind, with_list, without, length-map, dec_at, is_active, EvapSource}
+use Rattle.list_package.proofs.Common.{is_chosen, evap_sources, no_period}
 use Rattle.std.specs.Option.{option_to_list}
 use Rattle.std.proofs.lemmas.List.Sums.{sum-map}
 use Rattle.model_types.specs.declared.model.FlowModel.{FlowModel}
-use Rattle.model_types.specs.Receivers.{EvapSource, is_chosen}
-use Rattle.model_types.specs.Sources.{evap_sources}
-use Rattle.model_types.specs.Times.{no_period}
 
 pub same_count : {A : Type 0} (f : Period → A) (ps qs : List Period) → map f ps ≡ map f qs → length ps ≡ length qs
 same_count f ps qs e = sym (length-map ps f) ∙ ap length e ∙ length-map qs f

@@ -1,25 +1,20 @@
 -- An entry of a list: Layer Row Column, and the numbers of its package (TM 6-A16, WEL, RIV, DRN, GHB, CHD).
 use Rattle.std.specs.Prelude.{ℕ, ◌-◌, ℤ, Bool, true, false, ◌||◌, List, length, Option, Some, None, Result, Ok, Err, if◌then◌else◌, cond, codes, replicate}
 use Rattle.std.specs.Prelude.{slice_index_or, slice_set, not, ◌&&◌, nat_lt, [], ◌∷◌}
-use Rattle.outside.specs.Codes.{refusal}
+use Rattle.outside.specs.{refusal, words}
 use Rattle.outside.specs.declared.codes.Code.{Code}
 use Rattle.outside.specs.declared.codes.Code.TheVariants.{OutOfProfile, CellOutside, BadProperty}
 use Rattle.outside.specs.declared.inputs.Refusal.{Refusal}
-use Rattle.record_lines.specs.Items.{begins_with, line_at}
-use Rattle.outside.specs.Names.{words}
-use Rattle.record_lines.specs.Layout.{Left}
-use Rattle.record_lines.specs.Reading.{◌>>=◌, repeated}
-use Rattle.array_reader.specs.Control.{number_at}
-use Rattle.array_reader.specs.Numbers.{integer, number}
+use Rattle.record_lines.specs.{begins_with, line_at, Left, ◌>>=◌, repeated}
+use Rattle.array_reader.specs.{number_at, integer, number}
 use Rattle.model_types.specs.declared.grid.Grid.{Grid}
 use Rattle.model_types.specs.declared.grid.CellId.{CellId}
-use Rattle.model_types.specs.Faces.{cell_count, cell_number}
-use Rattle.number_limits.specs.Magnitudes.{within, is_one, is_same_number}
+use Rattle.model_types.specs.{cell_count, cell_number, dec_at}
+use Rattle.number_limits.specs.{within, is_one, is_same_number}
 use Rattle.list_package.specs.Kinds.{Kind, first_fault}
 use Rattle.std.specs.List.{list_all}
 use Rattle.model_types.specs.declared.entry.Given.{Given}
 use Rattle.model_types.specs.declared.period.Period.{Period}
-use Rattle.model_types.specs.Layers.{dec_at}
 use Rattle.list_package.specs.declared.columns.Column.TheVariants.{Head}
 
 abbrev pub inside : Option ℕ → Refusal → Result ℕ Refusal

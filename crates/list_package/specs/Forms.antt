@@ -2,13 +2,11 @@
 use Rattle.std.specs.Prelude.{◌≡◌, ℕ, ℤ, ◌<◌, ◌≤◌, Bool, true, false, List, map, All, length, slice_index_or, slice_set}
 use Rattle.std.specs.List.{AllPairs}
 use Rattle.decimal_input.specs.declared.dec.Dec.{Dec}
-use Rattle.decimal_input.specs.Decimals.{IsDec}
+use Rattle.decimal_input.specs.{IsDec}
 use Rattle.model_types.specs.declared.grid.Grid.{Grid}
 use Rattle.model_types.specs.declared.model.FlowModel.{FlowModel}
 use Rattle.model_types.specs.declared.period.Stresses.{Stresses}
-use Rattle.model_types.specs.Faces.{cell_count}
-use Rattle.model_types.specs.Grids.{IsHeadNumber, IsNotNegative}
-use Rattle.model_types.specs.Valid.{AreStresses}
+use Rattle.model_types.specs.{cell_count, IsHeadNumber, IsNotNegative, AreStresses}
 use Rattle.list_package.specs.declared.columns.Column.{Column}
 use Rattle.list_package.specs.declared.columns.Column.TheVariants.{Rate, Head, Conductance}
 use Rattle.list_package.specs.Kinds.{Kind, without}

@@ -1,18 +1,14 @@
 -- The lines before entries: the first line of a file, and ITMP and NP of a stress period (TM 6-A16, WEL, RIV, DRN, GHB, CHD).
-use Rattle.std.specs.Prelude.{ℕ, ℤ, pos, negsuc, Bool, true, false, not, ◌&&◌, List, [], ◌∷◌, nat_le, nat_lt, Option}
-use Rattle.std.specs.Prelude.{Some, None, Result, Ok, Err, if◌then◌else◌, codes}
-use Rattle.decimal_input.specs.Grammar.{integer_of}
-use Rattle.outside.specs.Codes.{refusal}
+use Rattle.std.specs.Prelude.{ℕ, ℤ, pos, negsuc, Bool, true, false, not, ◌&&◌, List, [], ◌∷◌, nat_le, nat_lt, Option, Some, None, Result, Ok, Err}
+use Rattle.std.specs.Prelude.{if◌then◌else◌, codes}
+use Rattle.decimal_input.specs.{integer_of}
+use Rattle.outside.specs.{refusal, words}
 use Rattle.outside.specs.declared.codes.Code.TheVariants.{OutOfProfile, TooManyEntries, NothingToReuse}
 use Rattle.outside.specs.declared.inputs.Refusal.{Refusal}
-use Rattle.record_lines.specs.Items.{begins_with, line_at}
-use Rattle.outside.specs.Names.{words}
-use Rattle.record_lines.specs.Layout.{Numbered, Left}
-use Rattle.record_lines.specs.Reading.{◌>>=◌}
-use Rattle.array_reader.specs.Control.{number_at}
-use Rattle.array_reader.specs.Numbers.{integer}
+use Rattle.record_lines.specs.{begins_with, line_at, Numbered, Left, ◌>>=◌}
+use Rattle.array_reader.specs.{number_at, integer}
 use Rattle.model_types.specs.declared.limits.Limits.{Limits}
-use Rattle.model_types.specs.Limits.{most_entries}
+use Rattle.model_types.specs.{most_entries}
 
 -- the first line of a file of stresses after its comments, which must not define parameters
 unfoldable pub item_line : List ℕ → Left → Result (Numbered × Left) Refusal

@@ -6,13 +6,12 @@ use Rattle.outside.specs.declared.codes.Code.TheVariants.{HeadTooLarge, BadPrope
 use Rattle.model_types.specs.declared.grid.CellId.{CellId}
 use Rattle.model_types.specs.declared.period.Period.{Period}
 use Rattle.model_types.specs.declared.period.Stresses.{Stresses}
-use Rattle.number_limits.specs.Magnitudes.{is_head}
+use Rattle.number_limits.specs.{is_head}
 use Rattle.list_package.specs.declared.columns.Column.{Column}
 use Rattle.list_package.specs.declared.columns.Column.TheVariants.{Rate, Head, Conductance}
 use Rattle.model_types.specs.declared.entry.Entry.{Entry}
 use Rattle.model_types.specs.declared.entry.Entry.TheVariants.{Well, River, Drain, General}
-use Rattle.model_types.specs.Layers.{dec_at}
-use Rattle.model_types.specs.Sources.{cell_of}
+use Rattle.model_types.specs.{dec_at, cell_of}
 use Rattle.list_package.specs.declared.entries.ListKind.{ListKind}
 use Rattle.list_package.specs.declared.entries.ListKind.TheVariants.{Wells, Rivers, Drains, Generals}
 

@@ -1,14 +1,10 @@
 -- A file of a list package (TM 6-A16, WEL, RIV, DRN, GHB, CHD).
 use Rattle.std.specs.Prelude.{ℕ, List, [], Option, Some, None, is_some, Result, Ok, Err, if◌then◌else◌}
-use Rattle.outside.specs.Codes.{refusal}
+use Rattle.outside.specs.{refusal, words}
 use Rattle.outside.specs.declared.codes.Code.TheVariants.{OutOfProfile}
 use Rattle.outside.specs.declared.inputs.Refusal.{Refusal}
-use Rattle.record_lines.specs.Items.{line_at}
-use Rattle.outside.specs.Names.{words}
-use Rattle.record_lines.specs.Layout.{Left, left_from, without_comments}
-use Rattle.record_lines.specs.Reading.{◌>>=◌, for_each}
-use Rattle.array_reader.specs.Control.{number_at}
-use Rattle.array_reader.specs.Numbers.{integer}
+use Rattle.record_lines.specs.{line_at, Left, left_from, without_comments, ◌>>=◌, for_each}
+use Rattle.array_reader.specs.{number_at, integer}
 use Rattle.model_types.specs.declared.grid.Grid.{Grid}
 use Rattle.model_types.specs.declared.limits.Limits.{Limits}
 use Rattle.model_types.specs.declared.model.FlowModel.{FlowModel}

@@ -1,12 +1,11 @@
 // The numbers of an entry after Layer Row Column.
 ghost use Rattle.std.specs.Prelude.{◌≡◌, IfOk, IfNone, All, length};
 ghost use Rattle.std.specs.List.{AllZip};
-ghost use Rattle.decimal_input.specs.Decimals.{IsDec};
-ghost use Rattle.record_lines.specs.Reading.{GivesText, repeated};
-ghost use Rattle.array_reader.specs.Control.{number_at};
+ghost use Rattle.decimal_input.specs.{IsDec};
+ghost use Rattle.record_lines.specs.{GivesText, repeated};
+ghost use Rattle.array_reader.specs.{number_at};
 ghost use Rattle.array_reader.specs.Numbers as spec;
-ghost use Rattle.list_package.specs.Forms.{IsColumn};
-ghost use Rattle.list_package.specs.Kinds.{column_fault, first_fault};
+ghost use Rattle.list_package.specs.{IsColumn, column_fault, first_fault};
 
 use array_reader::number;
 use decimal_input::dec::Dec;

@@ -1,6 +1,6 @@
 // The lists of wells, rivers, drains and general heads.
 ghost use Rattle.std.specs.Prelude.{◌≡◌, []};
-ghost use Rattle.model_types.specs.Valid.{IsEntryValid};
+ghost use Rattle.model_types.specs.{IsEntryValid};
 ghost use Rattle.list_package.specs.Kinds.{kind_of};
 
 use crate::columns::Column;

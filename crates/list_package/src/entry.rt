@@ -1,12 +1,10 @@
 // The entries of a list.
 ghost use Rattle.std.specs.Prelude.{◌≡◌, ◌≤◌, ◌<◌, Ok, IfOk, true, false, All, length, slice_index_or};
 ghost use Rattle.std.specs.List.{AllPairs};
-ghost use Rattle.outside.specs.Names.{words};
-ghost use Rattle.record_lines.specs.Reading.{GivesText, HasText, repeated};
-ghost use Rattle.model_types.specs.Faces.{cell_count};
-ghost use Rattle.model_types.specs.Grids.{HasSize};
-ghost use Rattle.list_package.specs.Entries.{cell_at, entry_of, entry_at, is_left_out, no_marks, new_list};
-ghost use Rattle.list_package.specs.Forms.{Differ, IsList, IsNewlyMarked};
+ghost use Rattle.outside.specs.{words};
+ghost use Rattle.record_lines.specs.{GivesText, HasText, repeated};
+ghost use Rattle.model_types.specs.{cell_count, HasSize};
+ghost use Rattle.list_package.specs.{cell_at, entry_of, entry_at, is_left_out, no_marks, new_list, Differ, IsList, IsNewlyMarked};
 
 use crate::columns::{first_fault, read_numbers};
 use crate::kind::ListEntry;

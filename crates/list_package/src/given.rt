@@ -1,7 +1,7 @@
 // The lists of given heads.
 ghost use Rattle.std.specs.Prelude.{◌≡◌, ◌↔◌, IsTrue, All, []};
 ghost use Rattle.std.specs.List.{list_all};
-ghost use Rattle.model_types.specs.Valid.{IsGivenValid};
+ghost use Rattle.model_types.specs.{IsGivenValid};
 ghost use Rattle.list_package.specs.Entries.{given_heads, is_level, is_growing, suits_heads};
 
 use crate::columns::Column;

@@ -1,11 +1,9 @@
 // The lines before entries.
 ghost use Rattle.std.specs.Prelude.{◌≡◌, IfOk};
 ghost use Rattle.outside.specs.declared.codes.Code.TheVariants.{TooManyEntries};
-ghost use Rattle.outside.specs.Codes.{refusal};
-ghost use Rattle.record_lines.specs.Reading.{GivesText, HasText};
-ghost use Rattle.record_lines.specs.Layout.{numbered_of};
-ghost use Rattle.list_package.specs.Headers.{item_line, count_of, has_parameters, header_of};
-ghost use Rattle.list_package.specs.Seen.{count_seen, IsFew};
+ghost use Rattle.outside.specs.{refusal};
+ghost use Rattle.record_lines.specs.{GivesText, HasText, numbered_of};
+ghost use Rattle.list_package.specs.{item_line, count_of, has_parameters, header_of, count_seen, IsFew};
 
 use array_reader::{integer, next_line, short_integer};
 use model_types::Limits;

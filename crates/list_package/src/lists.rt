@@ -1,12 +1,8 @@
 // A list for each stress period.
 ghost use Rattle.std.specs.Prelude.{◌≡◌, IfOk, IfSome, All, map};
-ghost use Rattle.record_lines.specs.Reading.{GivesText, HasText, for_each};
-ghost use Rattle.model_types.specs.Faces.{cell_count};
-ghost use Rattle.model_types.specs.Grids.{HasSize};
-ghost use Rattle.list_package.specs.Forms.{IsList};
-ghost use Rattle.list_package.specs.Kinds.{with_list, without};
-ghost use Rattle.list_package.specs.Lists.{list_at, list_of, period_at, periods_of};
-ghost use Rattle.list_package.specs.Seen.{count_seen, IsFew};
+ghost use Rattle.record_lines.specs.{GivesText, HasText, for_each};
+ghost use Rattle.model_types.specs.{cell_count, HasSize};
+ghost use Rattle.list_package.specs.{IsList, with_list, without, list_at, list_of, period_at, periods_of, count_seen, IsFew};
 
 use crate::entry::new_list;
 use crate::header::{Count, header_of};

@@ -1,12 +1,8 @@
 // A model with the lists of a package.
 ghost use Rattle.std.specs.Prelude.{◌≡◌, IfOk, All, map};
-ghost use Rattle.record_lines.specs.Reading.{HasText};
-ghost use Rattle.model_types.specs.Faces.{cell_count};
-ghost use Rattle.model_types.specs.Grids.{HasSize};
-ghost use Rattle.model_types.specs.Valid.{IsModel};
-ghost use Rattle.list_package.specs.Forms.{IsList, SameBut};
-ghost use Rattle.list_package.specs.Kinds.{without};
-ghost use Rattle.list_package.specs.Lists.{lists_of, package_of};
+ghost use Rattle.record_lines.specs.{HasText};
+ghost use Rattle.model_types.specs.{cell_count, HasSize, IsModel};
+ghost use Rattle.list_package.specs.{IsList, SameBut, without, lists_of, package_of};
 
 use crate::header::item_line;
 use crate::kind::ListEntry;

@@ -15,44 +15,36 @@ pub use Rattle.std.specs.Fmt.{signed_decimal}
 pub use Rattle.std.specs.List.{AllByRecursion, AllZip, flat_map, list_all, position_or_len, range_with_len}
 pub use Rattle.std.specs.Str.{bytes_eq}
 pub use Rattle.std.specs.Str.Parse.{AllDigits, digits_value_after}
-pub use Rattle.budget_bounds.specs.Terms.{all_terms, no_pair, place_of}
+pub use Rattle.budget_bounds.specs.{all_terms, no_pair, place_of}
 pub use Rattle.budget_bounds.specs.declared.pair.Budget.{Budget}
 pub use Rattle.budget_bounds.specs.declared.pair.TermPair.{TermPair}
 pub use Rattle.cell_balance.proofs.Zips.{AllZip-length, AllZip-right}
-pub use Rattle.fixed_text.specs.Fixed.{fixed_text, padded, sign}
-pub use Rattle.listing_io.specs.Forms.{Form, IsForm, IsPairLine, LinesReadExactly, behind_word, first_word, is_negative, is_within, pair_line, value_of}
-pub use Rattle.listing_io.specs.Forms.{with_byte}
-unfoldable pub use Rattle.listing_io.specs.Forms.{candidate, digits_behind, pair_in}
-pub use Rattle.listing_io.specs.Laws.{AreFlows, AreFlowsAt, AreListed, AreTerms, AreZonePairs, IsCellBound, IsFlowPair, IsListedStep, IsListing, IsTime}
-pub use Rattle.listing_io.specs.Laws.{IsWritable, ListingsAreApart, ListingsAreReadAgain, ListingsWereWritten}
-pub use Rattle.listing_io.specs.Listing.{Line, dir_front, each_lines, end_line, ended, first_line, flow_form, has_evt, head_form, head_front, head_line}
-pub use Rattle.listing_io.specs.Listing.{head_pair, model_line, numbers_text, printed_terms, step_line, term_form, term_line, text_of, zone_front, zone_line}
-pub use Rattle.listing_io.specs.Listing.{zone_pair}
-unfoldable pub use Rattle.listing_io.specs.Listing.{all_step_lines, head_lines, listing, step_lines, step_text, term_lines, variable_lines}
-pub use Rattle.listing_io.specs.Reading.{Has, Left, Stops, all_lines, bound_of, first_line_before, first_of, flow_of, head_if, is_first, is_printed, line_at}
-pub use Rattle.listing_io.specs.Reading.{none_of, or_refused, over_at, step_at, term_if}
-unfoldable pub use Rattle.listing_io.specs.Reading.{first_at, flow_at, heads_at, listing_at, pair_at, step_with, terms_at, text_at}
+pub use Rattle.fixed_text.specs.{fixed_text, padded, sign}
+pub use Rattle.listing_io.specs.{AreFlows, AreFlowsAt, AreListed, AreTerms, AreZonePairs, Form, Has, IsCellBound, IsFlowPair, IsForm, IsListedStep, IsListing}
+pub use Rattle.listing_io.specs.{IsPairLine, IsTime, IsWritable, Left, Line, LinesReadExactly, ListingsAreApart, ListingsAreReadAgain, ListingsWereWritten}
+pub use Rattle.listing_io.specs.{Stops, all_lines, behind_word, bound_of, dir_front, each_lines, end_line, ended, first_line, first_line_before, first_of}
+pub use Rattle.listing_io.specs.{first_word, flow_form, flow_of, has_evt, head_form, head_front, head_if, head_line, head_pair, is_first, is_negative}
+pub use Rattle.listing_io.specs.{is_printed, is_within, line_at, model_line, none_of, numbers_text, or_refused, over_at, pair_line, printed_terms, step_at}
+pub use Rattle.listing_io.specs.{step_line, term_form, term_if, term_line, text_of, value_of, with_byte, zone_front, zone_line, zone_pair}
+unfoldable pub use Rattle.listing_io.specs.{all_step_lines, candidate, digits_behind, first_at, flow_at, head_lines, heads_at, listing, listing_at, pair_at}
+unfoldable pub use Rattle.listing_io.specs.{pair_in, step_lines, step_text, step_with, term_lines, terms_at, text_at, variable_lines}
 pub use Rattle.listing_io.specs.declared.fault.Fault.{Fault}
 pub use Rattle.listing_io.specs.declared.fault.Fault.TheVariants.{BadLine, Memory}
 pub use Rattle.listing_io.specs.declared.listing.ListedStep.{ListedStep}
-pub use Rattle.model_types.specs.Faces.{cell_count, layer_size, place}
-pub use Rattle.model_types.specs.Layers.{is_active}
-pub use Rattle.model_types.specs.Times.{period_at, steps_of}
-unfoldable pub use Rattle.model_types.specs.Times.{times}
+pub use Rattle.model_types.specs.{cell_count, is_active, layer_size, period_at, place, steps_of}
+unfoldable pub use Rattle.model_types.specs.{times}
 pub use Rattle.model_types.specs.declared.model.FlowModel.{FlowModel}
 pub use Rattle.model_types.specs.declared.time_steps.TimeStep.{TimeStep}
-unfoldable pub use Rattle.outside.specs.Names.{lines}
+unfoldable pub use Rattle.outside.specs.{lines}
 pub use Rattle.record_lines.proofs.Loops.{each_done, each_goes_on, with_front}
-pub use Rattle.record_lines.specs.Layout.{next_number}
-pub use Rattle.record_lines.specs.Reading.{◌>>=◌}
-unfoldable pub use Rattle.record_lines.specs.Reading.{for_each}
-pub use Rattle.step_problem.specs.Heads.{no_bound}
-pub use Rattle.step_problem.specs.StepRefusals.{term_name}
+pub use Rattle.record_lines.specs.{next_number, ◌>>=◌}
+unfoldable pub use Rattle.record_lines.specs.{for_each}
+pub use Rattle.step_problem.specs.{IsHead, entries_at, head_limit, no_bound, no_entries, term_name}
 pub use Rattle.step_problem.specs.declared.heads.Bound.{Bound}
 pub use Rattle.step_problem.specs.declared.place.Dir.{Dir}
 pub use Rattle.step_problem.specs.declared.place.Dir.TheVariants.{In, Out}
 pub use Rattle.step_problem.specs.declared.place.Term.{Term}
 pub use Rattle.step_problem.specs.declared.place.Term.TheVariants.{ConstantHead, Drains, Et, HeadDepBounds, Recharge, RiverLeakage, Storage, Wells}
 pub use Rattle.step_problem.specs.declared.place.ZoneFlow.{ZoneFlow}
-pub use Rattle.zone_pairs.specs.Pairs.{ArePairs, pairs_in, zones_of, zones_of_flow}
+pub use Rattle.zone_pairs.specs.{ArePairs, pairs_in, zones_of, zones_of_flow}
 pub use Rattle.zone_pairs.specs.declared.pair.ZonePair.{ZonePair}

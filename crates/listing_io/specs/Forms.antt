@@ -3,7 +3,7 @@ use Rattle.std.specs.Prelude.{◌≡◌, ℕ, ◌<◌, ◌≤◌, ◌^◌, ◌==
 use Rattle.std.specs.Prelude.{◌-◌, ◌*◌, cond, [], ◌∷◌, ℤ, pos, neg_ℤ, slice_index}
 use Rattle.std.specs.List.{before_first, after_first}
 use Rattle.std.specs.Str.{bytes_eq}
-use Rattle.fixed_text.specs.Fixed.{fixed_text}
+use Rattle.fixed_text.specs.{fixed_text}
 use Rattle.budget_bounds.specs.declared.pair.TermPair.{TermPair}
 
 -- The number in a word's digits, whatever is between them. A line is first read by its digits, and then compared with

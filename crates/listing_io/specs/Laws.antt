@@ -1,10 +1,9 @@
 -- Laws of the listing's text: the text written for a model's steps is read as these steps, and a text that is read is the one written for them.
 use Rattle.std.specs.Prelude.{◌≡◌, ◌⊎◌, ◌<◌, ◌≤◌, ◌^◌, ℕ, Bool, true, false, List, [], ◌∷◌, ◌++◌, All, nat_abs, Ok, ◌+◌, length, map, slice_index_or}
-use Rattle.outside.specs.Names.{lines}
+use Rattle.outside.specs.{lines}
 use Rattle.model_types.specs.declared.model.FlowModel.{FlowModel}
 use Rattle.model_types.specs.declared.time_steps.TimeStep.{TimeStep}
-use Rattle.model_types.specs.Grids.{HasSize}
-use Rattle.model_types.specs.Times.{times}
+use Rattle.model_types.specs.{HasSize, times, cell_count, is_active}
 use Rattle.zone_pairs.specs.declared.pair.ZonePair.{ZonePair}
 use Rattle.listing_io.specs.declared.listing.ListedStep.{ListedStep}
 use Rattle.listing_io.specs.Listing.{Line, all_step_lines, end_line, listing, text_of, has_evt, zone_pair}
@@ -12,14 +11,11 @@ use Rattle.listing_io.specs.Reading.{first_line_before, all_lines, listing_at}
 use Rattle.std.specs.List.{AllZip, range_with_len}
 use Rattle.step_problem.specs.declared.heads.Bound.{Bound}
 use Rattle.step_problem.specs.declared.place.ZoneFlow.{ZoneFlow}
-use Rattle.step_problem.specs.Conditions.{IsHead}
-use Rattle.step_problem.specs.Heads.{no_bound}
+use Rattle.step_problem.specs.{IsHead, no_bound}
 use Rattle.budget_bounds.specs.declared.pair.TermPair.{TermPair}
 use Rattle.budget_bounds.specs.declared.pair.Budget.{Budget}
-use Rattle.budget_bounds.specs.Terms.{no_pair}
-use Rattle.model_types.specs.Faces.{cell_count}
-use Rattle.model_types.specs.Layers.{is_active}
-use Rattle.zone_pairs.specs.Pairs.{zones_of_flow}
+use Rattle.budget_bounds.specs.{no_pair}
+use Rattle.zone_pairs.specs.{zones_of_flow}
 
 -- What holds of the steps that are read from a listing, and of the steps that can be written.
 abbrev pub no_budget : Budget

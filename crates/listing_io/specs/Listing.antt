@@ -10,17 +10,14 @@ use Rattle.step_problem.specs.declared.place.Dir.TheVariants.{In, Out}
 use Rattle.step_problem.specs.declared.place.Term.{Term}
 use Rattle.step_problem.specs.declared.place.Term.TheVariants.{Storage, ConstantHead, Wells, Drains, RiverLeakage, HeadDepBounds, Recharge, Et}
 use Rattle.step_problem.specs.declared.place.ZoneFlow.{ZoneFlow}
-use Rattle.step_problem.specs.Conditions.{head_limit}
-use Rattle.step_problem.specs.StepRefusals.{dir_name, term_name}
+use Rattle.step_problem.specs.{head_limit, dir_name, term_name}
 use Rattle.budget_bounds.specs.declared.pair.TermPair.{TermPair}
 use Rattle.budget_bounds.specs.declared.pair.Budget.{Budget}
-use Rattle.budget_bounds.specs.Terms.{bounds_in}
+use Rattle.budget_bounds.specs.{bounds_in}
 use Rattle.model_types.specs.declared.grid.Grid.{Grid}
 use Rattle.model_types.specs.declared.model.FlowModel.{FlowModel}
 use Rattle.model_types.specs.declared.time_steps.TimeStep.{TimeStep}
-use Rattle.model_types.specs.Faces.{cell_count, place}
-use Rattle.model_types.specs.Layers.{is_active, is_nonzero}
-use Rattle.model_types.specs.Times.{times}
+use Rattle.model_types.specs.{cell_count, place, is_active, is_nonzero, times}
 use Rattle.listing_io.specs.declared.listing.ListedStep.{ListedStep}
 use Rattle.listing_io.specs.Forms.{Form, pair_line}
 use Rattle.step_problem.specs.Entries.{Entries}

@@ -4,24 +4,20 @@ use Rattle.std.specs.List.{range_with_len}
 use Rattle.std.specs.Str.{bytes_eq}
 use Rattle.outside.specs.declared.codes.Code.TheVariants.{BadListing}
 use Rattle.outside.specs.declared.inputs.Refusal.{Refusal}
-use Rattle.outside.specs.Codes.{refusal}
-use Rattle.outside.specs.Names.{lines}
-use Rattle.record_lines.specs.Layout.{next_number}
-use Rattle.record_lines.specs.Reading.{◌>>=◌, for_each}
+use Rattle.outside.specs.{refusal, lines}
+use Rattle.record_lines.specs.{next_number, ◌>>=◌, for_each}
 use Rattle.step_problem.specs.declared.heads.Bound.{Bound}
 use Rattle.step_problem.specs.declared.place.Dir.{Dir}
 use Rattle.step_problem.specs.declared.place.Dir.TheVariants.{In, Out}
 use Rattle.step_problem.specs.declared.place.Term.{Term}
 use Rattle.step_problem.specs.declared.place.ZoneFlow.{ZoneFlow}
 use Rattle.step_problem.specs.declared.place.Term.TheVariants.{Et}
-use Rattle.step_problem.specs.Heads.{no_bound}
+use Rattle.step_problem.specs.{no_bound}
 use Rattle.budget_bounds.specs.declared.pair.TermPair.{TermPair}
-use Rattle.budget_bounds.specs.Terms.{all_terms, no_pair}
+use Rattle.budget_bounds.specs.{all_terms, no_pair}
 use Rattle.model_types.specs.declared.model.FlowModel.{FlowModel}
 use Rattle.model_types.specs.declared.time_steps.TimeStep.{TimeStep}
-use Rattle.model_types.specs.Faces.{cell_count}
-use Rattle.model_types.specs.Layers.{is_active}
-use Rattle.model_types.specs.Times.{times}
+use Rattle.model_types.specs.{cell_count, is_active, times}
 use Rattle.zone_pairs.specs.declared.pair.ZonePair.{ZonePair}
 use Rattle.listing_io.specs.declared.listing.ListedStep.{ListedStep}
 use Rattle.listing_io.specs.declared.fault.Fault.{Fault}

@@ -1,6 +1,6 @@
 // The number in a word's digits.
 ghost use Rattle.std.specs.Prelude.{◌≡◌, ◌≤◌, ◌<◌, ◌^◌, MatchOption, nat_abs};
-ghost use Rattle.listing_io.specs.Forms.{digits_behind, is_negative, value_of, with_byte};
+ghost use Rattle.listing_io.specs.{digits_behind, is_negative, value_of, with_byte};
 
 const LIMIT: u128 = 1 << 126;
 

@@ -1,9 +1,9 @@
 // The last lines of a run that name a refusal, a time step, or a place in it.
 ghost use Rattle.std.specs.Prelude.{◌≡◌, ◌++◌, codes, IfOk};
-ghost use Rattle.model_types.specs.Grids.{HasSize};
-ghost use Rattle.outside.specs.Codes.{code_row};
-ghost use Rattle.listing_io.specs.LastLines.{cell_text, code_text, fault_place, no_bound_line, not_certified_line};
-ghost use Rattle.listing_io.specs.LastLines.{open_place, refused_line, step_word, time_text, unfinished_line};
+ghost use Rattle.model_types.specs.{HasSize};
+ghost use Rattle.outside.specs.{code_row};
+ghost use Rattle.listing_io.specs.{cell_text, code_text, fault_place, no_bound_line, not_certified_line, open_place, refused_line, step_word, time_text};
+ghost use Rattle.listing_io.specs.{unfinished_line};
 
 use crate::places::{dir_word, push_place, push_three, push_two, push_word, side_word, term_word};
 use model_types::{Grid, TimeStep};

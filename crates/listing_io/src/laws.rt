@@ -1,6 +1,5 @@
 // Laws of the listing's text. Each is the contract of an empty function.
-ghost use Rattle.listing_io.specs.Forms.{LinesReadExactly};
-ghost use Rattle.listing_io.specs.Laws.{ListingsAreApart, ListingsAreReadAgain, ListingsWereWritten};
+ghost use Rattle.listing_io.specs.{LinesReadExactly, ListingsAreApart, ListingsAreReadAgain, ListingsWereWritten};
 
 /// A line is read as the numbers that are written as this line, and as nothing else.
 #[tactic(auto, using(crate::proofs::Exactly::lines_read_exactly))]

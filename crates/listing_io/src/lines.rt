@@ -1,7 +1,7 @@
 // The lines of a listing.
 ghost use Rattle.std.specs.Prelude.{◌≡◌, ◌∷◌, [], MatchResult, IfOk};
-ghost use Rattle.outside.specs.Names.{lines};
-ghost use Rattle.record_lines.specs.Layout.{next_number};
+ghost use Rattle.outside.specs.{lines};
+ghost use Rattle.record_lines.specs.{next_number};
 ghost use Rattle.listing_io.specs.Reading.{Gives, Has, Left, Passes, all_lines, line_at, over_at, text_at};
 
 use crate::fault::Fault;

@@ -1,12 +1,9 @@
 // The reading of a listing.
 ghost use Rattle.std.specs.Prelude.{◌≡◌, ◌≤◌, All, length, option_map, IfOk, IfSome, OnOk};
-ghost use Rattle.model_types.specs.Grids.{HasSize};
-ghost use Rattle.model_types.specs.Times.{times};
-ghost use Rattle.record_lines.specs.Reading.{HasText, for_each};
-ghost use Rattle.zone_pairs.specs.Pairs.{pairs_in, ArePairs, CanPair, zones_of};
-ghost use Rattle.listing_io.specs.Laws.{AreListed};
-ghost use Rattle.listing_io.specs.Listing.{end_line, first_line};
-ghost use Rattle.listing_io.specs.Reading.{Gives, Has, Passes, all_lines, first_at, listing_at, listing_in, step_at};
+ghost use Rattle.model_types.specs.{HasSize, times};
+ghost use Rattle.record_lines.specs.{HasText, for_each};
+ghost use Rattle.zone_pairs.specs.{pairs_in, ArePairs, CanPair, zones_of};
+ghost use Rattle.listing_io.specs.{AreListed, end_line, first_line, Gives, Has, Passes, all_lines, first_at, listing_at, listing_in, step_at};
 
 use crate::fault::Fault;
 use crate::lines::AllLines;

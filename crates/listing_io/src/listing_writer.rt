@@ -1,14 +1,11 @@
 // The pieces of a listing.
 ghost use Rattle.std.specs.Prelude.{◌≡◌, ◌≤◌, ◌++◌, [], ◌∷◌, codes, cond, length, map, slice_index_or, IfOk};
 ghost use Rattle.std.specs.Fmt.{signed_decimal};
-ghost use Rattle.model_types.specs.Faces.{cell_count};
-ghost use Rattle.model_types.specs.Grids.{HasSize};
-ghost use Rattle.model_types.specs.Layers.{is_active};
+ghost use Rattle.model_types.specs.{cell_count, HasSize, is_active};
 ghost use Rattle.step_problem.specs.declared.place.Term.TheVariants.{Et};
-ghost use Rattle.budget_bounds.specs.Terms.{place_of, no_pair};
-ghost use Rattle.listing_io.specs.Listing.{ended, first_line, first_text, head_line, head_lines, head_pair};
-ghost use Rattle.listing_io.specs.Listing.{numbers_text, printed_terms, step_line, step_text, term_line, text_of};
-ghost use Rattle.listing_io.specs.Listing.{zone_line, zone_pair};
+ghost use Rattle.budget_bounds.specs.{place_of, no_pair};
+ghost use Rattle.listing_io.specs.{ended, first_line, first_text, head_line, head_lines, head_pair, numbers_text, printed_terms, step_line, step_text};
+ghost use Rattle.listing_io.specs.{term_line, text_of, zone_line, zone_pair};
 
 use crate::pairs::{PairForm, push_pair};
 use crate::places::{

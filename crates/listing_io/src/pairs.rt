@@ -1,6 +1,6 @@
 // Lines that have two numbers, written and read.
 ghost use Rattle.std.specs.Prelude.{◌≡◌, ◌≤◌, ◌<◌, ◌^◌, ◌++◌, ◌⊎◌, MatchOption, IfOk, IfSome, codes, nat_abs};
-ghost use Rattle.fixed_text.specs.Fixed.{fixed_text};
+ghost use Rattle.fixed_text.specs.{fixed_text};
 ghost use Rattle.listing_io.specs.Forms.{Form, candidate, is_within, pair_in, pair_text};
 
 use crate::digits::value_in;

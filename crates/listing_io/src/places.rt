@@ -1,9 +1,8 @@
 // The words at the beginning of a listing's lines.
 ghost use Rattle.std.specs.Prelude.{◌≡◌, ◌++◌, [], ◌∷◌, codes, decimal, IfOk};
-ghost use Rattle.step_problem.specs.StepRefusals.{dir_name, side_name, term_name};
-ghost use Rattle.model_types.specs.Faces.{place};
-ghost use Rattle.model_types.specs.Grids.{HasSize};
-ghost use Rattle.listing_io.specs.Listing.{dir_front, has_evt, head_front, numbers_text, step_line, zone_front};
+ghost use Rattle.step_problem.specs.{dir_name, side_name, term_name};
+ghost use Rattle.model_types.specs.{place, HasSize};
+ghost use Rattle.listing_io.specs.{dir_front, has_evt, head_front, numbers_text, step_line, zone_front};
 
 use fixed_text::push_number;
 use model_types::{FlowModel, Grid, TimeStep};

@@ -1,12 +1,11 @@
 // The reading of a step.
 ghost use Rattle.std.specs.Prelude.{◌≡◌, ◌≤◌, ◌<◌, ◌^◌, length, nat_abs, IfOk};
-ghost use Rattle.step_problem.specs.Conditions.{head_limit};
+ghost use Rattle.step_problem.specs.{head_limit};
 ghost use Rattle.step_problem.specs.declared.place.Term.TheVariants.{Et};
-ghost use Rattle.model_types.specs.Grids.{HasSize};
-ghost use Rattle.model_types.specs.Layers.{is_active};
-ghost use Rattle.record_lines.specs.Reading.{for_each};
-ghost use Rattle.listing_io.specs.Listing.{flow_form, has_evt, head_form, head_front, step_line, zone_front};
-ghost use Rattle.listing_io.specs.Reading.{Gives, Passes, flow_at, head_if, heads_at, pair_at, step_with, term_at, term_if, terms_at, text_at};
+ghost use Rattle.model_types.specs.{HasSize, is_active};
+ghost use Rattle.record_lines.specs.{for_each};
+ghost use Rattle.listing_io.specs.{flow_form, has_evt, head_form, head_front, step_line, zone_front, Gives, Passes, flow_at, head_if, heads_at, pair_at};
+ghost use Rattle.listing_io.specs.{step_with, term_at, term_if, terms_at, text_at};
 
 use crate::fault::Fault;
 use crate::lines::AllLines;

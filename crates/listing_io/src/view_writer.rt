@@ -1,8 +1,8 @@
 // A view of heads while they settle, as text.
 ghost use Rattle.std.specs.Prelude.{◌≡◌, ◌++◌, ◌<◌, length, IfOk};
-ghost use Rattle.step_problem.specs.Entries.{entries_at};
-ghost use Rattle.model_types.specs.Grids.{HasSize};
-ghost use Rattle.listing_io.specs.Listing.{ended, text_of, variable_lines, view_text, watch_line};
+ghost use Rattle.step_problem.specs.{entries_at};
+ghost use Rattle.model_types.specs.{HasSize};
+ghost use Rattle.listing_io.specs.{ended, text_of, variable_lines, view_text, watch_line};
 
 use crate::listing_writer::push_head;
 use crate::places::push_two;

@@ -1,7 +1,7 @@
 // The end of a word.
 ghost use Rattle.std.specs.Prelude.{◌≡◌, ◌≤◌, ◌==◌, drop, length, position};
 ghost use Rattle.std.specs.List.{position_or_len};
-ghost use Rattle.listing_io.specs.Forms.{behind_word, first_word};
+ghost use Rattle.listing_io.specs.{behind_word, first_word};
 
 fn blank_at(text: &[u8]) -> Option<usize>
     ensures { result ≡ position (λ c. c == 32) text.now }

@@ -2,7 +2,7 @@
 use Rattle.listing_run.proofs.Common.{◌≡◌, ℕ, List, [], ◌∷◌, ◌<◌, length, arith, ℤ, Option, Some, None, Fraction, Bound, FlowModel, TimeStep, start_head, times}
 use Rattle.listing_run.proofs.Common.{SolvesFrom, heads_of, HeadsEnclose, HoldsOf, between_cells, encloses_member, encloses_first, IsMove, Task, Step, Bounds}
 use Rattle.listing_run.proofs.Common.{BoundAll, BoundBetween, HistoriesBound}
-use Rattle.deck_span.specs.Models.{SolvesBetweenFrom}
+use Rattle.deck_span.specs.{SolvesBetweenFrom}
 use Rattle.listing_run.proofs.Zoned.{within_enclosed}
 
 -- the step v bounds every move of the model m

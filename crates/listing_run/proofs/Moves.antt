@@ -4,10 +4,9 @@ use Rattle.listing_run.proofs.Common.{lower_at, upper_at, Budget, TimeStep, head
 use Rattle.listing_run.proofs.Common.{cell_of_member, IsMove, EnclosesMoves, Task, Step, IsActive, IsNamed, AreFlowsAt, FlowsEncloseAt, IsStep, HasNoBound}
 use Rattle.listing_run.proofs.Common.{no_heads, no_budget, no_zones, budget_at, Bounds, BoundsMoves, FlowsStopBy, StopsAt, stop_of, PairKind, IsStepBy}
 use Rattle.listing_run.proofs.Common.{pairs_of, IsSolved, exact_step, edges_by}
-use Rattle.budget_bounds.specs.Exact.{EnclosesBudgets, HeadsAreWithin}
-use Rattle.budget_bounds.specs.Terms.{budget_of}
+use Rattle.budget_bounds.specs.{EnclosesBudgets, HeadsAreWithin, budget_of}
 use Rattle.step_chain.specs.declared.solved.StepFault.{StepFault}
-use Rattle.step_chain.specs.Faults.{FailsBy as StepFailsBy}
+use Rattle.step_chain.specs.{FailsBy as StepFailsBy}
 use Rattle.listing_run.specs.declared.solving.Stop.{Stop}
 use Rattle.listing_run.proofs.Zoned.{within_enclosed, heads_named, flows_enclose}
 use Rattle.step_chain.specs.declared.solved.StepFault.TheVariants as chain

@@ -3,12 +3,10 @@ use Rattle.listing_run.proofs.Common.{IfErr, IfOk, ◌≡◌, ◌∙◌, ℕ, Li
 use Rattle.listing_run.proofs.Common.{SinkError, Bound, Entries, Edges, IsSettledPair, lower_at, upper_at, TimeStep, times, EachMember, AreStartHeadsFor}
 use Rattle.listing_run.proofs.Common.{each_member, of_member, Text, LieBetween, IsPosed, Steps, Task, AllSettledBy, AreSettledBy, IsSettledBy, PairEncloses}
 use Rattle.listing_run.proofs.Common.{Reaches, ReachesFirst, RestsOrSettles, RestsOrSettlesFirst, rests, settled, IsAtFirst, IsNextText, IsWalk, times_left}
-use Rattle.listing_run.proofs.Common.{Limits, Plain, Wide, exact_step, variable_heads, edges_by, LiesBetweenBy}
-use Rattle.cell_balance.specs.Balance.{LiesBetween}
-use Rattle.settle_driver.specs.Views.{HoldsPair}
+use Rattle.listing_run.proofs.Common.{Limits, Plain, Wide, exact_step, variable_heads, edges_by, LiesBetweenBy, LiesBetween, IsProblemFor, LeadsBy}
+use Rattle.listing_run.proofs.Common.{LeadsOrRests}
+use Rattle.settle_driver.specs.{HoldsPair}
 use Rattle.cell_balance.proofs.Totals.{le_trans_z}
-use Rattle.deck_problems.specs.Problems.{IsProblemFor}
-use Rattle.step_chain.specs.Leads.{LeadsBy, LeadsOrRests}
 use Rattle.listing_run.specs.Settlers.{begun}
 use Rattle.listing_run.proofs.UnderWay.{all_left, first_same}
 use Rattle.decimal_input.proofs.Signs.{mul_mono_right}

@@ -3,11 +3,10 @@ use Rattle.listing_run.proofs.Common.{◌≡◌, ℕ, suc, List, [], ◌∷◌, 
 use Rattle.listing_run.proofs.Common.{NoBound, Budget, TimeStep, times, AreDecks, AreGridHeads, Solved, ZoneFlow, Task, Step, AreFlowsAt, HasLargeFlow}
 use Rattle.listing_run.proofs.Common.{faces_at, IsStep, budget_at, HasNoBound, no_heads, no_budget, no_zones, AllSettle, IsSettledStep, IsStepBy, pairs_of}
 use Rattle.listing_run.proofs.Common.{IsSolved, if◌then◌else◌, PairKind, false, StepIsOne, StepExcludesRefusal, HeadsFit, ListingIsOne, ListingExcludesRefusal}
-use Rattle.listing_run.proofs.Common.{SettledListingIsClosed, RefusalIsOne}
-use Rattle.deck_problems.specs.Laws.{IsBefore, StartHeadsAreOne, StartHeadsFit}
-use Rattle.step_problem.specs.Settling.PairKind.{settled as settled_kind, certified as certified_kind}
-use Rattle.step_chain.specs.Laws.{RefusalIsOne as StepRefusalIsOne}
-use Rattle.zone_flows.specs.Pairs.{FlowsAreOne, FlowsExcludeRefusal, RefusalIsOne as ZoneRefusalIsOne}
+use Rattle.listing_run.proofs.Common.{SettledListingIsClosed, RefusalIsOne, IsBefore, StartHeadsAreOne, StartHeadsFit, FlowsAreOne, FlowsExcludeRefusal}
+use Rattle.step_problem.specs.{settled as settled_kind, certified as certified_kind}
+use Rattle.step_chain.specs.{RefusalIsOne as StepRefusalIsOne}
+use Rattle.zone_flows.specs.{RefusalIsOne as ZoneRefusalIsOne}
 use Rattle.listing_run.specs.Steps.{Steps}
 use Rattle.listing_run.specs.declared.text.ListingEnd.TheVariants as ends
 

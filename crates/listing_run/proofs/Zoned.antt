@@ -1,14 +1,10 @@
 -- The flows between the zones of a task, by the clauses of their call.
 use Rattle.listing_run.proofs.Common.{◌≡◌, ℕ, suc, ◌-◌, ◌<◌, ◌^◌, inl, inr, List, length, All, arith, refl, subst, ℤ, pos, ◌*ℤ◌, ◌≤ℤ◌, Option, Some, None}
 use Rattle.listing_run.proofs.Common.{IfSome, Fraction, Bound, ZoneFlow, Entries, entries_at, lower_at, upper_at, FlowModel, cell_count, heads_of, HeadsEnclose}
-use Rattle.listing_run.proofs.Common.{IsActive, IsNamed, LiesWithin, FlowsEnclose}
+use Rattle.listing_run.proofs.Common.{IsActive, IsNamed, LiesWithin, FlowsEnclose, EnclosesSigned, EnclosesStep, ExactCell, EncloseExact, HeadsLieWithin}
 use Rattle.std.specs.Prelude.{Contains}
 use Rattle.std.proofs.lemmas.List.Elements.{All-contains_itself, All-weaker}
-use Rattle.decimal_input.specs.Wholes.{EnclosesSigned}
 use Rattle.step_problem.specs.declared.entry.Fixed.{Fixed}
-use Rattle.cell_balance.specs.Enclosures.{EnclosesStep}
-use Rattle.cell_balance.specs.Steps.{ExactCell}
-use Rattle.zone_flows.specs.Exact.{EncloseExact, HeadsLieWithin}
 
 -- a vector that lies within heads is enclosed by them
 pub within_enclosed : (m : FlowModel) (heads : List Bound) (d : ℕ) (X : ℕ → ℤ) → 0 < d → LiesWithin m heads d X → HeadsEnclose m heads (heads_of d X)

@@ -1,29 +1,26 @@
 -- Facts that the calls of a walk over the steps pass to each other.
 use Rattle.std.specs.Prelude.{Bool, List, Option, [], drop, length, ℕ, ◌+◌, ◌<◌, ◌∷◌, ◌≡◌, ◌≤◌, true}
-use Rattle.outside.specs.Puts.{Put}
+use Rattle.outside.specs.{Put}
 use Rattle.outside.specs.declared.traits.SinkError.TheVariants as error
 use Rattle.outside.specs.declared.traits.SinkError.{SinkError}
 use Rattle.step_problem.specs.Entries.{Entries}
-use Rattle.step_problem.specs.Heads.{Edges}
+use Rattle.step_problem.specs.{Edges}
 use Rattle.step_problem.specs.declared.heads.Bound.{Bound}
-use Rattle.model_types.specs.Heads.{start_head}
-use Rattle.model_types.specs.Times.{times}
-use Rattle.deck_problems.specs.Decks.{AreDecks, EachMember}
+use Rattle.model_types.specs.{start_head, times}
+use Rattle.deck_problems.specs.{AreDecks, EachMember, AreStartHeadsFor, AreDeckTables}
 use Rattle.model_types.specs.declared.time_steps.TimeStep.{TimeStep}
-use Rattle.problem_builder.specs.GridHeads.{AreGridHeads, HeadsEnclose}
-use Rattle.deck_problems.specs.ConstantHeads.{AreStartHeadsFor}
-use Rattle.deck_problems.specs.Kept.{AreDeckTables}
+use Rattle.problem_builder.specs.{AreGridHeads, HeadsEnclose}
 use Rattle.deck_problems.specs.declared.problem.DeckTables.{DeckTables}
 use Rattle.step_chain.specs.declared.solved.Solved.{Solved}
 use Rattle.step_chain.specs.declared.solved.StepFault.TheVariants as chain
 use Rattle.step_chain.specs.declared.solved.StepFault.{StepFault}
-use Rattle.run_puts.specs.Runs.{IsWanting, Text}
+use Rattle.run_puts.specs.{IsWanting, Text}
 use Rattle.run_puts.specs.declared.puts.Status.TheVariants as status
 use Rattle.run_puts.specs.declared.puts.Status.{Status}
 use Rattle.listing_run.specs.Listing.{BoundsMoves, text_of}
 use Rattle.listing_run.specs.Settlers.{IsSettledBy}
 use Rattle.listing_run.specs.Steps.{EndsAt, IsStep}
-use Rattle.zone_pairs.specs.Pairs.{AreZones}
+use Rattle.zone_pairs.specs.{AreZones}
 use Rattle.listing_run.specs.Tasks.{HasLargeFlow}
 use Rattle.listing_run.specs.declared.text.ListingEnd.TheVariants as ends
 use Rattle.listing_run.specs.declared.solving.Step.{Step}

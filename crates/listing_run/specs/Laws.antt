@@ -2,10 +2,10 @@
 use Rattle.std.specs.Prelude.{◌≡◌, ℕ, Bool, List, Option, false}
 use Rattle.step_problem.specs.declared.place.NoBound.{NoBound}
 use Rattle.model_types.specs.declared.time_steps.TimeStep.{TimeStep}
-use Rattle.model_types.specs.Times.{times}
+use Rattle.model_types.specs.{times}
 use Rattle.model_types.specs.declared.limits.Limits.TheVariants.{Plain, Wide}
 use Rattle.deck_problems.specs.declared.decks.Decks.{Decks}
-use Rattle.deck_problems.specs.Decks.{AreDecks}
+use Rattle.deck_problems.specs.{AreDecks}
 use Rattle.listing_run.specs.declared.text.ListingEnd.TheVariants as ends
 use Rattle.listing_run.specs.declared.steps.Task.{Task}
 use Rattle.listing_run.specs.declared.solving.Step.{Step}

@@ -3,26 +3,23 @@ use Rattle.std.specs.Prelude.{◌≡◌, ℕ, Bool, is_some, List, [], ◌∷◌
 use Rattle.std.specs.List.{concat}
 use Rattle.model_types.specs.declared.grid.Grid.{Grid}
 use Rattle.model_types.specs.declared.time_steps.TimeStep.{TimeStep}
-use Rattle.listing_io.specs.Listing.{first_text, step_text}
-use Rattle.listing_io.specs.LastLines.{no_bound_line, unfinished_line}
-use Rattle.run_puts.specs.Runs.{Text, end_line}
+use Rattle.listing_io.specs.{first_text, step_text, no_bound_line, unfinished_line}
+use Rattle.run_puts.specs.{Text, end_line}
 use Rattle.run_puts.specs.declared.puts.Status.{Status}
 use Rattle.listing_run.specs.declared.text.ListingEnd.{ListingEnd}
 use Rattle.listing_run.specs.declared.steps.Task.{Task}
 use Rattle.listing_run.specs.declared.solving.Step.{Step}
 use Rattle.listing_run.specs.Steps.{AllSteps, FirstSteps}
-use Rattle.decimal_input.specs.Fractions.{Fraction}
+use Rattle.decimal_input.specs.{Fraction}
 use Rattle.step_problem.specs.declared.heads.Bound.{Bound}
-use Rattle.budget_bounds.specs.Exact.{BudgetEncloses}
+use Rattle.budget_bounds.specs.{BudgetEncloses}
 use Rattle.model_types.specs.declared.model.FlowModel.{FlowModel}
-use Rattle.model_types.specs.Heads.{start_head}
-use Rattle.model_types.specs.Times.{times}
-use Rattle.flow_equations.specs.ExactStep.{exact_step}
-use Rattle.flow_equations.specs.Histories.{heads_of, variable_heads, Solves}
-use Rattle.deck_span.specs.Models.{IsBetween, SolvesBetween, SolvesBetweenFrom}
-use Rattle.deck_problems.specs.Decks.{EachMember}
-use Rattle.step_chain.specs.Enclosing.{LiesWithin, IsMove}
-use Rattle.zone_flows.specs.Exact.{EncloseExact}
+use Rattle.model_types.specs.{start_head, times}
+use Rattle.flow_equations.specs.{exact_step, heads_of, variable_heads, Solves}
+use Rattle.deck_span.specs.{IsBetween, SolvesBetween, SolvesBetweenFrom}
+use Rattle.deck_problems.specs.{EachMember}
+use Rattle.step_chain.specs.{LiesWithin, IsMove}
+use Rattle.zone_flows.specs.{EncloseExact}
 use Rattle.run_puts.specs.declared.puts.Status.TheVariants as status
 use Rattle.listing_run.specs.declared.text.ListingEnd.TheVariants as ends
 

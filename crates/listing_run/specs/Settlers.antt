@@ -4,17 +4,14 @@ use Rattle.std.specs.Prelude.{◌≡◌, ◌⊎◌, ℕ, List, [], ◌∷◌, Bo
 use Rattle.outside.specs.declared.traits.SinkError.{SinkError}
 use Rattle.step_problem.specs.declared.heads.Bound.{Bound}
 use Rattle.step_problem.specs.Entries.{Entries}
-use Rattle.step_problem.specs.Heads.{Edges, lower_at, upper_at}
+use Rattle.step_problem.specs.{Edges, lower_at, upper_at}
 use Rattle.deck_problems.specs.declared.decks.Decks.{Decks}
-use Rattle.deck_problems.specs.Decks.{EachMember}
-use Rattle.deck_problems.specs.ConstantHeads.{AreStartHeadsFor}
+use Rattle.deck_problems.specs.{EachMember, AreStartHeadsFor}
 use Rattle.model_types.specs.declared.limits.Limits.{Limits}
 use Rattle.model_types.specs.declared.time_steps.TimeStep.{TimeStep}
-use Rattle.model_types.specs.Times.{times}
-use Rattle.settle_driver.specs.Views.{HoldsPair}
-use Rattle.step_chain.specs.Barriers.{edges_by}
-use Rattle.step_chain.specs.Steps.{IsPosed}
-use Rattle.step_chain.specs.Enclosing.{LieBetween}
+use Rattle.model_types.specs.{times}
+use Rattle.settle_driver.specs.{HoldsPair}
+use Rattle.step_chain.specs.{edges_by, IsPosed, LieBetween}
 use Rattle.listing_run.specs.declared.steps.Task.{Task}
 use Rattle.listing_run.specs.declared.solving.Step.{Step}
 use Rattle.listing_run.specs.Steps.{IsStep}

@@ -3,15 +3,14 @@ use Rattle.std.specs.Prelude.{◌≡◌, List, [], ◌∷◌, Result, Ok, Err}
 use Rattle.step_problem.specs.declared.heads.Bound.{Bound}
 use Rattle.step_problem.specs.declared.place.NoBound.{NoBound}
 use Rattle.step_problem.specs.Entries.{Entries}
-use Rattle.step_problem.specs.Heads.{Edges, RoundsSettleBoth, lower_at, upper_at}
+use Rattle.step_problem.specs.{Edges, RoundsSettleBoth, lower_at, upper_at}
 use Rattle.budget_bounds.specs.declared.pair.Budget.{Budget}
-use Rattle.budget_bounds.specs.Terms.{budget_of}
+use Rattle.budget_bounds.specs.{budget_of}
 use Rattle.model_types.specs.declared.time_steps.TimeStep.{TimeStep}
-use Rattle.model_types.specs.Times.{times}
-use Rattle.deck_problems.specs.ConstantHeads.{AreStartHeadsFor}
+use Rattle.model_types.specs.{times}
+use Rattle.deck_problems.specs.{AreStartHeadsFor}
 use Rattle.step_chain.specs.declared.solved.Solved.{Solved}
-use Rattle.step_chain.specs.Barriers.{edges_by}
-use Rattle.step_chain.specs.Steps.{IsPosed, IsStepBy, HasNoHeads, SettlesIn}
+use Rattle.step_chain.specs.{edges_by, IsPosed, IsStepBy, HasNoHeads, SettlesIn}
 use Rattle.listing_run.specs.declared.text.ListingEnd.{ListingEnd}
 use Rattle.listing_run.specs.declared.text.ListingEnd.TheVariants as ends
 use Rattle.listing_run.specs.declared.steps.Task.{Task}

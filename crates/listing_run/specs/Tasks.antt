@@ -1,22 +1,18 @@
 -- The kind of a task's pairs, the task of decks, and that of one deck.
 use Rattle.std.specs.Prelude.{ℕ, Bool, List, Option, if◌then◌else◌, ◌≡◌, [], Some, None, IfSome}
-use Rattle.step_problem.specs.Settling.{PairKind}
-use Rattle.step_problem.specs.Settling.PairKind.{settled, certified}
+use Rattle.step_problem.specs.{PairKind, settled, certified, lower_at, upper_at}
 use Rattle.model_types.specs.declared.limits.Limits.{Limits}
 use Rattle.model_types.specs.declared.model.FlowModel.{FlowModel}
 use Rattle.deck_problems.specs.declared.decks.Decks.{Decks}
-use Rattle.deck_problems.specs.Decks.{one_deck}
+use Rattle.deck_problems.specs.{one_deck}
 use Rattle.listing_run.specs.declared.steps.Task.{Task}
 use Rattle.step_problem.specs.declared.heads.Bound.{Bound}
 use Rattle.step_problem.specs.declared.place.NoBound.{NoBound}
 use Rattle.step_problem.specs.declared.place.ZoneFlow.{ZoneFlow}
 use Rattle.step_problem.specs.Entries.{Entries}
-use Rattle.step_problem.specs.Heads.{lower_at, upper_at}
 use Rattle.step_chain.specs.declared.solved.Solved.{Solved}
 use Rattle.zone_flows.specs.declared.fault.ZoneFault.{ZoneFault}
-use Rattle.zone_flows.specs.Faces.{Face, faces}
-use Rattle.zone_flows.specs.Pairs.{AreZoneFlows, IsFirstTooLarge}
-use Rattle.zone_flows.specs.Exact.{EncloseEveryStep}
+use Rattle.zone_flows.specs.{Face, faces, AreZoneFlows, IsFirstTooLarge, EncloseEveryStep}
 use Rattle.zone_flows.specs.declared.fault.ZoneFault.TheVariants as fault
 
 -- a step has the settled pair; with --quick any pair that is a certificate

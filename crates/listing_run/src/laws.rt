@@ -1,5 +1,5 @@
 // Laws of listings, from those of the steps.
-ghost use Rattle.listing_run.specs.Laws.{ListingIsOne, ListingExcludesRefusal, SettledListingIsClosed, RefusalIsOne, WideKeepsListings};
+ghost use Rattle.listing_run.specs.{ListingIsOne, ListingExcludesRefusal, SettledListingIsClosed, RefusalIsOne, WideKeepsListings};
 
 use deck_problems::laws::start_heads;
 use step_chain::laws::{

@@ -1,12 +1,10 @@
 // Putting the steps, each while the next one is solved.
 ghost use Rattle.std.specs.Prelude.{◌≡◌, ◌⊎◌, List, ◌++◌, IfOk, IfErr, None, Some};
-ghost use Rattle.outside.specs.Puts.{Put};
+ghost use Rattle.outside.specs.{Put};
 ghost use Rattle.outside.specs.declared.traits.SinkError.TheVariants.{Write};
-ghost use Rattle.run_puts.specs.Runs.{IsEnd, IsPut, IsRun};
-ghost use Rattle.listing_run.specs.Listing.{IsListingBeside, IsCutListing, last_line, status_of};
-ghost use Rattle.listing_run.specs.Settlers.{AllSettledBy, ReachesFirst, RestsOrSettlesFirst};
-ghost use Rattle.listing_run.specs.Ends.{IsAtFirst, IsNextText, IsStopEnd, IsTask, IsWalk, StopsAt, times_left};
-ghost use Rattle.listing_run.specs.Tasks.{pairs_of};
+ghost use Rattle.run_puts.specs.{IsEnd, IsPut, IsRun};
+ghost use Rattle.listing_run.specs.{IsListingBeside, IsCutListing, last_line, status_of, AllSettledBy, ReachesFirst, RestsOrSettlesFirst, IsAtFirst};
+ghost use Rattle.listing_run.specs.{IsNextText, IsStopEnd, IsTask, IsWalk, StopsAt, times_left, pairs_of};
 
 use crate::solving::Stop;
 use crate::steps::{Steps, Task};

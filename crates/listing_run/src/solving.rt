@@ -1,15 +1,16 @@
 // Solving a step.
 ghost use Rattle.std.specs.Prelude.{◌≡◌, ◌∷◌, List, Contains, IfOk, IfErr, MatchResult, true, ℕ, option_map};
 ghost use Rattle.model_types.specs.declared.time_steps.TimeStep.{TimeStep};
-ghost use Rattle.model_types.specs.Times.{times};
-ghost use Rattle.problem_builder.specs.GridHeads.{AreGridHeads, IsActive, IsNamed};
+ghost use Rattle.model_types.specs.{times};
+ghost use Rattle.problem_builder.specs.{AreGridHeads, IsActive};
+ghost use Rattle.problem_builder.specs.GridHeads.{IsNamed};
 ghost use Rattle.listing_run.specs.Steps.{IsStep};
 ghost use Rattle.listing_run.specs.Listing.{BoundsMoves};
 ghost use Rattle.listing_run.specs.Ends.{IsTask, AreTablesOf, StopsAt, stop_of, FlowsStopBy};
 ghost use Rattle.listing_run.specs.Settlers.{IsSettledBy, RestsOrSettles};
 ghost use Rattle.listing_run.specs.Tasks.{pairs_of, AreFlowsAt, AreFlowsOf, FlowsEnclose, FlowsEncloseAt, NoFlowsBy};
 ghost use Rattle.listing_run.specs.declared.solving.Stop.TheVariants.{Memory as OutOfMemory};
-ghost use Rattle.zone_pairs.specs.Pairs.{AreZones};
+ghost use Rattle.zone_pairs.specs.{AreZones};
 
 use crate::steps::Task;
 use crate::text::ListingEnd;

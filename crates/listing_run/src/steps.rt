@@ -1,8 +1,6 @@
 // A walk over the steps of a task.
 ghost use Rattle.std.specs.Prelude.{◌≡◌, ◌+◌, ◌<◌, ◌∷◌, [], drop, get_or, length, IfOk, IfErr, IfSome, MatchOption};
-ghost use Rattle.listing_run.specs.Ends.{IsAtFirst, IsNext, IsNextText, IsTask, IsWalk, StopsAt, times_left, with_heads};
-ghost use Rattle.listing_run.specs.Settlers.{RestsOrSettlesFirst};
-ghost use Rattle.listing_run.specs.Tasks.{pairs_of};
+ghost use Rattle.listing_run.specs.{IsAtFirst, IsNext, IsNextText, IsTask, IsWalk, StopsAt, times_left, with_heads, RestsOrSettlesFirst, pairs_of};
 
 use crate::solving::{Stop, solve};
 use crate::text::ListingEnd;

@@ -1,9 +1,7 @@
 // The listing of a task as one text, made on one thread.
 ghost use Rattle.std.specs.Prelude.{◌≡◌, ◌++◌, IfOk};
-ghost use Rattle.listing_run.specs.Ends.{IsAtFirst, IsTask, IsWalk};
-ghost use Rattle.listing_run.specs.Listing.{IsPushed, last_line, status_of};
-ghost use Rattle.listing_run.specs.Tasks.{pairs_of};
-ghost use Rattle.model_types.specs.Grids.{HasSize};
+ghost use Rattle.listing_run.specs.{IsAtFirst, IsTask, IsWalk, IsPushed, last_line, status_of, pairs_of};
+ghost use Rattle.model_types.specs.{HasSize};
 
 use crate::solving::Stop;
 use crate::steps::{Steps, Task};

@@ -2,11 +2,10 @@
 pub use Rattle.std.proofs.Common.{All, Bool, List, [], ap, arith, cond, drop, get_or, length, refl, rules, subst, sym, ℕ, ℤ, ◌*◌, ◌++◌, ◌+ℤ◌, ◌+◌, ◌<◌, ◌^◌}
 pub use Rattle.std.proofs.Common.{◌∙◌, ◌∷◌, ◌≡◌, ◌≤◌}
 pub use Rattle.std.specs.List.{fold}
-pub use Rattle.listing_run.specs.Ends.{IsAtFirst, IsNext, IsWalk, times_left, with_heads}
-pub use Rattle.listing_run.specs.Steps.{EndsAt}
-pub use Rattle.listing_summary.specs.Summaries.{Fits, IsSummarized, counted, nothing, printed_heads, stepped, summary_of, width}
-unfoldable pub use Rattle.listing_summary.specs.Summaries.{printed}
+pub use Rattle.listing_run.specs.{EndsAt, IsAtFirst, IsNext, IsWalk, times_left, with_heads}
+pub use Rattle.listing_summary.specs.{Fits, IsSummarized, counted, nothing, printed_heads, stepped, summary_of, width}
+unfoldable pub use Rattle.listing_summary.specs.{printed}
 pub use Rattle.listing_summary.specs.declared.summary.Summary.{Summary}
-pub use Rattle.step_problem.specs.Conditions.{IsHead, IsWithin}
-pub use Rattle.step_problem.specs.Heads.{Edges, no_bound}
+pub use Rattle.model_types.specs.{cell_count, is_active}
+pub use Rattle.step_problem.specs.{Edges, IsHead, IsWithin, no_bound}
 pub use Rattle.step_problem.specs.declared.heads.Bound.{Bound}

@@ -1,14 +1,13 @@
 -- What is counted, one line HEAD after another.
 use Rattle.listing_summary.proofs.Common.{◌≡◌, ℕ, ◌+◌, ◌<◌, ◌≤◌, ◌^◌, List, [], ◌∷◌, ◌++◌, length, drop, get_or, cond, refl, sym, ap, ◌∙◌, arith, ℤ, ◌+ℤ◌, fold}
 use Rattle.listing_summary.proofs.Common.{Bound, IsHead, IsWithin, Summary, counted, stepped, nothing, Fits, printed, printed_heads, summary_of, width, Bool}
-use Rattle.listing_summary.proofs.Common.{Edges, EndsAt, IsAtFirst, IsNext, IsWalk, times_left, IsSummarized}
+use Rattle.listing_summary.proofs.Common.{Edges, EndsAt, IsAtFirst, IsNext, IsWalk, times_left, IsSummarized, is_active}
 use Rattle.listing_run.specs.declared.solving.Step.{Step}
 use Rattle.std.proofs.lemmas.Int.{ints, clamps}
 use Rattle.std.proofs.lemmas.List.{drop_more, drop_all, length-append}
 use Rattle.std.proofs.lemmas.List.Sums.{fold-append, fold_push}
 use Rattle.std.specs.Int.{int_max}
 use Rattle.model_types.specs.declared.model.FlowModel.{FlowModel}
-use Rattle.model_types.specs.Layers.{is_active}
 use Rattle.step_problem.specs.Entries.{Entries}
 use Rattle.listing_run.specs.declared.text.ListingEnd.{ListingEnd}
 use Rattle.listing_run.specs.declared.steps.Steps.{Steps}

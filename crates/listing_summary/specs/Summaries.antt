@@ -4,17 +4,16 @@ use Rattle.std.specs.Int.{int_max}
 use Rattle.std.specs.List.{flat_map, fold}
 use Rattle.step_problem.specs.declared.heads.Bound.{Bound}
 use Rattle.model_types.specs.declared.model.FlowModel.{FlowModel}
-use Rattle.model_types.specs.Layers.{is_active}
+use Rattle.model_types.specs.{is_active}
 use Rattle.listing_run.specs.declared.solving.Step.{Step}
 use Rattle.listing_summary.specs.declared.summary.Summary.{Summary}
-use Rattle.step_problem.specs.Conditions.{IsWithin, head_limit}
+use Rattle.step_problem.specs.{IsWithin, head_limit}
 use Rattle.listing_run.specs.declared.text.ListingEnd.{ListingEnd}
 use Rattle.listing_run.specs.declared.text.ListingEnd.TheVariants.{Whole}
 use Rattle.listing_run.specs.declared.steps.Task.{Task}
-use Rattle.listing_run.specs.Listing.{EnclosesHistories}
-use Rattle.listing_run.specs.Steps.{AllSteps}
-use Rattle.fixed_text.specs.Fixed.{fixed_text}
-use Rattle.listing_io.specs.Listing.{ended, numbers_text}
+use Rattle.listing_run.specs.{EnclosesHistories, AllSteps}
+use Rattle.fixed_text.specs.{fixed_text}
+use Rattle.listing_io.specs.{ended, numbers_text}
 
 -- The bounds that a step's lines HEAD print: those of the cells from c on whose IBOUND isn't 0.
 unfoldable pub printed : FlowModel → ℕ → List Bound → List Bound

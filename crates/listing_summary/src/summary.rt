@@ -2,9 +2,9 @@
 ghost use Rattle.std.specs.Prelude.{◌≡◌, ◌+◌, ◌^◌, ◌+ℤ◌, ◌<◌, ◌≤◌, [], ◌∷◌, cond, length, All};
 ghost use Rattle.std.specs.Int.{int_max};
 ghost use Rattle.std.specs.List.{fold};
-ghost use Rattle.step_problem.specs.Conditions.{IsHead, IsWithin};
-ghost use Rattle.model_types.specs.Layers.{is_active};
-ghost use Rattle.listing_summary.specs.Summaries.{counted, stepped, nothing, Fits, printed, width};
+ghost use Rattle.step_problem.specs.{IsHead, IsWithin};
+ghost use Rattle.model_types.specs.{is_active};
+ghost use Rattle.listing_summary.specs.{counted, stepped, nothing, Fits, printed, width};
 
 use model_types::FlowModel;
 use step_problem::Bound;

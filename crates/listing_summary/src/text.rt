@@ -1,7 +1,7 @@
 // The text of a made model's summary.
 ghost use Rattle.std.specs.Prelude.{◌≡◌, ◌++◌, [], ◌∷◌, codes, IfOk};
-ghost use Rattle.listing_io.specs.Listing.{numbers_text};
-ghost use Rattle.listing_summary.specs.Summaries.{count_line, head_line, summary_text};
+ghost use Rattle.listing_io.specs.{numbers_text};
+ghost use Rattle.listing_summary.specs.{count_line, head_line, summary_text};
 
 use crate::summary::Summary;
 use fixed_text::{push_fixed, push_number};

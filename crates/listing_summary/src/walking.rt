@@ -1,8 +1,7 @@
 // Solving the steps of a listing one after another, and counting them.
 ghost use Rattle.std.specs.Prelude.{◌≡◌, IfOk};
-ghost use Rattle.listing_run.specs.Ends.{IsAtFirst, IsTask, IsWalk};
-ghost use Rattle.listing_summary.specs.Summaries.{IsSummarized};
-ghost use Rattle.listing_run.specs.Tasks.{pairs_of};
+ghost use Rattle.listing_run.specs.{IsAtFirst, IsTask, IsWalk, pairs_of};
+ghost use Rattle.listing_summary.specs.{IsSummarized};
 
 use crate::summary::Summary;
 use listing_run::{ListingEnd, Steps, Stop, Task};

@@ -2,8 +2,8 @@
 pub use Rattle.std.proofs.Common.{All, Bool, Err, List, Ok, Result, [], arith, cond, false, length, pos, refl, subst, sym, true, ℕ, ℤ, ◌*◌, ◌++◌, ◌+◌, ◌-◌, ◌∙◌}
 pub use Rattle.std.proofs.Common.{◌≡◌}
 pub use Rattle.std.specs.Prelude.{IfOk, codes, int_lt}
-pub use Rattle.lpf_package.specs.Flow.{is_transient, joined, layer_at, with_properties}
-unfoldable pub use Rattle.lpf_package.specs.Flow.{layers_of, option_line, settings_of}
-pub use Rattle.lpf_package.specs.Forms.{AreLayers, HasProperties}
+pub use Rattle.lpf_package.specs.{AreLayers, HasProperties, is_transient, joined, layer_at, with_properties}
+unfoldable pub use Rattle.lpf_package.specs.{layers_of, option_line, settings_of}
+pub use Rattle.outside.specs.{FileSet, refusal, words}
 pub use Rattle.record_lines.proofs.Forward.{after, begun_held, chain, either, leaves, line_held}
-pub use Rattle.record_lines.specs.Layout.{Left, LineMay, LinesMay, Numbered}
+pub use Rattle.record_lines.specs.{Left, LineMay, LinesMay, Numbered, counted, is_word, line_at}

@@ -1,21 +1,16 @@
 -- Lengths and forms of the layers' arrays.
 use Rattle.lpf_package.proofs.Common.{◌≡◌, ℕ, ◌+◌, ◌*◌, Bool, true, false, cond, List, [], ◌++◌, All, ℤ, length, refl, sym, subst, arith, AreLayers}
 use Rattle.lpf_package.proofs.Common.{HasProperties, joined, pos, Result, Ok, Err, IfOk, int_lt, codes, LineMay, LinesMay, chain, after, either, line_held}
-use Rattle.lpf_package.proofs.Common.{leaves, is_transient, with_properties, option_line, settings_of, Left, Numbered}
+use Rattle.lpf_package.proofs.Common.{leaves, is_transient, with_properties, option_line, settings_of, Left, Numbered, words, refusal, is_word, line_at}
 use Rattle.std.proofs.lemmas.List.{length-append}
 use Rattle.std.proofs.lemmas.List.Elements.{All-append, All-nil}
 use Rattle.decimal_input.specs.declared.dec.Dec.{Dec}
-use Rattle.decimal_input.specs.Decimals.{IsDec}
+use Rattle.decimal_input.specs.{IsDec}
 use Rattle.model_types.specs.declared.model.FlowModel.{FlowModel}
 use Rattle.lpf_package.specs.declared.layer.Properties.{Properties}
 use Rattle.std.specs.List.{list_any}
-use Rattle.outside.specs.Names.{words}
-use Rattle.outside.specs.Codes.{refusal}
 use Rattle.outside.specs.declared.codes.Code.TheVariants.{OutOfProfile}
-use Rattle.record_lines.specs.Items.{is_word, line_at}
-use Rattle.array_reader.specs.Control.{number_at}
-use Rattle.array_reader.specs.Arrays.{zero_list, free_list}
-use Rattle.array_reader.specs.Numbers.{number, integer}
+use Rattle.array_reader.specs.{number_at, zero_list, free_list, number, integer}
 use Rattle.array_reader.proofs.Forward.{list_held}
 use Rattle.array_reader.proofs.PackageForward.{zeros_held}
 use Rattle.lpf_package.specs.declared.settings.Settings.{Settings}

@@ -1,26 +1,20 @@
 -- A file of the layer-property flow package, item by item (TM 6-A16, LPF).
 use Rattle.std.specs.Prelude.{◌≡◌, ℕ, ℤ, List, Bool, not, Result, Ok, pos, int_lt, Err, if◌then◌else◌, codes, [], ◌++◌}
 use Rattle.std.specs.List.{list_any}
-use Rattle.outside.specs.Files.{FileSet}
+use Rattle.outside.specs.{FileSet, refusal, words}
 use Rattle.outside.specs.declared.inputs.Refusal.{Refusal}
-use Rattle.record_lines.specs.Layout.{left_from, without_comments, Left}
-use Rattle.record_lines.specs.Reading.{◌>>=◌, counted}
+use Rattle.record_lines.specs.{left_from, without_comments, Left, ◌>>=◌, counted, is_word, line_at}
 use Rattle.model_types.specs.declared.grid.Grid.{Grid}
 use Rattle.model_types.specs.declared.model.FlowModel.{FlowModel}
 use Rattle.model_types.specs.declared.period.Period.{Period}
 use Rattle.lpf_package.specs.declared.layer.Properties.{Properties}
 use Rattle.lpf_package.specs.declared.model.Contents.{Contents}
-use Rattle.outside.specs.Codes.{refusal}
 use Rattle.outside.specs.declared.codes.Code.TheVariants.{OutOfProfile}
-use Rattle.record_lines.specs.Items.{is_word, line_at}
-use Rattle.outside.specs.Names.{words}
-use Rattle.array_reader.specs.Control.{number_at}
-use Rattle.array_reader.specs.Arrays.{free_list, zero_list, real_layer, layer_or}
-use Rattle.array_reader.specs.Numbers.{number, integer}
+use Rattle.array_reader.specs.{number_at, free_list, zero_list, real_layer, layer_or, number, integer}
 use Rattle.lpf_package.specs.declared.settings.Settings.{Settings}
 use Rattle.decimal_input.specs.declared.dec.Dec.{Dec}
-use Rattle.model_types.specs.Layers.{dec_at, int_at, no_number, is_nonzero}
-use Rattle.number_limits.specs.Magnitudes.{is_positive}
+use Rattle.model_types.specs.{dec_at, int_at, no_number, is_nonzero}
+use Rattle.number_limits.specs.{is_positive}
 use Rattle.lpf_package.specs.declared.layer.Layer.{Layer}
 
 -- The items before the layers' arrays (TM 6-A16, LPF, items 1 to 7).

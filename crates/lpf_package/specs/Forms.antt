@@ -1,8 +1,8 @@
 -- What is known of properties that were read, whatever the folder returned: lengths and canonical numbers.
 use Rattle.std.specs.Prelude.{◌≡◌, ℕ, cond, All, length}
-use Rattle.decimal_input.specs.Decimals.{IsDec}
+use Rattle.decimal_input.specs.{IsDec}
 use Rattle.model_types.specs.declared.model.FlowModel.{FlowModel}
-use Rattle.model_types.specs.Faces.{cell_count}
+use Rattle.model_types.specs.{cell_count}
 use Rattle.lpf_package.specs.Flow.{is_transient}
 use Rattle.lpf_package.specs.declared.layer.Properties.{Properties}
 

@@ -1,12 +1,9 @@
 // The arrays of one layer.
 ghost use Rattle.std.specs.Prelude.{◌≡◌, ◌*◌, ◌++◌, cond, IfOk, length, All, List};
-ghost use Rattle.decimal_input.specs.Decimals.{IsDec};
-ghost use Rattle.outside.specs.Files.{FileSet};
-ghost use Rattle.outside.specs.Folders.{ReadsOn};
-ghost use Rattle.record_lines.specs.Layout.{LinesMay};
-ghost use Rattle.record_lines.specs.Reading.{Gives};
-ghost use Rattle.lpf_package.specs.Forms.{AreLayers};
-ghost use Rattle.lpf_package.specs.Flow.{storage_layer, properties_of, joined};
+ghost use Rattle.decimal_input.specs.{IsDec};
+ghost use Rattle.outside.specs.{FileSet, ReadsOn};
+ghost use Rattle.record_lines.specs.{LinesMay, Gives};
+ghost use Rattle.lpf_package.specs.{AreLayers, storage_layer, properties_of, joined};
 
 use array_reader::{layer_or, read_layer};
 use decimal_input::dec::Dec;

@@ -1,12 +1,9 @@
 // The model with its properties.
 ghost use Rattle.std.specs.Prelude.{◌≡◌, ◌*◌, cond, IfOk, length, not, List};
 ghost use Rattle.std.specs.List.{list_any};
-ghost use Rattle.outside.specs.Names.{TextMay};
-ghost use Rattle.outside.specs.Files.{FileSet};
-ghost use Rattle.outside.specs.Folders.{ReadsOn};
-ghost use Rattle.record_lines.specs.Reading.{Has};
-ghost use Rattle.lpf_package.specs.Forms.{AreLayers, HasProperties};
-ghost use Rattle.lpf_package.specs.Flow.{contents_of, is_transient, with_contents, lpf_of, SameBut};
+ghost use Rattle.outside.specs.{TextMay, FileSet, ReadsOn};
+ghost use Rattle.record_lines.specs.{Has};
+ghost use Rattle.lpf_package.specs.{AreLayers, HasProperties, contents_of, is_transient, with_contents, lpf_of, SameBut};
 
 use crate::layer::Properties;
 use crate::settings::{layers_of, option_line, settings_of};

@@ -1,12 +1,9 @@
 // The first line, and the lists by layer.
 ghost use Rattle.std.specs.Prelude.{◌≡◌, IfOk, length, All, ◌*◌, ◌+◌, cond, List};
-ghost use Rattle.decimal_input.specs.Decimals.{IsDec};
-ghost use Rattle.record_lines.specs.Reading.{GivesText, Gives};
-ghost use Rattle.lpf_package.specs.Flow.{option_line, settings_of, layer_at, layers_of, nth_layer};
-ghost use Rattle.outside.specs.Files.{FileSet};
-ghost use Rattle.outside.specs.Folders.{ReadsOn};
-ghost use Rattle.record_lines.specs.Layout.{LinesMay};
-ghost use Rattle.lpf_package.specs.Forms.{AreLayers};
+ghost use Rattle.decimal_input.specs.{IsDec};
+ghost use Rattle.record_lines.specs.{GivesText, Gives, LinesMay};
+ghost use Rattle.lpf_package.specs.{option_line, settings_of, layer_at, layers_of, nth_layer, AreLayers};
+ghost use Rattle.outside.specs.{FileSet, ReadsOn};
 
 use crate::layer::{Layer, Properties, add_layer, properties_of};
 use array_reader::{has_keyword, integer, next_line, number, plain_ints, plain_reals, zero_list};

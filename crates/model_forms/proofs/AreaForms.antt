@@ -3,10 +3,9 @@ use Rattle.model_forms.proofs.Common.{◌≡◌, ℕ, ◌<◌, ◌≤◌, ℤ, p
 use Rattle.model_forms.proofs.Common.{get_or_default, Dec, FileSet, words, Refusal, line_at, Left, real_layer, Grid, layer_size, HasSize, int_at, area_at}
 use Rattle.model_forms.proofs.Common.{array_or, arrays_of, nothing_yet, AreFlags, IsArea, IsReals, IsWhole, Area, InForce, arrays, Gives, done, goes_on, then_}
 use Rattle.model_forms.proofs.Common.{if_passed, weaker, both, IsShort, IsLayers, is_layer, layer_step, layers_tested, layers_at, not, ◌&&◌, number_at, integer}
-use Rattle.model_forms.proofs.Common.{is_option, option_at, is_negative, flag_at, flag_if, flags_of, if_clear}
+use Rattle.model_forms.proofs.Common.{is_option, option_at, is_negative, flag_at, flag_if, flags_of, if_clear, is_int}
 use Rattle.period_arrays.specs.declared.flags.Contents.{Contents}
 use Rattle.period_arrays.specs.declared.flags.Flags.{Flags}
-use Rattle.model_types.specs.Receivers.{is_int}
 use Rattle.period_arrays.proofs.AreaLemmas.{is_area}
 use Rattle.evt_package.proofs.EvapLemmas.{each_step}
 use Rattle.model_forms.proofs.GridForms.{layer_is}

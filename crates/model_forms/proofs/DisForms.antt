@@ -4,10 +4,10 @@ use Rattle.model_forms.proofs.Common.{cell_count, arrays, Gives, done, goes_on, 
 use Rattle.model_forms.proofs.Common.{All-weaker, Period, IsGrid, IsTimed, begun, dis_of, IsNewPeriod, periods_of, IsShort, IsOfBeds, IsDiscretized, Limits}
 use Rattle.model_forms.proofs.Common.{IsGridWithin, suc, ◌+◌, nat_le, ◌&&◌, ◌∷◌, and_parts, leb-true, All-nil, All-cons, sum_by-cons, refusal, words, BadGrid}
 use Rattle.model_forms.proofs.Common.{line_at, number_at, number, IsTime, known, is_time, time_of, period_of, item_is, number_is, period_at}
-use Rattle.bas_package.specs.Basics.{head_item, basics_of, with_basics, bas_of, option_line}
+use Rattle.bas_package.specs.{head_item, basics_of, with_basics, bas_of, option_line}
 use Rattle.model_forms.proofs.FrameForms.{head_is, count_is}
 use Rattle.model_forms.proofs.GridForms.{grid_is}
-use Rattle.dis_package.specs.Frames.{kind_of}
+use Rattle.dis_package.specs.{kind_of}
 use Rattle.dis_package.proofs.TimeLemmas.{new_of}
 
 -- What is read of the stress periods' lines.

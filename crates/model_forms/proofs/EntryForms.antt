@@ -4,10 +4,9 @@ use Rattle.model_forms.proofs.Common.{sym, ap, ◌∙◌, arith, AllPairs, get_o
 use Rattle.model_forms.proofs.Common.{IsDec, refusal, words, Code, CellOutside, line_at, Left, number_at, number, integer, CellId, Grid, cell_count, HasSize}
 use Rattle.model_forms.proofs.Common.{Kind, first_fault, item_is, number_is, Gives, done, refused, goes_on, then_, if_clear, weaker, repeated_are}
 use Rattle.model_forms.proofs.Common.{repeated_gives, IsEntry, Limits, most_entries, inside, cell_at, passed, entry_of, is_left_out, entry_at, no_marks}
-use Rattle.model_forms.proofs.Common.{new_list}
+use Rattle.model_forms.proofs.Common.{new_list, Differ}
 use Rattle.std.proofs.lemmas.List.Kept.{AllPairs-cons}
 use Rattle.model_types.proofs.Numbering.{cell_within}
-use Rattle.list_package.specs.Forms.{Differ}
 use Rattle.model_forms.proofs.FrameForms.{within_is}
 
 passed_is : (o : Option Code) (file : List ℕ) (line : ℕ) → Gives (λ u. o ≡ None) (passed o file line)

@@ -4,10 +4,9 @@ use Rattle.model_forms.proofs.Common.{None, refl, arith, ℤ, pos, negsuc, if◌
 use Rattle.model_forms.proofs.Common.{All-push, refusal, words, BadGrid, Refusal, line_at, Left, number_at, value_at, value_alone, integer, int_at, is_nonzero}
 use Rattle.model_forms.proofs.Common.{within, zero_at, head_of, IsSize, IsFrame, count_at, size_at, frame_of, Size, IsShort, item_is, value_is, integer_is}
 use Rattle.model_forms.proofs.Common.{Gives, done, refused, goes_on, then_, if_passed, if_clear, repeated_are, Limits, most_layers, most_in_row, most_cells}
-use Rattle.model_forms.proofs.Common.{beds_of}
-use Rattle.record_lines.specs.Spread.{Taking, beginning}
+use Rattle.model_forms.proofs.Common.{beds_of, Taking, beginning}
 use Rattle.model_types.proofs.WideLimits.{layers_few, in_row_few, cells_few}
-use Rattle.dis_package.specs.Frames.{inside}
+use Rattle.dis_package.specs.{inside}
 use Rattle.dis_package.proofs.BedLemmas.{last_of}
 
 -- a count from 1 to a limit

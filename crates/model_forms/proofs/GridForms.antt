@@ -2,8 +2,7 @@
 use Rattle.model_forms.proofs.Common.{◌≡◌, ℕ, ◌+◌, ◌*◌, Bool, true, false, List, length, replicate, All, refl, arith, ℤ, list_all, length-replicate, All-nil}
 use Rattle.model_forms.proofs.Common.{All-append, All-replicate, Dec, IsDec, FileSet, Left, real_layer, real, IsGrid, int_at, is_nonzero, no_number, IsPositive}
 use Rattle.model_forms.proofs.Common.{is_positive, no_number_is, layer_or, IsSize, Size, arrays, array_is, number_is, multiplied_is, Gives, done, then_}
-use Rattle.model_forms.proofs.Common.{if_passed, weaker, IsOfBeds, Limits, IsGridWithin}
-use Rattle.dis_package.specs.Grids.{widths, bottom_at, bottoms_of, grid_of}
+use Rattle.model_forms.proofs.Common.{if_passed, weaker, IsOfBeds, Limits, IsGridWithin, widths, bottom_at, bottoms_of, grid_of}
 use Rattle.number_limits.proofs.SignLemmas.{all_positive_of}
 use Rattle.dis_package.specs.declared.bottoms.Bottoms.{Bottoms}
 use Rattle.model_forms.proofs.FrameForms.{AreBeds, IsSizeWithin}

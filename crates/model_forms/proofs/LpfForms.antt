@@ -4,7 +4,7 @@ use Rattle.model_forms.proofs.Common.{without_comments, Grid, FlowModel, cell_co
 use Rattle.model_forms.proofs.Common.{SameBut, layers_of, lists, Gives, done, goes_on, then_, IsShort, HasFlow, ◌+◌, not, [], replicate, if◌then◌else◌, All-nil}
 use Rattle.model_forms.proofs.Common.{All-append, Dec, real_layer, no_number, is_positive, no_number_is, dec_at_is, storage_layer, properties_of, nth_layer}
 use Rattle.model_forms.proofs.Common.{layer_at, Properties, settings_of}
-use Rattle.lpf_package.specs.Flow.{option_line}
+use Rattle.lpf_package.specs.{option_line}
 use Rattle.lpf_package.specs.declared.model.Contents.{Contents}
 use Rattle.lpf_package.specs.declared.settings.Settings.{Settings}
 use Rattle.model_forms.proofs.GridForms.{layer_is, layer_or_is, IsBedLayer}

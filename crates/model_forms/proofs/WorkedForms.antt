@@ -4,21 +4,19 @@ use Rattle.model_forms.proofs.Common.{Some, None, Ok, refl, sym, ap, ◌∙◌, 
 use Rattle.model_forms.proofs.Common.{Dis, Period, no_number, IsGrid, IsPositive, IsTimed, no_number_is, checked, fault_at, Check, Thickness, given_heads, Kind}
 use Rattle.model_forms.proofs.Common.{wells, rivers, drains, generals, IsShort, number_word, integer_word, IsOfBeds, IsDiscretized, IsBasic, HasFlow, IsEntry}
 use Rattle.model_forms.proofs.Common.{IsListOf, IsDry, IsStill, IsWritable, model_reads, all_plain, scaled, is_at_most, line_text, text, row_line, row_lines}
-use Rattle.model_forms.proofs.Common.{real_array, integer_array, written}
+use Rattle.model_forms.proofs.Common.{real_array, integer_array, written, ratio, floor_of, ceiling_of, is_thick, dis_lines, dis_item_1, dis_item_2, dis_item_3}
+use Rattle.model_forms.proofs.Common.{dis_item_4, dis_item_5, dis_item_6, dis_item_7, bas_lines, bas_item_1, bas_item_2, bas_item_3, bas_item_4, lpf_lines}
+use Rattle.model_forms.proofs.Common.{lpf_item_1, lpf_zeros, lpf_item_4, lpf_item_5, lpf_arrays, file_type, name_item, AreNames}
 use Rattle.std.specs.Fmt.{decimal as numeral}
 use Rattle.std.proofs.lemmas.Fmt.{decimal_digit}
 use Rattle.std.proofs.lemmas.Int.{ints}
-use Rattle.decimal_input.specs.Ratios.{ratio}
-use Rattle.name_file.specs.Reading.{package_of}
+use Rattle.name_file.specs.{package_of}
 use Rattle.model_types.specs.declared.limits.Limits.TheVariants.{Plain}
 use Rattle.name_file.specs.declared.package.Package.{Package}
-use Rattle.number_limits.specs.Room.{floor_of, ceiling_of, is_thick}
-use Rattle.flow_equations.specs.Worked.{decimal, period_with, three_cells}
+use Rattle.flow_equations.specs.{decimal, period_with, three_cells}
 use Rattle.array_text.proofs.WordTexts.{word_by_test}
-use Rattle.model_text.specs.Discretization.{dis_lines, dis_item_1, dis_item_2, dis_item_3, dis_item_4, dis_item_5, dis_item_6, dis_item_7, bas_lines, bas_item_1, bas_item_2, bas_item_3, bas_item_4, lpf_lines, lpf_item_1, lpf_zeros, lpf_item_4, lpf_item_5, lpf_arrays}
-use Rattle.model_text.specs.Names.{file_type, name_item, AreNames}
 use Rattle.model_text.proofs.PackageTexts.{type_is_word, type_reads}
-use Rattle.model_forms.specs.Laws.{name_of_deck, deck, ThreeCells}
+use Rattle.model_forms.specs.{name_of_deck, deck, ThreeCells}
 
 abbrev steady_period : Period
 steady_period = period_with true (decimal 1 0) 1 []

@@ -1,17 +1,15 @@
 -- Statements of laws: a model that is read can be written.
 use Rattle.std.specs.Prelude.{◌≡◌, ℕ, ◌≤◌, List, All, length, Ok, codes}
-use Rattle.outside.specs.Files.{FileSet, with_limit, File}
+use Rattle.outside.specs.{FileSet, with_limit, File}
 use Rattle.name_file.specs.declared.package.Package.{Package}
 use Rattle.model_types.specs.declared.limits.Limits.{Limits}
 use Rattle.model_types.specs.declared.model.FlowModel.{FlowModel}
-use Rattle.model_reader.specs.Model.{reads}
-use Rattle.array_text.specs.Lines.{IsShort}
-use Rattle.model_text.specs.Names.{AreNames, file_type}
-use Rattle.model_text.specs.Written.{written, IsReadAgain}
-use Rattle.model_text.specs.Writable.{IsWritable}
-use Rattle.model_types.specs.Limits.{most_bytes}
+use Rattle.model_reader.specs.{reads}
+use Rattle.array_text.specs.{IsShort}
+use Rattle.model_text.specs.{AreNames, file_type, written, IsReadAgain, IsWritable}
+use Rattle.model_types.specs.{most_bytes}
 use Rattle.model_types.specs.declared.limits.Limits.TheVariants.{Plain}
-use Rattle.flow_equations.specs.Worked.{three_cells}
+use Rattle.flow_equations.specs.{three_cells}
 
 -- A model that is read is writable by the same limits. Each other integer of a file is a word of at most 18 digits; an IBOUND is a word times a multiplier.
 abbrev pub ModelsReadAreWritable : Type 0

@@ -1,1 +1,3 @@
 pub mod Laws
+
+pub use Rattle.model_forms.specs.Laws.{DecksAreReadAgain, ModelsReadAreReadAsWritten, ModelsReadAreWritable, ThreeCells, deck, name_of_deck}

@@ -1,5 +1,5 @@
 // What is read of a model can be written. Each law is the contract of an empty function.
-ghost use Rattle.model_forms.specs.Laws.{DecksAreReadAgain, ModelsReadAreWritable, ModelsReadAreReadAsWritten, ThreeCells};
+ghost use Rattle.model_forms.specs.{DecksAreReadAgain, ModelsReadAreWritable, ModelsReadAreReadAsWritten, ThreeCells};
 
 /// A model that is read is writable, where each IBOUND has at most 18 digits.
 pub fn models_read_are_writable()

@@ -1,7 +1,7 @@
 -- The files of a made model, by the number n of its rows and of its columns: two layers of n by n cells, and one
 -- transient stress period of four steps. `x` is the generator's state where a text's draws begin.
 use Rattle.std.specs.Prelude.{ℕ, zero, suc, ◌+◌, ◌-◌, ◌*◌, List, [], ◌∷◌, ◌++◌, codes, decimal, ◌/◌, ◌%◌}
-use Rattle.outside.specs.Files.{File}
+use Rattle.outside.specs.{File}
 
 -- The generator of the numbers of a made model: linear congruential.
 -- the state after x

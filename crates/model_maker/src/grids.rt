@@ -1,6 +1,6 @@
 // The files of the grid, of IBOUND and of STRT.
 ghost use Rattle.std.specs.Prelude.{◌≡◌, ◌-◌, ◌≤◌, ◌++◌, codes, IfOk};
-ghost use Rattle.model_maker.specs.Files.{bas_text, dis_text, ibound_row, texts_below};
+ghost use Rattle.model_maker.specs.{bas_text, dis_text, ibound_row, texts_below};
 
 use fixed_text::push_number;
 use std::alloc::{AllocError, Global};

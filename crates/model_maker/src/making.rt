@@ -1,6 +1,6 @@
 // All files in one folder. The folder lists the last added file first.
 ghost use Rattle.std.specs.Prelude.{◌≡◌, ◌≤◌, [], ◌∷◌, codes, IfOk, ◌<◌, ◌++◌};
-ghost use Rattle.model_maker.specs.Files.{bas_text, dis_text, file, made_files, made_name, nam_text, rch_text, riv_text, reach_text, texts_below, wel_text};
+ghost use Rattle.model_maker.specs.{bas_text, dis_text, file, made_files, made_name, nam_text, rch_text, riv_text, reach_text, texts_below, wel_text};
 
 use crate::grids::{bas_text, dis_text};
 use crate::properties::{Draws, lpf_text};

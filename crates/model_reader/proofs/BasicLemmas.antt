@@ -2,11 +2,12 @@
 use Rattle.model_reader.proofs.Common.{◌≡◌, ℕ, List, ℤ, Ok, All, length, refl, sym, ap, subst, Dec, IsDec, FileSet, file_at, input_fault, TextFault, Stops}
 use Rattle.model_reader.proofs.Common.{StopsText, FlowModel, IsGrid, cell_count, checked, Thickness, StartHead, each_passed, IsBasic, bas_in, basics_tested}
 use Rattle.model_reader.proofs.Common.{◌+◌, ◌<◌, Result, ◌>>=◌, Has, stress_in, with_stresses, ◌∙◌, drop, drop-cons, get_or, add-one, ReadsOn, ◌≤◌, pos, Bool}
-use Rattle.model_reader.proofs.Common.{true, false, not, cond, ◌&&◌, ◌==◌, [], ◌∷◌, Some, None, or_parts, IsTimed, IsPeriod, IsEvapValid, is_transient, Pairs}
-use Rattle.dis_package.specs.Forms.{IsBegun, IsNewPeriod, without_stresses}
-use Rattle.bas_package.specs.Basics.{bas_of, with_basics}
+use Rattle.model_reader.proofs.Common.{true, false, not, cond, ◌&&◌, ◌==◌, [], ◌∷◌, Some, None, or_parts, IsTimed, IsPeriod, IsEvapValid, is_transient}
+use Rattle.model_reader.proofs.Common.{InputCounts, is_chosen, evap_source, evap_sources, period_at}
+use Rattle.name_file.specs.Pairs.{Pairs}
+use Rattle.dis_package.specs.{IsBegun, IsNewPeriod, without_stresses}
+use Rattle.bas_package.specs.{bas_of, with_basics}
 use Rattle.outside.specs.declared.inputs.Refusal.{Refusal}
-use Rattle.outside.specs.Puts.{InputCounts}
 use Rattle.outside.specs.declared.traits.Folder.{Ghosts as FolderOf}
 use Rattle.outside.specs.declared.inputs.InputFault.{InputFault}
 use Rattle.std.proofs.lemmas.List.{drop_all}
@@ -15,9 +16,6 @@ use Rattle.name_file.specs.declared.package.Package.{Package}
 use Rattle.std.specs.Option.{option_to_list}
 use Rattle.std.proofs.lemmas.List.Elements.{All-nil, All-cons, All-weaker}
 use Rattle.model_types.specs.declared.period.Period.{Period}
-use Rattle.model_types.specs.Receivers.{is_chosen, evap_source}
-use Rattle.model_types.specs.Sources.{evap_sources}
-use Rattle.model_types.specs.Times.{period_at}
 use Rattle.model_types.proofs.NoStresses.{no_stresses_fit}
 use Rattle.outside.specs.declared.inputs.InputFault.TheVariants as input
 use Rattle.outside.specs.declared.inputs.TextFault.TheVariants as texts

@@ -4,23 +4,17 @@ pub use Rattle.std.proofs.Common.{nat_le, nat_lt, not, pos, refl, subst, sym, tr
 pub use Rattle.std.proofs.lemmas.Bool.{and_parts, lt-leb, lt-ltb, not-true, or_parts}
 pub use Rattle.std.proofs.lemmas.Result.{err_from_is_err_and}
 pub use Rattle.cell_checks.proofs.PassedCells.{each_passed}
-pub use Rattle.cell_checks.specs.Checks.{checked, has_good_properties, is_checked_bed}
+pub use Rattle.cell_checks.specs.{checked, has_good_properties, is_checked_bed}
 pub use Rattle.cell_checks.specs.declared.passing.Check.TheVariants.{Properties, StartHead, Thickness}
-pub use Rattle.decimal_input.specs.Decimals.{IsDec, number}
+pub use Rattle.decimal_input.specs.{IsDec, number}
 pub use Rattle.decimal_input.specs.declared.dec.Dec.{Dec}
-pub use Rattle.lpf_package.specs.Flow.{SameBut, is_transient, lpf_of, with_properties}
-pub use Rattle.model_reader.specs.Forms.{IsBasic}
-pub use Rattle.model_reader.specs.Model.{basics_tested, stress_in, stresses}
-unfoldable pub use Rattle.model_reader.specs.Model.{bas_in, lpf_in, model_of, with_stresses}
-pub use Rattle.model_types.specs.Faces.{cell_count, layer_size}
-pub use Rattle.model_types.specs.Grids.{IsGrid}
-pub use Rattle.model_types.specs.Valid.{IsBedChecked, IsBedValid, IsCellValid, IsEvapValid, IsModel, IsPeriod, IsTimed}
+pub use Rattle.lpf_package.specs.{HasProperties, SameBut, is_transient, lpf_of, with_properties}
+pub use Rattle.model_reader.specs.{IsBasic, basics_tested, stress_in, stresses}
+unfoldable pub use Rattle.model_reader.specs.{bas_in, lpf_in, model_of, with_stresses}
+pub use Rattle.model_types.specs.{IsBedChecked, IsBedValid, IsCellValid, IsEvapValid, IsGrid, IsModel, IsPeriod, IsTimed, bottom_at, cell_count, dec_at}
+pub use Rattle.model_types.specs.{evap_source, evap_sources, has_bed, is_active, is_chosen, layer_size, lowest, period_at, top_at}
 pub use Rattle.model_types.specs.declared.model.FlowModel.{FlowModel}
 pub use Rattle.name_file.proofs.Forward.{file_named, names_still}
-pub use Rattle.name_file.specs.Pairs.{NamesMay, Pairs}
-pub use Rattle.outside.specs.Codes.{input_fault}
-pub use Rattle.outside.specs.Files.{FileSet}
-pub use Rattle.outside.specs.Folders.{ReadsOn}
-pub use Rattle.outside.specs.Inputs.{file_at}
+pub use Rattle.outside.specs.{FileSet, InputCounts, ReadsOn, file_at, input_fault}
 pub use Rattle.outside.specs.declared.inputs.TextFault.{TextFault}
-pub use Rattle.record_lines.specs.Reading.{Has, Stops, StopsText, ◌>>=◌}
+pub use Rattle.record_lines.specs.{Has, Stops, StopsText, ◌>>=◌}

@@ -3,12 +3,9 @@ use Rattle.model_reader.proofs.Common.{◌≡◌, ◌⊎◌, inl, inr, ℕ, ◌+
 use Rattle.model_reader.proofs.Common.{length, refl, sym, ap, subst, arith, and_parts, not-true, lt-leb, lt-ltb, Dec, IsDec, number, FileSet, file_at}
 use Rattle.model_reader.proofs.Common.{input_fault, TextFault, Stops, StopsText, FlowModel, IsGrid, layer_size, cell_count, IsModel, IsCellValid, IsBedValid}
 use Rattle.model_reader.proofs.Common.{IsBedChecked, checked, Properties, each_passed, is_transient, lpf_of, with_properties, SameBut, IsBasic, lpf_in}
-use Rattle.model_reader.proofs.Common.{is_checked_bed, has_good_properties}
+use Rattle.model_reader.proofs.Common.{is_checked_bed, has_good_properties, dec_at, is_active, has_bed, top_at, bottom_at, lowest, HasProperties}
 use Rattle.std.proofs.lemmas.Int.{ints}
-use Rattle.model_types.specs.Layers.{dec_at, is_active, has_bed, top_at, bottom_at, lowest}
-use Rattle.lpf_package.specs.Forms.{HasProperties}
-use Rattle.number_limits.specs.Room.{is_thick}
-use Rattle.number_limits.specs.Magnitudes.{is_positive, is_same_number}
+use Rattle.number_limits.specs.{is_thick, is_positive, is_same_number}
 use Rattle.number_limits.proofs.Canonical.{dec_at_is}
 use Rattle.number_limits.proofs.HeadLemmas.{head_of}
 use Rattle.number_limits.proofs.FloorLemmas.{thick_sound}

@@ -1,12 +1,10 @@
 -- What is known of a model after BAS6, whatever the folder returned.
 use Rattle.std.specs.Prelude.{◌≡◌, ℕ, ◌<◌, ◌≤◌, true, pos, All, length, sum_by}
-use Rattle.decimal_input.specs.Decimals.{IsDec}
+use Rattle.decimal_input.specs.{IsDec}
 use Rattle.model_types.specs.declared.model.FlowModel.{FlowModel}
-use Rattle.model_types.specs.Faces.{cell_count}
-use Rattle.model_types.specs.Grids.{IsGrid}
-use Rattle.model_types.specs.Layers.{is_active}
-use Rattle.cell_checks.specs.Checks.{is_thick_cell, has_head}
-use Rattle.dis_package.specs.Forms.{IsNewPeriod}
+use Rattle.model_types.specs.{cell_count, IsGrid, is_active}
+use Rattle.cell_checks.specs.{is_thick_cell, has_head}
+use Rattle.dis_package.specs.{IsNewPeriod}
 
 pub record IsBasic (m : FlowModel) : Type 0 where
   pub grid : IsGrid m.grid

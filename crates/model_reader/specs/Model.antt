@@ -1,24 +1,22 @@
 -- A model from its files, in reading order: each file is read when its turn comes.
 use Rattle.std.specs.Prelude.{ℕ, List, Result, Ok, [], ◌∷◌, unwrap_or, Option, Some, None}
-use Rattle.outside.specs.Files.{FileSet}
-use Rattle.outside.specs.Inputs.{file_at}
+use Rattle.outside.specs.{FileSet, file_at}
 use Rattle.outside.specs.declared.inputs.Refusal.{Refusal}
-use Rattle.record_lines.specs.Reading.{◌>>=◌}
-use Rattle.name_file.specs.Pairs.{Pairs, file_of}
+use Rattle.record_lines.specs.{◌>>=◌}
+use Rattle.name_file.specs.Pairs.{Pairs}
+use Rattle.name_file.specs.{file_of, names_of}
 use Rattle.name_file.specs.declared.package.Package.TheVariants.{Dis, Bas, Lpf, Wel, Riv, Drn, Ghb, Rch, Chd, Evt}
 use Rattle.model_types.specs.declared.limits.Limits.{Limits}
 use Rattle.model_types.specs.declared.model.FlowModel.{FlowModel}
-use Rattle.dis_package.specs.Discretization.{dis_of}
-use Rattle.bas_package.specs.Basics.{bas_of}
-use Rattle.lpf_package.specs.Flow.{lpf_of}
-use Rattle.cell_checks.specs.Checks.{checked}
+use Rattle.dis_package.specs.{dis_of}
+use Rattle.bas_package.specs.{bas_of}
+use Rattle.lpf_package.specs.{lpf_of}
+use Rattle.cell_checks.specs.{checked}
 use Rattle.cell_checks.specs.declared.passing.Check.TheVariants.{Thickness, StartHead, Properties}
-use Rattle.name_file.specs.Reading.{names_of}
 use Rattle.name_file.specs.declared.package.Package.{Package}
-use Rattle.list_package.specs.Entries.{given_heads}
-use Rattle.list_package.specs.Lists.{package_of}
-use Rattle.stress_packages.specs.Packages.{wells, rivers, drains, generals, rch_of}
-use Rattle.evt_package.specs.Evaporation.{evt_of}
+use Rattle.list_package.specs.{given_heads, package_of}
+use Rattle.stress_packages.specs.{wells, rivers, drains, generals, rch_of}
+use Rattle.evt_package.specs.{evt_of}
 
 -- The packages of a model.
 -- the packages that a name file names

@@ -1,18 +1,13 @@
 // DIS, BAS6 and LPF, each with the checks of cells that follow it.
 ghost use Rattle.std.specs.Prelude.{◌≡◌, Ok, All, IfOk, List};
-ghost use Rattle.outside.specs.Files.{FileSet};
-ghost use Rattle.outside.specs.Folders.{ReadsOn};
-ghost use Rattle.outside.specs.Names.{IsGoodName, folder_name, TextMay};
-ghost use Rattle.record_lines.specs.Reading.{Has, HasText};
-ghost use Rattle.decimal_input.specs.Decimals.{IsDec};
-ghost use Rattle.model_types.specs.Grids.{IsGrid};
-ghost use Rattle.model_types.specs.Valid.{IsModel};
-ghost use Rattle.cell_checks.specs.Checks.{checked};
+ghost use Rattle.outside.specs.{FileSet, ReadsOn, IsGoodName, folder_name, TextMay, file_at};
+ghost use Rattle.record_lines.specs.{Has, HasText};
+ghost use Rattle.decimal_input.specs.{IsDec};
+ghost use Rattle.model_types.specs.{IsGrid, IsModel};
+ghost use Rattle.cell_checks.specs.{checked};
 ghost use Rattle.cell_checks.specs.declared.passing.Check.TheVariants.{Thickness, StartHead};
-ghost use Rattle.dis_package.specs.Forms.{IsBegun};
-ghost use Rattle.model_reader.specs.Forms.{IsBasic};
-ghost use Rattle.model_reader.specs.Model.{dis_in, basics_tested, bas_in, lpf_in};
-ghost use Rattle.outside.specs.Inputs.{file_at};
+ghost use Rattle.dis_package.specs.{IsBegun};
+ghost use Rattle.model_reader.specs.{IsBasic, dis_in, basics_tested, bas_in, lpf_in};
 
 use bas_package::read_bas;
 use cell_checks::{Check, check_cells};

@@ -1,12 +1,10 @@
 // A model in reading order.
 ghost use Rattle.std.specs.Prelude.{◌≡◌, IfOk, List, Contains, IsTrue, unwrap_or, []};
-ghost use Rattle.outside.specs.Files.{FileSet};
-ghost use Rattle.outside.specs.Folders.{ReadsOn};
-ghost use Rattle.outside.specs.Names.{IsGoodName, folder_name};
-ghost use Rattle.record_lines.specs.Reading.{Has};
-ghost use Rattle.name_file.specs.Pairs.{NamesMay, file_of, is_needed};
-ghost use Rattle.model_types.specs.Valid.{IsModel};
-ghost use Rattle.model_reader.specs.Model.{model_of, reads, names_in, needed};
+ghost use Rattle.outside.specs.{FileSet, ReadsOn, IsGoodName, folder_name};
+ghost use Rattle.record_lines.specs.{Has};
+ghost use Rattle.name_file.specs.{NamesMay, file_of, is_needed};
+ghost use Rattle.model_types.specs.{IsModel};
+ghost use Rattle.model_reader.specs.{model_of, reads, names_in, needed};
 
 use crate::basics::{bas_in, dis_in, lpf_in};
 use crate::stresses::with_stresses;

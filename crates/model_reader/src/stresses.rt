@@ -3,13 +3,11 @@
 //
 // Each is read where the name file names it.
 ghost use Rattle.std.specs.Prelude.{IfOk};
-ghost use Rattle.outside.specs.Names.{TextMay};
-ghost use Rattle.outside.specs.Files.{FileSet};
-ghost use Rattle.outside.specs.Folders.{ReadsOn};
-ghost use Rattle.record_lines.specs.Reading.{Has};
-ghost use Rattle.name_file.specs.Pairs.{NamesMay};
-ghost use Rattle.model_types.specs.Valid.{IsModel};
-ghost use Rattle.model_reader.specs.Model.{stress_in, stress_of, stresses, with_stresses};
+ghost use Rattle.outside.specs.{TextMay, FileSet, ReadsOn};
+ghost use Rattle.record_lines.specs.{Has};
+ghost use Rattle.name_file.specs.{NamesMay};
+ghost use Rattle.model_types.specs.{IsModel};
+ghost use Rattle.model_reader.specs.{stress_in, stress_of, stresses, with_stresses};
 
 use crate::basics::open_file;
 use chd_package::read_chd;

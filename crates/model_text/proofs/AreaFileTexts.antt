@@ -4,10 +4,9 @@ use Rattle.model_text.proofs.Common.{Dec, FileSet, Grid, HasSize, is_int, real_l
 use Rattle.model_text.proofs.Common.{integer_word, Line, IsLine, text, real_array, line_by_test, IsEvaporating, IsLayers, IsRecharged, with_areas, flat_map}
 use Rattle.model_text.proofs.Common.{FlowModel, Period, AllZip, ArrayKind, with_area, recharge_arrays, rch_of, area_in, evaporation_arrays, evt_of, rch_item_2}
 use Rattle.model_text.proofs.Common.{rch_items, rch_lines, evt_item_2, evt_items, evt_lines, contents, Takes, takes_none, takes_where, then_takes, last_takes}
-use Rattle.model_text.proofs.Common.{line_takes}
+use Rattle.model_text.proofs.Common.{line_takes, arrays_in, option_line, period_at, periods_of, tested_area, unit_if}
 use Rattle.model_text.proofs.FrameTexts.{zero_item}
 use Rattle.model_text.proofs.DisTexts.{line_is_item}
-use Rattle.period_arrays.specs.Packages.{arrays_in, option_line, period_at, periods_of, tested_area, unit_if}
 use Rattle.period_arrays.specs.declared.area.Area.{Area}
 use Rattle.period_arrays.specs.declared.area.InForce.{InForce}
 use Rattle.model_text.proofs.GridTexts.{reals_take}

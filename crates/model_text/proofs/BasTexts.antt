@@ -4,9 +4,9 @@ use Rattle.model_text.proofs.Common.{range_with_len, drop_all, drop-drop, take-a
 use Rattle.model_text.proofs.Common.{real_layer, integer_layer, layers, Grid, FlowModel, layer_size, cell_count, IsShort, Line, line_text, text, line_by_test}
 use Rattle.model_text.proofs.Common.{arrays, layer_values, each_layer, IsDiscretized, IsBasic, head_item, basics_of, with_basics, bas_of, bas_item_1}
 use Rattle.model_text.proofs.Common.{bas_item_2, bas_item_3, bas_item_4, bas_lines, Takes, takes_none, then_takes, last_takes, line_takes}
-use Rattle.array_reader.specs.Numbers.{whole}
-use Rattle.bas_package.specs.Basics.{option_line}
-use Rattle.model_text.specs.Discretization.{real_layer as real_layer_lines, integer_layer as integer_layer_lines}
+use Rattle.array_reader.specs.{whole}
+use Rattle.bas_package.specs.{option_line}
+use Rattle.model_text.specs.{real_layer as real_layer_lines, integer_layer as integer_layer_lines}
 use Rattle.model_text.proofs.FileTakes.{file_takes}
 use Rattle.model_text.proofs.GridTexts.{layer_length, layer_has, layer_takes}
 use Rattle.model_text.proofs.FrameTexts.{zero_number_item}

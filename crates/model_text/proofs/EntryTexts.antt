@@ -4,10 +4,9 @@ use Rattle.model_text.proofs.Common.{decimal, All-append, All-map, All-weaker, A
 use Rattle.model_text.proofs.Common.{layer_of, row_of, column_of, place, HasSize, row_below, column_below, layer_below, entry_of, entry_at, is_left_out}
 use Rattle.model_text.proofs.Common.{no_marks, new_list, Kind, first_fault, IsWord, number_word, Line, IsLine, count_is_word, list_item_6, IsEntry, IsDec}
 use Rattle.model_text.proofs.Common.{number_at, number, zero, suc, cond, replicate, ◌∙◌, AllPairs, get_or-set_other, Takes, takes_none, then_takes, last_takes}
-use Rattle.model_text.proofs.Common.{line_takes}
+use Rattle.model_text.proofs.Common.{line_takes, Differ}
 use Rattle.model_text.proofs.FrameTexts.{decimal_item, number_item, is_entry, cell_reads}
 use Rattle.model_text.proofs.TimeTexts.{canonical_word}
-use Rattle.list_package.specs.Forms.{Differ}
 
 -- The cells of a list's entries are not marked when their turn comes.
 module _ {E : Type 0} (kind : Kind E) where

@@ -4,11 +4,10 @@ use Rattle.model_text.proofs.Common.{refl, arith, list_all, All-head, All-tail, 
 use Rattle.model_text.proofs.Common.{cell_count, HasSize, IsGrid, int_at, is_nonzero, no_number, IsPositive, is_positive, layer_or, number_word, real_array}
 use Rattle.model_text.proofs.Common.{one, real_one, reals_written, arrays, layer_values, each_layer, dis_item_3, dis_item_4, dis_item_5, dis_item_6, IsOfBeds}
 use Rattle.model_text.proofs.Common.{zero, suc, ◌-◌, drop, ap, ◌∙◌, length-drop, length-take-le, take_all, All-take, All-drop, array_takes, Takes, takes_none}
-use Rattle.model_text.proofs.Common.{takes_where, then_takes, last_takes, counted_take}
-use Rattle.dis_package.specs.Grids.{widths, bottom_at, bottoms_of, grid_of}
+use Rattle.model_text.proofs.Common.{takes_where, then_takes, last_takes, counted_take, widths, bottom_at, bottoms_of, grid_of}
 use Rattle.dis_package.specs.declared.frame.Size.{Size}
 use Rattle.dis_package.specs.declared.bottoms.Bottoms.{Bottoms}
-use Rattle.model_text.specs.Discretization.{real_layer as real_layer_lines}
+use Rattle.model_text.specs.{real_layer as real_layer_lines}
 use Rattle.std.proofs.Math.Nat.{mul-le-mul_right}
 
 take_more : {X : Type 0} (a b : ℕ) (xs : List X) → take a xs ++ take b (drop a xs) ≡ take (a + b) xs

@@ -10,7 +10,7 @@ use Rattle.model_text.proofs.DisTexts.{line_is_item}
 use Rattle.model_text.proofs.SettingTexts.{settings_take, option_takes, minus_one}
 use Rattle.model_text.proofs.FileTakes.{file_takes}
 use Rattle.lpf_package.specs.declared.layer.Properties.{Properties}
-use Rattle.model_text.specs.Discretization.{real_layer}
+use Rattle.model_text.specs.{real_layer}
 
 -- LPF items 10 to 15 of a layer are read as written.
 take_none : {X : Type 0} (n : ℕ) → take {A = X} n [] ≡ []

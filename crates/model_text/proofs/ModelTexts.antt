@@ -5,7 +5,7 @@ use Rattle.model_text.proofs.Common.{FlowModel, Period, HasSize, stress_in, stre
 use Rattle.model_text.proofs.Common.{lines_of, written, IsWritable, IsDry, IsStill, Limits, cell_of, begun, without_stresses, with_basics, wells, rivers}
 use Rattle.model_text.proofs.Common.{drains, generals, given_heads, names_in, needed, dis_in, basics_tested, bas_in, lpf_in, model_of, reads}
 use Rattle.model_text.proofs.DisTexts.{dis_reads}
-use Rattle.cell_checks.specs.Checks.{checked, fault_at}
+use Rattle.cell_checks.specs.{checked, fault_at}
 use Rattle.cell_checks.specs.declared.passing.Check.TheVariants.{Thickness, StartHead, Properties}
 use Rattle.model_text.proofs.BasTexts.{bas_reads}
 use Rattle.model_text.proofs.LpfTexts.{lpf_reads}

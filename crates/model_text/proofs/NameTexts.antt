@@ -4,7 +4,7 @@ use Rattle.model_text.proofs.Common.{refl, arith, list_all, list_any, append-nil
 use Rattle.model_text.proofs.Common.{is_good_name, next_number, Pairs, is_same_package, file_of, has_package, file_in, after_package, after_line, after_lines}
 use Rattle.model_text.proofs.Common.{names_of, Package, Dis, Bas, Lpf, IsWord, IsWordByte, Line, IsLine, line_text, text, numbered_lines, unread, packages}
 use Rattle.model_text.proofs.Common.{file_type, file_unit, name_item, IsFileName, AreNames, is_same, is_itself, word_at, name_at, line_words, text_left}
-use Rattle.name_file.specs.Reading.{whole}
+use Rattle.name_file.specs.{whole}
 use Rattle.model_text.proofs.DisTexts.{line_is_item}
 use Rattle.model_text.proofs.PackageTexts.{type_is_word, unit_is_word, type_is_item, type_reads, type_is_kept, unit_is_integer, AreApart, packages_apart}
 

@@ -5,7 +5,7 @@ use Rattle.model_text.proofs.Common.{number, integer, canonical, significant, ze
 use Rattle.model_text.proofs.Common.{Line, IsLine, unread, number_after, row_line, word_by_test, line_by_test, IsWrittenAs, on_line, value_reads, line_begins}
 use Rattle.model_text.proofs.Common.{free_list_reads, free_lists, storage_option, lpf_item_1, lpf_zeros, lpf_item_4, lpf_item_5, IsDiscretized, HasFlow}
 use Rattle.model_text.proofs.Common.{is_word, settings_of, Takes, one_line, takes_none, then_takes, last_takes, line_takes}
-use Rattle.lpf_package.specs.Flow.{option_line}
+use Rattle.lpf_package.specs.{option_line}
 use Rattle.model_text.proofs.FrameTexts.{zero_item, zero_number_item}
 
 zero_word : IsWord (codes "0")

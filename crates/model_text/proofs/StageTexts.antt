@@ -5,9 +5,8 @@ use Rattle.model_text.proofs.Common.{All-tail, FileSet, file_at, FlowModel, Peri
 use Rattle.model_text.proofs.Common.{HasNoRecharge, HasNoEvaporation, Limits, Dec, cell_count, is_int, Kind, is_option, ArrayKind, with_area, recharge_arrays}
 use Rattle.model_text.proofs.Common.{evaporation_arrays, IsListOf, with_lists, ListsReadAsWritten, rch_lines, evt_lines, IsRecharged, IsEvaporating, with_areas}
 use Rattle.model_text.proofs.Common.{evt_of, rch_of}
-use Rattle.list_package.specs.Kinds.{with_list as put}
-use Rattle.list_package.specs.Lists.{package_of}
-use Rattle.model_reader.specs.Model.{file_in}
+use Rattle.list_package.specs.{with_list as put, package_of}
+use Rattle.model_reader.specs.{file_in}
 use Rattle.model_text.proofs.AreaFileTexts.{evt_reads, rch_reads}
 
 -- the model with these options, and with each period at this stage

@@ -3,11 +3,10 @@ use Rattle.model_text.proofs.Common.{◌≡◌, ℕ, ◌+◌, ◌*◌, ◌≤◌
 use Rattle.model_text.proofs.Common.{refl, arith, codes, decimal, All-nil, All-cons, All-head, All-tail, nat_tests, Dec, IsDec, size, Refusal, repeated, Period}
 use Rattle.model_text.proofs.Common.{is_one, without_stresses, IsWord, number_word, IsLine, short_exponent, word_by_test, number_is_word, count_is_word}
 use Rattle.model_text.proofs.Common.{steady_word, dis_item_7, is_at_most, is_at_least, kind_of, known, is_growth, is_time, time_of, Takes, takes_none}
-use Rattle.model_text.proofs.Common.{line_takes, then_takes, last_takes}
-use Rattle.model_types.specs.Valid.{IsTimed, IsGrowing, number_one}
+use Rattle.model_text.proofs.Common.{line_takes, then_takes, last_takes, IsTimed, IsGrowing, number_one, Ratio, ratio}
 use Rattle.std.proofs.lemmas.List.Sums.{sum_by_from}
-use Rattle.decimal_input.specs.Ratios.{Ratio, ratio, den, AtMost}
-use Rattle.dis_package.specs.Frames.{period_at, periods_of}
+use Rattle.decimal_input.specs.Ratios.{den, AtMost}
+use Rattle.dis_package.specs.{period_at, periods_of}
 use Rattle.dis_package.specs.declared.periods.Time.{Time}
 use Rattle.model_text.proofs.FrameTexts.{number_item, count_reads}
 use Rattle.model_text.proofs.GridTexts.{is_above}

@@ -3,12 +3,11 @@ use Rattle.std.specs.Prelude.{ℕ, Bool, true, false, List, [], ◌∷◌, ◌++
 use Rattle.model_types.specs.declared.grid.Grid.{Grid}
 use Rattle.model_types.specs.declared.model.FlowModel.{FlowModel}
 use Rattle.model_types.specs.declared.period.Period.{Period}
-use Rattle.model_types.specs.Layers.{int_at, is_nonzero}
-use Rattle.array_text.specs.Lines.{number_word, integer_word, Line, row_line, real_array, integer_array}
+use Rattle.model_types.specs.{int_at, is_nonzero, layer_size}
+use Rattle.array_text.specs.{number_word, integer_word, Line, row_line, real_array, integer_array}
 use Rattle.std.specs.List.{flat_map, range_with_len}
 use Rattle.decimal_input.specs.declared.dec.Dec.{Dec}
-use Rattle.model_types.specs.Faces.{layer_size}
-use Rattle.lpf_package.specs.Flow.{is_transient}
+use Rattle.lpf_package.specs.{is_transient}
 
 -- Lists by cell, layer by layer.
 module _ (g : Grid) where

@@ -1,34 +1,28 @@
 -- Statements of laws: a model is read as written.
 use Rattle.std.specs.Prelude.{◌≡◌, ℕ, ◌≤◌, List, All, length, Ok, map}
 use Rattle.name_file.specs.declared.package.Package.{Package}
-use Rattle.outside.specs.Files.{with_limit, FileSet}
+use Rattle.outside.specs.{with_limit, FileSet}
 use Rattle.model_types.specs.declared.limits.Limits.{Limits}
 use Rattle.model_types.specs.declared.model.FlowModel.{FlowModel}
-use Rattle.model_reader.specs.Model.{reads}
+use Rattle.model_reader.specs.{reads}
 use Rattle.model_text.specs.Names.{AreNames}
 use Rattle.model_text.specs.Written.{written, deck_name, deck_names}
 use Rattle.model_text.specs.Writable.{IsWritable, IsListOf, with_lists}
-use Rattle.model_types.specs.Grids.{HasSize}
-use Rattle.stress_packages.specs.Packages.{rch_of, recharge_arrays, wells, rivers, drains, generals}
-use Rattle.evt_package.specs.Evaporation.{evaporation_arrays, evt_of}
-use Rattle.array_text.specs.Lines.{text}
+use Rattle.model_types.specs.{HasSize, cell_count, cell_of}
+use Rattle.stress_packages.specs.{rch_of, recharge_arrays, wells, rivers, drains, generals}
+use Rattle.evt_package.specs.{evaporation_arrays, evt_of}
+use Rattle.array_text.specs.{text}
 use Rattle.model_text.specs.Lists.{rch_lines, evt_lines, numbers_of, heads_of, list_lines}
-use Rattle.model_text.specs.Readable.{IsRecharged, IsEvaporating, with_areas}
+use Rattle.model_text.specs.Readable.{IsRecharged, IsEvaporating, with_areas, IsDiscretized, IsGridWithin, IsBasic, HasFlow}
 use Rattle.std.specs.List.{AllZip}
 use Rattle.decimal_input.specs.declared.dec.Dec.{Dec}
 use Rattle.model_types.specs.declared.grid.Grid.{Grid}
 use Rattle.model_types.specs.declared.period.Period.{Period}
-use Rattle.model_types.specs.Faces.{cell_count}
-use Rattle.model_types.specs.Sources.{cell_of}
-use Rattle.list_package.specs.Entries.{given_heads}
-use Rattle.list_package.specs.Kinds.{Kind}
-use Rattle.list_package.specs.Lists.{lists_of}
-use Rattle.dis_package.specs.Discretization.{begun, dis_of}
-use Rattle.dis_package.specs.Forms.{without_stresses}
-use Rattle.bas_package.specs.Basics.{with_basics, bas_of}
-use Rattle.lpf_package.specs.Flow.{with_properties, lpf_of}
+use Rattle.list_package.specs.{given_heads, Kind, lists_of}
+use Rattle.dis_package.specs.{begun, dis_of, without_stresses}
+use Rattle.bas_package.specs.{with_basics, bas_of}
+use Rattle.lpf_package.specs.{with_properties, lpf_of}
 use Rattle.model_text.specs.Discretization.{dis_lines, bas_lines, lpf_lines}
-use Rattle.model_text.specs.Readable.{IsDiscretized, IsGridWithin, IsBasic, HasFlow}
 
 -- the files of a model, of which none is too long, are read as the model by limits that it keeps
 abbrev pub ModelsReadAsWritten : Type 0

@@ -7,11 +7,9 @@ use Rattle.model_types.specs.declared.entry.Entry.TheVariants.{Well, River, Drai
 use Rattle.model_types.specs.declared.entry.Given.{Given}
 use Rattle.model_types.specs.declared.grid.Grid.{Grid}
 use Rattle.model_types.specs.declared.model.FlowModel.{FlowModel}
-use Rattle.model_types.specs.Faces.{place}
-use Rattle.model_types.specs.Sources.{cell_of}
-use Rattle.array_text.specs.Lines.{number_word, Line, integer_word, real_array, integer_array}
+use Rattle.model_types.specs.{place, cell_of, is_int}
+use Rattle.array_text.specs.{number_word, Line, integer_word, real_array, integer_array}
 use Rattle.model_types.specs.declared.period.Period.{Period}
-use Rattle.model_types.specs.Receivers.{is_int}
 
 -- WEL: Q; RIV: Stage Cond Rbot; DRN: Elevation Cond; GHB: Bhead Cond
 abbrev pub numbers_of : Entry → List Dec

@@ -2,7 +2,7 @@
 use Rattle.std.specs.Prelude.{◌≡◌, ℕ, ◌≤◌, List, [], ◌∷◌, All, length, codes}
 use Rattle.name_file.specs.declared.package.Package.{Package}
 use Rattle.name_file.specs.declared.package.Package.TheVariants.{Dis, Bas, Lpf, Wel, Riv, Drn, Ghb, Rch, Chd, Evt}
-use Rattle.array_text.specs.Lines.{IsWord, Line}
+use Rattle.array_text.specs.{IsWord, Line}
 
 -- the packages that this program reads, in the order in which it reads them
 abbrev pub packages : List Package

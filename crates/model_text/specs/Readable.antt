@@ -3,21 +3,14 @@ use Rattle.std.specs.Prelude.{◌≡◌, ℕ, ◌<◌, ℤ, true, false, List, [
 use Rattle.model_types.specs.declared.model.FlowModel.{FlowModel}
 use Rattle.model_types.specs.declared.grid.Grid.{Grid}
 use Rattle.model_types.specs.declared.period.Period.{Period}
-use Rattle.model_types.specs.Faces.{layer_size, cell_count}
-use Rattle.model_types.specs.Layers.{int_at, is_nonzero, no_number}
-use Rattle.model_types.specs.Receivers.{is_int}
-use Rattle.period_arrays.specs.Areas.{is_option, is_layer}
-use Rattle.period_arrays.specs.Forms.{IsReals, IsWhole}
-use Rattle.period_arrays.specs.Kinds.{ArrayKind, with_area}
-use Rattle.evt_package.specs.Evaporation.{columns_tested, area_in}
-use Rattle.array_text.specs.Lines.{IsShort}
+use Rattle.model_types.specs.{layer_size, cell_count, int_at, is_nonzero, no_number, is_int, IsGrid, most_layers, most_in_row, most_cells, IsTimed}
+use Rattle.period_arrays.specs.{is_option, is_layer, IsReals, IsWhole, ArrayKind, with_area}
+use Rattle.evt_package.specs.{columns_tested, area_in}
+use Rattle.array_text.specs.{IsShort}
 use Rattle.decimal_input.specs.declared.dec.Dec.{Dec}
-use Rattle.decimal_input.specs.Decimals.{IsDec}
+use Rattle.decimal_input.specs.{IsDec}
 use Rattle.model_types.specs.declared.limits.Limits.{Limits}
-use Rattle.model_types.specs.Grids.{IsGrid}
-use Rattle.model_types.specs.Limits.{most_layers, most_in_row, most_cells}
-use Rattle.model_types.specs.Valid.{IsTimed}
-use Rattle.lpf_package.specs.Flow.{is_transient}
+use Rattle.lpf_package.specs.{is_transient}
 use Rattle.model_text.specs.Discretization.{layer_values}
 
 -- IRCH or IEVT: layers of the grid, or 0, under option 2; else nothing

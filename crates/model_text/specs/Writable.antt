@@ -3,19 +3,16 @@ use Rattle.std.specs.Prelude.{◌≡◌, ◌⊎◌, ℕ, pos, List, [], All, Ok,
 use Rattle.model_types.specs.declared.limits.Limits.{Limits}
 use Rattle.model_types.specs.declared.model.FlowModel.{FlowModel}
 use Rattle.model_types.specs.declared.period.Period.{Period}
-use Rattle.model_types.specs.Faces.{cell_count}
-use Rattle.cell_checks.specs.Checks.{checked}
+use Rattle.model_types.specs.{cell_count, most_entries}
+use Rattle.cell_checks.specs.{checked}
 use Rattle.cell_checks.specs.declared.passing.Check.{Check}
-use Rattle.list_package.specs.Entries.{given_heads}
-use Rattle.list_package.specs.Kinds.{Kind, first_fault, with_list}
-use Rattle.stress_packages.specs.Packages.{wells, rivers, drains, generals}
+use Rattle.list_package.specs.{given_heads, Kind, first_fault, with_list, Differ}
+use Rattle.stress_packages.specs.{wells, rivers, drains, generals}
 use Rattle.model_text.specs.Readable.{IsDiscretized, IsGridWithin, IsBasic, HasFlow, IsRecharged, IsEvaporating}
 use Rattle.std.specs.List.{AllPairs}
 use Rattle.decimal_input.specs.declared.dec.Dec.{Dec}
-use Rattle.decimal_input.specs.Decimals.{IsDec}
+use Rattle.decimal_input.specs.{IsDec}
 use Rattle.model_types.specs.declared.grid.CellId.{CellId}
-use Rattle.model_types.specs.Limits.{most_entries}
-use Rattle.list_package.specs.Forms.{Differ}
 
 -- What is asked of the lists of a package, so that its file can say them.
 -- x is the entry of a cell of the grid, with a number in canonical form for each column, which pass their tests

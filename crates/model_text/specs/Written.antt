@@ -1,19 +1,18 @@
 -- A model as the files of a deck.
 use Rattle.std.specs.Prelude.{ℕ, Bool, true, not, nat_lt, List, ◌∷◌, map, filter, length, ◌≡◌, ◌≤◌, [], ◌++◌, All, codes, Ok}
 use Rattle.std.specs.List.{list_any, flat_map}
-use Rattle.outside.specs.Files.{File, with_limit}
+use Rattle.outside.specs.{File, with_limit}
 use Rattle.name_file.specs.declared.package.Package.{Package}
 use Rattle.name_file.specs.declared.package.Package.TheVariants.{Dis, Bas, Lpf, Wel, Riv, Drn, Ghb, Rch, Chd, Evt}
 use Rattle.model_types.specs.declared.model.FlowModel.{FlowModel}
 use Rattle.model_types.specs.declared.period.Period.{Period}
-use Rattle.model_types.specs.Receivers.{is_int}
-use Rattle.array_text.specs.Lines.{Line, text, IsShort}
+use Rattle.model_types.specs.{is_int, most_bytes}
+use Rattle.array_text.specs.{Line, text, IsShort}
 use Rattle.model_text.specs.Discretization.{dis_lines, bas_lines, lpf_lines}
 use Rattle.model_text.specs.Lists.{wel_lines, riv_lines, drn_lines, ghb_lines, chd_lines, rch_lines, evt_lines}
 use Rattle.model_text.specs.Names.{packages, name_item}
-use Rattle.model_types.specs.Limits.{most_bytes}
 use Rattle.model_types.specs.declared.limits.Limits.{Limits}
-use Rattle.model_reader.specs.Model.{reads}
+use Rattle.model_reader.specs.{reads}
 
 -- whether a stress period has an entry in its list
 abbrev pub is_listed : {E : Type 0} → (Period → List E) → List Period → Bool

@@ -1,6 +1,6 @@
 // A model is read as written. Each law is the contract of an empty function.
-ghost use Rattle.model_text.specs.Laws.{DeckNamesAreNames, ModelsReadAsWritten, RchReadsAsWritten, EvtReadsAsWritten, ListPackagesReadAsWritten};
-ghost use Rattle.model_text.specs.Laws.{DisReadsAsWritten, BasReadsAsWritten, LpfReadsAsWritten};
+ghost use Rattle.model_text.specs.{DeckNamesAreNames, ModelsReadAsWritten, RchReadsAsWritten, EvtReadsAsWritten, ListPackagesReadAsWritten, DisReadsAsWritten};
+ghost use Rattle.model_text.specs.{BasReadsAsWritten, LpfReadsAsWritten};
 
 /// The files of a model, with good names and at most 64 MiB each, are read as the model.
 #[tactic(auto, using(crate::proofs::ModelTexts::model_reads))]

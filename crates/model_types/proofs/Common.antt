@@ -10,13 +10,11 @@ pub use Rattle.std.proofs.lemmas.List.FromFn.{fill_by_all, get_or-map-range_with
 pub use Rattle.std.proofs.lemmas.Nat.{div-add-mod', div-mul-add, div_below, mod-mul-add, mod_below, mul-add-lt}
 pub use Rattle.std.specs.List.{Contains, cons_option, filter, filter_map, find, flat_map, list_any, range_with_len, sum_by}
 pub use Rattle.std.specs.Prelude.{min, nat_le, nat_lt, replicate, reverse, ◌==◌}
-pub use Rattle.model_types.specs.Faces.{back, cell_count, cell_number, column_of, down, face_after, face_before, faces, front, has_after, has_before, layer_of}
-pub use Rattle.model_types.specs.Faces.{layer_size, left, place, right, row_of, span, stride, through, up}
-pub use Rattle.model_types.specs.Grids.{HasSize, IsInGrid, IsPlace}
-pub use Rattle.model_types.specs.Heads.{kind_of, last_given}
-unfoldable pub use Rattle.model_types.specs.Heads.{given_heads, given_in, kinds}
-pub use Rattle.model_types.specs.Times.{no_period, no_stresses, period_at, steps_of}
-unfoldable pub use Rattle.model_types.specs.Times.{geometric, power}
+pub use Rattle.model_types.specs.{AreStresses, HasSize, IsEntryList, IsEntryValid, IsGivenList, IsGivenValid, IsInGrid, IsPlace, back, cell_count, cell_number}
+pub use Rattle.model_types.specs.{column_of, down, face_after, face_before, faces, front, has_after, has_before, is_int, kind_of, last_given, layer_of}
+pub use Rattle.model_types.specs.{layer_size, left, most_cells, most_entries, most_in_row, most_layers, no_number, no_period, no_stresses, one, period_at}
+pub use Rattle.model_types.specs.{place, right, row_of, span, steps_of, stride, through, up}
+unfoldable pub use Rattle.model_types.specs.{geometric, given_heads, given_in, kinds, power}
 pub use Rattle.model_types.specs.declared.entry.Given.{Given}
 pub use Rattle.model_types.specs.declared.face.Axis.TheVariants.{Column, Row, Vertical}
 pub use Rattle.model_types.specs.declared.face.Face.{Face}

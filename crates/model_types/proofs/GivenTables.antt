@@ -3,8 +3,7 @@ use Rattle.model_types.proofs.Common.{◌≡◌, ℕ, ◌+◌, ◌<◌, inl, inr
 use Rattle.model_types.proofs.Common.{arith, All, ◌==◌, replicate, range_with_len, flat_map, cases_eq, cond-true, cond-false, eq-eqb, ne_eqb, length-set}
 use Rattle.model_types.proofs.Common.{get_or-set_other, length-replicate, get_or-replicate, get_or_read, take_more, flat_map_more, append_assoc, All-get_or}
 use Rattle.model_types.proofs.Common.{length-map-range_with_len, get_or-map-range_with_len, fill_by_all, Given, Period, FlowModel, cell_count, period_at}
-use Rattle.model_types.proofs.Common.{no_period, given_in, given_heads}
-use Rattle.model_types.specs.Layers.{no_number}
+use Rattle.model_types.proofs.Common.{no_period, given_in, given_heads, no_number}
 use Rattle.std.proofs.lemmas.Grind.{get_or-set_at}
 use Rattle.model_types.specs.declared.given_heads.GivenHeads.{GivenHeads}
 use Rattle.model_types.proofs.LastGiven.{given_more}

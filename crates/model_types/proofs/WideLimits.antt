@@ -1,8 +1,7 @@
 -- No limit is above the wide one.
-use Rattle.std.proofs.Common.{◌≤◌, arith}
+use Rattle.model_types.proofs.Common.{◌≤◌, arith, most_layers, most_in_row, most_cells, most_entries}
 use Rattle.model_types.specs.declared.limits.Limits.{Limits}
 use Rattle.model_types.specs.declared.limits.Limits.TheVariants.{Plain, Wide}
-use Rattle.model_types.specs.Limits.{most_layers, most_in_row, most_cells, most_entries}
 
 pub layers_few : (l : Limits) → most_layers l ≤ 1024
 layers_few Plain = omega arith

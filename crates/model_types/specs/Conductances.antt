@@ -1,8 +1,8 @@
 -- The conductances between cells, exactly (TM 6-A16, chapter 5, LPF with harmonic means). Two half-cells lie in a
 -- row: their resistances add up, and the conductance is one over the sum.
 use Rattle.std.specs.Prelude.{ℕ, ◌+◌}
-use Rattle.decimal_input.specs.Decimals.{size}
-use Rattle.decimal_input.specs.Ratios.{Ratio, ratio, plus, times, over}
+use Rattle.decimal_input.specs.{size, Ratio, ratio, over}
+use Rattle.decimal_input.specs.Ratios.{plus, times}
 use Rattle.model_types.specs.declared.model.FlowModel.{FlowModel}
 use Rattle.model_types.specs.declared.face.Axis.{Axis}
 use Rattle.model_types.specs.declared.face.Axis.TheVariants.{Row, Column, Vertical}

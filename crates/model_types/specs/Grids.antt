@@ -1,12 +1,11 @@
 -- What DIS promises of a grid: its limits, and the lengths and the signs of its lists.
 use Rattle.std.specs.Prelude.{◌≡◌, ◌-◌, ◌<◌, ◌≤◌, ℕ, pos, All, length, Option, IfSome, ◌^◌, ℤ, neg_ℤ, ◌+ℤ◌, ◌≤ℤ◌, false, unsigned_abs}
-use Rattle.decimal_input.specs.Decimals.{IsDec, number}
+use Rattle.decimal_input.specs.{IsDec, number, EnclosesSigned, IsSignedFloor, IsSignedCeiling}
 use Rattle.model_types.specs.declared.grid.Grid.{Grid}
 use Rattle.model_types.specs.declared.face.Face.{Face}
 use Rattle.model_types.specs.Faces.{layer_size, cell_count}
 use Rattle.model_types.specs.Layers.{int_at}
 use Rattle.decimal_input.specs.declared.dec.Dec.{Dec}
-use Rattle.decimal_input.specs.Wholes.{EnclosesSigned, IsSignedFloor, IsSignedCeiling}
 
 -- The tests of the readers on single numbers of the input. The limits are this program's own.
 -- above 0

@@ -1,8 +1,7 @@
 -- The heads of constant-head cells (TM 6-A16, chapters 4 and 6, BAS and CHD; where the manual leaves room, this program's choice).
 use Rattle.std.specs.Prelude.{ℕ, ◌-◌, Option, Some, None, take, pos, Bool, cond, not, ◌&&◌, ◌==◌, int_lt, List, length, filter, map, is_some, reverse}
-use Rattle.decimal_input.specs.Decimals.{number}
-use Rattle.decimal_input.specs.Ratios.{Ratio}
-use Rattle.decimal_input.specs.Fractions.{Fraction, signed, negated, plus, times}
+use Rattle.decimal_input.specs.{number, Ratio, Fraction, signed, negated}
+use Rattle.decimal_input.specs.Fractions.{plus, times}
 use Rattle.model_types.specs.declared.model.FlowModel.{FlowModel}
 use Rattle.model_types.specs.declared.entry.Given.{Given}
 use Rattle.model_types.specs.Layers.{dec_at, int_at, is_active}

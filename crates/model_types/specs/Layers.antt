@@ -1,9 +1,9 @@
 -- The properties of a cell: its widths, its elevations and thickness, and its conductivities, with the exact numbers of the input (TM 6-A16, chapters 2 and 5).
 use Rattle.std.specs.Prelude.{ℕ, ◌+◌, ◌-◌, ◌*◌, ℤ, pos, ◌*ℤ◌, ◌-ℤ◌, Bool, cond, not, nat_lt, ◌==◌, List, slice_index_or, unsigned_abs, false}
 use Rattle.decimal_input.specs.declared.dec.Dec.{Dec}
-use Rattle.decimal_input.specs.Decimals.{number, size}
-use Rattle.decimal_input.specs.Ratios.{Ratio, over, times}
-use Rattle.decimal_input.specs.Fractions.{Fraction, den}
+use Rattle.decimal_input.specs.{number, size, Ratio, over, Fraction}
+use Rattle.decimal_input.specs.Ratios.{times}
+use Rattle.decimal_input.specs.Fractions.{den}
 use Rattle.model_types.specs.declared.model.FlowModel.{FlowModel}
 use Rattle.model_types.specs.Faces.{layer_size, layer_of, row_of, column_of}
 

@@ -2,9 +2,9 @@
 use Rattle.std.specs.Prelude.{ℕ, suc, ◌+◌, ◌*◌, ℤ, pos, negsuc, Bool, false, cond, not, ◌&&◌, ◌||◌, ◌==◌, List, Option, Some, None}
 use Rattle.std.specs.List.{range_with_len, list_any}
 use Rattle.decimal_input.specs.declared.dec.Dec.{Dec}
-use Rattle.decimal_input.specs.Decimals.{number, size}
-use Rattle.decimal_input.specs.Ratios.{Ratio, over, times}
-use Rattle.decimal_input.specs.Fractions.{Fraction, signed, negated, plus, times as product}
+use Rattle.decimal_input.specs.{number, size, Ratio, over, Fraction, signed, negated}
+use Rattle.decimal_input.specs.Ratios.{times}
+use Rattle.decimal_input.specs.Fractions.{plus, times as product}
 use Rattle.model_types.specs.declared.model.FlowModel.{FlowModel}
 use Rattle.model_types.specs.Faces.{layer_of, layer_size, place_in_layer}
 use Rattle.model_types.specs.Layers.{dec_at, int_at, is_active, area}

@@ -1,7 +1,7 @@
 -- Storage of a cell over a time step (TM 6-A16, chapters 2 and 5).
 use Rattle.std.specs.Prelude.{ℕ, ◌-◌, cond}
-use Rattle.decimal_input.specs.Decimals.{size}
-use Rattle.decimal_input.specs.Ratios.{Ratio, times, over}
+use Rattle.decimal_input.specs.{size, Ratio, over}
+use Rattle.decimal_input.specs.Ratios.{times}
 use Rattle.model_types.specs.declared.model.FlowModel.{FlowModel}
 use Rattle.model_types.specs.declared.period.Period.{Period}
 use Rattle.model_types.specs.Layers.{dec_at, delr_at, delc_at, thickness}

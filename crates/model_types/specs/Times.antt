@@ -2,8 +2,8 @@
 -- step of a transient period is T times as long as the one before, and G(n) = 1 + T + .. + T^(n-1).
 use Rattle.std.specs.Prelude.{ℕ, zero, suc, ◌-◌, true, cond, ◌||◌, ◌==◌, List, [], ◌++◌, map, length, slice_index_or}
 use Rattle.std.specs.List.{range_with_len, flat_map}
-use Rattle.decimal_input.specs.Decimals.{size}
-use Rattle.decimal_input.specs.Ratios.{Ratio, ratio, plus, times as product, over}
+use Rattle.decimal_input.specs.{size, Ratio, ratio, over}
+use Rattle.decimal_input.specs.Ratios.{plus, times as product}
 use Rattle.model_types.specs.declared.entry.Entry.{Entry}
 use Rattle.model_types.specs.declared.model.FlowModel.{FlowModel}
 use Rattle.model_types.specs.declared.period.Period.{Period}

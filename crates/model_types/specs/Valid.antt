@@ -3,9 +3,8 @@
 use Rattle.std.specs.Prelude.{◌≡◌, ℕ, ◌+◌, ◌<◌, ◌≤◌, ◌⊎◌, ℤ, pos, neg_ℤ, ◌+ℤ◌, ◌≤ℤ◌, true, false, List, All, length, sum_by}
 use Rattle.std.specs.List.{AllPairs}
 use Rattle.decimal_input.specs.declared.dec.Dec.{Dec}
-use Rattle.decimal_input.specs.Decimals.{IsDec, number, size}
-use Rattle.decimal_input.specs.Ratios.{ratio, AtMost}
-use Rattle.decimal_input.specs.Wholes.{IsSignedFloor, IsSignedCeiling}
+use Rattle.decimal_input.specs.{IsDec, number, size, ratio, IsSignedFloor, IsSignedCeiling}
+use Rattle.decimal_input.specs.Ratios.{AtMost}
 use Rattle.model_types.specs.declared.grid.Grid.{Grid}
 use Rattle.model_types.specs.declared.model.FlowModel.{FlowModel}
 use Rattle.model_types.specs.declared.period.Period.{Period}

@@ -1,8 +1,8 @@
 // The faces of a cell.
 ghost use Rattle.std.specs.Prelude.{◌≡◌, ◌<◌, ◌≤◌, All, map, [], ◌∷◌};
 ghost use Rattle.std.specs.Option.{option_map};
-ghost use Rattle.model_types.specs.Faces.{layer_size, cell_count, left, right, back, front, up, down, stride, span, face_before, face_after, faces};
-ghost use Rattle.model_types.specs.Grids.{HasSize, IsInGrid};
+ghost use Rattle.model_types.specs.{layer_size, cell_count, left, right, back, front, up, down, stride, span, face_before, face_after, faces, HasSize};
+ghost use Rattle.model_types.specs.{IsInGrid};
 
 use crate::face::{Axis, Face};
 use crate::grid::Grid;

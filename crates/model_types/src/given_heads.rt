@@ -1,10 +1,6 @@
 // The heads that CHD lists have given so far.
 ghost use Rattle.std.specs.Prelude.{◌≡◌, ◌+◌, ◌<◌, ◌≤◌, All, length, IfOk, OnOk, ◌==◌, ℕ};
-ghost use Rattle.model_types.specs.Faces.{cell_count};
-ghost use Rattle.model_types.specs.Times.{period_at};
-ghost use Rattle.model_types.specs.Heads.{given_heads, kind_of, kinds, is_given};
-ghost use Rattle.model_types.specs.Grids.{HasSize};
-ghost use Rattle.model_types.specs.Valid.{IsModel};
+ghost use Rattle.model_types.specs.{cell_count, period_at, given_heads, kind_of, kinds, is_given, HasSize, IsModel};
 ghost use Rattle.std.specs.List.{list_any};
 
 use crate::entry::Given;

@@ -1,7 +1,6 @@
 // The properties of a cell, from the model's lists.
 ghost use Rattle.std.specs.Prelude.{◌≡◌};
-ghost use Rattle.model_types.specs.Layers.{dec_at, int_at, is_active, delr_at, delc_at, has_bed, bottom_at, lowest, top_at};
-ghost use Rattle.model_types.specs.Grids.{HasSize};
+ghost use Rattle.model_types.specs.{dec_at, int_at, is_active, delr_at, delc_at, has_bed, bottom_at, lowest, top_at, HasSize};
 
 use crate::grid::Grid;
 use crate::model::FlowModel;

@@ -1,6 +1,6 @@
 // The limits that a model is read by.
 ghost use Rattle.std.specs.Prelude.{◌≡◌, ◌≤◌};
-ghost use Rattle.model_types.specs.Limits.{most_layers, most_in_row, most_cells, most_entries, most_bytes};
+ghost use Rattle.model_types.specs.{most_layers, most_in_row, most_cells, most_entries, most_bytes};
 
 /// The limits that a model is read by: the plain ones, or the wide ones for larger models. What is known of a model that
 /// was read holds by the wide ones, so nothing above the readers depends on which they were.

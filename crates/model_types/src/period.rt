@@ -1,6 +1,6 @@
 // A stress period and its stresses.
 ghost use Rattle.std.specs.Prelude.{◌≡◌};
-ghost use Rattle.model_types.specs.Times.{no_stresses};
+ghost use Rattle.model_types.specs.{no_stresses};
 
 use crate::entry::{Entry, Given};
 use crate::shared::Shared;

@@ -1,7 +1,6 @@
 // Cells and their places.
 ghost use Rattle.std.specs.Prelude.{◌≡◌, ◌+◌, ◌-◌, ◌<◌, [], ◌∷◌};
-ghost use Rattle.model_types.specs.Faces.{cell_count, cell_number, layer_of, row_of, column_of, place};
-ghost use Rattle.model_types.specs.Grids.{HasSize, IsPlace};
+ghost use Rattle.model_types.specs.{cell_count, cell_number, layer_of, row_of, column_of, place, HasSize, IsPlace};
 
 use crate::grid::{CellId, Grid};
 

@@ -1,7 +1,7 @@
 // The time steps of a model, in order.
 ghost use Rattle.std.specs.Prelude.{◌≡◌, ◌≤◌, ◌++◌, length, sum_by, map, IfOk, OnOk};
 ghost use Rattle.std.specs.List.{range_with_len};
-ghost use Rattle.model_types.specs.Times.{times};
+ghost use Rattle.model_types.specs.{times};
 
 use crate::model::FlowModel;
 use std::alloc::{AllocError, Global};

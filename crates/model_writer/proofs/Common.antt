@@ -4,16 +4,12 @@ pub use Rattle.std.proofs.Common.{replicate, suc, sym, take, true, ℕ, ◌++◌
 pub use Rattle.std.proofs.lemmas.Grind.{flat_map-append, replicate_next}
 pub use Rattle.std.proofs.lemmas.List.{append-nil, drop_all, length-map, map-append, map-id, take_more}
 pub use Rattle.std.specs.List.{flat_map, range_with_len}
-pub use Rattle.array_text.specs.Lines.{Line, array_lines, in_rows, integer_word, number_word}
-unfoldable pub use Rattle.array_text.specs.Lines.{line_text, row_line, row_lines, text}
-pub use Rattle.model_text.specs.Discretization.{dis_item_6, dis_item_7, layer_values, lpf_arrays, storage_option}
-unfoldable pub use Rattle.model_text.specs.Discretization.{dis_item_1}
-pub use Rattle.model_text.specs.Lists.{evt_items, rch_items}
-unfoldable pub use Rattle.model_text.specs.Lists.{list_item_2, list_item_5, list_item_6, list_lines, period_list}
-pub use Rattle.model_text.specs.Names.{name_item, packages}
-pub use Rattle.model_text.specs.Written.{deck_name, deck_names, file_line, has, package_file}
-unfoldable pub use Rattle.model_text.specs.Written.{deck_text, file_text, file_texts, written}
+pub use Rattle.array_text.specs.{Line, array_lines, in_rows, integer_word, number_word}
+unfoldable pub use Rattle.array_text.specs.{line_text, row_line, row_lines, text}
+pub use Rattle.model_text.specs.{deck_name, deck_names, dis_item_6, dis_item_7, evt_items, file_line, has, layer_values, lpf_arrays, name_item, package_file}
+pub use Rattle.model_text.specs.{packages, rch_items, storage_option}
+unfoldable pub use Rattle.model_text.specs.{deck_text, dis_item_1, file_text, file_texts, list_item_2, list_item_5, list_item_6, list_lines, period_list}
+unfoldable pub use Rattle.model_text.specs.{written}
 pub use Rattle.model_types.specs.declared.model.FlowModel.{FlowModel}
-unfoldable pub use Rattle.model_writer.specs.Lines.{chosen, line_bytes, spaced}
-unfoldable pub use Rattle.model_writer.specs.Lists.{entry_line}
+unfoldable pub use Rattle.model_writer.specs.{chosen, entry_line, line_bytes, spaced}
 pub use Rattle.name_file.specs.declared.package.Package.TheVariants.{Dis}

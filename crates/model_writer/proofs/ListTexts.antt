@@ -4,7 +4,7 @@ use Rattle.model_writer.proofs.Common.{row_line, list_item_2, list_item_5, list_
 use Rattle.model_writer.proofs.Common.{◌∙◌, take, get_or, take_more, map-append, append-nil, Line}
 use Rattle.decimal_input.specs.declared.dec.Dec.{Dec}
 use Rattle.model_types.specs.declared.grid.Grid.{Grid}
-use Rattle.model_types.specs.Faces.{place}
+use Rattle.model_types.specs.{place}
 use Rattle.model_writer.proofs.Texts.{then_line, text-cons, text-nil, text-append, next_part}
 
 some_words : (xs : List Dec) → 1 ≤ length xs → 1 ≤ length (map number_word xs)

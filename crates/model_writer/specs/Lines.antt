@@ -1,7 +1,7 @@
 -- The bytes of lines.
 use Rattle.std.specs.Prelude.{ℕ, Bool, List, [], ◌∷◌, ◌++◌, if◌then◌else◌}
 use Rattle.std.specs.List.{flat_map}
-use Rattle.array_text.specs.Lines.{Line, line_text}
+use Rattle.array_text.specs.{Line, line_text}
 
 -- a line with its line feed
 unfoldable pub line_bytes : Line → List ℕ

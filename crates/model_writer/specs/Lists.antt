@@ -2,8 +2,8 @@
 use Rattle.std.specs.Prelude.{ℕ, List, []}
 use Rattle.decimal_input.specs.declared.dec.Dec.{Dec}
 use Rattle.model_types.specs.declared.grid.Grid.{Grid}
-use Rattle.array_text.specs.Lines.{Line}
-use Rattle.model_text.specs.Lists.{list_item_6}
+use Rattle.array_text.specs.{Line}
+use Rattle.model_text.specs.{list_item_6}
 use Rattle.model_types.specs.declared.entry.Entry.{Entry}
 use Rattle.model_types.specs.declared.period.Period.{Period}
 use Rattle.name_file.specs.declared.package.Package.{Package}

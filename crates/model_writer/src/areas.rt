@@ -1,10 +1,10 @@
 // The files of RCH and EVT.
 ghost use Rattle.std.specs.Prelude.{◌≡◌, [], ◌∷◌, ◌++◌, codes, if◌then◌else◌, IfOk};
 ghost use Rattle.std.specs.List.{flat_map};
-ghost use Rattle.model_types.specs.Receivers.{is_int};
-ghost use Rattle.array_text.specs.Lines.{integer_array, text, integer_word};
-ghost use Rattle.model_text.specs.Lists.{evt_items, evt_lines, rch_items, rch_lines};
-ghost use Rattle.model_writer.specs.Lines.{line_bytes};
+ghost use Rattle.model_types.specs.{is_int};
+ghost use Rattle.array_text.specs.{integer_array, text, integer_word};
+ghost use Rattle.model_text.specs.{evt_items, evt_lines, rch_items, rch_lines};
+ghost use Rattle.model_writer.specs.{line_bytes};
 
 use crate::arrays::push_array;
 use crate::words::Word;

@@ -1,8 +1,8 @@
 // Arrays and the layers of lists by cell.
 ghost use Rattle.std.specs.Prelude.{◌≡◌, ◌<◌, [], ◌++◌, take, drop, if◌then◌else◌, IfOk};
-ghost use Rattle.model_types.specs.Grids.{HasSize};
-ghost use Rattle.array_text.specs.Lines.{array_lines, row_lines, text};
-ghost use Rattle.model_text.specs.Discretization.{each_layer, layer_values, real_layer};
+ghost use Rattle.model_types.specs.{HasSize};
+ghost use Rattle.array_text.specs.{array_lines, row_lines, text};
+ghost use Rattle.model_text.specs.{each_layer, layer_values, real_layer};
 
 use crate::lines::push_line;
 use crate::words::Word;

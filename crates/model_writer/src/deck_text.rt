@@ -1,10 +1,9 @@
 // The deck of a model as one text.
 ghost use Rattle.std.specs.Prelude.{◌≡◌, ◌++◌, IfOk};
 ghost use Rattle.std.specs.List.{flat_map};
-ghost use Rattle.model_types.specs.Grids.{HasSize};
-ghost use Rattle.model_text.specs.Written.{deck_names, deck_text, file_line, file_text, has, package_file};
-ghost use Rattle.model_text.specs.Names.{packages};
-ghost use Rattle.model_writer.specs.Lines.{chosen};
+ghost use Rattle.model_types.specs.{HasSize};
+ghost use Rattle.model_text.specs.{deck_names, deck_text, file_line, file_text, has, package_file, packages};
+ghost use Rattle.model_writer.specs.{chosen};
 
 use crate::names::{name_of, push_names};
 use crate::packages::{PACKAGES, has_package, push_package};

@@ -1,10 +1,9 @@
 // The file of DIS.
 ghost use Rattle.std.specs.Prelude.{◌≡◌, ◌∷◌, ◌<◌, ◌++◌, map, IfOk};
-ghost use Rattle.model_types.specs.Grids.{HasSize};
-ghost use Rattle.array_text.specs.Lines.{text};
-ghost use Rattle.model_text.specs.Discretization.{dis_item_1, dis_item_2, dis_item_3, dis_item_4, dis_item_5, dis_item_6, dis_item_7, dis_lines, each_layer};
-ghost use Rattle.model_text.specs.Discretization.{bas_lines};
-ghost use Rattle.model_writer.specs.Lines.{line_bytes};
+ghost use Rattle.model_types.specs.{HasSize};
+ghost use Rattle.array_text.specs.{text};
+ghost use Rattle.model_text.specs.{dis_item_1, dis_item_2, dis_item_3, dis_item_4, dis_item_5, dis_item_6, dis_item_7, dis_lines, each_layer, bas_lines};
+ghost use Rattle.model_writer.specs.{line_bytes};
 
 use crate::arrays::{push_array, push_layer, push_layer_if, push_layers};
 use crate::lines::{push_line, push_spaced};

@@ -1,11 +1,11 @@
 // The entries of lists.
 ghost use Rattle.std.specs.Prelude.{◌≡◌, ℕ, List, ◌++◌, length, ◌≤◌, IfOk};
 ghost use Rattle.decimal_input.specs.declared.dec.Dec.{Dec};
-ghost use Rattle.model_types.specs.Sources.{cell_of};
+ghost use Rattle.model_types.specs.{cell_of};
 ghost use Rattle.model_types.specs.declared.period.Period.{Period};
 ghost use Rattle.name_file.specs.declared.package.Package.{Package};
-ghost use Rattle.array_text.specs.Lines.{row_line, number_word};
-ghost use Rattle.model_text.specs.Lists.{heads_of, numbers_of};
+ghost use Rattle.array_text.specs.{row_line, number_word};
+ghost use Rattle.model_text.specs.{heads_of, numbers_of};
 ghost use Rattle.model_writer.specs.Lines.{line_bytes};
 ghost use Rattle.model_writer.specs.Lists.{entries_in};
 

@@ -1,10 +1,10 @@
 // The file of LPF.
 ghost use Rattle.std.specs.Prelude.{◌≡◌, [], ◌∷◌, ◌<◌, ◌≤◌, ◌++◌, replicate, codes, IfOk};
-ghost use Rattle.model_types.specs.Grids.{HasSize};
-ghost use Rattle.array_text.specs.Lines.{text};
-ghost use Rattle.lpf_package.specs.Flow.{is_transient};
-ghost use Rattle.model_text.specs.Discretization.{lpf_arrays, lpf_item_1, lpf_item_4, lpf_item_5, lpf_lines, lpf_zeros, storage_option, each_layer};
-ghost use Rattle.model_writer.specs.Lines.{line_bytes};
+ghost use Rattle.model_types.specs.{HasSize};
+ghost use Rattle.array_text.specs.{text};
+ghost use Rattle.lpf_package.specs.{is_transient};
+ghost use Rattle.model_text.specs.{lpf_arrays, lpf_item_1, lpf_item_4, lpf_item_5, lpf_lines, lpf_zeros, storage_option, each_layer};
+ghost use Rattle.model_writer.specs.{line_bytes};
 
 use crate::arrays::{push_layer, push_layer_if};
 use crate::lines::push_line;

@@ -1,15 +1,13 @@
 // Values as a line.
 ghost use Rattle.std.specs.Prelude.{◌≡◌, ◌++◌, IfOk, ℕ, List, [], ◌∷◌, codes, decimal, map, max, fold, length};
-ghost use Rattle.array_text.specs.Lines.{row_line, text};
-ghost use Rattle.model_writer.specs.Lines.{line_bytes, spaced};
+ghost use Rattle.array_text.specs.{row_line, text};
+ghost use Rattle.model_writer.specs.{line_bytes, spaced, entry_line};
 ghost use Rattle.std.specs.List.{flat_map};
 ghost use Rattle.decimal_input.specs.declared.dec.Dec.{Dec};
-ghost use Rattle.model_types.specs.Faces.{place};
-ghost use Rattle.model_types.specs.Grids.{HasSize};
+ghost use Rattle.model_types.specs.{place, HasSize};
 ghost use Rattle.model_types.specs.declared.period.Period.{Period};
 ghost use Rattle.name_file.specs.declared.package.Package.{Package};
-ghost use Rattle.model_text.specs.Lists.{list_lines, period_list};
-ghost use Rattle.model_writer.specs.Lists.{entry_line};
+ghost use Rattle.model_text.specs.{list_lines, period_list};
 
 use crate::entries::ListEntry;
 use crate::words::Word;

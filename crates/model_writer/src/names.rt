@@ -1,9 +1,8 @@
 // The names of the files of a deck, and its name file.
 ghost use Rattle.std.specs.Prelude.{◌≡◌, [], ◌∷◌, ◌++◌, IfOk};
 ghost use Rattle.std.specs.List.{flat_map};
-ghost use Rattle.model_text.specs.Written.{deck_names, has};
-ghost use Rattle.model_text.specs.Names.{file_type, file_unit, name_item, packages};
-ghost use Rattle.model_writer.specs.Lines.{chosen, line_bytes};
+ghost use Rattle.model_text.specs.{deck_names, has, file_type, file_unit, name_item, packages};
+ghost use Rattle.model_writer.specs.{chosen, line_bytes};
 
 use crate::packages::{PACKAGES, has_package};
 use model_types::FlowModel;

@@ -1,10 +1,9 @@
 // The packages of a model, and their files.
 ghost use Rattle.std.specs.Prelude.{◌≡◌, ◌++◌, nat_lt, length, IfOk};
 ghost use Rattle.std.specs.List.{list_any};
-ghost use Rattle.model_types.specs.Grids.{HasSize};
-ghost use Rattle.array_text.specs.Lines.{text};
-ghost use Rattle.model_text.specs.Names.{packages};
-ghost use Rattle.model_text.specs.Written.{has, lines_of};
+ghost use Rattle.model_types.specs.{HasSize};
+ghost use Rattle.array_text.specs.{text};
+ghost use Rattle.model_text.specs.{packages, has, lines_of};
 
 use crate::areas::{push_evt, push_rch};
 use crate::discretization::{push_bas, push_dis};

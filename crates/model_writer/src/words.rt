@@ -1,6 +1,6 @@
 // Values as words of a line.
 ghost use Rattle.std.specs.Prelude.{◌≡◌, ℕ, List, ◌++◌, decimal, IfOk};
-ghost use Rattle.array_text.specs.Lines.{integer_word, number_word};
+ghost use Rattle.array_text.specs.{integer_word, number_word};
 
 use decimal_input::dec::Dec;
 use itoa::Buffer;

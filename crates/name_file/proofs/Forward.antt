@@ -2,10 +2,8 @@
 use Rattle.name_file.proofs.Common.{◌≡◌, ℕ, List, [], ◌∷◌, ◌++◌, if◌then◌else◌, Option, Some, None, Ok, Err, All, Contains, IfOk, All-nil, All-push, All-head}
 use Rattle.name_file.proofs.Common.{All-tail, All-contains, folder_name, Numbered, left_from, is_comment, Pairs, has_package, is_integer, file_in}
 use Rattle.name_file.proofs.Common.{after_package, after_type, after_words, after_line, after_lines, missing, whole, names_of, Package, Dis, Bas, Lpf, WordsMay}
-use Rattle.name_file.proofs.Common.{TextMay, words, LineMay, NamesMay, package_of, is_passed_over}
-use Rattle.outside.specs.Codes.{refusal}
+use Rattle.name_file.proofs.Common.{TextMay, words, LineMay, NamesMay, package_of, is_passed_over, refusal, word_at, name_at}
 use Rattle.outside.specs.declared.codes.Code.TheVariants.{BadNameLine, DuplicatePackage}
-use Rattle.record_lines.specs.Items.{word_at, name_at}
 use Rattle.record_lines.proofs.Forward.{chain, either, given, word_held, name_held, text_held}
 
 module _ (may : List ℕ → Type 0) where

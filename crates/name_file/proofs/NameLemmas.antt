@@ -1,13 +1,12 @@
 -- A package that is new goes last; and a name file goes on, stops or ends line by line.
 use Rattle.name_file.proofs.Common.{◌≡◌, ℕ, false, List, [], ◌∷◌, ◌++◌, Option, Some, None, Ok, refl, ap, ◌∙◌, is_some, Package, Pairs, has_package, after_line}
 use Rattle.name_file.proofs.Common.{after_lines, Left, Numbered, Dis, Bas, Lpf, Wel, Riv, Drn, Ghb, Rch, Chd, Evt, is_same_package, file_of, Bool, true, sym}
-use Rattle.name_file.proofs.Common.{Contains, rules, arith, IsTrue, All-contains, All-push, IsGoodName, AreFiles, IsWhole, is_needed, packages_of}
-use Rattle.name_file.specs.contracts.package.PackagePartialEq.TheImpl.{ghosts}
+use Rattle.name_file.proofs.Common.{Contains, rules, arith, IsTrue, All-contains, All-push, IsGoodName, AreFiles, IsWhole, is_needed, packages_of, ghosts}
+use Rattle.name_file.proofs.Common.{the_type, StopsText}
 use Rattle.std.specs.Map.{lookup, keys_of}
 use Rattle.std.specs.HashMap.{HashMap}
 use Rattle.indexmap.specs.IndexMap.{get, insert_entry}
 use Rattle.indexmap.proofs.CallerLemmas.{insert_entry-new}
-use Rattle.record_lines.specs.Reading.{StopsText}
 use Rattle.outside.specs.declared.inputs.TextFault.{TextFault}
 use Rattle.outside.specs.declared.inputs.TextFault.TheVariants.{Refused, Memory}
 use Rattle.std.proofs.lemmas.Map.Keys.{IsDistinct-push}
@@ -16,7 +15,6 @@ use Rattle.std.proofs.lemmas.Map.Views.{Contains-from_lookup, IsSome-lookup_from
 use Rattle.std.specs.Cmp.{IsEquivalence}
 use Rattle.std.specs.List.{IsDistinct}
 use denote.Enum.Bare.{same_true}
-use Rattle.name_file.specs.contracts.package.Package.{the_type}
 
 -- The derived equality of packages is `is_same_package`, so a map's look-up finds the file of a package.
 pub derived_is : (a b : Package) → ghosts.eq a b ≡ is_same_package a b

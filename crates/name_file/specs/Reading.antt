@@ -1,13 +1,10 @@
 -- A name file, line by line: `Ftype Nunit Fname`. (TM 6-A16, name file)
 use Rattle.std.specs.Prelude.{ℕ, Bool, List, [], ◌∷◌, ◌++◌, Option, Some, None, Result, Ok, Err, if◌then◌else◌, is_some, ◌||◌, codes}
-use Rattle.decimal_input.specs.Grammar.{integer_of}
+use Rattle.decimal_input.specs.{integer_of}
 use Rattle.outside.specs.declared.codes.Code.TheVariants.{BadNameLine, DuplicatePackage, UnsupportedPackage, MissingPackage}
 use Rattle.outside.specs.declared.inputs.Refusal.{Refusal}
-use Rattle.outside.specs.Codes.{refusal}
-use Rattle.record_lines.specs.Reading.{◌>>=◌}
-use Rattle.outside.specs.Names.{words}
-use Rattle.record_lines.specs.Layout.{Numbered, is_comment, left_from}
-use Rattle.record_lines.specs.Items.{word_at, name_at, is_word}
+use Rattle.outside.specs.{refusal, words}
+use Rattle.record_lines.specs.{◌>>=◌, Numbered, is_comment, left_from, word_at, name_at, is_word}
 use Rattle.name_file.specs.Pairs.{Pairs, has_package}
 use Rattle.name_file.specs.declared.package.Package.{Package}
 use Rattle.name_file.specs.declared.package.Package.TheVariants.{Dis, Bas, Lpf, Wel, Riv, Drn, Ghb, Rch, Chd, Evt}

@@ -1,5 +1,5 @@
 ghost use Rattle.std.specs.Prelude.{◌≡◌};
-ghost use Rattle.name_file.specs.Reading.{package_of, is_passed_over};
+ghost use Rattle.name_file.specs.{package_of, is_passed_over};
 
 use crate::package::Package;
 use record_lines::is_word;

@@ -1,6 +1,6 @@
 ghost use Rattle.std.specs.Prelude.{◌≡◌, IfSome, IsTrue, is_some, slice_get, Contains, MatchOption, [], ◌∷◌, ◌++◌, OnOk, false};
 ghost use Rattle.std.specs.Option.{option_map};
-ghost use Rattle.outside.specs.Names.{IsGoodName};
+ghost use Rattle.outside.specs.{IsGoodName};
 ghost use Rattle.name_file.specs.Pairs.{Pairs, IsWhole, file_of, is_needed, packages_of, AreFiles, has_package};
 
 use crate::package::Package;

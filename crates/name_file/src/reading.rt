@@ -1,8 +1,7 @@
 ghost use Rattle.std.specs.Prelude.{◌≡◌, IfOk, MatchResult, Ok};
-ghost use Rattle.outside.specs.Names.{IsGoodName};
-ghost use Rattle.record_lines.specs.Reading.{HasText, StopsText};
-ghost use Rattle.record_lines.specs.Layout.{numbered_of};
-ghost use Rattle.name_file.specs.Reading.{is_integer, file_in, after_package, after_line, after_lines, whole, names_of};
+ghost use Rattle.outside.specs.{IsGoodName};
+ghost use Rattle.record_lines.specs.{HasText, StopsText, numbered_of};
+ghost use Rattle.name_file.specs.{is_integer, file_in, after_package, after_line, after_lines, whole, names_of};
 
 use crate::kinds::{is_passed_over, package_of};
 use crate::names::{Gathered, Names};

@@ -1,8 +1,6 @@
 // A settler that starts no thread.
 ghost use Rattle.std.specs.Prelude.{◌≡◌, IfSome};
-ghost use Rattle.step_problem.specs.Heads.{AreOnTheWay, IsBarrier};
-ghost use Rattle.step_problem.specs.Settling.{Settles};
-ghost use Rattle.step_problem.specs.Settling.PairKind.{settled};
+ghost use Rattle.step_problem.specs.{AreOnTheWay, IsBarrier, Settles, settled};
 
 use crate::first::{first_sweeps, has_few_cells};
 use crate::guessing::{Guesser, Guessing, NearGuesser};

@@ -1,6 +1,6 @@
 // How a problem begins, before a guess, and by how many workers it is settled.
 ghost use Rattle.std.specs.Prelude.{◌≡◌, ◌/◌, ◌≤◌, max};
-ghost use Rattle.settle_driver.specs.Phases.{IsPlan};
+ghost use Rattle.settle_driver.specs.{IsPlan};
 
 use settle_driver::Plan;
 

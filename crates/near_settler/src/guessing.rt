@@ -1,6 +1,5 @@
 // Settling from guessed heads.
-ghost use Rattle.step_problem.specs.Heads.{IsBarrier};
-ghost use Rattle.step_problem.specs.Settling.{Settles};
+ghost use Rattle.step_problem.specs.{IsBarrier, Settles};
 
 use head_guess::{Guess, Kept, guess_beside, guess_heads};
 use settle_driver::{ListedSettler, PlainSettler, settle_near};

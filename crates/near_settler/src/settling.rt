@@ -1,8 +1,7 @@
 // The settler of a run.
 ghost use Rattle.std.specs.Prelude.{◌≡◌, IfSome};
-ghost use Rattle.step_problem.specs.Heads.{AreOnTheWay, IsBarrier};
-ghost use Rattle.step_problem.specs.Settling.{Settles};
-ghost use Rattle.settle_driver.specs.Phases.{IsPlan};
+ghost use Rattle.step_problem.specs.{AreOnTheWay, IsBarrier, Settles};
+ghost use Rattle.settle_driver.specs.{IsPlan};
 
 use crate::first::{first_phases, first_plan, has_few_cells, plan_for};
 use crate::guessing::{BesideGuesser, Guesser, Guessing};

@@ -1,9 +1,7 @@
 // The settler of a run, while a viewer watches.
 ghost use Rattle.std.specs.Prelude.{true};
-ghost use Rattle.step_problem.specs.Heads.{AreOnTheWay, IsBarrier};
-ghost use Rattle.step_problem.specs.Settling.{Settles};
-ghost use Rattle.settle_driver.specs.Phases.{IsPlan};
-ghost use Rattle.settle_driver.specs.Views.{AddsPhases, had_memory};
+ghost use Rattle.step_problem.specs.{AreOnTheWay, IsBarrier, Settles};
+ghost use Rattle.settle_driver.specs.{IsPlan, AddsPhases, had_memory};
 
 use crate::first::{first_phases, first_plan, plan_for};
 use crate::guessing::Guesser;

@@ -1,7 +1,6 @@
 -- Numbers of arrays are canonical.
-use Rattle.number_limits.proofs.Common.{ℕ, List, All, length, inl, inr, refl, sym, subst, arith, cases_lt, ints, Dec, IsDec}
+use Rattle.number_limits.proofs.Common.{ℕ, List, All, length, inl, inr, refl, sym, subst, arith, cases_lt, ints, Dec, IsDec, dec_at, no_number}
 use Rattle.std.proofs.lemmas.List.{get_or_past}
-use Rattle.model_types.specs.Layers.{dec_at, no_number}
 
 pub no_number_is : IsDec no_number
 no_number_is = record { few = omega arith; form = inl (refl, refl, refl); above = omega (arith, ints); below = omega (arith, ints) }

@@ -6,11 +6,10 @@ pub use Rattle.std.proofs.lemmas.Bool.{and_parts, cases_lt, eqb-true, le-leb, le
 pub use Rattle.std.proofs.lemmas.Bool.Decides.{leb_tells}
 pub use Rattle.std.proofs.lemmas.Int.{ints}
 pub use Rattle.std.specs.Prelude.{if◌then◌else◌, unsigned_abs}
-pub use Rattle.decimal_input.specs.Decimals.{IsDec, number, size, with_sign}
-pub use Rattle.decimal_input.specs.Ratios.{AtMost, Ratio, den}
-unfoldable pub use Rattle.decimal_input.specs.Ratios.{ratio}
-pub use Rattle.decimal_input.specs.Wholes.{EnclosesSigned, IsCeiling, IsFloor, IsSignedCeiling, IsSignedFloor, Passes, Reaches}
+pub use Rattle.decimal_input.specs.{EnclosesSigned, IsCeiling, IsDec, IsFloor, IsSignedCeiling, IsSignedFloor, Passes, Ratio, Reaches, number, size, with_sign}
+unfoldable pub use Rattle.decimal_input.specs.{ratio}
+pub use Rattle.decimal_input.specs.Ratios.{AtMost, den}
 pub use Rattle.decimal_input.specs.declared.dec.Dec.{Dec}
-pub use Rattle.model_types.specs.Grids.{IsHeadNumber, IsPositive, IsThick}
-pub use Rattle.number_limits.specs.Magnitudes.{is_head, is_one, is_positive, is_same_number}
-unfoldable pub use Rattle.number_limits.specs.Magnitudes.{is_at_least, is_at_most}
+pub use Rattle.model_types.specs.{IsHeadNumber, IsPositive, IsThick, dec_at, no_number, number_one}
+pub use Rattle.number_limits.specs.{ceiling, floor, has_room, is_head, is_one, is_positive, is_same_number, small}
+unfoldable pub use Rattle.number_limits.specs.{ceiling_of, floor_of, is_at_least, is_at_most, is_thick}

@@ -2,8 +2,7 @@
 use Rattle.number_limits.proofs.Common.{◌≡◌, ◌⊎◌, inl, inr, ℕ, suc, ◌+◌, ◌*◌, ◌/◌, ◌-◌, ◌^◌, ◌≤◌, ◌<◌, true, false, nat_le, Some, None, refl, arith, lt-ltb}
 use Rattle.number_limits.proofs.Common.{leb_tells, le-div_iff_mul-le, div-lt_iff_lt-mul, Ratio, den, IsCeiling, IsFloor, Passes, Reaches, ℤ, pos, neg_ℤ, Bool}
 use Rattle.number_limits.proofs.Common.{nat_lt, Option, sym, ap, ◌∙◌, unsigned_abs, if◌then◌else◌, ints, Dec, size, number, IsSignedFloor, IsSignedCeiling}
-use Rattle.number_limits.proofs.Common.{IsThick}
-use Rattle.number_limits.specs.Room.{small, floor_of, ceiling_of, floor, ceiling, has_room, is_thick}
+use Rattle.number_limits.proofs.Common.{IsThick, small, floor_of, ceiling_of, floor, ceiling, has_room, is_thick}
 use Rattle.std.specs.Option.{option_map}
 use Rattle.decimal_input.proofs.Past.{a_floor, a_ceiling}
 use Rattle.decimal_input.proofs.SignedFloors.{floor_of_floor, floor_of_ceiling, ceiling_of_ceiling, ceiling_of_floor}

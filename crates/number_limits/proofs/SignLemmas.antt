@@ -1,12 +1,11 @@
 -- What the tests of signs tell.
 use Rattle.number_limits.proofs.Common.{◌≡◌, Bool, true, false, not, ◌&&◌, nat_lt, ◌==◌, List, All, IsTrue, ◌↔◌, refl, sym, ℤ, pos, negsuc, arith, unsigned_abs}
-use Rattle.number_limits.proofs.Common.{and_parts, not-true, ltb-true, eqb-true, Dec, IsDec, IsPositive, is_positive, is_one, is_same_number}
+use Rattle.number_limits.proofs.Common.{and_parts, not-true, ltb-true, eqb-true, Dec, IsDec, IsPositive, is_positive, is_one, is_same_number, number_one}
 use Rattle.std.specs.Cmp.{signed_Decides, booleans_Decides}
 use Rattle.std.specs.List.{list_all}
 use Rattle.std.specs.Ordering.{int_eq}
 use Rattle.std.proofs.Math.Bool.{beq}
 use Rattle.std.proofs.lemmas.List.Sums.{AllPass-from_list_all, list_all-from_AllPass}
-use Rattle.model_types.specs.Valid.{number_one}
 
 pub positive_of : (d : Dec) → IsDec d → is_positive d ≡ true → IsPositive d
 positive_of d dec e =

@@ -1,8 +1,8 @@
 -- Magnitudes of numbers of the input against limits.
 use Rattle.std.specs.Prelude.{ℕ, ◌*◌, ◌^◌, Bool, nat_le, ℤ, pos, negsuc, not, ◌&&◌, nat_lt, ◌==◌, unsigned_abs, Option, Some, None, if◌then◌else◌}
 use Rattle.decimal_input.specs.declared.dec.Dec.{Dec}
-use Rattle.decimal_input.specs.Decimals.{size}
-use Rattle.decimal_input.specs.Ratios.{Ratio, den}
+use Rattle.decimal_input.specs.{size, Ratio}
+use Rattle.decimal_input.specs.Ratios.{den}
 use Rattle.std.specs.Ordering.{int_eq}
 use Rattle.std.proofs.Math.Bool.{beq}
 

@@ -2,8 +2,8 @@
 use Rattle.std.specs.Prelude.{ℕ, ◌+◌, ◌*◌, ◌/◌, ◌^◌, ℤ, pos, neg_ℤ, ◌+ℤ◌, Bool, false, nat_lt, int_le, if◌then◌else◌, Option, Some, None}
 use Rattle.std.specs.Option.{option_map}
 use Rattle.decimal_input.specs.declared.dec.Dec.{Dec}
-use Rattle.decimal_input.specs.Decimals.{size}
-use Rattle.decimal_input.specs.Ratios.{Ratio, den}
+use Rattle.decimal_input.specs.{size, Ratio}
+use Rattle.decimal_input.specs.Ratios.{den}
 
 -- n, where it is below 2 ^ 126
 abbrev pub small : ℕ → Option ℕ

@@ -1,8 +1,8 @@
 // Magnitudes of numbers.
 ghost use Rattle.std.specs.Prelude.{◌≡◌, ◌↔◌, IsTrue, ◌≤◌};
-ghost use Rattle.decimal_input.specs.Decimals.{IsDec, size};
-ghost use Rattle.model_types.specs.Grids.{IsHeadNumber};
-ghost use Rattle.number_limits.specs.Magnitudes.{is_at_most, is_at_least, is_head};
+ghost use Rattle.decimal_input.specs.{IsDec, size};
+ghost use Rattle.model_types.specs.{IsHeadNumber};
+ghost use Rattle.number_limits.specs.{is_at_most, is_at_least, is_head};
 
 use decimal_input::dec::Dec;
 use decimal_input::units::{whole_dn, whole_up};

@@ -1,10 +1,9 @@
 // Signs of numbers.
 ghost use Rattle.std.specs.Prelude.{◌≡◌, ◌↔◌, IsTrue, All};
 ghost use Rattle.std.specs.List.{list_all};
-ghost use Rattle.decimal_input.specs.Decimals.{IsDec};
-ghost use Rattle.model_types.specs.Grids.{IsPositive};
-ghost use Rattle.model_types.specs.Valid.{number_one};
-ghost use Rattle.number_limits.specs.Magnitudes.{is_positive, is_one};
+ghost use Rattle.decimal_input.specs.{IsDec};
+ghost use Rattle.model_types.specs.{IsPositive, number_one};
+ghost use Rattle.number_limits.specs.{is_positive, is_one};
 
 use decimal_input::dec::Dec;
 

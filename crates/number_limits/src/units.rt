@@ -1,8 +1,8 @@
 // A number in whole units of 10 ^ -places, rounded down or up.
 ghost use Rattle.std.specs.Prelude.{◌≡◌, ◌<◌, ◌^◌, IfSome, unsigned_abs, IsTrue};
-ghost use Rattle.decimal_input.specs.Decimals.{IsDec, size};
-ghost use Rattle.number_limits.specs.Room.{floor_of, ceiling_of, floor, ceiling, has_room, is_thick};
-ghost use Rattle.model_types.specs.Grids.{IsThick};
+ghost use Rattle.decimal_input.specs.{IsDec, size};
+ghost use Rattle.number_limits.specs.{floor_of, ceiling_of, floor, ceiling, has_room, is_thick};
+ghost use Rattle.model_types.specs.{IsThick};
 
 use decimal_input::dec::Dec;
 use decimal_input::units::{whole_dn, whole_up};

@@ -1,6 +1,6 @@
 // Branches between neighbouring cells.
 ghost use Rattle.std.specs.Prelude.{IfSome};
-ghost use Rattle.conductance_bounds.specs.Calls.{IsHalf, IsColHalf, IsVertHalf, IsBed};
+ghost use Rattle.conductance_bounds.specs.{IsHalf, IsColHalf, IsVertHalf, IsBed};
 
 use crate::words::Words;
 use conductance_bounds::{

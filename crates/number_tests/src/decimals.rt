@@ -1,6 +1,6 @@
 // Decimals of 18 digits.
 ghost use Rattle.std.specs.Prelude.{IfSome};
-ghost use Rattle.scaled_decimal.specs.Nearest.{IsSd, IsNear};
+ghost use Rattle.scaled_decimal.specs.{IsSd, IsNear};
 
 use crate::numbers::{push_no_question, push_wholes};
 use decimal_input::read::read_dec;

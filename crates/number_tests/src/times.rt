@@ -1,7 +1,7 @@
 // Time steps, storage and given heads.
 ghost use Rattle.std.specs.Prelude.{◌≤◌, IfSome, IsTrue};
-ghost use Rattle.model_types.specs.Grids.{IsPositive};
-ghost use Rattle.conductance_bounds.specs.Parts.{IsMultiplier, IsUsable};
+ghost use Rattle.model_types.specs.{IsPositive};
+ghost use Rattle.conductance_bounds.specs.{IsMultiplier, IsUsable};
 
 use crate::words::Words;
 use conductance_bounds::{Factors, HeadPair, Pair, Part, given_head, step_factors, storage_branch};

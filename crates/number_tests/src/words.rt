@@ -1,8 +1,8 @@
 // The words of a line, as the numbers that calls take.
 ghost use Rattle.std.specs.Prelude.{◌≤◌, ◌^◌, IfSome};
-ghost use Rattle.decimal_input.specs.Decimals.{IsDec};
-ghost use Rattle.model_types.specs.Grids.{IsPositive, IsNotNegative, IsHeadNumber};
-ghost use Rattle.conductance_bounds.specs.Thicknesses.{AreThick};
+ghost use Rattle.decimal_input.specs.{IsDec};
+ghost use Rattle.model_types.specs.{IsPositive, IsNotNegative, IsHeadNumber};
+ghost use Rattle.conductance_bounds.specs.{AreThick};
 
 use conductance_bounds::{Span, thickness};
 use decimal_input::dec::Dec;

@@ -8,10 +8,10 @@ pub use Rattle.std.proofs.lemmas.List.Elements.{All-map, Contains-append_left, C
 pub use Rattle.std.proofs.lemmas.Slice.Eq.{bytes_eq-Decides}
 pub use Rattle.std.specs.Io.KnownBytes.{Appends, Consumes, Keeps}
 pub use Rattle.std.specs.Str.{IsUtf8, bytes_eq}
-pub use Rattle.outside.specs.Files.{AgreeWith, AgreesWith, File, FileSet, FoundNames, IsAsFound, IsFound, IsNamedBy, IsWithin, Read, ReadState, bytes_under}
-pub use Rattle.outside.specs.Files.{reading_of, with_limit}
-pub use Rattle.outside.specs.Names.{FoundMay, IsGoodName, IsNameByte, folder_name, lines, words}
-unfoldable pub use Rattle.outside.specs.Names.{is_good_name}
+pub use Rattle.outside.specs.{AgreeWith, AgreesWith, File, FileSet, FoundMay, FoundNames, IsAsFound, IsFound, IsGoodName, IsNameByte, IsNamedBy, IsWithin, Put}
+pub use Rattle.outside.specs.{PutMakes, PutsMake, Read, ReadState, Seen, bytes_under, folder_name, kept_at, lines, reading_of, the_row, the_type, with_limit}
+pub use Rattle.outside.specs.{words}
+unfoldable pub use Rattle.outside.specs.{is_good_name}
 pub use Rattle.outside.specs.declared.traits.Found.{Found}
 pub use Rattle.outside.specs.declared.traits.Found.TheVariants.{Bytes, Missing, TooLong}
 pub use base.Logic.{SProp, ent}

@@ -1,5 +1,5 @@
 ghost use Rattle.std.specs.Prelude.{◌≡◌, MatchOption};
-ghost use Rattle.outside.specs.Codes.{code_row};
+ghost use Rattle.outside.specs.{code_row};
 
 /// Why an input is refused, in the order of the numbers.
 #[derive(Clone, Copy)]

@@ -4,13 +4,9 @@ pub use Rattle.std.proofs.lemmas.Result.{err_from_is_err_and}
 pub use Rattle.std.specs.Prelude.{IfOk}
 pub use Rattle.std.specs.Vec.Iter.{into_iter_items}
 pub use Rattle.model_types.specs.declared.grid.Grid.{Grid}
-pub use Rattle.period_arrays.specs.Areas.{layer_step, option_at}
-unfoldable pub use Rattle.period_arrays.specs.Areas.{layers_tested}
-pub use Rattle.period_arrays.specs.Forms.{AreFlags, IsArea, IsInForce, IsReals, IsWhole}
-pub use Rattle.period_arrays.specs.Kinds.{ArrayKind, contents, without}
-pub use Rattle.period_arrays.specs.Packages.{period_at, unit_if}
-unfoldable pub use Rattle.period_arrays.specs.Packages.{option_line}
+pub use Rattle.outside.specs.{FileSet, words}
+pub use Rattle.period_arrays.specs.{AreFlags, ArrayKind, IsArea, IsInForce, IsReals, IsWhole, contents, layer_step, option_at, period_at, unit_if, without}
+unfoldable pub use Rattle.period_arrays.specs.{layers_tested, option_line}
 pub use Rattle.record_lines.proofs.Forward.{after, begun_held, chain, leaves}
 pub use Rattle.record_lines.proofs.Loops.{each_done, each_goes_on, each_stops, no_items, step_goes_on, steps_done, steps_end, with_front}
-pub use Rattle.record_lines.specs.Layout.{Left, LineMay, LinesMay, Numbered}
-pub use Rattle.record_lines.specs.Reading.{counted, for_each}
+pub use Rattle.record_lines.specs.{Left, LineMay, LinesMay, Numbered, counted, for_each}

@@ -1,24 +1,17 @@
 -- The arrays of RCH and EVT that are in force in a stress period (TM 6-A16, RCH and EVT).
 use Rattle.std.specs.Prelude.{ℕ, Bool, true, false, List, [], Result, Ok, if◌then◌else◌, ℤ, pos, negsuc, not, ◌&&◌, nat_lt, nat_le, Err, Some}
-use Rattle.outside.specs.Files.{FileSet}
-use Rattle.outside.specs.Names.{words}
+use Rattle.outside.specs.{FileSet, words, refusal}
 use Rattle.outside.specs.declared.inputs.Refusal.{Refusal}
-use Rattle.record_lines.specs.Items.{line_at}
-use Rattle.record_lines.specs.Layout.{Left}
-use Rattle.record_lines.specs.Reading.{◌>>=◌, counted}
-use Rattle.array_reader.specs.Arrays.{real_layer, integer_layer}
+use Rattle.record_lines.specs.{line_at, Left, ◌>>=◌, counted}
+use Rattle.array_reader.specs.{real_layer, integer_layer, number_at, integer}
 use Rattle.model_types.specs.declared.grid.Grid.{Grid}
 use Rattle.period_arrays.specs.declared.area.Area.{Area}
 use Rattle.period_arrays.specs.declared.area.InForce.{InForce}
 use Rattle.period_arrays.specs.declared.flags.Contents.{Contents}
 use Rattle.period_arrays.specs.declared.flags.Flags.{Flags}
-use Rattle.outside.specs.Codes.{refusal}
 use Rattle.outside.specs.declared.codes.Code.TheVariants.{OutOfProfile, NothingToReuse, CellOutside}
-use Rattle.array_reader.specs.Control.{number_at}
-use Rattle.array_reader.specs.Numbers.{integer}
 use Rattle.outside.specs.declared.codes.Code.{Code}
-use Rattle.model_types.specs.Faces.{layer_size, place}
-use Rattle.model_types.specs.Layers.{int_at}
+use Rattle.model_types.specs.{layer_size, place, int_at}
 
 -- Words of the lines before arrays (TM 6-A16, RCH and EVT).
 -- NRCHOP or NEVTOP, the option that chooses a cell in each column of layers: 1, 2 or 3

@@ -1,12 +1,12 @@
 -- What is known of arrays that were read, whatever the folder returned.
 use Rattle.std.specs.Prelude.{◌≡◌, ℕ, ℤ, Bool, true, false, List, All, length}
 use Rattle.decimal_input.specs.declared.dec.Dec.{Dec}
-use Rattle.decimal_input.specs.Decimals.{IsDec}
+use Rattle.decimal_input.specs.{IsDec}
 use Rattle.outside.specs.declared.codes.Code.{Code}
 use Rattle.outside.specs.declared.inputs.TextFault.{TextFault}
 use Rattle.outside.specs.declared.inputs.TextFault.TheVariants as texts
 use Rattle.model_types.specs.declared.grid.Grid.{Grid}
-use Rattle.model_types.specs.Faces.{layer_size}
+use Rattle.model_types.specs.{layer_size}
 use Rattle.period_arrays.specs.Areas.{refusal_at}
 use Rattle.period_arrays.specs.declared.area.Area.{Area}
 use Rattle.period_arrays.specs.declared.area.InForce.{InForce}

@@ -4,7 +4,7 @@ use Rattle.outside.specs.declared.inputs.Refusal.{Refusal}
 use Rattle.model_types.specs.declared.grid.Grid.{Grid}
 use Rattle.model_types.specs.declared.period.Period.{Period}
 use Rattle.model_types.specs.declared.period.Stresses.{Stresses}
-use Rattle.model_types.specs.Receivers.{is_int}
+use Rattle.model_types.specs.{is_int}
 use Rattle.period_arrays.specs.Areas.{no_area}
 use Rattle.period_arrays.specs.declared.area.Area.{Area}
 use Rattle.period_arrays.specs.declared.flags.Contents.{Contents}

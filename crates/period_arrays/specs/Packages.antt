@@ -1,16 +1,12 @@
 -- A file of a package of arrays (TM 6-A16, RCH and EVT).
 use Rattle.std.specs.Prelude.{ℕ, ℤ, Bool, List, Result, Ok, if◌then◌else◌}
-use Rattle.outside.specs.Files.{FileSet}
-use Rattle.outside.specs.Names.{words}
+use Rattle.outside.specs.{FileSet, words}
 use Rattle.outside.specs.declared.inputs.Refusal.{Refusal}
-use Rattle.record_lines.specs.Layout.{Left, left_from, without_comments}
-use Rattle.record_lines.specs.Reading.{◌>>=◌, for_each}
-use Rattle.array_reader.specs.Control.{number_at}
-use Rattle.array_reader.specs.Numbers.{integer}
+use Rattle.record_lines.specs.{Left, left_from, without_comments, ◌>>=◌, for_each}
+use Rattle.array_reader.specs.{number_at, integer}
 use Rattle.model_types.specs.declared.grid.Grid.{Grid}
 use Rattle.model_types.specs.declared.period.Period.{Period}
-use Rattle.list_package.specs.Headers.{item_line}
-use Rattle.list_package.specs.Lists.{without_state}
+use Rattle.list_package.specs.{item_line, without_state}
 use Rattle.period_arrays.specs.Areas.{area_at, nothing_yet, option_at}
 use Rattle.period_arrays.specs.Kinds.{ArrayKind, contents, with_area}
 use Rattle.period_arrays.specs.declared.area.Area.{Area}

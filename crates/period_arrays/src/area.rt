@@ -1,13 +1,10 @@
 // The arrays of recharge or evapotranspiration that are in force.
 ghost use Rattle.std.specs.Prelude.{◌≡◌, IfOk, true, false, List};
-ghost use Rattle.outside.specs.Files.{FileSet};
-ghost use Rattle.outside.specs.Folders.{ReadsOn};
-ghost use Rattle.record_lines.specs.Layout.{LinesMay};
-ghost use Rattle.record_lines.specs.Reading.{Gives};
-ghost use Rattle.array_reader.specs.Arrays.{real_layer};
-ghost use Rattle.model_types.specs.Grids.{HasSize};
-ghost use Rattle.period_arrays.specs.Areas.{area_at, array_or, arrays_of, no_area, nothing_yet, layers_at};
-ghost use Rattle.period_arrays.specs.Forms.{AreFlags, IsArea, IsInForce, IsReals, IsWhole};
+ghost use Rattle.outside.specs.{FileSet, ReadsOn};
+ghost use Rattle.record_lines.specs.{LinesMay, Gives};
+ghost use Rattle.array_reader.specs.{real_layer};
+ghost use Rattle.model_types.specs.{HasSize};
+ghost use Rattle.period_arrays.specs.{area_at, array_or, arrays_of, no_area, nothing_yet, layers_at, AreFlags, IsArea, IsInForce, IsReals, IsWhole};
 
 use crate::flags::{Contents, Flags, flags_of};
 use crate::layers::layers_tested;

@@ -1,8 +1,7 @@
 // Words of the lines before arrays.
 ghost use Rattle.std.specs.Prelude.{◌≡◌, ◌≤ℤ◌, pos, true, false, IfOk};
-ghost use Rattle.record_lines.specs.Reading.{GivesText, HasText};
-ghost use Rattle.period_arrays.specs.Areas.{flag_at, flag_if, flags_of, option_at};
-ghost use Rattle.period_arrays.specs.Forms.{AreFlags};
+ghost use Rattle.record_lines.specs.{GivesText, HasText};
+ghost use Rattle.period_arrays.specs.{flag_at, flag_if, flags_of, option_at, AreFlags};
 
 use array_reader::integer;
 use outside::{Code, TextFault, text_fault};

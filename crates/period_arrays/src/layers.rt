@@ -1,10 +1,8 @@
 // The test of arrays of layers.
 ghost use Rattle.std.specs.Prelude.{◌≡◌, ◌<◌};
-ghost use Rattle.record_lines.specs.Reading.{HasText};
-ghost use Rattle.model_types.specs.Faces.{layer_size, cell_count};
-ghost use Rattle.model_types.specs.Grids.{HasSize};
-ghost use Rattle.period_arrays.specs.Areas.{is_layer, layer_step, layers_tested};
-ghost use Rattle.period_arrays.specs.Forms.{IsCellRefusal};
+ghost use Rattle.record_lines.specs.{HasText};
+ghost use Rattle.model_types.specs.{layer_size, cell_count, HasSize};
+ghost use Rattle.period_arrays.specs.{is_layer, layer_step, layers_tested, IsCellRefusal};
 
 use model_types::layers::int_at;
 use model_types::{CellId, Grid, place_of};

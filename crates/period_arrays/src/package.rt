@@ -1,9 +1,9 @@
 // The trait of a package of arrays.
 ghost use Rattle.std.specs.Prelude.{◌≡◌, ℕ, ℤ, List, Ok};
-ghost use Rattle.record_lines.specs.Reading.{HasText};
+ghost use Rattle.record_lines.specs.{HasText};
 ghost use Rattle.model_types.specs.declared.grid.Grid as grids;
 ghost use Rattle.model_types.specs.declared.period.Stresses as periods;
-ghost use Rattle.model_types.specs.Grids.{HasSize};
+ghost use Rattle.model_types.specs.{HasSize};
 ghost use Rattle.period_arrays.specs.Areas.{no_area};
 ghost use Rattle.period_arrays.specs.Forms.{IsArea};
 ghost use Rattle.period_arrays.specs.Kinds.{ArrayKind, contents};

@@ -1,14 +1,10 @@
 // The periods with their arrays.
 ghost use Rattle.std.specs.Prelude.{◌≡◌, ℕ, ℤ, Ok, IfOk, All, map, List};
-ghost use Rattle.outside.specs.Files.{FileSet};
-ghost use Rattle.outside.specs.Folders.{ReadsOn};
-ghost use Rattle.record_lines.specs.Layout.{LinesMay};
-ghost use Rattle.record_lines.specs.Reading.{Gives, Has, HasText, for_each};
+ghost use Rattle.outside.specs.{FileSet, ReadsOn};
+ghost use Rattle.record_lines.specs.{LinesMay, Gives, Has, HasText, for_each};
 ghost use Rattle.model_types.specs.declared.grid.Grid as grids;
-ghost use Rattle.model_types.specs.Grids.{HasSize};
-ghost use Rattle.period_arrays.specs.Forms.{IsArea, IsInForce};
-ghost use Rattle.period_arrays.specs.Kinds.{contents, with_area, without};
-ghost use Rattle.period_arrays.specs.Packages.{period_at, periods_of, tested_area};
+ghost use Rattle.model_types.specs.{HasSize};
+ghost use Rattle.period_arrays.specs.{IsArea, IsInForce, contents, with_area, without, period_at, periods_of, tested_area};
 
 use crate::area::{Area, InForce, area_at};
 use crate::flags::Contents;

@@ -1,12 +1,9 @@
 // The file of a package of arrays.
 ghost use Rattle.std.specs.Prelude.{◌≡◌, ◌≤ℤ◌, pos, All, IfOk, List, map};
-ghost use Rattle.outside.specs.Names.{TextMay};
-ghost use Rattle.outside.specs.Files.{FileSet};
-ghost use Rattle.outside.specs.Folders.{ReadsOn};
-ghost use Rattle.record_lines.specs.Reading.{GivesText, Has, HasText};
-ghost use Rattle.model_types.specs.Grids.{HasSize};
-ghost use Rattle.period_arrays.specs.Kinds.{without};
-ghost use Rattle.period_arrays.specs.Packages.{arrays_in, option_line, unit_if};
+ghost use Rattle.outside.specs.{TextMay, FileSet, ReadsOn};
+ghost use Rattle.record_lines.specs.{GivesText, Has, HasText};
+ghost use Rattle.model_types.specs.{HasSize};
+ghost use Rattle.period_arrays.specs.{without, arrays_in, option_line, unit_if};
 
 use crate::flags::option_at;
 use crate::package::ArrayPackage;

@@ -16,61 +16,46 @@ pub use Rattle.std.specs.Int.{int_max, int_min, w64}
 pub use Rattle.std.specs.List.{AllZip, Contains, cons_option, filter, filter_map, find, flat_map, fold, list_any, range_with_len}
 pub use Rattle.std.specs.Option.{option_to_list}
 pub use Rattle.std.specs.Prelude.{IfSome, int_lt, min, nat_le, nat_lt, not, reverse, sum_by, unsigned_abs, ◌&&◌, ◌==◌, ◌||◌}
-pub use Rattle.cell_balance.specs.Enclosures.{CellEncloses, DrainEncloses, EnclosesStep, EvapEncloses, FixedEncloses, FlowEncloses, LinkEncloses, RiverEncloses}
+pub use Rattle.cell_balance.specs.{CellEncloses, DrainEncloses, EnclosesStep, EvapEncloses, FixedEncloses, FlowEncloses, LinkEncloses, RiverEncloses}
 pub use Rattle.conductance_bounds.proofs.Enclosing.{bound_on, pair_encloses}
 pub use Rattle.conductance_bounds.proofs.FaceBounds.{faces_enclose, layered, no_gap}
 pub use Rattle.conductance_bounds.proofs.Ready.{delc_positive, delr_positive}
 pub use Rattle.conductance_bounds.proofs.SpanBounds.{above_gap, below_gap, thick_positive}
-pub use Rattle.conductance_bounds.specs.Branches.{column_of, evap_formula, resistance_sum, row_of, row_term, storage_formula, storage_of, storativity_term}
-pub use Rattle.conductance_bounds.specs.Branches.{thickness_of, vertical_of, vertical_term}
-pub use Rattle.conductance_bounds.specs.Calls.{IsBed, IsColHalf, IsHalf, IsVertHalf}
-pub use Rattle.conductance_bounds.specs.Formulas.{area_term, bed_term, column_k_term, evap_term, face_term, recharge_term, storage_term, vertical_half_term}
-pub use Rattle.conductance_bounds.specs.Formulas.{vertical_k_at}
-pub use Rattle.conductance_bounds.specs.Pairs.{IsCapped, IsCappedFlow, IsPair, IsPast, high_end, low_end}
-pub use Rattle.conductance_bounds.specs.Parts.{IsCeilingOf, IsFloorOf, IsGivenPair, IsGrown, IsHeadUnits, IsPart, IsUsable, blend, part_term, sum_term}
-unfoldable pub use Rattle.conductance_bounds.specs.Parts.{power_term}
-pub use Rattle.conductance_bounds.specs.Terms.{Holds, IsBound, IsRounded, Side, Term, other}
-pub use Rattle.conductance_bounds.specs.Terms.Side.{Lower, Upper}
-pub use Rattle.conductance_bounds.specs.Terms.Term.{Number, Product, Quotient, Sum, Within}
-pub use Rattle.conductance_bounds.specs.Thicknesses.{AreThick, IsSpan}
+pub use Rattle.conductance_bounds.specs.{AreThick, Holds, IsBed, IsBound, IsCapped, IsCappedFlow, IsCeilingOf, IsColHalf, IsFloorOf, IsGivenPair, IsGrown}
+pub use Rattle.conductance_bounds.specs.{IsHalf, IsHeadUnits, IsPair, IsPart, IsPast, IsRounded, IsSpan, IsUsable, IsVertHalf, Lower, Number, Product, Quotient}
+pub use Rattle.conductance_bounds.specs.{Side, Sum, Term, Upper, Within, area_term, bed_term, blend, column_k_term, column_of, evap_formula, evap_term}
+pub use Rattle.conductance_bounds.specs.{face_term, high_end, low_end, other, part_term, recharge_term, resistance_sum, row_of, row_term, storage_formula}
+pub use Rattle.conductance_bounds.specs.{storage_of, storage_term, storativity_term, sum_term, thickness_of, vertical_half_term, vertical_k_at, vertical_of}
+pub use Rattle.conductance_bounds.specs.{vertical_term}
+unfoldable pub use Rattle.conductance_bounds.specs.{power_term}
 pub use Rattle.conductance_bounds.specs.declared.pair.Pair.{Pair}
 pub use Rattle.conductance_bounds.specs.declared.span.Span.{Span}
 pub use Rattle.decimal_input.proofs.FloorLaws.{floor_ceiling_enclose, one_ceiling, one_floor}
 pub use Rattle.decimal_input.proofs.Orders.{AtMost-trans, Same-sym, Same-trans}
 pub use Rattle.decimal_input.proofs.Signs.{cancel_right, mul_mono_right}
-pub use Rattle.decimal_input.specs.Decimals.{IsDec, number, size, with_sign}
-unfoldable pub use Rattle.decimal_input.specs.Decimals.{scaled}
-pub use Rattle.decimal_input.specs.Fractions.{Fraction, negated, plus}
-pub use Rattle.decimal_input.specs.Ratios.{Ratio, Same, den, over}
-unfoldable pub use Rattle.decimal_input.specs.Ratios.{ratio}
-pub use Rattle.decimal_input.specs.Wholes.{Encloses, EnclosesSigned, IsCeiling, IsFloor, IsSignedCeiling, IsSignedFloor, Passes}
+pub use Rattle.decimal_input.specs.{Encloses, EnclosesSigned, Fraction, IsCeiling, IsDec, IsFloor, IsSignedCeiling, IsSignedFloor, Passes, Ratio, negated}
+pub use Rattle.decimal_input.specs.{number, over, size, with_sign}
+unfoldable pub use Rattle.decimal_input.specs.{ratio, scaled}
+pub use Rattle.decimal_input.specs.Fractions.{plus}
+pub use Rattle.decimal_input.specs.Ratios.{Same, den}
 pub use Rattle.decimal_input.specs.declared.dec.Dec.{Dec}
 pub use Rattle.flow_equations.proofs.Links.{are_linked, below_is, index_is}
-pub use Rattle.flow_equations.specs.ExactStep.{exact_cell, exact_drain, exact_evap, exact_fixed, exact_flow, exact_link, exact_river, exact_step}
+pub use Rattle.flow_equations.specs.{exact_cell, exact_drain, exact_evap, exact_fixed, exact_flow, exact_link, exact_river, exact_step}
 pub use Rattle.model_types.proofs.Leads.{IsFaceOf, after_within, before_back, before_le, end_other, end_within, ends_ascend, face_back, faces_are, few_faces}
 pub use Rattle.model_types.proofs.Leads.{first_within, passing_are, passing_have, turned}
 pub use Rattle.model_types.proofs.Members.{All-In, Contains-In, In, In-All, In-get_or, Ordered, Ordered-at, filter_map-In, map-In}
 pub use Rattle.model_types.proofs.Ranks.{IsAt, at_rank, fails_next, is_at, passes_next, passing, range_more, rank, rank_apart, rank_below, rank_fails, rank_few}
 pub use Rattle.model_types.proofs.Ranks.{rank_passes}
-pub use Rattle.model_types.specs.Conductances.{conductance}
-pub use Rattle.model_types.specs.Faces.{cell_count, face_after, faces, has_after, layer_of, layer_size, place_in_layer, span, stride, through}
-pub use Rattle.model_types.specs.Grids.{HasSize, IsGrid, IsHeadNumber, IsNotNegative, IsPositive, IsThick}
-pub use Rattle.model_types.specs.Heads.{head_or_kept, index_of, is_constant, is_variable, kept_head, kind_of, last_given, start_head, variable_below}
-pub use Rattle.model_types.specs.Heads.{variable_cells}
-unfoldable pub use Rattle.model_types.specs.Heads.{constant_head, given_heads, given_in, kinds}
-pub use Rattle.model_types.specs.Layers.{bed_thickness, bottom_at, dec_at, delc_at, delr_at, has_bed, hk_at, int_at, is_active, lowest, no_number, thickness}
-pub use Rattle.model_types.specs.Layers.{top_at, vkcb_at}
-pub use Rattle.model_types.specs.Receivers.{EvapSource, evap_at, evap_conductance, evap_source, extinction, is_chosen, is_highest, is_int, recharge_at}
-pub use Rattle.model_types.specs.Receivers.{recharge_flow}
-pub use Rattle.model_types.specs.Sources.{DrainSource, FixedSource, FlowSource, RiverSource, as_drain, as_general, as_river, as_well, cell_of, constant_faces}
-pub use Rattle.model_types.specs.Sources.{drain_sources, evap_sources, fixed_sources, flow_sources, local_entries, river_sources, storage_at, variable_faces}
-unfoldable pub use Rattle.model_types.specs.Sources.{entries_of}
-pub use Rattle.model_types.specs.Sources.FixedSource.{FromStorage, ToConstant, ToGeneral}
-pub use Rattle.model_types.specs.Sources.FlowSource.{Pumped, Received}
-pub use Rattle.model_types.specs.Storage.{storage}
-pub use Rattle.model_types.specs.Times.{entries, no_period, period_at, steps_of}
-unfoldable pub use Rattle.model_types.specs.Times.{times}
-pub use Rattle.model_types.specs.Valid.{IsBedValid, IsCellValid, IsEntryValid, IsEvapValid, IsGivenValid, IsModel, IsPeriod, number_one}
+pub use Rattle.model_types.specs.{DrainSource, EvapSource, FixedSource, FlowSource, FromStorage, HasSize, IsBedValid, IsCellValid, IsEntryValid, IsEvapValid}
+pub use Rattle.model_types.specs.{IsGivenValid, IsGrid, IsHeadNumber, IsModel, IsNotNegative, IsPeriod, IsPositive, IsThick, Pumped, Received, RiverSource}
+pub use Rattle.model_types.specs.{ToConstant, ToGeneral, as_drain, as_general, as_river, as_well, bed_thickness, bottom_at, cell_count, cell_of, conductance}
+pub use Rattle.model_types.specs.{constant_faces, dec_at, delc_at, delr_at, drain_sources, entries, evap_at, evap_conductance, evap_source, evap_sources}
+pub use Rattle.model_types.specs.{extinction, face_after, faces, fixed_sources, flow_sources, has_after, has_bed, head_or_kept, hk_at, index_of, int_at}
+pub use Rattle.model_types.specs.{is_active, is_chosen, is_constant, is_highest, is_int, is_variable, kept_head, kind_of, last_given, layer_of, layer_size}
+pub use Rattle.model_types.specs.{local_entries, lowest, no_number, no_period, number_one, period_at, place_in_layer, recharge_at, recharge_flow, river_sources}
+pub use Rattle.model_types.specs.{span, start_head, steps_of, storage, storage_at, stride, thickness, through, top_at, variable_below, variable_cells}
+pub use Rattle.model_types.specs.{variable_faces, vkcb_at}
+unfoldable pub use Rattle.model_types.specs.{constant_head, entries_of, given_heads, given_in, kinds, times}
 pub use Rattle.model_types.specs.declared.entry.Entry.{Entry}
 pub use Rattle.model_types.specs.declared.entry.Entry.TheVariants.{General, Well}
 pub use Rattle.model_types.specs.declared.entry.Given.{Given}
@@ -84,27 +69,23 @@ pub use Rattle.model_types.specs.declared.model.FlowModel.{FlowModel}
 pub use Rattle.model_types.specs.declared.period.Period.{Period}
 pub use Rattle.model_types.specs.declared.time_steps.TimeStep.{TimeStep}
 pub use Rattle.number_limits.proofs.Canonical.{dec_at_is}
-pub use Rattle.problem_builder.specs.Cells.{IsCellOf, IsConstant, IsDrain, IsEvap, IsFixed, IsFlow, IsLink, IsReceived, IsRiver, IsStorage}
-pub use Rattle.problem_builder.specs.Filled.{BothOrNone, Filled}
-pub use Rattle.problem_builder.specs.GridHeads.{AreConstantHeads, AreGridHeads, AreStartHeads, HasConstantHead, HeadsEnclose, IsActive, IsGivenOrKept}
-pub use Rattle.problem_builder.specs.GridHeads.{IsKeptPair, IsStart}
-unfoldable pub use Rattle.problem_builder.specs.GridHeads.{IsConstantPair}
-pub use Rattle.problem_builder.specs.InputBounds.{IsCond, IsDepth, IsHeadPair, IsRechargePair, IsWellPair}
-pub use Rattle.problem_builder.specs.LocalBounds.{AreAppended, AreLocalBounds, IsEntryIn, IsGeneralSource, IsWellSource, LocalBounds, kept_bounds, local_in}
-pub use Rattle.problem_builder.specs.LocalBounds.{no_bounds}
-pub use Rattle.problem_builder.specs.Made.{HasPair, IsCellFault, IsFirstFault, IsStartInRange, IsVariableCell}
-pub use Rattle.problem_builder.specs.PeriodTables.{IsCovered, IsEvaporated, IsIndex, IsKept, IsKind, IsNamed, IsRecharged}
-pub use Rattle.problem_builder.specs.Problems.{AreCells, HasNoProblem, IsProblemOf, IsRefused, has_small_branch}
-unfoldable pub use Rattle.problem_builder.specs.Problems.{fault_of}
-pub use Rattle.problem_builder.specs.StepTables.{AreEvenFactors, AreFactorsOf, HasEvenSteps, HasEvenStorage, HasOldHeads, HasStorage, IsTimeOf}
-pub use Rattle.problem_builder.specs.Tables.{AreEvenStorages, AreInputs, ArePeriodTables, AreTables, Inputs, no_pair, no_span, pair_at, pair_in, span_in}
-pub use Rattle.problem_builder.specs.Tables.{widths_of}
-pub use Rattle.problem_builder.specs.Widths.{AreThicknesses, HasConductance, IsBedBelow, IsBedOf, IsNoBed, IsThickness, Thicknesses, layer_half}
+pub use Rattle.problem_builder.specs.{AreAppended, AreCells, AreConstantHeads, AreEvenFactors, AreEvenStorages, AreFactorsOf, AreGridHeads, AreInputs}
+pub use Rattle.problem_builder.specs.{AreLocalBounds, ArePeriodTables, AreStartHeads, AreTables, AreThicknesses, BothOrNone, HasConductance, HasConstantHead}
+pub use Rattle.problem_builder.specs.{HasEvenSteps, HasEvenStorage, HasNoProblem, HasOldHeads, HasPair, HasStorage, HeadsEnclose, Inputs, IsActive, IsBedBelow}
+pub use Rattle.problem_builder.specs.{IsBedOf, IsBuildable, IsCellFault, IsCellOf, IsCond, IsConstant, IsCovered, IsDepth, IsDrain, IsEntryIn, IsEvap}
+pub use Rattle.problem_builder.specs.{IsEvaporated, IsFirstFault, IsFixed, IsFlow, IsGeneralSource, IsGivenOrKept, IsHeadPair, IsIndex, IsKept, IsKeptPair}
+pub use Rattle.problem_builder.specs.{IsKind, IsLink, IsNoBed, IsProblemOf, IsReceived, IsRechargePair, IsRecharged, IsRefused, IsRiver, IsStart}
+pub use Rattle.problem_builder.specs.{IsStartInRange, IsStorage, IsThickness, IsTimeOf, IsVariableCell, IsWellPair, IsWellSource, Thicknesses, example_bound}
+pub use Rattle.problem_builder.specs.{example_grid, example_heads, example_model, example_period, example_time, has_small_branch, kept_bounds, layer_half}
+pub use Rattle.problem_builder.specs.{local_in, no_bounds, no_pair, no_span, pair_at, pair_in, span_in, thousandths, whole, widths_of}
+unfoldable pub use Rattle.problem_builder.specs.{IsConstantPair, fault_of}
+pub use Rattle.problem_builder.specs.Filled.{Filled}
+pub use Rattle.problem_builder.specs.LocalBounds.{LocalBounds}
+pub use Rattle.problem_builder.specs.PeriodTables.{IsNamed}
 pub use Rattle.scaled_decimal.specs.declared.decimal.Sd.{Sd}
-pub use Rattle.step_problem.specs.Conditions.{CellFits, DrainFits, EvapFits, FixedFits, IsHead, IsProblem, LinkFits, LinksFit, RiverFits, conductance_of}
-pub use Rattle.step_problem.specs.Conditions.{flow_of, head_limit, magnitude}
-pub use Rattle.step_problem.specs.Entries.{Entries, entries_at, no_entries, no_link}
-pub use Rattle.step_problem.specs.Heads.{lower_at, no_bound, upper_at}
+pub use Rattle.step_problem.specs.{CellFits, DrainFits, EvapFits, FixedFits, IsHead, IsProblem, LinkFits, LinksFit, RiverFits, conductance_of, entries_at}
+pub use Rattle.step_problem.specs.{flow_of, head_limit, lower_at, magnitude, no_bound, no_entries, no_link, upper_at}
+pub use Rattle.step_problem.specs.Entries.{Entries}
 pub use Rattle.step_problem.specs.declared.entry.Drain.{Drain}
 pub use Rattle.step_problem.specs.declared.entry.Evap.{Evap}
 pub use Rattle.step_problem.specs.declared.entry.Fixed.{Fixed}

@@ -3,7 +3,8 @@ use Rattle.problem_builder.proofs.Common.{All-nil, ℕ, zero, suc, ◌<◌, inl,
 use Rattle.problem_builder.proofs.Common.{◌==◌, option_to_list, Contains, false≢true, ints, Dec, IsDec, scaled, IsHead, start_head, Period, place_in_layer}
 use Rattle.problem_builder.proofs.Common.{dec_at, IsPositive, IsNotNegative, IsHeadNumber, IsThick, evap_sources, EvapSource, is_chosen, no_period, IsModel}
 use Rattle.problem_builder.proofs.Common.{IsPeriod, IsEvapValid, IsEntryValid, AreGridHeads, HeadsEnclose, ratio, IsGrid, IsCellValid, All-replicate, times}
-use Rattle.problem_builder.specs.Example.{IsBuildable, whole, thousandths, example_grid, example_period, example_model, example_time, example_bound, example_heads}
+use Rattle.problem_builder.proofs.Common.{IsBuildable, whole, thousandths, example_grid, example_period, example_model, example_time, example_bound}
+use Rattle.problem_builder.proofs.Common.{example_heads}
 
 zero_valid : IsDec (whole 0)
 zero_valid = record { few = omega arith; form = inl (refl, refl, refl); above = omega (arith, ints); below = omega (arith, ints) }

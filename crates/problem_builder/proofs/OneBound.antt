@@ -7,9 +7,9 @@ use Rattle.problem_builder.proofs.Common.{Lower, Upper, IsSpan, IsPair, IsPast, 
 use Rattle.problem_builder.proofs.Common.{IsCappedFlow, Sd}
 use Rattle.decimal_input.specs.Ratios.{times, plus}
 use Rattle.std.proofs.Common.{unsigned_abs}
-use Rattle.scaled_decimal.specs.Nearest.{IsSd, value, IsDown, IsUp}
+use Rattle.scaled_decimal.specs.{IsSd, value, IsDown, IsUp}
 use Rattle.scaled_decimal.proofs.Monotone.{one_decimal}
-use Rattle.conductance_bounds.specs.Pairs.{IsFlow}
+use Rattle.conductance_bounds.specs.{IsFlow}
 use Rattle.decimal_input.proofs.SameNumbers.{Same-both}
 
 same_decimal : (r q : Sd) → IsSd r → IsSd q → Same (value r) (value q) → r ≡ q

@@ -13,23 +13,16 @@ use Rattle.step_problem.specs.declared.entry.River.{River}
 use Rattle.step_problem.specs.declared.entry.Drain.{Drain}
 use Rattle.step_problem.specs.declared.entry.Evap.{Evap}
 use Rattle.step_problem.specs.Entries.{Entries}
-use Rattle.step_problem.specs.Heads.{lower_at, upper_at}
+use Rattle.step_problem.specs.{lower_at, upper_at}
 use Rattle.model_types.specs.declared.face.Face.{Face}
 use Rattle.model_types.specs.declared.model.FlowModel.{FlowModel}
 use Rattle.model_types.specs.declared.time_steps.TimeStep.{TimeStep}
-use Rattle.model_types.specs.Times.{period_at}
-use Rattle.model_types.specs.Heads.{index_of}
-use Rattle.model_types.specs.Receivers.{EvapSource}
-use Rattle.model_types.specs.Sources.{FixedSource, FlowSource, RiverSource, DrainSource, variable_faces, flow_sources}
-use Rattle.model_types.specs.Sources.{fixed_sources, river_sources, drain_sources, evap_sources}
-use Rattle.model_types.specs.Sources.FixedSource.{ToConstant, ToGeneral, FromStorage}
-use Rattle.model_types.specs.Sources.FlowSource.{Pumped, Received}
-use Rattle.conductance_bounds.specs.Pairs.{IsCapped}
-use Rattle.conductance_bounds.specs.Formulas.{face_term, storage_term, evap_term}
-use Rattle.problem_builder.specs.InputBounds.{IsCond, IsWellPair, IsHeadPair}
+use Rattle.model_types.specs.{period_at, index_of, EvapSource, FixedSource, FlowSource, RiverSource, DrainSource, variable_faces, flow_sources, fixed_sources}
+use Rattle.model_types.specs.{river_sources, drain_sources, evap_sources, ToConstant, ToGeneral, FromStorage, Pumped, Received}
+use Rattle.conductance_bounds.specs.{IsCapped, face_term, storage_term, evap_term}
+use Rattle.problem_builder.specs.InputBounds.{IsCond, IsWellPair, IsHeadPair, IsRechargePair}
 use Rattle.problem_builder.specs.Widths.{Thicknesses}
 use Rattle.problem_builder.specs.GridHeads.{IsConstantPair}
-use Rattle.problem_builder.specs.InputBounds.{IsRechargePair}
 
 -- Entries, by the numbers of a list.
 

@@ -3,8 +3,7 @@
 -- period is transient, with one time step. HK and the flow of the well are parameters.
 use Rattle.std.specs.Prelude.{ℕ, List, [], ◌∷◌, pos, neg_ℤ, Contains, false}
 use Rattle.decimal_input.specs.declared.dec.Dec.{Dec}
-use Rattle.decimal_input.specs.Decimals.{IsDec}
-use Rattle.decimal_input.specs.Fractions.{Fraction}
+use Rattle.decimal_input.specs.{IsDec, Fraction}
 use Rattle.step_problem.specs.declared.heads.Bound.{Bound}
 use Rattle.model_types.specs.declared.entry.Entry.TheVariants.{Well, River, Drain, General}
 use Rattle.model_types.specs.declared.grid.CellId.{CellId}
@@ -12,10 +11,7 @@ use Rattle.model_types.specs.declared.grid.Grid.{Grid}
 use Rattle.model_types.specs.declared.model.FlowModel.{FlowModel}
 use Rattle.model_types.specs.declared.period.Period.{Period}
 use Rattle.model_types.specs.declared.time_steps.TimeStep.{TimeStep}
-use Rattle.model_types.specs.Heads.{start_head}
-use Rattle.model_types.specs.Grids.{IsPositive}
-use Rattle.model_types.specs.Times.{no_stresses, times}
-use Rattle.model_types.specs.Valid.{IsModel}
+use Rattle.model_types.specs.{start_head, IsPositive, no_stresses, times, IsModel}
 use Rattle.problem_builder.specs.GridHeads.{AreGridHeads, HeadsEnclose}
 
 -- all premises of building a time step's problem, and exact heads before it that the bounds enclose

@@ -1,20 +1,15 @@
 -- Bounds of the heads of all cells of the grid, by cell number, in units of 10^-9.
 use Rattle.std.specs.Prelude.{◌≡◌, ℕ, ◌<◌, ◌⊎◌, true, List, All, Contains, length, ◌-◌, ℤ, false, Option, Some, None, take}
-use Rattle.decimal_input.specs.Fractions.{Fraction}
-use Rattle.decimal_input.specs.Wholes.{EnclosesSigned}
+use Rattle.decimal_input.specs.{Fraction, EnclosesSigned}
 use Rattle.step_problem.specs.declared.heads.Bound.{Bound}
 use Rattle.step_problem.specs.declared.entry.Fixed.{Fixed}
-use Rattle.step_problem.specs.Entries.{Entries, entries_at}
-use Rattle.step_problem.specs.Heads.{lower_at, upper_at, no_bound}
-use Rattle.step_problem.specs.Conditions.{IsHead}
+use Rattle.step_problem.specs.Entries.{Entries}
+use Rattle.step_problem.specs.{entries_at, lower_at, upper_at, no_bound, IsHead}
 use Rattle.model_types.specs.declared.model.FlowModel.{FlowModel}
-use Rattle.model_types.specs.Faces.{cell_count}
-use Rattle.model_types.specs.Layers.{is_active, dec_at}
+use Rattle.model_types.specs.{cell_count, is_active, dec_at, period_at, is_constant, given_in, last_given}
 use Rattle.model_types.specs.declared.entry.Given.{Given}
 use Rattle.model_types.specs.declared.time_steps.TimeStep.{TimeStep}
-use Rattle.model_types.specs.Times.{period_at}
-use Rattle.model_types.specs.Heads.{is_constant, given_in, last_given}
-use Rattle.conductance_bounds.specs.Parts.{IsPart, IsGivenPair}
+use Rattle.conductance_bounds.specs.{IsPart, IsGivenPair}
 use Rattle.problem_builder.specs.Filled.{Filled}
 use Rattle.problem_builder.specs.InputBounds.{IsHeadPair}
 

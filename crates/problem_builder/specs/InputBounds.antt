@@ -1,13 +1,10 @@
 -- Numbers of the input as whole bounds: conductances in units of 10^-s, flows of 10^-(s+9), heads of 10^-9.
 use Rattle.std.specs.Prelude.{ℕ, ◌+◌, ℤ, pos, ◌≤ℤ◌}
 use Rattle.decimal_input.specs.declared.dec.Dec.{Dec}
-use Rattle.decimal_input.specs.Decimals.{size, number}
-use Rattle.decimal_input.specs.Wholes.{IsSignedFloor, IsSignedCeiling}
+use Rattle.decimal_input.specs.{size, number, IsSignedFloor, IsSignedCeiling}
 use Rattle.model_types.specs.declared.model.FlowModel.{FlowModel}
-use Rattle.conductance_bounds.specs.Formulas.{recharge_term}
-use Rattle.conductance_bounds.specs.Pairs.{IsCapped, IsCappedFlow}
-use Rattle.conductance_bounds.specs.Terms.Term.{Number}
-use Rattle.model_types.specs.Grids.{IsPositive}
+use Rattle.conductance_bounds.specs.{recharge_term, IsCapped, IsCappedFlow, Number}
+use Rattle.model_types.specs.{IsPositive}
 
 -- a conductance as its own formula
 abbrev pub IsCond : ℕ → Dec → ℕ → ℕ → Type 0

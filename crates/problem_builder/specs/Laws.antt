@@ -1,16 +1,13 @@
 -- Problems and refusals are unique, and problems meet their conditions: for valid models and their times.
 use Rattle.std.specs.Prelude.{◌≡◌, ℕ, ◌<◌, true, ℤ, List, Contains}
-use Rattle.decimal_input.specs.Wholes.{EnclosesSigned}
+use Rattle.decimal_input.specs.{EnclosesSigned}
 use Rattle.step_problem.specs.declared.heads.Bound.{Bound}
 use Rattle.step_problem.specs.declared.place.NoBound.{NoBound}
 use Rattle.step_problem.specs.Entries.{Entries}
-use Rattle.step_problem.specs.Conditions.{IsProblem, IsHead}
+use Rattle.step_problem.specs.{IsProblem, IsHead}
 use Rattle.model_types.specs.declared.model.FlowModel.{FlowModel}
 use Rattle.model_types.specs.declared.time_steps.TimeStep.{TimeStep}
-use Rattle.model_types.specs.Faces.{cell_count}
-use Rattle.model_types.specs.Heads.{constant_head, is_constant}
-use Rattle.model_types.specs.Times.{times}
-use Rattle.model_types.specs.Valid.{IsModel}
+use Rattle.model_types.specs.{cell_count, constant_head, is_constant, times, IsModel}
 use Rattle.problem_builder.specs.GridHeads.{IsConstantPair, AreConstantHeads, AreGridHeads, AreStartHeads}
 use Rattle.problem_builder.specs.Problems.{IsProblemOf, HasNoProblem}
 

@@ -7,10 +7,8 @@ use Rattle.step_problem.specs.declared.entry.Fixed.{Fixed}
 use Rattle.step_problem.specs.declared.entry.River.{River}
 use Rattle.step_problem.specs.declared.entry.Drain.{Drain}
 use Rattle.model_types.specs.declared.entry.Entry.{Entry}
-use Rattle.model_types.specs.Sources.{FixedSource, FlowSource, cell_of, entries_of, as_well, as_river, as_drain, as_general}
-use Rattle.model_types.specs.Sources.FixedSource.{ToConstant, ToGeneral, FromStorage}
-use Rattle.model_types.specs.Sources.FlowSource.{Pumped, Received}
-use Rattle.model_types.specs.Valid.{IsEntryValid}
+use Rattle.model_types.specs.{FixedSource, FlowSource, cell_of, entries_of, as_well, as_river, as_drain, as_general, ToConstant, ToGeneral, FromStorage, Pumped}
+use Rattle.model_types.specs.{Received, IsEntryValid}
 use Rattle.problem_builder.specs.Cells.{IsWell, IsRiver, IsDrain, IsGeneral}
 
 -- a well or a general head as a source

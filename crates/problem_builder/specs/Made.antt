@@ -5,13 +5,10 @@ use Rattle.step_problem.specs.Entries.{Entries}
 use Rattle.model_types.specs.declared.face.Face.{Face}
 use Rattle.model_types.specs.declared.model.FlowModel.{FlowModel}
 use Rattle.step_problem.specs.declared.heads.Bound.{Bound}
-use Rattle.step_problem.specs.Conditions.{IsHead}
+use Rattle.step_problem.specs.{IsHead}
 use Rattle.problem_builder.specs.GridHeads.{IsStart}
-use Rattle.model_types.specs.Heads.{is_variable}
-use Rattle.model_types.specs.Faces.{cell_count}
-use Rattle.model_types.specs.Layers.{is_active}
-use Rattle.conductance_bounds.specs.Pairs.{IsCapped}
-use Rattle.conductance_bounds.specs.Formulas.{face_term}
+use Rattle.model_types.specs.{is_variable, cell_count, is_active}
+use Rattle.conductance_bounds.specs.{IsCapped, face_term}
 use Rattle.problem_builder.specs.declared.fault.BuildFault.{BuildFault}
 use Rattle.problem_builder.specs.declared.fault.BuildFault.TheVariants.{NoBound as Refused, Memory}
 use Rattle.problem_builder.specs.Cells.{IsCellOf}

@@ -6,9 +6,7 @@ use Rattle.conductance_bounds.specs.declared.pair.FlowPair.{FlowPair}
 use Rattle.model_types.specs.declared.entry.Given.{Given}
 use Rattle.model_types.specs.declared.given_heads.Kind.{Kind}
 use Rattle.model_types.specs.declared.model.FlowModel.{FlowModel}
-use Rattle.model_types.specs.Heads.{kind_of, index_of, given_in, last_given}
-use Rattle.model_types.specs.Layers.{is_active}
-use Rattle.model_types.specs.Receivers.{is_highest, recharge_at, evap_at}
+use Rattle.model_types.specs.{kind_of, index_of, given_in, last_given, is_active, is_highest, recharge_at, evap_at}
 use Rattle.problem_builder.specs.GridHeads.{IsKeptPair}
 use Rattle.problem_builder.specs.InputBounds.{IsRechargePair}
 use Rattle.problem_builder.specs.Cells.{IsEvap}

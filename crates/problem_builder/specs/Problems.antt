@@ -8,12 +8,10 @@ use Rattle.step_problem.specs.declared.place.Place.TheVariants.{Cell}
 use Rattle.step_problem.specs.Entries.{Entries}
 use Rattle.model_types.specs.declared.model.FlowModel.{FlowModel}
 use Rattle.model_types.specs.declared.time_steps.TimeStep.{TimeStep}
-use Rattle.model_types.specs.Faces.{cell_count}
-use Rattle.model_types.specs.Heads.{is_variable, variable_below, variable_cells}
-use Rattle.model_types.specs.Times.{period_at}
-use Rattle.decimal_input.specs.Fractions.{Fraction}
-use Rattle.cell_balance.specs.Enclosures.{EnclosesStep}
-use Rattle.flow_equations.specs.ExactStep.{exact_step}
+use Rattle.model_types.specs.{cell_count, is_variable, variable_below, variable_cells, period_at}
+use Rattle.decimal_input.specs.{Fraction}
+use Rattle.cell_balance.specs.{EnclosesStep}
+use Rattle.flow_equations.specs.{exact_step}
 use Rattle.problem_builder.specs.declared.fault.BuildFault.{BuildFault}
 use Rattle.problem_builder.specs.declared.fault.BuildFault.TheVariants.{NoBound as Refused, Memory}
 use Rattle.problem_builder.specs.Widths.{Thicknesses, AreThicknesses}
@@ -23,8 +21,7 @@ use Rattle.problem_builder.specs.StepTables.{HasOldHeads}
 use Rattle.step_problem.specs.declared.entry.FixedKind.{FixedKind}
 use Rattle.step_problem.specs.declared.entry.FixedKind.TheVariants.{Constant, General, Storage}
 use Rattle.step_problem.specs.declared.refusal.StepRefusal.TheVariants.{ConductanceTooSmall, ConductanceTooLarge, FlowTooLarge}
-use Rattle.step_problem.specs.StepRefusals.{number_of}
-use Rattle.step_problem.specs.Conditions.{conductance_of, flow_of}
+use Rattle.step_problem.specs.{number_of, conductance_of, flow_of}
 
 -- The refusals of a cell, in their order.
 -- a branch to a constant-head neighbour

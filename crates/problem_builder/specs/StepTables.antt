@@ -1,22 +1,19 @@
 -- The contents of the tables of a time step, cell by cell.
 use Rattle.std.specs.Prelude.{◌≡◌, ℕ, ◌≤◌, ◌^◌, true, false, Option, Some, None, ◌<◌, List, length, Contains}
-use Rattle.decimal_input.specs.Decimals.{size}
+use Rattle.decimal_input.specs.{size}
 use Rattle.model_types.specs.declared.model.FlowModel.{FlowModel}
 use Rattle.model_types.specs.declared.period.Period.{Period}
 use Rattle.model_types.specs.declared.time_steps.TimeStep.{TimeStep}
-use Rattle.model_types.specs.Times.{period_at}
-use Rattle.model_types.specs.Heads.{is_variable}
-use Rattle.model_types.specs.Valid.{number_one, IsPeriod}
+use Rattle.model_types.specs.{period_at, is_variable, number_one, IsPeriod}
 use Rattle.conductance_bounds.specs.declared.storage.Factors.{Factors}
 use Rattle.conductance_bounds.specs.declared.pair.Pair.{Pair}
 use Rattle.conductance_bounds.specs.declared.part.Part.{Part}
 use Rattle.conductance_bounds.specs.declared.span.Span.{Span}
-use Rattle.conductance_bounds.specs.Formulas.{storage_term}
-use Rattle.conductance_bounds.specs.Parts.{IsUsable, IsGrown, IsPart}
-use Rattle.conductance_bounds.specs.Pairs.{IsCapped}
+use Rattle.conductance_bounds.specs.{storage_term, IsUsable, IsGrown, IsPart, IsCapped}
 use Rattle.step_problem.specs.declared.entry.Fixed.{Fixed}
 use Rattle.step_problem.specs.declared.entry.FixedKind.TheVariants.{Storage}
-use Rattle.step_problem.specs.Entries.{Entries, entries_at}
+use Rattle.step_problem.specs.Entries.{Entries}
+use Rattle.step_problem.specs.{entries_at}
 
 -- the factors of a step of a transient period
 pub record AreStepFactors (m : FlowModel) (at : TimeStep) (f : Factors) : Type 0 where

@@ -1,18 +1,14 @@
 -- The contents of the builder's tables.
 use Rattle.std.specs.Prelude.{◌≡◌, ℕ, ◌≤◌, pos, List, length, slice_index_or, Option, Some, None, ◌-◌}
 use Rattle.step_problem.specs.declared.heads.Bound.{Bound}
-use Rattle.step_problem.specs.Heads.{no_bound}
+use Rattle.step_problem.specs.{no_bound}
 use Rattle.scaled_decimal.specs.declared.decimal.Sd.{Sd}
 use Rattle.model_types.specs.declared.face.Axis.{Axis}
 use Rattle.model_types.specs.declared.face.Axis.TheVariants.{Row, Column, Vertical}
 use Rattle.model_types.specs.declared.given_heads.Kind.TheVariants.{NoFlow}
 use Rattle.model_types.specs.declared.model.FlowModel.{FlowModel}
 use Rattle.model_types.specs.declared.time_steps.TimeStep.{TimeStep}
-use Rattle.model_types.specs.Faces.{cell_count}
-use Rattle.model_types.specs.Grids.{HasSize}
-use Rattle.model_types.specs.Times.{period_at}
-use Rattle.model_types.specs.Sources.{local_entries}
-use Rattle.model_types.specs.Valid.{IsModel}
+use Rattle.model_types.specs.{cell_count, HasSize, period_at, local_entries, IsModel}
 use Rattle.conductance_bounds.specs.declared.span.Span.{Span}
 use Rattle.conductance_bounds.specs.declared.pair.Pair.{Pair}
 use Rattle.problem_builder.specs.declared.tables.Tables.{Tables}

@@ -2,19 +2,14 @@
 use Rattle.std.specs.Prelude.{◌≡◌, ℕ, ◌+◌, ◌<◌, ◌⊎◌, true}
 use Rattle.model_types.specs.declared.model.FlowModel.{FlowModel}
 use Rattle.model_types.specs.declared.face.Axis.{Axis}
-use Rattle.model_types.specs.Faces.{stride, has_after, cell_count, layer_size}
+use Rattle.model_types.specs.{stride, has_after, cell_count, layer_size, is_active, top_at, bottom_at, lowest, bed_thickness, delr_at, delc_at, hk_at, hani_at}
+use Rattle.model_types.specs.{vka_at, vkcb_at, is_ratio, IsPositive}
 use Rattle.conductance_bounds.specs.declared.pair.Pair.{Pair}
 use Rattle.conductance_bounds.specs.declared.horizontal.Half.{Half}
 use Rattle.conductance_bounds.specs.declared.horizontal.ColHalf.{ColHalf}
 use Rattle.conductance_bounds.specs.declared.vertical.VertHalf.{VertHalf}
-use Rattle.conductance_bounds.specs.Pairs.{IsCapped}
-use Rattle.conductance_bounds.specs.Formulas.{face_term}
-use Rattle.model_types.specs.Layers.{is_active, top_at, bottom_at, lowest, bed_thickness, delr_at, delc_at, hk_at, hani_at, vka_at, vkcb_at, is_ratio}
-use Rattle.model_types.specs.Grids.{IsPositive}
+use Rattle.conductance_bounds.specs.{IsCapped, face_term, IsZero, IsSpan, AreThick, AreSpanned}
 use Rattle.conductance_bounds.specs.declared.span.Span.{Span}
-use Rattle.conductance_bounds.specs.Calls.{IsZero}
-use Rattle.conductance_bounds.specs.Thicknesses.{IsSpan, AreThick}
-use Rattle.conductance_bounds.specs.ModelLaws.{AreSpanned}
 
 -- the decimals of an active cell's thickness
 pub record IsThicknessOf (m : FlowModel) (c : ℕ) (t : Span) : Type 0 where

@@ -1,13 +1,8 @@
 // The branches of a cell to its neighbours.
 ghost use Rattle.std.specs.Prelude.{◌≡◌, ◌<◌, All, IfOk, ◌++◌};
 ghost use Rattle.std.specs.List.{AllZip, filter_map};
-ghost use Rattle.model_types.specs.Faces.{cell_count, through};
-ghost use Rattle.model_types.specs.Heads.{is_variable, is_constant};
-ghost use Rattle.model_types.specs.Sources.{variable_faces, constant_faces};
-ghost use Rattle.problem_builder.specs.Cells.{IsLink, IsConstant};
-ghost use Rattle.problem_builder.specs.Made.{IsVariableCell, HasPair};
-ghost use Rattle.problem_builder.specs.Tables.{AreInputs, pair_at, widths_of};
-ghost use Rattle.problem_builder.specs.Filled.{BothOrNone};
+ghost use Rattle.model_types.specs.{cell_count, through, is_variable, is_constant, variable_faces, constant_faces};
+ghost use Rattle.problem_builder.specs.{IsLink, IsConstant, IsVariableCell, HasPair, AreInputs, pair_at, widths_of, BothOrNone};
 ghost use Rattle.std.specs.Option.{option_to_list};
 
 use crate::input::StepInput;

@@ -1,12 +1,8 @@
 // The problem of a step, cell by cell.
 ghost use Rattle.std.specs.Prelude.{◌≤◌, Contains, IfOk, IfErr};
-ghost use Rattle.model_types.specs.Faces.{cell_count};
-ghost use Rattle.model_types.specs.Times.{times};
-ghost use Rattle.model_types.specs.Valid.{IsModel};
-ghost use Rattle.problem_builder.specs.GridHeads.{AreGridHeads};
-ghost use Rattle.problem_builder.specs.Problems.{AreCells, IsBuilt, IsBuildFault};
-ghost use Rattle.problem_builder.specs.Made.{IsVariableCell, IsCheckedCell, IsCellFault, IsFirstFault};
-ghost use Rattle.problem_builder.specs.Tables.{AreInputs, AreTables, ArePeriodTables, AreStepTables, AreEvenStorages, span_in, widths_of};
+ghost use Rattle.model_types.specs.{cell_count, times, IsModel};
+ghost use Rattle.problem_builder.specs.{AreGridHeads, AreCells, IsBuilt, IsBuildFault, IsVariableCell, IsCheckedCell, IsCellFault, IsFirstFault, AreInputs};
+ghost use Rattle.problem_builder.specs.{AreTables, ArePeriodTables, AreStepTables, AreEvenStorages, span_in, widths_of};
 
 use crate::cell::cell;
 use crate::fault::{BuildFault, fault};

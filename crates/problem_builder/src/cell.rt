@@ -1,12 +1,8 @@
 // A cell of a step's problem.
 ghost use Rattle.std.specs.Prelude.{◌<◌, IfOk};
 ghost use Rattle.std.specs.List.{AllZip};
-ghost use Rattle.model_types.specs.Sources.{fixed_sources, flow_sources, evap_sources};
-ghost use Rattle.model_types.specs.Receivers.{recharge_at};
-ghost use Rattle.problem_builder.specs.Cells.{IsFixed, IsFlow, IsReceived, IsEvap, IsCellOf};
-ghost use Rattle.problem_builder.specs.Made.{IsVariableCell};
-ghost use Rattle.problem_builder.specs.Tables.{AreInputs, widths_of};
-ghost use Rattle.problem_builder.specs.Filled.{BothOrNone};
+ghost use Rattle.model_types.specs.{fixed_sources, flow_sources, evap_sources, recharge_at};
+ghost use Rattle.problem_builder.specs.{IsFixed, IsFlow, IsReceived, IsEvap, IsCellOf, IsVariableCell, AreInputs, widths_of, BothOrNone};
 
 use crate::branches::{constant_flow, constants, links, push_some};
 use crate::input::StepInput;

@@ -1,11 +1,8 @@
 // The cells that receive recharge, and those that evaporate.
 ghost use Rattle.std.specs.Prelude.{◌≡◌, ◌+◌, ◌<◌, ◌==◌, ◌&&◌, ◌||◌, false, IfOk};
-ghost use Rattle.model_types.specs.Faces.{cell_count, layer_of, place_in_layer};
-ghost use Rattle.model_types.specs.Grids.{HasSize};
-ghost use Rattle.model_types.specs.Layers.{int_at, is_active};
-ghost use Rattle.model_types.specs.Receivers.{is_int, is_highest, is_chosen};
+ghost use Rattle.model_types.specs.{cell_count, layer_of, place_in_layer, HasSize, int_at, is_active, is_int, is_highest, is_chosen};
 ghost use Rattle.problem_builder.specs.Filled.{Filled};
-ghost use Rattle.problem_builder.specs.PeriodTables.{IsCovered};
+ghost use Rattle.problem_builder.specs.{IsCovered};
 
 use model_types::FlowModel;
 use model_types::layers::int_at;

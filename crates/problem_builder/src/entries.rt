@@ -1,8 +1,7 @@
 // The entries of a cell by their bounds, kind by kind.
 ghost use Rattle.std.specs.Prelude.{◌≡◌, ◌≤◌, ◌∷◌, ◌++◌, [], List, IfOk};
 ghost use Rattle.model_types.specs.declared.entry.Entry.{Entry as DeclaredEntry};
-ghost use Rattle.model_types.specs.Valid.{IsEntryValid};
-ghost use Rattle.model_types.specs.Sources.{as_well, as_river, as_drain, as_general};
+ghost use Rattle.model_types.specs.{IsEntryValid, as_well, as_river, as_drain, as_general};
 ghost use Rattle.problem_builder.specs.Cells.{IsRiver, IsDrain};
 ghost use Rattle.problem_builder.specs.LocalBounds.{AreLocalBounds, IsWellSource, IsGeneralSource, no_bounds};
 ghost use Rattle.problem_builder.specs.Filled.{BothOrNone};

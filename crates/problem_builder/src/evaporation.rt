@@ -1,14 +1,10 @@
 // Evapotranspiration, by cell.
 ghost use Rattle.std.specs.Prelude.{◌≡◌, ◌<◌, ◌≤◌, ◌-ℤ◌, false, IfOk, None, length};
-ghost use Rattle.decimal_input.specs.Decimals.{number};
-ghost use Rattle.step_problem.specs.Conditions.{IsHead};
-ghost use Rattle.model_types.specs.Faces.{cell_count};
-ghost use Rattle.model_types.specs.Layers.{is_active};
-ghost use Rattle.model_types.specs.Receivers.{is_highest, evaporates, evap_source};
-ghost use Rattle.model_types.specs.Valid.{IsModel, IsEvapValid};
-ghost use Rattle.problem_builder.specs.Cells.{IsEvap};
+ghost use Rattle.decimal_input.specs.{number};
+ghost use Rattle.step_problem.specs.{IsHead};
+ghost use Rattle.model_types.specs.{cell_count, is_active, is_highest, evaporates, evap_source, IsModel, IsEvapValid};
+ghost use Rattle.problem_builder.specs.{IsEvap, IsCovered, IsEvaporated};
 ghost use Rattle.problem_builder.specs.Filled.{Filled};
-ghost use Rattle.problem_builder.specs.PeriodTables.{IsCovered, IsEvaporated};
 
 use crate::chosen::{is_chosen, is_uncovered};
 use crate::periods::stress_period;

@@ -1,17 +1,11 @@
 // The conductances of faces, by their first cells.
 ghost use Rattle.std.specs.Prelude.{◌≡◌, ◌+◌, ◌<◌, ◌≤◌, ℕ, true, false, IfOk, IsTrue, length};
 ghost use Rattle.conductance_bounds.specs.declared.span.Span.{Span as Interval};
-ghost use Rattle.conductance_bounds.specs.Calls.{IsHalf, IsColHalf, IsVertHalf};
-ghost use Rattle.conductance_bounds.specs.Pairs.{IsCapped};
-ghost use Rattle.conductance_bounds.specs.Formulas.{face_term};
+ghost use Rattle.conductance_bounds.specs.{IsHalf, IsColHalf, IsVertHalf, IsCapped, face_term};
 ghost use Rattle.model_types.specs.declared.face.Axis.TheVariants.{Row, Column, Vertical};
-ghost use Rattle.model_types.specs.Faces.{cell_count, has_after, stride};
-ghost use Rattle.model_types.specs.Grids.{HasSize};
-ghost use Rattle.model_types.specs.Layers.{is_active, is_ratio};
-ghost use Rattle.model_types.specs.Valid.{IsModel};
+ghost use Rattle.model_types.specs.{cell_count, has_after, stride, HasSize, is_active, is_ratio, IsModel};
 ghost use Rattle.problem_builder.specs.Filled.{Filled};
-ghost use Rattle.problem_builder.specs.Tables.{no_span, no_pair, span_in};
-ghost use Rattle.problem_builder.specs.Widths.{IsThickness, IsBedBelow, IsBranch, HasConductance, row_half, column_half, layer_half};
+ghost use Rattle.problem_builder.specs.{no_span, no_pair, span_in, IsThickness, IsBedBelow, IsBranch, HasConductance, row_half, column_half, layer_half};
 
 use crate::start::capped_pair;
 use conductance_bounds::{

@@ -1,7 +1,7 @@
 // Why a step has no problem, and the refusals of a cell.
 ghost use Rattle.std.specs.Prelude.{◌≡◌, ◌==◌, ◌&&◌, All};
 ghost use Rattle.std.specs.List.{list_any};
-ghost use Rattle.step_problem.specs.Conditions.{RiverFits, EvapFits};
+ghost use Rattle.step_problem.specs.{RiverFits, EvapFits};
 ghost use Rattle.problem_builder.specs.Problems.{fault_of, is_branch};
 ghost use Rattle.problem_builder.specs.declared.fault.BuildFault.TheVariants.{Memory};
 

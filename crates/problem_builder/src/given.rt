@@ -1,14 +1,10 @@
 // Heads that CHD lists give, and heads that constant-head cells keep.
 ghost use Rattle.std.specs.Prelude.{◌≡◌, ◌<◌, All, None, IfOk, IfSome};
-ghost use Rattle.step_problem.specs.Heads.{no_bound};
-ghost use Rattle.model_types.specs.Faces.{cell_count};
-ghost use Rattle.model_types.specs.Layers.{dec_at};
-ghost use Rattle.model_types.specs.Grids.{IsHeadNumber};
-ghost use Rattle.model_types.specs.Heads.{given_heads};
-ghost use Rattle.model_types.specs.Valid.{IsModel};
-ghost use Rattle.problem_builder.specs.GridHeads.{IsKeptPair};
+ghost use Rattle.step_problem.specs.{no_bound};
+ghost use Rattle.model_types.specs.{cell_count, dec_at, IsHeadNumber, given_heads, IsModel};
+ghost use Rattle.problem_builder.specs.{IsKeptPair, IsKept};
 ghost use Rattle.problem_builder.specs.Filled.{Filled};
-ghost use Rattle.problem_builder.specs.PeriodTables.{IsNamed, IsKept};
+ghost use Rattle.problem_builder.specs.PeriodTables.{IsNamed};
 
 use crate::start::{NO_BOUND, head_pair};
 use model_types::layers::dec_at;

@@ -1,11 +1,7 @@
 // The heads of constant-head cells at a time.
 ghost use Rattle.std.specs.Prelude.{◌≡◌, ℕ, ◌<◌, true, IfOk};
-ghost use Rattle.model_types.specs.Faces.{cell_count};
-ghost use Rattle.model_types.specs.Heads.{is_constant};
-ghost use Rattle.model_types.specs.Valid.{IsModel};
-ghost use Rattle.problem_builder.specs.GridHeads.{IsConstantPair, HasConstantHead, AreConstantHeads};
-ghost use Rattle.problem_builder.specs.StepTables.{IsTimeOf, IsPartOf};
-ghost use Rattle.problem_builder.specs.Tables.{ArePeriodTables};
+ghost use Rattle.model_types.specs.{cell_count, is_constant, IsModel};
+ghost use Rattle.problem_builder.specs.{IsConstantPair, HasConstantHead, AreConstantHeads, IsTimeOf, IsPartOf, ArePeriodTables};
 
 use crate::index::PeriodTables;
 use crate::periods::stress_period;

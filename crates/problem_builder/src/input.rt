@@ -1,8 +1,6 @@
 // The data from which a step's cells are made.
 ghost use Rattle.std.specs.Prelude.{◌≡◌, ◌<◌};
-ghost use Rattle.model_types.specs.Faces.{cell_count};
-ghost use Rattle.model_types.specs.Heads.{kind_of, is_variable, is_constant, index_of};
-ghost use Rattle.model_types.specs.Times.{period_at};
+ghost use Rattle.model_types.specs.{cell_count, kind_of, is_variable, is_constant, index_of, period_at};
 ghost use Rattle.problem_builder.specs.LocalBounds.{local_in};
 ghost use Rattle.problem_builder.specs.Tables.{AreInputs, bound_in, item_in};
 

@@ -1,8 +1,6 @@
 // Problems and refusals are unique, and problems meet their conditions. Each law is the contract of an empty function.
-ghost use Rattle.problem_builder.specs.Laws.{ProblemIsOne, ProblemExcludesRefusal, RefusalIsOne, ProblemFits};
-ghost use Rattle.problem_builder.specs.Laws.{ConstantHeadsAreOne, StartHeadsAreOne, StartHeadsFit};
-ghost use Rattle.problem_builder.specs.Laws.{ConstantPairIsOne, ConstantPairFits, ConstantPairEncloses};
-ghost use Rattle.problem_builder.specs.Example.{ExampleIsBuildable};
+ghost use Rattle.problem_builder.specs.{ProblemIsOne, ProblemExcludesRefusal, RefusalIsOne, ProblemFits, ConstantHeadsAreOne, StartHeadsAreOne, StartHeadsFit};
+ghost use Rattle.problem_builder.specs.{ConstantPairIsOne, ConstantPairFits, ConstantPairEncloses, ExampleIsBuildable};
 
 /// A model, a time and the heads before it have at most one problem, or one first refusal.
 pub fn one_problem_or_refusal()

@@ -1,9 +1,7 @@
 // The bounds of the entries of each cell.
 ghost use Rattle.std.specs.Prelude.{◌≡◌, ◌<◌, ◌≤◌, ◌∷◌, ◌++◌, All, List, ℕ, [], length, IfOk};
 ghost use Rattle.model_types.specs.declared.entry.Entry.{Entry as DeclaredEntry};
-ghost use Rattle.model_types.specs.Sources.{cell_of, entries_of};
-ghost use Rattle.model_types.specs.Times.{entries};
-ghost use Rattle.model_types.specs.Valid.{IsEntryValid};
+ghost use Rattle.model_types.specs.{cell_of, entries_of, entries, IsEntryValid};
 ghost use Rattle.problem_builder.specs.LocalBounds.{AreAppended, AreLocalBounds, IsEntryIn, kept_bounds, local_in, no_bounds};
 
 use crate::entries::{CellEntries, LocalEntries};

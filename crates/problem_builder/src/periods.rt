@@ -1,6 +1,6 @@
 // Stress periods by their numbers.
 ghost use Rattle.std.specs.Prelude.{◌≡◌, ◌≤◌, length};
-ghost use Rattle.model_types.specs.Times.{period_at};
+ghost use Rattle.model_types.specs.{period_at};
 
 use model_types::{FlowModel, Period};
 

@@ -1,12 +1,9 @@
 // Recharge, by cell.
 ghost use Rattle.std.specs.Prelude.{◌≡◌, ◌<◌, ◌≤◌, false, IfOk, IfSome, None, length};
-ghost use Rattle.decimal_input.specs.Decimals.{IsDec};
-ghost use Rattle.model_types.specs.Faces.{cell_count};
-ghost use Rattle.model_types.specs.Receivers.{is_highest, recharge_at};
-ghost use Rattle.model_types.specs.Valid.{IsModel};
+ghost use Rattle.decimal_input.specs.{IsDec};
+ghost use Rattle.model_types.specs.{cell_count, is_highest, recharge_at, IsModel};
 ghost use Rattle.problem_builder.specs.Filled.{Filled};
-ghost use Rattle.problem_builder.specs.PeriodTables.{IsCovered, IsRecharged};
-ghost use Rattle.problem_builder.specs.InputBounds.{IsRechargePair};
+ghost use Rattle.problem_builder.specs.{IsCovered, IsRecharged, IsRechargePair};
 
 use crate::chosen::{is_chosen, is_uncovered};
 use crate::periods::stress_period;

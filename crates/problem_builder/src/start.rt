@@ -1,16 +1,10 @@
 // The heads before the first time step.
 ghost use Rattle.std.specs.Prelude.{◌<◌, IfOk, ◌≡◌, ℕ, ◌≤◌, Bool};
-ghost use Rattle.model_types.specs.Faces.{cell_count};
-ghost use Rattle.model_types.specs.Heads.{start_head};
-ghost use Rattle.model_types.specs.Valid.{IsModel};
-ghost use Rattle.problem_builder.specs.GridHeads.{AreGridHeads, HeadsEnclose, AreStartHeads};
-ghost use Rattle.problem_builder.specs.Made.{IsStartInRange};
-ghost use Rattle.decimal_input.specs.Decimals.{IsDec};
-ghost use Rattle.conductance_bounds.specs.Pairs.{IsWholePair, IsCapped, IsFlowPair, IsCappedFlow};
-ghost use Rattle.conductance_bounds.specs.Terms.{Term};
-ghost use Rattle.step_problem.specs.Conditions.{IsHead};
-ghost use Rattle.model_types.specs.Grids.{IsNotNegative, IsHeadNumber};
-ghost use Rattle.problem_builder.specs.InputBounds.{IsDepth, IsCond, IsWellPair, IsHeadPair};
+ghost use Rattle.model_types.specs.{cell_count, start_head, IsModel, IsNotNegative, IsHeadNumber};
+ghost use Rattle.problem_builder.specs.{AreGridHeads, HeadsEnclose, AreStartHeads, IsStartInRange, IsDepth, IsCond, IsWellPair, IsHeadPair};
+ghost use Rattle.decimal_input.specs.{IsDec};
+ghost use Rattle.conductance_bounds.specs.{IsWholePair, IsCapped, IsFlowPair, IsCappedFlow, Term};
+ghost use Rattle.step_problem.specs.{IsHead};
 
 use conductance_bounds::{
     FlowPair, HeadPair, Pair, head_bounds, number_flow, number_pair, whole_bounds,

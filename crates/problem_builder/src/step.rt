@@ -1,8 +1,7 @@
 // The tables of a single time step, besides those of its period.
 ghost use Rattle.std.specs.Prelude.{ℕ, Contains, IfOk};
-ghost use Rattle.model_types.specs.Times.{times};
-ghost use Rattle.model_types.specs.Valid.{IsModel};
-ghost use Rattle.problem_builder.specs.Tables.{ArePeriodTables, AreStepTables};
+ghost use Rattle.model_types.specs.{times, IsModel};
+ghost use Rattle.problem_builder.specs.{ArePeriodTables, AreStepTables};
 
 use crate::heads::constant_heads;
 use crate::index::PeriodTables;

@@ -1,18 +1,11 @@
 // Storage, by cell.
 ghost use Rattle.std.specs.Prelude.{◌≡◌, ◌<◌, ◌≤◌, ℕ, true, false, cond, None, Some, IfOk, length};
-ghost use Rattle.decimal_input.specs.Decimals.{size};
-ghost use Rattle.conductance_bounds.specs.Formulas.{storage_term};
-ghost use Rattle.conductance_bounds.specs.Parts.{IsUsable, IsGrown};
-ghost use Rattle.conductance_bounds.specs.Pairs.{IsCapped};
+ghost use Rattle.decimal_input.specs.{size};
+ghost use Rattle.conductance_bounds.specs.{storage_term, IsUsable, IsGrown, IsCapped};
 ghost use Rattle.model_types.specs.declared.given_heads.Kind.TheVariants.{NoFlow};
-ghost use Rattle.model_types.specs.Faces.{cell_count};
-ghost use Rattle.model_types.specs.Layers.{is_active};
-ghost use Rattle.model_types.specs.Times.{period_at};
-ghost use Rattle.model_types.specs.Valid.{IsModel};
+ghost use Rattle.model_types.specs.{cell_count, is_active, period_at, IsModel};
 ghost use Rattle.problem_builder.specs.Filled.{Filled};
-ghost use Rattle.problem_builder.specs.StepTables.{IsTimeOf, AreFactorsOf, AreEvenFactors, HasEvenStorage};
-ghost use Rattle.problem_builder.specs.PeriodTables.{IsKind};
-ghost use Rattle.problem_builder.specs.Tables.{AreTables, AreEvenStorages, span_in};
+ghost use Rattle.problem_builder.specs.{IsTimeOf, AreFactorsOf, AreEvenFactors, HasEvenStorage, IsKind, AreTables, AreEvenStorages, span_in};
 
 use crate::faces::{NO_PAIR, span_at};
 use crate::periods::stress_period;

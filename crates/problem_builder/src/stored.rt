@@ -1,10 +1,6 @@
 // The branch of a cell to its old head.
-ghost use Rattle.model_types.specs.Sources.{storage_at};
-ghost use Rattle.problem_builder.specs.Cells.{IsFixed};
-ghost use Rattle.problem_builder.specs.Made.{IsVariableCell};
-ghost use Rattle.problem_builder.specs.StepTables.{HasStorage};
-ghost use Rattle.problem_builder.specs.Tables.{AreInputs, span_in, widths_of};
-ghost use Rattle.problem_builder.specs.Filled.{BothOrNone};
+ghost use Rattle.model_types.specs.{storage_at};
+ghost use Rattle.problem_builder.specs.{IsFixed, IsVariableCell, HasStorage, AreInputs, span_in, widths_of, BothOrNone};
 
 use crate::branches::known_head;
 use crate::faces::NO_PAIR;

@@ -4,9 +4,8 @@ use Rattle.step_problem.specs.declared.heads.Side.TheVariants.{Low}
 use Rattle.step_problem.specs.declared.place.NoBound.{NoBound}
 use Rattle.step_problem.specs.declared.place.Place.TheVariants.{Cell}
 use Rattle.step_problem.specs.declared.refusal.StepRefusal.TheVariants.{ConductanceTooLarge, FlowTooLarge}
-use Rattle.step_problem.specs.StepRefusals.{number_of}
-use Rattle.step_problem.specs.Conditions.{conductance_of, flow_of, IsProblem}
-use Rattle.step_problem.specs.Entries.{Entries, entries_at}
+use Rattle.step_problem.specs.{number_of, conductance_of, flow_of, IsProblem, entries_at}
+use Rattle.step_problem.specs.Entries.{Entries}
 use Rattle.problem_hull.specs.declared.problem.HullFault.{HullFault}
 use Rattle.problem_hull.specs.declared.problem.HullFault.TheVariants.{NotAlike, NoBound as Refused, Memory}
 use Rattle.problem_hull.specs.Shapes.{AreAlike}

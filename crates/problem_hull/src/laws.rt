@@ -1,5 +1,5 @@
 // Laws of hulls. Each is the contract of an empty function.
-ghost use Rattle.problem_hull.specs.Refusals.{AlikeHaveAHull, HullIsOne, HullOfOne, HullExcludesRefusal, RefusalIsOne};
+ghost use Rattle.problem_hull.specs.{AlikeHaveAHull, HullIsOne, HullOfOne, HullExcludesRefusal, RefusalIsOne};
 
 /// Two problems have a hull exactly where they are alike.
 #[tactic(auto, using(crate::proofs::Shapes::alike_have_a_hull))]

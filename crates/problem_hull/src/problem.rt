@@ -2,9 +2,8 @@
 ghost use Rattle.std.specs.Prelude.{◌≡◌, IfOk, IfErr, map, ◌<◌, length, ℕ, All, None, MatchOption};
 ghost use Rattle.problem_hull.specs.Hulls.{IsHull, IsHullOf, AllThree, IsCellHull};
 ghost use Rattle.problem_hull.specs.Refusals.{IsHullFault, IsUnlike, sum_refusal, IsFirstTooLarge};
-ghost use Rattle.step_problem.specs.Entries.{entries_at};
+ghost use Rattle.step_problem.specs.{entries_at, RiverFits, EvapFits};
 ghost use Rattle.problem_hull.specs.Shapes.{cell_shape, AreAlike};
-ghost use Rattle.step_problem.specs.Conditions.{RiverFits, EvapFits};
 ghost use Rattle.problem_hull.specs.declared.problem.HullFault.TheVariants.{Memory};
 
 use crate::entries::Bounded;

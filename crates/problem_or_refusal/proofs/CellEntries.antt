@@ -4,8 +4,10 @@ use Rattle.problem_or_refusal.proofs.Common.{subst, arith, ℤ, pos, neg_ℤ, �
 use Rattle.problem_or_refusal.proofs.Common.{FlowModel, TimeStep, cell_count, place_in_layer, is_variable, is_constant, index_of, dec_at, is_active, period_at}
 use Rattle.problem_or_refusal.proofs.Common.{IsModel, IsEvapValid, face_term, storage_term, recharge_term, evap_term, ceiling-passes, IsTimeOf, Thicknesses}
 use Rattle.problem_or_refusal.proofs.Common.{AreThicknesses, value, IsCapped, low_end, high_end, All, size, IsNotNegative, IsEntryValid, IsCappedFlow, Term}
-use Rattle.problem_or_refusal.proofs.Common.{Holds, Number, IsCond, IsBounded}
-use Rattle.problem_builder.specs.Cells.{IsRiver, IsDrain, IsEvap, IsFlow, IsLink, IsFixed, IsCellOf}
+use Rattle.problem_or_refusal.proofs.Common.{Holds, Number, IsCond, IsBounded, IsRiver, IsDrain, IsEvap, IsFlow, IsLink, IsFixed, IsCellOf, EvapSource}
+use Rattle.problem_or_refusal.proofs.Common.{is_chosen, recharge_at, FixedSource, FlowSource, RiverSource, DrainSource, variable_faces, flow_sources}
+use Rattle.problem_or_refusal.proofs.Common.{fixed_sources, river_sources, drain_sources, evap_sources, as_river, as_drain, local_entries, ToConstant}
+use Rattle.problem_or_refusal.proofs.Common.{ToGeneral, FromStorage, Pumped, Received}
 use Rattle.problem_or_refusal.proofs.Pairs.{pair_of, capped_of}
 use Rattle.std.proofs.lemmas.Option.{none-some}
 use Rattle.step_problem.specs.declared.entry.Flow.{Flow}
@@ -17,10 +19,6 @@ use Rattle.step_problem.specs.declared.entry.Evap.{Evap}
 use Rattle.step_problem.specs.declared.entry.FixedKind.TheVariants.{Constant, General, Storage}
 use Rattle.step_problem.specs.declared.entry.FlowKind.TheVariants.{Wells, Recharge}
 use Rattle.model_types.specs.declared.face.Face.{Face}
-use Rattle.model_types.specs.Receivers.{EvapSource, is_chosen, recharge_at}
-use Rattle.model_types.specs.Sources.{FixedSource, FlowSource, RiverSource, DrainSource, variable_faces, flow_sources, fixed_sources, river_sources, drain_sources, evap_sources, as_river, as_drain, local_entries}
-use Rattle.model_types.specs.Sources.FixedSource.{ToConstant, ToGeneral, FromStorage}
-use Rattle.model_types.specs.Sources.FlowSource.{Pumped, Received}
 use Rattle.model_types.proofs.Leads.{IsFaceOf, passing_are}
 use Rattle.model_types.proofs.Members.{In, In-All, filter_map-In}
 use Rattle.problem_builder.proofs.Fits.{pair_ordered, river_valid, drain_valid}

@@ -4,12 +4,11 @@ use Rattle.problem_or_refusal.proofs.Common.{cases_Bool, false≢true, Dec, IsDe
 use Rattle.problem_or_refusal.proofs.Common.{delr_at, delc_at, hk_at, hani_at, vka_at, vkcb_at, is_ratio, is_active, has_bed, top_at, bottom_at, bed_thickness}
 use Rattle.problem_or_refusal.proofs.Common.{IsPositive, multiplier, IsModel, IsTimed, number_one, Number, face_term, storage_term, recharge_term, evap_term}
 use Rattle.problem_or_refusal.proofs.Common.{thick_term, column_k_term, vertical_k_at, vertical_half_term, bed_term, part_term, Thicknesses, AreThicknesses}
-use Rattle.problem_or_refusal.proofs.Common.{HasPositiveBounds, IsBounded, Term, stride, sum_term, power_term}
+use Rattle.problem_or_refusal.proofs.Common.{HasPositiveBounds, IsBounded, Term, stride, sum_term, power_term, one, half_term, row_term, vertical_k_term}
+use Rattle.problem_or_refusal.proofs.Common.{vertical_term, resistance_sum, storativity_term}
 use Rattle.conductance_bounds.proofs.PartBounds.{unity_positive}
 use Rattle.model_types.specs.declared.face.Axis.{Axis}
 use Rattle.model_types.specs.declared.face.Axis.TheVariants.{Row, Column, Vertical}
-use Rattle.model_types.specs.Conductances.{one}
-use Rattle.conductance_bounds.specs.Branches.{half_term, row_term, vertical_k_term, vertical_term, resistance_sum, storativity_term}
 use Rattle.conductance_bounds.proofs.FaceBounds.{layered}
 use Rattle.conductance_bounds.proofs.Positive.{size_positive}
 use Rattle.conductance_bounds.proofs.Ready.{delr_positive, delc_positive}

@@ -1,11 +1,10 @@
 -- A time of a valid model has a problem, or the least variable cell that has a refusal has this one.
 use Rattle.problem_or_refusal.proofs.Common.{◌≡◌, ℕ, zero, suc, ◌≤◌, ◌<◌, ◌⊎◌, inl, inr, true, Option, Some, None, List, [], ◌∷◌, ◌++◌, refl, arith, cases_Bool}
 use Rattle.problem_or_refusal.proofs.Common.{Bound, Entries, FlowModel, TimeStep, cell_count, is_variable, IsModel, IsTimeOf, Thicknesses, AreThicknesses}
-use Rattle.problem_or_refusal.proofs.Common.{time_of, ProblemOrRefusal, add-one}
+use Rattle.problem_or_refusal.proofs.Common.{time_of, ProblemOrRefusal, add-one, AreCells, IsRefused, HasNoProblem, fault_of}
 use Rattle.step_problem.specs.declared.heads.Side.TheVariants.{Low}
 use Rattle.step_problem.specs.declared.place.NoBound.{NoBound}
 use Rattle.step_problem.specs.declared.place.Place.TheVariants.{Cell}
-use Rattle.problem_builder.specs.Problems.{AreCells, IsRefused, HasNoProblem, fault_of}
 use Rattle.problem_builder.proofs.Steps.{no_cells, next_cell, next_none}
 use Rattle.problem_or_refusal.proofs.CellEntries.{a_cell}
 use Rattle.problem_or_refusal.proofs.Spans.{widths, are_widths}

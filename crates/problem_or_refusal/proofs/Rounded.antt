@@ -2,8 +2,7 @@
 use Rattle.problem_or_refusal.proofs.Common.{◌≡◌, ℕ, zero, suc, ◌+◌, ◌-◌, ◌*◌, ◌/◌, ◌≤◌, ◌<◌, ◌^◌, inl, inr, refl, subst, arith, ℤ, pos, negsuc, neg_ℤ, ◌+ℤ◌}
 use Rattle.problem_or_refusal.proofs.Common.{◌-ℤ◌, ◌*ℤ◌, ◌≤ℤ◌, ◌<ℤ◌, cases_lt, cases_Bool, Dec, IsDec, size, number, scaled, Same, scaled_shift, IsFloorOf}
 use Rattle.problem_or_refusal.proofs.Common.{IsCeilingOf, Number, IsBounded, pow-suc, lt-mul-div-succ, div-mul-le_self, nothing_same, IsHeadPair, a_floor}
-use Rattle.problem_or_refusal.proofs.Common.{a_ceiling}
-use Rattle.decimal_input.specs.Wholes.{IsSignedFloor, IsSignedCeiling}
+use Rattle.problem_or_refusal.proofs.Common.{a_ceiling, IsSignedFloor, IsSignedCeiling}
 use Rattle.std.proofs.lemmas.Int.{ints}
 use Rattle.decimal_input.proofs.SignedFloors.{floor_of_floor, floor_of_ceiling, ceiling_of_ceiling, ceiling_of_floor}
 

@@ -1,8 +1,7 @@
 -- Each cell has a thickness between two decimals, and each bed; where a layer is thick, both are above 0.
 use Rattle.problem_or_refusal.proofs.Common.{ℕ, ◌<◌, ◌*◌, ◌^◌, arith, pos, neg_ℤ, ◌-ℤ◌, unsigned_abs, Dec, scaled, up, num_scaled, ten_pos, FlowModel, top_at}
-use Rattle.problem_or_refusal.proofs.Common.{bottom_at, lowest, IsThick, Lower, Upper, Thicknesses, AreThicknesses}
+use Rattle.problem_or_refusal.proofs.Common.{bottom_at, lowest, IsThick, Lower, Upper, Thicknesses, AreThicknesses, IsSpan}
 use Rattle.conductance_bounds.specs.declared.span.Span.{Span}
-use Rattle.conductance_bounds.specs.Thicknesses.{IsSpan}
 use Rattle.conductance_bounds.proofs.ThickBounds.{edges_room}
 use Rattle.problem_or_refusal.proofs.Roundings.{down_of, up_of}
 use Rattle.problem_or_refusal.proofs.TermBounds.{rounded_positive}

@@ -1,22 +1,18 @@
 -- What a time step is made from exists: the bounds of a formula, a problem or a refusal, and the heads of constant cells and of STRT.
 use Rattle.std.specs.Prelude.{ℕ, ◌⊎◌, ℤ, List, Contains, ◌<◌}
-use Rattle.decimal_input.specs.Ratios.{Ratio, Same}
+use Rattle.decimal_input.specs.{Ratio}
+use Rattle.decimal_input.specs.Ratios.{Same}
 use Rattle.scaled_decimal.specs.declared.decimal.Sd.{Sd}
-use Rattle.scaled_decimal.specs.Nearest.{IsDown, IsUp, IsSd, value}
+use Rattle.scaled_decimal.specs.{IsDown, IsUp, IsSd, value}
 use Rattle.conductance_bounds.specs.declared.span.Span.{Span}
-use Rattle.conductance_bounds.specs.Intervals.{AreBounds}
-use Rattle.conductance_bounds.specs.Pairs.{IsPair, IsCapped}
-use Rattle.conductance_bounds.specs.Terms.{Term}
+use Rattle.conductance_bounds.specs.{AreBounds, IsPair, IsCapped, Term, Number, Within, Sum, Product, Quotient}
 use Rattle.step_problem.specs.declared.heads.Bound.{Bound}
 use Rattle.step_problem.specs.declared.place.NoBound.{NoBound}
 use Rattle.step_problem.specs.Entries.{Entries}
 use Rattle.model_types.specs.declared.model.FlowModel.{FlowModel}
 use Rattle.model_types.specs.declared.time_steps.TimeStep.{TimeStep}
-use Rattle.model_types.specs.Times.{times}
-use Rattle.model_types.specs.Valid.{IsModel}
-use Rattle.problem_builder.specs.GridHeads.{IsConstantPair, AreStartHeads}
-use Rattle.problem_builder.specs.Problems.{IsProblemOf, HasNoProblem}
-use Rattle.conductance_bounds.specs.Terms.Term.{Number, Within, Sum, Product, Quotient}
+use Rattle.model_types.specs.{times, IsModel}
+use Rattle.problem_builder.specs.{IsConstantPair, AreStartHeads, IsProblemOf, HasNoProblem}
 
 -- Formulas that have both bounds.
 -- both bounds of the formula are above 0

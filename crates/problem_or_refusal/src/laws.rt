@@ -1,5 +1,5 @@
 // What a time step is made from exists: the bounds of a formula, a problem or a refusal, and the heads of constant cells and of STRT.
-ghost use Rattle.problem_or_refusal.specs.Laws.{RoundingsExist, BoundsExist, PairsExist, ProblemOrRefusal, ConstantPairsExist, StartHeadsExist};
+ghost use Rattle.problem_or_refusal.specs.{RoundingsExist, BoundsExist, PairsExist, ProblemOrRefusal, ConstantPairsExist, StartHeadsExist};
 
 /// Each ratio has a greatest 18-digit decimal not above it, and a least one not below it. Each formula of decimals
 /// whose divisors are above 0 has both bounds, and both whole bounds in units of 10^-s, capped where the upper one is

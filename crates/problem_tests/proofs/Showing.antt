@@ -6,7 +6,7 @@ use mathlib.Core.Logic.{dite}
 use native.Mathlib.Decide.{ℕ_discrete}
 use Rattle.step_problem.specs.declared.heads.Side.{Side}
 use Rattle.cell_relax.proofs.Sides.{each_side}
-use Rattle.relax_core.specs.Core.{with_head}
+use Rattle.relax_core.specs.{with_head}
 use Rattle.head_table.specs.declared.table.HeadSeat.{HeadSeat}
 use Rattle.head_table.specs.declared.table.HeadTable.{HeadTable}
 use Rattle.relax_core.proofs.Keeping.{seen_here, seen_else, other_seen}

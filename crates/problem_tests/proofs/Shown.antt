@@ -1,6 +1,5 @@
 -- A relaxed head from heads that are equal at each cell.
-use Rattle.std.proofs.Common.{◌≡◌, ℕ, ◌<◌, ℤ, ◌∙◌, subst, inl, inr}
-use Rattle.step_problem.specs.Sides.{IsRelaxed}
+use Rattle.problem_tests.proofs.Common.{◌≡◌, ℕ, ◌<◌, ℤ, ◌∙◌, subst, inl, inr, IsRelaxed}
 use Rattle.step_problem.proofs.Sides.{IsSide, same_as_tight, same_as_loose}
 
 pub same_relaxed : {Le : ℤ → ℤ → Type 0} {Moves : ℕ → ℤ → (ℕ → ℤ) → Type 0} {n : ℕ} → IsSide Le Moves n → (l m : ℕ → ℤ) (c : ℕ) (r : ℤ) → c < n → ((d : ℕ) → d < n → m d ≡ l d) → IsRelaxed Le Moves n m c r → IsRelaxed Le Moves n l c r

@@ -1,1 +1,3 @@
 pub mod Actors
+
+pub use Rattle.problem_tests.specs.Actors.{IsShown}

@@ -1,5 +1,5 @@
 // A question about a problem with its barrier.
-ghost use Rattle.step_problem.specs.Heads.{IsBarrier};
+ghost use Rattle.step_problem.specs.{IsBarrier};
 
 use crate::moves::Move;
 use std::thread::Threads;

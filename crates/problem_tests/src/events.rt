@@ -1,5 +1,5 @@
 // Moves as single events on shared heads.
-ghost use Rattle.step_problem.specs.Heads.{IsBarrier};
+ghost use Rattle.step_problem.specs.{IsBarrier};
 
 use crate::moves::{Act, Move, Who};
 use head_table::edge_words;

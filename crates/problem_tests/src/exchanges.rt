@@ -1,7 +1,7 @@
 // The moves of a seat at a table, after which `shown` is what the seat has seen.
 ghost use Rattle.std.specs.Prelude.{◌≡◌, ◌<◌, length};
-ghost use Rattle.head_table.specs.Seats.{IsSeatOf};
-ghost use Rattle.problem_tests.specs.Actors.{IsShown};
+ghost use Rattle.head_table.specs.{IsSeatOf};
+ghost use Rattle.problem_tests.specs.{IsShown};
 
 use cell_relax::relax_in;
 use head_table::{HeadSeat, HeadTable};

@@ -1,8 +1,8 @@
 // Two seats at a table of a problem's heads: what one raises or sinks the other sees by a load, and not before.
 ghost use Rattle.std.specs.Prelude.{◌<◌, length};
-ghost use Rattle.step_problem.specs.Heads.{IsBarrier};
-ghost use Rattle.head_table.specs.Seats.{IsSeatOf};
-ghost use Rattle.problem_tests.specs.Actors.{IsShown};
+ghost use Rattle.step_problem.specs.{IsBarrier};
+ghost use Rattle.head_table.specs.{IsSeatOf};
+ghost use Rattle.problem_tests.specs.{IsShown};
 
 use crate::exchanges::{claim, look, raise, sink, watch};
 use crate::moves::{Act, Move, Who};

@@ -1,5 +1,5 @@
 // Settled heads of a problem.
-ghost use Rattle.settle_driver.specs.Phases.{IsPlan};
+ghost use Rattle.settle_driver.specs.{IsPlan};
 
 use crate::answers::push_settled;
 use crate::case::Case;

@@ -4,12 +4,10 @@ pub use Rattle.std.proofs.Common.{get_or, if◌then◌else◌, inl, inr, length,
 pub use Rattle.std.proofs.Common.{◌*◌, ◌++◌, ◌+◌, ◌-◌, ◌<◌, ◌==◌, ◌^◌, ◌∙◌, ◌∷◌, ◌≡◌, ◌≤◌, ◌⊎◌}
 pub use Rattle.std.proofs.lemmas.List.{append-nil, drop-drop, drop_all, take_all}
 pub use Rattle.std.specs.List.{filter, onto_first, position, position_or_len, slice_split}
-pub use Rattle.outside.specs.Names.{TextMay, WordsMay, folder_name, is_good_name, is_separator}
-unfoldable pub use Rattle.outside.specs.Names.{lines, words}
+pub use Rattle.outside.specs.{TextMay, WordsMay, folder_name, is_good_name, is_separator, refusal}
+unfoldable pub use Rattle.outside.specs.{lines, words}
 pub use Rattle.outside.specs.declared.inputs.Refusal.{Refusal}
-pub use Rattle.record_lines.specs.Layout.{Left, LineMay, LinesMay, Numbered, after_comments, has_word, is_comment, next_number, numbered_of, without_comments}
-unfoldable pub use Rattle.record_lines.specs.Layout.{left_from, number_behind, numbered}
-pub use Rattle.record_lines.specs.Reading.{Stops, StopsText, ◌>>=◌}
-unfoldable pub use Rattle.record_lines.specs.Reading.{appended, counted, for_each, repeated}
-pub use Rattle.record_lines.specs.Spread.{Taking, source, taken, taking, times, value_of}
-unfoldable pub use Rattle.record_lines.specs.Spread.{count, next_value, next_word, spread}
+pub use Rattle.record_lines.specs.{Left, LineMay, LinesMay, Numbered, Stops, StopsText, Taking, after_comments, has_word, is_comment, line_from, next_number}
+pub use Rattle.record_lines.specs.{numbered_of, source, taken, taking, times, value_of, without_comments, ◌>>=◌}
+unfoldable pub use Rattle.record_lines.specs.{appended, count, counted, for_each, left_from, line_at, name_at, next_value, next_word, number_behind, numbered}
+unfoldable pub use Rattle.record_lines.specs.{repeated, spread, word_at}

@@ -2,12 +2,11 @@
 use Rattle.record_lines.proofs.Common.{◌≡◌, ℕ, zero, suc, ◌+◌, Bool, true, false, List, [], ◌∷◌, Option, Some, None, Result, Ok, Err, All, refl, subst, ◌==◌}
 use Rattle.record_lines.proofs.Common.{if◌then◌else◌, lines, words, Refusal, Left, Numbered, has_word, next_number, numbered, left_from, is_comment}
 use Rattle.record_lines.proofs.Common.{after_comments, without_comments, ◌>>=◌, repeated, appended, counted, Taking, spread, taking, next_word, source, taken}
-use Rattle.record_lines.proofs.Common.{next_value, WordsMay, TextMay, folder_name, is_good_name, LineMay, LinesMay}
+use Rattle.record_lines.proofs.Common.{next_value, WordsMay, TextMay, folder_name, is_good_name, LineMay, LinesMay, refusal, word_at, line_from, line_at}
+use Rattle.record_lines.proofs.Common.{name_at}
 use Rattle.std.specs.Prelude.{IfOk}
 use Rattle.std.proofs.lemmas.List.Elements.{All-nil, All-cons, All-head, All-tail}
-use Rattle.outside.specs.Codes.{refusal}
 use Rattle.outside.specs.declared.codes.Code.TheVariants.{BadName}
-use Rattle.record_lines.specs.Items.{word_at, line_from, line_at, name_at}
 use Rattle.record_lines.specs.declared.free.FreeFault.{FreeFault}
 
 -- one reading after another

@@ -3,8 +3,7 @@ use Rattle.std.specs.Prelude.{ℕ, Bool, false, List, [], ◌∷◌, Result, Ok,
 use Rattle.std.specs.Str.{str_eq_ignore_ascii_case}
 use Rattle.outside.specs.declared.codes.Code.TheVariants.{EndOfFile, BadName}
 use Rattle.outside.specs.declared.inputs.Refusal.{Refusal}
-use Rattle.outside.specs.Names.{is_good_name}
-use Rattle.outside.specs.Codes.{refusal}
+use Rattle.outside.specs.{is_good_name, refusal}
 use Rattle.record_lines.specs.Layout.{Numbered, Left}
 
 -- the next word, or this refusal where there is none

@@ -1,7 +1,7 @@
 -- A text as lines and words.
 use Rattle.std.specs.Prelude.{◌≡◌, ℕ, ◌+◌, Bool, false, not, List, [], ◌∷◌, nat_lt, ◌==◌, if◌then◌else◌, Result, Ok, Err, All}
 use Rattle.std.specs.List.{list_any}
-use Rattle.outside.specs.Names.{is_separator, lines, WordsMay, words}
+use Rattle.outside.specs.{is_separator, lines, WordsMay, words}
 use Rattle.record_lines.specs.declared.lines.Line.{Line}
 
 unfoldable pub has_word : List ℕ → Bool

@@ -2,8 +2,8 @@
 
 ghost use Rattle.std.specs.Prelude.{IfSome, ◌&&◌, ◌≡◌, ◌<◌, ◌≤◌, ◌==◌, not, [], ◌∷◌, length, nat_lt, position, if◌then◌else◌};
 ghost use Rattle.std.specs.List.{position_or_len};
-ghost use Rattle.outside.specs.Names.{is_separator, lines, words};
-ghost use Rattle.record_lines.specs.Layout.{is_comment, has_word};
+ghost use Rattle.outside.specs.{is_separator, lines, words};
+ghost use Rattle.record_lines.specs.{is_comment, has_word};
 
 pub fn is_separator(byte: u8) -> bool
     ensures { result ≡ is_separator byte }

@@ -5,17 +5,17 @@ pub use Rattle.std.proofs.lemmas.Int.{to_z-of_z}
 pub use Rattle.std.proofs.lemmas.List.{get_or-map, get_or_default, length-map, map-set}
 pub use Rattle.std.proofs.lemmas.List.Elements.{All-get_or, All-map, All-set, All-weaker}
 pub use Rattle.cell_relax.proofs.Sides.{each_side, heads_in_range, is_side, tighter_first, tighter_head, tighter_is_one, tighter_second}
-pub use Rattle.cell_relax.specs.Sides.{AreNoLooser, AreWords, IsAsTight, IsRelaxedOn, head_of, heads_on, other, tighter_of}
-pub use Rattle.relax_core.specs.Core.{Becomes, Core, IsInRange, IsNamed, Path, Puts, Relaxes, Step, seen_by, with_head}
-pub use Rattle.relax_core.specs.Kept.{AreEdges, IsKept, KeepsHeads, OnTheWay, WasSeen, WereSeen, edge_on}
+pub use Rattle.cell_relax.specs.{AreNoLooser, AreWords, IsAsTight, IsRelaxedOn, head_of, heads_on, other, tighter_of}
+pub use Rattle.relax_core.specs.{AreEdges, Becomes, IsInRange, IsKept, IsNamed, KeepsHeads, OnTheWay, Path, Puts, Relaxes, Step, WasSeen, WereSeen, edge_on}
+pub use Rattle.relax_core.specs.{seen_by, with_head}
+pub use Rattle.relax_core.specs.Core.{Core}
 pub use Rattle.relax_core.specs.declared.events.Event.{Event}
 pub use Rattle.relax_core.specs.declared.events.Event.TheVariants.{Claim, Raise, See, Sink}
 pub use Rattle.step_problem.proofs.BothSides.{high_side, low_side}
 pub use Rattle.step_problem.proofs.Sides.{IsSide, edge_kept, relaxed_head, same_on_the_way}
 pub use Rattle.step_problem.proofs.SidesTurns.{by_cell, same_seen, seen_itself, sees, still_seen, tighter, turn_keeps}
-pub use Rattle.step_problem.specs.Conditions.{IsHead, IsProblem}
+pub use Rattle.step_problem.specs.{AreOnTheWay, Edges, IsBarrier, IsExchange, IsHead, IsProblem, head_at, lower_at, no_bound, upper_at}
 pub use Rattle.step_problem.specs.Entries.{Entries}
-pub use Rattle.step_problem.specs.Heads.{AreOnTheWay, Edges, IsBarrier, head_at, lower_at, no_bound, upper_at}
 pub use Rattle.step_problem.specs.declared.heads.Bound.{Bound}
 pub use Rattle.step_problem.specs.declared.heads.Side.{Side}
 pub use Rattle.step_problem.specs.declared.heads.Side.TheVariants.{High, Low}

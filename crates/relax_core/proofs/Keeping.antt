@@ -4,10 +4,9 @@ use Rattle.relax_core.proofs.Common.{Entries, IsProblem, Edges, AreOnTheWay, IsA
 use Rattle.relax_core.proofs.Common.{Event, See, Raise, Sink, Claim, Core, seen_by, with_head, Becomes, IsNamed, Relaxes, Step, Path, WasSeen, IsKept, ap}
 use Rattle.relax_core.proofs.Common.{get_or-set_same, get_or-set_other, length-set, no_bound, lower_at, upper_at, head_of, tighter_first, tighter_second}
 use Rattle.relax_core.proofs.Common.{tighter_is_one, ◌∙◌, IsHead, same_on_the_way, turn_keeps, still_seen, sees, same_seen, refl, IsRelaxedOn, OnTheWay}
-use Rattle.relax_core.proofs.Common.{WereSeen, edge_on}
+use Rattle.relax_core.proofs.Common.{WereSeen, edge_on, IsExchange}
 use mathlib.Core.Logic.{dite}
 use native.Mathlib.Decide.{ℕ_discrete}
-use Rattle.step_problem.specs.Sides.{IsExchange}
 
 -- What bounds read on each side after one head of them is replaced.
 abbrev bound_with : Side → List Bound → ℕ → ℤ → Bound

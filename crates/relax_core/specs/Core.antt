@@ -4,8 +4,8 @@ use Rattle.step_problem.specs.declared.heads.Bound.{Bound}
 use Rattle.step_problem.specs.declared.heads.Side.{Side}
 use Rattle.step_problem.specs.declared.heads.Side.TheVariants.{Low, High}
 use Rattle.step_problem.specs.Entries.{Entries}
-use Rattle.step_problem.specs.Heads.{lower_at, upper_at}
-use Rattle.cell_relax.specs.Sides.{IsRelaxedOn, tighter_of, heads_on, AreWords}
+use Rattle.step_problem.specs.{lower_at, upper_at}
+use Rattle.cell_relax.specs.{IsRelaxedOn, tighter_of, heads_on, AreWords}
 use Rattle.relax_core.specs.declared.events.Event.{Event}
 use Rattle.relax_core.specs.declared.events.Event.TheVariants.{See, Raise, Sink, Claim}
 

@@ -4,11 +4,10 @@ use Rattle.step_problem.specs.declared.heads.Bound.{Bound}
 use Rattle.step_problem.specs.declared.heads.Side.{Side}
 use Rattle.step_problem.specs.declared.heads.Side.TheVariants.{Low, High}
 use Rattle.step_problem.specs.Entries.{Entries}
-use Rattle.step_problem.specs.Sides.{AreSeen, IsExchange, IsOnTheWay, AsTight, IsRelaxed}
-use Rattle.step_problem.specs.Heads.{Edges, head_at, AreOnTheWay, Ge, CanRise, CanSink, IsBarrier, lower_at, upper_at}
-use Rattle.cell_relax.specs.Sides.{IsAsTight, Moves, heads_on, AreNoLooser}
+use Rattle.step_problem.specs.{AreSeen, IsExchange, IsOnTheWay, AsTight, IsRelaxed, Edges, head_at, AreOnTheWay, Ge, CanRise, CanSink, IsBarrier, lower_at}
+use Rattle.step_problem.specs.{upper_at, IsHead, IsProblem}
+use Rattle.cell_relax.specs.{IsAsTight, Moves, heads_on, AreNoLooser}
 use Rattle.relax_core.specs.Core.{Core, IsStart, Path}
-use Rattle.step_problem.specs.Conditions.{IsHead, IsProblem}
 use Rattle.relax_core.specs.declared.events.Event.{Event}
 
 -- the floor of a barrier on the low side, its ceiling on the high side, by cell

@@ -1,5 +1,5 @@
 // Laws of events. Each is the contract of an empty function.
-ghost use Rattle.relax_core.specs.Kept.{EventsKeep, EdgesAreKept, EventsKeepHeads};
+ghost use Rattle.relax_core.specs.{EventsKeep, EdgesAreKept, EventsKeepHeads};
 
 /// For every problem, barrier and list of events: the words stay on the way from the barrier. So they are a
 /// certificate and pass no settled heads, and none becomes looser. This holds for every schedule.

@@ -1,7 +1,7 @@
 // Tests of the premises of `apply` on a state and an event.
 ghost use Rattle.std.specs.Prelude.{◌↔◌, IsTrue, All};
-ghost use Rattle.cell_relax.specs.Sides.{AreWords};
-ghost use Rattle.relax_core.specs.Core.{IsInRange, IsNamed};
+ghost use Rattle.cell_relax.specs.{AreWords};
+ghost use Rattle.relax_core.specs.{IsInRange, IsNamed};
 
 use crate::events::Event;
 use crate::state::State;

@@ -1,7 +1,7 @@
 // A state of shared heads, and single events on it.
 ghost use Rattle.std.specs.Prelude.{◌≡◌, ◌<◌, length, slice_index_or, IfOk};
-ghost use Rattle.step_problem.specs.Heads.{Edges};
-ghost use Rattle.cell_relax.specs.Sides.{AreNoLooser, IsRelaxedOn, tighter_of, AreWords, heads_on};
+ghost use Rattle.step_problem.specs.{Edges};
+ghost use Rattle.cell_relax.specs.{AreNoLooser, IsRelaxedOn, tighter_of, AreWords, heads_on};
 ghost use Rattle.relax_core.specs.Core.{IsInRange, IsNamed, IsStart, Puts, Relaxes, Sees, Step, seen_by, with_head};
 ghost use Rattle.relax_core.specs.Kept.{IsKept};
 

@@ -1,7 +1,6 @@
 -- On one side: what a turn gains, and what own turns gain.
-use Rattle.std.proofs.Common.{◌≡◌, ℕ, ◌+◌, ◌<◌, ℤ, sym, subst, ⊎_elim, arith}
+use Rattle.relax_worker.proofs.Common.{◌≡◌, ℕ, ◌+◌, ◌<◌, ℤ, sym, subst, ⊎_elim, arith, AsTight, IsRelaxed, IsPast}
 use Rattle.std.proofs.lemmas.Bool.{cases_eq}
-use Rattle.step_problem.specs.Sides.{AsTight, IsRelaxed, IsPast}
 use Rattle.step_problem.proofs.Sides.{IsSide, as_tight_refl, passes_more, turn_passes}
 
 module _ {Le : ℤ → ℤ → Type 0} {Moves : ℕ → ℤ → (ℕ → ℤ) → Type 0} {n : ℕ} (s : IsSide Le Moves n) where

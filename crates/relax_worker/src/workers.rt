@@ -1,10 +1,9 @@
 // A worker's turns.
 ghost use Rattle.std.specs.Prelude.{◌≡◌, ℕ, ◌-◌, ◌%◌, ◌<◌, ◌≤◌, length, All};
 ghost use Rattle.step_problem.specs.declared.heads.Side.{Side};
-ghost use Rattle.cell_relax.specs.Sides.{AreNoLooser, other, IsAsTight, IsRelaxedOn};
-ghost use Rattle.head_table.specs.Rule.{HasMoved};
-ghost use Rattle.head_table.specs.Seats.{IsSeatOf, seen_of, seen_on, SameOn, SameOnBut};
-ghost use Rattle.step_problem.specs.Entries.{ends_in, link_at};
+ghost use Rattle.cell_relax.specs.{AreNoLooser, other, IsAsTight, IsRelaxedOn};
+ghost use Rattle.head_table.specs.{HasMoved, IsSeatOf, seen_of, seen_on, SameOn, SameOnBut};
+ghost use Rattle.step_problem.specs.{ends_in, link_at};
 
 use cell_relax::relax_to;
 use head_table::{HeadSeat, HeadTable};

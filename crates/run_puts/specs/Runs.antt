@@ -1,7 +1,7 @@
 -- What a run puts to its sink and how it ends, whatever its pieces are: `Due end pieces` says which pieces are due if a run
 -- ends so, and `Cut pieces` which pieces it may have put when memory runs out.
 use Rattle.std.specs.Prelude.{List, [], ◌∷◌, ◌++◌, map, ℕ, codes, Ok, Err, Result, ◌≡◌, ◌⊎◌, Option, None, Some}
-use Rattle.outside.specs.Puts.{Put, taken, refused}
+use Rattle.outside.specs.{Put, taken, refused}
 use Rattle.run_puts.specs.declared.puts.Status.{Status}
 use Rattle.outside.specs.declared.traits.SinkError.{SinkError}
 use Rattle.outside.specs.declared.traits.SinkError.TheVariants as error

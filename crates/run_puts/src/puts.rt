@@ -1,7 +1,6 @@
 ghost use Rattle.std.specs.Prelude.{List, ◌++◌, MatchResult, ◌≡◌};
-ghost use Rattle.outside.specs.Puts.{Put};
-ghost use Rattle.run_puts.specs.Runs.{IsLast, IsPut, IsWanting};
-ghost use Rattle.run_puts.specs.Statuses.{code_of};
+ghost use Rattle.outside.specs.{Put};
+ghost use Rattle.run_puts.specs.{IsLast, IsPut, IsWanting, code_of};
 
 use outside::{Refusal, Sink, SinkError};
 use std::alloc::AllocError;

@@ -1,6 +1,6 @@
 // A gate and a sink that wait for each other.
 ghost use Rattle.std.specs.Prelude.{None};
-ghost use Rattle.outside.specs.Puts.{PutsMake};
+ghost use Rattle.outside.specs.{PutsMake};
 
 use outside::{Gate, Sink, SinkError};
 use std::alloc::Global;

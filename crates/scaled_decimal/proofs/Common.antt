@@ -11,7 +11,7 @@ pub use Rattle.decimal_input.proofs.Orders.{AtMost-Below, AtMost-refl, AtMost-tr
 pub use Rattle.decimal_input.proofs.Orders.{num_over, num_plus, plus-AtMost}
 pub use Rattle.decimal_input.proofs.Powers.{cross_of, den_scaled, num_scaled, power_within, scaled-AtMost, scaled_shift, scaled_times, ten_pos, up_down}
 pub use Rattle.decimal_input.proofs.SameNumbers.{Same-both, plus-comm}
-pub use Rattle.decimal_input.specs.Decimals.{down, scaled, up}
-pub use Rattle.decimal_input.specs.Ratios.{AtMost, Below, Ratio, Same, den, over, plus, times}
-pub use Rattle.scaled_decimal.specs.Nearest.{HasSize, IsDown, IsFrom, IsSd, IsUp, IsUpTo, IsWithin, RoundingsKeepOrder, value}
+pub use Rattle.decimal_input.specs.{Below, Ratio, down, over, scaled, up}
+pub use Rattle.decimal_input.specs.Ratios.{AtMost, Same, den, plus, times}
+pub use Rattle.scaled_decimal.specs.{HasSize, IsDown, IsFrom, IsSd, IsUp, IsUpTo, IsWithin, RoundingsKeepOrder, value}
 pub use Rattle.scaled_decimal.specs.declared.decimal.Sd.{Sd}

@@ -1,9 +1,8 @@
 use Rattle.std.specs.Prelude.{◌≡◌, ℕ, ◌≤◌, ◌<◌, ◌^◌, ◌⊎◌, ℤ, pos, neg_ℤ, ◌≤ℤ◌, ◌+◌}
 use Rattle.std.specs.Int.{int_min, int_max}
-use Rattle.decimal_input.specs.Ratios.{Ratio, AtMost, Below}
-use Rattle.decimal_input.specs.Decimals.{scaled}
+use Rattle.decimal_input.specs.{Ratio, Below, scaled, IsFloor, IsCeiling}
+use Rattle.decimal_input.specs.Ratios.{AtMost}
 use Rattle.scaled_decimal.specs.declared.decimal.Sd.{Sd}
-use Rattle.decimal_input.specs.Wholes.{IsFloor, IsCeiling}
 
 -- 18 digits, or zero with the exponent 0
 abbrev pub IsSd : Sd → Type 0

@@ -1,9 +1,9 @@
 // Decimals of 18 digits from numbers of the input and from whole numbers of units.
 
 ghost use Rattle.std.specs.Prelude.{false, ◌≡◌, ◌^◌, ◌≤◌, ◌<◌, pos, neg_ℤ, ◌+ℤ◌, ◌-ℤ◌};
-ghost use Rattle.decimal_input.specs.Decimals.{IsDec, size, scaled};
+ghost use Rattle.decimal_input.specs.{IsDec, size, scaled};
 ghost use Rattle.decimal_input.specs.Ratios.{Same};
-ghost use Rattle.scaled_decimal.specs.Nearest.{IsSd, value, IsDown, IsUp, IsNear, HasSize, IsWithin};
+ghost use Rattle.scaled_decimal.specs.{IsSd, value, IsDown, IsUp, IsNear, HasSize, IsWithin};
 
 use crate::decimal::{LEAST, LIMIT, Sd, ZERO};
 use crate::power::behind_18_digits;

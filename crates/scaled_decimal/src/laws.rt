@@ -1,5 +1,5 @@
 // Laws of rounding.
-ghost use Rattle.scaled_decimal.specs.Nearest.{RoundingsKeepOrder};
+ghost use Rattle.scaled_decimal.specs.{RoundingsKeepOrder};
 
 /// Rounding keeps the order of numbers. So a sum, a product or a quotient of lesser operands, of a quotient a lesser
 /// dividend and a greater divisor, is not rounded to a greater decimal.

@@ -1,7 +1,8 @@
 // Rounding a longer number to its leading 18 digits.
 ghost use Rattle.std.specs.Prelude.{◌≡◌, ◌+◌, ◌-◌, ◌*◌, ◌^◌, ◌≤◌, ◌<◌, pos, ◌+ℤ◌, ◌-ℤ◌};
-ghost use Rattle.decimal_input.specs.Ratios.{Ratio, over, times};
-ghost use Rattle.scaled_decimal.specs.Nearest.{IsDown, IsUp, IsNear, AreOperands, HasSize, IsFrom, IsUpTo, value, IsWithin};
+ghost use Rattle.decimal_input.specs.{Ratio, over};
+ghost use Rattle.decimal_input.specs.Ratios.{times};
+ghost use Rattle.scaled_decimal.specs.{IsDown, IsUp, IsNear, AreOperands, HasSize, IsFrom, IsUpTo, value, IsWithin};
 
 use crate::decimal::{LEAST, LIMIT, Sd, ZERO};
 use crate::power::{ONE, Power};

@@ -3,7 +3,7 @@
 ghost use Rattle.std.specs.Prelude.{◌<◌, pos, ◌+ℤ◌, ◌≤ℤ◌};
 ghost use Rattle.std.specs.Int.{int_min, int_max};
 ghost use Rattle.decimal_input.specs.Ratios.{plus};
-ghost use Rattle.scaled_decimal.specs.Nearest.{value, IsDown, IsUp, AreOperands, HasSize, IsWithin};
+ghost use Rattle.scaled_decimal.specs.{value, IsDown, IsUp, AreOperands, HasSize, IsWithin};
 
 use crate::decimal::Sd;
 use crate::power::{TEN, power_of_ten};

@@ -1,8 +1,8 @@
 // Whole numbers of units from decimals.
 
 ghost use Rattle.std.specs.Prelude.{◌-◌, ◌^◌, ◌<◌, MatchOption};
-ghost use Rattle.scaled_decimal.specs.Nearest.{IsSd, value};
-ghost use Rattle.decimal_input.specs.Wholes.{IsFloor, IsCeiling, Reaches, Passes};
+ghost use Rattle.scaled_decimal.specs.{IsSd, value};
+ghost use Rattle.decimal_input.specs.{IsFloor, IsCeiling, Reaches, Passes};
 
 use crate::decimal::Sd;
 use decimal_input::units::{whole_dn, whole_up};

@@ -6,24 +6,21 @@ pub use Rattle.std.proofs.lemmas.Int.{by_lt_z, ints, to_z-of_z}
 pub use Rattle.std.specs.Int.{w64}
 pub use Rattle.std.specs.Prelude.{IfOk, MatchOption, None, Option, Some, is_some, not, ◌&&◌, ◌||◌}
 pub use Rattle.cell_relax.proofs.Sides.{heads_in_range, is_side, tighter_first, tighter_second}
-pub use Rattle.cell_relax.specs.Sides.{AreNoLooser, AreWords, IsAsTight, Moves, head_of, heads_on}
+pub use Rattle.cell_relax.specs.{AreNoLooser, AreWords, IsAsTight, Moves, head_of, heads_on}
 pub use Rattle.head_table.proofs.WordReads.{no_looser_trans, tight_refl}
-pub use Rattle.head_table.specs.Rule.{AreHeld, HasMoved}
-pub use Rattle.head_table.specs.Seats.{HasTighter, IsSeatOf, ShowsSeen, barrier_of, seen_of, seen_on}
+pub use Rattle.head_table.specs.{AreHeld, HasMoved, HasTighter, IsSeatOf, ShowsSeen, barrier_of, seen_of, seen_on}
 pub use Rattle.head_table.specs.declared.table.HeadSeat.{HeadSeat}
 pub use Rattle.head_table.specs.declared.table.HeadTable.{HeadTable}
 pub use Rattle.relax_core.proofs.Keeping.{way_on}
-pub use Rattle.relax_core.specs.Kept.{edge_on}
-pub use Rattle.settle_driver.specs.Phases.{HasSeen, HasWorked, IsFirstSide, IsHeadFrom}
-pub use Rattle.settle_driver.specs.Sweeps.{AreBothSettled, IsPastCell, IsRelaxedCell, SettleWithin, StayOnTheWay}
-pub use Rattle.settle_driver.specs.Views.{AddsPhases, AddsTurns, AddsViews, ArePastBarrier, EnclosesPair, had_memory}
+pub use Rattle.relax_core.specs.{edge_on}
+pub use Rattle.settle_driver.specs.{AddsPhases, AddsTurns, AddsViews, AreBothSettled, ArePastBarrier, EnclosesPair, HasSeen, HasWorked, IsFirstSide, IsHeadFrom}
+pub use Rattle.settle_driver.specs.{IsPastCell, IsRelaxedCell, SettleWithin, StayOnTheWay, had_memory}
 pub use Rattle.step_problem.proofs.Sides.{CoversRounds, IsSide, as_tight_refl, as_tight_trans, covers_more, covers_none, edge_kept, first_settled, passes_more}
 pub use Rattle.step_problem.proofs.Sides.{past_covers, rounds_settle, turn_passes}
-pub use Rattle.step_problem.specs.Conditions.{IsHead, IsProblem}
+pub use Rattle.step_problem.specs.{AreHeads, AreOnTheWay, AreSettled, AsTight, CanMove, Edges, Ge, Gives, HaveLeft, IsBarrier, IsFirstOpen, IsFirstSettled}
+pub use Rattle.step_problem.specs.{IsGiven, IsHead, IsOnTheWay, IsPast, IsProblem, IsRaise, IsRelaxed, IsSink, IsUnfinished, OpenHeads, PairKind, RoundsSettle}
+pub use Rattle.step_problem.specs.{RoundsSettleBoth, head_at, lower_at, no_bound, upper_at}
 pub use Rattle.step_problem.specs.Entries.{Entries}
-pub use Rattle.step_problem.specs.Heads.{AreOnTheWay, Edges, Ge, IsBarrier, IsRaise, IsSink, OpenHeads, RoundsSettleBoth, head_at, lower_at, no_bound, upper_at}
-pub use Rattle.step_problem.specs.Settling.{AreSettled, CanMove, Gives, IsFirstOpen, IsGiven, IsUnfinished, PairKind}
-pub use Rattle.step_problem.specs.Sides.{AreHeads, AsTight, IsFirstSettled, IsOnTheWay, IsPast, IsRelaxed, RoundsSettle}
 pub use Rattle.step_problem.specs.declared.heads.Bound.{Bound}
 pub use Rattle.step_problem.specs.declared.heads.Side.{Side}
 pub use Rattle.step_problem.specs.declared.heads.Side.TheVariants.{High, Low}

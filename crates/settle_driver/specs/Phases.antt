@@ -4,12 +4,11 @@ use Rattle.step_problem.specs.declared.heads.Bound.{Bound}
 use Rattle.head_table.specs.declared.table.HeadTable.{HeadTable}
 use Rattle.head_table.specs.declared.table.HeadSeat.{HeadSeat}
 use Rattle.step_problem.specs.declared.heads.Side.{Side}
-use Rattle.cell_relax.specs.Sides.{AreNoLooser}
-use Rattle.head_table.specs.Rule.{HasMoved}
-use Rattle.head_table.specs.Seats.{IsSeatOf, seen_on, seen_of}
+use Rattle.cell_relax.specs.{AreNoLooser}
+use Rattle.head_table.specs.{HasMoved, IsSeatOf, seen_on, seen_of}
 use Rattle.settle_driver.specs.declared.phases.Plan.{Plan}
 use Rattle.step_problem.specs.declared.heads.Side.TheVariants.{Low, High}
-use Rattle.step_problem.specs.Conditions.{IsHead}
+use Rattle.step_problem.specs.{IsHead}
 
 -- workers from 1 to 64, at most 512 turns for each cell, and at least one round
 pub record IsPlan (plan : Plan) : Type 0 where

@@ -3,10 +3,10 @@ use Rattle.std.specs.Prelude.{ℕ, List, length, ℤ}
 use Rattle.step_problem.specs.declared.heads.Bound.{Bound}
 use Rattle.step_problem.specs.declared.heads.Side.{Side}
 use Rattle.step_problem.specs.Entries.{Entries}
-use Rattle.step_problem.specs.Sides.{AreHeads, IsSettled, RoundsSettle}
-use Rattle.cell_relax.specs.Sides.{IsAsTight, IsRelaxedOn, Moves, heads_on}
-use Rattle.relax_core.specs.Kept.{OnTheWay}
-use Rattle.head_table.specs.Rule.{HasMoved}
+use Rattle.step_problem.specs.{AreHeads, IsSettled, RoundsSettle}
+use Rattle.cell_relax.specs.{IsAsTight, IsRelaxedOn, Moves, heads_on}
+use Rattle.relax_core.specs.{OnTheWay}
+use Rattle.head_table.specs.{HasMoved}
 
 module _ (p : List Entries) where
   -- the words of cell c are its raise and its sink value from the old words

@@ -6,8 +6,8 @@ use Rattle.step_problem.specs.declared.heads.Bound.{Bound}
 use Rattle.step_problem.specs.declared.heads.SettleFault.{SettleFault}
 use Rattle.step_problem.specs.declared.heads.SettleFault.TheVariants.{Unfinished, Memory}
 use Rattle.step_problem.specs.Entries.{Entries}
-use Rattle.step_problem.specs.Heads.{Edges, IsSettledPair, head_at, lower_at, upper_at}
-use Rattle.cell_relax.specs.Sides.{AreWords}
+use Rattle.step_problem.specs.{Edges, IsSettledPair, head_at, lower_at, upper_at}
+use Rattle.cell_relax.specs.{AreWords}
 
 -- the settled pair lies between these heads
 pub record HoldsPair (p : List Entries) (b : Edges) (heads : List Bound) : Type 0 where

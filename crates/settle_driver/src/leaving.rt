@@ -1,7 +1,6 @@
 // Whether heads have left a barrier inside another one.
 ghost use Rattle.std.specs.Prelude.{◌≡◌, ◌<◌, ◌⊎◌, ℕ, ◌≤ℤ◌, ◌<ℤ◌, length, true};
-ghost use Rattle.step_problem.specs.Heads.{IsBarrier, head_at, lower_at, upper_at};
-ghost use Rattle.step_problem.specs.Laws.{HaveLeft};
+ghost use Rattle.step_problem.specs.{IsBarrier, head_at, lower_at, upper_at, HaveLeft};
 
 use step_problem::{Barrier, Bound, Problem};
 

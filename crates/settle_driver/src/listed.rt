@@ -1,8 +1,8 @@
 // A settler that starts with cells in the order of a list.
 ghost use Rattle.std.specs.Prelude.{◌≡◌};
-ghost use Rattle.cell_relax.specs.Sides.{AreWords};
+ghost use Rattle.cell_relax.specs.{AreWords};
 ghost use Rattle.settle_driver.specs.Sweeps.{StayOnTheWay};
-ghost use Rattle.step_problem.specs.Settling.PairKind.{settled};
+ghost use Rattle.step_problem.specs.{settled};
 
 use crate::plain::PlainSettler;
 use crate::sweep::relax_cell;

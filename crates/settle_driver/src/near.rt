@@ -1,12 +1,8 @@
 // Settling from heads near the settled ones.
 ghost use Rattle.std.specs.Prelude.{◌≡◌, ◌⊎◌, IfOk, MatchOption, ◌<◌, ℕ, ◌≤ℤ◌, length};
 ghost use Rattle.std.specs.Result.{is_ok};
-ghost use Rattle.step_problem.specs.Heads.{IsBarrier, Ge, head_at};
-ghost use Rattle.step_problem.specs.Settling.{AreSettled, Settles};
-ghost use Rattle.step_problem.specs.Settling.PairKind.{settled};
-ghost use Rattle.step_problem.specs.Conditions.{IsHead};
-ghost use Rattle.step_problem.specs.Laws.{IsInside};
-ghost use Rattle.settle_driver.specs.Phases.{IsHeadFrom};
+ghost use Rattle.step_problem.specs.{IsBarrier, Ge, head_at, AreSettled, Settles, settled, IsHead, IsInside};
+ghost use Rattle.settle_driver.specs.{IsHeadFrom};
 
 use crate::leaving::have_left;
 use std::alloc::{AllocError, Global};

@@ -1,9 +1,8 @@
 // Whether a cell can still move.
 ghost use Rattle.std.specs.Prelude.{◌≡◌, ◌<◌, length, MatchOption, false};
-ghost use Rattle.step_problem.specs.Settling.{CanMove, IsFirstOpen};
-ghost use Rattle.cell_relax.specs.Sides.{AreWords};
-ghost use Rattle.settle_driver.specs.Sweeps.{AreBothSettled};
-ghost use Rattle.settle_driver.specs.Phases.{IsFirstSide};
+ghost use Rattle.step_problem.specs.{CanMove, IsFirstOpen};
+ghost use Rattle.cell_relax.specs.{AreWords};
+ghost use Rattle.settle_driver.specs.{AreBothSettled, IsFirstSide};
 
 use cell_relax::relax_in;
 use step_problem::{Bound, Problem, Side};

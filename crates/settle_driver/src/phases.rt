@@ -1,11 +1,10 @@
 // One phase: the seats are made, the workers make their turns, the seats are joined, and the table is closed.
 ghost use Rattle.std.specs.Prelude.{◌≡◌, ℕ, ◌+◌, ◌<◌, ◌≤◌, length, slice_index_or, IfOk, All, vec_len, ◌*◌, ◌↔◌, IsTrue};
-ghost use Rattle.step_problem.specs.Heads.{AreOnTheWay};
+ghost use Rattle.step_problem.specs.{AreOnTheWay};
 ghost use Rattle.head_table.specs.declared.table.HeadSeat.{HeadSeat};
-ghost use Rattle.cell_relax.specs.Sides.{AreNoLooser};
-ghost use Rattle.head_table.specs.Seats.{IsSeatOf, seen_of};
-ghost use Rattle.settle_driver.specs.Phases.{HasSeen, HasWorked, IsPlan, AreShared};
-ghost use Rattle.settle_driver.specs.Sweeps.{IsPastCell};
+ghost use Rattle.cell_relax.specs.{AreNoLooser};
+ghost use Rattle.head_table.specs.{IsSeatOf, seen_of};
+ghost use Rattle.settle_driver.specs.{HasSeen, HasWorked, IsPlan, AreShared, IsPastCell};
 
 use head_table::{HeadSeat, HeadTable};
 use outside::Gate;

@@ -1,9 +1,7 @@
 // A settler that sweeps on one thread.
 ghost use Rattle.std.specs.Prelude.{◌≡◌};
-ghost use Rattle.step_problem.specs.Heads.{AreOnTheWay, IsBarrier};
-ghost use Rattle.step_problem.specs.Settling.{Settles};
-ghost use Rattle.step_problem.specs.Settling.PairKind.{settled};
-ghost use Rattle.cell_relax.specs.Sides.{AreWords};
+ghost use Rattle.step_problem.specs.{AreOnTheWay, IsBarrier, Settles, settled};
+ghost use Rattle.cell_relax.specs.{AreWords};
 ghost use Rattle.settle_driver.specs.Sweeps.{StayOnTheWay, SettleWithin};
 
 use crate::open::first_open;

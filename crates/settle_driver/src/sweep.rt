@@ -1,8 +1,8 @@
 // Plain sweeps over the words of a problem.
 ghost use Rattle.std.specs.Prelude.{◌≡◌, ◌<◌, ℕ, length, slice_index_or, false};
-ghost use Rattle.step_problem.specs.Heads.{no_bound};
-ghost use Rattle.cell_relax.specs.Sides.{AreWords};
-ghost use Rattle.settle_driver.specs.Sweeps.{IsRelaxedCell, IsPastCell, StayOnTheWay, AreBothSettled, SettleWithin};
+ghost use Rattle.step_problem.specs.{no_bound};
+ghost use Rattle.cell_relax.specs.{AreWords};
+ghost use Rattle.settle_driver.specs.{IsRelaxedCell, IsPastCell, StayOnTheWay, AreBothSettled, SettleWithin};
 
 use cell_relax::relax_in;
 use step_problem::{Bound, Problem, Side};

@@ -1,8 +1,6 @@
 // Settlers by workers in threads.
 ghost use Rattle.std.specs.Prelude.{◌≡◌};
-ghost use Rattle.step_problem.specs.Heads.{AreOnTheWay, IsBarrier};
-ghost use Rattle.step_problem.specs.Settling.{Settles};
-ghost use Rattle.step_problem.specs.Settling.PairKind.{settled};
+ghost use Rattle.step_problem.specs.{AreOnTheWay, IsBarrier, Settles, settled};
 ghost use Rattle.settle_driver.specs.Phases.{IsPlan};
 
 use crate::phases::Plan;

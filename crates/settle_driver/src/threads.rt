@@ -1,8 +1,7 @@
 // Phases of workers in threads, until no cell can move.
 ghost use Rattle.std.specs.Prelude.{◌<◌, length, Ok, Err};
-ghost use Rattle.step_problem.specs.Heads.{AreOnTheWay, IsBarrier};
-ghost use Rattle.step_problem.specs.Settling.{Settles};
-ghost use Rattle.settle_driver.specs.Phases.{IsPlan};
+ghost use Rattle.step_problem.specs.{AreOnTheWay, IsBarrier, Settles};
+ghost use Rattle.settle_driver.specs.{IsPlan};
 
 use crate::open::first_open;
 use crate::phases::{Plan, phase};

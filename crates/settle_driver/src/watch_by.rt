@@ -1,6 +1,6 @@
 // A settler by a closure that shows heads to a viewer.
 ghost use Rattle.std.specs.Prelude.{◌≡◌};
-ghost use Rattle.step_problem.specs.Settling.PairKind.{settled};
+ghost use Rattle.step_problem.specs.{settled};
 
 use crate::watch_settler::Viewer;
 use std::alloc::Global;

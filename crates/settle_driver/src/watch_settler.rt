@@ -1,7 +1,6 @@
 // Settling by workers in threads, while a viewer watches.
 ghost use Rattle.std.specs.Prelude.{◌≡◌, ℕ, ◌+◌, List, true, false};
-ghost use Rattle.step_problem.specs.Heads.{AreOnTheWay, IsBarrier, Edges};
-ghost use Rattle.step_problem.specs.Settling.{Settles};
+ghost use Rattle.step_problem.specs.{AreOnTheWay, IsBarrier, Edges, Settles};
 ghost use Rattle.settle_driver.specs.Phases.{IsPlan};
 ghost use Rattle.settle_driver.specs.Views.{AddsPhases, had_memory, EnclosesPair};
 ghost use Rattle.step_problem.specs.Entries.{Entries};

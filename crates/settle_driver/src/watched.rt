@@ -1,13 +1,10 @@
 // Phases of workers in threads, beside a seat that watches.
 ghost use Rattle.std.specs.Prelude.{◌≡◌, ℕ, ◌<◌, ◌≤◌, length, slice_index_or, IfOk, All, vec_len, true};
 ghost use Rattle.std.specs.Result.{is_ok};
-ghost use Rattle.step_problem.specs.Heads.{AreOnTheWay, IsBarrier};
-ghost use Rattle.step_problem.specs.Settling.{Settles};
+ghost use Rattle.step_problem.specs.{AreOnTheWay, IsBarrier, Settles};
 ghost use Rattle.head_table.specs.declared.table.HeadSeat.{HeadSeat};
-ghost use Rattle.head_table.specs.Seats.{IsSeatOf, barrier_of, seen_of};
-ghost use Rattle.settle_driver.specs.Phases.{HasWorked, IsPlan};
-ghost use Rattle.settle_driver.specs.Sweeps.{IsPastCell};
-ghost use Rattle.settle_driver.specs.Views.{AddsPhases, AddsTurns, ArePastBarrier, had_memory};
+ghost use Rattle.head_table.specs.{IsSeatOf, barrier_of, seen_of};
+ghost use Rattle.settle_driver.specs.{HasWorked, IsPlan, IsPastCell, AddsPhases, AddsTurns, ArePastBarrier, had_memory};
 
 use crate::open::first_open;
 use crate::phases::{Plan, deal, gather, turns_of_each, work_at};

@@ -1,8 +1,8 @@
 // The turns of a seat that watches.
 ghost use Rattle.std.specs.Prelude.{◌≡◌, length, true};
-ghost use Rattle.step_problem.specs.Heads.{IsBarrier};
-ghost use Rattle.head_table.specs.Seats.{IsSeatOf, barrier_of, seen_of};
-ghost use Rattle.settle_driver.specs.Views.{AddsTurns, ArePastBarrier, EnclosesPair};
+ghost use Rattle.step_problem.specs.{IsBarrier};
+ghost use Rattle.head_table.specs.{IsSeatOf, barrier_of, seen_of};
+ghost use Rattle.settle_driver.specs.{AddsTurns, ArePastBarrier, EnclosesPair};
 
 use crate::watch_settler::Viewer;
 use head_table::{HeadSeat, HeadTable};

@@ -5,13 +5,10 @@ use Rattle.step_chain.proofs.Common.{IsSettledPair, ExactCell, EnclosesStep, Sol
 use Rattle.step_chain.proofs.Common.{IsPairOf, IsCertificate, lower_at, upper_at, no_bound, neg_ℤ, ◌<ℤ◌, ints, clamps, NoBound, head_limit, AreInside, IsGiven}
 use Rattle.step_chain.proofs.Common.{settled, certified, either_certifies, given_is, clamp, clamped, clamped_at, IsRangeRefusal, IsNoCertificate, Bool}
 use Rattle.step_chain.proofs.Common.{SettledPairExists, TimeStep, exact_step, variable_heads, Decks, EnclosesSteps, IsProblemFor, each_member, of_member}
-use Rattle.step_chain.proofs.Common.{Solved, LieBetween, AreHeadsOf, IsStepBy, EachMember}
-use Rattle.cell_balance.specs.Components.{IsHeldBelow}
+use Rattle.step_chain.proofs.Common.{Solved, LieBetween, AreHeadsOf, IsStepBy, EachMember, IsHeldBelow, IsFloor, IsCeiling, LeadsBy, LeadsOrRests, LeadsWithout}
 use Rattle.barrier_vector.proofs.Enclosing.{encloses_all}
-use Rattle.barrier_vector.specs.Bounds.{IsFloor, IsCeiling}
 use Rattle.barrier_vector.proofs.Cutting.{barrier_is_cut, cut_encloses, cut_holds}
 use Rattle.certificate_check.proofs.Cut.{excludes_refusal}
-use Rattle.step_chain.specs.Leads.{LeadsBy, LeadsOrRests, LeadsWithout}
 
 pub cut_by : (limits : Limits) (p : List Entries) (b : Edges) → IsBarrierBy limits p b → IsCutBarrierOf p b
 cut_by Plain p b h = barrier_is_cut p b h

@@ -6,11 +6,10 @@ use Rattle.step_chain.proofs.Common.{ConstantPairFits, Solved, bound_at, AreHead
 use Rattle.step_chain.proofs.Common.{pos, ◌*ℤ◌, ◌≤ℤ◌, Fraction, IsCertificate, AreWords, CertificateEncloses, FlowModel, is_constant, index_of, exact_step}
 use Rattle.step_chain.proofs.Common.{variable_heads, IsActive, IsConstantPairFor, ProblemEncloses, ConstantPairEncloses, EnclosesSteps, HasCellsOf}
 use Rattle.step_chain.proofs.Common.{constant_same, each_member, of_member, member_cells, IsMove, EnclosesMove, EnclosesMoves, StepEncloses, PairKind, settled}
-use Rattle.step_chain.proofs.Common.{certified, EnclosesStep, CellEncloses, LiesBetween, constant_head, EnclosesSolutions}
+use Rattle.step_chain.proofs.Common.{certified, EnclosesStep, CellEncloses, LiesBetween, constant_head, EnclosesSolutions, EnclosesSigned}
 use Rattle.step_chain.proofs.Limits.{cut_by, held_by, uncut_by}
 use Rattle.deck_problems.proofs.Counted.{problem_count}
 use Rattle.step_chain.proofs.Assembled.{active_constant, heads_in_range, index_below, count_is, number_is}
-use Rattle.decimal_input.specs.Wholes.{EnclosesSigned}
 use Rattle.decimal_input.proofs.Enclosing.{whole_signed}
 use Rattle.cell_balance.proofs.Zips.{AllZip-length}
 

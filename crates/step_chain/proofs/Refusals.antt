@@ -5,8 +5,8 @@ use Rattle.step_chain.proofs.Common.{CutBarrierIsOne, IsBarrierBy, edges_by, Lim
 use Rattle.step_chain.proofs.Common.{CutRefusalIsOne, IsRangeRefusal, CertificateExcludesRefusal, RangeRefusalIsOne, HasNoBarrier, HasNoPose, IsPosed, IsStepBy}
 use Rattle.step_chain.proofs.Common.{LeavesRange, IsBarrierFault, IsProblemFor, BarrierFault, FailsBy, IsNoCertificate, SettlesNot, of_barrier, HasNoHeads}
 use Rattle.step_chain.proofs.Common.{BarrierExcludesRefusal}
-use Rattle.barrier_vector.specs.Barriers.{RefusalIsOne as BarrierRefusalIsOne}
-use Rattle.deck_problems.specs.Laws.{RefusalIsOne as ProblemRefusalIsOne}
+use Rattle.barrier_vector.specs.{RefusalIsOne as BarrierRefusalIsOne}
+use Rattle.deck_problems.specs.{RefusalIsOne as ProblemRefusalIsOne}
 use Rattle.step_chain.proofs.OneStep.{settled_one}
 use Rattle.step_chain.specs.declared.solved.StepFault.{StepFault}
 use Rattle.step_chain.specs.declared.solved.StepFault.TheVariants as step

@@ -2,10 +2,8 @@
 use Rattle.std.specs.Prelude.{List}
 use Rattle.step_problem.specs.declared.place.NoBound.{NoBound}
 use Rattle.step_problem.specs.Entries.{Entries}
-use Rattle.step_problem.specs.Heads.{Edges}
-use Rattle.barrier_vector.specs.Barriers.{IsBarrierOf}
-use Rattle.barrier_vector.specs.Refusals.{IsRefused}
-use Rattle.barrier_vector.specs.Cuts.{IsCutBarrierOf, IsUnbounded, clamped}
+use Rattle.step_problem.specs.{Edges}
+use Rattle.barrier_vector.specs.{IsBarrierOf, IsRefused, IsCutBarrierOf, IsUnbounded, clamped}
 use Rattle.barrier_vector.specs.declared.BarrierFault.{BarrierFault}
 use Rattle.barrier_vector.specs.declared.BarrierFault.TheVariants.{NoBound as IsNoBound, Memory}
 use Rattle.model_types.specs.declared.limits.Limits.{Limits}

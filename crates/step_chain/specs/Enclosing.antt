@@ -1,19 +1,16 @@
 -- How a step's heads enclose every solution of the model's exact equations.
 use Rattle.std.specs.Prelude.{ℕ, ◌^◌, ◌<◌, List, length, ℤ, pos, neg_ℤ, ◌*ℤ◌, ◌≤ℤ◌}
-use Rattle.decimal_input.specs.Fractions.{Fraction}
+use Rattle.decimal_input.specs.{Fraction}
 use Rattle.step_problem.specs.declared.heads.Bound.{Bound}
 use Rattle.step_problem.specs.Entries.{Entries}
-use Rattle.step_problem.specs.Conditions.{head_limit}
-use Rattle.step_problem.specs.Heads.{lower_at, upper_at}
-use Rattle.cell_balance.specs.Enclosures.{EnclosesStep}
-use Rattle.cell_balance.specs.Balance.{LiesBetween}
+use Rattle.step_problem.specs.{head_limit, lower_at, upper_at}
+use Rattle.cell_balance.specs.{EnclosesStep, LiesBetween}
 use Rattle.model_types.specs.declared.limits.Limits.{Limits}
 use Rattle.model_types.specs.declared.limits.Limits.TheVariants.{Plain, Wide}
 use Rattle.model_types.specs.declared.model.FlowModel.{FlowModel}
 use Rattle.model_types.specs.declared.time_steps.TimeStep.{TimeStep}
-use Rattle.flow_equations.specs.ExactStep.{exact_step}
-use Rattle.flow_equations.specs.Histories.{SolvesAt, variable_heads}
-use Rattle.problem_builder.specs.GridHeads.{IsActive, HeadsEnclose}
+use Rattle.flow_equations.specs.{exact_step, SolvesAt, variable_heads}
+use Rattle.problem_builder.specs.{IsActive, HeadsEnclose}
 use Rattle.step_chain.specs.declared.solved.Solved.{Solved}
 
 -- The vector X over d lies between the heads, which are in units of 10^-9, at each active cell.

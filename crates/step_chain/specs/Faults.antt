@@ -5,12 +5,11 @@ use Rattle.step_problem.specs.declared.heads.SettleFault.{SettleFault}
 use Rattle.step_problem.specs.declared.heads.SettleFault.TheVariants as settle
 use Rattle.step_problem.specs.declared.place.NoBound.{NoBound}
 use Rattle.step_problem.specs.Entries.{Entries}
-use Rattle.step_problem.specs.Heads.{Edges, OpenHeads}
-use Rattle.step_problem.specs.Settling.{AreSettled, IsUnfinished}
-use Rattle.barrier_vector.specs.Cuts.{clamped}
+use Rattle.step_problem.specs.{Edges, OpenHeads, AreSettled, IsUnfinished}
+use Rattle.barrier_vector.specs.{clamped}
 use Rattle.barrier_vector.specs.declared.BarrierFault.{BarrierFault}
 use Rattle.barrier_vector.specs.declared.BarrierFault.TheVariants as barrier
-use Rattle.certificate_check.specs.Certificates.{IsRangeRefusal}
+use Rattle.certificate_check.specs.{IsRangeRefusal}
 use Rattle.deck_problems.specs.declared.decks.Decks.{Decks}
 use Rattle.model_types.specs.declared.limits.Limits.{Limits}
 use Rattle.model_types.specs.declared.limits.Limits.TheVariants.{Plain, Wide}

@@ -6,17 +6,14 @@ use Rattle.deck_problems.specs.declared.decks.Decks.{Decks}
 use Rattle.model_types.specs.declared.limits.Limits.{Limits}
 use Rattle.model_types.specs.declared.limits.Limits.TheVariants.{Plain, Wide}
 use Rattle.model_types.specs.declared.time_steps.TimeStep.{TimeStep}
-use Rattle.problem_builder.specs.GridHeads.{AreGridHeads}
-use Rattle.deck_problems.specs.Decks.{EachMember}
-use Rattle.deck_problems.specs.Laws.{IsBefore}
+use Rattle.problem_builder.specs.{AreGridHeads}
+use Rattle.deck_problems.specs.{EachMember, IsBefore}
 use Rattle.step_chain.specs.declared.solved.Solved.{Solved}
 use Rattle.step_chain.specs.Enclosing.{EnclosesMoves}
-use Rattle.step_problem.specs.Settling.{PairKind}
-use Rattle.step_problem.specs.Settling.PairKind.{settled}
-use Rattle.step_chain.specs.Steps.{IsStepBy, IsSettledStep, HasNoHeads}
+use Rattle.step_problem.specs.{PairKind, settled}
+use Rattle.step_chain.specs.Steps.{IsStepBy, IsSettledStep, HasNoHeads, AreAllSteps, LieWithin}
 use Rattle.model_types.specs.declared.model.FlowModel.{FlowModel}
-use Rattle.deck_span.specs.Models.{SolvesBetween}
-use Rattle.step_chain.specs.Steps.{AreAllSteps, LieWithin}
+use Rattle.deck_span.specs.{SolvesBetween}
 
 -- there is at most one settled step
 abbrev pub StepIsOne : Type 0

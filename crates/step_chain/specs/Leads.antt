@@ -3,13 +3,12 @@
 use Rattle.std.specs.Prelude.{◌≡◌, ◌⊎◌, ℕ, ℤ, List, Bool, false}
 use Rattle.step_problem.specs.declared.heads.Bound.{Bound}
 use Rattle.step_problem.specs.Entries.{Entries}
-use Rattle.step_problem.specs.Heads.{Edges, IsSettledPair}
+use Rattle.step_problem.specs.{Edges, IsSettledPair}
 use Rattle.model_types.specs.declared.limits.Limits.{Limits}
 use Rattle.model_types.specs.declared.limits.Limits.TheVariants.{Plain}
 use Rattle.deck_problems.specs.declared.decks.Decks.{Decks}
 use Rattle.model_types.specs.declared.time_steps.TimeStep.{TimeStep}
-use Rattle.deck_problems.specs.Decks.{EachMember}
-use Rattle.deck_problems.specs.Problems.{IsProblemFor}
+use Rattle.deck_problems.specs.{EachMember, IsProblemFor}
 use Rattle.step_chain.specs.Barriers.{IsBarrierBy, edges_by}
 use Rattle.step_chain.specs.Enclosing.{LieBetween}
 

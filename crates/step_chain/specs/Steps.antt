@@ -3,25 +3,18 @@ use Rattle.std.specs.Prelude.{ℕ, ◌⊎◌, List, ℤ, [], ◌∷◌, Some, �
 use Rattle.step_problem.specs.declared.heads.Bound.{Bound}
 use Rattle.step_problem.specs.declared.place.NoBound.{NoBound}
 use Rattle.step_problem.specs.Entries.{Entries}
-use Rattle.step_problem.specs.Heads.{Edges, lower_at, upper_at, IsCertificate, RoundsSettleBoth, no_bound}
-use Rattle.step_problem.specs.Settling.{PairKind, AreSettled, IsPairOf}
-use Rattle.step_problem.specs.Settling.PairKind.{settled}
-use Rattle.certificate_check.specs.Certificates.{IsRangeRefusal}
+use Rattle.step_problem.specs.{Edges, lower_at, upper_at, IsCertificate, RoundsSettleBoth, no_bound, PairKind, AreSettled, IsPairOf, settled}
+use Rattle.certificate_check.specs.{IsRangeRefusal}
 use Rattle.model_types.specs.declared.limits.Limits.{Limits}
 use Rattle.model_types.specs.declared.limits.Limits.TheVariants.{Plain, Wide}
 use Rattle.model_types.specs.declared.time_steps.TimeStep.{TimeStep}
 use Rattle.deck_problems.specs.declared.decks.Decks.{Decks}
-use Rattle.deck_problems.specs.Problems.{IsProblemFor, HasNoProblemFor}
+use Rattle.deck_problems.specs.{IsProblemFor, HasNoProblemFor, AreDecks, AreStartHeadsFor, IsConstantPairFor}
 use Rattle.step_chain.specs.declared.solved.Solved.{Solved}
 use Rattle.step_chain.specs.Barriers.{IsBarrierBy, HasNoBarrier, edges_by}
 use Rattle.model_types.specs.declared.model.FlowModel.{FlowModel}
-use Rattle.model_types.specs.Times.{times}
-use Rattle.deck_problems.specs.Decks.{AreDecks}
-use Rattle.deck_problems.specs.ConstantHeads.{AreStartHeadsFor, IsConstantPairFor}
+use Rattle.model_types.specs.{times, cell_count, is_active, is_variable, is_constant, index_of}
 use Rattle.step_chain.specs.Enclosing.{LiesWithin}
-use Rattle.model_types.specs.Faces.{cell_count}
-use Rattle.model_types.specs.Layers.{is_active}
-use Rattle.model_types.specs.Heads.{is_variable, is_constant, index_of}
 
 -- The heads of all cells of the grid at the end of a step, from those of its variable cells.
 -- the bound of a cell, or of an index

@@ -1,6 +1,5 @@
 // Laws of the steps of decks. Each is the contract of an empty function, but for the laws below that it calls.
-ghost use Rattle.step_chain.specs.Laws.{StepIsOne, StepExcludesRefusal, RefusalIsOne, HeadsFit, StepEncloses, WideKeepsSteps};
-ghost use Rattle.step_chain.specs.Laws.{HistoriesLieWithin};
+ghost use Rattle.step_chain.specs.{StepIsOne, StepExcludesRefusal, RefusalIsOne, HeadsFit, StepEncloses, WideKeepsSteps, HistoriesLieWithin};
 
 use barrier_vector::laws::{
     no_barrier_beside_a_refusal, no_cut_barrier_beside_a_refusal, one_cut_barrier, one_cut_refusal,

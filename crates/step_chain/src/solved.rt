@@ -2,11 +2,10 @@
 ghost use Rattle.std.specs.Prelude.{◌≡◌, IfOk, IfErr, MatchResult, true};
 ghost use Rattle.step_chain.specs.Faults.{of_build, of_barrier, of_settle, SettlesNot};
 ghost use Rattle.step_chain.specs.declared.solved.StepFault.TheVariants.{Memory as OutOfMemory};
-ghost use Rattle.step_problem.specs.Heads.{lower_at, upper_at, IsCertificate};
-ghost use Rattle.step_problem.specs.Settling.{IsPairOf};
-ghost use Rattle.cell_relax.specs.Sides.{AreWords};
-ghost use Rattle.cell_balance.specs.Components.{IsHeldBelow};
-ghost use Rattle.barrier_vector.specs.Cuts.{EnclosesUncut, IsCutBarrierOf};
+ghost use Rattle.step_problem.specs.{lower_at, upper_at, IsCertificate, IsPairOf};
+ghost use Rattle.cell_relax.specs.{AreWords};
+ghost use Rattle.cell_balance.specs.{IsHeldBelow};
+ghost use Rattle.barrier_vector.specs.{EnclosesUncut, IsCutBarrierOf};
 ghost use Rattle.model_types.specs.declared.limits.Limits.TheVariants.{Wide};
 ghost use Rattle.step_chain.specs.Barriers.{IsBarrierBy, IsBarrierFault, edges_by};
 ghost use Rattle.step_chain.specs.Leads.{LeadsWithout};

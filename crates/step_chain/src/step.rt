@@ -1,17 +1,11 @@
 // The next step of one deck, or of two.
 ghost use Rattle.std.specs.Prelude.{◌≡◌, ◌≤◌, ℕ, Contains, IfOk, IfErr, MatchResult, true};
-ghost use Rattle.cell_relax.specs.Sides.{AreWords};
-ghost use Rattle.model_types.specs.Times.{times};
-ghost use Rattle.problem_builder.specs.GridHeads.{AreGridHeads, IsActive, IsNamed};
-ghost use Rattle.deck_problems.specs.Decks.{AreDecks, EachMember};
-ghost use Rattle.deck_problems.specs.Kept.{AreDeckTables, digits_of};
-ghost use Rattle.step_chain.specs.Steps.{IsStepBy, bound_at, AreHeadsOf};
-ghost use Rattle.step_chain.specs.Faults.{FailsBy};
-ghost use Rattle.step_chain.specs.Leads.{LeadsBy, LeadsOrRests};
-ghost use Rattle.step_chain.specs.Enclosing.{EnclosesMoves};
-ghost use Rattle.model_types.specs.Grids.{HasSize};
-ghost use Rattle.deck_problems.specs.ConstantHeads.{AreConstantHeadsFor};
-ghost use Rattle.problem_builder.specs.Tables.{ArePeriodTables};
+ghost use Rattle.cell_relax.specs.{AreWords};
+ghost use Rattle.model_types.specs.{times, HasSize};
+ghost use Rattle.problem_builder.specs.{AreGridHeads, IsActive, ArePeriodTables};
+ghost use Rattle.problem_builder.specs.GridHeads.{IsNamed};
+ghost use Rattle.deck_problems.specs.{AreDecks, EachMember, AreDeckTables, digits_of, AreConstantHeadsFor};
+ghost use Rattle.step_chain.specs.{IsStepBy, bound_at, AreHeadsOf, FailsBy, LeadsBy, LeadsOrRests, EnclosesMoves};
 
 use crate::laws::{heads_fit, steps_enclose};
 use crate::solved::{Solved, StepFault, barrier_by, settle_by};

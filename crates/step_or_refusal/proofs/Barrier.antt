@@ -3,11 +3,9 @@ use Rattle.step_or_refusal.proofs.Common.{◌≡◌, ℕ, ◌<◌, ◌≤◌, �
 use Rattle.step_or_refusal.proofs.Common.{Side, Low, High, IsProblem, head_limit, Entries, entries_at, IsBoundOn, HasNoBound, IsOutOfRange, no_barrier_on}
 use Rattle.step_or_refusal.proofs.Common.{range_on, Nowhere, IsLeastWith, Names, IsRefusedOn, has_a_bound, NoBound, CutBarrierOrRefusal, cut_on, IsCutBoundOn}
 use Rattle.step_or_refusal.proofs.Common.{AreCutBounds, RefusesOn, Refuses, BarrierOrRefusal, range_with_len, length-map-range_with_len}
-use Rattle.step_or_refusal.proofs.Common.{get_or-map-range_with_len, head_at}
-use Rattle.step_problem.specs.StepRefusals.{number_of}
+use Rattle.step_or_refusal.proofs.Common.{get_or-map-range_with_len, head_at, number_of, IsWholeSide}
 use Rattle.step_problem.specs.declared.refusal.StepRefusal.{StepRefusal}
 use Rattle.step_problem.specs.declared.place.Place.TheVariants.{Cell}
-use Rattle.barrier_vector.specs.Tests.{IsWholeSide}
 use Rattle.barrier_vector.proofs.Sides.{cut_nowhere_without, refused_out_of_range, side_is_whole}
 use Rattle.step_or_refusal.proofs.Bounds.{bound_or_none}
 use Rattle.step_or_refusal.proofs.Decided.{Decided, IsFirst, first_or_none}

@@ -7,26 +7,24 @@ pub use Rattle.std.proofs.lemmas.List.FromFn.{get_or-map-range_with_len, length-
 pub use Rattle.std.specs.List.{range_with_len}
 pub use Rattle.barrier_vector.proofs.Backs.{join_ways, leads_within, reaches_within}
 pub use Rattle.barrier_vector.proofs.Uniques.{has_a_bound, inner_one}
-pub use Rattle.barrier_vector.specs.Bounds.{AnchorRoot, IsAnchoredBound, IsBoundOn, IsInnerPath, IsLevel, IsLongest, IsPath, IsUnanchored, LeadsToRoot}
-pub use Rattle.barrier_vector.specs.Bounds.{LeastRoot, SumsTo, anchor_on, ceil_over, moved_out}
-pub use Rattle.barrier_vector.specs.Cuts.{AreCutBounds, IsCutBoundOn, Refuses, RefusesOn, clamped, cut_on}
-pub use Rattle.barrier_vector.specs.Marks.{IsBase, IsCellMark, IsMarkBelow, IsMarkIn, IsOutermost, drain_mark, fixed_mark, lack, need, outer_of, river_mark}
-pub use Rattle.barrier_vector.specs.Refusals.{HasNoBound, IsLeastWith, IsOutOfRange, IsRefusedOn, Names, Nowhere, no_barrier_on, range_on}
-pub use Rattle.cell_balance.specs.Components.{IsCarried, IsComponent, Reaches, deep_low, sum_inside}
-pub use Rattle.deck_problems.specs.Decks.{one_deck}
-pub use Rattle.deck_problems.specs.Laws.{IsBefore}
+pub use Rattle.barrier_vector.specs.{AnchorRoot, AreCutBounds, HasNoBound, IsAnchoredBound, IsBase, IsBoundOn, IsCellMark, IsCutBoundOn, IsInnerPath}
+pub use Rattle.barrier_vector.specs.{IsLeastWith, IsLevel, IsLongest, IsMarkBelow, IsMarkIn, IsOutOfRange, IsOutermost, IsPath, IsRefusedOn, IsUnanchored}
+pub use Rattle.barrier_vector.specs.{IsWholeSide, LeadsToRoot, LeastRoot, Names, Nowhere, Refuses, RefusesOn, SumsTo, anchor_on, ceil_over, clamped, cut_on}
+pub use Rattle.barrier_vector.specs.{drain_mark, fixed_mark, lack, moved_out, need, no_barrier_on, outer_of, range_on, river_mark}
+pub use Rattle.cell_balance.specs.{IsCarried, IsComponent, Reaches, deep_low, sum_inside}
+pub use Rattle.deck_problems.specs.{IsBefore, one_deck}
+pub use Rattle.model_types.specs.{IsModel, cell_count, index_of, is_active, is_variable, times}
 pub use Rattle.model_types.specs.declared.model.FlowModel.{FlowModel}
 pub use Rattle.model_types.specs.declared.time_steps.TimeStep.{TimeStep}
-pub use Rattle.problem_builder.specs.GridHeads.{AreGridHeads, IsConstantPair}
-pub use Rattle.problem_builder.specs.Laws.{ProblemFits, StartHeadsFit}
-pub use Rattle.problem_or_refusal.specs.Laws.{ConstantPairsExist, ProblemOrRefusal, StartHeadsExist}
+pub use Rattle.problem_builder.specs.{AreGridHeads, IsConstantPair, ProblemFits, StartHeadsFit}
+pub use Rattle.problem_or_refusal.specs.{ConstantPairsExist, ProblemOrRefusal, StartHeadsExist}
 pub use Rattle.step_chain.proofs.Limits.{edges_fit}
-pub use Rattle.step_chain.specs.Steps.{AreHeadsOf, HasNoHeads, IsSettledStep, bound_at}
+pub use Rattle.step_chain.specs.{AreHeadsOf, HasNoHeads, HeadsFit, IsSettledStep, bound_at, edges_by}
 pub use Rattle.step_chain.specs.declared.solved.Solved.{Solved}
-pub use Rattle.step_or_refusal.specs.Laws.{BarrierOrRefusal, CutBarrierOrRefusal, ListingOrRefusal, StepOrRefusal}
-pub use Rattle.step_problem.specs.Conditions.{IsHead, IsProblem, head_limit}
-pub use Rattle.step_problem.specs.Entries.{Entries, entries_at}
-pub use Rattle.step_problem.specs.Heads.{Edges, IsCertificate, IsSettledPair, head_at, lower_at, no_bound, upper_at}
+pub use Rattle.step_or_refusal.specs.{BarrierOrRefusal, CutBarrierOrRefusal, ListingOrRefusal, StepOrRefusal}
+pub use Rattle.step_problem.specs.{AreSettled, Edges, IsCertificate, IsFirstSettled, IsHead, IsProblem, IsSettledPair, SettledPairExists, entries_at, head_at}
+pub use Rattle.step_problem.specs.{head_limit, lower_at, lower_balance, no_bound, number_of, upper_at, upper_balance}
+pub use Rattle.step_problem.specs.Entries.{Entries}
 pub use Rattle.step_problem.specs.declared.entry.Link.{Link}
 pub use Rattle.step_problem.specs.declared.heads.Bound.{Bound}
 pub use Rattle.step_problem.specs.declared.heads.Side.{Side}

@@ -1,22 +1,18 @@
 -- A model has a whole listing, or a first refusal at one of its times.
 use Rattle.step_or_refusal.proofs.Common.{◌≡◌, ℕ, ◌⊎◌, inl, inr, Option, None, Some, Ok, Err, Result, List, [], ◌∷◌, refl, sym, subst, Bound, lower_at}
 use Rattle.step_or_refusal.proofs.Common.{upper_at, FlowModel, TimeStep, StartHeadsFit, StartHeadsExist, one_deck, StepOrRefusal, ListingOrRefusal, Bool}
-use Rattle.step_or_refusal.proofs.Common.{ProblemFits, NoBound, IsBefore, Solved, edges_fit, IsSettledStep, AreGridHeads}
+use Rattle.step_or_refusal.proofs.Common.{ProblemFits, NoBound, IsBefore, Solved, edges_fit, IsSettledStep, AreGridHeads, times, IsModel, HeadsFit, edges_by}
 use Rattle.step_problem.specs.declared.place.ZoneFlow.{ZoneFlow}
-use Rattle.model_types.specs.Times.{times}
-use Rattle.model_types.specs.Valid.{IsModel}
-use Rattle.step_chain.specs.Laws.{HeadsFit}
 use Rattle.step_problem.proofs.Pairs.{settled_is}
 use Rattle.model_types.specs.declared.limits.Limits.{Limits}
-use Rattle.step_chain.specs.Barriers.{edges_by}
-use Rattle.zone_flows.specs.Tables.{listed_flows, with_faces}
+use Rattle.zone_flows.specs.{listed_flows, with_faces}
 use Rattle.zone_flows.proofs.Fitting.{faces_fit}
 use Rattle.zone_flows.proofs.Meaning.{are_flows, is_first}
 use Rattle.listing_run.specs.declared.solving.Step.{Step}
 use Rattle.listing_run.specs.declared.steps.Task.{Task}
-use Rattle.listing_run.specs.Steps.{budget_at, IsSolved, IsStep, HasNoBound, no_heads, no_budget, no_zones, Steps}
-use Rattle.listing_run.specs.Tasks.{one_task, pairs_of, AreFlowsAt, HasLargeFlow, faces_at}
-use Rattle.zone_pairs.specs.Pairs.{AreZones}
+use Rattle.listing_run.specs.{budget_at, IsSolved, IsStep, HasNoBound, no_heads, no_budget, no_zones, one_task, pairs_of, AreFlowsAt, HasLargeFlow, faces_at}
+use Rattle.listing_run.specs.Steps.{Steps}
+use Rattle.zone_pairs.specs.{AreZones}
 use Rattle.listing_run.proofs.Unique.{IsRest, rest_whole, rest_more, first_in}
 use Rattle.listing_run.specs.declared.text.ListingEnd.TheVariants as ends
 

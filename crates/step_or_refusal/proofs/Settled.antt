@@ -2,15 +2,10 @@
 use Rattle.step_or_refusal.proofs.Common.{◌≡◌, ℕ, ◌<◌, ◌∙◌, inl, inr, Bool, true, false, List, length, map, refl, sym, ap, subst, arith, ℤ, Bound, Edges}
 use Rattle.step_or_refusal.proofs.Common.{no_bound, lower_at, upper_at, IsSettledPair, FlowModel, TimeStep, one_deck, Entries, range_with_len, cases_Bool}
 use Rattle.step_or_refusal.proofs.Common.{false≢true, length-map-range_with_len, get_or-map-range_with_len, IsProblem, IsHead, IsConstantPair, bound_at}
-use Rattle.step_or_refusal.proofs.Common.{AreHeadsOf}
+use Rattle.step_or_refusal.proofs.Common.{AreHeadsOf, AreSettled, IsFirstSettled, cell_count, is_variable, index_of, is_active}
 use Rattle.std.specs.Prelude.{not, ◌&&◌}
-use Rattle.step_problem.specs.Settling.{AreSettled}
-use Rattle.step_problem.specs.Sides.{IsFirstSettled}
 use Rattle.step_problem.proofs.BothSides.{low_side, high_side}
 use Rattle.step_problem.proofs.Sides.{IsSide, same_as_tight, as_tight_trans, same_settled}
-use Rattle.model_types.specs.Faces.{cell_count}
-use Rattle.model_types.specs.Heads.{is_variable, index_of}
-use Rattle.model_types.specs.Layers.{is_active}
 use Rattle.problem_builder.proofs.ActiveCells.{variable_active, constant_active}
 
 -- being the first settled vector is of the cells below n alone

@@ -2,15 +2,13 @@
 use Rattle.step_or_refusal.proofs.Common.{inl, inr, ℕ, ℤ, List, pos, arith, ◌≤ℤ◌, ◌<ℤ◌, ◌⊎◌, ProblemFits, ProblemOrRefusal, ConstantPairsExist, StepOrRefusal}
 use Rattle.step_or_refusal.proofs.Common.{Bound, Edges, lower_at, upper_at, head_at, FlowModel, TimeStep, one_deck, IsBefore, NoBound, Entries, entries_at}
 use Rattle.step_or_refusal.proofs.Common.{IsCertificate, Solved, HasNoHeads, IsSettledStep, edges_fit, BarrierOrRefusal, CutBarrierOrRefusal, by_lt_z, ints}
-use Rattle.step_or_refusal.proofs.Common.{Side, Low, High, clamped, range_on}
-use Rattle.step_problem.specs.Laws.{SettledPairExists}
+use Rattle.step_or_refusal.proofs.Common.{Side, Low, High, clamped, range_on, SettledPairExists, lower_balance, upper_balance}
 use Rattle.step_or_refusal.proofs.Settled.{settled_list, heads_list}
-use Rattle.step_problem.specs.Balances.{lower_balance, upper_balance}
 use Rattle.step_problem.proofs.BothSettle.{pair_certifies}
 use Rattle.model_types.specs.declared.limits.Limits.TheVariants.{Plain, Wide}
 use Rattle.step_or_refusal.proofs.Decided.{Decided}
 use Rattle.step_or_refusal.proofs.Barrier.{refuses_or_not}
-use Rattle.certificate_check.specs.Certificates.{HoldsAt, IsRangeRefusal}
+use Rattle.certificate_check.specs.{HoldsAt, IsRangeRefusal}
 
 -- one of two comparisons holds, or none does
 neither : (a b c d : ℤ) → b <ℤ a → d <ℤ c → (a ≤ℤ b) ⊎ (c ≤ℤ d) → ⊥

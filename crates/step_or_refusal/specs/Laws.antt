@@ -5,21 +5,16 @@ use Rattle.step_problem.specs.declared.place.NoBound.{NoBound}
 use Rattle.model_types.specs.declared.limits.Limits.{Limits}
 use Rattle.model_types.specs.declared.model.FlowModel.{FlowModel}
 use Rattle.model_types.specs.declared.time_steps.TimeStep.{TimeStep}
-use Rattle.model_types.specs.Valid.{IsModel}
-use Rattle.deck_problems.specs.Decks.{one_deck}
-use Rattle.deck_problems.specs.Laws.{IsBefore}
+use Rattle.model_types.specs.{IsModel}
+use Rattle.deck_problems.specs.{one_deck, IsBefore}
 use Rattle.step_chain.specs.declared.solved.Solved.{Solved}
-use Rattle.step_chain.specs.Steps.{IsSettledStep, HasNoHeads}
+use Rattle.step_chain.specs.{IsSettledStep, HasNoHeads}
 use Rattle.listing_run.specs.declared.solving.Step.{Step}
-use Rattle.listing_run.specs.Steps.{AllSteps}
-use Rattle.listing_run.specs.Tasks.{one_task}
-use Rattle.zone_pairs.specs.Pairs.{AreZones}
-use Rattle.step_problem.specs.Conditions.{IsProblem}
+use Rattle.listing_run.specs.{AllSteps, one_task}
+use Rattle.zone_pairs.specs.{AreZones}
+use Rattle.step_problem.specs.{IsProblem, Edges}
 use Rattle.step_problem.specs.Entries.{Entries}
-use Rattle.step_problem.specs.Heads.{Edges}
-use Rattle.barrier_vector.specs.Barriers.{IsBarrierOf}
-use Rattle.barrier_vector.specs.Refusals.{IsRefused}
-use Rattle.barrier_vector.specs.Cuts.{IsCutBarrierOf, IsUnbounded}
+use Rattle.barrier_vector.specs.{IsBarrierOf, IsRefused, IsCutBarrierOf, IsUnbounded}
 use Rattle.listing_run.specs.declared.text.ListingEnd.TheVariants as ends
 
 -- A time of a valid model, from heads of all its cells, has a settled step or a refusal.

@@ -1,6 +1,5 @@
 // Steps and listings exist, or a refusal says why not. Each law is the contract of a function without results, which calls the laws below that it stands on.
-ghost use Rattle.step_or_refusal.specs.Laws.{StepOrRefusal, ListingOrRefusal};
-ghost use Rattle.step_or_refusal.specs.Laws.{BarrierOrRefusal, CutBarrierOrRefusal};
+ghost use Rattle.step_or_refusal.specs.{StepOrRefusal, ListingOrRefusal, BarrierOrRefusal, CutBarrierOrRefusal};
 
 use problem_builder::laws::{problems_fit, start_heads_fit};
 use problem_or_refusal::laws::{constant_pairs_exist, problem_or_refusal, start_heads_exist};

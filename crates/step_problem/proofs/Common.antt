@@ -9,15 +9,14 @@ pub use Rattle.std.proofs.lemmas.List.{at_drop_more, get_or-map, get_or_default}
 pub use Rattle.std.proofs.lemmas.List.Elements.{All-head, All-tail, All-weaker}
 pub use Rattle.std.specs.Int.{int_max, int_min, w128, w64}
 pub use Rattle.std.specs.Prelude.{All, Err, Ok, Result}
-pub use Rattle.step_problem.specs.Balances.{balance, branch_flow, drain_flow, drain_high, drain_low, evap_flow, evap_high, evap_low, fixed_flow, fixed_high}
-pub use Rattle.step_problem.specs.Balances.{fixed_low, flow_bound, least, link_flow, link_high, link_low, lower_balance, most, river_flow, river_high}
-pub use Rattle.step_problem.specs.Balances.{river_low, total, upper_balance}
-pub use Rattle.step_problem.specs.Conditions.{IsHead, IsProblem, IsWithin, LinksFit, deep_river_high, deep_river_low, full_rate, head_limit, magnitude}
-pub use Rattle.step_problem.specs.Entries.{Entries, ends_in, entries_at, link_at, no_entries, no_link}
-pub use Rattle.step_problem.specs.Heads.{CanRise, CanSink, Edges, Ge, IsBarrier, head_at, lower_at, upper_at}
-pub use Rattle.step_problem.specs.Laws.{FallsInOwnHead, KeepsOrder, LeavingSettles, LowerShifts, RisesInOtherHeads, SettledPairCertifies, SettledPairExists}
-pub use Rattle.step_problem.specs.Laws.{SettledPairIsOne, UpperShifts}
-pub use Rattle.step_problem.specs.Sides.{AreHeads, AreSeen, AsTight, IsCertified, IsExchange, IsFirstSettled, IsNoTighterThanSettled, IsOnTheWay, IsPast}
-pub use Rattle.step_problem.specs.Sides.{IsRelaxed, IsRound, IsSettled, Rounds, RoundsSettle}
+pub use Rattle.step_problem.specs.{AreCertified, AreHeads, AreSeen, AreSettled, AsTight, CanRise, CanSink, Edges, FallsInOwnHead, Ge, Gives, IsBarrier}
+pub use Rattle.step_problem.specs.{IsCertified, IsExchange, IsFirstSettled, IsGiven, IsHead, IsNoTighterThanSettled, IsOnTheWay, IsPairOf, IsPast, IsProblem}
+pub use Rattle.step_problem.specs.{IsRelaxed, IsRound, IsSettled, IsWithin, KeepsOrder, LeavingSettles, LinksFit, LowerShifts, PairKind, RisesInOtherHeads}
+pub use Rattle.step_problem.specs.{Rounds, RoundsSettle, SettledPairCertifies, SettledPairExists, SettledPairIsOne, UpperShifts, balance, branch_flow}
+pub use Rattle.step_problem.specs.{certified, deep_river_high, deep_river_low, drain_flow, drain_high, drain_low, ends_in, entries_at, evap_flow, evap_high}
+pub use Rattle.step_problem.specs.{evap_low, fixed_flow, fixed_high, fixed_low, flow_bound, full_rate, head_at, head_limit, least, link_at, link_flow}
+pub use Rattle.step_problem.specs.{link_high, link_low, lower_at, lower_balance, magnitude, most, no_entries, no_link, river_flow, river_high, river_low}
+pub use Rattle.step_problem.specs.{settled, total, upper_at, upper_balance}
+pub use Rattle.step_problem.specs.Entries.{Entries}
 pub use Rattle.step_problem.specs.declared.entry.Link.{Link}
 pub use borrow.Author.Differences.{le_out, up}

@@ -1,8 +1,6 @@
 // The two balances of a cell.
 ghost use Rattle.std.specs.Prelude.{◌≡◌, ◌<◌, ◌^◌, ℕ, ℤ, ◌+ℤ◌, All, length};
-ghost use Rattle.step_problem.specs.Entries.{entries_at, ends_in};
-ghost use Rattle.step_problem.specs.Balances.{lower_balance, upper_balance, balance};
-ghost use Rattle.step_problem.specs.Conditions.{IsHead, IsWithin, CellFits};
+ghost use Rattle.step_problem.specs.{entries_at, ends_in, lower_balance, upper_balance, balance, IsHead, IsWithin, CellFits};
 
 pub mod branch;
 mod sums;

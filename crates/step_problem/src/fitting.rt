@@ -1,7 +1,6 @@
 // Whether cells make a problem.
 ghost use Rattle.std.specs.Prelude.{◌≡◌, ◌<◌, ◌≤◌, ◌↔◌, ℕ, IsTrue, All, length};
-ghost use Rattle.step_problem.specs.Entries.{entries_at};
-ghost use Rattle.step_problem.specs.Conditions.{LinkFits, FixedFits, RiverFits, DrainFits, EvapFits, CellFits, LinksFit, IsProblem};
+ghost use Rattle.step_problem.specs.{entries_at, LinkFits, FixedFits, RiverFits, DrainFits, EvapFits, CellFits, LinksFit, IsProblem};
 
 mod links;
 mod ranges;

@@ -1,7 +1,6 @@
 // The flow over a conductance that is known by two bounds.
 ghost use Rattle.std.specs.Prelude.{◌≡◌, ◌≤◌, ◌*◌, ◌^◌};
-ghost use Rattle.step_problem.specs.Balances.{least, most};
-ghost use Rattle.step_problem.specs.Conditions.{IsWithin};
+ghost use Rattle.step_problem.specs.{least, most, IsWithin};
 
 /// The least flow over a conductance from `lo` to `hi`, where the head at its other end is higher by `difference`.
 pub fn least_flow(lo: u64, hi: u64, difference: i64) -> i128

@@ -1,7 +1,6 @@
 // Laws that the layers above use. Each is the contract of an empty function.
-ghost use Rattle.step_problem.specs.Balances.{lower_balance, upper_balance};
-ghost use Rattle.step_problem.specs.Laws.{LowerShifts, UpperShifts, LeavingSettles, FallsInOwnHead, RisesInOtherHeads, RoundsKeepOrder, SettledPairExists};
-ghost use Rattle.step_problem.specs.Laws.{SettledPairIsOne, SettledPairCertifies};
+ghost use Rattle.step_problem.specs.{lower_balance, upper_balance, LowerShifts, UpperShifts, LeavingSettles, FallsInOwnHead, RisesInOtherHeads};
+ghost use Rattle.step_problem.specs.{RoundsKeepOrder, SettledPairExists, SettledPairIsOne, SettledPairCertifies};
 
 /// A balance falls weakly in its own head.
 #[tactic(auto, using(crate::proofs::Falls::lower_falls, crate::proofs::Falls::upper_falls))]

@@ -1,5 +1,5 @@
 ghost use Rattle.std.specs.Prelude.{◌≡◌};
-ghost use Rattle.step_problem.specs.StepRefusals.{number_of, refusal_of, word_of};
+ghost use Rattle.step_problem.specs.{number_of, refusal_of, word_of};
 
 /// Why a step has no bounds, in the order of the numbers.
 #[derive(Clone, Copy)]

@@ -1,9 +1,9 @@
 -- Stresses with arrays, and a model whose periods have them.
 use Rattle.stress_packages.proofs.Common.{ℤ, ◌≤ℤ◌, pos, List, All, FlowModel, Period, contents, AreArrays, HasRecharge, IsRecharged, recharge_arrays, is_int}
+use Rattle.stress_packages.proofs.Common.{IsArea}
 use Rattle.std.proofs.lemmas.List.Elements.{All-weaker}
 use Rattle.model_types.specs.declared.grid.Grid.{Grid}
 use Rattle.model_types.specs.declared.period.Stresses.{Stresses}
-use Rattle.period_arrays.specs.Forms.{IsArea}
 use Rattle.period_arrays.specs.declared.area.Area.{Area}
 
 pub are_arrays : (grid : Grid) (option : ℤ) (before : Stresses) (a : Area) → IsArea (contents recharge_arrays option) grid a → AreArrays (is_int option 2) grid (recharge_arrays.put before a)

@@ -1,9 +1,8 @@
 -- A model in limits stays so with recharge.
 use Rattle.stress_packages.proofs.Common.{◌≡◌, ℤ, pos, ◌≤ℤ◌, List, All, map, refl, sym, ap, subst, arith, FlowModel, Period, without, AreArrays, HasRecharge}
-use Rattle.stress_packages.proofs.Common.{IsRecharged, SameBut, recharge_arrays, ◌∙◌, is_int}
+use Rattle.stress_packages.proofs.Common.{IsRecharged, SameBut, recharge_arrays, ◌∙◌, is_int, IsModel, IsPeriod}
 use Rattle.std.proofs.lemmas.Int.{ints}
 use Rattle.stress_packages.proofs.ArrayLemmas.{is_recharged}
-use Rattle.model_types.specs.Valid.{IsModel, IsPeriod}
 use Rattle.list_package.proofs.ModelLemmas.{each_period, evaporation_of, replaced, same_evaps, same_view, steps, with_stresses}
 
 period : (m : FlowModel) (r : ℤ) (ps : List Period) (p q : Period) → without recharge_arrays p ≡ without recharge_arrays q → IsPeriod m q → HasRecharge (record m { nrchop = r; periods = ps }) p → IsPeriod (record m { nrchop = r; periods = ps }) p

@@ -4,11 +4,8 @@ use Rattle.model_types.specs.declared.grid.Grid.{Grid}
 use Rattle.model_types.specs.declared.model.FlowModel.{FlowModel}
 use Rattle.model_types.specs.declared.period.Period.{Period}
 use Rattle.model_types.specs.declared.period.Stresses.{Stresses}
-use Rattle.model_types.specs.Faces.{layer_size}
-use Rattle.model_types.specs.Receivers.{is_int}
-use Rattle.model_types.specs.Valid.{IsLayerArray}
-use Rattle.period_arrays.specs.Forms.{IsReals, IsWhole}
-use Rattle.period_arrays.specs.Kinds.{without}
+use Rattle.model_types.specs.{layer_size, is_int, IsLayerArray}
+use Rattle.period_arrays.specs.{IsReals, IsWhole, without}
 use Rattle.stress_packages.specs.Packages.{recharge_arrays}
 
 -- a period's arrays; there are layers only under option 2

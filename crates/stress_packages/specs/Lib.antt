@@ -1,2 +1,6 @@
 pub mod Forms
 pub mod Packages
+
+pub use Rattle.stress_packages.specs.Forms.{AreArrays, HasRecharge, IsRecharged, SameBut}
+pub use Rattle.stress_packages.specs.Packages.{drains, generals, recharge_arrays, rivers, wells}
+unfoldable pub use Rattle.stress_packages.specs.Packages.{rch_of}

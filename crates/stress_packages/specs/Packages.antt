@@ -1,14 +1,13 @@
 -- The packages of wells, rivers, drains and general heads (TM 6-A16, WEL, RIV, DRN, GHB).
 use Rattle.model_types.specs.declared.entry.Entry.{Entry}
 use Rattle.list_package.specs.declared.entries.ListKind.TheVariants.{Wells, Rivers, Drains, Generals}
-use Rattle.list_package.specs.Kinds.{kind_of, Kind}
+use Rattle.list_package.specs.{kind_of, Kind}
 use Rattle.std.specs.Prelude.{ℕ, false, List, [], Result, Ok}
-use Rattle.outside.specs.Files.{FileSet}
+use Rattle.outside.specs.{FileSet}
 use Rattle.outside.specs.declared.inputs.Refusal.{Refusal}
-use Rattle.record_lines.specs.Reading.{◌>>=◌}
+use Rattle.record_lines.specs.{◌>>=◌}
 use Rattle.model_types.specs.declared.model.FlowModel.{FlowModel}
-use Rattle.period_arrays.specs.Kinds.{ArrayKind}
-use Rattle.period_arrays.specs.Packages.{arrays_in}
+use Rattle.period_arrays.specs.{ArrayKind, arrays_in}
 use Rattle.period_arrays.specs.declared.read.ArrayFile.{ArrayFile}
 
 abbrev pub wells : Kind Entry

@@ -3,13 +3,10 @@
 // Each takes a model and returns it with the lists of the file in its stress periods. `file` is the file's
 // name, for refusals. The first item that is wrong is refused on its line.
 ghost use Rattle.std.specs.Prelude.{◌≡◌, IfOk, All};
-ghost use Rattle.record_lines.specs.Reading.{HasText};
-ghost use Rattle.model_types.specs.Faces.{cell_count};
-ghost use Rattle.model_types.specs.Grids.{HasSize};
-ghost use Rattle.model_types.specs.Valid.{IsEntryList, IsModel};
-ghost use Rattle.list_package.specs.Forms.{SameBut};
-ghost use Rattle.list_package.specs.Lists.{package_of};
-ghost use Rattle.stress_packages.specs.Packages.{wells, rivers, drains, generals};
+ghost use Rattle.record_lines.specs.{HasText};
+ghost use Rattle.model_types.specs.{cell_count, HasSize, IsEntryList, IsModel};
+ghost use Rattle.list_package.specs.{SameBut, package_of};
+ghost use Rattle.stress_packages.specs.{wells, rivers, drains, generals};
 
 use list_package::{ListKind, read_package};
 use model_types::{Entry, FlowModel, Limits};

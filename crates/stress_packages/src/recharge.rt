@@ -1,12 +1,8 @@
 // A model with its recharge.
 ghost use Rattle.std.specs.Prelude.{IfOk, List};
-ghost use Rattle.outside.specs.Names.{TextMay};
-ghost use Rattle.outside.specs.Files.{FileSet};
-ghost use Rattle.outside.specs.Folders.{ReadsOn};
-ghost use Rattle.record_lines.specs.Reading.{Has};
-ghost use Rattle.model_types.specs.Grids.{HasSize};
-ghost use Rattle.model_types.specs.Receivers.{is_int};
-ghost use Rattle.model_types.specs.Valid.{IsModel};
+ghost use Rattle.outside.specs.{TextMay, FileSet, ReadsOn};
+ghost use Rattle.record_lines.specs.{Has};
+ghost use Rattle.model_types.specs.{HasSize, is_int, IsModel};
 ghost use Rattle.stress_packages.specs.Forms.{AreArrays, IsRecharged, SameBut};
 ghost use Rattle.stress_packages.specs.Packages.{rch_of, recharge_arrays};
 

@@ -1,6 +1,6 @@
 // The real folder, and a reader that fails.
 ghost use Rattle.std.specs.Prelude.{All};
-ghost use Rattle.outside.specs.Names.{folder_name};
+ghost use Rattle.outside.specs.{folder_name};
 
 use crate::files::push_found;
 use crate::given::given_name;

@@ -1,6 +1,6 @@
 // The names that a folder was given.
 ghost use Rattle.std.specs.Prelude.{Contains, IfSome};
-ghost use Rattle.outside.specs.Names.{IsGoodName};
+ghost use Rattle.outside.specs.{IsGoodName};
 
 use outside::is_good_name;
 

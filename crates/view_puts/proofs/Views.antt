@@ -7,7 +7,7 @@ use Rattle.std.specs.declared.vec.Vec.{Vec}
 use Rattle.std.specs.declared.alloc.Global.{Global}
 use Rattle.outside.specs.declared.traits.SinkError.{SinkError}
 use Rattle.step_problem.specs.declared.heads.Bound.{Bound}
-use Rattle.view_puts.specs.Puts.{IsPutOf, IsStopPut, AreAllShown, LeadOn, ViewPuts}
+use Rattle.view_puts.specs.{IsPutOf, IsStopPut, AreAllShown, LeadOn, ViewPuts}
 
 -- the put of a text, by its result
 put_of : (E : Type 0) (text : Vec ℕ Global) (r : Result (Unit {0}) SinkError) (piece : List ℕ) → piece ≡ text.items → IsPutOf {E = E} (Ok text) (result_err r) (record { piece = piece; answer = r } ∷ [])

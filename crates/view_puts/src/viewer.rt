@@ -2,7 +2,7 @@
 ghost use Rattle.std.specs.Prelude.{◌≡◌, None, ℕ, List, length, IfOk};
 ghost use Rattle.step_problem.specs.declared.heads.Bound.{Bound};
 ghost use Rattle.step_problem.specs.Entries.{Entries};
-ghost use Rattle.outside.specs.Puts.{Put};
+ghost use Rattle.outside.specs.{Put};
 ghost use Rattle.view_puts.specs.Puts.{IsPutOf, LeadOn};
 
 use outside::{Sink, SinkError};

@@ -1,8 +1,4 @@
 -- Names that several proofs of this crate cite, of the crates below and of its own definitions, passed on from one place. Declares nothing.
 pub use Rattle.std.proofs.Common.{All, Err, List, None, Ok, Option, Result, Some, [], ap, arith, false, length, map, not, refl, slice_index_or, subst, sym}
 pub use Rattle.std.proofs.Common.{unsigned_abs, ℕ, ◌∙◌, ◌∷◌, ◌≡◌, ◌≤◌}
-pub use Rattle.std.proofs.lemmas.Int.{ints}
-pub use Rattle.std.specs.List.{AllByRecursion, position, position_or_len}
-pub use Rattle.std.specs.Prelude.{negsuc, pos, ℤ}
-pub use Rattle.zone_file.specs.Zones.{IsZone, is_zone, wrong_at}
-unfoldable pub use Rattle.zone_file.specs.Zones.{zones_of, zones_tested}
+pub use Rattle.outside.specs.{FileSet, file_at}

@@ -1,18 +1,16 @@
 -- Zones that pass the test are within their limits.
-use Rattle.zone_file.proofs.Common.{◌≡◌, false, not, List, None, All, length, slice_index_or, arith, ℤ, pos, negsuc, position, position_or_len, ints, IsZone}
-use Rattle.zone_file.proofs.Common.{is_zone, ℕ, ◌≤◌, [], ◌∷◌, Some, Option, Result, Ok, Err, map, unsigned_abs, refl, sym, ap, ◌∙◌, subst, AllByRecursion}
-use Rattle.zone_file.proofs.Common.{wrong_at, zones_of, zones_tested}
+use Rattle.zone_file.proofs.Common.{◌≡◌, false, not, List, None, All, length, slice_index_or, arith, ℕ, ◌≤◌, [], ◌∷◌, Some, Option, Result, Ok, Err, map}
+use Rattle.zone_file.proofs.Common.{unsigned_abs, refl, sym, ap, ◌∙◌, subst, file_at, FileSet}
+use Rattle.std.specs.Prelude.{ℤ, pos, negsuc}
+use Rattle.std.specs.List.{position, position_or_len, AllByRecursion}
+use Rattle.std.proofs.lemmas.Int.{ints}
+use Rattle.zone_file.specs.{IsZone, is_zone, wrong_at, zones_of, zones_tested}
 use Rattle.std.proofs.lemmas.List.Sums.{fails_before_first}
 use Rattle.record_lines.proofs.CutLemmas.{place_of_none}
-use Rattle.outside.specs.Inputs.{file_at}
 use Rattle.std.proofs.lemmas.List.Elements.{All-from_recursion, recursion_from_All}
-use Rattle.outside.specs.Files.{FileSet}
 use Rattle.outside.specs.declared.inputs.Refusal.{Refusal}
-use Rattle.record_lines.specs.Items.{name_at}
-use Rattle.record_lines.specs.Layout.{left_from}
-use Rattle.record_lines.specs.Reading.{◌>>=◌}
-use Rattle.array_reader.specs.Arrays.{layers}
-use Rattle.array_reader.specs.Numbers.{whole}
+use Rattle.record_lines.specs.{name_at, left_from, ◌>>=◌}
+use Rattle.array_reader.specs.{layers, whole}
 use Rattle.model_types.specs.declared.grid.Grid.{Grid}
 
 zone_is : (z : ℤ) → not (is_zone z) ≡ false → IsZone z

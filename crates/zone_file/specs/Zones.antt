@@ -2,17 +2,13 @@
 -- arrays are those of IBOUND (TM 6-A16, array reader U2DINT).
 use Rattle.std.specs.Prelude.{ℕ, ℤ, pos, negsuc, ◌≤ℤ◌, Bool, false, not, nat_le, List, Option, Some, None, Result, Ok, Err, codes}
 use Rattle.std.specs.List.{position}
-use Rattle.outside.specs.Files.{FileSet}
-use Rattle.outside.specs.Inputs.{file_at}
+use Rattle.outside.specs.{FileSet, file_at}
 use Rattle.outside.specs.declared.codes.Code.TheVariants.{BadProperty}
 use Rattle.outside.specs.declared.inputs.Refusal.{Refusal}
-use Rattle.record_lines.specs.Items.{name_at}
-use Rattle.record_lines.specs.Layout.{left_from}
-use Rattle.record_lines.specs.Reading.{◌>>=◌}
-use Rattle.array_reader.specs.Arrays.{layers}
-use Rattle.array_reader.specs.Numbers.{whole}
+use Rattle.record_lines.specs.{name_at, left_from, ◌>>=◌}
+use Rattle.array_reader.specs.{layers, whole}
 use Rattle.model_types.specs.declared.grid.Grid.{Grid}
-use Rattle.period_arrays.specs.Areas.{refusal_at}
+use Rattle.period_arrays.specs.{refusal_at}
 
 -- a cell's zone is 1 to 999, or 0 where it is in none
 abbrev pub IsZone : ℤ → Type 0

@@ -1,12 +1,9 @@
 // The zones of a model's cells.
 ghost use Rattle.std.specs.Prelude.{◌≡◌, IfOk, length, All, List, not, ◌≤◌, map, unsigned_abs};
-ghost use Rattle.outside.specs.Files.{FileSet};
-ghost use Rattle.outside.specs.Folders.{ReadsOn};
-ghost use Rattle.outside.specs.Names.{folder_name};
-ghost use Rattle.record_lines.specs.Reading.{Has, HasText};
-ghost use Rattle.model_types.specs.Faces.{cell_count};
-ghost use Rattle.model_types.specs.Grids.{HasSize};
-ghost use Rattle.zone_file.specs.Zones.{IsZone, zones_of, is_zone, zones_tested};
+ghost use Rattle.outside.specs.{FileSet, ReadsOn, folder_name};
+ghost use Rattle.record_lines.specs.{Has, HasText};
+ghost use Rattle.model_types.specs.{cell_count, HasSize};
+ghost use Rattle.zone_file.specs.{IsZone, zones_of, is_zone, zones_tested};
 ghost use Rattle.std.specs.List.{position};
 
 use array_reader::{name_of, read_layers};

@@ -17,18 +17,13 @@ pub use Rattle.std.specs.Prelude.{Contains, IfOk, if◌then◌else◌}
 pub use Rattle.std.specs.declared.cmp.Ordering.{Ordering}
 pub use Rattle.std.specs.declared.cmp.Ordering.TheVariants.{Equal, Greater, Less}
 pub use Rattle.budget_bounds.proofs.Caps.{capped_twice, nothing_more, part_hi, part_lo, parts_hi, parts_lo}
-pub use Rattle.budget_bounds.specs.Capped.{IsSum, capped, plus_pair}
-pub use Rattle.budget_bounds.specs.Terms.{part, term_limit, ◌>>=◌}
-unfoldable pub use Rattle.budget_bounds.specs.Terms.{parts}
+pub use Rattle.budget_bounds.specs.{IsSum, capped, part, plus_pair, term_limit, ◌>>=◌}
+unfoldable pub use Rattle.budget_bounds.specs.{parts}
 pub use Rattle.budget_bounds.specs.declared.pair.TermPair.{TermPair}
-pub use Rattle.cell_balance.specs.Enclosures.{CellEncloses, EnclosesStep, FixedEncloses, LinkEncloses}
-pub use Rattle.cell_balance.specs.Steps.{ExactCell, ExactFixed, ExactLink, cell_at}
-pub use Rattle.decimal_input.specs.Fractions.{Fraction, signed, times}
-pub use Rattle.decimal_input.specs.Wholes.{Encloses, EnclosesSigned}
-pub use Rattle.step_problem.specs.Balances.{least, most, total}
-pub use Rattle.step_problem.specs.Conditions.{IsProblem, IsWithin}
-pub use Rattle.step_problem.specs.Entries.{Entries, entries_at, no_entries, no_link}
-pub use Rattle.step_problem.specs.Heads.{lower_at, upper_at}
+pub use Rattle.cell_balance.specs.{CellEncloses, EnclosesStep, ExactCell, ExactFixed, ExactLink, FixedEncloses, LinkEncloses, cell_at, minus}
+pub use Rattle.decimal_input.specs.{Encloses, EnclosesSigned, Fraction, Ratio, signed}
+pub use Rattle.step_problem.specs.{IsProblem, IsWithin, entries_at, least, lower_at, most, no_entries, no_link, total, upper_at}
+pub use Rattle.step_problem.specs.Entries.{Entries}
 pub use Rattle.step_problem.specs.declared.entry.Fixed.{Fixed}
 pub use Rattle.step_problem.specs.declared.entry.FixedKind.{FixedKind}
 pub use Rattle.step_problem.specs.declared.entry.FixedKind.TheVariants.{Constant, General, Storage}
@@ -36,13 +31,11 @@ pub use Rattle.step_problem.specs.declared.entry.Link.{Link}
 pub use Rattle.step_problem.specs.declared.place.Dir.TheVariants.{In, Out}
 pub use Rattle.step_problem.specs.declared.place.NoBound.{NoBound}
 pub use Rattle.step_problem.specs.declared.place.ZoneFlow.{ZoneFlow}
-pub use Rattle.zone_flows.specs.Exact.{EncloseEveryStep, ExactFace, HeadsLieWithin, exact_by_kind, exact_fixed, exact_flow, exact_link, is_exact_between}
-unfoldable pub use Rattle.zone_flows.specs.Exact.{exact_cell, exact_faces, exact_from}
-pub use Rattle.zone_flows.specs.Faces.{Face, face_between, faces_by_kind, fixed_faces, is_between, is_lower_zone, link_faces}
-unfoldable pub use Rattle.zone_flows.specs.Faces.{cell_faces, face_from, faces, flows_between}
-pub use Rattle.zone_flows.specs.Pairs.{AreZoneFlows, FlowsAreOne, FlowsExcludeRefusal, IsBefore, IsBeforeAll, IsBelowLimit, IsFirstTooLarge, IsZoneFlow}
-pub use Rattle.zone_flows.specs.Pairs.{PairsAscend, RefusalIsOne, Returns, ReturnsFlows, ShareFace}
-pub use Rattle.zone_flows.specs.Tables.{IsTable, IsZoneSum, Table, flow_or_refusal, found, is_below_limit, key_of, no_flows, no_pair, plus_flow, too_large}
-pub use Rattle.zone_flows.specs.Tables.{zone_flow}
-unfoldable pub use Rattle.zone_flows.specs.Tables.{faces_keyed, listed_flows, plus_flows, sum_at, with_face, with_faces}
+pub use Rattle.zone_flows.specs.{AreZoneFlows, EncloseEveryStep, ExactFace, Face, FlowsAreOne, FlowsExcludeRefusal, HeadsLieWithin, IsBefore, IsBeforeAll}
+pub use Rattle.zone_flows.specs.{IsBelowLimit, IsFirstTooLarge, IsTable, IsZoneFlow, IsZoneSum, PairsAscend, RefusalIsOne, Returns, ReturnsFlows, ShareFace}
+pub use Rattle.zone_flows.specs.{Table, exact_by_kind, exact_fixed, exact_flow, exact_link, face_between, faces_by_kind, fixed_faces, flow_or_refusal, found}
+pub use Rattle.zone_flows.specs.{is_below_limit, is_between, is_exact_between, is_lower_zone, key_of, link_faces, no_flows, no_pair, plus_flow, too_large}
+pub use Rattle.zone_flows.specs.{zone_flow}
+unfoldable pub use Rattle.zone_flows.specs.{cell_faces, exact_cell, exact_faces, exact_from, face_from, faces, faces_keyed, flows_between, listed_flows}
+unfoldable pub use Rattle.zone_flows.specs.{plus_flows, sum_at, with_face, with_faces}
 pub use Rattle.zone_flows.specs.declared.flows.ZoneSum.{ZoneSum}

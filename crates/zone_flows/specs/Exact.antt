@@ -1,16 +1,14 @@
 -- The exact flows between zones, and what it means that bounds enclose them.
 use Rattle.std.specs.Prelude.{ℕ, ◌+◌, ◌<◌, ◌==◌, Bool, ◌&&◌, cond, List, [], ◌∷◌, ◌++◌, length, slice_index, All, ℤ}
 use Rattle.std.specs.List.{filter, flat_map}
-use Rattle.decimal_input.specs.Ratios.{Ratio}
-use Rattle.decimal_input.specs.Fractions.{Fraction, signed, times, fraction_total}
-use Rattle.decimal_input.specs.Wholes.{EnclosesSigned}
+use Rattle.decimal_input.specs.{Ratio, Fraction, signed, fraction_total, EnclosesSigned}
+use Rattle.decimal_input.specs.Fractions.{times}
 use Rattle.step_problem.specs.declared.entry.FixedKind.{FixedKind}
 use Rattle.step_problem.specs.declared.entry.FixedKind.TheVariants.{Storage, Constant, General}
 use Rattle.step_problem.specs.declared.place.ZoneFlow.{ZoneFlow}
-use Rattle.step_problem.specs.Entries.{Entries, entries_at}
-use Rattle.cell_balance.specs.Steps.{ExactLink, ExactFixed, ExactCell, cell_at}
-use Rattle.cell_balance.specs.Balance.{minus}
-use Rattle.cell_balance.specs.Enclosures.{EnclosesStep}
+use Rattle.step_problem.specs.Entries.{Entries}
+use Rattle.step_problem.specs.{entries_at}
+use Rattle.cell_balance.specs.{ExactLink, ExactFixed, ExactCell, cell_at, minus, EnclosesStep}
 use Rattle.zone_flows.specs.Faces.{is_lower_zone}
 
 -- a face from a cell of one zone to a cell of another, and the exact flow across it

@@ -5,11 +5,11 @@ use Rattle.step_problem.specs.declared.entry.FixedKind.{FixedKind}
 use Rattle.step_problem.specs.declared.entry.FixedKind.TheVariants.{Storage, Constant, General}
 use Rattle.step_problem.specs.declared.entry.Fixed.{Fixed}
 use Rattle.step_problem.specs.declared.entry.Link.{Link}
-use Rattle.step_problem.specs.Entries.{Entries, entries_at}
-use Rattle.step_problem.specs.Balances.{least, most}
+use Rattle.step_problem.specs.Entries.{Entries}
+use Rattle.step_problem.specs.{entries_at, least, most}
 use Rattle.budget_bounds.specs.declared.pair.TermPair.{TermPair}
 use Rattle.step_problem.specs.declared.heads.Bound.{Bound}
-use Rattle.budget_bounds.specs.Capped.{AreHeads}
+use Rattle.budget_bounds.specs.{AreHeads}
 
 -- a face between a cell of the zone from and a cell of the zone to, and the least and the greatest flow across it
 pub record Face : Type 0 where

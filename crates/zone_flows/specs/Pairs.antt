@@ -2,8 +2,8 @@
 use Rattle.std.specs.Prelude.{◌≡◌, ℕ, ◌<◌, ◌⊎◌, List, [], ◌∷◌, All, Contains, pos, unsigned_abs, ◌<ℤ◌, Result, Ok, Err}
 use Rattle.step_problem.specs.declared.place.NoBound.{NoBound}
 use Rattle.step_problem.specs.declared.place.ZoneFlow.{ZoneFlow}
-use Rattle.step_problem.specs.Balances.{total}
-use Rattle.budget_bounds.specs.Terms.{term_limit}
+use Rattle.step_problem.specs.{total}
+use Rattle.budget_bounds.specs.{term_limit}
 use Rattle.zone_flows.specs.Faces.{Face, flows_between}
 use Rattle.std.specs.declared.vec.Vec.{Vec}
 use Rattle.std.specs.declared.alloc.Global.{Global}

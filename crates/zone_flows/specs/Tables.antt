@@ -7,8 +7,7 @@ use Rattle.std.specs.Option.{unwrap_or}
 use Rattle.std.specs.Ordering.{nat_cmp}
 use Rattle.step_problem.specs.declared.place.Dir.TheVariants.{In, Out}
 use Rattle.budget_bounds.specs.declared.pair.TermPair.{TermPair}
-use Rattle.budget_bounds.specs.Terms.{part, ◌>>=◌, term_limit}
-use Rattle.budget_bounds.specs.Capped.{IsSum, capped, plus_pair}
+use Rattle.budget_bounds.specs.{part, ◌>>=◌, term_limit, IsSum, capped, plus_pair}
 use Rattle.zone_flows.specs.declared.flows.ZoneSum.{ZoneSum}
 use Rattle.zone_flows.specs.Faces.{Face}
 use Rattle.std.specs.Int.Signed.{lt_z}

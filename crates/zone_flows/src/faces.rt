@@ -1,11 +1,8 @@
 // The faces of a problem, cell by cell.
 ghost use Rattle.std.specs.Prelude.{◌≡◌, ◌≤◌, ◌<◌, ◌^◌, ℕ, All, IfOk, length};
 ghost use Rattle.std.specs.List.{flat_map};
-ghost use Rattle.step_problem.specs.Heads.{lower_at, upper_at};
-ghost use Rattle.step_problem.specs.Entries.{entries_at};
-ghost use Rattle.step_problem.specs.Conditions.{CellFits};
-ghost use Rattle.zone_flows.specs.Faces.{cell_faces, face_from, faces, faces_by_kind, AreOfGrid, IsWalk};
-ghost use Rattle.zone_flows.specs.Tables.{IsTable, with_faces};
+ghost use Rattle.step_problem.specs.{lower_at, upper_at, entries_at, CellFits};
+ghost use Rattle.zone_flows.specs.{cell_faces, face_from, faces, faces_by_kind, AreOfGrid, IsWalk, IsTable, with_faces};
 
 use crate::flows::ZoneSum;
 use crate::own::{id_at, zone_at};

@@ -1,14 +1,10 @@
 // The flows between zones in one step.
 ghost use Rattle.std.specs.Prelude.{◌≡◌, ◌≤◌, ◌<◌, ℕ, All, [], length, IfOk, MatchResult, pos, ◌+ℤ◌, ◌-ℤ◌, ◌≤ℤ◌};
-ghost use Rattle.step_problem.specs.Entries.{entries_at};
-ghost use Rattle.step_problem.specs.Heads.{lower_at, upper_at};
-ghost use Rattle.budget_bounds.specs.Capped.{AreHeads, IsFlow};
-ghost use Rattle.zone_flows.specs.Pairs.{Returns, ReturnsFlows};
-ghost use Rattle.zone_flows.specs.Exact.{EncloseEveryStep};
-ghost use Rattle.zone_flows.specs.Faces.{faces, AreOfGrid};
-ghost use Rattle.zone_flows.specs.Tables.{listed_flows, with_faces, IsTable, flow_or_refusal, is_below_limit, zone_flow, IsZoneSum, plus_flow};
+ghost use Rattle.step_problem.specs.{entries_at, lower_at, upper_at};
+ghost use Rattle.budget_bounds.specs.{AreHeads, IsFlow, term_limit};
+ghost use Rattle.zone_flows.specs.{Returns, ReturnsFlows, EncloseEveryStep, faces, AreOfGrid, listed_flows, with_faces, IsTable, flow_or_refusal};
+ghost use Rattle.zone_flows.specs.{is_below_limit, zone_flow, IsZoneSum, plus_flow};
 ghost use Rattle.std.specs.Int.Signed.{lt_z};
-ghost use Rattle.budget_bounds.specs.Terms.{term_limit};
 
 use crate::faces::add_faces;
 use crate::fault::ZoneFault;

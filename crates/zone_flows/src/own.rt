@@ -1,7 +1,7 @@
 // The zones of the variable cells, by index.
 ghost use Rattle.std.specs.Prelude.{◌≡◌, ◌<◌, ℕ, length, slice_index, IfOk};
-ghost use Rattle.step_problem.specs.Entries.{entries_at};
-ghost use Rattle.zone_flows.specs.Faces.{AreOwnZones};
+ghost use Rattle.step_problem.specs.{entries_at};
+ghost use Rattle.zone_flows.specs.{AreOwnZones};
 
 use std::alloc::{AllocError, Global};
 use step_problem::Problem;

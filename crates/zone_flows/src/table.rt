@@ -1,11 +1,8 @@
 // The sums for each pair of zones.
 ghost use Rattle.std.specs.Prelude.{◌≡◌, ◌≤◌, IfOk, ◌<◌, ◌^◌, All, length, ◌-ℤ◌};
-ghost use Rattle.budget_bounds.specs.Capped.{IsFlow, AreHeads};
-ghost use Rattle.zone_flows.specs.Tables.{IsTable, IsZoneSum, key_of, sum_at, with_face, with_faces};
-ghost use Rattle.step_problem.specs.Conditions.{IsHead};
-ghost use Rattle.step_problem.specs.Balances.{least, most};
-ghost use Rattle.step_problem.specs.Heads.{lower_at, upper_at};
-ghost use Rattle.zone_flows.specs.Faces.{face_from, is_lower_zone, AreOfGrid};
+ghost use Rattle.budget_bounds.specs.{IsFlow, AreHeads};
+ghost use Rattle.zone_flows.specs.{IsTable, IsZoneSum, key_of, sum_at, with_face, with_faces, face_from, is_lower_zone, AreOfGrid};
+ghost use Rattle.step_problem.specs.{IsHead, least, most, lower_at, upper_at};
 
 use crate::flows::{ZoneSum, plus_flow};
 use budget_bounds::TermPair;

@@ -6,10 +6,9 @@ pub use Rattle.std.proofs.lemmas.List.{map-append, take_all}
 pub use Rattle.std.proofs.lemmas.List.Elements.{All-nil, All-weaker, filter_passes, recursion_from_All}
 pub use Rattle.std.specs.List.{AllByRecursion, list_any, range_with_len}
 pub use Rattle.std.specs.Ordering.{nat_cmp}
-pub use Rattle.model_types.specs.Faces.{cell_count, faces}
-pub use Rattle.model_types.specs.Heads.{is_variable, variable_cells}
-unfoldable pub use Rattle.model_types.specs.Heads.{variable_below}
+pub use Rattle.model_types.specs.{cell_count, faces, is_active, is_variable, variable_cells}
+unfoldable pub use Rattle.model_types.specs.{variable_below}
 pub use Rattle.model_types.specs.declared.model.FlowModel.{FlowModel}
-pub use Rattle.zone_pairs.specs.Pairs.{AreNumbers, AreZones, Gains, joins, joins_by, pair_of, pairs_in}
-unfoldable pub use Rattle.zone_pairs.specs.Pairs.{pairs_below, share_face, zone_pairs}
+pub use Rattle.zone_pairs.specs.{AreNumbers, AreZones, Gains, joins, joins_by, pair_of, pairs_in}
+unfoldable pub use Rattle.zone_pairs.specs.{pairs_below, share_face, zone_pairs}
 pub use Rattle.zone_pairs.specs.declared.pair.ZonePair.{ZonePair}

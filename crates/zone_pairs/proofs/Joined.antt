@@ -1,10 +1,9 @@
 -- What it says that a face joins two zones, and that zones share a face.
 use Rattle.zone_pairs.proofs.Common.{◌≡◌, ℕ, zero, suc, ◌<◌, ◌≤◌, ◌⊎◌, inl, inr, Bool, true, false, ◌&&◌, ◌||◌, refl, ap, ◌∙◌, arith, List, [], ◌∷◌, All}
 use Rattle.zone_pairs.proofs.Common.{Option, Some, None, AllByRecursion, list_any, and_from, and_parts, eqb-true, leb-true, or_cases, or_left, or_right}
-use Rattle.zone_pairs.proofs.Common.{recursion_from_All, FlowModel, faces, variable_cells, ZonePair, joins, joins_by, share_face}
+use Rattle.zone_pairs.proofs.Common.{recursion_from_All, FlowModel, faces, variable_cells, ZonePair, joins, joins_by, share_face, is_active}
 use Rattle.std.specs.Prelude.{◌==◌, nat_lt, slice_index}
 use Rattle.model_types.specs.declared.face.Face.{Face}
-use Rattle.model_types.specs.Layers.{is_active}
 use Rattle.model_types.proofs.Members.{In}
 
 -- an element that passes, out of a list of which one does

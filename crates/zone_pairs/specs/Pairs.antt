@@ -5,13 +5,10 @@ use Rattle.std.specs.List.{flat_map, list_any, range_with_len}
 use Rattle.step_problem.specs.declared.place.ZoneFlow.{ZoneFlow}
 use Rattle.model_types.specs.declared.face.Face.{Face}
 use Rattle.model_types.specs.declared.model.FlowModel.{FlowModel}
-use Rattle.model_types.specs.Faces.{faces, cell_count}
-use Rattle.model_types.specs.Heads.{variable_cells, given_heads}
-use Rattle.model_types.specs.Layers.{is_active}
+use Rattle.model_types.specs.{faces, cell_count, variable_cells, given_heads, is_active, IsModel}
 use Rattle.zone_pairs.specs.declared.pair.ZonePair.{ZonePair}
 use Rattle.std.specs.BTreeSet.{BTreeSet, contains}
 use Rattle.std.specs.Ordering.{nat_cmp}
-use Rattle.model_types.specs.Valid.{IsModel}
 use Rattle.zone_pairs.specs.declared.periods.Walk.{Walk}
 use Rattle.zone_pairs.specs.declared.periods.ZonePairs.{ZonePairs}
 

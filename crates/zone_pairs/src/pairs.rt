@@ -2,10 +2,8 @@
 ghost use Rattle.std.specs.Prelude.{◌≡◌, ◌<◌, IfOk, OnOk, map, ◌≤◌, All, length};
 ghost use Rattle.std.specs.BTreeSet.{IsOrdered};
 ghost use Rattle.std.specs.Ordering.{nat_cmp};
-ghost use Rattle.model_types.specs.Faces.{cell_count, faces};
-ghost use Rattle.model_types.specs.Grids.{HasSize, IsInGrid};
-ghost use Rattle.model_types.specs.Heads.{given_heads, is_variable};
-ghost use Rattle.zone_pairs.specs.Pairs.{Gains, pair_of, share_face, zone_pairs, AreZonesOf, joins, joins_by};
+ghost use Rattle.model_types.specs.{cell_count, faces, HasSize, IsInGrid, given_heads, is_variable};
+ghost use Rattle.zone_pairs.specs.{Gains, pair_of, share_face, zone_pairs, AreZonesOf, joins, joins_by};
 ghost use Rattle.std.specs.List.{list_any};
 
 use crate::pair::ZonePair;

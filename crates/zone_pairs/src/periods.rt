@@ -1,6 +1,6 @@
 // The pairs of zones from stress period to stress period.
 ghost use Rattle.std.specs.Prelude.{◌≡◌, ◌≤◌, IfOk, IfSome, OnOk, length, option_map};
-ghost use Rattle.zone_pairs.specs.Pairs.{pairs_in, ArePairs, CanPair, IsWalk, listed_pairs, zones_of};
+ghost use Rattle.zone_pairs.specs.{pairs_in, ArePairs, CanPair, IsWalk, listed_pairs, zones_of};
 
 use crate::pair::ZonePair;
 use crate::pairs::zone_pairs;

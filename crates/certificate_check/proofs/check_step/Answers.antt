@@ -1,4 +1,4 @@
-use Rattle.step_problem.specs.Heads.{lower_at, upper_at}
+use Rattle.step_problem.specs.{lower_at, upper_at}
 use Rattle.certificate_check.proofs.Certified.{certificate_compares, certificate_encloses}
 use Rattle.certificate_check.proofs.check_step.Goals as goal
 

@@ -1,8 +1,7 @@
 use Rattle.std.proofs.Common.{◌≡◌, ◌∙◌, ℕ, List, inl, refl, get_or, map, subst, rules}
 use Rattle.std.proofs.lemmas.List.Elements.{Contains-get_or}
-use Rattle.outside.specs.Names.{WordsMay}
-use Rattle.outside.specs.Files.{ReadState, MayAsk}
-use Rattle.engine.specs.Serving.{bytes_asked, files_named}
+use Rattle.outside.specs.{WordsMay, ReadState, MayAsk}
+use Rattle.engine.specs.{bytes_asked, files_named}
 use Rattle.heads.proofs.main.Goals as goal
 
 -- a folder may be asked for the names that were given to it

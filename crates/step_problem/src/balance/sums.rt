@@ -1,8 +1,6 @@
 // The sums of a cell's flows, a kind of entry at a time.
 ghost use Rattle.std.specs.Prelude.{◌≡◌, ◌<◌, ◌≤◌, ◌+◌, ◌*◌, ◌^◌, ℕ, ℤ, ◌-ℤ◌, All, length, sum_by};
-ghost use Rattle.step_problem.specs.Entries.{ends_in};
-ghost use Rattle.step_problem.specs.Balances.{total, branch_flow, flow_bound, link_flow};
-ghost use Rattle.step_problem.specs.Conditions.{IsHead, IsWithin, LinkFits, magnitude};
+ghost use Rattle.step_problem.specs.{ends_in, total, branch_flow, flow_bound, link_flow, IsHead, IsWithin, LinkFits, magnitude};
 
 use crate::balance::branch::Branch;
 use crate::entry::{Flow, Link};

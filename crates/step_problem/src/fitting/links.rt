@@ -1,7 +1,6 @@
 // Whether the links of one cell lead to different other cells that lead back.
 ghost use Rattle.std.specs.Prelude.{◌≡◌, ◌<◌, ◌≤◌, ◌↔◌, ℕ, IsTrue, All, Contains, ◌^◌, length};
-ghost use Rattle.step_problem.specs.Entries.{entries_at, link_at};
-ghost use Rattle.step_problem.specs.Conditions.{LinksFit};
+ghost use Rattle.step_problem.specs.{entries_at, link_at, LinksFit};
 
 use crate::entry::{Cell, Link};
 

@@ -1,6 +1,6 @@
 // Whether each entry of a cell has ordered bounds and heads in range.
 ghost use Rattle.std.specs.Prelude.{IsTrue, All, ◌↔◌, ◌≤◌, ◌≤ℤ◌};
-ghost use Rattle.step_problem.specs.Conditions.{IsHead, LinkFits, FixedFits, RiverFits, DrainFits, EvapFits};
+ghost use Rattle.step_problem.specs.{IsHead, LinkFits, FixedFits, RiverFits, DrainFits, EvapFits};
 
 use crate::entry::{Drain, Evap, Fixed, Link, River};
 use crate::problem::is_head;

@@ -1,6 +1,5 @@
-use Rattle.array_reader.proofs.Common.{◌≡◌, ℕ, ◌-◌, ◌*◌, length, All, LinesMay, appended, with_front, layer_array}
+use Rattle.array_reader.proofs.Common.{◌≡◌, ℕ, ◌-◌, ◌*◌, length, All, LinesMay, appended, with_front, layer_array, FileSet}
 use Rattle.std.specs.Prelude.{List}
-use Rattle.outside.specs.Files.{FileSet}
 use Rattle.array_reader.proofs.layers.read_layers.Given as goal
 
 abbrev pub invariant-loop : goal.invariant-loop

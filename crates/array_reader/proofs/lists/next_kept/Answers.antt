@@ -1,5 +1,5 @@
 use Rattle.array_reader.proofs.StepLemmas.{value_again, value_word}
-use Rattle.array_reader.specs.Numbers.{with_multiplier}
+use Rattle.array_reader.specs.{with_multiplier}
 use Rattle.array_reader.proofs.lists.next_kept.Goals as goal
 
 pub returns-then-repeats-clause-value : goal.returns-then-repeats-clause-value

@@ -1,4 +1,4 @@
-use Rattle.barrier_vector.specs.Searches.{IsNearestOrNone}
+use Rattle.barrier_vector.specs.{IsNearestOrNone}
 use Rattle.barrier_vector.proofs.search.parent.Given as goal
 
 abbrev pub invariant-loop-x : goal.invariant-loop-x

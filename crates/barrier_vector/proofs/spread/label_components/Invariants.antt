@@ -1,4 +1,4 @@
-use Rattle.barrier_vector.specs.Searches.{AreLabels}
+use Rattle.barrier_vector.specs.{AreLabels}
 use Rattle.barrier_vector.proofs.spread.label_components.Given as goal
 
 abbrev pub invariant-loop-c : goal.invariant-loop-c

@@ -1,4 +1,4 @@
-use Rattle.barrier_vector.specs.Searches.{mark_at}
+use Rattle.barrier_vector.specs.{mark_at}
 use Rattle.barrier_vector.proofs.Spreading.{none_by, some_by}
 use Rattle.barrier_vector.proofs.Labelling.{labels_fill, labels_skip}
 use Rattle.barrier_vector.proofs.spread.label_from.Goals as goal

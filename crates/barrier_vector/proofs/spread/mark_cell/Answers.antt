@@ -1,4 +1,4 @@
-use Rattle.barrier_vector.specs.Searches.{mark_at}
+use Rattle.barrier_vector.specs.{mark_at}
 use Rattle.barrier_vector.proofs.Spreading.{spread_marks, spread_marked, none_by, some_by}
 use Rattle.barrier_vector.proofs.spread.mark_cell.Goals as goal
 

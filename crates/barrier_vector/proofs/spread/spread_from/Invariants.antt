@@ -1,4 +1,4 @@
-use Rattle.barrier_vector.specs.Searches.{Spreads, LinkLeads}
+use Rattle.barrier_vector.specs.{Spreads, LinkLeads}
 use Rattle.barrier_vector.proofs.spread.spread_from.Given as goal
 
 abbrev pub invariant-loop-x : goal.invariant-loop-x

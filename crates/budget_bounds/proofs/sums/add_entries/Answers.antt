@@ -1,4 +1,4 @@
-use Rattle.budget_bounds.proofs.Common.{is_term, sum_of}
+use Rattle.budget_bounds.specs.{is_term, sum_of}
 use Rattle.budget_bounds.proofs.Caps.{next_part_capped, ends}
 use Rattle.budget_bounds.proofs.sums.add_entries.Goals as goal
 

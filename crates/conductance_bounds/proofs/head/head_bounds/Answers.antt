@@ -1,4 +1,4 @@
-use Rattle.decimal_input.specs.Decimals.{number}
+use Rattle.decimal_input.specs.{number}
 use Rattle.conductance_bounds.proofs.HeadRange.{ceiling_in_range, fits_64, floor_in_range}
 use Rattle.conductance_bounds.proofs.head.head_bounds.Goals as goal
 

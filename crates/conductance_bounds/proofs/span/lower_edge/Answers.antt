@@ -1,4 +1,4 @@
-use Rattle.decimal_input.specs.Decimals.{number}
+use Rattle.decimal_input.specs.{number}
 use Rattle.conductance_bounds.proofs.ThickBounds.{past_below}
 use Rattle.conductance_bounds.proofs.span.lower_edge.Goals as goal
 

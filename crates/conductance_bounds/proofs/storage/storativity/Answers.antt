@@ -1,4 +1,4 @@
-use Rattle.decimal_input.specs.Decimals.{size}
+use Rattle.decimal_input.specs.{size}
 use Rattle.conductance_bounds.proofs.StorageBounds.{thick_bounds}
 use Rattle.conductance_bounds.proofs.storage.storativity.Goals as goal
 

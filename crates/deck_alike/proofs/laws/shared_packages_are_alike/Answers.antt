@@ -1,4 +1,4 @@
-use Rattle.deck_alike.specs.Shared.{reading_order}
+use Rattle.deck_alike.specs.{reading_order}
 use Rattle.deck_alike.proofs.AlikeParts.{alike_shares_each, shared_alike}
 use Rattle.deck_alike.proofs.laws.shared_packages_are_alike.Goals as goal
 

@@ -1,5 +1,4 @@
-use Rattle.model_types.specs.Layers.{no_number}
-use Rattle.deck_span.specs.Alike.{AreRatesAlike}
+use Rattle.deck_alike.proofs.Common.{no_number, AreRatesAlike}
 use Rattle.deck_alike.proofs.ZipLemmas.{zip_more_at}
 use Rattle.deck_alike.proofs.lists.first_idle_apart.Goals as goal
 

@@ -1,4 +1,4 @@
-use Rattle.deck_problems.proofs.Common.{digits_of, IsBefore}
+use Rattle.deck_problems.specs.{digits_of, IsBefore}
 use Rattle.std.proofs.lemmas.Result.{err_from_is_err_and}
 use Rattle.deck_problems.proofs.Enclosing.{second_cells, problem_encloses}
 use Rattle.deck_problems.proofs.HullFor.{hull_cells, constants_alone, second_is, constants_for, problem_of_hull, second_refused, hull_refused}

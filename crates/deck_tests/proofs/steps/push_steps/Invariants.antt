@@ -1,4 +1,4 @@
-use Rattle.problem_builder.specs.GridHeads.{AreGridHeads}
+use Rattle.problem_builder.specs.{AreGridHeads}
 use Rattle.deck_tests.proofs.steps.push_steps.Given as goal
 
 abbrev pub invariant-loop-at : goal.invariant-loop-at

@@ -1,4 +1,4 @@
-use Rattle.engine.specs.BatchReads.{batch_by}
+use Rattle.engine.specs.{batch_by}
 use Rattle.engine.proofs.BatchEnds.{batch_ran, batch_unread, valid_jobs}
 use Rattle.engine.proofs.batching.put_batch.Goals as goal
 

@@ -1,5 +1,4 @@
-use Rattle.engine.proofs.Common.{◌∙◌, ap, refl, subst, Err, Ok, Some, InputFault, IsReadingEnd, FileSet, with_limit}
-use Rattle.outside.specs.Memory.{FolderState}
+use Rattle.engine.proofs.Common.{◌∙◌, ap, refl, subst, Err, Ok, Some, InputFault, IsReadingEnd, FileSet, with_limit, FolderState}
 use Rattle.engine.proofs.Summed.{made_lacking, made_reading, made_unread}
 use Rattle.engine.proofs.making.put_made.Goals as goal
 

@@ -1,6 +1,5 @@
 use Rattle.std.proofs.Common.{◌≡◌, ◌<◌, ℕ, length}
-use Rattle.step_problem.specs.Conditions.{IsHead}
-use Rattle.step_problem.specs.Heads.{lower_at, upper_at}
+use Rattle.step_problem.specs.{IsHead, lower_at, upper_at}
 use Rattle.head_guess.proofs.guess.bounds_of.Given as goal
 
 abbrev pub invariant-loop-cell : goal.invariant-loop-cell

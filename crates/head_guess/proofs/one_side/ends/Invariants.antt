@@ -1,5 +1,5 @@
 use Rattle.std.proofs.Common.{◌≡◌, All, length}
-use Rattle.step_problem.specs.Conditions.{IsHead}
+use Rattle.step_problem.specs.{IsHead}
 use Rattle.head_guess.proofs.one_side.ends.Given as goal
 
 abbrev pub invariant-loop-i : goal.invariant-loop-i

@@ -1,5 +1,5 @@
 use Rattle.number_limits.proofs.SignLemmas.{is_all}
-use Rattle.list_package.specs.Entries.{is_level}
+use Rattle.list_package.specs.{is_level}
 use Rattle.list_package.proofs.given.all_level.Goals as goal
 
 pub returns : goal.returns

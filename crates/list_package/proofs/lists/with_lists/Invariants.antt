@@ -1,5 +1,4 @@
-use Rattle.list_package.proofs.Common.{◌≡◌, ◌++◌, map, All, IfSome, into_iter_items, for_each, with_front, cell_count, IsList, without}
-use Rattle.list_package.specs.Lists.{period_at}
+use Rattle.list_package.proofs.Common.{◌≡◌, ◌++◌, map, All, IfSome, into_iter_items, for_each, with_front, cell_count, IsList, without, period_at}
 use Rattle.list_package.proofs.lists.with_lists.Given as goal
 
 abbrev pub invariant-loop-period : goal.invariant-loop-period

@@ -1,7 +1,5 @@
-use Rattle.lpf_package.proofs.Common.{◌≡◌, ℕ, ◌-◌, ◌*◌, [], cond, LinesMay, AreLayers, layer_at}
+use Rattle.lpf_package.proofs.Common.{◌≡◌, ℕ, ◌-◌, ◌*◌, [], cond, LinesMay, AreLayers, layer_at, FileSet, counted}
 use Rattle.std.specs.Prelude.{List}
-use Rattle.outside.specs.Files.{FileSet}
-use Rattle.record_lines.specs.Reading.{counted}
 use Rattle.lpf_package.proofs.settings.layers_of.Given as goal
 
 abbrev pub invariant-loop-k : goal.invariant-loop-k

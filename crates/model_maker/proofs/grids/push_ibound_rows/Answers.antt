@@ -1,4 +1,4 @@
-use Rattle.model_maker.specs.Files.{ibound_row}
+use Rattle.model_maker.specs.{ibound_row}
 use Rattle.model_maker.proofs.Texts.{no_text, one_more}
 use Rattle.model_maker.proofs.grids.push_ibound_rows.Goals as goal
 

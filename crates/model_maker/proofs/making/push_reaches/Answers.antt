@@ -1,4 +1,4 @@
-use Rattle.model_maker.specs.Files.{reach_text}
+use Rattle.model_maker.specs.{reach_text}
 use Rattle.model_maker.proofs.Texts.{no_text, one_more}
 use Rattle.model_maker.proofs.making.push_reaches.Goals as goal
 

@@ -1,4 +1,5 @@
-use Rattle.model_reader.proofs.Common.{◌≡◌, Ok, FileSet, IsModel, stresses, with_stresses, drop, ReadsOn, NamesMay}
+use Rattle.model_reader.proofs.Common.{◌≡◌, Ok, FileSet, IsModel, stresses, with_stresses, drop, ReadsOn}
+use Rattle.name_file.specs.{NamesMay}
 use Rattle.model_reader.proofs.stresses.with_stresses.Given as goal
 
 abbrev pub invariant-loop-asked : goal.invariant-loop-asked

@@ -1,5 +1,5 @@
 use Rattle.model_types.proofs.Common.{length, refl, ap, ◌∙◌, arith, steps_of, range_with_len, flat_map}
-use Rattle.model_types.specs.Times.{times}
+use Rattle.model_types.specs.{times}
 use Rattle.model_types.proofs.StepLists.{steps_more, whole_count}
 use Rattle.model_types.proofs.time_steps.times.Goals as goal
 

@@ -1,4 +1,4 @@
-use Rattle.number_limits.specs.Magnitudes.{is_positive}
+use Rattle.number_limits.specs.{is_positive}
 use Rattle.number_limits.proofs.SignLemmas.{is_all}
 use Rattle.number_limits.proofs.signs.all_positive.Goals as goal
 

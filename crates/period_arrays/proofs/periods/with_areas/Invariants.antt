@@ -1,6 +1,6 @@
 use Rattle.period_arrays.proofs.Common.{◌≡◌, ℕ, ◌++◌, map, All, into_iter_items, LinesMay, for_each, IsInForce, contents, without, period_at, with_front}
+use Rattle.period_arrays.proofs.Common.{FileSet}
 use Rattle.std.specs.Prelude.{List}
-use Rattle.outside.specs.Files.{FileSet}
 use Rattle.period_arrays.proofs.periods.with_areas.Given as goal
 
 abbrev pub invariant-loop-period : goal.invariant-loop-period

@@ -1,4 +1,4 @@
-use Rattle.problem_builder.proofs.Common.{AreCells, widths_of}
+use Rattle.problem_builder.specs.{AreCells, widths_of}
 use Rattle.problem_builder.proofs.builder.cells.Given as goal
 
 abbrev pub invariant-loop-number : goal.invariant-loop-number

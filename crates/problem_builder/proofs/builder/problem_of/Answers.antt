@@ -1,4 +1,4 @@
-use Rattle.problem_builder.specs.Tables.{widths_of}
+use Rattle.problem_builder.specs.{widths_of}
 use Rattle.problem_builder.proofs.BoundsOf.{bounds_enclose}
 use Rattle.problem_builder.proofs.Problems.{is_problem}
 use Rattle.problem_builder.proofs.StepEnclosed.{step_encloses, ids_are}

@@ -1,4 +1,4 @@
-use Rattle.problem_builder.proofs.Common.{no_pair, span_in, HasConductance}
+use Rattle.problem_builder.specs.{no_pair, span_in, HasConductance}
 use Rattle.problem_builder.proofs.Filling.{none_filled, next_filled}
 use Rattle.problem_builder.proofs.faces.pairs.Goals as goal
 

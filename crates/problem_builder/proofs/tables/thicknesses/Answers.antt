@@ -1,4 +1,4 @@
-use Rattle.problem_builder.proofs.Common.{no_span, IsThickness}
+use Rattle.problem_builder.specs.{no_span, IsThickness}
 use Rattle.problem_builder.proofs.Filling.{none_filled, next_filled}
 use Rattle.problem_builder.proofs.tables.thicknesses.Goals as goal
 

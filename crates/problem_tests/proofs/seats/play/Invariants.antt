@@ -1,4 +1,4 @@
-use Rattle.problem_tests.specs.Actors.{IsShown}
+use Rattle.problem_tests.specs.{IsShown}
 use Rattle.problem_tests.proofs.seats.play.Given as goal
 
 abbrev pub invariant-loop-next : goal.invariant-loop-next

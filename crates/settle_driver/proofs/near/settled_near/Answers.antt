@@ -1,5 +1,4 @@
-use Rattle.settle_driver.proofs.Common.{List, subst, Bound, lower_at, upper_at, AreSettled, PairKind, IsGiven}
-use Rattle.step_problem.specs.Laws.{HaveLeft}
+use Rattle.settle_driver.proofs.Common.{List, subst, Bound, lower_at, upper_at, AreSettled, PairKind, IsGiven, HaveLeft}
 use Rattle.step_problem.proofs.Leaving.{leaving_settles}
 use Rattle.settle_driver.proofs.near.settled_near.Goals as goal
 

@@ -1,4 +1,4 @@
-use Rattle.outside.specs.Names.{folder_name}
+use Rattle.outside.specs.{folder_name}
 use Rattle.record_lines.proofs.Forward.{given, name_held, text_held}
 use Rattle.zone_file.proofs.zones.read_zones.Goals as goal
 

@@ -1,4 +1,4 @@
-use Rattle.step_problem.specs.Heads.{lower_at, upper_at}
+use Rattle.step_problem.specs.{lower_at, upper_at}
 use Rattle.zone_flows.proofs.Fitting.{gives, ok_encloses}
 use Rattle.zone_flows.proofs.flows.zone_flows.Goals as goal
 

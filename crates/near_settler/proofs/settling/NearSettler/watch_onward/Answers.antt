@@ -1,5 +1,5 @@
 use Rattle.std.proofs.Common.{ℕ, subst}
-use Rattle.settle_driver.specs.Views.{AddsPhases, had_memory}
+use Rattle.settle_driver.specs.{AddsPhases, had_memory}
 use Rattle.settle_driver.proofs.Viewing.{phases_add_up}
 use Rattle.near_settler.proofs.settling.NearSettler.watch_onward.Goals as goal
 

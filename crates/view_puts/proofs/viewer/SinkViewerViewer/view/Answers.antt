@@ -1,5 +1,5 @@
 use Rattle.view_puts.proofs.Common.{◌≡◌, ℕ, ◌∙◌, ap, sym, subst, not, IfOk}
-use Rattle.settle_driver.specs.Views.{EnclosesPair}
+use Rattle.settle_driver.specs.{EnclosesPair}
 use Rattle.view_puts.proofs.Views.{lead_more, one_view_more}
 use Rattle.view_puts.proofs.viewer.SinkViewerViewer.view.Goals as goal
 
