@@ -1,11 +1,13 @@
 -- What arrays and control records take and leave are words and lines that they were given.
-use Rattle.array_reader.proofs.Common.{◌≡◌, ℕ, List, Result, Ok, Err, All, refl, IfOk, folder_name, NumFault, LineMay, LinesMay, word_at, line_at, name_at}
-use Rattle.array_reader.proofs.Common.{Left, Numbered, repeated, Taking, beginning, next_value, FreeFault, chain, after, given, repeated_held, appended_held}
-use Rattle.array_reader.proofs.Common.{value_held, word_held, name_held, line_words, leaves, number_at, at_line, in_file, value_at, value_alone, free_list}
-use Rattle.array_reader.proofs.Common.{free_rows, WordsMay, words, ControlMay, keyword, format_at, constant_at, internal_at, named_at, of_keyword, control_at}
+use Rattle.array_reader.proofs.Common.{◌≡◌, ℕ, List, Result, Ok, Err, All, refl, IfOk, folder_name, WordsMay, words, refusal, NumFault, LineMay, LinesMay}
+use Rattle.array_reader.proofs.Common.{word_at, line_at, name_at, Left, Numbered, repeated, Taking, beginning, next_value, counted, FreeFault, chain, after}
+use Rattle.array_reader.proofs.Common.{given, repeated_held, appended_held, value_held, word_held, name_held, line_words, leaves, either, counted_held}
+use Rattle.array_reader.proofs.Common.{number_at, at_line, in_file, value_at, value_alone, free_list, free_rows, ControlMay, keyword, format_at, constant_at}
+use Rattle.array_reader.proofs.Common.{internal_at, named_at, of_keyword, control_at, zero_at, zero_step, zero_list, integer, OutOfProfile}
 use Rattle.array_reader.specs.Control.{Control}
 use Rattle.array_reader.specs.declared.keyword.Keyword.{Keyword}
 use Rattle.array_reader.specs.declared.keyword.Keyword.TheVariants.{Constant, Internal, OpenClose, External, Other}
+use Rattle.model_types.specs.{is_nonzero}
 
 module _ {X : Type 0} (P : Numbered → Type 0) (read : List ℕ → Result X NumFault) (file : List ℕ) where
   in_file_held : {A : Type 0} (Q : A → Type 0) (r : Result A FreeFault) → IfOk r Q → IfOk (in_file file r) Q
@@ -58,3 +60,21 @@ control_named may read file number left rest line ws c is all e h =
 pub rows_leave : {X : Type 0} (may : List ℕ → Type 0) (read : List ℕ → Result X NumFault) (file : List ℕ) (rows cols : ℕ) (left rest : Left) (xs : List X)
     → free_rows read file rows cols left ≡ Ok (xs, rest) → LinesMay may left → LinesMay may rest
 rows_leave may read file rows cols left rest xs e h = leaves may (free_rows read file rows cols left) xs rest e (rows_held (LineMay may) read file rows cols left h.each)
+
+-- Lists of zeros leave lines that they were given.
+module _ (P : Numbered → Type 0) (file : List ℕ) where
+  pub zero_held : (s : Taking × Left) → All P s.1.lines → IfOk (zero_at file s) (λ x. All P x.1.1.lines)
+  unfolding zero_at
+  zero_held s h =
+      chain (λ x. All P x.1.1.lines) (λ x. All P x.1.1.lines) (value_at integer file s) _ (value_at_held P integer file s h)
+      (λ z hz. either (λ x. All P x.1.1.lines) (is_nonzero z.0.0) (Err (refusal OutOfProfile file z.0.1)) (Ok (z.0.0, z.1)) tt hz)
+
+  step_held : (i : ℕ) (s : Taking × Left) → All P s.1.lines → IfOk (zero_step file i s) (λ x. All P x.1.lines)
+  unfolding zero_step
+  step_held i s h = chain (λ x. All P x.1.1.lines) (λ x. All P x.1.lines) (zero_at file s) _ (zero_held s h) (λ z hz. hz)
+
+  pub zeros_held : (count : ℕ) (left : Left) → All P left.lines → IfOk (zero_list file count left) (λ x. All P x.1.lines)
+  unfolding zero_list
+  zeros_held count left h =
+      chain (λ s. All P s.1.lines) (λ x. All P x.1.lines) (counted (zero_step file) 0 count (beginning, left)) _
+      (counted_held (λ s. All P s.1.lines) (zero_step file) step_held 0 count (beginning, left) h) (λ s hs. hs)

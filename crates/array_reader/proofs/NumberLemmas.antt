@@ -2,7 +2,7 @@
 use Rattle.array_reader.proofs.Common.{◌≡◌, ℕ, zero, suc, ◌<◌, ◌≤◌, ◌+◌, ◌*◌, ◌/◌, ◌%◌, ◌^◌, ◌==◌, Bool, true, false, if◌then◌else◌, List, length, nat_le}
 use Rattle.array_reader.proofs.Common.{nat_lt, Option, Some, None, Result, Ok, Err, ap, ℤ, pos, negsuc, neg_ℤ, ◌+ℤ◌, ◌≤ℤ◌, ◌<ℤ◌, ◌↔◌, inl, inr, refl, sym, ◌∙◌}
 use Rattle.array_reader.proofs.Common.{arith, pow-suc, add-one, NumFault, significant, zeros, is_exponent, tested, canonical, spelt_number, number, product}
-use Rattle.array_reader.proofs.Common.{integer, or_bad}
+use Rattle.array_reader.proofs.Common.{integer, or_bad, IsGoodName, is_good_name, IsRefusal, name_at, StopsText, BadName, TextFault, Refused, Memory}
 use Rattle.std.proofs.lemmas.Int.{ints}
 use Rattle.std.proofs.lemmas.Bool.Decides.{nat_tests}
 use Rattle.decimal_input.specs.declared.dec.Dec.{Dec}
@@ -10,6 +10,7 @@ use Rattle.decimal_input.specs.{Spelling, IsInteger, spelt, integer_of, IsTrimme
 use Rattle.decimal_input.proofs.Named.{IsNumber}
 use Rattle.decimal_input.proofs.Spelled.{names_read, long_names, reads_integer, integer_read}
 use Rattle.decimal_input.proofs.Unique.{names_one, canonical_one}
+use Rattle.outside.proofs.NameTests.{is_good, is_taken}
 
 tens : (n c : ℕ) → c % 10 ≡ 0 → IsTrimmed (c / 10) (significant n (c / 10)) (zeros n (c / 10)) → IsTrimmed c (significant n (c / 10)) (zeros n (c / 10) + 1)
 tens n c e t =
@@ -113,3 +114,20 @@ product_is a b = canonical_is (differ a.neg b.neg) (a.digits * b.digits) (a.exp 
 
 pub products_are : (a b : Dec) (r : Result Dec NumFault) → (product a b ≡ r) ↔ IsCanonical (differ a.neg b.neg) (a.digits * b.digits) (a.exp +ℤ b.exp) r
 products_are a b r = (λ e. rw (← e) (product_is a b), λ h. sym (is_product a b r h))
+
+-- A word as a file's name.
+is_refused : (bs : List ℕ) → (IsGoodName bs → ⊥) → is_good_name bs ≡ false
+is_refused bs h = cases (is_good_name bs) refl
+  where
+    cases : (b : Bool) → is_good_name bs ≡ b → is_good_name bs ≡ false
+    cases true e = absurd (h (is_good bs e))
+    cases false e = e
+
+pub name_taken : (file : List ℕ) (line : ℕ) (name text : List ℕ) → (text ≡ name) × IsGoodName name → name_at file line name ≡ Ok text
+unfolding name_at
+name_taken file line name text h = rw (h.0, is_taken name h.1) refl
+
+pub name_refused : (file : List ℕ) (line : ℕ) (name : List ℕ) (fault : TextFault) → (IsGoodName name → ⊥) → IsRefusal BadName file line fault → StopsText fault (name_at file line name)
+unfolding name_at
+name_refused file line name (Refused r) h is = rw (is, is_refused name h) refl
+name_refused file line name Memory h is = tt

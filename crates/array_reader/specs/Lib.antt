@@ -2,7 +2,6 @@ pub mod Numbers
 pub mod Control
 pub mod Arrays
 pub mod Seen
-
 pub use Rattle.array_reader.specs.Arrays.{free_refusal, in_file, values_of, without_line}
 unfoldable pub use Rattle.array_reader.specs.Arrays.{array_at, free_list, free_rows, integer_layer, layer_array, layer_or, layers, real_layer, reals}
 unfoldable pub use Rattle.array_reader.specs.Arrays.{value_alone, value_at, zero_at, zero_list, zero_step}

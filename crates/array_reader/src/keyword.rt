@@ -36,7 +36,7 @@ pub fn keyword_of(word: &[u8]) -> Keyword
 }
 
 /// The next word of a control record.
-#[tactic(auto, unfolding(record_lines::specs::Items::word_at))]
+#[tactic(auto, unfolding(record_lines::specs::Reading::word_at))]
 pub fn next_word<'a>(
     alloc: Global,
     words: &mut Words<'a>,

@@ -7,7 +7,7 @@ use record_lines::{Line, Lines};
 use std::alloc::Global;
 
 /// The next line that has a word; EndOfFile where there is none.
-#[tactic(auto, unfolding(record_lines::specs::Items::line_at))]
+#[tactic(auto, unfolding(record_lines::specs::Reading::line_at))]
 pub fn next_line<'a>(
     alloc: Global,
     lines: &mut Lines<'a>,

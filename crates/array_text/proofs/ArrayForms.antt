@@ -8,7 +8,7 @@ use Rattle.array_reader.specs.Control.{Control}
 use Rattle.outside.specs.declared.codes.Code.TheVariants.{BadControl}
 use Rattle.array_reader.specs.declared.keyword.Keyword.{Keyword}
 use Rattle.array_reader.specs.declared.keyword.Keyword.TheVariants.{Constant, Internal, OpenClose, External, Other}
-use Rattle.array_text.proofs.Readings.{done, refused, goes_on, then_, weaker, appended_are, repeated_are}
+use Rattle.array_text.proofs.WordTexts.{done, refused, goes_on, then_, weaker, appended_are, repeated_are}
 use Rattle.array_text.proofs.NumberForms.{number_is, multiplied_is, integer_is}
 use Rattle.array_reader.proofs.StepLemmas.{value_word}
 

@@ -10,8 +10,7 @@ use Rattle.array_text.proofs.Common.{control_at, codes, Refusal}
 use Rattle.array_text.proofs.NumberTexts.{short_exponent, number_reads, integer_reads, one, times_one}
 use Rattle.array_text.proofs.WordTexts.{number_is_word, integer_is_word, line_by_test}
 use Rattle.array_text.proofs.FreeTexts.{IsWrittenAs, free_list_reads}
-use Rattle.array_text.proofs.Takes.{takes_none, then_takes, last_takes}
-use Rattle.array_text.proofs.LineTexts.{line_words, next_line}
+use Rattle.array_text.proofs.LineTexts.{takes_none, then_takes, last_takes, line_words, next_line}
 
 -- Lines of values are read as rows of them, and a control record with rows as an array.
 row_reads : {X : Type 0} (read : List ℕ → Result X NumFault) (word : X → List ℕ) (file : List ℕ) (cols : ℕ) (xs : List X) → length xs ≡ cols → 1 ≤ cols → All (λ x. IsWrittenAs read word x) xs

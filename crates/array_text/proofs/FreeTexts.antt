@@ -5,8 +5,7 @@ use Rattle.array_text.proofs.Common.{repeated, value_at, value_alone, free_list,
 use Rattle.array_text.proofs.Common.{IsLine, length-map, Reads, row_line, Taking, beginning, spread, next_word, next_value}
 use Rattle.record_lines.proofs.WordLemmas.{word_found, goes_on}
 use Rattle.array_text.proofs.WordTexts.{no_star}
-use Rattle.array_text.proofs.LineTexts.{line_words}
-use Rattle.array_text.proofs.Takes.{one_line}
+use Rattle.array_text.proofs.LineTexts.{line_words, one_line}
 
 -- x is written as a word that is read as x
 pub record IsWrittenAs {X : Type 0} (read : List ℕ → Result X NumFault) (word : X → List ℕ) (x : X) : Type 0 where

@@ -5,10 +5,9 @@ use Rattle.array_text.proofs.Common.{◌+ℤ◌, ◌≤ℤ◌, ◌<ℤ◌, unsig
 use Rattle.array_text.proofs.Common.{Gives, real, multiplied, IsShort, ints, nat_tests, Dec, Spelling, AreDigits, IsInteger, number_from, IsTested, IsCanonical}
 use Rattle.array_text.proofs.Common.{differ, canonical_is, integers_are, with_sign, spelt}
 use Rattle.decimal_input.specs.declared.dec.NumFault.TheVariants.{BadNumber}
-use Rattle.decimal_input.proofs.Canon.{zero_number}
+use Rattle.decimal_input.proofs.Powers.{zero_number, longer, within}
 use Rattle.decimal_input.proofs.Named.{digit_small}
-use Rattle.decimal_input.proofs.Short.{longer, within}
-use Rattle.array_text.proofs.Readings.{done, refused, then_}
+use Rattle.array_text.proofs.WordTexts.{done, refused, then_}
 
 -- a word that is no number
 abbrev number_fault : Result Dec NumFault

@@ -1,6 +1,5 @@
 pub mod Laws
 pub mod Lines
-
 pub use Rattle.array_text.specs.Laws.{ArraysHaveForm, ArraysReadAsWritten, FreeListsReadAsWritten, Gives, IntegersAreShort, IntegersReadAsWritten}
 pub use Rattle.array_text.specs.Laws.{LinesReadAsWritten, ListsHaveForm, NumbersAreCanonical, NumbersReadAsWritten, TextsReadAsWritten}
 pub use Rattle.array_text.specs.Lines.{IsLine, IsShort, IsWord, IsWordByte, Line, Reads, Takes, array_lines, control_record, in_rows, sign}

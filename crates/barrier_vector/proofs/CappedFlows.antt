@@ -4,7 +4,7 @@ use Rattle.barrier_vector.proofs.Common.{cases_lt, All-contains, get_or-le-sum_b
 use Rattle.barrier_vector.proofs.Common.{CellFits, LinkFits, FixedFits, RiverFits, DrainFits, greatest, anchor_on, AnchorRoot, capped_flow, ceil_over}
 use Rattle.barrier_vector.proofs.Common.{LeadsToRoot, IsLevel, IsParent, SumsTo, IsPath, path_limit}
 use Rattle.std.specs.Prelude.{sum_by}
-use Rattle.barrier_vector.proofs.Backs.{has_links, conducts}
+use Rattle.barrier_vector.proofs.CarriedRoots.{has_links, conducts}
 use Rattle.barrier_vector.proofs.Rooting.{greatest_has}
 
 -- conductances at a cell are below 2 ^ 60

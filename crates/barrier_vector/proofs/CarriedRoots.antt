@@ -1,7 +1,40 @@
 -- In a component that has a least cell, each cell has a path to it.
-use Rattle.barrier_vector.proofs.Common.{◌≡◌, ℕ, zero, suc, ◌+◌, ◌<◌, ◌≤◌, ◌⊎◌, inl, inr, refl, sym, subst, arith, List, [], ◌∷◌, Contains, cases_lt, cases_eq}
-use Rattle.barrier_vector.proofs.Common.{Link, Entries, entries_at, IsProblem, Reaches, ceil_over, LeadsToRoot, IsLevel, SumsTo, LeastRoot, IsInnerPath, lack}
-use Rattle.barrier_vector.proofs.Backs.{join_ways, turn_way, back}
+use Rattle.barrier_vector.proofs.Common.{◌≡◌, ℕ, zero, suc, ◌+◌, ◌<◌, ◌≤◌, ◌⊎◌, inl, inr, refl, sym, subst, arith, List, [], ◌∷◌, Contains, length, cases_lt}
+use Rattle.barrier_vector.proofs.Common.{cases_eq, Link, Entries, entries_at, IsProblem, no_entries, LinkFits, Reaches, ceil_over, LeadsToRoot, IsLevel, SumsTo}
+use Rattle.barrier_vector.proofs.Common.{LeastRoot, IsInnerPath, lack, get_or_past, All-contains}
+
+-- Links lead back, so that ways can be turned round and joined.
+-- a cell with an entry is a cell of the problem
+pub has_links : (p : List Entries) (c : ℕ) (x : Link) → Contains (entries_at p c).links x → c < length p
+has_links p c x has = elim (cases_lt c (length p)) [ inl h ↦ h | inr past ↦ let none = subst (λ (e : Entries). Contains e.links x) (get_or_past p c no_entries past) has in absurd (omega (arith, none.1)) ]
+
+module _ (p : List Entries) (ok : IsProblem p) where
+  pub leads_within : (c : ℕ) (x : Link) → Contains (entries_at p c).links x → x.cell < length p
+  leads_within c x has = All-contains (λ (z : Link). z.cell < length p) (entries_at p c).links x ((ok.links c (has_links p c x has)).within) has
+
+  pub conducts : (c : ℕ) (x : Link) → Contains (entries_at p c).links x → 0 < x.lo
+  conducts c x has = (All-contains LinkFits (entries_at p c).links x ((ok.cells c (has_links p c x has)).links) has).conducts
+
+  pub back : (c : ℕ) (x : Link) → Contains (entries_at p c).links x → Contains (entries_at p x.cell).links (record { cell = c; lo = x.lo; hi = x.hi })
+  back c x has = All-contains (λ (z : Link). Contains (entries_at p z.cell).links (record { cell = c; lo = z.lo; hi = z.hi })) (entries_at p c).links x ((ok.links c (has_links p c x has)).mutual_ends) has
+
+  pub reaches_within : (j a b : ℕ) → a < length p → Reaches p j a b → b < length p
+  reaches_within zero a b h e = subst (λ (z : ℕ). z < length p) e h
+  reaches_within (suc j) a b h (x, has, way) = reaches_within j x.cell b (leads_within a x has) way
+
+  pub join_ways : (j k a b c : ℕ) → Reaches p j a b → Reaches p k b c → Reaches p (j + k) a c
+  join_ways zero k a b c e way = subst (λ (z : ℕ). Reaches p (0 + k) z c) (sym e) (subst (λ (n : ℕ). Reaches p n b c) (plain k) way)
+    where
+      plain : (n : ℕ) → n ≡ 0 + n
+      plain n = omega arith
+  join_ways (suc j) k a b c (x, has, way) further = subst (λ (n : ℕ). Reaches p n a c) (next j k) (x, has, join_ways j k x.cell b c way further)
+    where
+      next : (m n : ℕ) → suc (m + n) ≡ suc m + n
+      next m n = omega arith
+
+  pub turn_way : (j a b : ℕ) → Reaches p j a b → (k : ℕ) × Reaches p k b a
+  turn_way zero a b e = (0, sym e)
+  turn_way (suc j) a b (x, has, way) = let (k, rest) = turn_way j x.cell b way in (k + 1, join_ways k 1 b x.cell a rest (record { cell = a; lo = x.lo; hi = x.hi }, back a x has, refl))
 
 -- a list has an element with a property, the least by a measure, or none
 least_in : {X : Type 0} (f : X → ℕ) (P : X → Type 0) → ((x : X) → P x ⊎ (P x → ⊥)) → (xs : List X) → ((x : X) × Contains xs x × P x × ((z : X) → Contains xs z → P z → f x ≤ f z)) ⊎ ((z : X) → Contains xs z → P z → ⊥)

@@ -4,15 +4,13 @@ use Rattle.barrier_vector.proofs.Common.{Some, Bool, true, false, cond, slice_in
 use Rattle.barrier_vector.proofs.Common.{IsProblem, IsHead, IsComponent, sum_inside, deep_low, sum-same, Low, IsBase, lack, capped_flow, LeastRoot, IsInnerPath}
 use Rattle.barrier_vector.proofs.Common.{IsLongest, IsUnanchored, mark_at, path_limit, ListRoot, IsSearched, AreLabels, is_label, labelled, number_at, sum_at}
 use Rattle.barrier_vector.proofs.Common.{IsGreatestOf, FlowSum, SelfRoot, AreRoots, AreComponents, cut_on, IsBoundOrNone}
-use Rattle.barrier_vector.proofs.Backs.{reaches_within, turn_way, join_ways}
+use Rattle.barrier_vector.proofs.CarriedRoots.{reaches_within, turn_way, join_ways}
 use Rattle.barrier_vector.proofs.Levels.{marked_or_not, marked_within}
 use Rattle.barrier_vector.proofs.Labelling.{along}
 use Rattle.barrier_vector.proofs.Gathering.{label_true, label_is}
-use Rattle.barrier_vector.proofs.Rooting.{path_as}
+use Rattle.barrier_vector.proofs.Rooting.{path_as, label_within}
 use Rattle.barrier_vector.proofs.CappedFlows.{whole_path}
-use Rattle.barrier_vector.proofs.Uniques.{inner_one}
-use Rattle.barrier_vector.proofs.Basing.{label_within}
-use Rattle.barrier_vector.proofs.Surveying.{same_tests}
+use Rattle.barrier_vector.proofs.Uniques.{inner_one, same_tests}
 
 module _ (p : List Entries) (ok : IsProblem p) where
   -- every cell leads to the least cell of its component

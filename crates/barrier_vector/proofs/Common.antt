@@ -27,18 +27,17 @@ pub use Rattle.barrier_vector.specs.{negative_part, no_barrier_on, number_at, ou
 pub use Rattle.barrier_vector.specs.declared.BarrierFault.{BarrierFault}
 pub use Rattle.barrier_vector.specs.declared.BarrierFault.TheVariants.{Memory}
 pub use Rattle.barrier_vector.specs.declared.gathered.FlowSum.{FlowSum}
-pub use Rattle.cell_balance.proofs.Cancel.{IsMutual, cut_link, cut_links}
-pub use Rattle.cell_balance.proofs.Spread.{carried_not_dry, cell_within}
+pub use Rattle.cell_balance.proofs.Deep.{add_mul, deep_less, le_trans_z, same_z, sub_mul, total-same, total_bounds, total_neg, total_nonneg}
+pub use Rattle.cell_balance.proofs.Dry.{IsMutual, cut_link, cut_links, dry_balance}
+pub use Rattle.cell_balance.proofs.HeldBelow.{carried_not_dry, cell_within}
 pub use Rattle.cell_balance.proofs.Sums.{sum-add, sum-same, sum-zero, term-le-sum}
-pub use Rattle.cell_balance.proofs.Totals.{add_mul, le_trans_z, same_z, sub_mul, total-same, total_neg, total_nonneg}
-pub use Rattle.cell_balance.proofs.Whole.{WholeCell, WholeEntry, WholeLink, no_whole, whole_at, whole_balance, whole_deep, whole_drain, whole_evap, whole_fixed}
-pub use Rattle.cell_balance.proofs.Whole.{whole_link, whole_river}
-pub use Rattle.cell_balance.proofs.Within.{CellWithin, DrainWithin, FixedWithin, FlowWithin, IsDry, LinkWithin, RiverWithin}
-pub use Rattle.cell_balance.proofs.Zips.{All-zip, AllZip-at, AllZip-length}
+pub use Rattle.cell_balance.proofs.Zips.{All-zip, AllZip-at, AllZip-length, CellWithin, DrainWithin, FixedWithin, FlowWithin, IsDry, LinkWithin, RiverWithin}
+pub use Rattle.cell_balance.proofs.Zips.{WholeCell, WholeEntry, WholeLink, no_whole, whole_at, whole_balance, whole_deep, whole_drain, whole_evap, whole_fixed}
+pub use Rattle.cell_balance.proofs.Zips.{whole_link, whole_river}
 pub use Rattle.cell_balance.specs.{EnclosesStep, ExactCell, IsAnchored, IsCarried, IsComponent, IsHeldBelow, Leads, LiesBetween, Reaches, SolvesStep, deep_low}
 pub use Rattle.cell_balance.specs.{sum_below, sum_inside}
-pub use Rattle.decimal_input.proofs.Signs.{mul_mono_right}
-pub use Rattle.step_problem.proofs.Ring.{mul_mono, mul_nonneg}
+pub use Rattle.decimal_input.proofs.FloorLaws.{mul_mono_right}
+pub use Rattle.step_problem.proofs.Leasts.{mul_mono, mul_neg, mul_nonneg}
 pub use Rattle.step_problem.proofs.Sums.{total_step}
 pub use Rattle.step_problem.specs.{CellFits, DrainFits, Edges, FixedFits, IsHead, IsProblem, IsWithin, LinkFits, RiverFits, deep_river_high, deep_river_low}
 pub use Rattle.step_problem.specs.{entries_at, full_rate, head_at, head_limit, link_at, magnitude, no_entries, no_link, number_of, total}

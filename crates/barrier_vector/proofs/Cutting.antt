@@ -7,8 +7,7 @@ use Rattle.barrier_vector.proofs.Common.{BarrierIsOne}
 use Rattle.step_problem.specs.declared.refusal.StepRefusal.{StepRefusal}
 use Rattle.barrier_vector.specs.declared.BarrierFault.TheVariants.{NoBound as AFault}
 use Rattle.barrier_vector.proofs.Uniques.{bound_one}
-use Rattle.barrier_vector.proofs.Floors.{floors_enclose, ceilings_enclose}
-use Rattle.barrier_vector.proofs.CarriedHeld.{held_cell}
+use Rattle.barrier_vector.proofs.Floors.{floors_enclose, ceilings_enclose, held_cell}
 use Rattle.barrier_vector.proofs.OneAnswer.{same_heads, same_least}
 use Rattle.barrier_vector.proofs.Sides.{cut_nowhere_without}
 

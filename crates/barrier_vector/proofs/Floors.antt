@@ -1,18 +1,49 @@
 -- No solution lies below a floor, and none above a ceiling.
 use Rattle.barrier_vector.proofs.Common.{◌≡◌, ℕ, ◌+◌, ◌*◌, ◌^◌, ◌<◌, ◌≤◌, inl, inr, refl, subst, arith, ℤ, pos, ◌+ℤ◌, ◌-ℤ◌, ◌*ℤ◌, ◌≤ℤ◌, ◌<ℤ◌, List, length}
-use Rattle.barrier_vector.proofs.Common.{Contains, AllZip, mul-le-mul_right, ints, Link, Side, Low, High, Entries, entries_at, IsProblem, IsCarried, add_mul}
-use Rattle.barrier_vector.proofs.Common.{sub_mul, same_z, IsMutual, WholeCell, whole_at, whole_balance, whole_link, total, cell_within, CellWithin, IsMarkBelow}
-use Rattle.barrier_vector.proofs.Common.{IsInside, need, need_on, anchor_on, LeastRoot, IsAnchorPath, IsInnerPath, IsLongest, IsAnchoredBound, IsBoundOn}
-use Rattle.barrier_vector.proofs.Common.{FloorsEnclose, CeilingsEnclose, IsSolution, ExactCell}
+use Rattle.barrier_vector.proofs.Common.{Contains, zero, suc, ap, ◌⊎◌, AllZip, mul-le-mul_right, ints, Link, Side, Low, High, Entries, entries_at, IsProblem}
+use Rattle.barrier_vector.proofs.Common.{total, IsCarried, ExactCell, Reaches, Leads, IsHeldBelow, SolvesStep, LiesBetween, EnclosesStep, add_mul, sub_mul}
+use Rattle.barrier_vector.proofs.Common.{same_z, IsMutual, WholeCell, whole_at, whole_balance, whole_link, CellWithin, cell_within, IsMarkBelow, IsInside, need}
+use Rattle.barrier_vector.proofs.Common.{need_on, anchor_on, LeastRoot, IsAnchorPath, IsInnerPath, IsLongest, IsAnchoredBound, IsBoundOn, FloorsEnclose}
+use Rattle.barrier_vector.proofs.Common.{CeilingsEnclose, IsSolution, ceil_over, SumsTo, IsFloor, FloorsHold, IsCeiling}
 use Rattle.cell_balance.proofs.Encloses.{whole_head, whole_solution, bound_back}
-use Rattle.barrier_vector.proofs.Backs.{join_ways, turn_way}
-use Rattle.barrier_vector.proofs.FloorsSteps.{ceil_enough}
-use Rattle.barrier_vector.proofs.FloorsLinks.{falls_over, falls_at}
-use Rattle.barrier_vector.proofs.FloorsPaths.{falls_along, falls_to_root}
+use Rattle.barrier_vector.proofs.CarriedRoots.{join_ways, turn_way, leads_within, conducts, back, same_root, inner_path}
+use Rattle.barrier_vector.proofs.FloorsLinks.{ceil_enough, joined_low, falls_over, falls_at, somewhere_above}
 use Rattle.barrier_vector.proofs.Gains.{inward, rest_of, inward_balance, gives}
-use Rattle.barrier_vector.proofs.CarriedAbove.{somewhere_above}
-use Rattle.barrier_vector.proofs.CarriedRoots.{same_root, inner_path}
 use Rattle.barrier_vector.proofs.Marking.{base_outside}
+use Rattle.barrier_vector.proofs.Rooting.{anchored_by}
+
+-- Along a path heads fall by at most its sum, from its root to its cell and back.
+module _ (p : List Entries) (ok : IsProblem p) (n q : ℕ) (Y : ℕ → ℤ) (top : ℤ)
+    (falls_over : (t : ℤ) → t ≤ℤ top → (drop c : ℕ) → c < length p → (x : Link) → Contains (entries_at p c).links x → q ≤ drop * x.lo → t ≤ℤ Y x.cell → (t -ℤ pos (drop * n)) ≤ℤ Y c)
+    (Root : ℕ → ℕ → Type 0) (t : ℤ) (low : t ≤ℤ top)
+  where
+    under : (k : ℕ) → (t -ℤ pos k) ≤ℤ top
+    under k = omega (arith, ints, low)
+
+    -- from the roots that links lead to, along a path
+    pub falls_along : (k c s : ℕ) → c < length p → SumsTo p q Root k c s → ((r d j : ℕ) → Root r d → Reaches p j c r → (t -ℤ pos (d * n)) ≤ℤ Y r) → (t -ℤ pos (s * n)) ≤ℤ Y c
+    falls_along zero c s i root at = at c s 0 root refl
+    falls_along (suc k) c s i (x, parent, rest, sums, is) at =
+        let far = falls_along k x.cell rest (leads_within p ok c x parent.has) sums (λ r d j root way. at r d (suc j) root (x, parent.has, way)) in
+        joined_low t (Y c) n (ceil_over q x.lo) rest s is
+        (falls_over (t -ℤ pos (rest * n)) (under (rest * n)) (ceil_over q x.lo) c i x parent.has (ceil_enough q x.lo (conducts p ok c x parent.has)) far)
+
+    -- from a cell back along its path to its root
+    pub falls_to_root : (k c s e : ℕ) → c < length p → SumsTo p q Root k c s → (t -ℤ pos (e * n)) ≤ℤ Y c → (r : ℕ) × (d : ℕ) × (j : ℕ) × Root r d × Reaches p j c r × ((t -ℤ pos ((e + s) * n)) ≤ℤ Y r)
+    falls_to_root zero c s e i root h = (c, s, 0, root, refl, more e s (Y c) h)
+      where
+        more : (e s : ℕ) (y : ℤ) → (t -ℤ pos (e * n)) ≤ℤ y → (t -ℤ pos ((e + s) * n)) ≤ℤ y
+        more e s y h = omega (arith, ints, h)
+    falls_to_root (suc k) c s e i (x, parent, rest, sums, is) h =
+        let next = falls_over (t -ℤ pos (e * n)) (under (e * n)) (ceil_over q x.lo) x.cell (leads_within p ok c x parent.has) (record { cell = c; lo = x.lo; hi = x.hi }) (back p ok c x parent.has) (ceil_enough q x.lo (conducts p ok c x parent.has)) h in
+        let (r, d, j, root, way, deep) = falls_to_root k x.cell rest (e + ceil_over q x.lo) (leads_within p ok c x parent.has) sums (joined_low t (Y x.cell) n (ceil_over q x.lo) e (e + ceil_over q x.lo) (comm e (ceil_over q x.lo)) next) in
+        (r, d, suc j, root, (x, parent.has, way), all e (ceil_over q x.lo) rest s (Y r) is deep)
+      where
+        comm : (a b : ℕ) → a + b ≡ b + a
+        comm a b = omega arith
+
+        all : (e drop rest s : ℕ) (y : ℤ) → s ≡ drop + rest → (t -ℤ pos ((e + drop + rest) * n)) ≤ℤ y → (t -ℤ pos ((e + s) * n)) ≤ℤ y
+        all e drop rest s y is h = omega (arith, ints, h, ap (λ (k : ℕ). k * n) is)
 
 module _ (m n : ℕ) (some_m : 0 < m) (some_n : 0 < n) (p : List Entries) (w : List WholeCell) (Y : ℕ → ℤ)
     (within : AllZip (CellWithin m n (length p)) p w) (both : IsMutual w)
@@ -97,3 +128,20 @@ floors_enclose p = bounds_enclose Low p
 
 pub ceilings_enclose : CeilingsEnclose
 ceilings_enclose p = bounds_enclose High p
+
+-- A problem whose cells all have floors is held below.
+pub held_cell : (p : List Entries) (c : ℕ) (f : ℤ) → IsFloor p c f → ((j : ℕ) × Leads p j c) ⊎ IsCarried p c
+held_cell p c f (inl (b, base, s, path, is)) = let leads = path.is_level.leads in inl (path.level, (leads.root, leads.reaches, anchored_by p leads.root leads.is_root.1))
+held_cell p c f (inr y) = inr y.3
+
+pub floors_hold : FloorsHold
+floors_hold p floors c i = let (f, floor) = floors c i in held_cell p c f floor
+
+-- What a barrier's floors and ceilings give to its caller.
+pub encloses_all : (p : List Entries) (low high : ℕ → ℤ) → IsProblem p → ((c : ℕ) → c < length p → IsFloor p c (low c)) → ((c : ℕ) → c < length p → IsCeiling p c (high c)) → (s : ℕ) (e : List ExactCell) (d : ℕ) (X : ℕ → ℤ) → EnclosesStep s p e → 0 < d → SolvesStep e d X → LiesBetween (length p) d X low high
+encloses_all p low high ok floors ceilings s e d X encloses some solves =
+    let given : IsSolution p s e d X = record { problem = ok; encloses = encloses; some = some; solves = solves } in
+    record { low = λ c i. floors_enclose p s e d X given c (low c) i (floors c i); high = λ c i. ceilings_enclose p s e d X given c (high c) i (ceilings c i) }
+
+pub held_all : (p : List Entries) (low : ℕ → ℤ) → ((c : ℕ) → c < length p → IsFloor p c (low c)) → IsHeldBelow p
+held_all p low floors c i = held_cell p c (low c) (floors c i)

@@ -1,7 +1,9 @@
 -- What enters the cells below a head over their links, in all no more than the needs of all cells: besides their links cells get no less than what they need.
-use Rattle.barrier_vector.proofs.Common.{◌≡◌, ℕ, ◌<◌, refl, sym, ◌∙◌, arith, ℤ, pos, ◌+ℤ◌, ◌-ℤ◌, ◌≤ℤ◌, ◌<ℤ◌, List, length, Bool, true, false, cond, ints, lt_z}
-use Rattle.barrier_vector.proofs.Common.{true_is_lt, lt_out, total, mul_nonneg, sum_inside, total_nonneg, sum-add, sum-same, sum-zero, term-le-sum, IsMutual}
-use Rattle.barrier_vector.proofs.Common.{cut_link, cut_links, WholeLink, WholeCell, whole_link, whole_at}
+use Rattle.barrier_vector.proofs.Common.{◌≡◌, ℕ, ◌<◌, refl, sym, ◌∙◌, arith, ℤ, pos, ◌+ℤ◌, ◌-ℤ◌, ◌≤ℤ◌, ◌<ℤ◌, List, length, Bool, true, false, cond, zero, suc}
+use Rattle.barrier_vector.proofs.Common.{◌+◌, ◌≤◌, subst, ◌*ℤ◌, [], ◌∷◌, get_or, take, sum_by, All, Contains, ints, lt_z, true_is_lt, lt_out, total, entries_at}
+use Rattle.barrier_vector.proofs.Common.{no_entries, mul_nonneg, sum_inside, sum_below, total_nonneg, add_mul, sum-add, sum-same, sum-zero, term-le-sum}
+use Rattle.barrier_vector.proofs.Common.{IsMutual, cut_link, cut_links, WholeLink, WholeCell, whole_link, whole_at, AllZip-at, AllZip-length, AllZip}
+use Rattle.barrier_vector.proofs.Common.{sum_by_more, All-head, All-tail, Contains-get_or, Entries}
 
 pub test_true : (a b : ℤ) → a <ℤ b → lt_z a b ≡ true
 test_true a b h = sym (true_is_lt a b (lt_out a b h))
@@ -53,3 +55,32 @@ module _ (w : List WholeCell) (both : IsMutual w) (Y rest need : ℕ → ℤ) (t
       where
         finish : (s k l f a : ℤ) → s ≡ k +ℤ f → l ≡ k → l ≡ pos 0 → a ≤ℤ s → a ≤ℤ f
         finish s k l f a p q z h = omega (arith, ints)
+
+-- Sums over the cells of a problem, whose terms are each limited, and terms of sums.
+pub limited_sum : (g : Entries → ℕ) (p : List Entries) (F : ℕ → ℤ) (k : ℕ) → ((c : ℕ) → c < length p → F c ≤ℤ (pos (g (entries_at p c)) *ℤ pos k)) → (n : ℕ) → n ≤ length p → sum_below n F ≤ℤ (pos (sum_by g (take n p)) *ℤ pos k)
+limited_sum g p F k each zero h = mul_nonneg (pos (sum_by g (take zero p))) (pos k) (omega (arith, ints)) (omega (arith, ints))
+limited_sum g p F k each (suc n) h =
+    let i : n < length p = omega arith in
+    let more = subst (λ (z : ℕ). sum_by g (take z p) ≡ sum_by g (take n p) + g (entries_at p n)) (one n) (sum_by_more g p n no_entries i) in
+    joined (sum_by g (take n p)) (g (entries_at p n)) (sum_by g (take (suc n) p)) more _ _ (limited_sum g p F k each n (omega arith)) (each n i)
+  where
+    one : (k : ℕ) → k + 1 ≡ suc k
+    one k = omega arith
+
+    joined : (a b t : ℕ) → t ≡ a + b → (x y : ℤ) → x ≤ℤ (pos a *ℤ pos k) → y ≤ℤ (pos b *ℤ pos k) → (x +ℤ y) ≤ℤ (pos t *ℤ pos k)
+    joined a b t e x y p q = let split = add_mul (pos a) (pos b) (pos k) in rw e (omega (arith, ints, split))
+
+-- an element of the left list has one of the right list that it is related to
+pub AllZip-has : {X Y : Type 0} (R : X → Y → Type 0) (xs : List X) (ys : List Y) (x : X) (d : Y) → AllZip R xs ys → Contains xs x → (y : Y) × Contains ys y × R x y
+AllZip-has R xs ys x d h (k, i, is) =
+    let there : k < length ys = omega (arith, AllZip-length R xs ys h, i) in
+    (get_or ys k d, Contains-get_or ys k d there, subst (λ z. R z (get_or ys k d)) is (AllZip-at R xs ys k x d h i))
+
+-- a term is at most the total, where none is negative
+term_at : {X : Type 0} (P : X → Type 0) (f : X → ℤ) (xs : List X) → ((x : X) → P x → pos 0 ≤ℤ f x) → All P xs → (k : ℕ) (d : X) → k < length xs → f (get_or xs k d) ≤ℤ total f xs
+term_at P f [] each h k d i = absurd (omega arith)
+term_at P f (x ∷ xs) each h zero d i = let b = total_nonneg P f xs each (All-tail P x xs h) in omega (arith, ints, b)
+term_at P f (x ∷ xs) each h (suc k) d i = let a = each x (All-head P x xs h) in let b = term_at P f xs each (All-tail P x xs h) k d (omega arith) in omega (arith, ints, a, b)
+
+pub term-le-total : {X : Type 0} (P : X → Type 0) (f : X → ℤ) (xs : List X) → ((x : X) → P x → pos 0 ≤ℤ f x) → All P xs → (x : X) → Contains xs x → f x ≤ℤ total f xs
+term-le-total P f xs each h x (k, i, is) = subst (λ z. f z ≤ℤ total f xs) is (term_at P f xs each h k x i)

@@ -1,12 +1,54 @@
 -- One link and one anchor: a head falls by at most what pays for the needs of all cells.
 use Rattle.barrier_vector.proofs.Common.{◌≡◌, ℕ, ◌*◌, ◌<◌, ◌≤◌, sym, subst, arith, ℤ, pos, ◌+ℤ◌, ◌-ℤ◌, ◌*ℤ◌, ◌≤ℤ◌, ◌<ℤ◌, List, length, sum_by, Contains, Bool}
-use Rattle.barrier_vector.proofs.Common.{true, false, cond, AllZip, lt_z, false_is_lt, le_out, take_all, ints, by_lt_z, Link, Entries, entries_at, no_entries}
-use Rattle.barrier_vector.proofs.Common.{total, mul_nonneg, sum_inside, le_trans_z, AllZip-at, AllZip-length, IsMutual, cut_link, WholeCell, whole_at}
-use Rattle.barrier_vector.proofs.Common.{whole_link, CellWithin, LinkWithin, no_whole}
+use Rattle.barrier_vector.proofs.Common.{true, false, cond, ◌+◌, ap, negsuc, zero, suc, ◌⊎◌, inl, inr, refl, ◌∙◌, AllZip, lt_z, false_is_lt, le_out, take_all}
+use Rattle.barrier_vector.proofs.Common.{ints, by_lt_z, Link, Entries, entries_at, no_entries, total, mul_nonneg, mul_mono, sum_inside, IsCarried, le_trans_z}
+use Rattle.barrier_vector.proofs.Common.{AllZip-at, AllZip-length, WholeCell, whole_at, whole_link, no_whole, whole_balance, CellWithin, LinkWithin, IsMutual}
+use Rattle.barrier_vector.proofs.Common.{cut_link, mul-le-mul_right, le_of_mul-le-mul_left, ceil_over, IsMarkBelow, mul_mono_right, cases_lt, false≢true, Low}
+use Rattle.barrier_vector.proofs.Common.{cell_within, carried_not_dry}
 use Rattle.cell_balance.proofs.Mutual.{no_whole_link}
-use Rattle.barrier_vector.proofs.FloorsSums.{limited_sum, AllZip-has, term-le-total}
-use Rattle.barrier_vector.proofs.FloorsEnter.{lies_below, cut_enters, links_give, enters}
-use Rattle.barrier_vector.proofs.FloorsSteps.{step_bound, difference_not_negative, minus, fallen, kept_low}
+use Rattle.barrier_vector.proofs.FloorsEnter.{limited_sum, AllZip-has, term-le-total, lies_below, cut_enters, links_give, enters}
+use Rattle.barrier_vector.proofs.Marking.{cell_dry}
+
+-- How far a head can lie beyond its neighbour's over a branch that carries at most so much.
+pub ceil_enough : (q lo : ℕ) → 0 < lo → q ≤ ceil_over q lo * lo
+ceil_enough q lo h = omega arith
+
+-- a branch of c over m, at least lo, carries at most q: the heads differ by at most a drop that pays for q
+pub step_bound : (lo m n c drop q : ℕ) (u d : ℤ) → 0 < lo → 0 < m → lo * m ≤ c → pos 0 ≤ℤ u → u ≤ℤ d → (pos c *ℤ d) ≤ℤ (pos q *ℤ pos (m * n)) → q ≤ drop * lo → u ≤ℤ pos (drop * n)
+step_bound lo m n c drop q (negsuc u) d l k h some below carry enough = omega (arith, ints)
+step_bound lo m n c drop q (pos u) d l some_m h some below carry enough =
+    let a : lo * m * u ≤ c * u = mul-le-mul_right u h in
+    let b = mul_mono c (pos u) d below in
+    let e = mul_mono_right (m * n) (pos q) (pos (drop * lo)) (omega (arith, ints)) in
+    at_most (chain (lo * m * u) (c * u) (drop * lo * (m * n)) (pos c *ℤ d) (pos q *ℤ pos (m * n)) a b carry e)
+  where
+    chain : (x y z : ℕ) (a b : ℤ) → x ≤ y → pos y ≤ℤ a → a ≤ℤ b → b ≤ℤ pos z → x ≤ z
+    chain x y z a b h k i j = omega (arith, ints)
+
+    at_most : lo * m * u ≤ drop * lo * (m * n) → pos u ≤ℤ pos (drop * n)
+    at_most h =
+        let some_lo : 1 * m ≤ lo * m = mul-le-mul_right m l in
+        let h' : lo * m * u ≤ lo * m * (drop * n) = omega arith in
+        let r : u ≤ drop * n = le_of_mul-le-mul_left h' (omega arith) in
+        omega (arith, ints)
+
+pub weak : (a b : ℤ) → a <ℤ b → a ≤ℤ b
+weak a b h = omega (arith, ints)
+
+pub difference_not_negative : (a b : ℤ) → a <ℤ b → pos 0 ≤ℤ (b -ℤ a)
+difference_not_negative a b h = omega (arith, ints)
+
+pub minus : (a b z : ℤ) → a ≤ℤ b → (a -ℤ z) ≤ℤ (b -ℤ z)
+minus a b z h = omega (arith, ints)
+
+pub fallen : (t : ℤ) (k : ℕ) (y : ℤ) → (t -ℤ y) ≤ℤ pos k → (t -ℤ pos k) ≤ℤ y
+fallen t k y h = omega (arith, ints)
+
+pub kept_low : (t : ℤ) (k : ℕ) (y : ℤ) → t ≤ℤ y → (t -ℤ pos k) ≤ℤ y
+kept_low t k y h = omega (arith, ints)
+
+pub joined_low : (t y : ℤ) (n drop rest s : ℕ) → s ≡ drop + rest → ((t -ℤ pos (rest * n)) -ℤ pos (drop * n)) ≤ℤ y → (t -ℤ pos (s * n)) ≤ℤ y
+joined_low t y n drop rest s e h = omega (arith, ints, ap (λ (k : ℕ). k * n) e, h)
 
 test_false : (a b : ℤ) → b ≤ℤ a → lt_z a b ≡ false
 test_false a b h = sym (false_is_lt a b (le_out b a h))
@@ -67,3 +109,36 @@ module _ (m n : ℕ) (some_m : 0 < m) (p : List Entries) (w : List WholeCell) (w
       where
         at_most : (a s r f q : ℤ) → a ≤ℤ r → (s +ℤ r) ≤ℤ f → pos 0 ≤ℤ s → f ≤ℤ q → a ≤ℤ q
         at_most a s r f q h k l g = omega (arith, ints)
+
+-- Some cell of a carried component lies at the base or above.
+-- the cells of a set below n all lie at most at t, or one lies at least there
+all_or_some : (n : ℕ) (inside : ℕ → Bool) (Y : ℕ → ℤ) (t : ℤ) → ((k : ℕ) → k < n → inside k ≡ true → Y k ≤ℤ t) ⊎ ((k : ℕ) × (k < n) × (inside k ≡ true) × (t ≤ℤ Y k))
+all_or_some zero inside Y t = inl (λ k h e. absurd (omega arith))
+all_or_some (suc n) inside Y t =
+    elim (all_or_some n inside Y t) [
+      | inr (k, h, e, over) ↦ inr (k, omega arith, e, over)
+      | inl all ↦ by_lt_z t (Y n) (λ h. last all (weak _ _ h) (inside n) refl) (λ h. inl (λ k i e. one_more all h k i e))
+    ]
+  where
+    one_more : ((k : ℕ) → k < n → inside k ≡ true → Y k ≤ℤ t) → Y n ≤ℤ t → (k : ℕ) → k < suc n → inside k ≡ true → Y k ≤ℤ t
+    one_more all h k i e =
+        elim (cases_lt k n) [
+          | inl less ↦ all k less e
+          | inr past ↦ let at : k ≡ n = omega arith in subst (λ (z : ℕ). Y z ≤ℤ t) (sym at) h
+        ]
+
+    last : ((k : ℕ) → k < n → inside k ≡ true → Y k ≤ℤ t) → t ≤ℤ Y n → (b : Bool) → inside n ≡ b → ((k : ℕ) → k < suc n → inside k ≡ true → Y k ≤ℤ t) ⊎ ((k : ℕ) × (k < suc n) × (inside k ≡ true) × (t ≤ℤ Y k))
+    last all h true is = inr (n, omega arith, is, h)
+    last all h false is = inl (λ k i e. elim (cases_lt k n) [ inl less ↦ all k less e | inr past ↦ let at : k ≡ n = omega arith in absurd (false≢true (sym is ∙ ap inside (sym at) ∙ e)) ])
+
+module _ (m n : ℕ) (some_m : 0 < m) (some_n : 0 < n) (p : List Entries) (w : List WholeCell) (Y : ℕ → ℤ)
+    (within : AllZip (CellWithin m n (length p)) p w) (both : IsMutual w)
+    (solves : (c : ℕ) → c < length w → whole_balance (whole_at w c) (Y c) Y ≡ pos 0)
+    (b : ℤ) (base : (v : ℤ) → IsMarkBelow Low p (length p) v → b ≤ℤ v)
+  where
+    pub somewhere_above : (c : ℕ) (carried : IsCarried p c) → (k : ℕ) × (k < length p) × (carried.inside k ≡ true) × ((b *ℤ pos n) ≤ℤ Y k)
+    somewhere_above c carried =
+        elim (all_or_some (length p) carried.inside Y (b *ℤ pos n)) [
+          | inr found ↦ found
+          | inl all ↦ absurd (carried_not_dry m n some_m some_n p w Y within both solves c carried (λ k. b *ℤ pos n) (λ k j e. (all k j e, cell_dry m n (length p) b (entries_at p k) (whole_at w k) (cell_within m n p w within k j) (λ v mark. base v (k, j, mark)))))
+        ]

@@ -4,14 +4,10 @@ use Rattle.barrier_vector.proofs.Common.{◌≤ℤ◌, ◌<ℤ◌, List, [], ◌
 use Rattle.barrier_vector.proofs.Common.{All-head, All-tail, Contains-get_or, Side, Low, High, Entries, total, mul_mono, mul_nonneg, le_trans_z, total_neg}
 use Rattle.barrier_vector.proofs.Common.{total_nonneg, mul_mono_right, WholeLink, WholeCell, WholeEntry, whole_balance, whole_deep, whole_link, whole_fixed}
 use Rattle.barrier_vector.proofs.Common.{whole_river, whole_drain, whole_evap, CellWithin, FixedWithin, RiverWithin, DrainWithin, FlowWithin, IsCellMark}
-use Rattle.barrier_vector.proofs.Common.{IsInside, greatest, anchor_on, need_on, negative_part, positive_part, deep_low, high_flow, total-same}
-use Rattle.step_problem.proofs.Leasts.{mul_neg}
+use Rattle.barrier_vector.proofs.Common.{IsInside, greatest, anchor_on, need_on, negative_part, positive_part, deep_low, high_flow, total-same, mul_neg}
+use Rattle.barrier_vector.proofs.Common.{total_bounds, deep_less, dry_balance}
 use Rattle.std.proofs.Math.IntN.{zero-*ℤ}
-use Rattle.cell_balance.proofs.Sided.{total_bounds}
-use Rattle.cell_balance.proofs.Deep.{deep_less}
-use Rattle.cell_balance.proofs.Dry.{dry_balance}
-use Rattle.barrier_vector.proofs.Marking.{some_at}
-use Rattle.barrier_vector.proofs.FloorsDry.{cell_dry}
+use Rattle.barrier_vector.proofs.Marking.{some_at, cell_dry}
 
 -- a head or a flow, turned on the high side
 abbrev pub inward : Side → ℤ → ℤ

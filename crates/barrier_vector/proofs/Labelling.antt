@@ -3,8 +3,8 @@ use Rattle.barrier_vector.proofs.Common.{◌≡◌, ℕ, zero, suc, ◌+◌, ◌
 use Rattle.barrier_vector.proofs.Common.{None, Some, All, slice_index, get_or, cases_lt, Contains-get_or, Link, Entries, entries_at, link_at, IsProblem}
 use Rattle.barrier_vector.proofs.Common.{Reaches, mark_at, LinkLeads, FrontLeads, Spreads, AreLabels, Fills}
 use Rattle.barrier_vector.proofs.Spreading.{no_both}
-use Rattle.barrier_vector.proofs.Extending.{place_of}
-use Rattle.barrier_vector.proofs.Backs.{turn_way, join_ways}
+use Rattle.barrier_vector.proofs.Gathering.{place_of}
+use Rattle.barrier_vector.proofs.CarriedRoots.{turn_way, join_ways}
 use Rattle.barrier_vector.proofs.Levels.{same_some, marked_or_not, marked_within, link_place, no_member}
 
 -- The cells filled so far are reached from c; those that aren't in the frontier have no neighbour without a label.

@@ -5,8 +5,8 @@ use Rattle.barrier_vector.proofs.Common.{Contains-get_or, Link, Entries, entries
 use Rattle.barrier_vector.proofs.Common.{IsParent, SumsTo, mark_at, unmarked, LinkLeads, FrontLeads, Spreads, path_limit, ListRoot, IsNearest, ContinuesTo}
 use Rattle.barrier_vector.proofs.Common.{IsSearched, IsStart}
 use Rattle.barrier_vector.proofs.Spreading.{no_both}
-use Rattle.barrier_vector.proofs.Extending.{place_of}
-use Rattle.barrier_vector.proofs.Backs.{back}
+use Rattle.barrier_vector.proofs.Gathering.{place_of}
+use Rattle.barrier_vector.proofs.CarriedRoots.{back}
 
 pub record IsUpTo (p : List Entries) (q : ℕ) (own : List (Option ℕ)) (k : ℕ) (levels : List (Option ℕ)) (paths front : List ℕ) : Type 0 where
   pub levels_whole : length levels ≡ length p

@@ -1,9 +1,10 @@
 -- The outermost mark: of several marks, of a list, of a cell, of a problem.
 use Rattle.barrier_vector.proofs.Common.{◌≡◌, ℕ, zero, suc, ◌+◌, ◌<◌, ◌⊎◌, inl, inr, refl, sym, ◌∙◌, ap, subst, arith, List, [], ◌∷◌, ◌++◌, length, take}
-use Rattle.barrier_vector.proofs.Common.{get_or, Contains, Option, None, Some, ℤ, pos, ◌≤ℤ◌, ◌<ℤ◌, int_max, int_min, unwrap_or, cases_lt, ints, clamps, by_lt_z}
-use Rattle.barrier_vector.proofs.Common.{take_more, Contains-push, Contains-push_cases, Contains-append_left, Side, Low, High, Fixed, River, Drain, Entries}
-use Rattle.barrier_vector.proofs.Common.{entries_at, if_some, fixed_mark, river_mark, drain_mark, outer_of, IsInside, IsOutermost, IsMarkIn, IsCellMark}
-use Rattle.barrier_vector.proofs.Common.{IsMarkBelow, IsBase}
+use Rattle.barrier_vector.proofs.Common.{get_or, Contains, Option, None, Some, ℤ, pos, ◌≤ℤ◌, ◌<ℤ◌, ◌*◌, ◌≤◌, ◌*ℤ◌, int_max, int_min, unwrap_or, cases_lt, ints}
+use Rattle.barrier_vector.proofs.Common.{clamps, by_lt_z, take_more, Contains-push, Contains-push_cases, Contains-append_left, Contains-get_or, Side, Low, High}
+use Rattle.barrier_vector.proofs.Common.{Fixed, River, Drain, Entries, entries_at, if_some, fixed_mark, river_mark, drain_mark, outer_of, IsInside, IsOutermost}
+use Rattle.barrier_vector.proofs.Common.{IsMarkIn, IsCellMark, IsMarkBelow, IsBase, le_trans_z, All-zip, WholeCell, FixedWithin, RiverWithin, DrainWithin}
+use Rattle.barrier_vector.proofs.Common.{CellWithin, IsDry, mul_mono_right}
 
 pub some_at : (hi : ℕ) (v : ℤ) → 0 < hi → if_some hi v ≡ Some v
 some_at zero v h = absurd (omega arith)
@@ -113,3 +114,19 @@ base_one side p a b (o, is, e) (u, is', f) = e ∙ ap (λ (x : Option ℤ). unwr
 pub base_outside : (side : Side) (p : List Entries) (b : ℤ) → IsBase side p b → (v : ℤ) → IsMarkBelow side p (length p) v → IsInside side b v
 base_outside side p b (None, is, e) v mark = absurd (is v mark)
 base_outside side p b (Some w, is, e) v mark = subst (λ (x : ℤ). IsInside side x v) (sym e) (is.1 v mark)
+
+-- No head, bottom or elevation that conducts lies below the base of the low side.
+module _ (m n cells : ℕ) (b : ℤ) where
+  dry_head : (hi c : ℕ) (v z : ℤ) → (0 < hi → b ≤ℤ v) → c ≤ hi * m → (v *ℤ pos n) ≤ℤ z → (c ≡ 0) ⊎ ((b *ℤ pos n) ≤ℤ z)
+  dry_head zero c v z h k q = inl (omega arith)
+  dry_head (suc hi) c v z h k q = inr (le_trans_z _ _ _ (mul_mono_right n b v (h (omega arith))) q)
+
+  pub cell_dry : (p : Entries) (w : WholeCell) → CellWithin m n cells p w → ((v : ℤ) → IsCellMark Low p v → b ≤ℤ v) → IsDry (b *ℤ pos n) w
+  cell_dry p w e marks = record {
+    fixed = All-zip (FixedWithin m n) (λ x. 0 < x.hi → b ≤ℤ x.head_lo) (λ z. (z.c ≡ 0) ⊎ ((b *ℤ pos n) ≤ℤ z.top)) (λ x z r h. dry_head x.hi z.c x.head_lo z.top h r.c.upper r.top.lower) p.fixed w.fixed e.fixed
+        (λ k d i some. marks _ (inl (get_or p.fixed k d, Contains-get_or p.fixed k d i, some_at _ _ some)));
+    rivers = All-zip (RiverWithin m n) (λ x. 0 < x.hi → b ≤ℤ x.bottom_lo) (λ z. (z.c ≡ 0) ⊎ ((b *ℤ pos n) ≤ℤ z.foot)) (λ x z r h. dry_head x.hi z.c x.bottom_lo z.foot h r.c.upper r.foot.lower) p.rivers w.rivers e.rivers
+        (λ k d i some. marks _ (inr (inl (get_or p.rivers k d, Contains-get_or p.rivers k d i, some_at _ _ some))));
+    drains = All-zip (DrainWithin m n) (λ x. 0 < x.hi → b ≤ℤ x.elev_lo) (λ z. (z.c ≡ 0) ⊎ ((b *ℤ pos n) ≤ℤ z.foot)) (λ x z r h. dry_head x.hi z.c x.elev_lo z.foot h r.c.upper r.foot.lower) p.drains w.drains e.drains
+        (λ k d i some. marks _ (inr (inr (get_or p.drains k d, Contains-get_or p.drains k d i, some_at _ _ some))));
+  }

@@ -1,10 +1,11 @@
 -- The outline of the first cells: one cell more, and what it is of all cells.
 use Rattle.barrier_vector.proofs.Common.{◌≡◌, ℕ, ◌+◌, ◌<◌, inl, inr, refl, sym, ◌∙◌, ap, subst, arith, List, [], ◌∷◌, ◌++◌, length, length-append, sum_by}
-use Rattle.barrier_vector.proofs.Common.{Option, slice_index, ℤ, pos, unwrap_or, cases_lt, sum_by_more, Side, Entries, entries_at, no_entries, anchor_on}
-use Rattle.barrier_vector.proofs.Common.{AnchorRoot, need_on, capped_flow, outer_of, IsOutermost, IsCellMark, IsBase, ceil_over, ListAnchor, AreRoots}
-use Rattle.barrier_vector.proofs.Common.{IsOutline}
-use Rattle.std.proofs.Math.Seq.{take-length}
+use Rattle.barrier_vector.proofs.Common.{Option, slice_index, ℤ, pos, ◌^◌, get_or, take, negsuc, ◌+ℤ◌, ◌-ℤ◌, FitsSigned, zero, suc, unwrap_or, cases_lt}
+use Rattle.barrier_vector.proofs.Common.{sum_by_more, sum_by-take-le, Side, Entries, entries_at, no_entries, IsWithin, magnitude, Edges, head_at, IsHead}
+use Rattle.barrier_vector.proofs.Common.{anchor_on, AnchorRoot, need_on, capped_flow, outer_of, IsOutermost, IsCellMark, IsBase, ceil_over, ListAnchor}
+use Rattle.barrier_vector.proofs.Common.{AreRoots, IsOutline, number_at, clamp, ClampedFits, w128, ints, clamps, get_or_past, length-map, map}
 use Rattle.barrier_vector.specs.{need as need_of_all}
+use Rattle.std.proofs.Math.Seq.{take-length}
 use Rattle.barrier_vector.proofs.Starting.{push_before, push_last}
 use Rattle.barrier_vector.proofs.Marking.{cells_more}
 
@@ -43,3 +44,83 @@ roots_on side p mark need q anchors own roots y e f r =
 -- a root for each cell
 pub roots_whole : (side : Side) (p : List Entries) (mark : Option ℤ) (need : ℕ) (anchors own : List ℕ) (roots : List (Option ℕ)) → IsOutline side p (length p) mark need anchors → own ≡ anchors → length roots ≡ length own → length roots ≡ length p
 roots_whole side p mark need anchors own roots y e h = h ∙ ap (λ (z : List ℕ). length z) e ∙ y.whole
+
+-- Sums of flows within the sums of their sizes.
+pub within_more : {X : Type 0} (g : X → ℕ) (xs : List X) (i : ℕ) (d x : X) (s t : ℤ) → i < length xs → x ≡ get_or xs i d → IsWithin s (sum_by g (take i xs)) → IsWithin t (g x) → IsWithin (s +ℤ t) (sum_by g (take (i + 1) xs))
+within_more g xs i d x s t h is p q = let same = ap g is in rw (sum_by_more g xs i d h) (add _ _ p (rw same at q))
+  where
+    add : (a b : ℕ) → IsWithin s a → IsWithin t b → IsWithin (s +ℤ t) (a + b)
+    add a b u v = record { above = omega (arith, ints); below = omega (arith, ints) }
+
+pub part_fits : {X : Type 0} (g : X → ℕ) (xs : List X) (i : ℕ) (z : ℤ) → sum_by g xs < 2 ^ 109 → IsWithin z (sum_by g (take i xs)) → FitsSigned w128 z
+part_fits g xs i z h w = let le = sum_by-take-le g xs i in fits (sum_by g (take i xs)) (omega (arith, le, h)) w
+  where
+    fits : (b : ℕ) → b < 2 ^ 109 → IsWithin z b → FitsSigned w128 z
+    fits b small v = omega (arith, ints)
+
+pub within_magnitude : (a b : ℤ) → IsWithin a (magnitude a b)
+within_magnitude (pos n) b = record { above = omega (arith, ints); below = omega (arith, ints) }
+within_magnitude (negsuc n) b = record { above = omega (arith, ints); below = omega (arith, ints) }
+
+pub magnitude_within : (a b : ℤ) → IsWithin b (magnitude a b)
+magnitude_within a (pos n) = record { above = omega (arith, ints); below = omega (arith, ints) }
+magnitude_within a (negsuc n) = record { above = omega (arith, ints); below = omega (arith, ints) }
+
+pub joined_within : (a b d z : ℤ) (x y w : ℕ) → z ≡ a +ℤ b -ℤ d → IsWithin a x → IsWithin b y → IsWithin d w → x + y + w < 2 ^ 109 → IsWithin z (2 ^ 109)
+joined_within a b d z x y w e p q r h = record { above = omega (arith, ints, e); below = omega (arith, ints, e) }
+
+-- one cell's flow more
+pub values_more : (p : List Entries) (f : Entries → ℤ) (flows flows' : List ℤ) (i : ℕ) (z : ℤ) (e : Entries) → e ≡ entries_at p i → flows' ≡ flows ++ z ∷ [] → length flows ≡ i → z ≡ f e → ((k : ℕ) → k < i → number_at flows k ≡ f (entries_at p k)) → (k : ℕ) → k < i + 1 → number_at flows' k ≡ f (entries_at p k)
+values_more p f flows flows' i z e here pushed whole is so_far k h =
+    elim (cases_lt k i) [
+      | inl less ↦ let k_in : k < length flows = omega (arith, less, whole) in rw pushed (push_before flows z (pos 0) k k_in ∙ so_far k less)
+      | inr past ↦ let at : length flows ≡ k = omega (arith, past, h, whole) in rw pushed (ap (λ (n : ℕ). number_at (flows ++ z ∷ []) n) (sym at) ∙ push_last flows z (pos 0) ∙ is ∙ ap f (here ∙ ap (entries_at p) (sym whole ∙ at)))
+    ]
+
+pub all_within : (flows flows' : List ℤ) (z : ℤ) → flows' ≡ flows ++ z ∷ [] → IsWithin z (2 ^ 109) → ((k : ℕ) → IsWithin (number_at flows k) (2 ^ 109)) → (k : ℕ) → IsWithin (number_at flows' k) (2 ^ 109)
+all_within flows flows' z pushed here so_far k =
+    elim (cases_lt k (length flows)) [
+      | inl less ↦ rw (pushed, push_before flows z (pos 0) k less) (so_far k)
+      | inr past ↦ elim (cases_lt (length flows) k) [
+        | inl more ↦ let n = length-append flows (z ∷ []) in rw (pushed, get_or_past (flows ++ z ∷ []) k (pos 0) (omega (arith, n, more))) nothing
+        | inr less ↦ let at : length flows ≡ k = omega (arith, past, less) in rw (pushed, ← at, push_last flows z (pos 0)) here
+      ]
+    ]
+  where
+    nothing : IsWithin (pos 0) (2 ^ 109)
+    nothing = record { above = omega (arith, ints); below = omega (arith, ints) }
+
+-- Floors and ceilings moved into the range of heads are a barrier, and heads stay as they are.
+clamp_is_head : (v : ℤ) → IsHead (clamp v)
+clamp_is_head v = record { above = omega (arith, ints, clamps); below = omega (arith, ints, clamps) }
+
+clamp_same : (v : ℤ) → IsHead v → clamp v ≡ v
+clamp_same v h = omega (arith, ints, clamps, h.above, h.below)
+
+-- also past the end, where both are 0
+pub clamped_at : (vs : List ℤ) (c : ℕ) → head_at (map clamp vs) c ≡ clamp (head_at vs c)
+clamped_at [] c = refl
+clamped_at (v ∷ vs) zero = refl
+clamped_at (v ∷ vs) (suc c) = clamped_at vs c
+
+heads : (vs : List ℤ) (c : ℕ) → IsHead (head_at (map clamp vs) c)
+heads vs c = subst IsHead (sym (clamped_at vs c)) (clamp_is_head (head_at vs c))
+
+all_same : (vs : List ℤ) → ((c : ℕ) → c < length vs → IsHead (head_at vs c)) → map clamp vs ≡ vs
+all_same [] each = refl
+all_same (v ∷ vs) each =
+    ap (λ (z : ℤ). z ∷ map clamp vs) (clamp_same v (each 0 (omega arith))) ∙ ap (λ (zs : List ℤ). v ∷ zs) (all_same vs (λ c h. each (suc c) (omega (arith, h))))
+
+pub clamped_fits : ClampedFits
+clamped_fits p b = record {
+  fits = λ floors ceilings. record {
+    floors = length-map b.floor clamp ∙ floors;
+    ceilings = length-map b.ceiling clamp ∙ ceilings;
+    floor = λ c h. heads b.floor c;
+    ceiling = λ c h. heads b.ceiling c;
+  };
+  same = λ is.
+      let by_floor : List ℤ → Edges = λ f. record { floor = f; ceiling = map clamp b.ceiling } in
+      let by_ceiling : List ℤ → Edges = λ f. record { floor = b.floor; ceiling = f } in
+      ap by_floor (all_same b.floor (λ c h. is.floor c (omega (arith, h, is.floors)))) ∙ ap by_ceiling (all_same b.ceiling (λ c h. is.ceiling c (omega (arith, h, is.ceilings))));
+}

@@ -6,8 +6,7 @@ use Rattle.barrier_vector.proofs.Common.{IsRefusedOn, IsRefused, cut_on, bound_a
 use Rattle.barrier_vector.proofs.Common.{IsCutBoundOn, AreCutBounds, RefusesOn, IsWholeSide, IsFaultOn, IsCutFaultOn, BarrierFault, Memory, HasStorage}
 use Rattle.barrier_vector.proofs.Common.{IsNotForLackOfAnchors}
 use Rattle.barrier_vector.specs.declared.BarrierFault.TheVariants.{NoBound as AFault}
-use Rattle.barrier_vector.proofs.Basing.{base_head}
-use Rattle.barrier_vector.proofs.Rooting.{anchors}
+use Rattle.barrier_vector.proofs.Rooting.{base_head, anchors}
 use Rattle.barrier_vector.proofs.Uniques.{bound_one, has_a_bound}
 
 some_or_none : (o : Option ℤ) → (o ≡ None) ⊎ ((v : ℤ) × (o ≡ Some v))

@@ -4,9 +4,8 @@ use Rattle.step_problem.specs.declared.place.NoBound.{NoBound}
 use Rattle.step_problem.specs.Entries.{Entries}
 use Rattle.step_problem.specs.{IsProblem, Edges, head_at, IsBarrier}
 use Rattle.barrier_vector.specs.Bounds.{IsFloor, IsCeiling}
-use Rattle.barrier_vector.specs.Refusals.{IsRefused}
+use Rattle.barrier_vector.specs.Cuts.{IsRefused, IsCutBarrierOf, IsUnbounded, clamped}
 use Rattle.cell_balance.specs.{ExactCell, SolvesStep, EnclosesStep, IsHeldBelow}
-use Rattle.barrier_vector.specs.Cuts.{IsCutBarrierOf, IsUnbounded, clamped}
 
 -- b is the barrier of the problem: the floor and the ceiling of each cell, all of them heads
 pub record IsBarrierOf (p : List Entries) (b : Edges) : Type 0 where

@@ -1,26 +1,20 @@
 pub mod Bounds
-pub mod Refusals
 pub mod Cuts
 pub mod Barriers
-pub mod Held
 pub mod Searches
 pub mod Marks
 pub mod Roots
-pub mod Tests
-
 pub use Rattle.barrier_vector.specs.Barriers.{BarrierExcludesRefusal, BarrierIsCut, BarrierIsOne, CeilingsEnclose, ClampedFits, CutBarrierExcludesRefusal}
 pub use Rattle.barrier_vector.specs.Barriers.{CutBarrierIsOne, CutRefusalIsOne, FloorsEnclose, FloorsHold, IsBarrierOf, IsSolution, RefusalIsOne}
 pub use Rattle.barrier_vector.specs.Bounds.{AnchorRoot, IsAnchorPath, IsAnchoredBound, IsBoundOn, IsCarriedFloor, IsCeiling, IsFloor, IsInnerPath, IsLevel}
 pub use Rattle.barrier_vector.specs.Bounds.{IsLongest, IsOutline, IsParent, IsPath, IsUnanchored, LeadsToRoot, LeastRoot, SumsTo, anchor_on, ceil_over}
 pub use Rattle.barrier_vector.specs.Bounds.{greatest, moved_out}
-pub use Rattle.barrier_vector.specs.Cuts.{AreCutBounds, EnclosesUncut, IsCutBarrierOf, IsCutBoundOn, IsCutFault, IsUnbounded, Refuses, RefusesOn, clamp}
-pub use Rattle.barrier_vector.specs.Cuts.{clamped, cut_on}
-pub use Rattle.barrier_vector.specs.Held.{HasStorage, IsNotForLackOfAnchors}
+pub use Rattle.barrier_vector.specs.Cuts.{AreCutBounds, EnclosesUncut, HasNoBound, HasStorage, IsCutBarrierOf, IsCutBoundOn, IsCutFault, IsFault, IsLeastWith}
+pub use Rattle.barrier_vector.specs.Cuts.{IsNotForLackOfAnchors, IsOutOfRange, IsRefused, IsRefusedOn, IsUnbounded, LeavesRange, Names, Nowhere, Refuses}
+pub use Rattle.barrier_vector.specs.Cuts.{RefusesOn, clamp, clamped, cut_on, no_barrier_on, range_on}
 pub use Rattle.barrier_vector.specs.Marks.{IsBase, IsCellMark, IsInside, IsMarkBelow, IsMarkIn, IsOutermost, capped_flow, drain_mark, fixed_mark, high_flow}
 pub use Rattle.barrier_vector.specs.Marks.{if_some, lack, need, need_on, negative_part, outer_of, positive_part, river_mark}
-pub use Rattle.barrier_vector.specs.Refusals.{HasNoBound, IsFault, IsLeastWith, IsOutOfRange, IsRefused, IsRefusedOn, LeavesRange, Names, Nowhere}
-pub use Rattle.barrier_vector.specs.Refusals.{no_barrier_on, range_on}
-pub use Rattle.barrier_vector.specs.Roots.{AreAnchorPaths, AreBounds, AreComponents, AreRoots, IsAnchoredOrNone, IsBoundOrNone, ListAnchor, SelfRoot, bound_at}
+pub use Rattle.barrier_vector.specs.Roots.{AreAnchorPaths, AreBounds, AreComponents, AreHeadsOf, AreRoots, IsAnchoredOrNone, IsBoundOrNone, IsCutFaultOn}
+pub use Rattle.barrier_vector.specs.Roots.{IsFaultOn, IsFirst, IsMissing, IsWholeSide, LiesOut, ListAnchor, SelfRoot, bound_at}
 pub use Rattle.barrier_vector.specs.Searches.{AreLabels, ContinuesTo, Fills, FrontLeads, IsGreatestOf, IsNearest, IsNearestOrNone, IsSearched, IsStart}
 pub use Rattle.barrier_vector.specs.Searches.{LinkLeads, ListRoot, Spreads, flow_sum, is_label, labelled, mark_at, number_at, path_limit, sum_at, unmarked}
-pub use Rattle.barrier_vector.specs.Tests.{AreHeadsOf, IsCutFaultOn, IsFaultOn, IsFirst, IsMissing, IsWholeSide, LiesOut}

@@ -16,7 +16,7 @@ pub fn ceilings_enclose()
 {}
 
 /// A problem whose cells all have floors is held below: each component is anchored or carried.
-#[tactic(auto, using(crate::proofs::CarriedHeld::floors_hold))]
+#[tactic(auto, using(crate::proofs::Floors::floors_hold))]
 pub fn floors_hold()
     ensures { FloorsHold }
 {}
@@ -66,7 +66,7 @@ pub fn one_cut_refusal()
 {}
 
 /// Clamped floors and ceilings are a barrier of heads, and heads stay as they are.
-#[tactic(auto, using(crate::proofs::Clamping::clamped_fits))]
+#[tactic(auto, using(crate::proofs::Outlining::clamped_fits))]
 pub fn clamped_fits()
     ensures { ClampedFits }
 {}

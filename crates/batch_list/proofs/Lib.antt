@@ -1,3 +1,2 @@
 mod Common
-mod LineLemmas
-pub mod Forward
+pub mod LineLemmas

@@ -12,7 +12,7 @@ use std::alloc::Global;
 const MOST_NAMES: usize = 1_000;
 
 /// Adds the first word of a line as a name.
-#[tactic(auto, unfolding(crate::specs::Names::refusal_of, record_lines::specs::Items::name_at))]
+#[tactic(auto, unfolding(crate::specs::Names::refusal_of, record_lines::specs::Reading::name_at))]
 fn after_word(
     alloc: Global,
     names: &mut Vec<Name>,

@@ -1,7 +1,10 @@
 -- Sums of parts, and sums that stand still at the limit.
 use Rattle.budget_bounds.proofs.Common.{◌≡◌, ℕ, ◌+◌, ◌<◌, ◌≤◌, Bool, true, false, cond, refl, sym, ap, ◌∙◌, arith, List, [], ◌∷◌, length, get_or, drop, map}
-use Rattle.budget_bounds.proofs.Common.{add-one, drop-cons, ℤ, pos, neg_ℤ, ◌+ℤ◌, ◌≤ℤ◌, filter, int_min, int_max, ints, clamps, Dir, In, Out, sum_below}
-use Rattle.budget_bounds.proofs.Common.{TermPair, part, parts, term_limit, IsSum, capped, plus_pair, drop_all}
+use Rattle.budget_bounds.proofs.Common.{add-one, drop-cons, ℤ, pos, neg_ℤ, ◌+ℤ◌, ◌≤ℤ◌, filter, ints, clamps, Dir, In, Out, sum_below, TermPair, part, parts}
+use Rattle.budget_bounds.proofs.Common.{term_limit, IsSum, capped, plus_pair, all_terms, budget_of, term_of, term_pair, terms_of, sum_of, tested, tested_terms}
+use Rattle.budget_bounds.proofs.Common.{tested_budget, singles, drop_all, Term, Entries, entries_at}
+use Rattle.std.specs.Int.{int_min, int_max}
+use Rattle.std.specs.Int.Signed.{lt_z}
 
 pub filter_all : {X : Type 0} (xs : List X) → filter (λ x. true) xs ≡ xs
 filter_all [] = refl
@@ -80,3 +83,56 @@ cap_two limit a x h = omega (arith, ints, clamps)
 
 pub cell_more : (n : ℕ) (f : ℕ → TermPair) (s next : TermPair) → s ≡ capped (record { lo = sum_below n (λ c. (f c).lo); hi = sum_below n (λ c. (f c).hi) }) → next ≡ capped (plus_pair s (f n)) → pos 0 ≤ℤ (f n).lo → pos 0 ≤ℤ (f n).hi → next ≡ capped (record { lo = sum_below (n + 1) (λ c. (f c).lo); hi = sum_below (n + 1) (λ c. (f c).hi) })
 cell_more n f s next is more h k = more ∙ rw (is, add-one) (rw (cap_two term_limit (sum_below n (λ c. (f c).lo)) (f n).lo h, cap_two term_limit (sum_below n (λ c. (f c).hi)) (f n).hi k) refl)
+
+-- Tests of sums that stop at the limit tell what tests of the whole sums do.
+alike : (limit a : ℤ) (s t : Bool) → lt_z (int_min a limit) limit ≡ s → lt_z a limit ≡ t → s ≡ t
+alike limit a true true e f = refl
+alike limit a true false e f = absurd (omega (arith, ints, clamps))
+alike limit a false true e f = absurd (omega (arith, ints, clamps))
+alike limit a false false e f = refl
+
+kept : (limit a : ℤ) (t : Bool) → lt_z a limit ≡ t → lt_z (int_min a limit) limit ≡ t
+kept limit a t e = alike limit a (lt_z (int_min a limit) limit) t refl e
+
+below : (limit a : ℤ) → lt_z a limit ≡ true → int_min a limit ≡ a
+below limit a e = omega (arith, ints, clamps)
+
+by_tests : (dir : Dir) (t : Term) (x : TermPair) (low high : Bool) → lt_z x.lo term_limit ≡ low → lt_z x.hi term_limit ≡ high → tested dir t (capped x) ≡ tested dir t x
+unfolding tested
+by_tests dir t x true true e f = rw (below term_limit x.lo e, below term_limit x.hi f) refl
+by_tests dir t x true false e f = rw (kept term_limit x.lo true e, kept term_limit x.hi false f, e, f) refl
+by_tests dir t x false high e f = rw (kept term_limit x.lo false e, e) refl
+
+tested_capped : (dir : Dir) (t : Term) (x : TermPair) → tested dir t (capped x) ≡ tested dir t x
+tested_capped dir t x = by_tests dir t x (lt_z x.lo term_limit) (lt_z x.hi term_limit) refl refl
+
+module _ (p : List Entries) (l u : ℕ → ℤ) (dir : Dir) (sums : List TermPair) (are : (t : Term) → sum_of sums t ≡ capped (term_pair p l u dir t)) where
+  term_tested : (t : Term) → tested dir t (sum_of sums t) ≡ term_of p l u dir t
+  unfolding tested term_of
+  term_tested t = ap (tested dir t) (are t) ∙ tested_capped dir t (term_pair p l u dir t)
+
+  pub terms_tested : (ts : List Term) → tested_terms sums dir ts ≡ terms_of p l u dir ts
+  unfolding tested_terms terms_of
+  terms_tested [] = refl
+  terms_tested (t ∷ ts) = rw (term_tested t, terms_tested ts) refl
+
+pub budget_tested : (p : List Entries) (l u : ℕ → ℤ) (into out : List TermPair) → ((t : Term) → sum_of into t ≡ capped (term_pair p l u In t)) → ((t : Term) → sum_of out t ≡ capped (term_pair p l u Out t)) → tested_budget into out ≡ budget_of p l u
+unfolding tested_budget budget_of
+budget_tested p l u into out are_into are_out = rw (terms_tested p l u In into are_into all_terms, terms_tested p l u Out out are_out all_terms) refl
+
+-- The sums of a term over the first cells.
+module _ (p : List Entries) (l u : ℕ → ℤ) (dir : Dir) (t : Term) where
+  -- the parts of cell c
+  abbrev pub cell_parts : ℕ → TermPair
+  cell_parts c = parts dir (singles t (entries_at p c) (l c) (u c))
+
+  -- the sum over the first n cells, which stops at the limit
+  abbrev pub sums_below : ℕ → TermPair
+  sums_below n = capped (record { lo = sum_below n (λ c. (cell_parts c).lo); hi = sum_below n (λ c. (cell_parts c).hi) })
+
+  pub one_more : (c : ℕ) (s next : TermPair) → s ≡ sums_below c → next ≡ capped (plus_pair s (cell_parts c)) → next ≡ sums_below (c + 1)
+  one_more c s next sum more = cell_more c cell_parts s next sum more (parts_lo dir _) (parts_hi dir _)
+
+  pub all_below : (n : ℕ) (x : TermPair) → n ≡ length p → x ≡ sums_below n → x ≡ capped (term_pair p l u dir t)
+  unfolding term_pair
+  all_below n x e sum = sum ∙ ap sums_below e

@@ -3,7 +3,6 @@ pub use Rattle.std.proofs.Common.{Bool, List, [], add-one, ap, arith, cond, drop
 pub use Rattle.std.proofs.Common.{true, zero, ℕ, ℤ, ◌++◌, ◌+ℤ◌, ◌+◌, ◌-◌, ◌<◌, ◌∙◌, ◌∷◌, ◌≡◌, ◌≤ℤ◌, ◌≤◌}
 pub use Rattle.std.proofs.lemmas.Int.{clamps, ints}
 pub use Rattle.std.proofs.lemmas.List.{append-nil, drop_all}
-pub use Rattle.std.specs.Int.{int_max, int_min}
 pub use Rattle.std.specs.List.{AllZip, filter}
 pub use Rattle.budget_bounds.specs.{AreSums, AreWithin, CoverEncloses, EnclosesBudgets, HeadsAreWithin, IsSum, Reaches, all_terms, bounds_in, capped}
 pub use Rattle.budget_bounds.specs.{drain_pair, evap_pair, exact_part, fixed_of, fixed_pair, fixed_term, flow_pair, flow_term, flows_of, is_small, is_term}
@@ -13,7 +12,6 @@ unfoldable pub use Rattle.budget_bounds.specs.{tested_terms}
 pub use Rattle.budget_bounds.specs.declared.pair.TermPair.{TermPair}
 pub use Rattle.cell_balance.specs.{CellEncloses, DrainEncloses, EnclosesStep, EvapEncloses, ExactCell, ExactFixed, ExactFlow, FixedEncloses, FlowEncloses}
 pub use Rattle.cell_balance.specs.{RiverEncloses, cell_at, drain_flow, evap_flow, fixed_flow, no_cell, river_flow, sum_below, total_below}
-pub use Rattle.decimal_input.specs.{EnclosesSigned, Fraction, fraction_total}
 pub use Rattle.step_problem.specs.{entries_at, lower_at, no_entries, upper_at}
 pub use Rattle.step_problem.specs.Entries.{Entries}
 pub use Rattle.step_problem.specs.declared.entry.Fixed.{Fixed}

@@ -1,7 +1,6 @@
 // Whether the bounds of one budget reach as far as those of another.
 ghost use Rattle.std.specs.Prelude.{◌≡◌, ◌<◌, ◌↔◌, IsTrue, MatchOption};
-ghost use Rattle.budget_bounds.specs.Covers.{Covers};
-ghost use Rattle.budget_bounds.specs.{IsFirstShort, IsFirstUncovered, Reaches, place_of, bounds_in, fixed_term, flow_term};
+ghost use Rattle.budget_bounds.specs.{Covers, IsFirstShort, IsFirstUncovered, Reaches, place_of, bounds_in, fixed_term, flow_term};
 
 use crate::pair::{Budget, TermPair};
 use step_problem::{Dir, FixedKind, FlowKind, Term};

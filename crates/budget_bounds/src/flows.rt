@@ -3,7 +3,7 @@ ghost use Rattle.std.specs.Prelude.{◌≡◌, ◌<◌, ◌^◌, ℤ};
 ghost use Rattle.step_problem.specs.{FixedFits, RiverFits, DrainFits, EvapFits, magnitude};
 ghost use Rattle.budget_bounds.specs.Terms.{flow_pair, fixed_pair, river_pair, drain_pair, evap_pair, fixed_term, flow_term};
 ghost use Rattle.step_problem.specs.declared.place.Term.TheVariants.{Drains, Et, RiverLeakage};
-ghost use Rattle.budget_bounds.specs.Capped.{AreHeads, IsFlow};
+ghost use Rattle.budget_bounds.specs.Exact.{AreHeads, IsFlow};
 
 use crate::cover::{fixed_term, flow_term};
 use crate::pair::TermPair;

@@ -10,7 +10,7 @@ use crate::pair::{Budget, TermPair};
 use crate::sums::{TERM_LIMIT, add_cell, sum_of};
 use step_problem::{Bound, Dir, NoBound, Place, Problem, StepRefusal, Term};
 
-#[tactic(auto, unfolding(crate::specs::Capped::tested))]
+#[tactic(auto, unfolding(crate::specs::Exact::tested))]
 fn term_of(sums: &[TermPair; 8], dir: Dir, term: Term) -> Result<TermPair, NoBound>
     ensures { result ≡ tested dir term (sum_of sums.now term) }
 {
@@ -25,7 +25,7 @@ fn term_of(sums: &[TermPair; 8], dir: Dir, term: Term) -> Result<TermPair, NoBou
     }
 }
 
-#[tactic(auto, unfolding(crate::specs::Capped::tested_terms))]
+#[tactic(auto, unfolding(crate::specs::Exact::tested_terms))]
 fn terms_of(sums: &[TermPair; 8], dir: Dir) -> Result<[TermPair; 8], NoBound>
     ensures { result ≡ tested_terms sums.now dir all_terms }
 {
@@ -42,7 +42,7 @@ fn terms_of(sums: &[TermPair; 8], dir: Dir) -> Result<[TermPair; 8], NoBound>
     ])
 }
 
-#[tactic(auto, unfolding(crate::specs::Capped::tested_budget))]
+#[tactic(auto, unfolding(crate::specs::Exact::tested_budget))]
 fn budget_of_sums(sums: &Budget) -> Result<Budget, NoBound>
     ensures { result ≡ tested_budget sums.now.into sums.now.out }
 {

@@ -9,7 +9,6 @@ pub use Rattle.std.proofs.lemmas.Int.{by_lt_z, clamps, ints}
 pub use Rattle.std.proofs.lemmas.List.Elements.{All-cons, All-contains, All-from_get_or, All-get_or, All-head, All-nil, All-tail, All-weaker, Contains-get_or}
 pub use Rattle.std.specs.Int.{int_max, int_min}
 pub use Rattle.std.specs.List.{AllZip, filter}
-pub use Rattle.std.specs.Prelude.{slice_index_or}
 pub use Rattle.cell_balance.specs.{AreLinked, BalanceFalls, BalanceRises, BoundsHold, CellEncloses, Compares, DrainEncloses, DrainLaws, DryLaw, EnclosesStep}
 pub use Rattle.cell_balance.specs.{EvapEncloses, EvapLaws, ExactCell, ExactDrain, ExactEvap, ExactFixed, ExactFlow, ExactLink, ExactRiver, FixedEncloses}
 pub use Rattle.cell_balance.specs.{FixedLaws, FlowEncloses, FlowsAreRight, HasEqualEnds, HasLinkBack, IsBelow, IsCarried, IsClosed, IsComparable, IsComponent}
@@ -18,13 +17,12 @@ pub use Rattle.cell_balance.specs.{balance, cell_at, deep_flow, deep_low, deep_r
 pub use Rattle.cell_balance.specs.{example_lows, example_problem, example_step, first_cell, first_entries, fixed_flow, full_rate, greater, lesser, link_flow}
 pub use Rattle.cell_balance.specs.{minus, no_cell, no_link, one, over_difference, river_flow, second_cell, second_entries, share, sum_below, sum_inside}
 pub use Rattle.cell_balance.specs.{third_cell, third_entries, total_below, total_inside}
-pub use Rattle.decimal_input.proofs.Integers.{le-add, le-antisym, le-of}
-pub use Rattle.decimal_input.proofs.Signs.{cancel_right, mul_mono_right, swap}
+pub use Rattle.decimal_input.proofs.FloorLaws.{cancel_right, le-add, le-antisym, le-of, mul_mono_right, negated_enclosed, swap}
 pub use Rattle.decimal_input.specs.{Encloses, EnclosesSigned, Fraction, IsBetweenSigned, IsBetweenWhole, IsOver, IsShare, Ratio, fraction_total, negated}
 pub use Rattle.decimal_input.specs.{signed, whole}
 pub use Rattle.decimal_input.specs.Fractions.{AtMost, Same, den, plus, times}
-pub use Rattle.step_problem.proofs.Leasts.{least_times, most_times, mul_neg, neg_least, neg_most, neg_mul}
-pub use Rattle.step_problem.proofs.Ring.{as_diff, diffs, mul_add, mul_assoc, mul_le, mul_mono, mul_nonneg, mul_sub, same_diff}
+pub use Rattle.step_problem.proofs.Leasts.{as_diff, diffs, least_times, most_times, mul_add, mul_assoc, mul_le, mul_mono, mul_neg, mul_nonneg, mul_sub}
+pub use Rattle.step_problem.proofs.Leasts.{neg_least, neg_most, neg_mul, same_diff}
 pub use Rattle.step_problem.specs.{CellFits, DrainFits, EvapFits, FixedFits, IsCertificate, IsHead, IsProblem, LinkFits, LinksFit, RiverFits, branch_flow}
 pub use Rattle.step_problem.specs.{deep_river_low, entries_at, flow_bound, head_at, head_limit, least, link_high, link_low, lower_balance, most, no_entries}
 pub use Rattle.step_problem.specs.{total, upper_balance}

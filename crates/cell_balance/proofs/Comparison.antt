@@ -1,12 +1,22 @@
 -- Where a step is held from below, heads at which no cell gains water lie nowhere below heads at which no cell loses water.
-use Rattle.cell_balance.proofs.Common.{◌*ℤ◌, ◌+ℤ◌, ◌-ℤ◌, ◌<ℤ◌, ◌<◌, ◌≡◌, ◌≤ℤ◌, Bool, List, arith, inl, inr, neg_ℤ, pos, refl, suc, true, zero, ℕ, ℤ, zero-*ℤ}
-use Rattle.cell_balance.proofs.Common.{by_lt_z, ints, total, mul_mono, int_lt, mul_le, mul_sub}
-use Rattle.cell_balance.proofs.Products.{cancel_le, not_zero, positive_natural}
-use Rattle.cell_balance.proofs.Sums.{sum_at_most, max_of}
+use Rattle.cell_balance.proofs.Common.{◌*ℤ◌, ◌+ℤ◌, ◌-ℤ◌, ◌<ℤ◌, ◌<◌, ◌≡◌, ◌≤ℤ◌, Bool, List, arith, inl, inr, neg_ℤ, pos, refl, suc, true, zero, ℕ, ℤ, int_lt}
+use Rattle.cell_balance.proofs.Common.{zero-*ℤ, by_lt_z, ints, total, mul_mono, mul_le, mul_sub, cases_eq, sum_below}
+use Rattle.cell_balance.proofs.Scaling.{cancel_le, not_zero, positive_natural}
+use Rattle.cell_balance.proofs.Sums.{sum_at_most, max_of, carried_gain}
 use Rattle.cell_balance.proofs.Ramps.{Ramp, ramp_flow, full_rate, link_flow, IsClosed, AreMutual, net_flow, deep, IsHeldFromBelow}
-use Rattle.cell_balance.proofs.ClosedSets.{carried_gain}
 use Rattle.cell_balance.proofs.RampFlows.{flows_fall, flows_within_full}
-use Rattle.cell_balance.proofs.TightSums.{sum_below-tight}
+
+-- Where two sums are no further apart than their terms, no two terms are apart.
+-- where two sums are no further apart, no two terms are
+pub sum_below-tight : (n : ℕ) (f g : ℕ → ℤ) → ((k : ℕ) → k < n → f k ≤ℤ g k) → sum_below n g ≤ℤ sum_below n f → (j : ℕ) → j < n → g j ≤ℤ f j
+sum_below-tight zero f g less most j h = absurd (omega arith)
+sum_below-tight (suc n) f g less most j h =
+    let last = less n (omega arith) in
+    let others = sum_at_most n f g (λ k i. less k (omega arith)) in
+    elim (cases_eq j n) [
+      | inl e ↦ rw e (omega (arith, ints))
+      | inr e ↦ sum_below-tight n f g (λ k i. less k (omega arith)) (omega (arith, ints)) j (omega arith)
+    ]
 
 module _ (n : ℕ) (a : ℕ → ℕ → ℤ) (b : ℕ → ℕ) (q : ℕ → ℤ) (ramps : List Ramp) (both : AreMutual n a) (d : ℕ) (X Y : ℕ → ℤ) (some : 0 < d)
     (loses : (i : ℕ) → i < n → X i <ℤ Y i → net_flow n a b q ramps d X i ≤ℤ pos 0) (gains : (i : ℕ) → i < n → X i <ℤ Y i → pos 0 ≤ℤ net_flow n a b q ramps d Y i)

@@ -2,12 +2,11 @@
 use Rattle.cell_balance.proofs.Common.{[], ◌*ℤ◌, ◌+ℤ◌, ◌<ℤ◌, ◌<◌, ◌∷◌, ◌≡◌, ◌≤ℤ◌, All, Bool, List, arith, cond, false, inl, inr, nat_eq, pos, refl, subst, true}
 use Rattle.cell_balance.proofs.Common.{ℕ, ℤ, AllZip, zero-*ℤ, cases_eq, eq-eqb, ne_eqb, ints, All-cons, All-head, All-nil, All-tail, total, ◌-ℤ◌, ◌∙◌, length}
 use Rattle.cell_balance.proofs.Common.{ap, sum_inside}
-use Rattle.cell_balance.proofs.Cancel.{weight, by_weight, IsMutual}
-use Rattle.cell_balance.proofs.Whole.{WholeEntry, WholeLink, WholeCell, whole_at, whole_link}
+use Rattle.cell_balance.proofs.Dry.{weight, by_weight, IsMutual}
+use Rattle.cell_balance.proofs.Zips.{WholeEntry, WholeLink, WholeCell, whole_at, whole_link}
 use Rattle.cell_balance.proofs.WholeBalances.{known_conductance, known_flow, a_of}
 use Rattle.cell_balance.proofs.Ramps.{AreMutual}
-use Rattle.cell_balance.proofs.ClosedSets.{link_flows_cancel}
-use Rattle.cell_balance.proofs.Sums.{sum-same}
+use Rattle.cell_balance.proofs.Sums.{link_flows_cancel, sum-same}
 
 -- a fact of each right element passes to the left one
 pub All-back : {X Y : Type 0} (R : X → Y → Type 0) (P : X → Type 0) (Q : Y → Type 0) → ((x : X) (y : Y) → R x y → Q y → P x) → (xs : List X) (ys : List Y) → AllZip R xs ys → All Q ys → All P xs

@@ -1,12 +1,75 @@
 -- The least deep flow of a cell is at most the exact one.
-use Rattle.cell_balance.proofs.Common.{ℕ, ◌*◌, arith, ℤ, pos, negsuc, ◌+ℤ◌, ◌-ℤ◌, ◌*ℤ◌, ◌≤ℤ◌, unsigned_abs, int_max, ints, clamps, River, Evap, Entries}
-use Rattle.cell_balance.proofs.Common.{deep_river_low, deep_low, mul_mono_right, zero-*ℤ, Low, High}
+use Rattle.cell_balance.proofs.Common.{ℕ, ◌*◌, arith, ℤ, pos, negsuc, ◌+ℤ◌, ◌-ℤ◌, ◌*ℤ◌, ◌≤ℤ◌, unsigned_abs, ◌≡◌, refl, neg_ℤ, List, [], ◌∷◌, All, int_max, ints}
+use Rattle.cell_balance.proofs.Common.{clamps, River, Evap, Entries, deep_river_low, total, branch_flow, deep_low, mul_mono_right, zero-*ℤ, Low, High, All-head}
+use Rattle.cell_balance.proofs.Common.{All-tail, diffs, as_diff, same_diff, mul_mono, least_times, most_times, AllZip, IsBetweenWhole, Side}
 use Rattle.step_problem.specs.{full_rate}
-use Rattle.cell_balance.proofs.Totals.{add_mul, sub_mul, le_trans_z}
 use Rattle.cell_balance.proofs.Scaling.{max_times}
-use Rattle.cell_balance.proofs.Sided.{entry_bounds, total_bounds}
-use Rattle.cell_balance.proofs.Whole.{WholeEntry, WholeCell, whole_deep_river, whole_full, whole_deep}
-use Rattle.cell_balance.proofs.Within.{FlowWithin, RiverWithin, EvapWithin, CellWithin}
+use Rattle.cell_balance.proofs.Zips.{WholeEntry, WholeCell, whole_deep_river, whole_full, whole_deep, FlowWithin, RiverWithin, EvapWithin, CellWithin}
+
+-- Sums over lists that are related place by place.
+pub add_mul : (a b k : ℤ) → (a +ℤ b) *ℤ k ≡ a *ℤ k +ℤ b *ℤ k
+add_mul a b k = rw (as_diff a, as_diff b, as_diff k) (simp diffs (same_diff _ _ _ _ (omega arith)))
+
+pub sub_mul : (a b k : ℤ) → (a -ℤ b) *ℤ k ≡ a *ℤ k -ℤ b *ℤ k
+sub_mul a b k = rw (as_diff a, as_diff b, as_diff k) (simp diffs (same_diff _ _ _ _ (omega arith)))
+
+pub le_trans_z : (a b c : ℤ) → a ≤ℤ b → b ≤ℤ c → a ≤ℤ c
+le_trans_z a b c h k = omega (arith, ints)
+
+pub same_z : (a : ℤ) → a ≤ℤ a
+same_z a = omega (arith, ints)
+
+-- sums of terms that hold the same place or sign
+pub total-same : {X : Type 0} (P : X → Type 0) (f g : X → ℤ) (xs : List X) → ((x : X) → P x → f x ≡ g x) → All P xs → total f xs ≡ total g xs
+total-same P f g [] each h = refl
+total-same P f g (x ∷ xs) each h = rw (each x (All-head P x xs h), total-same P f g xs each (All-tail P x xs h)) refl
+
+pub total_nonneg : {X : Type 0} (P : X → Type 0) (f : X → ℤ) (xs : List X) → ((x : X) → P x → pos 0 ≤ℤ f x) → All P xs → pos 0 ≤ℤ total f xs
+total_nonneg P f [] each h = omega (arith, ints)
+total_nonneg P f (x ∷ xs) each h = let a = each x (All-head P x xs h) in let b = total_nonneg P f xs each (All-tail P x xs h) in omega (arith, ints, a, b)
+
+pub total_at_most : {X : Type 0} (P : X → Type 0) (f g : X → ℤ) (xs : List X) → ((x : X) → P x → f x ≤ℤ g x) → All P xs → total f xs ≤ℤ total g xs
+total_at_most P f g [] each h = omega (arith, ints)
+total_at_most P f g (x ∷ xs) each h = let a = each x (All-head P x xs h) in let b = total_at_most P f g xs each (All-tail P x xs h) in omega (arith, ints, a, b)
+
+pub total_neg : {X : Type 0} (f : X → ℤ) (xs : List X) → total (λ x. neg_ℤ (f x)) xs ≡ neg_ℤ (total f xs)
+total_neg f [] = refl
+total_neg f (x ∷ xs) = rw (total_neg f xs) (omega (arith, ints))
+
+-- Bounds of exact numbers on a side: on the low side at most the number, on the high side at least. What products and sums pass on.
+-- a bounds b on the side
+abbrev pub Bounds : Side → ℤ → ℤ → Type 0
+Bounds Low a b = a ≤ℤ b
+Bounds High a b = b ≤ℤ a
+
+-- the flow over a conductance and a difference of heads that are known by bounds
+pub entry_bounds : (side : Side) (lo hi c m n : ℕ) (d e : ℤ) → IsBetweenWhole lo hi m c → Bounds side (d *ℤ pos n) e → Bounds side (branch_flow side lo hi d *ℤ pos (m * n)) (pos c *ℤ e)
+entry_bounds Low lo hi c m n d e b h = le_trans_z _ _ _ (least_times lo hi c m n d b.lower b.upper) (mul_mono c _ _ h)
+entry_bounds High lo hi c m n d e b h = le_trans_z _ _ _ (mul_mono c _ _ h) (most_times lo hi c m n d b.lower b.upper)
+
+pub bounds_trans : (side : Side) (a b c : ℤ) → Bounds side a b → Bounds side b c → Bounds side a c
+bounds_trans Low a b c h k = le_trans_z a b c h k
+bounds_trans High a b c h k = le_trans_z c b a k h
+
+pub bounds_same : (side : Side) (a : ℤ) → Bounds side a a
+bounds_same Low a = omega (arith, ints)
+bounds_same High a = omega (arith, ints)
+
+bounds_none : (side : Side) (k : ℤ) → Bounds side (pos 0 *ℤ k) (pos 0)
+bounds_none Low k = rw zero-*ℤ (omega (arith, ints))
+bounds_none High k = rw zero-*ℤ (omega (arith, ints))
+
+bounds_sum : (side : Side) (a b k c d : ℤ) → Bounds side (a *ℤ k) c → Bounds side (b *ℤ k) d → Bounds side ((a +ℤ b) *ℤ k) (c +ℤ d)
+bounds_sum Low a b k c d h j = rw add_mul (omega (arith, ints, h, j))
+bounds_sum High a b k c d h j = rw add_mul (omega (arith, ints, h, j))
+
+-- where each left term, scaled, bounds the right one, so does the sum
+module _ {X Y : Type 0} (side : Side) (R : X → Y → Type 0) (f : X → ℤ) (k : ℤ) (g : Y → ℤ) (each : (x : X) (y : Y) → R x y → Bounds side (f x *ℤ k) (g y)) where
+  pub total_bounds : (xs : List X) (ys : List Y) → AllZip R xs ys → Bounds side (total f xs *ℤ k) (total g ys)
+  total_bounds [] [] h = bounds_none side k
+  total_bounds [] (y ∷ ys) h = absurd h
+  total_bounds (x ∷ xs) [] h = absurd h
+  total_bounds (x ∷ xs) (y ∷ ys) h = bounds_sum side (f x) (total f xs) k (g y) (total g ys) (each x y h.0) (total_bounds xs ys h.1)
 
 deep_river : (m n : ℕ) (p : River) (x : WholeEntry) → RiverWithin m n p x → (deep_river_low p *ℤ pos (m * n)) ≤ℤ whole_deep_river x
 deep_river m n p x r = entry_bounds Low p.lo p.hi x.c m n _ _ r.c (rw sub_mul (omega (arith, ints, r.top.lower, r.foot.upper)))

@@ -1,11 +1,78 @@
 -- Below all bottoms and drains a cell gets at least its deep flow besides what its links and fixed links give; over a closed set links cancel.
 use Rattle.cell_balance.proofs.Common.{◌≡◌, ℕ, ◌<◌, ◌⊎◌, inl, inr, refl, sym, ◌∙◌, arith, ℤ, pos, neg_ℤ, ◌+ℤ◌, ◌-ℤ◌, ◌≤ℤ◌, List, length, All, Bool, true, false}
-use Rattle.cell_balance.proofs.Common.{cond, int_max, int_min, ints, clamps, zero-*ℤ, *ℤ-zero, total, mul_nonneg, mul_mono, sum_inside}
-use Rattle.cell_balance.proofs.Totals.{total-same, total_nonneg, total_at_most, total_neg}
-use Rattle.cell_balance.proofs.Sums.{sum-same, sum-add, sum_at_most, sum_nonneg}
-use Rattle.cell_balance.proofs.Cancel.{IsMutual, cut_link, cut_links}
-use Rattle.cell_balance.proofs.Whole.{WholeLink, WholeEntry, WholeCell, whole_link, whole_fixed, whole_river, whole_drain, whole_evap, whole_balance, whole_deep_river, whole_full, whole_deep, whole_at}
-use Rattle.cell_balance.proofs.Within.{IsDry}
+use Rattle.cell_balance.proofs.Common.{cond, ◌*ℤ◌, [], ◌∷◌, nat_eq, int_max, int_min, ints, clamps, zero-*ℤ, *ℤ-zero, total, mul_nonneg, mul_mono, mul_neg}
+use Rattle.cell_balance.proofs.Common.{sum_inside, sum_below, All-head, All-tail}
+use Rattle.cell_balance.proofs.Deep.{total-same, total_nonneg, total_at_most, total_neg, add_mul}
+use Rattle.cell_balance.proofs.Sums.{sum-same, sum-add, sum_at_most, sum_nonneg, sum-zero, sum-one, turned_cancel}
+use Rattle.cell_balance.proofs.Zips.{WholeLink, WholeEntry, WholeCell, whole_link, whole_fixed, whole_river, whole_drain, whole_evap, whole_balance}
+use Rattle.cell_balance.proofs.Zips.{whole_deep_river, whole_full, whole_deep, whole_at, IsDry}
+
+-- Over all cells the flows over links cancel, and over any set only the links that leave it count.
+-- what the links of a list conduct to the cell k
+abbrev pub weight : List WholeLink → ℕ → ℤ
+weight links k = total (λ x. cond (nat_eq x.cell k) (pos x.c) (pos 0)) links
+
+-- links lead to cells of the step, and any two cells conduct the same to each other
+pub record IsMutual (w : List WholeCell) : Type 0 where
+  pub range : (c : ℕ) → c < length w → All (λ x. x.cell < length w) (whole_at w c).links
+  pub same : (c k : ℕ) → c < length w → k < length w → weight (whole_at w c).links k ≡ weight (whole_at w k).links c
+
+-- the flow over a list of links, by the cells that they lead to
+pub by_weight : (n : ℕ) (xs : List WholeLink) (g : ℕ → ℤ) → All (λ x. x.cell < n) xs → total (λ x. pos x.c *ℤ g x.cell) xs ≡ sum_below n (λ k. weight xs k *ℤ g k)
+by_weight n [] g h = sym (sum-same n _ (λ k. pos 0) (λ k i. zero-*ℤ (g k)) ∙ sum-zero n)
+by_weight n (x ∷ xs) g h =
+    let range = All-head (λ y. y.cell < n) x xs h in
+    let others = by_weight n xs g (All-tail (λ y. y.cell < n) x xs h) in
+    sym (sum-same n _ _ (λ k i. add_mul (cond (nat_eq x.cell k) (pos x.c) (pos 0)) (weight xs k) (g k))
+    ∙ sum-add n (λ k. cond (nat_eq x.cell k) (pos x.c) (pos 0) *ℤ g k) (λ k. weight xs k *ℤ g k)
+    ∙ rw (sum-one n x.cell (pos x.c) g range, others) refl)
+
+-- flows that change their sign at the other end cancel
+cancel : (n : ℕ) (links : ℕ → List WholeLink) (g : ℕ → ℕ → ℤ) → ((c : ℕ) → c < n → All (λ x. x.cell < n) (links c)) → ((c k : ℕ) → c < n → k < n → weight (links c) k ≡ weight (links k) c) → ((c k : ℕ) → g c k ≡ neg_ℤ (g k c)) → sum_below n (λ c. total (λ x. pos x.c *ℤ g c x.cell) (links c)) ≡ pos 0
+cancel n links g range same turned =
+    sum-same n _ _ (λ c i. by_weight n (links c) (g c) (range c i))
+    ∙ turned_cancel n (λ c k. weight (links c) k *ℤ g c k) (λ c k i j. rw (same c k i j, turned c k) (mul_neg (weight (links k) c) (g k c)))
+
+-- the flow over a link that leaves the set
+abbrev pub cut_link : (ℕ → Bool) → (ℕ → ℤ) → ℤ → WholeLink → ℤ
+cut_link inside h v x = cond (inside x.cell) (pos 0) (whole_link h v x)
+
+total-add : {X : Type 0} (f g h : X → ℤ) (xs : List X) → ((x : X) → f x ≡ g x +ℤ h x) → total f xs ≡ total g xs +ℤ total h xs
+total-add f g h [] each = refl
+total-add f g h (x ∷ xs) each = rw (each x, total-add f g h xs each) (omega (arith, ints))
+
+total-zeros : {X : Type 0} (f : X → ℤ) (xs : List X) → ((x : X) → f x ≡ pos 0) → total f xs ≡ pos 0
+total-zeros f [] each = refl
+total-zeros f (x ∷ xs) each = rw (each x, total-zeros f xs each) refl
+
+-- the difference of heads over a link inside the set, and 0 elsewhere
+abbrev inner : (ℕ → Bool) → (ℕ → ℤ) → ℕ → ℕ → ℤ
+inner inside Y c k = cond (inside c) (cond (inside k) (Y k -ℤ Y c) (pos 0)) (pos 0)
+
+turned_cases : (a b : Bool) (x y : ℤ) → cond a (cond b (x -ℤ y) (pos 0)) (pos 0) ≡ neg_ℤ (cond b (cond a (y -ℤ x) (pos 0)) (pos 0))
+turned_cases true true x y = omega (arith, ints)
+turned_cases true false x y = refl
+turned_cases false true x y = refl
+turned_cases false false x y = refl
+
+split_link : (b : Bool) (c : ℕ) (d : ℤ) → pos c *ℤ d ≡ cond b (pos 0) (pos c *ℤ d) +ℤ pos c *ℤ cond b d (pos 0)
+split_link true c d = omega (arith, ints)
+split_link false c d = rw *ℤ-zero (omega (arith, ints))
+
+one_cell : (inside : ℕ → Bool) (Y : ℕ → ℤ) (y other : ℤ) (links : List WholeLink) (b : Bool) → cond b (total (whole_link Y y) links +ℤ other) (pos 0) ≡ cond b (total (cut_link inside Y y) links +ℤ other) (pos 0) +ℤ total (λ x. pos x.c *ℤ cond b (cond (inside x.cell) (Y x.cell -ℤ y) (pos 0)) (pos 0)) links
+one_cell inside Y y other links true =
+    let split = total-add (whole_link Y y) (cut_link inside Y y) (λ x. pos x.c *ℤ cond (inside x.cell) (Y x.cell -ℤ y) (pos 0)) links (λ x. split_link (inside x.cell) x.c (Y x.cell -ℤ y)) in
+    omega (arith, ints)
+one_cell inside Y y other links false = rw (total-zeros (λ x. pos x.c *ℤ pos 0) links (λ x. *ℤ-zero (pos x.c))) refl
+
+-- over any set of cells only the links that leave it count, whatever else each cell gets
+pub cut_links : (w : List WholeCell) (inside : ℕ → Bool) (Y other : ℕ → ℤ) → IsMutual w → sum_inside (length w) inside (λ c. total (whole_link Y (Y c)) (whole_at w c).links +ℤ other c) ≡ sum_inside (length w) inside (λ c. total (cut_link inside Y (Y c)) (whole_at w c).links +ℤ other c)
+cut_links w inside Y other both =
+    let n = length w in
+    let none_inside = cancel n (λ c. (whole_at w c).links) (inner inside Y) both.range both.same (λ c k. turned_cases (inside c) (inside k) (Y k) (Y c)) in
+    sum-same n _ _ (λ c i. one_cell inside Y (Y c) (other c) (whole_at w c).links (inside c))
+    ∙ sum-add n _ (λ c. total (λ x. pos x.c *ℤ inner inside Y c x.cell) (whole_at w c).links)
+    ∙ rw none_inside (omega (arith, ints))
 
 dry_river : (y t : ℤ) → y ≤ℤ t → (x : WholeEntry) → (x.c ≡ 0) ⊎ (t ≤ℤ x.foot) → whole_river y x ≡ whole_deep_river x
 dry_river y t h x (inl e) = rw e (zero-*ℤ (x.top -ℤ int_max y x.foot) ∙ sym (zero-*ℤ (x.top -ℤ x.foot)))
@@ -40,9 +107,9 @@ dry_balance Y y t w h dry =
 module _ (w : List WholeCell) (Y : ℕ → ℤ) (both : IsMutual w) (inside : ℕ → Bool) (t : ℕ → ℤ)
     (dry : (c : ℕ) → c < length w → inside c ≡ true → (Y c ≤ℤ t c) × IsDry (t c) (whole_at w c))
   where
-    one_cell : (c : ℕ) → c < length w → (b : Bool) → inside c ≡ b → cond b (total (whole_link Y (Y c)) (whole_at w c).links +ℤ (whole_deep (whole_at w c) +ℤ total (whole_fixed (Y c)) (whole_at w c).fixed)) (pos 0) ≤ℤ cond b (whole_balance (whole_at w c) (Y c) Y) (pos 0)
-    one_cell c i true e = omega (arith, ints, dry_balance Y (Y c) (t c) (whole_at w c) (dry c i e).0 (dry c i e).1)
-    one_cell c i false e = omega (arith, ints)
+    dry_cell : (c : ℕ) → c < length w → (b : Bool) → inside c ≡ b → cond b (total (whole_link Y (Y c)) (whole_at w c).links +ℤ (whole_deep (whole_at w c) +ℤ total (whole_fixed (Y c)) (whole_at w c).fixed)) (pos 0) ≤ℤ cond b (whole_balance (whole_at w c) (Y c) Y) (pos 0)
+    dry_cell c i true e = omega (arith, ints, dry_balance Y (Y c) (t c) (whole_at w c) (dry c i e).0 (dry c i e).1)
+    dry_cell c i false e = omega (arith, ints)
 
     split : (b : Bool) (l d f : ℤ) → cond b (l +ℤ (d +ℤ f)) (pos 0) ≡ cond b d (pos 0) +ℤ cond b (l +ℤ f) (pos 0)
     split true l d f = omega (arith, ints)
@@ -52,7 +119,7 @@ module _ (w : List WholeCell) (Y : ℕ → ℤ) (both : IsMutual w) (inside : �
     pub cut_sum : (sum_inside (length w) inside (λ c. whole_deep (whole_at w c)) +ℤ sum_inside (length w) inside (λ c. total (cut_link inside Y (Y c)) (whole_at w c).links +ℤ total (whole_fixed (Y c)) (whole_at w c).fixed)) ≤ℤ sum_inside (length w) inside (λ c. whole_balance (whole_at w c) (Y c) Y)
     cut_sum =
         let other = λ (c : ℕ). whole_deep (whole_at w c) +ℤ total (whole_fixed (Y c)) (whole_at w c).fixed in
-        let less = sum_at_most (length w) _ _ (λ c i. one_cell c i (inside c) refl) in
+        let less = sum_at_most (length w) _ _ (λ c i. dry_cell c i (inside c) refl) in
         let cut = cut_links w inside Y other both in
         let parts = sum-same (length w) _ _ (λ c i. split (inside c) (total (cut_link inside Y (Y c)) (whole_at w c).links) (whole_deep (whole_at w c)) (total (whole_fixed (Y c)) (whole_at w c).fixed)) ∙ sum-add (length w) (λ c. cond (inside c) (whole_deep (whole_at w c)) (pos 0)) (λ c. cond (inside c) (total (cut_link inside Y (Y c)) (whole_at w c).links +ℤ total (whole_fixed (Y c)) (whole_at w c).fixed) (pos 0)) in
         omega (arith, ints)

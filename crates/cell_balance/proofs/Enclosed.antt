@@ -6,10 +6,9 @@ use Rattle.cell_balance.proofs.Common.{LinkEncloses, FixedEncloses, RiverEnclose
 use Rattle.cell_balance.proofs.Common.{All-from_get_or, entries_at, no_entries, IsProblem, LinkFits, cell_at, no_cell, AreLinked, no_link, EnclosesStep}
 use Rattle.std.proofs.lemmas.Nat.{pow-add}
 use Rattle.decimal_input.specs.Ratios.{den as ratio_den}
-use Rattle.cell_balance.proofs.Zips.{AllZip-compose, AllZip-at, AllZip-length, All-zip}
-use Rattle.cell_balance.proofs.Whole.{WholeLink, WholeEntry, WholeCell}
+use Rattle.cell_balance.proofs.Zips.{AllZip-compose, AllZip-at, AllZip-length, All-zip, WholeLink, WholeEntry, WholeCell, FlowWithin, LinkWithin, EntryWithin}
+use Rattle.cell_balance.proofs.Zips.{FixedWithin, RiverWithin, DrainWithin, EvapWithin, CellWithin}
 use Rattle.cell_balance.proofs.Over.{FlowOver, LinkOver, EntryOver, FixedOver, RiverOver, DrainOver, EvapOver, CellOver}
-use Rattle.cell_balance.proofs.Within.{FlowWithin, LinkWithin, EntryWithin, FixedWithin, RiverWithin, DrainWithin, EvapWithin, CellWithin}
 use Rattle.step_problem.specs.{no_link as no_bounds}
 
 cross_low : (lo x a c m t : ℕ) → 0 < x → lo * x ≤ a * t → a * (m * t) ≡ c * x → lo * m ≤ c

@@ -1,19 +1,54 @@
 -- The comparison: from fractions to whole numbers and back.
-use Rattle.cell_balance.proofs.Common.{◌≡◌, ℕ, suc, ◌-◌, ◌*◌, ◌^◌, ◌<◌, sym, ap, ◌∙◌, subst, arith, ℤ, pos, ◌*ℤ◌, List, length, mul-pos, AllZip, IsOver}
-use Rattle.cell_balance.proofs.Common.{cancel_right, mul_mono_right, swap, mul_assoc, head_at, ExactCell, cell_at, no_cell, balance, share, SolvesStep}
-use Rattle.cell_balance.proofs.Common.{Compares, Entries, IsProblem, EnclosesStep, Side, Low, High}
-use Rattle.cell_balance.proofs.Zips.{AllZip-at, AllZip-length}
+use Rattle.cell_balance.proofs.Common.{◌≡◌, ℕ, suc, ◌-◌, ◌*◌, ◌^◌, ◌<◌, sym, ap, ◌∙◌, subst, arith, ℤ, pos, ◌*ℤ◌, List, length, mul-pos, refl, All, AllZip}
+use Rattle.cell_balance.proofs.Common.{IsOver, Ratio, Fraction, cancel_right, mul_mono_right, swap, mul_assoc, head_at, IsProblem, ExactCell, cell_at, no_cell}
+use Rattle.cell_balance.proofs.Common.{balance, share, SolvesStep, Compares, EnclosesStep, ExactFlow, ExactLink, Entries, Side, Low, High, den}
+use Rattle.cell_balance.proofs.Zips.{AllZip-at, AllZip-length, CellWithin, WholeCell, whole_at, no_whole, whole_balance, AllZip-choose, WholeLink, WholeEntry}
 use Rattle.cell_balance.proofs.Scaling.{zero_over}
-use Rattle.cell_balance.proofs.Over.{CellOver, balance_over}
-use Rattle.cell_balance.proofs.Denominators.{step_common}
-use Rattle.cell_balance.proofs.Wholes.{whole_step}
+use Rattle.cell_balance.proofs.Over.{CellOver, balance_over, FlowOver, LinkOver, EntryOver, FixedOver, RiverOver, DrainOver, EvapOver}
+use Rattle.cell_balance.proofs.Denominators.{step_common, Goes, share_over, fraction_over, left_goes, right_goes, flow_den, link_den, entry_den, fixed_den}
+use Rattle.cell_balance.proofs.Denominators.{river_den, drain_den, evap_den, IsCommon}
 use Rattle.cell_balance.proofs.Enclosed.{step_within, linked, links_good}
 use Rattle.cell_balance.proofs.Mutual.{mutual_whole}
 use Rattle.cell_balance.proofs.Compare.{compare}
-use Rattle.cell_balance.proofs.Sided.{Bounds}
-use Rattle.cell_balance.proofs.Cancel.{IsMutual}
-use Rattle.cell_balance.proofs.Within.{CellWithin}
-use Rattle.cell_balance.proofs.Whole.{WholeCell, whole_at, no_whole, whole_balance}
+use Rattle.cell_balance.proofs.Deep.{Bounds}
+use Rattle.cell_balance.proofs.Dry.{IsMutual}
+use Rattle.decimal_input.specs.Ratios.{den as ratio_den}
+
+-- An exact step with a common denominator has whole numbers.
+module _ (d a b : ℕ) where
+  pub flow : (e : ExactFlow) → Goes (flow_den e) d → (q : ℤ) × FlowOver (d * a) (d * b) e q
+  flow e g =
+      let (q, over) = fraction_over d (a * (d * b)) e.flow g in
+      (q, record { flow = subst (λ (z : ℕ). IsOver z e.flow q) same over })
+    where
+      same : d * (a * (d * b)) ≡ d * a * (d * b)
+      same = omega arith
+
+  pub link : (e : ExactLink) → Goes (link_den e) d → (w : WholeLink) × LinkOver (d * a) (d * b) e w
+  link e g = let (c, share) = share_over d a e.conductance g in (record { cell = e.cell; c = c }, record { same = refl; c = share })
+
+  pub entry : (r : Ratio) (top foot : Fraction) → Goes (entry_den r top foot) d → (w : WholeEntry) × EntryOver (d * a) (d * b) r top foot w
+  entry r top foot g =
+      let (c, share) = share_over d a r (left_goes (ratio_den r) (den top * den foot) d g) in
+      let both = right_goes (ratio_den r) (den top * den foot) d g in
+      let (z, high) = fraction_over d b top (left_goes (den top) (den foot) d both) in
+      let (t, low) = fraction_over d b foot (right_goes (den top) (den foot) d both) in
+      (record { c = c; top = z; foot = t }, record { c = share; top = high; foot = low })
+
+  pub whole_cell : (e : ExactCell) → IsCommon d e → (w : WholeCell) × CellOver (d * a) (d * b) e w
+  whole_cell e g =
+      let (flows, f) = AllZip-choose (FlowOver (d * a) (d * b)) (λ x. Goes (flow_den x) d) flow e.flows g.flows in
+      let (links, l) = AllZip-choose (LinkOver (d * a) (d * b)) (λ x. Goes (link_den x) d) link e.links g.links in
+      let (fixeds, h) = AllZip-choose (FixedOver (d * a) (d * b)) (λ x. Goes (fixed_den x) d) (λ x. entry x.conductance x.head x.head) e.fixed g.fixed in
+      let (rivers, r) = AllZip-choose (RiverOver (d * a) (d * b)) (λ x. Goes (river_den x) d) (λ x. entry x.conductance x.stage x.bottom) e.rivers g.rivers in
+      let (drains, n) = AllZip-choose (DrainOver (d * a) (d * b)) (λ x. Goes (drain_den x) d) (λ x. entry x.conductance x.elevation x.elevation) e.drains g.drains in
+      let (evaps, v) = AllZip-choose (EvapOver (d * a) (d * b)) (λ x. Goes (evap_den x) d) (λ x. entry x.conductance x.surface x.extinction) e.evaps g.evaps in (
+        record { flows = flows; links = links; fixed = fixeds; rivers = rivers; drains = drains; evaps = evaps },
+        record { flows = f; links = l; fixed = h; rivers = r; drains = n; evaps = v },
+      )
+
+  pub whole_step : (e : List ExactCell) → All (IsCommon d) e → (w : List WholeCell) × AllZip (CellOver (d * a) (d * b)) e w
+  whole_step e g = AllZip-choose (CellOver (d * a) (d * b)) (IsCommon d) whole_cell e g
 
 -- a numerator over d, over a multiple of d
 pub share_is : (d j : ℕ) (z : ℤ) → 0 < d → IsOver (d * j) (share d z) (z *ℤ pos j)

@@ -2,18 +2,17 @@
 use Rattle.cell_balance.proofs.Common.{ℕ, ◌+◌, ◌*◌, ◌^◌, ◌<◌, refl, sym, subst, arith, ℤ, pos, ◌-ℤ◌, ◌*ℤ◌, ◌≤ℤ◌, mul-pos, ints, Ratio, Fraction, den, IsOver}
 use Rattle.cell_balance.proofs.Common.{EnclosesSigned, IsBetweenSigned, Link, link_low, link_high, least, most, ExactLink, link_flow, fixed_flow, river_flow}
 use Rattle.cell_balance.proofs.Common.{drain_flow, evap_flow, LinkEncloses, BoundsHold, Side, Low, High}
-use Rattle.cell_balance.proofs.Totals.{sub_mul}
+use Rattle.cell_balance.proofs.Deep.{sub_mul, entry_bounds}
 use Rattle.step_problem.specs.{fixed_flow as fixed_on, river_flow as river_on, drain_flow as drain_on, evap_flow as evap_on}
-use Rattle.cell_balance.proofs.Sided.{entry_bounds}
 use Rattle.cell_balance.proofs.Gaps.{Kind, whole_flow, IsSeen, seen_bounds, fixed_seen, river_seen, drain_seen, evap_seen}
 use Rattle.cell_balance.proofs.Gaps.Kind.{OfFixed, OfRiver, OfDrain, OfEvap}
 use Rattle.cell_balance.proofs.Enclosed.{between_share, between_over, flow_denominator, entry_within}
-use Rattle.cell_balance.proofs.EntryScaled.{enclosed_over}
+use Rattle.cell_balance.proofs.Enclosing.{enclosed_over}
 use Rattle.cell_balance.proofs.EntryFlows.{difference_over}
 use Rattle.cell_balance.proofs.Denominators.{Goes, fraction_over, share_over, left_goes, right_goes, link_den, entry_den, some_entry}
-use Rattle.cell_balance.proofs.Whole.{WholeEntry}
+use Rattle.cell_balance.proofs.Zips.{WholeEntry}
 use Rattle.cell_balance.proofs.Over.{EntryOver, fixed_over, river_over, drain_over, evap_over}
-use Rattle.cell_balance.proofs.Wholes.{entry}
+use Rattle.cell_balance.proofs.Encloses.{entry}
 
 -- an entry's flow in whole numbers over d and d, with its head
 enclosed : (s d : ℕ) (f : Fraction) (z lo hi : ℤ) → 0 < d → IsOver (d * 10 ^ s * (d * 10 ^ 9)) f z → (lo *ℤ pos (d * d)) ≤ℤ z → z ≤ℤ (hi *ℤ pos (d * d)) → EnclosesSigned lo hi (s + 9) f

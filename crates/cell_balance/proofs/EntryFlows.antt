@@ -4,12 +4,12 @@ use Rattle.cell_balance.proofs.Common.{mul-pos, int_max, int_min, mul-le-mul_rig
 use Rattle.cell_balance.proofs.Common.{IsOver, IsShare, mul_nonneg, mul_neg, ExactFixed, ExactRiver, ExactDrain, ExactEvap, minus, fixed_flow, river_flow}
 use Rattle.cell_balance.proofs.Common.{drain_flow, evap_flow, full_rate, over_difference, FixedLaws, RiverLaws, DrainLaws, EvapLaws, FlowsAreRight}
 use Rattle.cell_balance.proofs.Scaling.{IsOver-times, IsOver-minus, IsOver-negated, IsOver-signed, over_zero}
-use Rattle.cell_balance.proofs.EntryScaled.{over_le, le_over, same_over, negative_over, negative_below, positive_above, below_over}
+use Rattle.cell_balance.proofs.Enclosing.{over_le, le_over, same_over, negative_over, negative_below, positive_above, below_over}
 use Rattle.cell_balance.proofs.Denominators.{Goes, fraction_over, entry_den, some_entry}
 use Rattle.cell_balance.proofs.Over.{EntryOver, FixedOver, RiverOver, DrainOver, EvapOver, fixed_over, river_over, drain_over, evap_over, full_over}
-use Rattle.cell_balance.proofs.Wholes.{entry}
+use Rattle.cell_balance.proofs.Encloses.{entry}
 use Rattle.cell_balance.proofs.Dry.{evap_within_full}
-use Rattle.cell_balance.proofs.Whole.{WholeEntry, whole_fixed, whole_river, whole_drain, whole_evap, whole_full}
+use Rattle.cell_balance.proofs.Zips.{WholeEntry, whole_fixed, whole_river, whole_drain, whole_evap, whole_full}
 
 -- what conducts has a positive share
 some_share : (d c : ℕ) (r : Ratio) → 0 < d → 0 < r.num → IsShare d r c → 0 < c

@@ -1,21 +1,41 @@
 -- The laws of exact balances, from their whole numbers.
 use Rattle.cell_balance.proofs.Common.{◌≡◌, ℕ, zero, suc, ◌*◌, ◌<◌, ◌⊎◌, inl, inr, refl, ap, subst, arith, ℤ, pos, ◌*ℤ◌, ◌≤ℤ◌, List, length, All, Bool, true}
-use Rattle.cell_balance.proofs.Common.{mul-pos, AllZip, cases_eq, ints, Ratio, Fraction, fraction_total, AtMost, IsOver, IsShare, total, ExactCell, cell_at}
-use Rattle.cell_balance.proofs.Common.{no_cell, link_flow, balance, share, total_inside, IsClosed, deep_flow, LiesBelow, LinksCancel, BalanceFalls}
-use Rattle.cell_balance.proofs.Common.{BalanceRises, DryLaw, mul_mono_right}
-use Rattle.cell_balance.proofs.Zips.{AllZip-at, AllZip-length, All-zip}
+use Rattle.cell_balance.proofs.Common.{mul-pos, ◌+ℤ◌, AllZip, cases_eq, ints, clamps, Ratio, Fraction, fraction_total, IsOver, IsShare, AtMost, total}
+use Rattle.cell_balance.proofs.Common.{ExactCell, cell_at, no_cell, link_flow, balance, share, total_inside, IsClosed, deep_flow, LiesBelow, LinksCancel}
+use Rattle.cell_balance.proofs.Common.{BalanceFalls, BalanceRises, DryLaw, mul_mono_right, mul_mono}
+use Rattle.cell_balance.proofs.Zips.{AllZip-at, AllZip-length, All-zip, IsDry, WholeCell, whole_at, no_whole, whole_link, whole_balance, whole_deep}
+use Rattle.cell_balance.proofs.Zips.{whole_fixed, whole_river, whole_drain, whole_evap}
 use Rattle.cell_balance.proofs.Scaling.{IsOver-total, over_zero}
-use Rattle.cell_balance.proofs.EntryScaled.{over_le, le_over, IsOver-inside}
+use Rattle.cell_balance.proofs.Enclosing.{over_le, le_over, IsOver-inside}
 use Rattle.cell_balance.proofs.Over.{LinkOver, FixedOver, RiverOver, DrainOver, CellOver, deep_over, link_over, balance_over}
 use Rattle.cell_balance.proofs.Denominators.{cell_common, step_common}
-use Rattle.cell_balance.proofs.Wholes.{whole_cell, whole_step}
+use Rattle.cell_balance.proofs.Encloses.{whole_cell, whole_step, share_is}
 use Rattle.cell_balance.proofs.Mutual.{mutual_whole}
 use Rattle.cell_balance.proofs.Conducting.{closed_cancel}
 use Rattle.cell_balance.proofs.Dry.{dry_law}
-use Rattle.cell_balance.proofs.Falling.{whole_falls, whole_rises}
-use Rattle.cell_balance.proofs.Encloses.{share_is}
-use Rattle.cell_balance.proofs.Within.{IsDry}
-use Rattle.cell_balance.proofs.Whole.{WholeCell, whole_at, no_whole, whole_link, whole_balance, whole_deep}
+use Rattle.step_problem.proofs.Falls.{loss_falls, total_mono}
+use Rattle.cell_balance.proofs.Deep.{total_at_most}
+
+-- A whole balance falls weakly in its own head and rises weakly in the others.
+pub whole_falls : (w : WholeCell) (v y : ℤ) (Y : ℕ → ℤ) → v ≤ℤ y → whole_balance w y Y ≤ℤ whole_balance w v Y
+whole_falls w v y Y le =
+    six (total (λ q. q) w.flows) _ _ _ _ _ _ _ _ _ _
+    (total_mono (whole_link Y y) (whole_link Y v) w.links (λ x. mul_mono x.c _ _ (omega (arith, ints))))
+    (total_mono (whole_fixed y) (whole_fixed v) w.fixed (λ x. mul_mono x.c _ _ (omega (arith, ints))))
+    (total_mono (whole_river y) (whole_river v) w.rivers (λ x. mul_mono x.c _ _ (omega (arith, ints, clamps))))
+    (total_mono (whole_drain y) (whole_drain v) w.drains (λ x. loss_falls x.c _ _ (omega (arith, ints, clamps))))
+    (total_mono (whole_evap y) (whole_evap v) w.evaps (λ x. loss_falls x.c _ _ (omega (arith, ints, clamps))))
+  where
+    six : (f a b c d e a' b' c' d' e' : ℤ) → a ≤ℤ a' → b ≤ℤ b' → c ≤ℤ c' → d ≤ℤ d' → e ≤ℤ e' → (f +ℤ a +ℤ b +ℤ c +ℤ d +ℤ e) ≤ℤ (f +ℤ a' +ℤ b' +ℤ c' +ℤ d' +ℤ e')
+    six f a b c d e a' b' c' d' e' p q r s t = omega (arith, ints)
+
+pub whole_rises : (w : WholeCell) (v : ℤ) (Y Z : ℕ → ℤ) → All (λ x. Y x.cell ≤ℤ Z x.cell) w.links → whole_balance w v Y ≤ℤ whole_balance w v Z
+whole_rises w v Y Z each =
+    second (total (λ q. q) w.flows) _ _ _ _ _ _
+    (total_at_most (λ x. Y x.cell ≤ℤ Z x.cell) (whole_link Y v) (whole_link Z v) w.links (λ x h. mul_mono x.c _ _ (omega (arith, ints))) each)
+  where
+    second : (f a a' b c d e : ℤ) → a ≤ℤ a' → (f +ℤ a +ℤ b +ℤ c +ℤ d +ℤ e) ≤ℤ (f +ℤ a' +ℤ b +ℤ c +ℤ d +ℤ e)
+    second f a a' b c d e p = omega (arith, ints)
 
 -- numerators over d, over n * d
 pub heads_over : (n d : ℕ) → 0 < d → (z : ℤ) → IsOver (n * d) (share d z) (z *ℤ pos n)

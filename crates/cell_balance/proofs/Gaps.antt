@@ -2,11 +2,9 @@
 use Rattle.cell_balance.proofs.Common.{◌≡◌, ℕ, ◌*◌, refl, sym, arith, ℤ, pos, neg_ℤ, ◌-ℤ◌, ◌*ℤ◌, ◌≤ℤ◌, int_max, int_min, ints, clamps, zero-*ℤ, neg_mul}
 use Rattle.cell_balance.proofs.Common.{mul_neg, neg_least, neg_most, IsBetweenWhole, Fixed, River, Drain, Evap, Side, Low, High, branch_flow}
 use Rattle.step_problem.specs.{fixed_flow, river_flow, drain_flow, evap_flow}
-use Rattle.cell_balance.proofs.Totals.{sub_mul}
+use Rattle.cell_balance.proofs.Deep.{sub_mul, Bounds, entry_bounds}
 use Rattle.cell_balance.proofs.Scaling.{max_times, min_times}
-use Rattle.cell_balance.proofs.Sided.{Bounds, entry_bounds}
-use Rattle.cell_balance.proofs.Whole.{WholeEntry, whole_fixed, whole_river, whole_drain, whole_evap}
-use Rattle.cell_balance.proofs.Within.{FixedWithin, RiverWithin, DrainWithin, EvapWithin}
+use Rattle.cell_balance.proofs.Zips.{WholeEntry, whole_fixed, whole_river, whole_drain, whole_evap, FixedWithin, RiverWithin, DrainWithin, EvapWithin}
 
 pub data Kind : Type 0 where
   OfFixed : Kind

@@ -1,17 +1,65 @@
 -- What holds the components of a problem holds the closed sets of the whole numbers of each step that it encloses.
 use Rattle.cell_balance.proofs.Common.{◌*◌, arith, length, pos, mul-pos, ◌*ℤ◌, ◌+ℤ◌, ◌-ℤ◌, ◌<ℤ◌, ◌<◌, ◌≡◌, ◌≤ℤ◌, All, Bool, List, cond, false, get_or, inl, inr}
-use Rattle.cell_balance.proofs.Common.{refl, subst, suc, sym, true, zero, ℕ, ℤ, AllZip, zero-*ℤ, ints, All-contains, Contains-get_or, IsBetweenWhole, total}
-use Rattle.cell_balance.proofs.Common.{IsHeldBelow, Reaches, deep_low, sum_inside, mul_mono_right, Entries, entries_at}
-use Rattle.cell_balance.proofs.Zips.{AllZip-length, All-zip}
-use Rattle.cell_balance.proofs.Products.{conducting}
-use Rattle.cell_balance.proofs.Sums.{sum-times, sum_at_most}
-use Rattle.cell_balance.proofs.Whole.{WholeCell, WholeEntry, whole_at, whole_deep, whole_deep_river, whole_full}
-use Rattle.cell_balance.proofs.Within.{CellWithin, FixedWithin, LinkWithin}
+use Rattle.cell_balance.proofs.Common.{refl, subst, suc, sym, true, zero, ℕ, ℤ, ◌≤◌, ◌∙◌, Contains, AllZip, zero-*ℤ, ints, All-contains, Contains-get_or}
+use Rattle.cell_balance.proofs.Common.{IsBetweenWhole, total, entries_at, no_entries, IsHeldBelow, Reaches, deep_low, sum_inside, IsCarried, mul_mono_right}
+use Rattle.cell_balance.proofs.Common.{Entries, mul-le-mul_right, Link}
+use Rattle.cell_balance.proofs.Zips.{AllZip-length, All-zip, WholeCell, WholeEntry, whole_at, whole_deep, whole_deep_river, whole_full, CellWithin, FixedWithin}
+use Rattle.cell_balance.proofs.Zips.{LinkWithin, AllZip-at, no_whole, whole_balance, IsDry}
+use Rattle.cell_balance.proofs.Scaling.{conducting}
+use Rattle.cell_balance.proofs.Sums.{sum-times, sum_at_most, sum-same, sum-zero}
 use Rattle.cell_balance.proofs.WholeBalances.{ramps_from, a_of, b_of, q_of, ramps_at_cell}
 use Rattle.cell_balance.proofs.Deep.{deep_less}
-use Rattle.cell_balance.proofs.Spread.{Reaches-more, cell_within}
 use Rattle.cell_balance.proofs.Ramps.{IsClosed, extent, deep, IsHeldFromBelow}
 use Rattle.cell_balance.proofs.Conducting.{All-back, links_lead_to_weight, weight_is_of_links, no_known_conductance, no_known_flow, total_nothing}
+use Rattle.cell_balance.proofs.Dry.{IsMutual, dry_law}
+
+-- The cells of a carried component do not all lie below their bottoms and drains.
+-- one more link at the end of a way
+pub Reaches-more : (p : List Entries) (j a k : ℕ) (x : Link) → Reaches p j a k → Contains (entries_at p k).links x → Reaches p (suc j) a x.cell
+Reaches-more p zero a k x way has = (x, subst (λ (z : ℕ). Contains (entries_at p z).links x) (sym way) has, refl)
+Reaches-more p (suc j) a k x (z, there, rest) has = (z, there, Reaches-more p j z.cell k x rest has)
+
+pub cell_within : (m n : ℕ) (p : List Entries) (w : List WholeCell) → AllZip (CellWithin m n (length p)) p w → (c : ℕ) → c < length p → CellWithin m n (length p) (entries_at p c) (whole_at w c)
+cell_within m n p w within c i = AllZip-at (CellWithin m n (length p)) p w c no_entries no_whole within i
+
+clash : (a b c : ℤ) → pos 0 <ℤ a → a ≤ℤ b → b ≤ℤ c → c ≡ pos 0 → ⊥
+clash a b c p q r z = omega (arith, ints)
+
+module _ (m n : ℕ) (some_m : 0 < m) (some_n : 0 < n) (p : List Entries) (w : List WholeCell) (Y : ℕ → ℤ)
+    (within : AllZip (CellWithin m n (length p)) p w) (both : IsMutual w)
+    (solves : (c : ℕ) → c < length w → whole_balance (whole_at w c) (Y c) Y ≡ pos 0)
+  where
+    same_length : length p ≡ length w
+    same_length = AllZip-length (CellWithin m n (length p)) p w within
+
+    -- the cells of a carried component don't all lie below their bottoms and drains
+    pub carried_not_dry : (c : ℕ) (held : IsCarried p c) (t : ℕ → ℤ) → ((k : ℕ) → k < length p → held.inside k ≡ true → (Y k ≤ℤ t k) × IsDry (t k) (whole_at w k)) → ⊥
+    carried_not_dry c held t dry =
+        let deep = sum_at_most (length p) (λ k. cond (held.inside k) (deep_low (entries_at p k)) (pos 0) *ℤ pos (m * n)) (λ k. cond (held.inside k) (whole_deep (whole_at w k)) (pos 0)) (λ k j. deep_cell k j (held.inside k)) in
+        let sum = rw (← sum-times (length p) (λ k. cond (held.inside k) (deep_low (entries_at p k)) (pos 0)) (pos (m * n)), same_length) at deep in
+        let law = dry_law w Y both held.inside t (λ k j e. dry k (rw same_length j) e) (λ k j e. closed k (rw same_length j) e) in
+        let none = sum-same (length w) (λ k. cond (held.inside k) (whole_balance (whole_at w k) (Y k) Y) (pos 0)) (λ k. pos 0) (λ k j. solved_cell k j (held.inside k)) ∙ sum-zero (length w) in
+        clash _ _ _ (positive _ (rw same_length at held.carries)) sum law none
+      where
+        closed : (k : ℕ) → k < length p → held.inside k ≡ true → All (λ x. held.inside x.cell ≡ true) (whole_at w k).links
+        closed k j e =
+            let (steps, way) = held.component.reached k e in
+            All-zip (LinkWithin m n (length p)) (λ x. held.inside x.cell ≡ true) (λ x. held.inside x.cell ≡ true) (λ x z r h. subst (λ (i : ℕ). held.inside i ≡ true) r.same h) (entries_at p k).links (whole_at w k).links (cell_within m n p w within k j).links
+            (λ g d h. held.component.whole (suc steps) _ (Reaches-more p steps c k (get_or (entries_at p k).links g d) way (Contains-get_or (entries_at p k).links g d h)))
+
+        solved_cell : (k : ℕ) → k < length w → (b : Bool) → cond b (whole_balance (whole_at w k) (Y k) Y) (pos 0) ≡ pos 0
+        solved_cell k j true = solves k j
+        solved_cell k j false = refl
+
+        deep_cell : (k : ℕ) → k < length p → (b : Bool) → (cond b (deep_low (entries_at p k)) (pos 0) *ℤ pos (m * n)) ≤ℤ cond b (whole_deep (whole_at w k)) (pos 0)
+        deep_cell k j true = deep_less m n (length p) (entries_at p k) (whole_at w k) (cell_within m n p w within k j)
+        deep_cell k j false = rw zero-*ℤ (omega (arith, ints))
+
+        positive : (s : ℤ) → pos 0 <ℤ s → pos 0 <ℤ (s *ℤ pos (m * n))
+        positive s h =
+            let one = mul_mono_right (m * n) (pos 1) s (omega (arith, ints)) in
+            let some : 1 * n ≤ m * n = mul-le-mul_right n some_m in
+            omega (arith, ints, one, some, some_n)
 
 -- a cell without a conductance to a known head has its deep flow
 deep-loose : (w : List WholeCell) (i : ℕ) → b_of w i ≡ 0 → deep (length w) (a_of w) (b_of w) (q_of w) (ramps_from 0 w) i ≡ whole_deep (whole_at w i)
@@ -26,16 +74,16 @@ deep-loose w i none =
 module _ (m n : ℕ) (some_m : 0 < m) (some_n : 0 < n) (p : List Entries) (w : List WholeCell)
     (within : AllZip (CellWithin m n (length p)) p w)
   where
-    same_length : length p ≡ length w
-    same_length = AllZip-length (CellWithin m n (length p)) p w within
+    as_many : length p ≡ length w
+    as_many = AllZip-length (CellWithin m n (length p)) p w within
 
     -- a closed set has the cells that links lead to from it
     goes_on : (S : ℕ → Bool) → IsClosed (length w) (a_of w) S → (c : ℕ) → c < length p → S c ≡ true → All (λ x. (x.cell < length p) × (S x.cell ≡ true)) (entries_at p c).links
     goes_on S closed c i inside =
         All-back (LinkWithin m n (length p)) (λ x. (x.cell < length p) × (S x.cell ≡ true)) (λ x. 0 < x.c → x.cell < length w → S x.cell ≡ true)
-        (λ x y r h. (r.range, subst (λ (z : ℕ). S z ≡ true) (sym r.same) (h (conducting m x.lo y.c some_m r.conducts r.c.lower) (omega (arith, r.range, r.same, same_length)))))
+        (λ x y r h. (r.range, subst (λ (z : ℕ). S z ≡ true) (sym r.same) (h (conducting m x.lo y.c some_m r.conducts r.c.lower) (omega (arith, r.range, r.same, as_many)))))
         (entries_at p c).links (whole_at w c).links (cell_within m n p w within c i).links
-        (links_lead_to_weight (λ k. S k ≡ true) (length w) (whole_at w c).links (λ k k_in conducts. closed c k (omega (arith, i, same_length)) k_in inside conducts))
+        (links_lead_to_weight (λ k. S k ≡ true) (length w) (whole_at w c).links (λ k k_in conducts. closed c k (omega (arith, i, as_many)) k_in inside conducts))
 
     pub along : (S : ℕ → Bool) → IsClosed (length w) (a_of w) S → (j c k : ℕ) → c < length p → S c ≡ true → Reaches p j c k → (k < length p) × (S k ≡ true)
     along S closed zero c k i inside way = (subst (λ (z : ℕ). z < length p) way i, subst (λ (z : ℕ). S z ≡ true) way inside)
@@ -53,18 +101,18 @@ module _ (m n : ℕ) (some_m : 0 < m) (some_n : 0 < n) (p : List Entries) (w : L
     -- held below
     pub held_below : IsHeldBelow p → IsHeldFromBelow (length w) (a_of w) (b_of w) (q_of w) (ramps_from 0 w)
     held_below held S closed none c h inside =
-        let i : c < length p = omega (arith, h, same_length) in
+        let i : c < length p = omega (arith, h, as_many) in
         elim (held c i) [
           | inl (j, (a, way, (x, has, conducts))) ↦
               let (a_in, there) = along S closed j c a i inside way in
-              absurd (All-contains (λ x. 0 < x.lo → ⊥) (entries_at p a).fixed x (no_fixed a a_in (none a (omega (arith, a_in, same_length)) there)) has conducts)
+              absurd (All-contains (λ x. 0 < x.lo → ⊥) (entries_at p a).fixed x (no_fixed a a_in (none a (omega (arith, a_in, as_many)) there)) has conducts)
           | inr carried ↦ (
             carried.inside,
             record {
               closed = λ k z k_in z_in k_inside conducts.
-                  weight_is_of_links (λ y. carried.inside y ≡ true) (whole_at w k).links z (closed_links carried.inside c k (omega (arith, k_in, same_length)) (λ s y way. carried.component.whole s y way) (carried.component.reached k k_inside)) conducts;
+                  weight_is_of_links (λ y. carried.inside y ≡ true) (whole_at w k).links z (closed_links carried.inside c k (omega (arith, k_in, as_many)) (λ s y way. carried.component.whole s y way) (carried.component.reached k k_inside)) conducts;
               within = λ k k_in k_inside. let (j, way) = carried.component.reached k k_inside in (along S closed j c k i inside way).1;
-              carries = sums carried.inside carried.carries (λ k k_in k_inside. let (j, way) = carried.component.reached k k_inside in none k (omega (arith, k_in, same_length)) (along S closed j c k i inside way).1);
+              carries = sums carried.inside carried.carries (λ k k_in k_inside. let (j, way) = carried.component.reached k k_inside in none k (omega (arith, k_in, as_many)) (along S closed j c k i inside way).1);
             },
           )
         ]
@@ -78,7 +126,7 @@ module _ (m n : ℕ) (some_m : 0 < m) (some_n : 0 < n) (p : List Entries) (w : L
         sums T some none =
             let less = sum_at_most (length p) (λ k. cond (T k) (deep_low (entries_at p k)) (pos 0) *ℤ pos (m * n)) (λ k. cond (T k) (deep (length w) (a_of w) (b_of w) (q_of w) (ramps_from 0 w) k) (pos 0)) (λ k k_in. cell k k_in (T k) refl) in
             let less' = rw (← sum-times (length p) (λ k. cond (T k) (deep_low (entries_at p k)) (pos 0)) (pos (m * n))) at less in
-            subst (λ (z : ℕ). pos 0 <ℤ sum_inside z T (deep (length w) (a_of w) (b_of w) (q_of w) (ramps_from 0 w))) same_length (above _ _ (positive _ (m * n) (mul-pos some_m some_n) some) less')
+            subst (λ (z : ℕ). pos 0 <ℤ sum_inside z T (deep (length w) (a_of w) (b_of w) (q_of w) (ramps_from 0 w))) as_many (above _ _ (positive _ (m * n) (mul-pos some_m some_n) some) less')
           where
             cell : (k : ℕ) → k < length p → (s : Bool) → T k ≡ s → (cond s (deep_low (entries_at p k)) (pos 0) *ℤ pos (m * n)) ≤ℤ cond s (deep (length w) (a_of w) (b_of w) (q_of w) (ramps_from 0 w) k) (pos 0)
             cell k k_in true e = rw (deep-loose w k (none k k_in e)) (deep_less m n (length p) (entries_at p k) (whole_at w k) (cell_within m n p w within k k_in))

@@ -3,10 +3,9 @@ use Rattle.cell_balance.proofs.Common.{◌≡◌, ℕ, suc, zero, ◌*◌, ◌<�
 use Rattle.cell_balance.proofs.Common.{get_or, Contains, AllZip, cases_eq, ne_eqb, eq-eqb, ints, All-get_or, le_of_mul-le-mul_right, Ratio, IsShare, ExactLink}
 use Rattle.cell_balance.proofs.Common.{ExactCell, cell_at, no_cell, HasLinkBack, AreLinked, no_link}
 use Rattle.decimal_input.specs.Ratios.{Same, den}
-use Rattle.cell_balance.proofs.Zips.{AllZip-at, AllZip-length, All-zip}
-use Rattle.cell_balance.proofs.Cancel.{weight, IsMutual}
+use Rattle.cell_balance.proofs.Zips.{AllZip-at, AllZip-length, All-zip, WholeLink, WholeCell, whole_at, no_whole}
+use Rattle.cell_balance.proofs.Dry.{weight, IsMutual}
 use Rattle.cell_balance.proofs.Over.{LinkOver, CellOver}
-use Rattle.cell_balance.proofs.Whole.{WholeLink, WholeCell, whole_at, no_whole}
 
 abbrev pub no_whole_link : WholeLink
 no_whole_link = record { cell = 0; c = 0 }

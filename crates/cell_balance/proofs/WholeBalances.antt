@@ -2,8 +2,8 @@
 use Rattle.cell_balance.proofs.Common.{[], ◌*ℤ◌, ◌+ℤ◌, ◌-ℤ◌, ◌<◌, ◌∷◌, ◌≡◌, All, List, arith, length, map, neg_ℤ, pos, refl, sym, ℕ, ℤ, int_max, *ℤ-zero}
 use Rattle.cell_balance.proofs.Common.{zero-*ℤ, clamps, ints, total, as_diff, diffs, same_diff, sum_below, ◌+◌, ◌∙◌, cond, nat_eq, subst, suc, zero, eq-eqb}
 use Rattle.cell_balance.proofs.Common.{ne_eqb, ◌++◌, None, Some}
-use Rattle.cell_balance.proofs.Cancel.{weight, by_weight}
-use Rattle.cell_balance.proofs.Whole.{WholeCell, WholeEntry, whole_at, whole_balance, whole_deep_river, whole_drain, whole_evap, whole_fixed, whole_river}
+use Rattle.cell_balance.proofs.Dry.{weight, by_weight}
+use Rattle.cell_balance.proofs.Zips.{WholeCell, WholeEntry, whole_at, whole_balance, whole_deep_river, whole_drain, whole_evap, whole_fixed, whole_river}
 use Rattle.cell_balance.proofs.Ramps.{Ramp, rise, net_flow}
 
 -- The ramps of a step in whole numbers: those of each cell are its rivers, drains and evapotranspirations.

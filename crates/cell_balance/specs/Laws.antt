@@ -6,10 +6,9 @@ use Rattle.step_problem.specs.Entries.{Entries}
 use Rattle.step_problem.specs.{IsProblem, Edges, head_at, IsCertificate, link_low, fixed_low, river_low, drain_low, evap_low, link_high, fixed_high, river_high}
 use Rattle.step_problem.specs.{drain_high, evap_high}
 use Rattle.cell_balance.specs.Steps.{ExactCell, cell_at, AreLinked, ExactLink, ExactFixed, ExactRiver, ExactDrain, ExactEvap}
-use Rattle.cell_balance.specs.Balance.{link_flow, balance, share, SolvesStep, LiesBetween, minus, fixed_flow, river_flow, drain_flow, evap_flow}
-use Rattle.cell_balance.specs.Enclosures.{EnclosesStep, LinkEncloses, FixedEncloses, RiverEncloses, DrainEncloses, EvapEncloses}
-use Rattle.cell_balance.specs.Components.{IsHeldBelow}
-use Rattle.cell_balance.specs.Deep.{total_inside, IsClosed, deep_flow, LiesBelow, deep_river, full_rate}
+use Rattle.cell_balance.specs.Balance.{link_flow, balance, share, SolvesStep, LiesBetween, minus, fixed_flow, river_flow, drain_flow, evap_flow, total_inside}
+use Rattle.cell_balance.specs.Balance.{IsClosed, deep_flow, LiesBelow, deep_river, full_rate}
+use Rattle.cell_balance.specs.Enclosures.{EnclosesStep, LinkEncloses, FixedEncloses, RiverEncloses, DrainEncloses, EvapEncloses, IsHeldBelow}
 use Rattle.step_problem.specs.declared.entry.Link.{Link}
 use Rattle.step_problem.specs.declared.entry.Fixed.{Fixed}
 use Rattle.step_problem.specs.declared.entry.River.{River}

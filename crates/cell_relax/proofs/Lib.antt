@@ -2,4 +2,3 @@ mod Common
 pub mod Sides
 pub mod Relaxing
 pub mod Orders
-pub mod Reading

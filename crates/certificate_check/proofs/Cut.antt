@@ -5,11 +5,10 @@ use Rattle.certificate_check.proofs.Common.{CertificateEncloses, FailsOnlyWhereC
 use Rattle.std.proofs.Math.IntN.{negsuc-*ℤ-pos, pos-*ℤ-pos}
 use Rattle.std.proofs.Math.Nat.{mul-le-mul_right}
 use Rattle.std.proofs.lemmas.Int.{by_lt_z, clamps, ints}
-use Rattle.decimal_input.proofs.Integers.{le-trans}
-use Rattle.decimal_input.proofs.Signs.{mul_mono_right}
+use Rattle.decimal_input.proofs.FloorLaws.{le-trans, mul_mono_right}
 use Rattle.barrier_vector.specs.{clamp, clamped, range_on}
 use Rattle.barrier_vector.proofs.Cutting.{refusal_is_one}
-use Rattle.barrier_vector.proofs.Clamping.{clamped_at}
+use Rattle.barrier_vector.proofs.Outlining.{clamped_at}
 use Rattle.certificate_check.proofs.Certified.{certificate_compares}
 
 -- a list that is related to another one place by place, with a number of each place: also past the end, where both are 0

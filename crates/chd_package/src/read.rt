@@ -17,7 +17,7 @@ use std::alloc::Global;
 /// where the first list is to be reused, OutOfProfile for parameters, another file's entries, or a head that changes in
 /// a steady period of growing steps; of an entry CellOutside, HeadTooLarge, or BadProperty where the list has named the
 /// cell before. (TM 6-A16, CHD)
-#[tactic(auto, using(list_package::proofs::GivenLaws::given_lists))]
+#[tactic(auto, using(list_package::proofs::ModelLemmas::given_lists))]
 pub fn read_chd(
     alloc: Global,
     limits: Limits,

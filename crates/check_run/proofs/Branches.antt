@@ -7,15 +7,13 @@ use Rattle.check_run.proofs.Common.{as_general, constant_faces, fixed_sources, l
 use Rattle.check_run.proofs.Common.{index_below, IsCellOf, IsFixed, IsLink, IsCellHull, AllThree, next, none, IsProblemBy, Contains-In, In-map, Face, ShareFace}
 use Rattle.check_run.proofs.Common.{cell_faces, face_between, face_from, faces, faces_by_kind, fixed_faces, link_faces, is_lower_zone, ZonePair, share_face}
 use Rattle.check_run.proofs.Common.{joins, face_of, join_of, shares, AllZip-at, AllZip-length, flat-In, IsProblemOf, AllZip-weaker, ToConstant, ToGeneral}
-use Rattle.check_run.proofs.Common.{FromStorage}
+use Rattle.check_run.proofs.Common.{FromStorage, In-append, In-variable, variable-In, fixed_source, constant_active, variable_active}
 use Rattle.step_problem.specs.declared.entry.Fixed.{Fixed}
 use Rattle.step_problem.specs.declared.entry.FixedKind.TheVariants.{Constant, Storage, General}
 use Rattle.step_problem.specs.declared.entry.Link.{Link}
 use Rattle.model_types.proofs.Members.{In}
-use Rattle.problem_builder.proofs.Members.{In-append, In-variable, variable-In, fixed_source}
 use Rattle.model_types.proofs.Leads.{end_within, face_back, faces_are, faces_have, passing_are, turned, IsFaceOf, passing_have}
 use Rattle.model_types.specs.declared.face.Face.{Face as ModelFace}
-use Rattle.problem_builder.proofs.ActiveCells.{constant_active, variable_active}
 use Rattle.problem_builder.proofs.Zipped.{left_of, right_of}
 use Rattle.std.specs.Option.{option_to_list}
 

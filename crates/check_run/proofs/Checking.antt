@@ -6,7 +6,7 @@ use Rattle.check_run.proofs.Common.{AreListed, IsListedStep, step_in, BoundsMove
 use Rattle.check_run.proofs.Common.{heads_before, Passes, Checks, StopsAt, IsVerdict, ListingEncloses, checked_task, step_of, steps_of, Decks, AreDecks}
 use Rattle.check_run.proofs.Common.{EachMember, HaveOneHistory, histories_bound, AreStartHeadsFor}
 use Rattle.check_run.proofs.Passed.{ArePassed, all_move, have_one}
-use Rattle.check_run.proofs.Listed.{grid_of}
+use Rattle.check_run.proofs.RunText.{grid_of}
 use Rattle.check_run.specs.declared.listing.CheckFault.TheVariants as fault
 
 -- what holds of the heads before a step and of the step, as they were lent

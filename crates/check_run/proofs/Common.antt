@@ -10,10 +10,9 @@ pub use Rattle.std.proofs.lemmas.List.Elements.{All-contains_itself, All-head, A
 pub use Rattle.std.proofs.lemmas.Result.{err_from_is_err_and}
 pub use Rattle.std.specs.List.{AllByRecursion, AllZip, concat, filter_map, flat_map}
 pub use Rattle.std.specs.Prelude.{IfErr, IfSome, filter, if◌then◌else◌, nat_lt, slice_index}
-pub use Rattle.budget_bounds.specs.{BudgetEncloses, CoverEncloses, EnclosesBudgets, HeadsAreWithin, IsFirstUncovered, all_terms, is_small, line_of, no_pair}
-pub use Rattle.budget_bounds.specs.{term_limit, too_large}
+pub use Rattle.budget_bounds.specs.{BudgetEncloses, CoverEncloses, Covers, EnclosesBudgets, HeadsAreWithin, IsFirstUncovered, all_terms, is_small, line_of}
+pub use Rattle.budget_bounds.specs.{no_pair, term_limit, too_large}
 unfoldable pub use Rattle.budget_bounds.specs.{budget_of, parts, singles, term_of, term_pair, terms_of}
-pub use Rattle.budget_bounds.specs.Covers.{Covers}
 pub use Rattle.budget_bounds.specs.declared.pair.Budget.{Budget}
 pub use Rattle.budget_bounds.specs.declared.pair.TermPair.{TermPair}
 pub use Rattle.cell_balance.proofs.Zips.{AllZip-at, AllZip-length, AllZip-right}
@@ -29,7 +28,7 @@ pub use Rattle.check_run.specs.declared.listing.CheckFault.{CheckFault}
 pub use Rattle.check_run.specs.declared.verdict.ListingVerdict.{ListingVerdict}
 pub use Rattle.check_run.specs.declared.verdict.ListingVerdict.TheVariants.{Certified, Fails, Refused}
 pub use Rattle.decimal_input.specs.{EnclosesSigned, Fraction}
-pub use Rattle.deck_problems.proofs.Members.{HasCellsOf, cell_of_member, constant_same, each_member, encloses_member, member_cells, of_member}
+pub use Rattle.deck_problems.proofs.OneProblem.{HasCellsOf, cell_of_member, constant_same, each_member, encloses_member, member_cells, of_member}
 pub use Rattle.deck_problems.specs.{AreConstantHeadsFor, AreDeckTables, AreDecks, AreStartHeadsFor, ConstantPairEncloses, ConstantPairIsOne, EachMember}
 pub use Rattle.deck_problems.specs.{EnclosesSteps, HoldsOf, IsBefore, IsMember, IsProblemBy, IsProblemFor, ProblemExcludesRefusal, ProblemFits, ProblemIsOne}
 pub use Rattle.deck_problems.specs.{StartHeadsAreOne, StartHeadsFit, digits_of}
@@ -44,8 +43,7 @@ pub use Rattle.listing_io.specs.declared.listing.ListedStep.{ListedStep}
 pub use Rattle.listing_run.proofs.HistoriesBound.{AllBoundMoves, BoundsMovesOf, histories_bound}
 pub use Rattle.listing_run.proofs.Unique.{IsRest, first_in, ok_not_err, one_err, one_ok, rest_more, rest_whole}
 pub use Rattle.listing_run.specs.{AllSteps, AreFlowsOf, BoundAll, BoundBetween, Bounds, BoundsMoves, EnclosesHistories, HasLargeFlowOf, HistoriesBound, IsStep}
-pub use Rattle.listing_run.specs.{budget_at, deck_task, faces_of, is_between, listing, pairs_of, text_of}
-pub use Rattle.listing_run.specs.Steps.{Steps}
+pub use Rattle.listing_run.specs.{Steps, budget_at, deck_task, faces_of, is_between, listing, pairs_of, text_of}
 pub use Rattle.listing_run.specs.declared.solving.Step.{Step}
 pub use Rattle.listing_run.specs.declared.steps.Task.{Task}
 pub use Rattle.listing_run.specs.declared.text.ListingEnd.TheVariants.{Whole}
@@ -58,6 +56,7 @@ pub use Rattle.model_types.specs.declared.limits.Limits.{Limits}
 pub use Rattle.model_types.specs.declared.model.FlowModel.{FlowModel}
 pub use Rattle.model_types.specs.declared.time_steps.TimeStep.{TimeStep}
 pub use Rattle.problem_builder.proofs.Joined.{AllZip-weaker}
+pub use Rattle.problem_builder.proofs.Members.{In-Contains, In-append, In-variable, constant_active, fixed_source, variable-In, variable_active}
 pub use Rattle.problem_builder.proofs.TimesOf.{flat-In, time_of}
 pub use Rattle.problem_builder.specs.{AreGridHeads, HeadsEnclose, IsActive, IsCellOf, IsEvap, IsFixed, IsLink, IsProblemOf}
 pub use Rattle.problem_hull.specs.{AllThree, IsCellHull, IsHullOf, evap_hull, evap_shape, fixed_hull, fixed_shape, link_hull, link_shape}
@@ -80,8 +79,7 @@ pub use Rattle.step_problem.specs.declared.place.ZoneFlow.{ZoneFlow}
 pub use Rattle.zone_flows.specs.{AreZoneFlows, EncloseExact, Face, IsBeforeAll, IsZoneFlow, PairsAscend, ShareFace, exact_faces, exact_flow, face_between}
 pub use Rattle.zone_flows.specs.{faces_by_kind, fixed_faces, flows_between, is_lower_zone, key_of, link_faces}
 unfoldable pub use Rattle.zone_flows.specs.{cell_faces, face_from, faces}
-pub use Rattle.zone_pairs.proofs.Joined.{any_in, face_of, in_any, join_of, shared_small, shares}
-pub use Rattle.zone_pairs.proofs.Small.{are_numbers, pairs_small}
+pub use Rattle.zone_pairs.proofs.Joined.{any_in, are_numbers, face_of, in_any, join_of, pairs_small, shared_small, shares}
 pub use Rattle.zone_pairs.specs.{AreNumbers, joins, pair_of, pairs_below, pairs_in, share_face, zones_of_flow}
 unfoldable pub use Rattle.zone_pairs.specs.{zone_pairs}
 pub use Rattle.zone_pairs.specs.declared.pair.ZonePair.{ZonePair}

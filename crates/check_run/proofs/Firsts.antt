@@ -2,9 +2,8 @@
 use Rattle.check_run.proofs.Common.{◌≡◌, ◌∙◌, ℕ, ◌<◌, inl, inr, List, [], ◌∷◌, Option, Some, None, refl, sym, ap, subst, arith, AllZip, cases_order, Side, Low}
 use Rattle.check_run.proofs.Common.{High, Dir, Out, Bound, NoBound, Term, ZoneFlow, Entries, Budget, IsFirstUncovered, line_of, AreFlowsOf, HasLargeFlowOf}
 use Rattle.check_run.proofs.Common.{faces_of, CoversFlow, IsFirstNarrow, In, length, map, get_or, pos, get_or-map, length-map, ZonePair, zones_of_flow}
-use Rattle.budget_bounds.proofs.Covering.{same_place}
-use Rattle.budget_bounds.proofs.Ordered.{place_within}
-use Rattle.zone_flows.proofs.Unique.{flows_are_one, flows_exclude_refusal, refusal_is_one}
+use Rattle.budget_bounds.proofs.Enclosed.{same_place, place_within}
+use Rattle.zone_flows.proofs.Fitting.{flows_are_one, flows_exclude_refusal, refusal_is_one}
 use Rattle.step_problem.specs.declared.place.Place.TheVariants as places
 
 module _ (H : ℕ → Side → Type 0) where

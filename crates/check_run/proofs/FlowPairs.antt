@@ -1,20 +1,22 @@
 -- The flows between zones of a step's problem have the pairs of zones of the step's period.
-use Rattle.check_run.proofs.Common.{◌≡◌, inl, inr, ℕ, ◌/◌, ◌%◌, ◌<◌, ◌≤◌, Bool, true, List, [], ◌∷◌, map, refl, sym, ap, ◌∙◌, subst, arith, filter, Option}
-use Rattle.check_run.proofs.Common.{Some, None, AllByRecursion, nat_tests, recursion_from_All, Bound, ZoneFlow, Entries, lower_at, upper_at, In-map, map-In}
-use Rattle.check_run.proofs.Common.{Face, Decks, AreZoneFlows, IsBeforeAll, IsZoneFlow, PairsAscend, ShareFace, ZonePair, pair_of, pairs_below, zones_of_flow}
-use Rattle.check_run.proofs.Common.{any_in, in_any, AreNumbers, AreFlowsOf, faces_of, pairs_in, share_face, zone_pairs, shared_small, HasSize, TimeStep}
-use Rattle.check_run.proofs.Common.{IsProblemFor, key_of}
+use Rattle.check_run.proofs.Common.{◌≡◌, inl, inr, ℕ, ◌/◌, ◌%◌, ◌<◌, ◌≤◌, Bool, true, List, [], ◌∷◌, map, refl, sym, ap, ◌∙◌, subst, arith, Option, Some, None}
+use Rattle.check_run.proofs.Common.{ℤ, filter, IfSome, AllByRecursion, nat_tests, recursion_from_All, Bound, ZoneFlow, Entries, lower_at, upper_at, In-map}
+use Rattle.check_run.proofs.Common.{map-In, Face, AreZoneFlows, IsBeforeAll, IsZoneFlow, PairsAscend, ShareFace, key_of, EncloseExact, Decks, ZonePair, pair_of}
+use Rattle.check_run.proofs.Common.{pairs_below, zones_of_flow, AreNumbers, pairs_in, share_face, zone_pairs, any_in, in_any, shared_small, AreFlowsOf}
+use Rattle.check_run.proofs.Common.{faces_of, BoundAll, Bounds, EnclosesHistories, AllSteps, IsStep, BoundBetween, HistoriesBound, deck_task, HasSize}
+use Rattle.check_run.proofs.Common.{start_head, times, TimeStep, IsProblemFor, In-Contains, Fraction, BudgetEncloses, exact_step, heads_of, variable_heads}
+use Rattle.check_run.proofs.Common.{FlowModel, Task, Step, Whole, Steps, as_listed, ListingEncloses, checked_task, step_of, steps_of, Limits}
 use Rattle.model_types.proofs.Members.{In}
 use Rattle.std.specs.BTreeMap.{is_at}
 use Rattle.std.specs.List.Sorted.{IsStrictlySortedBy}
 use Rattle.std.specs.Ordering.{nat_cmp}
 use Rattle.std.specs.declared.cmp.Ordering.TheVariants.{Less}
-use Rattle.barrier_vector.proofs.Surveying.{same_tests}
-use Rattle.problem_builder.proofs.Named.{In-Contains}
+use Rattle.barrier_vector.proofs.Uniques.{same_tests}
 use Rattle.zone_flows.proofs.Pairing.{before_key, its_key}
 use Rattle.zone_flows.proofs.Sums.{same_key}
 use Rattle.zone_pairs.proofs.InOrder.{Ascend, has, pairs_are}
 use Rattle.check_run.proofs.Branches.{HaveBranches, face_shares, have_branches, shared_has, zones_of_face}
+use Rattle.deck_span.specs.{SolvesBetweenFrom}
 
 abbrev flow_key : ZoneFlow → ℕ
 flow_key v = key_of v.from v.to
@@ -93,3 +95,41 @@ flows_have_pairs ds s at old p size is heads (Some zones) flows zoned are =
     let branches : HaveBranches m at.period p = have_branches m ds.second s at old p is in
     flow_pairs (faces_of p heads zones) (share_face m zones at.period) (shared_small m zones zoned at.period)
     (face_shares zones (lower_at heads) (upper_at heads) m at.period size p branches) (shared_has zones (lower_at heads) (upper_at heads) m at.period size p branches) flows are
+
+-- What the steps of a run enclose, their listing encloses.
+module _ (limits : Limits) (ds : Decks) (s : ℕ) (zones : Option (List ℕ)) (rounds : ℕ) (quick : Bool) where
+  abbrev task : Task
+  task = deck_task limits ds s zones rounds quick
+
+  step_bounds : (m : FlowModel) (at : TimeStep) (old : List Bound) (v : Step) (before : ℕ → Fraction) (d : ℕ) (X : ℕ → ℤ) → IsStep task at old v → Bounds task m v before d X → Bounds (checked_task ds s zones) m (step_of at (as_listed v)) before d X
+  step_bounds m at old v before d X is b =
+      let B : TimeStep → Type 0 = λ t. BudgetEncloses s (exact_step m t.period t.step before) (heads_of d (variable_heads (exact_step m t.period t.step before) X)) v.budget in
+      let Z : TimeStep → Type 0 = λ t. IfSome zones (λ z. EncloseExact s (exact_step m t.period t.step before) z (heads_of d X) v.zones) in
+      record { heads = b.heads; budget = subst B is.time b.budget; zones = subst Z is.time b.zones }
+
+  all_bounds : (m : FlowModel) (d : ℕ) (old : List Bound) (before : ℕ → Fraction) (rest : List TimeStep) (values : List Step) (Xs : List (ℕ → ℤ)) → Steps task old rest values Whole → BoundAll task m d before values Xs →
+      BoundAll (checked_task ds s zones) m d before (steps_of rest (map as_listed values)) Xs
+  all_bounds m d old before [] [] [] h b = tt
+  all_bounds m d old before [] [] (X ∷ Xs) h b = absurd b
+  all_bounds m d old before [] (v ∷ values) Xs h b = absurd h
+  all_bounds m d old before (at ∷ rest) [] Xs h b = absurd h
+  all_bounds m d old before (at ∷ rest) (v ∷ values) [] h b = absurd b
+  all_bounds m d old before (at ∷ rest) (v ∷ values) (X ∷ Xs) (is, h) (b, more) = (step_bounds m at old v before d X is b, all_bounds m d v.heads (heads_of d X) rest values Xs h more)
+
+  between_bounds : (a b : FlowModel) (d : ℕ) (old : List Bound) (before : ℕ → Fraction) (rest : List TimeStep) (values : List Step) (Xs : List (ℕ → ℤ)) (h : SolvesBetweenFrom a b d before rest Xs) → Steps task old rest values Whole →
+      BoundBetween task a b d before rest values Xs h → BoundBetween (checked_task ds s zones) a b d before rest (steps_of rest (map as_listed values)) Xs h
+  between_bounds a b d old before [] [] [] h steps c = tt
+  between_bounds a b d old before [] [] (X ∷ Xs) h steps c = absurd c
+  between_bounds a b d old before [] (v ∷ values) Xs h steps c = absurd steps
+  between_bounds a b d old before (at ∷ rest) [] Xs h steps c = absurd steps
+  between_bounds a b d old before (at ∷ rest) (v ∷ values) [] h steps c = absurd c
+  between_bounds a b d old before (at ∷ rest) (v ∷ values) (X ∷ Xs) h (is, steps) (c, more) =
+      (step_bounds h.0.model at old v before d X is c, between_bounds a b d v.heads (heads_of d X) rest values Xs h.1 steps more)
+
+  histories_enclosed : (a : FlowModel) (o : Option FlowModel) (start : List Bound) (values : List Step) → Steps task start (times a) values Whole → HistoriesBound task a o values →
+      HistoriesBound (checked_task ds s zones) a o (steps_of (times a) (map as_listed values))
+  histories_enclosed a None start values h encloses = λ d Xs solves. all_bounds a d start (start_head a) (times a) values Xs h (encloses d Xs solves)
+  histories_enclosed a (Some b) start values h encloses = λ d Xs solves. between_bounds a b d start (start_head solves.first) (times a) values Xs solves.steps h (encloses d Xs solves)
+
+  pub run_encloses : (values : List Step) → AllSteps task values Whole → EnclosesHistories task values → ListingEncloses ds s zones (map as_listed values)
+  run_encloses values h encloses = histories_enclosed ds.first ds.second h.start values h.steps encloses

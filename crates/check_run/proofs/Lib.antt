@@ -1,7 +1,6 @@
 mod Common
 pub mod Firsts
 pub mod Reached
-pub mod Listed
 pub mod Passing
 pub mod Outcomes
 pub mod OneVerdict
@@ -9,9 +8,7 @@ pub mod Branches
 pub mod FlowPairs
 pub mod Passed
 pub mod Checking
-pub mod DeckCells
 pub mod RunSteps
 pub mod RunTerms
 pub mod RunListed
 pub mod RunText
-pub mod RunEnclosed

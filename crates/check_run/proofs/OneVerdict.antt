@@ -13,7 +13,7 @@ use Rattle.deck_problems.specs.{RefusalIsOne as ProblemRefusalIsOne}
 use Rattle.step_chain.proofs.Refusals.{poses_one, posed_excludes as step_posed_excludes}
 use Rattle.check_run.specs.{budget_at}
 use Rattle.check_run.proofs.Firsts.{IsFirst, first_one, large_one, narrow_one, never_narrow, none_large, same_flows, term_one}
-use Rattle.check_run.proofs.Listed.{grid_of}
+use Rattle.check_run.proofs.RunText.{grid_of}
 use Rattle.step_problem.specs.declared.place.Place.TheVariants as places
 
 -- what the check of one step says

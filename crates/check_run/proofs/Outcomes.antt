@@ -5,7 +5,7 @@ use Rattle.check_run.proofs.Common.{IsFirstFailing, TimeStep, times, bound_at, B
 use Rattle.check_run.proofs.Common.{IsUncovered, ConstantsReach, IsFirstShort, variable_bounds, HeadsHold, Passes, TermsHold, at_constant, at_variable, at_term}
 use Rattle.check_run.proofs.Common.{at_zones, no_budget, no_flows, checked_task, step_of, Decks, AreDecks, ConstantPairEncloses, each_member, BoundsMovesOf}
 use Rattle.check_run.specs.declared.posed.Posed.{Posed}
-use Rattle.check_run.proofs.Listed.{bounds_are}
+use Rattle.check_run.proofs.RunText.{bounds_are}
 use Rattle.check_run.proofs.Passing.{member_moves}
 use Rattle.step_problem.specs.declared.place.Place.TheVariants as places
 use Rattle.check_run.specs.declared.listing.CheckFault.TheVariants as fault

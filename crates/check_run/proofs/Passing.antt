@@ -9,11 +9,10 @@ use Rattle.check_run.proofs.Common.{ConstantPairEncloses, HasCellsOf, cell_of_me
 use Rattle.check_run.proofs.Common.{EnclosesStep, CellEncloses, IsMove, LiesWithin, AllZip-at, AllZip-length, get_or, EnclosesSigned, ExactCell, LiesBetween}
 use Rattle.decimal_input.specs.Fractions.{den}
 use Rattle.problem_builder.specs.GridHeads.{IsNamed}
-use Rattle.decimal_input.proofs.Enclosing.{whole_signed}
-use Rattle.cell_balance.proofs.Totals.{le_trans_z}
-use Rattle.listing_run.proofs.Zoned.{flows_enclose, heads_named, within_enclosed}
-use Rattle.check_run.proofs.Listed.{variable_listed}
-use Rattle.decimal_input.proofs.Signs.{mul_mono_right}
+use Rattle.decimal_input.proofs.FloorLaws.{whole_signed, mul_mono_right}
+use Rattle.cell_balance.proofs.Deep.{le_trans_z}
+use Rattle.listing_run.proofs.Moves.{flows_enclose, heads_named, within_enclosed}
+use Rattle.check_run.proofs.RunText.{variable_listed}
 
 -- the head x over d lies within a bound
 record Holds (b : Bound) (d : ℕ) (x : ℤ) : Type 0 where

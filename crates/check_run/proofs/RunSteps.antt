@@ -1,14 +1,20 @@
 -- The steps of a run pass the check.
-use Rattle.check_run.proofs.Common.{Limits, ◌≡◌, ℕ, ◌<◌, inl, List, [], ◌∷◌, length, map, get_or, Ok, refl, sym, ap, ◌∙◌, subst, arith, Option, AllZip, ints}
-use Rattle.check_run.proofs.Common.{get_or-map, length-map, Bound, Side, Low, High, ZoneFlow, Entries, no_bound, lower_at, upper_at, IsCertificate, Budget}
-use Rattle.check_run.proofs.Common.{budget_of, TimeStep, cell_count, is_variable, variable_cells, times, IsAt, is_at, below_is, index_is, AreGridHeads, Solved}
-use Rattle.check_run.proofs.Common.{bound_at, HeadsFit, Task, Step, Whole, IsStep, Steps, budget_at, IsRest, first_in, rest_more, rest_whole, Certified}
-use Rattle.check_run.proofs.Common.{CoversFlow, ConstantsReach, ReachesOn, variable_bounds, RunIsCertified, as_listed, Passes, Checks, same_bounds, IsProblem}
-use Rattle.check_run.proofs.Common.{ConstantPairIsOne, IsBefore, ProblemFits, StartHeadsFit, deck_task, Decks, AreDecks, PairKind, IsStepBy, pairs_of, Bool}
-use Rattle.check_run.proofs.Common.{edges_by, pair_words}
-use Rattle.check_run.proofs.DeckCells.{decks_ids}
+use Rattle.check_run.proofs.Common.{Limits, ◌≡◌, ℕ, ◌<◌, inl, List, [], ◌∷◌, length, map, get_or, Ok, refl, sym, ap, ◌∙◌, subst, arith, Option, Bool, Some}
+use Rattle.check_run.proofs.Common.{None, AllZip, ints, get_or-map, length-map, Bound, Side, Low, High, ZoneFlow, Entries, no_bound, lower_at, upper_at}
+use Rattle.check_run.proofs.Common.{IsCertificate, IsProblem, PairKind, Budget, budget_of, TimeStep, cell_count, is_variable, variable_cells, times, IsAt}
+use Rattle.check_run.proofs.Common.{is_at, below_is, index_is, AreGridHeads, Solved, bound_at, HeadsFit, IsStepBy, edges_by, Task, Step, Whole, IsStep}
+use Rattle.check_run.proofs.Common.{budget_at, deck_task, pairs_of, Steps, IsRest, first_in, rest_more, rest_whole, Certified, CoversFlow, ConstantsReach}
+use Rattle.check_run.proofs.Common.{ReachesOn, variable_bounds, RunIsCertified, as_listed, Passes, Checks, same_bounds, pair_words, ConstantPairIsOne, IsBefore}
+use Rattle.check_run.proofs.Common.{ProblemFits, StartHeadsFit, AreDecks, IsProblemBy, Decks, FlowModel}
 use Rattle.listing_run.specs.{AreFlowsAt}
-use Rattle.check_run.proofs.Listed.{count_is}
+use Rattle.check_run.proofs.RunText.{count_is}
+use Rattle.problem_builder.proofs.CellEnclosed.{ids_are}
+use Rattle.deck_problems.proofs.HullFor.{hull_ids}
+
+-- The cells of the problem of decks are the variable cells of the first.
+pub decks_ids : (a : FlowModel) (o : Option FlowModel) (s : ℕ) (at : TimeStep) (old : List Bound) (p : List Entries) → IsProblemBy a o s at old p → map (λ (e : Entries). e.id) p ≡ variable_cells a at.period
+decks_ids a None s at old p is = ids_are a is.widths s at old p is.cells
+decks_ids a (Some b) s at old p is = hull_ids is.first is.second p is.hull ∙ ids_are a is.is_first.widths s at old is.first is.is_first.cells
 
 reaches : (side : Side) (listed pair : Bound) → (listed.low ≡ pair.low) × (listed.high ≡ pair.high) → ReachesOn side listed pair
 reaches Low listed pair same = omega (arith, ints, same.0)

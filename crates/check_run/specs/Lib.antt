@@ -1,7 +1,6 @@
 pub mod Steps
 pub mod Verdicts
 pub mod Parts
-
 pub use Rattle.check_run.specs.Parts.{AreNarrow, ArePosed, AreWide, FailsBy, IsCovered, IsUncovered, IsUnposed, IsVerdictAt, heads_before, of_barrier, of_build}
 pub use Rattle.check_run.specs.Parts.{of_flows}
 pub use Rattle.check_run.specs.Steps.{ConstantsReach, CoversFlow, FailsAt, HeadsHold, IsConstantCell, IsFirstNarrow, IsFirstShort, IsRefused, Passes, ReachesAt}

@@ -9,8 +9,7 @@ use Rattle.step_problem.specs.declared.place.ZoneFlow.{ZoneFlow}
 use Rattle.step_problem.specs.Entries.{Entries}
 use Rattle.step_problem.specs.{lower_at, upper_at}
 use Rattle.budget_bounds.specs.declared.pair.Budget.{Budget}
-use Rattle.budget_bounds.specs.Covers.{Covers}
-use Rattle.budget_bounds.specs.{IsFirstUncovered, EnclosesBudgets, budget_of}
+use Rattle.budget_bounds.specs.{Covers, IsFirstUncovered, EnclosesBudgets, budget_of}
 use Rattle.barrier_vector.specs.{EnclosesUncut}
 use Rattle.barrier_vector.specs.declared.BarrierFault.{BarrierFault}
 use Rattle.barrier_vector.specs.declared.BarrierFault.TheVariants as barrier

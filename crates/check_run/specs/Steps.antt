@@ -11,8 +11,7 @@ use Rattle.step_problem.specs.declared.place.ZoneFlow.{ZoneFlow}
 use Rattle.step_problem.specs.Entries.{Entries}
 use Rattle.step_problem.specs.{entries_at, Edges, lower_at, upper_at, IsCertificate}
 use Rattle.budget_bounds.specs.declared.pair.Budget.{Budget}
-use Rattle.budget_bounds.specs.Covers.{Covers}
-use Rattle.budget_bounds.specs.{IsFirstUncovered, budget_of}
+use Rattle.budget_bounds.specs.{Covers, IsFirstUncovered, budget_of}
 use Rattle.certificate_check.specs.{IsFirstFailing}
 use Rattle.model_types.specs.declared.limits.Limits.{Limits}
 use Rattle.model_types.specs.declared.time_steps.TimeStep.{TimeStep}

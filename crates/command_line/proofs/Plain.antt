@@ -1,9 +1,16 @@
 -- The number that a text writes plainly.
 use Rattle.command_line.proofs.Common.{◌≡◌, ℕ, Bool, true, false, ◌≤◌, ◌<◌, ◌^◌, List, Some, None, Ok, Err, Result, decimal, refl, sym, ap, subst, ◌∙◌, arith}
-use Rattle.command_line.proofs.Common.{bytes_eq, digits_value, ParsesUnsigned, leb-true, le-leb, is_number, number_in}
-use Rattle.std.proofs.Common.{◌&&◌, nat_le}
+use Rattle.command_line.proofs.Common.{◌≢◌, [], ◌∷◌, Option, inl, inr, bytes_eq, digits_value, ParsesUnsigned, leb-true, le-leb, is_number, number_in}
+use Rattle.command_line.proofs.Common.{heads_app, wanted_of, wanted_if, command_in, is_simple, is_simple_and_free, App, Text, Kinds, HasKind, IsAmong, kind_of}
+use Rattle.command_line.proofs.Common.{fault_of, HasMatchesOf, subcommand_of, subcommand_rows_of}
+use Rattle.std.proofs.Common.{◌&&◌, nat_le, option_and_then}
 use Rattle.std.proofs.lemmas.Fmt.{parse-decimal, decimal_is_IsNumeral}
 use Rattle.std.proofs.lemmas.Slice.Eq.{bytes_eq-Decides}
+use Rattle.clap.proofs.OnLiterals.{clap_on_literals}
+use Rattle.clap.specs.declared.error.Error.{Error}
+use Rattle.clap.specs.declared.error.kind.ErrorKind.{ErrorKind}
+use Rattle.clap.specs.declared.parser.matches.ArgMatches.{ArgMatches}
+use Rattle.clap.specs.declared.error.kind.ErrorKind.TheVariants as kind
 
 -- where the test holds
 holds : (low high : ℕ) (text : List ℕ) → is_number low high text (digits_value 10 text) ≡ true → number_in low high text ≡ Some (digits_value 10 text)
@@ -62,3 +69,31 @@ other_number low high n text r parses is small none = no_number low high text (�
     let same : digits_value 10 text ≡ n = ap (number_of 0) (sym e ∙ is) in
     let P : ℕ → Type 0 = λ k. is_number low high text k ≡ true in
     none (subst P same t))
+
+-- The command line is one that clap's clauses are exact of.
+pub heads_simple : is_simple heads_app ≡ true
+unfolding clap_on_literals
+heads_simple = refl
+
+pub heads_free : is_simple_and_free heads_app ≡ true
+unfolding clap_on_literals
+heads_free = refl
+
+-- From clap's clauses to what the words ask for.
+among_none : (k : ErrorKind) (kinds : Kinds) (found : Option (Text × List _)) → IsAmong k kinds → wanted_if kinds found ≡ None
+among_none k [] found h = absurd h
+among_none k (x ∷ kinds) found h = refl
+
+pub usage_at_err : (words : List Text) (a : App) (e : Error) → a ≡ heads_app → (is_simple_and_free a ≡ true → HasKind (fault_of a words) e) → kind_of e ≢ kind.OutOfMemory → wanted_of words ≡ None
+usage_at_err words a e same kinds other = by_kind (let P : App → Type 0 = λ a. HasKind (fault_of a words) e in subst P same (kinds (ap is_simple_and_free same ∙ heads_free)))
+  where
+    by_kind : HasKind (fault_of heads_app words) e → wanted_of words ≡ None
+    by_kind (inl h) = absurd (other h)
+    by_kind (inr h) = among_none (kind_of e) (fault_of heads_app words) (subcommand_of heads_app words) h
+
+pub order_at_ok : (words : List Text) (a : App) (m : ArgMatches) → a ≡ heads_app → (is_simple_and_free a ≡ true → fault_of a words ≡ []) → HasMatchesOf a words m → wanted_of words ≡ option_and_then (λ p. command_in p.0 p.1) (subcommand_rows_of m)
+order_at_ok words a m same faults matches =
+    let none : fault_of heads_app words ≡ [] = (let P : App → Type 0 = λ a. fault_of a words ≡ [] in subst P same (faults (ap is_simple_and_free same ∙ heads_free))) in
+    let rows : subcommand_rows_of m ≡ subcommand_of heads_app words = (matches (ap is_simple same ∙ heads_simple)).1 ∙ ap (λ a. subcommand_of a words) same in
+    let P : Kinds → Type 0 = λ ks. wanted_if ks (subcommand_of heads_app words) ≡ option_and_then (λ p. command_in p.0 p.1) (subcommand_rows_of m) in
+    subst P (sym none) (ap (option_and_then (λ p. command_in p.0 p.1)) (sym rows))

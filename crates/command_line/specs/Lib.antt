@@ -1,7 +1,6 @@
 pub mod Commands
 pub mod Wants
 pub mod Ranges
-
 pub use Rattle.command_line.specs.Commands.{IsLocal, batch_app, check_app, flag, heads_app, make_app, needing, option, run_app, settling, usage_line, word}
 pub use Rattle.command_line.specs.Commands.{write_app}
 pub use Rattle.command_line.specs.Ranges.{IsInRange}

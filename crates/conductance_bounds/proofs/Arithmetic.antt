@@ -3,7 +3,7 @@ use Rattle.conductance_bounds.proofs.Common.{ℕ, zero, suc, ◌+◌, ◌*◌, �
 use Rattle.conductance_bounds.proofs.Common.{ints, clamps, AtMost, plus, times, over, up, down, AtMost-trans, plus-AtMost, times-AtMost, over-AtMost, ten_pos}
 use Rattle.conductance_bounds.proofs.Common.{cross_of, Sd, value, IsDown, IsUp, IsNear, HasSize, Span, IsOrdered, reach, mul-pos, AreOperands}
 use Rattle.scaled_decimal.specs.{IsWithin}
-use Rattle.conductance_bounds.proofs.Enclosing.{positive_value}
+use Rattle.conductance_bounds.proofs.Manual.{positive_value}
 
 near_by : (e : ℤ) (n : ℕ) → unsigned_abs e ≤ n → IsNear e n
 near_by (pos k) n h = record { above = omega (arith, ints, h); below = omega (arith, ints, h) }

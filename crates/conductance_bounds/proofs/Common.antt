@@ -17,11 +17,11 @@ unfoldable pub use Rattle.conductance_bounds.specs.{power_term, reach, sum_term}
 pub use Rattle.conductance_bounds.specs.declared.pair.Pair.{Pair}
 pub use Rattle.conductance_bounds.specs.declared.span.Span.{Span}
 pub use Rattle.decimal_input.proofs.Differences.{as_diff, diffs, same_diff}
+pub use Rattle.decimal_input.proofs.FloorLaws.{add_times, cancel_right, mul_mono_right, neg_times, one_ceiling, one_floor, swap}
 pub use Rattle.decimal_input.proofs.Orders.{AtMost-refl, AtMost-trans, Same-AtMost, Same-back, Same-sym, Same-trans, den_over, den_plus, den_times, num_over}
 pub use Rattle.decimal_input.proofs.Orders.{num_plus, num_times, over-AtMost, plus-AtMost, times-AtMost}
 pub use Rattle.decimal_input.proofs.Powers.{cross_of, den_scaled, num_scaled, power_within, scaled-AtMost, scaled_shift, ten_pos}
 pub use Rattle.decimal_input.proofs.SameNumbers.{Same-self, over-Same, over-positive, plus-Same, plus-positive, times-Same, times-positive}
-pub use Rattle.decimal_input.proofs.Signs.{add_times, cancel_right, mul_mono_right, neg_times, swap}
 pub use Rattle.decimal_input.specs.{Encloses, EnclosesSigned, Fraction, IsCeiling, IsCeilingPast, IsFloor, IsFloorPast, IsSignedCeiling, IsSignedFloor, Passes}
 pub use Rattle.decimal_input.specs.{Ratio, Reaches, down, number, over, signed, size, up, with_sign}
 unfoldable pub use Rattle.decimal_input.specs.{ratio, scaled}

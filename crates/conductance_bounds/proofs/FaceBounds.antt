@@ -7,8 +7,7 @@ use Rattle.conductance_bounds.proofs.Common.{IsPair, face_term, column_k_term, t
 use Rattle.model_types.specs.declared.face.Axis.{Axis}
 use Rattle.model_types.specs.declared.face.Axis.TheVariants.{Row, Column, Vertical}
 use Rattle.conductance_bounds.proofs.LayerBounds.{IsLayerHalf, IsBedded, layers_enclose, is_some, is_zero}
-use Rattle.conductance_bounds.proofs.Manual.{row_pair_encloses}
-use Rattle.conductance_bounds.proofs.Positive.{size_positive}
+use Rattle.conductance_bounds.proofs.Manual.{row_pair_encloses, size_positive}
 use Rattle.conductance_bounds.proofs.Ready.{IsReady, is_ready}
 use Rattle.conductance_bounds.proofs.SpanBounds.{thick_positive}
 use Rattle.conductance_bounds.proofs.ThickBounds.{thick_between}

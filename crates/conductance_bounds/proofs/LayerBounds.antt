@@ -1,14 +1,15 @@
 -- The pair of a vertical branch contains the manual's conductance, with a bed or without.
 use Rattle.conductance_bounds.proofs.Common.{◌≡◌, ℕ, zero, suc, ◌*◌, ◌≤◌, ◌<◌, ◌^◌, ◌⊎◌, inl, inr, Bool, true, false, Option, Some, None, arith, refl, subst}
-use Rattle.conductance_bounds.proofs.Common.{sym, ◌==◌, IfSome, true≢false, false≢true, Dec, size, Encloses, Ratio, den, plus, times, over, AtMost, num_scaled}
-use Rattle.conductance_bounds.proofs.Common.{up, Sd, value, two, Pair, Span, AreBounds, Term, exact, Holds, IsBetween, Number, Within, Sum, Quotient}
-use Rattle.conductance_bounds.proofs.Common.{area_formula, vertical_k_term, vertical_k, vertical_term, resistance_sum, vertical_of, vertical_exact, IsVertHalf}
-use Rattle.conductance_bounds.proofs.Common.{IsBed, IsPair, IsWholePair, over-positive}
+use Rattle.conductance_bounds.proofs.Common.{sym, ◌+◌, ◌==◌, IfSome, true≢false, false≢true, cases_lt, Dec, size, Encloses, Ratio, over, up, IsFloor, IsCeiling}
+use Rattle.conductance_bounds.proofs.Common.{Reaches, Passes, den, plus, times, AtMost, num_scaled, Sd, value, two, IsPositive, Pair, Span, AreBounds, Term}
+use Rattle.conductance_bounds.proofs.Common.{exact, Holds, IsBetween, Number, Within, Sum, Quotient, area_formula, vertical_k_term, vertical_k, vertical_term}
+use Rattle.conductance_bounds.proofs.Common.{resistance_sum, vertical_of, vertical_exact, IsVertHalf, IsBed, IsPair, IsWholePair, evap_formula, evap_exact}
+use Rattle.conductance_bounds.proofs.Common.{over-positive, mul-le-mul_right}
 use Rattle.std.proofs.lemmas.Bool.Decides.{nat_tests}
 use Rattle.conductance_bounds.specs.declared.vertical.VertHalf.{VertHalf}
 use Rattle.conductance_bounds.specs.declared.vertical.Bed.{Bed}
-use Rattle.conductance_bounds.proofs.Manual.{vertical_encloses, bed_encloses}
-use Rattle.conductance_bounds.proofs.Positive.{size_positive, positive_between}
+use Rattle.conductance_bounds.proofs.Manual.{vertical_encloses, bed_encloses, size_positive, positive_between, below_units, pair_encloses}
+use Rattle.decimal_input.proofs.Cross.{le_cancel}
 
 -- the vertical conductivity as it is rounded, and exactly
 k_is : (b : Bool) (h v : Ratio) → exact (vertical_k_term b h v) ≡ vertical_k b h v
@@ -91,3 +92,33 @@ ratio_bounds false h v x e p = absurd (false≢true e)
 -- the bounds of resistances with a bed
 pub bed_bounds : (n : ℕ) (t e u : Term) (x : Span) → 0 < n → AreBounds (Sum (Sum t e) u) x → AreBounds (resistance_sum (n == 0) t e u) x
 bed_bounds n t e u x some p = subst (λ b. AreBounds (resistance_sum b t e u) x) (sym (is_some n some)) p
+
+pub Passes-less : (n m : ℕ) (f : Ratio) (s : ℕ) → m ≤ n → Passes n f s → Passes m f s
+Passes-less n m f s le h = record { pass = omega (arith, h.pass, mul-le-mul_right (den f) le) }
+
+-- what reaches a great number below, passes a lesser one above
+pub Reaches-passes : (n m : ℕ) (f g : Ratio) (s : ℕ) → m < n → AtMost f g → Reaches n f s → Passes m g s
+Reaches-passes n m f g s lt le h = record { pass = passes n m f.num (den f) g.num (den g) (10 ^ s) (omega arith) (omega arith) lt le.cross h.reach }
+  where
+    passes : (n m a x b y p : ℕ) → 0 < x → 0 < y → m < n → a * y ≤ b * x → n * x ≤ a * p → m * y < b * p
+    passes n m a x b y p hx hy lt le h =
+        let k : n * y ≤ b * p = le_cancel x (n * y) (b * p) hx (omega (arith, mul-le-mul_right p le, mul-le-mul_right y h)) in
+        let more : (m + 1) * y ≤ n * y = mul-le-mul_right y (omega arith) in
+        omega arith
+
+pub ceiling-passes : (n m : ℕ) (f : Ratio) (s : ℕ) → m < n → IsCeiling n f s → Passes m f s
+ceiling-passes n m f s lt h = elim (cases_lt (m * den f) (f.num * 10 ^ s)) [
+  | inl k ↦ record { pass = k }
+  | inr k ↦ absurd (let j : n ≤ m = h.least m k in omega arith)
+]
+
+-- the whole part below is at most the ceiling above
+pub floor-ceiling : (m n : ℕ) (f g : Ratio) (s : ℕ) → AtMost f g → IsFloor m f s → IsCeiling n g s → m ≤ n
+floor-ceiling m n f g s le a b = le_cancel (den g) m n (omega arith) (omega (arith, b.at_least, below_units m f.num (den f) g.num (den g) (10 ^ s) (omega arith) a.at_most le.cross))
+
+pub ruleset pair_lemmas = (Passes-less, Reaches-passes, ceiling-passes, floor-ceiling)
+
+-- The pair of an evapotranspiration contains its conductance.
+pub evap_encloses : (rate depth delr delc : Dec) (s : ℕ) (r : Option Pair) → IsPositive depth → IsWholePair (evap_formula (size rate) (size delr) (size delc) (size depth)) s r → IfSome r (λ p. Encloses p.lo p.hi s (evap_exact rate depth delr delc))
+evap_encloses rate depth delr delc s None d h = tt
+evap_encloses rate depth delr delc s (Some p) d h = pair_encloses _ s p.lo p.hi ((tt, (tt, tt)), tt, size_positive depth d) h.0

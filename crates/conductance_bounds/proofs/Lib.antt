@@ -1,19 +1,11 @@
 mod Common
-pub mod Whole
-pub mod Enclosing
-pub mod Harmonic
 pub mod Arithmetic
-pub mod Unity
 pub mod Manual
-pub mod Positive
 pub mod RowBounds
 pub mod LayerBounds
 pub mod Recharged
-pub mod Evaporated
-pub mod Horner
 pub mod StorageBounds
 pub mod Multipliers
-pub mod Equal
 pub mod HeadRange
 pub mod Blends
 pub mod GivenHeads

@@ -4,10 +4,9 @@ use Rattle.conductance_bounds.proofs.Common.{Ratio, times, over, Given, FlowMode
 use Rattle.conductance_bounds.proofs.Common.{top_at, bottom_at, thickness, IsPositive, geometric, power, passed, IsModel, IsTimed, Span, exact, Holds}
 use Rattle.conductance_bounds.proofs.Common.{IsBetween, IsSpan, IsPair, IsFlow, IsPart, IsGivenPair, storativity_term, thick_term, storage_term, recharge_term}
 use Rattle.conductance_bounds.proofs.Common.{evap_term, EvapSource, recharge_flow, evap_conductance, storativity, storage}
-use Rattle.conductance_bounds.proofs.Enclosing.{pair_encloses}
+use Rattle.conductance_bounds.proofs.Manual.{pair_encloses, size_positive}
 use Rattle.conductance_bounds.proofs.GivenHeads.{head_encloses}
 use Rattle.conductance_bounds.proofs.PartBounds.{part_encloses, multiplier_positive}
-use Rattle.conductance_bounds.proofs.Positive.{size_positive}
 use Rattle.conductance_bounds.proofs.Ready.{is_ready}
 use Rattle.conductance_bounds.proofs.Recharged.{flow_encloses}
 use Rattle.conductance_bounds.proofs.StorageBounds.{storage_encloses}

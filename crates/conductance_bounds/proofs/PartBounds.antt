@@ -1,13 +1,41 @@
 -- The part of a period that has passed lies between its bounds, and is at most 1.
 use Rattle.conductance_bounds.proofs.Common.{◌≡◌, ℕ, zero, suc, ◌+◌, ◌*◌, ◌-◌, ◌≤◌, ◌<◌, ◌^◌, inl, inr, Bool, true, false, cond, min, arith, refl, subst, sym}
-use Rattle.conductance_bounds.proofs.Common.{ap, mul-le-mul_right, le_of_mul-le-mul_right, ints, cases_lt, size, Ratio, den, ratio, over, AtMost, Same}
-use Rattle.conductance_bounds.proofs.Common.{AtMost-trans, AtMost-refl, Same-AtMost, Same-back, num_plus, num_over, den_over, scaled, Sd, value, IsPositive}
-use Rattle.conductance_bounds.proofs.Common.{IsTimed, number_one, Span, AreBounds, Period, one, power, geometric, multiplier, passed, exact, IsBound, Lower}
-use Rattle.conductance_bounds.proofs.Common.{Upper, Quotient, sum_term, IsPart, IsGrowingPart, IsPassed, part_term, over-Same, power-positive}
-use Rattle.conductance_bounds.proofs.Positive.{size_positive}
-use Rattle.conductance_bounds.proofs.Enclosing.{bound_on, below_units, above_units}
-use Rattle.conductance_bounds.proofs.Horner.{sum_is, sum_holds}
+use Rattle.conductance_bounds.proofs.Common.{ap, mul-le-mul_right, le_of_mul-le-mul_right, ints, cases_lt, size, Ratio, ratio, over, scaled, den, AtMost, Same}
+use Rattle.conductance_bounds.proofs.Common.{plus, times, AtMost-trans, AtMost-refl, Same-AtMost, Same-back, num_plus, num_over, den_over, Same-trans, Same-sym}
+use Rattle.conductance_bounds.proofs.Common.{den_plus, Sd, value, IsPositive, IsTimed, number_one, one, power, geometric, multiplier, passed, Span, AreBounds}
+use Rattle.conductance_bounds.proofs.Common.{exact, IsBound, Lower, Upper, Quotient, sum_term, IsPart, IsGrowingPart, IsPassed, part_term, Holds, power_term}
+use Rattle.conductance_bounds.proofs.Common.{Period, over-Same, Same-self, plus-Same, times-Same, power-positive, horner}
+use Rattle.conductance_bounds.proofs.Manual.{size_positive, bound_on, below_units, above_units}
 use Rattle.scaled_decimal.proofs.Products.{more_plus}
+
+-- Terms of growing time steps, by Horner's rule.
+pub power_is : (t : Ratio) (n : ℕ) → exact (power_term t n) ≡ power t n
+unfolding power_term power
+power_is t zero = refl
+power_is t (suc n) = ap (λ r. times r t) (power_is t n)
+
+one_is : Same one (plus (ratio 0 1) one)
+unfolding ratio
+one_is = record { cross = rw (num_plus (ratio 0 1) one, den_plus (ratio 0 1) one) refl }
+
+first_one : (t : Ratio) → Same (geometric t (suc zero)) one
+unfolding geometric power
+first_one t = Same-sym one_is
+
+pub sum_is : (t : Ratio) (n : ℕ) → Same (exact (sum_term t n)) (geometric t (suc n))
+unfolding sum_term
+sum_is t zero = Same-sym (first_one t)
+sum_is t (suc n) = Same-trans (plus-Same (times-Same (sum_is t n) (Same-self t)) (Same-self one)) (Same-sym (horner t (suc n)))
+
+pub sum_holds : (t : Ratio) (n : ℕ) → Holds (sum_term t n)
+unfolding sum_term
+sum_holds t zero = tt
+sum_holds t (suc n) = ((sum_holds t n, tt), tt)
+
+pub power_holds : (t : Ratio) (n : ℕ) → Holds (power_term t n)
+unfolding power_term
+power_holds t zero = tt
+power_holds t (suc n) = (power_holds t n, tt)
 
 next : (t : Ratio) (m : ℕ) → AtMost (geometric t m) (geometric t (suc m))
 unfolding geometric

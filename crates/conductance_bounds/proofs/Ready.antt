@@ -2,7 +2,7 @@
 use Rattle.conductance_bounds.proofs.Common.{◌≡◌, ℕ, ◌/◌, ◌<◌, true, arith, size, FlowModel, cell_count, column_of, row_of, no_number, dec_at, delr_at, delc_at}
 use Rattle.conductance_bounds.proofs.Common.{hk_at, hani_at, top_at, bottom_at, is_active, thickness, IsModel, Span, IsBetween, IsPositive, IsSpan}
 use Rattle.std.proofs.lemmas.Nat.{mod_below}
-use Rattle.conductance_bounds.proofs.Positive.{size_positive}
+use Rattle.conductance_bounds.proofs.Manual.{size_positive}
 use Rattle.conductance_bounds.proofs.SpanBounds.{thick_positive}
 use Rattle.conductance_bounds.proofs.ThickBounds.{thick_between}
 

@@ -5,7 +5,7 @@ use Rattle.conductance_bounds.proofs.Common.{Number, number, num_times, den_time
 use Rattle.conductance_bounds.proofs.Common.{low_end, high_end}
 use Rattle.decimal_input.specs.Fractions.{den as denominator, times as product}
 use Rattle.conductance_bounds.specs.declared.pair.FlowPair.{FlowPair}
-use Rattle.conductance_bounds.proofs.Enclosing.{pair_encloses, Encloses-same}
+use Rattle.conductance_bounds.proofs.Manual.{pair_encloses, Encloses-same}
 
 -- a number with a sign times an area
 abbrev with_area : Bool → Ratio → Ratio → Fraction

@@ -4,8 +4,7 @@ use Rattle.conductance_bounds.proofs.Common.{column_k, column_exact, IsHalf, IsC
 use Rattle.conductance_bounds.specs.declared.horizontal.Half.{Half}
 use Rattle.conductance_bounds.specs.declared.horizontal.ColHalf.{ColHalf}
 use Rattle.conductance_bounds.specs.{row_of, column_of}
-use Rattle.conductance_bounds.proofs.Manual.{row_pair_encloses}
-use Rattle.conductance_bounds.proofs.Positive.{size_positive, positive_between}
+use Rattle.conductance_bounds.proofs.Manual.{row_pair_encloses, size_positive, positive_between}
 
 pub row_encloses : (a b : Half) (width : Dec) (s : ℕ) (r : Option Pair) → IsHalf a → IsHalf b → IsPositive width → (f g : Ratio) → IsBetween a.thick_lo a.thick_hi f → IsBetween b.thick_lo b.thick_hi g →
     IsWholePair (row_of a b width f g) s r → IfSome r (λ p. Encloses p.lo p.hi s (row_exact a b width f g))

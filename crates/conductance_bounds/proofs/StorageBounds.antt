@@ -3,9 +3,8 @@ use Rattle.conductance_bounds.proofs.Common.{◌≡◌, ℕ, suc, ◌-◌, ◌�
 use Rattle.conductance_bounds.proofs.Common.{over, Same, Sd, IsPositive, power, geometric, Pair, Span, AreBounds, Number, Within, Product, Term, exact, Holds}
 use Rattle.conductance_bounds.proofs.Common.{sum_term, power_term, area_formula, storativity_term, storage_formula, thickness_of, storativity_exact, storage_of}
 use Rattle.conductance_bounds.proofs.Common.{storage_exact, LiesWithin, IsPair, IsWholePair, Same-self, times-Same, over-Same, times-positive, power-positive}
-use Rattle.conductance_bounds.proofs.Enclosing.{pair_encloses, Encloses-same}
-use Rattle.conductance_bounds.proofs.Horner.{power_is, power_holds, sum_is, sum_holds}
-use Rattle.conductance_bounds.proofs.Positive.{size_positive}
+use Rattle.conductance_bounds.proofs.Manual.{pair_encloses, Encloses-same, size_positive}
+use Rattle.conductance_bounds.proofs.PartBounds.{power_is, power_holds, sum_is, sum_holds}
 use Rattle.conductance_bounds.proofs.Recharged.{assoc}
 
 -- of a storativity x, lengths r and d, a multiplier t and a period of length l

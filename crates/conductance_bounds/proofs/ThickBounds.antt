@@ -2,9 +2,8 @@
 use Rattle.conductance_bounds.proofs.Common.{◌≡◌, ℕ, ◌<◌, ◌≤◌, ◌^◌, arith, refl, subst, ℤ, pos, negsuc, neg_ℤ, ◌+ℤ◌, ◌-ℤ◌, ◌*ℤ◌, ◌≤ℤ◌, ◌<ℤ◌, unsigned_abs, ints}
 use Rattle.conductance_bounds.proofs.Common.{by_lt_z, Dec, number, scaled, Fraction, IsSignedFloor, IsSignedCeiling, IsFloorPast, IsCeilingPast, AtMost-trans}
 use Rattle.conductance_bounds.proofs.Common.{scaled-AtMost, mul_mono_right, cancel_right, HasSize, IsDown, IsUp, gap, IsThick, Span, IsBetween, IsSpan}
-use Rattle.conductance_bounds.proofs.Common.{AreThick}
+use Rattle.conductance_bounds.proofs.Common.{AreThick, one_floor, one_ceiling}
 use Rattle.decimal_input.specs.Fractions.{den}
-use Rattle.decimal_input.proofs.FloorLaws.{one_floor, one_ceiling}
 use Rattle.conductance_bounds.proofs.SpanBounds.{abs_positive, span_between}
 
 -- a number has one floor, and one ceiling

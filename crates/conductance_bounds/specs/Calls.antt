@@ -8,7 +8,7 @@ use Rattle.conductance_bounds.specs.declared.horizontal.ColHalf.{ColHalf}
 use Rattle.conductance_bounds.specs.declared.vertical.VertHalf.{VertHalf}
 use Rattle.conductance_bounds.specs.declared.vertical.Bed.{Bed}
 use Rattle.conductance_bounds.specs.Terms.{IsBetween}
-use Rattle.conductance_bounds.specs.Thicknesses.{AreThick}
+use Rattle.conductance_bounds.specs.Formulas.{AreThick}
 
 pub record IsHalf (h : Half) : Type 0 where
   pub along : IsPositive h.along

@@ -1,23 +1,20 @@
 pub mod Terms
-pub mod Thicknesses
 pub mod Intervals
 pub mod Calls
 pub mod Pairs
 pub mod Branches
 pub mod Parts
 pub mod Formulas
-pub mod ModelLaws
-
 pub use Rattle.conductance_bounds.specs.Branches.{area_formula, bed_of, column_exact, column_k, column_of, evap_exact, evap_formula, half_term, recharge_exact}
 pub use Rattle.conductance_bounds.specs.Branches.{recharge_formula, resistance_sum, row_exact, row_of, row_term, storage_exact, storage_formula, storage_of}
 pub use Rattle.conductance_bounds.specs.Branches.{storativity_exact, storativity_term, thickness_of, twice, vertical_exact, vertical_half_of, vertical_k}
 pub use Rattle.conductance_bounds.specs.Branches.{vertical_k_term, vertical_of, vertical_term}
 pub use Rattle.conductance_bounds.specs.Calls.{IsBed, IsColHalf, IsHalf, IsThickness, IsVertHalf, IsZero, LiesWithin}
+pub use Rattle.conductance_bounds.specs.Formulas.{AreSpanned, AreThick, EvapsEnclose, FacesEnclose, HeadsEnclose, IsSpan, RechargesEnclose, StoragesEnclose}
 pub use Rattle.conductance_bounds.specs.Formulas.{area_term, bed_term, column_k_term, evap_term, face_term, recharge_term, storage_term, thick_term}
 pub use Rattle.conductance_bounds.specs.Formulas.{vertical_half_term, vertical_k_at}
 pub use Rattle.conductance_bounds.specs.Intervals.{AreBounds, IsOrdered}
 unfoldable pub use Rattle.conductance_bounds.specs.Intervals.{reach}
-pub use Rattle.conductance_bounds.specs.ModelLaws.{AreSpanned, EvapsEnclose, FacesEnclose, HeadsEnclose, RechargesEnclose, StoragesEnclose}
 pub use Rattle.conductance_bounds.specs.Pairs.{IsCapped, IsCappedFlow, IsFlow, IsFlowPair, IsPair, IsPast, IsWholePair, high_end, low_end}
 pub use Rattle.conductance_bounds.specs.Parts.{AreFactors, IsCeilingOf, IsFloorOf, IsGivenPair, IsGrowingPart, IsGrown, IsHeadUnits, IsMultiplier, IsPart}
 pub use Rattle.conductance_bounds.specs.Parts.{IsPassed, IsSlow, IsUsable, IsWithin, blend, is_whole, part_term}
@@ -25,4 +22,3 @@ unfoldable pub use Rattle.conductance_bounds.specs.Parts.{power_term, sum_term}
 pub use Rattle.conductance_bounds.specs.Terms.{Holds, IsBetween, IsBound, IsRounded, Side, Term, end, exact, other}
 pub use Rattle.conductance_bounds.specs.Terms.Side.{Lower, Upper}
 pub use Rattle.conductance_bounds.specs.Terms.Term.{Number, Product, Quotient, Sum, Within}
-pub use Rattle.conductance_bounds.specs.Thicknesses.{AreThick, IsSpan}

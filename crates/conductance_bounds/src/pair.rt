@@ -25,7 +25,7 @@ pub struct FlowPair {
 const TOO_LARGE: u128 = 1 << 60;
 
 /// The whole bounds in units of 10 ^ -s, or None where the upper one is 2 ^ 60 or more.
-#[tactic(auto, using(crate::proofs::Whole::pair_lemmas))]
+#[tactic(auto, using(crate::proofs::LayerBounds::pair_lemmas))]
 pub(crate) fn rounded_pair(x: Span, s: u32) -> Option<Pair>
     requires ordered { IsOrdered x }
     ensures bounds { (t : Term) → AreBounds t x → IsWholePair t s result }

@@ -47,7 +47,7 @@ fn magnitude(x: Dec) -> Span
 }
 
 // The whole bounds in units of 10 ^ -places, negated and exchanged for a flow below 0.
-#[tactic(auto, using(crate::proofs::Whole::pair_lemmas))]
+#[tactic(auto, using(crate::proofs::LayerBounds::pair_lemmas))]
 fn flow_of(x: Span, neg: bool, places: u32) -> Option<FlowPair>
     requires ordered { IsOrdered x }
     ensures bounds { (t : Term) → AreBounds t x → IsFlowPair t neg places result }

@@ -8,10 +8,7 @@ pub use Rattle.std.proofs.lemmas.Bool.{and_parts, cases_Bool, cases_lt, eq-eqb, 
 pub use Rattle.std.proofs.lemmas.Bool.Decides.{nat_tests}
 pub use Rattle.std.proofs.lemmas.Int.{by_lt_z, ints}
 pub use Rattle.std.proofs.lemmas.List.{at_drop_all, at_drop_more, get_or-take, take-append-drop}
-pub use Rattle.std.proofs.lemmas.List.Folds.{length-prefix_len, prefix_len-append}
-pub use Rattle.std.proofs.lemmas.List.Sums.{prefix_len_is, prefix_len_passes}
 pub use Rattle.std.proofs.lemmas.Nat.{pow-add}
-pub use Rattle.std.specs.List.{prefix_len}
 pub use Rattle.decimal_input.specs.{AreDigits, Below, EnclosesSigned, Fraction, IsBetweenSigned, IsCanonical, IsCap, IsCapped, IsCeiling, IsCeilingPast, IsDec}
 pub use Rattle.decimal_input.specs.{IsExponent, IsFloor, IsFloorPast, IsInteger, IsOf, IsOver, IsPart, IsSign, IsSignedCeiling, IsSignedFloor, IsTested}
 pub use Rattle.decimal_input.specs.{IsTrimmed, Names, Passes, Ratio, Reaches, Spelling, Spells, behind, behind_part, decimal, differ, digits_of, down}
@@ -20,7 +17,6 @@ pub use Rattle.decimal_input.specs.{spelt, unsigned, up, whole_number, with_sign
 unfoldable pub use Rattle.decimal_input.specs.{over, ratio, scaled}
 pub use Rattle.decimal_input.specs.Ratios.{AtMost, Same, den}
 unfoldable pub use Rattle.decimal_input.specs.Ratios.{plus, times}
-pub use Rattle.decimal_input.specs.declared.coefficient.Coefficient.{Coefficient}
 pub use Rattle.decimal_input.specs.declared.dec.Dec.{Dec}
 pub use Rattle.decimal_input.specs.declared.dec.NumFault.{NumFault}
 pub use Rattle.decimal_input.specs.declared.dec.NumFault.TheVariants.{BadNumber}

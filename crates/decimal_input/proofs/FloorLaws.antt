@@ -1,9 +1,75 @@
-use Rattle.decimal_input.proofs.Common.{◌≡◌, ℕ, ◌<◌, ◌^◌, arith, ℤ, pos, neg_ℤ, ◌*ℤ◌, ◌+ℤ◌, ◌≤ℤ◌, ◌<ℤ◌, ints, by_lt_z, Fraction, IsSignedFloor, IsSignedCeiling}
-use Rattle.decimal_input.proofs.Common.{EnclosesSigned}
+use Rattle.decimal_input.proofs.Common.{◌≡◌, ℕ, ◌<◌, ◌^◌, arith, ℤ, pos, neg_ℤ, ◌*ℤ◌, ◌+ℤ◌, ◌≤ℤ◌, ◌<ℤ◌, ap, ◌∙◌, sym, suc, ◌*◌, ints, by_lt_z, Fraction}
+use Rattle.decimal_input.proofs.Common.{IsSignedFloor, IsSignedCeiling, EnclosesSigned, negated, IsOver, IsBetweenSigned, mul-le-mul_right, le_out}
 use Rattle.decimal_input.specs.Fractions.{den, AtMost, Same}
-use Rattle.decimal_input.proofs.Signs.{mul_mono_right, swap, cancel_right}
-use Rattle.decimal_input.proofs.Fractional.{Same-AtMost, Same-sym}
-use Rattle.decimal_input.proofs.Integers.{le-antisym, le-trans, lt-not-le}
+use Rattle.decimal_input.proofs.Differences.{diffs, as_diff, same_diff}
+
+pub mul_mono_right : (k : ℕ) (a b : ℤ) → a ≤ℤ b → (a *ℤ pos k) ≤ℤ (b *ℤ pos k)
+mul_mono_right k a b h = omega (arith, ints, mul-le-mul_right k (le_out a b h))
+
+pub swap : (a b c : ℤ) → (a *ℤ b) *ℤ c ≡ (a *ℤ c) *ℤ b
+swap a b c = rw (as_diff a, as_diff b, as_diff c) (simp diffs (same_diff _ _ _ _ (omega arith)))
+
+pub add_times : (b o k : ℤ) → (b +ℤ o) *ℤ k ≡ b *ℤ k +ℤ o *ℤ k
+add_times b o k = rw (as_diff b, as_diff o, as_diff k) (simp diffs (same_diff _ _ _ _ (omega arith)))
+
+pub one_times : (k : ℕ) → pos 1 *ℤ pos k ≡ pos k
+one_times k = omega (arith, ints)
+
+pub cancel_right : (k : ℕ) (a b : ℤ) → 0 < k → (a *ℤ pos k) ≤ℤ (b *ℤ pos k) → a ≤ℤ b
+cancel_right k a b h le =
+    by_lt_z b a
+    (λ lt.
+    let over = mul_mono_right k (b +ℤ pos 1) a (omega (arith, ints)) in
+    let split = add_times b (pos 1) (pos k) ∙ ap (λ (t : ℤ). b *ℤ pos k +ℤ t) (one_times k) in
+    absurd (past _ _ _ le over split h))
+    (λ le. le)
+  where
+    past : (x y z : ℤ) → x ≤ℤ y → z ≤ℤ x → z ≡ y +ℤ pos k → 0 < k → ⊥
+    past x y z p q e h = omega (arith, ints)
+
+pub neg_times : (a b : ℤ) → neg_ℤ a *ℤ b ≡ neg_ℤ (a *ℤ b)
+neg_times a b = rw (as_diff a, as_diff b) (simp diffs (same_diff _ _ _ _ (omega arith)))
+
+pub turned : (a b : ℤ) → a ≤ℤ b → neg_ℤ b ≤ℤ neg_ℤ a
+turned a b h = omega (arith, ints)
+
+-- Orders of whole numbers.
+pub le-trans : (a b c : ℤ) → a ≤ℤ b → b ≤ℤ c → a ≤ℤ c
+le-trans a b c p q = omega (arith, ints)
+
+pub le-antisym : (a b : ℤ) → a ≤ℤ b → b ≤ℤ a → a ≡ b
+le-antisym a b p q = omega (arith, ints)
+
+pub le-of : (a b : ℤ) → a ≡ b → a ≤ℤ b
+le-of a b e = omega (arith, ints)
+
+pub lt-not-le : (a b : ℤ) → a <ℤ b → b ≤ℤ a → ⊥
+lt-not-le a b p q = omega (arith, ints)
+
+pub le-add : (a b c d : ℤ) → a ≤ℤ c → b ≤ℤ d → (a +ℤ b) ≤ℤ (c +ℤ d)
+le-add a b c d h k = omega (arith, ints)
+
+-- a / x ≤ b / y ≤ c / z
+pub cross_trans_signed : (a b c : ℤ) (x y z : ℕ) → 0 < y → (a *ℤ pos y) ≤ℤ (b *ℤ pos x) → (b *ℤ pos z) ≤ℤ (c *ℤ pos y) → (a *ℤ pos z) ≤ℤ (c *ℤ pos x)
+cross_trans_signed a b c x y z h p q =
+    let low : ((a *ℤ pos z) *ℤ pos y) ≤ℤ ((b *ℤ pos z) *ℤ pos x) = rw (swap a (pos z) (pos y), swap b (pos z) (pos x)) (mul_mono_right z _ _ p) in
+    let high : ((b *ℤ pos z) *ℤ pos x) ≤ℤ ((c *ℤ pos x) *ℤ pos y) = rw (swap c (pos x) (pos y)) (mul_mono_right x _ _ q) in
+    cancel_right y _ _ h (le-trans _ _ _ low high)
+
+pub AtMost-trans : {f g h : Fraction} → AtMost f g → AtMost g h → AtMost f h
+AtMost-trans {f} {g} {h} p q = record { at_most = cross_trans_signed f.num g.num h.num (den f) (den g) (den h) (omega arith) p.at_most q.at_most }
+
+pub Same-AtMost : {f g : Fraction} → Same f g → AtMost f g
+Same-AtMost p = record { at_most = le-of _ _ p.same }
+
+pub Same-sym : {f g : Fraction} → Same f g → Same g f
+Same-sym p = record { same = sym p.same }
+
+pub AtMost-both : {f g : Fraction} → AtMost f g → AtMost g f → Same f g
+AtMost-both p q = record { same = le-antisym _ _ p.at_most q.at_most }
+
+pub Same-trans : {f g h : Fraction} → Same f g → Same g h → Same f h
+Same-trans p q = AtMost-both (AtMost-trans (Same-AtMost p) (Same-AtMost q)) (AtMost-trans (Same-AtMost (Same-sym q)) (Same-AtMost (Same-sym p)))
 
 -- The floor and the ceiling of a fraction enclose it.
 pub floor_ceiling_enclose : (f : Fraction) (s : ℕ) (lo hi : ℤ) → IsSignedFloor lo f s → IsSignedCeiling hi f s → EnclosesSigned lo hi s f
@@ -46,3 +112,20 @@ one_floor f g s x y e a b = le-antisym x y (floor_monotone f g s x y (Same-AtMos
 -- Equal fractions have one ceiling.
 pub one_ceiling : (f g : Fraction) (s : ℕ) (x y : ℤ) → Same f g → IsSignedCeiling x f s → IsSignedCeiling y g s → x ≡ y
 one_ceiling f g s x y e a b = le-antisym x y (ceiling_monotone f g s x y (Same-AtMost e) a b) (ceiling_monotone g f s y x (Same-AtMost (Same-sym e)) b a)
+
+-- A head or a flow between its bounds, over a common denominator.
+pub whole_signed : (lo hi : ℤ) (s D : ℕ) (f : Fraction) (z : ℤ) → EnclosesSigned lo hi s f → IsOver D f z → IsBetweenSigned lo hi D (z *ℤ pos (10 ^ s))
+whole_signed lo hi s D f z h e =
+    let both : (f.num *ℤ pos (10 ^ s)) *ℤ pos D ≡ (z *ℤ pos (10 ^ s)) *ℤ pos (suc f.less) =
+    swap f.num (pos (10 ^ s)) (pos D) ∙ ap (λ (t : ℤ). t *ℤ pos (10 ^ s)) e.is ∙ swap z (pos (suc f.less)) (pos (10 ^ s)) in
+    record {
+      lower = cancel_right (suc f.less) _ _ (omega arith) (rw (swap lo (pos D) (pos (suc f.less)), ← both) (mul_mono_right D _ _ h.lower));
+      upper = cancel_right (suc f.less) _ _ (omega arith) (rw (swap hi (pos D) (pos (suc f.less)), ← both) (mul_mono_right D _ _ h.upper));
+    }
+
+-- With the other sign the bounds change their signs and places.
+pub negated_enclosed : (lo hi : ℤ) (s : ℕ) (f : Fraction) → EnclosesSigned lo hi s f → EnclosesSigned (neg_ℤ hi) (neg_ℤ lo) s (negated f)
+negated_enclosed lo hi s f h = record {
+  lower = rw (neg_times hi (pos (suc f.less)), neg_times f.num (pos (10 ^ s))) (turned _ _ h.upper);
+  upper = rw (neg_times lo (pos (suc f.less)), neg_times f.num (pos (10 ^ s))) (turned _ _ h.lower);
+}

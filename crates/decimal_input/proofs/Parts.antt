@@ -1,8 +1,22 @@
 use Rattle.decimal_input.proofs.Common.{◌≡◌, ℕ, ◌≤◌, inl, inr, ◌==◌, List, [], ◌∷◌, ◌++◌, length, take, drop, Bool, true, false, arith, refl, ap, ◌∙◌, ℤ, Some}
-use Rattle.decimal_input.proofs.Common.{prefix_len, prefix_len-append, eq-eqb, le-leb, nat_tests, with_sign, is_digit, is_mark, number_from, AreDigits, IsSign}
-use Rattle.decimal_input.proofs.Common.{IsPart, IsExponent, is_sign, is_negative, unsigned, digits_of, behind, part_of, behind_part, whole_number, exponent_of}
+use Rattle.decimal_input.proofs.Common.{◌<◌, get_or, sym, ◌+◌, ◌&&◌, ◌-ℤ◌, nat_le, subst, pos, Option, None, eq-eqb, le-leb, cases_Bool, eqb-true, leb-true}
+use Rattle.decimal_input.proofs.Common.{and_parts, nat_tests, with_sign, is_digit, is_mark, number_from, AreDigits, IsSign, IsPart, IsExponent, is_sign}
+use Rattle.decimal_input.proofs.Common.{is_negative, unsigned, digits_of, behind, part_of, behind_part, whole_number, exponent_of, Spelling, spelling}
+use Rattle.decimal_input.proofs.Common.{take-append-drop, get_or-take}
+use Rattle.std.specs.List.{prefix_len}
+use Rattle.std.proofs.lemmas.List.Folds.{prefix_len-append, length-prefix_len}
 use Rattle.std.proofs.Math.Seq.{take-append_seam, drop-append_seam}
-use Rattle.decimal_input.proofs.Fronts.{front_is}
+use Rattle.std.proofs.lemmas.List.Sums.{prefix_len_is, prefix_len_passes}
+
+-- n digits at the front, and no digit behind them
+pub front_is : (xs : List ℕ) (n : ℕ) → n ≤ length xs → ((k : ℕ) → k < n → is_digit (get_or xs k 0) ≡ true) → (n < length xs → is_digit (get_or xs n 0) ≡ false) → prefix_len is_digit xs ≡ n
+front_is xs n = prefix_len_is is_digit xs n 0
+
+pub front_taken : (xs ys : List ℕ) (n : ℕ) → ys ≡ take n xs → prefix_len is_digit xs ≡ n → ys ≡ digits_of xs
+front_taken xs ys n e h = e ∙ ap (λ (k : ℕ). take k xs) (sym h)
+
+pub front_dropped : (xs ys : List ℕ) (n : ℕ) → ys ≡ drop n xs → prefix_len is_digit xs ≡ n → ys ≡ behind xs
+front_dropped xs ys n e h = e ∙ ap (λ (k : ℕ). drop k xs) (sym h)
 
 pub digits_len : (ds : List ℕ) → AreDigits ds → prefix_len is_digit ds ≡ length ds
 digits_len ds all = front_is ds (length ds) (omega arith) (λ k h. all k 0 h) (λ h. absurd (omega (arith, h)))
@@ -59,3 +73,58 @@ exponent_read e t (inr (h, k)) = rw (h, k) refl
 pub part_read : (p pt t : List ℕ) (e : ℤ) → IsPart p pt → IsExponent e t → (prefix_len is_digit (pt ++ t) ≡ 0) × ((part_of (pt ++ t) ≡ p) × (behind_part (pt ++ t) ≡ t))
 part_read p pt t e (inl (h, all)) x = let k = exponent_first e t x in rw h (refl, (digits_front p t all k.0, behind_front p t all k.0))
 part_read p pt t e (inr (h, g)) x = rw (h, g) (exponent_first e t x)
+
+-- what split the word at its sign
+pub sign_cut : (w : List ℕ) → (s : List ℕ) × IsSign (is_negative w) s × (w ≡ s ++ unsigned w)
+sign_cut [] = ([], inr (refl, inr refl), refl)
+sign_cut (b ∷ bs) = elim (cases_Bool (b == 45)) [
+  | inl h ↦ let e : b ≡ 45 = eqb-true b 45 h in rw e (45 ∷ [], inl (refl, refl), refl)
+  | inr h ↦ elim (cases_Bool (b == 43)) [
+    | inl k ↦ let e : b ≡ 43 = eqb-true b 43 k in rw e (43 ∷ [], inr (refl, inl refl), refl)
+    | inr k ↦ rw (h, k) ([], inr (refl, inr refl), refl)
+  ]
+]
+
+pub front_digits : (bs : List ℕ) → AreDigits (digits_of bs)
+front_digits bs k d h =
+    let lt : k < prefix_len is_digit bs = subst (λ (n : ℕ). k < n) (length-prefix_len is_digit bs) h in
+    (ap is_digit (get_or-take (prefix_len is_digit bs) bs k d lt)) ∙ prefix_len_passes is_digit bs k d lt
+
+pub front_cut : (bs : List ℕ) → digits_of bs ++ behind bs ≡ bs
+front_cut bs = take-append-drop (prefix_len is_digit bs) bs
+
+-- what split the tail at its point
+pub part_cut : (t : List ℕ) → (pt : List ℕ) × IsPart (part_of t) pt × (t ≡ pt ++ behind_part t)
+part_cut [] = ([], inr (refl, refl), refl)
+part_cut (b ∷ bs) = elim (cases_Bool (b == 46)) [
+  | inl h ↦ let e : b ≡ 46 = eqb-true b 46 h in rw e (46 ∷ digits_of bs, inl (refl, front_digits bs), ap (λ (xs : List ℕ). 46 ∷ xs) (sym (front_cut bs)))
+  | inr h ↦ rw h ([], inr (refl, refl), refl)
+]
+
+pub some_is : {A : Type 0} (x y : A) → Some x ≡ Some y → x ≡ y
+some_is x y e = cc
+
+pub whole_cut : (neg : Bool) (bs : List ℕ) (e : ℤ) → whole_number neg bs ≡ Some e → AreDigits bs × ((1 ≤ length bs) × (e ≡ with_sign neg (number_from 0 bs)))
+whole_cut neg bs e h = elim (cases_Bool (nat_le 1 (length bs) && nat_le (length bs) (prefix_len is_digit bs))) [
+  | inl t ↦ (let k = and_parts _ _ t in
+      let all : length bs ≤ prefix_len is_digit bs = leb-true _ _ k.1 in
+      (λ i d lt. prefix_len_passes is_digit bs i d (omega (arith, lt, all)), (leb-true _ _ k.0, sym (some_is _ _ (rw t at h)))))
+  | inr t ↦ absurd (let k : None ≡ Some e = rw t at h in cc)
+]
+
+-- what the exponent's bytes say
+pub exponent_cut : (t : List ℕ) (e : ℤ) → exponent_of t ≡ Some e → IsExponent e t
+exponent_cut [] e h = inr (refl, sym (some_is _ _ h))
+exponent_cut (b ∷ bs) e h = elim (cases_Bool (is_mark b)) [
+  | inl k ↦ (let (s, signed, cut) = sign_cut bs in
+      let w = whole_cut (is_negative bs) (unsigned bs) e (rw k at h) in
+      inl (record { mark = b; neg = is_negative bs; sign = s; digits = unsigned bs; cut = ap (λ (xs : List ℕ). b ∷ xs) cut; is_mark_byte = k; is_sign = signed; are_digits = w.0; some = w.1.0; value = w.1.1 }))
+  | inr k ↦ absurd (let n : None ≡ Some e = rw k at h in cc)
+]
+
+pub spelling_cut : (neg : Bool) (whole part : List ℕ) (X : Option ℤ) (n : Spelling) → spelling neg whole part X ≡ Some n → (e : ℤ) × (X ≡ Some e) × (1 ≤ length whole + length part) × (n ≡ record { neg = neg; coefficient = number_from (number_from 0 whole) part; exp = e -ℤ pos (length part) })
+spelling_cut neg whole part None n h = absurd cc
+spelling_cut neg whole part (Some e) n h = elim (cases_Bool (nat_le 1 (length whole + length part))) [
+  | inl k ↦ (e, refl, leb-true _ _ k, sym (some_is _ _ (rw k at h)))
+  | inr k ↦ absurd (let m : None ≡ Some n = rw k at h in cc)
+]

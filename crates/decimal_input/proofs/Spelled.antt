@@ -3,8 +3,8 @@ use Rattle.decimal_input.proofs.Common.{subst, ◌∙◌, ℤ, pos, ◌-ℤ◌, 
 use Rattle.decimal_input.proofs.Common.{BadNumber, number_from, AreDigits, IsSign, IsPart, IsInteger, Spelling, Spells, is_negative, unsigned, digits_of}
 use Rattle.decimal_input.proofs.Common.{behind, part_of, behind_part, exponent_of, integer_of, spelling, spelt, IsCapped, Names}
 use Rattle.decimal_input.proofs.Named.{IsNumber, joined}
-use Rattle.decimal_input.proofs.Parts.{HasNoSign, digit_first, digits_front, behind_front, sign_read, part_read, exponent_read, whole_read}
-use Rattle.decimal_input.proofs.Cuts.{sign_cut, front_digits, front_cut, part_cut, exponent_cut, spelling_cut, whole_cut}
+use Rattle.decimal_input.proofs.Parts.{HasNoSign, digit_first, digits_front, behind_front, sign_read, part_read, exponent_read, whole_read, sign_cut}
+use Rattle.decimal_input.proofs.Parts.{front_digits, front_cut, part_cut, exponent_cut, spelling_cut, whole_cut}
 
 pub number_append : (c : ℕ) (xs ys : List ℕ) → number_from c (xs ++ ys) ≡ number_from (number_from c xs) ys
 number_append c [] ys = refl

@@ -4,16 +4,13 @@ pub mod Decimals
 pub mod Wholes
 pub mod Grammar
 pub mod Outcomes
-pub mod Laws
-
 pub use Rattle.decimal_input.specs.Decimals.{IsDec, decimal, down, number, size, up, with_sign}
 unfoldable pub use Rattle.decimal_input.specs.Decimals.{scaled}
 pub use Rattle.decimal_input.specs.Fractions.{Fraction, IsOver, fraction_total, negated, signed, whole}
 pub use Rattle.decimal_input.specs.Grammar.{AreDigits, IsExponent, IsInteger, IsPart, IsSign, Spelling, Spells, behind, behind_part, digits_of, exponent_of}
 pub use Rattle.decimal_input.specs.Grammar.{integer_of, is_digit, is_mark, is_negative, is_sign, number_from, part_of, spelling, spelt, unsigned, whole_number}
-pub use Rattle.decimal_input.specs.Laws.{BoundsHoldOverADenominator, CeilingsKeepOrder, FloorsAndCeilingsEnclose, FloorsKeepOrder, OneCanonicalForm}
-pub use Rattle.decimal_input.specs.Laws.{OperationsKeepOrder, WordsNameOneThing}
-pub use Rattle.decimal_input.specs.Outcomes.{IsCanonical, IsCap, IsCapped, IsOf, IsTested, IsTrimmed, Names, differ}
+pub use Rattle.decimal_input.specs.Outcomes.{BoundsHoldOverADenominator, CeilingsKeepOrder, FloorsAndCeilingsEnclose, FloorsKeepOrder, IsCanonical, IsCap}
+pub use Rattle.decimal_input.specs.Outcomes.{IsCapped, IsOf, IsTested, IsTrimmed, Names, OneCanonicalForm, OperationsKeepOrder, WordsNameOneThing, differ}
 pub use Rattle.decimal_input.specs.Ratios.{Below, Ratio}
 unfoldable pub use Rattle.decimal_input.specs.Ratios.{over, ratio}
 pub use Rattle.decimal_input.specs.Wholes.{Encloses, EnclosesSigned, IsBetweenSigned, IsBetweenWhole, IsCeiling, IsCeilingPast, IsFloor, IsFloorPast, IsShare}

@@ -4,7 +4,7 @@ use Rattle.deck_alike.proofs.Common.{each_same, get_or_from_slice_get, slice_get
 use Rattle.deck_alike.proofs.Common.{AreSame, IsFirst, Finds, InOrder, IsFirstOfLayers, IsLayerCell, IsListCell, array_at, named, AreArraysSame, SharesGrid}
 use Rattle.deck_alike.proofs.Common.{SharesIn, SharesProperties, IsCellIn, IsHeadCell, IsPeriodCell, SharesOptions, SharesSizes, bottoms, properties, CellId}
 use Rattle.model_types.specs.declared.grid.Grid.{Grid}
-use Rattle.deck_alike.proofs.ZipLemmas.{first_not_all}
+use Rattle.deck_alike.proofs.Layers.{first_not_all}
 
 -- what one part finds, told of the whole
 pub finds_more : (S T : Type 0) (M N : Option CellId → Type 0) (r : Option (Option CellId)) → (S → T) → (T → S) → ((c : Option CellId) → M c → N c) → Finds S M r → Finds T N r

@@ -1,6 +1,5 @@
 mod Common
 pub mod NumberOrders
-pub mod ZipLemmas
 pub mod Layers
 pub mod Finding
 pub mod AlikeParts

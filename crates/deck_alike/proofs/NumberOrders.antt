@@ -8,7 +8,7 @@ use Rattle.std.proofs.lemmas.Nat.{pow-add}
 use Rattle.decimal_input.specs.Ratios.{AtMost as IsRatioAtMost}
 use Rattle.decimal_input.proofs.Cross.{le_cancel}
 use Rattle.decimal_input.specs.Fractions.{AtMost}
-use Rattle.decimal_input.proofs.Signs.{neg_times}
+use Rattle.decimal_input.proofs.FloorLaws.{neg_times}
 
 -- a fact in place of another one that holds exactly where it does
 pub turned_to : (r : Bool) (P Q : Type 0) → (P → Q) → (Q → P) → MatchBool r P (P → ⊥) → MatchBool r Q (Q → ⊥)

@@ -6,7 +6,7 @@ use Rattle.deck_alike.proofs.Common.{All-tail, AreGivenAlike, IsCell, bottoms, p
 use Rattle.deck_alike.proofs.Common.{reading_order, cell_of, IsFirstDifference}
 use Rattle.std.specs.Prelude.{All, ◌/◌, ◌⊎◌, zero, suc, slice_get, ◌≤◌}
 use Rattle.deck_alike.specs.declared.difference.Difference.{Difference}
-use Rattle.deck_alike.proofs.ZipLemmas.{first_is_one}
+use Rattle.deck_alike.proofs.Layers.{first_is_one}
 
 same_some : {X : Type 0} (x y : X) → Path (Option X) (Some x) (Some y) → x ≡ y
 same_some x y e = cc

@@ -1,5 +1,5 @@
 -- The cell of the first difference of a package: each part as a deck has it, one after another.
-use Rattle.std.specs.Prelude.{◌≡◌, ℕ, List, [], ◌∷◌, Option, None, length}
+use Rattle.std.specs.Prelude.{◌≡◌, ℕ, List, [], ◌∷◌, Option, None, length, Some, All, take, slice_get}
 use Rattle.std.specs.List.{AllZip}
 use Rattle.decimal_input.specs.declared.dec.Dec.{Dec}
 use Rattle.name_file.specs.declared.package.Package.{Package}
@@ -9,9 +9,10 @@ use Rattle.model_types.specs.declared.grid.Grid.{Grid}
 use Rattle.model_types.specs.declared.model.FlowModel.{FlowModel}
 use Rattle.model_types.specs.declared.period.Period.{Period}
 use Rattle.model_types.specs.{cell_count, layer_size, cell_of}
-use Rattle.deck_span.specs.{AreEntriesAlike, AreGivenAlike, AreRatesAlike}
+use Rattle.deck_span.specs.{AreEntriesAlike, AreGivenAlike, AreRatesAlike, AreAlike}
 use Rattle.deck_alike.specs.Order.{AreSame, IsFirst, InOrder, IsArrayCell, IsLayerCell, IsListCell}
-use Rattle.deck_alike.specs.Shared.{SharesHead, SharesIn}
+use Rattle.deck_alike.specs.Shared.{SharesHead, SharesIn, Shares, reading_order}
+use Rattle.deck_alike.specs.declared.difference.Difference.{Difference}
 
 -- DIS: NLAY, NROW, NCOL, NPER and LENUNI
 pub record SharesCounts (a b : FlowModel) : Type 0 where
@@ -101,3 +102,23 @@ IsCell kind a b cell =
     InOrder (SharesHead kind a b) (IsHeadCell kind a b cell)
     (InOrder (length b.periods ≡ length a.periods) (cell ≡ None)
     (IsPeriodCell kind (cell_count b.grid) a.periods b.periods cell))
+
+-- The first difference of two models, in the order in which a deck is read.
+-- The package is the first one in reading order that two models don't share, and the cell is that of the package's
+-- first difference.
+pub record IsFirstDifference (a b : FlowModel) (d : Difference) : Type 0 where
+  pub place : ℕ
+  pub kind : slice_get reading_order place ≡ Some d.package
+  pub before : All (λ x. Shares x a b) (take place reading_order)
+  pub unlike : Shares d.package a b → ⊥
+  pub cell : IsCell d.package a b d.cell
+
+-- What models share that are alike.
+-- Two models are alike where they share each package, and only there.
+abbrev pub SharedPackagesAreAlike : Type 0
+SharedPackagesAreAlike =
+    (a b : FlowModel) → (All (λ x. Shares x a b) reading_order → AreAlike a b) × (AreAlike a b → All (λ x. Shares x a b) reading_order)
+
+-- Two models have at most one first difference.
+abbrev pub DifferenceIsOne : Type 0
+DifferenceIsOne = (a b : FlowModel) (d e : Difference) → IsFirstDifference a b d → IsFirstDifference a b e → d ≡ e

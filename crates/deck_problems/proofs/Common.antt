@@ -3,7 +3,6 @@ pub use Rattle.std.proofs.Common.{Contains, List, None, Option, Some, [], ap, ar
 pub use Rattle.std.proofs.Common.{◌<◌, ◌∙◌, ◌∷◌, ◌≡◌, ◌≤◌}
 pub use Rattle.std.proofs.lemmas.List.{get_or-set_other, get_or-set_same, get_or_default, length-set}
 pub use Rattle.std.specs.Int.{int_max, int_min}
-pub use Rattle.std.specs.List.{AllZip}
 pub use Rattle.std.specs.Prelude.{IfSome, not, ◌&&◌}
 pub use Rattle.decimal_input.specs.{EnclosesSigned, Fraction}
 pub use Rattle.deck_problems.specs.{AreConstantHeadsFor, AreDecks, AreHullBounds, AreStartHeadsFor, AreStartHulls, AreStartsBy, ConstantPairEncloses}
@@ -21,6 +20,7 @@ pub use Rattle.model_types.specs.{FixedSource, FlowSource, HasSize, IsModel, cel
 pub use Rattle.model_types.specs.{period_at, start_head, times, variable_below, variable_cells, variable_faces}
 pub use Rattle.model_types.specs.declared.model.FlowModel.{FlowModel}
 pub use Rattle.model_types.specs.declared.time_steps.TimeStep.{TimeStep}
+pub use Rattle.problem_builder.proofs.CellEnclosed.{head_encloses, step_encloses}
 pub use Rattle.problem_builder.proofs.OneCell.{one_constant_pair, one_link}
 pub use Rattle.problem_builder.proofs.TimesOf.{time_of}
 pub use Rattle.problem_builder.specs.{AreConstantHeads, AreGridHeads, AreStartHeads, AreThicknesses, HasNoProblem, HeadsEnclose, IsActive, IsBuildFault}

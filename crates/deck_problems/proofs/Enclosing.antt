@@ -3,11 +3,10 @@ use Rattle.deck_problems.proofs.Common.{◌≡◌, ◌<◌, ◌≤◌, ◌∙◌
 use Rattle.deck_problems.proofs.Common.{Bound, IsHead, Entries, FlowModel, TimeStep, cell_count, constant_head, is_constant, times, period_at, IsModel}
 use Rattle.deck_problems.proofs.Common.{IsProblemOf, one_constant_pair, time_of, lower_head, upper_head, IsBetween, alike_between, hull_of_numbers}
 use Rattle.deck_problems.proofs.Common.{constants_between, steps_between, IsConstantHull, IsPairOf, IsSecond, HoldsOf, ProblemEncloses, ConstantPairIsOne}
-use Rattle.deck_problems.proofs.Common.{ConstantPairFits, ConstantPairEncloses, EnclosesSteps, IsHullProblem, IsProblemBy, EnclosesSigned}
+use Rattle.deck_problems.proofs.Common.{ConstantPairFits, ConstantPairEncloses, EnclosesSteps, IsHullProblem, IsProblemBy, EnclosesSigned, step_encloses}
 use Rattle.problem_builder.proofs.BoundsOf.{bounds_enclose, heads, head_range}
-use Rattle.problem_builder.proofs.StepEnclosed.{step_encloses}
 use Rattle.deck_span.proofs.HullsEnclose.{hull_encloses}
-use Rattle.deck_problems.proofs.Members.{HasCellsOf, between_cells, constant_same, encloses_member, encloses_first, time_of_member}
+use Rattle.deck_problems.proofs.OneProblem.{HasCellsOf, between_cells, constant_same, encloses_member, encloses_first, time_of_member}
 
 -- the cells of the second model are those of the first
 pub second_cells : (a b : FlowModel) → IsSecond a b → HasCellsOf a b

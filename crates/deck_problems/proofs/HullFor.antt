@@ -7,7 +7,7 @@ use Rattle.deck_problems.proofs.Common.{IsProblemFor, IsProblemBy, IsRefusedBy, 
 use Rattle.problem_builder.specs.GridHeads.{IsNamed}
 use Rattle.problem_builder.specs.declared.fault.BuildFault.{BuildFault}
 use Rattle.deck_problems.proofs.Enclosing.{second_cells}
-use Rattle.deck_problems.proofs.Members.{constant_same}
+use Rattle.deck_problems.proofs.OneProblem.{constant_same}
 use Rattle.problem_builder.specs.declared.fault.BuildFault.TheVariants as build
 
 -- The hull names the cells of the first problem.

@@ -1,6 +1,4 @@
 mod Common
-pub mod LikeShapes
-pub mod Members
 pub mod ProblemsAlike
 pub mod OneProblem
 pub mod Enclosing

@@ -1,9 +1,10 @@
 -- The problems of two valid models that are alike are alike.
-use Rattle.deck_problems.proofs.Common.{◌≡◌, ◌<◌, ◌∙◌, ℕ, pos, true, refl, sym, ap, subst, List, length, map, AllZip, Bound, Fixed, Entries, FlowModel}
-use Rattle.deck_problems.proofs.Common.{TimeStep, cell_count, is_variable, variable_below, AllThree, IsPeriodBetween, alike_between, framed_is, IsFlow, IsLink}
-use Rattle.deck_problems.proofs.Common.{IsFixed, IsRiver, IsDrain, IsEvap, IsCellOf, IsProblemOf, one_link, ProblemsAreAlike, flow_shape, fixed_shape}
-use Rattle.deck_problems.proofs.Common.{river_shape, drain_shape, evap_shape, cell_shape, HasSize, FixedSource, FlowSource, variable_faces, Thicknesses}
-use Rattle.deck_problems.proofs.Common.{AreThicknesses}
+use Rattle.deck_problems.proofs.Common.{◌≡◌, ◌<◌, ◌∙◌, ℕ, pos, true, refl, sym, ap, subst, List, length, map, ◌∷◌, [], inl, inr, Bound, Fixed, Entries}
+use Rattle.deck_problems.proofs.Common.{FlowModel, TimeStep, cell_count, is_variable, variable_below, HasSize, FixedSource, FlowSource, variable_faces}
+use Rattle.deck_problems.proofs.Common.{AllThree, flow_shape, fixed_shape, river_shape, drain_shape, evap_shape, cell_shape, IsPeriodBetween, alike_between}
+use Rattle.deck_problems.proofs.Common.{framed_is, IsFlow, IsLink, IsFixed, IsRiver, IsDrain, IsEvap, IsCellOf, IsProblemOf, Thicknesses, AreThicknesses}
+use Rattle.deck_problems.proofs.Common.{one_link, ProblemsAreAlike, none, next}
+use Rattle.std.specs.List.{AllZip}
 use Rattle.decimal_input.specs.declared.dec.Dec.{Dec}
 use Rattle.step_problem.specs.declared.entry.Flow.{Flow}
 use Rattle.step_problem.specs.declared.entry.Link.{Link}
@@ -12,12 +13,34 @@ use Rattle.model_types.specs.declared.face.Axis.TheVariants.{Row, Column, Vertic
 use Rattle.model_types.specs.declared.face.Face.{Face}
 use Rattle.model_types.specs.declared.period.Period.{Period}
 use Rattle.conductance_bounds.specs.{face_term, IsCapped, Term}
-use Rattle.deck_span.proofs.SourcesBetween.{IsFlowSourceBetween, IsFixedSourceBetween, IsRiverSourceBetween, IsDrainSourceBetween, IsEvapSourceBetween, framed, cells_are, faces_are, three_flows, three_fixed, three_rivers, three_drains, three_evaps}
+use Rattle.deck_span.proofs.SourcesBetween.{IsFlowSourceBetween, IsFixedSourceBetween, IsRiverSourceBetween, IsDrainSourceBetween, IsEvapSourceBetween, framed}
+use Rattle.deck_span.proofs.SourcesBetween.{cells_are, faces_are, three_flows, three_fixed, three_rivers, three_drains, three_evaps}
 use Rattle.deck_span.proofs.SourcesBetween.IsFlowSourceBetween.{pumped, received}
 use Rattle.deck_span.proofs.SourcesBetween.IsFixedSourceBetween.{constant, general, stored}
 use Rattle.problem_builder.proofs.Members.{variable-In}
 use Rattle.problem_builder.proofs.Zipped.{zip_one_list}
-use Rattle.deck_problems.proofs.LikeShapes.{one_shape, like_shapes}
+use Rattle.model_types.proofs.Members.{In}
+
+-- Two lists of bounds of like items have one shape.
+module _ {X Y Z : Type 0} (g : X → Z) where
+  -- bounds of the items of one list
+  pub one_shape : (R S : X → Y → Type 0) (xs us : List X) (ys : List Y) → ((x u : X) (y : Y) → In ys y → R x y → S u y → g u ≡ g x) → AllZip R xs ys → AllZip S us ys → map g us ≡ map g xs
+  one_shape R S [] [] [] f h k = refl
+  one_shape R S [] (u ∷ us) [] f h k = absurd k
+  one_shape R S (x ∷ xs) us [] f h k = absurd h
+  one_shape R S [] us (y ∷ ys) f h k = absurd h
+  one_shape R S (x ∷ xs) [] (y ∷ ys) f h k = absurd k
+  one_shape R S (x ∷ xs) (u ∷ us) (y ∷ ys) f h k = λ t. f x u y (inl refl) h.0 k.0 t ∷ one_shape R S xs us ys (λ a b c i. f a b c (inr i)) h.1 k.1 t
+
+  -- bounds of the first and the last items of three lists
+  pub like_shapes : (T : Y → Y → Y → Type 0) (R S : X → Y → Type 0) → ((x u : X) (y z w : Y) → T y z w → R x y → S u w → g u ≡ g x) →
+      (xs us : List X) (ys zs ws : List Y) → AllThree T ys zs ws → AllZip R xs ys → AllZip S us ws → map g us ≡ map g xs
+  like_shapes T R S each [] [] ys zs ws none h k = refl
+  like_shapes T R S each (x ∷ xs) us ys zs ws none h k = absurd h
+  like_shapes T R S each [] (u ∷ us) ys zs ws none h k = absurd k
+  like_shapes T R S each [] us ys zs ws (next t ts) h k = absurd h
+  like_shapes T R S each (x ∷ xs) [] ys zs ws (next t ts) h k = absurd k
+  like_shapes T R S each (x ∷ xs) (u ∷ us) ys zs ws (next t ts) h k = λ i. each x u _ _ _ t h.0 k.0 i ∷ like_shapes T R S each xs us _ _ _ ts h.1 k.1 i
 
 fixed_like : (x u : Fixed) → u.kind ≡ x.kind → u.source ≡ x.source → fixed_shape u ≡ fixed_shape x
 fixed_like x u kind source = λ i. record { kind = kind i; source = source i; lo = 0; hi = 0; head_lo = pos 0; head_hi = pos 0 }

@@ -3,11 +3,10 @@ use Rattle.deck_problems.proofs.Common.{◌≡◌, ◌<◌, ◌∙◌, ℕ, Opti
 use Rattle.deck_problems.proofs.Common.{lower_at, upper_at, FlowModel, start_head, dec_at, IsModel, AreGridHeads, HeadsEnclose, bound_in, lower_head}
 use Rattle.deck_problems.proofs.Common.{upper_head, IsBetween, hull_of_numbers, starts_between, Decks, IsSecond, HoldsOf, IsHullBound, AreHullBounds}
 use Rattle.deck_problems.proofs.Common.{StartHeadsAreOne, StartHeadsFit, StartHeadsEnclose, AreStartHeads, AreStartHulls, AreStartsBy, AreStartHeadsFor}
-use Rattle.problem_builder.proofs.CellEnclosed.{head_encloses}
-use Rattle.problem_builder.proofs.Filling.{one_filled}
-use Rattle.problem_builder.proofs.Starts.{one_starts, starts_fit}
+use Rattle.deck_problems.proofs.Common.{head_encloses}
+use Rattle.problem_builder.proofs.CellFits.{one_filled, one_starts, starts_fit}
 use Rattle.deck_problems.proofs.Enclosing.{second_cells}
-use Rattle.deck_problems.proofs.Members.{between_cells, cell_of_first, cell_of_member}
+use Rattle.deck_problems.proofs.OneProblem.{between_cells, cell_of_first, cell_of_member}
 
 -- the starting heads of a model lie within their bounds
 pub start_encloses : (m : FlowModel) (x : List Bound) → AreStartHeads m x → HeadsEnclose m x (start_head m)

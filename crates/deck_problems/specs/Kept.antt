@@ -1,8 +1,9 @@
 -- The tables that a run keeps from step to step.
-use Rattle.std.specs.Prelude.{◌≡◌, ℕ, ◌<◌, List, length, map}
+use Rattle.std.specs.Prelude.{◌≡◌, ℕ, ◌<◌, List, length, map, ℤ, true, false, Option, Some, None, IfSome}
 use Rattle.model_types.specs.declared.model.FlowModel.{FlowModel}
-use Rattle.model_types.specs.{given_heads, variable_cells}
+use Rattle.model_types.specs.{given_heads, variable_cells, cell_count, is_constant, IsModel}
 use Rattle.problem_builder.specs.{AreTables, ArePeriodTables, AreEvenStorages, span_in, BothOrNone, AreConstantHeads, HeadsEnclose, IsActive, IsProblemOf}
+use Rattle.problem_builder.specs.{IsConstantPair, AreStartHeads, bound_in, Filled}
 use Rattle.deck_problems.specs.declared.decks.Decks.{Decks}
 use Rattle.deck_problems.specs.declared.kept.RunTables.{RunTables}
 use Rattle.deck_problems.specs.declared.problem.DeckTables.{DeckTables}
@@ -15,8 +16,10 @@ use Rattle.flow_equations.specs.{exact_step}
 use Rattle.problem_builder.specs.GridHeads.{IsNamed}
 use Rattle.problem_builder.specs.declared.fault.BuildFault.{BuildFault}
 use Rattle.problem_builder.specs.declared.fault.BuildFault.TheVariants.{NoBound as Refused, Memory}
-use Rattle.problem_hull.specs.{IsTooLarge}
+use Rattle.problem_hull.specs.{IsTooLarge, IsHullPair}
 use Rattle.deck_problems.specs.declared.problem.DeckProblem.{DeckProblem}
+use Rattle.step_problem.specs.{no_bound}
+use Rattle.deck_span.specs.{AreAlike, IsBetween}
 
 -- the digits of conductances
 abbrev pub digits_of : RunTables → ℕ
@@ -60,3 +63,87 @@ pub record IsModelProblem (m : FlowModel) (s : ℕ) (at : TimeStep) (old : List 
 abbrev pub IsHullRefusal : List Entries → List Entries → BuildFault → Type 0
 IsHullRefusal p q (Refused n) = IsTooLarge p q n
 IsHullRefusal p q Memory = Unit {0}
+
+-- The head of a constant-head cell at a time, as a whole pair in units of 10^-9: of one deck, or the hull of two decks' pairs.
+-- lo and hi are the hull of the pairs that both models have
+pub record IsConstantHull (a b : FlowModel) (at : TimeStep) (c : ℕ) (lo hi : ℤ) : Type 0 where
+  pub first_lo : ℤ
+  pub first_hi : ℤ
+  pub first : IsConstantPair a at c first_lo first_hi
+  pub second_lo : ℤ
+  pub second_hi : ℤ
+  pub second : IsConstantPair b at c second_lo second_hi
+  pub hull : IsHullPair first_lo first_hi second_lo second_hi lo hi
+
+abbrev pub IsPairOf : FlowModel → Option FlowModel → TimeStep → ℕ → ℤ → ℤ → Type 0
+IsPairOf a None at c lo hi = IsConstantPair a at c lo hi
+IsPairOf a (Some b) at c lo hi = IsConstantHull a b at c lo hi
+
+-- the pair of the one deck, or that hull
+abbrev pub IsConstantPairFor : Decks → TimeStep → ℕ → ℤ → ℤ → Type 0
+IsConstantPairFor d at c lo hi = IsPairOf d.first d.second at c lo hi
+
+-- the pair of cell c's head if that is constant, zeros in any other cell
+pub record HasConstantHeadFor (d : Decks) (at : TimeStep) (c : ℕ) (x : Bound) : Type 0 where
+  pub constant : is_constant d.first at.period c ≡ true → IsConstantPairFor d at c x.low x.high
+  pub other : is_constant d.first at.period c ≡ false → x ≡ no_bound
+
+-- for each cell of the grid
+abbrev pub AreConstantHeadsFor : Decks → TimeStep → List Bound → Type 0
+AreConstantHeadsFor d at heads = Filled (HasConstantHeadFor d at) no_bound (cell_count d.first.grid) heads
+
+-- The hulls of two lists of bounds.
+-- r is the hull of the bounds x and y
+abbrev pub IsHullBound : Bound → Bound → Bound → Type 0
+IsHullBound x y r = IsHullPair x.low x.high y.low y.high r.low r.high
+
+-- each bound is the hull of the two bounds at its place
+pub record AreHullBounds (xs ys rs : List Bound) : Type 0 where
+  pub whole : length rs ≡ length xs
+  pub each : (c : ℕ) → c < length xs → IsHullBound (bound_in xs c) (bound_in ys c) (bound_in rs c)
+
+-- The bounds of the heads before the first step: those of STRT of the one deck, or the hulls of both decks' ones.
+pub record AreStartHulls (a b : FlowModel) (heads : List Bound) : Type 0 where
+  pub first : List Bound
+  pub is_first : AreStartHeads a first
+  pub second : List Bound
+  pub is_second : AreStartHeads b second
+  pub hulls : AreHullBounds first second heads
+
+abbrev pub AreStartsBy : FlowModel → Option FlowModel → List Bound → Type 0
+AreStartsBy a None heads = AreStartHeads a heads
+AreStartsBy a (Some b) heads = AreStartHulls a b heads
+
+abbrev pub AreStartHeadsFor : Decks → List Bound → Type 0
+AreStartHeadsFor d heads = AreStartsBy d.first d.second heads
+
+-- The models of a run: that of one deck, or all models between those of two decks.
+-- the model of one deck
+abbrev pub one_deck : FlowModel → Decks
+one_deck m = record { first = m; second = None }
+
+-- a valid model that is alike the first one: models lie between the two
+pub record IsSecond (a b : FlowModel) : Type 0 where
+  pub model : IsModel b
+  pub alike : AreAlike a b
+
+-- the conditions on decks: each model is valid, and two are alike
+pub record AreDecks (d : Decks) : Type 0 where
+  pub first : IsModel d.first
+  pub second : IfSome d.second (IsSecond d.first)
+
+-- m is the model of the one deck, or lies between those of the two
+abbrev pub IsOf : FlowModel → Option FlowModel → FlowModel → Type 0
+IsOf a None m = m ≡ a
+IsOf a (Some b) m = IsBetween a m b
+
+abbrev pub IsMember : Decks → FlowModel → Type 0
+IsMember d m = IsOf d.first d.second m
+
+-- P holds of the model of the one deck, or of every model between those of the two
+abbrev pub HoldsOf : FlowModel → Option FlowModel → (FlowModel → Type 0) → Type 0
+HoldsOf a None P = P a
+HoldsOf a (Some b) P = (m : FlowModel) → IsBetween a m b → P m
+
+abbrev pub EachMember : Decks → (FlowModel → Type 0) → Type 0
+EachMember d P = HoldsOf d.first d.second P

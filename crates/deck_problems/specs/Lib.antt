@@ -1,14 +1,9 @@
-pub mod Decks
 pub mod Kept
-pub mod ConstantHeads
-pub mod Problems
 pub mod Laws
-
-pub use Rattle.deck_problems.specs.ConstantHeads.{AreConstantHeadsFor, AreHullBounds, AreStartHeadsFor, AreStartHulls, AreStartsBy, HasConstantHeadFor}
-pub use Rattle.deck_problems.specs.ConstantHeads.{IsConstantHull, IsConstantPairFor, IsHullBound, IsPairOf}
-pub use Rattle.deck_problems.specs.Decks.{AreDecks, EachMember, HoldsOf, IsMember, IsOf, IsSecond, one_deck}
-pub use Rattle.deck_problems.specs.Kept.{AreDeckTables, AreRunTables, AreTablesOf, EnclosesSteps, HasCellsOf, IsHullRefusal, IsModelProblem, digits_of}
-pub use Rattle.deck_problems.specs.Laws.{ConstantPairEncloses, ConstantPairFits, ConstantPairIsOne, IsBefore, ProblemEncloses, ProblemExcludesRefusal}
-pub use Rattle.deck_problems.specs.Laws.{ProblemFits, ProblemIsOne, ProblemsAreAlike, RefusalIsOne, StartHeadsAreOne, StartHeadsEnclose, StartHeadsFit}
-pub use Rattle.deck_problems.specs.Problems.{HasNoHullProblem, HasNoProblemFor, IsFaultFor, IsHullProblem, IsProblemBy, IsProblemFor, IsRefusedBy}
-pub use Rattle.deck_problems.specs.Problems.HasNoHullProblem.{of_first, of_hull, of_second}
+pub use Rattle.deck_problems.specs.Kept.{AreConstantHeadsFor, AreDeckTables, AreDecks, AreHullBounds, AreRunTables, AreStartHeadsFor, AreStartHulls}
+pub use Rattle.deck_problems.specs.Kept.{AreStartsBy, AreTablesOf, EachMember, EnclosesSteps, HasCellsOf, HasConstantHeadFor, HoldsOf, IsConstantHull}
+pub use Rattle.deck_problems.specs.Kept.{IsConstantPairFor, IsHullBound, IsHullRefusal, IsMember, IsModelProblem, IsOf, IsPairOf, IsSecond, digits_of, one_deck}
+pub use Rattle.deck_problems.specs.Laws.{ConstantPairEncloses, ConstantPairFits, ConstantPairIsOne, HasNoHullProblem, HasNoProblemFor, IsBefore, IsFaultFor}
+pub use Rattle.deck_problems.specs.Laws.{IsHullProblem, IsProblemBy, IsProblemFor, IsRefusedBy, ProblemEncloses, ProblemExcludesRefusal, ProblemFits}
+pub use Rattle.deck_problems.specs.Laws.{ProblemIsOne, ProblemsAreAlike, RefusalIsOne, StartHeadsAreOne, StartHeadsEnclose, StartHeadsFit}
+pub use Rattle.deck_problems.specs.Laws.HasNoHullProblem.{of_first, of_hull, of_second}

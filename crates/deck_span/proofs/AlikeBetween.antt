@@ -4,7 +4,7 @@ use Rattle.deck_span.proofs.Common.{Ratio, Fraction, den, AtMost, Entry, Given, 
 use Rattle.deck_span.proofs.Common.{IsRatioBetween, IsDecBetween, IsSizeBetween, IsEntryBetween, IsGivenAtMost, IsGivenBetween, IsRateBetween, IsPeriodBetween}
 use Rattle.deck_span.proofs.Common.{IsBetween, wells, rivers, drains, generals, AreGivenAlike, ArePeriodsAlike, AreAlike, AreEntriesAlike, AreRatesAlike}
 use Rattle.deck_span.proofs.Common.{LiesBetween, AtMost-refl, by_lt_z}
-use Rattle.deck_span.proofs.Monotone.{least}
+use Rattle.deck_span.proofs.HullBounds.{least}
 use Rattle.decimal_input.specs.Ratios.{den as ratio_den, AtMost as IsRatioAtMost}
 use Rattle.model_types.specs.declared.entry.Entry.TheVariants.{Well, River, Drain, General}
 

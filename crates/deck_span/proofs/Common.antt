@@ -6,12 +6,12 @@ pub use Rattle.std.proofs.lemmas.Int.{by_lt_z, clamps, ints}
 pub use Rattle.std.proofs.lemmas.List.{get_or_default, reverse-append}
 pub use Rattle.std.specs.List.{AllZip, cons_option, filter, filter_map, find, flat_map, range_with_len}
 pub use Rattle.std.specs.Prelude.{int_lt, is_some, max, min, negsuc, not, unsigned_abs, ◌&&◌, ◌==◌, ◌||◌}
-pub use Rattle.cell_balance.proofs.Totals.{add_mul, le_trans_z}
+pub use Rattle.cell_balance.proofs.Deep.{add_mul, le_trans_z}
 pub use Rattle.cell_balance.specs.{CellEncloses, DrainEncloses, EnclosesStep, EvapEncloses, ExactCell, ExactDrain, ExactEvap, ExactFixed, ExactFlow, ExactLink}
 pub use Rattle.cell_balance.specs.{ExactRiver, FixedEncloses, FlowEncloses, HasEqualEnds, HasLinkBack, LinkEncloses, RiverEncloses, cell_at}
 pub use Rattle.decimal_input.proofs.Differences.{as_diff, diffs, same_diff}
+pub use Rattle.decimal_input.proofs.FloorLaws.{cancel_right, le-add, mul_mono_right, swap}
 pub use Rattle.decimal_input.proofs.Orders.{AtMost-refl, AtMost-trans, den_plus, num_plus, over-AtMost, times-AtMost}
-pub use Rattle.decimal_input.proofs.Signs.{cancel_right, mul_mono_right, swap}
 pub use Rattle.decimal_input.specs.{Encloses, EnclosesSigned, Fraction, Ratio, negated, number, over, signed, size}
 pub use Rattle.decimal_input.specs.Fractions.{AtMost, den, plus}
 pub use Rattle.decimal_input.specs.declared.dec.Dec.{Dec}

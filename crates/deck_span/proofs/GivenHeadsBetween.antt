@@ -2,13 +2,12 @@
 use Rattle.deck_span.proofs.Common.{◌≡◌, ℕ, zero, suc, ◌+◌, ◌*◌, ◌-◌, ◌≤◌, arith, sym, ap, ◌∙◌, subst, Bool, true, false, cond, ℤ, pos, neg_ℤ, ◌+ℤ◌, ◌*ℤ◌, ◌≤ℤ◌}
 use Rattle.deck_span.proofs.Common.{◌==◌, ◌||◌, number, Ratio, Fraction, den, AtMost, signed, negated, plus, mul_mono_right, diffs, as_diff, same_diff}
 use Rattle.deck_span.proofs.Common.{AtMost-refl, num_plus, den_plus, Period, Given, one, power, geometric, multiplier, passed, between_heads, IsFractionBetween}
-use Rattle.deck_span.proofs.Common.{IsGivenAtMost, IsGivenBetween, AtMost-trans, add_mul}
+use Rattle.deck_span.proofs.Common.{IsGivenAtMost, IsGivenBetween, AtMost-trans, add_mul, le-add}
 use Rattle.decimal_input.specs.Ratios.{den as size_den, AtMost as IsRatioAtMost, plus as size_plus}
 use Rattle.decimal_input.specs.{over as size_over, ratio as size_ratio}
 use Rattle.decimal_input.specs.Fractions.{times}
-use Rattle.step_problem.proofs.Ring.{mul_assoc}
-use Rattle.decimal_input.proofs.Integers.{le-add}
-use Rattle.deck_span.proofs.Monotone.{between_image}
+use Rattle.step_problem.proofs.Leasts.{mul_assoc}
+use Rattle.deck_span.proofs.HullBounds.{between_image}
 
 -- the head over the denominators of its ends: a / x at the start, b / y at the end, u of w + u passed
 top_is : (a b x y w u : ℤ) → a *ℤ ((y *ℤ x) *ℤ (w +ℤ u)) +ℤ ((b *ℤ x +ℤ neg_ℤ a *ℤ y) *ℤ u) *ℤ x ≡ a *ℤ (w *ℤ (y *ℤ x)) +ℤ b *ℤ (u *ℤ (x *ℤ x))

@@ -11,7 +11,7 @@ use Rattle.step_problem.specs.declared.entry.Drain.{Drain}
 use Rattle.step_problem.specs.declared.entry.Evap.{Evap}
 use Rattle.step_problem.specs.declared.entry.Link.{Link}
 use Rattle.step_problem.specs.Entries.{Entries}
-use Rattle.problem_hull.proofs.Links.{links_are}
+use Rattle.problem_hull.proofs.Shapes.{links_are}
 use Rattle.deck_span.proofs.HullBounds.{numbers_enclose, sizes_enclose}
 
 -- what holds of five items at each place holds of the lists

@@ -2,7 +2,6 @@ mod Common
 pub mod ThreeLists
 pub mod HullBounds
 pub mod HullsEnclose
-pub mod Monotone
 pub mod GivenHeadsBetween
 pub mod SourcesBetween
 pub mod StepsBetween

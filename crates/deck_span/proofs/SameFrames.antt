@@ -7,7 +7,7 @@ use Rattle.deck_span.proofs.Common.{AreEntriesAlike, AreRatesAlike}
 use Rattle.model_types.specs.{times}
 use Rattle.deck_span.proofs.SourcesBetween.{framed, no_dec, at_period, variable_is, cells_are}
 use Rattle.deck_span.proofs.StepsBetween.{framed_is, constant_between}
-use Rattle.decimal_input.proofs.Fractional.{AtMost-trans}
+use Rattle.decimal_input.proofs.FloorLaws.{AtMost-trans}
 
 module _ (f : FlowModel) (s₁ s₂ s₃ : List Dec) (ps qs rs : List Period) (periods : AllThree IsPeriodBetween ps qs rs) where
   framed_times : (times (framed f s₂ qs) ≡ times (framed f s₁ ps)) × (times (framed f s₃ rs) ≡ times (framed f s₁ ps))

@@ -8,9 +8,10 @@ use Rattle.deck_span.proofs.Common.{flow_sources, fixed_sources, river_sources, 
 use Rattle.deck_span.proofs.Common.{IsEntryBetween, IsGivenBetween, IsRateBetween, IsPeriodBetween, wells, rivers, drains, generals, three_at, three_append}
 use Rattle.deck_span.proofs.Common.{faces, through, IsRiverBetween, IsDrainBetween, exact_river, exact_drain, ToConstant, ToGeneral, FromStorage, Pumped}
 use Rattle.deck_span.proofs.Common.{Received}
-use Rattle.deck_span.proofs.ThreeLists.{OptionThree, option_list, option_all_or_none, three_map, three_images, three_take, three_flat_map, three_reverse, three_filter, three_find, three_filter_map}
+use Rattle.deck_span.proofs.ThreeLists.{OptionThree, option_list, option_all_or_none, three_map, three_images, three_take, three_flat_map, three_reverse}
+use Rattle.deck_span.proofs.ThreeLists.{three_filter, three_find, three_filter_map}
 use Rattle.deck_span.proofs.ThreeLists.OptionThree.{nothing, something}
-use Rattle.deck_span.proofs.Monotone.{number_itself, size_itself}
+use Rattle.deck_span.proofs.HullBounds.{number_itself, size_itself}
 
 -- sources of each kind
 pub data IsFlowSourceBetween : FlowSource → FlowSource → FlowSource → Type 0 where

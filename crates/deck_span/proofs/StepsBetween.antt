@@ -18,12 +18,14 @@ use Rattle.std.proofs.lemmas.List.Elements.{All-head, All-tail}
 use Rattle.std.proofs.lemmas.Bool.Decides.{nat_tests}
 use Rattle.deck_span.proofs.ThreeLists.{OptionThree, three_map}
 use Rattle.deck_span.proofs.ThreeLists.OptionThree.{nothing, something}
-use Rattle.deck_span.proofs.Monotone.{number_itself, size_itself, between_image, times_keeps, plus_keeps, rate_keeps}
+use Rattle.deck_span.proofs.HullBounds.{number_itself, size_itself, between_image, times_keeps, plus_keeps, rate_keeps}
 use Rattle.deck_span.proofs.GivenHeadsBetween.{heads_between, part_of}
-use Rattle.deck_span.proofs.SourcesBetween.{IsFlowSourceBetween, IsFixedSourceBetween, IsRiverSourceBetween, IsDrainSourceBetween, IsEvapSourceBetween, framed, no_dec, given_three, last_three, at_period, cells_are, faces_are, three_flows, three_fixed, three_rivers, three_drains, three_evaps}
+use Rattle.deck_span.proofs.SourcesBetween.{IsFlowSourceBetween, IsFixedSourceBetween, IsRiverSourceBetween, IsDrainSourceBetween, IsEvapSourceBetween, framed}
+use Rattle.deck_span.proofs.SourcesBetween.{no_dec, given_three, last_three, at_period, cells_are, faces_are, three_flows, three_fixed, three_rivers}
+use Rattle.deck_span.proofs.SourcesBetween.{three_drains, three_evaps}
 use Rattle.deck_span.proofs.SourcesBetween.IsFlowSourceBetween.{pumped, received}
 use Rattle.deck_span.proofs.SourcesBetween.IsFixedSourceBetween.{constant, general, stored}
-use Rattle.flow_equations.proofs.Values.{size_positive}
+use Rattle.flow_equations.proofs.Downwards.{size_positive}
 
 -- A variable cell is active.
 

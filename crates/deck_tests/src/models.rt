@@ -78,8 +78,13 @@ pub fn push_model_answer(
         return Ok(page.line("no model"));
     };
     if question == "@write" {
-        return push_written(page, folder, &first);
+        let answer = push_written(page, folder, &first);
+        drop(first);
+        return answer;
     }
     let second = None;
-    push_steps(page, &Decks { first, second }, count_of(digits).min(18))
+    let decks = Decks { first, second };
+    let answer = push_steps(page, &decks, count_of(digits).min(18));
+    drop(decks);
+    answer
 }

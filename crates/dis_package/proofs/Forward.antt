@@ -2,8 +2,7 @@
 use Rattle.dis_package.proofs.Common.{◌≡◌, ℕ, ◌-◌, ℤ, List, Result, Ok, All, IfOk, LineMay, LinesMay, line_at, Left, Numbered, repeated, chain, after}
 use Rattle.dis_package.proofs.Common.{line_held, leaves, repeated_held, head_of, Frame, Limits, beds_of, frame_of, words, beginning}
 use Rattle.array_reader.specs.{value_alone, zero_at, integer}
-use Rattle.array_reader.proofs.Forward.{value_alone_held}
-use Rattle.array_reader.proofs.PackageForward.{zero_held}
+use Rattle.array_reader.proofs.Forward.{value_alone_held, zero_held}
 
 module _ (P : Numbered → Type 0) (file : List ℕ) where
   beds_held : (layers : ℕ) (left : Left) → All P left.lines → IfOk (beds_of file layers left) (λ x. All P x.1.lines)

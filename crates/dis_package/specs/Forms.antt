@@ -4,7 +4,7 @@ use Rattle.decimal_input.specs.{IsDec}
 use Rattle.model_types.specs.declared.model.FlowModel.{FlowModel}
 use Rattle.model_types.specs.declared.period.Period.{Period}
 use Rattle.model_types.specs.{IsGrid, no_stresses, IsTimed}
-use Rattle.dis_package.specs.Discretization.{begun}
+use Rattle.dis_package.specs.Frames.{begun}
 use Rattle.dis_package.specs.declared.frame.Frame.{Frame}
 use Rattle.dis_package.specs.declared.frame.Size.{Size}
 use Rattle.dis_package.specs.declared.periods.Time.{Time}

@@ -1,10 +1,10 @@
 -- The first line of a file of the discretization: NLAY NROW NCOL NPER ITMUNI LENUNI (TM 6-A16, DIS, item 1).
 use Rattle.std.specs.Prelude.{ℕ, ◌*◌, List, nat_le, Option, Some, None, Result, Ok, Err, if◌then◌else◌, ◌-◌, ℤ, [], ◌∷◌, ◌++◌, ◌+◌, Bool, true, false, not}
-use Rattle.std.specs.Prelude.{◌&&◌, ◌||◌, codes}
-use Rattle.outside.specs.{refusal, words}
+use Rattle.std.specs.Prelude.{◌&&◌, ◌||◌, codes, pos}
+use Rattle.outside.specs.{refusal, words, FileSet}
 use Rattle.outside.specs.declared.codes.Code.TheVariants.{BadGrid}
 use Rattle.outside.specs.declared.inputs.Refusal.{Refusal}
-use Rattle.record_lines.specs.{◌>>=◌, repeated, Left, beginning, is_word, line_at}
+use Rattle.record_lines.specs.{◌>>=◌, repeated, Left, beginning, is_word, line_at, left_from, without_comments}
 use Rattle.array_reader.specs.{number_at, integer, number, value_alone, zero_at}
 use Rattle.model_types.specs.declared.limits.Limits.{Limits}
 use Rattle.model_types.specs.{most_layers, most_in_row, most_cells, no_stresses}
@@ -14,6 +14,9 @@ use Rattle.dis_package.specs.declared.frame.Size.{Size}
 use Rattle.decimal_input.specs.{size}
 use Rattle.model_types.specs.declared.period.Period.{Period}
 use Rattle.dis_package.specs.declared.periods.Time.{Time}
+use Rattle.model_types.specs.declared.grid.Grid.{Grid}
+use Rattle.model_types.specs.declared.model.FlowModel.{FlowModel}
+use Rattle.dis_package.specs.Grids.{grid_of}
 
 abbrev pub inside : Option ℕ → Refusal → Result ℕ Refusal
 inside None r = Err r
@@ -91,3 +94,39 @@ period_at file s = do
 
 unfoldable pub periods_of : List ℕ → ℕ → Left → Result (List Period) Refusal
 periods_of file count left = repeated count (period_at file) (0, left) >>= λ x. Ok x.0
+
+-- A file of the discretization, item by item (TM 6-A16, DIS).
+-- a model of which only this has been read
+abbrev pub begun : Grid → ℤ → List Period → FlowModel
+begun grid lenuni periods =
+    record {
+      grid = grid;
+      lenuni = lenuni;
+      ibound = [];
+      strt = [];
+      layvka = [];
+      coefficient = false;
+      hk = [];
+      hani = [];
+      vka = [];
+      ss = [];
+      vkcb = [];
+      nrchop = pos 0;
+      nevtop = pos 0;
+      periods = periods;
+    }
+
+-- the first line, and LAYCBD
+unfoldable pub head_of : Limits → List ℕ → Left → Result ((Frame × List ℤ) × Left) Refusal
+head_of limits file left = do
+  line ← line_at file left
+  frame ← frame_of limits file line.0.number (words line.0.bytes)
+  laycbd ← beds_of file frame.size.layers line.1
+  Ok ((frame, laycbd.0), laycbd.1)
+
+unfoldable pub dis_of : Limits → FileSet → List ℕ → List ℕ → Result FlowModel Refusal
+dis_of limits files file bytes = do
+  head ← head_of limits file (without_comments (left_from 1 bytes))
+  grid ← grid_of files file head.0.0.size head.0.1 head.1
+  periods ← periods_of file head.0.0.periods grid.1
+  Ok (begun grid.0 head.0.0.lenuni periods)

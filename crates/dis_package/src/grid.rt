@@ -78,7 +78,7 @@ pub fn grid_of<F: Folder>(
 // The model as DIS begins it.
 
 /// The first line, and LAYCBD.
-#[tactic(auto, unfolding(crate::specs::Discretization::head_of))]
+#[tactic(auto, unfolding(crate::specs::Frames::head_of))]
 fn head_of(
     alloc: Global,
     limits: Limits,
@@ -126,7 +126,7 @@ fn begun(alloc: Global, grid: Grid, lenuni: i64, periods: Vec<Period>) -> FlowMo
 /// # Errors
 /// The first item that is wrong is refused on its line; a read fault comes only from the folder.
 /// (TM 6-A16, DIS)
-#[tactic(auto, unfolding(crate::specs::Discretization::dis_of))]
+#[tactic(auto, unfolding(crate::specs::Frames::dis_of))]
 pub fn read_dis<F: Folder>(
     alloc: Global,
     limits: Limits,

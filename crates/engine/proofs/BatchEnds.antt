@@ -1,9 +1,10 @@
 -- The ends of a batch, by its reading and its jobs.
-use Rattle.engine.proofs.Common.{Job, Text, IsRun, NeverCut, Vec, Global, ends_of_jobs, IsBatch, JobEnd, Wanted, AreDecks, AreTasks, IsBatchRead, AskedBatch}
-use Rattle.engine.proofs.Common.{Batch, IsCase, Jobs, Refuses, asked_in, case_asked, case_jobs, readings_of, Command, Due, IsJobEnd, IsRunText, ReadsFolder}
-use Rattle.engine.proofs.Common.{defined, model_line, Answers, IsReadingEnd, IsValidJob, refused_line, IsTask, Task, InputCounts, Rose, Put, FileSet}
-use Rattle.engine.proofs.Common.{InputFault, Refusal, weaker, Status, Err, IfOk, List, None, Ok, Result, Some, ap, inl, refl, subst, sym, ℕ, ◌++◌, ◌∙◌, ◌∷◌}
-use Rattle.engine.proofs.Common.{◌≡◌, [], Option, append-nil, All-weaker, AllZip, All, slice_get}
+use Rattle.engine.proofs.Common.{Job, Text, IsRun, NeverCut, Vec, Global, ends_of_jobs, IsBatch, JobEnd, Wanted, Lists, Checks, Batches, Writes, wanted_of}
+use Rattle.engine.proofs.Common.{Makes, AreDecks, AreTasks, IsBatchRead, AskedBatch, Batch, IsCase, Jobs, Refuses, asked_in, case_asked, case_jobs, readings_of}
+use Rattle.engine.proofs.Common.{Command, Due, IsJobEnd, IsRunText, ReadsFolder, defined, model_line, Answers, IsReadingEnd, IsValidJob, Run, Check, Write}
+use Rattle.engine.proofs.Common.{Make, built, MayRead, files_of, files_if, files_named, but_batch, refused_line, IsTask, Task, InputCounts, Rose, Put, FileSet}
+use Rattle.engine.proofs.Common.{folder_name, WordsMay, InputFault, Refusal, weaker, Status, Err, IfOk, List, None, Ok, Result, Some, ap, inl, refl, subst, sym}
+use Rattle.engine.proofs.Common.{ℕ, ◌++◌, ◌∙◌, ◌∷◌, ◌≡◌, [], Option, append-nil, All-weaker, All-head, All-tail, All-nil, AllZip, All, slice_get}
 use Rattle.std.specs.Prelude.{IfSome, length}
 use Rattle.batch_book.specs.{AreJobEnds}
 use Rattle.engine.proofs.Ends.{any_case, any_readings, ends_without_words, is_any_case, refused, unreadable}
@@ -70,3 +71,63 @@ valid_jobs jobs h = All-weaker (λ (job : Job). IfOk job.read IsTask) IsValidJob
     by_read : (r : Result Task Refusal) → IfOk r IsTask → IfOk r (λ k. AreDecks k.decks)
     by_read (Ok k) t = t.decks
     by_read (Err refusal) t = tt
+
+-- The files of a command are those that its words name.
+module _ (may : List ℕ → Type 0) where
+  abbrev pub May : Text → Type 0
+  May name = may (folder_name name)
+
+  -- the files of a command
+  abbrev pub MayDo : Command → Type 0
+  MayDo (Run a to) = MayRead may a.name to a.zones
+  MayDo (Make seed size) = Unit {0}
+  MayDo (Check a to) = MayRead may a.name to a.zones × May a.listing
+  MayDo (Batch b) = May b.list
+  MayDo (Write limits name) = May name
+
+  both : (a b : Text) → All May (a ∷ b ∷ []) → May a × May b
+  both a b h = (All-head May a (b ∷ []) h, All-head May b [] (All-tail May a (b ∷ []) h))
+
+  three : (a b c : Text) → All May (a ∷ b ∷ c ∷ []) → May a × May b × May c
+  three a b c h = let p = both b c (All-tail May a (b ∷ c ∷ []) h) in (All-head May a (b ∷ c ∷ []) h, p.0, p.1)
+
+  four : (a b c d : Text) → All May (a ∷ b ∷ c ∷ d ∷ []) → May a × May b × May c × May d
+  four a b c d h = let p = three b c d (All-tail May a (b ∷ c ∷ d ∷ []) h) in (All-head May a (b ∷ c ∷ d ∷ []) h, p.0, p.1, p.2)
+
+  built_may : (w : Wanted) → WordsMay may (files_of w) → MayDo (built w)
+  built_may (Lists name None digits workers rounds None turns quick wide) h = (All-head May name [] h, tt, tt)
+  built_may (Lists name None digits workers rounds (Some zones) turns quick wide) h = let p = both name zones h in (p.0, tt, p.1)
+  built_may (Lists name (Some to) digits workers rounds None turns quick wide) h = let p = both name to h in (p.0, p.1, tt)
+  built_may (Lists name (Some to) digits workers rounds (Some zones) turns quick wide) h = three name to zones h
+  built_may (Checks name None listing digits None wide) h = let p = both name listing h in ((p.0, tt, tt), p.1)
+  built_may (Checks name None listing digits (Some zones) wide) h = let p = three name zones listing h in ((p.0, tt, p.1), p.2)
+  built_may (Checks name (Some to) listing digits None wide) h = let p = three name to listing h in ((p.0, p.1, tt), p.2)
+  built_may (Checks name (Some to) listing digits (Some zones) wide) h = let p = four name to zones listing h in ((p.0, p.1, p.2), p.3)
+  built_may (Writes name wide) h = All-head May name [] h
+  built_may (Batches list digits workers rounds quick wide) h = All-head May list [] h
+  built_may (Makes seed size) h = tt
+
+  may_do : (o : Option Wanted) → WordsMay may (files_if o) → (c : Command) → asked_in o ≡ Some c → MayDo c
+  may_do o h c e = subst (λ (o : Option Command). IfSome o MayDo) e (by_order o h)
+    where
+      by_order : (o : Option Wanted) → WordsMay may (files_if o) → IfSome (asked_in o) MayDo
+      by_order None h = tt
+      by_order (Some w) h = built_may w h
+
+  of_one : (o : Option Wanted) → WordsMay may (files_if o) → WordsMay may (files_if (but_batch o))
+  of_one (Some (Batches list digits workers rounds quick wide)) h = All-nil May
+  of_one other h = h
+
+  module _ (words : List Text) (h : WordsMay may (files_named words)) where
+    -- the files of a command for one model
+    pub command_named : (c : Command) → asked_in (but_batch (wanted_of words)) ≡ Some c → MayDo c
+    command_named = may_do (but_batch (wanted_of words)) (of_one (wanted_of words) h)
+
+    -- the list of a batch
+    pub batch_named : (b : AskedBatch) → asked_in (wanted_of words) ≡ Some (Batch b) → May b.list
+    batch_named b = may_do (wanted_of words) h (Batch b)
+
+-- a file that might be asked for may still be
+pub file_still : (may more : List ℕ → Type 0) (file : Option Text) → ((name : List ℕ) → may name → more name) → IfSome file (λ name. may (folder_name name)) → IfSome file (λ name. more (folder_name name))
+file_still may more None still h = tt
+file_still may more (Some name) still h = still _ h

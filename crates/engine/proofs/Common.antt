@@ -19,7 +19,7 @@ pub use Rattle.check_run.specs.declared.verdict.ListingVerdict.TheVariants.{Fail
 pub use Rattle.command_line.specs.{Batches, Checks, Lists, Makes, Wanted, Writes, usage_line, wanted_of}
 pub use Rattle.deck_alike.specs.{DifferenceIsOne, IsFirstDifference}
 pub use Rattle.deck_alike.specs.declared.difference.Difference.{Difference}
-pub use Rattle.deck_problems.proofs.Members.{one_valid}
+pub use Rattle.deck_problems.proofs.OneProblem.{one_valid}
 pub use Rattle.deck_problems.specs.{AreDecks, one_deck}
 pub use Rattle.deck_problems.specs.declared.decks.Decks.{Decks}
 pub use Rattle.deck_span.specs.{AreAlike}
@@ -39,7 +39,6 @@ pub use Rattle.engine.specs.{numbers_of, of_both, of_first, of_second, readings_
 pub use Rattle.engine.specs.{task_of, task_read, to_of, unread, verdict_line, verdict_status, views_asked, views_in, views_of, with_zones, zoned_steps}
 pub use Rattle.engine.specs.{zones_named, zones_read}
 unfoldable pub use Rattle.engine.specs.{second_in}
-pub use Rattle.engine.specs.Batched.{Batched}
 pub use Rattle.engine.specs.Certified.{Certified}
 pub use Rattle.engine.specs.Made.{Made}
 pub use Rattle.engine.specs.Watched.{Watched}
@@ -51,10 +50,11 @@ pub use Rattle.listing_io.specs.{AreListed, all_lines, listing_at, listing_in, o
 pub use Rattle.listing_io.specs.declared.listing.ListedStep.{ListedStep}
 pub use Rattle.listing_run.proofs.Lines.{ends_by}
 pub use Rattle.listing_run.proofs.Pieces.{alone, beside, beside_by, wanting_not_ok}
-pub use Rattle.listing_run.proofs.Wholes.{IsWhole, is_whole, whole_listing}
+pub use Rattle.listing_run.proofs.Settled.{IsWhole, is_whole, whole_listing}
 pub use Rattle.listing_run.specs.{AllSettledBy, AllSteps, AreSettledBy, EnclosesHistories, HasLargeFlow, IsCutListing, IsListing, IsListingBeside, IsSettledBy}
 pub use Rattle.listing_run.specs.{IsStep, IsTask, ListingExcludesRefusal, ListingIsOne, PairEncloses, Reaches, ReachesFirst, RefusalIsOne, RestsOrSettles}
-pub use Rattle.listing_run.specs.{deck_task, last_line, left, listed, listing, no_budget, no_heads, no_zones, one_task, pairs_of, rests, settled, status_of}
+pub use Rattle.listing_run.specs.{Steps, deck_task, last_line, left, listed, listing, no_budget, no_heads, no_zones, one_task, pairs_of, rests, settled}
+pub use Rattle.listing_run.specs.{status_of}
 pub use Rattle.listing_run.specs.Settlers.{begun}
 pub use Rattle.listing_run.specs.declared.solving.Step.{Step}
 pub use Rattle.listing_run.specs.declared.steps.Task.{Task}

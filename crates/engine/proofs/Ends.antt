@@ -1,12 +1,15 @@
 -- The ends of a run, by its words, its reading and its listing.
 use Rattle.engine.proofs.Common.{◌≡◌, ℕ, List, [], ◌∷◌, Ok, Err, Result, Option, None, Some, IfOk, subst, sym, ap, refl, inl, inr, ◌∙◌, codes, map}
-use Rattle.engine.proofs.Common.{unsigned_abs, FileSet, Rose, file_refusal, Put, BadName, Refusal, Wanted, FlowModel, IsModel, ListedStep, refused_line}
-use Rattle.engine.proofs.Common.{read_fault_line, IsEnd, IsLast, IsWanting, wanting, memory_put, status_after, Status, tail_late, lone, lacks_at_first, weaker}
-use Rattle.engine.proofs.Common.{AreZonesOf, Case, Command, Make, NoWords, Refuses, Making, IsCase, CouldList, CouldRead, asked_in, case_asked, made_model, Due}
-use Rattle.engine.proofs.Common.{ReadsFolder, CutOf, IsMade, Answers, IsMadeRun, IsStopped, IsValid, defined, Comparing, Readings, readings_of, some_readings}
-use Rattle.engine.proofs.Common.{Second, unread, but_batch, usage_line}
+use Rattle.engine.proofs.Common.{unsigned_abs, FileSet, Rose, file_refusal, Put, IsReading, with_limit, BadName, Refusal, Wanted, usage_line, FlowModel}
+use Rattle.engine.proofs.Common.{IsModel, most_bytes, ListedStep, refused_line, read_fault_line, IsEnd, IsLast, IsWanting, wanting, memory_put, status_after}
+use Rattle.engine.proofs.Common.{Text, Status, tail_late, lone, lacks_at_first, weaker, AreZonesOf, Case, Command, Make, NoWords, Refuses, Making, IsCase}
+use Rattle.engine.proofs.Common.{CouldList, CouldRead, asked_in, case_asked, made_model, Due, ReadsFolder, CutOf, IsMade, Answers, IsMadeRun, IsStopped}
+use Rattle.engine.proofs.Common.{IsValid, defined, Comparing, Readings, readings_of, some_readings, Second, unread, but_batch, named, made_task, summed_text}
+use Rattle.engine.proofs.Common.{IsReadAs, IsReadingEnd, made_fault, InputFault, ListingEnd, last_line, listing, status_of, made_files, made_name, Plain}
+use Rattle.engine.proofs.Common.{IsSummarized, reads}
 use Rattle.engine.proofs.Dues.{late_stops}
 use Rattle.engine.proofs.Readings.{no_second, no_zones}
+use Rattle.listing_summary.specs.declared.summary.Summary.{Summary}
 use Rattle.outside.specs.declared.inputs.InputFault.TheVariants as input
 use Rattle.run_puts.specs.declared.puts.Status.TheVariants as status
 
@@ -100,3 +103,42 @@ module _ (order : Option Wanted) (seed size : ℕ) (wanted : asked_in order ≡ 
     run = weaker (IsMade seed size (made_model seed size)) (Due (Rose n m) made_case) (λ pieces. ⊥) (λ meant pieces d. defined meant pieces d) end puts h.run;
     valid = h.valid;
   }
+
+-- The ends of the run of a made model.
+module _ (seed size : ℕ) where
+  abbrev DueHere : Status → List Text → Type 0
+  DueHere = IsMade seed size (made_model seed size)
+
+  abbrev Never : List Text → Type 0
+  Never pieces = ⊥
+
+  pub made_lacking : (end : Status) (puts : List Put) → IsWanting end puts → IsMadeRun seed size end puts
+  made_lacking end puts h = record { run = lacks_at_first DueHere Never end puts h; valid = inr (wanting_stops end puts h) }
+
+  module _ (read : Result FlowModel Refusal) (is : made_model seed size ≡ read) (valid : IfOk read IsModel) where
+    is_valid : IfOk (made_model seed size) IsModel
+    is_valid = let P : Result FlowModel Refusal → Type 0 = λ r. IfOk r IsModel in subst P (sym is) valid
+
+    alone : (line : Text) (meant end : Status) (puts : List Put) → IsMade seed size read meant (line ∷ []) → IsEnd line meant end puts → IsMadeRun seed size end puts
+    alone line meant end puts due h =
+        let P : Result FlowModel Refusal → Type 0 = λ r. IsMade seed size r meant (line ∷ []) in
+        record { run = lone DueHere Never line meant end puts (subst P (sym is) due) h; valid = inl is_valid }
+
+  -- what a folder of these files reads as
+  pub made_reading : (files : FileSet) (answer : Result FlowModel InputFault) → files ≡ with_limit (most_bytes Plain) (made_files seed size) → IsReadAs Plain made_name (Some files) answer → IsReading (λ m. m) (made_model seed size) answer
+  made_reading files answer is h = subst (λ (fs : FileSet). IsReading (λ m. m) (named made_name (reads Plain fs)) answer) is h
+
+  -- a listing of the made model ended so, of which this is the summary
+  pub made_ended : (m : FlowModel) (s : Summary) (last : ListingEnd) (end : Status) (puts : List Put) → made_model seed size ≡ Ok m → IsModel m → IsSummarized (made_task m) s last → IsEnd (summed_text seed size m.grid s last) (status_of last) end puts → IsMadeRun seed size end puts
+  made_ended m s last end puts is valid h line =
+      let one : IsMade seed size (Ok m) (status_of last) (summed_text seed size m.grid s last ∷ []) = record {
+        all = listing (made_task m) h.values (last_line m.grid last);
+        listed = record { last = last; status = refl; values = h.values; steps = h.steps; encloses = h.encloses; are = refl };
+        are = ap (λ x. summed_text seed size m.grid x last ∷ []) h.is;
+      } in
+      alone (Ok m) is valid (summed_text seed size m.grid s last) (status_of last) end puts one line
+
+  pub made_unread : (fault : InputFault) (end : Status) (puts : List Put) → IsReading {T = FlowModel} (λ m. m) (made_model seed size) (Err fault) → IsReadingEnd (made_fault fault) end puts → IsMadeRun seed size end puts
+  made_unread (input.Refused refusal) end puts is h = alone (Err refusal) is tt (refused_line refusal) (status.Refused refusal) end puts (refl, refl) h
+  made_unread input.ReadFault end puts is h = made_lacking end puts h
+  made_unread input.Memory end puts is h = made_lacking end puts h

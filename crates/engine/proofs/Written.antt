@@ -7,7 +7,7 @@ use Rattle.engine.proofs.Common.{case_asked, case_listed, case_of, listing_read,
 use Rattle.engine.proofs.Common.{IsCheck, certified_line, Defines, Limits, unit_is_short, one_task, IsReadable, RunIsCertified, RunIsReadAgain, as_listed, Step}
 use Rattle.engine.proofs.Common.{EnclosesHistories, AllSteps, ChecksWritten, OneListingIsCertified, WrittenIsCertified, readings_of, Task, case_decks, false}
 use Rattle.engine.proofs.Common.{reads, AreDecks, Decks, named, deck_task, is_some, HaveOneHistory, limits_of}
-use Rattle.check_run.proofs.RunEnclosed.{run_encloses}
+use Rattle.check_run.proofs.FlowPairs.{run_encloses}
 use Rattle.command_line.proofs.DigitLemmas.{check_digits}
 use Rattle.std.specs.Prelude.{if◌then◌else◌}
 use Rattle.zone_file.proofs.ZoneLemmas.{numbers_small}

@@ -17,7 +17,6 @@ pub mod Written
 pub mod Serving
 pub mod Batched
 pub mod BatchReads
-
 pub use Rattle.engine.specs.BatchReads.{AreJobsRead, AreTasks, HasNames, IsBatchOf, IsBatchOrder, IsBatchRead, IsJobRead, NeverRefused, batch_by}
 pub use Rattle.engine.specs.Batched.{HasEnded, HasNoList, IsJobListing}
 pub use Rattle.engine.specs.Cases.{Asked, AskedBatch, AskedCheck, Batch, Case, Check, Checking, Command, Comparing, CouldList, CouldRead, IsCase, IsCheckingOf}

@@ -5,7 +5,6 @@ pub use Rattle.std.proofs.Common.{◌==◌, ◌^◌, ◌||◌, ◌∙◌, ◌≡
 pub use Rattle.std.proofs.lemmas.Bool.{and_parts, cases_lt, eqb-true, le-leb, lt-ltb, not-true}
 pub use Rattle.std.proofs.lemmas.Bool.Decides.{leb_tells}
 pub use Rattle.std.proofs.lemmas.Int.{ints}
-pub use Rattle.std.proofs.lemmas.List.Elements.{All-cons, All-nil, All-weaker}
 pub use Rattle.std.proofs.lemmas.Nat.{div-add-mod', mod_below}
 pub use Rattle.std.specs.Option.{option_map, option_to_list}
 pub use Rattle.std.specs.Prelude.{if◌then◌else◌}
@@ -19,6 +18,5 @@ pub use Rattle.model_types.specs.declared.grid.Grid.{Grid}
 pub use Rattle.model_types.specs.declared.model.FlowModel.{FlowModel}
 pub use Rattle.number_limits.specs.{ceiling, floor, is_head, is_positive, small, within}
 unfoldable pub use Rattle.number_limits.specs.{ceiling_of, floor_of}
-pub use Rattle.period_arrays.specs.{IsArea, contents, without}
 pub use Rattle.record_lines.specs.{◌>>=◌}
 unfoldable pub use Rattle.record_lines.specs.{counted}

@@ -5,8 +5,7 @@ use Rattle.evt_package.proofs.Common.{ints, ◌>>=◌, counted, EvapSource, IsEv
 use Rattle.evt_package.proofs.Common.{floor_of, ceiling_of, floor, ceiling}
 use Rattle.decimal_input.specs.declared.dec.Dec.{Dec}
 use Rattle.decimal_input.specs.{IsDec, size, number, IsSignedFloor, IsSignedCeiling}
-use Rattle.decimal_input.proofs.Past.{a_floor, a_ceiling}
-use Rattle.decimal_input.proofs.SignedFloors.{floor_of_floor, floor_of_ceiling, ceiling_of_ceiling, ceiling_of_floor}
+use Rattle.decimal_input.proofs.SignedFloors.{a_floor, a_ceiling, floor_of_floor, floor_of_ceiling, ceiling_of_ceiling, ceiling_of_floor}
 use Rattle.outside.specs.declared.codes.Code.TheVariants.{BadProperty, HeadTooLarge}
 use Rattle.outside.specs.declared.inputs.Refusal.{Refusal}
 use Rattle.number_limits.proofs.FloorLemmas.{floor_is, ceiling_is}

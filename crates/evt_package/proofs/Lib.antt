@@ -1,6 +1,4 @@
 mod Common
-pub mod ColumnLemmas
-pub mod ArrayLemmas
 pub mod ChosenLemmas
 pub mod EvapLemmas
 pub mod ModelLemmas

@@ -1,17 +1,39 @@
 -- A model in limits stays so with evapotranspiration.
 use Rattle.evt_package.proofs.Common.{◌≡◌, ◌⊎◌, inl, inr, ℕ, ◌-◌, ◌<◌, ◌≤◌, ℤ, pos, ◌≤ℤ◌, Bool, true, false, not, cond, ◌&&◌, ◌==◌, List, [], map, All, Option}
-use Rattle.evt_package.proofs.Common.{Some, None, Ok, length, refl, sym, ap, subst, arith, option_to_list, cases_lt, ints, All-nil, All-cons, mod_below, Grid}
+use Rattle.evt_package.proofs.Common.{Some, None, Ok, length, refl, sym, ap, subst, arith, ◌∙◌, suc, ◌+◌, ◌*◌, option_to_list, cases_lt, ints, mod_below, Grid}
 use Rattle.evt_package.proofs.Common.{FlowModel, cell_count, layer_size, place_in_layer, HasSize, dec_at, is_active, is_chosen, IsEvapValid, IsModel, IsPeriod}
-use Rattle.evt_package.proofs.Common.{size_some, without, cell_tested, column_step, column_tested, columns_tested, source, evap_fault, area_in}
-use Rattle.evt_package.proofs.Common.{evaporation_arrays, HasEvaporation, IsEvaporating, AreArrays, SameBut, ◌∙◌, evap_sources, no_period, period_at}
+use Rattle.evt_package.proofs.Common.{evap_sources, no_period, period_at, int_at, is_nonzero, size_some, cell_tested, column_step, column_tested}
+use Rattle.evt_package.proofs.Common.{columns_tested, source, evap_fault, area_in, evaporation_arrays, HasEvaporation, IsEvaporating, AreArrays, SameBut}
+use Rattle.evt_package.proofs.Common.{with_evaporation, highest_active}
+use Rattle.std.proofs.lemmas.List.Elements.{All-nil, All-cons, All-weaker}
+use Rattle.period_arrays.specs.{without, contents, IsArea}
 use Rattle.std.proofs.lemmas.List.{get_or_past}
 use Rattle.outside.specs.declared.codes.Code.{Code}
 use Rattle.model_types.specs.declared.period.Period.{Period}
 use Rattle.number_limits.proofs.Canonical.{dec_at_is}
 use Rattle.list_package.proofs.ModelLemmas.{each_period, evaporation_of, replaced, same_view, sources_by, steps, with_stresses}
 use Rattle.evt_package.proofs.ChosenLemmas.{chosen_is}
-use Rattle.evt_package.proofs.ArrayLemmas.{is_evaporating}
 use Rattle.evt_package.proofs.EvapLemmas.{each_step, source_sound}
+use Rattle.model_types.specs.declared.period.Stresses.{Stresses}
+use Rattle.period_arrays.specs.declared.area.Area.{Area}
+use Rattle.period_arrays.specs.declared.read.ArrayFile.{ArrayFile}
+use Rattle.std.proofs.Math.Nat.{mul-le-mul_right}
+
+-- Stresses with arrays that passed their test, and a model whose periods have them.
+pub are_arrays : (file : List ℕ) (grid : Grid) (ibound : List ℤ) (option : ℤ) (before : Stresses) (a : Area) → IsArea (contents evaporation_arrays option) grid a → columns_tested file grid ibound option a ≡ Ok tt → AreArrays file grid ibound option (evaporation_arrays.put before a)
+are_arrays file grid ibound option before a h passed = record { surfaces = h.surfaces refl; rates = h.rates; depths = h.depths refl; layers = h.layers; passed = passed }
+
+pub is_evaporating : (file : List ℕ) (m : FlowModel) (ibound : List ℤ) (e : ArrayFile) → m.ibound ≡ ibound → (pos 1 ≤ℤ e.option) × (e.option ≤ℤ pos 3) → All (λ p. AreArrays file m.grid ibound e.option p.stresses) e.periods → IsEvaporating file (with_evaporation m e)
+is_evaporating file m ibound e active range h = record {
+  option = range;
+  periods = All-weaker (λ p. AreArrays file m.grid ibound e.option p.stresses) (HasEvaporation file (with_evaporation m e)) (λ p a. record {
+    surf = record { whole = a.surfaces.0; decimals = a.surfaces.1 };
+    evtr = record { whole = a.rates.0; decimals = a.rates.1 };
+    exdp = record { whole = a.depths.0; decimals = a.depths.1 };
+    ievt = a.layers;
+    passed = rw active a.passed;
+  }) e.periods h;
+}
 
 period : (file : List ℕ) (m : FlowModel) (e : ℤ) (ps : List Period) (p q : Period) → without evaporation_arrays p ≡ without evaporation_arrays q → IsPeriod m q → HasEvaporation file (record m { nevtop = e; periods = ps }) p → IsPeriod (record m { nevtop = e; periods = ps }) p
 period file m e ps p q same h has =
@@ -69,3 +91,31 @@ pub evaporation_stays : (file : List ℕ) (m n : FlowModel) (ibound : List ℤ) 
 evaporation_stays file m n ibound option active e same range has h =
     let is : n ≡ record m { nevtop = option; periods = n.periods } = same.model ∙ ap (λ z. record m { nevtop = z; periods = n.periods }) e in
     subst IsModel (sym is) (evaporating file m option n.periods same.periods (is_evaporating file m ibound (record { option = option; periods = n.periods }) active range has) h)
+
+-- Cells of a column of layers.
+pub in_grid : (g : Grid) (k i : ℕ) → k < g.layers → i < layer_size g → k * layer_size g + i < cell_count g
+in_grid g k i kl il =
+    let more : (k + 1) * layer_size g ≤ g.layers * layer_size g = mul-le-mul_right (layer_size g) (omega (arith, kl)) in
+    omega (arith, il, more)
+
+-- the next cell isn't active
+pub goes_down : (g : Grid) (ibound : List ℤ) (i k n : ℕ) (total : Option ℕ) → k < n → is_nonzero (int_at ibound (k * layer_size g + i)) ≡ false → highest_active g ibound i k (n - k) ≡ total → highest_active g ibound i (k + 1) (n - (k + 1)) ≡ total
+unfolding highest_active
+goes_down g ibound i k n total lt e so_far =
+    let m : n - k ≡ suc (n - (k + 1)) = omega (arith, lt) in
+    let one : highest_active g ibound i k (n - k) ≡ highest_active g ibound i (k + 1) (n - (k + 1)) = rw (m, e) refl in
+    sym one ∙ so_far
+
+pub is_found : (g : Grid) (ibound : List ℤ) (i k n : ℕ) (total : Option ℕ) → k < n → is_nonzero (int_at ibound (k * layer_size g + i)) ≡ true → highest_active g ibound i k (n - k) ≡ total → Some (k * layer_size g + i) ≡ total
+unfolding highest_active
+is_found g ibound i k n total lt e so_far =
+    let m : n - k ≡ suc (n - (k + 1)) = omega (arith, lt) in
+    let one : highest_active g ibound i k (n - k) ≡ Some (k * layer_size g + i) = rw (m, e) refl in
+    sym one ∙ so_far
+
+pub is_none : (g : Grid) (ibound : List ℤ) (i k n : ℕ) (total : Option ℕ) → n ≤ k → highest_active g ibound i k (n - k) ≡ total → None ≡ total
+unfolding highest_active
+is_none g ibound i k n total le so_far =
+    let m : n - k ≡ 0 = omega (arith, le) in
+    let one : highest_active g ibound i k (n - k) ≡ None = rw m refl in
+    sym one ∙ so_far

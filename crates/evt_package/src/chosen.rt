@@ -9,7 +9,7 @@ use model_types::layers::int_at;
 use number_limits::within;
 
 /// The cell of a column in layer k, from 0.
-#[tactic(auto, using(crate::proofs::ColumnLemmas::in_grid))]
+#[tactic(auto, using(crate::proofs::ModelLemmas::in_grid))]
 fn cell_in(grid: &Grid, layer: u32, column: u32) -> u32
     requires size { HasSize grid.now }
     requires layer { layer < grid.now.layers }
@@ -21,7 +21,7 @@ fn cell_in(grid: &Grid, layer: u32, column: u32) -> u32
 }
 
 /// The highest active cell of a column.
-#[tactic(auto, using(crate::proofs::ColumnLemmas::goes_down, crate::proofs::ColumnLemmas::is_found, crate::proofs::ColumnLemmas::is_none))]
+#[tactic(auto, using(crate::proofs::ModelLemmas::goes_down, crate::proofs::ModelLemmas::is_found, crate::proofs::ModelLemmas::is_none))]
 fn highest_active(grid: &Grid, ibound: &[i64], column: u32) -> Option<u32>
     requires size { HasSize grid.now }
     requires column { column < layer_size grid.now }

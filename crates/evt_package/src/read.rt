@@ -3,8 +3,7 @@ ghost use Rattle.std.specs.Prelude.{IfOk, List};
 ghost use Rattle.outside.specs.{TextMay, FileSet, ReadsOn};
 ghost use Rattle.record_lines.specs.{Has};
 ghost use Rattle.model_types.specs.{HasSize, IsModel};
-ghost use Rattle.evt_package.specs.Evaporation.{evaporation_arrays, evt_of};
-ghost use Rattle.evt_package.specs.Forms.{AreArrays, IsEvaporating, SameBut};
+ghost use Rattle.evt_package.specs.Evaporation.{evaporation_arrays, evt_of, AreArrays, IsEvaporating, SameBut};
 
 use crate::columns::columns_tested;
 use model_types::{FlowModel, Grid, Stresses};
@@ -35,7 +34,7 @@ impl ArrayPackage for Evapotranspiration {
         columns_tested(alloc, file, grid, ibound, option, area)
     }
 
-    #[tactic(auto, using(crate::proofs::ArrayLemmas::are_arrays))]
+    #[tactic(auto, using(crate::proofs::ModelLemmas::are_arrays))]
     fn put(stresses: Stresses, area: Area) -> Stresses {
         Stresses {
             surf: area.surfaces,
@@ -57,7 +56,7 @@ impl ArrayPackage for Evapotranspiration {
 /// NothingToReuse where there is no array to reuse; with line 0 and the cell CellOutside for a layer that the grid
 /// lacks, and, once all arrays of a period are read, BadProperty or HeadTooLarge at an active cell that is chosen. A read
 /// fault comes only from the folder. (TM 6-A16, EVT)
-#[tactic(auto, unfolding(crate::specs::Evaporation::evt_of), using(crate::proofs::ArrayLemmas::is_evaporating))]
+#[tactic(auto, unfolding(crate::specs::Evaporation::evt_of), using(crate::proofs::ModelLemmas::is_evaporating))]
 pub fn read_evt<F: Folder>(
     alloc: Global,
     file: &str,

@@ -4,8 +4,7 @@ use Rattle.exact_budgets.proofs.Common.{true, mul-pos, AllZip, ints, All-from_ge
 use Rattle.exact_budgets.proofs.Common.{cell_at, no_cell, AreLinked, no_link, link_flow, share, SolvesStep, IsOver-plus, IsOver-minus, IsOver-none}
 use Rattle.exact_budgets.proofs.Common.{IsOver-total, zero_over, over_zero, LinkOver, CellOver, link_over, WholeCell, whole_at, no_whole, whole_link, same_over}
 use Rattle.exact_budgets.proofs.Common.{all_terms, exact_part, exact_singles, exact_term, heads_of, net_flow, SolutionsBalance, AllZip-at, AllZip-length}
-use Rattle.exact_budgets.proofs.Common.{step_common, whole_step, total_below}
-use Rattle.cell_balance.proofs.Encloses.{whole_solves}
+use Rattle.exact_budgets.proofs.Common.{step_common, whole_step, total_below, whole_solves}
 use Rattle.cell_balance.proofs.ExactLaws.{heads_over, links_cancel}
 use Rattle.exact_budgets.proofs.Kept.{Parts}
 use Rattle.exact_budgets.proofs.CellNets.{net_of, parts_of, nets_balance}

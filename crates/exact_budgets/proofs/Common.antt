@@ -9,14 +9,13 @@ pub use Rattle.std.specs.Prelude.{slice_index}
 pub use Rattle.budget_bounds.specs.{BudgetEncloses, all_terms, bounds_in, exact_part, fixed_term, flow_term, is_term}
 unfoldable pub use Rattle.budget_bounds.specs.{exact_singles, exact_term}
 pub use Rattle.cell_balance.proofs.Denominators.{Goes, Goes-trans, fraction_over, product, some_product, step_common}
-pub use Rattle.cell_balance.proofs.EntryScaled.{same_over}
+pub use Rattle.cell_balance.proofs.Encloses.{whole_solves, whole_step}
+pub use Rattle.cell_balance.proofs.Enclosing.{none_encloses, plus_encloses, same_over}
 pub use Rattle.cell_balance.proofs.Over.{CellOver, DrainOver, EvapOver, FixedOver, FlowOver, LinkOver, RiverOver, drain_over, evap_over, fixed_over, link_over}
 pub use Rattle.cell_balance.proofs.Over.{river_over}
 pub use Rattle.cell_balance.proofs.Scaling.{IsOver-greater, IsOver-minus, IsOver-negated, IsOver-none, IsOver-plus, IsOver-total, over_zero, zero_over}
-pub use Rattle.cell_balance.proofs.Whole.{WholeCell, WholeEntry, WholeLink, no_whole, whole_at, whole_balance, whole_drain, whole_evap, whole_fixed, whole_link}
-pub use Rattle.cell_balance.proofs.Whole.{whole_river}
-pub use Rattle.cell_balance.proofs.Wholes.{whole_step}
-pub use Rattle.cell_balance.proofs.Zips.{All-zip, AllZip-at, AllZip-length}
+pub use Rattle.cell_balance.proofs.Zips.{All-zip, AllZip-at, AllZip-length, WholeCell, WholeEntry, WholeLink, no_whole, whole_at, whole_balance, whole_drain}
+pub use Rattle.cell_balance.proofs.Zips.{whole_evap, whole_fixed, whole_link, whole_river}
 pub use Rattle.cell_balance.specs.{AreLinked, ExactCell, ExactFixed, ExactFlow, ExactLink, SolvesStep, cell_at, drain_flow, evap_flow, fixed_flow, link_flow}
 pub use Rattle.cell_balance.specs.{minus, no_cell, no_link, river_flow, share, sum_below, total_below}
 pub use Rattle.decimal_input.specs.{EnclosesSigned, Fraction, IsOver, Ratio, fraction_total, negated, signed, whole}

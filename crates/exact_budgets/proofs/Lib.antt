@@ -3,7 +3,6 @@ pub mod Kept
 pub mod CellNets
 pub mod Balance
 pub mod Bounds
-pub mod History
 pub mod Worked
 pub mod FaceSums
 pub mod LoneCells

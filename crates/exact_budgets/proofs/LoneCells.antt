@@ -9,11 +9,11 @@ use Rattle.exact_budgets.proofs.Common.{whole_fixed, cases_eq, eq-eqb, ne_eqb, A
 use Rattle.exact_budgets.proofs.Common.{All-zip, Goes, Goes-trans, product, some_product, fraction_over, step_common, whole_step}
 use Rattle.std.proofs.Math.IntN.{*ℤ-zero, zero-*ℤ}
 use Rattle.std.proofs.Math.Bool.{and-true, and-false}
-use Rattle.cell_balance.proofs.Cancel.{weight, by_weight, IsMutual}
+use Rattle.cell_balance.proofs.Dry.{weight, by_weight, IsMutual}
 use Rattle.cell_balance.proofs.Sums.{sum-add, sum-one}
 use Rattle.cell_balance.proofs.Mutual.{mutual_whole}
 use Rattle.step_problem.proofs.Leasts.{mul_neg}
-use Rattle.cell_balance.proofs.Totals.{add_mul}
+use Rattle.cell_balance.proofs.Deep.{add_mul}
 use Rattle.cell_balance.proofs.EntryFlows.{difference_over}
 use Rattle.cell_balance.proofs.WholeBalances.{times_one}
 use Rattle.exact_budgets.proofs.Kept.{kept, kept_over, kept_is, kept_none, kept_turned}

@@ -6,12 +6,12 @@ pub use Rattle.std.proofs.lemmas.List.Elements.{All-cons, All-head, All-nil, All
 pub use Rattle.std.specs.Prelude.{None, Some}
 pub use Rattle.cell_balance.specs.{AreLinked, EnclosesStep, ExactCell, ExactFixed, ExactLink, SolvesStep, balance, cell_at, drain_flow, evap_flow, fixed_flow}
 pub use Rattle.cell_balance.specs.{link_flow, minus, no_cell, river_flow, share}
-pub use Rattle.decimal_input.proofs.Fractional.{Same-sym, Same-trans}
+pub use Rattle.decimal_input.proofs.FloorLaws.{Same-sym, Same-trans, swap}
 pub use Rattle.decimal_input.specs.{Fraction, IsOver, fraction_total, signed}
 pub use Rattle.decimal_input.specs.Fractions.{Same, den, plus}
 pub use Rattle.deck_problems.proofs.Enclosing.{pair_encloses, pair_fits, problem_encloses}
-pub use Rattle.deck_problems.proofs.Members.{HasCellsOf, between_cells, cell_of_first, cell_of_member, encloses_first, encloses_member, member_cells, of_member}
-pub use Rattle.deck_problems.proofs.Members.{one_valid}
+pub use Rattle.deck_problems.proofs.OneProblem.{HasCellsOf, between_cells, cell_of_first, cell_of_member, encloses_first, encloses_member, member_cells}
+pub use Rattle.deck_problems.proofs.OneProblem.{of_member, one_valid, problem_fits}
 pub use Rattle.deck_problems.proofs.Starting.{start_encloses, starts_enclose_members, starts_fit_decks}
 pub use Rattle.deck_problems.specs.{AreDecks, EnclosesSteps, HoldsOf, IsBefore, IsMember, IsOf, one_deck}
 pub use Rattle.deck_problems.specs.declared.decks.Decks.{Decks}
@@ -30,7 +30,7 @@ pub use Rattle.step_chain.proofs.Histories.{first_in, lies_encloses, lies_in_fir
 pub use Rattle.step_chain.proofs.OneStep.{all_fit, steps_enclose}
 pub use Rattle.step_chain.specs.{AreAllSteps, AreSteps, EnclosesMoves, IsPosed, IsStepBy, two}
 pub use Rattle.step_chain.specs.declared.solved.Solved.{Solved}
-pub use Rattle.step_problem.proofs.Ring.{mul_assoc}
+pub use Rattle.step_problem.proofs.Leasts.{mul_assoc}
 pub use Rattle.step_problem.specs.{Edges, IsProblem, PairKind, entries_at}
 pub use Rattle.step_problem.specs.Entries.{Entries}
 pub use Rattle.step_problem.specs.declared.heads.Bound.{Bound}

@@ -2,7 +2,7 @@
 use Rattle.exact_histories.proofs.Common.{Limits, ◌≡◌, ◌∷◌, [], ℕ, refl, sym, ap, subst, ℤ, List, Option, map, All-nil, All-cons, Fraction, start_head, times}
 use Rattle.exact_histories.proofs.Common.{FlowModel, TimeStep, Bound, HeadsEnclose, heads_of, SolvesFrom, IsBetween, between_cells, encloses_first, one_deck}
 use Rattle.exact_histories.proofs.Common.{two, Choice, SolvesChoicesFrom, ChoicesHaveOne, None, Some, HoldsOf, HasOneHistory, HaveOneBy}
-use Rattle.exact_histories.proofs.Multiples.{history_exists}
+use Rattle.exact_histories.proofs.GridVectors.{history_exists}
 use Rattle.exact_histories.proofs.Turns.{AreMembers, AreTurns, goes_on, are_one, time_of}
 
 -- the model at each of these times

@@ -4,13 +4,10 @@ use Rattle.exact_histories.proofs.Common.{Same-trans, FlowModel, TimeStep, Bound
 use Rattle.exact_histories.proofs.Common.{IsBefore, problem_encloses, pair_encloses, encloses_member, IsPosed, IsStepBy, Entries, cases_Bool, cell_count}
 use Rattle.exact_histories.proofs.Common.{HasSize, is_variable, is_constant, index_of, variable_cells, exact_step, PairKind, Solved, None, Some, Decks}
 use Rattle.exact_histories.proofs.Common.{IsMember, IsOf, HasCellsOf, member_cells, of_member, cell_of_first, cell_of_member, lies_encloses, lies_in_first}
-use Rattle.exact_histories.proofs.Common.{HasAtMostOne, steps_enclose, Edges, IsProblem, EnclosesStep, EnclosesSteps, EnclosesMoves}
-use Rattle.deck_problems.proofs.OneProblem.{problem_fits}
+use Rattle.exact_histories.proofs.Common.{HasAtMostOne, steps_enclose, Edges, IsProblem, EnclosesStep, EnclosesSteps, EnclosesMoves, problem_fits}
 use Rattle.model_types.proofs.Members.{All-In}
-use Rattle.exact_solutions.proofs.HeldSteps.{solution_exists, solution_is_one}
-use Rattle.exact_solutions.proofs.Shares.{same_share}
-use Rattle.problem_builder.proofs.ActiveCells.{variable_active}
-use Rattle.problem_builder.proofs.Members.{variable-In}
+use Rattle.exact_solutions.proofs.HeldSteps.{solution_exists, solution_is_one, same_share}
+use Rattle.problem_builder.proofs.Members.{variable_active, variable-In}
 use Rattle.step_chain.proofs.Limits.{cut_by, held_by}
 use Rattle.step_chain.proofs.Assembled.{active_constant, index_below, count_is, number_is}
 use Rattle.certificate_check.proofs.Cut.{words_enclose}

@@ -2,17 +2,14 @@
 use Rattle.exact_histories.proofs.Common.{◌≡◌, ◌*◌, ◌<◌, ◌∙◌, ◌*ℤ◌, [], ◌∷◌, refl, ℕ, sym, ap, subst, arith, ℤ, pos, List, length, mul-pos, Fraction, den, Same}
 use Rattle.exact_histories.proofs.Common.{IsOver, mul_assoc, balance, share, SolvesStep, ExactFixed, ExactCell, cell_at, no_cell, zero, suc, map, get_or, All}
 use Rattle.exact_histories.proofs.Common.{All-nil, All-cons, All-head, All-tail, variable_cells, FlowModel, TimeStep, exact_step, exact_cell, exact_fixed}
-use Rattle.exact_histories.proofs.Common.{variable_heads, SolvesAt, FixedSource, fixed_sources, ToConstant, ToGeneral, FromStorage}
+use Rattle.exact_histories.proofs.Common.{variable_heads, SolvesAt, FixedSource, fixed_sources, ToConstant, ToGeneral, FromStorage, swap}
 use Rattle.std.specs.List.{AllZip}
 use Rattle.exact_solutions.proofs.LinearSteps.{cancel_same}
-use Rattle.decimal_input.proofs.Signs.{swap}
 use Rattle.cell_balance.proofs.Denominators.{step_common}
-use Rattle.cell_balance.proofs.Encloses.{share_is, whole_solves}
+use Rattle.cell_balance.proofs.Encloses.{share_is, whole_solves, whole_step}
 use Rattle.cell_balance.proofs.Over.{FlowOver, LinkOver, FixedOver, RiverOver, DrainOver, EvapOver, CellOver, balance_over}
 use Rattle.cell_balance.proofs.Scaling.{over_zero}
-use Rattle.cell_balance.proofs.Whole.{WholeEntry, WholeCell, whole_at, no_whole}
-use Rattle.cell_balance.proofs.Wholes.{whole_step}
-use Rattle.cell_balance.proofs.Zips.{AllZip-at, AllZip-length}
+use Rattle.cell_balance.proofs.Zips.{WholeEntry, WholeCell, whole_at, no_whole, AllZip-at, AllZip-length}
 
 pub record FixedAgrees (x y : ExactFixed) : Type 0 where
   pub conductance : x.conductance ≡ y.conductance

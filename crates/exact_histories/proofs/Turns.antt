@@ -3,7 +3,7 @@
 use Rattle.exact_histories.proofs.Common.{Limits, ◌<◌, [], ◌∷◌, ℕ, ℤ, List, All, Contains, map, All-head, All-tail, Fraction, Same-sym, TimeStep, Bound}
 use Rattle.exact_histories.proofs.Common.{heads_of, HeadsEnclose, AreGridHeads, AreSameHeads, AreSame, IsBefore, AreDecks, Choice, SolvesChoicesFrom, times}
 use Rattle.exact_histories.proofs.Common.{AreSteps, Solved, PairKind, pair_fits, Decks, IsMember, first_in, next_in, all_fit}
-use Rattle.exact_histories.proofs.Multiples.{GoOn}
+use Rattle.exact_histories.proofs.GridVectors.{GoOn}
 use Rattle.exact_histories.proofs.OneTurn.{IsTurn, turn_of, has_vector, heads_same}
 
 -- the time of a choice

@@ -2,8 +2,7 @@
 use Rattle.exact_histories.proofs.Common.{Limits, ◌∷◌, [], ℕ, subst, List, Option, map, times, FlowModel, TimeStep, Bound, Bool, start_encloses, AreSteps}
 use Rattle.exact_histories.proofs.Common.{Solved, starts_fit_decks, one_deck, None, one_valid, HasOneHistory, RunsHaveAHistory, RunsHaveOneHistory, IsModel}
 use Rattle.listing_run.specs.declared.text.ListingEnd.TheVariants.{Whole}
-use Rattle.listing_run.specs.{AllSteps, one_task, pairs_of}
-use Rattle.listing_run.specs.Steps.{Steps}
+use Rattle.listing_run.specs.{AllSteps, one_task, pairs_of, Steps}
 use Rattle.listing_run.specs.declared.solving.Step.{Step}
 use Rattle.listing_run.specs.declared.steps.Task.{Task}
 use Rattle.exact_histories.proofs.Turns.{turns_of, heads_at}

@@ -1,9 +1,3 @@
-pub mod Choices
-pub mod Decks
-pub mod Laws
 pub mod Histories
-
-pub use Rattle.exact_histories.specs.Choices.{Choice, SolvesChoicesFrom}
-pub use Rattle.exact_histories.specs.Decks.{ChoicesHaveOne, HaveOneBy, HaveOneHistory}
-pub use Rattle.exact_histories.specs.Histories.{AreSame, AreSameHeads, HasHistory, HasOneHistory, RunsHaveAHistory, RunsHaveOneHistory}
-pub use Rattle.exact_histories.specs.Laws.{ChoicesHaveAHistory, ChoicesHaveOneHistory, ChoicesLieBetween}
+pub use Rattle.exact_histories.specs.Histories.{AreSame, AreSameHeads, Choice, ChoicesHaveAHistory, ChoicesHaveOne, ChoicesHaveOneHistory, ChoicesLieBetween}
+pub use Rattle.exact_histories.specs.Histories.{HasHistory, HasOneHistory, HaveOneBy, HaveOneHistory, RunsHaveAHistory, RunsHaveOneHistory, SolvesChoicesFrom}

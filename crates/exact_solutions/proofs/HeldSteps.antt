@@ -1,19 +1,29 @@
 -- Each exact step that a problem encloses has a solution where its components are held below and above, and one alone where they are held below.
-use Rattle.exact_solutions.proofs.Common.{◌*◌, ◌^◌, ◌∙◌, arith, length, pos, mul-pos, step_common, mutual_whole, whole_step, AllZip-length, swap, ◌+ℤ◌, ◌<◌}
-use Rattle.exact_solutions.proofs.Common.{◌≡◌, ◌≤ℤ◌, List, inl, inr, ℕ, ℤ, AllZip, ints, All-contains, total, WholeCell, WholeEntry, whole_at}
-use Rattle.exact_solutions.proofs.Common.{HeldHaveASolution, HeldHaveAtMostOne, IsAnchoredAbove, IsHeldAbove, ramps_from, a_of, b_of, q_of, ramps_at_cell}
-use Rattle.exact_solutions.proofs.Common.{open_conductance, open_conductance_at, IsHeldFromAbove, both_ways, All-back, none_conduct, total_positive}
-use Rattle.exact_solutions.proofs.Common.{CellEncloses, entries_at}
-use Rattle.cell_balance.proofs.Within.{CellWithin, DrainWithin, RiverWithin}
+use Rattle.exact_solutions.proofs.Common.{◌*◌, ◌^◌, ◌∙◌, arith, length, pos, mul-pos, ◌+ℤ◌, ◌<◌, ◌≡◌, ◌≤ℤ◌, List, inl, inr, ℕ, ℤ, ◌*ℤ◌, ap, sym, step_common}
+use Rattle.exact_solutions.proofs.Common.{mutual_whole, whole_step, AllZip-length, WholeCell, WholeEntry, whole_at, CellWithin, DrainWithin, RiverWithin, swap}
+use Rattle.exact_solutions.proofs.Common.{AllZip, ints, All-contains, total, entries_at, HeldHaveASolution, HeldHaveAtMostOne, IsAnchoredAbove, IsHeldAbove}
+use Rattle.exact_solutions.proofs.Common.{ramps_from, a_of, b_of, q_of, ramps_at_cell, open_conductance, open_conductance_at, IsHeldFromAbove, both_ways}
+use Rattle.exact_solutions.proofs.Common.{All-back, none_conduct, total_positive, CellEncloses, share, Fraction, IsOver, Same, den}
 use Rattle.decimal_input.proofs.Powers.{ten_pos}
 use Rattle.cell_balance.proofs.Enclosed.{step_within, linked, links_good}
 use Rattle.exact_solutions.proofs.LinearSteps.{cancel_same, one_whole_solution}
-use Rattle.exact_solutions.proofs.Shares.{crossed_same}
-use Rattle.exact_solutions.proofs.Existence.{whole_solution_exists}
+use Rattle.exact_solutions.proofs.OneRamp.{whole_solution_exists}
 use Rattle.exact_solutions.proofs.WholeSolutions.{solves_step, solves_whole}
 use Rattle.step_problem.specs.Entries.{Entries}
-use Rattle.cell_balance.proofs.HeldBelow.{held_below, along, no_fixed, some_conducts}
-use Rattle.cell_balance.proofs.Spread.{cell_within}
+use Rattle.cell_balance.proofs.HeldBelow.{held_below, along, no_fixed, some_conducts, cell_within}
+
+-- Heads over two denominators are the same number where they are the same over the product.
+pub share_den : (d : ℕ) (z : ℤ) → 0 < d → den (share d z) ≡ d
+share_den d z some = omega arith
+
+pub crossed_same : (d k : ℕ) (x y : ℤ) → 0 < d → 0 < k → x *ℤ pos k ≡ y *ℤ pos d → Same (share d x) (share k y)
+crossed_same d k x y some_d some_k e = record { same = ap (λ (z : ℕ). x *ℤ pos z) (share_den k y some_k) ∙ e ∙ ap (λ (z : ℕ). y *ℤ pos z) (sym (share_den d x some_d)) }
+
+pub same_crossed : (d k : ℕ) (x y : ℤ) → 0 < d → 0 < k → Same (share d x) (share k y) → x *ℤ pos k ≡ y *ℤ pos d
+same_crossed d k x y some_d some_k s = sym (ap (λ (z : ℕ). x *ℤ pos z) (share_den k y some_k)) ∙ s.same ∙ ap (λ (z : ℕ). y *ℤ pos z) (share_den d x some_d)
+
+pub same_share : (d : ℕ) (f : Fraction) (x : ℤ) → 0 < d → IsOver d f x → Same f (share d x)
+same_share d f x some over = record { same = ap (λ (z : ℕ). f.num *ℤ pos z) (share_den d x some) ∙ over.is }
 
 module _ (m n : ℕ) (some_m : 0 < m) (some_n : 0 < n) (p : List Entries) (w : List WholeCell)
     (within : AllZip (CellWithin m n (length p)) p w)

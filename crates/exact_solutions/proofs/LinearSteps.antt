@@ -3,9 +3,8 @@ use Rattle.exact_solutions.proofs.Common.{[], ◌*ℤ◌, ◌+ℤ◌, ◌-ℤ◌
 use Rattle.exact_solutions.proofs.Common.{diffs, same_diff, sum_below, sum_nonneg, add_mul, cancel_right, le_anti, ◌*◌, ◌∙◌, ◌∷◌, List, None, Option, Some}
 use Rattle.exact_solutions.proofs.Common.{cond, false, nat_eq, neg_ℤ, subst, sym, mul-pos, int_min, total, mul_assoc, max_times, min_times, sum-same, sum-times}
 use Rattle.exact_solutions.proofs.Common.{sub_mul, mul_mono_right, IsClosed, AreMutual, net_flow, IsHeldFromBelow, IsSolution, Ramp, rise, ramp_flow, link_flow}
+use Rattle.exact_solutions.proofs.Common.{carried_gain, comparison}
 use Rattle.exact_solutions.proofs.Elimination.{IsInversePositive, inverse_positive_solved}
-use Rattle.cell_balance.proofs.ClosedSets.{carried_gain}
-use Rattle.cell_balance.proofs.Comparison.{comparison}
 
 -- no closed set of cells is without a conductance to a known head
 abbrev pub IsNowhereLoose : ℕ → (ℕ → ℕ → ℤ) → (ℕ → ℕ) → Type 0

@@ -6,15 +6,11 @@ use Rattle.exact_solutions.proofs.Common.{no_cell, IsMutual, step_common, whole_
 use Rattle.exact_solutions.proofs.Common.{CellOver, IsOver-none, sum-same, sum-add, sum-zero, sub_mul, WholeEntry, WholeCell, whole_at, no_whole, whole_link}
 use Rattle.exact_solutions.proofs.Common.{whole_fixed, whole_river, whole_drain, whole_evap, whole_balance, whole_deep_river, whole_full, whole_deep}
 use Rattle.exact_solutions.proofs.Common.{whole_step, AllZip-at, AllZip-length, All-zip, le_anti, deep_over, Ratio, IsLoose, DrainedHaveAnother}
-use Rattle.exact_solutions.proofs.Common.{AfloatHaveAnother, closed_cancel, IsShare}
-use Rattle.decimal_input.proofs.Integers.{le-trans}
-use Rattle.cell_balance.proofs.ExactLaws.{heads_over}
-use Rattle.cell_balance.proofs.Falling.{whole_falls}
-use Rattle.cell_balance.proofs.EntryScaled.{over_le, IsOver-inside}
-use Rattle.exact_solutions.proofs.Lowered.{without_links, lowered, balance-links, lowered_balances}
-use Rattle.exact_solutions.proofs.Shares.{same_crossed}
-use Rattle.cell_balance.proofs.TightSums.{sum_below-tight}
-use Rattle.exact_solutions.proofs.WholeSolutions.{whole_balances_solve}
+use Rattle.exact_solutions.proofs.Common.{AfloatHaveAnother, closed_cancel, IsShare, le-trans, sum_below-tight}
+use Rattle.cell_balance.proofs.ExactLaws.{heads_over, whole_falls}
+use Rattle.cell_balance.proofs.Enclosing.{over_le, IsOver-inside}
+use Rattle.exact_solutions.proofs.WholeSolutions.{without_links, lowered, balance-links, lowered_balances, whole_balances_solve}
+use Rattle.exact_solutions.proofs.HeldSteps.{same_crossed}
 
 total-none : {X : Type 0} (P : X → Type 0) (f : X → ℤ) (xs : List X) → ((x : X) → P x → f x ≡ pos 0) → All P xs → total f xs ≡ pos 0
 total-none P f [] each all = refl

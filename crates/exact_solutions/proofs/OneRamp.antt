@@ -1,11 +1,13 @@
 -- One ramp more: solve with it as a conductance to its foot; where that head lies on the ramp it is the solution, else solve without the ramp, or with its full rate.
 use Rattle.exact_solutions.proofs.Common.{◌*ℤ◌, ◌+ℤ◌, ◌-ℤ◌, ◌<◌, ◌∙◌, ◌∷◌, ◌≡◌, ◌≤ℤ◌, List, Option, Some, ap, arith, cond, nat_eq, neg_ℤ, pos, refl, subst, sym}
-use Rattle.exact_solutions.proofs.Common.{ℕ, ℤ, *ℤ-zero, ints, cancel_right, mul_mono_right, swap, loss_falls, as_diff, diffs, mul_mono, same_diff, sub_mul}
-use Rattle.exact_solutions.proofs.Common.{Ramp, rise, ramp_flow, AreMutual, net_flow, IsHeldFromBelow, IsSolution, HasWholeSolution, IsSinking, HasSinking}
-use Rattle.exact_solutions.proofs.Common.{rise_within_extent, rise-below_foot, rise-above_top, extent-between}
-use Rattle.exact_solutions.proofs.LinearSteps.{same_at_most, same_at_least, comparison_over}
+use Rattle.exact_solutions.proofs.Common.{ℕ, ℤ, [], ◌<ℤ◌, None, inl, inr, suc, zero, *ℤ-zero, zero-*ℤ, ints, by_lt_z, cancel_right, mul_mono_right, swap}
+use Rattle.exact_solutions.proofs.Common.{loss_falls, as_diff, diffs, mul_mono, same_diff, sub_mul, Ramp, rise, ramp_flow, AreMutual, net_flow, IsHeldFromBelow}
+use Rattle.exact_solutions.proofs.Common.{IsSolution, HasWholeSolution, IsSinking, HasSinking, rise_within_extent, rise-below_foot, rise-above_top}
+use Rattle.exact_solutions.proofs.Common.{extent-between, IsHeldFromAbove, rise-no_extent, rise-no_top, rise-between, cases_lt}
+use Rattle.exact_solutions.proofs.LinearSteps.{same_at_most, same_at_least, comparison_over, linear_solution, not_loose}
 use Rattle.exact_solutions.proofs.Added.{net_flow-cons, conductance_added, flow_added, net_flow-added}
-use Rattle.exact_solutions.proofs.Regimes.{cond_same, cond_less, cond_nonneg, cond_none, ramp, flow-middle, flow-full, held_without, held_full}
+use Rattle.exact_solutions.proofs.Regimes.{cond_same, cond_less, cond_nonneg, cond_none, ramp, flow-middle, flow-full, held_without, held_full, held_middle}
+use Rattle.exact_solutions.proofs.Regimes.{sinking_middle, sinking_exists}
 
 -- (y * e ≤ x * d), and x at most t * e
 below_over : (e d : ℕ) (x y t : ℤ) → 0 < e → (y *ℤ pos e) ≤ℤ (x *ℤ pos d) → x ≤ℤ (t *ℤ pos e) → y ≤ℤ (t *ℤ pos d)
@@ -98,3 +100,49 @@ module _ (n : ℕ) (a : ℕ → ℕ → ℤ) (both : AreMutual n a) (rs : List R
 
         gives : (i : ℕ) → cond (nat_eq k i) (pos d *ℤ (pos c *ℤ t) -ℤ pos c *ℤ X i) (pos 0) ≤ℤ cond (nat_eq k i) (pos d *ℤ neg_ℤ (pos c *ℤ (u -ℤ t)) -ℤ pos 0 *ℤ X i) (pos 0)
         gives i = cond_less k i _ _ (λ same. rw (← flow-full (pos d) (pos c) (u -ℤ t) (X i), ← flow-middle (pos d) (pos c) t (X i)) (loss_falls c _ _ (rw sub_mul (omega (arith, ints, subst (λ (z : ℕ). (u *ℤ pos d) ≤ℤ X z) same over)))))
+
+-- A step with ramps that is held from below and above has a solution: by induction on its ramps.
+module _ (n : ℕ) (a : ℕ → ℕ → ℤ) (both : AreMutual n a) (rs : List Ramp) (others : OthersSolved n a rs) where
+  -- a ramp that conducts, in a cell of the step
+  conducting_ramp : (k c : ℕ) (t : ℤ) (top : Option ℤ) (b : ℕ → ℕ) (q : ℕ → ℤ) → k < n → IsHeldFromBelow n a b q (ramp k (suc c) t top ∷ rs) → HasSinking n a b q (ramp k (suc c) t top ∷ rs) → HasWholeSolution n a b q (ramp k (suc c) t top ∷ rs)
+  conducting_ramp k c t None b q inside held sinks =
+      let (d, X, middle) = others (conductance_added k (suc c) b) (flow_added k (pos (suc c) *ℤ t) q) (held_middle n a b q rs k c t None held) (sinking_middle n a b q rs k (suc c) t None sinks) in
+      by_lt_z (X k) (t *ℤ pos d)
+      (λ lt. solution-below_foot n a both rs others k (suc c) t b q None inside held d X middle (omega (arith, ints)))
+      (λ le. solution-between n a both rs others k (suc c) t b q None d X middle (rise-no_top t d (X k) le))
+  conducting_ramp k c t (Some u) b q inside held sinks =
+      by_lt_z u t
+      (λ lt. solution-idle n a both rs others b q (ramp k (suc c) t (Some u)) held sinks (λ d x i h. cond_same k i _ (pos 0) (λ same. gone (rise-no_extent t u d x (weaken _ _ lt))) ∙ cond_none k i))
+      (λ up.
+      let (d, X, middle) = others (conductance_added k (suc c) b) (flow_added k (pos (suc c) *ℤ t) q) (held_middle n a b q rs k c t (Some u) held) (sinking_middle n a b q rs k (suc c) t (Some u) sinks) in
+      by_lt_z (X k) (t *ℤ pos d)
+      (λ lt. solution-below_foot n a both rs others k (suc c) t b q (Some u) inside held d X middle (weaken _ _ lt))
+      (λ le.
+      by_lt_z (u *ℤ pos d) (X k)
+      (λ over. solution-above_top n a both rs others k (suc c) t b q u up inside held sinks d X middle (weaken _ _ over))
+      (λ under. solution-between n a both rs others k (suc c) t b q (Some u) d X middle (rise-between t u d (X k) le under))))
+    where
+      weaken : (x y : ℤ) → x <ℤ y → x ≤ℤ y
+      weaken x y h = omega (arith, ints)
+
+      gone : {z : ℤ} → z ≡ pos 0 → neg_ℤ (pos (suc c) *ℤ z) ≡ pos 0
+      gone {z} e = rw (e, *ℤ-zero (pos (suc c))) refl
+
+  one_more : (k c : ℕ) (t : ℤ) (top : Option ℤ) (b : ℕ → ℕ) (q : ℕ → ℤ) → IsHeldFromBelow n a b q (ramp k c t top ∷ rs) → HasSinking n a b q (ramp k c t top ∷ rs) → HasWholeSolution n a b q (ramp k c t top ∷ rs)
+  one_more k zero t top b q held sinks = solution-idle n a both rs others b q (ramp k 0 t top) held sinks (λ d x i h. cond_same k i _ (pos 0) (λ same. gone (rise t top d x)) ∙ cond_none k i)
+    where
+      gone : (z : ℤ) → neg_ℤ (pos 0 *ℤ z) ≡ pos 0
+      gone z = rw (zero-*ℤ z) refl
+  one_more k (suc c) t top b q held sinks =
+      elim (cases_lt k n) [
+        | inl inside ↦ conducting_ramp k c t top b q inside held sinks
+        | inr out ↦ solution-idle n a both rs others b q (ramp k (suc c) t top) held sinks (λ d x i h. cond_same k i _ (pos 0) (λ same. absurd (omega (arith, out, same, h))) ∙ cond_none k i)
+      ]
+
+module _ (n : ℕ) (a : ℕ → ℕ → ℤ) (both : AreMutual n a) where
+  solution_from_sinking : (rs : List Ramp) (b : ℕ → ℕ) (q : ℕ → ℤ) → IsHeldFromBelow n a b q rs → HasSinking n a b q rs → HasWholeSolution n a b q rs
+  solution_from_sinking [] b q held (e, Z, sinks) = linear_solution n a b both (not_loose n a b q both held e Z sinks.some sinks.loses) q
+  solution_from_sinking (r ∷ rs) b q held sinks = one_more n a both rs (λ b' q' h s. solution_from_sinking rs b' q' h s) r.cell r.c r.foot r.top b q held sinks
+
+  pub whole_solution_exists : (b : ℕ → ℕ) (q : ℕ → ℤ) (rs : List Ramp) → IsHeldFromBelow n a b q rs → IsHeldFromAbove n a b q rs → HasWholeSolution n a b q rs
+  whole_solution_exists b q rs held above = solution_from_sinking rs b q held (sinking_exists n a both rs b q above)

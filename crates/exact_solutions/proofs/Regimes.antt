@@ -3,7 +3,8 @@ use Rattle.exact_solutions.proofs.Common.{◌≡◌, ◌≤ℤ◌, arith, cond, 
 use Rattle.exact_solutions.proofs.Common.{Bool, List, None, Option, Some, false, neg_ℤ, suc, true, zero-*ℤ, total, as_diff, diffs, same_diff, [], ap, subst}
 use Rattle.exact_solutions.proofs.Common.{int_max, clamps, loss_falls, Ramp, full_rate, IsHeldFromBelow, IsHeldFromAbove, extent-between, ramp_flow, AreMutual}
 use Rattle.exact_solutions.proofs.Common.{HasSinking, rise_within_height, rise-no_top, full_rate_nonneg, flow_leaves}
-use Rattle.exact_solutions.proofs.Added.{held_where_deeper, conductance_added, flow_added, added_zero, added_zero_away, flow_added-away, flow_added-at, conductance_added-at, net_flow_lifted, net_flow-cons, net_flow-added}
+use Rattle.exact_solutions.proofs.Added.{held_where_deeper, conductance_added, flow_added, added_zero, added_zero_away, flow_added-away, flow_added-at}
+use Rattle.exact_solutions.proofs.Added.{conductance_added-at, net_flow_lifted, net_flow-cons, net_flow-added}
 use Rattle.exact_solutions.proofs.LinearSteps.{same_at_most, linear_solution}
 
 -- at one cell alone

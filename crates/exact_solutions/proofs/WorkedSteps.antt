@@ -2,9 +2,8 @@
 use Rattle.exact_solutions.proofs.Common.{◌≡◌, ◌*◌, ◌<◌, ◌∙◌, ◌+ℤ◌, ◌-ℤ◌, ◌*ℤ◌, ◌≤ℤ◌, [], ◌∷◌, ℕ, zero, suc, refl, sym, ap, arith, ℤ, pos, neg_ℤ, List, int_max}
 use Rattle.exact_solutions.proofs.Common.{AllZip, ints, clamps, Same, whole, IsOver, share, SolvesStep, whole_solves, CellOver, add_mul, sub_mul, WholeCell}
 use Rattle.exact_solutions.proofs.Common.{whole_at, whole_balance, mul_mono_right, swap, HasNoneOrMany, river_and_well, linked_to, two_cells, WellPastDeepFlow}
-use Rattle.exact_solutions.proofs.Common.{WellWithinDeepFlow, WellOfDeepFlow, TwoLooseCells}
-use Rattle.step_problem.proofs.Leasts.{neg_mul}
-use Rattle.exact_solutions.proofs.Shares.{crossed_same, same_crossed}
+use Rattle.exact_solutions.proofs.Common.{WellWithinDeepFlow, WellOfDeepFlow, TwoLooseCells, neg_mul}
+use Rattle.exact_solutions.proofs.HeldSteps.{crossed_same, same_crossed}
 use Rattle.exact_solutions.proofs.WholeSolutions.{share_is_over, whole_balances_solve}
 
 -- a whole number over d

@@ -8,15 +8,14 @@ pub use Rattle.std.proofs.lemmas.Int.{clamps, ints}
 pub use Rattle.std.proofs.lemmas.List.{append-nil, get_or-replicate, length-replicate, reverse-append, take_all, take_more}
 pub use Rattle.std.specs.List.{filter_map, find, flat_map, list_any, range_with_len}
 pub use Rattle.std.specs.Prelude.{All, Contains, nat_lt, replicate, reverse, unsigned_abs, ◌==◌}
-pub use Rattle.cell_balance.proofs.EntryScaled.{same_over}
+pub use Rattle.cell_balance.proofs.Enclosing.{same_over}
 pub use Rattle.cell_balance.proofs.Scaling.{IsOver-greater, IsOver-minus, IsOver-negated, IsOver-none, IsOver-plus, IsOver-signed, IsOver-times}
 pub use Rattle.cell_balance.specs.{AreLinked, ExactCell, ExactFlow, ExactLink, HasLinkBack, SolvesStep, cell_at, greater, minus, no_cell, no_link, share}
 pub use Rattle.decimal_input.proofs.Differences.{as_diff, diffs, same_diff}
-pub use Rattle.decimal_input.proofs.Fractional.{AtMost-trans}
+pub use Rattle.decimal_input.proofs.FloorLaws.{AtMost-trans, neg_times, swap}
 pub use Rattle.decimal_input.proofs.Orders.{Same-trans, den_over, den_plus, den_times, num_over, num_plus, num_times}
 pub use Rattle.decimal_input.proofs.SameNumbers.{Same-of, Same-self, over-Same, plus-Same, plus-comm, times-Same}
-pub use Rattle.decimal_input.proofs.Signs.{neg_times, swap}
-pub use Rattle.decimal_input.specs.{Fraction, IsDec, IsOver, IsShare, Ratio, negated, number, signed, size, whole, with_sign}
+pub use Rattle.decimal_input.specs.{Fraction, IsDec, IsOver, IsShare, Ratio, negated, number, signed, size, up, whole, with_sign}
 unfoldable pub use Rattle.decimal_input.specs.{over, ratio, scaled}
 pub use Rattle.decimal_input.specs.Fractions.{den}
 pub use Rattle.decimal_input.specs.Ratios.{AtMost, Same}
@@ -41,4 +40,4 @@ pub use Rattle.model_types.specs.declared.entry.Entry.{Entry}
 pub use Rattle.model_types.specs.declared.entry.Entry.TheVariants.{Drain, General, River, Well}
 pub use Rattle.model_types.specs.declared.model.FlowModel.{FlowModel}
 pub use Rattle.model_types.specs.declared.period.Period.{Period}
-pub use Rattle.step_problem.proofs.Ring.{mul_assoc}
+pub use Rattle.step_problem.proofs.Leasts.{mul_assoc, mul_neg}

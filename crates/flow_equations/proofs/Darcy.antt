@@ -3,7 +3,7 @@ use Rattle.flow_equations.proofs.Common.{◌≡◌, ℕ, zero, suc, ◌+◌, ◌
 use Rattle.flow_equations.proofs.Common.{AtMost, Same-trans, Same-of, plus-comm, FlowModel, delr_at, delc_at, hk_at, hani_at, thickness, dec_at, one, half}
 use Rattle.flow_equations.proofs.Common.{in_a_row, row_conductance, column_conductance, IsSameFromBothEnds, AreAlike, AreAlikeInAColumn, IsBetweenHalves}
 use Rattle.decimal_input.specs.Ratios.{den}
-use Rattle.flow_equations.proofs.Values.{itself, value_one, value_two, value_times, value_plus, value_over, same_by, cross_by, at_most_by, size_positive}
+use Rattle.flow_equations.proofs.Downwards.{itself, value_one, value_two, value_times, value_plus, value_over, same_by, cross_by, at_most_by, size_positive}
 
 -- two resistances in either order
 in_turn : (r q : Ratio) → in_a_row r q ≡ in_a_row q r

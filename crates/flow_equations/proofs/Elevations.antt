@@ -4,7 +4,7 @@ use Rattle.flow_equations.proofs.Common.{ints, Dec, number, plus, Same, Fraction
 use Rattle.flow_equations.proofs.Common.{bed_thickness, top_at, bottom_at, lowest, LayersFillTheSpace}
 use borrow.Author.Differences.{up, down}
 use Rattle.decimal_input.specs.Fractions.{AtMost}
-use Rattle.flow_equations.proofs.Values.{IsValue, value_plus, same_by}
+use Rattle.flow_equations.proofs.Downwards.{IsValue, value_plus, same_by}
 
 -- what lies between two whole numbers, with what is below 0 on the other side
 between : (a b : ℤ) → b ≤ℤ a → unsigned_abs (a -ℤ b) + (down a + up b) ≡ up a + down b

@@ -9,7 +9,7 @@ use Rattle.std.proofs.lemmas.List.Concat.{flat_map-append}
 use Rattle.decimal_input.specs.Ratios.{den as ratio_den, Same as SameRatio}
 use Rattle.decimal_input.specs.Fractions.{plus, times, Same}
 use Rattle.model_types.specs.declared.entry.Given.{Given}
-use Rattle.flow_equations.proofs.Values.{value_one, itself, value_over, cross_by}
+use Rattle.flow_equations.proofs.Downwards.{value_one, itself, value_over, cross_by}
 use Rattle.flow_equations.proofs.StepSums.{geometric_one, value_ratio}
 use Rattle.flow_equations.proofs.TurnedFlows.{over_first, over_second}
 

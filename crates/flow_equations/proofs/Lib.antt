@@ -1,10 +1,9 @@
 mod Common
-pub mod Values
 pub mod Links
 mod Darcy
 mod StepSums
 mod StorageTerms
-mod Downwards
+pub mod Downwards
 mod Elevations
 mod TurnedFlows
 mod ChosenCells

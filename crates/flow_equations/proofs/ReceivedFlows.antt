@@ -10,10 +10,10 @@ use Rattle.std.specs.Int.{int_max}
 use Rattle.std.specs.Option.{option_to_list}
 use Rattle.decimal_input.specs.Ratios.{den as ratio_den}
 use Rattle.decimal_input.specs.Fractions.{plus, times as product, Same}
-use Rattle.decimal_input.proofs.Fractional.{Same-trans}
+use Rattle.decimal_input.proofs.FloorLaws.{Same-trans}
 use Rattle.step_problem.specs.declared.entry.FlowKind.TheVariants.{Wells, Recharge}
 use Rattle.cell_balance.proofs.EntryFlows.{flows_are_right}
-use Rattle.flow_equations.proofs.Values.{IsValue, itself, value_over, size_positive}
+use Rattle.flow_equations.proofs.Downwards.{IsValue, itself, value_over, size_positive}
 use Rattle.flow_equations.proofs.TurnedFlows.{over_first, own_share}
 
 module _ (m : FlowModel) (p n : ℕ) (old : ℕ → Fraction) (c : ℕ) where

@@ -5,7 +5,7 @@ use Rattle.flow_equations.proofs.Common.{Same-self, Same-of, plus-Same, times-Sa
 use Rattle.flow_equations.proofs.Common.{multiplier, passed, storage, storage_capacity, range_more, ratio_total, Lasts, HasManualSteps}
 use Rattle.decimal_input.specs.Ratios.{den}
 use Rattle.model_types.proofs.Growth.{power-positive, horner}
-use Rattle.flow_equations.proofs.Values.{IsValue, itself, value_one, value_times, value_plus, value_over, same_by, size_positive}
+use Rattle.flow_equations.proofs.Downwards.{IsValue, itself, value_one, value_times, value_plus, value_over, same_by, size_positive}
 
 pub value_ratio : (n : ℕ) → IsValue (ratio n 1) n 1
 unfolding ratio

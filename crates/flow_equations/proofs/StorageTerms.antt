@@ -2,7 +2,7 @@
 use Rattle.flow_equations.proofs.Common.{◌≡◌, ℕ, Bool, true, false, cond, ap, arith, size, Ratio, times, Same, Same-trans, Same-of, FlowModel, Period, dec_at}
 use Rattle.flow_equations.proofs.Common.{delr_at, delc_at, area, thickness, storage, step_length, Lasts, StoresByOption}
 use Rattle.flow_equations.proofs.StepSums.{stores}
-use Rattle.flow_equations.proofs.Values.{itself, value_times, same_by}
+use Rattle.flow_equations.proofs.Downwards.{itself, value_times, same_by}
 
 -- a storativity times a length and a width
 by_area : (s a b : Ratio) → Same (times (times s a) b) (times s (times a b))

@@ -1,10 +1,9 @@
 -- Flows over branches change their sign with the heads.
 use Rattle.flow_equations.proofs.Common.{◌≡◌, ℕ, ◌*◌, ◌<◌, sym, arith, ℤ, pos, neg_ℤ, ◌-ℤ◌, ◌*ℤ◌, mul-pos, ints, Ratio, Fraction, den, signed, negated, IsOver}
 use Rattle.flow_equations.proofs.Common.{IsShare, diffs, as_diff, same_diff, mul_assoc, minus, IsOver-times, IsOver-minus, IsOver-negated, IsOver-signed}
-use Rattle.flow_equations.proofs.Common.{same_over, FlowsChangeSign}
+use Rattle.flow_equations.proofs.Common.{same_over, FlowsChangeSign, mul_neg}
 use Rattle.decimal_input.specs.Ratios.{den as ratio_den}
 use Rattle.decimal_input.specs.Fractions.{times, Same}
-use Rattle.step_problem.proofs.Leasts.{mul_neg}
 
 -- two fractions over the product of their denominators
 pub over_first : (f g : Fraction) → IsOver (den f * den g) f (f.num *ℤ pos (den g))

@@ -1,12 +1,13 @@
 -- A model in limits stays so where its periods have other stresses in limits.
 use Rattle.list_package.proofs.Common.{◌≡◌, ◌⊎◌, inl, inr, ℕ, zero, suc, ◌-◌, ◌<◌, ◌≤◌, ℤ, pos, ◌≤ℤ◌, Bool, true, not, cond, ◌&&◌, ◌==◌, List, [], ◌∷◌, map}
 use Rattle.list_package.proofs.Common.{All, Some, None, length, get_or, sum, sum_by, refl, sym, ap, ◌∙◌, subst, All-weaker, Period, Stresses, cell_count}
-use Rattle.list_package.proofs.Common.{place_in_layer, AreStresses, IsModel, IsPeriod, IsTimed, IsGrowing, IsBedChecked, IsEvapValid, number_one, EvapArrays}
-use Rattle.list_package.proofs.Common.{evap_arrays, IsList, KeepsLimits, SameBut, Kind, with_list, without, length-map, dec_at, is_active, EvapSource}
-use Rattle.list_package.proofs.Common.{is_chosen, evap_sources, no_period}
+use Rattle.list_package.proofs.Common.{place_in_layer, AreStresses, IsModel, IsPeriod, IsTimed, IsGrowing, IsBedChecked, IsEvapValid, number_one, dec_at}
+use Rattle.list_package.proofs.Common.{is_active, EvapSource, is_chosen, evap_sources, no_period, IsGivenList, IsGivenValid, EvapArrays, evap_arrays, IsList}
+use Rattle.list_package.proofs.Common.{KeepsLimits, SameBut, Kind, with_list, without, given_heads, length-map, Grid}
 use Rattle.std.specs.Option.{option_to_list}
 use Rattle.std.proofs.lemmas.List.Sums.{sum-map}
 use Rattle.model_types.specs.declared.model.FlowModel.{FlowModel}
+use Rattle.model_types.specs.declared.entry.Given.{Given}
 
 pub same_count : {A : Type 0} (f : Period → A) (ps qs : List Period) → map f ps ≡ map f qs → length ps ≡ length qs
 same_count f ps qs e = sym (length-map ps f) ∙ ap length e ∙ length-map qs f
@@ -114,3 +115,16 @@ module _ {E : Type 0} (kind : Kind E) (Valid : ℕ → E → Type 0) (laws : Kee
       (same_view (without kind) steps steps (λ p. refl) n.periods m.periods same.periods)
       (same_view (without kind) evaporation_of evaporation_of (λ p. laws.evaporation p.stresses []) n.periods m.periods same.periods)
       (each_period (without kind) (IsPeriod m) (IsPeriod m) (λ p. IsList kind (Valid (cell_count m.grid)) (kind.list p.stresses)) (period_stays m) n.periods m.periods same.periods h.periods lists))
+
+-- Stresses in limits stay so with a CHD list in limits.
+given_list : (cells : ℕ) (xs : List Given) → IsList given_heads (IsGivenValid cells) xs → IsGivenList cells xs
+given_list cells xs h = record { few = h.few; entries = h.entries; once = λ i j d lt within same. h.once refl i j d lt within (ap (λ cell. cell.0) same) }
+
+fits : (g : Grid) (r e : ℤ) (s : Stresses) (xs : List Given) → IsList given_heads (IsGivenValid (cell_count g)) xs → AreStresses g r e s → AreStresses g r e (given_heads.put s xs)
+fits g r e s xs list h = record { wells = h.wells; rivers = h.rivers; drains = h.drains; generals = h.generals; given = given_list (cell_count g) xs list; recharge = h.recharge; irch = h.irch; surf = h.surf; evtr = h.evtr; exdp = h.exdp; ievt = h.ievt }
+
+pub keeps_limits : KeepsLimits given_heads IsGivenValid
+keeps_limits = record { replaces = λ s xs ys. refl; unchanged = λ s. refl; evaporation = λ s xs. refl; fits = fits }
+
+pub given_lists : (cells : ℕ) (ps : List Period) → All (λ p. IsList given_heads (IsGivenValid cells) p.stresses.given) ps → All (λ p. IsGivenList cells p.stresses.given) ps
+given_lists cells ps h = All-weaker (λ p. IsList given_heads (IsGivenValid cells) p.stresses.given) (λ p. IsGivenList cells p.stresses.given) (λ p. given_list cells p.stresses.given) ps h

@@ -1,21 +1,24 @@
 -- An entry of a list: Layer Row Column, and the numbers of its package (TM 6-A16, WEL, RIV, DRN, GHB, CHD).
 use Rattle.std.specs.Prelude.{ℕ, ◌-◌, ℤ, Bool, true, false, ◌||◌, List, length, Option, Some, None, Result, Ok, Err, if◌then◌else◌, cond, codes, replicate}
-use Rattle.std.specs.Prelude.{slice_index_or, slice_set, not, ◌&&◌, nat_lt, [], ◌∷◌}
+use Rattle.std.specs.Prelude.{slice_index_or, slice_set, not, ◌&&◌, nat_lt, [], ◌∷◌, is_some}
 use Rattle.outside.specs.{refusal, words}
 use Rattle.outside.specs.declared.codes.Code.{Code}
 use Rattle.outside.specs.declared.codes.Code.TheVariants.{OutOfProfile, CellOutside, BadProperty}
 use Rattle.outside.specs.declared.inputs.Refusal.{Refusal}
-use Rattle.record_lines.specs.{begins_with, line_at, Left, ◌>>=◌, repeated}
+use Rattle.record_lines.specs.{begins_with, line_at, Left, ◌>>=◌, repeated, left_from, without_comments, for_each}
 use Rattle.array_reader.specs.{number_at, integer, number}
 use Rattle.model_types.specs.declared.grid.Grid.{Grid}
 use Rattle.model_types.specs.declared.grid.CellId.{CellId}
 use Rattle.model_types.specs.{cell_count, cell_number, dec_at}
 use Rattle.number_limits.specs.{within, is_one, is_same_number}
-use Rattle.list_package.specs.Kinds.{Kind, first_fault}
+use Rattle.list_package.specs.Kinds.{Kind, first_fault, with_list}
 use Rattle.std.specs.List.{list_all}
 use Rattle.model_types.specs.declared.entry.Given.{Given}
 use Rattle.model_types.specs.declared.period.Period.{Period}
 use Rattle.list_package.specs.declared.columns.Column.TheVariants.{Head}
+use Rattle.model_types.specs.declared.limits.Limits.{Limits}
+use Rattle.model_types.specs.declared.model.FlowModel.{FlowModel}
+use Rattle.list_package.specs.Headers.{Count, entries, again, header_of, item_line}
 
 abbrev pub inside : Option ℕ → Refusal → Result ℕ Refusal
 inside None r = Err r
@@ -92,3 +95,44 @@ given_heads =
       list = λ s. s.given;
       put = λ s list. record s { given = list };
     }
+
+-- A file of a list package (TM 6-A16, WEL, RIV, DRN, GHB, CHD).
+-- the list that follows, or the last one again
+abbrev pub list_of : {E : Type 0} → Kind E → List ℕ → Grid → Count → Option (List E) → Left → Result (List E × Left) Refusal
+list_of kind file grid (entries n) last left = new_list kind file grid n left
+list_of kind file grid again None left = Ok ([], left)
+list_of kind file grid again (Some list) left = Ok (list, left)
+
+-- a period's list, after this last one
+unfoldable pub list_at : {E : Type 0} → Limits → Kind E → List ℕ → Grid → Period → (Option (List E) × Left) → Result (List E × (Option (List E) × Left)) Refusal
+list_at limits kind file grid period s = do
+  line ← line_at file s.1
+  count ← header_of limits file line.0.number (is_some s.0) (words line.0.bytes)
+  list ← list_of kind file grid count s.0 line.1
+  if kind.suits period list.0 then Ok (list.0, (Some list.0, list.1)) else Err (refusal OutOfProfile file line.0.number)
+
+-- the period with it
+unfoldable pub period_at : {E : Type 0} → Limits → Kind E → List ℕ → Grid → Period → (Option (List E) × Left) → Result (Period × (Option (List E) × Left)) Refusal
+period_at limits kind file grid period s = do
+  list ← list_at limits kind file grid period s
+  Ok (with_list kind period list.0, list.1)
+
+abbrev pub without_state : {X S : Type 0} → Result (X × S) Refusal → Result X Refusal
+without_state read = read >>= λ x. Ok x.0
+
+-- the periods with their lists
+unfoldable pub periods_of : {E : Type 0} → Limits → Kind E → List ℕ → Grid → List Period → Left → Result (List Period) Refusal
+periods_of limits kind file grid periods left = without_state (for_each (period_at limits kind file grid) periods (None, left))
+
+-- the maximum count, which is read and not compared, and a list for each period
+unfoldable pub lists_of : {E : Type 0} → Limits → Kind E → List ℕ → List ℕ → Grid → List Period → Result (List Period) Refusal
+lists_of limits kind file bytes grid periods = do
+  line ← item_line file (without_comments (left_from 1 bytes))
+  most ← number_at integer file line.0.number (words line.0.bytes)
+  periods_of limits kind file grid periods line.1
+
+-- the model with these periods
+unfoldable pub package_of : {E : Type 0} → Limits → Kind E → List ℕ → List ℕ → FlowModel → Result FlowModel Refusal
+package_of limits kind file bytes m = do
+  periods ← lists_of limits kind file bytes m.grid m.periods
+  Ok (record m { periods = periods })

@@ -1,8 +1,7 @@
 // The trait of an entry of lists.
 ghost use Rattle.std.specs.Prelude.{◌≡◌, ◌<◌, ℕ, []};
 ghost use Rattle.std.specs.List.{AllZip};
-ghost use Rattle.list_package.specs.Forms.{IsColumn, KeepsLimits};
-ghost use Rattle.list_package.specs.Kinds.{Kind};
+ghost use Rattle.list_package.specs.Kinds.{IsColumn, KeepsLimits, Kind};
 
 use crate::columns::Column;
 use decimal_input::dec::Dec;

@@ -42,7 +42,7 @@ fn list_of<E: ListEntry>(
 }
 
 /// The next period's list, which becomes the last one.
-#[tactic(auto, unfolding(crate::specs::Lists::list_at))]
+#[tactic(auto, unfolding(crate::specs::Entries::list_at))]
 fn list_at<E: ListEntry>(
     alloc: Global,
     limits: Limits,
@@ -81,7 +81,7 @@ fn with_list<E: ListEntry>(lists: E::Lists, period: Period, list: Shared<E>) -> 
 }
 
 /// The next period with its list, which becomes the last one.
-#[tactic(auto, unfolding(crate::specs::Lists::period_at))]
+#[tactic(auto, unfolding(crate::specs::Entries::period_at))]
 fn period_at<E: ListEntry>(
     alloc: Global,
     limits: Limits,
@@ -135,7 +135,7 @@ fn with_lists<E: ListEntry>(
 }
 
 /// The periods with their lists.
-#[tactic(auto, unfolding(crate::specs::Lists::periods_of))]
+#[tactic(auto, unfolding(crate::specs::Entries::periods_of))]
 pub fn periods_of<E: ListEntry>(
     alloc: Global,
     limits: Limits,

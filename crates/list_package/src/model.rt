@@ -14,7 +14,7 @@ use record_lines::{Lines, Words};
 use std::alloc::Global;
 
 /// The periods with the lists of a package's file.
-#[tactic(auto, unfolding(crate::specs::Lists::lists_of))]
+#[tactic(auto, unfolding(crate::specs::Entries::lists_of))]
 fn lists_of<E: ListEntry>(
     alloc: Global,
     limits: Limits,
@@ -44,7 +44,7 @@ fn lists_of<E: ListEntry>(
 /// where the first list is to be reused, OutOfProfile for parameters, another file's entries, or a given head that changes
 /// in a steady period of growing steps; of an entry CellOutside, HeadTooLarge, or BadProperty, also where a list of given
 /// heads has named the cell before. (TM 6-A16, WEL, RIV, DRN, GHB, CHD)
-#[tactic(auto, unfolding(crate::specs::Lists::package_of))]
+#[tactic(auto, unfolding(crate::specs::Entries::package_of))]
 pub fn read_package<E: ListEntry>(
     alloc: Global,
     limits: Limits,

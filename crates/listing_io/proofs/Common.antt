@@ -2,7 +2,6 @@
 pub use Rattle.std.proofs.Common.{All, Bool, Err, List, None, Ok, Option, Result, Some, [], add-one, ap, arith, codes, cond, decimal, drop, drop-cons, false}
 pub use Rattle.std.proofs.Common.{get_or, inl, inr, length, map, nat_abs, nat_le, negsuc, not, option_map, pos, pow-suc, refl, replicate, rules, slice_index_or}
 pub use Rattle.std.proofs.Common.{subst, suc, sym, take, true, zero, ℕ, ℤ, ◌%◌, ◌&&◌, ◌*◌, ◌++◌, ◌+◌, ◌-◌, ◌/◌, ◌<◌, ◌==◌, ◌^◌, ◌||◌, ◌∙◌, ◌∷◌, ◌≡◌, ◌≤◌, ◌⊎◌}
-pub use Rattle.std.proofs.lemmas.Bool.{and_parts, le-leb, leb-true}
 pub use Rattle.std.proofs.lemmas.Bool.Decides.{nat_tests}
 pub use Rattle.std.proofs.lemmas.Fmt.{decimal_is_IsNumeral_wide, length-decimal-le_wide}
 pub use Rattle.std.proofs.lemmas.List.{append-nil, append_assoc, drop_all, drop_at, take_at}

@@ -8,8 +8,7 @@ use Rattle.listing_io.proofs.Common.{flow_form, zone_front, zone_line, zone_pair
 use Rattle.listing_io.proofs.Common.{IsForm, listing_at, IsCellBound, AreFlows, AreTerms, IsListedStep, AreListed, AreZonePairs, IsTime, IsWritable}
 use Rattle.listing_io.proofs.Common.{ListingsAreReadAgain, model_line, signed_decimal, all_terms, is_printed, each_lines}
 use Rattle.model_types.specs.declared.grid.Grid.{Grid}
-use Rattle.listing_io.proofs.Blanks.{Without, Without-append, by_test, decimal_without, fixed_without}
-use Rattle.listing_io.proofs.Exactly.{fits_wide}
+use Rattle.listing_io.proofs.Exactly.{Without, Without-append, by_test, decimal_without, fixed_without, fits_wide}
 use Rattle.listing_io.proofs.Terms.{left_of, line_if, term_rows, IsPairIf, IsTermPair, terms_good, lines_in, lines_out, cell_lines}
 use Rattle.listing_io.proofs.Readers.{IsFlowOf, IsInLimit, flow_is_form, flow_rows, head_is_form, head_small, in_limit, term_is_form}
 use Rattle.listing_io.proofs.Steps.{IsSmall, IsStepAt, bounds_of, flow_lines, flows_of, rows_again, steps_at}

@@ -1,6 +1,5 @@
 mod Common
 pub mod NumberLemmas
-pub mod Blanks
 pub mod Exactly
 pub mod Terms
 pub mod Readers
@@ -10,4 +9,3 @@ pub mod Walks
 pub mod Ends
 pub mod Periods
 pub mod Rows
-pub mod Apart

@@ -3,7 +3,6 @@ pub mod Listing
 pub mod LastLines
 pub mod Reading
 pub mod Laws
-
 pub use Rattle.listing_io.specs.Forms.{Form, IsForm, IsPairLine, LinesReadExactly, behind_word, first_word, is_negative, is_within, pair_line, pair_text}
 pub use Rattle.listing_io.specs.Forms.{value_of, with_byte}
 unfoldable pub use Rattle.listing_io.specs.Forms.{candidate, digits_behind, pair_in}

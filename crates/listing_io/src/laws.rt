@@ -20,7 +20,7 @@ pub fn listings_were_written()
 {}
 
 /// No text is read both as the listing for all models between two decks and as that of a model.
-#[tactic(auto, using(crate::proofs::Apart::listings_are_apart))]
+#[tactic(auto, using(crate::proofs::Walks::listings_are_apart))]
 pub fn listings_are_apart()
     ensures { ListingsAreApart }
 {}

@@ -6,7 +6,7 @@ pub use Rattle.std.specs.Prelude.{IfErr, IfOk, IfSome, MatchResult, false, if◌
 pub use Rattle.budget_bounds.specs.declared.pair.Budget.{Budget}
 pub use Rattle.cell_balance.specs.{EnclosesStep, ExactCell, LiesBetween}
 pub use Rattle.decimal_input.specs.{EnclosesSigned, Fraction}
-pub use Rattle.deck_problems.proofs.Members.{between_cells, cell_of_member, each_member, encloses_first, encloses_member, member_cells, of_member}
+pub use Rattle.deck_problems.proofs.OneProblem.{between_cells, cell_of_member, each_member, encloses_first, encloses_member, member_cells, of_member}
 pub use Rattle.deck_problems.specs.{AreDecks, AreStartHeadsFor, EachMember, HoldsOf, IsBefore, IsProblemFor, StartHeadsAreOne, StartHeadsFit}
 pub use Rattle.flow_equations.specs.{SolvesFrom, exact_step, heads_of, variable_heads}
 pub use Rattle.listing_io.specs.{first_text}
@@ -30,7 +30,6 @@ pub use Rattle.outside.specs.{Put, taken}
 pub use Rattle.outside.specs.declared.traits.SinkError.{SinkError}
 pub use Rattle.outside.specs.declared.traits.SinkError.TheVariants.{Write}
 pub use Rattle.problem_builder.specs.{AreGridHeads, HeadsEnclose, IsActive}
-pub use Rattle.problem_builder.specs.GridHeads.{IsNamed}
 pub use Rattle.run_puts.proofs.Pieces.{IsAt, IsLate, at_more, ends_or_lacks, joined, joined_thrice, lacks_after, lacks_at_first, late_not_ok, put_was, stops_at}
 pub use Rattle.run_puts.proofs.Pieces.{tail_late, weaker}
 pub use Rattle.run_puts.specs.{IsEnd, IsLast, IsPut, IsRun, IsWanting, Text, end_line, memory_put, status_after, wanting, whole}

@@ -3,7 +3,7 @@ use Rattle.listing_run.proofs.Common.{◌≡◌, ℕ, List, [], ◌∷◌, ◌<�
 use Rattle.listing_run.proofs.Common.{SolvesFrom, heads_of, HeadsEnclose, HoldsOf, between_cells, encloses_member, encloses_first, IsMove, Task, Step, Bounds}
 use Rattle.listing_run.proofs.Common.{BoundAll, BoundBetween, HistoriesBound}
 use Rattle.deck_span.specs.{SolvesBetweenFrom}
-use Rattle.listing_run.proofs.Zoned.{within_enclosed}
+use Rattle.listing_run.proofs.Moves.{within_enclosed}
 
 -- the step v bounds every move of the model m
 abbrev pub BoundsMovesOf : Task → TimeStep → List Bound → Step → FlowModel → Type 0

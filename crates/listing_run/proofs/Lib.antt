@@ -1,5 +1,4 @@
 mod Common
-pub mod Zoned
 pub mod Moves
 pub mod Lines
 pub mod HistoriesBound
@@ -7,5 +6,3 @@ pub mod UnderWay
 pub mod Pieces
 pub mod Settled
 pub mod Unique
-mod WideListings
-pub mod Wholes

@@ -1,17 +1,59 @@
 -- A step of a listing, by the clauses of the calls that gave its parts.
-use Rattle.listing_run.proofs.Common.{◌≡◌, ℕ, length, List, ◌∷◌, ℤ, Ok, Err, Result, subst, sym, refl, Fraction, Bound, NoBound, ZoneFlow, RoundsSettleBoth}
-use Rattle.listing_run.proofs.Common.{lower_at, upper_at, Budget, TimeStep, heads_of, variable_heads, Solved, EachMember, each_member, of_member, member_cells}
-use Rattle.listing_run.proofs.Common.{cell_of_member, IsMove, EnclosesMoves, Task, Step, IsActive, IsNamed, AreFlowsAt, FlowsEncloseAt, IsStep, HasNoBound}
-use Rattle.listing_run.proofs.Common.{no_heads, no_budget, no_zones, budget_at, Bounds, BoundsMoves, FlowsStopBy, StopsAt, stop_of, PairKind, IsStepBy}
-use Rattle.listing_run.proofs.Common.{pairs_of, IsSolved, exact_step, edges_by}
+use Rattle.listing_run.proofs.Common.{◌≡◌, ℕ, length, List, ◌∷◌, ℤ, Ok, Err, Result, subst, sym, refl, suc, ◌-◌, ◌<◌, ◌^◌, inl, inr, All, arith, pos, ◌*ℤ◌}
+use Rattle.listing_run.proofs.Common.{◌≤ℤ◌, Option, Some, None, [], Fraction, EnclosesSigned, Bound, NoBound, ZoneFlow, RoundsSettleBoth, lower_at, upper_at}
+use Rattle.listing_run.proofs.Common.{PairKind, entries_at, Budget, TimeStep, heads_of, variable_heads, exact_step, Solved, EachMember, each_member, of_member}
+use Rattle.listing_run.proofs.Common.{member_cells, cell_of_member, IsMove, EnclosesMoves, IsStepBy, edges_by, LiesWithin, WideKeepsSteps, Task, Step, IsActive}
+use Rattle.listing_run.proofs.Common.{HeadsEnclose, AreFlowsAt, FlowsEncloseAt, IsStep, HasNoBound, no_heads, no_budget, no_zones, budget_at, Bounds}
+use Rattle.listing_run.proofs.Common.{BoundsMoves, FlowsStopBy, StopsAt, stop_of, pairs_of, IsSolved, FlowsEnclose, WideKeepsListings, deck_task, IfSome}
+use Rattle.listing_run.proofs.Common.{Entries, FlowModel, cell_count, times, EnclosesStep, ExactCell, EncloseExact, HeadsLieWithin, Limits, Plain, Wide}
+use Rattle.step_chain.specs.{FailsBy as StepFailsBy}
+use Rattle.problem_builder.specs.GridHeads.{IsNamed}
 use Rattle.budget_bounds.specs.{EnclosesBudgets, HeadsAreWithin, budget_of}
 use Rattle.step_chain.specs.declared.solved.StepFault.{StepFault}
-use Rattle.step_chain.specs.{FailsBy as StepFailsBy}
 use Rattle.listing_run.specs.declared.solving.Stop.{Stop}
-use Rattle.listing_run.proofs.Zoned.{within_enclosed, heads_named, flows_enclose}
+use Rattle.std.specs.Prelude.{Contains, Bool}
+use Rattle.std.proofs.lemmas.List.Elements.{All-contains_itself, All-weaker}
+use Rattle.step_problem.specs.declared.entry.Fixed.{Fixed}
+use Rattle.deck_problems.specs.declared.decks.Decks.{Decks}
+use Rattle.listing_run.specs.{Steps}
 use Rattle.step_chain.specs.declared.solved.StepFault.TheVariants as chain
 use Rattle.listing_run.specs.declared.text.ListingEnd.TheVariants as ends
 use Rattle.listing_run.specs.declared.solving.Stop.TheVariants as stops
+
+-- The flows between the zones of a task, by the clauses of their call.
+-- a vector that lies within heads is enclosed by them
+pub within_enclosed : (m : FlowModel) (heads : List Bound) (d : ℕ) (X : ℕ → ℤ) → 0 < d → LiesWithin m heads d X → HeadsEnclose m heads (heads_of d X)
+within_enclosed m heads d X some h = λ c active.
+    let same : d ≡ suc (d - 1) = omega (arith, some) in
+    let L : ℕ → Type 0 = λ n. (lower_at heads c *ℤ pos n) ≤ℤ (X c *ℤ pos (10 ^ 9)) in
+    let U : ℕ → Type 0 = λ n. (X c *ℤ pos (10 ^ 9)) ≤ℤ (upper_at heads c *ℤ pos n) in
+    record { lower = subst L same (h.low c active); upper = subst U same (h.high c active) }
+
+-- What holds of all active cells holds of all that a problem names.
+module _ (m : FlowModel) (p : List Entries) (named : (c : ℕ) → IsNamed p c → IsActive m c) where
+  own : (P : ℕ → Type 0) → ((c : ℕ) → IsActive m c → P c) → (k : ℕ) → k < length p → P (entries_at p k).id
+  own P each k lt = each (entries_at p k).id (named (entries_at p k).id (k, lt, inl refl))
+
+  of_sources : (P : ℕ → Type 0) → ((c : ℕ) → IsActive m c → P c) → (k : ℕ) → k < length p → All (λ x. P x.source) (entries_at p k).fixed
+  of_sources P each k lt = All-weaker (Contains (entries_at p k).fixed) (λ (x : Fixed). P x.source) (λ x i. each x.source (named x.source (k, lt, inr (x, i, refl)))) (entries_at p k).fixed (All-contains_itself (entries_at p k).fixed)
+
+  pub ids_within : (count : ℕ) → count ≡ cell_count m.grid → (k : ℕ) → k < length p → (entries_at p k).id < count
+  ids_within count same = own (λ c. c < count) (λ c a. let w = a.within in omega (arith, same, w))
+
+  pub sources_within : (count : ℕ) → count ≡ cell_count m.grid → (k : ℕ) → k < length p → All (λ x. x.source < count) (entries_at p k).fixed
+  sources_within count same = of_sources (λ c. c < count) (λ c a. let w = a.within in omega (arith, same, w))
+
+  pub heads_named : (heads : List Bound) (h : ℕ → Fraction) → HeadsEnclose m heads h → HeadsLieWithin p (lower_at heads) (upper_at heads) h
+  heads_named heads h encloses = record {
+    variable = own (λ c. EnclosesSigned (lower_at heads c) (upper_at heads c) 9 (h c)) encloses;
+    sources = of_sources (λ c. EnclosesSigned (lower_at heads c) (upper_at heads c) 9 (h c)) encloses;
+  }
+
+-- flows that enclose in a problem enclose the exact ones of an exact step that the problem encloses
+pub flows_enclose : (o : Option (List ℕ)) (p : List Entries) (heads : List Bound) (flows : List ZoneFlow) → FlowsEnclose p heads o flows →
+    (s : ℕ) (e : List ExactCell) (h : ℕ → Fraction) → EnclosesStep s p e → HeadsLieWithin p (lower_at heads) (upper_at heads) h → IfSome o (λ zones. EncloseExact s e zones h flows)
+flows_enclose None p heads flows each s e h encloses within = tt
+flows_enclose (Some zones) p heads flows each s e h encloses within = each s e h encloses within
 
 -- the budget by bounds that a slice lent
 budget_by : (x : Solved) (lent : List Bound) (r : Result Budget NoBound) → lent ≡ x.bounds → r ≡ budget_of x.problem (lower_at lent) (upper_at lent) → budget_at x ≡ r
@@ -68,3 +110,31 @@ module _ (k : Task) (s : ℕ) (at : TimeStep) (old : List Bound) (digits : s ≡
         budget = terms k.digits (exact_step m at.period at.step before) (heads_of d Y) e.step (within (length x.problem) d Y (lower_at x.bounds) (upper_at x.bounds) move.some e.variables);
         zones = flows_enclose k.zones x.problem x.heads flows zones k.digits (exact_step m at.period at.step before) (heads_of d X) e.step (heads_named m x.problem named_in x.heads (heads_of d X) (within_enclosed m x.heads d X move.some e.heads));
       })
+
+-- What is listed with plain limits is listed with wide ones: step by step.
+module _ (keeps : WideKeepsSteps) (d : Decks) (s : ℕ) (zones : Option (List ℕ)) (rounds : ℕ) (quick : Bool) where
+  abbrev task : Limits → Task
+  task limits = deck_task limits d s zones rounds quick
+
+  wide_step : (at : TimeStep) (old : List Bound) (v : Step) → IsStep (task Plain) at old v → IsStep (task Wide) at old v
+  wide_step at old v is = record {
+    solved = is.solved;
+    solves = keeps d s at old (pairs_of (task Plain)) is.solved is.solves;
+    time = is.time;
+    heads = is.heads;
+    budget = is.budget;
+    zones = is.zones;
+  }
+
+  wide_steps : (old : List Bound) (ats : List TimeStep) (values : List Step) → Steps (task Plain) old ats values ends.Whole → Steps (task Wide) old ats values ends.Whole
+  wide_steps old [] [] h = tt
+  wide_steps old [] (v ∷ values) h = absurd h
+  wide_steps old (at ∷ ats) [] h = absurd h
+  wide_steps old (at ∷ ats) (v ∷ values) (is, h) = (wide_step at old v is, wide_steps v.heads ats values h)
+
+pub wide_listings : WideKeepsSteps → WideKeepsListings
+wide_listings keeps d s zones rounds quick values h = record {
+  start = h.start;
+  is_start = h.is_start;
+  steps = wide_steps keeps d s zones rounds quick h.start (times d.first) values h.steps;
+}

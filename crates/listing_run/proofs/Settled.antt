@@ -1,15 +1,17 @@
 -- What a step does to its settler, by the clause of the call that solved it.
 use Rattle.listing_run.proofs.Common.{IfErr, IfOk, ◌≡◌, ◌∙◌, ℕ, List, length, Bool, true, inl, inr, sym, subst, refl, ℤ, Option, None, [], ◌∷◌, Result, Ok, Err}
 use Rattle.listing_run.proofs.Common.{SinkError, Bound, Entries, Edges, IsSettledPair, lower_at, upper_at, TimeStep, times, EachMember, AreStartHeadsFor}
-use Rattle.listing_run.proofs.Common.{each_member, of_member, Text, LieBetween, IsPosed, Steps, Task, AllSettledBy, AreSettledBy, IsSettledBy, PairEncloses}
-use Rattle.listing_run.proofs.Common.{Reaches, ReachesFirst, RestsOrSettles, RestsOrSettlesFirst, rests, settled, IsAtFirst, IsNextText, IsWalk, times_left}
-use Rattle.listing_run.proofs.Common.{Limits, Plain, Wide, exact_step, variable_heads, edges_by, LiesBetweenBy, LiesBetween, IsProblemFor, LeadsBy}
-use Rattle.listing_run.proofs.Common.{LeadsOrRests}
+use Rattle.listing_run.proofs.Common.{IsProblemFor, each_member, of_member, Text, end_line, LieBetween, IsPosed, edges_by, LiesBetweenBy, LeadsBy, LeadsOrRests}
+use Rattle.listing_run.proofs.Common.{Steps, Task, AllSettledBy, AreSettledBy, IsSettledBy, PairEncloses, Reaches, ReachesFirst, RestsOrSettles}
+use Rattle.listing_run.proofs.Common.{RestsOrSettlesFirst, rests, settled, IsAtFirst, IsNextText, IsWalk, times_left, EnclosesHistories, IsListing, last_line}
+use Rattle.listing_run.proofs.Common.{listing, status_of, AllSteps, Limits, Plain, Wide, exact_step, variable_heads, LiesBetween, ListingEnd, Step}
 use Rattle.settle_driver.specs.{HoldsPair}
-use Rattle.cell_balance.proofs.Totals.{le_trans_z}
+use Rattle.cell_balance.proofs.Deep.{le_trans_z}
 use Rattle.listing_run.specs.Settlers.{begun}
 use Rattle.listing_run.proofs.UnderWay.{all_left, first_same}
-use Rattle.decimal_input.proofs.Signs.{mul_mono_right}
+use Rattle.decimal_input.proofs.FloorLaws.{mul_mono_right}
+use Rattle.run_puts.specs.declared.puts.Status.TheVariants as status
+use Rattle.listing_run.specs.declared.text.ListingEnd.TheVariants as ends
 
 module _ (k : Task) (s : ℕ) (at : TimeStep) (old : List Bound) (digits : s ≡ k.digits) where
   -- what lies between a pair lies between heads that hold it
@@ -110,3 +112,22 @@ module _ {S : Type 0} (begins : S → ℕ → ℕ → S → Type 0) (leads : S �
           is_start = so.is_start;
           reaches = so.reaches after (subst R (sym e) (begun s.heads at rest before told after b (next_rests_or_settles bytes s t at rest told after r e n l)));
         }
+
+-- A listing whose status is Ok is whole.
+pub record IsWhole (k : Task) (pieces : List Text) : Type 0 where
+  pub values : List Step
+  pub steps : AllSteps k values ends.Whole
+  pub encloses : EnclosesHistories k values
+  pub are : pieces ≡ listing k values end_line
+
+pub is_whole : (last : ListingEnd) → status.Ok ≡ status_of last → last ≡ ends.Whole
+is_whole ends.Whole e = refl
+is_whole (ends.NoBound at n) e = absurd (let bad : status.Ok ≡ status.NoBound at.period at.step n = e in cc)
+is_whole (ends.Unfinished at) e = absurd (let bad : status.Ok ≡ status.Unfinished at.period at.step = e in cc)
+
+pub whole_listing : (k : Task) (pieces : List Text) → IsListing k status.Ok pieces → IsWhole k pieces
+whole_listing k pieces l =
+    let whole = is_whole l.last l.status in
+    let S : ListingEnd → Type 0 = λ last. AllSteps k l.values last in
+    let P : ListingEnd → Type 0 = λ last. pieces ≡ listing k l.values (last_line k.decks.first.grid last) in
+    record { values = l.values; steps = subst S whole l.steps; encloses = l.encloses whole; are = subst P whole l.are }

@@ -7,7 +7,7 @@ use Rattle.listing_run.proofs.Common.{SettledListingIsClosed, RefusalIsOne, IsBe
 use Rattle.step_problem.specs.{settled as settled_kind, certified as certified_kind}
 use Rattle.step_chain.specs.{RefusalIsOne as StepRefusalIsOne}
 use Rattle.zone_flows.specs.{RefusalIsOne as ZoneRefusalIsOne}
-use Rattle.listing_run.specs.Steps.{Steps}
+use Rattle.listing_run.specs.{Steps}
 use Rattle.listing_run.specs.declared.text.ListingEnd.TheVariants as ends
 
 abbrev the_ok : {X E : Type 0} → X → Result X E → X

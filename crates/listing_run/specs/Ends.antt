@@ -1,7 +1,6 @@
 -- Facts that the calls of a walk over the steps pass to each other.
-use Rattle.std.specs.Prelude.{Bool, List, Option, [], drop, length, ℕ, ◌+◌, ◌<◌, ◌∷◌, ◌≡◌, ◌≤◌, true}
+use Rattle.std.specs.Prelude.{Bool, List, Option, [], drop, length, ℕ, ◌+◌, ◌<◌, ◌∷◌, ◌≡◌, ◌≤◌, true, false}
 use Rattle.outside.specs.{Put}
-use Rattle.outside.specs.declared.traits.SinkError.TheVariants as error
 use Rattle.outside.specs.declared.traits.SinkError.{SinkError}
 use Rattle.step_problem.specs.Entries.{Entries}
 use Rattle.step_problem.specs.{Edges}
@@ -12,23 +11,26 @@ use Rattle.model_types.specs.declared.time_steps.TimeStep.{TimeStep}
 use Rattle.problem_builder.specs.{AreGridHeads, HeadsEnclose}
 use Rattle.deck_problems.specs.declared.problem.DeckTables.{DeckTables}
 use Rattle.step_chain.specs.declared.solved.Solved.{Solved}
-use Rattle.step_chain.specs.declared.solved.StepFault.TheVariants as chain
 use Rattle.step_chain.specs.declared.solved.StepFault.{StepFault}
 use Rattle.run_puts.specs.{IsWanting, Text}
-use Rattle.run_puts.specs.declared.puts.Status.TheVariants as status
 use Rattle.run_puts.specs.declared.puts.Status.{Status}
 use Rattle.listing_run.specs.Listing.{BoundsMoves, text_of}
-use Rattle.listing_run.specs.Settlers.{IsSettledBy}
-use Rattle.listing_run.specs.Steps.{EndsAt, IsStep}
+use Rattle.listing_run.specs.Settlers.{IsSettledBy, EndsAt, IsStep, AllSteps, AllSettle}
 use Rattle.zone_pairs.specs.{AreZones}
-use Rattle.listing_run.specs.Tasks.{HasLargeFlow}
-use Rattle.listing_run.specs.declared.text.ListingEnd.TheVariants as ends
+use Rattle.listing_run.specs.Tasks.{HasLargeFlow, deck_task}
 use Rattle.listing_run.specs.declared.solving.Step.{Step}
 use Rattle.listing_run.specs.declared.steps.StepFlows.{StepFlows}
 use Rattle.listing_run.specs.declared.steps.Steps.{Steps}
-use Rattle.listing_run.specs.declared.solving.Stop.TheVariants as stop
 use Rattle.listing_run.specs.declared.solving.Stop.{Stop}
 use Rattle.listing_run.specs.declared.steps.Task.{Task}
+use Rattle.step_problem.specs.declared.place.NoBound.{NoBound}
+use Rattle.model_types.specs.declared.limits.Limits.TheVariants.{Plain, Wide}
+use Rattle.deck_problems.specs.declared.decks.Decks.{Decks}
+use Rattle.outside.specs.declared.traits.SinkError.TheVariants as error
+use Rattle.step_chain.specs.declared.solved.StepFault.TheVariants as chain
+use Rattle.run_puts.specs.declared.puts.Status.TheVariants as status
+use Rattle.listing_run.specs.declared.text.ListingEnd.TheVariants as ends
+use Rattle.listing_run.specs.declared.solving.Stop.TheVariants as stop
 
 -- the conditions on a task: valid decks, alike where there are two, at most 18 digits, and a zone for each cell if there is a zone file
 pub record IsTask (k : Task) : Type 0 where
@@ -101,3 +103,35 @@ module _ {S : Type 0} (leads : S → List Entries → Edges → Bool → S → T
 abbrev pub IsStopEnd : SinkError → Status → List Put → Type 0
 IsStopEnd error.Write end tail = (end ≡ status.WriteFault) × (tail ≡ [])
 IsStopEnd error.Memory end tail = IsWanting end tail
+
+-- Laws of listings of settled pairs: a model has one listing, and a model with a whole one has no other end. And what is listed with plain limits.
+-- there is at most one listing
+abbrev pub ListingIsOne : Type 0
+ListingIsOne =
+    (k : Task) (values others : List Step) → AreDecks k.decks → k.quick ≡ false → AllSteps k values ends.Whole →
+    AllSteps k others ends.Whole → others ≡ values
+
+-- if there is one, no step has a refusal
+abbrev pub ListingExcludesRefusal : Type 0
+ListingExcludesRefusal =
+    (k : Task) (values others : List Step) (at : TimeStep) (n : NoBound) → AreDecks k.decks → k.quick ≡ false → AllSteps k values ends.Whole →
+    AllSteps k others (ends.NoBound at n) → ⊥
+
+-- if the rounds settle each of its steps, none is open
+abbrev pub SettledListingIsClosed : Type 0
+SettledListingIsClosed =
+    (k : Task) (values others : List Step) (at : TimeStep) → AreDecks k.decks → k.quick ≡ false → (whole : AllSteps k values ends.Whole) →
+    AllSettle k whole.start (times k.decks.first) values → AllSteps k others (ends.Unfinished at) → ⊥
+
+-- at most one step has a refusal, and only one refusal
+abbrev pub RefusalIsOne : Type 0
+RefusalIsOne =
+    (k : Task) (values others : List Step) (s t : TimeStep) (a b : NoBound) → AreDecks k.decks → k.quick ≡ false →
+    AllSteps k values (ends.NoBound s a) → AllSteps k others (ends.NoBound t b) → (s ≡ t) × (a ≡ b)
+    × (values ≡ others)
+
+-- what is listed with plain limits is listed with wide ones
+abbrev pub WideKeepsListings : Type 0
+WideKeepsListings =
+    (d : Decks) (s : ℕ) (zones : Option (List ℕ)) (rounds : ℕ) (quick : Bool) (values : List Step) →
+    AllSteps (deck_task Plain d s zones rounds quick) values ends.Whole → AllSteps (deck_task Wide d s zones rounds quick) values ends.Whole

@@ -9,7 +9,7 @@ use Rattle.run_puts.specs.declared.puts.Status.{Status}
 use Rattle.listing_run.specs.declared.text.ListingEnd.{ListingEnd}
 use Rattle.listing_run.specs.declared.steps.Task.{Task}
 use Rattle.listing_run.specs.declared.solving.Step.{Step}
-use Rattle.listing_run.specs.Steps.{AllSteps, FirstSteps}
+use Rattle.listing_run.specs.Settlers.{AllSteps, FirstSteps}
 use Rattle.decimal_input.specs.{Fraction}
 use Rattle.step_problem.specs.declared.heads.Bound.{Bound}
 use Rattle.budget_bounds.specs.{BudgetEncloses}

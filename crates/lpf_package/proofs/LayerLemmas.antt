@@ -11,8 +11,7 @@ use Rattle.lpf_package.specs.declared.layer.Properties.{Properties}
 use Rattle.std.specs.List.{list_any}
 use Rattle.outside.specs.declared.codes.Code.TheVariants.{OutOfProfile}
 use Rattle.array_reader.specs.{number_at, zero_list, free_list, number, integer}
-use Rattle.array_reader.proofs.Forward.{list_held}
-use Rattle.array_reader.proofs.PackageForward.{zeros_held}
+use Rattle.array_reader.proofs.Forward.{list_held, zeros_held}
 use Rattle.lpf_package.specs.declared.settings.Settings.{Settings}
 
 -- lists of a and b numbers, one behind the other

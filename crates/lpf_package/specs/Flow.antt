@@ -1,5 +1,5 @@
 -- A file of the layer-property flow package, item by item (TM 6-A16, LPF).
-use Rattle.std.specs.Prelude.{◌≡◌, ℕ, ℤ, List, Bool, not, Result, Ok, pos, int_lt, Err, if◌then◌else◌, codes, [], ◌++◌}
+use Rattle.std.specs.Prelude.{◌≡◌, ℕ, ℤ, List, Bool, not, Result, Ok, pos, int_lt, Err, if◌then◌else◌, codes, [], ◌++◌, cond, All, length}
 use Rattle.std.specs.List.{list_any}
 use Rattle.outside.specs.{FileSet, refusal, words}
 use Rattle.outside.specs.declared.inputs.Refusal.{Refusal}
@@ -13,9 +13,10 @@ use Rattle.outside.specs.declared.codes.Code.TheVariants.{OutOfProfile}
 use Rattle.array_reader.specs.{number_at, free_list, zero_list, real_layer, layer_or, number, integer}
 use Rattle.lpf_package.specs.declared.settings.Settings.{Settings}
 use Rattle.decimal_input.specs.declared.dec.Dec.{Dec}
-use Rattle.model_types.specs.{dec_at, int_at, no_number, is_nonzero}
+use Rattle.model_types.specs.{dec_at, int_at, no_number, is_nonzero, cell_count}
 use Rattle.number_limits.specs.{is_positive}
 use Rattle.lpf_package.specs.declared.layer.Layer.{Layer}
+use Rattle.decimal_input.specs.{IsDec}
 
 -- The items before the layers' arrays (TM 6-A16, LPF, items 1 to 7).
 -- ILPFCB HDRY NPLPF and option words: no parameters; whether the option STORAGECOEFFICIENT is there
@@ -105,3 +106,21 @@ lpf_of files file bytes m = do
 -- another model differs only in what this package reads
 abbrev pub SameBut : FlowModel → FlowModel → Type 0
 SameBut m n = n ≡ with_properties m n.coefficient n.layvka (record { hk = n.hk; hani = n.hani; vka = n.vka; ss = n.ss; vkcb = n.vkcb })
+
+-- What is known of properties that were read, whatever the folder returned: lengths and canonical numbers.
+-- arrays of this many cells, with storage for this many of them
+pub record AreLayers (cells stored : ℕ) (p : Properties) : Type 0 where
+  pub hk : (length p.hk ≡ cells) × All IsDec p.hk
+  pub hani : (length p.hani ≡ cells) × All IsDec p.hani
+  pub vka : (length p.vka ≡ cells) × All IsDec p.vka
+  pub ss : (length p.ss ≡ stored) × All IsDec p.ss
+  pub vkcb : (length p.vkcb ≡ cells) × All IsDec p.vkcb
+
+-- a model whose properties have been read
+pub record HasProperties (m : FlowModel) : Type 0 where
+  pub layvka : length m.layvka ≡ m.grid.layers
+  pub hk : (length m.hk ≡ cell_count m.grid) × All IsDec m.hk
+  pub hani : (length m.hani ≡ cell_count m.grid) × All IsDec m.hani
+  pub vka : (length m.vka ≡ cell_count m.grid) × All IsDec m.vka
+  pub ss : (length m.ss ≡ cond (is_transient m.periods) (cell_count m.grid) 0) × All IsDec m.ss
+  pub vkcb : (length m.vkcb ≡ cell_count m.grid) × All IsDec m.vkcb

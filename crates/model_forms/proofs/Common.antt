@@ -13,7 +13,7 @@ pub use Rattle.array_reader.specs.{integer, layers, number, number_at, real, rea
 unfoldable pub use Rattle.array_reader.specs.{layer_or, zero_at}
 pub use Rattle.array_text.proofs.ArrayForms.{array_is, arrays, item_is, lists, value_is}
 pub use Rattle.array_text.proofs.NumberForms.{integer_is, multiplied_is, number_is}
-pub use Rattle.array_text.proofs.Readings.{both, done, goes_on, if_clear, if_passed, refused, repeated_are, repeated_gives, then_, weaker}
+pub use Rattle.array_text.proofs.WordTexts.{both, done, goes_on, if_clear, if_passed, refused, repeated_are, repeated_gives, then_, weaker, word_by_test}
 pub use Rattle.array_text.specs.{Gives, IsShort}
 unfoldable pub use Rattle.array_text.specs.{integer_array, integer_word, line_text, number_word, real_array, row_line, row_lines, text}
 pub use Rattle.cell_checks.specs.{at_cell, cell_step}

@@ -1,5 +1,4 @@
 mod Common
-pub mod Parts
 pub mod FrameForms
 pub mod GridForms
 pub mod DisForms

@@ -7,9 +7,8 @@ use Rattle.model_forms.proofs.Common.{layer_at, Properties, settings_of}
 use Rattle.lpf_package.specs.{option_line}
 use Rattle.lpf_package.specs.declared.model.Contents.{Contents}
 use Rattle.lpf_package.specs.declared.settings.Settings.{Settings}
-use Rattle.model_forms.proofs.GridForms.{layer_is, layer_or_is, IsBedLayer}
+use Rattle.model_forms.proofs.GridForms.{layer_is, layer_or_is, IsBedLayer, counted_gives, one_more, AreLayers, no_layers, one_more_layer}
 use Rattle.lpf_package.specs.declared.layer.Layer.{Layer}
-use Rattle.model_forms.proofs.Parts.{counted_gives, one_more, AreLayers, no_layers, one_more_layer}
 
 -- What is read of the properties of layers.
 -- the properties of one layer of this many cells

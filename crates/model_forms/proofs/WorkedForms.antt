@@ -6,7 +6,7 @@ use Rattle.model_forms.proofs.Common.{wells, rivers, drains, generals, IsShort, 
 use Rattle.model_forms.proofs.Common.{IsListOf, IsDry, IsStill, IsWritable, model_reads, all_plain, scaled, is_at_most, line_text, text, row_line, row_lines}
 use Rattle.model_forms.proofs.Common.{real_array, integer_array, written, ratio, floor_of, ceiling_of, is_thick, dis_lines, dis_item_1, dis_item_2, dis_item_3}
 use Rattle.model_forms.proofs.Common.{dis_item_4, dis_item_5, dis_item_6, dis_item_7, bas_lines, bas_item_1, bas_item_2, bas_item_3, bas_item_4, lpf_lines}
-use Rattle.model_forms.proofs.Common.{lpf_item_1, lpf_zeros, lpf_item_4, lpf_item_5, lpf_arrays, file_type, name_item, AreNames}
+use Rattle.model_forms.proofs.Common.{lpf_item_1, lpf_zeros, lpf_item_4, lpf_item_5, lpf_arrays, file_type, name_item, AreNames, word_by_test}
 use Rattle.std.specs.Fmt.{decimal as numeral}
 use Rattle.std.proofs.lemmas.Fmt.{decimal_digit}
 use Rattle.std.proofs.lemmas.Int.{ints}
@@ -14,7 +14,6 @@ use Rattle.name_file.specs.{package_of}
 use Rattle.model_types.specs.declared.limits.Limits.TheVariants.{Plain}
 use Rattle.name_file.specs.declared.package.Package.{Package}
 use Rattle.flow_equations.specs.{decimal, period_with, three_cells}
-use Rattle.array_text.proofs.WordTexts.{word_by_test}
 use Rattle.model_text.proofs.PackageTexts.{type_is_word, type_reads}
 use Rattle.model_forms.specs.{name_of_deck, deck, ThreeCells}
 

@@ -6,11 +6,10 @@ use Rattle.model_text.proofs.Common.{FlowModel, Period, AllZip, ArrayKind, with_
 use Rattle.model_text.proofs.Common.{rch_items, rch_lines, evt_item_2, evt_items, evt_lines, contents, Takes, takes_none, takes_where, then_takes, last_takes}
 use Rattle.model_text.proofs.Common.{line_takes, arrays_in, option_line, period_at, periods_of, tested_area, unit_if}
 use Rattle.model_text.proofs.FrameTexts.{zero_item}
-use Rattle.model_text.proofs.DisTexts.{line_is_item}
+use Rattle.model_text.proofs.DisTexts.{line_is_item, item_takes, file_takes, each_takes}
 use Rattle.period_arrays.specs.declared.area.Area.{Area}
 use Rattle.period_arrays.specs.declared.area.InForce.{InForce}
 use Rattle.model_text.proofs.GridTexts.{reals_take}
-use Rattle.model_text.proofs.FileTakes.{item_takes, file_takes, each_takes}
 use Rattle.model_text.proofs.AreaTexts.{flag_reads, flag_if_reads, option_reads, option_is_short, option_is_item, option_is_line, layers_lines, layers_take}
 
 -- each array is read anew

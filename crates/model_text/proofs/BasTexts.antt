@@ -7,10 +7,9 @@ use Rattle.model_text.proofs.Common.{bas_item_2, bas_item_3, bas_item_4, bas_lin
 use Rattle.array_reader.specs.{whole}
 use Rattle.bas_package.specs.{option_line}
 use Rattle.model_text.specs.{real_layer as real_layer_lines, integer_layer as integer_layer_lines}
-use Rattle.model_text.proofs.FileTakes.{file_takes}
+use Rattle.model_text.proofs.DisTexts.{file_takes, line_is_item}
 use Rattle.model_text.proofs.GridTexts.{layer_length, layer_has, layer_takes}
 use Rattle.model_text.proofs.FrameTexts.{zero_number_item}
-use Rattle.model_text.proofs.DisTexts.{line_is_item}
 
 -- Readings that each take a layer's lines take those of all layers.
 module _ {X : Type 0} (read : Left → Result (List X × Left) Refusal) (g : Grid) (lines : ℕ → List Line) (xs : List X) (whole_list : length xs ≡ cell_count g)

@@ -18,9 +18,9 @@ pub use Rattle.array_text.proofs.ArrayTexts.{array_takes, arrays, free_lists, in
 pub use Rattle.array_text.proofs.DigitTexts.{digits_spell}
 pub use Rattle.array_text.proofs.FreeTexts.{IsWrittenAs, alone_begins, free_list_reads, last_word, line_begins, on_line, row_is_words, same_start, value_reads}
 pub use Rattle.array_text.proofs.FreeTexts.{values_read}
-pub use Rattle.array_text.proofs.LineTexts.{line_words, next_line, text_left}
+pub use Rattle.array_text.proofs.LineTexts.{counted_take, last_takes, line_takes, line_words, next_line, one_line, takes_none, takes_where, text_left}
+pub use Rattle.array_text.proofs.LineTexts.{then_takes}
 pub use Rattle.array_text.proofs.NumberTexts.{integer_reads, number_reads, one, short_exponent}
-pub use Rattle.array_text.proofs.Takes.{counted_take, last_takes, line_takes, one_line, takes_none, takes_where, then_takes}
 pub use Rattle.array_text.proofs.WordTexts.{count_is_word, integer_is_word, line_by_test, number_is_word, word_by_test}
 pub use Rattle.array_text.specs.{IsLine, IsShort, IsWord, IsWordByte, Line, Takes, integer_array, number_word, text}
 unfoldable pub use Rattle.array_text.specs.{integer_word, line_text, number_after, numbered_lines, real_array, row_line, unread}

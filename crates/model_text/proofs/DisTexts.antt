@@ -1,13 +1,56 @@
 -- The file of DIS is read as written.
-use Rattle.model_text.proofs.Common.{◌≡◌, ℕ, ◌^◌, ◌<◌, ◌≤◌, ◌==◌, true, false, List, [], ◌∷◌, ◌++◌, append_assoc, length, map, All, Ok, refl, arith, codes}
-use Rattle.model_text.proofs.Common.{decimal, All-head, All-from_recursion, nat_tests, FileSet, is_comment, FlowModel, HasSize, without_stresses, IsWord, Line}
-use Rattle.model_text.proofs.Common.{IsLine, line_text, text, word_by_test, beds_of, number_after, count_is_word, integer_is_word, each_layer, dis_item_1}
-use Rattle.model_text.proofs.Common.{dis_item_2, dis_item_3, dis_item_4, dis_item_5, dis_item_6, dis_item_7, dis_lines, IsDiscretized, IsGridWithin, Limits}
-use Rattle.model_text.proofs.Common.{is_digit, begun, head_of, dis_of, digits_spell, Takes, then_takes, last_takes, line_takes, free_lists}
-use Rattle.model_text.proofs.FileTakes.{file_takes}
+use Rattle.model_text.proofs.Common.{◌≡◌, ℕ, ◌^◌, ◌<◌, ◌≤◌, ◌==◌, true, false, List, [], ◌∷◌, ◌++◌, append_assoc, length, map, All, Ok, refl, arith, ◌+◌}
+use Rattle.model_text.proofs.Common.{Result, codes, decimal, All-head, All-from_recursion, All-cons, nat_tests, FileSet, words, is_comment, Left}
+use Rattle.model_text.proofs.Common.{without_comments, left_from, next_number, for_each, begins_with, ◌>>=◌, Numbered, FlowModel, HasSize, without_stresses}
+use Rattle.model_text.proofs.Common.{beds_of, begun, head_of, dis_of, IsWord, Line, IsLine, line_text, text, number_after, Takes, numbered_lines, unread}
+use Rattle.model_text.proofs.Common.{word_by_test, count_is_word, integer_is_word, each_layer, dis_item_1, dis_item_2, dis_item_3, dis_item_4, dis_item_5}
+use Rattle.model_text.proofs.Common.{dis_item_6, dis_item_7, dis_lines, IsDiscretized, IsGridWithin, Limits, is_digit, digits_spell, then_takes, last_takes}
+use Rattle.model_text.proofs.Common.{line_takes, line_words, text_left, next_line, takes_none, free_lists, append-nil, flat_map, AllZip, Refusal, item_line}
 use Rattle.model_text.proofs.GridTexts.{grid_takes}
 use Rattle.model_text.proofs.FrameTexts.{frame_reads, beds_read}
 use Rattle.model_text.proofs.TimeTexts.{periods_take}
+
+-- A file of lines is read from its first line on, and a list of periods period by period.
+-- the first line of a file of stresses, and what follows it
+pub item_takes : {Z : Type 0} {line : Line} {back : List Line} {out : Left → Z} (f : Numbered × Left → Result Z Refusal) (file : List ℕ) → IsLine line → begins_with (codes "PARAMETER") line ≡ false
+    → ((n : ℕ) → words (line_text line) ≡ line → Takes (λ left. f (record { number = n; bytes = line_text line }, left)) back out) → Takes (λ left. item_line file left >>= f) (line ∷ back) out
+unfolding item_line number_after
+item_takes {line = line} {back = back} f file h plain k = record {
+  are = All-cons (λ x. IsLine x) line back h (k 0 (line_words line h.words)).are;
+  reads = λ n rest. rw (next_line file n line (back ++ rest), line_words line h.words, plain) ((k n (line_words line h.words)).reads (next_number n) rest);
+}
+
+items_left : (n : ℕ) (line : Line) (others : List Line) → is_comment (line_text line) ≡ false → without_comments (unread n (line ∷ others)) ≡ unread n (line ∷ others)
+unfolding unread numbered_lines
+items_left n line others item = rw item refl
+
+-- a file, from its first line on, where that is no comment
+pub whole_file : {Z : Type 0} {read : Left → Result Z Refusal} {line : Line} {others : List Line} {z : Z} → is_comment (line_text line) ≡ false → Takes read (line ∷ others) (λ left. z)
+    → read (without_comments (left_from 1 (text (line ∷ others)))) ≡ Ok z
+whole_file {line = line} {others = others} item h =
+    let end : (line ∷ others) ++ [] ≡ line ∷ others = append-nil (line ∷ others) in
+    rw (text_left 1 (line ∷ others) h.are, items_left 1 line others item) (rw end at (h.reads 1 []))
+
+-- the same by its first reading and what follows it
+pub file_takes : {Y Z : Type 0} {read : Left → Result Y Refusal} {line : Line} {front back : List Line} {mid : Left → Y} {z : Z} (f : Y → Result Z Refusal) → is_comment (line_text line) ≡ false
+    → Takes read (line ∷ front) mid → Takes (λ left. f (mid left)) back (λ left. z) → (read (without_comments (left_from 1 (text (line ∷ front ++ back)))) >>= f) ≡ Ok z
+file_takes f item g h = whole_file item (then_takes f g h)
+
+-- A reading for each of some periods takes the lines of each.
+module _ {P Y Q S : Type 0} (read : P → S × Left → Result (Q × (S × Left)) Refusal) (lines : Y → List Line) (put : P → Y → Q) (next : S → Y → S) (IsGood : P → Y → Type 0) (I : S → Type 0)
+    (one : (p : P) (y : Y) (s : S) → IsGood p y → I s → Takes (λ left. read p (s, left)) (lines y) (λ left. (put p y, (next s y, left)))) (keeps : (p : P) (y : Y) (s : S) → IsGood p y → I (next s y))
+    (all : List P → List Y → List Q) (none : all [] [] ≡ []) (more : (p : P) (y : Y) (ps : List P) (ys : List Y) → all (p ∷ ps) (y ∷ ys) ≡ put p y ∷ all ps ys) where
+  abbrev pub after_all : S → List Y → S
+  after_all s [] = s
+  after_all s (y ∷ ys) = after_all (next s y) ys
+
+  pub each_takes : (ps : List P) (ys : List Y) → AllZip IsGood ps ys → (s : S) → I s → Takes (λ left. for_each read ps (s, left)) (flat_map lines ys) (λ left. (all ps ys, (after_all s ys, left)))
+  unfolding for_each
+  each_takes [] [] good s so = rw none takes_none
+  each_takes [] (y ∷ ys) good s so = absurd good
+  each_takes (p ∷ ps) [] good s so = absurd good
+  each_takes (p ∷ ps) (y ∷ ys) good s so =
+      rw (more p y ps ys) (then_takes _ (one p y s good.0 so) (last_takes _ (each_takes ps ys good.1 (next s y) (keeps p y s good.0)) (λ left. refl)))
 
 -- a line whose first word is no comment
 pub line_is_item : (w : List ℕ) (ws : Line) → 1 ≤ length w → is_comment w ≡ false → is_comment (line_text (w ∷ ws)) ≡ false

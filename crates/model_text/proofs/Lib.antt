@@ -1,5 +1,4 @@
 mod Common
-pub mod FileTakes
 pub mod FrameTexts
 pub mod GridTexts
 pub mod TimeTexts

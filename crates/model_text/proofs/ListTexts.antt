@@ -7,8 +7,7 @@ use Rattle.model_text.proofs.Common.{item_line, list_at, lists_of, CellId, numbe
 use Rattle.model_text.proofs.Common.{ListPackagesReadAsWritten, number_at, integer, with_list, ◌>>=◌, words, Takes, last_takes, line_takes}
 use Rattle.model_text.proofs.FrameTexts.{decimal_item, no_keyword}
 use Rattle.list_package.specs.{period_at, periods_of}
-use Rattle.model_text.proofs.FileTakes.{item_takes, whole_file, each_takes}
-use Rattle.model_text.proofs.DisTexts.{line_is_item, decimal_is_item}
+use Rattle.model_text.proofs.DisTexts.{item_takes, whole_file, each_takes, line_is_item, decimal_is_item}
 use Rattle.model_text.proofs.EntryTexts.{all_free, WritesNumbers, list_takes}
 
 -- a count and a 0 on a line

@@ -6,9 +6,8 @@ use Rattle.model_text.proofs.Common.{lpf_arrays, lpf_lines, IsDiscretized, HasFl
 use Rattle.model_text.proofs.Common.{nil_from_length, Dec, dec_at, no_number, storage_layer, properties_of, nth_layer, layer_values, Takes, takes_none}
 use Rattle.model_text.proofs.Common.{takes_where, then_takes, last_takes, counted_take}
 use Rattle.model_text.proofs.GridTexts.{one_more_layer, all_layers, layer_takes, layer_or_takes}
-use Rattle.model_text.proofs.DisTexts.{line_is_item}
+use Rattle.model_text.proofs.DisTexts.{line_is_item, file_takes}
 use Rattle.model_text.proofs.SettingTexts.{settings_take, option_takes, minus_one}
-use Rattle.model_text.proofs.FileTakes.{file_takes}
 use Rattle.lpf_package.specs.declared.layer.Properties.{Properties}
 use Rattle.model_text.specs.{real_layer}
 

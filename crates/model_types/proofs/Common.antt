@@ -15,7 +15,6 @@ pub use Rattle.model_types.specs.{column_of, down, face_after, face_before, face
 pub use Rattle.model_types.specs.{layer_size, left, most_cells, most_entries, most_in_row, most_layers, no_number, no_period, no_stresses, one, period_at}
 pub use Rattle.model_types.specs.{place, right, row_of, span, steps_of, stride, through, up}
 unfoldable pub use Rattle.model_types.specs.{geometric, given_heads, given_in, kinds, power}
-pub use Rattle.model_types.specs.declared.entry.Given.{Given}
 pub use Rattle.model_types.specs.declared.face.Axis.TheVariants.{Column, Row, Vertical}
 pub use Rattle.model_types.specs.declared.face.Face.{Face}
 pub use Rattle.model_types.specs.declared.grid.Grid.{Grid}

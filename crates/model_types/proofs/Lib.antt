@@ -4,7 +4,6 @@ pub mod Ranks
 mod Remainders
 pub mod Leads
 pub mod Numbering
-mod LastGiven
 mod NeighbourFaces
 pub mod Growth
 mod GivenTables

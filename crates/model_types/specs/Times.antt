@@ -9,8 +9,7 @@ use Rattle.model_types.specs.declared.model.FlowModel.{FlowModel}
 use Rattle.model_types.specs.declared.period.Period.{Period}
 use Rattle.model_types.specs.declared.period.Stresses.{Stresses}
 use Rattle.model_types.specs.declared.time_steps.TimeStep.{TimeStep}
-use Rattle.model_types.specs.Layers.{no_number}
-use Rattle.model_types.specs.Conductances.{one}
+use Rattle.model_types.specs.Layers.{no_number, one}
 
 -- a period's stresses where no package has any
 abbrev pub no_stresses : Stresses

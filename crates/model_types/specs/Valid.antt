@@ -14,9 +14,8 @@ use Rattle.model_types.specs.declared.entry.Entry.{Entry}
 use Rattle.model_types.specs.declared.entry.Entry.TheVariants.{Well, River, Drain, General}
 use Rattle.model_types.specs.Faces.{layer_size, cell_count}
 use Rattle.model_types.specs.Layers.{dec_at, is_active, has_bed, top_at, bottom_at, lowest}
-use Rattle.model_types.specs.Receivers.{EvapSource, is_int}
+use Rattle.model_types.specs.Receivers.{EvapSource, is_int, IsPositive, IsNotNegative, IsHeadNumber, IsThick, IsGrid}
 use Rattle.model_types.specs.Sources.{evap_sources}
-use Rattle.model_types.specs.Grids.{IsPositive, IsNotNegative, IsHeadNumber, IsThick, IsGrid}
 
 abbrev pub number_one : Dec
 number_one = record { neg = false; digits = 1; exp = pos 0 }

@@ -1,4 +1,3 @@
 mod Common
 pub mod Texts
-pub mod Chosen
 pub mod ListTexts

@@ -1,6 +1,3 @@
-pub mod Lines
 pub mod Lists
-
-unfoldable pub use Rattle.model_writer.specs.Lines.{chosen, line_bytes, spaced}
 pub use Rattle.model_writer.specs.Lists.{entries_in}
-unfoldable pub use Rattle.model_writer.specs.Lists.{entry_line}
+unfoldable pub use Rattle.model_writer.specs.Lists.{chosen, entry_line, line_bytes, spaced}

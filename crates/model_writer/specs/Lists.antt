@@ -1,13 +1,14 @@
 -- The lists of a stress period.
-use Rattle.std.specs.Prelude.{ℕ, List, []}
+use Rattle.std.specs.Prelude.{ℕ, List, [], Bool, ◌∷◌, ◌++◌, if◌then◌else◌}
 use Rattle.decimal_input.specs.declared.dec.Dec.{Dec}
 use Rattle.model_types.specs.declared.grid.Grid.{Grid}
-use Rattle.array_text.specs.{Line}
+use Rattle.array_text.specs.{Line, line_text}
 use Rattle.model_text.specs.{list_item_6}
 use Rattle.model_types.specs.declared.entry.Entry.{Entry}
 use Rattle.model_types.specs.declared.period.Period.{Period}
 use Rattle.name_file.specs.declared.package.Package.{Package}
 use Rattle.name_file.specs.declared.package.Package.TheVariants.{Dis, Bas, Lpf, Wel, Riv, Drn, Ghb, Rch, Chd, Evt}
+use Rattle.std.specs.List.{flat_map}
 
 -- the list of WEL, RIV, DRN or GHB; the other packages have none of this kind
 abbrev pub entries_in : Package → Period → List Entry
@@ -25,3 +26,16 @@ entries_in Evt p = []
 -- item 6 of an entry
 unfoldable pub entry_line : {E : Type 0} → Grid → (E → ℕ) → (E → List Dec) → E → Line
 entry_line g number numbers x = list_item_6 g (number x) (numbers x)
+
+-- The bytes of lines.
+-- a line with its line feed
+unfoldable pub line_bytes : Line → List ℕ
+line_bytes line = line_text line ++ (10 ∷ [])
+
+-- words with a blank after each
+unfoldable pub spaced : {X : Type 0} → (X → List ℕ) → List X → List ℕ
+spaced word xs = flat_map (λ x. word x ++ (32 ∷ [])) xs
+
+-- the bytes of an item that is chosen, and none of another one
+unfoldable pub chosen : {X : Type 0} → (X → Bool) → (X → List ℕ) → X → List ℕ
+chosen is bytes x = if is x then bytes x else []

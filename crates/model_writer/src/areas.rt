@@ -18,7 +18,7 @@ fn is_two(option: i64) -> bool
 }
 
 /// Appends the line of NRCHOP or NEVTOP, and a 0.
-#[tactic(auto, using(crate::proofs::Texts::texts), unfolding(crate::specs::Lines::line_bytes, array_text::specs::Lines::line_text))]
+#[tactic(auto, using(crate::proofs::Texts::texts), unfolding(crate::specs::Lists::line_bytes, array_text::specs::Lines::line_text))]
 fn push_choice(bytes: &mut Vec<u8>, option: i64) -> Result<(), AllocError>
     ensures { IfOk result (λ _. bytes.new.items ≡ bytes.old.items ++ line_bytes (integer_word option ∷ codes "0" ∷ [])) }
 {

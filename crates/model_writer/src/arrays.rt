@@ -38,7 +38,7 @@ fn push_rows<T: Word>(
 }
 
 /// Appends an array: its control record, and each row on a line of its own.
-#[tactic(auto, using(crate::proofs::Texts::texts), unfolding(crate::specs::Lines::line_bytes, array_text::specs::Lines::line_text))]
+#[tactic(auto, using(crate::proofs::Texts::texts), unfolding(crate::specs::Lists::line_bytes, array_text::specs::Lines::line_text))]
 pub(crate) fn push_array<T: Word>(
     bytes: &mut Vec<u8>,
     rows: u32,

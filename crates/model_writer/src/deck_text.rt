@@ -32,7 +32,7 @@ fn push_file(text: &mut Vec<u8>, model: &FlowModel, kind: Package) -> Result<(),
     push_package(text, model, kind)
 }
 
-#[tactic(auto, using(crate::proofs::Chosen::one_item, crate::proofs::Texts::texts))]
+#[tactic(auto, using(crate::proofs::ListTexts::one_item, crate::proofs::Texts::texts))]
 fn push_file_if(text: &mut Vec<u8>, model: &FlowModel, kind: Package) -> Result<(), AllocError>
     requires { HasSize model.now.grid }
     ensures { IfOk result (λ _. text.new.items ≡ text.old.items ++ chosen (has model.now) (λ k. file_text (package_file model.now deck_names k)) kind) }

@@ -60,7 +60,7 @@ fn push_bottoms(bytes: &mut Vec<u8>, grid: &Grid) -> Result<(), AllocError>
     Ok(())
 }
 
-#[tactic(auto, using(crate::proofs::Texts::spaces, crate::proofs::Texts::texts), unfolding(model_text::specs::Discretization::dis_item_7, crate::specs::Lines::line_bytes, array_text::specs::Lines::line_text, crate::specs::Lines::spaced))]
+#[tactic(auto, using(crate::proofs::Texts::spaces, crate::proofs::Texts::texts), unfolding(model_text::specs::Discretization::dis_item_7, crate::specs::Lists::line_bytes, array_text::specs::Lines::line_text, crate::specs::Lists::spaced))]
 fn push_time(bytes: &mut Vec<u8>, period: &Period) -> Result<(), AllocError>
     ensures { IfOk result (λ _. bytes.new.items ≡ bytes.old.items ++ line_bytes (dis_item_7 period.now)) }
 {
@@ -95,7 +95,7 @@ pub(crate) fn push_dis(bytes: &mut Vec<u8>, model: &FlowModel) -> Result<(), All
 // The file of BAS6.
 
 /// Appends the file of BAS6.
-#[tactic(auto, using(crate::proofs::Texts::texts), unfolding(model_text::specs::Discretization::bas_lines, model_text::specs::Discretization::bas_item_1, model_text::specs::Discretization::bas_item_2, model_text::specs::Discretization::bas_item_3, model_text::specs::Discretization::bas_item_4, crate::specs::Lines::line_bytes, array_text::specs::Lines::line_text, array_text::specs::Lines::real_array, array_text::specs::Lines::integer_array))]
+#[tactic(auto, using(crate::proofs::Texts::texts), unfolding(model_text::specs::Discretization::bas_lines, model_text::specs::Discretization::bas_item_1, model_text::specs::Discretization::bas_item_2, model_text::specs::Discretization::bas_item_3, model_text::specs::Discretization::bas_item_4, crate::specs::Lists::line_bytes, array_text::specs::Lines::line_text, array_text::specs::Lines::real_array, array_text::specs::Lines::integer_array))]
 pub(crate) fn push_bas(bytes: &mut Vec<u8>, model: &FlowModel) -> Result<(), AllocError>
     requires { HasSize model.now.grid }
     ensures { IfOk result (λ _. bytes.new.items ≡ bytes.old.items ++ text (bas_lines model.now)) }

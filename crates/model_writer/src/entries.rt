@@ -6,8 +6,7 @@ ghost use Rattle.model_types.specs.declared.period.Period.{Period};
 ghost use Rattle.name_file.specs.declared.package.Package.{Package};
 ghost use Rattle.array_text.specs.{row_line, number_word};
 ghost use Rattle.model_text.specs.{heads_of, numbers_of};
-ghost use Rattle.model_writer.specs.Lines.{line_bytes};
-ghost use Rattle.model_writer.specs.Lists.{entries_in};
+ghost use Rattle.model_writer.specs.Lists.{line_bytes, entries_in};
 
 use crate::lines::push_line;
 use model_types::{CellId, Entry, Given, Period};

@@ -59,7 +59,7 @@ fn place_of(grid: &Grid, cell: CellId) -> [usize; 3]
 }
 
 /// Appends the line of a count of entries, and a 0.
-#[tactic(auto, unfolding(crate::specs::Lines::line_bytes, array_text::specs::Lines::line_text))]
+#[tactic(auto, unfolding(crate::specs::Lists::line_bytes, array_text::specs::Lines::line_text))]
 fn push_count(bytes: &mut Vec<u8>, count: usize) -> Result<(), AllocError>
     ensures { IfOk result (λ _. bytes.new.items ≡ bytes.old.items ++ line_bytes (decimal count ∷ codes "0" ∷ [])) }
 {

@@ -45,7 +45,7 @@ fn type_and_unit(kind: Package) -> &'static [u8]
     }
 }
 
-#[tactic(auto, using(crate::proofs::Texts::texts), unfolding(crate::specs::Lines::line_bytes, array_text::specs::Lines::line_text, model_text::specs::Names::name_item))]
+#[tactic(auto, using(crate::proofs::Texts::texts), unfolding(crate::specs::Lists::line_bytes, array_text::specs::Lines::line_text, model_text::specs::Written::name_item))]
 fn push_name(bytes: &mut Vec<u8>, kind: Package) -> Result<(), AllocError>
     ensures { IfOk result (λ _. bytes.new.items ≡ bytes.old.items ++ line_bytes (name_item deck_names kind)) }
 {
@@ -55,7 +55,7 @@ fn push_name(bytes: &mut Vec<u8>, kind: Package) -> Result<(), AllocError>
     Ok(())
 }
 
-#[tactic(auto, using(crate::proofs::Chosen::one_item, crate::proofs::Texts::texts))]
+#[tactic(auto, using(crate::proofs::ListTexts::one_item, crate::proofs::Texts::texts))]
 fn push_name_if(bytes: &mut Vec<u8>, model: &FlowModel, kind: Package) -> Result<(), AllocError>
     ensures { IfOk result (λ _. bytes.new.items ≡ bytes.old.items ++ chosen (has model.now) (λ k. line_bytes (name_item deck_names k)) kind) }
 {

@@ -20,7 +20,7 @@ fn is_integer(word: &[u8]) -> bool
 }
 
 /// The file's name on a package's line, from the words after the first.
-#[tactic(auto, unfolding(crate::specs::Reading::file_in, record_lines::specs::Items::word_at))]
+#[tactic(auto, unfolding(crate::specs::Reading::file_in, record_lines::specs::Reading::word_at))]
 fn file_in<'a>(
     alloc: Global,
     words: &mut Words<'a>,

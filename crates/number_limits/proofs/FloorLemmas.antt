@@ -4,8 +4,7 @@ use Rattle.number_limits.proofs.Common.{leb_tells, le-div_iff_mul-le, div-lt_iff
 use Rattle.number_limits.proofs.Common.{nat_lt, Option, sym, ap, ◌∙◌, unsigned_abs, if◌then◌else◌, ints, Dec, size, number, IsSignedFloor, IsSignedCeiling}
 use Rattle.number_limits.proofs.Common.{IsThick, small, floor_of, ceiling_of, floor, ceiling, has_room, is_thick}
 use Rattle.std.specs.Option.{option_map}
-use Rattle.decimal_input.proofs.Past.{a_floor, a_ceiling}
-use Rattle.decimal_input.proofs.SignedFloors.{floor_of_floor, floor_of_ceiling, ceiling_of_ceiling, ceiling_of_floor}
+use Rattle.decimal_input.proofs.SignedFloors.{a_floor, a_ceiling, floor_of_floor, floor_of_ceiling, ceiling_of_ceiling, ceiling_of_floor}
 
 pub floor_is : (n s : ℕ) (f : Ratio) → IsFloor n f s → f.num * 10 ^ s / den f ≡ n
 floor_is n s f h =

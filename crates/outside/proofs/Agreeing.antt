@@ -1,7 +1,11 @@
 -- Some files agree with what was read, whatever it is.
-use Rattle.outside.proofs.Common.{◌≡◌, ℕ, ◌+◌, Bool, true, false, List, [], ◌∷◌, cond, Option, None, IfSome, arith, refl, sym, subst, ◌∙◌, length-replicate}
-use Rattle.outside.proofs.Common.{bytes_eq-Decides, bytes_eq, File, bytes_under, Read, IsAsFound, AgreeWith, reading_of, Found, Bytes, Missing, TooLong}
-use Rattle.outside.proofs.Common.{FileSet, with_limit, ReadState, AgreesWith}
+use Rattle.outside.proofs.Common.{◌≡◌, ℕ, ◌+◌, Bool, true, false, List, [], ◌∷◌, cond, Option, None, IfSome, arith, refl, sym, subst, ◌∙◌, ◌⊎◌, inl, inr, Some}
+use Rattle.outside.proofs.Common.{ap, get_or, Contains, length-replicate, bytes_eq, File, bytes_under, Read, IsAsFound, AgreeWith, reading_of, FileSet}
+use Rattle.outside.proofs.Common.{with_limit, ReadState, AgreesWith, folder_name, FoundNames, IsNamedBy, FoundMay, lines, words, IsFound, IsWithin}
+use Rattle.outside.proofs.Common.{Contains-get_or, Contains-append_left, Contains-append_right}
+use Rattle.std.proofs.lemmas.Slice.Eq.{bytes_eq-Decides}
+use Rattle.outside.specs.declared.traits.Found.{Found}
+use Rattle.outside.specs.declared.traits.Found.TheVariants.{Bytes, Missing, TooLong}
 use Rattle.std.specs.Prelude.{replicate}
 
 abbrev without : List ℕ → List File → List File
@@ -67,3 +71,80 @@ module _ (limit : ℕ) where
 -- and a folder's limit
 pub all_agree : (s : ReadState) → (files : FileSet) × AgreesWith s files
 all_agree s = let (files, agree) = some_agree s.limit s.readings in (with_limit s.limit files, (refl, agree))
+
+-- Names that were given, or that are words of a file that was read.
+-- what holds of each name among the words of what was found
+found_may : (P : List ℕ → Type 0) (found : Found) → ((name : List ℕ) → FoundNames name found → P name) → FoundMay P found
+found_may P (Bytes v) h = λ k d lt i e less.
+    h _ (get_or (lines v.items) k d, Contains-get_or (lines v.items) k d lt, (get_or (words (get_or (lines v.items) k d)) i e, Contains-get_or (words (get_or (lines v.items) k d)) i e less, refl))
+found_may P Missing h = tt
+found_may P TooLong h = tt
+
+-- each word of what was found may be asked for, if it is named
+pub found_asked : (given : List (List ℕ)) (readings : List Read) (found : Found) → ((name : List ℕ) → FoundNames name found → IsNamedBy given readings name) → FoundMay (λ name. IsNamedBy given readings name) found
+found_asked given readings found named = found_may (λ name. IsNamedBy given readings name) found named
+
+module _ {X : Type 0} (x : X) (xs : List X) where
+  at_front : (y : X) → x ≡ y → Contains (x ∷ xs) y
+  at_front y e = subst (Contains (x ∷ xs)) e (0, omega arith, refl)
+
+  behind : (y : X) → Contains xs y → Contains (x ∷ xs) y
+  behind y h = Contains-append_right (x ∷ []) xs y h
+
+module _ (name : List ℕ) (x : Read) (readings : List Read) (r : Read) where
+  first_or_rest : ((reading_of name readings ≡ Some r) → Contains readings r) → (b : Bool) → bytes_eq name x.name ≡ b → reading_of name (x ∷ readings) ≡ Some r → Contains (x ∷ readings) r
+  first_or_rest rest true is e = let same : Some x ≡ Some r = rw is at e in at_front x readings r cc
+  first_or_rest rest false is e = behind x readings r (rest (rw is at e))
+
+-- a reading of a name is one of the readings
+pub reading_kept : (name : List ℕ) (readings : List Read) (r : Read) → reading_of name readings ≡ Some r → Contains readings r
+reading_kept name [] r e = absurd cc
+reading_kept name (x ∷ readings) r e = first_or_rest name x readings r (reading_kept name readings r) (bytes_eq name x.name) refl e
+
+module _ (given : List (List ℕ)) (readings : List Read) where
+  pub same_named : (others : List (List ℕ)) (kept : List Read) → others ≡ given → kept ≡ readings → (name : List ℕ) → IsNamedBy given readings name → IsNamedBy others kept name
+  same_named others kept words all name h = rw (words, all) h
+
+  -- what was named is named after one more reading
+  pub still_named : (more : List Read) (r : Read) → more ≡ r ∷ readings → (name : List ℕ) → IsNamedBy given readings name → IsNamedBy given more name
+  still_named more r is name (inl h) = inl h
+  still_named more r is name (inr h) = inr (h.0, rw is (behind r readings h.0 h.1), h.2)
+
+  -- and so is each word of what was found last
+  pub latest_named : (more : List Read) (r : Read) → more ≡ r ∷ readings → (name : List ℕ) → FoundNames name r.found → IsNamedBy given more name
+  latest_named more r is name h = inr (r, rw is (at_front r readings r refl), h)
+
+  -- a word of what was found before is named
+  pub known_named : (name : List ℕ) (r : Read) → reading_of name readings ≡ Some r → (word : List ℕ) → FoundNames word r.found → IsNamedBy given readings word
+  known_named name r is word h = inr (r, reading_kept name readings r is, h)
+
+-- What a folder answers, by the readings that it keeps.
+-- what is under a name, and within the limit
+pub is_found : (files : List File) (name : List ℕ) (limit : ℕ) (found : Found) → IsAsFound (bytes_under name files) limit found → IsWithin limit found → IsFound files name limit found
+is_found files name limit (Bytes v) is within = (is, within)
+is_found files name limit Missing is within = is
+is_found files name limit TooLong is within = is
+
+module _ (limit : ℕ) where
+  -- a reading of this name says what is under it
+  pub by_reading : (readings : List Read) (files : List File) (name : List ℕ) (r : Read) → AgreeWith limit readings files → reading_of name readings ≡ Some r → IsAsFound (bytes_under name files) limit r.found
+  by_reading readings files name r agree is = let P : Option Read → Type 0 = λ o. IfSome o (λ r. IsAsFound (bytes_under name files) limit r.found) in subst P is (agree name)
+
+  -- and so does the latest one
+  pub by_latest : (readings : List Read) (files : List File) (r : Read) → AgreeWith limit (r ∷ readings) files → IsAsFound (bytes_under r.name files) limit r.found
+  by_latest readings files r agree = by_reading (r ∷ readings) files r.name r agree (rw ((bytes_eq-Decides r.name r.name).1 refl) refl)
+
+  module _ (readings : List Read) (files : List File) (r : Read) where
+    abbrev IsRead : List ℕ → Option Read → Type 0
+    IsRead name reading = IfSome reading (λ x. IsAsFound (bytes_under name files) limit x.found)
+
+    by_name : reading_of r.name readings ≡ None → AgreeWith limit (r ∷ readings) files → (name : List ℕ) (b : Bool) → bytes_eq name r.name ≡ b → IsRead name (reading_of name readings)
+    by_name missing agree name true e =
+        let P : List ℕ → Type 0 = λ n. reading_of n readings ≡ None in
+        let none = subst P (sym ((bytes_eq-Decides name r.name).0 e)) missing in
+        subst (IsRead name) (sym none) tt
+    by_name missing agree name false e = let P : Bool → Type 0 = λ b. IsRead name (cond b (Some r) (reading_of name readings)) in subst P e (agree name)
+
+    -- what agrees with one reading more, of a name that had none, agreed before
+    pub earlier : reading_of r.name readings ≡ None → AgreeWith limit (r ∷ readings) files → AgreeWith limit readings files
+    earlier missing agree name = by_name missing agree name (bytes_eq name r.name) refl

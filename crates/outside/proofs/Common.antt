@@ -5,15 +5,12 @@ pub use Rattle.std.proofs.Common.{◌+◌, ◌-◌, ◌<◌, ◌==◌, ◌∙◌
 pub use Rattle.std.proofs.KnownBytes.{Appends-trans}
 pub use Rattle.std.proofs.lemmas.List.{drop-take, length-replicate, take_rest}
 pub use Rattle.std.proofs.lemmas.List.Elements.{All-map, Contains-append_left, Contains-append_right, Contains-get_or}
-pub use Rattle.std.proofs.lemmas.Slice.Eq.{bytes_eq-Decides}
 pub use Rattle.std.specs.Io.KnownBytes.{Appends, Consumes, Keeps}
 pub use Rattle.std.specs.Str.{IsUtf8, bytes_eq}
 pub use Rattle.outside.specs.{AgreeWith, AgreesWith, File, FileSet, FoundMay, FoundNames, IsAsFound, IsFound, IsGoodName, IsNameByte, IsNamedBy, IsWithin, Put}
 pub use Rattle.outside.specs.{PutMakes, PutsMake, Read, ReadState, Seen, bytes_under, folder_name, kept_at, lines, reading_of, the_row, the_type, with_limit}
 pub use Rattle.outside.specs.{words}
 unfoldable pub use Rattle.outside.specs.{is_good_name}
-pub use Rattle.outside.specs.declared.traits.Found.{Found}
-pub use Rattle.outside.specs.declared.traits.Found.TheVariants.{Bytes, Missing, TooLong}
 pub use base.Logic.{SProp, ent}
 pub use contract.Monad.{Fun}
 pub use contract.Running.{tables}

@@ -4,6 +4,4 @@ pub mod Writing
 pub mod GoodNames
 pub mod NameTests
 mod Made
-pub mod Answered
-pub mod Named
-mod Agreeing
+pub mod Agreeing

@@ -5,7 +5,6 @@ pub mod Memory
 pub mod Names
 pub mod Codes
 pub mod Inputs
-
 pub use Rattle.outside.specs.Codes.{CodeRow, IsRefusal, code_row, input_fault, refusal}
 pub use Rattle.outside.specs.Files.{AgreeWith, AgreesWith, File, FileSet, FoundNames, IsAsFound, IsFound, IsNamed, IsNamedBy, IsWhole, IsWithin, MayAsk, Read}
 pub use Rattle.outside.specs.Files.{ReadState, bytes_under, reading_of, with_limit}

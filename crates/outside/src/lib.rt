@@ -12,7 +12,9 @@ mod stored;
 mod traits;
 
 pub use codes::Code;
-pub use inputs::{FILE_LIMIT, InputFault, Refusal, TextFault, file_refusal, read_input, text_fault};
+pub use inputs::{
+    FILE_LIMIT, InputFault, Refusal, TextFault, file_refusal, read_input, text_fault,
+};
 pub use memory::FreeGate;
 pub use names::{Name, folder_name, good_name, is_good_name};
 pub use real::{RealSink, read_whole};

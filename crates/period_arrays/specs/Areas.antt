@@ -11,7 +11,9 @@ use Rattle.period_arrays.specs.declared.flags.Contents.{Contents}
 use Rattle.period_arrays.specs.declared.flags.Flags.{Flags}
 use Rattle.outside.specs.declared.codes.Code.TheVariants.{OutOfProfile, NothingToReuse, CellOutside}
 use Rattle.outside.specs.declared.codes.Code.{Code}
-use Rattle.model_types.specs.{layer_size, place, int_at}
+use Rattle.model_types.specs.{layer_size, place, int_at, is_int}
+use Rattle.model_types.specs.declared.period.Period.{Period}
+use Rattle.model_types.specs.declared.period.Stresses.{Stresses}
 
 -- Words of the lines before arrays (TM 6-A16, RCH and EVT).
 -- NRCHOP or NEVTOP, the option that chooses a cell in each column of layers: 1, 2 or 3
@@ -99,3 +101,24 @@ area_at contents files file grid s = do
   flags ← flags_of contents file line.0.number s.0.listed (words line.0.bytes)
   area ← arrays_of files file grid flags s.0.area line.1
   Ok (area.0, (record { listed = true; area = area.0 }, area.1))
+
+-- The trait of a package of arrays: where its arrays go, and how those of a period are tested.
+pub record ArrayKind : Type 0 where
+  -- whether its files have surfaces and extinction depths, and a unit after the option
+  pub evaporates : Bool
+  -- a period's arrays, and its stresses with these arrays
+  pub area : Stresses → Area
+  pub put : Stresses → Area → Stresses
+  -- the test of a period's arrays, by the file's name, the grid, IBOUND and the option
+  pub test : List ℕ → Grid → List ℤ → ℤ → Area → Result (Unit {0}) Refusal
+
+-- what a file has beside its rates: it names layers under option 2 alone
+abbrev pub contents : ArrayKind → ℤ → Contents
+contents kind option = record { evaporates = kind.evaporates; layered = is_int option 2 }
+
+-- a period with these arrays, and without its arrays of this kind
+abbrev pub with_area : ArrayKind → Period → Area → Period
+with_area kind p area = record p { stresses = kind.put p.stresses area }
+
+abbrev pub without : ArrayKind → Period → Period
+without kind p = with_area kind p no_area

@@ -1,5 +1,5 @@
 -- A file of a package of arrays (TM 6-A16, RCH and EVT).
-use Rattle.std.specs.Prelude.{ℕ, ℤ, Bool, List, Result, Ok, if◌then◌else◌}
+use Rattle.std.specs.Prelude.{ℕ, ℤ, Bool, List, Result, Ok, if◌then◌else◌, ◌≡◌, true, false, All, length}
 use Rattle.outside.specs.{FileSet, words}
 use Rattle.outside.specs.declared.inputs.Refusal.{Refusal}
 use Rattle.record_lines.specs.{Left, left_from, without_comments, ◌>>=◌, for_each}
@@ -7,11 +7,18 @@ use Rattle.array_reader.specs.{number_at, integer}
 use Rattle.model_types.specs.declared.grid.Grid.{Grid}
 use Rattle.model_types.specs.declared.period.Period.{Period}
 use Rattle.list_package.specs.{item_line, without_state}
-use Rattle.period_arrays.specs.Areas.{area_at, nothing_yet, option_at}
-use Rattle.period_arrays.specs.Kinds.{ArrayKind, contents, with_area}
+use Rattle.period_arrays.specs.Areas.{area_at, nothing_yet, option_at, ArrayKind, contents, with_area, refusal_at}
 use Rattle.period_arrays.specs.declared.area.Area.{Area}
 use Rattle.period_arrays.specs.declared.area.InForce.{InForce}
 use Rattle.period_arrays.specs.declared.read.ArrayFile.{ArrayFile}
+use Rattle.decimal_input.specs.declared.dec.Dec.{Dec}
+use Rattle.decimal_input.specs.{IsDec}
+use Rattle.outside.specs.declared.codes.Code.{Code}
+use Rattle.outside.specs.declared.inputs.TextFault.{TextFault}
+use Rattle.model_types.specs.{layer_size}
+use Rattle.period_arrays.specs.declared.flags.Contents.{Contents}
+use Rattle.period_arrays.specs.declared.flags.Flags.{Flags}
+use Rattle.outside.specs.declared.inputs.TextFault.TheVariants as texts
 
 -- a period's arrays, which are tested once all of them are read
 unfoldable pub tested_area : ArrayKind → FileSet → List ℕ → Grid → List ℤ → ℤ → (InForce × Left) → Result (Area × (InForce × Left)) Refusal
@@ -48,3 +55,35 @@ arrays_in kind files file bytes grid ibound periods = do
   option ← option_line kind file (without_comments (left_from 1 bytes))
   whole ← periods_of kind files file grid ibound option.0 periods option.1
   Ok (record { option = option.0; periods = whole })
+
+-- What is known of arrays that were read, whatever the folder returned.
+-- an array of numbers for one layer
+abbrev pub IsReals : Grid → List Dec → Type 0
+IsReals grid xs = (length xs ≡ layer_size grid) × All IsDec xs
+
+-- an array of layers for one layer
+abbrev pub IsWhole : Grid → List ℤ → Type 0
+IsWhole grid xs = length xs ≡ layer_size grid
+
+-- a refusal of a cell, or lack of memory for the file's name
+abbrev pub IsCellRefusal : Code → List ℕ → Grid → ℕ → TextFault → Type 0
+IsCellRefusal code file grid cell (texts.Refused r) = r ≡ refusal_at code file grid cell
+IsCellRefusal code file grid cell texts.Memory = Unit {0}
+
+-- the arrays of a package's file
+pub record IsArea (contents : Contents) (grid : Grid) (area : Area) : Type 0 where
+  pub surfaces : contents.evaporates ≡ true → IsReals grid area.surfaces
+  pub rates : IsReals grid area.rates
+  pub depths : contents.evaporates ≡ true → IsReals grid area.depths
+  pub layers : contents.layered ≡ true → IsWhole grid area.layers
+
+-- the arrays of the period before, if there is one
+abbrev pub IsInForce : Contents → Grid → InForce → Type 0
+IsInForce contents grid before = before.listed ≡ true → IsArea contents grid before.area
+
+-- an array that isn't read anew is one of the period before
+pub record AreFlags (contents : Contents) (listed : Bool) (flags : Flags) : Type 0 where
+  pub surface : contents.evaporates ≡ true → flags.surface ≡ false → listed ≡ true
+  pub rate : flags.rate ≡ false → listed ≡ true
+  pub depth : contents.evaporates ≡ true → flags.depth ≡ false → listed ≡ true
+  pub layer : contents.layered ≡ true → flags.layer ≡ false → listed ≡ true

@@ -4,9 +4,8 @@ ghost use Rattle.record_lines.specs.{HasText};
 ghost use Rattle.model_types.specs.declared.grid.Grid as grids;
 ghost use Rattle.model_types.specs.declared.period.Stresses as periods;
 ghost use Rattle.model_types.specs.{HasSize};
-ghost use Rattle.period_arrays.specs.Areas.{no_area};
-ghost use Rattle.period_arrays.specs.Forms.{IsArea};
-ghost use Rattle.period_arrays.specs.Kinds.{ArrayKind, contents};
+ghost use Rattle.period_arrays.specs.Areas.{no_area, ArrayKind, contents};
+ghost use Rattle.period_arrays.specs.Packages.{IsArea};
 
 use crate::area::Area;
 use model_types::{Grid, Stresses};

@@ -1,8 +1,10 @@
 -- The bounds of the entries of lists, appended cell by cell.
 use Rattle.problem_builder.proofs.Common.{◌≡◌, ℕ, ◌+◌, ◌<◌, inl, inr, Bool, true, false, cond, List, [], ◌∷◌, ◌++◌, length, get_or, set, take, refl, sym, ap}
-use Rattle.problem_builder.proofs.Common.{◌∙◌, subst, All, ◌==◌, get_or-set_same, get_or-set_other, append-nil, append_assoc, take_more, take_at, drop_at}
-use Rattle.problem_builder.proofs.Common.{All-take, All-drop, filter-append, cases_eq, eq-eqb, ne_eqb, Entry, cell_of, entries_of, LocalBounds, AreLocalBounds}
-use Rattle.problem_builder.proofs.Common.{AreAppended, IsEntryIn, local_in, no_bounds}
+use Rattle.problem_builder.proofs.Common.{◌∙◌, subst, All, zero, suc, Option, None, map, replicate, arith, ◌==◌, get_or-set_same, get_or-set_other, append-nil}
+use Rattle.problem_builder.proofs.Common.{append_assoc, take_more, take_at, drop_at, get_or-map, length-map, map-set, All-take, All-drop, filter-append}
+use Rattle.problem_builder.proofs.Common.{cases_eq, eq-eqb, ne_eqb, Entry, cell_of, entries_of, LocalBounds, AreLocalBounds, AreAppended, IsEntryIn, local_in}
+use Rattle.problem_builder.proofs.Common.{no_bounds, kept_bounds}
+use Rattle.std.specs.Global.{Box}
 
 no_entries : (c : ℕ) → [] ≡ entries_of c []
 unfolding entries_of
@@ -70,3 +72,19 @@ four_in n w r d g h =
 -- as one call names the list and the number, and another
 pub renamed : (n k : ℕ) (xs ys : List Entry) → k ≡ n → ys ≡ xs → All (IsEntryIn n) xs → All (IsEntryIn k) ys
 renamed n k xs ys e f h = subst (λ q. All (IsEntryIn q) ys) (sym e) (subst (All (IsEntryIn n)) (sym f) h)
+
+-- The bounds of cells that keep them only if they have entries.
+pub none_kept : (n c : ℕ) → local_in (map kept_bounds (replicate n None)) c ≡ no_bounds
+none_kept zero c = refl
+none_kept (suc n) zero = refl
+none_kept (suc n) (suc c) = none_kept n c
+
+-- an entry of cell k, whose kept bounds x become y
+pub kept_one : (s : ℕ) (cells : List (Option (Box LocalBounds))) (k : ℕ) (x y : Option (Box LocalBounds)) (e : Entry) → k < length cells → k ≡ cell_of e → x ≡ get_or cells k None →
+    ((es : List Entry) → AreLocalBounds s k (kept_bounds x) es → AreLocalBounds s k (kept_bounds y) (es ++ e ∷ [])) →
+    AreAppended s (map kept_bounds cells) (map kept_bounds (set cells k y)) (e ∷ [])
+kept_one s cells k x y e lt cell read next =
+    let all : List LocalBounds = map kept_bounds cells in
+    let within : k < length all = omega (arith, length-map cells kept_bounds, lt) in
+    subst (λ (new : List LocalBounds). AreAppended s all new (e ∷ [])) (sym (map-set kept_bounds cells k y))
+    (appended_one s all k (kept_bounds x) (kept_bounds y) e within cell (ap kept_bounds read ∙ sym (get_or-map kept_bounds cells k None no_bounds lt)) next)

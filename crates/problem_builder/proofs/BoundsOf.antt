@@ -1,21 +1,63 @@
 -- The bounds of a valid model's numbers enclose them.
 use Rattle.problem_builder.proofs.Common.{◌≡◌, ℕ, suc, ◌+◌, ◌*◌, ◌-◌, ◌<◌, ◌^◌, inl, inr, true, false, Option, Some, None, take, arith, refl, ap, subst, All, ℤ}
-use Rattle.problem_builder.proofs.Common.{pos, neg_ℤ, ◌+ℤ◌, ◌-ℤ◌, ◌*ℤ◌, option_to_list, ints, Dec, number, plus, negated, Encloses, EnclosesSigned, Evap}
-use Rattle.problem_builder.proofs.Common.{magnitude, IsHead, EvapEncloses, Given, Axis, FlowModel, TimeStep, cell_count, stride, kept_head, head_or_kept}
-use Rattle.problem_builder.proofs.Common.{constant_head, dec_at, is_active, conductance, period_at, storage, is_variable, is_constant, given_in, last_given}
-use Rattle.problem_builder.proofs.Common.{EvapSource, evap_at, recharge_flow, evap_conductance, extinction, IsModel, IsEvapValid, Term, IsPair, IsCapped}
-use Rattle.problem_builder.proofs.Common.{face_term, storage_term, evap_term, faces_enclose, below_gap, above_gap, Thicknesses, AreThicknesses, IsKeptPair}
-use Rattle.problem_builder.proofs.Common.{IsGivenOrKept, IsConstantPair, IsRechargePair, IsEvap, IsTimeOf}
+use Rattle.problem_builder.proofs.Common.{pos, neg_ℤ, ◌+ℤ◌, ◌-ℤ◌, ◌*ℤ◌, zero, Bool, cond, List, [], ◌∷◌, sym, option_to_list, ints, Dec, number, negated}
+use Rattle.problem_builder.proofs.Common.{Encloses, EnclosesSigned, plus, Evap, magnitude, IsHead, EvapEncloses, Given, Axis, FlowModel, TimeStep, cell_count}
+use Rattle.problem_builder.proofs.Common.{stride, kept_head, head_or_kept, constant_head, dec_at, is_active, conductance, period_at, storage, is_variable}
+use Rattle.problem_builder.proofs.Common.{is_constant, given_in, last_given, EvapSource, evap_at, recharge_flow, evap_conductance, extinction, IsModel}
+use Rattle.problem_builder.proofs.Common.{IsEvapValid, IsHeadNumber, IsPeriod, IsGivenValid, Term, IsPair, IsCapped, face_term, storage_term, evap_term}
+use Rattle.problem_builder.proofs.Common.{faces_enclose, below_gap, above_gap, Thicknesses, AreThicknesses, IsKeptPair, IsGivenOrKept, IsConstantPair}
+use Rattle.problem_builder.proofs.Common.{IsRechargePair, IsEvap, IsTimeOf, reverse, ◌==◌, IfSome, find, flat_map, reverse-append, All-nil, All-append}
+use Rattle.problem_builder.proofs.Common.{none-some, Period, In, In-All}
 use Rattle.decimal_input.specs.Fractions.{den as denominator}
 use Rattle.decimal_input.proofs.Differences.{diffs, as_diff, same_diff}
 use Rattle.conductance_bounds.proofs.ModelBounds.{storages_enclose, recharges_enclose, evaps_enclose, heads_enclose as given_encloses}
 use Rattle.conductance_bounds.proofs.PartBounds.{part_encloses, multiplier_positive}
-use Rattle.problem_builder.proofs.ActiveCells.{variable_active, constant_active}
-use Rattle.problem_builder.proofs.Bounds.{BoundsEnclose}
-use Rattle.problem_builder.proofs.CellEnclosed.{head_encloses, past_magnitude}
+use Rattle.problem_builder.proofs.Members.{variable_active, constant_active, some_same, In-append}
+use Rattle.problem_builder.proofs.CellEnclosed.{BoundsEnclose, head_encloses, past_magnitude}
 use Rattle.problem_builder.proofs.Fits.{head_pair_range}
 use Rattle.problem_builder.proofs.GivenRange.{given_range}
-use Rattle.problem_builder.proofs.GivenValid.{given_valid, last_valid}
+
+-- The entries of CHD lists are valid.
+first_or : {X : Type 0} (b : Bool) (y : X) (ys : List X) (x : X) (o : Option X) → (o ≡ Some x → In ys x) → cond b (Some y) o ≡ Some x → In (y ∷ ys) x
+first_or true y ys x o f e = inl (some_same e)
+first_or false y ys x o f e = inr (f e)
+
+find-In : {X : Type 0} (test : X → Bool) (xs : List X) (x : X) → find test xs ≡ Some x → In xs x
+find-In test [] x e = absurd (none-some x e)
+find-In test (y ∷ ys) x e = first_or (test y) y ys x (find test ys) (λ q. find-In test ys x q) e
+
+one_of : {X : Type 0} (y x : X) → In (y ∷ []) x → y ≡ x
+one_of y x (inl e) = e
+one_of y x (inr i) = absurd i
+
+turned-In : {X : Type 0} (xs : List X) (x : X) → In (reverse xs) x → In xs x
+turned-In [] x i = absurd i
+turned-In (y ∷ ys) x i = elim (In-append (reverse ys) (y ∷ []) x (subst (λ zs. In zs x) (reverse-append (y ∷ []) ys) i)) [
+  | inl j ↦ inr (turned-In ys x j)
+  | inr j ↦ inl (one_of y x j)
+]
+
+pub given_valid : (n : ℕ) (xs : List Given) (c : ℕ) (x : Given) → All (IsGivenValid n) xs → given_in xs c ≡ Some x → IsGivenValid n x
+unfolding given_in
+given_valid n xs c x h e = In-All (IsGivenValid n) xs x h (turned-In xs x (find-In (λ y. y.cell.0 == c) (reverse xs) x e))
+
+flat_valid : (m : FlowModel) (ps : List Period) → ((p : Period) → In ps p → IsPeriod m p) → All (IsGivenValid (cell_count m.grid)) (flat_map (λ p. p.stresses.given) ps)
+flat_valid m [] h = All-nil (IsGivenValid (cell_count m.grid))
+flat_valid m (p ∷ ps) h = All-append (IsGivenValid (cell_count m.grid)) p.stresses.given (flat_map (λ q. q.stresses.given) ps) (h p (inl refl)).stresses.given.entries (flat_valid m ps (λ q i. h q (inr i)))
+
+taken-In : {X : Type 0} (k : ℕ) (xs : List X) (x : X) → In (take k xs) x → In xs x
+taken-In zero xs x i = absurd i
+taken-In (suc k) [] x i = absurd i
+taken-In (suc k) (y ∷ ys) x (inl e) = inl e
+taken-In (suc k) (y ∷ ys) x (inr i) = inr (taken-In k ys x i)
+
+pub last_valid : (m : FlowModel) (k c : ℕ) (x : Given) → IsModel m → last_given (take k m.periods) c ≡ Some x → IsGivenValid (cell_count m.grid) x
+last_valid m k c x valid e =
+    given_valid (cell_count m.grid) (flat_map (λ p. p.stresses.given) (take k m.periods)) c x (flat_valid m (take k m.periods) (λ p i. In-All (IsPeriod m) m.periods p valid.periods (taken-In k m.periods p i))) e
+
+pub last_head : (m : FlowModel) (k c : ℕ) (o : Option Given) → IsModel m → o ≡ last_given (take k m.periods) c → IfSome o (λ x. IsHeadNumber x.ehead)
+last_head m k c None valid e = tt
+last_head m k c (Some x) valid e = (last_valid m k c x valid (sym e)).ehead
 
 real_pair : (t : Term) (s lo hi : ℕ) → IsCapped t s lo hi → hi < 2 ^ 60 → IsPair t s lo hi
 real_pair t s lo hi (inl k) lt = k.0

@@ -1,19 +1,34 @@
 -- A cell of the problem encloses the exact cell: one step for each kind of entry.
-use Rattle.problem_builder.proofs.Common.{◌≡◌, ℕ, ◌+◌, ◌<◌, ◌^◌, inl, inr, true, List, map, sym, subst, arith, ℤ, pos, negsuc, AllZip, ints, Dec, number, size}
-use Rattle.problem_builder.proofs.Common.{Fraction, Encloses, EnclosesSigned, Bound, Flow, Link, Fixed, River, Drain, Evap, Entries, upper_at, magnitude}
-use Rattle.problem_builder.proofs.Common.{FlowEncloses, LinkEncloses, FixedEncloses, RiverEncloses, DrainEncloses, EvapEncloses, CellEncloses, Face, FlowModel}
-use Rattle.problem_builder.proofs.Common.{TimeStep, cell_count, HasSize, is_active, conductance, is_variable, is_constant, evap_at, FixedSource, FlowSource}
-use Rattle.problem_builder.proofs.Common.{variable_faces, flow_sources, fixed_sources, river_sources, drain_sources, evap_sources, ToConstant, ToGeneral}
-use Rattle.problem_builder.proofs.Common.{FromStorage, Pumped, Received, In, IsFaceOf, passing_are, end_within, exact_link, exact_fixed, exact_flow, Number}
-use Rattle.problem_builder.proofs.Common.{exact_river, exact_drain, exact_evap, exact_cell, IsCapped, face_term, Thicknesses, IsCond, IsWellPair, IsHeadPair}
-use Rattle.problem_builder.proofs.Common.{IsRiver, IsDrain, IsEvap, IsFlow, IsLink, IsFixed, IsCellOf, HeadsEnclose, pair_encloses}
+use Rattle.problem_builder.proofs.Common.{◌≡◌, ℕ, ◌+◌, ◌<◌, ◌^◌, inl, inr, true, List, map, sym, subst, arith, ℤ, pos, negsuc, None, [], ◌∷◌, refl, AllZip}
+use Rattle.problem_builder.proofs.Common.{ints, Dec, number, size, Fraction, Encloses, EnclosesSigned, Bound, Flow, Link, Fixed, River, Drain, Evap, Entries}
+use Rattle.problem_builder.proofs.Common.{upper_at, magnitude, IsHead, FlowEncloses, LinkEncloses, FixedEncloses, RiverEncloses, DrainEncloses, EvapEncloses}
+use Rattle.problem_builder.proofs.Common.{CellEncloses, EnclosesStep, Face, FlowModel, TimeStep, cell_count, HasSize, is_active, conductance, is_variable}
+use Rattle.problem_builder.proofs.Common.{is_constant, evap_at, FixedSource, FlowSource, variable_faces, flow_sources, fixed_sources, river_sources}
+use Rattle.problem_builder.proofs.Common.{drain_sources, evap_sources, ToConstant, ToGeneral, FromStorage, Pumped, Received, stride, constant_head, period_at}
+use Rattle.problem_builder.proofs.Common.{storage, EvapSource, recharge_at, recharge_flow, evap_conductance, extinction, variable_below, variable_cells, In}
+use Rattle.problem_builder.proofs.Common.{In-All, IsFaceOf, passing_are, end_within, Number, IsCapped, face_term, storage_term, Thicknesses, IsCond, IsWellPair}
+use Rattle.problem_builder.proofs.Common.{IsHeadPair, IsRiver, IsDrain, IsEvap, IsFlow, IsLink, IsFixed, IsCellOf, HeadsEnclose, IsConstantPair, IsRechargePair}
+use Rattle.problem_builder.proofs.Common.{fault_of, AreCells, pair_encloses, Axis, are_linked}
+use Rattle.flow_equations.specs.{exact_link, exact_fixed, exact_flow, exact_river, exact_drain, exact_evap, exact_cell, exact_step}
 use Rattle.conductance_bounds.proofs.Recharged.{number_encloses}
-use Rattle.problem_builder.proofs.ActiveCells.{variable_active, constant_active}
-use Rattle.problem_builder.proofs.Bounds.{BoundsEnclose}
+use Rattle.problem_builder.proofs.Members.{variable_active, constant_active, In-option, flow_source, fixed_source, variable-In}
 use Rattle.problem_builder.proofs.FacePairs.{face_range, face_active}
-use Rattle.problem_builder.proofs.Members.{In-option, flow_source, fixed_source}
-use Rattle.problem_builder.proofs.Sound.{IsSound, sum_part}
+use Rattle.problem_builder.proofs.Sound.{IsSound, sum_part, sound}
 use Rattle.problem_builder.proofs.Zipped.{zip_map}
+use Rattle.std.specs.Prelude.{false, Some}
+
+-- When the bounds of a model's numbers enclose them: the steps from rounded numbers to exact ones, which a valid model gives.
+pub record BoundsEnclose (m : FlowModel) (w : Thicknesses) (s : ℕ) (at : TimeStep) : Type 0 where
+  pub faces : (axis : Axis) (a lo hi : ℕ) → a + stride m.grid axis < cell_count m.grid → is_active m a ≡ true → is_active m (a + stride m.grid axis) ≡ true →
+      IsCapped (face_term m w.thick w.bed axis a) s lo hi → hi < 2 ^ 60 → Encloses lo hi s (conductance m axis a)
+  pub storages : (c lo hi : ℕ) → c < cell_count m.grid → is_variable m at.period c ≡ true → (period_at m at.period).steady ≡ false →
+      IsCapped (storage_term m w.thick (period_at m at.period) at.step c) s lo hi → hi < 2 ^ 60 → Encloses lo hi s (storage m (period_at m at.period) at.step c)
+  pub heads : (c : ℕ) (lo hi : ℤ) → c < cell_count m.grid → is_constant m at.period c ≡ true → IsConstantPair m at c lo hi → EnclosesSigned lo hi 9 (constant_head m at.period at.step c)
+  pub head_range : (c : ℕ) (lo hi : ℤ) → c < cell_count m.grid → is_constant m at.period c ≡ true → IsConstantPair m at c lo hi → IsHead lo × IsHead hi
+  pub recharges : (c : ℕ) (rate : Dec) (lo hi : ℤ) → c < cell_count m.grid → recharge_at m at.period c ≡ Some rate → IsRechargePair m s c rate lo hi → magnitude lo hi < 2 ^ 109 →
+      EnclosesSigned lo hi (s + 9) (recharge_flow m c rate)
+  pub evaps : (c : ℕ) (x : EvapSource) (e : Evap) → c < cell_count m.grid → is_variable m at.period c ≡ true → evap_at m at.period c ≡ Some x → IsEvap m s c e x → e.hi < 2 ^ 60 →
+      EvapEncloses s e (record { conductance = evap_conductance m c x; surface = number x.surface; extinction = extinction x })
 
 -- numbers of the input
 cond_encloses : (s : ℕ) (d : Dec) (lo hi : ℕ) → IsCond s d lo hi → hi < 2 ^ 60 → Encloses lo hi s (size d)
@@ -107,3 +122,21 @@ module _ (m : FlowModel) (w : Thicknesses) (s : ℕ) (at : TimeStep) (old : List
 
   pub cell_encloses : CellEncloses s e (exact_cell m at.period at.step before c)
   cell_encloses = record { id = is.id; flows = flows; links = links; fixed = fixed; rivers = rivers; drains = drains; evaps = evaps }
+
+-- The cells of a step enclose the exact step; they are the variable cells, and name active cells.
+module _ (m : FlowModel) (w : Thicknesses) (s : ℕ) (at : TimeStep) (old : List Bound) where
+  pub step_encloses : (es : List Entries) (before : ℕ → Fraction) → HasSize m.grid → BoundsEnclose m w s at → HeadsEnclose m old before → AreCells m w s at old (cell_count m.grid) es → EnclosesStep s es (exact_step m at.period at.step before)
+  step_encloses es before size near olds are = record {
+    cells = zip_map (IsCellOf m w s at old) (CellEncloses s) (exact_cell m at.period at.step before) es (variable_cells m at.period)
+        (λ e c i j is. let (v, lt) = variable-In m at.period (cell_count m.grid) c j in cell_encloses m w s at old before size near olds e c lt v is (sound e (In-All (λ z. fault_of z ≡ None) es e are.sound i))) are.each;
+    ends = (are_linked m at.period at.step before size).ends;
+  }
+
+  zip_ids : (es : List Entries) (cs : List ℕ) → AllZip (IsCellOf m w s at old) es cs → map (λ e. e.id) es ≡ cs
+  zip_ids [] [] h = refl
+  zip_ids [] (c ∷ cs) h = absurd h
+  zip_ids (e ∷ es) [] h = absurd h
+  zip_ids (e ∷ es) (c ∷ cs) h = λ t. h.0.id t ∷ zip_ids es cs h.1 t
+
+  pub ids_are : (es : List Entries) → AreCells m w s at old (cell_count m.grid) es → map (λ e. e.id) es ≡ variable_cells m at.period
+  ids_are es are = zip_ids es (variable_below m at.period (cell_count m.grid)) are.each

@@ -1,18 +1,21 @@
 -- A cell without a refusal keeps what a problem asks of a cell alone.
-use Rattle.problem_builder.proofs.Common.{◌≡◌, ℕ, ◌*◌, ◌<◌, ◌≤◌, ◌^◌, inl, inr, true, None, List, sym, subst, arith, All, ◌==◌, list_any}
-use Rattle.problem_builder.proofs.Common.{le_of_mul-le-mul_right, Ratio, den, Encloses, Bound, Link, Fixed, Entries, no_bound, lower_at, upper_at, LinkFits}
-use Rattle.problem_builder.proofs.Common.{FixedFits, CellFits, IsHead, Face, FlowModel, TimeStep, cell_count, is_active, conductance, is_variable, is_constant}
-use Rattle.problem_builder.proofs.Common.{FixedSource, local_entries, variable_faces, fixed_sources, ToConstant, ToGeneral, FromStorage, IsModel, IsEntryValid}
-use Rattle.problem_builder.proofs.Common.{In, All-In, IsFaceOf, passing_are, end_within, Term, IsCapped, face_term, Thicknesses, IsLink, IsFixed, IsCellOf}
-use Rattle.problem_builder.proofs.Common.{AreGridHeads, IsTimeOf, fault_of, or_parts}
-use Rattle.problem_builder.proofs.ActiveCells.{variable_active, constant_active}
-use Rattle.problem_builder.proofs.Bounds.{BoundsEnclose}
+use Rattle.problem_builder.proofs.Common.{◌≡◌, ℕ, ◌*◌, ◌<◌, ◌≤◌, ◌^◌, inl, inr, true, None, List, sym, subst, arith, All, ◌+◌, [], ◌∷◌, ◌++◌, length, get_or}
+use Rattle.problem_builder.proofs.Common.{ap, ◌∙◌, pos, ◌==◌, list_any, le_of_mul-le-mul_right, Ratio, Encloses, den, Bound, Link, Fixed, Entries, no_bound}
+use Rattle.problem_builder.proofs.Common.{lower_at, upper_at, LinkFits, FixedFits, CellFits, IsHead, Face, FlowModel, TimeStep, cell_count, is_active}
+use Rattle.problem_builder.proofs.Common.{conductance, is_variable, is_constant, FixedSource, local_entries, variable_faces, fixed_sources, ToConstant}
+use Rattle.problem_builder.proofs.Common.{ToGeneral, FromStorage, IsModel, IsEntryValid, start_head, dec_at, In, All-In, IsFaceOf, passing_are, end_within}
+use Rattle.problem_builder.proofs.Common.{Term, IsCapped, face_term, Thicknesses, IsLink, IsFixed, IsCellOf, AreGridHeads, IsTimeOf, fault_of, HeadsEnclose}
+use Rattle.problem_builder.proofs.Common.{IsStartInRange, IsStart, AreStartHeads, HasConstantHead, AreConstantHeads, or_parts, cases_order, cases_Bool}
+use Rattle.problem_builder.proofs.Common.{ext_get_or, get_or_append_left, get_or_push, length_push, get_or_default, Filled, ints}
+use Rattle.problem_builder.proofs.Members.{variable_active, constant_active, fixed_source}
+use Rattle.problem_builder.proofs.CellEnclosed.{BoundsEnclose, head_encloses}
 use Rattle.problem_builder.proofs.FacePairs.{face_range, face_active}
 use Rattle.problem_builder.proofs.Fits.{cond_ordered, head_pair_range, rivers_fit, drains_fit, evaps_fit}
-use Rattle.problem_builder.proofs.Members.{fixed_source}
 use Rattle.problem_builder.proofs.Sound.{sound, none_passes, positive_unless_zero}
 use Rattle.problem_builder.proofs.ValidEntries.{local_valid}
 use Rattle.problem_builder.proofs.Zipped.{zip_all, left_of}
+use Rattle.problem_builder.proofs.OneBound.{one_head_pair}
+use Rattle.problem_builder.proofs.OneCell.{one_constant_pair}
 
 -- bounds of an enclosed number are in order
 pub enclosed_ordered : (lo hi s : ℕ) (r : Ratio) → Encloses lo hi s r → lo ≤ hi
@@ -70,3 +73,66 @@ module _ (m : FlowModel) (w : Thicknesses) (s : ℕ) (at : TimeStep) (old : List
         conductances = k.conductances;
         flows = k.flows;
       }
+
+-- Tables that are filled cell by cell.
+pub none_filled : {X : Type 0} (P : ℕ → X → Type 0) (d : X) (xs : List X) → xs ≡ [] → Filled P d 0 xs
+none_filled P d xs e = record { count = ap length e; each = (λ c lt. absurd (omega (arith, lt))) }
+
+pub next_filled : {X : Type 0} (P : ℕ → X → Type 0) (d : X) (n : ℕ) (xs ys : List X) (x : X) → ys ≡ xs ++ x ∷ [] → P n x → Filled P d n xs → Filled P d (n + 1) ys
+next_filled P d n xs ys x e h k = record {
+  count = ap length e ∙ length_push xs x ∙ ap (λ q. q + 1) k.count;
+  each = (λ c lt. elim (cases_order c n) [
+    | inl same ↦ subst (P c) (sym (ap (λ zs. get_or zs c d) e ∙ get_or_push xs x d c (k.count ∙ sym same))) (subst (λ q. P q x) (sym same) h)
+    | inr (inl less) ↦ subst (P c) (sym (ap (λ zs. get_or zs c d) e ∙ get_or_append_left xs (x ∷ []) d c (omega (arith, less, k.count)))) (k.each c less)
+    | inr (inr more) ↦ absurd (omega (arith, lt, more))
+  ]);
+}
+
+-- a table by its length
+pub filled_to : {X : Type 0} (P : ℕ → X → Type 0) (d : X) (n k : ℕ) (xs : List X) → n ≡ k → Filled P d n xs → Filled P d k xs
+filled_to P d n k xs e h = subst (λ q. Filled P d q xs) e h
+
+pub one_filled : {X : Type 0} (P : ℕ → X → Type 0) (d : X) (n : ℕ) (xs ys : List X) → ((c : ℕ) (x y : X) → c < n → P c x → P c y → x ≡ y) → Filled P d n xs → Filled P d n ys → xs ≡ ys
+one_filled P d n xs ys one h k = ext_get_or d xs ys (h.count ∙ sym k.count) (λ c lt. let r : c < n = omega (arith, lt, h.count) in one c (get_or xs c d) (get_or ys c d) r (h.each c r) (k.each c r))
+
+-- The bounds of STRT.
+module _ (m : FlowModel) (bounds : List Bound) (h : Filled (IsStartInRange m) no_bound (cell_count m.grid) bounds) where
+  pub starts_are : AreStartHeads m bounds
+  starts_are = record { count = h.count; each = (λ c lt. (h.each c lt).start) }
+
+  pub starts_range : AreGridHeads m bounds
+  starts_range = record { whole = h.count; range = (λ c d lt. subst (λ (b : Bound). IsHead b.low × IsHead b.high) (get_or_default bounds c no_bound d lt) (h.each c (omega (arith, lt, h.count))).range) }
+
+  pub starts_enclose : HeadsEnclose m bounds (start_head m)
+  starts_enclose c active = head_encloses (dec_at m.strt c) _ _ ((h.each c active.within).start.active active.active)
+
+one_start : (m : FlowModel) (c : ℕ) (a b : Bound) → IsStart m c a → IsStart m c b → a ≡ b
+one_start m c a b h k = elim (cases_Bool (is_active m c)) [
+  | inl e ↦ (let (p, q) = one_head_pair (dec_at m.strt c) a.low a.high b.low b.high (h.active e) (k.active e) in λ t. record { low = p t; high = q t })
+  | inr e ↦ h.no_flow e ∙ sym (k.no_flow e)
+]
+
+pub one_starts : (m : FlowModel) (a b : List Bound) → AreStartHeads m a → AreStartHeads m b → a ≡ b
+one_starts m a b h k = one_filled (IsStart m) no_bound (cell_count m.grid) a b (λ c x y lt p q. one_start m c x y p q) h k
+
+zero_head : IsHead (pos 0)
+zero_head = record { above = omega (arith, ints); below = omega (arith, ints) }
+
+start_range : (m : FlowModel) (c : ℕ) (b : Bound) → IsModel m → c < cell_count m.grid → IsStart m c b → IsHead b.low × IsHead b.high
+start_range m c b valid lt h = elim (cases_Bool (is_active m c)) [
+  | inl e ↦ head_pair_range (dec_at m.strt c) b.low b.high (valid.cells c lt e).strt (h.active e)
+  | inr e ↦ subst (λ (q : Bound). IsHead q.low × IsHead q.high) (sym (h.no_flow e)) (zero_head, zero_head)
+]
+
+pub starts_fit : (m : FlowModel) (bounds : List Bound) → IsModel m → AreStartHeads m bounds → AreGridHeads m bounds
+starts_fit m bounds valid h = starts_range m bounds (record { count = h.count; each = (λ c lt. record { start = h.each c lt; range = start_range m c _ valid lt (h.each c lt) }) })
+
+-- A time has one list of constant heads.
+one_head : (m : FlowModel) (at : TimeStep) (c : ℕ) (a b : Bound) → HasConstantHead m at c a → HasConstantHead m at c b → a ≡ b
+one_head m at c a b h k = elim (cases_Bool (is_constant m at.period c)) [
+  | inl e ↦ (let (p, q) = one_constant_pair m at c a.low a.high b.low b.high (h.constant e) (k.constant e) in λ t. record { low = p t; high = q t })
+  | inr e ↦ h.other e ∙ sym (k.other e)
+]
+
+pub one_heads : (m : FlowModel) (at : TimeStep) (a b : List Bound) → AreConstantHeads m at a → AreConstantHeads m at b → a ≡ b
+one_heads m at a b h k = one_filled (HasConstantHead m at) no_bound (cell_count m.grid) a b (λ c x y lt p q. one_head m at c x y p q) h k

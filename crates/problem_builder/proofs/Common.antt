@@ -17,10 +17,11 @@ pub use Rattle.std.specs.List.{AllZip, Contains, cons_option, filter, filter_map
 pub use Rattle.std.specs.Option.{option_to_list}
 pub use Rattle.std.specs.Prelude.{IfSome, int_lt, min, nat_le, nat_lt, not, reverse, sum_by, unsigned_abs, ◌&&◌, ◌==◌, ◌||◌}
 pub use Rattle.cell_balance.specs.{CellEncloses, DrainEncloses, EnclosesStep, EvapEncloses, FixedEncloses, FlowEncloses, LinkEncloses, RiverEncloses}
-pub use Rattle.conductance_bounds.proofs.Enclosing.{bound_on, pair_encloses}
 pub use Rattle.conductance_bounds.proofs.FaceBounds.{faces_enclose, layered, no_gap}
+pub use Rattle.conductance_bounds.proofs.LayerBounds.{floor-ceiling, is_some, is_zero}
+pub use Rattle.conductance_bounds.proofs.Manual.{bound_on, pair_encloses}
 pub use Rattle.conductance_bounds.proofs.Ready.{delc_positive, delr_positive}
-pub use Rattle.conductance_bounds.proofs.SpanBounds.{above_gap, below_gap, thick_positive}
+pub use Rattle.conductance_bounds.proofs.SpanBounds.{above_gap, below_gap, equal_powers, thick_positive}
 pub use Rattle.conductance_bounds.specs.{AreThick, Holds, IsBed, IsBound, IsCapped, IsCappedFlow, IsCeilingOf, IsColHalf, IsFloorOf, IsGivenPair, IsGrown}
 pub use Rattle.conductance_bounds.specs.{IsHalf, IsHeadUnits, IsPair, IsPart, IsPast, IsRounded, IsSpan, IsUsable, IsVertHalf, Lower, Number, Product, Quotient}
 pub use Rattle.conductance_bounds.specs.{Side, Sum, Term, Upper, Within, area_term, bed_term, blend, column_k_term, column_of, evap_formula, evap_term}
@@ -30,9 +31,8 @@ pub use Rattle.conductance_bounds.specs.{vertical_term}
 unfoldable pub use Rattle.conductance_bounds.specs.{power_term}
 pub use Rattle.conductance_bounds.specs.declared.pair.Pair.{Pair}
 pub use Rattle.conductance_bounds.specs.declared.span.Span.{Span}
-pub use Rattle.decimal_input.proofs.FloorLaws.{floor_ceiling_enclose, one_ceiling, one_floor}
+pub use Rattle.decimal_input.proofs.FloorLaws.{cancel_right, floor_ceiling_enclose, mul_mono_right, one_ceiling, one_floor}
 pub use Rattle.decimal_input.proofs.Orders.{AtMost-trans, Same-sym, Same-trans}
-pub use Rattle.decimal_input.proofs.Signs.{cancel_right, mul_mono_right}
 pub use Rattle.decimal_input.specs.{Encloses, EnclosesSigned, Fraction, IsCeiling, IsDec, IsFloor, IsSignedCeiling, IsSignedFloor, Passes, Ratio, negated}
 pub use Rattle.decimal_input.specs.{number, over, size, with_sign}
 unfoldable pub use Rattle.decimal_input.specs.{ratio, scaled}
@@ -40,7 +40,6 @@ pub use Rattle.decimal_input.specs.Fractions.{plus}
 pub use Rattle.decimal_input.specs.Ratios.{Same, den}
 pub use Rattle.decimal_input.specs.declared.dec.Dec.{Dec}
 pub use Rattle.flow_equations.proofs.Links.{are_linked, below_is, index_is}
-pub use Rattle.flow_equations.specs.{exact_cell, exact_drain, exact_evap, exact_fixed, exact_flow, exact_link, exact_river, exact_step}
 pub use Rattle.model_types.proofs.Leads.{IsFaceOf, after_within, before_back, before_le, end_other, end_within, ends_ascend, face_back, faces_are, few_faces}
 pub use Rattle.model_types.proofs.Leads.{first_within, passing_are, passing_have, turned}
 pub use Rattle.model_types.proofs.Members.{All-In, Contains-In, In, In-All, In-get_or, Ordered, Ordered-at, filter_map-In, map-In}
@@ -70,18 +69,17 @@ pub use Rattle.model_types.specs.declared.period.Period.{Period}
 pub use Rattle.model_types.specs.declared.time_steps.TimeStep.{TimeStep}
 pub use Rattle.number_limits.proofs.Canonical.{dec_at_is}
 pub use Rattle.problem_builder.specs.{AreAppended, AreCells, AreConstantHeads, AreEvenFactors, AreEvenStorages, AreFactorsOf, AreGridHeads, AreInputs}
-pub use Rattle.problem_builder.specs.{AreLocalBounds, ArePeriodTables, AreStartHeads, AreTables, AreThicknesses, BothOrNone, HasConductance, HasConstantHead}
-pub use Rattle.problem_builder.specs.{HasEvenSteps, HasEvenStorage, HasNoProblem, HasOldHeads, HasPair, HasStorage, HeadsEnclose, Inputs, IsActive, IsBedBelow}
-pub use Rattle.problem_builder.specs.{IsBedOf, IsBuildable, IsCellFault, IsCellOf, IsCond, IsConstant, IsCovered, IsDepth, IsDrain, IsEntryIn, IsEvap}
-pub use Rattle.problem_builder.specs.{IsEvaporated, IsFirstFault, IsFixed, IsFlow, IsGeneralSource, IsGivenOrKept, IsHeadPair, IsIndex, IsKept, IsKeptPair}
-pub use Rattle.problem_builder.specs.{IsKind, IsLink, IsNoBed, IsProblemOf, IsReceived, IsRechargePair, IsRecharged, IsRefused, IsRiver, IsStart}
-pub use Rattle.problem_builder.specs.{IsStartInRange, IsStorage, IsThickness, IsTimeOf, IsVariableCell, IsWellPair, IsWellSource, Thicknesses, example_bound}
-pub use Rattle.problem_builder.specs.{example_grid, example_heads, example_model, example_period, example_time, has_small_branch, kept_bounds, layer_half}
-pub use Rattle.problem_builder.specs.{local_in, no_bounds, no_pair, no_span, pair_at, pair_in, span_in, thousandths, whole, widths_of}
+pub use Rattle.problem_builder.specs.{AreLocalBounds, ArePeriodTables, AreStartHeads, AreTables, AreThicknesses, BothOrNone, Filled, HasConductance}
+pub use Rattle.problem_builder.specs.{HasConstantHead, HasEvenSteps, HasEvenStorage, HasNoProblem, HasOldHeads, HasPair, HasStorage, HeadsEnclose, Inputs}
+pub use Rattle.problem_builder.specs.{IsActive, IsBedBelow, IsBedOf, IsBuildable, IsCellFault, IsCellOf, IsCond, IsConstant, IsCovered, IsDepth, IsDrain}
+pub use Rattle.problem_builder.specs.{IsEntryIn, IsEvap, IsEvaporated, IsFirstFault, IsFixed, IsFlow, IsGeneralSource, IsGivenOrKept, IsHeadPair, IsIndex}
+pub use Rattle.problem_builder.specs.{IsKept, IsKeptPair, IsKind, IsLink, IsNoBed, IsProblemOf, IsReceived, IsRechargePair, IsRecharged, IsRefused, IsRiver}
+pub use Rattle.problem_builder.specs.{IsStart, IsStartInRange, IsStorage, IsThickness, IsTimeOf, IsVariableCell, IsWellPair, IsWellSource, Thicknesses}
+pub use Rattle.problem_builder.specs.{example_bound, example_grid, example_heads, example_model, example_period, example_time, has_small_branch, kept_bounds}
+pub use Rattle.problem_builder.specs.{layer_half, local_in, no_bounds, no_pair, no_span, pair_at, pair_in, span_in, thousandths, whole, widths_of}
 unfoldable pub use Rattle.problem_builder.specs.{IsConstantPair, fault_of}
-pub use Rattle.problem_builder.specs.Filled.{Filled}
 pub use Rattle.problem_builder.specs.LocalBounds.{LocalBounds}
-pub use Rattle.problem_builder.specs.PeriodTables.{IsNamed}
+pub use Rattle.problem_builder.specs.Tables.{IsNamed}
 pub use Rattle.scaled_decimal.specs.declared.decimal.Sd.{Sd}
 pub use Rattle.step_problem.specs.{CellFits, DrainFits, EvapFits, FixedFits, IsHead, IsProblem, LinkFits, LinksFit, RiverFits, conductance_of, entries_at}
 pub use Rattle.step_problem.specs.{flow_of, head_limit, lower_at, magnitude, no_bound, no_entries, no_link, upper_at}

@@ -2,7 +2,7 @@
 use Rattle.problem_builder.proofs.Common.{◌≡◌, ℕ, suc, ◌+◌, ◌-◌, ◌<◌, inl, inr, Bool, true, false, cond, sym, ap, ◌∙◌, pos, ◌*ℤ◌, Dec, IsDec, number, Fraction}
 use Rattle.problem_builder.proofs.Common.{FlowModel, cell_count, layer_size, dec_at, is_active, has_bed, top_at, bottom_at, lowest, bed_thickness, IsModel}
 use Rattle.problem_builder.proofs.Common.{IsBedValid, nat_lt, no_gap, dec_at_is}
-use Rattle.decimal_input.proofs.OneNumber.{one_number}
+use Rattle.decimal_input.proofs.Unique.{one_number}
 
 either : (b : Bool) (x y : Dec) → IsDec x → IsDec y → IsDec (cond b x y)
 either true x y h k = h

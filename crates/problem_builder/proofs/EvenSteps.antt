@@ -1,8 +1,7 @@
 -- Steps that are equally long have the same factors.
 use Rattle.problem_builder.proofs.Common.{◌≡◌, ℕ, Some, Dec, size, FlowModel, period_at, number_one, power_term, IsGrown, IsUsable, HasEvenSteps}
-use Rattle.problem_builder.proofs.Common.{AreEvenFactors}
+use Rattle.problem_builder.proofs.Common.{AreEvenFactors, equal_powers}
 use Rattle.conductance_bounds.specs.declared.storage.Factors.{Factors}
-use Rattle.conductance_bounds.proofs.Equal.{equal_powers}
 
 even_grown : (t : Dec) (steps n : ℕ) (f : Factors) → t ≡ number_one → IsGrown (size t) steps 1 f → IsGrown (size t) steps n f
 unfolding power_term

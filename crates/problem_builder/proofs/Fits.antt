@@ -1,20 +1,19 @@
 -- Rivers, drains and evapotranspirations of a cell: bounds in order, heads in range.
-use Rattle.problem_builder.proofs.Common.{◌≡◌, ℕ, ◌≤◌, ◌^◌, inl, inr, Bool, Some, refl, sym, subst, arith, All, ℤ, pos, ◌+ℤ◌, ◌≤ℤ◌, ints, by_lt_z, none-some}
-use Rattle.problem_builder.proofs.Common.{Fraction, with_sign, cancel_right, mul_mono_right, Dec, number, size, AtMost-trans, IsSignedFloor, IsSignedCeiling}
-use Rattle.problem_builder.proofs.Common.{one_floor, one_ceiling, floor_ceiling_enclose, River, Evap, RiverFits, EvapFits, IsHead, Entry, FlowModel, IsPositive}
-use Rattle.problem_builder.proofs.Common.{IsNotNegative, IsHeadNumber, EvapSource, RiverSource, as_river, local_entries, river_sources, evap_sources}
-use Rattle.problem_builder.proofs.Common.{IsEntryValid, IsEvapValid, In-All, filter_map-In, Term, Holds, Lower, Upper, IsPair, IsCapped, Number, evap_term}
-use Rattle.problem_builder.proofs.Common.{IsCond, IsHeadPair, IsRiver, IsDrain, IsEvap, bound_on, Drain, DrainFits, DrainSource, as_drain, drain_sources, ◌<◌}
-use Rattle.problem_builder.proofs.Common.{true, List, AllZip, IsModel, IsPeriod, period_at, cell_count, is_variable}
+use Rattle.problem_builder.proofs.Common.{◌≡◌, ℕ, ◌≤◌, ◌^◌, inl, inr, Bool, Some, refl, sym, subst, arith, All, ℤ, pos, ◌+ℤ◌, ◌≤ℤ◌, ◌<◌, true, List, ◌-ℤ◌, ints}
+use Rattle.problem_builder.proofs.Common.{by_lt_z, none-some, Fraction, with_sign, number, size, IsSignedFloor, IsSignedCeiling, cancel_right, mul_mono_right}
+use Rattle.problem_builder.proofs.Common.{one_floor, one_ceiling, floor_ceiling_enclose, Dec, AtMost-trans, River, Evap, RiverFits, EvapFits, IsHead, DrainFits}
+use Rattle.problem_builder.proofs.Common.{Entry, FlowModel, IsPositive, IsNotNegative, IsHeadNumber, EvapSource, RiverSource, as_river, local_entries}
+use Rattle.problem_builder.proofs.Common.{river_sources, evap_sources, IsEntryValid, IsEvapValid, DrainSource, as_drain, drain_sources, IsModel, IsPeriod}
+use Rattle.problem_builder.proofs.Common.{period_at, cell_count, is_variable, In-All, filter_map-In, Term, Holds, Lower, Upper, IsPair, IsCapped, Number}
+use Rattle.problem_builder.proofs.Common.{evap_term, IsCond, IsHeadPair, IsRiver, IsDrain, IsEvap, IsDepth, bound_on, Drain, AllZip, floor-ceiling, w64}
 use Rattle.decimal_input.specs.Fractions.{den}
 use Rattle.model_types.specs.declared.entry.Entry.TheVariants.{River as RiverEntry, Drain as DrainEntry}
-use Rattle.conductance_bounds.proofs.Whole.{floor-ceiling}
-use Rattle.problem_builder.proofs.ActiveCells.{variable_active}
+use Rattle.problem_builder.proofs.Members.{variable_active, some_same}
 use Rattle.problem_builder.proofs.HeadRange.{floor_in_range, ceiling_in_range}
 use Rattle.problem_builder.proofs.Zipped.{zip_all}
-use Rattle.problem_builder.proofs.Members.{some_same}
 use Rattle.problem_builder.proofs.ValidEntries.{local_valid}
-use Rattle.flow_equations.proofs.Values.{size_positive}
+use Rattle.flow_equations.proofs.Downwards.{size_positive}
+use Rattle.std.specs.Prelude.{FitsSigned}
 
 pub pair_ordered : (t : Term) (s lo hi : ℕ) → Holds t → IsPair t s lo hi → lo ≤ hi
 pair_ordered t s lo hi h k = floor-ceiling lo hi _ _ s (AtMost-trans (bound_on t h Lower k.low k.low_is) (bound_on t h Upper k.high k.high_is)) k.floor k.ceiling
@@ -99,3 +98,45 @@ module _ (m : FlowModel) (s p c : ℕ) (valid : IsModel m) (period : IsPeriod m 
   pub evaps_fit : c < cell_count m.grid → is_variable m p c ≡ true → (xs : List Evap) → AllZip (IsEvap m s c) xs (evap_sources m p c) → All EvapFits xs
   evaps_fit lt v xs = zip_all EvapFits (IsEvap m s c) xs (evap_sources m p c)
       (λ x r j k. evap_fits m s c x r (In-All IsEvapValid (evap_sources m p c) r (valid.evaps p c lt (variable_active m p c v)) j) k)
+
+-- Extinction depths and elevations are in range.
+pub depth_is : (x : EvapSource) → IsEvapValid x → IsDepth x.depth
+depth_is x v = record {
+  positive = v.depth;
+  ceiling = v.ceiling;
+  is = v.is_ceiling;
+  small = omega (arith, ints, v.extinction, (floor_in_range (number x.surface) v.floor v.surface.range v.is_floor).below);
+}
+
+-- from 0 to 8000000000 length units
+pub record IsDepthUnits (z : ℤ) : Type 0 where
+  pub above : pos 0 ≤ℤ z
+  pub below : z ≤ℤ pos 8000000000000000000
+
+pub floor_units : (d : Dec) (z : ℤ) → IsDepth d → IsSignedFloor z (number d) 9 → IsDepthUnits z
+floor_units d z h k = record {
+  above = floor_not_negative (number d) z (not_negative d h.positive) k;
+  below = omega (arith, ints, floor_below (number d) 9 z h.ceiling k h.is, h.small);
+}
+
+pub ceiling_units : (d : Dec) (z : ℤ) → IsDepth d → IsSignedCeiling z (number d) 9 → IsDepthUnits z
+ceiling_units d z h k = record {
+  above = cancel_right (den (number d)) (pos 0) z (omega arith) (omega (arith, ints, mul_mono_right (10 ^ 9) (pos 0) (number d).num (not_negative d h.positive), k.at_least));
+  below = omega (arith, ints, one_ceiling (number d) (number d) 9 h.ceiling z (record { same = refl }) h.is k, h.small);
+}
+
+-- both bounds of an extinction elevation are heads
+pub extinctions : (x : EvapSource) (a b d e : ℤ) → IsEvapValid x → IsHeadPair x.surface a b → IsHeadPair x.depth d e → IsHead (a -ℤ e) × IsHead (b -ℤ d)
+extinctions x a b d e v surface depth =
+    let range = head_pair_range x.surface a b v.surface surface in
+    let order = floor_below (number x.surface) 9 a b surface.floor surface.ceiling in
+    let deep = floor_below (number x.depth) 9 d e depth.floor depth.ceiling in
+    let some = floor_not_negative (number x.depth) d (not_negative x.depth v.depth) depth.floor in
+    let floor = one_floor (number x.surface) (number x.surface) 9 v.floor a (record { same = refl }) v.is_floor surface.floor in
+    let ceiling = one_ceiling (number x.depth) (number x.depth) 9 v.ceiling e (record { same = refl }) v.is_ceiling depth.ceiling in (
+      record { above = omega (arith, ints, v.extinction, floor, ceiling); below = omega (arith, ints, deep, some, range.0.below) },
+      record { above = omega (arith, ints, v.extinction, floor, ceiling, order, deep); below = omega (arith, ints, some, range.1.below) },
+    )
+
+pub units_64 : (z : ℤ) → IsDepthUnits z → FitsSigned w64 z
+units_64 z h = omega (arith, ints, h.above, h.below)

@@ -2,8 +2,7 @@
 use Rattle.problem_builder.proofs.Common.{Bool, cond, Some, None, ◌≡◌, ℕ, ◌+◌, ◌<◌, ◌⊎◌, inl, inr, true, false, refl, sym, ap, ◌∙◌, ◌==◌, none-some, Axis}
 use Rattle.problem_builder.proofs.Common.{Vertical, Face, Grid, stride, has_after, face_after, FlowModel, layer_size, delr_at, delc_at, thickness}
 use Rattle.problem_builder.proofs.Common.{bed_thickness, vkcb_at, bottom_at, lowest, thick_positive, IsBedValid, Span, IsBed, Quotient, vertical_of}
-use Rattle.problem_builder.proofs.Common.{resistance_sum, face_term, area_term, bed_term, vertical_half_term, IsBedOf, IsNoBed, layer_half}
-use Rattle.conductance_bounds.proofs.LayerBounds.{is_some, is_zero}
+use Rattle.problem_builder.proofs.Common.{resistance_sum, face_term, area_term, bed_term, vertical_half_term, IsBedOf, IsNoBed, layer_half, is_some, is_zero}
 use Rattle.problem_builder.proofs.Members.{some_same}
 
 tests : (m : FlowModel) (a : ℕ) (t : Span) → IsBedOf m a t ⊎ IsNoBed m a t → (t.lo.m == 0) ≡ ((bed_thickness m a).num == 0)

@@ -1,8 +1,67 @@
 -- Lists of a cell's entries, put together from their kinds.
-use Rattle.problem_builder.proofs.Common.{◌≡◌, ℕ, Option, List, [], ◌∷◌, ◌++◌, map, sym, ap, ◌∙◌, subst, option_to_list, AllZip, Dec, Bound, Flow, Fixed, Face}
-use Rattle.problem_builder.proofs.Common.{FlowModel, TimeStep, FixedSource, FlowSource, ToConstant, ToGeneral, FromStorage, Pumped, Received, Thicknesses}
-use Rattle.problem_builder.proofs.Common.{IsConstant, IsFixed, IsFlow, IsReceived, IsGeneralSource, IsWellSource, BothOrNone}
-use Rattle.problem_builder.proofs.Pushed.{AllZip-join, AllZip-option}
+use Rattle.problem_builder.proofs.Common.{◌≡◌, ℕ, Option, List, [], ◌∷◌, ◌++◌, map, sym, ap, ◌∙◌, subst, ◌+◌, ◌<◌, Bool, true, false, cond, Some, None, length}
+use Rattle.problem_builder.proofs.Common.{get_or, take, refl, option_to_list, AllZip, filter_map, cons_option, Dec, Bound, Flow, Fixed, Face, FlowModel}
+use Rattle.problem_builder.proofs.Common.{TimeStep, FixedSource, FlowSource, ToConstant, ToGeneral, FromStorage, Pumped, Received, through, Thicknesses}
+use Rattle.problem_builder.proofs.Common.{IsConstant, IsFixed, IsFlow, IsReceived, IsGeneralSource, IsWellSource, BothOrNone, take_more, filter_map-append}
+use Rattle.problem_builder.proofs.Common.{cond-true}
+
+-- Loops that push what there is.
+as_list : {Y : Type 0} (o : Option Y) → cons_option o [] ≡ option_to_list o
+as_list None = refl
+as_list (Some y) = refl
+
+one_item : {X Y : Type 0} (h : X → Option Y) (x : X) → filter_map h (x ∷ []) ≡ option_to_list (h x)
+one_item h x = as_list (h x)
+
+filter_map_push : {X Y : Type 0} (h : X → Option Y) (xs : List X) (x : X) → filter_map h (xs ++ x ∷ []) ≡ filter_map h xs ++ option_to_list (h x)
+filter_map_push h xs x = filter_map-append h xs (x ∷ []) ∙ ap (λ ys. filter_map h xs ++ ys) (one_item h x)
+
+pub AllZip-join : {X Y : Type 0} (R : X → Y → Type 0) (xs : List X) (ys : List Y) (us : List X) (vs : List Y) → AllZip R xs ys → AllZip R us vs → AllZip R (xs ++ us) (ys ++ vs)
+AllZip-join R [] [] us vs h k = k
+AllZip-join R [] (y ∷ ys) us vs h k = absurd h
+AllZip-join R (x ∷ xs) [] us vs h k = absurd h
+AllZip-join R (x ∷ xs) (y ∷ ys) us vs h k = (h.0, AllZip-join R xs ys us vs h.1 k)
+
+pub AllZip-option : {X Y : Type 0} (R : X → Y → Type 0) (o : Option X) (p : Option Y) → BothOrNone R o p → AllZip R (option_to_list o) (option_to_list p)
+AllZip-option R None None h = tt
+AllZip-option R None (Some y) h = absurd h
+AllZip-option R (Some x) None h = absurd h
+AllZip-option R (Some x) (Some y) h = (h, tt)
+
+-- a list with what one more item of the other list is, if it is one
+pub zip_push : {X Y Z : Type 0} (R : Y → Z → Type 0) (h : X → Option Z) (xs : List X) (x : X) (front new : List Y) (o : Option Y) →
+    new ≡ front ++ option_to_list o → BothOrNone R o (h x) → AllZip R front (filter_map h xs) → AllZip R new (filter_map h (xs ++ x ∷ []))
+zip_push R h xs x front new o e both so_far =
+    rw (e, filter_map_push h xs x) (AllZip-join R front (filter_map h xs) (option_to_list o) (option_to_list (h x)) so_far (AllZip-option R o (h x) both))
+
+-- the step of a loop that pushes what an item of the list is, if it is one
+pub zip_next : {X Y Z : Type 0} (R : Y → Z → Type 0) (h : X → Option Z) (xs : List X) (i : ℕ) (d : X) (front new : List Y) (o : Option Y) → i < length xs →
+    new ≡ front ++ option_to_list o → BothOrNone R o (h (get_or xs i d)) → AllZip R front (filter_map h (take i xs)) → AllZip R new (filter_map h (take (i + 1) xs))
+zip_next R h xs i d front new o lt e both so_far = rw (take_more xs i d lt) (zip_push R h (take i xs) (get_or xs i d) front new o e both so_far)
+
+-- what is made of a face that passes a test
+pub both_through : {X : Type 0} (R : X → Face → Type 0) (test : ℕ → Bool) (o : Option Face) (f : Face) (x : X) → o ≡ Some f → test f.end ≡ true → R x f → BothOrNone R (Some x) (through test o)
+both_through R test o f x e t r =
+    let same : through test o ≡ Some f = ap (through test) e ∙ cond-true (test f.end) (Some f) None t in
+    subst (BothOrNone R (Some x)) (sym same) r
+
+-- what is made of an optional item that is one
+pub both_some : {X Y Z : Type 0} (R : X → Y → Type 0) (S : Z → Y → Type 0) (o : Option X) (r : Option Y) (x : X) (z : Z) → o ≡ Some x → ((y : Y) → R x y → S z y) → BothOrNone R o r → BothOrNone S (Some z) r
+both_some R S o None x z e f h = absurd (subst (λ q. BothOrNone R q None) e h)
+both_some R S o (Some y) x z e f h = f y (subst (λ q. BothOrNone R q (Some y)) e h)
+
+-- what stands unless a test holds
+pub both_unless : {X Y : Type 0} (R : X → Y → Type 0) (b : Bool) (x : X) (y : Y) → b ≡ false → R x y → BothOrNone R (Some x) (cond b None (Some y))
+both_unless R b x y e h = subst (λ q. BothOrNone R (Some x) (cond q None (Some y))) (sym e) h
+
+-- the one optional item of a list
+pub zip_one : {X Y : Type 0} (R : X → Y → Type 0) (xs : List X) (o : Option X) (p : Option Y) → xs ≡ [] ++ option_to_list o → BothOrNone R o p → AllZip R xs (option_to_list p)
+zip_one R xs o p e h = subst (λ ys. AllZip R ys (option_to_list p)) (sym e) (AllZip-option R o p h)
+
+-- what is made of an optional item that is none
+pub both_none : {X Y Z : Type 0} (R : X → Y → Type 0) (S : Z → Y → Type 0) (o : Option X) (r : Option Y) → o ≡ None → BothOrNone R o r → BothOrNone S None r
+both_none R S o None e h = tt
+both_none R S o (Some y) e h = absurd (subst (λ q. BothOrNone R q (Some y)) e h)
 
 pub AllZip-weaker : {X Y : Type 0} (R S : X → Y → Type 0) → ((x : X) (y : Y) → R x y → S x y) → (xs : List X) (ys : List Y) → AllZip R xs ys → AllZip S xs ys
 AllZip-weaker R S h [] [] k = tt

@@ -1,17 +1,13 @@
 mod Common
-pub mod Pushed
 pub mod Zipped
 pub mod Appended
-mod KeptEntries
 pub mod HeadRange
-pub mod ActiveCells
 pub mod FacePairs
 pub mod Joined
 pub mod Fits
 pub mod Steps
 pub mod OneBound
 pub mod Members
-pub mod Bounds
 pub mod OneCell
 pub mod OneProblem
 pub mod ValidEntries
@@ -19,25 +15,16 @@ pub mod Sound
 pub mod CellFits
 pub mod Problems
 pub mod CellEnclosed
-pub mod StepEnclosed
 pub mod TimesOf
-pub mod GivenValid
 pub mod GivenRange
 pub mod BoundsOf
-pub mod Named
-pub mod Filling
-pub mod Starts
-pub mod OneHeads
 pub mod NamedHeads
 pub mod Indexing
 pub mod CellTables
 pub mod Covered
 pub mod Elevations
 pub mod Halves
-pub mod TablesMade
-pub mod PeriodsOf
 pub mod ChosenRates
-pub mod Depths
 pub mod PeriodMade
 pub mod StorageParts
 pub mod EvenSteps

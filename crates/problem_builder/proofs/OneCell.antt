@@ -9,9 +9,8 @@ use Rattle.problem_builder.proofs.Common.{passing_are, Term, Number, Within, Quo
 use Rattle.problem_builder.proofs.Common.{face_term, storage_term, evap_term, recharge_term, column_k_term, vertical_k_at, area_term, bed_term, Thicknesses}
 use Rattle.problem_builder.proofs.Common.{AreThicknesses, IsKeptPair, IsGivenOrKept, IsConstantPair, IsRiver, IsDrain, IsEvap, IsFlow, IsLink, IsFixed}
 use Rattle.problem_builder.proofs.Common.{IsCellOf}
-use Rattle.problem_builder.proofs.ActiveCells.{variable_active, constant_active}
+use Rattle.problem_builder.proofs.Members.{variable_active, constant_active, fixed_source}
 use Rattle.problem_builder.proofs.FacePairs.{face_range, face_active}
-use Rattle.problem_builder.proofs.Members.{fixed_source}
 use Rattle.problem_builder.proofs.OneBound.{Both, BothSigned, one_span, one_capped, one_capped_flow, one_head_pair, one_part, one_given}
 use Rattle.problem_builder.proofs.Zipped.{zip_one_list}
 

@@ -6,7 +6,7 @@ use Rattle.problem_builder.proofs.Common.{passing_have, end_within, end_other, f
 use Rattle.problem_builder.proofs.Common.{at_rank, is_at, IsAt, rank_few, below_is, index_is, face_term, Thicknesses, IsLink, IsCellOf, AreGridHeads, IsTimeOf}
 use Rattle.problem_builder.proofs.Common.{AreCells}
 use Rattle.cell_balance.proofs.Zips.{AllZip-at, AllZip-length}
-use Rattle.problem_builder.proofs.Bounds.{BoundsEnclose}
+use Rattle.problem_builder.proofs.CellEnclosed.{BoundsEnclose}
 use Rattle.problem_builder.proofs.CellFits.{cell_fits}
 use Rattle.problem_builder.proofs.OneBound.{one_capped}
 use Rattle.problem_builder.proofs.Zipped.{left_of, right_of, zip_ordered}

@@ -4,7 +4,7 @@ use Rattle.problem_builder.proofs.Common.{All-push, Bound, Entries, FlowModel, T
 use Rattle.problem_builder.proofs.Common.{fails_next, below_is, IsCellOf, fault_of, AreCells, IsCellFault, IsFirstFault, Inputs, widths_of}
 use Rattle.problem_builder.specs.declared.fault.BuildFault.{BuildFault}
 use Rattle.problem_builder.specs.declared.fault.BuildFault.TheVariants.{NoBound as Refused, Memory}
-use Rattle.problem_builder.proofs.Pushed.{AllZip-join}
+use Rattle.problem_builder.proofs.Joined.{AllZip-join}
 
 module _ (m : FlowModel) (w : Thicknesses) (s : ℕ) (at : TimeStep) (old : List Bound) where
   abbrev Is : Entries → ℕ → Type 0

@@ -1,8 +1,7 @@
 -- The times of a model: a step of one of its periods.
 use Rattle.problem_builder.proofs.Common.{◌-◌, inl, inr, List, [], ◌∷◌, length, refl, subst, arith, Contains, flat_map, range_with_len, FlowModel, TimeStep}
 use Rattle.problem_builder.proofs.Common.{period_at, no_period, steps_of, IsModel, In, map-In, IsTimeOf, times}
-use Rattle.problem_builder.proofs.Members.{In-append, range-In}
-use Rattle.problem_builder.proofs.Named.{In-Contains}
+use Rattle.problem_builder.proofs.Members.{In-append, range-In, In-Contains}
 
 pub flat-In : {X Y : Type 0} (f : X → List Y) (xs : List X) (y : Y) → In (flat_map f xs) y → (x : X) × In xs x × In (f x) y
 flat-In f [] y i = absurd i

@@ -20,9 +20,8 @@ use Rattle.model_types.specs.declared.time_steps.TimeStep.{TimeStep}
 use Rattle.model_types.specs.{period_at, index_of, EvapSource, FixedSource, FlowSource, RiverSource, DrainSource, variable_faces, flow_sources, fixed_sources}
 use Rattle.model_types.specs.{river_sources, drain_sources, evap_sources, ToConstant, ToGeneral, FromStorage, Pumped, Received}
 use Rattle.conductance_bounds.specs.{IsCapped, face_term, storage_term, evap_term}
-use Rattle.problem_builder.specs.InputBounds.{IsCond, IsWellPair, IsHeadPair, IsRechargePair}
+use Rattle.problem_builder.specs.GridHeads.{IsCond, IsWellPair, IsHeadPair, IsRechargePair, IsConstantPair}
 use Rattle.problem_builder.specs.Widths.{Thicknesses}
-use Rattle.problem_builder.specs.GridHeads.{IsConstantPair}
 
 -- Entries, by the numbers of a list.
 

@@ -1,5 +1,5 @@
 -- The problem of a time step, and the refusal of a step that has none.
-use Rattle.std.specs.Prelude.{◌≡◌, ℕ, ◌<◌, true, List, All, Some, None, ◌^◌, ◌&&◌, ◌||◌, ◌==◌, nat_le, Bool, false, cond, map, Option}
+use Rattle.std.specs.Prelude.{◌≡◌, ℕ, ◌<◌, true, List, All, Some, None, ◌^◌, ◌&&◌, ◌||◌, ◌==◌, nat_le, Bool, false, cond, map, Option, IfSome}
 use Rattle.std.specs.List.{AllZip, list_any}
 use Rattle.step_problem.specs.declared.heads.Bound.{Bound}
 use Rattle.step_problem.specs.declared.heads.Side.TheVariants.{Low}
@@ -8,7 +8,7 @@ use Rattle.step_problem.specs.declared.place.Place.TheVariants.{Cell}
 use Rattle.step_problem.specs.Entries.{Entries}
 use Rattle.model_types.specs.declared.model.FlowModel.{FlowModel}
 use Rattle.model_types.specs.declared.time_steps.TimeStep.{TimeStep}
-use Rattle.model_types.specs.{cell_count, is_variable, variable_below, variable_cells, period_at}
+use Rattle.model_types.specs.{cell_count, is_variable, variable_below, variable_cells, period_at, is_active}
 use Rattle.decimal_input.specs.{Fraction}
 use Rattle.cell_balance.specs.{EnclosesStep}
 use Rattle.flow_equations.specs.{exact_step}
@@ -16,12 +16,14 @@ use Rattle.problem_builder.specs.declared.fault.BuildFault.{BuildFault}
 use Rattle.problem_builder.specs.declared.fault.BuildFault.TheVariants.{NoBound as Refused, Memory}
 use Rattle.problem_builder.specs.Widths.{Thicknesses, AreThicknesses}
 use Rattle.problem_builder.specs.Cells.{IsCellOf}
-use Rattle.problem_builder.specs.GridHeads.{HeadsEnclose, IsActive, IsNamed}
-use Rattle.problem_builder.specs.StepTables.{HasOldHeads}
+use Rattle.problem_builder.specs.GridHeads.{HeadsEnclose, IsActive, IsNamed, HasOldHeads, IsStart}
 use Rattle.step_problem.specs.declared.entry.FixedKind.{FixedKind}
 use Rattle.step_problem.specs.declared.entry.FixedKind.TheVariants.{Constant, General, Storage}
 use Rattle.step_problem.specs.declared.refusal.StepRefusal.TheVariants.{ConductanceTooSmall, ConductanceTooLarge, FlowTooLarge}
-use Rattle.step_problem.specs.{number_of, conductance_of, flow_of}
+use Rattle.step_problem.specs.{number_of, conductance_of, flow_of, IsHead}
+use Rattle.model_types.specs.declared.face.Face.{Face}
+use Rattle.conductance_bounds.specs.{IsCapped, face_term}
+use Rattle.problem_builder.specs.Tables.{Inputs, widths_of, pair_at}
 
 -- The refusals of a cell, in their order.
 -- a branch to a constant-head neighbour
@@ -85,3 +87,43 @@ module _ (m : FlowModel) (s : ℕ) (at : TimeStep) (old : List Bound) where
   abbrev pub IsBuildFault : BuildFault → Type 0
   IsBuildFault (Refused fault) = HasNoProblem fault
   IsBuildFault Memory = Unit {0}
+
+-- Facts that the functions of the builder pass to each other on the way to a cell.
+-- a cell of the grid that is variable
+pub record IsVariableCell (i : Inputs) (c : ℕ) : Type 0 where
+  pub within : c < cell_count i.model.grid
+  pub variable : is_variable i.model i.at.period c ≡ true
+
+-- a face, if there is one, lies in the grid, and the table has its conductance if the neighbour is active
+abbrev pub HasPair : Inputs → Option Face → Type 0
+HasPair i x =
+    IfSome x (λ f. (f.first < cell_count i.model.grid) × (f.end < cell_count i.model.grid)
+    × (is_active i.model f.end ≡ true →
+    IsCapped (face_term i.model (widths_of i.tables).thick (widths_of i.tables).bed f.axis f.first) i.tables.digits
+    (pair_at i.tables f.axis f.first).lo (pair_at i.tables f.axis f.first).hi))
+
+-- a cell without a refusal, and the refusal of a cell
+pub record IsCheckedCell (i : Inputs) (c : ℕ) (e : Entries) : Type 0 where
+  pub is : IsCellOf i.model (widths_of i.tables) i.tables.digits i.at i.old e c
+  pub sound : fault_of e ≡ None
+
+abbrev pub IsCellFault : Inputs → ℕ → BuildFault → Type 0
+IsCellFault i c Memory = Unit {0}
+IsCellFault i c (Refused fault) = IsRefused i.model (widths_of i.tables) i.tables.digits i.at i.old c fault
+
+-- the refusal of the least variable cell that has one
+pub record IsLeastFault (i : Inputs) (fault : NoBound) : Type 0 where
+  pub cell : ℕ
+  pub is_cell : IsVariableCell i cell
+  pub before : List Entries
+  pub cells_before : AreCells i.model (widths_of i.tables) i.tables.digits i.at i.old cell before
+  pub refused : IsRefused i.model (widths_of i.tables) i.tables.digits i.at i.old cell fault
+
+abbrev pub IsFirstFault : Inputs → BuildFault → Type 0
+IsFirstFault i Memory = Unit {0}
+IsFirstFault i (Refused fault) = IsLeastFault i fault
+
+-- a bound of STRT, in range
+pub record IsStartInRange (m : FlowModel) (c : ℕ) (b : Bound) : Type 0 where
+  pub start : IsStart m c b
+  pub range : IsHead b.low × IsHead b.high

@@ -1,5 +1,5 @@
 -- The contents of the builder's tables.
-use Rattle.std.specs.Prelude.{◌≡◌, ℕ, ◌≤◌, pos, List, length, slice_index_or, Option, Some, None, ◌-◌}
+use Rattle.std.specs.Prelude.{◌≡◌, ℕ, ◌≤◌, pos, List, length, slice_index_or, Option, Some, None, ◌-◌, Bool, true, not, take}
 use Rattle.step_problem.specs.declared.heads.Bound.{Bound}
 use Rattle.step_problem.specs.{no_bound}
 use Rattle.scaled_decimal.specs.declared.decimal.Sd.{Sd}
@@ -8,18 +8,47 @@ use Rattle.model_types.specs.declared.face.Axis.TheVariants.{Row, Column, Vertic
 use Rattle.model_types.specs.declared.given_heads.Kind.TheVariants.{NoFlow}
 use Rattle.model_types.specs.declared.model.FlowModel.{FlowModel}
 use Rattle.model_types.specs.declared.time_steps.TimeStep.{TimeStep}
-use Rattle.model_types.specs.{cell_count, HasSize, period_at, local_entries, IsModel}
+use Rattle.model_types.specs.{cell_count, HasSize, period_at, local_entries, IsModel, kind_of, index_of, given_in, last_given, is_active, is_highest}
+use Rattle.model_types.specs.{recharge_at, evap_at}
 use Rattle.conductance_bounds.specs.declared.span.Span.{Span}
 use Rattle.conductance_bounds.specs.declared.pair.Pair.{Pair}
 use Rattle.problem_builder.specs.declared.tables.Tables.{Tables}
 use Rattle.problem_builder.specs.declared.index.PeriodTables.{PeriodTables}
 use Rattle.problem_builder.specs.declared.step.StepTables.{StepTables}
-use Rattle.problem_builder.specs.Widths.{Thicknesses, AreThicknesses, IsThickness, IsBedBelow, HasConductance}
-use Rattle.problem_builder.specs.GridHeads.{AreConstantHeads, AreGridHeads}
-use Rattle.problem_builder.specs.Filled.{Filled}
-use Rattle.problem_builder.specs.PeriodTables.{IsKind, IsIndex, IsNamed, IsKept, IsRecharged, IsEvaporated}
+use Rattle.problem_builder.specs.Widths.{Thicknesses, AreThicknesses, IsThickness, IsBedBelow, HasConductance, Filled, BothOrNone}
+use Rattle.problem_builder.specs.GridHeads.{AreConstantHeads, AreGridHeads, IsTimeOf, AreFactorsOf, HasEvenSteps, HasEvenStorage, IsKeptPair, IsRechargePair}
 use Rattle.problem_builder.specs.LocalBounds.{AreLocalBounds, local_in}
-use Rattle.problem_builder.specs.StepTables.{IsTimeOf, AreFactorsOf, HasEvenSteps, HasEvenStorage}
+use Rattle.step_problem.specs.declared.entry.Evap.{Evap}
+use Rattle.conductance_bounds.specs.declared.pair.FlowPair.{FlowPair}
+use Rattle.model_types.specs.declared.entry.Given.{Given}
+use Rattle.model_types.specs.declared.given_heads.Kind.{Kind}
+use Rattle.problem_builder.specs.Cells.{IsEvap}
+
+-- The contents of the tables of a stress period, cell by cell.
+abbrev pub IsKind : FlowModel → ℕ → ℕ → Kind → Type 0
+IsKind m p c k = k ≡ kind_of m p c
+
+abbrev pub IsIndex : FlowModel → ℕ → ℕ → ℕ → Type 0
+IsIndex m p c i = i ≡ index_of m p c
+
+abbrev pub IsNamed : List Given → ℕ → Option Given → Type 0
+IsNamed list c x = x ≡ given_in list c
+
+-- the head that a constant-head cell keeps after p periods
+abbrev pub IsKept : FlowModel → ℕ → ℕ → Bound → Type 0
+IsKept m p c b = is_active m c ≡ true → IsKeptPair m c (last_given (take p m.periods) c) b.low b.high
+
+-- whether a cell above is active
+abbrev pub IsCovered : FlowModel → ℕ → Bool → Type 0
+IsCovered m c b = b ≡ not (is_highest m c)
+
+-- the recharge that a cell receives
+abbrev pub IsRecharged : FlowModel → ℕ → ℕ → ℕ → Option FlowPair → Type 0
+IsRecharged m s p c x = BothOrNone (λ pair rate. IsRechargePair m s c rate pair.lo pair.hi) x (recharge_at m p c)
+
+-- the evapotranspiration of an active cell
+abbrev pub IsEvaporated : FlowModel → ℕ → ℕ → ℕ → Option Evap → Type 0
+IsEvaporated m s p c x = is_active m c ≡ true → BothOrNone (IsEvap m s c) x (evap_at m p c)
 
 abbrev pub no_pair : Pair
 no_pair = record { lo = 0; hi = 0 }

@@ -1,5 +1,5 @@
 -- The contents of the tables of thicknesses.
-use Rattle.std.specs.Prelude.{◌≡◌, ℕ, ◌+◌, ◌<◌, ◌⊎◌, true}
+use Rattle.std.specs.Prelude.{◌≡◌, ℕ, ◌+◌, ◌<◌, ◌⊎◌, true, List, Option, None, Some, length, slice_index_or}
 use Rattle.model_types.specs.declared.model.FlowModel.{FlowModel}
 use Rattle.model_types.specs.declared.face.Axis.{Axis}
 use Rattle.model_types.specs.{stride, has_after, cell_count, layer_size, is_active, top_at, bottom_at, lowest, bed_thickness, delr_at, delc_at, hk_at, hani_at}
@@ -67,3 +67,16 @@ pub record Thicknesses : Type 0 where
 -- the thicknesses of a model's active cells, and of the beds between two of them
 abbrev pub AreThicknesses : FlowModel → Thicknesses → Type 0
 AreThicknesses m w = AreSpanned m w.thick w.bed
+
+-- Tables that are filled cell by cell, and optional items.
+-- an item for each cell below n, for which P holds
+pub record Filled {X : Type 0} (P : ℕ → X → Type 0) (none : X) (n : ℕ) (xs : List X) : Type 0 where
+  pub count : length xs ≡ n
+  pub each : (c : ℕ) → c < n → P c (slice_index_or xs c none)
+
+-- two optional items are related, or both are None
+abbrev pub BothOrNone : {X Y : Type 0} → (X → Y → Type 0) → Option X → Option Y → Type 0
+BothOrNone R None None = Unit {0}
+BothOrNone R None (Some y) = ⊥
+BothOrNone R (Some x) None = ⊥
+BothOrNone R (Some x) (Some y) = R x y

@@ -1,8 +1,7 @@
 // The cells that receive recharge, and those that evaporate.
 ghost use Rattle.std.specs.Prelude.{◌≡◌, ◌+◌, ◌<◌, ◌==◌, ◌&&◌, ◌||◌, false, IfOk};
 ghost use Rattle.model_types.specs.{cell_count, layer_of, place_in_layer, HasSize, int_at, is_active, is_int, is_highest, is_chosen};
-ghost use Rattle.problem_builder.specs.Filled.{Filled};
-ghost use Rattle.problem_builder.specs.{IsCovered};
+ghost use Rattle.problem_builder.specs.{Filled, IsCovered};
 
 use model_types::FlowModel;
 use model_types::layers::int_at;

@@ -4,7 +4,7 @@ ghost use Rattle.model_types.specs.declared.entry.Entry.{Entry as DeclaredEntry}
 ghost use Rattle.model_types.specs.{IsEntryValid, as_well, as_river, as_drain, as_general};
 ghost use Rattle.problem_builder.specs.Cells.{IsRiver, IsDrain};
 ghost use Rattle.problem_builder.specs.LocalBounds.{AreLocalBounds, IsWellSource, IsGeneralSource, no_bounds};
-ghost use Rattle.problem_builder.specs.Filled.{BothOrNone};
+ghost use Rattle.problem_builder.specs.Widths.{BothOrNone};
 
 use crate::branches::{constant_flow, known_head, push_some};
 use crate::start::{cond_pair, head_pair, well_pair};

@@ -3,8 +3,7 @@ ghost use Rattle.std.specs.Prelude.{◌≡◌, ◌<◌, ◌≤◌, ◌-ℤ◌, f
 ghost use Rattle.decimal_input.specs.{number};
 ghost use Rattle.step_problem.specs.{IsHead};
 ghost use Rattle.model_types.specs.{cell_count, is_active, is_highest, evaporates, evap_source, IsModel, IsEvapValid};
-ghost use Rattle.problem_builder.specs.{IsEvap, IsCovered, IsEvaporated};
-ghost use Rattle.problem_builder.specs.Filled.{Filled};
+ghost use Rattle.problem_builder.specs.{IsEvap, IsCovered, IsEvaporated, Filled};
 
 use crate::chosen::{is_chosen, is_uncovered};
 use crate::periods::stress_period;

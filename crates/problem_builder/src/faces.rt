@@ -4,8 +4,8 @@ ghost use Rattle.conductance_bounds.specs.declared.span.Span.{Span as Interval};
 ghost use Rattle.conductance_bounds.specs.{IsHalf, IsColHalf, IsVertHalf, IsCapped, face_term};
 ghost use Rattle.model_types.specs.declared.face.Axis.TheVariants.{Row, Column, Vertical};
 ghost use Rattle.model_types.specs.{cell_count, has_after, stride, HasSize, is_active, is_ratio, IsModel};
-ghost use Rattle.problem_builder.specs.Filled.{Filled};
-ghost use Rattle.problem_builder.specs.{no_span, no_pair, span_in, IsThickness, IsBedBelow, IsBranch, HasConductance, row_half, column_half, layer_half};
+ghost use Rattle.problem_builder.specs.{Filled, no_span, no_pair, span_in, IsThickness, IsBedBelow, IsBranch, HasConductance, row_half, column_half};
+ghost use Rattle.problem_builder.specs.{layer_half};
 
 use crate::start::capped_pair;
 use conductance_bounds::{

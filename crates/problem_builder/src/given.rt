@@ -2,9 +2,8 @@
 ghost use Rattle.std.specs.Prelude.{◌≡◌, ◌<◌, All, None, IfOk, IfSome};
 ghost use Rattle.step_problem.specs.{no_bound};
 ghost use Rattle.model_types.specs.{cell_count, dec_at, IsHeadNumber, given_heads, IsModel};
-ghost use Rattle.problem_builder.specs.{IsKeptPair, IsKept};
-ghost use Rattle.problem_builder.specs.Filled.{Filled};
-ghost use Rattle.problem_builder.specs.PeriodTables.{IsNamed};
+ghost use Rattle.problem_builder.specs.{IsKeptPair, IsKept, Filled};
+ghost use Rattle.problem_builder.specs.Tables.{IsNamed};
 
 use crate::start::{NO_BOUND, head_pair};
 use model_types::layers::dec_at;

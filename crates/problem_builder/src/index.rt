@@ -2,8 +2,7 @@
 ghost use Rattle.std.specs.Prelude.{◌≡◌, ◌<◌, IfOk, ◌+◌, ◌≤◌, length, slice_index_or};
 ghost use Rattle.model_types.specs.declared.given_heads.Kind.TheVariants.{NoFlow};
 ghost use Rattle.model_types.specs.{cell_count, HasSize, is_variable, given_heads, IsModel};
-ghost use Rattle.problem_builder.specs.Filled.{Filled};
-ghost use Rattle.problem_builder.specs.{IsIndex, AreTables, ArePeriodTables, AreEvenStorages, bound_in, item_in, span_in};
+ghost use Rattle.problem_builder.specs.{Filled, IsIndex, AreTables, ArePeriodTables, AreEvenStorages, bound_in, item_in, span_in};
 
 use crate::chosen::cover_flags;
 use crate::evaporation::evaps;

@@ -28,7 +28,7 @@ pub fn constant_pairs()
 {}
 
 /// The bounds of STRT are heads in range.
-#[tactic(auto, using(crate::proofs::Starts::starts_fit))]
+#[tactic(auto, using(crate::proofs::CellFits::starts_fit))]
 pub fn start_heads_fit()
     ensures { StartHeadsFit }
 {}

@@ -2,8 +2,7 @@
 ghost use Rattle.std.specs.Prelude.{◌≡◌, ◌<◌, ◌≤◌, false, IfOk, IfSome, None, length};
 ghost use Rattle.decimal_input.specs.{IsDec};
 ghost use Rattle.model_types.specs.{cell_count, is_highest, recharge_at, IsModel};
-ghost use Rattle.problem_builder.specs.Filled.{Filled};
-ghost use Rattle.problem_builder.specs.{IsCovered, IsRecharged, IsRechargePair};
+ghost use Rattle.problem_builder.specs.{Filled, IsCovered, IsRecharged, IsRechargePair};
 
 use crate::chosen::{is_chosen, is_uncovered};
 use crate::periods::stress_period;

@@ -4,8 +4,7 @@ ghost use Rattle.decimal_input.specs.{size};
 ghost use Rattle.conductance_bounds.specs.{storage_term, IsUsable, IsGrown, IsCapped};
 ghost use Rattle.model_types.specs.declared.given_heads.Kind.TheVariants.{NoFlow};
 ghost use Rattle.model_types.specs.{cell_count, is_active, period_at, IsModel};
-ghost use Rattle.problem_builder.specs.Filled.{Filled};
-ghost use Rattle.problem_builder.specs.{IsTimeOf, AreFactorsOf, AreEvenFactors, HasEvenStorage, IsKind, AreTables, AreEvenStorages, span_in};
+ghost use Rattle.problem_builder.specs.{Filled, IsTimeOf, AreFactorsOf, AreEvenFactors, HasEvenStorage, IsKind, AreTables, AreEvenStorages, span_in};
 
 use crate::faces::{NO_PAIR, span_at};
 use crate::periods::stress_period;

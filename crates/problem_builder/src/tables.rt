@@ -1,8 +1,7 @@
 // The tables that all time steps of a run share.
 ghost use Rattle.std.specs.Prelude.{◌≤◌, IfOk, ◌≡◌, ◌+◌, ◌<◌, ◌↔◌, true, false, IsTrue};
 ghost use Rattle.model_types.specs.{IsModel, cell_count, layer_size, is_active, has_bed, lowest, bottom_at, bed_thickness};
-ghost use Rattle.problem_builder.specs.{AreTables, no_span, IsThickness, IsBedBelow};
-ghost use Rattle.problem_builder.specs.Filled.{Filled};
+ghost use Rattle.problem_builder.specs.{AreTables, no_span, IsThickness, IsBedBelow, Filled};
 
 use crate::faces::pairs;
 use conductance_bounds::{Pair, Span, thickness};

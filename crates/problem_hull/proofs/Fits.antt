@@ -8,7 +8,7 @@ use Rattle.step_problem.specs.declared.entry.River.{River}
 use Rattle.step_problem.specs.declared.entry.Drain.{Drain}
 use Rattle.step_problem.specs.declared.entry.Evap.{Evap}
 use Rattle.problem_hull.proofs.Threes.{three_lengths, three_within, three_all}
-use Rattle.problem_hull.proofs.Links.{links_at, ids_at}
+use Rattle.problem_hull.proofs.Shapes.{links_at, ids_at}
 
 min_head : (a c : ℤ) → IsHead a → IsHead c → IsHead (int_min a c)
 min_head a c f g = record { above = omega (arith, ints, clamps, f.above, g.above); below = omega (arith, ints, clamps, f.below, g.below) }

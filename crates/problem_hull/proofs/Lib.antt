@@ -1,7 +1,5 @@
 mod Common
 pub mod Threes
-pub mod Unlike
-pub mod Links
 pub mod Fits
 pub mod SmallSums
 pub mod Shapes

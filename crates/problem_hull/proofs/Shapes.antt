@@ -1,8 +1,22 @@
 -- Two problems have a hull exactly where they are alike.
-use Rattle.problem_hull.proofs.Common.{◌≡◌, ◌↔◌, [], ◌∷◌, refl, ap, List, map, Entries, AllThree, none, next, IsHullOf, IsCellHull, IsHull, AreAlike}
+use Rattle.problem_hull.proofs.Common.{◌≡◌, ◌↔◌, [], ◌∷◌, refl, ap, List, map, ℕ, zero, suc, Entries, AllThree, IsHullOf, IsCellHull, IsHull, AreAlike}
 use Rattle.problem_hull.proofs.Common.{link_shape, flow_shape, fixed_shape, river_shape, drain_shape, evap_shape, cell_shape, link_hull, flow_hull, fixed_hull}
-use Rattle.problem_hull.proofs.Common.{river_hull, drain_hull, evap_hull}
-use Rattle.problem_hull.proofs.Links.{links_are}
+use Rattle.problem_hull.proofs.Common.{river_hull, drain_hull, evap_hull, none, next, Link, entries_at}
+
+-- A hull keeps the links and the cell numbers of both problems.
+pub links_are : (a b r : List Link) → AllThree (IsHullOf link_shape link_hull) a b r → (r ≡ a) × (b ≡ a)
+links_are a b r none = (refl, refl)
+links_are a b r (next h hs) = let (e, d) = links_are _ _ _ hs in ((λ i. h.is i ∷ e i), (λ i. h.alike i ∷ d i))
+
+pub links_at : (p q r : List Entries) (c : ℕ) → IsHull p q r → (entries_at r c).links ≡ (entries_at p c).links
+links_at p q r c none = refl
+links_at p q r zero (next h hs) = (links_are _ _ _ h.links).0
+links_at p q r (suc c) (next h hs) = links_at _ _ _ c hs
+
+pub ids_at : (p q r : List Entries) (c : ℕ) → IsHull p q r → (entries_at r c).id ≡ (entries_at p c).id
+ids_at p q r c none = refl
+ids_at p q r zero (next h hs) = h.id
+ids_at p q r (suc c) (next h hs) = ids_at _ _ _ c hs
 
 -- lists that have the same shapes have hulls, if items of the same shape have
 module _ {X : Type 0} (f : X → X) (R : X → X → X → Type 0) where

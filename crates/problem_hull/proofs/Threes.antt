@@ -1,7 +1,9 @@
 -- Three lists that are related place by place.
 use Rattle.problem_hull.proofs.Common.{◌≡◌, ◌+◌, ◌<◌, [], ◌∷◌, ◌++◌, ℕ, zero, suc, arith, List, get_or, length, take, map, All, refl, ap, ◌∙◌, subst, sym}
-use Rattle.problem_hull.proofs.Common.{take_more, get_or-map, AllThree, none, next}
+use Rattle.problem_hull.proofs.Common.{take_more, get_or-map, get_or_default, AllThree, AreAlike, cell_shape, IsUnlike, none, next, Entries, entries_at}
 use Rattle.std.proofs.lemmas.List.Elements.{All-nil, All-cons, All-head, All-tail}
+use Rattle.problem_hull.specs.declared.problem.HullFault.{HullFault}
+use Rattle.problem_hull.specs.declared.problem.HullFault.TheVariants.{NotAlike, NoBound, Memory}
 
 pub three_lengths : {X Y Z : Type 0} (R : X → Y → Z → Type 0) (xs : List X) (ys : List Y) (zs : List Z) → AllThree R xs ys zs → (length ys ≡ length xs) × (length zs ≡ length xs)
 three_lengths R xs ys zs none = (refl, refl)
@@ -46,3 +48,13 @@ three_all R P Q S each xs ys zs (next {x = x} {y = y} {z = z} {xs = us} {ys = vs
 pub unlike_at : {X Y : Type 0} (f : X → Y) (xs ys : List X) (i : ℕ) (x y : X) → i < length xs → i < length ys → x ≡ get_or xs i x → y ≡ get_or ys i y → (f y ≡ f x → ⊥) → map f ys ≡ map f xs → ⊥
 unlike_at f xs ys i x y lt in_ys e d unlike same =
     unlike (ap f d ∙ sym (get_or-map f ys i y (f x) in_ys) ∙ ap (λ l. get_or l i (f x)) same ∙ get_or-map f xs i x (f x) lt ∙ sym (ap f e))
+
+-- What two items lack in common, the lists that they stand in lack too.
+unlike_more : (A B : Type 0) → ((A → ⊥) → B → ⊥) → (e : HullFault) → IsUnlike A e → IsUnlike B e
+unlike_more A B more NotAlike h = more h
+unlike_more A B more (NoBound refusal) h = h
+unlike_more A B more Memory h = h
+
+pub unlike_cells : (p q : List Entries) (c : ℕ) (e : HullFault) → c < length p → c < length q → IsUnlike (cell_shape (entries_at q c) ≡ cell_shape (entries_at p c)) e → IsUnlike (AreAlike p q) e
+unlike_cells p q c e lt below h =
+    unlike_more _ _ (unlike_at cell_shape p q c (entries_at p c) (entries_at q c) lt below (get_or_default p c _ _ lt) (get_or_default q c _ _ below)) e h

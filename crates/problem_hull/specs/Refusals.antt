@@ -8,8 +8,7 @@ use Rattle.step_problem.specs.{number_of, conductance_of, flow_of, IsProblem, en
 use Rattle.step_problem.specs.Entries.{Entries}
 use Rattle.problem_hull.specs.declared.problem.HullFault.{HullFault}
 use Rattle.problem_hull.specs.declared.problem.HullFault.TheVariants.{NotAlike, NoBound as Refused, Memory}
-use Rattle.problem_hull.specs.Shapes.{AreAlike}
-use Rattle.problem_hull.specs.Hulls.{IsHull}
+use Rattle.problem_hull.specs.Hulls.{AreAlike, IsHull}
 
 -- the number of the first sum of a cell that is too large: 22 of its upper conductances, 23 of its constant and deep flows
 unfoldable pub sum_refusal : Entries → Option ℕ

@@ -1,7 +1,7 @@
 // The hull of two entries of one shape.
 ghost use Rattle.std.specs.Prelude.{◌≡◌, MatchOption};
-ghost use Rattle.problem_hull.specs.Shapes.{link_shape, flow_shape, fixed_shape, river_shape, drain_shape, evap_shape};
-ghost use Rattle.problem_hull.specs.Hulls.{IsHullOf, link_hull, flow_hull, fixed_hull, river_hull, drain_hull, evap_hull};
+ghost use Rattle.problem_hull.specs.Hulls.{link_shape, flow_shape, fixed_shape, river_shape, drain_shape, evap_shape, IsHullOf, link_hull, flow_hull};
+ghost use Rattle.problem_hull.specs.Hulls.{fixed_hull, river_hull, drain_hull, evap_hull};
 
 use crate::kinds::{same_fixed_kind, same_flow_kind};
 use step_problem::{Drain, Evap, Fixed, Flow, Link, River};

@@ -1,9 +1,8 @@
 // The hull of two problems.
 ghost use Rattle.std.specs.Prelude.{◌≡◌, IfOk, IfErr, map, ◌<◌, length, ℕ, All, None, MatchOption};
-ghost use Rattle.problem_hull.specs.Hulls.{IsHull, IsHullOf, AllThree, IsCellHull};
+ghost use Rattle.problem_hull.specs.Hulls.{IsHull, IsHullOf, AllThree, IsCellHull, cell_shape, AreAlike};
 ghost use Rattle.problem_hull.specs.Refusals.{IsHullFault, IsUnlike, sum_refusal, IsFirstTooLarge};
 ghost use Rattle.step_problem.specs.{entries_at, RiverFits, EvapFits};
-ghost use Rattle.problem_hull.specs.Shapes.{cell_shape, AreAlike};
 ghost use Rattle.problem_hull.specs.declared.problem.HullFault.TheVariants.{Memory};
 
 use crate::entries::Bounded;

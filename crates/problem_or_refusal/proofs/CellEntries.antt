@@ -8,7 +8,7 @@ use Rattle.problem_or_refusal.proofs.Common.{Holds, Number, IsCond, IsBounded, I
 use Rattle.problem_or_refusal.proofs.Common.{is_chosen, recharge_at, FixedSource, FlowSource, RiverSource, DrainSource, variable_faces, flow_sources}
 use Rattle.problem_or_refusal.proofs.Common.{fixed_sources, river_sources, drain_sources, evap_sources, as_river, as_drain, local_entries, ToConstant}
 use Rattle.problem_or_refusal.proofs.Common.{ToGeneral, FromStorage, Pumped, Received}
-use Rattle.problem_or_refusal.proofs.Pairs.{pair_of, capped_of}
+use Rattle.problem_or_refusal.proofs.ConstantHeads.{pair_of, capped_of, constant_pair}
 use Rattle.std.proofs.lemmas.Option.{none-some}
 use Rattle.step_problem.specs.declared.entry.Flow.{Flow}
 use Rattle.step_problem.specs.declared.entry.Link.{Link}
@@ -23,11 +23,9 @@ use Rattle.model_types.proofs.Leads.{IsFaceOf, passing_are}
 use Rattle.model_types.proofs.Members.{In, In-All, filter_map-In}
 use Rattle.problem_builder.proofs.Fits.{pair_ordered, river_valid, drain_valid}
 use Rattle.problem_builder.proofs.ValidEntries.{local_valid}
-use Rattle.problem_builder.proofs.ActiveCells.{variable_active, constant_active}
+use Rattle.problem_builder.proofs.Members.{variable_active, constant_active, flow_source, fixed_source, some_same}
 use Rattle.problem_builder.proofs.ChosenRates.{rate_valid}
 use Rattle.problem_builder.proofs.FacePairs.{face_range, face_active}
-use Rattle.problem_builder.proofs.Members.{flow_source, fixed_source, some_same}
-use Rattle.problem_or_refusal.proofs.ConstantHeads.{constant_pair}
 use Rattle.problem_or_refusal.proofs.Formulas.{recharge_bounded, evap_bounded, face_bounded, storage_bounded}
 use Rattle.problem_or_refusal.proofs.Rounded.{head_pair, number_bounded}
 

@@ -5,14 +5,15 @@ pub use Rattle.std.proofs.Math.Nat.{div-mul-le_self, lt-mul-div-succ, mul-le-mul
 pub use Rattle.std.proofs.lemmas.Bool.{cases_Bool, cases_lt, false≢true, true≢false}
 pub use Rattle.std.specs.List.{All, AllZip, range_with_len}
 pub use Rattle.std.specs.Prelude.{min, unsigned_abs, ◌==◌}
-pub use Rattle.conductance_bounds.proofs.Whole.{ceiling-passes}
+pub use Rattle.conductance_bounds.proofs.LayerBounds.{ceiling-passes}
+pub use Rattle.conductance_bounds.proofs.Manual.{positive_value, size_positive}
 pub use Rattle.conductance_bounds.specs.{Holds, IsBound, IsCapped, IsCappedFlow, IsCeilingOf, IsFloorOf, IsGivenPair, IsPair, IsPart, IsRounded, IsSpan, Lower}
 pub use Rattle.conductance_bounds.specs.{Number, Product, Quotient, Side, Sum, Term, Upper, Within, bed_term, blend, column_k_term, end, evap_term, face_term}
 pub use Rattle.conductance_bounds.specs.{half_term, high_end, is_whole, low_end, other, part_term, recharge_term, resistance_sum, row_term, storage_term}
 pub use Rattle.conductance_bounds.specs.{storativity_term, thick_term, vertical_half_term, vertical_k_at, vertical_k_term, vertical_term}
 unfoldable pub use Rattle.conductance_bounds.specs.{power_term, sum_term}
-pub use Rattle.decimal_input.proofs.Past.{a_ceiling, a_floor}
 pub use Rattle.decimal_input.proofs.Powers.{den_scaled, num_scaled, scaled_shift, ten_pos}
+pub use Rattle.decimal_input.proofs.SignedFloors.{a_ceiling, a_floor, ceiling_of_ceiling, ceiling_of_floor, floor_of_ceiling, floor_of_floor}
 pub use Rattle.decimal_input.specs.{IsDec, IsSignedCeiling, IsSignedFloor, Ratio, number, over, size, up}
 unfoldable pub use Rattle.decimal_input.specs.{scaled}
 pub use Rattle.decimal_input.specs.Ratios.{AtMost, Same, den, plus, times}

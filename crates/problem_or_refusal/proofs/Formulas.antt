@@ -5,16 +5,14 @@ use Rattle.problem_or_refusal.proofs.Common.{delr_at, delc_at, hk_at, hani_at, v
 use Rattle.problem_or_refusal.proofs.Common.{IsPositive, multiplier, IsModel, IsTimed, number_one, Number, face_term, storage_term, recharge_term, evap_term}
 use Rattle.problem_or_refusal.proofs.Common.{thick_term, column_k_term, vertical_k_at, vertical_half_term, bed_term, part_term, Thicknesses, AreThicknesses}
 use Rattle.problem_or_refusal.proofs.Common.{HasPositiveBounds, IsBounded, Term, stride, sum_term, power_term, one, half_term, row_term, vertical_k_term}
-use Rattle.problem_or_refusal.proofs.Common.{vertical_term, resistance_sum, storativity_term}
+use Rattle.problem_or_refusal.proofs.Common.{vertical_term, resistance_sum, storativity_term, size_positive}
 use Rattle.conductance_bounds.proofs.PartBounds.{unity_positive}
 use Rattle.model_types.specs.declared.face.Axis.{Axis}
 use Rattle.model_types.specs.declared.face.Axis.TheVariants.{Row, Column, Vertical}
 use Rattle.conductance_bounds.proofs.FaceBounds.{layered}
-use Rattle.conductance_bounds.proofs.Positive.{size_positive}
 use Rattle.conductance_bounds.proofs.Ready.{delr_positive, delc_positive}
 use Rattle.problem_builder.proofs.Elevations.{bed_valid, no_bed_gap, same_bed_gap}
-use Rattle.problem_or_refusal.proofs.Rounded.{number_bounded}
-use Rattle.problem_or_refusal.proofs.Spans.{span_positive}
+use Rattle.problem_or_refusal.proofs.Rounded.{number_bounded, span_positive}
 
 -- a formula that has bounds, all of them positive
 pub record IsFactor (t : Term) : Type 0 where

@@ -7,7 +7,7 @@ use Rattle.step_problem.specs.declared.place.NoBound.{NoBound}
 use Rattle.step_problem.specs.declared.place.Place.TheVariants.{Cell}
 use Rattle.problem_builder.proofs.Steps.{no_cells, next_cell, next_none}
 use Rattle.problem_or_refusal.proofs.CellEntries.{a_cell}
-use Rattle.problem_or_refusal.proofs.Spans.{widths, are_widths}
+use Rattle.problem_or_refusal.proofs.Rounded.{widths, are_widths}
 
 none_or_some : (o : Option ℕ) → (o ≡ None) ⊎ ((k : ℕ) × (o ≡ Some k))
 none_or_some None = inl refl

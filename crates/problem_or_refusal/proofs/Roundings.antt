@@ -4,7 +4,7 @@ use Rattle.problem_or_refusal.proofs.Common.{mul-le-mul_right, lt-mul-div-succ, 
 use Rattle.problem_or_refusal.proofs.Common.{Sd, value, IsDown, IsUp, zero_down, zero_up, IsFrom, IsUpTo}
 use Rattle.std.proofs.lemmas.Nat.{pow-add}
 use Rattle.scaled_decimal.proofs.Nearest.{up_at_18, up_at_nines, cut_down_by}
-use Rattle.scaled_decimal.proofs.Numbers.{at_least_quotient, below_quotient}
+use Rattle.scaled_decimal.proofs.Between.{at_least_quotient, below_quotient}
 
 ten_grows : (n : ℕ) → n < 10 ^ n
 ten_grows zero = omega arith

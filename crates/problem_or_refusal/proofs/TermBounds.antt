@@ -1,9 +1,8 @@
 -- Each formula of decimals whose divisors are above 0 has both bounds.
 use Rattle.problem_or_refusal.proofs.Common.{ℕ, zero, suc, ◌+◌, ◌*◌, ◌≤◌, ◌<◌, ◌^◌, ◌⊎◌, inl, inr, refl, sym, subst, arith, mul-pos, Ratio, den, plus, times}
 use Rattle.problem_or_refusal.proofs.Common.{over, AtMost, num_scaled, Sd, value, Term, Side, other, end, IsRounded, IsBound, Lower, Upper, HasPositiveBounds}
-use Rattle.problem_or_refusal.proofs.Common.{IsBounded, up, Number, Within, Sum, Product, Quotient}
+use Rattle.problem_or_refusal.proofs.Common.{IsBounded, up, Number, Within, Sum, Product, Quotient, positive_value}
 use Rattle.decimal_input.proofs.Orders.{Same-back, num_plus, num_times, num_over}
-use Rattle.conductance_bounds.proofs.Enclosing.{positive_value}
 use Rattle.problem_or_refusal.proofs.Roundings.{down_of, up_of, down_positive}
 
 more_positive : (f g : Ratio) → AtMost f g → 0 < f.num → 0 < g.num

@@ -16,13 +16,13 @@ pub fn problem_or_refusal()
 {}
 
 /// Each cell has the pair that it would have as a constant-head cell.
-#[tactic(auto, using(crate::proofs::Heads::constant_pairs_exist))]
+#[tactic(auto, using(crate::proofs::ConstantHeads::constant_pairs_exist))]
 pub fn constant_pairs_exist()
     ensures { ConstantPairsExist }
 {}
 
 /// The bounds of STRT are a list for all cells.
-#[tactic(auto, using(crate::proofs::Heads::start_heads_exist))]
+#[tactic(auto, using(crate::proofs::ConstantHeads::start_heads_exist))]
 pub fn start_heads_exist()
     ensures { StartHeadsExist }
 {}

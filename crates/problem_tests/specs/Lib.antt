@@ -1,3 +1,2 @@
 pub mod Actors
-
 pub use Rattle.problem_tests.specs.Actors.{IsShown}

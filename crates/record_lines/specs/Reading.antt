@@ -1,11 +1,15 @@
 -- What reading a text gives: a value and what is left to be read, or the first refusal; and what a
 -- call may return besides.
-use Rattle.std.specs.Prelude.{◌≡◌, ℕ, zero, suc, ◌+◌, [], ◌∷◌, ◌++◌, Result, Ok, Err, List}
+use Rattle.std.specs.Prelude.{◌≡◌, ℕ, zero, suc, ◌+◌, [], ◌∷◌, ◌++◌, Result, Ok, Err, List, Bool, false, if◌then◌else◌}
 use Rattle.outside.specs.declared.inputs.Refusal.{Refusal}
 use Rattle.outside.specs.declared.inputs.TextFault.{TextFault}
-use Rattle.outside.specs.declared.inputs.TextFault.TheVariants as texts
 use Rattle.outside.specs.declared.inputs.InputFault.{InputFault}
 use Rattle.outside.specs.declared.inputs.InputFault.TheVariants.{Refused, ReadFault, Memory}
+use Rattle.std.specs.Str.{str_eq_ignore_ascii_case}
+use Rattle.outside.specs.declared.codes.Code.TheVariants.{EndOfFile, BadName}
+use Rattle.outside.specs.{is_good_name, refusal}
+use Rattle.record_lines.specs.Spread.{Numbered, Left}
+use Rattle.outside.specs.declared.inputs.TextFault.TheVariants as texts
 
 -- one reading after another; the first refusal ends them
 infixl 10 ◌>>=◌
@@ -71,3 +75,30 @@ appended (suc n) read s = do
 unfoldable pub counted : {S E : Type 0} → (ℕ → S → Result S E) → ℕ → ℕ → S → Result S E
 counted step i zero s = Ok s
 counted step i (suc n) s = step i s >>= counted step (i + 1) n
+
+-- Line items: a line is read word by word, from left to right.
+-- the next word, or this refusal where there is none
+unfoldable pub word_at : Refusal → List (List ℕ) → Result (List ℕ × List (List ℕ)) Refusal
+word_at missing [] = Err missing
+word_at missing (w ∷ ws) = Ok (w, ws)
+
+-- the next line that has a word
+abbrev pub line_from : List ℕ → List Numbered → ℕ → Result (Numbered × Left) Refusal
+line_from file [] end = Err (refusal EndOfFile file end)
+line_from file (line ∷ others) end = Ok (line, record { lines = others; end = end })
+
+unfoldable pub line_at : List ℕ → Left → Result (Numbered × Left) Refusal
+line_at file left = line_from file left.lines left.end
+
+-- whether a word is this keyword, in any letter case
+abbrev pub is_word : List ℕ → List ℕ → Bool
+is_word keyword word = str_eq_ignore_ascii_case word keyword
+
+-- whether the first word of a line is this keyword
+abbrev pub begins_with : List ℕ → List (List ℕ) → Bool
+begins_with keyword [] = false
+begins_with keyword (word ∷ words) = is_word keyword word
+
+-- a word as a file's name
+unfoldable pub name_at : List ℕ → ℕ → List ℕ → Result (List ℕ) Refusal
+name_at file line name = if is_good_name name then Ok name else Err (refusal BadName file line)

@@ -11,7 +11,7 @@ pub fn is_separator(byte: u8) -> bool
     byte == b' ' || byte == b'\t' || byte == b',' || byte == b'\r'
 }
 
-#[tactic(auto, unfolding(crate::specs::Layout::has_word))]
+#[tactic(auto, unfolding(crate::specs::Spread::has_word))]
 pub fn has_word(line: &[u8]) -> bool
     ensures { result ≡ has_word line.now }
 {

@@ -1,7 +1,6 @@
 ghost use Rattle.std.specs.Prelude.{IfErr, IfSome, MatchResult, Ok, Err, true, false, nat_lt, ◌<◌, ◌≡◌, []};
 ghost use Rattle.std.specs.Option.{option_map};
-ghost use Rattle.record_lines.specs.Layout.{Left, Yields};
-ghost use Rattle.record_lines.specs.Spread.{count, spread, Taking, beginning, next_word, next_value};
+ghost use Rattle.record_lines.specs.Spread.{Left, Yields, count, spread, Taking, beginning, next_word, next_value};
 
 use crate::cuts::star_at;
 use crate::lines::{Lines, Words};

@@ -6,9 +6,8 @@ pub use Rattle.std.proofs.lemmas.List.{get_or-map, get_or_default, length-map, m
 pub use Rattle.std.proofs.lemmas.List.Elements.{All-get_or, All-map, All-set, All-weaker}
 pub use Rattle.cell_relax.proofs.Sides.{each_side, heads_in_range, is_side, tighter_first, tighter_head, tighter_is_one, tighter_second}
 pub use Rattle.cell_relax.specs.{AreNoLooser, AreWords, IsAsTight, IsRelaxedOn, head_of, heads_on, other, tighter_of}
-pub use Rattle.relax_core.specs.{AreEdges, Becomes, IsInRange, IsKept, IsNamed, KeepsHeads, OnTheWay, Path, Puts, Relaxes, Step, WasSeen, WereSeen, edge_on}
-pub use Rattle.relax_core.specs.{seen_by, with_head}
-pub use Rattle.relax_core.specs.Core.{Core}
+pub use Rattle.relax_core.specs.{AreEdges, Becomes, Core, IsInRange, IsKept, IsNamed, KeepsHeads, OnTheWay, Path, Puts, Relaxes, Step, WasSeen, WereSeen}
+pub use Rattle.relax_core.specs.{edge_on, seen_by, with_head}
 pub use Rattle.relax_core.specs.declared.events.Event.{Event}
 pub use Rattle.relax_core.specs.declared.events.Event.TheVariants.{Claim, Raise, See, Sink}
 pub use Rattle.step_problem.proofs.BothSides.{high_side, low_side}

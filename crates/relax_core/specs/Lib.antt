@@ -1,5 +1,3 @@
-pub mod Core
 pub mod Kept
-
-pub use Rattle.relax_core.specs.Core.{Becomes, IsInRange, IsNamed, IsStart, Path, Puts, Relaxes, Sees, Step, seen_by, with_head}
-pub use Rattle.relax_core.specs.Kept.{AreEdges, EdgesAreKept, EventsKeep, EventsKeepHeads, IsKept, KeepsHeads, OnTheWay, WasSeen, WereSeen, edge_on}
+pub use Rattle.relax_core.specs.Kept.{AreEdges, Becomes, Core, EdgesAreKept, EventsKeep, EventsKeepHeads, IsInRange, IsKept, IsNamed, IsStart, KeepsHeads}
+pub use Rattle.relax_core.specs.Kept.{OnTheWay, Path, Puts, Relaxes, Sees, Step, WasSeen, WereSeen, edge_on, seen_by, with_head}

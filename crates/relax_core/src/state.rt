@@ -2,8 +2,7 @@
 ghost use Rattle.std.specs.Prelude.{◌≡◌, ◌<◌, length, slice_index_or, IfOk};
 ghost use Rattle.step_problem.specs.{Edges};
 ghost use Rattle.cell_relax.specs.{AreNoLooser, IsRelaxedOn, tighter_of, AreWords, heads_on};
-ghost use Rattle.relax_core.specs.Core.{IsInRange, IsNamed, IsStart, Puts, Relaxes, Sees, Step, seen_by, with_head};
-ghost use Rattle.relax_core.specs.Kept.{IsKept};
+ghost use Rattle.relax_core.specs.Kept.{IsInRange, IsNamed, IsStart, Puts, Relaxes, Sees, Step, seen_by, with_head, IsKept};
 
 use crate::events::Event;
 use cell_relax::{head_on, relax_in};
@@ -20,7 +19,7 @@ pub struct State {
 
 impl Model for State {
     ghost use Rattle.std.specs.Prelude.{map};
-    ghost use Rattle.relax_core.specs.Core.{Core};
+    ghost use Rattle.relax_core.specs.Kept.{Core};
 
     ghost Value = { Core };
 

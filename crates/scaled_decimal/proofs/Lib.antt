@@ -2,6 +2,5 @@ mod Common
 pub mod Between
 pub mod Monotone
 pub mod Nearest
-pub mod Numbers
 pub mod Products
 pub mod Sizes

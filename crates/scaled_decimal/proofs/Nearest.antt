@@ -3,8 +3,7 @@ use Rattle.scaled_decimal.proofs.Common.{le-div_iff_mul-le, div-lt_iff_lt-mul, R
 use Rattle.scaled_decimal.proofs.Common.{AtMost-Below, Same-AtMost, Same-back, Same-trans, ten_pos, cross_of, scaled_shift, scaled-AtMost, num_scaled, Sd, IsSd}
 use Rattle.scaled_decimal.proofs.Common.{value, IsDown, IsUp, IsFrom, IsUpTo, ◌-◌, refl, ◌∙◌, add-one, ints, lt_of_mul-lt-mul_right, div-div-eq-div-mul}
 use Rattle.scaled_decimal.proofs.Common.{pow-suc}
-use Rattle.scaled_decimal.proofs.Between.{none_above, none_below}
-use Rattle.scaled_decimal.proofs.Numbers.{power_pos, at_least_quotient, below_quotient, at_least_product, below_product}
+use Rattle.scaled_decimal.proofs.Between.{none_above, none_below, power_pos, at_least_quotient, below_quotient, at_least_product, below_product}
 
 -- zero is at most everything
 pub zero-AtMost : (x : Sd) (f : Ratio) → x.m ≡ 0 → AtMost (value x) f

@@ -66,7 +66,7 @@ pub(crate) fn power_of_ten(places: u32) -> Power
 }
 
 /// The power of ten by which q is divided to leave 18 digits.
-#[tactic(auto, using(crate::proofs::Numbers::places_below))]
+#[tactic(auto, using(crate::proofs::Between::places_below))]
 pub(crate) fn behind_18_digits(q: u128) -> Power
     requires digits { 10 ^ 17 ≤ q }
     ensures power { result.unit ≡ 10 ^ result.places }

@@ -11,8 +11,6 @@ pub use Rattle.head_table.proofs.WordReads.{no_looser_trans, tight_refl}
 pub use Rattle.head_table.specs.{AreHeld, HasMoved, HasTighter, IsSeatOf, ShowsSeen, barrier_of, seen_of, seen_on}
 pub use Rattle.head_table.specs.declared.table.HeadSeat.{HeadSeat}
 pub use Rattle.head_table.specs.declared.table.HeadTable.{HeadTable}
-pub use Rattle.relax_core.proofs.Keeping.{way_on}
-pub use Rattle.relax_core.specs.{edge_on}
 pub use Rattle.settle_driver.specs.{AddsPhases, AddsTurns, AddsViews, AreBothSettled, ArePastBarrier, EnclosesPair, HasSeen, HasWorked, IsFirstSide, IsHeadFrom}
 pub use Rattle.settle_driver.specs.{IsPastCell, IsRelaxedCell, SettleWithin, StayOnTheWay, had_memory}
 pub use Rattle.step_problem.proofs.Sides.{CoversRounds, IsSide, as_tight_refl, as_tight_trans, covers_more, covers_none, edge_kept, first_settled, passes_more}

@@ -1,13 +1,20 @@
 -- What a viewer is shown while a problem settles, and how many views a settling makes.
-use Rattle.std.specs.Prelude.{◌≡◌, ℕ, ◌+◌, ◌*◌, ◌<◌, ◌⊎◌, Bool, true, false, List, length, ℤ, ◌≤ℤ◌, Result, Ok, Err}
+use Rattle.std.specs.Prelude.{◌≡◌, ℕ, ◌+◌, ◌*◌, ◌<◌, ◌⊎◌, Bool, true, false, List, length, ℤ, ◌≤ℤ◌, Result, Ok, Err, ◌%◌, ◌≤◌}
 use Rattle.std.specs.declared.vec.Vec.{Vec}
 use Rattle.std.specs.declared.alloc.Global.{Global}
 use Rattle.step_problem.specs.declared.heads.Bound.{Bound}
 use Rattle.step_problem.specs.declared.heads.SettleFault.{SettleFault}
 use Rattle.step_problem.specs.declared.heads.SettleFault.TheVariants.{Unfinished, Memory}
 use Rattle.step_problem.specs.Entries.{Entries}
-use Rattle.step_problem.specs.{Edges, IsSettledPair, head_at, lower_at, upper_at}
-use Rattle.cell_relax.specs.{AreWords}
+use Rattle.step_problem.specs.{Edges, IsSettledPair, head_at, lower_at, upper_at, IsHead, AreHeads, IsSettled, RoundsSettle}
+use Rattle.cell_relax.specs.{AreWords, AreNoLooser, IsAsTight, IsRelaxedOn, Moves, heads_on}
+use Rattle.head_table.specs.declared.table.HeadTable.{HeadTable}
+use Rattle.head_table.specs.declared.table.HeadSeat.{HeadSeat}
+use Rattle.step_problem.specs.declared.heads.Side.{Side}
+use Rattle.head_table.specs.{HasMoved, IsSeatOf, seen_on, seen_of}
+use Rattle.settle_driver.specs.declared.phases.Plan.{Plan}
+use Rattle.step_problem.specs.declared.heads.Side.TheVariants.{Low, High}
+use Rattle.relax_core.specs.{OnTheWay}
 
 -- the settled pair lies between these heads
 pub record HoldsPair (p : List Entries) (b : Edges) (heads : List Bound) : Type 0 where
@@ -50,3 +57,63 @@ module _ {V : Type 0} (viewed : V → List Entries → Edges → ℕ → V → T
     pub views : AddsViews count old new
     pub no_cell : length p ≡ 0 → count ≡ 0
     pub each_phase : made ≡ true → 0 < length p → stopped new ⊎ ((phases : ℕ) × (0 < phases) × (count ≡ phases * turns))
+
+-- What seats know in a phase, and the result of phases from a barrier's own words.
+-- workers from 1 to 64, at most 512 turns for each cell, and at least one round
+pub record IsPlan (plan : Plan) : Type 0 where
+  pub some_worker : 1 ≤ plan.workers
+  pub workers : plan.workers ≤ 64
+  pub turns : plan.turns_per_cell ≤ 512
+  pub some_round : 1 ≤ plan.rounds
+
+-- each of `workers` workers makes `each` turns: together at least all turns, and none more than needed
+pub record AreShared (turns workers each : ℕ) : Type 0 where
+  pub enough : turns ≤ workers * each
+  pub no_more : workers * each < turns + workers
+
+-- a seat of the table has seen exactly these heads
+pub record HasSeen (t : HeadTable) (seen : List Bound) (s : HeadSeat) : Type 0 where
+  pub seat : IsSeatOf t s
+  pub seen_is : seen_of s ≡ seen
+
+-- the seat of worker number i after its turns: at each cell of its own it has seen the raise and the sink value
+pub record HasWorked (t : HeadTable) (i workers : ℕ) (a b : HeadSeat) : Type 0 where
+  pub seat : IsSeatOf t b
+  pub moved : (side : Side) (c : ℕ) → c < length t.problem.now → c % workers ≡ i → HasMoved side t.problem.now (seen_on side a) c (seen_on side b c)
+  pub no_looser : AreNoLooser t.problem.now (seen_of a) (seen_of b)
+
+-- Which side is named if a cell can move.
+-- the side that can move, the lower one first
+abbrev pub IsFirstSide : Bool → Bool → Side → Type 0
+IsFirstSide low high Low = low ≡ true
+IsFirstSide low high High = (low ≡ false) × (high ≡ true)
+
+-- Barriers inside another one.
+-- x is a head that is as tight as the edge
+pub record IsHeadFrom (Le : ℤ → ℤ → Type 0) (edge x : ℤ) : Type 0 where
+  pub head : IsHead x
+  pub tight : Le edge x
+
+-- What sweeps over the words of a problem keep and reach, on each side.
+module _ (p : List Entries) where
+  -- the words of cell c are its raise and its sink value from the old words
+  abbrev pub IsRelaxedCell : List Bound → List Bound → ℕ → Type 0
+  IsRelaxedCell old new c = (side : Side) → IsRelaxedOn side p (heads_on side old) c (heads_on side new c)
+
+  -- the words of cell c are as tight as its raise and its sink value from the old words
+  abbrev pub IsPastCell : List Bound → List Bound → ℕ → Type 0
+  IsPastCell old new c = (side : Side) → HasMoved side p (heads_on side old) c (heads_on side new c)
+
+  -- words on the way from any barrier stay on the way
+  pub record StayOnTheWay (old new : List Bound) : Type 0 where
+    pub on : (side : Side) (edge : ℕ → ℤ) → OnTheWay side p edge (heads_on side old) → OnTheWay side p edge (heads_on side new)
+
+  -- no cell can move
+  abbrev pub AreBothSettled : List Bound → Type 0
+  AreBothSettled words = (side : Side) → IsSettled (IsAsTight side) (Moves side p) (length p) (heads_on side words)
+
+  -- where k plain rounds from a barrier settle, the new words are settled if the old ones are on the way
+  pub record SettleWithin (k : ℕ) (old new : List Bound) : Type 0 where
+    pub on :
+        (side : Side) (edge : ℕ → ℤ) → AreHeads (IsAsTight side) (Moves side p) (length p) edge → OnTheWay side p edge (heads_on side old) →
+        RoundsSettle (IsAsTight side) (Moves side p) (length p) k edge → IsSettled (IsAsTight side) (Moves side p) (length p) (heads_on side new)

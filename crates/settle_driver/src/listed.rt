@@ -1,7 +1,7 @@
 // A settler that starts with cells in the order of a list.
 ghost use Rattle.std.specs.Prelude.{◌≡◌};
 ghost use Rattle.cell_relax.specs.{AreWords};
-ghost use Rattle.settle_driver.specs.Sweeps.{StayOnTheWay};
+ghost use Rattle.settle_driver.specs.Views.{StayOnTheWay};
 ghost use Rattle.step_problem.specs.{settled};
 
 use crate::plain::PlainSettler;

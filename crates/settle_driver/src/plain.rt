@@ -2,7 +2,7 @@
 ghost use Rattle.std.specs.Prelude.{◌≡◌};
 ghost use Rattle.step_problem.specs.{AreOnTheWay, IsBarrier, Settles, settled};
 ghost use Rattle.cell_relax.specs.{AreWords};
-ghost use Rattle.settle_driver.specs.Sweeps.{StayOnTheWay, SettleWithin};
+ghost use Rattle.settle_driver.specs.Views.{StayOnTheWay, SettleWithin};
 
 use crate::open::first_open;
 use crate::sweep::sweep_up_to;

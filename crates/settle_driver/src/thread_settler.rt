@@ -1,7 +1,7 @@
 // Settlers by workers in threads.
 ghost use Rattle.std.specs.Prelude.{◌≡◌};
 ghost use Rattle.step_problem.specs.{AreOnTheWay, IsBarrier, Settles, settled};
-ghost use Rattle.settle_driver.specs.Phases.{IsPlan};
+ghost use Rattle.settle_driver.specs.Views.{IsPlan};
 
 use crate::phases::Plan;
 use crate::threads::{settle, settle_from};

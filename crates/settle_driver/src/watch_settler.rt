@@ -1,8 +1,7 @@
 // Settling by workers in threads, while a viewer watches.
 ghost use Rattle.std.specs.Prelude.{◌≡◌, ℕ, ◌+◌, List, true, false};
 ghost use Rattle.step_problem.specs.{AreOnTheWay, IsBarrier, Edges, Settles};
-ghost use Rattle.settle_driver.specs.Phases.{IsPlan};
-ghost use Rattle.settle_driver.specs.Views.{AddsPhases, had_memory, EnclosesPair};
+ghost use Rattle.settle_driver.specs.Views.{IsPlan, AddsPhases, had_memory, EnclosesPair};
 ghost use Rattle.step_problem.specs.Entries.{Entries};
 
 use crate::phases::Plan;

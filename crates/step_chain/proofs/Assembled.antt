@@ -3,11 +3,10 @@ use Rattle.step_chain.proofs.Common.{◌≡◌, ℕ, ◌<◌, inl, inr, true, fa
 use Rattle.step_chain.proofs.Common.{false_from_ne_true, not-true, true≢false, Fraction, Bound, IsHead, no_bound, lower_at, upper_at, AreWords, Entries}
 use Rattle.step_chain.proofs.Common.{FlowModel, TimeStep, cell_count, is_active, is_variable, is_constant, index_of, variable_cells, exact_step, Decks}
 use Rattle.step_chain.proofs.Common.{IsConstantPairFor, AreGridHeads, bound_at, AreHeadsOf, ◌&&◌, not, ints, ExactCell, cell_at, no_cell, ◌+◌, ◌≤◌, cond, set}
-use Rattle.step_chain.proofs.Common.{cases_order, kind_of, HasConstantHeadFor, AreConstantHeadsFor}
+use Rattle.step_chain.proofs.Common.{cases_order, kind_of, HasConstantHeadFor, AreConstantHeadsFor, variable_active, constant_active}
 use Rattle.std.proofs.lemmas.List.{get_or_default, get_or-map, length-map, length-set, get_or-set_same, get_or-set_other}
 use Rattle.model_types.proofs.Ranks.{passing, rank_below, at_rank}
 use Rattle.flow_equations.proofs.Links.{ids_are, below_is, index_is}
-use Rattle.problem_builder.proofs.ActiveCells.{variable_active, constant_active}
 use Rattle.model_types.specs.declared.given_heads.Kind.TheVariants.{NoFlow, Constant, Variable}
 
 -- Kinds of cells by their tests.

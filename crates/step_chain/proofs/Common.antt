@@ -4,7 +4,7 @@ pub use Rattle.std.proofs.Common.{ℤ, ◌*ℤ◌, ◌+◌, ◌-◌, ◌<ℤ◌,
 pub use Rattle.std.proofs.lemmas.Bool.{and_parts, cases_Bool, cases_order, false_from_ne_true, not-true, true≢false}
 pub use Rattle.std.proofs.lemmas.Int.{clamps, ints}
 pub use Rattle.std.specs.Prelude.{Err, IfOk, Ok, Result, not, ◌&&◌}
-pub use Rattle.barrier_vector.proofs.Clamping.{clamped_at, clamped_fits}
+pub use Rattle.barrier_vector.proofs.Outlining.{clamped_at, clamped_fits}
 pub use Rattle.barrier_vector.specs.{BarrierExcludesRefusal, CutBarrierExcludesRefusal, CutBarrierIsOne, CutRefusalIsOne, EnclosesUncut, IsCeiling}
 pub use Rattle.barrier_vector.specs.{IsCutBarrierOf, IsFloor, clamp, clamped}
 pub use Rattle.barrier_vector.specs.declared.BarrierFault.{BarrierFault}
@@ -13,8 +13,8 @@ pub use Rattle.cell_relax.specs.{AreWords}
 pub use Rattle.certificate_check.specs.{CertificateEncloses, CertificateExcludesRefusal, ClampedPairEncloses, IsRangeRefusal, RangeRefusalIsOne}
 pub use Rattle.certificate_check.specs.{SettledPairEncloses}
 pub use Rattle.decimal_input.specs.{EnclosesSigned, Fraction}
-pub use Rattle.deck_problems.proofs.Members.{HasCellsOf, between_cells, cell_of_member, constant_same, each_member, encloses_first, encloses_member}
-pub use Rattle.deck_problems.proofs.Members.{member_cells, of_member}
+pub use Rattle.deck_problems.proofs.OneProblem.{HasCellsOf, between_cells, cell_of_member, constant_same, each_member, encloses_first, encloses_member}
+pub use Rattle.deck_problems.proofs.OneProblem.{member_cells, of_member}
 pub use Rattle.deck_problems.specs.{AreConstantHeadsFor, AreDecks, ConstantPairEncloses, ConstantPairFits, ConstantPairIsOne, EachMember, EnclosesSteps}
 pub use Rattle.deck_problems.specs.{HasConstantHeadFor, IsBefore, IsConstantPairFor, IsProblemFor, ProblemEncloses, ProblemExcludesRefusal, ProblemFits}
 pub use Rattle.deck_problems.specs.{ProblemIsOne, StartHeadsEnclose, StartHeadsFit, digits_of}
@@ -25,6 +25,7 @@ pub use Rattle.model_types.specs.declared.limits.Limits.{Limits}
 pub use Rattle.model_types.specs.declared.limits.Limits.TheVariants.{Plain, Wide}
 pub use Rattle.model_types.specs.declared.model.FlowModel.{FlowModel}
 pub use Rattle.model_types.specs.declared.time_steps.TimeStep.{TimeStep}
+pub use Rattle.problem_builder.proofs.Members.{In-Contains, constant_active, variable_active}
 pub use Rattle.problem_builder.specs.{AreGridHeads, HeadsEnclose, IsActive}
 pub use Rattle.step_chain.specs.{AreHeadsOf, AreSteps, EnclosesMove, EnclosesMoves, FailsBy, HasNoBarrier, HasNoHeads, HasNoPose, HeadsFit, HistoriesLieWithin}
 pub use Rattle.step_chain.specs.{IsBarrierBy, IsBarrierFault, IsMove, IsNoCertificate, IsPosed, IsStepBy, LeadsBy, LeadsOrRests, LeadsWithout, LeavesRange}

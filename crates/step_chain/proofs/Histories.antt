@@ -2,9 +2,8 @@
 use Rattle.step_chain.proofs.Common.{Limits, ◌≡◌, ◌-◌, ◌<◌, ◌^◌, ◌*ℤ◌, ◌≤ℤ◌, ℕ, suc, inl, inr, List, [], ◌∷◌, Contains, refl, subst, arith, ℤ, pos, Fraction}
 use Rattle.step_chain.proofs.Common.{Bound, lower_at, upper_at, FlowModel, TimeStep, start_head, heads_of, AreGridHeads, HeadsEnclose, AreDecks, IsBefore}
 use Rattle.step_chain.proofs.Common.{StartHeadsFit, StartHeadsEnclose, HasCellsOf, between_cells, cell_of_member, encloses_member, encloses_first, Solved}
-use Rattle.step_chain.proofs.Common.{LiesWithin, StepEncloses, HeadsFit, PairKind, HistoriesLieWithin, two, AreSteps, LieWithin, times}
+use Rattle.step_chain.proofs.Common.{LiesWithin, StepEncloses, HeadsFit, PairKind, HistoriesLieWithin, two, AreSteps, LieWithin, times, In-Contains}
 use Rattle.model_types.proofs.Members.{Contains-In}
-use Rattle.problem_builder.proofs.Named.{In-Contains}
 use Rattle.deck_span.specs.{SolvesBetweenFrom}
 
 pub first_in : (t : TimeStep) (ts : List TimeStep) → Contains (t ∷ ts) t

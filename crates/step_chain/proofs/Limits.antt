@@ -6,7 +6,7 @@ use Rattle.step_chain.proofs.Common.{IsPairOf, IsCertificate, lower_at, upper_at
 use Rattle.step_chain.proofs.Common.{settled, certified, either_certifies, given_is, clamp, clamped, clamped_at, IsRangeRefusal, IsNoCertificate, Bool}
 use Rattle.step_chain.proofs.Common.{SettledPairExists, TimeStep, exact_step, variable_heads, Decks, EnclosesSteps, IsProblemFor, each_member, of_member}
 use Rattle.step_chain.proofs.Common.{Solved, LieBetween, AreHeadsOf, IsStepBy, EachMember, IsHeldBelow, IsFloor, IsCeiling, LeadsBy, LeadsOrRests, LeadsWithout}
-use Rattle.barrier_vector.proofs.Enclosing.{encloses_all}
+use Rattle.barrier_vector.proofs.Floors.{encloses_all}
 use Rattle.barrier_vector.proofs.Cutting.{barrier_is_cut, cut_encloses, cut_holds}
 use Rattle.certificate_check.proofs.Cut.{excludes_refusal}
 

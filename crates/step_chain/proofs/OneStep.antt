@@ -10,7 +10,7 @@ use Rattle.step_chain.proofs.Common.{certified, EnclosesStep, CellEncloses, Lies
 use Rattle.step_chain.proofs.Limits.{cut_by, held_by, uncut_by}
 use Rattle.deck_problems.proofs.Counted.{problem_count}
 use Rattle.step_chain.proofs.Assembled.{active_constant, heads_in_range, index_below, count_is, number_is}
-use Rattle.decimal_input.proofs.Enclosing.{whole_signed}
+use Rattle.decimal_input.proofs.FloorLaws.{whole_signed}
 use Rattle.cell_balance.proofs.Zips.{AllZip-length}
 
 -- From a step's settled pair to the enclosure of every solution of every member.

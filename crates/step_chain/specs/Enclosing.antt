@@ -1,9 +1,9 @@
 -- How a step's heads enclose every solution of the model's exact equations.
-use Rattle.std.specs.Prelude.{ℕ, ◌^◌, ◌<◌, List, length, ℤ, pos, neg_ℤ, ◌*ℤ◌, ◌≤ℤ◌}
+use Rattle.std.specs.Prelude.{ℕ, ◌^◌, ◌<◌, List, length, ℤ, pos, neg_ℤ, ◌*ℤ◌, ◌≤ℤ◌, ◌≡◌, ◌⊎◌, Bool, false}
 use Rattle.decimal_input.specs.{Fraction}
 use Rattle.step_problem.specs.declared.heads.Bound.{Bound}
 use Rattle.step_problem.specs.Entries.{Entries}
-use Rattle.step_problem.specs.{head_limit, lower_at, upper_at}
+use Rattle.step_problem.specs.{head_limit, lower_at, upper_at, Edges, IsSettledPair}
 use Rattle.cell_balance.specs.{EnclosesStep, LiesBetween}
 use Rattle.model_types.specs.declared.limits.Limits.{Limits}
 use Rattle.model_types.specs.declared.limits.Limits.TheVariants.{Plain, Wide}
@@ -12,6 +12,12 @@ use Rattle.model_types.specs.declared.time_steps.TimeStep.{TimeStep}
 use Rattle.flow_equations.specs.{exact_step, SolvesAt, variable_heads}
 use Rattle.problem_builder.specs.{IsActive, HeadsEnclose}
 use Rattle.step_chain.specs.declared.solved.Solved.{Solved}
+use Rattle.step_problem.specs.declared.place.NoBound.{NoBound}
+use Rattle.barrier_vector.specs.{IsBarrierOf, IsRefused, IsCutBarrierOf, IsUnbounded, clamped}
+use Rattle.barrier_vector.specs.declared.BarrierFault.{BarrierFault}
+use Rattle.barrier_vector.specs.declared.BarrierFault.TheVariants.{NoBound as IsNoBound, Memory}
+use Rattle.deck_problems.specs.declared.decks.Decks.{Decks}
+use Rattle.deck_problems.specs.{EachMember, IsProblemFor}
 
 -- The vector X over d lies between the heads, which are in units of 10^-9, at each active cell.
 pub record LiesWithin (m : FlowModel) (heads : List Bound) (d : ℕ) (X : ℕ → ℤ) : Type 0 where
@@ -49,3 +55,50 @@ module _ (m : FlowModel) (s : ℕ) (at : TimeStep) where
   -- This holds for all exact heads within the old ones, and every solution from them.
   abbrev pub EnclosesMoves : List Bound → Solved → Type 0
   EnclosesMoves old x = (before : ℕ → Fraction) (d : ℕ) (X : ℕ → ℤ) → IsMove m at old before d X → EnclosesMove x before d X
+
+-- The barrier of a problem by the limits of a run, why it has none, and where its settling begins: with wide limits floors and ceilings out of range are cut.
+-- the barrier; the cut one with wide limits
+abbrev pub IsBarrierBy : Limits → List Entries → Edges → Type 0
+IsBarrierBy Plain = IsBarrierOf
+IsBarrierBy Wide = IsCutBarrierOf
+
+-- its refusal; with wide limits none for the range of heads
+abbrev pub HasNoBarrier : Limits → List Entries → NoBound → Type 0
+HasNoBarrier Plain = IsRefused
+HasNoBarrier Wide = IsUnbounded
+
+-- the floors and ceilings that settling begins at; what was cut begins at the end of the range of heads
+abbrev pub edges_by : Limits → Edges → Edges
+edges_by Plain b = b
+edges_by Wide b = clamped b
+
+-- a fault is that refusal, or lack of memory
+abbrev pub IsBarrierFault : Limits → List Entries → BarrierFault → Type 0
+IsBarrierFault limits p (IsNoBound n) = HasNoBarrier limits p n
+IsBarrierFault limits p Memory = Unit {0}
+
+-- How a step changes its settler, where `leads old p b ended new` says that settling the problem p over the barrier
+-- b, ending with heads or not, takes one of its states to another.
+module _ {S : Type 0} (leads : S → List Entries → Edges → Bool → S → Type 0) (limits : Limits) where
+  -- The settling of p, a step's problem, over its barrier did this; and every solution of the step of each member lies between the settled pair, whether
+  -- the settling reached it or not; with wide limits every solution whose heads are in range.
+  pub record LeadsBy (d : Decks) (at : TimeStep) (old : List Bound) (p : List Entries) (ended : Bool) (before after : S) : Type 0 where
+    pub barrier : Edges
+    pub is : IsBarrierBy limits p barrier
+    pub low : ℕ → ℤ
+    pub high : ℕ → ℤ
+    pub pair : IsSettledPair p (edges_by limits barrier) low high
+    pub encloses : EachMember d (λ m. LieBetween limits m at old p low high)
+    pub led : leads before p (edges_by limits barrier) ended after
+
+  -- The settling of p over its barrier b did this, without heads for the step: it was not begun, or ended without heads; with wide limits also with heads
+  -- that were refused.
+  abbrev pub LeadsWithout : List Entries → Edges → S → S → Type 0
+  LeadsWithout p b before after = (after ≡ before) ⊎ ((ended : Bool) × (limits ≡ Plain → ended ≡ false) × leads before p (edges_by limits b) ended after)
+
+  -- A step without heads left its settler unchanged, or the settling of its problem changed it so. That ended without heads; with wide limits also with
+  -- heads that were refused.
+  abbrev pub LeadsOrRests : Decks → ℕ → TimeStep → List Bound → S → S → Type 0
+  LeadsOrRests d s at old before after =
+      (after ≡ before) ⊎ ((p : List Entries) × IsProblemFor d s at old p × (ended : Bool) × (limits ≡ Plain → ended ≡ false)
+      × LeadsBy d at old p ended before after)

@@ -18,7 +18,7 @@ use Rattle.problem_builder.specs.declared.fault.BuildFault.{BuildFault}
 use Rattle.problem_builder.specs.declared.fault.BuildFault.TheVariants as build
 use Rattle.step_chain.specs.declared.solved.StepFault.{StepFault}
 use Rattle.step_chain.specs.declared.solved.StepFault.TheVariants as fault
-use Rattle.step_chain.specs.Barriers.{edges_by}
+use Rattle.step_chain.specs.Enclosing.{edges_by}
 use Rattle.step_chain.specs.Steps.{IsPosed, HasNoHeads}
 
 -- a settler with this many rounds gave up, and these don't settle the step

@@ -7,8 +7,7 @@ ghost use Rattle.cell_relax.specs.{AreWords};
 ghost use Rattle.cell_balance.specs.{IsHeldBelow};
 ghost use Rattle.barrier_vector.specs.{EnclosesUncut, IsCutBarrierOf};
 ghost use Rattle.model_types.specs.declared.limits.Limits.TheVariants.{Wide};
-ghost use Rattle.step_chain.specs.Barriers.{IsBarrierBy, IsBarrierFault, edges_by};
-ghost use Rattle.step_chain.specs.Leads.{LeadsWithout};
+ghost use Rattle.step_chain.specs.Enclosing.{IsBarrierBy, IsBarrierFault, edges_by, LeadsWithout};
 
 use barrier_vector::{BarrierFault, barrier, clamp_barrier, cut_barrier};
 use certificate_check::range_refusal;

@@ -5,8 +5,8 @@ pub use Rattle.std.proofs.lemmas.Bool.{cases_Bool, cases_eq, cases_lt, false≢t
 pub use Rattle.std.proofs.lemmas.Int.{by_lt_z, ints}
 pub use Rattle.std.proofs.lemmas.List.FromFn.{get_or-map-range_with_len, length-map-range_with_len}
 pub use Rattle.std.specs.List.{range_with_len}
-pub use Rattle.barrier_vector.proofs.Backs.{join_ways, leads_within, reaches_within}
-pub use Rattle.barrier_vector.proofs.Uniques.{has_a_bound, inner_one}
+pub use Rattle.barrier_vector.proofs.CarriedRoots.{join_ways, leads_within, reaches_within}
+pub use Rattle.barrier_vector.proofs.Uniques.{has_a_bound, inner_one, same_tests}
 pub use Rattle.barrier_vector.specs.{AnchorRoot, AreCutBounds, HasNoBound, IsAnchoredBound, IsBase, IsBoundOn, IsCellMark, IsCutBoundOn, IsInnerPath}
 pub use Rattle.barrier_vector.specs.{IsLeastWith, IsLevel, IsLongest, IsMarkBelow, IsMarkIn, IsOutOfRange, IsOutermost, IsPath, IsRefusedOn, IsUnanchored}
 pub use Rattle.barrier_vector.specs.{IsWholeSide, LeadsToRoot, LeastRoot, Names, Nowhere, Refuses, RefusesOn, SumsTo, anchor_on, ceil_over, clamped, cut_on}

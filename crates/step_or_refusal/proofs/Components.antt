@@ -1,12 +1,10 @@
 -- What a component of a problem has: a test, its sum of deep flows, a least cell, and a longest path to that cell.
 use Rattle.step_or_refusal.proofs.Common.{◌≡◌, ℕ, zero, suc, ◌<◌, ◌≤◌, ◌⊎◌, inl, inr, refl, ap, subst, arith, List, length, Bool, cond, ℤ, pos, ◌<ℤ◌, ◌≤ℤ◌}
 use Rattle.step_or_refusal.proofs.Common.{cases_lt, ints, by_lt_z, IsProblem, Entries, entries_at, IsComponent, IsCarried, sum_inside, deep_low, LeastRoot}
-use Rattle.step_or_refusal.proofs.Common.{IsInnerPath, IsLongest, lack, reaches_within, inner_one}
+use Rattle.step_or_refusal.proofs.Common.{IsInnerPath, IsLongest, lack, reaches_within, inner_one, same_tests}
 use Rattle.cell_balance.proofs.Sums.{sum-same}
-use Rattle.step_or_refusal.proofs.Decided.{Decided, test_of, test_true, true_test, first_or_none}
+use Rattle.step_or_refusal.proofs.Decided.{Decided, test_of, test_true, true_test, first_or_none, path}
 use Rattle.step_or_refusal.proofs.Ways.{LeadTo, join, leading_decided}
-use Rattle.step_or_refusal.proofs.RootPaths.{path}
-use Rattle.barrier_vector.proofs.Surveying.{same_tests}
 
 module _ (p : List Entries) (ok : IsProblem p) where
   abbrev inside : ℕ → ℕ → Bool

@@ -1,8 +1,6 @@
 mod Common
 pub mod Decided
 pub mod Ways
-pub mod RootPaths
-pub mod Bases
 pub mod Components
 pub mod Bounds
 pub mod Barrier

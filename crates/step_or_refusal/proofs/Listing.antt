@@ -11,7 +11,7 @@ use Rattle.zone_flows.proofs.Meaning.{are_flows, is_first}
 use Rattle.listing_run.specs.declared.solving.Step.{Step}
 use Rattle.listing_run.specs.declared.steps.Task.{Task}
 use Rattle.listing_run.specs.{budget_at, IsSolved, IsStep, HasNoBound, no_heads, no_budget, no_zones, one_task, pairs_of, AreFlowsAt, HasLargeFlow, faces_at}
-use Rattle.listing_run.specs.Steps.{Steps}
+use Rattle.listing_run.specs.{Steps}
 use Rattle.zone_pairs.specs.{AreZones}
 use Rattle.listing_run.proofs.Unique.{IsRest, rest_whole, rest_more, first_in}
 use Rattle.listing_run.specs.declared.text.ListingEnd.TheVariants as ends

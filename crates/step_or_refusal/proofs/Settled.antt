@@ -6,7 +6,7 @@ use Rattle.step_or_refusal.proofs.Common.{AreHeadsOf, AreSettled, IsFirstSettled
 use Rattle.std.specs.Prelude.{not, ◌&&◌}
 use Rattle.step_problem.proofs.BothSides.{low_side, high_side}
 use Rattle.step_problem.proofs.Sides.{IsSide, same_as_tight, as_tight_trans, same_settled}
-use Rattle.problem_builder.proofs.ActiveCells.{variable_active, constant_active}
+use Rattle.problem_builder.proofs.Members.{variable_active, constant_active}
 
 -- being the first settled vector is of the cells below n alone
 same_first : {Le : ℤ → ℤ → Type 0} {Moves : ℕ → ℤ → (ℕ → ℤ) → Type 0} {n : ℕ} (s : IsSide Le Moves n) (edge l m : ℕ → ℤ) → ((c : ℕ) → c < n → m c ≡ l c) → IsFirstSettled Le Moves n edge l → IsFirstSettled Le Moves n edge m

@@ -3,8 +3,7 @@ use Rattle.step_problem.proofs.Common.{◌≡◌, ℕ, ◌⊎◌, inl, inr, arit
 use Rattle.step_problem.proofs.Common.{head_limit, Ge, CanRise, CanSink, head_at, SettledPairExists, SettledPairIsOne, SettledPairCertifies}
 use Rattle.step_problem.proofs.Falls.{lower_falls, upper_falls}
 use Rattle.step_problem.proofs.BothSides.{low_side, high_side, le_trans, le_anti}
-use Rattle.step_problem.proofs.Searches.{IsSearchable}
-use Rattle.step_problem.proofs.SidesSettled.{first_settled_is_there, first_settled_certifies}
+use Rattle.step_problem.proofs.SidesSettled.{IsSearchable, first_settled_is_there, first_settled_certifies}
 
 -- how many heads are above v, and below it
 above : ℤ → ℕ

@@ -3,8 +3,7 @@ use Rattle.step_problem.proofs.Common.{ℕ, arith, ℤ, pos, neg_ℤ, ◌+ℤ◌
 use Rattle.step_problem.proofs.Common.{All-weaker, total, FallsInOwnHead, RisesInOtherHeads, link_low, fixed_low, river_low, drain_low, evap_low, lower_balance}
 use Rattle.step_problem.proofs.Common.{link_high, fixed_high, river_high, drain_high, evap_high, upper_balance}
 use Rattle.std.proofs.Common.{All}
-use Rattle.step_problem.proofs.Ring.{mul_mono}
-use Rattle.step_problem.proofs.Leasts.{least_rises, most_rises}
+use Rattle.step_problem.proofs.Leasts.{mul_mono, least_rises, most_rises}
 
 pub total_mono : {X : Type 0} (f g : X → ℤ) (xs : List X) → ((x : X) → f x ≤ℤ g x) → total f xs ≤ℤ total g xs
 total_mono f g [] each = omega (arith, ints)

@@ -1,11 +1,9 @@
 mod Common
-pub mod Ring
 pub mod Leasts
 pub mod Falls
 pub mod Sides
 pub mod SidesTurns
 pub mod BothSides
-pub mod Searches
 pub mod SidesSettled
 pub mod BothSettle
 pub mod Sums

@@ -6,7 +6,6 @@ pub mod Heads
 pub mod Settling
 pub mod Laws
 pub mod StepRefusals
-
 pub use Rattle.step_problem.specs.Balances.{balance, branch_flow, drain_flow, drain_high, drain_low, evap_flow, evap_high, evap_low, fixed_flow, fixed_high}
 pub use Rattle.step_problem.specs.Balances.{fixed_low, flow_bound, least, link_flow, link_high, link_low, lower_balance, most, river_flow, river_high}
 pub use Rattle.step_problem.specs.Balances.{river_low, total, upper_balance}

@@ -1,3 +1,2 @@
 mod Common
-pub mod ArrayLemmas
 pub mod ModelLemmas

@@ -1,9 +1,23 @@
 -- A model in limits stays so with recharge.
-use Rattle.stress_packages.proofs.Common.{◌≡◌, ℤ, pos, ◌≤ℤ◌, List, All, map, refl, sym, ap, subst, arith, FlowModel, Period, without, AreArrays, HasRecharge}
-use Rattle.stress_packages.proofs.Common.{IsRecharged, SameBut, recharge_arrays, ◌∙◌, is_int, IsModel, IsPeriod}
+use Rattle.std.proofs.Common.{◌≡◌, ℤ, pos, ◌≤ℤ◌, List, All, map, refl, sym, ap, subst, arith, ◌∙◌}
+use Rattle.model_types.specs.declared.model.FlowModel.{FlowModel}
+use Rattle.model_types.specs.declared.period.Period.{Period}
+use Rattle.period_arrays.specs.{without, contents, IsArea}
+use Rattle.stress_packages.specs.{AreArrays, HasRecharge, IsRecharged, SameBut, recharge_arrays}
+use Rattle.model_types.specs.{is_int, IsModel, IsPeriod}
 use Rattle.std.proofs.lemmas.Int.{ints}
-use Rattle.stress_packages.proofs.ArrayLemmas.{is_recharged}
 use Rattle.list_package.proofs.ModelLemmas.{each_period, evaporation_of, replaced, same_evaps, same_view, steps, with_stresses}
+use Rattle.std.proofs.lemmas.List.Elements.{All-weaker}
+use Rattle.model_types.specs.declared.grid.Grid.{Grid}
+use Rattle.model_types.specs.declared.period.Stresses.{Stresses}
+use Rattle.period_arrays.specs.declared.area.Area.{Area}
+
+-- Stresses with arrays, and a model whose periods have them.
+pub are_arrays : (grid : Grid) (option : ℤ) (before : Stresses) (a : Area) → IsArea (contents recharge_arrays option) grid a → AreArrays (is_int option 2) grid (recharge_arrays.put before a)
+are_arrays grid option before a h = record { rates = h.rates; layers = h.layers }
+
+pub is_recharged : (m : FlowModel) (option : ℤ) (ps : List Period) → (pos 1 ≤ℤ option) × (option ≤ℤ pos 3) → All (λ p. AreArrays (is_int option 2) m.grid p.stresses) ps → IsRecharged (record m { nrchop = option; periods = ps })
+is_recharged m option ps range h = record { option = range; periods = All-weaker (λ p. AreArrays (is_int option 2) m.grid p.stresses) (HasRecharge (record m { nrchop = option; periods = ps })) (λ p a. record { recharge = record { whole = a.rates.0; decimals = a.rates.1 }; irch = a.layers }) ps h }
 
 period : (m : FlowModel) (r : ℤ) (ps : List Period) (p q : Period) → without recharge_arrays p ≡ without recharge_arrays q → IsPeriod m q → HasRecharge (record m { nrchop = r; periods = ps }) p → IsPeriod (record m { nrchop = r; periods = ps }) p
 period m r ps p q same h has =

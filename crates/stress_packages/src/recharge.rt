@@ -3,8 +3,7 @@ ghost use Rattle.std.specs.Prelude.{IfOk, List};
 ghost use Rattle.outside.specs.{TextMay, FileSet, ReadsOn};
 ghost use Rattle.record_lines.specs.{Has};
 ghost use Rattle.model_types.specs.{HasSize, is_int, IsModel};
-ghost use Rattle.stress_packages.specs.Forms.{AreArrays, IsRecharged, SameBut};
-ghost use Rattle.stress_packages.specs.Packages.{rch_of, recharge_arrays};
+ghost use Rattle.stress_packages.specs.Packages.{AreArrays, IsRecharged, SameBut, rch_of, recharge_arrays};
 
 use model_types::{FlowModel, Grid, Stresses};
 use outside::{Folder, InputFault, TextFault};
@@ -34,7 +33,7 @@ impl ArrayPackage for Recharge {
         Ok(())
     }
 
-    #[tactic(auto, using(crate::proofs::ArrayLemmas::are_arrays))]
+    #[tactic(auto, using(crate::proofs::ModelLemmas::are_arrays))]
     fn put(stresses: Stresses, area: Area) -> Stresses {
         Stresses {
             recharge: area.rates,
@@ -52,7 +51,7 @@ impl ArrayPackage for Recharge {
 /// The first item that is wrong is refused on its line: OutOfProfile for parameters and for another option,
 /// NothingToReuse where there is no array to reuse; CellOutside, with line 0 and the cell, for a layer that the grid
 /// lacks. A read fault comes only from the folder. (TM 6-A16, RCH)
-#[tactic(auto, unfolding(crate::specs::Packages::rch_of), using(crate::proofs::ArrayLemmas::is_recharged))]
+#[tactic(auto, unfolding(crate::specs::Packages::rch_of), using(crate::proofs::ModelLemmas::is_recharged))]
 pub fn read_rch<F: Folder>(
     alloc: Global,
     file: &str,

@@ -7,7 +7,6 @@ pub use Rattle.std.proofs.lemmas.Bool.Decides.{nat_tests}
 pub use Rattle.std.proofs.lemmas.Int.{clamps, ints, to_z-of_z}
 pub use Rattle.std.proofs.lemmas.List.{append-nil, drop_all}
 pub use Rattle.std.proofs.lemmas.List.Elements.{All-append, All-cons, All-contains, All-from_get_or, All-head, All-nil, All-tail, All-weaker}
-pub use Rattle.std.proofs.lemmas.Map.Views.{All-keys-insert_entry, All-values-insert_entry}
 pub use Rattle.std.specs.BTreeMap.{insert_entry, is_at}
 pub use Rattle.std.specs.Int.{int_max, int_min, w128}
 pub use Rattle.std.specs.List.{AllZip, filter, flat_map}

@@ -4,7 +4,8 @@ use Rattle.zone_flows.proofs.Common.{Result, Ok, Err, Contains, if◌then◌else
 use Rattle.zone_flows.proofs.Common.{is_below_limit, zone_flow, too_large, listed_flows, IsBeforeAll, PairsAscend, ShareFace, IsBelowLimit, IsZoneFlow}
 use Rattle.zone_flows.proofs.Common.{AreZoneFlows, IsFirstTooLarge, Table, key_of, with_faces, keys_of}
 use Rattle.zone_flows.proofs.Keys.{Above, KeysAscend, IsEntry, entry_above, table_ascends}
-use Rattle.zone_flows.proofs.Pairing.{FacesFit, key_div, key_mod, key_before, before_key, IsSumOf, entry_is, shared_entry, small_true, true_small, flow_of, flow_is}
+use Rattle.zone_flows.proofs.Pairing.{FacesFit, key_div, key_mod, key_before, before_key, IsSumOf, entry_is, shared_entry, small_true, true_small, flow_of}
+use Rattle.zone_flows.proofs.Pairing.{flow_is}
 use Rattle.step_problem.specs.declared.place.Place.TheVariants as places
 
 -- the flow of each entry, all small

@@ -5,9 +5,9 @@ use Rattle.zone_flows.proofs.Common.{total, TermPair, capped, plus_pair, parts, 
 use Rattle.zone_flows.proofs.Common.{is_below_limit, zone_flow, IsBefore, ShareFace, IsBelowLimit, key_of, faces_keyed, no_pair, no_flows, plus_flows}
 use Rattle.zone_flows.proofs.Common.{with_faces, and_parts, found, None, Some, get_or}
 use Rattle.std.specs.Int.Signed.{lt_z}
-use Rattle.zone_flows.proofs.Tables.{none_is_sum}
-use Rattle.zone_flows.proofs.Sums.{same_key, found_faces, flows_are_parts, net_lo, net_hi, magnitudes_lo, magnitudes_hi, together_below, below_together, is_whole}
-use Rattle.zone_flows.proofs.Keys.{IsEntry, table_ascends, entry_found, found_entry}
+use Rattle.zone_flows.proofs.Keys.{none_is_sum, IsEntry, table_ascends, entry_found, found_entry}
+use Rattle.zone_flows.proofs.Sums.{same_key, found_faces, flows_are_parts, net_lo, net_hi, magnitudes_lo, magnitudes_hi, together_below, below_together}
+use Rattle.zone_flows.proofs.Sums.{is_whole}
 
 -- the two zones of a face are below 1000
 pub record FaceFits (f : Face) : Type 0 where

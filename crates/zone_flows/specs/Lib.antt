@@ -1,13 +1,10 @@
 pub mod Faces
-pub mod Exact
 pub mod Tables
 pub mod Pairs
-
-pub use Rattle.zone_flows.specs.Exact.{EncloseEveryStep, EncloseExact, ExactFace, HeadsLieWithin, exact_by_kind, exact_fixed, exact_flow, exact_link}
-pub use Rattle.zone_flows.specs.Exact.{is_exact_between}
-unfoldable pub use Rattle.zone_flows.specs.Exact.{exact_cell, exact_faces, exact_from}
-pub use Rattle.zone_flows.specs.Faces.{AreOfGrid, AreOwnZones, Face, IsWalk, face_between, faces_by_kind, fixed_faces, is_between, is_lower_zone, link_faces}
-unfoldable pub use Rattle.zone_flows.specs.Faces.{cell_faces, face_from, faces, flows_between}
+pub use Rattle.zone_flows.specs.Faces.{AreOfGrid, AreOwnZones, EncloseEveryStep, EncloseExact, ExactFace, Face, HeadsLieWithin, IsWalk, exact_by_kind}
+pub use Rattle.zone_flows.specs.Faces.{exact_fixed, exact_flow, exact_link, face_between, faces_by_kind, fixed_faces, is_between, is_exact_between}
+pub use Rattle.zone_flows.specs.Faces.{is_lower_zone, link_faces}
+unfoldable pub use Rattle.zone_flows.specs.Faces.{cell_faces, exact_cell, exact_faces, exact_from, face_from, faces, flows_between}
 pub use Rattle.zone_flows.specs.Pairs.{AreZoneFlows, FlowsAreOne, FlowsExcludeRefusal, IsBefore, IsBeforeAll, IsBelowLimit, IsFirstTooLarge, IsZoneFlow}
 pub use Rattle.zone_flows.specs.Pairs.{PairsAscend, RefusalIsOne, Returns, ReturnsFlows, ShareFace}
 pub use Rattle.zone_flows.specs.Tables.{IsTable, IsZoneSum, Table, flow_or_refusal, found, is_below_limit, key_of, no_flows, no_pair, plus_flow, too_large}

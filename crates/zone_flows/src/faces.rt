@@ -65,7 +65,7 @@ fn add_links(
 }
 
 // Adds the face to a constant-head cell, whose zone may be the lower or the higher.
-#[tactic(auto, using(crate::proofs::Tables::two_faces), unfolding(crate::specs::Tables::with_faces))]
+#[tactic(auto, using(crate::proofs::Keys::two_faces), unfolding(crate::specs::Tables::with_faces))]
 fn add_constant(
     map: &mut BTreeMap<u32, ZoneSum>,
     zones: &[u32],
@@ -116,7 +116,7 @@ fn add_fixed(
     Ok(())
 }
 
-#[tactic(auto, unfolding(crate::specs::Faces::cell_faces), using(crate::proofs::Tables::two_faces))]
+#[tactic(auto, unfolding(crate::specs::Faces::cell_faces), using(crate::proofs::Keys::two_faces))]
 fn add_cell(
     map: &mut BTreeMap<u32, ZoneSum>,
     p: &Problem,

@@ -3,7 +3,6 @@ pub use Rattle.std.proofs.Common.{All, Bool, List, None, Option, Some, [], ap, a
 pub use Rattle.std.proofs.Common.{sym, take, true, zero, ℕ, ◌%◌, ◌&&◌, ◌*◌, ◌++◌, ◌+◌, ◌/◌, ◌<◌, ◌||◌, ◌∙◌, ◌∷◌, ◌≡◌, ◌≤◌, ◌⊎◌}
 pub use Rattle.std.proofs.lemmas.Bool.{and_from, and_parts, cases_order, eqb-true, leb-true, or_cases, or_left, or_right}
 pub use Rattle.std.proofs.lemmas.List.{map-append, take_all}
-pub use Rattle.std.proofs.lemmas.List.Elements.{All-nil, All-weaker, filter_passes, recursion_from_All}
 pub use Rattle.std.specs.List.{AllByRecursion, list_any, range_with_len}
 pub use Rattle.std.specs.Ordering.{nat_cmp}
 pub use Rattle.model_types.specs.{cell_count, faces, is_active, is_variable, variable_cells}

@@ -1,7 +1,9 @@
 -- What it says that a face joins two zones, and that zones share a face.
 use Rattle.zone_pairs.proofs.Common.{◌≡◌, ℕ, zero, suc, ◌<◌, ◌≤◌, ◌⊎◌, inl, inr, Bool, true, false, ◌&&◌, ◌||◌, refl, ap, ◌∙◌, arith, List, [], ◌∷◌, All}
 use Rattle.zone_pairs.proofs.Common.{Option, Some, None, AllByRecursion, list_any, and_from, and_parts, eqb-true, leb-true, or_cases, or_left, or_right}
-use Rattle.zone_pairs.proofs.Common.{recursion_from_All, FlowModel, faces, variable_cells, ZonePair, joins, joins_by, share_face, is_active}
+use Rattle.zone_pairs.proofs.Common.{FlowModel, faces, variable_cells, is_active, ZonePair, joins, joins_by, share_face, pairs_below, pairs_in, zone_pairs}
+use Rattle.zone_pairs.proofs.Common.{AreNumbers, AreZones}
+use Rattle.std.proofs.lemmas.List.Elements.{recursion_from_All, All-nil, All-weaker, filter_passes}
 use Rattle.std.specs.Prelude.{◌==◌, nat_lt, slice_index}
 use Rattle.model_types.specs.declared.face.Face.{Face}
 use Rattle.model_types.proofs.Members.{In}
@@ -92,3 +94,18 @@ module _ (m : FlowModel) (zones : List ℕ) where
           | inl (x, y) ↦ (omega (arith, x, a), omega (arith, y, b))
           | inr (x, y) ↦ (omega (arith, y, b), omega (arith, x, a))
         ]
+
+-- The zones of a pair are at most 999.
+-- the zones of a pair
+abbrev pub IsPair : ZonePair → Type 0
+IsPair z = (z.from ≤ 999) × (z.to ≤ 999)
+
+pub pairs_small : (m : FlowModel) (zones : Option (List ℕ)) (p : ℕ) → AreNumbers zones → All IsPair (pairs_in m zones p)
+unfolding zone_pairs
+pairs_small m None p h = All-nil IsPair
+pairs_small m (Some zones) p h = All-weaker _ IsPair (shared_small m zones h p) _ (filter_passes (share_face m zones p) (pairs_below 1000))
+
+-- zones of a model's cells
+pub are_numbers : (m : FlowModel) (zones : Option (List ℕ)) → AreZones m zones → AreNumbers zones
+are_numbers m None h = tt
+are_numbers m (Some zones) h = h.limits

@@ -2,4 +2,3 @@ mod Common
 pub mod Gains
 pub mod InOrder
 pub mod Joined
-pub mod Small

@@ -1,4 +1,4 @@
-use Rattle.array_reader.proofs.NameLemmas.{name_taken, name_refused}
+use Rattle.array_reader.proofs.NumberLemmas.{name_taken, name_refused}
 use Rattle.array_reader.proofs.line_items.name_of.Goals as goal
 
 pub returns-in-Some-clause-name : goal.returns-in-Some-clause-name

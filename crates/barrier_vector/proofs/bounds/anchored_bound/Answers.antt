@@ -1,6 +1,6 @@
 use Rattle.barrier_vector.proofs.Common.{rules, FitsSigned, w64, to_z-of_z}
-use Rattle.barrier_vector.proofs.Basing.{base_head}
-use Rattle.barrier_vector.proofs.Surveying.{bound_anchored}
+use Rattle.barrier_vector.proofs.Rooting.{base_head}
+use Rattle.barrier_vector.proofs.Uniques.{bound_anchored}
 use Rattle.barrier_vector.proofs.bounds.anchored_bound.Goals as goal
 
 pub returns-in-Some : goal.returns-in-Some

@@ -1,8 +1,7 @@
 use Rattle.barrier_vector.proofs.Common.{◌+◌, ap, ◌∙◌, sym, subst, length, length-append, List, Option, ℤ, ℕ, ◌∷◌, [], FitsSigned, w64, to_z-of_z, need}
 use Rattle.barrier_vector.proofs.Common.{capped_flow, IsAnchoredOrNone, AreAnchorPaths}
-use Rattle.barrier_vector.proofs.Rooting.{searched_as}
-use Rattle.barrier_vector.proofs.Basing.{bounds_more}
-use Rattle.barrier_vector.proofs.Surveying.{paths_made}
+use Rattle.barrier_vector.proofs.Rooting.{searched_as, bounds_more}
+use Rattle.barrier_vector.proofs.Uniques.{paths_made}
 use Rattle.barrier_vector.proofs.Outlining.{need_whole, roots_whole, roots_on}
 use Rattle.barrier_vector.proofs.bounds.anchored_bounds.Goals as goal
 

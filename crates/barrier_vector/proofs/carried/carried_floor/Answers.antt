@@ -1,6 +1,6 @@
 use Rattle.barrier_vector.proofs.Common.{◌≤◌, arith, length, rules, slice_index, slice_index_or, FitsSigned, w64, to_z-of_z, Low, path_limit}
 use Rattle.barrier_vector.proofs.Spreading.{no_both}
-use Rattle.barrier_vector.proofs.Basing.{base_head, capped_within, greatest_within}
+use Rattle.barrier_vector.proofs.Rooting.{base_head, capped_within, greatest_within}
 use Rattle.barrier_vector.proofs.Carrying.{floor_carried, floor_none}
 use Rattle.barrier_vector.proofs.Gathering.{not_positive}
 use Rattle.barrier_vector.proofs.carried.carried_floor.Goals as goal

@@ -1,5 +1,5 @@
 use Rattle.barrier_vector.proofs.Common.{◌+◌, ap, ◌∙◌, length, length-append, List, Option, ℤ, ℕ, ◌∷◌, [], Low, IsBoundOrNone}
-use Rattle.barrier_vector.proofs.Basing.{bounds_more}
+use Rattle.barrier_vector.proofs.Rooting.{bounds_more}
 use Rattle.barrier_vector.proofs.carried.with_carried_floors.Goals as goal
 
 pub loop-c-preserved : goal.loop-c-preserved

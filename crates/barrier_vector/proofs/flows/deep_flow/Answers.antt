@@ -1,7 +1,7 @@
 use Rattle.barrier_vector.proofs.Common.{◌≡◌, rules, ap, ◌∙◌, subst, List, sum_by, ◌+ℤ◌, ◌-ℤ◌, FitsSigned, w128, to_z-of_z, Flow, River, Entries, IsWithin}
 use Rattle.barrier_vector.proofs.Common.{magnitude, deep_river_low, deep_river_high, full_rate}
 use Rattle.step_problem.specs.declared.entry.Evap.{Evap}
-use Rattle.barrier_vector.proofs.Giving.{joined_within}
+use Rattle.barrier_vector.proofs.Outlining.{joined_within}
 use Rattle.barrier_vector.proofs.flows.deep_flow.Goals as goal
 
 pub returns-clause-within : goal.returns-clause-within

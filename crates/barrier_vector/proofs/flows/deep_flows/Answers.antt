@@ -1,5 +1,5 @@
 use Rattle.barrier_vector.proofs.Common.{◌≡◌, rules, ◌+◌, ◌++◌, ◌∷◌, [], length, length-append, ap, ◌∙◌, FitsSigned, List, ℤ, w128, to_z-of_z, deep_low}
-use Rattle.barrier_vector.proofs.Giving.{values_more, all_within}
+use Rattle.barrier_vector.proofs.Outlining.{values_more, all_within}
 use Rattle.barrier_vector.proofs.flows.deep_flows.Goals as goal
 
 pub loop-c-preserved : goal.loop-c-preserved

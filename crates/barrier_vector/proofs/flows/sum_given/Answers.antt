@@ -1,5 +1,5 @@
 use Rattle.barrier_vector.proofs.Common.{◌+◌, rules, take, sum_by, ◌+ℤ◌, FitsSigned, to_z, w128, to_z-of_z, IsWithin, total_step}
-use Rattle.barrier_vector.proofs.Giving.{within_more, part_fits}
+use Rattle.barrier_vector.proofs.Outlining.{within_more, part_fits}
 use Rattle.barrier_vector.proofs.flows.sum_given.Goals as goal
 
 pub overflow_add-sum : goal.overflow_add-sum

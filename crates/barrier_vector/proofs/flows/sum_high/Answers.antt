@@ -1,7 +1,7 @@
 use Rattle.barrier_vector.proofs.Common.{◌+◌, rules, refl, take, sum_by, pos, ◌+ℤ◌, FitsSigned, to_z, slice_index_or, w128, to_z-of_z, Flow, IsWithin}
 use Rattle.barrier_vector.proofs.Common.{magnitude, total_step}
 use Rattle.step_problem.specs.declared.entry.FlowKind.TheVariants.{Wells}
-use Rattle.barrier_vector.proofs.Giving.{within_more, part_fits, magnitude_within}
+use Rattle.barrier_vector.proofs.Outlining.{within_more, part_fits, magnitude_within}
 use Rattle.barrier_vector.proofs.flows.sum_high.Goals as goal
 
 -- stands for an entry past the end

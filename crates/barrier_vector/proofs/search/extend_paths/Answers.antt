@@ -1,5 +1,5 @@
 use Rattle.std.proofs.Common.{arith, ◌≡◌, subst, ℕ, length}
-use Rattle.barrier_vector.proofs.Extending.{extended_more, these_have, Extended}
+use Rattle.barrier_vector.proofs.Gathering.{extended_more, these_have, Extended}
 use Rattle.barrier_vector.proofs.search.extend_paths.Goals as goal
 
 pub loop-c-preserved : goal.loop-c-preserved

@@ -1,4 +1,4 @@
-use Rattle.barrier_vector.proofs.Extending.{Extended}
+use Rattle.barrier_vector.proofs.Gathering.{Extended}
 use Rattle.barrier_vector.proofs.search.extend_paths.Given as goal
 
 abbrev pub invariant-loop-c : goal.invariant-loop-c

@@ -1,4 +1,4 @@
-use Rattle.budget_bounds.proofs.Covering.{cover_encloses}
+use Rattle.budget_bounds.proofs.Enclosed.{cover_encloses}
 use Rattle.budget_bounds.proofs.laws.cover_encloses.Goals as goal
 
 pub returns : goal.returns

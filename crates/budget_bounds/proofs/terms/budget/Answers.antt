@@ -1,6 +1,6 @@
 use Rattle.budget_bounds.proofs.Common.{◌∙◌, lower_at, upper_at}
-use Rattle.budget_bounds.proofs.Ordered.{budget_encloses}
-use Rattle.budget_bounds.proofs.Testing.{budget_tested}
+use Rattle.budget_bounds.proofs.Enclosed.{budget_encloses}
+use Rattle.budget_bounds.proofs.Caps.{budget_tested}
 use Rattle.budget_bounds.proofs.terms.budget.Goals as goal
 
 pub returns-clause-budget : goal.returns-clause-budget

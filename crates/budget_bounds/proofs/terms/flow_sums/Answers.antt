@@ -1,5 +1,5 @@
 use Rattle.budget_bounds.proofs.Common.{◌≡◌, arith, length, In, Out, lower_at, upper_at}
-use Rattle.budget_bounds.proofs.Walking.{one_more, all_below}
+use Rattle.budget_bounds.proofs.Caps.{one_more, all_below}
 use Rattle.budget_bounds.proofs.terms.flow_sums.Goals as goal
 
 pub loop-c-preserved : goal.loop-c-preserved

@@ -1,5 +1,5 @@
 use Rattle.budget_bounds.proofs.Common.{◌≡◌, In, Out, Term, lower_at, upper_at, AreSums, sum_of}
-use Rattle.budget_bounds.proofs.Walking.{sums_below}
+use Rattle.budget_bounds.proofs.Caps.{sums_below}
 use Rattle.budget_bounds.proofs.terms.flow_sums.Given as goal
 
 abbrev pub invariant-loop-c : goal.invariant-loop-c

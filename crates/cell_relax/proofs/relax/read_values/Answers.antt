@@ -1,5 +1,5 @@
 use Rattle.cell_relax.proofs.Common.{◌≡◌, arith, rules, ◌<◌, ◌∙◌, length, length-set, FitsSigned, w64, to_z-of_z, entries_at, heads_on}
-use Rattle.cell_relax.proofs.Reading.{read_more}
+use Rattle.cell_relax.proofs.Relaxing.{read_more}
 use Rattle.cell_relax.proofs.relax.read_values.Goals as goal
 
 pub loop-i-preserved : goal.loop-i-preserved

@@ -1,5 +1,5 @@
 use Rattle.cell_relax.proofs.Common.{sym, rules, FitsSigned, w64, length, to_z-of_z, entries_at, heads_on, IsHead, subst}
-use Rattle.cell_relax.proofs.Reading.{ends_in_range}
+use Rattle.cell_relax.proofs.Relaxing.{ends_in_range}
 use Rattle.cell_relax.proofs.Sides.{heads_in_range}
 use Rattle.cell_relax.proofs.relax.relax_in.Goals as goal
 

@@ -1,7 +1,8 @@
 use Rattle.check_run.proofs.Common.{◌∙◌, ℕ, ◌≤◌, refl, subst, sym, List, option_map, Bound, AreGridHeads, HeadsEnclose, start_head, EachMember, step_in}
 use Rattle.check_run.proofs.Common.{digits_of, AreDeckTables, AreStartHeadsFor}
-use Rattle.check_run.proofs.Checking.{at_first, ends_certified, ends_enclosed, ends_history, flows_here, goes_here, listed_at, not_certified, ok_follows, stops_here}
-use Rattle.check_run.proofs.Listed.{grid_of}
+use Rattle.check_run.proofs.Checking.{at_first, ends_certified, ends_enclosed, ends_history, flows_here, goes_here, listed_at, not_certified, ok_follows}
+use Rattle.check_run.proofs.Checking.{stops_here}
+use Rattle.check_run.proofs.RunText.{grid_of}
 use Rattle.check_run.proofs.listing.check_steps.Goals as goal
 
 pub loop-index-init : goal.loop-index-init

@@ -2,7 +2,7 @@ use Rattle.check_run.proofs.Common.{◌∙◌, List, option_map, subst, sym, ari
 use Rattle.check_run.proofs.Common.{are_numbers, cut_by}
 use Rattle.check_run.proofs.Checking.{err_follows, ok_follows}
 use Rattle.check_run.proofs.FlowPairs.{flows_have_pairs}
-use Rattle.check_run.proofs.Listed.{are_words, id_within}
+use Rattle.check_run.proofs.RunText.{are_words, id_within}
 use Rattle.check_run.proofs.Outcomes.{constant_fails, step_moves, step_passes, term_fails, variable_fails, zones_fail}
 use Rattle.check_run.proofs.step.check_listed.Goals as goal
 

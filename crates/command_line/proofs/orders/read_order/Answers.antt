@@ -1,5 +1,5 @@
 use Rattle.command_line.proofs.Common.{rules, ◌≡◌, ◌≢◌, map, ◌∙◌, sym, app_of, kind_of, heads_app}
-use Rattle.command_line.proofs.Reading.{usage_at_err, order_at_ok}
+use Rattle.command_line.proofs.Plain.{usage_at_err, order_at_ok}
 use Rattle.clap.specs.declared.error.kind.ErrorKind.TheVariants as kind
 use Rattle.command_line.proofs.orders.read_order.Goals as goal
 

@@ -1,4 +1,4 @@
-use Rattle.conductance_bounds.proofs.Evaporated.{evap_encloses}
+use Rattle.conductance_bounds.proofs.LayerBounds.{evap_encloses}
 use Rattle.conductance_bounds.proofs.evaporation.evap_branch.Goals as goal
 
 pub returns-clause-rounded : goal.returns-clause-rounded

@@ -1,6 +1,6 @@
 use Rattle.conductance_bounds.proofs.Common.{inl, arith, ints, AtMost-refl}
 use Rattle.conductance_bounds.proofs.Arithmetic.{size_reach}
-use Rattle.conductance_bounds.proofs.Unity.{unity_is}
+use Rattle.conductance_bounds.proofs.SpanBounds.{unity_is}
 use Rattle.conductance_bounds.proofs.interval.one.Goals as goal
 
 pub returns-clause-ordered : goal.returns-clause-ordered

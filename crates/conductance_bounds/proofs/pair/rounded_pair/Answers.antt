@@ -1,5 +1,5 @@
 use Rattle.conductance_bounds.proofs.Common.{◌-◌, ◌^◌, arith, value}
-use Rattle.conductance_bounds.proofs.Whole.{Reaches-passes, ceiling-passes}
+use Rattle.conductance_bounds.proofs.LayerBounds.{Reaches-passes, ceiling-passes}
 use Rattle.conductance_bounds.proofs.pair.rounded_pair.Goals as goal
 
 pub returns-in_default-floor_units : goal.returns-in_default-floor_units

@@ -1,6 +1,6 @@
 use Rattle.conductance_bounds.proofs.Common.{◌≡◌, ◌^◌, true, false, inl, inr, refl, sym, ◌∙◌, value, is_whole}
 use Rattle.conductance_bounds.proofs.PartBounds.{part_encloses, lower_at_most, multiplier_positive}
-use Rattle.decimal_input.proofs.Past.{a_ceiling}
+use Rattle.decimal_input.proofs.SignedFloors.{a_ceiling}
 use Rattle.conductance_bounds.proofs.part.time_part.Goals as goal
 
 pub returns-then-is_over-clause-encloses : goal.returns-then-is_over-clause-encloses

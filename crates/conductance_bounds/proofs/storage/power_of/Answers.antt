@@ -1,4 +1,4 @@
-use Rattle.conductance_bounds.proofs.Equal.{equal_powers}
+use Rattle.conductance_bounds.proofs.SpanBounds.{equal_powers}
 use Rattle.conductance_bounds.proofs.storage.power_of.Goals as goal
 
 pub returns-then-is_one-clause-bounds : goal.returns-then-is_one-clause-bounds

@@ -1,5 +1,5 @@
 use Rattle.std.proofs.Common.{arith}
-use Rattle.conductance_bounds.proofs.Equal.{equal_sums}
+use Rattle.conductance_bounds.proofs.SpanBounds.{equal_sums}
 use Rattle.conductance_bounds.proofs.storage.sum_of.Goals as goal
 
 pub returns-then-is_one-clause-bounds : goal.returns-then-is_one-clause-bounds

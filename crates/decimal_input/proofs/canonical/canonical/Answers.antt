@@ -1,5 +1,5 @@
 use Rattle.decimal_input.proofs.Common.{arith, ints}
-use Rattle.decimal_input.proofs.Canon.{accepted, number}
+use Rattle.decimal_input.proofs.Powers.{accepted, number}
 use Rattle.decimal_input.proofs.canonical.canonical.Goals as goal
 
 pub returns-else-exp-gt-GREATEST_EXPONENT-clause-exact : goal.returns-else-exp-gt-GREATEST_EXPONENT-clause-exact

@@ -1,5 +1,5 @@
 use Rattle.std.proofs.Common.{ℕ, ◌*◌, ◌^◌, refl, ap, arith}
-use Rattle.decimal_input.proofs.Digits.{many_again, trimmed, zero_behind, digits_behind, many_behind, long, shifted}
+use Rattle.decimal_input.proofs.Powers.{many_again, trimmed, zero_behind, digits_behind, many_behind, long, shifted}
 use Rattle.decimal_input.proofs.coefficient.with_digit.Goals as goal
 
 pub returns-then-k-clause-value : goal.returns-then-k-clause-value

@@ -1,4 +1,4 @@
-use Rattle.decimal_input.proofs.Enclosing.{whole_signed}
+use Rattle.decimal_input.proofs.FloorLaws.{whole_signed}
 use Rattle.decimal_input.proofs.laws.bounds_hold_over_a_denominator.Goals as goal
 
 pub returns : goal.returns

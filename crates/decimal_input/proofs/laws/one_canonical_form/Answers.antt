@@ -1,4 +1,4 @@
-use Rattle.decimal_input.proofs.OneNumber.{one_number}
+use Rattle.decimal_input.proofs.Unique.{one_number}
 use Rattle.decimal_input.proofs.laws.one_canonical_form.Goals as goal
 
 pub returns : goal.returns

@@ -1,6 +1,5 @@
 use Rattle.decimal_input.proofs.Common.{◌-◌, ◌<◌, ◌^◌, arith, ints, Ratio, IsFloor, IsCeiling, Passes, Reaches}
-use Rattle.decimal_input.proofs.Past.{if_none, of_size, ceiling_past, ceiling_past_negative}
-use Rattle.decimal_input.proofs.SignedFloors.{ceiling_of_ceiling, ceiling_of_floor}
+use Rattle.decimal_input.proofs.SignedFloors.{if_none, of_size, ceiling_past, ceiling_past_negative, ceiling_of_ceiling, ceiling_of_floor}
 use Rattle.decimal_input.proofs.units.ceil_at.Goals as goal
 
 pub returns-in_err-depth-clause-past : goal.returns-in_err-depth-clause-past

@@ -1,6 +1,5 @@
 use Rattle.decimal_input.proofs.Common.{◌-◌, ◌<◌, ◌^◌, arith, ints, Ratio, IsFloor, IsCeiling, Passes, Reaches}
-use Rattle.decimal_input.proofs.Past.{if_none, of_size, floor_past, floor_past_negative}
-use Rattle.decimal_input.proofs.SignedFloors.{floor_of_floor, floor_of_ceiling}
+use Rattle.decimal_input.proofs.SignedFloors.{if_none, of_size, floor_past, floor_past_negative, floor_of_floor, floor_of_ceiling}
 use Rattle.decimal_input.proofs.units.floor_at.Goals as goal
 
 pub returns-in_err-depth-clause-past : goal.returns-in_err-depth-clause-past

@@ -1,6 +1,6 @@
 use Rattle.decimal_input.proofs.Common.{◌+◌, ◌-◌, ◌*◌, get_or, arith, sym, ◌∙◌, at_drop_more, number_from}
 use Rattle.decimal_input.proofs.Named.{digit_small}
-use Rattle.decimal_input.proofs.Short.{longer, within}
+use Rattle.decimal_input.proofs.Powers.{longer, within}
 use Rattle.decimal_input.proofs.word.short_number.Goals as goal
 
 pub overflow_mul-so_far : goal.overflow_mul-so_far

@@ -1,5 +1,5 @@
 use Rattle.std.proofs.Common.{length, arith, rules}
-use Rattle.decimal_input.proofs.Fronts.{front_is, front_taken, front_dropped}
+use Rattle.decimal_input.proofs.Parts.{front_is, front_taken, front_dropped}
 use Rattle.decimal_input.proofs.word.split_digits.Goals as goal
 
 pub returns-then-not-digit_byte-clause-digits : goal.returns-then-not-digit_byte-clause-digits

@@ -1,4 +1,4 @@
-use Rattle.deck_alike.proofs.ZipLemmas.{zip_more}
+use Rattle.deck_alike.proofs.Layers.{zip_more}
 use Rattle.deck_alike.proofs.lists.first_apart.Goals as goal
 
 pub loop-i-preserved : goal.loop-i-preserved

@@ -1,5 +1,5 @@
 use Rattle.deck_alike.proofs.Common.{no_number, AreRatesAlike}
-use Rattle.deck_alike.proofs.ZipLemmas.{zip_more_at}
+use Rattle.deck_alike.proofs.Layers.{zip_more_at}
 use Rattle.deck_alike.proofs.lists.first_idle_apart.Goals as goal
 
 pub loop-i-preserved : goal.loop-i-preserved

@@ -1,6 +1,6 @@
 use Rattle.deck_alike.proofs.Common.{◌≡◌, length, arith, SharesIn}
 use Rattle.deck_alike.proofs.Finding.{periods_found}
-use Rattle.deck_alike.proofs.ZipLemmas.{zip_more}
+use Rattle.deck_alike.proofs.Layers.{zip_more}
 use Rattle.deck_alike.proofs.periods.periods_apart.Goals as goal
 
 pub returns-in-Some : goal.returns-in-Some

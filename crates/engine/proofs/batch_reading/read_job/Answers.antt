@@ -1,5 +1,5 @@
 use Rattle.engine.proofs.Common.{Err, Ok, rules, batch_by}
-use Rattle.engine.proofs.BatchReading.{job_read}
+use Rattle.engine.proofs.Certifying.{job_read}
 use Rattle.engine.proofs.Readings.{of_known}
 use Rattle.engine.proofs.batch_reading.read_job.Goals as goal
 

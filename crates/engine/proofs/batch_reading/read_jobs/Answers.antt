@@ -1,5 +1,5 @@
 use Rattle.engine.proofs.Common.{◌∙◌, ℕ, List, arith, length-append, subst, sym, batch_by, folder_name, reads, whole}
-use Rattle.engine.proofs.BatchReading.{jobs_read_more, tasks_more}
+use Rattle.engine.proofs.Certifying.{jobs_read_more, tasks_more}
 use Rattle.engine.proofs.Readings.{of_known}
 use Rattle.engine.proofs.batch_reading.read_jobs.Goals as goal
 

@@ -1,7 +1,7 @@
 use Rattle.engine.proofs.Common.{List, ℕ, rules, subst, err_from_is_err_and, StopsText, names_in, batch_by, AskedBatch}
-use Rattle.engine.proofs.BatchReading.{names_are, names_bad, names_stop, names_unread}
+use Rattle.engine.proofs.Certifying.{names_are, names_bad, names_stop, names_unread}
 use Rattle.engine.proofs.Readings.{of_known}
-use Rattle.batch_list.proofs.Forward.{names_named}
+use Rattle.batch_list.proofs.LineLemmas.{names_named}
 use Rattle.engine.proofs.batch_reading.read_names.Goals as goal
 
 pub returns-then-not-is_good_name-clause-reads : goal.returns-then-not-is_good_name-clause-reads

@@ -2,7 +2,7 @@ use Rattle.engine.proofs.Common.{◌≡◌, map, Some, Option, Rose, Wanted, sub
 use Rattle.engine.proofs.Common.{Batch, but_batch}
 use Rattle.engine.proofs.Ends.{ends_without_words}
 use Rattle.engine.proofs.Beside.{not_ok, without_views}
-use Rattle.engine.proofs.Naming.{batch_named}
+use Rattle.engine.proofs.BatchEnds.{batch_named}
 use Rattle.engine.proofs.batching.answer_any.Goals as goal
 
 pub returns-in-Ok-Some-clause-answers : goal.returns-in-Ok-Some-clause-answers

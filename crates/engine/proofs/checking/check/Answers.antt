@@ -1,6 +1,6 @@
 use Rattle.engine.proofs.Common.{ℕ, subst, check_of, Answers, to_of}
 use Rattle.engine.proofs.DeckEnds.{check_reads, ends_undecked, to_check}
-use Rattle.engine.proofs.Naming.{file_still}
+use Rattle.engine.proofs.BatchEnds.{file_still}
 use Rattle.engine.proofs.Readings.{of_known}
 use Rattle.engine.proofs.checking.check.Goals as goal
 

@@ -1,4 +1,4 @@
-use Rattle.engine.proofs.SpanWritten.{one_span_is_certified}
+use Rattle.engine.proofs.Spans.{one_span_is_certified}
 use Rattle.engine.proofs.laws.one_span_is_certified.Goals as goal
 
 pub returns : goal.returns

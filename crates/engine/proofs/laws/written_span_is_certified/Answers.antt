@@ -1,4 +1,4 @@
-use Rattle.engine.proofs.SpanWritten.{written_span_is_certified}
+use Rattle.engine.proofs.Spans.{written_span_is_certified}
 use Rattle.engine.proofs.laws.written_span_is_certified.Goals as goal
 
 pub returns : goal.returns

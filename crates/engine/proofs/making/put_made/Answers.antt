@@ -1,5 +1,5 @@
 use Rattle.engine.proofs.Common.{◌∙◌, ap, refl, subst, Err, Ok, Some, InputFault, IsReadingEnd, FileSet, with_limit, FolderState}
-use Rattle.engine.proofs.Summed.{made_lacking, made_reading, made_unread}
+use Rattle.engine.proofs.Ends.{made_lacking, made_reading, made_unread}
 use Rattle.engine.proofs.making.put_made.Goals as goal
 
 -- the files of a folder in memory, with its limit

@@ -1,5 +1,5 @@
 use Rattle.engine.proofs.Common.{subst, IsEnd, Status, ends_by, summed_text}
-use Rattle.engine.proofs.Summed.{made_ended, made_lacking}
+use Rattle.engine.proofs.Ends.{made_ended, made_lacking}
 use Rattle.engine.proofs.making.put_summary.Goals as goal
 
 pub returns-in_default : goal.returns-in_default

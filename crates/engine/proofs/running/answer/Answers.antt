@@ -3,7 +3,7 @@ use Rattle.engine.proofs.Common.{wanted_of, wanting_not_ok, Check, to_of, nothin
 use Rattle.engine.specs.declared.asked.Command.{Command as CommandBy}
 use Rattle.engine.proofs.Ends.{asked_by, asked_none, ends_usage, ends_made, ends_without_words, no_words}
 use Rattle.engine.proofs.Beside.{not_ok, views_by, without_views}
-use Rattle.engine.proofs.Naming.{command_named}
+use Rattle.engine.proofs.BatchEnds.{command_named}
 use Rattle.engine.proofs.running.answer.Goals as goal
 
 -- the command that the words ask for

@@ -2,7 +2,7 @@ use Rattle.engine.proofs.Common.{List, ℕ, subst, Rose, Put, asked_of, AnswersB
 use Rattle.engine.proofs.Beside.{not_ok, reading_not_ok}
 use Rattle.engine.proofs.DeckEnds.{ends_undecked, run_reads, to_list}
 use Rattle.engine.proofs.Readings.{of_known}
-use Rattle.engine.proofs.Naming.{file_still}
+use Rattle.engine.proofs.BatchEnds.{file_still}
 use Rattle.engine.proofs.running.list.Goals as goal
 
 pub returns-in-Ok-clause-answers : goal.returns-in-Ok-clause-answers

@@ -1,5 +1,5 @@
 use Rattle.engine.proofs.Common.{◌≡◌, ◌∙◌, ℕ, refl, subst, sym, Shows}
-use Rattle.engine.proofs.Mapped.{all_settled, reached_first}
+use Rattle.engine.proofs.SideViews.{all_settled, reached_first}
 use Rattle.engine.proofs.viewing.put_shown.Goals as goal
 
 pub returns-clause-reaches : goal.returns-clause-reaches

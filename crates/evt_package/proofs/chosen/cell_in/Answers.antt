@@ -1,4 +1,4 @@
-use Rattle.evt_package.proofs.ColumnLemmas.{in_grid}
+use Rattle.evt_package.proofs.ModelLemmas.{in_grid}
 use Rattle.evt_package.proofs.chosen.cell_in.Goals as goal
 
 pub returns-clause-inside : goal.returns-clause-inside

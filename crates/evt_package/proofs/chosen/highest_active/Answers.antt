@@ -1,5 +1,5 @@
 use Rattle.evt_package.proofs.Common.{◌≡◌, true, rules, int_at, is_nonzero}
-use Rattle.evt_package.proofs.ColumnLemmas.{is_found}
+use Rattle.evt_package.proofs.ModelLemmas.{is_found}
 use Rattle.evt_package.proofs.chosen.highest_active.Goals as goal
 
 pub returns-then-int_at-ne0-clause-cell : goal.returns-then-int_at-ne0-clause-cell

@@ -1,4 +1,4 @@
-use Rattle.exact_budgets.proofs.History.{net_terms_lie_in_the_others}
+use Rattle.exact_budgets.proofs.Bounds.{net_terms_lie_in_the_others}
 use Rattle.exact_budgets.proofs.laws.net_terms_lie_in_the_others.Goals as goal
 
 pub returns : goal.returns

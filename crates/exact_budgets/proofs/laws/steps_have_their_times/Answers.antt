@@ -1,4 +1,4 @@
-use Rattle.exact_budgets.proofs.History.{steps_have_their_times, certified_have_their_times}
+use Rattle.exact_budgets.proofs.Bounds.{steps_have_their_times, certified_have_their_times}
 use Rattle.exact_budgets.proofs.laws.steps_have_their_times.Goals as goal
 
 pub returns-clause-whole : goal.returns-clause-whole

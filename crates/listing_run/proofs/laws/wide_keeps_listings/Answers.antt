@@ -1,4 +1,4 @@
-use Rattle.listing_run.proofs.WideListings.{wide_listings}
+use Rattle.listing_run.proofs.Moves.{wide_listings}
 use Rattle.listing_run.proofs.laws.wide_keeps_listings.Goals as goal
 
 pub returns : goal.returns

@@ -2,7 +2,8 @@ use Rattle.listing_run.proofs.Common.{rules, ◌≡◌, ◌+◌, ◌∷◌, [], 
 use Rattle.listing_run.proofs.Common.{TimeStep, joined, joined_thrice, put_was, lacks_at_first, IsListingBeside, IsCutListing, EndsAt, IsNextText, times_left}
 use Rattle.listing_run.proofs.Common.{Write, first_text}
 use Rattle.listing_run.specs.declared.text.ListingEnd.TheVariants.{Whole}
-use Rattle.listing_run.proofs.Pieces.{ends_at_piece, ends_wanting, ends_with_line, under_way_at_first, under_way_more, beside, end_not_ok, ends_stopped, put_not_ok, stop_end_not_ok, wanting_not_ok}
+use Rattle.listing_run.proofs.Pieces.{ends_at_piece, ends_wanting, ends_with_line, under_way_at_first, under_way_more, beside, end_not_ok, ends_stopped}
+use Rattle.listing_run.proofs.Pieces.{put_not_ok, stop_end_not_ok, wanting_not_ok}
 use Rattle.listing_run.proofs.Settled.{all_settled, none_settled, one_more_settled, reaches_more, reaches_so_far}
 use Rattle.listing_run.proofs.UnderWay.{fewer_left}
 use Rattle.listing_run.proofs.putting.put_walk.Goals as goal

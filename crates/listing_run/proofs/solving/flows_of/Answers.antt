@@ -1,5 +1,5 @@
 use Rattle.listing_run.proofs.Common.{rules, ◌≡◌, length, cell_count}
-use Rattle.listing_run.proofs.Zoned.{ids_within, sources_within}
+use Rattle.listing_run.proofs.Moves.{ids_within, sources_within}
 use Rattle.listing_run.proofs.solving.flows_of.Goals as goal
 
 pub zone_flows-requires-clause-ids : goal.zone_flows-requires-clause-ids

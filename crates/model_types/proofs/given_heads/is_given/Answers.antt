@@ -1,4 +1,4 @@
-use Rattle.model_types.proofs.LastGiven.{given_among}
+use Rattle.model_types.proofs.GivenTables.{given_among}
 use Rattle.model_types.proofs.given_heads.is_given.Goals as goal
 
 pub returns : goal.returns

@@ -1,5 +1,5 @@
 use Rattle.model_writer.proofs.Common.{deck_names, file_text, package_file, packages, has, Dis}
-use Rattle.model_writer.proofs.Chosen.{one_more}
+use Rattle.model_writer.proofs.ListTexts.{one_more}
 use Rattle.model_writer.proofs.deck_text.push_files.Goals as goal
 
 pub loop-kind-preserved : goal.loop-kind-preserved

@@ -1,4 +1,4 @@
-use Rattle.model_writer.proofs.Chosen.{deck_is}
+use Rattle.model_writer.proofs.ListTexts.{deck_is}
 use Rattle.model_writer.proofs.deck_text.write_deck.Goals as goal
 
 pub returns : goal.returns

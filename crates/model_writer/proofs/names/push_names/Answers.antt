@@ -1,5 +1,5 @@
 use Rattle.model_writer.proofs.Common.{line_bytes, deck_names, name_item, packages, has, Dis}
-use Rattle.model_writer.proofs.Chosen.{one_more}
+use Rattle.model_writer.proofs.ListTexts.{one_more}
 use Rattle.model_writer.proofs.names.push_names.Goals as goal
 
 pub loop-kind-preserved : goal.loop-kind-preserved

@@ -1,7 +1,7 @@
 use Rattle.problem_builder.proofs.Common.{refl, sym, subst, ◌∙◌, Bound, Fixed, Pair, face_term, IsCapped, is_constant, IsConstantPair, IsConstant, HasPair}
 use Rattle.problem_builder.proofs.Common.{widths_of, span_in}
-use Rattle.problem_builder.proofs.ActiveCells.{constant_active}
-use Rattle.problem_builder.proofs.Pushed.{both_through}
+use Rattle.problem_builder.proofs.Members.{constant_active}
+use Rattle.problem_builder.proofs.Joined.{both_through}
 use Rattle.problem_builder.proofs.branches.constant_through.Goals as goal
 
 pub returns-in-Some : goal.returns-in-Some

@@ -1,6 +1,6 @@
 use Rattle.problem_builder.proofs.Common.{sym, subst, ◌∙◌, Pair, face_term, IsCapped, is_variable, IsLink, HasPair, widths_of, span_in}
-use Rattle.problem_builder.proofs.ActiveCells.{variable_active}
-use Rattle.problem_builder.proofs.Pushed.{both_through}
+use Rattle.problem_builder.proofs.Members.{variable_active}
+use Rattle.problem_builder.proofs.Joined.{both_through}
 use Rattle.problem_builder.proofs.branches.link_through.Goals as goal
 
 pub returns-in-Some : goal.returns-in-Some

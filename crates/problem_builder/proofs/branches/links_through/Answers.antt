@@ -1,5 +1,5 @@
 use Rattle.problem_builder.proofs.Common.{through, is_variable, IsLink, widths_of}
-use Rattle.problem_builder.proofs.Pushed.{zip_next}
+use Rattle.problem_builder.proofs.Joined.{zip_next}
 use Rattle.problem_builder.proofs.branches.links_through.Goals as goal
 
 pub loop-face-preserved : goal.loop-face-preserved

@@ -1,8 +1,8 @@
 use Rattle.problem_builder.specs.{widths_of}
 use Rattle.problem_builder.proofs.BoundsOf.{bounds_enclose}
 use Rattle.problem_builder.proofs.Problems.{is_problem}
-use Rattle.problem_builder.proofs.StepEnclosed.{step_encloses, ids_are}
-use Rattle.problem_builder.proofs.Named.{named_active, old_heads}
+use Rattle.problem_builder.proofs.CellEnclosed.{step_encloses, ids_are}
+use Rattle.problem_builder.proofs.Members.{named_active, old_heads}
 use Rattle.problem_builder.proofs.builder.problem_of.Goals as goal
 
 pub new-requires : goal.new-requires

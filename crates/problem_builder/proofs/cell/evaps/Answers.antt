@@ -1,7 +1,6 @@
 use Rattle.problem_builder.proofs.Common.{sym, subst, evap_at, IsEvap, BothOrNone}
-use Rattle.problem_builder.proofs.ActiveCells.{variable_active}
-use Rattle.problem_builder.proofs.Joined.{pushed}
-use Rattle.problem_builder.proofs.Pushed.{zip_one}
+use Rattle.problem_builder.proofs.Members.{variable_active}
+use Rattle.problem_builder.proofs.Joined.{pushed, zip_one}
 use Rattle.problem_builder.proofs.cell.evaps.Goals as goal
 
 pub returns : goal.returns

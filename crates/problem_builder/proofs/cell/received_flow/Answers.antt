@@ -1,5 +1,5 @@
 use Rattle.problem_builder.proofs.Common.{refl, sym, subst, Flow, IsReceived, IsRechargePair}
-use Rattle.problem_builder.proofs.Pushed.{both_some, both_none}
+use Rattle.problem_builder.proofs.Joined.{both_some, both_none}
 use Rattle.problem_builder.proofs.cell.received_flow.Goals as goal
 
 pub returns-in-Some : goal.returns-in-Some

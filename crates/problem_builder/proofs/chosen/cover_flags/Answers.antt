@@ -1,5 +1,5 @@
 use Rattle.problem_builder.proofs.Common.{false, IsCovered}
-use Rattle.problem_builder.proofs.Filling.{none_filled, next_filled}
+use Rattle.problem_builder.proofs.CellFits.{none_filled, next_filled}
 use Rattle.problem_builder.proofs.chosen.cover_flags.Goals as goal
 
 pub loop-cell-init : goal.loop-cell-init

@@ -1,5 +1,5 @@
 use Rattle.problem_builder.proofs.Common.{◌≡◌, sym, subst, refl, size, Evap, EvapSource, evap_formula, evap_term, IsCapped, Term, IsEvap}
-use Rattle.problem_builder.proofs.Depths.{depth_is, extinctions}
+use Rattle.problem_builder.proofs.Fits.{depth_is, extinctions}
 use Rattle.problem_builder.proofs.evaporation.evap_pair.Goals as goal
 
 pub depth_pair-depth-requires : goal.depth_pair-depth-requires

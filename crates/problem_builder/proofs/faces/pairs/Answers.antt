@@ -1,5 +1,5 @@
 use Rattle.problem_builder.specs.{no_pair, span_in, HasConductance}
-use Rattle.problem_builder.proofs.Filling.{none_filled, next_filled}
+use Rattle.problem_builder.proofs.CellFits.{none_filled, next_filled}
 use Rattle.problem_builder.proofs.faces.pairs.Goals as goal
 
 pub loop-cell-init : goal.loop-cell-init

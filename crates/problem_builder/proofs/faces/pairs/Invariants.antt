@@ -1,4 +1,4 @@
-use Rattle.problem_builder.proofs.Common.{Filled, no_pair, span_in, HasConductance}
+use Rattle.problem_builder.specs.{Filled, no_pair, span_in, HasConductance}
 use Rattle.problem_builder.proofs.faces.pairs.Given as goal
 
 abbrev pub invariant-loop-cell : goal.invariant-loop-cell

@@ -1,6 +1,6 @@
 use Rattle.problem_builder.proofs.Common.{Option, sym, subst, ◌∙◌, Given, IsKeptPair}
 use Rattle.problem_builder.proofs.CellTables.{last_at}
-use Rattle.problem_builder.proofs.GivenValid.{last_head}
+use Rattle.problem_builder.proofs.BoundsOf.{last_head}
 use Rattle.problem_builder.proofs.given.kept_at.Goals as goal
 
 pub kept_of-requires-clause-strt : goal.kept_of-requires-clause-strt

@@ -1,5 +1,5 @@
 use Rattle.problem_builder.proofs.Common.{no_bound, HasConstantHead}
-use Rattle.problem_builder.proofs.Filling.{none_filled, next_filled}
+use Rattle.problem_builder.proofs.CellFits.{none_filled, next_filled}
 use Rattle.problem_builder.proofs.heads.constant_heads.Goals as goal
 
 pub loop-cell-init : goal.loop-cell-init

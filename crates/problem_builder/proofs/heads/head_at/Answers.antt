@@ -1,7 +1,7 @@
 use Rattle.problem_builder.proofs.Common.{◌-◌, take, Option, sym, ◌∙◌, subst, Bound, Given, cell_count, last_given, period_at, IsKeptPair, IsGivenOrKept}
 use Rattle.problem_builder.proofs.Common.{IsConstantPair, IsGivenPair}
-use Rattle.problem_builder.proofs.ActiveCells.{constant_active}
-use Rattle.problem_builder.proofs.GivenValid.{given_valid}
+use Rattle.problem_builder.proofs.Members.{constant_active}
+use Rattle.problem_builder.proofs.BoundsOf.{given_valid}
 use Rattle.problem_builder.proofs.heads.head_at.Goals as goal
 
 pub given_head-requires-clause-start : goal.given_head-requires-clause-start

@@ -1,5 +1,4 @@
-use Rattle.problem_builder.proofs.OneHeads.{one_heads}
-use Rattle.problem_builder.proofs.Starts.{one_starts}
+use Rattle.problem_builder.proofs.CellFits.{one_heads, one_starts}
 use Rattle.problem_builder.proofs.laws.one_list_of_heads.Goals as goal
 
 pub returns-clause-constant : goal.returns-clause-constant

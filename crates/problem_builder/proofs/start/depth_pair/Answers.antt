@@ -1,5 +1,5 @@
 use Rattle.problem_builder.proofs.Common.{subst, sym, Bound, IsHeadPair}
-use Rattle.problem_builder.proofs.Depths.{ceiling_units, floor_units, units_64}
+use Rattle.problem_builder.proofs.Fits.{ceiling_units, floor_units, units_64}
 use Rattle.problem_builder.proofs.start.depth_pair.Goals as goal
 
 pub whole_bounds-requires-clause-low : goal.whole_bounds-requires-clause-low

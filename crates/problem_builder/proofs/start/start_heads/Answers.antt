@@ -1,6 +1,5 @@
 use Rattle.problem_builder.proofs.Common.{arith, cell_count, no_bound, Filled, IsStartInRange}
-use Rattle.problem_builder.proofs.Filling.{none_filled, next_filled, filled_to}
-use Rattle.problem_builder.proofs.Starts.{starts_are, starts_range, starts_enclose}
+use Rattle.problem_builder.proofs.CellFits.{none_filled, next_filled, filled_to, starts_are, starts_range, starts_enclose}
 use Rattle.problem_builder.proofs.start.start_heads.Goals as goal
 
 pub loop-cell-init : goal.loop-cell-init

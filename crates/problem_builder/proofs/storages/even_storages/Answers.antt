@@ -1,5 +1,5 @@
 use Rattle.problem_builder.proofs.Common.{arith, cell_count, HasEvenStorage, no_pair, span_in}
-use Rattle.problem_builder.proofs.Filling.{none_filled, next_filled, filled_to}
+use Rattle.problem_builder.proofs.CellFits.{none_filled, next_filled, filled_to}
 use Rattle.problem_builder.proofs.storages.even_storages.Goals as goal
 
 pub loop-cell-init : goal.loop-cell-init

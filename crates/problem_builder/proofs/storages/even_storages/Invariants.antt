@@ -1,4 +1,4 @@
-use Rattle.problem_builder.proofs.Common.{Filled, HasEvenStorage, no_pair, span_in}
+use Rattle.problem_builder.specs.{Filled, HasEvenStorage, no_pair, span_in}
 use Rattle.problem_builder.proofs.storages.even_storages.Given as goal
 
 abbrev pub invariant-loop-cell : goal.invariant-loop-cell

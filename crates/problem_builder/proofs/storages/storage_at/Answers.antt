@@ -2,7 +2,7 @@ use Rattle.problem_builder.proofs.Common.{◌≡◌, ◌-◌, cond, Option, Some
 use Rattle.problem_builder.proofs.Common.{IsNotNegative, period_at, storage_of, storage_formula, storativity_term, storage_term, area_term, sum_term}
 use Rattle.problem_builder.proofs.Common.{power_term, IsCapped, Term, span_in, delr_positive, delc_positive}
 use Rattle.conductance_bounds.specs.{IsThickness}
-use Rattle.problem_builder.proofs.PeriodsOf.{period_valid}
+use Rattle.problem_builder.proofs.ValidEntries.{period_valid}
 use Rattle.problem_builder.proofs.StorageParts.{thick_case, usable_case}
 use Rattle.problem_builder.proofs.storages.storage_at.Goals as goal
 

@@ -1,5 +1,5 @@
 use Rattle.problem_builder.proofs.Common.{refl, sym, subst, ap, ◌∙◌, Bound, Fixed, period_at, FromStorage, IsFixed, IsStorage, widths_of}
-use Rattle.problem_builder.proofs.Pushed.{both_unless}
+use Rattle.problem_builder.proofs.Joined.{both_unless}
 use Rattle.problem_builder.proofs.stored.stored_branch.Goals as goal
 
 pub returns : goal.returns

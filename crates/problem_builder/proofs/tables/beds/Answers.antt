@@ -1,5 +1,5 @@
 use Rattle.problem_builder.specs.{no_span, IsBedBelow}
-use Rattle.problem_builder.proofs.Filling.{none_filled, next_filled}
+use Rattle.problem_builder.proofs.CellFits.{none_filled, next_filled}
 use Rattle.problem_builder.proofs.tables.beds.Goals as goal
 
 pub loop-cell-init : goal.loop-cell-init

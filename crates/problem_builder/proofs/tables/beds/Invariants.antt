@@ -1,4 +1,4 @@
-use Rattle.problem_builder.proofs.Common.{Filled, no_span, IsBedBelow}
+use Rattle.problem_builder.specs.{Filled, no_span, IsBedBelow}
 use Rattle.problem_builder.proofs.tables.beds.Given as goal
 
 abbrev pub invariant-loop-cell : goal.invariant-loop-cell

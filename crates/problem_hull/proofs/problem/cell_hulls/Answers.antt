@@ -1,7 +1,6 @@
 use Rattle.problem_hull.proofs.Common.{◌≡◌, ◌+◌, ◌<◌, [], arith, length, List, sym, subst, take, Entries, no_entries, none, IsCellHull, IsHull}
 use Rattle.std.proofs.lemmas.Result.{err_from_is_err_and}
-use Rattle.problem_hull.proofs.Threes.{three_more}
-use Rattle.problem_hull.proofs.Unlike.{unlike_cells}
+use Rattle.problem_hull.proofs.Threes.{three_more, unlike_cells}
 use Rattle.problem_hull.proofs.problem.cell_hulls.Goals as goal
 
 pub loop-i-init : goal.loop-i-init

@@ -1,4 +1,4 @@
-use Rattle.problem_or_refusal.proofs.Pairs.{roundings_exist, bounds_exist, pairs_exist}
+use Rattle.problem_or_refusal.proofs.ConstantHeads.{roundings_exist, bounds_exist, pairs_exist}
 use Rattle.problem_or_refusal.proofs.laws.bounds_exist.Goals as goal
 
 pub returns-clause-roundings : goal.returns-clause-roundings

@@ -1,6 +1,6 @@
 use Rattle.scaled_decimal.proofs.Common.{ℕ, ◌/◌, ◌≤◌, ◌^◌, ap, arith, ints}
 use Rattle.scaled_decimal.proofs.Nearest.{down_at_18, down_at_19}
-use Rattle.scaled_decimal.proofs.Numbers.{power_pos, at_least_quotient}
+use Rattle.scaled_decimal.proofs.Between.{power_pos, at_least_quotient}
 use Rattle.scaled_decimal.proofs.rounding.round_dn.Goals as goal
 
 pub returns-then-front-lt-LIMIT-clause-nearest : goal.returns-then-front-lt-LIMIT-clause-nearest

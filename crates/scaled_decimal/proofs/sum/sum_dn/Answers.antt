@@ -1,6 +1,6 @@
 use Rattle.scaled_decimal.proofs.Common.{arith, ints}
 use Rattle.scaled_decimal.proofs.Nearest.{nearest_down}
-use Rattle.scaled_decimal.proofs.Numbers.{below_ten, power_pos}
+use Rattle.scaled_decimal.proofs.Between.{below_ten, power_pos}
 use Rattle.scaled_decimal.proofs.Products.{exact_from, far_from, aligned_at}
 use Rattle.scaled_decimal.proofs.Sizes.{digits, sum_below}
 use Rattle.scaled_decimal.proofs.sum.sum_dn.Goals as goal

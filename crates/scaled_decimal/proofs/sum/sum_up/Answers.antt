@@ -1,5 +1,5 @@
 use Rattle.scaled_decimal.proofs.Common.{◌+◌, ◌-◌, ◌*◌, arith, ints}
-use Rattle.scaled_decimal.proofs.Numbers.{below_ten, power_pos}
+use Rattle.scaled_decimal.proofs.Between.{below_ten, power_pos}
 use Rattle.scaled_decimal.proofs.Products.{exact_up_to, far_up_to, aligned_at}
 use Rattle.scaled_decimal.proofs.Sizes.{digits, sum_below, sum_digits}
 use Rattle.scaled_decimal.proofs.sum.sum_up.Goals as goal

@@ -1,5 +1,5 @@
 use Rattle.std.proofs.Common.{arith, below_more}
-use Rattle.settle_driver.proofs.Opening.{none_open}
+use Rattle.settle_driver.proofs.Phasing.{none_open}
 use Rattle.settle_driver.proofs.open.first_open.Goals as goal
 
 pub loop-cell-preserved : goal.loop-cell-preserved

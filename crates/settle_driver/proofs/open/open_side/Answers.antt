@@ -1,5 +1,5 @@
 use Rattle.settle_driver.proofs.Common.{rules, arith, FitsSigned, w64, ints, to_z-of_z, lower_at, upper_at}
-use Rattle.settle_driver.proofs.Opening.{side_by_tests}
+use Rattle.settle_driver.proofs.Phasing.{side_by_tests}
 use Rattle.settle_driver.proofs.open.open_side.Goals as goal
 
 pub returns : goal.returns

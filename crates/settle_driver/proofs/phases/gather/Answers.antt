@@ -1,6 +1,6 @@
 use Rattle.settle_driver.proofs.Common.{List, [], ◌∷◌, ◌++◌, All, ap, ◌∙◌, subst, append_assoc, HeadSeat, AreNoLooser, IsSeatOf, seen_of, no_looser_trans}
 use Rattle.std.proofs.lemmas.List.Elements.{All-weaker}
-use Rattle.settle_driver.proofs.Gathering.{tighter_left, tighter_right, all_cons, all_front}
+use Rattle.settle_driver.proofs.Sweeping.{tighter_left, tighter_right, all_cons, all_front}
 use Rattle.settle_driver.proofs.phases.gather.Goals as goal
 
 pub loop-other-preserved : goal.loop-other-preserved

@@ -1,4 +1,4 @@
-use Rattle.settle_driver.proofs.Gathering.{phase_past}
+use Rattle.settle_driver.proofs.Sweeping.{phase_past}
 use Rattle.settle_driver.proofs.phases.phase.Goals as goal
 
 pub returns-clause-past : goal.returns-clause-past

@@ -1,5 +1,5 @@
 use Rattle.settle_driver.proofs.Common.{◌≡◌, arith, subst, ℕ, SettleWithin}
-use Rattle.settle_driver.proofs.Settling.{swept_never, swept_again, swept_settles}
+use Rattle.settle_driver.proofs.Phasing.{swept_never, swept_again, swept_settles}
 use Rattle.settle_driver.proofs.sweep.sweep_up_to.Goals as goal
 
 pub loop-round-init : goal.loop-round-init

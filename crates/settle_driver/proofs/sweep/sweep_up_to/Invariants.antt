@@ -1,4 +1,4 @@
-use Rattle.settle_driver.proofs.Settling.{SweptTimes}
+use Rattle.settle_driver.proofs.Phasing.{SweptTimes}
 use Rattle.settle_driver.proofs.sweep.sweep_up_to.Given as goal
 
 abbrev pub invariant-loop-round : goal.invariant-loop-round

@@ -1,7 +1,6 @@
 use Rattle.settle_driver.proofs.Common.{is_some, ◌≡◌, ℕ, ◌<◌, arith, refl, sym, ◌∙◌, subst, ap, List, MatchOption, not, Bound, IsFirstOpen, AreWords}
 use Rattle.settle_driver.proofs.Common.{AreBothSettled}
-use Rattle.settle_driver.proofs.Opening.{where_none, where_some}
-use Rattle.settle_driver.proofs.Phasing.{ArePhased, phased_again, phased_unfinished, settled_on_the_way}
+use Rattle.settle_driver.proofs.Phasing.{where_none, where_some, ArePhased, phased_again, phased_unfinished, settled_on_the_way}
 use Rattle.settle_driver.proofs.threads.settle_cells.Goals as goal
 
 pub first_open-open-requires : goal.first_open-open-requires

@@ -1,7 +1,6 @@
 use Rattle.settle_driver.proofs.Common.{is_some, ◌≡◌, ℕ, ◌+◌, ◌<◌, arith, refl, sym, ◌∙◌, subst, ap, List, MatchOption, not, Bound, IsFirstOpen, AreWords}
 use Rattle.settle_driver.proofs.Common.{AreBothSettled}
-use Rattle.settle_driver.proofs.Opening.{where_none, where_some}
-use Rattle.settle_driver.proofs.Phasing.{ArePhased, phased_never, phased_again, phased_unfinished, settled_on_the_way}
+use Rattle.settle_driver.proofs.Phasing.{where_none, where_some, ArePhased, phased_never, phased_again, phased_unfinished, settled_on_the_way}
 use Rattle.settle_driver.proofs.Viewing.{no_phase, one_phase_more, phases_made, phases_fail}
 use Rattle.settle_driver.proofs.watched.settle_cells_watched.Goals as goal
 

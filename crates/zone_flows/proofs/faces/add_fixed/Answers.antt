@@ -1,5 +1,5 @@
 use Rattle.zone_flows.proofs.Common.{refl, pos, Fixed, Storage, lower_at, upper_at, faces_by_kind}
-use Rattle.zone_flows.proofs.Tables.{goes_on, ends}
+use Rattle.zone_flows.proofs.Keys.{goes_on, ends}
 use Rattle.zone_flows.proofs.faces.add_fixed.Goals as goal
 
 -- stands for an entry past the end

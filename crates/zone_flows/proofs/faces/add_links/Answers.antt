@@ -1,5 +1,5 @@
 use Rattle.zone_flows.proofs.Common.{refl, Link, lower_at, upper_at, entries_at, no_link, face_from}
-use Rattle.zone_flows.proofs.Tables.{goes_on, ends}
+use Rattle.zone_flows.proofs.Keys.{goes_on, ends}
 use Rattle.zone_flows.proofs.faces.add_links.Goals as goal
 
 pub loop-x-preserved : goal.loop-x-preserved

@@ -1,4 +1,4 @@
-use Rattle.zone_flows.proofs.Unique.{flows_are_one, flows_exclude_refusal, refusal_is_one}
+use Rattle.zone_flows.proofs.Fitting.{flows_are_one, flows_exclude_refusal, refusal_is_one}
 use Rattle.zone_flows.proofs.laws.one_list_or_refusal.Goals as goal
 
 pub returns-clause-one_list : goal.returns-clause-one_list

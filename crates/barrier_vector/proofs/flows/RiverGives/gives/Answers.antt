@@ -1,6 +1,6 @@
 use Rattle.barrier_vector.proofs.Common.{◌≡◌, rules, FitsSigned, arith, ◌-ℤ◌, subst, sym, ℤ, w128, w64, ints, to_z-of_z, deep_river_low, deep_river_high}
 use Rattle.barrier_vector.proofs.Common.{magnitude, IsWithin}
-use Rattle.barrier_vector.proofs.Giving.{within_magnitude}
+use Rattle.barrier_vector.proofs.Outlining.{within_magnitude}
 use Rattle.barrier_vector.proofs.flows.RiverGives.gives.Goals as goal
 
 pub returns-clause-within : goal.returns-clause-within

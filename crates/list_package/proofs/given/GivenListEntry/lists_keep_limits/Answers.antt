@@ -1,4 +1,4 @@
-use Rattle.list_package.proofs.GivenLaws.{keeps_limits}
+use Rattle.list_package.proofs.ModelLemmas.{keeps_limits}
 use Rattle.list_package.proofs.given.GivenListEntry.lists_keep_limits.Goals as goal
 
 pub returns : goal.returns

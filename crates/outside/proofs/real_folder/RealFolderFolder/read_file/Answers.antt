@@ -1,7 +1,6 @@
 use Rattle.outside.proofs.Common.{rules, ◌≡◌, ◌∙◌, sym, subst, ℕ, List, ◌∷◌, Some, File, IsFound, bytes_under, Read, AgreeWith, IsAsFound, IsNamedBy}
 use Rattle.outside.proofs.Common.{reading_of}
-use Rattle.outside.proofs.Answered.{is_found, by_reading, by_latest, earlier}
-use Rattle.outside.proofs.Named.{found_asked, known_named, latest_named, same_named, still_named}
+use Rattle.outside.proofs.Agreeing.{is_found, by_reading, by_latest, earlier, found_asked, known_named, latest_named, same_named, still_named}
 use Rattle.outside.proofs.real_folder.RealFolderFolder.read_file.Goals as goal
 
 pub returns-in-Some-clause-words : goal.returns-in-Some-clause-words

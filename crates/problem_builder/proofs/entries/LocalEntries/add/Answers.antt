@@ -1,6 +1,6 @@
 use Rattle.problem_builder.proofs.Common.{sym, subst, as_well, as_river, as_drain, as_general, IsRiver, IsDrain, AreLocalBounds, IsWellSource, IsGeneralSource}
 use Rattle.problem_builder.proofs.Common.{LocalBounds}
-use Rattle.problem_builder.proofs.Pushed.{zip_push}
+use Rattle.problem_builder.proofs.Joined.{zip_push}
 use Rattle.problem_builder.proofs.entries.LocalEntries.add.Goals as goal
 
 pub returns : goal.returns

@@ -2,7 +2,7 @@ use Rattle.problem_builder.proofs.Common.{ℕ, subst, ap, ◌∙◌, refl, arith
 use Rattle.problem_builder.proofs.Common.{◌≡◌, ◌-◌, Filled, IsKind, IsIndex, IsKept, AreEvenStorages, span_in}
 use Rattle.problem_builder.proofs.CellTables.{kinds_filled}
 use Rattle.problem_builder.proofs.PeriodMade.{filled_as, named_as, period_as}
-use Rattle.problem_builder.proofs.PeriodsOf.{entries_in}
+use Rattle.problem_builder.proofs.ValidEntries.{entries_in}
 use Rattle.problem_builder.proofs.index.PeriodTables.new.Goals as goal
 
 pub of_period-requires-clause-entries : goal.of_period-requires-clause-entries

@@ -1,6 +1,6 @@
 use Rattle.problem_builder.proofs.Common.{◌∷◌, [], ◌<◌, None, List, length, map, set, ap, subst, arith, get_or_read, AreAppended, LocalBounds, length-map}
 use Rattle.problem_builder.proofs.Common.{kept_bounds}
-use Rattle.problem_builder.proofs.KeptEntries.{kept_one}
+use Rattle.problem_builder.proofs.Appended.{kept_one}
 use Rattle.problem_builder.proofs.local.Local.add.Goals as goal
 
 pub returns-clause-appended : goal.returns-clause-appended

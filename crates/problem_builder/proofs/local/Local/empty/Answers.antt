@@ -1,5 +1,5 @@
 use Rattle.problem_builder.proofs.Common.{◌∙◌, ap, map, local_in, kept_bounds}
-use Rattle.problem_builder.proofs.KeptEntries.{none_kept}
+use Rattle.problem_builder.proofs.Appended.{none_kept}
 use Rattle.problem_builder.proofs.local.Local.empty.Goals as goal
 
 pub returns-clause-empty : goal.returns-clause-empty

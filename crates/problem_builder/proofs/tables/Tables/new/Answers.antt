@@ -1,5 +1,5 @@
 use Rattle.problem_builder.proofs.Common.{sym, ◌∙◌, refl, Row, Column, Vertical, cell_count, no_span, IsThickness, IsBedBelow}
-use Rattle.problem_builder.proofs.TablesMade.{renamed_pairs, thicknesses_of}
+use Rattle.problem_builder.proofs.FacePairs.{renamed_pairs, thicknesses_of}
 use Rattle.problem_builder.proofs.PeriodMade.{filled_as}
 use Rattle.problem_builder.proofs.tables.Tables.new.Goals as goal
 

@@ -1,4 +1,4 @@
-use Rattle.settle_driver.proofs.Answering.{sweeps_on_the_way}
+use Rattle.settle_driver.proofs.Phasing.{sweeps_on_the_way}
 use Rattle.settle_driver.proofs.listed.ListedSettlerSettler.settle.Goals as goal
 
 pub settle_from-requires-clause-way : goal.settle_from-requires-clause-way

@@ -1,5 +1,5 @@
 use Rattle.settle_driver.proofs.Common.{Bound, refl, List, subst, IsFirstOpen, AreBothSettled}
-use Rattle.settle_driver.proofs.Answering.{sweeps_are_settled, sweeps_are_unfinished}
+use Rattle.settle_driver.proofs.Phasing.{sweeps_are_settled, sweeps_are_unfinished}
 use Rattle.settle_driver.proofs.plain.PlainSettler.settle_from.Goals as goal
 
 pub returns-in-None : goal.returns-in-None
