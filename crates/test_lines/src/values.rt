@@ -4,12 +4,16 @@ use decimal_input::dec::Dec;
 use step_problem::Bound;
 
 impl Page {
-    /// Numbers, each as its digits and its exponent.
+    /// A number, as its digits and its exponent.
+    pub fn number(&mut self, value: Dec) {
+        let sign = if value.neg { "-" } else { "" };
+        let (digits, exponent) = (value.digits, value.exp);
+        self.word(format_args!("{sign}{digits}e{exponent}"));
+    }
+
     pub fn numbers(&mut self, values: &[Dec]) {
         for value in values {
-            let sign = if value.neg { "-" } else { "" };
-            let (digits, exponent) = (value.digits, value.exp);
-            self.word(format_args!("{sign}{digits}e{exponent}"));
+            self.number(*value);
         }
     }
 
