@@ -1,7 +1,6 @@
 use Rattle.decimal_input.proofs.Common.{◌≡◌, ℕ, suc, ◌+◌, ◌*◌, arith, refl, sym, ap, ◌∙◌, Bool, true, false, not, ℤ, pos, neg_ℤ, ◌*ℤ◌, ◌+ℤ◌, Result, Ok, Err}
 use Rattle.decimal_input.proofs.Common.{IfOk, List, length, inl, inr, ◌^◌, subst, ints, by_lt_z, cases_lt, Dec, NumFault, Fraction, scaled, with_sign, decimal}
 use Rattle.decimal_input.proofs.Common.{number, Spelling, Spells, IsCanonical, Names, differ, Ratio, Same}
-use Rattle.std.specs.Bool.{beq}
 use Rattle.std.proofs.Math.IntN.{*ℤ_comm}
 use Rattle.decimal_input.specs.Fractions.{times as times_signed, Same as SameSigned}
 use Rattle.decimal_input.proofs.Orders.{num_times, den_times}
@@ -89,9 +88,3 @@ named_value w r h n s = elim (cases_lt 64 (length w)) [
   | inl long ↦ if_ok r _ (λ d. SameSigned (number d) (decimal n.neg n.coefficient n.exp)) (h.long long) _
   | inr short ↦ canonical_value _ _ _ r (h.number short n s)
 ]
-
-pub signs_differ : (x y : Bool) → not (beq x y) ≡ differ x y
-signs_differ true true = refl
-signs_differ true false = refl
-signs_differ false true = refl
-signs_differ false false = refl

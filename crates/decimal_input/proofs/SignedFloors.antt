@@ -1,9 +1,19 @@
 use Rattle.decimal_input.proofs.Common.{◌≡◌, ℕ, zero, suc, ◌+◌, ◌-◌, ◌*◌, ◌≤◌, ◌<◌, ◌^◌, arith, inl, inr, ap, ◌∙◌, Bool, true, false, ℤ, pos, neg_ℤ, ◌+ℤ◌, ◌*ℤ◌}
-use Rattle.decimal_input.proofs.Common.{◌≤ℤ◌, ◌<ℤ◌, ◌/◌, Option, Some, None, IfNone, refl, subst, ints, cases_lt, Dec, with_sign, size, number, IsFloor}
+use Rattle.decimal_input.proofs.Common.{◌≤ℤ◌, ◌<ℤ◌, ◌/◌, Option, Some, None, IfNone, refl, sym, subst, ints, cases_lt, Dec, with_sign, size, number, IsFloor}
 use Rattle.decimal_input.proofs.Common.{IsCeiling, IsSignedFloor, IsSignedCeiling, Ratio, scaled, Reaches, Passes, IsFloorPast, IsCeilingPast, lt-mul-div-succ}
-use Rattle.decimal_input.proofs.Common.{div-mul-le_self, div-lt_iff_lt-mul}
+use Rattle.decimal_input.proofs.Common.{div-mul-le_self, div-lt_iff_lt-mul, IsUnits, Fraction, IfSome, not, den, differ, nat_le, ◌⊎◌, floor, ceiling}
+use Rattle.decimal_input.proofs.Common.{signed_units, small, FitsSigned, w128, units_of, lt-ltb, leb_tells, le-div_iff_mul-le}
+use Rattle.std.specs.Prelude.{unsigned_abs}
+use Rattle.std.specs.Option.{option_map}
+use Rattle.std.specs.Bool.{beq}
 use Rattle.decimal_input.proofs.FloorLaws.{add_times, one_times, neg_times}
 use Rattle.decimal_input.proofs.Cross.{lt_cancel}
+
+pub signs_differ : (x y : Bool) → not (beq x y) ≡ differ x y
+signs_differ true true = refl
+signs_differ true false = refl
+signs_differ false true = refl
+signs_differ false false = refl
 
 -- the product of a number with a sign
 pub sign_times : (neg : Bool) (m p : ℕ) → with_sign neg m *ℤ pos p ≡ with_sign neg (m * p)
@@ -69,10 +79,6 @@ ceiling_of_floor a s k z f e h =
 pub of_size : (P : Ratio → Type 0) (a : Dec) (g : ℤ) → g ≡ a.exp → P (scaled a.digits g) → P (size a)
 of_size P a g e h = let Q : ℤ → Type 0 = λ x. P (scaled a.digits x) in subst Q e h
 
-pub if_none : (P : Type 0) (r : Option ℤ) → P → IfNone r P
-if_none P None p = p
-if_none P (Some z) p = _
-
 -- Each fraction has a floor.
 pub a_floor : (f : Ratio) (s : ℕ) → (k : ℕ) × IsFloor k f s
 a_floor f s =
@@ -95,32 +101,97 @@ a_ceiling f s = some (f.num * 10 ^ s) f.less refl
       | inr h ↦ (0, record { at_least = omega (arith, e, h); least = λ k le. omega arith })
     ]
 
+-- The floor and the ceiling as quotients.
+pub floor_is : (n s : ℕ) (f : Ratio) → IsFloor n f s → (f.num * 10 ^ s + 0) / den f ≡ n
+floor_is n s f h =
+    let least : n ≤ (f.num * 10 ^ s + 0) / den f = (le-div_iff_mul-le (omega arith)).1 (omega (arith, h.at_most)) in
+    let most : (f.num * 10 ^ s + 0) / den f < n + 1 = (div-lt_iff_lt-mul (omega arith)).1 (omega (arith, h.next)) in
+    omega (arith, least, most)
+
+pub ceiling_is : (n s : ℕ) (f : Ratio) → IsCeiling n f s → (f.num * 10 ^ s + f.less) / den f ≡ n
+ceiling_is n s f h =
+    let q = (f.num * 10 ^ s + f.less) / den f in
+    let above : f.num * 10 ^ s + f.less < (q + 1) * den f = (div-lt_iff_lt-mul {x = f.num * 10 ^ s + f.less} {y = q + 1} (omega arith)).0 (omega arith) in
+    let reach : f.num * 10 ^ s ≤ q * den f = omega (arith, above) in
+    let most : q < n + 1 = (div-lt_iff_lt-mul (omega arith)).1 (omega (arith, h.at_least)) in
+    omega (arith, most, h.least q reach)
+
+-- a number of units below the limit, and one that isn't
+pub small_is : (k : ℕ) → k < 2 ^ 126 → Some k ≡ small k
+small_is k lt = rw (lt-ltb k (2 ^ 126) lt) refl
+
+too_large : (k : ℕ) → 2 ^ 126 ≤ k → None ≡ small k
+too_large k h = by_case (leb_tells (suc k) (2 ^ 126))
+  where
+    by_case : ((nat_le (suc k) (2 ^ 126) ≡ true) × (suc k ≤ 2 ^ 126)) ⊎ ((nat_le (suc k) (2 ^ 126) ≡ false) × (2 ^ 126 < suc k)) → None ≡ small k
+    by_case (inl a) = absurd (omega (arith, a.1, h))
+    by_case (inr a) = rw a.0 refl
+
 reached : (n k m d : ℕ) → n * d ≤ m → m < (k + 1) * d → n ≤ k
 reached n k m d h lt = let p : n < k + 1 = lt_cancel d n (k + 1) (omega (arith, h, lt)) in omega (arith, p)
 
 passed : (n k m d : ℕ) → n * d < m → m ≤ k * d → n < k
 passed n k m d h le = lt_cancel d n k (omega (arith, h, le))
 
-pub floor_past : (a : Dec) (s : ℕ) → a.neg ≡ false → Reaches (2 ^ 126) (size a) s → IsFloorPast (number a) s
-floor_past a s f h =
-    let (k, w) = a_floor (size a) s in
-    let large : 2 ^ 126 ≤ k = reached (2 ^ 126) k _ _ h.reach w.next in
-    record { floor = pos k; is = floor_of_floor a s k (pos k) f refl w; past = large }
-
-pub floor_past_negative : (a : Dec) (s : ℕ) → a.neg ≡ true → Passes (2 ^ 126 - 1) (size a) s → IsFloorPast (number a) s
-floor_past_negative a s f h =
-    let (k, w) = a_ceiling (size a) s in
+pub units_are : (up : Bool) (f : Ratio) (s : ℕ) (r : Option ℕ) → IsUnits up f s r → r ≡ units_of up f s
+unfolding units_of
+units_are false f s (Some n) h = rw (floor_is n s f h.0) (small_is n h.1)
+units_are false f s None h = let (k, w) = a_floor f s in rw (floor_is k s f w) (too_large k (reached (2 ^ 126) k _ _ h.reach w.next))
+units_are true f s (Some n) h = rw (ceiling_is n s f h.0) (small_is n h.1)
+units_are true f s None h =
+    let (k, w) = a_ceiling f s in
     let large : 2 ^ 126 - 1 < k = passed (2 ^ 126 - 1) k _ _ h.pass w.at_least in
-    record { floor = neg_ℤ (pos k); is = floor_of_ceiling a s k (neg_ℤ (pos k)) f refl w; past = omega (arith, ints, large) }
+    rw (ceiling_is k s f w) (too_large k (omega (arith, large)))
 
-pub ceiling_past : (a : Dec) (s : ℕ) → a.neg ≡ false → Passes (2 ^ 126 - 1) (size a) s → IsCeilingPast (number a) s
-ceiling_past a s f h =
-    let (k, w) = a_ceiling (size a) s in
-    let large : 2 ^ 126 - 1 < k = passed (2 ^ 126 - 1) k _ _ h.pass w.at_least in
-    record { ceiling = pos k; is = ceiling_of_ceiling a s k (pos k) f refl w; past = omega (arith, large) }
+pub units_small : (up : Bool) (f : Ratio) (s n : ℕ) → IsUnits up f s (Some n) → n < 2 ^ 126
+units_small false f s n h = h.1
+units_small true f s n h = h.1
 
-pub ceiling_past_negative : (a : Dec) (s : ℕ) → a.neg ≡ true → Reaches (2 ^ 126) (size a) s → IsCeilingPast (number a) s
-ceiling_past_negative a s f h =
-    let (k, w) = a_floor (size a) s in
-    let large : 2 ^ 126 ≤ k = reached (2 ^ 126) k _ _ h.reach w.next in
-    record { ceiling = neg_ℤ (pos k); is = ceiling_of_floor a s k (neg_ℤ (pos k)) f refl w; past = omega (arith, ints, large) }
+pub sign_fits : (neg : Bool) (n : ℕ) → n < 2 ^ 126 → FitsSigned w128 (with_sign neg n)
+sign_fits false n lt = omega (arith, ints, lt)
+sign_fits true n lt = omega (arith, ints, lt)
+
+-- the same of a number with its sign, where its exponent is written g
+pub signed_are : (up : Bool) (a : Dec) (s : ℕ) (g : ℤ) (r : Option ℕ) → g ≡ a.exp → IsUnits (not (beq up a.neg)) (scaled a.digits g) s r → option_map (with_sign a.neg) r ≡ signed_units up a s
+signed_are up a s g r e h =
+    let same : r ≡ units_of (not (beq up a.neg)) (size a) s = subst (λ (x : ℤ). r ≡ units_of (not (beq up a.neg)) (scaled a.digits x) s) e (units_are _ _ s r h) in
+    ap (option_map (with_sign a.neg)) (subst (λ (b : Bool). r ≡ units_of b (size a) s) (signs_differ up a.neg) same)
+
+-- what is known of a whole number k with a sign, of which small ones are kept
+kept : (P : ℤ → Type 0) (Q : Type 0) (neg : Bool) (k : ℕ) (r : Option ℤ) → r ≡ option_map (with_sign neg) (small k) → P (with_sign neg k) → (2 ^ 126 ≤ k → Q) → IfSome r P × IfSome r (λ z. unsigned_abs z < 2 ^ 126) × IfNone r Q
+kept P Q neg k r e p q =
+    let R : Option ℤ → Type 0 = λ r. IfSome r P × IfSome r (λ z. unsigned_abs z < 2 ^ 126) × IfNone r Q in
+    elim (cases_lt k (2 ^ 126)) as (λ _. R r) [
+      | inl lt ↦ subst R (ap (option_map (with_sign neg)) (small_is k lt) ∙ sym e) (p, magnitude neg lt, tt)
+      | inr ge ↦ subst R (ap (option_map (with_sign neg)) (too_large k ge) ∙ sym e) (tt, tt, q ge)
+    ]
+  where
+    magnitude : (neg : Bool) → k < 2 ^ 126 → unsigned_abs (with_sign neg k) < 2 ^ 126
+    magnitude false lt = lt
+    magnitude true lt = omega (arith, ints, lt)
+
+large : (neg : Bool) (k : ℕ) → 2 ^ 126 ≤ k → 2 ^ 126 ≤ unsigned_abs (with_sign neg k)
+large false k h = h
+large true k h = omega (arith, ints, h)
+
+-- z is the ceiling (up) or the floor of f * 10 ^ s
+abbrev pub IsSignedUnits : Bool → ℤ → Fraction → ℕ → Type 0
+IsSignedUnits false z f s = IsSignedFloor z f s
+IsSignedUnits true z f s = IsSignedCeiling z f s
+
+-- Each number has a floor and a ceiling.
+pub number_units : (up : Bool) (a : Dec) (s : ℕ) → (k : ℕ) × IsSignedUnits up (with_sign a.neg k) (number a) s × (signed_units up a s ≡ option_map (with_sign a.neg) (small k))
+unfolding units_of
+number_units up a s = by up a.neg refl
+  where
+    by : (up neg : Bool) → a.neg ≡ neg → (k : ℕ) × IsSignedUnits up (with_sign neg k) (number a) s × (option_map (with_sign neg) (units_of (differ up neg) (size a) s) ≡ option_map (with_sign neg) (small k))
+    by false false f = let (k, w) = a_floor (size a) s in (k, floor_of_floor a s k (pos k) f refl w, ap (λ (n : ℕ). option_map (with_sign false) (small n)) (floor_is k s (size a) w))
+    by false true f = let (k, w) = a_ceiling (size a) s in (k, floor_of_ceiling a s k (neg_ℤ (pos k)) f refl w, ap (λ (n : ℕ). option_map (with_sign true) (small n)) (ceiling_is k s (size a) w))
+    by true false f = let (k, w) = a_ceiling (size a) s in (k, ceiling_of_ceiling a s k (pos k) f refl w, ap (λ (n : ℕ). option_map (with_sign false) (small n)) (ceiling_is k s (size a) w))
+    by true true f = let (k, w) = a_floor (size a) s in (k, ceiling_of_floor a s k (neg_ℤ (pos k)) f refl w, ap (λ (n : ℕ). option_map (with_sign true) (small n)) (floor_is k s (size a) w))
+
+pub floor_means : (a : Dec) (s : ℕ) (r : Option ℤ) → r ≡ floor a s → IfSome r (λ z. IsSignedFloor z (number a) s) × IfSome r (λ z. unsigned_abs z < 2 ^ 126) × IfNone r (IsFloorPast (number a) s)
+floor_means a s r e = let (k, w, is) = number_units false a s in kept _ _ a.neg k r (e ∙ is) w (λ h. record { floor = with_sign a.neg k; is = w; past = large a.neg k h })
+
+pub ceiling_means : (a : Dec) (s : ℕ) (r : Option ℤ) → r ≡ ceiling a s → IfSome r (λ z. IsSignedCeiling z (number a) s) × IfSome r (λ z. unsigned_abs z < 2 ^ 126) × IfNone r (IsCeilingPast (number a) s)
+ceiling_means a s r e = let (k, w, is) = number_units true a s in kept _ _ a.neg k r (e ∙ is) w (λ h. record { ceiling = with_sign a.neg k; is = w; past = large a.neg k h })

@@ -1,6 +1,6 @@
 use Rattle.decimal_input.proofs.Common.{◌≡◌, ℕ, zero, suc, ◌+◌, ◌*◌, ◌-◌, ◌/◌, ◌≤◌, ◌<◌, ◌^◌, ap, arith, ℤ, pos, ◌+ℤ◌, Option, Some, None, MatchOption, ints}
 use Rattle.decimal_input.proofs.Common.{mul-le-mul, mul-le-mul_right, lt-mul-div-succ, div-mul-le_self, div-lt_iff_lt-mul, Ratio, scaled, up, down, IsFloor}
-use Rattle.decimal_input.proofs.Common.{IsCeiling, Reaches, Passes}
+use Rattle.decimal_input.proofs.Common.{IsCeiling, Reaches, Passes, IsUnits, Bool, true, false, min, cases_lt, inl, inr, ◌∙◌}
 use Rattle.decimal_input.proofs.Cross.{lt_right, lt_cancel, le_cancel}
 use Rattle.decimal_input.proofs.Powers.{ten_pos, ten_more, num_scaled, den_scaled, up_down, pow_three}
 
@@ -28,7 +28,7 @@ cut_units m s k e h = rw (num_scaled, den_scaled) (regroup m (10 ^ up e) (10 ^ s
     regroup : (m a b c x : ℕ) → a * b * c ≡ x * 1 * 1 → ((m * a) * b) * c ≡ m * x
     regroup m a b c x h = let k : m * (a * b * c) ≡ m * (x * 1 * 1) = ap (λ (t : ℕ). m * t) h in omega (arith, k)
 
-pub floor_whole : (f : Ratio) (n s : ℕ) → f.num * 10 ^ s ≡ n * suc f.less → IsFloor n f s
+floor_whole : (f : Ratio) (n s : ℕ) → f.num * 10 ^ s ≡ n * suc f.less → IsFloor n f s
 floor_whole f n s h = record { at_most = omega arith; next = omega arith }
 
 pub reaches_whole : (f : Ratio) (a n s : ℕ) → f.num * 10 ^ s ≡ n * suc f.less → a ≤ n → Reaches a f s
@@ -41,24 +41,23 @@ floor_cut f m n s t ht h least most = record {
   next = lt_cancel t _ _ (omega (arith, h, lt_right (suc f.less) m ((n + 1) * t) (omega arith) most));
 }
 
-pub floor_quotient : (f : Ratio) (m s k t : ℕ) → t ≡ 10 ^ k → (f.num * 10 ^ s) * 10 ^ k ≡ m * suc f.less → IsFloor (m / t) f s
-floor_quotient f m s k t ht h =
-    let positive : 0 < t = omega (arith, ht, ten_pos k) in
-    floor_cut f m (m / t) s t positive (rw ht h) (div-mul-le_self m t) (omega (arith, lt-mul-div-succ m positive))
+-- where a unit is 10 ^ 18 at most, since 10 ^ 18 is above each m
+pub floor_quotient : (f : Ratio) (m s k t : ℕ) → m < 10 ^ 18 → t ≡ 10 ^ min k 18 → (f.num * 10 ^ s) * 10 ^ k ≡ m * suc f.less → IsFloor (m / t) f s
+floor_quotient f m s k t few ht h = elim (cases_lt k 18) [
+  | inl lt ↦ (let same : min k 18 ≡ k = omega (arith, lt) in let e : t ≡ 10 ^ k = ht ∙ ap (λ (n : ℕ). 10 ^ n) same in let positive : 0 < t = omega (arith, e, ten_pos k) in floor_cut f m (m / t) s t positive (rw e h) (div-mul-le_self m t) (omega (arith, lt-mul-div-succ m positive)))
+  | inr ge ↦ (let same : min k 18 ≡ 18 = omega (arith, ge) in let e : t ≡ 10 ^ 18 = ht ∙ ap (λ (n : ℕ). 10 ^ n) same in let none : m / t ≡ 0 = rw e (omega (arith, few)) in rw none (floor_cut f m 0 s (10 ^ k) (ten_pos k) h (omega arith) (omega (arith, below_ten m k (k - 18) few (omega (arith, ge))))))
+]
 
-pub floor_nothing : (f : Ratio) (m s k : ℕ) → m < 10 ^ k → (f.num * 10 ^ s) * 10 ^ k ≡ m * suc f.less → IsFloor 0 f s
-floor_nothing f m s k lt h = floor_cut f m 0 s (10 ^ k) (ten_pos k) h (omega arith) (omega arith)
-
-pub floor_zero : (f : Ratio) (s : ℕ) → f.num ≡ 0 → IsFloor 0 f s
+floor_zero : (f : Ratio) (s : ℕ) → f.num ≡ 0 → IsFloor 0 f s
 floor_zero f s h = record { at_most = omega arith; next = rw h (omega arith) }
 
 pub num_nothing : (m : ℕ) (e : ℤ) → m ≡ 0 → (scaled m e).num ≡ 0
 num_nothing m e h = rw (num_scaled, h) (omega arith)
 
-pub ceiling_zero : (f : Ratio) (s : ℕ) → f.num ≡ 0 → IsCeiling 0 f s
+ceiling_zero : (f : Ratio) (s : ℕ) → f.num ≡ 0 → IsCeiling 0 f s
 ceiling_zero f s h = record { at_least = rw h (omega arith); least = λ k _. omega arith }
 
-pub ceiling_whole : (f : Ratio) (n s : ℕ) → f.num * 10 ^ s ≡ n * suc f.less → IsCeiling n f s
+ceiling_whole : (f : Ratio) (n s : ℕ) → f.num * 10 ^ s ≡ n * suc f.less → IsCeiling n f s
 ceiling_whole f n s h = record { at_least = omega arith; least = λ k le. le_cancel (suc f.less) n k (omega arith) (omega (arith, h, le)) }
 
 pub passes_whole : (f : Ratio) (a n s : ℕ) → f.num * 10 ^ s ≡ n * suc f.less → a < n → Passes a f s
@@ -71,15 +70,13 @@ ceiling_cut f m n s t ht h reach least = record {
   least = λ k le. least k (le_cancel (suc f.less) m (k * t) (omega arith) (omega (arith, h, mul-le-mul_right t le)));
 }
 
-pub ceiling_quotient : (f : Ratio) (m s k t : ℕ) → 0 < m → t ≡ 10 ^ k → (f.num * 10 ^ s) * 10 ^ k ≡ m * suc f.less → IsCeiling ((m - 1) / t + 1) f s
-ceiling_quotient f m s k t hm ht h =
-    let positive : 0 < t = omega (arith, ht, ten_pos k) in
-    ceiling_cut f m ((m - 1) / t + 1) s t positive (rw ht h)
-    (omega (arith, lt-mul-div-succ (m - 1) positive))
-    (λ j le. let below : (m - 1) / t < j = (div-lt_iff_lt-mul positive).1 (omega (arith, le, hm)) in omega arith)
-
-pub ceiling_one : (f : Ratio) (m s k : ℕ) → 0 < m → m < 10 ^ k → (f.num * 10 ^ s) * 10 ^ k ≡ m * suc f.less → IsCeiling 1 f s
-ceiling_one f m s k hm lt h = ceiling_cut f m 1 s (10 ^ k) (ten_pos k) h (omega arith) (λ j le. some j le)
+pub ceiling_quotient : (f : Ratio) (m s k t : ℕ) → m < 10 ^ 18 → 0 < m → t ≡ 10 ^ min k 18 → (f.num * 10 ^ s) * 10 ^ k ≡ m * suc f.less → IsCeiling ((m - 1) / t + 1) f s
+ceiling_quotient f m s k t few hm ht h = elim (cases_lt k 18) [
+  | inl lt ↦ (let same : min k 18 ≡ k = omega (arith, lt) in let e : t ≡ 10 ^ k = ht ∙ ap (λ (n : ℕ). 10 ^ n) same in let positive : 0 < t = omega (arith, e, ten_pos k) in
+      ceiling_cut f m ((m - 1) / t + 1) s t positive (rw e h) (omega (arith, lt-mul-div-succ (m - 1) positive)) (λ j le. let below : (m - 1) / t < j = (div-lt_iff_lt-mul positive).1 (omega (arith, le, hm)) in omega arith))
+  | inr ge ↦ (let same : min k 18 ≡ 18 = omega (arith, ge) in let e : t ≡ 10 ^ 18 = ht ∙ ap (λ (n : ℕ). 10 ^ n) same in let one : (m - 1) / t + 1 ≡ 1 = rw e (omega (arith, few)) in
+      rw one (ceiling_cut f m 1 s (10 ^ k) (ten_pos k) h (omega (arith, below_ten m k (k - 18) few (omega (arith, ge)))) (λ j le. some j le)))
+]
   where
     some : (j : ℕ) → m ≤ j * 10 ^ k → 1 ≤ j
     some zero le = absurd (omega (arith, le, hm))
@@ -91,12 +88,13 @@ past_units m k h lt = by_more (k - 39) (omega arith)
     by_more : (j : ℕ) → k ≡ 39 + j → 2 ^ 126 ≤ m * 10 ^ k
     by_more j e = rw e (omega (arith, mul-le-mul h (ten_more 39 j)))
 
--- a whole number of units is its own floor
-pub whole_floor : (r : Option ℕ) (m s k : ℕ) (e : ℤ) → e +ℤ pos s ≡ pos k → MatchOption r (2 ^ 126 ≤ m * 10 ^ k) (λ n. (n ≡ m * 10 ^ k) × (n < 2 ^ 126)) → MatchOption r (Reaches (2 ^ 126) (scaled m e) s) (λ n. IsFloor n (scaled m e) s × (n < 2 ^ 126))
-whole_floor None m s k e h p = reaches_whole (scaled m e) _ (m * 10 ^ k) s (whole_units m s k e h) p
-whole_floor (Some n) m s k e h (is, p) = (floor_whole (scaled m e) n s (rw is (whole_units m s k e h)), p)
+-- a whole number of units is its own floor and ceiling
+pub whole_are : (up : Bool) (r : Option ℕ) (m s k : ℕ) (e : ℤ) → e +ℤ pos s ≡ pos k → MatchOption r (2 ^ 126 ≤ m * 10 ^ k) (λ n. (n ≡ m * 10 ^ k) × (n < 2 ^ 126)) → IsUnits up (scaled m e) s r
+whole_are false None m s k e h p = reaches_whole (scaled m e) _ (m * 10 ^ k) s (whole_units m s k e h) p
+whole_are false (Some n) m s k e h (is, p) = (floor_whole (scaled m e) n s (rw is (whole_units m s k e h)), p)
+whole_are true None m s k e h p = passes_whole (scaled m e) _ (m * 10 ^ k) s (whole_units m s k e h) (omega (arith, p))
+whole_are true (Some n) m s k e h (is, p) = (ceiling_whole (scaled m e) n s (rw is (whole_units m s k e h)), p)
 
--- and its own ceiling
-pub whole_ceiling : (r : Option ℕ) (m s k : ℕ) (e : ℤ) → e +ℤ pos s ≡ pos k → MatchOption r (2 ^ 126 ≤ m * 10 ^ k) (λ n. (n ≡ m * 10 ^ k) × (n < 2 ^ 126)) → MatchOption r (Passes (2 ^ 126 - 1) (scaled m e) s) (λ n. IsCeiling n (scaled m e) s × (n < 2 ^ 126))
-whole_ceiling None m s k e h p = passes_whole (scaled m e) _ (m * 10 ^ k) s (whole_units m s k e h) (omega (arith, p))
-whole_ceiling (Some n) m s k e h (is, p) = (ceiling_whole (scaled m e) n s (rw is (whole_units m s k e h)), p)
+pub nothing_is : (up : Bool) (m s : ℕ) (e : ℤ) → m ≡ 0 → IsUnits up (scaled m e) s (Some 0)
+nothing_is false m s e h = (floor_zero _ s (num_nothing m e h), omega arith)
+nothing_is true m s e h = (ceiling_zero _ s (num_nothing m e h), omega arith)

@@ -1,4 +1,4 @@
-use Rattle.std.specs.Prelude.{ℕ, suc, ◌*◌, ◌^◌, Bool, true, false, ℤ, pos, negsuc, neg_ℤ, ◌≡◌, ◌<◌, ◌%◌, ◌⊎◌, ◌≤ℤ◌}
+use Rattle.std.specs.Prelude.{ℕ, suc, not, ◌*◌, ◌^◌, Bool, true, false, ℤ, pos, negsuc, neg_ℤ, ◌≡◌, ◌<◌, ◌%◌, ◌⊎◌, ◌≤ℤ◌}
 use Rattle.decimal_input.specs.Ratios.{Ratio, ratio}
 use Rattle.decimal_input.specs.Fractions.{Fraction}
 use Rattle.decimal_input.specs.declared.dec.Dec.{Dec}
@@ -21,6 +21,11 @@ scaled m e = ratio (m * 10 ^ up e) (10 ^ down e)
 abbrev pub with_sign : Bool → ℕ → ℤ
 with_sign true n = neg_ℤ (pos n)
 with_sign false n = pos n
+
+-- Whether exactly one of two numbers has a minus sign. Their product is negative then.
+abbrev pub differ : Bool → Bool → Bool
+differ true b = not b
+differ false b = b
 
 -- The fraction m * 10 ^ e, with a sign.
 abbrev pub decimal : Bool → ℕ → ℤ → Fraction

@@ -4,14 +4,15 @@ pub mod Decimals
 pub mod Wholes
 pub mod Grammar
 pub mod Outcomes
-pub use Rattle.decimal_input.specs.Decimals.{IsDec, decimal, down, number, size, up, with_sign}
+pub use Rattle.decimal_input.specs.Decimals.{IsDec, decimal, differ, down, number, size, up, with_sign}
 unfoldable pub use Rattle.decimal_input.specs.Decimals.{scaled}
 pub use Rattle.decimal_input.specs.Fractions.{Fraction, IsOver, fraction_total, negated, signed, whole}
 pub use Rattle.decimal_input.specs.Grammar.{AreDigits, IsExponent, IsInteger, IsPart, IsSign, Spelling, Spells, behind, behind_part, digits_of, exponent_of}
 pub use Rattle.decimal_input.specs.Grammar.{integer_of, is_digit, is_mark, is_negative, is_sign, number_from, part_of, spelling, spelt, unsigned, whole_number}
 pub use Rattle.decimal_input.specs.Outcomes.{BoundsHoldOverADenominator, CeilingsKeepOrder, FloorsAndCeilingsEnclose, FloorsKeepOrder, IsCanonical, IsCap}
-pub use Rattle.decimal_input.specs.Outcomes.{IsCapped, IsOf, IsTested, IsTrimmed, Names, OneCanonicalForm, OperationsKeepOrder, WordsNameOneThing, differ}
+pub use Rattle.decimal_input.specs.Outcomes.{IsCapped, IsOf, IsTested, IsTrimmed, Names, OneCanonicalForm, OperationsKeepOrder, WordsNameOneThing}
 pub use Rattle.decimal_input.specs.Ratios.{Below, Ratio}
 unfoldable pub use Rattle.decimal_input.specs.Ratios.{over, ratio}
 pub use Rattle.decimal_input.specs.Wholes.{Encloses, EnclosesSigned, IsBetweenSigned, IsBetweenWhole, IsCeiling, IsCeilingPast, IsFloor, IsFloorPast, IsShare}
-pub use Rattle.decimal_input.specs.Wholes.{IsSignedCeiling, IsSignedFloor, Passes, Reaches}
+pub use Rattle.decimal_input.specs.Wholes.{IsSignedCeiling, IsSignedFloor, IsUnits, Passes, Reaches, ceiling, floor, signed_units, small}
+unfoldable pub use Rattle.decimal_input.specs.Wholes.{units_of}

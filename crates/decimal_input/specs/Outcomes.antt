@@ -35,11 +35,6 @@ pub record Names (w : List ℕ) (r : Result Dec NumFault) : Type 0 where
   pub no_number : ((n : Spelling) → Spells w n → ⊥) → r ≡ Err BadNumber
   pub number : length w ≤ 64 → (n : Spelling) → Spells w n → IsCanonical n.neg n.coefficient n.exp r
 
--- Whether the product is negative: exactly one of the two numbers has a minus sign.
-abbrev pub differ : Bool → Bool → Bool
-differ true b = not b
-differ false b = b
-
 -- What is known of the number c: its digits and the number of zeros after them, or that it has more than 18 digits.
 abbrev pub IsOf : Coefficient → ℕ → Type 0
 IsOf k c = ((k.many ≡ true) × (d : ℕ) × (z : ℕ) × IsTrimmed c d z × (10 ^ 18 ≤ d))

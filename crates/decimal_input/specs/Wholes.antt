@@ -1,4 +1,8 @@
-use Rattle.std.specs.Prelude.{ℕ, ◌+◌, ◌*◌, ◌≤◌, ◌<◌, ◌^◌, ℤ, pos, ◌+ℤ◌, ◌*ℤ◌, ◌≤ℤ◌, ◌<ℤ◌, neg_ℤ, unsigned_abs, ◌≡◌}
+use Rattle.std.specs.Prelude.{ℕ, ◌+◌, ◌*◌, ◌-◌, ◌/◌, ◌≤◌, ◌<◌, ◌^◌, ℤ, pos, ◌+ℤ◌, ◌*ℤ◌, ◌≤ℤ◌, ◌<ℤ◌, neg_ℤ, unsigned_abs, ◌≡◌, Bool, true, false, Option, Some}
+use Rattle.std.specs.Prelude.{None, MatchOption, nat_lt, if◌then◌else◌}
+use Rattle.std.specs.Option.{option_map}
+use Rattle.decimal_input.specs.declared.dec.Dec.{Dec}
+use Rattle.decimal_input.specs.Decimals.{with_sign, differ, size}
 use Rattle.decimal_input.specs.Ratios.{Ratio, den}
 use Rattle.decimal_input.specs.Fractions.{Fraction, den as denominator}
 
@@ -19,6 +23,28 @@ pub record Reaches (n : ℕ) (f : Ratio) (s : ℕ) : Type 0 where
 -- f * 10 ^ s is more than n
 pub record Passes (n : ℕ) (f : Ratio) (s : ℕ) : Type 0 where
   pub pass : n * den f < f.num * 10 ^ s
+
+-- r is the ceiling (up) or the floor of f * 10 ^ s, or None where that is 2 ^ 126 or more
+abbrev pub IsUnits : Bool → Ratio → ℕ → Option ℕ → Type 0
+IsUnits true f s r = MatchOption r (Passes (2 ^ 126 - 1) f s) (λ n. IsCeiling n f s × (n < 2 ^ 126))
+IsUnits false f s r = MatchOption r (Reaches (2 ^ 126) f s) (λ n. IsFloor n f s × (n < 2 ^ 126))
+
+-- the same as a function
+abbrev pub small : ℕ → Option ℕ
+small n = if nat_lt n (2 ^ 126) then Some n else None
+
+unfoldable pub units_of : Bool → Ratio → ℕ → Option ℕ
+units_of up f s = small ((f.num * 10 ^ s + (if up then f.less else 0)) / den f)
+
+-- and of a number with its sign: the floor of a negative number is the ceiling of its magnitude, negated
+abbrev pub signed_units : Bool → Dec → ℕ → Option ℤ
+signed_units up d s = option_map (with_sign d.neg) (units_of (differ up d.neg) (size d) s)
+
+abbrev pub floor : Dec → ℕ → Option ℤ
+floor d s = signed_units false d s
+
+abbrev pub ceiling : Dec → ℕ → Option ℤ
+ceiling d s = signed_units true d s
 
 -- z is the greatest whole number not above f * 10 ^ s
 pub record IsSignedFloor (z : ℤ) (f : Fraction) (s : ℕ) : Type 0 where

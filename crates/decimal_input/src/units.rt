@@ -1,42 +1,50 @@
 // A number of the input as whole units.
-ghost use Rattle.std.specs.Prelude.{◌<◌, ◌^◌, IfNone, IfSome, unsigned_abs, ◌≡◌, ◌*◌, ◌-◌, ◌≤◌, MatchOption};
-ghost use Rattle.decimal_input.specs.{IsDec, number, scaled, IsCeilingPast, IsFloorPast, IsSignedCeiling, IsSignedFloor, IsFloor, IsCeiling, Passes, Reaches};
+ghost use Rattle.std.specs.Prelude.{◌<◌, ◌^◌, Bool, IfNone, IfSome, unsigned_abs, ◌≡◌, ◌*◌, ◌≤◌, MatchOption};
+ghost use Rattle.decimal_input.specs.{IsDec, number, scaled, IsCeilingPast, IsFloorPast, IsSignedCeiling, IsSignedFloor, IsUnits, ceiling, floor, signed_units};
+ghost use Rattle.decimal_input.specs.{with_sign};
 
 use crate::dec::Dec;
 
 /// The greatest whole number of units of 10 ^ -s not above the number; None where its magnitude is 2 ^ 126 or more.
 pub fn floor_at(a: Dec, s: u32) -> Option<i128>
     requires canonical { IsDec a }
+    ensures is { result ≡ floor a s }
     ensures floor { IfSome result (λ z. IsSignedFloor z (number a) s) }
     ensures within { IfSome result (λ z. unsigned_abs z < 2 ^ 126) }
     ensures past { IfNone result (IsFloorPast (number a) s) }
 {
-    if a.neg {
-        let depth = whole_up(a.digits, a.exp, s)?;
-        Some(-(depth as i128))
-    } else {
-        let units = whole_dn(a.digits, a.exp, s)?;
-        Some(units as i128)
-    }
+    signed_units(a, s, false)
 }
 
 /// The least whole number of units of 10 ^ -s not below the number; None where its magnitude is 2 ^ 126 or more.
 pub fn ceil_at(a: Dec, s: u32) -> Option<i128>
     requires canonical { IsDec a }
+    ensures is { result ≡ ceiling a s }
     ensures ceiling { IfSome result (λ z. IsSignedCeiling z (number a) s) }
     ensures within { IfSome result (λ z. unsigned_abs z < 2 ^ 126) }
     ensures past { IfNone result (IsCeilingPast (number a) s) }
 {
-    if a.neg {
-        let depth = whole_dn(a.digits, a.exp, s)?;
-        Some(-(depth as i128))
-    } else {
-        let units = whole_up(a.digits, a.exp, s)?;
-        Some(units as i128)
+    signed_units(a, s, true)
+}
+
+// The number in units of 10 ^ -s, rounded up or down; None where its magnitude is 2 ^ 126 or more.
+fn signed_units(a: Dec, s: u32, up: bool) -> Option<i128>
+    requires canonical { IsDec a }
+    ensures { result ≡ signed_units up a s }
+{
+    match units_of(a.digits, a.exp, s, up != a.neg) {
+        Some(units) => Some(with_sign(a.neg, units)),
+        None => None,
     }
 }
 
-// A decimal as whole units: the greatest number of them not above it, the least not below it.
+/// A number of units with its sign.
+pub fn with_sign(neg: bool, units: u128) -> i128
+    requires small { units < 2 ^ 126 }
+    ensures { result ≡ with_sign neg units }
+{
+    if neg { -(units as i128) } else { units as i128 }
+}
 
 // The limit of every number of units.
 const LIMIT: u128 = 1 << 126;
@@ -56,10 +64,11 @@ fn multiple(m: u64, places: u64) -> Option<u128>
     }
 }
 
-/// The greatest whole number of units of 10 ^ -s not above m * 10 ^ e, or None where it is 2 ^ 126 or more.
-pub fn whole_dn(m: u64, e: i16, s: u32) -> Option<u128>
+/// m * 10 ^ e in whole units of 10 ^ -s, rounded up to the least number of them not below it, or down to the greatest
+/// one not above it; None where that is 2 ^ 126 or more.
+pub fn units_of(m: u64, e: i16, s: u32, up: bool) -> Option<u128>
     requires digits { m < 10 ^ 18 }
-    ensures value { MatchOption result (Reaches (2 ^ 126) (scaled m e) s) (λ n. IsFloor n (scaled m e) s × (n < 2 ^ 126)) }
+    ensures value { IsUnits up (scaled m e) s result }
 {
     if m == 0 {
         return Some(0);
@@ -67,29 +76,13 @@ pub fn whole_dn(m: u64, e: i16, s: u32) -> Option<u128>
     let shift = e as i64 + s as i64;
     let places = shift.unsigned_abs();
     if shift >= 0 {
-        multiple(m, places)
-    } else if places >= 18 {
-        Some(0)
-    } else {
-        Some(m as u128 / 10u128.pow(places as u32))
+        return multiple(m, places);
     }
-}
-
-/// The least whole number of units of 10 ^ -s not below m * 10 ^ e, or None where it is 2 ^ 126 or more.
-pub fn whole_up(m: u64, e: i16, s: u32) -> Option<u128>
-    requires digits { m < 10 ^ 18 }
-    ensures value { MatchOption result (Passes (2 ^ 126 - 1) (scaled m e) s) (λ n. IsCeiling n (scaled m e) s × (n < 2 ^ 126)) }
-{
-    if m == 0 {
-        return Some(0);
-    }
-    let shift = e as i64 + s as i64;
-    let places = shift.unsigned_abs();
-    if shift >= 0 {
-        multiple(m, places)
-    } else if places >= 18 {
-        Some(1)
+    // A smaller unit than 10 ^ -18 has the same quotients, 0 and 1.
+    let unit = 10u128.pow(places.min(18) as u32);
+    if up {
+        Some((m as u128 - 1) / unit + 1)
     } else {
-        Some((m as u128 - 1) / 10u128.pow(places as u32) + 1)
+        Some(m as u128 / unit)
     }
 }

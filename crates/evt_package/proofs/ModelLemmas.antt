@@ -1,10 +1,11 @@
 -- A model in limits stays so with evapotranspiration.
 use Rattle.evt_package.proofs.Common.{◌≡◌, ◌⊎◌, inl, inr, ℕ, ◌-◌, ◌<◌, ◌≤◌, ℤ, pos, ◌≤ℤ◌, Bool, true, false, not, cond, ◌&&◌, ◌==◌, List, [], map, All, Option}
-use Rattle.evt_package.proofs.Common.{Some, None, Ok, length, refl, sym, ap, subst, arith, ◌∙◌, suc, ◌+◌, ◌*◌, option_to_list, cases_lt, ints, mod_below, Grid}
-use Rattle.evt_package.proofs.Common.{FlowModel, cell_count, layer_size, place_in_layer, HasSize, dec_at, is_active, is_chosen, IsEvapValid, IsModel, IsPeriod}
+use Rattle.evt_package.proofs.Common.{Some, None, Ok, length, refl, sym, ap, subst, arith, ◌∙◌, suc, ◌+◌, ◌*◌, cases_lt, ints, mod_below, Grid, FlowModel}
+use Rattle.evt_package.proofs.Common.{cell_count, layer_size, place_in_layer, HasSize, dec_at, is_active, is_chosen, IsEvapValid, IsModel, IsPeriod}
 use Rattle.evt_package.proofs.Common.{evap_sources, no_period, period_at, int_at, is_nonzero, size_some, cell_tested, column_step, column_tested}
 use Rattle.evt_package.proofs.Common.{columns_tested, source, evap_fault, area_in, evaporation_arrays, HasEvaporation, IsEvaporating, AreArrays, SameBut}
 use Rattle.evt_package.proofs.Common.{with_evaporation, highest_active}
+use Rattle.std.specs.Option.{option_to_list}
 use Rattle.std.proofs.lemmas.List.Elements.{All-nil, All-cons, All-weaker}
 use Rattle.period_arrays.specs.{without, contents, IsArea}
 use Rattle.std.proofs.lemmas.List.{get_or_past}

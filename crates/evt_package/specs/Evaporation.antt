@@ -13,7 +13,8 @@ use Rattle.decimal_input.specs.declared.dec.Dec.{Dec}
 use Rattle.outside.specs.declared.codes.Code.{Code}
 use Rattle.outside.specs.declared.codes.Code.TheVariants.{BadProperty, HeadTooLarge}
 use Rattle.model_types.specs.{EvapSource, is_int, layer_size, dec_at, int_at, is_nonzero, IsLayerArray}
-use Rattle.number_limits.specs.{is_head, is_positive, within, floor, ceiling}
+use Rattle.number_limits.specs.{is_head, is_positive, within}
+use Rattle.decimal_input.specs.{floor, ceiling}
 use Rattle.model_types.specs.declared.grid.Grid.{Grid}
 use Rattle.model_types.specs.declared.period.Period.{Period}
 

@@ -8,9 +8,10 @@ ghost use Rattle.evt_package.specs.{cell_tested, column_step, columns_tested, so
 
 use crate::chosen::chosen_cell;
 use decimal_input::dec::Dec;
+use decimal_input::units::{ceil_at, floor_at};
 use model_types::Grid;
 use model_types::layers::{dec_at, int_at};
-use number_limits::{ceiling, floor, is_head, is_positive};
+use number_limits::{is_head, is_positive};
 use outside::{Code, TextFault};
 use period_arrays::{Area, cell_refused};
 use std::alloc::Global;
@@ -146,7 +147,7 @@ pub fn has_extinction(surface: Dec, depth: Dec) -> bool
     requires depth { IsDec depth }
     ensures { result ≡ has_extinction surface depth }
 {
-    let top = floor(surface, 9);
-    let down = ceiling(depth, 9);
+    let top = floor_at(surface, 9);
+    let down = ceil_at(depth, 9);
     is_reached(top, down)
 }

@@ -21,7 +21,7 @@ unfoldable pub use Rattle.cell_checks.specs.{checked, fault_at}
 pub use Rattle.cell_checks.specs.declared.passing.Check.{Check}
 pub use Rattle.cell_checks.specs.declared.passing.Check.TheVariants.{StartHead, Thickness}
 pub use Rattle.decimal_input.specs.{IsDec}
-unfoldable pub use Rattle.decimal_input.specs.{ratio, scaled}
+unfoldable pub use Rattle.decimal_input.specs.{ratio, scaled, units_of}
 pub use Rattle.decimal_input.specs.declared.dec.Dec.{Dec}
 pub use Rattle.dis_package.specs.{IsFrame, IsNewPeriod, IsSize, IsTime, begun, is_time, known, period_of, without_stresses}
 unfoldable pub use Rattle.dis_package.specs.{beds_of, bottom_at, bottoms_of, count_at, dis_of, frame_of, grid_of, head_of, period_at, periods_of, size_at}
@@ -60,7 +60,7 @@ pub use Rattle.name_file.specs.Pairs.{Pairs}
 pub use Rattle.name_file.specs.declared.package.Package.TheVariants.{Bas, Chd, Dis, Drn, Evt, Ghb, Lpf, Rch, Riv, Wel}
 pub use Rattle.number_limits.proofs.Canonical.{dec_at_is, no_number_is}
 pub use Rattle.number_limits.specs.{is_positive, within}
-unfoldable pub use Rattle.number_limits.specs.{ceiling_of, floor_of, is_at_most, is_thick}
+unfoldable pub use Rattle.number_limits.specs.{is_at_most, is_thick}
 pub use Rattle.outside.specs.{FileSet, file_at, refusal, words}
 pub use Rattle.outside.specs.declared.codes.Code.{Code}
 pub use Rattle.outside.specs.declared.codes.Code.TheVariants.{BadGrid, CellOutside, TooManyEntries}

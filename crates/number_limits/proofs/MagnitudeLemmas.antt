@@ -1,6 +1,8 @@
 -- Magnitudes by their floors and ceilings.
-use Rattle.number_limits.proofs.Common.{◌≡◌, ◌⊎◌, inl, inr, ℕ, ◌+◌, ◌*◌, ◌-◌, ◌^◌, ◌≤◌, ◌<◌, true, false, nat_le, sym, ◌∙◌, arith, leb-true, leb_tells}
-use Rattle.number_limits.proofs.Common.{mul-le-mul_right, Ratio, ratio, den, AtMost, IsCeiling, IsFloor, Passes, Reaches, is_at_most, is_at_least}
+use Rattle.number_limits.proofs.Common.{◌≡◌, ◌⊎◌, inl, inr, ℕ, ◌+◌, ◌*◌, ◌-◌, ◌^◌, ◌≤◌, ◌<◌, true, false, nat_le, sym, ◌∙◌, arith, leb-true, Ratio, ratio, den}
+use Rattle.number_limits.proofs.Common.{AtMost, IsCeiling, IsFloor, Passes, Reaches, is_at_most, is_at_least}
+use Rattle.std.proofs.lemmas.Bool.Decides.{leb_tells}
+use Rattle.std.proofs.Math.Nat.{mul-le-mul_right}
 
 abbrev Told : ℕ → ℕ → Type 0
 Told a b = ((nat_le a b ≡ true) × (a ≤ b)) ⊎ ((nat_le a b ≡ false) × (b < a))

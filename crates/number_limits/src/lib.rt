@@ -8,5 +8,5 @@ mod whole;
 
 pub use magnitudes::{is_at_least, is_at_most, is_head};
 pub use signs::{all_positive, is_one, is_positive};
-pub use units::{ceiling, floor, is_thick};
+pub use units::is_thick;
 pub use whole::within;

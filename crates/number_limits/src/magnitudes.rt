@@ -5,7 +5,7 @@ ghost use Rattle.model_types.specs.{IsHeadNumber};
 ghost use Rattle.number_limits.specs.{is_at_most, is_at_least, is_head};
 
 use decimal_input::dec::Dec;
-use decimal_input::units::{whole_dn, whole_up};
+use decimal_input::units::units_of;
 
 /// Whether the magnitude of a number is at most this.
 #[tactic(auto, using(crate::proofs::MagnitudeLemmas::of_ceiling, crate::proofs::MagnitudeLemmas::of_no_ceiling))]
@@ -13,7 +13,7 @@ pub fn is_at_most(limit: u32, value: Dec) -> bool
     requires canonical { IsDec value }
     ensures value { result ≡ is_at_most limit (size value) }
 {
-    match whole_up(value.digits, value.exp, 0) {
+    match units_of(value.digits, value.exp, 0, true) {
         Some(units) => units <= limit as u128,
         None => false,
     }
@@ -25,7 +25,7 @@ pub fn is_at_least(places: u32, value: Dec) -> bool
     requires canonical { IsDec value }
     ensures value { result ≡ is_at_least places (size value) }
 {
-    match whole_dn(value.digits, value.exp, places) {
+    match units_of(value.digits, value.exp, places, false) {
         Some(units) => units >= 1,
         None => true,
     }

@@ -13,8 +13,8 @@ pub use Rattle.conductance_bounds.specs.{half_term, high_end, is_whole, low_end,
 pub use Rattle.conductance_bounds.specs.{storativity_term, thick_term, vertical_half_term, vertical_k_at, vertical_k_term, vertical_term}
 unfoldable pub use Rattle.conductance_bounds.specs.{power_term, sum_term}
 pub use Rattle.decimal_input.proofs.Powers.{den_scaled, num_scaled, scaled_shift, ten_pos}
-pub use Rattle.decimal_input.proofs.SignedFloors.{a_ceiling, a_floor, ceiling_of_ceiling, ceiling_of_floor, floor_of_ceiling, floor_of_floor}
-pub use Rattle.decimal_input.specs.{IsDec, IsSignedCeiling, IsSignedFloor, Ratio, number, over, size, up}
+pub use Rattle.decimal_input.proofs.SignedFloors.{a_ceiling, a_floor, number_units}
+pub use Rattle.decimal_input.specs.{IsDec, IsSignedCeiling, IsSignedFloor, Ratio, number, over, size, up, with_sign}
 unfoldable pub use Rattle.decimal_input.specs.{scaled}
 pub use Rattle.decimal_input.specs.Ratios.{AtMost, Same, den, plus, times}
 pub use Rattle.decimal_input.specs.declared.dec.Dec.{Dec}

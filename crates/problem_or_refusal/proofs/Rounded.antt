@@ -1,10 +1,9 @@
 -- Numbers of the input have whole bounds, and are decimals of 18 digits.
 use Rattle.problem_or_refusal.proofs.Common.{◌≡◌, ℕ, zero, suc, ◌+◌, ◌-◌, ◌*◌, ◌/◌, ◌≤◌, ◌<◌, ◌^◌, inl, inr, refl, subst, arith, ℤ, pos, negsuc, neg_ℤ, ◌+ℤ◌}
-use Rattle.problem_or_refusal.proofs.Common.{◌-ℤ◌, ◌*ℤ◌, ◌≤ℤ◌, ◌<ℤ◌, cases_lt, cases_Bool, Dec, IsDec, size, number, scaled, IsSignedFloor, IsSignedCeiling, up}
-use Rattle.problem_or_refusal.proofs.Common.{Same, scaled_shift, num_scaled, ten_pos, IsFloorOf, IsCeilingOf, Number, Lower, Upper, IsSpan, IsBounded, pow-suc}
-use Rattle.problem_or_refusal.proofs.Common.{lt-mul-div-succ, div-mul-le_self, nothing_same, IsHeadPair, Thicknesses, AreThicknesses, a_floor, a_ceiling}
-use Rattle.problem_or_refusal.proofs.Common.{floor_of_floor, floor_of_ceiling, ceiling_of_ceiling, ceiling_of_floor, unsigned_abs, FlowModel, top_at, bottom_at}
-use Rattle.problem_or_refusal.proofs.Common.{lowest, IsThick}
+use Rattle.problem_or_refusal.proofs.Common.{◌-ℤ◌, ◌*ℤ◌, ◌≤ℤ◌, ◌<ℤ◌, cases_lt, Dec, IsDec, size, number, scaled, IsSignedFloor, IsSignedCeiling, up, Same}
+use Rattle.problem_or_refusal.proofs.Common.{scaled_shift, num_scaled, ten_pos, IsFloorOf, IsCeilingOf, Number, Lower, Upper, IsSpan, IsBounded, pow-suc}
+use Rattle.problem_or_refusal.proofs.Common.{lt-mul-div-succ, div-mul-le_self, nothing_same, IsHeadPair, Thicknesses, AreThicknesses, number_units, with_sign}
+use Rattle.problem_or_refusal.proofs.Common.{true, false, unsigned_abs, FlowModel, top_at, bottom_at, lowest, IsThick}
 use Rattle.std.proofs.lemmas.Int.{ints}
 use Rattle.conductance_bounds.specs.declared.span.Span.{Span}
 use Rattle.conductance_bounds.proofs.ThickBounds.{edges_room}
@@ -12,18 +11,10 @@ use Rattle.problem_or_refusal.proofs.Roundings.{down_of, up_of}
 use Rattle.problem_or_refusal.proofs.TermBounds.{rounded_positive}
 
 pub signed_floor : (d : Dec) (s : ℕ) → (z : ℤ) × IsSignedFloor z (number d) s
-signed_floor d s =
-    elim (cases_Bool d.neg) [
-      | inl minus ↦ let (k, is) = a_ceiling (size d) s in (neg_ℤ (pos k), floor_of_ceiling d s k (neg_ℤ (pos k)) minus refl is)
-      | inr plus ↦ let (k, is) = a_floor (size d) s in (pos k, floor_of_floor d s k (pos k) plus refl is)
-    ]
+signed_floor d s = let (k, w, _) = number_units false d s in (with_sign d.neg k, w)
 
 pub signed_ceiling : (d : Dec) (s : ℕ) → (z : ℤ) × IsSignedCeiling z (number d) s
-signed_ceiling d s =
-    elim (cases_Bool d.neg) [
-      | inl minus ↦ let (k, is) = a_floor (size d) s in (neg_ℤ (pos k), ceiling_of_floor d s k (neg_ℤ (pos k)) minus refl is)
-      | inr plus ↦ let (k, is) = a_ceiling (size d) s in (pos k, ceiling_of_ceiling d s k (pos k) plus refl is)
-    ]
+signed_ceiling d s = let (k, w, _) = number_units true d s in (with_sign d.neg k, w)
 
 pub head_pair : (d : Dec) → (lo : ℤ) × (hi : ℤ) × IsHeadPair d lo hi
 head_pair d =

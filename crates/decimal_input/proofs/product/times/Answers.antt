@@ -1,6 +1,7 @@
 use Rattle.decimal_input.proofs.Common.{◌*◌, arith, Bool, subst, ◌+ℤ◌, ints, IsCanonical}
 use Rattle.decimal_input.proofs.Named.{canonical_at}
-use Rattle.decimal_input.proofs.Products.{product_is, signs_differ}
+use Rattle.decimal_input.proofs.Products.{product_is}
+use Rattle.decimal_input.proofs.SignedFloors.{signs_differ}
 use Rattle.decimal_input.proofs.product.times.Goals as goal
 
 pub returns-clause-exact : goal.returns-clause-exact
