@@ -1,18 +1,18 @@
 -- Names that several proofs of this crate cite, of the crates below and of its own definitions, passed on from one place. Declares nothing.
 pub use Rattle.std.proofs.Common.{Bool, FitsSigned, None, Option, Some, ap, arith, cond, false, inl, inr, min, mul-pos, neg_ℤ, negsuc, pos, refl, rules, subst}
-pub use Rattle.std.proofs.Common.{suc, sym, to_z, true, zero, ℕ, ℤ, ◌*ℤ◌, ◌*◌, ◌+ℤ◌, ◌+◌, ◌-ℤ◌, ◌-◌, ◌/◌, ◌<ℤ◌, ◌<◌, ◌^◌, ◌∙◌, ◌≡◌, ◌≤ℤ◌, ◌≤◌, ◌⊎◌}
+pub use Rattle.std.proofs.Common.{suc, sym, to_z, true, zero, ℕ, ℤ, ◌*ℤ◌, ◌*◌, ◌+ℤ◌, ◌+◌, ◌-ℤ◌, ◌-◌, ◌/◌, ◌<ℤ◌, ◌<◌, ◌^◌, ◌∙◌, ◌≡◌, ◌≤ℤ◌, ◌≤◌}
 pub use Rattle.std.proofs.Math.Nat.{le_of_mul-le-mul_right, mul-le-mul, mul-le-mul_right, pow-suc}
-pub use Rattle.std.proofs.lemmas.Bool.{cases_Bool, cases_lt, false≢true, true≢false}
+pub use Rattle.std.proofs.lemmas.Bool.{cases_Bool, cases_lt, false≢true}
 pub use Rattle.std.proofs.lemmas.Int.{by_lt_z, clamps, ints, to_z-of_z, to_z_pos}
 pub use Rattle.std.specs.Int.{int_max, int_min, w128, w64}
-pub use Rattle.std.specs.Prelude.{IfSome, unsigned_abs, ◌==◌}
+pub use Rattle.std.specs.Prelude.{IfNone, IfSome, unsigned_abs, unwrap_or, ◌==◌}
 pub use Rattle.conductance_bounds.specs.{AreBounds, AreSpanned, AreThick, Holds, IsBed, IsBetween, IsBound, IsCeilingOf, IsColHalf, IsFloorOf, IsFlow}
 pub use Rattle.conductance_bounds.specs.{IsFlowPair, IsGivenPair, IsGrowingPart, IsHalf, IsHeadUnits, IsOrdered, IsPair, IsPart, IsPassed, IsRounded, IsSlow}
 pub use Rattle.conductance_bounds.specs.{IsSpan, IsVertHalf, IsWholePair, IsWithin, LiesWithin, Lower, Number, Product, Quotient, Side, Sum, Term, Upper}
 pub use Rattle.conductance_bounds.specs.{Within, area_formula, bed_of, blend, column_exact, column_k, column_k_term, evap_exact, evap_formula, evap_term, exact}
 pub use Rattle.conductance_bounds.specs.{face_term, high_end, is_whole, low_end, part_term, recharge_exact, recharge_formula, recharge_term, resistance_sum}
 pub use Rattle.conductance_bounds.specs.{row_exact, row_term, storage_exact, storage_formula, storage_of, storage_term, storativity_exact, storativity_term}
-pub use Rattle.conductance_bounds.specs.{thick_term, thickness_of, twice, vertical_exact, vertical_k, vertical_k_term, vertical_of, vertical_term}
+pub use Rattle.conductance_bounds.specs.{thick_term, thickness_of, vertical_exact, vertical_k, vertical_k_term, vertical_of, vertical_term}
 unfoldable pub use Rattle.conductance_bounds.specs.{power_term, reach, sum_term}
 pub use Rattle.conductance_bounds.specs.declared.pair.Pair.{Pair}
 pub use Rattle.conductance_bounds.specs.declared.span.Span.{Span}

@@ -6,7 +6,7 @@ use Rattle.conductance_bounds.proofs.Common.{row_conductance, column_conductance
 use Rattle.conductance_bounds.proofs.Common.{IsPair, face_term, column_k_term, times-positive, stride, AreSpanned}
 use Rattle.model_types.specs.declared.face.Axis.{Axis}
 use Rattle.model_types.specs.declared.face.Axis.TheVariants.{Row, Column, Vertical}
-use Rattle.conductance_bounds.proofs.LayerBounds.{IsLayerHalf, IsBedded, layers_enclose, is_some, is_zero}
+use Rattle.conductance_bounds.proofs.LayerBounds.{IsLayerHalf, IsBedded, layers_enclose, no_bed, some_bed}
 use Rattle.conductance_bounds.proofs.Manual.{row_pair_encloses, size_positive}
 use Rattle.conductance_bounds.proofs.Ready.{IsReady, is_ready}
 use Rattle.conductance_bounds.proofs.SpanBounds.{thick_positive}
@@ -49,10 +49,10 @@ module _ (m : FlowModel) (thick bed : ℕ → Span) where
   bedded_at : IsModel m → AreSpanned m thick bed → (a : ℕ) → a + layer_size m.grid < cell_count m.grid → is_active m a ≡ true → is_active m (a + layer_size m.grid) ≡ true → IsBedded ((bed_thickness m a).num == 0) (bed_thickness m a) (size (vkcb_at m a)) (bed a).lo (bed a).hi
   bedded_at valid spans a lt x y = elim (cases_Bool (has_bed m a)) [
     | inl e ↦ (elim (valid.beds a lt x y e) [
-      | inl same ↦ inl (is_zero _ (no_gap (number (lowest m a)) (number (bottom_at m a)) same), no_gap (number (lowest m a)) (number (bottom_at m a)) same)
-      | inr k ↦ inr (is_some _ (thick_positive (bottom_at m a) (lowest m a) k.thick), size_positive (vkcb_at m a) k.vkcb, thick_between (bottom_at m a) (lowest m a) (bed a) (spans.beds a lt x y (thick_positive (bottom_at m a) (lowest m a) k.thick)) k.thick)
+      | inl same ↦ (let none = no_gap (number (lowest m a)) (number (bottom_at m a)) same in no_bed _ _ _ _ _ none none)
+      | inr k ↦ (let some = thick_positive (bottom_at m a) (lowest m a) k.thick in some_bed _ _ _ _ _ some (size_positive (vkcb_at m a) k.vkcb) (thick_between (bottom_at m a) (lowest m a) (bed a) (spans.beds a lt x y some) k.thick))
     ])
-    | inr e ↦ (let none : (bed_thickness m a).num ≡ 0 = no_gap (number (lowest m a)) (number (bottom_at m a)) (ap (λ b. number (cond b (dec_at m.grid.bed_bottom a) (dec_at m.grid.bottom a))) e) in inl (is_zero _ none, none))
+    | inr e ↦ (let none : (bed_thickness m a).num ≡ 0 = no_gap (number (lowest m a)) (number (bottom_at m a)) (ap (λ b. number (cond b (dec_at m.grid.bed_bottom a) (dec_at m.grid.bottom a))) e) in no_bed _ _ _ _ _ none none)
   ]
 
   -- The pairs of the faces of a valid model enclose its conductances.

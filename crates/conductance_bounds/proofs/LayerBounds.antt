@@ -1,14 +1,14 @@
 -- The pair of a vertical branch contains the manual's conductance, with a bed or without.
-use Rattle.conductance_bounds.proofs.Common.{◌≡◌, ℕ, zero, suc, ◌*◌, ◌≤◌, ◌<◌, ◌^◌, ◌⊎◌, inl, inr, Bool, true, false, Option, Some, None, arith, refl, subst}
-use Rattle.conductance_bounds.proofs.Common.{sym, ◌+◌, ◌==◌, IfSome, true≢false, false≢true, cases_lt, Dec, size, Encloses, Ratio, over, up, IsFloor, IsCeiling}
-use Rattle.conductance_bounds.proofs.Common.{Reaches, Passes, den, plus, times, AtMost, num_scaled, Sd, value, two, IsPositive, Pair, Span, AreBounds, Term}
-use Rattle.conductance_bounds.proofs.Common.{exact, Holds, IsBetween, Number, Within, Sum, Quotient, area_formula, vertical_k_term, vertical_k, vertical_term}
-use Rattle.conductance_bounds.proofs.Common.{resistance_sum, vertical_of, vertical_exact, IsVertHalf, IsBed, IsPair, IsWholePair, evap_formula, evap_exact}
-use Rattle.conductance_bounds.proofs.Common.{over-positive, mul-le-mul_right}
+use Rattle.conductance_bounds.proofs.Common.{◌≡◌, ℕ, zero, suc, ◌*◌, ◌≤◌, ◌<◌, ◌^◌, inl, inr, Bool, true, false, Option, Some, None, arith, refl, subst, sym}
+use Rattle.conductance_bounds.proofs.Common.{◌+◌, ◌==◌, IfSome, false≢true, cases_lt, Dec, size, Encloses, Ratio, over, up, IsFloor, IsCeiling, Reaches, Passes}
+use Rattle.conductance_bounds.proofs.Common.{den, plus, times, AtMost, num_scaled, Sd, value, two, IsPositive, Pair, Span, AreBounds, Term, exact, Holds}
+use Rattle.conductance_bounds.proofs.Common.{IsBetween, Number, Within, Sum, Quotient, area_formula, vertical_k_term, vertical_k, vertical_term, resistance_sum}
+use Rattle.conductance_bounds.proofs.Common.{vertical_of, vertical_exact, IsVertHalf, IsBed, IsPair, IsWholePair, evap_formula, evap_exact, over-positive}
+use Rattle.conductance_bounds.proofs.Common.{mul-le-mul_right, Same, Same-trans, Same-sym, Same-self, plus-Same, over-Same, plus-positive}
 use Rattle.std.proofs.lemmas.Bool.Decides.{nat_tests}
 use Rattle.conductance_bounds.specs.declared.vertical.VertHalf.{VertHalf}
 use Rattle.conductance_bounds.specs.declared.vertical.Bed.{Bed}
-use Rattle.conductance_bounds.proofs.Manual.{vertical_encloses, bed_encloses, size_positive, positive_between, below_units, pair_encloses}
+use Rattle.conductance_bounds.proofs.Manual.{half_of, plus_none, zero_times, Encloses-same, size_positive, positive_between, below_units, pair_encloses}
 use Rattle.decimal_input.proofs.Cross.{le_cancel}
 
 -- the vertical conductivity as it is rounded, and exactly
@@ -31,35 +31,62 @@ pub record IsLayerHalf (h v t : Ratio) (lo hi : Sd) : Type 0 where
   pub thick : 0 < t.num
   pub between : IsBetween lo hi t
 
--- a bed has no thickness and is left out, or lies between its decimals, with its conductivity above 0
-abbrev pub IsBedded : Bool → Ratio → Ratio → Sd → Sd → Type 0
-IsBedded bare b v lo hi = ((bare ≡ true) × (b.num ≡ 0)) ⊎ ((bare ≡ false) × (0 < v.num) × IsBetween lo hi b)
-
-module _ (r d : Ratio) (q₁ : Bool) (h₁ v₁ t₁ : Ratio) (q₂ : Bool) (h₂ v₂ t₂ b v : Ratio) where
-  whole_is : over (times r d) (plus (plus (over (over t₁ two) (exact (vertical_k_term q₁ h₁ v₁))) (over b v)) (over (over t₂ two) (exact (vertical_k_term q₂ h₂ v₂)))) ≡ over (times r d) (plus (plus (over (over t₁ two) (vertical_k q₁ h₁ v₁)) (over b v)) (over (over t₂ two) (vertical_k q₂ h₂ v₂)))
-  whole_is = λ i. over (times r d) (plus (plus (over (over t₁ two) (k_is q₁ h₁ v₁ i)) (over b v)) (over (over t₂ two) (k_is q₂ h₂ v₂ i)))
-
-  pub layers_enclose : (bare : Bool) (lo₁ hi₁ lo₂ hi₂ lo₃ hi₃ : Sd) (s lo hi : ℕ) → IsLayerHalf h₁ v₁ t₁ lo₁ hi₁ → IsLayerHalf h₂ v₂ t₂ lo₂ hi₂ → IsBedded bare b v lo₃ hi₃ →
-      IsPair (Quotient (area_formula r d) (resistance_sum bare (vertical_term (Within lo₁ hi₁ t₁) (vertical_k_term q₁ h₁ v₁)) (Quotient (Within lo₃ hi₃ b) (Number v)) (vertical_term (Within lo₂ hi₂ t₂) (vertical_k_term q₂ h₂ v₂)))) s lo hi →
-      Encloses lo hi s (over (times r d) (plus (plus (over (over t₁ two) (vertical_k q₁ h₁ v₁)) (over b v)) (over (over t₂ two) (vertical_k q₂ h₂ v₂))))
-  layers_enclose true lo₁ hi₁ lo₂ hi₂ lo₃ hi₃ s lo hi p q (inl bed) pair =
-      subst (Encloses lo hi s) whole_is (vertical_encloses r d (vertical_k_term q₁ h₁ v₁) t₁ (vertical_k_term q₂ h₂ v₂) t₂ b v lo₁ hi₁ lo₂ hi₂ s lo hi (k_positive q₁ h₁ v₁ p.hk p.vka) p.thick (k_positive q₂ h₂ v₂ q.hk q.vka) q.thick (k_holds q₁ h₁ v₁ p.vka) (k_holds q₂ h₂ v₂ q.vka) p.between q.between bed.1 pair)
-  layers_enclose false lo₁ hi₁ lo₂ hi₂ lo₃ hi₃ s lo hi p q (inr bed) pair =
-      subst (Encloses lo hi s) whole_is (bed_encloses r d (vertical_k_term q₁ h₁ v₁) t₁ (vertical_k_term q₂ h₂ v₂) t₂ b v lo₁ hi₁ lo₂ hi₂ lo₃ hi₃ s lo hi (k_positive q₁ h₁ v₁ p.hk p.vka) p.thick (k_positive q₂ h₂ v₂ q.hk q.vka) q.thick bed.1 (k_holds q₁ h₁ v₁ p.vka) (k_holds q₂ h₂ v₂ q.vka) p.between q.between bed.2 pair)
-  layers_enclose true lo₁ hi₁ lo₂ hi₂ lo₃ hi₃ s lo hi p q (inr bed) pair = absurd (other_way bed.0)
-    where
-      other_way : true ≡ false → ⊥
-      other_way e = true≢false e
-  layers_enclose false lo₁ hi₁ lo₂ hi₂ lo₃ hi₃ s lo hi p q (inl bed) pair = absurd (other_way bed.0)
-    where
-      other_way : false ≡ true → ⊥
-      other_way e = false≢true e
-
 pub is_zero : (n : ℕ) → n ≡ 0 → (n == 0) ≡ true
 is_zero n e = grind (arith, nat_tests)
 
 pub is_some : (n : ℕ) → 0 < n → (n == 0) ≡ false
 is_some n e = grind (arith, nat_tests)
+
+-- a bed has no thickness and is left out, or lies between its decimals, with its conductivity above 0
+abbrev pub IsBedded : Bool → Ratio → Ratio → Sd → Sd → Type 0
+IsBedded true b v lo hi = b.num ≡ 0
+IsBedded false b v lo hi = (0 < v.num) × IsBetween lo hi b
+
+pub no_bed : (n : ℕ) (b v : Ratio) (lo hi : Sd) → n ≡ 0 → b.num ≡ 0 → IsBedded (n == 0) b v lo hi
+no_bed n b v lo hi e none = subst (λ z. IsBedded z b v lo hi) (sym (is_zero n e)) none
+
+pub some_bed : (n : ℕ) (b v : Ratio) (lo hi : Sd) → 0 < n → 0 < v.num → IsBetween lo hi b → IsBedded (n == 0) b v lo hi
+some_bed n b v lo hi some hv between = subst (λ z. IsBedded z b v lo hi) (sym (is_some n some)) (hv, between)
+
+-- a half's formula, and its value in the manual's form
+module _ (q : Bool) (h v t : Ratio) (lo hi : Sd) (p : IsLayerHalf h v t lo hi) where
+  abbrev half_term : Term
+  half_term = vertical_term (Within lo hi t) (vertical_k_term q h v)
+
+  half_is : Same (exact half_term) (over (over t two) (vertical_k q h v))
+  half_is = subst (λ (k : Ratio). Same (exact half_term) (over (over t two) k)) (k_is q h v) (half_of t (exact (vertical_k_term q h v)) (k_positive q h v p.hk p.vka))
+
+  half_holds : Holds half_term
+  half_holds = (p.between, (k_holds q h v p.vka, k_holds q h v p.vka), plus-positive _ _ (k_positive q h v p.hk p.vka))
+
+-- The resistances of two halves x and y with the values f and g, and of the bed between them.
+module _ (b v : Ratio) (lo hi : Sd) (x y : Term) where
+  abbrev joined : Bool → Term
+  joined bare = resistance_sum bare x (Quotient (Within lo hi b) (Number v)) y
+
+  joined_is : (bare : Bool) (f g : Ratio) → IsBedded bare b v lo hi → Same (exact x) f → Same (exact y) g → Same (exact (joined bare)) (plus (plus f (over b v)) g)
+  joined_is true f g none p q = plus-Same (Same-trans p (Same-sym (plus_none f (over b v) (zero_times b v none)))) q
+  joined_is false f g bed p q = plus-Same (plus-Same p (Same-self (over b v))) q
+
+  joined_holds : (bare : Bool) → IsBedded bare b v lo hi → Holds x → Holds y → Holds (joined bare)
+  joined_holds true none p q = (p, q)
+  joined_holds false bed p q = ((p, (bed.1, tt, bed.0)), q)
+
+  joined_positive : (bare : Bool) → 0 < (exact x).num → 0 < (exact (joined bare)).num
+  joined_positive true p = plus-positive _ _ p
+  joined_positive false p = plus-positive _ _ (plus-positive _ _ p)
+
+pub layers_enclose : (r d : Ratio) (q₁ : Bool) (h₁ v₁ t₁ : Ratio) (q₂ : Bool) (h₂ v₂ t₂ b v : Ratio) (bare : Bool) (lo₁ hi₁ lo₂ hi₂ lo₃ hi₃ : Sd) (s lo hi : ℕ) → IsLayerHalf h₁ v₁ t₁ lo₁ hi₁ → IsLayerHalf h₂ v₂ t₂ lo₂ hi₂ → IsBedded bare b v lo₃ hi₃ →
+    IsPair (Quotient (area_formula r d) (resistance_sum bare (vertical_term (Within lo₁ hi₁ t₁) (vertical_k_term q₁ h₁ v₁)) (Quotient (Within lo₃ hi₃ b) (Number v)) (vertical_term (Within lo₂ hi₂ t₂) (vertical_k_term q₂ h₂ v₂)))) s lo hi →
+    Encloses lo hi s (over (times r d) (plus (plus (over (over t₁ two) (vertical_k q₁ h₁ v₁)) (over b v)) (over (over t₂ two) (vertical_k q₂ h₂ v₂))))
+layers_enclose r d q₁ h₁ v₁ t₁ q₂ h₂ v₂ t₂ b v bare lo₁ hi₁ lo₂ hi₂ lo₃ hi₃ s lo hi p q bed pair =
+    let x = half_term q₁ h₁ v₁ t₁ lo₁ hi₁ p in
+    let y = half_term q₂ h₂ v₂ t₂ lo₂ hi₂ q in
+    let some = joined_positive b v lo₃ hi₃ x y bare (over-positive t₁ _ p.thick) in
+    Encloses-same lo hi s _ _
+    (over-Same some (plus-positive _ _ (plus-positive _ (over b v) (over-positive (over t₁ two) _ (over-positive t₁ two p.thick)))) (Same-self (times r d))
+    (joined_is b v lo₃ hi₃ x y bare _ _ bed (half_is q₁ h₁ v₁ t₁ lo₁ hi₁ p) (half_is q₂ h₂ v₂ t₂ lo₂ hi₂ q)))
+    (pair_encloses _ s lo hi ((tt, tt), joined_holds b v lo₃ hi₃ x y bare bed (half_holds q₁ h₁ v₁ t₁ lo₁ hi₁ p) (half_holds q₂ h₂ v₂ t₂ lo₂ hi₂ q), some) pair)
 
 -- what lies below zero is nothing
 none_below : (f : Ratio) (hi : Sd) → hi.m ≡ 0 → AtMost f (value hi) → f.num ≡ 0
@@ -70,8 +97,8 @@ none_below f hi e h = nothing f.num (den f) hi.m (10 ^ up hi.e) (value hi).less 
     nothing a x (suc m) p y e h = absurd (omega (arith, e))
 
 bedded : (bed : Bed) (h : Ratio) → IsBed bed → IsBetween bed.thick_lo bed.thick_hi h → IsBedded (bed.thick_lo.m == 0) h (size bed.vkcb) bed.thick_lo bed.thick_hi
-bedded bed h (inl z) b = inl (is_zero bed.thick_lo.m z.0.0, none_below h bed.thick_hi z.1.0 b.upper)
-bedded bed h (inr r) b = inr (is_some bed.thick_lo.m r.thick.low_size.positive, size_positive bed.vkcb r.vkcb, b)
+bedded bed h (inl z) b = no_bed bed.thick_lo.m h (size bed.vkcb) bed.thick_lo bed.thick_hi z.0.0 (none_below h bed.thick_hi z.1.0 b.upper)
+bedded bed h (inr r) b = some_bed bed.thick_lo.m h (size bed.vkcb) bed.thick_lo bed.thick_hi r.thick.low_size.positive (size_positive bed.vkcb r.vkcb) b
 
 layer_half : (a : VertHalf) (f : Ratio) → IsVertHalf a → IsBetween a.thick_lo a.thick_hi f → IsLayerHalf (size a.hk) (size a.vka) f a.thick_lo a.thick_hi
 layer_half a f p b = record { hk = size_positive a.hk p.hk; vka = size_positive a.vka p.vka; thick = positive_between a.thick_lo a.thick_hi f p.thick.low_size.positive b; between = b }

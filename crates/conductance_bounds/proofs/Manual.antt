@@ -1,10 +1,10 @@
 -- The formulas of branches contain the manual's conductances: each formula's value is the manual's, and each of its leaves lies between its bounds.
 use Rattle.conductance_bounds.proofs.Common.{◌≡◌, ℕ, ◌+◌, ◌*◌, ◌<◌, arith, refl, ◌≤◌, ◌^◌, subst, sym, mul-pos, zero, suc, Encloses, Ratio, ratio, over, up}
-use Rattle.conductance_bounds.proofs.Common.{size, den, plus, times, Same, AtMost, Same-trans, Same-sym, num_plus, den_plus, num_over, den_over, AtMost-trans}
-use Rattle.conductance_bounds.proofs.Common.{Same-AtMost, Same-back, plus-AtMost, times-AtMost, over-AtMost, num_times, den_times, Sd, one, two, half, in_a_row}
-use Rattle.conductance_bounds.proofs.Common.{IsPositive, Term, exact, Holds, IsBetween, Number, Within, Sum, Product, Quotient, IsPair, twice, row_term, Side}
-use Rattle.conductance_bounds.proofs.Common.{IsBound, Lower, Upper, plus-Same, over-Same, plus-positive, over-positive, Same-self, times-positive}
-use Rattle.conductance_bounds.proofs.Common.{mul-le-mul_right, le_of_mul-le-mul_right, ten_pos, num_scaled, value, Dec}
+use Rattle.conductance_bounds.proofs.Common.{size, den, plus, times, Same, AtMost, num_plus, den_plus, num_over, den_over, AtMost-trans, Same-AtMost, Same-back}
+use Rattle.conductance_bounds.proofs.Common.{plus-AtMost, times-AtMost, over-AtMost, num_times, den_times, Sd, one, two, half, in_a_row, IsPositive, Term}
+use Rattle.conductance_bounds.proofs.Common.{exact, Holds, IsBetween, Number, Within, Sum, Product, Quotient, IsPair, row_term, Side, IsBound, Lower, Upper}
+use Rattle.conductance_bounds.proofs.Common.{plus-Same, over-Same, plus-positive, over-positive, Same-self, times-positive, mul-le-mul_right}
+use Rattle.conductance_bounds.proofs.Common.{le_of_mul-le-mul_right, ten_pos, num_scaled, value, Dec}
 
 pub positive_value : (x : Sd) → 0 < x.m → 0 < (value x).num
 positive_value x h = rw num_scaled (mul-pos h (ten_pos (up x.e)))
@@ -111,34 +111,8 @@ nothing x dx z = omega arith
 pub plus_none : (x y : Ratio) → y.num ≡ 0 → Same (plus x y) x
 plus_none x y e = record { cross = rw (num_plus x y, den_plus x y, e) (nothing x.num (den x) (den y)) }
 
-zero_times : (b : Ratio) (v : Ratio) → b.num ≡ 0 → (over b v).num ≡ 0
+pub zero_times : (b : Ratio) (v : Ratio) → b.num ≡ 0 → (over b v).num ≡ 0
 zero_times b v e = rw (num_over b v, e) (omega arith)
-
--- the pair of a vertical branch without a bed
-pub vertical_encloses : (r d : Ratio) (k₁ : Term) (t₁ : Ratio) (k₂ : Term) (t₂ b v : Ratio) (lo₁ hi₁ lo₂ hi₂ : Sd) (s lo hi : ℕ) →
-    0 < (exact k₁).num → 0 < t₁.num → 0 < (exact k₂).num → 0 < t₂.num → Holds k₁ → Holds k₂ → IsBetween lo₁ hi₁ t₁ → IsBetween lo₂ hi₂ t₂ → b.num ≡ 0 →
-    IsPair (Quotient (Product (Number r) (Number d)) (Sum (Quotient (Within lo₁ hi₁ t₁) (twice k₁)) (Quotient (Within lo₂ hi₂ t₂) (twice k₂)))) s lo hi →
-    Encloses lo hi s (over (times r d) (plus (plus (over (over t₁ two) (exact k₁)) (over b v)) (over (over t₂ two) (exact k₂))))
-vertical_encloses r d k₁ t₁ k₂ t₂ b v lo₁ hi₁ lo₂ hi₂ s lo hi hk₁ ht₁ hk₂ ht₂ p₁ p₂ b₁ b₂ none pair =
-    let first = over-positive t₁ (plus (exact k₁) (exact k₁)) ht₁ in
-    let half₁ = over-positive (over t₁ two) (exact k₁) (over-positive t₁ two ht₁) in
-    Encloses-same lo hi s _ _
-    (over-Same (plus-positive _ _ first) (plus-positive _ _ (plus-positive _ (over b v) half₁)) (record { cross = refl })
-    (plus-Same (Same-trans (half_of t₁ (exact k₁) hk₁) (Same-sym (plus_none (over (over t₁ two) (exact k₁)) (over b v) (zero_times b v none)))) (half_of t₂ (exact k₂) hk₂)))
-    (pair_encloses _ s lo hi ((tt, tt), ((b₁, (p₁, p₁), plus-positive _ _ hk₁), (b₂, (p₂, p₂), plus-positive _ _ hk₂)), plus-positive _ _ first) pair)
-
--- and with a bed
-pub bed_encloses : (r d : Ratio) (k₁ : Term) (t₁ : Ratio) (k₂ : Term) (t₂ b v : Ratio) (lo₁ hi₁ lo₂ hi₂ lo₃ hi₃ : Sd) (s lo hi : ℕ) →
-    0 < (exact k₁).num → 0 < t₁.num → 0 < (exact k₂).num → 0 < t₂.num → 0 < v.num → Holds k₁ → Holds k₂ → IsBetween lo₁ hi₁ t₁ → IsBetween lo₂ hi₂ t₂ → IsBetween lo₃ hi₃ b →
-    IsPair (Quotient (Product (Number r) (Number d)) (Sum (Sum (Quotient (Within lo₁ hi₁ t₁) (twice k₁)) (Quotient (Within lo₃ hi₃ b) (Number v))) (Quotient (Within lo₂ hi₂ t₂) (twice k₂)))) s lo hi →
-    Encloses lo hi s (over (times r d) (plus (plus (over (over t₁ two) (exact k₁)) (over b v)) (over (over t₂ two) (exact k₂))))
-bed_encloses r d k₁ t₁ k₂ t₂ b v lo₁ hi₁ lo₂ hi₂ lo₃ hi₃ s lo hi hk₁ ht₁ hk₂ ht₂ hv p₁ p₂ b₁ b₂ b₃ pair =
-    let first = over-positive t₁ (plus (exact k₁) (exact k₁)) ht₁ in
-    let half₁ = over-positive (over t₁ two) (exact k₁) (over-positive t₁ two ht₁) in
-    Encloses-same lo hi s _ _
-    (over-Same (plus-positive _ _ (plus-positive _ (over b v) first)) (plus-positive _ _ (plus-positive _ (over b v) half₁)) (record { cross = refl })
-    (plus-Same (plus-Same (half_of t₁ (exact k₁) hk₁) (record { cross = refl })) (half_of t₂ (exact k₂) hk₂)))
-    (pair_encloses _ s lo hi ((tt, tt), (((b₁, (p₁, p₁), plus-positive _ _ hk₁), (b₃, tt, hv)), (b₂, (p₂, p₂), plus-positive _ _ hk₂)), plus-positive _ _ (plus-positive _ (over b v) first)) pair)
 
 -- Positive numbers of the input, and of what lies between positive decimals.
 pub size_positive : (d : Dec) → IsPositive d → 0 < (size d).num

@@ -2,7 +2,7 @@
 use Rattle.conductance_bounds.proofs.Common.{◌≡◌, ℕ, ◌<◌, ◌≤◌, ◌^◌, arith, refl, subst, ℤ, pos, negsuc, neg_ℤ, ◌+ℤ◌, ◌-ℤ◌, ◌*ℤ◌, ◌≤ℤ◌, ◌<ℤ◌, unsigned_abs, ints}
 use Rattle.conductance_bounds.proofs.Common.{by_lt_z, Dec, number, scaled, Fraction, IsSignedFloor, IsSignedCeiling, IsFloorPast, IsCeilingPast, AtMost-trans}
 use Rattle.conductance_bounds.proofs.Common.{scaled-AtMost, mul_mono_right, cancel_right, HasSize, IsDown, IsUp, gap, IsThick, Span, IsBetween, IsSpan}
-use Rattle.conductance_bounds.proofs.Common.{AreThick, one_floor, one_ceiling}
+use Rattle.conductance_bounds.proofs.Common.{AreThick, one_floor, one_ceiling, Option, Some, None, IfSome, ◌∙◌, sym, IfNone, unwrap_or}
 use Rattle.decimal_input.specs.Fractions.{den}
 use Rattle.conductance_bounds.proofs.SpanBounds.{abs_positive, span_between}
 
@@ -35,7 +35,7 @@ next_to f z w p q = (
 )
 
 -- The other end of an elevation's units, where its own call finds it too large: it is one unit past a small one.
-upper_end : (f : Fraction) (z w : ℤ) → IsSignedFloor z f 18 → IsSignedCeiling w f 18 → unsigned_abs z < 2 ^ 126 → 2 ^ 126 ≤ unsigned_abs w → w ≡ pos (2 ^ 126)
+pub upper_end : (f : Fraction) (z w : ℤ) → IsSignedFloor z f 18 → IsSignedCeiling w f 18 → unsigned_abs z < 2 ^ 126 → 2 ^ 126 ≤ unsigned_abs w → w ≡ pos (2 ^ 126)
 upper_end f z w p q small large =
     let (low, next) = next_to f z w p q in
     at_end z w low next small large
@@ -46,7 +46,7 @@ upper_end f z w p q small large =
     at_end (negsuc a) (pos b) p q s l = absurd (omega (arith, ints, q, l))
     at_end (negsuc a) (negsuc b) p q s l = absurd (omega (arith, ints, p, s, l))
 
-lower_end : (f : Fraction) (z w : ℤ) → IsSignedFloor z f 18 → IsSignedCeiling w f 18 → unsigned_abs w < 2 ^ 126 → 2 ^ 126 ≤ unsigned_abs z → z ≡ neg_ℤ (pos (2 ^ 126))
+pub lower_end : (f : Fraction) (z w : ℤ) → IsSignedFloor z f 18 → IsSignedCeiling w f 18 → unsigned_abs w < 2 ^ 126 → 2 ^ 126 ≤ unsigned_abs z → z ≡ neg_ℤ (pos (2 ^ 126))
 lower_end f z w p q small large =
     let (low, next) = next_to f z w p q in
     at_end z w low next small large
@@ -57,11 +57,15 @@ lower_end f z w p q small large =
     at_end (negsuc a) (pos b) p q s l = absurd (omega (arith, ints, q, l))
     at_end (negsuc a) (negsuc b) p q s l = omega (arith, ints, p, q, s, l)
 
-pub past_above : (f : Fraction) (z : ℤ) → IsSignedFloor z f 18 → unsigned_abs z < 2 ^ 126 → IsCeilingPast f 18 → IsSignedCeiling (pos (2 ^ 126)) f 18
-past_above f z p small past = subst (λ (w : ℤ). IsSignedCeiling w f 18) (upper_end f z past.ceiling p past.is small past.past) past.is
+pub floor_or_limit : (f : Fraction) (r : Option ℤ) (lo : ℤ) → lo ≡ unwrap_or r (neg_ℤ (pos (2 ^ 126))) → ((z : ℤ) → IsSignedFloor z f 18 → 2 ^ 126 ≤ unsigned_abs z → z ≡ neg_ℤ (pos (2 ^ 126))) →
+    IfSome r (λ z. IsSignedFloor z f 18) → IfNone r (IsFloorPast f 18) → IsSignedFloor lo f 18
+floor_or_limit f (Some z) lo e limit some past = subst (λ (w : ℤ). IsSignedFloor w f 18) (sym e) some
+floor_or_limit f None lo e limit some past = subst (λ (w : ℤ). IsSignedFloor w f 18) (limit past.floor past.is past.past ∙ sym e) past.is
 
-pub past_below : (f : Fraction) (w : ℤ) → IsSignedCeiling w f 18 → unsigned_abs w < 2 ^ 126 → IsFloorPast f 18 → IsSignedFloor (neg_ℤ (pos (2 ^ 126))) f 18
-past_below f w p small past = subst (λ (z : ℤ). IsSignedFloor z f 18) (lower_end f past.floor w past.is p small past.past) past.is
+pub ceiling_or_limit : (f : Fraction) (r : Option ℤ) (hi : ℤ) → hi ≡ unwrap_or r (pos (2 ^ 126)) → ((z : ℤ) → IsSignedCeiling z f 18 → 2 ^ 126 ≤ unsigned_abs z → z ≡ pos (2 ^ 126)) →
+    IfSome r (λ z. IsSignedCeiling z f 18) → IfNone r (IsCeilingPast f 18) → IsSignedCeiling hi f 18
+ceiling_or_limit f (Some z) hi e limit some past = subst (λ (w : ℤ). IsSignedCeiling w f 18) (sym e) some
+ceiling_or_limit f None hi e limit some past = subst (λ (w : ℤ). IsSignedCeiling w f 18) (limit past.ceiling past.is past.past ∙ sym e) past.is
 
 -- both decimals of a thickness are above 0, in order, and of a size
 pub are_thick : (t : Span) (low high : ℕ) → low ≤ high → IsDown t.lo (scaled low (neg_ℤ (pos 18))) → IsUp t.hi (scaled high (neg_ℤ (pos 18))) →

@@ -56,31 +56,15 @@ pub fn whole_bounds(x: Dec) -> HeadPair
     ensures floor { IsSignedFloor result.lo (number x) 9 }
     ensures ceiling { IsSignedCeiling result.hi (number x) 9 }
 {
+    let Some(low) = floor_at(x, 9) else {
+        unreachable!()
+    };
+    let Some(high) = ceil_at(x, 9) else {
+        unreachable!()
+    };
     HeadPair {
-        lo: floor_64(x),
-        hi: ceiling_64(x),
-    }
-}
-
-fn floor_64(x: Dec) -> i64
-    requires decimal { IsDec x }
-    requires low { (z : ℤ) → IsSignedFloor z (number x) 9 → FitsSigned w64 z }
-    ensures { IsSignedFloor result (number x) 9 }
-{
-    match floor_at(x, 9) {
-        Some(low) => low as i64,
-        None => unreachable!(),
-    }
-}
-
-fn ceiling_64(x: Dec) -> i64
-    requires decimal { IsDec x }
-    requires high { (z : ℤ) → IsSignedCeiling z (number x) 9 → FitsSigned w64 z }
-    ensures { IsSignedCeiling result (number x) 9 }
-{
-    match ceil_at(x, 9) {
-        Some(high) => high as i64,
-        None => unreachable!(),
+        lo: low as i64,
+        hi: high as i64,
     }
 }
 

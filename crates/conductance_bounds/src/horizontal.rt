@@ -42,18 +42,10 @@ pub fn row_branch(a: &Half, b: &Half, width: Dec, s: u32) -> Option<Pair>
         IfSome result (λ p. Encloses p.lo p.hi s (row_exact a.now b.now width f g)) }
 {
     let width = exact_span(width);
-    let first = resistance(
-        a.along,
-        width,
-        exact_span(a.hk),
-        span_of(a.thick_lo, a.thick_hi),
-    );
-    let second = resistance(
-        b.along,
-        width,
-        exact_span(b.hk),
-        span_of(b.thick_lo, b.thick_hi),
-    );
+    let thick = span_of(a.thick_lo, a.thick_hi);
+    let first = resistance(a.along, width, exact_span(a.hk), thick);
+    let thick = span_of(b.thick_lo, b.thick_hi);
+    let second = resistance(b.along, width, exact_span(b.hk), thick);
     rounded_pair(in_a_row(first, second), s)
 }
 
@@ -69,18 +61,10 @@ pub fn col_branch(a: &ColHalf, b: &ColHalf, width: Dec, s: u32) -> Option<Pair>
         IfSome result (λ p. Encloses p.lo p.hi s (column_exact a.now b.now width f g)) }
 {
     let width = exact_span(width);
-    let first = resistance(
-        a.along,
-        width,
-        along_column(a),
-        span_of(a.thick_lo, a.thick_hi),
-    );
-    let second = resistance(
-        b.along,
-        width,
-        along_column(b),
-        span_of(b.thick_lo, b.thick_hi),
-    );
+    let thick = span_of(a.thick_lo, a.thick_hi);
+    let first = resistance(a.along, width, along_column(a), thick);
+    let thick = span_of(b.thick_lo, b.thick_hi);
+    let second = resistance(b.along, width, along_column(b), thick);
     rounded_pair(in_a_row(first, second), s)
 }
 

@@ -1,5 +1,5 @@
 // Recharge over a cell's area, and flows of the input.
-ghost use Rattle.std.specs.Prelude.{◌≡◌, ◌+◌, ◌<◌, ◌≤◌, ◌^◌, pos, neg_ℤ, IfSome};
+ghost use Rattle.std.specs.Prelude.{◌≡◌, ◌+◌, ◌<◌, ◌≤◌, IfSome};
 ghost use Rattle.decimal_input.specs.{IsDec, size, EnclosesSigned};
 ghost use Rattle.model_types.specs.{IsPositive};
 ghost use Rattle.conductance_bounds.specs.{Term, Number, IsOrdered, reach, AreBounds, recharge_formula, recharge_exact, IsFlowPair};
@@ -8,6 +8,7 @@ use crate::interval::exact_span;
 use crate::pair::FlowPair;
 use crate::span::Span;
 use decimal_input::dec::Dec;
+use decimal_input::units::with_sign;
 use scaled_decimal::{ceil_units, floor_units};
 
 /// The bounds of the flow of recharge into a cell, in units of 10 ^ -(s + 9); None where a magnitude is 2 ^ 126 or
@@ -60,27 +61,13 @@ fn flow_of(x: Span, neg: bool, places: u32) -> Option<FlowPair>
     };
     if neg {
         Some(FlowPair {
-            lo: loss(most),
-            hi: loss(least),
+            lo: with_sign(true, most),
+            hi: with_sign(true, least),
         })
     } else {
         Some(FlowPair {
-            lo: gain(least),
-            hi: gain(most),
+            lo: with_sign(false, least),
+            hi: with_sign(false, most),
         })
     }
-}
-
-fn gain(units: u128) -> i128
-    requires small { units < 2 ^ 126 }
-    ensures { result ≡ pos units }
-{
-    units as i128
-}
-
-fn loss(units: u128) -> i128
-    requires small { units < 2 ^ 126 }
-    ensures { result ≡ neg_ℤ (pos units) }
-{
-    -(units as i128)
 }

@@ -1,5 +1,5 @@
 // The two decimals between which a number is known.
-ghost use Rattle.std.specs.Prelude.{ℤ, ◌<◌, ◌^◌, unsigned_abs};
+ghost use Rattle.std.specs.Prelude.{ℤ, ◌≡◌, ◌≤◌, ◌^◌, pos, neg_ℤ, unsigned_abs};
 ghost use Rattle.decimal_input.specs.{IsDec, number, IsSignedFloor, IsSignedCeiling};
 ghost use Rattle.model_types.specs.{gap, IsThick};
 ghost use Rattle.conductance_bounds.specs.{IsBetween, IsSpan, AreThick};
@@ -30,8 +30,8 @@ pub fn thickness(top: Dec, bottom: Dec) -> Span
     ensures usable { AreThick result.lo result.hi }
     ensures encloses { IsBetween result.lo result.hi (gap (number top) (number bottom)) }
 {
-    let top = upper_edge(top);
-    let bottom = lower_edge(bottom);
+    let top = edges(top);
+    let bottom = edges(bottom);
     Span {
         lo: of_units_dn(top.lo.abs_diff(bottom.hi), PLACES),
         hi: of_units_up(top.hi.abs_diff(bottom.lo), PLACES),
@@ -45,34 +45,16 @@ struct Edge {
     hi: i128,
 }
 
-// The bounds of the upper elevation, whose floor is below 2 ^ 126 in magnitude; its ceiling is at most 2 ^ 126.
-fn upper_edge(top: Dec) -> Edge
-    requires number { IsDec top }
-    requires small { (z : ℤ) → IsSignedFloor z (number top) 18 → unsigned_abs z < 2 ^ 126 }
-    ensures floor { IsSignedFloor result.lo (number top) 18 }
-    ensures ceiling { IsSignedCeiling result.hi (number top) 18 }
+// Where one call finds a bound too large, it is the limit, since the other one is below it.
+fn edges(x: Dec) -> Edge
+    requires number { IsDec x }
+    requires low { (z : ℤ) → IsSignedFloor z (number x) 18 → 2 ^ 126 ≤ unsigned_abs z → z ≡ neg_ℤ (pos (2 ^ 126)) }
+    requires high { (z : ℤ) → IsSignedCeiling z (number x) 18 → 2 ^ 126 ≤ unsigned_abs z → z ≡ pos (2 ^ 126) }
+    ensures floor { IsSignedFloor result.lo (number x) 18 }
+    ensures ceiling { IsSignedCeiling result.hi (number x) 18 }
 {
-    match floor_at(top, PLACES as u32) {
-        Some(lo) => match ceil_at(top, PLACES as u32) {
-            Some(hi) => Edge { lo, hi },
-            None => Edge { lo, hi: LIMIT },
-        },
-        None => unreachable!(),
-    }
-}
-
-// The bounds of the lower elevation, whose ceiling is below 2 ^ 126 in magnitude; its floor is at least -2 ^ 126.
-fn lower_edge(bottom: Dec) -> Edge
-    requires number { IsDec bottom }
-    requires small { (z : ℤ) → IsSignedCeiling z (number bottom) 18 → unsigned_abs z < 2 ^ 126 }
-    ensures floor { IsSignedFloor result.lo (number bottom) 18 }
-    ensures ceiling { IsSignedCeiling result.hi (number bottom) 18 }
-{
-    match ceil_at(bottom, PLACES as u32) {
-        Some(hi) => match floor_at(bottom, PLACES as u32) {
-            Some(lo) => Edge { lo, hi },
-            None => Edge { lo: -LIMIT, hi },
-        },
-        None => unreachable!(),
+    Edge {
+        lo: floor_at(x, PLACES as u32).unwrap_or(-LIMIT),
+        hi: ceil_at(x, PLACES as u32).unwrap_or(LIMIT),
     }
 }

@@ -1,18 +1,24 @@
-use Rattle.conductance_bounds.proofs.Common.{◌≡◌, rules, arith, ◌-ℤ◌, unsigned_abs, IsSpan}
-use Rattle.conductance_bounds.proofs.ThickBounds.{thick_between, are_thick, edges_room, top_small, bottom_small}
+use Rattle.conductance_bounds.proofs.Common.{◌≡◌, rules, arith, ◌-ℤ◌, unsigned_abs, IsSpan, number}
+use Rattle.conductance_bounds.proofs.ThickBounds.{thick_between, are_thick, edges_room, top_small, bottom_small, upper_end, lower_end}
 use Rattle.conductance_bounds.proofs.span.thickness.Goals as goal
 
-pub upper_edge-top-requires-clause-small : goal.upper_edge-top-requires-clause-small
-upper_edge-top-requires-clause-small c = top_small c.args.top c.args.bottom c.requires.thick
+pub edges-top-requires-clause-low : goal.edges-top-requires-clause-low
+edges-top-requires-clause-low c = λ z h large. absurd (omega (arith, large, top_small c.args.top c.args.bottom c.requires.thick z h))
 
-pub lower_edge-bottom-requires-clause-small : goal.lower_edge-bottom-requires-clause-small
-lower_edge-bottom-requires-clause-small c = bottom_small c.args.top c.args.bottom c.requires.thick
+pub edges-top-requires-clause-high : goal.edges-top-requires-clause-high
+edges-top-requires-clause-high c = λ z h. let k = c.requires.thick in upper_end (number c.args.top) k.floor z k.is_floor h k.small.0
+
+pub edges-bottom-requires-clause-low : goal.edges-bottom-requires-clause-low
+edges-bottom-requires-clause-low c = λ z h. let k = c.requires.thick in lower_end (number c.args.bottom) z k.ceiling h k.is_ceiling k.small.1
+
+pub edges-bottom-requires-clause-high : goal.edges-bottom-requires-clause-high
+edges-bottom-requires-clause-high c = λ z h large. absurd (omega (arith, large, bottom_small c.args.top c.args.bottom c.requires.thick z h))
 
 pub returns-clause-usable : goal.returns-clause-usable
 returns-clause-usable c =
-    let top = edges_room c.args.top c.args.bottom c.upper_edge-top.result.lo c.upper_edge-top.result.hi c.lower_edge-bottom.result.lo c.lower_edge-bottom.result.hi c.requires.thick c.upper_edge-top.ensures.floor c.upper_edge-top.ensures.ceiling c.lower_edge-bottom.ensures.floor c.lower_edge-bottom.ensures.ceiling in
-    let low : c.abs_diff.result ≡ unsigned_abs (c.upper_edge-top.result.lo -ℤ c.lower_edge-bottom.result.hi) = search rules in
-    let high : c.abs_diff-2.result ≡ unsigned_abs (c.upper_edge-top.result.hi -ℤ c.lower_edge-bottom.result.lo) = search rules in
+    let top = edges_room c.args.top c.args.bottom c.edges-top.result.lo c.edges-top.result.hi c.edges-bottom.result.lo c.edges-bottom.result.hi c.requires.thick c.edges-top.ensures.floor c.edges-top.ensures.ceiling c.edges-bottom.ensures.floor c.edges-bottom.ensures.ceiling in
+    let low : c.abs_diff.result ≡ unsigned_abs (c.edges-top.result.lo -ℤ c.edges-bottom.result.hi) = search rules in
+    let high : c.abs_diff-2.result ≡ unsigned_abs (c.edges-top.result.hi -ℤ c.edges-bottom.result.lo) = search rules in
     are_thick (record { lo = c.of_units_dn.result; hi = c.of_units_up.result }) c.abs_diff.result c.abs_diff-2.result (omega (arith, low, high, top.order)) c.of_units_dn.ensures.nearest c.of_units_up.ensures.nearest
     (c.of_units_dn.ensures.size (omega (arith, low, top.some))) (c.of_units_up.ensures.size (omega (arith, low, high, top.some, top.order)))
 
