@@ -7,7 +7,7 @@ pub mod Parts
 pub mod Formulas
 pub use Rattle.conductance_bounds.specs.Branches.{area_formula, bed_of, column_exact, column_k, column_of, evap_exact, evap_formula, half_term, recharge_exact}
 pub use Rattle.conductance_bounds.specs.Branches.{recharge_formula, resistance_sum, row_exact, row_of, row_term, storage_exact, storage_formula, storage_of}
-pub use Rattle.conductance_bounds.specs.Branches.{storativity_exact, storativity_term, thickness_of, twice, vertical_exact, vertical_half_of, vertical_k}
+pub use Rattle.conductance_bounds.specs.Branches.{storativity_exact, storativity_term, thickness_of, vertical_exact, vertical_half_of, vertical_k}
 pub use Rattle.conductance_bounds.specs.Branches.{vertical_k_term, vertical_of, vertical_term}
 pub use Rattle.conductance_bounds.specs.Calls.{IsBed, IsColHalf, IsHalf, IsThickness, IsVertHalf, IsZero, LiesWithin}
 pub use Rattle.conductance_bounds.specs.Formulas.{AreSpanned, AreThick, EvapsEnclose, FacesEnclose, HeadsEnclose, IsSpan, RechargesEnclose, StoragesEnclose}

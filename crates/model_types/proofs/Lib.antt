@@ -6,7 +6,7 @@ pub mod Leads
 pub mod Numbering
 mod NeighbourFaces
 pub mod Growth
-mod GivenTables
+pub mod GivenTables
 mod StepLists
 pub mod NoStresses
 pub mod WideLimits

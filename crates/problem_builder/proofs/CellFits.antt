@@ -3,12 +3,12 @@ use Rattle.problem_builder.proofs.Common.{◌≡◌, ℕ, ◌*◌, ◌<◌, ◌�
 use Rattle.problem_builder.proofs.Common.{ap, ◌∙◌, pos, ◌==◌, list_any, le_of_mul-le-mul_right, Ratio, Encloses, den, Bound, Link, Fixed, Entries, no_bound}
 use Rattle.problem_builder.proofs.Common.{lower_at, upper_at, LinkFits, FixedFits, CellFits, IsHead, Face, FlowModel, TimeStep, cell_count, is_active}
 use Rattle.problem_builder.proofs.Common.{conductance, is_variable, is_constant, FixedSource, local_entries, variable_faces, fixed_sources, ToConstant}
-use Rattle.problem_builder.proofs.Common.{ToGeneral, FromStorage, IsModel, IsEntryValid, start_head, dec_at, In, All-In, IsFaceOf, passing_are, end_within}
-use Rattle.problem_builder.proofs.Common.{Term, IsCapped, face_term, Thicknesses, IsLink, IsFixed, IsCellOf, AreGridHeads, IsTimeOf, fault_of, HeadsEnclose}
-use Rattle.problem_builder.proofs.Common.{IsStartInRange, IsStart, AreStartHeads, HasConstantHead, AreConstantHeads, or_parts, cases_order, cases_Bool}
-use Rattle.problem_builder.proofs.Common.{ext_get_or, get_or_append_left, get_or_push, length_push, get_or_default, Filled, ints}
+use Rattle.problem_builder.proofs.Common.{ToGeneral, FromStorage, IsModel, IsEntryValid, dec_at, In, All-In, IsFaceOf, passing_are, end_within, Term, IsCapped}
+use Rattle.problem_builder.proofs.Common.{face_term, Thicknesses, IsLink, IsFixed, IsCellOf, AreGridHeads, IsTimeOf, fault_of, IsStart, AreStartHeads}
+use Rattle.problem_builder.proofs.Common.{HasConstantHead, AreConstantHeads, or_parts, cases_order, cases_Bool, ext_get_or, get_or_append_left, get_or_push}
+use Rattle.problem_builder.proofs.Common.{length_push, get_or_default, Filled, ints}
 use Rattle.problem_builder.proofs.Members.{variable_active, constant_active, fixed_source}
-use Rattle.problem_builder.proofs.CellEnclosed.{BoundsEnclose, head_encloses}
+use Rattle.problem_builder.proofs.CellEnclosed.{BoundsEnclose}
 use Rattle.problem_builder.proofs.FacePairs.{face_range, face_active}
 use Rattle.problem_builder.proofs.Fits.{cond_ordered, head_pair_range, rivers_fit, drains_fit, evaps_fit}
 use Rattle.problem_builder.proofs.Sound.{sound, none_passes, positive_unless_zero}
@@ -96,16 +96,6 @@ pub one_filled : {X : Type 0} (P : ℕ → X → Type 0) (d : X) (n : ℕ) (xs y
 one_filled P d n xs ys one h k = ext_get_or d xs ys (h.count ∙ sym k.count) (λ c lt. let r : c < n = omega (arith, lt, h.count) in one c (get_or xs c d) (get_or ys c d) r (h.each c r) (k.each c r))
 
 -- The bounds of STRT.
-module _ (m : FlowModel) (bounds : List Bound) (h : Filled (IsStartInRange m) no_bound (cell_count m.grid) bounds) where
-  pub starts_are : AreStartHeads m bounds
-  starts_are = record { count = h.count; each = (λ c lt. (h.each c lt).start) }
-
-  pub starts_range : AreGridHeads m bounds
-  starts_range = record { whole = h.count; range = (λ c d lt. subst (λ (b : Bound). IsHead b.low × IsHead b.high) (get_or_default bounds c no_bound d lt) (h.each c (omega (arith, lt, h.count))).range) }
-
-  pub starts_enclose : HeadsEnclose m bounds (start_head m)
-  starts_enclose c active = head_encloses (dec_at m.strt c) _ _ ((h.each c active.within).start.active active.active)
-
 one_start : (m : FlowModel) (c : ℕ) (a b : Bound) → IsStart m c a → IsStart m c b → a ≡ b
 one_start m c a b h k = elim (cases_Bool (is_active m c)) [
   | inl e ↦ (let (p, q) = one_head_pair (dec_at m.strt c) a.low a.high b.low b.high (h.active e) (k.active e) in λ t. record { low = p t; high = q t })
@@ -125,7 +115,10 @@ start_range m c b valid lt h = elim (cases_Bool (is_active m c)) [
 ]
 
 pub starts_fit : (m : FlowModel) (bounds : List Bound) → IsModel m → AreStartHeads m bounds → AreGridHeads m bounds
-starts_fit m bounds valid h = starts_range m bounds (record { count = h.count; each = (λ c lt. record { start = h.each c lt; range = start_range m c _ valid lt (h.each c lt) }) })
+starts_fit m bounds valid h = record {
+  whole = h.count;
+  range = (λ c d lt. let r : c < cell_count m.grid = omega (arith, lt, h.count) in subst (λ (b : Bound). IsHead b.low × IsHead b.high) (get_or_default bounds c no_bound d lt) (start_range m c _ valid r (h.each c r)));
+}
 
 -- A time has one list of constant heads.
 one_head : (m : FlowModel) (at : TimeStep) (c : ℕ) (a b : Bound) → HasConstantHead m at c a → HasConstantHead m at c b → a ≡ b

@@ -1,6 +1,7 @@
 -- Tables that are given as lists over all cells.
 use Rattle.problem_builder.proofs.Common.{◌≡◌, ℕ, ◌<◌, None, List, length, get_or, take, ap, ◌∙◌, arith, NoFlow, FlowModel, cell_count, kind_of, kinds}
-use Rattle.problem_builder.proofs.Common.{last_given, given_heads, Filled, IsKind, Kind}
+use Rattle.problem_builder.proofs.Common.{last_given, given_heads, given_in, Filled, IsKind, Kind, IsKept, IsKeptPair, AreStartHeads, Bound, no_bound, subst}
+use Rattle.problem_builder.proofs.Common.{Option, Given, IsNamed, table, table_at, length_is}
 use Rattle.std.proofs.lemmas.List.FromFn.{length-map-range_with_len, get_or-map-range_with_len}
 use Rattle.model_types.specs.declared.given_heads.GivenHeads.{GivenHeads}
 
@@ -15,3 +16,15 @@ kinds_filled m p xs e = record {
 pub last_at : (m : FlowModel) (g : GivenHeads) (c : ℕ) → g ≡ given_heads m g.period → c < cell_count m.grid → get_or g.last c None ≡ last_given (take g.period m.periods) c
 unfolding given_heads
 last_at m g c e lt = ap (λ (h : GivenHeads). get_or h.last c None) e ∙ get_or-map-range_with_len (last_given (take g.period m.periods)) 0 (cell_count m.grid) c c None lt (omega arith)
+
+-- what a list gives each cell
+pub named_filled : (n : ℕ) (list : List Given) (xs : List (Option Given)) → xs ≡ table n list → Filled (IsNamed list) None n xs
+named_filled n list xs e = record { count = length_is n list xs e; each = (λ c lt. ap (λ ys. get_or ys c None) e ∙ table_at n c list None lt) }
+
+-- the heads that cells keep before the first period are those of STRT
+pub kept_start : (m : FlowModel) (p : ℕ) (xs : List Bound) → p ≡ 0 → Filled (IsKept m p) no_bound (cell_count m.grid) xs → AreStartHeads m xs
+unfolding given_in
+kept_start m p xs e h = record {
+  count = h.count;
+  each = (λ c lt. let k = h.each c lt in record { active = (λ a. subst (λ (q : ℕ). IsKeptPair m c (last_given (take q m.periods) c) (get_or xs c no_bound).low (get_or xs c no_bound).high) e (k.active a)); no_flow = k.no_flow });
+}

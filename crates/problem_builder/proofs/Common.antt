@@ -6,8 +6,8 @@ pub use Rattle.std.proofs.Math.Nat.{le_of_mul-le-mul_right, mul-le-mul_right}
 pub use Rattle.std.proofs.lemmas.Bool.{and_parts, cases_Bool, cases_eq, cases_order, cond-true, eq-eqb, false≢true, leb-false, ne_eqb, or_parts}
 pub use Rattle.std.proofs.lemmas.Int.{by_lt_z, int_max_is, int_min_is, ints, to_z-of_z}
 pub use Rattle.std.proofs.lemmas.List.{append-nil, append_assoc, drop_at, ext_get_or, get_or-map, get_or-replicate, get_or-set_other, get_or-set_same}
-pub use Rattle.std.proofs.lemmas.List.{get_or_append_left, get_or_default, get_or_push, get_or_read, length-map, length-replicate, length-set, length_push}
-pub use Rattle.std.proofs.lemmas.List.{map-set, reverse-append, take_at, take_more}
+pub use Rattle.std.proofs.lemmas.List.{get_or_append_left, get_or_default, get_or_push, get_or_read, length-map, length-replicate, length_push, map-set}
+pub use Rattle.std.proofs.lemmas.List.{reverse-append, take_all, take_at, take_more}
 pub use Rattle.std.proofs.lemmas.List.Elements.{All-append, All-cons, All-drop, All-filter, All-nil, All-push, All-replicate, All-take, All-weaker}
 pub use Rattle.std.proofs.lemmas.List.Elements.{filter-append, filter_map-append}
 pub use Rattle.std.proofs.lemmas.Nat.{div-add-mod', div-mul-add, mod-mul-add, mod_below}
@@ -34,27 +34,27 @@ pub use Rattle.conductance_bounds.specs.declared.span.Span.{Span}
 pub use Rattle.decimal_input.proofs.FloorLaws.{cancel_right, floor_ceiling_enclose, mul_mono_right, one_ceiling, one_floor}
 pub use Rattle.decimal_input.proofs.Orders.{AtMost-trans, Same-sym, Same-trans}
 pub use Rattle.decimal_input.specs.{Encloses, EnclosesSigned, Fraction, IsCeiling, IsDec, IsFloor, IsSignedCeiling, IsSignedFloor, Passes, Ratio, negated}
-pub use Rattle.decimal_input.specs.{number, over, size, with_sign}
-unfoldable pub use Rattle.decimal_input.specs.{ratio, scaled}
+pub use Rattle.decimal_input.specs.{number, over, scaled, size, with_sign}
 pub use Rattle.decimal_input.specs.Fractions.{plus}
 pub use Rattle.decimal_input.specs.Ratios.{Same, den}
+unfoldable pub use Rattle.decimal_input.specs.Ratios.{times}
 pub use Rattle.decimal_input.specs.declared.dec.Dec.{Dec}
 pub use Rattle.flow_equations.proofs.Links.{are_linked, below_is, index_is}
+pub use Rattle.model_types.proofs.GivenTables.{length_is, names_within, table, table_at, table_none, table_step}
 pub use Rattle.model_types.proofs.Leads.{IsFaceOf, after_within, before_back, before_le, end_other, end_within, ends_ascend, face_back, faces_are, few_faces}
 pub use Rattle.model_types.proofs.Leads.{first_within, passing_are, passing_have, turned}
 pub use Rattle.model_types.proofs.Members.{All-In, Contains-In, In, In-All, In-get_or, Ordered, Ordered-at, filter_map-In, map-In}
 pub use Rattle.model_types.proofs.Ranks.{IsAt, at_rank, fails_next, is_at, passes_next, passing, range_more, rank, rank_apart, rank_below, rank_fails, rank_few}
 pub use Rattle.model_types.proofs.Ranks.{rank_passes}
-pub use Rattle.model_types.specs.{DrainSource, EvapSource, FixedSource, FlowSource, FromStorage, HasSize, IsBedValid, IsCellValid, IsEntryValid, IsEvapValid}
-pub use Rattle.model_types.specs.{IsGivenValid, IsGrid, IsHeadNumber, IsModel, IsNotNegative, IsPeriod, IsPositive, IsThick, Pumped, Received, RiverSource}
-pub use Rattle.model_types.specs.{ToConstant, ToGeneral, as_drain, as_general, as_river, as_well, bed_thickness, bottom_at, cell_count, cell_of, conductance}
-pub use Rattle.model_types.specs.{constant_faces, dec_at, delc_at, delr_at, drain_sources, entries, evap_at, evap_conductance, evap_source, evap_sources}
-pub use Rattle.model_types.specs.{extinction, face_after, faces, fixed_sources, flow_sources, has_after, has_bed, head_or_kept, hk_at, index_of, int_at}
-pub use Rattle.model_types.specs.{is_active, is_chosen, is_constant, is_highest, is_int, is_variable, kept_head, kind_of, last_given, layer_of, layer_size}
-pub use Rattle.model_types.specs.{local_entries, lowest, no_number, no_period, number_one, period_at, place_in_layer, recharge_at, recharge_flow, river_sources}
-pub use Rattle.model_types.specs.{span, start_head, steps_of, storage, storage_at, stride, thickness, through, top_at, variable_below, variable_cells}
-pub use Rattle.model_types.specs.{variable_faces, vkcb_at}
-unfoldable pub use Rattle.model_types.specs.{constant_head, entries_of, given_heads, given_in, kinds, times}
+pub use Rattle.model_types.specs.{DrainSource, EvapSource, FixedSource, FlowSource, FromStorage, HasSize, IsBedValid, IsEntryValid, IsEvapValid, IsGivenValid}
+pub use Rattle.model_types.specs.{IsHeadNumber, IsModel, IsNotNegative, IsPeriod, IsPositive, IsThick, Pumped, Received, RiverSource, ToConstant, ToGeneral}
+pub use Rattle.model_types.specs.{as_drain, as_general, as_river, as_well, bed_thickness, bottom_at, cell_count, cell_of, conductance, constant_faces, dec_at}
+pub use Rattle.model_types.specs.{delc_at, delr_at, drain_sources, entries, evap_at, evap_conductance, evap_source, evap_sources, extinction, face_after, faces}
+pub use Rattle.model_types.specs.{fixed_sources, flow_sources, has_after, has_bed, head_or_kept, hk_at, index_of, int_at, is_active, is_chosen, is_constant}
+pub use Rattle.model_types.specs.{is_highest, is_int, is_variable, kept_head, kind_of, last_given, layer_of, layer_size, local_entries, lowest, no_period}
+pub use Rattle.model_types.specs.{number_one, period_at, place_in_layer, recharge_at, recharge_flow, river_sources, span, start_head, steps_of, storage}
+pub use Rattle.model_types.specs.{storage_at, stride, thickness, through, top_at, variable_below, variable_cells, variable_faces, vkcb_at}
+unfoldable pub use Rattle.model_types.specs.{constant_head, entries_of, given_heads, given_in, kinds}
 pub use Rattle.model_types.specs.declared.entry.Entry.{Entry}
 pub use Rattle.model_types.specs.declared.entry.Entry.TheVariants.{General, Well}
 pub use Rattle.model_types.specs.declared.entry.Given.{Given}
@@ -71,12 +71,11 @@ pub use Rattle.number_limits.proofs.Canonical.{dec_at_is}
 pub use Rattle.problem_builder.specs.{AreAppended, AreCells, AreConstantHeads, AreEvenFactors, AreEvenStorages, AreFactorsOf, AreGridHeads, AreInputs}
 pub use Rattle.problem_builder.specs.{AreLocalBounds, ArePeriodTables, AreStartHeads, AreTables, AreThicknesses, BothOrNone, Filled, HasConductance}
 pub use Rattle.problem_builder.specs.{HasConstantHead, HasEvenSteps, HasEvenStorage, HasNoProblem, HasOldHeads, HasPair, HasStorage, HeadsEnclose, Inputs}
-pub use Rattle.problem_builder.specs.{IsActive, IsBedBelow, IsBedOf, IsBuildable, IsCellFault, IsCellOf, IsCond, IsConstant, IsCovered, IsDepth, IsDrain}
-pub use Rattle.problem_builder.specs.{IsEntryIn, IsEvap, IsEvaporated, IsFirstFault, IsFixed, IsFlow, IsGeneralSource, IsGivenOrKept, IsHeadPair, IsIndex}
-pub use Rattle.problem_builder.specs.{IsKept, IsKeptPair, IsKind, IsLink, IsNoBed, IsProblemOf, IsReceived, IsRechargePair, IsRecharged, IsRefused, IsRiver}
-pub use Rattle.problem_builder.specs.{IsStart, IsStartInRange, IsStorage, IsThickness, IsTimeOf, IsVariableCell, IsWellPair, IsWellSource, Thicknesses}
-pub use Rattle.problem_builder.specs.{example_bound, example_grid, example_heads, example_model, example_period, example_time, has_small_branch, kept_bounds}
-pub use Rattle.problem_builder.specs.{layer_half, local_in, no_bounds, no_pair, no_span, pair_at, pair_in, span_in, thousandths, whole, widths_of}
+pub use Rattle.problem_builder.specs.{IsActive, IsBedBelow, IsBedOf, IsCellFault, IsCellOf, IsCond, IsConstant, IsDepth, IsDrain, IsEntryIn, IsEvap}
+pub use Rattle.problem_builder.specs.{IsEvaporated, IsFirstFault, IsFixed, IsFlow, IsGeneralSource, IsGivenOrKept, IsHeadPair, IsIndex, IsKept, IsKeptPair}
+pub use Rattle.problem_builder.specs.{IsKind, IsLink, IsNoBed, IsProblemOf, IsReceived, IsRechargePair, IsRecharged, IsRefused, IsRiver, IsStart, IsStorage}
+pub use Rattle.problem_builder.specs.{IsThickness, IsTimeOf, IsVariableCell, IsWellPair, IsWellSource, ModelsAreBuildable, Thicknesses, has_small_branch}
+pub use Rattle.problem_builder.specs.{item_in, kept_bounds, layer_half, local_in, no_bounds, no_pair, no_span, pair_at, pair_in, span_in, widest, widths_of}
 unfoldable pub use Rattle.problem_builder.specs.{IsConstantPair, fault_of}
 pub use Rattle.problem_builder.specs.LocalBounds.{LocalBounds}
 pub use Rattle.problem_builder.specs.Tables.{IsNamed}

@@ -4,6 +4,7 @@ use Rattle.problem_builder.proofs.Common.{FlowModel, cell_count, stride, span, h
 use Rattle.problem_builder.proofs.Common.{All-In, IsFaceOf, faces_are, first_within, end_within, after_within, before_le, before_back, div-add-mod'}
 use Rattle.problem_builder.proofs.Common.{IsVariableCell, HasPair, Inputs, AreInputs, IsBedOf, IsNoBed, HasConductance, no_pair, span_in, pair_at, AreTables}
 use Rattle.problem_builder.proofs.Common.{AreThicknesses, IsThickness, IsBedBelow, no_span, widths_of, Axis, Row, Column, Vertical, Span, Pair, IsSpan, Filled}
+use Rattle.problem_builder.proofs.Common.{get_or, length, subst}
 use Rattle.problem_builder.proofs.Members.{variable_active}
 use Rattle.problem_builder.specs.declared.tables.Tables.{Tables}
 
@@ -59,3 +60,7 @@ faces_paired i c are v = All-In (HasPair i) (faces i.model.grid c) each
           end_within i.model.grid c f are.size v.within lead,
           (λ b. let (x, y) = face_active i.model c f lead (variable_active i.model i.at.period c v.variable) b in face_in i.model i.tables.digits i.tables are.tables f.axis f.first (first_within i.model.grid c f v.within lead) (first_after i.model.grid c f are.size lead) x y),
         )
+
+-- of the same faces under another name
+pub face_paired : (i : Inputs) (c : ℕ) (xs : List (Option Face)) (k : ℕ) (d : Option Face) → AreInputs i → IsVariableCell i c → xs ≡ faces i.model.grid c → k < length xs → HasPair i (get_or xs k d)
+face_paired i c xs k d are v e lt = subst (All (HasPair i)) (sym e) (faces_paired i c are v) k d lt

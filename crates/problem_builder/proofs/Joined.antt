@@ -3,7 +3,7 @@ use Rattle.problem_builder.proofs.Common.{◌≡◌, ℕ, Option, List, [], ◌�
 use Rattle.problem_builder.proofs.Common.{get_or, take, refl, option_to_list, AllZip, filter_map, cons_option, Dec, Bound, Flow, Fixed, Face, FlowModel}
 use Rattle.problem_builder.proofs.Common.{TimeStep, FixedSource, FlowSource, ToConstant, ToGeneral, FromStorage, Pumped, Received, through, Thicknesses}
 use Rattle.problem_builder.proofs.Common.{IsConstant, IsFixed, IsFlow, IsReceived, IsGeneralSource, IsWellSource, BothOrNone, take_more, filter_map-append}
-use Rattle.problem_builder.proofs.Common.{cond-true}
+use Rattle.problem_builder.proofs.Common.{cond-true, take_all, ◌≤◌}
 
 -- Loops that push what there is.
 as_list : {Y : Type 0} (o : Option Y) → cons_option o [] ≡ option_to_list o
@@ -38,6 +38,10 @@ zip_push R h xs x front new o e both so_far =
 pub zip_next : {X Y Z : Type 0} (R : Y → Z → Type 0) (h : X → Option Z) (xs : List X) (i : ℕ) (d : X) (front new : List Y) (o : Option Y) → i < length xs →
     new ≡ front ++ option_to_list o → BothOrNone R o (h (get_or xs i d)) → AllZip R front (filter_map h (take i xs)) → AllZip R new (filter_map h (take (i + 1) xs))
 zip_next R h xs i d front new o lt e both so_far = rw (take_more xs i d lt) (zip_push R h (take i xs) (get_or xs i d) front new o e both so_far)
+
+-- and its end, where the list has another name
+pub zip_all : {X Y Z : Type 0} (R : Y → Z → Type 0) (h : X → Option Z) (xs ys : List X) (i : ℕ) (all : List Y) → length xs ≤ i → xs ≡ ys → AllZip R all (filter_map h (take i xs)) → AllZip R all (filter_map h ys)
+zip_all R h xs ys i all le e so_far = subst (λ zs. AllZip R all (filter_map h zs)) (take_all i xs le ∙ e) so_far
 
 -- what is made of a face that passes a test
 pub both_through : {X : Type 0} (R : X → Face → Type 0) (test : ℕ → Bool) (o : Option Face) (f : Face) (x : X) → o ≡ Some f → test f.end ≡ true → R x f → BothOrNone R (Some x) (through test o)

@@ -18,7 +18,6 @@ pub mod CellEnclosed
 pub mod TimesOf
 pub mod GivenRange
 pub mod BoundsOf
-pub mod NamedHeads
 pub mod Indexing
 pub mod CellTables
 pub mod Covered
@@ -29,4 +28,3 @@ pub mod PeriodMade
 pub mod StorageParts
 pub mod EvenSteps
 pub mod KindsOf
-pub mod ExampleMet

@@ -4,8 +4,8 @@ use Rattle.problem_builder.proofs.Common.{pos, neg_ℤ, ◌-ℤ◌, min, int_min
 use Rattle.problem_builder.proofs.Common.{den, over, Same, Fraction, IsFloor, IsCeiling, Passes, IsSignedFloor, IsSignedCeiling, one_floor, one_ceiling}
 use Rattle.problem_builder.proofs.Common.{Same-trans, Same-sym, Period, Span, Term, Side, other, IsRounded, IsBound, Number, Within, Sum, Product, Quotient}
 use Rattle.problem_builder.proofs.Common.{Lower, Upper, IsSpan, IsPair, IsPast, IsCapped, low_end, high_end, part_term, IsPart, IsGivenPair, blend, IsHeadPair}
-use Rattle.problem_builder.proofs.Common.{IsCappedFlow, Sd}
-use Rattle.decimal_input.specs.Ratios.{times, plus}
+use Rattle.problem_builder.proofs.Common.{IsCappedFlow, Sd, times}
+use Rattle.decimal_input.specs.Ratios.{plus}
 use Rattle.std.proofs.Common.{unsigned_abs}
 use Rattle.scaled_decimal.specs.{IsSd, value, IsDown, IsUp}
 use Rattle.scaled_decimal.proofs.Monotone.{one_decimal}

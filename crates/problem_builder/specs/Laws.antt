@@ -1,14 +1,14 @@
 -- Problems and refusals are unique, and problems meet their conditions: for valid models and their times.
-use Rattle.std.specs.Prelude.{◌≡◌, ℕ, ◌<◌, true, ℤ, List, Contains}
+use Rattle.std.specs.Prelude.{◌≡◌, ℕ, ◌<◌, true, ℤ, pos, neg_ℤ, List, Contains, replicate}
 use Rattle.decimal_input.specs.{EnclosesSigned}
 use Rattle.step_problem.specs.declared.heads.Bound.{Bound}
 use Rattle.step_problem.specs.declared.place.NoBound.{NoBound}
 use Rattle.step_problem.specs.Entries.{Entries}
-use Rattle.step_problem.specs.{IsProblem, IsHead}
+use Rattle.step_problem.specs.{IsProblem, IsHead, head_limit}
 use Rattle.model_types.specs.declared.model.FlowModel.{FlowModel}
 use Rattle.model_types.specs.declared.time_steps.TimeStep.{TimeStep}
-use Rattle.model_types.specs.{cell_count, constant_head, is_constant, times, IsModel}
-use Rattle.problem_builder.specs.GridHeads.{IsConstantPair, AreConstantHeads, AreGridHeads, AreStartHeads}
+use Rattle.model_types.specs.{cell_count, constant_head, is_constant, start_head, times, IsModel}
+use Rattle.problem_builder.specs.GridHeads.{IsConstantPair, AreConstantHeads, AreGridHeads, AreStartHeads, HeadsEnclose}
 use Rattle.problem_builder.specs.Problems.{IsProblemOf, HasNoProblem}
 
 -- a model, a time and the heads before it have at most one problem
@@ -65,3 +65,15 @@ ConstantPairEncloses =
 -- the bounds of STRT are heads of all cells, in range
 abbrev pub StartHeadsFit : Type 0
 StartHeadsFit = (m : FlowModel) (bounds : List Bound) → IsModel m → AreStartHeads m bounds → AreGridHeads m bounds
+
+-- the premises of the builder's calls can be met: by each valid model, its first step, the widest bounds of heads, and STRT as the heads that they enclose
+abbrev pub widest : Bound
+widest = record { low = neg_ℤ (pos head_limit); high = pos head_limit }
+
+pub record IsBuildable (m : FlowModel) : Type 0 where
+  pub time : Contains (times m) (record { period = 1; step = 1 })
+  pub old : AreGridHeads m (replicate (cell_count m.grid) widest)
+  pub heads : HeadsEnclose m (replicate (cell_count m.grid) widest) (start_head m)
+
+abbrev pub ModelsAreBuildable : Type 0
+ModelsAreBuildable = (m : FlowModel) → IsModel m → IsBuildable m

@@ -16,11 +16,11 @@ use Rattle.problem_builder.specs.declared.fault.BuildFault.{BuildFault}
 use Rattle.problem_builder.specs.declared.fault.BuildFault.TheVariants.{NoBound as Refused, Memory}
 use Rattle.problem_builder.specs.Widths.{Thicknesses, AreThicknesses}
 use Rattle.problem_builder.specs.Cells.{IsCellOf}
-use Rattle.problem_builder.specs.GridHeads.{HeadsEnclose, IsActive, IsNamed, HasOldHeads, IsStart}
+use Rattle.problem_builder.specs.GridHeads.{HeadsEnclose, IsActive, IsNamed, HasOldHeads}
 use Rattle.step_problem.specs.declared.entry.FixedKind.{FixedKind}
 use Rattle.step_problem.specs.declared.entry.FixedKind.TheVariants.{Constant, General, Storage}
 use Rattle.step_problem.specs.declared.refusal.StepRefusal.TheVariants.{ConductanceTooSmall, ConductanceTooLarge, FlowTooLarge}
-use Rattle.step_problem.specs.{number_of, conductance_of, flow_of, IsHead}
+use Rattle.step_problem.specs.{number_of, conductance_of, flow_of}
 use Rattle.model_types.specs.declared.face.Face.{Face}
 use Rattle.conductance_bounds.specs.{IsCapped, face_term}
 use Rattle.problem_builder.specs.Tables.{Inputs, widths_of, pair_at}
@@ -122,8 +122,3 @@ pub record IsLeastFault (i : Inputs) (fault : NoBound) : Type 0 where
 abbrev pub IsFirstFault : Inputs → BuildFault → Type 0
 IsFirstFault i Memory = Unit {0}
 IsFirstFault i (Refused fault) = IsLeastFault i fault
-
--- a bound of STRT, in range
-pub record IsStartInRange (m : FlowModel) (c : ℕ) (b : Bound) : Type 0 where
-  pub start : IsStart m c b
-  pub range : IsHead b.low × IsHead b.high

@@ -1,5 +1,5 @@
 -- The contents of the builder's tables.
-use Rattle.std.specs.Prelude.{◌≡◌, ℕ, ◌≤◌, pos, List, length, slice_index_or, Option, Some, None, ◌-◌, Bool, true, not, take}
+use Rattle.std.specs.Prelude.{◌≡◌, ℕ, ◌≤◌, pos, List, length, slice_index_or, Option, Some, None, ◌-◌, true, false, take}
 use Rattle.step_problem.specs.declared.heads.Bound.{Bound}
 use Rattle.step_problem.specs.{no_bound}
 use Rattle.scaled_decimal.specs.declared.decimal.Sd.{Sd}
@@ -8,8 +8,7 @@ use Rattle.model_types.specs.declared.face.Axis.TheVariants.{Row, Column, Vertic
 use Rattle.model_types.specs.declared.given_heads.Kind.TheVariants.{NoFlow}
 use Rattle.model_types.specs.declared.model.FlowModel.{FlowModel}
 use Rattle.model_types.specs.declared.time_steps.TimeStep.{TimeStep}
-use Rattle.model_types.specs.{cell_count, HasSize, period_at, local_entries, IsModel, kind_of, index_of, given_in, last_given, is_active, is_highest}
-use Rattle.model_types.specs.{recharge_at, evap_at}
+use Rattle.model_types.specs.{cell_count, HasSize, period_at, local_entries, IsModel, kind_of, index_of, given_in, last_given, is_active, recharge_at, evap_at}
 use Rattle.conductance_bounds.specs.declared.span.Span.{Span}
 use Rattle.conductance_bounds.specs.declared.pair.Pair.{Pair}
 use Rattle.problem_builder.specs.declared.tables.Tables.{Tables}
@@ -34,13 +33,10 @@ IsIndex m p c i = i ≡ index_of m p c
 abbrev pub IsNamed : List Given → ℕ → Option Given → Type 0
 IsNamed list c x = x ≡ given_in list c
 
--- the head that a constant-head cell keeps after p periods
-abbrev pub IsKept : FlowModel → ℕ → ℕ → Bound → Type 0
-IsKept m p c b = is_active m c ≡ true → IsKeptPair m c (last_given (take p m.periods) c) b.low b.high
-
--- whether a cell above is active
-abbrev pub IsCovered : FlowModel → ℕ → Bool → Type 0
-IsCovered m c b = b ≡ not (is_highest m c)
+-- the head that a constant-head cell keeps after p periods, zeros where there is no flow
+pub record IsKept (m : FlowModel) (p c : ℕ) (b : Bound) : Type 0 where
+  pub active : is_active m c ≡ true → IsKeptPair m c (last_given (take p m.periods) c) b.low b.high
+  pub no_flow : is_active m c ≡ false → b ≡ no_bound
 
 -- the recharge that a cell receives
 abbrev pub IsRecharged : FlowModel → ℕ → ℕ → ℕ → Option FlowPair → Type 0

@@ -1,6 +1,6 @@
 // The branches of a cell to its neighbours.
-ghost use Rattle.std.specs.Prelude.{◌≡◌, ◌<◌, All, IfOk, ◌++◌};
-ghost use Rattle.std.specs.List.{AllZip, filter_map};
+ghost use Rattle.std.specs.Prelude.{◌≡◌, ◌<◌, IfOk, ◌++◌};
+ghost use Rattle.std.specs.List.{AllZip};
 ghost use Rattle.model_types.specs.{cell_count, through, is_variable, is_constant, variable_faces, constant_faces};
 ghost use Rattle.problem_builder.specs.{IsLink, IsConstant, IsVariableCell, HasPair, AreInputs, pair_at, widths_of, BothOrNone};
 ghost use Rattle.std.specs.Option.{option_to_list};
@@ -45,25 +45,6 @@ fn link_through(input: &StepInput, face: Option<Face>) -> Option<Link>
     }
 }
 
-fn links_through(
-    alloc: Global,
-    input: &StepInput,
-    faces: &[Option<Face>],
-) -> Result<Vec<Link>, AllocError>
-    requires input { AreInputs input.now }
-    requires faces { All (HasPair input.now) faces.now }
-    ensures { IfOk result (λ v. AllZip
-        (IsLink input.now.model (widths_of input.now.tables) input.now.tables.digits input.now.at) v.items
-        (filter_map (through (is_variable input.now.model input.now.at.period)) faces.now)) }
-{
-    let count = faces.iter().filter(|face| face.is_some()).count();
-    let mut links = Vec::with_capacity(alloc, count)?;
-    for face in faces {
-        push_some(&mut links, link_through(input, *face))?;
-    }
-    Ok(links)
-}
-
 /// The branches to variable neighbours.
 pub fn links(alloc: Global, input: &StepInput, cell: u32) -> Result<Vec<Link>, AllocError>
     requires input { AreInputs input.now }
@@ -73,7 +54,12 @@ pub fn links(alloc: Global, input: &StepInput, cell: u32) -> Result<Vec<Link>, A
         (variable_faces input.now.model input.now.at.period cell)) }
 {
     let faces = input.model.grid.faces(cell);
-    links_through(alloc, input, &faces)
+    let count = faces.iter().filter(|face| face.is_some()).count();
+    let mut links = Vec::with_capacity(alloc, count)?;
+    for face in &faces {
+        push_some(&mut links, link_through(input, *face))?;
+    }
+    Ok(links)
 }
 
 // The branch through a face whose other end has a constant head.
@@ -93,24 +79,6 @@ fn constant_through(input: &StepInput, face: Option<Face>) -> Option<Fixed>
     }
 }
 
-fn constants_through(
-    alloc: Global,
-    input: &StepInput,
-    faces: &[Option<Face>],
-) -> Result<Vec<Fixed>, AllocError>
-    requires input { AreInputs input.now }
-    requires faces { All (HasPair input.now) faces.now }
-    ensures { IfOk result (λ v. AllZip
-        (IsConstant input.now.model (widths_of input.now.tables) input.now.tables.digits input.now.at) v.items
-        (filter_map (through (is_constant input.now.model input.now.at.period)) faces.now)) }
-{
-    let mut fixed = Vec::new(alloc);
-    for face in faces {
-        push_some(&mut fixed, constant_through(input, *face))?;
-    }
-    Ok(fixed)
-}
-
 /// The branches to neighbours with constant heads.
 pub fn constants(alloc: Global, input: &StepInput, cell: u32) -> Result<Vec<Fixed>, AllocError>
     requires input { AreInputs input.now }
@@ -120,7 +88,11 @@ pub fn constants(alloc: Global, input: &StepInput, cell: u32) -> Result<Vec<Fixe
         (constant_faces input.now.model input.now.at.period cell)) }
 {
     let faces = input.model.grid.faces(cell);
-    constants_through(alloc, input, &faces)
+    let mut fixed = Vec::new(alloc);
+    for face in &faces {
+        push_some(&mut fixed, constant_through(input, *face))?;
+    }
+    Ok(fixed)
 }
 
 // Entries from their bounds.

@@ -34,7 +34,7 @@ fn received_flow(input: &StepInput, cell: u32) -> Option<Flow>
     requires cell { IsVariableCell input.now cell }
     ensures { BothOrNone (IsReceived input.now.model input.now.tables.digits cell) result (recharge_at input.now.model input.now.at.period cell) }
 {
-    match input.recharge(cell) {
+    match input.period.recharge.at(cell) {
         Some(pair) => Some(constant_flow(FlowKind::Recharge, pair)),
         None => None,
     }
@@ -62,7 +62,7 @@ fn evaps(alloc: Global, input: &StepInput, cell: u32) -> Result<Vec<Evap>, Alloc
     ensures { IfOk result (λ v. AllZip (IsEvap input.now.model input.now.tables.digits cell) v.items (evap_sources input.now.model input.now.at.period cell)) }
 {
     let mut evaps = Vec::new(alloc);
-    push_some(&mut evaps, input.evap(cell))?;
+    push_some(&mut evaps, input.period.evaps.at(cell))?;
     Ok(evaps)
 }
 

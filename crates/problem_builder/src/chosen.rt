@@ -1,48 +1,35 @@
 // The cells that receive recharge, and those that evaporate.
-ghost use Rattle.std.specs.Prelude.{◌≡◌, ◌+◌, ◌<◌, ◌==◌, ◌&&◌, ◌||◌, false, IfOk};
+ghost use Rattle.std.specs.Prelude.{◌≡◌, ◌+◌, ◌<◌, ◌==◌, ◌&&◌, ◌||◌};
 ghost use Rattle.model_types.specs.{cell_count, layer_of, place_in_layer, HasSize, int_at, is_active, is_int, is_highest, is_chosen};
-ghost use Rattle.problem_builder.specs.{Filled, IsCovered};
 
 use model_types::FlowModel;
 use model_types::layers::int_at;
-use std::alloc::{AllocError, Global};
 
-// Whether a cell above this one in its column of layers is active; `before` has the answers for the cells before.
-fn is_covered(model: &FlowModel, before: &[bool], cell: u32) -> bool
-    requires size { HasSize model.now.grid }
-    requires cell { cell < cell_count model.now.grid }
-    requires before { Filled (IsCovered model.now) false cell before.now }
-    ensures { IsCovered model.now cell result }
-{
-    let layer = model.grid.layer_size();
-    if cell < layer {
-        return false;
-    }
-    let above = cell - layer;
-    before[above as usize] || model.is_active(above)
-}
-
-/// For each cell whether a cell above it in its column of layers is active.
-pub fn cover_flags(alloc: Global, model: &FlowModel) -> Result<Vec<bool>, AllocError>
+// Whether no cell above this one in its column of layers is active.
+fn is_highest(model: &FlowModel, cell: u32) -> bool
     requires { HasSize model.now.grid }
-    ensures { IfOk result (λ v. Filled (IsCovered model.now) false (cell_count model.now.grid) v.items) }
-{
-    let mut covered = Vec::new(alloc);
-    let count = model.grid.cell_count();
-    for cell in 0..count {
-        let above = is_covered(model, covered.as_slice(), cell);
-        covered.push(above)?;
-    }
-    Ok(covered)
-}
-
-/// Whether no cell above this one is active, by `covered`, the list for all cells.
-pub fn is_uncovered(model: &FlowModel, covered: &[bool], cell: u32) -> bool
-    requires covered { Filled (IsCovered model.now) false (cell_count model.now.grid) covered.now }
-    requires cell { cell < cell_count model.now.grid }
     ensures { result ≡ is_highest model.now cell }
 {
-    !covered[cell as usize]
+    let layer = model.grid.layer_size();
+    let mut above = cell;
+    while above >= layer {
+        above -= layer;
+        if model.is_active(above) {
+            return false;
+        }
+    }
+    true
+}
+
+// Whether the cell is active and the highest active one. Each active cell looks up to the next one alone.
+fn is_upmost(model: &FlowModel, cell: u32) -> bool
+    requires { HasSize model.now.grid }
+    ensures { result ≡ (is_active model.now cell && is_highest model.now cell) }
+{
+    if !model.is_active(cell) {
+        return false;
+    }
+    is_highest(model, cell)
 }
 
 fn is_int(z: i64, k: u32) -> bool
@@ -70,10 +57,11 @@ fn is_named(model: &FlowModel, option: i64, layers: &[i64], cell: u32) -> bool
 }
 
 // Option 3: the cell is the highest active one.
-fn is_top(model: &FlowModel, option: i64, highest: bool, cell: u32) -> bool
-    ensures { result ≡ (is_int option 3 && is_active model.now cell && highest) }
+fn is_top(model: &FlowModel, option: i64, cell: u32) -> bool
+    requires size { HasSize model.now.grid }
+    ensures { result ≡ (is_int option 3 && is_active model.now cell && is_highest model.now cell) }
 {
-    is_int(option, 3) && model.is_active(cell) && highest
+    is_int(option, 3) && is_upmost(model, cell)
 }
 
 fn any(first: bool, second: bool, third: bool) -> bool
@@ -83,14 +71,13 @@ fn any(first: bool, second: bool, third: bool) -> bool
 }
 
 /// Whether an option chooses a cell in its column of layers.
-pub fn is_chosen(model: &FlowModel, option: i64, layers: &[i64], highest: bool, cell: u32) -> bool
+pub fn is_chosen(model: &FlowModel, option: i64, layers: &[i64], cell: u32) -> bool
     requires size { HasSize model.now.grid }
     requires cell { cell < cell_count model.now.grid }
-    requires highest { highest ≡ is_highest model.now cell }
     ensures { result ≡ is_chosen model.now option layers.now cell }
 {
     let first = is_in_first(model, option, cell);
     let second = is_named(model, option, layers, cell);
-    let third = is_top(model, option, highest, cell);
+    let third = is_top(model, option, cell);
     any(first, second, third)
 }

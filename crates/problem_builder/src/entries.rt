@@ -35,20 +35,6 @@ impl<'a> Model for CellEntries<'a> {
     } };
 }
 
-impl<'a> CellEntries<'a> {
-    /// No entries.
-    pub fn none() -> CellEntries<'a>
-        ensures { result ≡ no_bounds }
-    {
-        CellEntries {
-            wells: &[],
-            rivers: &[],
-            drains: &[],
-            generals: &[],
-        }
-    }
-}
-
 /// The lists of the bounds of a cell's entries.
 #[derive(Drop)]
 pub struct LocalEntries {
@@ -81,18 +67,6 @@ impl LocalEntries {
             rivers: Vec::new(alloc),
             drains: Vec::new(alloc),
             generals: Vec::new(alloc),
-        }
-    }
-
-    /// The bounds as slices.
-    pub fn slices(&self) -> CellEntries<'_>
-        ensures { result ≡ self.now }
-    {
-        CellEntries {
-            wells: self.wells.as_slice(),
-            rivers: self.rivers.as_slice(),
-            drains: self.drains.as_slice(),
-            generals: self.generals.as_slice(),
         }
     }
 

@@ -11,15 +11,6 @@ use model_types::{FlowModel, Kind, TimeStep};
 use std::alloc::{AllocError, Global};
 use step_problem::Bound;
 
-// The part of the period that has passed at a time.
-fn part_passed(model: &FlowModel, at: TimeStep) -> Part
-    requires model { IsModel model.now }
-    requires time { IsTimeOf model.now at }
-    ensures { IsPartOf model.now at result }
-{
-    time_part(stress_period(model, at.period), at.step)
-}
-
 // The bounds of the head of a constant-head cell, where `part` of the period has passed.
 fn head_at(model: &FlowModel, period: &PeriodTables, at: TimeStep, part: Part, cell: u32) -> Bound
     requires model { IsModel model.now }
@@ -31,7 +22,7 @@ fn head_at(model: &FlowModel, period: &PeriodTables, at: TimeStep, part: Part, c
     ensures { IsConstantPair model.now at cell result.low result.high }
 {
     let _model = model;
-    match period.given_at(cell) {
+    match period.given.at(cell) {
         Some(x) => bound_of(given_head(x.shead, x.ehead, part)),
         None => period.kept_at(cell),
     }
@@ -65,7 +56,7 @@ pub fn constant_heads(
     requires period { (s : ℕ) × ArePeriodTables model.now s at.period period.now }
     ensures { IfOk result (λ v. AreConstantHeads model.now at v.items) }
 {
-    let part = part_passed(model, at);
+    let part = time_part(stress_period(model, at.period), at.step);
     let mut bounds = Vec::new(alloc);
     let count = model.grid.cell_count();
     for cell in 0..count {

@@ -2,9 +2,8 @@
 ghost use Rattle.std.specs.Prelude.{◌≡◌, ◌<◌, IfOk, ◌+◌, ◌≤◌, length, slice_index_or};
 ghost use Rattle.model_types.specs.declared.given_heads.Kind.TheVariants.{NoFlow};
 ghost use Rattle.model_types.specs.{cell_count, HasSize, is_variable, given_heads, IsModel};
-ghost use Rattle.problem_builder.specs.{Filled, IsIndex, AreTables, ArePeriodTables, AreEvenStorages, bound_in, item_in, span_in};
+ghost use Rattle.problem_builder.specs.{Filled, IsIndex, AreTables, ArePeriodTables, AreEvenStorages, bound_in, span_in};
 
-use crate::chosen::cover_flags;
 use crate::evaporation::evaps;
 use crate::given::{kept_heads, last_entries};
 use crate::local::Local;
@@ -90,9 +89,8 @@ impl PeriodTables {
         let storage = even_storages(alloc, model, tables, kinds.as_slice(), number)?;
         let index = indices(alloc, model, &next)?;
         let kept = kept_heads(alloc, model, given)?;
-        let covered = cover_flags(alloc, model)?;
-        let recharge = recharges(alloc, model, covered.as_slice(), number, s)?;
-        let evaps = evaps(alloc, model, covered.as_slice(), number, s)?;
+        let recharge = recharges(alloc, model, number, s)?;
+        let evaps = evaps(alloc, model, number, s)?;
         let period = stress_period(model, number);
         let count = model.grid.cell_count();
         let given = last_entries(alloc, period.stresses.given.as_slice(), count)?;
@@ -145,14 +143,6 @@ impl PeriodTables {
         ensures { result ≡ slice_index_or self.now.index cell 0 }
     {
         self.index.as_slice()[cell as usize]
-    }
-
-    /// The entry of the period's CHD list that names a cell.
-    pub fn given_at(&self, cell: u32) -> Option<Given>
-        requires { cell < length self.now.given }
-        ensures { result ≡ item_in self.now.given cell }
-    {
-        self.given.at(cell)
     }
 
     /// The head that a constant-head cell keeps.

@@ -2,16 +2,15 @@
 ghost use Rattle.std.specs.Prelude.{◌≡◌, ◌<◌};
 ghost use Rattle.model_types.specs.{cell_count, kind_of, is_variable, is_constant, index_of, period_at};
 ghost use Rattle.problem_builder.specs.LocalBounds.{local_in};
-ghost use Rattle.problem_builder.specs.Tables.{AreInputs, bound_in, item_in};
+ghost use Rattle.problem_builder.specs.Tables.{AreInputs, bound_in};
 
 use crate::entries::CellEntries;
 use crate::index::PeriodTables;
 use crate::step::StepTables;
 use crate::tables::Tables;
-use conductance_bounds::FlowPair;
 use model_types::{FlowModel, Kind, TimeStep};
 use std::marker::Model;
-use step_problem::{Bound, Evap};
+use step_problem::Bound;
 
 /// A model, the tables of its run, of a period and of a step, the step's time, and the heads before it.
 #[derive(Drop)]
@@ -64,24 +63,6 @@ impl<'a> StepInput<'a> {
         ensures { result ≡ bound_in self.now.old cell }
     {
         self.old[cell as usize]
-    }
-
-    /// The bounds of the recharge that a cell receives.
-    pub fn recharge(&self, cell: u32) -> Option<FlowPair>
-        requires input { AreInputs self.now }
-        requires cell { cell < cell_count self.now.model.grid }
-        ensures { result ≡ item_in self.now.period.recharge cell }
-    {
-        self.period.recharge.at(cell)
-    }
-
-    /// A cell's evapotranspiration.
-    pub fn evap(&self, cell: u32) -> Option<Evap>
-        requires input { AreInputs self.now }
-        requires cell { cell < cell_count self.now.model.grid }
-        ensures { result ≡ item_in self.now.period.evaps cell }
-    {
-        self.period.evaps.at(cell)
     }
 
     /// The bounds of a cell's entries of WEL, RIV, DRN and GHB.

@@ -1,6 +1,6 @@
 // Problems and refusals are unique, and problems meet their conditions. Each law is the contract of an empty function.
 ghost use Rattle.problem_builder.specs.{ProblemIsOne, ProblemExcludesRefusal, RefusalIsOne, ProblemFits, ConstantHeadsAreOne, StartHeadsAreOne, StartHeadsFit};
-ghost use Rattle.problem_builder.specs.{ConstantPairIsOne, ConstantPairFits, ConstantPairEncloses, ExampleIsBuildable};
+ghost use Rattle.problem_builder.specs.{ConstantPairIsOne, ConstantPairFits, ConstantPairEncloses, ModelsAreBuildable};
 
 /// A model, a time and the heads before it have at most one problem, or one first refusal.
 pub fn one_problem_or_refusal()
@@ -33,7 +33,7 @@ pub fn start_heads_fit()
     ensures { StartHeadsFit }
 {}
 
-/// The premises of the builder's calls can be met: a model of two cells meets them.
-pub fn buildable_example()
-    ensures { ExampleIsBuildable }
+/// The premises of the builder's calls can be met: each valid model meets them.
+pub fn models_are_buildable()
+    ensures { ModelsAreBuildable }
 {}

@@ -131,8 +131,18 @@ impl Local {
         ensures { result ≡ local_in self.now cell }
     {
         match &self.cells[cell as usize] {
-            Some(entries) => entries.slices(),
-            None => CellEntries::none(),
+            Some(entries) => CellEntries {
+                wells: entries.wells.as_slice(),
+                rivers: entries.rivers.as_slice(),
+                drains: entries.drains.as_slice(),
+                generals: entries.generals.as_slice(),
+            },
+            None => CellEntries {
+                wells: &[],
+                rivers: &[],
+                drains: &[],
+                generals: &[],
+            },
         }
     }
 }

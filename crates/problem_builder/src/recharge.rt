@@ -1,10 +1,10 @@
 // Recharge, by cell.
-ghost use Rattle.std.specs.Prelude.{◌≡◌, ◌<◌, ◌≤◌, false, IfOk, IfSome, None, length};
+ghost use Rattle.std.specs.Prelude.{◌≡◌, ◌<◌, ◌≤◌, IfOk, IfSome, None, length};
 ghost use Rattle.decimal_input.specs.{IsDec};
-ghost use Rattle.model_types.specs.{cell_count, is_highest, recharge_at, IsModel};
-ghost use Rattle.problem_builder.specs.{Filled, IsCovered, IsRecharged, IsRechargePair};
+ghost use Rattle.model_types.specs.{cell_count, recharge_at, IsModel};
+ghost use Rattle.problem_builder.specs.{Filled, IsRecharged, IsRechargePair};
 
-use crate::chosen::{is_chosen, is_uncovered};
+use crate::chosen::is_chosen;
 use crate::periods::stress_period;
 use crate::start::capped_flow;
 use conductance_bounds::{FlowPair, recharge_flow};
@@ -24,65 +24,52 @@ fn recharge_pair(model: &FlowModel, rate: Dec, cell: u32, s: u32) -> FlowPair
 }
 
 // The rate of recharge that a cell receives in the period of this number.
-fn rate_of(model: &FlowModel, number: u32, highest: bool, cell: u32) -> Option<Dec>
+fn rate_of(model: &FlowModel, number: u32, cell: u32) -> Option<Dec>
     requires model { IsModel model.now }
     requires number { (1 ≤ number) × (number ≤ length model.now.periods) }
     requires cell { cell < cell_count model.now.grid }
-    requires highest { highest ≡ is_highest model.now cell }
     ensures is { result ≡ recharge_at model.now number cell }
     ensures decimal { IfSome result IsDec }
 {
     let period = stress_period(model, number);
-    if is_chosen(
-        model,
-        model.nrchop,
-        period.stresses.irch.as_slice(),
-        highest,
-        cell,
-    ) {
-        Some(dec_at(
-            period.stresses.recharge.as_slice(),
-            cell % model.grid.layer_size(),
-        ))
+    let layers = period.stresses.irch.as_slice();
+    if is_chosen(model, model.nrchop, layers, cell) {
+        let place = cell % model.grid.layer_size();
+        Some(dec_at(period.stresses.recharge.as_slice(), place))
     } else {
         None
     }
 }
 
-fn recharge_of(model: &FlowModel, number: u32, highest: bool, cell: u32, s: u32) -> Option<FlowPair>
+fn recharge_of(model: &FlowModel, number: u32, cell: u32, s: u32) -> Option<FlowPair>
     requires model { IsModel model.now }
     requires number { (1 ≤ number) × (number ≤ length model.now.periods) }
     requires cell { cell < cell_count model.now.grid }
-    requires highest { highest ≡ is_highest model.now cell }
     requires digits { s ≤ 18 }
     ensures { IsRecharged model.now s number cell result }
 {
-    match rate_of(model, number, highest, cell) {
+    match rate_of(model, number, cell) {
         Some(rate) => Some(recharge_pair(model, rate, cell, s)),
         None => None,
     }
 }
 
-/// For each cell the recharge that it receives in the period of this number; `covered` says whether a cell above is
-/// active.
+/// For each cell the recharge that it receives in the period of this number.
 pub fn recharges(
     alloc: Global,
     model: &FlowModel,
-    covered: &[bool],
     number: u32,
     s: u32,
 ) -> Result<Optional<FlowPair>, AllocError>
     requires model { IsModel model.now }
     requires number { (1 ≤ number) × (number ≤ length model.now.periods) }
-    requires covered { Filled (IsCovered model.now) false (cell_count model.now.grid) covered.now }
     requires digits { s ≤ 18 }
     ensures { IfOk result (Filled (IsRecharged model.now s number) None (cell_count model.now.grid)) }
 {
     let mut pairs = Optional::none(alloc, 0);
     let count = model.grid.cell_count();
     for cell in 0..count {
-        let highest = is_uncovered(model, covered, cell);
-        pairs.push(recharge_of(model, number, highest, cell, s))?;
+        pairs.push(recharge_of(model, number, cell, s))?;
     }
     Ok(pairs)
 }

@@ -1,31 +1,18 @@
 // The heads before the first time step.
-ghost use Rattle.std.specs.Prelude.{◌<◌, IfOk, ◌≡◌, ℕ, ◌≤◌, Bool};
-ghost use Rattle.model_types.specs.{cell_count, start_head, IsModel, IsNotNegative, IsHeadNumber};
-ghost use Rattle.problem_builder.specs.{AreGridHeads, HeadsEnclose, AreStartHeads, IsStartInRange, IsDepth, IsCond, IsWellPair, IsHeadPair};
+ghost use Rattle.std.specs.Prelude.{IfOk, ◌≡◌, ℕ, ◌≤◌, Bool};
+ghost use Rattle.model_types.specs.{start_head, IsModel, IsNotNegative, IsHeadNumber};
+ghost use Rattle.problem_builder.specs.{AreGridHeads, HeadsEnclose, AreStartHeads, IsDepth, IsCond, IsWellPair, IsHeadPair};
 ghost use Rattle.decimal_input.specs.{IsDec};
 ghost use Rattle.conductance_bounds.specs.{IsWholePair, IsCapped, IsFlowPair, IsCappedFlow, Term};
-ghost use Rattle.step_problem.specs.{IsHead};
 
+use crate::given::kept_heads;
 use conductance_bounds::{
     FlowPair, HeadPair, Pair, head_bounds, number_flow, number_pair, whole_bounds,
 };
 use decimal_input::dec::Dec;
-use model_types::FlowModel;
-use model_types::layers::dec_at;
+use model_types::{FlowModel, GivenHeads};
 use std::alloc::{AllocError, Global};
 use step_problem::Bound;
-
-fn start_at(model: &FlowModel, cell: u32) -> Bound
-    requires model { IsModel model.now }
-    requires cell { cell < cell_count model.now.grid }
-    ensures { IsStartInRange model.now cell result }
-{
-    if model.is_active(cell) {
-        head_pair(dec_at(model.strt.as_slice(), cell))
-    } else {
-        NO_BOUND
-    }
-}
 
 /// The bounds of STRT of all cells, by cell number, in units of 10^-9: floor and ceiling, or zeros in a cell without
 /// flow.
@@ -35,11 +22,8 @@ pub fn start_heads(alloc: Global, model: &FlowModel) -> Result<Vec<Bound>, Alloc
     ensures heads { IfOk result (λ v. AreGridHeads model.now v.items) }
     ensures encloses { IfOk result (λ v. HeadsEnclose model.now v.items (start_head model.now)) }
 {
-    let mut bounds = Vec::new(alloc);
-    let count = model.grid.cell_count();
-    for cell in 0..count {
-        bounds.push(start_at(model, cell))?;
-    }
+    let given = GivenHeads::new(alloc, model);
+    let bounds = kept_heads(alloc, model, &given)?;
     Ok(bounds)
 }
 
@@ -94,8 +78,7 @@ pub fn well_pair(q: Dec, s: u32) -> FlowPair
 /// The bounds of a head of the input.
 pub fn head_pair(head: Dec) -> Bound
     requires head { IsHeadNumber head }
-    ensures is { IsHeadPair head result.low result.high }
-    ensures range { IsHead result.low × IsHead result.high }
+    ensures { IsHeadPair head result.low result.high }
 {
     bound_of(head_bounds(head))
 }

@@ -83,15 +83,9 @@ pub fn storage_at(
     let thickness = thickness_in(model, span_at(tables.thick.as_slice(), cell));
     let delr = model.delr_at(cell);
     let delc = model.delc_at(cell);
-    capped_pair(storage_branch(
-        ss,
-        thickness,
-        delr,
-        delc,
-        factors,
-        period.perlen,
-        tables.digits,
-    ))
+    let s = tables.digits;
+    let perlen = period.perlen;
+    capped_pair(storage_branch(ss, thickness, delr, delc, factors, perlen, s))
 }
 
 // The bounds of a cell's storage in every step, if it is a variable cell.

@@ -31,23 +31,11 @@ impl Tables {
     {
         let thick = thicknesses(alloc, model)?;
         let bed = beds(alloc, model)?;
-        let row = pairs(alloc, model, thick.as_slice(), bed.as_slice(), Axis::Row, s)?;
-        let column = pairs(
-            alloc,
-            model,
-            thick.as_slice(),
-            bed.as_slice(),
-            Axis::Column,
-            s,
-        )?;
-        let vertical = pairs(
-            alloc,
-            model,
-            thick.as_slice(),
-            bed.as_slice(),
-            Axis::Vertical,
-            s,
-        )?;
+        let spans = thick.as_slice();
+        let below = bed.as_slice();
+        let row = pairs(alloc, model, spans, below, Axis::Row, s)?;
+        let column = pairs(alloc, model, spans, below, Axis::Column, s)?;
+        let vertical = pairs(alloc, model, spans, below, Axis::Vertical, s)?;
         Ok(Tables {
             digits: s,
             thick: Listed::new(thick),

@@ -1,6 +1,21 @@
-use Rattle.problem_builder.proofs.Common.{ap, sym, subst, All, ◌∙◌, faces, HasPair, Inputs}
-use Rattle.problem_builder.proofs.FacePairs.{faces_paired}
+use Rattle.problem_builder.proofs.Common.{ap, ◌∙◌, arith, faces, is_constant, IsConstant, through, widths_of, Inputs, ◌≡◌, length}
+use Rattle.problem_builder.proofs.FacePairs.{face_paired}
+use Rattle.problem_builder.proofs.Joined.{zip_next, zip_all}
 use Rattle.problem_builder.proofs.branches.constants.Goals as goal
 
-pub constants_through-requires-clause-faces : goal.constants_through-requires-clause-faces
-constants_through-requires-clause-faces c = subst (All (HasPair c.args.input.now)) (sym (c.faces-faces.ensures.faces ∙ ap (λ (z : Inputs). faces z.model.grid c.args.cell) c.input.view_is)) (faces_paired c.args.input.now c.args.cell c.requires.input c.requires.cell)
+pub constant_through-requires-clause-face : goal.constant_through-requires-clause-face
+constant_through-requires-clause-face c =
+    let len : length c.faces-faces.result ≡ 6 = ap length c.faces-faces.ensures.faces in
+    face_paired c.args.input.now c.args.cell _ c.loop-face.face-index _ c.requires.input c.requires.cell (c.faces-faces.ensures.faces ∙ ap (λ (z : Inputs). faces z.model.grid c.args.cell) c.input.view_is) (omega (arith, len, c.loop-face-test.true))
+
+pub loop-face-preserved : goal.loop-face-preserved
+loop-face-preserved c =
+    let i = c.args.input.now in
+    let len : length c.faces-faces.result ≡ 6 = ap length c.faces-faces.ensures.faces in
+    zip_next (IsConstant i.model (widths_of i.tables) i.tables.digits i.at) (through (is_constant i.model i.at.period)) c.faces-faces.result c.loop-face.face-index _ _ _ c.constant_through.result (omega (arith, len, c.loop-face-test.true)) c.in_ok-push_some.ensures c.constant_through.ensures c.loop-face.invariant
+
+pub returns : goal.returns
+returns c =
+    let i = c.args.input.now in
+    let len : length c.faces-faces.result ≡ 6 = ap length c.faces-faces.ensures.faces in
+    zip_all (IsConstant i.model (widths_of i.tables) i.tables.digits i.at) (through (is_constant i.model i.at.period)) c.faces-faces.result _ c.loop-face.face-index _ (omega (arith, len, c.loop-face-test.false)) (c.faces-faces.ensures.faces ∙ ap (λ (z : Inputs). faces z.model.grid c.args.cell) c.input.view_is) c.loop-face.invariant

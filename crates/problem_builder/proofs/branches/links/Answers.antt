@@ -1,6 +1,21 @@
-use Rattle.problem_builder.proofs.Common.{ap, sym, subst, All, ◌∙◌, faces, HasPair, Inputs}
-use Rattle.problem_builder.proofs.FacePairs.{faces_paired}
+use Rattle.problem_builder.proofs.Common.{ap, ◌∙◌, arith, faces, is_variable, IsLink, through, widths_of, Inputs, ◌≡◌, length}
+use Rattle.problem_builder.proofs.FacePairs.{face_paired}
+use Rattle.problem_builder.proofs.Joined.{zip_next, zip_all}
 use Rattle.problem_builder.proofs.branches.links.Goals as goal
 
-pub links_through-requires-clause-faces : goal.links_through-requires-clause-faces
-links_through-requires-clause-faces c = subst (All (HasPair c.args.input.now)) (sym (c.faces-faces.ensures.faces ∙ ap (λ (z : Inputs). faces z.model.grid c.args.cell) c.input.view_is)) (faces_paired c.args.input.now c.args.cell c.requires.input c.requires.cell)
+pub link_through-requires-clause-face : goal.link_through-requires-clause-face
+link_through-requires-clause-face c =
+    let len : length c.faces-faces.result ≡ 6 = ap length c.faces-faces.ensures.faces in
+    face_paired c.args.input.now c.args.cell _ c.loop-face.face-index _ c.requires.input c.requires.cell (c.faces-faces.ensures.faces ∙ ap (λ (z : Inputs). faces z.model.grid c.args.cell) c.input.view_is) (omega (arith, len, c.loop-face-test.true))
+
+pub loop-face-preserved : goal.loop-face-preserved
+loop-face-preserved c =
+    let i = c.args.input.now in
+    let len : length c.faces-faces.result ≡ 6 = ap length c.faces-faces.ensures.faces in
+    zip_next (IsLink i.model (widths_of i.tables) i.tables.digits i.at) (through (is_variable i.model i.at.period)) c.faces-faces.result c.loop-face.face-index _ _ _ c.link_through.result (omega (arith, len, c.loop-face-test.true)) c.in_ok-push_some.ensures c.link_through.ensures c.loop-face.invariant
+
+pub returns : goal.returns
+returns c =
+    let i = c.args.input.now in
+    let len : length c.faces-faces.result ≡ 6 = ap length c.faces-faces.ensures.faces in
+    zip_all (IsLink i.model (widths_of i.tables) i.tables.digits i.at) (through (is_variable i.model i.at.period)) c.faces-faces.result _ c.loop-face.face-index _ (omega (arith, len, c.loop-face-test.false)) (c.faces-faces.ensures.faces ∙ ap (λ (z : Inputs). faces z.model.grid c.args.cell) c.input.view_is) c.loop-face.invariant

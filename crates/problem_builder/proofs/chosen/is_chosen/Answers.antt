@@ -10,5 +10,4 @@ returns c =
     let named = simp to_z-of_z at c.is_named-second.ensures in
     let top = simp to_z-of_z at c.is_top-third.ensures in
     let second = named ∙ ap (λ k. is_int c.args.option 2 && is_int (int_at c.args.layers.now (place_in_layer m.grid c.args.cell)) k) (let e : layer_of m.grid c.args.cell + 1 ≡ suc (layer_of m.grid c.args.cell) = omega arith in e) in
-    let third = top ∙ ap (λ b. is_int c.args.option 3 && is_active m c.args.cell && b) c.requires.highest in
-    c.any.ensures ∙ (λ t. first t || second t || third t)
+    c.any.ensures ∙ (λ t. first t || second t || top t)

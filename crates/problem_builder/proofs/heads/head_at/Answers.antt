@@ -32,4 +32,4 @@ returns-in-None c =
     let are = c.requires.period.1 in
     let e = sym (are.given.each c.args.cell c.requires.cell) ∙ sym c.in-None.ensures in
     subst (λ (o : Option Given). IsGivenOrKept m c.args.at c.args.cell o c.kept_at.result.low c.kept_at.result.high) (sym e)
-    (subst (λ (b : Bound). IsKeptPair m c.args.cell (last_given (take (c.args.at.period - 1) m.periods) c.args.cell) b.low b.high) (sym c.kept_at.ensures) (are.kept.each c.args.cell c.requires.cell (constant_active m c.args.at.period c.args.cell c.requires.constant)))
+    (subst (λ (b : Bound). IsKeptPair m c.args.cell (last_given (take (c.args.at.period - 1) m.periods) c.args.cell) b.low b.high) (sym c.kept_at.ensures) ((are.kept.each c.args.cell c.requires.cell).active (constant_active m c.args.at.period c.args.cell c.requires.constant)))

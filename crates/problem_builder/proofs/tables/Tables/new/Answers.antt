@@ -14,7 +14,7 @@ returns c =
       thick = thick;
       bed = bed;
       thicknesses = thicknesses_of m (record { digits = s; thick = c.new.result; bed = c.new-2.result; row = c.new-3.result; column = c.new-4.result; vertical = c.new-5.result }) thick bed;
-      row = renamed_pairs m s Row _ _ _ _ _ _ (c.as_slice.ensures.value ∙ sym c.new.ensures) (c.as_slice-2.ensures.value ∙ sym c.new-2.ensures) c.new-3.ensures c.in_ok-row.ensures;
-      column = renamed_pairs m s Column _ _ _ _ _ _ (c.as_slice-3.ensures.value ∙ sym c.new.ensures) (c.as_slice-4.ensures.value ∙ sym c.new-2.ensures) c.new-4.ensures c.in_ok-column.ensures;
-      vertical = renamed_pairs m s Vertical _ _ _ _ _ _ (c.as_slice-5.ensures.value ∙ sym c.new.ensures) (c.as_slice-6.ensures.value ∙ sym c.new-2.ensures) c.new-5.ensures c.in_ok-vertical.ensures;
+      row = renamed_pairs m s Row _ _ _ _ _ _ (c.as_slice-spans.ensures.value ∙ sym c.new.ensures) (c.as_slice-below.ensures.value ∙ sym c.new-2.ensures) c.new-3.ensures c.in_ok-row.ensures;
+      column = renamed_pairs m s Column _ _ _ _ _ _ (c.as_slice-spans.ensures.value ∙ sym c.new.ensures) (c.as_slice-below.ensures.value ∙ sym c.new-2.ensures) c.new-4.ensures c.in_ok-column.ensures;
+      vertical = renamed_pairs m s Vertical _ _ _ _ _ _ (c.as_slice-spans.ensures.value ∙ sym c.new.ensures) (c.as_slice-below.ensures.value ∙ sym c.new-2.ensures) c.new-5.ensures c.in_ok-vertical.ensures;
     }
