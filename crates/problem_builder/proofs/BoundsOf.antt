@@ -1,10 +1,10 @@
 -- The bounds of a valid model's numbers enclose them.
 use Rattle.problem_builder.proofs.Common.{◌≡◌, ℕ, suc, ◌+◌, ◌*◌, ◌-◌, ◌<◌, ◌^◌, inl, inr, true, false, Option, Some, None, take, arith, refl, ap, subst, All, ℤ}
 use Rattle.problem_builder.proofs.Common.{pos, neg_ℤ, ◌+ℤ◌, ◌-ℤ◌, ◌*ℤ◌, zero, Bool, cond, List, [], ◌∷◌, sym, option_to_list, ints, Dec, number, negated}
-use Rattle.problem_builder.proofs.Common.{Encloses, EnclosesSigned, plus, Evap, magnitude, IsHead, EvapEncloses, Given, Axis, FlowModel, TimeStep, cell_count}
-use Rattle.problem_builder.proofs.Common.{stride, kept_head, head_or_kept, constant_head, dec_at, is_active, conductance, period_at, storage, is_variable}
+use Rattle.problem_builder.proofs.Common.{EnclosesSigned, plus, Evap, magnitude, IsHead, EvapEncloses, Given, FlowModel, TimeStep, cell_count}
+use Rattle.problem_builder.proofs.Common.{kept_head, head_or_kept, constant_head, dec_at, is_active, conductance, period_at}
 use Rattle.problem_builder.proofs.Common.{is_constant, given_in, last_given, EvapSource, evap_at, recharge_flow, evap_conductance, extinction, IsModel}
-use Rattle.problem_builder.proofs.Common.{IsEvapValid, IsHeadNumber, IsPeriod, IsGivenValid, Term, IsPair, IsCapped, face_term, storage_term, evap_term}
+use Rattle.problem_builder.proofs.Common.{IsEvapValid, IsHeadNumber, IsPeriod, IsGivenValid, Term, IsPair, IsCapped, evap_term}
 use Rattle.problem_builder.proofs.Common.{faces_enclose, below_gap, above_gap, Thicknesses, AreThicknesses, IsKeptPair, IsGivenOrKept, IsConstantPair}
 use Rattle.problem_builder.proofs.Common.{IsRechargePair, IsEvap, IsTimeOf, reverse, ◌==◌, IfSome, find, flat_map, reverse-append, All-nil, All-append}
 use Rattle.problem_builder.proofs.Common.{none-some, Period, In, In-All}
@@ -103,16 +103,6 @@ module _ (m : FlowModel) (at : TimeStep) (valid : IsModel m) (time : IsTimeOf m 
   head_range c lo hi lt k h = either_range (given_in (period_at m at.period).stresses.given c) c lo hi refl lt (constant_active m at.period c k) h
 
 module _ (m : FlowModel) (w : Thicknesses) (s : ℕ) (at : TimeStep) (valid : IsModel m) (r : AreThicknesses m w) (time : IsTimeOf m at) where
-  faces : (axis : Axis) (a lo hi : ℕ) → a + stride m.grid axis < cell_count m.grid → is_active m a ≡ true → is_active m (a + stride m.grid axis) ≡ true →
-      IsCapped (face_term m w.thick w.bed axis a) s lo hi → hi < 2 ^ 60 → Encloses lo hi s (conductance m axis a)
-  faces axis a lo hi lt x y k small = faces_enclose m w.thick w.bed valid r axis a s lo hi lt x y (real_pair _ s lo hi k small)
-
-  storages : (c lo hi : ℕ) → c < cell_count m.grid → is_variable m at.period c ≡ true → (period_at m at.period).steady ≡ false →
-      IsCapped (storage_term m w.thick (period_at m at.period) at.step c) s lo hi → hi < 2 ^ 60 → Encloses lo hi s (storage m (period_at m at.period) at.step c)
-  storages c lo hi lt v steady k small =
-      let a = variable_active m at.period c v in
-      storages_enclose m w.thick valid (period_at m at.period) at.step c s lo hi time.valid.times steady lt a (r.cells c lt a) (real_pair _ s lo hi k small)
-
   recharges : (c : ℕ) (rate : Dec) (lo hi : ℤ) → IsRechargePair m s c rate lo hi → magnitude lo hi < 2 ^ 109 → EnclosesSigned lo hi (s + 9) (recharge_flow m c rate)
   recharges c rate lo hi (inl k) small = recharges_enclose m rate c (s + 9) lo hi k.0
   recharges c rate lo hi (inr k) small = absurd (past_magnitude lo hi k.lower small)
@@ -135,8 +125,8 @@ module _ (m : FlowModel) (w : Thicknesses) (s : ℕ) (at : TimeStep) (valid : Is
 
   pub bounds_enclose : BoundsEnclose m w s at
   bounds_enclose = record {
-    faces = faces;
-    storages = storages;
+    faces = (λ axis a lo hi lt x y k small. faces_enclose m w.thick w.bed valid r axis a s lo hi lt x y (real_pair _ s lo hi k small));
+    storages = (λ c lo hi lt v steady k small. let a = variable_active m at.period c v in storages_enclose m w.thick valid (period_at m at.period) at.step c s lo hi time.valid.times steady lt a (r.cells c lt a) (real_pair _ s lo hi k small));
     heads = heads m at valid time;
     head_range = head_range m at valid time;
     recharges = (λ c rate lo hi lt e k small. recharges c rate lo hi k small);

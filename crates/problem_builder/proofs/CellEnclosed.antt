@@ -55,42 +55,15 @@ module _ (m : FlowModel) (w : Thicknesses) (s : ℕ) (at : TimeStep) (old : List
   face_encloses : (f : Face) (lo hi : ℕ) → IsFaceOf m.grid c f → is_active m f.end ≡ true → IsCapped (face_term m w.thick w.bed f.axis f.first) s lo hi → hi < 2 ^ 60 → Encloses lo hi s (conductance m f.axis f.first)
   face_encloses f lo hi g b k small = let (x, y) = face_active m c f g here b in near.faces f.axis f.first lo hi (face_range m.grid c f size' lt g) x y k small
 
-  link_small : (x : Link) → In e.links x → x.hi < 2 ^ 60
-  link_small x i = omega (arith, sum_part (λ (y : Link). y.hi) e.links x i, sound.conductances)
-
   fixed_small : (x : Fixed) → In e.fixed x → x.hi < 2 ^ 60
   fixed_small x i = omega (arith, sum_part (λ (y : Fixed). y.hi) e.fixed x i, sound.conductances)
-
-  river_small : (x : River) → In e.rivers x → x.hi < 2 ^ 60
-  river_small x i = omega (arith, sum_part (λ (y : River). y.hi) e.rivers x i, sound.conductances)
-
-  drain_small : (x : Drain) → In e.drains x → x.hi < 2 ^ 60
-  drain_small x i = omega (arith, sum_part (λ (y : Drain). y.hi) e.drains x i, sound.conductances)
-
-  evap_small : (x : Evap) → In e.evaps x → x.hi < 2 ^ 60
-  evap_small x i = omega (arith, sum_part (λ (y : Evap). y.hi) e.evaps x i, sound.conductances)
 
   flow_small : (x : Flow) → In e.flows x → magnitude x.lo x.hi < 2 ^ 109
   flow_small x i = omega (arith, sum_part (λ (y : Flow). magnitude y.lo y.hi) e.flows x i, sound.flows)
 
-  rivers : AllZip (RiverEncloses s) e.rivers (map exact_river (river_sources m at.period c))
-  rivers = zip_map (IsRiver s) (RiverEncloses s) exact_river e.rivers (river_sources m at.period c)
-      (λ x y i j r. record { conductance = cond_encloses s y.cond x.lo x.hi r.cond (river_small x i); stage = head_encloses y.stage x.stage_lo x.stage_hi r.stage; bottom = head_encloses y.bottom x.bottom_lo x.bottom_hi r.bottom }) is.rivers
-
-  drains : AllZip (DrainEncloses s) e.drains (map exact_drain (drain_sources m at.period c))
-  drains = zip_map (IsDrain s) (DrainEncloses s) exact_drain e.drains (drain_sources m at.period c)
-      (λ x y i j r. record { conductance = cond_encloses s y.cond x.lo x.hi r.cond (drain_small x i); elevation = head_encloses y.elevation x.elev_lo x.elev_hi r.elevation }) is.drains
-
-  evaps : AllZip (EvapEncloses s) e.evaps (map (exact_evap m at.period at.step before c) (evap_sources m at.period c))
-  evaps = zip_map (IsEvap m s c) (EvapEncloses s) (exact_evap m at.period at.step before c) e.evaps (evap_sources m at.period c)
-      (λ x y i j r. near.evaps c y x lt v (In-option (evap_at m at.period c) y j) r (evap_small x i)) is.evaps
-
   one_flow : (x : Flow) (y : FlowSource) → In e.flows x → In (flow_sources m at.period c) y → IsFlow m s c x y → FlowEncloses s x (exact_flow m at.period at.step before c y)
   one_flow x (Pumped q) i j k = record { kind = k.kind; flow = well_encloses s q x.lo x.hi k.flow (flow_small x i) }
   one_flow x (Received rate) i j k = record { kind = k.kind; flow = near.recharges c rate x.lo x.hi lt (flow_source m at.period c (Received rate) j) k.flow (flow_small x i) }
-
-  flows : AllZip (FlowEncloses s) e.flows (map (exact_flow m at.period at.step before c) (flow_sources m at.period c))
-  flows = zip_map (IsFlow m s c) (FlowEncloses s) (exact_flow m at.period at.step before c) e.flows (flow_sources m at.period c) one_flow is.flows
 
   one_fixed : (x : Fixed) (y : FixedSource) → In e.fixed x → In (fixed_sources m at.period c) y → IsFixed m w s at old c x y → FixedEncloses s x (exact_fixed m at.period at.step before c y)
   one_fixed x (ToConstant f) i j k =
@@ -112,16 +85,21 @@ module _ (m : FlowModel) (w : Thicknesses) (s : ℕ) (at : TimeStep) (old : List
         head = subst Q (sym k.high) (subst P (sym k.low) (olds c (record { within = lt; active = here })));
       }
 
-  fixed : AllZip (FixedEncloses s) e.fixed (map (exact_fixed m at.period at.step before c) (fixed_sources m at.period c))
-  fixed = zip_map (IsFixed m w s at old c) (FixedEncloses s) (exact_fixed m at.period at.step before c) e.fixed (fixed_sources m at.period c) one_fixed is.fixed
-
-  links : AllZip (LinkEncloses s) e.links (map (exact_link m at.period at.step before) (variable_faces m at.period c))
-  links = zip_map (IsLink m w s at) (LinkEncloses s) (exact_link m at.period at.step before) e.links (variable_faces m at.period c)
-      (λ x f i j k. let (g, b) = passing_are m.grid (is_variable m at.period) c f j in
-      record { cell = k.cell; conductance = face_encloses f x.lo x.hi g (variable_active m at.period f.end b) k.conductance (link_small x i) }) is.links
-
   pub cell_encloses : CellEncloses s e (exact_cell m at.period at.step before c)
-  cell_encloses = record { id = is.id; flows = flows; links = links; fixed = fixed; rivers = rivers; drains = drains; evaps = evaps }
+  cell_encloses = record {
+    id = is.id;
+    flows = zip_map (IsFlow m s c) (FlowEncloses s) (exact_flow m at.period at.step before c) e.flows (flow_sources m at.period c) one_flow is.flows;
+    links = zip_map (IsLink m w s at) (LinkEncloses s) (exact_link m at.period at.step before) e.links (variable_faces m at.period c)
+        (λ x f i j k. let (g, b) = passing_are m.grid (is_variable m at.period) c f j in
+        record { cell = k.cell; conductance = face_encloses f x.lo x.hi g (variable_active m at.period f.end b) k.conductance (omega (arith, sum_part (λ (y : Link). y.hi) e.links x i, sound.conductances)) }) is.links;
+    fixed = zip_map (IsFixed m w s at old c) (FixedEncloses s) (exact_fixed m at.period at.step before c) e.fixed (fixed_sources m at.period c) one_fixed is.fixed;
+    rivers = zip_map (IsRiver s) (RiverEncloses s) exact_river e.rivers (river_sources m at.period c)
+        (λ x y i j r. record { conductance = cond_encloses s y.cond x.lo x.hi r.cond (omega (arith, sum_part (λ (y : River). y.hi) e.rivers x i, sound.conductances)); stage = head_encloses y.stage x.stage_lo x.stage_hi r.stage; bottom = head_encloses y.bottom x.bottom_lo x.bottom_hi r.bottom }) is.rivers;
+    drains = zip_map (IsDrain s) (DrainEncloses s) exact_drain e.drains (drain_sources m at.period c)
+        (λ x y i j r. record { conductance = cond_encloses s y.cond x.lo x.hi r.cond (omega (arith, sum_part (λ (y : Drain). y.hi) e.drains x i, sound.conductances)); elevation = head_encloses y.elevation x.elev_lo x.elev_hi r.elevation }) is.drains;
+    evaps = zip_map (IsEvap m s c) (EvapEncloses s) (exact_evap m at.period at.step before c) e.evaps (evap_sources m at.period c)
+        (λ x y i j r. near.evaps c y x lt v (In-option (evap_at m at.period c) y j) r (omega (arith, sum_part (λ (y : Evap). y.hi) e.evaps x i, sound.conductances))) is.evaps;
+  }
 
 -- The cells of a step enclose the exact step; they are the variable cells, and name active cells.
 module _ (m : FlowModel) (w : Thicknesses) (s : ℕ) (at : TimeStep) (old : List Bound) where
