@@ -1,5 +1,5 @@
-use Rattle.decimal_input.proofs.Common.{◌≡◌, ℕ, suc, ◌+◌, ◌*◌, arith, refl, sym, ap, ◌∙◌, Bool, true, false, not, ℤ, pos, neg_ℤ, ◌*ℤ◌, ◌+ℤ◌, Result, Ok, Err}
-use Rattle.decimal_input.proofs.Common.{IfOk, List, length, inl, inr, ◌^◌, subst, ints, by_lt_z, cases_lt, Dec, NumFault, Fraction, scaled, with_sign, decimal}
+use Rattle.decimal_input.proofs.Common.{◌≡◌, ℕ, suc, ◌+◌, ◌*◌, arith, refl, sym, ap, ◌∙◌, Bool, true, false, ℤ, pos, neg_ℤ, ◌*ℤ◌, ◌+ℤ◌, Result, Ok, Err, IfOk}
+use Rattle.decimal_input.proofs.Common.{List, length, inl, inr, ◌^◌, subst, ints, by_lt_z, cases_lt, Dec, NumFault, Fraction, scaled, with_sign, decimal}
 use Rattle.decimal_input.proofs.Common.{number, Spelling, Spells, IsCanonical, Names, differ, Ratio, Same}
 use Rattle.std.proofs.Math.IntN.{*ℤ_comm}
 use Rattle.decimal_input.specs.Fractions.{times as times_signed, Same as SameSigned}

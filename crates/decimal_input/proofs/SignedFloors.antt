@@ -1,8 +1,8 @@
 use Rattle.decimal_input.proofs.Common.{◌≡◌, ℕ, zero, suc, ◌+◌, ◌-◌, ◌*◌, ◌≤◌, ◌<◌, ◌^◌, arith, inl, inr, ap, ◌∙◌, Bool, true, false, ℤ, pos, neg_ℤ, ◌+ℤ◌, ◌*ℤ◌}
 use Rattle.decimal_input.proofs.Common.{◌≤ℤ◌, ◌<ℤ◌, ◌/◌, Option, Some, None, IfNone, refl, sym, subst, ints, cases_lt, Dec, with_sign, size, number, IsFloor}
-use Rattle.decimal_input.proofs.Common.{IsCeiling, IsSignedFloor, IsSignedCeiling, Ratio, scaled, Reaches, Passes, IsFloorPast, IsCeilingPast, lt-mul-div-succ}
-use Rattle.decimal_input.proofs.Common.{div-mul-le_self, div-lt_iff_lt-mul, IsUnits, Fraction, IfSome, not, den, differ, nat_le, ◌⊎◌, floor, ceiling}
-use Rattle.decimal_input.proofs.Common.{signed_units, small, FitsSigned, w128, units_of, lt-ltb, leb_tells, le-div_iff_mul-le}
+use Rattle.decimal_input.proofs.Common.{IsCeiling, IsSignedFloor, IsSignedCeiling, Ratio, scaled, IsFloorPast, IsCeilingPast, lt-mul-div-succ, div-mul-le_self}
+use Rattle.decimal_input.proofs.Common.{div-lt_iff_lt-mul, IsUnits, Fraction, IfSome, not, den, differ, nat_le, ◌⊎◌, floor, ceiling, signed_units, small}
+use Rattle.decimal_input.proofs.Common.{FitsSigned, w128, units_of, lt-ltb, leb_tells, le-div_iff_mul-le}
 use Rattle.std.specs.Prelude.{unsigned_abs}
 use Rattle.std.specs.Option.{option_map}
 use Rattle.std.specs.Bool.{beq}
@@ -74,10 +74,6 @@ pub ceiling_of_floor : (a : Dec) (s k : ℕ) (z : ℤ) → a.neg ≡ true → z 
 ceiling_of_floor a s k z f e h =
     let b = ceiling_down a.neg (size a).num (suc (size a).less) (10 ^ s) k z f e h.at_most h.next in
     record { at_least = b.0; next = b.1 }
-
--- what holds of the magnitude, where its exponent is written g
-pub of_size : (P : Ratio → Type 0) (a : Dec) (g : ℤ) → g ≡ a.exp → P (scaled a.digits g) → P (size a)
-of_size P a g e h = let Q : ℤ → Type 0 = λ x. P (scaled a.digits x) in subst Q e h
 
 -- Each fraction has a floor.
 pub a_floor : (f : Ratio) (s : ℕ) → (k : ℕ) × IsFloor k f s
