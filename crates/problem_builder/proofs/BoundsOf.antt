@@ -1,13 +1,12 @@
 -- The bounds of a valid model's numbers enclose them.
 use Rattle.problem_builder.proofs.Common.{◌≡◌, ℕ, suc, ◌+◌, ◌*◌, ◌-◌, ◌<◌, ◌^◌, inl, inr, true, false, Option, Some, None, take, arith, refl, ap, subst, All, ℤ}
 use Rattle.problem_builder.proofs.Common.{pos, neg_ℤ, ◌+ℤ◌, ◌-ℤ◌, ◌*ℤ◌, zero, Bool, cond, List, [], ◌∷◌, sym, option_to_list, ints, Dec, number, negated}
-use Rattle.problem_builder.proofs.Common.{EnclosesSigned, plus, Evap, magnitude, IsHead, EvapEncloses, Given, FlowModel, TimeStep, cell_count}
-use Rattle.problem_builder.proofs.Common.{kept_head, head_or_kept, constant_head, dec_at, is_active, conductance, period_at}
-use Rattle.problem_builder.proofs.Common.{is_constant, given_in, last_given, EvapSource, evap_at, recharge_flow, evap_conductance, extinction, IsModel}
-use Rattle.problem_builder.proofs.Common.{IsEvapValid, IsHeadNumber, IsPeriod, IsGivenValid, Term, IsPair, IsCapped, evap_term}
-use Rattle.problem_builder.proofs.Common.{faces_enclose, below_gap, above_gap, Thicknesses, AreThicknesses, IsKeptPair, IsGivenOrKept, IsConstantPair}
-use Rattle.problem_builder.proofs.Common.{IsRechargePair, IsEvap, IsTimeOf, reverse, ◌==◌, IfSome, find, flat_map, reverse-append, All-nil, All-append}
-use Rattle.problem_builder.proofs.Common.{none-some, Period, In, In-All}
+use Rattle.problem_builder.proofs.Common.{EnclosesSigned, plus, Evap, magnitude, IsHead, EvapEncloses, Given, FlowModel, TimeStep, cell_count, kept_head}
+use Rattle.problem_builder.proofs.Common.{head_or_kept, constant_head, dec_at, is_active, conductance, period_at, is_constant, given_in, last_given, EvapSource}
+use Rattle.problem_builder.proofs.Common.{evap_at, recharge_flow, evap_conductance, extinction, IsModel, IsEvapValid, IsHeadNumber, IsPeriod, IsGivenValid}
+use Rattle.problem_builder.proofs.Common.{Term, IsPair, IsCapped, evap_term, faces_enclose, below_gap, above_gap, Thicknesses, AreThicknesses, IsKeptPair}
+use Rattle.problem_builder.proofs.Common.{IsGivenOrKept, IsConstantPair, IsRechargePair, IsEvap, IsTimeOf, reverse, ◌==◌, IfSome, find, flat_map}
+use Rattle.problem_builder.proofs.Common.{reverse-append, All-nil, All-append, none-some, Period, In, In-All}
 use Rattle.decimal_input.specs.Fractions.{den as denominator}
 use Rattle.decimal_input.proofs.Differences.{diffs, as_diff, same_diff}
 use Rattle.conductance_bounds.proofs.ModelBounds.{storages_enclose, recharges_enclose, evaps_enclose, heads_enclose as given_encloses}
