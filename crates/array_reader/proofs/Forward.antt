@@ -2,8 +2,8 @@
 use Rattle.array_reader.proofs.Common.{◌≡◌, ℕ, List, Result, Ok, Err, All, refl, IfOk, folder_name, WordsMay, words, refusal, NumFault, LineMay, LinesMay}
 use Rattle.array_reader.proofs.Common.{word_at, line_at, name_at, Left, Numbered, repeated, Taking, beginning, next_value, counted, FreeFault, chain, after}
 use Rattle.array_reader.proofs.Common.{given, repeated_held, appended_held, value_held, word_held, name_held, line_words, leaves, either, counted_held}
-use Rattle.array_reader.proofs.Common.{number_at, at_line, in_file, value_at, value_alone, free_list, free_rows, ControlMay, keyword, format_at, constant_at}
-use Rattle.array_reader.proofs.Common.{internal_at, named_at, of_keyword, control_at, zero_at, zero_step, zero_list, integer, OutOfProfile}
+use Rattle.array_reader.proofs.Common.{number_at, at_line, in_file, value_at, value_alone, free_list, free_rows, ControlMay, keyword, format_at, of_keyword}
+use Rattle.array_reader.proofs.Common.{control_at, zero_at, zero_step, zero_list, integer, OutOfProfile}
 use Rattle.array_reader.specs.Control.{Control}
 use Rattle.array_reader.specs.declared.keyword.Keyword.{Keyword}
 use Rattle.array_reader.specs.declared.keyword.Keyword.TheVariants.{Constant, Internal, OpenClose, External, Other}
@@ -37,7 +37,6 @@ module _ {X : Type 0} (P : Numbered → Type 0) (read : List ℕ → Result X Nu
 
 module _ {X : Type 0} (may : List ℕ → Type 0) (read : List ℕ → Result X NumFault) (file : List ℕ) (line : ℕ) where
   by_keyword : (k : Keyword) (ws : List (List ℕ)) → WordsMay may ws → IfOk (of_keyword k read file line ws) (ControlMay {X = X} may)
-  unfolding constant_at internal_at named_at
   by_keyword Constant ws h = after (ControlMay may) (number_at read file line ws) _ (λ value. tt)
   by_keyword Internal ws h = after (ControlMay may) (number_at read file line ws) _ (λ by. after (ControlMay may) (format_at file line by.1) _ (λ form. tt))
   by_keyword OpenClose ws h =

@@ -47,29 +47,21 @@ pub data Control (X : Type 0) : Type 0 where
   internal : X → Control X
   named : List ℕ → X → Control X
 
-unfoldable pub constant_at : {X : Type 0} → (List ℕ → Result X NumFault) → List ℕ → ℕ → List (List ℕ) → Result (Control X) Refusal
-constant_at read file line words = do
+-- what follows the keyword: a value, or a multiplier and the format, with the name of a file before them
+abbrev pub of_keyword : {X : Type 0} → Keyword → (List ℕ → Result X NumFault) → List ℕ → ℕ → List (List ℕ) → Result (Control X) Refusal
+of_keyword Constant read file line words = do
   value ← number_at read file line words
   Ok (constant value.0)
-
-unfoldable pub internal_at : {X : Type 0} → (List ℕ → Result X NumFault) → List ℕ → ℕ → List (List ℕ) → Result (Control X) Refusal
-internal_at read file line words = do
+of_keyword Internal read file line words = do
   by ← number_at read file line words
   format ← format_at file line by.1
   Ok (internal by.0)
-
-unfoldable pub named_at : {X : Type 0} → (List ℕ → Result X NumFault) → List ℕ → ℕ → List (List ℕ) → Result (Control X) Refusal
-named_at read file line words = do
+of_keyword OpenClose read file line words = do
   word ← word_at (refusal BadControl file line) words
   name ← name_at file line word.0
   by ← number_at read file line word.1
   format ← format_at file line by.1
   Ok (named name by.0)
-
-abbrev pub of_keyword : {X : Type 0} → Keyword → (List ℕ → Result X NumFault) → List ℕ → ℕ → List (List ℕ) → Result (Control X) Refusal
-of_keyword Constant read file line words = constant_at read file line words
-of_keyword Internal read file line words = internal_at read file line words
-of_keyword OpenClose read file line words = named_at read file line words
 of_keyword External read file line words = Err (refusal OutOfProfile file line)
 of_keyword Other read file line words = Err (refusal BadControl file line)
 

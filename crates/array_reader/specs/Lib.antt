@@ -6,7 +6,7 @@ pub use Rattle.array_reader.specs.Arrays.{free_refusal, in_file, values_of, with
 unfoldable pub use Rattle.array_reader.specs.Arrays.{array_at, free_list, free_rows, integer_layer, layer_array, layer_or, layers, real_layer, reals}
 unfoldable pub use Rattle.array_reader.specs.Arrays.{value_alone, value_at, zero_at, zero_list, zero_step}
 pub use Rattle.array_reader.specs.Control.{ControlMay, at_line, constant, internal, named, number_code, of_keyword}
-unfoldable pub use Rattle.array_reader.specs.Control.{constant_at, control_at, format_at, internal_at, keyword, named_at, number_at}
+unfoldable pub use Rattle.array_reader.specs.Control.{control_at, format_at, keyword, number_at}
 pub use Rattle.array_reader.specs.Numbers.{IntegersFollowGrammar, Kind, NumbersFollowGrammar, ProductsAreExact, is_exponent, is_short, or_bad, real}
 pub use Rattle.array_reader.specs.Numbers.{spelt_number, tested, whole, with_multiplier}
 unfoldable pub use Rattle.array_reader.specs.Numbers.{canonical, integer, integer_product, integer_scaled, multiplied, number, product, scaled, significant}

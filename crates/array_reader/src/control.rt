@@ -1,6 +1,6 @@
 ghost use Rattle.std.specs.Prelude.{◌≡◌, IfOk};
 ghost use Rattle.record_lines.specs.{HasText};
-ghost use Rattle.array_reader.specs.{constant_at, internal_at, named_at, control_at, control_of, Has_good};
+ghost use Rattle.array_reader.specs.{control_at, control_of, Has_good};
 
 use crate::items::value_item;
 use crate::keyword::{Keyword, format, keyword_of, next_word};
@@ -21,51 +21,6 @@ pub enum Control<'a, V> {
     Named(&'a str, V),
 }
 
-#[tactic(auto, unfolding(crate::specs::Control::constant_at))]
-fn constant<'a, V: Value>(
-    alloc: Global,
-    words: &mut Words<'a>,
-    file: &str,
-    line: u32,
-) -> Result<Control<'a, V>, TextFault>
-    ensures record { HasText control_of result (constant_at V.kind.reading file.now line words.old) }
-    ensures good { IfOk result (Has_good V.Good) }
-{
-    Ok(Control::Constant(value_item(alloc, words, file, line)?))
-}
-
-#[tactic(auto, unfolding(crate::specs::Control::internal_at))]
-fn internal<'a, V: Value>(
-    alloc: Global,
-    words: &mut Words<'a>,
-    file: &str,
-    line: u32,
-) -> Result<Control<'a, V>, TextFault>
-    ensures record { HasText control_of result (internal_at V.kind.reading file.now line words.old) }
-    ensures good { IfOk result (Has_good V.Good) }
-{
-    let by = value_item(alloc, words, file, line)?;
-    format(alloc, words, file, line)?;
-    Ok(Control::Internal(by))
-}
-
-#[tactic(auto, unfolding(crate::specs::Control::named_at))]
-fn open_close<'a, V: Value>(
-    alloc: Global,
-    words: &mut Words<'a>,
-    file: &str,
-    line: u32,
-) -> Result<Control<'a, V>, TextFault>
-    ensures record { HasText control_of result (named_at V.kind.reading file.now line words.old) }
-    ensures good { IfOk result (Has_good V.Good) }
-{
-    let word = next_word(alloc, words, file, line)?;
-    let name = name_of(alloc, word, file, line)?;
-    let by = value_item(alloc, words, file, line)?;
-    format(alloc, words, file, line)?;
-    Ok(Control::Named(name, by))
-}
-
 /// The control record that these words make.
 #[tactic(auto, unfolding(crate::specs::Control::control_at))]
 pub fn control_record<'a, V: Value>(
@@ -79,9 +34,19 @@ pub fn control_record<'a, V: Value>(
 {
     let word = next_word(alloc, words, file, line)?;
     match keyword_of(word) {
-        Keyword::Constant => constant(alloc, words, file, line),
-        Keyword::Internal => internal(alloc, words, file, line),
-        Keyword::OpenClose => open_close(alloc, words, file, line),
+        Keyword::Constant => Ok(Control::Constant(value_item(alloc, words, file, line)?)),
+        Keyword::Internal => {
+            let by = value_item(alloc, words, file, line)?;
+            format(alloc, words, file, line)?;
+            Ok(Control::Internal(by))
+        }
+        Keyword::OpenClose => {
+            let word = next_word(alloc, words, file, line)?;
+            let name = name_of(alloc, word, file, line)?;
+            let by = value_item(alloc, words, file, line)?;
+            format(alloc, words, file, line)?;
+            Ok(Control::Named(name, by))
+        }
         Keyword::External => Err(text_fault(alloc, Code::OutOfProfile, file, line)),
         Keyword::Other => Err(text_fault(alloc, Code::BadControl, file, line)),
     }

@@ -1,19 +1,12 @@
 // Numbers of words and their products, by the functions that define them.
 ghost use Rattle.std.specs.Prelude.{◌≡◌, IfOk, IfSome};
 ghost use Rattle.decimal_input.specs.{IsDec, integer_of};
-ghost use Rattle.array_reader.specs.Numbers.{number, product, integer, integer_product, scaled, integer_scaled, Kind, real, whole, with_multiplier, multiplied};
+ghost use Rattle.array_reader.specs.Numbers.{Kind, product, real, whole, with_multiplier, multiplied};
 
 use decimal_input::dec::{Dec, NumFault};
 use decimal_input::product::times;
 use decimal_input::read::read_dec;
 use decimal_input::word::read_int;
-
-pub fn real_of(word: &[u8]) -> Result<Dec, NumFault>
-    ensures value { result ≡ number word.now }
-    ensures canonical { IfOk result IsDec }
-{
-    read_dec(word)
-}
 
 fn real_product(a: Dec, b: Dec) -> Result<Dec, NumFault>
     requires first { IsDec a }
@@ -24,58 +17,11 @@ fn real_product(a: Dec, b: Dec) -> Result<Dec, NumFault>
     times(a, b)
 }
 
-/// A value times its multiplier; unchanged where the multiplier is zero.
-#[tactic(auto, unfolding(crate::specs::Numbers::scaled))]
-pub fn scaled_real(value: Dec, by: Dec) -> Result<Dec, NumFault>
-    requires value { IsDec value }
-    requires by { IsDec by }
-    ensures value { result ≡ scaled by value }
-    ensures canonical { IfOk result IsDec }
-{
-    if by.digits == 0 {
-        Ok(value)
-    } else {
-        real_product(value, by)
-    }
-}
-
 /// The integer of a word: an optional sign and 1 to 18 digits. None where it has another form.
 pub fn short_integer(word: &[u8]) -> Option<i64>
     ensures { result ≡ integer_of word.now }
 {
     read_int(word)
-}
-
-#[tactic(auto, unfolding(crate::specs::Numbers::integer))]
-pub fn integer_of(word: &[u8]) -> Result<i64, NumFault>
-    ensures { result ≡ integer word.now }
-{
-    match short_integer(word) {
-        Some(value) => Ok(value),
-        None => Err(NumFault::BadNumber),
-    }
-}
-
-#[tactic(auto, unfolding(crate::specs::Numbers::integer_product))]
-fn integer_product(a: i64, b: i64) -> Result<i64, NumFault>
-    ensures { result ≡ integer_product a b }
-{
-    match a.checked_mul(b) {
-        Some(product) => Ok(product),
-        None => Err(NumFault::BadNumber),
-    }
-}
-
-/// A value times its multiplier; unchanged where the multiplier is zero.
-#[tactic(auto, unfolding(crate::specs::Numbers::integer_scaled))]
-pub fn scaled_integer(value: i64, by: i64) -> Result<i64, NumFault>
-    ensures { result ≡ integer_scaled by value }
-{
-    if by == 0 {
-        Ok(value)
-    } else {
-        integer_product(value, by)
-    }
 }
 
 /// A kind of number that an array may have.
@@ -103,11 +49,16 @@ impl Value for Dec {
     ghost Good = { IsDec };
 
     fn of_word(word: &[u8]) -> Result<Dec, NumFault> {
-        real_of(word)
+        read_dec(word)
     }
 
+    #[tactic(auto, unfolding(crate::specs::Numbers::scaled))]
     fn scale(self, by: Dec) -> Result<Dec, NumFault> {
-        scaled_real(self, by)
+        if by.digits == 0 {
+            Ok(self)
+        } else {
+            real_product(self, by)
+        }
     }
 }
 
@@ -116,12 +67,23 @@ impl Value for i64 {
 
     ghost Good = { λ _. Unit {0} };
 
+    #[tactic(auto, unfolding(crate::specs::Numbers::integer))]
     fn of_word(word: &[u8]) -> Result<i64, NumFault> {
-        integer_of(word)
+        match short_integer(word) {
+            Some(value) => Ok(value),
+            None => Err(NumFault::BadNumber),
+        }
     }
 
+    #[tactic(auto, unfolding(crate::specs::Numbers::integer_scaled, crate::specs::Numbers::integer_product))]
     fn scale(self, by: i64) -> Result<i64, NumFault> {
-        scaled_integer(self, by)
+        if by == 0 {
+            return Ok(self);
+        }
+        match self.checked_mul(by) {
+            Some(product) => Ok(product),
+            None => Err(NumFault::BadNumber),
+        }
     }
 }
 

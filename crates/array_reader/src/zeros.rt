@@ -1,7 +1,7 @@
 // Free lists whose values must be 0.
-ghost use Rattle.std.specs.Prelude.{◌≡◌, MatchResult, Ok, IfOk, pos};
-ghost use Rattle.record_lines.specs.{GivesText, StopsText, counted};
-ghost use Rattle.array_reader.specs.{zero_at, zero_step, zero_list};
+ghost use Rattle.std.specs.Prelude.{◌≡◌, IfOk, pos};
+ghost use Rattle.record_lines.specs.{GivesText};
+ghost use Rattle.array_reader.specs.{zero_at, zero_list};
 
 use crate::next_value;
 use outside::{Code, TextFault, text_fault};
@@ -26,26 +26,8 @@ pub fn zero_item<'a>(
     Ok(value)
 }
 
-#[tactic(auto, unfolding(crate::specs::Arrays::zero_step))]
-fn zero_items<'a>(
-    alloc: Global,
-    free: &mut Free<'a>,
-    lines: &mut Lines<'a>,
-    file: &str,
-    count: u32,
-) -> Result<(), TextFault>
-    ensures { MatchResult result
-        (λ _. counted (zero_step file.now) 0 count (free.old, lines.old) ≡ Ok (free.new, lines.new))
-        (λ fault. StopsText fault (counted (zero_step file.now) 0 count (free.old, lines.old))) }
-{
-    for i in 0..count {
-        zero_item(alloc, free, lines, file)?;
-    }
-    Ok(())
-}
-
 /// Reads a free list of `count` values that must be 0.
-#[tactic(auto, unfolding(crate::specs::Arrays::zero_list))]
+#[tactic(auto, unfolding(crate::specs::Arrays::zero_list, crate::specs::Arrays::zero_step))]
 pub fn zero_list(
     alloc: Global,
     lines: &mut Lines<'_>,
@@ -55,6 +37,8 @@ pub fn zero_list(
     ensures { GivesText (λ _. tt) result lines.new (zero_list file.now count lines.old) }
 {
     let mut free = Free::begin();
-    zero_items(alloc, &mut free, lines, file, count)?;
+    for i in 0..count {
+        zero_item(alloc, &mut free, lines, file)?;
+    }
     Ok(())
 }

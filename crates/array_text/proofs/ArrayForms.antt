@@ -1,9 +1,9 @@
 -- An array that is read has a value for each place.
 use Rattle.array_text.proofs.Common.{◌≡◌, ℕ, ◌*◌, ℤ, List, [], ◌∷◌, length, All, Result, Ok, Err, refl, arith, length-replicate, All-replicate, NumFault, IsDec}
 use Rattle.array_text.proofs.Common.{Left, left_from, Kind, real, whole, multiplied, free_rows, ArraysHaveForm, Gives, FileSet, words, line_at, word_at}
-use Rattle.array_text.proofs.Common.{name_at, at_line, number_at, constant, internal, named, keyword, format_at, constant_at, internal_at, named_at, of_keyword}
-use Rattle.array_text.proofs.Common.{control_at, values_of, array_at, without_line, reals, layer_array, real_layer, integer_layer, layers, number, integer}
-use Rattle.array_text.proofs.Common.{value_at, value_alone, free_list, IsShort, ListsHaveForm, Taking, beginning, file_at, refusal}
+use Rattle.array_text.proofs.Common.{name_at, at_line, number_at, constant, internal, named, keyword, format_at, of_keyword, control_at, values_of, array_at}
+use Rattle.array_text.proofs.Common.{without_line, reals, layer_array, real_layer, integer_layer, layers, number, integer, value_at, value_alone, free_list}
+use Rattle.array_text.proofs.Common.{IsShort, ListsHaveForm, Taking, beginning, file_at, refusal}
 use Rattle.array_reader.specs.Control.{Control}
 use Rattle.outside.specs.declared.codes.Code.TheVariants.{BadControl}
 use Rattle.array_reader.specs.declared.keyword.Keyword.{Keyword}
@@ -49,7 +49,6 @@ module _ {X : Type 0} (read : List ℕ → Result X NumFault) (P : X → Type 0)
   item_is (w ∷ ws) = then_ _ (at_word (read w) (form w)) (λ x h. done h)
 
   by_keyword : (k : Keyword) (ws : List (List ℕ)) → Gives (Stands P) (of_keyword k read file line ws)
-  unfolding constant_at internal_at named_at
   by_keyword Constant ws = then_ _ (item_is ws) (λ x h. done h)
   by_keyword Internal ws = goes_on (number_at read file line ws) _ (λ by e. goes_on (format_at file line by.1) _ (λ format k. done tt))
   by_keyword OpenClose ws =

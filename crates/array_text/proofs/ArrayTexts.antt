@@ -5,8 +5,8 @@ use Rattle.array_text.proofs.Common.{multiplied, reals, layer_array, real_layer,
 use Rattle.array_text.proofs.Common.{FreeListsReadAsWritten, ArraysReadAsWritten, ℕ, zero, suc, ◌*◌, ◌≤◌, [], ◌∷◌, ◌++◌, take, drop, Result, length-take-le}
 use Rattle.array_text.proofs.Common.{length-drop, take-append-drop, nil_from_length, All-cons, All-take, All-drop, NumFault, next_number, appended, word_at}
 use Rattle.array_text.proofs.Common.{Kind, free_list, free_rows, array_at, without_line, Line, IsLine, number_after, unread, Reads, Takes, Left, ◌>>=◌}
-use Rattle.array_text.proofs.Common.{control_record, row_line, row_lines, array_lines, FileSet, number_at, keyword, format_at, internal, internal_at}
-use Rattle.array_text.proofs.Common.{control_at, codes, Refusal}
+use Rattle.array_text.proofs.Common.{control_record, row_line, row_lines, array_lines, FileSet, number_at, keyword, format_at, internal, control_at, codes}
+use Rattle.array_text.proofs.Common.{Refusal}
 use Rattle.array_text.proofs.NumberTexts.{short_exponent, number_reads, integer_reads, one, times_one}
 use Rattle.array_text.proofs.WordTexts.{number_is_word, integer_is_word, line_by_test}
 use Rattle.array_text.proofs.FreeTexts.{IsWrittenAs, free_list_reads}
@@ -32,7 +32,7 @@ control_is_line : IsLine control_record
 control_is_line = line_by_test control_record refl
 
 control_reads : {X : Type 0} (read : List ℕ → Result X NumFault) (file : List ℕ) (n : ℕ) (by : X) → read (codes "1") ≡ Ok by → control_at read file n control_record ≡ Ok (internal by)
-unfolding control_at word_at keyword internal_at number_at format_at
+unfolding control_at word_at keyword number_at format_at
 control_reads read file n by e = rw e refl
 
 -- an array is read as its values, with the line of its control record

@@ -14,9 +14,9 @@ pub use Rattle.std.specs.Prelude.{codes, flat_map}
 pub use Rattle.array_reader.proofs.NumberLemmas.{canonical_is, integers_are, is_product, is_word_number}
 pub use Rattle.array_reader.specs.{Kind, at_line, constant, internal, is_exponent, is_short, named, of_keyword, real, spelt_number, values_of, whole}
 pub use Rattle.array_reader.specs.{without_line}
-unfoldable pub use Rattle.array_reader.specs.{array_at, canonical, constant_at, control_at, format_at, free_list, free_rows, integer, integer_layer}
-unfoldable pub use Rattle.array_reader.specs.{integer_product, integer_scaled, internal_at, keyword, layer_array, layers, multiplied, named_at, number}
-unfoldable pub use Rattle.array_reader.specs.{number_at, product, real_layer, reals, scaled, significant, value_alone, value_at, zeros}
+unfoldable pub use Rattle.array_reader.specs.{array_at, canonical, control_at, format_at, free_list, free_rows, integer, integer_layer, integer_product}
+unfoldable pub use Rattle.array_reader.specs.{integer_scaled, keyword, layer_array, layers, multiplied, number, number_at, product, real_layer, reals, scaled}
+unfoldable pub use Rattle.array_reader.specs.{significant, value_alone, value_at, zeros}
 pub use Rattle.array_text.specs.{ArraysHaveForm, ArraysReadAsWritten, FreeListsReadAsWritten, Gives, IsLine, IsShort, IsWord, IsWordByte, Line, ListsHaveForm}
 pub use Rattle.array_text.specs.{Reads, Takes, array_lines, control_record, sign}
 unfoldable pub use Rattle.array_text.specs.{integer_array, integer_word, line_text, number_after, number_word, numbered_lines, real_array, row_line, row_lines}

@@ -14,22 +14,6 @@ use record_lines::{Line, Lines, Words};
 use std::alloc::Global;
 
 /// IBOUND and STRT for the cells of a grid.
-#[derive(Drop)]
-struct Basics {
-    ibound: Vec<i64>,
-    strt: Vec<Dec>,
-}
-
-fn with_basics(model: FlowModel, basics: Basics) -> FlowModel
-    ensures { result ≡ with_basics model basics.ibound.items basics.strt.items }
-{
-    FlowModel {
-        ibound: Listed::new(basics.ibound),
-        strt: Listed::new(basics.strt),
-        ..model
-    }
-}
-
 #[tactic(auto, unfolding(crate::specs::Basics::basics_of))]
 fn basics_of<F: Folder>(
     alloc: Global,
@@ -37,14 +21,14 @@ fn basics_of<F: Folder>(
     bytes: &[u8],
     folder: &mut F,
     grid: &Grid,
-) -> Result<Basics, InputFault>
+) -> Result<(Vec<i64>, Vec<Dec>), InputFault>
     requires text { TextMay (F.may folder.old) bytes.now }
     ensures folder { ReadsOn F.Folder folder.old folder.new result }
     ensures basics { (files : FileSet) → F.agrees folder.new files →
-        Has (λ b. (b.ibound.items, b.strt.items)) result (basics_of files file.now bytes.now grid.now) }
-    ensures ibound { IfOk result (λ b. length b.ibound.items ≡ cell_count grid.now) }
-    ensures strt { IfOk result (λ b. length b.strt.items ≡ cell_count grid.now) }
-    ensures canonical { IfOk result (λ b. All IsDec b.strt.items) }
+        Has (λ b. (b.0.items, b.1.items)) result (basics_of files file.now bytes.now grid.now) }
+    ensures ibound { IfOk result (λ b. length b.0.items ≡ cell_count grid.now) }
+    ensures strt { IfOk result (λ b. length b.1.items ≡ cell_count grid.now) }
+    ensures canonical { IfOk result (λ b. All IsDec b.1.items) }
 {
     let mut lines = Lines::new(bytes);
     lines.skip_comments();
@@ -53,7 +37,7 @@ fn basics_of<F: Folder>(
     let ibound = read_layers::<i64, F>(alloc, &mut lines, file, folder, layers, rows, cols)?;
     head_item(alloc, &mut lines, file)?;
     let strt = read_layers::<Dec, F>(alloc, &mut lines, file, folder, layers, rows, cols)?;
-    Ok(Basics { ibound, strt })
+    Ok((ibound, strt))
 }
 
 /// The model with IBOUND and the starting heads STRT of a file of the basic package. `file` is the file's name,
@@ -78,8 +62,12 @@ pub fn read_bas<F: Folder>(
     ensures strt { IfOk result (λ m. length m.strt ≡ cell_count model.grid) }
     ensures canonical { IfOk result (λ m. All IsDec m.strt) }
 {
-    let basics = basics_of(alloc, file, bytes, folder, &model.grid)?;
-    Ok(with_basics(model, basics))
+    let (ibound, strt) = basics_of(alloc, file, bytes, folder, &model.grid)?;
+    Ok(FlowModel {
+        ibound: Listed::new(ibound),
+        strt: Listed::new(strt),
+        ..model
+    })
 }
 
 // The lines before the arrays.

@@ -1,6 +1,7 @@
 -- Elevations are canonical numbers.
 use Rattle.cell_checks.proofs.Common.{◌≡◌, ℕ, ◌-◌, Bool, true, false, cond, nat_lt, List, All, FlowModel, layer_size, dec_at, has_bed, bottom_at, lowest}
-use Rattle.cell_checks.proofs.Common.{top_at, dec_at_is, IsGrid}
+use Rattle.cell_checks.proofs.Common.{top_at, IsGrid}
+use Rattle.number_limits.proofs.Canonical.{dec_at_is}
 use Rattle.decimal_input.specs.declared.dec.Dec.{Dec}
 use Rattle.decimal_input.specs.{IsDec}
 

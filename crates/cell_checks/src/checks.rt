@@ -1,38 +1,16 @@
 // Checks over all cells.
 ghost use Rattle.std.specs.Prelude.{◌≡◌, ◌<◌, All};
 ghost use Rattle.decimal_input.specs.{IsDec};
-ghost use Rattle.model_types.specs.{cell_count, IsGrid, HasSize};
+ghost use Rattle.model_types.specs.{cell_count, IsGrid};
 ghost use Rattle.record_lines.specs.{HasText};
-ghost use Rattle.cell_checks.specs.{at_cell, cell_step, checked, fault_at};
+ghost use Rattle.cell_checks.specs.{cell_step, checked};
 
 use crate::passing::{Check, fault_at};
-use model_types::{CellId, FlowModel, Grid, place_of};
-use outside::{Code, Name, Refusal, TextFault};
+use model_types::{CellId, FlowModel, place_of};
+use outside::{Name, Refusal, TextFault};
 use std::alloc::Global;
 
-/// The refusal of a cell that has a fault.
-fn at_cell(
-    alloc: Global,
-    grid: &Grid,
-    file: &str,
-    cell: u32,
-    fault: Option<Code>,
-) -> Result<(), TextFault>
-    requires size { HasSize grid.now }
-    requires cell { cell < cell_count grid.now }
-    ensures { HasText (λ _. tt) result (at_cell grid.now file.now cell fault) }
-{
-    match fault {
-        None => Ok(()),
-        Some(code) => Err(TextFault::Refused(Refusal {
-            code,
-            file: Name::new(alloc, file)?,
-            line: 0,
-            at: Some(place_of(grid, CellId(cell))),
-        })),
-    }
-}
-
+/// Refuses a cell that has a fault.
 fn check_cell(
     alloc: Global,
     model: &FlowModel,
@@ -45,8 +23,15 @@ fn check_cell(
     requires cell { cell < cell_count model.now.grid }
     ensures { HasText (λ _. tt) result (cell_step model.now file.now check cell tt) }
 {
-    let fault = fault_at(check, model, cell);
-    at_cell(alloc, &model.grid, file, cell, fault)
+    match fault_at(check, model, cell) {
+        None => Ok(()),
+        Some(code) => Err(TextFault::Refused(Refusal {
+            code,
+            file: Name::new(alloc, file)?,
+            line: 0,
+            at: Some(place_of(&model.grid, CellId(cell))),
+        })),
+    }
 }
 
 /// The first cell, by ascending number, that fails a check is refused, with line 0 and its layer, row and column.

@@ -1,10 +1,9 @@
 // The tests of a cell.
 ghost use Rattle.std.specs.Prelude.{◌≡◌, ◌<◌, All};
 ghost use Rattle.decimal_input.specs.{IsDec};
-ghost use Rattle.model_types.specs.{cell_count, IsGrid, dec_at, bottom_at, lowest, top_at};
+ghost use Rattle.model_types.specs.{cell_count, IsGrid};
 ghost use Rattle.cell_checks.specs.{has_head, has_good_properties, passes, code_of, fault_at, is_checked_bed, is_thick_cell};
 
-use decimal_input::dec::Dec;
 use model_types::FlowModel;
 use model_types::layers::dec_at;
 use number_limits::{is_head, is_positive, is_thick};
@@ -19,19 +18,12 @@ pub enum Check {
     Properties,
 }
 
-fn start_head(model: &FlowModel, cell: u32) -> Dec
-    requires strt { All IsDec model.now.strt }
-    ensures value { result ≡ dec_at model.now.strt cell }
-    ensures canonical { IsDec result }
-{
-    dec_at(model.strt.as_slice(), cell)
-}
-
+#[tactic(auto, using(number_limits::proofs::Canonical::dec_at_is))]
 fn has_head(model: &FlowModel, cell: u32) -> bool
     requires strt { All IsDec model.now.strt }
     ensures { result ≡ has_head model.now cell }
 {
-    is_head(start_head(model, cell))
+    is_head(dec_at(model.strt.as_slice(), cell))
 }
 
 fn has_good_properties(model: &FlowModel, cell: u32) -> bool
@@ -84,32 +76,6 @@ pub fn fault_at(check: Check, model: &FlowModel, cell: u32) -> Option<Code>
     }
 }
 
-// Elevations of cells and beds, which are canonical numbers.
-
-fn top_of(model: &FlowModel, cell: u32) -> Dec
-    requires grid { IsGrid model.now.grid }
-    ensures value { result ≡ top_at model.now cell }
-    ensures canonical { IsDec result }
-{
-    model.top_at(cell)
-}
-
-fn bottom_of(model: &FlowModel, cell: u32) -> Dec
-    requires grid { IsGrid model.now.grid }
-    ensures value { result ≡ bottom_at model.now cell }
-    ensures canonical { IsDec result }
-{
-    model.bottom_at(cell)
-}
-
-fn lowest_of(model: &FlowModel, cell: u32) -> Dec
-    requires grid { IsGrid model.now.grid }
-    ensures value { result ≡ lowest model.now cell }
-    ensures canonical { IsDec result }
-{
-    model.lowest(cell)
-}
-
 /// Whether the bed below a cell is checked: there is an active cell below it, and its two elevations differ.
 pub fn is_checked_bed(model: &FlowModel, cell: u32) -> bool
     requires grid { IsGrid model.now.grid }
@@ -124,12 +90,12 @@ pub fn is_checked_bed(model: &FlowModel, cell: u32) -> bool
 }
 
 /// Whether a cell is thick enough, and the bed below it if that is checked.
+#[tactic(auto, using(crate::proofs::Canonical::top_is, crate::proofs::Canonical::bottom_is, crate::proofs::Canonical::lowest_is))]
 pub fn is_thick_cell(model: &FlowModel, cell: u32) -> bool
     requires grid { IsGrid model.now.grid }
     requires cell { cell < cell_count model.now.grid }
     ensures { result ≡ is_thick_cell model.now cell }
 {
-    is_thick(top_of(model, cell), bottom_of(model, cell))
-        && (!is_checked_bed(model, cell)
-            || is_thick(bottom_of(model, cell), lowest_of(model, cell)))
+    is_thick(model.top_at(cell), model.bottom_at(cell))
+        && (!is_checked_bed(model, cell) || is_thick(model.bottom_at(cell), model.lowest(cell)))
 }

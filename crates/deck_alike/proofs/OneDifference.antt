@@ -2,8 +2,8 @@
 use Rattle.deck_alike.proofs.Common.{◌≡◌, ℕ, ◌<◌, List, [], ◌∷◌, Option, Some, None, take, subst, sym, ap, ◌∙◌, arith, inl, inr, Dec, Package, Dis, Lpf}
 use Rattle.deck_alike.proofs.Common.{FlowModel, Period, cell_count, layer_size, AreSame, IsFirst, InOrder, IsFirstOfLayers, IsLayerCell, IsListCell, named}
 use Rattle.deck_alike.proofs.Common.{SharesIn, IsCellIn, IsHeadCell, IsPeriodCell, cases_order, Bas, Wel, Riv, Drn, Ghb, Rch, Chd, Evt, CellId, All-head}
-use Rattle.deck_alike.proofs.Common.{All-tail, AreGivenAlike, IsCell, bottoms, properties, AreEntriesAlike, AreRatesAlike, IsArrayCell, array_at, Shares}
-use Rattle.deck_alike.proofs.Common.{reading_order, cell_of, IsFirstDifference}
+use Rattle.deck_alike.proofs.Common.{All-tail, AreGivenAlike, IsCell, bottoms, properties, AreEntriesAlike, AreRatesAlike, array_at, Shares, reading_order}
+use Rattle.deck_alike.proofs.Common.{cell_of, IsFirstDifference}
 use Rattle.std.specs.Prelude.{All, ◌/◌, ◌⊎◌, zero, suc, slice_get, ◌≤◌}
 use Rattle.deck_alike.specs.declared.difference.Difference.{Difference}
 use Rattle.deck_alike.proofs.Layers.{first_is_one}
@@ -24,11 +24,10 @@ none_one c d e f = e ∙ sym f
 second_one : {X : Type 0} (R : X → X → Type 0) (xs ys : List X) (k l : ℕ) (f : IsFirst R xs ys k) (g : IsFirst R xs ys l) → f.second ≡ g.second
 second_one R xs ys k l f g = same_some f.second g.second (sym f.of_second ∙ ap (slice_get ys) (first_is_one R xs ys k l f g) ∙ g.of_second)
 
-array_one : {X : Type 0} (R : X → X → Type 0) (cells : ℕ) (xs ys : List X) (c d : Option CellId) → IsArrayCell R cells xs ys c → IsArrayCell R cells xs ys d → c ≡ d
-array_one R cells xs ys c d = in_order (none_one c d) (λ f g. f.names ∙ ap (named cells) (first_is_one R xs ys f.place g.place f.first g.first) ∙ sym g.names)
-
-list_one : {X : Type 0} (R : X → X → Type 0) (number : X → ℕ) (cells : ℕ) (xs ys : List X) (c d : Option CellId) → IsListCell R number cells xs ys c → IsListCell R number cells xs ys d → c ≡ d
-list_one R number cells xs ys c d = in_order (none_one c d) (λ f g. f.names ∙ ap (λ y. named cells (number y)) (second_one R xs ys f.place g.place f.first g.first) ∙ sym g.names)
+list_one : {X : Type 0} (R : X → X → Type 0) (number : ℕ → X → ℕ) (cells : ℕ) (xs ys : List X) (c d : Option CellId) → IsListCell R number cells xs ys c → IsListCell R number cells xs ys d → c ≡ d
+list_one R number cells xs ys c d = in_order (none_one c d) (λ f g.
+    f.names ∙ ap (λ k. named cells (number k f.first.second)) (first_is_one R xs ys f.place g.place f.first g.first)
+    ∙ ap (λ y. named cells (number g.place y)) (second_one R xs ys f.place g.place f.first g.first) ∙ sym g.names)
 
 layers_one : (size : ℕ) (xss yss : List (List Dec)) (k l : ℕ) → IsFirstOfLayers size xss yss k → IsFirstOfLayers size xss yss l → k ≡ l
 layers_one size xss yss k l f g = by_order (f.others g.array l g.first) (g.others f.array k f.first)
@@ -48,8 +47,8 @@ layer_one size cells xss yss c d f g = f.names ∙ ap (named cells) (layers_one 
 -- The cell of a package.
 
 head_one : (kind : Package) (a b : FlowModel) (c d : Option CellId) → IsHeadCell kind a b c → IsHeadCell kind a b d → c ≡ d
-head_one Dis a b c d f g = in_order (none_one c d) (in_order (array_one AreSame (cell_count b.grid) a.grid.top b.grid.top c d) (layer_one (layer_size b.grid) (cell_count b.grid) (bottoms a.grid) (bottoms b.grid) c d)) f g
-head_one Bas a b c d f g = in_order (array_one AreSame (cell_count b.grid) a.ibound b.ibound c d) (none_one c d) f g
+head_one Dis a b c d f g = in_order (none_one c d) (in_order (list_one AreSame (λ place y. place) (cell_count b.grid) a.grid.top b.grid.top c d) (layer_one (layer_size b.grid) (cell_count b.grid) (bottoms a.grid) (bottoms b.grid) c d)) f g
+head_one Bas a b c d f g = in_order (list_one AreSame (λ place y. place) (cell_count b.grid) a.ibound b.ibound c d) (none_one c d) f g
 head_one Lpf a b c d f g = in_order (none_one c d) (layer_one (layer_size b.grid) (cell_count b.grid) (properties a) (properties b) c d) f g
 head_one Rch a b c d f g = none_one c d f g
 head_one Evt a b c d f g = none_one c d f g
@@ -59,15 +58,15 @@ in_one : (kind : Package) (cells : ℕ) (p q : Period) (c d : Option CellId) →
 in_one Dis cells p q c d f g = none_one c d f g
 in_one Bas cells p q c d f g = absurd f
 in_one Lpf cells p q c d f g = absurd f
-in_one Wel cells p q c d f g = list_one AreEntriesAlike cell_of cells p.stresses.wells q.stresses.wells c d f g
-in_one Riv cells p q c d f g = list_one AreEntriesAlike cell_of cells p.stresses.rivers q.stresses.rivers c d f g
-in_one Drn cells p q c d f g = list_one AreEntriesAlike cell_of cells p.stresses.drains q.stresses.drains c d f g
-in_one Ghb cells p q c d f g = list_one AreEntriesAlike cell_of cells p.stresses.generals q.stresses.generals c d f g
-in_one Chd cells p q c d f g = list_one AreGivenAlike (λ x. x.cell.0) cells p.stresses.given q.stresses.given c d f g
-in_one Rch cells p q c d f g = in_order (none_one c d) (array_one AreSame cells p.stresses.irch q.stresses.irch c d) f g
+in_one Wel cells p q c d f g = list_one AreEntriesAlike (λ place x. cell_of x) cells p.stresses.wells q.stresses.wells c d f g
+in_one Riv cells p q c d f g = list_one AreEntriesAlike (λ place x. cell_of x) cells p.stresses.rivers q.stresses.rivers c d f g
+in_one Drn cells p q c d f g = list_one AreEntriesAlike (λ place x. cell_of x) cells p.stresses.drains q.stresses.drains c d f g
+in_one Ghb cells p q c d f g = list_one AreEntriesAlike (λ place x. cell_of x) cells p.stresses.generals q.stresses.generals c d f g
+in_one Chd cells p q c d f g = list_one AreGivenAlike (λ place x. x.cell.0) cells p.stresses.given q.stresses.given c d f g
+in_one Rch cells p q c d f g = in_order (none_one c d) (list_one AreSame (λ place y. place) cells p.stresses.irch q.stresses.irch c d) f g
 in_one Evt cells p q c d f g =
-    in_order (none_one c d) (in_order (array_one AreRatesAlike cells p.stresses.evtr q.stresses.evtr c d)
-    (in_order (array_one AreSame cells p.stresses.exdp q.stresses.exdp c d) (array_one AreSame cells p.stresses.ievt q.stresses.ievt c d))) f g
+    in_order (none_one c d) (in_order (list_one AreRatesAlike (λ place y. place) cells p.stresses.evtr q.stresses.evtr c d)
+    (in_order (list_one AreSame (λ place y. place) cells p.stresses.exdp q.stresses.exdp c d) (list_one AreSame (λ place y. place) cells p.stresses.ievt q.stresses.ievt c d))) f g
 
 period_one : (kind : Package) (cells : ℕ) (ps qs : List Period) (c d : Option CellId) → IsPeriodCell kind cells ps qs c → IsPeriodCell kind cells ps qs d → c ≡ d
 period_one kind cells ps qs c d f g =

@@ -76,11 +76,11 @@ abbrev pub IsCellIn : Package → ℕ → Period → Period → Option CellId �
 IsCellIn Dis cells p q cell = cell ≡ None
 IsCellIn Bas cells p q cell = ⊥
 IsCellIn Lpf cells p q cell = ⊥
-IsCellIn Wel cells p q cell = IsListCell AreEntriesAlike cell_of cells p.stresses.wells q.stresses.wells cell
-IsCellIn Riv cells p q cell = IsListCell AreEntriesAlike cell_of cells p.stresses.rivers q.stresses.rivers cell
-IsCellIn Drn cells p q cell = IsListCell AreEntriesAlike cell_of cells p.stresses.drains q.stresses.drains cell
-IsCellIn Ghb cells p q cell = IsListCell AreEntriesAlike cell_of cells p.stresses.generals q.stresses.generals cell
-IsCellIn Chd cells p q cell = IsListCell AreGivenAlike (λ x. x.cell.0) cells p.stresses.given q.stresses.given cell
+IsCellIn Wel cells p q cell = IsListCell AreEntriesAlike (λ place x. cell_of x) cells p.stresses.wells q.stresses.wells cell
+IsCellIn Riv cells p q cell = IsListCell AreEntriesAlike (λ place x. cell_of x) cells p.stresses.rivers q.stresses.rivers cell
+IsCellIn Drn cells p q cell = IsListCell AreEntriesAlike (λ place x. cell_of x) cells p.stresses.drains q.stresses.drains cell
+IsCellIn Ghb cells p q cell = IsListCell AreEntriesAlike (λ place x. cell_of x) cells p.stresses.generals q.stresses.generals cell
+IsCellIn Chd cells p q cell = IsListCell AreGivenAlike (λ place x. x.cell.0) cells p.stresses.given q.stresses.given cell
 IsCellIn Rch cells p q cell =
     InOrder (length q.stresses.recharge ≡ length p.stresses.recharge) (cell ≡ None)
     (IsArrayCell AreSame cells p.stresses.irch q.stresses.irch cell)

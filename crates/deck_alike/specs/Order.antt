@@ -1,5 +1,5 @@
 -- The order in which a deck is read, and the cell of what differs first.
-use Rattle.std.specs.Prelude.{◌≡◌, ℕ, ◌≤◌, ◌<◌, ◌/◌, ◌⊎◌, List, [], Option, Some, None, length, nat_lt, cond, slice_index_or, take, slice_get}
+use Rattle.std.specs.Prelude.{◌≡◌, ℕ, ◌≤◌, ◌<◌, ◌/◌, ◌⊎◌, List, [], Option, Some, None, Result, Ok, Err, length, nat_lt, cond, slice_index_or, take, slice_get}
 use Rattle.decimal_input.specs.declared.dec.Dec.{Dec}
 use Rattle.model_types.specs.declared.grid.CellId.{CellId}
 use Rattle.std.specs.List.{AllZip}
@@ -22,34 +22,33 @@ pub record IsFirst {X : Type 0} (Alike : X → X → Type 0) (xs ys : List X) (k
 abbrev pub InOrder : Type 0 → Type 0 → Type 0 → Type 0
 InOrder Shared Cell Later = ((Shared → ⊥) × Cell) ⊎ (Shared × Later)
 
--- what a walk over a part finds: nothing where it is shared, else the cell
-abbrev pub Finds : Type 0 → (Option CellId → Type 0) → Option (Option CellId) → Type 0
-Finds Shared Cell None = Shared
-Finds Shared Cell (Some cell) = (Shared → ⊥) × Cell cell
+-- what a walk over a part gives: Ok where it is shared, else the cell
+abbrev pub Finds : Type 0 → (Option CellId → Type 0) → Result (Unit {0}) (Option CellId) → Type 0
+Finds Shared Cell (Ok shared) = Shared
+Finds Shared Cell (Err cell) = (Shared → ⊥) × Cell cell
 
 -- the cell of this number in a grid of this many cells
 abbrev pub named : ℕ → ℕ → Option CellId
 named cells c = cond (nat_lt c cells) (Some (record { 0 = c })) None
 
--- An array's cell: that of the first place that isn't alike, and none where the arrays have other lengths. An array of
--- one layer names the cells of layer 1.
-pub record IsPlaceNamed {X : Type 0} (Alike : X → X → Type 0) (cells : ℕ) (xs ys : List X) (cell : Option CellId) : Type 0 where
+-- what a walk gives that has found this place, or none
+abbrev pub apart : ℕ → Option ℕ → Result (Unit {0}) (Option CellId)
+apart cells None = Ok tt
+apart cells (Some place) = Err (named cells place)
+
+-- A list's cell: that of the second deck's item at the first place that isn't alike. Its length is read before its
+-- items, so lists of other lengths name no cell.
+pub record IsItemNamed {X : Type 0} (Alike : X → X → Type 0) (number : ℕ → X → ℕ) (cells : ℕ) (xs ys : List X) (cell : Option CellId) : Type 0 where
   pub place : ℕ
   pub first : IsFirst Alike xs ys place
-  pub names : cell ≡ named cells place
+  pub names : cell ≡ named cells (number place first.second)
 
+abbrev pub IsListCell : {X : Type 0} → (X → X → Type 0) → (ℕ → X → ℕ) → ℕ → List X → List X → Option CellId → Type 0
+IsListCell Alike number cells xs ys cell = InOrder (length ys ≡ length xs) (cell ≡ None) (IsItemNamed Alike number cells xs ys cell)
+
+-- an array's cell, by the place; an array of one layer names the cells of layer 1
 abbrev pub IsArrayCell : {X : Type 0} → (X → X → Type 0) → ℕ → List X → List X → Option CellId → Type 0
-IsArrayCell Alike cells xs ys cell = InOrder (length ys ≡ length xs) (cell ≡ None) (IsPlaceNamed Alike cells xs ys cell)
-
--- A list's cell: that of the second deck's entry at the first place that isn't alike. Its length is read before its
--- entries, so lists of other lengths name no cell.
-pub record IsEntryNamed {X : Type 0} (Alike : X → X → Type 0) (number : X → ℕ) (cells : ℕ) (xs ys : List X) (cell : Option CellId) : Type 0 where
-  pub place : ℕ
-  pub first : IsFirst Alike xs ys place
-  pub names : cell ≡ named cells (number first.second)
-
-abbrev pub IsListCell : {X : Type 0} → (X → X → Type 0) → (X → ℕ) → ℕ → List X → List X → Option CellId → Type 0
-IsListCell Alike number cells xs ys cell = InOrder (length ys ≡ length xs) (cell ≡ None) (IsEntryNamed Alike number cells xs ys cell)
+IsArrayCell Alike cells xs ys cell = IsListCell Alike (λ place y. place) cells xs ys cell
 
 -- the array at a place of a list of arrays
 abbrev pub array_at : List (List Dec) → ℕ → List Dec

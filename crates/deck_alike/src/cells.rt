@@ -1,6 +1,6 @@
 // The cells of places.
 ghost use Rattle.std.specs.Prelude.{◌≡◌, ◌<◌};
-ghost use Rattle.deck_alike.specs.{named, earlier};
+ghost use Rattle.deck_alike.specs.{apart, named, earlier};
 
 use model_types::CellId;
 
@@ -12,6 +12,16 @@ pub fn numbered_cell(cells: u32, number: usize) -> Option<CellId>
         Some(CellId(number as u32))
     } else {
         None
+    }
+}
+
+/// The cell of the place at which two parts differ first, where there is one.
+pub fn place_apart(cells: u32, place: Option<usize>) -> Result<(), Option<CellId>>
+    ensures { result ≡ apart cells place }
+{
+    match place {
+        None => Ok(()),
+        Some(place) => Err(numbered_cell(cells, place)),
     }
 }
 

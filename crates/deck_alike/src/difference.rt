@@ -31,13 +31,11 @@ const READING_ORDER: [Package; 10] = [
 ];
 
 // The cell at which two models differ first in a package.
-fn package_apart(kind: Package, a: &FlowModel, b: &FlowModel) -> Option<Option<CellId>>
+fn package_apart(kind: Package, a: &FlowModel, b: &FlowModel) -> Result<(), Option<CellId>>
     requires size { HasSize b.now.grid }
     ensures { Finds (Shares kind a.now b.now) (IsCell kind a.now b.now) result }
 {
-    if let Some(cell) = head_apart(kind, a, b) {
-        return Some(cell);
-    }
+    head_apart(kind, a, b)?;
     periods_apart(
         kind,
         b.grid.cell_count(),
@@ -56,7 +54,7 @@ pub fn first_difference(first: &FlowModel, second: &FlowModel) -> Option<Differe
     ensures cell { IfSome result (λ d. IfSome d.cell (λ c. c.0 < cell_count second.now.grid)) }
 {
     for kind in READING_ORDER {
-        if let Some(cell) = package_apart(kind, first, second) {
+        if let Err(cell) = package_apart(kind, first, second) {
             return Some(Difference {
                 package: kind,
                 cell,

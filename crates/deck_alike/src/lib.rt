@@ -1,7 +1,6 @@
 //! Whether two models are alike, so that models lie between them, and where they differ first.
 #![tactic(auto)]
 
-mod areas;
 mod cells;
 mod difference;
 pub mod laws;

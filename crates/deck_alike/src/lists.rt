@@ -1,79 +1,43 @@
 // The first difference of two lists, and of two arrays.
-ghost use Rattle.std.specs.Prelude.{◌≡◌, ℕ, MatchBool, MatchOption, length};
+ghost use Rattle.std.specs.Prelude.{◌≡◌, None, ℕ, MatchBool, MatchOption, length};
 ghost use Rattle.std.specs.List.{AllZip};
 ghost use Rattle.model_types.specs.{cell_of};
 ghost use Rattle.deck_span.specs.{AreRatesAlike, AreEntriesAlike, AreGivenAlike, IsGivenAtMost};
 ghost use Rattle.deck_alike.specs.Order.{Finds, IsArrayCell, IsListCell, AreSame, IsFirst};
 
-use crate::cells::numbered_cell;
+use crate::cells::{numbered_cell, place_apart};
 use crate::order::is_at_most;
 use decimal_input::dec::Dec;
 use model_types::{CellId, Entry, Given};
 
-/// An entry of a list, which has a cell.
-pub trait Placed {
-    ghost number: { Self → ℕ };
-
-    fn number(self) -> u32
-        ensures { result ≡ number self };
-}
-
-impl Placed for Entry {
-    ghost number = { cell_of };
-
-    fn number(self) -> u32 {
-        match self {
-            Entry::Well { cell, .. }
-            | Entry::River { cell, .. }
-            | Entry::Drain { cell, .. }
-            | Entry::General { cell, .. } => cell.0,
-        }
+// Whether two lists have one length. A length has no cell.
+pub fn same_length<T>(xs: &[T], ys: &[T]) -> Result<(), Option<CellId>>
+    ensures { Finds (length ys.now ≡ length xs.now) (λ cell. cell ≡ None) result }
+{
+    if xs.len() == ys.len() {
+        Ok(())
+    } else {
+        Err(None)
     }
 }
 
-impl Placed for Given {
-    ghost number = { λ x. x.cell.0 };
-
-    fn number(self) -> u32 {
-        self.cell.0
-    }
-}
-
-/// The cell at which two lists differ first: that of the second one's entry.
-pub fn list_apart<T: Compared + Placed + Drop>(
-    cells: u32,
-    xs: &[T],
-    ys: &[T],
-) -> Option<Option<CellId>>
+/// The cell at which two lists or arrays differ first: that of the second one's item.
+pub fn list_apart<T: Compared + Drop>(cells: u32, xs: &[T], ys: &[T]) -> Result<(), Option<CellId>>
     ensures { Finds (AllZip T.alike xs.now ys.now) (IsListCell T.alike T.number cells xs.now ys.now) result }
 {
-    if xs.len() != ys.len() {
-        return Some(None);
+    same_length(xs, ys)?;
+    match first_apart(xs, ys) {
+        None => Ok(()),
+        Some(place) => Err(numbered_cell(cells, ys[place].number(place))),
     }
-    let place = first_apart(xs, ys)?;
-    Some(numbered_cell(cells, ys[place].number() as usize))
-}
-
-/// The cell at which two arrays differ first.
-pub fn array_apart<T: Compared + Drop>(cells: u32, xs: &[T], ys: &[T]) -> Option<Option<CellId>>
-    ensures { Finds (AllZip T.alike xs.now ys.now) (IsArrayCell T.alike cells xs.now ys.now) result }
-{
-    if xs.len() != ys.len() {
-        return Some(None);
-    }
-    let place = first_apart(xs, ys)?;
-    Some(numbered_cell(cells, place))
 }
 
 /// The cell at which one of two rates is 0 and the other isn't.
-pub fn idle_apart(cells: u32, xs: &[Dec], ys: &[Dec]) -> Option<Option<CellId>>
+pub fn idle_apart(cells: u32, xs: &[Dec], ys: &[Dec]) -> Result<(), Option<CellId>>
     ensures { Finds (AllZip AreRatesAlike xs.now ys.now) (IsArrayCell AreRatesAlike cells xs.now ys.now) result }
 {
-    if xs.len() != ys.len() {
-        return Some(None);
-    }
-    let place = first_idle_apart(xs, ys)?;
-    Some(numbered_cell(cells, place))
+    same_length(xs, ys)?;
+    place_apart(cells, first_idle_apart(xs, ys))
 }
 
 // The items of lists and arrays, and the first place at which two lists differ.
@@ -82,28 +46,48 @@ pub fn idle_apart(cells: u32, xs: &[Dec], ys: &[Dec]) -> Option<Option<CellId>>
 pub trait Compared: Copy {
     ghost alike: { Self → Self → Type 0 };
 
+    ghost number: { ℕ → Self → ℕ };
+
     fn is_alike(self, other: Self) -> bool
         ensures { MatchBool result (alike self other) (alike self other → ⊥) };
+
+    /// The number of its cell, where it has this place in a list.
+    fn number(self, place: usize) -> usize
+        ensures { result ≡ number place self };
 }
 
 impl Compared for Dec {
     ghost alike = { AreSame };
 
+    ghost number = { λ place x. place };
+
     fn is_alike(self, other: Dec) -> bool {
         self == other
+    }
+
+    fn number(self, place: usize) -> usize {
+        place
     }
 }
 
 impl Compared for i64 {
     ghost alike = { AreSame };
 
+    ghost number = { λ place x. place };
+
     fn is_alike(self, other: i64) -> bool {
         self == other
+    }
+
+    fn number(self, place: usize) -> usize {
+        place
     }
 }
 
 impl Compared for Entry {
     ghost alike = { AreEntriesAlike };
+
+    ghost number = { λ place x. cell_of x };
 
     fn is_alike(self, other: Entry) -> bool {
         match self {
@@ -115,6 +99,15 @@ impl Compared for Entry {
                 matches!(other, Entry::Drain { cell: c, .. } if c.0 == cell.0),
             Entry::General { cell, .. } =>
                 matches!(other, Entry::General { cell: c, .. } if c.0 == cell.0),
+        }
+    }
+
+    fn number(self, _place: usize) -> usize {
+        match self {
+            Entry::Well { cell, .. }
+            | Entry::River { cell, .. }
+            | Entry::Drain { cell, .. }
+            | Entry::General { cell, .. } => cell.0 as usize,
         }
     }
 }
@@ -129,8 +122,14 @@ fn are_at_most(a: Given, b: Given) -> bool
 impl Compared for Given {
     ghost alike = { AreGivenAlike };
 
+    ghost number = { λ place x. x.cell.0 };
+
     fn is_alike(self, other: Given) -> bool {
         self.cell.0 == other.cell.0 && (are_at_most(self, other) || are_at_most(other, self))
+    }
+
+    fn number(self, _place: usize) -> usize {
+        self.cell.0 as usize
     }
 }
 

@@ -6,24 +6,17 @@ ghost use Rattle.name_file.specs.declared.package.Package.TheVariants.{Bas, Dis,
 ghost use Rattle.deck_alike.specs.{Finds, IsLayerCell, AreArraysSame, IsFound, SharesBounds, SharesGrid, SharesHead, SharesProperties, IsHeadCell};
 ghost use Rattle.deck_alike.specs.{SharesCounts, SharesLengths, SharesOptions, SharesSizes, SharesWidths, bottoms, properties};
 
-use crate::cells::{earlier_place, numbered_cell};
-use crate::lists::{Compared, array_apart, first_apart};
+use crate::cells::{earlier_place, place_apart};
+use crate::lists::{Compared, first_apart, list_apart, same_length};
 use decimal_input::dec::Dec;
 use model_types::{CellId, FlowModel, Grid};
 use name_file::Package;
 
-// Whether two lengths differ, which have no cell.
-fn lengths_apart(x: usize, y: usize) -> Option<Option<CellId>>
+// Whether two options are the same. An option has no cell.
+fn same_option(x: i64, y: i64) -> Result<(), Option<CellId>>
     ensures { Finds (y ≡ x) (λ cell. cell ≡ None) result }
 {
-    if x == y { None } else { Some(None) }
-}
-
-// Whether two options differ, which have no cell.
-fn options_apart(x: i64, y: i64) -> Option<Option<CellId>>
-    ensures { Finds (y ≡ x) (λ cell. cell ≡ None) result }
-{
-    if x == y { None } else { Some(None) }
+    if x == y { Ok(()) } else { Err(None) }
 }
 
 // Whether two arrays are alike.
@@ -88,49 +81,40 @@ fn bottom_place(layer_size: u32, a: &Grid, b: &Grid) -> Option<usize>
 }
 
 // The cell at which the bottoms of layers and beds differ first.
-fn bottoms_apart(a: &Grid, b: &Grid) -> Option<Option<CellId>>
+fn bottoms_apart(a: &Grid, b: &Grid) -> Result<(), Option<CellId>>
     requires size { HasSize b.now }
     requires bottom { length b.now.bottom ≡ length a.now.bottom }
     requires bed_bottom { length b.now.bed_bottom ≡ length a.now.bed_bottom }
     ensures { Finds (AreArraysSame (bottoms a.now) (bottoms b.now)) (IsLayerCell (layer_size b.now) (cell_count b.now) (bottoms a.now) (bottoms b.now)) result }
 {
-    let size = b.layer_size();
-    let cells = b.cell_count();
-    match bottom_place(size, a, b) {
-        None => None,
-        Some(place) => Some(numbered_cell(cells, place)),
-    }
+    place_apart(b.cell_count(), bottom_place(b.layer_size(), a, b))
 }
 
-fn grid_apart(a: &FlowModel, b: &FlowModel) -> Option<Option<CellId>>
+fn grid_apart(a: &FlowModel, b: &FlowModel) -> Result<(), Option<CellId>>
     requires size { HasSize b.now.grid }
     ensures { Finds (SharesGrid a.now b.now) (IsHeadCell Dis a.now b.now) result }
 {
     if !are_sizes_same(a, b) {
-        return Some(None);
+        return Err(None);
     }
-    match array_apart(
+    list_apart(
         b.grid.cell_count(),
         a.grid.top.as_slice(),
         b.grid.top.as_slice(),
-    ) {
-        Some(cell) => Some(cell),
-        None => bottoms_apart(&a.grid, &b.grid),
-    }
+    )?;
+    bottoms_apart(&a.grid, &b.grid)
 }
 
-fn bounds_apart(a: &FlowModel, b: &FlowModel) -> Option<Option<CellId>>
+fn bounds_apart(a: &FlowModel, b: &FlowModel) -> Result<(), Option<CellId>>
     requires size { HasSize b.now.grid }
     ensures { Finds (SharesBounds a.now b.now) (IsHeadCell Bas a.now b.now) result }
 {
-    if let Some(cell) = array_apart(
+    list_apart(
         b.grid.cell_count(),
         a.ibound.as_slice(),
         b.ibound.as_slice(),
-    ) {
-        return Some(cell);
-    }
-    lengths_apart(a.strt.as_slice().len(), b.strt.as_slice().len())
+    )?;
+    same_length(a.strt.as_slice(), b.strt.as_slice())
 }
 
 // Whether the arrays of LPF have the same lengths.
@@ -169,23 +153,21 @@ fn property_place(layer_size: u32, a: &FlowModel, b: &FlowModel) -> Option<usize
     earlier_place(layer_size, hk, across)
 }
 
-fn properties_apart(a: &FlowModel, b: &FlowModel) -> Option<Option<CellId>>
+fn properties_apart(a: &FlowModel, b: &FlowModel) -> Result<(), Option<CellId>>
     requires size { HasSize b.now.grid }
     ensures { Finds (SharesProperties a.now b.now) (IsHeadCell Lpf a.now b.now) result }
 {
     if !are_options_same(a, b) {
-        return Some(None);
+        return Err(None);
     }
-    let size = b.grid.layer_size();
-    let cells = b.grid.cell_count();
-    match property_place(size, a, b) {
-        None => None,
-        Some(place) => Some(numbered_cell(cells, place)),
-    }
+    place_apart(
+        b.grid.cell_count(),
+        property_place(b.grid.layer_size(), a, b),
+    )
 }
 
 /// The cell at which two models differ first in what a package has once.
-pub fn head_apart(kind: Package, a: &FlowModel, b: &FlowModel) -> Option<Option<CellId>>
+pub fn head_apart(kind: Package, a: &FlowModel, b: &FlowModel) -> Result<(), Option<CellId>>
     requires size { HasSize b.now.grid }
     ensures { Finds (SharesHead kind a.now b.now) (IsHeadCell kind a.now b.now) result }
 {
@@ -193,8 +175,8 @@ pub fn head_apart(kind: Package, a: &FlowModel, b: &FlowModel) -> Option<Option<
         Package::Dis => grid_apart(a, b),
         Package::Bas => bounds_apart(a, b),
         Package::Lpf => properties_apart(a, b),
-        Package::Rch => options_apart(a.nrchop, b.nrchop),
-        Package::Evt => options_apart(a.nevtop, b.nevtop),
-        Package::Wel | Package::Riv | Package::Drn | Package::Ghb | Package::Chd => None,
+        Package::Rch => same_option(a.nrchop, b.nrchop),
+        Package::Evt => same_option(a.nevtop, b.nevtop),
+        Package::Wel | Package::Riv | Package::Drn | Package::Ghb | Package::Chd => Ok(()),
     }
 }

@@ -19,20 +19,6 @@ fn shifted_digits(m: u64, places: u64) -> u128
     }
 }
 
-// Whether m * 10 ^ places is at most n.
-fn is_shifted_at_most(m: u64, places: u64, n: u64) -> bool
-    ensures { MatchBool result (m * 10 ^ places ≤ n) (m * 10 ^ places ≤ n → ⊥) }
-{
-    shifted_digits(m, places) <= n as u128
-}
-
-// Whether n is at most m * 10 ^ places.
-fn is_at_most_shifted(n: u64, m: u64, places: u64) -> bool
-    ensures { MatchBool result (n ≤ m * 10 ^ places) (n ≤ m * 10 ^ places → ⊥) }
-{
-    n as u128 <= shifted_digits(m, places)
-}
-
 // Whether the magnitude of one number is at most that of another.
 fn is_smaller(a: Dec, b: Dec) -> bool
     ensures { MatchBool result (IsRatioAtMost (size a) (size b)) (IsRatioAtMost (size a) (size b) → ⊥) }
@@ -40,9 +26,9 @@ fn is_smaller(a: Dec, b: Dec) -> bool
     let shift = a.exp as i64 - b.exp as i64;
     let places = shift.unsigned_abs();
     if shift >= 0 {
-        is_shifted_at_most(a.digits, places, b.digits)
+        shifted_digits(a.digits, places) <= b.digits as u128
     } else {
-        is_at_most_shifted(a.digits, b.digits, places)
+        a.digits as u128 <= shifted_digits(b.digits, places)
     }
 }
 

@@ -1,10 +1,16 @@
 -- A discretization, one item behind the other.
 use Rattle.dis_package.proofs.Common.{◌≡◌, refl, ℕ, ℤ, List, Ok, Err, FileSet, Left, left_from, without_comments, Stops, StopsText, Period, grid_of, periods_of}
-use Rattle.dis_package.proofs.Common.{begun, head_of, dis_of, Frame, Limits, input_fault}
+use Rattle.dis_package.proofs.Common.{begun, beds_of, frame_of, head_of, dis_of, line_at, words, Frame, Limits, Numbered, input_fault}
 use Rattle.outside.specs.declared.inputs.TextFault.{TextFault}
 use Rattle.outside.specs.declared.inputs.TextFault.TheVariants.{Refused, Memory}
 use Rattle.model_types.specs.declared.grid.Grid.{Grid}
 use Rattle.model_types.specs.declared.model.FlowModel.{FlowModel}
+
+-- the first line and LAYCBD
+pub head_read : (limits : Limits) (file : List ℕ) (left rest after : Left) (line : Numbered) (ws : List (List ℕ)) (frame : Frame) (laycbd : List ℤ) → line_at file left ≡ Ok (line, rest) → ws ≡ words line.bytes
+    → frame_of limits file line.number ws ≡ Ok frame → beds_of file frame.size.layers rest ≡ Ok (laycbd, after) → head_of limits file left ≡ Ok ((frame, laycbd), after)
+unfolding head_of
+head_read limits file left rest after line ws frame laycbd a w b d = rw (a, ← w, b, d) refl
 
 pub dis_read : (limits : Limits) (files : FileSet) (file bytes : List ℕ) (left : Left) (head : (Frame × List ℤ) × Left) (grid : Grid × Left) (periods : List Period) (m : FlowModel)
     → left ≡ without_comments (left_from 1 bytes)

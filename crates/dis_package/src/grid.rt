@@ -1,12 +1,12 @@
 // Widths and elevations.
 ghost use Rattle.std.specs.Prelude.{◌≡◌, ◌-◌, pos, IfOk, length, All, List};
 ghost use Rattle.outside.specs.{FileSet, ReadsOn, TextMay};
-ghost use Rattle.record_lines.specs.{LinesMay, Gives, Has, GivesText};
+ghost use Rattle.record_lines.specs.{LinesMay, Gives, Has};
 ghost use Rattle.model_types.specs.{IsGrid, IsPositive, int_at};
-ghost use Rattle.dis_package.specs.{IsSize, IsFrame, IsBegun, widths, grid_of, begun, head_of, dis_of};
+ghost use Rattle.dis_package.specs.{IsSize, IsBegun, widths, grid_of, begun, dis_of};
 
 use crate::bottoms::bottoms_of;
-use crate::frame::{Frame, Size, beds_of, frame_of};
+use crate::frame::{Size, beds_of, frame_of};
 use crate::periods::periods_of;
 use array_reader::{next_line, read_array, read_layer};
 use decimal_input::dec::Dec;
@@ -77,28 +77,8 @@ pub fn grid_of<F: Folder>(
 
 // The model as DIS begins it.
 
-/// The first line, and LAYCBD.
-#[tactic(auto, unfolding(crate::specs::Frames::head_of))]
-fn head_of(
-    alloc: Global,
-    limits: Limits,
-    lines: &mut Lines,
-    file: &str,
-) -> Result<(Frame, Vec<i64>), TextFault>
-    ensures head { GivesText (λ h. (h.0, h.1.items)) result lines.new (head_of limits file.now lines.old) }
-    ensures frame { IfOk result (λ h. IsFrame h.0) }
-    ensures beds { IfOk result (λ h. length h.1.items ≡ h.0.size.layers) }
-    ensures last { IfOk result (λ h. int_at h.1.items (h.0.size.layers - 1) ≡ pos 0) }
-{
-    let line = next_line(alloc, lines, file)?;
-    let mut words = Words::of(&line);
-    let frame = frame_of(alloc, limits, &mut words, file, line.number)?;
-    let laycbd = beds_of(alloc, lines, file, frame.size.layers)?;
-    Ok((frame, laycbd))
-}
-
 /// A model of which only this has been read.
-fn begun(alloc: Global, grid: Grid, lenuni: i64, periods: Vec<Period>) -> FlowModel
+fn begun_model(alloc: Global, grid: Grid, lenuni: i64, periods: Vec<Period>) -> FlowModel
     ensures { result ≡ begun grid lenuni periods.items }
 {
     FlowModel {
@@ -126,7 +106,7 @@ fn begun(alloc: Global, grid: Grid, lenuni: i64, periods: Vec<Period>) -> FlowMo
 /// # Errors
 /// The first item that is wrong is refused on its line; a read fault comes only from the folder.
 /// (TM 6-A16, DIS)
-#[tactic(auto, unfolding(crate::specs::Frames::dis_of))]
+#[tactic(auto, unfolding(crate::specs::Frames::dis_of, crate::specs::Frames::head_of))]
 pub fn read_dis<F: Folder>(
     alloc: Global,
     limits: Limits,
@@ -141,8 +121,11 @@ pub fn read_dis<F: Folder>(
 {
     let mut lines = Lines::new(bytes);
     lines.skip_comments();
-    let (frame, laycbd) = head_of(alloc, limits, &mut lines, file)?;
+    let line = next_line(alloc, &mut lines, file)?;
+    let mut words = Words::of(&line);
+    let frame = frame_of(alloc, limits, &mut words, file, line.number)?;
+    let laycbd = beds_of(alloc, &mut lines, file, frame.size.layers)?;
     let grid = grid_of(alloc, &mut lines, file, folder, &frame.size, laycbd)?;
     let periods = periods_of(alloc, &mut lines, file, frame.periods)?;
-    Ok(begun(alloc, grid, frame.lenuni, periods))
+    Ok(begun_model(alloc, grid, frame.lenuni, periods))
 }

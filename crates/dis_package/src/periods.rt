@@ -1,6 +1,6 @@
 // The stress periods.
 ghost use Rattle.std.specs.Prelude.{◌≡◌, ◌+◌, ◌≤◌, IfOk, length, All, sum_by, []};
-ghost use Rattle.record_lines.specs.{GivesText, HasText, repeated};
+ghost use Rattle.record_lines.specs.{GivesText, HasText};
 ghost use Rattle.dis_package.specs.{period_at, period_of, periods_of, kind_of, is_growth, is_time, time_of, IsNewPeriod, IsTime};
 ghost use Rattle.decimal_input.specs.{IsDec};
 
@@ -51,27 +51,6 @@ fn period_at(
     Ok(period_of(&time))
 }
 
-fn list_of(
-    alloc: Global,
-    lines: &mut Lines,
-    file: &str,
-    count: u32,
-    steps: &mut u32,
-) -> Result<Vec<Period>, TextFault>
-    requires { steps.old ≡ 0 }
-    ensures periods { GivesText (λ v. v.items) result (steps.new, lines.new) (repeated count (period_at file.now) (steps.old, lines.old)) }
-    ensures count { IfOk result (λ v. length v.items ≡ count) }
-    ensures steps { IfOk result (λ v. sum_by (λ p. p.nstp) v.items ≤ 100000) }
-    ensures form { IfOk result (λ v. All IsNewPeriod v.items) }
-{
-    let mut periods = Vec::new(alloc);
-    for _ in 0..count {
-        let period = period_at(alloc, lines, file, steps)?;
-        periods.push(period)?;
-    }
-    Ok(periods)
-}
-
 /// Reads `count` periods, which have at most 100000 steps in all.
 #[tactic(auto, unfolding(crate::specs::Frames::periods_of))]
 pub fn periods_of(
@@ -86,7 +65,11 @@ pub fn periods_of(
     ensures form { IfOk result (λ v. All IsNewPeriod v.items) }
 {
     let mut steps = 0;
-    let periods = list_of(alloc, lines, file, count, &mut steps)?;
+    let mut periods = Vec::new(alloc);
+    for _ in 0..count {
+        let period = period_at(alloc, lines, file, &mut steps)?;
+        periods.push(period)?;
+    }
     Ok(periods)
 }
 

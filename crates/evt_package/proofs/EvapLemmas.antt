@@ -1,27 +1,12 @@
 -- What evaporates from a model whose columns passed their tests is in limits.
-use Rattle.evt_package.proofs.Common.{◌≡◌, ◌⊎◌, inl, inr, ℕ, zero, suc, ◌+◌, ◌≤◌, ◌<◌, ℤ, pos, neg_ℤ, ◌+ℤ◌, ◌≤ℤ◌, Bool, true, false, not, ◌&&◌, ◌==◌, nat_le}
-use Rattle.evt_package.proofs.Common.{Option, Some, None, Result, Ok, Err, refl, sym, arith, if◌then◌else◌, leb_tells, ints, ◌>>=◌, counted, EvapSource}
+use Rattle.evt_package.proofs.Common.{◌≡◌, ℕ, zero, suc, ◌+◌, ◌≤◌, ◌<◌, ℤ, pos, neg_ℤ, ◌+ℤ◌, ◌≤ℤ◌, Bool, true, false, not, ◌&&◌, ◌==◌}
+use Rattle.evt_package.proofs.Common.{Option, Some, None, refl, sym, arith, if◌then◌else◌, ints, EvapSource}
 use Rattle.evt_package.proofs.Common.{IsEvapValid, is_positive, evap_fault, has_extinction, is_reached, is_head}
 use Rattle.decimal_input.specs.{floor, ceiling, IsDec}
 use Rattle.decimal_input.proofs.SignedFloors.{floor_means, ceiling_means}
 use Rattle.outside.specs.declared.codes.Code.TheVariants.{BadProperty, HeadTooLarge}
-use Rattle.outside.specs.declared.inputs.Refusal.{Refusal}
 use Rattle.number_limits.proofs.HeadLemmas.{head_of}
 use Rattle.number_limits.proofs.SignLemmas.{positive_of}
-
--- each of the steps that passed
-pub each_step : (step : ℕ → Unit {0} → Result (Unit {0}) Refusal) (n c : ℕ) → counted step c n tt ≡ Ok tt → (k : ℕ) → c ≤ k → k < c + n → step k tt ≡ Ok tt
-unfolding counted
-each_step step zero c h k low high = absurd (omega (arith, low, high))
-each_step step (suc n) c h k low high = by_case (λ so l. each_step step n (c + 1) so k l (omega (arith, high))) (step c tt) refl h (leb_tells (c + 1) k)
-  where
-    by_case : (counted step (c + 1) n tt ≡ Ok tt → c + 1 ≤ k → step k tt ≡ Ok tt) → (x : Result (Unit {0}) Refusal) → step c tt ≡ x → (x >>= counted step (c + 1) n) ≡ Ok tt
-        → ((nat_le (c + 1) k ≡ true) × (c + 1 ≤ k)) ⊎ ((nat_le (c + 1) k ≡ false) × (k < c + 1)) → step k tt ≡ Ok tt
-    by_case others (Ok u) e so (inl a) = others so a.1
-    by_case others (Ok u) e so (inr a) =
-        let same : k ≡ c = omega (arith, a.1, low) in
-        rw same e
-    by_case others (Err r) e so t = absurd (cc)
 
 -- a source without a fault whose rate isn't 0
 pub source_sound : (x : EvapSource) → IsDec x.rate → IsDec x.surface → IsDec x.depth → evap_fault x ≡ None → (x.rate.digits == 0) ≡ false → IsEvapValid x

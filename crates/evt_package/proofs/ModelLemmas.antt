@@ -4,7 +4,7 @@ use Rattle.evt_package.proofs.Common.{Some, None, Ok, length, refl, sym, ap, sub
 use Rattle.evt_package.proofs.Common.{cell_count, layer_size, place_in_layer, HasSize, dec_at, is_active, is_chosen, IsEvapValid, IsModel, IsPeriod}
 use Rattle.evt_package.proofs.Common.{evap_sources, no_period, period_at, int_at, is_nonzero, size_some, cell_tested, column_step, column_tested}
 use Rattle.evt_package.proofs.Common.{columns_tested, source, evap_fault, area_in, evaporation_arrays, HasEvaporation, IsEvaporating, AreArrays, SameBut}
-use Rattle.evt_package.proofs.Common.{with_evaporation, highest_active}
+use Rattle.evt_package.proofs.Common.{with_evaporation, highest_active, each_step}
 use Rattle.std.specs.Option.{option_to_list}
 use Rattle.std.proofs.lemmas.List.Elements.{All-nil, All-cons, All-weaker}
 use Rattle.period_arrays.specs.{without, contents, IsArea}
@@ -14,7 +14,7 @@ use Rattle.model_types.specs.declared.period.Period.{Period}
 use Rattle.number_limits.proofs.Canonical.{dec_at_is}
 use Rattle.list_package.proofs.ModelLemmas.{each_period, evaporation_of, replaced, same_view, sources_by, steps, with_stresses}
 use Rattle.evt_package.proofs.ChosenLemmas.{chosen_is}
-use Rattle.evt_package.proofs.EvapLemmas.{each_step, source_sound}
+use Rattle.evt_package.proofs.EvapLemmas.{source_sound}
 use Rattle.model_types.specs.declared.period.Stresses.{Stresses}
 use Rattle.period_arrays.specs.declared.area.Area.{Area}
 use Rattle.period_arrays.specs.declared.read.ArrayFile.{ArrayFile}

@@ -1,8 +1,7 @@
 // The cell of a column of layers that evaporates.
 ghost use Rattle.std.specs.Prelude.{◌≡◌, ◌+◌, ◌*◌, ◌<◌, ◌≤◌, IfSome};
 ghost use Rattle.model_types.specs.{cell_count, layer_size, HasSize};
-ghost use Rattle.number_limits.specs.{within};
-ghost use Rattle.evt_package.specs.{chosen_cell, highest_active, in_layer};
+ghost use Rattle.evt_package.specs.{chosen_cell, highest_active};
 
 use model_types::Grid;
 use model_types::layers::int_at;
@@ -37,18 +36,6 @@ fn highest_active(grid: &Grid, ibound: &[i64], column: u32) -> Option<u32>
     None
 }
 
-fn in_layer(grid: &Grid, column: u32, layer: i64) -> Option<u32>
-    requires size { HasSize grid.now }
-    requires column { column < layer_size grid.now }
-    ensures cell { result ≡ in_layer grid.now column (within layer grid.now.layers) }
-    ensures inside { IfSome result (λ c. c < cell_count grid.now) }
-{
-    match within(layer, grid.layers) {
-        Some(k) => Some(cell_in(grid, k - 1, column)),
-        None => None,
-    }
-}
-
 /// The cell of a column that the option chooses; None where there is none.
 #[tactic(auto, using(period_arrays::proofs::PlaceLemmas::in_grid))]
 pub fn chosen_cell(
@@ -66,7 +53,10 @@ pub fn chosen_cell(
     if *option == 1 {
         Some(column)
     } else if *option == 2 {
-        in_layer(grid, column, int_at(layers, column))
+        match within(int_at(layers, column), grid.layers) {
+            Some(k) => Some(cell_in(grid, k - 1, column)),
+            None => None,
+        }
     } else {
         highest_active(grid, ibound, column)
     }

@@ -2,9 +2,9 @@
 ghost use Rattle.std.specs.Prelude.{◌≡◌, ◌<◌, All, None, if◌then◌else◌, ◌^◌, IfSome, unsigned_abs};
 ghost use Rattle.decimal_input.specs.{IsDec};
 ghost use Rattle.record_lines.specs.{HasText};
-ghost use Rattle.model_types.specs.{cell_count, layer_size, HasSize, int_at, is_nonzero};
+ghost use Rattle.model_types.specs.{layer_size, HasSize, int_at, is_nonzero};
 ghost use Rattle.period_arrays.specs.{IsReals};
-ghost use Rattle.evt_package.specs.{cell_tested, column_step, columns_tested, source, evap_fault, has_extinction, is_reached};
+ghost use Rattle.evt_package.specs.{column_step, columns_tested, source, evap_fault, has_extinction, is_reached};
 
 use crate::chosen::chosen_cell;
 use decimal_input::dec::Dec;
@@ -16,29 +16,16 @@ use outside::{Code, TextFault};
 use period_arrays::{Area, cell_refused};
 use std::alloc::Global;
 
-fn cell_tested(
-    alloc: Global,
-    file: &str,
-    grid: &Grid,
-    cell: u32,
-    fault: Option<Code>,
-) -> Result<(), TextFault>
-    requires size { HasSize grid.now }
-    requires cell { cell < cell_count grid.now }
-    ensures { HasText (λ _. tt) result (cell_tested file.now grid.now cell fault) }
-{
-    match fault {
-        None => Ok(()),
-        Some(code) => Err(cell_refused(alloc, code, file, grid, cell)),
-    }
-}
-
+/// The fault of the cell that a column chooses, if that is active.
 #[tactic(auto, using(number_limits::proofs::Canonical::dec_at_is))]
-fn column_fault(area: &Area, column: u32) -> Option<Code>
+fn cell_fault(ibound: &[i64], area: &Area, column: u32, cell: u32) -> Option<Code>
     requires surfaces { All IsDec area.now.surfaces }
     requires depths { All IsDec area.now.depths }
-    ensures { result ≡ evap_fault (source area.now column) }
+    ensures { result ≡ if is_nonzero (int_at ibound.now cell) then evap_fault (source area.now column) else None }
 {
+    if int_at(ibound, cell) == 0 {
+        return None;
+    }
     evap_fault(
         dec_at(area.rates.as_slice(), column),
         dec_at(area.surfaces.as_slice(), column),
@@ -46,20 +33,7 @@ fn column_fault(area: &Area, column: u32) -> Option<Code>
     )
 }
 
-/// The fault of the cell that a column chooses, if that is active.
-fn cell_fault(ibound: &[i64], area: &Area, column: u32, cell: u32) -> Option<Code>
-    requires surfaces { All IsDec area.now.surfaces }
-    requires depths { All IsDec area.now.depths }
-    ensures { result ≡ if is_nonzero (int_at ibound.now cell) then evap_fault (source area.now column) else None }
-{
-    if int_at(ibound, cell) != 0 {
-        column_fault(area, column)
-    } else {
-        None
-    }
-}
-
-fn column_tested(
+fn test_column(
     alloc: Global,
     file: &str,
     grid: &Grid,
@@ -74,18 +48,18 @@ fn column_tested(
     requires column { column < layer_size grid.now }
     ensures { HasText (λ _. tt) result (column_step file.now grid.now ibound.now option.now area.now column tt) }
 {
-    match chosen_cell(grid, ibound, option, area.layers.as_slice(), column) {
-        Some(cell) => {
-            let fault = cell_fault(ibound, area, column, cell);
-            cell_tested(alloc, file, grid, cell, fault)
-        }
+    let Some(cell) = chosen_cell(grid, ibound, option, area.layers.as_slice(), column) else {
+        return Ok(());
+    };
+    match cell_fault(ibound, area, column, cell) {
         None => Ok(()),
+        Some(code) => Err(cell_refused(alloc, code, file, grid, cell)),
     }
 }
 
 /// Refuses the first column whose chosen cell is active and fails a test, at that cell.
 #[tactic(auto, unfolding(crate::specs::Evaporation::columns_tested))]
-pub fn columns_tested(
+pub fn test_columns(
     alloc: Global,
     file: &str,
     grid: &Grid,
@@ -100,7 +74,7 @@ pub fn columns_tested(
 {
     let columns = grid.layer_size();
     for column in 0..columns {
-        column_tested(alloc, file, grid, ibound, option, area, column)?;
+        test_column(alloc, file, grid, ibound, option, area, column)?;
     }
     Ok(())
 }

@@ -5,7 +5,7 @@ ghost use Rattle.record_lines.specs.{Has};
 ghost use Rattle.model_types.specs.{HasSize, IsModel};
 ghost use Rattle.evt_package.specs.Evaporation.{evaporation_arrays, evt_of, AreArrays, IsEvaporating, SameBut};
 
-use crate::columns::columns_tested;
+use crate::columns::test_columns;
 use model_types::{FlowModel, Grid, Stresses};
 use outside::{Folder, InputFault, TextFault};
 use period_arrays::{Area, ArrayPackage, read_arrays};
@@ -31,7 +31,7 @@ impl ArrayPackage for Evapotranspiration {
         option: &i64,
         area: &Area,
     ) -> Result<(), TextFault> {
-        columns_tested(alloc, file, grid, ibound, option, area)
+        test_columns(alloc, file, grid, ibound, option, area)
     }
 
     #[tactic(auto, using(crate::proofs::ModelLemmas::are_arrays))]

@@ -10,5 +10,5 @@ mod ChosenCells
 mod ReceivedFlows
 mod GivenAtSteps
 mod Solved
-mod Validity
+pub mod Validity
 mod Loose

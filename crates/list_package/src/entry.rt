@@ -117,32 +117,6 @@ fn entry_at<E: ListEntry>(
     Ok(entry)
 }
 
-/// Reads `count` entries.
-fn entries<E: ListEntry>(
-    alloc: Global,
-    lists: E::Lists,
-    lines: &mut Lines,
-    file: &str,
-    grid: &Grid,
-    count: u32,
-    marks: &mut Marks,
-) -> Result<Vec<E>, TextFault>
-    requires size { HasSize grid.now }
-    requires marks { marks.old ≡ no_marks (E.kind lists) grid.now }
-    ensures entries { GivesText (λ v. v.items) result (marks.new, lines.new) (repeated count (entry_at (E.kind lists) file.now grid.now) (marks.old, lines.old)) }
-    ensures count { IfOk result (λ v. length v.items ≡ count) }
-    ensures valid { IfOk result (λ v. All (E.Valid (cell_count grid.now)) v.items) }
-    ensures once { IfOk result (λ v. (E.kind lists).once ≡ true → AllPairs (Differ (E.kind lists)) v.items) }
-{
-    let mut list = Vec::new(alloc);
-    let mut numbers = Vec::new(alloc);
-    for _ in 0..count {
-        let entry = entry_at::<E>(alloc, lists, lines, file, grid, marks, &mut numbers)?;
-        list.push(entry)?;
-    }
-    Ok(list)
-}
-
 fn no_marks<E: ListEntry>(alloc: Global, lists: E::Lists, grid: &Grid) -> Result<Marks, TextFault>
     requires size { HasSize grid.now }
     ensures { HasText (λ m. m) result (Ok (no_marks (E.kind lists) grid.now)) }
@@ -171,6 +145,11 @@ pub fn new_list<E: ListEntry>(
     ensures form { IfOk result (λ v. IsList (E.kind lists) (E.Valid (cell_count grid.now)) v.items) }
 {
     let mut marks = no_marks::<E>(alloc, lists, grid)?;
-    let list = entries::<E>(alloc, lists, lines, file, grid, count, &mut marks)?;
+    let mut list = Vec::new(alloc);
+    let mut numbers = Vec::new(alloc);
+    for _ in 0..count {
+        let entry = entry_at::<E>(alloc, lists, lines, file, grid, &mut marks, &mut numbers)?;
+        list.push(entry)?;
+    }
     Ok(list)
 }

@@ -2,7 +2,7 @@
 ghost use Rattle.std.specs.Prelude.{◌≡◌, ◌↔◌, IsTrue, All, []};
 ghost use Rattle.std.specs.List.{list_all};
 ghost use Rattle.model_types.specs.{IsGivenValid};
-ghost use Rattle.list_package.specs.Entries.{given_heads, is_level, is_growing, suits_heads};
+ghost use Rattle.list_package.specs.Entries.{given_heads, is_level, is_growing};
 
 use crate::columns::Column;
 use crate::kind::ListEntry;
@@ -39,16 +39,6 @@ fn is_growing(period: &Period) -> bool
     period.steady && period.nstp > 1 && !is_one(period.tsmult)
 }
 
-fn suits_heads(period: &Period, list: &[Given]) -> bool
-    ensures { result ≡ suits_heads period.now list.now }
-{
-    if is_growing(period) {
-        all_level(list)
-    } else {
-        true
-    }
-}
-
 impl ListEntry for Given {
     type Lists = SpecifiedHeads;
 
@@ -73,7 +63,11 @@ impl ListEntry for Given {
     }
 
     fn suits(lists: SpecifiedHeads, period: &Period, list: &[Given]) -> bool {
-        suits_heads(period, list)
+        if is_growing(period) {
+            all_level(list)
+        } else {
+            true
+        }
     }
 
     fn put(lists: SpecifiedHeads, stresses: Stresses, list: Shared<Given>) -> Stresses

@@ -1,6 +1,6 @@
 // A list for each stress period.
 ghost use Rattle.std.specs.Prelude.{◌≡◌, IfOk, IfSome, All, map};
-ghost use Rattle.record_lines.specs.{GivesText, HasText, for_each};
+ghost use Rattle.record_lines.specs.{GivesText, HasText};
 ghost use Rattle.model_types.specs.{cell_count, HasSize};
 ghost use Rattle.list_package.specs.{IsList, with_list, without, list_at, list_of, period_at, periods_of, count_seen, IsFew};
 
@@ -108,32 +108,6 @@ fn period_at<E: ListEntry>(
     }
 }
 
-/// The periods with their lists, where `last` is the list of the period before.
-fn with_lists<E: ListEntry>(
-    alloc: Global,
-    limits: Limits,
-    lists: E::Lists,
-    lines: &mut Lines,
-    file: &str,
-    grid: &Grid,
-    periods: Vec<Period>,
-    last: &mut Option<Shared<E>>,
-) -> Result<Vec<Period>, TextFault>
-    requires size { HasSize grid.now }
-    requires last { IfSome last.old (IsList (E.kind lists) (E.Valid (cell_count grid.now))) }
-    ensures periods { GivesText (λ v. v.items) result (last.new, lines.new)
-        (for_each (period_at limits (E.kind lists) file.now grid.now) periods.items (last.old, lines.old)) }
-    ensures lists { IfOk result (λ v. All (λ p. IsList (E.kind lists) (E.Valid (cell_count grid.now)) ((E.kind lists).list p.stresses)) v.items) }
-    ensures others { IfOk result (λ v. map (without (E.kind lists)) v.items ≡ map (without (E.kind lists)) periods.items) }
-{
-    let mut whole = Vec::new(alloc);
-    for period in periods {
-        let period = period_at::<E>(alloc, limits, lists, lines, file, grid, period, last)?;
-        whole.push(period)?;
-    }
-    Ok(whole)
-}
-
 /// The periods with their lists.
 #[tactic(auto, unfolding(crate::specs::Entries::periods_of))]
 pub fn periods_of<E: ListEntry>(
@@ -151,6 +125,10 @@ pub fn periods_of<E: ListEntry>(
     ensures others { IfOk result (λ v. map (without (E.kind lists)) v.items ≡ map (without (E.kind lists)) periods.items) }
 {
     let mut last = None;
-    let periods = with_lists::<E>(alloc, limits, lists, lines, file, grid, periods, &mut last)?;
-    Ok(periods)
+    let mut whole = Vec::new(alloc);
+    for period in periods {
+        let period = period_at::<E>(alloc, limits, lists, lines, file, grid, period, &mut last)?;
+        whole.push(period)?;
+    }
+    Ok(whole)
 }

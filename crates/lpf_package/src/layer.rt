@@ -3,7 +3,7 @@ ghost use Rattle.std.specs.Prelude.{◌≡◌, ◌*◌, ◌++◌, cond, IfOk, le
 ghost use Rattle.decimal_input.specs.{IsDec};
 ghost use Rattle.outside.specs.{FileSet, ReadsOn};
 ghost use Rattle.record_lines.specs.{LinesMay, Gives};
-ghost use Rattle.lpf_package.specs.{AreLayers, storage_layer, properties_of, joined};
+ghost use Rattle.lpf_package.specs.{AreLayers, properties_of, joined};
 
 use array_reader::{layer_or, read_layer};
 use decimal_input::dec::Dec;
@@ -34,31 +34,8 @@ pub struct Layer {
     pub has_bed: bool,
 }
 
-/// SS, which only a model with a transient period has.
-#[tactic(auto, unfolding(crate::specs::Flow::storage_layer))]
-fn storage_layer<F: Folder>(
-    alloc: Global,
-    lines: &mut Lines,
-    file: &str,
-    folder: &mut F,
-    layer: &Layer,
-) -> Result<Vec<Dec>, InputFault>
-    requires lines { LinesMay (F.may folder.old) lines.old }
-    ensures folder { ReadsOn F.Folder folder.old folder.new result }
-    ensures lines { IfOk result (λ _. LinesMay (F.may folder.new) lines.new) }
-    ensures ss { (files : FileSet) → F.agrees folder.new files → Gives (λ v. v.items) result lines.new (storage_layer files file.now layer.now lines.old) }
-    ensures count { IfOk result (λ v. length v.items ≡ cond layer.now.stores (layer.now.rows * layer.now.cols) 0) }
-    ensures canonical { IfOk result (λ v. All IsDec v.items) }
-{
-    if layer.stores {
-        read_layer(alloc, lines, file, folder, layer.rows, layer.cols)
-    } else {
-        Ok(Vec::new(alloc))
-    }
-}
-
 /// The arrays of a layer: HK, HANI where CHANI isn't above 0, VKA, SS, and VKCB where a bed lies below.
-#[tactic(auto, unfolding(crate::specs::Flow::properties_of))]
+#[tactic(auto, unfolding(crate::specs::Flow::properties_of, crate::specs::Flow::storage_layer))]
 pub fn properties_of<F: Folder>(
     alloc: Global,
     lines: &mut Lines,
@@ -92,7 +69,11 @@ pub fn properties_of<F: Folder>(
         layer.chani,
     )?;
     let vka = read_layer(alloc, lines, file, folder, rows, cols)?;
-    let ss = storage_layer(alloc, lines, file, folder, layer)?;
+    let ss = if layer.stores {
+        read_layer(alloc, lines, file, folder, rows, cols)?
+    } else {
+        Vec::new(alloc)
+    };
     let vkcb = layer_or(alloc, lines, file, folder, rows, cols, layer.has_bed, none)?;
     Ok(Properties {
         hk: Listed::new(hk),

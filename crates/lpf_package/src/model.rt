@@ -3,7 +3,7 @@ ghost use Rattle.std.specs.Prelude.{◌≡◌, ◌*◌, cond, IfOk, length, not,
 ghost use Rattle.std.specs.List.{list_any};
 ghost use Rattle.outside.specs.{TextMay, FileSet, ReadsOn};
 ghost use Rattle.record_lines.specs.{Has};
-ghost use Rattle.lpf_package.specs.{AreLayers, HasProperties, contents_of, is_transient, with_contents, lpf_of, SameBut};
+ghost use Rattle.lpf_package.specs.{AreLayers, HasProperties, contents_of, is_transient, lpf_of, SameBut};
 
 use crate::layer::Properties;
 use crate::settings::{layers_of, option_line, settings_of};
@@ -24,21 +24,6 @@ pub struct Contents {
     pub coefficient: bool,
     pub layvka: Listed<i64>,
     pub properties: Properties,
-}
-
-fn with_contents(model: FlowModel, contents: Contents) -> FlowModel
-    ensures { result ≡ with_contents model contents }
-{
-    FlowModel {
-        coefficient: contents.coefficient,
-        layvka: contents.layvka,
-        hk: contents.properties.hk,
-        hani: contents.properties.hani,
-        vka: contents.properties.vka,
-        ss: contents.properties.ss,
-        vkcb: contents.properties.vkcb,
-        ..model
-    }
 }
 
 #[tactic(auto, unfolding(crate::specs::Flow::contents_of))]
@@ -102,5 +87,15 @@ pub fn read_lpf<F: Folder>(
 {
     let stores = is_transient(model.periods.as_slice());
     let contents = contents_of(alloc, file, bytes, folder, &model.grid, stores)?;
-    Ok(with_contents(model, contents))
+    let properties = contents.properties;
+    Ok(FlowModel {
+        coefficient: contents.coefficient,
+        layvka: contents.layvka,
+        hk: properties.hk,
+        hani: properties.hani,
+        vka: properties.vka,
+        ss: properties.ss,
+        vkcb: properties.vkcb,
+        ..model
+    })
 }

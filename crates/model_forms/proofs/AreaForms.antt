@@ -7,7 +7,7 @@ use Rattle.model_forms.proofs.Common.{is_option, option_at, is_negative, flag_at
 use Rattle.period_arrays.specs.declared.flags.Contents.{Contents}
 use Rattle.period_arrays.specs.declared.flags.Flags.{Flags}
 use Rattle.period_arrays.proofs.AreaLemmas.{is_area}
-use Rattle.evt_package.proofs.EvapLemmas.{each_step}
+use Rattle.record_lines.proofs.Loops.{each_step}
 use Rattle.model_forms.proofs.GridForms.{layer_is}
 
 -- What is read of the option and the flags of a package of arrays.

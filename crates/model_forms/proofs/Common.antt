@@ -47,8 +47,8 @@ pub use Rattle.model_text.specs.{IsLayers, IsListOf, IsOfBeds, IsReadAgain, IsRe
 unfoldable pub use Rattle.model_text.specs.{bas_item_1, bas_item_2, bas_item_3, bas_item_4, bas_lines, dis_item_1, dis_item_2, dis_item_3, dis_item_4}
 unfoldable pub use Rattle.model_text.specs.{dis_item_5, dis_item_6, dis_item_7, dis_lines, lpf_arrays, lpf_item_1, lpf_item_4, lpf_item_5, lpf_lines, lpf_zeros}
 unfoldable pub use Rattle.model_text.specs.{name_item, written}
-pub use Rattle.model_types.specs.{HasSize, IsGrid, IsGrowing, IsPositive, IsTimed, cell_count, int_at, is_int, is_nonzero, layer_size, most_bytes, most_cells}
-pub use Rattle.model_types.specs.{most_entries, most_in_row, most_layers, no_number, number_one}
+pub use Rattle.model_types.specs.{HasSize, IsGrid, IsGrowing, IsPeriod, IsPositive, IsTimed, cell_count, int_at, is_int, is_nonzero, layer_size, most_bytes}
+pub use Rattle.model_types.specs.{most_cells, most_entries, most_in_row, most_layers, no_number, number_one}
 pub use Rattle.model_types.specs.declared.grid.CellId.{CellId}
 pub use Rattle.model_types.specs.declared.grid.Grid.{Grid}
 pub use Rattle.model_types.specs.declared.limits.Limits.{Limits}

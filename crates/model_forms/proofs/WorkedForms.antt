@@ -1,12 +1,13 @@
 -- Three cells in a row are a writable model.
-use Rattle.model_forms.proofs.Common.{◌≡◌, ℕ, zero, suc, ◌%◌, ◌^◌, ◌<◌, ◌≤◌, ◌==◌, inr, true, false, not, pos, negsuc, List, [], ◌∷◌, length, replicate, All}
-use Rattle.model_forms.proofs.Common.{Some, None, Ok, refl, sym, ap, ◌∙◌, arith, list_all, All-nil, All-cons, All-replicate, All-from_recursion, IsDec, counted}
-use Rattle.model_forms.proofs.Common.{Dis, Period, no_number, IsGrid, IsPositive, IsTimed, no_number_is, checked, fault_at, Check, Thickness, given_heads, Kind}
-use Rattle.model_forms.proofs.Common.{wells, rivers, drains, generals, IsShort, number_word, integer_word, IsOfBeds, IsDiscretized, IsBasic, HasFlow, IsEntry}
+use Rattle.model_forms.proofs.Common.{◌≡◌, ℕ, zero, suc, ◌%◌, ◌^◌, ◌<◌, ◌≤◌, ◌==◌, inr, true, not, pos, negsuc, List, [], ◌∷◌, length, replicate, All, Some}
+use Rattle.model_forms.proofs.Common.{None, Ok, refl, sym, ap, ◌∙◌, arith, list_all, All-nil, All-cons, All-replicate, All-from_recursion, All-weaker, IsDec}
+use Rattle.model_forms.proofs.Common.{counted, Dis, Period, no_number, IsTimed, no_number_is, checked, fault_at, Check, Thickness, given_heads, Kind, wells}
+use Rattle.model_forms.proofs.Common.{rivers, drains, generals, IsShort, number_word, integer_word, IsOfBeds, IsDiscretized, IsBasic, HasFlow, IsEntry}
 use Rattle.model_forms.proofs.Common.{IsListOf, IsDry, IsStill, IsWritable, model_reads, all_plain, scaled, is_at_most, line_text, text, row_line, row_lines}
 use Rattle.model_forms.proofs.Common.{real_array, integer_array, written, ratio, units_of, is_thick, dis_lines, dis_item_1, dis_item_2, dis_item_3, dis_item_4}
 use Rattle.model_forms.proofs.Common.{dis_item_5, dis_item_6, dis_item_7, bas_lines, bas_item_1, bas_item_2, bas_item_3, bas_item_4, lpf_lines, lpf_item_1}
 use Rattle.model_forms.proofs.Common.{lpf_zeros, lpf_item_4, lpf_item_5, lpf_arrays, file_type, name_item, AreNames, word_by_test}
+use Rattle.model_forms.proofs.Common.{IsPeriod}
 use Rattle.std.specs.Fmt.{decimal as numeral}
 use Rattle.std.proofs.lemmas.Fmt.{decimal_digit}
 use Rattle.std.proofs.lemmas.Int.{ints}
@@ -14,6 +15,7 @@ use Rattle.name_file.specs.{package_of}
 use Rattle.model_types.specs.declared.limits.Limits.TheVariants.{Plain}
 use Rattle.name_file.specs.declared.package.Package.{Package}
 use Rattle.flow_equations.specs.{decimal, period_with, three_cells}
+use Rattle.flow_equations.proofs.Validity.{three_valid}
 use Rattle.model_text.proofs.PackageTexts.{type_is_word, type_reads}
 use Rattle.model_forms.specs.{name_of_deck, deck, ThreeCells}
 
@@ -39,46 +41,19 @@ zero_short = record { few = omega arith }
 layers_short : All IsShort (pos 0 ∷ [])
 layers_short = All-cons (λ z. IsShort z) (pos 0) [] zero_short (All-nil (λ z. IsShort z))
 
-one_dec : IsDec (decimal 1 0)
-one_dec = whole_dec 1 0 (omega arith) (omega arith) (omega arith) (omega arith)
-
-one_positive : IsPositive (decimal 1 0)
-one_positive = record { decimal = one_dec; sign = refl; positive = omega arith }
-
-grid : IsGrid three_cells.grid
-grid = record {
-  size = record { layers = (omega arith, omega arith); rows = (omega arith, omega arith); cols = (omega arith, omega arith); cells = omega arith };
-  delr = (refl, All-replicate IsPositive 3 (decimal 1 0) one_positive);
-  delc = (refl, All-cons IsPositive (decimal 1 0) [] one_positive (All-nil IsPositive));
-  top = (refl, ones);
-  bottom = (refl, zeros);
-  laycbd = refl;
-  no_last_bed = refl;
-  bed_bottom = (refl, zeros);
-}
-
-timed : IsTimed steady_period
-timed = record {
-  nstp = (omega arith, omega arith);
-  perlen = record { decimal = one_dec; sign = refl };
-  lasts = λ e. absurd (let clash : true ≡ false = e in cc);
-  tsmult = one_positive;
-  growth = λ e. absurd (let clash : true ≡ false = e in cc);
-}
-
 one_period : (P : Period → Type 0) → P steady_period → All P three_cells.periods
 one_period P h = All-cons P steady_period [] h (All-nil P)
 
 discretized : IsDiscretized three_cells
 discretized = record {
-  grid = grid;
+  grid = three_valid.grid;
   laycbd = layers_short;
   bed_bottom = of_beds;
   lenuni = record { few = omega arith };
-  some = omega arith;
-  few = omega arith;
-  steps = omega arith;
-  times = one_period IsTimed timed;
+  some = three_valid.some;
+  few = three_valid.few;
+  steps = three_valid.steps;
+  times = All-weaker (IsPeriod three_cells) IsTimed (λ p h. h.times) three_cells.periods three_valid.periods;
 }
 
 basic : IsBasic three_cells

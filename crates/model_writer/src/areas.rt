@@ -1,13 +1,12 @@
 // The files of RCH and EVT.
-ghost use Rattle.std.specs.Prelude.{◌≡◌, [], ◌∷◌, ◌++◌, codes, if◌then◌else◌, IfOk};
+ghost use Rattle.std.specs.Prelude.{◌≡◌, [], ◌++◌, if◌then◌else◌, IfOk};
 ghost use Rattle.std.specs.List.{flat_map};
 ghost use Rattle.model_types.specs.{is_int};
-ghost use Rattle.array_text.specs.{integer_array, text, integer_word};
+ghost use Rattle.array_text.specs.{integer_array, text};
 ghost use Rattle.model_text.specs.{evt_items, evt_lines, rch_items, rch_lines};
-ghost use Rattle.model_writer.specs.{line_bytes};
 
 use crate::arrays::push_array;
-use crate::words::Word;
+use crate::lines::push_with_zero;
 use model_types::{FlowModel, Grid, Period};
 use std::alloc::AllocError;
 
@@ -15,15 +14,6 @@ fn is_two(option: i64) -> bool
     ensures { result ≡ is_int option 2 }
 {
     option == 2
-}
-
-/// Appends the line of NRCHOP or NEVTOP, and a 0.
-#[tactic(auto, using(crate::proofs::Texts::texts), unfolding(crate::specs::Lists::line_bytes, array_text::specs::Lines::line_text))]
-fn push_choice(bytes: &mut Vec<u8>, option: i64) -> Result<(), AllocError>
-    ensures { IfOk result (λ _. bytes.new.items ≡ bytes.old.items ++ line_bytes (integer_word option ∷ codes "0" ∷ [])) }
-{
-    option.push_to(bytes)?;
-    bytes.extend_from_slice(b" 0\n")
 }
 
 /// Appends IRCH or IEVT where NRCHOP or NEVTOP is 2.
@@ -73,7 +63,7 @@ fn push_recharge_of_periods(bytes: &mut Vec<u8>, model: &FlowModel) -> Result<()
 pub(crate) fn push_rch(bytes: &mut Vec<u8>, model: &FlowModel) -> Result<(), AllocError>
     ensures { IfOk result (λ _. bytes.new.items ≡ bytes.old.items ++ text (rch_lines model.now)) }
 {
-    push_choice(bytes, model.nrchop)?;
+    push_with_zero(bytes, &model.nrchop)?;
     push_recharge_of_periods(bytes, model)
 }
 
@@ -108,6 +98,6 @@ fn push_evaporation_of_periods(bytes: &mut Vec<u8>, model: &FlowModel) -> Result
 pub(crate) fn push_evt(bytes: &mut Vec<u8>, model: &FlowModel) -> Result<(), AllocError>
     ensures { IfOk result (λ _. bytes.new.items ≡ bytes.old.items ++ text (evt_lines model.now)) }
 {
-    push_choice(bytes, model.nevtop)?;
+    push_with_zero(bytes, &model.nevtop)?;
     push_evaporation_of_periods(bytes, model)
 }

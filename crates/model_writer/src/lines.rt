@@ -1,5 +1,5 @@
 // Values as a line.
-ghost use Rattle.std.specs.Prelude.{◌≡◌, ◌++◌, IfOk, ℕ, List, [], ◌∷◌, codes, decimal, map, max, fold, length};
+ghost use Rattle.std.specs.Prelude.{◌≡◌, ◌++◌, IfOk, ℕ, List, [], ◌∷◌, codes, map, max, fold, length};
 ghost use Rattle.array_text.specs.{row_line, text};
 ghost use Rattle.model_writer.specs.{line_bytes, spaced, entry_line};
 ghost use Rattle.std.specs.List.{flat_map};
@@ -42,6 +42,15 @@ pub(crate) fn push_line<T: Word>(bytes: &mut Vec<u8>, values: &[T]) -> Result<()
     Ok(())
 }
 
+/// Appends the line of a value, and a 0.
+#[tactic(auto, using(crate::proofs::Texts::texts), unfolding(crate::specs::Lists::line_bytes, array_text::specs::Lines::line_text))]
+pub(crate) fn push_with_zero<T: Word>(bytes: &mut Vec<u8>, value: &T) -> Result<(), AllocError>
+    ensures { IfOk result (λ _. bytes.new.items ≡ bytes.old.items ++ line_bytes (T.word value.now ∷ codes "0" ∷ [])) }
+{
+    value.push_to(bytes)?;
+    bytes.extend_from_slice(b" 0\n")
+}
+
 // The files of list packages.
 
 /// The layer, the row and the column of a cell, each counted from 1.
@@ -56,15 +65,6 @@ fn place_of(grid: &Grid, cell: CellId) -> [usize; 3]
         cell / cols % grid.rows as usize + 1,
         cell % cols + 1,
     ]
-}
-
-/// Appends the line of a count of entries, and a 0.
-#[tactic(auto, unfolding(crate::specs::Lists::line_bytes, array_text::specs::Lines::line_text))]
-fn push_count(bytes: &mut Vec<u8>, count: usize) -> Result<(), AllocError>
-    ensures { IfOk result (λ _. bytes.new.items ≡ bytes.old.items ++ line_bytes (decimal count ∷ codes "0" ∷ [])) }
-{
-    count.push_to(bytes)?;
-    bytes.extend_from_slice(b" 0\n")
 }
 
 #[tactic(auto, using(crate::proofs::ListTexts::entry_bytes, crate::proofs::Texts::texts))]
@@ -97,7 +97,7 @@ fn push_list<E: ListEntry>(bytes: &mut Vec<u8>, grid: &Grid, list: &[E]) -> Resu
     requires { HasSize grid.now }
     ensures { IfOk result (λ _. bytes.new.items ≡ bytes.old.items ++ text (period_list grid.now E.number E.numbers list.now)) }
 {
-    push_count(bytes, list.len())?;
+    push_with_zero(bytes, &list.len())?;
     push_entries(bytes, grid, list)
 }
 
@@ -141,6 +141,6 @@ pub(crate) fn push_lists<E: ListEntry>(
     ensures { IfOk result (λ _. bytes.new.items ≡ bytes.old.items
         ++ text (list_lines grid.now E.number E.numbers (map (E.list kind) periods.now))) }
 {
-    push_count(bytes, most_entries::<E>(kind, periods))?;
+    push_with_zero(bytes, &most_entries::<E>(kind, periods))?;
     push_lists_of_periods::<E>(bytes, kind, grid, periods)
 }

@@ -1,7 +1,7 @@
 ghost use Rattle.std.specs.Prelude.{◌≡◌, IfOk, MatchResult, Ok};
 ghost use Rattle.outside.specs.{IsGoodName};
 ghost use Rattle.record_lines.specs.{HasText, StopsText, numbered_of};
-ghost use Rattle.name_file.specs.{is_integer, file_in, after_package, after_line, after_lines, whole, names_of};
+ghost use Rattle.name_file.specs.{is_integer, file_in, after_line, after_lines, names_of};
 
 use crate::kinds::{is_passed_over, package_of};
 use crate::names::{Gathered, Names};
@@ -42,31 +42,8 @@ fn file_in<'a>(
     name_of(alloc, name, file, line)
 }
 
-/// Adds the package of a line.
-#[tactic(auto, unfolding(crate::specs::Reading::after_package))]
-fn after_package(
-    alloc: Global,
-    names: &mut Gathered,
-    found: Package,
-    words: &mut Words,
-    file: &str,
-    line: u32,
-) -> Result<(), TextFault>
-    ensures { MatchResult result
-        (λ _. after_package file.now line found words.old names.old ≡ Ok names.new)
-        (λ fault. StopsText fault (after_package file.now line found words.old names.old)) }
-{
-    let name = file_in(alloc, words, file, line)?;
-    if names.has(found) {
-        return Err(text_fault(alloc, Code::DuplicatePackage, file, line));
-    }
-    let name = Name::new(alloc, name)?;
-    names.add(found, name)?;
-    Ok(())
-}
-
 /// Adds the package that a line names, if it names one.
-#[tactic(auto, unfolding(crate::specs::Reading::after_line))]
+#[tactic(auto, unfolding(crate::specs::Reading::after_line, crate::specs::Reading::after_package))]
 fn after_line(alloc: Global, names: &mut Gathered, line: &Line, file: &str) -> Result<(), TextFault>
     ensures { MatchResult result
         (λ _. after_line file.now (numbered_of line.now) names.old ≡ Ok names.new)
@@ -82,10 +59,16 @@ fn after_line(alloc: Global, names: &mut Gathered, line: &Line, file: &str) -> R
     if is_passed_over(kind) {
         return Ok(());
     }
-    match package_of(kind) {
-        None => Err(text_fault(alloc, Code::UnsupportedPackage, file, line.number)),
-        Some(found) => after_package(alloc, names, found, &mut words, file, line.number),
+    let Some(found) = package_of(kind) else {
+        return Err(text_fault(alloc, Code::UnsupportedPackage, file, line.number));
+    };
+    let name = file_in(alloc, &mut words, file, line.number)?;
+    if names.has(found) {
+        return Err(text_fault(alloc, Code::DuplicatePackage, file, line.number));
     }
+    let name = Name::new(alloc, name)?;
+    names.add(found, name)?;
+    Ok(())
 }
 
 /// Adds the packages that the lines name.
@@ -105,25 +88,17 @@ fn after_lines(
     Ok(())
 }
 
-/// The names of a whole model, or the refusal of a missing package that every model has.
-#[tactic(auto, unfolding(crate::specs::Reading::whole))]
-fn names_of(alloc: Global, files: Gathered, file: &str) -> Result<Names, TextFault>
-    ensures { HasText (λ names. names) result (whole file.now files) }
-{
-    if !files.has(Package::Dis) || !files.has(Package::Bas) || !files.has(Package::Lpf) {
-        return Err(text_fault(alloc, Code::MissingPackage, file, 0));
-    }
-    Ok(Names { files })
-}
-
 /// The packages that a name file names, in its order. `file` is its own name, for refusals.
 /// The first line that is wrong is refused; a missing package is refused with line 0.
-#[tactic(auto, unfolding(crate::specs::Reading::names_of))]
+#[tactic(auto, unfolding(crate::specs::Reading::names_of, crate::specs::Reading::whole))]
 pub fn read_names(alloc: Global, file: &str, bytes: &[u8]) -> Result<Names, TextFault>
     ensures names { HasText (λ names. names) result (names_of file.now bytes.now) }
 {
     let mut files = Gathered::new(alloc);
     let mut lines = Lines::new(bytes);
     after_lines(alloc, &mut files, &mut lines, file)?;
-    names_of(alloc, files, file)
+    if !files.has(Package::Dis) || !files.has(Package::Bas) || !files.has(Package::Lpf) {
+        return Err(text_fault(alloc, Code::MissingPackage, file, 0));
+    }
+    Ok(Names { files })
 }

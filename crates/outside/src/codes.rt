@@ -4,7 +4,7 @@ ghost use Rattle.outside.specs.{code_row};
 /// Why an input is refused, in the order of the numbers.
 #[derive(Clone, Copy)]
 pub enum Code {
-    MissingFile,
+    MissingFile = 1,
     TooLong,
     BadName,
     BadNameLine,
@@ -24,7 +24,7 @@ pub enum Code {
     NothingToReuse,
     HeadTooLarge,
     BadListing,
-    NotAlike,
+    NotAlike = 28,
 }
 
 impl Code {
@@ -32,29 +32,7 @@ impl Code {
     pub fn number(self) -> u8
         ensures { result ≡ (code_row self).number }
     {
-        match self {
-            Code::MissingFile => 1,
-            Code::TooLong => 2,
-            Code::BadName => 3,
-            Code::BadNameLine => 4,
-            Code::DuplicatePackage => 5,
-            Code::UnsupportedPackage => 6,
-            Code::MissingPackage => 7,
-            Code::EndOfFile => 8,
-            Code::BadNumber => 9,
-            Code::TooManyDigits => 10,
-            Code::OutOfProfile => 11,
-            Code::BadGrid => 12,
-            Code::BadControl => 13,
-            Code::BadThickness => 14,
-            Code::BadProperty => 15,
-            Code::CellOutside => 16,
-            Code::TooManyEntries => 17,
-            Code::NothingToReuse => 18,
-            Code::HeadTooLarge => 19,
-            Code::BadListing => 20,
-            Code::NotAlike => 28,
-        }
+        self as u8
     }
 
     /// The code that has this number, or none where no code has it.

@@ -4,10 +4,10 @@ ghost use Rattle.outside.specs.{FileSet, ReadsOn};
 ghost use Rattle.record_lines.specs.{LinesMay, Gives};
 ghost use Rattle.array_reader.specs.{real_layer};
 ghost use Rattle.model_types.specs.{HasSize};
-ghost use Rattle.period_arrays.specs.{area_at, array_or, arrays_of, no_area, nothing_yet, layers_at, AreFlags, IsArea, IsInForce, IsReals, IsWhole};
+ghost use Rattle.period_arrays.specs.{area_at, array_or, arrays_of, nothing_yet, layers_at, AreFlags, IsArea, IsInForce, IsReals, IsWhole};
 
 use crate::flags::{Contents, Flags, flags_of};
-use crate::layers::layers_tested;
+use crate::layers::test_layers;
 use array_reader::{next_line, read_int_layer, read_layer};
 use decimal_input::dec::Dec;
 use model_types::{Grid, Shared};
@@ -92,28 +92,8 @@ fn reals_or<F: Folder>(
     }
 }
 
-/// An array of layers, each tested.
+/// An array of layers that is read anew, each tested, or that of the period before.
 #[tactic(auto, unfolding(crate::specs::Areas::layers_at))]
-fn layers_at<F: Folder>(
-    alloc: Global,
-    lines: &mut Lines,
-    file: &str,
-    folder: &mut F,
-    grid: &Grid,
-) -> Result<Vec<i64>, InputFault>
-    requires size { HasSize grid.now }
-    requires lines { LinesMay (F.may folder.old) lines.old }
-    ensures folder { ReadsOn F.Folder folder.old folder.new result }
-    ensures lines { IfOk result (λ _. LinesMay (F.may folder.new) lines.new) }
-    ensures array { (files : FileSet) → F.agrees folder.new files → Gives (λ v. v.items) result lines.new (layers_at files file.now grid.now lines.old) }
-    ensures form { IfOk result (λ v. IsWhole grid.now v.items) }
-{
-    let values = read_int_layer(alloc, lines, file, folder, grid.rows, grid.cols)?;
-    layers_tested(alloc, file, grid, &values)?;
-    Ok(values)
-}
-
-/// An array of layers that is read anew, or that of the period before.
 fn layers_or<F: Folder>(
     alloc: Global,
     lines: &mut Lines,
@@ -132,7 +112,8 @@ fn layers_or<F: Folder>(
     ensures form { IfOk result (λ xs. (anew ≡ false → IsWhole grid.now before.now) → IsWhole grid.now xs) }
 {
     if anew {
-        let values = layers_at(alloc, lines, file, folder, grid)?;
+        let values = read_int_layer(alloc, lines, file, folder, grid.rows, grid.cols)?;
+        test_layers(alloc, file, grid, &values)?;
         Ok(Shared::new(alloc, values)?)
     } else {
         Ok(before.again()?)

@@ -16,7 +16,7 @@ fn is_layer(grid: &Grid, layer: i64) -> bool
 }
 
 #[tactic(auto, using(crate::proofs::PlaceLemmas::in_grid))]
-fn layer_tested(
+fn test_layer(
     alloc: Global,
     file: &str,
     grid: &Grid,
@@ -36,18 +36,13 @@ fn layer_tested(
 
 /// Refuses the first number of an array that is neither a layer nor 0, at its row and column.
 #[tactic(auto, unfolding(crate::specs::Areas::layers_tested))]
-pub fn layers_tested(
-    alloc: Global,
-    file: &str,
-    grid: &Grid,
-    layers: &[i64],
-) -> Result<(), TextFault>
+pub fn test_layers(alloc: Global, file: &str, grid: &Grid, layers: &[i64]) -> Result<(), TextFault>
     requires size { HasSize grid.now }
     ensures { HasText (λ _. tt) result (layers_tested file.now grid.now layers.now) }
 {
     let places = grid.layer_size();
     for place in 0..places {
-        layer_tested(alloc, file, grid, layers, place)?;
+        test_layer(alloc, file, grid, layers, place)?;
     }
     Ok(())
 }

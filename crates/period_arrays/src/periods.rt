@@ -1,10 +1,9 @@
 // The periods with their arrays.
-ghost use Rattle.std.specs.Prelude.{◌≡◌, ℕ, ℤ, Ok, IfOk, All, map, List};
+ghost use Rattle.std.specs.Prelude.{◌≡◌, Ok, IfOk, All, map, List};
 ghost use Rattle.outside.specs.{FileSet, ReadsOn};
-ghost use Rattle.record_lines.specs.{LinesMay, Gives, Has, HasText, for_each};
-ghost use Rattle.model_types.specs.declared.grid.Grid as grids;
+ghost use Rattle.record_lines.specs.{LinesMay, Gives, Has};
 ghost use Rattle.model_types.specs.{HasSize};
-ghost use Rattle.period_arrays.specs.{IsArea, IsInForce, contents, with_area, without, period_at, periods_of, tested_area};
+ghost use Rattle.period_arrays.specs.{IsArea, IsInForce, contents, without, period_at, periods_of, tested_area};
 
 use crate::area::{Area, InForce, area_at};
 use crate::flags::Contents;
@@ -21,29 +20,6 @@ fn contents_of<P: ArrayPackage>(option: &i64) -> Contents
     Contents {
         evaporates: P::evaporates(),
         layered: *option == 2,
-    }
-}
-
-/// The arrays, if they pass the package's test.
-fn passing_area<P: ArrayPackage>(
-    alloc: Global,
-    file: &str,
-    grid: &Grid,
-    ibound: &[i64],
-    option: &i64,
-    area: Area,
-) -> Result<Area, TextFault>
-    requires size { HasSize grid.now }
-    requires area { IsArea (contents P.kind option.now) grid.now area }
-    ensures passed { HasText (λ _. tt) result (P.kind.test file.now grid.now ibound.now option.now area) }
-    ensures same { IfOk result (λ a. a ≡ area) }
-{
-    match P::test(alloc, file, grid, ibound, option, &area) {
-        Ok(()) => Ok(area),
-        Err(fault) => {
-            drop(area);
-            Err(fault)
-        }
     }
 }
 
@@ -73,17 +49,8 @@ fn tested_area<P: ArrayPackage, F: Folder>(
 {
     let contents = contents_of::<P>(option);
     let area = area_at(alloc, lines, file, folder, grid, contents, before)?;
-    Ok(passing_area::<P>(alloc, file, grid, ibound, option, area)?)
-}
-
-fn with_area<P: ArrayPackage>(period: Period, area: Area) -> Period
-    ensures period { result ≡ with_area P.kind period area }
-    ensures arrays { (file : List ℕ) (grid : grids.Grid) (ibound : List ℤ) (option : ℤ) → IsArea (contents P.kind option) grid area →
-        P.kind.test file grid ibound option area ≡ Ok tt → P.HasArrays file grid ibound option result.stresses }
-    ensures others { without P.kind result ≡ without P.kind period }
-{
-    let stresses = P::put(period.stresses, area);
-    Period { stresses, ..period }
+    P::test(alloc, file, grid, ibound, option, &area)?;
+    Ok(area)
 }
 
 /// The next period with its arrays, which are then in force.
@@ -112,45 +79,15 @@ fn period_at<P: ArrayPackage, F: Folder>(
     ensures others { IfOk result (λ p. without P.kind p ≡ without P.kind period) }
 {
     match tested_area::<P, F>(alloc, lines, file, folder, grid, ibound, option, before) {
-        Ok(area) => Ok(with_area::<P>(period, area)),
+        Ok(area) => {
+            let stresses = P::put(period.stresses, area);
+            Ok(Period { stresses, ..period })
+        }
         Err(fault) => {
             drop(period);
             Err(fault)
         }
     }
-}
-
-/// The periods with their arrays, after those `before`.
-fn with_areas<P: ArrayPackage, F: Folder>(
-    alloc: Global,
-    lines: &mut Lines,
-    file: &str,
-    folder: &mut F,
-    grid: &Grid,
-    ibound: &[i64],
-    option: &i64,
-    periods: Vec<Period>,
-    before: &mut InForce,
-) -> Result<Vec<Period>, InputFault>
-    requires size { HasSize grid.now }
-    requires before { IsInForce (contents P.kind option.now) grid.now before.old }
-    requires lines { LinesMay (F.may folder.old) lines.old }
-    ensures folder { ReadsOn F.Folder folder.old folder.new result }
-    ensures lines { IfOk result (λ _. LinesMay (F.may folder.new) lines.new) }
-    ensures periods { (files : FileSet) → F.agrees folder.new files →
-        Gives (λ v. v.items) result (before.new, lines.new)
-        (for_each (period_at P.kind files file.now grid.now ibound.now option.now) periods.items (before.old, lines.old)) }
-    ensures arrays { IfOk result (λ v. All (λ p. P.HasArrays file.now grid.now ibound.now option.now p.stresses) v.items) }
-    ensures others { IfOk result (λ v. map (without P.kind) v.items ≡ map (without P.kind) periods.items) }
-{
-    let mut whole = Vec::new(alloc);
-    for period in periods {
-        let period = period_at::<P, F>(
-            alloc, lines, file, folder, grid, ibound, option, period, before,
-        )?;
-        whole.push(period)?;
-    }
-    Ok(whole)
 }
 
 /// The periods with their arrays.
@@ -175,16 +112,20 @@ pub fn periods_of<P: ArrayPackage, F: Folder>(
     ensures others { IfOk result (λ v. map (without P.kind) v.items ≡ map (without P.kind) periods.items) }
 {
     let mut before = InForce::nothing_yet();
-    let periods = with_areas::<P, F>(
-        alloc,
-        lines,
-        file,
-        folder,
-        grid,
-        ibound,
-        option,
-        periods,
-        &mut before,
-    )?;
-    Ok(periods)
+    let mut whole = Vec::new(alloc);
+    for period in periods {
+        let period = period_at::<P, F>(
+            alloc,
+            lines,
+            file,
+            folder,
+            grid,
+            ibound,
+            option,
+            period,
+            &mut before,
+        )?;
+        whole.push(period)?;
+    }
+    Ok(whole)
 }

@@ -3,7 +3,7 @@ ghost use Rattle.std.specs.Prelude.{◌≡◌, ◌≤ℤ◌, pos, All, IfOk, Lis
 ghost use Rattle.outside.specs.{TextMay, FileSet, ReadsOn};
 ghost use Rattle.record_lines.specs.{GivesText, Has, HasText};
 ghost use Rattle.model_types.specs.{HasSize};
-ghost use Rattle.period_arrays.specs.{without, arrays_in, option_line, unit_if};
+ghost use Rattle.period_arrays.specs.{without, arrays_in, option_line};
 
 use crate::flags::option_at;
 use crate::package::ArrayPackage;
@@ -22,21 +22,6 @@ pub struct ArrayFile {
     pub periods: Listed<Period>,
 }
 
-fn unit_if(
-    alloc: Global,
-    words: &mut Words,
-    present: bool,
-    file: &str,
-    line: u32,
-) -> Result<(), TextFault>
-    ensures { HasText (λ _. tt) result (unit_if present file.now line words.old) }
-{
-    if present {
-        integer(alloc, words, file, line)?;
-    }
-    Ok(())
-}
-
 /// The option, and after it a unit where the package has one.
 #[tactic(auto, unfolding(crate::specs::Packages::option_line))]
 fn option_line<P: ArrayPackage>(
@@ -50,7 +35,9 @@ fn option_line<P: ArrayPackage>(
     let line = item_line(alloc, lines, file)?;
     let mut words = Words::of(&line);
     let option = option_at(alloc, &mut words, file, line.number)?;
-    unit_if(alloc, &mut words, P::evaporates(), file, line.number)?;
+    if P::evaporates() {
+        integer(alloc, &mut words, file, line.number)?;
+    }
     Ok(option)
 }
 

@@ -1,6 +1,8 @@
 -- Loops that read the same thing so many times.
 use Rattle.record_lines.proofs.Common.{◌≡◌, ℕ, suc, ◌-◌, ◌+◌, ◌≤◌, ◌<◌, List, [], ◌∷◌, ◌++◌, Result, Ok, Err, refl, sym, ap, ◌∙◌, append_assoc, arith}
-use Rattle.record_lines.proofs.Common.{append-nil, Refusal, ◌>>=◌, Stops, StopsText, appended, repeated, length, for_each, counted}
+use Rattle.record_lines.proofs.Common.{append-nil, Refusal, ◌>>=◌, Stops, StopsText, appended, repeated, length, for_each, counted, zero, nat_le, true, false}
+use Rattle.record_lines.proofs.Common.{◌⊎◌, inl, inr}
+use Rattle.std.proofs.lemmas.Bool.Decides.{leb_tells}
 use Rattle.outside.specs.declared.inputs.InputFault.{InputFault}
 use Rattle.outside.specs.declared.inputs.InputFault.TheVariants.{Refused, ReadFault, Memory}
 use Rattle.outside.specs.declared.inputs.TextFault.{TextFault}
@@ -149,6 +151,16 @@ pub steps_end : {S : Type 0} (step : ℕ → S → Result S Refusal) (fault : Te
 steps_end step (texts.Refused r) count i s total lt h so_far = steps_stop step (Refused r) count i s total lt h so_far
 steps_end step texts.Memory count i s total lt h so_far = tt
 
+-- What stops a reading stops what is made of it.
+pub stops_all : {A B : Type 0} (fault : InputFault) (read : Result A Refusal) (f : A → Result B Refusal) → Stops fault read → Stops fault (read >>= f)
+stops_all (Refused r) read f h = rw h refl
+stops_all ReadFault read f h = tt
+stops_all Memory read f h = tt
+
+pub ends_all : {A B : Type 0} (fault : TextFault) (read : Result A Refusal) (f : A → Result B Refusal) → StopsText fault read → StopsText fault (read >>= f)
+ends_all (texts.Refused r) read f h = rw h refl
+ends_all texts.Memory read f h = tt
+
 -- all steps are made
 pub steps_done : {S E : Type 0} (step : ℕ → S → Result S E) (count i : ℕ) (s : S) (total : Result S E) → count ≤ i → counted step i (count - i) s ≡ total → total ≡ Ok s
 unfolding counted
@@ -156,3 +168,17 @@ steps_done step count i s total le so_far =
     let k : count - i ≡ 0 = omega arith in
     let one : counted step i (count - i) s ≡ Ok s = rw k refl in
     sym so_far ∙ one
+
+-- each of the steps that passed
+pub each_step : (step : ℕ → Unit {0} → Result (Unit {0}) Refusal) (n c : ℕ) → counted step c n tt ≡ Ok tt → (k : ℕ) → c ≤ k → k < c + n → step k tt ≡ Ok tt
+unfolding counted
+each_step step zero c h k low high = absurd (omega (arith, low, high))
+each_step step (suc n) c h k low high = by_case (λ so l. each_step step n (c + 1) so k l (omega (arith, high))) (step c tt) refl h (leb_tells (c + 1) k)
+  where
+    by_case : (counted step (c + 1) n tt ≡ Ok tt → c + 1 ≤ k → step k tt ≡ Ok tt) → (x : Result (Unit {0}) Refusal) → step c tt ≡ x → (x >>= counted step (c + 1) n) ≡ Ok tt
+        → ((nat_le (c + 1) k ≡ true) × (c + 1 ≤ k)) ⊎ ((nat_le (c + 1) k ≡ false) × (k < c + 1)) → step k tt ≡ Ok tt
+    by_case others (Ok u) e so (inl a) = others so a.1
+    by_case others (Ok u) e so (inr a) =
+        let same : k ≡ c = omega (arith, a.1, low) in
+        rw same e
+    by_case others (Err r) e so t = absurd (cc)

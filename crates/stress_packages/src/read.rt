@@ -1,7 +1,9 @@
 // The readers of files of wells, rivers, drains and general heads.
 //
 // Each takes a model and returns it with the lists of the file in its stress periods. `file` is the file's
-// name, for refusals. The first item that is wrong is refused on its line.
+// name, for refusals. The first item that is wrong is refused on its line: TooManyEntries past the most entries of a list,
+// NothingToReuse where the first list is to be reused, OutOfProfile for parameters or another file's entries; of an entry
+// CellOutside, HeadTooLarge or BadProperty.
 ghost use Rattle.std.specs.Prelude.{◌≡◌, IfOk, All};
 ghost use Rattle.record_lines.specs.{HasText};
 ghost use Rattle.model_types.specs.{cell_count, HasSize, IsEntryList, IsModel};
@@ -14,10 +16,6 @@ use outside::TextFault;
 use std::alloc::Global;
 
 /// The model with its lists of wells, from a file of the package WEL.
-///
-/// # Errors
-/// TooManyEntries past the most entries of a list, NothingToReuse where the first list is to be reused, OutOfProfile for
-/// parameters or another file's entries; of an entry CellOutside, HeadTooLarge or BadProperty.
 /// (TM 6-A16, WEL)
 #[tactic(auto, using(list_package::proofs::EntryLaws::entry_lists))]
 pub fn read_wel(
@@ -37,10 +35,6 @@ pub fn read_wel(
 }
 
 /// The model with its lists of river reaches, from a file of the package RIV.
-///
-/// # Errors
-/// TooManyEntries past the most entries of a list, NothingToReuse where the first list is to be reused, OutOfProfile for
-/// parameters or another file's entries; of an entry CellOutside, HeadTooLarge or BadProperty.
 /// (TM 6-A16, RIV)
 #[tactic(auto, using(list_package::proofs::EntryLaws::entry_lists))]
 pub fn read_riv(
@@ -60,10 +54,6 @@ pub fn read_riv(
 }
 
 /// The model with its lists of drains, from a file of the package DRN.
-///
-/// # Errors
-/// TooManyEntries past the most entries of a list, NothingToReuse where the first list is to be reused, OutOfProfile for
-/// parameters or another file's entries; of an entry CellOutside, HeadTooLarge or BadProperty.
 /// (TM 6-A16, DRN)
 #[tactic(auto, using(list_package::proofs::EntryLaws::entry_lists))]
 pub fn read_drn(
@@ -83,10 +73,6 @@ pub fn read_drn(
 }
 
 /// The model with its lists of general heads, from a file of the package GHB.
-///
-/// # Errors
-/// TooManyEntries past the most entries of a list, NothingToReuse where the first list is to be reused, OutOfProfile for
-/// parameters or another file's entries; of an entry CellOutside, HeadTooLarge or BadProperty.
 /// (TM 6-A16, GHB)
 #[tactic(auto, using(list_package::proofs::EntryLaws::entry_lists))]
 pub fn read_ghb(

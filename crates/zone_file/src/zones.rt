@@ -41,7 +41,7 @@ pub fn read_zones<F: Folder>(
     let bytes = read_input(alloc, folder, file)?;
     let mut lines = Lines::new(&bytes);
     let zones = read_layers::<i64, F>(alloc, &mut lines, file, folder, layers, rows, cols)?;
-    zones_tested(alloc, file, grid, &zones)?;
+    test_zones(alloc, file, grid, &zones)?;
     Ok(zones)
 }
 
@@ -63,7 +63,7 @@ fn first_wrong(zones: &[i64]) -> Option<usize>
 /// The first cell, by ascending number, whose zone is below 0 or above 999 is refused, with line 0 and its layer, row
 /// and column.
 #[tactic(auto, unfolding(crate::specs::Zones::zones_tested))]
-pub fn zones_tested(alloc: Global, file: &str, grid: &Grid, zones: &[i64]) -> Result<(), TextFault>
+pub fn test_zones(alloc: Global, file: &str, grid: &Grid, zones: &[i64]) -> Result<(), TextFault>
     requires size { HasSize grid.now }
     requires count { length zones.now ≡ cell_count grid.now }
     ensures test { HasText (λ _. tt) result (zones_tested file.now grid.now zones.now) }

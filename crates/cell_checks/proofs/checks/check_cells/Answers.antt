@@ -1,6 +1,5 @@
-use Rattle.cell_checks.proofs.Common.{sym, checked}
+use Rattle.cell_checks.proofs.Common.{sym, checked, step_goes_on, steps_end, steps_done}
 use Rattle.std.proofs.lemmas.Result.{err_from_is_err_and}
-use Rattle.record_lines.proofs.Loops.{step_goes_on, steps_end, steps_done}
 use Rattle.cell_checks.proofs.checks.check_cells.Goals as goal
 
 pub returns-in_err-check_cell : goal.returns-in_err-check_cell

@@ -1,4 +1,5 @@
-use Rattle.cell_checks.proofs.Common.{◌≡◌, ◌-◌, counted, cell_step}
+use Rattle.cell_checks.proofs.Common.{◌≡◌, ◌-◌, cell_step}
+use Rattle.record_lines.specs.{counted}
 use Rattle.cell_checks.proofs.checks.check_cells.Given as goal
 
 abbrev pub invariant-loop-cell : goal.invariant-loop-cell

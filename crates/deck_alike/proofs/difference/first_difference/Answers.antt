@@ -3,8 +3,8 @@ use Rattle.deck_alike.proofs.AlikeParts.{alike_shares, shared_alike}
 use Rattle.deck_alike.proofs.Finding.{unlike_by}
 use Rattle.deck_alike.proofs.difference.first_difference.Goals as goal
 
-pub returns-in-Some-clause-unlike : goal.returns-in-Some-clause-unlike
-returns-in-Some-clause-unlike c = unlike_by _ _ _ (alike_shares c.args.first.now c.args.second.now _) c.in-Some.ensures
+pub returns-in-Err-clause-unlike : goal.returns-in-Err-clause-unlike
+returns-in-Err-clause-unlike c = unlike_by _ _ _ (alike_shares c.args.first.now c.args.second.now _) c.in-Err.ensures
 
 pub loop-kind-preserved : goal.loop-kind-preserved
 loop-kind-preserved c = All-more (λ x. Shares x c.args.first.now c.args.second.now) reading_order c.loop-kind.kind-index _ (omega arith) c.loop-kind.invariant c.in_default.ensures

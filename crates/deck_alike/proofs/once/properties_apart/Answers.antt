@@ -1,9 +1,10 @@
-use Rattle.deck_alike.proofs.Finding.{properties_found, properties_same}
+use Rattle.deck_alike.proofs.Common.{cell_count, layer_size, properties}
+use Rattle.deck_alike.proofs.Finding.{layers_found, properties_rest}
 use Rattle.deck_alike.proofs.once.properties_apart.Goals as goal
 
-pub returns-in-None : goal.returns-in-None
-returns-in-None c = properties_same c.args.a.now c.args.b.now c.if-not-are_options_same.ensures c.in-None.ensures
-
-pub returns-in-Some : goal.returns-in-Some
-returns-in-Some c =
-    properties_found c.args.a.now c.args.b.now c.layer_size-size.result c.cell_count-cells.result c.in-Some.place c.numbered_cell.result c.layer_size-size.ensures.size c.cell_count-cells.ensures.count c.numbered_cell.ensures c.if-not-are_options_same.ensures c.in-Some.ensures
+pub returns : goal.returns
+returns c =
+    let a = c.args.a.now in
+    let b = c.args.b.now in
+    properties_rest a b c.place_apart.result c.if-not-are_options_same.ensures
+    (layers_found (layer_size b.grid) (cell_count b.grid) c.layer_size.result c.cell_count.result (properties a) (properties b) c.property_place.result c.place_apart.result c.layer_size.ensures.size c.cell_count.ensures.count c.place_apart.ensures c.property_place.ensures)

@@ -1,5 +1,0 @@
-use Rattle.evt_package.proofs.Common.{◌≡◌, ◌-◌, counted, column_step}
-use Rattle.evt_package.proofs.columns.columns_tested.Given as goal
-
-abbrev pub invariant-loop-column : goal.invariant-loop-column
-invariant-loop-column l = counted (column_step l.file l.grid l.ibound l.option l.area) l.column (l.columns - l.column) tt ≡ counted (column_step l.file l.grid l.ibound l.option l.area) 0 l.columns tt
