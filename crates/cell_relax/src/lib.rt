@@ -7,4 +7,6 @@ pub mod range;
 pub mod relax;
 
 pub use range::are_words;
-pub use relax::{balance_in, head_on, lets_move, raise_to, relax_in, relax_to, sink_to};
+pub use relax::{
+    balance_in, head_on, lets_move, raise_to, relax_in, relax_to, sink_to, tighter_of,
+};

@@ -1,7 +1,7 @@
 // The relaxed head of one cell, by trials: either balance falls in the cell's own head.
 ghost use Rattle.std.specs.Prelude.{◌≡◌, ◌<◌, ◌+◌, ◌↔◌, ℕ, ℤ, All, IsTrue, length, take};
 ghost use Rattle.step_problem.specs.{entries_at, ends_in, balance, IsHead, IsRaise, IsSink};
-ghost use Rattle.cell_relax.specs.{LetsMove, IsRelaxedOn, turned_on, head_of, heads_on, AreWords};
+ghost use Rattle.cell_relax.specs.{LetsMove, IsRelaxedOn, turned_on, head_of, heads_on, AreWords, tighter_of};
 
 use crate::middle::Trend;
 use step_problem::problem::HEAD_LIMIT;
@@ -111,6 +111,16 @@ pub fn head_on(side: Side, word: Bound) -> i64
     match side {
         Side::Low => word.low,
         Side::High => word.high,
+    }
+}
+
+/// The tighter of two heads.
+pub fn tighter_of(side: Side, a: i64, b: i64) -> i64
+    ensures { result ≡ tighter_of side a b }
+{
+    match side {
+        Side::Low => a.max(b),
+        Side::High => a.min(b),
     }
 }
 

@@ -2,7 +2,6 @@
 pub use Rattle.std.proofs.Common.{Err, IfOk, List, Ok, Result, [], ap, arith, get_or, get_or-set_other, get_or-set_same, length, length-append, length-set, pos}
 pub use Rattle.std.proofs.Common.{refl, rules, set, subst, suc, sym, true, vec_len, zero, ℕ, ℤ, ⊎_elim, ◌*◌, ◌++◌, ◌+◌, ◌<◌, ◌∙◌, ◌∷◌, ◌≡◌, ◌≢◌, ◌⊎◌}
 pub use Rattle.std.proofs.lemmas.Int.{clamps, ints, to_z-of_z}
-pub use Rattle.std.specs.Int.{int_max, int_min}
 pub use Rattle.std.specs.Mem.Slots.{slots_items}
 pub use mathlib.Core.Logic.{dite}
 pub use mathlib.Core.Option.{none, some, some-injective, some-ne-none}

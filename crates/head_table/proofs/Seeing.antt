@@ -6,7 +6,7 @@ use Rattle.head_table.proofs.Common.{IsAsTight, other, heads_on, is_side, each_s
 use Rattle.head_table.proofs.Common.{SeesHead, load_play, ℤ, length-set, turn_keeps, tighter, still_seen, IsRelaxedOn, tighter_word, OnTheWay, exchange_play}
 use Rattle.head_table.proofs.Common.{dite, ℕ_discrete, IsSound, seen_length, seen_here, seen_else, other_seen, with_head, IsExchange}
 use lib.Seq.{set-get_or}
-use Rattle.head_table.proofs.WordReads.{one_cell, word_within, word_here, word_else, other_words, tighter_old, tighter_new, tighter_one}
+use Rattle.head_table.proofs.WordReads.{at_word, word_within, word_here, word_else, other_words, tighter_old, tighter_new, tighter_one}
 
 abbrev pub KnownMe : Type 0
 KnownMe = Me (Unit {0}) Known
@@ -54,14 +54,14 @@ module _ (cells : List Entries) (edges : Edges) where
           (subst (WereSeen (other side) cells (words_on (other side) ws)) (λ i d. sym (other_seen side me.0.seen c h long d) i) (mine.heads (other side)));
     }
 
-    pub looks : (side : Side) (slots id : ℕ) (me : KnownMe) (c : ℕ) → c < length cells → me.0.live ≡ true → Allows Rule slots id me (word_of side c) (λ n. n) (load_play side (step slots (word_of side c) 0 0 none) me)
+    pub looks : (side : Side) (slots id : ℕ) (me : KnownMe) (c : ℕ) → c < length cells → me.0.live ≡ true → Allows Rule slots id me (word_of side c) (λ n. n) (load_play (step slots (word_of side c) 0 0 none) me)
     looks side slots id me c h live s k _ at small = let x : ℕ = get_or s.words (word_of side c) 0 in let mine = k.each_seat id me.0 at live in let long : c < length me.0.seen = omega (arith, mine.whole) in
         let w : Known = now_seen side me c (head_of_word x) in (
           w,
           keeps,
           tt,
           unmoved s k (word_of side c) id me w (known_now side s.words me c (head_of_word x) h ((k.way side).heads c h) refl mine),
-          λ d e. subst (λ (j : ℕ). IsHead (head_of_word x) × IsAsTight side (heads_on side me.0.seen j) (head_of_word x) × SeesHead side me j (head_of_word x) (w, me.1) × IsNoTighterThanSettled side me.0.problem (edge_on side me.0.barrier) j (head_of_word x)) (one_cell side c d e) (
+          λ t d e. at_word side t c d (λ (u : Side) (j : ℕ). IsHead (head_of_word x) × IsAsTight u (heads_on u me.0.seen j) (head_of_word x) × SeesHead u me j (head_of_word x) (w, me.1) × IsNoTighterThanSettled u me.0.problem (edge_on u me.0.barrier) j (head_of_word x)) (sym e) (
             (k.way side).heads c h,
             (mine.heads side).behind c h,
             sees_head side me c (head_of_word x) long,
@@ -71,7 +71,7 @@ module _ (cells : List Entries) (edges : Edges) where
         )
 
     pub exchanges : (side : Side) (slots id : ℕ) (me : KnownMe) (c k : ℕ) → c < length cells → me.0.live ≡ true → IsRelaxedOn side cells (heads_on side me.0.seen) c (head_of_word k)
-        → Allows Rule slots id me (word_of side c) (λ n. tighter_word side n k) (exchange_play side (step slots (word_of side c) k 0 none) me)
+        → Allows Rule slots id me (word_of side c) (λ n. tighter_word side n k) (exchange_play (step slots (word_of side c) k 0 none) me)
     exchanges side slots id me c k h live turn s r _ at small = let x : ℕ = get_or s.words (word_of side c) 0 in let y : ℕ = tighter_word side x k in let ws : List ℕ = set s.words (word_of side c) y in
         let mine = r.each_seat id me.0 at live in let long : c < length me.0.seen = omega (arith, mine.whole) in
         let wide : word_of side c < length s.words = subst (λ (n : ℕ). word_of side c < n) (sym r.wide) (word_within side c (length cells) h) in
@@ -101,7 +101,7 @@ module _ (cells : List Entries) (edges : Edges) where
             way = each_side side (λ t. OnTheWay t cells (edge_on t edges) (words_on t ws)) way' (subst (OnTheWay (other side) cells (edge_on (other side) edges)) (sym (other_words side s.words c y)) (r.way (other side)));
             each_seat = views_stay (IsKnown cells edges ws) s.views id w (λ _. known_now side ws me c (head_of_word y) h (way'.heads c h) (sym here) (stays me.0 mine)) (λ j v e l. stays v (r.each_seat j v e l));
           },
-          λ d e. subst (λ (j : ℕ). IsHead (head_of_word x) × IsHead (head_of_word y) × IsAsTight side (heads_on side me.0.seen j) (head_of_word x) × SeesHead side me j (head_of_word y) (w, me.1)) (one_cell side c d e) (
+          λ t d e. at_word side t c d (λ (u : Side) (j : ℕ). IsHead (head_of_word x) × IsHead (head_of_word (tighter_word u x k)) × IsAsTight u (heads_on u me.0.seen j) (head_of_word x) × SeesHead u me j (head_of_word (tighter_word u x k)) (w, me.1)) (sym e) (
             (r.way side).heads c h,
             subst IsHead here (way'.heads c h),
             (mine.heads side).behind c h,

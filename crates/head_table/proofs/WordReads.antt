@@ -17,6 +17,13 @@ apart : (side : Side) (c d : ℕ) → word_of (other side) d ≡ word_of side c 
 apart Low c d e = omega (arith, e)
 apart High c d e = omega (arith, e)
 
+-- what holds at a word's side and cell holds at any that have this word
+pub at_word : (side t : Side) (c d : ℕ) (P : Side → ℕ → Type 0) → word_of t d ≡ word_of side c → P side c → P t d
+at_word Low Low c d P e h = subst (P Low) (one_cell Low c d (sym e)) h
+at_word Low High c d P e h = absurd (apart Low c d e)
+at_word High Low c d P e h = absurd (apart High c d e)
+at_word High High c d P e h = subst (P High) (one_cell High c d (sym e)) h
+
 not_first : (side : Side) (c : ℕ) → word_of side c ≡ 0 → ⊥
 not_first Low c e = omega (arith, e)
 not_first High c e = omega (arith, e)

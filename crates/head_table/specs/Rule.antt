@@ -104,16 +104,16 @@ pub record SeesHead (side : Side) (m : Sat) (c : ℕ) (h : ℤ) (m' : Sat) : Typ
   pub others : (d : ℕ) → (d ≡ c → ⊥) → heads_on side m'.0.seen d ≡ heads_on side m.0.seen d
   pub opposite : (d : ℕ) → heads_on (other side) m'.0.seen d ≡ heads_on (other side) m.0.seen d
 
--- a load of a word on a side: it is as tight as what was seen, and no tighter than any settled heads; the seat has then seen it
-abbrev pub load_play : Side → Step (Unit {0}) → Sat → ℕ → Sat → Type 0
-load_play side st m r m' =
-    (c : ℕ) → st.word ≡ word_of side c → IsHead (head_of_word r) × IsAsTight side (heads_on side m.0.seen c) (head_of_word r)
+-- a load of a head: it is as tight as what was seen, and no tighter than any settled heads; the seat has then seen it
+abbrev pub load_play : Step (Unit {0}) → Sat → ℕ → Sat → Type 0
+load_play st m r m' =
+    (side : Side) (c : ℕ) → st.word ≡ word_of side c → IsHead (head_of_word r) × IsAsTight side (heads_on side m.0.seen c) (head_of_word r)
     × SeesHead side m c (head_of_word r) m' × IsNoTighterThanSettled side m.0.problem (edge_on side m.0.barrier) c (head_of_word r)
 
 -- a raise or a sink: the tighter of the word found and the operand is then seen
-abbrev pub exchange_play : Side → Step (Unit {0}) → Sat → ℕ → Sat → Type 0
-exchange_play side st m r m' =
-    (c : ℕ) → st.word ≡ word_of side c → IsHead (head_of_word r) × IsHead (head_of_word (tighter_word side r st.first))
+abbrev pub exchange_play : Step (Unit {0}) → Sat → ℕ → Sat → Type 0
+exchange_play st m r m' =
+    (side : Side) (c : ℕ) → st.word ≡ word_of side c → IsHead (head_of_word r) × IsHead (head_of_word (tighter_word side r st.first))
     × IsAsTight side (heads_on side m.0.seen c) (head_of_word r) × SeesHead side m c (head_of_word (tighter_word side r st.first)) m'
 
 -- a claim changes nothing that was seen

@@ -1,9 +1,22 @@
-// Heads as words.
-ghost use Rattle.std.specs.Prelude.{◌≡◌, ◌≤◌};
+// Heads as words, and the word of each.
+ghost use Rattle.std.specs.Prelude.{◌≡◌, ◌<◌, ◌≤◌};
 ghost use Rattle.step_problem.specs.{IsHead};
-ghost use Rattle.head_table.specs.{head_of_word};
+ghost use Rattle.head_table.specs.{head_of_word, word_of};
 
+use step_problem::Side;
 use step_problem::problem::HEAD_LIMIT;
+
+// The number of the word that has a cell's head on a side.
+#[inline(always)]
+pub(crate) fn word_of(side: Side, cell: usize) -> usize
+    requires { cell < 4194304 }
+    ensures { result ≡ word_of side cell }
+{
+    match side {
+        Side::Low => 2 * cell + 1,
+        Side::High => 2 * cell + 2,
+    }
+}
 
 // The word for a head.
 pub(crate) fn word_of_head(head: i64) -> u64

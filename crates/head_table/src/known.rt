@@ -32,40 +32,22 @@ impl TableRule<(), Known, Facts> for Heads {
     ghost first = { λ key. starting key.words.value.items key.problem.value key.barrier.value };
 }
 
-pub(crate) struct LookLow;
+// A load of a head.
+pub(crate) struct Look;
 
-impl Play<(), Known> for LookLow {
-    ghost use Rattle.step_problem.specs.declared.heads.Side.TheVariants.{Low};
+impl Play<(), Known> for Look {
     ghost use Rattle.head_table.specs.Rule.{load_play};
 
-    ghost then = { load_play Low };
+    ghost then = { load_play };
 }
 
-pub(crate) struct LookHigh;
+// A raise or a sink.
+pub(crate) struct Tighten;
 
-impl Play<(), Known> for LookHigh {
-    ghost use Rattle.step_problem.specs.declared.heads.Side.TheVariants.{High};
-    ghost use Rattle.head_table.specs.Rule.{load_play};
-
-    ghost then = { load_play High };
-}
-
-pub(crate) struct Raise;
-
-impl Play<(), Known> for Raise {
-    ghost use Rattle.step_problem.specs.declared.heads.Side.TheVariants.{Low};
+impl Play<(), Known> for Tighten {
     ghost use Rattle.head_table.specs.Rule.{exchange_play};
 
-    ghost then = { exchange_play Low };
-}
-
-pub(crate) struct Sink;
-
-impl Play<(), Known> for Sink {
-    ghost use Rattle.step_problem.specs.declared.heads.Side.TheVariants.{High};
-    ghost use Rattle.head_table.specs.Rule.{exchange_play};
-
-    ghost then = { exchange_play High };
+    ghost then = { exchange_play };
 }
 
 pub(crate) struct Claim;

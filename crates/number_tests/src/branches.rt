@@ -1,19 +1,20 @@
-// Branches between neighbouring cells.
+// Conductances of branches between neighbouring cells, and of evaporation.
 ghost use Rattle.std.specs.Prelude.{IfSome};
 ghost use Rattle.conductance_bounds.specs.{IsHalf, IsColHalf, IsVertHalf, IsBed};
 
+use crate::times::storage;
 use crate::words::Words;
 use conductance_bounds::{
-    Bed, ColHalf, Half, Pair, VertHalf, col_branch, row_branch, thickness, vert_branch,
+    Bed, ColHalf, Half, Pair, Span, VertHalf, col_branch, evap_branch, row_branch, thickness,
+    vert_branch,
 };
 use number_limits::is_thick;
-use scaled_decimal::Sd;
+use scaled_decimal::decimal::ZERO;
 
 fn row_half(words: &mut Words<'_>) -> Option<Half>
     ensures { IfSome result IsHalf }
 {
-    let (along, hk) = (words.positive(), words.positive());
-    let thick = words.thickness()?;
+    let (along, hk, thick) = (words.positive()?, words.positive()?, words.thickness()?);
     Some(Half {
         along,
         hk,
@@ -22,16 +23,10 @@ fn row_half(words: &mut Words<'_>) -> Option<Half>
     })
 }
 
-pub fn row(words: &mut Words<'_>) -> Option<Pair> {
-    let first = row_half(words)?;
-    let second = row_half(words)?;
-    row_branch(&first, &second, words.positive(), words.digits())
-}
-
 fn column_half(words: &mut Words<'_>) -> Option<ColHalf>
     ensures { IfSome result IsColHalf }
 {
-    let (along, hk, hani) = (words.positive(), words.positive(), words.positive());
+    let (along, hk, hani) = (words.positive()?, words.positive()?, words.positive()?);
     let thick = words.thickness()?;
     Some(ColHalf {
         along,
@@ -42,18 +37,11 @@ fn column_half(words: &mut Words<'_>) -> Option<ColHalf>
     })
 }
 
-pub fn column(words: &mut Words<'_>) -> Option<Pair> {
-    let first = column_half(words)?;
-    let second = column_half(words)?;
-    col_branch(&first, &second, words.positive(), words.digits())
-}
-
 fn vertical_half(words: &mut Words<'_>) -> Option<VertHalf>
     ensures { IfSome result IsVertHalf }
 {
-    let ratio = words.count() != 0;
-    let (hk, vka) = (words.positive(), words.positive());
-    let thick = words.thickness()?;
+    let ratio = words.count()? != 0;
+    let (hk, vka, thick) = (words.positive()?, words.positive()?, words.thickness()?);
     Some(VertHalf {
         hk,
         vka,
@@ -63,36 +51,48 @@ fn vertical_half(words: &mut Words<'_>) -> Option<VertHalf>
     })
 }
 
-const NO_THICKNESS: Sd = Sd { m: 0, e: 0 };
-
 // No bed if both elevations are the same.
 fn bed(words: &mut Words<'_>) -> Option<Bed>
     ensures { IfSome result IsBed }
 {
-    let (top, bottom, vkcb) = (words.decimal(), words.decimal(), words.positive());
-    if top == bottom {
-        return Some(Bed {
-            thick_lo: NO_THICKNESS,
-            thick_hi: NO_THICKNESS,
-            vkcb,
-        });
-    }
-    if !is_thick(top, bottom) {
-        words.are_clear = false;
+    let (top, bottom, vkcb) = (words.decimal()?, words.decimal()?, words.positive()?);
+    let (thick_lo, thick_hi) = if top == bottom {
+        (ZERO, ZERO)
+    } else if is_thick(top, bottom) {
+        let Span { lo, hi } = thickness(top, bottom);
+        (lo, hi)
+    } else {
         return None;
-    }
-    let thick = thickness(top, bottom);
+    };
     Some(Bed {
-        thick_lo: thick.lo,
-        thick_hi: thick.hi,
+        thick_lo,
+        thick_hi,
         vkcb,
     })
 }
 
-pub fn vertical(words: &mut Words<'_>) -> Option<Pair> {
-    let upper = vertical_half(words)?;
-    let lower = vertical_half(words)?;
-    let bed = bed(words)?;
-    let (delr, delc) = (words.positive(), words.positive());
-    vert_branch(&upper, &lower, &bed, delr, delc, words.digits())
+/// The conductance that a line asks for, if it is below the limit.
+pub fn conductance(question: &str, words: &mut Words<'_>) -> Option<Option<Pair>> {
+    match question {
+        "row" => {
+            let (first, second) = (row_half(words)?, row_half(words)?);
+            Some(row_branch(&first, &second, words.positive()?, words.digits()?))
+        }
+        "column" => {
+            let (first, second) = (column_half(words)?, column_half(words)?);
+            Some(col_branch(&first, &second, words.positive()?, words.digits()?))
+        }
+        "vertical" => {
+            let (upper, lower, bed) = (vertical_half(words)?, vertical_half(words)?, bed(words)?);
+            let (delr, delc, digits) = (words.positive()?, words.positive()?, words.digits()?);
+            Some(vert_branch(&upper, &lower, &bed, delr, delc, digits))
+        }
+        "evaporation" => {
+            let (evtr, exdp) = (words.not_negative()?, words.positive()?);
+            let (delr, delc, digits) = (words.positive()?, words.positive()?, words.digits()?);
+            Some(evap_branch(evtr, exdp, delr, delc, digits))
+        }
+        "storage" => storage(words),
+        _ => None,
+    }
 }

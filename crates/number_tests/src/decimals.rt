@@ -2,8 +2,8 @@
 ghost use Rattle.std.specs.Prelude.{IfSome};
 ghost use Rattle.scaled_decimal.specs.{IsSd, IsNear};
 
-use crate::numbers::{push_no_question, push_wholes};
-use decimal_input::read::read_dec;
+use crate::numbers::push_wholes;
+use crate::words::Words;
 use scaled_decimal::decimal::ZERO;
 use scaled_decimal::{
     Sd, add_dn, add_up, ceil_units, div_dn, div_up, floor_units, mul_dn, mul_up, of_dec,
@@ -44,39 +44,36 @@ fn push_decimals(page: &mut Page, below: Sd, above: Sd) {
 }
 
 /// The product, the quotient or the sum, rounded down and up.
-pub fn push_pair(page: &mut Page, operation: &str, a: &str, b: &str) {
-    let (Some(a), Some(b)) = (decimal(a), decimal(b)) else {
-        return push_no_question(page);
-    };
+pub fn push_rounded(page: &mut Page, operation: &str, words: &mut Words<'_>) -> Option<()> {
+    let (a, b) = (decimal(words.next())?, decimal(words.next())?);
     match operation {
         "mul" => push_decimals(page, mul_dn(a, b), mul_up(a, b)),
         "div" if b.m > 0 => push_decimals(page, div_dn(a, b), div_up(a, b)),
         "add" => push_decimals(page, add_dn(a, b), add_up(a, b)),
-        _ => push_no_question(page),
+        _ => return None,
     }
+    Some(())
 }
 
 /// The decimal of a number that isn't negative.
-pub fn push_decimal_of(page: &mut Page, word: &str) {
-    match read_dec(word.as_bytes()) {
-        Ok(number) if !number.neg => push_decimal(page, of_dec(number)),
-        _ => push_no_question(page),
-    }
+pub fn push_decimal_of(page: &mut Page, words: &mut Words<'_>) -> Option<()> {
+    push_decimal(page, of_dec(words.not_negative()?));
+    Some(())
 }
 
-pub fn push_decimals_of_units(page: &mut Page, units: &str, places: &str) {
-    match (units.parse::<u128>(), places.parse::<u16>()) {
-        (Ok(units), Ok(places)) if places <= 10000 => {
-            push_decimals(page, of_units_dn(units, places), of_units_up(units, places));
-        }
-        _ => push_no_question(page),
+pub fn push_decimals_of_units(page: &mut Page, words: &mut Words<'_>) -> Option<()> {
+    let units = words.next().parse::<u128>().ok()?;
+    let places = words.next().parse::<u16>().ok()?;
+    if places > 10000 {
+        return None;
     }
+    push_decimals(page, of_units_dn(units, places), of_units_up(units, places));
+    Some(())
 }
 
 /// The greatest whole number of units not above, and the least not below.
-pub fn push_whole(page: &mut Page, x: &str, places: &str) {
-    match (decimal(x), places.parse::<u32>()) {
-        (Some(x), Ok(places)) => push_wholes(page, floor_units(x, places), ceil_units(x, places)),
-        _ => push_no_question(page),
-    }
+pub fn push_whole(page: &mut Page, words: &mut Words<'_>) -> Option<()> {
+    let (x, places) = (decimal(words.next())?, words.count()?);
+    push_wholes(page, floor_units(x, places), ceil_units(x, places));
+    Some(())
 }

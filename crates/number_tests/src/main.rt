@@ -19,47 +19,88 @@
 //! A line `@ ..` says what is shown, and is printed.
 #![tactic(auto)]
 
-mod bounds;
 mod branches;
 mod decimals;
 mod numbers;
 mod times;
 mod words;
 
-use bounds::push_bounds;
-use decimals::{push_decimal_of, push_decimals_of_units, push_pair, push_whole};
-use numbers::{push_digits, push_fixed_text, push_integer, push_number, push_product, push_units};
-use std::alloc::AllocError;
-use std::io;
-use test_lines::{Page, first_word};
+use branches::conductance;
+use conductance_bounds::Factors;
+use decimals::{push_decimal_of, push_decimals_of_units, push_rounded, push_whole};
+use numbers::{
+    number, product, push_digits, push_fixed_text, push_integer, push_number, push_units,
+};
+use std::{fmt, io};
+use test_lines::{Page, answer_lines};
+use times::{head, recharge, step};
+use words::Words;
 
-fn push_answer(page: &mut Page, line: &str) -> Result<(), AllocError> {
-    let (word, rest) = first_word(line);
-    let (first, second) = first_word(rest);
-    match word {
-        "@" => page.line(line),
-        "word" => push_number(page, rest),
-        "integer" => push_integer(page, rest),
-        "times" => push_product(page, first, second),
-        "units" => push_units(page, first, second),
-        "decimal" => push_decimal_of(page, rest),
-        "of_units" => push_decimals_of_units(page, first, second),
-        "whole" => push_whole(page, first, second),
-        "fixed" => return push_fixed_text(page, first, second),
-        "digits" => return push_digits(page, rest),
-        "mul" | "div" | "add" => push_pair(page, word, first, second),
-        _ => push_bounds(page, line),
+// Bounds after a word, or that there are none below the limit.
+fn push_bounds(
+    page: &mut Page,
+    word: &str,
+    bounds: Option<(impl fmt::Display + Drop, impl fmt::Display + Drop)>,
+) {
+    match bounds {
+        Some((lo, hi)) => page.line(format_args!("{word} {lo} {hi}")),
+        None => page.line("too large"),
     }
-    Ok(())
+}
+
+fn push_factors(page: &mut Page, factors: Factors) {
+    page.text("factors");
+    let Factors {
+        sum_lo,
+        sum_hi,
+        power_lo,
+        power_hi,
+    } = factors;
+    for x in [sum_lo, sum_hi, power_lo, power_hi] {
+        page.word(format_args!("{}e{}", x.m, x.e));
+    }
+    page.end();
+}
+
+// The answer to a question, if it is one.
+fn push_answer(page: &mut Page, line: &str) -> Option<()> {
+    let words = &mut Words(line);
+    let question = words.next();
+    match question {
+        "@" => page.line(line),
+        "word" => push_number(page, number(words)),
+        "times" => push_number(page, product(words)),
+        "integer" => push_integer(page, words),
+        "units" => push_units(page, words)?,
+        "decimal" => push_decimal_of(page, words)?,
+        "of_units" => push_decimals_of_units(page, words)?,
+        "whole" => push_whole(page, words)?,
+        "fixed" => push_fixed_text(page, words)?,
+        "digits" => push_digits(page, words)?,
+        "mul" | "div" | "add" => push_rounded(page, question, words)?,
+        "factors" => push_factors(page, step(words)?),
+        "head" => {
+            let head = head(words)?;
+            push_bounds(page, "head", Some((head.lo, head.hi)));
+        }
+        "recharge" => push_bounds(
+            page,
+            "flow",
+            recharge(words)?.map(|flow| (flow.lo, flow.hi)),
+        ),
+        _ => {
+            let bounds = conductance(question, words)?;
+            push_bounds(page, "conductance", bounds.map(|pair| (pair.lo, pair.hi)));
+        }
+    }
+    Some(())
 }
 
 fn main(rt: HostRuntime) -> io::Result<()> {
-    let alloc = rt.alloc();
-    for line in rt.lines(alloc) {
-        let line = line?;
-        let mut page = Page::new(alloc);
-        push_answer(&mut page, line.as_str())?;
-        page.print(&rt)?;
-    }
-    Ok(())
+    answer_lines(&rt, rt.alloc(), |page, line| {
+        if push_answer(page, line).is_none() {
+            page.line("no question");
+        }
+        Ok(())
+    })
 }

@@ -1,19 +1,20 @@
 // Numbers of the input, and numbers as text.
+ghost use Rattle.std.specs.Prelude.{◌≤◌, IfOk};
+ghost use Rattle.decimal_input.specs.{IsDec};
+
+use crate::words::Words;
 use decimal_input::dec::{Dec, NumFault};
 use decimal_input::product::times;
 use decimal_input::read::read_dec;
 use decimal_input::units::{ceil_at, floor_at};
 use decimal_input::word::read_int;
 use fixed_text::{push_fixed, push_number as push_number_text};
-use std::alloc::AllocError;
-use std::{fmt, str};
+use std::alloc::{AllocError, Global};
+use std::fmt;
 use test_lines::Page;
 
-pub fn push_no_question(page: &mut Page) {
-    page.line("no question");
-}
-
-fn push_result(page: &mut Page, number: Result<Dec, NumFault>) {
+/// A number, or why there is none.
+pub fn push_number(page: &mut Page, number: Result<Dec, NumFault>) {
     match number {
         Ok(number) => {
             let sign = if number.neg { "-" } else { "" };
@@ -23,24 +24,21 @@ fn push_result(page: &mut Page, number: Result<Dec, NumFault>) {
     }
 }
 
-pub fn push_number(page: &mut Page, word: &str) {
-    push_result(page, read_dec(word.as_bytes()));
+pub fn number(words: &mut Words<'_>) -> Result<Dec, NumFault>
+    ensures { IfOk result IsDec }
+{
+    read_dec(words.next().as_bytes())
 }
 
-pub fn push_integer(page: &mut Page, word: &str) {
-    match read_int(word.as_bytes()) {
+pub fn product(words: &mut Words<'_>) -> Result<Dec, NumFault> {
+    times(number(words)?, number(words)?)
+}
+
+pub fn push_integer(page: &mut Page, words: &mut Words<'_>) {
+    match read_int(words.next().as_bytes()) {
         Some(integer) => page.line(integer),
         None => page.line("none"),
     }
-}
-
-fn product(a: &str, b: &str) -> Result<Dec, NumFault> {
-    times(read_dec(a.as_bytes())?, read_dec(b.as_bytes())?)
-}
-
-/// The exact product, or why there is none.
-pub fn push_product(page: &mut Page, a: &str, b: &str) {
-    push_result(page, product(a, b));
 }
 
 fn push_some(page: &mut Page, bound: Option<impl fmt::Display + Drop>) {
@@ -63,41 +61,38 @@ pub fn push_wholes(
 }
 
 /// The greatest whole number of units not above, and the least not below.
-pub fn push_units(page: &mut Page, word: &str, places: &str) {
-    match (read_dec(word.as_bytes()), places.parse::<u32>()) {
-        (Ok(number), Ok(places)) => {
-            push_wholes(page, floor_at(number, places), ceil_at(number, places));
-        }
-        _ => push_no_question(page),
-    }
+pub fn push_units(page: &mut Page, words: &mut Words<'_>) -> Option<()> {
+    let (number, places) = (words.decimal()?, words.count()?);
+    push_wholes(page, floor_at(number, places), ceil_at(number, places));
+    Some(())
 }
 
-fn push_text(page: &mut Page, text: &[u8]) {
-    page.line(str::from_utf8(text).unwrap_or("no text"));
+fn fixed_text(alloc: Global, places: u32, units: i128) -> Result<Vec<u8>, AllocError>
+    requires { (1 ≤ places) × (places ≤ 27) }
+{
+    let mut text = Vec::new(alloc);
+    push_fixed(&mut text, places, units)?;
+    Ok(text)
+}
+
+fn number_text(alloc: Global, number: u128) -> Result<Vec<u8>, AllocError> {
+    let mut text = Vec::from_slice(alloc, b"of ")?;
+    push_number_text(&mut text, number)?;
+    Ok(text)
 }
 
 /// A number of units with PLACES digits after the point, from 1 to 27.
-pub fn push_fixed_text(page: &mut Page, places: &str, units: &str) -> Result<(), AllocError> {
-    match (places.parse::<u32>(), units.parse::<i128>()) {
-        (Ok(places), Ok(units)) if 0 < places && places <= 27 => {
-            let mut text = Vec::new(page.alloc());
-            push_fixed(&mut text, places, units)?;
-            push_text(page, text.as_slice());
-        }
-        _ => push_no_question(page),
+pub fn push_fixed_text(page: &mut Page, words: &mut Words<'_>) -> Option<()> {
+    let (places, units) = (words.count()?, words.next().parse::<i128>().ok()?);
+    if places < 1 || places > 27 {
+        return None;
     }
-    Ok(())
+    page.bytes(fixed_text(page.alloc(), places, units));
+    Some(())
 }
 
 /// A number after a text.
-pub fn push_digits(page: &mut Page, number: &str) -> Result<(), AllocError> {
-    match number.parse::<u128>() {
-        Ok(number) => {
-            let mut text = Vec::from_slice(page.alloc(), b"of ")?;
-            push_number_text(&mut text, number)?;
-            push_text(page, text.as_slice());
-        }
-        Err(_) => push_no_question(page),
-    }
-    Ok(())
+pub fn push_digits(page: &mut Page, words: &mut Words<'_>) -> Option<()> {
+    page.bytes(number_text(page.alloc(), words.next().parse::<u128>().ok()?));
+    Some(())
 }

@@ -1,10 +1,13 @@
-// Time steps, storage and given heads.
-ghost use Rattle.std.specs.Prelude.{◌≤◌, IfSome, IsTrue};
+// Time steps, storage, given heads and recharge.
+ghost use Rattle.std.specs.Prelude.{IfSome, IsTrue};
 ghost use Rattle.model_types.specs.{IsPositive};
 ghost use Rattle.conductance_bounds.specs.{IsMultiplier, IsUsable};
 
 use crate::words::Words;
-use conductance_bounds::{Factors, HeadPair, Pair, Part, given_head, step_factors, storage_branch};
+use conductance_bounds::{
+    Factors, FlowPair, HeadPair, Pair, Part, given_head, recharge_flow, step_factors,
+    storage_branch,
+};
 use decimal_input::dec::Dec;
 use number_limits::{is_at_least, is_at_most, is_one};
 
@@ -21,33 +24,28 @@ fn is_multiplier(tsmult: Dec, nstp: u32) -> bool
 pub fn step(words: &mut Words<'_>) -> Option<Factors>
     ensures { IfSome result IsUsable }
 {
-    let (tsmult, nstp, step) = (words.positive(), words.count(), words.count());
+    let (tsmult, nstp, step) = (words.positive()?, words.count()?, words.count()?);
     if nstp > 100_000 || step < 1 || step > nstp || !is_multiplier(tsmult, nstp) {
-        words.are_clear = false;
         return None;
     }
     Some(step_factors(tsmult, nstp, step))
 }
 
-pub fn storage(words: &mut Words<'_>) -> Option<Pair> {
-    let ss = words.not_negative();
-    let thick = words.thickness()?;
-    let (delr, delc) = (words.positive(), words.positive());
-    let factors = step(words)?;
-    let (perlen, s) = (words.positive(), words.digits());
-    storage_branch(
-        ss,
-        Some((thick.lo, thick.hi)),
-        delr,
-        delc,
-        &factors,
-        perlen,
-        s,
-    )
+pub fn storage(words: &mut Words<'_>) -> Option<Option<Pair>> {
+    let (ss, thick) = (words.not_negative()?, words.thickness()?);
+    let thick = Some((thick.lo, thick.hi));
+    let (delr, delc, factors) = (words.positive()?, words.positive()?, step(words)?);
+    let (perlen, s) = (words.positive()?, words.digits()?);
+    Some(storage_branch(ss, thick, delr, delc, &factors, perlen, s))
 }
 
 pub fn head(words: &mut Words<'_>) -> Option<HeadPair> {
     let (shead, ehead) = (words.head()?, words.head()?);
-    let (lo, hi) = (words.part(), words.part());
+    let (lo, hi) = (words.part()?, words.part()?);
     Some(given_head(shead, ehead, Part { lo, hi }))
+}
+
+pub fn recharge(words: &mut Words<'_>) -> Option<Option<FlowPair>> {
+    let (rech, delr, delc) = (words.decimal()?, words.positive()?, words.positive()?);
+    Some(recharge_flow(rech, delr, delc, words.digits()?))
 }

@@ -10,73 +10,46 @@ use decimal_input::read::read_dec;
 use number_limits::{is_head, is_positive, is_thick};
 use test_lines::first_word;
 
-const ONE: Dec = Dec {
-    neg: false,
-    digits: 1,
-    exp: 0,
-};
-
-/// The words that are still to be read, and whether each so far was a number of the kind that was asked for.
+/// The words that are still to be read. Each number is the next word's, if it is one of its kind.
 #[derive(Drop)]
-pub struct Words<'a> {
-    rest: &'a str,
-    pub are_clear: bool,
-}
+pub struct Words<'a>(pub &'a str);
 
 impl<'a> Words<'a> {
-    pub fn new(line: &'a str) -> Words<'a> {
-        Words {
-            rest: line,
-            are_clear: true,
-        }
-    }
-
     /// The next word; empty after the last one.
     pub fn next(&mut self) -> &'a str {
-        let (word, rest) = first_word(self.rest);
-        self.rest = rest;
+        let (word, rest) = first_word(self.0);
+        self.0 = rest;
         word
     }
 
-    // A number in place of one of another kind.
-    fn one(&mut self) -> Dec
-        ensures { IsPositive result }
+    pub fn decimal(&mut self) -> Option<Dec>
+        ensures { IfSome result IsDec }
     {
-        self.are_clear = false;
-        ONE
+        read_dec(self.next().as_bytes()).ok()
     }
 
-    pub fn decimal(&mut self) -> Dec
-        ensures { IsDec result }
+    pub fn positive(&mut self) -> Option<Dec>
+        ensures { IfSome result IsPositive }
     {
-        match read_dec(self.next().as_bytes()) {
-            Ok(number) => number,
-            Err(_) => self.one(),
-        }
-    }
-
-    pub fn positive(&mut self) -> Dec
-        ensures { IsPositive result }
-    {
-        let number = self.decimal();
+        let number = self.decimal()?;
         if is_positive(number) {
-            number
+            Some(number)
         } else {
-            self.one()
+            None
         }
     }
 
-    pub fn not_negative(&mut self) -> Dec
-        ensures { IsNotNegative result }
+    pub fn not_negative(&mut self) -> Option<Dec>
+        ensures { IfSome result IsNotNegative }
     {
-        let number = self.decimal();
-        if number.neg { self.one() } else { number }
+        let number = self.decimal()?;
+        if number.neg { None } else { Some(number) }
     }
 
     pub fn head(&mut self) -> Option<Dec>
         ensures { IfSome result IsHeadNumber }
     {
-        let number = self.decimal();
+        let number = self.decimal()?;
         if is_head(number) { Some(number) } else { None }
     }
 
@@ -84,43 +57,37 @@ impl<'a> Words<'a> {
     pub fn thickness(&mut self) -> Option<Span>
         ensures { IfSome result (λ t. AreThick t.lo t.hi) }
     {
-        let (top, bottom) = (self.decimal(), self.decimal());
+        let (top, bottom) = (self.decimal()?, self.decimal()?);
         if is_thick(top, bottom) {
-            return Some(thickness(top, bottom));
+            Some(thickness(top, bottom))
+        } else {
+            None
         }
-        self.are_clear = false;
-        None
     }
 
     // A number of at most `most`.
-    fn at_most(&mut self, most: u64) -> u64
-        ensures { result ≤ most }
+    fn at_most(&mut self, most: u64) -> Option<u64>
+        ensures { IfSome result (λ n. n ≤ most) }
     {
-        match self.next().parse::<u64>() {
-            Ok(number) if number <= most => number,
-            _ => {
-                self.are_clear = false;
-                0
-            }
-        }
+        let number = self.next().parse::<u64>().ok()?;
+        if number <= most { Some(number) } else { None }
     }
 
-    pub fn count(&mut self) -> u32 {
-        let number = self.next().parse::<u32>();
-        self.are_clear &= number.is_ok();
-        number.unwrap_or(0)
+    pub fn count(&mut self) -> Option<u32> {
+        self.next().parse::<u32>().ok()
     }
 
     /// The number of digits of a conductance.
-    pub fn digits(&mut self) -> u32
-        ensures { result ≤ 18 }
+    pub fn digits(&mut self) -> Option<u32>
+        ensures { IfSome result (λ n. n ≤ 18) }
     {
-        self.at_most(18) as u32
+        let digits = self.at_most(18)?;
+        Some(digits as u32)
     }
 
     /// A part of a stress period, in units of 10^-18.
-    pub fn part(&mut self) -> u64
-        ensures { result ≤ 10 ^ 18 }
+    pub fn part(&mut self) -> Option<u64>
+        ensures { IfSome result (λ n. n ≤ 10 ^ 18) }
     {
         self.at_most(1_000_000_000_000_000_000)
     }

@@ -1,11 +1,11 @@
 // A state of shared heads, and single events on it.
-ghost use Rattle.std.specs.Prelude.{◌≡◌, ◌<◌, length, slice_index_or, IfOk};
+ghost use Rattle.std.specs.Prelude.{◌≡◌, ◌<◌, length, IfOk};
 ghost use Rattle.step_problem.specs.{Edges};
-ghost use Rattle.cell_relax.specs.{AreNoLooser, IsRelaxedOn, tighter_of, AreWords, heads_on};
+ghost use Rattle.cell_relax.specs.{AreNoLooser, IsRelaxedOn, AreWords, heads_on};
 ghost use Rattle.relax_core.specs.Kept.{IsInRange, IsNamed, IsStart, Puts, Relaxes, Sees, Step, seen_by, with_head, IsKept};
 
 use crate::events::Event;
-use cell_relax::{head_on, relax_in};
+use cell_relax::{head_on, relax_in, tighter_of};
 use std::alloc::{AllocError, Global};
 use std::marker::Model;
 use step_problem::{Bound, Problem, Side};
@@ -27,15 +27,6 @@ impl Model for State {
       words = s.words.items;
       seen = map (λ v. v.items) s.seen.items;
     } };
-}
-
-fn tighter_of(side: Side, a: i64, b: i64) -> i64
-    ensures { result ≡ tighter_of side a b }
-{
-    match side {
-        Side::Low => a.max(b),
-        Side::High => a.min(b),
-    }
 }
 
 // Puts a head into one side of a cell's bound.

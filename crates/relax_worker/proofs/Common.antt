@@ -4,7 +4,7 @@ pub use Rattle.std.proofs.Common.{◌%◌, ◌+◌, ◌-◌, ◌<◌, ◌∙◌,
 pub use Rattle.std.proofs.lemmas.Int.{clamps, ints, to_z-of_z}
 pub use Rattle.std.specs.Int.{w64}
 pub use Rattle.cell_relax.proofs.Relaxing.{ends_in_range, read_more}
-pub use Rattle.cell_relax.proofs.Sides.{is_side}
+pub use Rattle.cell_relax.proofs.Sides.{is_side, tighter_second}
 pub use Rattle.cell_relax.specs.{AreNoLooser, IsAsTight, IsRelaxedOn, other, tighter_of}
 pub use Rattle.head_table.proofs.WordReads.{moves_no_looser, no_looser_trans, same_no_looser}
 pub use Rattle.head_table.specs.{HasMoved, IsSeatOf, SameOn, SameOnBut, seen_of, seen_on}

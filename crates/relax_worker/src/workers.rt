@@ -1,14 +1,14 @@
 // A worker's turns.
 ghost use Rattle.std.specs.Prelude.{◌≡◌, ℕ, ◌-◌, ◌%◌, ◌<◌, ◌≤◌, length, All};
 ghost use Rattle.step_problem.specs.declared.heads.Side.{Side};
-ghost use Rattle.cell_relax.specs.{AreNoLooser, other, IsAsTight, IsRelaxedOn};
-ghost use Rattle.head_table.specs.{HasMoved, IsSeatOf, seen_of, seen_on, SameOn, SameOnBut};
+ghost use Rattle.cell_relax.specs.{AreNoLooser, other};
+ghost use Rattle.head_table.specs.{HasMoved, IsSeatOf, seen_of, seen_on, SameOn};
 ghost use Rattle.step_problem.specs.{ends_in, link_at};
 
 use cell_relax::relax_to;
 use head_table::{HeadSeat, HeadTable};
 use outside::Gate;
-use step_problem::{Link, Problem, Side};
+use step_problem::{Link, Side};
 
 // The place of a ticket's cell, before it is taken modulo the number of cells. A worker goes through the cells as they lie in memory,
 // an even number of cells from where the next worker does: so workers rarely share a cache line, and two that take tickets by turns
@@ -66,12 +66,12 @@ fn relax_cell(table: &HeadTable, seat: &mut HeadSeat, side: Side, cell: usize)
     let problem = table.problem();
     problem.recall_conditions();
     let links = problem.cell(cell).links.as_slice();
-    let own = load(table, seat, side, cell);
+    let own = table.load(seat, side, cell);
     let mut values = [0i64; 6];
     let values = &mut values[..links.len()];
     load_links(table, seat, side, links, values);
     let to = relax_to(problem, side, cell, own, values);
-    move_to(table, seat, side, cell, to);
+    table.exchange(seat, side, cell, to);
 }
 
 /// One turn at the cell of a ticket: it loads the lower heads of the cell and of its links, raises it, loads
@@ -88,28 +88,9 @@ pub fn turn(table: &HeadTable, seat: &mut HeadSeat, ticket: u64)
     relax_cell(table, seat, Side::High, cell);
 }
 
-// Loads and moves of heads on either side. They are inlined, so that each side has code of its own.
-
-// Loads the head of a cell on a side.
+// Loads the heads at the links' other ends, in the order of the links. It is inlined, so that each side has code of its own.
 #[inline(always)]
-pub(crate) fn load(table: &HeadTable, seat: &mut HeadSeat, side: Side, cell: usize) -> i64
-    requires seat { IsSeatOf table.now seat.old }
-    requires cell { cell < length table.now.problem.now }
-    ensures seat { IsSeatOf table.now seat.new }
-    ensures seen { seen_on side seat.new cell ≡ result }
-    ensures later { IsAsTight side (seen_on side seat.old cell) result }
-    ensures others { SameOnBut side cell seat.old seat.new }
-    ensures opposite { SameOn (other side) seat.old seat.new }
-{
-    match side {
-        Side::Low => table.load_low(seat, cell),
-        Side::High => table.load_high(seat, cell),
-    }
-}
-
-// Loads the heads at the links' other ends, in the order of the links.
-#[inline(always)]
-pub(crate) fn load_links(
+fn load_links(
     table: &HeadTable,
     seat: &mut HeadSeat,
     side: Side,
@@ -127,27 +108,6 @@ pub(crate) fn load_links(
     ensures opposite { SameOn (other side) seat.old seat.new }
 {
     for i in 0..links.len() {
-        values[i] = load(table, seat, side, links[i].cell as usize);
-    }
-}
-
-// Raises or sinks a cell to `to`, its relaxed head from what the seat has seen.
-#[inline(always)]
-pub(crate) fn move_to(table: &HeadTable, seat: &mut HeadSeat, side: Side, cell: usize, to: i64)
-    requires seat { IsSeatOf table.now seat.old }
-    requires cell { cell < length table.now.problem.now }
-    requires to { IsRelaxedOn side table.now.problem.now (seen_on side seat.old) cell to }
-    ensures seat { IsSeatOf table.now seat.new }
-    ensures past { IsAsTight side to (seen_on side seat.new cell) }
-    ensures no_looser { AreNoLooser table.now.problem.now (seen_of seat.old) (seen_of seat.new) }
-    ensures opposite { SameOn (other side) seat.old seat.new }
-{
-    match side {
-        Side::Low => {
-            table.raise(seat, cell, to);
-        }
-        Side::High => {
-            table.sink(seat, cell, to);
-        }
+        values[i] = table.load(seat, side, links[i].cell as usize);
     }
 }

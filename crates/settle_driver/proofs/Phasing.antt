@@ -1,37 +1,14 @@
 -- Phases cover plain rounds, and reach the settled pair where that number of rounds settles.
 use Rattle.settle_driver.proofs.Common.{◌≡◌, ℕ, ◌+◌, ◌<◌, sym, subst, List, length, add-one, ℤ, inl, inr, arith, false, ◌≤ℤ◌, ◌<ℤ◌, Bound, Side, Low, High}
 use Rattle.settle_driver.proofs.Common.{Entries, IsHead, IsProblem, Edges, OpenHeads, IsBarrier, RoundsSettleBoth, AreOnTheWay, AreSettled, IsFirstOpen}
-use Rattle.settle_driver.proofs.Common.{IsUnfinished, IsFirstSettled, RoundsSettle, AsTight, IsPast, lower_at, upper_at, IsRaise, IsSink, CanMove}
-use Rattle.settle_driver.proofs.Common.{first_settled, CoversRounds, covers_none, rounds_settle, IsSide, past_covers, covers_more, IsAsTight, Moves, heads_on}
-use Rattle.settle_driver.proofs.Common.{AreWords, is_side, IsPastCell, AreBothSettled, StayOnTheWay, SettleWithin, IsFirstSide, ints, by_lt_z, Option, Some}
-use Rattle.settle_driver.proofs.Common.{None, MatchOption, is_some}
-use Rattle.relax_core.specs.{edge_on}
-use Rattle.relax_core.proofs.Keeping.{way_on}
+use Rattle.settle_driver.proofs.Common.{IsUnfinished, IsFirstSettled, RoundsSettle, IsPast, lower_at, upper_at, IsRaise, IsSink, CanMove, first_settled}
+use Rattle.settle_driver.proofs.Common.{CoversRounds, covers_none, rounds_settle, IsSide, past_covers, covers_more, IsAsTight, Moves, heads_on, is_side}
+use Rattle.settle_driver.proofs.Common.{IsPastCell, AreBothSettled, IsFirstSide, ints, by_lt_z, Option, Some, None, MatchOption, is_some, edge_on, way_on}
 use lib.Signed.{lt_z}
 
--- Sweeps cover plain rounds, and reach the settled pair where that number of rounds settles.
--- what k sweeps have made of the old words
-pub record SweptTimes (p : List Entries) (old w : List Bound) (k : ℕ) : Type 0 where
-  pub words : AreWords p w
-  pub way : StayOnTheWay p old w
-  pub covers : (side : Side) (edge : ℕ → ℤ) → AsTight (IsAsTight side) (Moves side p) (length p) edge (heads_on side old) → CoversRounds (IsAsTight side) (Moves side p) (length p) k edge (heads_on side w)
-
-pub swept_never : (p : List Entries) (old : List Bound) → IsProblem p → AreWords p old → SweptTimes p old old 0
-swept_never p old ok words = record { words = words; way = record { on = λ side edge k. k }; covers = λ side edge b. covers_none (is_side side p ok) edge (heads_on side old) b }
-
-pub one_more : {Le : ℤ → ℤ → Type 0} {Moves : ℕ → ℤ → (ℕ → ℤ) → Type 0} {n : ℕ} → IsSide Le Moves n → (k : ℕ) (edge w next : ℕ → ℤ) → CoversRounds Le Moves n k edge w → ((c : ℕ) → c < n → IsPast Le Moves n w c (next c)) → CoversRounds Le Moves n (k + 1) edge next
+one_more : {Le : ℤ → ℤ → Type 0} {Moves : ℕ → ℤ → (ℕ → ℤ) → Type 0} {n : ℕ} → IsSide Le Moves n → (k : ℕ) (edge w next : ℕ → ℤ) → CoversRounds Le Moves n k edge w → ((c : ℕ) → c < n → IsPast Le Moves n w c (next c)) → CoversRounds Le Moves n (k + 1) edge next
 one_more {Le} {Moves} {n} s k edge w next before past =
     subst (λ (i : ℕ). CoversRounds Le Moves n i edge next) (sym (add-one k)) (covers_more s k edge w next before (past_covers s w next past))
-
-pub swept_again : (p : List Entries) (old w next : List Bound) (k : ℕ) → IsProblem p → SweptTimes p old w k → AreWords p next → StayOnTheWay p w next → ((c : ℕ) → c < length p → IsPastCell p w next c) → SweptTimes p old next (k + 1)
-swept_again p old w next k ok s words way past = record {
-  words = words;
-  way = record { on = λ side edge h. way.on side edge (s.way.on side edge h) };
-  covers = λ side edge b. one_more (is_side side p ok) k edge (heads_on side w) (heads_on side next) (s.covers side edge b) (λ c i. past c i side);
-}
-
-pub swept_settles : (p : List Entries) (old w : List Bound) (k : ℕ) → IsProblem p → SweptTimes p old w k → SettleWithin p k old w
-swept_settles p old w k ok s = record { on = λ side edge heads way rounds. rounds_settle (is_side side p ok) k edge (heads_on side w) heads (s.way.on side edge way).under (s.covers side edge way.past_barrier) rounds }
 
 -- A cell that can move, and one that can't.
 module _ (p : List Entries) (w : List Bound) (c : ℕ) (r : ℤ) where
@@ -113,6 +90,11 @@ module _ (p : List Entries) (b : Edges) (ok : IsProblem p) where
       first : (side : Side) → IsFirstSettled (IsAsTight side) (Moves side p) (length p) (edge_on side b) (heads_on side w)
       first side = first_settled (is_side side p ok) (edge_on side b) (heads_on side w) (way_on side p b w way) (settled side)
 
+  -- where k plain rounds settle, k phases do
+  pub phased_settles : (w : List Bound) (k : ℕ) → IsBarrier p b → ArePhased p b k w → RoundsSettleBoth p b k → AreBothSettled p w
+  phased_settles w k barrier s rounds side =
+      rounds_settle (is_side side p ok) k (edge_on side b) (heads_on side w) (edge_heads side p b barrier) (way_on side p b w s.way).under (s.covers side) (rounds_on side p b k rounds)
+
   -- words on the way with a cell that can move show that the rounds which would settle them do not settle
   pub open_unfinished : (w : List Bound) (k : ℕ) (o : OpenHeads) → AreOnTheWay p b w → (RoundsSettleBoth p b k → AreBothSettled p w) → o.words ≡ w → IsFirstOpen p w o.cell o.side → IsUnfinished p b k o
   open_unfinished w k o way settles same first = record {
@@ -120,21 +102,3 @@ module _ (p : List Entries) (b : Edges) (ok : IsProblem p) where
     words = subst (AreOnTheWay p b) (sym same) way;
     open_cell = subst (λ (x : List Bound). IsFirstOpen p x o.cell o.side) (sym same) first;
   }
-
-  -- words with a cell that can move, after k phases, show that k plain rounds do not settle
-  pub phased_unfinished : (w : List Bound) (k : ℕ) (o : OpenHeads) → IsBarrier p b → ArePhased p b k w → o.words ≡ w → IsFirstOpen p w o.cell o.side → IsUnfinished p b k o
-  phased_unfinished w k o barrier s =
-      open_unfinished w k o s.way (λ rounds side. rounds_settle (is_side side p ok) k (edge_on side b) (heads_on side w) (edge_heads side p b barrier) (way_on side p b w s.way).under (s.covers side) (rounds_on side p b k rounds))
-
--- What a settler that sweeps returns.
-pub sweeps_on_the_way : (p : List Entries) (b : Edges) (w next : List Bound) → AreOnTheWay p b w → StayOnTheWay p w next → AreWords p next → AreOnTheWay p b next
-sweeps_on_the_way p b w next from way words = record { whole = words.whole; low = way.on Low (edge_on Low b) from.low; high = way.on High (edge_on High b) from.high }
-
-module _ (p : List Entries) (b : Edges) (ok : IsProblem p) (barrier : IsBarrier p b) where
-  pub sweeps_are_settled : (w next : List Bound) → AreOnTheWay p b w → StayOnTheWay p w next → AreWords p next → AreBothSettled p next → AreSettled p b next
-  sweeps_are_settled w next from way words settled = settled_on_the_way p b ok next (sweeps_on_the_way p b w next from way words) settled
-
-  -- words with a cell that can move, swept from a barrier's own, show that this number of rounds does not settle
-  pub sweeps_are_unfinished : (w next : List Bound) (k : ℕ) (o : OpenHeads) → AreOnTheWay p b w → StayOnTheWay p w next → AreWords p next → SettleWithin p k w next → o.words ≡ next → IsFirstOpen p next o.cell o.side → IsUnfinished p b k o
-  sweeps_are_unfinished w next k o from way words within =
-      open_unfinished p b ok next k o (sweeps_on_the_way p b w next from way words) (λ rounds side. within.on side (edge_on side b) (edge_heads side p b barrier) (way_on side p b w from) (rounds_on side p b k rounds))

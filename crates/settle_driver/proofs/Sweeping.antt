@@ -4,12 +4,11 @@ use Rattle.settle_driver.proofs.Common.{suc, ◌%◌, ◌∷◌, ◌++◌, get_o
 use Rattle.settle_driver.proofs.Common.{Entries, IsHead, IsProblem, AsTight, AreHeads, IsRelaxed, IsPast, IsOnTheWay, no_bound, IsSide, as_tight_refl}
 use Rattle.settle_driver.proofs.Common.{as_tight_trans, turn_passes, passes_more, edge_kept, is_side, heads_in_range, tighter_first, tighter_second}
 use Rattle.settle_driver.proofs.Common.{AreNoLooser, head_of, heads_on, AreWords, IsAsTight, IsRelaxedCell, IsPastCell, StayOnTheWay, AreBothSettled, HasSeen}
-use Rattle.settle_driver.proofs.Common.{HasWorked, HeadTable, HeadSeat, HasMoved, HasTighter, seen_of, seen_on}
-use Rattle.std.proofs.lemmas.Bool.{cases_eq}
+use Rattle.settle_driver.proofs.Common.{HasWorked, HeadTable, HeadSeat, HasMoved, HasTighter, seen_of, seen_on, cases_eq, way_on, OnTheWay, edge_on}
+use Rattle.settle_driver.proofs.Common.{get_or-append}
 use Rattle.step_problem.proofs.SidesTurns.{tighter, relaxed_exchange, relaxed_keeps}
 use Rattle.head_table.proofs.Joining.{ok_under}
 use Rattle.std.specs.declared.alloc.AllocError.{AllocError}
-use Rattle.std.proofs.Math.ListN.{get_or-append}
 use native.Mathlib.Nat.{mod-lt}
 
 module _ {Le : ℤ → ℤ → Type 0} {Moves : ℕ → ℤ → (ℕ → ℤ) → Type 0} {n : ℕ} (s : IsSide Le Moves n) where
@@ -24,10 +23,10 @@ module _ {Le : ℤ → ℤ → Type 0} {Moves : ℕ → ℤ → (ℕ → ℤ) �
   tight_more : (old l next : ℕ → ℤ) (c : ℕ) → AsTight Le Moves n old l → IsRelaxed Le Moves n l c (next c) → ((d : ℕ) → (d ≡ c → ⊥) → next d ≡ l d) → AsTight Le Moves n old next
   tight_more old l next c tight t others = as_tight_trans s old l next tight (tighter s l c (next c) (next c) next (relaxed_exchange s l next c (next c) refl others t))
 
-  pub way_more : (edge l next : ℕ → ℤ) (c : ℕ) → c < n → IsOnTheWay Le Moves n edge l → IsRelaxed Le Moves n l c (next c) → ((d : ℕ) → (d ≡ c → ⊥) → next d ≡ l d) → IsOnTheWay Le Moves n edge next
+  way_more : (edge l next : ℕ → ℤ) (c : ℕ) → c < n → IsOnTheWay Le Moves n edge l → IsRelaxed Le Moves n l c (next c) → ((d : ℕ) → (d ≡ c → ⊥) → next d ≡ l d) → IsOnTheWay Le Moves n edge next
   way_more edge l next c h k t others = relaxed_keeps s edge l next c (next c) h k refl others t
 
-  pub heads_more : (l next : ℕ → ℤ) (c : ℕ) → c < n → AreHeads Le Moves n l → IsRelaxed Le Moves n l c (next c) → ((d : ℕ) → (d ≡ c → ⊥) → next d ≡ l d) → AreHeads Le Moves n next
+  heads_more : (l next : ℕ → ℤ) (c : ℕ) → c < n → AreHeads Le Moves n l → IsRelaxed Le Moves n l c (next c) → ((d : ℕ) → (d ≡ c → ⊥) → next d ≡ l d) → AreHeads Le Moves n next
   heads_more l next c h heads t others = (way_more l l next c h (edge_kept s l heads) t others).heads
 
 -- what relaxing some cells has made of the old words
@@ -38,17 +37,15 @@ pub record Listed (p : List Entries) (old w : List Bound) : Type 0 where
 
 -- what a sweep has made of them before it comes to cell c
 pub record Swept (p : List Entries) (old w : List Bound) (moved : Bool) (c : ℕ) : Type 0 where
-  pub words : AreWords p w
-  pub way : StayOnTheWay p old w
-  pub tight : AreNoLooser p old w
+  pub listed : Listed p old w
   pub past : (d : ℕ) → d < c → IsPastCell p old w d
   pub still : moved ≡ false → w ≡ old
 
 pub listed_none : (p : List Entries) (old : List Bound) → IsProblem p → AreWords p old → Listed p old old
-listed_none p old ok words = record { words = words; way = record { on = λ side edge k. k }; tight = λ side. as_tight_refl (is_side side p ok) (heads_on side old) }
+listed_none p old ok words = record { words = words; way = record { on = λ b k. k }; tight = λ side. as_tight_refl (is_side side p ok) (heads_on side old) }
 
 pub swept_none : (p : List Entries) (old : List Bound) → IsProblem p → AreWords p old → Swept p old old false 0
-swept_none p old ok words = let none = listed_none p old ok words in record { words = words; way = none.way; tight = none.tight; past = λ d i. absurd (omega arith); still = λ e. refl }
+swept_none p old ok words = record { listed = listed_none p old ok words; past = λ d i. absurd (omega arith); still = λ e. refl }
 
 neither : (a b : Bool) → (a || b) ≡ false → (a ≡ false) × (b ≡ false)
 neither false false e = (refl, refl)
@@ -68,16 +65,19 @@ module _ (p : List Entries) (old w next : List Bound) (c : ℕ) (ok : IsProblem 
     pub listed_more : Listed p old w → Listed p old next
     listed_more s = record {
       words = record { whole = same ∙ s.words.whole; low = in_range s.words Low; high = in_range s.words High };
-      way = record { on = λ side edge k. way_more (is_side side p ok) edge (heads_on side w) (heads_on side next) c i (s.way.on side edge k) (t side) (same_on side) };
+      way = record {
+        on = λ b k.
+            let on : (side : Side) → OnTheWay side p (edge_on side b) (heads_on side next) =
+            λ side. way_more (is_side side p ok) (edge_on side b) (heads_on side w) (heads_on side next) c i (way_on side p b w (s.way.on b k)) (t side) (same_on side) in
+            record { whole = same ∙ s.words.whole; low = on Low; high = on High };
+      };
       tight = λ side. tight_more (is_side side p ok) (heads_on side old) (heads_on side w) (heads_on side next) c (s.tight side) (t side) (same_on side);
     }
 
     pub swept_more : (moved now : Bool) → Swept p old w moved c → (now ≡ false → next ≡ w) → Swept p old next (moved || now) (c + 1)
-    swept_more moved now s still = let more = listed_more (record { words = s.words; way = s.way; tight = s.tight }) in record {
-      words = more.words;
-      way = more.way;
-      tight = more.tight;
-      past = λ d h side. past_more (is_side side p ok) (heads_on side old) (heads_on side w) (heads_on side next) c i (s.tight side) (t side) (same_on side) (λ k hk. s.past k hk side) d h;
+    swept_more moved now s still = record {
+      listed = listed_more s.listed;
+      past = λ d h side. past_more (is_side side p ok) (heads_on side old) (heads_on side w) (heads_on side next) c i (s.listed.tight side) (t side) (same_on side) (λ k hk. s.past k hk side) d h;
       still = λ e. let (a, b) = neither moved now e in still b ∙ s.still a;
     }
 

@@ -2,12 +2,16 @@
 use Rattle.settle_driver.proofs.Common.{◌≡◌, ℕ, ◌+◌, ◌*◌, ◌<◌, ◌⊎◌, inl, inr, refl, sym, subst, arith, Bool, true, false, List, length, ℤ, ◌≤ℤ◌, Result, Ok}
 use Rattle.settle_driver.proofs.Common.{Err, ints, Bound, Low, High, Entries, IsHead, Edges, head_at, lower_at, upper_at, AreNoLooser, HeadTable, HeadSeat}
 use Rattle.settle_driver.proofs.Common.{AreHeld, IsSeatOf, ShowsSeen, barrier_of, seen_of, ArePastBarrier, EnclosesPair, had_memory, AddsViews, AddsTurns}
-use Rattle.settle_driver.proofs.Common.{AddsPhases}
+use Rattle.settle_driver.proofs.Common.{AddsPhases, zero, suc, ◌∙◌, IsTrue, ◌↔◌, false≢true}
 use Rattle.std.specs.Result.{is_ok}
 use Rattle.std.specs.declared.vec.Vec.{Vec}
 use Rattle.std.specs.declared.alloc.Global.{Global}
 use Rattle.step_problem.specs.declared.heads.SettleFault.{SettleFault}
 use Rattle.step_problem.specs.declared.heads.SettleFault.TheVariants.{Unfinished, Memory}
+
+pub some_cell : (n : ℕ) (none : Bool) → IsTrue none ↔ (n ≡ 0) → none ≡ false → 0 < n
+some_cell zero none iff e = absurd (false≢true (sym e ∙ iff.1 refl))
+some_cell (suc n) none iff e = omega arith
 
 -- heads are an answer of a settling that had memory
 pub ok_had_memory : (r : Result (Vec Bound Global) SettleFault) → is_ok r ≡ true → had_memory r ≡ true
@@ -28,51 +32,37 @@ module _ {V : Type 0} (viewed : V → List Entries → Edges → ℕ → V → T
     stays = λ s. next.stays (first.stays s);
   }
 
-  -- what k whole phases add
-  pub record AddsWhole (k turns : ℕ) (old new : V) : Type 0 where
-    pub count : ℕ
-    pub views : AddsViews viewed stopped p b count old new
-    pub each_phase : stopped new ⊎ (count ≡ k * turns)
+  count_adds_up : (k l i j : ℕ) (m z : V) → (stopped m → stopped z) → stopped m ⊎ (i ≡ k) → stopped z ⊎ (j ≡ l) → stopped z ⊎ (i + j ≡ k + l)
+  count_adds_up k l i j m z stays (inl s) after = inl (stays s)
+  count_adds_up k l i j m z stays (inr e) (inl s) = inl s
+  count_adds_up k l i j m z stays (inr e) (inr d) = inr (omega (arith, e, d))
 
-  pub no_phase : (turns : ℕ) (v : V) → AddsWhole 0 turns v v
-  no_phase turns v = record { count = 0; views = no_views v; each_phase = inr (omega arith) }
-
-  count_adds_up : (k l i j turns : ℕ) (m z : V) → (stopped m → stopped z) → stopped m ⊎ (i ≡ k * turns) → stopped z ⊎ (j ≡ l * turns) → stopped z ⊎ (i + j ≡ (k + l) * turns)
-  count_adds_up k l i j turns m z stays (inl s) after = inl (stays s)
-  count_adds_up k l i j turns m z stays (inr e) (inl s) = inl s
-  count_adds_up k l i j turns m z stays (inr e) (inr d) = inr (omega (arith, e, d))
-
-  one_phase : (j turns : ℕ) (z : V) → stopped z ⊎ (j ≡ turns) → stopped z ⊎ (j ≡ 1 * turns)
-  one_phase j turns z (inl s) = inl s
-  one_phase j turns z (inr e) = inr (omega (arith, e))
-
-  pub one_phase_more : (k turns : ℕ) (a m z : V) → AddsWhole k turns a m → AddsTurns viewed stopped p b turns true m z → AddsWhole (k + 1) turns a z
-  one_phase_more k turns a m z first next = record {
+  turns_add_up : (k l : ℕ) (made : Bool) (a m z : V) → AddsTurns viewed stopped p b k true a m → AddsTurns viewed stopped p b l made m z → AddsTurns viewed stopped p b (k + l) made a z
+  turns_add_up k l made a m z first next = record {
     count = first.count + next.count;
     views = views_add_up first.count next.count a m z first.views next.views;
-    each_phase = count_adds_up k 1 first.count next.count turns m z next.views.stays first.each_phase (one_phase next.count turns z (next.each_turn refl));
+    each_turn = λ e. count_adds_up k l first.count next.count m z next.views.stays (first.each_turn refl) (next.each_turn e);
   }
+
+  pub no_turns : (turns : ℕ) (v : V) → AddsTurns viewed stopped p b (0 * turns) true v v
+  no_turns turns v = record { count = 0; views = no_views v; each_turn = λ e. inr (omega arith) }
+
+  -- the turns of one phase more
+  pub one_phase_more : (k turns : ℕ) (made : Bool) (a m z : V) → AddsTurns viewed stopped p b (k * turns) true a m → AddsTurns viewed stopped p b turns made m z → AddsTurns viewed stopped p b ((k + 1) * turns) made a z
+  one_phase_more k turns made a m z first next =
+      let e : k * turns + turns ≡ (k + 1) * turns = omega arith in subst (λ (n : ℕ). AddsTurns viewed stopped p b n made a z) e (turns_add_up (k * turns) turns made a m z first next)
 
   some_phases : (k i turns : ℕ) (z : V) → 0 < k → stopped z ⊎ (i ≡ k * turns) → stopped z ⊎ ((phases : ℕ) × (0 < phases) × (i ≡ phases * turns))
   some_phases k i turns z some (inl s) = inl s
   some_phases k i turns z some (inr e) = inr (k, some, e)
 
-  -- a settling that had memory for its phases
-  pub phases_made : (k turns : ℕ) (a z : V) → 0 < k → 0 < length p → AddsWhole k turns a z → AddsPhases viewed stopped p b turns true a z
-  phases_made k turns a z some cell whole = record {
+  -- a settling of a phase or more
+  pub phases_made : (k turns : ℕ) (made : Bool) (a z : V) → 0 < k → 0 < length p → AddsTurns viewed stopped p b (k * turns) made a z → AddsPhases viewed stopped p b turns made a z
+  phases_made k turns made a z some cell whole = record {
     count = whole.count;
     views = whole.views;
     no_cell = λ e. absurd (omega (arith, e, cell));
-    each_phase = λ _ _. some_phases k whole.count turns z some whole.each_phase;
-  }
-
-  -- a settling whose last phase lacked memory
-  pub phases_fail : (k turns : ℕ) (a m z : V) → 0 < length p → AddsWhole k turns a m → AddsTurns viewed stopped p b turns false m z → AddsPhases viewed stopped p b turns false a z
-  phases_fail k turns a m z cell first next = record {
-    count = first.count + next.count;
-    views = views_add_up first.count next.count a m z first.views next.views;
-    no_cell = λ e. absurd (omega (arith, e, cell));
-    each_phase = λ e _. absurd cc;
+    each_phase = λ e _. some_phases k whole.count turns z some (whole.each_turn e);
   }
 
   -- what is said of a settling that had memory holds where it ended with heads

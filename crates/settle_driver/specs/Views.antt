@@ -1,12 +1,12 @@
 -- What a viewer is shown while a problem settles, and how many views a settling makes.
-use Rattle.std.specs.Prelude.{◌≡◌, ℕ, ◌+◌, ◌*◌, ◌<◌, ◌⊎◌, Bool, true, false, List, length, ℤ, ◌≤ℤ◌, Result, Ok, Err, ◌%◌, ◌≤◌}
+use Rattle.std.specs.Prelude.{◌≡◌, ℕ, ◌+◌, ◌*◌, ◌<◌, ◌⊎◌, Bool, true, false, List, length, ℤ, ◌≤ℤ◌, ◌<ℤ◌, Result, Ok, Err, ◌%◌, ◌≤◌}
 use Rattle.std.specs.declared.vec.Vec.{Vec}
 use Rattle.std.specs.declared.alloc.Global.{Global}
 use Rattle.step_problem.specs.declared.heads.Bound.{Bound}
 use Rattle.step_problem.specs.declared.heads.SettleFault.{SettleFault}
 use Rattle.step_problem.specs.declared.heads.SettleFault.TheVariants.{Unfinished, Memory}
 use Rattle.step_problem.specs.Entries.{Entries}
-use Rattle.step_problem.specs.{Edges, IsSettledPair, head_at, lower_at, upper_at, IsHead, AreHeads, IsSettled, RoundsSettle}
+use Rattle.step_problem.specs.{AreOnTheWay, Edges, IsBarrier, IsSettled, IsSettledPair, RoundsSettleBoth, head_at, lower_at, upper_at, IsHead}
 use Rattle.cell_relax.specs.{AreWords, AreNoLooser, IsAsTight, IsRelaxedOn, Moves, heads_on}
 use Rattle.head_table.specs.declared.table.HeadTable.{HeadTable}
 use Rattle.head_table.specs.declared.table.HeadSeat.{HeadSeat}
@@ -14,7 +14,6 @@ use Rattle.step_problem.specs.declared.heads.Side.{Side}
 use Rattle.head_table.specs.{HasMoved, IsSeatOf, seen_on, seen_of}
 use Rattle.settle_driver.specs.declared.phases.Plan.{Plan}
 use Rattle.step_problem.specs.declared.heads.Side.TheVariants.{Low, High}
-use Rattle.relax_core.specs.{OnTheWay}
 
 -- the settled pair lies between these heads
 pub record HoldsPair (p : List Entries) (b : Edges) (heads : List Bound) : Type 0 where
@@ -90,9 +89,14 @@ IsFirstSide low high High = (low ≡ false) × (high ≡ true)
 
 -- Barriers inside another one.
 -- x is a head that is as tight as the edge
-pub record IsHeadFrom (Le : ℤ → ℤ → Type 0) (edge x : ℤ) : Type 0 where
+pub record IsHeadFrom (side : Side) (edge x : ℤ) : Type 0 where
   pub head : IsHead x
-  pub tight : Le edge x
+  pub tight : IsAsTight side edge x
+
+-- the head has left an inner edge, or the inner edge is the edge
+abbrev pub HasLeft : Side → ℤ → ℤ → ℤ → Type 0
+HasLeft Low edge inner head = (inner ≤ℤ edge) ⊎ (inner <ℤ head)
+HasLeft High edge inner head = (edge ≤ℤ inner) ⊎ (head <ℤ inner)
 
 -- What sweeps over the words of a problem keep and reach, on each side.
 module _ (p : List Entries) where
@@ -106,7 +110,7 @@ module _ (p : List Entries) where
 
   -- words on the way from any barrier stay on the way
   pub record StayOnTheWay (old new : List Bound) : Type 0 where
-    pub on : (side : Side) (edge : ℕ → ℤ) → OnTheWay side p edge (heads_on side old) → OnTheWay side p edge (heads_on side new)
+    pub on : (b : Edges) → AreOnTheWay p b old → AreOnTheWay p b new
 
   -- no cell can move
   abbrev pub AreBothSettled : List Bound → Type 0
@@ -114,6 +118,4 @@ module _ (p : List Entries) where
 
   -- where k plain rounds from a barrier settle, the new words are settled if the old ones are on the way
   pub record SettleWithin (k : ℕ) (old new : List Bound) : Type 0 where
-    pub on :
-        (side : Side) (edge : ℕ → ℤ) → AreHeads (IsAsTight side) (Moves side p) (length p) edge → OnTheWay side p edge (heads_on side old) →
-        RoundsSettle (IsAsTight side) (Moves side p) (length p) k edge → IsSettled (IsAsTight side) (Moves side p) (length p) (heads_on side new)
+    pub on : (b : Edges) → IsBarrier p b → AreOnTheWay p b old → RoundsSettleBoth p b k → AreBothSettled new

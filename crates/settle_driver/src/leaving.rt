@@ -1,46 +1,29 @@
 // Whether heads have left a barrier inside another one.
-ghost use Rattle.std.specs.Prelude.{◌≡◌, ◌<◌, ◌⊎◌, ℕ, ◌≤ℤ◌, ◌<ℤ◌, length, true};
+ghost use Rattle.std.specs.Prelude.{◌≡◌, ◌<◌, ℕ, length, true};
 ghost use Rattle.step_problem.specs.{IsBarrier, head_at, lower_at, upper_at, HaveLeft};
+ghost use Rattle.cell_relax.specs.{heads_on};
+ghost use Rattle.settle_driver.specs.{HasLeft};
 
-use step_problem::{Barrier, Bound, Problem};
+use cell_relax::head_on;
+use step_problem::{Barrier, Bound, Problem, Side};
 
-// Whether a lower head has left an inner floor, or the inner floor is the floor.
-fn has_left_floor(floor: i64, inner: i64, head: i64) -> bool
-    ensures { result ≡ true → (inner ≤ℤ floor) ⊎ (inner <ℤ head) }
+// Whether a head has left an inner edge, or the inner edge is the edge.
+fn has_left(side: Side, edge: i64, inner: i64, head: i64) -> bool
+    ensures { result ≡ true → HasLeft side edge inner head }
 {
-    inner <= floor || inner < head
-}
-
-// Whether an upper head has left an inner ceiling, or the inner ceiling is the ceiling.
-fn has_left_ceiling(ceiling: i64, inner: i64, head: i64) -> bool
-    ensures { result ≡ true → (ceiling ≤ℤ inner) ⊎ (head <ℤ inner) }
-{
-    ceiling <= inner || head < inner
-}
-
-fn low_have_left(b: &Barrier, inner: &Barrier, bounds: &[Bound]) -> bool
-    requires floors { length bounds.now ≡ length b.now.floor }
-    requires inner { length bounds.now ≡ length inner.now.floor }
-    ensures { result ≡ true → (c : ℕ) → c < length bounds.now → (head_at inner.now.floor c ≤ℤ head_at b.now.floor c)
-        ⊎ (head_at inner.now.floor c <ℤ lower_at bounds.now c) }
-{
-    for cell in 0..bounds.len() {
-        if !has_left_floor(b.floor[cell], inner.floor[cell], bounds[cell].low) {
-            return false;
-        }
+    match side {
+        Side::Low => inner <= edge || inner < head,
+        Side::High => edge <= inner || head < inner,
     }
-    true
 }
 
-fn high_have_left(b: &Barrier, inner: &Barrier, bounds: &[Bound]) -> bool
-    requires ceilings { length bounds.now ≡ length b.now.ceiling }
-    requires inner { length bounds.now ≡ length inner.now.ceiling }
-    ensures { result ≡ true → (c : ℕ) → c < length bounds.now →
-        (head_at b.now.ceiling c ≤ℤ head_at inner.now.ceiling c)
-        ⊎ (upper_at bounds.now c <ℤ head_at inner.now.ceiling c) }
+fn all_have_left(side: Side, edges: &[i64], inner: &[i64], bounds: &[Bound]) -> bool
+    requires edges { length bounds.now ≡ length edges.now }
+    requires inner { length bounds.now ≡ length inner.now }
+    ensures { result ≡ true → (c : ℕ) → c < length bounds.now → HasLeft side (head_at edges.now c) (head_at inner.now c) (heads_on side bounds.now c) }
 {
     for cell in 0..bounds.len() {
-        if !has_left_ceiling(b.ceiling[cell], inner.ceiling[cell], bounds[cell].high) {
+        if !has_left(side, edges[cell], inner[cell], head_on(side, bounds[cell])) {
             return false;
         }
     }
@@ -54,5 +37,15 @@ pub fn have_left(p: &Problem, b: &Barrier, inner: &Barrier, bounds: &[Bound]) ->
     requires whole { length bounds.now ≡ length p.now }
     ensures { result ≡ true → HaveLeft p.now b.now inner.now (lower_at bounds.now) (upper_at bounds.now) }
 {
-    low_have_left(b, inner, bounds) && high_have_left(b, inner, bounds)
+    all_have_left(
+        Side::Low,
+        b.floor.as_slice(),
+        inner.floor.as_slice(),
+        bounds,
+    ) && all_have_left(
+        Side::High,
+        b.ceiling.as_slice(),
+        inner.ceiling.as_slice(),
+        bounds,
+    )
 }

@@ -1,13 +1,13 @@
 // Settling from heads near the settled ones.
-ghost use Rattle.std.specs.Prelude.{◌≡◌, ◌⊎◌, IfOk, MatchOption, ◌<◌, ℕ, ◌≤ℤ◌, length};
+ghost use Rattle.std.specs.Prelude.{◌≡◌, ◌⊎◌, IfOk, MatchOption, ◌<◌, ℕ, length};
 ghost use Rattle.std.specs.Result.{is_ok};
-ghost use Rattle.step_problem.specs.{IsBarrier, Ge, head_at, AreSettled, Settles, settled, IsHead, IsInside};
+ghost use Rattle.step_problem.specs.{IsBarrier, head_at, AreSettled, Settles, settled, IsHead, IsInside};
 ghost use Rattle.settle_driver.specs.{IsHeadFrom};
 
 use crate::leaving::have_left;
 use std::alloc::{AllocError, Global};
 use step_problem::problem::HEAD_LIMIT;
-use step_problem::{Barrier, Bound, Problem, SettleFault, Settler};
+use step_problem::{Barrier, Bound, Problem, SettleFault, Settler, Side};
 
 // The settled pair of b, from that of a barrier inside it, after at most `trials` trials. Each trial settles from a
 // unit off the heads of the one before. None where a trial does not settle, or where the heads have not left the
@@ -74,50 +74,34 @@ pub fn settle_near<N: Settler, S: Settler>(
 
 // A barrier inside another one, a unit off heads that may be any.
 
-// A unit below a lower head that lies above the floor, else the floor.
-fn floor_near(floor: i64, near: Option<&Bound>) -> i64
-    requires { IsHead floor }
-    ensures { IsHeadFrom ◌≤ℤ◌ floor result }
+// A unit outside a head that lies inside the edge, else the edge.
+fn edge_near(side: Side, edge: i64, near: Option<&Bound>) -> i64
+    requires { IsHead edge }
+    ensures { IsHeadFrom side edge result }
 {
-    match near {
-        Some(bound) if floor < bound.low && bound.low <= HEAD_LIMIT => bound.low - 1,
-        _ => floor,
+    match (side, near) {
+        (Side::Low, Some(bound)) if edge < bound.low && bound.low <= HEAD_LIMIT => bound.low - 1,
+        (Side::High, Some(bound)) if bound.high < edge && -HEAD_LIMIT <= bound.high => bound.high
+            + 1,
+        _ => edge,
     }
 }
 
-// A unit above an upper head that lies below the ceiling, else the ceiling.
-fn ceiling_near(ceiling: i64, near: Option<&Bound>) -> i64
-    requires { IsHead ceiling }
-    ensures { IsHeadFrom Ge ceiling result }
+fn edges_near(
+    alloc: Global,
+    side: Side,
+    edges: &[i64],
+    near: &[Bound],
+) -> Result<Vec<i64>, AllocError>
+    requires { (c : ℕ) → c < length edges.now → IsHead (head_at edges.now c) }
+    ensures whole { IfOk result (λ xs. length xs.items ≡ length edges.now) }
+    ensures each { IfOk result (λ xs. (c : ℕ) → c < length edges.now → IsHeadFrom side (head_at edges.now c) (head_at xs.items c)) }
 {
-    match near {
-        Some(bound) if bound.high < ceiling && -HEAD_LIMIT <= bound.high => bound.high + 1,
-        _ => ceiling,
+    let mut moved = Vec::new(alloc);
+    for cell in 0..edges.len() {
+        moved.push(edge_near(side, edges[cell], near.get(cell)))?;
     }
-}
-
-fn floors_near(alloc: Global, b: &Barrier, near: &[Bound]) -> Result<Vec<i64>, AllocError>
-    requires { (c : ℕ) → c < length b.now.floor → IsHead (head_at b.now.floor c) }
-    ensures whole { IfOk result (λ xs. length xs.items ≡ length b.now.floor) }
-    ensures each { IfOk result (λ xs. (c : ℕ) → c < length b.now.floor → IsHeadFrom ◌≤ℤ◌ (head_at b.now.floor c) (head_at xs.items c)) }
-{
-    let mut floors = Vec::new(alloc);
-    for cell in 0..b.floor.len() {
-        floors.push(floor_near(b.floor[cell], near.get(cell)))?;
-    }
-    Ok(floors)
-}
-
-fn ceilings_near(alloc: Global, b: &Barrier, near: &[Bound]) -> Result<Vec<i64>, AllocError>
-    requires { (c : ℕ) → c < length b.now.ceiling → IsHead (head_at b.now.ceiling c) }
-    ensures whole { IfOk result (λ xs. length xs.items ≡ length b.now.ceiling) }
-    ensures each { IfOk result (λ xs. (c : ℕ) → c < length b.now.ceiling → IsHeadFrom Ge (head_at b.now.ceiling c) (head_at xs.items c)) }
-{
-    let mut ceilings = Vec::new(alloc);
-    for cell in 0..b.ceiling.len() {
-        ceilings.push(ceiling_near(b.ceiling[cell], near.get(cell)))?;
-    }
-    Ok(ceilings)
+    Ok(moved)
 }
 
 /// A barrier inside b, a unit off these heads where they lie inside b. A cell without a head here keeps its floor
@@ -132,7 +116,7 @@ pub fn barrier_near(
     ensures barrier { IfOk result (λ d. IsBarrier p.now d) }
     ensures inside { IfOk result (λ d. IsInside p.now b.now d) }
 {
-    let floor = floors_near(alloc, b, near)?;
-    let ceiling = ceilings_near(alloc, b, near)?;
+    let floor = edges_near(alloc, Side::Low, b.floor.as_slice(), near)?;
+    let ceiling = edges_near(alloc, Side::High, b.ceiling.as_slice(), near)?;
     Ok(Barrier { floor, ceiling })
 }

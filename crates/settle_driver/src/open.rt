@@ -1,11 +1,11 @@
-// Whether a cell can still move.
-ghost use Rattle.std.specs.Prelude.{◌≡◌, ◌<◌, length, MatchOption, false};
-ghost use Rattle.step_problem.specs.{CanMove, IsFirstOpen};
+// Whether a cell can still move, and what a settling gives then.
+ghost use Rattle.std.specs.Prelude.{◌≡◌, ◌<◌, ℕ, length, MatchOption, true, false};
+ghost use Rattle.step_problem.specs.{AreOnTheWay, CanMove, Edges, IsFirstOpen, RoundsSettleBoth, Settles};
 ghost use Rattle.cell_relax.specs.{AreWords};
-ghost use Rattle.settle_driver.specs.{AreBothSettled, IsFirstSide};
+ghost use Rattle.settle_driver.specs.{AreBothSettled, IsFirstSide, had_memory};
 
 use cell_relax::relax_in;
-use step_problem::{Bound, Problem, Side};
+use step_problem::{Bound, Open, Problem, SettleFault, Side};
 
 // The side that can move, the lower one first.
 fn first_side(low: bool, high: bool) -> Option<Side>
@@ -44,4 +44,21 @@ pub fn first_open(p: &Problem, words: &[Bound]) -> Option<(u32, Side)>
         }
     }
     None
+}
+
+/// These words, or the first cell that can move.
+pub(crate) fn words_or_open(
+    p: &Problem,
+    words: Vec<Bound>,
+    first: Option<(u32, Side)>,
+) -> Result<Vec<Bound>, SettleFault>
+    requires { MatchOption first (AreBothSettled p.now words.items) (λ o. IsFirstOpen p.now words.items o.0 o.1) }
+    ensures settles { (b : Edges) (k : ℕ) → AreOnTheWay p.now b words.items → (RoundsSettleBoth p.now b k → AreBothSettled p.now words.items) → Settles p.now b k result }
+    ensures memory { had_memory result ≡ true }
+{
+    p.recall_conditions();
+    match first {
+        None => Ok(words),
+        Some((cell, side)) => Err(SettleFault::Unfinished(Open { cell, side, words })),
+    }
 }

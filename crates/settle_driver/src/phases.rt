@@ -1,10 +1,9 @@
-// One phase: the seats are made, the workers make their turns, the seats are joined, and the table is closed.
-ghost use Rattle.std.specs.Prelude.{◌≡◌, ℕ, ◌+◌, ◌<◌, ◌≤◌, length, slice_index_or, IfOk, All, vec_len, ◌*◌, ◌↔◌, IsTrue};
-ghost use Rattle.step_problem.specs.{AreOnTheWay};
+// The parts of a phase: the seats are made, the workers make their turns, and the seats are joined.
+ghost use Rattle.std.specs.Prelude.{◌≡◌, ℕ, ◌<◌, ◌≤◌, length, slice_index_or, IfOk, All, vec_len, ◌*◌, ◌↔◌, IsTrue};
 ghost use Rattle.head_table.specs.declared.table.HeadSeat.{HeadSeat};
 ghost use Rattle.cell_relax.specs.{AreNoLooser};
 ghost use Rattle.head_table.specs.{IsSeatOf, seen_of};
-ghost use Rattle.settle_driver.specs.{HasSeen, HasWorked, IsPlan, AreShared, IsPastCell};
+ghost use Rattle.settle_driver.specs.{HasSeen, HasWorked, IsPlan, AreShared};
 
 use head_table::{HeadSeat, HeadTable};
 use outside::Gate;
@@ -12,7 +11,6 @@ use relax_worker::{own_turns, work};
 use std::alloc::{AllocError, Global};
 use std::thread;
 use std::thread::Threads;
-use step_problem::{Barrier, Bound, Problem};
 
 // So many seats more, which have seen what this one has.
 pub(crate) fn deal(
@@ -69,66 +67,24 @@ fn work_one<G: Gate>(
 pub(crate) fn work_at<R: Threads + Sync, G: Gate + Sync>(
     rt: &R,
     table: &HeadTable,
-    seats: &mut [HeadSeat],
+    seats: &mut Vec<HeadSeat>,
     turns: u32,
     gate: &G,
 )
-    requires seats { All (λ s. IsSeatOf table.now s) seats.old }
+    requires seats { All (λ s. IsSeatOf table.now s) seats.old.items }
     requires some_cell { 0 < length table.now.problem.now }
-    requires workers { (1 ≤ length seats.old) × (length seats.old ≤ 64) }
-    ensures { (i : ℕ) (d : HeadSeat) → i < length seats.old →
-        HasWorked table.now i (length seats.old) (slice_index_or seats.old i d) (slice_index_or seats.new i d) }
+    requires workers { (1 ≤ vec_len seats.old) × (vec_len seats.old ≤ 64) }
+    ensures count { vec_len seats.new ≡ vec_len seats.old }
+    ensures each { (i : ℕ) (d : HeadSeat) → i < vec_len seats.old
+        → HasWorked table.now i (vec_len seats.old) (slice_index_or seats.old.items i d) (slice_index_or seats.new.items i d) }
 {
     let workers = seats.len();
     thread::for_each_mut(
         rt,
-        seats,
+        seats.as_mut_slice(),
         workers,
         &|i, seat| work_one(table, seat, i, workers, turns, gate),
     );
-}
-
-// The seats after their workers' turns.
-fn seats_after_turns<R: Threads + Sync, G: Gate + Sync>(
-    rt: &R,
-    table: &HeadTable,
-    mut seats: Vec<HeadSeat>,
-    turns: u32,
-    gate: &G,
-) -> Vec<HeadSeat>
-    requires seats { All (λ s. IsSeatOf table.now s) seats.items }
-    requires some_cell { 0 < length table.now.problem.now }
-    requires workers { (1 ≤ vec_len seats) × (vec_len seats ≤ 64) }
-    ensures count { vec_len result ≡ vec_len seats }
-    ensures each { (i : ℕ) (d : HeadSeat) → i < vec_len seats →
-        HasWorked table.now i (vec_len seats) (slice_index_or seats.items i d) (slice_index_or result.items i d) }
-{
-    work_at(rt, table, seats.as_mut_slice(), turns, gate);
-    seats
-}
-
-/// The words after a phase. All memory but that of the words is taken before the first turn.
-pub(crate) fn phase<R: Threads + Sync, G: Gate + Sync>(
-    rt: &R,
-    alloc: Global,
-    p: &Problem,
-    b: &Barrier,
-    words: &Vec<Bound>,
-    plan: Plan,
-    gate: &G,
-) -> Result<Vec<Bound>, AllocError>
-    requires way { AreOnTheWay p.now b.now words.now.items }
-    requires some_cell { 0 < length p.now }
-    requires plan { IsPlan plan }
-    ensures way { IfOk result (λ v. AreOnTheWay p.now b.now v.items) }
-    ensures past { IfOk result (λ v. (c : ℕ) → c < length p.now → IsPastCell p.now words.now.items v.items c) }
-{
-    let turns = turns_of_each(plan, p.len() as u32);
-    let (table, mut seat) = HeadTable::new(alloc, p, b, words)?;
-    let seats = deal(alloc, &table, &mut seat, plan.workers as usize)?;
-    let seats = seats_after_turns(rt, &table, seats, turns, gate);
-    gather(&table, &mut seat, seats);
-    table.close(seat)
 }
 
 // How a problem is settled by workers.

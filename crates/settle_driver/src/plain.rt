@@ -1,14 +1,14 @@
-// A settler that sweeps on one thread.
+// Settlers that sweep on one thread, one of them after relaxing the cells of a list.
 ghost use Rattle.std.specs.Prelude.{◌≡◌};
 ghost use Rattle.step_problem.specs.{AreOnTheWay, IsBarrier, Settles, settled};
 ghost use Rattle.cell_relax.specs.{AreWords};
 ghost use Rattle.settle_driver.specs.Views.{StayOnTheWay, SettleWithin};
 
-use crate::open::first_open;
-use crate::sweep::sweep_up_to;
+use crate::open::{first_open, words_or_open};
+use crate::sweep::{relax_cell, sweep_up_to};
 use head_table::edge_words;
 use std::alloc::{AllocError, Global};
-use step_problem::{Barrier, Bound, Open, Problem, SettleFault, Settler};
+use step_problem::{Barrier, Bound, Problem, SettleFault, Settler};
 
 /// Settles by plain sweeps in ascending order of the cells, at each cell the lower side and then the upper
 /// one. It ends after `rounds` sweeps, or earlier, after a sweep that moved nothing.
@@ -49,12 +49,9 @@ impl PlainSettler {
         requires way { AreOnTheWay p.now b.now words.items }
         ensures { Settles p.now b.now self.now.rounds result }
     {
-        p.recall_conditions();
         let words = words_after_sweeps(p, words, self.rounds);
-        match first_open(p, words.as_slice()) {
-            None => Ok(words),
-            Some((cell, side)) => Err(SettleFault::Unfinished(Open { cell, side, words })),
-        }
+        let open = first_open(p, words.as_slice());
+        words_or_open(p, words, open)
     }
 }
 
@@ -78,5 +75,73 @@ impl Settler for PlainSettler {
             Ok(words) => self.settle_from(p, b, words),
             Err(AllocError) => Err(SettleFault::Memory),
         }
+    }
+}
+
+/// Settles as a `PlainSettler` with this many rounds, after relaxing the cells of a list in its order. The list
+/// may be any; a good one saves sweeps.
+#[derive(Drop)]
+pub struct ListedSettler {
+    list: Vec<u32>,
+    rounds: u32,
+}
+
+impl ListedSettler {
+    /// A settler that starts with these cells, by their indices, and sweeps at most `rounds` times.
+    pub fn new(list: Vec<u32>, rounds: u32) -> ListedSettler
+        ensures list { ListedSettler.list result ≡ list }
+        ensures rounds { ListedSettler.rounds result ≡ rounds }
+    {
+        ListedSettler { list, rounds }
+    }
+}
+
+// Relaxes the cells of a list in its order, and skips numbers that are no cell's.
+fn relax_listed(p: &Problem, words: &mut [Bound], list: &[u32])
+    requires words { AreWords p.now words.old }
+    ensures words { AreWords p.now words.new }
+    ensures way { StayOnTheWay p.now words.old words.new }
+{
+    let cells = p.len();
+    for cell in list {
+        let cell = *cell as usize;
+        if cell < cells {
+            relax_cell(p, words, cell);
+        }
+    }
+}
+
+// The words after relaxing the cells of the list.
+fn words_after_list(p: &Problem, mut words: Vec<Bound>, list: &[u32]) -> Vec<Bound>
+    requires words { AreWords p.now words.items }
+    ensures words { AreWords p.now result.items }
+    ensures way { StayOnTheWay p.now words.items result.items }
+{
+    relax_listed(p, words.as_mut_slice(), list);
+    words
+}
+
+impl Settler for ListedSettler {
+    ghost pairs = { settled };
+
+    ghost rounds = { λ s. s.rounds };
+
+    ghost ready = { λ _. Unit {0} };
+
+    // A settling leaves it as it was.
+    ghost leads = { λ s _ _ _ t. t ≡ s };
+
+    fn settle(
+        &mut self,
+        alloc: Global,
+        p: &Problem,
+        b: &Barrier,
+    ) -> Result<Vec<Bound>, SettleFault> {
+        let start = match edge_words(alloc, p, b) {
+            Ok(start) => start,
+            Err(AllocError) => return Err(SettleFault::Memory),
+        };
+        let words = words_after_list(p, start, self.list.as_slice());
+        PlainSettler::new(self.rounds).settle_from(p, b, words)
     }
 }

@@ -3,8 +3,8 @@ ghost use Rattle.std.specs.Prelude.{◌≡◌, ℕ, Option};
 ghost use Rattle.outside.specs.declared.traits.SinkError.{SinkError};
 
 use crate::thread_settler::SettleBy;
+use crate::viewer::Viewer;
 use crate::watch_by::WatchBy;
-use crate::watch_settler::Viewer;
 use outside::SinkError;
 use std::alloc::Global;
 use step_problem::{Barrier, Bound, Problem, SettleFault, Settler};

@@ -4,11 +4,29 @@ ghost use Rattle.step_problem.specs.{AreOnTheWay, IsBarrier, Settles, settled};
 ghost use Rattle.settle_driver.specs.Views.{IsPlan};
 
 use crate::phases::Plan;
-use crate::threads::{settle, settle_from};
+use crate::viewer::NoViewer;
+use crate::watched::WatchSettler;
 use outside::Gate;
 use std::alloc::Global;
 use std::thread::Threads;
 use step_problem::{Barrier, Bound, Problem, SettleFault, Settler};
+
+/// Settles a problem by the plan's workers, which share its heads: the one settled pair, or Unfinished only
+/// where the plan's number of plain rounds does not settle. Without variable cells the result is an empty list.
+pub fn settle<R: Threads + Sync, G: Gate + Sync>(
+    rt: &R,
+    alloc: Global,
+    p: &Problem,
+    b: &Barrier,
+    plan: Plan,
+    gate: &G,
+) -> Result<Vec<Bound>, SettleFault>
+    requires barrier { IsBarrier p.now b.now }
+    requires plan { IsPlan plan }
+    ensures { Settles p.now b.now plan.rounds result }
+{
+    WatchSettler::new(rt, plan, gate, 0).settle(alloc, p, b, &mut NoViewer)
+}
 
 /// Settles by workers in threads, with the handle and the gate that it borrows.
 #[derive(Drop)]
@@ -46,7 +64,13 @@ impl<'a, R: Threads + Sync, G: Gate + Sync> ThreadSettler<'a, R, G> {
         requires way { AreOnTheWay p.now b.now words.items }
         ensures { Settles p.now b.now self.now.plan.rounds result }
     {
-        settle_from(self.rt, alloc, p, b, words, self.plan, self.gate)
+        WatchSettler::new(self.rt, self.plan, self.gate, 0).settle_from(
+            alloc,
+            p,
+            b,
+            words,
+            &mut NoViewer,
+        )
     }
 }
 

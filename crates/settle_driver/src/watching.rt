@@ -4,7 +4,7 @@ ghost use Rattle.step_problem.specs.{IsBarrier};
 ghost use Rattle.head_table.specs.{IsSeatOf, barrier_of, seen_of};
 ghost use Rattle.settle_driver.specs.{AddsTurns, ArePastBarrier, EnclosesPair};
 
-use crate::watch_settler::Viewer;
+use crate::viewer::Viewer;
 use head_table::{HeadSeat, HeadTable};
 use outside::Gate;
 use step_problem::{Barrier, Bound, Problem};

@@ -12,7 +12,7 @@ mod words;
 pub use deck::Deck;
 pub use gates::{Count, CountingGate};
 pub use lines::take_line;
-pub use page::Page;
+pub use page::{Page, answer_lines};
 pub use words::{
     bounds_of, conductance_at, count_of, first_word, head_at, number_at, number_of, numbers_of,
     plain_text, wide_at,

@@ -1,5 +1,5 @@
 // The page of a line's answers.
-use std::alloc::Global;
+use std::alloc::{AllocError, Global};
 use std::{fmt, io, str};
 
 /// Text that is to be printed. Once memory has ended it isn't whole, and is never printed.
@@ -40,6 +40,11 @@ impl Page {
         self.value(value);
     }
 
+    /// Whether something holds.
+    pub fn test(&mut self, holds: bool) {
+        self.word(if holds { "yes" } else { "no" });
+    }
+
     /// A value, which ends the line.
     pub fn line(&mut self, value: impl fmt::Display + Drop) {
         self.value(value);
@@ -49,6 +54,14 @@ impl Page {
     /// Ends the line.
     pub fn end(&mut self) {
         self.text("\n");
+    }
+
+    /// A line of these bytes.
+    pub fn bytes(&mut self, text: Result<Vec<u8>, AllocError>) {
+        match text {
+            Ok(text) => self.line(str::from_utf8(text.as_slice()).unwrap_or("no text")),
+            Err(AllocError) => self.is_whole = false,
+        }
     }
 
     /// A file's text, with a mark after it if its last line isn't ended.
@@ -67,4 +80,21 @@ impl Page {
         }
         rt.print(self.text)
     }
+}
+
+/// Prints the page of each line of standard input, in order.
+pub fn answer_lines<F: FnMut(&mut Page, &str) -> io::Result<()>>(
+    rt: &(impl Input + Print),
+    alloc: Global,
+    mut answer: F,
+) -> io::Result<()>
+    requires { F.IsAlwaysCallable answer }
+{
+    for line in rt.lines(alloc) {
+        let line = line?;
+        let mut page = Page::new(alloc);
+        answer(&mut page, line.as_str())?;
+        page.print(rt)?;
+    }
+    Ok(())
 }

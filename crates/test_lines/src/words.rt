@@ -60,7 +60,7 @@ pub fn bounds_of(alloc: Global, numbers: &[i128]) -> Result<Vec<Bound>, AllocErr
     Ok(bounds)
 }
 
-fn meant(shown: char) -> char {
+fn plain_char(shown: char) -> char {
     match shown {
         '␊' => '\n',
         '␍' => '\r',
@@ -73,5 +73,5 @@ fn meant(shown: char) -> char {
 
 /// The text that one means which has pictures in place of control characters and of blanks at an end.
 pub fn plain_text(alloc: Global, shown: &str) -> Result<String, AllocError> {
-    shown.chars().map(meant).collect(alloc)
+    shown.chars().map(plain_char).collect(alloc)
 }

@@ -1,9 +1,10 @@
 use Rattle.relax_worker.proofs.Common.{◌<◌, ◌∙◌, List, length, All, FitsSigned, rules, sym, subst, w64, to_z-of_z, Link, Entries, IsProblem, AreNoLooser}
-use Rattle.relax_worker.proofs.Common.{IsRelaxedOn, ends_in_range, is_side, seen_on, seen_of, moves_no_looser, no_looser_trans}
+use Rattle.relax_worker.proofs.Common.{IsAsTight, IsRelaxedOn, ends_in_range, is_side, seen_on, seen_of, moves_no_looser, no_looser_trans, tighter_second}
 use Rattle.relax_worker.proofs.Gaining.{turn_gains}
+use Rattle.relax_worker.proofs.Loading.{tighter_no_looser}
 use Rattle.relax_worker.proofs.workers.relax_cell.Goals as goal
 
-loads_loosen_nothing : (c : goal.After-move_to) → AreNoLooser c.args.table.now.problem.now (seen_of c.args.seat.now) (seen_of c.load_links.new.seat)
+loads_loosen_nothing : (c : goal.After-exchange) → AreNoLooser c.args.table.now.problem.now (seen_of c.args.seat.now) (seen_of c.load_links.new.seat)
 loads_loosen_nothing c = let load = c.load-own.ensures in
     no_looser_trans c.args.table.now.problem.now (seen_of c.args.seat.now) (seen_of c.load-own.new.seat) (seen_of c.load_links.new.seat)
     (moves_no_looser c.args.side c.args.table.now.problem.now c.args.seat.now c.load-own.new.seat c.args.cell _ load.seen load.later load.others load.opposite) c.load_links.ensures.no_looser
@@ -26,11 +27,13 @@ returns-clause-gain c =
     let to = c.relax_to-to.result in
     let fits : FitsSigned w64 to = search rules in
     let relaxed : IsRelaxedOn side p seen c.args.cell to = search rules in
-    let past = simp to_z-of_z at c.move_to.ensures.past in
-    turn_gains (is_side side p ok) (seen_on side c.args.seat.now) seen c.args.cell to (seen_on side c.move_to.new.seat c.args.cell) c.requires.cell (loads_loosen_nothing c side) relaxed past
+    let seen_to = simp to_z-of_z at c.exchange.ensures.seen in
+    let past = subst (IsAsTight side to) (sym seen_to) (tighter_second side c.exchange.result to) in
+    turn_gains (is_side side p ok) (seen_on side c.args.seat.now) seen c.args.cell to (seen_on side c.exchange.new.seat c.args.cell) c.requires.cell (loads_loosen_nothing c side) relaxed past
 
 pub returns-clause-no_looser : goal.returns-clause-no_looser
-returns-clause-no_looser c = no_looser_trans c.args.table.now.problem.now (seen_of c.args.seat.now) (seen_of c.load_links.new.seat) (seen_of c.move_to.new.seat) (loads_loosen_nothing c) c.move_to.ensures.no_looser
+returns-clause-no_looser c = no_looser_trans c.args.table.now.problem.now (seen_of c.args.seat.now) (seen_of c.load_links.new.seat) (seen_of c.exchange.new.seat) (loads_loosen_nothing c)
+    (let put = c.exchange.ensures in tighter_no_looser c.args.side c.args.table.now.problem.now c.load_links.new.seat c.exchange.new.seat c.args.cell c.exchange.result _ put.before put.seen put.others put.opposite)
 
 pub returns-clause-opposite : goal.returns-clause-opposite
-returns-clause-opposite c = λ d. c.move_to.ensures.opposite d ∙ (c.load_links.ensures.opposite d ∙ c.load-own.ensures.opposite d)
+returns-clause-opposite c = λ d. c.exchange.ensures.opposite d ∙ (c.load_links.ensures.opposite d ∙ c.load-own.ensures.opposite d)

@@ -1,5 +1,0 @@
-use Rattle.settle_driver.proofs.Sweeping.{Listed}
-use Rattle.settle_driver.proofs.listed.relax_listed.Given as goal
-
-abbrev pub invariant-loop-cell : goal.invariant-loop-cell
-invariant-loop-cell l = Listed l.p l.initial.words l.words

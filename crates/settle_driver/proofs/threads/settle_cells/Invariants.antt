@@ -1,9 +1,0 @@
-use Rattle.settle_driver.proofs.Common.{◌<◌, MatchOption, IsFirstOpen, AreBothSettled}
-use Rattle.settle_driver.proofs.Phasing.{ArePhased}
-use Rattle.settle_driver.proofs.threads.settle_cells.Given as goal
-
-abbrev pub invariant-loop-round : goal.invariant-loop-round
-invariant-loop-round g l = record {
-  phased : ArePhased l.p l.b l._round l.words.items;
-  tested : 0 < l._round → MatchOption l.open (AreBothSettled l.p l.words.items) (λ o. IsFirstOpen l.p l.words.items o.0 o.1);
-}
