@@ -1,47 +1,13 @@
 -- The ends of a batch, by its reading and its jobs.
-use Rattle.engine.proofs.Common.{Job, Text, IsRun, NeverCut, Vec, Global, ends_of_jobs, IsBatch, JobEnd, Wanted, Lists, Checks, Batches, Writes, wanted_of}
-use Rattle.engine.proofs.Common.{Makes, AreDecks, AreTasks, IsBatchRead, AskedBatch, Batch, IsCase, Jobs, Refuses, asked_in, case_asked, case_jobs, readings_of}
-use Rattle.engine.proofs.Common.{Command, Due, IsJobEnd, IsRunText, ReadsFolder, defined, model_line, Answers, IsReadingEnd, IsValidJob, Run, Check, Write}
-use Rattle.engine.proofs.Common.{Make, built, MayRead, files_of, files_if, files_named, but_batch, refused_line, IsTask, Task, InputCounts, Rose, Put, FileSet}
-use Rattle.engine.proofs.Common.{folder_name, WordsMay, InputFault, Refusal, weaker, Status, Err, IfOk, List, None, Ok, Result, Some, ap, inl, refl, subst, sym}
-use Rattle.engine.proofs.Common.{ℕ, ◌++◌, ◌∙◌, ◌∷◌, ◌≡◌, [], Option, append-nil, All-weaker, All-head, All-tail, All-nil, AllZip, All, slice_get}
+use Rattle.engine.proofs.Common.{[], Job, Text, ends_of_jobs, JobEnd, Wanted, Lists, Checks, Batches, Writes, wanted_of, Makes, AreDecks, AreTasks, AskedBatch}
+use Rattle.engine.proofs.Common.{Batch, asked_in, Command, IsJobEnd, IsRunText, defined, model_line, IsValidJob, Run, Check, Write, Make, built, MayRead}
+use Rattle.engine.proofs.Common.{files_of, files_if, files_named, but_batch, refused_line, IsTask, Task, folder_name, WordsMay, Refusal, Err, IfOk, List, None}
+use Rattle.engine.proofs.Common.{Ok, Result, Some, ap, refl, subst, sym, ℕ, ◌++◌, ◌∙◌, ◌∷◌, ◌≡◌, Option, append-nil, All-weaker, All-head, All-tail, All-nil}
+use Rattle.engine.proofs.Common.{AllZip, All, slice_get}
 use Rattle.std.specs.Prelude.{IfSome, length}
 use Rattle.batch_book.specs.{AreJobEnds}
-use Rattle.engine.proofs.Ends.{any_case, any_readings, ends_without_words, is_any_case, refused, unreadable}
 use Rattle.outside.specs.declared.inputs.InputFault.TheVariants as input
 use Rattle.run_puts.specs.declared.puts.Status.TheVariants as status
-
-module _ (order : Option Wanted) (b : AskedBatch) (wanted : asked_in order ≡ Some (Batch b)) where
-  jobs_case : (files : Option FileSet) (jobs : Vec Job Global) → IsBatchRead b files (Ok jobs) → IsCase order files (Jobs jobs.items)
-  jobs_case (Some fs) jobs is = sym (ap (λ (o : Option Command). case_asked o (readings_of fs)) wanted ∙ ap case_jobs is)
-  jobs_case None jobs each = inl (record { batch = b; wanted = wanted; jobs = Ok jobs.items; each = each; is = refl })
-
-  refusal_case : (files : Option FileSet) (refusal : Refusal) → IsBatchRead b files (Err (input.Refused refusal)) → IsCase order files (Refuses refusal)
-  refusal_case (Some fs) refusal is = sym (ap (λ (o : Option Command). case_asked o (readings_of fs)) wanted ∙ ap case_jobs is)
-  refusal_case None refusal is = inl (record { batch = b; wanted = wanted; jobs = Err refusal; each = tt; is = refl })
-
-  reads_folder : (files : Option FileSet) → ReadsFolder (any_case order files)
-  reads_folder files = subst (λ (o : Option Command). ReadsFolder (case_asked o (any_readings files))) (sym wanted) (of_jobs ((any_readings files).jobs b))
-    where
-      of_jobs : (r : Result (List Job) Refusal) → ReadsFolder (case_jobs r)
-      of_jobs (Ok jobs) = tt
-      of_jobs (Err refusal) = tt
-
-  module _ (files : Option FileSet) (n m : ℕ) where
-    -- a batch whose jobs ran
-    pub batch_ran : (jobs : Vec Job Global) (end : Status) (puts : List Put) → IsBatchRead b files (Ok jobs) → All IsValidJob jobs.items → IsRun (IsBatch IsJobEnd jobs.items) NeverCut end puts → Answers order files n m end puts
-    batch_ran jobs end puts is valid h = record {
-      case = Jobs jobs.items;
-      is = jobs_case files jobs is;
-      run = weaker (IsBatch IsJobEnd jobs.items) (Due (Rose n m) (Jobs jobs.items)) NeverCut (λ meant pieces d. defined meant pieces d) end puts h;
-      valid = inl valid;
-    }
-
-    -- a batch that was not read
-    pub batch_unread : (fault : InputFault) (end : Status) (puts : List Put) → IsBatchRead b files (Err fault) → InputCounts {T = ℕ} n m (Err fault) → IsReadingEnd fault end puts → Answers order files n m end puts
-    batch_unread (input.Refused refusal) end puts is counts h = refused order files n m refusal end puts (refusal_case files refusal is) h
-    batch_unread input.ReadFault end puts is counts h = unreadable order files n m (any_case order files) end puts (is_any_case order files) (reads_folder files) counts h
-    batch_unread input.Memory end puts is counts h = ends_without_words order files n m end puts h
 
 -- the line of a refusal, after the bytes before it
 pub refusal_text : (refusal : Refusal) (before : Text) (e : JobEnd) → e.status ≡ status.Refused refusal → e.text.items ≡ before ++ refused_line refusal → IsRunText (Err refusal) before e

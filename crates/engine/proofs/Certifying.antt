@@ -1,14 +1,13 @@
 -- What a check that ended Ok says, and that a check has one end.
-use Rattle.engine.proofs.Common.{◌≡◌, ◌⊎◌, ℕ, List, [], ◌∷◌, None, Some, Ok, map, subst, sym, ap, refl, inl, inr, ◌∙◌, Option, ◌+◌, ◌<◌, ◌++◌, length, take}
-use Rattle.engine.proofs.Common.{get_or, Result, Err, IfOk, IfSome, FileSet, Put, Seen, PutsMake, taken, IsReading, file_at, IsGoodName, input_fault, FlowModel}
-use Rattle.engine.proofs.Common.{IsModel, place, ZonedListing, Text, Status, all_written, ListingVerdict, Fails, VerdictIsOne, IsVerdict, AskedCheck, Check}
-use Rattle.engine.proofs.Common.{Checking, asked_in, listing_read, named, steps_read, zones_read, IsCheck, certified_line, verdict_line, verdict_status}
-use Rattle.engine.proofs.Common.{Defines, OneVerdict, IsListed, IsStopped, IsNamedFault, AreJobsRead, AreTasks, HasNames, IsJobRead, AskedBatch, IsSomeJob}
-use Rattle.engine.proofs.Common.{job_of, names_at, task_read, Limits, Decks, AreDecks, one_deck, listing, IsTask, Wanted, reads, map-append, take_more}
-use Rattle.engine.proofs.Common.{All-push, InputFault, Refusal, TextFault, names_in, StopsText, Task, Job, Vec, Global}
+use Rattle.engine.proofs.Common.{[], ◌≡◌, ◌⊎◌, ℕ, List, ◌∷◌, None, Some, Ok, map, subst, sym, ap, refl, inl, inr, ◌∙◌, Option, ◌+◌, ◌<◌, ◌++◌, length, take}
+use Rattle.engine.proofs.Common.{get_or, Result, IfOk, FileSet, Put, Seen, PutsMake, taken, FlowModel, IsModel, place, ZonedListing, Text, Status, all_written}
+use Rattle.engine.proofs.Common.{ListingVerdict, Fails, VerdictIsOne, IsVerdict, AskedCheck, Check, Checking, asked_in, listing_read, named, steps_read}
+use Rattle.engine.proofs.Common.{zones_read, IsCheck, certified_line, verdict_line, verdict_status, Defines, OneVerdict, IsListed, IsStopped, AreTasks}
+use Rattle.engine.proofs.Common.{AskedBatch, job_of, Limits, Decks, AreDecks, one_deck, listing, IsTask, Wanted, reads, map-append, take_more, All-push}
+use Rattle.engine.proofs.Common.{Refusal, Task, Job, job_task, ◌>>=◌}
 use Rattle.check_run.specs.declared.verdict.ListingVerdict.TheVariants.{Certified as Holds, Refused as Unbounded}
 use Rattle.std.specs.Prelude.{false}
-use Rattle.engine.proofs.Readings.{named_read, zoned_parts, bad_named, good_named}
+use Rattle.engine.proofs.Readings.{named_read, zoned_parts}
 use Rattle.run_puts.specs.declared.puts.Status.TheVariants as status
 use Rattle.outside.specs.declared.inputs.InputFault.TheVariants as input
 use Rattle.outside.specs.declared.inputs.TextFault.TheVariants as texts
@@ -89,43 +88,14 @@ abbrev made_job : Text → Result Task Refusal → Job
 made_job name read = record { name = name; read = read }
 
 -- a job whose files were read as these: a model, or a refusal
-pub job_read : (b : AskedBatch) (name text copy : Text) (r : Result FlowModel Refusal) → text ≡ name → copy ≡ name → IfOk r IsModel → (files : Option FileSet) → IfSome files (λ fs. reads b.limits fs text ≡ r) → IsJobRead b name files (record { name = copy; read = task_read b r })
-job_read b name text copy r same copied valid (Some fs) h = ap (λ n. made_job n (task_read b r)) copied ∙ ap (λ a. made_job name (task_read b a)) (sym h ∙ ap (reads b.limits fs) same)
-job_read b name text copy (Ok m) same copied valid None h = (valid, refl)
-job_read b name text copy (Err refusal) same copied valid None h = tt
+pub job_read : (b : AskedBatch) (fs : FileSet) (name text copy : Text) (r : Result FlowModel Refusal) → text ≡ name → copy ≡ name → reads b.limits fs text ≡ r → made_job copy (r >>= λ m. Ok (job_task b m)) ≡ job_of b fs name
+job_read b fs name text copy r same copied h = rw (copied, ← h, same) refl
 
 -- one more job
-pub jobs_read_more : (b : AskedBatch) (names : List Text) (i : ℕ) (name : Text) (files : Option FileSet) (jobs : List Job) (job : Job) → i < length names → name ≡ get_or names i name → AreJobsRead b (take i names) files jobs → IsJobRead b name files job → AreJobsRead b (take (i + 1) names) files (jobs ++ (job ∷ []))
-jobs_read_more b names i name (Some fs) jobs job h at was is =
+pub jobs_read_more : (f : Text → Job) (names : List Text) (i : ℕ) (name : Text) (jobs : List Job) (job : Job) → i < length names → name ≡ get_or names i name → jobs ≡ map f (take i names) → job ≡ f name → jobs ++ (job ∷ []) ≡ map f (take (i + 1) names)
+jobs_read_more f names i name jobs job h at was is =
     let more : take (i + 1) names ≡ take i names ++ (name ∷ []) = take_more names i name h ∙ ap (λ n. take i names ++ (n ∷ [])) (sym at) in
-    rw (was, is, more) (sym (map-append (job_of b (reads b.limits fs)) (take i names) (name ∷ [])))
-jobs_read_more b names i name None jobs job h at was is = All-push (IsSomeJob b) jobs job was is
+    rw (was, is, more) (sym (map-append f (take i names) (name ∷ [])))
 
 pub tasks_more : (jobs : List Job) (job : Job) → AreTasks jobs → IfOk job.read IsTask → AreTasks (jobs ++ (job ∷ []))
 tasks_more jobs job was is = All-push (λ (j : Job). IfOk j.read IsTask) jobs job was is
-
--- The names of a batch's list.
-
-pub names_bad : (b : AskedBatch) (files : Option FileSet) (fault : InputFault) → (IsGoodName b.list → ⊥) → IsNamedFault fault → HasNames b files (Err fault)
-names_bad b (Some fs) (input.Refused refusal) bad is = bad_named b.list (λ name. names_at name (file_at fs name)) bad ∙ ap Err (sym is)
-names_bad b (Some fs) input.ReadFault bad is = absurd is
-names_bad b (Some fs) input.Memory bad is = tt
-names_bad b None fault bad is = tt
-
-module _ (b : AskedBatch) (good : IsGoodName b.list) where
-  -- the reading of the file failed
-  pub names_unread : {T : Type 0} (answer : Result T InputFault) (view : T → List ℕ) (files : Option FileSet) (fault : InputFault) → IfSome files (λ fs. IsReading {T = T} view (file_at fs b.list) (Err fault)) → HasNames b files (Err fault)
-  names_unread answer view (Some fs) (input.Refused refusal) h = good_named b.list (λ name. names_at name (file_at fs name)) good ∙ ap (names_at b.list) h
-  names_unread answer view (Some fs) other h = tt
-  names_unread answer view None fault h = tt
-
-  -- its bytes were read, and have a refusal, or memory ran out
-  pub names_stop : (files : Option FileSet) (bytes : List ℕ) (fault : TextFault) → IfSome files (λ fs. file_at fs b.list ≡ Ok bytes) → StopsText fault (names_in b.list bytes) → HasNames b files (Err (input_fault fault))
-  names_stop (Some fs) bytes (texts.Refused refusal) h l = good_named b.list (λ name. names_at name (file_at fs name)) good ∙ ap (names_at b.list) h ∙ l
-  names_stop (Some fs) bytes texts.Memory h l = tt
-  names_stop None bytes fault h l = tt
-
-  -- its bytes were read, and then its names
-  pub names_are : (files : Option FileSet) (bytes : List ℕ) (names : Vec (List ℕ) Global) → IfSome files (λ fs. file_at fs b.list ≡ Ok bytes) → names_in b.list bytes ≡ Ok names.items → HasNames b files (Ok names)
-  names_are (Some fs) bytes names h l = good_named b.list (λ name. names_at name (file_at fs name)) good ∙ ap (names_at b.list) h ∙ l
-  names_are None bytes names h l = tt

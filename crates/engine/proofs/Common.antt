@@ -9,7 +9,6 @@ pub use Rattle.std.specs.List.{AllZip, concat}
 pub use Rattle.std.specs.Prelude.{All, IfErr, is_some, slice_get}
 pub use Rattle.std.specs.declared.alloc.Global.{Global}
 pub use Rattle.std.specs.declared.vec.Vec.{Vec}
-pub use Rattle.batch_list.specs.{names_in}
 pub use Rattle.batch_puts.proofs.Batches.{batch_run, batch_settles, batches_agree, ends_of_jobs}
 pub use Rattle.batch_puts.specs.{IsBatch, first_not_ok, or_else, texts}
 pub use Rattle.batch_puts.specs.declared.job_end.JobEnd.{JobEnd}
@@ -17,31 +16,25 @@ pub use Rattle.check_run.specs.{IsReadable, IsVerdict, ListingEncloses, RunIsCer
 pub use Rattle.check_run.specs.declared.verdict.ListingVerdict.{ListingVerdict}
 pub use Rattle.check_run.specs.declared.verdict.ListingVerdict.TheVariants.{Fails}
 pub use Rattle.command_line.specs.{Batches, Checks, Lists, Makes, Wanted, Writes, usage_line, wanted_of}
-pub use Rattle.deck_alike.specs.{DifferenceIsOne, IsFirstDifference}
 pub use Rattle.deck_alike.specs.declared.difference.Difference.{Difference}
 pub use Rattle.deck_problems.proofs.OneProblem.{one_valid}
 pub use Rattle.deck_problems.specs.{AreDecks, one_deck}
 pub use Rattle.deck_problems.specs.declared.decks.Decks.{Decks}
 pub use Rattle.deck_span.specs.{AreAlike}
-pub use Rattle.engine.specs.{Answers, AnswersBeside, AreDecksAs, AreDecksOf, AreFirstViews, AreJobsRead, ArePairOf, ArePutInTurn, AreRead, AreStepsAs, AreTasks}
-pub use Rattle.engine.specs.{AreViews, AreWatched, AreZonesAs, Asked, AskedBatch, AskedCheck, Batch, Case, Check, Checking, ChecksSpan, ChecksWritten, Comes}
-pub use Rattle.engine.specs.{Command, Comparing, CouldList, CouldRead, CutOf, Decided, Defines, Due, GoesThrough, HasBatch, HasCertified, HasDeck, HasEnded}
-pub use Rattle.engine.specs.{HasListing, HasNames, HasNoList, HasTask, IsBatchOf, IsBatchRead, IsCase, IsCheck, IsCheckingOf, IsDeck, IsDecksRefusal, IsDue}
-pub use Rattle.engine.specs.{IsJobEnd, IsJobListing, IsJobRead, IsLeft, IsListed, IsListedAs, IsListingOf, IsMade, IsMadeRun, IsNamedFault, IsNoSecond, IsPlain}
-pub use Rattle.engine.specs.{IsPlainJob, IsReadAs, IsReadingEnd, IsRunOf, IsRunText, IsSecondAs, IsSomeJob, IsStopNumber, IsStopped, IsStored, IsUnlikeFault}
-pub use Rattle.engine.specs.{IsValid, IsValidJob, IsView, IsWatched, JobDefines, Jobs, Listing, Make, Making, MayRead, NoWords, OneDeck, OneListingIsCertified}
-pub use Rattle.engine.specs.{OneSpan, OneSpanIsCertified, OneSummary, OneVerdict, Puts, Readings, ReadsFolder, ReadsNothing, Refuses, Run, Second, Shows}
+pub use Rattle.engine.specs.{Answers, AnswersBeside, AreDecksAs, AreDecksOf, AreFirstViews, ArePairOf, ArePutInTurn, AreTasks, AreViews, AreWatched, Asked}
+pub use Rattle.engine.specs.{AskedBatch, AskedCheck, Batch, Case, Check, Checking, ChecksSpan, ChecksWritten, Comes, Command, Comparing, CutOf, Decided}
+pub use Rattle.engine.specs.{Defines, Due, GoesThrough, HasBatch, HasCertified, HasDeck, HasEnded, HasListing, HasNoList, HasTask, IsBatchOf, IsCheck}
+pub use Rattle.engine.specs.{IsCheckingOf, IsDeck, IsDecksRefusal, IsDue, IsJobEnd, IsJobListing, IsLeft, IsListed, IsListingOf, IsMade, IsMadeRun}
+pub use Rattle.engine.specs.{IsNamedFault, IsNoSecond, IsPlain, IsPlainJob, IsReadingEnd, IsRunOf, IsRunResult, IsRunText, IsStopNumber, IsStopped, IsStored}
+pub use Rattle.engine.specs.{IsUnlikeFault, IsValid, IsValidJob, IsView, IsWatched, JobDefines, Jobs, Listing, Make, Making, MayRead, NoWords, OneDeck}
+pub use Rattle.engine.specs.{OneListingIsCertified, OneSpan, OneSpanIsCertified, OneSummary, OneVerdict, ReadsFolder, ReadsNothing, Refuses, Run, Second, Shows}
 pub use Rattle.engine.specs.{SidePuts, SpanCertified, SpanVerdict, StorageHolds, ViewPutsOf, Write, Writing, WrittenIsCertified, WrittenSpanIsCertified}
-pub use Rattle.engine.specs.{asked_in, asked_of, batch_by, built, but_batch, case_asked, case_decks, case_jobs, case_listed, case_of, case_zoned}
-pub use Rattle.engine.specs.{certified_line, check_of, command_of, decks_task, defined, files_if, files_named, files_of, job_of, job_task, jobs_of, jobs_read}
-pub use Rattle.engine.specs.{limits_of, lines_of, listing_read, made_fault, made_model, made_task, model_line, named, names_at, names_read, not_alike}
-pub use Rattle.engine.specs.{numbers_of, of_both, of_first, of_second, readings_of, second_by, some_readings, span_task_of, steps_in, steps_read, summed_text}
-pub use Rattle.engine.specs.{task_of, task_read, to_of, unread, verdict_line, verdict_status, views_asked, views_in, views_of, with_zones, zoned_steps}
-pub use Rattle.engine.specs.{zones_named, zones_read}
+pub use Rattle.engine.specs.{asked_in, asked_of, batch_by, built, but_batch, case_asked, case_decks, case_named, case_of, case_read, certified_line, check_of}
+pub use Rattle.engine.specs.{command_of, decks_task, defined, files_if, files_named, files_of, job_of, job_task, jobs_read, limits_of, lines_of, listing_read}
+pub use Rattle.engine.specs.{made_fault, made_model, made_task, model_line, named, names_read, not_alike, of_both, of_first, of_second, second_by, span_task_of}
+pub use Rattle.engine.specs.{steps_read, summed_text, task_of, to_of, unread, verdict_line, verdict_status, views_asked, views_in, views_of, zones_read}
 unfoldable pub use Rattle.engine.specs.{second_in}
-pub use Rattle.engine.specs.Certified.{Certified}
-pub use Rattle.engine.specs.Made.{Made}
-pub use Rattle.engine.specs.Watched.{Watched}
+pub use Rattle.engine.specs.Batched.{Batched}
 pub use Rattle.engine.specs.declared.job.Job.{Job}
 pub use Rattle.engine.specs.declared.zoned.ZonedListing.{ZonedListing}
 pub use Rattle.exact_histories.proofs.WholeRuns.{history_exists, history_is_one}
@@ -62,7 +55,7 @@ pub use Rattle.listing_run.specs.declared.text.ListingEnd.{ListingEnd}
 pub use Rattle.listing_summary.specs.{IsSummarized, summary_of, summary_text}
 pub use Rattle.model_forms.proofs.ModelForms.{deck_reads, unit_is_short}
 pub use Rattle.model_maker.specs.{made_files, made_name}
-pub use Rattle.model_reader.specs.{model_of}
+pub use Rattle.model_reader.specs.{model_of, names_in}
 unfoldable pub use Rattle.model_reader.specs.{reads}
 pub use Rattle.model_text.specs.{deck_text}
 pub use Rattle.model_types.specs.{IsModel, cell_count, most_bytes, place, times}
@@ -76,7 +69,6 @@ pub use Rattle.outside.specs.{folder_name, input_fault, is_good_name, refused, t
 pub use Rattle.outside.specs.declared.codes.Code.TheVariants.{BadName}
 pub use Rattle.outside.specs.declared.inputs.InputFault.{InputFault}
 pub use Rattle.outside.specs.declared.inputs.Refusal.{Refusal}
-pub use Rattle.outside.specs.declared.inputs.TextFault.{TextFault}
 pub use Rattle.outside.specs.declared.traits.SinkError.{SinkError}
 pub use Rattle.record_lines.specs.{Has, Stops, StopsText, ◌>>=◌}
 pub use Rattle.run_puts.proofs.Makes.{all_written, write_rose}
@@ -92,5 +84,5 @@ pub use Rattle.step_problem.specs.Entries.{Entries}
 pub use Rattle.step_problem.specs.declared.heads.Bound.{Bound}
 pub use Rattle.step_problem.specs.declared.place.NoBound.{NoBound}
 pub use Rattle.view_puts.specs.{AreAllShown, IsStopPut, LeadOn, ViewPuts, no_lead, no_view}
-pub use Rattle.zone_file.specs.{zones_of}
 pub use Rattle.zone_pairs.specs.{AreNumbers, AreZonesOf, pairs_in}
+pub use denote.Ref.{Bor}

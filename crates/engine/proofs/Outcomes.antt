@@ -1,9 +1,9 @@
 -- The public clauses, from all that a run comes to.
-use Rattle.engine.proofs.Common.{◌≡◌, ℕ, List, Option, Some, None, IfSome, Ok, Err, subst, sym, ◌∙◌, ap, refl, inl, inr, ◌⊎◌, FileSet, Rose, Put, Seen}
-use Rattle.engine.proofs.Common.{PutsMake, FlowModel, Text, Agree, Status, one_valid, Task, listing, IsListing, VerdictIsOne, Case, NoWords, Refuses, Listing}
-use Rattle.engine.proofs.Common.{Making, Checking, Writing, CutOf, Defines, made_task, Decided, Comes, HasCertified, HasDeck, HasListing, HasTask, IsRunOf}
-use Rattle.engine.proofs.Common.{Answers, IsStopped, IsValid, Limits, Decks, ZonedListing, IsVerdict, Difference, Comparing, IsCheckingOf, IsListingOf, Second}
-use Rattle.engine.proofs.Common.{not_alike, IsPlain, AreAlike, ReadsFolder, Wanted, Jobs, HasBatch}
+use Rattle.engine.proofs.Common.{◌≡◌, ℕ, List, Option, Ok, Err, subst, sym, ◌∙◌, ap, refl, inl, inr, ◌⊎◌, FileSet, Rose, Put, Seen, PutsMake, FlowModel, Text}
+use Rattle.engine.proofs.Common.{Agree, Status, one_valid, Task, listing, IsListing, VerdictIsOne, Case, NoWords, Refuses, Listing, Making, Checking, Writing}
+use Rattle.engine.proofs.Common.{CutOf, Defines, made_task, HasCertified, HasDeck, HasListing, HasTask, IsRunOf, Answers, IsStopped, IsValid, Limits, Decks}
+use Rattle.engine.proofs.Common.{ZonedListing, IsVerdict, Difference, Comparing, IsCheckingOf, IsListingOf, Second, not_alike, IsPlain, AreAlike, ReadsFolder}
+use Rattle.engine.proofs.Common.{Wanted, Jobs, HasBatch, IsUnfinished, case_of}
 use Rattle.engine.proofs.Certifying.{IsFault, certifies, check_is_no_fault, never_stopped_check, one_end, stopped_by_fault}
 use Rattle.engine.proofs.ListingEnds.{agree, goes_through, jobs_agree, jobs_end_ok, jobs_no_fault, listing_is_no_fault, never_stopped}
 use Rattle.check_run.specs.declared.verdict.ListingVerdict.TheVariants.{Certified as Holds}
@@ -57,12 +57,10 @@ decides laws (Comparing a b c) meant end p q plain valid (inr (alike, x)) (inl y
 decides laws (Comparing a b c) meant end p q plain (inl never) (inr (alike, x)) (inr (also, y)) = absurd (never alike)
 decides laws (Comparing a b c) meant end p q plain (inr valid) (inr (alike, x)) (inr (also, y)) = decides laws c meant end p q plain valid x y
 
-pub decided : (laws : Laws) (order : Option Wanted) (files : Option FileSet) (n m : ℕ) (end : Status) (puts : List Put) (old new : Seen) → Answers order files n m end puts → PutsMake old puts new → IfSome files (λ fs. Decided (Rose n m ⊎ Rose old.faults new.faults) order fs end)
-decided laws order (Some fs) n m end puts old new a makes = λ plain meant pieces x.
-    let P : Case → Type 0 = λ case. Defines case meant pieces in
-    end_decided (Rose n m ⊎ Rose old.faults new.faults) (Defines a.case) end meant
-    (λ q y. decides laws a.case meant end pieces q (subst IsPlain (sym a.is) plain) a.valid (subst P (sym a.is) x) y) (ended n m a.case end puts old new a.run makes)
-decided laws order None n m end puts old new a makes = tt
+pub decided : (laws : Laws) (case : Case) (n m : ℕ) (end : Status) (puts : List Put) (old new : Seen) → Answers case n m end puts → PutsMake old puts new →
+    IsPlain case → (meant : Status) (pieces : List Text) → Defines case meant pieces → ((Rose n m ⊎ Rose old.faults new.faults) ⊎ IsUnfinished meant) ⊎ ((end ≡ meant) ⊎ ((end ≡ status.Memory) ⊎ IsUnfinished end))
+decided laws case n m end puts old new a makes plain meant pieces x =
+    end_decided (Rose n m ⊎ Rose old.faults new.faults) (Defines case) end meant (λ q y. decides laws case meant end pieces q plain a.valid x y) (ended n m case end puts old new a.run makes)
 
 -- an end that a case defines is one of the listing that is put or summed up
 abbrev AreEndsOf : Task → Status → Case → Type 0
@@ -105,28 +103,19 @@ checks_certify law limits d s l verdict fault end (Comparing a b case) (alike, h
 checks_certify law limits d s l verdict fault end (Comparing a b case) (alike, has) (inr valid) (inr (inr (q, inr (also, y)))) = checks_certify law limits d s l verdict fault end case has valid (inr (inr (q, y)))
 checks_certify law limits d s l verdict fault end other has valid ended = absurd has
 
-module _ (laws : Laws) (order : Option Wanted) (files : FileSet) (n m : ℕ) (end : Status) (puts : List Put) (old new : Seen) (a : Answers order (Some files) n m end puts) (makes : PutsMake old puts new) where
+module _ (laws : Laws) (order : Option Wanted) (files : FileSet) (n m : ℕ) (end : Status) (puts : List Put) (old new : Seen) (a : Answers (case_of order files) n m end puts) (makes : PutsMake old puts new) where
   abbrev Fault : Type 0
   Fault = Rose n m ⊎ Rose old.faults new.faults
 
-  ends_here : Ended Fault (Defines a.case) end
-  ends_here = ended n m a.case end puts old new a.run makes
+  ends_here : Ended Fault (Defines (case_of order files)) end
+  ends_here = ended n m (case_of order files) end puts old new a.run makes
 
-  complete_by : HasListing order files ⊎ (HasCertified order files ⊎ (HasDeck order files ⊎ HasBatch order files)) → Fault ⊎ ((end ≡ status.Ok) ⊎ (end ≡ status.Memory))
-  complete_by (inl l) =
-      let P : Case → Type 0 = λ case. HasTask case l.task in
-      let listed_end = ends_of l.task a.case end (subst P (sym a.is) l.is) in
-      end_comes Fault (Defines a.case) end (λ q y. let p = listed_end q y in goes_through l.task l.goes end p.0 p.1) ends_here
-  complete_by (inr (inl l)) =
-      let P : Case → Type 0 = IsCheckingOf l.limits l.decks l.digits l.listing in
-      checks_certify laws.verdict l.limits l.decks l.digits l.listing l.verdict Fault end a.case (subst P (sym a.is) l.is) a.valid ends_here
-  complete_by (inr (inr (inl l))) =
+  pub complete : HasListing order files ⊎ (HasCertified order files ⊎ (HasDeck order files ⊎ HasBatch order files)) → Fault ⊎ ((end ≡ status.Ok) ⊎ (end ≡ status.Memory))
+  complete (inl l) = end_comes Fault (Defines (case_of order files)) end (λ q y. let p = ends_of l.task (case_of order files) end l.is q y in goes_through l.task l.goes end p.0 p.1) ends_here
+  complete (inr (inl l)) = checks_certify laws.verdict l.limits l.decks l.digits l.listing l.verdict Fault end (case_of order files) l.is a.valid ends_here
+  complete (inr (inr (inl l))) =
       let E : Case → Type 0 = λ case. Ended Fault (Defines case) end in
-      end_comes Fault (Defines (Writing l.model)) end (λ q d. d.0) (subst E (a.is ∙ l.is) ends_here)
-  complete_by (inr (inr (inr l))) =
+      end_comes Fault (Defines (Writing l.model)) end (λ q d. d.0) (subst E l.is ends_here)
+  complete (inr (inr (inr l))) =
       let E : Case → Type 0 = λ case. Ended Fault (Defines case) end in
-      end_comes Fault (Defines (Jobs l.jobs)) end (λ q d. jobs_end_ok l.jobs end q l.each d) (subst E (a.is ∙ l.is) ends_here)
-
-pub complete : (laws : Laws) (order : Option Wanted) (files : Option FileSet) (n m : ℕ) (end : Status) (puts : List Put) (old new : Seen) → Answers order files n m end puts → PutsMake old puts new → IfSome files (λ fs. Comes (Rose n m ⊎ Rose old.faults new.faults) order fs end)
-complete laws order (Some fs) n m end puts old new a makes = complete_by laws order fs n m end puts old new a makes
-complete laws order None n m end puts old new a makes = tt
+      end_comes Fault (Defines (Jobs l.jobs)) end (λ q d. jobs_end_ok l.jobs end q l.each d) (subst E l.is ends_here)

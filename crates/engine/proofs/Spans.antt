@@ -1,19 +1,19 @@
 -- What a run of two decks, or the check of such a listing, that ended Ok says.
-use Rattle.engine.proofs.Common.{◌≡◌, ℕ, List, [], ◌∷◌, Option, Some, Ok, map, subst, ap, ◌∙◌, Bool, true, Result, Err, refl, sym, inr, codes, false, FileSet}
+use Rattle.engine.proofs.Common.{[], ◌≡◌, ℕ, List, ◌∷◌, Option, Some, Ok, map, subst, ap, ◌∙◌, Bool, true, Result, Err, refl, sym, inr, codes, false, FileSet}
 use Rattle.engine.proofs.Common.{Put, Seen, PutsMake, taken, is_good_name, file_refusal, FlowModel, ZonedListing, Text, end_line, all_written, AreDecks, Task}
 use Rattle.engine.proofs.Common.{Step, asked_in, named, steps_read, zones_read, certified_line, Asked, AskedCheck, Run, Check, listing_read, span_task_of}
-use Rattle.engine.proofs.Common.{IsCheck, verdict_line, ArePairOf, OneSpan, SpanVerdict, Second, second_in, Case, case_listed, case_of, Defines, readings_of}
-use Rattle.engine.proofs.Common.{ChecksSpan, OneSpanIsCertified, WrittenSpanIsCertified, Command, Comparing, case_asked, case_decks, listing, AllSteps}
-use Rattle.engine.proofs.Common.{ListingIsOne, deck_task, pairs_of, IsWhole, whole_listing, Limits, Bound, Solved, TimeStep, times, AreAllSteps, AreSteps, two}
+use Rattle.engine.proofs.Common.{IsCheck, verdict_line, ArePairOf, OneSpan, SpanVerdict, Second, second_in, Case, case_of, Defines, ChecksSpan}
+use Rattle.engine.proofs.Common.{OneSpanIsCertified, WrittenSpanIsCertified, Command, Comparing, case_asked, case_decks, listing, AllSteps, ListingIsOne}
+use Rattle.engine.proofs.Common.{deck_task, pairs_of, IsWhole, whole_listing, Limits, Bound, Solved, TimeStep, times, AreAllSteps, AreSteps, two}
 use Rattle.engine.proofs.Common.{ChoicesHaveOne, ListingVerdict, IsVerdict, RunIsCertified, RunIsReadAgain, Wanted, wanted_of, reads, model_of, Refusal}
-use Rattle.engine.proofs.Common.{AreAlike, BadName, ◌>>=◌, Pairs, Steps}
-use Rattle.model_reader.specs.{names_in}
+use Rattle.engine.proofs.Common.{AreAlike, BadName, ◌>>=◌, Pairs, Steps, Checking, names_in, case_read}
 use Rattle.listing_run.specs.declared.text.ListingEnd.TheVariants.{Whole}
 use Rattle.exact_histories.proofs.ChosenHistories.{choices_history, choices_one}
 use Rattle.engine.proofs.Certifying.{is_certified}
 use Rattle.engine.proofs.Readings.{named_read, second_parts, zoned_parts}
 use Rattle.std.specs.Prelude.{if◌then◌else◌}
 use Rattle.engine.proofs.Written.{clash, read_numbers, reads_and_checks, whole_of}
+use Rattle.engine.proofs.DeckEnds.{to_check}
 use Rattle.run_puts.specs.declared.puts.Status.TheVariants as status
 use Rattle.listing_run.specs.declared.text.ListingEnd.TheVariants as ends
 
@@ -129,10 +129,10 @@ written_span_is_certified certified again limits a b s zones rounds quick pieces
     (have_choices limits a b s zones rounds quick decks whole.values whole.steps) in
     let (last, is, same) = named_second h.asked.limits files h.to b h.read_to in
     let B : FlowModel → Type 0 = λ x. AreAlike a x × IsCheck h.asked.limits (two a x) h.asked.digits l status.Ok (certified_line ∷ []) in
-    let L : Result ZonedListing Refusal → Type 0 = λ l. AreAlike a last.model × Defines (case_listed h.asked (two a last.model) l) status.Ok (certified_line ∷ []) in
+    let L : Result ZonedListing Refusal → Type 0 = λ l. AreAlike a last.model × Defines (case_read l (Checking h.asked.limits (two a last.model) h.asked.digits)) status.Ok (certified_line ∷ []) in
     let C : Case → Type 0 = λ c. Defines c status.Ok (certified_line ∷ []) in
-    let case_is : case_of (wanted_of words) files ≡ Comparing a last (case_listed h.asked (two a last.model) (listing_read true files h.asked a)) =
-    ap (λ (c : Option Command). case_asked c (readings_of files)) h.wanted ∙ (λ i. case_decks (h.read i) (Some (is i)) (λ d. case_listed h.asked d (listing_read true files h.asked d.first))) in
+    let case_is : case_of (wanted_of words) files ≡ Comparing a last (to_check files h.asked (Some h.to) (two a last.model)) =
+    ap (λ (c : Option Command). case_asked c files) h.wanted ∙ (λ i. case_decks (h.read i) (Some (is i)) (to_check files h.asked (Some h.to))) in
     subst C (sym case_is) (inr (subst L (sym read) (subst B (sym same) (decks.second.alike, check))))
 
 pub one_span_is_certified : WrittenSpanIsCertified → OneSpanIsCertified

@@ -1,14 +1,16 @@
 -- What a run that ended Ok tells, by what its words ask for and its files are read as.
-use Rattle.engine.proofs.Common.{◌≡◌, ℕ, List, [], ◌∷◌, Option, Some, None, IfSome, Result, Ok, Err, map, subst, sym, ◌∙◌, ap, refl, inl, inr, ◌⊎◌, append-nil}
-use Rattle.engine.proofs.Common.{FileSet, Rose, Put, Seen, PutsMake, taken, Refusal, FlowModel, IsModel, made_files, made_name, Text, end_line, whole, Status}
+use Rattle.engine.proofs.Common.{[], ◌≡◌, ℕ, List, ◌∷◌, Option, Some, None, Result, Ok, Err, map, subst, sym, ◌∙◌, ap, refl, inl, inr, ◌⊎◌, append-nil, FileSet}
+use Rattle.engine.proofs.Common.{Rose, Put, Seen, PutsMake, taken, Refusal, FlowModel, IsModel, made_files, made_name, Text, end_line, whole, Status}
 use Rattle.engine.proofs.Common.{all_written, one_deck, AreDecks, one_valid, ListingEnd, AllSteps, listing, IsWhole, is_whole, whole_listing, history_exists}
 use Rattle.engine.proofs.Common.{history_is_one, VerdictIsOne, Asked, AskedCheck, Case, Command, Run, Make, Check, Write, NoWords, Refuses, Listing, Making}
-use Rattle.engine.proofs.Common.{Checking, Writing, IsCase, asked_in, case_asked, case_of, case_zoned, listing_read, made_model, named, task_of, zones_read}
-use Rattle.engine.proofs.Common.{Certified, OneDeck, Defines, Made, made_task, summed_text, OneSummary, OneVerdict, Answers, IsStopped, IsValid, Plain, Limits}
-use Rattle.engine.proofs.Common.{ListingIsOne, ListingExcludesRefusal, RefusalIsOne, ZonedListing, Comparing, case_listed, two, true, readings_of}
-use Rattle.engine.proofs.Common.{some_readings, Second, not_alike, most_bytes, with_limit, case_decks, span_task_of, IsDeck, OneSpan, SpanCertified}
-use Rattle.engine.proofs.Common.{SpanVerdict, deck_text, ReadsFolder, CutOf, deck_reads, summary_of, summary_text, DifferenceIsOne, Wanted, AskedBatch, Batch}
-use Rattle.engine.proofs.Common.{case_jobs, jobs_read, second_in, reads, Decks}
+use Rattle.engine.proofs.Common.{Checking, Writing, asked_in, case_asked, case_of, listing_read, made_model, named, task_of, zones_read, OneDeck, Defines}
+use Rattle.engine.proofs.Common.{made_task, summed_text, OneSummary, OneVerdict, Answers, IsStopped, IsValid, Plain, Limits, ListingIsOne}
+use Rattle.engine.proofs.Common.{ListingExcludesRefusal, RefusalIsOne, ZonedListing, Comparing, two, true, Second, not_alike, most_bytes, with_limit}
+use Rattle.engine.proofs.Common.{case_decks, span_task_of, IsDeck, OneSpan, SpanCertified, SpanVerdict, deck_text, ReadsFolder, CutOf, deck_reads, summary_of}
+use Rattle.engine.proofs.Common.{summary_text, Wanted, AskedBatch, Batch, jobs_read, second_in, reads, Decks, Jobs, decks_task, Batched, case_read}
+use Rattle.engine.specs.Certified.{Certified}
+use Rattle.engine.specs.Made.{Made}
+use Rattle.deck_alike.specs.{DifferenceIsOne}
 use Rattle.engine.specs.OneListing.{OneListing}
 use Rattle.engine.specs.SpanHeadline.{SpanHeadline}
 use Rattle.std.specs.Prelude.{false}
@@ -18,6 +20,7 @@ use Rattle.engine.proofs.Certifying.{certified_and_one, not_stopped}
 use Rattle.engine.proofs.Dues.{Delivers, delivers}
 use Rattle.engine.proofs.Readings.{named_read}
 use Rattle.engine.proofs.Spans.{span_checked, span_listed}
+use Rattle.engine.proofs.DeckEnds.{to_check, to_list, to_write}
 use Rattle.run_puts.specs.declared.puts.Status.TheVariants as status
 use Rattle.listing_run.specs.declared.text.ListingEnd.TheVariants as ends
 
@@ -44,41 +47,34 @@ data Asks (order : Option Wanted) (files : FileSet) : Case → Type 0 where
   writes : (limits : Limits) (name : Text) (m : FlowModel) → asked_in order ≡ Some (Write limits name) → named name (reads limits files) ≡ Ok m → Asks order files (Writing m)
   batches : (b : AskedBatch) (case : Case) → asked_in order ≡ Some (Batch b) → Asks order files case
   lists_two : (asked : Asked) (to : Text) (a : FlowModel) (b : Second) → asked_in order ≡ Some (Run asked (Some to)) → named asked.name (reads asked.limits files) ≡ Ok a → named to (second_in asked.limits files) ≡ Ok b →
-      Asks order files (Comparing a b (case_zoned asked (two a b.model) (zones_read files asked.zones a)))
+      Asks order files (Comparing a b (to_list files asked (two a b.model)))
   checks_two : (asked : AskedCheck) (to : Text) (a : FlowModel) (b : Second) → asked_in order ≡ Some (Check asked (Some to)) → named asked.name (reads asked.limits files) ≡ Ok a → named to (second_in asked.limits files) ≡ Ok b →
-      Asks order files (Comparing a b (case_listed asked (two a b.model) (listing_read true files asked a)))
+      Asks order files (Comparing a b (to_check files asked (Some to) (two a b.model)))
 
 module _ (order : Option Wanted) (files : FileSet) where
-  asks_list : (asked : Asked) (m : FlowModel) → asked_in order ≡ Some (Run asked None) → named asked.name (reads asked.limits files) ≡ Ok m → (z : Result (Option (List ℕ)) Refusal) → zones_read files asked.zones m ≡ z → Asks order files (case_zoned asked (one_deck m) z)
-  asks_list asked m wanted is (Ok zones) also = lists asked m zones wanted is also
-  asks_list asked m wanted is (Err refusal) also = refuses refusal
-
-  asks_verdict : (asked : AskedCheck) (m : FlowModel) → asked_in order ≡ Some (Check asked None) → named asked.name (reads asked.limits files) ≡ Ok m → (l : Result ZonedListing Refusal) → listing_read false files asked m ≡ l → Asks order files (case_listed asked (one_deck m) l)
-  asks_verdict asked m wanted is (Ok listing) also = checks asked m listing wanted is also
-  asks_verdict asked m wanted is (Err refusal) also = refuses refusal
+  of_read : {T : Type 0} (r : Result T Refusal) (come : T → Case) → ((x : T) → r ≡ Ok x → Asks order files (come x)) → Asks order files (case_read r come)
+  of_read (Ok x) come h = h x refl
+  of_read (Err refusal) come h = refuses refusal
 
   of_one : (r : Result FlowModel Refusal) (come : Decks → Case) → ((a : FlowModel) → r ≡ Ok a → Asks order files (come (one_deck a))) → Asks order files (case_decks r None come)
   of_one (Ok a) come h = h a refl
   of_one (Err refusal) come h = refuses refusal
 
   of_two : (r : Result FlowModel Refusal) (s : Result Second Refusal) (come : Decks → Case) → ((a : FlowModel) (b : Second) → r ≡ Ok a → s ≡ Ok b → Asks order files (Comparing a b (come (two a b.model)))) → Asks order files (case_decks r (Some s) come)
-  of_two (Ok a) (Ok b) come h = h a b refl refl
-  of_two (Ok a) (Err refusal) come h = refuses refusal
+  of_two (Ok a) s come h = of_read s (λ b. Comparing a b (come (two a b.model))) (λ b is. h a b refl is)
   of_two (Err refusal) s come h = refuses refusal
 
-  by_words : (o : Option Command) → asked_in order ≡ o → Asks order files (case_asked o (readings_of files))
+  by_words : (o : Option Command) → asked_in order ≡ o → Asks order files (case_asked o files)
   by_words None wanted = no_words
   by_words (Some (Run asked None)) wanted =
-      of_one (named asked.name (reads asked.limits files)) (λ d. case_zoned asked d (zones_read files asked.zones d.first)) (λ m is. asks_list asked m wanted is (zones_read files asked.zones m) refl)
-  by_words (Some (Run asked (Some to))) wanted =
-      of_two (named asked.name (reads asked.limits files)) (named to (second_in asked.limits files)) (λ d. case_zoned asked d (zones_read files asked.zones d.first)) (λ a b is also. lists_two asked to a b wanted is also)
+      of_one (named asked.name (reads asked.limits files)) (to_list files asked) (λ m is. of_read (zones_read files asked.zones m) (λ zones. Listing (task_of asked m zones)) (λ zones also. lists asked m zones wanted is also))
+  by_words (Some (Run asked (Some to))) wanted = of_two (named asked.name (reads asked.limits files)) (named to (second_in asked.limits files)) (to_list files asked) (λ a b is also. lists_two asked to a b wanted is also)
   by_words (Some (Make seed size)) wanted = makes_one seed size wanted
   by_words (Some (Check asked None)) wanted =
-      of_one (named asked.name (reads asked.limits files)) (λ d. case_listed asked d (listing_read false files asked d.first)) (λ m is. asks_verdict asked m wanted is (listing_read false files asked m) refl)
-  by_words (Some (Check asked (Some to))) wanted =
-      of_two (named asked.name (reads asked.limits files)) (named to (second_in asked.limits files)) (λ d. case_listed asked d (listing_read true files asked d.first)) (λ a b is also. checks_two asked to a b wanted is also)
-  by_words (Some (Batch b)) wanted = batches b (case_jobs (jobs_read files b)) wanted
-  by_words (Some (Write limits name)) wanted = of_one (named name (reads limits files)) (λ d. Writing d.first) (λ m is. writes limits name m wanted is)
+      of_one (named asked.name (reads asked.limits files)) (to_check files asked None) (λ m is. of_read (listing_read false files asked m) (Checking asked.limits (one_deck m) asked.digits) (λ listing also. checks asked m listing wanted is also))
+  by_words (Some (Check asked (Some to))) wanted = of_two (named asked.name (reads asked.limits files)) (named to (second_in asked.limits files)) (to_check files asked (Some to)) (λ a b is also. checks_two asked to a b wanted is also)
+  by_words (Some (Batch b)) wanted = batches b (case_read (jobs_read files b) Jobs) wanted
+  by_words (Some (Write limits name)) wanted = of_one (named name (reads limits files)) to_write (λ m is. writes limits name m wanted is)
 
   asks : Asks order files (case_of order files)
   asks = by_words (asked_in order) refl
@@ -169,14 +165,14 @@ module _ (laws : Laws) (order : Option Wanted) (old new : Seen) (puts : List Put
         }
 
     of_span : (asked : Asked) (to : Text) (a : FlowModel) (b : Second) → asked_in order ≡ Some (Run asked (Some to)) → named asked.name (reads asked.limits files) ≡ Ok a → named to (second_in asked.limits files) ≡ Ok b →
-        (z : Result (Option (List ℕ)) Refusal) → zones_read files asked.zones a ≡ z → IsValid (case_zoned asked (two a b.model) z) status.Ok → Defines (case_zoned asked (two a b.model) z) status.Ok pieces →
+        (z : Result (Option (List ℕ)) Refusal) → zones_read files asked.zones a ≡ z → IsValid (case_read z (λ zones. Listing (decks_task asked (two a b.model) zones))) status.Ok → Defines (case_read z (λ zones. Listing (decks_task asked (two a b.model) zones))) status.Ok pieces →
         OneSpan order files old.written new.written
     of_span asked to a b wanted first second (Ok zones) zoned valid d =
         span_listed laws.one order files old new puts pieces written makes a b asked to wanted first second zones zoned (valid_ok valid) (whole_listing (span_task_of asked a b.model zones) pieces d)
     of_span asked to a b wanted first second (Err refusal) zoned valid d = absurd (let bad : status.Ok ≡ status.Refused refusal = d.0 in cc)
 
     of_span_check : (asked : AskedCheck) (to : Text) (a : FlowModel) (b : Second) → asked_in order ≡ Some (Check asked (Some to)) → named asked.name (reads asked.limits files) ≡ Ok a → named to (second_in asked.limits files) ≡ Ok b →
-        (l : Result ZonedListing Refusal) → listing_read true files asked a ≡ l → IsValid (case_listed asked (two a b.model) l) status.Ok → Defines (case_listed asked (two a b.model) l) status.Ok pieces →
+        (l : Result ZonedListing Refusal) → listing_read true files asked a ≡ l → IsValid (case_read l (Checking asked.limits (two a b.model) asked.digits)) status.Ok → Defines (case_read l (Checking asked.limits (two a b.model) asked.digits)) status.Ok pieces →
         SpanVerdict order files old.written new.written
     of_span_check asked to a b wanted first second (Ok l) listed valid d = span_checked laws.one order files old new puts pieces written makes a b asked to wanted first second l listed (valid_ok valid).0 d
     of_span_check asked to a b wanted first second (Err refusal) listed valid d = absurd (let bad : status.Ok ≡ status.Refused refusal = d.0 in cc)
@@ -197,43 +193,20 @@ module _ (laws : Laws) (order : Option Wanted) (old new : Seen) (puts : List Put
     one_by case (checks asked m listing wanted is listed) valid d = inl (inr (inr (inl (certified_and_one order files old new puts pieces asked wanted written makes m listing (valid_ok valid).0.first is listed d))))
     one_by case (writes limits name m wanted is) valid d = inl (inr (inr (inr (inl (of_deck limits name wanted m (named_read name (reads limits files) m is) (valid_ok valid) d)))))
     one_by case (lists_two asked to a b wanted first second) valid d =
-        inl (inr (inr (inr (inr (inl (of_alike a b (case_zoned asked (two a b.model) (zones_read files asked.zones a)) (of_span asked to a b wanted first second (zones_read files asked.zones a) refl) valid d))))))
+        inl (inr (inr (inr (inr (inl (of_alike a b (to_list files asked (two a b.model)) (of_span asked to a b wanted first second (zones_read files asked.zones a) refl) valid d))))))
     one_by case (checks_two asked to a b wanted first second) valid d =
-        inl (inr (inr (inr (inr (inr (of_alike a b (case_listed asked (two a b.model) (listing_read true files asked a)) (of_span_check asked to a b wanted first second (listing_read true files asked a) refl) valid d))))))
+        inl (inr (inr (inr (inr (inr (of_alike a b (to_check files asked (Some to) (two a b.model)) (of_span_check asked to a b wanted first second (listing_read true files asked a) refl) valid d))))))
 
-module _ (laws : Laws) (order : Option Wanted) (files : Option FileSet) (n m : ℕ) (end : Status) (puts : List Put) (old new : Seen) (a : Answers order files n m end puts) (makes : PutsMake old puts new) (e : end ≡ status.Ok) where
-  delivered : Delivers (Defines a.case) end puts
-  delivered = delivers (Rose n m × ReadsFolder a.case) (Defines a.case) (CutOf a.case) end puts a.run (λ stops. not_stopped (subst IsStopped e stops))
+module _ (laws : Laws) (order : Option Wanted) (files : FileSet) (n m : ℕ) (end : Status) (puts : List Put) (old new : Seen) (a : Answers (case_of order files) n m end puts) (makes : PutsMake old puts new) (e : end ≡ status.Ok) where
+  abbrev Of : Status → Type 0
+  Of s = IsValid (case_of order files) s × Delivers (Defines (case_of order files)) s puts
 
-  -- its pieces are those of a run that ended Ok
-  defines_ok : Defines a.case status.Ok delivered.pieces
-  defines_ok = let D : Status → Type 0 = λ s. Defines a.case s delivered.pieces in subst D e delivered.defines
+  pub one_of : OneOrBatch order files old new
+  one_of =
+      let (valid, d) = subst Of e (a.valid, delivers (Rose n m × ReadsFolder (case_of order files)) (Defines (case_of order files)) (CutOf (case_of order files)) end puts a.run (λ stops. not_stopped (subst IsStopped e stops))) in
+      one_by laws order old new puts d.pieces d.written makes files (case_of order files) (asks order files) valid d.defines
 
-  pub one_of : IfSome files (λ fs. OneOrBatch order fs old new)
-  one_of = by_files files refl a.is
-    where
-      by_files : (o : Option FileSet) → files ≡ o → IsCase order o a.case → IfSome o (λ fs. OneOrBatch order fs old new)
-      by_files None same is = tt
-      by_files (Some fs) same is =
-          let d = delivered in
-          let E : Status → Type 0 = λ t. IsValid a.case t in
-          one_by laws order old new puts d.pieces d.written makes fs a.case (subst (Asks order fs) (sym is) (asks order fs)) (subst E e a.valid) defines_ok
-
-  pub made : (seed size : ℕ) → asked_in order ≡ Some (Make seed size) → Made order old.written new.written
-  made seed size wanted =
-      let same = made_of files a.case a.is in
-      let d = delivered in
-      let V : Case → Type 0 = λ case. IsValid case status.Ok in
-      let D : Case → Type 0 = λ case. Defines case status.Ok d.pieces in
-      let E : Status → Type 0 = λ t. IsValid a.case t in
-      (of_made laws order old new puts d.pieces d.written makes seed size wanted (made_model seed size) refl (subst V same (subst E e a.valid)) (subst D same defines_ok)).made
-    where
-      made_of : (files : Option FileSet) (case : Case) → IsCase order files case → case ≡ Making seed size (made_model seed size)
-      made_of (Some fs) case is = let P : Option Command → Type 0 = λ a. case ≡ case_asked a (readings_of fs) in subst P wanted is
-      made_of None case (inl s) = absurd (let bad : Path (Option Command) (Some (Make seed size)) (Some (Batch s.batch)) = sym wanted ∙ s.wanted in cc)
-      made_of None case (inr (read, second, zoned, listed, valid, is)) = let P : Option Command → Type 0 = λ a. case ≡ case_asked a (some_readings read second zoned listed) in subst P wanted is
-
--- Of words that ask for a check the headline is that of this check.
+-- the headline
 abbrev pub AnyTold : Option Wanted → FileSet → Seen → Seen → Type 0
 AnyTold order files old new =
     Headline order files old.written new.written ⊎ (Made order old.written new.written ⊎ (Certified order files old.written new.written
@@ -248,18 +221,18 @@ told_of order files old new (inr (inr (inr (inl o)))) = inr (inr (inr (inl o)))
 told_of order files old new (inr (inr (inr (inr (inl o))))) = inr (inr (inr (inr (inl o.headline))))
 told_of order files old new (inr (inr (inr (inr (inr o))))) = inr (inr (inr (inr (inr o.certified))))
 
-pub only_check : (order : Option Wanted) (files : FileSet) (old new : Seen) (asked : AskedCheck) → asked_in order ≡ Some (Check asked None) → AnyTold order files old new → Certified order files old.written new.written
-only_check order files old new asked is (inl h) = absurd (let bad : Path (Option Command) (Some (Check asked None)) (Some (Run h.asked None)) = sym is ∙ h.wanted in cc)
-only_check order files old new asked is (inr (inl h)) = absurd (let bad : Path (Option Command) (Some (Check asked None)) (Some (Make h.seed h.size)) = sym is ∙ h.wanted in cc)
-only_check order files old new asked is (inr (inr (inl h))) = h
-only_check order files old new asked is (inr (inr (inr (inl h)))) = absurd (let bad : Path (Option Command) (Some (Check asked None)) (Some (Write h.limits h.name)) = sym is ∙ h.wanted in cc)
-only_check order files old new asked is (inr (inr (inr (inr (inl h))))) = absurd (let bad : Path (Option Command) (Some (Check asked None)) (Some (Run h.asked (Some h.to))) = sym is ∙ h.wanted in cc)
-only_check order files old new asked is (inr (inr (inr (inr (inr h))))) = absurd (let bad : Path (Option Command) (Some (Check asked None)) (Some (Check h.asked (Some h.to))) = sym is ∙ h.wanted in cc)
+-- what it says by the command that the words ask for
+abbrev pub Says : Option Wanted → FileSet → Seen → Seen → Option Command → Type 0
+Says order files old new (Some (Make seed size)) = Made order old.written new.written
+Says order files old new (Some (Check asked None)) = Certified order files old.written new.written
+Says order files old new (Some (Check asked (Some to))) = SpanCertified order files old.written new.written
+Says order files old new other = Unit {0}
 
-pub only_span_check : (order : Option Wanted) (files : FileSet) (old new : Seen) (asked : AskedCheck) (to : Text) → asked_in order ≡ Some (Check asked (Some to)) → AnyTold order files old new → SpanCertified order files old.written new.written
-only_span_check order files old new asked to is (inl h) = absurd (let bad : Path (Option Command) (Some (Check asked (Some to))) (Some (Run h.asked None)) = sym is ∙ h.wanted in cc)
-only_span_check order files old new asked to is (inr (inl h)) = absurd (let bad : Path (Option Command) (Some (Check asked (Some to))) (Some (Make h.seed h.size)) = sym is ∙ h.wanted in cc)
-only_span_check order files old new asked to is (inr (inr (inl h))) = absurd (let bad : Path (Option Command) (Some (Check asked (Some to))) (Some (Check h.asked None)) = sym is ∙ h.wanted in cc)
-only_span_check order files old new asked to is (inr (inr (inr (inl h)))) = absurd (let bad : Path (Option Command) (Some (Check asked (Some to))) (Some (Write h.limits h.name)) = sym is ∙ h.wanted in cc)
-only_span_check order files old new asked to is (inr (inr (inr (inr (inl h))))) = absurd (let bad : Path (Option Command) (Some (Check asked (Some to))) (Some (Run h.asked (Some h.to))) = sym is ∙ h.wanted in cc)
-only_span_check order files old new asked to is (inr (inr (inr (inr (inr h))))) = h
+pub says : (order : Option Wanted) (files : FileSet) (end : Status) (old new : Seen) → AnyTold order files old new ⊎ Batched order files end old.written new.written → Says order files old new (asked_in order)
+says order files end old new (inl (inl h)) = subst (Says order files old new) (sym h.wanted) tt
+says order files end old new (inl (inr (inl h))) = subst (Says order files old new) (sym h.wanted) h
+says order files end old new (inl (inr (inr (inl h)))) = subst (Says order files old new) (sym h.wanted) h
+says order files end old new (inl (inr (inr (inr (inl h))))) = subst (Says order files old new) (sym h.wanted) tt
+says order files end old new (inl (inr (inr (inr (inr (inl h)))))) = subst (Says order files old new) (sym h.wanted) tt
+says order files end old new (inl (inr (inr (inr (inr (inr h)))))) = subst (Says order files old new) (sym h.wanted) h
+says order files end old new (inr h) = subst (Says order files old new) (sym h.wanted) tt

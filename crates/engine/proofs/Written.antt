@@ -1,18 +1,20 @@
 -- What a run wrote is certified.
-use Rattle.engine.proofs.Common.{◌≡◌, ℕ, ◌≤◌, Bool, true, List, [], ◌∷◌, map, Option, None, Some, Result, Ok, Err, refl, sym, ap, ◌∙◌, subst, arith, ℤ}
+use Rattle.engine.proofs.Common.{[], ◌≡◌, ℕ, ◌≤◌, Bool, true, List, ◌∷◌, map, Option, None, Some, Result, Ok, Err, refl, sym, ap, ◌∙◌, subst, arith, ℤ}
 use Rattle.engine.proofs.Common.{unsigned_abs, concat, FileSet, file_at, is_good_name, Refusal, FlowModel, Wanted, Checks, wanted_of, pairs_in, AreNumbers}
-use Rattle.engine.proofs.Common.{zones_of, ListedStep, all_lines, listing_at, or_bad_listing, one_deck, one_valid, Text, end_line, IsListing, listing, IsWhole}
+use Rattle.engine.proofs.Common.{ListedStep, all_lines, listing_at, or_bad_listing, one_deck, one_valid, Text, end_line, IsListing, listing, IsWhole}
 use Rattle.engine.proofs.Common.{whole_listing, history_exists, history_is_one, ZonedListing, AskedCheck, Case, Check, Command, Checking, asked_in, built}
-use Rattle.engine.proofs.Common.{case_asked, case_listed, case_of, listing_read, numbers_of, steps_in, steps_read, task_of, with_zones, zoned_steps, zones_read}
-use Rattle.engine.proofs.Common.{IsCheck, certified_line, Defines, Limits, unit_is_short, one_task, IsReadable, RunIsCertified, RunIsReadAgain, as_listed, Step}
-use Rattle.engine.proofs.Common.{EnclosesHistories, AllSteps, ChecksWritten, OneListingIsCertified, WrittenIsCertified, readings_of, Task, case_decks, false}
-use Rattle.engine.proofs.Common.{reads, AreDecks, Decks, named, deck_task, is_some, HaveOneHistory, limits_of}
+use Rattle.engine.proofs.Common.{case_asked, case_of, listing_read, steps_read, task_of, zones_read, IsCheck, certified_line, Defines, Limits, unit_is_short}
+use Rattle.engine.proofs.Common.{one_task, IsReadable, RunIsCertified, RunIsReadAgain, as_listed, Step, EnclosesHistories, AllSteps, ChecksWritten}
+use Rattle.engine.proofs.Common.{OneListingIsCertified, WrittenIsCertified, Task, case_decks, false, reads, AreDecks, Decks, named, deck_task, is_some}
+use Rattle.engine.proofs.Common.{HaveOneHistory, limits_of, listing_in, ◌>>=◌, case_read}
+use Rattle.zone_file.specs.{zones_of}
 use Rattle.check_run.proofs.FlowPairs.{run_encloses}
 use Rattle.command_line.proofs.DigitLemmas.{check_digits}
 use Rattle.std.specs.Prelude.{if◌then◌else◌}
 use Rattle.zone_file.proofs.ZoneLemmas.{numbers_small}
 use Rattle.check_run.specs.declared.verdict.ListingVerdict.TheVariants.{Certified as Holds}
 use Rattle.engine.proofs.Readings.{named_read}
+use Rattle.engine.proofs.DeckEnds.{to_check}
 use Rattle.run_puts.specs.declared.puts.Status.TheVariants as status
 use Rattle.listing_run.specs.declared.text.ListingEnd.TheVariants as ends
 
@@ -23,8 +25,8 @@ some_ok : (x y : Option (List ℕ)) → Path (Result (Option (List ℕ)) Refusal
 some_ok x y h = cc
 
 -- what is made of a file's bytes, where its name is taken
-pub with_bytes : (good : Bool) (found : Result (List ℕ) Refusal) (made : Result (List ℕ) Refusal → Result (List ListedStep) Refusal) (refusal : Refusal) (bytes : List ℕ) → (if good then found else Err refusal) ≡ Ok bytes → (if good then made found else Err refusal) ≡ made (Ok bytes)
-with_bytes true found made refusal bytes h = ap made h
+pub with_bytes : (good : Bool) (found : Result (List ℕ) Refusal) (made : List ℕ → Result (List ListedStep) Refusal) (refusal : Refusal) (bytes : List ℕ) → (if good then found else Err refusal) ≡ Ok bytes → (if good then (found >>= made) else Err refusal) ≡ made bytes
+with_bytes true found made refusal bytes h = ap (λ r. r >>= made) h
 with_bytes false found made refusal bytes h = absurd (clash refusal bytes (Err refusal) refl h)
 
 same_check : (a b : AskedCheck) (x y : Option Text) → Check a x ≡ Check b y → (a ≡ b) × (x ≡ y)
@@ -66,7 +68,10 @@ module _ (certified : RunIsCertified) (again : RunIsReadAgain) (limits : Limits)
     unit = unit_is_short check.limits files check.name d.first (named_read check.name (reads check.limits files) d.first first);
   }
 
-  steps_of_bytes : steps_in between check d.first zones (Ok (concat pieces)) ≡ Ok (map as_listed whole.values)
+  abbrev listing_of_bytes : List ℕ → Result (List ListedStep) Refusal
+  listing_of_bytes = listing_in between d.first check.digits (pairs_in d.first zones) check.listing
+
+  steps_of_bytes : listing_of_bytes (concat pieces) ≡ Ok (map as_listed whole.values)
   steps_of_bytes =
       let pairs = pairs_in d.first zones in
       let steps = map as_listed whole.values in
@@ -75,10 +80,10 @@ module _ (certified : RunIsCertified) (again : RunIsReadAgain) (limits : Limits)
       ap (or_bad_listing check.listing) (subst D (sym digits) (subst P (sym whole.are) (again limits d s zones rounds quick whole.values readable whole.steps)))
 
   steps_are : steps_read between files check d.first zones ≡ Ok (map as_listed whole.values)
-  steps_are = with_bytes (is_good_name check.listing) (file_at files check.listing) (steps_in between check d.first zones) _ (concat pieces) bytes ∙ steps_of_bytes
+  steps_are = with_bytes (is_good_name check.listing) (file_at files check.listing) listing_of_bytes _ (concat pieces) bytes ∙ steps_of_bytes
 
   read : listing_read between files check d.first ≡ Ok listing_of
-  read = ap (λ (z : Result (Option (List ℕ)) Refusal). zoned_steps z (steps_read between files check d.first)) zoned ∙ ap (with_zones zones) steps_are
+  read = rw (zoned, steps_are) refl
 
   pub reads_and_checks : HaveOneHistory d → (l : ZonedListing) × (listing_read between files check d.first ≡ Ok l) × IsCheck check.limits d check.digits l status.Ok (certified_line ∷ [])
   reads_and_checks history =
@@ -103,9 +108,9 @@ written_is_certified certified again limits m s zones rounds quick pieces words 
     (record { solvable = history_exists limits m s zones rounds quick whole.values model whole.steps; one = history_is_one limits m s zones rounds quick whole.values model whole.steps }) in
     let P : Case → Type 0 = λ c. Defines c status.Ok (certified_line ∷ []) in
     let case_is : case_of (wanted_of words) files ≡ Checking h.asked.limits (one_deck m) h.asked.digits l =
-    ap (λ (c : Option Command). case_asked c (readings_of files)) h.wanted
-    ∙ ap (λ (r : Result FlowModel Refusal). case_decks r None (λ d. case_listed h.asked d (listing_read false files h.asked d.first))) h.read
-    ∙ ap (case_listed h.asked (one_deck m)) read in
+    ap (λ (c : Option Command). case_asked c files) h.wanted
+    ∙ ap (λ (r : Result FlowModel Refusal). case_decks r None (to_check files h.asked None)) h.read
+    ∙ ap (λ (r : Result ZonedListing Refusal). case_read r (Checking h.asked.limits (one_deck m) h.asked.digits)) read in
     subst P (sym case_is) check
 
 -- zones that were read are at most 999
@@ -113,7 +118,7 @@ pub read_numbers : (files : FileSet) (o : Option Text) (m : FlowModel) (zones : 
 read_numbers files None m zones h = subst AreNumbers (some_ok None zones h) tt
 read_numbers files (Some name) m zones h = by_zones (zones_of files m.grid name) refl h
   where
-    by_zones : (r : Result (List ℤ) Refusal) → zones_of files m.grid name ≡ r → numbers_of r ≡ Ok zones → AreNumbers zones
+    by_zones : (r : Result (List ℤ) Refusal) → zones_of files m.grid name ≡ r → (r >>= λ zs. Ok (Some (map unsigned_abs zs))) ≡ Ok zones → AreNumbers zones
     by_zones (Ok zs) is e = subst AreNumbers (some_ok (Some (map unsigned_abs zs)) zones e) (numbers_small files m.grid name zs is)
     by_zones (Err refusal) is e = absurd (clash refusal zones (Err refusal) refl e)
 

@@ -4,11 +4,9 @@ use Rattle.std.specs.declared.vec.Vec.{Vec}
 use Rattle.std.specs.declared.alloc.Global.{Global}
 use Rattle.outside.specs.{FileSet, IsReading}
 use Rattle.outside.specs.declared.inputs.InputFault.{InputFault}
-use Rattle.model_reader.specs.{reads}
-use Rattle.run_puts.specs.{Text}
 use Rattle.listing_run.specs.{IsTask}
 use Rattle.engine.specs.declared.job.Job.{Job}
-use Rattle.engine.specs.Cases.{AskedBatch, IsSomeJob, job_of, jobs_read, names_read, Batch, asked_in, but_batch}
+use Rattle.engine.specs.Cases.{AskedBatch, jobs_read, names_read, Batch, asked_in, but_batch}
 use Rattle.command_line.specs.{Wanted}
 use Rattle.engine.specs.declared.asked_batch.BatchOrder.{BatchOrder}
 use Rattle.outside.specs.declared.inputs.InputFault.TheVariants as input
@@ -17,25 +15,13 @@ use Rattle.outside.specs.declared.inputs.InputFault.TheVariants as input
 abbrev pub AreTasks : List Job → Type 0
 AreTasks jobs = All (λ job. IfOk job.read IsTask) jobs
 
--- the job that a name stands for: by these files, or where none are known some job
-abbrev pub IsJobRead : AskedBatch → Text → Option FileSet → Job → Type 0
-IsJobRead b name (Some files) job = job ≡ job_of b (reads b.limits files) name
-IsJobRead b name None job = IsSomeJob b job
+-- a reading of a batch gave its jobs
+abbrev pub IsBatchRead : AskedBatch → FileSet → Result (Vec Job Global) InputFault → Type 0
+IsBatchRead b files answer = IsReading (λ (jobs : Vec Job Global). jobs.items) (jobs_read files b) answer
 
--- A reading of a batch gave its jobs: by these files, or where none are known some jobs or a refusal.
-abbrev pub IsBatchRead : AskedBatch → Option FileSet → Result (Vec Job Global) InputFault → Type 0
-IsBatchRead b (Some files) answer = IsReading (λ (jobs : Vec Job Global). jobs.items) (jobs_read files b) answer
-IsBatchRead b None answer = IfOk answer (λ jobs. All (IsSomeJob b) jobs.items)
-
--- the jobs that names stand for, in order
-abbrev pub AreJobsRead : AskedBatch → List Text → Option FileSet → List Job → Type 0
-AreJobsRead b names (Some files) jobs = jobs ≡ map (job_of b (reads b.limits files)) names
-AreJobsRead b names None jobs = All (IsSomeJob b) jobs
-
--- the names of the list, or its first refusal, where files are known
-abbrev pub HasNames : AskedBatch → Option FileSet → Result (Vec (List ℕ) Global) InputFault → Type 0
-HasNames b None answer = Unit {0}
-HasNames b (Some files) answer = IsReading (λ (names : Vec (List ℕ) Global). names.items) (names_read files b) answer
+-- the names of the list, or its first refusal
+abbrev pub HasNames : AskedBatch → FileSet → Result (Vec (List ℕ) Global) InputFault → Type 0
+HasNames b files answer = IsReading (λ (names : Vec (List ℕ) Global). names.items) (names_read files b) answer
 
 -- a reading whose fault is no refusal
 abbrev pub NeverRefused : {T : Type 0} → Result T InputFault → Type 0

@@ -43,7 +43,7 @@ pub record IsJobListing (b : AskedBatch) (files : FileSet) (name text : Text) : 
 
 -- A name's job ended so: with a status and a text that its files allow a run of its model; if Ok, it is such a listing.
 pub record HasEnded (b : AskedBatch) (files : FileSet) (name : Text) (e : JobEnd) : Type 0 where
-  pub end : IsJobEnd (job_of b (reads b.limits files) name) e
+  pub end : IsJobEnd (job_of b files name) e
   pub listing : e.status ≡ status.Ok → IsJobListing b files name e.text.items
 
 -- A batch with these words over these files whose jobs ran, where a sink had the bytes `old` before it and `new` after

@@ -18,7 +18,7 @@ use Rattle.listing_run.specs.declared.text.ListingEnd.TheVariants as ends
 use Rattle.listing_run.specs.{AllSteps}
 use Rattle.check_run.specs.declared.verdict.ListingVerdict.TheVariants.{Certified}
 use Rattle.check_run.specs.{IsVerdict}
-use Rattle.engine.specs.Cases.{Case, Listing, Making, Comparing, Jobs, Writing, IsCase, IsCheckingOf, IsListingOf, case_of}
+use Rattle.engine.specs.Cases.{Case, Listing, Making, Comparing, Jobs, Writing, IsCheckingOf, IsListingOf, case_of}
 use Rattle.engine.specs.Made.{made_task}
 use Rattle.engine.specs.Defined.{Defines, Due, CutOf}
 
@@ -36,13 +36,11 @@ pub record IsLeft (failed_beside : Type 0) (case : Case) (end : Status) (puts : 
 
 -- What a run puts, for every status: `leads` says which puts take the sink from its state before to its state after,
 -- and the two numbers are the folder's counts of faults before and after. `failed_beside` says that a write to the side failed.
-pub record Puts (leads : List Put → Type 0) (order : Option Wanted) (files : Option FileSet) (before after : ℕ)
+pub record Puts (leads : List Put → Type 0) (order : Option Wanted) (files : FileSet) (before after : ℕ)
     (failed_beside : Type 0) (end : Status) : Type 0 where
-  pub case : Case
-  pub is : IsCase order files case
   pub puts : List Put
   pub leads_on : leads puts
-  pub run : IsRunOf (Rose before after) case end puts ⊎ IsLeft failed_beside case end puts
+  pub run : IsRunOf (Rose before after) (case_of order files) end puts ⊎ IsLeft failed_beside (case_of order files) end puts
 
 -- the job is no listing with --quick
 abbrev pub IsPlainJob : Job → Type 0

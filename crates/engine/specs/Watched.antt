@@ -1,6 +1,6 @@
 -- What a watched run puts to its side sink.
 use Rattle.std.specs.Prelude.{◌≡◌, ◌⊎◌, ℕ, ◌*◌, ◌<◌, List, [], ◌∷◌, ◌++◌, length, map, All, Bool, Option, Some, None, option_and_then}
-use Rattle.outside.specs.{FileSet, Put, taken, refused}
+use Rattle.outside.specs.{Put, taken, refused}
 use Rattle.outside.specs.declared.traits.SinkError.{SinkError}
 use Rattle.step_problem.specs.declared.heads.Bound.{Bound}
 use Rattle.step_problem.specs.Entries.{Entries}
@@ -17,7 +17,7 @@ use Rattle.run_puts.specs.{Text}
 use Rattle.listing_run.specs.declared.steps.Task.{Task}
 use Rattle.listing_run.specs.declared.solving.Step.{Step}
 use Rattle.listing_run.specs.{time, EnclosesSolutions, IsStep}
-use Rattle.engine.specs.Cases.{IsListingOf, case_of}
+use Rattle.engine.specs.Cases.{Case, IsListingOf}
 
 -- the number of views in each phase that the words ask for
 abbrev pub views_asked : Wanted → Option ℕ
@@ -64,10 +64,10 @@ pub record IsWatched (k : Task) (each_phase : ℕ) (leads : List Put → Type 0)
   pub watched : AreWatched k each_phase start (times k.decks.first) texts
   pub led : leads (map taken texts)
 
--- so it is with the listing of these words and files
-pub record Watched (order : Option Wanted) (files : FileSet) (each_phase : ℕ) (leads : List Put → Type 0) : Type 0 where
+-- so it is with the listing of a run's case
+pub record Watched (case : Case) (each_phase : ℕ) (leads : List Put → Type 0) : Type 0 where
   pub task : Task
-  pub is : IsListingOf task (case_of order files)
+  pub is : IsListingOf task case
   pub watched : IsWatched task each_phase leads
 
 -- These are the texts of views of a step: of all its views, or of the first ones.
@@ -107,16 +107,16 @@ abbrev pub ViewPutsOf : Task → (List Put → Type 0) → Option ℕ → Type 0
 ViewPutsOf k leads None = leads []
 ViewPutsOf k leads (Some n) = leads [] ⊎ IsWatchedSoFar k n leads
 
--- so it is with the listing of these words and files
-pub record WatchedSoFar (order : Option Wanted) (files : FileSet) (each_phase : ℕ) (leads : List Put → Type 0) : Type 0 where
+-- so it is with the listing of a run's case
+pub record WatchedSoFar (case : Case) (each_phase : ℕ) (leads : List Put → Type 0) : Type 0 where
   pub task : Task
-  pub is : IsListingOf task (case_of order files)
+  pub is : IsListingOf task case
   pub watched : IsWatchedSoFar task each_phase leads
 
 -- What is put to the side sink, whatever the status: nothing; or, with `--watch`, the views of the first steps.
-abbrev pub SidePuts : (List Put → Type 0) → Option Wanted → FileSet → Option ℕ → Type 0
-SidePuts leads order files None = leads []
-SidePuts leads order files (Some n) = leads [] ⊎ WatchedSoFar order files n leads
+abbrev pub SidePuts : (List Put → Type 0) → Case → Option ℕ → Type 0
+SidePuts leads case None = leads []
+SidePuts leads case (Some n) = leads [] ⊎ WatchedSoFar case n leads
 
 -- what a settling shows to a viewer, with this many views in each phase
 abbrev pub Shows : {V : Type 0} → (V → List Entries → Edges → ℕ → V → Type 0) → (V → Type 0) → ℕ → V → List Entries → Edges → Bool → V → Type 0

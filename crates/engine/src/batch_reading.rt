@@ -1,8 +1,8 @@
 // The jobs of a batch, read from its list and the files of its models.
-ghost use Rattle.std.specs.Prelude.{◌≡◌, ◌≤◌, length, All, IfOk, IfSome, Option};
+ghost use Rattle.std.specs.Prelude.{◌≡◌, ◌≤◌, length, map, All, IfOk};
 ghost use Rattle.outside.specs.{WordsMay, IsGoodName, folder_name, FileSet, ReadsOn};
 ghost use Rattle.listing_run.specs.{IsTask};
-ghost use Rattle.engine.specs.{batch_by, IsBatchOrder, AreTasks, IsBatchRead, IsJobRead, AreJobsRead, NeverRefused, HasNames};
+ghost use Rattle.engine.specs.{batch_by, IsBatchOrder, AreTasks, IsBatchRead, job_of, NeverRefused, HasNames};
 
 use crate::asked_batch::BatchOrder;
 use crate::job::Job;
@@ -26,7 +26,7 @@ fn read_job<'a, F: Folder>(
     requires may { F.may folder.old (folder_name name.now) }
     ensures folder { ReadsOn F.Folder folder.old folder.new result }
     ensures never { NeverRefused result }
-    ensures reads { (files : Option FileSet) → IfSome files (F.agrees folder.new) → IfOk result (IsJobRead (batch_by asked.entry) name.now files) }
+    ensures reads { (files : FileSet) → F.agrees folder.new files → IfOk result (λ job. job ≡ job_of (batch_by asked.entry) files name.now) }
     ensures task { IfOk result (λ job. IfOk job.read IsTask) }
 {
     let copy = Name::new(alloc, name.as_str())?;
@@ -66,8 +66,8 @@ fn read_jobs<'a, F: Folder>(
     requires may { WordsMay (F.may folder.old) names.now }
     ensures folder { ReadsOn F.Folder folder.old folder.new result }
     ensures never { NeverRefused result }
-    ensures reads { (files : Option FileSet) → IfSome files (F.agrees folder.new) →
-        IfOk result (λ jobs. AreJobsRead (batch_by asked.entry) names.now files jobs.items) }
+    ensures reads { (files : FileSet) → F.agrees folder.new files →
+        IfOk result (λ jobs. jobs.items ≡ map (job_of (batch_by asked.entry) files) names.now) }
     ensures tasks { IfOk result (λ jobs. AreTasks jobs.items) }
     ensures whole { IfOk result (λ jobs. length jobs.items ≡ length names.now) }
 {
@@ -87,7 +87,7 @@ fn read_names<'a, F: Folder>(
 ) -> Result<Vec<Name>, InputFault>
     requires { F.may folder.old (folder_name asked.list.now) }
     ensures folder { ReadsOn F.Folder folder.old folder.new result }
-    ensures reads { (files : Option FileSet) → IfSome files (F.agrees folder.new) → HasNames (batch_by asked.entry) files result }
+    ensures reads { (files : FileSet) → F.agrees folder.new files → HasNames (batch_by asked.entry) files result }
     ensures may { IfOk result (λ names. WordsMay (F.may folder.new) names.items) }
     ensures few { IfOk result (λ names. length names.items ≤ 1000) }
     ensures good { IfOk result (λ names. All IsGoodName names.items) }
@@ -109,7 +109,7 @@ pub(crate) fn read_batch<'a, F: Folder>(
     requires asked { IsBatchOrder asked }
     requires may { F.may folder.old (folder_name asked.list.now) }
     ensures folder { ReadsOn F.Folder folder.old folder.new result }
-    ensures reads { (files : Option FileSet) → IfSome files (F.agrees folder.new) → IsBatchRead (batch_by asked.entry) files result }
+    ensures reads { (files : FileSet) → F.agrees folder.new files → IsBatchRead (batch_by asked.entry) files result }
     ensures tasks { IfOk result (λ jobs. AreTasks jobs.items) }
     ensures few { IfOk result (λ jobs. length jobs.items ≤ 1000) }
 {

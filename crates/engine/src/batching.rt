@@ -1,14 +1,15 @@
 // A batch of models.
-ghost use Rattle.std.specs.Prelude.{◌≡◌, ◌≤◌, List, ◌++◌, length, map, IfSome, Option, Some, ◌<◌, ◌^◌, slice_get};
+ghost use Rattle.std.specs.Prelude.{◌≡◌, ◌≤◌, List, ◌++◌, length, map, IfSome, Some, ◌<◌, ◌^◌, slice_get};
 ghost use Rattle.outside.specs.{WordsMay, folder_name, FileSet, Put, Rose};
 ghost use Rattle.engine.specs.Serving.{files_named};
 ghost use Rattle.run_puts.specs.{IsRun, NeverCut};
 ghost use Rattle.batch_puts.specs.{IsBatch};
 ghost use Rattle.engine.specs.BatchReads.{batch_by, IsBatchOrder, AreTasks};
-ghost use Rattle.command_line.specs.{wanted_of, Wanted};
-ghost use Rattle.engine.specs.Cases.{asked_in, Batch, ReadsNothing};
+ghost use Rattle.command_line.specs.{wanted_of};
+ghost use Rattle.engine.specs.Cases.{asked_in, case_asked, case_of, Batch, ReadsNothing};
 ghost use Rattle.engine.specs.Defined.{IsJobEnd};
 ghost use Rattle.engine.specs.Parts.{Answers, AnswersBeside};
+ghost use Rattle.engine.specs.Watched.{views_in};
 ghost use Rattle.engine.specs.declared.job.Job.{Job as JobRead};
 
 use crate::asked_batch::{BatchOrder, asked_batch};
@@ -60,8 +61,8 @@ fn put_batch<'a, R: Threads + Wait + Sync, F: Folder, K: Sink, G: Gate + Sync>(
     ensures since { (files : FileSet) → F.agrees folder.new files → F.agrees folder.old files }
     ensures answers { (start : _) (puts : List Put) → K.leads start puts out.old →
         (more : List Put) × K.leads start (puts ++ more) out.new
-        × ((order : Option Wanted) → asked_in order ≡ Some (Batch (batch_by asked.entry)) → (files : Option FileSet) →
-        IfSome files (F.agrees folder.new) → Answers order files (F.faults folder.old) (F.faults folder.new) result more) }
+        × ((files : FileSet) → F.agrees folder.new files →
+        Answers (case_asked (Some (Batch (batch_by asked.entry))) files) (F.faults folder.old) (F.faults folder.new) result more) }
 {
     match read_batch(alloc, folder, asked) {
         Ok(jobs) => put_jobs(rt, alloc, jobs.as_slice(), asked.workers, out, gate),
@@ -90,8 +91,9 @@ pub(crate) fn answer_any<
     ensures unasked { ReadsNothing (asked_in (wanted_of (map (λ w. w.now) words.now))) → folder.new ≡ folder.old }
     ensures answers { (start : _) (puts : List Put) → K.leads start puts out.old →
         (more : List Put) × K.leads start (puts ++ more) out.new
-        × ((files : Option FileSet) → IfSome files (F.agrees folder.new) →
-        AnswersBeside (wanted_of (map (λ w. w.now) words.now)) files (F.faults folder.old) (F.faults folder.new)
+        × ((files : FileSet) → F.agrees folder.new files →
+        AnswersBeside (case_of (wanted_of (map (λ w. w.now) words.now)) files) (views_in (wanted_of (map (λ w. w.now) words.now)))
+        (F.faults folder.old) (F.faults folder.new)
         (Rose (W.seen side.old).faults (W.seen side.new).faults) (λ puts. W.leads side.old puts side.new) result more) }
 {
     match asked_batch(alloc, words) {

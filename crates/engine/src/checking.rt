@@ -1,12 +1,11 @@
 // The check of a listing of the folder.
-ghost use Rattle.std.specs.Prelude.{◌≡◌, ◌≤◌, List, ◌++◌, Ok, IfOk, IfSome, Option, Some, option_map};
-ghost use Rattle.outside.specs.{folder_name, FileSet, ReadsOn, Put};
-ghost use Rattle.command_line.specs.{Wanted};
+ghost use Rattle.std.specs.Prelude.{◌≤◌, List, ◌++◌, Ok, IfOk, IfSome, Some, option_map};
+ghost use Rattle.outside.specs.{folder_name, FileSet, IsReading, ReadsOn, Put};
 ghost use Rattle.model_types.specs.{IsModel};
 ghost use Rattle.zone_pairs.specs.{pairs_in, AreZones};
 ghost use Rattle.listing_io.specs.{AreListed};
 ghost use Rattle.run_puts.specs.{Text, IsRun, NeverCut};
-ghost use Rattle.engine.specs.{IsCheck, asked_in, Check, check_of, to_of, MayRead, Answers, AreDecksAs, AreStepsAs, IsListed, IsListedAs};
+ghost use Rattle.engine.specs.{IsCheck, case_asked, Check, check_of, to_of, MayRead, Answers, AreDecksAs, IsListed, listing_read, steps_read};
 ghost use Rattle.deck_problems.specs.{AreDecks};
 
 use crate::asked::AskedCheck;
@@ -38,8 +37,8 @@ fn read_steps<F: Folder>(
     requires digits { asked.digits ≤ 18 }
     requires may { F.may folder.old (folder_name asked.listing.now) }
     ensures folder { ReadsOn F.Folder folder.old folder.new result }
-    ensures reads { (files : Option FileSet) → IfSome files (F.agrees folder.new) →
-        AreStepsAs between (check_of asked.entry) model.now (option_map (λ z. z.now) zones.entry) files result }
+    ensures reads { (files : FileSet) → F.agrees folder.new files →
+        IsReading (λ l. l) (steps_read between files (check_of asked.entry) model.now (option_map (λ z. z.now) zones.entry)) result }
     ensures listed { IfOk result (AreListed model.now (pairs_in model.now (option_map (λ z. z.now) zones.entry))) }
 {
     if !is_good_name(asked.listing.as_bytes()) {
@@ -71,7 +70,8 @@ pub(crate) fn read_listed<F: Folder>(
     requires zones { IfSome (check_of asked).zones (λ zones. F.may folder.old (folder_name zones)) }
     requires may { F.may folder.old (folder_name asked.listing.now) }
     ensures folder { ReadsOn F.Folder folder.old folder.new result }
-    ensures reads { (files : Option FileSet) → IfSome files (F.agrees folder.new) → IsListedAs between (check_of asked.entry) model.now files result }
+    ensures reads { (files : FileSet) → F.agrees folder.new files →
+        IsReading (λ l. l) (listing_read between files (check_of asked.entry) model.now) result }
     ensures listed { IfOk result (IsListed model.now) }
 {
     let zones = read_zones_of(alloc, model, asked.zones, folder)?;
@@ -122,10 +122,10 @@ fn check_decks<'a, F: Folder, K: Sink>(
     ensures since { (files : FileSet) → F.agrees folder.new files → F.agrees folder.old files }
     ensures answers { (start : _) (puts : List Put) → K.leads start puts out.old →
         (more : List Put) × K.leads start (puts ++ more) out.new
-        × ((order : Option Wanted) → asked_in order ≡ Some (Check (check_of asked.entry) (to_of asked.entry.to)) →
-        (files : Option FileSet) → IfSome files (F.agrees folder.new) →
+        × ((files : FileSet) → F.agrees folder.new files →
         AreDecksAs (check_of asked.entry).limits (check_of asked.entry).name (to_of asked.entry.to) files (Ok decks.now) →
-        Answers order files (F.faults folder.old) (F.faults folder.new) result more) }
+        Answers (case_asked (Some (Check (check_of asked.entry) (to_of asked.entry.to))) files)
+        (F.faults folder.old) (F.faults folder.new) result more) }
 {
     match read_listed(alloc, folder, asked.to.is_some(), &decks.first, asked) {
         Ok(listing) => put_check(alloc, asked.limits, decks, &listing, asked.digits, out),
@@ -147,9 +147,9 @@ pub(crate) fn check<'a, F: Folder, K: Sink>(
     ensures since { (files : FileSet) → F.agrees folder.new files → F.agrees folder.old files }
     ensures answers { (start : _) (puts : List Put) → K.leads start puts out.old →
         (more : List Put) × K.leads start (puts ++ more) out.new
-        × ((order : Option Wanted) → asked_in order ≡ Some (Check (check_of asked.entry) (to_of asked.entry.to)) →
-        (files : Option FileSet) → IfSome files (F.agrees folder.new) →
-        Answers order files (F.faults folder.old) (F.faults folder.new) result more) }
+        × ((files : FileSet) → F.agrees folder.new files →
+        Answers (case_asked (Some (Check (check_of asked.entry) (to_of asked.entry.to))) files)
+        (F.faults folder.old) (F.faults folder.new) result more) }
 {
     match read_decks(alloc, asked.limits, folder, asked.name, asked.to) {
         Ok(decks) => {

@@ -1,9 +1,10 @@
 // The model of a name, and the zones of its cells.
-ghost use Rattle.std.specs.Prelude.{IfOk, IfSome, List, Option, option_map};
-ghost use Rattle.outside.specs.{folder_name, FileSet, ReadsOn};
+ghost use Rattle.std.specs.Prelude.{IfOk, IfSome, option_map};
+ghost use Rattle.outside.specs.{folder_name, FileSet, IsReading, ReadsOn};
 ghost use Rattle.model_types.specs.{IsModel};
 ghost use Rattle.zone_pairs.specs.{AreZones};
-ghost use Rattle.engine.specs.{AreZonesAs, IsNamedFault, IsReadAs};
+ghost use Rattle.model_reader.specs.{reads};
+ghost use Rattle.engine.specs.{IsNamedFault, named, zones_read};
 
 use model_reader::read_named_model;
 use model_types::{FlowModel, Limits, Listed};
@@ -30,7 +31,7 @@ pub(crate) fn read_named<F: Folder>(
 ) -> Result<FlowModel, InputFault>
     requires may { F.may folder.old (folder_name name.now) }
     ensures folder { ReadsOn F.Folder folder.old folder.new result }
-    ensures reads { (files : Option FileSet) → IfSome files (F.agrees folder.new) → IsReadAs limits name.now files result }
+    ensures reads { (files : FileSet) → F.agrees folder.new files → IsReading (λ m. m) (named name.now (reads limits files)) result }
     ensures model { IfOk result IsModel }
 {
     if !is_good_name(name.as_bytes()) {
@@ -49,8 +50,8 @@ pub(crate) fn read_zones_of<F: Folder>(
     requires model { IsModel model.now }
     requires may { IfSome (option_map (λ name. name.now) zones) (λ name. F.may folder.old (folder_name name)) }
     ensures folder { ReadsOn F.Folder folder.old folder.new result }
-    ensures zones { (files : Option FileSet) → IfSome files (F.agrees folder.new) →
-        AreZonesAs (option_map (λ name. name.now) zones.entry) model.now files result }
+    ensures zones { (files : FileSet) → F.agrees folder.new files →
+        IsReading (λ z. z) (zones_read files (option_map (λ name. name.now) zones.entry) model.now) result }
     ensures fit { IfOk result (AreZones model.now) }
 {
     let Some(name) = zones else {

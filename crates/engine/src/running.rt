@@ -1,19 +1,12 @@
-ghost use Rattle.std.specs.Prelude.{◌≡◌, ◌⊎◌, ℕ, List, ◌++◌, map, IfSome, None, Ok, Option, Some};
+ghost use Rattle.std.specs.Prelude.{◌≡◌, List, ◌++◌, map, IfSome, Ok, Some};
 ghost use Rattle.outside.specs.{WordsMay, folder_name, FileSet, Put, Rose};
-ghost use Rattle.engine.specs.{files_named, Puts, Decided, Comes, asked_in, but_batch, decks_task, AskedCheck, Check, Make, ReadsNothing, Run, asked_of, to_of};
-ghost use Rattle.engine.specs.{IsAsked, MayRead, OneDeck, OneSummary, OneVerdict, OneSpan, SpanCertified, SpanVerdict, AnswersBeside, AreDecksAs, IsWatched};
-ghost use Rattle.engine.specs.{SidePuts, ViewPutsOf, views_in};
-ghost use Rattle.command_line.specs.{wanted_of, Wanted};
+ghost use Rattle.engine.specs.{files_named, asked_in, but_batch, case_asked, case_of, decks_task, ReadsNothing, Run, asked_of, to_of, views_in, IsAsked};
+ghost use Rattle.engine.specs.{IsRunResult, MayRead, AnswersBeside, AreDecksAs, IsWatched, ViewPutsOf};
+ghost use Rattle.command_line.specs.{wanted_of};
 ghost use Rattle.run_puts.specs.{IsRun};
 ghost use Rattle.listing_run.specs.{IsListingBeside, IsCutListing};
 ghost use Rattle.zone_pairs.specs.{AreZones};
-ghost use Rattle.engine.specs.Headline.{Headline};
-ghost use Rattle.engine.specs.Made.{Made};
-ghost use Rattle.engine.specs.Certified.{Certified};
-ghost use Rattle.engine.specs.OneListing.{OneListing};
-ghost use Rattle.engine.specs.SpanHeadline.{SpanHeadline};
 ghost use Rattle.deck_problems.specs.{AreDecks};
-ghost use Rattle.engine.specs.Watched.{Watched};
 
 use crate::asked::{Asked, Command, command_of};
 use crate::checking::check;
@@ -60,75 +53,16 @@ pub fn run_one<R: Threads + Sync, F: Folder, K: Sink + Send, W: Sink + Send, G: 
     // name, since `read_file` requires that.
     requires may { WordsMay (F.may folder.old) (files_named (map (λ w. w.now) words.now)) }
 
-    // What is put to `out`, for every status, with the status' cause, by the files that agree with all results of the
-    // folder, or by any files.
-    ensures puts { (files : Option FileSet) → IfSome files (F.agrees folder.new) →
-        Puts (λ puts. K.leads out.old puts out.new) (but_batch (wanted_of (map (λ w. w.now) words.now))) files (F.faults folder.old) (F.faults folder.new)
-        (Rose (W.seen side.old).faults (W.seen side.new).faults) result }
-
-    // What is put to `side`, for every status: nothing without `--watch`, else the views of the first steps, in turn, up to the
-    // first put that failed. If the run ends Ok, they are the views of all steps.
-    ensures side { (files : FileSet) → F.agrees folder.new files →
-        SidePuts (λ puts. W.leads side.old puts side.new) (but_batch (wanted_of (map (λ w. w.now) words.now))) files
-        (views_in (but_batch (wanted_of (map (λ w. w.now) words.now)))) }
-    ensures watched { result ≡ Status.Ok → (n : ℕ) → views_in (but_batch (wanted_of (map (λ w. w.now) words.now))) ≡ Some n → (files : FileSet) →
-        F.agrees folder.new files → Watched (but_batch (wanted_of (map (λ w. w.now) words.now))) files n (λ puts. W.leads side.old puts side.new) }
-
     // Files that agree with all results of the folder agreed with it before.
     ensures since { (files : FileSet) → F.agrees folder.new files → F.agrees folder.old files }
 
     // A folder of which no file is read isn't asked.
     ensures unasked { ReadsNothing (asked_in (but_batch (wanted_of (map (λ w. w.now) words.now)))) → folder.new ≡ folder.old }
 
-    // Some files agree with all that the folder has answered.
-    ensures told { (files : FileSet) × F.agrees folder.new files }
-
-    // The headline: of a listing, of the listing that a made model's summary sums up, of one that was checked, of a deck,
-    // of a listing of two decks, or of one of these that was checked.
-    ensures headline { result ≡ Status.Ok → (files : FileSet) → F.agrees folder.new files →
-        Headline (but_batch (wanted_of (map (λ w. w.now) words.now))) files (K.seen out.old).written (K.seen out.new).written
-        ⊎ (Made (but_batch (wanted_of (map (λ w. w.now) words.now))) (K.seen out.old).written (K.seen out.new).written
-        ⊎ (Certified (but_batch (wanted_of (map (λ w. w.now) words.now))) files (K.seen out.old).written (K.seen out.new).written
-        ⊎ (OneDeck (but_batch (wanted_of (map (λ w. w.now) words.now))) files (K.seen out.old).written (K.seen out.new).written
-        ⊎ (SpanHeadline (but_batch (wanted_of (map (λ w. w.now) words.now))) files (K.seen out.old).written (K.seen out.new).written
-        ⊎ SpanCertified (but_batch (wanted_of (map (λ w. w.now) words.now))) files (K.seen out.old).written (K.seen out.new).written)))) }
-
-    // And it is the one listing that the files define, or with `--quick` one by certificates, or each step of the one that was
-    // checked is certified, or it is the one deck of the model that the files read as.
-    ensures one { result ≡ Status.Ok → (files : FileSet) → F.agrees folder.new files →
-        OneListing (but_batch (wanted_of (map (λ w. w.now) words.now))) files (K.seen out.old).written (K.seen out.new).written
-        ⊎ (OneSummary (but_batch (wanted_of (map (λ w. w.now) words.now))) (K.seen out.old).written (K.seen out.new).written
-        ⊎ (OneVerdict (but_batch (wanted_of (map (λ w. w.now) words.now))) files (K.seen out.old).written (K.seen out.new).written
-        ⊎ (OneDeck (but_batch (wanted_of (map (λ w. w.now) words.now))) files (K.seen out.old).written (K.seen out.new).written
-        ⊎ (OneSpan (but_batch (wanted_of (map (λ w. w.now) words.now))) files (K.seen out.old).written (K.seen out.new).written
-        ⊎ SpanVerdict (but_batch (wanted_of (map (λ w. w.now) words.now))) files (K.seen out.old).written (K.seen out.new).written)))) }
-
-    // Of a made model it holds whatever the folder is.
-    ensures made { result ≡ Status.Ok → (seed size : ℕ) → asked_in (but_batch (wanted_of (map (λ w. w.now) words.now))) ≡ Some (Make seed size) →
-        Made (but_batch (wanted_of (map (λ w. w.now) words.now))) (K.seen out.old).written (K.seen out.new).written }
-
-    // A check that ends Ok certifies the listing that the words name.
-    ensures certified { result ≡ Status.Ok → (asked : AskedCheck) →
-        asked_in (but_batch (wanted_of (map (λ w. w.now) words.now))) ≡ Some (Check asked None) → (files : FileSet) → F.agrees folder.new files →
-        Certified (but_batch (wanted_of (map (λ w. w.now) words.now))) files (K.seen out.old).written (K.seen out.new).written }
-    ensures span_certified { result ≡ Status.Ok → (asked : AskedCheck) (to : List ℕ) →
-        asked_in (but_batch (wanted_of (map (λ w. w.now) words.now))) ≡ Some (Check asked (Some to)) → (files : FileSet) → F.agrees folder.new files →
-        SpanCertified (but_batch (wanted_of (map (λ w. w.now) words.now))) files (K.seen out.old).written (K.seen out.new).written }
-
-    // These statuses have a count as their cause.
-    ensures read_fault { result ≡ Status.ReadFault → Rose (F.faults folder.old) (F.faults folder.new) }
-    ensures write_fault { result ≡ Status.WriteFault → Rose (K.seen out.old).faults (K.seen out.new).faults
-        ⊎ Rose (W.seen side.old).faults (W.seen side.new).faults }
-
-    // The end that the words and files define is the end of the run, if nothing outside failed.
-    ensures decided { (files : FileSet) → F.agrees folder.new files →
-        Decided (Rose (F.faults folder.old) (F.faults folder.new)
-        ⊎ (Rose (K.seen out.old).faults (K.seen out.new).faults
-        ⊎ Rose (W.seen side.old).faults (W.seen side.new).faults)) (but_batch (wanted_of (map (λ w. w.now) words.now))) files result }
-    ensures complete { (files : FileSet) → F.agrees folder.new files →
-        Comes (Rose (F.faults folder.old) (F.faults folder.new)
-        ⊎ (Rose (K.seen out.old).faults (K.seen out.new).faults
-        ⊎ Rose (W.seen side.old).faults (W.seen side.new).faults)) (but_batch (wanted_of (map (λ w. w.now) words.now))) files result }
+    // The headline and all else that a run has come to.
+    ensures runs { IsRunResult (but_batch (wanted_of (map (λ w. w.now) words.now))) (F.agrees folder.new) (F.faults folder.old) (F.faults folder.new)
+        (Rose (W.seen side.old).faults (W.seen side.new).faults) (λ puts. W.leads side.old puts side.new) (λ puts. K.leads out.old puts out.new)
+        result (K.seen out.old) (K.seen out.new) }
 {
     one_listing();
     one_verdict();
@@ -153,8 +87,9 @@ pub(crate) fn answer<R: Threads + Sync, F: Folder, K: Sink + Send, W: Sink + Sen
     ensures unasked { ReadsNothing (asked_in (but_batch (wanted_of (map (λ w. w.now) words.now)))) → folder.new ≡ folder.old }
     ensures answers { (start : _) (puts : List Put) → K.leads start puts out.old →
         (more : List Put) × K.leads start (puts ++ more) out.new
-        × ((files : Option FileSet) → IfSome files (F.agrees folder.new) →
-        AnswersBeside (but_batch (wanted_of (map (λ w. w.now) words.now))) files (F.faults folder.old) (F.faults folder.new)
+        × ((files : FileSet) → F.agrees folder.new files →
+        AnswersBeside (case_of (but_batch (wanted_of (map (λ w. w.now) words.now))) files) (views_in (but_batch (wanted_of (map (λ w. w.now) words.now))))
+        (F.faults folder.old) (F.faults folder.new)
         (Rose (W.seen side.old).faults (W.seen side.new).faults) (λ puts. W.leads side.old puts side.new) result more) }
 {
     let order = match read_order(alloc, words) {
@@ -224,10 +159,10 @@ fn list_decks<'a, R: Threads + Sync, F: Folder, K: Sink + Send, W: Sink + Send, 
     ensures since { (files : FileSet) → F.agrees folder.new files → F.agrees folder.old files }
     ensures answers { (start : _) (puts : List Put) → K.leads start puts out.old →
         (more : List Put) × K.leads start (puts ++ more) out.new
-        × ((order : Option Wanted) → asked_in order ≡ Some (Run (asked_of asked.entry) (to_of asked.entry.to)) →
-        views_in order ≡ asked.entry.watch → (files : Option FileSet) → IfSome files (F.agrees folder.new) →
+        × ((files : FileSet) → F.agrees folder.new files →
         AreDecksAs (asked_of asked.entry).limits (asked_of asked.entry).name (to_of asked.entry.to) files (Ok decks) →
-        AnswersBeside order files (F.faults folder.old) (F.faults folder.new)
+        AnswersBeside (case_asked (Some (Run (asked_of asked.entry) (to_of asked.entry.to))) files) asked.entry.watch
+        (F.faults folder.old) (F.faults folder.new)
         (Rose (W.seen side.old).faults (W.seen side.new).faults) (λ puts. W.leads side.old puts side.new) result more) }
 {
     match read_zones_of(alloc, &decks.first, asked.zones, folder) {
@@ -251,9 +186,9 @@ fn list<'a, R: Threads + Sync, F: Folder, K: Sink + Send, W: Sink + Send, G: Gat
     ensures since { (files : FileSet) → F.agrees folder.new files → F.agrees folder.old files }
     ensures answers { (start : _) (puts : List Put) → K.leads start puts out.old →
         (more : List Put) × K.leads start (puts ++ more) out.new
-        × ((order : Option Wanted) → asked_in order ≡ Some (Run (asked_of asked.entry) (to_of asked.entry.to)) →
-        views_in order ≡ asked.entry.watch → (files : Option FileSet) → IfSome files (F.agrees folder.new) →
-        AnswersBeside order files (F.faults folder.old) (F.faults folder.new)
+        × ((files : FileSet) → F.agrees folder.new files →
+        AnswersBeside (case_asked (Some (Run (asked_of asked.entry) (to_of asked.entry.to))) files) asked.entry.watch
+        (F.faults folder.old) (F.faults folder.new)
         (Rose (W.seen side.old).faults (W.seen side.new).faults) (λ puts. W.leads side.old puts side.new) result more) }
 {
     match read_decks(alloc, asked.limits, folder, asked.name, asked.to) {

@@ -1,9 +1,9 @@
 // Decks of the folder, one or two, which have to be alike.
-ghost use Rattle.std.specs.Prelude.{◌≡◌, ◌<◌, IfErr, IfOk, IfSome, Option, option_map};
-ghost use Rattle.outside.specs.{folder_name, FileSet, ReadsOn};
+ghost use Rattle.std.specs.Prelude.{◌≡◌, ◌<◌, IfErr, IfOk, IfSome, option_map};
+ghost use Rattle.outside.specs.{folder_name, FileSet, IsReading, ReadsOn};
 ghost use Rattle.model_types.specs.{cell_count, place, HasSize, IsModel};
 ghost use Rattle.deck_problems.specs.{AreDecks};
-ghost use Rattle.engine.specs.{to_of, AreDecksAs, AreDecksOf, IsNoSecond, IsSecondAs, IsUnlikeFault, second_by};
+ghost use Rattle.engine.specs.{to_of, AreDecksAs, AreDecksOf, IsNoSecond, IsUnlikeFault, named, second_by, second_in};
 
 use crate::reading::{bad_name, read_named};
 use deck_alike::{Difference, first_difference};
@@ -31,7 +31,7 @@ fn read_second<'a, F: Folder>(
 ) -> Result<Second<'a>, InputFault>
     requires may { F.may folder.old (folder_name name.now) }
     ensures folder { ReadsOn F.Folder folder.old folder.new result }
-    ensures reads { (files : Option FileSet) → IfSome files (F.agrees folder.new) → IsSecondAs limits name.entry.now files result }
+    ensures reads { (files : FileSet) → F.agrees folder.new files → IsReading second_by (named name.entry.now (second_in limits files)) result }
     ensures model { IfOk result (λ b. IsModel b.model) }
 {
     if !is_good_name(name.as_bytes()) {
@@ -108,7 +108,7 @@ pub(crate) fn read_decks<F: Folder>(
     requires name { F.may folder.old (folder_name name.now) }
     requires to { IfSome (to_of to) (λ last. F.may folder.old (folder_name last)) }
     ensures folder { ReadsOn F.Folder folder.old folder.new result }
-    ensures reads { (files : Option FileSet) → IfSome files (F.agrees folder.new) → AreDecksAs limits name.now (to_of to.entry) files result }
+    ensures reads { (files : FileSet) → F.agrees folder.new files → AreDecksAs limits name.now (to_of to.entry) files result }
     ensures decks { IfOk result AreDecks }
 {
     let first = read_named(alloc, limits, folder, name)?;

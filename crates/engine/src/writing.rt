@@ -1,10 +1,9 @@
 // The deck of a model of the folder.
-ghost use Rattle.std.specs.Prelude.{◌≡◌, List, ◌++◌, IfSome, Option, Some};
+ghost use Rattle.std.specs.Prelude.{List, ◌++◌, Some};
 ghost use Rattle.outside.specs.{folder_name, FileSet, Put};
-ghost use Rattle.command_line.specs.{Wanted};
 ghost use Rattle.model_types.specs.{HasSize};
 ghost use Rattle.run_puts.specs.{Text, IsRun, NeverCut};
-ghost use Rattle.engine.specs.{IsDeck, asked_in, Write, Answers};
+ghost use Rattle.engine.specs.{IsDeck, case_asked, Write, Answers};
 
 use crate::ending::end_reading;
 use crate::two_decks::read_decks;
@@ -36,9 +35,8 @@ pub(crate) fn write<F: Folder, K: Sink>(
     ensures since { (files : FileSet) → F.agrees folder.new files → F.agrees folder.old files }
     ensures answers { (start : _) (puts : List Put) → K.leads start puts out.old →
         (more : List Put) × K.leads start (puts ++ more) out.new
-        × ((order : Option Wanted) → asked_in order ≡ Some (Write limits name.now) → (files : Option FileSet) →
-        IfSome files (F.agrees folder.new) →
-        Answers order files (F.faults folder.old) (F.faults folder.new) result more) }
+        × ((files : FileSet) → F.agrees folder.new files →
+        Answers (case_asked (Some (Write limits name.now)) files) (F.faults folder.old) (F.faults folder.new) result more) }
 {
     match read_decks(alloc, limits, folder, name, None) {
         Ok(decks) => {

@@ -1,13 +1,19 @@
-use Rattle.engine.specs.{batch_by}
-use Rattle.engine.proofs.BatchEnds.{batch_ran, batch_unread, valid_jobs}
+use Rattle.engine.proofs.Common.{batch_by, Global, Job, Jobs, Vec, inl, jobs_read}
+use Rattle.engine.proofs.BatchEnds.{valid_jobs}
+use Rattle.engine.proofs.Ends.{ends_defined, ends_read, ends_unread}
 use Rattle.engine.proofs.batching.put_batch.Goals as goal
 
 pub returns-in-Ok-clause-answers : goal.returns-in-Ok-clause-answers
 returns-in-Ok-clause-answers g c = λ start puts h.
     let m = c.put_jobs.ensures start puts h in
-    (m.0, m.1, λ order wanted files agree. batch_ran order (batch_by c.args.asked) wanted files (g.F.Folder.faults c.args.folder.now) _ c.in-Ok.jobs c.put_jobs.result m.0 (c.in-Ok.ensures.reads files agree) (valid_jobs c.in-Ok.jobs.items c.in-Ok.ensures.tasks) (rw c.as_slice.ensures.value at m.2))
+    let jobs = c.in-Ok.jobs.items in (
+      m.0,
+      m.1,
+      λ files agree. ends_read (g.F.Folder.faults c.args.folder.now) _ c.put_jobs.result m.0 (jobs_read files (batch_by c.args.asked)) Jobs jobs (c.in-Ok.ensures.reads files agree)
+          (ends_defined (Jobs jobs) _ _ c.put_jobs.result m.0 (rw c.as_slice.ensures.value at m.2) (inl (valid_jobs jobs c.in-Ok.ensures.tasks))),
+    )
 
 pub returns-in-Err-clause-answers : goal.returns-in-Err-clause-answers
 returns-in-Err-clause-answers g c = λ start puts h.
     let m = c.end_reading.ensures start puts h in
-    (m.0, m.1, λ order wanted files agree. batch_unread order (batch_by c.args.asked) wanted files (g.F.Folder.faults c.args.folder.now) _ c.in-Err.fault c.end_reading.result m.0 (c.in-Err.ensures.reads files agree) c.in-Err.ensures.folder.counts m.2)
+    (m.0, m.1, λ files agree. ends_unread (g.F.Folder.faults c.args.folder.now) _ c.end_reading.result m.0 (jobs_read files (batch_by c.args.asked)) Jobs (λ (v : Vec Job Global). v.items) (λ x. tt) c.in-Err.fault (c.in-Err.ensures.reads files agree) c.in-Err.ensures.folder.counts m.2)

@@ -1,7 +1,7 @@
-use Rattle.engine.proofs.Common.{ℕ, subst, check_of, Answers, to_of}
-use Rattle.engine.proofs.DeckEnds.{check_reads, ends_undecked, to_check}
+use Rattle.engine.proofs.Common.{ℕ, subst, check_of, Answers, to_of, Check, Checking, Some, case_asked, is_some, listing_read}
+use Rattle.engine.proofs.DeckEnds.{ends_undecked, to_check}
 use Rattle.engine.proofs.BatchEnds.{file_still}
-use Rattle.engine.proofs.Readings.{of_known}
+use Rattle.engine.proofs.Ends.{read_reads}
 use Rattle.engine.proofs.checking.check.Goals as goal
 
 pub returns-in-Ok-clause-answers : goal.returns-in-Ok-clause-answers
@@ -9,9 +9,9 @@ returns-in-Ok-clause-answers g c = λ start puts h.
     let m = c.check_decks-status.ensures.answers start puts h in (
       m.0,
       m.1,
-      λ order wanted files agree.
-          let A : ℕ → Type 0 = λ n. Answers order files n (g.F.Folder.faults c.check_decks-status.new.folder) c.check_decks-status.result m.0 in
-          subst A c.in-Ok.ensures.folder.counts (m.2 order wanted files agree (c.in-Ok.ensures.reads files (of_known files c.check_decks-status.ensures.since agree))),
+      λ files agree.
+          let A : ℕ → Type 0 = λ n. Answers (case_asked (Some (Check (check_of c.args.asked) (to_of c.args.asked.to))) files) n (g.F.Folder.faults c.check_decks-status.new.folder) c.check_decks-status.result m.0 in
+          subst A c.in-Ok.ensures.folder.counts (m.2 files agree (c.in-Ok.ensures.reads files (c.check_decks-status.ensures.since files agree))),
     )
 
 pub returns-in-Err-clause-answers : goal.returns-in-Err-clause-answers
@@ -21,8 +21,8 @@ returns-in-Err-clause-answers g c = λ start puts h.
     let to = to_of c.args.asked.to in (
       m.0,
       m.1,
-      λ order wanted files agree.
-          ends_undecked order (g.F.Folder.faults c.args.folder.now) _ asked.limits asked.name to (to_check asked to) (check_reads order asked to wanted) files c.in-Err.fault c.end_reading.result m.0 (c.in-Err.ensures.reads files agree) c.in-Err.ensures.folder.counts m.2,
+      λ files agree. ends_undecked asked.limits asked.name to files (to_check files asked to) (g.F.Folder.faults c.args.folder.now) _ c.end_reading.result m.0
+          (λ d. read_reads (Checking asked.limits d asked.digits) (λ l. tt) (listing_read (is_some to) files asked d.first)) c.in-Err.fault (c.in-Err.ensures.reads files agree) c.in-Err.ensures.folder.counts m.2,
     )
 
 pub check_decks-status-requires-clause-zones : goal.check_decks-status-requires-clause-zones

@@ -5,19 +5,19 @@ use Rattle.engine.proofs.commands.serve.Goals as goal
 
 pub returns-clause-serves : goal.returns-clause-serves
 returns-clause-serves g c =
+    let run = c.run-status.ensures.runs in
     let is : exit_status c.from.result ≡ code_of c.run-status.result = c.from.ensures ∙ c.code.ensures in
     record {
       end = c.run-status.result;
       number_is = is;
-      puts = c.run-status.ensures.puts;
-      some = c.run-status.ensures.told;
+      run = run;
       limit = λ files agree. c.requires.limit files (c.run-status.ensures.since files agree);
-      headline = λ zero files agree. c.run-status.ensures.headline (ok_from_zero c.run-status.result (sym is ∙ zero)) files agree;
-      one = λ zero files agree. c.run-status.ensures.one (ok_from_zero c.run-status.result (sym is ∙ zero)) files agree;
-      batch = λ goes. c.run-status.ensures.batch (λ stops. goes (let P : ℕ → Type 0 = IsStopNumber in subst P (sym is) (stop_number c.run-status.result stops)));
+      headline = λ zero files agree. run.headline (ok_from_zero c.run-status.result (sym is ∙ zero)) files agree;
+      one = λ zero files agree. run.one (ok_from_zero c.run-status.result (sym is ∙ zero)) files agree;
+      batch = λ goes. run.batch (λ stops. goes (let P : ℕ → Type 0 = IsStopNumber in subst P (sym is) (stop_number c.run-status.result stops)));
     }
 
 pub returns-clause-watched : goal.returns-clause-watched
 returns-clause-watched g c = λ zero n asked files agree.
     let is : exit_status c.from.result ≡ code_of c.run-status.result = c.from.ensures ∙ c.code.ensures in
-    c.run-status.ensures.watched (ok_from_zero c.run-status.result (sym is ∙ zero)) n asked files agree
+    c.run-status.ensures.runs.watched (ok_from_zero c.run-status.result (sym is ∙ zero)) n asked files agree

@@ -1,8 +1,8 @@
 use Rattle.engine.proofs.Common.{◌≡◌, ◌∙◌, map, Err, Some, None, ap, sym, subst, asked_in, Make, ReadsNothing, Wanted, Write, asked_of, check_of, command_of}
-use Rattle.engine.proofs.Common.{wanted_of, wanting_not_ok, Check, to_of, nothing, Option, but_batch, Run}
+use Rattle.engine.proofs.Common.{wanted_of, wanting_not_ok, Check, to_of, nothing, Option, but_batch, Run, Making, case_of, made_model, views_in}
 use Rattle.engine.specs.declared.asked.Command.{Command as CommandBy}
-use Rattle.engine.proofs.Ends.{asked_by, asked_none, ends_usage, ends_made, ends_without_words, no_words}
-use Rattle.engine.proofs.Beside.{not_ok, views_by, without_views}
+use Rattle.engine.proofs.Ends.{asked_by, asked_none, ends_usage, ends_without_words, ends_defined}
+use Rattle.engine.proofs.Beside.{not_ok, views_by, without_views, with_views}
 use Rattle.engine.proofs.BatchEnds.{command_named}
 use Rattle.engine.proofs.running.answer.Goals as goal
 
@@ -17,8 +17,8 @@ returns-in-Err-Usage-clause-answers g c = λ start puts h.
     let none : asked_in (but_batch order) ≡ None = asked_none order (c.in-Err-Usage.ensures.usage (ap Err c.in-Err-Usage.field-0-is)) in (
       m.0,
       m.1,
-      λ files agree. without_views (but_batch order) files (g.F.Folder.faults c.args.folder.now) _ _ (λ puts. g.W.Sink.leads c.args.side.now puts c.args.side.now) c.put_last.result m.0 (((g.met.W.Sink g.world.𝓛 g.world.𝓜 g.world.𝓡 ((λ s x. x), (λ x. x), (λ x. x), λ x. x))).rests c.args.side.now) None none (λ h. h)
-          (ends_usage (but_batch order) files (g.F.Folder.faults c.args.folder.now) _ c.put_last.result m.0 (no_words (but_batch order) files none) m.2),
+      λ files agree. without_views (g.F.Folder.faults c.args.folder.now) _ _ (λ puts. g.W.Sink.leads c.args.side.now puts c.args.side.now) c.put_last.result m.0 (but_batch order) files (((g.met.W.Sink g.world.𝓛 g.world.𝓜 g.world.𝓡 ((λ s x. x), (λ x. x), (λ x. x), λ x. x))).rests c.args.side.now) None none (λ h. h)
+          (ends_usage (g.F.Folder.faults c.args.folder.now) _ c.put_last.result m.0 m.2),
     )
 
 pub returns-in-Err-Memory-clause-answers : goal.returns-in-Err-Memory-clause-answers
@@ -27,8 +27,8 @@ returns-in-Err-Memory-clause-answers g c = λ start puts h.
     let order = wanted_of (map (λ w. w.now) c.args.words.now) in (
       m.0,
       m.1,
-      λ files agree. not_ok (but_batch order) files (g.F.Folder.faults c.args.folder.now) _ _ (λ puts. g.W.Sink.leads c.args.side.now puts c.args.side.now) c.put_memory.result m.0 (((g.met.W.Sink g.world.𝓛 g.world.𝓜 g.world.𝓡 ((λ s x. x), (λ x. x), (λ x. x), λ x. x))).rests c.args.side.now)
-          (ends_without_words (but_batch order) files (g.F.Folder.faults c.args.folder.now) _ c.put_memory.result m.0 m.2) (wanting_not_ok c.put_memory.result m.0 m.2),
+      λ files agree. not_ok (g.F.Folder.faults c.args.folder.now) _ _ (λ puts. g.W.Sink.leads c.args.side.now puts c.args.side.now) c.put_memory.result m.0 (case_of (but_batch order) files) (views_in (but_batch order)) (((g.met.W.Sink g.world.𝓛 g.world.𝓜 g.world.𝓡 ((λ s x. x), (λ x. x), (λ x. x), λ x. x))).rests c.args.side.now)
+          (ends_without_words (case_of (but_batch order) files) (g.F.Folder.faults c.args.folder.now) _ c.put_memory.result m.0 m.2) (wanting_not_ok c.put_memory.result m.0 m.2),
     )
 
 pub returns-in-None-clause-answers : goal.returns-in-None-clause-answers
@@ -38,15 +38,20 @@ returns-in-None-clause-answers g c = λ start puts h.
     let none : asked_in (but_batch order) ≡ None = asked_by order _ None c.in-Ok.ensures.order c.in-None.ensures.is in (
       m.0,
       m.1,
-      λ files agree. without_views (but_batch order) files (g.F.Folder.faults c.args.folder.now) _ _ (λ puts. g.W.Sink.leads c.args.side.now puts c.args.side.now) c.put_last-in-None.result m.0 (((g.met.W.Sink g.world.𝓛 g.world.𝓜 g.world.𝓡 ((λ s x. x), (λ x. x), (λ x. x), λ x. x))).rests c.args.side.now) None none (λ h. h)
-          (ends_usage (but_batch order) files (g.F.Folder.faults c.args.folder.now) _ c.put_last-in-None.result m.0 (no_words (but_batch order) files none) m.2),
+      λ files agree. without_views (g.F.Folder.faults c.args.folder.now) _ _ (λ puts. g.W.Sink.leads c.args.side.now puts c.args.side.now) c.put_last-in-None.result m.0 (but_batch order) files (((g.met.W.Sink g.world.𝓛 g.world.𝓜 g.world.𝓡 ((λ s x. x), (λ x. x), (λ x. x), λ x. x))).rests c.args.side.now) None none (λ h. h)
+          (ends_usage (g.F.Folder.faults c.args.folder.now) _ c.put_last-in-None.result m.0 m.2),
     )
 
 pub returns-in-Some-Run-clause-answers : goal.returns-in-Some-Run-clause-answers
 returns-in-Some-Run-clause-answers g c = λ start puts h.
     let m = c.list.ensures.answers start puts h in
     let order = wanted_of (map (λ w. w.now) c.args.words.now) in
-    (m.0, m.1, m.2 (but_batch order) (asks order _ _ _ c.in-Ok.ensures.order c.in-Some-Run.ensures.is c.in-Some-Run.field-0-is) (views_by order _ _ _ c.in-Ok.ensures.order c.in-Some-Run.field-0-is c.in-Some-Run.ensures.views))
+    let asked = c.in-Some-Run.asked in (
+      m.0,
+      m.1,
+      λ files agree. with_views _ _ _ _ _ _ (but_batch order) files (Some (Run (asked_of asked) (to_of asked.to))) asked.watch (asks order _ _ _ c.in-Ok.ensures.order c.in-Some-Run.ensures.is c.in-Some-Run.field-0-is)
+          (views_by order _ _ _ c.in-Ok.ensures.order c.in-Some-Run.field-0-is c.in-Some-Run.ensures.views) (m.2 files agree),
+    )
 
 pub returns-in-Some-Make-clause-answers : goal.returns-in-Some-Make-clause-answers
 returns-in-Some-Make-clause-answers g c = λ start puts h.
@@ -55,8 +60,8 @@ returns-in-Some-Make-clause-answers g c = λ start puts h.
     let wanted : asked_in (but_batch order) ≡ Some (Make c.in-Some-Make.seed c.in-Some-Make.size) = asks order _ _ _ c.in-Ok.ensures.order c.in-Some-Make.ensures.is c.in-Some-Make.field-0-is in (
       m.0,
       m.1,
-      λ files agree. without_views (but_batch order) files (g.F.Folder.faults c.args.folder.now) _ _ (λ puts. g.W.Sink.leads c.args.side.now puts c.args.side.now) c.put_made.result m.0 (((g.met.W.Sink g.world.𝓛 g.world.𝓜 g.world.𝓡 ((λ s x. x), (λ x. x), (λ x. x), λ x. x))).rests c.args.side.now)
-          (Some (Make c.in-Some-Make.seed c.in-Some-Make.size)) wanted (λ h. h) (ends_made (but_batch order) c.in-Some-Make.seed c.in-Some-Make.size wanted files (g.F.Folder.faults c.args.folder.now) _ c.put_made.result m.0 m.2),
+      λ files agree. without_views (g.F.Folder.faults c.args.folder.now) _ _ (λ puts. g.W.Sink.leads c.args.side.now puts c.args.side.now) c.put_made.result m.0 (but_batch order) files (((g.met.W.Sink g.world.𝓛 g.world.𝓜 g.world.𝓡 ((λ s x. x), (λ x. x), (λ x. x), λ x. x))).rests c.args.side.now)
+          (Some (Make c.in-Some-Make.seed c.in-Some-Make.size)) wanted (λ h. h) (ends_defined (Making c.in-Some-Make.seed c.in-Some-Make.size (made_model c.in-Some-Make.seed c.in-Some-Make.size)) (g.F.Folder.faults c.args.folder.now) _ c.put_made.result m.0 m.2.run m.2.valid),
     )
 
 pub returns-in-Some-Check-clause-answers : goal.returns-in-Some-Check-clause-answers
@@ -67,8 +72,8 @@ returns-in-Some-Check-clause-answers g c = λ start puts h.
     let wanted : asked_in (but_batch order) ≡ Some (Check (check_of asked) (to_of asked.to)) = asks order _ _ _ c.in-Ok.ensures.order c.in-Some-Check.ensures.is c.in-Some-Check.field-0-is in (
       m.0,
       m.1,
-      λ files agree. without_views (but_batch order) files (g.F.Folder.faults c.args.folder.now) _ _ (λ puts. g.W.Sink.leads c.args.side.now puts c.args.side.now) c.check.result m.0 (((g.met.W.Sink g.world.𝓛 g.world.𝓜 g.world.𝓡 ((λ s x. x), (λ x. x), (λ x. x), λ x. x))).rests c.args.side.now)
-          (Some (Check (check_of asked) (to_of asked.to))) wanted (λ h. h) (m.2 (but_batch order) wanted files agree),
+      λ files agree. without_views (g.F.Folder.faults c.args.folder.now) _ _ (λ puts. g.W.Sink.leads c.args.side.now puts c.args.side.now) c.check.result m.0 (but_batch order) files (((g.met.W.Sink g.world.𝓛 g.world.𝓜 g.world.𝓡 ((λ s x. x), (λ x. x), (λ x. x), λ x. x))).rests c.args.side.now)
+          (Some (Check (check_of asked) (to_of asked.to))) wanted (λ h. h) (m.2 files agree),
     )
 
 pub returns-in-Some-Write-clause-answers : goal.returns-in-Some-Write-clause-answers
@@ -78,8 +83,8 @@ returns-in-Some-Write-clause-answers g c = λ start puts h.
     let wanted : asked_in (but_batch order) ≡ Some (Write c.in-Some-Write.limits c.in-Some-Write.name.now) = asks order _ _ _ c.in-Ok.ensures.order c.in-Some-Write.ensures.is c.in-Some-Write.field-0-is in (
       m.0,
       m.1,
-      λ files agree. without_views (but_batch order) files (g.F.Folder.faults c.args.folder.now) _ _ (λ puts. g.W.Sink.leads c.args.side.now puts c.args.side.now) c.write.result m.0 (((g.met.W.Sink g.world.𝓛 g.world.𝓜 g.world.𝓡 ((λ s x. x), (λ x. x), (λ x. x), λ x. x))).rests c.args.side.now)
-          (Some (Write c.in-Some-Write.limits c.in-Some-Write.name.now)) wanted (λ h. h) (m.2 (but_batch order) wanted files agree),
+      λ files agree. without_views (g.F.Folder.faults c.args.folder.now) _ _ (λ puts. g.W.Sink.leads c.args.side.now puts c.args.side.now) c.write.result m.0 (but_batch order) files (((g.met.W.Sink g.world.𝓛 g.world.𝓜 g.world.𝓡 ((λ s x. x), (λ x. x), (λ x. x), λ x. x))).rests c.args.side.now)
+          (Some (Write c.in-Some-Write.limits c.in-Some-Write.name.now)) wanted (λ h. h) (m.2 files agree),
     )
 
 pub returns-in-Some-Run-clause-unasked : goal.returns-in-Some-Run-clause-unasked

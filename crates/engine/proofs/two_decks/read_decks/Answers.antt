@@ -1,5 +1,5 @@
-use Rattle.engine.proofs.Common.{err_from_is_err_and, second_by, to_of}
-use Rattle.engine.proofs.Readings.{compared_counts, compared_decks, compared_valid, of_known, one_read, reads_both, stops_after, unread_first, unread_second}
+use Rattle.engine.proofs.Common.{Bor, Option, Text, Err, subst, sym, AreDecksAs, err_from_is_err_and, second_by, to_of}
+use Rattle.engine.proofs.Readings.{compared_counts, compared_decks, compared_valid, one_read, reads_both, stops_after, unread_first, unread_second}
 use Rattle.engine.proofs.two_decks.read_decks.Goals as goal
 
 pub read_second-requires : goal.read_second-requires
@@ -12,14 +12,15 @@ returns-in_err-first-clause-reads g c =
 
 pub returns-in-Err-clause-reads : goal.returns-in-Err-clause-reads
 returns-in-Err-clause-reads g c = λ files agree.
-    rw c.in-Some.is (unread_second c.args.limits c.args.name.now c.in-Some.to.now files c.in_ok-first.first c.in-Err.fault (c.in_ok-first.ensures.reads files (of_known files c.read_second.ensures.folder.since agree)) (c.in-Err.ensures.reads files agree))
+    let P : Option (Bor Text) → Type 0 = λ o. AreDecksAs c.args.limits c.args.name.now (to_of o) files (Err c.in-Err.fault) in
+    subst P (sym c.in-Some.is) (unread_second c.args.limits c.args.name.now files c.in_ok-first.first (c.in_ok-first.ensures.reads files (c.read_second.ensures.folder.since files agree)) c.in-Some.to.now c.in-Err.fault (c.in-Err.ensures.reads files agree))
 
 pub returns-in_default-clause-reads : goal.returns-in_default-clause-reads
 returns-in_default-clause-reads g c = λ files agree. rw c.in_default.is (one_read c.args.limits c.args.name.now files c.in_ok-first.first (c.in_ok-first.ensures.reads files agree))
 
 pub returns-in-Ok-clause-reads : goal.returns-in-Ok-clause-reads
 returns-in-Ok-clause-reads g c = λ files agree.
-    rw c.in-Some.is (compared_decks c.args.limits c.args.name.now c.in-Some.to.now files c.in_ok-first.first c.in-Ok.second (c.in_ok-first.ensures.reads files (of_known files c.read_second.ensures.folder.since agree)) (c.in-Ok.ensures.reads files agree)
+    rw c.in-Some.is (compared_decks c.args.limits c.args.name.now files c.in_ok-first.first (c.in_ok-first.ensures.reads files (c.read_second.ensures.folder.since files agree)) c.in-Some.to.now c.in-Ok.second (c.in-Ok.ensures.reads files agree)
     c.decks_of.result c.decks_of.ensures.alike c.decks_of.ensures.unlike)
 
 pub returns-in-Ok-clause-decks : goal.returns-in-Ok-clause-decks
