@@ -1,16 +1,18 @@
 -- What the floors of carried components are made of, from labels, a search, sums and maxima.
-use Rattle.barrier_vector.proofs.Common.{◌≡◌, ℕ, zero, suc, ◌+◌, ◌<◌, ◌≤◌, ◌⊎◌, inl, inr, refl, sym, ◌∙◌, ap, subst, arith, List, length, min, Option, None}
-use Rattle.barrier_vector.proofs.Common.{Some, Bool, true, false, cond, slice_index, ℤ, pos, ◌-ℤ◌, ◌≤ℤ◌, ◌<ℤ◌, cases_lt, ints, clamps, Entries, entries_at}
-use Rattle.barrier_vector.proofs.Common.{IsProblem, IsHead, IsComponent, sum_inside, deep_low, sum-same, Low, IsBase, lack, capped_flow, LeastRoot, IsInnerPath}
-use Rattle.barrier_vector.proofs.Common.{IsLongest, IsUnanchored, mark_at, path_limit, ListRoot, IsSearched, AreLabels, is_label, labelled, number_at, sum_at}
-use Rattle.barrier_vector.proofs.Common.{IsGreatestOf, FlowSum, SelfRoot, AreRoots, AreComponents, cut_on, IsBoundOrNone}
+use Rattle.barrier_vector.proofs.Common.{◌≡◌, ℕ, ◌+◌, ◌<◌, ◌≤◌, inl, inr, refl, sym, ◌∙◌, ap, subst, arith, List, length, min, Option, None, Some, cond}
+use Rattle.barrier_vector.proofs.Common.{slice_index, ℤ, pos, ◌-ℤ◌, ◌≤ℤ◌, ◌<ℤ◌, ints, clamps, Entries, entries_at, IsProblem, IsHead, base_on, IsComponent}
+use Rattle.barrier_vector.proofs.Common.{sum_inside, deep_low, sum-same, Low, lack, capped_flow, LeastRoot, IsInnerPath, IsLongest, IsUnanchored, mark_at}
+use Rattle.barrier_vector.proofs.Common.{path_limit, ListRoot, IsSearched, AreLabels, labelled, number_at, sum_at, IsGreatestOf, FlowSum, SelfRoot, AreRoots}
+use Rattle.barrier_vector.proofs.Common.{AreComponents, cut_on, IsBoundOrNone}
 use Rattle.barrier_vector.proofs.CarriedRoots.{reaches_within, turn_way, join_ways}
 use Rattle.barrier_vector.proofs.Levels.{marked_or_not, marked_within}
 use Rattle.barrier_vector.proofs.Labelling.{along}
 use Rattle.barrier_vector.proofs.Gathering.{label_true, label_is}
-use Rattle.barrier_vector.proofs.Rooting.{path_as, label_within}
+use Rattle.barrier_vector.proofs.Marking.{base_head}
+use Rattle.barrier_vector.proofs.Rooting.{label_within}
 use Rattle.barrier_vector.proofs.CappedFlows.{whole_path}
-use Rattle.barrier_vector.proofs.Uniques.{inner_one, same_tests}
+use Rattle.barrier_vector.proofs.Uniques.{inner_one}
+use Rattle.barrier_vector.proofs.Components.{longest as longest_path, one_sum}
 
 module _ (p : List Entries) (ok : IsProblem p) where
   -- every cell leads to the least cell of its component
@@ -25,7 +27,7 @@ module _ (p : List Entries) (ok : IsProblem p) where
             absurd (found.none c h none i (record { root = m; drop = 0; is_root = roots.each m 0 (subst (λ (n : ℕ). m < n) (sym whole) (marked_within labels m m self)) (self, refl); reaches = back_way }))
         | inr (k, e) ↦
             let (s, path, cut) = found.some c k e in
-            let (t, full, same) = whole_path p ok (lack p) (LeastRoot p) (LeastRoot p) (λ a d r. (d, r, refl)) (λ a d r. (d, r)) c s (path_as p (capped_flow (lack p)) (ListRoot own) (LeastRoot p) least_is is_least c s path) in
+            let (t, full, same) = whole_path p ok (lack p) (ListRoot own) (LeastRoot p) (λ a d r. (d, least_is a d r, refl)) (λ a d r. (d, is_least a d r)) c s path in
             (t, full, cut ∙ same)
       ]
     where
@@ -59,75 +61,33 @@ module _ (p : List Entries) (ok : IsProblem p) (labels : List (Option ℕ)) (inn
     whole = λ j k way. label_true (mark_at labels k) m (along p labels (length p) y.labelling j c k m e way);
   }
 
-  sum_is : (c m : ℕ) → c < length p → mark_at labels c ≡ Some m → (inside : ℕ → Bool) → IsComponent p c inside → sum_inside (length p) inside (λ k. deep_low (entries_at p k)) ≡ sum_at sums m
-  sum_is c m h e inside component = sum-same (length p) _ _ (λ k k_in. ap (λ (b : Bool). cond b (deep_low (entries_at p k)) (pos 0)) (same_tests (inside k) (labelled labels m k) (λ t. let (j, way) = component.reached k t in (component_of c m e).whole j k way) (λ t. let (j, way) = (component_of c m e).reached k t in component.whole j k way))) ∙ sym (y.component_sums m)
-
-  -- among the first i cells of a component one has the longest path, or none is there
-  longest_of : (m i : ℕ) → i ≤ length p → ((k t : ℕ) × (k < i) × (mark_at labels k ≡ Some m) × IsInnerPath p k t × ((l s : ℕ) → l < i → mark_at labels l ≡ Some m → IsInnerPath p l s → s ≤ t)) ⊎ ((l : ℕ) → l < i → mark_at labels l ≡ Some m → ⊥)
-  longest_of m zero h = inr (λ l l_in e. absurd (omega arith))
-  longest_of m (suc i) h =
-      let (s, path, _) = y.inner_paths i (omega arith) in
-      elim (label_or_not i) [
-        | inr off ↦ elim (longest_of m i (omega arith)) [
-          | inl (k, t, k_in, on, k_path, top) ↦ inl (k, t, omega arith, on, k_path, λ l r l_in l_on l_path. elim (cases_lt l i) [ inl less ↦ top l r less l_on l_path | inr past ↦ let at : l ≡ i = omega (arith, l_in, past) in absurd (off (subst (λ (z : ℕ). mark_at labels z ≡ Some m) at l_on)) ])
-          | inr none ↦ inr (λ l l_in l_on. elim (cases_lt l i) [ inl less ↦ none l less l_on | inr past ↦ let at : l ≡ i = omega (arith, l_in, past) in off (subst (λ (z : ℕ). mark_at labels z ≡ Some m) at l_on) ])
-        ]
-        | inl here ↦ elim (longest_of m i (omega arith)) [
-          | inr none ↦ inl (i, s, omega arith, here, path, λ l r l_in l_on l_path. elim (cases_lt l i) [ inl less ↦ absurd (none l less l_on) | inr past ↦ let at : l ≡ i = omega (arith, l_in, past) in at_i l r at l_path s path s (omega arith) ])
-          | inl (k, t, k_in, on, k_path, top) ↦ elim (cases_lt t s) [
-            | inl less ↦ inl (i, s, omega arith, here, path, λ l r l_in l_on l_path. elim (cases_lt l i) [ inl before ↦ let le = top l r before l_on l_path in omega (arith, le, less) | inr past ↦ let at : l ≡ i = omega (arith, l_in, past) in at_i l r at l_path s path s (omega arith) ])
-            | inr more ↦ inl (k, t, omega arith, on, k_path, λ l r l_in l_on l_path. elim (cases_lt l i) [ inl before ↦ top l r before l_on l_path | inr past ↦ let at : l ≡ i = omega (arith, l_in, past) in at_i l r at l_path s path t more ])
-          ]
-        ]
-      ]
-    where
-      at_i : (l r : ℕ) → l ≡ i → IsInnerPath p l r → (s : ℕ) → IsInnerPath p i s → (t : ℕ) → s ≤ t → r ≤ t
-      at_i l r at l_path s path t le = let same = inner_one p ok i r s (subst (λ (z : ℕ). IsInnerPath p z r) at l_path) path in omega (arith, same, le)
-
-      label_or_not : (i : ℕ) → (mark_at labels i ≡ Some m) ⊎ (mark_at labels i ≡ Some m → ⊥)
-      label_or_not i = by_test (is_label (mark_at labels i) m) refl
-        where
-          by_test : (b : Bool) → is_label (mark_at labels i) m ≡ b → (mark_at labels i ≡ Some m) ⊎ (mark_at labels i ≡ Some m → ⊥)
-          by_test true e = inl (label_is (mark_at labels i) m e)
-          by_test false e = inr (λ on. let t = label_true (mark_at labels i) m on in absurd (cc (e, t)))
-
   longest_is : (c m : ℕ) → c < length p → mark_at labels c ≡ Some m → (t : ℕ) × IsLongest p c t × (slice_index longest m ≡ min t path_limit)
   longest_is c m h e =
-      elim (longest_of m (length p) (omega arith)) [
-        | inr none ↦ absurd (none c h e)
-        | inl (k, t, k_in, on, path, top) ↦
-            let (j, way) = (component_of c m e).reached k (label_true (mark_at labels k) m on) in (
-              t,
-              record {
-                cell = k;
-                links = j;
-                reached = way;
-                is_path = path;
-                longest = λ i l s l_way l_path. top l s (reaches_within p ok i c l h l_way) (along p labels (length p) y.labelling i c l m e l_way) l_path;
-              },
-              capped k t k_in on path top,
-            )
-      ]
-    where
-      capped : (k t : ℕ) → k < length p → mark_at labels k ≡ Some m → IsInnerPath p k t → ((l s : ℕ) → l < length p → mark_at labels l ≡ Some m → IsInnerPath p l s → s ≤ t) → slice_index longest m ≡ min t path_limit
-      capped k t k_in on path top =
-          let g = y.tops m in
-          let at_least = g.greatest k k_in on in
-          let (s, s_path, s_cut) = y.inner_paths k k_in in
-          let same = inner_one p ok k s t s_path path in
-          elim g.reached [
-            | inl nought ↦ omega (arith, at_least, s_cut, same, nought)
-            | inr (l, l_in, l_on, is) ↦ let (r, r_path, r_cut) = y.inner_paths l l_in in let le = top l r l_in l_on r_path in omega (arith, at_least, s_cut, same, is, r_cut, le)
-          ]
+      let (t, top) = longest_path p ok c h in
+      let k_in = reaches_within p ok top.links c top.cell h top.reached in
+      let g = y.tops m in
+      let at_least = g.greatest top.cell k_in (along p labels (length p) y.labelling top.links c top.cell m e top.reached) in
+      let (s, s_path, s_cut) = y.inner_paths top.cell k_in in
+      let same = inner_one p ok top.cell s t s_path top.is_path in (
+        t,
+        top,
+        elim g.reached [
+          | inl nought ↦ omega (arith, at_least, s_cut, same, nought)
+          | inr (l, l_in, l_on, is) ↦
+              let (r, r_path, r_cut) = y.inner_paths l l_in in
+              let (j, way) = (component_of c m e).reached l (label_true (mark_at labels l) m l_on) in
+              let le = top.longest j l r way r_path in omega (arith, at_least, s_cut, same, is, r_cut, le)
+        ],
+      )
 
-  pub floor_carried : (base : ℤ) → IsBase Low p base → IsHead base → (c m : ℕ) (v : ℤ) → c < length p → IsUnanchored Low p c → mark_at labels c ≡ Some m → pos 0 <ℤ sum_at sums m → v ≡ cut_on Low (base -ℤ pos (slice_index inner c + slice_index longest m)) → IsBoundOrNone Low p c (Some v)
-  floor_carried base is_base head c m v h none e carries is =
+  pub floor_carried : (base : ℤ) → base ≡ base_on Low p → (c m : ℕ) (v : ℤ) → c < length p → IsUnanchored Low p c → mark_at labels c ≡ Some m → pos 0 <ℤ sum_at sums m → v ≡ cut_on Low (base -ℤ pos (slice_index inner c + slice_index longest m)) → IsBoundOrNone Low p c (Some v)
+  floor_carried base base_is c m v h none e carries is =
       let (s, path, cut) = y.inner_paths c h in
       let (t, top, top_cut) = longest_is c m h e in
-      (base -ℤ pos (s + t), inr (base, is_base, none, record { inside = labelled labels m; component = component_of c m e; carries = subst (λ (z : ℤ). pos 0 <ℤ z) (y.component_sums m) carries }, s, path, t, top, refl), is ∙ capped_sum base (slice_index inner c) (slice_index longest m) s t head cut top_cut)
+      (base_on Low p -ℤ pos (s + t), inr (none, record { inside = labelled labels m; component = component_of c m e; carries = subst (λ (z : ℤ). pos 0 <ℤ z) (y.component_sums m) carries }, s, path, t, top, refl), is ∙ ap (λ (z : ℤ). cut_on Low (z -ℤ pos (slice_index inner c + slice_index longest m))) base_is ∙ capped_sum (base_on Low p) (slice_index inner c) (slice_index longest m) s t (base_head Low p ok) cut top_cut)
 
   pub floor_none : (c m : ℕ) → c < length p → IsUnanchored Low p c → mark_at labels c ≡ Some m → sum_at sums m ≤ℤ pos 0 → IsBoundOrNone Low p c None
-  floor_none c m h none e empty = (none, λ carried. let same = sum_is c m h e carried.inside carried.component in let k = carried.carries in omega (arith, ints, same, k, empty))
+  floor_none c m h none e empty = (none, λ carried. let same = one_sum p ok c carried.inside (labelled labels m) carried.component (component_of c m e) ∙ sym (y.component_sums m) in let k = carried.carries in omega (arith, ints, same, k, empty))
 
 -- the components, from what the code made
 pub components_made : (p : List Entries) → IsProblem p → (labels least levels : List (Option ℕ)) (inner : List ℕ) (deep : List ℤ) (sums : List FlowSum) (longest : List ℕ) → AreLabels p labels (length p) → length least ≡ length labels → AreRoots (SelfRoot labels) least → IsSearched p (capped_flow (lack p)) least levels inner → ((c : ℕ) → c < length p → number_at deep c ≡ deep_low (entries_at p c)) → length sums ≡ length labels → ((m : ℕ) → sum_at sums m ≡ sum_inside (length labels) (labelled labels m) (number_at deep)) → length longest ≡ length labels → ((m : ℕ) → IsGreatestOf labels inner m (length labels) (slice_index longest m)) → AreComponents p labels inner sums longest

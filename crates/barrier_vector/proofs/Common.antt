@@ -1,33 +1,36 @@
 -- Names that several proofs of this crate cite, of the crates below and of its own definitions, passed on from one place. Declares nothing.
 pub use Rattle.std.proofs.Common.{All, Bool, Contains, FitsSigned, IsSome, List, None, Option, Some, [], add-one, ap, arith, cond, div-add-mod', drop, false}
 pub use Rattle.std.proofs.Common.{get_or, get_or-set_other, get_or-set_same, inl, inr, le-div_iff_mul-le, length, length-append, max, min, mod-lt, neg_ℤ}
-pub use Rattle.std.proofs.Common.{negsuc, not, pos, refl, rules, set, slice_index, slice_index_or, subst, suc, sum_by, sym, take, take_at, to_z, true}
-pub use Rattle.std.proofs.Common.{unsigned_abs, zero, ℕ, ℤ, ◌*ℤ◌, ◌*◌, ◌++◌, ◌+ℤ◌, ◌+◌, ◌-ℤ◌, ◌<ℤ◌, ◌<◌, ◌^◌, ◌∙◌, ◌∷◌, ◌≡◌, ◌≤ℤ◌, ◌≤◌, ◌⊎◌}
+pub use Rattle.std.proofs.Common.{negsuc, not, pos, refl, rules, set, slice_index, slice_index_or, subst, suc, sum_by, sym, take, take_at, true, unsigned_abs}
+pub use Rattle.std.proofs.Common.{zero, ℕ, ℤ, ◌*ℤ◌, ◌*◌, ◌++◌, ◌+ℤ◌, ◌+◌, ◌-ℤ◌, ◌<ℤ◌, ◌<◌, ◌^◌, ◌∙◌, ◌∷◌, ◌≡◌, ◌≤ℤ◌, ◌≤◌, ◌⊎◌}
 pub use Rattle.std.proofs.Math.Nat.{le_of_mul-le-mul_left, mul-le-mul_right}
 pub use Rattle.std.proofs.lemmas.Bool.{cases_eq, cases_lt, eq-eqb, false≢true, ne_eqb}
+pub use Rattle.std.proofs.lemmas.Fn.{says_at}
 pub use Rattle.std.proofs.lemmas.Int.{by_lt_z, clamps, ints, to_z-of_z}
-pub use Rattle.std.proofs.lemmas.List.{at_drop_more, get_or_default, get_or_past, length-map, length-set, take_all, take_more}
+pub use Rattle.std.proofs.lemmas.List.{at_drop_more, drop_all, get_or_default, get_or_past, length-map, length-set, take_all}
 pub use Rattle.std.proofs.lemmas.List.Elements.{All-contains, All-head, All-tail, Contains-append_left, Contains-get_or, Contains-push, Contains-push_cases}
-pub use Rattle.std.proofs.lemmas.List.Sums.{get_or-le-sum_by, sum_by-take-le, sum_by_more}
+pub use Rattle.std.proofs.lemmas.List.Sums.{get_or-le-sum_by, sum_by_more}
+pub use Rattle.std.specs.Fn.{FnReturnsAt}
 pub use Rattle.std.specs.Int.{int_div_euclid, int_max, int_min, int_rem_euclid, w128, w64}
 pub use Rattle.std.specs.List.{AllZip}
 pub use Rattle.std.specs.Option.{is_some, unwrap_or}
-pub use Rattle.std.specs.Prelude.{map}
-pub use Rattle.barrier_vector.specs.{AnchorRoot, AreAnchorPaths, AreBounds, AreComponents, AreCutBounds, AreHeadsOf, AreLabels, AreRoots}
+pub use Rattle.std.specs.Prelude.{map, replicate}
+pub use Rattle.barrier_vector.specs.{AnchorRoot, AreAnchorPaths, AreBegun, AreBounds, AreComponents, AreCutBounds, AreHeadsOf, AreLabels, AreRoots}
 pub use Rattle.barrier_vector.specs.{BarrierExcludesRefusal, BarrierIsCut, BarrierIsOne, CeilingsEnclose, ClampedFits, ContinuesTo, CutBarrierExcludesRefusal}
 pub use Rattle.barrier_vector.specs.{CutBarrierIsOne, CutRefusalIsOne, EnclosesUncut, Fills, FloorsEnclose, FloorsHold, FrontLeads, HasNoBound, HasStorage}
-pub use Rattle.barrier_vector.specs.{IsAnchorPath, IsAnchoredBound, IsAnchoredOrNone, IsBase, IsBoundOn, IsBoundOrNone, IsCarriedFloor, IsCeiling, IsCellMark}
-pub use Rattle.barrier_vector.specs.{IsCutBarrierOf, IsCutBoundOn, IsCutFault, IsCutFaultOn, IsFaultOn, IsFirst, IsFloor, IsGreatestOf, IsInnerPath, IsInside}
-pub use Rattle.barrier_vector.specs.{IsLeastWith, IsLevel, IsLongest, IsMarkBelow, IsMarkIn, IsMissing, IsNearest, IsNotForLackOfAnchors, IsOutOfRange}
-pub use Rattle.barrier_vector.specs.{IsOutermost, IsOutline, IsParent, IsPath, IsRefused, IsRefusedOn, IsSearched, IsSolution, IsStart, IsUnanchored}
-pub use Rattle.barrier_vector.specs.{IsWholeSide, LeadsToRoot, LeastRoot, LeavesRange, LiesOut, LinkLeads, ListAnchor, ListRoot, Names, Nowhere, RefusalIsOne}
-pub use Rattle.barrier_vector.specs.{Refuses, RefusesOn, SelfRoot, Spreads, SumsTo, anchor_on, bound_at, capped_flow, ceil_over, clamp, cut_on, drain_mark}
-pub use Rattle.barrier_vector.specs.{fixed_mark, flow_sum, greatest, high_flow, if_some, is_label, labelled, lack, mark_at, moved_out, need, need_on}
-pub use Rattle.barrier_vector.specs.{negative_part, no_barrier_on, number_at, outer_of, path_limit, positive_part, range_on, river_mark, sum_at, unmarked}
+pub use Rattle.barrier_vector.specs.{IsAnchorPath, IsAnchoredBound, IsAnchoredOrNone, IsBoundOn, IsBoundOrNone, IsCarriedFloor, IsCeiling, IsCutBarrierOf}
+pub use Rattle.barrier_vector.specs.{IsCutBoundOn, IsCutFault, IsCutFaultOn, IsFaultOn, IsFirst, IsFloor, IsGreatestOf, IsInnerPath, IsLeastWith, IsLevel}
+pub use Rattle.barrier_vector.specs.{IsLongest, IsMissing, IsNearest, IsNotForLackOfAnchors, IsOutOfRange, IsOutline, IsParent, IsPath, IsRefused, IsRefusedOn}
+pub use Rattle.barrier_vector.specs.{IsSearched, IsSolution, IsUnanchored, IsWholeSide, LeadsToRoot, LeastRoot, LeavesRange, LiesOut, LinkLeads, ListAnchor}
+pub use Rattle.barrier_vector.specs.{ListRoot, Names, Nowhere, RefusalIsOne, Refuses, RefusesOn, SelfRoot, Spreads, SumsTo, anchor_on, base_on, bound_at}
+pub use Rattle.barrier_vector.specs.{capped_flow, ceil_over, cell_mark, clamp, cut_on, drain_mark, fixed_mark, flow_sum, greatest, high_flow, if_some, is_label}
+pub use Rattle.barrier_vector.specs.{labelled, lack, mark_at, moved_out, need, need_on, negative_part, no_barrier_on, number_at, outer_of, outermost}
+pub use Rattle.barrier_vector.specs.{path_limit, positive_part, range_on, river_mark, sum_at, unmarked}
 pub use Rattle.barrier_vector.specs.declared.BarrierFault.{BarrierFault}
 pub use Rattle.barrier_vector.specs.declared.BarrierFault.TheVariants.{Memory}
 pub use Rattle.barrier_vector.specs.declared.gathered.FlowSum.{FlowSum}
-pub use Rattle.cell_balance.proofs.Deep.{add_mul, deep_less, le_trans_z, same_z, sub_mul, total-same, total_bounds, total_neg, total_nonneg}
+pub use Rattle.cell_balance.proofs.Deep.{Bounds, add_mul, bounds_same, deep_less, le_trans_z, same_z, sub_mul, total-same, total_bounds, total_neg}
+pub use Rattle.cell_balance.proofs.Deep.{total_nonneg}
 pub use Rattle.cell_balance.proofs.Dry.{IsMutual, cut_link, cut_links, dry_balance}
 pub use Rattle.cell_balance.proofs.HeldBelow.{carried_not_dry, cell_within}
 pub use Rattle.cell_balance.proofs.Sums.{sum-add, sum-same, sum-zero, term-le-sum}
@@ -38,15 +41,12 @@ pub use Rattle.cell_balance.specs.{EnclosesStep, ExactCell, IsAnchored, IsCarrie
 pub use Rattle.cell_balance.specs.{sum_below, sum_inside}
 pub use Rattle.decimal_input.proofs.FloorLaws.{mul_mono_right}
 pub use Rattle.step_problem.proofs.Leasts.{mul_mono, mul_neg, mul_nonneg}
-pub use Rattle.step_problem.proofs.Sums.{total_step}
-pub use Rattle.step_problem.specs.{CellFits, DrainFits, Edges, FixedFits, IsHead, IsProblem, IsWithin, LinkFits, RiverFits, deep_river_high, deep_river_low}
-pub use Rattle.step_problem.specs.{entries_at, full_rate, head_at, head_limit, link_at, magnitude, no_entries, no_link, number_of, total}
+pub use Rattle.step_problem.specs.{CellFits, DrainFits, Edges, EvapFits, FixedFits, IsHead, IsProblem, IsWithin, LinkFits, RiverFits, bound_on, deep_river}
+pub use Rattle.step_problem.specs.{entries_at, evap_flow, flow_bound, full_rate, head_at, head_limit, least, link_at, no_entries, no_link, number_of}
+pub use Rattle.step_problem.specs.{river_flow, total}
 pub use Rattle.step_problem.specs.Entries.{Entries}
-pub use Rattle.step_problem.specs.declared.entry.Drain.{Drain}
 pub use Rattle.step_problem.specs.declared.entry.Fixed.{Fixed}
-pub use Rattle.step_problem.specs.declared.entry.Flow.{Flow}
 pub use Rattle.step_problem.specs.declared.entry.Link.{Link}
-pub use Rattle.step_problem.specs.declared.entry.River.{River}
 pub use Rattle.step_problem.specs.declared.heads.Side.{Side}
 pub use Rattle.step_problem.specs.declared.heads.Side.TheVariants.{High, Low}
 pub use Rattle.step_problem.specs.declared.place.NoBound.{NoBound}

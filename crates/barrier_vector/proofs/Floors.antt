@@ -1,15 +1,16 @@
 -- No solution lies below a floor, and none above a ceiling.
-use Rattle.barrier_vector.proofs.Common.{◌≡◌, ℕ, ◌+◌, ◌*◌, ◌^◌, ◌<◌, ◌≤◌, inl, inr, refl, subst, arith, ℤ, pos, ◌+ℤ◌, ◌-ℤ◌, ◌*ℤ◌, ◌≤ℤ◌, ◌<ℤ◌, List, length}
-use Rattle.barrier_vector.proofs.Common.{Contains, zero, suc, ap, ◌⊎◌, AllZip, mul-le-mul_right, ints, Link, Side, Low, High, Entries, entries_at, IsProblem}
-use Rattle.barrier_vector.proofs.Common.{total, IsCarried, ExactCell, Reaches, Leads, IsHeldBelow, SolvesStep, LiesBetween, EnclosesStep, add_mul, sub_mul}
-use Rattle.barrier_vector.proofs.Common.{same_z, IsMutual, WholeCell, whole_at, whole_balance, whole_link, CellWithin, cell_within, IsMarkBelow, IsInside, need}
+use Rattle.barrier_vector.proofs.Common.{base_on, ◌≡◌, ℕ, ◌+◌, ◌*◌, ◌^◌, ◌<◌, ◌≤◌, inl, inr, refl, subst, arith, ℤ, pos, ◌+ℤ◌, ◌-ℤ◌, ◌*ℤ◌, ◌≤ℤ◌, ◌<ℤ◌, List}
+use Rattle.barrier_vector.proofs.Common.{length, Contains, zero, suc, ap, ◌⊎◌, AllZip, mul-le-mul_right, ints, Link, Side, Low, High, Entries, entries_at}
+use Rattle.barrier_vector.proofs.Common.{IsProblem, total, IsCarried, ExactCell, Reaches, Leads, IsHeldBelow, SolvesStep, LiesBetween, EnclosesStep, add_mul}
+use Rattle.barrier_vector.proofs.Common.{sub_mul, same_z, IsMutual, WholeCell, whole_at, whole_balance, whole_link, CellWithin, cell_within, Bounds, need}
 use Rattle.barrier_vector.proofs.Common.{need_on, anchor_on, LeastRoot, IsAnchorPath, IsInnerPath, IsLongest, IsAnchoredBound, IsBoundOn, FloorsEnclose}
 use Rattle.barrier_vector.proofs.Common.{CeilingsEnclose, IsSolution, ceil_over, SumsTo, IsFloor, FloorsHold, IsCeiling}
 use Rattle.cell_balance.proofs.Encloses.{whole_head, whole_solution, bound_back}
-use Rattle.barrier_vector.proofs.CarriedRoots.{join_ways, turn_way, leads_within, conducts, back, same_root, inner_path}
+use Rattle.barrier_vector.proofs.CarriedRoots.{join_ways, leads_within, conducts, back, same_root}
+use Rattle.barrier_vector.proofs.Components.{inner_path}
 use Rattle.barrier_vector.proofs.FloorsLinks.{ceil_enough, joined_low, falls_over, falls_at, somewhere_above}
 use Rattle.barrier_vector.proofs.Gains.{inward, rest_of, inward_balance, gives}
-use Rattle.barrier_vector.proofs.Marking.{base_outside}
+use Rattle.barrier_vector.proofs.Marking.{IsMarkBelow, base_outside}
 use Rattle.barrier_vector.proofs.Rooting.{anchored_by}
 
 -- Along a path heads fall by at most its sum, from its root to its cell and back.
@@ -50,7 +51,7 @@ module _ (m n : ℕ) (some_m : 0 < m) (some_n : 0 < n) (p : List Entries) (w : L
     (solves : (c : ℕ) → c < length w → whole_balance (whole_at w c) (Y c) Y ≡ pos 0)
     (ok : IsProblem p)
   where
-    module _ (side : Side) (b : ℤ) (base : (v : ℤ) → IsMarkBelow side p (length p) v → IsInside side b v) where
+    module _ (side : Side) (b : ℤ) (base : (v : ℤ) → IsMarkBelow side p (length p) v → Bounds side b v) where
       solved : (c : ℕ) → c < length w → total (whole_link (λ k. inward side (Y k)) (inward side (Y c))) (whole_at w c).links +ℤ inward side (rest_of (whole_at w c) (Y c)) ≡ pos 0
       solved c i = inward_balance side (whole_at w c) (Y c) Y (solves c i)
 
@@ -75,8 +76,7 @@ module _ (m n : ℕ) (some_m : 0 < m) (some_n : 0 < n) (p : List Entries) (w : L
         let root : LeastRoot p leads.root 0 = (leads.is_root.0, leads.is_root.1, refl) in
         let (k, k_in, inside, high) = somewhere_above m n some_m some_n p w Y within both solves b base c carried in
         let (j, to_k) = carried.component.reached k inside in
-        let (i', to_c) = turn_way p ok j c k to_k in
-        let (e, path_k) = inner_path p ok leads.root root k (i' + path.level) (join_ways p ok i' path.level k c leads.root to_c leads.reaches) in
+        let (e, path_k) = inner_path p ok k k_in in
         let short = longest.longest j k e to_k path_k in
         let (r, d, l, is_root, way, deep) = falls_to_root p ok n (need Low p) Y (b *ℤ pos n) (over Low b base) (LeastRoot p) (b *ℤ pos n) (same_z _) path_k.level k e 0 k_in path_k.sums (none (b *ℤ pos n) (Y k) high) in
         let r_is = same_root p ok leads.root root c path.level (j + l) r d leads.reaches (join_ways p ok j l c k r to_k way) is_root in
@@ -103,23 +103,23 @@ module _ (m n : ℕ) (some_m : 0 < m) (some_n : 0 < n) (p : List Entries) (w : L
         deepest a y h = omega (arith, ints, h)
 
     -- the bound of a cell on a side
-    anchored_encloses : (side : Side) (c : ℕ) (f : ℤ) → c < length p → IsAnchoredBound side p c f → IsInside side (f *ℤ pos n) (Y c)
-    anchored_encloses Low c f i (b, base, s, path, is) = let h = anchored_bound Low b (base_outside Low p b base) c s i path in rw (is, sub_mul b (pos s) (pos n)) (omega (arith, ints, h))
-    anchored_encloses High c f i (b, base, s, path, is) = let h = anchored_bound High b (base_outside High p b base) c s i path in rw (is, add_mul b (pos s) (pos n)) (omega (arith, ints, h))
+    anchored_encloses : (side : Side) (c : ℕ) (f : ℤ) → c < length p → IsAnchoredBound side p c f → Bounds side (f *ℤ pos n) (Y c)
+    anchored_encloses Low c f i (s, path, is) = let h = anchored_bound Low (base_on Low p) (base_outside Low p) c s i path in rw (is, sub_mul (base_on Low p) (pos s) (pos n)) (omega (arith, ints, h))
+    anchored_encloses High c f i (s, path, is) = let h = anchored_bound High (base_on High p) (base_outside High p) c s i path in rw (is, add_mul (base_on High p) (pos s) (pos n)) (omega (arith, ints, h))
 
-    pub bound_encloses : (side : Side) (c : ℕ) (f : ℤ) → c < length p → IsBoundOn side p c f → IsInside side (f *ℤ pos n) (Y c)
+    pub bound_encloses : (side : Side) (c : ℕ) (f : ℤ) → c < length p → IsBoundOn side p c f → Bounds side (f *ℤ pos n) (Y c)
     bound_encloses Low c f i (inl anchored) = anchored_encloses Low c f i anchored
-    bound_encloses Low c f i (inr (b, base, free, carried, s, path, t, longest, is)) =
-        let h = carried_floor b (base_outside Low p b base) c s t i carried path longest in rw (is, sub_mul b (pos (s + t)) (pos n)) (omega (arith, ints, h))
+    bound_encloses Low c f i (inr (free, carried, s, path, t, longest, is)) =
+        let h = carried_floor (base_on Low p) (base_outside Low p) c s t i carried path longest in rw (is, sub_mul (base_on Low p) (pos (s + t)) (pos n)) (omega (arith, ints, h))
     bound_encloses High c f i anchored = anchored_encloses High c f i anchored
 
 -- No solution lies outside a bound.
-pub bounds_enclose : (side : Side) (p : List Entries) (s : ℕ) (e : List ExactCell) (d : ℕ) (X : ℕ → ℤ) → IsSolution p s e d X → (c : ℕ) (f : ℤ) → c < length p → IsBoundOn side p c f → IsInside side (f *ℤ pos d) (X c *ℤ pos (10 ^ 9))
+pub bounds_enclose : (side : Side) (p : List Entries) (s : ℕ) (e : List ExactCell) (d : ℕ) (X : ℕ → ℤ) → IsSolution p s e d X → (c : ℕ) (f : ℤ) → c < length p → IsBoundOn side p c f → Bounds side (f *ℤ pos d) (X c *ℤ pos (10 ^ 9))
 bounds_enclose side p s e d X given c f i bound =
     let (n, w, whole) = whole_solution p s e d X given.problem given.encloses given.some given.solves in
     back side n whole.some (bound_encloses n (n * d) whole.some whole.some_heads p w (whole_head n X) whole.within whole.both whole.solves given.problem side c f i bound)
   where
-    back : (side : Side) (n : ℕ) → 0 < n → IsInside side (f *ℤ pos (n * d)) (whole_head n X c) → IsInside side (f *ℤ pos d) (X c *ℤ pos (10 ^ 9))
+    back : (side : Side) (n : ℕ) → 0 < n → Bounds side (f *ℤ pos (n * d)) (whole_head n X c) → Bounds side (f *ℤ pos d) (X c *ℤ pos (10 ^ 9))
     back Low n some h = bound_back n d f (X c *ℤ pos (10 ^ 9)) Low some h
     back High n some h = bound_back n d f (X c *ℤ pos (10 ^ 9)) High some h
 
@@ -131,8 +131,8 @@ ceilings_enclose p = bounds_enclose High p
 
 -- A problem whose cells all have floors is held below.
 pub held_cell : (p : List Entries) (c : ℕ) (f : ℤ) → IsFloor p c f → ((j : ℕ) × Leads p j c) ⊎ IsCarried p c
-held_cell p c f (inl (b, base, s, path, is)) = let leads = path.is_level.leads in inl (path.level, (leads.root, leads.reaches, anchored_by p leads.root leads.is_root.1))
-held_cell p c f (inr y) = inr y.3
+held_cell p c f (inl (s, path, is)) = let leads = path.is_level.leads in inl (path.level, (leads.root, leads.reaches, anchored_by p leads.root leads.is_root.1))
+held_cell p c f (inr y) = inr y.1
 
 pub floors_hold : FloorsHold
 floors_hold p floors c i = let (f, floor) = floors c i in held_cell p c f floor

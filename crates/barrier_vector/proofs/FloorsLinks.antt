@@ -3,11 +3,11 @@ use Rattle.barrier_vector.proofs.Common.{◌≡◌, ℕ, ◌*◌, ◌<◌, ◌�
 use Rattle.barrier_vector.proofs.Common.{true, false, cond, ◌+◌, ap, negsuc, zero, suc, ◌⊎◌, inl, inr, refl, ◌∙◌, AllZip, lt_z, false_is_lt, le_out, take_all}
 use Rattle.barrier_vector.proofs.Common.{ints, by_lt_z, Link, Entries, entries_at, no_entries, total, mul_nonneg, mul_mono, sum_inside, IsCarried, le_trans_z}
 use Rattle.barrier_vector.proofs.Common.{AllZip-at, AllZip-length, WholeCell, whole_at, whole_link, no_whole, whole_balance, CellWithin, LinkWithin, IsMutual}
-use Rattle.barrier_vector.proofs.Common.{cut_link, mul-le-mul_right, le_of_mul-le-mul_left, ceil_over, IsMarkBelow, mul_mono_right, cases_lt, false≢true, Low}
-use Rattle.barrier_vector.proofs.Common.{cell_within, carried_not_dry}
+use Rattle.barrier_vector.proofs.Common.{cut_link, mul-le-mul_right, le_of_mul-le-mul_left, ceil_over, mul_mono_right, cases_lt, false≢true, Low, cell_within}
+use Rattle.barrier_vector.proofs.Common.{carried_not_dry}
 use Rattle.cell_balance.proofs.Mutual.{no_whole_link}
 use Rattle.barrier_vector.proofs.FloorsEnter.{limited_sum, AllZip-has, term-le-total, lies_below, cut_enters, links_give, enters}
-use Rattle.barrier_vector.proofs.Marking.{cell_dry}
+use Rattle.barrier_vector.proofs.Marking.{IsMarkBelow, cell_dry}
 
 -- How far a head can lie beyond its neighbour's over a branch that carries at most so much.
 pub ceil_enough : (q lo : ℕ) → 0 < lo → q ≤ ceil_over q lo * lo

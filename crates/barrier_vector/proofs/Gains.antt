@@ -3,11 +3,11 @@ use Rattle.barrier_vector.proofs.Common.{◌≡◌, ℕ, zero, suc, ◌*◌, ◌
 use Rattle.barrier_vector.proofs.Common.{◌≤ℤ◌, ◌<ℤ◌, List, [], ◌∷◌, get_or, All, max, int_max, int_min, AllZip, mul-le-mul_right, cases_lt, ints, clamps}
 use Rattle.barrier_vector.proofs.Common.{All-head, All-tail, Contains-get_or, Side, Low, High, Entries, total, mul_mono, mul_nonneg, le_trans_z, total_neg}
 use Rattle.barrier_vector.proofs.Common.{total_nonneg, mul_mono_right, WholeLink, WholeCell, WholeEntry, whole_balance, whole_deep, whole_link, whole_fixed}
-use Rattle.barrier_vector.proofs.Common.{whole_river, whole_drain, whole_evap, CellWithin, FixedWithin, RiverWithin, DrainWithin, FlowWithin, IsCellMark}
-use Rattle.barrier_vector.proofs.Common.{IsInside, greatest, anchor_on, need_on, negative_part, positive_part, deep_low, high_flow, total-same, mul_neg}
-use Rattle.barrier_vector.proofs.Common.{total_bounds, deep_less, dry_balance}
+use Rattle.barrier_vector.proofs.Common.{whole_river, whole_drain, whole_evap, CellWithin, FixedWithin, RiverWithin, DrainWithin, FlowWithin, Bounds, greatest}
+use Rattle.barrier_vector.proofs.Common.{anchor_on, need_on, negative_part, positive_part, deep_low, high_flow, total-same, mul_neg, total_bounds, deep_less}
+use Rattle.barrier_vector.proofs.Common.{dry_balance}
 use Rattle.std.proofs.Math.IntN.{zero-*ℤ}
-use Rattle.barrier_vector.proofs.Marking.{some_at, cell_dry}
+use Rattle.barrier_vector.proofs.Marking.{IsCellMark, some_at, cell_dry}
 
 -- a head or a flow, turned on the high side
 abbrev pub inward : Side → ℤ → ℤ
@@ -75,7 +75,7 @@ module _ (m n cells : ℕ) (b : ℤ) (p : Entries) (w : WholeCell) (e : CellWith
   exceeding (negsuc a) f k h = omega (arith, ints)
 
   -- an entry that conducts has its head inside the base
-  inside_base : (side : Side) (hi c : ℕ) (v z : ℤ) → (0 < hi → IsInside side b v) → c ≤ hi * m → IsInside side (v *ℤ pos n) z → (c ≡ 0) ⊎ IsInside side (b *ℤ pos n) z
+  inside_base : (side : Side) (hi c : ℕ) (v z : ℤ) → (0 < hi → Bounds side b v) → c ≤ hi * m → Bounds side (v *ℤ pos n) z → (c ≡ 0) ⊎ Bounds side (b *ℤ pos n) z
   inside_base side zero c v z h k q = inl (omega arith)
   inside_base Low (suc hi) c v z h k q = inr (le_trans_z _ _ _ (mul_mono_right n b v (h (omega arith))) q)
   inside_base High (suc hi) c v z h k q = inr (le_trans_z _ _ _ q (mul_mono_right n v b (h (omega arith))))
@@ -133,7 +133,7 @@ module _ (m n cells : ℕ) (b : ℤ) (p : Entries) (w : WholeCell) (e : CellWith
       sum : (f a r d v g need : ℤ) → g ≤ℤ (neg_ℤ a +ℤ (neg_ℤ r +ℤ neg_ℤ d)) → pos 0 ≤ℤ neg_ℤ v → f ≤ℤ need → g ≤ℤ (neg_ℤ (f +ℤ a +ℤ r +ℤ d +ℤ v) +ℤ need)
       sum f a r d v g need p q s = omega (arith, ints)
 
-  pub gives : (side : Side) → ((v : ℤ) → IsCellMark side p v → IsInside side b v) → inward side y <ℤ inward side (b *ℤ pos n) → (pos (anchor_on side p * m) *ℤ (inward side (b *ℤ pos n) -ℤ inward side y)) ≤ℤ (inward side (rest_of w y) +ℤ pos (need_on side p) *ℤ pos (m * n))
+  pub gives : (side : Side) → ((v : ℤ) → IsCellMark side p v → Bounds side b v) → inward side y <ℤ inward side (b *ℤ pos n) → (pos (anchor_on side p * m) *ℤ (inward side (b *ℤ pos n) -ℤ inward side y)) ≤ℤ (inward side (rest_of w y) +ℤ pos (need_on side p) *ℤ pos (m * n))
   gives Low marks low = gives_low marks low
   gives High marks high = subst (λ (z : ℤ). (pos (anchor_on High p * m) *ℤ z) ≤ℤ (neg_ℤ (rest_of w y) +ℤ pos (need_on High p) *ℤ pos (m * n))) (turned y (b *ℤ pos n)) (gives_high marks (omega (arith, ints, high)))
     where

@@ -68,11 +68,11 @@ sum_more labels flows sums s0 s1 sf i m e0 ef h t = let t' = rw e0 at t in rw (e
 pub greatest_step : (labels : List (Option ℕ)) (xs tops t0 t1 tf : List ℕ) (m i : ℕ) → t0 ≡ tops → tf ≡ t1 → IsGreatestOf labels xs m i (slice_index tops m) → slice_index t1 m ≡ cond (is_label (mark_at labels i) m) (max (slice_index t0 m) (slice_index xs i)) (slice_index t0 m) → IsGreatestOf labels xs m (i + 1) (slice_index tf m)
 greatest_step labels xs tops t0 t1 tf m i e0 ef g t = let t' = rw e0 at t in rw ef (greatest_more labels xs m i (slice_index tops m) (slice_index t1 m) g t')
 
-pub sums_within : (labels : List (Option ℕ)) (flows : List ℤ) (sums s0 : List FlowSum) (i m : ℕ) → s0 ≡ sums → i < 2 ^ 32 → ((k : ℕ) → IsWithin (number_at flows k) (2 ^ 109)) → sum_at sums m ≡ sum_inside i (labelled labels m) (number_at flows) → IsWithin (sum_at s0 m) (2 ^ 141)
-sums_within labels flows sums s0 i m e0 small each h = let w = sum_within i (2 ^ 109) (labelled labels m) (number_at flows) each in rw (e0, h) (wider _ w)
+pub sums_within : (labels : List (Option ℕ)) (flows : List ℤ) (sums s0 : List FlowSum) (i m : ℕ) → s0 ≡ sums → i < 2 ^ 32 → ((k : ℕ) → IsWithin (number_at flows k) (2 ^ 125)) → sum_at sums m ≡ sum_inside i (labelled labels m) (number_at flows) → IsWithin (sum_at s0 m) (2 ^ 157)
+sums_within labels flows sums s0 i m e0 small each h = let w = sum_within i (2 ^ 125) (labelled labels m) (number_at flows) each in rw (e0, h) (wider _ w)
   where
-    wider : (z : ℤ) → IsWithin z (i * 2 ^ 109) → IsWithin z (2 ^ 141)
-    wider z w = let le : i * 2 ^ 109 ≤ 2 ^ 141 = omega arith in record { above = omega (arith, ints); below = omega (arith, ints) }
+    wider : (z : ℤ) → IsWithin z (i * 2 ^ 125) → IsWithin z (2 ^ 157)
+    wider z w = let le : i * 2 ^ 125 ≤ 2 ^ 157 = omega arith in record { above = omega (arith, ints); below = omega (arith, ints) }
 
 -- the two words of a sum
 pub euclid : (z : ℤ) (n : ℕ) → 0 < n → int_div_euclid z (pos n) *ℤ pos n +ℤ int_rem_euclid z (pos n) ≡ z

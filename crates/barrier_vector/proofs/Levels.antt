@@ -3,7 +3,7 @@ use Rattle.barrier_vector.proofs.Common.{◌≡◌, ℕ, zero, suc, ◌+◌, ◌
 use Rattle.barrier_vector.proofs.Common.{min, Option, None, Some, All, take, take_at, ◌++◌, slice_index, get_or, cases_lt, get_or_default, get_or_past}
 use Rattle.barrier_vector.proofs.Common.{Contains-get_or, Link, Entries, entries_at, link_at, no_link, IsProblem, Reaches, ceil_over, LeadsToRoot, IsLevel}
 use Rattle.barrier_vector.proofs.Common.{IsParent, SumsTo, mark_at, unmarked, LinkLeads, FrontLeads, Spreads, path_limit, ListRoot, IsNearest, ContinuesTo}
-use Rattle.barrier_vector.proofs.Common.{IsSearched, IsStart}
+use Rattle.barrier_vector.proofs.Common.{IsSearched, AreBegun}
 use Rattle.barrier_vector.proofs.Spreading.{no_both}
 use Rattle.barrier_vector.proofs.Gathering.{place_of}
 use Rattle.barrier_vector.proofs.CarriedRoots.{back}
@@ -65,29 +65,20 @@ module _ (p : List Entries) (ok : IsProblem p) (q : ℕ) (own : List (Option ℕ
   one_level : (c j k : ℕ) → IsLevel p q (ListRoot own) c j → IsLevel p q (ListRoot own) c k → j ≡ k
   one_level c j k a b = let x = a.least k b.leads in let y = b.least j a.leads in omega (arith, x, y)
 
-  pub up_to_start : (levels : List (Option ℕ)) (paths front : List ℕ) → length own ≡ length p → IsStart own levels paths front → IsUpTo p q own 0 levels paths front
-  up_to_start levels paths front whole s = record {
-    levels_whole = s.levels_whole ∙ whole;
-    paths_whole = s.paths_whole ∙ whole;
-    exact = λ c j e. let (d, is) = rooted c j e in (record { leads = record { root = c; drop = d; is_root = is; reaches = subst (λ (n : ℕ). Reaches p n c c) (zero_is c d j is e) refl }; least = λ i l. at_zero c d j i is e }, at_zero c d j 0 is e);
-    found = λ c j h l. let none : j ≡ 0 = omega arith in (0, (s.root c l.drop (subst (λ (z : ℕ). mark_at own z ≡ Some l.drop) (sym (subst (λ (n : ℕ). Reaches p n c l.root) none l.reaches)) l.is_root)).0);
-    front_of = λ c has. let (d, is) = s.listed c has in (s.root c d is).0;
-    in_front = λ c e. let (d, is) = rooted c 0 e in (s.root c d is).2;
-    room = λ h. roomy h;
-    path = λ c j e. let (d, is) = rooted c j e in (d, subst (λ (n : ℕ). SumsTo p q (ListRoot own) n c d) (zero_is c d j is e) is, (s.root c d is).1);
+  pub up_to_start : (old levels : List (Option ℕ)) (paths front : List ℕ) → length own ≡ length p → length old ≡ length p → ((c : ℕ) → mark_at old c ≡ None) → unmarked old ≡ length p → AreBegun own (length own) old levels paths front → IsUpTo p q own 0 levels paths front
+  up_to_start old levels paths front whole old_whole none all s = record {
+    levels_whole = s.marks.same ∙ old_whole;
+    paths_whole = s.whole ∙ whole;
+    exact = λ c j e. let (d, is, zero_is, has) = rooted c j e in (record { leads = record { root = c; drop = d; is_root = is; reaches = subst (λ (n : ℕ). Reaches p n c c) (sym zero_is) refl }; least = λ i l. omega (arith, zero_is) }, omega (arith, zero_is));
+    found = λ c j h l. let nought : j ≡ 0 = omega arith in s.marks.covers c (let is = subst (λ (z : ℕ). mark_at own z ≡ Some l.drop) (sym (subst (λ (n : ℕ). Reaches p n c l.root) nought l.reaches)) l.is_root in (marked_within own c l.drop is, l.drop, is));
+    front_of = λ c has. elim (s.marks.listed c has) [ inl wrong ↦ absurd (no_member c wrong) | inr both ↦ both.1 ];
+    in_front = λ c e. (rooted c 0 e).3;
+    room = λ h. let n = s.marks.count in omega (arith, n, all, h);
+    path = λ c j e. let (d, is, zero_is, has) = rooted c j e in (d, subst (λ (n : ℕ). SumsTo p q (ListRoot own) n c d) (sym zero_is) is, s.paths_are c d (marked_within own c d is) is);
   }
     where
-      rooted : (c j : ℕ) → mark_at levels c ≡ Some j → (d : ℕ) × (mark_at own c ≡ Some d)
-      rooted c j e = elim (marked_or_not (mark_at own c)) [ inl none ↦ absurd (no_both (mark_at levels c) j (s.other c none) e) | inr some ↦ some ]
-
-      zero_is : (c d j : ℕ) → mark_at own c ≡ Some d → mark_at levels c ≡ Some j → 0 ≡ j
-      zero_is c d j is e = same_some (mark_at levels c) 0 j (s.root c d is).0 e
-
-      at_zero : (c d j i : ℕ) → mark_at own c ≡ Some d → mark_at levels c ≡ Some j → j ≤ i
-      at_zero c d j i is e = let z = zero_is c d j is e in omega (arith, z)
-
-      roomy : 0 < length front → 0 + unmarked levels < length p
-      roomy h = let n = s.count in omega (arith, n, whole, h)
+      rooted : (c j : ℕ) → mark_at levels c ≡ Some j → (d : ℕ) × (mark_at own c ≡ Some d) × (j ≡ 0) × Contains front c
+      rooted c j e = elim (s.marks.each c) [ inl same ↦ absurd (no_both (mark_at levels c) j (same ∙ none c) e) | inr (n, m, root, has) ↦ (root.1, root.2, same_some (mark_at levels c) j 0 e m, has) ]
 
   module _ (k : ℕ) (levels levels' : List (Option ℕ)) (paths paths' front next : List ℕ)
       (u : IsUpTo p q own k levels paths front)

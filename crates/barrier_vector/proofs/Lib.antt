@@ -3,6 +3,9 @@ pub mod FloorsEnter
 pub mod FloorsLinks
 pub mod Gains
 pub mod CarriedRoots
+pub mod Decided
+pub mod Ways
+pub mod Components
 pub mod Floors
 pub mod Spreading
 pub mod Levels

@@ -1,119 +1,123 @@
--- The outermost mark: of several marks, of a list, of a cell, of a problem.
-use Rattle.barrier_vector.proofs.Common.{◌≡◌, ℕ, zero, suc, ◌+◌, ◌<◌, ◌⊎◌, inl, inr, refl, sym, ◌∙◌, ap, subst, arith, List, [], ◌∷◌, ◌++◌, length, take}
-use Rattle.barrier_vector.proofs.Common.{get_or, Contains, Option, None, Some, ℤ, pos, ◌≤ℤ◌, ◌<ℤ◌, ◌*◌, ◌≤◌, ◌*ℤ◌, int_max, int_min, unwrap_or, cases_lt, ints}
-use Rattle.barrier_vector.proofs.Common.{clamps, by_lt_z, take_more, Contains-push, Contains-push_cases, Contains-append_left, Contains-get_or, Side, Low, High}
-use Rattle.barrier_vector.proofs.Common.{Fixed, River, Drain, Entries, entries_at, if_some, fixed_mark, river_mark, drain_mark, outer_of, IsInside, IsOutermost}
-use Rattle.barrier_vector.proofs.Common.{IsMarkIn, IsCellMark, IsMarkBelow, IsBase, le_trans_z, All-zip, WholeCell, FixedWithin, RiverWithin, DrainWithin}
-use Rattle.barrier_vector.proofs.Common.{CellWithin, IsDry, mul_mono_right}
+-- The outermost mark of a list, of a cell, of a problem: one entry more, and that it lies outside each mark and is a head.
+use Rattle.barrier_vector.proofs.Common.{◌≡◌, ℕ, zero, suc, ◌+◌, ◌<◌, ◌⊎◌, inl, inr, refl, sym, ◌∙◌, ap, subst, arith, List, [], ◌∷◌, length, drop}
+use Rattle.barrier_vector.proofs.Common.{at_drop_more, get_or, Contains, Option, None, Some, ℤ, pos, ◌≤ℤ◌, ◌*◌, ◌≤◌, ◌*ℤ◌, int_max, int_min, unwrap_or, ints}
+use Rattle.barrier_vector.proofs.Common.{All, clamps, Contains-get_or, Side, Low, High, All-head, All-tail, get_or_default, IsHead, IsProblem, no_entries}
+use Rattle.barrier_vector.proofs.Common.{Bounds, Entries, entries_at, if_some, fixed_mark, river_mark, drain_mark, outer_of, outermost, cell_mark, base_on}
+use Rattle.barrier_vector.proofs.Common.{bound_on, bounds_same, CellFits, FixedFits, RiverFits, DrainFits, le_trans_z, All-zip, WholeCell, FixedWithin}
+use Rattle.barrier_vector.proofs.Common.{RiverWithin, DrainWithin, CellWithin, IsDry, mul_mono_right}
 
 pub some_at : (hi : ℕ) (v : ℤ) → 0 < hi → if_some hi v ≡ Some v
 some_at zero v h = absurd (omega arith)
 some_at (suc n) v h = refl
 
-pub some_is : (hi : ℕ) (a v : ℤ) → if_some hi a ≡ Some v → (0 < hi) × (v ≡ a)
-some_is zero a v e = absurd cc
-some_is (suc n) a v e = (omega arith, cc)
+-- The outer of marks, one after another.
+pub outer_none : (side : Side) (o : Option ℤ) → outer_of side o None ≡ o
+outer_none side None = refl
+outer_none side (Some a) = refl
 
-pub outermost_as : (side : Side) (P Q : ℤ → Type 0) (o : Option ℤ) → ((v : ℤ) → P v → Q v) → ((v : ℤ) → Q v → P v) → IsOutermost side P o → IsOutermost side Q o
-outermost_as side P Q None to from h = λ v q. h v (from v q)
-outermost_as side P Q (Some b) to from h = (to b h.0, λ v q. h.1 v (from v q))
+pub outer_joins : (side : Side) (a b c : Option ℤ) → outer_of side (outer_of side a b) c ≡ outer_of side a (outer_of side b c)
+outer_joins side None b c = refl
+outer_joins side (Some a) None c = refl
+outer_joins Low (Some a) (Some b) None = refl
+outer_joins High (Some a) (Some b) None = refl
+outer_joins Low (Some a) (Some b) (Some c) = let e : int_min (int_min a b) c ≡ int_min a (int_min b c) = omega (arith, ints, clamps) in ap Some e
+outer_joins High (Some a) (Some b) (Some c) = let e : int_max (int_max a b) c ≡ int_max a (int_max b c) = omega (arith, ints, clamps) in ap Some e
 
-pub one_mark : (side : Side) (o : Option ℤ) → IsOutermost side (λ v. o ≡ Some v) o
-one_mark side None = λ v e. cc
-one_mark Low (Some b) = (refl, λ v e. let is : v ≡ b = cc in omega (arith, ints, is))
-one_mark High (Some b) = (refl, λ v e. let is : v ≡ b = cc in omega (arith, ints, is))
+-- one element more
+pub marks_more : {X : Type 0} (side : Side) (mark : X → Option ℤ) (xs : List X) (i : ℕ) (d x : X) (best o new : Option ℤ) → i < length xs → x ≡ get_or xs i d → o ≡ mark x → new ≡ outer_of side best o → outer_of side best (outermost side mark (drop i xs)) ≡ outermost side mark xs → outer_of side new (outermost side mark (drop (i + 1) xs)) ≡ outermost side mark xs
+marks_more side mark xs i d x best o new h is from joined so_far =
+    ap (λ z. outer_of side z (outermost side mark (drop (i + 1) xs))) (joined ∙ ap (outer_of side best) (from ∙ ap mark is))
+    ∙ outer_joins side best (mark (get_or xs i d)) (outermost side mark (drop (i + 1) xs)) ∙ sym (ap (outer_of side best) (at_drop_more (outermost side mark) xs i d h)) ∙ so_far
 
--- the outer of two is the outermost of both
-pub outer_joins : (side : Side) (P Q : ℤ → Type 0) (a b : Option ℤ) → IsOutermost side P a → IsOutermost side Q b → IsOutermost side (λ v. P v ⊎ Q v) (outer_of side a b)
-outer_joins side P Q None None h k = λ v e. elim e [ inl p ↦ h v p | inr q ↦ k v q ]
-outer_joins side P Q None (Some b) h k = (inr k.0, λ v e. elim e [ inl p ↦ absurd (h v p) | inr q ↦ k.1 v q ])
-outer_joins side P Q (Some a) None h k = (inl h.0, λ v e. elim e [ inl p ↦ h.1 v p | inr q ↦ absurd (k v q) ])
-outer_joins Low P Q (Some a) (Some b) h k = (
-  by_lt_z a b
-      (λ l. inl (subst P (first a b l) h.0))
-      (λ l. inr (subst Q (second a b l) k.0)),
-  λ v e. elim e [ inl p ↦ let x = h.1 v p in omega (arith, ints, clamps, x) | inr q ↦ let x = k.1 v q in omega (arith, ints, clamps, x) ],
-)
+-- The outermost mark lies outside each mark.
+-- the mark o lies at v, or outside it
+abbrev LiesOutside : Side → Option ℤ → ℤ → Type 0
+LiesOutside side None v = ⊥
+LiesOutside side (Some b) v = Bounds side b v
+
+outer_outside : (side : Side) (a b : Option ℤ) (v : ℤ) → LiesOutside side a v ⊎ LiesOutside side b v → LiesOutside side (outer_of side a b) v
+outer_outside side None b v (inr h) = h
+outer_outside side (Some a) None v (inl h) = h
+outer_outside Low (Some a) (Some b) v (inl h) = omega (arith, ints, clamps, h)
+outer_outside Low (Some a) (Some b) v (inr h) = omega (arith, ints, clamps, h)
+outer_outside High (Some a) (Some b) v (inl h) = omega (arith, ints, clamps, h)
+outer_outside High (Some a) (Some b) v (inr h) = omega (arith, ints, clamps, h)
+outer_outside side None b v (inl h) = absurd h
+outer_outside side (Some a) None v (inr h) = absurd h
+
+list_outside : {X : Type 0} (side : Side) (mark : X → Option ℤ) (xs : List X) (v : ℤ) (k : ℕ) (d : X) → k < length xs → LiesOutside side (mark (get_or xs k d)) v → LiesOutside side (outermost side mark xs) v
+list_outside side mark [] v k d h at = absurd (omega arith)
+list_outside side mark (x ∷ xs) v zero d h at = outer_outside side (mark x) (outermost side mark xs) v (inl at)
+list_outside side mark (x ∷ xs) v (suc k) d h at = outer_outside side (mark x) (outermost side mark xs) v (inr (list_outside side mark xs v k d (omega arith) at))
+
+-- some entry of the list, of the cell, of the first n cells has the mark v
+abbrev pub IsMarkIn : {X : Type 0} → (X → Option ℤ) → List X → ℤ → Type 0
+IsMarkIn {X = X} mark xs v = (x : X) × Contains xs x × (mark x ≡ Some v)
+
+abbrev pub IsCellMark : Side → Entries → ℤ → Type 0
+IsCellMark side c v = IsMarkIn (fixed_mark side) c.fixed v ⊎ (IsMarkIn (river_mark side) c.rivers v ⊎ IsMarkIn (drain_mark side) c.drains v)
+
+abbrev pub IsMarkBelow : Side → List Entries → ℕ → ℤ → Type 0
+IsMarkBelow side p n v = (c : ℕ) × (c < n) × IsCellMark side (entries_at p c) v
+
+marked_outside : {X : Type 0} (side : Side) (mark : X → Option ℤ) (xs : List X) (v : ℤ) → IsMarkIn mark xs v → LiesOutside side (outermost side mark xs) v
+marked_outside side mark xs v (x, (k, h, is), e) = list_outside side mark xs v k x h (subst (λ o. LiesOutside side o v) (sym (ap mark is ∙ e)) (bounds_same side v))
+
+cell_outside : (side : Side) (c : Entries) (v : ℤ) → IsCellMark side c v → LiesOutside side (cell_mark side c) v
+cell_outside side c v m =
+    let fixed = outermost side (fixed_mark side) c.fixed in
+    let rivers = outermost side (river_mark side) c.rivers in
+    let drains = outermost side (drain_mark side) c.drains in
+    outer_outside side fixed (outer_of side rivers drains) v
+    (elim m as (λ n. LiesOutside side fixed v ⊎ LiesOutside side (outer_of side rivers drains) v) [
+      | inl x ↦ inl (marked_outside side (fixed_mark side) c.fixed v x)
+      | inr y ↦ inr (outer_outside side rivers drains v (elim y as (λ n. LiesOutside side rivers v ⊎ LiesOutside side drains v) [ inl x ↦ inl (marked_outside side (river_mark side) c.rivers v x) | inr x ↦ inr (marked_outside side (drain_mark side) c.drains v x) ]))
+    ])
+
+pub base_outside : (side : Side) (p : List Entries) (v : ℤ) → IsMarkBelow side p (length p) v → Bounds side (base_on side p) v
+base_outside side p v (c, h, m) = some (outermost side (cell_mark side) p) (list_outside side (cell_mark side) p v c no_entries h (cell_outside side (entries_at p c) v m))
   where
-    first : (x y : ℤ) → x <ℤ y → x ≡ int_min x y
-    first x y l = omega (arith, ints, clamps)
+    some : (o : Option ℤ) → LiesOutside side o v → Bounds side (unwrap_or o (pos 0)) v
+    some None h = absurd h
+    some (Some b) h = h
 
-    second : (x y : ℤ) → y ≤ℤ x → y ≡ int_min x y
-    second x y l = omega (arith, ints, clamps)
-outer_joins High P Q (Some a) (Some b) h k = (
-  by_lt_z a b
-      (λ l. inr (subst Q (first a b l) k.0))
-      (λ l. inl (subst P (second a b l) h.0)),
-  λ v e. elim e [ inl p ↦ let x = h.1 v p in omega (arith, ints, clamps, x) | inr q ↦ let x = k.1 v q in omega (arith, ints, clamps, x) ],
-)
+-- The base is a head.
+abbrev IsHeadIfAny : Option ℤ → Type 0
+IsHeadIfAny None = Unit {0}
+IsHeadIfAny (Some v) = IsHead v
+
+outer_head : (side : Side) (a b : Option ℤ) → IsHeadIfAny a → IsHeadIfAny b → IsHeadIfAny (outer_of side a b)
+outer_head side None b h k = k
+outer_head side (Some a) None h k = h
+outer_head Low (Some a) (Some b) h k = record { above = omega (arith, ints, clamps, h.above, k.above); below = omega (arith, ints, clamps, h.below, k.below) }
+outer_head High (Some a) (Some b) h k = record { above = omega (arith, ints, clamps, h.above, k.above); below = omega (arith, ints, clamps, h.below, k.below) }
+
+list_head : {X : Type 0} (side : Side) (mark : X → Option ℤ) (P : X → Type 0) → ((x : X) → P x → IsHeadIfAny (mark x)) → (xs : List X) → All P xs → IsHeadIfAny (outermost side mark xs)
+list_head side mark P each [] all = tt
+list_head side mark P each (x ∷ xs) all = outer_head side (mark x) (outermost side mark xs) (each x (All-head P x xs all)) (list_head side mark P each xs (All-tail P x xs all))
+
+pub base_head : (side : Side) (p : List Entries) → IsProblem p → IsHead (base_on side p)
+base_head side p ok = some (outermost side (cell_mark side) p) (list_head side (cell_mark side) CellFits cell p (λ k d h. subst CellFits (get_or_default p k no_entries d h) (ok.cells k h)))
   where
-    first : (x y : ℤ) → x <ℤ y → y ≡ int_max x y
-    first x y l = omega (arith, ints, clamps)
+    of : (hi : ℕ) (v : ℤ) → IsHead v → IsHeadIfAny (if_some hi v)
+    of zero v h = tt
+    of (suc n) v h = h
 
-    second : (x y : ℤ) → y ≤ℤ x → x ≡ int_max x y
-    second x y l = omega (arith, ints, clamps)
+    bound : (side : Side) (lo hi : ℤ) → IsHead lo → IsHead hi → IsHead (bound_on side lo hi)
+    bound Low lo hi h k = h
+    bound High lo hi h k = k
 
-pub no_marks : {X : Type 0} (side : Side) (mark : X → Option ℤ) → IsOutermost side (IsMarkIn mark []) None
-no_marks side mark = λ v m. let h = m.1.1 in omega (arith, h)
+    greater : (a b : ℤ) → IsHead a → IsHead b → IsHead (int_max a b)
+    greater a b h k = record { above = omega (arith, ints, clamps, h.above); below = omega (arith, ints, clamps, h.below, k.below) }
 
--- one entry more
-pub marks_more : {X : Type 0} (side : Side) (mark : X → Option ℤ) (xs : List X) (i : ℕ) (x : X) (best o new : Option ℤ) → i < length xs → x ≡ get_or xs i x → o ≡ mark x → new ≡ outer_of side best o → IsOutermost side (IsMarkIn mark (take i xs)) best → IsOutermost side (IsMarkIn mark (take (i + 1) xs)) new
-marks_more {X = X} side mark xs i x best o new h is from joined so_far =
-    rw joined (outermost_as side (λ v. IsMarkIn mark (take i xs) v ⊎ (o ≡ Some v)) (IsMarkIn mark (take (i + 1) xs)) (outer_of side best o) to back (outer_joins side (IsMarkIn mark (take i xs)) (λ v. o ≡ Some v) best o so_far (one_mark side o)))
-  where
-    more : take (i + 1) xs ≡ take i xs ++ get_or xs i x ∷ []
-    more = take_more xs i x h
+    cell : (c : Entries) → CellFits c → IsHeadIfAny (cell_mark side c)
+    cell c fits = outer_head side _ _ (list_head side (fixed_mark side) FixedFits (λ x f. of x.hi _ (bound side _ _ f.head_lo f.head_hi)) c.fixed fits.fixed)
+        (outer_head side _ _ (list_head side (river_mark side) RiverFits (λ x f. of x.hi _ (bound side _ _ f.bottom_lo (greater _ _ f.stage_hi f.bottom_hi))) c.rivers fits.rivers)
+        (list_head side (drain_mark side) DrainFits (λ x f. of x.hi _ (bound side _ _ f.elev_lo f.elev_hi)) c.drains fits.drains))
 
-    to : (v : ℤ) → IsMarkIn mark (take i xs) v ⊎ (o ≡ Some v) → IsMarkIn mark (take (i + 1) xs) v
-    to v (inl (y, has, e)) = (y, subst (λ (z : List X). Contains z y) (sym more) (Contains-append_left (take i xs) (get_or xs i x ∷ []) y has), e)
-    to v (inr e) = (get_or xs i x, subst (λ (z : List X). Contains z (get_or xs i x)) (sym more) (Contains-push (take i xs) (get_or xs i x)), ap mark (sym is) ∙ sym from ∙ e)
-
-    back : (v : ℤ) → IsMarkIn mark (take (i + 1) xs) v → IsMarkIn mark (take i xs) v ⊎ (o ≡ Some v)
-    back v (y, has, e) =
-        elim (Contains-push_cases (take i xs) (get_or xs i x) y (subst (λ (z : List X). Contains z y) more has)) [
-          | inl old ↦ inl (y, old, e)
-          | inr last ↦ inr (from ∙ ap mark (is ∙ last) ∙ e)
-        ]
-
-pub no_cells : (side : Side) (p : List Entries) → IsOutermost side (IsMarkBelow side p 0) None
-no_cells side p = λ v m. let h = m.1 in omega (arith, h)
-
--- one cell more
-pub cells_more : (side : Side) (p : List Entries) (i : ℕ) (best o new : Option ℤ) → new ≡ outer_of side best o → IsOutermost side (IsMarkBelow side p i) best → IsOutermost side (IsCellMark side (entries_at p i)) o → IsOutermost side (IsMarkBelow side p (i + 1)) new
-cells_more side p i best o new joined so_far here =
-    rw joined (outermost_as side (λ v. IsMarkBelow side p i v ⊎ IsCellMark side (entries_at p i) v) (IsMarkBelow side p (i + 1)) (outer_of side best o) to back (outer_joins side (IsMarkBelow side p i) (IsCellMark side (entries_at p i)) best o so_far here))
-  where
-    to : (v : ℤ) → IsMarkBelow side p i v ⊎ IsCellMark side (entries_at p i) v → IsMarkBelow side p (i + 1) v
-    to v (inl (c, h, m)) = (c, omega arith, m)
-    to v (inr m) = (i, omega arith, m)
-
-    back : (v : ℤ) → IsMarkBelow side p (i + 1) v → IsMarkBelow side p i v ⊎ IsCellMark side (entries_at p i) v
-    back v (c, h, m) = elim (cases_lt c i) [ inl less ↦ inl (c, less, m) | inr past ↦ let at : c ≡ i = omega arith in inr (subst (λ (z : ℕ). IsCellMark side (entries_at p z) v) at m) ]
-
-pub cell_joined : (side : Side) (c : Entries) (fixed : List Fixed) (rivers : List River) (drains : List Drain) (a b d inner o : Option ℤ) → fixed ≡ c.fixed → rivers ≡ c.rivers → drains ≡ c.drains → inner ≡ outer_of side b d → o ≡ outer_of side a inner → IsOutermost side (IsMarkIn (fixed_mark side) fixed) a → IsOutermost side (IsMarkIn (river_mark side) rivers) b → IsOutermost side (IsMarkIn (drain_mark side) drains) d → IsOutermost side (IsCellMark side c) o
-cell_joined side c fixed rivers drains a b d inner o e1 e2 e3 e4 e5 h k l =
-    let h' = rw e1 at h in
-    let k' = rw e2 at k in
-    let l' = rw e3 at l in
-    rw (e5, e4) (outer_joins side (IsMarkIn (fixed_mark side) c.fixed) (λ v. IsMarkIn (river_mark side) c.rivers v ⊎ IsMarkIn (drain_mark side) c.drains v) a (outer_of side b d) h' (outer_joins side (IsMarkIn (river_mark side) c.rivers) (IsMarkIn (drain_mark side) c.drains) b d k' l'))
-
--- the base of a side is one, and no mark lies outside it
-inside_anti : (side : Side) (a b : ℤ) → IsInside side a b → IsInside side b a → a ≡ b
-inside_anti Low a b h k = omega (arith, ints, h, k)
-inside_anti High a b h k = omega (arith, ints, h, k)
-
-outermost_one : (side : Side) (P : ℤ → Type 0) (o u : Option ℤ) → IsOutermost side P o → IsOutermost side P u → o ≡ u
-outermost_one side P None None h k = refl
-outermost_one side P None (Some b) h k = absurd (h b k.0)
-outermost_one side P (Some a) None h k = absurd (k a h.0)
-outermost_one side P (Some a) (Some b) h k = ap Some (inside_anti side a b (h.1 b k.0) (k.1 a h.0))
-
-pub base_one : (side : Side) (p : List Entries) (a b : ℤ) → IsBase side p a → IsBase side p b → a ≡ b
-base_one side p a b (o, is, e) (u, is', f) = e ∙ ap (λ (x : Option ℤ). unwrap_or x (pos 0)) (outermost_one side (IsMarkBelow side p (length p)) o u is is') ∙ sym f
-
-pub base_outside : (side : Side) (p : List Entries) (b : ℤ) → IsBase side p b → (v : ℤ) → IsMarkBelow side p (length p) v → IsInside side b v
-base_outside side p b (None, is, e) v mark = absurd (is v mark)
-base_outside side p b (Some w, is, e) v mark = subst (λ (x : ℤ). IsInside side x v) (sym e) (is.1 v mark)
+    some : (o : Option ℤ) → IsHeadIfAny o → IsHead (unwrap_or o (pos 0))
+    some None h = record { above = omega (arith, ints); below = omega (arith, ints) }
+    some (Some v) h = h
 
 -- No head, bottom or elevation that conducts lies below the base of the low side.
 module _ (m n cells : ℕ) (b : ℤ) where

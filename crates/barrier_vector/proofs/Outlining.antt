@@ -1,18 +1,21 @@
 -- The outline of the first cells: one cell more, and what it is of all cells.
-use Rattle.barrier_vector.proofs.Common.{◌≡◌, ℕ, ◌+◌, ◌<◌, inl, inr, refl, sym, ◌∙◌, ap, subst, arith, List, [], ◌∷◌, ◌++◌, length, length-append, sum_by}
-use Rattle.barrier_vector.proofs.Common.{Option, slice_index, ℤ, pos, ◌^◌, get_or, take, negsuc, ◌+ℤ◌, ◌-ℤ◌, FitsSigned, zero, suc, unwrap_or, cases_lt}
-use Rattle.barrier_vector.proofs.Common.{sum_by_more, sum_by-take-le, Side, Entries, entries_at, no_entries, IsWithin, magnitude, Edges, head_at, IsHead}
-use Rattle.barrier_vector.proofs.Common.{anchor_on, AnchorRoot, need_on, capped_flow, outer_of, IsOutermost, IsCellMark, IsBase, ceil_over, ListAnchor}
-use Rattle.barrier_vector.proofs.Common.{AreRoots, IsOutline, number_at, clamp, ClampedFits, w128, ints, clamps, get_or_past, length-map, map}
+use Rattle.barrier_vector.proofs.Common.{base_on, cell_mark, drop_all, outermost, ◌≡◌, ℕ, ◌+◌, ◌<◌, inl, inr, refl, sym, ◌∙◌, ap, subst, arith, List, [], ◌∷◌}
+use Rattle.barrier_vector.proofs.Common.{◌++◌, length, length-append, sum_by, Option, slice_index, ℤ, pos, ◌^◌, negsuc, neg_ℤ, ◌*◌, ◌≤ℤ◌, ◌+ℤ◌, ◌-ℤ◌, int_min}
+use Rattle.barrier_vector.proofs.Common.{unsigned_abs, zero, suc, unwrap_or, cases_lt, sum_by_more, Side, Low, Entries, entries_at, no_entries, IsWithin, Edges}
+use Rattle.barrier_vector.proofs.Common.{head_at, IsHead, anchor_on, AnchorRoot, need_on, capped_flow, outer_of, ceil_over, ListAnchor, AreRoots, IsOutline}
+use Rattle.barrier_vector.proofs.Common.{number_at, clamp, ClampedFits, ints, clamps, get_or_past, length-map, map, CellFits, RiverFits, EvapFits, deep_river}
+use Rattle.barrier_vector.proofs.Common.{deep_low, evap_flow, river_flow, flow_bound, full_rate, head_limit, least, total, total-same, total_neg}
+use Rattle.step_problem.proofs.Sums.{deep_is}
+use Rattle.step_problem.specs.declared.entry.Evap.{Evap}
 use Rattle.barrier_vector.specs.{need as need_of_all}
 use Rattle.std.proofs.Math.Seq.{take-length}
 use Rattle.barrier_vector.proofs.Starting.{push_before, push_last}
-use Rattle.barrier_vector.proofs.Marking.{cells_more}
+use Rattle.barrier_vector.proofs.Marking.{marks_more, outer_none}
 
 -- one cell more
-pub outline_more : (side : Side) (p : List Entries) (i : ℕ) (e : Entries) (mark o mark' : Option ℤ) (need n need' : ℕ) (anchors anchors' : List ℕ) (a : ℕ) → i < length p → e ≡ entries_at p i → mark' ≡ outer_of side mark o → IsOutermost side (IsCellMark side e) o → need' ≡ capped_flow (need + n) → n ≡ need_on side e → anchors' ≡ anchors ++ a ∷ [] → a ≡ anchor_on side e → IsOutline side p i mark need anchors → IsOutline side p (i + 1) mark' need' anchors'
+pub outline_more : (side : Side) (p : List Entries) (i : ℕ) (e : Entries) (mark o mark' : Option ℤ) (need n need' : ℕ) (anchors anchors' : List ℕ) (a : ℕ) → i < length p → e ≡ entries_at p i → mark' ≡ outer_of side mark o → o ≡ cell_mark side e → need' ≡ capped_flow (need + n) → n ≡ need_on side e → anchors' ≡ anchors ++ a ∷ [] → a ≡ anchor_on side e → IsOutline side p i mark need anchors → IsOutline side p (i + 1) mark' need' anchors'
 outline_more side p i e mark o mark' need n need' anchors anchors' a h here joined outermost added need_is pushed anchor_is y = record {
-  outermost = cells_more side p i mark o mark' joined y.outermost (subst (λ (z : Entries). IsOutermost side (IsCellMark side z) o) here outermost);
+  outermost_mark = marks_more side (cell_mark side) p i no_entries e mark o mark' h here outermost joined y.outermost_mark;
   sum = let more = sum_by_more (need_on side) p i no_entries h in let same = need_is ∙ ap (need_on side) here in sums _ _ _ more same y.sum;
   whole = ap (λ (z : List ℕ). length z) pushed ∙ length-append anchors (a ∷ []) ∙ ap (λ (k : ℕ). k + 1) y.whole;
   each = λ c c_in.
@@ -25,8 +28,10 @@ outline_more side p i e mark o mark' need n need' anchors anchors' a h here join
     sums : (s t m : ℕ) → t ≡ s + m → n ≡ m → need ≡ capped_flow s → need' ≡ capped_flow t
     sums s t m more same was = omega (arith, added)
 
-pub base_of : (side : Side) (p : List Entries) (mark : Option ℤ) (need : ℕ) (anchors : List ℕ) (b : ℤ) → IsOutline side p (length p) mark need anchors → b ≡ unwrap_or mark (pos 0) → IsBase side p b
-base_of side p mark need anchors b y e = (mark, y.outermost, e)
+pub base_of : (side : Side) (p : List Entries) (mark : Option ℤ) (need : ℕ) (anchors : List ℕ) (b : ℤ) → IsOutline side p (length p) mark need anchors → b ≡ unwrap_or mark (pos 0) → b ≡ base_on side p
+base_of side p mark need anchors b y e =
+    let none = ap (λ (z : List Entries). outer_of side mark (outermost side (cell_mark side) z)) (drop_all (length p) p (omega arith)) in
+    e ∙ ap (λ (z : Option ℤ). unwrap_or z (pos 0)) (sym (outer_none side mark) ∙ sym none ∙ y.outermost_mark)
 
 -- the need of the side
 pub need_whole : (side : Side) (p : List Entries) (mark : Option ℤ) (need : ℕ) (anchors : List ℕ) → IsOutline side p (length p) mark need anchors → need ≡ capped_flow (need_of_all side p)
@@ -45,29 +50,23 @@ roots_on side p mark need q anchors own roots y e f r =
 pub roots_whole : (side : Side) (p : List Entries) (mark : Option ℤ) (need : ℕ) (anchors own : List ℕ) (roots : List (Option ℕ)) → IsOutline side p (length p) mark need anchors → own ≡ anchors → length roots ≡ length own → length roots ≡ length p
 roots_whole side p mark need anchors own roots y e h = h ∙ ap (λ (z : List ℕ). length z) e ∙ y.whole
 
--- Sums of flows within the sums of their sizes.
-pub within_more : {X : Type 0} (g : X → ℕ) (xs : List X) (i : ℕ) (d x : X) (s t : ℤ) → i < length xs → x ≡ get_or xs i d → IsWithin s (sum_by g (take i xs)) → IsWithin t (g x) → IsWithin (s +ℤ t) (sum_by g (take (i + 1) xs))
-within_more g xs i d x s t h is p q = let same = ap g is in rw (sum_by_more g xs i d h) (add _ _ p (rw same at q))
+-- an evaporation's flow at the greatest head is its full rate
+full_is : (x : Evap) → EvapFits x → evap_flow Low (pos head_limit) x ≡ neg_ℤ (pos (full_rate x))
+full_is x fits =
+    let full : int_min (x.ext_lo -ℤ int_min (pos head_limit) x.surf_hi) (pos 0) ≡ neg_ℤ (x.surf_hi -ℤ x.ext_lo) = omega (arith, ints, clamps, fits.surf_hi.below, fits.deep) in
+    ap (least x.lo x.hi) full ∙ out (x.surf_hi -ℤ x.ext_lo) (omega (arith, ints, fits.deep))
   where
-    add : (a b : ℕ) → IsWithin s a → IsWithin t b → IsWithin (s +ℤ t) (a + b)
-    add a b u v = record { above = omega (arith, ints); below = omega (arith, ints) }
+    out : (d : ℤ) → pos 0 ≤ℤ d → least x.lo x.hi (neg_ℤ d) ≡ neg_ℤ (pos (x.hi * unsigned_abs d))
+    out (pos zero) h = omega (arith, ints)
+    out (pos (suc n)) h = refl
+    out (negsuc n) h = absurd (omega (arith, ints))
 
-pub part_fits : {X : Type 0} (g : X → ℕ) (xs : List X) (i : ℕ) (z : ℤ) → sum_by g xs < 2 ^ 109 → IsWithin z (sum_by g (take i xs)) → FitsSigned w128 z
-part_fits g xs i z h w = let le = sum_by-take-le g xs i in fits (sum_by g (take i xs)) (omega (arith, le, h)) w
-  where
-    fits : (b : ℕ) → b < 2 ^ 109 → IsWithin z b → FitsSigned w128 z
-    fits b small v = omega (arith, ints)
-
-pub within_magnitude : (a b : ℤ) → IsWithin a (magnitude a b)
-within_magnitude (pos n) b = record { above = omega (arith, ints); below = omega (arith, ints) }
-within_magnitude (negsuc n) b = record { above = omega (arith, ints); below = omega (arith, ints) }
-
-pub magnitude_within : (a b : ℤ) → IsWithin b (magnitude a b)
-magnitude_within a (pos n) = record { above = omega (arith, ints); below = omega (arith, ints) }
-magnitude_within a (negsuc n) = record { above = omega (arith, ints); below = omega (arith, ints) }
-
-pub joined_within : (a b d z : ℤ) (x y w : ℕ) → z ≡ a +ℤ b -ℤ d → IsWithin a x → IsWithin b y → IsWithin d w → x + y + w < 2 ^ 109 → IsWithin z (2 ^ 109)
-joined_within a b d z x y w e p q r h = record { above = omega (arith, ints, e); below = omega (arith, ints, e) }
+-- the least deep flow of a cell, by flows at the ends of the range of heads
+pub deep_sums : (c : Entries) → CellFits c → (flows rivers evaps : ℤ) → flows ≡ total (flow_bound Low) c.flows → rivers ≡ total (river_flow Low (neg_ℤ (pos head_limit))) c.rivers → evaps ≡ total (evap_flow Low (pos head_limit)) c.evaps → flows +ℤ rivers +ℤ evaps ≡ deep_low c
+deep_sums c fits flows rivers evaps a b d =
+    let deep = b ∙ total-same RiverFits _ (deep_river Low) c.rivers (deep_is Low) fits.rivers in
+    let full = d ∙ total-same EvapFits _ (λ x. neg_ℤ (pos (full_rate x))) c.evaps full_is fits.evaps ∙ total_neg (λ x. pos (full_rate x)) c.evaps in
+    omega (arith, ints, a, deep, full)
 
 -- one cell's flow more
 pub values_more : (p : List Entries) (f : Entries → ℤ) (flows flows' : List ℤ) (i : ℕ) (z : ℤ) (e : Entries) → e ≡ entries_at p i → flows' ≡ flows ++ z ∷ [] → length flows ≡ i → z ≡ f e → ((k : ℕ) → k < i → number_at flows k ≡ f (entries_at p k)) → (k : ℕ) → k < i + 1 → number_at flows' k ≡ f (entries_at p k)
@@ -77,7 +76,7 @@ values_more p f flows flows' i z e here pushed whole is so_far k h =
       | inr past ↦ let at : length flows ≡ k = omega (arith, past, h, whole) in rw pushed (ap (λ (n : ℕ). number_at (flows ++ z ∷ []) n) (sym at) ∙ push_last flows z (pos 0) ∙ is ∙ ap f (here ∙ ap (entries_at p) (sym whole ∙ at)))
     ]
 
-pub all_within : (flows flows' : List ℤ) (z : ℤ) → flows' ≡ flows ++ z ∷ [] → IsWithin z (2 ^ 109) → ((k : ℕ) → IsWithin (number_at flows k) (2 ^ 109)) → (k : ℕ) → IsWithin (number_at flows' k) (2 ^ 109)
+pub all_within : (flows flows' : List ℤ) (z : ℤ) → flows' ≡ flows ++ z ∷ [] → IsWithin z (2 ^ 125) → ((k : ℕ) → IsWithin (number_at flows k) (2 ^ 125)) → (k : ℕ) → IsWithin (number_at flows' k) (2 ^ 125)
 all_within flows flows' z pushed here so_far k =
     elim (cases_lt k (length flows)) [
       | inl less ↦ rw (pushed, push_before flows z (pos 0) k less) (so_far k)
@@ -87,7 +86,7 @@ all_within flows flows' z pushed here so_far k =
       ]
     ]
   where
-    nothing : IsWithin (pos 0) (2 ^ 109)
+    nothing : IsWithin (pos 0) (2 ^ 125)
     nothing = record { above = omega (arith, ints); below = omega (arith, ints) }
 
 -- Floors and ceilings moved into the range of heads are a barrier, and heads stay as they are.

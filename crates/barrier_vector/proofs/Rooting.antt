@@ -1,12 +1,10 @@
--- Lists of roots, one cell after another, and searches from one description of the roots to another.
+-- Lists of roots, one cell after another, and what anchors a cell.
 use Rattle.barrier_vector.proofs.Common.{◌≡◌, ℕ, zero, suc, ◌+◌, ◌<◌, ◌≤◌, inl, inr, refl, sym, ◌∙◌, ap, subst, arith, List, [], ◌∷◌, ◌++◌, length, max, drop}
-use Rattle.barrier_vector.proofs.Common.{get_or, length-append, Contains, Option, None, Some, min, slice_index, ℤ, pos, cases_lt, at_drop_more, Side, Low, High}
-use Rattle.barrier_vector.proofs.Common.{Link, Fixed, Entries, entries_at, IsProblem, IsHead, CellFits, FixedFits, RiverFits, DrainFits, IsAnchored}
-use Rattle.barrier_vector.proofs.Common.{LeadsToRoot, IsLevel, IsParent, SumsTo, IsPath, greatest, anchor_on, mark_at, IsSearched, AreRoots, IsCellMark, IsBase}
-use Rattle.barrier_vector.proofs.Common.{path_limit, AreLabels, IsGreatestOf, bound_at, int_max, ints, clamps, All-contains}
+use Rattle.barrier_vector.proofs.Common.{get_or, length-append, Contains, Option, None, Some, min, slice_index, ℤ, cases_lt, at_drop_more, Side, Low, High}
+use Rattle.barrier_vector.proofs.Common.{Fixed, Entries, entries_at, IsProblem, IsAnchored, greatest, anchor_on, mark_at, IsSearched, AreRoots, path_limit}
+use Rattle.barrier_vector.proofs.Common.{AreLabels, IsGreatestOf, bound_at}
 use Rattle.barrier_vector.proofs.Starting.{push_before, push_last, pushed}
 use Rattle.barrier_vector.proofs.CarriedRoots.{reaches_within, turn_way}
-use Rattle.barrier_vector.proofs.Marking.{some_is}
 
 -- one cell more
 pub roots_more : (R : ℕ → ℕ → Type 0) (own own' : List (Option ℕ)) (o : Option ℕ) (i : ℕ) → own' ≡ own ++ o ∷ [] → length own ≡ i → ((d : ℕ) → o ≡ Some d → R i d) → ((d : ℕ) → R i d → o ≡ Some d) → AreRoots R own → AreRoots R own'
@@ -49,29 +47,6 @@ at_most_greatest f [] x (k, h, e) = absurd (omega arith)
 at_most_greatest f (y ∷ xs) x (zero, h, e) = let same = ap f e in omega (arith, same)
 at_most_greatest f (y ∷ xs) x (suc k, h, e) = let le = at_most_greatest f xs x (k, omega arith, e) in omega (arith, le)
 
-module _ (p : List Entries) (q : ℕ) (R S : ℕ → ℕ → Type 0) (to : (c d : ℕ) → R c d → S c d) (from : (c d : ℕ) → S c d → R c d) where
-  pub leads_as : (k c : ℕ) → LeadsToRoot p q R k c → LeadsToRoot p q S k c
-  leads_as k c l = record { root = l.root; drop = l.drop; is_root = to l.root l.drop l.is_root; reaches = l.reaches }
-
-  leads_back : (k c : ℕ) → LeadsToRoot p q S k c → LeadsToRoot p q R k c
-  leads_back k c l = record { root = l.root; drop = l.drop; is_root = from l.root l.drop l.is_root; reaches = l.reaches }
-
-  level_as : (c k : ℕ) → IsLevel p q R c k → IsLevel p q S c k
-  level_as c k l = record { leads = leads_as k c l.leads; least = λ j m. l.least j (leads_back j c m) }
-
-  level_back : (c k : ℕ) → IsLevel p q S c k → IsLevel p q R c k
-  level_back c k l = record { leads = leads_back k c l.leads; least = λ j m. l.least j (leads_as j c m) }
-
-  parent_as : (k c : ℕ) (x : Link) → IsParent p q R k c x → IsParent p q S k c x
-  parent_as k c x t = record { has = t.has; level = level_as x.cell k t.level; least = λ z has l. t.least z has (level_back z.cell k l) }
-
-  sums_as : (k c s : ℕ) → SumsTo p q R k c s → SumsTo p q S k c s
-  sums_as zero c s r = to c s r
-  sums_as (suc k) c s (x, t, rest, sum, is) = (x, parent_as k c x t, rest, sums_as k x.cell rest sum, is)
-
-  pub path_as : (c s : ℕ) → IsPath p q R c s → IsPath p q S c s
-  path_as c s t = record { level = t.level; is_level = level_as c t.level t.is_level; sums = sums_as t.level c s t.sums }
-
 -- what anchors a cell on the low side
 pub anchored_by : (p : List Entries) (c : ℕ) → 0 < anchor_on Low (entries_at p c) → IsAnchored p c
 anchored_by p c h = let (x, has, is) = greatest_has (λ (x : Fixed). x.lo) (entries_at p c).fixed h in (x, has, omega (arith, h, is))
@@ -85,28 +60,7 @@ anchors High p c (x, has, h) = let le = at_most_greatest (λ (x : Fixed). x.lo) 
 pub searched_as : (p : List Entries) (q r : ℕ) (own o : List (Option ℕ)) (levels : List (Option ℕ)) (paths : List ℕ) → q ≡ r → o ≡ own → IsSearched p q o levels paths → IsSearched p r own levels paths
 searched_as p q r own o levels paths e f s = subst (λ (n : ℕ). IsSearched p n own levels paths) e (subst (λ (z : List (Option ℕ)). IsSearched p q z levels paths) f s)
 
--- The base of either side is a head; cut paths; lists of bounds.
-zero_head : IsHead (pos 0)
-zero_head = record { above = omega (arith, ints); below = omega (arith, ints) }
-
--- a mark of a cell is a head
-mark_head : (side : Side) (c : Entries) → CellFits c → (v : ℤ) → IsCellMark side c v → IsHead v
-mark_head Low c fits v (inl (x, has, e)) = subst IsHead (sym (some_is x.hi x.head_lo v e).1) (All-contains FixedFits c.fixed x fits.fixed has).head_lo
-mark_head Low c fits v (inr (inl (x, has, e))) = subst IsHead (sym (some_is x.hi x.bottom_lo v e).1) (All-contains RiverFits c.rivers x fits.rivers has).bottom_lo
-mark_head Low c fits v (inr (inr (x, has, e))) = subst IsHead (sym (some_is x.hi x.elev_lo v e).1) (All-contains DrainFits c.drains x fits.drains has).elev_lo
-mark_head High c fits v (inl (x, has, e)) = subst IsHead (sym (some_is x.hi x.head_hi v e).1) (All-contains FixedFits c.fixed x fits.fixed has).head_hi
-mark_head High c fits v (inr (inl (x, has, e))) =
-    let river = All-contains RiverFits c.rivers x fits.rivers has in
-    subst IsHead (sym (some_is x.hi (int_max x.stage_hi x.bottom_hi) v e).1) (greater_head x.stage_hi x.bottom_hi river.stage_hi river.bottom_hi)
-  where
-    greater_head : (a b : ℤ) → IsHead a → IsHead b → IsHead (int_max a b)
-    greater_head a b h k = record { above = omega (arith, ints, clamps, h.above); below = omega (arith, ints, clamps, h.below, k.below) }
-mark_head High c fits v (inr (inr (x, has, e))) = subst IsHead (sym (some_is x.hi x.elev_hi v e).1) (All-contains DrainFits c.drains x fits.drains has).elev_hi
-
-pub base_head : (side : Side) (p : List Entries) → IsProblem p → (b : ℤ) → IsBase side p b → IsHead b
-base_head side p ok b (None, is, e) = subst IsHead (sym e) zero_head
-base_head side p ok b (Some w, is, e) = subst IsHead (sym e) (mark_head side (entries_at p is.0.0) (ok.cells is.0.0 is.0.1) w is.0.2)
-
+-- Cut paths; lists of bounds.
 -- a label is a cell of the problem
 pub label_within : (p : List Entries) → IsProblem p → (labels : List (Option ℕ)) → AreLabels p labels (length p) → (c m : ℕ) → c < length p → mark_at labels c ≡ Some m → m < length p
 label_within p ok labels l c m h e = let (j, way) = l.reached c m e in let (i, back_way) = turn_way p ok j m c way in reaches_within p ok i c m h back_way

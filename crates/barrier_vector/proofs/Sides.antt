@@ -1,12 +1,12 @@
 -- One side of a barrier, or its refusal, from the bounds of the cells.
-use Rattle.barrier_vector.proofs.Common.{◌≡◌, ℕ, ◌<◌, ◌⊎◌, inl, inr, refl, sym, ◌∙◌, subst, arith, List, length, Option, None, Some, ℤ, pos, neg_ℤ, ints}
-use Rattle.barrier_vector.proofs.Common.{clamps, by_lt_z, Side, Low, High, NoBound, number_of, Entries, IsProblem, IsHead, head_limit, head_at, IsInside}
-use Rattle.barrier_vector.proofs.Common.{IsBase, IsUnanchored, IsBoundOn, HasNoBound, IsOutOfRange, LeavesRange, no_barrier_on, range_on, Nowhere, Names}
-use Rattle.barrier_vector.proofs.Common.{IsRefusedOn, IsRefused, cut_on, bound_at, IsBoundOrNone, AreBounds, IsFirst, IsMissing, LiesOut, AreHeadsOf}
-use Rattle.barrier_vector.proofs.Common.{IsCutBoundOn, AreCutBounds, RefusesOn, IsWholeSide, IsFaultOn, IsCutFaultOn, BarrierFault, Memory, HasStorage}
-use Rattle.barrier_vector.proofs.Common.{IsNotForLackOfAnchors}
+use Rattle.barrier_vector.proofs.Common.{base_on, ◌≡◌, ℕ, ◌<◌, ◌⊎◌, inl, inr, refl, sym, ◌∙◌, subst, arith, List, length, Option, None, Some, ℤ, pos, neg_ℤ}
+use Rattle.barrier_vector.proofs.Common.{ints, clamps, by_lt_z, Side, Low, High, NoBound, number_of, Entries, IsProblem, IsHead, head_limit, head_at, Bounds}
+use Rattle.barrier_vector.proofs.Common.{IsUnanchored, IsBoundOn, HasNoBound, IsOutOfRange, LeavesRange, no_barrier_on, range_on, Nowhere, Names, IsRefusedOn}
+use Rattle.barrier_vector.proofs.Common.{IsRefused, cut_on, bound_at, IsBoundOrNone, AreBounds, IsFirst, IsMissing, LiesOut, AreHeadsOf, IsCutBoundOn}
+use Rattle.barrier_vector.proofs.Common.{AreCutBounds, RefusesOn, IsWholeSide, IsFaultOn, IsCutFaultOn, BarrierFault, Memory, HasStorage, IsNotForLackOfAnchors}
 use Rattle.barrier_vector.specs.declared.BarrierFault.TheVariants.{NoBound as AFault}
-use Rattle.barrier_vector.proofs.Rooting.{base_head, anchors}
+use Rattle.barrier_vector.proofs.Rooting.{anchors}
+use Rattle.barrier_vector.proofs.Marking.{base_head}
 use Rattle.barrier_vector.proofs.Uniques.{bound_one, has_a_bound}
 
 some_or_none : (o : Option ℤ) → (o ≡ None) ⊎ ((v : ℤ) × (o ≡ Some v))
@@ -31,17 +31,17 @@ head_uncut Low v f cut h = omega (arith, ints, clamps, cut, h.above)
 head_uncut High v f cut h = omega (arith, ints, clamps, cut, h.below)
 
 -- a bound lies outside its base, which is a head
-pub bound_outside : (side : Side) (p : List Entries) (c : ℕ) (f : ℤ) → IsBoundOn side p c f → (b : ℤ) × IsBase side p b × IsInside side f b
-bound_outside Low p c f (inl (b, b_is, s, path, is)) = (b, b_is, omega (arith, ints, is))
-bound_outside Low p c f (inr (b, b_is, free, carried, s, path, t, top, is)) = (b, b_is, omega (arith, ints, is))
-bound_outside High p c f (b, b_is, s, path, is) = (b, b_is, omega (arith, ints, is))
+pub bound_outside : (side : Side) (p : List Entries) (c : ℕ) (f : ℤ) → IsBoundOn side p c f → Bounds side f (base_on side p)
+bound_outside Low p c f (inl (s, path, is)) = omega (arith, ints, is)
+bound_outside Low p c f (inr (free, carried, s, path, t, top, is)) = omega (arith, ints, is)
+bound_outside High p c f (s, path, is) = omega (arith, ints, is)
 
-stays_head : (side : Side) (f b : ℤ) → IsInside side f b → IsHead b → (IsOutOfRange side f → ⊥) → IsHead f
+stays_head : (side : Side) (f b : ℤ) → Bounds side f b → IsHead b → (IsOutOfRange side f → ⊥) → IsHead f
 stays_head Low f b out head stays = by_lt_z f (neg_ℤ (pos head_limit)) (λ low. absurd (stays low)) (λ le. record { above = le; below = omega (arith, ints, out, head.below) })
 stays_head High f b out head stays = by_lt_z (pos head_limit) f (λ high. absurd (stays high)) (λ le. record { above = omega (arith, ints, out, head.above); below = le })
 
 pub bound_is_head : (side : Side) (p : List Entries) → IsProblem p → (c : ℕ) (f : ℤ) → IsBoundOn side p c f → (IsOutOfRange side f → ⊥) → IsHead f
-bound_is_head side p ok c f is stays = let (b, b_is, out) = bound_outside side p c f is in stays_head side f b out (base_head side p ok b b_is) stays
+bound_is_head side p ok c f is stays = stays_head side f (base_on side p) (bound_outside side p c f is) (base_head side p ok) stays
 
 -- what a cell's bound says of it
 module _ (side : Side) (p : List Entries) (xs : List (Option ℤ)) (b : AreBounds p (IsBoundOrNone side p) xs) where

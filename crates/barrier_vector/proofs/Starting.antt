@@ -1,9 +1,9 @@
 -- What a search begins with, one cell after another.
 use Rattle.barrier_vector.proofs.Common.{◌≡◌, ℕ, zero, suc, ◌+◌, ◌≤◌, ◌<◌, ◌⊎◌, inl, inr, refl, sym, ◌∙◌, ap, subst, arith, List, [], ◌∷◌, ◌++◌, length}
-use Rattle.barrier_vector.proofs.Common.{length-append, min, Option, None, Some, slice_index, get_or, cases_eq, cases_lt, get_or_past, Contains-push}
-use Rattle.barrier_vector.proofs.Common.{Contains-push_cases, Contains-append_left, mark_at, unmarked, path_limit, IsStart}
-use Rattle.barrier_vector.proofs.Spreading.{no_both}
-use Rattle.barrier_vector.proofs.Levels.{marked_within, marked_or_not}
+use Rattle.barrier_vector.proofs.Common.{length-append, min, Option, None, Some, get_or, cases_eq, cases_lt, mark_at, path_limit, AreBegun, Spreads, set}
+use Rattle.barrier_vector.proofs.Common.{get_or-set_same, get_or-set_other, length-set, replicate, unmarked}
+use Rattle.barrier_vector.proofs.Spreading.{no_both, spread_as, spread_then}
+use Rattle.barrier_vector.proofs.Levels.{marked_within, same_some}
 
 -- the elements of a list with one more at its end
 pub push_before : {X : Type 0} (xs : List X) (x d : X) (k : ℕ) → k < length xs → get_or (xs ++ x ∷ []) k d ≡ get_or xs k d
@@ -14,16 +14,6 @@ push_before (y ∷ xs) x d (suc k) h = push_before xs x d k (omega arith)
 pub push_last : {X : Type 0} (xs : List X) (x d : X) → get_or (xs ++ x ∷ []) (length xs) d ≡ x
 push_last [] x d = refl
 push_last (y ∷ xs) x d = push_last xs x d
-
-unmarked_none : (xs : List (Option ℕ)) → unmarked (xs ++ None ∷ []) ≡ suc (unmarked xs)
-unmarked_none [] = refl
-unmarked_none (None ∷ xs) = ap suc (unmarked_none xs)
-unmarked_none (Some x ∷ xs) = unmarked_none xs
-
-unmarked_some : (xs : List (Option ℕ)) (v : ℕ) → unmarked (xs ++ Some v ∷ []) ≡ unmarked xs
-unmarked_some [] v = refl
-unmarked_some (None ∷ xs) v = ap suc (unmarked_some xs v)
-unmarked_some (Some x ∷ xs) v = unmarked_some xs v
 
 -- a place of the longer list is an earlier one, or the last
 pub pushed : (own : List (Option ℕ)) (o : Option ℕ) (c d : ℕ) → mark_at (own ++ o ∷ []) c ≡ Some d → ((c < length own) × (mark_at own c ≡ Some d)) ⊎ ((c ≡ length own) × (o ≡ Some d))
@@ -40,82 +30,72 @@ pushed own o c d e =
     last : (a n m : ℕ) → m ≡ n + 1 → a < m → n ≤ a → a ≡ n
     last a n m e h k = omega arith
 
-module _ (own levels : List (Option ℕ)) (paths front : List ℕ) (s : IsStart own levels paths front) where
-  at_same : (o l : Option ℕ) (v c : ℕ) → c < length own → (mark_at (levels ++ l ∷ []) c ≡ mark_at levels c) × (slice_index (paths ++ v ∷ []) c ≡ slice_index paths c)
-  at_same o l v c h = (push_before levels l None c (rw (s.levels_whole) h), push_before paths v 0 c (rw (s.paths_whole) h))
+-- The roots of a list, one after another.
+abbrev RootBelow : List (Option ℕ) → ℕ → ℕ → Type 0
+RootBelow own i k = (k < i) × (d : ℕ) × (mark_at own k ≡ Some d)
 
-  at_last : (l : Option ℕ) (v : ℕ) → (mark_at (levels ++ l ∷ []) (length own) ≡ l) × (slice_index (paths ++ v ∷ []) (length own) ≡ v)
-  at_last l v = (subst (λ (n : ℕ). mark_at (levels ++ l ∷ []) n ≡ l) s.levels_whole (push_last levels l None), subst (λ (n : ℕ). slice_index (paths ++ v ∷ []) n ≡ v) s.paths_whole (push_last paths v 0))
-
-  grown : {X Y : Type 0} (xs : List X) (x : X) (ys : List Y) (y : Y) → length xs ≡ length ys → length (xs ++ x ∷ []) ≡ length (ys ++ y ∷ [])
-  grown xs x ys y e = length-append xs (x ∷ []) ∙ ap (λ (n : ℕ). n + 1) e ∙ sym (length-append ys (y ∷ []))
-
-  pub start_root : (d : ℕ) → IsStart (own ++ Some d ∷ []) (levels ++ Some 0 ∷ []) (paths ++ min (d + 0) path_limit ∷ []) (front ++ length own ∷ [])
-  start_root d = record {
-    levels_whole = grown levels (Some 0) own (Some d) s.levels_whole;
-    paths_whole = grown paths (min (d + 0) path_limit) own (Some d) s.paths_whole;
-    root = λ c e is.
-        elim (pushed own (Some d) c e is) [
-          | inl (h, old) ↦ let (a, b) = at_same None (Some 0) (min (d + 0) path_limit) c h in let (x, y, z) = s.root c e old in (a ∙ x, b ∙ y, Contains-append_left front (length own ∷ []) c z)
-          | inr (at, now) ↦ let (a, b) = at_last (Some 0) (min (d + 0) path_limit) in (rw at a, rw (at) (b ∙ same d e now), rw at (Contains-push front (length own)))
+module _ (own : List (Option ℕ)) (i : ℕ) (old mid : List (Option ℕ)) (paths a : List ℕ) (s : AreBegun own i old mid paths a) where
+  -- cell i is a root
+  pub begun_root : (d v : ℕ) (new : List (Option ℕ)) (paths' b : List ℕ) → i < length own → mark_at own i ≡ Some d → paths' ≡ set paths i v → v ≡ min (d + 0) path_limit → Spreads (λ k. k ≡ i) 0 mid new a b → AreBegun own (i + 1) old new paths' b
+  begun_root d v new paths' b h root is v_is t = record {
+    marks = spread_as (λ k. RootBelow own i k ⊎ (k ≡ i)) (RootBelow own (i + 1)) 0 old new [] b to from (spread_then (RootBelow own i) (λ k. k ≡ i) 0 old mid new [] a b s.marks t);
+    paths_are = λ c e c_in c_is.
+        elim (cases_eq c i) [
+          | inl at ↦
+              let same = same_some (mark_at own i) d e root (subst (λ (z : ℕ). mark_at own z ≡ Some e) at c_is) in
+              rw (is, at) (get_or-set_same paths i v 0 (subst (λ (n : ℕ). i < n) (sym s.whole) h) ∙ cut same)
+          | inr other ↦ rw is (get_or-set_other paths i c v 0 other ∙ s.paths_are c e (omega (arith, c_in, other)) c_is)
         ];
-    other = λ c none. other_case c none;
-    listed = λ c has.
-        elim (Contains-push_cases front (length own) c has) [
-          | inl old ↦ let (e, is) = s.listed c old in (e, push_before own (Some d) None c (marked_within own c e is) ∙ is)
-          | inr at ↦ (d, subst (λ (n : ℕ). mark_at (own ++ Some d ∷ []) n ≡ Some d) at (push_last own (Some d) None))
-        ];
-    count = counted _ _ _ _ _ _ (unmarked_some levels 0) (length-append front (length own ∷ [])) (length-append own (Some d ∷ [])) s.count;
+    whole = ap (λ (z : List ℕ). length z) is ∙ length-set paths i v ∙ s.whole;
   }
     where
-      same : (d e : ℕ) → Some d ≡ Some e → min (d + 0) path_limit ≡ min e path_limit
-      same d e is = let eq : d ≡ e = cc in omega (arith, eq)
+      cut : {e : ℕ} → d ≡ e → v ≡ min e path_limit
+      cut {e} same = omega (arith, v_is, same)
 
-      counted : (u u' f f' o o' : ℕ) → u' ≡ u → f' ≡ f + 1 → o' ≡ o + 1 → u + f ≡ o → u' + f' ≡ o'
-      counted u u' f f' o o' a b c e = omega arith
+      to : (k : ℕ) → RootBelow own i k ⊎ (k ≡ i) → RootBelow own (i + 1) k
+      to k (inl (c_in, e, is)) = (omega arith, e, is)
+      to k (inr at) = (omega arith, d, subst (λ (z : ℕ). mark_at own z ≡ Some d) (sym at) root)
 
-      past_all : (xs : List (Option ℕ)) (o : Option ℕ) (c n : ℕ) → length xs ≡ n → n ≤ c → (c ≡ n → ⊥) → mark_at (xs ++ o ∷ []) c ≡ None
-      past_all xs o c n e h ne = let m = length-append xs (o ∷ []) in get_or_past (xs ++ o ∷ []) c None (omega (arith, m, e, h, ne))
+      from : (k : ℕ) → RootBelow own (i + 1) k → RootBelow own i k ⊎ (k ≡ i)
+      from k (c_in, e, is) = elim (cases_lt k i) [ inl less ↦ inl (less, e, is) | inr more ↦ inr (omega arith) ]
 
-      other_case : (c : ℕ) → mark_at (own ++ Some d ∷ []) c ≡ None → mark_at (levels ++ Some 0 ∷ []) c ≡ None
-      other_case c none =
-          elim (cases_lt c (length own)) [
-            | inl less ↦ (at_same None (Some 0) 0 c less).0 ∙ s.other c (sym (push_before own (Some d) None c less) ∙ none)
-            | inr more ↦ elim (cases_eq c (length own)) [
-              | inl at ↦ absurd (no_both _ d none (rw at (push_last own (Some d) None)))
-              | inr n ↦ past_all levels (Some 0) c (length own) s.levels_whole more n
-            ]
-          ]
-
-  pub start_other : IsStart (own ++ None ∷ []) (levels ++ None ∷ []) (paths ++ 0 ∷ []) front
-  start_other = record {
-    levels_whole = grown levels None own None s.levels_whole;
-    paths_whole = grown paths 0 own None s.paths_whole;
-    root = λ c e is.
-        elim (pushed own None c e is) [
-          | inl (h, old) ↦ let (a, b) = at_same None None 0 c h in let (x, y, z) = s.root c e old in (a ∙ x, b ∙ y, z)
-          | inr (at, now) ↦ absurd (no_both None e refl now)
-        ];
-    other = λ c none. other_case c none;
-    listed = λ c has. let (e, is) = s.listed c has in (e, push_before own None None c (marked_within own c e is) ∙ is);
-    count = counted _ _ _ _ _ (unmarked_none levels) (length-append own (None ∷ [])) s.count;
+  -- cell i is no root
+  pub begun_other : mark_at own i ≡ None → AreBegun own (i + 1) old mid paths a
+  begun_other none = record {
+    marks = spread_as (RootBelow own i) (RootBelow own (i + 1)) 0 old mid [] a (λ k (c_in, e, is). (omega arith, e, is)) (λ k (c_in, e, is). (earlier k e c_in is, e, is)) s.marks;
+    paths_are = λ c e c_in is. s.paths_are c e (earlier c e c_in is) is;
+    whole = s.whole;
   }
     where
-      counted : (u u' f o o' : ℕ) → u' ≡ suc u → o' ≡ o + 1 → u + f ≡ o → u' + f ≡ o'
-      counted u u' f o o' a c e = omega arith
+      earlier : (k e : ℕ) → k < i + 1 → mark_at own k ≡ Some e → k < i
+      earlier k e k_in is = elim (cases_lt k i) [ inl less ↦ less | inr more ↦ let at : k ≡ i = omega arith in absurd (no_both (mark_at own i) e none (subst (λ (z : ℕ). mark_at own z ≡ Some e) at is)) ]
 
-      other_case : (c : ℕ) → mark_at (own ++ None ∷ []) c ≡ None → mark_at (levels ++ None ∷ []) c ≡ None
-      other_case c none =
-          elim (marked_or_not (mark_at (levels ++ None ∷ []) c)) [
-            | inl e ↦ e
-            | inr (v, is) ↦ elim (pushed levels None c v is) [
-              | inl (h, old) ↦ let less : c < length own = rw (← s.levels_whole) h in absurd (no_both (mark_at levels c) v (s.other c (sym (push_before own None None c less) ∙ none)) old)
-              | inr (_, now) ↦ absurd (no_both None v refl now)
-            ]
-          ]
+pub begun_none : (own m : List (Option ℕ)) (paths : List ℕ) → length paths ≡ length own → AreBegun own 0 m m paths []
+begun_none own m paths whole = record {
+  marks = record { same = refl; each = λ k. inl refl; covers = λ k t. absurd (none k t.0); listed = λ k has. inl has; keeps = λ k has. has; count = refl };
+  paths_are = λ c d h. absurd (none c h);
+  whole = whole;
+}
+  where
+    none : (k : ℕ) → k < 0 → ⊥
+    none k h = omega arith
 
-pub root_added : (own levels levels' : List (Option ℕ)) (paths paths' front front' : List ℕ) (o : Option ℕ) (d cell v : ℕ) → o ≡ Some d → levels' ≡ levels ++ Some 0 ∷ [] → paths' ≡ paths ++ v ∷ [] → v ≡ min (d + 0) path_limit → front' ≡ front ++ cell ∷ [] → length own ≡ cell → IsStart own levels paths front → IsStart (own ++ o ∷ []) levels' paths' front'
-root_added own levels levels' paths paths' front front' o d cell v e0 e1 e2 e3 e4 e5 s = rw (e0, e1, e2, e3, e4, ← e5) (start_root own levels paths front s d)
+-- a list without marks
+abbrev without_marks : ℕ → List (Option ℕ)
+without_marks n = replicate n None
 
-pub other_added : (own levels levels' : List (Option ℕ)) (paths paths' front : List ℕ) (o : Option ℕ) → o ≡ None → levels' ≡ levels ++ None ∷ [] → paths' ≡ paths ++ 0 ∷ [] → IsStart own levels paths front → IsStart (own ++ o ∷ []) levels' paths' front
-other_added own levels levels' paths paths' front o e0 e1 e2 s = rw (e0, e1, e2) (start_other own levels paths front s)
+none_at : (n c : ℕ) → mark_at (without_marks n) c ≡ None
+none_at zero c = refl
+none_at (suc n) zero = refl
+none_at (suc n) (suc c) = none_at n c
+
+length_is : (n : ℕ) → length (without_marks n) ≡ n
+length_is zero = refl
+length_is (suc n) = ap suc (length_is n)
+
+all_unmarked : (n : ℕ) → unmarked (without_marks n) ≡ n
+all_unmarked zero = refl
+all_unmarked (suc n) = ap suc (all_unmarked n)
+
+pub all_none : (n : ℕ) (m : List (Option ℕ)) → m ≡ replicate n None → (length m ≡ n) × ((c : ℕ) → mark_at m c ≡ None) × (unmarked m ≡ n)
+all_none n m e = (ap (λ (z : List (Option ℕ)). length z) e ∙ length_is n, (λ c. ap (λ (z : List (Option ℕ)). mark_at z c) e ∙ none_at n c), ap (λ (z : List (Option ℕ)). unmarked z) e ∙ all_unmarked n)

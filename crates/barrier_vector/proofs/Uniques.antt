@@ -1,14 +1,13 @@
 -- Levels, parents, paths, floors and ceilings are each one number.
-use Rattle.barrier_vector.proofs.Common.{◌≡◌, ℕ, zero, suc, ◌+◌, inl, inr, sym, ◌∙◌, ap, subst, arith, List, Contains, ℤ, pos, ◌-ℤ◌, ◌<◌, refl, length, min}
-use Rattle.barrier_vector.proofs.Common.{All, IsSome, Option, None, Some, Bool, true, false, slice_index, cases_lt, Side, Low, High, Link, Entries, entries_at}
-use Rattle.barrier_vector.proofs.Common.{link_at, IsProblem, IsHead, need, ceil_over, IsLevel, SumsTo, IsPath, AnchorRoot, LeastRoot, IsAnchorPath, IsInnerPath}
-use Rattle.barrier_vector.proofs.Common.{IsLongest, IsUnanchored, moved_out, IsAnchoredBound, IsCarriedFloor, IsBoundOn, HasNoBound, IsBase, capped_flow}
-use Rattle.barrier_vector.proofs.Common.{anchor_on, mark_at, path_limit, ListRoot, IsSearched, AreRoots, AreAnchorPaths, cut_on, IsAnchoredOrNone}
-use Rattle.barrier_vector.proofs.Common.{IsBoundOrNone, bound_at, AreBounds, ints, clamps}
+use Rattle.barrier_vector.proofs.Common.{base_on, ◌≡◌, ℕ, zero, suc, ◌+◌, inl, inr, sym, ◌∙◌, ap, subst, arith, List, Contains, ℤ, pos, ◌-ℤ◌, ◌<◌, refl, length}
+use Rattle.barrier_vector.proofs.Common.{min, All, IsSome, Option, None, Some, Bool, true, false, slice_index, cases_lt, Side, Low, High, Link, Entries}
+use Rattle.barrier_vector.proofs.Common.{entries_at, link_at, IsProblem, IsHead, need, ceil_over, IsLevel, SumsTo, IsPath, AnchorRoot, LeastRoot, IsAnchorPath}
+use Rattle.barrier_vector.proofs.Common.{IsInnerPath, IsLongest, IsUnanchored, moved_out, IsAnchoredBound, IsCarriedFloor, IsBoundOn, HasNoBound, capped_flow}
+use Rattle.barrier_vector.proofs.Common.{anchor_on, mark_at, path_limit, IsSearched, AreRoots, AreAnchorPaths, cut_on, IsAnchoredOrNone, IsBoundOrNone}
+use Rattle.barrier_vector.proofs.Common.{bound_at, AreBounds, ints, clamps}
 use Rattle.barrier_vector.proofs.CarriedRoots.{has_links, reaches_within}
 use Rattle.barrier_vector.proofs.Levels.{link_place}
-use Rattle.barrier_vector.proofs.Marking.{base_one}
-use Rattle.barrier_vector.proofs.Rooting.{path_as}
+use Rattle.barrier_vector.proofs.Marking.{base_head}
 use Rattle.barrier_vector.proofs.CappedFlows.{whole_anchor_path}
 
 -- links of a cell that lead to one cell are one link
@@ -56,13 +55,13 @@ path_anchors : (side : Side) (p : List Entries) (c s : ℕ) → IsAnchorPath sid
 path_anchors side p c s path free = let l = path.is_level.leads in let none = free path.level l.root l.reaches in let some = l.is_root.1 in omega (arith, none, some)
 
 anchored_one : (side : Side) (p : List Entries) → IsProblem p → (c : ℕ) (f g : ℤ) → IsAnchoredBound side p c f → IsAnchoredBound side p c g → f ≡ g
-anchored_one side p ok c f g (a, a_is, s, path, is) (b, b_is, t, path', is') = is ∙ ap (moved_out side a) (anchor_path_one side p ok c s t path path') ∙ ap (λ (z : ℤ). moved_out side z t) (base_one side p a b a_is b_is) ∙ sym is'
+anchored_one side p ok c f g (s, path, is) (t, path', is') = is ∙ ap (moved_out side (base_on side p)) (anchor_path_one side p ok c s t path path') ∙ sym is'
 
 carried_one : (p : List Entries) → IsProblem p → (c : ℕ) (f g : ℤ) → IsCarriedFloor p c f → IsCarriedFloor p c g → f ≡ g
-carried_one p ok c f g (a, a_is, _, _, s, path, t, top, is) (b, b_is, _, _, s', path', t', top', is') = is ∙ ap (λ (n : ℕ). a -ℤ pos (n + t)) (inner_one p ok c s s' path path') ∙ ap (λ (n : ℕ). a -ℤ pos (s' + n)) (longest_one p c t t' top top') ∙ ap (λ (z : ℤ). z -ℤ pos (s' + t')) (base_one Low p a b a_is b_is) ∙ sym is'
+carried_one p ok c f g (_, _, s, path, t, top, is) (_, _, s', path', t', top', is') = is ∙ ap (λ (n : ℕ). base_on Low p -ℤ pos (n + t)) (inner_one p ok c s s' path path') ∙ ap (λ (n : ℕ). base_on Low p -ℤ pos (s' + n)) (longest_one p c t t' top top') ∙ sym is'
 
 not_both : (p : List Entries) (c : ℕ) (f g : ℤ) → IsAnchoredBound Low p c f → IsCarriedFloor p c g → ⊥
-not_both p c f g (a, a_is, s, path, is) y = path_anchors Low p c s path y.2
+not_both p c f g (s, path, is) y = path_anchors Low p c s path y.0
 
 -- the bound of a cell is one
 pub bound_one : (side : Side) (p : List Entries) → IsProblem p → (c : ℕ) (f g : ℤ) → IsBoundOn side p c f → IsBoundOn side p c g → f ≡ g
@@ -74,9 +73,9 @@ bound_one High p ok c f g x y = anchored_one High p ok c f g x y
 
 -- a cell with a bound has no cause against one
 pub has_a_bound : (side : Side) (p : List Entries) (c : ℕ) (f : ℤ) → IsBoundOn side p c f → HasNoBound side p c → ⊥
-has_a_bound Low p c f (inl (b, b_is, s, path, is)) none = path_anchors Low p c s path none.0
-has_a_bound Low p c f (inr y) none = none.1 y.3
-has_a_bound High p c f (b, b_is, s, path, is) none = path_anchors High p c s path none
+has_a_bound Low p c f (inl (s, path, is)) none = path_anchors Low p c s path none.0
+has_a_bound Low p c f (inr y) none = none.1 y.1
+has_a_bound High p c f (s, path, is) none = path_anchors High p c s path none
 
 -- What the bounds of the cells that lead to an anchor are made of, from a search.
 -- a search by the capped need of a side finds the paths by the whole need
@@ -86,7 +85,7 @@ module _ (side : Side) (p : List Entries) (ok : IsProblem p) (own levels : List 
     anchor_paths : (c k : ℕ) → mark_at levels c ≡ Some k → (s : ℕ) × IsAnchorPath side p c s × (slice_index paths c ≡ min s path_limit)
     anchor_paths c k e =
         let (s, path, cut) = found.some c k e in
-        let (t, full, same) = whole_anchor_path side p ok (need side p) c s (path_as p (capped_flow (need side p)) (ListRoot own) (AnchorRoot side p (capped_flow (need side p))) roots.only (λ a d r. roots.each a d (subst (λ (n : ℕ). a < n) (sym whole) r.0) r) c s path) in
+        let (t, full, same) = whole_anchor_path side p ok (need side p) own whole roots c s path in
         (t, full, cut ∙ same)
 
     no_anchor : (c : ℕ) → c < length p → mark_at levels c ≡ None → IsUnanchored side p c
@@ -98,9 +97,8 @@ module _ (side : Side) (p : List Entries) (ok : IsProblem p) (own levels : List 
               absurd (found.none c h e j (record { root = a; drop = ceil_over (capped_flow (need side p)) (anchor_on side (entries_at p a)); is_root = roots.each a _ (subst (λ (n : ℕ). a < n) (sym whole) a_in) (a_in, some, refl); reaches = way }))
         ]
 
-    pub paths_made : (base : ℤ) → IsBase side p base → AreAnchorPaths side p base levels paths
-    paths_made base is = record {
-      is_base = is;
+    pub paths_made : AreAnchorPaths side p levels paths
+    paths_made = record {
       anchored = anchor_paths;
       unanchored = no_anchor;
       levels_whole = found.levels_whole;
@@ -118,8 +116,11 @@ cut_path : (side : Side) (b : ℤ) (x s : ℕ) → IsHead b → x ≡ min s path
 cut_path Low b x s h e = omega (arith, ints, clamps, h.below, h.above, e)
 cut_path High b x s h e = omega (arith, ints, clamps, h.below, h.above, e)
 
-pub bound_anchored : (side : Side) (p : List Entries) (base : ℤ) (levels : List (Option ℕ)) (paths : List ℕ) → AreAnchorPaths side p base levels paths → IsHead base → (c k : ℕ) (v : ℤ) → mark_at levels c ≡ Some k → v ≡ cut_on side (moved_out side base (slice_index paths c)) → IsAnchoredOrNone side p c (Some v)
-bound_anchored side p base levels paths y head c k v e is = let (s, path, cut) = y.anchored c k e in (moved_out side base s, (base, y.is_base, s, path, refl), is ∙ cut_path side base (slice_index paths c) s head cut)
+pub bound_anchored : (side : Side) (p : List Entries) → IsProblem p → (base : ℤ) → base ≡ base_on side p → (levels : List (Option ℕ)) (paths : List ℕ) → AreAnchorPaths side p levels paths → (c k : ℕ) (v : ℤ) → mark_at levels c ≡ Some k → v ≡ cut_on side (moved_out side base (slice_index paths c)) → IsAnchoredOrNone side p c (Some v)
+bound_anchored side p ok base base_is levels paths y c k v e is =
+    let (s, path, cut) = y.anchored c k e in
+    let head = base_head side p ok in
+    (moved_out side (base_on side p) s, (s, path, refl), is ∙ ap (λ (z : ℤ). cut_on side (moved_out side z (slice_index paths c))) base_is ∙ cut_path side (base_on side p) (slice_index paths c) s head cut)
 
 -- bounds by the anchors are the bounds where each cell has one, and on the high side
 pub anchored_is_bound : (side : Side) (p : List Entries) (c : ℕ) (f : ℤ) → IsAnchoredBound side p c f → IsBoundOn side p c f

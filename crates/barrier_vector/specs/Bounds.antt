@@ -1,12 +1,12 @@
 -- The floor and the ceiling of a cell, by the base of its side and its path to an anchor.
-use Rattle.std.specs.Prelude.{◌≡◌, ℕ, ◌+◌, ◌<◌, ◌≤◌, ◌⊎◌, List, [], ◌∷◌, length, max, ℤ, pos, ◌+ℤ◌, ◌-ℤ◌, zero, suc, ◌-◌, ◌/◌, Contains, take, sum_by, Option}
-use Rattle.std.specs.Prelude.{slice_index}
+use Rattle.std.specs.Prelude.{◌≡◌, ℕ, ◌+◌, ◌<◌, ◌≤◌, ◌⊎◌, List, [], ◌∷◌, length, max, ℤ, pos, ◌+ℤ◌, ◌-ℤ◌, zero, suc, ◌-◌, ◌/◌, Contains, drop, take, sum_by}
+use Rattle.std.specs.Prelude.{Option, slice_index}
 use Rattle.step_problem.specs.declared.heads.Side.{Side}
 use Rattle.step_problem.specs.declared.heads.Side.TheVariants.{Low, High}
 use Rattle.step_problem.specs.Entries.{Entries}
 use Rattle.step_problem.specs.{entries_at}
 use Rattle.cell_balance.specs.{Reaches, IsCarried}
-use Rattle.barrier_vector.specs.Marks.{IsBase, IsOutermost, IsMarkBelow, need, need_on, capped_flow}
+use Rattle.barrier_vector.specs.Marks.{base_on, cell_mark, outer_of, outermost, need, need_on, capped_flow}
 use Rattle.step_problem.specs.declared.entry.Link.{Link}
 
 -- Paths along the branches of a problem to its roots, which are the cells that bound the others, and the drops of head on them. Each branch carries at most q.
@@ -90,12 +90,12 @@ moved_out High b s = b +ℤ pos s
 
 -- f is the base of the side and the path of cell c to the side's anchors
 abbrev pub IsAnchoredBound : Side → List Entries → ℕ → ℤ → Type 0
-IsAnchoredBound side p c f = (b : ℤ) × IsBase side p b × (s : ℕ) × IsAnchorPath side p c s × (f ≡ moved_out side b s)
+IsAnchoredBound side p c f = (s : ℕ) × IsAnchorPath side p c s × (f ≡ moved_out side (base_on side p) s)
 
 -- f is the base of the low side less the inner path of cell c and the longest one, in a component that is carried and has no anchor
 abbrev pub IsCarriedFloor : List Entries → ℕ → ℤ → Type 0
 IsCarriedFloor p c f =
-    (b : ℤ) × IsBase Low p b × IsUnanchored Low p c × IsCarried p c × (s : ℕ) × IsInnerPath p c s × (t : ℕ) × IsLongest p c t × (f ≡ b -ℤ pos (s + t))
+    IsUnanchored Low p c × IsCarried p c × (s : ℕ) × IsInnerPath p c s × (t : ℕ) × IsLongest p c t × (f ≡ base_on Low p -ℤ pos (s + t))
 
 -- The floor of cell c: the base less its path to an anchor; in a carried component less its inner path and the longest one.
 abbrev pub IsFloor : List Entries → ℕ → ℤ → Type 0
@@ -113,7 +113,7 @@ IsBoundOn High = IsCeiling
 -- What a side needs of the cells, found in one pass over them.
 -- one side of the first n cells: the outermost mark, the sum of what they add to the lack or the surplus, at most 2 ^ 126, and the greatest anchor of each
 pub record IsOutline (side : Side) (p : List Entries) (n : ℕ) (mark : Option ℤ) (need : ℕ) (anchors : List ℕ) : Type 0 where
-  pub outermost : IsOutermost side (IsMarkBelow side p n) mark
+  pub outermost_mark : outer_of side mark (outermost side (cell_mark side) (drop n p)) ≡ outermost side (cell_mark side) p
   pub sum : need ≡ capped_flow (sum_by (need_on side) (take n p))
   pub whole : length anchors ≡ n
   pub each : (c : ℕ) → c < n → slice_index anchors c ≡ anchor_on side (entries_at p c)

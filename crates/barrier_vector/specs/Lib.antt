@@ -12,9 +12,9 @@ pub use Rattle.barrier_vector.specs.Bounds.{greatest, moved_out}
 pub use Rattle.barrier_vector.specs.Cuts.{AreCutBounds, EnclosesUncut, HasNoBound, HasStorage, IsCutBarrierOf, IsCutBoundOn, IsCutFault, IsFault, IsLeastWith}
 pub use Rattle.barrier_vector.specs.Cuts.{IsNotForLackOfAnchors, IsOutOfRange, IsRefused, IsRefusedOn, IsUnbounded, LeavesRange, Names, Nowhere, Refuses}
 pub use Rattle.barrier_vector.specs.Cuts.{RefusesOn, clamp, clamped, cut_on, no_barrier_on, range_on}
-pub use Rattle.barrier_vector.specs.Marks.{IsBase, IsCellMark, IsInside, IsMarkBelow, IsMarkIn, IsOutermost, capped_flow, drain_mark, fixed_mark, high_flow}
-pub use Rattle.barrier_vector.specs.Marks.{if_some, lack, need, need_on, negative_part, outer_of, positive_part, river_mark}
+pub use Rattle.barrier_vector.specs.Marks.{base_on, capped_flow, cell_mark, drain_mark, fixed_mark, high_flow, if_some, lack, need, need_on, negative_part}
+pub use Rattle.barrier_vector.specs.Marks.{outer_of, outermost, positive_part, river_mark}
 pub use Rattle.barrier_vector.specs.Roots.{AreAnchorPaths, AreBounds, AreComponents, AreHeadsOf, AreRoots, IsAnchoredOrNone, IsBoundOrNone, IsCutFaultOn}
 pub use Rattle.barrier_vector.specs.Roots.{IsFaultOn, IsFirst, IsMissing, IsWholeSide, LiesOut, ListAnchor, SelfRoot, bound_at}
-pub use Rattle.barrier_vector.specs.Searches.{AreLabels, ContinuesTo, Fills, FrontLeads, IsGreatestOf, IsNearest, IsNearestOrNone, IsSearched, IsStart}
+pub use Rattle.barrier_vector.specs.Searches.{AreBegun, AreLabels, ContinuesTo, Fills, FrontLeads, IsGreatestOf, IsNearest, IsNearestOrNone, IsSearched}
 pub use Rattle.barrier_vector.specs.Searches.{LinkLeads, ListRoot, Spreads, flow_sum, is_label, labelled, mark_at, number_at, path_limit, sum_at, unmarked}

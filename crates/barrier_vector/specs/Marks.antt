@@ -1,5 +1,5 @@
 -- The base of each side: the outermost of the known heads, stages, bottoms and elevations of a problem that may conduct.
-use Rattle.std.specs.Prelude.{◌≡◌, ℕ, zero, suc, ◌<◌, ◌⊎◌, List, length, Contains, Option, None, Some, ℤ, pos, ◌≤ℤ◌, ◌^◌, min, sum_by, negsuc}
+use Rattle.std.specs.Prelude.{ℕ, zero, suc, List, [], ◌∷◌, Option, None, Some, ℤ, pos, ◌^◌, min, sum_by, negsuc}
 use Rattle.std.specs.Int.{int_max, int_min}
 use Rattle.std.specs.Option.{unwrap_or}
 use Rattle.step_problem.specs.declared.heads.Side.{Side}
@@ -8,7 +8,7 @@ use Rattle.step_problem.specs.declared.entry.Fixed.{Fixed}
 use Rattle.step_problem.specs.declared.entry.River.{River}
 use Rattle.step_problem.specs.declared.entry.Drain.{Drain}
 use Rattle.step_problem.specs.Entries.{Entries}
-use Rattle.step_problem.specs.{entries_at, total}
+use Rattle.step_problem.specs.{bound_on, entries_at, total}
 use Rattle.cell_balance.specs.{deep_low}
 
 -- v where the upper conductance hi is above 0
@@ -18,18 +18,15 @@ if_some (suc n) v = Some v
 
 -- the mark of a known head: its lower bound on the low side, its upper bound on the high side
 abbrev pub fixed_mark : Side → Fixed → Option ℤ
-fixed_mark Low x = if_some x.hi x.head_lo
-fixed_mark High x = if_some x.hi x.head_hi
+fixed_mark side x = if_some x.hi (bound_on side x.head_lo x.head_hi)
 
 -- the mark of a river: the lower bound of its bottom, or the greater of the upper bounds of its stage and its bottom
 abbrev pub river_mark : Side → River → Option ℤ
-river_mark Low x = if_some x.hi x.bottom_lo
-river_mark High x = if_some x.hi (int_max x.stage_hi x.bottom_hi)
+river_mark side x = if_some x.hi (bound_on side x.bottom_lo (int_max x.stage_hi x.bottom_hi))
 
 -- the mark of a drain: its elevation
 abbrev pub drain_mark : Side → Drain → Option ℤ
-drain_mark Low x = if_some x.hi x.elev_lo
-drain_mark High x = if_some x.hi x.elev_hi
+drain_mark side x = if_some x.hi (bound_on side x.elev_lo x.elev_hi)
 
 -- the outer of two marks: the lower one on the low side, the higher one on the high side
 abbrev pub outer_of : Side → Option ℤ → Option ℤ → Option ℤ
@@ -38,31 +35,18 @@ outer_of side (Some a) None = Some a
 outer_of Low (Some a) (Some b) = Some (int_min a b)
 outer_of High (Some a) (Some b) = Some (int_max a b)
 
--- v lies no further out than b
-abbrev pub IsInside : Side → ℤ → ℤ → Type 0
-IsInside Low b v = b ≤ℤ v
-IsInside High b v = v ≤ℤ b
+-- the outermost of the marks of a list's elements; None where none has one
+abbrev pub outermost : {X : Type 0} → Side → (X → Option ℤ) → List X → Option ℤ
+outermost side mark [] = None
+outermost side mark (x ∷ xs) = outer_of side (mark x) (outermost side mark xs)
 
--- the outermost of the numbers with the property P; None where there are none
-abbrev pub IsOutermost : Side → (ℤ → Type 0) → Option ℤ → Type 0
-IsOutermost side P None = (v : ℤ) → P v → ⊥
-IsOutermost side P (Some b) = P b × ((v : ℤ) → P v → IsInside side b v)
-
--- some entry of the list has the mark v
-abbrev pub IsMarkIn : {X : Type 0} → (X → Option ℤ) → List X → ℤ → Type 0
-IsMarkIn {X = X} mark xs v = (x : X) × Contains xs x × (mark x ≡ Some v)
-
--- some entry of the cell has the mark v
-abbrev pub IsCellMark : Side → Entries → ℤ → Type 0
-IsCellMark side c v = IsMarkIn (fixed_mark side) c.fixed v ⊎ (IsMarkIn (river_mark side) c.rivers v ⊎ IsMarkIn (drain_mark side) c.drains v)
-
--- one of the first n cells has the mark v
-abbrev pub IsMarkBelow : Side → List Entries → ℕ → ℤ → Type 0
-IsMarkBelow side p n v = (c : ℕ) × (c < n) × IsCellMark side (entries_at p c) v
+-- the outermost mark of a cell: of its known heads, its rivers and its drains
+abbrev pub cell_mark : Side → Entries → Option ℤ
+cell_mark side c = outer_of side (outermost side (fixed_mark side) c.fixed) (outer_of side (outermost side (river_mark side) c.rivers) (outermost side (drain_mark side) c.drains))
 
 -- the base of a side: the outermost mark of the problem, 0 if it has none
-abbrev pub IsBase : Side → List Entries → ℤ → Type 0
-IsBase side p b = (o : Option ℤ) × IsOutermost side (IsMarkBelow side p (length p)) o × (b ≡ unwrap_or o (pos 0))
+abbrev pub base_on : Side → List Entries → ℤ
+base_on side p = unwrap_or (outermost side (cell_mark side) p) (pos 0)
 
 -- The lack and the surplus of flow of all cells of a problem.
 -- the negative part of a number, as a magnitude

@@ -4,7 +4,6 @@ use Rattle.step_problem.specs.declared.heads.Side.{Side}
 use Rattle.step_problem.specs.Entries.{Entries}
 use Rattle.step_problem.specs.{entries_at, IsHead, head_at}
 use Rattle.cell_balance.specs.{sum_inside, deep_low}
-use Rattle.barrier_vector.specs.Marks.{IsBase}
 use Rattle.barrier_vector.specs.Bounds.{IsAnchorPath, IsInnerPath, IsUnanchored, IsAnchoredBound, ceil_over, IsBoundOn}
 use Rattle.barrier_vector.specs.Cuts.{HasNoBound, IsOutOfRange, LeavesRange, no_barrier_on, Nowhere, IsRefusedOn, cut_on, IsCutBoundOn, RefusesOn}
 use Rattle.barrier_vector.specs.Searches.{mark_at, path_limit, AreLabels, labelled, sum_at, IsGreatestOf}
@@ -25,9 +24,8 @@ pub record AreRoots (Root : ℕ → ℕ → Type 0) (own : List (Option ℕ)) : 
   pub only : (c d : ℕ) → mark_at own c ≡ Some d → Root c d
   pub each : (c d : ℕ) → c < length own → Root c d → mark_at own c ≡ Some d
 
--- what a search finds on a side: the base, each cell's level, and its path to the anchors
-pub record AreAnchorPaths (side : Side) (p : List Entries) (base : ℤ) (levels : List (Option ℕ)) (paths : List ℕ) : Type 0 where
-  pub is_base : IsBase side p base
+-- what a search finds on a side: each cell's level, and its path to the anchors
+pub record AreAnchorPaths (side : Side) (p : List Entries) (levels : List (Option ℕ)) (paths : List ℕ) : Type 0 where
   pub anchored : (c k : ℕ) → mark_at levels c ≡ Some k → (s : ℕ) × IsAnchorPath side p c s × (slice_index paths c ≡ min s path_limit)
   pub unanchored : (c : ℕ) → c < length p → mark_at levels c ≡ None → IsUnanchored side p c
   pub levels_whole : length levels ≡ length p

@@ -68,14 +68,11 @@ pub record IsSearched (p : List Entries) (q : ℕ) (own levels : List (Option �
   pub none : (c : ℕ) → c < length p → mark_at levels c ≡ None → (j : ℕ) → LeadsToRoot p q (ListRoot own) j c → ⊥
   pub some : (c k : ℕ) → mark_at levels c ≡ Some k → (s : ℕ) × IsPath p q (ListRoot own) c s × (slice_index paths c ≡ min s path_limit)
 
--- Before the first step only the roots are marked, at level 0, and they are the frontier.
-pub record IsStart (own levels : List (Option ℕ)) (paths frontier : List ℕ) : Type 0 where
-  pub levels_whole : length levels ≡ length own
-  pub paths_whole : length paths ≡ length own
-  pub root : (c d : ℕ) → mark_at own c ≡ Some d → (mark_at levels c ≡ Some 0) × (slice_index paths c ≡ min d path_limit) × Contains frontier c
-  pub other : (c : ℕ) → mark_at own c ≡ None → mark_at levels c ≡ None
-  pub listed : (c : ℕ) → Contains frontier c → (d : ℕ) × (mark_at own c ≡ Some d)
-  pub count : unmarked levels + length frontier ≡ length own
+-- The roots among the first i cells are marked, at level 0, and listed; each has its own drop as its path.
+pub record AreBegun (own : List (Option ℕ)) (i : ℕ) (old new : List (Option ℕ)) (paths roots : List ℕ) : Type 0 where
+  pub marks : Spreads (λ k. (k < i) × (d : ℕ) × (mark_at own k ≡ Some d)) 0 old new [] roots
+  pub paths_are : (c d : ℕ) → c < i → mark_at own c ≡ Some d → slice_index paths c ≡ min d path_limit
+  pub whole : length paths ≡ length own
 
 -- The components of a problem, each cell labelled with the least cell of its component, and sums over them.
 -- Labels are the same at both ends of a link; each is the least cell of its component; and the cells below i have one.

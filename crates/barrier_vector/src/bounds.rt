@@ -2,7 +2,7 @@
 ghost use Rattle.std.specs.Prelude.{◌≡◌, ◌<◌, ◌≤◌, ◌^◌, ◌↔◌, length, IfOk, IsTrue, IsSome, All, pos, ◌-ℤ◌, ◌≤ℤ◌};
 ghost use Rattle.step_problem.specs.declared.heads.Side.TheVariants.{Low, High};
 ghost use Rattle.step_problem.specs.{IsHead, IsWithin, head_limit};
-ghost use Rattle.barrier_vector.specs.{IsBase, moved_out, IsOutline, cut_on, AreAnchorPaths, IsAnchoredOrNone, IsBoundOrNone, AreBounds};
+ghost use Rattle.barrier_vector.specs.{base_on, moved_out, IsOutline, cut_on, AreAnchorPaths, IsAnchoredOrNone, IsBoundOrNone, AreBounds};
 
 use crate::carried::with_carried_floors;
 use crate::outline::Outline;
@@ -66,7 +66,8 @@ fn anchored_bound(
     c: usize,
 ) -> Option<i64>
     requires cell { c < length p.now }
-    requires paths { AreAnchorPaths side p.now base levels.now paths.now }
+    requires base { base ≡ base_on side p.now }
+    requires paths { AreAnchorPaths side p.now levels.now paths.now }
     ensures { IsAnchoredOrNone side p.now c result }
 {
     p.recall_conditions();
@@ -84,7 +85,7 @@ fn anchored_bounds(
     base: i64,
     outline: &Outline,
 ) -> Result<Vec<Option<i64>>, AllocError>
-    requires base { IsBase side p.now base }
+    requires base { base ≡ base_on side p.now }
     requires outline { IsOutline side p.now (length p.now) outline.now.mark outline.now.need outline.now.anchors.items }
     ensures { IfOk result (λ bounds. AreBounds p.now (IsAnchoredOrNone side p.now) bounds.items) }
 {

@@ -1,7 +1,7 @@
 // The floors of the cells that lead to no anchor: each component of such cells is carried by its deep flows, or it has no floor.
 ghost use Rattle.std.specs.Prelude.{◌≡◌, ◌<◌, length, IfOk};
 ghost use Rattle.step_problem.specs.declared.heads.Side.TheVariants.{Low};
-ghost use Rattle.barrier_vector.specs.{IsBase, lack, capped_flow, IsUnanchored, AreComponents, IsAnchoredOrNone, IsBoundOrNone, AreBounds};
+ghost use Rattle.barrier_vector.specs.{base_on, lack, capped_flow, IsUnanchored, AreComponents, IsAnchoredOrNone, IsBoundOrNone, AreBounds};
 
 use crate::bounds::move_out;
 use crate::flows::deep_flows;
@@ -50,7 +50,7 @@ fn carried_floor(
     c: usize,
 ) -> Option<i64>
     requires cell { c < length p.now }
-    requires base { IsBase Low p.now base }
+    requires base { base ≡ base_on Low p.now }
     requires components { AreComponents p.now labels.now inner.now sums.now longest.now }
     requires unanchored { IsUnanchored Low p.now c }
     ensures { IsBoundOrNone Low p.now c result }
@@ -76,7 +76,7 @@ fn floor_of(
     c: usize,
 ) -> Option<i64>
     requires cell { c < length p.now }
-    requires base { IsBase Low p.now base }
+    requires base { base ≡ base_on Low p.now }
     requires anchored { IsAnchoredOrNone Low p.now c anchored }
     requires components { AreComponents p.now found.now.labels.items found.now.inner.items found.now.sums.items found.now.longest.items }
     ensures { IsBoundOrNone Low p.now c result }
@@ -103,7 +103,7 @@ pub(crate) fn with_carried_floors(
     q: u128,
     anchored: &[Option<i64>],
 ) -> Result<Vec<Option<i64>>, AllocError>
-    requires base { IsBase Low p.now base }
+    requires base { base ≡ base_on Low p.now }
     requires lack { q ≡ capped_flow (lack p.now) }
     requires anchored { AreBounds p.now (IsAnchoredOrNone Low p.now) anchored.now }
     ensures { IfOk result (λ floors. AreBounds p.now (IsBoundOrNone Low p.now) floors.items) }

@@ -19,15 +19,15 @@ pub(crate) struct FlowSum {
 impl FlowSum {
     // The lower word and a flow.
     fn rest(self, flow: i128) -> i128
-        requires { IsWithin flow (2 ^ 109) }
+        requires { IsWithin flow (2 ^ 125) }
         ensures { result ≡ pos self.low +ℤ flow }
     {
         self.low as i128 + flow
     }
 
     fn plus(self, flow: i128) -> FlowSum
-        requires sum { IsWithin (flow_sum self) (2 ^ 141) }
-        requires flow { IsWithin flow (2 ^ 109) }
+        requires sum { IsWithin (flow_sum self) (2 ^ 157) }
+        requires flow { IsWithin flow (2 ^ 125) }
         ensures { flow_sum result ≡ flow_sum self +ℤ flow }
     {
         let rest = self.rest(flow);
@@ -52,8 +52,8 @@ impl FlowSum {
 // Adds a flow to the sum with that label, if there is a label.
 fn add_to(sums: &mut [FlowSum], label: Option<u32>, flow: i128)
     requires label { (m : ℕ) → label ≡ Some m → m < length sums.old }
-    requires sums { (m : ℕ) → IsWithin (sum_at sums.old m) (2 ^ 141) }
-    requires flow { IsWithin flow (2 ^ 109) }
+    requires sums { (m : ℕ) → IsWithin (sum_at sums.old m) (2 ^ 157) }
+    requires flow { IsWithin flow (2 ^ 125) }
     ensures { (m : ℕ) → sum_at sums.new m ≡ sum_at sums.old m +ℤ cond (is_label label m) flow (pos 0) }
 {
     match label {
@@ -71,7 +71,7 @@ pub(crate) fn sum_components(
     requires few { length labels.now < 2 ^ 32 }
     requires same { length flows.now ≡ length labels.now }
     requires labels { (k m : ℕ) → mark_at labels.now k ≡ Some m → m < length labels.now }
-    requires flows { (k : ℕ) → IsWithin (number_at flows.now k) (2 ^ 109) }
+    requires flows { (k : ℕ) → IsWithin (number_at flows.now k) (2 ^ 125) }
     ensures whole { IfOk result (λ sums. length sums.items ≡ length labels.now) }
     ensures sums { IfOk result (λ sums. (m : ℕ) → sum_at sums.items m ≡ sum_inside (length labels.now) (labelled labels.now m) (number_at flows.now)) }
 {

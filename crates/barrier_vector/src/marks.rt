@@ -1,56 +1,14 @@
 // The marks of a side: the heads, stages, bottoms and elevations that may conduct. The outermost is the base.
 ghost use Rattle.std.specs.Prelude.{◌≡◌, ℤ, Option};
-ghost use Rattle.barrier_vector.specs.Marks.{if_some, fixed_mark, river_mark, drain_mark, outer_of, IsOutermost, IsMarkIn, IsCellMark};
+ghost use Rattle.std.specs.Fn.{FnReturnsAt};
+ghost use Rattle.barrier_vector.specs.{if_some, outer_of, outermost, cell_mark};
 
-use step_problem::{Cell, Drain, Fixed, River, Side};
-
-trait Mark {
-    ghost use Rattle.step_problem.specs.declared.heads.Side.{Side};
-
-    ghost mark: { Side → Self → Option ℤ };
-
-    // The mark of the entry on a side, if it may conduct.
-    fn mark_on(&self, side: Side) -> Option<i64>
-        ensures { result ≡ mark side self.now };
-}
+use step_problem::{Cell, Side};
 
 fn if_conducts(hi: u64, head: i64) -> Option<i64>
     ensures { result ≡ if_some hi head }
 {
     if hi > 0 { Some(head) } else { None }
-}
-
-impl Mark for Fixed {
-    ghost mark = { fixed_mark };
-
-    fn mark_on(&self, side: Side) -> Option<i64> {
-        match side {
-            Side::Low => if_conducts(self.hi, self.head_lo),
-            Side::High => if_conducts(self.hi, self.head_hi),
-        }
-    }
-}
-
-impl Mark for River {
-    ghost mark = { river_mark };
-
-    fn mark_on(&self, side: Side) -> Option<i64> {
-        match side {
-            Side::Low => if_conducts(self.hi, self.bottom_lo),
-            Side::High => if_conducts(self.hi, self.stage_hi.max(self.bottom_hi)),
-        }
-    }
-}
-
-impl Mark for Drain {
-    ghost mark = { drain_mark };
-
-    fn mark_on(&self, side: Side) -> Option<i64> {
-        match side {
-            Side::Low => if_conducts(self.hi, self.elev_lo),
-            Side::High => if_conducts(self.hi, self.elev_hi),
-        }
-    }
 }
 
 /// The outer of two marks.
@@ -67,22 +25,33 @@ pub(crate) fn outer_mark(side: Side, a: Option<i64>, b: Option<i64>) -> Option<i
     }
 }
 
-fn outermost<E: Mark>(side: Side, entries: &[E]) -> Option<i64>
-    ensures { IsOutermost side (IsMarkIn (E.mark side) entries.now) result }
+// `mark` is the mark of an entry, if it may conduct.
+fn outermost<E, F: Fn(&E) -> Option<i64>>(side: Side, entries: &[E], mark: F) -> Option<i64>
+    requires { F.IsAlwaysCallable mark }
+    ensures { (of : E → Option ℤ) → ((x : E) (r : Option ℤ) → FnReturnsAt F.Fn mark x r → r ≡ of x) → result ≡ outermost side of entries.now }
 {
     let mut best = None;
     for x in entries {
-        best = outer_mark(side, best, x.mark_on(side));
+        best = outer_mark(side, best, mark(x));
     }
     best
 }
 
 /// The outermost mark of a cell.
 pub(crate) fn cell_mark(side: Side, cell: &Cell) -> Option<i64>
-    ensures { IsOutermost side (IsCellMark side cell.now) result }
+    ensures { result ≡ cell_mark side cell.now }
 {
-    let fixed = outermost(side, &cell.fixed);
-    let rivers = outermost(side, &cell.rivers);
-    let drains = outermost(side, &cell.drains);
+    let fixed = outermost(side, &cell.fixed, |x| {
+        if_conducts(x.hi, side.bound_of(x.head_lo, x.head_hi))
+    });
+    let rivers = outermost(side, &cell.rivers, |x| {
+        if_conducts(
+            x.hi,
+            side.bound_of(x.bottom_lo, x.stage_hi.max(x.bottom_hi)),
+        )
+    });
+    let drains = outermost(side, &cell.drains, |x| {
+        if_conducts(x.hi, side.bound_of(x.elev_lo, x.elev_hi))
+    });
     outer_mark(side, fixed, outer_mark(side, rivers, drains))
 }

@@ -18,7 +18,7 @@ const MOST_NEED: u128 = 85_070_591_730_234_615_865_843_651_857_942_052_864;
 // The sum of two flows, at most 2^126.
 fn capped_sum(need: u128, more: u128) -> u128
     requires need { need ≤ 2 ^ 126 }
-    requires more { more ≤ 2 ^ 109 }
+    requires more { more ≤ 2 ^ 125 }
     ensures { result ≡ capped_flow (need + more) }
 {
     (need + more).min(MOST_NEED)

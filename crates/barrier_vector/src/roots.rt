@@ -1,49 +1,20 @@
 // The roots of the searches: anchored cells, and the least cells of components.
 ghost use Rattle.std.specs.Prelude.{◌≡◌, ℕ, ◌<◌, ◌≤◌, ◌^◌, length, IfOk, Some, max};
-ghost use Rattle.barrier_vector.specs.Bounds.{ceil_over, anchor_on, greatest};
-ghost use Rattle.barrier_vector.specs.Roots.{ListAnchor, SelfRoot, AreRoots};
+ghost use Rattle.std.specs.Fn.{FnReturnsAt};
+ghost use Rattle.barrier_vector.specs.{ceil_over, anchor_on, greatest, ListAnchor, SelfRoot, AreRoots};
 
 use crate::search::drop_over;
 use std::alloc::{AllocError, Global};
-use step_problem::{Cell, Drain, Fixed, River, Side};
+use step_problem::{Cell, Side};
 
-trait Anchor {
-    ghost least: { Self → ℕ };
-
-    fn lower_conductance(&self) -> u64
-        ensures { result ≡ least self.now };
-}
-
-impl Anchor for Fixed {
-    ghost least = { λ x. x.lo };
-
-    fn lower_conductance(&self) -> u64 {
-        self.lo
-    }
-}
-
-impl Anchor for River {
-    ghost least = { λ x. x.lo };
-
-    fn lower_conductance(&self) -> u64 {
-        self.lo
-    }
-}
-
-impl Anchor for Drain {
-    ghost least = { λ x. x.lo };
-
-    fn lower_conductance(&self) -> u64 {
-        self.lo
-    }
-}
-
-fn greatest_lower<E: Anchor>(entries: &[E]) -> u64
-    ensures { result ≡ greatest E.least entries.now }
+// `lower` is the lower conductance of an entry.
+fn greatest_lower<E, F: Fn(&E) -> u64>(entries: &[E], lower: F) -> u64
+    requires { F.IsAlwaysCallable lower }
+    ensures { (lo : E → ℕ) → ((x : E) (r : ℕ) → FnReturnsAt F.Fn lower x r → r ≡ lo x) → result ≡ greatest lo entries.now }
 {
     let mut best = 0;
     for x in entries {
-        best = x.lower_conductance().max(best);
+        best = lower(x).max(best);
     }
     best
 }
@@ -52,10 +23,14 @@ fn greatest_lower<E: Anchor>(entries: &[E]) -> u64
 pub(crate) fn greatest_anchor(side: Side, cell: &Cell) -> u64
     ensures { result ≡ anchor_on side cell.now }
 {
-    let fixed = greatest_lower(&cell.fixed);
+    let fixed = greatest_lower(&cell.fixed, |x| x.lo);
     match side {
         Side::Low => fixed,
-        Side::High => fixed.max(greatest_lower(&cell.rivers).max(greatest_lower(&cell.drains))),
+        Side::High => {
+            let rivers = greatest_lower(&cell.rivers, |x| x.lo);
+            let drains = greatest_lower(&cell.drains, |x| x.lo);
+            fixed.max(rivers.max(drains))
+        }
     }
 }
 

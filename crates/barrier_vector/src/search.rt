@@ -1,9 +1,9 @@
 // The search by levels: each cell's least number of links to a root, and its path there.
 ghost use Rattle.std.specs.Prelude.{◌≡◌, ℕ, ◌<◌, ◌≤◌, ◌+◌, ◌^◌, length, List, [], ◌∷◌, ◌++◌, Option, OnOk, All, IfOk, min, Some, None, MatchOption, ◌⊎◌};
 ghost use Rattle.std.specs.Prelude.{Contains, slice_index};
-ghost use Rattle.barrier_vector.specs.{ceil_over, mark_at, path_limit, IsNearestOrNone, ContinuesTo, IsSearched, IsStart};
+ghost use Rattle.barrier_vector.specs.{ceil_over, mark_at, path_limit, IsNearestOrNone, ContinuesTo, IsSearched, AreBegun};
 
-use crate::spread::spread;
+use crate::spread::{mark_cell, spread};
 use std::alloc::{AllocError, Global};
 use step_problem::{Link, Problem};
 
@@ -15,14 +15,6 @@ pub(crate) const PATH_LIMIT: u64 = 8_000_000_000_000_000_001;
 pub(crate) struct Found {
     pub levels: Vec<Option<u32>>,
     pub paths: Vec<u64>,
-}
-
-// The start of a search: the roots and their own drops.
-#[derive(Drop)]
-struct Start {
-    levels: Vec<Option<u32>>,
-    paths: Vec<u64>,
-    frontier: Vec<u32>,
 }
 
 /// The drop of head on a branch that carries `q`: the least whole number not below q / lo.
@@ -107,40 +99,26 @@ fn extend_paths(
     }
 }
 
-// Adds a cell: a root with its own drop, or another cell.
-fn add_cell(start: &mut Start, cell: u32, drop: Option<u128>) -> Result<(), AllocError>
-    ensures { OnOk result ((own : List (Option ℕ)) → length own ≡ cell →
-        IsStart own start.old.levels.items start.old.paths.items start.old.frontier.items →
-        IsStart (own ++ drop ∷ []) start.new.levels.items start.new.paths.items start.new.frontier.items) }
+// Marks the roots, at level 0, gives them their own drops as paths, and returns them.
+fn begin(
+    alloc: Global,
+    own: &[Option<u128>],
+    levels: &mut [Option<u32>],
+    paths: &mut [u64],
+) -> Result<Vec<u32>, AllocError>
+    requires few { length own.now < 2 ^ 32 }
+    requires levels { length levels.old ≡ length own.now }
+    requires paths { length paths.old ≡ length own.now }
+    ensures { IfOk result (λ roots. AreBegun own.now (length own.now) levels.old levels.new paths.new roots.items) }
 {
-    match drop {
-        Some(drop) => {
-            start.levels.push(Some(0))?;
-            start.paths.push(longer_path(drop, 0))?;
-            start.frontier.push(cell)?;
-            Ok(())
-        }
-        None => {
-            start.levels.push(None)?;
-            start.paths.push(0)?;
-            Ok(())
-        }
-    }
-}
-
-fn begin(alloc: Global, own: &[Option<u128>]) -> Result<Start, AllocError>
-    requires { length own.now < 2 ^ 32 }
-    ensures { IfOk result (λ s. IsStart own.now s.levels.items s.paths.items s.frontier.items) }
-{
-    let mut start = Start {
-        levels: Vec::with_capacity(alloc, own.len())?,
-        paths: Vec::with_capacity(alloc, own.len())?,
-        frontier: Vec::new(alloc),
-    };
+    let mut roots = Vec::new(alloc);
     for c in 0..own.len() {
-        add_cell(&mut start, c as u32, own[c])?;
+        if let Some(drop) = own[c] {
+            mark_cell(levels, &mut roots, c as u32, 0)?;
+            paths[c] = longer_path(drop, 0);
+        }
     }
-    Ok(start)
+    Ok(roots)
 }
 
 /// The level and the path of each cell that leads to a root. `own` has the own drops of the roots, None at the other cells; each branch carries at most `q`.
@@ -155,11 +133,9 @@ pub(crate) fn search(
     ensures { IfOk result (λ f. IsSearched p.now q own.now f.levels.items f.paths.items) }
 {
     let count = p.len();
-    let Start {
-        mut levels,
-        mut paths,
-        mut frontier,
-    } = begin(alloc, own)?;
+    let mut levels = vec![in alloc; None; count]?;
+    let mut paths = vec![in alloc; 0; count]?;
+    let mut frontier = begin(alloc, own, &mut levels, &mut paths)?;
     let mut left = count - frontier.len();
     let mut level = 0;
     while left > 0 && !frontier.is_empty() {

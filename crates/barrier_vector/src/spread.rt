@@ -5,7 +5,8 @@ ghost use Rattle.barrier_vector.specs.{Spreads, LinkLeads, FrontLeads, mark_at, 
 use std::alloc::{AllocError, Global};
 use step_problem::{Link, Problem};
 
-fn mark_cell(
+// Marks a cell and adds it to the list, if it has no mark.
+pub(crate) fn mark_cell(
     marks: &mut [Option<u32>],
     next: &mut Vec<u32>,
     cell: u32,

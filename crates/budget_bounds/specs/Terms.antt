@@ -7,7 +7,8 @@ use Rattle.step_problem.specs.declared.place.Term.{Term}
 use Rattle.step_problem.specs.declared.place.Term.TheVariants.{Storage, ConstantHead, Wells, Drains, RiverLeakage, HeadDepBounds, Recharge, Et}
 use Rattle.step_problem.specs.declared.place.NoBound.{NoBound}
 use Rattle.step_problem.specs.declared.refusal.StepRefusal.TheVariants.{FlowTooLarge}
-use Rattle.step_problem.specs.{number_of, entries_at, total, fixed_low, river_low, drain_low, evap_low, fixed_high, river_high, drain_high, evap_high}
+use Rattle.step_problem.specs.{number_of, entries_at, total, fixed_flow, river_flow, drain_flow, evap_flow}
+use Rattle.step_problem.specs.declared.heads.Side.TheVariants.{Low, High}
 use Rattle.step_problem.specs.Entries.{Entries}
 use Rattle.cell_balance.specs.{sum_below}
 use Rattle.budget_bounds.specs.declared.pair.TermPair.{TermPair}
@@ -57,16 +58,16 @@ abbrev pub flow_pair : Flow → TermPair
 flow_pair x = record { lo = x.lo; hi = x.hi }
 
 abbrev pub fixed_pair : ℤ → ℤ → Fixed → TermPair
-fixed_pair l u x = record { lo = fixed_low u x; hi = fixed_high l x }
+fixed_pair l u x = record { lo = fixed_flow Low u x; hi = fixed_flow High l x }
 
 abbrev pub river_pair : ℤ → ℤ → River → TermPair
-river_pair l u x = record { lo = river_low u x; hi = river_high l x }
+river_pair l u x = record { lo = river_flow Low u x; hi = river_flow High l x }
 
 abbrev pub drain_pair : ℤ → ℤ → Drain → TermPair
-drain_pair l u x = record { lo = drain_low u x; hi = drain_high l x }
+drain_pair l u x = record { lo = drain_flow Low u x; hi = drain_flow High l x }
 
 abbrev pub evap_pair : ℤ → ℤ → Evap → TermPair
-evap_pair l u x = record { lo = evap_low u x; hi = evap_high l x }
+evap_pair l u x = record { lo = evap_flow Low u x; hi = evap_flow High l x }
 
 -- the known heads, and the constant flows, whose flows are of a term
 abbrev pub fixed_of : Term → List Fixed → List Fixed

@@ -1,5 +1,5 @@
 // The single flows of entries, by their bounds.
-ghost use Rattle.std.specs.Prelude.{◌≡◌, ◌<◌, ◌^◌, ℤ};
+ghost use Rattle.std.specs.Prelude.{◌≡◌, ◌<◌, ◌*◌, ◌^◌, ℤ};
 ghost use Rattle.step_problem.specs.{FixedFits, RiverFits, DrainFits, EvapFits, magnitude};
 ghost use Rattle.budget_bounds.specs.Terms.{flow_pair, fixed_pair, river_pair, drain_pair, evap_pair, fixed_term, flow_term};
 ghost use Rattle.step_problem.specs.declared.place.Term.TheVariants.{Drains, Et, RiverLeakage};
@@ -36,7 +36,7 @@ pub(crate) trait Entry {
 fn branch_pair<B: Branch>(x: &B, own: Bound) -> TermPair
     requires own { AreHeads own }
     requires fits { B.fits x.now }
-    requires conductance { B.conductance x.now < 2 ^ 60 }
+    requires weight { B.weight x.now * B.unit < 2 ^ 123 }
     ensures value { result ≡ record { lo = B.flow Side.Low own.high x.now; hi = B.flow Side.High own.low x.now } }
     ensures flow { IsFlow result }
 {

@@ -2,11 +2,12 @@
 use Rattle.cell_balance.proofs.Common.{[], ◌*ℤ◌, ◌+ℤ◌, ◌<ℤ◌, ◌<◌, ◌∷◌, ◌≡◌, ◌≤ℤ◌, All, Bool, List, arith, cond, false, inl, inr, nat_eq, pos, refl, subst, true}
 use Rattle.cell_balance.proofs.Common.{ℕ, ℤ, AllZip, zero-*ℤ, cases_eq, eq-eqb, ne_eqb, ints, All-cons, All-head, All-nil, All-tail, total, ◌-ℤ◌, ◌∙◌, length}
 use Rattle.cell_balance.proofs.Common.{ap, sum_inside}
-use Rattle.cell_balance.proofs.Dry.{weight, by_weight, IsMutual}
-use Rattle.cell_balance.proofs.Zips.{WholeEntry, WholeLink, WholeCell, whole_at, whole_link}
+use Rattle.cell_balance.proofs.Dry.{weight, by_weight, IsMutual, dry_balance, dry_fixed}
+use Rattle.cell_balance.proofs.Zips.{WholeEntry, WholeLink, WholeCell, whole_at, whole_link, whole_fixed, whole_deep, whole_balance, IsDry}
 use Rattle.cell_balance.proofs.WholeBalances.{known_conductance, known_flow, a_of}
 use Rattle.cell_balance.proofs.Ramps.{AreMutual}
-use Rattle.cell_balance.proofs.Sums.{link_flows_cancel, sum-same}
+use Rattle.cell_balance.proofs.Sums.{link_flows_cancel, sum-same, sum-add, sum_at_most}
+use Rattle.cell_balance.proofs.Deep.{total_nonneg}
 
 -- a fact of each right element passes to the left one
 pub All-back : {X Y : Type 0} (R : X → Y → Type 0) (P : X → Type 0) (Q : Y → Type 0) → ((x : X) (y : Y) → R x y → Q y → P x) → (xs : List X) (ys : List Y) → AllZip R xs ys → All Q ys → All P xs
@@ -82,3 +83,26 @@ pub closed_cancel : (w : List WholeCell) (inside : ℕ → Bool) (Y : ℕ → �
 closed_cancel w inside Y both closed =
     sum-same (length w) _ _ (λ c i. ap (λ (z : ℤ). cond (inside c) z (pos 0)) (by_weight (length w) (whole_at w c).links (λ k. Y k -ℤ Y c) (both.range c i)))
     ∙ link_flows_cancel (length w) (a_of w) inside Y (both_ways w both) (λ i j h k t conducts. weight_is_of_links (λ z. inside z ≡ true) (whole_at w i).links j (closed i h t) conducts)
+
+-- The dry law: over such a set, each of whose heads lies at or below every bottom, elevation and fixed head there that conducts, the balances sum to at least the deep flows.
+pub dry_law : (w : List WholeCell) (Y : ℕ → ℤ) → IsMutual w → (inside : ℕ → Bool) (t : ℕ → ℤ) → ((c : ℕ) → c < length w → inside c ≡ true → (Y c ≤ℤ t c) × IsDry (t c) (whole_at w c)) → ((c : ℕ) → c < length w → inside c ≡ true → All (λ x. inside x.cell ≡ true) (whole_at w c).links) → sum_inside (length w) inside (λ c. whole_deep (whole_at w c)) ≤ℤ sum_inside (length w) inside (λ c. whole_balance (whole_at w c) (Y c) Y)
+dry_law w Y both inside t dry closed =
+    let links = λ (c : ℕ). total (whole_link Y (Y c)) (whole_at w c).links in
+    let deep = λ (c : ℕ). whole_deep (whole_at w c) in
+    let less = sum_at_most (length w) _ _ (λ c i. cell c i (inside c) refl) in
+    let parts = sum-same (length w) (λ c. cond (inside c) (links c +ℤ deep c) (pos 0)) (λ c. cond (inside c) (links c) (pos 0) +ℤ cond (inside c) (deep c) (pos 0)) (λ c i. split (inside c) (links c) (deep c)) ∙ sum-add (length w) (λ c. cond (inside c) (links c) (pos 0)) (λ c. cond (inside c) (deep c) (pos 0)) in
+    joined _ _ _ _ less parts (closed_cancel w inside Y both closed)
+  where
+    cell : (c : ℕ) → c < length w → (b : Bool) → inside c ≡ b → cond b (total (whole_link Y (Y c)) (whole_at w c).links +ℤ whole_deep (whole_at w c)) (pos 0) ≤ℤ cond b (whole_balance (whole_at w c) (Y c) Y) (pos 0)
+    cell c i true e =
+        let (low, dried) = dry c i e in
+        let some = total_nonneg _ (whole_fixed (Y c)) (whole_at w c).fixed (dry_fixed (Y c) (t c) low) dried.fixed in
+        omega (arith, ints, dry_balance Y (Y c) (t c) (whole_at w c) low dried, some)
+    cell c i false e = omega (arith, ints)
+
+    split : (b : Bool) (x y : ℤ) → cond b (x +ℤ y) (pos 0) ≡ cond b x (pos 0) +ℤ cond b y (pos 0)
+    split true x y = refl
+    split false x y = refl
+
+    joined : (a b k l : ℤ) → a ≤ℤ k → a ≡ l +ℤ b → l ≡ pos 0 → b ≤ℤ k
+    joined a b k l h e z = omega (arith, ints)

@@ -1,7 +1,8 @@
 -- The least deep flow of a cell is at most the exact one.
 use Rattle.cell_balance.proofs.Common.{ℕ, ◌*◌, arith, ℤ, pos, negsuc, ◌+ℤ◌, ◌-ℤ◌, ◌*ℤ◌, ◌≤ℤ◌, unsigned_abs, ◌≡◌, refl, neg_ℤ, List, [], ◌∷◌, All, int_max, ints}
-use Rattle.cell_balance.proofs.Common.{clamps, River, Evap, Entries, deep_river_low, total, branch_flow, deep_low, mul_mono_right, zero-*ℤ, Low, High, All-head}
-use Rattle.cell_balance.proofs.Common.{All-tail, diffs, as_diff, same_diff, mul_mono, least_times, most_times, AllZip, IsBetweenWhole, Side}
+use Rattle.cell_balance.proofs.Common.{clamps, River, Evap, Entries, total, branch_flow, bound_on, IsBetweenSigned, deep_low, mul_mono_right, zero-*ℤ, Low}
+use Rattle.cell_balance.proofs.Common.{High, All-head, All-tail, diffs, as_diff, same_diff, mul_mono, least_times, most_times, AllZip, IsBetweenWhole, Side}
+use Rattle.cell_balance.proofs.Common.{deep_river, total_mono_all}
 use Rattle.step_problem.specs.{full_rate}
 use Rattle.cell_balance.proofs.Scaling.{max_times}
 use Rattle.cell_balance.proofs.Zips.{WholeEntry, WholeCell, whole_deep_river, whole_full, whole_deep, FlowWithin, RiverWithin, EvapWithin, CellWithin}
@@ -29,8 +30,7 @@ total_nonneg P f [] each h = omega (arith, ints)
 total_nonneg P f (x ∷ xs) each h = let a = each x (All-head P x xs h) in let b = total_nonneg P f xs each (All-tail P x xs h) in omega (arith, ints, a, b)
 
 pub total_at_most : {X : Type 0} (P : X → Type 0) (f g : X → ℤ) (xs : List X) → ((x : X) → P x → f x ≤ℤ g x) → All P xs → total f xs ≤ℤ total g xs
-total_at_most P f g [] each h = omega (arith, ints)
-total_at_most P f g (x ∷ xs) each h = let a = each x (All-head P x xs h) in let b = total_at_most P f g xs each (All-tail P x xs h) in omega (arith, ints, a, b)
+total_at_most P f g xs each h = total_mono_all f g xs (λ k d i. each _ (h k d i))
 
 pub total_neg : {X : Type 0} (f : X → ℤ) (xs : List X) → total (λ x. neg_ℤ (f x)) xs ≡ neg_ℤ (total f xs)
 total_neg f [] = refl
@@ -41,6 +41,15 @@ total_neg f (x ∷ xs) = rw (total_neg f xs) (omega (arith, ints))
 abbrev pub Bounds : Side → ℤ → ℤ → Type 0
 Bounds Low a b = a ≤ℤ b
 Bounds High a b = b ≤ℤ a
+
+-- the bound on a side of a number that is known by bounds, and its other bound
+pub bound_bounds : (side : Side) (lo hi : ℤ) (n : ℕ) (z : ℤ) → IsBetweenSigned lo hi n z → Bounds side (bound_on side lo hi *ℤ pos n) z
+bound_bounds Low lo hi n z b = b.lower
+bound_bounds High lo hi n z b = b.upper
+
+pub bounds_other : (side : Side) (lo hi : ℤ) (n : ℕ) (z : ℤ) → IsBetweenSigned lo hi n z → Bounds side z (bound_on side hi lo *ℤ pos n)
+bounds_other Low lo hi n z b = b.upper
+bounds_other High lo hi n z b = b.lower
 
 -- the flow over a conductance and a difference of heads that are known by bounds
 pub entry_bounds : (side : Side) (lo hi c m n : ℕ) (d e : ℤ) → IsBetweenWhole lo hi m c → Bounds side (d *ℤ pos n) e → Bounds side (branch_flow side lo hi d *ℤ pos (m * n)) (pos c *ℤ e)
@@ -71,8 +80,8 @@ module _ {X Y : Type 0} (side : Side) (R : X → Y → Type 0) (f : X → ℤ) (
   total_bounds (x ∷ xs) [] h = absurd h
   total_bounds (x ∷ xs) (y ∷ ys) h = bounds_sum side (f x) (total f xs) k (g y) (total g ys) (each x y h.0) (total_bounds xs ys h.1)
 
-deep_river : (m n : ℕ) (p : River) (x : WholeEntry) → RiverWithin m n p x → (deep_river_low p *ℤ pos (m * n)) ≤ℤ whole_deep_river x
-deep_river m n p x r = entry_bounds Low p.lo p.hi x.c m n _ _ r.c (rw sub_mul (omega (arith, ints, r.top.lower, r.foot.upper)))
+deep_river_less : (m n : ℕ) (p : River) (x : WholeEntry) → RiverWithin m n p x → (deep_river Low p *ℤ pos (m * n)) ≤ℤ whole_deep_river x
+deep_river_less m n p x r = entry_bounds Low p.lo p.hi x.c m n _ _ r.c (rw sub_mul (omega (arith, ints, r.top.lower, r.foot.upper)))
 
 max_abs : (z : ℤ) → int_max z (pos 0) ≤ℤ pos (unsigned_abs z)
 max_abs (pos n) = omega (arith, ints, clamps)
@@ -88,7 +97,7 @@ pub deep_less : (m n cells : ℕ) (p : Entries) (w : WholeCell) → CellWithin m
 deep_less m n cells p w e =
     three _ _ _ (pos (m * n)) _ _ _
     (total_bounds Low (FlowWithin m n) (λ x. x.lo) (pos (m * n)) (λ q. q) (λ p q r. r.flow.lower) p.flows w.flows e.flows)
-    (total_bounds Low (RiverWithin m n) deep_river_low (pos (m * n)) whole_deep_river (deep_river m n) p.rivers w.rivers e.rivers)
+    (total_bounds Low (RiverWithin m n) (deep_river Low) (pos (m * n)) whole_deep_river (deep_river_less m n) p.rivers w.rivers e.rivers)
     (total_bounds High (EvapWithin m n) (λ x. pos (full_rate x)) (pos (m * n)) whole_full (full_within m n) p.evaps w.evaps e.evaps)
   where
     three : (a b g k c d f : ℤ) → (a *ℤ k) ≤ℤ c → (b *ℤ k) ≤ℤ d → f ≤ℤ (g *ℤ k) → ((a +ℤ b -ℤ g) *ℤ k) ≤ℤ (c +ℤ d -ℤ f)

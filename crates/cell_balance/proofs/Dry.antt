@@ -1,9 +1,9 @@
--- Below all bottoms and drains a cell gets at least its deep flow besides what its links and fixed links give; over a closed set links cancel.
+-- Below all bottoms and drains a cell gets at least its deep flow besides what its links and fixed links give; over any set of cells only the links that leave it count.
 use Rattle.cell_balance.proofs.Common.{◌≡◌, ℕ, ◌<◌, ◌⊎◌, inl, inr, refl, sym, ◌∙◌, arith, ℤ, pos, neg_ℤ, ◌+ℤ◌, ◌-ℤ◌, ◌≤ℤ◌, List, length, All, Bool, true, false}
 use Rattle.cell_balance.proofs.Common.{cond, ◌*ℤ◌, [], ◌∷◌, nat_eq, int_max, int_min, ints, clamps, zero-*ℤ, *ℤ-zero, total, mul_nonneg, mul_mono, mul_neg}
 use Rattle.cell_balance.proofs.Common.{sum_inside, sum_below, All-head, All-tail}
 use Rattle.cell_balance.proofs.Deep.{total-same, total_nonneg, total_at_most, total_neg, add_mul}
-use Rattle.cell_balance.proofs.Sums.{sum-same, sum-add, sum_at_most, sum_nonneg, sum-zero, sum-one, turned_cancel}
+use Rattle.cell_balance.proofs.Sums.{sum-same, sum-add, sum-zero, sum-one, turned_cancel}
 use Rattle.cell_balance.proofs.Zips.{WholeLink, WholeEntry, WholeCell, whole_link, whole_fixed, whole_river, whole_drain, whole_evap, whole_balance}
 use Rattle.cell_balance.proofs.Zips.{whole_deep_river, whole_full, whole_deep, whole_at, IsDry}
 
@@ -103,40 +103,3 @@ dry_balance Y y t w h dry =
   where
     six : (a b c d d' e f g n : ℤ) → d ≡ d' → pos 0 ≤ℤ e → n ≤ℤ f → n ≡ neg_ℤ g → ((a +ℤ d' -ℤ g) +ℤ (b +ℤ c)) ≤ℤ (a +ℤ b +ℤ c +ℤ d +ℤ e +ℤ f)
     six a b c d d' e f g n p q r s = omega (arith, ints)
-
-module _ (w : List WholeCell) (Y : ℕ → ℤ) (both : IsMutual w) (inside : ℕ → Bool) (t : ℕ → ℤ)
-    (dry : (c : ℕ) → c < length w → inside c ≡ true → (Y c ≤ℤ t c) × IsDry (t c) (whole_at w c))
-  where
-    dry_cell : (c : ℕ) → c < length w → (b : Bool) → inside c ≡ b → cond b (total (whole_link Y (Y c)) (whole_at w c).links +ℤ (whole_deep (whole_at w c) +ℤ total (whole_fixed (Y c)) (whole_at w c).fixed)) (pos 0) ≤ℤ cond b (whole_balance (whole_at w c) (Y c) Y) (pos 0)
-    dry_cell c i true e = omega (arith, ints, dry_balance Y (Y c) (t c) (whole_at w c) (dry c i e).0 (dry c i e).1)
-    dry_cell c i false e = omega (arith, ints)
-
-    split : (b : Bool) (l d f : ℤ) → cond b (l +ℤ (d +ℤ f)) (pos 0) ≡ cond b d (pos 0) +ℤ cond b (l +ℤ f) (pos 0)
-    split true l d f = omega (arith, ints)
-    split false l d f = refl
-
-    -- over a set of dry cells the balances sum to at least the deep flows and what comes over cut and fixed links
-    pub cut_sum : (sum_inside (length w) inside (λ c. whole_deep (whole_at w c)) +ℤ sum_inside (length w) inside (λ c. total (cut_link inside Y (Y c)) (whole_at w c).links +ℤ total (whole_fixed (Y c)) (whole_at w c).fixed)) ≤ℤ sum_inside (length w) inside (λ c. whole_balance (whole_at w c) (Y c) Y)
-    cut_sum =
-        let other = λ (c : ℕ). whole_deep (whole_at w c) +ℤ total (whole_fixed (Y c)) (whole_at w c).fixed in
-        let less = sum_at_most (length w) _ _ (λ c i. dry_cell c i (inside c) refl) in
-        let cut = cut_links w inside Y other both in
-        let parts = sum-same (length w) _ _ (λ c i. split (inside c) (total (cut_link inside Y (Y c)) (whole_at w c).links) (whole_deep (whole_at w c)) (total (whole_fixed (Y c)) (whole_at w c).fixed)) ∙ sum-add (length w) (λ c. cond (inside c) (whole_deep (whole_at w c)) (pos 0)) (λ c. cond (inside c) (total (cut_link inside Y (Y c)) (whole_at w c).links +ℤ total (whole_fixed (Y c)) (whole_at w c).fixed) (pos 0)) in
-        omega (arith, ints)
-
-    -- the dry law: over a closed set the balances sum to at least the deep flows
-    pub dry_law : ((c : ℕ) → c < length w → inside c ≡ true → All (λ x. inside x.cell ≡ true) (whole_at w c).links) → sum_inside (length w) inside (λ c. whole_deep (whole_at w c)) ≤ℤ sum_inside (length w) inside (λ c. whole_balance (whole_at w c) (Y c) Y)
-    dry_law closed = more (sum_inside (length w) inside (λ c. whole_deep (whole_at w c))) (sum_inside (length w) inside (λ c. total (cut_link inside Y (Y c)) (whole_at w c).links +ℤ total (whole_fixed (Y c)) (whole_at w c).fixed)) _ cut_sum (sum_nonneg (length w) _ (λ c i. some c i (inside c) refl))
-      where
-        more : (a b k : ℤ) → (a +ℤ b) ≤ℤ k → pos 0 ≤ℤ b → a ≤ℤ k
-        more a b k h j = omega (arith, ints)
-
-        no_cut : (y : ℤ) (x : WholeLink) → inside x.cell ≡ true → pos 0 ≤ℤ cut_link inside Y y x
-        no_cut y x e = rw e (omega (arith, ints))
-
-        some : (c : ℕ) → c < length w → (b : Bool) → inside c ≡ b → pos 0 ≤ℤ cond b (total (cut_link inside Y (Y c)) (whole_at w c).links +ℤ total (whole_fixed (Y c)) (whole_at w c).fixed) (pos 0)
-        some c i true e =
-            let a = total_nonneg _ (cut_link inside Y (Y c)) (whole_at w c).links (no_cut (Y c)) (closed c i e) in
-            let b = total_nonneg _ (whole_fixed (Y c)) (whole_at w c).fixed (dry_fixed (Y c) (t c) (dry c i e).0) (dry c i e).1.fixed in
-            omega (arith, ints, a, b)
-        some c i false e = omega (arith, ints)

@@ -1,9 +1,9 @@
 -- The bounds of single flows enclose them, from their whole numbers.
 use Rattle.cell_balance.proofs.Common.{ℕ, ◌+◌, ◌*◌, ◌^◌, ◌<◌, refl, sym, subst, arith, ℤ, pos, ◌-ℤ◌, ◌*ℤ◌, ◌≤ℤ◌, mul-pos, ints, Ratio, Fraction, den, IsOver}
-use Rattle.cell_balance.proofs.Common.{EnclosesSigned, IsBetweenSigned, Link, link_low, link_high, least, most, ExactLink, link_flow, fixed_flow, river_flow}
-use Rattle.cell_balance.proofs.Common.{drain_flow, evap_flow, LinkEncloses, BoundsHold, Side, Low, High}
+use Rattle.cell_balance.proofs.Common.{EnclosesSigned, IsBetweenSigned, Link, least, most, ExactLink, link_flow, fixed_flow, river_flow, drain_flow, evap_flow}
+use Rattle.cell_balance.proofs.Common.{LinkEncloses, BoundsHold, Side, Low, High}
 use Rattle.cell_balance.proofs.Deep.{sub_mul, entry_bounds}
-use Rattle.step_problem.specs.{fixed_flow as fixed_on, river_flow as river_on, drain_flow as drain_on, evap_flow as evap_on}
+use Rattle.step_problem.specs.{link_flow as link_on, fixed_flow as fixed_on, river_flow as river_on, drain_flow as drain_on, evap_flow as evap_on}
 use Rattle.cell_balance.proofs.Gaps.{Kind, whole_flow, IsSeen, seen_bounds, fixed_seen, river_seen, drain_seen, evap_seen}
 use Rattle.cell_balance.proofs.Gaps.Kind.{OfFixed, OfRiver, OfDrain, OfEvap}
 use Rattle.cell_balance.proofs.Enclosed.{between_share, between_over, flow_denominator, entry_within}
@@ -41,7 +41,7 @@ module _ (s : ℕ) (v : Fraction) (l u : ℤ) (own : EnclosesSigned l u 9 v) whe
       enclosed s d f (whole_flow k y w) _ _ (mul-pos (omega arith) (some_entry r top foot)) is
       (seen_bounds Low k d d (bound Low) w (by Low) u y between.upper) (seen_bounds High k d d (bound High) w (by High) l y between.lower)
 
-  link_holds : (d : ℕ) → 0 < d → Goes (den v) d → (p : Link) (x : ExactLink) (h : ℕ → Fraction) (L U : ℕ → ℤ) → Goes (den (h x.cell)) d → Goes (link_den x) d → LinkEncloses s p x → EnclosesSigned (L x.cell) (U x.cell) 9 (h x.cell) → EnclosesSigned (link_low L u p) (link_high U l p) (s + 9) (link_flow h v x)
+  link_holds : (d : ℕ) → 0 < d → Goes (den v) d → (p : Link) (x : ExactLink) (h : ℕ → Fraction) (L U : ℕ → ℤ) → Goes (den (h x.cell)) d → Goes (link_den x) d → LinkEncloses s p x → EnclosesSigned (L x.cell) (U x.cell) 9 (h x.cell) → EnclosesSigned (link_on Low L u p) (link_on High U l p) (s + 9) (link_flow h v x)
   link_holds d some go p x h L U there goes e other =
       let (y, over, between) = head d go in
       let (z, over_z) = fraction_over d (10 ^ 9) (h x.cell) there in

@@ -2,7 +2,7 @@
 use Rattle.cell_balance.proofs.Common.{◌≡◌, ℕ, zero, suc, ◌*◌, ◌<◌, ◌⊎◌, inl, inr, refl, ap, subst, arith, ℤ, pos, ◌*ℤ◌, ◌≤ℤ◌, List, length, All, Bool, true}
 use Rattle.cell_balance.proofs.Common.{mul-pos, ◌+ℤ◌, AllZip, cases_eq, ints, clamps, Ratio, Fraction, fraction_total, IsOver, IsShare, AtMost, total}
 use Rattle.cell_balance.proofs.Common.{ExactCell, cell_at, no_cell, link_flow, balance, share, total_inside, IsClosed, deep_flow, LiesBelow, LinksCancel}
-use Rattle.cell_balance.proofs.Common.{BalanceFalls, BalanceRises, DryLaw, mul_mono_right, mul_mono}
+use Rattle.cell_balance.proofs.Common.{BalanceFalls, BalanceRises, DryLaw, mul_mono_right, mul_mono, loss_falls, total_mono}
 use Rattle.cell_balance.proofs.Zips.{AllZip-at, AllZip-length, All-zip, IsDry, WholeCell, whole_at, no_whole, whole_link, whole_balance, whole_deep}
 use Rattle.cell_balance.proofs.Zips.{whole_fixed, whole_river, whole_drain, whole_evap}
 use Rattle.cell_balance.proofs.Scaling.{IsOver-total, over_zero}
@@ -11,9 +11,7 @@ use Rattle.cell_balance.proofs.Over.{LinkOver, FixedOver, RiverOver, DrainOver, 
 use Rattle.cell_balance.proofs.Denominators.{cell_common, step_common}
 use Rattle.cell_balance.proofs.Encloses.{whole_cell, whole_step, share_is}
 use Rattle.cell_balance.proofs.Mutual.{mutual_whole}
-use Rattle.cell_balance.proofs.Conducting.{closed_cancel}
-use Rattle.cell_balance.proofs.Dry.{dry_law}
-use Rattle.step_problem.proofs.Falls.{loss_falls, total_mono}
+use Rattle.cell_balance.proofs.Conducting.{closed_cancel, dry_law}
 use Rattle.cell_balance.proofs.Deep.{total_at_most}
 
 -- A whole balance falls weakly in its own head and rises weakly in the others.

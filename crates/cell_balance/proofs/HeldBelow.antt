@@ -10,8 +10,8 @@ use Rattle.cell_balance.proofs.Sums.{sum-times, sum_at_most, sum-same, sum-zero}
 use Rattle.cell_balance.proofs.WholeBalances.{ramps_from, a_of, b_of, q_of, ramps_at_cell}
 use Rattle.cell_balance.proofs.Deep.{deep_less}
 use Rattle.cell_balance.proofs.Ramps.{IsClosed, extent, deep, IsHeldFromBelow}
-use Rattle.cell_balance.proofs.Conducting.{All-back, links_lead_to_weight, weight_is_of_links, no_known_conductance, no_known_flow, total_nothing}
-use Rattle.cell_balance.proofs.Dry.{IsMutual, dry_law}
+use Rattle.cell_balance.proofs.Conducting.{dry_law, All-back, links_lead_to_weight, weight_is_of_links, no_known_conductance, no_known_flow, total_nothing}
+use Rattle.cell_balance.proofs.Dry.{IsMutual}
 
 -- The cells of a carried component do not all lie below their bottoms and drains.
 -- one more link at the end of a way

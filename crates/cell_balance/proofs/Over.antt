@@ -1,7 +1,8 @@
 -- An exact step and its whole numbers: conductances over k, heads over m, flows over k * m.
 use Rattle.cell_balance.proofs.Common.{◌≡◌, ℕ, ◌*◌, subst, arith, ℤ, pos, ◌+ℤ◌, ◌-ℤ◌, ◌*ℤ◌, AllZip, int_max, int_min, ints, Fraction, IsOver, whole, signed}
 use Rattle.cell_balance.proofs.Common.{times, Ratio, IsShare, total, ExactFlow, ExactLink, ExactFixed, ExactRiver, ExactDrain, ExactEvap, ExactCell, minus}
-use Rattle.cell_balance.proofs.Common.{greater, lesser, link_flow, fixed_flow, river_flow, drain_flow, evap_flow, balance, deep_flow, deep_river, full_rate}
+use Rattle.cell_balance.proofs.Common.{greater, lesser, link_flow, fixed_flow, river_flow, drain_flow, evap_flow, balance, deep_flow, full_rate}
+use Rattle.cell_balance.specs.{deep_river}
 use Rattle.cell_balance.proofs.Scaling.{IsOver-plus, IsOver-times, IsOver-negated, IsOver-minus, IsOver-none, IsOver-signed, IsOver-greater, IsOver-lesser}
 use Rattle.cell_balance.proofs.Scaling.{IsOver-total}
 use Rattle.cell_balance.proofs.Zips.{WholeLink, WholeEntry, WholeCell, whole_link, whole_fixed, whole_river, whole_drain, whole_evap, whole_balance, whole_deep}

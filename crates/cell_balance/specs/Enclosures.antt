@@ -13,7 +13,8 @@ use Rattle.step_problem.specs.declared.entry.Evap.{Evap}
 use Rattle.step_problem.specs.Entries.{Entries}
 use Rattle.cell_balance.specs.Steps.{ExactFlow, ExactLink, ExactFixed, ExactRiver, ExactDrain, ExactEvap, ExactCell, HasEqualEnds}
 use Rattle.cell_balance.specs.Balance.{SolvesStep, LiesBetween}
-use Rattle.step_problem.specs.{entries_at, total, deep_river_low, full_rate}
+use Rattle.step_problem.specs.declared.heads.Side.TheVariants.{Low}
+use Rattle.step_problem.specs.{entries_at, total, deep_river, full_rate}
 
 module _ (s : ℕ) where
   pub record FlowEncloses (p : Flow) (e : ExactFlow) : Type 0 where
@@ -76,7 +77,7 @@ sum_inside n inside f = sum_below n (λ k. cond (inside k) (f k) (pos 0))
 -- The least deep flow of a cell, which it gets where its head lies below all bottoms: its constant flows and its
 -- rivers at their bottoms, less its evaporations at their full rate.
 abbrev pub deep_low : Entries → ℤ
-deep_low c = total (λ x. x.lo) c.flows +ℤ total deep_river_low c.rivers -ℤ total (λ x. pos (full_rate x)) c.evaps
+deep_low c = total (λ x. x.lo) c.flows +ℤ total (deep_river Low) c.rivers -ℤ total (λ x. pos (full_rate x)) c.evaps
 
 -- j links lead from cell a to cell b
 abbrev pub Reaches : List Entries → ℕ → ℕ → ℕ → Type 0

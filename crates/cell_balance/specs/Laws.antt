@@ -3,8 +3,9 @@ use Rattle.std.specs.Prelude.{◌≡◌, ℕ, ◌<◌, List, length, All, Bool, 
 use Rattle.decimal_input.specs.{fraction_total, Fraction, signed, negated, EnclosesSigned}
 use Rattle.decimal_input.specs.Fractions.{AtMost, den, times, Same}
 use Rattle.step_problem.specs.Entries.{Entries}
-use Rattle.step_problem.specs.{IsProblem, Edges, head_at, IsCertificate, link_low, fixed_low, river_low, drain_low, evap_low, link_high, fixed_high, river_high}
-use Rattle.step_problem.specs.{drain_high, evap_high}
+use Rattle.step_problem.specs.{IsProblem, Edges, head_at, IsCertificate, link_flow as link_bound, fixed_flow as fixed_bound, river_flow as river_bound}
+use Rattle.step_problem.specs.{drain_flow as drain_bound, evap_flow as evap_bound}
+use Rattle.step_problem.specs.declared.heads.Side.TheVariants.{Low, High}
 use Rattle.cell_balance.specs.Steps.{ExactCell, cell_at, AreLinked, ExactLink, ExactFixed, ExactRiver, ExactDrain, ExactEvap}
 use Rattle.cell_balance.specs.Balance.{link_flow, balance, share, SolvesStep, LiesBetween, minus, fixed_flow, river_flow, drain_flow, evap_flow, total_inside}
 use Rattle.cell_balance.specs.Balance.{IsClosed, deep_flow, LiesBelow, deep_river, full_rate}
@@ -106,11 +107,11 @@ pub record FlowsAreRight : Type 0 where
 pub record FlowsAreEnclosed (s : ℕ) (v : Fraction) (l u : ℤ) : Type 0 where
   pub links : (p : Link) (x : ExactLink) (h : ℕ → Fraction) (L U : ℕ → ℤ) → LinkEncloses s p x →
       EnclosesSigned (L x.cell) (U x.cell) 9 (h x.cell) →
-      EnclosesSigned (link_low L u p) (link_high U l p) (s + 9) (link_flow h v x)
-  pub fixed : (p : Fixed) (x : ExactFixed) → FixedEncloses s p x → EnclosesSigned (fixed_low u p) (fixed_high l p) (s + 9) (fixed_flow v x)
-  pub rivers : (p : River) (x : ExactRiver) → RiverEncloses s p x → EnclosesSigned (river_low u p) (river_high l p) (s + 9) (river_flow v x)
-  pub drains : (p : Drain) (x : ExactDrain) → DrainEncloses s p x → EnclosesSigned (drain_low u p) (drain_high l p) (s + 9) (drain_flow v x)
-  pub evaps : (p : Evap) (x : ExactEvap) → EvapEncloses s p x → EnclosesSigned (evap_low u p) (evap_high l p) (s + 9) (evap_flow v x)
+      EnclosesSigned (link_bound Low L u p) (link_bound High U l p) (s + 9) (link_flow h v x)
+  pub fixed : (p : Fixed) (x : ExactFixed) → FixedEncloses s p x → EnclosesSigned (fixed_bound Low u p) (fixed_bound High l p) (s + 9) (fixed_flow v x)
+  pub rivers : (p : River) (x : ExactRiver) → RiverEncloses s p x → EnclosesSigned (river_bound Low u p) (river_bound High l p) (s + 9) (river_flow v x)
+  pub drains : (p : Drain) (x : ExactDrain) → DrainEncloses s p x → EnclosesSigned (drain_bound Low u p) (drain_bound High l p) (s + 9) (drain_flow v x)
+  pub evaps : (p : Evap) (x : ExactEvap) → EvapEncloses s p x → EnclosesSigned (evap_bound Low u p) (evap_bound High l p) (s + 9) (evap_flow v x)
 
 abbrev pub BoundsHold : Type 0
 BoundsHold = (s : ℕ) (v : Fraction) (l u : ℤ) → EnclosesSigned l u 9 v → FlowsAreEnclosed s v l u

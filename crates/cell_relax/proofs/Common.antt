@@ -5,7 +5,7 @@ pub use Rattle.std.proofs.lemmas.Int.{by_lt_z, clamps, ints, to_z-of_z}
 pub use Rattle.std.specs.Int.{w128, w64}
 pub use Rattle.cell_relax.specs.{AreWords, IsAsTight, IsRelaxedOn, LetsMove, Moves, RelaxedKeepOrder, heads_on, other, tighter_of, turned_on}
 pub use Rattle.step_problem.proofs.BothSides.{high_side, le_trans, low_side}
-pub use Rattle.step_problem.proofs.Falls.{lower_falls, lower_rises, upper_falls, upper_rises}
+pub use Rattle.step_problem.proofs.Falls.{balance_falls, balance_rises}
 pub use Rattle.step_problem.specs.{IsHead, IsProblem, balance, ends_in, entries_at, link_at, no_link}
 pub use Rattle.step_problem.specs.Entries.{Entries}
 pub use Rattle.step_problem.specs.declared.heads.Side.{Side}

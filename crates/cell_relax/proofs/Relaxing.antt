@@ -1,7 +1,7 @@
 -- The search for a relaxed head.
 use Rattle.cell_relax.proofs.Common.{◌≡◌, ℕ, ◌⊎◌, inl, inr, refl, arith, sym, ◌∙◌, subst, List, ℤ, pos, ◌-ℤ◌, ◌≤ℤ◌, ◌<ℤ◌, ◌+◌, ◌<◌, ap, [], ◌∷◌, ◌++◌, length}
 use Rattle.cell_relax.proofs.Common.{take, slice_set, All, get_or, ints, by_lt_z, Side, Low, High, Entries, entries_at, ends_in, IsHead, balance, no_link}
-use Rattle.cell_relax.proofs.Common.{link_at, lower_falls, upper_falls, IsAsTight, LetsMove, Moves, IsRelaxedOn, turned_on}
+use Rattle.cell_relax.proofs.Common.{link_at, balance_falls, IsAsTight, LetsMove, Moves, IsRelaxedOn, turned_on}
 use Rattle.std.proofs.lemmas.List.{take_more, take_more_set, map-append}
 use Rattle.std.proofs.lemmas.List.Elements.{All-map}
 use Rattle.step_problem.specs.declared.entry.Link.{Link}
@@ -20,8 +20,8 @@ head_turned High v h = record { above = omega (arith, ints, h.below); below = om
 
 -- a cell that may go somewhere may stop before
 falls_on : (side : Side) (c : Entries) (h : ℕ → ℤ) (v w : ℤ) → v ≤ℤ w → LetsMove side (balance side c (turned_on side w) h) → LetsMove side (balance side c (turned_on side v) h)
-falls_on Low c h v w le moves = let falls = lower_falls c h v w le in omega (arith, ints, falls, moves)
-falls_on High c h v w le moves = let falls = upper_falls c h (turned_on High w) (turned_on High v) (omega (arith, ints, le)) in omega (arith, ints, falls, moves)
+falls_on Low c h v w le moves = let falls = balance_falls Low c h v w le in omega (arith, ints, falls, moves)
+falls_on High c h v w le moves = let falls = balance_falls High c h (turned_on High w) (turned_on High v) (omega (arith, ints, le)) in omega (arith, ints, falls, moves)
 
 -- turned upwards: a head to which the cell may go, or its own, and one further to which it may not
 pub record Relaxing (side : Side) (p : List Entries) (c : ℕ) (own : ℤ) (values : List ℤ) (reached beyond : ℤ) : Type 0 where

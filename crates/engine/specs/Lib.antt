@@ -31,11 +31,11 @@ pub use Rattle.engine.specs.Made.{IsMade, made_task, summed_text}
 pub use Rattle.engine.specs.OneListing.{OneSummary, OneVerdict}
 pub use Rattle.engine.specs.Parts.{Answers, AnswersBeside, AreDecksAs, AreDecksOf, IsListed, IsMadeRun, IsNamedFault, IsNoSecond, IsReadingEnd, IsStopped}
 pub use Rattle.engine.specs.Parts.{IsUnlikeFault, IsValid, IsValidJob, made_fault, second_by}
-pub use Rattle.engine.specs.Runs.{Comes, Decided, GoesThrough, HasBatch, HasCertified, HasDeck, HasListing, HasTask, IsLeft, IsPlain, IsPlainJob, IsRunOf, Puts}
+pub use Rattle.engine.specs.Runs.{Comes, Decided, GoesThrough, HasBatch, HasCertified, HasDeck, HasListing, HasTask, IsLeft, IsPlain, IsPlainJob, IsRunOf}
 pub use Rattle.engine.specs.Serving.{IsProgramEnd, IsRunResult, IsStopNumber, bytes_asked, files_if, files_named, files_of}
 pub use Rattle.engine.specs.SpanHeadline.{ArePairOf, OneSpan, SpanCertified, SpanVerdict}
 pub use Rattle.engine.specs.Storage.{IsStored, StorageHolds}
-pub use Rattle.engine.specs.TwoDecks.{AreRead, IsDecksRefusal, Second, not_alike, of_both, of_first, of_second}
+pub use Rattle.engine.specs.TwoDecks.{IsDecksRefusal, Second, not_alike, of_both, of_first, of_second}
 unfoldable pub use Rattle.engine.specs.TwoDecks.{second_in}
 pub use Rattle.engine.specs.Watched.{AreFirstViews, ArePutInTurn, AreViews, AreWatched, IsView, IsWatched, Shows, SidePuts, ViewPutsOf, lines_of, views_asked}
 pub use Rattle.engine.specs.Watched.{views_in}

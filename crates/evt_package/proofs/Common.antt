@@ -1,7 +1,7 @@
 -- Names that several proofs of this crate cite, of the crates below and of its own definitions, passed on from one place. Declares nothing.
-pub use Rattle.std.proofs.Common.{All, Bool, Err, List, None, Ok, Option, Result, Some, [], ap, arith, cond, false, get_or, inl, inr, length, map, nat_le}
-pub use Rattle.std.proofs.Common.{nat_lt, neg_ℤ, negsuc, not, pos, refl, rules, subst, suc, sym, true, zero, zero-add, ℕ, ℤ, ◌&&◌, ◌*◌, ◌+ℤ◌, ◌+◌, ◌-◌, ◌<◌}
-pub use Rattle.std.proofs.Common.{◌==◌, ◌||◌, ◌∙◌, ◌≡◌, ◌≤ℤ◌, ◌≤◌, ◌⊎◌, ◌^◌}
+pub use Rattle.std.proofs.Common.{All, Bool, List, None, Ok, Option, Some, [], ap, arith, cond, false, get_or, inl, inr, length, map, nat_le, nat_lt, neg_ℤ}
+pub use Rattle.std.proofs.Common.{negsuc, not, pos, refl, rules, subst, suc, sym, true, zero, zero-add, ℕ, ℤ, ◌&&◌, ◌*◌, ◌+ℤ◌, ◌+◌, ◌-◌, ◌<◌, ◌==◌, ◌||◌, ◌∙◌}
+pub use Rattle.std.proofs.Common.{◌≡◌, ◌≤ℤ◌, ◌≤◌, ◌⊎◌}
 pub use Rattle.std.proofs.lemmas.Bool.{and_parts, cases_lt, eqb-true, le-leb, lt-ltb, not-true}
 pub use Rattle.std.proofs.lemmas.Int.{ints}
 pub use Rattle.std.proofs.lemmas.Nat.{div-add-mod', mod_below}
@@ -14,8 +14,5 @@ pub use Rattle.model_types.specs.{EvapSource, HasSize, IsEvapValid, IsModel, IsP
 pub use Rattle.model_types.specs.{is_highest, is_int, is_nonzero, layer_of, layer_size, no_period, period_at, place_in_layer}
 pub use Rattle.model_types.specs.declared.grid.Grid.{Grid}
 pub use Rattle.model_types.specs.declared.model.FlowModel.{FlowModel}
-pub use Rattle.number_limits.specs.{is_head, is_positive, within, ceiling, floor, small}
-pub use Rattle.record_lines.specs.{◌>>=◌}
-unfoldable pub use Rattle.record_lines.specs.{counted}
-unfoldable pub use Rattle.number_limits.specs.{ceiling_of, floor_of}
+pub use Rattle.number_limits.specs.{is_head, is_positive, within}
 pub use Rattle.record_lines.proofs.Loops.{each_step, step_goes_on, steps_done, steps_end}

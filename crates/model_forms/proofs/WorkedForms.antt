@@ -6,8 +6,7 @@ use Rattle.model_forms.proofs.Common.{rivers, drains, generals, IsShort, number_
 use Rattle.model_forms.proofs.Common.{IsListOf, IsDry, IsStill, IsWritable, model_reads, all_plain, scaled, is_at_most, line_text, text, row_line, row_lines}
 use Rattle.model_forms.proofs.Common.{real_array, integer_array, written, ratio, units_of, is_thick, dis_lines, dis_item_1, dis_item_2, dis_item_3, dis_item_4}
 use Rattle.model_forms.proofs.Common.{dis_item_5, dis_item_6, dis_item_7, bas_lines, bas_item_1, bas_item_2, bas_item_3, bas_item_4, lpf_lines, lpf_item_1}
-use Rattle.model_forms.proofs.Common.{lpf_zeros, lpf_item_4, lpf_item_5, lpf_arrays, file_type, name_item, AreNames, word_by_test}
-use Rattle.model_forms.proofs.Common.{IsPeriod}
+use Rattle.model_forms.proofs.Common.{lpf_zeros, lpf_item_4, lpf_item_5, lpf_arrays, file_type, name_item, AreNames, word_by_test, IsPeriod}
 use Rattle.std.specs.Fmt.{decimal as numeral}
 use Rattle.std.proofs.lemmas.Fmt.{decimal_digit}
 use Rattle.std.proofs.lemmas.Int.{ints}

@@ -1,7 +1,6 @@
 // The data of the lines so far.
 use crate::entries::{cell_of_row, empty_cell, push_entry};
 use crate::moves::Move;
-use cell_balance::example::example;
 use std::alloc::{AllocError, Global};
 use step_problem::{Bound, Cell, Problem, fits};
 use test_lines::{bounds_of, number_at};
@@ -77,7 +76,6 @@ impl Given {
     ) -> Result<bool, AllocError> {
         match word {
             "problem" => *self = Given::new(alloc),
-            "example" => self.stage = Stage::Made(example(alloc)?),
             "heads" => self.bounds = bounds_of(alloc, numbers)?,
             "moves" => self.moves = Vec::new(alloc),
             _ => {

@@ -5,7 +5,7 @@
 //! `link INDEX C C`, `storage C C HEAD HEAD` (or `general`; `constant` with its cell number first), `well FLOW FLOW` (or
 //! `recharge`), `river C C STAGE STAGE BOTTOM BOTTOM`, `drain C C ELEVATION ELEVATION`, `evaporation C C EXTINCTION
 //! EXTINCTION SURFACE SURFACE`. `row COUNT` gives cells in a row, each beside a general head of its own, from 0 to 9 in
-//! turn, and `example` is the problem of the definitions' example.
+//! turn.
 //!
 //! Asked are `fits` (how many cells the problem has, where it is one), `raised INDEX HEAD HEAD ..` and `sunk` (the raise and
 //! sink values of a cell at its own head and those of its links), `barrier`, `guess`, `sweeps ROUNDS`, `workers WORKERS TURNS

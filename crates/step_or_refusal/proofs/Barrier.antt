@@ -1,14 +1,14 @@
 -- A problem has a barrier or a first cause against one, and a cut barrier or a cell without a bound: both at the least cell that has the cause.
 use Rattle.step_or_refusal.proofs.Common.{◌≡◌, ℕ, ◌<◌, ◌≤◌, ◌⊎◌, inl, inr, refl, sym, subst, arith, List, length, map, ℤ, pos, neg_ℤ, cases_lt, ints, by_lt_z}
 use Rattle.step_or_refusal.proofs.Common.{Side, Low, High, IsProblem, head_limit, Entries, entries_at, IsBoundOn, HasNoBound, IsOutOfRange, no_barrier_on}
-use Rattle.step_or_refusal.proofs.Common.{range_on, Nowhere, IsLeastWith, Names, IsRefusedOn, has_a_bound, NoBound, CutBarrierOrRefusal, cut_on, IsCutBoundOn}
-use Rattle.step_or_refusal.proofs.Common.{AreCutBounds, RefusesOn, Refuses, BarrierOrRefusal, range_with_len, length-map-range_with_len}
-use Rattle.step_or_refusal.proofs.Common.{get_or-map-range_with_len, head_at, number_of, IsWholeSide}
+use Rattle.step_or_refusal.proofs.Common.{range_on, Nowhere, IsLeastWith, Names, IsRefusedOn, NoBound, CutBarrierOrRefusal, cut_on, IsCutBoundOn, AreCutBounds}
+use Rattle.step_or_refusal.proofs.Common.{RefusesOn, Refuses, BarrierOrRefusal, range_with_len, length-map-range_with_len, get_or-map-range_with_len, head_at}
+use Rattle.step_or_refusal.proofs.Common.{number_of, IsWholeSide, Decided, IsFirstBelow, first_or_none}
+use Rattle.barrier_vector.proofs.Uniques.{has_a_bound}
 use Rattle.step_problem.specs.declared.refusal.StepRefusal.{StepRefusal}
 use Rattle.step_problem.specs.declared.place.Place.TheVariants.{Cell}
 use Rattle.barrier_vector.proofs.Sides.{cut_nowhere_without, refused_out_of_range, side_is_whole}
 use Rattle.step_or_refusal.proofs.Bounds.{bound_or_none}
-use Rattle.step_or_refusal.proofs.Decided.{Decided, IsFirst, first_or_none}
 
 -- a number for each cell, as a list
 module _ (n : ℕ) (P : ℕ → ℤ → Type 0) (each : (c : ℕ) → c < n → (f : ℤ) × P c f) where
@@ -26,7 +26,7 @@ module _ (n : ℕ) (P : ℕ → ℤ → Type 0) (each : (c : ℕ) → c < n → 
   listed : (xs : List ℤ) × (length xs ≡ n) × ((c : ℕ) → c < n → P c (head_at xs c))
   listed = (map value_at (range_with_len 0 n), length-map-range_with_len value_at 0 n, λ c h. subst (P c) (sym (get_or-map-range_with_len value_at 0 n c c (pos 0) h (omega arith))) (value_is c (cases_lt c n) h))
 
-least : (p : List Entries) (P : ℕ → Type 0) (c : ℕ) → IsFirst P (length p) c → IsLeastWith p P c
+least : (p : List Entries) (P : ℕ → Type 0) (c : ℕ) → IsFirstBelow P (length p) c → IsLeastWith p P c
 least p P c is = record { within = is.within; has = is.has; least = is.least }
 
 abbrev refusal : List Entries → ℕ → ℕ → Side → NoBound

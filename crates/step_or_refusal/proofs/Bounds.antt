@@ -1,44 +1,10 @@
 -- Each cell of a problem has a floor or a cause against one, and a ceiling or a cause against one.
-use Rattle.step_or_refusal.proofs.Common.{ℕ, ◌+◌, ◌<◌, ◌⊎◌, inl, inr, refl, arith, List, length, ℤ, pos, ◌-ℤ◌, ◌≡◌, zero, suc, subst, add-one, [], ◌∷◌, Option}
-use Rattle.step_or_refusal.proofs.Common.{None, Some, cases_lt, Side, Low, High, IsProblem, entries_at, Entries, anchor_on, AnchorRoot, IsUnanchored, moved_out}
-use Rattle.step_or_refusal.proofs.Common.{IsAnchoredBound, IsBoundOn, need, ceil_over, IsPath, HasNoBound, fixed_mark, river_mark, drain_mark, outer_of}
-use Rattle.step_or_refusal.proofs.Common.{IsOutermost, IsMarkIn, IsCellMark, IsMarkBelow, IsBase, reaches_within}
-use Rattle.step_or_refusal.proofs.Components.{carried_decided, inner_path, longest}
-use Rattle.step_or_refusal.proofs.Decided.{Decided, first_or_none, path, of_all, first_entry, later_entry}
-use Rattle.step_or_refusal.proofs.Ways.{LeadTo, leading_decided}
-use Rattle.std.specs.Option.{unwrap_or}
-use Rattle.barrier_vector.proofs.Marking.{outer_joins, no_marks, no_cells, cells_more, outermost_as, one_mark}
-
--- A problem has a base on each side: the outermost of its marks, or 0.
-marks : {X : Type 0} (side : Side) (mark : X → Option ℤ) (xs : List X) → (o : Option ℤ) × IsOutermost side (IsMarkIn mark xs) o
-marks side mark [] = (None, no_marks side mark)
-marks {X} side mark (x ∷ xs) =
-    let (o, is) = marks side mark xs in
-    (outer_of side (mark x) o, outermost_as side (λ v. (mark x ≡ Some v) ⊎ IsMarkIn mark xs v) (IsMarkIn mark (x ∷ xs)) (outer_of side (mark x) o) to back (outer_joins side (λ v. mark x ≡ Some v) (IsMarkIn mark xs) (mark x) o (one_mark side (mark x)) is))
-  where
-    to : (v : ℤ) → (mark x ≡ Some v) ⊎ IsMarkIn mark xs v → IsMarkIn mark (x ∷ xs) v
-    to v (inl e) = (x, first_entry x xs, e)
-    to v (inr (z, has, e)) = (z, later_entry x z xs has, e)
-
-    back : (v : ℤ) → IsMarkIn mark (x ∷ xs) v → (mark x ≡ Some v) ⊎ IsMarkIn mark xs v
-    back v (z, has, e) = of_all (λ (z : X). mark z ≡ Some v → (mark x ≡ Some v) ⊎ IsMarkIn mark xs v) x xs (λ e. inl e) (λ z has e. inr (z, has, e)) z has e
-
-cell_marks : (side : Side) (c : Entries) → (o : Option ℤ) × IsOutermost side (IsCellMark side c) o
-cell_marks side c =
-    let (a, a_is) = marks side (fixed_mark side) c.fixed in
-    let (b, b_is) = marks side (river_mark side) c.rivers in
-    let (d, d_is) = marks side (drain_mark side) c.drains in
-    (outer_of side a (outer_of side b d), outer_joins side (IsMarkIn (fixed_mark side) c.fixed) (λ v. IsMarkIn (river_mark side) c.rivers v ⊎ IsMarkIn (drain_mark side) c.drains v) a (outer_of side b d) a_is (outer_joins side (IsMarkIn (river_mark side) c.rivers) (IsMarkIn (drain_mark side) c.drains) b d b_is d_is))
-
-marks_below : (side : Side) (p : List Entries) (n : ℕ) → (o : Option ℤ) × IsOutermost side (IsMarkBelow side p n) o
-marks_below side p zero = (None, no_cells side p)
-marks_below side p (suc n) =
-    let (best, so_far) = marks_below side p n in
-    let (o, here) = cell_marks side (entries_at p n) in
-    (outer_of side best o, subst (λ (k : ℕ). IsOutermost side (IsMarkBelow side p k) (outer_of side best o)) (add-one n) (cells_more side p n best o (outer_of side best o) refl so_far here))
-
-pub base : (side : Side) (p : List Entries) → (b : ℤ) × IsBase side p b
-base side p = let (o, is) = marks_below side p (length p) in (unwrap_or o (pos 0), (o, is, refl))
+use Rattle.step_or_refusal.proofs.Common.{ℕ, ◌+◌, ◌<◌, ◌⊎◌, inl, inr, refl, arith, List, length, ℤ, pos, ◌-ℤ◌, cases_lt, Side, Low, High, IsProblem, entries_at}
+use Rattle.step_or_refusal.proofs.Common.{Entries, anchor_on, AnchorRoot, IsUnanchored, moved_out, IsAnchoredBound, IsBoundOn, need, ceil_over, IsPath}
+use Rattle.step_or_refusal.proofs.Common.{HasNoBound, base_on, Decided, first_or_none, path}
+use Rattle.barrier_vector.proofs.CarriedRoots.{reaches_within}
+use Rattle.barrier_vector.proofs.Components.{carried_decided, inner_path, longest}
+use Rattle.barrier_vector.proofs.Ways.{LeadTo, leading_decided}
 
 module _ (p : List Entries) (ok : IsProblem p) where
   module _ (side : Side) (q : ℕ) where
@@ -72,9 +38,8 @@ module _ (p : List Entries) (ok : IsProblem p) where
 
   anchored_or_not : (side : Side) (c : ℕ) → c < length p → ((f : ℤ) × IsAnchoredBound side p c f) ⊎ IsUnanchored side p c
   anchored_or_not side c h =
-      let (b, b_is) = base side p in
       elim (path_or_none side (need side p) c h) [
-        | inl (s, is) ↦ inl (moved_out side b s, (b, b_is, s, is, refl))
+        | inl (s, is) ↦ inl (moved_out side (base_on side p) s, (s, is, refl))
         | inr none ↦ inr none
       ]
 
@@ -86,9 +51,8 @@ module _ (p : List Entries) (ok : IsProblem p) where
         | inr none ↦ elim (carried_decided p ok c) [
           | inr fails ↦ inr (none, fails)
           | inl carried ↦
-              let (b, b_is) = base Low p in
               let (s, s_is) = inner_path p ok c h in
               let (t, t_is) = longest p ok c h in
-              inl (b -ℤ pos (s + t), inr (b, b_is, none, carried, s, s_is, t, t_is, refl))
+              inl (base_on Low p -ℤ pos (s + t), inr (none, carried, s, s_is, t, t_is, refl))
         ]
       ]

@@ -1,17 +1,14 @@
 -- Names that several proofs of this crate cite, of the crates below and of its own definitions, passed on from one place. Declares nothing.
-pub use Rattle.std.proofs.Common.{Bool, Contains, Err, List, None, Ok, Option, Result, Some, [], add-one, ap, arith, cond, false, inl, inr, length, map, neg_ℤ}
-pub use Rattle.std.proofs.Common.{pos, refl, subst, suc, sym, true, zero, ℕ, ℤ, ◌+◌, ◌-ℤ◌, ◌<ℤ◌, ◌<◌, ◌∙◌, ◌∷◌, ◌≡◌, ◌≤ℤ◌, ◌≤◌, ◌⊎◌}
-pub use Rattle.std.proofs.lemmas.Bool.{cases_Bool, cases_eq, cases_lt, false≢true}
+pub use Rattle.std.proofs.Common.{Bool, Err, List, None, Ok, Option, Result, Some, [], ap, arith, false, inl, inr, length, map, neg_ℤ, pos, refl, subst, sym}
+pub use Rattle.std.proofs.Common.{true, ℕ, ℤ, ◌+◌, ◌-ℤ◌, ◌<ℤ◌, ◌<◌, ◌∙◌, ◌∷◌, ◌≡◌, ◌≤ℤ◌, ◌≤◌, ◌⊎◌}
+pub use Rattle.std.proofs.lemmas.Bool.{cases_Bool, cases_lt, false≢true}
 pub use Rattle.std.proofs.lemmas.Int.{by_lt_z, ints}
 pub use Rattle.std.proofs.lemmas.List.FromFn.{get_or-map-range_with_len, length-map-range_with_len}
 pub use Rattle.std.specs.List.{range_with_len}
-pub use Rattle.barrier_vector.proofs.CarriedRoots.{join_ways, leads_within, reaches_within}
-pub use Rattle.barrier_vector.proofs.Uniques.{has_a_bound, inner_one, same_tests}
-pub use Rattle.barrier_vector.specs.{AnchorRoot, AreCutBounds, HasNoBound, IsAnchoredBound, IsBase, IsBoundOn, IsCellMark, IsCutBoundOn, IsInnerPath}
-pub use Rattle.barrier_vector.specs.{IsLeastWith, IsLevel, IsLongest, IsMarkBelow, IsMarkIn, IsOutOfRange, IsOutermost, IsPath, IsRefusedOn, IsUnanchored}
-pub use Rattle.barrier_vector.specs.{IsWholeSide, LeadsToRoot, LeastRoot, Names, Nowhere, Refuses, RefusesOn, SumsTo, anchor_on, ceil_over, clamped, cut_on}
-pub use Rattle.barrier_vector.specs.{drain_mark, fixed_mark, lack, moved_out, need, no_barrier_on, outer_of, range_on, river_mark}
-pub use Rattle.cell_balance.specs.{IsCarried, IsComponent, Reaches, deep_low, sum_inside}
+pub use Rattle.barrier_vector.proofs.Decided.{Decided, IsFirstBelow, first_or_none, path}
+pub use Rattle.barrier_vector.specs.{AnchorRoot, AreCutBounds, HasNoBound, IsAnchoredBound, IsBoundOn, IsCutBoundOn, IsLeastWith, IsOutOfRange, IsPath}
+pub use Rattle.barrier_vector.specs.{IsRefusedOn, IsUnanchored, IsWholeSide, Names, Nowhere, Refuses, RefusesOn, anchor_on, base_on, ceil_over, clamped, cut_on}
+pub use Rattle.barrier_vector.specs.{moved_out, need, no_barrier_on, range_on}
 pub use Rattle.deck_problems.specs.{IsBefore, one_deck}
 pub use Rattle.model_types.specs.{IsModel, cell_count, index_of, is_active, is_variable, times}
 pub use Rattle.model_types.specs.declared.model.FlowModel.{FlowModel}
@@ -25,7 +22,6 @@ pub use Rattle.step_or_refusal.specs.{BarrierOrRefusal, CutBarrierOrRefusal, Lis
 pub use Rattle.step_problem.specs.{AreSettled, Edges, IsCertificate, IsFirstSettled, IsHead, IsProblem, IsSettledPair, SettledPairExists, entries_at, head_at}
 pub use Rattle.step_problem.specs.{head_limit, lower_at, lower_balance, no_bound, number_of, upper_at, upper_balance}
 pub use Rattle.step_problem.specs.Entries.{Entries}
-pub use Rattle.step_problem.specs.declared.entry.Link.{Link}
 pub use Rattle.step_problem.specs.declared.heads.Bound.{Bound}
 pub use Rattle.step_problem.specs.declared.heads.Side.{Side}
 pub use Rattle.step_problem.specs.declared.heads.Side.TheVariants.{High, Low}

@@ -2,11 +2,10 @@
 use Rattle.step_or_refusal.proofs.Common.{inl, inr, ℕ, ℤ, List, pos, arith, ◌≤ℤ◌, ◌<ℤ◌, ◌⊎◌, ProblemFits, ProblemOrRefusal, ConstantPairsExist, StepOrRefusal}
 use Rattle.step_or_refusal.proofs.Common.{Bound, Edges, lower_at, upper_at, head_at, FlowModel, TimeStep, one_deck, IsBefore, NoBound, Entries, entries_at}
 use Rattle.step_or_refusal.proofs.Common.{IsCertificate, Solved, HasNoHeads, IsSettledStep, edges_fit, BarrierOrRefusal, CutBarrierOrRefusal, by_lt_z, ints}
-use Rattle.step_or_refusal.proofs.Common.{Side, Low, High, clamped, range_on, SettledPairExists, lower_balance, upper_balance}
+use Rattle.step_or_refusal.proofs.Common.{Side, Low, High, clamped, range_on, SettledPairExists, lower_balance, upper_balance, Decided}
 use Rattle.step_or_refusal.proofs.Settled.{settled_list, heads_list}
 use Rattle.step_problem.proofs.BothSettle.{pair_certifies}
 use Rattle.model_types.specs.declared.limits.Limits.TheVariants.{Plain, Wide}
-use Rattle.step_or_refusal.proofs.Decided.{Decided}
 use Rattle.step_or_refusal.proofs.Barrier.{refuses_or_not}
 use Rattle.certificate_check.specs.{HoldsAt, IsRangeRefusal}
 

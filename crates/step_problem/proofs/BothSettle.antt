@@ -1,7 +1,7 @@
 -- Both sides of a problem can be searched, so there is one settled pair, and it is a certificate.
 use Rattle.step_problem.proofs.Common.{◌≡◌, ℕ, ◌⊎◌, inl, inr, arith, ℤ, pos, negsuc, ◌+ℤ◌, ◌-ℤ◌, ◌≤ℤ◌, List, ints, by_lt_z, up, Entries, entries_at, IsHead}
-use Rattle.step_problem.proofs.Common.{head_limit, Ge, CanRise, CanSink, head_at, SettledPairExists, SettledPairIsOne, SettledPairCertifies}
-use Rattle.step_problem.proofs.Falls.{lower_falls, upper_falls}
+use Rattle.step_problem.proofs.Common.{head_limit, Ge, CanRise, CanSink, head_at, SettledPairExists, SettledPairIsOne, SettledPairCertifies, Low, High}
+use Rattle.step_problem.proofs.Falls.{balance_falls}
 use Rattle.step_problem.proofs.BothSides.{low_side, high_side, le_trans, le_anti}
 use Rattle.step_problem.proofs.SidesSettled.{IsSearchable, first_settled_is_there, first_settled_certifies}
 
@@ -47,7 +47,7 @@ low_searchable p = record {
   less_room = λ x y p q le. omega (arith, ints, above_is x p, above_is y q, le);
   same_room = λ x y p q le e. omega (arith, ints, above_is x p, above_is y q, e);
   decide = λ c v l. decide_le _ _;
-  stops_before = λ c v w l le can. le_trans _ _ _ can (lower_falls (entries_at p c) l v w le);
+  stops_before = λ c v w l le can. le_trans _ _ _ can (balance_falls Low (entries_at p c) l v w le);
 }
 
 pub high_searchable : (p : List Entries) → IsSearchable Ge (CanSink p)
@@ -64,7 +64,7 @@ high_searchable p = record {
   less_room = λ x y p q le. omega (arith, ints, below_is x p, below_is y q, le);
   same_room = λ x y p q le e. omega (arith, ints, below_is x p, below_is y q, e);
   decide = λ c v u. decide_le _ _;
-  stops_before = λ c v w u le can. le_trans _ _ _ (upper_falls (entries_at p c) u w v le) can;
+  stops_before = λ c v w u le can. le_trans _ _ _ (balance_falls High (entries_at p c) u w v le) can;
 }
 
 pub settled_pair_is_there : SettledPairExists

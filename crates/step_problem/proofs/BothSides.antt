@@ -1,8 +1,8 @@
 -- The lower and the upper side of a problem are sides.
 use Rattle.step_problem.proofs.Common.{◌≡◌, ℕ, ◌<◌, arith, ℤ, ◌≤ℤ◌, List, length, ints, All, All-weaker, Link, Entries, entries_at, IsProblem, Ge, CanRise}
 use Rattle.step_problem.proofs.Common.{CanSink, pos, neg_ℤ, ◌+ℤ◌, ◌-ℤ◌, ◌<ℤ◌, clamps, by_lt_z, int_min, int_max, IsHead, head_limit, AreHeads, IsSettled}
-use Rattle.step_problem.proofs.Common.{LowerShifts, UpperShifts}
-use Rattle.step_problem.proofs.Falls.{lower_rises, upper_rises, lower_moves, upper_moves}
+use Rattle.step_problem.proofs.Common.{LowerShifts, UpperShifts, Low, High}
+use Rattle.step_problem.proofs.Falls.{balance_rises, balance_moves}
 use Rattle.step_problem.proofs.Sides.{IsSide}
 
 pub le_refl : (x : ℤ) → x ≤ℤ x
@@ -23,7 +23,7 @@ low_side p ok = record {
   refl = le_refl;
   trans = le_trans;
   anti = le_anti;
-  helps = λ c v l m h up can. le_trans _ _ _ can (lower_rises (entries_at p c) v l m (at_ends (λ k. l k ≤ℤ m k) p ok up c h));
+  helps = λ c v l m h up can. le_trans _ _ _ can (balance_rises Low (entries_at p c) v l m (at_ends (λ k. l k ≤ℤ m k) p ok up c h));
 }
 
 pub high_side : (p : List Entries) → IsProblem p → IsSide Ge (CanSink p) (length p)
@@ -31,17 +31,17 @@ high_side p ok = record {
   refl = le_refl;
   trans = λ x y z a b. le_trans z y x b a;
   anti = λ x y a b. le_anti x y b a;
-  helps = λ c v l m h up can. le_trans _ _ _ (upper_rises (entries_at p c) v m l (at_ends (λ k. m k ≤ℤ l k) p ok up c h)) can;
+  helps = λ c v l m h up can. le_trans _ _ _ (balance_rises High (entries_at p c) v m l (at_ends (λ k. m k ≤ℤ l k) p ok up c h)) can;
 }
 
 -- A shift of all heads by so many units: balances get no better, so settled heads stay settled.
 pub lower_shifts : LowerShifts
 lower_shifts c k v w h g up ends =
-    lower_moves c v w g h (omega (arith, ints)) (All-weaker (λ (x : Link). g x.cell ≤ℤ (h x.cell +ℤ pos k)) (λ (x : Link). (g x.cell -ℤ v) ≤ℤ (h x.cell -ℤ w)) (λ x i. omega (arith, ints, i)) c.links ends)
+    balance_moves Low c v w g h (omega (arith, ints)) (λ i d lt. omega (arith, ints, ends i d lt))
 
 pub upper_shifts : UpperShifts
 upper_shifts c k v w h g down ends =
-    upper_moves c w v h g (omega (arith, ints)) (All-weaker (λ (x : Link). (h x.cell -ℤ pos k) ≤ℤ g x.cell) (λ (x : Link). (h x.cell -ℤ w) ≤ℤ (g x.cell -ℤ v)) (λ x i. omega (arith, ints, i)) c.links ends)
+    balance_moves High c w v h g (omega (arith, ints)) (λ i d lt. omega (arith, ints, ends i d lt))
 
 -- a head so many units tighter, cut at the end of the range
 abbrev pub raised : ℕ → ℤ → ℤ

@@ -12,11 +12,11 @@ pub use Rattle.std.specs.Prelude.{All, Err, Ok, Result}
 pub use Rattle.step_problem.specs.{AreCertified, AreHeads, AreSeen, AreSettled, AsTight, CanRise, CanSink, Edges, FallsInOwnHead, Ge, Gives, IsBarrier}
 pub use Rattle.step_problem.specs.{IsCertified, IsExchange, IsFirstSettled, IsGiven, IsHead, IsNoTighterThanSettled, IsOnTheWay, IsPairOf, IsPast, IsProblem}
 pub use Rattle.step_problem.specs.{IsRelaxed, IsRound, IsSettled, IsWithin, KeepsOrder, LeavingSettles, LinksFit, LowerShifts, PairKind, RisesInOtherHeads}
-pub use Rattle.step_problem.specs.{Rounds, RoundsSettle, SettledPairCertifies, SettledPairExists, SettledPairIsOne, UpperShifts, balance, branch_flow}
-pub use Rattle.step_problem.specs.{certified, deep_river_high, deep_river_low, drain_flow, drain_high, drain_low, ends_in, entries_at, evap_flow, evap_high}
-pub use Rattle.step_problem.specs.{evap_low, fixed_flow, fixed_high, fixed_low, flow_bound, full_rate, head_at, head_limit, least, link_at, link_flow}
-pub use Rattle.step_problem.specs.{link_high, link_low, lower_at, lower_balance, magnitude, most, no_entries, no_link, river_flow, river_high, river_low}
-pub use Rattle.step_problem.specs.{settled, total, upper_at, upper_balance}
+pub use Rattle.step_problem.specs.{RiverFits, Rounds, RoundsSettle, SettledPairCertifies, SettledPairExists, SettledPairIsOne, UpperShifts, balance, bound_on}
+pub use Rattle.step_problem.specs.{branch_flow, certified, deep_river, drain_flow, ends_in, entries_at, evap_flow, fixed_flow, flow_bound, head_at, head_limit}
+pub use Rattle.step_problem.specs.{least, link_at, link_flow, lower_at, most, no_entries, no_link, river_flow, settled, total, upper_at}
 pub use Rattle.step_problem.specs.Entries.{Entries}
 pub use Rattle.step_problem.specs.declared.entry.Link.{Link}
+pub use Rattle.step_problem.specs.declared.heads.Side.{Side}
+pub use Rattle.step_problem.specs.declared.heads.Side.TheVariants.{High, Low}
 pub use borrow.Author.Differences.{le_out, up}

@@ -1,11 +1,10 @@
 -- Sums of flows: how far each lies from zero, and one step of a loop that makes them.
 use Rattle.step_problem.proofs.Common.{◌≡◌, refl, sym, subst, ◌∙◌, ℕ, suc, ◌+◌, ◌*◌, ◌^◌, ◌<◌, ◌≤◌, ap, arith, ℤ, pos, negsuc, ◌+ℤ◌, ◌-ℤ◌, ◌*ℤ◌, List, length}
-use Rattle.step_problem.proofs.Common.{get_or, take, drop, sum_by, FitsSigned, w128, at_drop_more, get_or-map, mul-le-mul, ints, Link, Entries, ends_in}
-use Rattle.step_problem.proofs.Common.{link_at, no_link, branch_flow, flow_bound, link_flow, fixed_flow, river_flow, drain_flow, evap_flow, balance, total}
-use Rattle.step_problem.proofs.Common.{IsWithin}
+use Rattle.step_problem.proofs.Common.{get_or, min, take, drop, sum_by, FitsSigned, w128, at_drop_more, get_or-map, mul-le-mul, mul-le-mul_right, ints, clamps}
+use Rattle.step_problem.proofs.Common.{Link, ends_in, neg_ℤ, int_max, link_at, no_link, branch_flow, link_flow, river_flow, deep_river, head_limit, total}
+use Rattle.step_problem.proofs.Common.{IsWithin, RiverFits, Side, Low, High}
+use Rattle.step_problem.specs.declared.entry.River.{River}
 use Rattle.std.proofs.lemmas.List.Sums.{sum_by_more, sum_by-take-le}
-use Rattle.step_problem.specs.declared.heads.Side.{Side}
-use Rattle.step_problem.specs.declared.heads.Side.TheVariants.{Low, High}
 
 pub IsWithin-add : (a b : ℤ) (m n k : ℕ) → IsWithin a m → IsWithin b n → m + n ≤ k → IsWithin (a +ℤ b) k
 IsWithin-add a b m n k p q r = record { above = omega (arith, ints); below = omega (arith, ints) }
@@ -29,19 +28,23 @@ pub within_step : {X : Type 0} (g : X → ℕ) (xs : List X) (i m : ℕ) (d x : 
 within_step g xs i m d x s t h is p q = let same : g x * m ≡ g (get_or xs i d) * m = ap (λ y. g y * m) is in rw (sum_by_more g xs i d h) (IsWithin-add s t _ _ _ p q (omega (arith, same)))
 
 -- a sum over part of a list stays below what the weights of the whole list allow
-pub FitsSigned-part : {X : Type 0} (g : X → ℕ) (xs : List X) (i m top : ℕ) (z : ℤ) → sum_by g xs < top → IsWithin z (sum_by g (take i xs) * m) → top * m < 2 ^ 127 → FitsSigned w128 z
-FitsSigned-part g xs i m top z h w small = let le : sum_by g (take i xs) * m ≤ top * m = mul-le-mul (omega (arith, sum_by-take-le g xs i)) (omega arith) in FitsSigned-within z (sum_by g (take i xs) * m) w (omega arith)
+pub FitsSigned-part : {X : Type 0} (g : X → ℕ) (xs : List X) (i m : ℕ) (z : ℤ) → sum_by g xs * m < 2 ^ 123 → IsWithin z (sum_by g (take i xs) * m) → FitsSigned w128 z
+FitsSigned-part g xs i m z h w = let le : sum_by g (take i xs) * m ≤ sum_by g xs * m = mul-le-mul_right m (sum_by-take-le g xs i) in FitsSigned-within z (sum_by g (take i xs) * m) w (omega (arith, le, h))
 
 -- the flow over a link, with the head that is listed for its other end
 pub link_flow_is : (side : Side) (h : ℕ → ℤ) (own : ℤ) (links : List Link) (values : List ℤ) (i : ℕ) (t : ℤ) → ends_in h links ≡ values → i < length links → t ≡ branch_flow side (link_at links i).lo (link_at links i).hi (get_or values i (pos 0) -ℤ own) → t ≡ link_flow side h own (link_at links i)
 link_flow_is side h own links values i t e lt r =
     let there : get_or values i (pos 0) ≡ h (link_at links i).cell = sym (ap (λ vs. get_or vs i (pos 0)) e) ∙ get_or-map (λ (x : Link). h x.cell) links i no_link (pos 0) lt in
-    subst (λ v. t ≡ branch_flow side (link_at links i).lo (link_at links i).hi (v -ℤ own)) there r ∙ by_side side
-  where
-    by_side : (side : Side) → branch_flow side (link_at links i).lo (link_at links i).hi (h (link_at links i).cell -ℤ own) ≡ link_flow side h own (link_at links i)
-    by_side Low = refl
-    by_side High = refl
+    subst (λ v. t ≡ branch_flow side (link_at links i).lo (link_at links i).hi (v -ℤ own)) there r
 
-pub balance_is : (side : Side) (c : Entries) (own : ℤ) (h : ℕ → ℤ) → balance side c own h ≡ total (flow_bound side) c.flows +ℤ total (link_flow side h own) c.links +ℤ total (fixed_flow side own) c.fixed +ℤ total (river_flow side own) c.rivers +ℤ total (drain_flow side own) c.drains +ℤ total (evap_flow side own) c.evaps
-balance_is Low c own h = refl
-balance_is High c own h = refl
+-- a river's flow at the least head is its deep flow
+pub deep_is : (side : Side) (x : River) → RiverFits x → river_flow side (neg_ℤ (pos head_limit)) x ≡ deep_river side x
+deep_is Low x fits = let deep : int_max (neg_ℤ (pos head_limit)) x.bottom_hi ≡ x.bottom_hi = omega (arith, ints, clamps, fits.bottom_hi.above) in rw deep refl
+deep_is High x fits = let deep : int_max (neg_ℤ (pos head_limit)) x.bottom_lo ≡ x.bottom_lo = omega (arith, ints, clamps, fits.bottom_lo.above) in rw deep refl
+
+-- one more size goes into a sum that stops at a cap
+pub capped_more : {X : Type 0} (g : X → ℕ) (xs : List X) (i cap : ℕ) (d x : X) (s t u : ℕ) → i < length xs → x ≡ get_or xs i d → s ≡ min (sum_by g (take i xs)) cap → t ≡ g x → u ≡ min (s + t) cap → u ≡ min (sum_by g (take (i + 1) xs)) cap
+capped_more g xs i cap d x s t u h is so_far here more = rw (sum_by_more g xs i d h) (capped _ _ so_far (here ∙ ap g is))
+  where
+    capped : (a b : ℕ) → s ≡ min a cap → t ≡ b → u ≡ min (a + b) cap
+    capped a b p q = omega (arith, more)

@@ -28,79 +28,47 @@ abbrev pub total : {X : Type 0} → (X → ℤ) → List X → ℤ
 total f [] = pos 0
 total f (x ∷ xs) = f x +ℤ total f xs
 
--- the least flow of each kind of entry into a cell whose head is v; cell k has the head h k
-abbrev pub link_low : (ℕ → ℤ) → ℤ → Link → ℤ
-link_low h v x = least x.lo x.hi (h x.cell -ℤ v)
-
-abbrev pub fixed_low : ℤ → Fixed → ℤ
-fixed_low v x = least x.lo x.hi (x.head_lo -ℤ v)
-
-abbrev pub river_low : ℤ → River → ℤ
-river_low v x = least x.lo x.hi (x.stage_lo -ℤ int_max v x.bottom_hi)
-
-abbrev pub drain_low : ℤ → Drain → ℤ
-drain_low v x = neg_ℤ (pos x.hi *ℤ int_max (v -ℤ x.elev_lo) (pos 0))
-
-abbrev pub evap_low : ℤ → Evap → ℤ
-evap_low v x = neg_ℤ (pos x.hi *ℤ int_max (int_min v x.surf_hi -ℤ x.ext_lo) (pos 0))
-
--- the lower balance of a cell at its head v, where cell k has the head h k
-abbrev pub lower_balance : Entries → ℤ → (ℕ → ℤ) → ℤ
-lower_balance c v h =
-    total (λ x. x.lo) c.flows +ℤ total (link_low h v) c.links +ℤ total (fixed_low v) c.fixed
-    +ℤ total (river_low v) c.rivers +ℤ total (drain_low v) c.drains +ℤ total (evap_low v) c.evaps
-
--- the greatest flow of each kind of entry
-abbrev pub link_high : (ℕ → ℤ) → ℤ → Link → ℤ
-link_high h v x = most x.lo x.hi (h x.cell -ℤ v)
-
-abbrev pub fixed_high : ℤ → Fixed → ℤ
-fixed_high v x = most x.lo x.hi (x.head_hi -ℤ v)
-
-abbrev pub river_high : ℤ → River → ℤ
-river_high v x = most x.lo x.hi (x.stage_hi -ℤ int_max v x.bottom_lo)
-
-abbrev pub drain_high : ℤ → Drain → ℤ
-drain_high v x = neg_ℤ (pos x.lo *ℤ int_max (v -ℤ x.elev_hi) (pos 0))
-
-abbrev pub evap_high : ℤ → Evap → ℤ
-evap_high v x = neg_ℤ (pos x.lo *ℤ int_max (int_min v x.surf_lo -ℤ x.ext_hi) (pos 0))
-
--- the upper balance of a cell at its head v, where cell k has the head h k
-abbrev pub upper_balance : Entries → ℤ → (ℕ → ℤ) → ℤ
-upper_balance c v h =
-    total (λ x. x.hi) c.flows +ℤ total (link_high h v) c.links +ℤ total (fixed_high v) c.fixed
-    +ℤ total (river_high v) c.rivers +ℤ total (drain_high v) c.drains +ℤ total (evap_high v) c.evaps
-
--- The flows of a cell on either side of its bounds: the least on the lower side, the greatest on the upper.
+-- The flow of each kind of entry into a cell whose head is v, on a side of its bounds: the least one on the lower side,
+-- the greatest one on the upper side.
 abbrev pub branch_flow : Side → ℕ → ℕ → ℤ → ℤ
 branch_flow Low = least
 branch_flow High = most
 
-abbrev pub flow_bound : Side → Flow → ℤ
-flow_bound Low x = x.lo
-flow_bound High x = x.hi
+-- the bound of a value from lo to hi, on a side
+abbrev pub bound_on : {X : Type 0} → Side → X → X → X
+bound_on Low lo hi = lo
+bound_on High lo hi = hi
 
+abbrev pub flow_bound : Side → Flow → ℤ
+flow_bound side x = bound_on side x.lo x.hi
+
+-- C * (head at the other end - head), where cell k has the head h k
 abbrev pub link_flow : Side → (ℕ → ℤ) → ℤ → Link → ℤ
-link_flow Low = link_low
-link_flow High = link_high
+link_flow side h v x = branch_flow side x.lo x.hi (h x.cell -ℤ v)
 
 abbrev pub fixed_flow : Side → ℤ → Fixed → ℤ
-fixed_flow Low = fixed_low
-fixed_flow High = fixed_high
+fixed_flow side v x = branch_flow side x.lo x.hi (bound_on side x.head_lo x.head_hi -ℤ v)
 
+-- C * (stage - head), where the head counts from the river's bottom up
 abbrev pub river_flow : Side → ℤ → River → ℤ
-river_flow Low = river_low
-river_flow High = river_high
+river_flow side v x = branch_flow side x.lo x.hi (bound_on side x.stage_lo x.stage_hi -ℤ int_max v (bound_on side x.bottom_hi x.bottom_lo))
 
+-- C * (elevation - head) above the drain's elevation, 0 below
 abbrev pub drain_flow : Side → ℤ → Drain → ℤ
-drain_flow Low = drain_low
-drain_flow High = drain_high
+drain_flow side v x = branch_flow side x.lo x.hi (int_min (bound_on side x.elev_lo x.elev_hi -ℤ v) (pos 0))
 
+-- C * (extinction - head), where the head counts from the extinction elevation up to the surface
 abbrev pub evap_flow : Side → ℤ → Evap → ℤ
-evap_flow Low = evap_low
-evap_flow High = evap_high
+evap_flow side v x = branch_flow side x.lo x.hi (int_min (bound_on side x.ext_lo x.ext_hi -ℤ int_min v (bound_on side x.surf_hi x.surf_lo)) (pos 0))
 
+-- the balance of a cell on a side, at its head v, where cell k has the head h k
 abbrev pub balance : Side → Entries → ℤ → (ℕ → ℤ) → ℤ
-balance Low = lower_balance
-balance High = upper_balance
+balance side c v h =
+    total (flow_bound side) c.flows +ℤ total (link_flow side h v) c.links +ℤ total (fixed_flow side v) c.fixed
+    +ℤ total (river_flow side v) c.rivers +ℤ total (drain_flow side v) c.drains +ℤ total (evap_flow side v) c.evaps
+
+abbrev pub lower_balance : Entries → ℤ → (ℕ → ℤ) → ℤ
+lower_balance = balance Low
+
+abbrev pub upper_balance : Entries → ℤ → (ℕ → ℤ) → ℤ
+upper_balance = balance High

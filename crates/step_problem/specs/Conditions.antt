@@ -6,7 +6,9 @@ use Rattle.step_problem.specs.declared.entry.River.{River}
 use Rattle.step_problem.specs.declared.entry.Drain.{Drain}
 use Rattle.step_problem.specs.declared.entry.Evap.{Evap}
 use Rattle.step_problem.specs.Entries.{Entries, entries_at, link_at}
-use Rattle.step_problem.specs.Balances.{least, most}
+use Rattle.step_problem.specs.declared.heads.Side.{Side}
+use Rattle.step_problem.specs.declared.heads.Side.TheVariants.{Low, High}
+use Rattle.step_problem.specs.Balances.{bound_on, branch_flow}
 
 -- z lies from -b to b
 pub record IsWithin (z : ℤ) (b : ℕ) : Type 0 where
@@ -60,12 +62,9 @@ conductance_of c =
 abbrev pub magnitude : ℤ → ℤ → ℕ
 magnitude lo hi = max (unsigned_abs lo) (unsigned_abs hi)
 
--- the bounds of a river's deep flow, which it gives where the head is at or below its bottom
-abbrev pub deep_river_low : River → ℤ
-deep_river_low x = least x.lo x.hi (x.stage_lo -ℤ x.bottom_hi)
-
-abbrev pub deep_river_high : River → ℤ
-deep_river_high x = most x.lo x.hi (x.stage_hi -ℤ x.bottom_lo)
+-- a bound of a river's deep flow, which it gives where the head is at or below its bottom
+abbrev pub deep_river : Side → River → ℤ
+deep_river side x = branch_flow side x.lo x.hi (bound_on side x.stage_lo x.stage_hi -ℤ bound_on side x.bottom_hi x.bottom_lo)
 
 -- the greatest rate of an evaporation
 abbrev pub full_rate : Evap → ℕ
@@ -74,7 +73,7 @@ full_rate x = x.hi * unsigned_abs (x.surf_hi -ℤ x.ext_lo)
 -- the sum of the magnitudes of a cell's constant and deep flows
 abbrev pub flow_of : Entries → ℕ
 flow_of c =
-    sum_by (λ x. magnitude x.lo x.hi) c.flows + sum_by (λ x. magnitude (deep_river_low x) (deep_river_high x)) c.rivers
+    sum_by (λ x. magnitude x.lo x.hi) c.flows + sum_by (λ x. magnitude (deep_river Low x) (deep_river High x)) c.rivers
     + sum_by full_rate c.evaps
 
 -- the conditions on a cell alone

@@ -8,7 +8,8 @@ mod sums;
 use crate::entry::Cell;
 use crate::heads::Side;
 use crate::problem::Problem;
-use sums::{sum_branches, sum_flows, sum_links};
+pub use sums::sum_branches;
+use sums::sum_links;
 
 /// The lower balance of a cell at its head `own`, where `values` are lower heads of the cells at its links' other ends, in the order of the links.
 pub fn low_at(p: &Problem, cell: usize, own: i64, values: &[i64]) -> i128
@@ -39,7 +40,7 @@ fn balance_at(side: Side, cell: &Cell, own: i64, values: &[i64]) -> i128
     requires same { length values.now ≡ length cell.now.links }
     ensures { (h : ℕ → ℤ) → ends_in h cell.now.links ≡ values.now → result ≡ balance side cell.now own h }
 {
-    let flows = sum_flows(side, &cell.flows);
+    let flows = sum_branches(side, own, &cell.flows);
     let links = sum_links(side, own, &cell.links, values);
     let fixed = sum_branches(side, own, &cell.fixed);
     let rivers = sum_branches(side, own, &cell.rivers);

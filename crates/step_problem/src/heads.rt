@@ -1,4 +1,7 @@
 // Heads of a problem's cells, in units of 10^-9 length units, and what a settler returns.
+ghost use Rattle.std.specs.Prelude.{◌≡◌};
+ghost use Rattle.step_problem.specs.Balances.{bound_on};
+
 use std::fmt;
 use std::marker::Model;
 
@@ -14,6 +17,18 @@ pub struct Bound {
 pub enum Side {
     Low,
     High,
+}
+
+impl Side {
+    /// The bound of a value from `lo` to `hi` on this side.
+    pub fn bound_of<T: Drop>(self, lo: T, hi: T) -> T
+        ensures { result ≡ bound_on self lo hi }
+    {
+        match self {
+            Side::Low => lo,
+            Side::High => hi,
+        }
+    }
 }
 
 impl fmt::Display for Side {

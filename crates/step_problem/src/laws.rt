@@ -3,14 +3,14 @@ ghost use Rattle.step_problem.specs.{lower_balance, upper_balance, LowerShifts, 
 ghost use Rattle.step_problem.specs.{RoundsKeepOrder, SettledPairExists, SettledPairIsOne, SettledPairCertifies};
 
 /// A balance falls weakly in its own head.
-#[tactic(auto, using(crate::proofs::Falls::lower_falls, crate::proofs::Falls::upper_falls))]
+#[tactic(auto, using(crate::proofs::Falls::balance_falls))]
 pub fn balances_fall()
     ensures lower { FallsInOwnHead lower_balance }
     ensures upper { FallsInOwnHead upper_balance }
 {}
 
 /// A balance rises weakly in the head at the other end of each link.
-#[tactic(auto, using(crate::proofs::Falls::lower_rises, crate::proofs::Falls::upper_rises))]
+#[tactic(auto, using(crate::proofs::Falls::balance_rises))]
 pub fn balances_rise()
     ensures lower { RisesInOtherHeads lower_balance }
     ensures upper { RisesInOtherHeads upper_balance }

@@ -1,16 +1,17 @@
 // The sums of a cell's flows, a kind of entry at a time.
 ghost use Rattle.std.specs.Prelude.{◌≡◌, ◌<◌, ◌≤◌, ◌+◌, ◌*◌, ◌^◌, ℕ, ℤ, ◌-ℤ◌, All, length, sum_by};
-ghost use Rattle.step_problem.specs.{ends_in, total, branch_flow, flow_bound, link_flow, IsHead, IsWithin, LinkFits, magnitude};
+ghost use Rattle.step_problem.specs.{ends_in, total, branch_flow, link_flow, IsHead, IsWithin, LinkFits};
 
 use crate::balance::branch::Branch;
-use crate::entry::{Flow, Link};
-use crate::flow::{least_flow, most_flow};
+use crate::entry::Link;
+use crate::flow::branch_flow;
 use crate::heads::Side;
 
-pub(crate) fn sum_branches<E: Branch>(side: Side, own: i64, entries: &[E]) -> i128
+/// The sum of the flows of entries of one kind, at the cell's head `own`.
+pub fn sum_branches<E: Branch>(side: Side, own: i64, entries: &[E]) -> i128
     requires own { IsHead own }
     requires fit { All E.fits entries.now }
-    requires conductances { sum_by E.conductance entries.now < 2 ^ 60 }
+    requires weights { sum_by E.weight entries.now * E.unit < 2 ^ 123 }
     ensures value { result ≡ total (E.flow side own) entries.now }
     ensures within { IsWithin result (2 ^ 123) }
 {
@@ -28,10 +29,7 @@ fn link_flow_at(side: Side, own: i64, x: &Link, end: i64) -> i128
     ensures value { result ≡ branch_flow side x.now.lo x.now.hi (end -ℤ own) }
     ensures within { IsWithin result (x.now.hi * 2 ^ 63) }
 {
-    match side {
-        Side::Low => least_flow(x.lo, x.hi, end - own),
-        Side::High => most_flow(x.lo, x.hi, end - own),
-    }
+    branch_flow(side, x.lo, x.hi, end - own)
 }
 
 // `values` are the heads at the links' other ends, in the order of the links.
@@ -47,28 +45,6 @@ pub(crate) fn sum_links(side: Side, own: i64, links: &[Link], values: &[i64]) ->
     let mut sum: i128 = 0;
     for (i, x) in links.iter().enumerate() {
         sum += link_flow_at(side, own, x, values[i]);
-    }
-    sum
-}
-
-fn flow_bound_at(side: Side, x: &Flow) -> i128
-    ensures value { result ≡ flow_bound side x.now }
-    ensures within { IsWithin result (magnitude x.now.lo x.now.hi * 1) }
-{
-    match side {
-        Side::Low => x.lo,
-        Side::High => x.hi,
-    }
-}
-
-pub(crate) fn sum_flows(side: Side, flows: &[Flow]) -> i128
-    requires { sum_by (λ x. magnitude x.lo x.hi) flows.now < 2 ^ 109 }
-    ensures value { result ≡ total (flow_bound side) flows.now }
-    ensures within { IsWithin result (2 ^ 123) }
-{
-    let mut sum: i128 = 0;
-    for x in flows {
-        sum += flow_bound_at(side, x);
     }
     sum
 }

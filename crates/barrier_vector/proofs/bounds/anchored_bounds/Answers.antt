@@ -1,5 +1,5 @@
-use Rattle.barrier_vector.proofs.Common.{◌+◌, ap, ◌∙◌, sym, subst, length, length-append, List, Option, ℤ, ℕ, ◌∷◌, [], FitsSigned, w64, to_z-of_z, need}
-use Rattle.barrier_vector.proofs.Common.{capped_flow, IsAnchoredOrNone, AreAnchorPaths}
+use Rattle.barrier_vector.proofs.Common.{◌+◌, ap, ◌∙◌, sym, subst, length, length-append, List, Option, ℤ, ℕ, ◌∷◌, [], need, capped_flow, IsAnchoredOrNone}
+use Rattle.barrier_vector.proofs.Common.{AreAnchorPaths}
 use Rattle.barrier_vector.proofs.Rooting.{searched_as, bounds_more}
 use Rattle.barrier_vector.proofs.Uniques.{paths_made}
 use Rattle.barrier_vector.proofs.Outlining.{need_whole, roots_whole, roots_on}
@@ -7,7 +7,6 @@ use Rattle.barrier_vector.proofs.bounds.anchored_bounds.Goals as goal
 
 pub anchored_bound-requires-clause-paths : goal.anchored_bound-requires-clause-paths
 anchored_bound-requires-clause-paths c =
-    let base_fits : FitsSigned w64 c.args.base = c.ranges.base in
     let side = c.args.side in
     let p = c.args.p.now in
     let o = c.args.outline.now in
@@ -18,9 +17,8 @@ anchored_bound-requires-clause-paths c =
     let made = paths_made side p c.recall_conditions.ensures.fits roots levels paths
     (roots_whole side p o.mark o.need o.anchors.items c.deref.result.now roots c.requires.outline c.deref.ensures.value c.in_ok-roots.ensures.whole)
     (roots_on side p o.mark o.need (capped_flow (need side p)) o.anchors.items c.deref.result.now roots c.requires.outline c.deref.ensures.value q c.in_ok-roots.ensures.roots)
-    (searched_as p o.need (capped_flow (need side p)) roots c.deref-2.result.now levels paths q c.deref-2.ensures.value c.in_ok-anchored.ensures)
-    c.args.base c.requires.base in
-    simp to_z-of_z (subst (λ (z : List (Option ℕ)). AreAnchorPaths side p c.args.base z c.deref-in-loop-c-2.result.now) (sym c.deref-in-loop-c.ensures.value) (subst (λ (z : List ℕ). AreAnchorPaths side p c.args.base levels z) (sym c.deref-in-loop-c-2.ensures.value) made))
+    (searched_as p o.need (capped_flow (need side p)) roots c.deref-2.result.now levels paths q c.deref-2.ensures.value c.in_ok-anchored.ensures) in
+    subst (λ (z : List (Option ℕ)). AreAnchorPaths side p z c.deref-in-loop-c-2.result.now) (sym c.deref-in-loop-c.ensures.value) (subst (λ (z : List ℕ). AreAnchorPaths side p levels z) (sym c.deref-in-loop-c-2.ensures.value) made)
 
 pub loop-c-preserved : goal.loop-c-preserved
 loop-c-preserved c = record {

@@ -1,6 +1,8 @@
-use Rattle.barrier_vector.proofs.Common.{◌≤◌, arith, length, rules, slice_index, slice_index_or, FitsSigned, w64, to_z-of_z, Low, path_limit}
+use Rattle.barrier_vector.proofs.Common.{◌≤◌, arith, length, rules, slice_index, slice_index_or, FitsSigned, w64, to_z-of_z, Low, path_limit, sym, subst}
+use Rattle.barrier_vector.proofs.Common.{IsHead}
 use Rattle.barrier_vector.proofs.Spreading.{no_both}
-use Rattle.barrier_vector.proofs.Rooting.{base_head, capped_within, greatest_within}
+use Rattle.barrier_vector.proofs.Rooting.{capped_within, greatest_within}
+use Rattle.barrier_vector.proofs.Marking.{base_head}
 use Rattle.barrier_vector.proofs.Carrying.{floor_carried, floor_none}
 use Rattle.barrier_vector.proofs.Gathering.{not_positive}
 use Rattle.barrier_vector.proofs.carried.carried_floor.Goals as goal
@@ -13,15 +15,14 @@ overflow_add-inner c =
     omega (arith, own, top)
 
 pub move_out-requires : goal.move_out-requires
-move_out-requires c = let base_fits : FitsSigned w64 c.args.base = c.ranges.base in simp to_z-of_z (base_head Low c.args.p.now c.recall_conditions.ensures.fits c.args.base c.requires.base)
+move_out-requires c = let base_fits : FitsSigned w64 c.args.base = c.ranges.base in simp to_z-of_z (subst IsHead (sym c.requires.base) (base_head Low c.args.p.now c.recall_conditions.ensures.fits))
 
 pub returns-then-is_positive : goal.returns-then-is_positive
 returns-then-is_positive c =
     let fits : FitsSigned w64 c.move_out.result = search rules in
-    let head = base_head Low c.args.p.now c.recall_conditions.ensures.fits c.args.base c.requires.base in
     let base_fits : FitsSigned w64 c.args.base = c.ranges.base in
     let positive = c.is_positive.ensures.0 c.if-is_positive.true in
-    simp to_z-of_z (floor_carried c.args.p.now c.recall_conditions.ensures.fits c.args.labels.now c.args.inner.now c.args.sums.now c.args.longest.now c.requires.components c.args.base c.requires.base head c.args.c c.in-Some.m c.move_out.result c.requires.cell c.requires.unanchored c.in-Some.is positive (simp to_z-of_z at c.move_out.ensures))
+    simp to_z-of_z (floor_carried c.args.p.now c.recall_conditions.ensures.fits c.args.labels.now c.args.inner.now c.args.sums.now c.args.longest.now c.requires.components c.args.base c.requires.base c.args.c c.in-Some.m c.move_out.result c.requires.cell c.requires.unanchored c.in-Some.is positive (simp to_z-of_z at c.move_out.ensures))
 
 pub returns-else-is_positive : goal.returns-else-is_positive
 returns-else-is_positive c =

@@ -1,46 +1,64 @@
-use Rattle.barrier_vector.proofs.Common.{arith, ◌≡◌, ◌+◌, ◌≤◌, length, subst, ap, ℕ, List, All, ◌<◌, sym, ◌∙◌, drop, inl, inr, Some, Option, mark_at, unmarked}
+use Rattle.barrier_vector.proofs.Common.{arith, rules, ◌≡◌, ◌+◌, ◌≤◌, length, subst, ap, ℕ, List, All, ◌<◌, sym, ◌∙◌, drop, inl, inr, Some, Option, mark_at}
+use Rattle.barrier_vector.proofs.Common.{unmarked, replicate}
+use Rattle.std.specs.Prelude.{None}
+use Rattle.barrier_vector.proofs.Starting.{all_none}
 use Rattle.std.proofs.lemmas.Grind.{common_steps}
 use Rattle.barrier_vector.proofs.Levels.{up_to_start, up_to_step, front_within, next_within, next_past, searched_at_end, written}
 use Rattle.barrier_vector.proofs.search.search.Goals.{then-loop-left-test+else-not-is_empty, else-loop-left-test}
 use Rattle.barrier_vector.proofs.search.search.Goals as goal
 
+pub overflow_sub-left : goal.overflow_sub-left
+overflow_sub-left c =
+    let none : c.deref_mut.result.now ≡ replicate c.len-count.result None = search rules in
+    let all = (all_none c.len-count.result _ none).2 in
+    let count = c.in_ok-frontier.ensures.marks.count in
+    omega (arith, count, all, c.len.ensures)
+
 pub loop-left-init : goal.loop-left-init
-loop-left-init c = record {
-  up_to = up_to_start c.args.p.now c.len-count.ensures.fits c.args.q c.args.own.now _ _ _ c.requires.own c.in_ok-levels.ensures;
-  left = let n = c.in_ok-levels.ensures.count in omega (arith, n, c.requires.own, c.len-count.ensures.count, c.len.ensures);
-}
+loop-left-init c =
+    let none : c.deref_mut.result.now ≡ replicate c.len-count.result None = search rules in
+    let (whole, none_at, all) = all_none c.len-count.result _ none in
+    let n : c.in_ok-levels.levels.len ≡ length c.begin.new.levels = omega (arith, c.deref_mut.ensures.len, c.begin.auto.levels) in
+    let m : c.in_ok-paths.paths.len ≡ length c.begin.new.paths = omega (arith, c.deref_mut-2.ensures.len, c.begin.auto.paths) in
+    let levels = written c.begin.new.levels (drop (length c.begin.new.levels) c.in_ok-levels.levels.items) c.in_ok-levels.levels.len n in
+    let paths = written c.begin.new.paths (drop (length c.begin.new.paths) c.in_ok-paths.paths.items) c.in_ok-paths.paths.len m in
+    let count = c.in_ok-frontier.ensures.marks.count in
+    record {
+      up_to = rw (levels, paths) (up_to_start c.args.p.now c.len-count.ensures.fits c.args.q c.args.own.now c.deref_mut.result.now c.begin.new.levels c.begin.new.paths c.in_ok-frontier.frontier.items c.requires.own (whole ∙ c.len-count.ensures.count) none_at (all ∙ c.len-count.ensures.count) c.in_ok-frontier.ensures);
+      left = let now = ap unmarked levels in omega (arith, count, now, all, c.len.ensures);
+    }
 
 pub spread-requires-clause-frontier : goal.spread-requires-clause-frontier
 spread-requires-clause-frontier c = subst (λ (z : List ℕ). All (λ k. k < length c.args.p.now) z) (sym c.deref.ensures.value) (front_within c.args.p.now c.args.q c.args.own.now c.loop-left.level c.loop-left.levels.items c.loop-left.paths.items c.loop-left.frontier.items c.loop-left.invariant.up_to)
 
 pub extend_paths-requires-clause-frontier : goal.extend_paths-requires-clause-frontier
 extend_paths-requires-clause-frontier c =
-    let whole : length c.deref_mut.result.now ≡ length c.args.p.now = omega (arith, c.deref_mut.ensures.value, c.deref_mut.ensures.len, c.loop-left.invariant.up_to.levels_whole) in
-    subst (λ (z : List ℕ). All (λ k. k < length c.args.p.now) z) (sym c.deref-in-loop-left-2.ensures.value) (next_within _ (length c.args.p.now) (c.loop-left.level + 1) c.deref_mut.result.now c.spread.new.marks c.in_ok-frontier.frontier.items whole c.in_ok-frontier.ensures)
+    let whole : length c.deref_mut-in-loop-left.result.now ≡ length c.args.p.now = omega (arith, c.deref_mut-in-loop-left.ensures.value, c.deref_mut-in-loop-left.ensures.len, c.loop-left.invariant.up_to.levels_whole) in
+    subst (λ (z : List ℕ). All (λ k. k < length c.args.p.now) z) (sym c.deref-in-loop-left-2.ensures.value) (next_within _ (length c.args.p.now) (c.loop-left.level + 1) c.deref_mut-in-loop-left.result.now c.spread.new.marks c.in_ok-frontier-2.frontier.items whole c.in_ok-frontier-2.ensures)
 
 pub extend_paths-requires-clause-past : goal.extend_paths-requires-clause-past
 extend_paths-requires-clause-past c =
-    let n : c.loop-left.levels.len ≡ length c.spread.new.marks = omega (arith, c.deref_mut.ensures.len, c.spread.auto.marks) in
+    let n : c.loop-left.levels.len ≡ length c.spread.new.marks = omega (arith, c.deref_mut-in-loop-left.ensures.len, c.spread.auto.marks) in
     subst (λ (z : List ℕ). All (λ k. mark_at c.deref-in-loop-left.result.now k ≡ Some c.loop-left.level → ⊥) z) (sym c.deref-in-loop-left-2.ensures.value)
-    (subst (λ (m : List (Option ℕ)). All (λ k. mark_at m k ≡ Some c.loop-left.level → ⊥) c.in_ok-frontier.frontier.items) (sym (c.deref-in-loop-left.ensures.value ∙ written c.spread.new.marks (drop (length c.spread.new.marks) c.loop-left.levels.items) c.loop-left.levels.len n))
-    (next_past _ (c.loop-left.level + 1) c.loop-left.level c.deref_mut.result.now c.spread.new.marks c.in_ok-frontier.frontier.items (λ e. omega (arith, e)) c.in_ok-frontier.ensures))
+    (subst (λ (m : List (Option ℕ)). All (λ k. mark_at m k ≡ Some c.loop-left.level → ⊥) c.in_ok-frontier-2.frontier.items) (sym (c.deref-in-loop-left.ensures.value ∙ written c.spread.new.marks (drop (length c.spread.new.marks) c.loop-left.levels.items) c.loop-left.levels.len n))
+    (next_past _ (c.loop-left.level + 1) c.loop-left.level c.deref_mut-in-loop-left.result.now c.spread.new.marks c.in_ok-frontier-2.frontier.items (λ e. omega (arith, e)) c.in_ok-frontier-2.ensures))
 
 pub loop-left-preserved : goal.loop-left-preserved
 loop-left-preserved c =
-    let n : c.loop-left.levels.len ≡ length c.spread.new.marks = omega (arith, c.deref_mut.ensures.len, c.spread.auto.marks) in
-    let m : c.loop-left.paths.len ≡ length c.extend_paths.new.paths = omega (arith, c.deref_mut-in-loop-left.ensures.len, c.extend_paths.auto.paths) in
+    let n : c.loop-left.levels.len ≡ length c.spread.new.marks = omega (arith, c.deref_mut-in-loop-left.ensures.len, c.spread.auto.marks) in
+    let m : c.loop-left.paths.len ≡ length c.extend_paths.new.paths = omega (arith, c.deref_mut-in-loop-left-2.ensures.len, c.extend_paths.auto.paths) in
     record {
       up_to = up_to_step c.args.p.now c.len-count.ensures.fits c.args.q c.args.own.now c.loop-left.level
-          c.loop-left.levels.items c.deref_mut.result.now c.spread.new.marks c.deref-in-loop-left.result.now _
-          c.loop-left.paths.items c.deref_mut-in-loop-left.result.now c.extend_paths.new.paths _
-          c.loop-left.frontier.items c.deref.result.now c.in_ok-frontier.frontier.items c.deref-in-loop-left-2.result.now
-          c.deref_mut.ensures.value c.deref-in-loop-left.ensures.value (written c.spread.new.marks (drop (length c.spread.new.marks) c.loop-left.levels.items) c.loop-left.levels.len n)
-          c.deref_mut-in-loop-left.ensures.value (written c.extend_paths.new.paths (drop (length c.extend_paths.new.paths) c.loop-left.paths.items) c.loop-left.paths.len m)
-          c.deref.ensures.value c.deref-in-loop-left-2.ensures.value c.loop-left.invariant.up_to c.in_ok-frontier.ensures c.extend_paths.auto.paths c.extend_paths.ensures.others c.extend_paths.ensures.paths;
+          c.loop-left.levels.items c.deref_mut-in-loop-left.result.now c.spread.new.marks c.deref-in-loop-left.result.now _
+          c.loop-left.paths.items c.deref_mut-in-loop-left-2.result.now c.extend_paths.new.paths _
+          c.loop-left.frontier.items c.deref.result.now c.in_ok-frontier-2.frontier.items c.deref-in-loop-left-2.result.now
+          c.deref_mut-in-loop-left.ensures.value c.deref-in-loop-left.ensures.value (written c.spread.new.marks (drop (length c.spread.new.marks) c.loop-left.levels.items) c.loop-left.levels.len n)
+          c.deref_mut-in-loop-left-2.ensures.value (written c.extend_paths.new.paths (drop (length c.extend_paths.new.paths) c.loop-left.paths.items) c.loop-left.paths.len m)
+          c.deref.ensures.value c.deref-in-loop-left-2.ensures.value c.loop-left.invariant.up_to c.in_ok-frontier-2.ensures c.extend_paths.auto.paths c.extend_paths.ensures.others c.extend_paths.ensures.paths;
       left =
-          let count = c.in_ok-frontier.ensures.count in
+          let count = c.in_ok-frontier-2.ensures.count in
           let now = ap unmarked (written c.spread.new.marks (drop (length c.spread.new.marks) c.loop-left.levels.items) c.loop-left.levels.len n) in
-          let was = ap unmarked c.deref_mut.ensures.value in omega (arith, count, now, was, c.loop-left.invariant.left, c.len-left.ensures);
+          let was = ap unmarked c.deref_mut-in-loop-left.ensures.value in omega (arith, count, now, was, c.loop-left.invariant.left, c.len-left.ensures);
     }
 
 pub returns : goal.returns

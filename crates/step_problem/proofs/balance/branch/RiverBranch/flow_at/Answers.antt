@@ -1,12 +1,8 @@
-use Rattle.step_problem.proofs.Common.{rules, FitsSigned, w128, to_z-of_z}
+use Rattle.step_problem.proofs.Common.{◌≡◌, rules, ◌-ℤ◌, int_max, bound_on}
 use Rattle.step_problem.proofs.balance.branch.RiverBranch.flow_at.Goals as goal
 
-pub returns-in-Low-clause-within : goal.returns-in-Low-clause-within
-returns-in-Low-clause-within c =
-    let fits : FitsSigned w128 c.least_flow.result = search rules in
-    simp to_z-of_z (c.least_flow.ensures.within c.requires.fits.ordered)
-
-pub returns-in-High-clause-within : goal.returns-in-High-clause-within
-returns-in-High-clause-within c =
-    let fits : FitsSigned w128 c.most_flow.result = search rules in
-    simp to_z-of_z (c.most_flow.ensures.within c.requires.fits.ordered)
+pub returns-clause-value : goal.returns-clause-value
+returns-clause-value c =
+    let x = c.args.self.now in
+    let gap : c.rise.result ≡ bound_on c.args.side x.stage_lo x.stage_hi -ℤ int_max c.args.own (bound_on c.args.side x.bottom_hi x.bottom_lo) = search rules in
+    search rules

@@ -1,6 +1,6 @@
 -- Searches that end: the first of finitely many numbers with a property, any or the least entry of a list, or none.
-use Rattle.step_or_refusal.proofs.Common.{◌≡◌, ℕ, zero, suc, ◌<◌, ◌≤◌, ◌⊎◌, inl, inr, refl, subst, arith, List, [], ◌∷◌, Contains, Bool, true, false, ◌+◌, sym}
-use Rattle.step_or_refusal.proofs.Common.{cases_lt, Link, Entries, entries_at, ceil_over, LeadsToRoot, IsLevel, SumsTo, IsPath}
+use Rattle.barrier_vector.proofs.Common.{◌≡◌, ℕ, zero, suc, ◌<◌, ◌≤◌, ◌⊎◌, inl, inr, refl, subst, arith, List, [], ◌∷◌, Contains, Bool, true, false, ◌+◌, sym}
+use Rattle.barrier_vector.proofs.Common.{cases_lt, Link, Entries, entries_at, ceil_over, LeadsToRoot, IsLevel, SumsTo, IsPath}
 
 -- P holds, or it doesn't
 abbrev pub Decided : Type 0 → Type 0
@@ -20,12 +20,12 @@ true_test P (inl holds) h = refl
 true_test P (inr fails) h = absurd (fails h)
 
 -- c is the least number below n with the property P
-pub record IsFirst (P : ℕ → Type 0) (n c : ℕ) : Type 0 where
+pub record IsFirstBelow (P : ℕ → Type 0) (n c : ℕ) : Type 0 where
   pub within : c < n
   pub has : P c
   pub least : (d : ℕ) → d < c → P d → ⊥
 
-pub first_or_none : (P : ℕ → Type 0) (n : ℕ) → ((c : ℕ) → c < n → Decided (P c)) → ((c : ℕ) × IsFirst P n c) ⊎ ((c : ℕ) → c < n → P c → ⊥)
+pub first_or_none : (P : ℕ → Type 0) (n : ℕ) → ((c : ℕ) → c < n → Decided (P c)) → ((c : ℕ) × IsFirstBelow P n c) ⊎ ((c : ℕ) → c < n → P c → ⊥)
 first_or_none P zero decide = inr (λ c h has. omega arith)
 first_or_none P (suc n) decide =
     elim (first_or_none P n (λ c h. decide c (omega arith))) [

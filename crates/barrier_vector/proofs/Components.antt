@@ -1,26 +1,27 @@
 -- What a component of a problem has: a test, its sum of deep flows, a least cell, and a longest path to that cell.
-use Rattle.step_or_refusal.proofs.Common.{◌≡◌, ℕ, zero, suc, ◌<◌, ◌≤◌, ◌⊎◌, inl, inr, refl, ap, subst, arith, List, length, Bool, cond, ℤ, pos, ◌<ℤ◌, ◌≤ℤ◌}
-use Rattle.step_or_refusal.proofs.Common.{cases_lt, ints, by_lt_z, IsProblem, Entries, entries_at, IsComponent, IsCarried, sum_inside, deep_low, LeastRoot}
-use Rattle.step_or_refusal.proofs.Common.{IsInnerPath, IsLongest, lack, reaches_within, inner_one, same_tests}
-use Rattle.cell_balance.proofs.Sums.{sum-same}
-use Rattle.step_or_refusal.proofs.Decided.{Decided, test_of, test_true, true_test, first_or_none, path}
-use Rattle.step_or_refusal.proofs.Ways.{LeadTo, join, leading_decided}
+use Rattle.barrier_vector.proofs.Common.{◌≡◌, ℕ, zero, suc, ◌<◌, ◌≤◌, ◌⊎◌, inl, inr, refl, ap, subst, arith, List, length, Bool, cond, ℤ, pos, ◌<ℤ◌, ◌≤ℤ◌}
+use Rattle.barrier_vector.proofs.Common.{cases_lt, ints, by_lt_z, IsProblem, Entries, entries_at, IsComponent, IsCarried, sum_inside, deep_low, LeastRoot}
+use Rattle.barrier_vector.proofs.Common.{IsInnerPath, IsLongest, lack, sum-same}
+use Rattle.barrier_vector.proofs.CarriedRoots.{reaches_within}
+use Rattle.barrier_vector.proofs.Uniques.{inner_one, same_tests}
+use Rattle.barrier_vector.proofs.Decided.{Decided, test_of, test_true, true_test, first_or_none, path}
+use Rattle.barrier_vector.proofs.Ways.{LeadTo, join, leading_decided}
 
 module _ (p : List Entries) (ok : IsProblem p) where
-  abbrev inside : ℕ → ℕ → Bool
+  abbrev pub inside : ℕ → ℕ → Bool
   inside c k = test_of (LeadTo p c k) (leading_decided p ok c k)
 
-  abbrev deep : ℕ → ℤ
+  abbrev pub deep : ℕ → ℤ
   deep k = deep_low (entries_at p k)
 
-  component : (c : ℕ) → IsComponent p c (inside c)
+  pub component : (c : ℕ) → IsComponent p c (inside c)
   component c = record {
     reached = λ k t. test_true (LeadTo p c k) (leading_decided p ok c k) t;
     whole = λ j k way. true_test (LeadTo p c k) (leading_decided p ok c k) (j, way);
   }
 
   -- any two tests of a component have one sum
-  one_sum : (c : ℕ) (f g : ℕ → Bool) → IsComponent p c f → IsComponent p c g → sum_inside (length p) f deep ≡ sum_inside (length p) g deep
+  pub one_sum : (c : ℕ) (f g : ℕ → Bool) → IsComponent p c f → IsComponent p c g → sum_inside (length p) f deep ≡ sum_inside (length p) g deep
   one_sum c f g is other =
       sum-same (length p) (λ k. cond (f k) (deep k) (pos 0)) (λ k. cond (g k) (deep k) (pos 0))
       (λ k h. ap (λ (b : Bool). cond b (deep k) (pos 0)) (same_tests (f k) (g k) (λ t. let (j, way) = is.reached k t in other.whole j k way) (λ t. let (j, way) = other.reached k t in is.whole j k way)))
