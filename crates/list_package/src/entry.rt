@@ -1,10 +1,9 @@
 // The entries of a list.
-ghost use Rattle.std.specs.Prelude.{◌≡◌, ◌≤◌, ◌<◌, Ok, IfOk, true, false, All, length, slice_index_or};
-ghost use Rattle.std.specs.List.{AllPairs};
+ghost use Rattle.std.specs.Prelude.{◌≡◌, ◌≤◌, ◌<◌, Ok, IfOk, false, slice_index_or};
 ghost use Rattle.outside.specs.{words};
-ghost use Rattle.record_lines.specs.{GivesText, HasText, repeated};
+ghost use Rattle.record_lines.specs.{GivesText, HasText};
 ghost use Rattle.model_types.specs.{cell_count, HasSize};
-ghost use Rattle.list_package.specs.{cell_at, entry_of, entry_at, is_left_out, no_marks, new_list, Differ, IsList, IsNewlyMarked};
+ghost use Rattle.list_package.specs.{cell_at, entry_of, entry_at, is_left_out, no_marks, new_list, IsList, IsNewlyMarked};
 
 use crate::columns::{first_fault, read_numbers};
 use crate::kind::ListEntry;

@@ -3,7 +3,7 @@ use Rattle.model_reader.proofs.Common.{◌≡◌, ℕ, List, ℤ, Ok, All, lengt
 use Rattle.model_reader.proofs.Common.{StopsText, FlowModel, IsGrid, cell_count, checked, Thickness, StartHead, each_passed, IsBasic, bas_in, basics_tested}
 use Rattle.model_reader.proofs.Common.{◌+◌, ◌<◌, Result, ◌>>=◌, Has, stress_in, with_stresses, ◌∙◌, drop, drop-cons, get_or, add-one, ReadsOn, ◌≤◌, pos, Bool}
 use Rattle.model_reader.proofs.Common.{true, false, not, cond, ◌&&◌, ◌==◌, [], ◌∷◌, Some, None, or_parts, IsTimed, IsPeriod, IsEvapValid, is_transient}
-use Rattle.model_reader.proofs.Common.{InputCounts, is_chosen, evap_source, evap_sources, period_at}
+use Rattle.model_reader.proofs.Common.{InputCounts, is_chosen, evap_source, evap_sources, period_at, stops_all}
 use Rattle.name_file.specs.Pairs.{Pairs}
 use Rattle.dis_package.specs.{IsBegun, IsNewPeriod, without_stresses}
 use Rattle.bas_package.specs.{bas_of, with_basics}
@@ -17,7 +17,6 @@ use Rattle.std.specs.Option.{option_to_list}
 use Rattle.std.proofs.lemmas.List.Elements.{All-nil, All-cons, All-weaker}
 use Rattle.model_types.specs.declared.period.Period.{Period}
 use Rattle.model_types.proofs.NoStresses.{no_stresses_fit}
-use Rattle.outside.specs.declared.inputs.InputFault.TheVariants as input
 use Rattle.outside.specs.declared.inputs.TextFault.TheVariants as texts
 
 -- Readings one behind the other.
@@ -33,13 +32,7 @@ both_read {F = F} {new = new} {result = result} first second = record {
 pub goes_on : {X Y T : Type 0} (view : T → Y) (answer : Result T InputFault) (r : Result X Refusal) (k : X → Result Y Refusal) (v : X) → r ≡ Ok v → Has view answer (k v) → Has view answer (r >>= k)
 goes_on {X} view answer r k v e h = subst (λ (x : Result X Refusal). Has view answer (x >>= k)) (sym e) h
 
--- a reading that stops stops the whole
-pub stops_here : {X Y : Type 0} (fault : InputFault) (r : Result X Refusal) (k : X → Result Y Refusal) → Stops fault r → Stops fault (r >>= k)
-stops_here (input.Refused refusal) r k h = rw h refl
-stops_here input.ReadFault r k h = tt
-stops_here input.Memory r k h = tt
-
--- the same of a text's reading
+-- a text's reading that stops stops the whole
 pub text_stops_here : {X Y : Type 0} (fault : TextFault) (r : Result X Refusal) (k : X → Result Y Refusal) → StopsText fault r → Stops (input_fault fault) (r >>= k)
 text_stops_here (texts.Refused refusal) r k h = rw h refl
 text_stops_here texts.Memory r k h = tt
@@ -58,7 +51,7 @@ module _ (limits : Limits) (files : FileSet) (names : Pairs) (ks : List Package)
   stress_read n r h so_far = let one : with_stresses limits files names (drop i ks) m ≡ with_stresses limits files names (drop (i + 1) ks) n = next ∙ rw h refl in sym one ∙ so_far
 
   pub stress_stops : (fault : InputFault) (r : Result FlowModel Refusal) → Stops fault (stress_in limits files names (get_or ks i d) m) → with_stresses limits files names (drop i ks) m ≡ r → Stops fault r
-  stress_stops fault r h so_far = subst (Stops fault) so_far (subst (Stops fault) (sym next) (stops_here fault (stress_in limits files names (get_or ks i d) m) (with_stresses limits files names (drop (i + 1) ks)) h))
+  stress_stops fault r h so_far = subst (Stops fault) so_far (subst (Stops fault) (sym next) (stops_all fault (stress_in limits files names (get_or ks i d) m) (with_stresses limits files names (drop (i + 1) ks)) h))
 
 pub stresses_done : (limits : Limits) (files : FileSet) (names : Pairs) (ks : List Package) (i : ℕ) (m : FlowModel) (r : Result FlowModel Refusal) → length ks ≤ i
     → with_stresses limits files names (drop i ks) m ≡ r → r ≡ Ok m

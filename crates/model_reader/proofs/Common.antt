@@ -17,4 +17,5 @@ pub use Rattle.model_types.specs.declared.model.FlowModel.{FlowModel}
 pub use Rattle.name_file.proofs.Forward.{file_named, names_still}
 pub use Rattle.outside.specs.{FileSet, InputCounts, ReadsOn, file_at, input_fault}
 pub use Rattle.outside.specs.declared.inputs.TextFault.{TextFault}
+pub use Rattle.record_lines.proofs.Loops.{stops_all}
 pub use Rattle.record_lines.specs.{Has, Stops, StopsText, ◌>>=◌}

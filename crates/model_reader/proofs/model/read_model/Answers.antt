@@ -1,5 +1,5 @@
-use Rattle.model_reader.proofs.Common.{err_from_is_err_and, Err, model_of, file_named, names_still}
-use Rattle.model_reader.proofs.BasicLemmas.{both_read, goes_on, stops_here}
+use Rattle.model_reader.proofs.Common.{err_from_is_err_and, Err, model_of, file_named, names_still, stops_all}
+use Rattle.model_reader.proofs.BasicLemmas.{both_read, goes_on}
 use Rattle.model_reader.proofs.model.read_model.Goals as goal
 
 pub returns-in_err-flow-clause-model : goal.returns-in_err-flow-clause-model
@@ -9,7 +9,7 @@ returns-in_err-flow-clause-model g c = λ files agree.
     let basic = c.in_err-flow.ensures.folder.since files agree in
     rw (p.1, p.2) (goes_on (λ m. m) (Err c.in_err-flow.field-0.0) _ _ _ (rw c.file_needed-dis.ensures.file at (c.in_ok-begun.ensures.model files (c.in_ok-basic.ensures.folder.since files basic)))
     (goes_on (λ m. m) (Err c.in_err-flow.field-0.0) _ _ _ (rw (c.file_needed-dis.ensures.file, c.file_needed-bas.ensures.file) at (c.in_ok-basic.ensures.model files basic))
-    (stops_here c.in_err-flow.field-0.0 _ _ (rw c.file_needed-lpf.ensures.file at (c.in_err-flow.ensures.model files agree)))))
+    (stops_all c.in_err-flow.field-0.0 _ _ (rw c.file_needed-lpf.ensures.file at (c.in_err-flow.ensures.model files agree)))))
 
 pub returns-clause-folder : goal.returns-clause-folder
 returns-clause-folder g c =
