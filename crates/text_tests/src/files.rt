@@ -1,8 +1,7 @@
 // Calls on the whole text as a name file or as the list of a batch, on the folder, and on names of files.
 use crate::reader::{Call, Reader};
-use crate::words::push_test;
 use batch_list::read_list;
-use name_file::{Names, Package, read_names};
+use name_file::{Package, read_names};
 use outside::{
     FILE_LIMIT, Folder, FolderError, Found, InputFault, MemFolder, Name, folder_name, good_name,
     is_good_name, read_input,
@@ -10,35 +9,32 @@ use outside::{
 use std::str;
 use test_lines::{Page, first_word, number_of};
 
-// The pairs in the order of the name file, of which there are at most ten.
-fn push_pairs(page: &mut Page, names: &Names) {
-    for place in 0..11 {
-        if let Some((package, name)) = names.pair_at(place) {
-            page.word(format_args!("{package:?} {name}"));
-        }
+/// The names of a batch's list, after their number.
+pub fn push_models(page: &mut Page, reader: &Reader<'_>) -> Result<(), InputFault> {
+    let names = read_list(page.alloc(), reader.file, reader.text)?;
+    page.word(names.len());
+    for name in &names {
+        page.word(name.as_str());
     }
+    Ok(())
 }
 
-/// The pairs of a name file, the files of two of its packages, or the number of a batch's names and the names.
-pub fn push_of_names(
+/// The pairs of a name file in its order, of which there are at most ten, or the files of two of its packages.
+pub fn push_packages(
     page: &mut Page,
     reader: &Reader<'_>,
     question: &str,
 ) -> Result<(), InputFault> {
-    if question == "models" {
-        let names = read_list(page.alloc(), reader.file, reader.text)?;
-        page.word(names.len());
-        for name in &names {
-            page.word(name.as_str());
-        }
-        return Ok(());
-    }
     let names = read_names(page.alloc(), reader.file, reader.text)?;
-    if question == "packages" {
-        push_pairs(page, &names);
-    } else {
+    if question == "files" {
         page.word(names.file_of(Package::Bas).unwrap_or("none"));
         page.word(names.file_of(Package::Wel).unwrap_or("none"));
+        return Ok(());
+    }
+    for place in 0..11 {
+        if let Some((package, name)) = names.pair_at(place) {
+            page.word(format_args!("{package:?} {name}"));
+        }
     }
     Ok(())
 }
@@ -100,7 +96,7 @@ pub fn push_of_folder(
         }
         "input" => push_input(page, folder, name),
         "named" => push_named(page, call.rest),
-        _ => Ok(push_test(page, is_good_name(call.rest.as_bytes()))),
+        _ => Ok(page.test(is_good_name(call.rest.as_bytes()))),
     };
     folder.set_limit(FILE_LIMIT);
     answer

@@ -40,7 +40,6 @@ mod given;
 mod lists;
 mod reader;
 mod sinks;
-mod words;
 
 use bench::Bench;
 use disk::{push_disk, push_reader};

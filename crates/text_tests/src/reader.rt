@@ -1,9 +1,13 @@
-// The calls on one text, one after another.
-use crate::files::{push_of_folder, push_of_names};
-use crate::lists::{push_of_arrays, push_of_lines, push_of_lists};
-use crate::words::push_of_words;
+// A text that is read, and calls on its lines and on the words of a line.
+use crate::files::{push_models, push_of_folder, push_packages};
+use crate::lists::{integers, numbers, push_array, push_next_value};
+use array_reader::{
+    Control, control_record, integer, name_of, next_line, number, short_integer, value_item,
+};
+use decimal_input::dec::Dec;
 use outside::{InputFault, MemFolder};
-use record_lines::{Free, Line, Lines, Words};
+use record_lines::{Free, FreeFault, Line, Lines, Words, begins_with, is_word};
+use std::str;
 use test_lines::{Page, count_of, first_word};
 
 /// A call's word, the text after it, the counts that it begins with, and its multiplier.
@@ -38,8 +42,8 @@ pub struct Reader<'a> {
     pub text: &'a [u8],
     pub lines: Lines<'a>,
     pub free: Free<'a>,
-    pub line: Line<'a>,
-    pub words: Words<'a>,
+    line: Line<'a>,
+    words: Words<'a>,
 }
 
 impl<'a> Reader<'a> {
@@ -58,6 +62,78 @@ impl<'a> Reader<'a> {
         }
     }
 
+    // The next line's number, or the number of the line after the last.
+    fn push_next_number(&mut self, page: &mut Page) {
+        match self.lines.next_line() {
+            Ok(line) => page.word(format_args!("then {}", line.number)),
+            Err(end) => page.word(format_args!("end {}", end.line)),
+        }
+    }
+
+    // The next line's number and its first five words, each a dash where there is none.
+    fn push_next_words(&mut self, page: &mut Page) {
+        let line = match self.lines.next_line() {
+            Ok(line) => line,
+            Err(end) => return page.word(format_args!("end {}", end.line)),
+        };
+        page.word(format_args!("{}:", line.number));
+        let mut words = Words::of(&line);
+        for _ in 0..5 {
+            page.word(str::from_utf8(words.next().unwrap_or(b"-")).unwrap_or("?"));
+        }
+    }
+
+    // `count` words of the free list, each with its line, or its fault in place of the word.
+    fn push_free_words(&mut self, page: &mut Page, count: u32) {
+        for _ in 0..count {
+            let (word, line) = match self.free.next(&mut self.lines) {
+                Ok((word, line)) => (str::from_utf8(word).unwrap_or("?"), line),
+                Err(FreeFault::EndOfFile(line)) => ("end", line),
+                Err(FreeFault::BadNumber(line)) => ("bad", line),
+            };
+            page.word(format_args!("{word}:{line}"));
+        }
+    }
+
+    // Goes to the next line.
+    fn push_next_line(&mut self, page: &mut Page) -> Result<(), InputFault> {
+        self.line = next_line(page.alloc(), &mut self.lines, self.file)?;
+        self.words = Words::of(&self.line);
+        Ok(page.word(format_args!("line {}", self.line.number)))
+    }
+
+    // The kind of the control record, or the file's name, and the value or the multiplier.
+    fn push_control(&mut self, page: &mut Page) -> Result<(), InputFault> {
+        let record = control_record(page.alloc(), &mut self.words, self.file, self.line.number)?;
+        let (kind, by): (&str, i64) = match record {
+            Control::Constant(value) => ("constant", value),
+            Control::Internal(by) => ("internal", by),
+            Control::Named(name, by) => (name, by),
+        };
+        Ok(page.word(format_args!("{kind} {by}")))
+    }
+
+    // Calls on the next word of the line, as a number or as a text.
+    fn push_of_word(&mut self, page: &mut Page, call: &Call<'_>) -> Result<(), InputFault> {
+        let alloc = page.alloc();
+        let (words, file, line) = (&mut self.words, self.file, self.line.number);
+        match call.word {
+            "integer" => page.word(integer(alloc, words, file, line)?),
+            "number" => page.number(number(alloc, words, file, line)?),
+            "whole" => page.word(value_item::<i64>(alloc, words, file, line)?),
+            "real" => page.number(value_item::<Dec>(alloc, words, file, line)?),
+            "begins" => page.test(begins_with(call.rest.as_bytes(), &self.line)),
+            "is" => page.test(is_word(call.rest.as_bytes(), words.next().unwrap_or(b""))),
+            "name" => page.word(name_of(alloc, words.next().unwrap_or(b""), file, line)?),
+            "short" => match short_integer(words.next().unwrap_or(b"")) {
+                Some(value) => page.word(value),
+                None => page.word("none"),
+            },
+            _ => page.word("no call"),
+        }
+        Ok(())
+    }
+
     /// Puts the answer of a call, each of its words after a blank.
     pub fn push_answer(
         &mut self,
@@ -66,16 +142,33 @@ impl<'a> Reader<'a> {
         call: &Call<'_>,
     ) -> Result<(), InputFault> {
         match call.word {
-            "line" | "after" | "free" => Ok(push_of_lines(page, self, call)),
-            "next" | "values" | "list" | "rows" | "integers" | "numbers" | "constants" => {
-                push_of_lists(page, self, call)
+            "line" => self.push_next_words(page),
+            "after" => self.push_next_number(page),
+            "free" => self.push_free_words(page, call.counts[0]),
+            "items" => self.push_next_line(page)?,
+            "control" => self.push_control(page)?,
+            "next" => push_next_value(page, self, call)?,
+            "array" => push_array(page, self, folder, call)?,
+            "row" | "layer" | "numbers" => page.numbers(&numbers(
+                page.alloc(),
+                self,
+                folder,
+                call,
+            )?),
+            "values"
+            | "list"
+            | "rows"
+            | "integers"
+            | "constants"
+            | "integer_layer"
+            | "integer_layers" => {
+                page.integers(&integers(page.alloc(), self, folder, call)?);
             }
-            "row" | "layer" | "integer_layer" | "integer_layers" | "array" => {
-                push_of_arrays(page, self, folder, call)
-            }
-            "packages" | "files" | "models" => push_of_names(page, self, call.word),
-            "found" | "input" | "named" | "taken" => push_of_folder(page, folder, call),
-            _ => push_of_words(page, self, call),
+            "packages" | "files" => push_packages(page, self, call.word)?,
+            "models" => push_models(page, self)?,
+            "found" | "input" | "named" | "taken" => push_of_folder(page, folder, call)?,
+            _ => self.push_of_word(page, call)?,
         }
+        Ok(())
     }
 }
