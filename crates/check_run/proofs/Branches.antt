@@ -4,17 +4,20 @@ use Rattle.check_run.proofs.Common.{List, [], ◌∷◌, length, get_or, Option,
 use Rattle.check_run.proofs.Common.{nat_lt, slice_index, and_from, and_parts, cases_Bool, leb-true, lt-ltb, nat_tests, Bound, Entries, entries_at, no_entries}
 use Rattle.check_run.proofs.Common.{FlowModel, TimeStep, cell_count, HasSize, is_variable, is_constant, is_active, index_of, variable_cells, FixedSource}
 use Rattle.check_run.proofs.Common.{as_general, constant_faces, fixed_sources, local_entries, storage_at, variable_faces, passing, at_rank, below_is, index_is}
-use Rattle.check_run.proofs.Common.{index_below, IsCellOf, IsFixed, IsLink, IsCellHull, AllThree, next, none, IsProblemBy, Contains-In, In-map, Face, ShareFace}
+use Rattle.check_run.proofs.Common.{index_below, IsCellOf, IsFixed, IsLink, IsCellHull, AllThree, next, none, IsProblemBy, Face, share, any_in, in_any}
 use Rattle.check_run.proofs.Common.{cell_faces, face_between, face_from, faces, faces_by_kind, fixed_faces, link_faces, is_lower_zone, ZonePair, share_face}
 use Rattle.check_run.proofs.Common.{joins, face_of, join_of, shares, AllZip-at, AllZip-length, flat-In, IsProblemOf, AllZip-weaker, ToConstant, ToGeneral}
-use Rattle.check_run.proofs.Common.{FromStorage, In-append, In-variable, variable-In, fixed_source, constant_active, variable_active}
+use Rattle.check_run.proofs.Common.{FromStorage, is_between}
+use Rattle.model_types.proofs.Members.{In-map, In}
+use Rattle.problem_builder.proofs.Members.{In-append, In-variable, variable-In, fixed_source, constant_active, variable_active}
 use Rattle.step_problem.specs.declared.entry.Fixed.{Fixed}
 use Rattle.step_problem.specs.declared.entry.FixedKind.TheVariants.{Constant, Storage, General}
 use Rattle.step_problem.specs.declared.entry.Link.{Link}
-use Rattle.model_types.proofs.Members.{In}
 use Rattle.model_types.proofs.Leads.{end_within, face_back, faces_are, faces_have, passing_are, turned, IsFaceOf, passing_have}
 use Rattle.model_types.specs.declared.face.Face.{Face as ModelFace}
 use Rattle.problem_builder.proofs.Zipped.{left_of, right_of}
+use Rattle.std.proofs.lemmas.Bool.{eqb-true}
+use Rattle.std.proofs.Common.{◌==◌}
 use Rattle.std.specs.Option.{option_to_list}
 
 -- Members of lists that are made of others.
@@ -99,6 +102,9 @@ have_branches a None s at old es is = of_problem a s at old es is
 have_branches a (Some b) s at old es is =
     hull_zip IsCellHull (HasBranches a at.period) (hull_branches a at.period) is.first is.second es (variable_cells a at.period) is.hull (of_problem a s at old is.first is.is_first)
 
+shown : (fs : List Face) (z : ZonePair) (f : Face) → In fs f → f.from ≡ z.from → f.to ≡ z.to → share fs z ≡ true
+shown fs z f i from to = in_any (is_between z.from z.to) fs f i (grind (arith, nat_tests))
+
 -- the two zones of a face
 abbrev pub zones_of_face : Face → ZonePair
 zones_of_face f = record { from = f.from; to = f.to }
@@ -147,8 +153,8 @@ module _ (zones : List ℕ) (l u : ℕ → ℤ) where
     link_end c x g i face v e = ap (λ k. (entries_at es k).id) e ∙ end_is g.end v (end_within m.grid c g size (variable-In m p (cell_count m.grid) c i).1 face)
 
     -- A face joins a pair that share_face names.
-    share : (c : ℕ) (g : ModelFace) (z : ZonePair) → In (variable_cells m p) c → IsFaceOf m.grid c g → is_active m g.end ≡ true → Crosses c g.end z ⊎ Crosses g.end c z → share_face m zones p z ≡ true
-    share c g z i face active h =
+    joins_pair : (c : ℕ) (g : ModelFace) (z : ZonePair) → In (variable_cells m p) c → IsFaceOf m.grid c g → is_active m g.end ≡ true → Crosses c g.end z ⊎ Crosses g.end c z → share_face m zones p z ≡ true
+    joins_pair c g z i face active h =
         shares m zones p z (record { cell = c; face = g; variable = i; neighbour = faces_have m.grid c g face; active = active; join = joined h })
       where
         joined : Crosses c g.end z ⊎ Crosses g.end c z → joins z (zone c) (zone g.end) ≡ true
@@ -158,7 +164,7 @@ module _ (zones : List ℕ) (l u : ℕ → ℤ) where
     fixed_shares : (e : Entries) (c : ℕ) (x : Fixed) (t : FixedSource) (f : Face) → e.id ≡ c → In (variable_cells m p) c → In (fixed_sources m p c) t → IsTo m p x t → In (fixed_faces zones l u e x) f → share_face m zones p (zones_of_face f) ≡ true
     fixed_shares e c x (ToConstant g) f id i j is k =
         let (face, constant) = passing_are m.grid (is_constant m p) c g (fixed_source m p c (ToConstant g) j) in
-        share c g (zones_of_face f) i face (constant_active m p g.end constant)
+        joins_pair c g (zones_of_face f) i face (constant_active m p g.end constant)
         (elim (In-append (face_from zones l u e.id x.source x.lo x.hi) (face_from zones l u x.source e.id x.lo x.hi) f (subst (λ kind. In (faces_by_kind zones l u kind e.id x.source x.lo x.hi) f) is.0 k)) [
           | inl n ↦ inl (crosses e.id x.source x.lo x.hi c g.end f id is.1 n)
           | inr n ↦ inr (crosses x.source e.id x.lo x.hi g.end c f is.1 id n)
@@ -166,7 +172,7 @@ module _ (zones : List ℕ) (l u : ℕ → ℤ) where
     fixed_shares e c x (ToGeneral head conductance) f id i j is k = absurd (subst (λ kind. In (faces_by_kind zones l u kind e.id x.source x.lo x.hi) f) is k)
     fixed_shares e c x FromStorage f id i j is k = absurd (subst (λ kind. In (faces_by_kind zones l u kind e.id x.source x.lo x.hi) f) is k)
 
-    pub face_shares : (f : Face) → In (faces zones l u es) f → share_face m zones p (zones_of_face f) ≡ true
+    face_shares : (f : Face) → In (faces zones l u es) f → share_face m zones p (zones_of_face f) ≡ true
     unfolding faces cell_faces
     face_shares f i =
         let (e, j, k) = flat-In (cell_faces zones l u es) es f i in
@@ -176,24 +182,32 @@ module _ (zones : List ℕ) (l u : ℕ → ℤ) where
               (let (x, a, b) = flat-In (link_faces zones l u es e) e.links f n in
               let (g, d, leads) = left_of (LeadsTo m p) e.links (variable_faces m p c) x is.links a in
               let (face, variable) = passing_are m.grid (is_variable m p) c g d in
-              share c g (zones_of_face f) v face (variable_active m p g.end variable) (inl (crosses e.id (entries_at es x.cell).id x.lo x.hi c g.end f is.id (link_end c x g v face variable leads) b)))
+              joins_pair c g (zones_of_face f) v face (variable_active m p g.end variable) (inl (crosses e.id (entries_at es x.cell).id x.lo x.hi c g.end f is.id (link_end c x g v face variable leads) b)))
           | inr n ↦
               (let (x, a, b) = flat-In (fixed_faces zones l u e) e.fixed f n in
               let (t, d, to) = left_of (IsTo m p) e.fixed (fixed_sources m p c) x is.fixed a in
               fixed_shares e c x t f is.id v d to b)
         ]
 
+    pub pair_shares : (z : ZonePair) → share (faces zones l u es) z ≡ true → share_face m zones p z ≡ true
+    pair_shares z h =
+        let (f, i, t) = any_in (is_between z.from z.to) (faces zones l u es) h in
+        let (same_from, same_to) = and_parts (f.from == z.from) (f.to == z.to) t in
+        let from = eqb-true f.from z.from same_from in
+        let to = eqb-true f.to z.to same_to in
+        subst (λ (w : ZonePair). share_face m zones p w ≡ true) (λ i. record { from = from i; to = to i }) (face_shares f i)
+
     -- A pair that share_face names has a face.
-    link_has : (c : ℕ) (g : ModelFace) (z : ZonePair) → In (variable_cells m p) c → IsFaceOf m.grid c g → is_variable m p g.end ≡ true → Crosses c g.end z → ShareFace (faces zones l u es) z.from z.to
+    link_has : (c : ℕ) (g : ModelFace) (z : ZonePair) → In (variable_cells m p) c → IsFaceOf m.grid c g → is_variable m p g.end ≡ true → Crosses c g.end z → share (faces zones l u es) z ≡ true
     unfolding faces cell_faces
     link_has c g z i face variable h =
         let (e, j, is) = right_of (HasBranches m p) es (variable_cells m p) c are i in
         let (x, k, leads) = right_of (LeadsTo m p) e.links (variable_faces m p c) g is.links (passing_have m.grid (is_variable m p) c g face variable) in
         let (f, n, from, to) = crossed e.id (entries_at es x.cell).id x.lo x.hi c g.end z is.id (link_end c x g i face variable leads) h in
         let among = left_in (flat_map (link_faces zones l u es e) e.links) (flat_map (fixed_faces zones l u e) e.fixed) f (flat_in (link_faces zones l u es e) e.links x f k n) in
-        record { face = f; stands = Contains-In (faces zones l u es) f (flat_in (cell_faces zones l u es) es e f j among); from = from; to = to }
+        shown (faces zones l u es) z f (flat_in (cell_faces zones l u es) es e f j among) from to
 
-    fixed_has : (c : ℕ) (g : ModelFace) (z : ZonePair) → In (variable_cells m p) c → IsFaceOf m.grid c g → is_constant m p g.end ≡ true → Crosses c g.end z ⊎ Crosses g.end c z → ShareFace (faces zones l u es) z.from z.to
+    fixed_has : (c : ℕ) (g : ModelFace) (z : ZonePair) → In (variable_cells m p) c → IsFaceOf m.grid c g → is_constant m p g.end ≡ true → Crosses c g.end z ⊎ Crosses g.end c z → share (faces zones l u es) z ≡ true
     unfolding faces cell_faces
     fixed_has c g z i face constant h =
         let (e, j, is) = right_of (HasBranches m p) es (variable_cells m p) c are i in
@@ -203,14 +217,14 @@ module _ (zones : List ℕ) (l u : ℕ → ℤ) where
         let back = face_from zones l u x.source e.id x.lo x.hi in
         let (f, n, ends) = either e c x g z is.id to.1 h in
         let among = right_in (flat_map (link_faces zones l u es e) e.links) (flat_map (fixed_faces zones l u e) e.fixed) f (flat_in (fixed_faces zones l u e) e.fixed x f k (subst (λ kind. In (faces_by_kind zones l u kind e.id x.source x.lo x.hi) f) (sym to.0) n)) in
-        record { face = f; stands = Contains-In (faces zones l u es) f (flat_in (cell_faces zones l u es) es e f j among); from = ends.0; to = ends.1 }
+        shown (faces zones l u es) z f (flat_in (cell_faces zones l u es) es e f j among) ends.0 ends.1
       where
         either : (e : Entries) (c : ℕ) (x : Fixed) (g : ModelFace) (z : ZonePair) → e.id ≡ c → x.source ≡ g.end → Crosses c g.end z ⊎ Crosses g.end c z →
             (f : Face) × In (face_from zones l u e.id x.source x.lo x.hi ++ face_from zones l u x.source e.id x.lo x.hi) f × ((f.from ≡ z.from) × (f.to ≡ z.to))
         either e c x g z id to (inl h) = let (f, n, a, b) = crossed e.id x.source x.lo x.hi c g.end z id to h in (f, left_in (face_from zones l u e.id x.source x.lo x.hi) (face_from zones l u x.source e.id x.lo x.hi) f n, (a, b))
         either e c x g z id to (inr h) = let (f, n, a, b) = crossed x.source e.id x.lo x.hi g.end c z to id h in (f, right_in (face_from zones l u e.id x.source x.lo x.hi) (face_from zones l u x.source e.id x.lo x.hi) f n, (a, b))
 
-    pub shared_has : (z : ZonePair) → share_face m zones p z ≡ true → ShareFace (faces zones l u es) z.from z.to
+    pub shared_has : (z : ZonePair) → share_face m zones p z ≡ true → share (faces zones l u es) z ≡ true
     shared_has z t =
         let s = face_of m zones p z t in
         let c = s.cell in

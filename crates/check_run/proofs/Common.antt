@@ -1,14 +1,14 @@
 -- Names that several proofs of this crate cite, of the crates below and of its own definitions, passed on from one place. Declares nothing.
 pub use Rattle.std.proofs.Common.{All, Bool, Contains, Err, IfOk, List, None, Ok, Option, Result, Some, [], ap, arith, cond, drop, false, get_or, inl, inr}
-pub use Rattle.std.proofs.Common.{length, map, nat_abs, negsuc, option_map, pos, refl, subst, suc, sym, take, true, unsigned_abs, zero, ℕ, ℤ, ◌%◌, ◌*ℤ◌, ◌++◌}
-pub use Rattle.std.proofs.Common.{◌+ℤ◌, ◌+◌, ◌/◌, ◌<ℤ◌, ◌<◌, ◌^◌, ◌∙◌, ◌∷◌, ◌≡◌, ◌≢◌, ◌≤ℤ◌, ◌≤◌, ◌⊎◌}
+pub use Rattle.std.proofs.Common.{length, map, nat_abs, negsuc, option_map, pos, refl, subst, suc, sym, take, true, unsigned_abs, zero, ℕ, ℤ, ◌*ℤ◌, ◌++◌, ◌+ℤ◌}
+pub use Rattle.std.proofs.Common.{◌+◌, ◌<ℤ◌, ◌<◌, ◌^◌, ◌∙◌, ◌∷◌, ◌≡◌, ◌≢◌, ◌≤ℤ◌, ◌≤◌, ◌⊎◌}
 pub use Rattle.std.proofs.lemmas.Bool.{and_from, and_parts, cases_Bool, cases_order, leb-true, lt-ltb}
 pub use Rattle.std.proofs.lemmas.Bool.Decides.{nat_tests}
 pub use Rattle.std.proofs.lemmas.Int.{ints}
 pub use Rattle.std.proofs.lemmas.List.{append-nil, append_assoc, drop_all, drop_more, get_or-map, get_or_default, length-map}
-pub use Rattle.std.proofs.lemmas.List.Elements.{All-contains_itself, All-head, All-tail, All-weaker, recursion_from_All}
+pub use Rattle.std.proofs.lemmas.List.Elements.{All-contains_itself, All-head, All-tail, All-weaker}
 pub use Rattle.std.proofs.lemmas.Result.{err_from_is_err_and}
-pub use Rattle.std.specs.List.{AllByRecursion, AllZip, concat, filter_map, flat_map}
+pub use Rattle.std.specs.List.{AllZip, concat, filter_map, flat_map}
 pub use Rattle.std.specs.Prelude.{IfErr, IfSome, filter, if◌then◌else◌, nat_lt, slice_index}
 pub use Rattle.budget_bounds.specs.{BudgetEncloses, CoverEncloses, Covers, EnclosesBudgets, HeadsAreWithin, IsFirstUncovered, all_terms, is_small, line_of}
 pub use Rattle.budget_bounds.specs.{no_pair, term_limit, too_large}
@@ -41,13 +41,12 @@ pub use Rattle.listing_io.specs.{ListingsAreReadAgain, all_lines, ended, first_l
 unfoldable pub use Rattle.listing_io.specs.{all_step_lines, first_text, step_text}
 pub use Rattle.listing_io.specs.declared.listing.ListedStep.{ListedStep}
 pub use Rattle.listing_run.proofs.HistoriesBound.{AllBoundMoves, BoundsMovesOf, histories_bound}
-pub use Rattle.listing_run.proofs.Unique.{IsRest, first_in, ok_not_err, one_err, one_ok, rest_more, rest_whole}
+pub use Rattle.listing_run.proofs.Unique.{IsRest, first_in, large_one, none_large, ok_not_err, one_err, one_ok, rest_more, rest_whole, same_flows}
 pub use Rattle.listing_run.specs.{AllSteps, AreFlowsOf, BoundAll, BoundBetween, Bounds, BoundsMoves, EnclosesHistories, HasLargeFlowOf, HistoriesBound, IsStep}
-pub use Rattle.listing_run.specs.{Steps, budget_at, deck_task, faces_of, is_between, listing, pairs_of, text_of}
+pub use Rattle.listing_run.specs.{Steps, budget_at, deck_task, faces_of, listing, pairs_of, text_of}
 pub use Rattle.listing_run.specs.declared.solving.Step.{Step}
 pub use Rattle.listing_run.specs.declared.steps.Task.{Task}
 pub use Rattle.listing_run.specs.declared.text.ListingEnd.TheVariants.{Whole}
-pub use Rattle.model_types.proofs.Members.{Contains-In, In-map, map-In}
 pub use Rattle.model_types.proofs.Ranks.{IsAt, at_rank, is_at, passing}
 pub use Rattle.model_types.specs.{FixedSource, FromStorage, HasSize, IsModel, ToConstant, ToGeneral, as_general, cell_count, constant_faces, constant_head}
 pub use Rattle.model_types.specs.{evap_sources, fixed_sources, index_of, is_active, is_chosen, is_constant, is_nonzero, is_variable, kind_of, local_entries}
@@ -56,7 +55,6 @@ pub use Rattle.model_types.specs.declared.limits.Limits.{Limits}
 pub use Rattle.model_types.specs.declared.model.FlowModel.{FlowModel}
 pub use Rattle.model_types.specs.declared.time_steps.TimeStep.{TimeStep}
 pub use Rattle.problem_builder.proofs.Joined.{AllZip-weaker}
-pub use Rattle.problem_builder.proofs.Members.{In-Contains, In-append, In-variable, constant_active, fixed_source, variable-In, variable_active}
 pub use Rattle.problem_builder.proofs.TimesOf.{flat-In, time_of}
 pub use Rattle.problem_builder.specs.{AreGridHeads, HeadsEnclose, IsActive, IsCellOf, IsEvap, IsFixed, IsLink, IsProblemOf}
 pub use Rattle.problem_hull.specs.{AllThree, IsCellHull, IsHullOf, evap_hull, evap_shape, fixed_hull, fixed_shape, link_hull, link_shape}
@@ -76,10 +74,11 @@ pub use Rattle.step_problem.specs.declared.place.Dir.TheVariants.{In, Out}
 pub use Rattle.step_problem.specs.declared.place.NoBound.{NoBound}
 pub use Rattle.step_problem.specs.declared.place.Term.{Term}
 pub use Rattle.step_problem.specs.declared.place.ZoneFlow.{ZoneFlow}
-pub use Rattle.zone_flows.specs.{AreZoneFlows, EncloseExact, Face, IsBeforeAll, IsZoneFlow, PairsAscend, ShareFace, exact_faces, exact_flow, face_between}
-pub use Rattle.zone_flows.specs.{faces_by_kind, fixed_faces, flows_between, is_lower_zone, key_of, link_faces}
+pub use Rattle.zone_flows.proofs.ListedFlows.{IsZoneFlow, flows_of_pairs}
+pub use Rattle.zone_flows.specs.{EncloseExact, Face, exact_faces, exact_flow, face_between, faces_by_kind, fixed_faces, flows_between, is_between}
+pub use Rattle.zone_flows.specs.{is_lower_zone, link_faces, share}
 unfoldable pub use Rattle.zone_flows.specs.{cell_faces, face_from, faces}
-pub use Rattle.zone_pairs.proofs.Joined.{any_in, are_numbers, face_of, in_any, join_of, pairs_small, shared_small, shares}
-pub use Rattle.zone_pairs.specs.{AreNumbers, joins, pair_of, pairs_below, pairs_in, share_face, zones_of_flow}
+pub use Rattle.zone_pairs.proofs.Joined.{any_in, face_of, in_any, join_of, pairs_small, shares}
+pub use Rattle.zone_pairs.specs.{AreNumbers, joins, pairs_below, pairs_in, share_face, zones_of_flow}
 unfoldable pub use Rattle.zone_pairs.specs.{zone_pairs}
 pub use Rattle.zone_pairs.specs.declared.pair.ZonePair.{ZonePair}

@@ -1,9 +1,8 @@
 -- What is first is one: a cell and its side, a term of a budget, and a pair of zones.
-use Rattle.check_run.proofs.Common.{◌≡◌, ◌∙◌, ℕ, ◌<◌, inl, inr, List, [], ◌∷◌, Option, Some, None, refl, sym, ap, subst, arith, AllZip, cases_order, Side, Low}
-use Rattle.check_run.proofs.Common.{High, Dir, Out, Bound, NoBound, Term, ZoneFlow, Entries, Budget, IsFirstUncovered, line_of, AreFlowsOf, HasLargeFlowOf}
-use Rattle.check_run.proofs.Common.{faces_of, CoversFlow, IsFirstNarrow, In, length, map, get_or, pos, get_or-map, length-map, ZonePair, zones_of_flow}
+use Rattle.check_run.proofs.Common.{◌≡◌, ◌∙◌, ℕ, ◌<◌, inl, inr, List, [], ◌∷◌, refl, sym, ap, subst, arith, AllZip, cases_order, Side, Low, High, Dir, Out}
+use Rattle.check_run.proofs.Common.{Term, ZoneFlow, Budget, IsFirstUncovered, line_of, CoversFlow, IsFirstNarrow, In, length, map, get_or, pos, get_or-map}
+use Rattle.check_run.proofs.Common.{length-map, ZonePair, zones_of_flow}
 use Rattle.budget_bounds.proofs.Enclosed.{same_place, place_within}
-use Rattle.zone_flows.proofs.Fitting.{flows_are_one, flows_exclude_refusal, refusal_is_one}
 use Rattle.step_problem.specs.declared.place.Place.TheVariants as places
 
 module _ (H : ℕ → Side → Type 0) where
@@ -53,20 +52,6 @@ never_narrow [] computed a b f wide = f
 never_narrow (v ∷ listed) [] a b f wide = f
 never_narrow (v ∷ listed) (w ∷ computed) a b (inl f) wide = f.0 wide.0
 never_narrow (v ∷ listed) (w ∷ computed) a b (inr f) wide = never_narrow listed computed a b f.1 wide.1
-
--- the flows between the zones of a zone file, or the first pair whose flow is too large
-module _ (p : List Entries) (heads : List Bound) where
-  pub same_flows : (o : Option (List ℕ)) (vs ws : List ZoneFlow) → AreFlowsOf p heads o vs → AreFlowsOf p heads o ws → vs ≡ ws
-  same_flows None vs ws a b = a ∙ sym b
-  same_flows (Some zones) vs ws a b = flows_are_one (faces_of p heads zones) ws vs b a
-
-  pub none_large : (o : Option (List ℕ)) (vs : List ZoneFlow) (n : NoBound) → AreFlowsOf p heads o vs → HasLargeFlowOf p heads o n → ⊥
-  none_large None vs n a h = h
-  none_large (Some zones) vs n a h = flows_exclude_refusal (faces_of p heads zones) vs n a h
-
-  pub large_one : (o : Option (List ℕ)) (a b : NoBound) → HasLargeFlowOf p heads o a → HasLargeFlowOf p heads o b → a ≡ b
-  large_one None a b h i = absurd h
-  large_one (Some zones) a b h i = refusal_is_one (faces_of p heads zones) a b h i
 
 -- The walk over listed flows between zones and computed ones.
 -- what holds of the rest holds of all

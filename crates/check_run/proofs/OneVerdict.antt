@@ -6,13 +6,13 @@ use Rattle.check_run.proofs.Common.{IsListedStep, AreFlowsOf, HasLargeFlowOf, on
 use Rattle.check_run.proofs.Common.{ListingVerdict, Certified, Fails, Refused, ConstantsReach, IsConstantCell, IsFirstShort, ReachesAt, CoversFlow}
 use Rattle.check_run.proofs.Common.{IsFirstNarrow, bounds, Passes, FailsAt, at_constant, at_variable, at_term, at_zones, IsRefused, no_heads, no_budget}
 use Rattle.check_run.proofs.Common.{no_flows, Checks, StopsAt, Decks, AreDecks, IsBefore, ProblemIsOne, ProblemFits, ProblemExcludesRefusal, StartHeadsAreOne}
-use Rattle.check_run.proofs.Common.{StartHeadsFit, IsBarrierBy, cut_by, VerdictIsOne}
+use Rattle.check_run.proofs.Common.{StartHeadsFit, IsBarrierBy, cut_by, VerdictIsOne, large_one, none_large, same_flows}
 use Rattle.step_problem.specs.declared.place.Place.{Place}
 use Rattle.barrier_vector.specs.{BarrierExcludesRefusal, RefusalIsOne as BarrierRefusalIsOne, CutBarrierIsOne, CutBarrierExcludesRefusal, CutRefusalIsOne}
 use Rattle.deck_problems.specs.{RefusalIsOne as ProblemRefusalIsOne}
 use Rattle.step_chain.proofs.Refusals.{poses_one, posed_excludes as step_posed_excludes}
 use Rattle.check_run.specs.{budget_at}
-use Rattle.check_run.proofs.Firsts.{IsFirst, first_one, large_one, narrow_one, never_narrow, none_large, same_flows, term_one}
+use Rattle.check_run.proofs.Firsts.{IsFirst, first_one, narrow_one, never_narrow, term_one}
 use Rattle.check_run.proofs.RunText.{grid_of}
 use Rattle.step_problem.specs.declared.place.Place.TheVariants as places
 

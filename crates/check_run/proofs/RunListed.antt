@@ -5,12 +5,13 @@ use Rattle.check_run.proofs.Common.{All-weaker, Bound, Out, ZoneFlow, Entries, n
 use Rattle.check_run.proofs.Common.{pairs_in, AreNumbers, FlowModel, TimeStep, evap_sources, period_at, times, IsCellOf, IsEvap, AreGridHeads, Solved, bound_at}
 use Rattle.check_run.proofs.Common.{HeadsFit, AreCellBounds, AreFlows, AreFlowsAt, AreListed, IsCellBound, IsFlowPair, IsListedStep, has_evt, zone_pair, Task}
 use Rattle.check_run.proofs.Common.{Step, Whole, AllSteps, IsStep, Steps, budget_at, AreFlowsOf, faces_of, IsRest, first_in, rest_more, rest_whole, as_listed}
-use Rattle.check_run.proofs.Common.{nat_tests, IsZoneFlow, is_nonzero, AllThree, next, none, IsProblemBy, IsBefore, StartHeadsFit, deck_task, Decks, AreDecks}
-use Rattle.check_run.proofs.Common.{PairKind, IsStepBy, pairs_of, Bool, In, IsCellHull, ListedStep, no_entries, variable_cells, AllZip-at, AllZip-length}
-use Rattle.check_run.proofs.Common.{AllZip-right, AllZip-weaker, IsProblemOf, total, is_chosen}
+use Rattle.check_run.proofs.Common.{nat_tests, is_nonzero, AllThree, next, none, IsProblemBy, IsBefore, StartHeadsFit, deck_task, Decks, AreDecks, PairKind}
+use Rattle.check_run.proofs.Common.{IsStepBy, pairs_of, Bool, In, IsCellHull, ListedStep, no_entries, variable_cells, AllZip-at, AllZip-length, AllZip-right}
+use Rattle.check_run.proofs.Common.{AllZip-weaker, IsProblemOf, total, is_chosen, IsZoneFlow, flows_of_pairs}
 use Rattle.check_run.proofs.Branches.{hull_zip}
 use Rattle.step_problem.specs.declared.entry.Evap.{Evap}
 use Rattle.check_run.proofs.FlowPairs.{flows_have_pairs}
+use Rattle.listing_run.proofs.Unique.{same_flows}
 use Rattle.check_run.proofs.RunTerms.{budget_are, eight, flows_are, no_et}
 
 -- Without EVT no cell evaporates.
@@ -129,13 +130,13 @@ small_sum f xs z e h =
 module _ (fs : List Face) where
   small_flow : (v : ZoneFlow) → IsZoneFlow fs v → IsFlowPair (zone_pair v)
   small_flow v h = record {
-    lo = small_sum (λ (x : TermPair). x.lo) (flows_between v.from v.to fs) v.lo h.lo h.small.lo;
-    hi = small_sum (λ (x : TermPair). x.hi) (flows_between v.from v.to fs) v.hi h.hi h.small.hi;
+    lo = small_sum (λ (x : TermPair). x.lo) (flows_between v.from v.to fs) v.lo h.lo h.small_lo;
+    hi = small_sum (λ (x : TermPair). x.hi) (flows_between v.from v.to fs) v.hi h.hi h.small_hi;
   }
 
 flows_small : (p : List Entries) (heads : List Bound) (o : Option (List ℕ)) (vs : List ZoneFlow) → AreFlowsOf p heads o vs → All (λ v. IsFlowPair (zone_pair v)) vs
-flows_small p heads None vs are = let P : List ZoneFlow → Type 0 = All (λ v. IsFlowPair (zone_pair v)) in subst P (sym are) (λ i d lt. absurd (omega (arith, lt)))
-flows_small p heads (Some zones) vs are = All-weaker (IsZoneFlow (faces_of p heads zones)) (λ (v : ZoneFlow). IsFlowPair (zone_pair v)) (small_flow (faces_of p heads zones)) vs are.each
+flows_small p heads None vs are = let P : List ZoneFlow → Type 0 = All (λ v. IsFlowPair (zone_pair v)) in subst P (same_flows p heads None [] vs refl are) (λ i d lt. absurd (omega (arith, lt)))
+flows_small p heads (Some zones) vs are = All-weaker (IsZoneFlow (faces_of p heads zones)) (λ (v : ZoneFlow). IsFlowPair (zone_pair v)) (small_flow (faces_of p heads zones)) vs (flows_of_pairs (faces_of p heads zones) vs are).0
 
 -- All steps of a run.
 
@@ -154,7 +155,7 @@ module _ (fits : HeadsFit) (limits : Limits) (ds : Decks) (s : ℕ) (zones : Opt
 
     step_flows : AreFlows (pairs_in ds.first zones at.period) v.zones
     step_flows = record {
-      pairs = flows_have_pairs ds s at old is.solved.problem valid.first.grid.size is.solves.posed.problem is.solved.heads zones v.zones zoned is.zones;
+      pairs = flows_have_pairs ds s at old is.solved.problem valid.first.grid.size is.solves.posed.problem is.solved.heads zones v.zones is.zones;
       small = flows_small is.solved.problem is.solved.heads zones v.zones is.zones;
     }
 

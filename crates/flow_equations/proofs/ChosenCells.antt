@@ -1,13 +1,10 @@
 -- The cell of a column of layers that an option chooses.
-use Rattle.flow_equations.proofs.Common.{◌≡◌, ℕ, zero, suc, ◌+◌, ◌*◌, ◌<◌, ◌⊎◌, inl, inr, Bool, true, false, ◌&&◌, ◌||◌, List, [], ◌∷◌, refl, sym, ap, ◌∙◌}
-use Rattle.flow_equations.proofs.Common.{arith, ℤ, pos, negsuc, ◌==◌, range_with_len, list_any, eqb-true, cases_lt, false≢true, and_parts, not-true, FlowModel}
+use Rattle.flow_equations.proofs.Common.{◌≡◌, ℕ, zero, suc, ◌+◌, ◌*◌, ◌<◌, inl, inr, Bool, true, false, ◌&&◌, ◌||◌, List, [], ◌∷◌, refl, sym, ap, ◌∙◌, arith, ℤ}
+use Rattle.flow_equations.proofs.Common.{pos, negsuc, ◌==◌, range_with_len, list_any, eqb-true, cases_lt, false≢true, and_parts, not-true, FlowModel}
 use Rattle.flow_equations.proofs.Common.{layer_size, layer_of, place_in_layer, int_at, is_active, is_int, is_chosen, is_highest, range_more, ChoosesOneCell}
+use Rattle.flow_equations.proofs.Common.{or_cases, or_right, ints}
 use Rattle.std.proofs.lemmas.Nat.{div-add-mod'}
 use Rattle.std.proofs.lemmas.List.Folds.{list_any-append}
-
-or_either : (x y : Bool) → (x || y) ≡ true → (x ≡ true) ⊎ (y ≡ true)
-or_either true y e = inl refl
-or_either false y e = inr e
 
 int_is : (z : ℤ) (k : ℕ) → is_int z k ≡ true → z ≡ pos k
 int_is (pos n) k e = ap pos (eqb-true n k e)
@@ -20,8 +17,8 @@ data Chosen (m : FlowModel) (option : ℤ) (layers : List ℤ) (c : ℕ) : Type 
   ByHeight : option ≡ pos 3 → is_active m c ≡ true → is_highest m c ≡ true → Chosen m option layers c
 
 chosen_by : (m : FlowModel) (option : ℤ) (layers : List ℤ) (c : ℕ) → is_chosen m option layers c ≡ true → Chosen m option layers c
-chosen_by m option layers c e = elim (or_either _ _ e) [
-  | inl first ↦ elim (or_either _ _ first) [
+chosen_by m option layers c e = elim (or_cases _ _ e) [
+  | inl first ↦ elim (or_cases _ _ first) [
     | inl top ↦ (let (o, l) = and_parts _ _ top in ByTop (int_is option 1 o) (eqb-true (layer_of m.grid c) 0 l))
     | inr name ↦ (let (o, l) = and_parts _ _ name in ByName (int_is option 2 o) (int_is _ _ l))
   ]
@@ -33,12 +30,8 @@ any_at : (p : ℕ → Bool) (n k : ℕ) → k < n → p k ≡ true → list_any 
 any_at p zero k lt e = absurd (omega arith)
 any_at p (suc n) k lt e = ap (list_any p) (range_more 0 n) ∙ list_any-append p (range_with_len 0 n) ((0 + n) ∷ []) ∙ elim (cases_lt k n) [
   | inl below ↦ ap (λ b. b || list_any p ((0 + n) ∷ [])) (any_at p n k below e)
-  | inr le ↦ (let last : p (0 + n) ≡ true = ap p (omega (arith, lt, le)) ∙ e in ap (λ b. list_any p (range_with_len 0 n) || (b || false)) last ∙ any_or (list_any p (range_with_len 0 n)))
+  | inr le ↦ (let last : p (0 + n) ≡ true = ap p (omega (arith, lt, le)) ∙ e in ap (λ b. list_any p (range_with_len 0 n) || (b || false)) last ∙ or_right (list_any p (range_with_len 0 n)) true refl)
 ]
-  where
-    any_or : (x : Bool) → (x || true) ≡ true
-    any_or true = refl
-    any_or false = refl
 
 module _ (m : FlowModel) (layers : List ℤ) (a b : ℕ) (place : place_in_layer m.grid a ≡ place_in_layer m.grid b) where
   same_cell : layer_of m.grid a ≡ layer_of m.grid b → a ≡ b
@@ -51,34 +44,16 @@ module _ (m : FlowModel) (layers : List ℤ) (a b : ℕ) (place : place_in_layer
       let some = any_at (λ k. is_active m (k * layer_size m.grid + place_in_layer m.grid b)) (layer_of m.grid b) (layer_of m.grid a) lt here in
       false≢true (sym (not-true _ highest) ∙ some)
 
-apart : (o : ℤ) (j k : ℕ) → (j ≡ k → ⊥) → o ≡ pos j → o ≡ pos k → ⊥
-apart o j k n p q = n (pos_is (sym p ∙ q))
-  where
-    pos_is : pos j ≡ pos k → j ≡ k
-    pos_is e = ap number_of e
-      where
-        number_of : ℤ → ℕ
-        number_of (pos n) = n
-        number_of (negsuc n) = 0
-
-pos_back : (j k : ℕ) → pos (suc j) ≡ pos (suc k) → j ≡ k
-pos_back j k e = ap before e
-  where
-    before : ℤ → ℕ
-    before (pos zero) = 0
-    before (pos (suc n)) = n
-    before (negsuc n) = 0
-
 module _ (m : FlowModel) (layers : List ℤ) where
   one_of : (option : ℤ) (a b : ℕ) → place_in_layer m.grid a ≡ place_in_layer m.grid b → Chosen m option layers a → Chosen m option layers b → a ≡ b
   one_of option a b e (ByTop o l) (ByTop q k) = same_cell m layers a b e (l ∙ sym k)
-  one_of option a b e (ByTop o l) (ByName q k) = absurd (apart option 1 2 (λ z. omega (arith, z)) o q)
-  one_of option a b e (ByTop o l) (ByHeight q k h) = absurd (apart option 1 3 (λ z. omega (arith, z)) o q)
-  one_of option a b e (ByName o l) (ByTop q k) = absurd (apart option 2 1 (λ z. omega (arith, z)) o q)
-  one_of option a b e (ByName o l) (ByName q k) = same_cell m layers a b e (pos_back _ _ (sym l ∙ ap (int_at layers) e ∙ k))
-  one_of option a b e (ByName o l) (ByHeight q k h) = absurd (apart option 2 3 (λ z. omega (arith, z)) o q)
-  one_of option a b e (ByHeight o l h) (ByTop q k) = absurd (apart option 3 1 (λ z. omega (arith, z)) o q)
-  one_of option a b e (ByHeight o l h) (ByName q k) = absurd (apart option 3 2 (λ z. omega (arith, z)) o q)
+  one_of option a b e (ByTop o l) (ByName q k) = absurd (omega (arith, ints, o, q))
+  one_of option a b e (ByTop o l) (ByHeight q k h) = absurd (omega (arith, ints, o, q))
+  one_of option a b e (ByName o l) (ByTop q k) = absurd (omega (arith, ints, o, q))
+  one_of option a b e (ByName o l) (ByName q k) = same_cell m layers a b e (let same = sym l ∙ ap (int_at layers) e ∙ k in omega (arith, ints, same))
+  one_of option a b e (ByName o l) (ByHeight q k h) = absurd (omega (arith, ints, o, q))
+  one_of option a b e (ByHeight o l h) (ByTop q k) = absurd (omega (arith, ints, o, q))
+  one_of option a b e (ByHeight o l h) (ByName q k) = absurd (omega (arith, ints, o, q))
   one_of option a b e (ByHeight o l h) (ByHeight q k g) = elim (cases_lt (layer_of m.grid a) (layer_of m.grid b)) [
     | inl above ↦ absurd (not_above m layers a b e l g above)
     | inr le ↦ elim (cases_lt (layer_of m.grid b) (layer_of m.grid a)) [
@@ -91,10 +66,7 @@ module _ (m : FlowModel) (layers : List ℤ) where
   at_top c e = ap (λ l. ((l == 0) || false) || false) e
 
   by_name : (c : ℕ) → int_at layers (place_in_layer m.grid c) ≡ pos (suc (layer_of m.grid c)) → is_chosen m (pos 2) layers c ≡ true
-  by_name c e = ap (λ z. is_int z (suc (layer_of m.grid c)) || false) e ∙ ap (λ b. b || false) (itself (suc (layer_of m.grid c)))
-    where
-      itself : (n : ℕ) → (n == n) ≡ true
-      itself n = grind arith
+  by_name c e = ap (λ z. is_int z (suc (layer_of m.grid c)) || false) e ∙ ap (λ b. b || false) (let itself : (suc (layer_of m.grid c) == suc (layer_of m.grid c)) ≡ true = grind arith in itself)
 
   by_height : (c : ℕ) → is_active m c ≡ true → is_highest m c ≡ true → is_chosen m (pos 3) layers c ≡ true
   by_height c active highest = λ i. active i && highest i

@@ -3,9 +3,9 @@ pub use Rattle.std.proofs.Common.{Bool, List, None, Option, Some, [], ap, arith,
 pub use Rattle.std.proofs.Common.{subst, suc, sym, take, true, zero, ℕ, ℤ, ◌%◌, ◌&&◌, ◌*ℤ◌, ◌*◌, ◌++◌, ◌+ℤ◌, ◌+◌, ◌-ℤ◌, ◌-◌, ◌<◌, ◌^◌, ◌||◌, ◌∙◌, ◌∷◌, ◌≡◌}
 pub use Rattle.std.proofs.Common.{◌≤ℤ◌, ◌≤◌, ◌⊎◌}
 pub use Rattle.std.proofs.Math.Nat.{mul-le-mul_left, one-le-pow}
-pub use Rattle.std.proofs.lemmas.Bool.{and_parts, cases_lt, cond-true, eqb-true, false≢true, le-leb, ne_eqb, not-true}
+pub use Rattle.std.proofs.lemmas.Bool.{and_parts, cases_lt, cond-true, eqb-true, false≢true, le-leb, ne_eqb, not-true, or_cases, or_right}
 pub use Rattle.std.proofs.lemmas.Int.{clamps, ints}
-pub use Rattle.std.proofs.lemmas.List.{append-nil, get_or-replicate, length-replicate, reverse-append, take_all, take_more}
+pub use Rattle.std.proofs.lemmas.List.{append-nil, get_or-map, get_or-replicate, length-map, length-replicate, reverse-append, take_all, take_more}
 pub use Rattle.std.specs.List.{filter_map, find, flat_map, list_any, range_with_len}
 pub use Rattle.std.specs.Prelude.{All, Contains, nat_lt, replicate, reverse, unsigned_abs, ◌==◌}
 pub use Rattle.cell_balance.proofs.Enclosing.{same_over}
@@ -29,15 +29,15 @@ pub use Rattle.flow_equations.specs.{variable_heads, vector}
 pub use Rattle.model_types.proofs.Members.{All-In, Contains-In, In, In-map, Ordered, Ordered-at, filter_map-In, map-In}
 pub use Rattle.model_types.proofs.Ranks.{IsAt, at_rank, is_at, passing, range_more, rank, rank_below}
 pub use Rattle.model_types.specs.{AreStresses, EvapSource, FlowSource, HasSize, IsCellValid, IsEntryList, IsEntryValid, IsGrid, IsHeadNumber, IsModel}
-pub use Rattle.model_types.specs.{IsNotNegative, IsPeriod, IsPositive, IsThick, IsTimed, Received, as_well, bed_thickness, between_heads, bottom_at, cell_count}
-pub use Rattle.model_types.specs.{dec_at, delc_at, delr_at, evap_conductance, gap, hani_at, head_or_kept, hk_at, index_of, int_at, is_active, is_chosen}
-pub use Rattle.model_types.specs.{is_constant, is_highest, is_int, is_variable, kept_head, last_given, layer_of, layer_size, local_entries, lowest, multiplier}
-pub use Rattle.model_types.specs.{no_number, no_period, no_stresses, one, period_at, place_in_layer, start_head, storage_capacity, thickness, top_at, two}
-pub use Rattle.model_types.specs.{variable_cells, variable_faces, vertical_conductivity, vka_at, vkcb_at}
+pub use Rattle.model_types.specs.{IsNotNegative, IsPeriod, IsPositive, IsThick, IsTimed, Pumped, Received, as_well, bed_thickness, between_heads, bottom_at}
+pub use Rattle.model_types.specs.{cell_count, dec_at, delc_at, delr_at, evap_conductance, gap, hani_at, head_or_kept, hk_at, index_of, int_at, is_active}
+pub use Rattle.model_types.specs.{is_chosen, is_constant, is_highest, is_int, is_variable, kept_head, last_given, layer_of, layer_size, local_entries, lowest}
+pub use Rattle.model_types.specs.{multiplier, no_number, no_period, no_stresses, one, period_at, place_in_layer, start_head, storage_capacity, thickness}
+pub use Rattle.model_types.specs.{top_at, two, variable_cells, variable_faces, vertical_conductivity, vka_at, vkcb_at}
 unfoldable pub use Rattle.model_types.specs.{area, column_conductance, constant_head, entries_of, geometric, given_in, half, in_a_row, passed, power}
 unfoldable pub use Rattle.model_types.specs.{row_conductance, step_length, storage, variable_below, vertical_conductance, vertical_half}
 pub use Rattle.model_types.specs.declared.entry.Entry.{Entry}
-pub use Rattle.model_types.specs.declared.entry.Entry.TheVariants.{Drain, General, River, Well}
+pub use Rattle.model_types.specs.declared.entry.Entry.TheVariants.{Well}
 pub use Rattle.model_types.specs.declared.model.FlowModel.{FlowModel}
 pub use Rattle.model_types.specs.declared.period.Period.{Period}
 pub use Rattle.step_problem.proofs.Leasts.{mul_assoc, mul_neg}

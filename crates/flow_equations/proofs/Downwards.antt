@@ -64,13 +64,10 @@ joined : (k f g : Ratio) → 0 < k.num → Same (plus (over f k) (over g k)) (ov
 joined k f g some = same_by (value_plus (value_over some (itself f) (itself k)) (value_over some (itself g) (itself k))) (value_over some (value_plus (itself f) (itself g)) (itself k)) (join f.num (den f) g.num (den g) k.num (den k))
 
 -- A / (D / k) = k A / D
-turn_over : (a x d y k z : ℕ) → (a * (y * k)) * ((z * x) * d) ≡ ((k * a) * y) * (x * (d * z))
-turn_over a x d y k z = omega arith
-
 turned_over : (k A D : Ratio) → 0 < k.num → 0 < D.num → Same (over A (over D k)) (over (times k A) D)
 turned_over k A D some room =
     let inner = value_over some (itself D) (itself k) in
-    same_by (value_over (mul-pos room (omega arith)) (itself A) inner) (value_over room (value_times (itself k) (itself A)) (itself D)) (turn_over A.num (den A) D.num (den D) k.num (den k))
+    same_by (value_over (mul-pos room (omega arith)) (itself A) inner) (value_over room (value_times (itself k) (itself A)) (itself D)) (omega arith)
 
 nothing_over : (f g h : Ratio) → f.num ≡ 0 → Same (over f g) (over f h)
 nothing_over f g h e = record { cross = rw (num_over, num_over, e) (omega arith) }
@@ -114,9 +111,6 @@ module _ (m : FlowModel) (k : Ratio) (a b : ℕ) (h : IsOneMaterial m k a b) whe
       let above : 0 < (over (distance m a b) k).num = omega (arith, (value_over h.positive (itself (distance m a b)) (itself k)).num, across) in
       Same-trans (over-Same (above_zero (over (distance m a b) k).num _ (den (plus (plus (vertical_half m a) (over (bed_thickness m a) (size (vkcb_at m a)))) (vertical_half m b))) (den (over (distance m a b) k)) above (omega arith) sum.cross) above (Same-self (area m a)) sum) (turned_over k (area m a) (distance m a b) h.positive room)
 
-quotient_times : (n x d y : ℕ) → ((n * y) * d) * x ≡ n * ((x * d) * y)
-quotient_times n x d y = omega arith
-
 pub vertical_conductivity_of : (m : FlowModel) (c : ℕ) → HasVerticalConductivity m c
 vertical_conductivity_of m c = record {
   given = (λ e. Same-of (ap (λ b. cond b (over (size (hk_at m c)) (size (vka_at m c))) (size (vka_at m c))) e));
@@ -124,5 +118,5 @@ vertical_conductivity_of m c = record {
       let hk = size (hk_at m c) in
       let vka = size (vka_at m c) in
       let same = ap (λ b. times (cond b (over hk vka) vka) vka) e in
-      Same-trans (Same-of same) (same_by (value_times (value_over (size_positive (vka_at m c) h) (itself hk) (itself vka)) (itself vka)) (itself hk) (quotient_times hk.num (den hk) vka.num (den vka))));
+      Same-trans (Same-of same) (same_by (value_times (value_over (size_positive (vka_at m c) h) (itself hk) (itself vka)) (itself vka)) (itself hk) (omega arith)));
 }

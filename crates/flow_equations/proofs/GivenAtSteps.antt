@@ -13,7 +13,14 @@ use Rattle.flow_equations.proofs.Downwards.{value_one, itself, value_over, cross
 use Rattle.flow_equations.proofs.StepSums.{geometric_one, value_ratio}
 use Rattle.flow_equations.proofs.TurnedFlows.{over_first, over_second}
 
+pub wider : (m k : ℕ) (g : Fraction) (z : ℤ) → IsOver m g z → IsOver (m * k) g (z *ℤ pos k)
+wider m k g z p = record { is = sym (mul_assoc g.num (pos m) (pos k)) ∙ ap (λ (y : ℤ). y *ℤ pos k) p.is ∙ swap z (pos (den g)) (pos k) }
+
 -- Shead + (Ehead - Shead) * f, where f is n over k
+pub between_over : (x : Given) (f : Ratio) (m k n : ℕ) (a b : ℤ) → IsShare k f n → IsOver m (number x.shead) a → IsOver m (number x.ehead) b → IsOver (m * k) (between_heads x f) (a *ℤ pos k +ℤ (b +ℤ neg_ℤ a) *ℤ pos n)
+between_over x f m k n a b share s e = IsOver-plus (m * k) (number x.shead) (times (plus (number x.ehead) (negated (number x.shead))) (signed f)) _ _ (wider m k (number x.shead) a s)
+    (IsOver-times m k (plus (number x.ehead) (negated (number x.shead))) (signed f) (b +ℤ neg_ℤ a) (pos n) (IsOver-plus m (number x.ehead) (negated (number x.shead)) b (neg_ℤ a) e (IsOver-negated m (number x.shead) a s)) (IsOver-signed k f n share))
+
 module _ (x : Given) (f : Ratio) (k n : ℕ) (some : 0 < k) (share : IsShare k f n) where
   abbrev s : Fraction
   s = number x.shead
@@ -30,26 +37,22 @@ module _ (x : Given) (f : Ratio) (k n : ℕ) (some : 0 < k) (share : IsShare k f
   abbrev b : ℤ
   b = e.num *ℤ pos (den s)
 
-  wider : (g : Fraction) (z : ℤ) → IsOver m g z → IsOver (m * k) g (z *ℤ pos k)
-  wider g z p = record { is = sym (mul_assoc g.num (pos m) (pos k)) ∙ ap (λ (y : ℤ). y *ℤ pos k) p.is ∙ swap z (pos (den g)) (pos k) }
-
-  between_over : IsOver (m * k) (between_heads x f) (a *ℤ pos k +ℤ (b +ℤ neg_ℤ a) *ℤ pos n)
-  between_over = IsOver-plus (m * k) s (times (plus e (negated s)) (signed f)) _ _ (wider s a (over_first s e))
-      (IsOver-times m k (plus e (negated s)) (signed f) (b +ℤ neg_ℤ a) (pos n) (IsOver-plus m e (negated s) b (neg_ℤ a) (over_second s e) (IsOver-negated m s a (over_first s e))) (IsOver-signed k f n share))
+  between : IsOver (m * k) (between_heads x f) (a *ℤ pos k +ℤ (b +ℤ neg_ℤ a) *ℤ pos n)
+  between = between_over x f m k n a b share (over_first s e) (over_second s e)
 
   some_over : 0 < m * k
   some_over = mul-pos (mul-pos (omega arith) (omega arith)) some
 
   -- the whole of the way
   at_end : n ≡ k → Same (between_heads x f) e
-  at_end same = same_over (m * k) _ _ _ _ some_over between_over (wider e b (over_second s e)) (ap (λ (j : ℕ). a *ℤ pos k +ℤ (b +ℤ neg_ℤ a) *ℤ pos j) same ∙ all_the_way a b (pos k))
+  at_end same = same_over (m * k) _ _ _ _ some_over between (wider m k e b (over_second s e)) (ap (λ (j : ℕ). a *ℤ pos k +ℤ (b +ℤ neg_ℤ a) *ℤ pos j) same ∙ all_the_way a b (pos k))
     where
       all_the_way : (u v w : ℤ) → u *ℤ w +ℤ (v +ℤ neg_ℤ u) *ℤ w ≡ v *ℤ w
       all_the_way u v w = rw (as_diff u, as_diff v, as_diff w) (simp diffs (same_diff _ _ _ _ (omega arith)))
 
   -- half of it
   half_way : 2 * n ≡ k → Same (plus (between_heads x f) (between_heads x f)) (plus s e)
-  half_way twice = same_over (m * k) _ _ _ _ some_over (IsOver-plus (m * k) _ _ _ _ between_over between_over) (IsOver-plus (m * k) s e _ _ (wider s a (over_first s e)) (wider e b (over_second s e))) (half a b (pos n) (pos k) (omega (arith, ints)))
+  half_way twice = same_over (m * k) _ _ _ _ some_over (IsOver-plus (m * k) _ _ _ _ between between) (IsOver-plus (m * k) s e _ _ (wider m k s a (over_first s e)) (wider m k e b (over_second s e))) (half a b (pos n) (pos k) (omega (arith, ints)))
     where
       halves : (u v w : ℤ) → (u *ℤ (w +ℤ w) +ℤ (v +ℤ neg_ℤ u) *ℤ w) +ℤ (u *ℤ (w +ℤ w) +ℤ (v +ℤ neg_ℤ u) *ℤ w) ≡ u *ℤ (w +ℤ w) +ℤ v *ℤ (w +ℤ w)
       halves u v w = rw (as_diff u, as_diff v, as_diff w) (simp diffs (same_diff _ _ _ _ (omega arith)))
@@ -109,10 +112,7 @@ module _ (m : FlowModel) (p c : ℕ) (x : Given) (given : given_in (period_at m 
       subst (λ (z : Fraction). Same (plus z z) (plus (number x.shead) (number x.ehead))) (sym (named 1)) (half_way x f (ratio_den f) f.num (omega arith) (record { is = refl }) (passed_half (period_at m p) h e two))
 
 find_more : {X : Type 0} (test : X → Bool) (xs ys : List X) (x : X) → find test xs ≡ Some x → find test (xs ++ ys) ≡ Some x
-find_more test [] ys x e = absurd (none e)
-  where
-    none : {X : Type 0} {x : X} → None ≡ Some x → ⊥
-    none e = grind arith
+find_more test [] ys x e = absurd (let bad : None ≡ Some x = e in cc)
 find_more test (z ∷ zs) ys x e = by (test z) (find_more test zs ys x) e
   where
     by : (b : Bool) → (find test zs ≡ Some x → find test (zs ++ ys) ≡ Some x) → cond b (Some z) (find test zs) ≡ Some x → cond b (Some z) (find test (zs ++ ys)) ≡ Some x
@@ -123,11 +123,8 @@ find_past : {X : Type 0} (test : X → Bool) (xs ys : List X) → find test xs �
 find_past test [] ys e = refl
 find_past test (z ∷ zs) ys e = by (test z) (find_past test zs ys) e
   where
-    some : {X : Type 0} {x : X} → Some x ≡ None → ⊥
-    some e = grind arith
-
     by : (b : Bool) → (find test zs ≡ None → find test (zs ++ ys) ≡ find test ys) → cond b (Some z) (find test zs) ≡ None → cond b (Some z) (find test (zs ++ ys)) ≡ find test ys
-    by true h e = absurd (some e)
+    by true h e = absurd (let bad : Some z ≡ None = e in cc)
     by false h e = h e
 
 given_last : (us vs : List Given) (c : ℕ) (x : Given) → given_in vs c ≡ Some x → given_in (us ++ vs) c ≡ Some x

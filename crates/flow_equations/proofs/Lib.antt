@@ -5,10 +5,10 @@ mod StepSums
 mod StorageTerms
 pub mod Downwards
 mod Elevations
-mod TurnedFlows
+pub mod TurnedFlows
 mod ChosenCells
 mod ReceivedFlows
-mod GivenAtSteps
+pub mod GivenAtSteps
 mod Solved
 pub mod Validity
 mod Loose

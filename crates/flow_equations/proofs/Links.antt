@@ -1,8 +1,9 @@
 -- The links of an exact step: other variable cells, each once, and the same conductance at both ends.
-use Rattle.flow_equations.proofs.Common.{◌≡◌, ℕ, zero, suc, ◌<◌, inl, inr, Bool, true, List, [], ◌∷◌, length, get_or, map, refl, sym, ap, ◌∙◌, subst, arith}
-use Rattle.flow_equations.proofs.Common.{Fraction, Same, ExactLink, ExactCell, cell_at, no_cell, FlowModel, cell_count, is_variable, variable_below}
-use Rattle.flow_equations.proofs.Common.{variable_cells, index_of, variable_faces, HasSize, In, In-map, map-In, Contains-In, All-In, Ordered, Ordered-at}
-use Rattle.flow_equations.proofs.Common.{passing, rank, rank_below, at_rank, is_at, IsAt, exact_step, exact_cell, exact_link, HasLinkBack, AreLinked, no_link}
+use Rattle.flow_equations.proofs.Common.{◌≡◌, ℕ, ◌<◌, inl, inr, Bool, true, List, [], ◌∷◌, length, get_or, map, refl, sym, ap, ◌∙◌, subst, arith, Fraction}
+use Rattle.flow_equations.proofs.Common.{Same, ExactLink, ExactCell, cell_at, no_cell, FlowModel, cell_count, is_variable, variable_below, variable_cells}
+use Rattle.flow_equations.proofs.Common.{index_of, variable_faces, HasSize, In, In-map, map-In, Contains-In, All-In, Ordered, Ordered-at, passing, rank}
+use Rattle.flow_equations.proofs.Common.{rank_below, at_rank, is_at, IsAt, exact_step, exact_cell, exact_link, HasLinkBack, AreLinked, no_link, get_or-map}
+use Rattle.flow_equations.proofs.Common.{length-map}
 use Rattle.model_types.specs.declared.face.Face.{Face}
 use Rattle.model_types.proofs.Leads.{IsFaceOf, passing_are, passing_have, end_within, face_back, turned, ends_ascend}
 
@@ -10,15 +11,6 @@ pub Ordered-map : {X Y : Type 0} (R : X → X → Type 0) (S : Y → Y → Type 
 Ordered-map R S f [] h k = tt
 Ordered-map R S f (x ∷ xs) h k =
     ((λ y i. let (z, j, e) = map-In f xs y i in subst (S (f x)) e (h x z (inl refl) (inr j) (k.0 z j))), Ordered-map R S f xs (λ a b i j. h a b (inr i) (inr j)) k.1)
-
-pub length-map : {X Y : Type 0} (f : X → Y) (xs : List X) → length (map f xs) ≡ length xs
-length-map f [] = refl
-length-map f (x ∷ xs) = ap suc (length-map f xs)
-
-pub get_or-map : {X Y : Type 0} (f : X → Y) (xs : List X) (i : ℕ) (d : X) (e : Y) → i < length xs → get_or (map f xs) i e ≡ f (get_or xs i d)
-get_or-map f [] i d e lt = absurd (omega arith)
-get_or-map f (x ∷ xs) zero d e lt = refl
-get_or-map f (x ∷ xs) (suc i) d e lt = get_or-map f xs i d e (omega arith)
 
 map_back : {X Y : Type 0} (f : X → Y) (g : Y → X) → ((x : X) → g (f x) ≡ x) → (xs : List X) → map g (map f xs) ≡ xs
 map_back f g h [] = refl
@@ -46,14 +38,14 @@ module _ (m : FlowModel) (p n : ℕ) (old : ℕ → Fraction) (size : HasSize m.
   number i = get_or (passing test (cell_count m.grid)) i 0
 
   count_is : length step ≡ rank test (cell_count m.grid)
-  count_is = length-map (exact_cell m p n old) (variable_cells m p) ∙ ap length (below_is m p (cell_count m.grid))
+  count_is = length-map (variable_cells m p) (exact_cell m p n old) ∙ ap length (below_is m p (cell_count m.grid))
 
   place : (i : ℕ) → i < length step → IsAt test (cell_count m.grid) i (number i)
   place i lt = is_at test (cell_count m.grid) i (omega (arith, lt, count_is))
 
   cell_is : (i : ℕ) → i < length step → cell_at step i ≡ exact_cell m p n old (number i)
   cell_is i lt =
-      get_or-map (exact_cell m p n old) (variable_cells m p) i 0 no_cell (omega (arith, lt, length-map (exact_cell m p n old) (variable_cells m p)))
+      get_or-map (exact_cell m p n old) (variable_cells m p) i 0 no_cell (omega (arith, lt, length-map (variable_cells m p) (exact_cell m p n old)))
       ∙ ap (λ cs. exact_cell m p n old (get_or cs i 0)) (below_is m p (cell_count m.grid))
 
   index_within : (c : ℕ) → test c ≡ true → c < cell_count m.grid → rank test c < length step

@@ -2,10 +2,10 @@
 use Rattle.flow_equations.proofs.Common.{◌≡◌, ℕ, ◌*◌, ◌<◌, inl, Bool, false, cond, Option, Some, None, List, ◌++◌, map, refl, sym, ap, ◌∙◌, subst, arith, ℤ}
 use Rattle.flow_equations.proofs.Common.{pos, neg_ℤ, ◌+ℤ◌, ◌-ℤ◌, ◌*ℤ◌, mul-pos, All, Contains, filter_map, ints, clamps, Dec, number, size, Ratio, times}
 use Rattle.flow_equations.proofs.Common.{Fraction, den, whole, signed, negated, IsOver, with_sign, ExactFlow, minus, greater, IsOver-plus, IsOver-times}
-use Rattle.flow_equations.proofs.Common.{IsOver-minus, IsOver-negated, IsOver-none, IsOver-signed, IsOver-greater, same_over, FlowModel, Entry, Well, River}
-use Rattle.flow_equations.proofs.Common.{Drain, General, place_in_layer, dec_at, area, IsPositive, period_at, EvapSource, is_chosen, evap_conductance}
-use Rattle.flow_equations.proofs.Common.{FlowSource, local_entries, as_well, All-In, map-In, filter_map-In, Contains-In, exact_flow, exact_evap, recharge_of}
-use Rattle.flow_equations.proofs.Common.{ReceivesRecharge, Evaporates, Received}
+use Rattle.flow_equations.proofs.Common.{IsOver-minus, IsOver-negated, IsOver-none, IsOver-signed, IsOver-greater, same_over, FlowModel, Entry, Well}
+use Rattle.flow_equations.proofs.Common.{place_in_layer, dec_at, area, IsPositive, period_at, EvapSource, is_chosen, evap_conductance, FlowSource}
+use Rattle.flow_equations.proofs.Common.{local_entries, as_well, All-In, map-In, filter_map-In, Contains-In, exact_flow, exact_evap, recharge_of}
+use Rattle.flow_equations.proofs.Common.{ReceivesRecharge, Evaporates, Received, Pumped}
 use Rattle.std.specs.Int.{int_max}
 use Rattle.std.specs.Option.{option_to_list}
 use Rattle.decimal_input.specs.Ratios.{den as ratio_den}
@@ -28,26 +28,8 @@ module _ (m : FlowModel) (p n : ℕ) (old : ℕ → Fraction) (c : ℕ) where
 
   -- a well's flow alone comes of an entry
   of_entry : (e : Entry) (s : FlowSource) → as_well e ≡ Some s → (exact_flow m p n old c s).kind ≡ Wells
-  of_entry (Well k q) s e = ap (λ z. (exact_flow m p n old c z).kind) (sym (some_is _ _ e))
-    where
-      some_is : (x y : FlowSource) → Some x ≡ Some y → x ≡ y
-      some_is x y e = ap (λ o. or_else o) e
-        where
-          or_else : Option FlowSource → FlowSource
-          or_else None = x
-          or_else (Some z) = z
-  of_entry (River k s g b) t e = absurd (none e)
-    where
-      none : {x : FlowSource} → None ≡ Some x → ⊥
-      none e = grind arith
-  of_entry (Drain k s g) t e = absurd (none e)
-    where
-      none : {x : FlowSource} → None ≡ Some x → ⊥
-      none e = grind arith
-  of_entry (General k s g) t e = absurd (none e)
-    where
-      none : {x : FlowSource} → None ≡ Some x → ⊥
-      none e = grind arith
+  of_entry (Well k q) s e = let is : Some (Pumped q) ≡ Some s = e in let same : Pumped q ≡ s = cc in ap (λ z. (exact_flow m p n old c z).kind) (sym same)
+  of_entry x s e = absurd (let bad : None ≡ Some s = e in cc)
 
   wells_alone : All (λ x. x.kind ≡ Wells) (flows None)
   wells_alone = All-In (λ x. x.kind ≡ Wells) (flows None) (λ x i.

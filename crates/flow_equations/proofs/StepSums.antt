@@ -1,8 +1,8 @@
 -- Time steps of a transient period: they grow by TSMULT from the manual's first one, and sum to the period.
-use Rattle.flow_equations.proofs.Common.{◌≡◌, ℕ, zero, suc, ◌+◌, ◌*◌, ◌-◌, ◌<◌, ◌≤◌, Bool, true, false, cond, ◌||◌, List, [], ◌∷◌, ◌++◌, refl, sym, ap, ◌∙◌}
-use Rattle.flow_equations.proofs.Common.{subst, arith, mul-pos, ◌==◌, range_with_len, eqb-true, ne_eqb, size, Ratio, ratio, plus, times, over, Same, Same-trans}
-use Rattle.flow_equations.proofs.Common.{Same-self, Same-of, plus-Same, times-Same, over-Same, FlowModel, Period, one, power, geometric, step_length}
-use Rattle.flow_equations.proofs.Common.{multiplier, passed, storage, storage_capacity, range_more, ratio_total, Lasts, HasManualSteps}
+use Rattle.flow_equations.proofs.Common.{◌≡◌, ℕ, zero, suc, ◌+◌, ◌*◌, ◌-◌, ◌<◌, ◌≤◌, Bool, true, false, cond, ◌||◌, List, [], ◌∷◌, ◌++◌, refl, sym, ap, arith}
+use Rattle.flow_equations.proofs.Common.{mul-pos, ◌==◌, range_with_len, eqb-true, ne_eqb, size, Ratio, ratio, plus, times, over, Same, Same-trans, Same-self}
+use Rattle.flow_equations.proofs.Common.{Same-of, plus-Same, times-Same, over-Same, FlowModel, Period, one, power, geometric, step_length, multiplier, passed}
+use Rattle.flow_equations.proofs.Common.{storage, storage_capacity, range_more, ratio_total, Lasts, HasManualSteps}
 use Rattle.decimal_input.specs.Ratios.{den}
 use Rattle.model_types.proofs.Growth.{power-positive, horner}
 use Rattle.flow_equations.proofs.Downwards.{IsValue, itself, value_one, value_times, value_plus, value_over, same_by, size_positive}
@@ -93,35 +93,20 @@ module _ (p : Period) (h : Lasts p) where
   unfolding step_length
   step_is n k e = ap (λ j. over (times P (power T j)) (G p.nstp)) e
 
-  next_power : (k : ℕ) → power T (suc k) ≡ times (power T k) T
-  unfolding power
-  next_power k = refl
-
-  no_power : power T 0 ≡ one
-  unfolding power
-  no_power = refl
-
-  no_sum : G 0 ≡ ratio 0 1
-  unfolding geometric
-  no_sum = refl
-
-  next_sum : (k : ℕ) → G (suc k) ≡ plus (G k) (power T k)
-  unfolding geometric
-  next_sum k = refl
-
   grows : (n : ℕ) → 1 ≤ n → Same (step_length p (n + 1)) (times T (step_length p n))
+  unfolding power
   grows n some =
-      let next = step_is (n + 1) (suc (n - 1)) (omega arith) ∙ ap (λ q. over (times P q) (G p.nstp)) (next_power (n - 1)) in
-      Same-trans (Same-of next) (Same-trans (grown P (G p.nstp) whole_sum T (power T (n - 1))) (Same-of (ap (times T) (sym (step_is n (n - 1) refl)))))
+      Same-trans (Same-of (step_is (n + 1) (suc (n - 1)) (omega arith))) (Same-trans (grown P (G p.nstp) whole_sum T (power T (n - 1))) (Same-of (ap (times T) (sym (step_is n (n - 1) refl)))))
 
   first_step : step_length p 1 ≡ over (times P one) (G p.nstp)
-  first_step = step_is 1 0 refl ∙ ap (λ q. over (times P q) (G p.nstp)) no_power
+  unfolding power
+  first_step = step_is 1 0 refl
 
   first : Same (plus (times (step_length p 1) (power T p.nstp)) P) (plus (times P T) (step_length p 1))
+  unfolding geometric
   first =
       let w = power T p.nstp in
-      let more = subst (λ s. Same s (plus (times (G p.nstp) T) one)) (next_sum p.nstp) (horner T p.nstp) in
-      let meet = over-Same whole_sum whole_sum (times-Same (Same-self P) more) (Same-self (G p.nstp)) in
+      let meet = over-Same whole_sum whole_sum (times-Same (Same-self P) (horner T p.nstp)) (Same-self (G p.nstp)) in
       Same-trans (Same-of (ap (λ s. plus (times s w) P) first_step))
       (Same-trans (first_left P (G p.nstp) whole_sum w)
       (Same-trans meet
@@ -135,12 +120,12 @@ module _ (p : Period) (h : Lasts p) where
 
   -- the time that has passed after n steps
   elapsed : (n : ℕ) → Same (ratio_total (step_length p) (range_with_len 1 n)) (over (times P (G n)) (G p.nstp))
-  elapsed zero = Same-trans (nothing_yet P (G p.nstp) whole_sum) (Same-of (ap (λ q. over (times P q) (G p.nstp)) (sym no_sum)))
+  unfolding geometric
+  elapsed zero = nothing_yet P (G p.nstp) whole_sum
   elapsed (suc n) =
       Same-trans (Same-of (ap (ratio_total (step_length p)) (range_more 1 n)))
       (Same-trans (total_more (step_length p) (range_with_len 1 n) (1 + n))
-      (Same-trans (plus-Same (elapsed n) (Same-of (step_is (1 + n) n (cancel n))))
-      (Same-trans (one_more P (G p.nstp) whole_sum (G n) (power T n)) (Same-of (ap (λ q. over (times P q) (G p.nstp)) (sym (next_sum n)))))))
+      (Same-trans (plus-Same (elapsed n) (Same-of (step_is (1 + n) n (cancel n)))) (one_more P (G p.nstp) whole_sum (G n) (power T n))))
 
   whole : Same (ratio_total (step_length p) (range_with_len 1 p.nstp)) P
   whole = Same-trans (elapsed p.nstp) (all_of_it P (G p.nstp) whole_sum)

@@ -4,40 +4,21 @@ ghost use Rattle.model_types.specs.declared.model.FlowModel.{FlowModel};
 ghost use Rattle.flow_equations.specs.{IsSameFromBothEnds, MeetsDarcy, MeetsDarcyAlongColumns, HasUnitBranches, IsHarmonic, FlowsChangeSign};
 ghost use Rattle.flow_equations.specs.{MeetsDarcyDownwards, HasVerticalConductivity, LayersFillTheSpace};
 
-/// A branch is the same from both ends.
-#[tactic(auto, using(crate::proofs::Darcy::from_both_ends))]
-pub fn same_from_both_ends()
-    ensures { (m : FlowModel) → IsSameFromBothEnds m }
-{}
-
-/// Between two cells of a row that are alike the conductance is HK * THICK * DELC / DELR.
-#[tactic(auto, using(crate::proofs::Darcy::meets_darcy))]
+/// A branch is the same from both ends. Between two cells of a row that are alike the conductance is
+/// HK * THICK * DELC / DELR; between square cells of unit conductivity and thickness it is 1; between two cells of a column
+/// that are alike it is HK * HANI * THICK * DELR / DELC; between two cells one above the other, of one material with the bed
+/// between them, it is VK * DELR * DELC over the distance between their centres.
 pub fn darcy()
-    ensures { (m : FlowModel) → MeetsDarcy m }
-{}
-
-/// Between square cells of unit conductivity and thickness it is 1.
-#[tactic(auto, using(crate::proofs::Darcy::unit_branch))]
-pub fn unit_branches()
-    ensures { (m : FlowModel) → HasUnitBranches m }
+    ensures ends { (m : FlowModel) → IsSameFromBothEnds m }
+    ensures rows { (m : FlowModel) → MeetsDarcy m }
+    ensures unit { (m : FlowModel) → HasUnitBranches m }
+    ensures columns { (m : FlowModel) → MeetsDarcyAlongColumns m }
+    ensures downwards { (m : FlowModel) → MeetsDarcyDownwards m }
 {}
 
 /// The harmonic mean lies between the conductances of the two halves.
 pub fn harmonic_mean()
     ensures { IsHarmonic }
-{}
-
-/// Between two cells of a column that are alike the conductance is HK * HANI * THICK * DELR / DELC.
-#[tactic(auto, using(crate::proofs::Darcy::meets_darcy_along_columns))]
-pub fn darcy_along_columns()
-    ensures { (m : FlowModel) → MeetsDarcyAlongColumns m }
-{}
-
-/// Between two cells one above the other, of one material with the bed between them, the conductance is
-/// VK * DELR * DELC over the distance between their centres.
-#[tactic(auto, using(crate::proofs::Downwards::meets_darcy_downwards))]
-pub fn darcy_downwards()
-    ensures { (m : FlowModel) → MeetsDarcyDownwards m }
 {}
 
 /// A cell, the bed below it and the cell of the next layer fill the space between them.

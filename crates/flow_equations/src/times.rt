@@ -6,14 +6,10 @@ pub fn steps_of_a_period()
     ensures { StepsAreTheManuals }
 {}
 
-/// The storage of a step is the storage capacity over the step's length.
-#[tactic(auto, using(crate::proofs::StepSums::stores))]
+/// The storage of a step is the storage capacity over the step's length. With the option STORAGECOEFFICIENT it is Ss times
+/// the area over that length; without, the thickness is a factor.
+#[tactic(auto, using(crate::proofs::StepSums::stores, crate::proofs::StorageTerms::stores_by_option))]
 pub fn storage_over_a_step()
-    ensures { StoresOverTheStep }
-{}
-
-/// With the option STORAGECOEFFICIENT it is Ss times the area over the step's length; without, the thickness is a factor.
-#[tactic(auto, using(crate::proofs::StorageTerms::stores_by_option))]
-pub fn storage_by_option()
-    ensures { StoresByTheOption }
+    ensures length { StoresOverTheStep }
+    ensures option { StoresByTheOption }
 {}

@@ -10,12 +10,13 @@ pub use Rattle.deck_problems.proofs.OneProblem.{between_cells, cell_of_member, e
 pub use Rattle.deck_problems.specs.{AreDecks, AreStartHeadsFor, EachMember, HoldsOf, IsBefore, IsProblemFor, StartHeadsAreOne, StartHeadsFit}
 pub use Rattle.flow_equations.specs.{SolvesFrom, exact_step, heads_of, variable_heads}
 pub use Rattle.listing_io.specs.{first_text}
-pub use Rattle.listing_run.specs.{AllSettle, AllSettledBy, AllSteps, AreFlowsAt, AreSettledBy, BoundAll, BoundBetween, Bounds, BoundsMoves, EnclosesHistories}
-pub use Rattle.listing_run.specs.{EndsAt, FirstSteps, FlowsEnclose, FlowsEncloseAt, FlowsStopBy, HasLargeFlow, HasNoBound, HistoriesBound, IsAtFirst}
-pub use Rattle.listing_run.specs.{IsCutListing, IsListing, IsListingBeside, IsNext, IsNextText, IsPushed, IsSettledBy, IsSolved, IsStep, IsStopEnd, IsWalk}
-pub use Rattle.listing_run.specs.{ListingExcludesRefusal, ListingIsOne, PairEncloses, Reaches, ReachesFirst, RefusalIsOne, RestsOrSettles, RestsOrSettlesFirst}
-pub use Rattle.listing_run.specs.{SettledListingIsClosed, StepsThen, StopsAt, WideKeepsListings, budget_at, deck_task, faces_at, is_between, last_line, left}
-pub use Rattle.listing_run.specs.{listed, listing, no_budget, no_heads, no_zones, pairs_of, rests, settled, status_of, stop_of, text_of, times_left}
+pub use Rattle.listing_run.specs.{AllSettle, AllSettledBy, AllSteps, AreFlowsAt, AreFlowsOf, AreSettledBy, BoundAll, BoundBetween, Bounds, BoundsMoves}
+pub use Rattle.listing_run.specs.{EnclosesHistories, EndsAt, FirstSteps, FlowsEnclose, FlowsEncloseAt, FlowsStopBy, HasLargeFlow, HasLargeFlowOf, HasNoBound}
+pub use Rattle.listing_run.specs.{HistoriesBound, IsAtFirst, IsCutListing, IsListing, IsListingBeside, IsNext, IsNextText, IsPushed, IsSettledBy, IsSolved}
+pub use Rattle.listing_run.specs.{IsStep, IsStopEnd, IsWalk, ListingExcludesRefusal, ListingIsOne, PairEncloses, Reaches, ReachesFirst, RefusalIsOne}
+pub use Rattle.listing_run.specs.{RestsOrSettles, RestsOrSettlesFirst, SettledListingIsClosed, StepsThen, StopsAt, WideKeepsListings, budget_at, deck_task}
+pub use Rattle.listing_run.specs.{is_between, last_line, left, listed, listing, no_budget, no_heads, no_zones, pairs_of, rests, settled, status_of, stop_of}
+pub use Rattle.listing_run.specs.{text_of, times_left}
 pub use Rattle.listing_run.specs.Listing.{begun}
 pub use Rattle.listing_run.specs.declared.solving.Step.{Step}
 pub use Rattle.listing_run.specs.declared.steps.Steps.{Steps}
@@ -42,4 +43,3 @@ pub use Rattle.step_problem.specs.Entries.{Entries}
 pub use Rattle.step_problem.specs.declared.heads.Bound.{Bound}
 pub use Rattle.step_problem.specs.declared.place.NoBound.{NoBound}
 pub use Rattle.step_problem.specs.declared.place.ZoneFlow.{ZoneFlow}
-pub use Rattle.zone_flows.specs.{EncloseExact, FlowsAreOne, FlowsExcludeRefusal, HeadsLieWithin}

@@ -5,7 +5,8 @@ use Rattle.listing_run.proofs.Common.{PairKind, entries_at, Budget, TimeStep, he
 use Rattle.listing_run.proofs.Common.{member_cells, cell_of_member, IsMove, EnclosesMoves, IsStepBy, edges_by, LiesWithin, WideKeepsSteps, Task, Step, IsActive}
 use Rattle.listing_run.proofs.Common.{HeadsEnclose, AreFlowsAt, FlowsEncloseAt, IsStep, HasNoBound, no_heads, no_budget, no_zones, budget_at, Bounds}
 use Rattle.listing_run.proofs.Common.{BoundsMoves, FlowsStopBy, StopsAt, stop_of, pairs_of, IsSolved, FlowsEnclose, WideKeepsListings, deck_task, IfSome}
-use Rattle.listing_run.proofs.Common.{Entries, FlowModel, cell_count, times, EnclosesStep, ExactCell, EncloseExact, HeadsLieWithin, Limits, Plain, Wide}
+use Rattle.listing_run.proofs.Common.{Entries, FlowModel, cell_count, times, EnclosesStep, ExactCell, Limits, Plain, Wide}
+use Rattle.zone_flows.specs.{EncloseExact, HeadsLieWithin}
 use Rattle.step_chain.specs.{FailsBy as StepFailsBy}
 use Rattle.problem_builder.specs.GridHeads.{IsNamed}
 use Rattle.budget_bounds.specs.{EnclosesBudgets, HeadsAreWithin, budget_of}

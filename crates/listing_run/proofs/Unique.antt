@@ -1,13 +1,12 @@
 -- A model has one listing, and one that is whole has no other end.
-use Rattle.listing_run.proofs.Common.{◌≡◌, ℕ, suc, List, [], ◌∷◌, sym, ap, ◌∙◌, refl, inr, arith, Ok, Err, Result, Contains, subst, Option, Some, None, Bound}
-use Rattle.listing_run.proofs.Common.{NoBound, Budget, TimeStep, times, AreDecks, AreGridHeads, Solved, ZoneFlow, Task, Step, AreFlowsAt, HasLargeFlow}
-use Rattle.listing_run.proofs.Common.{faces_at, IsStep, budget_at, HasNoBound, no_heads, no_budget, no_zones, AllSettle, IsSettledStep, IsStepBy, pairs_of}
-use Rattle.listing_run.proofs.Common.{IsSolved, if◌then◌else◌, PairKind, false, StepIsOne, StepExcludesRefusal, HeadsFit, ListingIsOne, ListingExcludesRefusal}
-use Rattle.listing_run.proofs.Common.{SettledListingIsClosed, RefusalIsOne, IsBefore, StartHeadsAreOne, StartHeadsFit, FlowsAreOne, FlowsExcludeRefusal}
+use Rattle.listing_run.proofs.Common.{◌≡◌, ℕ, suc, List, [], ◌∷◌, sym, ap, ◌∙◌, refl, inr, arith, Ok, Err, Result, Contains, subst, Option, Bound, NoBound}
+use Rattle.listing_run.proofs.Common.{Budget, TimeStep, times, AreDecks, AreGridHeads, Solved, ZoneFlow, Task, Step, AreFlowsAt, HasLargeFlow, IsStep}
+use Rattle.listing_run.proofs.Common.{budget_at, HasNoBound, no_heads, no_budget, no_zones, AllSettle, IsSettledStep, IsStepBy, pairs_of, IsSolved}
+use Rattle.listing_run.proofs.Common.{if◌then◌else◌, PairKind, false, StepIsOne, StepExcludesRefusal, HeadsFit, ListingIsOne, ListingExcludesRefusal}
+use Rattle.listing_run.proofs.Common.{SettledListingIsClosed, RefusalIsOne, IsBefore, StartHeadsAreOne, StartHeadsFit, Entries, AreFlowsOf, HasLargeFlowOf}
+use Rattle.listing_run.specs.{Steps}
 use Rattle.step_problem.specs.{settled as settled_kind, certified as certified_kind}
 use Rattle.step_chain.specs.{RefusalIsOne as StepRefusalIsOne}
-use Rattle.zone_flows.specs.{RefusalIsOne as ZoneRefusalIsOne}
-use Rattle.listing_run.specs.{Steps}
 use Rattle.listing_run.specs.declared.text.ListingEnd.TheVariants as ends
 
 abbrev the_ok : {X E : Type 0} → X → Result X E → X
@@ -33,7 +32,7 @@ one_err a b e = ap (the_err a) e
 pub ok_not_err : (a : Budget) (e : NoBound) → as_ok a ≡ as_err e → ⊥
 ok_not_err a e h = cc
 
--- the laws of a step, of STRT, and of flows between zones
+-- the laws of a step and of STRT
 pub record Laws : Type 0 where
   pub start_one : StartHeadsAreOne
   pub start_fits : StartHeadsFit
@@ -41,26 +40,20 @@ pub record Laws : Type 0 where
   pub excludes : StepExcludesRefusal
   pub refusal_one : StepRefusalIsOne
   pub fits : HeadsFit
-  pub flows_one : FlowsAreOne
-  pub flows_exclude : FlowsExcludeRefusal
-  pub large_one : ZoneRefusalIsOne
 
-pub laws_of : StartHeadsAreOne → StartHeadsFit → StepIsOne → StepExcludesRefusal → StepRefusalIsOne → HeadsFit → FlowsAreOne → FlowsExcludeRefusal → ZoneRefusalIsOne → Laws
-laws_of a b c d e f g h i = record { start_one = a; start_fits = b; step_one = c; excludes = d; refusal_one = e; fits = f; flows_one = g; flows_exclude = h; large_one = i }
+pub laws_of : StartHeadsAreOne → StartHeadsFit → StepIsOne → StepExcludesRefusal → StepRefusalIsOne → HeadsFit → Laws
+laws_of a b c d e f = record { start_one = a; start_fits = b; step_one = c; excludes = d; refusal_one = e; fits = f }
 
--- a solved step has one list of flows between zones, or one pair that is too large
-module _ (laws : Laws) (x : Solved) where
-  same_flows : (o : Option (List ℕ)) (vs ws : List ZoneFlow) → AreFlowsAt o x vs → AreFlowsAt o x ws → vs ≡ ws
-  same_flows None vs ws a b = a ∙ sym b
-  same_flows (Some zones) vs ws a b = laws.flows_one (faces_at zones x) ws vs b a
+-- there is one list of flows between zones, or one pair that is too large
+module _ (p : List Entries) (heads : List Bound) (zones : Option (List ℕ)) where
+  pub same_flows : (vs ws : List ZoneFlow) → AreFlowsOf p heads zones vs → AreFlowsOf p heads zones ws → vs ≡ ws
+  same_flows vs ws a b = ap (the_ok vs) (sym a ∙ b)
 
-  none_large : (o : Option (List ℕ)) (vs : List ZoneFlow) (n : NoBound) → AreFlowsAt o x vs → HasLargeFlow o x n → ⊥
-  none_large None vs n a h = h
-  none_large (Some zones) vs n a h = laws.flows_exclude (faces_at zones x) vs n a h
+  pub none_large : (vs : List ZoneFlow) (n : NoBound) → AreFlowsOf p heads zones vs → HasLargeFlowOf p heads zones n → ⊥
+  none_large vs n a h = let bad : Path (Result (List ZoneFlow) NoBound) (Ok vs) (Err n) = sym a ∙ h in cc
 
-  same_large : (o : Option (List ℕ)) (a b : NoBound) → HasLargeFlow o x a → HasLargeFlow o x b → a ≡ b
-  same_large None a b h i = absurd h
-  same_large (Some zones) a b h i = laws.large_one (faces_at zones x) a b h i
+  pub large_one : (a b : NoBound) → HasLargeFlowOf p heads zones a → HasLargeFlowOf p heads zones b → a ≡ b
+  large_one a b h k = ap (the_err a) (sym h ∙ k)
 
 -- the first of the times at hand is one of the model's, and so are those after it
 pub record IsRest (all rest : List TimeStep) : Type 0 where
@@ -102,7 +95,7 @@ module _ (laws : Laws) (k : Task) (decks : AreDecks k.decks) (plain : k.quick �
         let all_heads : v.heads ≡ w.heads = x.heads ∙ ap (λ (s : Solved). s.heads) same ∙ sym y.heads in
         let times_same : v.at ≡ w.at = x.time ∙ sym y.time in
         let F : Solved → Type 0 = λ s. AreFlowsAt k.zones s w.zones in
-        let zones : v.zones ≡ w.zones = same_flows laws x.solved k.zones v.zones w.zones x.zones (subst F (sym same) y.zones) in
+        let zones : v.zones ≡ w.zones = same_flows x.solved.problem x.solved.heads k.zones v.zones w.zones x.zones (subst F (sym same) y.zones) in
         let by_time : TimeStep → Step = λ t. record { at = t; heads = v.heads; budget = v.budget; zones = v.zones } in
         let by_heads : List Bound → Step = λ hs. record { at = w.at; heads = hs; budget = v.budget; zones = v.zones } in
         let by_budget : Budget → Step = λ b. record { at = w.at; heads = w.heads; budget = b; zones = v.zones } in
@@ -121,7 +114,7 @@ module _ (laws : Laws) (k : Task) (decks : AreDecks k.decks) (plain : k.quick �
         ok_not_err v.budget n (sym x.budget ∙ subst B (solved_is_one solved x.solved settled x.solves) refused)
     has_bound v n x (no_zones solved b settled is large) =
         let L : Solved → Type 0 = λ s. HasLargeFlow k.zones s n in
-        none_large laws x.solved k.zones v.zones n x.zones (subst L (solved_is_one solved x.solved settled x.solves) large)
+        none_large x.solved.problem x.solved.heads k.zones v.zones n x.zones (subst L (solved_is_one solved x.solved settled x.solves) large)
 
     -- a step whose budget is refused has no flows between zones
     no_budget_no_zones : (x y : Solved) (b : Budget) (n : NoBound) → IsSolved k at old x → budget_at x ≡ Err n → IsSolved k at old y → budget_at y ≡ Ok b → ⊥
@@ -143,7 +136,7 @@ module _ (laws : Laws) (k : Task) (decks : AreDecks k.decks) (plain : k.quick �
     one_refusal a b (no_zones x c settled is large) (no_budget y also refused) = absurd (no_budget_no_zones y x c b also refused settled is)
     one_refusal a b (no_zones x c settled is large) (no_zones y d also other too) =
         let L : Solved → Type 0 = λ s. HasLargeFlow k.zones s b in
-        same_large laws x k.zones a b large (subst L (sym (solved_is_one x y settled also)) too)
+        large_one x.problem x.heads k.zones a b large (subst L (sym (solved_is_one x y settled also)) too)
 
   -- the heads of one more step
   next_heads : (old : List Bound) (at : TimeStep) (rest : List TimeStep) (v : Step) → IsRest (times k.decks.first) (at ∷ rest) → AreGridHeads k.decks.first old → IsStep k at old v → AreGridHeads k.decks.first v.heads

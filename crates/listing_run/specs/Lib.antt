@@ -9,5 +9,5 @@ pub use Rattle.listing_run.specs.Listing.{IsListingBeside, IsPushed, is_between,
 pub use Rattle.listing_run.specs.Settlers.{AllSettle, AllSettledBy, AllSteps, AreSettledBy, EnclosesSolutions, EndsAt, FirstSteps, HasNoBound, IsSettledBy}
 pub use Rattle.listing_run.specs.Settlers.{IsSolved, IsStep, PairEncloses, Reaches, ReachesFirst, RestsOrSettles, RestsOrSettlesFirst, Steps, StepsThen}
 pub use Rattle.listing_run.specs.Settlers.{budget_at, no_budget, no_heads, no_zones, rests, settled}
-pub use Rattle.listing_run.specs.Tasks.{AreFlowsAt, AreFlowsOf, FlowsEnclose, FlowsEncloseAt, HasLargeFlow, HasLargeFlowOf, NoFlowsBy, deck_task, faces_at}
-pub use Rattle.listing_run.specs.Tasks.{faces_of, one_task, pairs_of}
+pub use Rattle.listing_run.specs.Tasks.{AreFlowsAt, AreFlowsOf, FlowsEnclose, FlowsEncloseAt, HasLargeFlow, HasLargeFlowOf, NoFlowsBy, deck_task, faces_of}
+pub use Rattle.listing_run.specs.Tasks.{flows_or_large, one_task, pairs_of}

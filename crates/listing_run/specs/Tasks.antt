@@ -1,5 +1,5 @@
 -- The kind of a task's pairs, the task of decks, and that of one deck.
-use Rattle.std.specs.Prelude.{ℕ, Bool, List, Option, if◌then◌else◌, ◌≡◌, [], Some, None, IfSome}
+use Rattle.std.specs.Prelude.{ℕ, Bool, List, Option, if◌then◌else◌, ◌≡◌, [], Some, None, IfSome, Result, Ok, Err}
 use Rattle.step_problem.specs.{PairKind, settled, certified, lower_at, upper_at}
 use Rattle.model_types.specs.declared.limits.Limits.{Limits}
 use Rattle.model_types.specs.declared.model.FlowModel.{FlowModel}
@@ -12,7 +12,7 @@ use Rattle.step_problem.specs.declared.place.ZoneFlow.{ZoneFlow}
 use Rattle.step_problem.specs.Entries.{Entries}
 use Rattle.step_chain.specs.declared.solved.Solved.{Solved}
 use Rattle.zone_flows.specs.declared.fault.ZoneFault.{ZoneFault}
-use Rattle.zone_flows.specs.{Face, faces, AreZoneFlows, IsFirstTooLarge, EncloseEveryStep}
+use Rattle.zone_flows.specs.{Face, faces, zone_flows, EncloseEveryStep}
 use Rattle.zone_flows.specs.declared.fault.ZoneFault.TheVariants as fault
 
 -- a step has the settled pair; with --quick any pair that is a certificate
@@ -34,15 +34,16 @@ module _ (p : List Entries) (heads : List Bound) where
   abbrev pub faces_of : List ℕ → List Face
   faces_of zones = faces zones (lower_at heads) (upper_at heads) p
 
-  -- the flows between the zones of a zone file; none without a zone file
-  abbrev pub AreFlowsOf : Option (List ℕ) → List ZoneFlow → Type 0
-  AreFlowsOf None flows = flows ≡ []
-  AreFlowsOf (Some zones) flows = AreZoneFlows (faces_of zones) flows
+  -- the flows between the zones of a zone file, or the first pair whose flow is too large; none without a zone file
+  abbrev pub flows_or_large : Option (List ℕ) → Result (List ZoneFlow) NoBound
+  flows_or_large None = Ok []
+  flows_or_large (Some zones) = zone_flows (faces_of zones)
 
-  -- the first pair of its zones whose flow is too large
+  abbrev pub AreFlowsOf : Option (List ℕ) → List ZoneFlow → Type 0
+  AreFlowsOf zones flows = flows_or_large zones ≡ Ok flows
+
   abbrev pub HasLargeFlowOf : Option (List ℕ) → NoBound → Type 0
-  HasLargeFlowOf None n = ⊥
-  HasLargeFlowOf (Some zones) n = IsFirstTooLarge (faces_of zones) n
+  HasLargeFlowOf zones n = flows_or_large zones ≡ Err n
 
   -- the flows enclose the exact flows of every exact step that the problem encloses, at all heads within these
   abbrev pub FlowsEnclose : Option (List ℕ) → List ZoneFlow → Type 0
@@ -54,9 +55,6 @@ module _ (p : List Entries) (heads : List Bound) where
   NoFlowsBy zones fault.Memory = Unit {0}
 
 -- the same at a solved step
-abbrev pub faces_at : List ℕ → Solved → List Face
-faces_at zones x = faces_of x.problem x.heads zones
-
 abbrev pub AreFlowsAt : Option (List ℕ) → Solved → List ZoneFlow → Type 0
 AreFlowsAt zones x flows = AreFlowsOf x.problem x.heads zones flows
 

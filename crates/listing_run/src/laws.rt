@@ -5,7 +5,6 @@ use deck_problems::laws::start_heads;
 use step_chain::laws::{
     heads_fit, no_step_beside_a_refusal, one_refusal, one_step, wide_keeps_steps,
 };
-use zone_flows::laws::one_list_or_refusal;
 
 /// A model has at most one listing of settled pairs, and a model with a whole listing has no other end, except rounds that don't settle a step.
 pub fn one_listing()
@@ -19,7 +18,6 @@ pub fn one_listing()
     no_step_beside_a_refusal();
     one_refusal();
     heads_fit();
-    one_list_or_refusal();
 }
 
 /// What is listed with plain limits is listed with wide ones, so by `one_listing` a run of settled pairs lists the same.

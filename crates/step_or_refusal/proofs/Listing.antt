@@ -1,17 +1,12 @@
 -- A model has a whole listing, or a first refusal at one of its times.
-use Rattle.step_or_refusal.proofs.Common.{◌≡◌, ℕ, ◌⊎◌, inl, inr, Option, None, Some, Ok, Err, Result, List, [], ◌∷◌, refl, sym, subst, Bound, lower_at}
-use Rattle.step_or_refusal.proofs.Common.{upper_at, FlowModel, TimeStep, StartHeadsFit, StartHeadsExist, one_deck, StepOrRefusal, ListingOrRefusal, Bool}
-use Rattle.step_or_refusal.proofs.Common.{ProblemFits, NoBound, IsBefore, Solved, edges_fit, IsSettledStep, AreGridHeads, times, IsModel, HeadsFit, edges_by}
-use Rattle.step_problem.specs.declared.place.ZoneFlow.{ZoneFlow}
+use Rattle.step_or_refusal.proofs.Common.{◌≡◌, ℕ, ◌⊎◌, inl, inr, Option, Ok, Err, Result, List, [], ◌∷◌, refl, sym, subst, Bound, FlowModel, TimeStep}
+use Rattle.step_or_refusal.proofs.Common.{StartHeadsFit, StartHeadsExist, one_deck, StepOrRefusal, ListingOrRefusal, Bool, ProblemFits, NoBound, IsBefore}
+use Rattle.step_or_refusal.proofs.Common.{Solved, edges_fit, IsSettledStep, AreGridHeads, times, IsModel, HeadsFit, edges_by}
 use Rattle.step_problem.proofs.Pairs.{settled_is}
 use Rattle.model_types.specs.declared.limits.Limits.{Limits}
-use Rattle.zone_flows.specs.{listed_flows, with_faces}
-use Rattle.zone_flows.proofs.Fitting.{faces_fit}
-use Rattle.zone_flows.proofs.Meaning.{are_flows, is_first}
 use Rattle.listing_run.specs.declared.solving.Step.{Step}
 use Rattle.listing_run.specs.declared.steps.Task.{Task}
-use Rattle.listing_run.specs.{budget_at, IsSolved, IsStep, HasNoBound, no_heads, no_budget, no_zones, one_task, pairs_of, AreFlowsAt, HasLargeFlow, faces_at}
-use Rattle.listing_run.specs.{Steps}
+use Rattle.listing_run.specs.{budget_at, IsSolved, IsStep, HasNoBound, no_heads, no_budget, no_zones, one_task, pairs_of, flows_or_large, Steps}
 use Rattle.zone_pairs.specs.{AreZones}
 use Rattle.listing_run.proofs.Unique.{IsRest, rest_whole, rest_more, first_in}
 use Rattle.listing_run.specs.declared.text.ListingEnd.TheVariants as ends
@@ -19,17 +14,6 @@ use Rattle.listing_run.specs.declared.text.ListingEnd.TheVariants as ends
 ok_or_err : {X : Type 0} (r : Result X NoBound) → ((x : X) × (r ≡ Ok x)) ⊎ ((n : NoBound) × (r ≡ Err n))
 ok_or_err (Ok x) = inl (x, refl)
 ok_or_err (Err n) = inr (n, refl)
-
--- the flows between the zones of a solved step, or the first that is too large
-flows_or_large : (m : FlowModel) (o : Option (List ℕ)) (x : Solved) → AreZones m o → ((vs : List ZoneFlow) × AreFlowsAt o x vs) ⊎ ((n : NoBound) × HasLargeFlow o x n)
-flows_or_large m None x zoned = inl ([], refl)
-flows_or_large m (Some zones) x zoned =
-    let fs = faces_at zones x in
-    let fit = faces_fit zones (lower_at x.heads) (upper_at x.heads) zoned.limits x.problem in
-    elim (ok_or_err (listed_flows (with_faces [] fs))) [
-      | inl (vs, e) ↦ inl (vs, are_flows fs fit vs e)
-      | inr (n, e) ↦ inr (n, is_first fs fit n e)
-    ]
 
 module _ (step : StepOrRefusal) (fits : HeadsFit) (problem_fits : ProblemFits) (limits : Limits) (m : FlowModel) (s : ℕ) (zones : Option (List ℕ)) (rounds : ℕ) (quick : Bool) (valid : IsModel m) (zoned : AreZones m zones) where
   abbrev task : Task
@@ -52,7 +36,7 @@ module _ (step : StepOrRefusal) (fits : HeadsFit) (problem_fits : ProblemFits) (
   listed at old x is =
       elim (ok_or_err (budget_at x)) [
         | inr (n, e) ↦ inr (n, no_budget x is e)
-        | inl (b, e) ↦ elim (flows_or_large m zones x zoned) [
+        | inl (b, e) ↦ elim (ok_or_err (flows_or_large x.problem x.heads zones)) [
           | inr (n, large) ↦ inr (n, no_zones x b is e large)
           | inl (vs, flows) ↦ inl (record { at = at; heads = x.heads; budget = b; zones = vs }, record { solved = x; solves = is; time = refl; heads = refl; budget = e; zones = flows })
         ]

@@ -1,11 +1,12 @@
 -- The bounds of the flows between zones enclose the exact ones.
 use Rattle.zone_flows.proofs.Common.{◌≡◌, ℕ, zero, suc, ◌+◌, ◌<◌, Bool, true, false, refl, ap, ◌∙◌, subst, List, [], ◌∷◌, ◌++◌, length, map, get_or, All, ℤ}
 use Rattle.zone_flows.proofs.Common.{◌-ℤ◌, AllZip, filter, flat_map, All-head, All-tail, All-from_get_or, All-weaker, Fraction, signed, Encloses}
-use Rattle.zone_flows.proofs.Common.{EnclosesSigned, FixedKind, Storage, Constant, General, Fixed, Link, IsProblem, Entries, entries_at, no_entries, least}
-use Rattle.zone_flows.proofs.Common.{most, total, ExactLink, ExactFixed, ExactCell, cell_at, LinkEncloses, FixedEncloses, CellEncloses, EnclosesStep, TermPair}
-use Rattle.zone_flows.proofs.Common.{Face, is_lower_zone, face_from, link_faces, faces_by_kind, fixed_faces, cell_faces, faces, is_between, flows_between}
-use Rattle.zone_flows.proofs.Common.{ExactFace, exact_from, exact_link, exact_by_kind, exact_fixed, exact_cell, exact_faces, is_exact_between, exact_flow}
-use Rattle.zone_flows.proofs.Common.{HeadsLieWithin, Ratio, minus}
+use Rattle.zone_flows.proofs.Common.{EnclosesSigned, Storage, Constant, General, Fixed, Link, IsProblem, Entries, entries_at, no_entries, least, most, total}
+use Rattle.zone_flows.proofs.Common.{ExactLink, ExactFixed, ExactCell, cell_at, LinkEncloses, FixedEncloses, CellEncloses, EnclosesStep, TermPair, Face}
+use Rattle.zone_flows.proofs.Common.{is_lower_zone, face_from, link_faces, faces_by_kind, fixed_faces, cell_faces, faces, is_between, flows_between, ExactFace}
+use Rattle.zone_flows.proofs.Common.{exact_from, exact_link, exact_by_kind, exact_fixed, exact_cell, exact_faces, is_exact_between, exact_flow, HeadsLieWithin}
+use Rattle.zone_flows.proofs.Common.{Ratio, minus}
+use Rattle.step_problem.specs.declared.entry.FixedKind.{FixedKind}
 use Rattle.decimal_input.specs.Fractions.{times}
 use Rattle.cell_balance.proofs.EntryBounds.{bounds_hold}
 use Rattle.cell_balance.proofs.Enclosing.{total_encloses, AllZip-filter}

@@ -1,55 +1,11 @@
--- What a table of sums has for a pair of zones: the sums of the flows with its key.
-use Rattle.zone_flows.proofs.Common.{◌≡◌, ℕ, Bool, true, false, cond, refl, sym, ap, ◌∙◌, subst, arith, List, [], ◌∷◌, map, ℤ, pos, negsuc, neg_ℤ, unsigned_abs}
-use Rattle.zone_flows.proofs.Common.{◌+ℤ◌, ◌-ℤ◌, ◌≤ℤ◌, ◌<ℤ◌, Option, Some, int_max, int_min, nat_tests, ints, clamps, Ordering, Less, Equal, Greater}
-use Rattle.zone_flows.proofs.Common.{insert_entry, is_at, nat_cmp, match_ordering, total, In, Out, TermPair, IsSum, capped, plus_pair, parts, term_limit}
-use Rattle.zone_flows.proofs.Common.{capped_twice, nothing_more, part_lo, part_hi, parts_lo, parts_hi, ZoneSum, Face, IsZoneSum, Table, key_of, plus_flow}
-use Rattle.zone_flows.proofs.Common.{plus_flows, faces_keyed, sum_at, with_face, with_faces, part, found}
+-- The sums of a list of flows: what they bring in and what they take out, each standing still at 2^126; and the flow that they give.
+use Rattle.zone_flows.proofs.Common.{◌≡◌, ℕ, Bool, true, false, refl, sym, ap, ◌∙◌, arith, List, [], ◌∷◌, ℤ, pos, negsuc, neg_ℤ, unsigned_abs, ◌+ℤ◌, ◌-ℤ◌, ◌≤ℤ◌}
+use Rattle.zone_flows.proofs.Common.{None, Some, int_max, int_min, ints, clamps, total, TermPair, IsSum, capped, plus_pair, parts, term_limit, ZoneSum}
+use Rattle.zone_flows.proofs.Common.{plus_flow, plus_flows, IsZoneSum, part, no_flows, no_pair, zone_flow, flow_or_refusal, Result, Ok, if◌then◌else◌, NoBound}
+use Rattle.zone_flows.proofs.Common.{ZoneFlow, and_parts, Face, flow_or_large, pair_flow, flows_between, pair_of, ◌/◌, ◌%◌, lt_z}
+use Rattle.step_problem.specs.declared.place.Dir.TheVariants.{In, Out}
+use Rattle.budget_bounds.proofs.Caps.{capped_twice, nothing_more, part_lo, part_hi, parts_lo, parts_hi}
 use Rattle.step_problem.specs.declared.place.Dir.{Dir}
-
-pub same_key : (q k : ℕ) → is_at (nat_cmp q) k ≡ true → q ≡ k
-same_key q k h = grind (arith, nat_tests)
-
-pub equal_keys : (q k : ℕ) → nat_cmp q k ≡ Equal → q ≡ k
-equal_keys q k h = grind (arith, nat_tests)
-
-not_greater : (k : ℕ) → nat_cmp k k ≡ Greater → ⊥
-not_greater k h = grind (arith, nat_tests)
-
-module _ (q : ℕ) where
-  twice : (b : Bool) (x y : ZoneSum) (o : Option ZoneSum) → cond b (Some x) (cond b (Some y) o) ≡ cond b (Some x) o
-  twice true x y o = refl
-  twice false x y o = refl
-
-  apart : (a b : Bool) (x y : ZoneSum) (o : Option ZoneSum) → (a ≡ true → b ≡ true → ⊥) → cond a (Some y) (cond b (Some x) o) ≡ cond b (Some x) (cond a (Some y) o)
-  apart true true x y o h = absurd (h refl refl)
-  apart true false x y o h = refl
-  apart false b x y o h = refl
-
-  placed : (o : Ordering) (k : ℕ) (x : ZoneSum) (e : ℕ × ZoneSum) (t others : Table) → nat_cmp k e.0 ≡ o → found others q ≡ cond (is_at (nat_cmp q) k) (Some x) (found t q) →
-      found (match_ordering o ((k, x) ∷ e ∷ t) ((e.0, x) ∷ t) (e ∷ others)) q ≡ cond (is_at (nat_cmp q) k) (Some x) (found (e ∷ t) q)
-  placed Less k x e t others o h = refl
-  placed Equal k x e t others o h = sym (twice (is_at (nat_cmp q) e.0) x e.1 (found t q)) ∙ ap (λ (n : ℕ). cond (is_at (nat_cmp q) n) (Some x) (found (e ∷ t) q)) (sym (equal_keys k e.0 o))
-  placed Greater k x e t others o h =
-      ap (λ (z : Option ZoneSum). cond (is_at (nat_cmp q) e.0) (Some e.1) z) h
-      ∙ apart (is_at (nat_cmp q) e.0) (is_at (nat_cmp q) k) x e.1 (found t q) (λ a b. not_greater e.0 (subst (λ (n : ℕ). nat_cmp n e.0 ≡ Greater) (sym (same_key q k b) ∙ same_key q e.0 a) o))
-
-  found_insert : (t : Table) (k : ℕ) (x : ZoneSum) → found (insert_entry nat_cmp t k x) q ≡ cond (is_at (nat_cmp q) k) (Some x) (found t q)
-  found_insert [] k x = refl
-  found_insert (e ∷ t) k x = placed (nat_cmp k e.0) k x e t (insert_entry nat_cmp t k x) refl (found_insert t k x)
-
-  one_face : (t : Table) (f : Face) (fs : List Face) (b : Bool) → is_at (nat_cmp q) (key_of f.from f.to) ≡ b → plus_flows (found (with_face t f) q) (map (λ f. f.flow) (faces_keyed q fs)) ≡ plus_flows (found t q) (map (λ f. f.flow) (faces_keyed q (f ∷ fs)))
-  unfolding with_face plus_flows faces_keyed sum_at
-  one_face t f fs true h =
-      let k = key_of f.from f.to in
-      rw (found_insert t k (plus_flow (sum_at t k) f.flow), h) (ap (λ (n : ℕ). plus_flows (Some (plus_flow (sum_at t n) f.flow)) (map (λ f. f.flow) (faces_keyed q fs))) (sym (same_key q k h)))
-  one_face t f fs false h =
-      let k = key_of f.from f.to in
-      rw (found_insert t k (plus_flow (sum_at t k) f.flow), h) refl
-
-  pub found_faces : (t : Table) (fs : List Face) → found (with_faces t fs) q ≡ plus_flows (found t q) (map (λ f. f.flow) (faces_keyed q fs))
-  unfolding with_faces plus_flows faces_keyed
-  found_faces t [] = refl
-  found_faces t (f ∷ fs) = found_faces (with_face t f) fs ∙ one_face t f fs (is_at (nat_cmp q) (key_of f.from f.to)) refl
 
 cap_below : (limit a b : ℤ) → int_min (a +ℤ b) limit ≤ℤ limit
 cap_below limit a b = omega (arith, ints, clamps)
@@ -70,7 +26,7 @@ split : (dir : Dir) (s x : TermPair) (xs : List TermPair) → capped (plus_pair 
 split dir s x xs = capped_twice s (part dir x) (parts dir xs) (parts_lo dir xs) (parts_hi dir xs) ∙ ap (λ (z : TermPair). capped (plus_pair s z)) (sym (front_part dir x xs))
 
 -- The sums of a list of flows are what they bring in and what they take out, each standing still at 2^126.
-pub flows_are_parts : (s : ZoneSum) (xs : List TermPair) → IsZoneSum s → plus_flows (Some s) xs ≡ Some (record { into = capped (plus_pair s.into (parts In xs)); out = capped (plus_pair s.out (parts Out xs)) })
+flows_are_parts : (s : ZoneSum) (xs : List TermPair) → IsZoneSum s → plus_flows (Some s) xs ≡ Some (record { into = capped (plus_pair s.into (parts In xs)); out = capped (plus_pair s.out (parts Out xs)) })
 unfolding plus_flows
 flows_are_parts s [] h = rw (nothing_more In s.into h.into, nothing_more Out s.out h.out) refl
 flows_are_parts s (x ∷ xs) h =
@@ -81,32 +37,78 @@ magnitude_of : (a p n s : ℤ) → p +ℤ n ≡ s → (int_max a (pos 0) +ℤ p)
 magnitude_of (pos a) p n s h = omega (arith, ints, clamps)
 magnitude_of (negsuc a) p n s h = omega (arith, ints, clamps)
 
-pub net_lo : (xs : List TermPair) → (parts In xs).lo -ℤ (parts Out xs).hi ≡ total (λ x. x.lo) xs
+net_lo : (xs : List TermPair) → (parts In xs).lo -ℤ (parts Out xs).hi ≡ total (λ x. x.lo) xs
 unfolding parts
 net_lo [] = refl
 net_lo (x ∷ xs) = omega (arith, ints, clamps, net_lo xs)
 
-pub net_hi : (xs : List TermPair) → (parts In xs).hi -ℤ (parts Out xs).lo ≡ total (λ x. x.hi) xs
+net_hi : (xs : List TermPair) → (parts In xs).hi -ℤ (parts Out xs).lo ≡ total (λ x. x.hi) xs
 unfolding parts
 net_hi [] = refl
 net_hi (x ∷ xs) = omega (arith, ints, clamps, net_hi xs)
 
-pub magnitudes_lo : (xs : List TermPair) → (parts In xs).lo +ℤ (parts Out xs).hi ≡ total (λ x. pos (unsigned_abs x.lo)) xs
+magnitudes_lo : (xs : List TermPair) → (parts In xs).lo +ℤ (parts Out xs).hi ≡ total (λ x. pos (unsigned_abs x.lo)) xs
 unfolding parts
 magnitudes_lo [] = refl
 magnitudes_lo (x ∷ xs) = magnitude_of x.lo (parts In xs).lo (parts Out xs).hi (total (λ x. pos (unsigned_abs x.lo)) xs) (magnitudes_lo xs)
 
-pub magnitudes_hi : (xs : List TermPair) → (parts In xs).hi +ℤ (parts Out xs).lo ≡ total (λ x. pos (unsigned_abs x.hi)) xs
+magnitudes_hi : (xs : List TermPair) → (parts In xs).hi +ℤ (parts Out xs).lo ≡ total (λ x. pos (unsigned_abs x.hi)) xs
 unfolding parts
 magnitudes_hi [] = refl
 magnitudes_hi (x ∷ xs) = magnitude_of x.hi (parts In xs).hi (parts Out xs).lo (total (λ x. pos (unsigned_abs x.hi)) xs) (magnitudes_hi xs)
 
--- two sums that stand still at the limit stay below it together exactly where the whole sums do, and are then whole
-pub together_below : (limit a b : ℤ) → pos 0 ≤ℤ limit → pos 0 ≤ℤ a → pos 0 ≤ℤ b → (int_min a limit +ℤ int_min b limit) <ℤ limit → (a +ℤ b) <ℤ limit
-together_below limit a b g h k l = omega (arith, ints, clamps)
+zero_sum : IsSum no_pair
+zero_sum = record { lo_above = omega (arith, ints); lo_below = omega (arith, ints); hi_above = omega (arith, ints); hi_below = omega (arith, ints) }
 
-pub below_together : (limit a b : ℤ) → pos 0 ≤ℤ a → pos 0 ≤ℤ b → (a +ℤ b) <ℤ limit → (int_min a limit +ℤ int_min b limit) <ℤ limit
-below_together limit a b h k l = omega (arith, ints, clamps)
+-- what goes in and what goes out of these flows, each standing still at 2^126
+abbrev pub sums : List TermPair → ZoneSum
+sums xs = record { into = capped (parts In xs); out = capped (parts Out xs) }
 
-pub is_whole : (limit a b : ℤ) → pos 0 ≤ℤ a → pos 0 ≤ℤ b → (a +ℤ b) <ℤ limit → (int_min a limit ≡ a) × (int_min b limit ≡ b)
-is_whole limit a b h k l = (omega (arith, ints, clamps), omega (arith, ints, clamps))
+none_added : (z : ℤ) → pos 0 +ℤ z ≡ z
+none_added z = omega (arith, ints)
+
+none_more : (x : TermPair) → plus_pair no_pair x ≡ x
+none_more x = rw (none_added x.lo, none_added x.hi) refl
+
+pub zero_sums : IsZoneSum no_flows
+zero_sums = record { into = zero_sum; out = zero_sum }
+
+pub sums_are : (x : TermPair) (xs : List TermPair) → plus_flows None (x ∷ xs) ≡ Some (sums (x ∷ xs))
+unfolding plus_flows
+sums_are x xs = flows_are_parts no_flows (x ∷ xs) zero_sums ∙ (λ i. Some (record { into = capped (none_more (parts In (x ∷ xs)) i); out = capped (none_more (parts Out (x ∷ xs)) i) }))
+
+-- Two sums that stand still at the limit stay below it together exactly where the whole sums do, and are then whole.
+alike : (limit a b : ℤ) (s t : Bool) → pos 0 ≤ℤ limit → pos 0 ≤ℤ a → pos 0 ≤ℤ b → lt_z (int_min a limit +ℤ int_min b limit) limit ≡ s → lt_z (a +ℤ b) limit ≡ t → s ≡ t
+alike limit a b true true g h k e f = refl
+alike limit a b true false g h k e f = absurd (omega (arith, ints, clamps))
+alike limit a b false true g h k e f = absurd (omega (arith, ints, clamps))
+alike limit a b false false g h k e f = refl
+
+is_whole : (limit a b : ℤ) → pos 0 ≤ℤ a → pos 0 ≤ℤ b → lt_z (a +ℤ b) limit ≡ true → (int_min a limit ≡ a) × (int_min b limit ≡ b)
+is_whole limit a b h k e = (omega (arith, ints, clamps), omega (arith, ints, clamps))
+
+limit_above : pos 0 ≤ℤ term_limit
+limit_above = omega (arith, ints)
+
+module _ (xs : List TermPair) where
+  same_low : lt_z ((sums xs).into.lo +ℤ (sums xs).out.hi) term_limit ≡ lt_z (total (λ x. pos (unsigned_abs x.lo)) xs) term_limit
+  same_low = alike term_limit (parts In xs).lo (parts Out xs).hi _ _ limit_above (parts_lo In xs) (parts_hi Out xs) refl refl ∙ ap (λ z. lt_z z term_limit) (magnitudes_lo xs)
+
+  same_high : lt_z ((sums xs).into.hi +ℤ (sums xs).out.lo) term_limit ≡ lt_z (total (λ x. pos (unsigned_abs x.hi)) xs) term_limit
+  same_high = alike term_limit (parts In xs).hi (parts Out xs).lo _ _ limit_above (parts_hi In xs) (parts_lo Out xs) refl refl ∙ ap (λ z. lt_z z term_limit) (magnitudes_hi xs)
+
+  whole_low : lt_z (total (λ x. pos (unsigned_abs x.lo)) xs) term_limit ≡ true → (sums xs).into.lo -ℤ (sums xs).out.hi ≡ total (λ x. x.lo) xs
+  whole_low e = let w = is_whole term_limit (parts In xs).lo (parts Out xs).hi (parts_lo In xs) (parts_hi Out xs) (ap (λ z. lt_z z term_limit) (magnitudes_lo xs) ∙ e) in rw (w.0, w.1) (net_lo xs)
+
+  whole_high : lt_z (total (λ x. pos (unsigned_abs x.hi)) xs) term_limit ≡ true → (sums xs).into.hi -ℤ (sums xs).out.lo ≡ total (λ x. x.hi) xs
+  whole_high e = let w = is_whole term_limit (parts In xs).hi (parts Out xs).lo (parts_hi In xs) (parts_lo Out xs) (ap (λ z. lt_z z term_limit) (magnitudes_hi xs) ∙ e) in rw (w.0, w.1) (net_hi xs)
+
+same_if : (b : Bool) (x y : ZoneFlow) (r : Result ZoneFlow NoBound) → (b ≡ true → x ≡ y) → (if b then Ok x else r) ≡ (if b then Ok y else r)
+same_if true x y r h = ap (λ (v : ZoneFlow). Ok v) (h refl)
+same_if false x y r h = refl
+
+-- the sums of a pair's flows give the flow of the pair, or its refusal
+pub entry_flow : (fs : List Face) (q : ℕ) → flow_or_refusal q (sums (flows_between (q / 1000) (q % 1000) fs)) ≡ flow_or_large fs (pair_of q)
+entry_flow fs q =
+    let xs = flows_between (q / 1000) (q % 1000) fs in
+    rw (same_low xs, same_high xs) (same_if _ (zone_flow q (sums xs)) (pair_flow fs (pair_of q)) _ (λ both. let (low, high) = and_parts _ _ both in rw (whole_low xs low, whole_high xs high) refl))

@@ -1,15 +1,17 @@
 -- The sums for each pair of zones, in order of the pairs. The pair a, b has the key 1000 * a + b.
-use Rattle.std.specs.Prelude.{ℕ, ◌+◌, ◌*◌, List, [], ◌∷◌, All, pos, ◌/◌, ◌%◌, Bool, ◌&&◌, if◌then◌else◌, ◌+ℤ◌, ◌-ℤ◌, Result, Ok, Err, Option, Some}
-use Rattle.std.specs.BTreeMap.{insert_entry, is_at}
-use Rattle.std.specs.Map.{lookup, values_of}
-use Rattle.std.specs.List.{filter}
+use Rattle.std.specs.Prelude.{◌≡◌, ℕ, ◌≤◌, All, List, [], ◌∷◌, pos, ◌/◌, ◌%◌, Bool, ◌&&◌, if◌then◌else◌, ◌+ℤ◌, ◌-ℤ◌, Result, Ok, Err, Option, Some}
+use Rattle.std.specs.BTreeMap.{BTreeMap, get, values}
 use Rattle.std.specs.Option.{unwrap_or}
 use Rattle.std.specs.Ordering.{nat_cmp}
 use Rattle.step_problem.specs.declared.place.Dir.TheVariants.{In, Out}
 use Rattle.budget_bounds.specs.declared.pair.TermPair.{TermPair}
-use Rattle.budget_bounds.specs.{part, ◌>>=◌, term_limit, IsSum, capped, plus_pair}
-use Rattle.zone_flows.specs.declared.flows.ZoneSum.{ZoneSum}
-use Rattle.zone_flows.specs.Faces.{Face}
+use Rattle.budget_bounds.specs.{IsSum, part, term_limit, capped, plus_pair}
+use Rattle.zone_flows.specs.declared.sum.ZoneSum.{ZoneSum}
+use Rattle.zone_flows.specs.Faces.{Face, cell_faces, face_from, faces, faces_by_kind, flows_between}
+use Rattle.zone_flows.specs.declared.walk.Walk.{Walk}
+use Rattle.step_problem.specs.{lower_at, upper_at}
+use Rattle.step_problem.specs.Entries.{Entries}
+use Rattle.step_problem.specs.declared.entry.FixedKind.{FixedKind}
 use Rattle.std.specs.Int.Signed.{lt_z}
 use Rattle.step_problem.specs.declared.place.NoBound.{NoBound}
 use Rattle.step_problem.specs.declared.place.ZoneFlow.{ZoneFlow}
@@ -29,40 +31,21 @@ pub record IsZoneSum (s : ZoneSum) : Type 0 where
   pub into : IsSum s.into
   pub out : IsSum s.out
 
-abbrev pub Table : Type 0
-Table = List (ℕ × ZoneSum)
-
-abbrev pub IsTable : Table → Type 0
-IsTable t = All IsZoneSum (values_of t)
-
-abbrev pub key_of : ℕ → ℕ → ℕ
-key_of a b = a * 1000 + b
-
--- the sums of the pair with this key, if it has any
-abbrev pub found : Table → ℕ → Option ZoneSum
-found t q = lookup (is_at (nat_cmp q)) t
-
--- and those of a pair that may have none
-unfoldable pub sum_at : Table → ℕ → ZoneSum
-sum_at t q = unwrap_or (found t q) no_flows
-
-unfoldable pub with_face : Table → Face → Table
-with_face t f = insert_entry nat_cmp t (key_of f.from f.to) (plus_flow (sum_at t (key_of f.from f.to)) f.flow)
-
-unfoldable pub with_faces : Table → List Face → Table
-with_faces t [] = t
-with_faces t (f ∷ fs) = with_faces (with_face t f) fs
+-- the sums of all pairs
+abbrev pub AreSums : BTreeMap ℕ ZoneSum → Type 0
+AreSums m = All IsZoneSum (values m)
 
 -- the sums after all these flows
 unfoldable pub plus_flows : Option ZoneSum → List TermPair → Option ZoneSum
 plus_flows s [] = s
 plus_flows s (x ∷ xs) = plus_flows (Some (plus_flow (unwrap_or s no_flows) x)) xs
 
--- the faces between the pair with this key
-unfoldable pub faces_keyed : ℕ → List Face → List Face
-faces_keyed q fs = filter (λ f. is_at (nat_cmp q) (key_of f.from f.to)) fs
+-- A table has gained the flows across these faces, each at the key of its pair; all keys are below a million.
+pub record Gains (old new : BTreeMap ℕ ZoneSum) (fs : List Face) : Type 0 where
+  pub at : (q : ℕ) → get nat_cmp new q ≡ plus_flows (get nat_cmp old q) (flows_between (q / 1000) (q % 1000) fs)
+  pub past : (q : ℕ) → 1000000 ≤ q → get nat_cmp new q ≡ get nat_cmp old q
 
--- The flows of a table of sums, or the refusal of its first pair that is too large.
+-- The flow of an entry of a table of sums, or its refusal.
 -- What goes in and what goes out add up to the magnitudes, in each sum to less than 2^126.
 abbrev pub is_below_limit : ZoneSum → Bool
 is_below_limit s = lt_z (s.into.lo +ℤ s.out.hi) term_limit && lt_z (s.into.hi +ℤ s.out.lo) term_limit
@@ -70,16 +53,20 @@ is_below_limit s = lt_z (s.into.lo +ℤ s.out.hi) term_limit && lt_z (s.into.hi 
 abbrev pub zone_flow : ℕ → ZoneSum → ZoneFlow
 zone_flow q s = record { from = q / 1000; to = q % 1000; lo = s.into.lo -ℤ s.out.hi; hi = s.into.hi -ℤ s.out.lo }
 
--- FlowTooLarge at the pair with this key
-abbrev pub too_large : ℕ → NoBound
-too_large q = record { code = 23; place = places.Zone (q / 1000) (q % 1000) }
-
+-- the flow of the pair with this key, or FlowTooLarge
 abbrev pub flow_or_refusal : ℕ → ZoneSum → Result ZoneFlow NoBound
-flow_or_refusal q s = if is_below_limit s then Ok (zone_flow q s) else Err (too_large q)
+flow_or_refusal q s = if is_below_limit s then Ok (zone_flow q s) else Err (record { code = 23; place = places.Zone (q / 1000) (q % 1000) })
 
-unfoldable pub listed_flows : Table → Result (List ZoneFlow) NoBound
-listed_flows [] = Ok []
-listed_flows (e ∷ t) = do
-  flow ← flow_or_refusal e.0 e.1
-  more ← listed_flows t
-  Ok (flow ∷ more)
+-- The faces that a walk adds, by what it works with.
+module _ (w : Walk) where
+  abbrev pub from_to : ℕ → ℕ → ℕ → ℕ → List Face
+  from_to = face_from w.zones.now (lower_at w.heads.now) (upper_at w.heads.now)
+
+  abbrev pub kind_faces : FixedKind → ℕ → ℕ → ℕ → ℕ → List Face
+  kind_faces = faces_by_kind w.zones.now (lower_at w.heads.now) (upper_at w.heads.now)
+
+  abbrev pub faces_in : Entries → List Face
+  faces_in = cell_faces w.zones.now (lower_at w.heads.now) (upper_at w.heads.now) w.problem.now
+
+  abbrev pub walk_faces : List Face
+  walk_faces = faces w.zones.now (lower_at w.heads.now) (upper_at w.heads.now) w.problem.now

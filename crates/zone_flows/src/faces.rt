@@ -1,162 +1,153 @@
 // The faces of a problem, cell by cell.
-ghost use Rattle.std.specs.Prelude.{◌≡◌, ◌≤◌, ◌<◌, ◌^◌, ℕ, All, IfOk, length};
+ghost use Rattle.std.specs.Prelude.{◌≡◌, ◌≤◌, ◌<◌, ◌^◌, ℕ, All, OnOk, length, ◌-ℤ◌};
 ghost use Rattle.std.specs.List.{flat_map};
-ghost use Rattle.step_problem.specs.{lower_at, upper_at, entries_at, CellFits};
-ghost use Rattle.zone_flows.specs.{cell_faces, face_from, faces, faces_by_kind, AreOfGrid, IsWalk, IsTable, with_faces};
+ghost use Rattle.step_problem.specs.{lower_at, upper_at, entries_at, CellFits, IsHead, least, most};
+ghost use Rattle.budget_bounds.specs.{IsFlow, AreHeads};
+ghost use Rattle.zone_flows.specs.{Gains, faces_in, from_to, kind_faces, is_lower_zone, walk_faces};
 
-use crate::flows::ZoneSum;
-use crate::own::{id_at, zone_at};
-use crate::table::{add_face_from, is_face};
+use crate::table::{Table, add_face};
+use crate::walk::Walk;
+use budget_bounds::TermPair;
 use std::alloc::AllocError;
-use std::collections::BTreeMap;
-use step_problem::{Bound, Cell, Fixed, FixedKind, Link, Problem};
+use step_problem::{Bound, Cell, Fixed, FixedKind, Link, least_flow, most_flow};
 
-// Adds the face of a link. Most links are within a zone, so the other cell is only read where its zone is another.
-#[tactic(auto, unfolding(crate::specs::Faces::face_from, crate::specs::Tables::with_faces))]
-fn add_link(
-    map: &mut BTreeMap<u32, ZoneSum>,
-    p: &Problem,
-    zones: &[u32],
-    own: &[u32],
-    heads: &[Bound],
-    id: u32,
-    x: &Link,
-) -> Result<(), AllocError>
-    requires table { IsTable map.old.entries }
-    requires walk { IsWalk p.now zones.now own.now heads.now }
-    requires id { id < length zones.now }
-    requires end { x.now.cell < length p.now }
-    requires ordered { x.now.lo ≤ x.now.hi }
-    requires small { x.now.hi < 2 ^ 60 }
-    ensures faces { IfOk result (λ _. map.new.entries ≡ with_faces map.old.entries
-        (face_from zones.now (lower_at heads.now) (upper_at heads.now) id (entries_at p.now x.now.cell).id x.now.lo x.now.hi)) }
-    ensures table { IfOk result (λ _. IsTable map.new.entries) }
+fn head_difference(of: i64, from: i64) -> i64
+    requires of { IsHead of }
+    requires from { IsHead from }
+    ensures { result ≡ of -ℤ from }
 {
-    if is_face(zones[id as usize], zone_at(p, zones, own, x.cell as usize)) {
-        add_face_from(map, zones, heads, id, id_at(p, x.cell as usize), x.lo, x.hi)
+    of - from
+}
+
+// The least and the greatest flow from x to y.
+fn flow_between(x: Bound, y: Bound, lo: u64, hi: u64) -> TermPair
+    requires x { AreHeads x }
+    requires y { AreHeads y }
+    requires ordered { lo ≤ hi }
+    requires small { hi < 2 ^ 60 }
+    ensures value { result ≡ record { lo = least lo hi (x.low -ℤ y.high); hi = most lo hi (x.high -ℤ y.low) } }
+    ensures flow { IsFlow result }
+{
+    TermPair {
+        lo: least_flow(lo, hi, head_difference(x.low, y.high)),
+        hi: most_flow(lo, hi, head_difference(x.high, y.low)),
+    }
+}
+
+// Whether cells of these zones have a face that counts from the first to the second.
+fn is_face(from: u32, to: u32) -> bool
+    ensures { result ≡ is_lower_zone from to }
+{
+    0 < from && from < to
+}
+
+// Adds the face from cell x to cell y, where the zone of x is the lower of two zones.
+#[tactic(auto, unfolding(crate::specs::Faces::face_from), using(crate::proofs::Tables::nothing))]
+fn add_face_from(
+    table: &mut Table,
+    walk: &Walk,
+    x: u32,
+    y: u32,
+    lo: u64,
+    hi: u64,
+) -> Result<(), AllocError>
+    requires x { x < length walk.now.zones.now }
+    requires y { y < length walk.now.zones.now }
+    requires ordered { lo ≤ hi }
+    requires small { hi < 2 ^ 60 }
+    ensures { OnOk result (Gains table.old.map table.new.map (from_to walk.now x y lo hi)) }
+{
+    let from = walk.zones[x as usize];
+    let to = walk.zones[y as usize];
+    if is_face(from, to) {
+        let flow = flow_between(walk.heads[x as usize], walk.heads[y as usize], lo, hi);
+        add_face(table, from, to, flow)
     } else {
         Ok(())
     }
 }
 
-fn add_links(
-    map: &mut BTreeMap<u32, ZoneSum>,
-    p: &Problem,
-    zones: &[u32],
-    own: &[u32],
-    heads: &[Bound],
-    id: u32,
-    links: &[Link],
-) -> Result<(), AllocError>
-    requires table { IsTable map.old.entries }
-    requires walk { IsWalk p.now zones.now own.now heads.now }
-    requires id { id < length zones.now }
-    requires ends { All (λ x. x.cell < length p.now) links.now }
+// Adds the face of a link. Most links are within a zone, so the other cell is only read where its zone is another.
+#[tactic(auto, unfolding(crate::specs::Faces::face_from), using(crate::proofs::Tables::nothing))]
+fn add_link(table: &mut Table, walk: &Walk, id: u32, x: &Link) -> Result<(), AllocError>
+    requires id { id < length walk.now.zones.now }
+    requires end { x.now.cell < length walk.now.problem.now }
+    requires ordered { x.now.lo ≤ x.now.hi }
+    requires small { x.now.hi < 2 ^ 60 }
+    ensures { OnOk result (Gains table.old.map table.new.map (from_to walk.now id (entries_at walk.now.problem.now x.now.cell).id x.now.lo x.now.hi)) }
+{
+    if is_face(walk.zones[id as usize], walk.zone_at(x.cell as usize)) {
+        add_face_from(table, walk, id, walk.id_at(x.cell as usize), x.lo, x.hi)
+    } else {
+        Ok(())
+    }
+}
+
+fn add_links(table: &mut Table, walk: &Walk, id: u32, links: &[Link]) -> Result<(), AllocError>
+    requires id { id < length walk.now.zones.now }
+    requires ends { All (λ x. x.cell < length walk.now.problem.now) links.now }
     requires ordered { All (λ x. x.lo ≤ x.hi) links.now }
     requires small { All (λ x. x.hi < 2 ^ 60) links.now }
-    ensures faces { IfOk result (λ _. map.new.entries ≡ with_faces map.old.entries
-        (flat_map (λ x. face_from zones.now (lower_at heads.now) (upper_at heads.now) id (entries_at p.now x.cell).id x.lo x.hi) links.now)) }
-    ensures table { IfOk result (λ _. IsTable map.new.entries) }
+    ensures { OnOk result (Gains table.old.map table.new.map (flat_map (λ x. from_to walk.now id (entries_at walk.now.problem.now x.cell).id x.lo x.hi) links.now)) }
 {
     for x in links {
-        add_link(map, p, zones, own, heads, id, x)?;
+        add_link(table, walk, id, x)?;
     }
     Ok(())
 }
 
 // Adds the face to a constant-head cell, whose zone may be the lower or the higher.
-#[tactic(auto, using(crate::proofs::Keys::two_faces), unfolding(crate::specs::Tables::with_faces))]
-fn add_constant(
-    map: &mut BTreeMap<u32, ZoneSum>,
-    zones: &[u32],
-    heads: &[Bound],
-    id: u32,
-    x: &Fixed,
-) -> Result<(), AllocError>
-    requires table { IsTable map.old.entries }
-    requires grid { AreOfGrid zones.now heads.now }
-    requires id { id < length zones.now }
-    requires source { x.now.source < length zones.now }
+#[tactic(auto, using(crate::proofs::Tables::both, crate::proofs::Tables::nothing))]
+fn add_constant(table: &mut Table, walk: &Walk, id: u32, x: &Fixed) -> Result<(), AllocError>
+    requires id { id < length walk.now.zones.now }
+    requires source { x.now.source < length walk.now.zones.now }
     requires ordered { x.now.lo ≤ x.now.hi }
     requires small { x.now.hi < 2 ^ 60 }
-    ensures faces { IfOk result (λ _. map.new.entries ≡ with_faces map.old.entries
-        (faces_by_kind zones.now (lower_at heads.now) (upper_at heads.now) x.now.kind id x.now.source x.now.lo x.now.hi)) }
-    ensures table { IfOk result (λ _. IsTable map.new.entries) }
+    ensures { OnOk result (Gains table.old.map table.new.map (kind_faces walk.now x.now.kind id x.now.source x.now.lo x.now.hi)) }
 {
     match x.kind {
         FixedKind::Storage | FixedKind::General => Ok(()),
         FixedKind::Constant => {
-            add_face_from(map, zones, heads, id, x.source, x.lo, x.hi)?;
-            add_face_from(map, zones, heads, x.source, id, x.lo, x.hi)?;
+            add_face_from(table, walk, id, x.source, x.lo, x.hi)?;
+            add_face_from(table, walk, x.source, id, x.lo, x.hi)?;
             Ok(())
         }
     }
 }
 
-fn add_fixed(
-    map: &mut BTreeMap<u32, ZoneSum>,
-    zones: &[u32],
-    heads: &[Bound],
-    id: u32,
-    fixed: &[Fixed],
-) -> Result<(), AllocError>
-    requires table { IsTable map.old.entries }
-    requires grid { AreOfGrid zones.now heads.now }
-    requires id { id < length zones.now }
-    requires sources { All (λ x. x.source < length zones.now) fixed.now }
+fn add_fixed(table: &mut Table, walk: &Walk, id: u32, fixed: &[Fixed]) -> Result<(), AllocError>
+    requires id { id < length walk.now.zones.now }
+    requires sources { All (λ x. x.source < length walk.now.zones.now) fixed.now }
     requires ordered { All (λ x. x.lo ≤ x.hi) fixed.now }
     requires small { All (λ x. x.hi < 2 ^ 60) fixed.now }
-    ensures faces { IfOk result (λ _. map.new.entries ≡ with_faces map.old.entries
-        (flat_map (λ x. faces_by_kind zones.now (lower_at heads.now) (upper_at heads.now) x.kind id x.source x.lo x.hi) fixed.now)) }
-    ensures table { IfOk result (λ _. IsTable map.new.entries) }
+    ensures { OnOk result (Gains table.old.map table.new.map (flat_map (λ x. kind_faces walk.now x.kind id x.source x.lo x.hi) fixed.now)) }
 {
     for x in fixed {
-        add_constant(map, zones, heads, id, x)?;
+        add_constant(table, walk, id, x)?;
     }
     Ok(())
 }
 
-#[tactic(auto, unfolding(crate::specs::Faces::cell_faces), using(crate::proofs::Keys::two_faces))]
-fn add_cell(
-    map: &mut BTreeMap<u32, ZoneSum>,
-    p: &Problem,
-    zones: &[u32],
-    own: &[u32],
-    heads: &[Bound],
-    cell: &Cell,
-) -> Result<(), AllocError>
-    requires table { IsTable map.old.entries }
-    requires walk { IsWalk p.now zones.now own.now heads.now }
-    requires id { cell.now.id < length zones.now }
-    requires ends { All (λ x. x.cell < length p.now) cell.now.links }
-    requires sources { All (λ x. x.source < length zones.now) cell.now.fixed }
+#[tactic(auto, unfolding(crate::specs::Faces::cell_faces), using(crate::proofs::Tables::both))]
+fn add_cell(table: &mut Table, walk: &Walk, cell: &Cell) -> Result<(), AllocError>
+    requires id { cell.now.id < length walk.now.zones.now }
+    requires ends { All (λ x. x.cell < length walk.now.problem.now) cell.now.links }
+    requires sources { All (λ x. x.source < length walk.now.zones.now) cell.now.fixed }
     requires fits { CellFits cell.now }
-    ensures faces { IfOk result (λ _. map.new.entries ≡ with_faces map.old.entries
-        (cell_faces zones.now (lower_at heads.now) (upper_at heads.now) p.now cell.now)) }
-    ensures table { IfOk result (λ _. IsTable map.new.entries) }
+    ensures { OnOk result (Gains table.old.map table.new.map (faces_in walk.now cell.now)) }
 {
-    add_links(map, p, zones, own, heads, cell.id, &cell.links)?;
-    add_fixed(map, zones, heads, cell.id, &cell.fixed)?;
+    add_links(table, walk, cell.id, &cell.links)?;
+    add_fixed(table, walk, cell.id, &cell.fixed)?;
     Ok(())
 }
 
 /// Adds the faces of a problem.
-pub(crate) fn add_faces(
-    map: &mut BTreeMap<u32, ZoneSum>,
-    p: &Problem,
-    zones: &[u32],
-    own: &[u32],
-    heads: &[Bound],
-) -> Result<(), AllocError>
-    requires table { IsTable map.old.entries }
-    requires walk { IsWalk p.now zones.now own.now heads.now }
-    requires sources { (c : ℕ) → c < length p.now → All (λ x. x.source < length zones.now) (entries_at p.now c).fixed }
-    ensures faces { IfOk result (λ _. map.new.entries ≡ with_faces map.old.entries
-        (faces zones.now (lower_at heads.now) (upper_at heads.now) p.now)) }
-    ensures table { IfOk result (λ _. IsTable map.new.entries) }
+pub(crate) fn add_faces(table: &mut Table, walk: &Walk) -> Result<(), AllocError>
+    requires { (c : ℕ) → c < length walk.now.problem.now → All (λ x. x.source < length walk.now.zones.now) (entries_at walk.now.problem.now c).fixed }
+    ensures { OnOk result (Gains table.old.map table.new.map (walk_faces walk.now)) }
 {
-    for c in 0..p.len() {
-        add_cell(map, p, zones, own, heads, p.cell(c))?;
+    for c in 0..walk.problem.len() {
+        add_cell(table, walk, walk.problem.cell(c))?;
     }
     Ok(())
 }

@@ -4,9 +4,9 @@
 mod faces;
 pub mod fault;
 pub mod flows;
-pub mod laws;
-mod own;
+mod sum;
 mod table;
+mod walk;
 
 pub use fault::ZoneFault;
-pub use flows::{ZoneSum, zone_flows};
+pub use flows::zone_flows;

@@ -1,111 +1,107 @@
-// The sums for each pair of zones.
-ghost use Rattle.std.specs.Prelude.{◌≡◌, ◌≤◌, IfOk, ◌<◌, ◌^◌, All, length, ◌-ℤ◌};
-ghost use Rattle.budget_bounds.specs.{IsFlow, AreHeads};
-ghost use Rattle.zone_flows.specs.{IsTable, IsZoneSum, key_of, sum_at, with_face, with_faces, face_from, is_lower_zone, AreOfGrid};
-ghost use Rattle.step_problem.specs.{IsHead, least, most, lower_at, upper_at};
+// A table of sums for each pair of zones. The pair a, b has the key 1000 * a + b.
+ghost use Rattle.std.specs.Prelude.{◌≡◌, ◌≤◌, OnOk, [], ◌∷◌, ◌≤ℤ◌, ◌+ℤ◌, ◌-ℤ◌, pos};
+ghost use Rattle.std.specs.Int.Signed.{lt_z};
+ghost use Rattle.std.specs.BTreeMap.{IsOrdered};
+ghost use Rattle.std.specs.Ordering.{nat_cmp};
+ghost use Rattle.budget_bounds.specs.{IsFlow, term_limit};
+ghost use Rattle.zone_flows.specs.Tables.{AreSums, Gains, IsZoneSum, flow_or_refusal, plus_flow};
+ghost use Rattle.zone_flows.specs.Pairs.{Returns, each_or_first};
 
-use crate::flows::{ZoneSum, plus_flow};
-use budget_bounds::TermPair;
-use std::alloc::AllocError;
+use crate::fault::ZoneFault;
+use crate::sum::ZoneSum;
+use budget_bounds::{TERM_LIMIT, TermPair, plus_part};
+use std::alloc::{AllocError, Global};
 use std::collections::BTreeMap;
-use step_problem::{Bound, least_flow, most_flow};
+use step_problem::{Dir, NoBound, Place, ZoneFlow};
 
-const NO_FLOW: ZoneSum = ZoneSum {
-    into: TermPair { lo: 0, hi: 0 },
-    out: TermPair { lo: 0, hi: 0 },
-};
-
-fn key_of(from: u32, to: u32) -> u32
-    requires from { from ≤ 999 }
-    requires to { to ≤ 999 }
-    ensures { result ≡ key_of from to }
-{
-    from * 1000 + to
+/// The sums of each pair of zones that has any.
+#[derive(Drop)]
+pub(crate) struct Table {
+    pub map: BTreeMap<u32, ZoneSum>,
+    ghost sums: { AreSums map },
 }
 
-#[tactic(auto, unfolding(crate::specs::Tables::with_face))]
+fn plus_flow(sum: ZoneSum, flow: TermPair) -> ZoneSum
+    requires sum { IsZoneSum sum }
+    requires flow { IsFlow flow }
+    ensures value { result ≡ plus_flow sum flow }
+    ensures sum { IsZoneSum result }
+{
+    ZoneSum {
+        into: plus_part(Dir::In, sum.into, flow),
+        out: plus_part(Dir::Out, sum.out, flow),
+    }
+}
+
+/// Adds the flow across a face between two zones.
 pub(crate) fn add_face(
-    map: &mut BTreeMap<u32, ZoneSum>,
+    table: &mut Table,
     from: u32,
     to: u32,
     flow: TermPair,
 ) -> Result<(), AllocError>
-    requires table { IsTable map.old.entries }
     requires from { from ≤ 999 }
     requires to { to ≤ 999 }
     requires flow { IsFlow flow }
-    ensures face { IfOk result (λ _. map.new.entries ≡ with_face map.old.entries (record { from = from; to = to; flow = flow })) }
-    ensures table { IfOk result (λ _. IsTable map.new.entries) }
+    ensures { OnOk result (Gains table.old.map table.new.map (record { from = from; to = to; flow = flow } ∷ [])) }
 {
-    let key = key_of(from, to);
-    let sum = map.entry(key)?.or_insert(NO_FLOW);
+    let none = TermPair { lo: 0, hi: 0 };
+    let sum = table.map.entry(from * 1000 + to)?.or_insert(ZoneSum {
+        into: none,
+        out: none,
+    });
     *sum = plus_flow(*sum, flow);
     Ok(())
 }
 
-// One face: the flow across it goes into the sums of its two zones.
-
-fn head_difference(of: i64, from: i64) -> i64
-    requires of { IsHead of }
-    requires from { IsHead from }
-    ensures { result ≡ of -ℤ from }
+// Whether the sum of both is below the limit. The sum itself may reach 2^127, which is no i128.
+fn below(a: i128, b: i128) -> bool
+    requires { pos 0 ≤ℤ b }
+    ensures { result ≡ lt_z (a +ℤ b) term_limit }
 {
-    of - from
+    a < TERM_LIMIT - b
 }
 
-// The least and the greatest flow from x to y.
-fn flow_between(x: Bound, y: Bound, lo: u64, hi: u64) -> TermPair
-    requires x { AreHeads x }
-    requires y { AreHeads y }
-    requires ordered { lo ≤ hi }
-    requires small { hi < 2 ^ 60 }
-    ensures value { result ≡ record { lo = least lo hi (x.low -ℤ y.high); hi = most lo hi (x.high -ℤ y.low) } }
-    ensures flow { IsFlow result }
+fn difference(a: i128, b: i128) -> i128
+    requires a { (pos 0 ≤ℤ a) × (a ≤ℤ term_limit) }
+    requires b { (pos 0 ≤ℤ b) × (b ≤ℤ term_limit) }
+    ensures { result ≡ a -ℤ b }
 {
-    TermPair {
-        lo: least_flow(lo, hi, head_difference(x.low, y.high)),
-        hi: most_flow(lo, hi, head_difference(x.high, y.low)),
-    }
+    a - b
 }
 
-/// Whether cells of these zones have a face that counts from the first to the second.
-pub(crate) fn is_face(from: u32, to: u32) -> bool
-    ensures { result ≡ is_lower_zone from to }
+// The flow of the pair of zones with this key, or FlowTooLarge.
+fn flow_or_refusal(key: u32, sum: ZoneSum) -> Result<ZoneFlow, NoBound>
+    requires { IsZoneSum sum }
+    ensures { result ≡ flow_or_refusal key sum }
 {
-    0 < from && from < to
-}
-
-/// Adds the face from cell x to cell y, where the zone of x is the lower of two zones.
-#[tactic(auto, unfolding(crate::specs::Faces::face_from, crate::specs::Tables::with_faces))]
-pub(crate) fn add_face_from(
-    map: &mut BTreeMap<u32, ZoneSum>,
-    zones: &[u32],
-    heads: &[Bound],
-    x: u32,
-    y: u32,
-    lo: u64,
-    hi: u64,
-) -> Result<(), AllocError>
-    requires table { IsTable map.old.entries }
-    requires grid { AreOfGrid zones.now heads.now }
-    requires x { x < length zones.now }
-    requires y { y < length zones.now }
-    requires ordered { lo ≤ hi }
-    requires small { hi < 2 ^ 60 }
-    ensures faces { IfOk result (λ _. map.new.entries ≡ with_faces map.old.entries
-        (face_from zones.now (lower_at heads.now) (upper_at heads.now) x y lo hi)) }
-    ensures table { IfOk result (λ _. IsTable map.new.entries) }
-{
-    let from = zones[x as usize];
-    let to = zones[y as usize];
-    if is_face(from, to) {
-        add_face(
-            map,
+    let (from, to) = (key / 1000, key % 1000);
+    if below(sum.into.lo, sum.out.hi) && below(sum.into.hi, sum.out.lo) {
+        Ok(ZoneFlow {
             from,
             to,
-            flow_between(heads[x as usize], heads[y as usize], lo, hi),
-        )
+            lo: difference(sum.into.lo, sum.out.hi),
+            hi: difference(sum.into.hi, sum.out.lo),
+        })
     } else {
-        Ok(())
+        Err(NoBound {
+            code: 23,
+            place: Place::Zone(from, to),
+        })
     }
+}
+
+/// The flow of each pair in order, or the first refusal.
+pub(crate) fn flows_in_order(alloc: Global, table: &Table) -> Result<Vec<ZoneFlow>, ZoneFault>
+    ensures flows { Returns (each_or_first (λ e. flow_or_refusal e.0 e.1) table.now.map.entries) result }
+    ensures ordered { IsOrdered nat_cmp table.now.map }
+{
+    let mut flows = Vec::new(alloc);
+    for (key, sum) in table.map.iter() {
+        match flow_or_refusal(*key, *sum) {
+            Ok(flow) => flows.push(flow)?,
+            Err(refusal) => return Err(ZoneFault::NoBound(refusal)),
+        }
+    }
+    Ok(flows)
 }

@@ -16,11 +16,7 @@ fn is_variable(model: &FlowModel, given: &GivenHeads, cell: u32) -> bool
     requires cell { cell < cell_count model.now.grid }
     ensures { result ≡ is_variable model.now given.now.period cell }
 {
-    match given.kind(model, cell) {
-        Kind::Variable => true,
-        Kind::Constant => false,
-        Kind::NoFlow => false,
-    }
+    matches!(given.kind(model, cell), Kind::Variable)
 }
 
 fn add_cells(

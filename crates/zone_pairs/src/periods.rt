@@ -21,21 +21,7 @@ pub struct ZonePairs<'a> {
     walk: Option<Walk<'a>>,
 }
 
-impl<'a> Walk<'a> {
-    fn new(alloc: Global, model: &FlowModel, zones: &'a [u32]) -> Result<Walk<'a>, AllocError>
-        requires { CanPair model.now zones.now }
-        ensures walk { IfOk result (IsWalk model.now) }
-        ensures zones { IfOk result (λ w. w.zones.now ≡ zones.entry.now) }
-    {
-        let given = GivenHeads::new(alloc, model);
-        let pairs = zone_pairs(alloc, model, &given, zones)?;
-        Ok(Walk {
-            zones,
-            given,
-            pairs: Listed::new(pairs),
-        })
-    }
-
+impl Walk<'_> {
     fn go_to(&mut self, alloc: Global, model: &FlowModel, period: u32) -> Result<(), AllocError>
         requires walk { IsWalk model.now self.old }
         requires last { period ≤ length model.now.periods }
@@ -65,7 +51,13 @@ impl<'a> ZonePairs<'a> {
         let Some(zones) = zones else {
             return Ok(ZonePairs { walk: None });
         };
-        let walk = Walk::new(alloc, model, zones)?;
+        let given = GivenHeads::new(alloc, model);
+        let pairs = Listed::new(zone_pairs(alloc, model, &given, zones)?);
+        let walk = Walk {
+            zones,
+            given,
+            pairs,
+        };
         Ok(ZonePairs { walk: Some(walk) })
     }
 

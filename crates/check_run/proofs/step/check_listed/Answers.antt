@@ -1,5 +1,4 @@
-use Rattle.check_run.proofs.Common.{◌∙◌, List, option_map, subst, sym, arith, err_from_is_err_and, Bound, AreWords, digits_of, IsCovered, IsUncovered}
-use Rattle.check_run.proofs.Common.{are_numbers, cut_by}
+use Rattle.check_run.proofs.Common.{◌∙◌, List, option_map, subst, sym, arith, err_from_is_err_and, Bound, AreWords, digits_of, IsCovered, IsUncovered, cut_by}
 use Rattle.check_run.proofs.Checking.{err_follows, ok_follows}
 use Rattle.check_run.proofs.FlowPairs.{flows_have_pairs}
 use Rattle.check_run.proofs.RunText.{are_words, id_within}
@@ -50,7 +49,7 @@ returns-in_err-test_terms-clause-fault c =
 pub test_flows-requires-clause-pairs : goal.test_flows-requires-clause-pairs
 test_flows-requires-clause-pairs c = λ flows are.
     let posed = c.in_ok-posed.ensures.posed in
-    c.requires.flows.pairs ∙ sym (flows_have_pairs c.args.decks.now (digits_of c.args.tables.now.first) c.args.at c.args.old.now c.in_ok-posed.posed.problem c.requires.decks.first.grid.size posed.posed.problem c.args.heads.now (option_map (λ z. z.now) c.args.zones) flows (are_numbers c.args.decks.now.first (option_map (λ z. z.now) c.args.zones) c.requires.zones) are)
+    c.requires.flows.pairs ∙ sym (flows_have_pairs c.args.decks.now (digits_of c.args.tables.now.first) c.args.at c.args.old.now c.in_ok-posed.posed.problem c.requires.decks.first.grid.size posed.posed.problem c.args.heads.now (option_map (λ z. z.now) c.args.zones) flows are)
 
 pub test_flows-requires-clause-named : goal.test_flows-requires-clause-named
 test_flows-requires-clause-named c = c.in_ok-posed.ensures.posed.named

@@ -3,5 +3,5 @@ use Rattle.listing_run.proofs.laws.one_listing.Goals as goal
 
 pub returns : goal.returns
 returns c =
-    let laws = laws_of c.start_heads.ensures.one c.start_heads.ensures.fit c.one_step.ensures c.no_step_beside_a_refusal.ensures c.one_refusal.ensures c.heads_fit.ensures c.one_list_or_refusal.ensures.one_list c.one_list_or_refusal.ensures.excludes_refusal c.one_list_or_refusal.ensures.one_refusal in
+    let laws = laws_of c.start_heads.ensures.one c.start_heads.ensures.fit c.one_step.ensures c.no_step_beside_a_refusal.ensures c.one_refusal.ensures c.heads_fit.ensures in
     record { one = one_listing laws; bound = excludes_refusal laws; closed = closed_listing laws; refusal = refusals_one laws }

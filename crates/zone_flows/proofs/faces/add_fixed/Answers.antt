@@ -1,16 +1,16 @@
-use Rattle.zone_flows.proofs.Common.{refl, pos, Fixed, Storage, lower_at, upper_at, faces_by_kind}
-use Rattle.zone_flows.proofs.Keys.{goes_on, ends}
+use Rattle.zone_flows.proofs.Common.{pos, Fixed, Storage, kind_faces}
+use Rattle.zone_flows.proofs.Tables.{nothing, one_more, all_gained}
 use Rattle.zone_flows.proofs.faces.add_fixed.Goals as goal
 
 -- stands for an entry past the end
 abbrev no_fixed : Fixed
 no_fixed = record { kind = Storage; source = 0; lo = 0; hi = 0; head_lo = pos 0; head_hi = pos 0 }
 
-pub loop-x-preserved : goal.loop-x-preserved
-loop-x-preserved c = record {
-  faces = goes_on (λ (x : Fixed). faces_by_kind c.args.zones.now (lower_at c.args.heads.now) (upper_at c.args.heads.now) x.kind c.args.id x.source x.lo x.hi) c.args.fixed.now c.loop-x.x-index no_fixed _ c.loop-x.map.entries _ _ c.loop-x-test.true refl c.in_ok-add_constant.ensures.faces c.loop-x.invariant.faces;
-  table = c.in_ok-add_constant.ensures.table;
-}
+pub loop-x-init : goal.loop-x-init
+loop-x-init c = nothing c.args.table.now.map
 
-pub returns-clause-faces : goal.returns-clause-faces
-returns-clause-faces c = ends (λ (x : Fixed). faces_by_kind c.args.zones.now (lower_at c.args.heads.now) (upper_at c.args.heads.now) x.kind c.args.id x.source x.lo x.hi) c.args.fixed.now c.loop-x.x-index c.loop-x.map.entries _ c.loop-x-test.false c.loop-x.invariant.faces
+pub loop-x-preserved : goal.loop-x-preserved
+loop-x-preserved c = one_more (λ (x : Fixed). kind_faces c.args.walk.now x.kind c.args.id x.source x.lo x.hi) c.args.fixed.now c.loop-x.x-index c.args.table.now.map c.loop-x.table.map c.loop-x.invariant no_fixed _ c.loop-x-test.true c.in_ok-add_constant.ensures
+
+pub returns : goal.returns
+returns c = all_gained (λ (x : Fixed). kind_faces c.args.walk.now x.kind c.args.id x.source x.lo x.hi) c.args.fixed.now c.loop-x.x-index c.args.table.now.map c.loop-x.table.map c.loop-x.invariant c.loop-x-test.false

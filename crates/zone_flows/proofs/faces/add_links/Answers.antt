@@ -1,12 +1,16 @@
-use Rattle.zone_flows.proofs.Common.{refl, Link, lower_at, upper_at, entries_at, no_link, face_from}
-use Rattle.zone_flows.proofs.Keys.{goes_on, ends}
+use Rattle.zone_flows.proofs.Common.{Link, no_link, entries_at, from_to}
+use Rattle.zone_flows.proofs.Tables.{nothing, one_more, all_gained}
 use Rattle.zone_flows.proofs.faces.add_links.Goals as goal
 
-pub loop-x-preserved : goal.loop-x-preserved
-loop-x-preserved c = record {
-  faces = goes_on (λ (x : Link). face_from c.args.zones.now (lower_at c.args.heads.now) (upper_at c.args.heads.now) c.args.id (entries_at c.args.p.now x.cell).id x.lo x.hi) c.args.links.now c.loop-x.x-index no_link _ c.loop-x.map.entries _ _ c.loop-x-test.true refl c.in_ok-add_link.ensures.faces c.loop-x.invariant.faces;
-  table = c.in_ok-add_link.ensures.table;
-}
+pub loop-x-init : goal.loop-x-init
+loop-x-init c = nothing c.args.table.now.map
 
-pub returns-clause-faces : goal.returns-clause-faces
-returns-clause-faces c = ends (λ (x : Link). face_from c.args.zones.now (lower_at c.args.heads.now) (upper_at c.args.heads.now) c.args.id (entries_at c.args.p.now x.cell).id x.lo x.hi) c.args.links.now c.loop-x.x-index c.loop-x.map.entries _ c.loop-x-test.false c.loop-x.invariant.faces
+pub loop-x-preserved : goal.loop-x-preserved
+loop-x-preserved c =
+    let w = c.args.walk.now in
+    one_more (λ (x : Link). from_to w c.args.id (entries_at w.problem.now x.cell).id x.lo x.hi) c.args.links.now c.loop-x.x-index c.args.table.now.map c.loop-x.table.map c.loop-x.invariant no_link _ c.loop-x-test.true c.in_ok-add_link.ensures
+
+pub returns : goal.returns
+returns c =
+    let w = c.args.walk.now in
+    all_gained (λ (x : Link). from_to w c.args.id (entries_at w.problem.now x.cell).id x.lo x.hi) c.args.links.now c.loop-x.x-index c.args.table.now.map c.loop-x.table.map c.loop-x.invariant c.loop-x-test.false

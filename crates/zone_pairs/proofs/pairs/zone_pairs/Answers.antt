@@ -1,4 +1,4 @@
-use Rattle.zone_pairs.proofs.Common.{◌≡◌, ℕ, ◌<◌, ◌||◌, true, refl, sym, ap, ◌∙◌, arith, map, share_face, zone_pairs, pair_of, ZonePair}
+use Rattle.zone_pairs.proofs.Common.{◌≡◌, ℕ, ◌<◌, ◌||◌, true, refl, sym, ap, ◌∙◌, arith, map, share_face, zone_pairs, pair_of}
 use Rattle.std.proofs.lemmas.Result.{IfOk-weaker}
 use Rattle.zone_pairs.proofs.InOrder.{has, pairs_are}
 use Rattle.zone_pairs.proofs.Joined.{shared_small}
@@ -13,6 +13,6 @@ returns c =
     let keys = c.add_cells.new.keys.keys in
     let gained : (q : ℕ) → has keys q ≡ (has c.new-keys.result.keys q || share_face m zones p (pair_of q)) = λ q. c.in_ok-add_cells.ensures q in
     let same : (q : ℕ) → share_face m zones p (pair_of q) ≡ has keys q = λ q. sym (gained q ∙ ap (λ ks. has ks q || share_face m zones p (pair_of q)) c.new-keys.ensures.empty) in
-    let small : (z : ZonePair) → share_face m zones p z ≡ true → z.from < 1000 = λ z h. let l = (shared_small m zones c.requires.zones.limits p z h).0 in omega (arith, l) in
+    let small : (q : ℕ) → share_face m zones p (pair_of q) ≡ true → q < 1000000 = λ q h. let l = (shared_small m zones c.requires.zones.limits p (pair_of q) h).0 in omega (arith, l) in
     let all = pairs_are 1000 refl (share_face m zones p) keys c.pairs_of.ensures.ascend same small in
     IfOk-weaker c.pairs_of.result (λ v. v.items ≡ map pair_of keys) (λ v. v.items ≡ zone_pairs m zones p) (λ v e. e ∙ all) c.pairs_of.ensures.pairs

@@ -1,5 +1,5 @@
-use Rattle.zone_flows.proofs.Common.{ℕ, ℤ, ◌*◌, ◌^◌, ◌<◌, rules, arith, FitsSigned, w128, ints, to_z-of_z, IsWithin}
-use Rattle.zone_flows.proofs.table.flow_between.Goals as goal
+use Rattle.zone_flows.proofs.Common.{ℕ, ℤ, ◌*◌, ◌^◌, ◌<◌, rules, arith, ints, FitsSigned, to_z-of_z, w128, IsWithin}
+use Rattle.zone_flows.proofs.faces.flow_between.Goals as goal
 
 wider : (z : ℤ) (h : ℕ) → h < 2 ^ 60 → IsWithin z (h * 2 ^ 63) → IsWithin z (2 ^ 123)
 wider z h small w = record { above = omega (arith, ints); below = omega (arith, ints) }
