@@ -7,7 +7,7 @@ use Rattle.check_run.proofs.Common.{as_general, constant_faces, fixed_sources, l
 use Rattle.check_run.proofs.Common.{index_below, IsCellOf, IsFixed, IsLink, IsCellHull, AllThree, next, none, IsProblemBy, Face, share, any_in, in_any}
 use Rattle.check_run.proofs.Common.{cell_faces, face_between, face_from, faces, faces_by_kind, fixed_faces, link_faces, is_lower_zone, ZonePair, share_face}
 use Rattle.check_run.proofs.Common.{joins, face_of, join_of, shares, AllZip-at, AllZip-length, flat-In, IsProblemOf, AllZip-weaker, ToConstant, ToGeneral}
-use Rattle.check_run.proofs.Common.{FromStorage, is_between}
+use Rattle.check_run.proofs.Common.{FromStorage, is_between, eqb-true, ◌==◌}
 use Rattle.model_types.proofs.Members.{In-map, In}
 use Rattle.problem_builder.proofs.Members.{In-append, In-variable, variable-In, fixed_source, constant_active, variable_active}
 use Rattle.step_problem.specs.declared.entry.Fixed.{Fixed}
@@ -16,8 +16,6 @@ use Rattle.step_problem.specs.declared.entry.Link.{Link}
 use Rattle.model_types.proofs.Leads.{end_within, face_back, faces_are, faces_have, passing_are, turned, IsFaceOf, passing_have}
 use Rattle.model_types.specs.declared.face.Face.{Face as ModelFace}
 use Rattle.problem_builder.proofs.Zipped.{left_of, right_of}
-use Rattle.std.proofs.lemmas.Bool.{eqb-true}
-use Rattle.std.proofs.Common.{◌==◌}
 use Rattle.std.specs.Option.{option_to_list}
 
 -- Members of lists that are made of others.

@@ -4,11 +4,10 @@ use Rattle.check_run.proofs.Common.{lower_at, upper_at, share, EncloseExact, Dec
 use Rattle.check_run.proofs.Common.{AreFlowsOf, faces_of, BoundAll, Bounds, EnclosesHistories, AllSteps, IsStep, BoundBetween, HistoriesBound, deck_task}
 use Rattle.check_run.proofs.Common.{HasSize, start_head, times, TimeStep, IsProblemFor, Fraction, BudgetEncloses, exact_step, heads_of, variable_heads}
 use Rattle.check_run.proofs.Common.{FlowModel, Task, Step, Whole, Steps, as_listed, ListingEncloses, checked_task, step_of, steps_of, Limits, flows_of_pairs}
+use Rattle.check_run.proofs.Common.{same_flows, refl}
 use Rattle.barrier_vector.proofs.Uniques.{same_tests}
 use Rattle.check_run.proofs.Branches.{HaveBranches, have_branches, pair_shares, shared_has}
 use Rattle.deck_span.specs.{SolvesBetweenFrom}
-use Rattle.listing_run.proofs.Unique.{same_flows}
-use Rattle.std.proofs.Common.{refl}
 
 pub flows_have_pairs : (ds : Decks) (s : ℕ) (at : TimeStep) (old : List Bound) (p : List Entries) → HasSize ds.first.grid → IsProblemFor ds s at old p →
     (heads : List Bound) (zones : Option (List ℕ)) (flows : List ZoneFlow) → AreFlowsOf p heads zones flows → map zones_of_flow flows ≡ pairs_in ds.first zones at.period

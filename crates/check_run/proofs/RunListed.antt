@@ -7,11 +7,10 @@ use Rattle.check_run.proofs.Common.{HeadsFit, AreCellBounds, AreFlows, AreFlowsA
 use Rattle.check_run.proofs.Common.{Step, Whole, AllSteps, IsStep, Steps, budget_at, AreFlowsOf, faces_of, IsRest, first_in, rest_more, rest_whole, as_listed}
 use Rattle.check_run.proofs.Common.{nat_tests, is_nonzero, AllThree, next, none, IsProblemBy, IsBefore, StartHeadsFit, deck_task, Decks, AreDecks, PairKind}
 use Rattle.check_run.proofs.Common.{IsStepBy, pairs_of, Bool, In, IsCellHull, ListedStep, no_entries, variable_cells, AllZip-at, AllZip-length, AllZip-right}
-use Rattle.check_run.proofs.Common.{AllZip-weaker, IsProblemOf, total, is_chosen, IsZoneFlow, flows_of_pairs}
+use Rattle.check_run.proofs.Common.{AllZip-weaker, IsProblemOf, total, is_chosen, IsZoneFlow, flows_of_pairs, same_flows}
 use Rattle.check_run.proofs.Branches.{hull_zip}
 use Rattle.step_problem.specs.declared.entry.Evap.{Evap}
 use Rattle.check_run.proofs.FlowPairs.{flows_have_pairs}
-use Rattle.listing_run.proofs.Unique.{same_flows}
 use Rattle.check_run.proofs.RunTerms.{budget_are, eight, flows_are, no_et}
 
 -- Without EVT no cell evaporates.

@@ -13,7 +13,7 @@ pub use Rattle.deck_problems.specs.{StartHeadsAreOne, StartHeadsEnclose, StartHe
 pub use Rattle.deck_problems.specs.declared.decks.Decks.{Decks}
 pub use Rattle.deck_span.proofs.AlikeBetween.{alike_between}
 pub use Rattle.deck_span.proofs.HullBounds.{hull_of_numbers}
-pub use Rattle.deck_span.proofs.SameFrames.{active_are, constants_between, counts_are, index_is, starts_between, times_are, variable_are}
+pub use Rattle.deck_span.proofs.SameFrames.{active_is, constants_between, count_is, index_is, starts_between, times_are, variable_same}
 pub use Rattle.deck_span.proofs.StepsBetween.{framed_is, steps_between}
 pub use Rattle.deck_span.specs.{IsBetween, IsPeriodBetween}
 pub use Rattle.model_types.specs.{FixedSource, FlowSource, HasSize, IsModel, cell_count, constant_head, dec_at, index_of, is_active, is_constant, is_variable}

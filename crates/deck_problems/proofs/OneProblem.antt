@@ -3,7 +3,7 @@ use Rattle.deck_problems.proofs.Common.{◌≡◌, ℕ, Option, Some, None, List
 use Rattle.deck_problems.proofs.Common.{times, IsModel, cell_count, is_variable, is_constant, index_of, is_active, AreGridHeads, IsProblemOf, HasNoProblem}
 use Rattle.deck_problems.proofs.Common.{IsActive, HeadsEnclose, IsHull, IsTooLarge, IsSecond, ProblemIsOne, ProblemExcludesRefusal, RefusalIsOne, ProblemFits}
 use Rattle.deck_problems.proofs.Common.{IsHullProblem, HasNoHullProblem, IsProblemBy, IsRefusedBy, of_first, of_second, of_hull, one_deck, AreDecks, IsOf}
-use Rattle.deck_problems.proofs.Common.{IsMember, HoldsOf, EachMember, IfSome, ◌&&◌, not, Fraction, IsBetween, counts_are, active_are, variable_are, index_is}
+use Rattle.deck_problems.proofs.Common.{IsMember, HoldsOf, EachMember, IfSome, ◌&&◌, not, Fraction, IsBetween, count_is, active_is, variable_same, index_is}
 use Rattle.deck_problems.proofs.Common.{times_are, Decks}
 use Rattle.problem_builder.specs.{ProblemFits as ModelProblemFits}
 use Rattle.step_problem.specs.declared.place.NoBound.{NoBound}
@@ -109,11 +109,11 @@ pub record HasCellsOf (a m : FlowModel) : Type 0 where
 
 pub between_cells : (a m b : FlowModel) → IsBetween a m b → HasCellsOf a m
 between_cells a m b h = record {
-  count = (counts_are a m b h).0;
-  active = λ c. (active_are a m b h c).0;
-  variable = λ p c. (variable_are a m b h p c).0;
+  count = count_is a m b h;
+  active = active_is a m b h;
+  variable = variable_same a m b h;
   index = index_is a m b h;
-  steps = (times_are a m b h).0;
+  steps = times_are a m b h;
 }
 
 cells_of : (a : FlowModel) (o : Option FlowModel) (m : FlowModel) → IsOf a o m → HasCellsOf a m

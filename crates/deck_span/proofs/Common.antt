@@ -1,24 +1,24 @@
 -- Names that several proofs of this crate cite, of the crates below and of its own definitions, passed on from one place. Declares nothing.
-pub use Rattle.std.proofs.Common.{All, Bool, List, None, Option, Some, [], ap, arith, cond, false, inl, inr, length, map, neg_ℤ, pos, refl, reverse, subst, suc}
-pub use Rattle.std.proofs.Common.{sym, take, true, zero, ℕ, ℤ, ◌*ℤ◌, ◌*◌, ◌++◌, ◌+ℤ◌, ◌+◌, ◌-◌, ◌<◌, ◌^◌, ◌∙◌, ◌∷◌, ◌≡◌, ◌≤ℤ◌, ◌≤◌, ◌⊎◌}
+pub use Rattle.std.proofs.Common.{All, Bool, List, None, Option, Some, [], ap, arith, cond, false, inl, inr, length, map, mul-pos, neg_ℤ, pos, refl, reverse}
+pub use Rattle.std.proofs.Common.{subst, suc, sym, take, true, zero, ℕ, ℤ, ◌*ℤ◌, ◌*◌, ◌++◌, ◌+ℤ◌, ◌+◌, ◌-◌, ◌<◌, ◌^◌, ◌∙◌, ◌∷◌, ◌≡◌, ◌≤ℤ◌, ◌≤◌, ◌⊎◌}
 pub use Rattle.std.proofs.lemmas.Bool.{and_parts, cases_lt}
 pub use Rattle.std.proofs.lemmas.Int.{by_lt_z, clamps, ints}
 pub use Rattle.std.proofs.lemmas.List.{get_or_default, reverse-append}
 pub use Rattle.std.specs.List.{AllZip, cons_option, filter, filter_map, find, flat_map, range_with_len}
 pub use Rattle.std.specs.Prelude.{int_lt, is_some, max, min, negsuc, not, unsigned_abs, ◌&&◌, ◌==◌, ◌||◌}
-pub use Rattle.cell_balance.proofs.Deep.{add_mul, le_trans_z}
+pub use Rattle.cell_balance.proofs.Enclosing.{le_over, over_le}
 pub use Rattle.cell_balance.specs.{CellEncloses, DrainEncloses, EnclosesStep, EvapEncloses, ExactCell, ExactDrain, ExactEvap, ExactFixed, ExactFlow, ExactLink}
 pub use Rattle.cell_balance.specs.{ExactRiver, FixedEncloses, FlowEncloses, HasEqualEnds, HasLinkBack, LinkEncloses, RiverEncloses, cell_at}
-pub use Rattle.decimal_input.proofs.Differences.{as_diff, diffs, same_diff}
-pub use Rattle.decimal_input.proofs.FloorLaws.{cancel_right, le-add, mul_mono_right, swap}
+pub use Rattle.decimal_input.proofs.FloorLaws.{cross_trans_signed, le-add, mul_mono_right}
 pub use Rattle.decimal_input.proofs.Orders.{AtMost-refl, AtMost-trans, den_plus, num_plus, over-AtMost, times-AtMost}
-pub use Rattle.decimal_input.specs.{Encloses, EnclosesSigned, Fraction, Ratio, negated, number, over, signed, size}
+pub use Rattle.decimal_input.specs.{Encloses, EnclosesSigned, Fraction, IsOver, Ratio, negated, number, over, signed, size}
 pub use Rattle.decimal_input.specs.Fractions.{AtMost, den, plus}
 pub use Rattle.decimal_input.specs.declared.dec.Dec.{Dec}
 pub use Rattle.deck_span.specs.{AreAlike, AreEntriesAlike, AreGivenAlike, ArePeriodsAlike, AreRatesAlike, IsBetween, IsCellBetween, IsDecBetween}
 pub use Rattle.deck_span.specs.{IsDrainBetween, IsEntryBetween, IsEvapBetween, IsFixedBetween, IsFlowBetween, IsFractionBetween, IsGivenAtMost, IsGivenBetween}
 pub use Rattle.deck_span.specs.{IsPeriodBetween, IsRateBetween, IsRatioBetween, IsRiverBetween, IsSizeBetween, IsStepBetween, LiesBetween, drains, frame}
 pub use Rattle.deck_span.specs.{generals, period_frame, rivers, wells}
+pub use Rattle.flow_equations.proofs.TurnedFlows.{own_share}
 pub use Rattle.flow_equations.specs.{exact_cell, exact_drain, exact_evap, exact_fixed, exact_flow, exact_link, exact_river, exact_step}
 pub use Rattle.model_types.specs.{DrainSource, EvapSource, FixedSource, FlowSource, FromStorage, IsEvapValid, IsModel, Pumped, Received, RiverSource}
 pub use Rattle.model_types.specs.{ToConstant, ToGeneral, as_drain, as_general, as_river, as_well, between_heads, cell_count, cell_of, conductance}

@@ -1,11 +1,14 @@
 -- A number between two enclosed ones lies between the outer bounds.
-use Rattle.deck_span.proofs.Common.{◌≡◌, ℕ, ◌*◌, ◌^◌, ◌≤◌, ◌<◌, ◌⊎◌, inl, inr, arith, ℤ, pos, ◌*ℤ◌, ◌≤ℤ◌, suc, ◌+◌, refl, ◌+ℤ◌, ints, clamps, Ratio, Fraction}
-use Rattle.deck_span.proofs.Common.{signed, Encloses, EnclosesSigned, den, AtMost, plus, mul_mono_right, swap, cancel_right, IsFractionBetween, IsRatioBetween}
-use Rattle.deck_span.proofs.Common.{LiesBetween, le_trans_z, min, max, IsHullPair, diffs, as_diff, same_diff, AtMost-refl, times-AtMost, over-AtMost}
+use Rattle.deck_span.proofs.Common.{◌≡◌, ℕ, ◌*◌, ◌^◌, ◌≤◌, ◌<◌, ◌⊎◌, inl, inr, refl, arith, ℤ, pos, ◌*ℤ◌, ◌≤ℤ◌, ◌+ℤ◌, ints, clamps, Ratio, Fraction, signed}
+use Rattle.deck_span.proofs.Common.{Encloses, EnclosesSigned, den, AtMost, plus, mul_mono_right, IsFractionBetween, IsRatioBetween, LiesBetween, min, max}
+use Rattle.deck_span.proofs.Common.{IsHullPair, AtMost-refl, times-AtMost, over-AtMost, IsOver, le_over, over_le, mul-pos, own_share, cross_trans_signed}
+use Rattle.cell_balance.proofs.Deep.{le_trans_z}
+use Rattle.cell_balance.proofs.Denominators.{fraction_over}
 use Rattle.decimal_input.specs.{over as size_over}
 use Rattle.decimal_input.specs.Fractions.{times}
 use Rattle.std.specs.Int.{int_min, int_max}
-use Rattle.decimal_input.specs.Ratios.{AtMost as IsRatioAtMost, times as size_times}
+use Rattle.decimal_input.specs.Ratios.{den as ratio_den, AtMost as IsRatioAtMost, times as size_times}
+use Rattle.cell_balance.proofs.Scaling.{IsOver-plus, IsOver-signed, IsOver-times}
 
 -- Numbers that are made from numbers between two others.
 pub least : (f : Fraction) → AtMost f f
@@ -21,67 +24,75 @@ size_itself f = record { lies = inl (AtMost-refl f, AtMost-refl f) }
 pub between_image : {X Y : Type 0} (R : X → X → Type 0) (S : Y → Y → Type 0) (u : X → Y) → ((f g : X) → R f g → S (u f) (u g)) → (f g h : X) → LiesBetween R f g h → LiesBetween S (u f) (u g) (u h)
 between_image R S u keeps f g h b = record { lies = elim b.lies [ inl o ↦ inl (keeps f g o.0, keeps g h o.1) | inr o ↦ inr (keeps h g o.0, keeps g f o.1) ] }
 
-product : (a b : ℕ) → pos (a * b) ≡ pos a *ℤ pos b
-product a b = omega (arith, ints)
+-- four fractions over the product of their denominators
+pub record AreOver (d : ℕ) (f g h k : Fraction) : Type 0 where
+  pub some : 0 < d
+  pub a : ℤ
+  pub f_over : IsOver d f a
+  pub b : ℤ
+  pub g_over : IsOver d g b
+  pub p : ℤ
+  pub h_over : IsOver d h p
+  pub q : ℤ
+  pub k_over : IsOver d k q
 
-triple : (a b c : ℕ) → pos (a * b * c) ≡ (pos a *ℤ pos b) *ℤ pos c
-triple a b c = refl
+abbrev pub den_of : Fraction → Fraction → Fraction → Fraction → ℕ
+den_of f g h k = den f * den g * den h * den k * 1
 
-four : (a b c d : ℤ) → (a *ℤ b) *ℤ (c *ℤ d) ≡ (a *ℤ c) *ℤ (b *ℤ d)
-four a b c d = rw (as_diff a, as_diff b, as_diff c, as_diff d) (simp diffs (same_diff _ _ _ _ (omega arith)))
-
--- f ≤ g over the cross products
-cross : (a b : ℤ) (d e k m : ℕ) → (a *ℤ pos e) ≤ℤ (b *ℤ pos d) → ((a *ℤ pos k) *ℤ pos (e * m)) ≤ℤ ((b *ℤ pos k) *ℤ pos (d * m))
-cross a b d e k m h = rw (turn a k e m, turn b k d m) (mul_mono_right (k * m) _ _ h)
+pub over_all : (f g h k : Fraction) → AreOver (den_of f g h k) f g h k
+over_all f g h k =
+    let (a, f_over) = fraction_over (den f * den g * den h * den k) 1 f (den g * den h * den k, first (den f) (den g) (den h) (den k)) in
+    let (b, g_over) = fraction_over (den f * den g * den h * den k) 1 g (den f * den h * den k, second (den f) (den g) (den h) (den k)) in
+    let (p, h_over) = fraction_over (den f * den g * den h * den k) 1 h (den f * den g * den k, third (den f) (den g) (den h) (den k)) in
+    let (q, k_over) = fraction_over (den f * den g * den h * den k) 1 k (den f * den g * den h, fourth (den f) (den g) (den h) (den k)) in
+    record {
+      some = mul-pos (mul-pos (mul-pos (mul-pos (omega arith) (omega arith)) (omega arith)) (omega arith)) (omega arith);
+      a = a;
+      f_over = f_over;
+      b = b;
+      g_over = g_over;
+      p = p;
+      h_over = h_over;
+      q = q;
+      k_over = k_over;
+    }
   where
-    turn : (a : ℤ) (k e m : ℕ) → (a *ℤ pos k) *ℤ pos (e * m) ≡ (a *ℤ pos e) *ℤ pos (k * m)
-    turn a k e m = rw (product e m, product k m) (four a (pos k) (pos e) (pos m))
+    first : (a b c d : ℕ) → a * b * c * d ≡ a * (b * c * d)
+    first a b c d = omega arith
 
-den_times : (f g : Fraction) → suc (f.less * g.less + f.less + g.less) ≡ suc f.less * suc g.less
-den_times f g = omega arith
+    second : (a b c d : ℕ) → a * b * c * d ≡ b * (a * c * d)
+    second a b c d = omega arith
+
+    third : (a b c d : ℕ) → a * b * c * d ≡ c * (a * b * d)
+    third a b c d = omega arith
+
+    fourth : (a b c d : ℕ) → a * b * c * d ≡ d * (a * b * c)
+    fourth a b c d = omega arith
 
 -- a product with a fraction that isn't negative
 pub times_keeps : (r : Ratio) (f g : Fraction) → AtMost f g → AtMost (times f (signed r)) (times g (signed r))
-times_keeps r f g h = record {
-  at_most = rw (den_times g (signed r), den_times f (signed r)) (cross f.num g.num (den f) (den g) r.num (suc r.less) h.at_most);
-}
-
-sum_left : (a c d e x : ℤ) → (a *ℤ x +ℤ c *ℤ d) *ℤ (e *ℤ x) ≡ (a *ℤ e) *ℤ (x *ℤ x) +ℤ c *ℤ ((d *ℤ e) *ℤ x)
-sum_left a c d e x = rw (as_diff a, as_diff c, as_diff d, as_diff e, as_diff x) (simp diffs (same_diff _ _ _ _ (omega arith)))
-
-sum_right : (b c d e x : ℤ) → (b *ℤ x +ℤ c *ℤ e) *ℤ (d *ℤ x) ≡ (b *ℤ d) *ℤ (x *ℤ x) +ℤ c *ℤ ((d *ℤ e) *ℤ x)
-sum_right b c d e x = rw (as_diff b, as_diff c, as_diff d, as_diff e, as_diff x) (simp diffs (same_diff _ _ _ _ (omega arith)))
+times_keeps r f g h =
+    let o = over_all f g f g in
+    let d = den_of f g f g in
+    let share = IsOver-signed (ratio_den r) r r.num (own_share r) in
+    le_over (d * ratio_den r) (times f (signed r)) (times g (signed r)) (o.a *ℤ pos r.num) (o.b *ℤ pos r.num) (mul-pos o.some (omega arith))
+    (IsOver-times d (ratio_den r) f (signed r) o.a (pos r.num) o.f_over share) (IsOver-times d (ratio_den r) g (signed r) o.b (pos r.num) o.g_over share)
+    (mul_mono_right r.num o.a o.b (over_le d f g o.a o.b o.f_over o.g_over h))
 
 -- a sum with a fraction
 pub plus_keeps : (k f g : Fraction) → AtMost f g → AtMost (plus f k) (plus g k)
-plus_keeps k f g h = record {
-  at_most = rw (den_times g k, den_times f k) (summed f.num g.num k.num (den f) (den g) (den k) h.at_most);
-}
+plus_keeps k f g h =
+    let o = over_all f g k k in
+    let d = den_of f g k k in
+    let le = over_le d f g o.a o.b o.f_over o.g_over h in
+    le_over d (plus f k) (plus g k) (o.a +ℤ o.p) (o.b +ℤ o.p) o.some (IsOver-plus d f k o.a o.p o.f_over o.h_over) (IsOver-plus d g k o.b o.p o.g_over o.h_over) (added o.a o.b o.p le)
   where
-    left_side : (a c : ℤ) (d e x : ℕ) → (a *ℤ pos x +ℤ c *ℤ pos d) *ℤ pos (e * x) ≡ (a *ℤ pos e) *ℤ pos (x * x) +ℤ c *ℤ pos (d * e * x)
-    left_side a c d e x = rw (product e x, product x x, triple d e x) (sum_left a c (pos d) (pos e) (pos x))
-
-    right_side : (b c : ℤ) (d e x : ℕ) → (b *ℤ pos x +ℤ c *ℤ pos e) *ℤ pos (d * x) ≡ (b *ℤ pos d) *ℤ pos (x * x) +ℤ c *ℤ pos (d * e * x)
-    right_side b c d e x = rw (product d x, product x x, triple d e x) (sum_right b c (pos d) (pos e) (pos x))
-
     added : (a b c : ℤ) → a ≤ℤ b → (a +ℤ c) ≤ℤ (b +ℤ c)
     added a b c h = omega (arith, ints)
-
-    summed : (a b c : ℤ) (d e x : ℕ) → (a *ℤ pos e) ≤ℤ (b *ℤ pos d) → ((a *ℤ pos x +ℤ c *ℤ pos d) *ℤ pos (e * x)) ≤ℤ ((b *ℤ pos x +ℤ c *ℤ pos e) *ℤ pos (d * x))
-    summed a b c d e x h = rw (left_side a c d e x, right_side b c d e x) (added _ _ _ (mul_mono_right (x * x) _ _ h))
 
 -- the rate over an area and a depth
 pub rate_keeps : (area depth : Ratio) → 0 < depth.num → (f g : Ratio) → IsRatioAtMost f g → IsRatioAtMost (size_over (size_times f area) depth) (size_over (size_times g area) depth)
 rate_keeps area depth some f g h = over-AtMost {a = size_times f area} {b = size_times g area} {c = depth} {d = depth} some some (times-AtMost {a = f} {b = g} {c = area} {d = area} h (AtMost-refl area)) (AtMost-refl depth)
-
--- lo ≤ n / d, n / d ≤ k / e (all over a unit S) give lo ≤ k / e
-low_cross : (lo n k : ℤ) (d e S : ℕ) → 0 < d → (lo *ℤ pos d) ≤ℤ (n *ℤ pos S) → (n *ℤ pos e) ≤ℤ (k *ℤ pos d) → (lo *ℤ pos e) ≤ℤ (k *ℤ pos S)
-low_cross lo n k d e S h p q =
-    cancel_right d _ _ h (rw (swap lo (pos e) (pos d), swap k (pos S) (pos d)) (le_trans_z _ _ _ (mul_mono_right e _ _ p) (rw (swap n (pos S) (pos e)) (mul_mono_right S _ _ q))))
-
-high_cross : (hi n k : ℤ) (d e S : ℕ) → 0 < d → (n *ℤ pos S) ≤ℤ (hi *ℤ pos d) → (k *ℤ pos d) ≤ℤ (n *ℤ pos e) → (k *ℤ pos S) ≤ℤ (hi *ℤ pos e)
-high_cross hi n k d e S h p q =
-    cancel_right d _ _ h (rw (swap hi (pos e) (pos d), swap k (pos S) (pos d)) (le_trans_z _ _ _ (mul_mono_right S _ _ q) (rw (swap n (pos e) (pos S)) (mul_mono_right e _ _ p))))
 
 -- a lower bound goes down, an upper one up
 lower_down : (lo l : ℤ) (e : ℕ) (z : ℤ) → lo ≤ℤ l → (l *ℤ pos e) ≤ℤ z → (lo *ℤ pos e) ≤ℤ z
@@ -94,10 +105,10 @@ pub numbers_enclose : {a b c d : ℤ} (s : ℕ) (f g h : Fraction) → EnclosesS
 numbers_enclose {a} {b} {c} {d} s f g h p q m = by_order m.lies
   where
     up : (x y : ℤ) (u : Fraction) → EnclosesSigned x y s u → AtMost u g → (x *ℤ pos (den g)) ≤ℤ (g.num *ℤ pos (10 ^ s))
-    up x y u e o = low_cross x u.num g.num (den u) (den g) (10 ^ s) (omega arith) e.lower o.at_most
+    up x y u e o = cross_trans_signed x u.num g.num (10 ^ s) (den u) (den g) (omega arith) e.lower o.at_most
 
     down : (x y : ℤ) (u : Fraction) → EnclosesSigned x y s u → AtMost g u → (g.num *ℤ pos (10 ^ s)) ≤ℤ (y *ℤ pos (den g))
-    down x y u e o = high_cross y u.num g.num (den u) (den g) (10 ^ s) (omega arith) e.upper o.at_most
+    down x y u e o = cross_trans_signed g.num u.num y (den g) (den u) (10 ^ s) (omega arith) o.at_most e.upper
 
     by_order : ((AtMost f g × AtMost g h) ⊎ (AtMost h g × AtMost g f)) → EnclosesSigned (int_min a c) (int_max b d) s g
     by_order (inl o) = record {

@@ -126,24 +126,18 @@ module _ (f : FlowModel) (s₁ s₂ s₃ : List Dec) (ps qs rs : List Period) (s
     extinction = rw (h.depth, h.ends) (between_image AtMost AtMost (λ r. plus r (negated (number x.depth))) (plus_keeps (negated (number x.depth))) (number x.surface) (number y.surface) (number z.surface) h.surface);
   }
 
-  link : (x : Face) → (exact_link M p n old x ≡ exact_link A p n old x) × (exact_link B p n old x ≡ exact_link A p n old x)
-  link x = (
-    (λ i. record { cell = length ((cells_are f s₁ s₂ s₃ ps qs rs periods p x.end).0 i); conductance = (conductance_is f s₂ qs x.axis x.first ∙ sym (conductance_is f s₁ ps x.axis x.first)) i }),
-    (λ i. record { cell = length ((cells_are f s₁ s₂ s₃ ps qs rs periods p x.end).1 i); conductance = (conductance_is f s₃ rs x.axis x.first ∙ sym (conductance_is f s₁ ps x.axis x.first)) i }),
-  )
+  link : (x : Face) → exact_link M p n old x ≡ exact_link A p n old x
+  link x = λ i. record { cell = length ((cells_are f s₁ s₂ s₃ ps qs rs periods p x.end).0 i); conductance = (conductance_is f s₂ qs x.axis x.first ∙ sym (conductance_is f s₁ ps x.axis x.first)) i }
 
-  links : (c : ℕ) → (map (exact_link M p n old) (variable_faces M p c) ≡ map (exact_link A p n old) (variable_faces A p c)) × (map (exact_link B p n old) (variable_faces B p c) ≡ map (exact_link A p n old) (variable_faces A p c))
-  links c = (
-    (λ i. map (λ x. (link x).0 i) ((faces_are f s₁ s₂ s₃ ps qs rs periods p c).0 i)),
-    (λ i. map (λ x. (link x).1 i) ((faces_are f s₁ s₂ s₃ ps qs rs periods p c).1 i)),
-  )
+  links : (c : ℕ) → map (exact_link M p n old) (variable_faces M p c) ≡ map (exact_link A p n old) (variable_faces A p c)
+  links c = λ i. map (λ x. link x i) ((faces_are f s₁ s₂ s₃ ps qs rs periods p c).0 i)
 
   cell : (c : ℕ) → AllThree IsEvapBetween (map (exact_evap A p n old c) (evap_sources A p c)) (map (exact_evap M p n old c) (evap_sources M p c)) (map (exact_evap B p n old c) (evap_sources B p c)) →
       IsCellBetween (exact_cell A p n old c) (exact_cell M p n old c) (exact_cell B p n old c)
   cell c evaps = record {
     id = refl;
     flows = three_map IsFlowSourceBetween IsFlowBetween _ _ _ (flow c) _ _ _ (three_flows f s₁ s₂ s₃ ps qs rs periods p c);
-    links = (links c).0;
+    links = links c;
     fixed = three_map IsFixedSourceBetween IsFixedBetween _ _ _ (fixed c) _ _ _ (three_fixed f s₁ s₂ s₃ ps qs rs periods p c);
     rivers = three_map IsRiverSourceBetween IsRiverBetween exact_river exact_river exact_river (λ x y z h. h) _ _ _ (three_rivers f s₁ s₂ s₃ ps qs rs periods p c);
     drains = three_map IsDrainSourceBetween IsDrainBetween exact_drain exact_drain exact_drain (λ x y z h. h) _ _ _ (three_drains f s₁ s₂ s₃ ps qs rs periods p c);

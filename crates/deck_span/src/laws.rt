@@ -1,15 +1,10 @@
 // Which models and exact steps lie between two others, and what the hull of two problems encloses.
 ghost use Rattle.deck_span.specs.{AlikeLieBetween, BetweenAreAlike, HullsEnclose, StepsLieBetween};
 
-/// Each of two models that are alike lies between the two.
+/// Each of two models that are alike lies between the two; and where some model lies between two, the two are alike.
 pub fn alike_lie_between()
-    ensures { AlikeLieBetween }
-{}
-
-/// Where some model lies between two models, the two are alike.
-#[tactic(auto, using(crate::proofs::SameFrames::between_alike))]
-pub fn between_are_alike()
-    ensures { BetweenAreAlike }
+    ensures lie { AlikeLieBetween }
+    ensures alike { BetweenAreAlike }
 {}
 
 /// The hull of two problems encloses each exact step between those that the problems enclose.

@@ -1,6 +1,6 @@
 -- Names that several proofs of this crate cite, of the crates below and of its own definitions, passed on from one place. Declares nothing.
 pub use Rattle.std.proofs.Common.{All, Contains, List, None, Some, [], ap, arith, get_or, inl, inr, length, map, max, min, refl, subst, suc, sym, take, zero, ℕ}
-pub use Rattle.std.proofs.Common.{ℤ, ◌++◌, ◌+◌, ◌<◌, ◌^◌, ◌↔◌, ◌∙◌, ◌∷◌, ◌≡◌, ◌≤ℤ◌, ◌≤◌}
+pub use Rattle.std.proofs.Common.{ℤ, ◌++◌, ◌+◌, ◌<◌, ◌^◌, ◌↔◌, ◌∙◌, ◌∷◌, ◌≡◌, ◌≤◌}
 pub use Rattle.std.proofs.lemmas.Bool.Decides.{nat_tests}
 pub use Rattle.std.proofs.lemmas.Int.{clamps, ints}
 pub use Rattle.std.proofs.lemmas.List.{get_or-map, get_or_default, take_more}

@@ -1,5 +1,5 @@
 -- The hull of two problems is a problem, if the sums of its cells fit.
-use Rattle.problem_hull.proofs.Common.{◌≡◌, ◌<◌, ◌≤◌, ◌^◌, ◌≤ℤ◌, ℕ, ℤ, arith, List, length, min, max, sym, subst, get_or, All, Contains, int_min, int_max, ints}
+use Rattle.problem_hull.proofs.Common.{◌≡◌, ◌<◌, ◌≤◌, ◌^◌, ℕ, ℤ, arith, List, length, min, max, sym, subst, get_or, All, Contains, int_min, int_max, ints}
 use Rattle.problem_hull.proofs.Common.{clamps, Link, Entries, entries_at, no_entries, link_at, IsHead, LinkFits, FixedFits, RiverFits, DrainFits, EvapFits}
 use Rattle.problem_hull.proofs.Common.{CellFits, LinksFit, IsProblem, conductance_of, flow_of, AllThree, IsHullPair, IsHullOf, fixed_shape, river_shape}
 use Rattle.problem_hull.proofs.Common.{drain_shape, evap_shape, fixed_hull, river_hull, drain_hull, evap_hull, IsCellHull, IsHull}
@@ -25,9 +25,6 @@ upper_head a b c d lo hi h f g = subst IsHead (sym h.high) (max_head b d f g)
 ordered : (a b c d : ℕ) → a ≤ b → min a c ≤ max b d
 ordered a b c d f = omega (arith, f)
 
-deep : (a c b d : ℤ) → a ≤ℤ b → int_min a c ≤ℤ int_max b d
-deep a c b d f = omega (arith, ints, clamps, f)
-
 fixed_fits : (a b : Fixed) → FixedFits a → FixedFits b → FixedFits (fixed_hull a b)
 fixed_fits a b f g = record { ordered = ordered _ _ _ _ f.ordered; head_lo = min_head _ _ f.head_lo g.head_lo; head_hi = max_head _ _ f.head_hi g.head_hi }
 
@@ -50,7 +47,7 @@ evap_fits a b f g = record {
   ext_hi = max_head _ _ f.ext_hi g.ext_hi;
   surf_lo = min_head _ _ f.surf_lo g.surf_lo;
   surf_hi = max_head _ _ f.surf_hi g.surf_hi;
-  deep = deep _ _ _ _ f.deep;
+  deep = omega (arith, ints, clamps, f.deep);
 }
 
 entries_fit : {X : Type 0} (shape : X → X) (hull : X → X → X) (P : X → Type 0) → ((a b : X) → P a → P b → P (hull a b)) →

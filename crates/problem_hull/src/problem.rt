@@ -71,16 +71,6 @@ fn cell_hull(alloc: Global, a: &Cell, b: &Cell) -> Result<Cell, HullFault>
     })
 }
 
-// The hull of the cells of one index.
-fn hull_at(alloc: Global, p: &Problem, q: &Problem, index: usize) -> Result<Cell, HullFault>
-    requires first { index < length p.now }
-    requires second { index < length q.now }
-    ensures hull { IfOk result (λ r. IsCellHull (entries_at p.now index) (entries_at q.now index) r) }
-    ensures fault { IfErr result (IsUnlike (cell_shape (entries_at q.now index) ≡ cell_shape (entries_at p.now index))) }
-{
-    cell_hull(alloc, p.cell(index), q.cell(index))
-}
-
 // The hulls of all cells.
 pub fn cell_hulls(alloc: Global, p: &Problem, q: &Problem) -> Result<Vec<Cell>, HullFault>
     ensures hulls { IfOk result (λ r. IsHull p.now q.now r.items) }
@@ -91,7 +81,7 @@ pub fn cell_hulls(alloc: Global, p: &Problem, q: &Problem) -> Result<Vec<Cell>, 
     }
     let mut cells = Vec::new(alloc);
     for i in 0..p.len() {
-        let cell = hull_at(alloc, p, q, i)?;
+        let cell = cell_hull(alloc, p.cell(i), q.cell(i))?;
         cells.push(cell)?;
     }
     Ok(cells)

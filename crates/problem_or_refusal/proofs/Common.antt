@@ -1,6 +1,6 @@
 -- Names that several proofs of this crate cite, of the crates below and of its own definitions, passed on from one place. Declares nothing.
 pub use Rattle.std.proofs.Common.{Bool, List, None, Option, Some, [], add-one, arith, cond, false, inl, inr, map, mul-pos, neg_ℤ, negsuc, pos, refl, subst, suc}
-pub use Rattle.std.proofs.Common.{sym, take, true, zero, ℕ, ℤ, ◌*ℤ◌, ◌*◌, ◌++◌, ◌+ℤ◌, ◌+◌, ◌-ℤ◌, ◌-◌, ◌/◌, ◌<ℤ◌, ◌<◌, ◌^◌, ◌∙◌, ◌∷◌, ◌≡◌, ◌≤ℤ◌, ◌≤◌, ◌⊎◌}
+pub use Rattle.std.proofs.Common.{sym, take, true, zero, ℕ, ℤ, ◌*◌, ◌++◌, ◌+ℤ◌, ◌+◌, ◌-ℤ◌, ◌-◌, ◌/◌, ◌<◌, ◌^◌, ◌∙◌, ◌∷◌, ◌≡◌, ◌≤◌, ◌⊎◌}
 pub use Rattle.std.proofs.Math.Nat.{div-mul-le_self, lt-mul-div-succ, mul-le-mul_right, pow-suc}
 pub use Rattle.std.proofs.lemmas.Bool.{cases_Bool, cases_lt, false≢true, true≢false}
 pub use Rattle.std.specs.List.{All, AllZip, range_with_len}
@@ -9,8 +9,8 @@ pub use Rattle.conductance_bounds.proofs.LayerBounds.{ceiling-passes}
 pub use Rattle.conductance_bounds.proofs.Manual.{positive_value, size_positive}
 pub use Rattle.conductance_bounds.specs.{Holds, IsBound, IsCapped, IsCappedFlow, IsCeilingOf, IsFloorOf, IsGivenPair, IsPair, IsPart, IsRounded, IsSpan, Lower}
 pub use Rattle.conductance_bounds.specs.{Number, Product, Quotient, Side, Sum, Term, Upper, Within, bed_term, blend, column_k_term, end, evap_term, face_term}
-pub use Rattle.conductance_bounds.specs.{half_term, high_end, is_whole, low_end, other, part_term, recharge_term, resistance_sum, row_term, storage_term}
-pub use Rattle.conductance_bounds.specs.{storativity_term, thick_term, vertical_half_term, vertical_k_at, vertical_k_term, vertical_term}
+pub use Rattle.conductance_bounds.specs.{half_term, high_end, is_whole, low_end, other, part_term, recharge_term, resistance_sum, storage_term}
+pub use Rattle.conductance_bounds.specs.{storativity_term, thick_term, vertical_half_term, vertical_k_term}
 unfoldable pub use Rattle.conductance_bounds.specs.{power_term, sum_term}
 pub use Rattle.decimal_input.proofs.Powers.{den_scaled, num_scaled, scaled_shift, ten_pos}
 pub use Rattle.decimal_input.proofs.SignedFloors.{a_ceiling, a_floor, number_units}

@@ -3,9 +3,9 @@ use Rattle.problem_or_refusal.proofs.Common.{◌≡◌, ℕ, zero, suc, ◌+◌,
 use Rattle.problem_or_refusal.proofs.Common.{cases_Bool, false≢true, Dec, IsDec, size, scaled, Ratio, FlowModel, Period, cell_count, layer_size, dec_at}
 use Rattle.problem_or_refusal.proofs.Common.{delr_at, delc_at, hk_at, hani_at, vka_at, vkcb_at, is_ratio, is_active, has_bed, top_at, bottom_at, bed_thickness}
 use Rattle.problem_or_refusal.proofs.Common.{IsPositive, multiplier, IsModel, IsTimed, number_one, Number, face_term, storage_term, recharge_term, evap_term}
-use Rattle.problem_or_refusal.proofs.Common.{thick_term, column_k_term, vertical_k_at, vertical_half_term, bed_term, part_term, Thicknesses, AreThicknesses}
-use Rattle.problem_or_refusal.proofs.Common.{HasPositiveBounds, IsBounded, Term, stride, sum_term, power_term, one, half_term, row_term, vertical_k_term}
-use Rattle.problem_or_refusal.proofs.Common.{vertical_term, resistance_sum, storativity_term, size_positive}
+use Rattle.problem_or_refusal.proofs.Common.{thick_term, column_k_term, vertical_half_term, bed_term, part_term, Thicknesses, AreThicknesses, HasPositiveBounds}
+use Rattle.problem_or_refusal.proofs.Common.{IsBounded, Term, Sum, Product, Quotient, stride, sum_term, power_term, one, half_term, vertical_k_term}
+use Rattle.problem_or_refusal.proofs.Common.{resistance_sum, storativity_term, size_positive}
 use Rattle.conductance_bounds.proofs.PartBounds.{unity_positive}
 use Rattle.model_types.specs.declared.face.Axis.{Axis}
 use Rattle.model_types.specs.declared.face.Axis.TheVariants.{Row, Column, Vertical}
@@ -26,34 +26,33 @@ one_factor : IsFactor (Number one)
 unfolding scaled
 one_factor = number_factor number_one unity_positive
 
--- a branch of two halves
-half_factor : (d w : Ratio) (k t : Term) → IsFactor (Number d) → IsFactor (Number w) → IsFactor k → IsFactor t → IsFactor (half_term d w k t)
-half_factor d w k t a b x y = record { bounded = (a.bounded, ((b.bounded, b.bounded), (x.bounded, y.bounded)), (inl b.positive, (x.positive, y.positive))); positive = a.positive }
+sum : {t u : Term} → IsFactor t → IsFactor u → IsFactor (Sum t u)
+sum a b = record { bounded = (a.bounded, b.bounded); positive = inl a.positive }
 
-row_bounded : (w d₁ : Ratio) (k₁ t₁ : Term) (d₂ : Ratio) (k₂ t₂ : Term) → IsFactor (half_term d₁ w k₁ t₁) → IsFactor (half_term d₂ w k₂ t₂) → IsBounded (row_term w d₁ k₁ t₁ d₂ k₂ t₂)
-row_bounded w d₁ k₁ t₁ d₂ k₂ t₂ a b = (one_factor.bounded, (a.bounded, b.bounded), inl a.positive)
+product : {t u : Term} → IsFactor t → IsFactor u → IsFactor (Product t u)
+product a b = record { bounded = (a.bounded, b.bounded); positive = (a.positive, b.positive) }
+
+quotient : {t u : Term} → IsFactor t → IsFactor u → IsFactor (Quotient t u)
+quotient a b = record { bounded = (a.bounded, b.bounded, b.positive); positive = a.positive }
 
 vertical_k_factor : (b : Bool) (h v : Dec) → IsPositive h → IsPositive v → IsFactor (vertical_k_term b (size h) (size v))
-vertical_k_factor true h v p q = let a = number_factor h p in let b = number_factor v q in record { bounded = (a.bounded, b.bounded, b.positive); positive = a.positive }
+vertical_k_factor true h v p q = quotient (number_factor h p) (number_factor v q)
 vertical_k_factor false h v p q = number_factor v q
 
-vertical_factor : (t k : Term) → IsFactor t → IsFactor k → IsFactor (vertical_term t k)
-vertical_factor t k a b = record { bounded = (a.bounded, (b.bounded, b.bounded), inl b.positive); positive = a.positive }
-
 resistance_factor : (bare : Bool) (h bed k : Term) → IsFactor h → IsFactor k → (bare ≡ false → IsBounded bed) → IsFactor (resistance_sum bare h bed k)
-resistance_factor true h bed k a b is = record { bounded = (a.bounded, b.bounded); positive = inl a.positive }
+resistance_factor true h bed k a b is = sum a b
 resistance_factor false h bed k a b is = record { bounded = ((a.bounded, is refl), b.bounded); positive = inl (inl a.positive) }
 
 -- the sum of growing steps, and the length of one
 sum_factor : (t : Ratio) → IsFactor (Number t) → (n : ℕ) → IsFactor (sum_term t n)
 unfolding sum_term
 sum_factor t is zero = one_factor
-sum_factor t is (suc n) = let s = sum_factor t is n in record { bounded = ((s.bounded, is.bounded), one_factor.bounded); positive = inr one_factor.positive }
+sum_factor t is (suc n) = sum (product (sum_factor t is n) is) one_factor
 
 power_factor : (t : Ratio) → IsFactor (Number t) → (n : ℕ) → IsFactor (power_term t n)
 unfolding power_term
 power_factor t is zero = one_factor
-power_factor t is (suc n) = let s = power_factor t is n in record { bounded = (s.bounded, is.bounded); positive = (s.positive, is.positive) }
+power_factor t is (suc n) = product (power_factor t is n) is
 
 multiplier_factor : (p : Period) → IsTimed p → IsFactor (Number (multiplier p))
 multiplier_factor p timed = by_steady p.steady
@@ -63,10 +62,7 @@ multiplier_factor p timed = by_steady p.steady
     by_steady false = number_factor p.tsmult timed.tsmult
 
 pub part_bounded : (p : Period) (n : ℕ) → IsTimed p → IsBounded (part_term p n)
-part_bounded p n timed =
-    let a = sum_factor (multiplier p) (multiplier_factor p timed) (n - 1) in
-    let b = sum_factor (multiplier p) (multiplier_factor p timed) (p.nstp - 1) in
-    (a.bounded, b.bounded, b.positive)
+part_bounded p n timed = (quotient (sum_factor (multiplier p) (multiplier_factor p timed) (n - 1)) (sum_factor (multiplier p) (multiplier_factor p timed) (p.nstp - 1))).bounded
 
 module _ (m : FlowModel) (valid : IsModel m) where
   delr_factor : (c : ℕ) → IsFactor (Number (size (delr_at m c)))
@@ -88,17 +84,17 @@ module _ (m : FlowModel) (valid : IsModel m) where
     hk_factor : (c : ℕ) → c < cell_count m.grid → is_active m c ≡ true → IsFactor (Number (size (hk_at m c)))
     hk_factor c lt active = number_factor (hk_at m c) (valid.cells c lt active).hk
 
+    -- half of a branch along a row, and along a column
     row_half : (c : ℕ) (w' : Ratio) → IsFactor (Number w') → c < cell_count m.grid → is_active m c ≡ true → IsFactor (half_term (size (delr_at m c)) w' (Number (size (hk_at m c))) (thick_term m w.thick c))
-    row_half c w' wide lt active = half_factor (size (delr_at m c)) w' (Number (size (hk_at m c))) (thick_term m w.thick c) (delr_factor c) wide (hk_factor c lt active) (thick_factor c lt active)
-
-    column_factor : (c : ℕ) → c < cell_count m.grid → is_active m c ≡ true → IsFactor (column_k_term m c)
-    column_factor c lt active = let a = hk_factor c lt active in let b = number_factor (hani_at m c) (valid.cells c lt active).hani in record { bounded = (a.bounded, b.bounded); positive = (a.positive, b.positive) }
+    row_half c w' wide lt active = quotient (delr_factor c) (product (sum wide wide) (product (hk_factor c lt active) (thick_factor c lt active)))
 
     column_half : (c : ℕ) (w' : Ratio) → IsFactor (Number w') → c < cell_count m.grid → is_active m c ≡ true → IsFactor (half_term (size (delc_at m c)) w' (column_k_term m c) (thick_term m w.thick c))
-    column_half c w' wide lt active = half_factor (size (delc_at m c)) w' (column_k_term m c) (thick_term m w.thick c) (delc_factor c) wide (column_factor c lt active) (thick_factor c lt active)
+    column_half c w' wide lt active = quotient (delc_factor c) (product (sum wide wide) (product (product (hk_factor c lt active) (number_factor (hani_at m c) (valid.cells c lt active).hani)) (thick_factor c lt active)))
 
     vertical_half : (c : ℕ) → c < cell_count m.grid → is_active m c ≡ true → 1 < m.grid.layers → IsFactor (vertical_half_term m w.thick c)
-    vertical_half c lt active several = vertical_factor (thick_term m w.thick c) (vertical_k_at m c) (thick_factor c lt active) (vertical_k_factor (is_ratio m c) (hk_at m c) (vka_at m c) (valid.cells c lt active).hk ((valid.cells c lt active).vka several))
+    vertical_half c lt active several =
+        let k = vertical_k_factor (is_ratio m c) (hk_at m c) (vka_at m c) (valid.cells c lt active).hk ((valid.cells c lt active).vka several) in
+        quotient (thick_factor c lt active) (sum k k)
 
     bed_bounded : (a : ℕ) → a + layer_size m.grid < cell_count m.grid → is_active m a ≡ true → is_active m (a + layer_size m.grid) ≡ true → ((bed_thickness m a).num == 0) ≡ false → IsBounded (bed_term m w.thick w.bed a)
     bed_bounded a lt x y some =
@@ -115,8 +111,8 @@ module _ (m : FlowModel) (valid : IsModel m) where
         zero_test (suc n) e h = omega (arith, e)
 
     pub face_bounded : (axis : Axis) (a : ℕ) → a + stride m.grid axis < cell_count m.grid → is_active m a ≡ true → is_active m (a + stride m.grid axis) ≡ true → IsBounded (face_term m w.thick w.bed axis a)
-    face_bounded Row a lt x y = row_bounded _ _ _ _ _ _ _ (row_half a (size (delc_at m a)) (delc_factor a) (omega (arith, lt)) x) (row_half (a + 1) (size (delc_at m a)) (delc_factor a) lt y)
-    face_bounded Column a lt x y = row_bounded _ _ _ _ _ _ _ (column_half a (size (delr_at m a)) (delr_factor a) (omega (arith, lt)) x) (column_half (a + m.grid.cols) (size (delr_at m a)) (delr_factor a) lt y)
+    face_bounded Row a lt x y = (quotient one_factor (sum (row_half a (size (delc_at m a)) (delc_factor a) (omega (arith, lt)) x) (row_half (a + 1) (size (delc_at m a)) (delc_factor a) lt y))).bounded
+    face_bounded Column a lt x y = (quotient one_factor (sum (column_half a (size (delr_at m a)) (delr_factor a) (omega (arith, lt)) x) (column_half (a + m.grid.cols) (size (delr_at m a)) (delr_factor a) lt y))).bounded
     face_bounded Vertical a lt x y =
         let r = resistance_factor ((bed_thickness m a).num == 0) (vertical_half_term m w.thick a) (bed_term m w.thick w.bed a) (vertical_half_term m w.thick (a + layer_size m.grid))
         (vertical_half a (omega (arith, lt)) x (layered m.grid.layers (layer_size m.grid) a lt)) (vertical_half (a + layer_size m.grid) lt y (layered m.grid.layers (layer_size m.grid) a lt)) (bed_bounded a lt x y) in

@@ -3,7 +3,8 @@ use Rattle.problem_or_refusal.proofs.Common.{◌≡◌, ℕ, zero, suc, ◌+◌,
 use Rattle.problem_or_refusal.proofs.Common.{◌-ℤ◌, ◌*ℤ◌, ◌≤ℤ◌, ◌<ℤ◌, cases_lt, Dec, IsDec, size, number, scaled, IsSignedFloor, IsSignedCeiling, up, Same}
 use Rattle.problem_or_refusal.proofs.Common.{scaled_shift, num_scaled, ten_pos, IsFloorOf, IsCeilingOf, Number, Lower, Upper, IsSpan, IsBounded, pow-suc}
 use Rattle.problem_or_refusal.proofs.Common.{lt-mul-div-succ, div-mul-le_self, nothing_same, IsHeadPair, Thicknesses, AreThicknesses, number_units, with_sign}
-use Rattle.problem_or_refusal.proofs.Common.{true, false, unsigned_abs, FlowModel, top_at, bottom_at, lowest, IsThick}
+use Rattle.problem_or_refusal.proofs.Common.{true, false, unsigned_abs, FlowModel, top_at, bottom_at, lowest, IsThick, cases_Bool, a_floor, a_ceiling}
+use Rattle.problem_or_refusal.proofs.Common.{floor_of_floor, floor_of_ceiling, ceiling_of_ceiling, ceiling_of_floor, mul-pos}
 use Rattle.std.proofs.lemmas.Int.{ints}
 use Rattle.conductance_bounds.specs.declared.span.Span.{Span}
 use Rattle.conductance_bounds.proofs.ThickBounds.{edges_room}
@@ -28,13 +29,7 @@ floor_over (pos n) = (pos (n / 10 ^ 18), record { at_most = omega (arith, ints, 
 floor_over (negsuc n) = (negsuc (n / 10 ^ 18), record { at_most = omega (arith, ints, lt-mul-div-succ n {b = 10 ^ 18} (omega arith)); next = omega (arith, ints, div-mul-le_self n (10 ^ 18)) })
 
 pub ceiling_over : (x : ℤ) → (z : ℤ) × IsCeilingOf x z
-ceiling_over x = let (z, is) = floor_over (neg_ℤ x) in (neg_ℤ z, record { at_least = turned x z is.at_most; next = turned_next x z is.next })
-  where
-    turned : (x z : ℤ) → (z *ℤ pos (10 ^ 18)) ≤ℤ neg_ℤ x → x ≤ℤ (neg_ℤ z *ℤ pos (10 ^ 18))
-    turned x z h = omega (arith, ints, h)
-
-    turned_next : (x z : ℤ) → neg_ℤ x <ℤ ((z +ℤ pos 1) *ℤ pos (10 ^ 18)) → ((neg_ℤ z +ℤ neg_ℤ (pos 1)) *ℤ pos (10 ^ 18)) <ℤ x
-    turned_next x z h = omega (arith, ints, h)
+ceiling_over x = let (z, is) = floor_over (neg_ℤ x) in (neg_ℤ z, record { at_least = omega (arith, ints, is.at_most); next = omega (arith, ints, is.next) })
 
 -- a number with at most 18 digits has just 18, with zeros behind
 padded : (n : ℕ) → n < 10 ^ 18 → (k : ℕ) → 10 ^ 17 ≤ n * 10 ^ k → (j : ℕ) × (10 ^ 17 ≤ n * 10 ^ j) × (n * 10 ^ j < 10 ^ 18)
@@ -81,10 +76,7 @@ span_positive top bottom t is thick =
     )
   where
     units : (n : ℕ) → 0 < n → 0 < (scaled n (neg_ℤ (pos 18))).num
-    units n h = rw (num_scaled n (neg_ℤ (pos 18))) (positive_product n (10 ^ up (neg_ℤ (pos 18))) h (ten_pos (up (neg_ℤ (pos 18)))))
-      where
-        positive_product : (a b : ℕ) → 0 < a → 0 < b → 0 < a * b
-        positive_product a b h k = grind arith
+    units n h = rw (num_scaled n (neg_ℤ (pos 18))) (mul-pos h (ten_pos (up (neg_ℤ (pos 18)))))
 
 pub widths : FlowModel → Thicknesses
 widths m = record { thick = λ c. (span_of (top_at m c) (bottom_at m c)).0; bed = λ a. (span_of (bottom_at m a) (lowest m a)).0 }

@@ -1,6 +1,6 @@
 -- Names that several proofs of this crate cite, of the crates below and of its own definitions, passed on from one place. Declares nothing.
-pub use Rattle.std.proofs.Common.{Bool, Err, List, None, Ok, Option, Result, Some, [], ap, arith, false, inl, inr, length, map, neg_ℤ, pos, refl, subst, sym}
-pub use Rattle.std.proofs.Common.{true, ℕ, ℤ, ◌+◌, ◌-ℤ◌, ◌<ℤ◌, ◌<◌, ◌∙◌, ◌∷◌, ◌≡◌, ◌≤ℤ◌, ◌≤◌, ◌⊎◌}
+pub use Rattle.std.proofs.Common.{Bool, Err, List, Ok, Option, Result, [], ap, arith, false, inl, inr, length, map, neg_ℤ, pos, refl, subst, sym, true, ℕ, ℤ}
+pub use Rattle.std.proofs.Common.{◌+◌, ◌-ℤ◌, ◌<ℤ◌, ◌<◌, ◌∙◌, ◌∷◌, ◌≡◌, ◌≤ℤ◌, ◌≤◌, ◌⊎◌}
 pub use Rattle.std.proofs.lemmas.Bool.{cases_Bool, cases_lt, false≢true}
 pub use Rattle.std.proofs.lemmas.Int.{by_lt_z, ints}
 pub use Rattle.std.proofs.lemmas.List.FromFn.{get_or-map-range_with_len, length-map-range_with_len}
