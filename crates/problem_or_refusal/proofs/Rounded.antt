@@ -1,10 +1,9 @@
 -- Numbers of the input have whole bounds, and are decimals of 18 digits.
 use Rattle.problem_or_refusal.proofs.Common.{◌≡◌, ℕ, zero, suc, ◌+◌, ◌-◌, ◌*◌, ◌/◌, ◌≤◌, ◌<◌, ◌^◌, inl, inr, refl, subst, arith, ℤ, pos, negsuc, neg_ℤ, ◌+ℤ◌}
-use Rattle.problem_or_refusal.proofs.Common.{◌-ℤ◌, ◌*ℤ◌, ◌≤ℤ◌, ◌<ℤ◌, cases_lt, Dec, IsDec, size, number, scaled, IsSignedFloor, IsSignedCeiling, up, Same}
-use Rattle.problem_or_refusal.proofs.Common.{scaled_shift, num_scaled, ten_pos, IsFloorOf, IsCeilingOf, Number, Lower, Upper, IsSpan, IsBounded, pow-suc}
-use Rattle.problem_or_refusal.proofs.Common.{lt-mul-div-succ, div-mul-le_self, nothing_same, IsHeadPair, Thicknesses, AreThicknesses, number_units, with_sign}
-use Rattle.problem_or_refusal.proofs.Common.{true, false, unsigned_abs, FlowModel, top_at, bottom_at, lowest, IsThick, cases_Bool, a_floor, a_ceiling}
-use Rattle.problem_or_refusal.proofs.Common.{floor_of_floor, floor_of_ceiling, ceiling_of_ceiling, ceiling_of_floor, mul-pos}
+use Rattle.problem_or_refusal.proofs.Common.{◌-ℤ◌, cases_lt, Dec, IsDec, size, number, scaled, IsSignedFloor, IsSignedCeiling, up, Same, scaled_shift}
+use Rattle.problem_or_refusal.proofs.Common.{num_scaled, ten_pos, IsFloorOf, IsCeilingOf, Number, Lower, Upper, IsSpan, IsBounded, pow-suc, lt-mul-div-succ}
+use Rattle.problem_or_refusal.proofs.Common.{div-mul-le_self, nothing_same, IsHeadPair, Thicknesses, AreThicknesses, number_units, with_sign, true, false}
+use Rattle.problem_or_refusal.proofs.Common.{unsigned_abs, FlowModel, top_at, bottom_at, lowest, IsThick, mul-pos}
 use Rattle.std.proofs.lemmas.Int.{ints}
 use Rattle.conductance_bounds.specs.declared.span.Span.{Span}
 use Rattle.conductance_bounds.proofs.ThickBounds.{edges_room}
