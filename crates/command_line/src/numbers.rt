@@ -61,9 +61,6 @@ pub(crate) fn turns_or_none(text: Option<&str>) -> Option<Option<u32>>
 {
     match text {
         None => Some(None),
-        Some(text) => match read_number(text, 1, 1000) {
-            Some(turns) => Some(Some(turns)),
-            None => None,
-        },
+        Some(text) => Some(Some(read_number(text, 1, 1000)?)),
     }
 }

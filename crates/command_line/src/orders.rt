@@ -96,24 +96,12 @@ fn run_order<'a>(found: &ArgMatches<'a>) -> Option<Order<'a>>
     ensures is { option_map wanted result ≡ run_in (rows_of (found_of found.now)) }
     ensures in_range { IfSome result (λ o. IsInRange (wanted o)) }
 {
-    let Some(name) = text_of(found, "name") else {
-        return None;
-    };
-    let Some(digits) = digits_or_given(text_of(found, "digits")) else {
-        return None;
-    };
-    let Some(workers) = workers_or_given(text_of(found, "workers")) else {
-        return None;
-    };
-    let Some(rounds) = rounds_or_given(text_of(found, "rounds")) else {
-        return None;
-    };
-    let Some(watch) = turns_or_none(text_of(found, "watch")) else {
-        return None;
-    };
-    let Some(quick) = quick_unless_watched(watch, has_flag(found, "quick")) else {
-        return None;
-    };
+    let name = text_of(found, "name")?;
+    let digits = digits_or_given(text_of(found, "digits"))?;
+    let workers = workers_or_given(text_of(found, "workers"))?;
+    let rounds = rounds_or_given(text_of(found, "rounds"))?;
+    let watch = turns_or_none(text_of(found, "watch"))?;
+    let quick = quick_unless_watched(watch, has_flag(found, "quick"))?;
     Some(Order::Run {
         name,
         to: text_of(found, "to"),
@@ -131,15 +119,9 @@ fn check_order<'a>(found: &ArgMatches<'a>) -> Option<Order<'a>>
     ensures is { option_map wanted result ≡ check_in (rows_of (found_of found.now)) }
     ensures in_range { IfSome result (λ o. IsInRange (wanted o)) }
 {
-    let Some(name) = text_of(found, "name") else {
-        return None;
-    };
-    let Some(listing) = text_of(found, "listing") else {
-        return None;
-    };
-    let Some(digits) = digits_or_given(text_of(found, "digits")) else {
-        return None;
-    };
+    let name = text_of(found, "name")?;
+    let listing = text_of(found, "listing")?;
+    let digits = digits_or_given(text_of(found, "digits"))?;
     Some(Order::Check {
         name,
         to: text_of(found, "to"),
@@ -154,18 +136,10 @@ fn make_order<'a>(found: &ArgMatches<'a>) -> Option<Order<'a>>
     ensures is { option_map wanted result ≡ make_in (rows_of (found_of found.now)) }
     ensures in_range { IfSome result (λ o. IsInRange (wanted o)) }
 {
-    let Some(seed) = text_of(found, "seed") else {
-        return None;
-    };
-    let Some(size) = text_of(found, "size") else {
-        return None;
-    };
-    let Some(seed) = read_number(seed, 0, 2_147_483_647) else {
-        return None;
-    };
-    let Some(size) = read_number(size, 1, 64) else {
-        return None;
-    };
+    let seed = text_of(found, "seed")?;
+    let size = text_of(found, "size")?;
+    let seed = read_number(seed, 0, 2_147_483_647)?;
+    let size = read_number(size, 1, 64)?;
     Some(Order::Make { seed, size })
 }
 
@@ -173,18 +147,10 @@ fn batch_order<'a>(found: &ArgMatches<'a>) -> Option<Order<'a>>
     ensures is { option_map wanted result ≡ batch_in (rows_of (found_of found.now)) }
     ensures in_range { IfSome result (λ o. IsInRange (wanted o)) }
 {
-    let Some(list) = text_of(found, "list") else {
-        return None;
-    };
-    let Some(digits) = digits_or_given(text_of(found, "digits")) else {
-        return None;
-    };
-    let Some(workers) = workers_or_given(text_of(found, "workers")) else {
-        return None;
-    };
-    let Some(rounds) = rounds_or_given(text_of(found, "rounds")) else {
-        return None;
-    };
+    let list = text_of(found, "list")?;
+    let digits = digits_or_given(text_of(found, "digits"))?;
+    let workers = workers_or_given(text_of(found, "workers"))?;
+    let rounds = rounds_or_given(text_of(found, "rounds"))?;
     Some(Order::Batch {
         list,
         digits,
@@ -199,9 +165,7 @@ fn write_order<'a>(found: &ArgMatches<'a>) -> Option<Order<'a>>
     ensures is { option_map wanted result ≡ write_in (rows_of (found_of found.now)) }
     ensures in_range { IfSome result (λ o. IsInRange (wanted o)) }
 {
-    let Some(name) = text_of(found, "name") else {
-        return None;
-    };
+    let name = text_of(found, "name")?;
     Some(Order::Write {
         name,
         wide: has_flag(found, "wide"),
@@ -231,10 +195,8 @@ fn order_from<'a>(matches: &ArgMatches<'a>) -> Option<Order<'a>>
     ensures is { option_map wanted result ≡ option_and_then (λ p. command_in p.0 p.1) (subcommand_rows_of matches.now) }
     ensures in_range { IfSome result (λ o. IsInRange (wanted o)) }
 {
-    match matches.subcommand() {
-        Some((name, found)) => command_order(name, found),
-        None => None,
-    }
+    let (name, found) = matches.subcommand()?;
+    command_order(name, found)
 }
 
 /// What the words ask for; the first of them is the program's name. A call for help asks for nothing.
