@@ -12,6 +12,13 @@ use Rattle.barrier_vector.specs.declared.BarrierFault.TheVariants.{NoBound as AF
 use Rattle.barrier_vector.proofs.Sides.{stored_fault, stored_refusal, unbounded_refuses}
 use Rattle.budget_bounds.specs.{◌>>=◌, all_terms, budget_of, is_small, term_of, term_pair, terms_of, too_large}
 use Rattle.problem_builder.specs.{fault_of}
+use Rattle.listing_run.specs.{faces_of}
+use Rattle.std.proofs.Common.{refl}
+use Rattle.std.specs.List.{filter}
+use Rattle.zone_flows.specs.{each_or_first, flow_or_large, is_small as are_small, pair_flow, share, zone_flows}
+use Rattle.zone_flows.specs.Faces.{Face}
+use Rattle.zone_pairs.specs.{pairs_below}
+use Rattle.zone_pairs.specs.declared.pair.ZonePair.{ZonePair}
 
 -- what a refusal is not
 abbrev IsOther : ℕ → Type 0
@@ -86,9 +93,22 @@ module _ (p : List Entries) (l u : ℕ → ℤ) where
   budget_code n e = bind_code (terms_of p l u In all_terms) _ (terms_code In all_terms) (λ into. bind_code (terms_of p l u Out all_terms) _ (terms_code Out all_terms) (λ out m h. cc)) n e
 
 -- flows between zones that are too large have that number too
+each_code : {X B : Type 0} (f : X → Result B NoBound) → ((x : X) (n : NoBound) → f x ≡ Err n → TooLarge n) → (xs : List X) (n : NoBound) → each_or_first f xs ≡ Err n → TooLarge n
+unfolding each_or_first
+each_code f h [] n e = cc
+each_code f h (x ∷ xs) n e = bind_code (f x) _ (h x) (λ y. bind_code (each_or_first f xs) _ (each_code f h xs) (λ ys m k. cc)) n e
+
+flow_code : (fs : List Face) (z : ZonePair) (n : NoBound) → flow_or_large fs z ≡ Err n → TooLarge n
+flow_code fs z n e = by_size _ (are_small fs z) e refl
+  where
+    by_size : (r : NoBound) (b : Bool) → (if b then Ok (pair_flow fs z) else Err r) ≡ Err n → TooLarge r → TooLarge n
+    by_size r true h code = cc
+    by_size r false h code = subst TooLarge (one_err r n h) code
+
 large_code : (zones : Option (List ℕ)) (x : Solved) (n : NoBound) → HasLargeFlow zones x n → TooLarge n
-large_code None x n h = absurd h
-large_code (Some zones) x n h = ap (λ (m : NoBound). m.code) h.is
+unfolding zone_flows
+large_code None x n h = cc
+large_code (Some zones) x n h = let fs = faces_of x.problem x.heads zones in each_code (flow_or_large fs) (flow_code fs) (filter (share fs) (pairs_below 1000)) n h
 
 -- a refusal for the range of heads
 range_code : (limits : Limits) (d : Decks) (s : ℕ) (at : TimeStep) (old : List Bound) (n : NoBound) → LeavesRange limits d s at old n → IsOther n.code
