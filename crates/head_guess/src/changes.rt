@@ -11,6 +11,9 @@ pub struct Changes {
     longest: i64,
 }
 
+// The longest step of all.
+const LONGEST: i64 = 1 << 26;
+
 // The shortest step beside the longest, and the shortest of all in which shares only fall.
 const BITS_OF_STEPS: u32 = 8;
 
@@ -33,15 +36,12 @@ fn longer_step(step: i64, percent: i64) -> i64 {
 impl Changes {
     pub const PLACES: i64 = 30;
 
-    /// The longest step of all.
-    pub const LONGEST: i64 = 1 << 26;
-
-    /// Each share becomes this one, in units of 2^-20.
+    /// Each share becomes this one, in units of 2^-20, and all steps are the longest.
     pub fn new(alloc: Global, cells: usize, share: i64) -> Result<Changes, AllocError> {
         Ok(Changes {
-            steps: vec![in alloc; 0; cells]?,
+            steps: vec![in alloc; LONGEST; cells]?,
             changes: vec![in alloc; share.saturating_mul(1 << 10); cells]?,
-            longest: 0,
+            longest: LONGEST,
         })
     }
 
@@ -53,10 +53,8 @@ impl Changes {
             .collect(alloc)
     }
 
-    /// All steps are as long.
-    pub fn begin(&mut self, longest: i64) {
-        self.longest = longest;
-        self.steps.as_mut_slice().fill(longest);
+    /// All shares stay.
+    pub fn begin(&mut self) {
         self.changes.as_mut_slice().fill(0);
     }
 
@@ -87,19 +85,16 @@ impl Changes {
         self.steps.as_mut_slice().fill(step);
     }
 
-    /// Takes the shares down where cells are too low, each time further. Returns whether there are any.
-    pub fn fall(&mut self, are_low: &[bool]) -> bool {
-        let mut falls = false;
+    /// Takes the shares down where cells are too low, each time further.
+    pub fn fall(&mut self, are_low: &[bool]) {
         let cells = self.changes.iter_mut().zip(self.steps.iter_mut());
         for ((change, step), is_low) in cells.zip(are_low) {
             *change = 0;
             if *is_low {
-                falls = true;
                 *change = 0_i64.saturating_sub(*step);
                 let next = longer_step(*step, GROWTH_OF_FALLS).saturating_add(1);
-                *step = next.min(Changes::LONGEST);
+                *step = next.min(LONGEST);
             }
         }
-        falls
     }
 }

@@ -17,20 +17,11 @@ pub enum Eliminable {
 }
 
 impl Eliminable {
-    /// Whether it may be that of these links. Another number of cells has another pattern.
-    pub fn may_be_of(&self, links: &Links) -> bool {
-        match self {
-            Eliminable::Unknown => false,
-            Eliminable::No => true,
-            Eliminable::Yes(pattern) => pattern.len() == links.len(),
-        }
-    }
-
-    /// That of these links.
-    pub fn of(alloc: Global, links: &Links) -> Result<Eliminable, AllocError> {
+    // That of these links.
+    fn of(alloc: Global, links: &Links) -> Result<Eliminable, AllocError> {
         let mut matrix = Matrix::new(alloc);
         for cell in 0..links.len() {
-            for edge in links.edges(&links.row(cell)) {
+            for edge in links.edges_at(cell) {
                 matrix.couple(edge.other, 1)?;
             }
             matrix.close_row(1)?;
@@ -42,11 +33,23 @@ impl Eliminable {
         })
     }
 
-    /// The pattern, if elimination pays.
-    pub fn pattern(&self) -> Option<&Pattern> {
-        match self {
+    /// The pattern of these links, if elimination pays. It is found once: another number of cells has another pattern.
+    pub fn pattern(
+        &mut self,
+        alloc: Global,
+        links: &Links,
+    ) -> Result<Option<&Pattern>, AllocError> {
+        let is_known = match self {
+            Eliminable::Unknown => false,
+            Eliminable::No => true,
+            Eliminable::Yes(pattern) => pattern.len() == links.len(),
+        };
+        if !is_known {
+            *self = Eliminable::of(alloc, links)?;
+        }
+        Ok(match self {
             Eliminable::Yes(pattern) => Some(pattern),
             _ => None,
-        }
+        })
     }
 }

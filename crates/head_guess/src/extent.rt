@@ -38,15 +38,7 @@ const WIDE: i128 = 500_000;
 
 const WIDEST: i128 = 16_000_000;
 
-/// How wide a room is: the wider, the further apart the parts of a problem settle by one share for all.
-#[derive(Clone, Copy)]
-pub enum Width {
-    Narrow,
-    Wide,
-    Widest,
-}
-
-/// The greatest room, in units, and the number of cells.
+/// The greatest room, in units, and the number of cells. The wider the room, the further apart the parts of a problem settle by one share for all.
 #[derive(Clone, Copy)]
 pub struct Extent {
     room: i128,
@@ -75,14 +67,20 @@ impl Extent {
         self.is_plain && self.room <= self.cells as i128
     }
 
-    /// How wide the room is.
-    pub fn width(&self) -> Width {
+    /// Whether the room is one of the widest.
+    pub fn is_widest(&self) -> bool {
+        self.room >= WIDEST
+    }
+
+    /// A descent is long if it takes more visits than this number of quarters of a cycle of shares: fewer the wider the room is. Most of those
+    /// that take fewer end soon.
+    pub fn most_quarters(&self) -> u64 {
         if self.room >= WIDEST {
-            Width::Widest
+            1
         } else if self.room >= WIDE {
-            Width::Wide
+            3
         } else {
-            Width::Narrow
+            8
         }
     }
 
@@ -114,30 +112,28 @@ impl Extent {
     /// Whether heads whose shares differ by this step are near each other.
     pub fn are_near(&self, step: i64) -> bool {
         let units = (step as i128).wrapping_mul(self.room).wrapping_shr(20);
-        match self.width() {
-            Width::Wide => units <= (self.room >> NEAR_BITS).max(NEAR),
-            _ => units <= NEAR,
-        }
-    }
-
-    // How far up a share of an even problem can go that settled in these turns.
-    fn even_step(&self, turns: u64) -> i64 {
-        let parts = (turns as i128).saturating_mul(self.parts);
-        let step = (WHOLE as i128).wrapping_mul(self.cells as i128);
-        clamp_long(step.checked_div(parts).unwrap_or(WHOLE as i128))
+        let near = if self.room >= WIDE && !self.is_widest() {
+            self.room >> NEAR_BITS
+        } else {
+            NEAR
+        };
+        units <= near
     }
 
     /// How far up a share can go that settled in these turns, a little less than these promise. Where the room is wide they promise too little:
     /// if it is not to be sure, four times as far.
     pub fn promised_step(&self, turns: u64, is_sure: bool) -> i64 {
+        let (turns, cells) = (turns as i128, self.cells as i128);
+        let whole = (WHOLE as i128).wrapping_mul(cells);
         if self.is_even() {
-            return self.even_step(turns);
+            let parts = turns.saturating_mul(self.parts);
+            return clamp_long(whole.checked_div(parts).unwrap_or(WHOLE as i128));
         }
-        let more = (turns as i128).saturating_sub(self.cells as i128);
+        let more = turns.saturating_sub(cells);
         if more <= 0 || !self.is_low(self.most_turns(true)) {
             return STEP;
         }
-        let step = (WHOLE as i128 * 3 / 4).wrapping_mul(self.cells as i128);
+        let step = whole / 4 * 3;
         let sure = clamp_long(step.checked_div(more.saturating_mul(PARTS)).unwrap_or(0));
         if is_sure {
             sure

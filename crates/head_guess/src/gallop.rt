@@ -1,13 +1,12 @@
 // Lowering settled heads along a way, in steps that grow.
 use crate::one_side::OneSide;
 use crate::raise::raise_within;
-use crate::state::State;
 use crate::work::Work;
 use multigrid::numbers::at;
 use std::alloc::AllocError;
 
 /// By how much heads fell: in all, at most, and in how many cells.
-#[derive(Clone, Copy)]
+#[derive(Clone, Copy, Default)]
 struct Fall {
     sum: i128,
     most: i64,
@@ -15,11 +14,7 @@ struct Fall {
 }
 
 fn fall_between(from: &[i64], to: &[i64]) -> Fall {
-    let mut fall = Fall {
-        sum: 0,
-        most: 0,
-        cells: 0,
-    };
+    let mut fall = Fall::default();
     for (from, to) in from.iter().zip(to) {
         let units = from.saturating_sub(*to);
         fall.sum = fall.sum.saturating_add(units as i128);
@@ -36,12 +31,9 @@ pub fn way_between(
     to: &[i64],
     factor: i64,
 ) -> Result<Vec<i64>, AllocError> {
-    let falls = from
-        .iter()
+    from.iter()
         .zip(to)
-        .map(|(from, to)| from.saturating_sub(*to));
-    falls
-        .map(|units| units.saturating_mul(factor))
+        .map(|(from, to)| from.saturating_sub(*to).saturating_mul(factor))
         .collect(side.alloc)
 }
 
@@ -54,29 +46,26 @@ const TURNS: u64 = 8;
 /// Lowers settled heads along a way, and then by twice what was kept of the last step, as long as they settle
 /// within a few turns at each cell that moves, and keep half. Where they do not settle, half the step is the last one. They stay settled.
 /// Returns the longest fall.
-pub fn gallop(work: &mut Work, state: &mut State, way: Vec<i64>) -> Result<i64, AllocError> {
+pub fn gallop(work: &mut Work, heads: &mut Vec<i64>, way: Vec<i64>) -> Result<i64, AllocError> {
     let mut way = way;
     let mut gained = 0_i64;
     let mut turns = 0_u64;
     let mut is_last = false;
     for _ in 0..MOST_STEPS {
-        let heads = work.side.heads_below(
-            state.heads.as_slice(),
-            |cell| at(way.as_slice(), cell) as i128,
-        )?;
-        let wanted = fall_between(state.heads.as_slice(), heads.as_slice());
+        let fall = |cell| at(way.as_slice(), cell) as i128;
+        let mut lower = work.side.heads_below(heads.as_slice(), fall)?;
+        let wanted = fall_between(heads.as_slice(), lower.as_slice());
         if wanted.cells == 0 {
             break;
         }
-        let mut lower = State::new(work.side, heads)?;
         let most = wanted.cells.saturating_mul(TURNS).max(turns / 2);
-        let raised = raise_within(work, &mut lower, Some(state.heads.as_slice()), most)?;
+        let raised = raise_within(work, &mut lower, Some(heads.as_slice()), most)?;
         turns = turns.saturating_add(raised.turns);
         if raised.is_settled {
-            let kept = fall_between(state.heads.as_slice(), lower.heads.as_slice());
-            way = way_between(work.side, state.heads.as_slice(), lower.heads.as_slice(), 2)?;
+            let kept = fall_between(heads.as_slice(), lower.as_slice());
+            way = way_between(work.side, heads.as_slice(), lower.as_slice(), 2)?;
             gained = gained.saturating_add(kept.most);
-            *state = lower;
+            *heads = lower;
             if is_last || kept.sum.saturating_mul(2) < wanted.sum {
                 break;
             }

@@ -2,13 +2,13 @@
 ghost use Rattle.std.specs.Prelude.{IfOk};
 ghost use Rattle.cell_relax.specs.{AreWords};
 
-use crate::half::{HalfGuess, Start, half_guess};
+use crate::half::{HalfGuess, half_guess};
+use crate::linear::Linear;
 use crate::links::Links;
-use crate::one_side::{OneSide, turned_head};
+use crate::one_side::{OneSide, Step, turned_head};
 use crate::search::first_share;
-use crate::steps::{Kept, LastStep, before_of, high_start, low_start};
+use crate::steps::{Kept, LastStep, high_start, low_start, take_last};
 use multigrid::numbers::at;
-use star_mesh::Pattern;
 use std::alloc::{AllocError, Global};
 use step_problem::{Barrier, Bound, Problem, Side};
 
@@ -46,62 +46,54 @@ pub fn guess_of(
     p: &Problem,
     low: HalfGuess,
     high: HalfGuess,
-    last: Option<LastStep>,
-    kept: &mut Kept,
+    kept: &mut Option<LastStep>,
 ) -> Result<Guess, AllocError>
     ensures { IfOk result (λ g. AreWords p.now (Guess.bounds g).items) }
 {
-    let mut order = low.order;
-    order.extend_from_slice(high.order.as_slice())?;
-    let (low, high) = (low.ended, high.ended);
-    let bounds = bounds_of(alloc, p, low.heads.as_slice(), high.heads.as_slice())?;
-    let before = before_of(last);
-    kept.last = Some(LastStep { before, low, high });
+    let bounds = bounds_of(alloc, p, low.heads(), high.heads())?;
+    let mut order = Vec::new(alloc);
+    for half in [&low, &high] {
+        if let Some(lowest) = &half.lowest {
+            order.extend_from_slice(lowest.order.as_slice())?;
+        }
+    }
+    *kept = Some(LastStep { low, high });
     Ok(Guess { bounds, order })
 }
 
-// The guess of both sides, one after the other.
-fn guess_in_turn(
-    alloc: Global,
-    p: &Problem,
-    b: &Barrier,
-    links: &Links,
-    pattern: Option<&Pattern>,
-    kept: &mut Kept,
-) -> Result<Guess, AllocError>
-    ensures { IfOk result (λ g. AreWords p.now (Guess.bounds g).items) }
-{
-    let last = kept.take_last(p);
-    let side = OneSide::new(alloc, p, Side::Low, links, pattern, b.floor.as_slice())?;
-    let start = Start {
-        heads: low_start(alloc, p, b, &last)?,
-        share: first_share(links),
-        last: last.as_ref().map(|last| &last.low),
-    };
-    let low = half_guess(&side, start, &mut kept.linear)?;
-    let side = OneSide::new(alloc, p, Side::High, links, pattern, b.ceiling.as_slice())?;
-    let start = Start {
-        heads: high_start(alloc, low.ended.balanced.as_slice(), &last)?,
-        share: low.ended.share,
-        last: last.as_ref().map(|last| &last.high),
-    };
-    let high = half_guess(&side, start, &mut kept.linear)?;
-    guess_of(alloc, p, low, high, last, kept)
+// The guesses of both sides, one after the other.
+fn halves_in_turn(
+    step: &Step,
+    last: &Option<LastStep>,
+    kept: &mut Option<Linear>,
+) -> Result<(HalfGuess, HalfGuess), AllocError> {
+    let side = OneSide::new(step, Side::Low)?;
+    let start = low_start(step, last)?;
+    let share = first_share(step.links);
+    let past = last.as_ref().map(|last| &last.low);
+    let low = half_guess(&side, start, share, past, kept)?;
+    let side = OneSide::new(step, Side::High)?;
+    let start = high_start(step, low.balanced.as_slice(), last)?;
+    let past = last.as_ref().map(|last| &last.high);
+    let share = low.lowest.as_ref().map_or(share, |lowest| lowest.share);
+    let high = half_guess(&side, start, share, past, kept)?;
+    Ok((low, high))
 }
 
 /// A guess of the settled pair of a problem and a barrier. It begins with what the guess of the last step has kept, which may be that of any
 /// problem.
-pub fn guess_heads(
+pub fn guess_heads<'a>(
     alloc: Global,
-    p: &Problem,
-    b: &Barrier,
-    kept: &mut Kept,
+    p: &'a Problem,
+    b: &'a Barrier,
+    kept: &'a mut Kept,
 ) -> Result<Guess, AllocError>
     ensures { IfOk result (λ g. AreWords p.now (Guess.bounds g).items) }
 {
     let links = Links::of(alloc, p)?;
-    let eliminable = kept.find_eliminable(alloc, &links)?;
-    let guess = guess_in_turn(alloc, p, b, &links, eliminable.pattern(), kept)?;
-    kept.eliminable = eliminable;
-    Ok(guess)
+    let pattern = kept.eliminable.pattern(alloc, &links)?;
+    let step = Step::new(alloc, p, b, &links, pattern);
+    let last = take_last(&mut kept.last, p);
+    let (low, high) = halves_in_turn(&step, &last, &mut kept.linear)?;
+    guess_of(alloc, p, low, high, &mut kept.last)
 }

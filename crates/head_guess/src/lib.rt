@@ -3,7 +3,6 @@
 
 mod beside;
 mod branch;
-mod burn;
 mod changes;
 mod descend;
 mod eliminable;
@@ -23,14 +22,12 @@ mod raise;
 mod ramp;
 mod rest;
 mod search;
-mod share_cycles;
 mod shares;
 mod sink;
 mod slopes;
-mod solver;
 mod spot;
-mod state;
 mod steps;
+mod system;
 mod work;
 
 pub use beside::guess_beside;

@@ -1,11 +1,16 @@
-// The linear system of a round of Newton's method. It is kept while its slopes hardly change, from one side to the other too.
-use crate::solver::{Solver, visits_of_factor};
+// The linear system of a round of Newton's method, with a method to solve it: conjugate gradients or elimination. It is kept while its slopes
+// hardly change, from one side to the other too.
+use crate::system::{matrix_of, scale_of, slack_of, visits_of_factor, visits_of_solution};
 use crate::work::Work;
-use multigrid::numbers::{greatest, width};
-use star_mesh::Pattern;
+use multigrid::Levels;
+use multigrid::numbers::{greatest, shift, width};
+use star_mesh::{Factor, Pattern};
 use std::alloc::AllocError;
 
-// Rounds of conjugate gradients for a correction, and for the room.
+// Making the levels takes about this many visits at each cell.
+const VISITS_OF_LEVELS: u64 = 20;
+
+// Rounds of conjugate gradients, and those for the room.
 const ROUNDS: u32 = 30;
 
 const ROUNDS_OF_ROOM: u32 = 60;
@@ -21,12 +26,42 @@ const BITS_OF_ROOM: u32 = 10;
 // Elimination always pays with at most this number of operations for each cell, as in a layer of 256 x 256.
 const FEW_OPERATIONS: u64 = 1_500;
 
-/// A solver, its room once that is found, and how its solutions by cycles went.
+/// A system with what its method needs: conjugate gradients with multigrid cycles, or elimination.
+#[derive(Drop)]
+enum Method {
+    Cycles(Levels),
+    Elimination(Factor),
+}
+
+impl Method {
+    // The right side of the system. `solve` leaves the residual there.
+    fn right_side(&mut self) -> &mut [i128] {
+        match self {
+            Method::Cycles(levels) => levels.right_side(),
+            Method::Elimination(factor) => factor.right_side(),
+        }
+    }
+
+    fn is_by_cycles(&self) -> bool {
+        match self {
+            Method::Cycles(_) => true,
+            Method::Elimination(_) => false,
+        }
+    }
+}
+
+/// The system of slopes, with its method, its room once that is found, and how its solutions by cycles went. A cell whose slope is 0 is fixed:
+/// its unknown is 0.
 #[derive(Drop)]
 pub struct Linear {
-    pub solver: Solver,
-    pub room: Option<Vec<i64>>,
-    // The visits that cycles took for the solutions of this system.
+    method: Method,
+    pub slopes: Vec<i64>,
+    // How far each slope may be off.
+    slack: Vec<u64>,
+    // Weights are conductances over 2^scale, so that the sum of all of them fits.
+    scale: u32,
+    room: Option<Vec<i64>>,
+    // The visits that cycles took for its solutions.
     visits: u64,
     /// Whether cycles have left it, or one before it, unsolved.
     pub is_hard: bool,
@@ -39,7 +74,54 @@ fn pays(pattern: &Pattern, visits: u64, is_hard: bool) -> bool {
         || visits >= visits_of_factor(pattern)
 }
 
+// The factor of a system, if the system fits the pattern.
+fn factor_of(
+    work: &mut Work,
+    slopes: &[i64],
+    pattern: Option<&Pattern>,
+) -> Result<Option<Factor>, AllocError> {
+    let Some(pattern) = pattern else {
+        return Ok(None);
+    };
+    let matrix = matrix_of(work.side, slopes, 0)?;
+    if !pattern.fits(&matrix) {
+        return Ok(None);
+    }
+    work.budget.spend(visits_of_factor(pattern));
+    Ok(Some(Factor::new(work.side.alloc, pattern, matrix)?))
+}
+
 impl Linear {
+    /// A system that is solved by elimination, if it fits the pattern; else by multigrid cycles.
+    pub fn new(
+        work: &mut Work,
+        slopes: Vec<i64>,
+        pattern: Option<&Pattern>,
+    ) -> Result<Linear, AllocError> {
+        let side = work.side;
+        let slack = slack_of(side, slopes.as_slice())?;
+        let mut scale = 0;
+        let method = match factor_of(work, slopes.as_slice(), pattern)? {
+            Some(factor) => Method::Elimination(factor),
+            None => {
+                scale = scale_of(slopes.as_slice());
+                let matrix = matrix_of(side, slopes.as_slice(), scale)?;
+                let visits = VISITS_OF_LEVELS.saturating_mul(side.len() as u64);
+                work.budget.spend(visits);
+                Method::Cycles(Levels::new(side.alloc, matrix)?)
+            }
+        };
+        Ok(Linear {
+            method,
+            slopes,
+            slack,
+            scale,
+            room: None,
+            visits: 0,
+            is_hard: false,
+        })
+    }
+
     /// The system of these slopes: the kept one, if its slopes are near these, and elimination of it would not have paid.
     pub fn of(work: &mut Work, slopes: &[i64], kept: Option<Linear>) -> Result<Linear, AllocError> {
         let (visits, is_hard) = match &kept {
@@ -51,18 +133,53 @@ impl Linear {
             _ => None,
         };
         if let Some(kept) = kept {
-            let is_dear = pattern.is_some() && kept.solver.is_by_cycles();
-            if !is_dear && kept.solver.is_near(slopes) {
+            let is_dear = pattern.is_some() && kept.method.is_by_cycles();
+            if !is_dear && kept.is_near(slopes) {
                 return Ok(kept);
             }
         }
         let slopes = Vec::from_slice(work.side.alloc, slopes)?;
-        Ok(Linear {
-            solver: Solver::new(work, slopes, pattern)?,
-            room: None,
-            visits: 0,
-            is_hard,
-        })
+        let mut linear = Linear::new(work, slopes, pattern)?;
+        linear.is_hard = is_hard;
+        Ok(linear)
+    }
+
+    /// Whether these slopes are nearly its own: within the few units by which lower and upper conductances differ, or a
+    /// small part of what they exceed the cell's links by. Heads move together as far as that part lets them, however great the links are.
+    pub fn is_near(&self, slopes: &[i64]) -> bool {
+        let pairs = self.slopes.iter().zip(slopes);
+        self.slopes.len() == slopes.len()
+            && pairs
+                .zip(self.slack.as_slice())
+                .all(|((own, slope), slack)| own.abs_diff(*slope) <= *slack)
+    }
+
+    // The unknowns of the right side, times its power of two.
+    fn unknowns(&mut self, work: &mut Work, rounds: u32, bits: u32) -> &[i64] {
+        match (&mut self.method, work.side.pattern) {
+            (Method::Cycles(levels), _) => {
+                let left = work.budget.left;
+                let unknowns = levels.solve(rounds, bits, &mut work.budget);
+                let visits = left.saturating_sub(work.budget.left);
+                self.visits = self.visits.saturating_add(visits);
+                unknowns
+            }
+            (Method::Elimination(factor), Some(pattern)) => {
+                work.budget.spend(visits_of_solution(pattern));
+                factor.solve(pattern, bits)
+            }
+            (Method::Elimination(_), None) => &[],
+        }
+    }
+
+    /// Solves for numbers of the problem's unit, and returns the unknowns in units of 2^-places: with residuals below 2^bits of these units of
+    /// each slope, or after some rounds of conjugate gradients.
+    pub fn solve(&mut self, work: &mut Work, numbers: &[i128], places: i64, bits: u32) -> &[i64] {
+        let scale = self.scale;
+        for (right, number) in self.method.right_side().iter_mut().zip(numbers) {
+            *right = shift(*number, places).wrapping_shr(scale);
+        }
+        self.unknowns(work, ROUNDS, bits)
     }
 
     /// How small a residual has to be, in bits, for unknowns of 2^-places: where the room is known, so small that what is
@@ -78,51 +195,54 @@ impl Linear {
             .clamp(LEAST_BITS, MOST_BITS)
     }
 
-    /// The correction of these balances, in units of 2^-places, with residuals below 2^bits of these units of each slope.
-    pub fn correction(
-        &mut self,
-        work: &mut Work,
-        balances: &[i128],
-        places: i64,
-        bits: u32,
-    ) -> &[i64] {
-        let left = work.budget.visits_left();
-        self.solver.set_right_side(balances, places);
-        let unknowns = self.solver.solve(work, ROUNDS, bits);
-        let visits = left.saturating_sub(work.budget.visits_left());
-        self.visits = self.visits.saturating_add(visits);
-        unknowns
-    }
-
-    /// Whether the last correction was solved to these bits. If not, the system is known to be hard.
-    pub fn check(&mut self, bits: u32) -> bool {
-        let is_solved = self.solver.is_solved(bits);
+    /// Whether the last solution leaves no more than 2^bits of each slope, or twice that. If not, the system is known to be hard.
+    pub fn is_solved(&mut self, bits: u32) -> bool {
+        let scale = self.scale;
+        let bits = bits.saturating_add(1);
+        let rests = self.method.right_side().iter();
+        let is_solved = rests.zip(self.slopes.as_slice()).all(|(rest, slope)| {
+            let slope = (slope.wrapping_shr(scale) as i128).max(1);
+            rest.unsigned_abs() <= slope.wrapping_shl(bits).unsigned_abs()
+        });
         self.is_hard = self.is_hard || !is_solved;
         is_solved
     }
 
-    // The room, found anew. By elimination where cycles do not solve it.
+    // The room, found anew. Its visits say nothing of those for other solutions.
     fn solved_room(&mut self, work: &mut Work) -> Result<Vec<i64>, AllocError> {
-        let room = self.solver.room(work, ROUNDS_OF_ROOM, BITS_OF_ROOM)?;
-        if !self.solver.is_by_cycles() || self.solver.is_solved(BITS_OF_ROOM) {
-            return Ok(room);
+        let scale = self.scale;
+        let rights = self.method.right_side().iter_mut();
+        for (right, slope) in rights.zip(self.slopes.as_slice()) {
+            *right = shift(*slope as i128, 20).wrapping_shr(scale);
         }
-        self.is_hard = true;
-        let pattern = work.side.pattern;
-        if pattern.is_none() {
-            return Ok(room);
-        }
-        let slopes = Vec::from_slice(work.side.alloc, self.solver.slopes())?;
-        self.solver = Solver::new(work, slopes, pattern)?;
-        self.solver.room(work, ROUNDS_OF_ROOM, BITS_OF_ROOM)
+        let visits = self.visits;
+        let unknowns = self.unknowns(work, ROUNDS_OF_ROOM, BITS_OF_ROOM).iter();
+        let room = unknowns
+            .map(|unknown| (*unknown >> 10).max(0))
+            .collect(work.side.alloc)?;
+        self.visits = visits;
+        Ok(room)
     }
 
-    /// The room at each cell, which is kept.
+    // The room, by elimination where cycles do not solve it.
+    fn find_room(&mut self, work: &mut Work) -> Result<Vec<i64>, AllocError> {
+        let pattern = work.side.pattern;
+        let room = self.solved_room(work)?;
+        if !self.method.is_by_cycles() || self.is_solved(BITS_OF_ROOM) || pattern.is_none() {
+            return Ok(room);
+        }
+        *self = Linear::new(work, self.slopes.clone()?, pattern)?;
+        self.is_hard = true;
+        self.solved_room(work)
+    }
+
+    /// The room at each cell, in units of 2^-10: how far all heads move together when each cell's balance changes by its slope. It is not
+    /// negative, and is kept.
     pub fn room(&mut self, work: &mut Work) -> Result<Vec<i64>, AllocError> {
         if let Some(room) = &self.room {
             return room.clone();
         }
-        let room = self.solved_room(work)?;
+        let room = self.find_room(work)?;
         self.room = Some(room.clone()?);
         Ok(room)
     }
@@ -130,7 +250,7 @@ impl Linear {
     /// Takes the room of another system, if its slopes are near.
     pub fn take_room(&mut self, other: &Linear) -> Result<(), AllocError> {
         if let (None, Some(room)) = (&self.room, &other.room) {
-            if other.solver.is_near(self.solver.slopes()) {
+            if other.is_near(self.slopes.as_slice()) {
                 self.room = Some(room.clone()?);
             }
         }

@@ -12,13 +12,11 @@ pub struct Edge {
 }
 
 /// A cell's part of a list of all cells.
-#[derive(Clone, Copy)]
+#[derive(Clone, Copy, Default)]
 pub struct Part {
     first: u32,
     end: u32,
 }
-
-const NO_PART: Part = Part { first: 0, end: 0 };
 
 impl Part {
     pub fn of<'a, T>(&self, all: &'a [T]) -> &'a [T] {
@@ -37,7 +35,7 @@ impl Part {
 
 /// A cell's edges, branches to known heads and ramps, and how far its balance falls when its head rises by a unit: at least, and at most where
 /// it is straight.
-#[derive(Clone, Copy)]
+#[derive(Clone, Copy, Default)]
 pub struct Row {
     pub edges: Part,
     pub knowns: Part,
@@ -45,14 +43,6 @@ pub struct Row {
     pub least: i64,
     pub greatest: i64,
 }
-
-const NO_ROW: Row = Row {
-    edges: NO_PART,
-    knowns: NO_PART,
-    ramps: NO_PART,
-    least: 1,
-    greatest: 1,
-};
 
 /// The rows of all cells, with their edges.
 #[derive(Drop)]
@@ -120,7 +110,7 @@ impl Links {
             edges: Vec::new(alloc),
             uneven: 0,
         };
-        let mut last = NO_ROW;
+        let mut last = Row::default();
         for cell in 0..p.len() {
             last = links.add_cell(p.cell(cell), &last)?;
         }
@@ -145,12 +135,17 @@ impl Links {
 
     /// The row of a cell; an empty one past the last cell.
     pub fn row(&self, cell: usize) -> Row {
-        self.rows.get(cell).copied().unwrap_or(NO_ROW)
+        self.rows.get(cell).copied().unwrap_or_default()
     }
 
     /// The edges of a row.
     pub fn edges(&self, row: &Row) -> &[Edge] {
         row.edges.of(self.edges.as_slice())
+    }
+
+    /// The edges of a cell.
+    pub fn edges_at(&self, cell: usize) -> &[Edge] {
+        self.edges(&self.row(cell))
     }
 
     /// Whether all balances but a few are straight.

@@ -1,77 +1,65 @@
 // From balanced heads down to the first settled ones.
 use crate::descend::descend;
-use crate::extent::{Extent, Width};
-use crate::search::{Balanced, settled_below};
-use crate::share_cycles::{settled_by_shares, visits_of_cycle};
-use crate::state::State;
+use crate::extent::Extent;
+use crate::search::{Settled, settled_below};
+use crate::shares::{settled_by_shares, visits_of_cycle};
 use crate::work::Work;
 use std::alloc::AllocError;
 
-/// The first settled heads, the order in which cells rose again, and the share of the room that the search found.
+/// The first settled heads, the order in which cells rise again after a fall by a unit, and the share of the room that the search found.
 #[derive(Drop)]
 pub struct Lowest {
-    pub state: State,
+    pub heads: Vec<i64>,
     pub order: Vec<u32>,
     pub share: i64,
 }
 
-// A descent is long if it takes more visits than such a number of quarters of a cycle of shares: fewer the wider the room is. Most of those
-// that take fewer end soon.
-fn most_quarters(width: Width) -> u64 {
-    match width {
-        Width::Narrow => 8,
-        Width::Wide => 3,
-        Width::Widest => 1,
-    }
-}
-
-// Settled heads by one share for all cells. Where the descent from these is long, it begins again from heads with a share for each cell.
-fn lowest_by_search(
-    work: &mut Work,
-    balanced: &Balanced,
-    share: i64,
-) -> Result<Option<Lowest>, AllocError> {
-    let Some(settled) = settled_below(work, balanced, share)? else {
-        return Ok(None);
-    };
-    let share = settled.share;
-    let cycle = work.side.pattern.map_or(u64::MAX, visits_of_cycle);
-    let mut short = work.split((cycle / 4).saturating_mul(most_quarters(settled.width)));
-    let mut state = settled.state;
-    let mut order = descend(&mut short, &mut state, settled.is_near)?;
-    let is_long = short.budget.is_spent() && !work.budget.is_spent();
-    work.join(short);
-    if is_long {
-        if let Some(lower) = settled_by_shares(work, balanced.heads.as_slice(), share)? {
-            state = lower;
-        }
-        order = descend(work, &mut state, false)?;
-    }
-    Ok(Some(Lowest {
-        state,
+/// The first settled heads below settled ones.
+pub fn lowest_from(work: &mut Work, heads: Vec<i64>, share: i64) -> Result<Lowest, AllocError> {
+    let mut heads = heads;
+    let order = descend(work, &mut heads, false, 0)?;
+    Ok(Lowest {
+        heads,
         order,
         share,
-    }))
+    })
 }
 
-/// The first settled heads below balanced ones, from a share of the room. Where the room is one of the widest, and links have a pattern, each
-/// cell has a share of its own from the start. None where nothing settles.
+/// The first settled heads below balanced ones, from a share of the room, which is in units of 2^-10. They are searched for by one share for
+/// all cells; where the descent from these is long, it begins again from heads with a share for each cell. Where the room is one of the widest,
+/// and links have a pattern, each cell has a share of its own from the start. None where nothing settles.
 pub fn lowest_below(
     work: &mut Work,
-    balanced: &Balanced,
+    balanced: &[i64],
+    room: &[i64],
     share: i64,
 ) -> Result<Option<Lowest>, AllocError> {
-    let extent = Extent::new(work.side.links, balanced.room.as_slice());
-    if work.side.pattern.is_some() && extent.width() == Width::Widest {
-        if let Some(lower) = settled_by_shares(work, balanced.heads.as_slice(), share)? {
-            let mut state = lower;
-            let order = descend(work, &mut state, false)?;
-            return Ok(Some(Lowest {
-                state,
-                order,
-                share,
-            }));
+    let extent = Extent::new(work.side.links, room);
+    let pattern = work.side.pattern;
+    if pattern.is_some() && extent.is_widest() {
+        if let Some(heads) = settled_by_shares(work, balanced, share)? {
+            return Ok(Some(lowest_from(work, heads, share)?));
         }
     }
-    lowest_by_search(work, balanced, share)
+    let Some(settled) = settled_below(work, balanced, room, &extent, share)? else {
+        return Ok(None);
+    };
+    let Settled {
+        mut heads,
+        share,
+        ..
+    } = settled;
+    let cycle = pattern.map_or(u64::MAX, visits_of_cycle);
+    let most = (cycle / 4).saturating_mul(extent.most_quarters());
+    let end = work.budget.left.saturating_sub(most);
+    let order = descend(work, &mut heads, extent.is_even(), end)?;
+    if work.budget.left > end || work.budget.is_spent() {
+        return Ok(Some(Lowest {
+            heads,
+            order,
+            share,
+        }));
+    }
+    let lower = settled_by_shares(work, balanced, share)?;
+    Ok(Some(lowest_from(work, lower.unwrap_or(heads), share)?))
 }

@@ -7,51 +7,39 @@ pub struct Marks {
     words: Vec<u64>,
 }
 
-/// The cells of one word.
-pub const CELLS: usize = 64;
-
-/// A sweep over the cells in ascending or descending order.
-#[derive(Clone, Copy)]
-pub enum Order {
-    Up,
-    Down,
-}
-
-// The places of a word.
-const ALL: u64 = u64::MAX;
-
-// The places of a word that a sweep visits after this one.
-fn places_after(place: u32, order: Order) -> u64 {
-    match order {
-        Order::Up => ALL.wrapping_shl(place).wrapping_shl(1),
-        Order::Down => 1_u64.wrapping_shl(place).wrapping_sub(1),
-    }
-}
-
-// The first of these places in a sweep.
-fn first_of(places: u64, order: Order) -> u32 {
-    match order {
-        Order::Up => places.trailing_zeros(),
-        Order::Down => 63_u32.saturating_sub(places.leading_zeros()),
-    }
-}
-
-/// A sweep over the cells of a word.
+/// A sweep over the cells in ascending order, or in descending order.
 #[derive(Clone, Copy)]
 pub struct Sweep {
-    word: usize,
-    order: Order,
-    // The places that it has not passed.
+    is_down: bool,
+    // The words that it has passed, and the places of the next one that it has not.
+    passed: usize,
     open: u64,
 }
 
+// The cells of one word, and all their places.
+const CELLS: usize = 64;
+
+const ALL: u64 = u64::MAX;
+
 impl Sweep {
-    pub fn new(word: usize, order: Order) -> Sweep {
+    pub fn new(is_down: bool) -> Sweep {
         Sweep {
-            word,
-            order,
+            is_down,
+            passed: 0,
             open: ALL,
         }
+    }
+
+    // Of these places of a word, the next one of the sweep, which it passes.
+    fn pass_place(&mut self, places: u64) -> u32 {
+        if self.is_down {
+            let place = 63_u32.saturating_sub(places.leading_zeros());
+            self.open = 1_u64.wrapping_shl(place).wrapping_sub(1);
+            return place;
+        }
+        let place = places.trailing_zeros();
+        self.open = ALL.wrapping_shl(place).wrapping_shl(1);
+        place
     }
 }
 
@@ -60,10 +48,6 @@ impl Marks {
         Ok(Marks {
             words: vec![in alloc; 0; cells / CELLS + 1]?,
         })
-    }
-
-    pub fn set(&mut self, cell: usize) {
-        self.set_if(cell, true);
     }
 
     /// Adds a cell if `is_in`.
@@ -75,25 +59,24 @@ impl Marks {
 
     /// Removes the next cell of a sweep from the set, and returns it. Cells that the sweep has passed are left.
     pub fn take_next(&mut self, sweep: &mut Sweep) -> Option<usize> {
-        let word = self.words.as_mut_slice().get_mut(sweep.word)?;
-        let places = *word & sweep.open;
-        if places == 0 {
-            return None;
+        let count = self.words.len();
+        for passed in sweep.passed..count {
+            let index = if sweep.is_down {
+                count - 1 - passed
+            } else {
+                passed
+            };
+            let word = self.words.as_mut_slice().get_mut(index)?;
+            let places = *word & sweep.open;
+            if places != 0 {
+                let place = sweep.pass_place(places);
+                *word &= !1_u64.wrapping_shl(place);
+                sweep.passed = passed;
+                return Some(index.saturating_mul(CELLS).saturating_add(place as usize));
+            }
+            sweep.open = ALL;
         }
-        let place = first_of(places, sweep.order);
-        *word &= !1_u64.wrapping_shl(place);
-        sweep.open = places_after(place, sweep.order);
-        let first = sweep.word.saturating_mul(CELLS);
-        Some(first.saturating_add(place as usize))
-    }
-
-    /// Whether a word has a cell.
-    pub fn has_any(&self, word: usize) -> bool {
-        self.words.get(word).is_some_and(|word| *word != 0)
-    }
-
-    /// The number of words.
-    pub fn len(&self) -> usize {
-        self.words.len()
+        sweep.passed = count;
+        None
     }
 }

@@ -1,5 +1,5 @@
 // Newton's method for heads at which each cell's balance is 0.
-use crate::branch::product;
+use crate::branch::{product, turned};
 use crate::linear::Linear;
 use crate::one_side::OneSide;
 use crate::ramp::Bends;
@@ -62,10 +62,11 @@ impl Newton {
     }
 
     fn linearize(&mut self, side: &OneSide) {
+        let slack = turned(side.side, self.slack, self.slack);
         for cell in 0..self.heads.len() {
             let heads = self.heads.as_slice();
             let bends = Bends {
-                foot: side.higher(at(heads, cell), self.slack),
+                foot: at(heads, cell).saturating_add(slack),
                 top: at(self.tops.as_slice(), cell),
             };
             let (balance, slope) = side.piece(cell, heads, bends);
@@ -160,9 +161,9 @@ impl Newton {
     ) -> (i128, bool) {
         let places = 20_i64.saturating_sub(width(alone as i128) as i64);
         let bits = linear.bits(places);
-        let unknowns = linear.correction(work, self.balances.as_slice(), places, bits);
+        let unknowns = linear.solve(work, self.balances.as_slice(), places, bits);
         let longest = self.advance(work.side, unknowns, places);
-        let is_solved = linear.check(bits);
+        let is_solved = linear.is_solved(bits);
         let bits_of_slack = if is_solved { BITS_OF_SLACK } else { 0 };
         self.slack = clamp_long(longest.wrapping_shr(bits_of_slack));
         let may_end = match until {
@@ -203,7 +204,7 @@ pub fn find_balanced(
             break;
         }
         newton.linearize(side);
-        if longest <= NEAR || is_last && linear.solver.is_near(newton.slopes.as_slice()) {
+        if longest <= NEAR || is_last && linear.is_near(newton.slopes.as_slice()) {
             if !newton.set_tops(side) {
                 break;
             }

@@ -1,14 +1,14 @@
 // Cells with their balances, while heads are raised.
+use crate::branch::Branch;
 use crate::links::{Edge, Row};
 use crate::marks::Marks;
 use crate::one_side::OneSide;
-use crate::state::State;
-use multigrid::numbers::{at, clamp_long, long_at, put, width};
+use multigrid::numbers::{at, clamp_long, put, width};
 use std::alloc::AllocError;
 use step_problem::problem::HEAD_LIMIT;
 
 /// A cell's balance at its head, the head that it may reach, and the least balance at which it can rise.
-#[derive(Clone, Copy)]
+#[derive(Clone, Copy, Default)]
 struct Node {
     balance: i128,
     head: i64,
@@ -17,14 +17,6 @@ struct Node {
     // The number of times that it may still rise.
     rises: u32,
 }
-
-const NO_NODE: Node = Node {
-    balance: 0,
-    head: 0,
-    cap: 0,
-    least: i64::MAX,
-    rises: 0,
-};
 
 impl Node {
     fn can_rise(&self) -> bool {
@@ -60,17 +52,17 @@ fn quotient(number: i128, divisor: i64) -> i64 {
 }
 
 impl Nodes {
-    /// The nodes of a state, whose heads may rise to their caps, if there are any.
+    /// The nodes of heads that may rise to their caps, if there are any.
     pub fn new(
         side: &OneSide,
-        state: &State,
+        heads: &[i64],
         caps: Option<&[i64]>,
         rises: u32,
     ) -> Result<Nodes, AllocError> {
-        let mut nodes = Vec::with_capacity(side.alloc, state.heads.len())?;
-        for (cell, head) in state.heads.iter().enumerate() {
+        let mut nodes = Vec::with_capacity(side.alloc, heads.len())?;
+        for (cell, head) in heads.iter().enumerate() {
             nodes.push(Node {
-                balance: long_at(state.balances.as_slice(), cell),
+                balance: side.balance(cell, *head, |other| at(heads, other)),
                 head: *head,
                 cap: caps.map_or(HEAD_LIMIT, |caps| at(caps, cell)),
                 least: side.links.row(cell).least,
@@ -80,12 +72,9 @@ impl Nodes {
         Ok(Nodes { nodes })
     }
 
-    /// Writes heads and balances back to a state.
-    pub fn write_to(&self, state: &mut State) {
-        for (cell, node) in self.nodes.iter().enumerate() {
-            put(state.heads.as_mut_slice(), cell, node.head);
-            put(state.balances.as_mut_slice(), cell, node.balance);
-        }
+    /// The heads of all cells.
+    pub fn heads(&self, side: &OneSide) -> Result<Vec<i64>, AllocError> {
+        self.nodes.iter().map(|node| node.head).collect(side.alloc)
     }
 
     /// Whether each cell has risen as often as it may.
@@ -96,92 +85,55 @@ impl Nodes {
             .collect(side.alloc)
     }
 
-    /// Marks the cells that may rise.
-    pub fn mark(&self, marks: &mut Marks) {
+    /// The cells that may rise.
+    pub fn marks(&self, side: &OneSide) -> Result<Marks, AllocError> {
+        let mut marks = Marks::new(side.alloc, self.nodes.len())?;
         for (cell, node) in self.nodes.iter().enumerate() {
-            if node.can_rise() {
-                marks.set(cell);
-            }
+            marks.set_if(cell, node.can_rise());
         }
+        Ok(marks)
     }
 
     fn node(&self, cell: usize) -> Node {
-        self.nodes.get(cell).copied().unwrap_or(NO_NODE)
+        self.nodes.get(cell).copied().unwrap_or_default()
     }
 
-    // How far a straight balance falls when its cell rises by a unit.
-    fn unit_fall(&self, side: &OneSide, row: &Row, head: i64) -> i128 {
-        let mut sum = 0_i128;
-        for edge in side.links.edges(row) {
-            let above = head.wrapping_sub(self.node(edge.other as usize).head);
-            sum = sum.wrapping_add(edge.branch.unit_loss(above) as i128);
+    // By how many units a cell rises, or some fewer: at most to its cap, and to the next bend of its ramps.
+    fn units(&self, side: &OneSide, row: &Row, node: &Node) -> i64 {
+        let mut greatest = row.greatest;
+        let mut cap = node.cap;
+        for ramp in side.ramps(row) {
+            greatest = greatest.saturating_add(ramp.greatest_fall(node.head));
+            cap = cap.min(ramp.bend_above(node.head));
         }
-        for known in side.knowns(row) {
-            let above = head.wrapping_sub(known.head);
-            sum = sum.wrapping_add(known.branch.unit_loss(above) as i128);
-        }
-        sum
-    }
-
-    // By how many units a straight cell can rise, or some fewer.
-    fn straight_units(&self, side: &OneSide, row: &Row, node: &Node) -> i64 {
-        let greatest = row.greatest as i128;
-        if node.balance >= greatest.wrapping_mul(2) {
-            return quotient(node.balance, row.greatest);
-        }
-        (node.balance >= greatest || node.balance >= self.unit_fall(side, row, node.head)) as i64
-    }
-
-    // The heads of the cells that a cell is linked with.
-    fn neighbour_heads(&self, edges: &[Edge]) -> [i64; 6] {
-        let mut around = [0; 6];
-        for (place, edge) in around.iter_mut().zip(edges) {
-            *place = self.node(edge.other as usize).head;
-        }
-        around
-    }
-
-    // By how many units a cell rises.
-    fn units(&self, side: &OneSide, cell: usize, row: &Row, node: &Node) -> i64 {
-        let units = if row.is_straight() {
-            self.straight_units(side, row, node)
+        let long = greatest as i128;
+        let units = if node.balance >= long.wrapping_mul(2) {
+            quotient(node.balance, greatest)
         } else {
-            let around = self.neighbour_heads(side.links.edges(row));
-            side.raised_amid(cell, node.head, &around)
-                .wrapping_sub(node.head)
+            let fall = || side.unit_fall(row, node.head, |other| self.node(other).head) as i128;
+            (node.balance >= long || node.balance >= fall()) as i64
         };
-        units.min(node.cap.wrapping_sub(node.head))
+        units.min(cap.wrapping_sub(node.head))
     }
 
-    // Changes the balances of the cells that a cell is linked with for its rise, and marks those that may rise. Returns
-    // what the links take from the cell's balance.
-    fn spread(&mut self, edges: &[Edge], head: i64, units: i64, marks: &mut Marks) -> i128 {
+    // Changes the balances of the cells that a cell is linked with for its rise, and marks those that may rise: by what a branch takes from
+    // the cell and gives to the other, above which it stood so far. Returns what the links take from the cell's balance.
+    fn spread<F: Fn(Branch, i64) -> (i128, i128)>(
+        &mut self,
+        edges: &[Edge],
+        head: i64,
+        marks: &mut Marks,
+        flows: F,
+    ) -> i128
+        requires { F.IsAlwaysCallable flows }
+    {
         let mut taken = 0_i128;
         for edge in edges {
             let other = edge.other as usize;
             if let Some(node) = self.nodes.as_mut_slice().get_mut(other) {
-                let above = head.wrapping_sub(node.head);
-                taken = taken.wrapping_add(edge.branch.loss(above, units));
-                let gain = edge.branch.gain(above, units);
+                let (loss, gain) = flows(edge.branch, head.wrapping_sub(node.head));
+                taken = taken.wrapping_add(loss);
                 node.balance = node.balance.wrapping_add(gain);
-                if node.can_rise() {
-                    marks.set(other);
-                }
-            }
-        }
-        taken
-    }
-
-    // The same where the cell rises by one unit.
-    fn spread_unit(&mut self, edges: &[Edge], head: i64, marks: &mut Marks) -> i64 {
-        let mut taken = 0_i64;
-        for edge in edges {
-            let other = edge.other as usize;
-            if let Some(node) = self.nodes.as_mut_slice().get_mut(other) {
-                let above = head.wrapping_sub(node.head);
-                taken = taken.wrapping_add(edge.branch.unit_loss(above));
-                let gain = edge.branch.unit_gain(above);
-                node.balance = node.balance.wrapping_add(gain as i128);
                 marks.set_if(other, node.can_rise());
             }
         }
@@ -195,22 +147,25 @@ impl Nodes {
             return false;
         }
         let row = side.links.row(cell);
-        let units = self.units(side, cell, &row, &node);
+        let units = self.units(side, &row, &node);
         if units <= 0 {
             return false;
         }
         let edges = side.links.edges(&row);
         let taken = if units == 1 {
-            self.spread_unit(edges, node.head, marks) as i128
+            self.spread(edges, node.head, marks, |branch, above| {
+                let (loss, gain) = (branch.unit_loss(above), branch.unit_gain(above));
+                (loss as i128, gain as i128)
+            })
         } else {
-            self.spread(edges, node.head, units, marks)
+            self.spread(edges, node.head, marks, |branch, above| {
+                (branch.loss(above, units), branch.gain(above, units))
+            })
         };
         let fall = taken.wrapping_add(side.fall_beside_links(&row, node.head, units));
         let risen = node.after_rise(units, fall);
         put(self.nodes.as_mut_slice(), cell, risen);
-        if risen.can_rise() {
-            marks.set(cell);
-        }
+        marks.set_if(cell, risen.can_rise());
         true
     }
 }

@@ -1,25 +1,54 @@
 // One side of a problem.
-ghost use Rattle.std.specs.Prelude.{◌≡◌, ◌<◌, All, length, take};
-ghost use Rattle.step_problem.specs.{entries_at, IsHead};
+ghost use Rattle.std.specs.Prelude.{◌≡◌};
+ghost use Rattle.step_problem.specs.{IsHead};
 
-use crate::branch::{Known, constant_inflow, known_head};
+use crate::branch::{Branch, Known, turned};
 use crate::links::{Links, Row};
 use crate::ramp::{Ramp, add_ramps};
-use cell_relax::{raise_to, sink_to};
-use multigrid::numbers::{at, long_at};
+use multigrid::numbers::at;
 use star_mesh::Pattern;
 use std::alloc::{AllocError, Global};
 use step_problem::problem::HEAD_LIMIT;
-use step_problem::{Problem, Side};
+use step_problem::{Barrier, Problem, Side};
 
 const LIMIT: i128 = HEAD_LIMIT as i128;
+
+/// The problem of a step, with its barrier and its links.
+#[derive(Drop)]
+pub struct Step<'a> {
+    pub alloc: Global,
+    pub problem: &'a Problem,
+    pub barrier: &'a Barrier,
+    pub links: &'a Links,
+    /// The pattern of the links, if elimination pays.
+    pub pattern: Option<&'a Pattern>,
+}
+
+impl<'a> Step<'a> {
+    pub fn new(
+        alloc: Global,
+        problem: &'a Problem,
+        barrier: &'a Barrier,
+        links: &'a Links,
+        pattern: Option<&'a Pattern>,
+    ) -> Step<'a>
+        ensures { result.problem.now ≡ problem.now }
+    {
+        Step {
+            alloc,
+            problem,
+            barrier,
+            links,
+            pattern,
+        }
+    }
+}
 
 /// One side of a problem, turned so that heads rise: the lower heads above their floor, or the upper heads with
 /// the opposite sign, whose floor is the ceiling.
 #[derive(Drop)]
 pub struct OneSide<'a> {
     pub alloc: Global,
-    problem: &'a Problem,
     pub side: Side,
     pub links: &'a Links,
     /// The pattern of the links, if elimination pays.
@@ -42,50 +71,38 @@ pub fn turned_head(side: Side, head: i64) -> i64
     }
 }
 
-// The heads `around` a cell, in the order of its links, as its balance takes them, and their number.
-fn ends(p: &Problem, side: Side, cell: usize, around: &[i64; 6], ends: &mut [i64; 6]) -> usize
-    requires index { cell < length p.now }
-    requires heads { All IsHead ends.old }
-    ensures count { result ≡ length (entries_at p.now cell).links }
-    ensures heads { All IsHead (take result ends.new) }
-{
-    let _cells = p.len();
-    let links = p.cell(cell).links.as_slice();
-    for i in 0..links.len() {
-        ends[i] = turned_head(side, around[i]);
-    }
-    links.len()
-}
-
 impl OneSide<'_> {
-    /// A side of a problem with its links, above the floor or below the ceiling.
-    pub fn new<'a>(
-        alloc: Global,
-        problem: &'a Problem,
-        side: Side,
-        links: &'a Links,
-        pattern: Option<&'a Pattern>,
-        limits: &[i64],
-    ) -> Result<OneSide<'a>, AllocError> {
+    /// A side of a step's problem, above the floor or below the ceiling.
+    pub fn new<'a>(step: &Step<'a>, side: Side) -> Result<OneSide<'a>, AllocError> {
+        let (alloc, problem, barrier) = (step.alloc, step.problem, step.barrier);
         let mut knowns = Vec::new(alloc);
         let mut ramps = Vec::new(alloc);
         let mut inflows = Vec::with_capacity(alloc, problem.len())?;
         for index in 0..problem.len() {
             let cell = problem.cell(index);
             for fixed in &cell.fixed {
-                knowns.push(known_head(side, fixed))?;
+                knowns.push(Known {
+                    branch: Branch::new(fixed.lo, fixed.hi),
+                    head: turned(side, fixed.head_lo, fixed.head_hi),
+                })?;
             }
             add_ramps(&mut ramps, side, cell)?;
-            inflows.push(constant_inflow(side, cell))?;
+            let flows = cell.flows.iter();
+            inflows.push(match side {
+                Side::Low => flows.fold(0_i128, |sum, flow| sum.wrapping_add(flow.lo)),
+                Side::High => flows.fold(0_i128, |sum, flow| sum.wrapping_sub(flow.hi)),
+            })?;
         }
-        let floor = limits.iter().map(|head| turned_head(side, *head));
+        let limits = match side {
+            Side::Low => barrier.floor.iter(),
+            Side::High => barrier.ceiling.iter(),
+        };
         Ok(OneSide {
             alloc,
-            problem,
             side,
-            links,
-            pattern,
-            floor: floor.collect(alloc)?,
+            links: step.links,
+            pattern: step.pattern,
+            floor: limits.map(|head| turned_head(side, *head)).collect(alloc)?,
             knowns,
             ramps,
             inflows,
@@ -93,7 +110,7 @@ impl OneSide<'_> {
     }
 
     pub fn len(&self) -> usize {
-        self.problem.len()
+        self.links.len()
     }
 
     /// A cell's branches to known heads.
@@ -106,11 +123,19 @@ impl OneSide<'_> {
         row.ramps.of(self.ramps.as_slice())
     }
 
-    /// The balance of a cell without its ramps.
-    pub fn straight_balance(&self, cell: usize, row: &Row, own: i64, heads: &[i64]) -> i128 {
-        let mut sum = long_at(self.inflows.as_slice(), cell);
+    /// The balance of a cell without its ramps, where `around` are the heads of the cells that it is linked with.
+    pub fn straight_balance<F: Fn(usize) -> i64>(
+        &self,
+        cell: usize,
+        row: &Row,
+        own: i64,
+        around: F,
+    ) -> i128
+        requires { F.IsAlwaysCallable around }
+    {
+        let mut sum = at(self.inflows.as_slice(), cell);
         for edge in self.links.edges(row) {
-            let rise = at(heads, edge.other as usize).wrapping_sub(own);
+            let rise = around(edge.other as usize).wrapping_sub(own);
             sum = sum.wrapping_add(edge.branch.inflow(rise));
         }
         for known in self.knowns(row) {
@@ -121,28 +146,15 @@ impl OneSide<'_> {
 
     /// The balance of a cell: the lower one, or the upper one with the opposite sign. It falls in the cell's own head, and the cell may rise
     /// where it is not negative.
-    pub fn balance(&self, cell: usize, heads: &[i64]) -> i128 {
-        let own = at(heads, cell);
+    pub fn balance<F: Fn(usize) -> i64>(&self, cell: usize, own: i64, around: F) -> i128
+        requires { F.IsAlwaysCallable around }
+    {
         let row = self.links.row(cell);
-        let mut sum = self.straight_balance(cell, &row, own, heads);
+        let mut sum = self.straight_balance(cell, &row, own, around);
         for ramp in self.ramps(&row) {
             sum = sum.wrapping_add(ramp.flow(own));
         }
         sum
-    }
-
-    /// The head to which a cell can be raised from `own`, where `around` are the heads of its links' other ends.
-    pub fn raised_amid(&self, cell: usize, own: i64, around: &[i64; 6]) -> i64 {
-        let own = turned_head(self.side, own);
-        if self.problem.len() <= cell {
-            return own;
-        }
-        let mut values = [0; 6];
-        let count = ends(self.problem, self.side, cell, around, &mut values);
-        match self.side {
-            Side::Low => raise_to(self.problem, cell, own, &values[..count]),
-            Side::High => 0_i64.saturating_sub(sink_to(self.problem, cell, own, &values[..count])),
-        }
     }
 
     /// The floor of a cell's head.

@@ -2,11 +2,12 @@
 ghost use Rattle.std.specs.Prelude.{IfOk};
 ghost use Rattle.cell_relax.specs.{AreWords};
 
+use crate::branch::turned;
 use crate::guess::bounds_of;
 use crate::linear::Linear;
 use crate::links::Links;
 use crate::newton::{Until, find_balanced};
-use crate::one_side::{OneSide, turned_head};
+use crate::one_side::{OneSide, Step};
 use crate::rest::leave_rest;
 use crate::steps::{Kept, high_start, low_start};
 use crate::work::Work;
@@ -36,10 +37,10 @@ fn is_straight_to(
     kept: &Option<Linear>,
 ) -> Result<bool, AllocError> {
     let slopes = side.slopes(heads)?;
-    Ok(match kept {
-        Some(linear) => linear.solver.is_near(slopes.as_slice()),
-        None => false,
-    })
+    Ok(
+        kept.as_ref()
+            .is_some_and(|linear| linear.is_near(slopes.as_slice())),
+    )
 }
 
 // The heads at which slopes are left `times` times, from these.
@@ -70,19 +71,19 @@ fn half_pair(
 
 // The upper side: from the lower heads, where balances are straight between the two sides, else from heads near the balanced ones.
 fn high_half(
+    step: &Step,
     work: &mut Work,
     low: &HalfPair,
     kept: &mut Option<Linear>,
 ) -> Result<HalfPair, AllocError> {
-    let side = work.side;
-    let start = high_start(side.alloc, low.lower.as_slice(), &None)?;
-    if is_straight_to(side, start.as_slice(), kept)? {
+    let start = high_start(step, low.lower.as_slice(), &None)?;
+    if is_straight_to(work.side, start.as_slice(), kept)? {
         let half = half_from(work, start, 1, kept)?;
-        if is_straight_to(side, half.lower.as_slice(), kept)? {
+        if is_straight_to(work.side, half.lower.as_slice(), kept)? {
             return Ok(half);
         }
     }
-    let start = high_start(side.alloc, low.near.as_slice(), &None)?;
+    let start = high_start(step, low.near.as_slice(), &None)?;
     half_pair(work, start, kept)
 }
 
@@ -93,58 +94,48 @@ fn wider_half(
     kept: &mut Option<Linear>,
 ) -> Result<HalfPair, AllocError> {
     let side = work.side;
-    let heads = pair.iter().map(|bound| {
-        let head = match side.side {
-            Side::Low => bound.low,
-            Side::High => bound.high,
-        };
-        turned_head(side.side, head)
-    });
+    let heads = pair
+        .iter()
+        .map(|bound| turned(side.side, bound.low, bound.high));
     half_from(work, heads.collect(side.alloc)?, 2, kept)
 }
 
-// Lowers turned heads so that they do not cross those of the other side.
-fn keep_apart(heads: &mut [i64], others: &[i64]) {
-    for (head, other) in heads.iter_mut().zip(others) {
-        *head = (*head).min(0_i64.saturating_sub(*other));
-    }
-}
-
 // Both sides, from balanced heads, or wider than a pair.
-fn pair_of(
+fn pair_of<'a>(
     alloc: Global,
-    p: &Problem,
-    b: &Barrier,
-    links: &Links,
-    pattern: Option<&Pattern>,
+    p: &'a Problem,
+    b: &'a Barrier,
+    links: &'a Links,
+    pattern: Option<&'a Pattern>,
     failed: Option<&[Bound]>,
     visits: u64,
     kept: &mut Option<Linear>,
 ) -> Result<Vec<Bound>, AllocError>
     ensures { IfOk result (λ v. AreWords p.now v.items) }
 {
-    let side = OneSide::new(alloc, p, Side::Low, links, pattern, b.floor.as_slice())?;
+    let step = Step::new(alloc, p, b, links, pattern);
+    let side = OneSide::new(&step, Side::Low)?;
     let mut work = Work::new(&side, visits);
     let low = match failed {
-        None => half_pair(&mut work, low_start(alloc, p, b, &None)?, kept)?,
+        None => half_pair(&mut work, low_start(&step, &None)?, kept)?,
         Some(pair) => wider_half(&mut work, pair, kept)?,
     };
-    let side = OneSide::new(alloc, p, Side::High, links, pattern, b.ceiling.as_slice())?;
+    let side = OneSide::new(&step, Side::High)?;
     let mut work = Work::new(&side, visits);
     let mut high = match failed {
-        None => high_half(&mut work, &low, kept)?,
+        None => high_half(&step, &mut work, &low, kept)?,
         Some(pair) => wider_half(&mut work, pair, kept)?,
     };
-    keep_apart(high.lower.as_mut_slice(), low.lower.as_slice());
+    // They do not cross.
+    for (head, other) in high.lower.iter_mut().zip(low.lower.as_slice()) {
+        *head = (*head).min(0_i64.saturating_sub(*other));
+    }
     bounds_of(alloc, p, low.lower.as_slice(), high.lower.as_slice())
 }
 
 // Whether cycles have left a system unsolved.
 fn is_hard(kept: &Option<Linear>) -> bool {
-    match kept {
-        Some(linear) => linear.is_hard,
-        None => false,
-    }
+    kept.as_ref().is_some_and(|linear| linear.is_hard)
 }
 
 /// Bounds of the heads that may be a certificate of a problem and a barrier: balanced heads, moved outwards so that each balance is about the
@@ -167,10 +158,6 @@ pub fn guess_pair(
             return Ok(pair);
         }
     }
-    let eliminable = kept.find_eliminable(alloc, &links)?;
-    let pattern = eliminable.pattern();
-    let linear = &mut kept.linear;
-    let pair = pair_of(alloc, p, b, &links, pattern, failed, VISITS, linear)?;
-    kept.eliminable = eliminable;
-    Ok(pair)
+    let pattern = kept.eliminable.pattern(alloc, &links)?;
+    pair_of(alloc, p, b, &links, pattern, failed, VISITS, linear)
 }

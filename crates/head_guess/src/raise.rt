@@ -1,21 +1,14 @@
 // Raising heads until nothing moves.
-use crate::marks::{CELLS, Marks, Order, Sweep};
+use crate::marks::{Marks, Sweep};
 use crate::nodes::Nodes;
-use crate::state::State;
 use crate::work::Work;
 use std::alloc::AllocError;
 
-// Turns at the marked cells of one word. Returns whether a cell moved.
-fn turn_word(
-    work: &mut Work,
-    nodes: &mut Nodes,
-    word: usize,
-    order: Order,
-    marks: &mut Marks,
-) -> bool {
+// Turns at all marked cells. Returns whether a cell moved.
+fn sweep(work: &mut Work, nodes: &mut Nodes, is_down: bool, marks: &mut Marks) -> bool {
     let mut moved = false;
-    let mut sweep = Sweep::new(word, order);
-    for _ in 0..CELLS {
+    let mut sweep = Sweep::new(is_down);
+    for _ in 0..u64::MAX {
         let Some(cell) = marks.take_next(&mut sweep) else {
             break;
         };
@@ -25,40 +18,21 @@ fn turn_word(
     moved
 }
 
-// Turns at all marked cells. Returns whether a cell moved.
-fn sweep(work: &mut Work, nodes: &mut Nodes, order: Order, marks: &mut Marks) -> bool {
-    let mut moved = false;
-    let words = marks.len();
-    for k in 0..words {
-        let word = match order {
-            Order::Up => k,
-            Order::Down => words - 1 - k,
-        };
-        if marks.has_any(word) {
-            moved |= turn_word(work, nodes, word, order, marks);
-        }
-    }
-    moved
-}
-
 const MOST_SWEEPS: u32 = 1_000_000;
 
-// Raises heads until nothing moves any more, or the budget ends. Returns whether nothing moves.
-fn raise(work: &mut Work, nodes: &mut Nodes) -> Result<bool, AllocError> {
-    let mut marks = Marks::new(work.side.alloc, work.side.len())?;
-    nodes.mark(&mut marks);
-    let mut order = Order::Up;
+// Raises heads by sweeps up and down over the cells that may rise, until nothing moves any more, or the budget comes to its end. Returns
+// whether nothing moves.
+fn raise(work: &mut Work, nodes: &mut Nodes, end: u64) -> Result<bool, AllocError> {
+    let mut marks = nodes.marks(work.side)?;
     for _ in 0..MOST_SWEEPS {
-        if !sweep(work, nodes, order, &mut marks) {
-            return Ok(true);
+        for is_down in [false, true] {
+            if !sweep(work, nodes, is_down, &mut marks) {
+                return Ok(true);
+            }
+            if work.budget.left <= end {
+                return Ok(false);
+            }
         }
-        if work.budget.is_spent() {
-            break;
-        }
-        order = match order {
-            Order::Up => Order::Down,
-            Order::Down => Order::Up,
-        };
     }
     Ok(false)
 }
@@ -70,32 +44,29 @@ pub struct Raised {
     pub turns: u64,
 }
 
-/// Raises heads, none above its cap, by sweeps up and down over the cells that may rise, until nothing moves or
-/// `turns` turns are made.
+/// Raises heads, none above its cap, until nothing moves or `turns` turns are made.
 pub fn raise_within(
     work: &mut Work,
-    state: &mut State,
+    heads: &mut Vec<i64>,
     caps: Option<&[i64]>,
     turns: u64,
 ) -> Result<Raised, AllocError> {
-    let mut nodes = Nodes::new(work.side, state, caps, u32::MAX)?;
-    let mut part = work.split(turns);
-    let given = part.budget.visits_left();
-    let is_settled = raise(&mut part, &mut nodes)?;
-    nodes.write_to(state);
-    let turns = given.saturating_sub(part.budget.visits_left());
-    work.join(part);
+    let mut nodes = Nodes::new(work.side, heads.as_slice(), caps, u32::MAX)?;
+    let given = work.budget.left;
+    let is_settled = raise(work, &mut nodes, given.saturating_sub(turns))?;
+    *heads = nodes.heads(work.side)?;
+    let turns = given.saturating_sub(work.budget.left);
     Ok(Raised { is_settled, turns })
 }
 
 /// Raises heads, each at most as often, until nothing moves. Returns which have risen as often.
 pub fn raise_counted(
     work: &mut Work,
-    state: &mut State,
+    heads: &mut Vec<i64>,
     rises: u32,
 ) -> Result<Vec<bool>, AllocError> {
-    let mut nodes = Nodes::new(work.side, state, None, rises)?;
-    raise(work, &mut nodes)?;
-    nodes.write_to(state);
+    let mut nodes = Nodes::new(work.side, heads.as_slice(), None, rises)?;
+    raise(work, &mut nodes, 0)?;
+    *heads = nodes.heads(work.side)?;
     nodes.are_spent(work.side)
 }

@@ -1,8 +1,8 @@
 // Rivers, drains and evaporations of a turned side. Each is a ramp: a branch to a head, whose flow no longer changes where the cell's head
 // is below the ramp's foot or above its top.
-use crate::branch::Branch;
+use crate::branch::{Branch, turned};
 use std::alloc::AllocError;
-use step_problem::{Cell, Drain, Evap, River, Side};
+use step_problem::{Cell, Side};
 
 /// The branch, the head at which its flow is 0, and the heads at the foot and at the top.
 #[derive(Clone, Copy)]
@@ -23,22 +23,12 @@ pub struct Bends {
 // Rivers and drains have no top.
 const NO_TOP: i64 = i64::MAX;
 
-// Between the bottom of a river and any head above it, the flow is that of a branch to the stage.
-fn river_ramp(side: Side, river: &River) -> Ramp {
-    let (stage, bottom) = match side {
-        Side::Low => (river.stage_lo, river.bottom_hi),
-        Side::High => (river.stage_hi, river.bottom_lo),
+// What flows out only, from an elevation on. Its greater conductance counts on the lower side.
+fn outlet_ramp(side: Side, lo: u64, hi: u64, elevation: i64, top: i64) -> Ramp {
+    let conductance = match side {
+        Side::Low => hi,
+        Side::High => lo,
     };
-    Ramp {
-        branch: Branch::new(river.lo, river.hi),
-        zero: stage,
-        foot: bottom,
-        top: NO_TOP,
-    }
-}
-
-// What flows out only, from an elevation on.
-fn outlet_ramp(conductance: u64, elevation: i64, top: i64) -> Ramp {
     Ramp {
         branch: Branch::new(conductance, conductance),
         zero: elevation,
@@ -47,30 +37,25 @@ fn outlet_ramp(conductance: u64, elevation: i64, top: i64) -> Ramp {
     }
 }
 
-fn drain_ramp(side: Side, drain: &Drain) -> Ramp {
-    match side {
-        Side::Low => outlet_ramp(drain.hi, drain.elev_lo, NO_TOP),
-        Side::High => outlet_ramp(drain.lo, drain.elev_hi, NO_TOP),
-    }
-}
-
-fn evap_ramp(side: Side, evap: &Evap) -> Ramp {
-    match side {
-        Side::Low => outlet_ramp(evap.hi, evap.ext_lo, evap.surf_hi),
-        Side::High => outlet_ramp(evap.lo, evap.ext_hi, evap.surf_lo),
-    }
-}
-
-/// Adds the ramps of a cell, turned.
+/// Adds the ramps of a cell, turned. Between the bottom of a river and any head above it, the flow is that of a branch to the stage.
 pub fn add_ramps(ramps: &mut Vec<Ramp>, side: Side, cell: &Cell) -> Result<(), AllocError> {
+    let no_top = turned(side, NO_TOP, NO_TOP);
     for river in &cell.rivers {
-        ramps.push(river_ramp(side, river).turn_to(side))?;
+        ramps.push(Ramp {
+            branch: Branch::new(river.lo, river.hi),
+            zero: turned(side, river.stage_lo, river.stage_hi),
+            foot: turned(side, river.bottom_hi, river.bottom_lo),
+            top: no_top,
+        })?;
     }
     for drain in &cell.drains {
-        ramps.push(drain_ramp(side, drain).turn_to(side))?;
+        let elevation = turned(side, drain.elev_lo, drain.elev_hi);
+        ramps.push(outlet_ramp(side, drain.lo, drain.hi, elevation, no_top))?;
     }
     for evap in &cell.evaps {
-        ramps.push(evap_ramp(side, evap).turn_to(side))?;
+        let elevation = turned(side, evap.ext_lo, evap.ext_hi);
+        let surface = turned(side, evap.surf_hi, evap.surf_lo);
+        ramps.push(outlet_ramp(side, evap.lo, evap.hi, elevation, surface))?;
     }
     Ok(())
 }
@@ -84,18 +69,6 @@ fn is_above(side: Side, head: i64, other: i64) -> bool {
 }
 
 impl Ramp {
-    fn turn_to(self, side: Side) -> Ramp {
-        match side {
-            Side::Low => self,
-            Side::High => Ramp {
-                zero: 0_i64.saturating_sub(self.zero),
-                foot: 0_i64.saturating_sub(self.foot),
-                top: 0_i64.saturating_sub(self.top),
-                ..self
-            },
-        }
-    }
-
     // The flow into the cell by the branch alone.
     fn branch_flow(&self, own: i64) -> i128 {
         self.branch.inflow(self.zero.wrapping_sub(own))
@@ -106,17 +79,45 @@ impl Ramp {
         self.branch.unit_loss(own.wrapping_sub(self.zero))
     }
 
+    // The lower and the upper bend.
+    fn ends(&self) -> (i64, i64) {
+        (self.foot.min(self.top), self.foot.max(self.top))
+    }
+
+    // Whether the flow does not change when the cell's head rises by a unit.
+    fn is_flat(&self, own: i64) -> bool {
+        let (least, greatest) = self.ends();
+        own < least || own >= greatest
+    }
+
     /// The flow into the cell at its head.
     pub fn flow(&self, own: i64) -> i128 {
-        let least = self.foot.min(self.top);
-        let greatest = self.foot.max(self.top);
+        let (least, greatest) = self.ends();
         self.branch_flow(own.max(least).min(greatest))
     }
 
     /// How far the flow falls when the cell's head rises by a unit.
     pub fn fall(&self, own: i64) -> i64 {
-        let is_flat = own < self.foot.min(self.top) || own >= self.foot.max(self.top);
-        if is_flat { 0 } else { self.branch_fall(own) }
+        if self.is_flat(own) {
+            0
+        } else {
+            self.branch_fall(own)
+        }
+    }
+
+    /// How far the flow falls at most when the cell's head rises by a unit, up to the next bend.
+    pub fn greatest_fall(&self, own: i64) -> i64 {
+        if self.is_flat(own) { 0 } else { self.branch.hi }
+    }
+
+    /// The next bend above a head, if there is one.
+    pub fn bend_above(&self, own: i64) -> i64 {
+        let (least, greatest) = self.ends();
+        match own {
+            own if own < least => least,
+            own if own < greatest => greatest,
+            _ => i64::MAX,
+        }
     }
 
     /// Whether a head is above the top.

@@ -1,7 +1,6 @@
 // Heads at which a part of each slope is left as a balance.
 use crate::branch::product;
 use crate::linear::Linear;
-use crate::state::State;
 use crate::work::Work;
 use multigrid::numbers::at;
 use std::alloc::AllocError;
@@ -25,7 +24,7 @@ fn corrected_heads(
     heads: &[i64],
     balances: &[i128],
 ) -> Result<Vec<i64>, AllocError> {
-    let unknowns = linear.correction(work, balances, PLACES as i64, BITS);
+    let unknowns = linear.solve(work, balances, PLACES as i64, BITS);
     let way = |cell| 0_i128.saturating_sub((at(unknowns, cell) as i128).wrapping_shr(PLACES));
     work.side.heads_below(heads, way)
 }
@@ -38,16 +37,17 @@ pub fn leave_rest(
     kept: &mut Option<Linear>,
 ) -> Result<Vec<i64>, AllocError> {
     let side = work.side;
-    let mut state = State::new(side, Vec::from_slice(side.alloc, heads)?)?;
     let slopes = side.slopes(heads)?;
-    for (balance, slope) in state.balances.iter_mut().zip(slopes.as_slice()) {
-        *balance = balance.wrapping_sub(rest_of(*slope, times));
+    let mut balances = Vec::with_capacity(side.alloc, heads.len())?;
+    for (cell, slope) in slopes.iter().enumerate() {
+        let balance = side.balance(cell, at(heads, cell), |other| at(heads, other));
+        balances.push(balance.wrapping_sub(rest_of(*slope, times)))?;
     }
     let mut linear = Linear::of(work, slopes.as_slice(), kept.take())?;
-    let mut lower = corrected_heads(work, &mut linear, heads, state.balances.as_slice())?;
-    if !linear.check(BITS) && side.pattern.is_some() {
+    let mut lower = corrected_heads(work, &mut linear, heads, balances.as_slice())?;
+    if !linear.is_solved(BITS) && side.pattern.is_some() {
         linear = Linear::of(work, slopes.as_slice(), Some(linear))?;
-        lower = corrected_heads(work, &mut linear, heads, state.balances.as_slice())?;
+        lower = corrected_heads(work, &mut linear, heads, balances.as_slice())?;
     }
     *kept = Some(linear);
     Ok(lower)

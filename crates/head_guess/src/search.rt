@@ -1,28 +1,16 @@
 // A search for settled heads below balanced ones.
-use crate::extent::{Extent, WHOLE, Width};
+use crate::extent::{Extent, WHOLE};
 use crate::links::Links;
 use crate::raise::raise_within;
-use crate::state::State;
 use crate::work::Work;
 use multigrid::numbers::at;
 use std::alloc::AllocError;
 
-/// Heads near those at which each balance is 0, and the room at each cell there, in units of 2^-10.
-#[derive(Drop)]
-pub struct Balanced {
-    pub heads: Vec<i64>,
-    pub room: Vec<i64>,
-}
-
-/// Settled heads, how far below the balanced ones the search started: by this share of the room, in units of
-/// 2^-20, whether they are so low that falls by a unit cost less than one more trial, and whether few of them are left then.
+/// Settled heads, and how far below the balanced ones the search started: by this share of the room, in units of 2^-20.
 #[derive(Drop)]
 pub struct Settled {
-    pub state: State,
+    pub heads: Vec<i64>,
     pub share: i64,
-    is_low: bool,
-    pub is_near: bool,
-    pub width: Width,
     // The turns in which they settled.
     turns: u64,
 }
@@ -43,42 +31,37 @@ const MOST_TRIALS: u32 = 60;
 // Trials that go up by what the turns of the last one promise; the next ones go four times as far.
 const SURE_TRIALS: u32 = 4;
 
-// The shares between which the search continues: one that settled, or the least, and one that did not, or the whole.
+// A search below balanced heads, where the room is in units of 2^-10.
 #[derive(Drop)]
-struct Search {
+struct Search<'a> {
+    balanced: &'a [i64],
+    room: &'a [i64],
+    extent: &'a Extent,
+    // The shares between which the search continues: one that settled, or the least, and one that did not, or the whole.
     low: i64,
     high: i64,
     trials: u32,
     found: Option<Settled>,
-    extent: Extent,
 }
 
-impl Search {
+impl Search<'_> {
     // One more trial, from this share.
-    fn try_share(
-        &mut self,
-        work: &mut Work,
-        balanced: &Balanced,
-        share: i64,
-    ) -> Result<(), AllocError> {
+    fn try_share(&mut self, work: &mut Work, share: i64) -> Result<(), AllocError> {
         let way = |cell| {
-            let room = at(balanced.room.as_slice(), cell) as i128;
+            let room = at(self.room, cell) as i128;
             (share as i128).wrapping_mul(room).wrapping_shr(30)
         };
-        let heads = work.side.heads_below(balanced.heads.as_slice(), way)?;
-        let mut state = State::new(work.side, heads)?;
-        let turns = self.extent.most_turns(self.found.is_some());
-        let raised = raise_within(work, &mut state, None, turns)?;
+        let mut heads = work.side.heads_below(self.balanced, way)?;
+        let most = self.extent.most_turns(self.found.is_some());
+        let raised = raise_within(work, &mut heads, None, most)?;
+        let turns = raised.turns;
         self.trials = self.trials.saturating_add(1);
         if raised.is_settled {
             self.low = share;
             self.found = Some(Settled {
-                state,
+                heads,
                 share,
-                is_low: self.extent.is_low(raised.turns),
-                is_near: self.extent.is_even(),
-                width: self.extent.width(),
-                turns: raised.turns,
+                turns,
             });
         } else {
             self.high = share;
@@ -104,30 +87,37 @@ impl Search {
         self.low.saturating_add(step.max(1))
     }
 
-    // Whether the heads at both shares are near each other, or the settled ones are low.
+    // Whether the heads at both shares are near each other, or the settled ones are so low that falls by a unit cost less than one more trial.
     fn is_done(&self) -> bool {
         let width = self.high.saturating_sub(self.low);
-        let near = self.extent.are_near(width) && (self.found.is_some() || self.trials > 9);
-        near || width <= 1 || self.found.as_ref().is_some_and(|found| found.is_low)
+        let is_near = width <= 1 || self.extent.are_near(width);
+        match &self.found {
+            Some(found) => is_near || self.extent.is_low(found.turns),
+            None => is_near && self.trials > 9,
+        }
     }
 }
 
-/// Settled heads from balanced ones, with a share of the room that is nearly the greatest possible.
+/// Settled heads from balanced ones and the room, with a share of the room that is nearly the greatest possible.
 pub fn settled_below(
     work: &mut Work,
-    balanced: &Balanced,
+    balanced: &[i64],
+    room: &[i64],
+    extent: &Extent,
     first: i64,
 ) -> Result<Option<Settled>, AllocError> {
     let mut search = Search {
+        balanced,
+        room,
+        extent,
         low: -WHOLE / 4,
         high: WHOLE,
         trials: 0,
         found: None,
-        extent: Extent::new(work.side.links, balanced.room.as_slice()),
     };
     let mut share = first;
     for _ in 0..MOST_TRIALS {
-        search.try_share(work, balanced, share)?;
+        search.try_share(work, share)?;
         if search.is_done() || work.budget.is_spent() {
             break;
         }

@@ -1,10 +1,12 @@
-// Heads that are lowered by a share of the room for each cell.
+// Settled heads by a share of the room for each cell. In a round all cells are tried at once: a share falls where its cell is too low, and
+// rises elsewhere.
 use crate::changes::Changes;
-use crate::raise::raise_counted;
-use crate::solver::Solver;
-use crate::state::State;
+use crate::linear::Linear;
+use crate::raise::{raise_counted, raise_within};
+use crate::system::visits_of_solution;
 use crate::work::Work;
 use multigrid::numbers::at;
+use star_mesh::Pattern;
 use std::alloc::AllocError;
 
 // The bits of a solution below a unit, and those to which its residuals are solved.
@@ -12,17 +14,40 @@ const PLACES: u32 = 10;
 
 const BITS: u32 = 12;
 
-/// Heads that are lowered by a share of the room for each cell, with their balances, and how these shares change.
+// A cell that rises as often in a round is too low: in a round of the cycle, and after it, where shares only fall.
+const RISES: u32 = 4;
+
+const RISES_OF_FALLS: u32 = 8;
+
+// The rounds of the cycle, and at most those after it in which shares only fall.
+const ROUNDS: u32 = 60;
+
+const MOST_FALLS: u32 = 200;
+
+// The visits that a round takes at each cell beside its solution.
+const VISITS: u64 = 11;
+
+// The turns at each cell in which heads settle where no cell is too low.
+const TURNS: u64 = 20;
+
+/// The visits that a cycle takes.
+pub fn visits_of_cycle(pattern: &Pattern) -> u64 {
+    let cells = (pattern.len() as u64).saturating_mul(VISITS);
+    let visits = cells.saturating_add(visits_of_solution(pattern));
+    visits.saturating_mul(ROUNDS as u64)
+}
+
+// Heads that are lowered by a share of the room for each cell, and how these shares change.
 #[derive(Drop)]
-pub struct Shares {
-    solver: Solver,
-    pub changes: Changes,
-    pub state: State,
+struct Shares {
+    linear: Linear,
+    changes: Changes,
+    heads: Vec<i64>,
 }
 
 impl Shares {
-    /// Balanced heads lowered by the same share for all cells, in units of 2^-20. A cell at its floor is held.
-    pub fn new(work: &mut Work, balanced: &[i64], share: i64) -> Result<Shares, AllocError> {
+    // Balanced heads lowered by the same share for all cells, in units of 2^-20. A cell at its floor is held.
+    fn new(work: &mut Work, balanced: &[i64], share: i64) -> Result<Shares, AllocError> {
         let side = work.side;
         let mut slopes = side.slopes(balanced)?;
         for (cell, slope) in slopes.iter_mut().enumerate() {
@@ -31,32 +56,71 @@ impl Shares {
             }
         }
         let mut shares = Shares {
-            solver: Solver::new(work, slopes, side.pattern)?,
+            linear: Linear::new(work, slopes, side.pattern)?,
             changes: Changes::new(side.alloc, balanced.len(), share)?,
-            state: State::new(side, Vec::from_slice(side.alloc, balanced)?)?,
+            heads: Vec::from_slice(side.alloc, balanced)?,
         };
         shares.lower(work)?;
+        shares.changes.begin();
         Ok(shares)
     }
 
-    /// Lowers the heads as the shares change.
-    pub fn lower(&mut self, work: &mut Work) -> Result<(), AllocError> {
+    // Lowers the heads as the shares change.
+    fn lower(&mut self, work: &mut Work) -> Result<(), AllocError> {
         let side = work.side;
-        let flows = self.changes.flows(side.alloc, self.solver.slopes())?;
+        let flows = self
+            .changes
+            .flows(side.alloc, self.linear.slopes.as_slice())?;
         let places = PLACES as i64 - Changes::PLACES;
-        self.solver.set_right_side(flows.as_slice(), places);
-        let unknowns = self.solver.solve(work, 0, BITS);
+        let unknowns = self.linear.solve(work, flows.as_slice(), places, BITS);
         let way = |cell| {
             let unknown = at(unknowns, cell) as i128;
             unknown.wrapping_add(1 << (PLACES - 1)).wrapping_shr(PLACES)
         };
-        let heads = side.heads_below(self.state.heads.as_slice(), way)?;
-        self.state = State::new(side, heads)?;
+        self.heads = side.heads_below(self.heads.as_slice(), way)?;
         Ok(())
     }
 
-    /// Raises the heads, each at most as often, and returns which cells are too low: those that rose as often.
-    pub fn try_all(&mut self, work: &mut Work, rises: u32) -> Result<Vec<bool>, AllocError> {
-        raise_counted(work, &mut self.state, rises)
+    // A cycle: rounds in which shares fall and rise. Those cells are too low that rise as often.
+    fn turn_all(&mut self, work: &mut Work) -> Result<(), AllocError> {
+        for _ in 1..ROUNDS {
+            let are_low = raise_counted(work, &mut self.heads, RISES)?;
+            self.changes.turn(are_low.as_slice());
+            self.lower(work)?;
+        }
+        raise_counted(work, &mut self.heads, RISES)?;
+        Ok(())
     }
+
+    // Rounds in which shares only fall, until the heads settle. Returns whether they do.
+    fn settle(&mut self, work: &mut Work) -> Result<bool, AllocError> {
+        let turns = TURNS.saturating_mul(work.side.len() as u64);
+        self.changes.begin_falls();
+        for _ in 0..MOST_FALLS {
+            let are_low = raise_counted(work, &mut self.heads, RISES_OF_FALLS)?;
+            self.changes.fall(are_low.as_slice());
+            let falls = are_low.contains(&true);
+            if !falls && raise_within(work, &mut self.heads, None, turns)?.is_settled {
+                return Ok(true);
+            }
+            if work.budget.is_spent() {
+                break;
+            }
+            self.lower(work)?;
+        }
+        Ok(false)
+    }
+}
+
+/// Settled heads below balanced ones, by a share for each cell, which is at first the same for all, in units of 2^-20. None where they do not
+/// settle.
+pub fn settled_by_shares(
+    work: &mut Work,
+    balanced: &[i64],
+    share: i64,
+) -> Result<Option<Vec<i64>>, AllocError> {
+    let mut shares = Shares::new(work, balanced, share)?;
+    shares.turn_all(work)?;
+    let is_settled = shares.settle(work)?;
+    Ok(if is_settled { Some(shares.heads) } else { None })
 }

@@ -1,20 +1,10 @@
 // A set of cells that falls as one, unit by unit. Only cells at its edge are visited: some leave it, since they would rise again, and stay
 // where they are; others join it.
-use crate::burn::{Fire, NEVER};
-use crate::links::Row;
-use crate::marks::{CELLS, Marks, Order, Sweep};
+use crate::marks::{Marks, Sweep};
 use crate::one_side::OneSide;
-use crate::spot::{Depth, Pace, REST, Spot};
-use multigrid::numbers::{label, long_at, put};
+use crate::spot::{Depth, NEVER, Spot};
+use multigrid::numbers::{at, label, put};
 use std::alloc::AllocError;
-
-const NO_SPOT: Spot = Spot {
-    sum: 0,
-    rate: 0,
-    head: 0,
-    burnt_at: 0,
-    until: NEVER,
-};
 
 /// All cells, and how far the set has fallen.
 #[derive(Drop)]
@@ -25,10 +15,11 @@ pub struct Sink {
     joining: Vec<u32>,
     leaving: Vec<u32>,
     depth: Depth,
-    // When the next cell burns.
-    next: u32,
+    /// The cells that have left, in their order.
+    pub order: Vec<u32>,
     members: u64,
-    visits: u64,
+    /// The number of cells that were visited.
+    pub visits: u64,
 }
 
 // The nearest number of 64 bits.
@@ -38,8 +29,9 @@ fn clamp_to_long(number: i128) -> i64 {
 }
 
 impl Sink {
-    /// The set of the cells that have not burnt, which falls by at most these units.
-    pub fn new(side: &OneSide, heads: &[i64], fire: &Fire, units: u32) -> Result<Sink, AllocError> {
+    /// The cells of settled heads that do not rise again after all that are not at their floor have fallen by a unit. They are to fall by at
+    /// most these units.
+    pub fn new(side: &OneSide, heads: &[i64], units: u32) -> Result<Sink, AllocError> {
         let alloc = side.alloc;
         let mut sink = Sink {
             spots: Vec::with_capacity(alloc, heads.len())?,
@@ -50,28 +42,38 @@ impl Sink {
                 units: 0,
                 last: units,
             },
-            next: label(fire.order.len()).saturating_add(1),
+            order: Vec::new(alloc),
             members: 0,
             visits: 0,
         };
+        let lowered = |cell| {
+            let head = at(heads, cell);
+            head.wrapping_sub(!side.is_at_floor(cell, head) as i64)
+        };
         for (cell, head) in heads.iter().enumerate() {
-            let spot = Spot {
-                sum: clamp_to_long(long_at(fire.sums.as_slice(), cell)),
+            let falls = !side.is_at_floor(cell, *head);
+            let sum = clamp_to_long(side.balance(cell, *head, &lowered));
+            sink.spots.push(Spot {
+                sum,
                 rate: 0,
                 head: *head,
-                burnt_at: fire.burnt_at(cell),
+                burnt_at: if falls { NEVER } else { 0 },
                 until: 0,
-            };
-            sink.members = sink.members.saturating_add(spot.falls() as u64);
-            sink.spots.push(spot)?;
-            sink.edge.set(cell);
+            })?;
+            sink.edge.set_if(cell, true);
+            sink.members = sink.members.saturating_add(falls as u64);
+            if falls && sum >= 0 {
+                sink.leaving.push(label(cell))?;
+            }
         }
+        sink.settle(side)?;
+        sink.visits = heads.len() as u64;
         Ok(sink)
     }
 
-    /// The number of cells that were visited.
-    pub fn visits(&self) -> u64 {
-        self.visits
+    /// Whether all cells rise again.
+    pub fn is_empty(&self) -> bool {
+        self.members == 0
     }
 
     /// The heads of all cells.
@@ -83,35 +85,31 @@ impl Sink {
     }
 
     fn spot(&self, cell: usize) -> Spot {
-        self.spots.get(cell).copied().unwrap_or(NO_SPOT)
+        self.spots.get(cell).copied().unwrap_or_default()
     }
 
-    // The pace of a cell by itself, where it falls. It ends where the cell comes to its floor.
-    fn own_pace(&self, side: &OneSide, cell: usize, row: &Row, spot: &Spot) -> Pace {
-        if !spot.falls() {
-            return REST;
-        }
-        let own = self.depth.head_of(spot).wrapping_sub(1);
-        let mut until = 0;
-        if row.is_straight() {
-            until = self
-                .depth
-                .within(spot.head.saturating_sub(side.floor(cell)));
-        }
-        for known in side.knowns(row) {
-            until = until.min(self.depth.end_of(own.wrapping_sub(known.head)));
-        }
-        let rate = clamp_to_long(side.fall_beside_links(row, own, 1));
-        Pace { rate, until }
-    }
-
-    // Finds the pace of a cell anew.
-    fn renew_pace(&self, side: &OneSide, cell: usize, spot: &mut Spot) {
+    // Finds anew how the sum of a cell changes by the next unit: until it comes to its floor, or a flow bends.
+    fn renew_rate(&self, side: &OneSide, cell: usize, spot: &mut Spot) {
         let row = side.links.row(cell);
-        spot.set_pace(self.own_pace(side, cell, &row, spot));
+        spot.rate = 0;
+        spot.until = NEVER;
+        if spot.falls() {
+            let own = self.depth.head_of(spot).wrapping_sub(1);
+            let way = spot.head.saturating_sub(side.floor(cell));
+            let until = if row.is_straight() {
+                self.depth.within(way)
+            } else {
+                0
+            };
+            let fall = side.fall_beside_links(&row, own, 1);
+            spot.add_rate(clamp_to_long(fall), until);
+            for known in side.knowns(&row) {
+                spot.add_rate(0, self.depth.end_of(own.wrapping_sub(known.head)));
+            }
+        }
         for edge in side.links.edges(&row) {
             let other = self.spot(edge.other as usize);
-            spot.add_pace(self.depth.pace(edge.branch, spot, &other));
+            self.depth.add_flow(edge.branch, spot, &other);
         }
     }
 
@@ -132,7 +130,7 @@ impl Sink {
     fn visit(&mut self, side: &OneSide, cell: usize) -> Result<(), AllocError> {
         let mut spot = self.spot(cell);
         if spot.until <= self.depth.units.saturating_add(1) {
-            self.renew_pace(side, cell, &mut spot);
+            self.renew_rate(side, cell, &mut spot);
             if spot.falls() {
                 self.leaving.push(label(cell))?;
             }
@@ -140,17 +138,6 @@ impl Sink {
         spot.sum = spot.sum.saturating_add(spot.rate);
         self.visits = self.visits.saturating_add(1);
         self.write(label(cell), spot)
-    }
-
-    fn visit_word(&mut self, side: &OneSide, word: usize) -> Result<(), AllocError> {
-        let mut sweep = Sweep::new(word, Order::Up);
-        for _ in 0..CELLS {
-            let Some(cell) = self.edge.take_next(&mut sweep) else {
-                break;
-            };
-            self.visit(side, cell)?;
-        }
-        Ok(())
     }
 
     // A cell joins the set, if it would not rise again by what those give that have burnt before it.
@@ -162,9 +149,8 @@ impl Sink {
         let then = spot.burnt_at;
         spot.head = spot.head.wrapping_add(self.depth.units as i64);
         spot.burnt_at = NEVER;
-        let row = side.links.row(cell);
-        spot.set_pace(self.own_pace(side, cell, &row, &spot));
-        for edge in side.links.edges(&row) {
+        spot.until = 0;
+        for edge in side.links.edges_at(cell) {
             let mut near = self.spot(edge.other as usize);
             self.depth
                 .join_beside(edge.branch, &mut spot, then, &mut near);
@@ -182,15 +168,15 @@ impl Sink {
         if !spot.falls() || spot.sum < 0 && !side.is_at_floor(cell, own) {
             return Ok(());
         }
+        self.order.push(label(cell))?;
         spot.head = own;
-        spot.burnt_at = self.next;
-        spot.set_pace(REST);
-        for edge in side.links.edges(&side.links.row(cell)) {
+        spot.burnt_at = label(self.order.len());
+        spot.until = 0;
+        for edge in side.links.edges_at(cell) {
             let mut near = self.spot(edge.other as usize);
-            self.depth.leave_beside(edge.branch, &mut spot, &mut near);
+            self.depth.leave_beside(edge.branch, &spot, &mut near);
             self.write(edge.other, near)?;
         }
-        self.next = self.next.saturating_add(1);
         self.members = self.members.saturating_sub(1);
         self.visits = self.visits.saturating_add(1);
         self.write(label(cell), spot)
@@ -215,10 +201,12 @@ impl Sink {
 
     // The set falls by a unit.
     fn fall(&mut self, side: &OneSide) -> Result<(), AllocError> {
-        for word in 0..self.edge.len() {
-            if self.edge.has_any(word) {
-                self.visit_word(side, word)?;
-            }
+        let mut sweep = Sweep::new(false);
+        for _ in 0..u64::MAX {
+            let Some(cell) = self.edge.take_next(&mut sweep) else {
+                break;
+            };
+            self.visit(side, cell)?;
         }
         self.depth.units = self.depth.units.saturating_add(1);
         self.settle(side)
@@ -228,7 +216,7 @@ impl Sink {
     pub fn fall_through(&mut self, side: &OneSide) -> Result<u32, AllocError> {
         for _ in 0..self.depth.last {
             self.fall(side)?;
-            if self.members == 0 {
+            if self.is_empty() {
                 break;
             }
         }

@@ -4,14 +4,16 @@ use crate::one_side::OneSide;
 use crate::ramp::Bends;
 use multigrid::numbers::at;
 use std::alloc::AllocError;
-use step_problem::Side;
 
 impl OneSide<'_> {
-    // How far a balance without its ramps falls when its cell's head rises by a unit from `own`.
-    fn straight_fall(&self, row: &Row, own: i64, heads: &[i64]) -> i64 {
+    // How far a balance without its ramps falls when its cell's head rises by a unit from `own`, where `around` are the heads of the cells
+    // that it is linked with.
+    fn straight_fall<F: Fn(usize) -> i64>(&self, row: &Row, own: i64, around: F) -> i64
+        requires { F.IsAlwaysCallable around }
+    {
         let mut sum = 0_i64;
         for edge in self.links.edges(row) {
-            let above = own.wrapping_sub(at(heads, edge.other as usize));
+            let above = own.wrapping_sub(around(edge.other as usize));
             sum = sum.saturating_add(edge.branch.unit_loss(above));
         }
         for known in self.knowns(row) {
@@ -20,9 +22,11 @@ impl OneSide<'_> {
         sum
     }
 
-    // How far a balance falls when its cell's head rises by a unit from `own`.
-    fn unit_fall(&self, row: &Row, own: i64, heads: &[i64]) -> i64 {
-        let mut sum = self.straight_fall(row, own, heads);
+    /// How far a balance falls when its cell's head rises by a unit from `own`.
+    pub fn unit_fall<F: Fn(usize) -> i64>(&self, row: &Row, own: i64, around: F) -> i64
+        requires { F.IsAlwaysCallable around }
+    {
+        let mut sum = self.straight_fall(row, own, around);
         for ramp in self.ramps(row) {
             sum = sum.saturating_add(ramp.fall(own));
         }
@@ -30,6 +34,7 @@ impl OneSide<'_> {
     }
 
     /// How far a balance falls when its cell's head rises by `units` from `own`, but for what its links take.
+    #[inline]
     pub fn fall_beside_links(&self, row: &Row, own: i64, units: i64) -> i128 {
         let mut sum = 0_i128;
         for known in self.knowns(row) {
@@ -45,29 +50,14 @@ impl OneSide<'_> {
         sum
     }
 
-    /// The greater slope of a balance, to either side of the cell's head.
-    pub fn slope(&self, cell: usize, heads: &[i64]) -> i64 {
-        let row = self.links.row(cell);
-        let own = at(heads, cell);
-        let left = self.unit_fall(&row, own.saturating_sub(1), heads);
-        left.max(self.unit_fall(&row, own, heads)).max(1)
-    }
-
-    /// A head as much higher, before it was turned.
-    pub fn higher(&self, head: i64, units: i64) -> i64 {
-        match self.side {
-            Side::Low => head.saturating_add(units),
-            Side::High => head.saturating_sub(units),
-        }
-    }
-
     /// The balance of a cell and its slope, where its ramps are flat by these bends alone.
     pub fn piece(&self, cell: usize, heads: &[i64], bends: Bends) -> (i128, i64) {
         let row = self.links.row(cell);
         let own = at(heads, cell);
-        let mut balance = self.straight_balance(cell, &row, own, heads);
-        let left = self.straight_fall(&row, own.saturating_sub(1), heads);
-        let mut slope = left.max(self.straight_fall(&row, own, heads));
+        let mut balance = self.straight_balance(cell, &row, own, |other| at(heads, other));
+        let left = self.straight_fall(&row, own.saturating_sub(1), |other| at(heads, other));
+        let right = self.straight_fall(&row, own, |other| at(heads, other));
+        let mut slope = left.max(right);
         for ramp in self.ramps(&row) {
             let (flow, fall) = ramp.piece(self.side, own, bends);
             balance = balance.wrapping_add(flow);
@@ -89,11 +79,14 @@ impl OneSide<'_> {
             != ramp.is_topped(self.side, other))
     }
 
-    /// The slope of each balance.
+    /// The slope of each balance: the greater one to either side of the cell's head.
     pub fn slopes(&self, heads: &[i64]) -> Result<Vec<i64>, AllocError> {
         let mut slopes = Vec::with_capacity(self.alloc, heads.len())?;
-        for cell in 0..heads.len() {
-            slopes.push(self.slope(cell, heads))?;
+        for (cell, own) in heads.iter().enumerate() {
+            let row = self.links.row(cell);
+            let left = self.unit_fall(&row, own.saturating_sub(1), |other| at(heads, other));
+            let right = self.unit_fall(&row, *own, |other| at(heads, other));
+            slopes.push(left.max(right).max(1))?;
         }
         Ok(slopes)
     }

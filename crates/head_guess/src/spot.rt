@@ -1,9 +1,11 @@
 // A cell beside a set that falls as one, or of it: how its balance changes by the next unit, and when others join the set or leave it.
 use crate::branch::Branch;
-use crate::burn::NEVER;
+
+/// When a cell burns that does not.
+pub const NEVER: u32 = u32::MAX;
 
 /// A cell that has burnt, or that falls with the set.
-#[derive(Clone, Copy)]
+#[derive(Clone, Copy, Default)]
 pub struct Spot {
     /// Its balance while all that have not burnt before it are a unit lower.
     pub sum: i64,
@@ -16,19 +18,6 @@ pub struct Spot {
     pub until: u32,
 }
 
-/// How much a sum grows by the next unit, and the first unit with another rate.
-#[derive(Clone, Copy)]
-pub struct Pace {
-    pub rate: i64,
-    pub until: u32,
-}
-
-/// The pace where nothing changes.
-pub const REST: Pace = Pace {
-    rate: 0,
-    until: NEVER,
-};
-
 impl Spot {
     /// Whether it is in the set.
     pub fn falls(&self) -> bool {
@@ -40,21 +29,10 @@ impl Spot {
         self.rate != 0 || self.until != NEVER
     }
 
-    /// Gives it this pace alone.
-    pub fn set_pace(&mut self, pace: Pace) {
-        self.rate = pace.rate;
-        self.until = pace.until;
-    }
-
-    /// Adds a pace.
-    pub fn add_pace(&mut self, pace: Pace) {
-        self.rate = self.rate.saturating_add(pace.rate);
-        self.until = self.until.min(pace.until);
-    }
-
-    // Takes a pace away. It is found anew no later than it was to be.
-    fn subtract_pace(&mut self, pace: Pace) {
-        self.rate = self.rate.saturating_sub(pace.rate);
+    /// Adds a rate, which lasts until a unit.
+    pub fn add_rate(&mut self, rate: i64, until: u32) {
+        self.rate = self.rate.saturating_add(rate);
+        self.until = self.until.min(until);
     }
 }
 
@@ -98,58 +76,39 @@ impl Depth {
         self.head_of(falling).wrapping_sub(burnt.head)
     }
 
-    // The pace of a cell of the set by one that has burnt, as far below.
-    fn growth(&self, branch: Branch, above: i64) -> Pace {
-        let next = above.wrapping_sub(1);
-        Pace {
-            rate: branch.unit_loss(next),
-            until: self.end_of(next),
-        }
-    }
-
-    // The pace of a cell that has burnt by one of the set, as far above.
-    fn loss(&self, branch: Branch, above: i64) -> Pace {
-        let next = above.wrapping_sub(2);
-        Pace {
-            rate: 0_i64.saturating_sub(branch.unit_gain(next)),
-            until: self.end_of(next),
-        }
-    }
-
-    /// The pace of a cell by another one.
-    pub fn pace(&self, branch: Branch, spot: &Spot, other: &Spot) -> Pace {
+    /// Adds the rate of the flow into a cell from another one.
+    pub fn add_flow(&self, branch: Branch, spot: &mut Spot, other: &Spot) {
         match (spot.falls(), other.falls()) {
-            (true, false) => self.growth(branch, self.above(spot, other)),
-            (false, true) => self.loss(branch, self.above(other, spot)),
-            _ => REST,
+            (true, false) => {
+                let next = self.above(spot, other).wrapping_sub(1);
+                spot.add_rate(branch.unit_loss(next), self.end_of(next));
+            }
+            (false, true) => {
+                let next = self.above(other, spot).wrapping_sub(2);
+                let gain = branch.unit_gain(next);
+                spot.add_rate(0_i64.saturating_sub(gain), self.end_of(next));
+            }
+            _ => {}
         }
     }
 
-    /// Changes a cell that has left the set, and one that it is linked with.
-    pub fn leave_beside(&self, branch: Branch, left: &mut Spot, near: &mut Spot) {
+    /// Changes the sum of a cell, where one that it is linked with has left the set.
+    pub fn leave_beside(&self, branch: Branch, left: &Spot, near: &mut Spot) {
+        near.until = 0;
         if near.falls() {
             let above = self.above(near, left);
             near.sum = near.sum.saturating_add(gain_below(branch, above));
-            near.add_pace(self.growth(branch, above));
-            left.add_pace(self.loss(branch, above));
-        } else {
-            let above = left.head.wrapping_sub(near.head);
-            near.subtract_pace(self.loss(branch, above));
         }
     }
 
-    /// Changes a cell that has joined the set, which burnt then, and one that it is linked with.
+    /// Changes the sums of a cell that has joined the set, which burnt then, and of one that it is linked with.
     pub fn join_beside(&self, branch: Branch, joined: &mut Spot, then: u32, near: &mut Spot) {
+        near.until = 0;
         if near.falls() {
             let above = near.head.wrapping_sub(joined.head);
             near.sum = near.sum.saturating_sub(gain_below(branch, above));
-            near.subtract_pace(self.growth(branch, above));
-            return;
-        }
-        let above = self.above(joined, near);
-        joined.add_pace(self.growth(branch, above));
-        near.add_pace(self.loss(branch, above));
-        if near.burnt_at >= then {
+        } else if near.burnt_at >= then {
+            let above = self.above(joined, near);
             let gain = branch.unit_gain(above.wrapping_sub(1));
             joined.sum = joined.sum.saturating_add(gain_below(branch, above));
             near.sum = near.sum.saturating_sub(gain);

@@ -17,17 +17,4 @@ impl<'a> Work<'a> {
             budget: Budget::new(visits, side.len()),
         }
     }
-
-    /// A part of at most `visits` visits, which are taken from this.
-    pub fn split(&mut self, visits: u64) -> Work<'a> {
-        Work {
-            side: self.side,
-            budget: self.budget.split(visits),
-        }
-    }
-
-    /// Gives back what a part has not spent.
-    pub fn join(&mut self, part: Work) {
-        self.budget.join(part.budget);
-    }
 }

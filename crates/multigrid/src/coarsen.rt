@@ -1,8 +1,8 @@
 // The matrix over aggregates: sums of the entries over the members of each (Galerkin, with constants for each
 // aggregate).
-use crate::aggregates::{ALONE, Aggregates, aggregate_of, merge, pairs};
-use crate::matrix::{Matrix, Row};
-use crate::numbers::{label, put};
+use crate::aggregates::{Aggregates, pairs};
+use crate::matrix::Matrix;
+use crate::numbers::{NONE, at, label, label_at, put};
 use std::alloc::{AllocError, Global};
 
 /// The next coarser level: the aggregate of each unknown, and the matrix over aggregates.
@@ -12,77 +12,59 @@ pub struct Coarsening {
     pub matrix: Matrix,
 }
 
-// The members of aggregates as lists: the first member of each aggregate, and the next one after each unknown.
+// A coarser matrix in the making.
 #[derive(Drop)]
-struct Members {
+struct Merger<'a> {
+    matrix: &'a Matrix,
+    of: &'a [u32],
+    // The members of aggregates as lists: the first member of each aggregate, and the next one after each unknown.
     first: Vec<u32>,
     next: Vec<u32>,
+    coarse: Matrix,
+    // The place of the open row's coupling with each aggregate.
+    places: Vec<usize>,
 }
 
-fn list_members(alloc: Global, aggregates: &Aggregates) -> Result<Members, AllocError> {
-    let count = aggregates.of.len();
-    let mut first = vec![in alloc; ALONE; aggregates.count as usize]?;
-    let mut next = vec![in alloc; ALONE; count]?;
-    for i in 0..count {
-        let unknown = count - 1 - i;
-        let aggregate = aggregate_of(aggregates.of.as_slice(), unknown) as usize;
-        put(
-            next.as_mut_slice(),
-            unknown,
-            aggregate_of(first.as_slice(), aggregate),
-        );
-        put(first.as_mut_slice(), aggregate, label(unknown));
-    }
-    Ok(Members { first, next })
-}
-
-// Adds the couplings of a row to the open row of an aggregate. `places` has the place of the coupling with each
-// aggregate. Returns the weight that stays within the aggregate.
-fn add_row(
-    matrix: &Matrix,
-    row: &Row,
-    aggregate: u32,
-    of: &[u32],
-    coarse: &mut Matrix,
-    places: &mut [usize],
-) -> Result<i64, AllocError> {
-    let mut within = 0_i64;
-    for coupling in matrix.couplings(row) {
-        let other = aggregate_of(of, coupling.other as usize);
-        let place = places.get(other as usize).copied().unwrap_or(0);
-        if other == aggregate {
-            within = within.saturating_add(coupling.weight);
-        } else if !coarse.strengthen(place, other, coupling.weight) {
-            let place = coarse.couple(other, coupling.weight)?;
-            put(places, other as usize, place);
+impl Merger<'_> {
+    fn list_members(&mut self) {
+        for unknown in (0..self.of.len()).rev() {
+            let aggregate = label_at(self.of, unknown) as usize;
+            let first = label_at(self.first.as_slice(), aggregate);
+            put(self.next.as_mut_slice(), unknown, first);
+            put(self.first.as_mut_slice(), aggregate, label(unknown));
         }
     }
-    Ok(within)
-}
 
-// Makes the row of an aggregate.
-fn add_aggregate(
-    matrix: &Matrix,
-    aggregate: u32,
-    of: &[u32],
-    members: &Members,
-    coarse: &mut Matrix,
-    places: &mut [usize],
-) -> Result<(), AllocError> {
-    let mut member = aggregate_of(members.first.as_slice(), aggregate as usize);
-    let mut diagonal = 0_i64;
-    for _ in 0..matrix.len() {
-        if member == ALONE {
-            break;
+    // Adds the couplings of an unknown to the open row of its aggregate. Returns what it adds to the diagonal.
+    fn add_member(&mut self, aggregate: u32, unknown: usize) -> Result<i64, AllocError> {
+        let row = self.matrix.row(unknown);
+        let mut diagonal = row.pivot.weight();
+        for coupling in self.matrix.couplings(&row) {
+            let other = label_at(self.of, coupling.other as usize);
+            if other == aggregate {
+                diagonal = diagonal.saturating_sub(coupling.weight);
+                continue;
+            }
+            let place = at(self.places.as_slice(), other as usize);
+            let place = self.coarse.strengthen(place, other, coupling.weight)?;
+            put(self.places.as_mut_slice(), other as usize, place);
         }
-        let row = matrix.row(member as usize);
-        let within = add_row(matrix, &row, aggregate, of, coarse, places)?;
-        diagonal = diagonal
-            .saturating_add(row.pivot.weight())
-            .saturating_sub(within);
-        member = aggregate_of(members.next.as_slice(), member as usize);
+        Ok(diagonal)
     }
-    coarse.close_row(diagonal)
+
+    // Makes the row of an aggregate.
+    fn add_aggregate(&mut self, aggregate: u32) -> Result<(), AllocError> {
+        let mut member = label_at(self.first.as_slice(), aggregate as usize);
+        let mut diagonal = 0_i64;
+        for _ in 0..self.of.len() {
+            if member == NONE {
+                break;
+            }
+            diagonal = diagonal.saturating_add(self.add_member(aggregate, member as usize)?);
+            member = label_at(self.next.as_slice(), member as usize);
+        }
+        self.coarse.close_row(diagonal)
+    }
 }
 
 fn over_aggregates(
@@ -90,20 +72,19 @@ fn over_aggregates(
     matrix: &Matrix,
     aggregates: &Aggregates,
 ) -> Result<Matrix, AllocError> {
-    let members = list_members(alloc, aggregates)?;
-    let mut places = vec![in alloc; 0_usize; aggregates.count as usize]?;
-    let mut coarse = Matrix::new(alloc);
+    let mut merger = Merger {
+        matrix,
+        of: aggregates.of.as_slice(),
+        first: vec![in alloc; NONE; aggregates.count as usize]?,
+        next: vec![in alloc; NONE; matrix.len()]?,
+        coarse: Matrix::new(alloc),
+        places: vec![in alloc; 0_usize; aggregates.count as usize]?,
+    };
+    merger.list_members();
     for aggregate in 0..aggregates.count {
-        add_aggregate(
-            matrix,
-            aggregate,
-            aggregates.of.as_slice(),
-            &members,
-            &mut coarse,
-            places.as_mut_slice(),
-        )?;
+        merger.add_aggregate(aggregate)?;
     }
-    Ok(coarse)
+    Ok(merger.coarse)
 }
 
 /// Aggregates of mostly four unknowns: pairs of pairs. None where no two unknowns are coupled.
@@ -115,9 +96,10 @@ pub fn coarser(alloc: Global, matrix: &Matrix) -> Result<Option<Coarsening>, All
     let halved = over_aggregates(alloc, matrix, &first)?;
     let second = pairs(alloc, &halved, true)?;
     let quartered = over_aggregates(alloc, &halved, &second)?;
-    let aggregates = merge(alloc, first.of.as_slice(), second.of.as_slice())?;
+    let of = second.of.as_slice();
+    let merged = first.of.iter().map(|pair| label_at(of, *pair as usize));
     Ok(Some(Coarsening {
-        aggregates,
+        aggregates: merged.collect(alloc)?,
         matrix: quartered,
     }))
 }

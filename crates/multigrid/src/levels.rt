@@ -1,17 +1,15 @@
-// A system with its levels.
-
+// A system with its levels: multigrid cycles are the preconditioner of conjugate gradients, on each level.
 use crate::budget::Budget;
 use crate::coarsen::coarser;
-use crate::gradients::{advance, begin};
 use crate::matrix::Matrix;
 use crate::scaled::Scaled;
-use crate::smoother::{prolong, restrict, smooth_down, smooth_up};
 use std::alloc::{AllocError, Global};
 
-/// The levels of a system, the finest first.
+/// The levels of a system.
 #[derive(Drop)]
 pub struct Levels {
-    levels: Vec<Level>,
+    finest: Level,
+    coarser: Vec<Level>,
 }
 
 // Each level has at most half the unknowns of the one before.
@@ -20,45 +18,40 @@ const MOST_LEVELS: u32 = 40;
 impl Levels {
     /// The levels over a matrix. Making them takes about as long as 20 visits at each unknown.
     pub fn new(alloc: Global, matrix: Matrix) -> Result<Levels, AllocError> {
-        let mut levels = Vec::new(alloc);
-        let mut matrix = matrix;
+        let mut levels = Levels {
+            finest: Level::new(alloc, matrix, Vec::new(alloc))?,
+            coarser: Vec::new(alloc),
+        };
         for _ in 0..MOST_LEVELS {
-            let Some(next) = coarser(alloc, &matrix)? else {
+            let last = levels.coarser.last().unwrap_or(&levels.finest);
+            let Some(next) = coarser(alloc, &last.matrix)? else {
                 break;
             };
-            levels.push(Level::new(alloc, matrix, next.aggregates)?)?;
-            matrix = next.matrix;
+            let next = Level::new(alloc, next.matrix, next.aggregates)?;
+            levels.coarser.push(next)?;
         }
-        levels.push(Level::new(alloc, matrix, Vec::new(alloc))?)?;
-        Ok(Levels { levels })
+        Ok(levels)
     }
 
     /// The right side of the system, which `solve` uses up.
     pub fn right_side(&mut self) -> &mut [i128] {
-        match self.levels.as_mut_slice().first_mut() {
-            Some(level) => level.residual.as_mut_slice(),
-            None => &mut [],
-        }
+        self.finest.residual.as_mut_slice()
     }
 
     /// An approximate solution of the system: until each row's residual is below 2^bits of its diagonal, by at most `rounds` rounds of conjugate gradients,
     /// and within the budget.
     pub fn solve(&mut self, rounds: u32, bits: u32, budget: &mut Budget) -> &[i64] {
-        solve(self.levels.as_mut_slice(), rounds, bits, budget);
-        match self.levels.as_slice().first() {
-            Some(level) => level.solution.as_slice(),
-            None => &[],
-        }
+        let coarser = self.coarser.as_mut_slice();
+        solve(&mut self.finest, coarser, rounds, bits, budget);
+        self.finest.solution.as_slice()
     }
 }
-
-// One level of a system.
 
 /// A system on one level, and the vectors of conjugate gradients on it.
 #[derive(Drop)]
 pub struct Level {
     pub matrix: Matrix,
-    /// The aggregate of each unknown on the next level; none on the last one.
+    /// The aggregate of each unknown of the level before; none on the first one.
     pub aggregates: Vec<u32>,
     pub solution: Vec<i64>,
     pub residual: Vec<i128>,
@@ -71,7 +64,7 @@ pub struct Level {
 }
 
 impl Level {
-    pub fn new(alloc: Global, matrix: Matrix, aggregates: Vec<u32>) -> Result<Level, AllocError> {
+    fn new(alloc: Global, matrix: Matrix, aggregates: Vec<u32>) -> Result<Level, AllocError> {
         let count = matrix.len();
         Ok(Level {
             matrix,
@@ -86,60 +79,37 @@ impl Level {
     }
 }
 
-// Multigrid cycles as the preconditioner of conjugate gradients, on each level.
-
 // Visits at each unknown in one cycle and one step: two sweeps, a restriction and a product.
 const VISITS: u64 = 4;
 
-// The correction of the finest level: a smoothing, the correction of the next level, and a smoothing back.
+// The correction of a level: a smoothing, the correction of the next level, and a smoothing back.
 #[cycle(multigrid)]
-fn correct(levels: &mut [Level], budget: &mut Budget) {
-    let Some((level, coarser)) = levels.split_first_mut() else {
-        return;
-    };
+fn correct(level: &mut Level, coarser: &mut [Level], budget: &mut Budget) {
     level.correction.as_mut_slice().fill(0);
-    smooth_up(level);
+    level.smooth_up();
     budget.spend(VISITS.saturating_mul(level.matrix.len() as u64));
-    let Some(coarse) = coarser.first_mut() else {
+    let Some((coarse, others)) = coarser.split_first_mut() else {
         return;
     };
-    restrict(level, coarse);
-    let rounds = if coarser.len() == 1 { 1 } else { 2 };
-    solve(coarser, rounds, 0, budget);
-    if let Some(coarse) = coarser.first() {
-        prolong(level, coarse);
-    }
-    smooth_down(level);
+    level.restrict(coarse);
+    let rounds = if others.is_empty() { 1 } else { 2 };
+    solve(coarse, others, rounds, 0, budget);
+    level.prolong(coarse);
+    level.smooth_down();
 }
 
-fn is_solved(levels: &[Level], bits: u32) -> bool {
-    match levels.first() {
-        Some(level) => level.matrix.is_small(level.residual.as_slice(), bits),
-        None => true,
-    }
-}
-
-// One step on the finest level. Returns whether there was a direction.
-fn step(levels: &mut [Level]) -> bool {
-    match levels.first_mut() {
-        Some(level) => advance(level),
-        None => false,
-    }
-}
-
-/// Solves the system of the finest of these levels for its residual, until that is below 2^bits of each pivot,
-/// by at most `rounds` rounds of conjugate gradients, and within the budget. The solution is then in the level.
+// Solves the system of a level for its residual, until that is below 2^bits of each pivot, by at most `rounds` rounds of conjugate gradients,
+// and within the budget. The solution is then in the level.
 #[cycle(multigrid)]
-pub fn solve(levels: &mut [Level], rounds: u32, bits: u32, budget: &mut Budget) {
-    if let Some(level) = levels.first_mut() {
-        begin(level);
-    }
+fn solve(level: &mut Level, coarser: &mut [Level], rounds: u32, bits: u32, budget: &mut Budget) {
+    level.solution.as_mut_slice().fill(0);
+    level.direction.as_mut_slice().fill(0);
     for _ in 0..rounds {
-        if is_solved(levels, bits) || budget.is_spent() {
+        if level.matrix.is_small(level.residual.as_slice(), bits) || budget.is_spent() {
             return;
         }
-        correct(levels, budget);
-        if !step(levels) {
+        correct(level, coarser, budget);
+        if !level.advance() {
             return;
         }
     }

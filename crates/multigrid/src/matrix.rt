@@ -1,5 +1,5 @@
 // A sparse matrix by rows.
-use crate::numbers::{at, clamp_long, long_at};
+use crate::numbers::{at, clamp_long};
 use std::alloc::{AllocError, Global};
 
 /// An entry off the diagonal: the other unknown, and the weight, which is negated in the matrix.
@@ -89,17 +89,20 @@ impl Matrix {
         Ok(place)
     }
 
-    /// Adds to the weight of the open row's coupling with an unknown, if it is at this place.
-    pub fn strengthen(&mut self, place: usize, other: u32, weight: i64) -> bool {
-        if place < self.open || self.couplings.len() <= place {
-            return false;
+    /// Adds to the weight of the open row's coupling with an unknown, if it is at this place; else adds the coupling. Returns its place.
+    pub fn strengthen(
+        &mut self,
+        place: usize,
+        other: u32,
+        weight: i64,
+    ) -> Result<usize, AllocError> {
+        match self.couplings.as_mut_slice().get_mut(place) {
+            Some(coupling) if place >= self.open && coupling.other == other => {
+                coupling.weight = coupling.weight.saturating_add(weight);
+                Ok(place)
+            }
+            _ => self.couple(other, weight),
         }
-        let coupling = &mut self.couplings[place];
-        if coupling.other != other {
-            return false;
-        }
-        coupling.weight = coupling.weight.saturating_add(weight);
-        true
     }
 
     /// Closes the open row with its entry on the diagonal.
@@ -132,7 +135,7 @@ impl Matrix {
     /// What a residual is at an unknown, once the matrix times these unknowns is taken from it.
     pub fn residual_at(&self, unknown: usize, residual: &[i128], unknowns: &[i64]) -> i128 {
         let row = self.row(unknown);
-        long_at(residual, unknown)
+        at(residual, unknown)
             .wrapping_add(self.inflow(&row, unknowns))
             .wrapping_sub(row.pivot.times(at(unknowns, unknown)))
     }

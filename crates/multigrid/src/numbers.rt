@@ -3,14 +3,17 @@
 // No unknown is above 2^60 in magnitude, so that sums of products of weights and unknowns fit.
 const LONGEST: i128 = 1_152_921_504_606_846_976;
 
+/// The label of nothing.
+pub const NONE: u32 = u32::MAX;
+
 /// The number at an index, or 0 past the end.
-pub fn at(xs: &[i64], index: usize) -> i64 {
-    xs.get(index).copied().unwrap_or(0)
+pub fn at<T: Copy + Default>(xs: &[T], index: usize) -> T {
+    xs.get(index).copied().unwrap_or_default()
 }
 
-/// The long number at an index, or 0 past the end.
-pub fn long_at(xs: &[i128], index: usize) -> i128 {
-    xs.get(index).copied().unwrap_or(0)
+/// The label at an index, or none past the end.
+pub fn label_at(xs: &[u32], index: usize) -> u32 {
+    xs.get(index).copied().unwrap_or(NONE)
 }
 
 /// Writes a number at an index, unless that is past the end.

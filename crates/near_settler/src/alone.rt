@@ -54,43 +54,6 @@ impl<S: Guesser> AloneSettler<S> {
             guessing: Guessing::new(guesser),
         }
     }
-
-    // By a guess, and where it is not certified by all the sweeps.
-    fn settle_onward(
-        &self,
-        alloc: Global,
-        p: &Problem,
-        b: &Barrier,
-        reached: Option<Vec<Bound>>,
-    ) -> Result<Vec<Bound>, SettleFault>
-        requires barrier { IsBarrier p.now b.now }
-        requires reached { IfSome reached (λ words. AreOnTheWay p.now b.now words.items) }
-        ensures { Settles p.now b.now self.now.rounds result }
-    {
-        match self.guessing.settle(alloc, p, b) {
-            Ok(bounds) => Ok(bounds),
-            Err(SettleFault::Unfinished(_)) => sweep(alloc, p, b, self.rounds, reached),
-            Err(SettleFault::Memory) => Err(SettleFault::Memory),
-        }
-    }
-
-    // By `first` sweeps, then by a guess, and then by all the sweeps, which go on from the words that the first ones reached.
-    fn settle_first(
-        &self,
-        alloc: Global,
-        p: &Problem,
-        b: &Barrier,
-        first: u32,
-    ) -> Result<Vec<Bound>, SettleFault>
-        requires { IsBarrier p.now b.now }
-        ensures { Settles p.now b.now self.now.rounds result }
-    {
-        match sweep(alloc, p, b, first, None) {
-            Ok(bounds) => Ok(bounds),
-            Err(SettleFault::Unfinished(open)) => self.settle_onward(alloc, p, b, Some(open.words)),
-            Err(SettleFault::Memory) => Err(SettleFault::Memory),
-        }
-    }
 }
 
 impl<S: Guesser> Settler for AloneSettler<S> {
@@ -103,6 +66,7 @@ impl<S: Guesser> Settler for AloneSettler<S> {
     // Any settling may take any state to any other.
     ghost leads = { λ _ _ _ _ _. Unit {0} };
 
+    // By `first` sweeps, then by a guess, and then by all the sweeps, which go on from the words that the first ones reached.
     fn settle(
         &mut self,
         alloc: Global,
@@ -114,9 +78,18 @@ impl<S: Guesser> Settler for AloneSettler<S> {
         if self.rounds <= first {
             return sweep(alloc, p, b, self.rounds, None);
         }
-        if !has_few_cells(cells) && self.guessing.has_guessed() {
-            return self.settle_onward(alloc, p, b, None);
+        let mut reached = None;
+        if has_few_cells(cells) || !self.guessing.has_guessed() {
+            match sweep(alloc, p, b, first, None) {
+                Ok(bounds) => return Ok(bounds),
+                Err(SettleFault::Unfinished(open)) => reached = Some(open.words),
+                Err(SettleFault::Memory) => return Err(SettleFault::Memory),
+            }
         }
-        self.settle_first(alloc, p, b, first)
+        match self.guessing.settle(alloc, p, b) {
+            Ok(bounds) => Ok(bounds),
+            Err(SettleFault::Unfinished(_)) => sweep(alloc, p, b, self.rounds, reached),
+            Err(SettleFault::Memory) => Err(SettleFault::Memory),
+        }
     }
 }

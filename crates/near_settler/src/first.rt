@@ -63,13 +63,14 @@ pub(crate) fn first_plan(plan: Plan, cells: usize) -> Plan
     requires { IsPlan plan }
     ensures { IsPlan result }
 {
-    let rounds = first_phases(cells);
-    if has_few_cells(cells) {
-        return Plan { rounds, ..plan };
-    }
+    let turns = if has_few_cells(cells) {
+        plan.turns_per_cell
+    } else {
+        plan.turns_per_cell.min(SHARED_TURNS)
+    };
     Plan {
-        turns_per_cell: plan.turns_per_cell.min(SHARED_TURNS),
-        rounds,
+        turns_per_cell: turns,
+        rounds: first_phases(cells),
         ..plan
     }
 }

@@ -67,52 +67,10 @@ impl<'a, R: Threads + Sync, G: Gate + Sync, S: Guesser> NearSettler<'a, R, G, S>
         }
     }
 
-    // By a guess, and where it is not certified by the phases of a plan.
-    fn settle_onward(
-        &self,
-        alloc: Global,
-        p: &Problem,
-        b: &Barrier,
-        plan: Plan,
-        reached: Option<Vec<Bound>>,
-    ) -> Result<Vec<Bound>, SettleFault>
-        requires barrier { IsBarrier p.now b.now }
-        requires plan { IsPlan plan }
-        requires reached { IfSome reached (λ words. AreOnTheWay p.now b.now words.items) }
-        ensures { Settles p.now b.now plan.rounds result }
-    {
-        match self.guessing.settle(alloc, p, b) {
-            Ok(bounds) => Ok(bounds),
-            Err(SettleFault::Unfinished(_)) => self.settle_plainly(alloc, p, b, plan, reached),
-            Err(SettleFault::Memory) => Err(SettleFault::Memory),
-        }
-    }
-
-    // By the first phases of a plan, then by a guess, and then by all its phases, which go on from the words that the first ones reached.
-    fn settle_first(
-        &self,
-        alloc: Global,
-        p: &Problem,
-        b: &Barrier,
-        plan: Plan,
-    ) -> Result<Vec<Bound>, SettleFault>
-        requires barrier { IsBarrier p.now b.now }
-        requires plan { IsPlan plan }
-        ensures { Settles p.now b.now plan.rounds result }
-    {
-        let first = first_plan(plan, p.len());
-        match self.settle_plainly(alloc, p, b, first, None) {
-            Ok(bounds) => Ok(bounds),
-            Err(SettleFault::Unfinished(open)) => {
-                self.settle_onward(alloc, p, b, plan, Some(open.words))
-            }
-            Err(SettleFault::Memory) => Err(SettleFault::Memory),
-        }
-    }
-
     /// The one settled pair, or Unfinished only where the plan's number of plain rounds does not settle. A problem of
     /// few cells begins with plain phases, another one with one short phase, but after a problem that a guess settled it has none.
-    /// Then heads are guessed and tried, and then all the plain phases follow. There is at most one worker for each 64 cells.
+    /// Then heads are guessed and tried, and then all the plain phases follow, from the words that the first ones reached.
+    /// There is at most one worker for each 64 cells.
     pub fn settle(&self, alloc: Global, p: &Problem, b: &Barrier) -> Result<Vec<Bound>, SettleFault>
         requires { IsBarrier p.now b.now }
         ensures { Settles p.now b.now self.now.plan.rounds result }
@@ -122,9 +80,18 @@ impl<'a, R: Threads + Sync, G: Gate + Sync, S: Guesser> NearSettler<'a, R, G, S>
         if plan.rounds <= first_phases(cells) {
             return self.settle_plainly(alloc, p, b, plan, None);
         }
-        if !has_few_cells(cells) && self.guessing.has_guessed() {
-            return self.settle_onward(alloc, p, b, plan, None);
+        let mut reached = None;
+        if has_few_cells(cells) || !self.guessing.has_guessed() {
+            match self.settle_plainly(alloc, p, b, first_plan(plan, cells), None) {
+                Ok(bounds) => return Ok(bounds),
+                Err(SettleFault::Unfinished(open)) => reached = Some(open.words),
+                Err(SettleFault::Memory) => return Err(SettleFault::Memory),
+            }
         }
-        self.settle_first(alloc, p, b, plan)
+        match self.guessing.settle(alloc, p, b) {
+            Ok(bounds) => Ok(bounds),
+            Err(SettleFault::Unfinished(_)) => self.settle_plainly(alloc, p, b, plan, reached),
+            Err(SettleFault::Memory) => Err(SettleFault::Memory),
+        }
     }
 }

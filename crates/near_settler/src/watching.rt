@@ -39,31 +39,6 @@ impl<'a, R: Threads + Sync, G: Gate + Sync, S: Guesser> NearSettler<'a, R, G, S>
         }
     }
 
-    // By the first phases of a plan, then by a guess, and then by all its phases, which go on from the words that the first ones reached.
-    fn watch_first<V: Viewer + Send>(
-        &self,
-        alloc: Global,
-        p: &Problem,
-        b: &Barrier,
-        plan: Plan,
-        views: u32,
-        viewer: &mut V,
-    ) -> Result<Vec<Bound>, SettleFault>
-        requires barrier { IsBarrier p.now b.now }
-        requires plan { IsPlan plan }
-        ensures settles { Settles p.now b.now plan.rounds result }
-        ensures viewed { AddsPhases V.viewed V.stopped p.now b.now views (had_memory result) viewer.old viewer.new }
-    {
-        let first = first_plan(plan, p.len());
-        match WatchSettler::new(self.rt, first, self.gate, views).settle(alloc, p, b, viewer) {
-            Ok(bounds) => Ok(bounds),
-            Err(SettleFault::Unfinished(open)) => {
-                self.watch_onward(alloc, p, b, plan, open.words, views, viewer)
-            }
-            Err(SettleFault::Memory) => Err(SettleFault::Memory),
-        }
-    }
-
     /// What `settle` gives, while a viewer watches the plain phases: `views` views in each. A problem of few cells
     /// begins with plain phases, another one with one short phase. Then heads are guessed. The heads of a guess are no
     /// bounds before they are certified, so they are not shown.
@@ -84,6 +59,13 @@ impl<'a, R: Threads + Sync, G: Gate + Sync, S: Guesser> NearSettler<'a, R, G, S>
         if plan.rounds <= first_phases(cells) {
             return WatchSettler::new(self.rt, plan, self.gate, views).settle(alloc, p, b, viewer);
         }
-        self.watch_first(alloc, p, b, plan, views, viewer)
+        let first = first_plan(plan, cells);
+        match WatchSettler::new(self.rt, first, self.gate, views).settle(alloc, p, b, viewer) {
+            Ok(bounds) => Ok(bounds),
+            Err(SettleFault::Unfinished(open)) => {
+                self.watch_onward(alloc, p, b, plan, open.words, views, viewer)
+            }
+            Err(SettleFault::Memory) => Err(SettleFault::Memory),
+        }
     }
 }

@@ -1,6 +1,6 @@
 // Nested dissection: the unknowns before a separator and those after it are ordered first, and the separator's own after these.
-use crate::lists::{range, range_mut};
-use crate::search::{Level, Search};
+use crate::lists::Span;
+use crate::search::Search;
 use multigrid::Matrix;
 use multigrid::numbers::label;
 use std::alloc::{AllocError, Global};
@@ -11,15 +11,8 @@ const FEW: usize = 4;
 // Searches of a part, each from a far unknown of the one before.
 const SEARCHES: u32 = 3;
 
-/// Unknowns that are still to be ordered, as a range of places of the order.
-#[derive(Clone, Copy)]
-struct Part {
-    first: usize,
-    end: usize,
-}
-
 // Whether at least 2/5 of all unknowns are on each side of a level, or the middle one is of it.
-fn is_middle(level: &Level, count: usize) -> bool {
+fn is_middle(level: &Span, count: usize) -> bool {
     let before = level.first;
     let after = count.saturating_sub(level.end);
     let least = (count / 5).saturating_mul(2);
@@ -27,7 +20,7 @@ fn is_middle(level: &Level, count: usize) -> bool {
 }
 
 // The smallest level in the middle. It is not the last one.
-fn separator_of(search: &Search) -> Level {
+fn separator_of(search: &Search) -> Span {
     let count = search.reached.len();
     let mut best = search.level_from(0);
     let mut level = best;
@@ -44,13 +37,14 @@ fn separator_of(search: &Search) -> Level {
     best
 }
 
-// Puts unknowns into an order from a place on. Returns the place after them.
-fn put_from(order: &mut [u32], first: usize, unknowns: &[u32]) -> usize {
-    let end = first.saturating_add(unknowns.len());
-    for (place, unknown) in range_mut(order, first, end).iter_mut().zip(unknowns) {
+// Puts a part of a list into an order from a place on. Returns the places that it takes.
+fn put_from(order: &mut [u32], first: usize, unknowns: &[u32], part: Span) -> Span {
+    let end = first.saturating_add(part.len());
+    let taken = Span::new(first, end);
+    for (place, unknown) in taken.of_mut(order).iter_mut().zip(part.of(unknowns)) {
         *place = *unknown;
     }
-    end
+    taken
 }
 
 // Orders a part: two parts that are still to be ordered, and their separator.
@@ -58,49 +52,35 @@ fn dissect(
     matrix: &Matrix,
     search: &mut Search,
     order: &mut [u32],
-    part: Part,
-) -> Result<[Part; 2], AllocError> {
+    part: Span,
+) -> Result<[Span; 2], AllocError> {
     for _ in 0..SEARCHES {
-        search.search(matrix, range(order, part.first, part.end))?;
+        search.search(matrix, part.of(order))?;
     }
     let reached = search.reached.as_slice();
     let separator = separator_of(search);
-    let middle = put_from(order, part.first, range(reached, 0, separator.first));
-    let end = put_from(order, middle, range(reached, separator.end, reached.len()));
-    put_from(order, end, range(reached, separator.first, separator.end));
-    Ok([
-        Part {
-            first: part.first,
-            end: middle,
-        },
-        Part { first: middle, end },
-    ])
-}
-
-fn unknowns(alloc: Global, count: usize) -> Result<Vec<u32>, AllocError> {
-    let mut unknowns = Vec::with_capacity(alloc, count)?;
-    for unknown in 0..count {
-        unknowns.push(label(unknown))?;
-    }
-    Ok(unknowns)
+    let before = Span::new(0, separator.first);
+    let before = put_from(order, part.first, reached, before);
+    let after = Span::new(separator.end, reached.len());
+    let after = put_from(order, before.end, reached, after);
+    put_from(order, after.end, reached, separator);
+    Ok([before, after])
 }
 
 /// The unknowns of a matrix in the order of elimination.
 pub fn elimination_order(alloc: Global, matrix: &Matrix) -> Result<Vec<u32>, AllocError> {
     let count = matrix.len();
-    let mut order = unknowns(alloc, count)?;
+    let unknowns = (0..count).map(|unknown| label(unknown));
+    let mut order: Vec<u32> = unknowns.collect(alloc)?;
     let mut search = Search::new(alloc, count)?;
     let mut parts = Vec::new(alloc);
-    parts.push(Part {
-        first: 0,
-        end: count,
-    })?;
+    parts.push(Span::new(0, count))?;
     // Each part is smaller than the one that it is of, so that fewer than four for each unknown come.
     for _ in 0..count.saturating_mul(4) {
         let Some(part) = parts.pop() else {
             break;
         };
-        if part.end.saturating_sub(part.first) > FEW {
+        if part.len() > FEW {
             for part in dissect(matrix, &mut search, order.as_mut_slice(), part)? {
                 parts.push(part)?;
             }

@@ -1,8 +1,8 @@
 // Elimination, column by column, of weights and grounds.
-use crate::lists::{NONE, add, label_at, range, range_mut, value};
+use crate::lists::{Span, add};
 use crate::pattern::Pattern;
 use multigrid::Matrix;
-use multigrid::numbers::{label, put, width};
+use multigrid::numbers::{NONE, at, label, label_at, put, width};
 use std::alloc::{AllocError, Global};
 
 /// A part of 1 is this number.
@@ -91,24 +91,25 @@ impl Elimination<'_> {
         add(self.grounds.as_mut_slice(), column, ground);
     }
 
-    // Adds the weights that an earlier column's elimination puts between the open one, which has this entry of it, and later rows.
-    fn add_mesh(&mut self, column: usize, entry: usize, end: usize) {
-        let part = value(self.parts.as_slice(), entry, 0);
-        let weight = share(value(self.diagonals.as_slice(), column, 0), part);
-        let later = entry.saturating_add(1);
-        let rows = self.pattern.rows_between(later, end);
-        let parts = range(self.parts.as_slice(), later, end);
-        for (row, part) in rows.iter().zip(parts) {
+    // Adds the weights that an earlier column's elimination puts between the open one, which has the first of these entries of it, and later
+    // rows. Puts the column into the list of the row of its next entry.
+    fn add_mesh(&mut self, column: usize, entries: Span) {
+        let later = Span::new(entries.first.saturating_add(1), entries.end);
+        let part = at(self.parts.as_slice(), entries.first);
+        let weight = share(at(self.diagonals.as_slice(), column), part);
+        let rows = self.pattern.rows_of(&later).iter();
+        for (row, part) in rows.zip(later.of(self.parts.as_slice())) {
             let weight = share(weight, *part);
             add(self.weights.as_mut_slice(), *row as usize, weight);
         }
+        self.enlist(column, later);
     }
 
-    // Puts a column into the list of the row of its next entry, if it has one.
-    fn enlist(&mut self, column: usize, entry: usize, end: usize) {
-        if entry < end {
-            let row = self.pattern.row(entry);
-            put(self.entries.as_mut_slice(), column, entry);
+    // Puts a column into the list of the row of the first of these entries, if there are any.
+    fn enlist(&mut self, column: usize, entries: Span) {
+        if let Some(row) = self.pattern.rows_of(&entries).first() {
+            let row = *row as usize;
+            put(self.entries.as_mut_slice(), column, entries.first);
             let next = label_at(self.firsts.as_slice(), row);
             put(self.nexts.as_mut_slice(), column, next);
             put(self.firsts.as_mut_slice(), row, label(column));
@@ -123,40 +124,32 @@ impl Elimination<'_> {
                 break;
             }
             let index = earlier as usize;
-            let next = label_at(self.nexts.as_slice(), index);
-            let entry = value(self.entries.as_slice(), index, 0);
-            let (_, end) = self.pattern.entries_of(index);
-            self.add_mesh(index, entry, end);
-            self.enlist(index, entry.saturating_add(1), end);
-            earlier = next;
+            earlier = label_at(self.nexts.as_slice(), index);
+            let first = at(self.entries.as_slice(), index);
+            let end = self.pattern.entries_of(index).end;
+            self.add_mesh(index, Span::new(first, end));
         }
     }
 
-    // The diagonal of the open column.
-    fn diagonal(&self, column: usize) -> u64 {
-        let mut sum = value(self.grounds.as_slice(), column, 0);
-        for row in self.pattern.rows(column) {
-            sum = sum.saturating_add(value(self.weights.as_slice(), *row as usize, 0));
-        }
-        sum.max(1)
-    }
-
-    // Closes the open column: weights become parts, and its ground is shared among its rows by them.
+    // Closes the open column: weights become parts of its diagonal, and its ground is shared among its rows by them.
     fn close(&mut self, column: usize) {
-        let diagonal = self.diagonal(column);
+        let entries = self.pattern.entries_of(column);
+        let rows = self.pattern.rows_of(&entries);
+        let ground = at(self.grounds.as_slice(), column);
+        let diagonal = rows.iter().fold(ground, |sum, row| {
+            sum.saturating_add(at(self.weights.as_slice(), *row as usize))
+        });
+        let diagonal = diagonal.max(1);
         let divisor = Divisor::new(diagonal);
-        let ground = value(self.grounds.as_slice(), column, 0);
-        let (first, end) = self.pattern.entries_of(column);
-        let rows = self.pattern.rows(column);
-        let parts = range_mut(self.parts.as_mut_slice(), first, end);
+        let parts = entries.of_mut(self.parts.as_mut_slice());
         for (row, part) in rows.iter().zip(parts) {
             let row = *row as usize;
-            *part = divisor.part(value(self.weights.as_slice(), row, 0));
+            *part = divisor.part(at(self.weights.as_slice(), row));
             put(self.weights.as_mut_slice(), row, 0);
             add(self.grounds.as_mut_slice(), row, share(ground, *part));
         }
         put(self.diagonals.as_mut_slice(), column, diagonal);
-        self.enlist(column, first, end);
+        self.enlist(column, entries);
     }
 }
 

@@ -1,9 +1,8 @@
 // A system with its factor.
 use crate::elimination::{Elimination, eliminate};
 use crate::pattern::Pattern;
-use crate::substitution::{substitute_back, substitute_forward};
 use multigrid::Matrix;
-use multigrid::numbers::{at, clamp_long, long_at, put, shift};
+use multigrid::numbers::{at, clamp_long, put, shift};
 use std::alloc::{AllocError, Global};
 
 // Solutions of the residual that a solution leaves.
@@ -15,14 +14,14 @@ pub struct Factor {
     matrix: Matrix,
     // Weights of the factor are raised by this number of bits.
     scale: u32,
-    parts: Vec<u64>,
-    diagonals: Vec<u64>,
+    pub parts: Vec<u64>,
+    pub diagonals: Vec<u64>,
     residual: Vec<i128>,
     solution: Vec<i64>,
     correction: Vec<i64>,
     // Right side and unknowns in the order of elimination.
-    flows: Vec<i128>,
-    unknowns: Vec<i64>,
+    pub flows: Vec<i128>,
+    pub unknowns: Vec<i64>,
 }
 
 impl Factor {
@@ -56,18 +55,12 @@ impl Factor {
     // Solves for the residual.
     fn correct(&mut self, pattern: &Pattern) {
         for place in 0..pattern.len() {
-            let flow = long_at(self.residual.as_slice(), pattern.unknown(place));
+            let flow = at(self.residual.as_slice(), pattern.unknown(place));
             let flow = shift(flow, self.scale as i64);
             put(self.flows.as_mut_slice(), place, flow);
         }
-        substitute_forward(pattern, self.parts.as_slice(), self.flows.as_mut_slice());
-        substitute_back(
-            pattern,
-            self.parts.as_slice(),
-            self.diagonals.as_slice(),
-            self.flows.as_slice(),
-            self.unknowns.as_mut_slice(),
-        );
+        self.substitute_forward(pattern);
+        self.substitute_back(pattern);
         for (place, unknown) in self.unknowns.iter().enumerate() {
             let index = pattern.unknown(place);
             put(self.correction.as_mut_slice(), index, *unknown);

@@ -1,9 +1,9 @@
 // The pattern of a factor.
 use crate::dissection::elimination_order;
-use crate::lists::{label_at, range, value};
+use crate::lists::Span;
 use crate::tree::Tree;
 use multigrid::Matrix;
-use multigrid::numbers::{label, put};
+use multigrid::numbers::{at, label, label_at, put};
 use std::alloc::{AllocError, Global};
 
 /// An order of elimination, and the rows of each column of the factor below the diagonal, in ascending order. They depend on
@@ -27,18 +27,19 @@ fn inverse(alloc: Global, order: &[u32]) -> Result<Vec<u32>, AllocError> {
     Ok(places)
 }
 
-// The number of rows of each column.
-fn count_rows(alloc: Global, tree: Tree, columns: usize) -> Result<Vec<usize>, AllocError> {
+// Writes the rows of each column from its start on, if there is room for them. Returns where each column ends.
+fn list_rows(tree: Tree, starts: Vec<usize>, rows: &mut [u32]) -> Result<Vec<usize>, AllocError> {
     let mut tree = tree;
-    let mut counts = vec![in alloc; 0_usize; columns]?;
-    for row in 0..columns {
+    let mut ends = starts;
+    for row in 0..ends.len() {
         for column in tree.add_row(row)? {
-            let count = value(counts.as_slice(), *column as usize, 0);
-            let count = count.saturating_add(1);
-            put(counts.as_mut_slice(), *column as usize, count);
+            let column = *column as usize;
+            let end = at(ends.as_slice(), column);
+            put(rows, end, label(row));
+            put(ends.as_mut_slice(), column, end.saturating_add(1));
         }
     }
-    Ok(counts)
+    Ok(ends)
 }
 
 // Where each column begins in the list of rows, and where the last one ends.
@@ -55,28 +56,10 @@ fn starts_of(alloc: Global, counts: &[usize]) -> Result<Vec<usize>, AllocError> 
 
 // The operations of a factoring: one for each pair of a column's rows.
 fn operations_of(counts: &[usize]) -> u64 {
-    let mut sum = 0_u64;
-    for count in counts {
+    counts.iter().fold(0_u64, |sum, count| {
         let count = *count as u64;
-        sum = sum.saturating_add(count.saturating_mul(count.saturating_add(1)) / 2);
-    }
-    sum
-}
-
-// The list of rows of all columns.
-fn list_rows(alloc: Global, tree: Tree, starts: &[usize]) -> Result<Vec<u32>, AllocError> {
-    let columns = starts.len().saturating_sub(1);
-    let mut tree = tree;
-    let mut ends = Vec::from_slice(alloc, starts)?;
-    let mut rows = vec![in alloc; 0_u32; value(starts, columns, 0)]?;
-    for row in 0..columns {
-        for column in tree.add_row(row)? {
-            let end = value(ends.as_slice(), *column as usize, usize::MAX);
-            put(rows.as_mut_slice(), end, label(row));
-            put(ends.as_mut_slice(), *column as usize, end.saturating_add(1));
-        }
-    }
-    Ok(rows)
+        sum.saturating_add(count.saturating_mul(count.saturating_add(1)) / 2)
+    })
 }
 
 impl Pattern {
@@ -86,14 +69,16 @@ impl Pattern {
         let order = elimination_order(alloc, matrix)?;
         let places = inverse(alloc, order.as_slice())?;
         let tree = Tree::new(alloc, matrix, order.as_slice(), places.as_slice())?;
-        let counts = count_rows(alloc, tree, order.len())?;
+        let none = vec![in alloc; 0_usize; order.len()]?;
+        let counts = list_rows(tree, none, &mut [])?;
         let operations = operations_of(counts.as_slice());
         if operations > most {
             return Ok(None);
         }
         let starts = starts_of(alloc, counts.as_slice())?;
         let tree = Tree::new(alloc, matrix, order.as_slice(), places.as_slice())?;
-        let rows = list_rows(alloc, tree, starts.as_slice())?;
+        let mut rows = vec![in alloc; 0_u32; at(starts.as_slice(), order.len())]?;
+        list_rows(tree, starts.clone()?, rows.as_mut_slice())?;
         Ok(Some(Pattern {
             order,
             places,
@@ -118,26 +103,19 @@ impl Pattern {
         self.rows.len()
     }
 
+    // Whether the pattern has entries for all couplings of a column.
     fn fits_column(&self, matrix: &Matrix, column: usize) -> bool {
-        let rows = self.rows(column);
-        let own = matrix.row(self.unknown(column));
-        for coupling in matrix.couplings(&own) {
+        let rows = self.rows_of(&self.entries_of(column));
+        let row = matrix.row(self.unknown(column));
+        matrix.couplings(&row).iter().all(|coupling| {
             let place = self.place(coupling.other);
-            if place as usize > column && !rows.contains(&place) {
-                return false;
-            }
-        }
-        true
+            place as usize <= column || rows.contains(&place)
+        })
     }
 
     /// Whether a matrix has no couplings that the pattern has no entries for.
     pub fn fits(&self, matrix: &Matrix) -> bool {
-        for column in 0..self.len() {
-            if !self.fits_column(matrix, column) {
-                return false;
-            }
-        }
-        matrix.len() == self.len()
+        matrix.len() == self.len() && (0..self.len()).all(|column| self.fits_column(matrix, column))
     }
 
     /// The unknown that is eliminated in a place.
@@ -150,28 +128,14 @@ impl Pattern {
         label_at(self.places.as_slice(), unknown as usize)
     }
 
-    /// The places of a column's entries: of the first one, and after the last one.
-    pub(crate) fn entries_of(&self, column: usize) -> (usize, usize) {
+    /// The places of a column's entries.
+    pub(crate) fn entries_of(&self, column: usize) -> Span {
         let starts = self.starts.as_slice();
-        (
-            value(starts, column, 0),
-            value(starts, column.saturating_add(1), 0),
-        )
+        Span::new(at(starts, column), at(starts, column.saturating_add(1)))
     }
 
-    /// The rows of a column.
-    pub(crate) fn rows(&self, column: usize) -> &[u32] {
-        let (first, end) = self.entries_of(column);
-        self.rows_between(first, end)
-    }
-
-    /// The row of an entry.
-    pub(crate) fn row(&self, entry: usize) -> usize {
-        label_at(self.rows.as_slice(), entry) as usize
-    }
-
-    /// The rows of entries in these places.
-    pub(crate) fn rows_between(&self, first: usize, end: usize) -> &[u32] {
-        range(self.rows.as_slice(), first, end)
+    /// The rows of entries.
+    pub(crate) fn rows_of(&self, entries: &Span) -> &[u32] {
+        entries.of(self.rows.as_slice())
     }
 }

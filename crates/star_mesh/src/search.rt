@@ -1,21 +1,8 @@
 // Breadth-first search of a part of a matrix's unknowns.
-use crate::lists::{NONE, label_at, range};
+use crate::lists::Span;
 use multigrid::Matrix;
-use multigrid::numbers::put;
+use multigrid::numbers::{NONE, label_at, put};
 use std::alloc::{AllocError, Global};
-
-/// A level of a search, as a range of places of its order.
-#[derive(Clone, Copy)]
-pub struct Level {
-    pub first: usize,
-    pub end: usize,
-}
-
-impl Level {
-    pub fn len(&self) -> usize {
-        self.end.saturating_sub(self.first)
-    }
-}
 
 /// The unknowns that were reached, in the order of the search, and the level of each. Couplings lead to no level but the same one and
 /// the next ones.
@@ -88,17 +75,15 @@ impl Search {
         Ok(())
     }
 
-    /// The level whose first unknown has this place.
-    pub fn level_from(&self, first: usize) -> Level {
-        let count = self.reached.len();
+    /// The level whose first unknown has this place, as places of the order.
+    pub fn level_from(&self, first: usize) -> Span {
+        let end = self.reached.len();
         let level = self.level(label_at(self.reached.as_slice(), first));
-        let mut end = first;
-        for unknown in range(self.reached.as_slice(), first, count) {
-            if self.level(*unknown) != level {
-                break;
-            }
-            end = end.saturating_add(1);
-        }
-        Level { first, end }
+        let later = Span::new(first, end).of(self.reached.as_slice()).iter();
+        let count = later
+            .take_while(|unknown| self.level(**unknown) == level)
+            .count();
+        let end = first.saturating_add(count);
+        Span { first, end }
     }
 }

@@ -1,8 +1,8 @@
 // Substitution with a factor, forward and back. Vectors are in the order of elimination.
 use crate::elimination::WHOLE;
-use crate::lists::{range, value};
+use crate::factor::Factor;
 use crate::pattern::Pattern;
-use multigrid::numbers::{at, clamp_long, long_at, put, width};
+use multigrid::numbers::{at, clamp_long, put, width};
 
 /// A flow by its leading bits.
 #[derive(Clone, Copy)]
@@ -27,24 +27,6 @@ impl Flow {
     }
 }
 
-/// Shares the flow into each unknown among the later ones, as its elimination does.
-pub fn substitute_forward(pattern: &Pattern, parts: &[u64], flows: &mut [i128]) {
-    for column in 0..pattern.len() {
-        let flow = long_at(flows, column);
-        if flow == 0 {
-            continue;
-        }
-        let flow = Flow::new(flow);
-        let (first, end) = pattern.entries_of(column);
-        let rows = pattern.rows_between(first, end);
-        for (row, part) in rows.iter().zip(range(parts, first, end)) {
-            if let Some(other) = flows.get_mut(*row as usize) {
-                *other = other.wrapping_add(flow.part(*part));
-            }
-        }
-    }
-}
-
 // The mean of later unknowns by these parts, rounded to the nearest number.
 fn mean(rows: &[u32], parts: &[u64], unknowns: &[i64]) -> i128 {
     let mut sum = (WHOLE / 2) as i128;
@@ -55,23 +37,37 @@ fn mean(rows: &[u32], parts: &[u64], unknowns: &[i64]) -> i128 {
     sum.wrapping_shr(62)
 }
 
-/// Finds each unknown from the later ones and the flow into it.
-pub fn substitute_back(
-    pattern: &Pattern,
-    parts: &[u64],
-    diagonals: &[u64],
-    flows: &[i128],
-    unknowns: &mut [i64],
-) {
-    let count = pattern.len();
-    for k in 0..count {
-        let column = count - 1 - k;
-        let (first, end) = pattern.entries_of(column);
-        let rows = pattern.rows_between(first, end);
-        let mean = mean(rows, range(parts, first, end), unknowns);
-        let own = long_at(flows, column)
-            .checked_div(value(diagonals, column, 1) as i128)
-            .unwrap_or(0);
-        put(unknowns, column, clamp_long(mean.wrapping_add(own)));
+impl Factor {
+    /// Shares the flow into each unknown among the later ones, as its elimination does.
+    pub fn substitute_forward(&mut self, pattern: &Pattern) {
+        let flows = self.flows.as_mut_slice();
+        for column in 0..pattern.len() {
+            let flow = at(flows, column);
+            if flow == 0 {
+                continue;
+            }
+            let flow = Flow::new(flow);
+            let entries = pattern.entries_of(column);
+            let parts = entries.of(self.parts.as_slice());
+            for (row, part) in pattern.rows_of(&entries).iter().zip(parts) {
+                if let Some(other) = flows.get_mut(*row as usize) {
+                    *other = other.wrapping_add(flow.part(*part));
+                }
+            }
+        }
+    }
+
+    /// Finds each unknown from the later ones and the flow into it.
+    pub fn substitute_back(&mut self, pattern: &Pattern) {
+        let unknowns = self.unknowns.as_mut_slice();
+        for column in (0..pattern.len()).rev() {
+            let entries = pattern.entries_of(column);
+            let parts = entries.of(self.parts.as_slice());
+            let mean = mean(pattern.rows_of(&entries), parts, unknowns);
+            let own = at(self.flows.as_slice(), column)
+                .checked_div(at(self.diagonals.as_slice(), column) as i128)
+                .unwrap_or(0);
+            put(unknowns, column, clamp_long(mean.wrapping_add(own)));
+        }
     }
 }

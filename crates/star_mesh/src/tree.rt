@@ -1,7 +1,6 @@
 // The elimination tree: a column's parent is its first row below the diagonal. It leads from the couplings of a row to the fill in it.
-use crate::lists::{NONE, label_at};
 use multigrid::Matrix;
-use multigrid::numbers::{label, put};
+use multigrid::numbers::{NONE, label, label_at, put};
 use std::alloc::{AllocError, Global};
 
 /// The tree of the rows so far, of a matrix in an order of elimination.
