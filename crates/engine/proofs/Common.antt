@@ -5,7 +5,7 @@ pub use Rattle.std.proofs.Common.{◌++◌, ◌+◌, ◌<◌, ◌∙◌, ◌∷�
 pub use Rattle.std.proofs.lemmas.List.{append-nil, append_assoc, length-map, map-append, take_more}
 pub use Rattle.std.proofs.lemmas.List.Elements.{All-append, All-cons, All-head, All-nil, All-push, All-tail, All-weaker}
 pub use Rattle.std.proofs.lemmas.Result.{err_from_is_err_and}
-pub use Rattle.std.specs.List.{AllZip, concat}
+pub use Rattle.std.specs.List.{AllZip, concat, filter}
 pub use Rattle.std.specs.Prelude.{All, IfErr, is_some, slice_get}
 pub use Rattle.std.specs.declared.alloc.Global.{Global}
 pub use Rattle.std.specs.declared.vec.Vec.{Vec}
@@ -46,8 +46,8 @@ pub use Rattle.listing_run.proofs.Pieces.{alone, beside, beside_by, wanting_not_
 pub use Rattle.listing_run.proofs.Settled.{IsWhole, is_whole, whole_listing}
 pub use Rattle.listing_run.specs.{AllSettledBy, AllSteps, AreSettledBy, EnclosesHistories, HasLargeFlow, IsCutListing, IsListing, IsListingBeside, IsSettledBy}
 pub use Rattle.listing_run.specs.{IsStep, IsTask, ListingExcludesRefusal, ListingIsOne, PairEncloses, Reaches, ReachesFirst, RefusalIsOne, RestsOrSettles}
-pub use Rattle.listing_run.specs.{Steps, deck_task, last_line, left, listed, listing, no_budget, no_heads, no_zones, one_task, pairs_of, rests, settled}
-pub use Rattle.listing_run.specs.{status_of}
+pub use Rattle.listing_run.specs.{Steps, deck_task, faces_of, last_line, left, listed, listing, no_budget, no_heads, no_zones, one_task, pairs_of, rests}
+pub use Rattle.listing_run.specs.{settled, status_of}
 pub use Rattle.listing_run.specs.Settlers.{begun}
 pub use Rattle.listing_run.specs.declared.solving.Step.{Step}
 pub use Rattle.listing_run.specs.declared.steps.Task.{Task}
@@ -84,5 +84,5 @@ pub use Rattle.step_problem.specs.Entries.{Entries}
 pub use Rattle.step_problem.specs.declared.heads.Bound.{Bound}
 pub use Rattle.step_problem.specs.declared.place.NoBound.{NoBound}
 pub use Rattle.view_puts.specs.{AreAllShown, IsStopPut, LeadOn, ViewPuts, no_lead, no_view}
-pub use Rattle.zone_pairs.specs.{AreNumbers, AreZonesOf, pairs_in}
+pub use Rattle.zone_pairs.specs.{AreNumbers, AreZonesOf, pairs_below, pairs_in}
 pub use denote.Ref.{Bor}

@@ -1,7 +1,7 @@
 -- A step whose cells have storage has a floor and a ceiling.
 use Rattle.engine.proofs.Common.{◌≡◌, ◌≢◌, ℕ, Bool, true, cond, List, [], ◌∷◌, Result, Ok, Err, Option, Some, None, inl, inr, sym, ap, subst, arith, ℤ}
 use Rattle.engine.proofs.Common.{if◌then◌else◌, Plain, Limits, Decks, TimeStep, one_deck, Bound, NoBound, Entries, lower_at, upper_at, no_heads, no_budget}
-use Rattle.engine.proofs.Common.{no_zones, Solved, Wide, false, LeavesRange, HasLargeFlow, IsStored, StorageHolds}
+use Rattle.engine.proofs.Common.{no_zones, Solved, Wide, false, LeavesRange, HasLargeFlow, IsStored, StorageHolds, faces_of, refl, filter, pairs_below}
 use Rattle.step_problem.specs.declared.place.Dir.{Dir}
 use Rattle.step_problem.specs.declared.place.Dir.TheVariants.{In, Out}
 use Rattle.step_problem.specs.declared.place.Term.{Term}
@@ -12,12 +12,7 @@ use Rattle.barrier_vector.specs.declared.BarrierFault.TheVariants.{NoBound as AF
 use Rattle.barrier_vector.proofs.Sides.{stored_fault, stored_refusal, unbounded_refuses}
 use Rattle.budget_bounds.specs.{◌>>=◌, all_terms, budget_of, is_small, term_of, term_pair, terms_of, too_large}
 use Rattle.problem_builder.specs.{fault_of}
-use Rattle.listing_run.specs.{faces_of}
-use Rattle.std.proofs.Common.{refl}
-use Rattle.std.specs.List.{filter}
-use Rattle.zone_flows.specs.{each_or_first, flow_or_large, is_small as are_small, pair_flow, share, zone_flows}
-use Rattle.zone_flows.specs.Faces.{Face}
-use Rattle.zone_pairs.specs.{pairs_below}
+use Rattle.zone_flows.specs.{each_or_first, flow_or_large, is_small as are_small, pair_flow, share, zone_flows, Face}
 use Rattle.zone_pairs.specs.declared.pair.ZonePair.{ZonePair}
 
 -- what a refusal is not

@@ -1,7 +1,7 @@
 // Answers as lines.
 use budget_bounds::{Budget, TermPair};
 use certificate_check::Verdict;
-use step_problem::{Barrier, Bound, NoBound, Open, Place, SettleFault};
+use step_problem::{Barrier, Bound, NoBound, Place, SettleFault};
 use test_lines::Page;
 
 // The terms of a budget, in the order of the listing.
@@ -25,25 +25,20 @@ pub fn push_barrier(page: &mut Page, b: &Barrier) {
     page.end();
 }
 
-fn push_open(page: &mut Page, open: &Open) {
-    page.text("open");
-    page.word(open.cell);
-    page.word(open.side);
-    page.bounds("", open.words.as_slice());
-}
-
 /// The settled heads, or the first cell that is left open.
 pub fn push_settled(page: &mut Page, answer: &Result<Vec<Bound>, SettleFault>) {
     match answer {
         Ok(bounds) => page.bounds("settled", bounds.as_slice()),
-        Err(SettleFault::Unfinished(open)) => push_open(page, open),
+        Err(SettleFault::Unfinished(open)) => {
+            page.value(format_args!("open {} {}", open.cell, open.side));
+            page.bounds("", open.words.as_slice());
+        }
         Err(SettleFault::Memory) => page.line("memory"),
     }
 }
 
 pub fn push_fault(page: &mut Page, fault: NoBound) {
-    page.text("refused");
-    page.word(fault.code);
+    page.value(format_args!("refused {}", fault.code));
     match fault.place {
         Place::Cell(id, side) => page.line(format_args!(" cell {id} {side}")),
         Place::Term(dir, term) => page.line(format_args!(" {dir} {term}")),

@@ -98,30 +98,20 @@ pub fn push_entry(cell: &mut Cell, word: &str, n: &[i128]) -> Result<bool, Alloc
     Ok(true)
 }
 
-const ONE: u64 = 1_000_000_000_000;
+const ONE: i128 = 1_000_000_000_000;
 
-const METRE: i64 = 1_000_000_000;
+const METRE: i128 = 1_000_000_000;
 
 /// A cell of a row of `count` cells, each beside a general head of its own, from 0 to 9 in turn.
 pub fn cell_of_row(alloc: Global, index: u32, count: u32) -> Result<Cell, AllocError> {
     let mut cell = empty_cell(alloc, index.wrapping_add(1));
     for other in [index.wrapping_sub(1), index.wrapping_add(1)] {
         if other < count {
-            cell.links.push(Link {
-                cell: other,
-                lo: ONE,
-                hi: ONE,
-            })?;
+            cell.links.push(link(&[i128::from(other), ONE, ONE]))?;
         }
     }
-    let level = (index % 10) as i64 * METRE;
-    cell.fixed.push(Fixed {
-        kind: FixedKind::General,
-        source: cell.id,
-        lo: ONE,
-        hi: ONE,
-        head_lo: level,
-        head_hi: level,
-    })?;
+    let level = i128::from(index % 10) * METRE;
+    let general = fixed_entry(FixedKind::General, cell.id, &[ONE, ONE, level, level]);
+    cell.fixed.push(general)?;
     Ok(cell)
 }

@@ -1,33 +1,24 @@
 // The moves of a seat at a table, after which `shown` is what the seat has seen.
 ghost use Rattle.std.specs.Prelude.{◌≡◌, ◌<◌, length};
 ghost use Rattle.head_table.specs.{IsSeatOf};
+ghost use Rattle.relax_core.specs.{with_head};
 ghost use Rattle.problem_tests.specs.{IsShown};
 
-use cell_relax::relax_in;
+use cell_relax::{relax_in, tighter_of};
 use head_table::{HeadSeat, HeadTable};
 use step_problem::{Bound, Side};
 
-fn look_low(table: &HeadTable, seat: &mut HeadSeat, cell: usize, shown: &mut [Bound]) -> i64
-    requires cell { cell < length table.now.problem.now }
-    requires shown { IsShown table.now seat.old shown.old }
-    ensures { IsShown table.now seat.new shown.new }
+fn show(shown: &mut [Bound], cell: usize, side: Side, head: i64)
+    requires { cell < length shown.old }
+    ensures { shown.new ≡ with_head side shown.old cell head }
 {
-    let low = table.load_low(seat, cell);
-    shown[cell].low = low;
-    low
+    match side {
+        Side::Low => shown[cell].low = head,
+        Side::High => shown[cell].high = head,
+    }
 }
 
-fn look_high(table: &HeadTable, seat: &mut HeadSeat, cell: usize, shown: &mut [Bound]) -> i64
-    requires cell { cell < length table.now.problem.now }
-    requires shown { IsShown table.now seat.old shown.old }
-    ensures { IsShown table.now seat.new shown.new }
-{
-    let high = table.load_high(seat, cell);
-    shown[cell].high = high;
-    high
-}
-
-/// Loads one of the heads of a cell.
+/// Loads the head of a cell on a side.
 pub fn look(
     table: &HeadTable,
     seat: &mut HeadSeat,
@@ -39,37 +30,28 @@ pub fn look(
     requires shown { IsShown table.now seat.old shown.old }
     ensures { IsShown table.now seat.new shown.new }
 {
-    match side {
-        Side::Low => look_low(table, seat, cell, shown),
-        Side::High => look_high(table, seat, cell, shown),
-    }
+    let head = table.load(seat, side, cell);
+    show(shown, cell, side, head);
+    head
 }
 
-/// Raises a cell from what the seat has seen, and returns the head before.
-pub fn raise(table: &HeadTable, seat: &mut HeadSeat, cell: usize, shown: &mut [Bound]) -> i64
+/// Raises or sinks a cell from what the seat has seen, and returns the head before.
+pub fn relax(
+    table: &HeadTable,
+    seat: &mut HeadSeat,
+    cell: usize,
+    side: Side,
+    shown: &mut [Bound],
+) -> i64
     requires cell { cell < length table.now.problem.now }
     requires shown { IsShown table.now seat.old shown.old }
     ensures { IsShown table.now seat.new shown.new }
 {
     let problem = table.problem();
     problem.recall_conditions();
-    let to = relax_in(problem, shown, cell, Side::Low);
-    let found = table.raise(seat, cell, to);
-    shown[cell].low = found.max(to);
-    found
-}
-
-/// Sinks a cell from what the seat has seen, and returns the head before.
-pub fn sink(table: &HeadTable, seat: &mut HeadSeat, cell: usize, shown: &mut [Bound]) -> i64
-    requires cell { cell < length table.now.problem.now }
-    requires shown { IsShown table.now seat.old shown.old }
-    ensures { IsShown table.now seat.new shown.new }
-{
-    let problem = table.problem();
-    problem.recall_conditions();
-    let to = relax_in(problem, shown, cell, Side::High);
-    let found = table.sink(seat, cell, to);
-    shown[cell].high = found.min(to);
+    let to = relax_in(problem, shown, cell, side);
+    let found = table.exchange(seat, side, cell, to);
+    show(shown, cell, side, tighter_of(side, found, to));
     found
 }
 

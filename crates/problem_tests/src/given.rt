@@ -5,34 +5,20 @@ use std::alloc::{AllocError, Global};
 use step_problem::{Bound, Cell, Problem, fits};
 use test_lines::{bounds_of, number_at};
 
-/// The cells so far of a problem that isn't finished; the problem that they make, or that they make none.
-#[derive(Drop)]
-pub enum Stage {
-    Cells(Vec<Cell>),
-    Made(Problem),
-    NoProblem,
-}
-
-/// A problem, bounds of its heads, and moves on them.
+/// The cells so far of a problem that isn't finished, a problem, bounds of its heads, and moves on them.
 #[derive(Drop)]
 pub struct Given {
-    pub stage: Stage,
+    cells: Vec<Cell>,
+    pub problem: Option<Problem>,
     pub bounds: Vec<Bound>,
     pub moves: Vec<Move>,
-}
-
-fn stage_of(cells: Vec<Cell>) -> Stage {
-    if fits(cells.as_slice()) {
-        Stage::Made(Problem::new(cells))
-    } else {
-        Stage::NoProblem
-    }
 }
 
 impl Given {
     pub fn new(alloc: Global) -> Given {
         Given {
-            stage: Stage::Cells(Vec::new(alloc)),
+            cells: Vec::new(alloc),
+            problem: None,
             bounds: Vec::new(alloc),
             moves: Vec::new(alloc),
         }
@@ -45,19 +31,16 @@ impl Given {
         word: &str,
         numbers: &[i128],
     ) -> Result<bool, AllocError> {
-        let Stage::Cells(cells) = &mut self.stage else {
-            return Ok(false);
-        };
+        let count = number_at(numbers, 0);
         match word {
-            "cell" => cells.push(empty_cell(alloc, number_at(numbers, 0)))?,
+            "cell" => self.cells.push(empty_cell(alloc, count))?,
             "row" => {
-                let count = number_at(numbers, 0);
                 for index in 0..count {
-                    cells.push(cell_of_row(alloc, index, count)?)?;
+                    self.cells.push(cell_of_row(alloc, index, count)?)?;
                 }
             }
             _ => {
-                return match cells.last_mut() {
+                return match self.cells.last_mut() {
                     Some(cell) => push_entry(cell, word, numbers),
                     None => Ok(false),
                 };
@@ -89,11 +72,10 @@ impl Given {
     }
 
     /// Makes the problem of the cells so far, if they make one.
-    pub fn finish(&mut self) {
-        let stage = std::mem::replace(&mut self.stage, Stage::NoProblem);
-        self.stage = match stage {
-            Stage::Cells(cells) => stage_of(cells),
-            stage => stage,
-        };
+    pub fn finish(&mut self, alloc: Global) {
+        if self.problem.is_none() && fits(self.cells.as_slice()) {
+            let cells = std::mem::replace(&mut self.cells, Vec::new(alloc));
+            self.problem = Some(Problem::new(cells));
+        }
     }
 }

@@ -70,27 +70,29 @@ impl PairGuesser for SpoiltPair<'_> {
 }
 
 impl<R: Threads + Sync> Case<'_, R> {
-    // The last of so many guesses in two threads.
-    fn push_beside(&self, page: &mut Page, guesses: u32) -> Result<(), AllocError> {
-        let mut kept = Kept::new();
-        for _ in 1..guesses {
-            guess_beside(self.rt, page.alloc(), self.p, self.b, &mut kept)?;
+    // The last of these guesses, each of which begins with what the one before kept: on one thread, or in two.
+    fn push_last(&self, page: &mut Page, is_beside: bool) -> Result<(), AllocError> {
+        let (alloc, mut kept) = (page.alloc(), Kept::new());
+        let mut bounds = Vec::new(alloc);
+        for _ in 0..self.number(0).max(1) {
+            let guess = if is_beside {
+                guess_beside(self.rt, alloc, self.p, self.b, &mut kept)?
+            } else {
+                guess_heads(alloc, self.p, self.b, &mut kept)?
+            };
+            bounds = guess.bounds;
         }
-        let guess = guess_beside(self.rt, page.alloc(), self.p, self.b, &mut kept)?;
-        page.bounds("beside", guess.bounds.as_slice());
+        page.bounds(
+            if is_beside { "beside" } else { "guessed" },
+            bounds.as_slice(),
+        );
         Ok(())
     }
 
-    /// The last of so many guesses, each of which begins with what the one before kept: on one thread, and in two.
+    /// The last of some guesses on one thread, and in two.
     pub fn push_guesses(&self, page: &mut Page) -> Result<(), AllocError> {
-        let guesses = self.number(0);
-        let mut kept = Kept::new();
-        for _ in 1..guesses {
-            guess_heads(page.alloc(), self.p, self.b, &mut kept)?;
-        }
-        let guess = guess_heads(page.alloc(), self.p, self.b, &mut kept)?;
-        page.bounds("guessed", guess.bounds.as_slice());
-        self.push_beside(page, guesses)
+        self.push_last(page, false)?;
+        self.push_last(page, true)
     }
 
     // The pair by these guesses, if one passes, and then the pair of a step that settles by sweeps where none does.

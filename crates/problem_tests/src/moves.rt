@@ -1,19 +1,12 @@
 // The moves of two actors on shared heads, one after the other.
+use relax_core::Event;
 use step_problem::Side;
 use test_lines::{first_word, number_at};
 
-#[derive(Clone, Copy)]
-pub enum Who {
-    First,
-    Second,
-}
-
+/// What an actor does: an event, a watch, nothing but to show what it has seen, or turns of a worker.
 #[derive(Clone, Copy)]
 pub enum Act {
-    Look { cell: u32, side: Side },
-    Raise { cell: u32 },
-    Sink { cell: u32 },
-    Claim,
+    Event(Event),
     Watch,
     Seen,
     Turn { ticket: u32 },
@@ -23,53 +16,49 @@ pub enum Act {
 
 #[derive(Clone, Copy)]
 pub struct Move {
-    pub who: Who,
+    pub is_first: bool,
     pub act: Act,
 }
 
-fn who_of(word: &str) -> Option<Who> {
-    match word {
-        "first" => Some(Who::First),
-        "second" => Some(Who::Second),
-        _ => None,
-    }
-}
-
-fn act_of(word: &str, side: Side, numbers: &[i128]) -> Option<Act> {
-    let first = number_at(numbers, 0);
-    let second = number_at(numbers, 1);
-    match word {
-        "look" => Some(Act::Look { cell: first, side }),
-        "raise" => Some(Act::Raise { cell: first }),
-        "sink" => Some(Act::Sink { cell: first }),
-        "claim" => Some(Act::Claim),
-        "watch" => Some(Act::Watch),
-        "seen" => Some(Act::Seen),
-        "turn" => Some(Act::Turn { ticket: first }),
-        "work" => Some(Act::Work {
-            worker: first,
+fn act_of(word: &str, actor: u32, side: Side, numbers: &[i128]) -> Option<Act> {
+    let (cell, second) = (number_at(numbers, 0), number_at(numbers, 1));
+    let act = match word {
+        "look" => Act::Event(Event::See { actor, cell, side }),
+        "raise" => Act::Event(Event::Raise { actor, cell }),
+        "sink" => Act::Event(Event::Sink { actor, cell }),
+        "claim" => Act::Event(Event::Claim { actor }),
+        "watch" => Act::Watch,
+        "seen" => Act::Seen,
+        "turn" => Act::Turn { ticket: cell },
+        "work" => Act::Work {
+            worker: cell,
             turns: second,
-        }),
-        "own" => Some(Act::Own {
-            worker: first,
+        },
+        "own" => Act::Own {
+            worker: cell,
             workers: second,
-        }),
-        _ => None,
-    }
+        },
+        _ => return None,
+    };
+    Some(act)
 }
 
 impl Move {
     /// The move of a line.
     pub fn of(line: &str, numbers: &[i128]) -> Option<Move> {
         let (word, rest) = first_word(line);
-        let (who, _) = first_word(rest);
-        let who = who_of(who)?;
+        let actor = match first_word(rest).0 {
+            "first" => 0,
+            "second" => 1,
+            _ => return None,
+        };
         let side = if line.ends_with(" HIGH") {
             Side::High
         } else {
             Side::Low
         };
-        let act = act_of(word, side, numbers)?;
-        Some(Move { who, act })
+        let act = act_of(word, actor, side, numbers)?;
+        let is_first = actor == 0;
+        Some(Move { is_first, act })
     }
 }

@@ -3,7 +3,7 @@ use crate::answers::{push_barrier, push_budget, push_fault, push_verdict};
 use crate::batches::push_batch;
 use crate::case::Case;
 use crate::events::push_events;
-use crate::given::{Given, Stage};
+use crate::given::Given;
 use crate::networks::{push_fit, push_network};
 use crate::seats::push_seats;
 use crate::solvers::{push_products, push_system};
@@ -125,10 +125,10 @@ pub fn push_answer<R: Threads + Wait + Sync>(
         "fit" => push_fit(page, numbers),
         "batch" => Ok(push_batch(rt, page, numbers)),
         _ => {
-            given.finish();
-            match &given.stage {
-                Stage::Made(p) => push_of_problem(rt, page, p, given, word, numbers),
-                _ => Ok(page.line("no problem")),
+            given.finish(page.alloc());
+            match &given.problem {
+                Some(p) => push_of_problem(rt, page, p, given, word, numbers),
+                None => Ok(page.line("no problem")),
             }
         }
     }

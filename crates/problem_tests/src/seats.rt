@@ -4,13 +4,14 @@ ghost use Rattle.step_problem.specs.{IsBarrier};
 ghost use Rattle.head_table.specs.{IsSeatOf};
 ghost use Rattle.problem_tests.specs.{IsShown};
 
-use crate::exchanges::{claim, look, raise, sink, watch};
-use crate::moves::{Act, Move, Who};
+use crate::exchanges::{claim, look, relax, watch};
+use crate::moves::{Act, Move};
 use head_table::{HeadSeat, HeadTable, edge_words};
 use outside::FreeGate;
+use relax_core::Event;
 use relax_worker::{own_turns, turn, work};
 use std::alloc::AllocError;
-use step_problem::{Barrier, Bound, Problem};
+use step_problem::{Barrier, Bound, Problem, Side};
 use test_lines::Page;
 
 // A seat, and what it has seen.
@@ -20,7 +21,7 @@ struct Actor {
     shown: Vec<Bound>,
 }
 
-// The turns of a worker. The workers are numbered from 1 to 64.
+// The turns of a worker at a problem with a cell. The workers are numbered from 1 to 64.
 fn take_turns(table: &HeadTable, seat: &mut HeadSeat, act: Act)
     requires seat { IsSeatOf table.now seat.old }
     requires some_cell { 0 < length table.now.problem.now }
@@ -29,32 +30,35 @@ fn take_turns(table: &HeadTable, seat: &mut HeadSeat, act: Act)
     match act {
         Act::Turn { ticket } => turn(table, seat, ticket as u64),
         Act::Work { worker, turns } => work(table, seat, worker, turns, &FreeGate),
-        Act::Own { worker, workers } => {
-            if 1 <= worker && worker <= workers && workers <= 64 {
-                own_turns(table, seat, worker, workers);
-            }
+        Act::Own { worker, workers } if 1 <= worker && worker <= workers && workers <= 64 => {
+            own_turns(table, seat, worker, workers);
         }
         _ => {}
     }
 }
 
-// What a move at one cell finds.
+// What an event at a cell finds, if there is the cell.
 fn found_at(
     table: &HeadTable,
     seat: &mut HeadSeat,
-    cell: usize,
     shown: &mut [Bound],
-    act: Act,
-) -> i64
-    requires cell { cell < length table.now.problem.now }
-    requires shown { IsShown table.now seat.old shown.old }
+    event: Event,
+) -> Option<i64>
+    requires { IsShown table.now seat.old shown.old }
     ensures { IsShown table.now seat.new shown.new }
 {
-    match act {
-        Act::Raise { .. } => raise(table, seat, cell, shown),
-        Act::Sink { .. } => sink(table, seat, cell, shown),
-        Act::Look { side, .. } => look(table, seat, cell, side, shown),
-        _ => 0,
+    let cells = table.problem().len();
+    match event {
+        Event::See { cell, side, .. } if (cell as usize) < cells => {
+            Some(look(table, seat, cell as usize, side, shown))
+        }
+        Event::Raise { cell, .. } if (cell as usize) < cells => {
+            Some(relax(table, seat, cell as usize, Side::Low, shown))
+        }
+        Event::Sink { cell, .. } if (cell as usize) < cells => {
+            Some(relax(table, seat, cell as usize, Side::High, shown))
+        }
+        _ => None,
     }
 }
 
@@ -63,23 +67,18 @@ fn make_move(page: &mut Page, table: &HeadTable, seat: &mut HeadSeat, shown: &mu
     requires { IsShown table.now seat.old shown.old }
     ensures { IsShown table.now seat.new shown.new }
 {
-    let cells = table.problem().len();
     match act {
-        Act::Look { cell, .. } | Act::Raise { cell } | Act::Sink { cell } => {
-            let cell = cell as usize;
-            if cell >= cells {
-                return page.line("no cell");
-            }
-            let found = found_at(table, seat, cell, shown, act);
-            page.line(format_args!("found {found}"));
+        Act::Event(Event::Claim { .. }) => {
+            let ticket = claim(table, seat, shown);
+            page.line(format_args!("ticket {ticket}"));
         }
-        Act::Claim => {
-            let found = claim(table, seat, shown);
-            page.line(format_args!("ticket {found}"));
-        }
+        Act::Event(event) => match found_at(table, seat, shown, event) {
+            Some(found) => page.line(format_args!("found {found}")),
+            None => page.line("no cell"),
+        },
         Act::Seen => page.bounds("seen", shown),
         _ => {
-            if cells > 0 {
+            if !table.problem().is_empty() {
                 take_turns(table, seat, act);
             }
             watch(table, seat, shown);
@@ -104,9 +103,10 @@ fn play(page: &mut Page, table: &HeadTable, first: &mut Actor, second: &mut Acto
     ensures second { IsShown table.now second.new.seat second.new.shown.items }
 {
     for next in moves {
-        match next.who {
-            Who::First => first.make(page, table, next.act),
-            Who::Second => second.make(page, table, next.act),
+        if next.is_first {
+            first.make(page, table, next.act);
+        } else {
+            second.make(page, table, next.act);
         }
     }
 }

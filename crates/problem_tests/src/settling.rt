@@ -99,16 +99,8 @@ impl<R: Threads + Sync> Case<'_, R> {
     {
         let gate = CountingGate::new();
         let settler = ThreadSettler::new(self.rt, plan, &gate);
-        let answer = settler.settle(page.alloc(), self.p, self.b);
-        push_settled(page, &answer);
+        push_settled(page, &settler.settle(page.alloc(), self.p, self.b));
         page.line(format_args!("passes {}", gate.passes.get()));
-    }
-
-    fn push_workers(&self, page: &mut Page, plan: Plan)
-        requires { IsPlan plan }
-    {
-        let answer = settle(self.rt, page.alloc(), self.p, self.b, plan, &FreeGate);
-        push_settled(page, &answer);
     }
 
     /// By a plan, which is the first three numbers.
@@ -122,7 +114,10 @@ impl<R: Threads + Sync> Case<'_, R> {
             return page.line("no plan");
         }
         match self.question {
-            "workers" => self.push_workers(page, plan),
+            "workers" => {
+                let answer = settle(self.rt, page.alloc(), self.p, self.b, plan, &FreeGate);
+                push_settled(page, &answer);
+            }
             "phases" => self.push_phases(page, plan),
             "run" => self.push_run(page, plan, 1),
             "spoilt" => self.push_from_spoilt(page, plan),
