@@ -11,9 +11,6 @@ pub struct Changes {
     longest: i64,
 }
 
-// The longest step of all.
-const LONGEST: i64 = 1 << 26;
-
 // The shortest step beside the longest, and the shortest of all in which shares only fall.
 const BITS_OF_STEPS: u32 = 8;
 
@@ -36,12 +33,15 @@ fn longer_step(step: i64, percent: i64) -> i64 {
 impl Changes {
     pub const PLACES: i64 = 30;
 
-    /// Each share becomes this one, in units of 2^-20, and all steps are the longest.
+    /// The longest step of all.
+    pub const LONGEST: i64 = 1 << 26;
+
+    /// Each share becomes this one, in units of 2^-20.
     pub fn new(alloc: Global, cells: usize, share: i64) -> Result<Changes, AllocError> {
         Ok(Changes {
-            steps: vec![in alloc; LONGEST; cells]?,
+            steps: vec![in alloc; 0; cells]?,
             changes: vec![in alloc; share.saturating_mul(1 << 10); cells]?,
-            longest: LONGEST,
+            longest: 0,
         })
     }
 
@@ -53,8 +53,10 @@ impl Changes {
             .collect(alloc)
     }
 
-    /// All shares stay.
-    pub fn begin(&mut self) {
+    /// All steps are as long.
+    pub fn begin(&mut self, longest: i64) {
+        self.longest = longest;
+        self.steps.as_mut_slice().fill(longest);
         self.changes.as_mut_slice().fill(0);
     }
 
@@ -93,7 +95,7 @@ impl Changes {
             if *is_low {
                 *change = 0_i64.saturating_sub(*step);
                 let next = longer_step(*step, GROWTH_OF_FALLS).saturating_add(1);
-                *step = next.min(LONGEST);
+                *step = next.min(Changes::LONGEST);
             }
         }
     }

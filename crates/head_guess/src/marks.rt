@@ -7,30 +7,28 @@ pub struct Marks {
     words: Vec<u64>,
 }
 
-/// A sweep over the cells in ascending order, or in descending order.
+/// The cells of one word.
+pub const CELLS: usize = 64;
+
+/// A sweep over the cells of a word in ascending order, or in descending order.
 #[derive(Clone, Copy)]
 pub struct Sweep {
+    word: usize,
     is_down: bool,
-    // The words that it has passed, and the places of the next one that it has not.
-    passed: usize,
+    // The places that it has not passed.
     open: u64,
 }
 
-// The cells of one word, and all their places.
-const CELLS: usize = 64;
-
-const ALL: u64 = u64::MAX;
-
 impl Sweep {
-    pub fn new(is_down: bool) -> Sweep {
+    pub fn new(word: usize, is_down: bool) -> Sweep {
         Sweep {
+            word,
             is_down,
-            passed: 0,
-            open: ALL,
+            open: u64::MAX,
         }
     }
 
-    // Of these places of a word, the next one of the sweep, which it passes.
+    // Of these places, the next one of the sweep, which it passes.
     fn pass_place(&mut self, places: u64) -> u32 {
         if self.is_down {
             let place = 63_u32.saturating_sub(places.leading_zeros());
@@ -38,7 +36,7 @@ impl Sweep {
             return place;
         }
         let place = places.trailing_zeros();
-        self.open = ALL.wrapping_shl(place).wrapping_shl(1);
+        self.open = u64::MAX.wrapping_shl(place).wrapping_shl(1);
         place
     }
 }
@@ -50,6 +48,16 @@ impl Marks {
         })
     }
 
+    /// The number of words.
+    pub fn len(&self) -> usize {
+        self.words.len()
+    }
+
+    /// Whether a word has a cell.
+    pub fn has_any(&self, word: usize) -> bool {
+        self.words.get(word).is_some_and(|word| *word != 0)
+    }
+
     /// Adds a cell if `is_in`.
     pub fn set_if(&mut self, cell: usize, is_in: bool) {
         if let Some(word) = self.words.as_mut_slice().get_mut(cell / CELLS) {
@@ -59,24 +67,14 @@ impl Marks {
 
     /// Removes the next cell of a sweep from the set, and returns it. Cells that the sweep has passed are left.
     pub fn take_next(&mut self, sweep: &mut Sweep) -> Option<usize> {
-        let count = self.words.len();
-        for passed in sweep.passed..count {
-            let index = if sweep.is_down {
-                count - 1 - passed
-            } else {
-                passed
-            };
-            let word = self.words.as_mut_slice().get_mut(index)?;
-            let places = *word & sweep.open;
-            if places != 0 {
-                let place = sweep.pass_place(places);
-                *word &= !1_u64.wrapping_shl(place);
-                sweep.passed = passed;
-                return Some(index.saturating_mul(CELLS).saturating_add(place as usize));
-            }
-            sweep.open = ALL;
+        let word = self.words.as_mut_slice().get_mut(sweep.word)?;
+        let places = *word & sweep.open;
+        if places == 0 {
+            return None;
         }
-        sweep.passed = count;
-        None
+        let place = sweep.pass_place(places);
+        *word &= !1_u64.wrapping_shl(place);
+        let first = sweep.word.saturating_mul(CELLS);
+        Some(first.saturating_add(place as usize))
     }
 }

@@ -1,5 +1,4 @@
 // Cells with their balances, while heads are raised.
-use crate::branch::Branch;
 use crate::links::{Edge, Row};
 use crate::marks::Marks;
 use crate::one_side::OneSide;
@@ -102,9 +101,11 @@ impl Nodes {
     fn units(&self, side: &OneSide, row: &Row, node: &Node) -> i64 {
         let mut greatest = row.greatest;
         let mut cap = node.cap;
-        for ramp in side.ramps(row) {
-            greatest = greatest.saturating_add(ramp.greatest_fall(node.head));
-            cap = cap.min(ramp.bend_above(node.head));
+        if !row.is_straight() {
+            for ramp in side.ramps(row) {
+                greatest = greatest.saturating_add(ramp.greatest_fall(node.head));
+                cap = cap.min(ramp.bend_above(node.head));
+            }
         }
         let long = greatest as i128;
         let units = if node.balance >= long.wrapping_mul(2) {
@@ -116,24 +117,33 @@ impl Nodes {
         units.min(cap.wrapping_sub(node.head))
     }
 
-    // Changes the balances of the cells that a cell is linked with for its rise, and marks those that may rise: by what a branch takes from
-    // the cell and gives to the other, above which it stood so far. Returns what the links take from the cell's balance.
-    fn spread<F: Fn(Branch, i64) -> (i128, i128)>(
-        &mut self,
-        edges: &[Edge],
-        head: i64,
-        marks: &mut Marks,
-        flows: F,
-    ) -> i128
-        requires { F.IsAlwaysCallable flows }
-    {
+    // Changes the balances of the cells that a cell is linked with for its rise, and marks those that may rise. Returns what the links take
+    // from the cell's balance.
+    fn spread(&mut self, edges: &[Edge], head: i64, units: i64, marks: &mut Marks) -> i128 {
         let mut taken = 0_i128;
         for edge in edges {
             let other = edge.other as usize;
             if let Some(node) = self.nodes.as_mut_slice().get_mut(other) {
-                let (loss, gain) = flows(edge.branch, head.wrapping_sub(node.head));
-                taken = taken.wrapping_add(loss);
+                let above = head.wrapping_sub(node.head);
+                taken = taken.wrapping_add(edge.branch.loss(above, units));
+                let gain = edge.branch.gain(above, units);
                 node.balance = node.balance.wrapping_add(gain);
+                marks.set_if(other, node.can_rise());
+            }
+        }
+        taken
+    }
+
+    // The same where the cell rises by one unit.
+    fn spread_unit(&mut self, edges: &[Edge], head: i64, marks: &mut Marks) -> i64 {
+        let mut taken = 0_i64;
+        for edge in edges {
+            let other = edge.other as usize;
+            if let Some(node) = self.nodes.as_mut_slice().get_mut(other) {
+                let above = head.wrapping_sub(node.head);
+                taken = taken.wrapping_add(edge.branch.unit_loss(above));
+                let gain = edge.branch.unit_gain(above);
+                node.balance = node.balance.wrapping_add(gain as i128);
                 marks.set_if(other, node.can_rise());
             }
         }
@@ -153,14 +163,9 @@ impl Nodes {
         }
         let edges = side.links.edges(&row);
         let taken = if units == 1 {
-            self.spread(edges, node.head, marks, |branch, above| {
-                let (loss, gain) = (branch.unit_loss(above), branch.unit_gain(above));
-                (loss as i128, gain as i128)
-            })
+            self.spread_unit(edges, node.head, marks) as i128
         } else {
-            self.spread(edges, node.head, marks, |branch, above| {
-                (branch.loss(above, units), branch.gain(above, units))
-            })
+            self.spread(edges, node.head, units, marks)
         };
         let fall = taken.wrapping_add(side.fall_beside_links(&row, node.head, units));
         let risen = node.after_rise(units, fall);

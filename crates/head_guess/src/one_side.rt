@@ -151,6 +151,9 @@ impl OneSide<'_> {
     {
         let row = self.links.row(cell);
         let mut sum = self.straight_balance(cell, &row, own, around);
+        if row.is_straight() {
+            return sum;
+        }
         for ramp in self.ramps(&row) {
             sum = sum.wrapping_add(ramp.flow(own));
         }

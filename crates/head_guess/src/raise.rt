@@ -1,19 +1,32 @@
 // Raising heads until nothing moves.
-use crate::marks::{Marks, Sweep};
+use crate::marks::{CELLS, Marks, Sweep};
 use crate::nodes::Nodes;
 use crate::work::Work;
 use std::alloc::AllocError;
 
-// Turns at all marked cells. Returns whether a cell moved.
-fn sweep(work: &mut Work, nodes: &mut Nodes, is_down: bool, marks: &mut Marks) -> bool {
+// Turns at the marked cells of one word. Returns whether a cell moved.
+fn turn_word(work: &mut Work, nodes: &mut Nodes, sweep: Sweep, marks: &mut Marks) -> bool {
+    let mut sweep = sweep;
     let mut moved = false;
-    let mut sweep = Sweep::new(is_down);
-    for _ in 0..u64::MAX {
+    for _ in 0..CELLS {
         let Some(cell) = marks.take_next(&mut sweep) else {
             break;
         };
         work.budget.spend(1);
         moved |= nodes.turn(work.side, cell, marks);
+    }
+    moved
+}
+
+// Turns at all marked cells. Returns whether a cell moved.
+fn sweep(work: &mut Work, nodes: &mut Nodes, is_down: bool, marks: &mut Marks) -> bool {
+    let mut moved = false;
+    let words = marks.len();
+    for k in 0..words {
+        let word = if is_down { words - 1 - k } else { k };
+        if marks.has_any(word) {
+            moved |= turn_word(work, nodes, Sweep::new(word, is_down), marks);
+        }
     }
     moved
 }

@@ -14,15 +14,23 @@ const PLACES: u32 = 10;
 
 const BITS: u32 = 12;
 
-// A cell that rises as often in a round is too low: in a round of the cycle, and after it, where shares only fall.
+// A cell that rises as often in a round is too low: in a round of the first cycle, of the second one, whose steps are shorter, and where
+// shares only fall.
 const RISES: u32 = 4;
+
+const MORE_RISES: u32 = 6;
 
 const RISES_OF_FALLS: u32 = 8;
 
-// The rounds of the cycle, and at most those after it in which shares only fall.
+// The rounds of a cycle, and at most those after it in which shares only fall: few where another cycle is left.
 const ROUNDS: u32 = 60;
 
+const FEW_FALLS: u32 = 12;
+
 const MOST_FALLS: u32 = 200;
+
+// The steps of the second cycle are shorter by as many bits than those of the first one.
+const BITS_OF_CYCLE: u32 = 3;
 
 // The visits that a round takes at each cell beside its solution.
 const VISITS: u64 = 11;
@@ -61,7 +69,6 @@ impl Shares {
             heads: Vec::from_slice(side.alloc, balanced)?,
         };
         shares.lower(work)?;
-        shares.changes.begin();
         Ok(shares)
     }
 
@@ -81,22 +88,23 @@ impl Shares {
         Ok(())
     }
 
-    // A cycle: rounds in which shares fall and rise. Those cells are too low that rise as often.
-    fn turn_all(&mut self, work: &mut Work) -> Result<(), AllocError> {
+    // A cycle: rounds in which shares fall and rise, in steps that are at most as long. Those cells are too low that rise as often.
+    fn turn_all(&mut self, work: &mut Work, longest: i64, rises: u32) -> Result<(), AllocError> {
+        self.changes.begin(longest);
         for _ in 1..ROUNDS {
-            let are_low = raise_counted(work, &mut self.heads, RISES)?;
+            let are_low = raise_counted(work, &mut self.heads, rises)?;
             self.changes.turn(are_low.as_slice());
             self.lower(work)?;
         }
-        raise_counted(work, &mut self.heads, RISES)?;
+        raise_counted(work, &mut self.heads, rises)?;
         Ok(())
     }
 
     // Rounds in which shares only fall, until the heads settle. Returns whether they do.
-    fn settle(&mut self, work: &mut Work) -> Result<bool, AllocError> {
+    fn settle(&mut self, work: &mut Work, most_falls: u32) -> Result<bool, AllocError> {
         let turns = TURNS.saturating_mul(work.side.len() as u64);
         self.changes.begin_falls();
-        for _ in 0..MOST_FALLS {
+        for _ in 0..most_falls {
             let are_low = raise_counted(work, &mut self.heads, RISES_OF_FALLS)?;
             self.changes.fall(are_low.as_slice());
             let falls = are_low.contains(&true);
@@ -120,7 +128,11 @@ pub fn settled_by_shares(
     share: i64,
 ) -> Result<Option<Vec<i64>>, AllocError> {
     let mut shares = Shares::new(work, balanced, share)?;
-    shares.turn_all(work)?;
-    let is_settled = shares.settle(work)?;
+    shares.turn_all(work, Changes::LONGEST, RISES)?;
+    let mut is_settled = shares.settle(work, FEW_FALLS)?;
+    if !is_settled && !work.budget.is_spent() {
+        shares.turn_all(work, Changes::LONGEST >> BITS_OF_CYCLE, MORE_RISES)?;
+        is_settled = shares.settle(work, MOST_FALLS)?;
+    }
     Ok(if is_settled { Some(shares.heads) } else { None })
 }

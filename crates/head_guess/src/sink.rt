@@ -1,6 +1,6 @@
 // A set of cells that falls as one, unit by unit. Only cells at its edge are visited: some leave it, since they would rise again, and stay
 // where they are; others join it.
-use crate::marks::{Marks, Sweep};
+use crate::marks::{CELLS, Marks, Sweep};
 use crate::one_side::OneSide;
 use crate::spot::{Depth, NEVER, Spot};
 use multigrid::numbers::{at, label, put};
@@ -95,16 +95,17 @@ impl Sink {
         spot.until = NEVER;
         if spot.falls() {
             let own = self.depth.head_of(spot).wrapping_sub(1);
-            let way = spot.head.saturating_sub(side.floor(cell));
-            let until = if row.is_straight() {
-                self.depth.within(way)
-            } else {
-                0
-            };
-            let fall = side.fall_beside_links(&row, own, 1);
-            spot.add_rate(clamp_to_long(fall), until);
             for known in side.knowns(&row) {
-                spot.add_rate(0, self.depth.end_of(own.wrapping_sub(known.head)));
+                let above = own.wrapping_sub(known.head);
+                spot.add_rate(known.branch.unit_loss(above), self.depth.end_of(above));
+            }
+            if row.is_straight() {
+                let way = spot.head.saturating_sub(side.floor(cell));
+                spot.add_rate(0, self.depth.within(way));
+            } else {
+                let ramps = side.ramps(&row).iter();
+                let fall = ramps.fold(0_i64, |sum, ramp| sum.saturating_add(ramp.fall(own)));
+                spot.add_rate(fall, 0);
             }
         }
         for edge in side.links.edges(&row) {
@@ -199,14 +200,23 @@ impl Sink {
         Ok(())
     }
 
-    // The set falls by a unit.
-    fn fall(&mut self, side: &OneSide) -> Result<(), AllocError> {
-        let mut sweep = Sweep::new(false);
-        for _ in 0..u64::MAX {
+    fn visit_word(&mut self, side: &OneSide, word: usize) -> Result<(), AllocError> {
+        let mut sweep = Sweep::new(word, false);
+        for _ in 0..CELLS {
             let Some(cell) = self.edge.take_next(&mut sweep) else {
                 break;
             };
             self.visit(side, cell)?;
+        }
+        Ok(())
+    }
+
+    // The set falls by a unit.
+    fn fall(&mut self, side: &OneSide) -> Result<(), AllocError> {
+        for word in 0..self.edge.len() {
+            if self.edge.has_any(word) {
+                self.visit_word(side, word)?;
+            }
         }
         self.depth.units = self.depth.units.saturating_add(1);
         self.settle(side)

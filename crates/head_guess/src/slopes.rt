@@ -27,6 +27,9 @@ impl OneSide<'_> {
         requires { F.IsAlwaysCallable around }
     {
         let mut sum = self.straight_fall(row, own, around);
+        if row.is_straight() {
+            return sum;
+        }
         for ramp in self.ramps(row) {
             sum = sum.saturating_add(ramp.fall(own));
         }
@@ -40,6 +43,9 @@ impl OneSide<'_> {
         for known in self.knowns(row) {
             let above = own.wrapping_sub(known.head);
             sum = sum.wrapping_add(known.branch.loss(above, units));
+        }
+        if row.is_straight() {
+            return sum;
         }
         let end = own.wrapping_add(units);
         for ramp in self.ramps(row) {
