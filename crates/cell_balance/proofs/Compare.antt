@@ -55,23 +55,23 @@ module _ (m n : ℕ) (some_m : 0 < m) (some_n : 0 < n) (p : List Entries) (w : L
         (λ k j up. rw (← balance_is_net_flow w Z k (both.range k j)) (gains k (omega (arith, j, same_length)) up))
         c (omega (arith, i, same_length))
 
-    module _ (Y : ℕ → ℤ) (solves : (c : ℕ) → c < length w → whole_balance (whole_at w c) (Y c) Y ≡ pos 0) (h edge : ℕ → ℤ) where
-      -- a bound past the solution lies past its edge, or its balance lets it lie there
-      lets : (side : Side) → ((c : ℕ) → c < length p → Bounds side (h c) (edge c) ⊎ Bounds side (pos 0) (balance side (entries_at p c) (h c) h)) → ((c : ℕ) → c < length p → Bounds side (edge c *ℤ pos n) (Y c)) →
+    module _ (Y : ℕ → ℤ) (solves : (c : ℕ) → c < length w → whole_balance (whole_at w c) (Y c) Y ≡ pos 0) (h : ℕ → ℤ) where
+      -- a head that bounds the solution, or whose balance lets it lie where it does
+      lets : (side : Side) → ((c : ℕ) → c < length p → Bounds side (h c *ℤ pos n) (Y c) ⊎ Bounds side (pos 0) (balance side (entries_at p c) (h c) h)) →
           (c : ℕ) → c < length p → Bounds side (h c *ℤ pos n) (Y c) ⊎ Bounds side (pos 0) (whole_balance (whole_at w c) (h c *ℤ pos n) (λ k. h k *ℤ pos n))
-      lets side certificate barrier c i =
-          elim (certificate c i) [
-            | inl inner ↦ inl (bounds_trans side _ _ _ (bounds_times side n _ _ inner) (barrier c i))
+      lets side given c i =
+          elim (given c i) [
+            | inl lies ↦ inl lies
             | inr can ↦ inr (bounds_trans side _ _ _ (rw zero-*ℤ at (bounds_times side (m * n) _ _ can)) (balance_bounds side m n (length p) (entries_at p c) (whole_at w c) (cell_within m n p w within c i) (h c) h))
           ]
 
       zero_at : (c : ℕ) → c < length p → whole_balance (whole_at w c) (Y c) Y ≡ pos 0
       zero_at c i = solves c (omega (arith, i, same_length))
 
-      pub compare : (side : Side) → ((c : ℕ) → c < length p → Bounds side (h c) (edge c) ⊎ Bounds side (pos 0) (balance side (entries_at p c) (h c) h)) → ((c : ℕ) → c < length p → Bounds side (edge c *ℤ pos n) (Y c)) → (c : ℕ) → c < length p → Bounds side (h c *ℤ pos n) (Y c)
-      compare Low certificate barrier =
+      pub compare : (side : Side) → ((c : ℕ) → c < length p → Bounds side (h c *ℤ pos n) (Y c) ⊎ Bounds side (pos 0) (balance side (entries_at p c) (h c) h)) → (c : ℕ) → c < length p → Bounds side (h c *ℤ pos n) (Y c)
+      compare Low given =
           highest Y (λ k. h k *ℤ pos n) (λ c i up. omega (arith, ints, zero_at c i))
-          (λ c i up. elim (lets Low certificate barrier c i) [ inl under ↦ absurd (omega (arith, ints, up, under)) | inr can ↦ can ])
-      compare High certificate barrier =
-          highest (λ k. h k *ℤ pos n) Y (λ c i up. elim (lets High certificate barrier c i) [ inl over ↦ absurd (omega (arith, ints, up, over)) | inr can ↦ can ])
+          (λ c i up. elim (lets Low given c i) [ inl under ↦ absurd (omega (arith, ints, up, under)) | inr can ↦ can ])
+      compare High given =
+          highest (λ k. h k *ℤ pos n) Y (λ c i up. elim (lets High given c i) [ inl over ↦ absurd (omega (arith, ints, up, over)) | inr can ↦ can ])
           (λ c i up. omega (arith, ints, zero_at c i))

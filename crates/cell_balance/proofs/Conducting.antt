@@ -6,7 +6,7 @@ use Rattle.cell_balance.proofs.Dry.{weight, by_weight, IsMutual, dry_balance, dr
 use Rattle.cell_balance.proofs.Zips.{WholeEntry, WholeLink, WholeCell, whole_at, whole_link, whole_fixed, whole_deep, whole_balance, IsDry}
 use Rattle.cell_balance.proofs.WholeBalances.{known_conductance, known_flow, a_of}
 use Rattle.cell_balance.proofs.Ramps.{AreMutual}
-use Rattle.cell_balance.proofs.Sums.{link_flows_cancel, sum-same, sum-add, sum_at_most}
+use Rattle.cell_balance.proofs.Sums.{link_flows_cancel, sum-same, sum_inside-add, sum_at_most}
 use Rattle.cell_balance.proofs.Deep.{total_nonneg}
 
 -- a fact of each right element passes to the left one
@@ -15,13 +15,13 @@ All-back R P Q each [] ys h a = All-nil P
 All-back R P Q each (x ∷ xs) [] h a = absurd h
 All-back R P Q each (x ∷ xs) (y ∷ ys) h a = All-cons P x xs (each x y h.0 (All-head Q y ys a)) (All-back R P Q each xs ys h.1 (All-tail Q y ys a))
 
+share_nonneg : (s : Bool) (c : ℕ) → pos 0 ≤ℤ cond s (pos c) (pos 0)
+share_nonneg true c = omega (arith, ints)
+share_nonneg false c = omega (arith, ints)
+
 pub weight_nonneg : (xs : List WholeLink) (k : ℕ) → pos 0 ≤ℤ weight xs k
 weight_nonneg [] k = omega (arith, ints)
-weight_nonneg (x ∷ xs) k = omega (arith, ints, cases (nat_eq x.cell k), weight_nonneg xs k)
-  where
-    cases : (s : Bool) → pos 0 ≤ℤ cond s (pos x.c) (pos 0)
-    cases true = omega (arith, ints)
-    cases false = omega (arith, ints)
+weight_nonneg (x ∷ xs) k = omega (arith, ints, share_nonneg (nat_eq x.cell k) x.c, weight_nonneg xs k)
 
 -- each link that conducts gives weight to the cell that it leads to
 pub links_lead_to_weight : (S : ℕ → Type 0) (n : ℕ) (xs : List WholeLink) → ((k : ℕ) → k < n → pos 0 <ℤ weight xs k → S k) → All (λ x. 0 < x.c → x.cell < n → S x.cell) xs
@@ -29,11 +29,7 @@ links_lead_to_weight S n [] h = All-nil (λ x. 0 < x.c → x.cell < n → S x.ce
 links_lead_to_weight S n (x ∷ xs) h =
     All-cons (λ x. 0 < x.c → x.cell < n → S x.cell) x xs
     (λ c i. h x.cell i (rw (eq-eqb x.cell x.cell refl) (omega (arith, ints, weight_nonneg xs x.cell))))
-    (links_lead_to_weight S n xs (λ k i w. h k i (omega (arith, ints, nonneg (nat_eq x.cell k)))))
-  where
-    nonneg : (s : Bool) → pos 0 ≤ℤ cond s (pos x.c) (pos 0)
-    nonneg true = omega (arith, ints)
-    nonneg false = omega (arith, ints)
+    (links_lead_to_weight S n xs (λ k i w. h k i (omega (arith, ints, share_nonneg (nat_eq x.cell k) x.c))))
 
 -- and where weight is, a link leads
 pub weight_is_of_links : (T : ℕ → Type 0) (xs : List WholeLink) (k : ℕ) → All (λ x. T x.cell) xs → pos 0 <ℤ weight xs k → T k
@@ -48,17 +44,13 @@ weight_is_of_links T (x ∷ xs) k all h =
     ]
 
 -- where conductances sum to 0, each is 0
-pub none_conduct : {X : Type 0} (f : X → ℕ) (xs : List X) → total (λ x. pos (f x)) xs ≡ pos 0 → All (λ x. f x ≡ 0) xs
-none_conduct f [] h = All-nil (λ x. f x ≡ 0)
-none_conduct f (x ∷ xs) h = All-cons (λ x. f x ≡ 0) x xs (omega (arith, ints, nonneg xs)) (none_conduct f xs (omega (arith, ints, nonneg xs)))
-  where
-    nonneg : (ys : List _) → pos 0 ≤ℤ total (λ x. pos (f x)) ys
-    nonneg [] = omega (arith, ints)
-    nonneg (y ∷ ys) = omega (arith, ints, nonneg ys)
-
 pub total_positive : {X : Type 0} (f : X → ℕ) (xs : List X) → pos 0 ≤ℤ total (λ x. pos (f x)) xs
 total_positive f [] = omega (arith, ints)
 total_positive f (x ∷ xs) = omega (arith, ints, total_positive f xs)
+
+pub none_conduct : {X : Type 0} (f : X → ℕ) (xs : List X) → total (λ x. pos (f x)) xs ≡ pos 0 → All (λ x. f x ≡ 0) xs
+none_conduct f [] h = All-nil (λ x. f x ≡ 0)
+none_conduct f (x ∷ xs) h = All-cons (λ x. f x ≡ 0) x xs (omega (arith, ints, total_positive f xs)) (none_conduct f xs (omega (arith, ints, total_positive f xs)))
 
 pub no_known_conductance : (xs : List WholeEntry) → known_conductance xs ≡ 0 → All (λ x. x.c ≡ 0) xs
 no_known_conductance [] h = All-nil (λ x. x.c ≡ 0)
@@ -90,7 +82,7 @@ dry_law w Y both inside t dry closed =
     let links = λ (c : ℕ). total (whole_link Y (Y c)) (whole_at w c).links in
     let deep = λ (c : ℕ). whole_deep (whole_at w c) in
     let less = sum_at_most (length w) _ _ (λ c i. cell c i (inside c) refl) in
-    let parts = sum-same (length w) (λ c. cond (inside c) (links c +ℤ deep c) (pos 0)) (λ c. cond (inside c) (links c) (pos 0) +ℤ cond (inside c) (deep c) (pos 0)) (λ c i. split (inside c) (links c) (deep c)) ∙ sum-add (length w) (λ c. cond (inside c) (links c) (pos 0)) (λ c. cond (inside c) (deep c) (pos 0)) in
+    let parts = sum_inside-add (length w) inside links deep in
     joined _ _ _ _ less parts (closed_cancel w inside Y both closed)
   where
     cell : (c : ℕ) → c < length w → (b : Bool) → inside c ≡ b → cond b (total (whole_link Y (Y c)) (whole_at w c).links +ℤ whole_deep (whole_at w c)) (pos 0) ≤ℤ cond b (whole_balance (whole_at w c) (Y c) Y) (pos 0)
@@ -99,10 +91,6 @@ dry_law w Y both inside t dry closed =
         let some = total_nonneg _ (whole_fixed (Y c)) (whole_at w c).fixed (dry_fixed (Y c) (t c) low) dried.fixed in
         omega (arith, ints, dry_balance Y (Y c) (t c) (whole_at w c) low dried, some)
     cell c i false e = omega (arith, ints)
-
-    split : (b : Bool) (x y : ℤ) → cond b (x +ℤ y) (pos 0) ≡ cond b x (pos 0) +ℤ cond b y (pos 0)
-    split true x y = refl
-    split false x y = refl
 
     joined : (a b k l : ℤ) → a ≤ℤ k → a ≡ l +ℤ b → l ≡ pos 0 → b ≤ℤ k
     joined a b k l h e z = omega (arith, ints)

@@ -6,19 +6,12 @@ use Rattle.cell_balance.proofs.Common.{deep_river, total_mono_all}
 use Rattle.step_problem.specs.{full_rate}
 use Rattle.cell_balance.proofs.Scaling.{max_times}
 use Rattle.cell_balance.proofs.Zips.{WholeEntry, WholeCell, whole_deep_river, whole_full, whole_deep, FlowWithin, RiverWithin, EvapWithin, CellWithin}
+pub use Rattle.decimal_input.proofs.FloorLaws.{add_times as add_mul, le-trans as le_trans_z}
+pub use Rattle.step_problem.proofs.BothSides.{le_refl as same_z}
 
 -- Sums over lists that are related place by place.
-pub add_mul : (a b k : ℤ) → (a +ℤ b) *ℤ k ≡ a *ℤ k +ℤ b *ℤ k
-add_mul a b k = rw (as_diff a, as_diff b, as_diff k) (simp diffs (same_diff _ _ _ _ (omega arith)))
-
 pub sub_mul : (a b k : ℤ) → (a -ℤ b) *ℤ k ≡ a *ℤ k -ℤ b *ℤ k
 sub_mul a b k = rw (as_diff a, as_diff b, as_diff k) (simp diffs (same_diff _ _ _ _ (omega arith)))
-
-pub le_trans_z : (a b c : ℤ) → a ≤ℤ b → b ≤ℤ c → a ≤ℤ c
-le_trans_z a b c h k = omega (arith, ints)
-
-pub same_z : (a : ℤ) → a ≤ℤ a
-same_z a = omega (arith, ints)
 
 -- sums of terms that hold the same place or sign
 pub total-same : {X : Type 0} (P : X → Type 0) (f g : X → ℤ) (xs : List X) → ((x : X) → P x → f x ≡ g x) → All P xs → total f xs ≡ total g xs

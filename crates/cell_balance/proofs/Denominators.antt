@@ -8,10 +8,10 @@ use Rattle.decimal_input.specs.Ratios.{den as ratio_den}
 abbrev pub Goes : ℕ → ℕ → Type 0
 Goes d n = (q : ℕ) × (n ≡ d * q)
 
-Goes-first : (a b : ℕ) → Goes a (a * b)
+pub Goes-first : (a b : ℕ) → Goes a (a * b)
 Goes-first a b = (b, refl)
 
-Goes-second : (a b : ℕ) → Goes b (a * b)
+pub Goes-second : (a b : ℕ) → Goes b (a * b)
 Goes-second a b = (a, omega arith)
 
 pub Goes-trans : (a b c : ℕ) → Goes a b → Goes b c → Goes a c

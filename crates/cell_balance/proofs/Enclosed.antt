@@ -4,6 +4,7 @@ use Rattle.cell_balance.proofs.Common.{le_of_mul-le-mul_right, Ratio, Fraction, 
 use Rattle.cell_balance.proofs.Common.{cancel_right, mul_mono_right, swap, Flow, Link, Entries, mul_assoc, ExactFlow, ExactLink, ExactCell, FlowEncloses}
 use Rattle.cell_balance.proofs.Common.{LinkEncloses, FixedEncloses, RiverEncloses, DrainEncloses, EvapEncloses, CellEncloses, sym, length, All-get_or}
 use Rattle.cell_balance.proofs.Common.{All-from_get_or, entries_at, no_entries, IsProblem, LinkFits, cell_at, no_cell, AreLinked, no_link, EnclosesStep}
+use Rattle.cell_balance.proofs.Common.{mul_comm}
 use Rattle.std.proofs.lemmas.Nat.{pow-add}
 use Rattle.decimal_input.specs.Ratios.{den as ratio_den}
 use Rattle.cell_balance.proofs.Zips.{AllZip-compose, AllZip-at, AllZip-length, All-zip, WholeLink, WholeEntry, WholeCell, FlowWithin, LinkWithin, EntryWithin}
@@ -27,14 +28,11 @@ between_share lo hi s m c r h e = record {
 -- a head or a flow
 pub between_over : (lo hi : ℤ) (s n : ℕ) (f : Fraction) (z : ℤ) → EnclosesSigned lo hi s f → IsOver (n * 10 ^ s) f z → IsBetweenSigned lo hi n z
 between_over lo hi s n f z h e =
-    let both : (f.num *ℤ pos (10 ^ s)) *ℤ pos n ≡ z *ℤ pos (den f) = mul_assoc f.num (pos (10 ^ s)) (pos n) ∙ ap (λ (k : ℕ). f.num *ℤ pos k) (comm (10 ^ s) n) ∙ e.is in
+    let both : (f.num *ℤ pos (10 ^ s)) *ℤ pos n ≡ z *ℤ pos (den f) = mul_assoc f.num (pos (10 ^ s)) (pos n) ∙ ap (λ (k : ℕ). f.num *ℤ pos k) (mul_comm (10 ^ s) n) ∙ e.is in
     record {
       lower = cancel_right (den f) _ _ (omega arith) (rw (swap lo (pos n) (pos (den f)), ← both) (mul_mono_right n _ _ h.lower));
       upper = cancel_right (den f) _ _ (omega arith) (rw (swap hi (pos n) (pos (den f)), ← both) (mul_mono_right n _ _ h.upper));
     }
-  where
-    comm : (a b : ℕ) → a * b ≡ b * a
-    comm a b = omega arith
 
 -- what a problem's type keeps of a cell's links
 abbrev pub LinksGood : ℕ → Entries → Type 0

@@ -1,7 +1,8 @@
 -- The comparison: from fractions to whole numbers and back.
 use Rattle.cell_balance.proofs.Common.{◌≡◌, ℕ, suc, ◌-◌, ◌*◌, ◌^◌, ◌<◌, sym, ap, ◌∙◌, subst, arith, ℤ, pos, ◌*ℤ◌, List, length, mul-pos, refl, All, AllZip}
-use Rattle.cell_balance.proofs.Common.{IsOver, Ratio, Fraction, cancel_right, mul_mono_right, swap, mul_assoc, head_at, IsProblem, ExactCell, cell_at, no_cell}
-use Rattle.cell_balance.proofs.Common.{balance, share, SolvesStep, Compares, EnclosesStep, ExactFlow, ExactLink, Entries, Side, Low, High, den}
+use Rattle.cell_balance.proofs.Common.{IsOver, Ratio, Fraction, cancel_right, mul_mono_right, swap, mul_assoc, ◌≤ℤ◌, ◌⊎◌, inl, inr, IsProblem, ExactCell}
+use Rattle.cell_balance.proofs.Common.{cell_at, no_cell, balance, share, SolvesStep, Compares, EnclosesStep, ExactFlow, ExactLink, Entries, Side, Low, High}
+use Rattle.cell_balance.proofs.Common.{den, mul_comm, LiesBetween, IsHeldBelow, entries_at, lower_balance, upper_balance}
 use Rattle.cell_balance.proofs.Zips.{AllZip-at, AllZip-length, CellWithin, WholeCell, whole_at, no_whole, whole_balance, AllZip-choose, WholeLink, WholeEntry}
 use Rattle.cell_balance.proofs.Scaling.{zero_over}
 use Rattle.cell_balance.proofs.Over.{CellOver, balance_over, FlowOver, LinkOver, EntryOver, FixedOver, RiverOver, DrainOver, EvapOver}
@@ -10,7 +11,7 @@ use Rattle.cell_balance.proofs.Denominators.{river_den, drain_den, evap_den, IsC
 use Rattle.cell_balance.proofs.Enclosed.{step_within, linked, links_good}
 use Rattle.cell_balance.proofs.Mutual.{mutual_whole}
 use Rattle.cell_balance.proofs.Compare.{compare}
-use Rattle.cell_balance.proofs.Deep.{Bounds}
+use Rattle.cell_balance.proofs.Deep.{Bounds, le_trans_z}
 use Rattle.cell_balance.proofs.Dry.{IsMutual}
 use Rattle.decimal_input.specs.Ratios.{den as ratio_den}
 
@@ -54,11 +55,8 @@ module _ (d a b : ℕ) where
 pub share_is : (d j : ℕ) (z : ℤ) → 0 < d → IsOver (d * j) (share d z) (z *ℤ pos j)
 share_is d j z some = record { is = ap (λ (k : ℕ). z *ℤ pos k) (ring (suc (d - 1)) (omega arith)) ∙ sym (mul_assoc z (pos j) (pos (suc (d - 1)))) }
   where
-    comm : (a b : ℕ) → a * b ≡ b * a
-    comm a b = omega arith
-
     ring : (t : ℕ) → d ≡ t → d * j ≡ j * t
-    ring t e = comm d j ∙ ap (λ (k : ℕ). j * k) e
+    ring t e = mul_comm d j ∙ ap (λ (k : ℕ). j * k) e
 
 -- a solution, in whole numbers
 pub whole_solves : (k m : ℕ) (e : List ExactCell) (w : List WholeCell) (d : ℕ) (X Y : ℕ → ℤ) → AllZip (CellOver k m) e w → SolvesStep e d X → ((c : ℕ) → IsOver m (share d (X c)) (Y c)) → (c : ℕ) → c < length w → whole_balance (whole_at w c) (Y c) Y ≡ pos 0
@@ -121,11 +119,21 @@ module _ (n d : ℕ) (a y : ℤ) where
   bound_back Low some k = cancel_right n _ _ some (rw spread at k)
   bound_back High some k = cancel_right n _ _ some (rw spread at k)
 
+-- Bounds of which each bounds the solution at its cell, or has a balance that lets it lie past the solution, enclose the solution.
+module _ (p : List Entries) (l u : ℕ → ℤ) (s : ℕ) (e : List ExactCell) (d : ℕ) (X : ℕ → ℤ) where
+  pub bounds_enclose : IsProblem p → IsHeldBelow p → EnclosesStep s p e → 0 < d → SolvesStep e d X →
+      ((c : ℕ) → c < length p → ((l c *ℤ pos d) ≤ℤ (X c *ℤ pos (10 ^ 9))) ⊎ (pos 0 ≤ℤ lower_balance (entries_at p c) (l c) l)) →
+      ((c : ℕ) → c < length p → ((X c *ℤ pos (10 ^ 9)) ≤ℤ (u c *ℤ pos d)) ⊎ (upper_balance (entries_at p c) (u c) u ≤ℤ pos 0)) → LiesBetween (length p) d X l u
+  bounds_enclose problem held encloses some solves low high =
+      let (n, w, whole) = whole_solution p s e d X problem encloses some solves in
+      let on = compare n (n * d) whole.some whole.some_heads p w whole.within whole.both held (whole_head n X) whole.solves in
+      record {
+        low = λ c i. bound_back n d _ _ Low whole.some (on l Low (λ k j. elim (low k j) [ inl lies ↦ inl (bound_over n d _ _ Low lies) | inr can ↦ inr can ]) c i);
+        high = λ c i. bound_back n d _ _ High whole.some (on u High (λ k j. elim (high k j) [ inl lies ↦ inl (bound_over n d _ _ High lies) | inr can ↦ inr can ]) c i);
+      }
+
 pub compares : Compares
 compares p b l u s e d X given =
-    let (n, w, whole) = whole_solution p s e d X given.problem given.encloses given.some given.solves in
-    let on = compare n (n * d) whole.some whole.some_heads p w whole.within whole.both given.held (whole_head n X) whole.solves in
-    record {
-      low = λ c i. bound_back n d _ _ Low whole.some (on l (head_at b.floor) Low given.certificate.low (λ k j. bound_over n d _ _ Low (given.barrier.low k j)) c i);
-      high = λ c i. bound_back n d _ _ High whole.some (on u (head_at b.ceiling) High given.certificate.high (λ k j. bound_over n d _ _ High (given.barrier.high k j)) c i);
-    }
+    bounds_enclose p l u s e d X given.problem given.held given.encloses given.some given.solves
+    (λ c i. elim (given.certificate.low c i) [ inl under ↦ inl (le_trans_z _ _ _ (mul_mono_right d _ _ under) (given.barrier.low c i)) | inr can ↦ inr can ])
+    (λ c i. elim (given.certificate.high c i) [ inl over ↦ inl (le_trans_z _ _ _ (given.barrier.high c i) (mul_mono_right d _ _ over)) | inr can ↦ inr can ])

@@ -2,11 +2,11 @@
 use Rattle.cell_balance.proofs.Common.{◌≡◌, ℕ, zero, suc, ◌*◌, ◌^◌, ◌<◌, refl, arith, List, [], ◌∷◌, Bool, true, false, map, ℤ, pos, neg_ℤ, ◌+ℤ◌, mul-pos, ◌≤ℤ◌}
 use Rattle.cell_balance.proofs.Common.{cond, sym, ap, ◌∙◌, ◌*ℤ◌, ◌<ℤ◌, filter, AllZip, int_max, ints, clamps, by_lt_z, Fraction, whole, negated, fraction_total}
 use Rattle.cell_balance.proofs.Common.{EnclosesSigned, IsOver, den, plus, AtMost, Same, total, greater, sum_below, total_below, sum_inside, total_inside}
-use Rattle.cell_balance.proofs.Common.{IsBelow, le-add, le-antisym, le-of, negated_enclosed, cancel_right, mul_mono_right, swap, zero-*ℤ, mul_assoc}
+use Rattle.cell_balance.proofs.Common.{IsBelow, le-add, le-antisym, le-of, negated_enclosed, cancel_right, mul_mono_right, swap, zero-*ℤ, mul_assoc, mul_comm}
 use Rattle.cell_balance.proofs.Deep.{add_mul}
 use Rattle.cell_balance.proofs.Scaling.{IsOver-plus, IsOver-greater, IsOver-none, max_times, crossed, crossed_back}
 use Rattle.cell_balance.proofs.Enclosed.{between_over}
-use Rattle.cell_balance.proofs.Denominators.{Goes, fraction_over}
+use Rattle.cell_balance.proofs.Denominators.{Goes, Goes-first, Goes-second, fraction_over}
 
 -- Fractions and their whole numbers over one denominator: order, signs, equality, and sums over cells; single flows and their bounds.
 pub over_le : (d : ℕ) (f g : Fraction) (a b : ℤ) → IsOver d f a → IsOver d g b → AtMost f g → a ≤ℤ b
@@ -67,20 +67,11 @@ below_over d f g a b some p q h =
 -- bounds of the whole number are bounds of the fraction
 pub enclosed_over : (lo hi : ℤ) (s n : ℕ) (f : Fraction) (z : ℤ) → 0 < n → IsOver (n * 10 ^ s) f z → (lo *ℤ pos n) ≤ℤ z → z ≤ℤ (hi *ℤ pos n) → EnclosesSigned lo hi s f
 enclosed_over lo hi s n f z some e low high =
-    let both : (f.num *ℤ pos (10 ^ s)) *ℤ pos n ≡ z *ℤ pos (den f) = mul_assoc f.num (pos (10 ^ s)) (pos n) ∙ ap (λ (k : ℕ). f.num *ℤ pos k) (comm (10 ^ s) n) ∙ e.is in
+    let both : (f.num *ℤ pos (10 ^ s)) *ℤ pos n ≡ z *ℤ pos (den f) = mul_assoc f.num (pos (10 ^ s)) (pos n) ∙ ap (λ (k : ℕ). f.num *ℤ pos k) (mul_comm (10 ^ s) n) ∙ e.is in
     record {
       lower = cancel_right n _ _ some (rw (swap lo (pos (den f)) (pos n), both) (mul_mono_right (den f) _ _ low));
       upper = cancel_right n _ _ some (rw (swap hi (pos (den f)) (pos n), both) (mul_mono_right (den f) _ _ high));
     }
-  where
-    comm : (a b : ℕ) → a * b ≡ b * a
-    comm a b = omega arith
-
-first : (a b : ℕ) → Goes a (a * b)
-first a b = (b, refl)
-
-second : (a b : ℕ) → Goes b (a * b)
-second a b = (a, omega arith)
 
 same : (a : ℕ) → Goes a a
 same a = (1, omega arith)
@@ -88,8 +79,8 @@ same a = (1, omega arith)
 pub plus_encloses : (a b c d : ℤ) (k : ℕ) (f g : Fraction) → EnclosesSigned a b k f → EnclosesSigned c d k g → EnclosesSigned (a +ℤ c) (b +ℤ d) k (plus f g)
 plus_encloses a b c d k f g p q =
     let n = den f * den g in
-    let (y, over_f) = fraction_over n (10 ^ k) f (first (den f) (den g)) in
-    let (z, over_g) = fraction_over n (10 ^ k) g (second (den f) (den g)) in
+    let (y, over_f) = fraction_over n (10 ^ k) f (Goes-first (den f) (den g)) in
+    let (z, over_g) = fraction_over n (10 ^ k) g (Goes-second (den f) (den g)) in
     let in_f = between_over a b k n f y p over_f in
     let in_g = between_over c d k n g z q over_g in
     enclosed_over (a +ℤ c) (b +ℤ d) k n (plus f g) (y +ℤ z) (mul-pos (omega arith) (omega arith)) (IsOver-plus (n * 10 ^ k) f g y z over_f over_g)

@@ -9,7 +9,7 @@ use Rattle.cell_balance.proofs.Gaps.Kind.{OfFixed, OfRiver, OfDrain, OfEvap}
 use Rattle.cell_balance.proofs.Enclosed.{between_share, between_over, flow_denominator, entry_within}
 use Rattle.cell_balance.proofs.Enclosing.{enclosed_over}
 use Rattle.cell_balance.proofs.EntryFlows.{difference_over}
-use Rattle.cell_balance.proofs.Denominators.{Goes, fraction_over, share_over, left_goes, right_goes, link_den, entry_den, some_entry}
+use Rattle.cell_balance.proofs.Denominators.{Goes, Goes-first, Goes-second, fraction_over, share_over, left_goes, right_goes, link_den, entry_den, some_entry}
 use Rattle.cell_balance.proofs.Zips.{WholeEntry}
 use Rattle.cell_balance.proofs.Over.{EntryOver, fixed_over, river_over, drain_over, evap_over}
 use Rattle.cell_balance.proofs.Encloses.{entry}
@@ -17,12 +17,6 @@ use Rattle.cell_balance.proofs.Encloses.{entry}
 -- an entry's flow in whole numbers over d and d, with its head
 enclosed : (s d : ℕ) (f : Fraction) (z lo hi : ℤ) → 0 < d → IsOver (d * 10 ^ s * (d * 10 ^ 9)) f z → (lo *ℤ pos (d * d)) ≤ℤ z → z ≤ℤ (hi *ℤ pos (d * d)) → EnclosesSigned lo hi (s + 9) f
 enclosed s d f z lo hi some over low high = enclosed_over lo hi (s + 9) (d * d) f z (mul-pos some some) (subst (λ (k : ℕ). IsOver k f z) (flow_denominator s d d) over) low high
-
-first : (a b : ℕ) → Goes a (a * b)
-first a b = (b, refl)
-
-second : (a b : ℕ) → Goes b (a * b)
-second a b = (a, omega arith)
 
 module _ (s : ℕ) (v : Fraction) (l u : ℤ) (own : EnclosesSigned l u 9 v) where
   -- the cell's head over d
@@ -35,8 +29,8 @@ module _ (s : ℕ) (v : Fraction) (l u : ℤ) (own : EnclosesSigned l u 9 v) whe
       EnclosesSigned (bound Low u) (bound High l) (s + 9) f
   entry_holds k r top foot f bound seen =
       let d = den v * entry_den r top foot in
-      let (y, over, between) = head d (first (den v) _) in
-      let (w, e) = entry d (10 ^ s) (10 ^ 9) r top foot (second (den v) _) in
+      let (y, over, between) = head d (Goes-first (den v) _) in
+      let (w, e) = entry d (10 ^ s) (10 ^ 9) r top foot (Goes-second (den v) _) in
       let (is, by) = seen d y over w e in
       enclosed s d f (whole_flow k y w) _ _ (mul-pos (omega arith) (some_entry r top foot)) is
       (seen_bounds Low k d d (bound Low) w (by Low) u y between.upper) (seen_bounds High k d d (bound High) w (by High) l y between.lower)
@@ -55,7 +49,7 @@ module _ (s : ℕ) (v : Fraction) (l u : ℤ) (own : EnclosesSigned l u 9 v) whe
 
 pub bounds_hold : BoundsHold
 bounds_hold s v l u own = record {
-  links = λ p x h L U e other. link_holds s v l u own (den v * (den (h x.cell) * link_den x)) (mul-pos (omega arith) (mul-pos (omega arith) (omega arith))) (first (den v) _) p x h L U (left_goes (den (h x.cell)) (link_den x) _ (second (den v) _)) (right_goes (den (h x.cell)) (link_den x) _ (second (den v) _)) e other;
+  links = λ p x h L U e other. link_holds s v l u own (den v * (den (h x.cell) * link_den x)) (mul-pos (omega arith) (mul-pos (omega arith) (omega arith))) (Goes-first (den v) _) p x h L U (left_goes (den (h x.cell)) (link_den x) _ (Goes-second (den v) _)) (right_goes (den (h x.cell)) (link_den x) _ (Goes-second (den v) _)) e other;
   fixed = λ p x e. entry_holds s v l u own OfFixed x.conductance x.head x.head (fixed_flow v x) (λ side z. fixed_on side z p)
       (λ d y over w o. (fixed_over (d * 10 ^ s) (d * 10 ^ 9) v y over x w o, λ side. fixed_seen d d side p w (entry_within s d d p.lo p.hi _ _ _ _ x.conductance x.head x.head w e.conductance e.head e.head o)));
   rivers = λ p x e. entry_holds s v l u own OfRiver x.conductance x.stage x.bottom (river_flow v x) (λ side z. river_on side z p)

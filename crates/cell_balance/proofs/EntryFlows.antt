@@ -5,7 +5,7 @@ use Rattle.cell_balance.proofs.Common.{IsOver, IsShare, mul_nonneg, mul_neg, Exa
 use Rattle.cell_balance.proofs.Common.{drain_flow, evap_flow, full_rate, over_difference, FixedLaws, RiverLaws, DrainLaws, EvapLaws, FlowsAreRight}
 use Rattle.cell_balance.proofs.Scaling.{IsOver-times, IsOver-minus, IsOver-negated, IsOver-signed, over_zero}
 use Rattle.cell_balance.proofs.Enclosing.{over_le, le_over, same_over, negative_over, negative_below, positive_above, below_over}
-use Rattle.cell_balance.proofs.Denominators.{Goes, fraction_over, entry_den, some_entry}
+use Rattle.cell_balance.proofs.Denominators.{Goes-second, fraction_over, entry_den, some_entry}
 use Rattle.cell_balance.proofs.Over.{EntryOver, FixedOver, RiverOver, DrainOver, EvapOver, fixed_over, river_over, drain_over, evap_over, full_over}
 use Rattle.cell_balance.proofs.Encloses.{entry}
 use Rattle.cell_balance.proofs.Dry.{evap_within_full}
@@ -100,12 +100,9 @@ module _ (v : Fraction) (r : Ratio) (top foot : Fraction) where
   by_wholes law =
       let d = den v * entry_den r top foot in
       let some : 0 < d = mul-pos (omega arith) (some_entry r top foot) in
-      let (w, over) = entry d 1 1 r top foot (second (den v) (entry_den r top foot)) in
+      let (w, over) = entry d 1 1 r top foot (Goes-second (den v) (entry_den r top foot)) in
       let (y, own) = fraction_over d 1 v (entry_den r top foot, refl) in
       law (d * 1) (d * 1) (omega (arith, some)) (omega (arith, some)) y own w over
-    where
-      second : (a b : ℕ) → Goes b (a * b)
-      second a b = (a, omega arith)
 
 pub flows_are_right : FlowsAreRight
 flows_are_right = record {

@@ -1,18 +1,18 @@
 -- The laws of exact balances, from their whole numbers.
-use Rattle.cell_balance.proofs.Common.{◌≡◌, ℕ, zero, suc, ◌*◌, ◌<◌, ◌⊎◌, inl, inr, refl, ap, subst, arith, ℤ, pos, ◌*ℤ◌, ◌≤ℤ◌, List, length, All, Bool, true}
-use Rattle.cell_balance.proofs.Common.{mul-pos, ◌+ℤ◌, AllZip, cases_eq, ints, clamps, Ratio, Fraction, fraction_total, IsOver, IsShare, AtMost, total}
-use Rattle.cell_balance.proofs.Common.{ExactCell, cell_at, no_cell, link_flow, balance, share, total_inside, IsClosed, deep_flow, LiesBelow, LinksCancel}
-use Rattle.cell_balance.proofs.Common.{BalanceFalls, BalanceRises, DryLaw, mul_mono_right, mul_mono, loss_falls, total_mono}
+use Rattle.cell_balance.proofs.Common.{◌≡◌, ℕ, ◌*◌, ◌<◌, ◌⊎◌, inl, inr, refl, subst, arith, ℤ, pos, ◌*ℤ◌, ◌≤ℤ◌, List, length, All, Bool, true, mul-pos, ◌+ℤ◌}
+use Rattle.cell_balance.proofs.Common.{AllZip, cases_eq, ints, clamps, Ratio, Fraction, fraction_total, IsOver, IsShare, AtMost, total, ExactCell, cell_at}
+use Rattle.cell_balance.proofs.Common.{no_cell, link_flow, balance, share, total_inside, IsClosed, deep_flow, LiesBelow, LinksCancel, BalanceFalls}
+use Rattle.cell_balance.proofs.Common.{BalanceRises, DryLaw, mul_mono_right, mul_mono, loss_falls, total_mono, mul_comm}
 use Rattle.cell_balance.proofs.Zips.{AllZip-at, AllZip-length, All-zip, IsDry, WholeCell, whole_at, no_whole, whole_link, whole_balance, whole_deep}
 use Rattle.cell_balance.proofs.Zips.{whole_fixed, whole_river, whole_drain, whole_evap}
-use Rattle.cell_balance.proofs.Scaling.{IsOver-total, over_zero}
+use Rattle.cell_balance.proofs.Scaling.{IsOver-total, over_zero, none_shared}
 use Rattle.cell_balance.proofs.Enclosing.{over_le, le_over, IsOver-inside}
 use Rattle.cell_balance.proofs.Over.{LinkOver, FixedOver, RiverOver, DrainOver, CellOver, deep_over, link_over, balance_over}
 use Rattle.cell_balance.proofs.Denominators.{cell_common, step_common}
 use Rattle.cell_balance.proofs.Encloses.{whole_cell, whole_step, share_is}
 use Rattle.cell_balance.proofs.Mutual.{mutual_whole}
 use Rattle.cell_balance.proofs.Conducting.{closed_cancel, dry_law}
-use Rattle.cell_balance.proofs.Deep.{total_at_most}
+use Rattle.cell_balance.proofs.Deep.{total_at_most, same_z}
 
 -- A whole balance falls weakly in its own head and rises weakly in the others.
 pub whole_falls : (w : WholeCell) (v y : ℤ) (Y : ℕ → ℤ) → v ≤ℤ y → whole_balance w y Y ≤ℤ whole_balance w v Y
@@ -37,10 +37,7 @@ whole_rises w v Y Z each =
 
 -- numerators over d, over n * d
 pub heads_over : (n d : ℕ) → 0 < d → (z : ℤ) → IsOver (n * d) (share d z) (z *ℤ pos n)
-heads_over n d some z = subst (λ (k : ℕ). IsOver k (share d z) (z *ℤ pos n)) (comm d n) (share_is d n z some)
-  where
-    comm : (a b : ℕ) → a * b ≡ b * a
-    comm a b = omega arith
+heads_over n d some z = subst (λ (k : ℕ). IsOver k (share d z) (z *ℤ pos n)) (mul_comm d n) (share_is d n z some)
 
 pub balance_falls : BalanceFalls
 balance_falls c d v w X some le =
@@ -81,14 +78,10 @@ module _ (k m : ℕ) (e : List ExactCell) (w : List WholeCell) (over : AllZip (C
     drains = All-zip (DrainOver k m) (λ x. 0 < x.conductance.num → AtMost v x.elevation) (λ x. (x.c ≡ 0) ⊎ (y ≤ℤ x.foot)) (λ x z r b. case x.conductance z.c x.elevation z.foot r.c r.foot b) c.drains u.drains o.drains h.drains;
   }
     where
-      no_share : (n d c x : ℕ) → n ≡ 0 → n * d ≡ c * suc x → c ≡ 0
-      no_share n d zero x e s = refl
-      no_share n d (suc c) x e s = let t : n * d ≡ 0 * d = ap (λ (z : ℕ). z * d) e in absurd (omega arith)
-
       case : (r : Ratio) (c : ℕ) (f : Fraction) (z : ℤ) → IsShare k r c → IsOver m f z → (0 < r.num → AtMost v f) → (c ≡ 0) ⊎ (y ≤ℤ z)
       case r c f z part over_f below =
           elim (cases_eq r.num 0) [
-            | inl none ↦ inl (no_share r.num k c r.less none part.is)
+            | inl none ↦ inl (none_shared k c r none part)
             | inr some ↦ inr (over_le m v f y z own over_f (below (omega arith)))
           ]
 
@@ -113,11 +106,8 @@ exact_dry_law e inside d X linked closed some below =
     let Y = λ (k : ℕ). X k *ℤ pos n in
     let both = mutual_whole (n * 1) (n * d) e w linked over in
     let same = same_length (n * 1) (n * d) e w over in
-    let law = dry_law w Y both inside Y (λ c i t. let here : c < length e = omega (arith, same, i) in (least (Y c), dry_over (n * 1) (n * d) e w over (share d (X c)) (Y c) (cell_at e c) (whole_at w c) (heads c) (cell_over (n * 1) (n * d) e w over c here) (below c here t))) (closed_whole (n * 1) (n * d) e w over inside closed) in
+    let law = dry_law w Y both inside Y (λ c i t. let here : c < length e = omega (arith, same, i) in (same_z (Y c), dry_over (n * 1) (n * d) e w over (share d (X c)) (Y c) (cell_at e c) (whole_at w c) (heads c) (cell_over (n * 1) (n * d) e w over c here) (below c here t))) (closed_whole (n * 1) (n * d) e w over inside closed) in
     le_over (n * 1 * (n * d)) _ _ _ _ (mul-pos (omega arith) (mul-pos some_n some))
     (IsOver-inside (n * 1 * (n * d)) (length e) inside (λ c. deep_flow (cell_at e c)) (λ c. whole_deep (whole_at w c)) (λ c i. deep_over (n * 1) (n * d) (cell_at e c) (whole_at w c) (cell_over (n * 1) (n * d) e w over c i)))
     (IsOver-inside (n * 1 * (n * d)) (length e) inside (λ c. balance (cell_at e c) (share d (X c)) (λ k. share d (X k))) (λ c. whole_balance (whole_at w c) (Y c) Y) (λ c i. balance_over (n * 1) (n * d) (share d (X c)) (Y c) (heads c) (λ k. share d (X k)) Y heads (cell_at e c) (whole_at w c) (cell_over (n * 1) (n * d) e w over c i)))
     (rw same law)
-  where
-    least : (a : ℤ) → a ≤ℤ a
-    least a = omega (arith, ints)

@@ -2,8 +2,8 @@
 use Rattle.cell_balance.proofs.Common.{◌≡◌, ℕ, zero, suc, ◌<◌, ◌⊎◌, inl, inr, refl, sym, arith, pos, neg_ℤ, ◌*ℤ◌, ◌≤ℤ◌, ◌^◌, Bool, true, false, nat_eq}
 use Rattle.cell_balance.proofs.Common.{cases_eq, ne_eqb, eq-eqb, ints, entries_at, Constant, lower_balance, upper_balance, head_at, IsCertificate, SolvesStep}
 use Rattle.cell_balance.proofs.Common.{LiesBetween, Reaches, Leads, IsComponent, IsCarried, IsHeldBelow, IsComparable, example_problem, example_step}
-use Rattle.cell_balance.proofs.Common.{example_heads, example_barrier, example_lows, example_highs}
-use Rattle.cell_balance.proofs.ExampleProblem.{example_fits, example_encloses}
+use Rattle.cell_balance.proofs.Common.{example_heads, example_barrier, example_lows, example_highs, balance, share, cell_at}
+use Rattle.cell_balance.proofs.ExampleProblem.{of_three, example_fits, example_encloses}
 
 anchored : (c : ℕ) → c < 2 → Leads example_problem 0 c
 anchored zero h = (0, refl, (record { kind = Constant; source = 0; lo = 9; hi = 11; head_lo = neg_ℤ (pos 1); head_hi = pos 1 }, (0, omega arith, refl), omega arith))
@@ -31,46 +31,22 @@ third_carried : IsCarried example_problem 2
 third_carried = record { inside = λ k. nat_eq k 2; component = third_component; carries = omega (arith, ints) }
 
 held : IsHeldBelow example_problem
-held zero h = inl (0, anchored 0 (omega arith))
-held (suc zero) h = inl (0, anchored 1 (omega arith))
-held (suc (suc zero)) h = inr third_carried
-held (suc (suc (suc c))) h = absurd (omega arith)
+held = of_three (λ c. ((j : ℕ) × Leads example_problem j c) ⊎ IsCarried example_problem c) (inl (0, anchored 0 (omega arith))) (inl (0, anchored 1 (omega arith))) (inr third_carried)
 
 solves : SolvesStep example_step 3 example_heads
-solves zero h = refl
-solves (suc zero) h = refl
-solves (suc (suc zero)) h = refl
-solves (suc (suc (suc c))) h = absurd (omega arith)
+solves = of_three (λ c. (balance (cell_at example_step c) (share 3 (example_heads c)) (λ k. share 3 (example_heads k))).num ≡ pos 0) refl refl refl
 
 certificate : IsCertificate example_problem example_barrier example_lows example_highs
-certificate = record { low = low; high = high }
-  where
-    low : (c : ℕ) → c < 3 → (example_lows c ≤ℤ head_at example_barrier.floor c) ⊎ (pos 0 ≤ℤ lower_balance (entries_at example_problem c) (example_lows c) example_lows)
-    low zero h = inr (omega (arith, ints))
-    low (suc zero) h = inr (omega (arith, ints))
-    low (suc (suc zero)) h = inr (omega (arith, ints))
-    low (suc (suc (suc c))) h = absurd (omega arith)
-
-    high : (c : ℕ) → c < 3 → (head_at example_barrier.ceiling c ≤ℤ example_highs c) ⊎ (upper_balance (entries_at example_problem c) (example_highs c) example_highs ≤ℤ pos 0)
-    high zero h = inr (omega (arith, ints))
-    high (suc zero) h = inr (omega (arith, ints))
-    high (suc (suc zero)) h = inr (omega (arith, ints))
-    high (suc (suc (suc c))) h = absurd (omega arith)
+certificate = record {
+  low = of_three (λ c. (example_lows c ≤ℤ head_at example_barrier.floor c) ⊎ (pos 0 ≤ℤ lower_balance (entries_at example_problem c) (example_lows c) example_lows)) (inr (omega (arith, ints))) (inr (omega (arith, ints))) (inr (omega (arith, ints)));
+  high = of_three (λ c. (head_at example_barrier.ceiling c ≤ℤ example_highs c) ⊎ (upper_balance (entries_at example_problem c) (example_highs c) example_highs ≤ℤ pos 0)) (inr (omega (arith, ints))) (inr (omega (arith, ints))) (inr (omega (arith, ints)));
+}
 
 barrier : LiesBetween 3 3 example_heads (head_at example_barrier.floor) (head_at example_barrier.ceiling)
-barrier = record { low = low; high = high }
-  where
-    low : (c : ℕ) → c < 3 → (head_at example_barrier.floor c *ℤ pos 3) ≤ℤ (example_heads c *ℤ pos (10 ^ 9))
-    low zero h = omega (arith, ints)
-    low (suc zero) h = omega (arith, ints)
-    low (suc (suc zero)) h = omega (arith, ints)
-    low (suc (suc (suc c))) h = absurd (omega arith)
-
-    high : (c : ℕ) → c < 3 → (example_heads c *ℤ pos (10 ^ 9)) ≤ℤ (head_at example_barrier.ceiling c *ℤ pos 3)
-    high zero h = omega (arith, ints)
-    high (suc zero) h = omega (arith, ints)
-    high (suc (suc zero)) h = omega (arith, ints)
-    high (suc (suc (suc c))) h = absurd (omega arith)
+barrier = record {
+  low = of_three (λ c. (head_at example_barrier.floor c *ℤ pos 3) ≤ℤ (example_heads c *ℤ pos (10 ^ 9))) (omega (arith, ints)) (omega (arith, ints)) (omega (arith, ints));
+  high = of_three (λ c. (example_heads c *ℤ pos (10 ^ 9)) ≤ℤ (head_at example_barrier.ceiling c *ℤ pos 3)) (omega (arith, ints)) (omega (arith, ints)) (omega (arith, ints));
+}
 
 pub example_is_comparable : IsComparable example_problem example_barrier example_lows example_highs 1 example_step 3 example_heads
 example_is_comparable = record {

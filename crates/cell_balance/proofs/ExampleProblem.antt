@@ -2,13 +2,20 @@
 use Rattle.cell_balance.proofs.Common.{◌≡◌, ℕ, zero, suc, ◌<◌, ◌≤◌, refl, arith, pos, neg_ℤ, [], ◌∷◌, All, Contains, ints, All-nil, All-cons, Encloses, Link}
 use Rattle.cell_balance.proofs.Common.{Fixed, Constant, Storage, entries_at, head_limit, IsHead, LinkFits, FixedFits, RiverFits, DrainFits, EvapFits, CellFits}
 use Rattle.cell_balance.proofs.Common.{LinksFit, IsProblem, HasLinkBack, HasEqualEnds, CellEncloses, EnclosesStep, example_problem, example_step, first_entries}
-use Rattle.cell_balance.proofs.Common.{second_entries, third_entries, first_cell, second_cell, third_cell, one}
+use Rattle.cell_balance.proofs.Common.{second_entries, third_entries, first_cell, second_cell, third_cell, one, cell_at}
 
 single : {X : Type 0} (P : X → Type 0) (x : X) → P x → All P (x ∷ [])
 single P x h = All-cons P x [] h (All-nil P)
 
 double : {X : Type 0} (P : X → Type 0) (x y : X) → P x → P y → All P (x ∷ y ∷ [])
 double P x y h k = All-cons P x (y ∷ []) h (single P y k)
+
+-- what holds of each of three cells
+pub of_three : (P : ℕ → Type 0) → P 0 → P 1 → P 2 → (c : ℕ) → c < 3 → P c
+of_three P a b d zero h = a
+of_three P a b d (suc zero) h = b
+of_three P a b d (suc (suc zero)) h = d
+of_three P a b d (suc (suc (suc c))) h = absurd (omega arith)
 
 abbrev zero_side : Fixed
 zero_side = record { kind = Constant; source = 0; lo = 9; hi = 11; head_lo = neg_ℤ (pos 1); head_hi = pos 1 }
@@ -23,62 +30,60 @@ is_low : (n : ℕ) → n ≤ head_limit → IsHead (neg_ℤ (pos n))
 is_low n h = record { above = omega (arith, ints); below = omega (arith, ints) }
 
 cell_fits : (c : ℕ) → c < 3 → CellFits (entries_at example_problem c)
-cell_fits zero h = record {
-  links = single LinkFits _ (record { conducts = omega arith; ordered = omega arith });
-  fixed = double FixedFits zero_side old_head (record { ordered = omega arith; head_lo = is_low 1 (omega arith); head_hi = is_head 1 (omega arith) }) (record { ordered = omega arith; head_lo = is_head 3300000000 (omega arith); head_hi = is_head 3400000000 (omega arith) });
-  rivers = single RiverFits _ (record { ordered = omega arith; stage_lo = is_head _ (omega arith); stage_hi = is_head _ (omega arith); bottom_lo = is_head _ (omega arith); bottom_hi = is_head _ (omega arith) });
-  drains = All-nil DrainFits;
-  evaps = All-nil EvapFits;
-  conductances = omega arith;
-  flows = omega arith;
-}
-cell_fits (suc zero) h = record {
-  links = single LinkFits _ (record { conducts = omega arith; ordered = omega arith });
-  fixed = single FixedFits _ (record { ordered = omega arith; head_lo = is_head _ (omega arith); head_hi = is_head _ (omega arith) });
-  rivers = All-nil RiverFits;
-  drains = All-nil DrainFits;
-  evaps = single EvapFits _ (record { ordered = omega arith; ext_lo = is_head _ (omega arith); ext_hi = is_head _ (omega arith); surf_lo = is_head _ (omega arith); surf_hi = is_head _ (omega arith); deep = omega (arith, ints) });
-  conductances = omega arith;
-  flows = omega arith;
-}
-cell_fits (suc (suc zero)) h = record {
-  links = All-nil LinkFits;
-  fixed = All-nil FixedFits;
-  rivers = All-nil RiverFits;
-  drains = single DrainFits _ (record { ordered = omega arith; elev_lo = is_low 1 (omega arith); elev_hi = is_head _ (omega arith) });
-  evaps = All-nil EvapFits;
-  conductances = omega arith;
-  flows = omega arith;
-}
-cell_fits (suc (suc (suc c))) h = absurd (omega arith)
+cell_fits = of_three (λ c. CellFits (entries_at example_problem c))
+    (record {
+      links = single LinkFits _ (record { conducts = omega arith; ordered = omega arith });
+      fixed = double FixedFits zero_side old_head (record { ordered = omega arith; head_lo = is_low 1 (omega arith); head_hi = is_head 1 (omega arith) }) (record { ordered = omega arith; head_lo = is_head 3300000000 (omega arith); head_hi = is_head 3400000000 (omega arith) });
+      rivers = single RiverFits _ (record { ordered = omega arith; stage_lo = is_head _ (omega arith); stage_hi = is_head _ (omega arith); bottom_lo = is_head _ (omega arith); bottom_hi = is_head _ (omega arith) });
+      drains = All-nil DrainFits;
+      evaps = All-nil EvapFits;
+      conductances = omega arith;
+      flows = omega arith;
+    })
+    (record {
+      links = single LinkFits _ (record { conducts = omega arith; ordered = omega arith });
+      fixed = single FixedFits _ (record { ordered = omega arith; head_lo = is_head _ (omega arith); head_hi = is_head _ (omega arith) });
+      rivers = All-nil RiverFits;
+      drains = All-nil DrainFits;
+      evaps = single EvapFits _ (record { ordered = omega arith; ext_lo = is_head _ (omega arith); ext_hi = is_head _ (omega arith); surf_lo = is_head _ (omega arith); surf_hi = is_head _ (omega arith); deep = omega (arith, ints) });
+      conductances = omega arith;
+      flows = omega arith;
+    })
+    (record {
+      links = All-nil LinkFits;
+      fixed = All-nil FixedFits;
+      rivers = All-nil RiverFits;
+      drains = single DrainFits _ (record { ordered = omega arith; elev_lo = is_low 1 (omega arith); elev_hi = is_head _ (omega arith) });
+      evaps = All-nil EvapFits;
+      conductances = omega arith;
+      flows = omega arith;
+    })
 
 -- a link of cell c has its equal at the other end
 abbrev HasBack : ℕ → Link → Type 0
 HasBack c x = Contains (entries_at example_problem x.cell).links (record { cell = c; lo = x.lo; hi = x.hi })
 
+-- a cell with one link, to another cell that has one back
+one_link : (c d : ℕ) → d < 3 → (d ≡ c → ⊥) → HasBack c (record { cell = d; lo = 9; hi = 11 }) → LinksFit example_problem c (record { cell = d; lo = 9; hi = 11 } ∷ [])
+one_link c d within other back = record {
+  few = omega arith;
+  within = single (λ x. x.cell < 3) _ within;
+  others = single (λ x. x.cell ≡ c → ⊥) _ other;
+  apart = λ i j less inside e. omega arith;
+  mutual_ends = single (HasBack c) _ back;
+}
+
 links_fit : (c : ℕ) → c < 3 → LinksFit example_problem c (entries_at example_problem c).links
-links_fit zero h = record {
-  few = omega arith;
-  within = single (λ x. x.cell < 3) _ (omega arith);
-  others = single (λ x. x.cell ≡ 0 → ⊥) _ (λ e. omega arith);
-  apart = λ i j less inside e. omega arith;
-  mutual_ends = single (HasBack 0) _ (0, omega arith, refl);
-}
-links_fit (suc zero) h = record {
-  few = omega arith;
-  within = single (λ x. x.cell < 3) _ (omega arith);
-  others = single (λ x. x.cell ≡ 1 → ⊥) _ (λ e. omega arith);
-  apart = λ i j less inside e. omega arith;
-  mutual_ends = single (HasBack 1) _ (0, omega arith, refl);
-}
-links_fit (suc (suc zero)) h = record {
-  few = omega arith;
-  within = All-nil (λ x. x.cell < 3);
-  others = All-nil (λ x. x.cell ≡ 2 → ⊥);
-  apart = λ i j less inside e. omega arith;
-  mutual_ends = All-nil (HasBack 2);
-}
-links_fit (suc (suc (suc c))) h = absurd (omega arith)
+links_fit = of_three (λ c. LinksFit example_problem c (entries_at example_problem c).links)
+    (one_link 0 1 (omega arith) (λ e. omega arith) (0, omega arith, refl))
+    (one_link 1 0 (omega arith) (λ e. omega arith) (0, omega arith, refl))
+    (record {
+      few = omega arith;
+      within = All-nil (λ x. x.cell < 3);
+      others = All-nil (λ x. x.cell ≡ 2 → ⊥);
+      apart = λ i j less inside e. omega arith;
+      mutual_ends = All-nil (HasBack 2);
+    })
 
 ascending : (c d : ℕ) → c < d → d < 3 → (entries_at example_problem c).id < (entries_at example_problem d).id
 ascending zero zero h k = absurd (omega arith)
@@ -97,10 +102,10 @@ conducts : Encloses 9 11 1 one
 conducts = record { lower = omega arith; upper = omega arith }
 
 equal_ends : HasEqualEnds example_step
-equal_ends zero h = single (HasLinkBack example_step 0) _ (record { back = record { cell = 0; conductance = one }; is_there = (0, omega arith, refl); leads_back = refl; same = record { cross = refl } })
-equal_ends (suc zero) h = single (HasLinkBack example_step 1) _ (record { back = record { cell = 1; conductance = one }; is_there = (0, omega arith, refl); leads_back = refl; same = record { cross = refl } })
-equal_ends (suc (suc zero)) h = All-nil (HasLinkBack example_step 2)
-equal_ends (suc (suc (suc c))) h = absurd (omega arith)
+equal_ends = of_three (λ c. All (HasLinkBack example_step c) (cell_at example_step c).links)
+    (single (HasLinkBack example_step 0) _ (record { back = record { cell = 0; conductance = one }; is_there = (0, omega arith, refl); leads_back = refl; same = record { cross = refl } }))
+    (single (HasLinkBack example_step 1) _ (record { back = record { cell = 1; conductance = one }; is_there = (0, omega arith, refl); leads_back = refl; same = record { cross = refl } }))
+    (All-nil (HasLinkBack example_step 2))
 
 first_encloses : CellEncloses 1 first_entries first_cell
 first_encloses = record {

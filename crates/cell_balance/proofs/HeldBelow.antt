@@ -1,11 +1,11 @@
 -- What holds the components of a problem holds the closed sets of the whole numbers of each step that it encloses.
 use Rattle.cell_balance.proofs.Common.{◌*◌, arith, length, pos, mul-pos, ◌*ℤ◌, ◌+ℤ◌, ◌-ℤ◌, ◌<ℤ◌, ◌<◌, ◌≡◌, ◌≤ℤ◌, All, Bool, List, cond, false, get_or, inl, inr}
 use Rattle.cell_balance.proofs.Common.{refl, subst, suc, sym, true, zero, ℕ, ℤ, ◌≤◌, ◌∙◌, Contains, AllZip, zero-*ℤ, ints, All-contains, Contains-get_or}
-use Rattle.cell_balance.proofs.Common.{IsBetweenWhole, total, entries_at, no_entries, IsHeldBelow, Reaches, deep_low, sum_inside, IsCarried, mul_mono_right}
-use Rattle.cell_balance.proofs.Common.{Entries, mul-le-mul_right, Link}
+use Rattle.cell_balance.proofs.Common.{IsBetweenWhole, total, entries_at, no_entries, IsHeldBelow, Reaches, deep_low, sum_inside, IsCarried, IsComponent}
+use Rattle.cell_balance.proofs.Common.{Entries, Link}
 use Rattle.cell_balance.proofs.Zips.{AllZip-length, All-zip, WholeCell, WholeEntry, whole_at, whole_deep, whole_deep_river, whole_full, CellWithin, FixedWithin}
 use Rattle.cell_balance.proofs.Zips.{LinkWithin, AllZip-at, no_whole, whole_balance, IsDry}
-use Rattle.cell_balance.proofs.Scaling.{conducting}
+use Rattle.cell_balance.proofs.Scaling.{conducting, positive_times}
 use Rattle.cell_balance.proofs.Sums.{sum-times, sum_at_most, sum-same, sum-zero}
 use Rattle.cell_balance.proofs.WholeBalances.{ramps_from, a_of, b_of, q_of, ramps_at_cell}
 use Rattle.cell_balance.proofs.Deep.{deep_less}
@@ -22,6 +22,13 @@ Reaches-more p (suc j) a k x (z, there, rest) has = (z, there, Reaches-more p j 
 pub cell_within : (m n : ℕ) (p : List Entries) (w : List WholeCell) → AllZip (CellWithin m n (length p)) p w → (c : ℕ) → c < length p → CellWithin m n (length p) (entries_at p c) (whole_at w c)
 cell_within m n p w within c i = AllZip-at (CellWithin m n (length p)) p w c no_entries no_whole within i
 
+-- no link leaves a component
+closed_links : (m n : ℕ) (p : List Entries) (w : List WholeCell) → AllZip (CellWithin m n (length p)) p w → (c : ℕ) (T : ℕ → Bool) → IsComponent p c T → (k : ℕ) → k < length p → T k ≡ true → All (λ x. T x.cell ≡ true) (whole_at w k).links
+closed_links m n p w within c T component k i e =
+    let (steps, way) = component.reached k e in
+    All-zip (LinkWithin m n (length p)) (λ x. T x.cell ≡ true) (λ x. T x.cell ≡ true) (λ x z r h. subst (λ (i : ℕ). T i ≡ true) r.same h) (entries_at p k).links (whole_at w k).links (cell_within m n p w within k i).links
+    (λ g d h. component.whole (suc steps) _ (Reaches-more p steps c k (get_or (entries_at p k).links g d) way (Contains-get_or (entries_at p k).links g d h)))
+
 clash : (a b c : ℤ) → pos 0 <ℤ a → a ≤ℤ b → b ≤ℤ c → c ≡ pos 0 → ⊥
 clash a b c p q r z = omega (arith, ints)
 
@@ -37,16 +44,10 @@ module _ (m n : ℕ) (some_m : 0 < m) (some_n : 0 < n) (p : List Entries) (w : L
     carried_not_dry c held t dry =
         let deep = sum_at_most (length p) (λ k. cond (held.inside k) (deep_low (entries_at p k)) (pos 0) *ℤ pos (m * n)) (λ k. cond (held.inside k) (whole_deep (whole_at w k)) (pos 0)) (λ k j. deep_cell k j (held.inside k)) in
         let sum = rw (← sum-times (length p) (λ k. cond (held.inside k) (deep_low (entries_at p k)) (pos 0)) (pos (m * n)), same_length) at deep in
-        let law = dry_law w Y both held.inside t (λ k j e. dry k (rw same_length j) e) (λ k j e. closed k (rw same_length j) e) in
+        let law = dry_law w Y both held.inside t (λ k j e. dry k (rw same_length j) e) (λ k j e. closed_links m n p w within c held.inside held.component k (rw same_length j) e) in
         let none = sum-same (length w) (λ k. cond (held.inside k) (whole_balance (whole_at w k) (Y k) Y) (pos 0)) (λ k. pos 0) (λ k j. solved_cell k j (held.inside k)) ∙ sum-zero (length w) in
-        clash _ _ _ (positive _ (rw same_length at held.carries)) sum law none
+        clash _ _ _ (positive_times _ (m * n) (mul-pos some_m some_n) (rw same_length at held.carries)) sum law none
       where
-        closed : (k : ℕ) → k < length p → held.inside k ≡ true → All (λ x. held.inside x.cell ≡ true) (whole_at w k).links
-        closed k j e =
-            let (steps, way) = held.component.reached k e in
-            All-zip (LinkWithin m n (length p)) (λ x. held.inside x.cell ≡ true) (λ x. held.inside x.cell ≡ true) (λ x z r h. subst (λ (i : ℕ). held.inside i ≡ true) r.same h) (entries_at p k).links (whole_at w k).links (cell_within m n p w within k j).links
-            (λ g d h. held.component.whole (suc steps) _ (Reaches-more p steps c k (get_or (entries_at p k).links g d) way (Contains-get_or (entries_at p k).links g d h)))
-
         solved_cell : (k : ℕ) → k < length w → (b : Bool) → cond b (whole_balance (whole_at w k) (Y k) Y) (pos 0) ≡ pos 0
         solved_cell k j true = solves k j
         solved_cell k j false = refl
@@ -54,12 +55,6 @@ module _ (m n : ℕ) (some_m : 0 < m) (some_n : 0 < n) (p : List Entries) (w : L
         deep_cell : (k : ℕ) → k < length p → (b : Bool) → (cond b (deep_low (entries_at p k)) (pos 0) *ℤ pos (m * n)) ≤ℤ cond b (whole_deep (whole_at w k)) (pos 0)
         deep_cell k j true = deep_less m n (length p) (entries_at p k) (whole_at w k) (cell_within m n p w within k j)
         deep_cell k j false = rw zero-*ℤ (omega (arith, ints))
-
-        positive : (s : ℤ) → pos 0 <ℤ s → pos 0 <ℤ (s *ℤ pos (m * n))
-        positive s h =
-            let one = mul_mono_right (m * n) (pos 1) s (omega (arith, ints)) in
-            let some : 1 * n ≤ m * n = mul-le-mul_right n some_m in
-            omega (arith, ints, one, some, some_n)
 
 -- a cell without a conductance to a known head has its deep flow
 deep-loose : (w : List WholeCell) (i : ℕ) → b_of w i ≡ 0 → deep (length w) (a_of w) (b_of w) (q_of w) (ramps_from 0 w) i ≡ whole_deep (whole_at w i)
@@ -110,23 +105,18 @@ module _ (m n : ℕ) (some_m : 0 < m) (some_n : 0 < n) (p : List Entries) (w : L
             carried.inside,
             record {
               closed = λ k z k_in z_in k_inside conducts.
-                  weight_is_of_links (λ y. carried.inside y ≡ true) (whole_at w k).links z (closed_links carried.inside c k (omega (arith, k_in, as_many)) (λ s y way. carried.component.whole s y way) (carried.component.reached k k_inside)) conducts;
+                  weight_is_of_links (λ y. carried.inside y ≡ true) (whole_at w k).links z (closed_links m n p w within c carried.inside carried.component k (omega (arith, k_in, as_many)) k_inside) conducts;
               within = λ k k_in k_inside. let (j, way) = carried.component.reached k k_inside in (along S closed j c k i inside way).1;
               carries = sums carried.inside carried.carries (λ k k_in k_inside. let (j, way) = carried.component.reached k k_inside in none k (omega (arith, k_in, as_many)) (along S closed j c k i inside way).1);
             },
           )
         ]
       where
-        closed_links : (T : ℕ → Bool) (c k : ℕ) → k < length p → ((s y : ℕ) → Reaches p s c y → T y ≡ true) → ((j : ℕ) × Reaches p j c k) → All (λ x. T x.cell ≡ true) (whole_at w k).links
-        closed_links T c k i whole (steps, way) =
-            All-zip (LinkWithin m n (length p)) (λ x. T x.cell ≡ true) (λ x. T x.cell ≡ true) (λ x z r h. subst (λ (i : ℕ). T i ≡ true) r.same h) (entries_at p k).links (whole_at w k).links (cell_within m n p w within k i).links
-            (λ g d h. whole (suc steps) _ (Reaches-more p steps c k (get_or (entries_at p k).links g d) way (Contains-get_or (entries_at p k).links g d h)))
-
         sums : (T : ℕ → Bool) → pos 0 <ℤ sum_inside (length p) T (λ k. deep_low (entries_at p k)) → ((k : ℕ) → k < length p → T k ≡ true → b_of w k ≡ 0) → pos 0 <ℤ sum_inside (length w) T (deep (length w) (a_of w) (b_of w) (q_of w) (ramps_from 0 w))
         sums T some none =
             let less = sum_at_most (length p) (λ k. cond (T k) (deep_low (entries_at p k)) (pos 0) *ℤ pos (m * n)) (λ k. cond (T k) (deep (length w) (a_of w) (b_of w) (q_of w) (ramps_from 0 w) k) (pos 0)) (λ k k_in. cell k k_in (T k) refl) in
             let less' = rw (← sum-times (length p) (λ k. cond (T k) (deep_low (entries_at p k)) (pos 0)) (pos (m * n))) at less in
-            subst (λ (z : ℕ). pos 0 <ℤ sum_inside z T (deep (length w) (a_of w) (b_of w) (q_of w) (ramps_from 0 w))) as_many (above _ _ (positive _ (m * n) (mul-pos some_m some_n) some) less')
+            subst (λ (z : ℕ). pos 0 <ℤ sum_inside z T (deep (length w) (a_of w) (b_of w) (q_of w) (ramps_from 0 w))) as_many (above _ _ (positive_times _ (m * n) (mul-pos some_m some_n) some) less')
           where
             cell : (k : ℕ) → k < length p → (s : Bool) → T k ≡ s → (cond s (deep_low (entries_at p k)) (pos 0) *ℤ pos (m * n)) ≤ℤ cond s (deep (length w) (a_of w) (b_of w) (q_of w) (ramps_from 0 w) k) (pos 0)
             cell k k_in true e = rw (deep-loose w k (none k k_in e)) (deep_less m n (length p) (entries_at p k) (whole_at w k) (cell_within m n p w within k k_in))
@@ -134,9 +124,3 @@ module _ (m n : ℕ) (some_m : 0 < m) (some_n : 0 < n) (p : List Entries) (w : L
 
             above : (x y : ℤ) → pos 0 <ℤ x → x ≤ℤ y → pos 0 <ℤ y
             above x y h k = omega (arith, ints)
-
-            positive : (z : ℤ) (k : ℕ) → 0 < k → pos 0 <ℤ z → pos 0 <ℤ (z *ℤ pos k)
-            positive z k some h = step z k some (mul_mono_right k (pos 1) z (omega (arith, ints)))
-              where
-                step : (z : ℤ) (k : ℕ) → 0 < k → (pos 1 *ℤ pos k) ≤ℤ (z *ℤ pos k) → pos 0 <ℤ (z *ℤ pos k)
-                step z k h e = omega (arith, ints)

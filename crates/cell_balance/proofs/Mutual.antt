@@ -1,6 +1,6 @@
 -- Where a step's cells are linked, any two cells conduct the same to each other.
-use Rattle.cell_balance.proofs.Common.{◌≡◌, ℕ, suc, zero, ◌*◌, ◌<◌, ◌⊎◌, inl, inr, refl, sym, ap, ◌∙◌, subst, arith, ℤ, pos, ◌+ℤ◌, List, [], ◌∷◌, length}
-use Rattle.cell_balance.proofs.Common.{get_or, Contains, AllZip, cases_eq, ne_eqb, eq-eqb, ints, All-get_or, le_of_mul-le-mul_right, Ratio, IsShare, ExactLink}
+use Rattle.cell_balance.proofs.Common.{◌≡◌, ℕ, suc, zero, ◌*◌, ◌<◌, ◌⊎◌, inl, inr, refl, sym, ap, ◌∙◌, subst, arith, pos, List, [], ◌∷◌, length, get_or}
+use Rattle.cell_balance.proofs.Common.{Contains, AllZip, cases_eq, ne_eqb, eq-eqb, ints, All-get_or, le_of_mul-le-mul_right, Ratio, IsShare, ExactLink, mul-pos}
 use Rattle.cell_balance.proofs.Common.{ExactCell, cell_at, no_cell, HasLinkBack, AreLinked, no_link}
 use Rattle.decimal_input.specs.Ratios.{Same, den}
 use Rattle.cell_balance.proofs.Zips.{AllZip-at, AllZip-length, All-zip, WholeLink, WholeCell, whole_at, no_whole}
@@ -21,15 +21,9 @@ weight_none (x ∷ xs) k h = rw (ne_eqb x.cell k (h 0 (omega arith)), weight_non
 weight_one : (xs : List WholeLink) (i k : ℕ) → Apart xs → i < length xs → (get_or xs i no_whole_link).cell ≡ k → weight xs k ≡ pos (get_or xs i no_whole_link).c
 weight_one [] i k apart h e = absurd (omega arith)
 weight_one (x ∷ xs) zero k apart h e =
-    rw (eq-eqb x.cell k e, weight_none xs k (λ j l f. apart 0 (suc j) (omega arith) (omega arith) (e ∙ sym f))) (plus_none (pos x.c))
-  where
-    plus_none : (a : ℤ) → a +ℤ pos 0 ≡ a
-    plus_none a = omega (arith, ints)
+    rw (eq-eqb x.cell k e, weight_none xs k (λ j l f. apart 0 (suc j) (omega arith) (omega arith) (e ∙ sym f))) (omega (arith, ints))
 weight_one (x ∷ xs) (suc i) k apart h e =
-    rw (ne_eqb x.cell k (λ f. apart 0 (suc i) (omega arith) h (f ∙ sym e)), weight_one xs i k (λ a b l m f. apart (suc a) (suc b) (omega arith) (omega arith) f) (omega arith) e) (none_plus (pos (get_or xs i no_whole_link).c))
-  where
-    none_plus : (a : ℤ) → pos 0 +ℤ a ≡ a
-    none_plus a = omega (arith, ints)
+    rw (ne_eqb x.cell k (λ f. apart 0 (suc i) (omega arith) h (f ∙ sym e)), weight_one xs i k (λ a b l m f. apart (suc a) (suc b) (omega arith) (omega arith) f) (omega arith) e) (omega (arith, ints))
 
 -- a list has a link to k, or none
 search_link : (xs : List WholeLink) (k : ℕ) → ((i : ℕ) × (i < length xs) × ((get_or xs i no_whole_link).cell ≡ k)) ⊎ ((i : ℕ) → i < length xs → (get_or xs i no_whole_link).cell ≡ k → ⊥)
@@ -49,13 +43,8 @@ search_link (x ∷ xs) k =
 
 -- one fraction has one share
 same_share : (d a b : ℕ) (q r : Ratio) → Same q r → IsShare d q a → IsShare d r b → a ≡ b
-same_share d a b q r s p o = cancel a b (den q * den r) (some (suc q.less) (suc r.less) (omega arith) (omega arith)) (cross q.num (den q) r.num (den r) d a b s.cross p.is o.is)
+same_share d a b q r s p o = cancel a b (den q * den r) (mul-pos (omega arith) (omega arith)) (cross q.num (den q) r.num (den r) d a b s.cross p.is o.is)
   where
-    some : (x y : ℕ) → 0 < x → 0 < y → 0 < x * y
-    some (suc x) (suc y) h k = omega arith
-    some zero y h k = absurd (omega arith)
-    some (suc x) zero h k = absurd (omega arith)
-
     cancel : (a b x : ℕ) → 0 < x → a * x ≡ b * x → a ≡ b
     cancel a b x h e =
         let low = le_of_mul-le-mul_right {m = a} {n = b} {k = x} (omega (arith, e)) h in

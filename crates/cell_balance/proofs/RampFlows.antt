@@ -1,6 +1,6 @@
 -- The flows of ramps: they leave the cell, fall as its head rises, and where they are the same at two heads they are within the full rates.
 use Rattle.cell_balance.proofs.Common.{[], ◌*ℤ◌, ◌+ℤ◌, ◌<ℤ◌, ◌∷◌, ◌≡◌, ◌≤ℤ◌, Bool, List, arith, cond, false, nat_eq, neg_ℤ, pos, suc, true, zero, ℕ, ℤ, *ℤ-zero}
-use Rattle.cell_balance.proofs.Common.{clamps, ints, total, as_diff, diffs, mul_mono, same_diff, None, Option, Some}
+use Rattle.cell_balance.proofs.Common.{zero-*ℤ, loss_falls, mul_add, clamps, ints, total, as_diff, diffs, mul_mono, same_diff, None, Option, Some}
 use Rattle.cell_balance.proofs.Scaling.{cancel_le}
 use Rattle.cell_balance.proofs.Ramps.{Ramp, rise, extent, ramp_flow, full_rate, rise_grows, rise_within_extent, extent_nonneg, rise_nonneg}
 
@@ -8,11 +8,8 @@ use Rattle.cell_balance.proofs.Ramps.{Ramp, rise, extent, ramp_flow, full_rate, 
 pub flow_falls : (d : ℕ) (x y : ℤ) (i : ℕ) (r : Ramp) → x ≤ℤ y → ramp_flow d y i r ≤ℤ ramp_flow d x i r
 flow_falls d x y i r h = cases (nat_eq r.cell i)
   where
-    turn : (x y : ℤ) → x ≤ℤ y → neg_ℤ y ≤ℤ neg_ℤ x
-    turn x y h = omega (arith, ints)
-
     cases : (s : Bool) → cond s (neg_ℤ (pos r.c *ℤ rise r.foot r.top d y)) (pos 0) ≤ℤ cond s (neg_ℤ (pos r.c *ℤ rise r.foot r.top d x)) (pos 0)
-    cases true = turn _ _ (mul_mono r.c _ _ (rise_grows r.foot r.top d x y h))
+    cases true = loss_falls r.c _ _ (rise_grows r.foot r.top d x y h)
     cases false = omega (arith, ints)
 
 pub flows_fall : (d : ℕ) (x y : ℤ) (i : ℕ) (rs : List Ramp) → x ≤ℤ y → total (ramp_flow d y i) rs ≤ℤ total (ramp_flow d x i) rs
@@ -21,16 +18,10 @@ flows_fall d x y i (r ∷ rs) h = omega (arith, ints, flow_falls d x y i r h, fl
 
 -- a ramp that carries no more at the higher of two heads carries at most its full rate
 carries_within_full : (c : ℕ) (t : ℤ) (top : Option ℤ) (d : ℕ) (x y : ℤ) → x <ℤ y → neg_ℤ (pos c *ℤ rise t top d x) ≤ℤ neg_ℤ (pos c *ℤ rise t top d y) → neg_ℤ (pos d *ℤ (pos c *ℤ extent t top)) ≤ℤ neg_ℤ (pos c *ℤ rise t top d y)
-carries_within_full zero t None d x y h k = nothing d
+carries_within_full zero t None d x y h k = nothing (pos d) (rise t None d y)
   where
-    nothing : (d : ℕ) → neg_ℤ (pos d *ℤ (pos 0 *ℤ pos 0)) ≤ℤ neg_ℤ (pos 0 *ℤ rise t None d y)
-    nothing d = omega (arith, ints, ring (pos d), ring_one (rise t None d y))
-      where
-        ring : (d : ℤ) → d *ℤ (pos 0 *ℤ pos 0) ≡ pos 0
-        ring d = omega (arith, ints)
-
-        ring_one : (z : ℤ) → pos 0 *ℤ z ≡ pos 0
-        ring_one z = omega (arith, ints)
+    nothing : (d r : ℤ) → neg_ℤ (d *ℤ (pos 0 *ℤ pos 0)) ≤ℤ neg_ℤ (pos 0 *ℤ r)
+    nothing d r = rw (zero-*ℤ r, zero-*ℤ (pos 0), *ℤ-zero d) (omega (arith, ints))
 carries_within_full (suc c) t None d x y h k =
     let low = cancel_le (suc c) (rise t None d y) (rise t None d x) (omega arith) (omega (arith, ints)) in
     step (pos d) (pos (suc c)) (rise t None d y) (omega (arith, ints, clamps))
@@ -62,10 +53,7 @@ flows_within_full d x y i (r ∷ rs) h k =
     (flow_within_full d x y i r h (omega (arith, ints))) (flows_within_full d x y i rs h (omega (arith, ints)))
   where
     both : (d f g x y : ℤ) → neg_ℤ (d *ℤ f) ≤ℤ x → neg_ℤ (d *ℤ g) ≤ℤ y → neg_ℤ (d *ℤ (f +ℤ g)) ≤ℤ (x +ℤ y)
-    both d f g x y h k = omega (arith, ints, ring d f g)
-      where
-        ring : (d f g : ℤ) → d *ℤ (f +ℤ g) ≡ d *ℤ f +ℤ d *ℤ g
-        ring d f g = rw (as_diff d, as_diff f, as_diff g) (simp diffs (same_diff _ _ _ _ (omega arith)))
+    both d f g x y h k = omega (arith, ints, mul_add d f g)
 
 times_nonneg : (c : ℕ) (z : ℤ) → pos 0 ≤ℤ z → pos 0 ≤ℤ (pos c *ℤ z)
 times_nonneg c z h = rw *ℤ-zero at (mul_mono c (pos 0) z h)
@@ -80,9 +68,6 @@ full_rate_nonneg i r = cases (nat_eq r.cell i)
 pub flow_leaves : (d : ℕ) (x : ℤ) (i : ℕ) (r : Ramp) → ramp_flow d x i r ≤ℤ pos 0
 flow_leaves d x i r = cases (nat_eq r.cell i)
   where
-    turn : (z : ℤ) → pos 0 ≤ℤ z → neg_ℤ z ≤ℤ pos 0
-    turn z h = omega (arith, ints)
-
     cases : (s : Bool) → cond s (neg_ℤ (pos r.c *ℤ rise r.foot r.top d x)) (pos 0) ≤ℤ pos 0
-    cases true = turn _ (times_nonneg r.c _ (rise_nonneg r.foot r.top d x))
+    cases true = rw *ℤ-zero at (loss_falls r.c (pos 0) _ (rise_nonneg r.foot r.top d x))
     cases false = omega (arith, ints)

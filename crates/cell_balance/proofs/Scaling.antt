@@ -1,8 +1,8 @@
 -- Arithmetic of fractions goes over to whole numbers over a common denominator.
-use Rattle.cell_balance.proofs.Common.{◌≡◌, ℕ, suc, ◌+◌, ◌*◌, ◌<◌, sym, ap, ◌∙◌, arith, ℤ, pos, neg_ℤ, ◌+ℤ◌, ◌-ℤ◌, ◌*ℤ◌, List, [], ◌∷◌, ◌≤◌, refl, negsuc, ◌≤ℤ◌}
-use Rattle.cell_balance.proofs.Common.{◌<ℤ◌, AllZip, int_max, int_min, ints, clamps, by_lt_z, zero-*ℤ, Ratio, Fraction, whole, signed, negated, fraction_total}
-use Rattle.cell_balance.proofs.Common.{IsOver, IsShare, den, plus, times, diffs, as_diff, same_diff, mul_mono, mul_add, neg_mul, total, minus, greater, lesser}
-use Rattle.cell_balance.proofs.Common.{mul_mono_right, swap, mul-le-mul_right}
+use Rattle.cell_balance.proofs.Common.{◌≡◌, ℕ, zero, suc, ◌+◌, ◌*◌, ◌<◌, sym, ap, ◌∙◌, arith, ℤ, pos, neg_ℤ, ◌+ℤ◌, ◌-ℤ◌, ◌*ℤ◌, List, [], ◌∷◌, ◌≤◌, refl, negsuc}
+use Rattle.cell_balance.proofs.Common.{◌≤ℤ◌, ◌<ℤ◌, AllZip, int_max, int_min, ints, clamps, by_lt_z, zero-*ℤ, Ratio, Fraction, whole, signed, negated}
+use Rattle.cell_balance.proofs.Common.{fraction_total, IsOver, IsShare, den, plus, times, diffs, as_diff, same_diff, mul_mono, mul_add, neg_mul, total, minus}
+use Rattle.cell_balance.proofs.Common.{greater, lesser, mul_mono_right, swap, mul-le-mul_right, *ℤ_comm}
 
 -- Order laws of products with whole conductances, and what holds at a cell whose excess over its solution is the greatest, on either side.
 -- a product with a positive number is zero only where the other factor is
@@ -23,6 +23,18 @@ cancel_le c a b h k =
     absurd (omega (arith, ints)))
     (λ le. le)
 
+-- a number above 0, times a whole number above 0
+pub positive_times : (z : ℤ) (k : ℕ) → 0 < k → pos 0 <ℤ z → pos 0 <ℤ (z *ℤ pos k)
+positive_times z k some h = step (mul_mono_right k (pos 1) z (omega (arith, ints)))
+  where
+    step : (pos 1 *ℤ pos k) ≤ℤ (z *ℤ pos k) → pos 0 <ℤ (z *ℤ pos k)
+    step e = omega (arith, ints)
+
+-- a share of a conductance of 0
+pub none_shared : (k c : ℕ) (r : Ratio) → r.num ≡ 0 → IsShare k r c → c ≡ 0
+none_shared k zero r e s = refl
+none_shared k (suc c) r e s = let t : r.num * k ≡ 0 * k = ap (λ (z : ℕ). z * k) e in absurd (omega (arith, s.is, t))
+
 -- what certainly conducts in the bounds conducts
 pub conducting : (m lo c : ℕ) → 0 < m → 0 < lo → lo * m ≤ c → 0 < c
 conducting m lo c d h k = let q : 1 * m ≤ lo * m = mul-le-mul_right m h in omega arith
@@ -31,9 +43,6 @@ conducting m lo c d h k = let q : 1 * m ≤ lo * m = mul-le-mul_right m h in ome
 pub positive_natural : (z : ℤ) → pos 0 <ℤ z → (s : ℕ) × (0 < s) × (z ≡ pos s)
 positive_natural (pos s) h = (s, omega (arith, ints), refl)
 positive_natural (negsuc s) h = absurd (omega (arith, ints))
-
-pub mul_comm : (a b : ℤ) → a *ℤ b ≡ b *ℤ a
-mul_comm a b = rw (as_diff a, as_diff b) (simp diffs (same_diff _ _ _ _ (omega arith)))
 
 den_product : (f g : Fraction) → pos (suc (f.less * g.less + f.less + g.less)) ≡ pos (den f) *ℤ pos (den g)
 den_product f g = ap pos (omega arith)
@@ -93,7 +102,7 @@ crossed d f a k p = swap f.num (pos k) (pos d) ∙ ap (λ (z : ℤ). z *ℤ pos 
     assoc a b c = rw (as_diff a, as_diff b, as_diff c) (simp diffs (same_diff _ _ _ _ (omega arith)))
 
 pub crossed_back : (d : ℕ) (f g : Fraction) (b : ℤ) → IsOver d g b → (g.num *ℤ pos (den f)) *ℤ pos d ≡ b *ℤ (pos (den f) *ℤ pos (den g))
-crossed_back d f g b q = crossed d g b (den f) q ∙ ap (λ (k : ℤ). b *ℤ k) (mul_comm (pos (den g)) (pos (den f)))
+crossed_back d f g b q = crossed d g b (den f) q ∙ ap (λ (k : ℤ). b *ℤ k) (*ℤ_comm (pos (den g)) (pos (den f)))
 
 pub IsOver-greater : (d : ℕ) (f g : Fraction) (a b : ℤ) → IsOver d f a → IsOver d g b → IsOver d (greater f g) (int_max a b)
 IsOver-greater d f g a b p q = record {
@@ -114,8 +123,8 @@ IsOver-total R d f g each (x ∷ xs) (y ∷ ys) h = IsOver-plus d (f x) (fractio
 -- a fraction that is zero is zero over any d
 pub zero_over : (d : ℕ) (f : Fraction) (z : ℤ) → IsOver d f z → f.num ≡ pos 0 → z ≡ pos 0
 zero_over d f z h e =
-    zero_factor (den f) z (omega arith) (mul_comm (pos (den f)) z ∙ sym h.is ∙ ap (λ (k : ℤ). k *ℤ pos d) e ∙ zero-*ℤ (pos d))
+    zero_factor (den f) z (omega arith) (*ℤ_comm (pos (den f)) z ∙ sym h.is ∙ ap (λ (k : ℤ). k *ℤ pos d) e ∙ zero-*ℤ (pos d))
 
 -- and one that is zero over d is zero
 pub over_zero : (d : ℕ) (f : Fraction) → 0 < d → IsOver d f (pos 0) → f.num ≡ pos 0
-over_zero d f some h = zero_factor d f.num some (mul_comm (pos d) f.num ∙ h.is ∙ zero-*ℤ (pos (den f)))
+over_zero d f some h = zero_factor d f.num some (*ℤ_comm (pos d) f.num ∙ h.is ∙ zero-*ℤ (pos (den f)))

@@ -29,6 +29,14 @@ pub sum-add : (n : ℕ) (f g : ℕ → ℤ) → sum_below n (λ k. f k +ℤ g k)
 sum-add zero f g = refl
 sum-add (suc n) f g = rw (sum-add n f g) (omega (arith, ints))
 
+-- over the cells that pass a test
+pub sum_inside-add : (n : ℕ) (T : ℕ → Bool) (f g : ℕ → ℤ) → sum_inside n T (λ k. f k +ℤ g k) ≡ sum_inside n T f +ℤ sum_inside n T g
+sum_inside-add n T f g = sum-same n _ _ (λ k h. apart (T k) (f k) (g k)) ∙ sum-add n (λ k. cond (T k) (f k) (pos 0)) (λ k. cond (T k) (g k) (pos 0))
+  where
+    apart : (s : Bool) (x y : ℤ) → cond s (x +ℤ y) (pos 0) ≡ cond s x (pos 0) +ℤ cond s y (pos 0)
+    apart true x y = refl
+    apart false x y = refl
+
 pub sum-neg : (n : ℕ) (f : ℕ → ℤ) → sum_below n (λ k. neg_ℤ (f k)) ≡ neg_ℤ (sum_below n f)
 sum-neg zero f = refl
 sum-neg (suc n) f = rw (sum-neg n f) (omega (arith, ints))
@@ -123,17 +131,13 @@ link_flows_cancel n a T Y both closed = sum-same n _ _ (λ i h. row i h (T i) re
 pub carried_gain : (n : ℕ) (a : ℕ → ℕ → ℤ) (T : ℕ → Bool) (Y g : ℕ → ℤ) (d : ℕ) → AreMutual n a → IsClosed n a T → 0 < d → pos 0 <ℤ sum_inside n T g → ((i : ℕ) → i < n → T i ≡ true → (link_flow n a Y i +ℤ pos d *ℤ g i) ≤ℤ pos 0) → ⊥
 carried_gain n a T Y g d both closed some carries loses =
     let less = sum_at_most n (λ i. cond (T i) (link_flow n a Y i +ℤ pos d *ℤ g i) (pos 0)) (λ i. pos 0) (λ i h. cell i h (T i) refl) in
-    let split = sum-same n _ _ (λ i h. apart (T i) (link_flow n a Y i) (pos d *ℤ g i)) ∙ sum-add n (λ i. cond (T i) (link_flow n a Y i) (pos 0)) (λ i. cond (T i) (pos d *ℤ g i) (pos 0)) in
+    let split = sum_inside-add n T (link_flow n a Y) (λ i. pos d *ℤ g i) in
     let flows = times n in
     clash _ _ _ (pos 0) (pos 0) _ less split (link_flows_cancel n a T Y both closed) flows (sum-zero n)
   where
     cell : (i : ℕ) → i < n → (s : Bool) → T i ≡ s → cond s (link_flow n a Y i +ℤ pos d *ℤ g i) (pos 0) ≤ℤ pos 0
     cell i h true e = loses i h e
     cell i h false e = omega (arith, ints)
-
-    apart : (s : Bool) (x y : ℤ) → cond s (x +ℤ y) (pos 0) ≡ cond s x (pos 0) +ℤ cond s y (pos 0)
-    apart true x y = refl
-    apart false x y = refl
 
     times_cell : (s : Bool) (x y : ℤ) → pos d *ℤ x +ℤ cond s (pos d *ℤ y) (pos 0) ≡ pos d *ℤ (x +ℤ cond s y (pos 0))
     times_cell true x y = sym (mul_add (pos d) x y)

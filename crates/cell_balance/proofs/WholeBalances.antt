@@ -18,17 +18,14 @@ known_flow x = pos x.c *ℤ x.top
 abbrev pub own_flow : WholeCell → ℤ
 own_flow w = total (λ q. q) w.flows +ℤ total known_flow w.fixed +ℤ total whole_deep_river w.rivers
 
-abbrev pub river_ramp : ℕ → WholeEntry → Ramp
-river_ramp i x = record { cell = i; c = x.c; foot = x.foot; top = None }
-
-abbrev pub drain_ramp : ℕ → WholeEntry → Ramp
-drain_ramp i x = record { cell = i; c = x.c; foot = x.foot; top = None }
+abbrev pub open_ramp : ℕ → WholeEntry → Ramp
+open_ramp i x = record { cell = i; c = x.c; foot = x.foot; top = None }
 
 abbrev pub evap_ramp : ℕ → WholeEntry → Ramp
 evap_ramp i x = record { cell = i; c = x.c; foot = x.foot; top = Some x.top }
 
 abbrev pub cell_ramps : ℕ → WholeCell → List Ramp
-cell_ramps i w = map (river_ramp i) w.rivers ++ (map (drain_ramp i) w.drains ++ map (evap_ramp i) w.evaps)
+cell_ramps i w = map (open_ramp i) w.rivers ++ (map (open_ramp i) w.drains ++ map (evap_ramp i) w.evaps)
 
 abbrev pub ramps_from : ℕ → List WholeCell → List Ramp
 ramps_from k [] = []
@@ -48,7 +45,7 @@ abbrev pub at_cell : (Ramp → ℤ) → ℕ → Ramp → ℤ
 at_cell g i r = cond (nat_eq r.cell i) (g r) (pos 0)
 
 abbrev pub cell_sum : (Ramp → ℤ) → ℕ → WholeCell → ℤ
-cell_sum g i w = total (λ x. g (river_ramp i x)) w.rivers +ℤ (total (λ x. g (drain_ramp i x)) w.drains +ℤ total (λ x. g (evap_ramp i x)) w.evaps)
+cell_sum g i w = total (λ x. g (open_ramp i x)) w.rivers +ℤ (total (λ x. g (open_ramp i x)) w.drains +ℤ total (λ x. g (evap_ramp i x)) w.evaps)
 
 total-append : {X : Type 0} (f : X → ℤ) (xs ys : List X) → total f (xs ++ ys) ≡ total f xs +ℤ total f ys
 total-append f [] ys = omega (arith, ints)
@@ -64,13 +61,13 @@ total-away g i f (x ∷ xs) cells = rw (ne_eqb (f x).cell i (cells x), total-awa
 
 cell_ramps-here : (g : Ramp → ℤ) (i : ℕ) (w : WholeCell) → total (at_cell g i) (cell_ramps i w) ≡ cell_sum g i w
 cell_ramps-here g i w =
-    total-append (at_cell g i) (map (river_ramp i) w.rivers) (map (drain_ramp i) w.drains ++ map (evap_ramp i) w.evaps)
-    ∙ rw (total-append (at_cell g i) (map (drain_ramp i) w.drains) (map (evap_ramp i) w.evaps), total-here g i (river_ramp i) w.rivers (λ x. refl), total-here g i (drain_ramp i) w.drains (λ x. refl), total-here g i (evap_ramp i) w.evaps (λ x. refl)) refl
+    total-append (at_cell g i) (map (open_ramp i) w.rivers) (map (open_ramp i) w.drains ++ map (evap_ramp i) w.evaps)
+    ∙ rw (total-append (at_cell g i) (map (open_ramp i) w.drains) (map (evap_ramp i) w.evaps), total-here g i (open_ramp i) w.rivers (λ x. refl), total-here g i (open_ramp i) w.drains (λ x. refl), total-here g i (evap_ramp i) w.evaps (λ x. refl)) refl
 
 cell_ramps-away : (g : Ramp → ℤ) (i k : ℕ) (w : WholeCell) → (k ≡ i → ⊥) → total (at_cell g i) (cell_ramps k w) ≡ pos 0
 cell_ramps-away g i k w apart =
-    total-append (at_cell g i) (map (river_ramp k) w.rivers) (map (drain_ramp k) w.drains ++ map (evap_ramp k) w.evaps)
-    ∙ rw (total-append (at_cell g i) (map (drain_ramp k) w.drains) (map (evap_ramp k) w.evaps), total-away g i (river_ramp k) w.rivers (λ x. apart), total-away g i (drain_ramp k) w.drains (λ x. apart), total-away g i (evap_ramp k) w.evaps (λ x. apart)) refl
+    total-append (at_cell g i) (map (open_ramp k) w.rivers) (map (open_ramp k) w.drains ++ map (evap_ramp k) w.evaps)
+    ∙ rw (total-append (at_cell g i) (map (open_ramp k) w.drains) (map (evap_ramp k) w.evaps), total-away g i (open_ramp k) w.rivers (λ x. apart), total-away g i (open_ramp k) w.drains (λ x. apart), total-away g i (evap_ramp k) w.evaps (λ x. apart)) refl
 
 ramps_from-away : (g : Ramp → ℤ) (i k : ℕ) (ws : List WholeCell) → i < k → total (at_cell g i) (ramps_from k ws) ≡ pos 0
 ramps_from-away g i k [] h = refl
@@ -132,12 +129,12 @@ fixed_scaled_total d y (x ∷ xs) = rw (fixed_scaled_total d y xs) (ring (pos x.
 abbrev pub ramp_gives : ℕ → ℤ → Ramp → ℤ
 ramp_gives d y r = neg_ℤ (pos r.c *ℤ rise r.foot r.top d y)
 
-rivers_scaled_total : (d i : ℕ) (y : ℤ) (xs : List WholeEntry) → total (whole_river y) (map (scaled_entry d) xs) ≡ pos d *ℤ total whole_deep_river xs +ℤ total (λ x. ramp_gives d y (river_ramp i x)) xs
+rivers_scaled_total : (d i : ℕ) (y : ℤ) (xs : List WholeEntry) → total (whole_river y) (map (scaled_entry d) xs) ≡ pos d *ℤ total whole_deep_river xs +ℤ total (λ x. ramp_gives d y (open_ramp i x)) xs
 rivers_scaled_total d i y [] = none (pos d)
   where
     none : (d : ℤ) → pos 0 ≡ d *ℤ pos 0 +ℤ pos 0
     none d = rw (*ℤ-zero d) refl
-rivers_scaled_total d i y (x ∷ xs) = rw (rivers_scaled_total d i y xs, apart y (x.foot *ℤ pos d)) (ring (pos x.c) x.top x.foot (pos d) (int_max (y -ℤ x.foot *ℤ pos d) (pos 0)) (total whole_deep_river xs) (total (λ x. ramp_gives d y (river_ramp i x)) xs))
+rivers_scaled_total d i y (x ∷ xs) = rw (rivers_scaled_total d i y xs, apart y (x.foot *ℤ pos d)) (ring (pos x.c) x.top x.foot (pos d) (int_max (y -ℤ x.foot *ℤ pos d) (pos 0)) (total whole_deep_river xs) (total (λ x. ramp_gives d y (open_ramp i x)) xs))
   where
     apart : (y b : ℤ) → int_max y b ≡ b +ℤ int_max (y -ℤ b) (pos 0)
     apart y b = omega (arith, ints, clamps)
@@ -158,7 +155,7 @@ scaled_balance w d X i range =
       by_weight (length w) u.links (λ k. X k -ℤ X i) range,
       ramps_at_cell (ramp_gives d (X i)) i w,
     )
-    (ring (pos d) (total (λ q. q) u.flows) (sum_below (length w) (λ k. weight u.links k *ℤ (X k -ℤ X i))) (total known_flow u.fixed) (pos (known_conductance u.fixed) *ℤ X i) (total whole_deep_river u.rivers) (total (λ x. ramp_gives d (X i) (river_ramp i x)) u.rivers) (total (λ x. ramp_gives d (X i) (drain_ramp i x)) u.drains) (total (λ x. ramp_gives d (X i) (evap_ramp i x)) u.evaps))
+    (ring (pos d) (total (λ q. q) u.flows) (sum_below (length w) (λ k. weight u.links k *ℤ (X k -ℤ X i))) (total known_flow u.fixed) (pos (known_conductance u.fixed) *ℤ X i) (total whole_deep_river u.rivers) (total (λ x. ramp_gives d (X i) (open_ramp i x)) u.rivers) (total (λ x. ramp_gives d (X i) (open_ramp i x)) u.drains) (total (λ x. ramp_gives d (X i) (evap_ramp i x)) u.evaps))
   where
     ring : (d f l g b s r o e : ℤ) → d *ℤ f +ℤ l +ℤ (d *ℤ g -ℤ b) +ℤ (d *ℤ s +ℤ r) +ℤ o +ℤ e ≡ l +ℤ (d *ℤ (f +ℤ g +ℤ s) -ℤ b) +ℤ (r +ℤ (o +ℤ e))
     ring d f l g b s r o e = rw (as_diff d, as_diff f, as_diff l, as_diff g, as_diff b, as_diff s, as_diff r, as_diff o, as_diff e) (simp diffs (same_diff _ _ _ _ (omega arith)))

@@ -1,8 +1,7 @@
 -- A certificate encloses what its barrier encloses.
-use Rattle.certificate_check.proofs.Common.{ℕ, ◌<◌, List, length, ℤ, Edges, head_at, IsCertificate, IsProblem, pair_certifies, SettledPairEncloses}
+use Rattle.certificate_check.proofs.Common.{ℕ, ◌<◌, List, length, ℤ, Edges, head_at, IsCertificate, IsProblem, pair_certifies, SettledPairEncloses, compares}
 use Rattle.step_problem.specs.Entries.{Entries}
 use Rattle.cell_balance.specs.{ExactCell, EnclosesStep, EnclosesSolutions, SolvesStep, LiesBetween, IsHeldBelow}
-use Rattle.cell_balance.proofs.Encloses.{compares}
 
 module _ (p : List Entries) (b : Edges) (l u : ℕ → ℤ) where
   pub certificate_compares : IsProblem p → IsCertificate p b l u → IsHeldBelow p → (s : ℕ) (e : List ExactCell) (d : ℕ) (X : ℕ → ℤ) → EnclosesStep s p e → 0 < d → SolvesStep e d X → LiesBetween (length p) d X (head_at b.floor) (head_at b.ceiling) → LiesBetween (length p) d X l u

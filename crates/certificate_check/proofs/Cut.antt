@@ -1,9 +1,7 @@
 -- A certificate over a cut barrier encloses every solution, and one over the clamped barrier fails only where a bound was cut.
-use Rattle.certificate_check.proofs.Common.{ℕ, ◌<◌, List, ℤ, Edges, head_at, lower_at, upper_at, ◌≡◌, zero, suc, ◌*◌, ◌≤◌, ◌^◌, ◌⊎◌, inl, inr, refl, subst, sym}
-use Rattle.certificate_check.proofs.Common.{arith, [], ◌∷◌, pos, negsuc, neg_ℤ, ◌*ℤ◌, ◌≤ℤ◌, ◌<ℤ◌, Low, High, head_limit, pair_certifies, HoldsAt}
-use Rattle.certificate_check.proofs.Common.{CertificateEncloses, FailsOnlyWhereCut, CertificateExcludesRefusal, RangeRefusalIsOne, ClampedPairEncloses}
-use Rattle.std.proofs.Math.IntN.{negsuc-*ℤ-pos, pos-*ℤ-pos}
-use Rattle.std.proofs.Math.Nat.{mul-le-mul_right}
+use Rattle.certificate_check.proofs.Common.{lower_at, upper_at, head_at, ℕ, ℤ, ◌^◌, inl, inr, subst, arith, pos, neg_ℤ, ◌*ℤ◌, ◌≤ℤ◌, ◌<ℤ◌, Low, High, head_limit}
+use Rattle.certificate_check.proofs.Common.{pair_certifies, HoldsAt, CertificateEncloses, FailsOnlyWhereCut, CertificateExcludesRefusal, RangeRefusalIsOne}
+use Rattle.certificate_check.proofs.Common.{ClampedPairEncloses, bounds_enclose}
 use Rattle.std.proofs.lemmas.Int.{by_lt_z, clamps, ints}
 use Rattle.decimal_input.proofs.FloorLaws.{le-trans, mul_mono_right}
 use Rattle.barrier_vector.specs.{clamp, clamped, range_on}
@@ -11,83 +9,19 @@ use Rattle.barrier_vector.proofs.Cutting.{refusal_is_one}
 use Rattle.barrier_vector.proofs.Outlining.{clamped_at}
 use Rattle.certificate_check.proofs.Certified.{certificate_compares}
 
--- a list that is related to another one place by place, with a number of each place: also past the end, where both are 0
-module _ (Fits : ℤ → ℤ → ℤ → Type 0) (one : (f y : ℤ) → (g : ℤ) × Fits f y g) (none : (y : ℤ) → Fits (pos 0) y (pos 0)) where
-  fitted : (fs : List ℤ) (Y : ℕ → ℤ) → (gs : List ℤ) × ((c : ℕ) → Fits (head_at fs c) (Y c) (head_at gs c))
-  fitted [] Y = ([], λ c. none (Y c))
-  fitted (f ∷ fs) Y = let (g, is) = one f (Y 0) in let (gs, rest) = fitted fs (λ c. Y (suc c)) in (g ∷ gs, each g gs is rest)
-    where
-      each : (g : ℤ) (gs : List ℤ) → Fits f (Y 0) g → ((c : ℕ) → Fits (head_at fs c) (Y (suc c)) (head_at gs c)) → (c : ℕ) → Fits (head_at (f ∷ fs) c) (Y c) (head_at (g ∷ gs) c)
-      each g gs is rest zero = is
-      each g gs is rest (suc c) = rest c
+-- a head at or past a bound that was not cut lies where the bound does, and no head lies at one that was cut
+low_lies : (d : ℕ) (f y l : ℤ) → neg_ℤ (pos head_limit) ≤ℤ l → (neg_ℤ (pos head_limit) ≤ℤ f → (f *ℤ pos d) ≤ℤ y) → l ≤ℤ f → (l *ℤ pos d) ≤ℤ y
+low_lies d f y l head uncut under = le-trans _ _ _ (mul_mono_right d l f under) (uncut (le-trans _ _ _ head under))
 
--- a floor that was cut gives way to a number at or below one solution, and each other floor stays
-abbrev FloorFits : ℕ → ℤ → ℤ → ℤ → Type 0
-FloorFits d f y g = ((f <ℤ neg_ℤ (pos head_limit)) × ((g *ℤ pos d) ≤ℤ y)) ⊎ ((neg_ℤ (pos head_limit) ≤ℤ f) × (g ≡ f))
-
-abbrev CeilingFits : ℕ → ℤ → ℤ → ℤ → Type 0
-CeilingFits d f y g = ((pos head_limit <ℤ f) × (y ≤ℤ (g *ℤ pos d))) ⊎ ((f ≤ℤ pos head_limit) × (g ≡ f))
-
-module _ (d : ℕ) (some : 0 < d) where
-  longer : (n : ℕ) → n ≤ n * d
-  longer n = omega (arith, mul-le-mul_right n some)
-
-  below : (y : ℤ) → (g : ℤ) × ((g *ℤ pos d) ≤ℤ y)
-  below (pos n) = (pos 0, omega (arith, ints))
-  below (negsuc n) = (negsuc n, omega (arith, ints, negsuc-*ℤ-pos n d, longer (suc n)))
-
-  above : (y : ℤ) → (g : ℤ) × (y ≤ℤ (g *ℤ pos d))
-  above (pos n) = (pos n, omega (arith, ints, pos-*ℤ-pos n d, longer n))
-  above (negsuc n) = (pos 0, omega (arith, ints))
-
-  low_one : (f y : ℤ) → (g : ℤ) × FloorFits d f y g
-  low_one f y = by_lt_z f (neg_ℤ (pos head_limit)) (λ cut. let (g, is) = below y in (g, inl (cut, is))) (λ uncut. (f, inr (uncut, refl)))
-
-  high_one : (f y : ℤ) → (g : ℤ) × CeilingFits d f y g
-  high_one f y = by_lt_z (pos head_limit) f (λ cut. let (g, is) = above y in (g, inl (cut, is))) (λ uncut. (f, inr (uncut, refl)))
-
-  low_fitted : (fs : List ℤ) (Y : ℕ → ℤ) → (gs : List ℤ) × ((c : ℕ) → FloorFits d (head_at fs c) (Y c) (head_at gs c))
-  low_fitted = fitted (FloorFits d) low_one (λ y. inr (omega (arith, ints), refl))
-
-  high_fitted : (fs : List ℤ) (Y : ℕ → ℤ) → (gs : List ℤ) × ((c : ℕ) → CeilingFits d (head_at fs c) (Y c) (head_at gs c))
-  high_fitted = fitted (CeilingFits d) high_one (λ y. inr (omega (arith, ints), refl))
-
--- no head is at a floor that was cut, so the certificate holds over the other floors too
-low_kept : (d : ℕ) (f y g l : ℤ) (B : Type 0) → FloorFits d f y g → neg_ℤ (pos head_limit) ≤ℤ l → (l ≤ℤ f) ⊎ B → (l ≤ℤ g) ⊎ B
-low_kept d f y g l B fits head (inr b) = inr b
-low_kept d f y g l B (inl (cut, _)) head (inl under) = absurd (omega (arith, ints, cut, head, under))
-low_kept d f y g l B (inr (_, same)) head (inl under) = inl (omega (arith, ints, under, same))
-
-high_kept : (d : ℕ) (f y g u : ℤ) (B : Type 0) → CeilingFits d f y g → u ≤ℤ pos head_limit → (f ≤ℤ u) ⊎ B → (g ≤ℤ u) ⊎ B
-high_kept d f y g u B fits head (inr b) = inr b
-high_kept d f y g u B (inl (cut, _)) head (inl over) = absurd (omega (arith, ints, cut, head, over))
-high_kept d f y g u B (inr (_, same)) head (inl over) = inl (omega (arith, ints, over, same))
-
-low_lies : (d : ℕ) (f y g : ℤ) → FloorFits d f y g → (neg_ℤ (pos head_limit) ≤ℤ f → (f *ℤ pos d) ≤ℤ y) → (g *ℤ pos d) ≤ℤ y
-low_lies d f y g (inl (_, lies)) uncut = lies
-low_lies d f y g (inr (is, same)) uncut = subst (λ (z : ℤ). (z *ℤ pos d) ≤ℤ y) (sym same) (uncut is)
-
-high_lies : (d : ℕ) (f y g : ℤ) → CeilingFits d f y g → (f ≤ℤ pos head_limit → y ≤ℤ (f *ℤ pos d)) → y ≤ℤ (g *ℤ pos d)
-high_lies d f y g (inl (_, lies)) uncut = lies
-high_lies d f y g (inr (is, same)) uncut = subst (λ (z : ℤ). y ≤ℤ (z *ℤ pos d)) (sym same) (uncut is)
+high_lies : (d : ℕ) (f y u : ℤ) → u ≤ℤ pos head_limit → (f ≤ℤ pos head_limit → y ≤ℤ (f *ℤ pos d)) → f ≤ℤ u → y ≤ℤ (u *ℤ pos d)
+high_lies d f y u head uncut over = le-trans _ _ _ (uncut (le-trans _ _ _ over head)) (mul_mono_right d f u over)
 
 pub words_enclose : CertificateEncloses
 words_enclose p b words ok fits held certificate uncut s e d X encloses some solves =
-    let Y : ℕ → ℤ = λ c. X c *ℤ pos (10 ^ 9) in
-    let (floor, floors) = low_fitted d some b.floor Y in
-    let (ceiling, ceilings) = high_fitted d some b.ceiling Y in
     let lies = uncut s e d X encloses some solves in
-    let over : Edges = record { floor = floor; ceiling = ceiling } in
-    certificate_compares p over (lower_at words) (upper_at words) ok
-    (record {
-      low = λ c i. low_kept d (head_at b.floor c) (Y c) (head_at floor c) (lower_at words c) _ (floors c) (fits.low c i).above (certificate.low c i);
-      high = λ c i. high_kept d (head_at b.ceiling c) (Y c) (head_at ceiling c) (upper_at words c) _ (ceilings c) (fits.high c i).below (certificate.high c i);
-    })
-    held s e d X encloses some solves
-    (record {
-      low = λ c i. low_lies d (head_at b.floor c) (Y c) (head_at floor c) (floors c) (lies.low c i);
-      high = λ c i. high_lies d (head_at b.ceiling c) (Y c) (head_at ceiling c) (ceilings c) (lies.high c i);
-    })
+    bounds_enclose p (lower_at words) (upper_at words) s e d X ok held encloses some solves
+    (λ c i. elim (certificate.low c i) [ inl under ↦ inl (low_lies d (head_at b.floor c) _ (lower_at words c) (fits.low c i).above (lies.low c i) under) | inr can ↦ inr can ])
+    (λ c i. elim (certificate.high c i) [ inl over ↦ inl (high_lies d (head_at b.ceiling c) _ (upper_at words c) (fits.high c i).below (lies.high c i) over) | inr can ↦ inr can ])
 
 low_stays : (f l : ℤ) → (f <ℤ neg_ℤ (pos head_limit) → ⊥) → l ≤ℤ clamp f → l ≤ℤ f
 low_stays f l uncut under = by_lt_z f (neg_ℤ (pos head_limit)) (λ cut. absurd (uncut cut)) (λ le. omega (arith, ints, clamps, under, le))
