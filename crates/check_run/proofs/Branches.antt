@@ -1,13 +1,13 @@
 -- The branches of a step's problem, and of a hull of two, are those of the first deck's cells; so its faces join the pairs of zones that share a face.
-use Rattle.check_run.proofs.Common.{IsHullOf, fixed_hull, link_hull, fixed_shape, link_shape, ◌≡◌, inl, inr, ℕ, suc, ◌<◌, ◌++◌, ◌⊎◌, Bool, true, false, cond}
-use Rattle.check_run.proofs.Common.{List, [], ◌∷◌, length, get_or, Option, Some, None, refl, sym, ap, ◌∙◌, subst, arith, ℤ, AllZip, flat_map, filter_map}
+use Rattle.check_run.proofs.Common.{cell_hull, cell_shape, fixed_hull, fixed_shape, map, zip_with, ◌≡◌, inl, inr, ℕ, suc, ◌<◌, ◌++◌, ◌⊎◌, Bool, true, false}
+use Rattle.check_run.proofs.Common.{cond, List, [], ◌∷◌, length, get_or, Option, Some, None, refl, sym, ap, ◌∙◌, subst, arith, ℤ, AllZip, flat_map, filter_map}
 use Rattle.check_run.proofs.Common.{nat_lt, slice_index, and_from, and_parts, cases_Bool, leb-true, lt-ltb, nat_tests, Bound, Entries, entries_at, no_entries}
 use Rattle.check_run.proofs.Common.{FlowModel, TimeStep, cell_count, HasSize, is_variable, is_constant, is_active, index_of, variable_cells, FixedSource}
 use Rattle.check_run.proofs.Common.{as_general, constant_faces, fixed_sources, local_entries, storage_at, variable_faces, passing, at_rank, below_is, index_is}
-use Rattle.check_run.proofs.Common.{index_below, IsCellOf, IsFixed, IsLink, IsCellHull, AllThree, next, none, IsProblemBy, Face, share, any_in, in_any}
-use Rattle.check_run.proofs.Common.{cell_faces, face_between, face_from, faces, faces_by_kind, fixed_faces, link_faces, is_lower_zone, ZonePair, share_face}
-use Rattle.check_run.proofs.Common.{joins, face_of, join_of, shares, AllZip-at, AllZip-length, flat-In, IsProblemOf, AllZip-weaker, ToConstant, ToGeneral}
-use Rattle.check_run.proofs.Common.{FromStorage, is_between, eqb-true, ◌==◌}
+use Rattle.check_run.proofs.Common.{index_below, IsCellOf, IsFixed, IsLink, IsProblemBy, Face, share, any_in, in_any, cell_faces, face_between, face_from}
+use Rattle.check_run.proofs.Common.{faces, faces_by_kind, fixed_faces, link_faces, is_lower_zone, ZonePair, share_face, joins, face_of, join_of, shares}
+use Rattle.check_run.proofs.Common.{AllZip-at, AllZip-length, flat-In, IsProblemOf, AllZip-weaker, ToConstant, ToGeneral, FromStorage, is_between, eqb-true}
+use Rattle.check_run.proofs.Common.{◌==◌}
 use Rattle.model_types.proofs.Members.{In-map, In}
 use Rattle.problem_builder.proofs.Members.{In-append, In-variable, variable-In, fixed_source, constant_active, variable_active}
 use Rattle.step_problem.specs.declared.entry.Fixed.{Fixed}
@@ -40,12 +40,16 @@ only true x y (inr i) = absurd i
 only false x y i = absurd i
 
 -- what holds of the items of a list beside another holds of those of a hull with it
-pub hull_zip : {X Y : Type 0} (H : X → X → X → Type 0) (R : X → Y → Type 0) → ((x y z : X) (w : Y) → H x y z → R x w → R z w) →
-    (xs ys zs : List X) (ws : List Y) → AllThree H xs ys zs → AllZip R xs ws → AllZip R zs ws
-hull_zip H R f xs ys zs [] none k = tt
-hull_zip H R f xs ys zs (w ∷ ws) none k = absurd k
-hull_zip H R f xs ys zs [] (next h hs) k = absurd k
-hull_zip H R f xs ys zs (w ∷ ws) (next h hs) k = (f _ _ _ w h k.0, hull_zip H R f _ _ _ ws hs k.1)
+pub hull_zip : {X Y : Type 0} (shape : X → X) (hull : X → X → X) (R : X → Y → Type 0) → ((x y : X) (w : Y) → shape y ≡ shape x → R x w → R (hull x y) w) →
+    (xs ys : List X) (ws : List Y) → map shape ys ≡ map shape xs → AllZip R xs ws → AllZip R (zip_with hull xs ys) ws
+hull_zip shape hull R f [] ys [] e k = tt
+hull_zip shape hull R f [] ys (w ∷ ws) e k = absurd k
+hull_zip shape hull R f (x ∷ xs) ys [] e k = absurd k
+hull_zip shape hull R f (x ∷ xs) [] (w ∷ ws) e k = absurd (cc)
+hull_zip shape hull R f (x ∷ xs) (y ∷ ys) (w ∷ ws) e k =
+    let here : shape y ≡ shape x = cc in
+    let rest : map shape ys ≡ map shape xs = cc in
+    (f x y w here k.0, hull_zip shape hull R f xs ys ws rest k.1)
 
 module _ (m : FlowModel) (p : ℕ) where
   -- a link leads to the cell at a face, and a branch to a known head is of a source
@@ -63,16 +67,16 @@ module _ (m : FlowModel) (p : ℕ) where
     pub links : AllZip LeadsTo e.links (variable_faces m p c)
     pub fixed : AllZip IsTo e.fixed (fixed_sources m p c)
 
-  hull_is_to : (x y z : Fixed) (t : FixedSource) → IsHullOf fixed_shape fixed_hull x y z → IsTo x t → IsTo z t
-  hull_is_to x y z (ToConstant f) h k = (ap (λ (e : Fixed). e.kind) h.is ∙ k.0, ap (λ (e : Fixed). e.source) h.is ∙ k.1)
-  hull_is_to x y z (ToGeneral head conductance) h k = ap (λ (e : Fixed). e.kind) h.is ∙ k
-  hull_is_to x y z FromStorage h k = ap (λ (e : Fixed). e.kind) h.is ∙ k
+  hull_is_to : (x y : Fixed) (t : FixedSource) → IsTo x t → IsTo (fixed_hull x y) t
+  hull_is_to x y (ToConstant f) k = k
+  hull_is_to x y (ToGeneral head conductance) k = k
+  hull_is_to x y FromStorage k = k
 
-  hull_branches : (a b r : Entries) (c : ℕ) → IsCellHull a b r → HasBranches a c → HasBranches r c
-  hull_branches a b r c h k = record {
-    id = h.id ∙ k.id;
-    links = hull_zip (IsHullOf link_shape link_hull) LeadsTo (λ x y z f q e. ap (λ (l : Link). l.cell) q.is ∙ e) a.links b.links r.links (variable_faces m p c) h.links k.links;
-    fixed = hull_zip (IsHullOf fixed_shape fixed_hull) IsTo hull_is_to a.fixed b.fixed r.fixed (fixed_sources m p c) h.fixed k.fixed;
+  hull_branches : (a b : Entries) (c : ℕ) → cell_shape b ≡ cell_shape a → HasBranches a c → HasBranches (cell_hull a b) c
+  hull_branches a b c e k = record {
+    id = k.id;
+    links = k.links;
+    fixed = hull_zip fixed_shape fixed_hull IsTo (λ x y t same. hull_is_to x y t) a.fixed b.fixed (fixed_sources m p c) (ap (λ (x : Entries). x.fixed) e) k.fixed;
   }
 
   -- all variable cells, by ascending number
@@ -98,7 +102,8 @@ module _ (m : FlowModel) (s : ℕ) (at : TimeStep) (old : List Bound) (es : List
 pub have_branches : (a : FlowModel) (o : Option FlowModel) (s : ℕ) (at : TimeStep) (old : List Bound) (es : List Entries) → IsProblemBy a o s at old es → HaveBranches a at.period es
 have_branches a None s at old es is = of_problem a s at old es is
 have_branches a (Some b) s at old es is =
-    hull_zip IsCellHull (HasBranches a at.period) (hull_branches a at.period) is.first is.second es (variable_cells a at.period) is.hull (of_problem a s at old is.first is.is_first)
+    subst (HaveBranches a at.period) (sym is.hull.is)
+    (hull_zip cell_shape cell_hull (HasBranches a at.period) (hull_branches a at.period) is.first is.second (variable_cells a at.period) is.hull.alike (of_problem a s at old is.first is.is_first))
 
 shown : (fs : List Face) (z : ZonePair) (f : Face) → In fs f → f.from ≡ z.from → f.to ≡ z.to → share fs z ≡ true
 shown fs z f i from to = in_any (is_between z.from z.to) fs f i (grind (arith, nat_tests))

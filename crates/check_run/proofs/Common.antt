@@ -57,8 +57,7 @@ pub use Rattle.model_types.specs.declared.time_steps.TimeStep.{TimeStep}
 pub use Rattle.problem_builder.proofs.Joined.{AllZip-weaker}
 pub use Rattle.problem_builder.proofs.TimesOf.{flat-In, time_of}
 pub use Rattle.problem_builder.specs.{AreGridHeads, HeadsEnclose, IsActive, IsCellOf, IsEvap, IsFixed, IsLink, IsProblemOf}
-pub use Rattle.problem_hull.specs.{AllThree, IsCellHull, IsHullOf, evap_hull, evap_shape, fixed_hull, fixed_shape, link_hull, link_shape}
-pub use Rattle.problem_hull.specs.Hulls.{next, none}
+pub use Rattle.problem_hull.specs.{cell_hull, cell_shape, evap_hull, fixed_hull, fixed_shape, zip_with}
 pub use Rattle.step_chain.proofs.Assembled.{active_constant, constant_not_variable, count_is, index_below, number_is}
 pub use Rattle.step_chain.proofs.Limits.{cut_by}
 pub use Rattle.step_chain.proofs.OneStep.{pair_words, same_bound, same_bounds}

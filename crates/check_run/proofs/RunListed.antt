@@ -1,13 +1,13 @@
 -- The steps of a run are steps that a listing can have.
-use Rattle.check_run.proofs.Common.{IsHullOf, evap_hull, evap_shape, Limits, ◌≡◌, ℕ, zero, suc, ◌+◌, ◌<◌, false, List, [], ◌∷◌, length, map, All, Ok, refl, sym}
-use Rattle.check_run.proofs.Common.{ap, subst, arith, ℤ, pos, negsuc, ◌+ℤ◌, ◌≤ℤ◌, ◌<ℤ◌, unsigned_abs, nat_abs, ◌^◌, ◌≤◌, Option, Some, None, AllZip, ints}
-use Rattle.check_run.proofs.Common.{All-weaker, Bound, Out, ZoneFlow, Entries, no_bound, lower_at, upper_at, Budget, TermPair, term_limit, Face, flows_between}
-use Rattle.check_run.proofs.Common.{pairs_in, AreNumbers, FlowModel, TimeStep, evap_sources, period_at, times, IsCellOf, IsEvap, AreGridHeads, Solved, bound_at}
-use Rattle.check_run.proofs.Common.{HeadsFit, AreCellBounds, AreFlows, AreFlowsAt, AreListed, IsCellBound, IsFlowPair, IsListedStep, has_evt, zone_pair, Task}
-use Rattle.check_run.proofs.Common.{Step, Whole, AllSteps, IsStep, Steps, budget_at, AreFlowsOf, faces_of, IsRest, first_in, rest_more, rest_whole, as_listed}
-use Rattle.check_run.proofs.Common.{nat_tests, is_nonzero, AllThree, next, none, IsProblemBy, IsBefore, StartHeadsFit, deck_task, Decks, AreDecks, PairKind}
-use Rattle.check_run.proofs.Common.{IsStepBy, pairs_of, Bool, In, IsCellHull, ListedStep, no_entries, variable_cells, AllZip-at, AllZip-length, AllZip-right}
-use Rattle.check_run.proofs.Common.{AllZip-weaker, IsProblemOf, total, is_chosen, IsZoneFlow, flows_of_pairs, same_flows}
+use Rattle.check_run.proofs.Common.{cell_hull, cell_shape, evap_hull, zip_with, Limits, ◌≡◌, ℕ, zero, suc, ◌+◌, ◌<◌, false, List, [], ◌∷◌, length, map, All, Ok}
+use Rattle.check_run.proofs.Common.{refl, sym, ap, subst, arith, ℤ, pos, negsuc, ◌+ℤ◌, ◌≤ℤ◌, ◌<ℤ◌, unsigned_abs, nat_abs, ◌^◌, ◌≤◌, Option, Some, None, AllZip}
+use Rattle.check_run.proofs.Common.{ints, All-weaker, Bound, Out, ZoneFlow, Entries, no_bound, lower_at, upper_at, Budget, TermPair, term_limit, Face}
+use Rattle.check_run.proofs.Common.{flows_between, pairs_in, AreNumbers, FlowModel, TimeStep, evap_sources, period_at, times, IsCellOf, IsEvap, AreGridHeads}
+use Rattle.check_run.proofs.Common.{Solved, bound_at, HeadsFit, AreCellBounds, AreFlows, AreFlowsAt, AreListed, IsCellBound, IsFlowPair, IsListedStep, has_evt}
+use Rattle.check_run.proofs.Common.{zone_pair, Task, Step, Whole, AllSteps, IsStep, Steps, budget_at, AreFlowsOf, faces_of, IsRest, first_in, rest_more}
+use Rattle.check_run.proofs.Common.{rest_whole, as_listed, nat_tests, is_nonzero, IsProblemBy, IsBefore, StartHeadsFit, deck_task, Decks, AreDecks, PairKind}
+use Rattle.check_run.proofs.Common.{IsStepBy, pairs_of, Bool, In, ListedStep, no_entries, variable_cells, AllZip-at, AllZip-length, AllZip-right, AllZip-weaker}
+use Rattle.check_run.proofs.Common.{IsProblemOf, total, is_chosen, IsZoneFlow, flows_of_pairs, same_flows}
 use Rattle.check_run.proofs.Branches.{hull_zip}
 use Rattle.step_problem.specs.declared.entry.Evap.{Evap}
 use Rattle.check_run.proofs.FlowPairs.{flows_have_pairs}
@@ -41,17 +41,11 @@ no_evaps : (m : FlowModel) (s : ℕ) (at : TimeStep) (old : List Bound) (p : Lis
 no_evaps m s at old p evt is =
     AllZip-weaker (IsCellOf m is.widths s at old) NoEvaps (λ e c h. empty_zip (IsEvap m s c) e.evaps (evap_sources m at.period c) h.evaps (no_source m at.period c evt)) p (variable_cells m at.period) is.cells.each
 
--- a hull has none if the first problem has none
-hull_evaps : (a b r : Entries) (c : ℕ) → IsCellHull a b r → NoEvaps a c → NoEvaps r c
-hull_evaps a b r c h e = no_hull a.evaps b.evaps r.evaps h.evaps e
-  where
-    no_hull : (xs ys zs : List Evap) → AllThree (IsHullOf evap_shape evap_hull) xs ys zs → xs ≡ [] → zs ≡ []
-    no_hull xs ys zs none e = refl
-    no_hull xs ys zs (next {x = x} {xs = us} d ds) e = absurd (let bad : x ∷ us ≡ [] = e in cc)
-
 decks_no_evaps : (a : FlowModel) (o : Option FlowModel) (s : ℕ) (at : TimeStep) (old : List Bound) → has_evt a ≡ false → (p : List Entries) → IsProblemBy a o s at old p → AllZip NoEvaps p (variable_cells a at.period)
 decks_no_evaps a None s at old e p is = no_evaps a s at old p e is
-decks_no_evaps a (Some b) s at old e p is = hull_zip IsCellHull NoEvaps hull_evaps is.first is.second p (variable_cells a at.period) is.hull (no_evaps a s at old is.first e is.is_first)
+decks_no_evaps a (Some b) s at old e p is =
+    subst (λ (es : List Entries). AllZip NoEvaps es (variable_cells a at.period)) (sym is.hull.is)
+    (hull_zip cell_shape cell_hull NoEvaps (λ x y c same none. ap (λ (xs : List Evap). zip_with evap_hull xs y.evaps) none) is.first is.second (variable_cells a at.period) is.hull.alike (no_evaps a s at old is.first e is.is_first))
 
 -- Heads in range are those of a listing.
 

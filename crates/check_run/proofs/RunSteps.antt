@@ -9,12 +9,12 @@ use Rattle.check_run.proofs.Common.{ProblemFits, StartHeadsFit, AreDecks, IsProb
 use Rattle.listing_run.specs.{AreFlowsAt}
 use Rattle.check_run.proofs.RunText.{count_is}
 use Rattle.problem_builder.proofs.CellEnclosed.{ids_are}
-use Rattle.deck_problems.proofs.HullFor.{hull_ids}
+use Rattle.problem_hull.proofs.Hulls.{hull_keeps}
 
 -- The cells of the problem of decks are the variable cells of the first.
 pub decks_ids : (a : FlowModel) (o : Option FlowModel) (s : ℕ) (at : TimeStep) (old : List Bound) (p : List Entries) → IsProblemBy a o s at old p → map (λ (e : Entries). e.id) p ≡ variable_cells a at.period
 decks_ids a None s at old p is = ids_are a is.widths s at old p is.cells
-decks_ids a (Some b) s at old p is = hull_ids is.first is.second p is.hull ∙ ids_are a is.is_first.widths s at old is.first is.is_first.cells
+decks_ids a (Some b) s at old p is = hull_keeps is.first is.second p is.hull (λ e. e.id) (λ x y. refl) ∙ ids_are a is.is_first.widths s at old is.first is.is_first.cells
 
 reaches : (side : Side) (listed pair : Bound) → (listed.low ≡ pair.low) × (listed.high ≡ pair.high) → ReachesOn side listed pair
 reaches Low listed pair same = omega (arith, ints, same.0)

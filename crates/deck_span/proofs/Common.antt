@@ -1,6 +1,6 @@
 -- Names that several proofs of this crate cite, of the crates below and of its own definitions, passed on from one place. Declares nothing.
-pub use Rattle.std.proofs.Common.{All, Bool, List, None, Option, Some, [], ap, arith, cond, false, inl, inr, length, map, mul-pos, neg_ℤ, pos, refl, reverse}
-pub use Rattle.std.proofs.Common.{subst, suc, sym, take, true, zero, ℕ, ℤ, ◌*ℤ◌, ◌*◌, ◌++◌, ◌+ℤ◌, ◌+◌, ◌-◌, ◌<◌, ◌^◌, ◌∙◌, ◌∷◌, ◌≡◌, ◌≤ℤ◌, ◌≤◌, ◌⊎◌}
+pub use Rattle.std.proofs.Common.{All, Bool, List, None, Option, Some, [], ap, arith, cond, false, get_or, inl, inr, length, map, mul-pos, neg_ℤ, pos, refl}
+pub use Rattle.std.proofs.Common.{reverse, subst, suc, sym, take, true, zero, ℕ, ℤ, ◌*ℤ◌, ◌*◌, ◌++◌, ◌+ℤ◌, ◌+◌, ◌-◌, ◌<◌, ◌^◌, ◌∙◌, ◌∷◌, ◌≡◌, ◌≤ℤ◌, ◌≤◌, ◌⊎◌}
 pub use Rattle.std.proofs.lemmas.Bool.{and_parts, cases_lt}
 pub use Rattle.std.proofs.lemmas.Int.{by_lt_z, clamps, ints}
 pub use Rattle.std.proofs.lemmas.List.{get_or_default, reverse-append}
@@ -14,10 +14,10 @@ pub use Rattle.decimal_input.proofs.Orders.{AtMost-refl, AtMost-trans, den_plus,
 pub use Rattle.decimal_input.specs.{Encloses, EnclosesSigned, Fraction, IsOver, Ratio, negated, number, over, signed, size}
 pub use Rattle.decimal_input.specs.Fractions.{AtMost, den, plus}
 pub use Rattle.decimal_input.specs.declared.dec.Dec.{Dec}
-pub use Rattle.deck_span.specs.{AreAlike, AreEntriesAlike, AreGivenAlike, ArePeriodsAlike, AreRatesAlike, IsBetween, IsCellBetween, IsDecBetween}
+pub use Rattle.deck_span.specs.{AllThree, AreAlike, AreEntriesAlike, AreGivenAlike, ArePeriodsAlike, AreRatesAlike, IsBetween, IsCellBetween, IsDecBetween}
 pub use Rattle.deck_span.specs.{IsDrainBetween, IsEntryBetween, IsEvapBetween, IsFixedBetween, IsFlowBetween, IsFractionBetween, IsGivenAtMost, IsGivenBetween}
 pub use Rattle.deck_span.specs.{IsPeriodBetween, IsRateBetween, IsRatioBetween, IsRiverBetween, IsSizeBetween, IsStepBetween, LiesBetween, drains, frame}
-pub use Rattle.deck_span.specs.{generals, period_frame, rivers, wells}
+pub use Rattle.deck_span.specs.{generals, next, none, period_frame, rivers, wells}
 pub use Rattle.flow_equations.proofs.TurnedFlows.{own_share}
 pub use Rattle.flow_equations.specs.{exact_cell, exact_drain, exact_evap, exact_fixed, exact_flow, exact_link, exact_river, exact_step}
 pub use Rattle.model_types.specs.{DrainSource, EvapSource, FixedSource, FlowSource, FromStorage, IsEvapValid, IsModel, Pumped, Received, RiverSource}
@@ -34,7 +34,4 @@ pub use Rattle.model_types.specs.declared.face.Face.{Face}
 pub use Rattle.model_types.specs.declared.grid.CellId.{CellId}
 pub use Rattle.model_types.specs.declared.model.FlowModel.{FlowModel}
 pub use Rattle.model_types.specs.declared.period.Period.{Period}
-pub use Rattle.problem_hull.proofs.Threes.{three_append, three_at, three_lengths}
-pub use Rattle.problem_hull.specs.{AllThree, IsCellHull, IsHull, IsHullOf, IsHullPair, drain_hull, drain_shape, evap_hull, evap_shape, fixed_hull, fixed_shape}
-pub use Rattle.problem_hull.specs.{flow_hull, flow_shape, river_hull, river_shape}
-pub use Rattle.problem_hull.specs.Hulls.AllThree.{next, none}
+pub use Rattle.problem_hull.specs.{IsHull, IsHullPair, cell_hull, drain_hull, evap_hull, fixed_hull, flow_hull, river_hull, zip_with}

@@ -1,13 +1,13 @@
 -- What a model between two others has in common with them; and where some model lies between two, the two are alike.
 use Rattle.deck_span.proofs.Common.{◌≡◌, ℕ, ◌≤◌, ap, subst, List, length, map, flat_map, range_with_len, Dec, FlowModel, Period, cell_count, is_active}
 use Rattle.deck_span.proofs.Common.{period_at, is_variable, index_of, start_head, constant_head, AllThree, IsFractionBetween, IsDecBetween, IsPeriodBetween}
-use Rattle.deck_span.proofs.Common.{IsBetween, Fraction, three_at, three_lengths, inl, inr, refl, AllZip, Entry, Given, none, next, IsEntryBetween}
-use Rattle.deck_span.proofs.Common.{IsGivenAtMost, IsGivenBetween, IsRateBetween, wells, rivers, drains, generals, AreGivenAlike, ArePeriodsAlike, AreAlike}
-use Rattle.deck_span.proofs.Common.{AreEntriesAlike, AreRatesAlike}
+use Rattle.deck_span.proofs.Common.{IsBetween, Fraction, inl, inr, refl, AllZip, Entry, Given, none, next, IsEntryBetween, IsGivenAtMost, IsGivenBetween}
+use Rattle.deck_span.proofs.Common.{IsRateBetween, wells, rivers, drains, generals, AreGivenAlike, ArePeriodsAlike, AreAlike, AreEntriesAlike, AreRatesAlike}
 use Rattle.model_types.specs.{times}
 use Rattle.deck_span.proofs.SourcesBetween.{framed, no_dec, at_period, variable_is, cells_are}
 use Rattle.deck_span.proofs.StepsBetween.{framed_is, constant_between}
 use Rattle.decimal_input.proofs.FloorLaws.{AtMost-trans}
+use Rattle.deck_span.proofs.ThreeLists.{three_at, three_lengths}
 
 framed_times : (f : FlowModel) (s₁ s₂ s₃ : List Dec) (ps qs rs : List Period) → AllThree IsPeriodBetween ps qs rs → times (framed f s₂ qs) ≡ times (framed f s₁ ps)
 unfolding times

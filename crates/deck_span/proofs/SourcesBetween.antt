@@ -5,11 +5,10 @@ use Rattle.deck_span.proofs.Common.{no_number, dec_at, int_at, is_active, no_per
 use Rattle.deck_span.proofs.Common.{is_chosen, EvapSource, recharge_at, evap_source, evap_at, FixedSource, FlowSource, RiverSource, DrainSource, cell_of}
 use Rattle.deck_span.proofs.Common.{as_well, as_river, as_drain, as_general, entries_of, local_entries, variable_faces, constant_faces, storage_at}
 use Rattle.deck_span.proofs.Common.{flow_sources, fixed_sources, river_sources, drain_sources, evap_sources, AllThree, none, IsDecBetween, IsSizeBetween}
-use Rattle.deck_span.proofs.Common.{IsEntryBetween, IsGivenBetween, IsRateBetween, IsPeriodBetween, wells, rivers, drains, generals, three_at, three_append}
-use Rattle.deck_span.proofs.Common.{faces, through, IsRiverBetween, IsDrainBetween, exact_river, exact_drain, ToConstant, ToGeneral, FromStorage, Pumped}
-use Rattle.deck_span.proofs.Common.{Received}
-use Rattle.deck_span.proofs.ThreeLists.{OptionThree, option_list, option_all_or_none, three_map, three_images, three_take, three_flat_map, three_reverse}
-use Rattle.deck_span.proofs.ThreeLists.{three_filter, three_find, three_filter_map}
+use Rattle.deck_span.proofs.Common.{IsEntryBetween, IsGivenBetween, IsRateBetween, IsPeriodBetween, wells, rivers, drains, generals, faces, through}
+use Rattle.deck_span.proofs.Common.{IsRiverBetween, IsDrainBetween, exact_river, exact_drain, ToConstant, ToGeneral, FromStorage, Pumped, Received}
+use Rattle.deck_span.proofs.ThreeLists.{OptionThree, option_all_or_none, option_list, three_append, three_at, three_flat_map, three_images, three_map}
+use Rattle.deck_span.proofs.ThreeLists.{three_reverse, three_take, three_filter, three_find, three_filter_map}
 use Rattle.deck_span.proofs.ThreeLists.OptionThree.{nothing, something}
 use Rattle.deck_span.proofs.HullBounds.{number_itself, size_itself}
 

@@ -6,7 +6,7 @@ use Rattle.deck_span.proofs.Common.{period_at, passed, is_variable, variable_bel
 use Rattle.deck_span.proofs.Common.{between_heads, EvapSource, FixedSource, FlowSource, variable_faces, evap_sources, AllThree, get_or_default, ◌==◌}
 use Rattle.deck_span.proofs.Common.{unsigned_abs, none, next, IsFractionBetween, IsRatioBetween, IsDecBetween, IsFlowBetween, IsFixedBetween, IsRiverBetween}
 use Rattle.deck_span.proofs.Common.{IsDrainBetween, IsEvapBetween, IsCellBetween, IsStepBetween, IsGivenBetween, IsPeriodBetween, IsBetween, IsGivenAtMost}
-use Rattle.deck_span.proofs.Common.{AtMost, frame, period_frame, three_at, and_parts, exact_river, exact_drain, exact_link, exact_fixed, exact_flow, exact_evap}
+use Rattle.deck_span.proofs.Common.{AtMost, frame, period_frame, and_parts, exact_river, exact_drain, exact_link, exact_fixed, exact_flow, exact_evap}
 use Rattle.deck_span.proofs.Common.{exact_cell, exact_step, negsuc, storage, IsModel, IsEvapValid}
 use Rattle.std.specs.Prelude.{pos, ℤ}
 use Rattle.decimal_input.specs.Ratios.{times as size_times, AtMost as IsRatioAtMost}
@@ -16,7 +16,7 @@ use Rattle.model_types.specs.declared.face.Axis.TheVariants.{Row, Column, Vertic
 use Rattle.model_types.proofs.Ranks.{passing, is_at}
 use Rattle.std.proofs.lemmas.List.Elements.{All-head, All-tail}
 use Rattle.std.proofs.lemmas.Bool.Decides.{nat_tests}
-use Rattle.deck_span.proofs.ThreeLists.{OptionThree, three_map}
+use Rattle.deck_span.proofs.ThreeLists.{OptionThree, three_at, three_map}
 use Rattle.deck_span.proofs.ThreeLists.OptionThree.{nothing, something}
 use Rattle.deck_span.proofs.HullBounds.{number_itself, size_itself, between_image, times_keeps, plus_keeps, rate_keeps}
 use Rattle.deck_span.proofs.GivenHeadsBetween.{heads_between, part_of}

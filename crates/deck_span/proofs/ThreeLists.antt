@@ -1,7 +1,21 @@
 -- Three lists that are related place by place.
 use Rattle.deck_span.proofs.Common.{◌≡◌, ℕ, zero, suc, Bool, true, false, cond, Option, Some, None, List, [], ◌∷◌, ◌++◌, map, take, reverse, refl, is_some}
-use Rattle.deck_span.proofs.Common.{filter, filter_map, cons_option, flat_map, find, reverse-append, three_append, AllThree, none, next}
+use Rattle.deck_span.proofs.Common.{filter, filter_map, cons_option, flat_map, find, reverse-append, ap, length, AllThree, none, next, get_or}
 use Rattle.std.specs.Option.{option_to_list}
+
+pub three_lengths : {X Y Z : Type 0} (R : X → Y → Z → Type 0) (xs : List X) (ys : List Y) (zs : List Z) → AllThree R xs ys zs → (length ys ≡ length xs) × (length zs ≡ length xs)
+three_lengths R xs ys zs none = (refl, refl)
+three_lengths R xs ys zs (next h hs) = let (e, d) = three_lengths R _ _ _ hs in (ap suc e, ap suc d)
+
+-- what holds at each place holds at a place past the end, if it holds of the items that stand there
+pub three_at : {X Y Z : Type 0} (R : X → Y → Z → Type 0) (xs : List X) (ys : List Y) (zs : List Z) (i : ℕ) (d : X) (e : Y) (f : Z) → AllThree R xs ys zs → R d e f → R (get_or xs i d) (get_or ys i e) (get_or zs i f)
+three_at R xs ys zs i d e f none k = k
+three_at R xs ys zs zero d e f (next h hs) k = h
+three_at R xs ys zs (suc i) d e f (next h hs) k = three_at R _ _ _ i d e f hs k
+
+pub three_append : {X Y Z : Type 0} (R : X → Y → Z → Type 0) (xs : List X) (ys : List Y) (zs : List Z) (us : List X) (vs : List Y) (ws : List Z) → AllThree R xs ys zs → AllThree R us vs ws → AllThree R (xs ++ us) (ys ++ vs) (zs ++ ws)
+three_append R xs ys zs us vs ws none k = k
+three_append R xs ys zs us vs ws (next h hs) k = next h (three_append R _ _ _ us vs ws hs k)
 
 -- optional items: all three, or none
 pub data OptionThree {X Y Z : Type 0} (R : X → Y → Z → Type 0) : Option X → Option Y → Option Z → Type 0 where

@@ -8,9 +8,9 @@ use Rattle.model_types.specs.declared.entry.Given.{Given}
 use Rattle.model_types.specs.declared.entry.Entry.{Entry}
 use Rattle.model_types.specs.declared.entry.Entry.TheVariants.{Well, River, Drain, General}
 use Rattle.model_types.specs.{no_number, period_at, IsModel}
-use Rattle.deck_span.specs.Models.{IsGivenAtMost, period_frame, frame, IsFractionBetween, IsRatioBetween, IsBetween}
+use Rattle.deck_span.specs.Models.{AllThree, IsGivenAtMost, period_frame, frame, IsFractionBetween, IsRatioBetween, IsBetween}
 use Rattle.cell_balance.specs.{ExactFlow, ExactFixed, ExactRiver, ExactDrain, ExactEvap, ExactCell, EnclosesStep}
-use Rattle.problem_hull.specs.{AllThree, IsHull}
+use Rattle.problem_hull.specs.{IsHull}
 use Rattle.decimal_input.specs.{Fraction}
 use Rattle.step_problem.specs.Entries.{Entries}
 use Rattle.flow_equations.specs.{exact_step}

@@ -3,6 +3,7 @@ pub mod Alike
 pub use Rattle.deck_span.specs.Alike.{AlikeLieBetween, AreAlike, AreEntriesAlike, AreGivenAlike, ArePeriodsAlike, AreRatesAlike, BetweenAreAlike, HullsEnclose}
 pub use Rattle.deck_span.specs.Alike.{IsCellBetween, IsDrainBetween, IsEvapBetween, IsFixedBetween, IsFlowBetween, IsRiverBetween, IsStepBetween}
 pub use Rattle.deck_span.specs.Alike.{StepsLieBetween}
-pub use Rattle.deck_span.specs.Models.{IsBetween, IsDecBetween, IsEntryBetween, IsFractionBetween, IsGivenAtMost, IsGivenBetween, IsPeriodBetween}
+pub use Rattle.deck_span.specs.Models.{AllThree, IsBetween, IsDecBetween, IsEntryBetween, IsFractionBetween, IsGivenAtMost, IsGivenBetween, IsPeriodBetween}
 pub use Rattle.deck_span.specs.Models.{IsRateBetween, IsRatioBetween, IsSizeBetween, LiesBetween, SolvesBetween, SolvesBetweenFrom, frame, period_frame}
+pub use Rattle.deck_span.specs.Models.AllThree.{next, none}
 pub use Rattle.deck_span.specs.Models.IsEntryBetween.{drains, generals, rivers, wells}

@@ -13,7 +13,6 @@ use Rattle.model_types.specs.{no_stresses, times, start_head}
 use Rattle.model_types.specs.declared.entry.Given.{Given}
 use Rattle.model_types.specs.declared.entry.Entry.{Entry}
 use Rattle.model_types.specs.declared.entry.Entry.TheVariants.{Well, River, Drain, General}
-use Rattle.problem_hull.specs.{AllThree}
 use Rattle.decimal_input.specs.Ratios.{AtMost as IsRatioAtMost}
 use Rattle.model_types.specs.declared.time_steps.TimeStep.{TimeStep}
 use Rattle.flow_equations.specs.{SolvesAt, heads_of}
@@ -37,6 +36,12 @@ IsDecBetween a m b = IsFractionBetween (number a) (number m) (number b)
 -- the same of numbers of a file that can't be negative, as conductances
 abbrev pub IsSizeBetween : Dec → Dec → Dec → Type 0
 IsSizeBetween a m b = IsRatioBetween (size a) (size m) (size b)
+
+-- Three lists that are related place by place.
+-- The lists are equally long, and R holds of the three items at each place.
+pub data AllThree {X Y Z : Type 0} (R : X → Y → Z → Type 0) : List X → List Y → List Z → Type 0 where
+  none : AllThree R [] [] []
+  next : {x : X} {y : Y} {z : Z} {xs : List X} {ys : List Y} {zs : List Z} → R x y z → AllThree R xs ys zs → AllThree R (x ∷ xs) (y ∷ ys) (z ∷ zs)
 
 -- entries of WEL, RIV, DRN and GHB: the same package and cell, and each number between
 pub data IsEntryBetween : Entry → Entry → Entry → Type 0 where

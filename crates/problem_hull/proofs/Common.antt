@@ -1,18 +1,14 @@
 -- Names that several proofs of this crate cite, of the crates below and of its own definitions, passed on from one place. Declares nothing.
-pub use Rattle.std.proofs.Common.{All, Contains, List, None, Some, [], ap, arith, get_or, inl, inr, length, map, max, min, refl, subst, suc, sym, take, zero, ℕ}
-pub use Rattle.std.proofs.Common.{ℤ, ◌++◌, ◌+◌, ◌<◌, ◌^◌, ◌↔◌, ◌∙◌, ◌∷◌, ◌≡◌, ◌≤◌}
-pub use Rattle.std.proofs.lemmas.Bool.Decides.{nat_tests}
+pub use Rattle.std.proofs.Common.{All, Contains, List, None, Option, Some, [], ap, arith, drop, get_or, length, map, map-id, max, min, refl, subst, suc, sym}
+pub use Rattle.std.proofs.Common.{take, zero, ℕ, ℤ, ◌++◌, ◌+◌, ◌<◌, ◌^◌, ◌∙◌, ◌∷◌, ◌≡◌, ◌≤◌}
 pub use Rattle.std.proofs.lemmas.Int.{clamps, ints}
-pub use Rattle.std.proofs.lemmas.List.{get_or-map, get_or_default, take_more}
+pub use Rattle.std.proofs.lemmas.List.{drop_all, drop_more, get_or-map, get_or_default, length-map, map-append, take_more}
 pub use Rattle.std.specs.Int.{int_max, int_min}
-pub use Rattle.problem_hull.specs.{AllThree, AreAlike, IsCellHull, IsFirstTooLarge, IsHull, IsHullOf, IsHullPair, IsTooLarge, IsUnlike, cell_shape, drain_hull}
-pub use Rattle.problem_hull.specs.{drain_shape, evap_hull, evap_shape, fixed_hull, fixed_shape, flow_hull, flow_shape, link_hull, link_shape, river_hull}
-pub use Rattle.problem_hull.specs.{river_shape}
+pub use Rattle.problem_hull.specs.{AreAlike, IsHull, IsHullOf, IsHullPair, IsTooLarge, IsUnlike, cell_hull, cell_shape, drain_hull, drain_shape, evap_hull}
+pub use Rattle.problem_hull.specs.{evap_shape, first_refusal, fixed_hull, fixed_shape, flow_hull, flow_shape, link_hull, link_shape, refusal_at, river_hull}
+pub use Rattle.problem_hull.specs.{river_shape, zip_with}
 unfoldable pub use Rattle.problem_hull.specs.{sum_refusal}
-pub use Rattle.problem_hull.specs.Hulls.AllThree.{next, none}
-pub use Rattle.step_problem.specs.{CellFits, DrainFits, EvapFits, FixedFits, IsHead, IsProblem, LinkFits, LinksFit, RiverFits, conductance_of, entries_at}
-pub use Rattle.step_problem.specs.{flow_of, link_at, no_entries}
+pub use Rattle.step_problem.specs.{CellFits, DrainFits, EvapFits, FixedFits, IsHead, IsProblem, LinksFit, RiverFits, conductance_of, entries_at, flow_of}
+pub use Rattle.step_problem.specs.{link_at, no_entries}
 pub use Rattle.step_problem.specs.Entries.{Entries}
 pub use Rattle.step_problem.specs.declared.entry.Link.{Link}
-pub use Rattle.step_problem.specs.declared.heads.Side.TheVariants.{Low}
-pub use Rattle.step_problem.specs.declared.place.Place.TheVariants.{Cell}

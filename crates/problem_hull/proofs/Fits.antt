@@ -1,14 +1,14 @@
 -- The hull of two problems is a problem, if the sums of its cells fit.
 use Rattle.problem_hull.proofs.Common.{◌≡◌, ◌<◌, ◌≤◌, ◌^◌, ℕ, ℤ, arith, List, length, min, max, sym, subst, get_or, All, Contains, int_min, int_max, ints}
-use Rattle.problem_hull.proofs.Common.{clamps, Link, Entries, entries_at, no_entries, link_at, IsHead, LinkFits, FixedFits, RiverFits, DrainFits, EvapFits}
-use Rattle.problem_hull.proofs.Common.{CellFits, LinksFit, IsProblem, conductance_of, flow_of, AllThree, IsHullPair, IsHullOf, fixed_shape, river_shape}
-use Rattle.problem_hull.proofs.Common.{drain_shape, evap_shape, fixed_hull, river_hull, drain_hull, evap_hull, IsCellHull, IsHull}
+use Rattle.problem_hull.proofs.Common.{clamps, Link, Entries, entries_at, link_at, IsHead, FixedFits, RiverFits, DrainFits, EvapFits, CellFits, LinksFit}
+use Rattle.problem_hull.proofs.Common.{IsProblem, conductance_of, flow_of, IsHullPair, fixed_hull, river_hull, drain_hull, evap_hull, None, ap, cell_hull}
+use Rattle.problem_hull.proofs.Common.{cell_shape, first_refusal, sum_refusal, IsHull}
 use Rattle.step_problem.specs.declared.entry.Fixed.{Fixed}
 use Rattle.step_problem.specs.declared.entry.River.{River}
 use Rattle.step_problem.specs.declared.entry.Drain.{Drain}
 use Rattle.step_problem.specs.declared.entry.Evap.{Evap}
-use Rattle.problem_hull.proofs.Threes.{three_lengths, three_within, three_all}
-use Rattle.problem_hull.proofs.Shapes.{links_at, ids_at}
+use Rattle.problem_hull.proofs.Hulls.{hull_at, hull_count, same_lengths, zip_all}
+use Rattle.problem_hull.proofs.Refusals.{conductances_are_small, flows_are_small, none_of_each}
 
 min_head : (a c : ℤ) → IsHead a → IsHead c → IsHead (int_min a c)
 min_head a c f g = record { above = omega (arith, ints, clamps, f.above, g.above); below = omega (arith, ints, clamps, f.below, g.below) }
@@ -50,49 +50,51 @@ evap_fits a b f g = record {
   deep = omega (arith, ints, clamps, f.deep);
 }
 
-entries_fit : {X : Type 0} (shape : X → X) (hull : X → X → X) (P : X → Type 0) → ((a b : X) → P a → P b → P (hull a b)) →
-    (xs ys zs : List X) → AllThree (IsHullOf shape hull) xs ys zs → All P xs → All P ys → All P zs
-entries_fit shape hull P each = three_all (IsHullOf shape hull) P P P (λ a b r h f g. subst P (sym h.is) (each a b f g))
+-- the lists of two cells that fit
+module _ (a b : Entries) (first : CellFits a) (second : CellFits b) where
+  pub rivers_fit : All RiverFits (cell_hull a b).rivers
+  rivers_fit = zip_all river_hull RiverFits RiverFits RiverFits river_fits a.rivers b.rivers first.rivers second.rivers
+
+  pub evaps_fit : All EvapFits (cell_hull a b).evaps
+  evaps_fit = zip_all evap_hull EvapFits EvapFits EvapFits evap_fits a.evaps b.evaps first.evaps second.evaps
+
+  cell_fits : conductance_of (cell_hull a b) < 2 ^ 60 → flow_of (cell_hull a b) < 2 ^ 109 → CellFits (cell_hull a b)
+  cell_fits conductances flows = record {
+    links = first.links;
+    fixed = zip_all fixed_hull FixedFits FixedFits FixedFits fixed_fits a.fixed b.fixed first.fixed second.fixed;
+    rivers = rivers_fit;
+    drains = zip_all drain_hull DrainFits DrainFits DrainFits drain_fits a.drains b.drains first.drains second.drains;
+    evaps = evaps_fit;
+    conductances = conductances;
+    flows = flows;
+  }
 
 module _ (p q r : List Entries) (first : IsProblem p) (second : IsProblem q) (h : IsHull p q r) where
   count : length r ≡ length p
-  count = (three_lengths IsCellHull p q r h).1
+  count = hull_count p q r h
 
-  other_count : length q ≡ length p
-  other_count = (three_lengths IsCellHull p q r h).0
+  links_at : (c : ℕ) → (entries_at r c).links ≡ (entries_at p c).links
+  links_at c = ap (λ (x : Entries). x.links) (hull_at p q r h c)
+
+  ids_at : (c : ℕ) → (entries_at r c).id ≡ (entries_at p c).id
+  ids_at c = ap (λ (x : Entries). x.id) (hull_at p q r h c)
 
   module _ (c : ℕ) (lt : c < length r) where
     in_first : c < length p
     in_first = omega (arith, lt, count)
 
     in_second : c < length q
-    in_second = omega (arith, lt, count, other_count)
+    in_second = omega (arith, lt, count, same_lengths cell_shape p q h.alike)
 
-    here : IsCellHull (entries_at p c) (entries_at q c) (entries_at r c)
-    here = three_within IsCellHull p q r c no_entries no_entries no_entries h in_first
-
-    pub rivers_fit : All RiverFits (entries_at r c).rivers
-    rivers_fit = entries_fit river_shape river_hull RiverFits river_fits _ _ _ here.rivers (first.cells c in_first).rivers (second.cells c in_second).rivers
-
-    pub evaps_fit : All EvapFits (entries_at r c).evaps
-    evaps_fit = entries_fit evap_shape evap_hull EvapFits evap_fits _ _ _ here.evaps (first.cells c in_first).evaps (second.cells c in_second).evaps
-
-    cell_fits : conductance_of (entries_at r c) < 2 ^ 60 → flow_of (entries_at r c) < 2 ^ 109 → CellFits (entries_at r c)
-    cell_fits conductances flows = record {
-      links = subst (λ (l : List Link). All LinkFits l) (sym (links_at p q r c h)) (first.cells c in_first).links;
-      fixed = entries_fit fixed_shape fixed_hull FixedFits fixed_fits _ _ _ here.fixed (first.cells c in_first).fixed (second.cells c in_second).fixed;
-      rivers = rivers_fit;
-      drains = entries_fit drain_shape drain_hull DrainFits drain_fits _ _ _ here.drains (first.cells c in_first).drains (second.cells c in_second).drains;
-      evaps = evaps_fit;
-      conductances = conductances;
-      flows = flows;
-    }
+    -- what holds of the hull of the two cells holds of the cell
+    pub cell_has : (P : Entries → Type 0) → ((a b : Entries) → CellFits a → CellFits b → P (cell_hull a b)) → P (entries_at r c)
+    cell_has P each = subst P (sym (hull_at p q r h c)) (each _ _ (first.cells c in_first) (second.cells c in_second))
 
     links_fit : LinksFit r c (entries_at r c).links
     links_fit =
         let k = first.links c in_first in
-        let e = sym (links_at p q r c h) in
-        let back = λ (x : Link). subst (λ (l : List Link). Contains l (record { cell = c; lo = x.lo; hi = x.hi })) (sym (links_at p q r x.cell h)) in
+        let e = sym (links_at c) in
+        let back = λ (x : Link). subst (λ (l : List Link). Contains l (record { cell = c; lo = x.lo; hi = x.hi })) (sym (links_at x.cell)) in
         record {
           few = subst (λ (l : List Link). length l ≤ 6) e k.few;
           within = subst (λ (l : List Link). All (λ x. x.cell < length r) l) e (subst (λ (n : ℕ). All (λ x. x.cell < n) (entries_at p c).links) (sym count) k.within);
@@ -102,10 +104,10 @@ module _ (p q r : List Entries) (first : IsProblem p) (second : IsProblem q) (h 
               (λ i d j. back (get_or (entries_at p c).links i d) (k.mutual_ends i d j));
         }
 
-  pub is_problem : ((c : ℕ) → c < length r → conductance_of (entries_at r c) < 2 ^ 60) → ((c : ℕ) → c < length r → flow_of (entries_at r c) < 2 ^ 109) → IsProblem r
-  is_problem conductances flows = record {
+  pub is_problem : first_refusal r ≡ None → IsProblem r
+  is_problem none = record {
     few = subst (λ (n : ℕ). n ≤ 4194304) (sym count) first.few;
-    ascending = λ c d lt below. subst (λ (n : ℕ). n < (entries_at r d).id) (sym (ids_at p q r c h)) (subst (λ (n : ℕ). (entries_at p c).id < n) (sym (ids_at p q r d h)) (first.ascending c d lt (in_first d below)));
-    cells = λ c lt. cell_fits c lt (conductances c lt) (flows c lt);
+    ascending = λ c d lt below. subst (λ (n : ℕ). n < (entries_at r d).id) (sym (ids_at c)) (subst (λ (n : ℕ). (entries_at p c).id < n) (sym (ids_at d)) (first.ascending c d lt (in_first d below)));
+    cells = λ c lt. cell_has c lt (λ (x : Entries). sum_refusal x ≡ None → CellFits x) (λ a b f g small. cell_fits a b f g (conductances_are_small (cell_hull a b) small) (flows_are_small (cell_hull a b) small)) (none_of_each r none c lt);
     links = λ c lt. links_fit c lt;
   }

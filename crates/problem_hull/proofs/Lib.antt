@@ -1,8 +1,5 @@
 mod Common
-pub mod Threes
+pub mod Hulls
 pub mod Fits
-pub mod SmallSums
-pub mod Shapes
 pub mod OneHull
 pub mod Refusals
-pub mod Itself

@@ -1,23 +1,31 @@
--- Two problems have one hull alone.
-use Rattle.problem_hull.proofs.Common.{◌≡◌, ◌∷◌, ◌∙◌, refl, sym, List, Entries, AllThree, none, next, IsHullOf, IsCellHull, IsHull}
-
-one_list : {X : Type 0} (R : X → X → X → Type 0) → ((x y z w : X) → R x y z → R x y w → w ≡ z) → (xs ys zs ws : List X) → AllThree R xs ys zs → AllThree R xs ys ws → ws ≡ zs
-one_list R each xs ys zs ws none none = refl
-one_list R each xs ys zs ws (next h hs) (next k ks) = λ i. each _ _ _ _ h k i ∷ one_list R each _ _ _ _ hs ks i
-
-one_entries : {X : Type 0} (shape : X → X) (hull : X → X → X) (xs ys zs ws : List X) → AllThree (IsHullOf shape hull) xs ys zs → AllThree (IsHullOf shape hull) xs ys ws → ws ≡ zs
-one_entries shape hull = one_list (IsHullOf shape hull) (λ x y z w h k. k.is ∙ sym h.is)
-
-one_cell : (a b r s : Entries) → IsCellHull a b r → IsCellHull a b s → s ≡ r
-one_cell a b r s h k =
-    let id = k.id ∙ sym h.id in
-    let flows = one_entries _ _ _ _ _ _ h.flows k.flows in
-    let links = one_entries _ _ _ _ _ _ h.links k.links in
-    let fixed = one_entries _ _ _ _ _ _ h.fixed k.fixed in
-    let rivers = one_entries _ _ _ _ _ _ h.rivers k.rivers in
-    let drains = one_entries _ _ _ _ _ _ h.drains k.drains in
-    let evaps = one_entries _ _ _ _ _ _ h.evaps k.evaps in
-    λ i. record { id = id i; flows = flows i; links = links i; fixed = fixed i; rivers = rivers i; drains = drains i; evaps = evaps i }
+-- Two problems have one hull, and that of a problem and itself is that problem.
+use Rattle.problem_hull.proofs.Common.{◌≡◌, ◌∙◌, refl, sym, arith, ℕ, ℤ, List, min, max, int_min, int_max, ints, clamps, Entries, IsHull, flow_hull, fixed_hull}
+use Rattle.problem_hull.proofs.Common.{river_hull, drain_hull, evap_hull, cell_hull}
+use Rattle.problem_hull.proofs.Hulls.{zip_itself}
 
 pub hull_is_one : (p q r s : List Entries) → IsHull p q r → IsHull p q s → s ≡ r
-hull_is_one p q r s h k = one_list IsCellHull one_cell p q r s h k
+hull_is_one p q r s h k = k.is ∙ sym h.is
+
+low : (a : ℤ) → a ≡ int_min a a
+low a = omega (arith, ints, clamps)
+
+high : (a : ℤ) → a ≡ int_max a a
+high a = omega (arith, ints, clamps)
+
+least : (a : ℕ) → a ≡ min a a
+least a = omega arith
+
+most : (a : ℕ) → a ≡ max a a
+most a = omega arith
+
+cell : (c : Entries) → c ≡ cell_hull c c
+cell c =
+    let flows = zip_itself flow_hull (λ x i. record { kind = x.kind; lo = low x.lo i; hi = high x.hi i }) c.flows in
+    let fixed = zip_itself fixed_hull (λ x i. record { kind = x.kind; source = x.source; lo = least x.lo i; hi = most x.hi i; head_lo = low x.head_lo i; head_hi = high x.head_hi i }) c.fixed in
+    let rivers = zip_itself river_hull (λ x i. record { lo = least x.lo i; hi = most x.hi i; stage_lo = low x.stage_lo i; stage_hi = high x.stage_hi i; bottom_lo = low x.bottom_lo i; bottom_hi = high x.bottom_hi i }) c.rivers in
+    let drains = zip_itself drain_hull (λ x i. record { lo = least x.lo i; hi = most x.hi i; elev_lo = low x.elev_lo i; elev_hi = high x.elev_hi i }) c.drains in
+    let evaps = zip_itself evap_hull (λ x i. record { lo = least x.lo i; hi = most x.hi i; ext_lo = low x.ext_lo i; ext_hi = high x.ext_hi i; surf_lo = low x.surf_lo i; surf_hi = high x.surf_hi i }) c.evaps in
+    λ i. record { id = c.id; flows = flows i; links = c.links; fixed = fixed i; rivers = rivers i; drains = drains i; evaps = evaps i }
+
+pub hull_of_one : (p : List Entries) → IsHull p p p
+hull_of_one p = record { alike = refl; is = zip_itself cell_hull cell p }

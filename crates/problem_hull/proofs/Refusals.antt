@@ -1,44 +1,59 @@
 -- A hull that is a problem has no refusal, and there is one refusal alone.
-use Rattle.problem_hull.proofs.Common.{◌≡◌, ◌<◌, ◌^◌, ◌∙◌, ℕ, inl, inr, arith, None, Some, List, sym, ap, subst, nat_tests, conductance_of, flow_of, IsProblem}
-use Rattle.problem_hull.proofs.Common.{Low, Cell, Entries, entries_at, IsHull, sum_refusal, IsFirstTooLarge, IsTooLarge}
-use Rattle.std.proofs.lemmas.Bool.{cases_lt}
+use Rattle.problem_hull.proofs.Common.{◌≡◌, ◌+◌, ◌<◌, ◌^◌, ◌∙◌, [], ◌∷◌, ℕ, zero, suc, arith, None, Option, Some, List, drop, get_or, length, sym, ap, refl}
+use Rattle.problem_hull.proofs.Common.{conductance_of, flow_of, IsProblem, Entries, entries_at, no_entries, IsHull, sum_refusal, first_refusal, IsTooLarge}
+use Rattle.problem_hull.proofs.Common.{get_or_default, drop_more, refusal_at}
+use Rattle.std.proofs.lemmas.Bool.Decides.{nat_tests}
+use Rattle.std.specs.Option.{option_map, option_or}
 use Rattle.step_problem.specs.declared.place.NoBound.{NoBound}
-use Rattle.problem_hull.proofs.OneHull.{hull_is_one}
+
+-- The sums of a cell that has no refusal.
 
 small_sums : (c : Entries) → conductance_of c < 2 ^ 60 → flow_of c < 2 ^ 109 → sum_refusal c ≡ None
 unfolding sum_refusal
 small_sums c h k = grind (arith, nat_tests)
 
-not_both : (c : Entries) (code : ℕ) → sum_refusal c ≡ None → sum_refusal c ≡ Some code → ⊥
-not_both c code e d = let bad : None ≡ Some code = sym e ∙ d in cc
+pub conductances_are_small : (c : Entries) → sum_refusal c ≡ None → conductance_of c < 2 ^ 60
+unfolding sum_refusal
+conductances_are_small c e = grind (arith, nat_tests)
+
+pub flows_are_small : (c : Entries) → sum_refusal c ≡ None → flow_of c < 2 ^ 109
+unfolding sum_refusal
+flows_are_small c e = grind (arith, nat_tests)
+
+-- Lists of cells, of which none has a refusal.
+
+none_first : (r : List Entries) → ((c : ℕ) → c < length r → sum_refusal (entries_at r c) ≡ None) → first_refusal r ≡ None
+none_first [] none = refl
+none_first (c ∷ cs) none = ap (λ o. option_or (option_map (refusal_at c) o) (first_refusal cs)) (none 0 (omega arith)) ∙ none_first cs (λ k lt. none (suc k) (omega (arith, lt)))
+
+none_here : (c : Entries) (o : Option ℕ) (rest : Option NoBound) → option_or (option_map (refusal_at c) o) rest ≡ None → (o ≡ None) × (rest ≡ None)
+none_here c None rest e = (refl, e)
+none_here c (Some code) rest e = absurd (cc)
+
+pub none_of_each : (r : List Entries) → first_refusal r ≡ None → (c : ℕ) → c < length r → sum_refusal (entries_at r c) ≡ None
+none_of_each [] e c lt = absurd (omega arith)
+none_of_each (x ∷ r) e zero lt = (none_here x (sum_refusal x) (first_refusal r) e).0
+none_of_each (x ∷ r) e (suc c) lt = none_of_each r (none_here x (sum_refusal x) (first_refusal r) e).1 c (omega arith)
+
+pub not_some : (o : Option ℕ) → ((code : ℕ) → o ≡ Some code → ⊥) → o ≡ None
+not_some None none = refl
+not_some (Some code) none = absurd (none code refl)
+
+-- the refusals from a cell on, by that cell's
+pub refusals_from : (r : List Entries) (i : ℕ) (c : Entries) (o : Option ℕ) → i < length r → c ≡ get_or r i c → o ≡ sum_refusal c → first_refusal (drop i r) ≡ option_or (option_map (refusal_at c) o) (first_refusal (drop (i + 1) r))
+refusals_from r i c o lt e is =
+    ap first_refusal (drop_more r i c lt) ∙ ap (λ (x : Entries). option_or (option_map (refusal_at x) (sum_refusal x)) (first_refusal (drop (i + 1) r))) (sym e)
+    ∙ ap (λ s. option_or (option_map (refusal_at c) s) (first_refusal (drop (i + 1) r))) (sym is)
+
+-- the cell of an index, by any item that stands for one past the end
+pub entries_named : (r : List Entries) (i : ℕ) (c : Entries) → i < length r → c ≡ get_or r i c → entries_at r i ≡ c
+entries_named r i c lt e = get_or_default r i no_entries c lt ∙ sym e
 
 pub hull_excludes : (p q r : List Entries) (refusal : NoBound) → IsHull p q r → IsProblem r → IsTooLarge p q refusal → ⊥
 hull_excludes p q r refusal h fits large =
-    let same : large.hull ≡ r = hull_is_one p q r large.hull h large.is_hull in
-    let first = subst (λ (l : List Entries). IsFirstTooLarge l refusal) same large.first in
-    let cell = fits.cells first.index first.within in
-    not_both (entries_at r first.index) refusal.code (small_sums (entries_at r first.index) cell.conductances cell.flows) first.sum
-
--- the first cell is one
-one_index : (r : List Entries) (a b : NoBound) (h : IsFirstTooLarge r a) (k : IsFirstTooLarge r b) → h.index ≡ k.index
-one_index r a b h k = elim (cases_lt h.index k.index) [
-  | inl lt ↦ absurd (not_both (entries_at r h.index) a.code (k.before h.index lt) h.sum)
-  | inr le ↦ (elim (cases_lt k.index h.index) [
-    | inl lt ↦ absurd (not_both (entries_at r k.index) b.code (h.before k.index lt) k.sum)
-    | inr ge ↦ omega (arith, le, ge)
-  ])
-]
-
-same_code : (a b : ℕ) → Some a ≡ Some b → a ≡ b
-same_code a b e = cc
-
-one_first : (r : List Entries) (a b : NoBound) → IsFirstTooLarge r a → IsFirstTooLarge r b → a ≡ b
-one_first r a b h k =
-    let index = one_index r a b h k in
-    let code : a.code ≡ b.code = same_code _ _ (sym h.sum ∙ ap (λ i. sum_refusal (entries_at r i)) index ∙ k.sum) in
-    let place : a.place ≡ b.place = h.place ∙ ap (λ i. Cell (entries_at r i).id Low) index ∙ sym k.place in
-    λ i. record { code = code i; place = place i }
+    let none = none_first r (λ c lt. small_sums (entries_at r c) (fits.cells c lt).conductances (fits.cells c lt).flows) in
+    let bad : None ≡ Some refusal = sym none ∙ ap first_refusal h.is ∙ large.first in
+    cc
 
 pub refusal_is_one : (p q : List Entries) (a b : NoBound) → IsTooLarge p q a → IsTooLarge p q b → a ≡ b
-refusal_is_one p q a b h k =
-    one_first h.hull a b h.first (subst (λ (l : List Entries). IsFirstTooLarge l b) (hull_is_one p q h.hull k.hull h.is_hull k.is_hull) k.first)
+refusal_is_one p q a b h k = let same : Some a ≡ Some b = sym h.first ∙ k.first in cc

@@ -43,12 +43,6 @@ cell_shape c = record c {
 abbrev pub AreAlike : List Entries → List Entries → Type 0
 AreAlike p q = map cell_shape q ≡ map cell_shape p
 
--- Three lists that are related place by place.
--- The lists are equally long, and R holds of the three items at each place.
-pub data AllThree {X Y Z : Type 0} (R : X → Y → Z → Type 0) : List X → List Y → List Z → Type 0 where
-  none : AllThree R [] [] []
-  next : {x : X} {y : Y} {z : Z} {xs : List X} {ys : List Y} {zs : List Z} → R x y z → AllThree R xs ys zs → AllThree R (x ∷ xs) (y ∷ ys) (z ∷ zs)
-
 -- lo and hi are the hull of the bounds a, b and of c, d
 pub record IsHullPair (a b c d lo hi : ℤ) : Type 0 where
   pub low : lo ≡ int_min a c
@@ -87,22 +81,27 @@ evap_hull a b = record {
   surf_hi = int_max a.surf_hi b.surf_hi;
 }
 
--- r is the hull of two entries of one shape
+-- f of the items of two lists at each place
+abbrev pub zip_with : {X Y Z : Type 0} → (X → Y → Z) → List X → List Y → List Z
+zip_with f [] ys = []
+zip_with f (x ∷ xs) [] = []
+zip_with f (x ∷ xs) (y ∷ ys) = f x y ∷ zip_with f xs ys
+
+-- the hull of two cells
+abbrev pub cell_hull : Entries → Entries → Entries
+cell_hull a b = record a {
+  flows = zip_with flow_hull a.flows b.flows;
+  fixed = zip_with fixed_hull a.fixed b.fixed;
+  rivers = zip_with river_hull a.rivers b.rivers;
+  drains = zip_with drain_hull a.drains b.drains;
+  evaps = zip_with evap_hull a.evaps b.evaps;
+}
+
+-- r is the hull of a and b, which have one shape
 pub record IsHullOf {X : Type 0} (shape : X → X) (hull : X → X → X) (a b r : X) : Type 0 where
   pub alike : shape b ≡ shape a
   pub is : r ≡ hull a b
 
--- r is the hull of the cells a and b
-pub record IsCellHull (a b r : Entries) : Type 0 where
-  pub id : r.id ≡ a.id
-  pub alike : b.id ≡ a.id
-  pub flows : AllThree (IsHullOf flow_shape flow_hull) a.flows b.flows r.flows
-  pub links : AllThree (IsHullOf link_shape link_hull) a.links b.links r.links
-  pub fixed : AllThree (IsHullOf fixed_shape fixed_hull) a.fixed b.fixed r.fixed
-  pub rivers : AllThree (IsHullOf river_shape river_hull) a.rivers b.rivers r.rivers
-  pub drains : AllThree (IsHullOf drain_shape drain_hull) a.drains b.drains r.drains
-  pub evaps : AllThree (IsHullOf evap_shape evap_hull) a.evaps b.evaps r.evaps
-
 -- r is the hull of the problems p and q, cell by cell
 abbrev pub IsHull : List Entries → List Entries → List Entries → Type 0
-IsHull p q r = AllThree IsCellHull p q r
+IsHull p q r = IsHullOf (map cell_shape) (zip_with cell_hull) p q r

@@ -3,7 +3,6 @@ ghost use Rattle.std.specs.Prelude.{◌≡◌, MatchOption};
 ghost use Rattle.problem_hull.specs.Hulls.{link_shape, flow_shape, fixed_shape, river_shape, drain_shape, evap_shape, IsHullOf, link_hull, flow_hull};
 ghost use Rattle.problem_hull.specs.Hulls.{fixed_hull, river_hull, drain_hull, evap_hull};
 
-use crate::kinds::{same_fixed_kind, same_flow_kind};
 use step_problem::{Drain, Evap, Fixed, Flow, Link, River};
 
 /// An entry that is known by bounds. `shape` is the entry without its bounds; `hull_of` is the hull of two of one shape.
@@ -33,7 +32,7 @@ impl Bounded for Flow {
     ghost hull_of = { flow_hull };
 
     fn hull(self, other: Flow) -> Option<Flow> {
-        if same_flow_kind(self.kind, other.kind) {
+        if self.kind == other.kind {
             Some(Flow {
                 kind: self.kind,
                 lo: self.lo.min(other.lo),
@@ -51,7 +50,7 @@ impl Bounded for Fixed {
     ghost hull_of = { fixed_hull };
 
     fn hull(self, other: Fixed) -> Option<Fixed> {
-        if same_fixed_kind(self.kind, other.kind) && self.source == other.source {
+        if self.kind == other.kind && self.source == other.source {
             Some(Fixed {
                 kind: self.kind,
                 source: self.source,

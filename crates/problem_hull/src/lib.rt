@@ -2,7 +2,6 @@
 #![tactic(auto)]
 
 mod entries;
-mod kinds;
 pub mod laws;
 pub mod problem;
 

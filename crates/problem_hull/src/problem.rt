@@ -1,7 +1,7 @@
 // The hull of two problems.
-ghost use Rattle.std.specs.Prelude.{◌≡◌, IfOk, IfErr, map, ◌<◌, length, ℕ, All, None, MatchOption};
-ghost use Rattle.problem_hull.specs.Hulls.{IsHull, IsHullOf, AllThree, IsCellHull, cell_shape, AreAlike};
-ghost use Rattle.problem_hull.specs.Refusals.{IsHullFault, IsUnlike, sum_refusal, IsFirstTooLarge};
+ghost use Rattle.std.specs.Prelude.{◌≡◌, IfOk, IfErr, map, ◌<◌, length, ℕ, All};
+ghost use Rattle.problem_hull.specs.Hulls.{IsHull, IsHullOf, cell_hull, cell_shape, zip_with, AreAlike};
+ghost use Rattle.problem_hull.specs.Refusals.{IsHullFault, IsUnlike, sum_refusal, first_refusal};
 ghost use Rattle.step_problem.specs.{entries_at, RiverFits, EvapFits};
 ghost use Rattle.problem_hull.specs.declared.problem.HullFault.TheVariants.{Memory};
 
@@ -28,7 +28,7 @@ pub fn hull(alloc: Global, p: &Problem, q: &Problem) -> Result<Problem, HullFaul
 // The hulls of two lists of entries, place by place.
 
 pub fn hulls<E: Bounded + Drop>(alloc: Global, a: &[E], b: &[E]) -> Result<Vec<E>, HullFault>
-    ensures hulls { IfOk result (λ v. AllThree (IsHullOf E.shape E.hull_of) a.now b.now v.items) }
+    ensures hulls { IfOk result (λ v. IsHullOf (map E.shape) (zip_with E.hull_of) a.now b.now v.items) }
     ensures fault { IfErr result (IsUnlike (map E.shape b.now ≡ map E.shape a.now)) }
 {
     if a.len() != b.len() {
@@ -48,7 +48,7 @@ pub fn hulls<E: Bounded + Drop>(alloc: Global, a: &[E], b: &[E]) -> Result<Vec<E
 
 // The hull of two cells.
 fn cell_hull(alloc: Global, a: &Cell, b: &Cell) -> Result<Cell, HullFault>
-    ensures hull { IfOk result (λ r. IsCellHull a.now b.now r) }
+    ensures hull { IfOk result (λ r. IsHullOf cell_shape cell_hull a.now b.now r) }
     ensures fault { IfErr result (IsUnlike (cell_shape b.now ≡ cell_shape a.now)) }
 {
     if a.id != b.id {
@@ -109,8 +109,7 @@ fn refusal(cell: &Cell) -> Option<u8>
 pub fn first_too_large(cells: &[Cell]) -> Option<NoBound>
     requires rivers { (c : ℕ) → c < length cells.now → All RiverFits (entries_at cells.now c).rivers }
     requires evaps { (c : ℕ) → c < length cells.now → All EvapFits (entries_at cells.now c).evaps }
-    ensures { MatchOption result ((c : ℕ) → c < length cells.now → sum_refusal (entries_at cells.now c) ≡ None)
-        (λ found. IsFirstTooLarge cells.now found) }
+    ensures { result ≡ first_refusal cells.now }
 {
     for cell in cells {
         if let Some(code) = refusal(cell) {

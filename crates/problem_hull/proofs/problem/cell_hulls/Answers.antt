@@ -1,17 +1,20 @@
-use Rattle.problem_hull.proofs.Common.{◌≡◌, ◌+◌, ◌<◌, [], arith, length, List, sym, subst, take, Entries, no_entries, none, IsCellHull, IsHull}
+use Rattle.problem_hull.proofs.Common.{◌<◌, arith, length, refl, cell_hull, cell_shape, entries_at, get_or_default}
 use Rattle.std.proofs.lemmas.Result.{err_from_is_err_and}
-use Rattle.problem_hull.proofs.Threes.{three_more, unlike_cells}
+use Rattle.problem_hull.proofs.Hulls.{hull_more, unlike_cells}
 use Rattle.problem_hull.proofs.problem.cell_hulls.Goals as goal
 
 pub loop-i-init : goal.loop-i-init
-loop-i-init c = subst (λ (xs : List Entries). IsHull [] [] xs) (sym c.new-cells.ensures.items) none
+loop-i-init c = record { alike = refl; is = c.new-cells.ensures.items }
 
 pub loop-i-preserved : goal.loop-i-preserved
 loop-i-preserved c =
-    let below : c.loop-i.i < length c.args.p.now = omega arith in
-    let same : length c.args.q.now ≡ length c.args.p.now = omega arith in
-    subst (λ (xs : List Entries). IsHull (take (c.loop-i.i + 1) c.args.p.now) (take (c.loop-i.i + 1) c.args.q.now) xs) (sym c.in_ok-push.ensures.items)
-    (three_more IsCellHull c.args.p.now c.args.q.now c.loop-i.cells.items c.loop-i.i no_entries no_entries c.in_ok-cell.cell below same c.loop-i.invariant (rw (c.cell.ensures, c.cell-in-loop-i.ensures) at c.in_ok-cell.ensures.hull))
+    let p = c.args.p.now in
+    let q = c.args.q.now in
+    let i = c.loop-i.i in
+    let lt : i < length p = omega arith in
+    let below : i < length q = omega arith in
+    rw c.in_ok-push.ensures.items (hull_more cell_shape cell_hull p q c.loop-i.cells.items i (entries_at p i) (entries_at q i) c.in_ok-cell.cell lt below (get_or_default p i _ _ lt) (get_or_default q i _ _ below)
+    c.loop-i.invariant (rw (c.cell.ensures, c.cell-in-loop-i.ensures) at c.in_ok-cell.ensures.hull))
 
 pub returns-in_err-cell-clause-fault : goal.returns-in_err-cell-clause-fault
 returns-in_err-cell-clause-fault c =

@@ -1,5 +1,5 @@
-use Rattle.problem_hull.proofs.Common.{◌≡◌, ◌<◌, ℕ, None, entries_at, sum_refusal}
+use Rattle.problem_hull.proofs.Common.{◌≡◌, drop, first_refusal}
 use Rattle.problem_hull.proofs.problem.first_too_large.Given as goal
 
 abbrev pub invariant-loop-cell : goal.invariant-loop-cell
-invariant-loop-cell l = (c : ℕ) → c < l.cell-index → sum_refusal (entries_at l.cells c) ≡ None
+invariant-loop-cell l = first_refusal (drop l.cell-index l.cells) ≡ first_refusal l.cells
