@@ -1,9 +1,10 @@
 -- The hull of two decks' problems and constant heads.
-use Rattle.deck_problems.proofs.Common.{◌≡◌, ◌∷◌, ◌∙◌, ◌<◌, ℕ, inl, inr, Option, Some, None, List, Contains, get_or, length, map, refl, sym, subst, ap, arith}
+use Rattle.deck_problems.proofs.Common.{◌≡◌, ◌∙◌, ◌<◌, ℕ, inl, inr, Option, Some, None, List, Contains, get_or, length, map, refl, sym, subst, ap, arith}
 use Rattle.deck_problems.proofs.Common.{int_min, int_max, IfSome, get_or_default, Fixed, Bound, IsProblem, Entries, no_entries, lower_at, upper_at, FlowModel}
-use Rattle.deck_problems.proofs.Common.{TimeStep, IsProblemOf, IsBuildFault, IsHullOf, fixed_shape, fixed_hull, IsCellHull, IsHull, AllThree, none, next}
-use Rattle.deck_problems.proofs.Common.{three_lengths, three_within, Decks, AreConstantHeadsFor, IsSecond, AreDecks, AreHullBounds, HasCellsOf, IsHullRefusal}
-use Rattle.deck_problems.proofs.Common.{IsProblemFor, IsProblemBy, IsRefusedBy, IsFaultFor, of_second, of_hull, AreConstantHeads}
+use Rattle.deck_problems.proofs.Common.{TimeStep, IsProblemOf, IsBuildFault, fixed_shape, fixed_hull, cell_shape, zip_with, IsHull, hull_at, hull_count}
+use Rattle.deck_problems.proofs.Common.{hull_keeps, same_lengths, zip_at, zip_left, Decks, AreConstantHeadsFor, IsSecond, AreDecks, AreHullBounds, HasCellsOf}
+use Rattle.deck_problems.proofs.Common.{IsHullRefusal, IsProblemFor, IsProblemBy, IsRefusedBy, IsFaultFor, of_second, of_hull, AreConstantHeads, entries_at}
+use Rattle.deck_problems.proofs.Common.{get_or-map}
 use Rattle.problem_builder.specs.GridHeads.{IsNamed}
 use Rattle.problem_builder.specs.declared.fault.BuildFault.{BuildFault}
 use Rattle.deck_problems.proofs.Enclosing.{second_cells}
@@ -12,23 +13,26 @@ use Rattle.problem_builder.specs.declared.fault.BuildFault.TheVariants as build
 
 -- The hull names the cells of the first problem.
 
-pub hull_ids : (p q r : List Entries) → IsHull p q r → map (λ (e : Entries). e.id) r ≡ map (λ (e : Entries). e.id) p
-hull_ids p q r none = refl
-hull_ids p q r (next h hs) = λ i. h.id i ∷ hull_ids _ _ _ hs i
-
-named_fixed : (p q r : List Fixed) → AllThree (IsHullOf fixed_shape fixed_hull) p q r → (c : ℕ) → (x : Fixed) × Contains r x × (c ≡ x.source) → (x : Fixed) × Contains p x × (c ≡ x.source)
-named_fixed p q r h c (x, (i, lt, e), source) =
-    let inside : i < length p = omega (arith, lt, (three_lengths (IsHullOf fixed_shape fixed_hull) p q r h).1) in
-    (get_or p i x, (i, inside, get_or_default p i (get_or p i x) x inside), source ∙ ap (λ (y : Fixed). y.source) (sym e) ∙ ap (λ (y : Fixed). y.source) (three_within (IsHullOf fixed_shape fixed_hull) p q r i x x x h inside).is)
+named_fixed : (p q : List Fixed) → length q ≡ length p → (c : ℕ) → (x : Fixed) × Contains (zip_with fixed_hull p q) x × (c ≡ x.source) → (x : Fixed) × Contains p x × (c ≡ x.source)
+named_fixed p q same c (x, (i, lt, e), source) =
+    let r = zip_with fixed_hull p q in
+    let inside : i < length p = omega (arith, lt, same_lengths (λ (y : Fixed). y.source) p r (zip_left (λ y. y.source) fixed_hull (λ y z. refl) p q same)) in
+    let of_first = ap (λ (y : Fixed). y.source) (sym e ∙ get_or_default r i x (fixed_hull x x) lt ∙ zip_at fixed_hull p q i x x same) in
+    (get_or p i x, (i, inside, get_or_default p i (get_or p i x) x inside), source ∙ of_first)
 
 hull_named : (p q r : List Entries) → IsHull p q r → (c : ℕ) → IsNamed r c → IsNamed p c
 hull_named p q r h c (k, lt, by) =
-    let inside : k < length p = omega (arith, lt, (three_lengths IsCellHull p q r h).1) in
-    let here = three_within IsCellHull p q r k no_entries no_entries no_entries h inside in
-    (k, inside, elim by [ inl e ↦ inl (e ∙ here.id) | inr f ↦ inr (named_fixed _ _ _ here.fixed c f) ])
+    let here = hull_at p q r h k in
+    let inside : k < length p = omega (arith, lt, hull_count p q r h) in
+    let within : k < length q = omega (arith, inside, same_lengths cell_shape p q h.alike) in
+    let same = same_lengths fixed_shape (entries_at p k).fixed (entries_at q k).fixed (ap (λ (e : Entries). e.fixed) (shape_at p q k inside within h.alike)) in
+    (k, inside, elim by [ inl e ↦ inl (e ∙ ap (λ (x : Entries). x.id) here) | inr f ↦ inr (named_fixed _ _ same c (subst (λ (xs : List Fixed). (x : Fixed) × Contains xs x × (c ≡ x.source)) (ap (λ (x : Entries). x.fixed) here) f)) ])
+  where
+    shape_at : (p q : List Entries) (k : ℕ) → k < length p → k < length q → map cell_shape q ≡ map cell_shape p → cell_shape (entries_at q k) ≡ cell_shape (entries_at p k)
+    shape_at p q k lt below e = sym (get_or-map cell_shape q k no_entries no_entries below) ∙ ap (λ l. get_or l k no_entries) e ∙ get_or-map cell_shape p k no_entries no_entries lt
 
 pub hull_cells : (m : FlowModel) (at : TimeStep) (p q r : List Entries) → IsHull p q r → HasCellsOf m at p → HasCellsOf m at r
-hull_cells m at p q r h k = record { cells = hull_ids p q r h ∙ k.cells; named = λ c n. k.named c (hull_named p q r h c n) }
+hull_cells m at p q r h k = record { cells = hull_keeps p q r h (λ e. e.id) (λ a b. refl) ∙ k.cells; named = λ c n. k.named c (hull_named p q r h c n) }
 
 -- The constant heads of one deck, and of two.
 
