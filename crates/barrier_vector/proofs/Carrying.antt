@@ -1,13 +1,13 @@
 -- What the floors of carried components are made of, from labels, a search, sums and maxima.
-use Rattle.barrier_vector.proofs.Common.{◌≡◌, ℕ, ◌+◌, ◌<◌, ◌≤◌, inl, inr, refl, sym, ◌∙◌, ap, subst, arith, List, length, min, Option, None, Some, cond}
-use Rattle.barrier_vector.proofs.Common.{slice_index, ℤ, pos, ◌-ℤ◌, ◌≤ℤ◌, ◌<ℤ◌, ints, clamps, Entries, entries_at, IsProblem, IsHead, base_on, IsComponent}
-use Rattle.barrier_vector.proofs.Common.{sum_inside, deep_low, sum-same, Low, lack, capped_flow, LeastRoot, IsInnerPath, IsLongest, IsUnanchored, mark_at}
-use Rattle.barrier_vector.proofs.Common.{path_limit, ListRoot, IsSearched, AreLabels, labelled, number_at, sum_at, IsGreatestOf, FlowSum, SelfRoot, AreRoots}
-use Rattle.barrier_vector.proofs.Common.{AreComponents, cut_on, IsBoundOrNone}
+use Rattle.barrier_vector.proofs.Common.{◌≡◌, ℕ, ◌+◌, ◌<◌, ◌≤◌, inl, inr, refl, sym, ◌∙◌, ap, subst, arith, List, length, min, Option, None, Some, slice_index}
+use Rattle.barrier_vector.proofs.Common.{ℤ, pos, ◌-ℤ◌, ◌≤ℤ◌, ◌<ℤ◌, ints, clamps, Entries, entries_at, IsProblem, IsHead, base_on, IsComponent, sum_inside}
+use Rattle.barrier_vector.proofs.Common.{deep_low, Low, lack, capped_flow, LeastRoot, IsInnerPath, IsLongest, IsUnanchored, mark_at, path_limit, ListRoot}
+use Rattle.barrier_vector.proofs.Common.{IsSearched, AreLabels, labelled, sum_at, longest_at, greatest_inside, Total, SelfRoot, AreRoots, AreComponents, cut_on}
+use Rattle.barrier_vector.proofs.Common.{IsBoundOrNone}
 use Rattle.barrier_vector.proofs.CarriedRoots.{reaches_within, turn_way, join_ways}
 use Rattle.barrier_vector.proofs.Levels.{marked_or_not, marked_within}
 use Rattle.barrier_vector.proofs.Labelling.{along}
-use Rattle.barrier_vector.proofs.Gathering.{label_true, label_is}
+use Rattle.barrier_vector.proofs.Gathering.{label_true, label_is, greatest_covers, greatest_of}
 use Rattle.barrier_vector.proofs.Marking.{base_head}
 use Rattle.barrier_vector.proofs.Rooting.{label_within}
 use Rattle.barrier_vector.proofs.CappedFlows.{whole_path}
@@ -44,13 +44,10 @@ module _ (p : List Entries) (ok : IsProblem p) where
           let at : m ≡ c = omega (arith, le, ge) in
           roots.each c d (subst (λ (n : ℕ). c < n) (sym (whole ∙ l.whole)) within) (subst (λ (z : ℕ). mark_at labels c ≡ Some z) at e, none)
 
-  pub sums_as_deep : (labels : List (Option ℕ)) (deep : List ℤ) (sums : List FlowSum) → length labels ≡ length p → ((c : ℕ) → c < length p → number_at deep c ≡ deep_low (entries_at p c)) → ((m : ℕ) → sum_at sums m ≡ sum_inside (length labels) (labelled labels m) (number_at deep)) → (m : ℕ) → sum_at sums m ≡ sum_inside (length p) (labelled labels m) (λ k. deep_low (entries_at p k))
-  sums_as_deep labels deep sums whole values h m = h m ∙ ap (λ (n : ℕ). sum_inside n (labelled labels m) (number_at deep)) whole ∙ sum-same (length p) _ _ (λ k k_in. ap (λ (z : ℤ). cond (labelled labels m k) z (pos 0)) (values k k_in))
-
 capped_sum : (b : ℤ) (x y s t : ℕ) → IsHead b → x ≡ min s path_limit → y ≡ min t path_limit → cut_on Low (b -ℤ pos (x + y)) ≡ cut_on Low (b -ℤ pos (s + t))
 capped_sum b x y s t h p q = omega (arith, ints, clamps, h.below, h.above, p, q)
 
-module _ (p : List Entries) (ok : IsProblem p) (labels : List (Option ℕ)) (inner : List ℕ) (sums : List FlowSum) (longest : List ℕ) (y : AreComponents p labels inner sums longest) where
+module _ (p : List Entries) (ok : IsProblem p) (labels : List (Option ℕ)) (inner : List ℕ) (totals : List Total) (y : AreComponents p labels inner totals) where
   component_of : (c m : ℕ) → mark_at labels c ≡ Some m → IsComponent p c (labelled labels m)
   component_of c m e = record {
     reached = λ k t.
@@ -61,49 +58,42 @@ module _ (p : List Entries) (ok : IsProblem p) (labels : List (Option ℕ)) (inn
     whole = λ j k way. label_true (mark_at labels k) m (along p labels (length p) y.labelling j c k m e way);
   }
 
-  longest_is : (c m : ℕ) → c < length p → mark_at labels c ≡ Some m → (t : ℕ) × IsLongest p c t × (slice_index longest m ≡ min t path_limit)
+  longest_is : (c m : ℕ) → c < length p → mark_at labels c ≡ Some m → (t : ℕ) × IsLongest p c t × (longest_at totals m ≡ min t path_limit)
   longest_is c m h e =
       let (t, top) = longest_path p ok c h in
       let k_in = reaches_within p ok top.links c top.cell h top.reached in
-      let g = y.tops m in
-      let at_least = g.greatest top.cell k_in (along p labels (length p) y.labelling top.links c top.cell m e top.reached) in
+      let on = label_true (mark_at labels top.cell) m (along p labels (length p) y.labelling top.links c top.cell m e top.reached) in
+      let at_least = greatest_covers (length p) (labelled labels m) (slice_index inner) top.cell k_in on in
       let (s, s_path, s_cut) = y.inner_paths top.cell k_in in
-      let same = inner_one p ok top.cell s t s_path top.is_path in (
-        t,
-        top,
-        elim g.reached [
-          | inl nought ↦ omega (arith, at_least, s_cut, same, nought)
-          | inr (l, l_in, l_on, is) ↦
-              let (r, r_path, r_cut) = y.inner_paths l l_in in
-              let (j, way) = (component_of c m e).reached l (label_true (mark_at labels l) m l_on) in
-              let le = top.longest j l r way r_path in omega (arith, at_least, s_cut, same, is, r_cut, le)
-        ],
-      )
+      let same = inner_one p ok top.cell s t s_path top.is_path in
+      let (l, l_in, l_on, is) = greatest_of (length p) (labelled labels m) (slice_index inner) top.cell k_in on in
+      let (r, r_path, r_cut) = y.inner_paths l l_in in
+      let (j, way) = (component_of c m e).reached l l_on in
+      let le = top.longest j l r way r_path in
+      (t, top, omega (arith, y.tops m, at_least, s_cut, same, is, r_cut, le))
 
-  pub floor_carried : (base : ℤ) → base ≡ base_on Low p → (c m : ℕ) (v : ℤ) → c < length p → IsUnanchored Low p c → mark_at labels c ≡ Some m → pos 0 <ℤ sum_at sums m → v ≡ cut_on Low (base -ℤ pos (slice_index inner c + slice_index longest m)) → IsBoundOrNone Low p c (Some v)
+  pub floor_carried : (base : ℤ) → base ≡ base_on Low p → (c m : ℕ) (v : ℤ) → c < length p → IsUnanchored Low p c → mark_at labels c ≡ Some m → pos 0 <ℤ sum_at totals m → v ≡ cut_on Low (base -ℤ pos (slice_index inner c + longest_at totals m)) → IsBoundOrNone Low p c (Some v)
   floor_carried base base_is c m v h none e carries is =
       let (s, path, cut) = y.inner_paths c h in
       let (t, top, top_cut) = longest_is c m h e in
-      (base_on Low p -ℤ pos (s + t), inr (none, record { inside = labelled labels m; component = component_of c m e; carries = subst (λ (z : ℤ). pos 0 <ℤ z) (y.component_sums m) carries }, s, path, t, top, refl), is ∙ ap (λ (z : ℤ). cut_on Low (z -ℤ pos (slice_index inner c + slice_index longest m))) base_is ∙ capped_sum (base_on Low p) (slice_index inner c) (slice_index longest m) s t (base_head Low p ok) cut top_cut)
+      (base_on Low p -ℤ pos (s + t), inr (none, record { inside = labelled labels m; component = component_of c m e; carries = subst (λ (z : ℤ). pos 0 <ℤ z) (y.component_sums m) carries }, s, path, t, top, refl), is ∙ ap (λ (z : ℤ). cut_on Low (z -ℤ pos (slice_index inner c + longest_at totals m))) base_is ∙ capped_sum (base_on Low p) (slice_index inner c) (longest_at totals m) s t (base_head Low p ok) cut top_cut)
 
-  pub floor_none : (c m : ℕ) → c < length p → IsUnanchored Low p c → mark_at labels c ≡ Some m → sum_at sums m ≤ℤ pos 0 → IsBoundOrNone Low p c None
+  pub floor_none : (c m : ℕ) → c < length p → IsUnanchored Low p c → mark_at labels c ≡ Some m → sum_at totals m ≤ℤ pos 0 → IsBoundOrNone Low p c None
   floor_none c m h none e empty = (none, λ carried. let same = one_sum p ok c carried.inside (labelled labels m) carried.component (component_of c m e) ∙ sym (y.component_sums m) in let k = carried.carries in omega (arith, ints, same, k, empty))
 
 -- the components, from what the code made
-pub components_made : (p : List Entries) → IsProblem p → (labels least levels : List (Option ℕ)) (inner : List ℕ) (deep : List ℤ) (sums : List FlowSum) (longest : List ℕ) → AreLabels p labels (length p) → length least ≡ length labels → AreRoots (SelfRoot labels) least → IsSearched p (capped_flow (lack p)) least levels inner → ((c : ℕ) → c < length p → number_at deep c ≡ deep_low (entries_at p c)) → length sums ≡ length labels → ((m : ℕ) → sum_at sums m ≡ sum_inside (length labels) (labelled labels m) (number_at deep)) → length longest ≡ length labels → ((m : ℕ) → IsGreatestOf labels inner m (length labels) (slice_index longest m)) → AreComponents p labels inner sums longest
-components_made p ok labels least levels inner deep sums longest l least_whole least_roots found values sums_whole sum_is tops_whole tops = record {
+pub components_made : (p : List Entries) → IsProblem p → (labels least levels : List (Option ℕ)) (inner : List ℕ) (totals : List Total) → AreLabels p labels (length p) → length least ≡ length labels → AreRoots (SelfRoot labels) least → IsSearched p (capped_flow (lack p)) least levels inner → length totals ≡ length p → ((m : ℕ) → sum_at totals m ≡ sum_inside (length p) (labelled labels m) (λ k. deep_low (entries_at p k))) → ((m : ℕ) → longest_at totals m ≡ greatest_inside (length p) (labelled labels m) (slice_index inner)) → AreComponents p labels inner totals
+components_made p ok labels least levels inner totals l least_whole least_roots found whole sums tops = record {
   labelling = l;
   inner_paths = inner_paths_of p ok labels least levels inner l least_whole least_roots found;
-  component_sums = sums_as_deep p ok labels deep sums l.whole values sum_is;
-  tops = λ m. subst (λ (n : ℕ). IsGreatestOf labels inner m n (slice_index longest m)) l.whole (tops m);
+  component_sums = sums;
+  tops = tops;
   inner_whole = found.paths_whole;
-  sums_whole = sums_whole ∙ l.whole;
-  tops_whole = tops_whole ∙ l.whole;
+  totals_whole = whole;
 }
 
-pub label_in : (p : List Entries) → IsProblem p → (labels l : List (Option ℕ)) → l ≡ labels → AreLabels p labels (length p) → (k m : ℕ) → mark_at l k ≡ Some m → m < length l
+-- a label is a cell of the problem
+pub label_in : (p : List Entries) → IsProblem p → (labels l : List (Option ℕ)) → l ≡ labels → AreLabels p labels (length p) → (k m : ℕ) → mark_at l k ≡ Some m → m < length p
 label_in p ok labels l e a k m is =
     let is' = rw e at is in
-    let within = marked_within labels k m is' in
-    let low = label_within p ok labels a k m (omega (arith, within, a.whole)) is' in
-    rw e (omega (arith, low, a.whole))
+    label_within p ok labels a k m (omega (arith, marked_within labels k m is', a.whole)) is'

@@ -19,16 +19,16 @@ pub use Rattle.barrier_vector.specs.{AnchorRoot, AreAnchorPaths, AreBegun, AreBo
 pub use Rattle.barrier_vector.specs.{BarrierExcludesRefusal, BarrierIsCut, BarrierIsOne, CeilingsEnclose, ClampedFits, ContinuesTo, CutBarrierExcludesRefusal}
 pub use Rattle.barrier_vector.specs.{CutBarrierIsOne, CutRefusalIsOne, EnclosesUncut, Fills, FloorsEnclose, FloorsHold, FrontLeads, HasNoBound, HasStorage}
 pub use Rattle.barrier_vector.specs.{IsAnchorPath, IsAnchoredBound, IsAnchoredOrNone, IsBoundOn, IsBoundOrNone, IsCarriedFloor, IsCeiling, IsCutBarrierOf}
-pub use Rattle.barrier_vector.specs.{IsCutBoundOn, IsCutFault, IsCutFaultOn, IsFaultOn, IsFirst, IsFloor, IsGreatestOf, IsInnerPath, IsLeastWith, IsLevel}
-pub use Rattle.barrier_vector.specs.{IsLongest, IsMissing, IsNearest, IsNotForLackOfAnchors, IsOutOfRange, IsOutline, IsParent, IsPath, IsRefused, IsRefusedOn}
-pub use Rattle.barrier_vector.specs.{IsSearched, IsSolution, IsUnanchored, IsWholeSide, LeadsToRoot, LeastRoot, LeavesRange, LiesOut, LinkLeads, ListAnchor}
-pub use Rattle.barrier_vector.specs.{ListRoot, Names, Nowhere, RefusalIsOne, Refuses, RefusesOn, SelfRoot, Spreads, SumsTo, anchor_on, base_on, bound_at}
-pub use Rattle.barrier_vector.specs.{capped_flow, ceil_over, cell_mark, clamp, cut_on, drain_mark, fixed_mark, flow_sum, greatest, high_flow, if_some, is_label}
-pub use Rattle.barrier_vector.specs.{labelled, lack, mark_at, moved_out, need, need_on, negative_part, no_barrier_on, number_at, outer_of, outermost}
+pub use Rattle.barrier_vector.specs.{IsCutBoundOn, IsCutFault, IsCutFaultOn, IsFaultOn, IsFirst, IsFloor, IsInnerPath, IsLeastWith, IsLevel, IsLongest}
+pub use Rattle.barrier_vector.specs.{IsMissing, IsNearest, IsNotForLackOfAnchors, IsOutOfRange, IsOutline, IsParent, IsPath, IsRefused, IsRefusedOn, IsSearched}
+pub use Rattle.barrier_vector.specs.{IsSolution, IsUnanchored, IsWholeSide, LeadsToRoot, LeastRoot, LeavesRange, LiesOut, LinkLeads, ListAnchor, ListRoot}
+pub use Rattle.barrier_vector.specs.{Names, Nowhere, RefusalIsOne, Refuses, RefusesOn, SelfRoot, Spreads, SumsTo, anchor_on, base_on, bound_at, capped_flow}
+pub use Rattle.barrier_vector.specs.{ceil_over, cell_mark, clamp, cut_on, drain_mark, fixed_mark, flow_sum, greatest, greatest_inside, high_flow, if_some}
+pub use Rattle.barrier_vector.specs.{is_label, labelled, lack, longest_at, mark_at, moved_out, need, need_on, negative_part, no_barrier_on, outer_of, outermost}
 pub use Rattle.barrier_vector.specs.{path_limit, positive_part, range_on, river_mark, sum_at, unmarked}
 pub use Rattle.barrier_vector.specs.declared.BarrierFault.{BarrierFault}
 pub use Rattle.barrier_vector.specs.declared.BarrierFault.TheVariants.{Memory}
-pub use Rattle.barrier_vector.specs.declared.gathered.FlowSum.{FlowSum}
+pub use Rattle.barrier_vector.specs.declared.gathered.Total.{Total}
 pub use Rattle.cell_balance.proofs.Deep.{Bounds, add_mul, bounds_same, deep_less, le_trans_z, same_z, sub_mul, total-same, total_bounds, total_neg}
 pub use Rattle.cell_balance.proofs.Deep.{total_nonneg}
 pub use Rattle.cell_balance.proofs.Dry.{IsMutual, cut_link, cut_links, dry_balance}

@@ -1,10 +1,11 @@
 -- What a component of a problem has: a test, its sum of deep flows, a least cell, and a longest path to that cell.
-use Rattle.barrier_vector.proofs.Common.{◌≡◌, ℕ, zero, suc, ◌<◌, ◌≤◌, ◌⊎◌, inl, inr, refl, ap, subst, arith, List, length, Bool, cond, ℤ, pos, ◌<ℤ◌, ◌≤ℤ◌}
-use Rattle.barrier_vector.proofs.Common.{cases_lt, ints, by_lt_z, IsProblem, Entries, entries_at, IsComponent, IsCarried, sum_inside, deep_low, LeastRoot}
-use Rattle.barrier_vector.proofs.Common.{IsInnerPath, IsLongest, lack, sum-same}
+use Rattle.barrier_vector.proofs.Common.{◌≡◌, ℕ, ◌<◌, ◌≤◌, ◌⊎◌, inl, inr, refl, ap, arith, List, length, Bool, cond, ℤ, pos, ◌<ℤ◌, ◌≤ℤ◌, cases_lt, ints}
+use Rattle.barrier_vector.proofs.Common.{by_lt_z, IsProblem, Entries, entries_at, IsComponent, IsCarried, sum_inside, deep_low, LeastRoot, IsInnerPath}
+use Rattle.barrier_vector.proofs.Common.{IsLongest, lack, sum-same}
 use Rattle.barrier_vector.proofs.CarriedRoots.{reaches_within}
 use Rattle.barrier_vector.proofs.Uniques.{inner_one, same_tests}
 use Rattle.barrier_vector.proofs.Decided.{Decided, test_of, test_true, true_test, first_or_none, path}
+use Rattle.barrier_vector.proofs.Gathering.{greatest_covers, greatest_of}
 use Rattle.barrier_vector.proofs.Ways.{LeadTo, join, leading_decided}
 
 module _ (p : List Entries) (ok : IsProblem p) where
@@ -60,41 +61,33 @@ module _ (p : List Entries) (ok : IsProblem p) where
             })
       ]
 
-  at_least : (i l r s t : ℕ) → l ≡ i → IsInnerPath p l r → IsInnerPath p i s → s ≤ t → r ≤ t
-  at_least i l r s t at l_is is le = let same = inner_one p ok i r s (subst (λ (z : ℕ). IsInnerPath p z r) at l_is) is in omega (arith, same, le)
+  -- the path of a cell of the problem, 0 past its end
+  path_by : (k : ℕ) → (k < length p) ⊎ (length p ≤ k) → ℕ
+  path_by k (inl h) = (inner_path k h).0
+  path_by k (inr past) = 0
 
-  -- s is the path of cell k, and of the first i cells of the component of cell c none has a longer one
-  record IsTop (c i k s : ℕ) : Type 0 where
-    reached : LeadTo p c k
-    is_path : IsInnerPath p k s
-    longest : (l r : ℕ) → l < i → LeadTo p c l → IsInnerPath p l r → r ≤ s
-
-  last_or_before : (l i : ℕ) → l < suc i → (l < i) ⊎ (l ≡ i)
-  last_or_before l i h = elim (cases_lt l i) [ inl less ↦ inl less | inr past ↦ inr (omega arith) ]
-
-  top_below : (c i : ℕ) → i ≤ length p → ((k : ℕ) × (s : ℕ) × IsTop c i k s) ⊎ ((l : ℕ) → l < i → LeadTo p c l → ⊥)
-  top_below c zero h = inr (λ l l_in way. omega arith)
-  top_below c (suc i) h =
-      elim (leading_decided p ok c i) [
-        | inr apart ↦ elim (top_below c i (omega arith)) [
-          | inl (k, s, t) ↦ inl (k, s, record { reached = t.reached; is_path = t.is_path; longest = λ l r l_in way is. elim (last_or_before l i l_in) [ inl less ↦ t.longest l r less way is | inr at ↦ absurd (apart (subst (λ (z : ℕ). LeadTo p c z) at way)) ] })
-          | inr none ↦ inr (λ l l_in way. elim (last_or_before l i l_in) [ inl less ↦ none l less way | inr at ↦ apart (subst (λ (z : ℕ). LeadTo p c z) at way) ])
-        ]
-        | inl here ↦
-            let (s, s_is) = inner_path i (omega arith) in
-            elim (top_below c i (omega arith)) [
-              | inr none ↦ inl (i, s, record { reached = here; is_path = s_is; longest = λ l r l_in way is. elim (last_or_before l i l_in) [ inl less ↦ absurd (none l less way) | inr at ↦ at_least i l r s s at is s_is (omega arith) ] })
-              | inl (k, t, top) ↦ elim (cases_lt t s) [
-                | inl less ↦ inl (i, s, record { reached = here; is_path = s_is; longest = λ l r l_in way is. elim (last_or_before l i l_in) [ inl before ↦ let le = top.longest l r before way is in omega (arith, le, less) | inr at ↦ at_least i l r s s at is s_is (omega arith) ] })
-                | inr more ↦ inl (k, t, record { reached = top.reached; is_path = top.is_path; longest = λ l r l_in way is. elim (last_or_before l i l_in) [ inl before ↦ top.longest l r before way is | inr at ↦ at_least i l r s t at is s_is more ] })
-              ]
-            ]
-      ]
+  path_is : (k s : ℕ) (o : (k < length p) ⊎ (length p ≤ k)) → k < length p → IsInnerPath p k s → path_by k o ≡ s
+  unfolding path_by
+  path_is k s (inl h) k_in is = inner_one p ok k _ s (inner_path k h).1 is
+  path_is k s (inr past) k_in is = absurd (omega (arith, past, k_in))
 
   -- each component has a longest path
   pub longest : (c : ℕ) → c < length p → (t : ℕ) × IsLongest p c t
   longest c h =
-      elim (top_below c (length p) (omega arith)) [
-        | inr none ↦ absurd (none c h (0, refl))
-        | inl (k, t, top) ↦ (t, record { cell = k; links = top.reached.0; reached = top.reached.1; is_path = top.is_path; longest = λ j l r way is. top.longest l r (reaches_within p ok j c l h way) (j, way) is })
-      ]
+      let path_at : ℕ → ℕ = λ k. path_by k (cases_lt k (length p)) in
+      let (k, k_in, on, is) = greatest_of (length p) (inside c) path_at c h (true_test (LeadTo p c c) (leading_decided p ok c c) (0, refl)) in
+      let (j, way) = test_true (LeadTo p c k) (leading_decided p ok c k) on in
+      let (s, path) = inner_path k k_in in
+      let s_is = path_is k s (cases_lt k (length p)) k_in path in (
+        s,
+        record {
+          cell = k;
+          links = j;
+          reached = way;
+          is_path = path;
+          longest = λ i l r on_way r_path.
+              let l_in = reaches_within p ok i c l h on_way in
+              let le = greatest_covers (length p) (inside c) path_at l l_in (true_test (LeadTo p c l) (leading_decided p ok c l) (i, on_way)) in
+              omega (arith, le, is, s_is, path_is l r (cases_lt l (length p)) l_in r_path);
+        },
+      )

@@ -32,20 +32,11 @@ step_bound lo m n c drop q (pos u) d l some_m h some below carry enough =
         let r : u ≤ drop * n = le_of_mul-le-mul_left h' (omega arith) in
         omega (arith, ints)
 
-pub weak : (a b : ℤ) → a <ℤ b → a ≤ℤ b
-weak a b h = omega (arith, ints)
-
 pub difference_not_negative : (a b : ℤ) → a <ℤ b → pos 0 ≤ℤ (b -ℤ a)
 difference_not_negative a b h = omega (arith, ints)
 
-pub minus : (a b z : ℤ) → a ≤ℤ b → (a -ℤ z) ≤ℤ (b -ℤ z)
-minus a b z h = omega (arith, ints)
-
 pub fallen : (t : ℤ) (k : ℕ) (y : ℤ) → (t -ℤ y) ≤ℤ pos k → (t -ℤ pos k) ≤ℤ y
 fallen t k y h = omega (arith, ints)
-
-pub kept_low : (t : ℤ) (k : ℕ) (y : ℤ) → t ≤ℤ y → (t -ℤ pos k) ≤ℤ y
-kept_low t k y h = omega (arith, ints)
 
 pub joined_low : (t y : ℤ) (n drop rest s : ℕ) → s ≡ drop + rest → ((t -ℤ pos (rest * n)) -ℤ pos (drop * n)) ≤ℤ y → (t -ℤ pos (s * n)) ≤ℤ y
 joined_low t y n drop rest s e h = omega (arith, ints, ap (λ (k : ℕ). k * n) e, h)
@@ -90,8 +81,8 @@ module _ (m n : ℕ) (some_m : 0 < m) (p : List Entries) (w : List WholeCell) (w
         let limit = at_most _ _ _ _ _ one (enters w both Y rest needed t solved (gets t low) c j h) (gets t low c j h) (needs (lies_below Y t)) in
         let above : t ≤ℤ Y z.cell = subst (λ (k : ℕ). t ≤ℤ Y k) exact.same far in
         let carry = rw (test_false (Y z.cell) t above) at limit in
-        fallen t (drop * n) (Y c) (step_bound x.lo m n z.c drop (sum_by need p) (t -ℤ Y c) (Y z.cell -ℤ Y c) exact.conducts some_m exact.c.lower (difference_not_negative _ _ h) (minus _ _ _ above) carry enough))
-        (λ h. kept_low t (drop * n) (Y c) h)
+        fallen t (drop * n) (Y c) (step_bound x.lo m n z.c drop (sum_by need p) (t -ℤ Y c) (Y z.cell -ℤ Y c) exact.conducts some_m exact.c.lower (difference_not_negative _ _ h) (omega (arith, ints, above)) carry enough))
+        (λ h. omega (arith, ints, h))
       where
         at_most : (a s r f q : ℤ) → a ≤ℤ s → (s +ℤ r) ≤ℤ f → pos 0 ≤ℤ r → f ≤ℤ q → a ≤ℤ q
         at_most a s r f q h k l g = omega (arith, ints)
@@ -105,7 +96,7 @@ module _ (m n : ℕ) (some_m : 0 < m) (p : List Entries) (w : List WholeCell) (w
         let same : base ≤ℤ base = omega (arith, ints) in
         let carry = at_most _ _ _ _ _ (gives c i h) (enters w both Y rest needed base solved (gets base same) c j h) (links_give w both Y rest needed base solved (gets base same) c h) (needs (lies_below Y base)) in
         fallen base (drop * n) (Y c) (step_bound (anchor (entries_at p c)) m n (anchor (entries_at p c) * m) drop (sum_by need p) (base -ℤ Y c) (base -ℤ Y c) some some_m (omega arith) (difference_not_negative _ _ h) (omega (arith, ints)) carry enough))
-        (λ h. kept_low base (drop * n) (Y c) h)
+        (λ h. omega (arith, ints, h))
       where
         at_most : (a s r f q : ℤ) → a ≤ℤ r → (s +ℤ r) ≤ℤ f → pos 0 ≤ℤ s → f ≤ℤ q → a ≤ℤ q
         at_most a s r f q h k l g = omega (arith, ints)
@@ -117,7 +108,7 @@ all_or_some zero inside Y t = inl (λ k h e. absurd (omega arith))
 all_or_some (suc n) inside Y t =
     elim (all_or_some n inside Y t) [
       | inr (k, h, e, over) ↦ inr (k, omega arith, e, over)
-      | inl all ↦ by_lt_z t (Y n) (λ h. last all (weak _ _ h) (inside n) refl) (λ h. inl (λ k i e. one_more all h k i e))
+      | inl all ↦ by_lt_z t (Y n) (λ h. last all (omega (arith, ints, h)) (inside n) refl) (λ h. inl (λ k i e. one_more all h k i e))
     ]
   where
     one_more : ((k : ℕ) → k < n → inside k ≡ true → Y k ≤ℤ t) → Y n ≤ℤ t → (k : ℕ) → k < suc n → inside k ≡ true → Y k ≤ℤ t

@@ -1,18 +1,9 @@
--- Sums and maxima by label, one cell after another.
+-- Totals by label, one cell after another.
 use Rattle.barrier_vector.proofs.Common.{◌≡◌, ℕ, zero, suc, ◌+◌, ◌*◌, ◌^◌, ◌<◌, ◌≤◌, ◌⊎◌, inl, inr, refl, sym, ◌∙◌, ap, subst, arith, max, List, Option, None}
 use Rattle.barrier_vector.proofs.Common.{Some, Bool, true, false, cond, slice_index, ℤ, pos, negsuc, unsigned_abs, ◌+ℤ◌, ◌*ℤ◌, ◌≤ℤ◌, ◌<ℤ◌, add-one}
 use Rattle.barrier_vector.proofs.Common.{div-add-mod', mod-lt, length, All, Contains, min, set, get_or-set_same, get_or-set_other, int_div_euclid}
-use Rattle.barrier_vector.proofs.Common.{int_rem_euclid, cases_eq, cases_lt, eq-eqb, ne_eqb, ints, IsWithin, sum_inside, mark_at, is_label, labelled, number_at}
-use Rattle.barrier_vector.proofs.Common.{flow_sum, sum_at, IsGreatestOf, ceil_over, path_limit, ContinuesTo, FlowSum, get_or_default, Entries}
-
--- a sum of so many numbers in range
-pub sum_within : (n b : ℕ) (t : ℕ → Bool) (f : ℕ → ℤ) → ((k : ℕ) → IsWithin (f k) b) → IsWithin (sum_inside n t f) (n * b)
-sum_within zero b t f each = record { above = omega (arith, ints); below = omega (arith, ints) }
-sum_within (suc n) b t f each = add (sum_inside n t f) (t n) (f n) (sum_within n b t f each) (each n)
-  where
-    add : (s : ℤ) (c : Bool) (z : ℤ) → IsWithin s (n * b) → IsWithin z b → IsWithin (s +ℤ cond c z (pos 0)) (suc n * b)
-    add s true z p q = record { above = omega (arith, ints); below = omega (arith, ints) }
-    add s false z p q = record { above = omega (arith, ints); below = omega (arith, ints) }
+use Rattle.barrier_vector.proofs.Common.{int_rem_euclid, cases_eq, cases_lt, eq-eqb, ne_eqb, ints, IsWithin, sum_inside, mark_at, is_label, labelled, flow_sum}
+use Rattle.barrier_vector.proofs.Common.{sum_at, longest_at, greatest_inside, Total, ceil_over, path_limit, ContinuesTo, get_or_default, Entries}
 
 -- the test of a label tells
 pub label_true : (o : Option ℕ) (m : ℕ) → o ≡ Some m → is_label o m ≡ true
@@ -22,57 +13,52 @@ pub label_is : (o : Option ℕ) (m : ℕ) → is_label o m ≡ true → o ≡ So
 label_is None m e = absurd cc
 label_is (Some k) m e = elim (cases_eq k m) [ inl is ↦ ap Some is | inr n ↦ let f = ne_eqb k m n in absurd (cc (e, f)) ]
 
-label_case : (b : Bool) → (b ≡ true) ⊎ (b ≡ false)
-label_case true = inl refl
-label_case false = inr refl
-
--- one number more
-pub greatest_more : (labels : List (Option ℕ)) (xs : List ℕ) (m i t t' : ℕ) → IsGreatestOf labels xs m i t → t' ≡ cond (is_label (mark_at labels i) m) (max t (slice_index xs i)) t → IsGreatestOf labels xs m (i + 1) t'
-greatest_more labels xs m i t t' g e =
-    elim (label_case (is_label (mark_at labels i) m)) [
-      | inl on ↦ let e' = rw on at e in with_it e' (label_is (mark_at labels i) m on)
-      | inr off ↦ let e' = rw off at e in without_it e' (λ is. let f = label_true (mark_at labels i) m is in absurd (cc (f, off)))
+-- the greatest of the numbers of the cells that pass a test
+pub greatest_covers : (n : ℕ) (t : ℕ → Bool) (f : ℕ → ℕ) (k : ℕ) → k < n → t k ≡ true → f k ≤ greatest_inside n t f
+greatest_covers zero t f k h on = absurd (omega arith)
+greatest_covers (suc n) t f k h on =
+    elim (cases_eq k n) [
+      | inl e ↦ let at = rw e at on in rw (e, at) (omega arith)
+      | inr other ↦ let le = greatest_covers n t f k (omega arith) on in omega (arith, le)
     ]
+
+greatest_reached : (n : ℕ) (t : ℕ → Bool) (f : ℕ → ℕ) → (greatest_inside n t f ≡ 0) ⊎ ((k : ℕ) × (k < n) × (t k ≡ true) × (f k ≡ greatest_inside n t f))
+greatest_reached zero t f = inl refl
+greatest_reached (suc n) t f = last (greatest_inside n t f) (t n) refl (greatest_reached n t f)
   where
-    at_i : (k : ℕ) → k < i + 1 → i ≤ k → k ≡ i
-    at_i k h n = omega arith
+    last : (g : ℕ) (b : Bool) → t n ≡ b → (g ≡ 0) ⊎ ((k : ℕ) × (k < n) × (t k ≡ true) × (f k ≡ g)) → (max g (cond b (f n) 0) ≡ 0) ⊎ ((k : ℕ) × (k < suc n) × (t k ≡ true) × (f k ≡ max g (cond b (f n) 0)))
+    last g false off (inl none) = inl (omega (arith, none))
+    last g false off (inr (k, h, on, is)) = inr (k, omega (arith, h), on, omega (arith, is))
+    last g true on (inl none) = inr (n, omega arith, on, omega (arith, none))
+    last g true on (inr (k, h, k_on, is)) = elim (cases_lt (f n) g) [ inl less ↦ inr (k, omega (arith, h), k_on, omega (arith, is, less)) | inr more ↦ inr (n, omega arith, on, omega (arith, more)) ]
 
-    with_it : t' ≡ max t (slice_index xs i) → mark_at labels i ≡ Some m → IsGreatestOf labels xs m (i + 1) t'
-    with_it e' on = record {
-      greatest = λ k h is.
-          elim (cases_lt k i) [
-            | inl less ↦ let old = g.greatest k less is in omega (arith, old, e')
-            | inr more ↦ let at = at_i k h more in let same = ap (λ (z : ℕ). slice_index xs z) at in omega (arith, same, e')
-          ];
-      reached =
-          elim (cases_lt t (slice_index xs i)) [
-            | inl less ↦ inr (i, omega arith, on, omega (arith, less, e'))
-            | inr more ↦ let is : t' ≡ t = omega (arith, more, e') in elim g.reached [ inl nought ↦ inl (is ∙ nought) | inr (k, h, on_k, same) ↦ inr (k, omega (arith, h), on_k, same ∙ sym is) ]
-          ];
-    }
+-- a cell that has it, where some cell passes
+pub greatest_of : (n : ℕ) (t : ℕ → Bool) (f : ℕ → ℕ) (c : ℕ) → c < n → t c ≡ true → (k : ℕ) × (k < n) × (t k ≡ true) × (f k ≡ greatest_inside n t f)
+greatest_of n t f c h on = elim (greatest_reached n t f) [ inl none ↦ (c, h, on, omega (arith, none, greatest_covers n t f c h on)) | inr found ↦ found ]
 
-    without_it : t' ≡ t → (mark_at labels i ≡ Some m → ⊥) → IsGreatestOf labels xs m (i + 1) t'
-    without_it is off = record {
-      greatest = λ k h on.
-          elim (cases_lt k i) [
-            | inl less ↦ let old = g.greatest k less on in omega (arith, old, is)
-            | inr more ↦ let at = at_i k h more in absurd (off (subst (λ (z : ℕ). mark_at labels z ≡ Some m) at on))
-          ];
-      reached = elim g.reached [ inl nought ↦ inl (is ∙ nought) | inr (k, h, on_k, same) ↦ inr (k, omega (arith, h), on_k, same ∙ sym is) ];
-    }
+pub greatest_within : (n : ℕ) (t : ℕ → Bool) (f : ℕ → ℕ) (b : ℕ) → ((k : ℕ) → k < n → f k ≤ b) → greatest_inside n t f ≤ b
+greatest_within n t f b each = elim (greatest_reached n t f) [ inl none ↦ omega (arith, none) | inr (k, h, on, is) ↦ let le = each k h in omega (arith, le, is) ]
 
 -- one cell more, over what the code holds before and after
-pub sum_more : (labels : List (Option ℕ)) (flows : List ℤ) (sums s0 s1 sf : List FlowSum) (i m : ℕ) → s0 ≡ sums → sf ≡ s1 → sum_at sums m ≡ sum_inside i (labelled labels m) (number_at flows) → sum_at s1 m ≡ sum_at s0 m +ℤ cond (is_label (mark_at labels i) m) (number_at flows i) (pos 0) → sum_at sf m ≡ sum_inside (i + 1) (labelled labels m) (number_at flows)
-sum_more labels flows sums s0 s1 sf i m e0 ef h t = let t' = rw e0 at t in rw (ef, add-one i) (t' ∙ ap (λ (z : ℤ). z +ℤ cond (is_label (mark_at labels i) m) (number_at flows i) (pos 0)) h)
+module _ (labels : List (Option ℕ)) (old s0 s1 new : List Total) (i m : ℕ) (e0 : s0 ≡ old) (ef : new ≡ s1) where
+  pub sum_more : (f : ℕ → ℤ) (q : ℤ) → q ≡ f i → sum_at old m ≡ sum_inside i (labelled labels m) f → sum_at s1 m ≡ sum_at s0 m +ℤ cond (is_label (mark_at labels i) m) q (pos 0) → sum_at new m ≡ sum_inside (i + 1) (labelled labels m) f
+  sum_more f q is h t = let t' = rw (e0, is) at t in rw (ef, add-one i) (t' ∙ ap (λ (z : ℤ). z +ℤ cond (is_label (mark_at labels i) m) (f i) (pos 0)) h)
 
-pub greatest_step : (labels : List (Option ℕ)) (xs tops t0 t1 tf : List ℕ) (m i : ℕ) → t0 ≡ tops → tf ≡ t1 → IsGreatestOf labels xs m i (slice_index tops m) → slice_index t1 m ≡ cond (is_label (mark_at labels i) m) (max (slice_index t0 m) (slice_index xs i)) (slice_index t0 m) → IsGreatestOf labels xs m (i + 1) (slice_index tf m)
-greatest_step labels xs tops t0 t1 tf m i e0 ef g t = let t' = rw e0 at t in rw ef (greatest_more labels xs m i (slice_index tops m) (slice_index t1 m) g t')
+  pub longest_more : (f : ℕ → ℕ) → longest_at old m ≡ greatest_inside i (labelled labels m) f → longest_at s1 m ≡ max (longest_at s0 m) (cond (is_label (mark_at labels i) m) (f i) 0) → longest_at new m ≡ greatest_inside (i + 1) (labelled labels m) f
+  longest_more f h t = let t' = rw e0 at t in rw (ef, add-one i) (t' ∙ ap (λ (n : ℕ). max n (cond (is_label (mark_at labels i) m) (f i) 0)) h)
 
-pub sums_within : (labels : List (Option ℕ)) (flows : List ℤ) (sums s0 : List FlowSum) (i m : ℕ) → s0 ≡ sums → i < 2 ^ 32 → ((k : ℕ) → IsWithin (number_at flows k) (2 ^ 125)) → sum_at sums m ≡ sum_inside i (labelled labels m) (number_at flows) → IsWithin (sum_at s0 m) (2 ^ 157)
-sums_within labels flows sums s0 i m e0 small each h = let w = sum_within i (2 ^ 125) (labelled labels m) (number_at flows) each in rw (e0, h) (wider _ w)
-  where
-    wider : (z : ℤ) → IsWithin z (i * 2 ^ 125) → IsWithin z (2 ^ 157)
-    wider z w = let le : i * 2 ^ 125 ≤ 2 ^ 157 = omega arith in record { above = omega (arith, ints); below = omega (arith, ints) }
+  pub within_more : (b : Bool) (q : ℤ) → IsWithin q (2 ^ 125) → IsWithin (sum_at old m) (i * 2 ^ 125) → sum_at s1 m ≡ sum_at s0 m +ℤ cond b q (pos 0) → IsWithin (sum_at new m) ((i + 1) * 2 ^ 125)
+  within_more b q w v t = let t' = rw e0 at t in rw (ef, t') (add b (sum_at old m) v)
+    where
+      add : (b : Bool) (z : ℤ) → IsWithin z (i * 2 ^ 125) → IsWithin (z +ℤ cond b q (pos 0)) ((i + 1) * 2 ^ 125)
+      add true z v = record { above = omega (arith, ints, w, v); below = omega (arith, ints, w, v) }
+      add false z v = record { above = omega (arith, ints, v); below = omega (arith, ints, v) }
+
+  pub sum_within : i < 2 ^ 32 → IsWithin (sum_at old m) (i * 2 ^ 125) → IsWithin (sum_at s0 m) (2 ^ 157)
+  sum_within small v = rw e0 (wider (sum_at old m) v)
+    where
+      wider : (z : ℤ) → IsWithin z (i * 2 ^ 125) → IsWithin z (2 ^ 157)
+      wider z v = let le : i * 2 ^ 125 ≤ 2 ^ 157 = omega arith in record { above = omega (arith, ints, v, le); below = omega (arith, ints, v, le) }
 
 -- the two words of a sum
 pub euclid : (z : ℤ) (n : ℕ) → 0 < n → int_div_euclid z (pos n) *ℤ pos n +ℤ int_rem_euclid z (pos n) ≡ z
@@ -84,7 +70,7 @@ rest_whole (pos a) n = refl
 rest_whole (negsuc a) n = refl
 
 -- a flow more: what passes 2 ^ 64 goes to the higher word
-pub two_words : (s : FlowSum) (flow rest q r : ℤ) → rest ≡ pos s.low +ℤ flow → q ≡ int_div_euclid rest (pos (2 ^ 64)) → r ≡ int_rem_euclid rest (pos (2 ^ 64)) → flow_sum (record { high = s.high +ℤ q; low = unsigned_abs r }) ≡ flow_sum s +ℤ flow
+pub two_words : (s : Total) (flow rest q r : ℤ) → rest ≡ pos s.low +ℤ flow → q ≡ int_div_euclid rest (pos (2 ^ 64)) → r ≡ int_rem_euclid rest (pos (2 ^ 64)) → (s.high +ℤ q) *ℤ pos (2 ^ 64) +ℤ pos (unsigned_abs r) ≡ flow_sum s +ℤ flow
 two_words s flow rest q r is eq er = rw (eq, er) (words (int_div_euclid rest (pos (2 ^ 64))) (int_rem_euclid rest (pos (2 ^ 64))) (euclid rest (2 ^ 64) (omega arith)) (rest_whole rest (2 ^ 64)))
   where
     words : (q' r' : ℤ) → q' *ℤ pos (2 ^ 64) +ℤ r' ≡ rest → pos (unsigned_abs r') ≡ r' → (s.high +ℤ q') *ℤ pos (2 ^ 64) +ℤ pos (unsigned_abs r') ≡ (s.high *ℤ pos (2 ^ 64) +ℤ pos s.low) +ℤ flow

@@ -1,10 +1,10 @@
 -- The outline of the first cells: one cell more, and what it is of all cells.
 use Rattle.barrier_vector.proofs.Common.{base_on, cell_mark, drop_all, outermost, ◌≡◌, ℕ, ◌+◌, ◌<◌, inl, inr, refl, sym, ◌∙◌, ap, subst, arith, List, [], ◌∷◌}
-use Rattle.barrier_vector.proofs.Common.{◌++◌, length, length-append, sum_by, Option, slice_index, ℤ, pos, ◌^◌, negsuc, neg_ℤ, ◌*◌, ◌≤ℤ◌, ◌+ℤ◌, ◌-ℤ◌, int_min}
-use Rattle.barrier_vector.proofs.Common.{unsigned_abs, zero, suc, unwrap_or, cases_lt, sum_by_more, Side, Low, Entries, entries_at, no_entries, IsWithin, Edges}
-use Rattle.barrier_vector.proofs.Common.{head_at, IsHead, anchor_on, AnchorRoot, need_on, capped_flow, outer_of, ceil_over, ListAnchor, AreRoots, IsOutline}
-use Rattle.barrier_vector.proofs.Common.{number_at, clamp, ClampedFits, ints, clamps, get_or_past, length-map, map, CellFits, RiverFits, EvapFits, deep_river}
-use Rattle.barrier_vector.proofs.Common.{deep_low, evap_flow, river_flow, flow_bound, full_rate, head_limit, least, total, total-same, total_neg}
+use Rattle.barrier_vector.proofs.Common.{◌++◌, length, length-append, sum_by, Option, slice_index, ℤ, pos, negsuc, neg_ℤ, ◌*◌, ◌≤ℤ◌, ◌+ℤ◌, ◌-ℤ◌, int_min}
+use Rattle.barrier_vector.proofs.Common.{unsigned_abs, zero, suc, unwrap_or, cases_lt, sum_by_more, Side, Low, Entries, entries_at, no_entries, Edges, head_at}
+use Rattle.barrier_vector.proofs.Common.{IsHead, anchor_on, AnchorRoot, need_on, capped_flow, outer_of, ceil_over, ListAnchor, AreRoots, IsOutline, clamp}
+use Rattle.barrier_vector.proofs.Common.{ClampedFits, ints, clamps, length-map, map, CellFits, RiverFits, EvapFits, deep_river, deep_low, evap_flow, river_flow}
+use Rattle.barrier_vector.proofs.Common.{flow_bound, full_rate, head_limit, least, total, total-same, total_neg}
 use Rattle.step_problem.proofs.Sums.{deep_is}
 use Rattle.step_problem.specs.declared.entry.Evap.{Evap}
 use Rattle.barrier_vector.specs.{need as need_of_all}
@@ -67,27 +67,6 @@ deep_sums c fits flows rivers evaps a b d =
     let deep = b ∙ total-same RiverFits _ (deep_river Low) c.rivers (deep_is Low) fits.rivers in
     let full = d ∙ total-same EvapFits _ (λ x. neg_ℤ (pos (full_rate x))) c.evaps full_is fits.evaps ∙ total_neg (λ x. pos (full_rate x)) c.evaps in
     omega (arith, ints, a, deep, full)
-
--- one cell's flow more
-pub values_more : (p : List Entries) (f : Entries → ℤ) (flows flows' : List ℤ) (i : ℕ) (z : ℤ) (e : Entries) → e ≡ entries_at p i → flows' ≡ flows ++ z ∷ [] → length flows ≡ i → z ≡ f e → ((k : ℕ) → k < i → number_at flows k ≡ f (entries_at p k)) → (k : ℕ) → k < i + 1 → number_at flows' k ≡ f (entries_at p k)
-values_more p f flows flows' i z e here pushed whole is so_far k h =
-    elim (cases_lt k i) [
-      | inl less ↦ let k_in : k < length flows = omega (arith, less, whole) in rw pushed (push_before flows z (pos 0) k k_in ∙ so_far k less)
-      | inr past ↦ let at : length flows ≡ k = omega (arith, past, h, whole) in rw pushed (ap (λ (n : ℕ). number_at (flows ++ z ∷ []) n) (sym at) ∙ push_last flows z (pos 0) ∙ is ∙ ap f (here ∙ ap (entries_at p) (sym whole ∙ at)))
-    ]
-
-pub all_within : (flows flows' : List ℤ) (z : ℤ) → flows' ≡ flows ++ z ∷ [] → IsWithin z (2 ^ 125) → ((k : ℕ) → IsWithin (number_at flows k) (2 ^ 125)) → (k : ℕ) → IsWithin (number_at flows' k) (2 ^ 125)
-all_within flows flows' z pushed here so_far k =
-    elim (cases_lt k (length flows)) [
-      | inl less ↦ rw (pushed, push_before flows z (pos 0) k less) (so_far k)
-      | inr past ↦ elim (cases_lt (length flows) k) [
-        | inl more ↦ let n = length-append flows (z ∷ []) in rw (pushed, get_or_past (flows ++ z ∷ []) k (pos 0) (omega (arith, n, more))) nothing
-        | inr less ↦ let at : length flows ≡ k = omega (arith, past, less) in rw (pushed, ← at, push_last flows z (pos 0)) here
-      ]
-    ]
-  where
-    nothing : IsWithin (pos 0) (2 ^ 125)
-    nothing = record { above = omega (arith, ints); below = omega (arith, ints) }
 
 -- Floors and ceilings moved into the range of heads are a barrier, and heads stay as they are.
 clamp_is_head : (v : ℤ) → IsHead (clamp v)

@@ -1,8 +1,7 @@
 -- Lists of roots, one cell after another, and what anchors a cell.
 use Rattle.barrier_vector.proofs.Common.{◌≡◌, ℕ, zero, suc, ◌+◌, ◌<◌, ◌≤◌, inl, inr, refl, sym, ◌∙◌, ap, subst, arith, List, [], ◌∷◌, ◌++◌, length, max, drop}
-use Rattle.barrier_vector.proofs.Common.{get_or, length-append, Contains, Option, None, Some, min, slice_index, ℤ, cases_lt, at_drop_more, Side, Low, High}
-use Rattle.barrier_vector.proofs.Common.{Fixed, Entries, entries_at, IsProblem, IsAnchored, greatest, anchor_on, mark_at, IsSearched, AreRoots, path_limit}
-use Rattle.barrier_vector.proofs.Common.{AreLabels, IsGreatestOf, bound_at}
+use Rattle.barrier_vector.proofs.Common.{get_or, length-append, Contains, Option, None, Some, min, ℤ, cases_lt, at_drop_more, Side, Low, High, Fixed, Entries}
+use Rattle.barrier_vector.proofs.Common.{entries_at, IsProblem, IsAnchored, greatest, anchor_on, mark_at, IsSearched, AreRoots, path_limit, AreLabels, bound_at}
 use Rattle.barrier_vector.proofs.Starting.{push_before, push_last, pushed}
 use Rattle.barrier_vector.proofs.CarriedRoots.{reaches_within, turn_way}
 
@@ -67,9 +66,6 @@ label_within p ok labels l c m h e = let (j, way) = l.reached c m e in let (i, b
 
 pub capped_within : (x s : ℕ) → x ≡ min s path_limit → x ≤ path_limit
 capped_within x s e = omega (arith, e)
-
-pub greatest_within : (labels : List (Option ℕ)) (xs : List ℕ) (m i t : ℕ) → ((k : ℕ) → k < i → slice_index xs k ≤ path_limit) → IsGreatestOf labels xs m i t → t ≤ path_limit
-greatest_within labels xs m i t each g = elim g.reached [ inl none ↦ omega (arith, none) | inr (k, h, on, is) ↦ let le = each k h in omega (arith, le, is) ]
 
 -- one bound more
 pub bounds_more : (p : List Entries) (Is : ℕ → Option ℤ → Type 0) (xs xs' : List (Option ℤ)) (o : Option ℤ) (i : ℕ) → xs' ≡ xs ++ o ∷ [] → length xs ≡ i → Is i o → ((c : ℕ) → c < i → Is c (bound_at xs c)) → (c : ℕ) → c < i + 1 → Is c (bound_at xs' c)

@@ -70,16 +70,6 @@ module _ (own : List (Option ℕ)) (i : ℕ) (old mid : List (Option ℕ)) (path
       earlier : (k e : ℕ) → k < i + 1 → mark_at own k ≡ Some e → k < i
       earlier k e k_in is = elim (cases_lt k i) [ inl less ↦ less | inr more ↦ let at : k ≡ i = omega arith in absurd (no_both (mark_at own i) e none (subst (λ (z : ℕ). mark_at own z ≡ Some e) at is)) ]
 
-pub begun_none : (own m : List (Option ℕ)) (paths : List ℕ) → length paths ≡ length own → AreBegun own 0 m m paths []
-begun_none own m paths whole = record {
-  marks = record { same = refl; each = λ k. inl refl; covers = λ k t. absurd (none k t.0); listed = λ k has. inl has; keeps = λ k has. has; count = refl };
-  paths_are = λ c d h. absurd (none c h);
-  whole = whole;
-}
-  where
-    none : (k : ℕ) → k < 0 → ⊥
-    none k h = omega arith
-
 -- a list without marks
 abbrev without_marks : ℕ → List (Option ℕ)
 without_marks n = replicate n None

@@ -141,11 +141,4 @@ all_bounds side p xs ys e b all = record { whole = b.whole; each = λ c h. each 
     each None c f some = absurd (none some)
 
 pub high_bounds : (side : Side) (p : List Entries) (xs : List (Option ℤ)) → side ≡ High → AreBounds p (IsAnchoredOrNone side p) xs → AreBounds p (IsBoundOrNone side p) xs
-high_bounds side p xs e b = subst (λ (z : Side). AreBounds p (IsBoundOrNone z p) xs) (sym e) (record { whole = b.whole; each = λ c h. each (bound_at xs c) c (high.each c h) })
-  where
-    high : AreBounds p (IsAnchoredOrNone High p) xs
-    high = subst (λ (z : Side). AreBounds p (IsAnchoredOrNone z p) xs) e b
-
-    each : (o : Option ℤ) (c : ℕ) → IsAnchoredOrNone High p c o → IsBoundOrNone High p c o
-    each (Some v) c f = f
-    each None c f = f
+high_bounds side p xs e b = subst (λ (z : Side). AreBounds p (IsBoundOrNone z p) xs) (sym e) (subst (λ (z : Side). AreBounds p (IsAnchoredOrNone z p) xs) e b)

@@ -5,7 +5,7 @@ use Rattle.step_problem.specs.declared.heads.Side.{Side}
 use Rattle.step_problem.specs.declared.heads.Side.TheVariants.{Low, High}
 use Rattle.step_problem.specs.declared.place.NoBound.{NoBound}
 use Rattle.step_problem.specs.declared.refusal.StepRefusal.{StepRefusal}
-use Rattle.step_problem.specs.{number_of, head_limit, Edges, head_at, entries_at}
+use Rattle.step_problem.specs.{number_of, head_limit, Edges, head_at, entries_at, bound_on}
 use Rattle.step_problem.specs.Entries.{Entries}
 use Rattle.cell_balance.specs.{ExactCell, EnclosesStep, SolvesStep, IsCarried}
 use Rattle.barrier_vector.specs.Bounds.{IsBoundOn, IsUnanchored}
@@ -41,12 +41,10 @@ LeavesRange side p c = (f : ℤ) × IsBoundOn side p c f × IsOutOfRange side f
 
 -- the two causes of a side
 abbrev pub no_barrier_on : Side → StepRefusal
-no_barrier_on Low = NoBarrierLow
-no_barrier_on High = NoBarrierHigh
+no_barrier_on side = bound_on side NoBarrierLow NoBarrierHigh
 
 abbrev pub range_on : Side → StepRefusal
-range_on Low = RangeLow
-range_on High = RangeHigh
+range_on side = bound_on side RangeLow RangeHigh
 
 -- no cell of the problem has the property
 abbrev pub Nowhere : List Entries → (ℕ → Type 0) → Type 0

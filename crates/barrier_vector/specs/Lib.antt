@@ -16,5 +16,5 @@ pub use Rattle.barrier_vector.specs.Marks.{base_on, capped_flow, cell_mark, drai
 pub use Rattle.barrier_vector.specs.Marks.{outer_of, outermost, positive_part, river_mark}
 pub use Rattle.barrier_vector.specs.Roots.{AreAnchorPaths, AreBounds, AreComponents, AreHeadsOf, AreRoots, IsAnchoredOrNone, IsBoundOrNone, IsCutFaultOn}
 pub use Rattle.barrier_vector.specs.Roots.{IsFaultOn, IsFirst, IsMissing, IsWholeSide, LiesOut, ListAnchor, SelfRoot, bound_at}
-pub use Rattle.barrier_vector.specs.Searches.{AreBegun, AreLabels, ContinuesTo, Fills, FrontLeads, IsGreatestOf, IsNearest, IsNearestOrNone, IsSearched}
-pub use Rattle.barrier_vector.specs.Searches.{LinkLeads, ListRoot, Spreads, flow_sum, is_label, labelled, mark_at, number_at, path_limit, sum_at, unmarked}
+pub use Rattle.barrier_vector.specs.Searches.{AreBegun, AreLabels, ContinuesTo, Fills, FrontLeads, IsNearest, IsNearestOrNone, IsSearched, LinkLeads, ListRoot}
+pub use Rattle.barrier_vector.specs.Searches.{Spreads, flow_sum, greatest_inside, is_label, labelled, longest_at, mark_at, path_limit, sum_at, unmarked}

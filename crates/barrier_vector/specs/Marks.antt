@@ -8,7 +8,7 @@ use Rattle.step_problem.specs.declared.entry.Fixed.{Fixed}
 use Rattle.step_problem.specs.declared.entry.River.{River}
 use Rattle.step_problem.specs.declared.entry.Drain.{Drain}
 use Rattle.step_problem.specs.Entries.{Entries}
-use Rattle.step_problem.specs.{bound_on, entries_at, total}
+use Rattle.step_problem.specs.{bound_on, total}
 use Rattle.cell_balance.specs.{deep_low}
 
 -- v where the upper conductance hi is above 0

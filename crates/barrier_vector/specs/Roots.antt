@@ -1,13 +1,13 @@
 -- The roots of the searches, and the data that the bounds are found from.
-use Rattle.std.specs.Prelude.{◌≡◌, ℕ, ◌<◌, List, length, min, Option, None, Some, slice_index, slice_index_or, ℤ}
+use Rattle.std.specs.Prelude.{MatchOption, ◌≡◌, ℕ, ◌<◌, List, length, min, Option, None, Some, slice_index, slice_index_or, ℤ}
 use Rattle.step_problem.specs.declared.heads.Side.{Side}
 use Rattle.step_problem.specs.Entries.{Entries}
 use Rattle.step_problem.specs.{entries_at, IsHead, head_at}
 use Rattle.cell_balance.specs.{sum_inside, deep_low}
 use Rattle.barrier_vector.specs.Bounds.{IsAnchorPath, IsInnerPath, IsUnanchored, IsAnchoredBound, ceil_over, IsBoundOn}
 use Rattle.barrier_vector.specs.Cuts.{HasNoBound, IsOutOfRange, LeavesRange, no_barrier_on, Nowhere, IsRefusedOn, cut_on, IsCutBoundOn, RefusesOn}
-use Rattle.barrier_vector.specs.Searches.{mark_at, path_limit, AreLabels, labelled, sum_at, IsGreatestOf}
-use Rattle.barrier_vector.specs.declared.gathered.FlowSum.{FlowSum}
+use Rattle.barrier_vector.specs.Searches.{mark_at, path_limit, AreLabels, labelled, sum_at, longest_at, greatest_inside}
+use Rattle.barrier_vector.specs.declared.gathered.Total.{Total}
 use Rattle.barrier_vector.specs.declared.BarrierFault.{BarrierFault}
 use Rattle.barrier_vector.specs.declared.BarrierFault.TheVariants.{NoBound, Memory}
 
@@ -31,28 +31,25 @@ pub record AreAnchorPaths (side : Side) (p : List Entries) (levels : List (Optio
   pub levels_whole : length levels ≡ length p
   pub paths_whole : length paths ≡ length p
 
--- the components: labels of cells, paths to the least cell of each component, and by label the sum of deep flows and the longest of these paths
-pub record AreComponents (p : List Entries) (labels : List (Option ℕ)) (inner : List ℕ) (sums : List FlowSum) (longest : List ℕ) : Type 0 where
+-- the components: labels of cells, paths to the least cell of each component, and by label the totals: the sum of deep flows and the longest of these paths
+pub record AreComponents (p : List Entries) (labels : List (Option ℕ)) (inner : List ℕ) (totals : List Total) : Type 0 where
   pub labelling : AreLabels p labels (length p)
   pub inner_paths : (c : ℕ) → c < length p → (s : ℕ) × IsInnerPath p c s × (slice_index inner c ≡ min s path_limit)
-  pub component_sums : (m : ℕ) → sum_at sums m ≡ sum_inside (length p) (labelled labels m) (λ k. deep_low (entries_at p k))
-  pub tops : (m : ℕ) → IsGreatestOf labels inner m (length p) (slice_index longest m)
+  pub component_sums : (m : ℕ) → sum_at totals m ≡ sum_inside (length p) (labelled labels m) (λ k. deep_low (entries_at p k))
+  pub tops : (m : ℕ) → longest_at totals m ≡ greatest_inside (length p) (labelled labels m) (slice_index inner)
   pub inner_whole : length inner ≡ length p
-  pub sums_whole : length sums ≡ length p
-  pub tops_whole : length longest ≡ length p
+  pub totals_whole : length totals ≡ length p
 
 abbrev pub bound_at : List (Option ℤ) → ℕ → Option ℤ
 bound_at xs c = slice_index_or xs c None
 
 -- the bound of cell c, cut off; None where no anchor of the side holds its component
 abbrev pub IsAnchoredOrNone : Side → List Entries → ℕ → Option ℤ → Type 0
-IsAnchoredOrNone side p c None = IsUnanchored side p c
-IsAnchoredOrNone side p c (Some v) = (f : ℤ) × IsAnchoredBound side p c f × (v ≡ cut_on side f)
+IsAnchoredOrNone side p c o = MatchOption o (IsUnanchored side p c) (λ v. (f : ℤ) × IsAnchoredBound side p c f × (v ≡ cut_on side f))
 
 -- the bound of cell c, cut off; None where it has none
 abbrev pub IsBoundOrNone : Side → List Entries → ℕ → Option ℤ → Type 0
-IsBoundOrNone side p c None = HasNoBound side p c
-IsBoundOrNone side p c (Some v) = IsCutBoundOn side p c v
+IsBoundOrNone side p c o = MatchOption o (HasNoBound side p c) (IsCutBoundOn side p c)
 
 -- one for each cell
 pub record AreBounds (p : List Entries) (Is : ℕ → Option ℤ → Type 0) (xs : List (Option ℤ)) : Type 0 where

@@ -1,12 +1,12 @@
 -- What a search by levels finds: how far each cell lies from the roots, and its path, cut off at a limit.
 use Rattle.std.specs.Prelude.{◌≡◌, ℕ, ◌+◌, ◌<◌, ◌≤◌, ◌⊎◌, List, length, Contains, min, Option, None, Some, slice_index, suc, [], ◌∷◌, slice_index_or, ◌^◌, Bool}
-use Rattle.std.specs.Prelude.{false, nat_eq, ℤ, pos, ◌+ℤ◌, ◌*ℤ◌}
+use Rattle.std.specs.Prelude.{false, nat_eq, ℤ, pos, ◌+ℤ◌, ◌*ℤ◌, max, cond, zero}
 use Rattle.step_problem.specs.declared.entry.Link.{Link}
 use Rattle.step_problem.specs.Entries.{Entries}
 use Rattle.step_problem.specs.{entries_at, link_at}
 use Rattle.barrier_vector.specs.Bounds.{ceil_over, LeadsToRoot, IsPath}
 use Rattle.cell_balance.specs.{Reaches}
-use Rattle.barrier_vector.specs.declared.gathered.FlowSum.{FlowSum}
+use Rattle.barrier_vector.specs.declared.gathered.Total.{Total}
 
 -- One step of a search: marks go to the cells that have none yet among those that links lead to.
 -- the mark of cell c; None past the end
@@ -99,20 +99,20 @@ is_label (Some k) m = nat_eq k m
 abbrev pub labelled : List (Option ℕ) → ℕ → ℕ → Bool
 labelled labels m k = is_label (mark_at labels k) m
 
-abbrev pub number_at : List ℤ → ℕ → ℤ
-number_at xs k = slice_index_or xs k (pos 0)
+-- the sum that the two words of a total make, and the sum and the longest path of the label k in a list of totals
+abbrev pub flow_sum : Total → ℤ
+flow_sum t = t.high *ℤ pos (2 ^ 64) +ℤ pos t.low
 
--- the sum that two words make, and the sum with the label k in a list of sums
-abbrev pub flow_sum : FlowSum → ℤ
-flow_sum s = s.high *ℤ pos (2 ^ 64) +ℤ pos s.low
+abbrev pub no_total : Total
+no_total = record { high = pos 0; low = 0; longest = 0 }
 
-abbrev pub no_flow : FlowSum
-no_flow = record { high = pos 0; low = 0 }
+abbrev pub sum_at : List Total → ℕ → ℤ
+sum_at totals k = flow_sum (slice_index_or totals k no_total)
 
-abbrev pub sum_at : List FlowSum → ℕ → ℤ
-sum_at sums k = flow_sum (slice_index_or sums k no_flow)
+abbrev pub longest_at : List Total → ℕ → ℕ
+longest_at totals k = (slice_index_or totals k no_total).longest
 
--- t is the greatest of the numbers of the first i cells with the label m, 0 if there is none
-pub record IsGreatestOf (labels : List (Option ℕ)) (xs : List ℕ) (m i t : ℕ) : Type 0 where
-  pub greatest : (k : ℕ) → k < i → mark_at labels k ≡ Some m → slice_index xs k ≤ t
-  pub reached : (t ≡ 0) ⊎ ((k : ℕ) × (k < i) × (mark_at labels k ≡ Some m) × (slice_index xs k ≡ t))
+-- the greatest of the numbers of the cells below n that pass the test, 0 if there is none
+abbrev pub greatest_inside : ℕ → (ℕ → Bool) → (ℕ → ℕ) → ℕ
+greatest_inside zero inside f = 0
+greatest_inside (suc n) inside f = max (greatest_inside n inside f) (cond (inside n) (f n) 0)

@@ -1,7 +1,6 @@
 // The bounds of the cells on a side: the floor of each, or its ceiling, or none.
-ghost use Rattle.std.specs.Prelude.{◌≡◌, ◌<◌, ◌≤◌, ◌^◌, ◌↔◌, length, IfOk, IsTrue, IsSome, All, pos, ◌-ℤ◌, ◌≤ℤ◌};
-ghost use Rattle.step_problem.specs.declared.heads.Side.TheVariants.{Low, High};
-ghost use Rattle.step_problem.specs.{IsHead, IsWithin, head_limit};
+ghost use Rattle.std.specs.Prelude.{◌≡◌, ◌<◌, ◌↔◌, length, IfOk, IsTrue, IsSome, All};
+ghost use Rattle.step_problem.specs.{IsHead};
 ghost use Rattle.barrier_vector.specs.{base_on, moved_out, IsOutline, cut_on, AreAnchorPaths, IsAnchoredOrNone, IsBoundOrNone, AreBounds};
 
 use crate::carried::with_carried_floors;
@@ -11,49 +10,19 @@ use crate::search::search;
 use std::alloc::{AllocError, Global};
 use step_problem::{Problem, Side};
 
-// The greatest number below all heads.
-const LOWEST: i64 = -4_000_000_000_000_000_001;
-
-fn minus(head: i128, path: u64) -> i128
-    requires { IsWithin head (2 ^ 66) }
-    ensures { result ≡ head -ℤ pos path }
-{
-    head - path as i128
-}
-
-fn cut_below(floor: i128) -> i64
-    requires { floor ≤ℤ pos head_limit }
-    ensures { result ≡ cut_on Low floor }
-{
-    if floor < LOWEST as i128 {
-        LOWEST
-    } else {
-        floor as i64
-    }
-}
-
-fn lower_by(base: i64, path: u64) -> i64
-    requires { IsHead base }
-    ensures { result ≡ cut_on Low (moved_out Low base path) }
-{
-    cut_below(minus(base as i128, path))
-}
-
-fn raise_by(base: i64, path: u64) -> i64
-    requires { IsHead base }
-    ensures { result ≡ cut_on High (moved_out High base path) }
-{
-    -lower_by(-base, path)
-}
+// The least number above all heads.
+const ABOVE_HEADS: i128 = 4_000_000_000_000_000_001;
 
 /// The base of a side moved outwards by a path, cut off just outside all heads.
 pub(crate) fn move_out(side: Side, base: i64, path: u64) -> i64
     requires { IsHead base }
     ensures { result ≡ cut_on side (moved_out side base path) }
 {
+    let wide = base as i128;
+    let far = path as i128;
     match side {
-        Side::Low => lower_by(base, path),
-        Side::High => raise_by(base, path),
+        Side::Low => (wide - far).max(-ABOVE_HEADS) as i64,
+        Side::High => (wide + far).min(ABOVE_HEADS) as i64,
     }
 }
 

@@ -4,39 +4,34 @@ ghost use Rattle.step_problem.specs.declared.heads.Side.TheVariants.{Low};
 ghost use Rattle.barrier_vector.specs.{base_on, lack, capped_flow, IsUnanchored, AreComponents, IsAnchoredOrNone, IsBoundOrNone, AreBounds};
 
 use crate::bounds::move_out;
-use crate::flows::deep_flows;
-use crate::gathered::{FlowSum, greatest_of_components, sum_components};
+use crate::gathered::{Total, component_totals};
 use crate::roots::self_roots;
 use crate::search::search;
 use crate::spread::label_components;
 use std::alloc::{AllocError, Global};
 use step_problem::{Problem, Side};
 
-// The label of each cell's component and its path to the component's least cell; by label the sum of deep flows and the longest of these paths.
+// The label of each cell's component and its path to the component's least cell; by label the totals of the component.
 #[derive(Drop)]
 struct Components {
     labels: Vec<Option<u32>>,
     inner: Vec<u64>,
-    sums: Vec<FlowSum>,
-    longest: Vec<u64>,
+    totals: Vec<Total>,
 }
 
 fn find_components(alloc: Global, p: &Problem, q: u128) -> Result<Components, AllocError>
     requires lack { q ≡ capped_flow (lack p.now) }
-    ensures { IfOk result (λ s. AreComponents p.now s.labels.items s.inner.items s.sums.items s.longest.items) }
+    ensures { IfOk result (λ s. AreComponents p.now s.labels.items s.inner.items s.totals.items) }
 {
     p.recall_conditions();
     let labels = label_components(alloc, p)?;
     let least = self_roots(alloc, &labels)?;
     let inner = search(alloc, p, &least, q)?;
-    let deep = deep_flows(alloc, p)?;
-    let sums = sum_components(alloc, &labels, &deep)?;
-    let longest = greatest_of_components(alloc, &labels, &inner.paths)?;
+    let totals = component_totals(alloc, p, &labels, &inner.paths)?;
     Ok(Components {
         labels,
         inner: inner.paths,
-        sums,
-        longest,
+        totals,
     })
 }
 
@@ -45,21 +40,21 @@ fn carried_floor(
     base: i64,
     labels: &[Option<u32>],
     inner: &[u64],
-    sums: &[FlowSum],
-    longest: &[u64],
+    totals: &[Total],
     c: usize,
 ) -> Option<i64>
     requires cell { c < length p.now }
     requires base { base ≡ base_on Low p.now }
-    requires components { AreComponents p.now labels.now inner.now sums.now longest.now }
+    requires components { AreComponents p.now labels.now inner.now totals.now }
     requires unanchored { IsUnanchored Low p.now c }
     ensures { IsBoundOrNone Low p.now c result }
 {
     p.recall_conditions();
     match labels[c] {
         Some(m) => {
-            if sums[m as usize].is_positive() {
-                return Some(move_out(Side::Low, base, inner[c] + longest[m as usize]));
+            let total = totals[m as usize];
+            if total.is_positive() {
+                return Some(move_out(Side::Low, base, inner[c] + total.longest));
             }
             None
         }
@@ -78,20 +73,12 @@ fn floor_of(
     requires cell { c < length p.now }
     requires base { base ≡ base_on Low p.now }
     requires anchored { IsAnchoredOrNone Low p.now c anchored }
-    requires components { AreComponents p.now found.now.labels.items found.now.inner.items found.now.sums.items found.now.longest.items }
+    requires components { AreComponents p.now found.now.labels.items found.now.inner.items found.now.totals.items }
     ensures { IsBoundOrNone Low p.now c result }
 {
     match anchored {
         Some(floor) => Some(floor),
-        None => carried_floor(
-            p,
-            base,
-            &found.labels,
-            &found.inner,
-            &found.sums,
-            &found.longest,
-            c,
-        ),
+        None => carried_floor(p, base, &found.labels, &found.inner, &found.totals, c),
     }
 }
 

@@ -1,22 +1,25 @@
-// Sums and maxima over the components of a problem.
-ghost use Rattle.std.specs.Prelude.{◌≡◌, ℕ, ◌<◌, ◌^◌, ◌↔◌, max, length, IfOk, IsTrue, None, Some, slice_index, ◌+ℤ◌, ◌<ℤ◌, pos, cond};
-ghost use Rattle.step_problem.specs.{IsWithin};
-ghost use Rattle.cell_balance.specs.{sum_inside};
-ghost use Rattle.barrier_vector.specs.{mark_at, is_label, labelled, number_at, flow_sum, sum_at, IsGreatestOf};
+// What the cells of each component have together.
+ghost use Rattle.std.specs.Prelude.{◌≡◌, ℕ, ◌<◌, ◌^◌, ◌↔◌, max, length, IfOk, IsTrue, Some, slice_index, ◌+ℤ◌, ◌<ℤ◌, pos, cond};
+ghost use Rattle.step_problem.specs.{IsWithin, entries_at};
+ghost use Rattle.cell_balance.specs.{sum_inside, deep_low};
+ghost use Rattle.barrier_vector.specs.{mark_at, is_label, labelled, flow_sum, sum_at, longest_at, greatest_inside};
 
+use crate::flows::deep_flow;
 use std::alloc::{AllocError, Global};
+use step_problem::Problem;
 
 // 2^64
 const UNIT: i128 = 18_446_744_073_709_551_616;
 
-/// A sum of flows of up to 2^32 cells, which one word cannot hold: `high` counts units of 2^64, `low` is the rest.
+/// The sum of the flows of up to 2^32 cells, which one word cannot hold, and the longest of their paths. `high` counts units of 2^64, `low` is the rest.
 #[derive(Clone, Copy)]
-pub(crate) struct FlowSum {
+pub(crate) struct Total {
     pub high: i128,
     pub low: u64,
+    pub longest: u64,
 }
 
-impl FlowSum {
+impl Total {
     // The lower word and a flow.
     fn rest(self, flow: i128) -> i128
         requires { IsWithin flow (2 ^ 125) }
@@ -25,15 +28,18 @@ impl FlowSum {
         self.low as i128 + flow
     }
 
-    fn plus(self, flow: i128) -> FlowSum
+    // With the flow and the path of a cell more.
+    fn plus(self, flow: i128, path: u64) -> Total
         requires sum { IsWithin (flow_sum self) (2 ^ 157) }
         requires flow { IsWithin flow (2 ^ 125) }
-        ensures { flow_sum result ≡ flow_sum self +ℤ flow }
+        ensures sum { flow_sum result ≡ flow_sum self +ℤ flow }
+        ensures longest { result.longest ≡ max self.longest path }
     {
         let rest = self.rest(flow);
-        FlowSum {
+        Total {
             high: self.high + rest.div_euclid(UNIT),
             low: rest.rem_euclid(UNIT) as u64,
+            longest: self.longest.max(path),
         }
     }
 
@@ -49,64 +55,43 @@ impl FlowSum {
     }
 }
 
-// Adds a flow to the sum with that label, if there is a label.
-fn add_to(sums: &mut [FlowSum], label: Option<u32>, flow: i128)
-    requires label { (m : ℕ) → label ≡ Some m → m < length sums.old }
-    requires sums { (m : ℕ) → IsWithin (sum_at sums.old m) (2 ^ 157) }
+// Adds a cell to the total with its label, if it has a label.
+fn add_to(totals: &mut [Total], label: Option<u32>, flow: i128, path: u64)
+    requires label { (m : ℕ) → label ≡ Some m → m < length totals.old }
+    requires sums { (m : ℕ) → IsWithin (sum_at totals.old m) (2 ^ 157) }
     requires flow { IsWithin flow (2 ^ 125) }
-    ensures { (m : ℕ) → sum_at sums.new m ≡ sum_at sums.old m +ℤ cond (is_label label m) flow (pos 0) }
+    ensures sums { (m : ℕ) → sum_at totals.new m ≡ sum_at totals.old m +ℤ cond (is_label label m) flow (pos 0) }
+    ensures paths { (m : ℕ) → longest_at totals.new m ≡ max (longest_at totals.old m) (cond (is_label label m) path 0) }
 {
     match label {
-        Some(m) => sums[m as usize] = sums[m as usize].plus(flow),
+        Some(m) => totals[m as usize] = totals[m as usize].plus(flow, path),
         None => {}
     }
 }
 
-/// The sum of the numbers of the cells with each label.
-pub(crate) fn sum_components(
+/// By label, the sum of the deep flows of the cells with that label, and the longest of their paths.
+pub(crate) fn component_totals(
     alloc: Global,
+    p: &Problem,
     labels: &[Option<u32>],
-    flows: &[i128],
-) -> Result<Vec<FlowSum>, AllocError>
-    requires few { length labels.now < 2 ^ 32 }
-    requires same { length flows.now ≡ length labels.now }
-    requires labels { (k m : ℕ) → mark_at labels.now k ≡ Some m → m < length labels.now }
-    requires flows { (k : ℕ) → IsWithin (number_at flows.now k) (2 ^ 125) }
-    ensures whole { IfOk result (λ sums. length sums.items ≡ length labels.now) }
-    ensures sums { IfOk result (λ sums. (m : ℕ) → sum_at sums.items m ≡ sum_inside (length labels.now) (labelled labels.now m) (number_at flows.now)) }
+    paths: &[u64],
+) -> Result<Vec<Total>, AllocError>
+    requires labels_whole { length labels.now ≡ length p.now }
+    requires paths_whole { length paths.now ≡ length p.now }
+    requires labels { (k m : ℕ) → mark_at labels.now k ≡ Some m → m < length p.now }
+    ensures whole { IfOk result (λ t. length t.items ≡ length p.now) }
+    ensures sums { IfOk result (λ t. (m : ℕ) → sum_at t.items m ≡ sum_inside (length p.now) (labelled labels.now m) (λ k. deep_low (entries_at p.now k))) }
+    ensures paths { IfOk result (λ t. (m : ℕ) → longest_at t.items m ≡ greatest_inside (length p.now) (labelled labels.now m) (slice_index paths.now)) }
 {
-    let mut sums = vec![in alloc; FlowSum { high: 0, low: 0 }; labels.len()]?;
-    for c in 0..labels.len() {
-        add_to(&mut sums, labels[c], flows[c]);
+    p.recall_conditions();
+    let none = Total {
+        high: 0,
+        low: 0,
+        longest: 0,
+    };
+    let mut totals = vec![in alloc; none; p.len()]?;
+    for c in 0..p.len() {
+        add_to(&mut totals, labels[c], deep_flow(p.cell(c)), paths[c]);
     }
-    Ok(sums)
-}
-
-// Raises the number with that label, if there is a label.
-fn raise_to(tops: &mut [u64], label: Option<u32>, number: u64)
-    requires label { (m : ℕ) → label ≡ Some m → m < length tops.old }
-    ensures { (m : ℕ) → slice_index tops.new m ≡ cond (is_label label m) (max (slice_index tops.old m) number) (slice_index tops.old m) }
-{
-    match label {
-        Some(m) => tops[m as usize] = tops[m as usize].max(number),
-        None => {}
-    }
-}
-
-/// The greatest of the numbers of the cells with each label.
-pub(crate) fn greatest_of_components(
-    alloc: Global,
-    labels: &[Option<u32>],
-    numbers: &[u64],
-) -> Result<Vec<u64>, AllocError>
-    requires same { length numbers.now ≡ length labels.now }
-    requires labels { (k m : ℕ) → mark_at labels.now k ≡ Some m → m < length labels.now }
-    ensures whole { IfOk result (λ tops. length tops.items ≡ length labels.now) }
-    ensures tops { IfOk result (λ tops. (m : ℕ) → IsGreatestOf labels.now numbers.now m (length labels.now) (slice_index tops.items m)) }
-{
-    let mut tops: Vec<u64> = vec![in alloc; 0; labels.len()]?;
-    for c in 0..labels.len() {
-        raise_to(&mut tops, labels[c], numbers[c]);
-    }
-    Ok(tops)
+    Ok(totals)
 }

@@ -21,7 +21,7 @@ mod spread;
 
 pub use clamped::clamp_barrier;
 use outline::outline_sides;
-pub use refusal::out_of_range;
+pub use refusal::{is_out_of_range, out_of_range};
 use refusal::{cut_side, whole_side};
 use std::alloc::Global;
 use step_problem::{Barrier, NoBound, Problem, Side};

@@ -1,10 +1,10 @@
 // What both sides need of all cells, found in one pass over them.
-ghost use Rattle.std.specs.Prelude.{◌≡◌, ◌<◌, ◌≤◌, ◌+◌, ◌^◌, length, List, IfOk, OnOk, pos};
+ghost use Rattle.std.specs.Prelude.{◌≡◌, ◌<◌, ◌+◌, length, List, IfOk, OnOk, pos};
 ghost use Rattle.std.specs.Option.{unwrap_or};
 ghost use Rattle.step_problem.specs.declared.heads.Side.{Side};
 ghost use Rattle.step_problem.specs.declared.heads.Side.TheVariants.{Low, High};
 ghost use Rattle.step_problem.specs.Entries.{Entries};
-ghost use Rattle.barrier_vector.specs.{capped_flow, IsOutline};
+ghost use Rattle.barrier_vector.specs.{IsOutline};
 
 use crate::flows::need_of;
 use crate::marks::{cell_mark, outer_mark};
@@ -14,15 +14,6 @@ use step_problem::{Problem, Side};
 
 // 2^126
 const MOST_NEED: u128 = 85_070_591_730_234_615_865_843_651_857_942_052_864;
-
-// The sum of two flows, at most 2^126.
-fn capped_sum(need: u128, more: u128) -> u128
-    requires need { need ≤ 2 ^ 126 }
-    requires more { more ≤ 2 ^ 125 }
-    ensures { result ≡ capped_flow (need + more) }
-{
-    (need + more).min(MOST_NEED)
-}
 
 /// One side of the cells: the outermost mark, the lack or the surplus of flow, at most 2^126, and the greatest anchor of each cell.
 #[derive(Drop)]
@@ -52,7 +43,7 @@ impl Outline {
         p.recall_conditions();
         let cell = p.cell(c);
         self.mark = outer_mark(side, self.mark, cell_mark(side, cell));
-        self.need = capped_sum(self.need, need_of(side, cell));
+        self.need = (self.need + need_of(side, cell)).min(MOST_NEED);
         self.anchors.push(greatest_anchor(side, cell))?;
         Ok(())
     }

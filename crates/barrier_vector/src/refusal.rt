@@ -23,7 +23,8 @@ fn first_missing(bounds: &[Option<i64>]) -> Option<usize>
     None
 }
 
-fn is_out_of_range(side: Side, head: i64) -> bool
+/// Whether a bound lies out of the range of heads: below all of them on the low side, above all of them on the high side.
+pub fn is_out_of_range(side: Side, head: i64) -> bool
     ensures { IsTrue result ↔ IsOutOfRange side head }
 {
     match side {
@@ -70,10 +71,8 @@ fn no_barrier(p: &Problem, c: usize, side: Side) -> NoBound
     requires { c < length p.now }
     ensures { Names p.now result (number_of (no_barrier_on side)) c side }
 {
-    match side {
-        Side::Low => refusal(p, StepRefusal::NoBarrierLow, c, side),
-        Side::High => refusal(p, StepRefusal::NoBarrierHigh, c, side),
-    }
+    let cause = side.bound_of(StepRefusal::NoBarrierLow, StepRefusal::NoBarrierHigh);
+    refusal(p, cause, c, side)
 }
 
 /// The refusal 26, or 27, of a cell, by its index, whose bound is out of the range of heads on a side.
@@ -81,10 +80,8 @@ pub fn out_of_range(p: &Problem, c: usize, side: Side) -> NoBound
     requires { c < length p.now }
     ensures { Names p.now result (number_of (range_on side)) c side }
 {
-    match side {
-        Side::Low => refusal(p, StepRefusal::RangeLow, c, side),
-        Side::High => refusal(p, StepRefusal::RangeHigh, c, side),
-    }
+    let cause = side.bound_of(StepRefusal::RangeLow, StepRefusal::RangeHigh);
+    refusal(p, cause, c, side)
 }
 
 /// The bound of each cell on a side, cut just outside the range of heads, or the refusal of the first cell without one.

@@ -1,13 +1,13 @@
 -- Where a certificate holds, and the first place where it fails.
-use Rattle.std.specs.Prelude.{◌≡◌, ℕ, ◌<◌, ◌⊎◌, List, length, pos, ◌≤ℤ◌, ℤ, neg_ℤ, ◌<ℤ◌}
+use Rattle.std.specs.Prelude.{◌≡◌, ℕ, ◌<◌, ◌⊎◌, List, length, pos, ◌≤ℤ◌, ℤ, neg_ℤ}
 use Rattle.step_problem.specs.declared.heads.Bound.{Bound}
 use Rattle.step_problem.specs.declared.heads.Side.{Side}
 use Rattle.step_problem.specs.declared.heads.Side.TheVariants.{Low, High}
 use Rattle.step_problem.specs.declared.place.NoBound.{NoBound}
 use Rattle.step_problem.specs.Entries.{Entries}
 use Rattle.step_problem.specs.{entries_at, lower_balance, upper_balance, Edges, head_at, lower_at, upper_at, IsBarrier, IsSettledPair, IsCertificate, IsProblem}
-use Rattle.step_problem.specs.{head_limit}
-use Rattle.barrier_vector.specs.{range_on, Refuses, EnclosesUncut, clamped}
+use Rattle.step_problem.specs.{head_limit, bound_on}
+use Rattle.barrier_vector.specs.{range_on, Refuses, EnclosesUncut, clamped, IsOutOfRange}
 use Rattle.certificate_check.specs.declared.Verdict.{Verdict}
 use Rattle.certificate_check.specs.declared.Verdict.TheVariants.{Yes, No}
 use Rattle.cell_relax.specs.{AreWords}
@@ -56,8 +56,7 @@ CertificateEncloses =
 
 -- the floor of cell c lies below all heads, or its ceiling above all of them
 abbrev pub IsCutAt : Edges → ℕ → Side → Type 0
-IsCutAt b c Low = head_at b.floor c <ℤ neg_ℤ (pos head_limit)
-IsCutAt b c High = pos head_limit <ℤ head_at b.ceiling c
+IsCutAt b c side = IsOutOfRange side (bound_on side (head_at b.floor c) (head_at b.ceiling c))
 
 -- Words that are a certificate over the clamped barrier are one over the cut barrier, but perhaps at the cells whose floor or ceiling was cut.
 abbrev pub FailsOnlyWhereCut : Type 0

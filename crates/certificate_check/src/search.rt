@@ -2,13 +2,12 @@
 ghost use Rattle.std.specs.Prelude.{◌≡◌, ◌<◌, length, MatchOption, ◌↔◌, IsTrue, ℕ, IsNone};
 ghost use Rattle.step_problem.specs.{lower_at, upper_at, IsCertificate};
 ghost use Rattle.cell_relax.specs.{AreWords};
-ghost use Rattle.certificate_check.specs.{HoldsAt, IsFirstFailing, IsRangeRefusal, IsCutAt};
+ghost use Rattle.certificate_check.specs.{HoldsAt, IsFirstFailing, IsRangeRefusal};
 ghost use Rattle.cell_balance.specs.{IsHeldBelow, EnclosesSolutions};
 ghost use Rattle.barrier_vector.specs.{IsLeastWith, EnclosesUncut, clamped};
 
-use barrier_vector::out_of_range;
+use barrier_vector::{is_out_of_range, out_of_range};
 use cell_relax::balance_in;
-use step_problem::problem::HEAD_LIMIT;
 use step_problem::{Barrier, Bound, NoBound, Problem, Side};
 
 // The side of a cell that fails, the lower one first.
@@ -66,17 +65,6 @@ pub fn holds_at(p: &Problem, barrier: &Barrier, bounds: &[Bound], cell: usize, s
 
 // The refusal of heads that can't leave the end of the range of heads.
 
-fn is_cut(barrier: &Barrier, cell: usize, side: Side) -> bool
-    requires floors { cell < length barrier.now.floor }
-    requires ceilings { cell < length barrier.now.ceiling }
-    ensures { IsTrue result ↔ IsCutAt barrier.now cell side }
-{
-    match side {
-        Side::Low => barrier.floor[cell] < -HEAD_LIMIT,
-        Side::High => barrier.ceiling[cell] > HEAD_LIMIT,
-    }
-}
-
 // Whether the certificate holds at a side of a cell. It does where neither the floor nor the ceiling was cut.
 fn holds(p: &Problem, barrier: &Barrier, bounds: &[Bound], cell: usize, side: Side) -> bool
     requires index { cell < length p.now }
@@ -86,7 +74,8 @@ fn holds(p: &Problem, barrier: &Barrier, bounds: &[Bound], cell: usize, side: Si
     requires settled { IsCertificate p.now (clamped barrier.now) (lower_at bounds.now) (upper_at bounds.now) }
     ensures { IsTrue result ↔ HoldsAt p.now barrier.now bounds.now cell side }
 {
-    !is_cut(barrier, cell, side) || holds_at(p, barrier, bounds, cell, side)
+    let bound = side.bound_of(barrier.floor[cell], barrier.ceiling[cell]);
+    !is_out_of_range(side, bound) || holds_at(p, barrier, bounds, cell, side)
 }
 
 // The first cell that fails at a side, by its index.

@@ -1,18 +1,13 @@
 -- The lower and the upper side of a problem are sides.
-use Rattle.step_problem.proofs.Common.{◌≡◌, ℕ, ◌<◌, arith, ℤ, ◌≤ℤ◌, List, length, ints, All, All-weaker, Link, Entries, entries_at, IsProblem, Ge, CanRise}
-use Rattle.step_problem.proofs.Common.{CanSink, pos, neg_ℤ, ◌+ℤ◌, ◌-ℤ◌, ◌<ℤ◌, clamps, by_lt_z, int_min, int_max, IsHead, head_limit, AreHeads, IsSettled}
-use Rattle.step_problem.proofs.Common.{LowerShifts, UpperShifts, Low, High}
+use Rattle.step_problem.proofs.Common.{ℕ, ◌<◌, arith, ℤ, ◌≤ℤ◌, List, length, ints, All, All-weaker, Link, Entries, entries_at, IsProblem, Ge, CanRise, CanSink}
+use Rattle.step_problem.proofs.Common.{pos, neg_ℤ, ◌+ℤ◌, ◌-ℤ◌, ◌<ℤ◌, clamps, by_lt_z, int_min, int_max, IsHead, head_limit, AreHeads, IsSettled, LowerShifts}
+use Rattle.step_problem.proofs.Common.{UpperShifts, Low, High}
 use Rattle.step_problem.proofs.Falls.{balance_rises, balance_moves}
 use Rattle.step_problem.proofs.Sides.{IsSide}
+pub use Rattle.decimal_input.proofs.FloorLaws.{le-trans as le_trans, le-antisym as le_anti}
 
 pub le_refl : (x : ℤ) → x ≤ℤ x
 le_refl x = omega (arith, ints)
-
-pub le_trans : (x y z : ℤ) → x ≤ℤ y → y ≤ℤ z → x ≤ℤ z
-le_trans x y z p q = omega (arith, ints)
-
-pub le_anti : (x y : ℤ) → x ≤ℤ y → y ≤ℤ x → x ≡ y
-le_anti x y p q = omega (arith, ints)
 
 -- a fact of each cell of the problem holds at the other end of each link
 pub at_ends : (P : ℕ → Type 0) (p : List Entries) → IsProblem p → ((c : ℕ) → c < length p → P c) → (c : ℕ) → c < length p → All (λ x. P x.cell) (entries_at p c).links

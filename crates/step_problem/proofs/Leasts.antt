@@ -1,7 +1,8 @@
 -- Order laws of the least and the greatest flow over a conductance that is known by bounds.
-use Rattle.step_problem.proofs.Common.{◌≡◌, ℕ, zero, suc, ◌*◌, ◌≤◌, refl, ap, ◌∙◌, arith, ℤ, pos, negsuc, neg_ℤ, ◌*ℤ◌, ◌≤ℤ◌, ◌+ℤ◌, ◌-ℤ◌, mul-le-mul_left}
-use Rattle.step_problem.proofs.Common.{mul-le-mul_right, ints, least, most, le_out}
+use Rattle.step_problem.proofs.Common.{◌≡◌, ℕ, zero, suc, ◌*◌, ◌≤◌, refl, ap, ◌∙◌, arith, ℤ, pos, negsuc, neg_ℤ, ◌*ℤ◌, ◌≤ℤ◌, ◌+ℤ◌, ◌-ℤ◌, mul-le-mul_left, ◌<ℤ◌}
+use Rattle.step_problem.proofs.Common.{mul-le-mul_right, ints, least, most, le_out, Side, Low, High, bound_on, branch_flow}
 pub use Rattle.decimal_input.proofs.Differences.{as_diff, diffs, same_diff}
+pub use Rattle.decimal_input.proofs.FloorLaws.{neg_times as neg_mul}
 
 -- Ring laws and order laws of whole numbers, by differences of natural ones.
 pub mul_add : (a b c : ℤ) → a *ℤ (b +ℤ c) ≡ a *ℤ b +ℤ a *ℤ c
@@ -45,21 +46,18 @@ most_is lo hi (pos zero) = omega (arith, ints)
 most_is lo hi (pos (suc n)) = omega (arith, ints)
 most_is lo hi (negsuc n) = refl
 
--- a flow against the difference of heads, as of a drain
-pub neg_least : (lo hi : ℕ) (m : ℤ) → pos 0 ≤ℤ m → neg_ℤ (pos hi *ℤ m) ≡ least lo hi (neg_ℤ m)
-neg_least lo hi (pos zero) h = omega (arith, ints)
-neg_least lo hi (pos (suc n)) h = refl
-neg_least lo hi (negsuc n) h = absurd (omega (arith, ints))
+-- the flow over a difference of heads is that over one of the two bounds
+pub flow_up : (side : Side) (lo hi k : ℕ) (d : ℤ) → lo ≤ hi → k ≡ bound_on side lo hi → pos 0 ≤ℤ d → (branch_flow side lo hi d ≡ pos k *ℤ d) × (k ≤ hi)
+flow_up Low lo hi k (pos n) le is h = (rw is refl, omega (arith, is))
+flow_up High lo hi k (pos n) le is h = (rw is refl, omega (arith, is))
+flow_up side lo hi k (negsuc n) le is h = absurd (omega (arith, ints))
 
-pub neg_most : (lo hi : ℕ) (m : ℤ) → pos 0 ≤ℤ m → neg_ℤ (pos lo *ℤ m) ≡ most lo hi (neg_ℤ m)
-neg_most lo hi (pos zero) h = omega (arith, ints)
-neg_most lo hi (pos (suc n)) h = refl
-neg_most lo hi (negsuc n) h = absurd (omega (arith, ints))
+pub flow_down : (side : Side) (lo hi k : ℕ) (d : ℤ) → lo ≤ hi → k ≡ bound_on side hi lo → d <ℤ pos 0 → (branch_flow side lo hi d ≡ pos k *ℤ d) × (k ≤ hi)
+flow_down side lo hi k (pos n) le is h = absurd (omega (arith, ints))
+flow_down Low lo hi k (negsuc n) le is h = (rw is (omega (arith, ints)), omega (arith, is))
+flow_down High lo hi k (negsuc n) le is h = (rw is (omega (arith, ints)), omega (arith, is))
 
 -- signs and products
-pub neg_mul : (a b : ℤ) → neg_ℤ a *ℤ b ≡ neg_ℤ (a *ℤ b)
-neg_mul a b = rw (as_diff a, as_diff b) (simp diffs (same_diff _ _ _ _ (omega arith)))
-
 pub mul_neg : (a b : ℤ) → a *ℤ neg_ℤ b ≡ neg_ℤ (a *ℤ b)
 mul_neg a b = rw (as_diff a, as_diff b) (simp diffs (same_diff _ _ _ _ (omega arith)))
 

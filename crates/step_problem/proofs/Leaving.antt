@@ -2,6 +2,7 @@
 use Rattle.step_problem.proofs.Common.{ℕ, zero, suc, ◌*◌, ◌<◌, ◌⊎◌, inl, inr, ⊎_elim, arith, ℤ, ◌≤ℤ◌, ◌<ℤ◌, List, length, ints, clamps, by_lt_z, Entries}
 use Rattle.step_problem.proofs.Common.{IsHead, IsProblem, head_limit, AsTight, AreHeads, IsSettled, IsFirstSettled, Ge, CanRise, CanSink, head_at}
 use Rattle.step_problem.proofs.Common.{LeavingSettles}
+use Rattle.decimal_input.proofs.FloorLaws.{lt-not-le}
 use Rattle.step_problem.proofs.Sides.{IsSide, as_tight_trans}
 use Rattle.step_problem.proofs.BothSides.{low_side, high_side, raised, sunk, raised_settled, sunk_settled}
 
@@ -60,13 +61,10 @@ high_shiftable p ok = record {
   settled = sunk_settled p ok;
 }
 
-strict : (x y : ℤ) → x <ℤ y → y ≤ℤ x → ⊥
-strict x y a b = omega (arith, ints)
-
 pub leaving_settles : LeavingSettles
 leaving_settles p b d l u ok inside pair left = record {
   low = first_of_left (low_side p ok) (low_shiftable p ok) (head_at b.floor) (head_at d.floor) l inside.low
-      (λ c h. ⊎_elim (λ (a : head_at d.floor c ≤ℤ head_at b.floor c). inl a) (λ (a : head_at d.floor c <ℤ l c). inr (strict _ _ a)) (left.low c h)) pair.low;
+      (λ c h. ⊎_elim (λ (a : head_at d.floor c ≤ℤ head_at b.floor c). inl a) (λ (a : head_at d.floor c <ℤ l c). inr (lt-not-le _ _ a)) (left.low c h)) pair.low;
   high = first_of_left (high_side p ok) (high_shiftable p ok) (head_at b.ceiling) (head_at d.ceiling) u inside.high
-      (λ c h. ⊎_elim (λ (a : head_at b.ceiling c ≤ℤ head_at d.ceiling c). inl a) (λ (a : u c <ℤ head_at d.ceiling c). inr (strict _ _ a)) (left.high c h)) pair.high;
+      (λ c h. ⊎_elim (λ (a : head_at b.ceiling c ≤ℤ head_at d.ceiling c). inl a) (λ (a : u c <ℤ head_at d.ceiling c). inr (lt-not-le _ _ a)) (left.high c h)) pair.high;
 }

@@ -13,9 +13,6 @@ pub IsWithin-product : (c top m : ℕ) (d : ℤ) → c ≤ top → IsWithin d m 
 IsWithin-product c top m (pos n) o w = let le : n ≤ m = omega (arith, ints) in let h : c * n ≤ top * m = mul-le-mul o le in record { above = omega (arith, ints); below = omega (arith, ints) }
 IsWithin-product c top m (negsuc n) o w = let le : suc n ≤ m = omega (arith, ints) in let h : c * suc n ≤ top * m = mul-le-mul o le in record { above = omega (arith, ints); below = omega (arith, ints) }
 
-pub IsWithin-neg : (z : ℤ) (m : ℕ) → IsWithin z m → IsWithin (pos 0 -ℤ z) m
-IsWithin-neg z m w = record { above = omega (arith, ints); below = omega (arith, ints) }
-
 pub FitsSigned-within : (z : ℤ) (b : ℕ) → IsWithin z b → b < 2 ^ 127 → FitsSigned w128 z
 FitsSigned-within z b w h = omega (arith, ints)
 

@@ -46,21 +46,19 @@ fn balance_at(side: Side, cell: &Cell, own: i64, values: &[i64]) -> i128
     let rivers = sum_branches(side, own, &cell.rivers);
     let drains = sum_branches(side, own, &cell.drains);
     let evaps = sum_branches(side, own, &cell.evaps);
-    sum_of(flows, links, fixed, rivers, drains, evaps)
+    let given = sum_of(flows, links, fixed);
+    let at_bottoms = sum_of(rivers, drains, evaps);
+    given + at_bottoms
 }
 
-fn sum_of(flows: i128, links: i128, fixed: i128, rivers: i128, drains: i128, evaps: i128) -> i128
-    requires flows { IsWithin flows (2 ^ 123) }
-    requires links { IsWithin links (2 ^ 123) }
-    requires fixed { IsWithin fixed (2 ^ 123) }
-    requires rivers { IsWithin rivers (2 ^ 123) }
-    requires drains { IsWithin drains (2 ^ 123) }
-    requires evaps { IsWithin evaps (2 ^ 123) }
-    ensures { result ≡ flows +ℤ links +ℤ fixed +ℤ rivers +ℤ drains +ℤ evaps }
+/// The sum of three flows.
+pub fn sum_of(first: i128, second: i128, third: i128) -> i128
+    requires first { IsWithin first (2 ^ 123) }
+    requires second { IsWithin second (2 ^ 123) }
+    requires third { IsWithin third (2 ^ 123) }
+    ensures value { result ≡ first +ℤ second +ℤ third }
+    ensures within { IsWithin result (2 ^ 125) }
 {
-    let on_links = flows + links;
-    let on_fixed = on_links + fixed;
-    let on_rivers = on_fixed + rivers;
-    let on_drains = on_rivers + drains;
-    on_drains + evaps
+    let two = first + second;
+    two + third
 }

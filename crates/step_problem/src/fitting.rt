@@ -77,13 +77,7 @@ fn all_links_hold(cells: &[Cell]) -> bool
 fn links_are_few(cells: &[Cell]) -> bool
     ensures { IsTrue result ↔ ((c : ℕ) → c < length cells.now → length (entries_at cells.now c).links ≤ 6) }
 {
-    cells.iter().all(has_few_links)
-}
-
-fn has_few_links(cell: &Cell) -> bool
-    ensures { IsTrue result ↔ (length cell.now.links ≤ 6) }
-{
-    cell.links.len() <= MOST_LINKS
+    cells.iter().all(|cell| cell.links.len() <= MOST_LINKS)
 }
 
 fn all_links_fit(cells: &[Cell]) -> bool

@@ -13,10 +13,10 @@ pub mod refusal;
 pub mod settler;
 
 pub use balance::branch::Branch;
-pub use balance::{high_at, low_at, sum_branches};
+pub use balance::{high_at, low_at, sum_branches, sum_of};
 pub use entry::{Cell, Drain, Evap, Fixed, FixedKind, Flow, FlowKind, Link, River};
 pub use fitting::{conductances_fit, fits, flows_fit};
-pub use flow::{branch_flow, least_flow, most_flow};
+pub use flow::branch_flow;
 pub use heads::{Barrier, Bound, Open, SettleFault, Side};
 pub use place::{Dir, NoBound, Place, Term, ZoneFlow};
 pub use problem::{Problem, are_heads, is_head};

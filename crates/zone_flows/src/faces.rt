@@ -9,7 +9,7 @@ use crate::table::{Table, add_face};
 use crate::walk::Walk;
 use budget_bounds::TermPair;
 use std::alloc::AllocError;
-use step_problem::{Bound, Cell, Fixed, FixedKind, Link, least_flow, most_flow};
+use step_problem::{Bound, Cell, Fixed, FixedKind, Link, Side, branch_flow};
 
 fn head_difference(of: i64, from: i64) -> i64
     requires of { IsHead of }
@@ -29,8 +29,8 @@ fn flow_between(x: Bound, y: Bound, lo: u64, hi: u64) -> TermPair
     ensures flow { IsFlow result }
 {
     TermPair {
-        lo: least_flow(lo, hi, head_difference(x.low, y.high)),
-        hi: most_flow(lo, hi, head_difference(x.high, y.low)),
+        lo: branch_flow(Side::Low, lo, hi, head_difference(x.low, y.high)),
+        hi: branch_flow(Side::High, lo, hi, head_difference(x.high, y.low)),
     }
 }
 

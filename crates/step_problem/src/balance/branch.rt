@@ -17,7 +17,7 @@ pub trait Branch {
     ghost weight: { Self → ℕ };
 
     // The greatest magnitude of its flow for each unit of its weight.
-    ghost unit: { ℕ };
+    ghost unit: { ℕ } = { 2 ^ 63 };
 
     ghost fits: { Self → Type 0 };
 
@@ -48,8 +48,6 @@ impl Branch for Fixed {
 
     ghost weight = { λ x. x.hi };
 
-    ghost unit = { 2 ^ 63 };
-
     ghost fits = { FixedFits };
 
     fn flow_at(&self, side: Side, own: i64) -> i128 {
@@ -62,8 +60,6 @@ impl Branch for River {
     ghost flow = { river_flow };
 
     ghost weight = { λ x. x.hi };
-
-    ghost unit = { 2 ^ 63 };
 
     ghost fits = { RiverFits };
 
@@ -79,8 +75,6 @@ impl Branch for Drain {
 
     ghost weight = { λ x. x.hi };
 
-    ghost unit = { 2 ^ 63 };
-
     ghost fits = { DrainFits };
 
     fn flow_at(&self, side: Side, own: i64) -> i128 {
@@ -93,8 +87,6 @@ impl Branch for Evap {
     ghost flow = { evap_flow };
 
     ghost weight = { λ x. x.hi };
-
-    ghost unit = { 2 ^ 63 };
 
     ghost fits = { EvapFits };
 

@@ -6,9 +6,9 @@ wider z h small w = record { above = omega (arith, ints); below = omega (arith, 
 
 pub returns-clause-flow : goal.returns-clause-flow
 returns-clause-flow c =
-    let fits_lo : FitsSigned w128 c.least_flow.result = search rules in
-    let fits_hi : FitsSigned w128 c.most_flow.result = search rules in
+    let fits_lo : FitsSigned w128 c.branch_flow.result = search rules in
+    let fits_hi : FitsSigned w128 c.branch_flow-2.result = search rules in
     simp to_z-of_z (record {
-      lo = wider c.least_flow.result c.args.hi c.requires.small (c.least_flow.ensures.within c.requires.ordered);
-      hi = wider c.most_flow.result c.args.hi c.requires.small (c.most_flow.ensures.within c.requires.ordered);
+      lo = wider c.branch_flow.result c.args.hi c.requires.small c.branch_flow.ensures.within;
+      hi = wider c.branch_flow-2.result c.args.hi c.requires.small c.branch_flow-2.ensures.within;
     })

@@ -1,9 +1,9 @@
 use Rattle.barrier_vector.proofs.Common.{rules, ◌+ℤ◌, FitsSigned, w128, to_z-of_z}
 use Rattle.barrier_vector.proofs.Gathering.{two_words}
-use Rattle.barrier_vector.proofs.gathered.FlowSum.plus.Goals as goal
+use Rattle.barrier_vector.proofs.gathered.Total.plus.Goals as goal
 
-pub returns : goal.returns
-returns c =
+pub returns-clause-sum : goal.returns-clause-sum
+returns-clause-sum c =
     let flow_fits : FitsSigned w128 c.args.flow = c.ranges.flow in
     let quotient_fits : FitsSigned w128 c.div_euclid.result = search rules in
     let remainder_fits : FitsSigned w128 c.rem_euclid.result = search rules in

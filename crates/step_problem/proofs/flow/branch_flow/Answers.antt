@@ -1,0 +1,22 @@
+use Rattle.step_problem.proofs.Common.{◌∙◌, ◌^◌, ◌*ℤ◌, ◌≡◌, ◌≤◌, pos, arith, sym, FitsSigned, to_z, ◌*◌, w128, w64, ints, to_z-of_z, to_z_pos, IsWithin}
+use Rattle.step_problem.proofs.Common.{branch_flow}
+use Rattle.step_problem.proofs.Sums.{IsWithin-product}
+use Rattle.step_problem.proofs.Leasts.{flow_up, flow_down}
+use Rattle.step_problem.proofs.flow.branch_flow.Goals.{then-difference-ge0, else-difference-ge0}
+use Rattle.step_problem.proofs.flow.branch_flow.Goals as goal
+
+pub returns : goal.returns
+returns c =
+    let k = c.if-difference-ge0.conductance in
+    let d = c.args.difference in
+    let both : (branch_flow c.args.side c.args.lo c.args.hi d ≡ pos k *ℤ d) × (k ≤ c.args.hi) = elim c.if-difference-ge0.branch [
+      | then-difference-ge0 w ↦ flow_up c.args.side c.args.lo c.args.hi k d c.requires (w.conductance-is ∙ w.bound_of-conductance.ensures) (omega (arith, ints))
+      | else-difference-ge0 w ↦ flow_down c.args.side c.args.lo c.args.hi k d c.requires (w.conductance-is ∙ w.bound_of-conductance-else-difference-ge0.ensures) (omega (arith, ints))
+    ] in
+    let near : IsWithin d (2 ^ 63) = record { above = omega (arith, ints); below = omega (arith, ints) } in
+    let fits_i : FitsSigned w64 d = c.ranges.difference in
+    let wide : to_z w128 k ≡ pos k = to_z_pos w128 k (omega (arith, both.1)) in
+    let w : IsWithin (pos k *ℤ d) (c.args.hi * 2 ^ 63) = IsWithin-product _ _ _ _ both.1 near in
+    let fits_d : FitsSigned w128 d = omega (arith, ints) in
+    let fits : FitsSigned w128 (pos k *ℤ d) = omega (arith, ints, w.above, w.below) in
+    simp (to_z-of_z, wide) (record { value = sym both.0; within = w })
