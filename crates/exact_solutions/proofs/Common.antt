@@ -12,15 +12,16 @@ pub use Rattle.cell_balance.proofs.Conducting.{All-back, both_ways, closed_cance
 pub use Rattle.cell_balance.proofs.Deep.{add_mul, sub_mul, total-same}
 pub use Rattle.cell_balance.proofs.Denominators.{step_common}
 pub use Rattle.cell_balance.proofs.Dry.{IsMutual}
-pub use Rattle.cell_balance.proofs.Encloses.{share_is, whole_solves, whole_step}
+pub use Rattle.cell_balance.proofs.Encloses.{whole_solves, whole_step}
+pub use Rattle.cell_balance.proofs.ExactLaws.{heads_over, whole_falls}
 pub use Rattle.cell_balance.proofs.Mutual.{mutual_whole}
 pub use Rattle.cell_balance.proofs.Over.{CellOver, DrainOver, EntryOver, EvapOver, FixedOver, FlowOver, LinkOver, RiverOver, balance_over, deep_over}
 pub use Rattle.cell_balance.proofs.RampFlows.{flow_leaves, flows_fall, full_rate_nonneg}
 pub use Rattle.cell_balance.proofs.Ramps.{AreMutual, HasSinking, HasWholeSolution, IsClosed, IsHeldFromAbove, IsHeldFromBelow, IsSinking, IsSolution, Ramp}
 pub use Rattle.cell_balance.proofs.Ramps.{deep, extent-between, full_rate, link_flow, net_flow, open_conductance, open_conductance_at, ramp_flow, rise}
 pub use Rattle.cell_balance.proofs.Ramps.{rise-above_top, rise-below_foot, rise-between, rise-no_extent, rise-no_top, rise_within_extent, rise_within_height}
-pub use Rattle.cell_balance.proofs.Scaling.{IsOver-none, cancel_le, max_times, min_times, over_zero, positive_natural}
-pub use Rattle.cell_balance.proofs.Sums.{carried_gain, sum-add, sum-same, sum-times, sum-zero, sum_at_most, sum_nonneg}
+pub use Rattle.cell_balance.proofs.Scaling.{IsOver-none, cancel_le, max_times, min_times, none_shared, over_zero, positive_natural}
+pub use Rattle.cell_balance.proofs.Sums.{carried_gain, sum-same, sum-times, sum-zero, sum_at_most, sum_inside-add, sum_nonneg}
 pub use Rattle.cell_balance.proofs.WholeBalances.{a_of, b_of, q_of, ramps_at_cell, ramps_from, scaled, scaled_balance, scaled_entry}
 pub use Rattle.cell_balance.proofs.Zips.{All-zip, AllZip-at, AllZip-length, CellWithin, DrainWithin, RiverWithin, WholeCell, WholeEntry, WholeLink, no_whole}
 pub use Rattle.cell_balance.proofs.Zips.{whole_at, whole_balance, whole_deep, whole_deep_river, whole_drain, whole_evap, whole_fixed, whole_full, whole_link}
@@ -28,7 +29,7 @@ pub use Rattle.cell_balance.proofs.Zips.{whole_river}
 pub use Rattle.cell_balance.specs.{AreLinked, CellEncloses, ExactCell, ExactLink, HasLinkBack, SolvesStep, balance, cell_at, deep_flow, no_cell, share}
 pub use Rattle.cell_balance.specs.{sum_below, sum_inside}
 pub use Rattle.decimal_input.proofs.FloorLaws.{cancel_right, le-trans, mul_mono_right, swap}
-pub use Rattle.decimal_input.specs.{Fraction, IsOver, IsShare, Ratio, whole}
+pub use Rattle.decimal_input.specs.{Fraction, IsOver, Ratio, whole}
 pub use Rattle.decimal_input.specs.Fractions.{Same, den}
 pub use Rattle.exact_solutions.specs.{AfloatHaveAnother, DrainedHaveAnother, HasNoneOrMany, HeldHaveASolution, HeldHaveAtMostOne, IsAnchoredAbove, IsHeldAbove}
 pub use Rattle.exact_solutions.specs.{IsLoose, TwoLooseCells, WellOfDeepFlow, WellPastDeepFlow, WellWithinDeepFlow, linked_to, river_and_well, two_cells}

@@ -1,4 +1,5 @@
 -- A step without ramps, of whose closed sets each has a conductance to a known head, has a solution; and where some heads let no cell gain water, no held set is without one.
+pub use Rattle.decimal_input.proofs.FloorLaws.{le-of as same_at_most}
 use Rattle.exact_solutions.proofs.Common.{[], ◌*ℤ◌, ◌+ℤ◌, ◌-ℤ◌, ◌<◌, ◌≡◌, ◌≤ℤ◌, Bool, arith, pos, refl, suc, true, zero, ℕ, ℤ, *ℤ-zero, zero-*ℤ, ints, as_diff}
 use Rattle.exact_solutions.proofs.Common.{diffs, same_diff, sum_below, sum_nonneg, add_mul, cancel_right, le_anti, ◌*◌, ◌∙◌, ◌∷◌, List, None, Option, Some}
 use Rattle.exact_solutions.proofs.Common.{cond, false, nat_eq, neg_ℤ, subst, sym, mul-pos, int_min, total, mul_assoc, max_times, min_times, sum-same, sum-times}
@@ -59,9 +60,6 @@ not_loose n a b q both held d Z some loses S closed none c h inside =
         zero z = omega (arith, ints)
 
 -- A step over another denominator: net flows scale, and so heads over two denominators compare, and two solutions are the same heads.
-pub same_at_most : (x y : ℤ) → x ≡ y → x ≤ℤ y
-same_at_most x y e = omega (arith, ints)
-
 pub same_at_least : (x y : ℤ) → x ≡ y → y ≤ℤ x
 same_at_least x y e = omega (arith, ints)
 

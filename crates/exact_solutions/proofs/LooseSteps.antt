@@ -1,13 +1,12 @@
 -- Steps with cells that nothing holds: heads one lower over these cells are another solution, where their deep flows sum to at most 0 or no river or drain of them conducts.
-use Rattle.exact_solutions.proofs.Common.{◌≡◌, ◌*◌, ◌<◌, ◌∙◌, ◌+ℤ◌, ◌-ℤ◌, ◌*ℤ◌, ◌≤ℤ◌, [], ◌∷◌, ℕ, zero, suc, refl, sym, ap, arith, ℤ, pos, neg_ℤ, List, length}
-use Rattle.exact_solutions.proofs.Common.{All, Bool, true, false, cond, mul-pos, int_max, AllZip, zero-*ℤ, ints, clamps, All-head, All-tail, Same, total}
-use Rattle.exact_solutions.proofs.Common.{total_mono, mul_assoc, mul_mono, sum_below, sum_inside, deep_flow, AreLinked, share, SolvesStep, ExactCell, cell_at}
-use Rattle.exact_solutions.proofs.Common.{no_cell, IsMutual, step_common, whole_solves, mutual_whole, LinkOver, FixedOver, RiverOver, DrainOver, EvapOver}
-use Rattle.exact_solutions.proofs.Common.{CellOver, IsOver-none, sum-same, sum-add, sum-zero, sub_mul, WholeEntry, WholeCell, whole_at, no_whole, whole_link}
-use Rattle.exact_solutions.proofs.Common.{whole_fixed, whole_river, whole_drain, whole_evap, whole_balance, whole_deep_river, whole_full, whole_deep}
-use Rattle.exact_solutions.proofs.Common.{whole_step, AllZip-at, AllZip-length, All-zip, le_anti, deep_over, Ratio, IsLoose, DrainedHaveAnother}
-use Rattle.exact_solutions.proofs.Common.{AfloatHaveAnother, closed_cancel, IsShare, le-trans, sum_below-tight}
-use Rattle.cell_balance.proofs.ExactLaws.{heads_over, whole_falls}
+use Rattle.exact_solutions.proofs.Common.{◌≡◌, ◌*◌, ◌<◌, ◌∙◌, ◌+ℤ◌, ◌-ℤ◌, ◌*ℤ◌, ◌≤ℤ◌, [], ◌∷◌, ℕ, refl, sym, ap, arith, ℤ, pos, neg_ℤ, List, length, All, Bool}
+use Rattle.exact_solutions.proofs.Common.{true, false, cond, mul-pos, int_max, AllZip, zero-*ℤ, ints, clamps, All-head, All-tail, Same, total, total_mono}
+use Rattle.exact_solutions.proofs.Common.{mul_assoc, mul_mono, sum_below, sum_inside, deep_flow, AreLinked, share, SolvesStep, ExactCell, cell_at, no_cell}
+use Rattle.exact_solutions.proofs.Common.{IsMutual, step_common, whole_solves, mutual_whole, LinkOver, FixedOver, RiverOver, DrainOver, EvapOver, CellOver}
+use Rattle.exact_solutions.proofs.Common.{IsOver-none, sum-same, sum-zero, sub_mul, WholeEntry, WholeCell, whole_at, no_whole, whole_link, whole_fixed}
+use Rattle.exact_solutions.proofs.Common.{whole_river, whole_drain, whole_evap, whole_balance, whole_deep_river, whole_full, whole_deep, whole_step, AllZip-at}
+use Rattle.exact_solutions.proofs.Common.{AllZip-length, All-zip, le_anti, deep_over, IsLoose, DrainedHaveAnother, AfloatHaveAnother, closed_cancel, le-trans}
+use Rattle.exact_solutions.proofs.Common.{sum_below-tight, heads_over, whole_falls, *ℤ-zero, loss_falls, none_shared, sum_inside-add}
 use Rattle.cell_balance.proofs.Enclosing.{over_le, IsOver-inside}
 use Rattle.exact_solutions.proofs.WholeSolutions.{without_links, lowered, balance-links, lowered_balances, whole_balances_solve}
 use Rattle.exact_solutions.proofs.HeldSteps.{same_crossed}
@@ -20,14 +19,6 @@ total-no_length : {X : Type 0} (f : X → ℤ) (xs : List X) → length xs ≡ 0
 total-no_length f [] e = refl
 total-no_length f (x ∷ xs) e = absurd (omega (arith, e))
 
--- a share of a conductance of 0
-none_shared : (k c : ℕ) (r : Ratio) → r.num ≡ 0 → IsShare k r c → c ≡ 0
-none_shared k c r e s = step r.num k c r.less e s.is
-  where
-    step : (n d c x : ℕ) → n ≡ 0 → n * d ≡ c * suc x → c ≡ 0
-    step n d zero x e s = refl
-    step n d (suc c) x e s = let t : n * d ≡ 0 * d = ap (λ (z : ℕ). z * d) e in absurd (omega arith)
-
 nothing_times : (c : ℕ) (z : ℤ) → c ≡ 0 → pos c *ℤ z ≡ pos 0
 nothing_times c z e = rw (e, zero-*ℤ z) refl
 
@@ -35,25 +26,13 @@ nothing_times c z e = rw (e, zero-*ℤ z) refl
 flows_at_most_deep : (u : WholeCell) (v : ℤ) (h : ℕ → ℤ) → All (λ x. x.c ≡ 0) u.fixed → length u.evaps ≡ 0 → whole_balance (without_links u) v h ≤ℤ whole_deep u
 flows_at_most_deep u v h fixed evaps =
     sum _ _ _ _ _ _ _ (total-none (λ x. x.c ≡ 0) (whole_fixed v) u.fixed (λ x e. nothing_times x.c (x.top -ℤ v) e) fixed) (total-no_length (whole_evap v) u.evaps evaps) (total-no_length whole_full u.evaps evaps)
-    (total_mono (whole_river v) whole_deep_river u.rivers river) (drains u.drains)
+    (total_mono (whole_river v) whole_deep_river u.rivers (λ x. mul_mono x.c _ _ (omega (arith, ints, clamps)))) (drains u.drains)
   where
     sum : (f k r r' d e g : ℤ) → k ≡ pos 0 → e ≡ pos 0 → g ≡ pos 0 → r ≤ℤ r' → d ≤ℤ pos 0 → (f +ℤ pos 0 +ℤ k +ℤ r +ℤ d +ℤ e) ≤ℤ (f +ℤ r' -ℤ g)
     sum f k r r' d e g x y z p q = omega (arith, ints)
 
-    river : (x : WholeEntry) → whole_river v x ≤ℤ whole_deep_river x
-    river x = mul_mono x.c _ _ (deeper x.top v x.foot)
-      where
-        deeper : (s v b : ℤ) → (s -ℤ int_max v b) ≤ℤ (s -ℤ b)
-        deeper s v b = omega (arith, ints, clamps)
-
     drain : (x : WholeEntry) → whole_drain v x ≤ℤ pos 0
-    drain x = takes _ _ (mul_mono x.c (pos 0) (int_max (v -ℤ x.foot) (pos 0)) (omega (arith, ints, clamps))) (nothing x.c)
-      where
-        nothing : (c : ℕ) → pos c *ℤ pos 0 ≡ pos 0
-        nothing c = omega (arith, ints)
-
-        takes : (a b : ℤ) → a ≤ℤ b → a ≡ pos 0 → neg_ℤ b ≤ℤ pos 0
-        takes a b h e = omega (arith, ints)
+    drain x = rw *ℤ-zero at (loss_falls x.c (pos 0) (int_max (v -ℤ x.foot) (pos 0)) (omega (arith, ints, clamps)))
 
     drains : (xs : List WholeEntry) → total (whole_drain v) xs ≤ℤ pos 0
     drains [] = omega (arith, ints)
@@ -105,10 +84,6 @@ module _ (e : List ExactCell) (inside : ℕ → Bool) (linked : AreLinked e) (lo
               omega (arith, ints, balance-links (whole_at w c) (Y c) Y, flows_at_most_deep (whole_at w c) (Y c) Y (no_fixed c here t) (no_evaps c here t))
           less c i false t = omega (arith, ints)
 
-          apart : (s : Bool) (x y : ℤ) → cond s (x +ℤ y) (pos 0) ≡ cond s x (pos 0) +ℤ cond s y (pos 0)
-          apart true x y = refl
-          apart false x y = refl
-
           none : (c : ℕ) → c < length w → (s : Bool) → cond s (whole_balance (whole_at w c) (Y c) Y) (pos 0) ≡ pos 0
           none c i true = zeros c i
           none c i false = refl
@@ -116,8 +91,7 @@ module _ (e : List ExactCell) (inside : ℕ → Bool) (linked : AreLinked e) (lo
           sums : sum_below (length w) (λ c. cond (inside c) (total (whole_link Y (Y c)) (whole_at w c).links +ℤ whole_deep (whole_at w c)) (pos 0)) ≤ℤ sum_below (length w) (λ c. cond (inside c) (whole_balance (whole_at w c) (Y c) Y) (pos 0))
           sums =
               total_at_most _ _ _ _
-              (sum-same (length w) _ _ (λ c i. apart (inside c) (total (whole_link Y (Y c)) (whole_at w c).links) (whole_deep (whole_at w c)))
-              ∙ sum-add (length w) (λ c. cond (inside c) (total (whole_link Y (Y c)) (whole_at w c).links) (pos 0)) (λ c. cond (inside c) (whole_deep (whole_at w c)) (pos 0)))
+              (sum_inside-add (length w) inside (λ c. total (whole_link Y (Y c)) (whole_at w c).links) (λ c. whole_deep (whole_at w c)))
               (closed_cancel w inside Y both closed_whole) most (sum-same (length w) _ (λ c. pos 0) (λ c i. none c i (inside c)) ∙ sum-zero (length w))
             where
               total_at_most : (g l d f : ℤ) → g ≡ l +ℤ d → l ≡ pos 0 → d ≤ℤ pos 0 → f ≡ pos 0 → g ≤ℤ f

@@ -1,11 +1,11 @@
 -- Heads solve an exact step just where they solve its whole numbers.
 use Rattle.exact_solutions.proofs.Common.{[], ◌*ℤ◌, ◌*◌, ◌<◌, ◌∙◌, ◌∷◌, ◌≡◌, List, ap, arith, length, map, pos, refl, subst, suc, sym, zero, ℕ, ℤ, mul-pos}
 use Rattle.exact_solutions.proofs.Common.{◌+ℤ◌, ◌-ℤ◌, inl, inr, All, Bool, true, false, cond, AllZip, Fraction, IsOver, Ratio, den, mul_assoc, SolvesStep}
-use Rattle.exact_solutions.proofs.Common.{share, ExactCell, cell_at, no_cell, balance, HasLinkBack, AreLinked, ExactLink, IsMutual, share_is, whole_solves}
-use Rattle.exact_solutions.proofs.Common.{CellOver, DrainOver, EvapOver, FixedOver, FlowOver, LinkOver, RiverOver, balance_over, EntryOver, over_zero}
-use Rattle.exact_solutions.proofs.Common.{WholeCell, WholeEntry, no_whole, whole_at, whole_balance, AllZip-at, AllZip-length, WholeLink, whole_link, All-zip}
-use Rattle.exact_solutions.proofs.Common.{swap, IsSolution, ramps_from, a_of, b_of, q_of, scaled, scaled_entry, scaled_balance, true≢false, cases_Bool, ints}
-use Rattle.exact_solutions.proofs.Common.{All-nil, All-cons, All-head, All-tail, All-contains, total, total-same}
+use Rattle.exact_solutions.proofs.Common.{share, ExactCell, cell_at, no_cell, balance, HasLinkBack, AreLinked, ExactLink, IsMutual, whole_solves, CellOver}
+use Rattle.exact_solutions.proofs.Common.{DrainOver, EvapOver, FixedOver, FlowOver, LinkOver, RiverOver, balance_over, EntryOver, over_zero, WholeCell}
+use Rattle.exact_solutions.proofs.Common.{WholeEntry, no_whole, whole_at, whole_balance, AllZip-at, AllZip-length, WholeLink, whole_link, All-zip, swap}
+use Rattle.exact_solutions.proofs.Common.{IsSolution, ramps_from, a_of, b_of, q_of, scaled, scaled_entry, scaled_balance, true≢false, cases_Bool, ints, All-nil}
+use Rattle.exact_solutions.proofs.Common.{All-cons, All-head, All-tail, All-contains, total, total-same, heads_over}
 use Rattle.cell_balance.specs.{IsClosed}
 
 AllZip-map : {X Y Z : Type 0} (R : X → Y → Type 0) (S : X → Z → Type 0) (f : Y → Z) → ((x : X) (y : Y) → R x y → S x (f y)) → (xs : List X) (ys : List Y) → AllZip R xs ys → AllZip S xs (map f ys)
@@ -74,11 +74,8 @@ module _ (k m : ℕ) (some_k : 0 < k) (some_m : 0 < m) (e : List ExactCell) (w :
   pub solves_whole : (d : ℕ) (X : ℕ → ℤ) → 0 < d → SolvesStep e d X → IsSolution (length w) (a_of w) (b_of w) (q_of w) (ramps_from 0 w) d (λ c. X c *ℤ pos m)
   solves_whole d X some solves = record { some = some; solves = λ c i. sym (scaled_balance w d (λ z. X z *ℤ pos m) c (both.range c i)) ∙ at c i }
     where
-      comm : (a b : ℕ) → a * b ≡ b * a
-      comm a b = omega arith
-
       heads : (c : ℕ) → IsOver (m * d) (share d (X c)) (X c *ℤ pos m)
-      heads c = subst (λ (z : ℕ). IsOver z (share d (X c)) (X c *ℤ pos m)) (comm d m) (share_is d m (X c) some)
+      heads c = heads_over m d some (X c)
 
       at : (c : ℕ) → c < length w → whole_balance (scaled d (whole_at w c)) (X c *ℤ pos m) (λ z. X z *ℤ pos m) ≡ pos 0
       at c i =

@@ -1,6 +1,6 @@
 -- The hull of two problems that are alike: each number has the lesser of the two lower bounds and the greater of the
 -- two upper ones.
-use Rattle.std.specs.Prelude.{◌≡◌, ℕ, ℤ, List, min, max, [], ◌∷◌, pos, map}
+use Rattle.std.specs.Prelude.{◌≡◌, ℤ, List, min, max, [], ◌∷◌, pos, map}
 use Rattle.std.specs.Int.{int_min, int_max}
 use Rattle.step_problem.specs.declared.entry.Link.{Link}
 use Rattle.step_problem.specs.declared.entry.Flow.{Flow}
