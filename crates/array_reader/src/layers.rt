@@ -25,8 +25,6 @@ pub fn read_reals<F: Folder>(
     ensures folder { ReadsOn F.Folder folder.old folder.new result }
     ensures lines { IfOk result (λ _. LinesMay (F.may folder.new) lines.new) }
     ensures array { (files : FileSet) → F.agrees folder.new files → Gives (λ v. v.items) result lines.new (reals files file.now count lines.old) }
-    ensures canonical { IfOk result (λ v. All IsDec v.items) }
-    ensures count { IfOk result (λ v. length v.items ≡ count) }
 {
     let (values, _) = read_array(alloc, lines, file, folder, 1, count)?;
     Ok(values)
@@ -108,7 +106,6 @@ pub fn read_layers<V: Value, F: Folder>(
     ensures lines { IfOk result (λ _. LinesMay (F.may folder.new) lines.new) }
     ensures layers { (files : FileSet) → F.agrees folder.new files →
         Gives (λ v. v.items) result lines.new (layers V.kind files file.now count rows cols lines.old) }
-    ensures good { IfOk result (λ v. All V.Good v.items) }
     ensures count { IfOk result (λ v. length v.items ≡ count * (rows * cols)) }
 {
     let mut values = Vec::new(alloc);
@@ -131,14 +128,11 @@ pub fn layer_or<F: Folder>(
     is_there: bool,
     other: Dec,
 ) -> Result<Vec<Dec>, InputFault>
-    requires canonical { IsDec other }
     requires lines { LinesMay (F.may folder.old) lines.old }
     ensures folder { ReadsOn F.Folder folder.old folder.new result }
     ensures lines { IfOk result (λ _. LinesMay (F.may folder.new) lines.new) }
     ensures layer { (files : FileSet) → F.agrees folder.new files →
         Gives (λ v. v.items) result lines.new (layer_or files file.now rows cols is_there other lines.old) }
-    ensures count { IfOk result (λ v. length v.items ≡ rows * cols) }
-    ensures canonical { IfOk result (λ v. All IsDec v.items) }
 {
     if is_there {
         read_layer(alloc, lines, file, folder, rows, cols)

@@ -1,10 +1,12 @@
-ghost use Rattle.std.specs.Prelude.{◌≡◌, ◌*◌, Ok, length, replicate, IfOk, IfSome, All};
+ghost use Rattle.std.specs.Prelude.{◌≡◌, ◌*◌, Ok, ◌++◌, length, replicate, IfOk, IfSome, All};
 ghost use Rattle.outside.specs.{IsRefusal};
-ghost use Rattle.record_lines.specs.{GivesText, appended, repeated};
+ghost use Rattle.record_lines.specs.{GivesText, repeated};
 ghost use Rattle.array_reader.specs.{with_multiplier, free_refusal, value_alone, value_at, free_list, free_rows};
 
 use crate::items::number_refused;
 use crate::numbers::{Value, value_of};
+use decimal_input::dec::Dec;
+use model_types::Listed;
 use outside::{Code, TextFault, text_fault};
 use record_lines::{Free, FreeFault, Lines};
 use std::alloc::{AllocError, Global};
@@ -143,4 +145,13 @@ pub fn constants<V: Copy>(alloc: Global, value: V, count: usize) -> Result<Vec<V
         values.push(value)?;
     }
     Ok(values)
+}
+
+/// A list, and these numbers after it.
+pub fn append(list: Listed<Dec>, more: &[Dec]) -> Result<Listed<Dec>, AllocError>
+    ensures { IfOk result (λ l. l ≡ list ++ more.now) }
+{
+    let mut items = list.into_vec();
+    items.extend_from_slice(more)?;
+    Ok(Listed::new(items))
 }

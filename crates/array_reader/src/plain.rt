@@ -1,5 +1,4 @@
-ghost use Rattle.std.specs.Prelude.{◌≡◌, length, IfOk, All};
-ghost use Rattle.decimal_input.specs.{IsDec};
+ghost use Rattle.std.specs.Prelude.{◌≡◌};
 ghost use Rattle.record_lines.specs.{GivesText};
 ghost use Rattle.array_reader.specs.{free_list, number, integer};
 
@@ -17,7 +16,6 @@ pub fn plain_ints(
     count: u32,
 ) -> Result<Vec<i64>, TextFault>
     ensures values { GivesText (λ v. v.items) result lines.new (free_list integer file.now count lines.old) }
-    ensures count { IfOk result (λ v. length v.items ≡ count) }
 {
     free_list(alloc, lines, file, None, count)
 }
@@ -30,8 +28,6 @@ pub fn plain_reals(
     count: u32,
 ) -> Result<Vec<Dec>, TextFault>
     ensures values { GivesText (λ v. v.items) result lines.new (free_list number file.now count lines.old) }
-    ensures canonical { IfOk result (λ v. All IsDec v.items) }
-    ensures count { IfOk result (λ v. length v.items ≡ count) }
 {
     free_list(alloc, lines, file, None, count)
 }

@@ -1,5 +1,5 @@
 // Free lists whose values must be 0.
-ghost use Rattle.std.specs.Prelude.{◌≡◌, IfOk, pos};
+ghost use Rattle.std.specs.Prelude.{◌≡◌};
 ghost use Rattle.record_lines.specs.{GivesText};
 ghost use Rattle.array_reader.specs.{zero_at, zero_list};
 
@@ -17,7 +17,6 @@ pub fn zero_item<'a>(
     file: &str,
 ) -> Result<i64, TextFault>
     ensures value { GivesText (λ z. z) result (free.new, lines.new) (zero_at file.now (free.old, lines.old)) }
-    ensures zero { IfOk result (λ z. z ≡ pos 0) }
 {
     let (value, line) = next_value::<i64>(alloc, free, lines, file, None)?;
     if value != 0 {

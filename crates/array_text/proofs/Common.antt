@@ -1,11 +1,12 @@
 -- Names that several proofs of this crate cite, of the crates below and of its own definitions, passed on from one place. Declares nothing.
 pub use Rattle.std.proofs.Common.{All, Bool, Err, List, None, Ok, Option, Result, Some, [], ap, append_assoc, arith, drop, false, if◌then◌else◌, inl, inr}
-pub use Rattle.std.proofs.Common.{length, map, nat_le, nat_lt, neg_ℤ, negsuc, not, pos, refl, subst, suc, sym, take, true, unsigned_abs, zero, ℕ, ℤ, ◌%◌, ◌&&◌}
-pub use Rattle.std.proofs.Common.{◌*ℤ◌, ◌*◌, ◌++◌, ◌+ℤ◌, ◌+◌, ◌-ℤ◌, ◌-◌, ◌/◌, ◌<ℤ◌, ◌<◌, ◌==◌, ◌^◌, ◌∙◌, ◌∷◌, ◌≡◌, ◌≤ℤ◌, ◌≤◌, ◌⊎◌}
+pub use Rattle.std.proofs.Common.{length, map, nat_le, nat_lt, neg_ℤ, negsuc, not, pos, refl, replicate, subst, suc, sym, take, true, unsigned_abs, zero, ℕ, ℤ}
+pub use Rattle.std.proofs.Common.{◌%◌, ◌&&◌, ◌*ℤ◌, ◌*◌, ◌++◌, ◌+ℤ◌, ◌+◌, ◌-ℤ◌, ◌-◌, ◌/◌, ◌<ℤ◌, ◌<◌, ◌==◌, ◌^◌, ◌∙◌, ◌∷◌, ◌≡◌, ◌≤ℤ◌, ◌≤◌, ◌⊎◌}
+pub use Rattle.std.proofs.lemmas.Bool.{and_parts, cases_lt}
 pub use Rattle.std.proofs.lemmas.Bool.Decides.{nat_tests}
 pub use Rattle.std.proofs.lemmas.Int.{ints}
-pub use Rattle.std.proofs.lemmas.List.{append-nil, length-append, length-drop, length-map, length-replicate, length-take-le, length_push, nil_from_length}
-pub use Rattle.std.proofs.lemmas.List.{take-append-drop}
+pub use Rattle.std.proofs.lemmas.List.{append-nil, drop-append-le, drop_at, length-append, length-drop, length-map, length-replicate, length-take-le}
+pub use Rattle.std.proofs.lemmas.List.{length_push, nil_from_length, take-append-drop, take-append-le, take_all}
 pub use Rattle.std.proofs.lemmas.List.Elements.{All-append, All-cons, All-drop, All-head, All-map, All-nil, All-push, All-replicate, All-tail, All-take}
 pub use Rattle.std.proofs.lemmas.List.Elements.{All-weaker}
 pub use Rattle.std.specs.Fmt.{decimal, signed_decimal}
@@ -15,8 +16,8 @@ pub use Rattle.array_reader.proofs.NumberLemmas.{canonical_is, integers_are, is_
 pub use Rattle.array_reader.specs.{Kind, at_line, constant, internal, is_exponent, is_short, named, of_keyword, real, spelt_number, values_of, whole}
 pub use Rattle.array_reader.specs.{without_line}
 unfoldable pub use Rattle.array_reader.specs.{array_at, canonical, control_at, format_at, free_list, free_rows, integer, integer_layer, integer_product}
-unfoldable pub use Rattle.array_reader.specs.{integer_scaled, keyword, layer_array, layers, multiplied, number, number_at, product, real_layer, reals, scaled}
-unfoldable pub use Rattle.array_reader.specs.{significant, value_alone, value_at, zeros}
+unfoldable pub use Rattle.array_reader.specs.{integer_scaled, keyword, layer_array, layer_or, layers, multiplied, number, number_at, product, real_layer, reals}
+unfoldable pub use Rattle.array_reader.specs.{scaled, significant, value_alone, value_at, zeros}
 pub use Rattle.array_text.specs.{ArraysHaveForm, ArraysReadAsWritten, FreeListsReadAsWritten, Gives, IsLine, IsShort, IsWord, IsWordByte, Line, ListsHaveForm}
 pub use Rattle.array_text.specs.{Reads, Takes, array_lines, control_record, sign}
 unfoldable pub use Rattle.array_text.specs.{integer_array, integer_word, line_text, number_after, number_word, numbered_lines, real_array, row_line, row_lines}
@@ -30,4 +31,4 @@ pub use Rattle.outside.specs.{FileSet, file_at, is_separator, refusal}
 unfoldable pub use Rattle.outside.specs.{lines, words}
 pub use Rattle.outside.specs.declared.inputs.Refusal.{Refusal}
 pub use Rattle.record_lines.specs.{Left, Numbered, Taking, beginning, left_from, name_at, next_number, next_word, ◌>>=◌}
-unfoldable pub use Rattle.record_lines.specs.{appended, has_word, line_at, next_value, repeated, spread, word_at}
+unfoldable pub use Rattle.record_lines.specs.{appended, counted, has_word, line_at, next_value, repeated, spread, word_at}

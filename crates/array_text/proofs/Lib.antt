@@ -1,6 +1,7 @@
 mod Common
 pub mod NumberForms
 pub mod ArrayForms
+pub mod LayerForms
 pub mod DigitTexts
 pub mod NumberTexts
 pub mod WordTexts

@@ -1,9 +1,9 @@
 -- What is written of numbers is words, and words have no byte that ends them.
+use Rattle.outside.specs.{FileSet}
 use Rattle.array_text.proofs.Common.{◌≡◌, ℕ, suc, ◌^◌, ◌<◌, ◌≤◌, ◌==◌, ◌&&◌, not, Bool, true, false, List, [], ◌∷◌, ◌++◌, length, nat_le, nat_lt, All, refl}
 use Rattle.array_text.proofs.Common.{arith, ℤ, pos, negsuc, unsigned_abs, zero, ◌*◌, if◌then◌else◌, Result, Ok, Err, subst, list_all, decimal, signed_decimal}
 use Rattle.array_text.proofs.Common.{length-append, All-nil, All-cons, All-append, All-weaker, nat_tests, Dec, is_digit, is_separator, sign, number_word}
-use Rattle.array_text.proofs.Common.{integer_word, IsShort, IsWordByte, IsWord, Line, IsLine, Gives, ◌>>=◌, repeated, appended}
-use Rattle.std.proofs.lemmas.Bool.{and_parts}
+use Rattle.array_text.proofs.Common.{integer_word, IsShort, IsWordByte, IsWord, Line, IsLine, Gives, ◌>>=◌, repeated, appended, and_parts}
 use Rattle.array_text.proofs.DigitTexts.{digits_spell}
 
 pub no_separator : (b : ℕ) → IsWordByte b → is_separator b ≡ false
@@ -123,6 +123,11 @@ weaker g h = record { gives = λ x e. h x (g.gives x e) }
 
 pub both : {A E : Type 0} {P Q : A → Type 0} {r : Result A E} → Gives P r → Gives Q r → Gives (λ x. P x × Q x) r
 both g h = record { gives = λ x e. (g.gives x e, h.gives x e) }
+
+-- what is read of each of the files that agree with a folder, of which there are some
+pub some_give : {X E : Type 0} {P : X → Type 0} {read : FileSet → Result X E} {A : FileSet → Type 0} {x : X} → ((files : FileSet) → Gives P (read files))
+    → ((files : FileSet) × A files) → ((files : FileSet) → A files → read files ≡ Ok x) → P x
+some_give each some is = (each some.0).gives _ (is some.0 some.1)
 
 -- readings in a row, with what is known of the list by the state at its start
 module _ {X S E : Type 0} (read : S → Result (X × S) E) (R : ℕ → S → List X × S → Type 0) (none : (s : S) → R 0 s ([], s))

@@ -1,11 +1,9 @@
 -- The line of options and HNOFLO leave lines that they were given.
-use Rattle.bas_package.proofs.Common.{LineMay, LinesMay, chain, after, either, line_held, leaves, Left, Numbered, line_at}
-use Rattle.std.proofs.Common.{◌≡◌, ℕ, List, Result, Ok, Err, All}
+use Rattle.bas_package.proofs.Common.{LineMay, LinesMay, chain, after, either, line_held, leaves, Left, Numbered, line_at, ◌≡◌, ℕ, List, Result, Ok, Err, All}
+use Rattle.bas_package.proofs.Common.{words, refusal, is_in_profile, option_line, head_item}
 use Rattle.std.specs.Prelude.{IfOk}
-use Rattle.outside.specs.{words, refusal}
 use Rattle.outside.specs.declared.codes.Code.TheVariants.{OutOfProfile}
 use Rattle.array_reader.specs.{number_at, number}
-use Rattle.bas_package.specs.{is_in_profile, option_line, head_item}
 
 module _ (P : Numbered → Type 0) (file : List ℕ) where
   option_held : (left : Left) → All P left.lines → IfOk (option_line file left) (λ x. All P x.1.lines)

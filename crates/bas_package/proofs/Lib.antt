@@ -1,2 +1,3 @@
 mod Common
 pub mod Forward
+pub mod BasForms

@@ -1,13 +1,15 @@
 -- A file of the basic package: options, IBOUND, HNOFLO, STRT (TM 6-A16, BAS6).
-use Rattle.std.specs.Prelude.{ℕ, ℤ, List, Bool, not, ◌&&◌, Result, Ok, Err, if◌then◌else◌, codes}
+use Rattle.std.specs.Prelude.{◌≡◌, ℕ, ℤ, List, All, length, Bool, not, ◌&&◌, Result, Ok, Err, if◌then◌else◌, codes}
 use Rattle.std.specs.List.{list_any}
 use Rattle.decimal_input.specs.declared.dec.Dec.{Dec}
+use Rattle.decimal_input.specs.{IsDec}
 use Rattle.outside.specs.{FileSet, refusal, words}
 use Rattle.outside.specs.declared.codes.Code.TheVariants.{OutOfProfile}
 use Rattle.outside.specs.declared.inputs.Refusal.{Refusal}
 use Rattle.record_lines.specs.{is_word, line_at, Left, left_from, without_comments, ◌>>=◌}
 use Rattle.array_reader.specs.{layers, number_at, real, whole, number}
 use Rattle.model_types.specs.declared.grid.Grid.{Grid}
+use Rattle.model_types.specs.{cell_count}
 use Rattle.model_types.specs.declared.model.FlowModel.{FlowModel}
 
 -- free format, and neither of the options XSECTION and CHTOCH, in any letter case
@@ -46,3 +48,9 @@ unfoldable pub bas_of : FileSet → List ℕ → List ℕ → FlowModel → Resu
 bas_of files file bytes m = do
   basics ← basics_of files file bytes m.grid
   Ok (with_basics m basics.0 basics.1)
+
+-- a model with IBOUND and STRT for each cell, which is else the one before
+pub record HasBasics (m n : FlowModel) : Type 0 where
+  pub ibound : length n.ibound ≡ cell_count m.grid
+  pub strt : (length n.strt ≡ cell_count m.grid) × All IsDec n.strt
+  pub only : n ≡ with_basics m n.ibound n.strt

@@ -1,10 +1,8 @@
 // IBOUND and the starting heads.
-ghost use Rattle.std.specs.Prelude.{◌≡◌, IfOk, length, All, List};
-ghost use Rattle.decimal_input.specs.{IsDec};
+ghost use Rattle.std.specs.Prelude.{◌≡◌, IfOk, List};
 ghost use Rattle.outside.specs.{TextMay, words, FileSet, ReadsOn};
 ghost use Rattle.record_lines.specs.{Has, GivesText};
-ghost use Rattle.model_types.specs.{cell_count};
-ghost use Rattle.bas_package.specs.{basics_of, with_basics, bas_of, is_in_profile, option_line, head_item};
+ghost use Rattle.bas_package.specs.{basics_of, HasBasics, bas_of, is_in_profile, option_line, head_item};
 
 use array_reader::{has_keyword, next_line, number, read_layers};
 use decimal_input::dec::Dec;
@@ -26,9 +24,6 @@ fn basics_of<F: Folder>(
     ensures folder { ReadsOn F.Folder folder.old folder.new result }
     ensures basics { (files : FileSet) → F.agrees folder.new files →
         Has (λ b. (b.0.items, b.1.items)) result (basics_of files file.now bytes.now grid.now) }
-    ensures ibound { IfOk result (λ b. length b.0.items ≡ cell_count grid.now) }
-    ensures strt { IfOk result (λ b. length b.1.items ≡ cell_count grid.now) }
-    ensures canonical { IfOk result (λ b. All IsDec b.1.items) }
 {
     let mut lines = Lines::new(bytes);
     lines.skip_comments();
@@ -57,12 +52,10 @@ pub fn read_bas<F: Folder>(
     requires text { TextMay (F.may folder.old) bytes.now }
     ensures folder { ReadsOn F.Folder folder.old folder.new result }
     ensures model { (files : FileSet) → F.agrees folder.new files → Has (λ m. m) result (bas_of files file.now bytes.now model) }
-    ensures others { IfOk result (λ m. m ≡ with_basics model m.ibound m.strt) }
-    ensures ibound { IfOk result (λ m. length m.ibound ≡ cell_count model.grid) }
-    ensures strt { IfOk result (λ m. length m.strt ≡ cell_count model.grid) }
-    ensures canonical { IfOk result (λ m. All IsDec m.strt) }
+    ensures form { IfOk result (HasBasics model) }
 {
     let (ibound, strt) = basics_of(alloc, file, bytes, folder, &model.grid)?;
+    folder.some_agree();
     Ok(FlowModel {
         ibound: Listed::new(ibound),
         strt: Listed::new(strt),

@@ -1,17 +1,34 @@
 -- Names that several proofs of this crate cite, of the crates below and of its own definitions, passed on from one place. Declares nothing.
-pub use Rattle.std.proofs.Common.{All, Bool, Err, List, None, Ok, Option, Result, Some, [], ap, arith, codes, false, inl, inr, length, nat_le, not, pos, refl}
-pub use Rattle.std.proofs.Common.{rules, subst, sym, true, ℕ, ℤ, ◌&&◌, ◌*◌, ◌++◌, ◌-◌, ◌||◌, ◌∙◌, ◌∷◌, ◌≡◌, ◌≤◌, ◌⊎◌}
+pub use Rattle.std.proofs.Common.{All, Bool, List, None, Ok, Option, Some, [], ap, arith, codes, false, inl, inr, length, nat_le, nat_lt, negsuc, not, pos}
+pub use Rattle.std.proofs.Common.{refl, replicate, rules, subst, suc, sum_by, sym, true, ℕ, ℤ, ◌&&◌, ◌*◌, ◌++◌, ◌+◌, ◌-◌, ◌<◌, ◌==◌, ◌||◌, ◌∙◌, ◌∷◌, ◌≡◌, ◌≤◌}
+pub use Rattle.std.proofs.Common.{◌⊎◌}
+pub use Rattle.std.proofs.lemmas.Bool.{and_parts, eqb-true, leb-true, ltb-true, not-false, not-true}
+pub use Rattle.std.proofs.lemmas.List.Elements.{All-append, All-cons, All-nil, All-push, All-weaker}
 pub use Rattle.std.proofs.lemmas.Result.{err_from_is_err_and}
-pub use Rattle.std.specs.Prelude.{IfOk, if◌then◌else◌, sum_by}
+pub use Rattle.std.specs.Prelude.{IfOk, if◌then◌else◌}
+pub use Rattle.array_reader.specs.{integer, number, number_at, real, value_alone, value_at}
+unfoldable pub use Rattle.array_reader.specs.{zero_at}
+pub use Rattle.array_text.proofs.ArrayForms.{array_is, item_is, value_is}
+pub use Rattle.array_text.proofs.NumberForms.{integer_is, multiplied_is, number_is}
+pub use Rattle.array_text.proofs.WordTexts.{done, goes_on, if_clear, if_passed, refused, repeated_are, repeated_gives, then_, weaker}
+pub use Rattle.array_text.specs.{Gives, IsShort}
 pub use Rattle.decimal_input.specs.{IsDec, size}
-pub use Rattle.dis_package.specs.{IsNewPeriod, IsTime, begun, bottom_at, frame_of, grid_of, is_growth, is_time, kind_of, period_at, period_of}
-unfoldable pub use Rattle.dis_package.specs.{beds_of, bottoms_of, dis_of, head_of, periods_of}
+pub use Rattle.dis_package.specs.{IsBegun, IsFrame, IsGridWithin, IsNewPeriod, IsOfBeds, IsSize, IsTime, begun, inside, is_growth, is_time, kind_of, known}
+pub use Rattle.dis_package.specs.{period_of}
+unfoldable pub use Rattle.dis_package.specs.{beds_of, bottom_at, bottoms_of, count_at, dis_of, frame_of, grid_of, head_of, period_at, periods_of, size_at}
+unfoldable pub use Rattle.dis_package.specs.{time_of, widths}
 pub use Rattle.dis_package.specs.declared.frame.Frame.{Frame}
-pub use Rattle.model_types.specs.{IsGrowing, IsTimed, int_at, number_one}
+pub use Rattle.dis_package.specs.declared.frame.Size.{Size}
+pub use Rattle.model_types.specs.{IsGrid, IsGrowing, IsPositive, IsTimed, int_at, is_nonzero, most_cells, most_in_row, most_layers, no_number, number_one}
+pub use Rattle.model_types.specs.declared.grid.Grid.{Grid}
 pub use Rattle.model_types.specs.declared.limits.Limits.{Limits}
+pub use Rattle.model_types.specs.declared.model.FlowModel.{FlowModel}
 pub use Rattle.model_types.specs.declared.period.Period.{Period}
-pub use Rattle.outside.specs.{FileSet, input_fault, words}
+pub use Rattle.number_limits.proofs.SignLemmas.{all_positive_of, one_of, positive_of}
+pub use Rattle.number_limits.specs.{is_at_least, is_at_most, is_one, is_positive, within}
+pub use Rattle.outside.specs.{FileSet, input_fault, refusal, words}
+pub use Rattle.outside.specs.declared.codes.Code.TheVariants.{BadGrid}
 pub use Rattle.record_lines.proofs.Forward.{after, begun_held, chain, leaves, line_held, repeated_held}
-pub use Rattle.record_lines.proofs.Loops.{ends_all, ends_text, goes_on, is_done, step_goes_on, steps_done, steps_stop, with_front}
-pub use Rattle.record_lines.specs.{Left, LineMay, LinesMay, Numbered, Stops, StopsText, beginning, counted, is_word, left_from, line_at, repeated}
+pub use Rattle.record_lines.proofs.Loops.{ends_all, ends_text, is_done, step_goes_on, steps_done, steps_stop, with_front}
+pub use Rattle.record_lines.specs.{Left, LineMay, LinesMay, Numbered, Stops, StopsText, Taking, beginning, counted, is_word, left_from, line_at, repeated}
 pub use Rattle.record_lines.specs.{without_comments}

@@ -1,7 +1,6 @@
 -- The first line and LAYCBD leave lines that they were given.
-use Rattle.dis_package.proofs.Common.{◌≡◌, ℕ, ◌-◌, ℤ, List, Result, Ok, All, IfOk, LineMay, LinesMay, line_at, Left, Numbered, repeated, chain, after}
-use Rattle.dis_package.proofs.Common.{line_held, leaves, repeated_held, head_of, Frame, Limits, beds_of, frame_of, words, beginning}
-use Rattle.array_reader.specs.{value_alone, zero_at, integer}
+use Rattle.dis_package.proofs.Common.{◌≡◌, ℕ, ◌-◌, ℤ, List, Ok, All, IfOk, LineMay, LinesMay, line_at, Left, Numbered, repeated, chain, after, line_held}
+use Rattle.dis_package.proofs.Common.{leaves, repeated_held, head_of, Frame, Limits, beds_of, frame_of, words, beginning, value_alone, zero_at, integer}
 use Rattle.array_reader.proofs.Forward.{value_alone_held, zero_held}
 
 module _ (P : Numbered → Type 0) (file : List ℕ) where

@@ -1,5 +1,6 @@
 mod Common
-pub mod BedLemmas
-pub mod TimeLemmas
 pub mod ModelLemmas
 pub mod Forward
+pub mod FrameForms
+pub mod GridForms
+pub mod DisForms

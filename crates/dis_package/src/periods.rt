@@ -1,7 +1,7 @@
 // The stress periods.
-ghost use Rattle.std.specs.Prelude.{◌≡◌, ◌+◌, ◌≤◌, IfOk, length, All, sum_by, []};
+ghost use Rattle.std.specs.Prelude.{◌≡◌, ◌+◌, ◌≤◌, IfOk};
 ghost use Rattle.record_lines.specs.{GivesText, HasText};
-ghost use Rattle.dis_package.specs.{period_at, period_of, periods_of, kind_of, is_growth, is_time, time_of, IsNewPeriod, IsTime};
+ghost use Rattle.dis_package.specs.{period_at, period_of, periods_of, kind_of, is_growth, is_time, time_of, IsTime};
 ghost use Rattle.decimal_input.specs.{IsDec};
 
 use crate::frame::count_at;
@@ -27,7 +27,7 @@ fn period_of(time: &Time) -> Period
 }
 
 /// The next period; `steps` is the number of steps of the periods before it.
-#[tactic(auto, unfolding(crate::specs::Frames::period_at), using(crate::proofs::TimeLemmas::new_of))]
+#[tactic(auto, unfolding(crate::specs::Frames::period_at))]
 fn period_at(
     alloc: Global,
     lines: &mut Lines,
@@ -37,8 +37,6 @@ fn period_at(
     requires { steps.old ≤ 100000 }
     ensures period { GivesText (λ p. p) result (steps.new, lines.new) (period_at file.now (steps.old, lines.old)) }
     ensures most { steps.new ≤ 100000 }
-    ensures sum { IfOk result (λ p. steps.new ≡ steps.old + p.nstp) }
-    ensures form { IfOk result IsNewPeriod }
 {
     let line = next_line(alloc, lines, file)?;
     let mut words = Words::of(&line);
@@ -60,9 +58,6 @@ pub fn periods_of(
     count: u32,
 ) -> Result<Vec<Period>, TextFault>
     ensures periods { HasText (λ v. v.items) result (periods_of file.now count lines.old) }
-    ensures count { IfOk result (λ v. length v.items ≡ count) }
-    ensures steps { IfOk result (λ v. sum_by (λ p. p.nstp) v.items ≤ 100000) }
-    ensures form { IfOk result (λ v. All IsNewPeriod v.items) }
 {
     let mut steps = 0;
     let mut periods = Vec::new(alloc);

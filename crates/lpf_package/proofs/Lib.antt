@@ -1,2 +1,3 @@
 mod Common
 pub mod LayerLemmas
+pub mod LpfForms

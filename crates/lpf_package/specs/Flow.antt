@@ -17,6 +17,8 @@ use Rattle.model_types.specs.{dec_at, int_at, no_number, is_nonzero, cell_count}
 use Rattle.number_limits.specs.{is_positive}
 use Rattle.lpf_package.specs.declared.layer.Layer.{Layer}
 use Rattle.decimal_input.specs.{IsDec}
+use Rattle.array_text.specs.{IsShort}
+use Rattle.dis_package.specs.{IsOfBeds}
 
 -- The items before the layers' arrays (TM 6-A16, LPF, items 1 to 7).
 -- ILPFCB HDRY NPLPF and option words: no parameters; whether the option STORAGECOEFFICIENT is there
@@ -107,20 +109,12 @@ lpf_of files file bytes m = do
 abbrev pub SameBut : FlowModel → FlowModel → Type 0
 SameBut m n = n ≡ with_properties m n.coefficient n.layvka (record { hk = n.hk; hani = n.hani; vka = n.vka; ss = n.ss; vkcb = n.vkcb })
 
--- What is known of properties that were read, whatever the folder returned: lengths and canonical numbers.
--- arrays of this many cells, with storage for this many of them
-pub record AreLayers (cells stored : ℕ) (p : Properties) : Type 0 where
-  pub hk : (length p.hk ≡ cells) × All IsDec p.hk
-  pub hani : (length p.hani ≡ cells) × All IsDec p.hani
-  pub vka : (length p.vka ≡ cells) × All IsDec p.vka
-  pub ss : (length p.ss ≡ stored) × All IsDec p.ss
-  pub vkcb : (length p.vkcb ≡ cells) × All IsDec p.vkcb
-
--- a model whose properties have been read
-pub record HasProperties (m : FlowModel) : Type 0 where
-  pub layvka : length m.layvka ≡ m.grid.layers
+-- LPF: LAYVKA for each layer, and properties for each cell; SS only where a period is transient
+pub record HasFlow (m : FlowModel) : Type 0 where
+  pub layvka : (length m.layvka ≡ m.grid.layers) × All IsShort m.layvka
   pub hk : (length m.hk ≡ cell_count m.grid) × All IsDec m.hk
   pub hani : (length m.hani ≡ cell_count m.grid) × All IsDec m.hani
   pub vka : (length m.vka ≡ cell_count m.grid) × All IsDec m.vka
   pub ss : (length m.ss ≡ cond (is_transient m.periods) (cell_count m.grid) 0) × All IsDec m.ss
   pub vkcb : (length m.vkcb ≡ cell_count m.grid) × All IsDec m.vkcb
+  pub beds : IsOfBeds m.grid m.vkcb

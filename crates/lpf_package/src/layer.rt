@@ -1,11 +1,10 @@
 // The arrays of one layer.
-ghost use Rattle.std.specs.Prelude.{◌≡◌, ◌*◌, ◌++◌, cond, IfOk, length, All, List};
-ghost use Rattle.decimal_input.specs.{IsDec};
+ghost use Rattle.std.specs.Prelude.{◌≡◌, IfOk, List};
 ghost use Rattle.outside.specs.{FileSet, ReadsOn};
 ghost use Rattle.record_lines.specs.{LinesMay, Gives};
-ghost use Rattle.lpf_package.specs.{AreLayers, properties_of, joined};
+ghost use Rattle.lpf_package.specs.{properties_of, joined};
 
-use array_reader::{layer_or, read_layer};
+use array_reader::{append, layer_or, read_layer};
 use decimal_input::dec::Dec;
 use model_types::Listed;
 use number_limits::is_positive;
@@ -43,12 +42,10 @@ pub fn properties_of<F: Folder>(
     folder: &mut F,
     layer: &Layer,
 ) -> Result<Properties, InputFault>
-    requires chani { IsDec layer.now.chani }
     requires lines { LinesMay (F.may folder.old) lines.old }
     ensures folder { ReadsOn F.Folder folder.old folder.new result }
     ensures lines { IfOk result (λ _. LinesMay (F.may folder.new) lines.new) }
     ensures properties { (files : FileSet) → F.agrees folder.new files → Gives (λ p. p) result lines.new (properties_of files file.now layer.now lines.old) }
-    ensures form { IfOk result (AreLayers (layer.now.rows * layer.now.cols) (cond layer.now.stores (layer.now.rows * layer.now.cols) 0)) }
 {
     let (rows, cols) = (layer.rows, layer.cols);
     let none = Dec {
@@ -82,14 +79,6 @@ pub fn properties_of<F: Folder>(
         ss: Listed::new(ss),
         vkcb: Listed::new(vkcb),
     })
-}
-
-fn append(list: Listed<Dec>, more: &[Dec]) -> Result<Listed<Dec>, AllocError>
-    ensures { IfOk result (λ l. l ≡ list ++ more.now) }
-{
-    let mut items = list.into_vec();
-    items.extend_from_slice(more)?;
-    Ok(Listed::new(items))
 }
 
 /// The arrays of a layer after those of the layers above it.

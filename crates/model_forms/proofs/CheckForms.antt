@@ -2,10 +2,10 @@
 use Rattle.model_forms.proofs.Common.{◌≡◌, ℕ, zero, suc, ◌+◌, ℤ, List, Option, Some, None, Result, Ok, refl, if◌then◌else◌, Code, Refusal, counted, Grid}
 use Rattle.model_forms.proofs.Common.{FlowModel, cell_count, layer_size, int_at, is_nonzero, at_cell, cell_step, checked, fault_at, Check, Area, cell_tested}
 use Rattle.model_forms.proofs.Common.{chosen_cell, column_tested, column_step, columns_tested, source, Gives, done, goes_on, ◌≤◌, pos, Bool, length, sum}
-use Rattle.model_forms.proofs.Common.{sum_by, All, sym, ap, subst, ◌∙◌, Dec, IsDec, Period, IsGrid, IsTimed, IsNewPeriod, with_properties, SameBut, Properties}
-use Rattle.model_forms.proofs.Common.{Thickness, StartHead, IsShort, IsOfBeds, IsDiscretized, HasFlow, Limits, IsGridWithin, evap_fault}
+use Rattle.model_forms.proofs.Common.{sum_by, All, sym, ap, subst, ◌∙◌, Dec, IsDec, Period, IsGrid, IsTimed, IsNewPeriod, with_properties, SameBut, Thickness}
+use Rattle.model_forms.proofs.Common.{StartHead, IsShort, IsOfBeds, IsDiscretized, HasFlow, Limits, IsGridWithin, evap_fault, IsStarted, HasBasics}
+use Rattle.lpf_package.specs.declared.layer.Properties.{Properties}
 use Rattle.cell_checks.specs.declared.passing.Check.TheVariants.{Properties as PropertyCheck}
-use Rattle.model_forms.proofs.DisForms.{HasBasics, IsStarted}
 
 -- where each step that is passed is passed otherwise too
 passed_again : (step other : ℕ → Unit {0} → Result (Unit {0}) Refusal) → ((i : ℕ) → step i tt ≡ Ok tt → other i tt ≡ Ok tt) → (n i : ℕ) → Gives (λ u. counted other i n tt ≡ Ok tt) (counted step i n tt)
@@ -91,14 +91,14 @@ flow_is limits b basic flow dis bas lpf started basics has same thick heads good
     let ibound : flow.ibound ≡ basic.ibound = ap (λ (m : FlowModel). m.ibound) same in
     let strt : flow.strt ≡ basic.strt = ap (λ (m : FlowModel). m.strt) same in
     let cells : cell_count b.grid ≡ cell_count flow.grid = ap (λ (g : Grid). cell_count g) (sym grid) in
-    let times : All IsTimed flow.periods = subst (λ (ps : List Period). All IsTimed ps) (sym periods) started.discretized.times in
+    let times : All IsTimed flow.periods = subst (λ (ps : List Period). All IsTimed ps) (sym periods) started.begun.discretized.times in
     record {
-      discretized = discretized_again b flow grid lenuni (ap (λ (ps : List Period). length ps) periods) (ap (λ (ps : List Period). sum_by (λ p. p.nstp) ps) periods) times started.discretized;
+      discretized = discretized_again b flow grid lenuni (ap (λ (ps : List Period). length ps) periods) (ap (λ (ps : List Period). sum_by (λ p. p.nstp) ps) periods) times started.begun.discretized;
       within = subst (λ (g : Grid). IsGridWithin limits g) (sym grid) started.within;
       ibound = ap (λ (zs : List ℤ). length zs) ibound ∙ basics.ibound ∙ cells;
       strt = (ap (λ (ds : List Dec). length ds) strt ∙ basics.strt.0 ∙ cells, subst (λ (ds : List Dec). All IsDec ds) (sym strt) basics.strt.1);
       flow = has;
       passed = all_passed basic flow dis bas lpf same thick heads good;
-      new = subst (λ (ps : List Period). All IsNewPeriod ps) (sym periods) started.new;
-      options = (nrchop ∙ ap (λ (m : FlowModel). m.nrchop) started.only, nevtop ∙ ap (λ (m : FlowModel). m.nevtop) started.only);
+      new = subst (λ (ps : List Period). All IsNewPeriod ps) (sym periods) started.begun.periods;
+      options = (nrchop ∙ ap (λ (m : FlowModel). m.nrchop) started.begun.new, nevtop ∙ ap (λ (m : FlowModel). m.nevtop) started.begun.new);
     }

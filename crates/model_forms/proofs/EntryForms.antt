@@ -2,12 +2,12 @@
 use Rattle.model_forms.proofs.Common.{◌≡◌, ℕ, suc, ◌-◌, ◌<◌, ◌≤◌, ℤ, Bool, true, false, cond, List, [], ◌∷◌, length, get_or, set, All, Option, Some, None, refl}
 use Rattle.model_forms.proofs.Common.{sym, ap, ◌∙◌, arith, AllPairs, get_or-set_same, get_or-set_other, length-set, length-replicate, All-nil, All-cons, Dec}
 use Rattle.model_forms.proofs.Common.{IsDec, refusal, words, Code, CellOutside, line_at, Left, number_at, number, integer, CellId, Grid, cell_count, HasSize}
-use Rattle.model_forms.proofs.Common.{Kind, first_fault, item_is, number_is, Gives, done, refused, goes_on, then_, if_clear, weaker, repeated_are}
-use Rattle.model_forms.proofs.Common.{repeated_gives, IsEntry, Limits, most_entries, inside, cell_at, passed, entry_of, is_left_out, entry_at, no_marks}
-use Rattle.model_forms.proofs.Common.{new_list, Differ}
+use Rattle.model_forms.proofs.Common.{Kind, first_fault, item_is, Gives, done, refused, goes_on, then_, if_clear, weaker, repeated_are, repeated_gives, IsEntry}
+use Rattle.model_forms.proofs.Common.{Limits, most_entries, inside, cell_at, passed, entry_of, is_left_out, entry_at, no_marks, new_list, Differ}
+use Rattle.array_text.proofs.NumberForms.{number_is}
 use Rattle.std.proofs.lemmas.List.Kept.{AllPairs-cons}
 use Rattle.model_types.proofs.Numbering.{cell_within}
-use Rattle.model_forms.proofs.FrameForms.{within_is}
+use Rattle.dis_package.proofs.FrameForms.{within_is}
 
 passed_is : (o : Option Code) (file : List ℕ) (line : ℕ) → Gives (λ u. o ≡ None) (passed o file line)
 passed_is None file line = done refl

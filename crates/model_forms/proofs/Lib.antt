@@ -1,8 +1,4 @@
 mod Common
-pub mod FrameForms
-pub mod GridForms
-pub mod DisForms
-pub mod LpfForms
 pub mod CheckForms
 pub mod EntryForms
 pub mod ListForms

@@ -3,8 +3,7 @@ use Rattle.model_forms.proofs.Common.{◌≡◌, ℕ, ◌≤◌, nat_le, ℤ, po
 use Rattle.model_forms.proofs.Common.{subst, ◌∙◌, leb-true, Dec, refusal, words, TooManyEntries, Refusal, line_at, Left, left_from, without_comments, number_at}
 use Rattle.model_forms.proofs.Common.{integer, CellId, Grid, FlowModel, Period, cell_count, HasSize, Count, entries, again, count_of, is_reused, has_parameters}
 use Rattle.model_forms.proofs.Common.{header_of, item_line, Kind, with_list, steps, goes_on, Gives, done, then_, if_clear, if_passed, IsListOf, Limits}
-use Rattle.model_forms.proofs.Common.{most_entries, list_of, list_at, lists_of, package_of}
-use Rattle.list_package.specs.{period_at, periods_of}
+use Rattle.model_forms.proofs.Common.{most_entries, list_of, list_at, lists_of, package_of, period_at, periods_of}
 use Rattle.model_forms.proofs.EntryForms.{IsNewList, no_list, new_list_is}
 use Rattle.model_forms.proofs.PeriodForms.{IsKnown, IsStage, each_are}
 

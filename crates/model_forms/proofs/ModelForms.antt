@@ -1,16 +1,18 @@
 -- A model that is read is writable.
 use Rattle.model_forms.proofs.Common.{pos, negsuc, nat_abs, ◌<◌, ◌^◌, arith, ◌≡◌, ◌⊎◌, inl, inr, ℕ, ℤ, Bool, not, ◌||◌, cond, List, [], ◌∷◌, map, sum, sum_by}
-use Rattle.model_forms.proofs.Common.{All, Ok, refl, sym, ap, subst, ◌∙◌, list_any, All-weaker, sum-map, FileSet, file_at, Pairs, Dis, Bas, Lpf, FlowModel}
-use Rattle.model_forms.proofs.Common.{Period, cell_count, IsTimed, is_transient, SameBut, checked, fault_at, Check, Thickness, StartHead, steps, same_count}
-use Rattle.model_forms.proofs.Common.{same_view, dis_in, basics_tested, bas_in, lpf_in, model_of, reads, Gives, done, goes_on, then_, weaker, IsShort, HasFlow}
+use Rattle.model_forms.proofs.Common.{All, Ok, refl, sym, ap, subst, ◌∙◌, list_any, All-weaker, FileSet, file_at, Pairs, Dis, Bas, Lpf, FlowModel, Period}
+use Rattle.model_forms.proofs.Common.{cell_count, IsTimed, is_transient, SameBut, checked, fault_at, Check, Thickness, StartHead, steps, same_count, same_view}
+use Rattle.model_forms.proofs.Common.{dis_in, basics_tested, bas_in, lpf_in, model_of, reads, Gives, done, goes_on, then_, weaker, IsShort, HasFlow}
 use Rattle.model_forms.proofs.Common.{IsRecharged, IsEvaporating, IsDry, IsStill, HasNoRecharge, HasNoEvaporation, IsWritable, Limits, good_names, model_reads}
-use Rattle.model_forms.proofs.Common.{most_bytes, names_in, needed, Wells, Rivers, Drains, Generals, deck_name, deck_names, IsReadAgain}
+use Rattle.model_forms.proofs.Common.{most_bytes, names_in, needed, Wells, Rivers, Drains, Generals, deck_name, deck_names, IsReadAgain, IsStarted, dis_is}
+use Rattle.model_forms.proofs.Common.{HasBasics}
+use Rattle.std.proofs.lemmas.List.Sums.{sum-map}
 use Rattle.cell_checks.specs.declared.passing.Check.TheVariants.{Properties as PropertyCheck}
-use Rattle.model_forms.proofs.DisForms.{HasBasics, bas_is, IsStarted, dis_is}
-use Rattle.model_forms.proofs.LpfForms.{lpf_is}
+use Rattle.lpf_package.proofs.LpfForms.{lpf_is}
 use Rattle.model_forms.proofs.PeriodForms.{IsKnown}
 use Rattle.model_forms.proofs.StageForms.{IsOption, IsStressed, first_stage, stresses_are}
 use Rattle.model_forms.proofs.CheckForms.{discretized_again, IsFlow, flow_is}
+use Rattle.bas_package.proofs.BasForms.{bas_is}
 
 -- a model with the stresses of a stage
 abbrev staged : FlowModel → ℤ → ℤ → List Period → FlowModel

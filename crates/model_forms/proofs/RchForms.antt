@@ -2,8 +2,8 @@
 use Rattle.model_forms.proofs.Common.{◌≡◌, ℕ, ℤ, pos, true, List, Ok, refl, sym, subst, FileSet, Grid, FlowModel, Period, HasSize, is_option, Area, Limits}
 use Rattle.model_forms.proofs.Common.{evaporation_arrays, evt_of, IsListOf, cell_count, Stresses, entries_in, kind_of, ListKind, Wells, recharge_arrays, rch_of}
 use Rattle.model_forms.proofs.Common.{map, All, words, Left, left_from, without_comments, item_line, steps, nothing_yet, InForce, Gives, done, goes_on, then_}
-use Rattle.model_forms.proofs.Common.{◌∙◌, ◌>>=◌, with_area, ArrayKind, contents, tested_area, unit_if, arrays_in}
-use Rattle.period_arrays.specs.{period_at, option_line, periods_of}
+use Rattle.model_forms.proofs.Common.{◌∙◌, ◌>>=◌, with_area, ArrayKind, contents, tested_area, unit_if, arrays_in, option_line}
+use Rattle.period_arrays.specs.{period_at, periods_of}
 use Rattle.model_forms.proofs.CheckForms.{columns_again}
 use Rattle.model_forms.proofs.PeriodForms.{IsKnown, IsStage, no_option, with_stresses, each_are}
 use Rattle.period_arrays.specs.declared.read.ArrayFile.{ArrayFile}

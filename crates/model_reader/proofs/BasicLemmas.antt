@@ -1,12 +1,12 @@
 -- A model that passed the checks behind BAS6.
-use Rattle.model_reader.proofs.Common.{◌≡◌, ℕ, List, ℤ, Ok, All, length, refl, sym, ap, subst, Dec, IsDec, FileSet, file_at, input_fault, TextFault, Stops}
-use Rattle.model_reader.proofs.Common.{StopsText, FlowModel, IsGrid, cell_count, checked, Thickness, StartHead, each_passed, IsBasic, bas_in, basics_tested}
-use Rattle.model_reader.proofs.Common.{◌+◌, ◌<◌, Result, ◌>>=◌, Has, stress_in, with_stresses, ◌∙◌, drop, drop-cons, get_or, add-one, ReadsOn, ◌≤◌, pos, Bool}
-use Rattle.model_reader.proofs.Common.{true, false, not, cond, ◌&&◌, ◌==◌, [], ◌∷◌, Some, None, or_parts, IsTimed, IsPeriod, IsEvapValid, is_transient}
-use Rattle.model_reader.proofs.Common.{InputCounts, is_chosen, evap_source, evap_sources, period_at, stops_all}
+use Rattle.model_reader.proofs.Common.{◌≡◌, ℕ, List, ℤ, Ok, All, length, refl, sym, ap, subst, FileSet, file_at, input_fault, TextFault, Stops, StopsText}
+use Rattle.model_reader.proofs.Common.{FlowModel, IsGrid, checked, Thickness, StartHead, each_passed, IsBasic, bas_in, basics_tested, ◌+◌, ◌<◌, Result, ◌>>=◌}
+use Rattle.model_reader.proofs.Common.{Has, stress_in, with_stresses, ◌∙◌, drop, drop-cons, get_or, add-one, ReadsOn, ◌≤◌, pos, Bool, true, false, not, cond}
+use Rattle.model_reader.proofs.Common.{◌&&◌, ◌==◌, [], ◌∷◌, Some, None, or_parts, IsTimed, IsPeriod, IsEvapValid, is_transient, InputCounts, is_chosen}
+use Rattle.model_reader.proofs.Common.{evap_source, evap_sources, period_at, stops_all}
 use Rattle.name_file.specs.Pairs.{Pairs}
 use Rattle.dis_package.specs.{IsBegun, IsNewPeriod, without_stresses}
-use Rattle.bas_package.specs.{bas_of, with_basics}
+use Rattle.bas_package.specs.{bas_of, with_basics, HasBasics}
 use Rattle.outside.specs.declared.inputs.Refusal.{Refusal}
 use Rattle.outside.specs.declared.traits.Folder.{Ghosts as FolderOf}
 use Rattle.outside.specs.declared.inputs.InputFault.{InputFault}
@@ -58,29 +58,25 @@ pub stresses_done : (limits : Limits) (files : FileSet) (names : Pairs) (ks : Li
 unfolding with_stresses
 stresses_done limits files names ks i m r le so_far = let none : with_stresses limits files names (drop i ks) m ≡ Ok m = rw (drop_all i ks le) refl in sym so_far ∙ none
 
-basics : (b : FlowModel) (ibound : List ℤ) (strt : List Dec) (dis bas : List ℕ) → IsBegun b → length ibound ≡ cell_count b.grid → length strt ≡ cell_count b.grid → All IsDec strt
-    → checked (with_basics b ibound strt) dis Thickness ≡ Ok tt → checked (with_basics b ibound strt) bas StartHead ≡ Ok tt → IsBasic (with_basics b ibound strt)
-basics b ibound strt dis bas h cells heads decimals thick found = record {
-  grid = h.grid;
-  ibound = cells;
-  strt = (heads, decimals);
-  thick = each_passed (with_basics b ibound strt) dis Thickness thick;
-  heads = each_passed (with_basics b ibound strt) bas StartHead found;
-  nrchop = ap (λ m. m.nrchop) h.new;
-  nevtop = ap (λ m. m.nevtop) h.new;
-  some = h.some;
-  few = h.few;
-  steps = h.steps;
-  periods = h.periods;
-}
+pub grid_kept : (b m : FlowModel) → HasBasics b m → IsBegun b → IsGrid m.grid
+grid_kept b m has h = subst (λ x. IsGrid x.grid) (sym has.only) h.discretized.grid
 
-pub grid_kept : (b m : FlowModel) (ibound : List ℤ) (strt : List Dec) → m ≡ with_basics b ibound strt → IsBegun b → IsGrid m.grid
-grid_kept b m ibound strt e h = subst (λ x. IsGrid x.grid) (sym e) h.grid
-
-pub basic_of : (b m : FlowModel) (dis bas : List ℕ) → IsBegun b → m ≡ with_basics b m.ibound m.strt → length m.ibound ≡ cell_count b.grid → length m.strt ≡ cell_count b.grid → All IsDec m.strt
-    → checked m dis Thickness ≡ Ok tt → checked m bas StartHead ≡ Ok tt → IsBasic m
-basic_of b m dis bas h e cells heads decimals thick found =
-    subst IsBasic (sym e) (basics b m.ibound m.strt dis bas h cells heads decimals (subst (λ x. checked x dis Thickness ≡ Ok tt) e thick) (subst (λ x. checked x bas StartHead ≡ Ok tt) e found))
+pub basic_of : (b m : FlowModel) (dis bas : List ℕ) → IsBegun b → HasBasics b m → checked m dis Thickness ≡ Ok tt → checked m bas StartHead ≡ Ok tt → IsBasic m
+basic_of b m dis bas h has thick found =
+    let n : FlowModel = with_basics b m.ibound m.strt in
+    subst IsBasic (sym has.only) (record {
+      grid = h.discretized.grid;
+      ibound = has.ibound;
+      strt = has.strt;
+      thick = each_passed n dis Thickness (subst (λ x. checked x dis Thickness ≡ Ok tt) has.only thick);
+      heads = each_passed n bas StartHead (subst (λ x. checked x bas StartHead ≡ Ok tt) has.only found);
+      nrchop = ap (λ m. m.nrchop) h.new;
+      nevtop = ap (λ m. m.nevtop) h.new;
+      some = h.discretized.some;
+      few = h.discretized.few;
+      steps = h.discretized.steps;
+      periods = h.periods;
+    })
 
 -- the file, its reading and its tests, one behind the other
 pub bas_read : (files : FileSet) (dis bas bytes : List ℕ) (begun read basic tested : FlowModel)

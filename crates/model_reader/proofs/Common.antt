@@ -6,9 +6,7 @@ pub use Rattle.std.proofs.lemmas.Result.{err_from_is_err_and}
 pub use Rattle.cell_checks.proofs.PassedCells.{each_passed}
 pub use Rattle.cell_checks.specs.{checked, has_good_properties, is_checked_bed}
 pub use Rattle.cell_checks.specs.declared.passing.Check.TheVariants.{Properties, StartHead, Thickness}
-pub use Rattle.decimal_input.specs.{IsDec, number}
-pub use Rattle.decimal_input.specs.declared.dec.Dec.{Dec}
-pub use Rattle.lpf_package.specs.{HasProperties, SameBut, is_transient, lpf_of, with_properties}
+pub use Rattle.lpf_package.specs.{HasFlow, SameBut, is_transient, lpf_of, with_properties}
 pub use Rattle.model_reader.specs.{IsBasic, basics_tested, stress_in, stresses}
 unfoldable pub use Rattle.model_reader.specs.{bas_in, lpf_in, model_of, with_stresses}
 pub use Rattle.model_types.specs.{IsBedChecked, IsBedValid, IsCellValid, IsEvapValid, IsGrid, IsModel, IsPeriod, IsTimed, bottom_at, cell_count, dec_at}

@@ -1,9 +1,11 @@
 -- A model that passed the checks behind LPF.
 use Rattle.model_reader.proofs.Common.{◌≡◌, ◌⊎◌, inl, inr, ℕ, ◌+◌, ◌<◌, ℤ, pos, ◌≤ℤ◌, Bool, true, false, not, cond, ◌&&◌, ◌||◌, nat_le, nat_lt, List, Ok, All}
-use Rattle.model_reader.proofs.Common.{length, refl, sym, ap, subst, arith, and_parts, not-true, lt-leb, lt-ltb, Dec, IsDec, number, FileSet, file_at}
-use Rattle.model_reader.proofs.Common.{input_fault, TextFault, Stops, StopsText, FlowModel, IsGrid, layer_size, cell_count, IsModel, IsCellValid, IsBedValid}
-use Rattle.model_reader.proofs.Common.{IsBedChecked, checked, Properties, each_passed, is_transient, lpf_of, with_properties, SameBut, IsBasic, lpf_in}
-use Rattle.model_reader.proofs.Common.{is_checked_bed, has_good_properties, dec_at, is_active, has_bed, top_at, bottom_at, lowest, HasProperties}
+use Rattle.model_reader.proofs.Common.{length, refl, sym, ap, subst, arith, and_parts, not-true, lt-leb, lt-ltb, FileSet, file_at, input_fault, TextFault}
+use Rattle.model_reader.proofs.Common.{Stops, StopsText, FlowModel, IsGrid, layer_size, cell_count, IsModel, IsCellValid, IsBedValid, IsBedChecked, checked}
+use Rattle.model_reader.proofs.Common.{Properties, each_passed, is_transient, lpf_of, with_properties, SameBut, IsBasic, lpf_in, is_checked_bed}
+use Rattle.model_reader.proofs.Common.{has_good_properties, dec_at, is_active, has_bed, top_at, bottom_at, lowest, HasFlow}
+use Rattle.decimal_input.specs.declared.dec.Dec.{Dec}
+use Rattle.decimal_input.specs.{IsDec, number}
 use Rattle.std.proofs.lemmas.Int.{ints}
 use Rattle.number_limits.specs.{is_thick, is_positive, is_same_number}
 use Rattle.number_limits.proofs.Canonical.{dec_at_is}
@@ -37,7 +39,7 @@ has_hani m c = is_positive (dec_at m.hani c) && has_vka m c
 -- a model with its properties, whose checks passed
 pub record IsPassed (m : FlowModel) : Type 0 where
   pub basic : IsBasic m
-  pub properties : HasProperties m
+  pub properties : HasFlow m
   pub good : (c : ℕ) → c < cell_count m.grid → is_active m c ≡ true → has_good_properties m c ≡ true
 
 cell : (m : FlowModel) → IsPassed m → (c : ℕ) → c < cell_count m.grid → is_active m c ≡ true → IsCellValid m c
@@ -84,7 +86,7 @@ bed_of m h c lt active below bed = by_case (is_same_number (bottom_at m c) (lowe
     by_case true e = inl (one_number (bottom_at m c) (lowest m c) e)
     by_case false e = inr (good_bed m h c (omega (arith, lt)) active (checked_bed m c lt below bed e))
 
-storage : (m : FlowModel) → HasProperties m → All (λ p. p.steady ≡ true) m.periods ⊎ (length m.ss ≡ cell_count m.grid)
+storage : (m : FlowModel) → HasFlow m → All (λ p. p.steady ≡ true) m.periods ⊎ (length m.ss ≡ cell_count m.grid)
 storage m h = by_case (is_transient m.periods) refl h.ss.0
   where
     by_case : (b : Bool) → is_transient m.periods ≡ b → length m.ss ≡ cond b (cell_count m.grid) 0 → All (λ p. p.steady ≡ true) m.periods ⊎ (length m.ss ≡ cell_count m.grid)
@@ -99,7 +101,7 @@ model m h = record {
   grid = h.basic.grid;
   ibound = h.basic.ibound;
   strt = h.basic.strt.0;
-  layvka = h.properties.layvka;
+  layvka = h.properties.layvka.0;
   hk = h.properties.hk.0;
   hani = h.properties.hani.0;
   vka = h.properties.vka.0;
@@ -125,7 +127,7 @@ grid_kept b m e h = subst (λ x. IsGrid x.grid) (sym e) h.grid
 pub heads_kept : (b m : FlowModel) → SameBut b m → IsBasic b → All IsDec m.strt
 heads_kept b m e h = subst (λ x. All IsDec x.strt) (sym e) h.strt.1
 
-pub model_of : (b m : FlowModel) (lpf : List ℕ) → IsBasic b → SameBut b m → HasProperties m → checked m lpf Properties ≡ Ok tt → IsModel m
+pub model_of : (b m : FlowModel) (lpf : List ℕ) → IsBasic b → SameBut b m → HasFlow m → checked m lpf Properties ≡ Ok tt → IsModel m
 model_of b m lpf h e properties good = model m (record { basic = subst IsBasic (sym e) (still_basic b m.coefficient m.layvka _ h); properties = properties; good = each_passed m lpf Properties good })
 
 -- the file, its reading and its test, one behind the other

@@ -11,15 +11,15 @@ use Rattle.stress_packages.specs.{rch_of, recharge_arrays, wells, rivers, drains
 use Rattle.evt_package.specs.{evaporation_arrays, evt_of}
 use Rattle.array_text.specs.{text}
 use Rattle.model_text.specs.Lists.{rch_lines, evt_lines, numbers_of, heads_of, list_lines}
-use Rattle.model_text.specs.Readable.{IsRecharged, IsEvaporating, with_areas, IsDiscretized, IsGridWithin, IsBasic, HasFlow}
+use Rattle.model_text.specs.Readable.{IsRecharged, IsEvaporating, with_areas, IsBasic}
+use Rattle.dis_package.specs.{IsDiscretized, IsGridWithin, begun, dis_of, without_stresses}
+use Rattle.lpf_package.specs.{HasFlow, with_properties, lpf_of}
 use Rattle.std.specs.List.{AllZip, AllPairs}
 use Rattle.decimal_input.specs.declared.dec.Dec.{Dec}
 use Rattle.model_types.specs.declared.grid.Grid.{Grid}
 use Rattle.model_types.specs.declared.period.Period.{Period}
 use Rattle.list_package.specs.{given_heads, Kind, lists_of, first_fault, with_list, Differ}
-use Rattle.dis_package.specs.{begun, dis_of, without_stresses}
 use Rattle.bas_package.specs.{with_basics, bas_of}
-use Rattle.lpf_package.specs.{with_properties, lpf_of}
 use Rattle.model_text.specs.Discretization.{dis_lines, bas_lines, lpf_lines}
 use Rattle.cell_checks.specs.{checked}
 use Rattle.cell_checks.specs.declared.passing.Check.{Check}

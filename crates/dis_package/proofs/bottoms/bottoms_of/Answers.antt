@@ -1,4 +1,4 @@
-use Rattle.dis_package.proofs.Common.{◌∙◌, arith, err_from_is_err_and, bottoms_of, step_goes_on, steps_stop, steps_done}
+use Rattle.dis_package.proofs.Common.{◌∙◌, err_from_is_err_and, bottoms_of, step_goes_on, steps_stop, steps_done}
 use Rattle.dis_package.proofs.bottoms.bottoms_of.Goals as goal
 
 pub returns-in_err-more-clause-bottoms : goal.returns-in_err-more-clause-bottoms
@@ -13,11 +13,7 @@ loop-k-preserved g c = (
       step_goes_on _ c.args.count c.loop-k.k _ _ _ c.loop-k-test.true (c.in_ok-more.ensures.bottoms files agree) (c.loop-k.invariant.0 files (c.in_ok-more.ensures.folder.since files agree))),
   (λ files agree. c.loop-k.invariant.1 files (c.in_ok-more.ensures.folder.since files agree)),
   c.in_ok-more.ensures.folder.counts ∙ c.loop-k.invariant.2,
-  grind arith,
-  grind arith,
-  c.in_ok-more.ensures.canonical.0,
-  c.in_ok-more.ensures.canonical.1,
-  (λ name h. c.in_ok-more.ensures.folder.still name (c.loop-k.invariant.7 name h)),
+  (λ name h. c.in_ok-more.ensures.folder.still name (c.loop-k.invariant.3 name h)),
   c.in_ok-more.ensures.lines,
 )
 

@@ -1,4 +1,4 @@
-use Rattle.dis_package.proofs.Common.{◌≡◌, ℕ, ◌-◌, ◌*◌, length, [], All, FileSet, IsDec, LinesMay, counted, bottom_at}
+use Rattle.dis_package.proofs.Common.{◌≡◌, ℕ, ◌-◌, [], FileSet, LinesMay, counted, bottom_at}
 use Rattle.std.specs.Prelude.{List}
 use Rattle.dis_package.proofs.bottoms.bottoms_of.Given as goal
 
@@ -7,6 +7,4 @@ invariant-loop-k g l =
     ((files : FileSet) → g.F.Folder.agrees l.folder files → counted (bottom_at files l.file l.size l.laycbd) l.k (l.count - l.k) (l.bottoms, l.lines)
     ≡ counted (bottom_at files l.file l.size l.laycbd) 0 l.count (record { layers = []; beds = [] }, l.fn.lines))
     × ((files : FileSet) → g.F.Folder.agrees l.folder files → g.F.Folder.agrees l.fn.folder files) × (g.F.Folder.faults l.folder ≡ g.F.Folder.faults l.fn.folder)
-    × (length l.bottoms.layers ≡ l.k * (l.size.rows * l.size.cols)) × (length l.bottoms.beds ≡ l.k * (l.size.rows * l.size.cols))
-    × All IsDec l.bottoms.layers × All IsDec l.bottoms.beds
     × ((name : List ℕ) → g.F.Folder.may l.fn.folder name → g.F.Folder.may l.folder name) × LinesMay (g.F.Folder.may l.folder) l.lines

@@ -1,12 +1,15 @@
-use Rattle.dis_package.proofs.Common.{rules, ◌≡◌, ◌∙◌, ap, refl, err_from_is_err_and, LinesMay, without_comments, begun_held, begun}
+use Rattle.dis_package.proofs.Common.{rules, ◌≡◌, ◌∙◌, ap, err_from_is_err_and, LinesMay, without_comments, begun_held, begun}
 use Rattle.dis_package.proofs.Forward.{head_leaves}
+use Rattle.array_text.proofs.WordTexts.{some_give}
+use Rattle.dis_package.proofs.DisForms.{dis_is}
+use Rattle.dis_package.proofs.FrameForms.{frame_is}
 use Rattle.dis_package.proofs.ModelLemmas.{dis_read, dis_stops, head_read}
 use Rattle.dis_package.proofs.grid.read_dis.Goals as goal
 
-pub grid_of-requires-clause-lines : goal.grid_of-requires-clause-lines
-grid_of-requires-clause-lines g c =
+pub grid_of-requires : goal.grid_of-requires
+grid_of-requires g c =
     let begun : LinesMay (g.F.Folder.may c.args.folder.now) c.skip_comments.new.self = rw (c.skip_comments.ensures, c.new-lines.ensures) (begun_held _ _ c.requires.text) in
-    head_leaves c.args.limits _ _ _ _ _ (head_read c.args.limits c.args.file.now _ _ _ _ _ c.in_ok-frame.frame c.in_ok-laycbd.laycbd.items c.in_ok-line.ensures c.of-words.ensures c.in_ok-frame.ensures.frame c.in_ok-laycbd.ensures.beds) begun
+    record { lines = head_leaves c.args.limits _ _ _ _ _ (head_read c.args.limits c.args.file.now _ _ _ _ _ c.in_ok-frame.frame c.in_ok-laycbd.laycbd.items c.in_ok-line.ensures c.of-words.ensures c.in_ok-frame.ensures.frame c.in_ok-laycbd.ensures.beds) begun }
 
 pub returns-in_err-periods-clause-model : goal.returns-in_err-periods-clause-model
 returns-in_err-periods-clause-model g c = λ files agree.
@@ -19,13 +22,7 @@ returns-clause-model g c = λ files agree.
     dis_read c.args.limits files _ _ _ _ _ _ _ (c.skip_comments.ensures ∙ ap without_comments c.new-lines.ensures) (head_read c.args.limits c.args.file.now _ _ _ _ _ c.in_ok-frame.frame c.in_ok-laycbd.laycbd.items c.in_ok-line.ensures c.of-words.ensures c.in_ok-frame.ensures.frame c.in_ok-laycbd.ensures.beds) (c.in_ok-grid.ensures.grid files agree) c.in_ok-periods.ensures.periods made
 
 pub returns-clause-form : goal.returns-clause-form
-returns-clause-form g c =
-    let made : c.begun_model.result ≡ begun c.in_ok-grid.grid c.in_ok-frame.frame.lenuni c.in_ok-periods.periods.items = search rules in
-    rw made (record {
-      grid = c.in_ok-grid.ensures.form;
-      some = rw c.in_ok-periods.ensures.count c.in_ok-frame.ensures.limits.periods.0;
-      few = rw c.in_ok-periods.ensures.count c.in_ok-frame.ensures.limits.periods.1;
-      steps = c.in_ok-periods.ensures.steps;
-      periods = c.in_ok-periods.ensures.form;
-      new = refl;
-    })
+returns-clause-form g c = (some_give (λ files. dis_is c.args.limits files c.args.file.now c.args.bytes.now) c.some_agree.ensures (returns-clause-model g c)).begun
+
+pub beds_of-requires : goal.beds_of-requires
+beds_of-requires g c = ((frame_is c.args.file.now _ c.args.limits _).gives _ c.in_ok-frame.ensures.frame).0.size.layers.0

@@ -1,4 +1,4 @@
-use Rattle.dis_package.proofs.Common.{◌≡◌, Bool, true, false, List, ℕ, Option, Some, None, codes, sym, ap, refl, ◌∙◌, if◌then◌else◌, is_word, kind_of}
+use Rattle.dis_package.proofs.Common.{◌≡◌, Bool, true, false, Option, Some, None, codes, sym, ap, refl, ◌∙◌, if◌then◌else◌, is_word, kind_of}
 use Rattle.dis_package.proofs.periods.kind_of.Goals as goal
 
 -- the kind by whether the word is SS and whether it is TR

@@ -1,8 +1,7 @@
-use Rattle.dis_package.proofs.Common.{◌≡◌, ◌-◌, ◌≤◌, length, All, sum_by, repeated, with_front, IsNewPeriod, period_at}
+use Rattle.dis_package.proofs.Common.{◌≡◌, ◌-◌, ◌≤◌, repeated, with_front, period_at}
 use Rattle.dis_package.proofs.periods.periods_of.Given as goal
 
 abbrev pub invariant-loop : goal.invariant-loop
 invariant-loop l =
     (with_front l.periods.items (repeated (l.count - l.counter) (period_at l.file) (l.steps, l.lines)) ≡ repeated l.count (period_at l.file) (0, l.fn.lines))
-    × (length l.periods.items ≡ l.counter) × (l.steps ≤ 100000)
-    × (sum_by (λ p. p.nstp) l.periods.items ≡ l.steps) × All IsNewPeriod l.periods.items
+    × (l.steps ≤ 100000)

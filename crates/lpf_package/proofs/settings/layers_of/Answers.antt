@@ -15,8 +15,7 @@ loop-k-preserved g c = (
       step_goes_on _ c.args.count c.loop-k.k _ _ _ c.loop-k-test.true (c.in_ok-more.ensures.properties files agree) (c.loop-k.invariant.0 files (c.in_ok-more.ensures.folder.since files agree))),
   (λ files agree. c.loop-k.invariant.1 files (c.in_ok-more.ensures.folder.since files agree)),
   c.in_ok-more.ensures.folder.counts ∙ c.loop-k.invariant.2,
-  c.in_ok-more.ensures.form,
-  (λ name h. c.in_ok-more.ensures.folder.still name (c.loop-k.invariant.4 name h)),
+  (λ name h. c.in_ok-more.ensures.folder.still name (c.loop-k.invariant.3 name h)),
   c.in_ok-more.ensures.lines,
 )
 

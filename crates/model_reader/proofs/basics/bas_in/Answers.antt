@@ -3,7 +3,10 @@ use Rattle.model_reader.proofs.BasicLemmas.{bas_read, bas_refused, basic_of, gri
 use Rattle.model_reader.proofs.basics.bas_in.Goals as goal
 
 pub basics_tested-requires-clause-grid : goal.basics_tested-requires-clause-grid
-basics_tested-requires-clause-grid g c = grid_kept c.in_ok-bytes.begun c.in_ok-basic.basic _ _ c.in_ok-basic.ensures.others (rw c.in_ok-bytes.ensures.same c.requires.begun)
+basics_tested-requires-clause-grid g c = grid_kept c.in_ok-bytes.begun c.in_ok-basic.basic c.in_ok-basic.ensures.form (rw c.in_ok-bytes.ensures.same c.requires.begun)
+
+pub basics_tested-requires-clause-strt : goal.basics_tested-requires-clause-strt
+basics_tested-requires-clause-strt g c = c.in_ok-basic.ensures.form.strt.1
 
 pub returns-in_err-tested-clause-model : goal.returns-in_err-tested-clause-model
 returns-in_err-tested-clause-model g c = λ files agree.
@@ -14,4 +17,4 @@ pub returns-clause-model : goal.returns-clause-model
 returns-clause-model g c = λ files agree. bas_read files _ _ _ _ _ _ _ (c.in_ok-bytes.ensures.bytes files (c.in_ok-basic.ensures.folder.since files agree)) c.in_ok-bytes.ensures.same (rw c.deref.ensures.value at (c.in_ok-basic.ensures.model files agree)) c.in_ok-tested.ensures.tests c.in_ok-tested.ensures.same
 
 pub returns-clause-form : goal.returns-clause-form
-returns-clause-form g c = rw c.in_ok-tested.ensures.same (basic_of c.in_ok-bytes.begun c.in_ok-basic.basic c.args.dis.now c.args.name.now (rw c.in_ok-bytes.ensures.same c.requires.begun) c.in_ok-basic.ensures.others c.in_ok-basic.ensures.ibound c.in_ok-basic.ensures.strt c.in_ok-basic.ensures.canonical (rw c.in_ok-tested.ensures.same at c.in_ok-tested.ensures.thickness) (rw c.in_ok-tested.ensures.same at c.in_ok-tested.ensures.heads))
+returns-clause-form g c = rw c.in_ok-tested.ensures.same (basic_of c.in_ok-bytes.begun c.in_ok-basic.basic c.args.dis.now c.args.name.now (rw c.in_ok-bytes.ensures.same c.requires.begun) c.in_ok-basic.ensures.form (rw c.in_ok-tested.ensures.same at c.in_ok-tested.ensures.thickness) (rw c.in_ok-tested.ensures.same at c.in_ok-tested.ensures.heads))

@@ -1,13 +1,24 @@
 -- What is read of the first line and of LAYCBD.
-use Rattle.model_forms.proofs.Common.{◌≡◌, ℕ, ◌-◌, ◌*◌, ◌<◌, ◌≤◌, ◌==◌, nat_lt, nat_le, suc, Bool, true, false, ◌&&◌, List, [], ◌∷◌, ◌++◌, length, All, Some}
-use Rattle.model_forms.proofs.Common.{None, refl, arith, ℤ, pos, negsuc, if◌then◌else◌, and_parts, leb-true, ltb-true, eqb-true, not-false, length-append}
-use Rattle.model_forms.proofs.Common.{All-push, refusal, words, BadGrid, Refusal, line_at, Left, number_at, value_at, value_alone, integer, int_at, is_nonzero}
-use Rattle.model_forms.proofs.Common.{within, zero_at, head_of, IsSize, IsFrame, count_at, size_at, frame_of, Size, IsShort, item_is, value_is, integer_is}
-use Rattle.model_forms.proofs.Common.{Gives, done, refused, goes_on, then_, if_passed, if_clear, repeated_are, Limits, most_layers, most_in_row, most_cells}
-use Rattle.model_forms.proofs.Common.{beds_of, Taking, beginning}
+use Rattle.dis_package.proofs.Common.{◌≡◌, ℕ, ◌-◌, ◌*◌, ◌<◌, ◌≤◌, ◌==◌, nat_lt, nat_le, suc, Bool, true, false, ◌&&◌, List, [], ◌∷◌, ◌++◌, length, All}
+use Rattle.dis_package.proofs.Common.{Some, None, refl, arith, ℤ, pos, negsuc, if◌then◌else◌, and_parts, leb-true, ltb-true, eqb-true, not-false, All-push}
+use Rattle.dis_package.proofs.Common.{refusal, words, BadGrid, line_at, Left, Taking, beginning, number_at, value_at, value_alone, integer, zero_at}
+use Rattle.dis_package.proofs.Common.{int_at, is_nonzero, most_layers, most_in_row, most_cells, within, head_of, IsSize, IsFrame, count_at, size_at}
+use Rattle.dis_package.proofs.Common.{frame_of, beds_of, inside, Size, IsShort, Gives, item_is, value_is, integer_is, done, refused, goes_on, then_}
+use Rattle.dis_package.proofs.Common.{if_passed, if_clear, repeated_are, Limits}
+use Rattle.std.proofs.lemmas.List.{length-append}
+use Rattle.outside.specs.declared.inputs.Refusal.{Refusal}
 use Rattle.model_types.proofs.WideLimits.{layers_few, in_row_few, cells_few}
-use Rattle.dis_package.specs.{inside}
-use Rattle.dis_package.proofs.BedLemmas.{last_of}
+
+-- The last layer has no bed.
+
+at_end : (above : List ℤ) (z : ℤ) → int_at (above ++ z ∷ []) (length above) ≡ z
+at_end [] z = refl
+at_end (x ∷ above) z = at_end above z
+
+pub last_of : (above all : List ℤ) (z : ℤ) (layers : ℕ) → 1 ≤ layers → length above ≡ layers - 1 → all ≡ above ++ z ∷ [] → z ≡ pos 0 → int_at all (layers - 1) ≡ pos 0
+last_of above all z layers some count is zero =
+    let k : layers - 1 ≡ length above = grind arith in
+    rw (is, k, at_end above z) zero
 
 -- a count from 1 to a limit
 abbrev pub IsCount : ℕ → ℕ → Type 0
@@ -70,7 +81,7 @@ module _ (file : List ℕ) where
           record { layers = layers.1; rows = rows.1; cols = cols.1; cells = cells },
         )))))
 
-    frame_is : (limits : Limits) (ws : List (List ℕ)) → Gives (λ f. IsFrame f × IsShort f.lenuni × IsSizeWithin limits f.size) (frame_of limits file line ws)
+    pub frame_is : (limits : Limits) (ws : List (List ℕ)) → Gives (λ f. IsFrame f × IsShort f.lenuni × IsSizeWithin limits f.size) (frame_of limits file line ws)
     unfolding frame_of
     frame_is limits ws =
         then_ _ (size_is limits ws) (λ s size. then_ _ (count_is 1000 s.1) (λ n periods. goes_on (number_at integer file line n.1) _ (λ t e. then_ _ (item_is integer IsShort integer_is file line t.1)

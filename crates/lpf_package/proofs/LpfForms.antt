@@ -1,13 +1,23 @@
--- What a file of the layer-property flow package gives can be written.
-use Rattle.model_forms.proofs.Common.{◌≡◌, ℕ, ◌*◌, Bool, true, false, cond, List, length, All, Ok, refl, arith, IsDec, FileSet, Left, left_from}
-use Rattle.model_forms.proofs.Common.{without_comments, Grid, FlowModel, cell_count, layer_size, zero_list, is_transient, contents_of, with_contents, lpf_of}
-use Rattle.model_forms.proofs.Common.{SameBut, layers_of, lists, Gives, done, goes_on, then_, IsShort, HasFlow, ◌+◌, not, [], replicate, if◌then◌else◌, All-nil}
-use Rattle.model_forms.proofs.Common.{All-append, Dec, real_layer, no_number, is_positive, no_number_is, dec_at_is, storage_layer, properties_of, nth_layer}
-use Rattle.model_forms.proofs.Common.{layer_at, Properties, settings_of}
-use Rattle.lpf_package.specs.{option_line}
+-- What a file of the layer-property flow package gives.
+use Rattle.lpf_package.proofs.Common.{◌≡◌, ℕ, ◌*◌, Bool, true, false, cond, List, length, All, Ok, refl, arith, ◌+◌, not, [], replicate, FileSet, Left}
+use Rattle.lpf_package.proofs.Common.{left_from, without_comments, zero_list, real_layer, is_transient, contents_of, with_contents, lpf_of, SameBut}
+use Rattle.lpf_package.proofs.Common.{layers_of, storage_layer, properties_of, nth_layer, layer_at, settings_of, HasFlow, option_line, if◌then◌else◌}
+use Rattle.lpf_package.proofs.Common.{Settings}
+use Rattle.decimal_input.specs.{IsDec}
+use Rattle.model_types.specs.declared.grid.Grid.{Grid}
+use Rattle.model_types.specs.declared.model.FlowModel.{FlowModel}
+use Rattle.model_types.specs.{cell_count, layer_size, no_number}
+use Rattle.array_text.proofs.ArrayForms.{lists}
+use Rattle.array_text.specs.{Gives, IsShort}
+use Rattle.array_text.proofs.WordTexts.{done, goes_on, then_, weaker}
+use Rattle.std.proofs.lemmas.List.Elements.{All-nil, All-append}
+use Rattle.decimal_input.specs.declared.dec.Dec.{Dec}
+use Rattle.number_limits.specs.{is_positive}
+use Rattle.number_limits.proofs.Canonical.{no_number_is, dec_at_is}
+use Rattle.lpf_package.specs.declared.layer.Properties.{Properties}
+use Rattle.array_text.proofs.LayerForms.{layer_is, layer_or_is, counted_gives, one_more, AreLayers, no_layers, one_more_layer}
 use Rattle.lpf_package.specs.declared.model.Contents.{Contents}
-use Rattle.lpf_package.specs.declared.settings.Settings.{Settings}
-use Rattle.model_forms.proofs.GridForms.{layer_is, layer_or_is, IsBedLayer, counted_gives, one_more, AreLayers, no_layers, one_more_layer}
+use Rattle.dis_package.proofs.GridForms.{IsBedLayer}
 use Rattle.lpf_package.specs.declared.layer.Layer.{Layer}
 
 -- What is read of the properties of layers.
@@ -114,3 +124,6 @@ module _ (files : FileSet) (file : List ℕ) where
   pub lpf_is : (bytes : List ℕ) (m : FlowModel) → Gives (λ n. HasFlow n × SameBut m n) (lpf_of files file bytes m)
   unfolding lpf_of
   lpf_is bytes m = then_ _ (contents_are bytes m.grid (is_transient m.periods)) (λ c are. done (has_flow m c are, refl))
+
+  pub flow_is : (bytes : List ℕ) (m : FlowModel) → Gives HasFlow (lpf_of files file bytes m)
+  flow_is bytes m = weaker (lpf_is bytes m) (λ n is. is.0)

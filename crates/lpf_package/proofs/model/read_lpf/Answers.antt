@@ -1,0 +1,9 @@
+use Rattle.std.proofs.Common.{rules}
+use Rattle.array_text.proofs.WordTexts.{some_give}
+use Rattle.lpf_package.specs.{lpf_of}
+use Rattle.lpf_package.proofs.LpfForms.{flow_is}
+use Rattle.lpf_package.proofs.model.read_lpf.Goals as goal
+
+pub returns-clause-form : goal.returns-clause-form
+unfolding lpf_of
+returns-clause-form g c = some_give (λ files. flow_is files c.args.file.now c.args.bytes.now c.args.model) c.some_agree.ensures (search rules)
