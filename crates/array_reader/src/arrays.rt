@@ -1,4 +1,4 @@
-ghost use Rattle.std.specs.Prelude.{◌≡◌, ◌*◌, length, IfOk, All, List};
+ghost use Rattle.std.specs.Prelude.{◌≡◌, IfOk, List};
 ghost use Rattle.outside.specs.{FileSet, ReadsOn};
 ghost use Rattle.record_lines.specs.{LinesMay, Gives};
 ghost use Rattle.array_reader.specs.{values_of, array_at, ControlMay, control_of, Has_good};
@@ -30,8 +30,6 @@ fn values_of<V: Value, F: Folder>(
     ensures values { (files : FileSet) → F.agrees folder.new files →
         Gives (λ v. v.items) result lines.new
         (values_of V.kind files file.now rows cols lines.old (control_of control.now)) }
-    ensures good { IfOk result (λ v. All V.Good v.items) }
-    ensures count { IfOk result (λ v. length v.items ≡ rows * cols) }
 {
     match *control {
         Control::Constant(value) => {
@@ -62,8 +60,6 @@ pub fn read_array<V: Value, F: Folder>(
     ensures lines { IfOk result (λ _. LinesMay (F.may folder.new) lines.new) }
     ensures array { (files : FileSet) → F.agrees folder.new files →
         Gives (λ x. (x.0.items, x.1)) result lines.new (array_at V.kind files file.now rows cols lines.old) }
-    ensures good { IfOk result (λ x. All V.Good x.0.items) }
-    ensures count { IfOk result (λ x. length x.0.items ≡ rows * cols) }
 {
     let line = next_line(alloc, lines, file)?;
     let mut words = Words::of(&line);

@@ -1,5 +1,4 @@
-ghost use Rattle.std.specs.Prelude.{◌≡◌, ◌*◌, length, IfOk, All, List};
-ghost use Rattle.decimal_input.specs.{IsDec};
+ghost use Rattle.std.specs.Prelude.{◌≡◌, IfOk, List};
 ghost use Rattle.outside.specs.{FileSet, ReadsOn};
 ghost use Rattle.record_lines.specs.{LinesMay, Gives};
 ghost use Rattle.array_reader.specs.{reals, layer_array, layers, real_layer, integer_layer, layer_or};
@@ -45,8 +44,6 @@ fn layer_array<V: Value, F: Folder>(
     ensures lines { IfOk result (λ _. LinesMay (F.may folder.new) lines.new) }
     ensures layer { (files : FileSet) → F.agrees folder.new files →
         Gives (λ v. v.items) result lines.new (layer_array V.kind files file.now rows cols lines.old) }
-    ensures good { IfOk result (λ v. All V.Good v.items) }
-    ensures count { IfOk result (λ v. length v.items ≡ rows * cols) }
 {
     let (values, _) = read_array::<V, F>(alloc, lines, file, folder, rows, cols)?;
     Ok(values)
@@ -66,8 +63,6 @@ pub fn read_layer<F: Folder>(
     ensures folder { ReadsOn F.Folder folder.old folder.new result }
     ensures lines { IfOk result (λ _. LinesMay (F.may folder.new) lines.new) }
     ensures array { (files : FileSet) → F.agrees folder.new files → Gives (λ v. v.items) result lines.new (real_layer files file.now rows cols lines.old) }
-    ensures canonical { IfOk result (λ v. All IsDec v.items) }
-    ensures count { IfOk result (λ v. length v.items ≡ rows * cols) }
 {
     layer_array(alloc, lines, file, folder, rows, cols)
 }
@@ -86,7 +81,6 @@ pub fn read_int_layer<F: Folder>(
     ensures folder { ReadsOn F.Folder folder.old folder.new result }
     ensures lines { IfOk result (λ _. LinesMay (F.may folder.new) lines.new) }
     ensures array { (files : FileSet) → F.agrees folder.new files → Gives (λ v. v.items) result lines.new (integer_layer files file.now rows cols lines.old) }
-    ensures count { IfOk result (λ v. length v.items ≡ rows * cols) }
 {
     layer_array(alloc, lines, file, folder, rows, cols)
 }
@@ -106,7 +100,6 @@ pub fn read_layers<V: Value, F: Folder>(
     ensures lines { IfOk result (λ _. LinesMay (F.may folder.new) lines.new) }
     ensures layers { (files : FileSet) → F.agrees folder.new files →
         Gives (λ v. v.items) result lines.new (layers V.kind files file.now count rows cols lines.old) }
-    ensures count { IfOk result (λ v. length v.items ≡ count * (rows * cols)) }
 {
     let mut values = Vec::new(alloc);
     for _ in 0..count {

@@ -1,4 +1,4 @@
-ghost use Rattle.std.specs.Prelude.{◌≡◌, ◌*◌, Ok, ◌++◌, length, replicate, IfOk, IfSome, All};
+ghost use Rattle.std.specs.Prelude.{◌≡◌, Ok, ◌++◌, replicate, IfOk, IfSome};
 ghost use Rattle.outside.specs.{IsRefusal};
 ghost use Rattle.record_lines.specs.{GivesText, repeated};
 ghost use Rattle.array_reader.specs.{with_multiplier, free_refusal, value_alone, value_at, free_list, free_rows};
@@ -31,8 +31,7 @@ pub fn next_value<'a, V: Value>(
     by: Option<V>,
 ) -> Result<(V, u32), TextFault>
     requires by { IfSome by V.Good }
-    ensures value { GivesText (λ x. x) result (free.new, lines.new) (value_at (with_multiplier V.kind by) file.now (free.old, lines.old)) }
-    ensures good { IfOk result (λ x. V.Good x.0) }
+    ensures { GivesText (λ x. x) result (free.new, lines.new) (value_at (with_multiplier V.kind by) file.now (free.old, lines.old)) }
 {
     match free.next(lines) {
         Err(fault) => Err(free_refused(alloc, fault, file)),
@@ -55,10 +54,8 @@ fn next_kept<'a, V: Value>(
 ) -> Result<V, TextFault>
     requires by { IfSome by V.Good }
     requires last { IfSome last (λ v. with_multiplier V.kind by free.old.word ≡ Ok v) }
-    requires good { IfSome last V.Good }
     ensures value { GivesText (λ x. x) result (free.new, lines.new) (value_alone (with_multiplier V.kind by) file.now (free.old, lines.old)) }
     ensures last { IfOk result (λ v. with_multiplier V.kind by free.new.word ≡ Ok v) }
-    ensures good { IfOk result V.Good }
 {
     if let Some(value) = last {
         if free.repeats() {
@@ -79,10 +76,8 @@ pub fn values<'a, V: Value>(
     count: u32,
 ) -> Result<Vec<V>, TextFault>
     requires by { IfSome by V.Good }
-    ensures values { GivesText (λ v. v.items) result (free.new, lines.new)
+    ensures { GivesText (λ v. v.items) result (free.new, lines.new)
         (repeated count (value_alone (with_multiplier V.kind by) file.now) (free.old, lines.old)) }
-    ensures good { IfOk result (λ v. All V.Good v.items) }
-    ensures count { IfOk result (λ v. length v.items ≡ count) }
 {
     let mut values = Vec::with_capacity(alloc, count as usize)?;
     let mut last = None;
@@ -104,9 +99,7 @@ pub fn free_list<V: Value>(
     count: u32,
 ) -> Result<Vec<V>, TextFault>
     requires by { IfSome by V.Good }
-    ensures values { GivesText (λ v. v.items) result lines.new (free_list (with_multiplier V.kind by) file.now count lines.old) }
-    ensures good { IfOk result (λ v. All V.Good v.items) }
-    ensures count { IfOk result (λ v. length v.items ≡ count) }
+    ensures { GivesText (λ v. v.items) result lines.new (free_list (with_multiplier V.kind by) file.now count lines.old) }
 {
     let mut free = Free::begin();
     values(alloc, &mut free, lines, file, by, count)
@@ -123,9 +116,7 @@ pub fn free_rows<V: Value>(
     cols: u32,
 ) -> Result<Vec<V>, TextFault>
     requires by { IfSome by V.Good }
-    ensures values { GivesText (λ v. v.items) result lines.new (free_rows (with_multiplier V.kind by) file.now rows cols lines.old) }
-    ensures good { IfOk result (λ v. All V.Good v.items) }
-    ensures count { IfOk result (λ v. length v.items ≡ rows * cols) }
+    ensures { GivesText (λ v. v.items) result lines.new (free_rows (with_multiplier V.kind by) file.now rows cols lines.old) }
 {
     let count = (rows as usize).saturating_mul(cols as usize);
     let mut values = Vec::with_capacity(alloc, count)?;

@@ -11,8 +11,7 @@ use decimal_input::word::read_int;
 fn real_product(a: Dec, b: Dec) -> Result<Dec, NumFault>
     requires first { IsDec a }
     requires second { IsDec b }
-    ensures value { result ≡ product a b }
-    ensures canonical { IfOk result IsDec }
+    ensures { result ≡ product a b }
 {
     times(a, b)
 }
@@ -39,8 +38,7 @@ pub trait Value: Copy {
     fn scale(self, by: Self) -> Result<Self, NumFault>
         requires value { Good self }
         requires by { Good by }
-        ensures value { result ≡ kind.scaling by self }
-        ensures good { IfOk result Good };
+        ensures { result ≡ kind.scaling by self };
 }
 
 impl Value for Dec {
@@ -91,8 +89,7 @@ impl Value for i64 {
 #[tactic(auto, unfolding(crate::specs::Numbers::multiplied))]
 pub fn value_of<V: Value>(word: &[u8], by: Option<V>) -> Result<V, NumFault>
     requires by { IfSome by V.Good }
-    ensures value { result ≡ with_multiplier V.kind by word.now }
-    ensures good { IfOk result V.Good }
+    ensures { result ≡ with_multiplier V.kind by word.now }
 {
     let value = V::of_word(word)?;
     match by {

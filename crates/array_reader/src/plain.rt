@@ -15,7 +15,7 @@ pub fn plain_ints(
     file: &str,
     count: u32,
 ) -> Result<Vec<i64>, TextFault>
-    ensures values { GivesText (λ v. v.items) result lines.new (free_list integer file.now count lines.old) }
+    ensures { GivesText (λ v. v.items) result lines.new (free_list integer file.now count lines.old) }
 {
     free_list(alloc, lines, file, None, count)
 }
@@ -27,7 +27,7 @@ pub fn plain_reals(
     file: &str,
     count: u32,
 ) -> Result<Vec<Dec>, TextFault>
-    ensures values { GivesText (λ v. v.items) result lines.new (free_list number file.now count lines.old) }
+    ensures { GivesText (λ v. v.items) result lines.new (free_list number file.now count lines.old) }
 {
     free_list(alloc, lines, file, None, count)
 }

@@ -16,7 +16,7 @@ pub fn zero_item<'a>(
     lines: &mut Lines<'a>,
     file: &str,
 ) -> Result<i64, TextFault>
-    ensures value { GivesText (λ z. z) result (free.new, lines.new) (zero_at file.now (free.old, lines.old)) }
+    ensures { GivesText (λ z. z) result (free.new, lines.new) (zero_at file.now (free.old, lines.old)) }
 {
     let (value, line) = next_value::<i64>(alloc, free, lines, file, None)?;
     if value != 0 {

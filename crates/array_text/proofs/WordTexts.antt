@@ -121,9 +121,6 @@ module _ {A B E : Type 0} {Q : B → Type 0} where
 pub weaker : {A E : Type 0} {P Q : A → Type 0} {r : Result A E} → Gives P r → ((x : A) → P x → Q x) → Gives Q r
 weaker g h = record { gives = λ x e. h x (g.gives x e) }
 
-pub both : {A E : Type 0} {P Q : A → Type 0} {r : Result A E} → Gives P r → Gives Q r → Gives (λ x. P x × Q x) r
-both g h = record { gives = λ x e. (g.gives x e, h.gives x e) }
-
 -- what is read of each of the files that agree with a folder, of which there are some
 pub some_give : {X E : Type 0} {P : X → Type 0} {read : FileSet → Result X E} {A : FileSet → Type 0} {x : X} → ((files : FileSet) → Gives P (read files))
     → ((files : FileSet) × A files) → ((files : FileSet) → A files → read files ≡ Ok x) → P x

@@ -1,5 +1,5 @@
 -- The line of options and HNOFLO leave lines that they were given.
-use Rattle.bas_package.proofs.Common.{LineMay, LinesMay, chain, after, either, line_held, leaves, Left, Numbered, line_at, ◌≡◌, ℕ, List, Result, Ok, Err, All}
+use Rattle.bas_package.proofs.Common.{LineMay, LinesMay, chain, after, either, line_held, leaves, Left, Numbered, line_at, ◌≡◌, ℕ, List, Ok, Err, All}
 use Rattle.bas_package.proofs.Common.{words, refusal, is_in_profile, option_line, head_item}
 use Rattle.std.specs.Prelude.{IfOk}
 use Rattle.outside.specs.declared.codes.Code.TheVariants.{OutOfProfile}

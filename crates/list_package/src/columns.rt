@@ -1,11 +1,10 @@
 // The numbers of an entry after Layer Row Column.
-ghost use Rattle.std.specs.Prelude.{◌≡◌, IfOk, IfNone, All, length};
-ghost use Rattle.std.specs.List.{AllZip};
+ghost use Rattle.std.specs.Prelude.{◌≡◌, IfOk, All, length};
 ghost use Rattle.decimal_input.specs.{IsDec};
 ghost use Rattle.record_lines.specs.{GivesText, repeated};
 ghost use Rattle.array_reader.specs.{number_at};
 ghost use Rattle.array_reader.specs.Numbers as spec;
-ghost use Rattle.list_package.specs.{IsColumn, column_fault, first_fault};
+ghost use Rattle.list_package.specs.{column_fault, first_fault};
 
 use array_reader::number;
 use decimal_input::dec::Dec;
@@ -50,8 +49,7 @@ pub fn read_numbers(
 
 fn column_fault(column: Column, x: Dec) -> Option<Code>
     requires { IsDec x }
-    ensures fault { result ≡ column_fault column x }
-    ensures valid { IfNone result (IsColumn column x) }
+    ensures { result ≡ column_fault column x }
 {
     match column {
         Column::Rate => None,
@@ -66,8 +64,7 @@ fn column_fault(column: Column, x: Dec) -> Option<Code>
 pub fn first_fault(columns: &[Column], numbers: &[Dec]) -> Option<Code>
     requires count { length numbers.now ≡ length columns.now }
     requires decimals { All IsDec numbers.now }
-    ensures fault { result ≡ first_fault columns.now numbers.now }
-    ensures valid { IfNone result (AllZip IsColumn columns.now numbers.now) }
+    ensures { result ≡ first_fault columns.now numbers.now }
 {
     for k in 0..columns.len() {
         let fault = column_fault(columns[k], numbers[k]);

@@ -1,6 +1,5 @@
 // The lists of wells, rivers, drains and general heads.
-ghost use Rattle.std.specs.Prelude.{◌≡◌, []};
-ghost use Rattle.model_types.specs.{IsEntryValid};
+ghost use Rattle.std.specs.Prelude.{◌≡◌};
 ghost use Rattle.list_package.specs.Kinds.{kind_of};
 
 use crate::columns::Column;
@@ -22,8 +21,6 @@ impl ListEntry for Entry {
     type Lists = ListKind;
 
     ghost kind = { kind_of };
-
-    ghost Valid = { IsEntryValid };
 
     fn columns(lists: ListKind) -> &'static [Column] {
         match lists {
@@ -66,9 +63,7 @@ impl ListEntry for Entry {
     }
 
     fn put(lists: ListKind, stresses: Stresses, list: Shared<Entry>) -> Stresses
-        ensures put { result ≡ (kind_of lists).put stresses list }
-        ensures list { (kind_of lists).list result ≡ list }
-        ensures others { (kind_of lists).put result [] ≡ (kind_of lists).put stresses [] }
+        ensures { result ≡ (kind_of lists).put stresses list }
     {
         match lists {
             ListKind::Wells => Stresses {
@@ -89,6 +84,4 @@ impl ListEntry for Entry {
             },
         }
     }
-
-    fn lists_keep_limits(lists: ListKind) {}
 }

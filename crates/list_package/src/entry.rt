@@ -1,9 +1,9 @@
 // The entries of a list.
-ghost use Rattle.std.specs.Prelude.{◌≡◌, ◌≤◌, ◌<◌, Ok, IfOk, false, slice_index_or};
+ghost use Rattle.std.specs.Prelude.{◌≡◌, Ok};
 ghost use Rattle.outside.specs.{words};
 ghost use Rattle.record_lines.specs.{GivesText, HasText};
-ghost use Rattle.model_types.specs.{cell_count, HasSize};
-ghost use Rattle.list_package.specs.{cell_at, entry_of, entry_at, is_left_out, no_marks, new_list, IsList, IsNewlyMarked};
+ghost use Rattle.model_types.specs.{HasSize};
+ghost use Rattle.list_package.specs.{cell_at, entry_of, entry_at, is_left_out, no_marks, new_list};
 
 use crate::columns::{first_fault, read_numbers};
 use crate::kind::ListEntry;
@@ -28,8 +28,7 @@ fn cell_at(
     col: i64,
 ) -> Result<CellId, TextFault>
     requires size { HasSize grid.now }
-    ensures cell { HasText (λ cell. cell) result (cell_at file.now line grid.now layer row col) }
-    ensures inside { IfOk result (λ cell. cell.0 < cell_count grid.now) }
+    ensures { HasText (λ cell. cell) result (cell_at file.now line grid.now layer row col) }
 {
     let (Some(k), Some(i), Some(j)) = (
         within(layer, grid.layers),
@@ -54,11 +53,7 @@ fn entry_of<E: ListEntry>(
     numbers: &mut Vec<Dec>,
 ) -> Result<(E, CellId), TextFault>
     requires size { HasSize grid.now }
-    ensures entry { HasText (λ e. e) result (entry_of (E.kind lists) file.now line grid.now marks.now words.old) }
-    ensures valid { IfOk result (λ e. E.Valid (cell_count grid.now) e.0) }
-    ensures place { IfOk result (λ e. (E.kind lists).place e.0 ≡ e.1.0) }
-    ensures inside { IfOk result (λ e. e.1.0 < cell_count grid.now) }
-    ensures new { IfOk result (λ e. slice_index_or marks.now e.1.0 false ≡ false) }
+    ensures { HasText (λ e. e) result (entry_of (E.kind lists) file.now line grid.now marks.now words.old) }
 {
     let layer = integer(alloc, words, file, line)?;
     let row = integer(alloc, words, file, line)?;
@@ -93,9 +88,7 @@ fn entry_at<E: ListEntry>(
     numbers: &mut Vec<Dec>,
 ) -> Result<E, TextFault>
     requires size { HasSize grid.now }
-    ensures entry { GivesText (λ e. e) result (marks.new, lines.new) (entry_at (E.kind lists) file.now grid.now (marks.old, lines.old)) }
-    ensures valid { IfOk result (E.Valid (cell_count grid.now)) }
-    ensures marked { IfOk result (IsNewlyMarked (E.kind lists) (cell_count grid.now) marks.old marks.new) }
+    ensures { GivesText (λ e. e) result (marks.new, lines.new) (entry_at (E.kind lists) file.now grid.now (marks.old, lines.old)) }
 {
     let line = next_line(alloc, lines, file)?;
     if is_left_out(&line) {
@@ -139,9 +132,7 @@ pub fn new_list<E: ListEntry>(
     count: u32,
 ) -> Result<Vec<E>, TextFault>
     requires size { HasSize grid.now }
-    requires few { count ≤ 4194304 }
-    ensures list { GivesText (λ v. v.items) result lines.new (new_list (E.kind lists) file.now grid.now count lines.old) }
-    ensures form { IfOk result (λ v. IsList (E.kind lists) (E.Valid (cell_count grid.now)) v.items) }
+    ensures { GivesText (λ v. v.items) result lines.new (new_list (E.kind lists) file.now grid.now count lines.old) }
 {
     let mut marks = no_marks::<E>(alloc, lists, grid)?;
     let mut list = Vec::new(alloc);

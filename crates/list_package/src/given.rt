@@ -1,7 +1,6 @@
 // The lists of given heads.
-ghost use Rattle.std.specs.Prelude.{◌≡◌, ◌↔◌, IsTrue, All, []};
+ghost use Rattle.std.specs.Prelude.{◌≡◌, ◌↔◌, IsTrue, All};
 ghost use Rattle.std.specs.List.{list_all};
-ghost use Rattle.model_types.specs.{IsGivenValid};
 ghost use Rattle.list_package.specs.Entries.{given_heads, is_level, is_growing};
 
 use crate::columns::Column;
@@ -44,8 +43,6 @@ impl ListEntry for Given {
 
     ghost kind = { λ lists. given_heads };
 
-    ghost Valid = { IsGivenValid };
-
     fn columns(lists: SpecifiedHeads) -> &'static [Column] {
         &[Column::Head, Column::Head]
     }
@@ -71,15 +68,11 @@ impl ListEntry for Given {
     }
 
     fn put(lists: SpecifiedHeads, stresses: Stresses, list: Shared<Given>) -> Stresses
-        ensures put { result ≡ given_heads.put stresses list }
-        ensures list { given_heads.list result ≡ list }
-        ensures others { given_heads.put result [] ≡ given_heads.put stresses [] }
+        ensures { result ≡ given_heads.put stresses list }
     {
         Stresses {
             given: list,
             ..stresses
         }
     }
-
-    fn lists_keep_limits(lists: SpecifiedHeads) {}
 }

@@ -1,9 +1,9 @@
 // The lines before entries.
-ghost use Rattle.std.specs.Prelude.{◌≡◌, IfOk};
+ghost use Rattle.std.specs.Prelude.{◌≡◌};
 ghost use Rattle.outside.specs.declared.codes.Code.TheVariants.{TooManyEntries};
 ghost use Rattle.outside.specs.{refusal};
 ghost use Rattle.record_lines.specs.{GivesText, HasText, numbered_of};
-ghost use Rattle.list_package.specs.{item_line, count_of, has_parameters, header_of, count_seen, IsFew};
+ghost use Rattle.list_package.specs.{item_line, count_of, has_parameters, header_of};
 
 use array_reader::{integer, next_line, short_integer};
 use model_types::Limits;
@@ -43,8 +43,7 @@ fn count_of(
     file: &str,
     line: u32,
 ) -> Result<Count, TextFault>
-    ensures count { HasText count_seen result (count_of limits itmp (refusal TooManyEntries file.now line)) }
-    ensures few { IfOk result IsFew }
+    ensures { HasText (λ c. c) result (count_of limits itmp (refusal TooManyEntries file.now line)) }
 {
     if itmp > limits.entries() as i64 {
         return Err(text_fault(alloc, Code::TooManyEntries, file, line));
@@ -79,8 +78,7 @@ pub fn header_of(
     line: u32,
     listed: bool,
 ) -> Result<Count, TextFault>
-    ensures count { HasText count_seen result (header_of limits file.now line listed words.old) }
-    ensures few { IfOk result IsFew }
+    ensures { HasText (λ c. c) result (header_of limits file.now line listed words.old) }
 {
     let itmp = integer(alloc, words, file, line)?;
     let count = count_of(alloc, limits, itmp, file, line)?;

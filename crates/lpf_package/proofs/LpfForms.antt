@@ -1,15 +1,14 @@
 -- What a file of the layer-property flow package gives.
 use Rattle.lpf_package.proofs.Common.{◌≡◌, ℕ, ◌*◌, Bool, true, false, cond, List, length, All, Ok, refl, arith, ◌+◌, not, [], replicate, FileSet, Left}
-use Rattle.lpf_package.proofs.Common.{left_from, without_comments, zero_list, real_layer, is_transient, contents_of, with_contents, lpf_of, SameBut}
-use Rattle.lpf_package.proofs.Common.{layers_of, storage_layer, properties_of, nth_layer, layer_at, settings_of, HasFlow, option_line, if◌then◌else◌}
-use Rattle.lpf_package.proofs.Common.{Settings}
+use Rattle.lpf_package.proofs.Common.{left_from, without_comments, zero_list, real_layer, is_transient, contents_of, with_contents, lpf_of, SameBut, layers_of}
+use Rattle.lpf_package.proofs.Common.{storage_layer, properties_of, nth_layer, layer_at, settings_of, HasFlow, option_line, if◌then◌else◌, Settings, done}
+use Rattle.lpf_package.proofs.Common.{goes_on, then_, weaker}
 use Rattle.decimal_input.specs.{IsDec}
 use Rattle.model_types.specs.declared.grid.Grid.{Grid}
 use Rattle.model_types.specs.declared.model.FlowModel.{FlowModel}
 use Rattle.model_types.specs.{cell_count, layer_size, no_number}
 use Rattle.array_text.proofs.ArrayForms.{lists}
 use Rattle.array_text.specs.{Gives, IsShort}
-use Rattle.array_text.proofs.WordTexts.{done, goes_on, then_, weaker}
 use Rattle.std.proofs.lemmas.List.Elements.{All-nil, All-append}
 use Rattle.decimal_input.specs.declared.dec.Dec.{Dec}
 use Rattle.number_limits.specs.{is_positive}

@@ -6,5 +6,5 @@ mod model;
 mod settings;
 
 pub use layer::Properties;
-pub use model::{Contents, read_lpf};
+pub use model::{Contents, is_transient, read_lpf};
 pub use settings::Settings;

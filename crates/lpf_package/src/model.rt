@@ -11,7 +11,8 @@ use outside::{Folder, InputFault};
 use record_lines::Lines;
 use std::alloc::Global;
 
-fn is_transient(periods: &[Period]) -> bool
+/// Whether a stress period is transient, and so the file has SS.
+pub fn is_transient(periods: &[Period]) -> bool
     ensures { result ≡ is_transient periods.now }
 {
     periods.iter().any(|p| !p.steady)

@@ -1,12 +1,21 @@
 -- Three cells in a row are a writable model.
 use Rattle.model_forms.proofs.Common.{◌≡◌, ℕ, zero, suc, ◌%◌, ◌^◌, ◌<◌, ◌≤◌, ◌==◌, inr, true, not, pos, negsuc, List, [], ◌∷◌, length, replicate, All, Some}
-use Rattle.model_forms.proofs.Common.{None, Ok, refl, sym, ap, ◌∙◌, arith, list_all, All-nil, All-cons, All-replicate, All-from_recursion, All-weaker, IsDec}
-use Rattle.model_forms.proofs.Common.{counted, Dis, Period, no_number, IsTimed, checked, fault_at, Check, Thickness, given_heads, Kind, wells, rivers, drains}
-use Rattle.model_forms.proofs.Common.{generals, IsShort, number_word, integer_word, IsOfBeds, IsDiscretized, IsBasic, HasFlow, IsEntry, IsListOf, IsDry}
-use Rattle.model_forms.proofs.Common.{IsStill, IsWritable, model_reads, all_plain, scaled, line_text, text, row_line, row_lines, real_array, integer_array}
-use Rattle.model_forms.proofs.Common.{written, ratio, units_of, dis_lines, dis_item_1, dis_item_2, dis_item_3, dis_item_4, dis_item_5, dis_item_6, dis_item_7}
-use Rattle.model_forms.proofs.Common.{bas_lines, bas_item_1, bas_item_2, bas_item_3, bas_item_4, lpf_lines, lpf_item_1, lpf_zeros, lpf_item_4, lpf_item_5}
-use Rattle.model_forms.proofs.Common.{lpf_arrays, file_type, name_item, AreNames, word_by_test, IsPeriod}
+use Rattle.model_forms.proofs.Common.{None, Ok, refl, sym, ap, ◌∙◌, arith, All-nil, All-cons, All-replicate, All-from_recursion, All-weaker, Period, no_number}
+use Rattle.model_forms.proofs.Common.{IsTimed, IsShort, number_word, integer_word, IsOfBeds, IsDiscretized, IsBasic, HasFlow, IsEntry, IsListOf, IsDry, IsStill}
+use Rattle.model_forms.proofs.Common.{IsWritable, model_reads, all_plain, line_text, text, row_line, row_lines, real_array, integer_array, written, dis_lines}
+use Rattle.model_forms.proofs.Common.{dis_item_1, dis_item_2, dis_item_3, dis_item_4, dis_item_5, dis_item_6, dis_item_7, bas_lines, bas_item_1, bas_item_2}
+use Rattle.model_forms.proofs.Common.{bas_item_3, bas_item_4, lpf_lines, lpf_item_1, lpf_zeros, lpf_item_4, lpf_item_5, lpf_arrays, file_type, name_item}
+use Rattle.model_forms.proofs.Common.{AreNames, IsPeriod}
+use Rattle.std.specs.List.{list_all}
+use Rattle.decimal_input.specs.{IsDec, scaled, ratio, units_of}
+use Rattle.record_lines.specs.{counted}
+use Rattle.name_file.specs.declared.package.Package.TheVariants.{Dis}
+use Rattle.cell_checks.specs.{checked, fault_at}
+use Rattle.cell_checks.specs.declared.passing.Check.{Check}
+use Rattle.cell_checks.specs.declared.passing.Check.TheVariants.{Thickness}
+use Rattle.list_package.specs.{given_heads, Kind}
+use Rattle.stress_packages.specs.{wells, rivers, drains, generals}
+use Rattle.array_text.proofs.WordTexts.{word_by_test}
 use Rattle.number_limits.proofs.Canonical.{no_number_is}
 use Rattle.number_limits.specs.{is_at_most, is_thick}
 use Rattle.std.specs.Fmt.{decimal as numeral}

@@ -1,19 +1,49 @@
 -- Names that several proofs of this crate cite, of the crates below and of its own definitions, passed on from one place. Declares nothing.
-pub use Rattle.std.proofs.Common.{All, Bool, Err, List, None, Ok, Result, Some, [], add-one, ap, arith, cond, drop, drop-cons, false, get_or, inl, inr, length}
-pub use Rattle.std.proofs.Common.{nat_le, nat_lt, not, pos, refl, subst, sym, true, ℕ, ℤ, ◌&&◌, ◌+◌, ◌<◌, ◌==◌, ◌||◌, ◌∙◌, ◌∷◌, ◌≡◌, ◌≤ℤ◌, ◌≤◌, ◌⊎◌}
-pub use Rattle.std.proofs.lemmas.Bool.{and_parts, lt-leb, lt-ltb, not-true, or_parts}
+pub use Rattle.std.proofs.Common.{All, Bool, Err, List, None, Ok, Option, Result, Some, [], add-one, ap, arith, cond, drop, drop-cons, false, get_or, inl, inr}
+pub use Rattle.std.proofs.Common.{length, map, nat_le, nat_lt, negsuc, not, pos, refl, subst, suc, sum, sum_by, sym, true, zero, ℕ, ℤ, ◌&&◌, ◌+◌, ◌<◌, ◌||◌}
+pub use Rattle.std.proofs.Common.{◌∙◌, ◌∷◌, ◌≡◌, ◌≤ℤ◌, ◌≤◌, ◌⊎◌}
+pub use Rattle.std.proofs.lemmas.List.{drop_all, length-map}
+pub use Rattle.std.proofs.lemmas.List.Elements.{All-cons, All-nil, All-weaker}
 pub use Rattle.std.proofs.lemmas.Result.{err_from_is_err_and}
-pub use Rattle.cell_checks.proofs.PassedCells.{each_passed}
-pub use Rattle.cell_checks.specs.{checked, has_good_properties, is_checked_bed}
+pub use Rattle.std.specs.Prelude.{IfOk, if◌then◌else◌}
+pub use Rattle.array_text.proofs.WordTexts.{done, goes_on, then_, weaker}
+pub use Rattle.array_text.specs.{Gives, IsShort}
+pub use Rattle.bas_package.specs.{HasBasics, bas_of}
+pub use Rattle.cell_checks.specs.{at_cell, cell_step, is_checked_bed}
+unfoldable pub use Rattle.cell_checks.specs.{checked, fault_at}
 pub use Rattle.cell_checks.specs.declared.passing.Check.TheVariants.{Properties, StartHead, Thickness}
+pub use Rattle.decimal_input.specs.{IsDec, number}
+pub use Rattle.decimal_input.specs.declared.dec.Dec.{Dec}
+pub use Rattle.dis_package.proofs.DisForms.{IsStarted, dis_is}
+pub use Rattle.dis_package.specs.{IsDiscretized, IsGridWithin, IsNewPeriod, IsOfBeds, without_stresses}
+pub use Rattle.evt_package.specs.{HasEvaporation, cell_tested, chosen_cell, column_step, column_tested, evap_fault, evaporation_arrays, source}
+unfoldable pub use Rattle.evt_package.specs.{columns_tested, evt_of}
+pub use Rattle.list_package.proofs.ListForms.{lists_are, steps}
+pub use Rattle.list_package.specs.{IsEntry, IsListOf, Kind, entries_in, given_heads, is_growing, kind_of, with_entries, with_list}
+unfoldable pub use Rattle.list_package.specs.{package_of}
+pub use Rattle.list_package.specs.declared.entries.ListKind.{ListKind}
+pub use Rattle.list_package.specs.declared.entries.ListKind.TheVariants.{Drains, Generals, Rivers, Wells}
 pub use Rattle.lpf_package.specs.{HasFlow, SameBut, is_transient, lpf_of, with_properties}
-pub use Rattle.model_reader.specs.{IsBasic, basics_tested, stress_in, stresses}
-unfoldable pub use Rattle.model_reader.specs.{bas_in, lpf_in, model_of, with_stresses}
-pub use Rattle.model_types.specs.{IsBedChecked, IsBedValid, IsCellValid, IsEvapValid, IsGrid, IsModel, IsPeriod, IsTimed, bottom_at, cell_count, dec_at}
-pub use Rattle.model_types.specs.{evap_source, evap_sources, has_bed, is_active, is_chosen, layer_size, lowest, period_at, top_at}
+pub use Rattle.model_reader.specs.{names_in, needed, stress_in, stresses, where_named}
+unfoldable pub use Rattle.model_reader.specs.{bas_in, basics_tested, dis_in, file_in, lpf_in, model_of, reads, with_stresses}
+pub use Rattle.model_types.specs.{HasSize, IsBedChecked, IsBedValid, IsCellValid, IsGrid, IsGrowing, IsLayerArray, IsModel, IsPeriod, IsTimed, bottom_at}
+pub use Rattle.model_types.specs.{cell_count, dec_at, has_bed, int_at, is_active, is_int, is_nonzero, layer_size, lowest, number_one, top_at}
+pub use Rattle.model_types.specs.declared.grid.Grid.{Grid}
+pub use Rattle.model_types.specs.declared.limits.Limits.{Limits}
 pub use Rattle.model_types.specs.declared.model.FlowModel.{FlowModel}
+pub use Rattle.model_types.specs.declared.period.Period.{Period}
+pub use Rattle.model_types.specs.declared.period.Stresses.{Stresses}
 pub use Rattle.name_file.proofs.Forward.{file_named, names_still}
+pub use Rattle.name_file.specs.{NamesMay, file_of}
+pub use Rattle.name_file.specs.Pairs.{Pairs}
+pub use Rattle.name_file.specs.declared.package.Package.TheVariants.{Bas, Chd, Dis, Drn, Evt, Ghb, Lpf, Rch, Riv, Wel}
 pub use Rattle.outside.specs.{FileSet, InputCounts, ReadsOn, file_at, input_fault}
-pub use Rattle.outside.specs.declared.inputs.TextFault.{TextFault}
+pub use Rattle.outside.specs.declared.inputs.InputFault.{InputFault}
+pub use Rattle.outside.specs.declared.inputs.Refusal.{Refusal}
+pub use Rattle.period_arrays.specs.{ArrayKind, IsLayers, IsReals, arrays_in, is_option, with_area}
+pub use Rattle.period_arrays.specs.declared.area.Area.{Area}
 pub use Rattle.record_lines.proofs.Loops.{stops_all}
 pub use Rattle.record_lines.specs.{Has, Stops, StopsText, ◌>>=◌}
+unfoldable pub use Rattle.record_lines.specs.{counted}
+pub use Rattle.stress_packages.specs.{drains, generals, recharge_arrays, rivers, wells}
+unfoldable pub use Rattle.stress_packages.specs.{rch_of}

@@ -1,3 +1,8 @@
 mod Common
-pub mod BasicLemmas
-pub mod FlowLemmas
+pub mod ReadLemmas
+pub mod PeriodForms
+pub mod CheckForms
+pub mod RchForms
+pub mod StageForms
+pub mod ReadForms
+pub mod ModelLimits

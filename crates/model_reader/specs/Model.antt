@@ -1,5 +1,5 @@
 -- A model from its files, in reading order: each file is read when its turn comes.
-use Rattle.std.specs.Prelude.{ℕ, List, Result, Ok, [], ◌∷◌, unwrap_or, Option, Some, None, ◌≡◌, ◌<◌, ◌≤◌, true, pos, All, length, sum_by}
+use Rattle.std.specs.Prelude.{ℕ, List, Result, Ok, [], ◌∷◌, unwrap_or, Option, Some, None}
 use Rattle.outside.specs.{FileSet, file_at}
 use Rattle.outside.specs.declared.inputs.Refusal.{Refusal}
 use Rattle.record_lines.specs.{◌>>=◌}
@@ -8,17 +8,15 @@ use Rattle.name_file.specs.{file_of, names_of}
 use Rattle.name_file.specs.declared.package.Package.TheVariants.{Dis, Bas, Lpf, Wel, Riv, Drn, Ghb, Rch, Chd, Evt}
 use Rattle.model_types.specs.declared.limits.Limits.{Limits}
 use Rattle.model_types.specs.declared.model.FlowModel.{FlowModel}
-use Rattle.dis_package.specs.{dis_of, IsNewPeriod}
+use Rattle.dis_package.specs.{dis_of}
 use Rattle.bas_package.specs.{bas_of}
 use Rattle.lpf_package.specs.{lpf_of}
-use Rattle.cell_checks.specs.{checked, is_thick_cell, has_head}
+use Rattle.cell_checks.specs.{checked}
 use Rattle.cell_checks.specs.declared.passing.Check.TheVariants.{Thickness, StartHead, Properties}
 use Rattle.name_file.specs.declared.package.Package.{Package}
 use Rattle.list_package.specs.{given_heads, package_of}
 use Rattle.stress_packages.specs.{wells, rivers, drains, generals, rch_of}
 use Rattle.evt_package.specs.{evt_of}
-use Rattle.decimal_input.specs.{IsDec}
-use Rattle.model_types.specs.{cell_count, IsGrid, is_active}
 
 -- The packages of a model.
 -- the packages that a name file names
@@ -102,17 +100,3 @@ unfoldable pub reads : Limits → FileSet → List ℕ → Result FlowModel Refu
 reads limits files name = do
   names ← names_in files name
   model_of limits files names
-
--- What is known of a model after BAS6, whatever the folder returned.
-pub record IsBasic (m : FlowModel) : Type 0 where
-  pub grid : IsGrid m.grid
-  pub ibound : length m.ibound ≡ cell_count m.grid
-  pub strt : (length m.strt ≡ cell_count m.grid) × All IsDec m.strt
-  pub thick : (c : ℕ) → c < cell_count m.grid → is_active m c ≡ true → is_thick_cell m c ≡ true
-  pub heads : (c : ℕ) → c < cell_count m.grid → is_active m c ≡ true → has_head m c ≡ true
-  pub nrchop : m.nrchop ≡ pos 0
-  pub nevtop : m.nevtop ≡ pos 0
-  pub some : 1 ≤ length m.periods
-  pub few : length m.periods ≤ 1000
-  pub steps : sum_by (λ p. p.nstp) m.periods ≤ 100000
-  pub periods : All IsNewPeriod m.periods

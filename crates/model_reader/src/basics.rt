@@ -1,13 +1,12 @@
 // DIS, BAS6 and LPF, each with the checks of cells that follow it.
-ghost use Rattle.std.specs.Prelude.{◌≡◌, Ok, All, IfOk, List};
+ghost use Rattle.std.specs.Prelude.{◌≡◌, All, IfOk, List};
 ghost use Rattle.outside.specs.{FileSet, ReadsOn, IsGoodName, folder_name, TextMay, file_at};
 ghost use Rattle.record_lines.specs.{Has, HasText};
 ghost use Rattle.decimal_input.specs.{IsDec};
-ghost use Rattle.model_types.specs.{IsGrid, IsModel};
+ghost use Rattle.model_types.specs.{IsGrid};
 ghost use Rattle.cell_checks.specs.{checked};
-ghost use Rattle.cell_checks.specs.declared.passing.Check.TheVariants.{Thickness, StartHead};
 ghost use Rattle.dis_package.specs.{IsBegun};
-ghost use Rattle.model_reader.specs.{IsBasic, dis_in, basics_tested, bas_in, lpf_in};
+ghost use Rattle.model_reader.specs.{dis_in, basics_tested, bas_in, lpf_in};
 
 use bas_package::read_bas;
 use cell_checks::{Check, check_cells};
@@ -64,8 +63,6 @@ fn basics_tested(
     requires strt { All IsDec model.strt }
     ensures tests { HasText (λ _. tt) result (basics_tested dis.now bas.now model) }
     ensures same { IfOk result (λ m. m ≡ model) }
-    ensures thickness { IfOk result (λ m. checked m dis.now Thickness ≡ Ok tt) }
-    ensures heads { IfOk result (λ m. checked m bas.now StartHead ≡ Ok tt) }
 {
     let thick = check_model(alloc, model, dis, Check::Thickness)?;
     check_model(alloc, thick, bas, Check::StartHead)
@@ -82,10 +79,11 @@ pub fn bas_in<F: Folder>(
 ) -> Result<FlowModel, InputFault>
     requires name { IsGoodName name.now }
     requires may { F.may folder.old (folder_name name.now) }
-    requires begun { IsBegun model }
+    requires grid { IsGrid model.grid }
     ensures folder { ReadsOn F.Folder folder.old folder.new result }
     ensures model { (files : FileSet) → F.agrees folder.new files → Has (λ m. m) result (bas_in files dis.now name.now model) }
-    ensures form { IfOk result IsBasic }
+    ensures grid { IfOk result (λ m. IsGrid m.grid) }
+    ensures strt { IfOk result (λ m. All IsDec m.strt) }
 {
     let (bytes, begun) = open_file(alloc, folder, name, model)?;
     let basic = read_bas(alloc, name, &bytes, folder, begun)?;
@@ -103,10 +101,11 @@ pub fn lpf_in<F: Folder>(
 ) -> Result<FlowModel, InputFault>
     requires name { IsGoodName name.now }
     requires may { F.may folder.old (folder_name name.now) }
-    requires basic { IsBasic model }
+    requires grid { IsGrid model.grid }
+    requires strt { All IsDec model.strt }
     ensures folder { ReadsOn F.Folder folder.old folder.new result }
     ensures model { (files : FileSet) → F.agrees folder.new files → Has (λ m. m) result (lpf_in files name.now model) }
-    ensures form { IfOk result IsModel }
+    ensures grid { IfOk result (λ m. IsGrid m.grid) }
 {
     let (bytes, basic) = open_file(alloc, folder, name, model)?;
     let flow = read_lpf(alloc, name, &bytes, folder, basic)?;

@@ -37,7 +37,9 @@ pub fn read_model<F: Folder>(
     let begun = dis_in(alloc, limits, folder, dis)?;
     let basic = bas_in(alloc, folder, dis, bas, begun)?;
     let flow = lpf_in(alloc, folder, lpf, basic)?;
-    with_stresses(alloc, limits, names, folder, flow)
+    let read = with_stresses(alloc, limits, names, folder, flow);
+    folder.some_agree();
+    read
 }
 
 /// The model that a name file of the folder describes.

@@ -2,11 +2,11 @@
 // evapotranspiration.
 //
 // Each is read where the name file names it.
-ghost use Rattle.std.specs.Prelude.{IfOk};
+ghost use Rattle.std.specs.Prelude.{◌≡◌, IfOk};
 ghost use Rattle.outside.specs.{TextMay, FileSet, ReadsOn};
 ghost use Rattle.record_lines.specs.{Has};
 ghost use Rattle.name_file.specs.{NamesMay};
-ghost use Rattle.model_types.specs.{IsModel};
+ghost use Rattle.model_types.specs.{HasSize};
 ghost use Rattle.model_reader.specs.{stress_in, stress_of, stresses, with_stresses};
 
 use crate::basics::open_file;
@@ -39,11 +39,11 @@ fn stress_of<F: Folder>(
     folder: &mut F,
     model: FlowModel,
 ) -> Result<FlowModel, InputFault>
-    requires valid { IsModel model }
+    requires size { HasSize model.grid }
     requires text { TextMay (F.may folder.old) bytes.now }
     ensures folder { ReadsOn F.Folder folder.old folder.new result }
     ensures model { (files : FileSet) → F.agrees folder.new files → Has (λ m. m) result (stress_of limits files asked file.now bytes.now model) }
-    ensures form { IfOk result IsModel }
+    ensures grid { IfOk result (λ m. m.grid ≡ model.grid) }
 {
     match asked {
         Package::Wel => Ok(read_wel(alloc, limits, file, bytes, model)?),
@@ -67,11 +67,11 @@ fn stress_in<F: Folder>(
     folder: &mut F,
     model: FlowModel,
 ) -> Result<FlowModel, InputFault>
-    requires valid { IsModel model }
+    requires size { HasSize model.grid }
     requires names { NamesMay (F.may folder.old) names.now }
     ensures folder { ReadsOn F.Folder folder.old folder.new result }
     ensures model { (files : FileSet) → F.agrees folder.new files → Has (λ m. m) result (stress_in limits files names.now asked model) }
-    ensures form { IfOk result IsModel }
+    ensures grid { IfOk result (λ m. m.grid ≡ model.grid) }
 {
     match names.file_of(asked) {
         None => Ok(model),
@@ -90,11 +90,10 @@ pub fn with_stresses<F: Folder>(
     folder: &mut F,
     model: FlowModel,
 ) -> Result<FlowModel, InputFault>
-    requires valid { IsModel model }
+    requires size { HasSize model.grid }
     requires names { NamesMay (F.may folder.old) names.now }
     ensures folder { ReadsOn F.Folder folder.old folder.new result }
     ensures model { (files : FileSet) → F.agrees folder.new files → Has (λ m. m) result (with_stresses limits files names.now stresses model) }
-    ensures form { IfOk result IsModel }
 {
     let mut model = model;
     for asked in STRESSES {

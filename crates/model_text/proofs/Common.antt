@@ -33,7 +33,7 @@ pub use Rattle.dis_package.specs.{begun, is_growth, is_time, kind_of, known, wit
 unfoldable pub use Rattle.dis_package.specs.{beds_of, bottom_at, bottoms_of, count_at, dis_of, frame_of, grid_of, head_of, size_at, time_of, widths}
 pub use Rattle.evt_package.specs.{area_in, evaporation_arrays}
 unfoldable pub use Rattle.evt_package.specs.{evt_of}
-pub use Rattle.list_package.specs.{Differ, Kind, entries, first_fault, given_heads, is_left_out, no_marks, with_list}
+pub use Rattle.list_package.specs.{Differ, Kind, first_fault, given_heads, is_left_out, no_marks, with_list}
 unfoldable pub use Rattle.list_package.specs.{cell_at, entry_at, entry_of, header_of, item_line, list_at, lists_of, new_list}
 pub use Rattle.lpf_package.specs.{is_transient, nth_layer, with_properties}
 unfoldable pub use Rattle.lpf_package.specs.{contents_of, layer_at, layers_of, lpf_of, properties_of, settings_of, storage_layer}

@@ -2,9 +2,10 @@
 use Rattle.model_text.proofs.Common.{◌≡◌, ℕ, suc, ◌^◌, ◌<◌, ◌≤◌, max, Bool, true, false, nat_le, fold, List, [], ◌∷◌, length, map, drop, All, Option, Some}
 use Rattle.model_text.proofs.Common.{None, is_some, Ok, refl, arith, codes, decimal, AllZip, flat_map, All-cons, All-from_recursion, nat_tests, Dec, is_word}
 use Rattle.model_text.proofs.Common.{Grid, cell_count, HasSize, Kind, IsWord, Line, IsLine, text, digits_spell, count_is_word, word_by_test, list_item_2}
-use Rattle.model_text.proofs.Common.{list_item_5, period_list, list_lines, IsListOf, with_lists, Limits, Period, most_entries, entries_few, entries, header_of}
+use Rattle.model_text.proofs.Common.{list_item_5, period_list, list_lines, IsListOf, with_lists, Limits, Period, most_entries, entries_few, header_of}
 use Rattle.model_text.proofs.Common.{item_line, list_at, lists_of, CellId, numbers_of, heads_of, dec_at, cell_of, given_heads, wells, rivers, drains, generals}
 use Rattle.model_text.proofs.Common.{ListPackagesReadAsWritten, number_at, integer, with_list, ◌>>=◌, words, Takes, last_takes, line_takes}
+use Rattle.list_package.specs.declared.header.Count.TheVariants.{Entries}
 use Rattle.model_text.proofs.FrameTexts.{decimal_item, no_keyword}
 use Rattle.list_package.specs.{period_at, periods_of}
 use Rattle.model_text.proofs.DisTexts.{item_takes, whole_file, each_takes, line_is_item, decimal_is_item}
@@ -16,7 +17,7 @@ counts_are_line n small =
     record { some = omega arith; words = All-from_recursion (λ w. IsWord w) (decimal n ∷ codes "0" ∷ []) (count_is_word n small, (word_by_test (codes "0") refl, tt)) }
 
 -- item 5
-header_reads : (limits : Limits) (file : List ℕ) (line : ℕ) (listed : Bool) (n : ℕ) → n ≤ most_entries limits → header_of limits file line listed (decimal n ∷ codes "0" ∷ []) ≡ Ok (entries n)
+header_reads : (limits : Limits) (file : List ℕ) (line : ℕ) (listed : Bool) (n : ℕ) → n ≤ most_entries limits → header_of limits file line listed (decimal n ∷ codes "0" ∷ []) ≡ Ok (Entries n)
 unfolding header_of
 header_reads limits file line listed n few =
     let low : nat_le n (most_entries limits) ≡ true = grind (arith, nat_tests) in

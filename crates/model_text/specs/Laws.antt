@@ -18,7 +18,7 @@ use Rattle.std.specs.List.{AllZip, AllPairs}
 use Rattle.decimal_input.specs.declared.dec.Dec.{Dec}
 use Rattle.model_types.specs.declared.grid.Grid.{Grid}
 use Rattle.model_types.specs.declared.period.Period.{Period}
-use Rattle.list_package.specs.{given_heads, Kind, lists_of, first_fault, with_list, Differ}
+use Rattle.list_package.specs.{given_heads, Kind, IsListOf, lists_of, with_list}
 use Rattle.bas_package.specs.{with_basics, bas_of}
 use Rattle.model_text.specs.Discretization.{dis_lines, bas_lines, lpf_lines}
 use Rattle.cell_checks.specs.{checked}
@@ -27,24 +27,6 @@ use Rattle.decimal_input.specs.{IsDec}
 use Rattle.model_types.specs.declared.grid.CellId.{CellId}
 
 -- What is asked of a model, so that files can say it.
--- What is asked of the lists of a package, so that its file can say them.
--- x is the entry of a cell of the grid, with a number in canonical form for each column, which pass their tests
-pub record IsEntry {E : Type 0} (kind : Kind E) (cells : ℕ) (x : E) : Type 0 where
-  pub cell : CellId
-  pub numbers : List Dec
-  pub inside : cell.0 < cells
-  pub count : length numbers ≡ length kind.columns
-  pub canonical : All IsDec numbers
-  pub passes : first_fault kind.columns numbers ≡ None
-  pub is : x ≡ kind.entry cell numbers
-
--- a period's list: at most as many entries as the limits say; where a list may name a cell at most once, it does; and the period may have it
-pub record IsListOf {E : Type 0} (limits : Limits) (kind : Kind E) (cells : ℕ) (p : Period) (xs : List E) : Type 0 where
-  pub few : length xs ≤ most_entries limits
-  pub entries : All (IsEntry kind cells) xs
-  pub once : kind.once ≡ true → AllPairs (Differ kind) xs
-  pub suits : kind.suits p xs ≡ true
-
 -- the periods with these lists
 abbrev pub with_lists : {E : Type 0} → Kind E → List Period → List (List E) → List Period
 with_lists kind [] lists = []

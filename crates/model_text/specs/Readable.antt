@@ -1,20 +1,12 @@
 -- What is asked of recharge and evapotranspiration, so that a file can say them.
-use Rattle.std.specs.Prelude.{◌≡◌, ℕ, ◌<◌, ℤ, true, false, List, [], ◌∷◌, All, Ok, length}
+use Rattle.std.specs.Prelude.{◌≡◌, ℕ, ℤ, true, List, [], ◌∷◌, All, Ok, length}
 use Rattle.model_types.specs.declared.model.FlowModel.{FlowModel}
-use Rattle.model_types.specs.declared.grid.Grid.{Grid}
 use Rattle.model_types.specs.declared.period.Period.{Period}
-use Rattle.model_types.specs.{layer_size, cell_count, int_at, is_int}
-use Rattle.period_arrays.specs.{is_option, is_layer, IsReals, IsWhole, ArrayKind, with_area}
+use Rattle.model_types.specs.{cell_count}
+use Rattle.period_arrays.specs.{is_option, IsLayers, IsReals, ArrayKind, with_area}
 use Rattle.evt_package.specs.{columns_tested, area_in}
 use Rattle.array_text.specs.{IsShort}
 use Rattle.decimal_input.specs.{IsDec}
-
--- IRCH or IEVT: layers of the grid, or 0, under option 2; else nothing
-pub record IsLayers (g : Grid) (option : ℤ) (xs : List ℤ) : Type 0 where
-  pub none : is_int option 2 ≡ false → xs ≡ []
-  pub whole : is_int option 2 ≡ true → IsWhole g xs
-  pub short : All IsShort xs
-  pub layers : is_int option 2 ≡ true → (i : ℕ) → i < layer_size g → is_layer g (int_at xs i) ≡ true
 
 -- RCH: NRCHOP from 1 to 3
 pub record IsRecharged (m : FlowModel) : Type 0 where

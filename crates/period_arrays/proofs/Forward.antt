@@ -1,7 +1,6 @@
 -- The line of the option leaves lines that it was given.
 use Rattle.period_arrays.proofs.Common.{◌≡◌, ℕ, ℤ, List, Ok, All, IfOk, LineMay, LinesMay, chain, after, leaves, ArrayKind, option_line, unit_if, Left}
-use Rattle.period_arrays.proofs.Common.{Numbered, option_at, words}
-use Rattle.list_package.specs.{item_line}
+use Rattle.period_arrays.proofs.Common.{Numbered, option_at, words, item_line}
 use Rattle.list_package.proofs.Forward.{item_held}
 
 option_held : (P : Numbered → Type 0) (kind : ArrayKind) (file : List ℕ) (left : Left) → All P left.lines → IfOk (option_line kind file left) (λ x. All P x.1.lines)

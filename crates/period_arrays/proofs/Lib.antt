@@ -1,4 +1,5 @@
 mod Common
 pub mod PlaceLemmas
-pub mod AreaLemmas
+pub mod AreaForms
+pub mod FileForms
 pub mod Forward

@@ -1,7 +1,6 @@
 -- Places of an array of one layer as cells of layer 1.
-use Rattle.period_arrays.proofs.Common.{ℕ, ◌*◌, ◌<◌, ◌≤◌, arith, Grid}
+use Rattle.period_arrays.proofs.Common.{ℕ, ◌*◌, ◌<◌, ◌≤◌, arith, Grid, layer_size, cell_count, HasSize}
 use Rattle.std.proofs.Math.Nat.{mul-le-mul_right}
-use Rattle.model_types.specs.{layer_size, cell_count, HasSize}
 
 pub in_grid : (g : Grid) (i : ℕ) → HasSize g → i < layer_size g → i < cell_count g
 in_grid g i size lt =

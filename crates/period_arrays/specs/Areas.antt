@@ -116,9 +116,6 @@ pub record ArrayKind : Type 0 where
 abbrev pub contents : ArrayKind → ℤ → Contents
 contents kind option = record { evaporates = kind.evaporates; layered = is_int option 2 }
 
--- a period with these arrays, and without its arrays of this kind
+-- a period with these arrays
 abbrev pub with_area : ArrayKind → Period → Area → Period
 with_area kind p area = record p { stresses = kind.put p.stresses area }
-
-abbrev pub without : ArrayKind → Period → Period
-without kind p = with_area kind p no_area

@@ -1,5 +1,5 @@
 -- A file of a package of arrays (TM 6-A16, RCH and EVT).
-use Rattle.std.specs.Prelude.{ℕ, ℤ, Bool, List, Result, Ok, if◌then◌else◌, ◌≡◌, true, false, All, length}
+use Rattle.std.specs.Prelude.{ℕ, ℤ, Bool, List, [], Result, Ok, if◌then◌else◌, ◌≡◌, ◌<◌, true, false, All, length}
 use Rattle.outside.specs.{FileSet, words}
 use Rattle.outside.specs.declared.inputs.Refusal.{Refusal}
 use Rattle.record_lines.specs.{Left, left_from, without_comments, ◌>>=◌, for_each}
@@ -7,7 +7,7 @@ use Rattle.array_reader.specs.{number_at, integer}
 use Rattle.model_types.specs.declared.grid.Grid.{Grid}
 use Rattle.model_types.specs.declared.period.Period.{Period}
 use Rattle.list_package.specs.{item_line, without_state}
-use Rattle.period_arrays.specs.Areas.{area_at, nothing_yet, option_at, ArrayKind, contents, with_area, refusal_at}
+use Rattle.period_arrays.specs.Areas.{area_at, nothing_yet, option_at, ArrayKind, contents, with_area, refusal_at, is_layer}
 use Rattle.period_arrays.specs.declared.area.Area.{Area}
 use Rattle.period_arrays.specs.declared.area.InForce.{InForce}
 use Rattle.period_arrays.specs.declared.read.ArrayFile.{ArrayFile}
@@ -15,9 +15,8 @@ use Rattle.decimal_input.specs.declared.dec.Dec.{Dec}
 use Rattle.decimal_input.specs.{IsDec}
 use Rattle.outside.specs.declared.codes.Code.{Code}
 use Rattle.outside.specs.declared.inputs.TextFault.{TextFault}
-use Rattle.model_types.specs.{layer_size}
-use Rattle.period_arrays.specs.declared.flags.Contents.{Contents}
-use Rattle.period_arrays.specs.declared.flags.Flags.{Flags}
+use Rattle.model_types.specs.{layer_size, int_at, is_int}
+use Rattle.array_text.specs.{IsShort}
 use Rattle.outside.specs.declared.inputs.TextFault.TheVariants as texts
 
 -- a period's arrays, which are tested once all of them are read
@@ -70,20 +69,21 @@ abbrev pub IsCellRefusal : Code → List ℕ → Grid → ℕ → TextFault → 
 IsCellRefusal code file grid cell (texts.Refused r) = r ≡ refusal_at code file grid cell
 IsCellRefusal code file grid cell texts.Memory = Unit {0}
 
--- the arrays of a package's file
-pub record IsArea (contents : Contents) (grid : Grid) (area : Area) : Type 0 where
-  pub surfaces : contents.evaporates ≡ true → IsReals grid area.surfaces
-  pub rates : IsReals grid area.rates
-  pub depths : contents.evaporates ≡ true → IsReals grid area.depths
-  pub layers : contents.layered ≡ true → IsWhole grid area.layers
+-- IRCH or IEVT: layers of the grid, or 0, under option 2; else nothing
+pub record IsLayers (g : Grid) (option : ℤ) (xs : List ℤ) : Type 0 where
+  pub none : is_int option 2 ≡ false → xs ≡ []
+  pub whole : is_int option 2 ≡ true → IsWhole g xs
+  pub short : All IsShort xs
+  pub layers : is_int option 2 ≡ true → (i : ℕ) → i < layer_size g → is_layer g (int_at xs i) ≡ true
+
+-- the arrays of a period by an option
+pub record IsArea (evaporates : Bool) (g : Grid) (option : ℤ) (area : Area) : Type 0 where
+  pub surfaces : evaporates ≡ true → IsReals g area.surfaces
+  pub rates : IsReals g area.rates
+  pub depths : evaporates ≡ true → IsReals g area.depths
+  pub layers : IsLayers g option area.layers
 
 -- the arrays of the period before, if there is one
-abbrev pub IsInForce : Contents → Grid → InForce → Type 0
-IsInForce contents grid before = before.listed ≡ true → IsArea contents grid before.area
-
--- an array that isn't read anew is one of the period before
-pub record AreFlags (contents : Contents) (listed : Bool) (flags : Flags) : Type 0 where
-  pub surface : contents.evaporates ≡ true → flags.surface ≡ false → listed ≡ true
-  pub rate : flags.rate ≡ false → listed ≡ true
-  pub depth : contents.evaporates ≡ true → flags.depth ≡ false → listed ≡ true
-  pub layer : contents.layered ≡ true → flags.layer ≡ false → listed ≡ true
+pub record IsInForce (evaporates : Bool) (g : Grid) (option : ℤ) (before : InForce) : Type 0 where
+  pub area : before.listed ≡ true → IsArea evaporates g option before.area
+  pub none : is_int option 2 ≡ false → before.area.layers ≡ []

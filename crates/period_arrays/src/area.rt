@@ -1,10 +1,10 @@
 // The arrays of recharge or evapotranspiration that are in force.
-ghost use Rattle.std.specs.Prelude.{◌≡◌, IfOk, true, false, List};
+ghost use Rattle.std.specs.Prelude.{◌≡◌, IfOk, List};
 ghost use Rattle.outside.specs.{FileSet, ReadsOn};
 ghost use Rattle.record_lines.specs.{LinesMay, Gives};
 ghost use Rattle.array_reader.specs.{real_layer};
 ghost use Rattle.model_types.specs.{HasSize};
-ghost use Rattle.period_arrays.specs.{area_at, array_or, arrays_of, nothing_yet, layers_at, AreFlags, IsArea, IsInForce, IsReals, IsWhole};
+ghost use Rattle.period_arrays.specs.{area_at, array_or, arrays_of, nothing_yet, layers_at};
 
 use crate::flags::{Contents, Flags, flags_of};
 use crate::layers::test_layers;
@@ -82,7 +82,6 @@ fn reals_or<F: Folder>(
     ensures lines { IfOk result (λ _. LinesMay (F.may folder.new) lines.new) }
     ensures array { (files : FileSet) → F.agrees folder.new files →
         Gives (λ xs. xs) result lines.new (array_or (real_layer files file.now grid.now.rows grid.now.cols) anew before.now lines.old) }
-    ensures form { IfOk result (λ xs. (anew ≡ false → IsReals grid.now before.now) → IsReals grid.now xs) }
 {
     if anew {
         let values = read_layer(alloc, lines, file, folder, grid.rows, grid.cols)?;
@@ -109,7 +108,6 @@ fn layers_or<F: Folder>(
     ensures lines { IfOk result (λ _. LinesMay (F.may folder.new) lines.new) }
     ensures array { (files : FileSet) → F.agrees folder.new files →
         Gives (λ xs. xs) result lines.new (array_or (layers_at files file.now grid.now) anew before.now lines.old) }
-    ensures form { IfOk result (λ xs. (anew ≡ false → IsWhole grid.now before.now) → IsWhole grid.now xs) }
 {
     if anew {
         let values = read_int_layer(alloc, lines, file, folder, grid.rows, grid.cols)?;
@@ -128,21 +126,16 @@ fn arrays_of<F: Folder>(
     file: &str,
     folder: &mut F,
     grid: &Grid,
-    contents: Contents,
     flags: Flags,
-    before: &InForce,
+    last: &Area,
 ) -> Result<Area, InputFault>
     requires size { HasSize grid.now }
-    requires flags { AreFlags contents before.now.listed flags }
-    requires before { IsInForce contents grid.now before.now }
     requires lines { LinesMay (F.may folder.old) lines.old }
     ensures folder { ReadsOn F.Folder folder.old folder.new result }
     ensures lines { IfOk result (λ _. LinesMay (F.may folder.new) lines.new) }
     ensures area { (files : FileSet) → F.agrees folder.new files →
-        Gives (λ a. a) result lines.new (arrays_of files file.now grid.now flags before.now.area lines.old) }
-    ensures form { IfOk result (IsArea contents grid.now) }
+        Gives (λ a. a) result lines.new (arrays_of files file.now grid.now flags last.now lines.old) }
 {
-    let last = &before.area;
     let surfaces = reals_or(
         alloc,
         lines,
@@ -175,14 +168,11 @@ pub fn area_at<F: Folder>(
     before: &mut InForce,
 ) -> Result<Area, InputFault>
     requires size { HasSize grid.now }
-    requires before { IsInForce contents grid.now before.old }
     requires lines { LinesMay (F.may folder.old) lines.old }
     ensures folder { ReadsOn F.Folder folder.old folder.new result }
     ensures lines { IfOk result (λ _. LinesMay (F.may folder.new) lines.new) }
     ensures area { (files : FileSet) → F.agrees folder.new files →
         Gives (λ a. a) result (before.new, lines.new) (area_at contents files file.now grid.now (before.old, lines.old)) }
-    ensures before { IfOk result (λ _. IsInForce contents grid.now before.new) }
-    ensures form { IfOk result (IsArea contents grid.now) }
 {
     let line = next_line(alloc, lines, file)?;
     let flags = flags_of(
@@ -193,7 +183,7 @@ pub fn area_at<F: Folder>(
         line.number,
         before.listed,
     )?;
-    let area = arrays_of(alloc, lines, file, folder, grid, contents, flags, before)?;
+    let area = arrays_of(alloc, lines, file, folder, grid, flags, &before.area)?;
     before.area = area.again()?;
     before.listed = true;
     Ok(area)

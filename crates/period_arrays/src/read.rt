@@ -1,9 +1,9 @@
 // The file of a package of arrays.
-ghost use Rattle.std.specs.Prelude.{◌≡◌, ◌≤ℤ◌, pos, All, IfOk, List, map};
+ghost use Rattle.std.specs.Prelude.{List};
 ghost use Rattle.outside.specs.{TextMay, FileSet, ReadsOn};
 ghost use Rattle.record_lines.specs.{GivesText, Has, HasText};
 ghost use Rattle.model_types.specs.{HasSize};
-ghost use Rattle.period_arrays.specs.{without, arrays_in, option_line};
+ghost use Rattle.period_arrays.specs.{arrays_in, option_line};
 
 use crate::flags::option_at;
 use crate::package::ArrayPackage;
@@ -29,8 +29,7 @@ fn option_line<P: ArrayPackage>(
     lines: &mut Lines,
     file: &str,
 ) -> Result<i64, TextFault>
-    ensures option { GivesText (λ z. z) result lines.new (option_line P.kind file.now lines.old) }
-    ensures range { IfOk result (λ z. (pos 1 ≤ℤ z) × (z ≤ℤ pos 3)) }
+    ensures { GivesText (λ z. z) result lines.new (option_line P.kind file.now lines.old) }
 {
     let line = item_line(alloc, lines, file)?;
     let mut words = Words::of(&line);
@@ -61,9 +60,6 @@ pub fn read_arrays<P: ArrayPackage, F: Folder>(
     ensures folder { ReadsOn F.Folder folder.old folder.new result }
     ensures arrays_read { (files : FileSet) → F.agrees folder.new files →
         Has (λ a. a) result (arrays_in P.kind files file.now bytes.now grid.now ibound.now periods.items) }
-    ensures option { IfOk result (λ a. (pos 1 ≤ℤ a.option) × (a.option ≤ℤ pos 3)) }
-    ensures arrays { IfOk result (λ a. All (λ p. P.HasArrays file.now grid.now ibound.now a.option p.stresses) a.periods) }
-    ensures others { IfOk result (λ a. map (without P.kind) a.periods ≡ map (without P.kind) periods.items) }
 {
     let mut lines = Lines::new(bytes);
     lines.skip_comments();

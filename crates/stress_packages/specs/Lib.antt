@@ -1,3 +1,3 @@
 pub mod Packages
-pub use Rattle.stress_packages.specs.Packages.{AreArrays, HasRecharge, IsRecharged, SameBut, drains, generals, recharge_arrays, rivers, wells}
+pub use Rattle.stress_packages.specs.Packages.{drains, generals, recharge_arrays, rivers, wells}
 unfoldable pub use Rattle.stress_packages.specs.Packages.{rch_of}

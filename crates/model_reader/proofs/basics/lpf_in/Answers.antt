@@ -1,12 +1,12 @@
-use Rattle.std.proofs.lemmas.Result.{err_from_is_err_and}
-use Rattle.model_reader.proofs.FlowLemmas.{grid_kept, heads_kept, lpf_read, lpf_refused, model_of}
+use Rattle.model_reader.proofs.Common.{ap, err_from_is_err_and, subst, sym, ◌∙◌, FlowModel, IsGrid, All, IsDec}
+use Rattle.model_reader.proofs.ReadLemmas.{lpf_read, lpf_refused}
 use Rattle.model_reader.proofs.basics.lpf_in.Goals as goal
 
 pub check_model-requires-clause-grid : goal.check_model-requires-clause-grid
-check_model-requires-clause-grid g c = grid_kept c.in_ok-bytes.basic c.in_ok-flow.flow c.in_ok-flow.ensures.others (rw c.in_ok-bytes.ensures.same c.requires.basic)
+check_model-requires-clause-grid g c = subst IsGrid (sym (ap (λ (m : FlowModel). m.grid) c.in_ok-flow.ensures.others ∙ ap (λ (m : FlowModel). m.grid) c.in_ok-bytes.ensures.same)) c.requires.grid
 
 pub check_model-requires-clause-strt : goal.check_model-requires-clause-strt
-check_model-requires-clause-strt g c = heads_kept c.in_ok-bytes.basic c.in_ok-flow.flow c.in_ok-flow.ensures.others (rw c.in_ok-bytes.ensures.same c.requires.basic)
+check_model-requires-clause-strt g c = subst (All IsDec) (sym (ap (λ (m : FlowModel). m.strt) c.in_ok-flow.ensures.others ∙ ap (λ (m : FlowModel). m.strt) c.in_ok-bytes.ensures.same)) c.requires.strt
 
 pub returns-in_err-good-clause-model : goal.returns-in_err-good-clause-model
 returns-in_err-good-clause-model g c = λ files agree.
@@ -16,5 +16,6 @@ returns-in_err-good-clause-model g c = λ files agree.
 pub returns-clause-model : goal.returns-clause-model
 returns-clause-model g c = λ files agree. lpf_read files _ _ _ _ _ _ (c.in_ok-bytes.ensures.bytes files (c.in_ok-flow.ensures.folder.since files agree)) c.in_ok-bytes.ensures.same (rw c.deref.ensures.value at (c.in_ok-flow.ensures.model files agree)) c.in_ok-good.ensures.check c.in_ok-good.ensures.same
 
-pub returns-clause-form : goal.returns-clause-form
-returns-clause-form g c = rw c.in_ok-good.ensures.same (model_of c.in_ok-bytes.basic c.in_ok-flow.flow c.args.name.now (rw c.in_ok-bytes.ensures.same c.requires.basic) c.in_ok-flow.ensures.others c.in_ok-flow.ensures.form c.in_ok-good.ensures.check)
+pub returns-clause-grid : goal.returns-clause-grid
+returns-clause-grid g c =
+    subst IsGrid (sym (ap (λ (m : FlowModel). m.grid) c.in_ok-good.ensures.same ∙ ap (λ (m : FlowModel). m.grid) c.in_ok-flow.ensures.others ∙ ap (λ (m : FlowModel). m.grid) c.in_ok-bytes.ensures.same)) c.requires.grid

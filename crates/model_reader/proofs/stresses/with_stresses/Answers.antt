@@ -1,10 +1,9 @@
-use Rattle.model_reader.proofs.Common.{err_from_is_err_and, names_still, refl, stresses}
-use Rattle.name_file.specs.declared.package.Package.TheVariants.{Dis}
-use Rattle.model_reader.proofs.BasicLemmas.{both_read, reads_nothing, stress_read, stress_stops, stresses_done}
+use Rattle.model_reader.proofs.Common.{err_from_is_err_and, names_still, refl, stresses, Dis}
+use Rattle.model_reader.proofs.ReadLemmas.{both_read, reads_nothing, stress_read, stress_stops, stresses_done}
 use Rattle.model_reader.proofs.stresses.with_stresses.Goals as goal
 
 pub loop-asked-init : goal.loop-asked-init
-loop-asked-init g c = (reads_nothing, (λ files agree. refl), c.requires.names, c.requires.valid)
+loop-asked-init g c = (reads_nothing, (λ files agree. refl), c.requires.names, c.requires.size)
 
 pub loop-asked-preserved : goal.loop-asked-preserved
 loop-asked-preserved g c = (
@@ -12,7 +11,7 @@ loop-asked-preserved g c = (
   (λ files agree. stress_read c.args.limits files c.args.names.now stresses c.loop-asked.asked-index Dis c.loop-asked-test.true c.loop-asked.model _ _
       (c.in_ok-next.ensures.model files agree) (c.loop-asked.invariant.1 files (c.in_ok-next.ensures.folder.since files agree))),
   names_still _ _ _ (λ name h. c.in_ok-next.ensures.folder.still name h) c.loop-asked.invariant.2,
-  c.in_ok-next.ensures.form,
+  rw c.in_ok-next.ensures.grid c.loop-asked.invariant.3,
 )
 
 pub returns-in_err-next-clause-model : goal.returns-in_err-next-clause-model

@@ -1,5 +1,4 @@
-use Rattle.model_reader.proofs.Common.{◌≡◌, Ok, FileSet, IsModel, stresses, with_stresses, drop, ReadsOn}
-use Rattle.name_file.specs.{NamesMay}
+use Rattle.model_reader.proofs.Common.{◌≡◌, Ok, FileSet, stresses, with_stresses, drop, ReadsOn, HasSize, NamesMay}
 use Rattle.model_reader.proofs.stresses.with_stresses.Given as goal
 
 abbrev pub invariant-loop-asked : goal.invariant-loop-asked
@@ -7,4 +6,4 @@ invariant-loop-asked g l =
     ReadsOn g.F.Folder l.fn.folder l.folder (Ok l.model)
     × ((files : FileSet) → g.F.Folder.agrees l.folder files → with_stresses l.limits files l.names (drop l.asked-index stresses) l.model ≡ with_stresses l.limits files l.names stresses l.fn.model)
     × NamesMay (g.F.Folder.may l.folder) l.names
-    × IsModel l.model
+    × HasSize l.model.grid

@@ -1,7 +1,5 @@
-use Rattle.period_arrays.proofs.Common.{◌∙◌, sym, into_iter_items, err_from_is_err_and, without, no_items, each_goes_on, each_stops, each_done, stops_all}
-use Rattle.period_arrays.proofs.Common.{periods_of, refl}
-use Rattle.array_reader.proofs.ListLemmas.{all_pushed}
-use Rattle.list_package.proofs.PeriodLemmas.{one_more_same, all_same}
+use Rattle.period_arrays.proofs.Common.{◌∙◌, sym, into_iter_items, err_from_is_err_and, no_items, each_goes_on, each_stops, each_done, stops_all, periods_of}
+use Rattle.period_arrays.proofs.Common.{refl}
 use Rattle.period_arrays.proofs.periods.periods_of.Goals as goal
 
 pub returns-in_err-period-clause-periods : goal.returns-in_err-period-clause-periods
@@ -19,15 +17,10 @@ loop-period-preserved g c = (
   (λ files agree. c.loop-period.invariant.3 files (c.in_ok-period.ensures.folder.since files agree)),
   c.in_ok-period.ensures.folder.counts ∙ c.loop-period.invariant.4,
   c.in_ok-period.ensures.before,
-  all_pushed (λ p. g.P.ArrayPackage.HasArrays c.args.file.now c.args.grid.now c.args.ibound.now c.args.option.now p.stresses) c.loop-period.whole.items _ c.in_ok-period.period c.in_ok-push.ensures.items c.loop-period.invariant.6 c.in_ok-period.ensures.arrays,
-  rw c.in_ok-push.ensures.items (one_more_same (without g.P.ArrayPackage.kind) c.loop-period.whole.items (into_iter_items c.loop-period.period-iterator) (into_iter_items c.next.new.self) _ c.in-Some.period c.in_ok-period.period c.in-Some.ensures.steps.0 c.in_ok-period.ensures.others c.loop-period.invariant.7),
-  (λ name h. c.in_ok-period.ensures.folder.still name (c.loop-period.invariant.8 name h)),
+  (λ name h. c.in_ok-period.ensures.folder.still name (c.loop-period.invariant.6 name h)),
   c.in_ok-period.ensures.lines,
 )
 
 pub returns-clause-periods : goal.returns-clause-periods
 unfolding periods_of
 returns-clause-periods g c = λ files agree. rw (each_done _ c.loop-period.whole.items (into_iter_items c.loop-period.period-iterator) _ _ (no_items (into_iter_items c.loop-period.period-iterator) (sym c.loop-period.period-iterator.rest.ok.0 ∙ c.in-None.ensures.steps.0)) (c.loop-period.invariant.2 files agree)) refl
-
-pub returns-clause-others : goal.returns-clause-others
-returns-clause-others g c = all_same (without g.P.ArrayPackage.kind) c.loop-period.whole.items (into_iter_items c.loop-period.period-iterator) _ (no_items (into_iter_items c.loop-period.period-iterator) (sym c.loop-period.period-iterator.rest.ok.0 ∙ c.in-None.ensures.steps.0)) c.loop-period.invariant.7

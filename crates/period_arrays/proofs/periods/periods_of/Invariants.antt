@@ -1,5 +1,4 @@
-use Rattle.period_arrays.proofs.Common.{nothing_yet, ◌≡◌, ℕ, ◌++◌, map, All, into_iter_items, LinesMay, for_each, IsInForce, contents, without, period_at}
-use Rattle.period_arrays.proofs.Common.{with_front, FileSet}
+use Rattle.period_arrays.proofs.Common.{nothing_yet, ◌≡◌, ℕ, into_iter_items, LinesMay, for_each, IsInForce, period_at, with_front, FileSet}
 use Rattle.std.specs.Prelude.{List}
 use Rattle.period_arrays.proofs.periods.periods_of.Given as goal
 
@@ -9,7 +8,5 @@ invariant-loop-period g l =
     × ((files : FileSet) → g.F.Folder.agrees l.folder files → with_front l.whole.items (for_each (period_at g.P.ArrayPackage.kind files l.file l.grid l.ibound l.option) (into_iter_items l.period-iterator) (l.before, l.lines))
     ≡ for_each (period_at g.P.ArrayPackage.kind files l.file l.grid l.ibound l.option) l.fn.periods.items (nothing_yet, l.fn.lines))
     × ((files : FileSet) → g.F.Folder.agrees l.folder files → g.F.Folder.agrees l.fn.folder files) × (g.F.Folder.faults l.folder ≡ g.F.Folder.faults l.fn.folder)
-    × IsInForce (contents g.P.ArrayPackage.kind l.option) l.grid l.before
-    × All (λ p. g.P.ArrayPackage.HasArrays l.file l.grid l.ibound l.option p.stresses) l.whole.items
-    × (map (without g.P.ArrayPackage.kind) l.whole.items ++ map (without g.P.ArrayPackage.kind) (into_iter_items l.period-iterator) ≡ map (without g.P.ArrayPackage.kind) l.fn.periods.items)
+    × IsInForce g.P.ArrayPackage.kind.evaporates l.grid l.option l.before
     × ((name : List ℕ) → g.F.Folder.may l.fn.folder name → g.F.Folder.may l.folder name) × LinesMay (g.F.Folder.may l.folder) l.lines

@@ -5,4 +5,4 @@ use Rattle.period_arrays.proofs.read.read_arrays.Goals as goal
 pub periods_of-requires-clause-lines : goal.periods_of-requires-clause-lines
 periods_of-requires-clause-lines g c =
     let begun : LinesMay (g.F.Folder.may c.args.folder.now) c.skip_comments.new.self = rw (c.skip_comments.ensures, c.new-lines.ensures) (begun_held _ _ c.requires.text) in
-    option_leaves _ _ _ _ _ _ c.in_ok-option.ensures.option begun
+    option_leaves _ _ _ _ _ _ c.in_ok-option.ensures begun

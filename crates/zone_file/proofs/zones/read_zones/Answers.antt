@@ -1,5 +1,6 @@
-use Rattle.outside.specs.{folder_name}
+use Rattle.zone_file.proofs.Common.{folder_name, rules, arrays, some_give, zones_of}
 use Rattle.record_lines.proofs.Forward.{given, name_held, text_held}
+use Rattle.zone_file.proofs.ZoneLemmas.{zones_give}
 use Rattle.zone_file.proofs.zones.read_zones.Goals as goal
 
 pub read_input-requires-clause-may : goal.read_input-requires-clause-may
@@ -9,3 +10,16 @@ read_input-requires-clause-may g c =
 
 pub read_layers-requires : goal.read_layers-requires
 read_layers-requires g c = record { lines = rw (c.new-lines.ensures, c.deref.ensures.value) (text_held _ 1 _ c.in_ok-bytes.ensures.words) }
+
+pub test_zones-requires-clause-count : goal.test_zones-requires-clause-count
+test_zones-requires-clause-count g c =
+    let grid = c.args.model.now.grid in
+    rw c.deref-2.ensures.value (some_give (λ files. arrays.integer_grids files c.in_ok-file.file.now grid.layers grid.rows grid.cols c.new-lines.result) c.some_agree.ensures (λ files agree. c.in_ok-zones.ensures.layers files agree))
+
+pub returns-clause-count : goal.returns-clause-count
+unfolding zones_of
+returns-clause-count g c = (some_give (λ files. zones_give files c.args.model.now.grid c.args.name.now) c.some_agree.ensures (search rules)).0
+
+pub returns-clause-limits : goal.returns-clause-limits
+unfolding zones_of
+returns-clause-limits g c = (some_give (λ files. zones_give files c.args.model.now.grid c.args.name.now) c.some_agree.ensures (search rules)).1

@@ -1,20 +1,30 @@
 -- What is read of the arrays of a stress period.
-use Rattle.model_forms.proofs.Common.{◌≡◌, ℕ, ◌<◌, ◌≤◌, ℤ, pos, negsuc, Bool, true, false, List, [], length, All, Result, Ok, refl, sym, subst, arith, leb-true}
-use Rattle.model_forms.proofs.Common.{get_or_default, Dec, FileSet, words, Refusal, line_at, Left, real_layer, Grid, layer_size, HasSize, int_at, area_at}
-use Rattle.model_forms.proofs.Common.{array_or, arrays_of, nothing_yet, AreFlags, IsArea, IsReals, IsWhole, Area, InForce, arrays, Gives, done, goes_on, then_}
-use Rattle.model_forms.proofs.Common.{if_passed, weaker, both, IsShort, IsLayers, is_layer, layer_step, layers_tested, layers_at, not, ◌&&◌, number_at, integer}
-use Rattle.model_forms.proofs.Common.{is_option, option_at, is_negative, flag_at, flag_if, flags_of, if_clear, is_int}
+use Rattle.period_arrays.proofs.Common.{done, goes_on, if_clear, if_passed, then_, weaker, Gives, IsShort, HasSize, int_at, is_int, layer_size, Grid, FileSet}
+use Rattle.period_arrays.proofs.Common.{words, IsArea, IsInForce, IsLayers, IsReals, area_at, array_or, arrays_of, flag_at, flag_if, flags_of, is_layer}
+use Rattle.period_arrays.proofs.Common.{is_negative, is_option, layer_step, layers_at, layers_tested, nothing_yet, option_at, InForce, Left, line_at, All, Bool}
+use Rattle.period_arrays.proofs.Common.{List, Ok, [], arith, false, length, negsuc, not, pos, refl, subst, sym, true, ℕ, ℤ, ◌&&◌, ◌<◌, ◌≡◌, ◌≤◌, each_step}
+use Rattle.array_reader.specs.{integer, number_at, real_layer}
+use Rattle.array_text.proofs.ArrayForms.{arrays}
+use Rattle.decimal_input.specs.declared.dec.Dec.{Dec}
+use Rattle.std.proofs.lemmas.Bool.{leb-true}
+use Rattle.std.proofs.lemmas.List.{get_or_default}
 use Rattle.array_text.proofs.LayerForms.{layer_is}
 use Rattle.period_arrays.specs.declared.flags.Contents.{Contents}
 use Rattle.period_arrays.specs.declared.flags.Flags.{Flags}
-use Rattle.period_arrays.proofs.AreaLemmas.{is_area}
-use Rattle.record_lines.proofs.Loops.{each_step}
 
 -- What is read of the option and the flags of a package of arrays.
 reused : (a b : Bool) → (a && not b) ≡ false → not a ≡ false → b ≡ true
 reused true true e f = refl
 reused true false e f = absurd (let clash : true ≡ false = e in cc)
 reused false b e f = absurd (let clash : true ≡ false = f in cc)
+
+-- an array that isn't read anew is one of the period before
+record AreFlags (contents : Contents) (listed : Bool) (flags : Flags) : Type 0 where
+  surface : contents.evaporates ≡ true → flags.surface ≡ false → listed ≡ true
+  rate : flags.rate ≡ false → listed ≡ true
+  depth : contents.evaporates ≡ true → flags.depth ≡ false → listed ≡ true
+  layer : contents.layered ≡ true → flags.layer ≡ false → listed ≡ true
+  none : contents.layered ≡ false → flags.layer ≡ false
 
 -- an array that isn't read anew was read before; a flag that isn't there reads none
 record IsFlag (present listed flag : Bool) : Type 0 where
@@ -30,25 +40,18 @@ module _ (file : List ℕ) (line : ℕ) where
   flag_if_is true listed ws = weaker (flag_is listed ws) (λ x h. record { there = λ e. h; none = λ e. absurd (let clash : true ≡ false = e in cc) })
   flag_if_is false listed ws = done (record { there = λ e. absurd (let clash : false ≡ true = e in cc); none = λ e. refl })
 
-  pub flags_are : (contents : Contents) (listed : Bool) (ws : List (List ℕ)) → Gives (λ f. AreFlags contents listed f × (contents.layered ≡ false → f.layer ≡ false)) (flags_of contents file line listed ws)
+  flags_are : (contents : Contents) (listed : Bool) (ws : List (List ℕ)) → Gives (AreFlags contents listed) (flags_of contents file line listed ws)
   unfolding flags_of
   flags_are contents listed ws =
       then_ _ (flag_if_is contents.evaporates listed ws) (λ surface a. then_ _ (flag_is listed surface.1) (λ rate b. then_ _ (flag_if_is contents.evaporates listed rate.1)
-      (λ depth c. then_ _ (flag_if_is contents.layered listed depth.1) (λ layer d. done (record { surface = a.there; rate = b; depth = c.there; layer = d.there }, d.none)))))
+      (λ depth c. then_ _ (flag_if_is contents.layered listed depth.1) (λ layer d. done (record { surface = a.there; rate = b; depth = c.there; layer = d.there; none = d.none })))))
 
   pub option_is : (ws : List (List ℕ)) → Gives (λ x. is_option x.0 ≡ true) (option_at file line ws)
   unfolding option_at
   option_is ws = goes_on (number_at integer file line ws) _ (λ z e. if_passed (is_option z.0) _ _ (λ active. done active))
 
-module _ {X : Type 0} (read : Left → Result (List X × Left) Refusal) where
-  -- an array is read anew, or it is the last one
-  array_is : (P : List X → Type 0) → ((left : Left) → Gives (λ x. P x.0) (read left)) → (anew : Bool) (before : List X) (left : Left)
-      → Gives (λ x. (anew ≡ false → P before) → P x.0) (array_or read anew before left)
-  array_is P each true before left = weaker (each left) (λ x h last. h)
-  array_is P each false before left = done (λ last. last refl)
-
 -- layers of the grid, or 0
-pub record AreOfGrid (g : Grid) (xs : List ℤ) : Type 0 where
+record AreOfGrid (g : Grid) (xs : List ℤ) : Type 0 where
   pub whole : length xs ≡ layer_size g
   pub inside : (i : ℕ) → i < layer_size g → is_layer g (int_at xs i) ≡ true
 
@@ -80,22 +83,14 @@ by_option g option xs size there none = record {
 of_grid : (g : Grid) (option : ℤ) (xs : List ℤ) → IsLayers g option xs → is_int option 2 ≡ true → AreOfGrid g xs
 of_grid g option xs h e = record { whole = h.whole e; inside = h.layers e }
 
--- arrays of a period by an option
-pub record HasArrays (contents : Contents) (g : Grid) (option : ℤ) (a : Area) : Type 0 where
-  pub arrays : IsArea contents g a
-  pub layers : IsLayers g option a.layers
-
--- the arrays in force, before the first period none
-pub record IsState (contents : Contents) (g : Grid) (option : ℤ) (s : InForce) : Type 0 where
-  pub has : s.listed ≡ true → HasArrays contents g option s.area
-  pub none : is_int option 2 ≡ false → s.area.layers ≡ []
-
-pub first_state : (contents : Contents) (g : Grid) (option : ℤ) → IsState contents g option nothing_yet
-first_state contents g option = record { has = λ e. absurd (let clash : false ≡ true = e in cc); none = λ e. refl }
+pub first_area : (evaporates : Bool) (g : Grid) (option : ℤ) → IsInForce evaporates g option nothing_yet
+first_area evaporates g option = record { area = λ e. absurd (let clash : false ≡ true = e in cc); none = λ e. refl }
 
 module _ (files : FileSet) (file : List ℕ) (g : Grid) where
+  -- an array is read anew, or it is the last one
   reals_are : (anew : Bool) (before : List Dec) (left : Left) → Gives (λ x. (anew ≡ false → IsReals g before) → IsReals g x.0) (array_or (real_layer files file g.rows g.cols) anew before left)
-  reals_are = array_is (real_layer files file g.rows g.cols) (IsReals g) (layer_is files file g.rows g.cols)
+  reals_are true before left = weaker (layer_is files file g.rows g.cols left) (λ x h last. h)
+  reals_are false before left = done (λ last. last refl)
 
   tested_are : (xs : List ℤ) (u : Unit {0}) → layers_tested file g xs ≡ Ok u → (i : ℕ) → i < layer_size g → is_layer g (int_at xs i) ≡ true
   unfolding layers_tested
@@ -119,18 +114,21 @@ module _ (files : FileSet) (file : List ℕ) (g : Grid) where
     abbrev its : Contents
     its = record { evaporates = evaporates; layered = is_int option 2 }
 
-    arrays_are : (f : Flags) (s : InForce) (left : Left) → AreFlags its s.listed f → (is_int option 2 ≡ false → f.layer ≡ false) → IsState its g option s
-        → Gives (λ x. HasArrays its g option x.0) (arrays_of files file g f s.area left)
+    arrays_are : (f : Flags) (s : InForce) (left : Left) → AreFlags its s.listed f → IsInForce evaporates g option s → Gives (λ x. IsArea evaporates g option x.0) (arrays_of files file g f s.area left)
     unfolding arrays_of
-    arrays_are f s left are unread so =
-        let before = s.area in
-        then_ _ (reals_are f.surface before.surfaces left) (λ surfaces a. then_ _ (reals_are f.rate before.rates surfaces.1) (λ rates b. then_ _ (reals_are f.depth before.depths rates.1)
-        (λ depths c. then_ _ (both (array_is (layers_at files file g) (λ zs. IsWhole g zs) (λ l. weaker (layers_are l) (λ x is. is.whole)) f.layer before.layers depths.1)
-        (layers_now size option f.layer before.layers depths.1 (λ e k. of_grid g option before.layers (so.has (are.layer e k)).layers e) (λ e. (unread e, so.none e))))
-        (λ layers d. done (record { arrays = is_area its g s f surfaces.0 rates.0 depths.0 layers.0 are (λ e. (so.has e).arrays) a b c d.0; layers = d.1 })))))
+    arrays_are f s left are so =
+        let last = s.area in
+        then_ _ (reals_are f.surface last.surfaces left) (λ surfaces a. then_ _ (reals_are f.rate last.rates surfaces.1) (λ rates b. then_ _ (reals_are f.depth last.depths rates.1)
+        (λ depths c. then_ _ (layers_now size option f.layer last.layers depths.1 (λ e k. of_grid g option last.layers (so.area (are.layer e k)).layers e) (λ e. (are.none e, so.none e)))
+        (λ layers d. done (record {
+          surfaces = λ e. a (λ k. (so.area (are.surface e k)).surfaces e);
+          rates = b (λ k. (so.area (are.rate k)).rates);
+          depths = λ e. c (λ k. (so.area (are.depth e k)).depths e);
+          layers = d;
+        })))))
 
-    pub area_is : (s : InForce × Left) → IsState its g option s.0 → Gives (λ x. HasArrays its g option x.0 × IsState its g option x.1.0) (area_at its files file g s)
+    pub area_is : (s : InForce × Left) → IsInForce evaporates g option s.0 → Gives (λ x. IsArea evaporates g option x.0 × IsInForce evaporates g option x.1.0) (area_at its files file g s)
     unfolding area_at
     area_is s so =
-        goes_on (line_at file s.1) _ (λ line e. then_ _ (flags_are file line.0.number its s.0.listed (words line.0.bytes)) (λ flags f. then_ _ (arrays_are flags s.0 line.1 f.0 f.1 so)
-        (λ area has. done (has, record { has = λ e. has; none = has.layers.none }))))
+        goes_on (line_at file s.1) _ (λ line e. then_ _ (flags_are file line.0.number its s.0.listed (words line.0.bytes)) (λ flags f. then_ _ (arrays_are flags s.0 line.1 f so)
+        (λ area is. done (is, record { area = λ e. is; none = is.layers.none }))))

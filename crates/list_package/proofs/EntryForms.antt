@@ -1,9 +1,11 @@
 -- What is read of the entries of a list.
-use Rattle.model_forms.proofs.Common.{◌≡◌, ℕ, suc, ◌-◌, ◌<◌, ◌≤◌, ℤ, Bool, true, false, cond, List, [], ◌∷◌, length, get_or, set, All, Option, Some, None, refl}
-use Rattle.model_forms.proofs.Common.{sym, ap, ◌∙◌, arith, AllPairs, get_or-set_same, get_or-set_other, length-set, length-replicate, All-nil, All-cons, Dec}
-use Rattle.model_forms.proofs.Common.{IsDec, refusal, words, Code, CellOutside, line_at, Left, number_at, number, integer, CellId, Grid, cell_count, HasSize}
-use Rattle.model_forms.proofs.Common.{Kind, first_fault, item_is, Gives, done, refused, goes_on, then_, if_clear, weaker, repeated_are, repeated_gives, IsEntry}
-use Rattle.model_forms.proofs.Common.{Limits, most_entries, inside, cell_at, passed, entry_of, is_left_out, entry_at, no_marks, new_list, Differ}
+use Rattle.list_package.proofs.Common.{integer, number, number_at, done, goes_on, if_clear, refused, repeated_are, repeated_gives, then_, weaker, Gives, IsDec}
+use Rattle.list_package.proofs.Common.{Dec, Differ, IsEntry, Kind, cell_at, entry_at, entry_of, first_fault, is_left_out, new_list, no_marks, passed, HasSize}
+use Rattle.list_package.proofs.Common.{cell_count, most_entries, CellId, Grid, Limits, refusal, words, Code, CellOutside, Left, line_at, All, Bool, List, None}
+use Rattle.list_package.proofs.Common.{Option, Some, [], ap, arith, cond, false, get_or, length, refl, set, suc, sym, true, ℕ, ℤ, ◌-◌, ◌<◌, ◌∙◌, ◌∷◌, ◌≡◌, ◌≤◌}
+use Rattle.list_package.proofs.Common.{All-cons, All-nil, AllPairs}
+use Rattle.array_text.proofs.ArrayForms.{item_is}
+use Rattle.std.proofs.lemmas.List.{get_or-set_other, get_or-set_same, length-replicate, length-set}
 use Rattle.array_text.proofs.NumberForms.{number_is}
 use Rattle.std.proofs.lemmas.List.Kept.{AllPairs-cons}
 use Rattle.model_types.proofs.Numbering.{cell_within}

@@ -1,16 +1,36 @@
 -- What a file of a list package gives.
-use Rattle.model_forms.proofs.Common.{◌≡◌, ℕ, ◌≤◌, nat_le, ℤ, pos, negsuc, Bool, not, ◌&&◌, List, map, All, Option, Some, None, IfSome, is_some, refl, sym}
-use Rattle.model_forms.proofs.Common.{subst, ◌∙◌, leb-true, Dec, refusal, words, TooManyEntries, Refusal, line_at, Left, left_from, without_comments, number_at}
-use Rattle.model_forms.proofs.Common.{integer, CellId, Grid, FlowModel, Period, cell_count, HasSize, Count, entries, again, count_of, is_reused, has_parameters}
-use Rattle.model_forms.proofs.Common.{header_of, item_line, Kind, with_list, steps, goes_on, Gives, done, then_, if_clear, if_passed, IsListOf, Limits}
-use Rattle.model_forms.proofs.Common.{most_entries, list_of, list_at, lists_of, package_of, period_at, periods_of}
-use Rattle.model_forms.proofs.EntryForms.{IsNewList, no_list, new_list_is}
-use Rattle.model_forms.proofs.PeriodForms.{IsKnown, IsStage, each_are}
+use Rattle.list_package.proofs.Common.{integer, number_at, done, goes_on, if_clear, if_passed, then_, Gives, Dec, IsListOf, Kind, count_of, has_parameters}
+use Rattle.list_package.proofs.Common.{header_of, is_reused, item_line, list_at, list_of, lists_of, period_at, periods_of, with_list, HasSize, cell_count}
+use Rattle.list_package.proofs.Common.{most_entries, CellId, Grid, Limits, Period, refusal, words, TooManyEntries, Left, for_each, left_from, line_at}
+use Rattle.list_package.proofs.Common.{without_comments, All, Bool, IfSome, List, None, Option, Some, is_some, map, nat_le, negsuc, not, pos, refl, ℕ, ℤ, ◌&&◌}
+use Rattle.list_package.proofs.Common.{◌≡◌, ◌≤◌, [], ◌∷◌, Result, All-cons, All-head, All-nil, All-tail}
+use Rattle.list_package.specs.declared.header.Count.{Count}
+use Rattle.list_package.specs.declared.header.Count.TheVariants.{Entries, Again}
+use Rattle.outside.specs.declared.inputs.Refusal.{Refusal}
+use Rattle.std.proofs.lemmas.Bool.{leb-true}
+use Rattle.list_package.proofs.EntryForms.{IsNewList, no_list, new_list_is}
+
+-- the numbers and kinds of steps
+abbrev pub steps : Period → ℕ × Bool
+steps p = (p.nstp, p.steady)
+
+cons_same : {A : Type 0} (x y : A) (xs ys : List A) → x ≡ y → xs ≡ ys → x ∷ xs ≡ y ∷ ys
+cons_same x y xs ys e f = cc
+
+-- periods that are read with a state
+module _ {S : Type 0} (read : Period → S → Result (Period × S) Refusal) (I : S → Type 0) (P Q : Period → Type 0)
+    (step : (p : Period) (s : S) → I s → P p → Gives (λ x. Q x.0 × I x.1 × (steps x.0 ≡ steps p)) (read p s)) where
+  pub each_are : (ps : List Period) (s : S) → I s → All P ps → Gives (λ x. All Q x.0 × (map steps x.0 ≡ map steps ps)) (for_each read ps s)
+  unfolding for_each
+  each_are [] s good all = done (All-nil Q, refl)
+  each_are (p ∷ ps) s good all =
+      then_ _ (step p s good (All-head P p ps all)) (λ x one. then_ _ (each_are ps x.1 one.1 (All-tail P p ps all))
+      (λ more rest. done (All-cons Q x.0 more.0 one.0 rest.0, cons_same (steps x.0) (steps p) (map steps more.0) (map steps ps) one.2 rest.1)))
 
 -- ITMP as a count of entries
 abbrev IsFew : Limits → Count → Type 0
-IsFew limits (entries n) = n ≤ most_entries limits
-IsFew limits again = Unit {0}
+IsFew limits (Entries n) = n ≤ most_entries limits
+IsFew limits Again = Unit {0}
 
 count_is : (limits : Limits) (z : ℤ) (r : Refusal) → Gives (IsFew limits) (count_of limits z r)
 count_is limits (pos n) r = if_passed (nat_le n (most_entries limits)) _ _ (λ few. done (leb-true n (most_entries limits) few))
@@ -30,9 +50,9 @@ module _ {E : Type 0} (limits : Limits) (kind : Kind E) (placed : (c : CellId) (
   State = Option (List E) × Left
 
   chosen_is : (c : Count) (last : Option (List E)) (left : Left) → IsFew limits c → IfSome last IsList → Gives (λ x. IsList x.0) (list_of kind file g c last left)
-  chosen_is (entries n) last left few good = new_list_is kind placed file g size limits n left few
-  chosen_is again None left few good = done (no_list kind (cell_count g) limits)
-  chosen_is again (Some list) left few good = done good
+  chosen_is (Entries n) last left few good = new_list_is kind placed file g size limits n left few
+  chosen_is Again None left few good = done (no_list kind (cell_count g) limits)
+  chosen_is Again (Some list) left few good = done good
 
   list_is : (p : Period) (s : State) → IfSome s.0 IsList → Gives (λ x. IsListOf limits kind (cell_count g) p x.0 × IfSome x.1.0 IsList) (list_at limits kind file g p s)
   unfolding list_at
@@ -50,21 +70,3 @@ module _ {E : Type 0} (limits : Limits) (kind : Kind E) (placed : (c : CellId) (
     lists_are bytes ps all =
         goes_on (item_line file (without_comments (left_from 1 bytes))) _ (λ line a. goes_on (number_at integer file line.0.number (words line.0.bytes)) _
         (λ most b. then_ _ (each_are (period_at limits kind file g) (λ (s : State). IfSome s.0 IsList) P Q period_is ps (None, line.1) tt all) (λ x are. done are)))
-
--- a list package, from one stage to the next
-module _ {E : Type 0} (limits : Limits) (kind : Kind E) (placed : (c : CellId) (ds : List Dec) → kind.place (kind.entry c ds) ≡ c.0) (core : FlowModel) (size : HasSize core.grid) (nrchop : ℤ)
-    (put : (p : Period) (xs : List E) → IsKnown limits core.grid core.ibound nrchop (pos 0) p → IsListOf limits kind (cell_count core.grid) p xs → IsKnown limits core.grid core.ibound nrchop (pos 0) (with_list kind p xs)) where
-  abbrev at_stage : List Period → FlowModel
-  at_stage ps = record core { nrchop = nrchop; nevtop = pos 0; periods = ps }
-
-  abbrev Known : Period → Type 0
-  Known p = IsKnown limits core.grid core.ibound nrchop (pos 0) p
-
-  from_stage : (file bytes : List ℕ) (ps : List Period) → All Known ps → map steps ps ≡ map steps core.periods → Gives (IsStage limits core nrchop (pos 0)) (package_of limits kind file bytes (at_stage ps))
-  unfolding package_of
-  from_stage file bytes ps all same =
-      then_ _ (lists_are limits kind placed file core.grid size Known Known put bytes ps all) (λ qs are. done (record { is = refl; same = are.1 ∙ same; each = are.0 }))
-
-  pub package_is : (file bytes : List ℕ) (m : FlowModel) → IsStage limits core nrchop (pos 0) m → Gives (IsStage limits core nrchop (pos 0)) (package_of limits kind file bytes m)
-  package_is file bytes m stage =
-      subst (λ (x : FlowModel). Gives (IsStage limits core nrchop (pos 0)) (package_of limits kind file bytes x)) (sym stage.is) (from_stage file bytes m.periods stage.each stage.same)

@@ -1,18 +1,10 @@
 -- What is known of the stress periods of a model while its packages of stresses are read.
-use Rattle.model_forms.proofs.Common.{◌≡◌, ◌⊎◌, inl, inr, ℕ, ℤ, pos, true, false, List, [], ◌∷◌, map, All, Result, Ok, refl, ◌∙◌, All-nil, All-cons, All-head}
-use Rattle.model_forms.proofs.Common.{All-tail, Refusal, for_each, Grid, FlowModel, Period, cell_count, IsTimed, IsGrowing, number_one, given_heads, Kind}
-use Rattle.model_forms.proofs.Common.{subst, sym, with_list, steps, wells, rivers, drains, generals, is_option, IsReals, columns_tested, area_in, Gives, done}
-use Rattle.model_forms.proofs.Common.{then_, IsListOf, IsLayers, Limits, entries_in, kind_of, ListKind, Wells, Rivers, Drains, Generals, Stresses, with_entries}
+use Rattle.model_reader.proofs.Common.{HasEvaporation, steps, Kind, entries_in, given_heads, kind_of, with_entries, with_list, IsListOf, ListKind, Drains}
+use Rattle.model_reader.proofs.Common.{Generals, Rivers, Wells, IsLayers, IsReals, is_option, IsGrowing, IsTimed, cell_count, number_one, Grid, Limits}
+use Rattle.model_reader.proofs.Common.{FlowModel, Period, Stresses, All, List, [], false, inl, inr, map, pos, refl, subst, sym, true, ℕ, ℤ, ◌∙◌, ◌≡◌, ◌⊎◌}
+use Rattle.model_reader.proofs.Common.{drains, generals, rivers, wells}
 use Rattle.model_types.specs.declared.entry.Entry.{Entry}
 use Rattle.model_types.specs.declared.entry.Given.{Given}
-
--- evapotranspiration of stresses by this option
-pub record HasEvaporation (g : Grid) (ibound : List ℤ) (option : ℤ) (s : Stresses) : Type 0 where
-  pub surf : IsReals g s.surf
-  pub evtr : IsReals g s.evtr
-  pub exdp : IsReals g s.exdp
-  pub ievt : IsLayers g option s.ievt
-  pub passed : (file : List ℕ) → columns_tested file g ibound option (area_in s) ≡ Ok tt
 
 -- recharge and evapotranspiration of stresses by NRCHOP and NEVTOP
 pub record HasArrays (g : Grid) (ibound : List ℤ) (nrchop nevtop : ℤ) (s : Stresses) : Type 0 where
@@ -37,18 +29,6 @@ pub record IsStage (limits : Limits) (core : FlowModel) (nrchop nevtop : ℤ) (m
   pub is : m ≡ record core { nrchop = nrchop; nevtop = nevtop; periods = m.periods }
   pub same : map steps m.periods ≡ map steps core.periods
   pub each : All (IsKnown limits core.grid core.ibound nrchop nevtop) m.periods
-
-cons_same : {A : Type 0} (x y : A) (xs ys : List A) → x ≡ y → xs ≡ ys → x ∷ xs ≡ y ∷ ys
-cons_same x y xs ys e f = cc
-
-module _ {S : Type 0} (read : Period → S → Result (Period × S) Refusal) (I : S → Type 0) (P Q : Period → Type 0)
-    (step : (p : Period) (s : S) → I s → P p → Gives (λ x. Q x.0 × I x.1 × (steps x.0 ≡ steps p)) (read p s)) where
-  pub each_are : (ps : List Period) (s : S) → I s → All P ps → Gives (λ x. All Q x.0 × (map steps x.0 ≡ map steps ps)) (for_each read ps s)
-  unfolding for_each
-  each_are [] s good all = done (All-nil Q, refl)
-  each_are (p ∷ ps) s good all =
-      then_ _ (step p s good (All-head P p ps all)) (λ x one. then_ _ (each_are ps x.1 one.1 (All-tail P p ps all))
-      (λ more rest. done (All-cons Q x.0 more.0 one.0 rest.0, cons_same (steps x.0) (steps p) (map steps more.0) (map steps ps) one.2 rest.1)))
 
 module _ (p : Period) (s : Stresses) where
   grown : (p.tsmult ≡ number_one) ⊎ IsGrowing p → (p.tsmult ≡ number_one) ⊎ IsGrowing (record p { stresses = s })

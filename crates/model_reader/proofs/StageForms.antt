@@ -1,12 +1,31 @@
 -- The packages of stresses are read one after the other, each where the name file names it.
-use Rattle.model_forms.proofs.Common.{◌≡◌, ◌⊎◌, inl, inr, ℕ, ℤ, pos, Bool, true, false, List, [], All, Option, Some, None, refl, sym, subst, arith}
-use Rattle.model_forms.proofs.Common.{if◌then◌else◌, All-nil, All-weaker, Dec, FileSet, file_at, Pairs, file_of, Wel, Riv, Drn, Ghb, Rch, Chd, Evt, CellId}
-use Rattle.model_forms.proofs.Common.{Grid, FlowModel, Period, cell_count, HasSize, IsTimed, IsNewPeriod, without_stresses, given_heads, is_growing, Kind}
-use Rattle.model_forms.proofs.Common.{with_list, wells, is_option, Gives, done, goes_on, then_, weaker, IsEntry, IsListOf, Limits, where_named, file_in}
-use Rattle.model_forms.proofs.Common.{stresses, with_stresses, evt_of, entries_in, kind_of, ListKind, Wells, Rivers, Drains, Generals, package_of, rch_of}
-use Rattle.model_forms.proofs.ListForms.{package_is}
-use Rattle.model_forms.proofs.RchForms.{evt_is, rch_is}
-use Rattle.model_forms.proofs.PeriodForms.{IsKnown, IsStage, no_option, with_entry_list, with_given_list}
+use Rattle.model_reader.proofs.Common.{done, goes_on, then_, weaker, Gives, Dec, IsNewPeriod, without_stresses, evt_of, Kind, entries_in, given_heads}
+use Rattle.model_reader.proofs.Common.{is_growing, kind_of, package_of, with_list, IsEntry, IsListOf, ListKind, Drains, Generals, Rivers, Wells, file_in}
+use Rattle.model_reader.proofs.Common.{stresses, where_named, with_stresses, HasSize, IsTimed, cell_count, Grid, Limits, FlowModel, Period, file_of, Pairs, Chd}
+use Rattle.model_reader.proofs.Common.{Drn, Evt, Ghb, Rch, Riv, Wel, FileSet, file_at, is_option, All, Bool, List, None, Option, Some, [], arith, false, inl}
+use Rattle.model_reader.proofs.Common.{inr, map, pos, refl, subst, sym, true, ℕ, ℤ, ◌∙◌, ◌≡◌, ◌⊎◌, All-nil, All-weaker, if◌then◌else◌, rch_of, wells, lists_are}
+use Rattle.model_reader.proofs.Common.{steps}
+use Rattle.model_types.specs.declared.grid.CellId.{CellId}
+use Rattle.model_reader.proofs.RchForms.{evt_is, rch_is}
+use Rattle.model_reader.proofs.PeriodForms.{IsKnown, IsStage, no_option, with_entry_list, with_given_list}
+
+-- a list package, from one stage to the next
+module _ {E : Type 0} (limits : Limits) (kind : Kind E) (placed : (c : CellId) (ds : List Dec) → kind.place (kind.entry c ds) ≡ c.0) (core : FlowModel) (size : HasSize core.grid) (nrchop : ℤ)
+    (put : (p : Period) (xs : List E) → IsKnown limits core.grid core.ibound nrchop (pos 0) p → IsListOf limits kind (cell_count core.grid) p xs → IsKnown limits core.grid core.ibound nrchop (pos 0) (with_list kind p xs)) where
+  abbrev at_stage : List Period → FlowModel
+  at_stage ps = record core { nrchop = nrchop; nevtop = pos 0; periods = ps }
+
+  abbrev Known : Period → Type 0
+  Known p = IsKnown limits core.grid core.ibound nrchop (pos 0) p
+
+  from_stage : (file bytes : List ℕ) (ps : List Period) → All Known ps → map steps ps ≡ map steps core.periods → Gives (IsStage limits core nrchop (pos 0)) (package_of limits kind file bytes (at_stage ps))
+  unfolding package_of
+  from_stage file bytes ps all same =
+      then_ _ (lists_are limits kind placed file core.grid size Known Known put bytes ps all) (λ qs are. done (record { is = refl; same = are.1 ∙ same; each = are.0 }))
+
+  pub package_is : (file bytes : List ℕ) (m : FlowModel) → IsStage limits core nrchop (pos 0) m → Gives (IsStage limits core nrchop (pos 0)) (package_of limits kind file bytes m)
+  package_is file bytes m stage =
+      subst (λ (x : FlowModel). Gives (IsStage limits core nrchop (pos 0)) (package_of limits kind file bytes x)) (sym stage.is) (from_stage file bytes m.periods stage.each stage.same)
 
 -- RCH or EVT is there by an option, or it isn't there
 abbrev pub IsOption : ℤ → Type 0

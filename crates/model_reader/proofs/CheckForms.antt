@@ -1,11 +1,16 @@
 -- A test of cells or of columns that is passed with one file's name in its refusals is passed with any other.
-use Rattle.model_forms.proofs.Common.{◌≡◌, ℕ, zero, suc, ◌+◌, ℤ, List, Option, Some, None, Result, Ok, refl, if◌then◌else◌, Code, Refusal, counted, Grid}
-use Rattle.model_forms.proofs.Common.{FlowModel, cell_count, layer_size, int_at, is_nonzero, at_cell, cell_step, checked, fault_at, Check, Area, cell_tested}
-use Rattle.model_forms.proofs.Common.{chosen_cell, column_tested, column_step, columns_tested, source, Gives, done, goes_on, ◌≤◌, pos, Bool, length, sum}
-use Rattle.model_forms.proofs.Common.{sum_by, All, sym, ap, subst, ◌∙◌, Dec, IsDec, Period, IsGrid, IsTimed, IsNewPeriod, with_properties, SameBut, Thickness}
-use Rattle.model_forms.proofs.Common.{StartHead, IsShort, IsOfBeds, IsDiscretized, HasFlow, Limits, IsGridWithin, evap_fault, IsStarted, HasBasics}
-use Rattle.lpf_package.specs.declared.layer.Properties.{Properties}
+use Rattle.model_reader.proofs.Common.{done, goes_on, Gives, IsShort, HasBasics, at_cell, cell_step, checked, fault_at, StartHead, Thickness, IsDec, Dec}
+use Rattle.model_reader.proofs.Common.{IsStarted, IsNewPeriod, cell_tested, chosen_cell, column_step, column_tested, columns_tested, evap_fault, source}
+use Rattle.model_reader.proofs.Common.{SameBut, with_properties, IsGrid, IsTimed, cell_count, int_at, is_nonzero, layer_size, Grid, Limits, FlowModel, Period}
+use Rattle.model_reader.proofs.Common.{Refusal, Area, counted, All, Bool, List, None, Ok, Option, Result, Some, ap, length, pos, refl, subst, suc, sum, sum_by}
+use Rattle.model_reader.proofs.Common.{sym, zero, ℕ, ℤ, ◌+◌, ◌∙◌, ◌≡◌, ◌≤◌, if◌then◌else◌, IsDiscretized, IsGridWithin, IsOfBeds, HasFlow, is_transient, steps}
+use Rattle.model_reader.proofs.Common.{[], cond, map, not, ◌∷◌, ◌||◌, length-map}
+use Rattle.cell_checks.specs.declared.passing.Check.{Check}
 use Rattle.cell_checks.specs.declared.passing.Check.TheVariants.{Properties as PropertyCheck}
+use Rattle.std.proofs.lemmas.List.Sums.{sum-map}
+use Rattle.std.specs.List.{list_any}
+use Rattle.outside.specs.declared.codes.Code.{Code}
+use Rattle.lpf_package.specs.declared.layer.Properties.{Properties}
 
 -- where each step that is passed is passed otherwise too
 passed_again : (step other : ℕ → Unit {0} → Result (Unit {0}) Refusal) → ((i : ℕ) → step i tt ≡ Ok tt → other i tt ≡ Ok tt) → (n i : ℕ) → Gives (λ u. counted other i n tt ≡ Ok tt) (counted step i n tt)
@@ -49,16 +54,71 @@ discretized_again m n grid lenuni many sum times d = record {
   times = times;
 }
 
--- what is known of a model after LPF
-pub record IsFlow (limits : Limits) (m : FlowModel) : Type 0 where
+-- a model whose discretization, arrays and properties are in limits and pass their tests, whatever its stresses
+pub record IsSound (limits : Limits) (m : FlowModel) : Type 0 where
   pub discretized : IsDiscretized m
   pub within : IsGridWithin limits m.grid
   pub ibound : length m.ibound ≡ cell_count m.grid
   pub strt : (length m.strt ≡ cell_count m.grid) × All IsDec m.strt
   pub flow : HasFlow m
   pub passed : (check : Check) (file : List ℕ) → checked m file check ≡ Ok tt
+
+-- what is known of a model after LPF
+pub record IsFlow (limits : Limits) (m : FlowModel) : Type 0 where
+  pub sound : IsSound limits m
   pub new : All IsNewPeriod m.periods
   pub options : (m.nrchop ≡ pos 0) × (m.nevtop ≡ pos 0)
+
+-- other stresses of as many steps
+abbrev pub staged : FlowModel → ℤ → ℤ → List Period → FlowModel
+staged core nrchop nevtop ps = record core { nrchop = nrchop; nevtop = nevtop; periods = ps }
+
+checks_kept : (core : FlowModel) (nrchop nevtop : ℤ) (ps : List Period) (check : Check) (file : List ℕ) → checked (staged core nrchop nevtop ps) file check ≡ checked core file check
+unfolding checked fault_at
+checks_kept core nrchop nevtop ps Thickness file = refl
+checks_kept core nrchop nevtop ps x file = refl
+
+same_count : (ps qs : List Period) → map steps ps ≡ map steps qs → length ps ≡ length qs
+same_count ps qs e = sym (length-map ps steps) ∙ ap (λ (xs : List (ℕ × Bool)). length xs) e ∙ length-map qs steps
+
+-- what is seen of periods through their steps is the same
+same_view : {B : Type 0} (g : ℕ × Bool → B) (h : Period → B) → ((p : Period) → g (steps p) ≡ h p) → (ps qs : List Period) → map steps ps ≡ map steps qs → map h ps ≡ map h qs
+same_view g h seen ps qs e = sym (viewed ps) ∙ ap (λ (xs : List (ℕ × Bool)). map g xs) e ∙ viewed qs
+  where
+    viewed : (xs : List Period) → map g (map steps xs) ≡ map h xs
+    viewed [] = refl
+    viewed (p ∷ xs) = λ i. seen p i ∷ viewed xs i
+
+same_sum : (ps qs : List Period) → map steps ps ≡ map steps qs → sum_by (λ p. p.nstp) ps ≡ sum_by (λ p. p.nstp) qs
+same_sum ps qs e = sym (sum-map (λ p. p.nstp) ps) ∙ ap sum (same_view (λ x. x.0) (λ p. p.nstp) (λ p. refl) ps qs e) ∙ sum-map (λ p. p.nstp) qs
+
+any_unsteady : (ps : List Period) → is_transient ps ≡ list_any (λ b. not b) (map (λ p. p.steady) ps)
+any_unsteady [] = refl
+any_unsteady (p ∷ ps) = ap (λ (b : Bool). not p.steady || b) (any_unsteady ps)
+
+same_transient : (ps qs : List Period) → map steps ps ≡ map steps qs → is_transient ps ≡ is_transient qs
+same_transient ps qs e = any_unsteady ps ∙ ap (λ (bs : List Bool). list_any (λ b. not b) bs) (same_view (λ x. x.1) (λ p. p.steady) (λ p. refl) ps qs e) ∙ sym (any_unsteady qs)
+
+flow_again : (core : FlowModel) (nrchop nevtop : ℤ) (ps : List Period) → map steps ps ≡ map steps core.periods → HasFlow core → HasFlow (staged core nrchop nevtop ps)
+flow_again core nrchop nevtop ps same h = record {
+  layvka = h.layvka;
+  hk = h.hk;
+  hani = h.hani;
+  vka = h.vka;
+  ss = (h.ss.0 ∙ ap (λ (b : Bool). cond b (cell_count core.grid) 0) (sym (same_transient ps core.periods same)), h.ss.1);
+  vkcb = h.vkcb;
+  beds = h.beds;
+}
+
+pub sound_again : (limits : Limits) (core : FlowModel) (nrchop nevtop : ℤ) (ps : List Period) → map steps ps ≡ map steps core.periods → All IsTimed ps → IsSound limits core → IsSound limits (staged core nrchop nevtop ps)
+sound_again limits core nrchop nevtop ps same times h = record {
+  discretized = discretized_again core (staged core nrchop nevtop ps) refl refl (same_count ps core.periods same) (same_sum ps core.periods same) times h.discretized;
+  within = h.within;
+  ibound = h.ibound;
+  strt = h.strt;
+  flow = flow_again core nrchop nevtop ps same h.flow;
+  passed = λ check file. checks_kept core nrchop nevtop ps check file ∙ h.passed check file;
+}
 
 thickness_kept : (m : FlowModel) (c : Bool) (layvka : List ℤ) (p : Properties) (file : List ℕ) → checked (with_properties m c layvka p) file Thickness ≡ checked m file Thickness
 unfolding checked fault_at
@@ -93,12 +153,14 @@ flow_is limits b basic flow dis bas lpf started basics has same thick heads good
     let cells : cell_count b.grid ≡ cell_count flow.grid = ap (λ (g : Grid). cell_count g) (sym grid) in
     let times : All IsTimed flow.periods = subst (λ (ps : List Period). All IsTimed ps) (sym periods) started.begun.discretized.times in
     record {
-      discretized = discretized_again b flow grid lenuni (ap (λ (ps : List Period). length ps) periods) (ap (λ (ps : List Period). sum_by (λ p. p.nstp) ps) periods) times started.begun.discretized;
-      within = subst (λ (g : Grid). IsGridWithin limits g) (sym grid) started.within;
-      ibound = ap (λ (zs : List ℤ). length zs) ibound ∙ basics.ibound ∙ cells;
-      strt = (ap (λ (ds : List Dec). length ds) strt ∙ basics.strt.0 ∙ cells, subst (λ (ds : List Dec). All IsDec ds) (sym strt) basics.strt.1);
-      flow = has;
-      passed = all_passed basic flow dis bas lpf same thick heads good;
+      sound = record {
+        discretized = discretized_again b flow grid lenuni (ap (λ (ps : List Period). length ps) periods) (ap (λ (ps : List Period). sum_by (λ p. p.nstp) ps) periods) times started.begun.discretized;
+        within = subst (λ (g : Grid). IsGridWithin limits g) (sym grid) started.within;
+        ibound = ap (λ (zs : List ℤ). length zs) ibound ∙ basics.ibound ∙ cells;
+        strt = (ap (λ (ds : List Dec). length ds) strt ∙ basics.strt.0 ∙ cells, subst (λ (ds : List Dec). All IsDec ds) (sym strt) basics.strt.1);
+        flow = has;
+        passed = all_passed basic flow dis bas lpf same thick heads good;
+      };
       new = subst (λ (ps : List Period). All IsNewPeriod ps) (sym periods) started.begun.periods;
       options = (nrchop ∙ ap (λ (m : FlowModel). m.nrchop) started.begun.new, nevtop ∙ ap (λ (m : FlowModel). m.nevtop) started.begun.new);
     }
