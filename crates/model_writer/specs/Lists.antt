@@ -7,21 +7,16 @@ use Rattle.model_text.specs.{list_item_6}
 use Rattle.model_types.specs.declared.entry.Entry.{Entry}
 use Rattle.model_types.specs.declared.period.Period.{Period}
 use Rattle.name_file.specs.declared.package.Package.{Package}
-use Rattle.name_file.specs.declared.package.Package.TheVariants.{Dis, Bas, Lpf, Wel, Riv, Drn, Ghb, Rch, Chd, Evt}
+use Rattle.name_file.specs.declared.package.Package.TheVariants.{Wel, Riv, Drn, Ghb}
 use Rattle.std.specs.List.{flat_map}
 
 -- the list of WEL, RIV, DRN or GHB; the other packages have none of this kind
 abbrev pub entries_in : Package → Period → List Entry
-entries_in Dis p = []
-entries_in Bas p = []
-entries_in Lpf p = []
 entries_in Wel p = p.stresses.wells
 entries_in Riv p = p.stresses.rivers
 entries_in Drn p = p.stresses.drains
 entries_in Ghb p = p.stresses.generals
-entries_in Rch p = []
-entries_in Chd p = []
-entries_in Evt p = []
+entries_in kind p = []
 
 -- item 6 of an entry
 unfoldable pub entry_line : {E : Type 0} → Grid → (E → ℕ) → (E → List Dec) → E → Line

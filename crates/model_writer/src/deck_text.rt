@@ -5,7 +5,7 @@ ghost use Rattle.model_types.specs.{HasSize};
 ghost use Rattle.model_text.specs.{deck_names, deck_text, file_line, file_text, has, package_file, packages};
 ghost use Rattle.model_writer.specs.{chosen};
 
-use crate::names::{name_of, push_names};
+use crate::names::{names_of, push_names};
 use crate::packages::{PACKAGES, has_package, push_package};
 use model_types::FlowModel;
 use name_file::Package;
@@ -28,7 +28,8 @@ fn push_file(text: &mut Vec<u8>, model: &FlowModel, kind: Package) -> Result<(),
     requires { HasSize model.now.grid }
     ensures { IfOk result (λ _. text.new.items ≡ text.old.items ++ file_text (package_file model.now deck_names kind)) }
 {
-    push_file_line(text, name_of(kind))?;
+    let (_, name) = names_of(kind);
+    push_file_line(text, name)?;
     push_package(text, model, kind)
 }
 

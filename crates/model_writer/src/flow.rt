@@ -8,15 +8,10 @@ ghost use Rattle.model_writer.specs.{line_bytes};
 
 use crate::arrays::{push_layer, push_layer_if};
 use crate::lines::push_line;
+use lpf_package::is_transient;
+use model_types::FlowModel;
 use model_types::layers::int_at;
-use model_types::{FlowModel, Period};
 use std::alloc::AllocError;
-
-fn is_transient(periods: &[Period]) -> bool
-    ensures { result ≡ is_transient periods.now }
-{
-    periods.iter().any(|p| !p.steady)
-}
 
 /// Appends a line of the same word for each layer.
 #[tactic(auto, using(crate::proofs::Texts::repeats, crate::proofs::Texts::texts))]

@@ -9,39 +9,22 @@ use model_types::FlowModel;
 use name_file::Package;
 use std::alloc::AllocError;
 
-/// The name of a package's file in the text of a deck.
-pub(crate) fn name_of(kind: Package) -> &'static str
-    ensures { result.now ≡ deck_names kind }
+/// The file type and the file unit of a package, with a blank after each; and the name of its file in the text of a deck.
+pub(crate) fn names_of(kind: Package) -> (&'static [u8], &'static str)
+    ensures type_and_unit { result.0.now ≡ file_type kind ++ (32 ∷ (file_unit kind ++ (32 ∷ []))) }
+    ensures name { result.1.now ≡ deck_names kind }
 {
     match kind {
-        Package::Dis => "p.dis",
-        Package::Bas => "p.bas",
-        Package::Lpf => "p.lpf",
-        Package::Wel => "p.wel",
-        Package::Riv => "p.riv",
-        Package::Drn => "p.drn",
-        Package::Ghb => "p.ghb",
-        Package::Rch => "p.rch",
-        Package::Chd => "p.chd",
-        Package::Evt => "p.evt",
-    }
-}
-
-/// The file type and the file unit of a package, with a blank after each.
-fn type_and_unit(kind: Package) -> &'static [u8]
-    ensures { result.now ≡ file_type kind ++ (32 ∷ (file_unit kind ++ (32 ∷ []))) }
-{
-    match kind {
-        Package::Dis => b"DIS 11 ",
-        Package::Bas => b"BAS6 12 ",
-        Package::Lpf => b"LPF 13 ",
-        Package::Wel => b"WEL 14 ",
-        Package::Riv => b"RIV 15 ",
-        Package::Drn => b"DRN 16 ",
-        Package::Ghb => b"GHB 17 ",
-        Package::Rch => b"RCH 18 ",
-        Package::Chd => b"CHD 19 ",
-        Package::Evt => b"EVT 20 ",
+        Package::Dis => (b"DIS 11 ", "p.dis"),
+        Package::Bas => (b"BAS6 12 ", "p.bas"),
+        Package::Lpf => (b"LPF 13 ", "p.lpf"),
+        Package::Wel => (b"WEL 14 ", "p.wel"),
+        Package::Riv => (b"RIV 15 ", "p.riv"),
+        Package::Drn => (b"DRN 16 ", "p.drn"),
+        Package::Ghb => (b"GHB 17 ", "p.ghb"),
+        Package::Rch => (b"RCH 18 ", "p.rch"),
+        Package::Chd => (b"CHD 19 ", "p.chd"),
+        Package::Evt => (b"EVT 20 ", "p.evt"),
     }
 }
 
@@ -49,8 +32,9 @@ fn type_and_unit(kind: Package) -> &'static [u8]
 fn push_name(bytes: &mut Vec<u8>, kind: Package) -> Result<(), AllocError>
     ensures { IfOk result (λ _. bytes.new.items ≡ bytes.old.items ++ line_bytes (name_item deck_names kind)) }
 {
-    bytes.extend_from_slice(type_and_unit(kind))?;
-    bytes.extend_from_slice(name_of(kind).as_bytes())?;
+    let (type_and_unit, name) = names_of(kind);
+    bytes.extend_from_slice(type_and_unit)?;
+    bytes.extend_from_slice(name.as_bytes())?;
     bytes.push(b'\n')?;
     Ok(())
 }
