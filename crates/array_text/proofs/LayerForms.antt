@@ -1,8 +1,7 @@
 -- Layers that are read: as many values as they have cells, layer after layer.
-use Rattle.array_text.proofs.Common.{◌≡◌, ℕ, ◌+◌, ◌*◌, Bool, true, false, List, length, replicate, All, refl, arith, ◌⊎◌, inl, inr, zero, suc, ◌-◌, ◌<◌}
-use Rattle.array_text.proofs.Common.{◌≤◌, [], ◌++◌, take, drop, Result, length-replicate, length-append, length-drop, take-append-le, drop-append-le}
-use Rattle.array_text.proofs.Common.{take_all, drop_at, All-append, All-replicate, Dec, IsDec, FileSet, Left, counted, real_layer, layer_or, Gives}
-use Rattle.array_text.proofs.Common.{cases_lt}
+use Rattle.array_text.proofs.Common.{◌≡◌, ℕ, ◌+◌, ◌*◌, Bool, true, false, List, length, replicate, All, refl, arith, ◌⊎◌, inl, inr, zero, suc, ◌-◌, ◌<◌, ◌≤◌}
+use Rattle.array_text.proofs.Common.{[], ◌++◌, take, drop, Result, length-replicate, length-append, length-drop, take-append-le, drop-append-le, take_all}
+use Rattle.array_text.proofs.Common.{drop_at, All-append, All-replicate, Dec, IsDec, FileSet, Left, counted, real_layer, layer_or, Gives, cases_lt}
 use Rattle.array_text.proofs.ArrayForms.{arrays}
 use Rattle.array_text.proofs.WordTexts.{done, then_, weaker}
 use Rattle.std.proofs.Math.Nat.{mul-le-mul_right}

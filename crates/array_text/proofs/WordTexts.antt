@@ -1,9 +1,8 @@
 -- What is written of numbers is words, and words have no byte that ends them.
-use Rattle.outside.specs.{FileSet}
-use Rattle.array_text.proofs.Common.{◌≡◌, ℕ, suc, ◌^◌, ◌<◌, ◌≤◌, ◌==◌, ◌&&◌, not, Bool, true, false, List, [], ◌∷◌, ◌++◌, length, nat_le, nat_lt, All, refl}
-use Rattle.array_text.proofs.Common.{arith, ℤ, pos, negsuc, unsigned_abs, zero, ◌*◌, if◌then◌else◌, Result, Ok, Err, subst, list_all, decimal, signed_decimal}
-use Rattle.array_text.proofs.Common.{length-append, All-nil, All-cons, All-append, All-weaker, nat_tests, Dec, is_digit, is_separator, sign, number_word}
-use Rattle.array_text.proofs.Common.{integer_word, IsShort, IsWordByte, IsWord, Line, IsLine, Gives, ◌>>=◌, repeated, appended, and_parts}
+use Rattle.array_text.proofs.Common.{FileSet, ◌≡◌, ℕ, suc, ◌^◌, ◌<◌, ◌≤◌, ◌==◌, ◌&&◌, not, Bool, true, false, List, [], ◌∷◌, ◌++◌, length, nat_le, nat_lt, All}
+use Rattle.array_text.proofs.Common.{refl, arith, ℤ, pos, negsuc, unsigned_abs, zero, ◌*◌, if◌then◌else◌, Result, Ok, Err, subst, list_all, decimal}
+use Rattle.array_text.proofs.Common.{signed_decimal, length-append, All-nil, All-cons, All-append, All-weaker, nat_tests, Dec, is_digit, is_separator, sign}
+use Rattle.array_text.proofs.Common.{number_word, integer_word, IsShort, IsWordByte, IsWord, Line, IsLine, Gives, ◌>>=◌, repeated, appended, and_parts}
 use Rattle.array_text.proofs.DigitTexts.{digits_spell}
 
 pub no_separator : (b : ℕ) → IsWordByte b → is_separator b ≡ false

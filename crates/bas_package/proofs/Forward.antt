@@ -1,6 +1,6 @@
 -- The line of options and HNOFLO leave lines that they were given.
-use Rattle.bas_package.proofs.Common.{LineMay, LinesMay, chain, after, either, line_held, leaves, Left, Numbered, line_at, ◌≡◌, ℕ, List, Ok, Err, All}
-use Rattle.bas_package.proofs.Common.{words, refusal, is_in_profile, option_line, head_item}
+use Rattle.bas_package.proofs.Common.{LineMay, LinesMay, chain, after, either, line_held, leaves, Left, Numbered, line_at, ◌≡◌, ℕ, List, Ok, Err, All, words}
+use Rattle.bas_package.proofs.Common.{refusal, is_in_profile, option_line, head_item}
 use Rattle.std.specs.Prelude.{IfOk}
 use Rattle.outside.specs.declared.codes.Code.TheVariants.{OutOfProfile}
 use Rattle.array_reader.specs.{number_at, number}

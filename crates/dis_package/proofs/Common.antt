@@ -10,7 +10,7 @@ pub use Rattle.array_reader.specs.{integer, number, number_at, real, value_alone
 unfoldable pub use Rattle.array_reader.specs.{zero_at}
 pub use Rattle.array_text.proofs.ArrayForms.{array_is, item_is, value_is}
 pub use Rattle.array_text.proofs.NumberForms.{integer_is, multiplied_is, number_is}
-pub use Rattle.array_text.proofs.WordTexts.{done, goes_on, if_clear, if_passed, refused, repeated_are, repeated_gives, then_, weaker}
+pub use Rattle.array_text.proofs.WordTexts.{done, goes_on, if_clear, if_passed, refused, repeated_are, repeated_gives, some_give, then_, weaker}
 pub use Rattle.array_text.specs.{Gives, IsShort}
 pub use Rattle.decimal_input.specs.{IsDec, size}
 pub use Rattle.dis_package.specs.{IsBegun, IsFrame, IsGridWithin, IsNewPeriod, IsOfBeds, IsSize, IsTime, begun, inside, is_growth, is_time, kind_of, known}

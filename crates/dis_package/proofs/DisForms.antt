@@ -1,11 +1,10 @@
 -- What a file of the discretization gives.
-use Rattle.dis_package.proofs.Common.{◌≡◌, ℕ, ℤ, List, length, All, refl, ◌≤◌, sum_by, sym, subst, arith, suc, ◌+◌, nat_le, ◌&&◌, ◌∷◌, IsDec, FileSet}
-use Rattle.dis_package.proofs.Common.{refusal, words, Left, left_from, without_comments, line_at, number_at, number, FlowModel, item_is, Gives, IsShort}
-use Rattle.dis_package.proofs.Common.{done, goes_on, then_, if_passed, weaker, repeated_gives, All-nil, All-cons, Period, begun, dis_of, IsNewPeriod}
-use Rattle.dis_package.proofs.Common.{periods_of, IsTime, known, is_time, time_of, period_of, period_at, IsBegun, kind_of, Limits, and_parts, leb-true}
-use Rattle.dis_package.proofs.Common.{BadGrid, number_is, IsGridWithin, All-weaker, IsTimed, Bool, true, false, not, ◌||◌, ◌⊎◌, inl, inr, ◌∙◌}
-use Rattle.dis_package.proofs.Common.{if◌then◌else◌, size, is_growth, IsGrowing, number_one, not-true, is_at_most, is_at_least, is_one, is_positive}
-use Rattle.dis_package.proofs.Common.{positive_of, one_of}
+use Rattle.dis_package.proofs.Common.{◌≡◌, ℕ, ℤ, List, length, All, refl, ◌≤◌, sum_by, sym, subst, arith, suc, ◌+◌, nat_le, ◌&&◌, ◌∷◌, IsDec, FileSet, refusal}
+use Rattle.dis_package.proofs.Common.{words, Left, left_from, without_comments, line_at, number_at, number, FlowModel, item_is, Gives, IsShort, done, goes_on}
+use Rattle.dis_package.proofs.Common.{then_, if_passed, weaker, repeated_gives, All-nil, All-cons, Period, begun, dis_of, IsNewPeriod, periods_of, IsTime}
+use Rattle.dis_package.proofs.Common.{known, is_time, time_of, period_of, period_at, IsBegun, kind_of, Limits, and_parts, leb-true, BadGrid, number_is}
+use Rattle.dis_package.proofs.Common.{IsGridWithin, All-weaker, IsTimed, Bool, true, false, not, ◌||◌, ◌⊎◌, inl, inr, ◌∙◌, if◌then◌else◌, size, is_growth}
+use Rattle.dis_package.proofs.Common.{IsGrowing, number_one, not-true, is_at_most, is_at_least, is_one, is_positive, positive_of, one_of}
 use Rattle.std.proofs.lemmas.List.Sums.{sum_by-cons}
 use Rattle.dis_package.proofs.FrameForms.{head_is, count_is}
 use Rattle.dis_package.proofs.GridForms.{grid_is}

@@ -1,8 +1,8 @@
 -- What is read of widths and elevations.
-use Rattle.dis_package.proofs.Common.{◌≡◌, ℕ, ◌+◌, ◌*◌, false, List, length, replicate, All, refl, arith, ℤ, ◌-◌, All-nil, All-append, IsDec, FileSet}
-use Rattle.dis_package.proofs.Common.{Left, real, IsGrid, int_at, is_nonzero, no_number, IsPositive, is_positive, IsSize, widths, bottom_at, bottoms_of}
-use Rattle.dis_package.proofs.Common.{grid_of, Size, array_is, number_is, multiplied_is, Gives, done, then_, if_passed, Grid, all_positive_of}
-use Rattle.dis_package.proofs.Common.{IsGridWithin, IsOfBeds, Limits}
+use Rattle.dis_package.proofs.Common.{◌≡◌, ℕ, ◌+◌, ◌*◌, false, List, length, replicate, All, refl, arith, ℤ, ◌-◌, All-nil, All-append, IsDec, FileSet, Left}
+use Rattle.dis_package.proofs.Common.{real, IsGrid, int_at, is_nonzero, no_number, IsPositive, is_positive, IsSize, widths, bottom_at, bottoms_of, grid_of}
+use Rattle.dis_package.proofs.Common.{Size, array_is, number_is, multiplied_is, Gives, done, then_, if_passed, Grid, all_positive_of, IsGridWithin, IsOfBeds}
+use Rattle.dis_package.proofs.Common.{Limits}
 use Rattle.std.specs.List.{list_all}
 use Rattle.decimal_input.specs.declared.dec.Dec.{Dec}
 use Rattle.number_limits.proofs.Canonical.{no_number_is}

@@ -1,6 +1,6 @@
 -- Names that several proofs of this crate cite, of the crates below and of its own definitions, passed on from one place. Declares nothing.
-pub use Rattle.std.proofs.Common.{All, Err, List, None, Ok, Option, Result, Some, [], ap, arith, false, length, map, not, refl, rules, slice_index_or, subst}
-pub use Rattle.std.proofs.Common.{sym, unsigned_abs, ℕ, ◌∙◌, ◌∷◌, ◌≡◌, ◌≤◌}
+pub use Rattle.std.proofs.Common.{All, List, None, Ok, Option, Some, [], arith, false, length, map, not, refl, rules, slice_index_or, unsigned_abs, ℕ, ◌∷◌, ◌≡◌}
+pub use Rattle.std.proofs.Common.{◌≤◌}
 pub use Rattle.array_text.proofs.ArrayForms.{arrays}
 pub use Rattle.array_text.proofs.WordTexts.{done, goes_on, refused, some_give, then_}
 pub use Rattle.outside.specs.{FileSet, file_at, folder_name}

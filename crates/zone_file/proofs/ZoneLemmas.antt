@@ -1,7 +1,6 @@
 -- Zones that pass the test are within their limits.
-use Rattle.zone_file.proofs.Common.{◌≡◌, false, not, List, None, All, length, slice_index_or, arith, ℕ, ◌≤◌, [], ◌∷◌, Some, Option, Ok, map}
-use Rattle.zone_file.proofs.Common.{unsigned_abs, refl, file_at, FileSet, IsZone, is_zone, wrong_at, zones_of, zones_tested, arrays, done}
-use Rattle.zone_file.proofs.Common.{goes_on, refused, then_}
+use Rattle.zone_file.proofs.Common.{◌≡◌, false, not, List, None, All, length, slice_index_or, arith, ℕ, ◌≤◌, [], ◌∷◌, Some, Option, Ok, map, unsigned_abs, refl}
+use Rattle.zone_file.proofs.Common.{file_at, FileSet, IsZone, is_zone, wrong_at, zones_of, zones_tested, arrays, done, goes_on, refused, then_}
 use Rattle.std.specs.Prelude.{codes, ℤ, pos, negsuc}
 use Rattle.std.specs.List.{position, position_or_len, AllByRecursion}
 use Rattle.std.proofs.lemmas.Int.{ints}

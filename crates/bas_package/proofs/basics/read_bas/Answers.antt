@@ -1,5 +1,4 @@
-use Rattle.std.proofs.Common.{rules}
-use Rattle.bas_package.proofs.Common.{some_give, bas_of}
+use Rattle.bas_package.proofs.Common.{rules, some_give, bas_of}
 use Rattle.bas_package.proofs.BasForms.{bas_is}
 use Rattle.bas_package.proofs.basics.read_bas.Goals as goal
 

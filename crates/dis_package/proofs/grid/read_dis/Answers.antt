@@ -1,6 +1,5 @@
-use Rattle.dis_package.proofs.Common.{rules, ◌≡◌, ◌∙◌, ap, err_from_is_err_and, LinesMay, without_comments, begun_held, begun}
+use Rattle.dis_package.proofs.Common.{rules, ◌≡◌, ◌∙◌, ap, err_from_is_err_and, LinesMay, without_comments, begun_held, begun, some_give}
 use Rattle.dis_package.proofs.Forward.{head_leaves}
-use Rattle.array_text.proofs.WordTexts.{some_give}
 use Rattle.dis_package.proofs.DisForms.{dis_is}
 use Rattle.dis_package.proofs.FrameForms.{frame_is}
 use Rattle.dis_package.proofs.ModelLemmas.{dis_read, dis_stops, head_read}
