@@ -4,10 +4,10 @@ use Rattle.check_run.proofs.Common.{cond, List, [], ◌∷◌, length, get_or, O
 use Rattle.check_run.proofs.Common.{nat_lt, slice_index, and_from, and_parts, cases_Bool, leb-true, lt-ltb, nat_tests, Bound, Entries, entries_at, no_entries}
 use Rattle.check_run.proofs.Common.{FlowModel, TimeStep, cell_count, HasSize, is_variable, is_constant, is_active, index_of, variable_cells, FixedSource}
 use Rattle.check_run.proofs.Common.{as_general, constant_faces, fixed_sources, local_entries, storage_at, variable_faces, passing, at_rank, below_is, index_is}
-use Rattle.check_run.proofs.Common.{index_below, IsCellOf, IsFixed, IsLink, IsProblemBy, Face, share, any_in, in_any, cell_faces, face_between, face_from}
-use Rattle.check_run.proofs.Common.{faces, faces_by_kind, fixed_faces, link_faces, is_lower_zone, ZonePair, share_face, joins, face_of, join_of, shares}
-use Rattle.check_run.proofs.Common.{AllZip-at, AllZip-length, flat-In, IsProblemOf, AllZip-weaker, ToConstant, ToGeneral, FromStorage, is_between, eqb-true}
-use Rattle.check_run.proofs.Common.{◌==◌}
+use Rattle.check_run.proofs.Common.{index_below, IsProblemBy, Face, share, any_in, in_any, cell_faces, face_between, face_from, faces, faces_by_kind}
+use Rattle.check_run.proofs.Common.{fixed_faces, link_faces, is_lower_zone, ZonePair, share_face, joins, face_of, join_of, shares, AllZip-at, AllZip-length}
+use Rattle.check_run.proofs.Common.{flat-In, IsProblemOf, ToConstant, ToGeneral, FromStorage, is_between, eqb-true, ◌==◌, left_of, right_of, zip_image}
+use Rattle.check_run.proofs.Common.{cells_of, whole_cell, whole_link, whole_fixed}
 use Rattle.model_types.proofs.Members.{In-map, In}
 use Rattle.problem_builder.proofs.Members.{In-append, In-variable, variable-In, fixed_source, constant_active, variable_active}
 use Rattle.step_problem.specs.declared.entry.Fixed.{Fixed}
@@ -15,7 +15,6 @@ use Rattle.step_problem.specs.declared.entry.FixedKind.TheVariants.{Constant, St
 use Rattle.step_problem.specs.declared.entry.Link.{Link}
 use Rattle.model_types.proofs.Leads.{end_within, face_back, faces_are, faces_have, passing_are, turned, IsFaceOf, passing_have}
 use Rattle.model_types.specs.declared.face.Face.{Face as ModelFace}
-use Rattle.problem_builder.proofs.Zipped.{left_of, right_of}
 use Rattle.std.specs.Option.{option_to_list}
 
 -- Members of lists that are made of others.
@@ -85,19 +84,17 @@ module _ (m : FlowModel) (p : ℕ) where
 
 module _ (m : FlowModel) (s : ℕ) (at : TimeStep) (old : List Bound) (es : List Entries) where
   of_problem : IsProblemOf m s at old es → HaveBranches m at.period es
-  of_problem is = AllZip-weaker (IsCellOf m is.widths s at old) (HasBranches m at.period) cell_branches es (variable_cells m at.period) is.cells.each
+  of_problem is =
+      subst (HaveBranches m at.period) (sym (cells_of m s at old es is).each) (zip_image (HasBranches m at.period) (whole_cell m s at old) (variable_cells m at.period) (λ c i. record {
+        id = refl;
+        links = zip_image (LeadsTo m at.period) (whole_link m s at old) (variable_faces m at.period c) (λ f j. refl);
+        fixed = zip_image (IsTo m at.period) (whole_fixed m s at old c) (fixed_sources m at.period c) (λ y j. is_to c y);
+      }))
     where
-      is_to : (c : ℕ) (x : Fixed) (t : FixedSource) → IsFixed m is.widths s at old c x t → IsTo m at.period x t
-      is_to c x (ToConstant f) k = (k.kind, k.source)
-      is_to c x (ToGeneral head conductance) k = k.kind
-      is_to c x FromStorage k = k.kind
-
-      cell_branches : (e : Entries) (c : ℕ) → IsCellOf m is.widths s at old e c → HasBranches m at.period e c
-      cell_branches e c k = record {
-        id = k.id;
-        links = AllZip-weaker (IsLink m is.widths s at) (LeadsTo m at.period) (λ x f l. l.cell) e.links (variable_faces m at.period c) k.links;
-        fixed = AllZip-weaker (IsFixed m is.widths s at old c) (IsTo m at.period) (is_to c) e.fixed (fixed_sources m at.period c) k.fixed;
-      }
+      is_to : (c : ℕ) (t : FixedSource) → IsTo m at.period (whole_fixed m s at old c t) t
+      is_to c (ToConstant f) = (refl, refl)
+      is_to c (ToGeneral head conductance) = refl
+      is_to c FromStorage = refl
 
 pub have_branches : (a : FlowModel) (o : Option FlowModel) (s : ℕ) (at : TimeStep) (old : List Bound) (es : List Entries) → IsProblemBy a o s at old es → HaveBranches a at.period es
 have_branches a None s at old es is = of_problem a s at old es is

@@ -54,9 +54,10 @@ pub use Rattle.model_types.specs.{period_at, start_head, storage_at, times, vari
 pub use Rattle.model_types.specs.declared.limits.Limits.{Limits}
 pub use Rattle.model_types.specs.declared.model.FlowModel.{FlowModel}
 pub use Rattle.model_types.specs.declared.time_steps.TimeStep.{TimeStep}
-pub use Rattle.problem_builder.proofs.Joined.{AllZip-weaker}
+pub use Rattle.problem_builder.proofs.Steps.{cells_of}
 pub use Rattle.problem_builder.proofs.TimesOf.{flat-In, time_of}
-pub use Rattle.problem_builder.specs.{AreGridHeads, HeadsEnclose, IsActive, IsCellOf, IsEvap, IsFixed, IsLink, IsProblemOf}
+pub use Rattle.problem_builder.proofs.Zipped.{left_of, right_of, zip_image}
+pub use Rattle.problem_builder.specs.{AreGridHeads, HeadsEnclose, IsActive, IsProblemOf, whole_cell, whole_evap, whole_fixed, whole_link}
 pub use Rattle.problem_hull.specs.{cell_hull, cell_shape, evap_hull, fixed_hull, fixed_shape, zip_with}
 pub use Rattle.step_chain.proofs.Assembled.{active_constant, constant_not_variable, count_is, index_below, number_is}
 pub use Rattle.step_chain.proofs.Limits.{cut_by}

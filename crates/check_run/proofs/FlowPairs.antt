@@ -1,10 +1,9 @@
 -- The flows between zones of a step's problem have the pairs of zones of the step's period.
-use Rattle.check_run.proofs.Common.{◌≡◌, ℕ, Bool, List, [], ◌∷◌, map, sym, ap, ◌∙◌, subst, Option, Some, None, ℤ, filter, IfSome, Bound, ZoneFlow, Entries}
-use Rattle.check_run.proofs.Common.{lower_at, upper_at, share, EncloseExact, Decks, ZonePair, pairs_below, zones_of_flow, pairs_in, share_face, zone_pairs}
-use Rattle.check_run.proofs.Common.{AreFlowsOf, faces_of, BoundAll, Bounds, EnclosesHistories, AllSteps, IsStep, BoundBetween, HistoriesBound, deck_task}
-use Rattle.check_run.proofs.Common.{HasSize, start_head, times, TimeStep, IsProblemFor, Fraction, BudgetEncloses, exact_step, heads_of, variable_heads}
-use Rattle.check_run.proofs.Common.{FlowModel, Task, Step, Whole, Steps, as_listed, ListingEncloses, checked_task, step_of, steps_of, Limits, flows_of_pairs}
-use Rattle.check_run.proofs.Common.{same_flows, refl}
+use Rattle.check_run.proofs.Common.{◌≡◌, ℕ, Bool, List, [], ◌∷◌, map, ap, ◌∙◌, subst, Option, Some, None, ℤ, filter, IfSome, Bound, ZoneFlow, Entries, lower_at}
+use Rattle.check_run.proofs.Common.{upper_at, share, EncloseExact, Decks, ZonePair, pairs_below, zones_of_flow, pairs_in, share_face, zone_pairs, AreFlowsOf}
+use Rattle.check_run.proofs.Common.{faces_of, BoundAll, Bounds, EnclosesHistories, AllSteps, IsStep, BoundBetween, HistoriesBound, deck_task, HasSize}
+use Rattle.check_run.proofs.Common.{start_head, times, TimeStep, IsProblemFor, Fraction, BudgetEncloses, exact_step, heads_of, variable_heads, FlowModel, Task}
+use Rattle.check_run.proofs.Common.{Step, Whole, Steps, as_listed, ListingEncloses, checked_task, step_of, steps_of, Limits, flows_of_pairs, same_flows, refl}
 use Rattle.barrier_vector.proofs.Uniques.{same_tests}
 use Rattle.check_run.proofs.Branches.{HaveBranches, have_branches, pair_shares, shared_has}
 use Rattle.deck_span.specs.{SolvesBetweenFrom}

@@ -2,12 +2,13 @@
 use Rattle.check_run.proofs.Common.{cell_hull, cell_shape, evap_hull, zip_with, Limits, ◌≡◌, ℕ, zero, suc, ◌+◌, ◌<◌, false, List, [], ◌∷◌, length, map, All, Ok}
 use Rattle.check_run.proofs.Common.{refl, sym, ap, subst, arith, ℤ, pos, negsuc, ◌+ℤ◌, ◌≤ℤ◌, ◌<ℤ◌, unsigned_abs, nat_abs, ◌^◌, ◌≤◌, Option, Some, None, AllZip}
 use Rattle.check_run.proofs.Common.{ints, All-weaker, Bound, Out, ZoneFlow, Entries, no_bound, lower_at, upper_at, Budget, TermPair, term_limit, Face}
-use Rattle.check_run.proofs.Common.{flows_between, pairs_in, AreNumbers, FlowModel, TimeStep, evap_sources, period_at, times, IsCellOf, IsEvap, AreGridHeads}
-use Rattle.check_run.proofs.Common.{Solved, bound_at, HeadsFit, AreCellBounds, AreFlows, AreFlowsAt, AreListed, IsCellBound, IsFlowPair, IsListedStep, has_evt}
-use Rattle.check_run.proofs.Common.{zone_pair, Task, Step, Whole, AllSteps, IsStep, Steps, budget_at, AreFlowsOf, faces_of, IsRest, first_in, rest_more}
-use Rattle.check_run.proofs.Common.{rest_whole, as_listed, nat_tests, is_nonzero, IsProblemBy, IsBefore, StartHeadsFit, deck_task, Decks, AreDecks, PairKind}
-use Rattle.check_run.proofs.Common.{IsStepBy, pairs_of, Bool, In, ListedStep, no_entries, variable_cells, AllZip-at, AllZip-length, AllZip-right, AllZip-weaker}
-use Rattle.check_run.proofs.Common.{IsProblemOf, total, is_chosen, IsZoneFlow, flows_of_pairs, same_flows}
+use Rattle.check_run.proofs.Common.{flows_between, pairs_in, AreNumbers, FlowModel, TimeStep, evap_sources, period_at, times, AreGridHeads, Solved, bound_at}
+use Rattle.check_run.proofs.Common.{HeadsFit, AreCellBounds, AreFlows, AreFlowsAt, AreListed, IsCellBound, IsFlowPair, IsListedStep, has_evt, zone_pair, Task}
+use Rattle.check_run.proofs.Common.{Step, Whole, AllSteps, IsStep, Steps, budget_at, AreFlowsOf, faces_of, IsRest, first_in, rest_more, rest_whole, as_listed}
+use Rattle.check_run.proofs.Common.{nat_tests, is_nonzero, IsProblemBy, IsBefore, StartHeadsFit, deck_task, Decks, AreDecks, PairKind, IsStepBy, pairs_of, Bool}
+use Rattle.check_run.proofs.Common.{In, ListedStep, no_entries, variable_cells, AllZip-at, AllZip-length, AllZip-right, IsProblemOf, total, is_chosen}
+use Rattle.check_run.proofs.Common.{IsZoneFlow, flows_of_pairs, same_flows, zip_image, cells_of, whole_cell, whole_evap}
+use Rattle.problem_builder.proofs.Joined.{AllZip-weaker}
 use Rattle.check_run.proofs.Branches.{hull_zip}
 use Rattle.step_problem.specs.declared.entry.Evap.{Evap}
 use Rattle.check_run.proofs.FlowPairs.{flows_have_pairs}
@@ -28,18 +29,14 @@ no_source m p c e =
     let none : is_chosen m m.nevtop (period_at m p).stresses.ievt c ≡ false = not_chosen m m.nevtop (period_at m p).stresses.ievt c (zero_of m.nevtop e) in
     rw none refl
 
-empty_zip : {A B : Type 0} (R : A → B → Type 0) (xs : List A) (ys : List B) → AllZip R xs ys → ys ≡ [] → xs ≡ []
-empty_zip R [] ys h e = refl
-empty_zip R (x ∷ xs) [] h e = absurd h
-empty_zip R (x ∷ xs) (y ∷ ys) h e = absurd (let bad : y ∷ ys ≡ [] = e in cc)
-
 -- a cell without evaporation, whatever its number
 abbrev NoEvaps : Entries → ℕ → Type 0
 NoEvaps e c = e.evaps ≡ []
 
 no_evaps : (m : FlowModel) (s : ℕ) (at : TimeStep) (old : List Bound) (p : List Entries) → has_evt m ≡ false → IsProblemOf m s at old p → AllZip NoEvaps p (variable_cells m at.period)
 no_evaps m s at old p evt is =
-    AllZip-weaker (IsCellOf m is.widths s at old) NoEvaps (λ e c h. empty_zip (IsEvap m s c) e.evaps (evap_sources m at.period c) h.evaps (no_source m at.period c evt)) p (variable_cells m at.period) is.cells.each
+    subst (λ (es : List Entries). AllZip NoEvaps es (variable_cells m at.period)) (sym (cells_of m s at old p is).each)
+    (zip_image NoEvaps (whole_cell m s at old) (variable_cells m at.period) (λ c i. ap (map (whole_evap m s c)) (no_source m at.period c evt)))
 
 decks_no_evaps : (a : FlowModel) (o : Option FlowModel) (s : ℕ) (at : TimeStep) (old : List Bound) → has_evt a ≡ false → (p : List Entries) → IsProblemBy a o s at old p → AllZip NoEvaps p (variable_cells a at.period)
 decks_no_evaps a None s at old e p is = no_evaps a s at old p e is

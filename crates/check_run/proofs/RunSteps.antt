@@ -5,7 +5,7 @@ use Rattle.check_run.proofs.Common.{IsCertificate, IsProblem, PairKind, Budget, 
 use Rattle.check_run.proofs.Common.{is_at, below_is, index_is, AreGridHeads, Solved, bound_at, HeadsFit, IsStepBy, edges_by, Task, Step, Whole, IsStep}
 use Rattle.check_run.proofs.Common.{budget_at, deck_task, pairs_of, Steps, IsRest, first_in, rest_more, rest_whole, Certified, CoversFlow, ConstantsReach}
 use Rattle.check_run.proofs.Common.{ReachesOn, variable_bounds, RunIsCertified, as_listed, Passes, Checks, same_bounds, pair_words, ConstantPairIsOne, IsBefore}
-use Rattle.check_run.proofs.Common.{ProblemFits, StartHeadsFit, AreDecks, IsProblemBy, Decks, FlowModel}
+use Rattle.check_run.proofs.Common.{ProblemFits, StartHeadsFit, AreDecks, IsProblemBy, Decks, FlowModel, cells_of}
 use Rattle.listing_run.specs.{AreFlowsAt}
 use Rattle.check_run.proofs.RunText.{count_is}
 use Rattle.problem_builder.proofs.CellEnclosed.{ids_are}
@@ -13,8 +13,8 @@ use Rattle.problem_hull.proofs.Hulls.{hull_keeps}
 
 -- The cells of the problem of decks are the variable cells of the first.
 pub decks_ids : (a : FlowModel) (o : Option FlowModel) (s : ℕ) (at : TimeStep) (old : List Bound) (p : List Entries) → IsProblemBy a o s at old p → map (λ (e : Entries). e.id) p ≡ variable_cells a at.period
-decks_ids a None s at old p is = ids_are a is.widths s at old p is.cells
-decks_ids a (Some b) s at old p is = hull_keeps is.first is.second p is.hull (λ e. e.id) (λ x y. refl) ∙ ids_are a is.is_first.widths s at old is.first is.is_first.cells
+decks_ids a None s at old p is = ids_are a s at old p (cells_of a s at old p is)
+decks_ids a (Some b) s at old p is = hull_keeps is.first is.second p is.hull (λ e. e.id) (λ x y. refl) ∙ ids_are a s at old is.first (cells_of a s at old is.first is.is_first)
 
 reaches : (side : Side) (listed pair : Bound) → (listed.low ≡ pair.low) × (listed.high ≡ pair.high) → ReachesOn side listed pair
 reaches Low listed pair same = omega (arith, ints, same.0)

@@ -1,9 +1,12 @@
 -- Arithmetic on spans: operations keep the order, and exponents grow with each by 18 at most.
 use Rattle.conductance_bounds.proofs.Common.{ℕ, zero, suc, ◌+◌, ◌*◌, ◌≤◌, ◌<◌, ◌^◌, arith, ℤ, pos, negsuc, neg_ℤ, ◌+ℤ◌, ◌-ℤ◌, unsigned_abs, int_min, int_max}
 use Rattle.conductance_bounds.proofs.Common.{ints, clamps, AtMost, plus, times, over, up, down, AtMost-trans, plus-AtMost, times-AtMost, over-AtMost, ten_pos}
-use Rattle.conductance_bounds.proofs.Common.{cross_of, Sd, value, IsDown, IsUp, IsNear, HasSize, Span, IsOrdered, reach, mul-pos, AreOperands}
+use Rattle.conductance_bounds.proofs.Common.{cross_of, Sd, value, IsDown, IsUp, IsNear, HasSize, Span, IsOrdered, reach, mul-pos, AreOperands, one_rounded}
+use Rattle.conductance_bounds.proofs.Common.{AreBounds, Lower, Number, Product, Quotient, Ratio, Same, Sum, Term, Upper, Within, bound, refl, rounded, IsSd}
+use Rattle.conductance_bounds.proofs.Common.{◌∙◌}
 use Rattle.scaled_decimal.specs.{IsWithin}
-use Rattle.conductance_bounds.proofs.Manual.{positive_value}
+use Rattle.conductance_bounds.proofs.Sides.{positive_value}
+use Rattle.conductance_bounds.proofs.SpanBounds.{exact_rounded}
 
 near_by : (e : ℤ) (n : ℕ) → unsigned_abs e ≤ n → IsNear e n
 near_by (pos k) n h = record { above = omega (arith, ints, h); below = omega (arith, ints, h) }
@@ -104,3 +107,34 @@ quotient_ordered a b r p q some l h = record {
   high = h.decimal;
   order = AtMost-trans l.at_most (AtMost-trans (over-AtMost (positive_value b.hi (positive_above b.lo b.hi q.order some)) (positive_value b.lo some) p.order q.order) h.at_least);
 }
+
+-- the bounds of a sum, of a product and of a quotient, by those of its parts
+pub sum_bounds : (t u : Term) (a b r : Span) → AreBounds t a → AreBounds u b → IsDown r.lo (plus (value a.lo) (value b.lo)) → IsUp r.hi (plus (value a.hi) (value b.hi)) → AreBounds (Sum t u) r
+unfolding bound
+sum_bounds t u a b r p q l h = record {
+  lower = one_rounded Lower r.lo _ l ∙ (λ i. rounded Lower (plus (value (p.lower i)) (value (q.lower i))));
+  upper = one_rounded Upper r.hi _ h ∙ (λ i. rounded Upper (plus (value (p.upper i)) (value (q.upper i))));
+}
+
+pub product_bounds : (t u : Term) (a b r : Span) → AreBounds t a → AreBounds u b → IsDown r.lo (times (value a.lo) (value b.lo)) → IsUp r.hi (times (value a.hi) (value b.hi)) → AreBounds (Product t u) r
+unfolding bound
+product_bounds t u a b r p q l h = record {
+  lower = one_rounded Lower r.lo _ l ∙ (λ i. rounded Lower (times (value (p.lower i)) (value (q.lower i))));
+  upper = one_rounded Upper r.hi _ h ∙ (λ i. rounded Upper (times (value (p.upper i)) (value (q.upper i))));
+}
+
+pub quotient_bounds : (t u : Term) (a b r : Span) → AreBounds t a → AreBounds u b → IsDown r.lo (over (value a.lo) (value b.hi)) → IsUp r.hi (over (value a.hi) (value b.lo)) → AreBounds (Quotient t u) r
+unfolding bound
+quotient_bounds t u a b r p q l h = record {
+  lower = one_rounded Lower r.lo _ l ∙ (λ i. rounded Lower (over (value (p.lower i)) (value (q.upper i))));
+  upper = one_rounded Upper r.hi _ h ∙ (λ i. rounded Upper (over (value (p.upper i)) (value (q.lower i))));
+}
+
+-- those of a number of the input, and of a number between two decimals
+pub number_bounds : (x : Sd) (f : Ratio) → IsSd x → Same (value x) f → AreBounds (Number f) (record { lo = x; hi = x })
+unfolding bound
+number_bounds x f d same = record { lower = exact_rounded Lower x f d same; upper = exact_rounded Upper x f d same }
+
+pub within_bounds : (lo hi : Sd) (f : Ratio) → AreBounds (Within lo hi f) (record { lo = lo; hi = hi })
+unfolding bound
+within_bounds lo hi f = record { lower = refl; upper = refl }

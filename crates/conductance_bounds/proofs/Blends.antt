@@ -1,6 +1,6 @@
 -- Sizes of the blends of two heads.
-use Rattle.conductance_bounds.proofs.Common.{◌≡◌, ℕ, suc, ◌*◌, ◌≤◌, ◌<◌, ◌^◌, arith, ap, subst, ◌∙◌, ℤ, pos, negsuc, ◌*ℤ◌, int_min, int_max, w128}
-use Rattle.conductance_bounds.proofs.Common.{mul-le-mul_right, ints, clamps, IsWithin, IsHeadUnits, blend, IsFloorOf, IsCeilingOf}
+use Rattle.conductance_bounds.proofs.Common.{◌≡◌, ℕ, suc, ◌*◌, ◌≤◌, ◌<◌, ◌^◌, arith, ap, ◌∙◌, ℤ, pos, negsuc, ◌*ℤ◌, int_min, int_max, w128, mul-le-mul_right}
+use Rattle.conductance_bounds.proofs.Common.{ints, clamps, IsWithin, IsHeadUnits, blend, ceiling_of, floor_of}
 use Rattle.std.specs.Prelude.{FitsSigned}
 
 pub share_within : (h : ℤ) (part : ℕ) → IsHeadUnits h → IsWithin (h *ℤ pos part) (4000000000000000000 * part)
@@ -17,9 +17,9 @@ pub max_within : (a b m : ℤ) (n : ℕ) → m ≡ int_max a b → IsWithin a n 
 max_within a b m n e p q = record { above = omega (arith, ints, clamps, e, p.above, q.above); below = omega (arith, ints, clamps, e, p.below, q.below) }
 
 -- the floor of the lesser blend
-pub lesser : (s e x y m lo : ℤ) (f g : ℕ) → x ≡ blend s e f → y ≡ blend s e g → m ≡ int_min x y → IsFloorOf m lo → IsFloorOf (int_min (blend s e f) (blend s e g)) lo
-lesser s e x y m lo f g p q r h = subst (λ (z : ℤ). IsFloorOf z lo) (r ∙ ap (λ (z : ℤ). int_min z y) p ∙ ap (λ (z : ℤ). int_min (blend s e f) z) q) h
+pub lesser : (s e x y m lo : ℤ) (f g : ℕ) → x ≡ blend s e f → y ≡ blend s e g → m ≡ int_min x y → lo ≡ floor_of m → lo ≡ floor_of (int_min (blend s e f) (blend s e g))
+lesser s e x y m lo f g p q r h = h ∙ ap floor_of r ∙ (λ i. floor_of (int_min (p i) (q i)))
 
 -- the ceiling of the greater one
-pub greater : (s e x y m hi : ℤ) (f g : ℕ) → x ≡ blend s e f → y ≡ blend s e g → m ≡ int_max x y → IsCeilingOf m hi → IsCeilingOf (int_max (blend s e f) (blend s e g)) hi
-greater s e x y m hi f g p q r h = subst (λ (z : ℤ). IsCeilingOf z hi) (r ∙ ap (λ (z : ℤ). int_max z y) p ∙ ap (λ (z : ℤ). int_max (blend s e f) z) q) h
+pub greater : (s e x y m hi : ℤ) (f g : ℕ) → x ≡ blend s e f → y ≡ blend s e g → m ≡ int_max x y → hi ≡ ceiling_of m → hi ≡ ceiling_of (int_max (blend s e f) (blend s e g))
+greater s e x y m hi f g p q r h = h ∙ ap ceiling_of r ∙ (λ i. ceiling_of (int_max (p i) (q i)))

@@ -1,7 +1,10 @@
 -- The pair of a given head contains it: the head is linear in the part of the period that has passed, so it lies between the heads at the ends of that part's bounds.
 use Rattle.conductance_bounds.proofs.Common.{◌≡◌, ℕ, suc, ◌+◌, ◌*◌, ◌-◌, ◌≤◌, ◌^◌, arith, ap, ◌∙◌, sym, subst, ℤ, pos, negsuc, neg_ℤ, ◌+ℤ◌, ◌-ℤ◌, ◌*ℤ◌, ◌≤ℤ◌}
 use Rattle.conductance_bounds.proofs.Common.{int_min, int_max, ints, clamps, by_lt_z, Dec, number, Ratio, den, EnclosesSigned, mul_mono_right, cancel_right}
-use Rattle.conductance_bounds.proofs.Common.{swap, diffs, as_diff, same_diff, Given, between_heads, IsPassed, blend, IsGivenPair, add_times, neg_times}
+use Rattle.conductance_bounds.proofs.Common.{swap, diffs, as_diff, same_diff, between_heads, IsPassed, blend, given_pair, head_pair, add_times, IsSignedCeiling}
+use Rattle.conductance_bounds.proofs.Common.{IsSignedFloor, neg_times, HeadPair, ceiling_of, floor_of, Part}
+use Rattle.model_types.specs.declared.entry.Given.{Given}
+use Rattle.conductance_bounds.proofs.Units.{IsCeilingOf, IsFloorOf, ceiling_is, floor_is, head_ceiling, head_floor, pair_of}
 use Rattle.decimal_input.specs.Fractions.{den as denominator}
 
 nonneg : (a b : ℤ) → pos 0 ≤ℤ a → pos 0 ≤ℤ b → pos 0 ≤ℤ (a *ℤ b)
@@ -112,16 +115,17 @@ head_high a b l s e x y w u T hs he h =
     omega (arith, ints, low, neg_times l (pos x *ℤ ((pos y *ℤ pos x) *ℤ (pos w +ℤ pos u))), turned_sum a b (pos (w * (y * x))) (pos (u * (x * x))) (pos T))
 
 -- the pair of a given head contains it, wherever the part lies between its bounds
-pub given_encloses : (x : Given) (F : Ratio) (f g : ℕ) (lo hi : ℤ) → f ≤ unit → g ≤ unit → F.num ≤ den F → f * den F ≤ F.num * unit → F.num * unit ≤ g * den F → IsGivenPair x.shead x.ehead f g lo hi → EnclosesSigned lo hi 9 (between_heads x F)
-given_encloses x F f g lo hi hf hg part below above k =
+given_within : (x : Given) (F : Ratio) (f g : ℕ) (s e : HeadPair) (lo hi : ℤ) → IsPassed F f g → IsSignedFloor s.lo (number x.shead) 9 → IsSignedCeiling s.hi (number x.shead) 9 → IsSignedFloor e.lo (number x.ehead) 9 → IsSignedCeiling e.hi (number x.ehead) 9 →
+    IsFloorOf (int_min (blend s.lo e.lo f) (blend s.lo e.lo g)) lo → IsCeilingOf (int_max (blend s.hi e.hi f) (blend s.hi e.hi g)) hi → EnclosesSigned lo hi 9 (between_heads x F)
+given_within x F f g s e lo hi passed start_floor start_ceiling end_floor end_ceiling floor ceiling =
     let S = number x.shead in
     let E = number x.ehead in
     let w = den F - F.num in
-    let v : den F ≡ w + F.num = omega arith in
-    let from = passed_below f F.num w unit (den F) v hf below in
-    let to = passed_above g F.num w unit (den F) v hg above in
-    let low = head_low S.num E.num lo k.start_lo k.end_lo (denominator S) (denominator E) w F.num (10 ^ 9) k.starts.0.at_most k.ends.0.at_most (step_low k.start_lo k.end_lo lo f g w F.num hf hg from to k.floor.at_most) in
-    let high = head_high S.num E.num hi k.start_hi k.end_hi (denominator S) (denominator E) w F.num (10 ^ 9) k.starts.1.at_least k.ends.1.at_least (step_high k.start_hi k.end_hi hi f g w F.num hf hg from to k.ceiling.at_least) in
+    let v : den F ≡ w + F.num = omega (arith, passed.part) in
+    let from = passed_below f F.num w unit (den F) v passed.low_range passed.below in
+    let to = passed_above g F.num w unit (den F) v passed.high_range passed.above in
+    let low = head_low S.num E.num lo s.lo e.lo (denominator S) (denominator E) w F.num (10 ^ 9) start_floor.at_most end_floor.at_most (step_low s.lo e.lo lo f g w F.num passed.low_range passed.high_range from to floor.at_most) in
+    let high = head_high S.num E.num hi s.hi e.hi (denominator S) (denominator E) w F.num (10 ^ 9) start_ceiling.at_least end_ceiling.at_least (step_high s.hi e.hi hi f g w F.num passed.low_range passed.high_range from to ceiling.at_least) in
     let e₁ : suc ((E.less * S.less + E.less + S.less) * F.less + (E.less * S.less + E.less + S.less) + F.less) ≡ (denominator E * denominator S) * (w + F.num) = middle_den S.less E.less F.less ∙ ap (λ (z : ℕ). (denominator E * denominator S) * z) v in
     let e₂ : denominator (between_heads x F) ≡ denominator S * ((denominator E * denominator S) * (w + F.num)) = whole_den S.less _ ∙ ap (λ (z : ℕ). denominator S * z) e₁ in
     let num = ap (λ (z : ℕ). (S.num *ℤ pos z +ℤ ((E.num *ℤ pos (denominator S) +ℤ neg_ℤ S.num *ℤ pos (denominator E)) *ℤ pos F.num) *ℤ pos (denominator S)) *ℤ pos (10 ^ 9)) e₁ in
@@ -131,8 +135,21 @@ given_encloses x F f g lo hi hf hg part below above k =
       upper = omega (arith, ints, high, ap (λ (z : ℕ). hi *ℤ pos z) e₂, num, top);
     }
 
--- the same for numbers that are those of an entry
-pub head_encloses : (shead ehead : Dec) (f g : ℕ) (lo hi : ℤ) → IsGivenPair shead ehead f g lo hi → (x : Given) (F : Ratio) → x.shead ≡ shead → x.ehead ≡ ehead → IsPassed F f g → EnclosesSigned lo hi 9 (between_heads x F)
-head_encloses shead ehead f g lo hi k x F p q h =
-    given_encloses x F f g lo hi h.low_range h.high_range h.part h.below h.above
-    (subst (λ d. IsGivenPair d x.ehead f g lo hi) (sym p) (subst (λ d. IsGivenPair shead d f g lo hi) (sym q) k))
+pub given_encloses : (x : Given) (F : Ratio) (part : Part) → IsPassed F part.lo part.hi → EnclosesSigned (given_pair x.shead x.ehead part).lo (given_pair x.shead x.ehead part).hi 9 (between_heads x F)
+unfolding given_pair
+given_encloses x F part h =
+    given_within x F part.lo part.hi (head_pair x.shead) (head_pair x.ehead) _ _ h (head_floor x.shead) (head_ceiling x.shead) (head_floor x.ehead) (head_ceiling x.ehead) (floor_is _) (ceiling_is _)
+
+-- the same for a pair that is made of the ends, and numbers that are those of an entry
+pub head_encloses : (shead ehead : Dec) (part : Part) (r : HeadPair) → r ≡ given_pair shead ehead part → (x : Given) (F : Ratio) → x.shead ≡ shead → x.ehead ≡ ehead → IsPassed F part.lo part.hi → EnclosesSigned r.lo r.hi 9 (between_heads x F)
+head_encloses shead ehead part r is x F p q h =
+    let e : given_pair x.shead x.ehead part ≡ r = (λ i. given_pair (p i) (q i) part) ∙ sym is in
+    subst (λ (k : HeadPair). EnclosesSigned k.lo k.hi 9 (between_heads x F)) e (given_encloses x F part h)
+
+pub given_is : (shead ehead : Dec) (part : Part) (start end : HeadPair) (lo hi : ℤ) → start ≡ head_pair shead → end ≡ head_pair ehead →
+    lo ≡ floor_of (int_min (blend start.lo end.lo part.lo) (blend start.lo end.lo part.hi)) → hi ≡ ceiling_of (int_max (blend start.hi end.hi part.lo) (blend start.hi end.hi part.hi)) → pair_of lo hi ≡ given_pair shead ehead part
+unfolding given_pair
+given_is shead ehead part start end lo hi p q a b =
+    let low = a ∙ (λ i. floor_of (int_min (blend (p i).lo (q i).lo part.lo) (blend (p i).lo (q i).lo part.hi))) in
+    let high = b ∙ (λ i. ceiling_of (int_max (blend (p i).hi (q i).hi part.lo) (blend (p i).hi (q i).hi part.hi))) in
+    λ i. record { lo = low i; hi = high i }

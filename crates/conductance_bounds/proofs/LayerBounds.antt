@@ -1,14 +1,15 @@
 -- The pair of a vertical branch contains the manual's conductance, with a bed or without.
-use Rattle.conductance_bounds.proofs.Common.{◌≡◌, ℕ, zero, suc, ◌*◌, ◌≤◌, ◌<◌, ◌^◌, inl, inr, Bool, true, false, Option, Some, None, arith, refl, subst, sym}
-use Rattle.conductance_bounds.proofs.Common.{◌+◌, ◌==◌, IfSome, false≢true, cases_lt, Dec, size, Encloses, Ratio, over, up, IsFloor, IsCeiling, Reaches, Passes}
-use Rattle.conductance_bounds.proofs.Common.{den, plus, times, AtMost, num_scaled, Sd, value, two, IsPositive, Pair, Span, AreBounds, Term, exact, Holds}
-use Rattle.conductance_bounds.proofs.Common.{IsBetween, Number, Within, Sum, Quotient, area_formula, vertical_k_term, vertical_k, vertical_term, resistance_sum}
-use Rattle.conductance_bounds.proofs.Common.{vertical_of, vertical_exact, IsVertHalf, IsBed, IsPair, IsWholePair, evap_formula, evap_exact, over-positive}
-use Rattle.conductance_bounds.proofs.Common.{mul-le-mul_right, Same, Same-trans, Same-sym, Same-self, plus-Same, over-Same, plus-positive}
+use Rattle.conductance_bounds.proofs.Common.{◌≡◌, ℕ, zero, suc, ◌*◌, ◌≤◌, ◌<◌, ◌^◌, inl, inr, Bool, true, false, arith, refl, subst, sym, ◌+◌, ◌==◌, false≢true}
+use Rattle.conductance_bounds.proofs.Common.{cases_lt, Dec, size, Ratio, over, up, IsFloor, IsCeiling, Reaches, Passes, den, plus, times, AtMost, num_scaled}
+use Rattle.conductance_bounds.proofs.Common.{Sd, value, two, IsPositive, Span, AreBounds, Term, exact, PairEncloses, IsBetween, Number, Within, Sum, Quotient}
+use Rattle.conductance_bounds.proofs.Common.{area_formula, vertical_k_term, vertical_k, vertical_term, resistance_sum, vertical_of, vertical_exact, IsVertHalf}
+use Rattle.conductance_bounds.proofs.Common.{IsBed, evap_formula, evap_exact, over-positive, mul-le-mul_right, Same, Same-trans, Same-sym, Same-self, plus-Same}
+use Rattle.conductance_bounds.proofs.Common.{over-Same, plus-positive}
 use Rattle.std.proofs.lemmas.Bool.Decides.{nat_tests}
 use Rattle.conductance_bounds.specs.declared.vertical.VertHalf.{VertHalf}
 use Rattle.conductance_bounds.specs.declared.vertical.Bed.{Bed}
-use Rattle.conductance_bounds.proofs.Manual.{half_of, plus_none, zero_times, Encloses-same, size_positive, positive_between, below_units, pair_encloses}
+use Rattle.conductance_bounds.proofs.Sides.{IsFactor, exact_positive, number, quotient, size_positive, sum, within}
+use Rattle.conductance_bounds.proofs.Manual.{half_of, plus_none, zero_times, Encloses-same, below_units, pair_encloses}
 use Rattle.decimal_input.proofs.Cross.{le_cancel}
 
 -- the vertical conductivity as it is rounded, and exactly
@@ -16,77 +17,69 @@ k_is : (b : Bool) (h v : Ratio) → exact (vertical_k_term b h v) ≡ vertical_k
 k_is true h v = refl
 k_is false h v = refl
 
-k_positive : (b : Bool) (h v : Ratio) → 0 < h.num → 0 < v.num → 0 < (exact (vertical_k_term b h v)).num
-k_positive true h v p q = over-positive h v p
-k_positive false h v p q = q
+k_factor : (b : Bool) (h v : Ratio) → 0 < h.num → 0 < v.num → IsFactor (vertical_k_term b h v)
+k_factor true h v p q = quotient (number h p) (number v q)
+k_factor false h v p q = number v q
 
-k_holds : (b : Bool) (h v : Ratio) → 0 < v.num → Holds (vertical_k_term b h v)
-k_holds true h v q = (tt, tt, q)
-k_holds false h v q = tt
-
--- a cell's half: its conductivities and its thickness, between two decimals
-pub record IsLayerHalf (h v t : Ratio) (lo hi : Sd) : Type 0 where
+-- a cell's half: its conductivities and its thickness
+pub record IsLayerHalf (h v : Ratio) (t : Term) : Type 0 where
   pub hk : 0 < h.num
   pub vka : 0 < v.num
-  pub thick : 0 < t.num
-  pub between : IsBetween lo hi t
+  pub thick : IsFactor t
 
-pub is_zero : (n : ℕ) → n ≡ 0 → (n == 0) ≡ true
+is_zero : (n : ℕ) → n ≡ 0 → (n == 0) ≡ true
 is_zero n e = grind (arith, nat_tests)
 
-pub is_some : (n : ℕ) → 0 < n → (n == 0) ≡ false
+is_some : (n : ℕ) → 0 < n → (n == 0) ≡ false
 is_some n e = grind (arith, nat_tests)
 
--- a bed has no thickness and is left out, or lies between its decimals, with its conductivity above 0
-abbrev pub IsBedded : Bool → Ratio → Ratio → Sd → Sd → Type 0
-IsBedded true b v lo hi = b.num ≡ 0
-IsBedded false b v lo hi = (0 < v.num) × IsBetween lo hi b
+-- a bed has no thickness and is left out, or has one, with its conductivity above 0
+abbrev pub IsBedded : Bool → Term → Ratio → Type 0
+IsBedded true b v = (exact b).num ≡ 0
+IsBedded false b v = (0 < v.num) × IsFactor b
 
-pub no_bed : (n : ℕ) (b v : Ratio) (lo hi : Sd) → n ≡ 0 → b.num ≡ 0 → IsBedded (n == 0) b v lo hi
-no_bed n b v lo hi e none = subst (λ z. IsBedded z b v lo hi) (sym (is_zero n e)) none
+pub no_bed : (n : ℕ) (b : Term) (v : Ratio) → n ≡ 0 → (exact b).num ≡ 0 → IsBedded (n == 0) b v
+no_bed n b v e none = subst (λ z. IsBedded z b v) (sym (is_zero n e)) none
 
-pub some_bed : (n : ℕ) (b v : Ratio) (lo hi : Sd) → 0 < n → 0 < v.num → IsBetween lo hi b → IsBedded (n == 0) b v lo hi
-some_bed n b v lo hi some hv between = subst (λ z. IsBedded z b v lo hi) (sym (is_some n some)) (hv, between)
+pub some_bed : (n : ℕ) (b : Term) (v : Ratio) → 0 < n → 0 < v.num → IsFactor b → IsBedded (n == 0) b v
+some_bed n b v some hv thick = subst (λ z. IsBedded z b v) (sym (is_some n some)) (hv, thick)
 
 -- a half's formula, and its value in the manual's form
-module _ (q : Bool) (h v t : Ratio) (lo hi : Sd) (p : IsLayerHalf h v t lo hi) where
+module _ (q : Bool) (h v : Ratio) (t : Term) (p : IsLayerHalf h v t) where
   abbrev half_term : Term
-  half_term = vertical_term (Within lo hi t) (vertical_k_term q h v)
+  half_term = vertical_term t (vertical_k_term q h v)
 
-  half_is : Same (exact half_term) (over (over t two) (vertical_k q h v))
-  half_is = subst (λ (k : Ratio). Same (exact half_term) (over (over t two) k)) (k_is q h v) (half_of t (exact (vertical_k_term q h v)) (k_positive q h v p.hk p.vka))
+  half_is : Same (exact half_term) (over (over (exact t) two) (vertical_k q h v))
+  half_is = subst (λ (k : Ratio). Same (exact half_term) (over (over (exact t) two) k)) (k_is q h v) (half_of (exact t) (exact (vertical_k_term q h v)) (exact_positive (k_factor q h v p.hk p.vka)))
 
-  half_holds : Holds half_term
-  half_holds = (p.between, (k_holds q h v p.vka, k_holds q h v p.vka), plus-positive _ _ (k_positive q h v p.hk p.vka))
+  half_factor : IsFactor half_term
+  half_factor = quotient p.thick (sum (k_factor q h v p.hk p.vka) (k_factor q h v p.hk p.vka))
 
 -- The resistances of two halves x and y with the values f and g, and of the bed between them.
-module _ (b v : Ratio) (lo hi : Sd) (x y : Term) where
+module _ (b : Term) (v : Ratio) (x y : Term) where
   abbrev joined : Bool → Term
-  joined bare = resistance_sum bare x (Quotient (Within lo hi b) (Number v)) y
+  joined bare = resistance_sum bare x (Quotient b (Number v)) y
 
-  joined_is : (bare : Bool) (f g : Ratio) → IsBedded bare b v lo hi → Same (exact x) f → Same (exact y) g → Same (exact (joined bare)) (plus (plus f (over b v)) g)
-  joined_is true f g none p q = plus-Same (Same-trans p (Same-sym (plus_none f (over b v) (zero_times b v none)))) q
-  joined_is false f g bed p q = plus-Same (plus-Same p (Same-self (over b v))) q
+  joined_is : (bare : Bool) (f g : Ratio) → IsBedded bare b v → Same (exact x) f → Same (exact y) g → Same (exact (joined bare)) (plus (plus f (over (exact b) v)) g)
+  joined_is true f g none p q = plus-Same (Same-trans p (Same-sym (plus_none f (over (exact b) v) (zero_times (exact b) v none)))) q
+  joined_is false f g bed p q = plus-Same (plus-Same p (Same-self (over (exact b) v))) q
 
-  joined_holds : (bare : Bool) → IsBedded bare b v lo hi → Holds x → Holds y → Holds (joined bare)
-  joined_holds true none p q = (p, q)
-  joined_holds false bed p q = ((p, (bed.1, tt, bed.0)), q)
+  joined_factor : (bare : Bool) → IsBedded bare b v → IsFactor x → IsFactor y → IsFactor (joined bare)
+  joined_factor true none p q = sum p q
+  joined_factor false bed p q = sum (sum p (quotient bed.1 (number v bed.0))) q
 
-  joined_positive : (bare : Bool) → 0 < (exact x).num → 0 < (exact (joined bare)).num
-  joined_positive true p = plus-positive _ _ p
-  joined_positive false p = plus-positive _ _ (plus-positive _ _ p)
-
-pub layers_enclose : (r d : Ratio) (q₁ : Bool) (h₁ v₁ t₁ : Ratio) (q₂ : Bool) (h₂ v₂ t₂ b v : Ratio) (bare : Bool) (lo₁ hi₁ lo₂ hi₂ lo₃ hi₃ : Sd) (s lo hi : ℕ) → IsLayerHalf h₁ v₁ t₁ lo₁ hi₁ → IsLayerHalf h₂ v₂ t₂ lo₂ hi₂ → IsBedded bare b v lo₃ hi₃ →
-    IsPair (Quotient (area_formula r d) (resistance_sum bare (vertical_term (Within lo₁ hi₁ t₁) (vertical_k_term q₁ h₁ v₁)) (Quotient (Within lo₃ hi₃ b) (Number v)) (vertical_term (Within lo₂ hi₂ t₂) (vertical_k_term q₂ h₂ v₂)))) s lo hi →
-    Encloses lo hi s (over (times r d) (plus (plus (over (over t₁ two) (vertical_k q₁ h₁ v₁)) (over b v)) (over (over t₂ two) (vertical_k q₂ h₂ v₂))))
-layers_enclose r d q₁ h₁ v₁ t₁ q₂ h₂ v₂ t₂ b v bare lo₁ hi₁ lo₂ hi₂ lo₃ hi₃ s lo hi p q bed pair =
-    let x = half_term q₁ h₁ v₁ t₁ lo₁ hi₁ p in
-    let y = half_term q₂ h₂ v₂ t₂ lo₂ hi₂ q in
-    let some = joined_positive b v lo₃ hi₃ x y bare (over-positive t₁ _ p.thick) in
-    Encloses-same lo hi s _ _
-    (over-Same some (plus-positive _ _ (plus-positive _ (over b v) (over-positive (over t₁ two) _ (over-positive t₁ two p.thick)))) (Same-self (times r d))
-    (joined_is b v lo₃ hi₃ x y bare _ _ bed (half_is q₁ h₁ v₁ t₁ lo₁ hi₁ p) (half_is q₂ h₂ v₂ t₂ lo₂ hi₂ q)))
-    (pair_encloses _ s lo hi ((tt, tt), joined_holds b v lo₃ hi₃ x y bare bed (half_holds q₁ h₁ v₁ t₁ lo₁ hi₁ p) (half_holds q₂ h₂ v₂ t₂ lo₂ hi₂ q), some) pair)
+pub layers_enclose : (r d : Ratio) (q₁ : Bool) (h₁ v₁ : Ratio) (t₁ : Term) (q₂ : Bool) (h₂ v₂ : Ratio) (t₂ b : Term) (v : Ratio) (bare : Bool) (s : ℕ) → IsLayerHalf h₁ v₁ t₁ → IsLayerHalf h₂ v₂ t₂ → IsBedded bare b v →
+    PairEncloses (Quotient (area_formula r d) (resistance_sum bare (vertical_term t₁ (vertical_k_term q₁ h₁ v₁)) (Quotient b (Number v)) (vertical_term t₂ (vertical_k_term q₂ h₂ v₂)))) s
+    (over (times r d) (plus (plus (over (over (exact t₁) two) (vertical_k q₁ h₁ v₁)) (over (exact b) v)) (over (over (exact t₂) two) (vertical_k q₂ h₂ v₂))))
+layers_enclose r d q₁ h₁ v₁ t₁ q₂ h₂ v₂ t₂ b v bare s p q bed =
+    let x = half_term q₁ h₁ v₁ t₁ p in
+    let y = half_term q₂ h₂ v₂ t₂ q in
+    let whole = joined_factor b v x y bare bed (half_factor q₁ h₁ v₁ t₁ p) (half_factor q₂ h₂ v₂ t₂ q) in
+    let thick = over-positive (exact t₁) two (exact_positive p.thick) in
+    Encloses-same _ _ s _ _
+    (over-Same (exact_positive whole) (plus-positive _ _ (plus-positive _ (over (exact b) v) (over-positive (over (exact t₁) two) _ thick))) (Same-self (times r d))
+    (joined_is b v x y bare _ _ bed (half_is q₁ h₁ v₁ t₁ p) (half_is q₂ h₂ v₂ t₂ q)))
+    (pair_encloses _ s ((tt, tt), whole.holds, whole.some))
 
 -- what lies below zero is nothing
 none_below : (f : Ratio) (hi : Sd) → hi.m ≡ 0 → AtMost f (value hi) → f.num ≡ 0
@@ -96,20 +89,19 @@ none_below f hi e h = nothing f.num (den f) hi.m (10 ^ up hi.e) (value hi).less 
     nothing a x zero p y e h = omega (arith, h)
     nothing a x (suc m) p y e h = absurd (omega (arith, e))
 
-bedded : (bed : Bed) (h : Ratio) → IsBed bed → IsBetween bed.thick_lo bed.thick_hi h → IsBedded (bed.thick_lo.m == 0) h (size bed.vkcb) bed.thick_lo bed.thick_hi
-bedded bed h (inl z) b = no_bed bed.thick_lo.m h (size bed.vkcb) bed.thick_lo bed.thick_hi z.0.0 (none_below h bed.thick_hi z.1.0 b.upper)
-bedded bed h (inr r) b = some_bed bed.thick_lo.m h (size bed.vkcb) bed.thick_lo bed.thick_hi r.thick.low_size.positive (size_positive bed.vkcb r.vkcb) b
+bedded : (bed : Bed) (h : Ratio) → IsBed bed → IsBetween bed.thick_lo bed.thick_hi h → IsBedded (bed.thick_lo.m == 0) (Within bed.thick_lo bed.thick_hi h) (size bed.vkcb)
+bedded bed h (inl z) b = no_bed bed.thick_lo.m _ (size bed.vkcb) z.0.0 (none_below h bed.thick_hi z.1.0 b.upper)
+bedded bed h (inr r) b = some_bed bed.thick_lo.m _ (size bed.vkcb) r.thick.low_size.positive (size_positive bed.vkcb r.vkcb) (within bed.thick_lo bed.thick_hi h r.thick.low_size.positive b)
 
-layer_half : (a : VertHalf) (f : Ratio) → IsVertHalf a → IsBetween a.thick_lo a.thick_hi f → IsLayerHalf (size a.hk) (size a.vka) f a.thick_lo a.thick_hi
-layer_half a f p b = record { hk = size_positive a.hk p.hk; vka = size_positive a.vka p.vka; thick = positive_between a.thick_lo a.thick_hi f p.thick.low_size.positive b; between = b }
+layer_half : (a : VertHalf) (f : Ratio) → IsVertHalf a → IsBetween a.thick_lo a.thick_hi f → IsLayerHalf (size a.hk) (size a.vka) (Within a.thick_lo a.thick_hi f)
+layer_half a f p b = record { hk = size_positive a.hk p.hk; vka = size_positive a.vka p.vka; thick = within a.thick_lo a.thick_hi f p.thick.low_size.positive b }
 
-pub branch_encloses : (a b : VertHalf) (bed : Bed) (delr delc : Dec) (s : ℕ) (r : Option Pair) → IsVertHalf a → IsVertHalf b → IsBed bed → (f g h : Ratio) →
+pub branch_encloses : (a b : VertHalf) (bed : Bed) (delr delc : Dec) (s : ℕ) → IsVertHalf a → IsVertHalf b → IsBed bed → (f g h : Ratio) →
     IsBetween a.thick_lo a.thick_hi f → IsBetween b.thick_lo b.thick_hi g → IsBetween bed.thick_lo bed.thick_hi h →
-    IsWholePair (vertical_of a b bed delr delc f g h) s r → IfSome r (λ p. Encloses p.lo p.hi s (vertical_exact a b bed delr delc f g h))
-branch_encloses a b bed delr delc s None p q w f g h x y z pair = tt
-branch_encloses a b bed delr delc s (Some r) p q w f g h x y z pair =
-    layers_enclose (size delr) (size delc) a.ratio (size a.hk) (size a.vka) f b.ratio (size b.hk) (size b.vka) g h (size bed.vkcb) (bed.thick_lo.m == 0) a.thick_lo a.thick_hi b.thick_lo b.thick_hi bed.thick_lo bed.thick_hi s r.lo r.hi
-    (layer_half a f p x) (layer_half b g q y) (bedded bed h w z) pair.0
+    PairEncloses (vertical_of a b bed delr delc f g h) s (vertical_exact a b bed delr delc f g h)
+branch_encloses a b bed delr delc s p q w f g h x y z =
+    layers_enclose (size delr) (size delc) a.ratio (size a.hk) (size a.vka) (Within a.thick_lo a.thick_hi f) b.ratio (size b.hk) (size b.vka) (Within b.thick_lo b.thick_hi g)
+    (Within bed.thick_lo bed.thick_hi h) (size bed.vkcb) (bed.thick_lo.m == 0) s (layer_half a f p x) (layer_half b g q y) (bedded bed h w z)
 
 -- the bounds of VK where VKA is a ratio
 pub ratio_bounds : (b : Bool) (h v : Ratio) (x : Span) → b ≡ true → AreBounds (Quotient (Number h) (Number v)) x → AreBounds (vertical_k_term b h v) x
@@ -146,6 +138,5 @@ floor-ceiling m n f g s le a b = le_cancel (den g) m n (omega arith) (omega (ari
 pub ruleset pair_lemmas = (Passes-less, Reaches-passes, ceiling-passes, floor-ceiling)
 
 -- The pair of an evapotranspiration contains its conductance.
-pub evap_encloses : (rate depth delr delc : Dec) (s : ℕ) (r : Option Pair) → IsPositive depth → IsWholePair (evap_formula (size rate) (size delr) (size delc) (size depth)) s r → IfSome r (λ p. Encloses p.lo p.hi s (evap_exact rate depth delr delc))
-evap_encloses rate depth delr delc s None d h = tt
-evap_encloses rate depth delr delc s (Some p) d h = pair_encloses _ s p.lo p.hi ((tt, (tt, tt)), tt, size_positive depth d) h.0
+pub evap_encloses : (rate depth delr delc : Dec) (s : ℕ) → IsPositive depth → PairEncloses (evap_formula (size rate) (size delr) (size delc) (size depth)) s (evap_exact rate depth delr delc)
+evap_encloses rate depth delr delc s d = pair_encloses _ s ((tt, (tt, tt)), tt, (number (size depth) (size_positive depth d)).some)

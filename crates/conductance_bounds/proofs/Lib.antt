@@ -1,12 +1,15 @@
 mod Common
 pub mod Arithmetic
+pub mod Sides
 pub mod Manual
 pub mod RowBounds
+pub mod Capped
 pub mod LayerBounds
 pub mod Recharged
 pub mod StorageBounds
 pub mod Multipliers
 pub mod HeadRange
+pub mod Units
 pub mod Blends
 pub mod GivenHeads
 pub mod PartBounds

@@ -1,31 +1,9 @@
 -- The formulas of branches contain the manual's conductances: each formula's value is the manual's, and each of its leaves lies between its bounds.
-use Rattle.conductance_bounds.proofs.Common.{◌≡◌, ℕ, ◌+◌, ◌*◌, ◌<◌, arith, refl, ◌≤◌, ◌^◌, subst, sym, mul-pos, zero, suc, Encloses, Ratio, ratio, over, up}
-use Rattle.conductance_bounds.proofs.Common.{size, den, plus, times, Same, AtMost, num_plus, den_plus, num_over, den_over, AtMost-trans, Same-AtMost, Same-back}
-use Rattle.conductance_bounds.proofs.Common.{plus-AtMost, times-AtMost, over-AtMost, num_times, den_times, Sd, one, two, half, in_a_row, IsPositive, Term}
-use Rattle.conductance_bounds.proofs.Common.{exact, Holds, IsBetween, Number, Within, Sum, Product, Quotient, IsPair, row_term, Side, IsBound, Lower, Upper}
-use Rattle.conductance_bounds.proofs.Common.{plus-Same, over-Same, plus-positive, over-positive, Same-self, times-positive, mul-le-mul_right}
-use Rattle.conductance_bounds.proofs.Common.{le_of_mul-le-mul_right, ten_pos, num_scaled, value, Dec}
-
-pub positive_value : (x : Sd) → 0 < x.m → 0 < (value x).num
-positive_value x h = rw num_scaled (mul-pos h (ten_pos (up x.e)))
-
--- r is on its side of f
-abbrev pub IsOn : Side → Sd → Ratio → Type 0
-IsOn Lower r f = AtMost (value r) f
-IsOn Upper r f = AtMost f (value r)
-
--- Each bound of a formula is on its side of the value.
-pub bound_on : (t : Term) → Holds t → (side : Side) (r : Sd) → IsBound t side r → IsOn side r (exact t)
-bound_on (Number f) h Lower r b = Same-AtMost b.1
-bound_on (Number f) h Upper r b = Same-back b.1
-bound_on (Within lo hi f) h Lower r b = let P : Sd → Type 0 = λ x. AtMost (value x) f in subst P (sym b) h.lower
-bound_on (Within lo hi f) h Upper r b = let P : Sd → Type 0 = λ x. AtMost f (value x) in subst P (sym b) h.upper
-bound_on (Sum t u) h Lower r (a, b, ta, ub, rounded) = AtMost-trans rounded.at_most (plus-AtMost (bound_on t h.0 Lower a ta) (bound_on u h.1 Lower b ub))
-bound_on (Sum t u) h Upper r (a, b, ta, ub, rounded) = AtMost-trans (plus-AtMost (bound_on t h.0 Upper a ta) (bound_on u h.1 Upper b ub)) rounded.at_least
-bound_on (Product t u) h Lower r (a, b, ta, ub, rounded) = AtMost-trans rounded.at_most (times-AtMost (bound_on t h.0 Lower a ta) (bound_on u h.1 Lower b ub))
-bound_on (Product t u) h Upper r (a, b, ta, ub, rounded) = AtMost-trans (times-AtMost (bound_on t h.0 Upper a ta) (bound_on u h.1 Upper b ub)) rounded.at_least
-bound_on (Quotient t u) h Lower r (a, b, ta, ub, divisor, rounded) = AtMost-trans rounded.at_most (over-AtMost (positive_value b divisor) h.2 (bound_on t h.0 Lower a ta) (bound_on u h.1 Upper b ub))
-bound_on (Quotient t u) h Upper r (a, b, ta, ub, divisor, rounded) = AtMost-trans (over-AtMost h.2 (positive_value b divisor) (bound_on t h.0 Upper a ta) (bound_on u h.1 Lower b ub)) rounded.at_least
+use Rattle.conductance_bounds.proofs.Common.{◌≡◌, ℕ, ◌+◌, ◌*◌, ◌<◌, arith, refl, ◌≤◌, ◌^◌, Encloses, Ratio, ratio, over, den, plus, times, Same, num_plus}
+use Rattle.conductance_bounds.proofs.Common.{den_plus, num_over, den_over, num_times, den_times, value, one, two, half, in_a_row, Term, exact, Holds}
+use Rattle.conductance_bounds.proofs.Common.{PairEncloses, bound, pair, row_term, Lower, Upper, plus-Same, over-Same, plus-positive, over-positive, Same-self}
+use Rattle.conductance_bounds.proofs.Common.{times-positive, mul-le-mul_right, le_of_mul-le-mul_right, is_ceiling, is_floor}
+use Rattle.conductance_bounds.proofs.Sides.{bound_on, IsFactor, exact_positive, number, number_one, sum, product, quotient}
 
 -- n / 10 ^ s ≤ a / x ≤ b / y, over plain numbers
 pub below_units : (n a x b y p : ℕ) → 0 < x → n * x ≤ a * p → a * y ≤ b * x → n * y ≤ b * p
@@ -35,11 +13,19 @@ pub above_units : (n a x b y p : ℕ) → 0 < x → a * p ≤ n * x → b * x �
 above_units n a x b y p h q r = le_of_mul-le-mul_right {k = x} (omega (arith, mul-le-mul_right y q, mul-le-mul_right p r)) h
 
 -- The pair of a formula contains its value.
-pub pair_encloses : (t : Term) (s lo hi : ℕ) → Holds t → IsPair t s lo hi → Encloses lo hi s (exact t)
-pair_encloses t s lo hi h p = record {
-  lower = below_units lo (value p.low).num (den (value p.low)) (exact t).num (den (exact t)) (10 ^ s) (omega arith) p.floor.at_most (bound_on t h Lower p.low p.low_is).cross;
-  upper = above_units hi (value p.high).num (den (value p.high)) (exact t).num (den (exact t)) (10 ^ s) (omega arith) p.ceiling.at_least (bound_on t h Upper p.high p.high_is).cross;
-}
+pub pair_encloses : (t : Term) (s : ℕ) → Holds t → PairEncloses t s (exact t)
+unfolding pair
+pair_encloses t s h =
+    let low = value (bound t Lower) in
+    let high = value (bound t Upper) in
+    record {
+      lower = below_units _ low.num (den low) (exact t).num (den (exact t)) (10 ^ s) (omega arith) (is_floor low s).at_most (bound_on t h Lower).cross;
+      upper = above_units _ high.num (den high) (exact t).num (den (exact t)) (10 ^ s) (omega arith) (is_ceiling high s).at_least (bound_on t h Upper).cross;
+    }
+
+-- its bounds are in order
+pub pair_ordered : (t : Term) (s : ℕ) → Holds t → (pair t s).lo ≤ (pair t s).hi
+pair_ordered t s h = let e = pair_encloses t s h in le_of_mul-le-mul_right {k = den (exact t)} (omega (arith, e.lower, e.upper)) (omega arith)
 
 pub Encloses-same : (lo hi s : ℕ) (f g : Ratio) → Same f g → Encloses lo hi s f → Encloses lo hi s g
 Encloses-same lo hi s f g e h = record {
@@ -86,13 +72,14 @@ same_row w d₁ k₁ t₁ d₂ k₂ t₂ hw hd₁ hk₁ ht₁ hk₂ ht₂ =
     over-Same (plus-positive _ _ (over-positive d₁ _ hd₁)) (plus-positive _ _ p) (record { cross = refl }) (plus-Same (half-Same d₁ w k₁ t₁ hw hk₁ ht₁) (half-Same d₂ w k₂ t₂ hw hk₂ ht₂))
 
 -- the pair of a row's or a column's formula contains the manual's conductance
-pub row_pair_encloses : (w d₁ : Ratio) (k₁ : Term) (t₁ d₂ : Ratio) (k₂ : Term) (t₂ : Ratio) (lo₁ hi₁ lo₂ hi₂ : Sd) (s lo hi : ℕ) →
-    0 < w.num → 0 < d₁.num → 0 < (exact k₁).num → 0 < t₁.num → 0 < (exact k₂).num → 0 < t₂.num → Holds k₁ → Holds k₂ → IsBetween lo₁ hi₁ t₁ → IsBetween lo₂ hi₂ t₂ →
-    IsPair (row_term w d₁ k₁ (Within lo₁ hi₁ t₁) d₂ k₂ (Within lo₂ hi₂ t₂)) s lo hi → Encloses lo hi s (in_a_row (half d₁ w (exact k₁) t₁) (half d₂ w (exact k₂) t₂))
-row_pair_encloses w d₁ k₁ t₁ d₂ k₂ t₂ lo₁ hi₁ lo₂ hi₂ s lo hi hw hd hk₁ ht₁ hk₂ ht₂ p₁ p₂ b₁ b₂ pair =
-    Encloses-same lo hi s _ _ (same_row w d₁ (exact k₁) t₁ d₂ (exact k₂) t₂ hw hd hk₁ ht₁ hk₂ ht₂)
-    (pair_encloses _ s lo hi
-    (tt, ((tt, ((tt, tt), (p₁, b₁)), divisor_positive w (exact k₁) t₁ hw hk₁ ht₁), (tt, ((tt, tt), (p₂, b₂)), divisor_positive w (exact k₂) t₂ hw hk₂ ht₂)), plus-positive _ _ (over-positive d₁ _ hd)) pair)
+pub row_pair_encloses : (w d₁ : Ratio) (k₁ t₁ : Term) (d₂ : Ratio) (k₂ t₂ : Term) (s : ℕ) → 0 < w.num → 0 < d₁.num → 0 < d₂.num → IsFactor k₁ → IsFactor t₁ → IsFactor k₂ → IsFactor t₂ →
+    PairEncloses (row_term w d₁ k₁ t₁ d₂ k₂ t₂) s (in_a_row (half d₁ w (exact k₁) (exact t₁)) (half d₂ w (exact k₂) (exact t₂)))
+row_pair_encloses w d₁ k₁ t₁ d₂ k₂ t₂ s hw hd₁ hd₂ fk₁ ft₁ fk₂ ft₂ =
+    let wide = sum (number w hw) (number w hw) in
+    let first = quotient (number d₁ hd₁) (product wide (product fk₁ ft₁)) in
+    let second = quotient (number d₂ hd₂) (product wide (product fk₂ ft₂)) in
+    Encloses-same _ _ s _ _ (same_row w d₁ (exact k₁) (exact t₁) d₂ (exact k₂) (exact t₂) hw hd₁ (exact_positive fk₁) (exact_positive ft₁) (exact_positive fk₂) (exact_positive ft₂))
+    (pair_encloses _ s (quotient number_one (sum first second)).holds)
 
 halves : (t dt k dk : ℕ) → (t * (dk * dk)) * ((dt * 2) * k) ≡ ((t * 1) * dk) * (dt * (k * dk + k * dk))
 halves t dt k dk = omega arith
@@ -113,14 +100,3 @@ plus_none x y e = record { cross = rw (num_plus x y, den_plus x y, e) (nothing x
 
 pub zero_times : (b : Ratio) (v : Ratio) → b.num ≡ 0 → (over b v).num ≡ 0
 zero_times b v e = rw (num_over b v, e) (omega arith)
-
--- Positive numbers of the input, and of what lies between positive decimals.
-pub size_positive : (d : Dec) → IsPositive d → 0 < (size d).num
-size_positive d h = rw num_scaled (mul-pos h.positive (ten_pos (up d.exp)))
-
-pub positive_between : (lo hi : Sd) (f : Ratio) → 0 < lo.m → IsBetween lo hi f → 0 < f.num
-positive_between lo hi f h b = at_least f.num (den f) (value lo).num (den (value lo)) (positive_value lo h) (omega arith) b.lower.cross
-  where
-    at_least : (a x b y : ℕ) → 0 < b → 0 < x → b * x ≤ a * y → 0 < a
-    at_least zero x b y hb hx h = absurd (omega (arith, h, mul-pos hb hx))
-    at_least (suc a) x b y hb hx h = omega arith

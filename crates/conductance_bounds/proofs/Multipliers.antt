@@ -1,7 +1,7 @@
 -- The steps of the loops over growing time steps.
 use Rattle.conductance_bounds.proofs.Common.{◌≡◌, ℕ, zero, suc, ◌+◌, ◌*◌, ◌≤◌, ◌<◌, ◌^◌, inl, inr, arith, subst, ℤ, pos, negsuc, neg_ℤ, ◌+ℤ◌, ◌≤ℤ◌, int_max}
 use Rattle.conductance_bounds.proofs.Common.{mul-le-mul, cases_lt, ints, clamps, Dec, size, scaled, up, down, Ratio, ratio, AtMost, AtMost-trans, Same-AtMost}
-use Rattle.conductance_bounds.proofs.Common.{Same-back, ten_pos, power_within, num_scaled, den_scaled, Sd, HasSize, one, Span, IsBound, Lower, Number, Sum}
+use Rattle.conductance_bounds.proofs.Common.{Same-back, ten_pos, power_within, num_scaled, den_scaled, Sd, HasSize, IsSd, one, Same, Span, value, Number, Sum}
 use Rattle.conductance_bounds.proofs.Common.{Product, sum_term, power_term, IsSlow, AreBounds, reach}
 use Rattle.conductance_bounds.proofs.Arithmetic.{reach_within}
 
@@ -37,13 +37,13 @@ no_zero m e z h = nothing m (10 ^ up e) (10 ^ down e) z (ten_pos (down e)) (rw (
     nothing zero p q z some h = omega (arith, h, some)
     nothing (suc m) p q z some h = omega (arith, z)
 
-pub multiplier_size : (x : Sd) (t : Dec) (n : ℕ) → IsBound (Number (size t)) Lower x → IsSlow t n → HasSize x (neg_ℤ (pos 20)) (neg_ℤ (pos 14))
-multiplier_size x t n (inl d, same) slow = record {
+pub multiplier_size : (x : Sd) (t : Dec) (n : ℕ) → IsSd x → Same (value x) (size t) → IsSlow t n → HasSize x (neg_ℤ (pos 20)) (neg_ℤ (pos 14))
+multiplier_size x t n (inl d) same slow = record {
   positive = omega (arith, d.0);
   above = slow_least x.m x.e d.1 (AtMost-trans slow.least (Same-back same));
   below = slow_most x.m x.e d.0 (AtMost-trans (Same-AtMost same) slow.most);
 }
-multiplier_size x t n (inr z, same) slow = absurd (no_zero x.m x.e z.0 (AtMost-trans slow.least (Same-back same)))
+multiplier_size x t n (inr z) same slow = absurd (no_zero x.m x.e z.0 (AtMost-trans slow.least (Same-back same)))
 
 -- Horner's rule goes on by one step, and a power by one factor
 pub sum_start : (t : Ratio) (x : Span) → AreBounds (Number one) x → AreBounds (sum_term t 0) x

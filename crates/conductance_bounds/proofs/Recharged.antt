@@ -1,10 +1,8 @@
 -- The pair of a recharge contains it, whatever its sign.
-use Rattle.conductance_bounds.proofs.Common.{◌≡◌, ℕ, suc, ◌+◌, ◌*◌, ◌≤◌, ◌^◌, Bool, true, false, Option, Some, None, arith, ap, ◌∙◌, sym, subst, ℤ, pos, neg_ℤ}
-use Rattle.conductance_bounds.proofs.Common.{◌*ℤ◌, IfSome, ints, Dec, size, Ratio, den, times, Same, Fraction, signed, with_sign, Encloses, EnclosesSigned}
-use Rattle.conductance_bounds.proofs.Common.{Number, number, num_times, den_times, Same-sym, neg_times, recharge_formula, recharge_exact, IsFlow, IsFlowPair}
-use Rattle.conductance_bounds.proofs.Common.{low_end, high_end}
+use Rattle.conductance_bounds.proofs.Common.{◌≡◌, ℕ, suc, ◌+◌, ◌*◌, ◌≤◌, ◌^◌, Bool, true, false, arith, ap, ◌∙◌, ℤ, pos, neg_ℤ, ◌*ℤ◌, ints, Dec, size, Ratio}
+use Rattle.conductance_bounds.proofs.Common.{den, times, Same, Fraction, signed, with_sign, Encloses, EnclosesSigned, Number, number, num_times, den_times}
+use Rattle.conductance_bounds.proofs.Common.{Same-sym, neg_times, recharge_formula, recharge_exact, FlowEncloses, Pair, pair, signed_pair}
 use Rattle.decimal_input.specs.Fractions.{den as denominator, times as product}
-use Rattle.conductance_bounds.specs.declared.pair.FlowPair.{FlowPair}
 use Rattle.conductance_bounds.proofs.Manual.{pair_encloses, Encloses-same}
 
 -- a number with a sign times an area
@@ -37,32 +35,29 @@ loss_encloses r a l h s k =
       upper = omega (arith, ints, up.lower, top, neg_times (pos l) (pos (denominator (with_area true r a))));
     }
 
-both_encloses : (neg : Bool) (r a : Ratio) (l h s : ℕ) → Encloses l h s (times r a) → EnclosesSigned (low_end neg l h) (high_end neg l h) s (with_area neg r a)
-both_encloses false r a l h s k = gain_encloses r a l h s k
-both_encloses true r a l h s k = loss_encloses r a l h s k
+both_encloses : (neg : Bool) (r a : Ratio) (p : Pair) (s : ℕ) → Encloses p.lo p.hi s (times r a) → EnclosesSigned (signed_pair neg p).lo (signed_pair neg p).hi s (with_area neg r a)
+both_encloses false r a p s k = gain_encloses r a p.lo p.hi s k
+both_encloses true r a p s k = loss_encloses r a p.lo p.hi s k
 
 pub assoc : (a b c : Ratio) → Same (times a (times b c)) (times (times a b) c)
 assoc a b c = record { cross = rw (num_times a (times b c), den_times a (times b c), num_times (times a b) c, den_times (times a b) c, num_times b c, den_times b c, num_times a b, den_times a b) (omega arith) }
 
 -- the bounds of a recharge over a cell of lengths r and d
-pub flow_encloses : (rate : Dec) (r d : Ratio) (s : ℕ) (lo hi : ℤ) → IsFlow (recharge_formula (size rate) r d) rate.neg s lo hi → EnclosesSigned lo hi s (with_area rate.neg (size rate) (times r d))
-flow_encloses rate r d s lo hi k =
-    let magnitude : Encloses k.least k.most s (times (size rate) (times r d)) = Encloses-same k.least k.most s _ _ (Same-sym (assoc (size rate) r d)) (pair_encloses _ s k.least k.most ((tt, tt), tt) k.pair) in
-    subst (λ (z : ℤ). EnclosesSigned z hi s (with_area rate.neg (size rate) (times r d))) (sym k.lower)
-    (subst (λ (z : ℤ). EnclosesSigned (low_end rate.neg k.least k.most) z s (with_area rate.neg (size rate) (times r d))) (sym k.upper)
-    (both_encloses rate.neg (size rate) (times r d) k.least k.most s magnitude))
+pub flow_encloses : (rate : Dec) (r d : Ratio) (s : ℕ) → FlowEncloses (recharge_formula (size rate) r d) rate.neg s (with_area rate.neg (size rate) (times r d))
+flow_encloses rate r d s =
+    both_encloses rate.neg (size rate) (times r d) (pair (recharge_formula (size rate) r d) s) s
+    (Encloses-same _ _ s _ _ (Same-sym (assoc (size rate) r d)) (pair_encloses (recharge_formula (size rate) r d) s ((tt, tt), tt)))
 
-pub recharge_encloses : (rate delr delc : Dec) (s : ℕ) (r : Option FlowPair) → IsFlowPair (recharge_formula (size rate) (size delr) (size delc)) rate.neg s r → IfSome r (λ p. EnclosesSigned p.lo p.hi s (recharge_exact rate delr delc))
-recharge_encloses rate delr delc s None h = tt
-recharge_encloses rate delr delc s (Some p) h = flow_encloses rate (size delr) (size delc) s p.lo p.hi h.0
+pub recharge_encloses : (rate delr delc : Dec) (s : ℕ) → FlowEncloses (recharge_formula (size rate) (size delr) (size delc)) rate.neg s (recharge_exact rate delr delc)
+recharge_encloses rate delr delc s = flow_encloses rate (size delr) (size delc) s
 
 -- the bounds of a flow of the input
-signed_encloses : (neg : Bool) (r : Ratio) (l h s : ℕ) → Encloses l h s r → EnclosesSigned (low_end neg l h) (high_end neg l h) s (record { num = with_sign neg r.num; less = r.less })
-signed_encloses false r l h s k = record { lower = omega (arith, ints, k.lower); upper = omega (arith, ints, k.upper) }
-signed_encloses true r l h s k = record {
-  lower = omega (arith, ints, k.upper, neg_times (pos h) (pos (den r)), neg_times (pos r.num) (pos (10 ^ s)));
-  upper = omega (arith, ints, k.lower, neg_times (pos l) (pos (den r)), neg_times (pos r.num) (pos (10 ^ s)));
+signed_encloses : (neg : Bool) (r : Ratio) (p : Pair) (s : ℕ) → Encloses p.lo p.hi s r → EnclosesSigned (signed_pair neg p).lo (signed_pair neg p).hi s (record { num = with_sign neg r.num; less = r.less })
+signed_encloses false r p s k = record { lower = omega (arith, ints, k.lower); upper = omega (arith, ints, k.upper) }
+signed_encloses true r p s k = record {
+  lower = omega (arith, ints, k.upper, neg_times (pos p.hi) (pos (den r)), neg_times (pos r.num) (pos (10 ^ s)));
+  upper = omega (arith, ints, k.lower, neg_times (pos p.lo) (pos (den r)), neg_times (pos r.num) (pos (10 ^ s)));
 }
 
-pub number_encloses : (q : Dec) (s : ℕ) (lo hi : ℤ) → IsFlow (Number (size q)) q.neg s lo hi → EnclosesSigned lo hi s (number q)
-number_encloses q s lo hi k = rw (k.lower, k.upper) (signed_encloses q.neg (size q) k.least k.most s (pair_encloses _ s k.least k.most tt k.pair))
+pub number_encloses : (q : Dec) (s : ℕ) → FlowEncloses (Number (size q)) q.neg s (number q)
+number_encloses q s = signed_encloses q.neg (size q) (pair (Number (size q)) s) s (pair_encloses (Number (size q)) s tt)

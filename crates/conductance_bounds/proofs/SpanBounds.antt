@@ -3,8 +3,9 @@ use Rattle.conductance_bounds.proofs.Common.{◌≡◌, ℕ, zero, suc, ◌*◌,
 use Rattle.conductance_bounds.proofs.Common.{inl, inr, subst, sym, ap, ◌+ℤ◌, unsigned_abs, ints, Dec, number, Fraction, ratio, scaled, size, Ratio, den, Same}
 use Rattle.conductance_bounds.proofs.Common.{plus, times, mul_mono_right, diffs, as_diff, same_diff, AtMost-trans, Same-trans, Same-sym, Same-AtMost, Same-back}
 use Rattle.conductance_bounds.proofs.Common.{num_times, den_times, num_plus, den_plus, num_scaled, den_scaled, scaled_shift, gap, IsThick, one, number_one}
-use Rattle.conductance_bounds.proofs.Common.{IsBetween, IsSpan, AreBounds, Number, Side, IsBound, IsRounded, Lower, Upper, sum_term, power_term, Span, pow-suc}
-use Rattle.conductance_bounds.proofs.Common.{cases_lt, Sd, IsSd, value, Same-self, times-Same, plus-Same}
+use Rattle.conductance_bounds.proofs.Common.{IsBetween, AreBounds, Number, Side, Lower, Upper, bound, rounded, span, units_at, sum_term, power_term, Span}
+use Rattle.conductance_bounds.proofs.Common.{cases_lt, pow-suc, Sd, IsSd, value, Same-self, times-Same, plus-Same, ◌∙◌, is_rounded, one_rounded}
+use Rattle.conductance_bounds.proofs.Units.{units_ceiling, units_floor}
 use Rattle.decimal_input.specs.Fractions.{den as denominator}
 
 ring_left : (a b x y : ℤ) → (a -ℤ b) *ℤ (x *ℤ y) ≡ (a *ℤ x) *ℤ y -ℤ (b *ℤ y) *ℤ x
@@ -60,16 +61,23 @@ pub thick_positive : (top bottom : Dec) → IsThick top bottom → 0 < (gap (num
 thick_positive top bottom k = abs_positive (gap_num (number top) (number bottom)) (gap_positive top bottom k)
 
 -- and its two decimals contain it
-pub span_between : (top bottom : Dec) (t : Span) (k : IsSpan top bottom t) → IsThick top bottom → k.bottom_hi ≤ℤ k.top_lo → k.bottom_lo ≤ℤ k.top_hi → IsBetween t.lo t.hi (gap (number top) (number bottom))
-span_between top bottom t k thick order wide =
+pub span_between : (top bottom : Dec) → IsThick top bottom → units_at Upper bottom 18 ≤ℤ units_at Lower top 18 → units_at Lower bottom 18 ≤ℤ units_at Upper top 18 → IsBetween (span top bottom).lo (span top bottom).hi (gap (number top) (number bottom))
+unfolding span
+span_between top bottom thick order wide =
+    let a = units_at Lower top 18 in
+    let b = units_at Upper top 18 in
+    let c = units_at Lower bottom 18 in
+    let d = units_at Upper bottom 18 in
+    let x = denominator (number top) in
+    let y = denominator (number bottom) in
     let g = gap_positive top bottom thick in
-    let low = abs_low (k.top_lo -ℤ k.bottom_hi) (gap_num (number top) (number bottom)) (denominator (number top)) (denominator (number bottom)) (10 ^ 18) (omega (arith, ints, order)) (omega (arith, ints, g))
-    (below_gap k.top_lo k.bottom_hi (number top).num (number bottom).num (denominator (number top)) (denominator (number bottom)) (10 ^ 18) k.tops.0.at_most k.bottoms.1.at_least) in
-    let high = abs_high (k.top_hi -ℤ k.bottom_lo) (gap_num (number top) (number bottom)) (denominator (number top)) (denominator (number bottom)) (10 ^ 18) (omega (arith, ints, wide)) (omega (arith, ints, g))
-    (above_gap k.top_hi k.bottom_lo (number top).num (number bottom).num (denominator (number top)) (denominator (number bottom)) (10 ^ 18) k.tops.1.at_least k.bottoms.0.at_most) in
+    let low = abs_low (a -ℤ d) (gap_num (number top) (number bottom)) x y (10 ^ 18) (omega (arith, ints, order)) (omega (arith, ints, g))
+    (below_gap a d (number top).num (number bottom).num x y (10 ^ 18) (units_floor top 18).at_most (units_ceiling bottom 18).at_least) in
+    let high = abs_high (b -ℤ c) (gap_num (number top) (number bottom)) x y (10 ^ 18) (omega (arith, ints, wide)) (omega (arith, ints, g))
+    (above_gap b c (number top).num (number bottom).num x y (10 ^ 18) (units_ceiling top 18).at_least (units_floor bottom 18).at_most) in
     record {
-      lower = AtMost-trans k.lower.at_most (record { cross = rw (num_scaled (unsigned_abs (k.top_lo -ℤ k.bottom_hi)) (neg_ℤ (pos 18)), den_scaled (unsigned_abs (k.top_lo -ℤ k.bottom_hi)) (neg_ℤ (pos 18)), den_gap (number top) (number bottom)) (omega (arith, low)) });
-      upper = AtMost-trans (record { cross = rw (num_scaled (unsigned_abs (k.top_hi -ℤ k.bottom_lo)) (neg_ℤ (pos 18)), den_scaled (unsigned_abs (k.top_hi -ℤ k.bottom_lo)) (neg_ℤ (pos 18)), den_gap (number top) (number bottom)) (omega (arith, high)) }) k.upper.at_least;
+      lower = AtMost-trans (is_rounded Lower _).at_most (record { cross = rw (num_scaled (unsigned_abs (a -ℤ d)) (neg_ℤ (pos 18)), den_scaled (unsigned_abs (a -ℤ d)) (neg_ℤ (pos 18)), den_gap (number top) (number bottom)) (omega (arith, low)) });
+      upper = AtMost-trans (record { cross = rw (num_scaled (unsigned_abs (b -ℤ c)) (neg_ℤ (pos 18)), den_scaled (unsigned_abs (b -ℤ c)) (neg_ℤ (pos 18)), den_gap (number top) (number bottom)) (omega (arith, high)) }) (is_rounded Upper _).at_least;
     }
 
 -- The number 1.
@@ -79,9 +87,9 @@ unity_is = record { cross = rw (num_scaled, den_scaled) refl }
 
 -- Steps of one length: the sums are the whole numbers, and each rounding is exact.
 -- what is a decimal is rounded to itself
-exact_rounded : (side : Side) (x : Sd) (f : Ratio) → IsSd x → Same (value x) f → IsRounded side x f
-exact_rounded Lower x f d same = record { decimal = d; at_most = Same-AtMost same; greatest = (λ y e h. AtMost-trans h (Same-back same)) }
-exact_rounded Upper x f d same = record { decimal = d; at_least = Same-back same; least = (λ y e h. AtMost-trans (Same-AtMost same) h) }
+pub exact_rounded : (side : Side) (x : Sd) (f : Ratio) → IsSd x → Same (value x) f → x ≡ rounded side f
+exact_rounded Lower x f d same = one_rounded Lower x f (record { decimal = d; at_most = Same-AtMost same; greatest = (λ y e h. AtMost-trans h (Same-back same)) })
+exact_rounded Upper x f d same = one_rounded Upper x f (record { decimal = d; at_least = Same-back same; least = (λ y e h. AtMost-trans (Same-AtMost same) h) })
 
 -- a whole number below 10 ^ 18 is a decimal
 pub record IsDecimal (f : Ratio) : Type 0 where
@@ -124,25 +132,41 @@ unity_decimal = inl (omega arith, omega arith)
 unity_input : Same (value unity) (size number_one)
 unity_input = Same-trans unity_is (Same-sym (whole_is 1))
 
-pub equal_sum : (side : Side) (n : ℕ) (x : Sd) → n < 10 ^ 17 → IsSd x → Same (value x) (ratio (suc n) 1) → IsBound (sum_term (size number_one) n) side x
-unfolding sum_term
-equal_sum side zero x few d same = (d, same)
+-- the two spellings of 1 in the formulas
+one_is : (side : Side) → unity ≡ rounded side one
+one_is side = exact_rounded side unity one unity_decimal unity_is
+
+input_is : (side : Side) → unity ≡ rounded side (size number_one)
+input_is side = exact_rounded side unity (size number_one) unity_decimal unity_input
+
+equal_sum : (side : Side) (n : ℕ) (x : Sd) → n < 10 ^ 17 → IsSd x → Same (value x) (ratio (suc n) 1) → x ≡ bound (sum_term (size number_one) n) side
+unfolding sum_term bound
+equal_sum side zero x few d same = exact_rounded side x one d same
 equal_sum side (suc n) x few d same =
     let y = whole_decimal (suc n) (omega arith) (omega (arith, few)) in
+    let before = equal_sum side n y.at (omega (arith, few)) y.decimal y.same in
     let product : Same (value y.at) (times (value y.at) (value unity)) = Same-trans y.same (Same-sym (Same-trans (times-Same y.same unity_is) (times_one (suc n)))) in
     let sum : Same (value x) (plus (value y.at) (value unity)) = Same-trans same (Same-sym (Same-trans (plus-Same y.same unity_is) (plus_one (suc n)))) in
-    (y.at, unity, (y.at, unity, equal_sum side n y.at (omega (arith, few)) y.decimal y.same, (unity_decimal, unity_input), exact_rounded side y.at _ y.decimal product), (unity_decimal, unity_is), exact_rounded side x _ d sum)
+    let factor = exact_rounded side y.at _ y.decimal product ∙ (λ i. rounded side (times (value (before i)) (value (input_is side i)))) in
+    exact_rounded side x _ d sum ∙ (λ i. rounded side (plus (value (factor i)) (value (one_is side i))))
 
-pub equal_power : (side : Side) (n : ℕ) (x : Sd) → IsSd x → Same (value x) one → IsBound (power_term (size number_one) n) side x
-unfolding power_term
-equal_power side zero x d same = (d, same)
-equal_power side (suc n) x d same =
-    (x, unity, equal_power side n x d same, (unity_decimal, unity_input), exact_rounded side x _ d (Same-trans same (Same-sym (Same-trans (times-Same same unity_is) (times_one 1)))))
+equal_power : (side : Side) (n : ℕ) → unity ≡ bound (power_term (size number_one) n) side
+unfolding power_term bound
+equal_power side zero = one_is side
+equal_power side (suc n) =
+    let product : Same (value unity) (times (value unity) (value unity)) = Same-trans unity_is (Same-sym (Same-trans (times-Same unity_is unity_is) (times_one 1))) in
+    exact_rounded side unity _ unity_decimal product ∙ (λ i. rounded side (times (value (equal_power side n i)) (value (input_is side i))))
 
 pub equal_sums : (t : Dec) (n : ℕ) (x : Sd) → t ≡ number_one → 1 ≤ n → n ≤ 100000 → IsSd x → Same (value x) (scaled n (pos 0)) → AreBounds (sum_term (size t) (n - 1)) (record { lo = x; hi = x })
 equal_sums t n x e some few d same =
     let whole : Same (value x) (ratio (suc (n - 1)) 1) = subst (λ k. Same (value x) (ratio k 1)) (let q : n ≡ suc (n - 1) = omega (arith, some) in q) (Same-trans same (whole_is n)) in
     subst (λ k. AreBounds (sum_term (size k) (n - 1)) (record { lo = x; hi = x })) (sym e) (record { lower = equal_sum Lower (n - 1) x (omega (arith, few)) d whole; upper = equal_sum Upper (n - 1) x (omega (arith, few)) d whole })
 
+pub one_bounds : AreBounds (Number one) (record { lo = unity; hi = unity })
+unfolding bound
+one_bounds = record { lower = one_is Lower; upper = one_is Upper }
+
 pub equal_powers : (t : Dec) (n : ℕ) (x : Span) → t ≡ number_one → AreBounds (Number one) x → AreBounds (power_term (size t) (n - 1)) x
-equal_powers t n x e p = subst (λ k. AreBounds (power_term (size k) (n - 1)) x) (sym e) (record { lower = equal_power Lower (n - 1) x.lo p.lower.0 p.lower.1; upper = equal_power Upper (n - 1) x.hi p.upper.0 p.upper.1 })
+unfolding bound
+equal_powers t n x e p =
+    subst (λ k. AreBounds (power_term (size k) (n - 1)) x) (sym e) (record { lower = p.lower ∙ sym (one_is Lower) ∙ equal_power Lower (n - 1); upper = p.upper ∙ sym (one_is Upper) ∙ equal_power Upper (n - 1) })

@@ -1,26 +1,24 @@
 -- The pair of a storage contains the manual's storage.
-use Rattle.conductance_bounds.proofs.Common.{◌≡◌, ℕ, suc, ◌-◌, ◌≤◌, ◌<◌, Option, Some, None, arith, refl, subst, sym, IfSome, Dec, size, Encloses, Ratio, times}
-use Rattle.conductance_bounds.proofs.Common.{over, Same, Sd, IsPositive, power, geometric, Pair, Span, AreBounds, Number, Within, Product, Term, exact, Holds}
-use Rattle.conductance_bounds.proofs.Common.{sum_term, power_term, area_formula, storativity_term, storage_formula, thickness_of, storativity_exact, storage_of}
-use Rattle.conductance_bounds.proofs.Common.{storage_exact, LiesWithin, IsPair, IsWholePair, Same-self, times-Same, over-Same, times-positive, power-positive}
-use Rattle.conductance_bounds.proofs.Manual.{pair_encloses, Encloses-same, size_positive}
-use Rattle.conductance_bounds.proofs.PartBounds.{power_is, power_holds, sum_is, sum_holds}
+use Rattle.conductance_bounds.proofs.Common.{◌≡◌, ℕ, ◌-◌, ◌≤◌, ◌<◌, Option, Some, None, ap, refl, subst, sym, Dec, size, Ratio, times, factors_of, over, Sd}
+use Rattle.conductance_bounds.proofs.Common.{IsPositive, power, geometric, Span, AreBounds, Number, Within, Product, Term, exact, Holds, sum_term, power_term}
+use Rattle.conductance_bounds.proofs.Common.{area_formula, storativity_term, storage_formula, thickness_of, storativity_exact, storage_of, storage_exact}
+use Rattle.conductance_bounds.proofs.Common.{LiesWithin, PairEncloses, Same-self, times-Same, over-Same}
+use Rattle.conductance_bounds.specs.declared.storage.Factors.{Factors}
+use Rattle.conductance_bounds.proofs.Sides.{IsFactor, exact_positive, number, power_factor, product, size_positive, sum_factor}
+use Rattle.conductance_bounds.proofs.Manual.{pair_encloses, Encloses-same}
+use Rattle.conductance_bounds.proofs.PartBounds.{power_is, sum_at}
 use Rattle.conductance_bounds.proofs.Recharged.{assoc}
 
 -- of a storativity x, lengths r and d, a multiplier t and a period of length l
-module _ (x : Term) (r d t l : Ratio) (steps n : ℕ) where
-  divisor : 0 < l.num → 0 < t.num → 0 < (times l (exact (power_term t (n - 1)))).num
-  divisor length growth = subst (λ k. 0 < (times l k).num) (sym (power_is t (n - 1))) (times-positive l (power t (n - 1)) length (power-positive t (n - 1) growth))
-
-  dividends : 1 ≤ steps → Same (times (times (exact x) (times r d)) (exact (sum_term t (steps - 1)))) (times (times (times (exact x) r) d) (geometric t steps))
-  dividends some = times-Same (assoc (exact x) r d) (subst (λ k. Same (exact (sum_term t (steps - 1))) (geometric t k)) (let e : suc (steps - 1) ≡ steps = omega arith in e) (sum_is t (steps - 1)))
-
-  pub storage_encloses : (s lo hi : ℕ) → 1 ≤ steps → 0 < l.num → 0 < t.num → Holds x → IsPair (storage_formula x (area_formula r d) (sum_term t (steps - 1)) l (power_term t (n - 1))) s lo hi →
-      Encloses lo hi s (over (times (times (times (exact x) r) d) (geometric t steps)) (times l (power t (n - 1))))
-  storage_encloses s lo hi some length growth holds pair =
-      subst (λ k. Encloses lo hi s (over (times (times (times (exact x) r) d) (geometric t steps)) (times l k))) (power_is t (n - 1))
-      (Encloses-same lo hi s _ _ (over-Same (divisor length growth) (divisor length growth) (dividends some) (Same-self _))
-      (pair_encloses _ s lo hi (((holds, (tt, tt)), sum_holds t (steps - 1)), (tt, power_holds t (n - 1)), divisor length growth) pair))
+pub storage_encloses : (x : Term) (r d t l : Ratio) (steps n s : ℕ) → 1 ≤ steps → 0 < l.num → 0 < t.num → Holds x →
+    PairEncloses (storage_formula x (area_formula r d) (sum_term t (steps - 1)) l (power_term t (n - 1))) s (over (times (times (times (exact x) r) d) (geometric t steps)) (times l (power t (n - 1))))
+storage_encloses x r d t l steps n s some length growth holds =
+    let length_factor = number l length in
+    let divisor : IsFactor (Product (Number l) (power_term t (n - 1))) = product length_factor (power_factor t growth (n - 1)) in
+    let formula = storage_formula x (area_formula r d) (sum_term t (steps - 1)) l (power_term t (n - 1)) in
+    subst (λ k. PairEncloses formula s (over (times (times (times (exact x) r) d) (geometric t steps)) (times l k))) (power_is t (n - 1))
+    (Encloses-same _ _ s _ _ (over-Same (exact_positive divisor) (exact_positive divisor) (times-Same (assoc (exact x) r d) (sum_at t steps some)) (Same-self _))
+    (pair_encloses formula s (((holds, (tt, tt)), (sum_factor t growth (steps - 1)).holds), divisor.holds, divisor.some)))
 
 storativity_is : (ss : Dec) (thick : Option (Sd × Sd)) (f : Ratio) → exact (storativity_term (size ss) (thickness_of thick f)) ≡ storativity_exact ss thick f
 storativity_is ss None f = refl
@@ -30,13 +28,25 @@ storativity_holds : (ss : Dec) (thick : Option (Sd × Sd)) (f : Ratio) → LiesW
 storativity_holds ss None f h = tt
 storativity_holds ss (Some (lo, hi)) f h = (tt, h)
 
-pub branch_encloses : (ss : Dec) (thick : Option (Sd × Sd)) (delr delc : Dec) (t : Ratio) (steps n : ℕ) (perlen : Dec) (f : Ratio) (s : ℕ) (r : Option Pair) → IsPositive perlen → 1 ≤ steps → 0 < t.num → LiesWithin thick f →
-    IsWholePair (storage_of ss thick delr delc t steps n perlen f) s r → IfSome r (λ p. Encloses p.lo p.hi s (storage_exact ss thick delr delc t steps n perlen f))
-branch_encloses ss thick delr delc t steps n perlen f s None length some growth within pair = tt
-branch_encloses ss thick delr delc t steps n perlen f s (Some p) length some growth within pair =
-    subst (λ k. Encloses p.lo p.hi s (over (times (times (times k (size delr)) (size delc)) (geometric t steps)) (times (size perlen) (power t (n - 1))))) (storativity_is ss thick f)
-    (storage_encloses (storativity_term (size ss) (thickness_of thick f)) (size delr) (size delc) t (size perlen) steps n s p.lo p.hi some (size_positive perlen length) growth (storativity_holds ss thick f within) pair.0)
+pub branch_encloses : (ss : Dec) (thick : Option (Sd × Sd)) (delr delc : Dec) (t : Ratio) (steps n : ℕ) (perlen : Dec) (f : Ratio) (s : ℕ) → IsPositive perlen → 1 ≤ steps → 0 < t.num → LiesWithin thick f →
+    PairEncloses (storage_of ss thick delr delc t steps n perlen f) s (storage_exact ss thick delr delc t steps n perlen f)
+branch_encloses ss thick delr delc t steps n perlen f s length some growth within =
+    subst (λ k. PairEncloses (storage_of ss thick delr delc t steps n perlen f) s (over (times (times (times k (size delr)) (size delc)) (geometric t steps)) (times (size perlen) (power t (n - 1))))) (storativity_is ss thick f)
+    (storage_encloses (storativity_term (size ss) (thickness_of thick f)) (size delr) (size delc) t (size perlen) steps n s some (size_positive perlen length) growth (storativity_holds ss thick f within))
 
 -- the bounds of SS times a thickness
 pub thick_bounds : (ss : Ratio) (thick : Option (Sd × Sd)) (lo hi : Sd) (f : Ratio) (x : Span) → thick ≡ Some (lo, hi) → AreBounds (Product (Number ss) (Within lo hi f)) x → AreBounds (storativity_term ss (thickness_of thick f)) x
 thick_bounds ss thick lo hi f x e p = subst (λ k. AreBounds (storativity_term ss (thickness_of k f)) x) (sym e) p
+
+-- the factors of a step, as bounds
+pub grown_sum : (t : Ratio) (steps n : ℕ) (f : Factors) → f ≡ factors_of t steps n → AreBounds (sum_term t (steps - 1)) (record { lo = f.sum_lo; hi = f.sum_hi })
+unfolding factors_of
+grown_sum t steps n f e = record { lower = ap (λ (g : Factors). g.sum_lo) e; upper = ap (λ (g : Factors). g.sum_hi) e }
+
+pub grown_power : (t : Ratio) (steps n : ℕ) (f : Factors) → f ≡ factors_of t steps n → AreBounds (power_term t (n - 1)) (record { lo = f.power_lo; hi = f.power_hi })
+unfolding factors_of
+grown_power t steps n f e = record { lower = ap (λ (g : Factors). g.power_lo) e; upper = ap (λ (g : Factors). g.power_hi) e }
+
+pub factors_are : (t : Ratio) (steps n : ℕ) (f : Factors) → AreBounds (sum_term t (steps - 1)) (record { lo = f.sum_lo; hi = f.sum_hi }) → AreBounds (power_term t (n - 1)) (record { lo = f.power_lo; hi = f.power_hi }) → f ≡ factors_of t steps n
+unfolding factors_of
+factors_are t steps n f p q = λ i. record { sum_lo = p.lower i; sum_hi = p.upper i; power_lo = q.lower i; power_hi = q.upper i }

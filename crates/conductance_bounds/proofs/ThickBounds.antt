@@ -1,29 +1,24 @@
 -- A thickness lies between its two decimals, however the floors and ceilings were found.
-use Rattle.conductance_bounds.proofs.Common.{◌≡◌, ℕ, ◌<◌, ◌≤◌, ◌^◌, arith, refl, subst, ℤ, pos, negsuc, neg_ℤ, ◌+ℤ◌, ◌-ℤ◌, ◌*ℤ◌, ◌≤ℤ◌, ◌<ℤ◌, unsigned_abs, ints}
-use Rattle.conductance_bounds.proofs.Common.{by_lt_z, Dec, number, scaled, Fraction, IsSignedFloor, IsSignedCeiling, IsFloorPast, IsCeilingPast, AtMost-trans}
-use Rattle.conductance_bounds.proofs.Common.{scaled-AtMost, mul_mono_right, cancel_right, HasSize, IsDown, IsUp, gap, IsThick, Span, IsBetween, IsSpan}
-use Rattle.conductance_bounds.proofs.Common.{AreThick, one_floor, one_ceiling, Option, Some, None, IfSome, ◌∙◌, sym, IfNone, unwrap_or}
+use Rattle.conductance_bounds.proofs.Common.{◌≡◌, ℕ, ◌<◌, ◌≤◌, ◌^◌, arith, ap, subst, ℤ, pos, negsuc, neg_ℤ, ◌+ℤ◌, ◌-ℤ◌, ◌*ℤ◌, ◌≤ℤ◌, ◌<ℤ◌, unsigned_abs, ints}
+use Rattle.conductance_bounds.proofs.Common.{mul-pos, by_lt_z, Dec, number, scaled, Fraction, IsSignedFloor, IsSignedCeiling, IsFloorPast, IsCeilingPast}
+use Rattle.conductance_bounds.proofs.Common.{AtMost-trans, scaled-AtMost, mul_mono_right, cancel_right, HasSize, IsDown, IsUp, gap, IsThick, Span, IsBetween}
+use Rattle.conductance_bounds.proofs.Common.{Lower, Upper, AreThick, Option, Some, None, IfSome, ◌∙◌, sym, IfNone, unwrap_or, num_scaled, ten_pos, up, rounded}
+use Rattle.conductance_bounds.proofs.Common.{span, units_at, one_rounded, rounded_positive}
 use Rattle.decimal_input.specs.Fractions.{den}
 use Rattle.conductance_bounds.proofs.SpanBounds.{abs_positive, span_between}
-
--- a number has one floor, and one ceiling
-same_floor : (x : Dec) (z w : ℤ) → IsSignedFloor z (number x) 18 → IsSignedFloor w (number x) 18 → z ≡ w
-same_floor x z w = one_floor (number x) (number x) 18 z w (record { same = refl })
-
-same_ceiling : (x : Dec) (z w : ℤ) → IsSignedCeiling z (number x) 18 → IsSignedCeiling w (number x) 18 → z ≡ w
-same_ceiling x z w = one_ceiling (number x) (number x) 18 z w (record { same = refl })
+use Rattle.conductance_bounds.proofs.Units.{ceiling_units, floor_units, units_ceiling, units_floor}
 
 floor_ceiling : (f : Fraction) (z w : ℤ) (P : ℤ) → (z *ℤ pos (den f)) ≤ℤ P → P ≤ℤ (w *ℤ pos (den f)) → z ≤ℤ w
 floor_ceiling f z w P h k = cancel_right (den f) z w (omega arith) (omega (arith, ints, h, k))
 
 -- a thick layer's bounds are in order, however they were found
-pub thick_between : (top bottom : Dec) (t : Span) → IsSpan top bottom t → IsThick top bottom → IsBetween t.lo t.hi (gap (number top) (number bottom))
-thick_between top bottom t k thick =
-    let low = same_floor top thick.floor k.top_lo thick.is_floor k.tops.0 in
-    let high = same_ceiling bottom thick.ceiling k.bottom_hi thick.is_ceiling k.bottoms.1 in
-    let tops = floor_ceiling (number top) k.top_lo k.top_hi _ k.tops.0.at_most k.tops.1.at_least in
-    let bottoms = floor_ceiling (number bottom) k.bottom_lo k.bottom_hi _ k.bottoms.0.at_most k.bottoms.1.at_least in
-    span_between top bottom t k thick (omega (arith, ints, low, high, thick.room)) (omega (arith, ints, low, high, thick.room, tops, bottoms))
+pub thick_between : (top bottom : Dec) → IsThick top bottom → IsBetween (span top bottom).lo (span top bottom).hi (gap (number top) (number bottom))
+thick_between top bottom thick =
+    let low = floor_units top 18 thick.floor thick.is_floor in
+    let high = ceiling_units bottom 18 thick.ceiling thick.is_ceiling in
+    let tops = floor_ceiling (number top) _ _ _ (units_floor top 18).at_most (units_ceiling top 18).at_least in
+    let bottoms = floor_ceiling (number bottom) _ _ _ (units_floor bottom 18).at_most (units_ceiling bottom 18).at_least in
+    span_between top bottom thick (omega (arith, ints, low, high, thick.room)) (omega (arith, ints, low, high, thick.room, tops, bottoms))
 
 -- a ceiling is the floor or the next number
 next_to : (f : Fraction) (z w : ℤ) → IsSignedFloor z f 18 → IsSignedCeiling w f 18 → (z ≤ℤ w) × (w ≤ℤ (z +ℤ pos 1))
@@ -91,15 +86,31 @@ room a b c d p q r = record { some = abs_positive (a -ℤ d) (omega (arith, ints
     grows (pos n) (negsuc k) p q = absurd (omega (arith, ints, q))
     grows (negsuc n) w p q = absurd (omega (arith, ints, p))
 
-pub edges_room : (top bottom : Dec) (a b c d : ℤ) → IsThick top bottom → IsSignedFloor a (number top) 18 → IsSignedCeiling b (number top) 18 → IsSignedFloor c (number bottom) 18 → IsSignedCeiling d (number bottom) 18 → HasRoom a b c d
-edges_room top bottom a b c d thick p q r s =
-    let low = same_floor top thick.floor a thick.is_floor p in
-    let high = same_ceiling bottom thick.ceiling d thick.is_ceiling s in
-    room a b c d (omega (arith, ints, low, high, thick.room)) (floor_ceiling (number top) a b _ p.at_most q.at_least) (floor_ceiling (number bottom) c d _ r.at_most s.at_least)
+pub edges_room : (top bottom : Dec) → IsThick top bottom → HasRoom (units_at Lower top 18) (units_at Upper top 18) (units_at Lower bottom 18) (units_at Upper bottom 18)
+edges_room top bottom thick =
+    let low = floor_units top 18 thick.floor thick.is_floor in
+    let high = ceiling_units bottom 18 thick.ceiling thick.is_ceiling in
+    room _ _ _ _ (omega (arith, ints, low, high, thick.room)) (floor_ceiling (number top) _ _ _ (units_floor top 18).at_most (units_ceiling top 18).at_least) (floor_ceiling (number bottom) _ _ _ (units_floor bottom 18).at_most (units_ceiling bottom 18).at_least)
+
+-- so the decimals are positive
+pub span_positive : (top bottom : Dec) → IsThick top bottom → 0 < (span top bottom).lo.m
+unfolding span
+span_positive top bottom thick =
+    let n = unsigned_abs (units_at Lower top 18 -ℤ units_at Upper bottom 18) in
+    rounded_positive (scaled n (neg_ℤ (pos 18))) (rw (num_scaled n (neg_ℤ (pos 18))) (mul-pos (edges_room top bottom thick).some (ten_pos (up (neg_ℤ (pos 18))))))
+
+-- the decimals of a number of units, rounded to both sides
+pub span_is : (top bottom : Dec) (t : Span) (low high : ℕ) → low ≡ unsigned_abs (units_at Lower top 18 -ℤ units_at Upper bottom 18) → high ≡ unsigned_abs (units_at Upper top 18 -ℤ units_at Lower bottom 18) →
+    IsDown t.lo (scaled low (neg_ℤ (pos 18))) → IsUp t.hi (scaled high (neg_ℤ (pos 18))) → t ≡ span top bottom
+unfolding span
+span_is top bottom t low high e f p q =
+    let lower = one_rounded Lower t.lo _ p ∙ ap (λ (n : ℕ). rounded Lower (scaled n (neg_ℤ (pos 18)))) e in
+    let upper = one_rounded Upper t.hi _ q ∙ ap (λ (n : ℕ). rounded Upper (scaled n (neg_ℤ (pos 18)))) f in
+    λ i. record { lo = lower i; hi = upper i }
 
 -- every floor of the upper elevation, and every ceiling of the lower one, is small
 pub top_small : (top bottom : Dec) → IsThick top bottom → (z : ℤ) → IsSignedFloor z (number top) 18 → unsigned_abs z < 2 ^ 126
-top_small top bottom thick z h = subst (λ (w : ℤ). unsigned_abs w < 2 ^ 126) (same_floor top thick.floor z thick.is_floor h) thick.small.0
+top_small top bottom thick z h = subst (λ (w : ℤ). unsigned_abs w < 2 ^ 126) (floor_units top 18 thick.floor thick.is_floor ∙ sym (floor_units top 18 z h)) thick.small.0
 
 pub bottom_small : (top bottom : Dec) → IsThick top bottom → (z : ℤ) → IsSignedCeiling z (number bottom) 18 → unsigned_abs z < 2 ^ 126
-bottom_small top bottom thick z h = subst (λ (w : ℤ). unsigned_abs w < 2 ^ 126) (same_ceiling bottom thick.ceiling z thick.is_ceiling h) thick.small.1
+bottom_small top bottom thick z h = subst (λ (w : ℤ). unsigned_abs w < 2 ^ 126) (ceiling_units bottom 18 thick.ceiling thick.is_ceiling ∙ sym (ceiling_units bottom 18 z h)) thick.small.1

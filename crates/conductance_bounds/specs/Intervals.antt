@@ -1,10 +1,9 @@
 -- What the arithmetic on spans keeps.
-use Rattle.std.specs.Prelude.{ℕ, max, unsigned_abs}
+use Rattle.std.specs.Prelude.{◌≡◌, ℕ, max, unsigned_abs}
 use Rattle.decimal_input.specs.Ratios.{AtMost}
-use Rattle.scaled_decimal.specs.{IsSd, value}
+use Rattle.scaled_decimal.specs.{IsSd, Lower, Upper, value}
 use Rattle.conductance_bounds.specs.declared.span.Span.{Span}
-use Rattle.conductance_bounds.specs.Terms.{Term, IsBound}
-use Rattle.conductance_bounds.specs.Terms.Side.{Lower, Upper}
+use Rattle.conductance_bounds.specs.Terms.{Term, bound}
 
 -- two decimals in order
 pub record IsOrdered (x : Span) : Type 0 where
@@ -18,5 +17,5 @@ reach x = max (unsigned_abs x.lo.e) (unsigned_abs x.hi.e)
 
 -- both bounds of a formula
 pub record AreBounds (t : Term) (x : Span) : Type 0 where
-  pub lower : IsBound t Lower x.lo
-  pub upper : IsBound t Upper x.hi
+  pub lower : x.lo ≡ bound t Lower
+  pub upper : x.hi ≡ bound t Upper

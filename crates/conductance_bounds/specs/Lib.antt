@@ -10,15 +10,17 @@ pub use Rattle.conductance_bounds.specs.Branches.{recharge_formula, resistance_s
 pub use Rattle.conductance_bounds.specs.Branches.{storativity_exact, storativity_term, thickness_of, vertical_exact, vertical_half_of, vertical_k}
 pub use Rattle.conductance_bounds.specs.Branches.{vertical_k_term, vertical_of, vertical_term}
 pub use Rattle.conductance_bounds.specs.Calls.{IsBed, IsColHalf, IsHalf, IsThickness, IsVertHalf, IsZero, LiesWithin}
-pub use Rattle.conductance_bounds.specs.Formulas.{AreSpanned, AreThick, EvapsEnclose, FacesEnclose, HeadsEnclose, IsSpan, RechargesEnclose, StoragesEnclose}
-pub use Rattle.conductance_bounds.specs.Formulas.{area_term, bed_term, column_k_term, evap_term, face_term, recharge_term, storage_term, thick_term}
-pub use Rattle.conductance_bounds.specs.Formulas.{vertical_half_term, vertical_k_at}
+pub use Rattle.conductance_bounds.specs.Formulas.{AreThick, EvapsEnclose, FacesEnclose, HeadsEnclose, RechargesEnclose, StoragesEnclose, area_term, bed_span}
+pub use Rattle.conductance_bounds.specs.Formulas.{bed_term, column_k_term, evap_term, face_term, recharge_term, storage_term, thick_term, vertical_half_term}
+pub use Rattle.conductance_bounds.specs.Formulas.{vertical_k_at}
+unfoldable pub use Rattle.conductance_bounds.specs.Formulas.{span}
 pub use Rattle.conductance_bounds.specs.Intervals.{AreBounds, IsOrdered}
 unfoldable pub use Rattle.conductance_bounds.specs.Intervals.{reach}
-pub use Rattle.conductance_bounds.specs.Pairs.{IsCapped, IsCappedFlow, IsFlow, IsFlowPair, IsPair, IsPast, IsWholePair, high_end, low_end}
-pub use Rattle.conductance_bounds.specs.Parts.{AreFactors, IsCeilingOf, IsFloorOf, IsGivenPair, IsGrowingPart, IsGrown, IsHeadUnits, IsMultiplier, IsPart}
-pub use Rattle.conductance_bounds.specs.Parts.{IsPassed, IsSlow, IsUsable, IsWithin, blend, is_whole, part_term}
-unfoldable pub use Rattle.conductance_bounds.specs.Parts.{power_term, sum_term}
-pub use Rattle.conductance_bounds.specs.Terms.{Holds, IsBetween, IsBound, IsRounded, Side, Term, end, exact, other}
-pub use Rattle.conductance_bounds.specs.Terms.Side.{Lower, Upper}
+pub use Rattle.conductance_bounds.specs.Pairs.{FlowEncloses, PairEncloses, below, flow, signed_pair, small_flow, small_pair}
+unfoldable pub use Rattle.conductance_bounds.specs.Pairs.{capped, capped_flow, head_pair, pair, units_at}
+pub use Rattle.conductance_bounds.specs.Parts.{AreFactors, IsHeadUnits, IsMultiplier, IsPassed, IsSlow, IsUsable, IsWithin, blend, ceiling_of, floor_of}
+pub use Rattle.conductance_bounds.specs.Parts.{is_whole, part_term}
+unfoldable pub use Rattle.conductance_bounds.specs.Parts.{factors_of, given_pair, part, power_term, sum_term}
+pub use Rattle.conductance_bounds.specs.Terms.{Holds, IsBetween, Term, end, exact, other}
+unfoldable pub use Rattle.conductance_bounds.specs.Terms.{bound}
 pub use Rattle.conductance_bounds.specs.Terms.Term.{Number, Product, Quotient, Sum, Within}

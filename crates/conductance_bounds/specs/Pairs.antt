@@ -1,68 +1,55 @@
--- Two whole bounds of a formula.
-use Rattle.std.specs.Prelude.{◌≡◌, ℕ, ◌-◌, ◌^◌, ◌<◌, ◌⊎◌, ℤ, pos, neg_ℤ, Bool, true, false, Option, Some, None, unsigned_abs}
-use Rattle.decimal_input.specs.{IsFloor, IsCeiling, Passes}
-use Rattle.scaled_decimal.specs.declared.decimal.Sd.{Sd}
-use Rattle.scaled_decimal.specs.{value}
+-- Two whole bounds of a formula, and of a number of the input.
+use Rattle.std.specs.Prelude.{ℕ, ◌^◌, ℤ, pos, neg_ℤ, Bool, true, false, Option, Some, None, nat_lt, if◌then◌else◌}
+use Rattle.std.specs.Option.{option_map, unwrap_or}
+use Rattle.decimal_input.specs.declared.dec.Dec.{Dec}
+use Rattle.decimal_input.specs.{size, with_sign, Ratio, Fraction, Encloses, EnclosesSigned}
+use Rattle.scaled_decimal.specs.{Side, Lower, Upper, value, in_units}
 use Rattle.conductance_bounds.specs.declared.pair.Pair.{Pair}
 use Rattle.conductance_bounds.specs.declared.pair.FlowPair.{FlowPair}
-use Rattle.conductance_bounds.specs.Terms.{Term, IsBound}
-use Rattle.conductance_bounds.specs.Terms.Side.{Lower, Upper}
+use Rattle.conductance_bounds.specs.declared.head.HeadPair.{HeadPair}
+use Rattle.conductance_bounds.specs.Terms.{Term, bound, other}
 
 -- the floor of the lower bound and the ceiling of the upper one, in units of 10 ^ -s
-pub record IsPair (t : Term) (s lo hi : ℕ) : Type 0 where
-  pub low : Sd
-  pub high : Sd
-  pub low_is : IsBound t Lower low
-  pub high_is : IsBound t Upper high
-  pub floor : IsFloor lo (value low) s
-  pub ceiling : IsCeiling hi (value high) s
+unfoldable pub pair : Term → ℕ → Pair
+pair t s = record { lo = in_units Lower (value (bound t Lower)) s; hi = in_units Upper (value (bound t Upper)) s }
 
--- the upper bound is more than n units
-pub record IsPast (t : Term) (n s : ℕ) : Type 0 where
-  pub high : Sd
-  pub high_is : IsBound t Upper high
-  pub past : Passes n (value high) s
+abbrev pub PairEncloses : Term → ℕ → Ratio → Type 0
+PairEncloses t s r = Encloses (pair t s).lo (pair t s).hi s r
 
--- the two whole bounds of a formula, or none where the upper one is 2 ^ 60 or more
-abbrev pub IsWholePair : Term → ℕ → Option Pair → Type 0
-IsWholePair t s (Some p) = IsPair t s p.lo p.hi × (p.hi < 2 ^ 60)
-IsWholePair t s None = IsPast t (2 ^ 60 - 1) s
+-- a pair, or none where its upper bound is n or more
+abbrev pub below : ℕ → Pair → Option Pair
+below n p = if nat_lt p.hi n then Some p else None
 
--- the bounds of a flow of either sign, by those of its magnitude: negated and exchanged where the flow is below 0
-abbrev pub low_end : Bool → ℕ → ℕ → ℤ
-low_end false least most = pos least
-low_end true least most = neg_ℤ (pos most)
-
-abbrev pub high_end : Bool → ℕ → ℕ → ℤ
-high_end false least most = pos most
-high_end true least most = neg_ℤ (pos least)
-
-pub record IsFlow (t : Term) (neg : Bool) (s : ℕ) (lo hi : ℤ) : Type 0 where
-  pub least : ℕ
-  pub most : ℕ
-  pub pair : IsPair t s least most
-  pub lower : lo ≡ low_end neg least most
-  pub upper : hi ≡ high_end neg least most
-
--- the same, or none where a magnitude is 2 ^ 126 or more
-abbrev pub IsFlowPair : Term → Bool → ℕ → Option FlowPair → Type 0
-IsFlowPair t neg s (Some p) = IsFlow t neg s p.lo p.hi × (unsigned_abs p.lo < 2 ^ 126) × (unsigned_abs p.hi < 2 ^ 126)
-IsFlowPair t neg s None = IsPast t (2 ^ 126 - 1) s
+abbrev pub small_pair : Term → ℕ → Option Pair
+small_pair t s = below (2 ^ 60) (pair t s)
 
 -- in a table a pair whose upper bound reaches 2 ^ 60 is kept as 1 and 2 ^ 60
-pub record IsStandIn (t : Term) (s lo hi : ℕ) : Type 0 where
-  pub past : IsPast t (2 ^ 60 - 1) s
-  pub lower : lo ≡ 1
-  pub upper : hi ≡ 2 ^ 60
+unfoldable pub capped : Term → ℕ → Pair
+capped t s = unwrap_or (small_pair t s) (record { lo = 1; hi = 2 ^ 60 })
 
-abbrev pub IsCapped : Term → ℕ → ℕ → ℕ → Type 0
-IsCapped t s lo hi = (IsPair t s lo hi × (hi < 2 ^ 60)) ⊎ IsStandIn t s lo hi
+-- the bounds of a flow of either sign, by those of its magnitude: negated and exchanged where the flow is below 0
+abbrev pub signed_pair : Bool → Pair → FlowPair
+signed_pair false p = record { lo = pos p.lo; hi = pos p.hi }
+signed_pair true p = record { lo = neg_ℤ (pos p.hi); hi = neg_ℤ (pos p.lo) }
+
+abbrev pub flow : Term → Bool → ℕ → FlowPair
+flow t neg s = signed_pair neg (pair t s)
+
+abbrev pub FlowEncloses : Term → Bool → ℕ → Fraction → Type 0
+FlowEncloses t neg s f = EnclosesSigned (flow t neg s).lo (flow t neg s).hi s f
+
+-- the same, or none where a magnitude is 2 ^ 126 or more
+abbrev pub small_flow : Term → Bool → ℕ → Option FlowPair
+small_flow t neg s = option_map (signed_pair neg) (below (2 ^ 126) (pair t s))
 
 -- a flow with a magnitude that reaches 2 ^ 126 is kept as 2 ^ 109, so that the sum of its cell reaches the limit
-pub record IsFlowStandIn (t : Term) (s : ℕ) (lo hi : ℤ) : Type 0 where
-  pub past : IsPast t (2 ^ 126 - 1) s
-  pub lower : lo ≡ pos (2 ^ 109)
-  pub upper : hi ≡ pos (2 ^ 109)
+unfoldable pub capped_flow : Term → Bool → ℕ → FlowPair
+capped_flow t neg s = unwrap_or (small_flow t neg s) (record { lo = pos (2 ^ 109); hi = pos (2 ^ 109) })
 
-abbrev pub IsCappedFlow : Term → Bool → ℕ → ℤ → ℤ → Type 0
-IsCappedFlow t neg s lo hi = (IsFlow t neg s lo hi × (unsigned_abs lo < 2 ^ 126) × (unsigned_abs hi < 2 ^ 126)) ⊎ IsFlowStandIn t s lo hi
+-- a number of the input in whole units of 10 ^ -s; the floor of a negative number is the ceiling of its magnitude, negated
+unfoldable pub units_at : Side → Dec → ℕ → ℤ
+units_at side d s = with_sign d.neg (in_units (if d.neg then other side else side) (size d) s)
+
+-- the floor and the ceiling of a head, in units of 10 ^ -9
+unfoldable pub head_pair : Dec → HeadPair
+head_pair d = record { lo = units_at Lower d 9; hi = units_at Upper d 9 }

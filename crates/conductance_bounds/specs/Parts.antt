@@ -1,17 +1,19 @@
 -- The part of a stress period that has passed, and a head given at its start and its end (TM 6-A16, chapter 6, CHD).
-use Rattle.std.specs.Prelude.{◌≡◌, ℕ, ◌-◌, ◌*◌, ◌≤◌, ◌^◌, ◌⊎◌, ℤ, pos, neg_ℤ, ◌+ℤ◌, ◌*ℤ◌, ◌≤ℤ◌, ◌<ℤ◌, Bool, true, false, ◌||◌, ◌==◌, min, zero, suc}
-use Rattle.std.specs.Int.{int_min, int_max}
+use Rattle.std.specs.Prelude.{◌≡◌, ℕ, ◌-◌, ◌*◌, ◌≤◌, ◌^◌, ◌⊎◌, ℤ, pos, neg_ℤ, ◌+ℤ◌, ◌*ℤ◌, ◌≤ℤ◌, Bool, ◌||◌, ◌==◌, if◌then◌else◌, min, zero, suc}
+use Rattle.std.specs.Int.{int_min, int_max, int_div_euclid}
 use Rattle.decimal_input.specs.declared.dec.Dec.{Dec}
-use Rattle.decimal_input.specs.{number, size, Ratio, ratio, IsFloor, IsCeiling, IsSignedFloor, IsSignedCeiling}
+use Rattle.decimal_input.specs.{size, Ratio, ratio}
 use Rattle.decimal_input.specs.Ratios.{den, AtMost}
 use Rattle.scaled_decimal.specs.declared.decimal.Sd.{Sd}
-use Rattle.scaled_decimal.specs.{value, IsSd, HasSize}
+use Rattle.scaled_decimal.specs.{Lower, Upper, value, IsSd, HasSize}
 use Rattle.model_types.specs.declared.period.Period.{Period}
 use Rattle.model_types.specs.{multiplier, one, number_one}
-use Rattle.conductance_bounds.specs.Terms.{Term, IsBound}
-use Rattle.conductance_bounds.specs.Terms.Side.{Lower, Upper}
-use Rattle.conductance_bounds.specs.Terms.Term.{Quotient, Number, Sum, Product}
 use Rattle.conductance_bounds.specs.declared.storage.Factors.{Factors}
+use Rattle.conductance_bounds.specs.declared.part.Part.{Part}
+use Rattle.conductance_bounds.specs.declared.head.HeadPair.{HeadPair}
+use Rattle.conductance_bounds.specs.Terms.{Term, bound}
+use Rattle.conductance_bounds.specs.Terms.Term.{Quotient, Number, Sum, Product}
+use Rattle.conductance_bounds.specs.Pairs.{pair, head_pair}
 
 -- The factors of growing time steps. With T for TSMULT the steps of a period have the lengths 1, T, T ^ 2, .. in units of the first one.
 -- 1 + t + .. + t ^ n, by Horner's rule
@@ -48,33 +50,27 @@ pub record IsUsable (f : Factors) : Type 0 where
   pub power : AreFactors 4000 f.power_lo f.power_hi
 
 -- the factors of a step of `steps` steps: the sum of all their lengths, and the length of step n
-pub record IsGrown (t : Ratio) (steps n : ℕ) (f : Factors) : Type 0 where
-  pub sum_lo : IsBound (sum_term t (steps - 1)) Lower f.sum_lo
-  pub sum_hi : IsBound (sum_term t (steps - 1)) Upper f.sum_hi
-  pub power_lo : IsBound (power_term t (n - 1)) Lower f.power_lo
-  pub power_hi : IsBound (power_term t (n - 1)) Upper f.power_hi
+unfoldable pub factors_of : Ratio → ℕ → ℕ → Factors
+factors_of t steps n = record {
+  sum_lo = bound (sum_term t (steps - 1)) Lower;
+  sum_hi = bound (sum_term t (steps - 1)) Upper;
+  power_lo = bound (power_term t (n - 1)) Lower;
+  power_hi = bound (power_term t (n - 1)) Upper;
+}
 
 -- the part at the end of step n: G(n) over G(NSTP)
 abbrev pub part_term : Period → ℕ → Term
 part_term p n = Quotient (sum_term (multiplier p) (n - 1)) (sum_term (multiplier p) (p.nstp - 1))
 
--- its bounds in units of 10 ^ -18, at most 1
-pub record IsGrowingPart (p : Period) (n lo hi : ℕ) : Type 0 where
-  pub least : Sd
-  pub most : Sd
-  pub least_is : IsBound (part_term p n) Lower least
-  pub most_is : IsBound (part_term p n) Upper most
-  pub ceiling : ℕ
-  pub is_ceiling : IsCeiling ceiling (value most) 18
-  pub lower : IsFloor lo (value least) 18
-  pub upper : hi ≡ min ceiling (10 ^ 18)
-
 -- at the last step, and where PERLEN is 0, all of the period has passed
 abbrev pub is_whole : Period → ℕ → Bool
 is_whole p n = n == p.nstp || p.perlen.digits == 0
 
-abbrev pub IsPart : Period → ℕ → ℕ → ℕ → Type 0
-IsPart p n lo hi = ((is_whole p n ≡ true) × (lo ≡ 10 ^ 18) × (hi ≡ 10 ^ 18)) ⊎ ((is_whole p n ≡ false) × IsGrowingPart p n lo hi)
+-- its bounds in units of 10 ^ -18, at most 1
+unfoldable pub part : Period → ℕ → Part
+part p n =
+    let growing = pair (part_term p n) 18 in
+    if is_whole p n then record { lo = 10 ^ 18; hi = 10 ^ 18 } else record { lo = growing.lo; hi = min growing.hi (10 ^ 18) }
 
 -- F is at most 1 and lies from f to g in units of 10 ^ -18; f and g are at most 1 too
 pub record IsPassed (F : Ratio) (f g : ℕ) : Type 0 where
@@ -97,23 +93,20 @@ pub record IsWithin (z : ℤ) (b : ℕ) : Type 0 where
 abbrev pub IsHeadUnits : ℤ → Type 0
 IsHeadUnits z = IsWithin z 4000000000000000000
 
--- z is the floor, or the ceiling, of x over 10 ^ 18
-pub record IsFloorOf (x z : ℤ) : Type 0 where
-  pub at_most : (z *ℤ pos (10 ^ 18)) ≤ℤ x
-  pub next : x <ℤ ((z +ℤ pos 1) *ℤ pos (10 ^ 18))
+-- x over 10 ^ 18 as a whole number: the floor, and the ceiling
+abbrev pub floor_of : ℤ → ℤ
+floor_of x = int_div_euclid x (pos (10 ^ 18))
 
-pub record IsCeilingOf (x z : ℤ) : Type 0 where
-  pub at_least : x ≤ℤ (z *ℤ pos (10 ^ 18))
-  pub next : ((z +ℤ neg_ℤ (pos 1)) *ℤ pos (10 ^ 18)) <ℤ x
+abbrev pub ceiling_of : ℤ → ℤ
+ceiling_of x = neg_ℤ (floor_of (neg_ℤ x))
 
--- The bounds of a head, in units of 10 ^ -9, where the part of the period that has passed lies from f to g: the floor
+-- The bounds of a head, in units of 10 ^ -9, where the part of the period that has passed lies within `passed`: the floor
 -- of the lesser blend of the floors of Shead and Ehead, and the ceiling of the greater blend of their ceilings.
-pub record IsGivenPair (shead ehead : Dec) (f g : ℕ) (lo hi : ℤ) : Type 0 where
-  pub start_lo : ℤ
-  pub start_hi : ℤ
-  pub end_lo : ℤ
-  pub end_hi : ℤ
-  pub starts : IsSignedFloor start_lo (number shead) 9 × IsSignedCeiling start_hi (number shead) 9
-  pub ends : IsSignedFloor end_lo (number ehead) 9 × IsSignedCeiling end_hi (number ehead) 9
-  pub floor : IsFloorOf (int_min (blend start_lo end_lo f) (blend start_lo end_lo g)) lo
-  pub ceiling : IsCeilingOf (int_max (blend start_hi end_hi f) (blend start_hi end_hi g)) hi
+unfoldable pub given_pair : Dec → Dec → Part → HeadPair
+given_pair shead ehead passed =
+    let start = head_pair shead in
+    let end = head_pair ehead in
+    record {
+      lo = floor_of (int_min (blend start.lo end.lo passed.lo) (blend start.lo end.lo passed.hi));
+      hi = ceiling_of (int_max (blend start.hi end.hi passed.lo) (blend start.hi end.hi passed.hi));
+    }

@@ -1,8 +1,8 @@
 // Evapotranspiration as a conductance.
-ghost use Rattle.std.specs.Prelude.{◌≤◌, IfSome};
+ghost use Rattle.std.specs.Prelude.{◌≡◌, ◌≤◌, IfSome};
 ghost use Rattle.decimal_input.specs.{size, Encloses};
 ghost use Rattle.model_types.specs.{IsPositive, IsNotNegative};
-ghost use Rattle.conductance_bounds.specs.{evap_formula, evap_exact, IsWholePair};
+ghost use Rattle.conductance_bounds.specs.{evap_formula, evap_exact, small_pair};
 
 use crate::area::area;
 use crate::interval::exact_span;
@@ -17,7 +17,7 @@ pub fn evap_branch(evtr: Dec, exdp: Dec, delr: Dec, delc: Dec, s: u32) -> Option
     requires delr { IsPositive delr }
     requires delc { IsPositive delc }
     requires places { s ≤ 18 }
-    ensures rounded { IsWholePair (evap_formula (size evtr) (size delr) (size delc) (size exdp)) s result }
+    ensures rounded { result ≡ small_pair (evap_formula (size evtr) (size delr) (size delc) (size exdp)) s }
     ensures encloses { IfSome result (λ p. Encloses p.lo p.hi s (evap_exact evtr exdp delr delc)) }
 {
     let rate = exact_span(evtr).times(area(delr, delc));

@@ -4,7 +4,7 @@ ghost use Rattle.std.specs.Int.{w64};
 ghost use Rattle.decimal_input.specs.{IsDec, number, EnclosesSigned, IsSignedFloor, IsSignedCeiling, Ratio};
 ghost use Rattle.model_types.specs.declared.entry.Given.{Given};
 ghost use Rattle.model_types.specs.{IsHeadNumber, between_heads};
-ghost use Rattle.conductance_bounds.specs.{IsPassed, IsHeadUnits, IsGivenPair, IsWithin, blend, IsFloorOf, IsCeilingOf};
+ghost use Rattle.conductance_bounds.specs.{IsPassed, IsHeadUnits, IsWithin, blend, ceiling_of, floor_of, given_pair, head_pair};
 
 use crate::part::{Part, WHOLE};
 use decimal_input::dec::Dec;
@@ -23,7 +23,7 @@ pub fn given_head(shead: Dec, ehead: Dec, part: Part) -> HeadPair
     requires start { IsHeadNumber shead }
     requires end { IsHeadNumber ehead }
     requires part { (part.lo ≤ 10 ^ 18) × (part.hi ≤ 10 ^ 18) }
-    ensures rounded { IsGivenPair shead ehead part.lo part.hi result.lo result.hi }
+    ensures rounded { result ≡ given_pair shead ehead part }
     ensures encloses { (x : Given) (f : Ratio) → x.shead ≡ shead → x.ehead ≡ ehead → IsPassed f part.lo part.hi →
         EnclosesSigned result.lo result.hi 9 (between_heads x f) }
     ensures range { IsHeadUnits result.lo × IsHeadUnits result.hi }
@@ -41,8 +41,7 @@ pub fn given_head(shead: Dec, ehead: Dec, part: Part) -> HeadPair
 /// The bounds of a head of the input: its floor and its ceiling.
 pub fn head_bounds(head: Dec) -> HeadPair
     requires head { IsHeadNumber head }
-    ensures floor { IsSignedFloor result.lo (number head) 9 }
-    ensures ceiling { IsSignedCeiling result.hi (number head) 9 }
+    ensures rounded { result ≡ head_pair head }
     ensures range { IsHeadUnits result.lo × IsHeadUnits result.hi }
 {
     whole_bounds(head)
@@ -53,8 +52,7 @@ pub fn whole_bounds(x: Dec) -> HeadPair
     requires decimal { IsDec x }
     requires low { (z : ℤ) → IsSignedFloor z (number x) 9 → FitsSigned w64 z }
     requires high { (z : ℤ) → IsSignedCeiling z (number x) 9 → FitsSigned w64 z }
-    ensures floor { IsSignedFloor result.lo (number x) 9 }
-    ensures ceiling { IsSignedCeiling result.hi (number x) 9 }
+    ensures rounded { result ≡ head_pair x }
 {
     let Some(low) = floor_at(x, 9) else {
         unreachable!()
@@ -93,7 +91,7 @@ fn share(head: i64, part: u64) -> i128
 /// A number in units of 10 ^ -27 as one in units of 10 ^ -9, rounded down.
 pub(crate) fn head_floor(x: i128) -> i64
     requires range { IsWithin x (4 * 10 ^ 36) }
-    ensures floor { IsFloorOf x result }
+    ensures floor { result ≡ floor_of x }
     ensures range { IsHeadUnits result }
 {
     x.div_euclid(WHOLE as i128) as i64
@@ -102,7 +100,7 @@ pub(crate) fn head_floor(x: i128) -> i64
 /// A number in units of 10 ^ -27 as one in units of 10 ^ -9, rounded up.
 pub(crate) fn head_ceiling(x: i128) -> i64
     requires range { IsWithin x (4 * 10 ^ 36) }
-    ensures ceiling { IsCeilingOf x result }
+    ensures ceiling { result ≡ ceiling_of x }
     ensures range { IsHeadUnits result }
 {
     -head_floor(-x)

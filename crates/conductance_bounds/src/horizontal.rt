@@ -1,9 +1,9 @@
 // Branches along rows and columns.
-ghost use Rattle.std.specs.Prelude.{◌<◌, ◌≤◌, IfSome};
+ghost use Rattle.std.specs.Prelude.{◌≡◌, ◌<◌, ◌≤◌, IfSome};
 ghost use Rattle.decimal_input.specs.{size, Encloses, Ratio};
 ghost use Rattle.model_types.specs.{IsPositive, one};
 ghost use Rattle.conductance_bounds.specs.{Term, IsBetween, Number, Sum, Quotient, IsOrdered, reach, AreBounds, half_term, column_k, row_of, row_exact};
-ghost use Rattle.conductance_bounds.specs.{column_of, column_exact, IsWholePair, IsHalf, IsColHalf};
+ghost use Rattle.conductance_bounds.specs.{column_of, column_exact, small_pair, IsHalf, IsColHalf};
 
 use crate::interval::{exact_span, one, span_of};
 use crate::pair::{Pair, rounded_pair};
@@ -37,7 +37,7 @@ pub fn row_branch(a: &Half, b: &Half, width: Dec, s: u32) -> Option<Pair>
     requires second { IsHalf b.now }
     requires width { IsPositive width }
     requires places { s ≤ 18 }
-    ensures rounded { (f g : Ratio) → IsWholePair (row_of a.now b.now width f g) s result }
+    ensures rounded { (f g : Ratio) → result ≡ small_pair (row_of a.now b.now width f g) s }
     ensures encloses { (f g : Ratio) → IsBetween a.now.thick_lo a.now.thick_hi f → IsBetween b.now.thick_lo b.now.thick_hi g →
         IfSome result (λ p. Encloses p.lo p.hi s (row_exact a.now b.now width f g)) }
 {
@@ -56,7 +56,7 @@ pub fn col_branch(a: &ColHalf, b: &ColHalf, width: Dec, s: u32) -> Option<Pair>
     requires second { IsColHalf b.now }
     requires width { IsPositive width }
     requires places { s ≤ 18 }
-    ensures rounded { (f g : Ratio) → IsWholePair (column_of a.now b.now width f g) s result }
+    ensures rounded { (f g : Ratio) → result ≡ small_pair (column_of a.now b.now width f g) s }
     ensures encloses { (f g : Ratio) → IsBetween a.now.thick_lo a.now.thick_hi f → IsBetween b.now.thick_lo b.now.thick_hi g →
         IfSome result (λ p. Encloses p.lo p.hi s (column_exact a.now b.now width f g)) }
 {

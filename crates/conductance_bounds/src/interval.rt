@@ -2,11 +2,10 @@
 ghost use Rattle.std.specs.Prelude.{◌≡◌, ◌+◌, ◌<◌, ◌≤◌, ℕ, false, pos, neg_ℤ, ◌+ℤ◌};
 ghost use Rattle.std.specs.Int.{int_max};
 ghost use Rattle.decimal_input.specs.{IsDec, size, Ratio};
-ghost use Rattle.decimal_input.specs.Ratios.{AtMost};
-ghost use Rattle.scaled_decimal.specs.{IsSd, HasSize, value};
+ghost use Rattle.decimal_input.specs.Ratios.{AtMost, Same};
+ghost use Rattle.scaled_decimal.specs.{IsSd, HasSize, Lower, Upper, value};
 ghost use Rattle.model_types.specs.{one};
-ghost use Rattle.conductance_bounds.specs.{AreFactors, Term, IsBound, Lower, Upper, Number, Within, Sum, Product, Quotient, AreThick, IsOrdered, reach};
-ghost use Rattle.conductance_bounds.specs.{AreBounds};
+ghost use Rattle.conductance_bounds.specs.{AreFactors, Term, bound, Number, Within, Sum, Product, Quotient, AreThick, IsOrdered, reach, AreBounds};
 
 use crate::span::Span;
 use decimal_input::dec::Dec;
@@ -38,6 +37,7 @@ pub(crate) fn exact_span(a: Dec) -> Span
     requires sign { a.neg ≡ false }
     ensures ordered { IsOrdered result }
     ensures bounds { AreBounds (Number (size a)) result }
+    ensures exact { Same (value result.lo) (size a) × Same (value result.hi) (size a) }
     ensures reach { reach result ≤ 57 }
     ensures positive { 0 < a.digits → 0 < result.lo.m }
 {
@@ -63,7 +63,7 @@ pub(crate) fn factor(lo: Sd, hi: Sd) -> Span
     requires order { AtMost (value lo) (value hi) }
     requires some { 0 < lo.m }
     ensures ordered { IsOrdered result }
-    ensures bounds { (t : Term) → IsBound t Lower lo → IsBound t Upper hi → AreBounds t result }
+    ensures bounds { (t : Term) → lo ≡ bound t Lower → hi ≡ bound t Upper → AreBounds t result }
     ensures reach { (n : ℕ) → AreFactors n lo hi → reach result ≤ n }
     ensures positive { 0 < result.lo.m }
 {

@@ -1,18 +1,16 @@
 // How the bounds of a valid model enclose its exact numbers.
-ghost use Rattle.std.specs.Prelude.{ℕ};
 ghost use Rattle.model_types.specs.declared.model.FlowModel.{FlowModel};
 ghost use Rattle.model_types.specs.{IsModel};
-ghost use Rattle.conductance_bounds.specs.declared.span.Span.{Span as Decimals};
-ghost use Rattle.conductance_bounds.specs.{AreSpanned, FacesEnclose, StoragesEnclose, RechargesEnclose, EvapsEnclose, HeadsEnclose};
+ghost use Rattle.conductance_bounds.specs.{FacesEnclose, StoragesEnclose, RechargesEnclose, EvapsEnclose, HeadsEnclose};
 
 /// The pairs of a valid model's faces enclose the manual's conductances.
 pub fn faces_enclose()
-    ensures { (m : FlowModel) (thick bed : ℕ → Decimals) → IsModel m → AreSpanned m thick bed → FacesEnclose m thick bed }
+    ensures { (m : FlowModel) → IsModel m → FacesEnclose m }
 {}
 
 /// The pairs of its storages, recharges and evapotranspirations enclose the exact values.
 pub fn sources_enclose()
-    ensures storages { (m : FlowModel) (thick bed : ℕ → Decimals) → IsModel m → AreSpanned m thick bed → StoragesEnclose m thick }
+    ensures storages { (m : FlowModel) → IsModel m → StoragesEnclose m }
     ensures recharges { (m : FlowModel) → RechargesEnclose m }
     ensures evaps { (m : FlowModel) → EvapsEnclose m }
 {}

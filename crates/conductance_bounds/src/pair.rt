@@ -1,7 +1,8 @@
 // Two whole bounds.
+ghost use Rattle.std.specs.Prelude.{◌≡◌};
 ghost use Rattle.decimal_input.specs.{size};
 ghost use Rattle.model_types.specs.{IsNotNegative};
-ghost use Rattle.conductance_bounds.specs.{Term, Number, IsWholePair, IsOrdered, AreBounds};
+ghost use Rattle.conductance_bounds.specs.{Term, Number, small_pair, IsOrdered, AreBounds};
 
 use crate::interval::exact_span;
 use crate::span::Span;
@@ -28,7 +29,7 @@ const TOO_LARGE: u128 = 1 << 60;
 #[tactic(auto, using(crate::proofs::LayerBounds::pair_lemmas))]
 pub(crate) fn rounded_pair(x: Span, s: u32) -> Option<Pair>
     requires ordered { IsOrdered x }
-    ensures bounds { (t : Term) → AreBounds t x → IsWholePair t s result }
+    ensures bounds { (t : Term) → AreBounds t x → result ≡ small_pair t s }
 {
     let Some(high) = ceil_units(x.hi, s) else {
         return None;
@@ -49,7 +50,7 @@ pub(crate) fn rounded_pair(x: Span, s: u32) -> Option<Pair>
 /// The bounds of a conductance of the input, in units of 10 ^ -s; None where the upper one is 2 ^ 60 or more.
 pub fn number_pair(conductance: Dec, s: u32) -> Option<Pair>
     requires { IsNotNegative conductance }
-    ensures { IsWholePair (Number (size conductance)) s result }
+    ensures { result ≡ small_pair (Number (size conductance)) s }
 {
     rounded_pair(exact_span(conductance), s)
 }

@@ -4,7 +4,7 @@ ghost use Rattle.decimal_input.specs.Ratios.{AtMost};
 ghost use Rattle.decimal_input.specs.{IsFloor, IsCeiling};
 ghost use Rattle.scaled_decimal.specs.{IsSd, value};
 ghost use Rattle.model_types.specs.{one, multiplier, passed, IsTimed};
-ghost use Rattle.conductance_bounds.specs.{sum_term, is_whole, IsPart, IsPassed, IsOrdered, reach, AreBounds};
+ghost use Rattle.conductance_bounds.specs.{sum_term, is_whole, part, IsPassed, IsOrdered, reach, AreBounds};
 
 use crate::span::Span;
 use crate::storage::sum_of;
@@ -32,7 +32,7 @@ const NUMBER_ONE: Dec = Dec {
 pub fn time_part(period: &Period, step: u32) -> Part
     requires times { IsTimed period.now }
     requires step { (1 ≤ step) × (step ≤ period.now.nstp) }
-    ensures rounded { IsPart period.now step result.lo result.hi }
+    ensures rounded { result ≡ part period.now step }
     ensures encloses { IsPassed (passed period.now step) result.lo result.hi }
 {
     if is_over(period, step) {

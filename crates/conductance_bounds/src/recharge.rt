@@ -2,7 +2,7 @@
 ghost use Rattle.std.specs.Prelude.{◌≡◌, ◌+◌, ◌<◌, ◌≤◌, IfSome};
 ghost use Rattle.decimal_input.specs.{IsDec, size, EnclosesSigned};
 ghost use Rattle.model_types.specs.{IsPositive};
-ghost use Rattle.conductance_bounds.specs.{Term, Number, IsOrdered, reach, AreBounds, recharge_formula, recharge_exact, IsFlowPair};
+ghost use Rattle.conductance_bounds.specs.{Term, Number, IsOrdered, reach, AreBounds, recharge_formula, recharge_exact, small_flow};
 
 use crate::interval::exact_span;
 use crate::pair::FlowPair;
@@ -18,7 +18,7 @@ pub fn recharge_flow(rech: Dec, delr: Dec, delc: Dec, s: u32) -> Option<FlowPair
     requires delr { IsPositive delr }
     requires delc { IsPositive delc }
     requires places { s ≤ 18 }
-    ensures rounded { IsFlowPair (recharge_formula (size rech) (size delr) (size delc)) rech.neg (s + 9) result }
+    ensures rounded { result ≡ small_flow (recharge_formula (size rech) (size delr) (size delc)) rech.neg (s + 9) }
     ensures encloses { IfSome result (λ p. EnclosesSigned p.lo p.hi (s + 9) (recharge_exact rech delr delc)) }
 {
     let flow = magnitude(rech)
@@ -31,7 +31,7 @@ pub fn recharge_flow(rech: Dec, delr: Dec, delc: Dec, s: u32) -> Option<FlowPair
 pub fn number_flow(q: Dec, s: u32) -> Option<FlowPair>
     requires q { IsDec q }
     requires places { s ≤ 18 }
-    ensures { IsFlowPair (Number (size q)) q.neg (s + 9) result }
+    ensures { result ≡ small_flow (Number (size q)) q.neg (s + 9) }
 {
     flow_of(magnitude(q), q.neg, s + 9)
 }
@@ -51,7 +51,7 @@ fn magnitude(x: Dec) -> Span
 #[tactic(auto, using(crate::proofs::LayerBounds::pair_lemmas))]
 fn flow_of(x: Span, neg: bool, places: u32) -> Option<FlowPair>
     requires ordered { IsOrdered x }
-    ensures bounds { (t : Term) → AreBounds t x → IsFlowPair t neg places result }
+    ensures bounds { (t : Term) → AreBounds t x → result ≡ small_flow t neg places }
 {
     let Some(most) = ceil_units(x.hi, places) else {
         return None;

@@ -1,8 +1,9 @@
 // The two decimals between which a number is known.
 ghost use Rattle.std.specs.Prelude.{ℤ, ◌≡◌, ◌≤◌, ◌^◌, pos, neg_ℤ, unsigned_abs};
 ghost use Rattle.decimal_input.specs.{IsDec, number, IsSignedFloor, IsSignedCeiling};
+ghost use Rattle.scaled_decimal.specs.{Lower, Upper};
 ghost use Rattle.model_types.specs.{gap, IsThick};
-ghost use Rattle.conductance_bounds.specs.{IsBetween, IsSpan, AreThick};
+ghost use Rattle.conductance_bounds.specs.{IsBetween, span, units_at, AreThick};
 
 use decimal_input::dec::Dec;
 use decimal_input::units::{ceil_at, floor_at};
@@ -26,7 +27,7 @@ pub fn thickness(top: Dec, bottom: Dec) -> Span
     requires top_number { IsDec top }
     requires bottom_number { IsDec bottom }
     requires thick { IsThick top bottom }
-    ensures rounded { IsSpan top bottom result }
+    ensures rounded { result ≡ span top bottom }
     ensures usable { AreThick result.lo result.hi }
     ensures encloses { IsBetween result.lo result.hi (gap (number top) (number bottom)) }
 {
@@ -50,8 +51,8 @@ fn edges(x: Dec) -> Edge
     requires number { IsDec x }
     requires low { (z : ℤ) → IsSignedFloor z (number x) 18 → 2 ^ 126 ≤ unsigned_abs z → z ≡ neg_ℤ (pos (2 ^ 126)) }
     requires high { (z : ℤ) → IsSignedCeiling z (number x) 18 → 2 ^ 126 ≤ unsigned_abs z → z ≡ pos (2 ^ 126) }
-    ensures floor { IsSignedFloor result.lo (number x) 18 }
-    ensures ceiling { IsSignedCeiling result.hi (number x) 18 }
+    ensures floor { result.lo ≡ units_at Lower x 18 }
+    ensures ceiling { result.hi ≡ units_at Upper x 18 }
 {
     Edge {
         lo: floor_at(x, PLACES as u32).unwrap_or(-LIMIT),

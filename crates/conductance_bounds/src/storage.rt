@@ -2,8 +2,8 @@
 ghost use Rattle.std.specs.Prelude.{ℕ, ◌<◌, ◌≤◌, IfSome, ◌≡◌, ◌+◌, ◌-◌, MatchBool};
 ghost use Rattle.decimal_input.specs.{size, Encloses, Ratio};
 ghost use Rattle.model_types.specs.{IsPositive, IsNotNegative, number_one};
-ghost use Rattle.conductance_bounds.specs.{IsOrdered, reach, AreBounds, IsUsable, IsGrown, sum_term, power_term, IsSlow, IsMultiplier, AreFactors};
-ghost use Rattle.conductance_bounds.specs.{storativity_term, thickness_of, storage_of, storage_exact, IsWholePair, IsThickness, LiesWithin};
+ghost use Rattle.conductance_bounds.specs.{IsOrdered, reach, AreBounds, IsUsable, factors_of, sum_term, power_term, IsSlow, IsMultiplier, AreFactors};
+ghost use Rattle.conductance_bounds.specs.{storativity_term, thickness_of, storage_of, storage_exact, small_pair, IsThickness, LiesWithin};
 
 use crate::area::area;
 use crate::interval::{exact_span, factor, one, span_of};
@@ -32,9 +32,9 @@ pub fn storage_branch(
     requires factors { IsUsable factors.now }
     requires perlen { IsPositive perlen }
     requires places { s ≤ 18 }
-    ensures rounded { (t : Ratio) (steps n : ℕ) (f : Ratio) → IsGrown t steps n factors.now →
-        IsWholePair (storage_of ss thick delr delc t steps n perlen f) s result }
-    ensures encloses { (t : Ratio) (steps n : ℕ) (f : Ratio) → 1 ≤ steps → 0 < t.num → IsGrown t steps n factors.now → LiesWithin thick f →
+    ensures rounded { (t : Ratio) (steps n : ℕ) (f : Ratio) → factors.now ≡ factors_of t steps n →
+        result ≡ small_pair (storage_of ss thick delr delc t steps n perlen f) s }
+    ensures encloses { (t : Ratio) (steps n : ℕ) (f : Ratio) → 1 ≤ steps → 0 < t.num → factors.now ≡ factors_of t steps n → LiesWithin thick f →
         IfSome result (λ p. Encloses p.lo p.hi s (storage_exact ss thick delr delc t steps n perlen f)) }
 {
     let capacity = storativity(ss, thick).times(area(delr, delc));
@@ -76,7 +76,7 @@ pub fn step_factors(tsmult: Dec, nstp: u32, step: u32) -> Factors
     requires multiplier { IsMultiplier tsmult nstp }
     requires steps { nstp ≤ 100000 }
     requires step { (1 ≤ step) × (step ≤ nstp) }
-    ensures grown { IsGrown (size tsmult) nstp step result }
+    ensures grown { result ≡ factors_of (size tsmult) nstp step }
     ensures usable { IsUsable result }
 {
     let sum = sum_of(tsmult, nstp);

@@ -1,9 +1,9 @@
 // Branches from layer to layer.
-ghost use Rattle.std.specs.Prelude.{◌<◌, ◌≤◌, ◌==◌, IfSome};
+ghost use Rattle.std.specs.Prelude.{◌≡◌, ◌<◌, ◌≤◌, ◌==◌, IfSome};
 ghost use Rattle.decimal_input.specs.{size, Encloses, Ratio};
 ghost use Rattle.model_types.specs.{IsPositive};
 ghost use Rattle.conductance_bounds.specs.{Term, IsBetween, IsOrdered, reach, AreBounds, vertical_k_term, resistance_sum, vertical_half_of, bed_of};
-ghost use Rattle.conductance_bounds.specs.{vertical_of, vertical_exact, IsWholePair, IsVertHalf, IsBed};
+ghost use Rattle.conductance_bounds.specs.{vertical_of, vertical_exact, small_pair, IsVertHalf, IsBed};
 
 use crate::area::area;
 use crate::interval::{exact_span, span_of};
@@ -47,7 +47,7 @@ pub fn vert_branch(
     requires delr { IsPositive delr }
     requires delc { IsPositive delc }
     requires places { s ≤ 18 }
-    ensures rounded { (f g h : Ratio) → IsWholePair (vertical_of a.now b.now bed.now delr delc f g h) s result }
+    ensures rounded { (f g h : Ratio) → result ≡ small_pair (vertical_of a.now b.now bed.now delr delc f g h) s }
     ensures encloses { (f g h : Ratio) → IsBetween a.now.thick_lo a.now.thick_hi f → IsBetween b.now.thick_lo b.now.thick_hi g →
         IsBetween bed.now.thick_lo bed.now.thick_hi h →
         IfSome result (λ p. Encloses p.lo p.hi s (vertical_exact a.now b.now bed.now delr delc f g h)) }

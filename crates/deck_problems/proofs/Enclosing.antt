@@ -1,10 +1,11 @@
 -- The problem of decks encloses the exact step of each member, and the pair of a constant head the exact head.
-use Rattle.deck_problems.proofs.Common.{◌≡◌, ◌<◌, ◌≤◌, ◌∙◌, ℕ, ℤ, pos, true, Option, Some, None, List, Contains, sym, subst, int_min, int_max, IfSome, Fraction}
-use Rattle.deck_problems.proofs.Common.{Bound, IsHead, Entries, FlowModel, TimeStep, cell_count, constant_head, is_constant, times, period_at, IsModel}
-use Rattle.deck_problems.proofs.Common.{IsProblemOf, one_constant_pair, time_of, lower_head, upper_head, IsBetween, alike_between, hull_of_numbers}
-use Rattle.deck_problems.proofs.Common.{constants_between, steps_between, IsConstantHull, IsPairOf, IsSecond, HoldsOf, ProblemEncloses, ConstantPairIsOne}
-use Rattle.deck_problems.proofs.Common.{ConstantPairFits, ConstantPairEncloses, EnclosesSteps, IsHullProblem, IsProblemBy, EnclosesSigned, step_encloses}
-use Rattle.problem_builder.proofs.BoundsOf.{bounds_enclose, heads, head_range}
+use Rattle.deck_problems.proofs.Common.{◌≡◌, ◌<◌, ◌≤◌, ◌∙◌, ℕ, ℤ, pos, true, Option, Some, None, List, Contains, sym, subst, IfSome, Fraction, Bound, IsHead}
+use Rattle.deck_problems.proofs.Common.{Entries, FlowModel, TimeStep, cell_count, constant_head, is_constant, times, period_at, IsModel, IsProblemOf, time_of}
+use Rattle.deck_problems.proofs.Common.{lower_head, upper_head, IsBetween, alike_between, hull_of_numbers, constants_between, steps_between, IsConstantHull}
+use Rattle.deck_problems.proofs.Common.{IsPairOf, IsSecond, HoldsOf, ProblemEncloses, ConstantPairIsOne, ConstantPairFits, ConstantPairEncloses, EnclosesSteps}
+use Rattle.deck_problems.proofs.Common.{IsHullProblem, IsProblemBy, EnclosesSigned, cells_of}
+use Rattle.problem_builder.proofs.CellEnclosed.{step_encloses}
+use Rattle.problem_builder.proofs.BoundsOf.{heads, head_range, pair_fits as model_pair_fits, pair_encloses as model_pair_encloses}
 use Rattle.deck_span.proofs.HullsEnclose.{hull_encloses}
 use Rattle.deck_problems.proofs.OneProblem.{HasCellsOf, between_cells, constant_same, encloses_member, encloses_first, time_of_member}
 
@@ -14,7 +15,7 @@ second_cells a b h = between_cells a b b (alike_between a b h.alike).1
 
 pub model_encloses : (m : FlowModel) (s : ℕ) (at : TimeStep) (old : List Bound) (p : List Entries) → IsModel m → Contains (times m) at → IsProblemOf m s at old p → EnclosesSteps s at old p m
 model_encloses m s at old p valid time h before olds =
-    step_encloses m h.widths s at old p before valid.grid.size (bounds_enclose m h.widths s at valid h.thicknesses (time_of m at valid time)) olds h.cells
+    step_encloses m s at old p before valid (time_of m at valid time) olds (cells_of m s at old p h)
 
 module _ (a b : FlowModel) (at : TimeStep) (first : IsModel a) (second : IsSecond a b) (time : Contains (times a) at) where
   second_time : Contains (times b) at
@@ -40,21 +41,15 @@ module _ (a b : FlowModel) (at : TimeStep) (first : IsModel a) (second : IsSecon
 
     hull_range : (lo hi : ℤ) → IsConstantHull a b at c lo hi → IsHead lo × IsHead hi
     hull_range lo hi h =
-        let x = head_range a at first (time_of a at first time) c h.first_lo h.first_hi lt constant h.first in
-        let y = head_range b at second.model (time_of b at second.model second_time) c h.second_lo h.second_hi second_below second_constant h.second in
-        (lower_head _ _ _ _ _ _ h.hull x.0 y.0, upper_head _ _ _ _ _ _ h.hull x.1 y.1)
+        let x = head_range a at first (time_of a at first time) c lt constant in
+        let y = head_range b at second.model (time_of b at second.model second_time) c second_below second_constant in
+        (lower_head _ _ _ _ _ _ h x.0 y.0, upper_head _ _ _ _ _ _ h x.1 y.1)
 
     hull_holds : (lo hi : ℤ) → IsConstantHull a b at c lo hi → (m : FlowModel) → IsBetween a m b → (before : ℕ → Fraction) → EnclosesSigned lo hi 9 (constant_head m at.period at.step c)
     hull_holds lo hi h m between before =
-        let x = heads a at first (time_of a at first time) c h.first_lo h.first_hi lt constant h.first in
-        let y = heads b at second.model (time_of b at second.model second_time) c h.second_lo h.second_hi second_below second_constant h.second in
-        hull_of_numbers _ _ _ _ lo hi 9 (constant_head a at.period at.step c) (constant_head m at.period at.step c) (constant_head b at.period at.step c) h.hull x y (constants_between a m b between at.period at.step few before c)
-
-one_pair_hull : (a b : FlowModel) (at : TimeStep) (c : ℕ) (lo hi low high : ℤ) → IsConstantHull a b at c lo hi → IsConstantHull a b at c low high → (lo ≡ low) × (hi ≡ high)
-one_pair_hull a b at c lo hi low high h k =
-    let x = one_constant_pair a at c h.first_lo h.first_hi k.first_lo k.first_hi h.first k.first in
-    let y = one_constant_pair b at c h.second_lo h.second_hi k.second_lo k.second_hi h.second k.second in
-    (h.hull.low ∙ (λ i. int_min (x.0 i) (y.0 i)) ∙ sym k.hull.low, h.hull.high ∙ (λ i. int_max (x.1 i) (y.1 i)) ∙ sym k.hull.high)
+        let x = heads a at first (time_of a at first time) c in
+        let y = heads b at second.model (time_of b at second.model second_time) c in
+        hull_of_numbers _ _ _ _ lo hi 9 (constant_head a at.period at.step c) (constant_head m at.period at.step c) (constant_head b at.period at.step c) h x y (constants_between a m b between at.period at.step few before c)
 
 -- Of one model, or of two.
 
@@ -63,16 +58,16 @@ encloses_by a None s at old p first second time h = model_encloses a s at old p 
 encloses_by a (Some b) s at old p first second time h = hull_encloses_between a b at first second time s old p h
 
 pair_by : (a : FlowModel) (o : Option FlowModel) (at : TimeStep) (c : ℕ) (lo hi low high : ℤ) → IsPairOf a o at c lo hi → IsPairOf a o at c low high → (lo ≡ low) × (hi ≡ high)
-pair_by a None at c lo hi low high h k = one_constant_pair a at c lo hi low high h k
-pair_by a (Some b) at c lo hi low high h k = one_pair_hull a b at c lo hi low high h k
+pair_by a None at c lo hi low high h k = (h.0 ∙ sym k.0, h.1 ∙ sym k.1)
+pair_by a (Some b) at c lo hi low high h k = (h.low ∙ sym k.low, h.high ∙ sym k.high)
 
 range_by : (a : FlowModel) (o : Option FlowModel) (at : TimeStep) (c : ℕ) (lo hi : ℤ) → IsModel a → IfSome o (IsSecond a) → Contains (times a) at → c < cell_count a.grid → is_constant a at.period c ≡ true → IsPairOf a o at c lo hi → IsHead lo × IsHead hi
-range_by a None at c lo hi first second time lt k h = head_range a at first (time_of a at first time) c lo hi lt k h
+range_by a None at c lo hi first second time lt k h = model_pair_fits a at c lo hi first time lt k h
 range_by a (Some b) at c lo hi first second time lt k h = hull_range a b at first second time c lt k lo hi h
 
 holds_by : (a : FlowModel) (o : Option FlowModel) (at : TimeStep) (c : ℕ) (lo hi : ℤ) → IsModel a → IfSome o (IsSecond a) → Contains (times a) at → c < cell_count a.grid → is_constant a at.period c ≡ true → IsPairOf a o at c lo hi → (before : ℕ → Fraction) →
     HoldsOf a o (λ m. EnclosesSigned lo hi 9 (constant_head m at.period at.step c))
-holds_by a None at c lo hi first second time lt k h before = heads a at first (time_of a at first time) c lo hi lt k h
+holds_by a None at c lo hi first second time lt k h before = model_pair_encloses a at c lo hi first time lt k h
 holds_by a (Some b) at c lo hi first second time lt k h before = λ m between. hull_holds a b at first second time c lt k lo hi h m between before
 
 no_heads : ℕ → Fraction

@@ -1,12 +1,15 @@
 -- The hull of two decks' problems and constant heads.
 use Rattle.deck_problems.proofs.Common.{◌≡◌, ◌∙◌, ◌<◌, ℕ, inl, inr, Option, Some, None, List, Contains, get_or, length, map, refl, sym, subst, ap, arith}
-use Rattle.deck_problems.proofs.Common.{int_min, int_max, IfSome, get_or_default, Fixed, Bound, IsProblem, Entries, no_entries, lower_at, upper_at, FlowModel}
-use Rattle.deck_problems.proofs.Common.{TimeStep, IsProblemOf, IsBuildFault, fixed_shape, fixed_hull, cell_shape, zip_with, IsHull, hull_at, hull_count}
-use Rattle.deck_problems.proofs.Common.{hull_keeps, same_lengths, zip_at, zip_left, Decks, AreConstantHeadsFor, IsSecond, AreDecks, AreHullBounds, HasCellsOf}
-use Rattle.deck_problems.proofs.Common.{IsHullRefusal, IsProblemFor, IsProblemBy, IsRefusedBy, IsFaultFor, of_second, of_hull, AreConstantHeads, entries_at}
-use Rattle.deck_problems.proofs.Common.{get_or-map}
+use Rattle.deck_problems.proofs.Common.{IfSome, get_or_default, Bound, IsProblem, Entries, no_entries, FlowModel, TimeStep, IsProblemOf, IsBuildFault}
+use Rattle.deck_problems.proofs.Common.{fixed_shape, fixed_hull, cell_shape, zip_with, IsHull, hull_at, hull_count, hull_keeps, same_lengths, zip_at, zip_left}
+use Rattle.deck_problems.proofs.Common.{Decks, AreConstantHeadsFor, IsSecond, AreDecks, AreHullBounds, HasCellsOf, IsHullRefusal, IsProblemFor, IsProblemBy}
+use Rattle.deck_problems.proofs.Common.{IsRefusedBy, IsFaultFor, of_second, of_hull, AreConstantHeads, entries_at, get_or-map, none, Bool, false, cond}
+use Rattle.deck_problems.proofs.Common.{cell_count, is_constant, no_bound, bound_in, known_bound, constant_bound, item_is, IsHullBound}
+use Rattle.step_problem.specs.declared.entry.Fixed.{Fixed}
 use Rattle.problem_builder.specs.GridHeads.{IsNamed}
 use Rattle.problem_builder.specs.declared.fault.BuildFault.{BuildFault}
+use Rattle.std.specs.Prelude.{true}
+use Rattle.std.proofs.lemmas.List.FromFn.{length-map-range_with_len}
 use Rattle.deck_problems.proofs.Enclosing.{second_cells}
 use Rattle.deck_problems.proofs.OneProblem.{constant_same}
 use Rattle.problem_builder.specs.declared.fault.BuildFault.TheVariants as build
@@ -36,36 +39,37 @@ hull_cells m at p q r h k = record { cells = hull_keeps p q r h (λ e. e.id) (λ
 
 -- The constant heads of one deck, and of two.
 
+-- the item of a cell, if its head is constant and if it isn't
+known_at : (m : FlowModel) (at : TimeStep) (xs : List Bound) → AreConstantHeads m at xs → (c : ℕ) → c < cell_count m.grid → (b : Bool) → is_constant m at.period c ≡ b → bound_in xs c ≡ cond b (constant_bound m at c) no_bound
+known_at m at xs h c lt b e = item_is (known_bound m at) no_bound (cell_count m.grid) xs h c lt ∙ ap (λ q. cond q (constant_bound m at c) no_bound) e
+
+heads_count : (m : FlowModel) (at : TimeStep) (xs : List Bound) → AreConstantHeads m at xs → length xs ≡ cell_count m.grid
+heads_count m at xs h = ap length h ∙ length-map-range_with_len (known_bound m at) 0 (cell_count m.grid)
+
 pub constants_alone : (a : FlowModel) (o : Option FlowModel) (at : TimeStep) (heads : List Bound) → ((b : FlowModel) → o ≡ Some b → ⊥) → AreConstantHeads a at heads → AreConstantHeadsFor (record { first = a; second = o }) at heads
-constants_alone a None at heads alone h = record { count = h.count; each = λ c lt. record { constant = (h.each c lt).constant; other = (h.each c lt).other } }
+constants_alone a None at heads alone h = record {
+  count = heads_count a at heads h;
+  each = λ c lt. record {
+    constant = λ e. let k = known_at a at heads h c lt true e in (ap (λ (x : Bound). x.low) k, ap (λ (x : Bound). x.high) k);
+    other = λ e. known_at a at heads h c lt false e;
+  };
+}
 constants_alone a (Some b) at heads alone h = absurd (alone b refl)
 
 constants_hulled : (a b : FlowModel) (at : TimeStep) (xs ys rs : List Bound) → IsSecond a b → AreConstantHeads a at xs → AreConstantHeads b at ys → AreHullBounds xs ys rs → AreConstantHeadsFor (record { first = a; second = Some b }) at rs
 constants_hulled a b at xs ys rs second h k r =
     let cells = second_cells a b second in
     record {
-      count = r.whole ∙ h.count;
+      count = r.whole ∙ heads_count a at xs h;
       each = λ c lt.
-          let inside : c < length xs = omega (arith, lt, h.count) in
-          let x = h.each c lt in
-          let y = k.each c (subst (λ (n : ℕ). c < n) (sym cells.count) lt) in
-          let hull = r.each c inside in
+          let hull = r.each c (omega (arith, lt, heads_count a at xs h)) in
+          let below : c < cell_count b.grid = subst (λ (n : ℕ). c < n) (sym cells.count) lt in
+          let of : (q : Bool) → is_constant a at.period c ≡ q → IsHullBound (cond q (constant_bound a at c) no_bound) (cond q (constant_bound b at c) no_bound) (bound_in rs c) =
+          λ q e. subst (λ (x : Bound). IsHullBound x (cond q (constant_bound b at c) no_bound) (bound_in rs c)) (known_at a at xs h c lt q e)
+          (subst (λ (y : Bound). IsHullBound (bound_in xs c) y (bound_in rs c)) (known_at b at ys k c below q (constant_same a b cells at.period c ∙ e)) hull) in
           record {
-            constant = λ e. record {
-              first_lo = lower_at xs c;
-              first_hi = upper_at xs c;
-              first = x.constant e;
-              second_lo = lower_at ys c;
-              second_hi = upper_at ys c;
-              second = y.constant (constant_same a b cells at.period c ∙ e);
-              hull = hull;
-            };
-            other = λ e.
-                let none = x.other e in
-                let void = y.other (constant_same a b cells at.period c ∙ e) in
-                let low = hull.low ∙ (λ i. int_min (none i).low (void i).low) in
-                let high = hull.high ∙ (λ i. int_max (none i).high (void i).high) in
-                λ i. record { low = low i; high = high i };
+            constant = λ e. of true e;
+            other = λ e. let none = of false e in let low = none.low in let high = none.high in λ i. record { low = low i; high = high i };
           };
     }
 

@@ -1,16 +1,11 @@
 -- The bounds of the starting heads of decks.
 use Rattle.deck_problems.proofs.Common.{◌≡◌, ◌<◌, ◌∙◌, ℕ, Option, Some, None, List, length, sym, subst, arith, IfSome, get_or_default, Bound, IsHead, no_bound}
-use Rattle.deck_problems.proofs.Common.{lower_at, upper_at, FlowModel, start_head, dec_at, IsModel, AreGridHeads, HeadsEnclose, bound_in, lower_head}
-use Rattle.deck_problems.proofs.Common.{upper_head, IsBetween, hull_of_numbers, starts_between, Decks, IsSecond, HoldsOf, IsHullBound, AreHullBounds}
-use Rattle.deck_problems.proofs.Common.{StartHeadsAreOne, StartHeadsFit, StartHeadsEnclose, AreStartHeads, AreStartHulls, AreStartsBy, AreStartHeadsFor}
-use Rattle.deck_problems.proofs.Common.{head_encloses}
-use Rattle.problem_builder.proofs.CellFits.{one_filled, one_starts, starts_fit}
+use Rattle.deck_problems.proofs.Common.{lower_at, upper_at, FlowModel, start_head, IsModel, AreGridHeads, HeadsEnclose, bound_in, lower_head, upper_head}
+use Rattle.deck_problems.proofs.Common.{IsBetween, hull_of_numbers, starts_between, Decks, IsSecond, HoldsOf, IsHullBound, AreHullBounds, StartHeadsAreOne}
+use Rattle.deck_problems.proofs.Common.{StartHeadsFit, StartHeadsEnclose, AreStartHeads, AreStartHulls, AreStartsBy, AreStartHeadsFor, refl, ext_get_or}
+use Rattle.deck_problems.proofs.Common.{each_cell, start_bound, starts_fit, starts_enclose}
 use Rattle.deck_problems.proofs.Enclosing.{second_cells}
 use Rattle.deck_problems.proofs.OneProblem.{between_cells, cell_of_first, cell_of_member}
-
--- the starting heads of a model lie within their bounds
-pub start_encloses : (m : FlowModel) (x : List Bound) → AreStartHeads m x → HeadsEnclose m x (start_head m)
-start_encloses m x h c active = head_encloses (dec_at m.strt c) _ _ ((h.each c active.within).active active.active)
 
 same_hull : (a b x y : Bound) → IsHullBound a b x → IsHullBound a b y → x ≡ y
 same_hull a b x y h k =
@@ -19,55 +14,53 @@ same_hull a b x y h k =
     λ i. record { low = low i; high = high i }
 
 one_hulls : (xs ys rs us : List Bound) → AreHullBounds xs ys rs → AreHullBounds xs ys us → rs ≡ us
-one_hulls xs ys rs us h k =
-    let P : ℕ → Bound → Type 0 = λ c r. IsHullBound (bound_in xs c) (bound_in ys c) r in
-    one_filled P no_bound (length xs) rs us (λ c x y lt p q. same_hull (bound_in xs c) (bound_in ys c) x y p q) (record { count = h.whole; each = h.each }) (record { count = k.whole; each = k.each })
-
-one_start_hulls : (a b : FlowModel) (x y : List Bound) → AreStartHulls a b x → AreStartHulls a b y → x ≡ y
-one_start_hulls a b x y h k =
-    let first = one_starts a k.first h.first k.is_first h.is_first in
-    let second = one_starts b k.second h.second k.is_second h.is_second in
-    one_hulls h.first h.second x y h.hulls (subst (λ (l : List Bound). AreHullBounds l h.second y) first (subst (λ (l : List Bound). AreHullBounds k.first l y) second k.hulls))
+one_hulls xs ys rs us h k = ext_get_or no_bound rs us (h.whole ∙ sym k.whole) (λ c lt. let r : c < length xs = omega (arith, lt, h.whole) in same_hull (bound_in xs c) (bound_in ys c) (bound_in rs c) (bound_in us c) (h.each c r) (k.each c r))
 
 module _ (a b : FlowModel) (valid : IsModel a) (second : IsSecond a b) (x : List Bound) (h : AreStartHulls a b x) where
-  first_grid : AreGridHeads a h.first
-  first_grid = starts_fit a h.first valid h.is_first
+  abbrev xs : List Bound
+  xs = each_cell a (start_bound a)
 
-  second_grid : AreGridHeads b h.second
-  second_grid = starts_fit b h.second second.model h.is_second
+  abbrev ys : List Bound
+  ys = each_cell b (start_bound b)
 
-  each_fits : (c : ℕ) → c < length h.first → IsHead (bound_in x c).low × IsHead (bound_in x c).high
+  first_grid : AreGridHeads a xs
+  first_grid = starts_fit a xs valid refl
+
+  second_grid : AreGridHeads b ys
+  second_grid = starts_fit b ys second.model refl
+
+  each_fits : (c : ℕ) → c < length xs → IsHead (bound_in x c).low × IsHead (bound_in x c).high
   each_fits c lt =
-      let below : c < length h.second = omega (arith, lt, first_grid.whole, second_grid.whole, (second_cells a b second).count) in
+      let below : c < length ys = omega (arith, lt, first_grid.whole, second_grid.whole, (second_cells a b second).count) in
       let p = first_grid.range c no_bound lt in
       let q = second_grid.range c no_bound below in
-      (lower_head _ _ _ _ _ _ (h.hulls.each c lt) p.0 q.0, upper_head _ _ _ _ _ _ (h.hulls.each c lt) p.1 q.1)
+      (lower_head _ _ _ _ _ _ (h.each c lt) p.0 q.0, upper_head _ _ _ _ _ _ (h.each c lt) p.1 q.1)
 
   hulls_fit : AreGridHeads a x
   hulls_fit =
       let AreHeads : Bound → Type 0 = λ b. IsHead b.low × IsHead b.high in
       record {
-        whole = h.hulls.whole ∙ first_grid.whole;
-        range = λ c d lt. subst AreHeads (get_or_default x c no_bound d lt) (each_fits c (omega (arith, lt, h.hulls.whole)));
+        whole = h.whole ∙ first_grid.whole;
+        range = λ c d lt. subst AreHeads (get_or_default x c no_bound d lt) (each_fits c (omega (arith, lt, h.whole)));
       }
 
   hulls_enclose_starts : (m : FlowModel) → IsBetween a m b → HeadsEnclose m x (start_head m)
   hulls_enclose_starts m between c active =
       let of_a = cell_of_first a m (between_cells a m b between) c active in
       let of_b = cell_of_member a b (second_cells a b second) c of_a in
-      hull_of_numbers _ _ _ _ (lower_at x c) (upper_at x c) 9 (start_head a c) (start_head m c) (start_head b c) (h.hulls.each c (omega (arith, of_a.within, first_grid.whole)))
-      (start_encloses a h.first h.is_first c of_a) (start_encloses b h.second h.is_second c of_b) (starts_between a m b between c)
+      hull_of_numbers _ _ _ _ (lower_at x c) (upper_at x c) 9 (start_head a c) (start_head m c) (start_head b c) (h.each c (omega (arith, of_a.within, first_grid.whole)))
+      (starts_enclose a xs refl c of_a) (starts_enclose b ys refl c of_b) (starts_between a m b between c)
 
 one_by : (a : FlowModel) (o : Option FlowModel) (x y : List Bound) → AreStartsBy a o x → AreStartsBy a o y → x ≡ y
-one_by a None x y h k = one_starts a x y h k
-one_by a (Some b) x y h k = one_start_hulls a b x y h k
+one_by a None x y h k = h ∙ sym k
+one_by a (Some b) x y h k = one_hulls (each_cell a (start_bound a)) (each_cell b (start_bound b)) x y h k
 
 fit_by : (a : FlowModel) (o : Option FlowModel) (x : List Bound) → IsModel a → IfSome o (IsSecond a) → AreStartsBy a o x → AreGridHeads a x
 fit_by a None x valid second h = starts_fit a x valid h
 fit_by a (Some b) x valid second h = hulls_fit a b valid second x h
 
 enclose_by : (a : FlowModel) (o : Option FlowModel) (x : List Bound) → IsModel a → IfSome o (IsSecond a) → AreStartsBy a o x → HoldsOf a o (λ m. HeadsEnclose m x (start_head m))
-enclose_by a None x valid second h = start_encloses a x h
+enclose_by a None x valid second h = starts_enclose a x h
 enclose_by a (Some b) x valid second h = hulls_enclose_starts a b valid second x h
 
 pub starts_are_one : StartHeadsAreOne
@@ -81,4 +74,4 @@ starts_enclose_members d x decks h = enclose_by d.first d.second x decks.first d
 
 pub starts_hulled : (d : Decks) (b : FlowModel) → d.second ≡ Some b → (xs ys rs : List Bound) → AreStartHeads d.first xs → AreStartHeads b ys → AreHullBounds xs ys rs → AreStartHeadsFor d rs
 starts_hulled d b is xs ys rs h k r =
-    subst (λ (o : Option FlowModel). AreStartsBy d.first o rs) (sym is) (record { first = xs; is_first = h; second = ys; is_second = k; hulls = r })
+    subst (λ (o : Option FlowModel). AreStartsBy d.first o rs) (sym is) (subst (λ (l : List Bound). AreHullBounds l (each_cell b (start_bound b)) rs) h (subst (λ (l : List Bound). AreHullBounds xs l rs) k r))

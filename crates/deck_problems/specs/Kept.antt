@@ -2,8 +2,8 @@
 use Rattle.std.specs.Prelude.{◌≡◌, ℕ, ◌<◌, List, length, map, ℤ, true, false, Option, Some, None, IfSome}
 use Rattle.model_types.specs.declared.model.FlowModel.{FlowModel}
 use Rattle.model_types.specs.{given_heads, variable_cells, cell_count, is_constant, IsModel}
-use Rattle.problem_builder.specs.{AreTables, ArePeriodTables, AreEvenStorages, span_in, BothOrNone, AreConstantHeads, HeadsEnclose, IsActive, IsProblemOf}
-use Rattle.problem_builder.specs.{IsConstantPair, AreStartHeads, bound_in, Filled}
+use Rattle.problem_builder.specs.{AreTables, ArePeriodTables, AreEvenStorages, BothOrNone, AreConstantHeads, HeadsEnclose, IsActive, IsProblemOf}
+use Rattle.problem_builder.specs.{IsConstantPair, AreStartHeads, bound_in, Filled, each_cell, start_bound, constant_bound}
 use Rattle.deck_problems.specs.declared.decks.Decks.{Decks}
 use Rattle.deck_problems.specs.declared.kept.RunTables.{RunTables}
 use Rattle.deck_problems.specs.declared.problem.DeckTables.{DeckTables}
@@ -30,7 +30,7 @@ pub record AreRunTables (m : FlowModel) (t : RunTables) : Type 0 where
   pub tables : AreTables m (digits_of t) t.tables
   pub given : t.given ≡ given_heads m t.given.period
   pub period : ArePeriodTables m (digits_of t) t.period.period t.period
-  pub storage : AreEvenStorages m (span_in t.tables.thick) (digits_of t) t.period.period t.period.storage
+  pub storage : AreEvenStorages m (digits_of t) t.period.period t.period.storage
 
 -- those with s digits
 pub record AreTablesOf (m : FlowModel) (s : ℕ) (t : RunTables) : Type 0 where
@@ -66,14 +66,9 @@ IsHullRefusal p q Memory = Unit {0}
 
 -- The head of a constant-head cell at a time, as a whole pair in units of 10^-9: of one deck, or the hull of two decks' pairs.
 -- lo and hi are the hull of the pairs that both models have
-pub record IsConstantHull (a b : FlowModel) (at : TimeStep) (c : ℕ) (lo hi : ℤ) : Type 0 where
-  pub first_lo : ℤ
-  pub first_hi : ℤ
-  pub first : IsConstantPair a at c first_lo first_hi
-  pub second_lo : ℤ
-  pub second_hi : ℤ
-  pub second : IsConstantPair b at c second_lo second_hi
-  pub hull : IsHullPair first_lo first_hi second_lo second_hi lo hi
+abbrev pub IsConstantHull : FlowModel → FlowModel → TimeStep → ℕ → ℤ → ℤ → Type 0
+IsConstantHull a b at c lo hi =
+    IsHullPair (constant_bound a at c).low (constant_bound a at c).high (constant_bound b at c).low (constant_bound b at c).high lo hi
 
 abbrev pub IsPairOf : FlowModel → Option FlowModel → TimeStep → ℕ → ℤ → ℤ → Type 0
 IsPairOf a None at c lo hi = IsConstantPair a at c lo hi
@@ -103,12 +98,8 @@ pub record AreHullBounds (xs ys rs : List Bound) : Type 0 where
   pub each : (c : ℕ) → c < length xs → IsHullBound (bound_in xs c) (bound_in ys c) (bound_in rs c)
 
 -- The bounds of the heads before the first step: those of STRT of the one deck, or the hulls of both decks' ones.
-pub record AreStartHulls (a b : FlowModel) (heads : List Bound) : Type 0 where
-  pub first : List Bound
-  pub is_first : AreStartHeads a first
-  pub second : List Bound
-  pub is_second : AreStartHeads b second
-  pub hulls : AreHullBounds first second heads
+abbrev pub AreStartHulls : FlowModel → FlowModel → List Bound → Type 0
+AreStartHulls a b heads = AreHullBounds (each_cell a (start_bound a)) (each_cell b (start_bound b)) heads
 
 abbrev pub AreStartsBy : FlowModel → Option FlowModel → List Bound → Type 0
 AreStartsBy a None heads = AreStartHeads a heads

@@ -12,6 +12,7 @@ use Rattle.barrier_vector.specs.declared.BarrierFault.TheVariants.{NoBound as AF
 use Rattle.barrier_vector.proofs.Sides.{stored_fault, stored_refusal, unbounded_refuses}
 use Rattle.budget_bounds.specs.{◌>>=◌, all_terms, budget_of, is_small, term_of, term_pair, terms_of, too_large}
 use Rattle.problem_builder.specs.{fault_of}
+use Rattle.problem_builder.proofs.Steps.{a_refusal}
 use Rattle.zone_flows.specs.{each_or_first, flow_or_large, is_small as are_small, pair_flow, share, zone_flows, Face}
 use Rattle.zone_pairs.specs.declared.pair.ZonePair.{ZonePair}
 
@@ -113,9 +114,9 @@ range_code limits d s at old n leaves = elim leaves.refused [
 ]
 
 pub storage_holds : StorageHolds
-storage_holds Plain m s zones rounds quick at old n stored (no_heads (inl none)) = problem_code none.refused.entries n.code none.refused.is_fault
+storage_holds Plain m s zones rounds quick at old n stored (no_heads (inl none)) = let (e, is) = a_refusal m s at old n none in problem_code e n.code is
 storage_holds Plain m s zones rounds quick at old n stored (no_heads (inr (p, is, refused))) = barrier_code p n (stored p is) refused
-storage_holds Wide m s zones rounds quick at old n stored (no_heads (inl (inl none))) = problem_code none.refused.entries n.code none.refused.is_fault
+storage_holds Wide m s zones rounds quick at old n stored (no_heads (inl (inl none))) = let (e, is) = a_refusal m s at old n none in problem_code e n.code is
 storage_holds Wide m s zones rounds quick at old n stored (no_heads (inl (inr (p, is, refused)))) = unbounded_code p n (stored p is) refused
 storage_holds Wide m s zones rounds quick at old n stored (no_heads (inr leaves)) = range_code Wide (one_deck m) s at old n leaves
 storage_holds limits m s zones rounds quick at old n stored (no_budget solved settled refused) = other_code n.code 23 (budget_code solved.problem (lower_at solved.bounds) (upper_at solved.bounds) n refused) (omega arith, omega arith)

@@ -12,7 +12,7 @@ use Rattle.step_chain.proofs.Limits.{cut_by, held_by}
 use Rattle.step_chain.proofs.Assembled.{active_constant, index_below, count_is, number_is}
 use Rattle.certificate_check.proofs.Cut.{words_enclose}
 use Rattle.problem_builder.specs.{ProblemFits as ModelProblemFits}
-use Rattle.problem_builder.proofs.BoundsOf.{bounds_enclose}
+use Rattle.problem_builder.proofs.Steps.{cells_of}
 use Rattle.problem_builder.proofs.Problems.{is_problem}
 use Rattle.problem_builder.proofs.TimesOf.{time_of}
 use Rattle.exact_histories.proofs.GridVectors.{HasVector, vector_exists}
@@ -22,7 +22,7 @@ use Rattle.exact_histories.proofs.Ceilings.{held_above}
 -- a problem of a model meets the conditions on problems
 model_fits : ModelProblemFits
 model_fits m s at old p valid time grid h =
-    is_problem m h.widths s at old valid (time_of m at valid time) (bounds_enclose m h.widths s at valid h.thicknesses (time_of m at valid time)) grid p h.cells
+    is_problem m s at old valid (time_of m at valid time) grid p (cells_of m s at old p h)
 
 has_size : (a : FlowModel) (o : Option FlowModel) (m : FlowModel) → IsOf a o m → HasSize a.grid → HasSize m.grid
 has_size a None m h size = subst (λ (x : FlowModel). HasSize x.grid) (sym h) size

@@ -1,6 +1,7 @@
 -- The model of a run all of whose steps have heads has a history, and one alone.
-use Rattle.exact_histories.proofs.Common.{Limits, ◌∷◌, [], ℕ, subst, List, Option, map, times, FlowModel, TimeStep, Bound, Bool, start_encloses, AreSteps}
-use Rattle.exact_histories.proofs.Common.{Solved, starts_fit_decks, one_deck, None, one_valid, HasOneHistory, RunsHaveAHistory, RunsHaveOneHistory, IsModel}
+use Rattle.exact_histories.proofs.Common.{Limits, ◌∷◌, [], ℕ, subst, List, Option, map, times, FlowModel, TimeStep, Bound, Bool, AreSteps, Solved}
+use Rattle.exact_histories.proofs.Common.{starts_fit_decks, one_deck, None, one_valid, HasOneHistory, RunsHaveAHistory, RunsHaveOneHistory, IsModel}
+use Rattle.problem_builder.proofs.CellFits.{starts_enclose}
 use Rattle.listing_run.specs.declared.text.ListingEnd.TheVariants.{Whole}
 use Rattle.listing_run.specs.{AllSteps, one_task, pairs_of, Steps}
 use Rattle.listing_run.specs.declared.solving.Step.{Step}
@@ -23,7 +24,7 @@ module _ (limits : Limits) (m : FlowModel) (s : ℕ) (zones : Option (List ℕ))
   one values valid all =
       let (xs, steps) = solved_steps (times m) values all.start all.steps in
       let decks = one_valid m valid in
-      have_one_by limits m None s all.start (map heads_at xs) (start_encloses m all.start all.is_start)
+      have_one_by limits m None s all.start (map heads_at xs) (starts_enclose m all.start all.is_start)
       (turns_of limits (one_deck m) s (pairs_of task) decks all.start (times m) xs (λ at k. k) (starts_fit_decks (one_deck m) all.start decks all.is_start) steps)
 
 pub history_exists : RunsHaveAHistory

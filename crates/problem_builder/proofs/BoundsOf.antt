@@ -1,19 +1,21 @@
 -- The bounds of a valid model's numbers enclose them.
-use Rattle.problem_builder.proofs.Common.{◌≡◌, ℕ, suc, ◌+◌, ◌*◌, ◌-◌, ◌<◌, ◌^◌, inl, inr, true, false, Option, Some, None, take, arith, refl, ap, subst, All, ℤ}
-use Rattle.problem_builder.proofs.Common.{pos, neg_ℤ, ◌+ℤ◌, ◌-ℤ◌, ◌*ℤ◌, zero, Bool, cond, List, [], ◌∷◌, sym, option_to_list, ints, Dec, number, negated}
-use Rattle.problem_builder.proofs.Common.{EnclosesSigned, plus, Evap, magnitude, IsHead, EvapEncloses, Given, FlowModel, TimeStep, cell_count, kept_head}
-use Rattle.problem_builder.proofs.Common.{head_or_kept, constant_head, dec_at, is_active, conductance, period_at, is_constant, given_in, last_given, EvapSource}
-use Rattle.problem_builder.proofs.Common.{evap_at, recharge_flow, evap_conductance, extinction, IsModel, IsEvapValid, IsHeadNumber, IsPeriod, IsGivenValid}
-use Rattle.problem_builder.proofs.Common.{Term, IsPair, IsCapped, evap_term, faces_enclose, below_gap, above_gap, Thicknesses, AreThicknesses, IsKeptPair}
-use Rattle.problem_builder.proofs.Common.{IsGivenOrKept, IsConstantPair, IsRechargePair, IsEvap, IsTimeOf, reverse, ◌==◌, IfSome, find, flat_map}
-use Rattle.problem_builder.proofs.Common.{reverse-append, All-nil, All-append, none-some, Period, In, In-All}
+use Rattle.problem_builder.proofs.Common.{negsuc, IsPositive, recharge_term, unsigned_abs, FlowPair, constant_bound, given_or_kept, head_bound, kept_bound}
+use Rattle.problem_builder.proofs.Common.{recharge_pair, whole_evap, ◌≡◌, ℕ, suc, ◌+◌, ◌*◌, ◌-◌, ◌<◌, ◌^◌, inl, inr, true, false, Option, Some, None, take}
+use Rattle.problem_builder.proofs.Common.{arith, refl, ap, subst, All, ℤ, pos, neg_ℤ, ◌+ℤ◌, ◌-ℤ◌, ◌*ℤ◌, zero, Bool, cond, List, [], ◌∷◌, sym, option_to_list}
+use Rattle.problem_builder.proofs.Common.{ints, Dec, number, negated, EnclosesSigned, plus, magnitude, IsHead, EvapEncloses, Given, FlowModel, TimeStep}
+use Rattle.problem_builder.proofs.Common.{cell_count, kept_head, head_or_kept, constant_head, dec_at, is_active, conductance, period_at, is_constant, given_in}
+use Rattle.problem_builder.proofs.Common.{last_given, EvapSource, recharge_flow, evap_conductance, extinction, IsModel, IsHeadNumber, IsPeriod, IsGivenValid}
+use Rattle.problem_builder.proofs.Common.{evap_term, below_gap, above_gap, IsTimeOf, reverse, ◌==◌, IfSome, find, flat_map, reverse-append, All-nil, All-append}
+use Rattle.problem_builder.proofs.Common.{none-some, Period, In, In-All, recharges_enclose, evaps_enclose, real_flow, part, ConstantPairFits}
+use Rattle.problem_builder.proofs.Common.{ConstantPairEncloses}
 use Rattle.decimal_input.specs.Fractions.{den as denominator}
 use Rattle.decimal_input.proofs.Differences.{diffs, as_diff, same_diff}
-use Rattle.conductance_bounds.proofs.ModelBounds.{storages_enclose, recharges_enclose, evaps_enclose, heads_enclose as given_encloses}
+use Rattle.conductance_bounds.proofs.ModelBounds.{heads_enclose as given_encloses}
 use Rattle.conductance_bounds.proofs.PartBounds.{part_encloses, multiplier_positive}
-use Rattle.problem_builder.proofs.Members.{variable_active, constant_active, some_same, In-append}
-use Rattle.problem_builder.proofs.CellEnclosed.{BoundsEnclose, head_encloses, past_magnitude}
-use Rattle.problem_builder.proofs.Fits.{head_pair_range}
+use Rattle.problem_builder.proofs.Members.{constant_active, some_same, In-append}
+use Rattle.problem_builder.proofs.TimesOf.{time_of}
+use Rattle.problem_builder.proofs.HeadRange.{AreHeads, head_floor, head_ceiling, head_range_of, head_encloses}
+use Rattle.problem_builder.proofs.Fits.{capped_encloses}
 use Rattle.problem_builder.proofs.GivenRange.{given_range}
 
 -- The entries of CHD lists are valid.
@@ -58,10 +60,6 @@ pub last_head : (m : FlowModel) (k c : ℕ) (o : Option Given) → IsModel m →
 last_head m k c None valid e = tt
 last_head m k c (Some x) valid e = (last_valid m k c x valid (sym e)).ehead
 
-real_pair : (t : Term) (s lo hi : ℕ) → IsCapped t s lo hi → hi < 2 ^ 60 → IsPair t s lo hi
-real_pair t s lo hi (inl k) lt = k.0
-real_pair t s lo hi (inr k) lt = absurd (omega (arith, lt, k.upper))
-
 product_den : (a b : ℕ) → suc (a * b + a + b) ≡ suc a * suc b
 product_den a b = omega arith
 
@@ -73,61 +71,67 @@ pub in_option : {X : Type 0} (P : X → Type 0) (o : Option X) (x : X) → o ≡
 in_option P o x e h = (subst (λ q. All P (option_to_list q)) e h) 0 x (omega arith)
 
 module _ (m : FlowModel) (at : TimeStep) (valid : IsModel m) (time : IsTimeOf m at) where
-  kept : (o : Option Given) (c : ℕ) (lo hi : ℤ) → IsKeptPair m c o lo hi → EnclosesSigned lo hi 9 (kept_head m o c)
-  kept None c lo hi k = head_encloses (dec_at m.strt c) lo hi k
-  kept (Some x) c lo hi k = head_encloses x.ehead lo hi k
+  kept : (o : Option Given) (c : ℕ) → EnclosesSigned (kept_bound m c o).low (kept_bound m c o).high 9 (kept_head m o c)
+  kept None c = head_encloses (dec_at m.strt c)
+  kept (Some x) c = head_encloses x.ehead
 
-  given_or_kept : (o : Option Given) (c : ℕ) (lo hi : ℤ) → IsGivenOrKept m at c o lo hi → EnclosesSigned lo hi 9 (head_or_kept m at.period at.step o c)
-  given_or_kept None c lo hi k = kept (last_given (take (at.period - 1) m.periods) c) c lo hi k
-  given_or_kept (Some x) c lo hi (f, g, part, pair) =
-      given_encloses (period_at m at.period) at.step f g x lo hi time.valid.times time.step.0 time.step.1 part pair
+  either : (o : Option Given) (c : ℕ) → EnclosesSigned (given_or_kept m at c o).low (given_or_kept m at c o).high 9 (head_or_kept m at.period at.step o c)
+  either None c = kept (last_given (take (at.period - 1) m.periods) c) c
+  either (Some x) c = given_encloses (period_at m at.period) at.step x time.valid.times time.step.0 time.step.1
 
-  pub heads : (c : ℕ) (lo hi : ℤ) → c < cell_count m.grid → is_constant m at.period c ≡ true → IsConstantPair m at c lo hi → EnclosesSigned lo hi 9 (constant_head m at.period at.step c)
-  unfolding IsConstantPair constant_head
-  heads c lo hi lt k h = given_or_kept (given_in (period_at m at.period).stresses.given c) c lo hi h
+  pub heads : (c : ℕ) → EnclosesSigned (constant_bound m at c).low (constant_bound m at c).high 9 (constant_head m at.period at.step c)
+  unfolding constant_bound constant_head
+  heads c = either (given_in (period_at m at.period).stresses.given c) c
 
-  kept_range : (o : Option Given) (c : ℕ) (lo hi : ℤ) → last_given (take (at.period - 1) m.periods) c ≡ o → c < cell_count m.grid → is_active m c ≡ true → IsKeptPair m c o lo hi → IsHead lo × IsHead hi
-  kept_range None c lo hi e lt a k = head_pair_range (dec_at m.strt c) lo hi (valid.cells c lt a).strt k
-  kept_range (Some x) c lo hi e lt a k = head_pair_range x.ehead lo hi (last_valid m (at.period - 1) c x valid e).ehead k
+  kept_range : (o : Option Given) (c : ℕ) → last_given (take (at.period - 1) m.periods) c ≡ o → c < cell_count m.grid → is_active m c ≡ true → AreHeads (kept_bound m c o)
+  kept_range None c e lt a = head_range_of (dec_at m.strt c) (valid.cells c lt a).strt
+  kept_range (Some x) c e lt a = head_range_of x.ehead (last_valid m (at.period - 1) c x valid e).ehead
 
-  either_range : (o : Option Given) (c : ℕ) (lo hi : ℤ) → given_in (period_at m at.period).stresses.given c ≡ o → c < cell_count m.grid → is_active m c ≡ true → IsGivenOrKept m at c o lo hi → IsHead lo × IsHead hi
-  either_range None c lo hi e lt a k = kept_range (last_given (take (at.period - 1) m.periods) c) c lo hi refl lt a k
-  either_range (Some x) c lo hi e lt a (f, g, part, pair) =
-      let q = part_encloses (period_at m at.period) at.step f g time.step.0 time.step.1 (multiplier_positive (period_at m at.period) time.valid.times) part in
+  either_range : (o : Option Given) (c : ℕ) → given_in (period_at m at.period).stresses.given c ≡ o → c < cell_count m.grid → is_active m c ≡ true → AreHeads (given_or_kept m at c o)
+  either_range None c e lt a = kept_range (last_given (take (at.period - 1) m.periods) c) c refl lt a
+  either_range (Some x) c e lt a =
+      let q = part_encloses (period_at m at.period) at.step time.step.0 time.step.1 (multiplier_positive (period_at m at.period) time.valid.times) in
       let h = given_valid (cell_count m.grid) (period_at m at.period).stresses.given c x time.valid.stresses.given.entries e in
-      given_range x.shead x.ehead f g lo hi h.shead h.ehead q.low_range q.high_range pair
+      given_range x.shead x.ehead (part (period_at m at.period) at.step) h.shead h.ehead q.low_range q.high_range
 
-  pub head_range : (c : ℕ) (lo hi : ℤ) → c < cell_count m.grid → is_constant m at.period c ≡ true → IsConstantPair m at c lo hi → IsHead lo × IsHead hi
-  unfolding IsConstantPair
-  head_range c lo hi lt k h = either_range (given_in (period_at m at.period).stresses.given c) c lo hi refl lt (constant_active m at.period c k) h
+  pub head_range : (c : ℕ) → c < cell_count m.grid → is_constant m at.period c ≡ true → AreHeads (constant_bound m at c)
+  unfolding constant_bound
+  head_range c lt k = either_range (given_in (period_at m at.period).stresses.given c) c refl lt (constant_active m at.period c k)
 
-module _ (m : FlowModel) (w : Thicknesses) (s : ℕ) (at : TimeStep) (valid : IsModel m) (r : AreThicknesses m w) (time : IsTimeOf m at) where
-  recharges : (c : ℕ) (rate : Dec) (lo hi : ℤ) → IsRechargePair m s c rate lo hi → magnitude lo hi < 2 ^ 109 → EnclosesSigned lo hi (s + 9) (recharge_flow m c rate)
-  recharges c rate lo hi (inl k) small = recharges_enclose m rate c (s + 9) lo hi k.0
-  recharges c rate lo hi (inr k) small = absurd (past_magnitude lo hi k.lower small)
+pub pair_fits : ConstantPairFits
+pair_fits m at c lo hi valid time lt k h =
+    let r = head_range m at valid (time_of m at valid time) c lt k in
+    (subst IsHead (sym h.0) r.0, subst IsHead (sym h.1) r.1)
 
-  evaps : (c : ℕ) (x : EvapSource) (e : Evap) → c < cell_count m.grid → is_active m c ≡ true → evap_at m at.period c ≡ Some x → IsEvap m s c e x → e.hi < 2 ^ 60 →
-      EvapEncloses s e (record { conductance = evap_conductance m c x; surface = number x.surface; extinction = extinction x })
-  evaps c x e lt a is k small =
-      let v : IsEvapValid x = in_option IsEvapValid (evap_at m at.period c) x is (valid.evaps at.period c lt a) in
+pub pair_encloses : ConstantPairEncloses
+pair_encloses m at c lo hi valid time lt k h =
+    let e = heads m at valid (time_of m at valid time) c in
+    record { lower = rw h.0 e.lower; upper = rw h.1 e.upper }
+
+pub past_magnitude : (lo hi : ℤ) → magnitude lo hi < 2 ^ 109 → unsigned_abs lo < 2 ^ 109
+past_magnitude (pos n) (pos k) lt = omega (arith, lt)
+past_magnitude (pos n) (negsuc k) lt = omega (arith, lt)
+past_magnitude (negsuc n) (pos k) lt = omega (arith, lt)
+past_magnitude (negsuc n) (negsuc k) lt = omega (arith, lt)
+
+module _ (m : FlowModel) (s : ℕ) (c : ℕ) where
+  pub recharges : (rate : Dec) → magnitude (recharge_pair m s c rate).lo (recharge_pair m s c rate).hi < 2 ^ 109 → EnclosesSigned (recharge_pair m s c rate).lo (recharge_pair m s c rate).hi (s + 9) (recharge_flow m c rate)
+  recharges rate small =
+      let x = recharge_pair m s c rate in
+      subst (λ (p : FlowPair). EnclosesSigned p.lo p.hi (s + 9) (recharge_flow m c rate)) (sym (real_flow (recharge_term m rate c) rate.neg (s + 9) (past_magnitude x.lo x.hi small))) (recharges_enclose m rate c (s + 9))
+
+  pub evaps : (x : EvapSource) → IsPositive x.depth → (whole_evap m s c x).hi < 2 ^ 60 → EvapEncloses s (whole_evap m s c x) (record { conductance = evap_conductance m c x; surface = number x.surface; extinction = extinction x })
+  evaps x depth small =
       let S = number x.surface in
       let D = number x.depth in
+      let surface = head_bound x.surface in
+      let bed = head_bound x.depth in
       let den : denominator (plus S (negated D)) ≡ denominator S * denominator D = product_den S.less D.less in
       record {
-        conductance = evaps_enclose m x c s e.lo e.hi v.depth (real_pair (evap_term m x.rate x.depth c) s e.lo e.hi k.conductance small);
-        surface = head_encloses x.surface _ _ k.surface;
+        conductance = capped_encloses (evap_term m x.rate x.depth c) s (evap_conductance m c x) (evaps_enclose m x c s depth) small;
+        surface = head_encloses x.surface;
         extinction = record {
-          lower = omega (arith, ints, below_gap _ _ S.num D.num (denominator S) (denominator D) (10 ^ 9) k.surface.floor.at_most k.depth.ceiling.at_least, ap (λ (z : ℤ). z *ℤ pos (denominator S * denominator D)) k.lowest_extinction, ap (λ (z : ℕ). e.ext_lo *ℤ pos z) den, ap (λ (z : ℤ). z *ℤ pos (10 ^ 9)) (minus_is S.num D.num (pos (denominator D)) (pos (denominator S))));
-          upper = omega (arith, ints, above_gap _ _ S.num D.num (denominator S) (denominator D) (10 ^ 9) k.surface.ceiling.at_least k.depth.floor.at_most, ap (λ (z : ℤ). z *ℤ pos (denominator S * denominator D)) k.highest_extinction, ap (λ (z : ℕ). e.ext_hi *ℤ pos z) den, ap (λ (z : ℤ). z *ℤ pos (10 ^ 9)) (minus_is S.num D.num (pos (denominator D)) (pos (denominator S))));
+          lower = omega (arith, ints, below_gap _ _ S.num D.num (denominator S) (denominator D) (10 ^ 9) (head_floor x.surface).at_most (head_ceiling x.depth).at_least, ap (λ (z : ℕ). (surface.low -ℤ bed.high) *ℤ pos z) den, ap (λ (z : ℤ). z *ℤ pos (10 ^ 9)) (minus_is S.num D.num (pos (denominator D)) (pos (denominator S))));
+          upper = omega (arith, ints, above_gap _ _ S.num D.num (denominator S) (denominator D) (10 ^ 9) (head_ceiling x.surface).at_least (head_floor x.depth).at_most, ap (λ (z : ℕ). (surface.high -ℤ bed.low) *ℤ pos z) den, ap (λ (z : ℤ). z *ℤ pos (10 ^ 9)) (minus_is S.num D.num (pos (denominator D)) (pos (denominator S))));
         };
       }
-
-  pub bounds_enclose : BoundsEnclose m w s at
-  bounds_enclose = record {
-    faces = (λ axis a lo hi lt x y k small. faces_enclose m w.thick w.bed valid r axis a s lo hi lt x y (real_pair _ s lo hi k small));
-    storages = (λ c lo hi lt v steady k small. let a = variable_active m at.period c v in storages_enclose m w.thick valid (period_at m at.period) at.step c s lo hi time.valid.times steady lt a (r.cells c lt a) (real_pair _ s lo hi k small));
-    heads = heads m at valid time;
-    head_range = head_range m at valid time;
-    recharges = (λ c rate lo hi lt e k small. recharges c rate lo hi k small);
-    evaps = (λ c x e lt v is k small. evaps c x e lt (variable_active m at.period c v) is k small);
-  }

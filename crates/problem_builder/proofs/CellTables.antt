@@ -1,8 +1,8 @@
 -- Tables that are given as lists over all cells.
-use Rattle.problem_builder.proofs.Common.{◌≡◌, ℕ, ◌<◌, None, List, length, get_or, take, ap, ◌∙◌, arith, NoFlow, FlowModel, cell_count, kind_of, kinds}
-use Rattle.problem_builder.proofs.Common.{last_given, given_heads, given_in, Filled, IsKind, Kind, IsKept, IsKeptPair, AreStartHeads, Bound, no_bound, subst}
-use Rattle.problem_builder.proofs.Common.{Option, Given, IsNamed, table, table_at, length_is}
-use Rattle.std.proofs.lemmas.List.FromFn.{length-map-range_with_len, get_or-map-range_with_len}
+use Rattle.problem_builder.proofs.Common.{fill_by_all, start_bound, ◌≡◌, ℕ, ◌<◌, None, List, length, get_or, take, ap, ◌∙◌, arith, NoFlow, FlowModel}
+use Rattle.problem_builder.proofs.Common.{cell_count, kind_of, kinds, last_given, given_heads, given_in, Filled, IsKind, Kind, IsKept, AreStartHeads, Bound}
+use Rattle.problem_builder.proofs.Common.{no_bound, subst, Option, Given, IsNamed, table, table_at, length_is, length-map-range_with_len}
+use Rattle.problem_builder.proofs.Common.{get_or-map-range_with_len}
 use Rattle.model_types.specs.declared.given_heads.GivenHeads.{GivenHeads}
 
 -- the kinds of a period
@@ -24,7 +24,4 @@ named_filled n list xs e = record { count = length_is n list xs e; each = (λ c 
 -- the heads that cells keep before the first period are those of STRT
 pub kept_start : (m : FlowModel) (p : ℕ) (xs : List Bound) → p ≡ 0 → Filled (IsKept m p) no_bound (cell_count m.grid) xs → AreStartHeads m xs
 unfolding given_in
-kept_start m p xs e h = record {
-  count = h.count;
-  each = (λ c lt. let k = h.each c lt in record { active = (λ a. subst (λ (q : ℕ). IsKeptPair m c (last_given (take q m.periods) c) (get_or xs c no_bound).low (get_or xs c no_bound).high) e (k.active a)); no_flow = k.no_flow });
-}
+kept_start m p xs e h = let k = subst (λ (q : ℕ). Filled (IsKept m q) no_bound (cell_count m.grid) xs) e h in fill_by_all (start_bound m) xs (cell_count m.grid) no_bound k.count k.each

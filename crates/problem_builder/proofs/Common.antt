@@ -2,59 +2,56 @@
 pub use Rattle.std.proofs.Common.{All, Bool, FitsSigned, List, None, Option, Some, [], ap, arith, cond, false, get_or, inl, inr, length, map, neg_ℤ, negsuc}
 pub use Rattle.std.proofs.Common.{pos, refl, replicate, rules, set, slice_index_or, subst, suc, sym, take, true, zero, ℕ, ℤ, ◌%◌, ◌*ℤ◌, ◌*◌, ◌++◌, ◌+ℤ◌, ◌+◌}
 pub use Rattle.std.proofs.Common.{◌-ℤ◌, ◌-◌, ◌/◌, ◌<◌, ◌^◌, ◌∙◌, ◌∷◌, ◌≡◌, ◌≤ℤ◌, ◌≤◌, ◌⊎◌}
-pub use Rattle.std.proofs.Math.Nat.{le_of_mul-le-mul_right, mul-le-mul_right}
-pub use Rattle.std.proofs.lemmas.Bool.{and_parts, cases_Bool, cases_eq, cases_order, cond-true, eq-eqb, false≢true, leb-false, ne_eqb, or_parts}
+pub use Rattle.std.proofs.lemmas.Bool.{and_parts, cases_eq, cases_order, eq-eqb, false≢true, leb-false, ne_eqb, or_parts}
 pub use Rattle.std.proofs.lemmas.Int.{by_lt_z, int_max_is, int_min_is, ints, to_z-of_z}
-pub use Rattle.std.proofs.lemmas.List.{append-nil, append_assoc, drop_at, ext_get_or, get_or-map, get_or-replicate, get_or-set_other, get_or-set_same}
-pub use Rattle.std.proofs.lemmas.List.{get_or_append_left, get_or_default, get_or_push, get_or_read, length-map, length-replicate, length_push, map-set}
-pub use Rattle.std.proofs.lemmas.List.{reverse-append, take_all, take_at, take_more}
-pub use Rattle.std.proofs.lemmas.List.Elements.{All-append, All-cons, All-drop, All-filter, All-nil, All-push, All-replicate, All-take, All-weaker}
-pub use Rattle.std.proofs.lemmas.List.Elements.{filter-append, filter_map-append}
+pub use Rattle.std.proofs.lemmas.List.{append-nil, append_assoc, drop_at, get_or-map, get_or-replicate, get_or-set_other, get_or-set_same, get_or_append_left}
+pub use Rattle.std.proofs.lemmas.List.{get_or_push, get_or_read, length-map, length-replicate, length_push, map-append, map-set, reverse-append, take_all}
+pub use Rattle.std.proofs.lemmas.List.{take_at, take_more}
+pub use Rattle.std.proofs.lemmas.List.Elements.{All-append, All-drop, All-filter, All-nil, All-replicate, All-take, All-weaker, filter-append}
+pub use Rattle.std.proofs.lemmas.List.Elements.{filter_map-append}
+pub use Rattle.std.proofs.lemmas.List.FromFn.{fill_by_all, get_or-map-range_with_len, length-map-range_with_len, map-range_with_len_more}
 pub use Rattle.std.proofs.lemmas.Nat.{div-add-mod', div-mul-add, mod-mul-add, mod_below}
 pub use Rattle.std.proofs.lemmas.Option.{none-some}
 pub use Rattle.std.specs.Int.{int_max, int_min, w64}
 pub use Rattle.std.specs.List.{AllZip, Contains, cons_option, filter, filter_map, find, flat_map, fold, list_any, range_with_len}
-pub use Rattle.std.specs.Option.{option_to_list}
-pub use Rattle.std.specs.Prelude.{IfSome, int_lt, min, nat_le, nat_lt, not, reverse, sum_by, unsigned_abs, ◌&&◌, ◌==◌, ◌||◌}
+pub use Rattle.std.specs.Option.{option_map, option_to_list, unwrap_or}
+pub use Rattle.std.specs.Prelude.{Err, IfSome, Ok, Result, int_lt, nat_le, nat_lt, not, reverse, sum_by, unsigned_abs, ◌&&◌, ◌==◌, ◌||◌}
+pub use mathlib.Core.List.{map-id, map-map}
 pub use Rattle.cell_balance.specs.{CellEncloses, DrainEncloses, EnclosesStep, EvapEncloses, FixedEncloses, FlowEncloses, LinkEncloses, RiverEncloses}
+pub use Rattle.conductance_bounds.proofs.Capped.{below_case, real_flow, real_pair}
 pub use Rattle.conductance_bounds.proofs.FaceBounds.{faces_enclose, layered, no_gap}
-pub use Rattle.conductance_bounds.proofs.LayerBounds.{floor-ceiling, is_some, is_zero}
-pub use Rattle.conductance_bounds.proofs.Manual.{bound_on, pair_encloses}
+pub use Rattle.conductance_bounds.proofs.ModelBounds.{evaps_enclose, recharges_enclose, storages_enclose}
 pub use Rattle.conductance_bounds.proofs.Ready.{delc_positive, delr_positive}
 pub use Rattle.conductance_bounds.proofs.SpanBounds.{above_gap, below_gap, equal_powers, thick_positive}
-pub use Rattle.conductance_bounds.specs.{AreThick, Holds, IsBed, IsBound, IsCapped, IsCappedFlow, IsCeilingOf, IsColHalf, IsFloorOf, IsGivenPair, IsGrown}
-pub use Rattle.conductance_bounds.specs.{IsHalf, IsHeadUnits, IsPair, IsPart, IsPast, IsRounded, IsSpan, IsUsable, IsVertHalf, Lower, Number, Product, Quotient}
-pub use Rattle.conductance_bounds.specs.{Side, Sum, Term, Upper, Within, area_term, bed_term, blend, column_k_term, column_of, evap_formula, evap_term}
-pub use Rattle.conductance_bounds.specs.{face_term, high_end, low_end, other, part_term, recharge_term, resistance_sum, row_of, row_term, storage_formula}
-pub use Rattle.conductance_bounds.specs.{storage_of, storage_term, storativity_term, sum_term, thickness_of, vertical_half_term, vertical_k_at, vertical_of}
-pub use Rattle.conductance_bounds.specs.{vertical_term}
-unfoldable pub use Rattle.conductance_bounds.specs.{power_term}
+pub use Rattle.conductance_bounds.specs.{AreThick, IsBed, IsColHalf, IsHalf, IsHeadUnits, IsUsable, IsVertHalf, Number, PairEncloses, Quotient, Term, Within}
+pub use Rattle.conductance_bounds.specs.{area_term, bed_of, bed_term, blend, bound, column_of, evap_formula, evap_term, face_term, pair, part, recharge_formula}
+pub use Rattle.conductance_bounds.specs.{recharge_term, resistance_sum, row_of, small_flow, small_pair, storage_formula, storage_of, storage_term}
+pub use Rattle.conductance_bounds.specs.{storativity_term, sum_term, thickness_of, vertical_half_term, vertical_of}
+pub use Rattle.conductance_bounds.specs.Formulas.{thick_span}
+unfoldable pub use Rattle.conductance_bounds.specs.{capped, capped_flow, given_pair, head_pair, power_term}
+pub use Rattle.conductance_bounds.specs.declared.pair.FlowPair.{FlowPair}
 pub use Rattle.conductance_bounds.specs.declared.pair.Pair.{Pair}
 pub use Rattle.conductance_bounds.specs.declared.span.Span.{Span}
 pub use Rattle.decimal_input.proofs.FloorLaws.{cancel_right, floor_ceiling_enclose, mul_mono_right, one_ceiling, one_floor}
-pub use Rattle.decimal_input.proofs.Orders.{AtMost-trans, Same-sym, Same-trans}
-pub use Rattle.decimal_input.specs.{Encloses, EnclosesSigned, Fraction, IsCeiling, IsDec, IsFloor, IsSignedCeiling, IsSignedFloor, Passes, Ratio, negated}
-pub use Rattle.decimal_input.specs.{number, over, scaled, size, with_sign}
-pub use Rattle.decimal_input.specs.Fractions.{plus}
-pub use Rattle.decimal_input.specs.Ratios.{Same, den}
-unfoldable pub use Rattle.decimal_input.specs.Ratios.{times}
+pub use Rattle.decimal_input.specs.{Encloses, EnclosesSigned, Fraction, IsDec, IsSignedCeiling, IsSignedFloor, Ratio, negated, number, size, with_sign}
+pub use Rattle.decimal_input.specs.Fractions.{den, plus}
 pub use Rattle.decimal_input.specs.declared.dec.Dec.{Dec}
 pub use Rattle.flow_equations.proofs.Links.{are_linked, below_is, index_is}
 pub use Rattle.model_types.proofs.GivenTables.{length_is, names_within, table, table_at, table_none, table_step}
 pub use Rattle.model_types.proofs.Leads.{IsFaceOf, after_within, before_back, before_le, end_other, end_within, ends_ascend, face_back, faces_are, few_faces}
 pub use Rattle.model_types.proofs.Leads.{first_within, passing_are, passing_have, turned}
-pub use Rattle.model_types.proofs.Members.{All-In, Contains-In, In, In-All, In-get_or, Ordered, Ordered-at, filter_map-In, map-In}
+pub use Rattle.model_types.proofs.Members.{All-In, Contains-In, In, In-All, In-filter_map, In-get_or, In-map, Ordered, Ordered-at, filter_map-In, map-In}
 pub use Rattle.model_types.proofs.Ranks.{IsAt, at_rank, fails_next, is_at, passes_next, passing, range_more, rank, rank_apart, rank_below, rank_fails, rank_few}
 pub use Rattle.model_types.proofs.Ranks.{rank_passes}
 pub use Rattle.model_types.specs.{DrainSource, EvapSource, FixedSource, FlowSource, FromStorage, HasSize, IsBedValid, IsEntryValid, IsEvapValid, IsGivenValid}
 pub use Rattle.model_types.specs.{IsHeadNumber, IsModel, IsNotNegative, IsPeriod, IsPositive, IsThick, Pumped, Received, RiverSource, ToConstant, ToGeneral}
 pub use Rattle.model_types.specs.{as_drain, as_general, as_river, as_well, bed_thickness, bottom_at, cell_count, cell_of, conductance, constant_faces, dec_at}
 pub use Rattle.model_types.specs.{delc_at, delr_at, drain_sources, entries, evap_at, evap_conductance, evap_source, evap_sources, extinction, face_after, faces}
-pub use Rattle.model_types.specs.{fixed_sources, flow_sources, has_after, has_bed, head_or_kept, hk_at, index_of, int_at, is_active, is_chosen, is_constant}
+pub use Rattle.model_types.specs.{fixed_sources, flow_sources, has_after, has_bed, head_or_kept, index_of, int_at, is_active, is_chosen, is_constant}
 pub use Rattle.model_types.specs.{is_highest, is_int, is_variable, kept_head, kind_of, last_given, layer_of, layer_size, local_entries, lowest, no_period}
 pub use Rattle.model_types.specs.{number_one, period_at, place_in_layer, recharge_at, recharge_flow, river_sources, span, start_head, steps_of, storage}
 pub use Rattle.model_types.specs.{storage_at, stride, thickness, through, top_at, variable_below, variable_cells, variable_faces, vkcb_at}
-unfoldable pub use Rattle.model_types.specs.{constant_head, entries_of, given_heads, given_in, kinds}
+unfoldable pub use Rattle.model_types.specs.{constant_head, entries_of, given_heads, given_in, kinds, times}
 pub use Rattle.model_types.specs.declared.entry.Entry.{Entry}
 pub use Rattle.model_types.specs.declared.entry.Entry.TheVariants.{General, Well}
 pub use Rattle.model_types.specs.declared.entry.Given.{Given}
@@ -68,25 +65,26 @@ pub use Rattle.model_types.specs.declared.model.FlowModel.{FlowModel}
 pub use Rattle.model_types.specs.declared.period.Period.{Period}
 pub use Rattle.model_types.specs.declared.time_steps.TimeStep.{TimeStep}
 pub use Rattle.number_limits.proofs.Canonical.{dec_at_is}
-pub use Rattle.problem_builder.specs.{AreAppended, AreCells, AreConstantHeads, AreEvenFactors, AreEvenStorages, AreFactorsOf, AreGridHeads, AreInputs}
-pub use Rattle.problem_builder.specs.{AreLocalBounds, ArePeriodTables, AreStartHeads, AreTables, AreThicknesses, BothOrNone, Filled, HasConductance}
-pub use Rattle.problem_builder.specs.{HasConstantHead, HasEvenSteps, HasEvenStorage, HasNoProblem, HasOldHeads, HasPair, HasStorage, HeadsEnclose, Inputs}
-pub use Rattle.problem_builder.specs.{IsActive, IsBedBelow, IsBedOf, IsCellFault, IsCellOf, IsCond, IsConstant, IsDepth, IsDrain, IsEntryIn, IsEvap}
-pub use Rattle.problem_builder.specs.{IsEvaporated, IsFirstFault, IsFixed, IsFlow, IsGeneralSource, IsGivenOrKept, IsHeadPair, IsIndex, IsKept, IsKeptPair}
-pub use Rattle.problem_builder.specs.{IsKind, IsLink, IsNoBed, IsProblemOf, IsReceived, IsRechargePair, IsRecharged, IsRefused, IsRiver, IsStart, IsStorage}
-pub use Rattle.problem_builder.specs.{IsThickness, IsTimeOf, IsVariableCell, IsWellPair, IsWellSource, ModelsAreBuildable, Thicknesses, has_small_branch}
-pub use Rattle.problem_builder.specs.{item_in, kept_bounds, layer_half, local_in, no_bounds, no_pair, no_span, pair_at, pair_in, span_in, widest, widths_of}
-unfoldable pub use Rattle.problem_builder.specs.{IsConstantPair, fault_of}
+pub use Rattle.problem_builder.specs.{AreAppended, AreCells, AreEvenFactors, AreEvenStorages, AreFactorsOf, AreGridHeads, AreInputs, AreLocalBounds}
+pub use Rattle.problem_builder.specs.{ArePeriodTables, AreStartHeads, AreTables, ConstantPairEncloses, ConstantPairFits, Filled, HasConductance, HasEvenSteps}
+pub use Rattle.problem_builder.specs.{HasEvenStorage, HasNoProblem, HasOldHeads, HasPair, HasStorage, HeadsEnclose, Inputs, IsActive, IsBedBelow, IsBedOf}
+pub use Rattle.problem_builder.specs.{IsBuildFault, IsCellFault, IsDepth, IsEntryIn, IsEvaporated, IsIndex, IsKept, IsKind, IsNoBed, IsProblemOf, IsRecharged}
+pub use Rattle.problem_builder.specs.{IsThickness, IsTimeOf, IsVariableCell, ModelsAreBuildable, bound_of_pair, cond_pair, face_pair, flow_of_pair, general_of}
+pub use Rattle.problem_builder.specs.{given_or_kept, has_small_branch, head_bound, item_in, kept_bound, kept_bounds, known_bound, known_head, layer_half}
+pub use Rattle.problem_builder.specs.{local_in, no_bounds, no_pair, no_span, pair_at, pair_in, recharge_pair, refusal_of, span_in, start_bound, unless_refused}
+pub use Rattle.problem_builder.specs.{well_of, well_pair, whole_cell, whole_constant, whole_drain, whole_evap, whole_fixed, whole_flow, whole_link, whole_river}
+pub use Rattle.problem_builder.specs.{whole_step, widest}
+unfoldable pub use Rattle.problem_builder.specs.{constant_bound, fault_of, problem_of}
 pub use Rattle.problem_builder.specs.LocalBounds.{LocalBounds}
 pub use Rattle.problem_builder.specs.Tables.{IsNamed}
-pub use Rattle.scaled_decimal.specs.declared.decimal.Sd.{Sd}
 pub use Rattle.step_problem.specs.{CellFits, DrainFits, EvapFits, FixedFits, IsHead, IsProblem, LinkFits, LinksFit, RiverFits, conductance_of, entries_at}
 pub use Rattle.step_problem.specs.{flow_of, head_limit, lower_at, magnitude, no_bound, no_entries, no_link, upper_at}
 pub use Rattle.step_problem.specs.Entries.{Entries}
-pub use Rattle.step_problem.specs.declared.entry.Drain.{Drain}
-pub use Rattle.step_problem.specs.declared.entry.Evap.{Evap}
 pub use Rattle.step_problem.specs.declared.entry.Fixed.{Fixed}
+pub use Rattle.step_problem.specs.declared.entry.FixedKind.TheVariants.{Storage}
 pub use Rattle.step_problem.specs.declared.entry.Flow.{Flow}
 pub use Rattle.step_problem.specs.declared.entry.Link.{Link}
-pub use Rattle.step_problem.specs.declared.entry.River.{River}
 pub use Rattle.step_problem.specs.declared.heads.Bound.{Bound}
+pub use Rattle.step_problem.specs.declared.heads.Side.TheVariants.{Low}
+pub use Rattle.step_problem.specs.declared.place.NoBound.{NoBound}
+pub use Rattle.step_problem.specs.declared.place.Place.TheVariants.{Cell}

@@ -1,18 +1,21 @@
 -- Steps that are equally long have the same factors.
-use Rattle.problem_builder.proofs.Common.{◌≡◌, ℕ, Some, Dec, size, FlowModel, period_at, number_one, power_term, IsGrown, IsUsable, HasEvenSteps}
-use Rattle.problem_builder.proofs.Common.{AreEvenFactors, equal_powers}
+use Rattle.problem_builder.proofs.Common.{Number, refl, sum_term, ◌-◌, ◌∙◌, ◌≡◌, ℕ, Some, Dec, size, FlowModel, period_at, number_one, power_term, IsUsable}
+use Rattle.problem_builder.proofs.Common.{HasEvenSteps, AreEvenFactors, equal_powers, bound}
+use Rattle.scaled_decimal.specs.{Lower, Upper}
 use Rattle.conductance_bounds.specs.declared.storage.Factors.{Factors}
+use Rattle.conductance_bounds.specs.{factors_of as step_factors}
+use Rattle.model_types.specs.{one as ratio_one}
 
-even_grown : (t : Dec) (steps n : ℕ) (f : Factors) → t ≡ number_one → IsGrown (size t) steps 1 f → IsGrown (size t) steps n f
-unfolding power_term
-even_grown t steps n f one first =
-    let power = equal_powers t n (record { lo = f.power_lo; hi = f.power_hi }) one (record { lower = first.power_lo; upper = first.power_hi }) in
-    record { sum_lo = first.sum_lo; sum_hi = first.sum_hi; power_lo = power.lower; power_hi = power.upper }
+even_grown : (t : Dec) (steps n : ℕ) → t ≡ number_one → step_factors (size t) steps 1 ≡ step_factors (size t) steps n
+unfolding step_factors power_term
+even_grown t steps n one =
+    let power = equal_powers t n (record { lo = bound (Number ratio_one) Lower; hi = bound (Number ratio_one) Upper }) one (record { lower = refl; upper = refl }) in
+    λ i. record { sum_lo = bound (sum_term (size t) (steps - 1)) Lower; sum_hi = bound (sum_term (size t) (steps - 1)) Upper; power_lo = power.lower i; power_hi = power.upper i }
 
-pub even_factors : (m : FlowModel) (p : ℕ) (f : Factors) → HasEvenSteps (period_at m p) → IsGrown (size (period_at m p).tsmult) (period_at m p).nstp 1 f → IsUsable f →
+pub even_factors : (m : FlowModel) (p : ℕ) (f : Factors) → HasEvenSteps (period_at m p) → f ≡ step_factors (size (period_at m p).tsmult) (period_at m p).nstp 1 → IsUsable f →
     AreEvenFactors m p (Some f)
 even_factors m p f steps first usable n = record {
   transient = steps.transient;
-  grown = even_grown (period_at m p).tsmult (period_at m p).nstp n f steps.even first;
+  grown = first ∙ even_grown (period_at m p).tsmult (period_at m p).nstp n steps.even;
   usable = usable;
 }

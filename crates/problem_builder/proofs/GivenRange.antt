@@ -1,7 +1,9 @@
 -- The bounds of a head between two heads in range are in range.
 use Rattle.problem_builder.proofs.Common.{◌≡◌, ℕ, ◌+◌, ◌*◌, ◌-◌, ◌≤◌, ◌^◌, arith, ℤ, pos, neg_ℤ, ◌*ℤ◌, ◌≤ℤ◌, int_min, int_max, ints, int_min_is, int_max_is}
-use Rattle.problem_builder.proofs.Common.{Dec, number, mul_mono_right, IsHead, head_limit, IsHeadNumber, IsGivenPair, IsFloorOf, IsCeilingOf, blend}
-use Rattle.problem_builder.proofs.HeadRange.{floor_in_range, ceiling_in_range}
+use Rattle.problem_builder.proofs.Common.{Dec, mul_mono_right, IsHead, head_limit, IsHeadNumber, blend, given_pair, head_pair, bound_of_pair}
+use Rattle.conductance_bounds.proofs.Units.{IsFloorOf, IsCeilingOf, floor_is, ceiling_is}
+use Rattle.conductance_bounds.specs.declared.part.Part.{Part}
+use Rattle.problem_builder.proofs.HeadRange.{AreHeads, head_range_of}
 
 -- z lies from -b to b, for the limit of heads in units of 10 ^ -18 of theirs
 pub record IsBlend (z : ℤ) : Type 0 where
@@ -37,10 +39,9 @@ ceiling_within x y z p q k = record {
   below = omega (arith, ints, int_max_is x y, p.below, q.below, k.next);
 }
 
-pub given_range : (shead ehead : Dec) (f g : ℕ) (lo hi : ℤ) → IsHeadNumber shead → IsHeadNumber ehead → f ≤ 10 ^ 18 → g ≤ 10 ^ 18 → IsGivenPair shead ehead f g lo hi → IsHead lo × IsHead hi
-given_range shead ehead f g lo hi s e fl gl k =
-    let a = floor_in_range (number shead) k.start_lo s.range k.starts.0 in
-    let b = ceiling_in_range (number shead) k.start_hi s.range k.starts.1 in
-    let c = floor_in_range (number ehead) k.end_lo e.range k.ends.0 in
-    let d = ceiling_in_range (number ehead) k.end_hi e.range k.ends.1 in
-    (floor_within _ _ lo (blended k.start_lo k.end_lo f a c fl) (blended k.start_lo k.end_lo g a c gl) k.floor, ceiling_within _ _ hi (blended k.start_hi k.end_hi f b d fl) (blended k.start_hi k.end_hi g b d gl) k.ceiling)
+pub given_range : (shead ehead : Dec) (p : Part) → IsHeadNumber shead → IsHeadNumber ehead → p.lo ≤ 10 ^ 18 → p.hi ≤ 10 ^ 18 → AreHeads (bound_of_pair (given_pair shead ehead p))
+unfolding given_pair head_pair
+given_range shead ehead p s e fl gl =
+    let (a, b) = head_range_of shead s in
+    let (c, d) = head_range_of ehead e in
+    (floor_within _ _ _ (blended _ _ p.lo a c fl) (blended _ _ p.hi a c gl) (floor_is _), ceiling_within _ _ _ (blended _ _ p.lo b d fl) (blended _ _ p.hi b d gl) (ceiling_is _))

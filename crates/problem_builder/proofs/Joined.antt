@@ -1,115 +1,86 @@
 -- Lists of a cell's entries, put together from their kinds.
-use Rattle.problem_builder.proofs.Common.{◌≡◌, ℕ, Option, List, [], ◌∷◌, ◌++◌, map, sym, ap, ◌∙◌, subst, ◌+◌, ◌<◌, Bool, true, false, cond, Some, None, length}
-use Rattle.problem_builder.proofs.Common.{get_or, take, refl, option_to_list, AllZip, filter_map, cons_option, Dec, Bound, Flow, Fixed, Face, FlowModel}
-use Rattle.problem_builder.proofs.Common.{TimeStep, FixedSource, FlowSource, ToConstant, ToGeneral, FromStorage, Pumped, Received, through, Thicknesses}
-use Rattle.problem_builder.proofs.Common.{IsConstant, IsFixed, IsFlow, IsReceived, IsGeneralSource, IsWellSource, BothOrNone, take_more, filter_map-append}
-use Rattle.problem_builder.proofs.Common.{cond-true, take_all, ◌≤◌}
+use Rattle.problem_builder.proofs.Common.{◌≡◌, ℕ, ◌+◌, ◌<◌, ◌≤◌, Bool, true, cond, Option, Some, None, List, [], ◌∷◌, ◌++◌, map, refl, sym, ap, ◌∙◌, length}
+use Rattle.problem_builder.proofs.Common.{get_or, take, take_all, take_more, filter_map-append, option_to_list, cons_option, filter_map, Bound, Flow, Fixed}
+use Rattle.problem_builder.proofs.Common.{Face, Entry, FlowModel, TimeStep, FixedSource, ToConstant, Received, as_well, as_general, through, Dec, whole_flow}
+use Rattle.problem_builder.proofs.Common.{whole_fixed, whole_constant, well_of, general_of, option_map, FlowPair, recharge_pair, flow_of_pair, AllZip, Well}
+use Rattle.problem_builder.proofs.Common.{map-append, map-map}
+use Rattle.model_types.specs.declared.entry.Entry.TheVariants.{River as RiverEntry, Drain as DrainEntry, General as GeneralEntry}
+use Rattle.step_problem.specs.declared.entry.FlowKind.TheVariants.{Recharge}
 
 -- Loops that push what there is.
-as_list : {Y : Type 0} (o : Option Y) → cons_option o [] ≡ option_to_list o
+as_list : {Y : Type 0} (o : Option Y) → option_to_list o ≡ cons_option o []
 as_list None = refl
 as_list (Some y) = refl
 
-one_item : {X Y : Type 0} (h : X → Option Y) (x : X) → filter_map h (x ∷ []) ≡ option_to_list (h x)
-one_item h x = as_list (h x)
+-- a list with what one more item of the other list gives
+pub push_given : {X Y : Type 0} (h : X → Option Y) (xs : List X) (x : X) (front new : List Y) (o : Option Y) → new ≡ front ++ option_to_list o → o ≡ h x → front ≡ filter_map h xs → new ≡ filter_map h (xs ++ x ∷ [])
+push_given h xs x front new o e gives so_far = e ∙ (λ t. so_far t ++ option_to_list (gives t)) ∙ ap (λ ys. filter_map h xs ++ ys) (as_list (h x)) ∙ sym (filter_map-append h xs (x ∷ []))
 
-filter_map_push : {X Y : Type 0} (h : X → Option Y) (xs : List X) (x : X) → filter_map h (xs ++ x ∷ []) ≡ filter_map h xs ++ option_to_list (h x)
-filter_map_push h xs x = filter_map-append h xs (x ∷ []) ∙ ap (λ ys. filter_map h xs ++ ys) (one_item h x)
+-- the step of a loop that pushes what an item of the list gives
+pub push_next : {X Y : Type 0} (h : X → Option Y) (xs : List X) (i : ℕ) (d : X) (front new : List Y) (o : Option Y) → i < length xs → new ≡ front ++ option_to_list o → o ≡ h (get_or xs i d) →
+    front ≡ filter_map h (take i xs) → new ≡ filter_map h (take (i + 1) xs)
+push_next h xs i d front new o lt e gives so_far = push_given h (take i xs) (get_or xs i d) front new o e gives so_far ∙ ap (filter_map h) (sym (take_more xs i d lt))
 
-pub AllZip-join : {X Y : Type 0} (R : X → Y → Type 0) (xs : List X) (ys : List Y) (us : List X) (vs : List Y) → AllZip R xs ys → AllZip R us vs → AllZip R (xs ++ us) (ys ++ vs)
-AllZip-join R [] [] us vs h k = k
-AllZip-join R [] (y ∷ ys) us vs h k = absurd h
-AllZip-join R (x ∷ xs) [] us vs h k = absurd h
-AllZip-join R (x ∷ xs) (y ∷ ys) us vs h k = (h.0, AllZip-join R xs ys us vs h.1 k)
+made_cons : {Y Z : Type 0} (f : Y → Z) (o : Option Y) (ys : List Y) → cons_option (option_map f o) (map f ys) ≡ map f (cons_option o ys)
+made_cons f None ys = refl
+made_cons f (Some y) ys = refl
 
-pub AllZip-option : {X Y : Type 0} (R : X → Y → Type 0) (o : Option X) (p : Option Y) → BothOrNone R o p → AllZip R (option_to_list o) (option_to_list p)
-AllZip-option R None None h = tt
-AllZip-option R None (Some y) h = absurd h
-AllZip-option R (Some x) None h = absurd h
-AllZip-option R (Some x) (Some y) h = (h, tt)
+-- what is made of the items that there are
+pub made_of : {X Y Z : Type 0} (f : Y → Z) (g : X → Option Y) (h : X → Option Z) → ((x : X) → h x ≡ option_map f (g x)) → (xs : List X) → filter_map h xs ≡ map f (filter_map g xs)
+made_of f g h e [] = refl
+made_of f g h e (x ∷ xs) = (λ t. cons_option (e x t) (made_of f g h e xs t)) ∙ made_cons f (g x) (filter_map g xs)
 
--- a list with what one more item of the other list is, if it is one
-pub zip_push : {X Y Z : Type 0} (R : Y → Z → Type 0) (h : X → Option Z) (xs : List X) (x : X) (front new : List Y) (o : Option Y) →
-    new ≡ front ++ option_to_list o → BothOrNone R o (h x) → AllZip R front (filter_map h xs) → AllZip R new (filter_map h (xs ++ x ∷ []))
-zip_push R h xs x front new o e both so_far =
-    rw (e, filter_map_push h xs x) (AllZip-join R front (filter_map h xs) (option_to_list o) (option_to_list (h x)) so_far (AllZip-option R o (h x) both))
+pub made_list : {X Y : Type 0} (f : X → Y) (o : Option X) → option_to_list (option_map f o) ≡ map f (option_to_list o)
+made_list f None = refl
+made_list f (Some x) = refl
 
--- the step of a loop that pushes what an item of the list is, if it is one
-pub zip_next : {X Y Z : Type 0} (R : Y → Z → Type 0) (h : X → Option Z) (xs : List X) (i : ℕ) (d : X) (front new : List Y) (o : Option Y) → i < length xs →
-    new ≡ front ++ option_to_list o → BothOrNone R o (h (get_or xs i d)) → AllZip R front (filter_map h (take i xs)) → AllZip R new (filter_map h (take (i + 1) xs))
-zip_next R h xs i d front new o lt e both so_far = rw (take_more xs i d lt) (zip_push R h (take i xs) (get_or xs i d) front new o e both so_far)
-
--- and its end, where the list has another name
-pub zip_all : {X Y Z : Type 0} (R : Y → Z → Type 0) (h : X → Option Z) (xs ys : List X) (i : ℕ) (all : List Y) → length xs ≤ i → xs ≡ ys → AllZip R all (filter_map h (take i xs)) → AllZip R all (filter_map h ys)
-zip_all R h xs ys i all le e so_far = subst (λ zs. AllZip R all (filter_map h zs)) (take_all i xs le ∙ e) so_far
+-- its end: all that is made of the items of a list
+pub made_all : {X Y Z : Type 0} (f : Y → Z) (g : X → Option Y) (xs ys : List X) (i : ℕ) (all : List Z) → length xs ≤ i → xs ≡ ys → all ≡ filter_map (λ x. option_map f (g x)) (take i xs) → all ≡ map f (filter_map g ys)
+made_all f g xs ys i all le e so_far = so_far ∙ ap (filter_map (λ x. option_map f (g x))) (take_all i xs le ∙ e) ∙ made_of f g (λ x. option_map f (g x)) (λ x. refl) ys
 
 -- what is made of a face that passes a test
-pub both_through : {X : Type 0} (R : X → Face → Type 0) (test : ℕ → Bool) (o : Option Face) (f : Face) (x : X) → o ≡ Some f → test f.end ≡ true → R x f → BothOrNone R (Some x) (through test o)
-both_through R test o f x e t r =
-    let same : through test o ≡ Some f = ap (through test) e ∙ cond-true (test f.end) (Some f) None t in
-    subst (BothOrNone R (Some x)) (sym same) r
+pub made_through : {X : Type 0} (f : Face → X) (test : ℕ → Bool) (o : Option Face) (face : Face) (x : X) → o ≡ Some face → test face.end ≡ true → x ≡ f face → Some x ≡ option_map f (through test o)
+made_through f test o face x e t r = ap Some r ∙ sym (ap (λ q. option_map f (through test q)) e ∙ ap (λ b. option_map f (cond b (Some face) None)) t)
 
--- what is made of an optional item that is one
-pub both_some : {X Y Z : Type 0} (R : X → Y → Type 0) (S : Z → Y → Type 0) (o : Option X) (r : Option Y) (x : X) (z : Z) → o ≡ Some x → ((y : Y) → R x y → S z y) → BothOrNone R o r → BothOrNone S (Some z) r
-both_some R S o None x z e f h = absurd (subst (λ q. BothOrNone R q None) e h)
-both_some R S o (Some y) x z e f h = f y (subst (λ q. BothOrNone R q (Some y)) e h)
+module _ (m : FlowModel) (s : ℕ) (at : TimeStep) (old : List Bound) (c : ℕ) where
+  generals : (x : Entry) → general_of s c x ≡ option_map (whole_fixed m s at old c) (as_general x)
+  generals (Well cell q) = refl
+  generals (RiverEntry cell stage k bottom) = refl
+  generals (DrainEntry cell elevation k) = refl
+  generals (GeneralEntry cell head k) = refl
 
--- what stands unless a test holds
-pub both_unless : {X Y : Type 0} (R : X → Y → Type 0) (b : Bool) (x : X) (y : Y) → b ≡ false → R x y → BothOrNone R (Some x) (cond b None (Some y))
-both_unless R b x y e h = subst (λ q. BothOrNone R (Some x) (cond q None (Some y))) (sym e) h
-
--- the one optional item of a list
-pub zip_one : {X Y : Type 0} (R : X → Y → Type 0) (xs : List X) (o : Option X) (p : Option Y) → xs ≡ [] ++ option_to_list o → BothOrNone R o p → AllZip R xs (option_to_list p)
-zip_one R xs o p e h = subst (λ ys. AllZip R ys (option_to_list p)) (sym e) (AllZip-option R o p h)
-
--- what is made of an optional item that is none
-pub both_none : {X Y Z : Type 0} (R : X → Y → Type 0) (S : Z → Y → Type 0) (o : Option X) (r : Option Y) → o ≡ None → BothOrNone R o r → BothOrNone S None r
-both_none R S o None e h = tt
-both_none R S o (Some y) e h = absurd (subst (λ q. BothOrNone R q (Some y)) e h)
-
-pub AllZip-weaker : {X Y : Type 0} (R S : X → Y → Type 0) → ((x : X) (y : Y) → R x y → S x y) → (xs : List X) (ys : List Y) → AllZip R xs ys → AllZip S xs ys
-AllZip-weaker R S h [] [] k = tt
-AllZip-weaker R S h [] (y ∷ ys) k = absurd k
-AllZip-weaker R S h (x ∷ xs) [] k = absurd k
-AllZip-weaker R S h (x ∷ xs) (y ∷ ys) k = (h x y k.0, AllZip-weaker R S h xs ys k.1)
-
--- a relation to what a list is mapped to
-pub AllZip-mapped : {X Y Z : Type 0} (R : X → Z → Type 0) (f : Y → Z) (xs : List X) (ys : List Y) → AllZip (λ x y. R x (f y)) xs ys → AllZip R xs (map f ys)
-AllZip-mapped R f [] [] k = tt
-AllZip-mapped R f [] (y ∷ ys) k = absurd k
-AllZip-mapped R f (x ∷ xs) [] k = absurd k
-AllZip-mapped R f (x ∷ xs) (y ∷ ys) k = (k.0, AllZip-mapped R f xs ys k.1)
-
-module _ (m : FlowModel) (w : Thicknesses) (s : ℕ) (at : TimeStep) (old : List Bound) (c : ℕ) where
-  generals : (x : Fixed) (y : FixedSource) → IsGeneralSource s c x y → IsFixed m w s at old c x y
-  generals x (ToGeneral head k) h = h
-  generals x (ToConstant f) h = absurd h
-  generals x FromStorage h = absurd h
-
-  wells : (x : Flow) (y : FlowSource) → IsWellSource s x y → IsFlow m s c x y
-  wells x (Pumped q) h = h
-  wells x (Received r) h = absurd h
+  wells : (x : Entry) → well_of s x ≡ option_map (whole_flow m s c) (as_well x)
+  wells (Well cell q) = refl
+  wells (RiverEntry cell stage k bottom) = refl
+  wells (DrainEntry cell elevation k) = refl
+  wells (GeneralEntry cell head k) = refl
 
   -- storage, then constant heads, then general heads
-  pub fixed_are : (o : Option Fixed) (storage : Option FixedSource) (faces : List Face) (ks gs : List Fixed) (entries : List FixedSource) (first second third : List Fixed) →
-      first ≡ [] ++ option_to_list o → BothOrNone (IsFixed m w s at old c) o storage → AllZip (IsConstant m w s at) ks faces → AllZip (IsGeneralSource s c) gs entries →
-      second ≡ first ++ ks → third ≡ second ++ gs → AllZip (IsFixed m w s at old c) third (option_to_list storage ++ map ToConstant faces ++ entries)
-  fixed_are o storage faces ks gs entries first second third e₁ both k g e₃ e₄ =
-      let whole : third ≡ option_to_list o ++ ks ++ gs = e₄ ∙ ap (λ xs. xs ++ gs) (e₃ ∙ ap (λ xs. xs ++ ks) e₁) in
-      subst (λ xs. AllZip (IsFixed m w s at old c) xs (option_to_list storage ++ map ToConstant faces ++ entries)) (sym whole)
-      (AllZip-join (IsFixed m w s at old c) (option_to_list o ++ ks) (option_to_list storage ++ map ToConstant faces) gs entries
-      (AllZip-join (IsFixed m w s at old c) (option_to_list o) (option_to_list storage) ks (map ToConstant faces) (AllZip-option (IsFixed m w s at old c) o storage both) (AllZip-mapped (IsFixed m w s at old c) ToConstant ks faces k))
-      (AllZip-weaker (IsGeneralSource s c) (IsFixed m w s at old c) generals gs entries g))
+  pub fixed_are : (o : Option Fixed) (storage : Option FixedSource) (faces : List Face) (ks gs : List Fixed) (entries : List Entry) (first second third : List Fixed) →
+      first ≡ [] ++ option_to_list o → o ≡ option_map (whole_fixed m s at old c) storage → ks ≡ map (whole_constant m s at old) faces → gs ≡ filter_map (general_of s c) entries →
+      second ≡ first ++ ks → third ≡ second ++ gs → third ≡ map (whole_fixed m s at old c) (option_to_list storage ++ map ToConstant faces ++ filter_map as_general entries)
+  fixed_are o storage faces ks gs entries first second third e₁ stored k g e₃ e₄ =
+      let F = whole_fixed m s at old c in
+      let a : first ≡ map F (option_to_list storage) = e₁ ∙ ap option_to_list stored ∙ made_list F storage in
+      let b : ks ≡ map F (map ToConstant faces) = k ∙ sym (map-map F ToConstant faces) in
+      let d : gs ≡ map F (filter_map as_general entries) = g ∙ made_of F as_general (general_of s c) generals entries in
+      e₄ ∙ ap (λ xs. xs ++ gs) e₃ ∙ (λ t. (a t ++ b t) ++ d t)
+      ∙ sym (map-append F (option_to_list storage ++ map ToConstant faces) (filter_map as_general entries) ∙ ap (λ xs. xs ++ map F (filter_map as_general entries)) (map-append F (option_to_list storage) (map ToConstant faces)))
 
   -- recharge, then wells
-  pub flows_are : (o : Option Flow) (recharge : Option Dec) (ws : List Flow) (entries : List FlowSource) (first second : List Flow) →
-      first ≡ [] ++ option_to_list o → BothOrNone (IsReceived m s c) o recharge → AllZip (IsWellSource s) ws entries → second ≡ first ++ ws →
-      AllZip (IsFlow m s c) second (map Received (option_to_list recharge) ++ entries)
-  flows_are o recharge ws entries first second e both h f =
-      subst (λ xs. AllZip (IsFlow m s c) xs (map Received (option_to_list recharge) ++ entries)) (sym (f ∙ ap (λ xs. xs ++ ws) e))
-      (AllZip-join (IsFlow m s c) (option_to_list o) (map Received (option_to_list recharge)) ws entries
-      (AllZip-mapped (IsFlow m s c) Received (option_to_list o) (option_to_list recharge) (AllZip-option (IsReceived m s c) o recharge both))
-      (AllZip-weaker (IsWellSource s) (IsFlow m s c) wells ws entries h))
+  pub flows_are : (o : Option Flow) (recharge : Option Dec) (ws : List Flow) (entries : List Entry) (first second : List Flow) →
+      first ≡ [] ++ option_to_list o → o ≡ option_map (λ rate. whole_flow m s c (Received rate)) recharge → ws ≡ filter_map (well_of s) entries → second ≡ first ++ ws →
+      second ≡ map (whole_flow m s c) (map Received (option_to_list recharge) ++ filter_map as_well entries)
+  flows_are o recharge ws entries first second e received h f =
+      let F = whole_flow m s c in
+      let a : first ≡ map F (map Received (option_to_list recharge)) = e ∙ ap option_to_list received ∙ made_list (λ rate. F (Received rate)) recharge ∙ sym (map-map F Received (option_to_list recharge)) in
+      let b : ws ≡ map F (filter_map as_well entries) = h ∙ made_of F as_well (well_of s) wells entries in
+      f ∙ (λ t. a t ++ b t) ∙ sym (map-append F (map Received (option_to_list recharge)) (filter_map as_well entries))
+
+-- the flow of the recharge that a cell receives
+pub received : (m : FlowModel) (s c : ℕ) (rate : Option Dec) (pair : Option FlowPair) → pair ≡ option_map (recharge_pair m s c) rate → option_map (flow_of_pair Recharge) pair ≡ option_map (λ r. whole_flow m s c (Received r)) rate
+received m s c None pair e = ap (option_map (flow_of_pair Recharge)) e
+received m s c (Some r) pair e = ap (option_map (flow_of_pair Recharge)) e
 
 -- what a list is after a push and an extension, as the clauses say it
 pub pushed : {X : Type 0} (empty first : List X) (o : Option X) → empty ≡ [] → first ≡ empty ++ option_to_list o → first ≡ [] ++ option_to_list o
@@ -117,3 +88,10 @@ pushed empty first o e h = h ∙ ap (λ xs. xs ++ option_to_list o) e
 
 pub extended : {X : Type 0} (old new more seen : List X) → seen ≡ more → new ≡ old ++ seen → new ≡ old ++ more
 extended old new more seen e h = h ∙ ap (λ xs. old ++ xs) e
+
+-- a relation of the items of two lists
+pub AllZip-weaker : {X Y : Type 0} (R S : X → Y → Type 0) → ((x : X) (y : Y) → R x y → S x y) → (xs : List X) (ys : List Y) → AllZip R xs ys → AllZip S xs ys
+AllZip-weaker R S h [] [] k = tt
+AllZip-weaker R S h [] (y ∷ ys) k = absurd k
+AllZip-weaker R S h (x ∷ xs) [] k = absurd k
+AllZip-weaker R S h (x ∷ xs) (y ∷ ys) k = (h x y k.0, AllZip-weaker R S h xs ys k.1)

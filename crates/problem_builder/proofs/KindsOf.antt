@@ -1,6 +1,6 @@
 -- What the kind of a cell says of it.
 use Rattle.problem_builder.proofs.Common.{◌≡◌, ℕ, Bool, true, false, cond, refl, sym, ap, ◌∙◌, subst, not, ◌&&◌, false≢true, FlowModel, NoFlow, Constant}
-use Rattle.problem_builder.proofs.Common.{Variable, is_variable, is_constant, kind_of, is_active, and_parts, Kind}
+use Rattle.problem_builder.proofs.Common.{Variable, is_variable, is_constant, kind_of, is_active, Kind}
 
 -- what a kind says of whether the cell is active and whether it is variable
 abbrev Says : Kind → Bool → Bool → Type 0
@@ -12,6 +12,10 @@ kind_says : (a v : Bool) → Says (cond v Variable (cond (a && not v) Constant N
 kind_says a true = refl
 kind_says true false = (refl, refl)
 kind_says false false = (refl, refl)
+
+and_not : (a v : Bool) → v ≡ true → (a && not v) ≡ false
+and_not true v e = ap not e
+and_not false v e = refl
 
 module _ (m : FlowModel) (p c : ℕ) where
   says : (k : Kind) → kind_of m p c ≡ k → Says k (is_active m c) (is_variable m p c)
@@ -29,12 +33,9 @@ module _ (m : FlowModel) (p c : ℕ) where
   pub no_flow_no_variable : kind_of m p c ≡ NoFlow → is_variable m p c ≡ true → ⊥
   no_flow_no_variable e k = false≢true (sym (says NoFlow e).0 ∙ k)
 
-  -- a variable cell isn't constant, and one without flow isn't active
-  pub variable_no_constant : kind_of m p c ≡ Variable → is_constant m p c ≡ true → ⊥
-  variable_no_constant e k = false≢true (sym (ap not (says Variable e)) ∙ (and_parts (is_active m c) (not (is_variable m p c)) k).1)
+  -- a variable cell isn't constant, nor is one without flow
+  pub variable_constant : kind_of m p c ≡ Variable → is_constant m p c ≡ false
+  variable_constant e = and_not (is_active m c) (is_variable m p c) (says Variable e)
 
-  pub no_flow_inactive : kind_of m p c ≡ NoFlow → is_active m c ≡ true → ⊥
-  no_flow_inactive e k = false≢true (sym (says NoFlow e).1 ∙ k)
-
-  pub no_flow_no_constant : kind_of m p c ≡ NoFlow → is_constant m p c ≡ true → ⊥
-  no_flow_no_constant e k = no_flow_inactive e (and_parts (is_active m c) (not (is_variable m p c)) k).0
+  pub no_flow_constant : kind_of m p c ≡ NoFlow → is_constant m p c ≡ false
+  no_flow_constant e = λ i. (says NoFlow e).1 i && not ((says NoFlow e).0 i)

@@ -6,10 +6,7 @@ pub mod FacePairs
 pub mod Joined
 pub mod Fits
 pub mod Steps
-pub mod OneBound
 pub mod Members
-pub mod OneCell
-pub mod OneProblem
 pub mod ValidEntries
 pub mod Sound
 pub mod CellFits

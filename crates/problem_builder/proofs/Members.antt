@@ -1,16 +1,16 @@
 -- Variable cells in their list, and sources in theirs.
-use Rattle.problem_builder.proofs.Common.{◌≡◌, ℕ, zero, suc, ◌+◌, ◌<◌, ◌≤◌, ◌⊎◌, inl, inr, Bool, true, false, cond, Option, Some, None, List, [], ◌∷◌, ◌++◌}
-use Rattle.problem_builder.proofs.Common.{map, refl, sym, ap, ◌∙◌, subst, arith, All, ℤ, pos, negsuc, length, filter, filter_map, range_with_len, Contains}
-use Rattle.problem_builder.proofs.Common.{option_to_list, none-some, Entry, Well, FlowModel, is_variable, variable_below, recharge_at, period_at, FixedSource}
-use Rattle.problem_builder.proofs.Common.{FlowSource, constant_faces, flow_sources, fixed_sources, storage_at, as_well, as_general, local_entries, ToConstant}
-use Rattle.problem_builder.proofs.Common.{ToGeneral, FromStorage, Pumped, Received, IsHeadNumber, IsNotNegative, IsEntryValid, is_active, int_at, is_constant}
-use Rattle.problem_builder.proofs.Common.{cell_count, HasSize, IsDec, In, In-All, map-In, filter_map-In, In-get_or, Contains-In, passing, rank, rank_below}
-use Rattle.problem_builder.proofs.Common.{at_rank, below_is, not, int_lt, ◌==◌, unsigned_abs, and_parts, Bound, Fixed, Entries, entries_at, no_entries}
-use Rattle.problem_builder.proofs.Common.{TimeStep, passing_are, end_within, Thicknesses, IsFixed, IsCellOf, IsActive, AreCells, HasOldHeads}
+use Rattle.problem_builder.proofs.Common.{variable_cells, In-map, whole_cell, whole_fixed, whole_step, ◌≡◌, ℕ, zero, suc, ◌+◌, ◌<◌, ◌≤◌, ◌⊎◌, inl, inr, Bool}
+use Rattle.problem_builder.proofs.Common.{true, false, cond, Option, Some, None, List, [], ◌∷◌, ◌++◌, map, refl, sym, ap, ◌∙◌, subst, arith, All, ℤ, pos}
+use Rattle.problem_builder.proofs.Common.{negsuc, length, filter, filter_map, range_with_len, Contains, option_to_list, none-some, Entry, Well, FlowModel}
+use Rattle.problem_builder.proofs.Common.{is_variable, variable_below, recharge_at, period_at, FixedSource, FlowSource, constant_faces, flow_sources}
+use Rattle.problem_builder.proofs.Common.{fixed_sources, storage_at, as_well, as_general, local_entries, ToConstant, ToGeneral, FromStorage, Pumped, Received}
+use Rattle.problem_builder.proofs.Common.{IsHeadNumber, IsNotNegative, IsEntryValid, is_active, int_at, is_constant, cell_count, HasSize, IsDec, In, In-All}
+use Rattle.problem_builder.proofs.Common.{map-In, filter_map-In, In-get_or, Contains-In, passing, rank, rank_below, at_rank, below_is, not, int_lt, ◌==◌}
+use Rattle.problem_builder.proofs.Common.{unsigned_abs, and_parts, Bound, Fixed, Entries, entries_at, no_entries, TimeStep, passing_are, end_within, IsActive}
+use Rattle.problem_builder.proofs.Common.{HasOldHeads, Storage}
 use Rattle.model_types.specs.declared.entry.Entry.TheVariants.{General as GeneralEntry}
 use Rattle.std.proofs.lemmas.Bool.Decides.{nat_tests}
 use Rattle.problem_builder.specs.GridHeads.{IsNamed}
-use Rattle.problem_builder.proofs.Zipped.{left_of, right_of}
 
 cond-In : (b : Bool) (y : ℕ) (ys : List ℕ) (x : ℕ) → In (cond b (y ∷ ys) ys) x → ((y ≡ x) × (b ≡ true)) ⊎ In ys x
 cond-In true y ys x (inl e) = inl (e, refl)
@@ -110,37 +110,49 @@ constant_active m p c e = (and_parts (is_active m c) _ e).0
 pub In-Contains : {X : Type 0} (xs : List X) (x : X) → Contains xs x → In xs x
 In-Contains xs x (k, lt, e) = subst (In xs) e (In-get_or xs k x lt)
 
-module _ (m : FlowModel) (w : Thicknesses) (s : ℕ) (at : TimeStep) (old : List Bound) (size : HasSize m.grid) (es : List Entries) (are : AreCells m w s at old (cell_count m.grid) es) where
+module _ (m : FlowModel) (s : ℕ) (at : TimeStep) (old : List Bound) (size : HasSize m.grid) where
+  abbrev es : List Entries
+  es = whole_step m s at old
+
   -- the cell of an index is a variable cell
-  pub cell_of : (k : ℕ) → k < length es → (c : ℕ) × (is_variable m at.period c ≡ true) × (c < cell_count m.grid) × IsCellOf m w s at old (entries_at es k) c
-  cell_of k lt =
-      let (c, i, is) = left_of (IsCellOf m w s at old) es (variable_below m at.period (cell_count m.grid)) (entries_at es k) are.each (In-get_or es k no_entries lt) in
+  cell_at : (k : ℕ) → k < length es → (c : ℕ) × (is_variable m at.period c ≡ true) × (c < cell_count m.grid) × (whole_cell m s at old c ≡ entries_at es k)
+  cell_at k lt =
+      let (c, i, e) = map-In (whole_cell m s at old) (variable_cells m at.period) (entries_at es k) (In-get_or es k no_entries lt) in
       let (v, r) = variable-In m at.period (cell_count m.grid) c i in
-      (c, v, r, is)
+      (c, v, r, e)
 
-  source_active : (c : ℕ) → is_variable m at.period c ≡ true → c < cell_count m.grid → (x : Fixed) (y : FixedSource) → In (fixed_sources m at.period c) y → IsFixed m w s at old c x y → IsActive m x.source
-  source_active c v lt x (ToConstant f) i k =
+  source_active : (c : ℕ) → is_variable m at.period c ≡ true → c < cell_count m.grid → (y : FixedSource) → In (fixed_sources m at.period c) y → IsActive m (whole_fixed m s at old c y).source
+  source_active c v lt (ToConstant f) i =
       let (g, b) = passing_are m.grid (is_constant m at.period) c f (fixed_source m at.period c (ToConstant f) i) in
-      subst (IsActive m) (sym k.source) (record { within = end_within m.grid c f size lt g; active = constant_active m at.period f.end b })
-  source_active c v lt x (ToGeneral head cond) i k = subst (IsActive m) (sym k.source) (record { within = lt; active = variable_active m at.period c v })
-  source_active c v lt x FromStorage i k = subst (IsActive m) (sym k.source) (record { within = lt; active = variable_active m at.period c v })
+      record { within = end_within m.grid c f size lt g; active = constant_active m at.period f.end b }
+  source_active c v lt (ToGeneral head cond) i = record { within = lt; active = variable_active m at.period c v }
+  source_active c v lt FromStorage i = record { within = lt; active = variable_active m at.period c v }
 
-  pub named_active : (c : ℕ) → IsNamed es c → IsActive m c
-  named_active c (k, lt, inl e) =
-      let (d, v, r, is) = cell_of k lt in
-      subst (IsActive m) (sym (e ∙ is.id)) (record { within = r; active = variable_active m at.period d v })
-  named_active c (k, lt, inr (x, has, e)) =
-      let (d, v, r, is) = cell_of k lt in
-      let (y, i, q) = left_of (IsFixed m w s at old d) (entries_at es k).fixed (fixed_sources m at.period d) x is.fixed (In-Contains (entries_at es k).fixed x has) in
-      subst (IsActive m) (sym e) (source_active d v r x y i q)
+  cells_active : (c : ℕ) → IsNamed es c → IsActive m c
+  cells_active c (k, lt, inl e) =
+      let (d, v, r, is) = cell_at k lt in
+      subst (IsActive m) (sym (e ∙ sym (ap (λ (z : Entries). z.id) is))) (record { within = r; active = variable_active m at.period d v })
+  cells_active c (k, lt, inr (x, has, e)) =
+      let (d, v, r, is) = cell_at k lt in
+      let among : In (whole_cell m s at old d).fixed x = subst (λ (z : Entries). In z.fixed x) (sym is) (In-Contains (entries_at es k).fixed x has) in
+      let (y, i, q) = map-In (whole_fixed m s at old d) (fixed_sources m at.period d) x among in
+      subst (IsActive m) (sym (e ∙ sym (ap (λ (z : Fixed). z.source) q))) (source_active d v r y i)
 
   storage_among : (c : ℕ) → (period_at m at.period).steady ≡ false → In (fixed_sources m at.period c) FromStorage
   storage_among c e =
       let P : Bool → Type 0 = λ b. In (option_to_list (cond b None (Some FromStorage)) ++ map ToConstant (constant_faces m at.period c) ++ filter_map as_general (local_entries m at.period c)) FromStorage in
       subst P (sym e) (inl refl)
 
-  pub old_heads : (period_at m at.period).steady ≡ false → HasOldHeads es
-  old_heads steady k lt =
-      let (c, v, r, is) = cell_of k lt in
-      let (x, i, q) = right_of (IsFixed m w s at old c) (entries_at es k).fixed (fixed_sources m at.period c) FromStorage is.fixed (storage_among c steady) in
-      (x, Contains-In (entries_at es k).fixed x i, q.kind, q.source ∙ sym is.id)
+  cells_stored : (period_at m at.period).steady ≡ false → HasOldHeads es
+  cells_stored steady k lt =
+      let (c, v, r, is) = cell_at k lt in
+      let sources = fixed_sources m at.period c in
+      let F = whole_fixed m s at old c in
+      let P : Entries → Type 0 = λ z. (x : Fixed) × Contains z.fixed x × (x.kind ≡ Storage) × (x.source ≡ z.id) in
+      subst P is (F FromStorage, Contains-In (map F sources) (F FromStorage) (In-map F sources FromStorage (storage_among c steady)), refl, refl)
+
+  pub named_active : (p : List Entries) → p ≡ es → (c : ℕ) → IsNamed p c → IsActive m c
+  named_active p e c named = cells_active c (subst (λ (q : List Entries). IsNamed q c) e named)
+
+  pub old_heads : (p : List Entries) → p ≡ es → (period_at m at.period).steady ≡ false → HasOldHeads p
+  old_heads p e steady = subst HasOldHeads (sym e) (cells_stored steady)

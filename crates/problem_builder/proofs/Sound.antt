@@ -1,7 +1,7 @@
 -- What a cell without a refusal is.
-use Rattle.problem_builder.proofs.Common.{or_parts, ◌≡◌, ℕ, zero, suc, ◌+◌, ◌<◌, ◌≤◌, ◌^◌, inl, inr, Bool, true, false, cond, Option, Some, None, List, [], ◌∷◌}
-use Rattle.problem_builder.proofs.Common.{refl, sym, ap, subst, arith, nat_le, ◌==◌, sum_by, list_any, fold, leb-false, false≢true, Entries, conductance_of}
-use Rattle.problem_builder.proofs.Common.{flow_of, In, fault_of, has_small_branch}
+use Rattle.problem_builder.proofs.Common.{filter_map, option_map, refusal_of, or_parts, ◌≡◌, ℕ, zero, suc, ◌+◌, ◌<◌, ◌≤◌, ◌^◌, inl, inr, Bool, true, false}
+use Rattle.problem_builder.proofs.Common.{cond, Option, Some, None, List, [], ◌∷◌, refl, sym, ap, subst, arith, nat_le, ◌==◌, sum_by, list_any, fold, leb-false}
+use Rattle.problem_builder.proofs.Common.{false≢true, Entries, conductance_of, flow_of, In, fault_of, has_small_branch, NoBound, Cell, Low, In-filter_map}
 
 some_none : (x : ℕ) → Some x ≡ None → ⊥
 some_none x e = grind arith
@@ -22,6 +22,14 @@ sound e h =
     let (b, h₂) = cond_none (nat_le (2 ^ 60) (conductance_of e)) 22 _ h₁ in
     let (c, h₃) = cond_none (nat_le (2 ^ 109) (flow_of e)) 23 _ h₂ in
     record { branches = a; conductances = leb-false (2 ^ 60) (conductance_of e) b; flows = leb-false (2 ^ 109) (flow_of e) c }
+
+-- a cell among cells without a refusal has none
+unfaulted : (e : Entries) (o : Option ℕ) → fault_of e ≡ o → (ns : List NoBound) → ns ≡ [] → ((n : NoBound) → refusal_of e ≡ Some n → In ns n) → fault_of e ≡ None
+unfaulted e None is ns none among = is
+unfaulted e (Some code) is ns none among = absurd (subst (λ xs. In xs (record { code = code; place = Cell e.id Low })) none (among _ (ap (option_map (λ k. record { code = k; place = Cell e.id Low })) is)))
+
+pub unrefused : (es : List Entries) → filter_map refusal_of es ≡ [] → (e : Entries) → In es e → fault_of e ≡ None
+unrefused es none e i = unfaulted e (fault_of e) refl (filter_map refusal_of es) none (λ n is. In-filter_map refusal_of es e n i is)
 
 pub none_passes : {X : Type 0} (test : X → Bool) (xs : List X) → list_any test xs ≡ false → (x : X) → In xs x → test x ≡ false
 none_passes test [] e x i = absurd i

@@ -1,17 +1,18 @@
 -- The loop over the cells of the grid, a step at a time.
-use Rattle.problem_builder.proofs.Common.{◌≡◌, ℕ, suc, ◌+◌, ◌<◌, Bool, true, false, None, List, [], ◌∷◌, ◌++◌, sym, ap, ◌∙◌, subst, arith, AllZip, All-nil}
-use Rattle.problem_builder.proofs.Common.{All-push, Bound, Entries, FlowModel, TimeStep, Thicknesses, cell_count, is_variable, variable_below, passes_next}
-use Rattle.problem_builder.proofs.Common.{fails_next, below_is, IsCellOf, fault_of, AreCells, IsCellFault, IsFirstFault, Inputs, widths_of}
+use Rattle.problem_builder.proofs.Common.{zero, Option, In, filter_map-In, none-some, option_map, HasNoProblem, fault_of, Cell, Low, Some, cases_order}
+use Rattle.problem_builder.proofs.Common.{cons_option, filter_map, filter_map-append, inl, inr, map, refl, Err, IsBuildFault, IsProblemOf, Ok, Result}
+use Rattle.problem_builder.proofs.Common.{problem_of, refusal_of, unless_refused, whole_cell, whole_step, ◌≡◌, ℕ, suc, ◌+◌, ◌<◌, Bool, true, false, None, List}
+use Rattle.problem_builder.proofs.Common.{[], ◌∷◌, ◌++◌, sym, ap, ◌∙◌, arith, Bound, Entries, FlowModel, TimeStep, cell_count, is_variable, variable_below}
+use Rattle.problem_builder.proofs.Common.{passes_next, fails_next, below_is, AreCells, IsCellFault, map-append, NoBound}
 use Rattle.problem_builder.specs.declared.fault.BuildFault.{BuildFault}
 use Rattle.problem_builder.specs.declared.fault.BuildFault.TheVariants.{NoBound as Refused, Memory}
-use Rattle.problem_builder.proofs.Joined.{AllZip-join}
 
-module _ (m : FlowModel) (w : Thicknesses) (s : ℕ) (at : TimeStep) (old : List Bound) where
-  abbrev Is : Entries → ℕ → Type 0
-  Is = IsCellOf m w s at old
+module _ (m : FlowModel) (s : ℕ) (at : TimeStep) (old : List Bound) where
+  abbrev cell : ℕ → Entries
+  cell = whole_cell m s at old
 
   abbrev Are : ℕ → List Entries → Type 0
-  Are = AreCells m w s at old
+  Are = AreCells m s at old
 
   abbrev test : ℕ → Bool
   test = is_variable m at.period
@@ -19,23 +20,99 @@ module _ (m : FlowModel) (w : Thicknesses) (s : ℕ) (at : TimeStep) (old : List
   abbrev below : ℕ → List ℕ
   below = variable_below m at.period
 
-  pub no_cells : Are 0 []
-  no_cells = record { each = subst (AllZip Is []) (sym (below_is m at.period 0)) tt; sound = All-nil (λ e. fault_of e ≡ None) }
+  -- the cells up to a variable one, and up to another
+  below_more : (c : ℕ) → test c ≡ true → below (suc c) ≡ below c ++ c ∷ []
+  below_more c v = below_is m at.period (suc c) ∙ passes_next test c v ∙ ap (λ xs. xs ++ c ∷ []) (sym (below_is m at.period c))
 
-  pub next_cell : (c : ℕ) (es new : List Entries) (e : Entries) → test c ≡ true → new ≡ es ++ e ∷ [] → Is e c → fault_of e ≡ None → Are c es → Are (c + 1) new
-  next_cell c es new e v same is sound are =
-      let more : below (c + 1) ≡ below c ++ c ∷ [] = ap below (let q : c + 1 ≡ suc c = omega arith in q) ∙ below_is m at.period (suc c) ∙ passes_next test c v ∙ ap (λ xs. xs ++ c ∷ []) (sym (below_is m at.period c)) in
-      record {
-        each = rw (same, more) (AllZip-join Is es (below c) (e ∷ []) (c ∷ []) are.each (is, tt));
-        sound = rw same (All-push (λ z. fault_of z ≡ None) es e are.sound sound);
-      }
+  below_same : (c : ℕ) → test c ≡ false → below (suc c) ≡ below c
+  below_same c v = below_is m at.period (suc c) ∙ fails_next test c v ∙ sym (below_is m at.period c)
+
+  next : (c : ℕ) → c + 1 ≡ suc c
+  next c = omega arith
+
+  pub no_cells : Are 0 []
+  no_cells = record { each = sym (ap (map cell) (below_is m at.period 0)); sound = refl }
+
+  pub next_cell : (c : ℕ) (es new : List Entries) (e : Entries) → test c ≡ true → new ≡ es ++ e ∷ [] → e ≡ cell c → refusal_of e ≡ None → Are c es → Are (c + 1) new
+  next_cell c es new e v same is sound are = record {
+    each = same ∙ (λ t. are.each t ++ is t ∷ []) ∙ sym (ap (map cell) (ap below (next c) ∙ below_more c v) ∙ map-append cell (below c) (c ∷ []));
+    sound = ap (filter_map refusal_of) same ∙ filter_map-append refusal_of es (e ∷ []) ∙ (λ t. are.sound t ++ cons_option (sound t) []);
+  }
 
   pub next_none : (c : ℕ) (es : List Entries) → test c ≡ false → Are c es → Are (c + 1) es
-  next_none c es v are =
-      let more : below (c + 1) ≡ below c = ap below (let q : c + 1 ≡ suc c = omega arith in q) ∙ below_is m at.period (suc c) ∙ fails_next test c v ∙ sym (below_is m at.period c) in
-      record { each = rw more are.each; sound = are.sound }
+  next_none c es v are = record { each = are.each ∙ sym (ap (map cell) (ap below (next c) ∙ below_same c v)); sound = are.sound }
 
-pub first_fault : (i : Inputs) (c : ℕ) (es : List Entries) (fault : BuildFault) → c < cell_count i.model.grid → is_variable i.model i.at.period c ≡ true → IsCellFault i c fault →
-    AreCells i.model (widths_of i.tables) i.tables.digits i.at i.old c es → IsFirstFault i fault
-first_fault i c es Memory lt v k are = tt
-first_fault i c es (Refused fault) lt v k are = record { cell = c; is_cell = record { within = lt; variable = v }; before = es; cells_before = are; refused = k }
+  -- All cells are the problem, and the refusal of a cell after cells that have none is the first one.
+  pub all_cells : (p : List Entries) → Are (cell_count m.grid) p → IsProblemOf m s at old p
+  unfolding problem_of
+  all_cells p are = (λ t. unless_refused ((ap (filter_map refusal_of) (sym are.each) ∙ are.sound) t) (whole_step m s at old)) ∙ ap Ok (sym are.each)
+
+  refused_first : (c : ℕ) (fault : NoBound) → test c ≡ true → refusal_of (cell c) ≡ Some fault → filter_map refusal_of (map cell (below c)) ≡ [] → (n : ℕ) → c < n → (ns : List NoBound) × (filter_map refusal_of (map cell (below n)) ≡ fault ∷ ns)
+  refused_first c fault v is none zero lt = absurd (omega (arith, lt))
+  refused_first c fault v is none (suc n) lt =
+      elim (cases_order c n) [
+        | inl same ↦ (
+          [],
+          ap (λ k. filter_map refusal_of (map cell (below (suc k)))) (sym same) ∙ added c v ∙ (λ t. none t ++ cons_option (is t) []),
+        )
+        | inr (inl less) ↦ (let (ns, e) = refused_first c fault v is none n less in further n ns e (test n) refl)
+        | inr (inr more) ↦ absurd (omega (arith, lt, more))
+      ]
+    where
+      added : (k : ℕ) → test k ≡ true → filter_map refusal_of (map cell (below (suc k))) ≡ filter_map refusal_of (map cell (below k)) ++ cons_option (refusal_of (cell k)) []
+      added k v = ap (filter_map refusal_of) (ap (map cell) (below_more k v) ∙ map-append cell (below k) (k ∷ [])) ∙ filter_map-append refusal_of (map cell (below k)) (cell k ∷ [])
+
+      further : (k : ℕ) (ns : List NoBound) → filter_map refusal_of (map cell (below k)) ≡ fault ∷ ns → (b : Bool) → test k ≡ b → (more : List NoBound) × (filter_map refusal_of (map cell (below (suc k))) ≡ fault ∷ more)
+      further k ns e true v = (ns ++ cons_option (refusal_of (cell k)) [], added k v ∙ ap (λ xs. xs ++ cons_option (refusal_of (cell k)) []) e)
+      further k ns e false v = (ns, ap (λ xs. filter_map refusal_of (map cell xs)) (below_same k v) ∙ e)
+
+  pub first_fault : (c : ℕ) (es : List Entries) (fault : BuildFault) → c < cell_count m.grid → test c ≡ true → IsCellFault (cell c) fault → Are c es → IsBuildFault m s at old fault
+  unfolding problem_of
+  first_fault c es Memory lt v k are = tt
+  first_fault c es (Refused fault) lt v k are =
+      let (ns, e) = refused_first c fault v k (ap (filter_map refusal_of) (sym are.each) ∙ are.sound) (cell_count m.grid) lt in
+      ap (λ xs. unless_refused xs (whole_step m s at old)) e
+
+-- a problem is all cells, and none has a refusal
+abbrev value_or : List Entries → Result (List Entries) NoBound → List Entries
+value_or d (Ok p) = p
+value_or d (Err n) = d
+
+unless_parts : (ns : List NoBound) (es p : List Entries) → unless_refused ns es ≡ Ok p → (p ≡ es) × (ns ≡ [])
+unless_parts [] es p e = (sym (ap (value_or []) e), refl)
+unless_parts (n ∷ ns) es p e = absurd cc
+
+pub cells_of : (m : FlowModel) (s : ℕ) (at : TimeStep) (old : List Bound) (p : List Entries) → IsProblemOf m s at old p → AreCells m s at old (cell_count m.grid) p
+unfolding problem_of
+cells_of m s at old p e =
+    let (is, none) = unless_parts (filter_map refusal_of (whole_step m s at old)) (whole_step m s at old) p e in
+    record { each = is; sound = ap (filter_map refusal_of) is ∙ none }
+
+-- A result is one problem or one refusal.
+pub same_problem : {r : Result (List Entries) NoBound} {p q : List Entries} → r ≡ Ok p → r ≡ Ok q → p ≡ q
+same_problem h k = ap (value_or []) (sym h ∙ k)
+
+abbrev refusal_or : NoBound → Result (List Entries) NoBound → NoBound
+refusal_or d (Ok p) = d
+refusal_or d (Err n) = n
+
+pub same_refusal : {r : Result (List Entries) NoBound} {n k : NoBound} → r ≡ Err n → r ≡ Err k → n ≡ k
+same_refusal {n = n} h k = ap (refusal_or n) (sym h ∙ k)
+
+pub not_refused : {r : Result (List Entries) NoBound} {p : List Entries} {n : NoBound} → r ≡ Ok p → r ≡ Err n → ⊥
+not_refused h k = absurd (let e = sym h ∙ k in cc)
+
+-- a refusal is that of a cell
+among : (ns : List NoBound) (es : List Entries) (n : NoBound) → unless_refused ns es ≡ Err n → In ns n
+among [] es n e = absurd cc
+among (k ∷ ns) es n e = inl (ap (refusal_or k) e)
+
+fault_from : (e : Entries) (n : NoBound) (o : Option ℕ) → fault_of e ≡ o → option_map (λ code. record { code = code; place = Cell e.id Low }) o ≡ Some n → fault_of e ≡ Some n.code
+fault_from e n None is h = absurd (none-some n h)
+fault_from e n (Some k) is h = is ∙ ap (option_map (λ (z : NoBound). z.code)) h
+
+pub a_refusal : (m : FlowModel) (s : ℕ) (at : TimeStep) (old : List Bound) (n : NoBound) → HasNoProblem m s at old n → (e : Entries) × (fault_of e ≡ Some n.code)
+unfolding problem_of
+a_refusal m s at old n h =
+    let (e, i, is) = filter_map-In refusal_of (whole_step m s at old) n (among (filter_map refusal_of (whole_step m s at old)) (whole_step m s at old) n h) in
+    (e, fault_from e n (fault_of e) refl is)

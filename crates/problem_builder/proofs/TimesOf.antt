@@ -2,8 +2,7 @@
 use Rattle.problem_builder.proofs.Common.{◌-◌, inl, inr, List, [], ◌∷◌, length, refl, subst, arith, Contains, flat_map, range_with_len, FlowModel, TimeStep}
 use Rattle.problem_builder.proofs.Common.{period_at, no_period, steps_of, IsModel, In, map-In, IsTimeOf, ℕ, zero, suc, ◌+◌, ◌≤◌, ◌≡◌, ◌++◌, map, sym, ints, Dec}
 use Rattle.problem_builder.proofs.Common.{IsHeadNumber, EnclosesSigned, widest, number, cell_count, length-replicate, All-replicate, IsHead, start_head, Bound}
-use Rattle.problem_builder.proofs.Common.{get_or-replicate, no_bound, dec_at, ModelsAreBuildable}
-use Rattle.model_types.specs.{times}
+use Rattle.problem_builder.proofs.Common.{get_or-replicate, no_bound, dec_at, ModelsAreBuildable, times}
 use Rattle.problem_builder.proofs.Members.{In-append, range-In, In-Contains}
 
 pub flat-In : {X Y : Type 0} (f : X → List Y) (xs : List X) (y : Y) → In (flat_map f xs) y → (x : X) × In xs x × In (f x) y

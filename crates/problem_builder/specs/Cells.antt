@@ -1,10 +1,11 @@
 -- The cells of a step's problem: for each source of a variable cell one entry, in the order of the sources. The
 -- model's definitions say what a source is; these say by which whole numbers it is known.
-use Rattle.std.specs.Prelude.{◌≡◌, ℕ, ◌-ℤ◌, ℤ, List}
-use Rattle.std.specs.List.{AllZip}
+use Rattle.std.specs.Prelude.{ℕ, ◌-ℤ◌, List, map}
 use Rattle.decimal_input.specs.declared.dec.Dec.{Dec}
 use Rattle.step_problem.specs.declared.heads.Bound.{Bound}
+use Rattle.step_problem.specs.declared.entry.FixedKind.{FixedKind}
 use Rattle.step_problem.specs.declared.entry.FixedKind.TheVariants.{Constant, General, Storage}
+use Rattle.step_problem.specs.declared.entry.FlowKind.{FlowKind}
 use Rattle.step_problem.specs.declared.entry.FlowKind.TheVariants.{Wells, Recharge}
 use Rattle.step_problem.specs.declared.entry.Flow.{Flow}
 use Rattle.step_problem.specs.declared.entry.Link.{Link}
@@ -18,88 +19,86 @@ use Rattle.model_types.specs.declared.face.Face.{Face}
 use Rattle.model_types.specs.declared.model.FlowModel.{FlowModel}
 use Rattle.model_types.specs.declared.time_steps.TimeStep.{TimeStep}
 use Rattle.model_types.specs.{period_at, index_of, EvapSource, FixedSource, FlowSource, RiverSource, DrainSource, variable_faces, flow_sources, fixed_sources}
-use Rattle.model_types.specs.{river_sources, drain_sources, evap_sources, ToConstant, ToGeneral, FromStorage, Pumped, Received}
-use Rattle.conductance_bounds.specs.{IsCapped, face_term, storage_term, evap_term}
-use Rattle.problem_builder.specs.GridHeads.{IsCond, IsWellPair, IsHeadPair, IsRechargePair, IsConstantPair}
-use Rattle.problem_builder.specs.Widths.{Thicknesses}
+use Rattle.model_types.specs.{river_sources, drain_sources, evap_sources, ToConstant, ToGeneral, FromStorage, Pumped, Received, variable_below, variable_cells}
+use Rattle.conductance_bounds.specs.declared.pair.Pair.{Pair}
+use Rattle.conductance_bounds.specs.declared.pair.FlowPair.{FlowPair}
+use Rattle.conductance_bounds.specs.{evap_term, capped}
+use Rattle.problem_builder.specs.GridHeads.{cond_pair, well_pair, head_bound, recharge_pair, constant_bound, storage_pair}
+use Rattle.problem_builder.specs.Widths.{face_pair}
 
--- Entries, by the numbers of a list.
+-- An entry from its bounds.
+abbrev pub flow_of_pair : FlowKind → FlowPair → Flow
+flow_of_pair kind pair = record { kind = kind; lo = pair.lo; hi = pair.hi }
 
-pub record IsRiver (s : ℕ) (x : River) (r : RiverSource) : Type 0 where
-  pub cond : IsCond s r.cond x.lo x.hi
-  pub stage : IsHeadPair r.stage x.stage_lo x.stage_hi
-  pub bottom : IsHeadPair r.bottom x.bottom_lo x.bottom_hi
+abbrev pub known_head : FixedKind → ℕ → Pair → Bound → Fixed
+known_head kind source pair head = record { kind = kind; source = source; lo = pair.lo; hi = pair.hi; head_lo = head.low; head_hi = head.high }
 
-pub record IsDrain (s : ℕ) (x : Drain) (r : DrainSource) : Type 0 where
-  pub cond : IsCond s r.cond x.lo x.hi
-  pub elevation : IsHeadPair r.elevation x.elev_lo x.elev_hi
+-- a river and a drain
+abbrev pub whole_river : ℕ → RiverSource → River
+whole_river s x =
+    let pair = cond_pair s x.cond in
+    let stage = head_bound x.stage in
+    let bottom = head_bound x.bottom in
+    record { lo = pair.lo; hi = pair.hi; stage_lo = stage.low; stage_hi = stage.high; bottom_lo = bottom.low; bottom_hi = bottom.high }
 
-pub record IsWell (s : ℕ) (x : Flow) (q : Dec) : Type 0 where
-  pub kind : x.kind ≡ Wells
-  pub flow : IsWellPair s q x.lo x.hi
+abbrev pub whole_drain : ℕ → DrainSource → Drain
+whole_drain s x =
+    let pair = cond_pair s x.cond in
+    let elevation = head_bound x.elevation in
+    record { lo = pair.lo; hi = pair.hi; elev_lo = elevation.low; elev_hi = elevation.high }
 
--- a general head of cell c
-pub record IsGeneral (s c : ℕ) (x : Fixed) (head k : Dec) : Type 0 where
-  pub kind : x.kind ≡ General
-  pub source : x.source ≡ c
-  pub cond : IsCond s k x.lo x.hi
-  pub head_pair : IsHeadPair head x.head_lo x.head_hi
-
--- The other entries, by the numbers of a model.
-
+-- for a model, with s digits of conductances
 module _ (m : FlowModel) (s : ℕ) where
-  -- recharge of cell c at a rate
-  pub record IsReceived (c : ℕ) (x : Flow) (rate : Dec) : Type 0 where
-    pub kind : x.kind ≡ Recharge
-    pub flow : IsRechargePair m s c rate x.lo x.hi
+  -- a well's flow into cell c, or recharge over its area
+  abbrev pub whole_flow : ℕ → FlowSource → Flow
+  whole_flow c (Pumped q) = flow_of_pair Wells (well_pair s q)
+  whole_flow c (Received rate) = flow_of_pair Recharge (recharge_pair m s c rate)
 
-  -- an evapotranspiration of cell c: the bounds of the extinction elevation are the differences of the bounds of the surface and of the depth
-  pub record IsEvap (c : ℕ) (x : Evap) (r : EvapSource) : Type 0 where
-    pub conductance : IsCapped (evap_term m r.rate r.depth c) s x.lo x.hi
-    pub surface : IsHeadPair r.surface x.surf_lo x.surf_hi
-    pub depth_lo : ℤ
-    pub depth_hi : ℤ
-    pub depth : IsHeadPair r.depth depth_lo depth_hi
-    pub lowest_extinction : x.ext_lo ≡ x.surf_lo -ℤ depth_hi
-    pub highest_extinction : x.ext_hi ≡ x.surf_hi -ℤ depth_lo
+  -- evapotranspiration from cell c: the bounds of the extinction elevation are the differences of the bounds of the surface and of the depth
+  abbrev pub whole_evap : ℕ → EvapSource → Evap
+  whole_evap c x =
+      let pair = capped (evap_term m x.rate x.depth c) s in
+      let surface = head_bound x.surface in
+      let depth = head_bound x.depth in
+      record {
+        lo = pair.lo;
+        hi = pair.hi;
+        ext_lo = surface.low -ℤ depth.high;
+        ext_hi = surface.high -ℤ depth.low;
+        surf_lo = surface.low;
+        surf_hi = surface.high;
+      }
 
-  abbrev pub IsFlow : ℕ → Flow → FlowSource → Type 0
-  IsFlow c x (Pumped q) = IsWell s x q
-  IsFlow c x (Received rate) = IsReceived c x rate
+-- at a time, where `old` are the heads before it
+module _ (m : FlowModel) (s : ℕ) (at : TimeStep) (old : List Bound) where
+  -- a branch to a variable neighbour, over the conductance of the face between the two cells
+  abbrev pub whole_link : Face → Link
+  whole_link x = let pair = face_pair m s x.axis x.first in record { cell = index_of m at.period x.end; lo = pair.lo; hi = pair.hi }
 
--- for a model with these thicknesses, at a time
-module _ (m : FlowModel) (w : Thicknesses) (s : ℕ) (at : TimeStep) where
-  -- the branch through a face to a variable neighbour, and to a constant-head one
-  pub record IsLink (x : Link) (f : Face) : Type 0 where
-    pub cell : x.cell ≡ index_of m at.period f.end
-    pub conductance : IsCapped (face_term m w.thick w.bed f.axis f.first) s x.lo x.hi
+  abbrev pub whole_constant : Face → Fixed
+  whole_constant x = known_head Constant x.end (face_pair m s x.axis x.first) (constant_bound m at x.end)
 
-  pub record IsConstant (x : Fixed) (f : Face) : Type 0 where
-    pub kind : x.kind ≡ Constant
-    pub source : x.source ≡ f.end
-    pub conductance : IsCapped (face_term m w.thick w.bed f.axis f.first) s x.lo x.hi
-    pub head : IsConstantPair m at f.end x.head_lo x.head_hi
+  -- a branch of cell c to a known head: a constant-head neighbour's at this time, a general head, or the cell's old head over its storage
+  abbrev pub whole_fixed : ℕ → FixedSource → Fixed
+  whole_fixed c (ToConstant x) = whole_constant x
+  whole_fixed c (ToGeneral head k) = known_head General c (cond_pair s k) (head_bound head)
+  whole_fixed c FromStorage = known_head Storage c (storage_pair m s at c) (record { low = lower_at old c; high = upper_at old c })
 
-module _ (m : FlowModel) (w : Thicknesses) (s : ℕ) (at : TimeStep) (old : List Bound) where
-  -- storage of cell c, with the bounds of its old head
-  pub record IsStorage (c : ℕ) (x : Fixed) : Type 0 where
-    pub kind : x.kind ≡ Storage
-    pub source : x.source ≡ c
-    pub conductance : IsCapped (storage_term m w.thick (period_at m at.period) at.step c) s x.lo x.hi
-    pub low : x.head_lo ≡ lower_at old c
-    pub high : x.head_hi ≡ upper_at old c
+  -- the variable cell c
+  abbrev pub whole_cell : ℕ → Entries
+  whole_cell c = record {
+    id = c;
+    flows = map (whole_flow m s c) (flow_sources m at.period c);
+    links = map whole_link (variable_faces m at.period c);
+    fixed = map (whole_fixed c) (fixed_sources m at.period c);
+    rivers = map (whole_river s) (river_sources m at.period c);
+    drains = map (whole_drain s) (drain_sources m at.period c);
+    evaps = map (whole_evap m s c) (evap_sources m at.period c);
+  }
 
-  abbrev pub IsFixed : ℕ → Fixed → FixedSource → Type 0
-  IsFixed c x (ToConstant f) = IsConstant m w s at x f
-  IsFixed c x (ToGeneral head k) = IsGeneral s c x head k
-  IsFixed c x FromStorage = IsStorage c x
+  -- the variable cells below cell n, and all of them, by ascending number
+  abbrev pub whole_below : ℕ → List Entries
+  whole_below n = map whole_cell (variable_below m at.period n)
 
-  -- e is the variable cell c at a time, where `old` are the heads before it
-  pub record IsCellOf (e : Entries) (c : ℕ) : Type 0 where
-    pub id : e.id ≡ c
-    pub flows : AllZip (IsFlow m s c) e.flows (flow_sources m at.period c)
-    pub links : AllZip (IsLink m w s at) e.links (variable_faces m at.period c)
-    pub fixed : AllZip (IsFixed c) e.fixed (fixed_sources m at.period c)
-    pub rivers : AllZip (IsRiver s) e.rivers (river_sources m at.period c)
-    pub drains : AllZip (IsDrain s) e.drains (drain_sources m at.period c)
-    pub evaps : AllZip (IsEvap m s c) e.evaps (evap_sources m at.period c)
+  abbrev pub whole_step : List Entries
+  whole_step = map whole_cell (variable_cells m at.period)

@@ -1,6 +1,6 @@
 -- Bounds of the heads of all cells of the grid, by cell number, in units of 10^-9.
-use Rattle.std.specs.Prelude.{◌≡◌, ℕ, ◌<◌, ◌⊎◌, true, List, All, Contains, length, ◌-◌, ℤ, false, Option, Some, None, take, ◌+◌, pos, ◌≤ℤ◌, ◌≤◌, ◌^◌}
-use Rattle.decimal_input.specs.{Fraction, EnclosesSigned, size, number, IsSignedFloor, IsSignedCeiling}
+use Rattle.std.specs.Prelude.{◌≡◌, ℕ, ◌<◌, ◌⊎◌, true, List, All, Contains, length, ◌-◌, ℤ, false, Option, Some, None, take, ◌+◌, pos, ◌≤ℤ◌, ◌≤◌, ◌^◌, cond, map}
+use Rattle.decimal_input.specs.{Fraction, EnclosesSigned, size, number, IsSignedCeiling}
 use Rattle.step_problem.specs.declared.heads.Bound.{Bound}
 use Rattle.step_problem.specs.declared.entry.Fixed.{Fixed}
 use Rattle.step_problem.specs.Entries.{Entries}
@@ -9,32 +9,40 @@ use Rattle.model_types.specs.declared.model.FlowModel.{FlowModel}
 use Rattle.model_types.specs.{cell_count, is_active, dec_at, period_at, is_constant, given_in, last_given, IsPositive, is_variable, number_one, IsPeriod}
 use Rattle.model_types.specs.declared.entry.Given.{Given}
 use Rattle.model_types.specs.declared.time_steps.TimeStep.{TimeStep}
-use Rattle.conductance_bounds.specs.{IsPart, IsGivenPair, recharge_term, IsCapped, IsCappedFlow, Number, storage_term, IsUsable, IsGrown}
-use Rattle.problem_builder.specs.Widths.{Filled}
+use Rattle.conductance_bounds.specs.{recharge_term, Number, storage_term, IsUsable, factors_of as step_factors, capped, capped_flow, head_pair, part}
+use Rattle.conductance_bounds.specs.{given_pair}
+use Rattle.conductance_bounds.specs.declared.head.HeadPair.{HeadPair}
+use Rattle.conductance_bounds.specs.declared.pair.FlowPair.{FlowPair}
+use Rattle.std.specs.List.{range_with_len}
 use Rattle.decimal_input.specs.declared.dec.Dec.{Dec}
 use Rattle.model_types.specs.declared.period.Period.{Period}
 use Rattle.conductance_bounds.specs.declared.storage.Factors.{Factors}
 use Rattle.conductance_bounds.specs.declared.pair.Pair.{Pair}
 use Rattle.conductance_bounds.specs.declared.part.Part.{Part}
-use Rattle.conductance_bounds.specs.declared.span.Span.{Span}
 use Rattle.step_problem.specs.declared.entry.FixedKind.TheVariants.{Storage}
 
 -- Numbers of the input as whole bounds: conductances in units of 10^-s, flows of 10^-(s+9), heads of 10^-9.
 -- a conductance as its own formula
-abbrev pub IsCond : ℕ → Dec → ℕ → ℕ → Type 0
-IsCond s d lo hi = IsCapped (Number (size d)) s lo hi
+abbrev pub cond_pair : ℕ → Dec → Pair
+cond_pair s d = capped (Number (size d)) s
 
 -- the flow of a well, and recharge of cell c at a rate
-abbrev pub IsWellPair : ℕ → Dec → ℤ → ℤ → Type 0
-IsWellPair s d lo hi = IsCappedFlow (Number (size d)) d.neg (s + 9) lo hi
+abbrev pub well_pair : ℕ → Dec → FlowPair
+well_pair s d = capped_flow (Number (size d)) d.neg (s + 9)
 
-abbrev pub IsRechargePair : FlowModel → ℕ → ℕ → Dec → ℤ → ℤ → Type 0
-IsRechargePair m s c rate lo hi = IsCappedFlow (recharge_term m rate c) rate.neg (s + 9) lo hi
+abbrev pub recharge_pair : FlowModel → ℕ → ℕ → Dec → FlowPair
+recharge_pair m s c rate = capped_flow (recharge_term m rate c) rate.neg (s + 9)
 
 -- the floor and the ceiling of a head
-pub record IsHeadPair (d : Dec) (lo hi : ℤ) : Type 0 where
-  pub floor : IsSignedFloor lo (number d) 9
-  pub ceiling : IsSignedCeiling hi (number d) 9
+abbrev pub bound_of_pair : HeadPair → Bound
+bound_of_pair pair = record { low = pair.lo; high = pair.hi }
+
+abbrev pub head_bound : Dec → Bound
+head_bound d = bound_of_pair (head_pair d)
+
+-- the storage of cell c at a time of a transient period
+abbrev pub storage_pair : FlowModel → ℕ → TimeStep → ℕ → Pair
+storage_pair m s at c = capped (storage_term m (period_at m at.period) at.step c) s
 
 -- An extinction depth whose bounds are whole numbers of 64 bits.
 -- above 0, and at most 8000000000 length units in whole units of 10^-9
@@ -62,43 +70,50 @@ HeadsEnclose m bounds heads = (c : ℕ) → IsActive m c → EnclosesSigned (low
 abbrev pub IsNamed : List Entries → ℕ → Type 0
 IsNamed p c = (k : ℕ) × (k < length p) × ((c ≡ (entries_at p k).id) ⊎ ((x : Fixed) × Contains (entries_at p k).fixed x × (c ≡ x.source)))
 
--- The head of a constant-head cell at a time, as a whole pair in units of 10^-9.
+-- The head of a constant-head cell at a time, as whole bounds in units of 10^-9.
 -- the head that a constant cell keeps: the Ehead of the last list that named it, or STRT
-abbrev pub IsKeptPair : FlowModel → ℕ → Option Given → ℤ → ℤ → Type 0
-IsKeptPair m c None lo hi = IsHeadPair (dec_at m.strt c) lo hi
-IsKeptPair m c (Some x) lo hi = IsHeadPair x.ehead lo hi
+abbrev pub kept_bound : FlowModel → ℕ → Option Given → Bound
+kept_bound m c None = head_bound (dec_at m.strt c)
+kept_bound m c (Some x) = head_bound x.ehead
 
 -- where the period's list names the cell, between Shead and Ehead by the part of the period that has passed; else the head that the cell keeps
-abbrev pub IsGivenOrKept : FlowModel → TimeStep → ℕ → Option Given → ℤ → ℤ → Type 0
-IsGivenOrKept m at c None lo hi = IsKeptPair m c (last_given (take (at.period - 1) m.periods) c) lo hi
-IsGivenOrKept m at c (Some x) lo hi = (f : ℕ) × (g : ℕ) × IsPart (period_at m at.period) at.step f g × IsGivenPair x.shead x.ehead f g lo hi
+abbrev pub given_or_kept : FlowModel → TimeStep → ℕ → Option Given → Bound
+given_or_kept m at c None = kept_bound m c (last_given (take (at.period - 1) m.periods) c)
+given_or_kept m at c (Some x) = bound_of_pair (given_pair x.shead x.ehead (part (period_at m at.period) at.step))
 
-unfoldable pub IsConstantPair : FlowModel → TimeStep → ℕ → ℤ → ℤ → Type 0
-IsConstantPair m at c lo hi = IsGivenOrKept m at c (given_in (period_at m at.period).stresses.given c) lo hi
+unfoldable pub constant_bound : FlowModel → TimeStep → ℕ → Bound
+constant_bound m at c = given_or_kept m at c (given_in (period_at m at.period).stresses.given c)
 
--- the pair of cell c's head if that is constant, zeros in any other cell
-pub record HasConstantHead (m : FlowModel) (at : TimeStep) (c : ℕ) (x : Bound) : Type 0 where
-  pub constant : is_constant m at.period c ≡ true → IsConstantPair m at c x.low x.high
-  pub other : is_constant m at.period c ≡ false → x ≡ no_bound
+abbrev pub IsConstantPair : FlowModel → TimeStep → ℕ → ℤ → ℤ → Type 0
+IsConstantPair m at c lo hi = (lo ≡ (constant_bound m at c).low) × (hi ≡ (constant_bound m at c).high)
 
--- for each cell of the grid
+-- a list with an item for each cell of the grid
+abbrev pub each_cell : {X : Type 0} → FlowModel → (ℕ → X) → List X
+each_cell m f = map f (range_with_len 0 (cell_count m.grid))
+
+-- for each cell the bound of its head if that is constant, zeros in any other cell
+abbrev pub known_bound : FlowModel → TimeStep → ℕ → Bound
+known_bound m at c = cond (is_constant m at.period c) (constant_bound m at c) no_bound
+
 abbrev pub AreConstantHeads : FlowModel → TimeStep → List Bound → Type 0
-AreConstantHeads m at heads = Filled (HasConstantHead m at) no_bound (cell_count m.grid) heads
+AreConstantHeads m at heads = heads ≡ each_cell m (known_bound m at)
+
+-- the head that each active cell keeps after p periods, if it is a constant-head cell; zeros where there is no flow
+abbrev pub kept_after : FlowModel → ℕ → ℕ → Bound
+kept_after m p c = cond (is_active m c) (kept_bound m c (last_given (take p m.periods) c)) no_bound
 
 -- The bounds of STRT: floor and ceiling in units of 10^-9, zeros where there is no flow.
-pub record IsStart (m : FlowModel) (c : ℕ) (b : Bound) : Type 0 where
-  pub active : is_active m c ≡ true → IsHeadPair (dec_at m.strt c) b.low b.high
-  pub no_flow : is_active m c ≡ false → b ≡ no_bound
+abbrev pub start_bound : FlowModel → ℕ → Bound
+start_bound m c = cond (is_active m c) (head_bound (dec_at m.strt c)) no_bound
 
--- for each cell of the grid
 abbrev pub AreStartHeads : FlowModel → List Bound → Type 0
-AreStartHeads m bounds = Filled (IsStart m) no_bound (cell_count m.grid) bounds
+AreStartHeads m bounds = bounds ≡ each_cell m (start_bound m)
 
 -- The contents of the tables of a time step, cell by cell.
 -- the factors of a step of a transient period
 pub record AreStepFactors (m : FlowModel) (at : TimeStep) (f : Factors) : Type 0 where
   pub transient : (period_at m at.period).steady ≡ false
-  pub grown : IsGrown (size (period_at m at.period).tsmult) (period_at m at.period).nstp at.step f
+  pub grown : f ≡ step_factors (size (period_at m at.period).tsmult) (period_at m at.period).nstp at.step
   pub usable : IsUsable f
 
 -- the factors, or None in a steady period
@@ -107,10 +122,8 @@ AreFactorsOf m at None = (period_at m at.period).steady ≡ true
 AreFactorsOf m at (Some f) = AreStepFactors m at f
 
 -- the bounds of a variable cell's storage in a transient period
-abbrev pub HasStorage : FlowModel → (ℕ → Span) → ℕ → TimeStep → ℕ → Pair → Type 0
-HasStorage m thick s at c x =
-    is_variable m at.period c ≡ true → (period_at m at.period).steady ≡ false →
-    IsCapped (storage_term m thick (period_at m at.period) at.step c) s x.lo x.hi
+abbrev pub HasStorage : FlowModel → ℕ → TimeStep → ℕ → Pair → Type 0
+HasStorage m s at c x = is_variable m at.period c ≡ true → (period_at m at.period).steady ≡ false → x ≡ storage_pair m s at c
 
 -- a transient period whose steps are equally long (TM 6-A16, chapter 4, DIS)
 pub record HasEvenSteps (p : Period) : Type 0 where
@@ -123,13 +136,13 @@ AreEvenFactors m p None = HasEvenSteps (period_at m p) → ⊥
 AreEvenFactors m p (Some f) = (n : ℕ) → AreStepFactors m (record { period = p; step = n }) f
 
 -- the bounds of a variable cell's storage in every step
-abbrev pub HasEvenStorage : FlowModel → (ℕ → Span) → ℕ → ℕ → ℕ → Pair → Type 0
-HasEvenStorage m thick s p c x = (n : ℕ) → HasStorage m thick s (record { period = p; step = n }) c x
+abbrev pub HasEvenStorage : FlowModel → ℕ → ℕ → ℕ → Pair → Type 0
+HasEvenStorage m s p c x = (n : ℕ) → HasStorage m s (record { period = p; step = n }) c x
 
 -- the part of the period that has passed at a time
-pub record IsPartOf (m : FlowModel) (at : TimeStep) (part : Part) : Type 0 where
-  pub is : IsPart (period_at m at.period) at.step part.lo part.hi
-  pub range : (part.lo ≤ 10 ^ 18) × (part.hi ≤ 10 ^ 18)
+pub record IsPartOf (m : FlowModel) (at : TimeStep) (x : Part) : Type 0 where
+  pub is : x ≡ part (period_at m at.period) at.step
+  pub range : (x.lo ≤ 10 ^ 18) × (x.hi ≤ 10 ^ 18)
 
 -- Storage of the cells of a problem.
 -- each variable cell has a branch to its old head

@@ -1,25 +1,19 @@
 -- The bounds of a cell's entries of WEL, RIV, DRN and GHB.
-use Rattle.std.specs.Prelude.{ℕ, ◌<◌, List, [], ◌++◌, Option, Some, None, slice_index_or}
+use Rattle.std.specs.Prelude.{◌≡◌, ℕ, ◌<◌, List, [], ◌++◌, Option, Some, None, slice_index_or}
 use Rattle.std.specs.Global.{Box}
-use Rattle.std.specs.List.{AllZip, filter_map}
+use Rattle.std.specs.List.{filter_map}
+use Rattle.std.specs.Option.{option_map}
 use Rattle.step_problem.specs.declared.entry.Flow.{Flow}
+use Rattle.step_problem.specs.declared.entry.FlowKind.TheVariants.{Wells}
 use Rattle.step_problem.specs.declared.entry.Fixed.{Fixed}
+use Rattle.step_problem.specs.declared.entry.FixedKind.TheVariants.{General}
 use Rattle.step_problem.specs.declared.entry.River.{River}
 use Rattle.step_problem.specs.declared.entry.Drain.{Drain}
 use Rattle.model_types.specs.declared.entry.Entry.{Entry}
-use Rattle.model_types.specs.{FixedSource, FlowSource, cell_of, entries_of, as_well, as_river, as_drain, as_general, ToConstant, ToGeneral, FromStorage, Pumped}
-use Rattle.model_types.specs.{Received, IsEntryValid}
-use Rattle.problem_builder.specs.Cells.{IsWell, IsRiver, IsDrain, IsGeneral}
-
--- a well or a general head as a source
-abbrev pub IsWellSource : ℕ → Flow → FlowSource → Type 0
-IsWellSource s x (Pumped q) = IsWell s x q
-IsWellSource s x (Received rate) = ⊥
-
-abbrev pub IsGeneralSource : ℕ → ℕ → Fixed → FixedSource → Type 0
-IsGeneralSource s c x (ToGeneral head k) = IsGeneral s c x head k
-IsGeneralSource s c x (ToConstant f) = ⊥
-IsGeneralSource s c x FromStorage = ⊥
+use Rattle.model_types.specs.declared.entry.Entry.TheVariants.{Well, River as RiverEntry, Drain as DrainEntry, General as GeneralEntry}
+use Rattle.model_types.specs.{cell_of, entries_of, as_river, as_drain, IsEntryValid}
+use Rattle.problem_builder.specs.Cells.{flow_of_pair, known_head, whole_river, whole_drain}
+use Rattle.problem_builder.specs.GridHeads.{well_pair, cond_pair, head_bound}
 
 -- by kind, in the order of the lists
 pub record LocalBounds : Type 0 where
@@ -39,12 +33,30 @@ kept_bounds (Some b) = b.value
 abbrev pub local_in : List LocalBounds → ℕ → LocalBounds
 local_in xs c = slice_index_or xs c no_bounds
 
--- x has the bounds of these entries of cell c
-pub record AreLocalBounds (s c : ℕ) (x : LocalBounds) (entries : List Entry) : Type 0 where
-  pub wells : AllZip (IsWellSource s) x.wells (filter_map as_well entries)
-  pub rivers : AllZip (IsRiver s) x.rivers (filter_map as_river entries)
-  pub drains : AllZip (IsDrain s) x.drains (filter_map as_drain entries)
-  pub generals : AllZip (IsGeneralSource s c) x.generals (filter_map as_general entries)
+-- what an entry of cell c gives each kind
+abbrev pub well_of : ℕ → Entry → Option Flow
+well_of s (Well cell q) = Some (flow_of_pair Wells (well_pair s q))
+well_of s (RiverEntry cell stage k bottom) = None
+well_of s (DrainEntry cell elevation k) = None
+well_of s (GeneralEntry cell head k) = None
+
+abbrev pub general_of : ℕ → ℕ → Entry → Option Fixed
+general_of s c (Well cell q) = None
+general_of s c (RiverEntry cell stage k bottom) = None
+general_of s c (DrainEntry cell elevation k) = None
+general_of s c (GeneralEntry cell head k) = Some (known_head General c (cond_pair s k) (head_bound head))
+
+-- the bounds of these entries of cell c
+abbrev pub local_bounds : ℕ → ℕ → List Entry → LocalBounds
+local_bounds s c entries = record {
+  wells = filter_map (well_of s) entries;
+  rivers = filter_map (λ x. option_map (whole_river s) (as_river x)) entries;
+  drains = filter_map (λ x. option_map (whole_drain s) (as_drain x)) entries;
+  generals = filter_map (general_of s c) entries;
+}
+
+abbrev pub AreLocalBounds : ℕ → ℕ → LocalBounds → List Entry → Type 0
+AreLocalBounds s c x entries = x ≡ local_bounds s c entries
 
 -- each cell has the bounds of those of these entries that are its own, after those that it had
 abbrev pub AreAppended : ℕ → List LocalBounds → List LocalBounds → List Entry → Type 0

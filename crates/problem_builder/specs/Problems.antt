@@ -1,6 +1,8 @@
 -- The problem of a time step, and the refusal of a step that has none.
-use Rattle.std.specs.Prelude.{◌≡◌, ℕ, ◌<◌, true, List, All, Some, None, ◌^◌, ◌&&◌, ◌||◌, ◌==◌, nat_le, Bool, false, cond, map, Option, IfSome}
-use Rattle.std.specs.List.{AllZip, list_any}
+use Rattle.std.specs.Prelude.{◌≡◌, ℕ, ◌<◌, true, List, [], ◌∷◌, Result, Ok, Err, Some, None, ◌^◌, ◌&&◌, ◌||◌, ◌==◌, nat_le, Bool, false, cond, map, Option}
+use Rattle.std.specs.Prelude.{IfSome}
+use Rattle.std.specs.List.{list_any, filter_map}
+use Rattle.std.specs.Option.{option_map}
 use Rattle.step_problem.specs.declared.heads.Bound.{Bound}
 use Rattle.step_problem.specs.declared.heads.Side.TheVariants.{Low}
 use Rattle.step_problem.specs.declared.place.NoBound.{NoBound}
@@ -8,22 +10,21 @@ use Rattle.step_problem.specs.declared.place.Place.TheVariants.{Cell}
 use Rattle.step_problem.specs.Entries.{Entries}
 use Rattle.model_types.specs.declared.model.FlowModel.{FlowModel}
 use Rattle.model_types.specs.declared.time_steps.TimeStep.{TimeStep}
-use Rattle.model_types.specs.{cell_count, is_variable, variable_below, variable_cells, period_at, is_active}
+use Rattle.model_types.specs.{cell_count, is_variable, variable_cells, period_at, is_active}
 use Rattle.decimal_input.specs.{Fraction}
 use Rattle.cell_balance.specs.{EnclosesStep}
 use Rattle.flow_equations.specs.{exact_step}
 use Rattle.problem_builder.specs.declared.fault.BuildFault.{BuildFault}
 use Rattle.problem_builder.specs.declared.fault.BuildFault.TheVariants.{NoBound as Refused, Memory}
-use Rattle.problem_builder.specs.Widths.{Thicknesses, AreThicknesses}
-use Rattle.problem_builder.specs.Cells.{IsCellOf}
+use Rattle.problem_builder.specs.Widths.{face_pair}
+use Rattle.problem_builder.specs.Cells.{whole_cell, whole_below, whole_step}
 use Rattle.problem_builder.specs.GridHeads.{HeadsEnclose, IsActive, IsNamed, HasOldHeads}
 use Rattle.step_problem.specs.declared.entry.FixedKind.{FixedKind}
 use Rattle.step_problem.specs.declared.entry.FixedKind.TheVariants.{Constant, General, Storage}
 use Rattle.step_problem.specs.declared.refusal.StepRefusal.TheVariants.{ConductanceTooSmall, ConductanceTooLarge, FlowTooLarge}
 use Rattle.step_problem.specs.{number_of, conductance_of, flow_of}
 use Rattle.model_types.specs.declared.face.Face.{Face}
-use Rattle.conductance_bounds.specs.{IsCapped, face_term}
-use Rattle.problem_builder.specs.Tables.{Inputs, widths_of, pair_at}
+use Rattle.problem_builder.specs.Tables.{Inputs, pair_at}
 
 -- The refusals of a cell, in their order.
 -- a branch to a constant-head neighbour
@@ -43,25 +44,26 @@ fault_of e =
     (cond (nat_le (2 ^ 60) (conductance_of e)) (Some (number_of ConductanceTooLarge))
     (cond (nat_le (2 ^ 109) (flow_of e)) (Some (number_of FlowTooLarge)) None))
 
-module _ (m : FlowModel) (w : Thicknesses) (s : ℕ) (at : TimeStep) (old : List Bound) where
-  -- the variable cells below cell n, none of which has a refusal
-  pub record AreCells (n : ℕ) (es : List Entries) : Type 0 where
-    pub each : AllZip (IsCellOf m w s at old) es (variable_below m at.period n)
-    pub sound : All (λ e. fault_of e ≡ None) es
+-- the refusal of a cell
+abbrev pub refusal_of : Entries → Option NoBound
+refusal_of e = option_map (λ code. record { code = code; place = Cell e.id Low }) (fault_of e)
 
-  -- the refusal of cell c
-  pub record IsRefused (c : ℕ) (fault : NoBound) : Type 0 where
-    pub entries : Entries
-    pub is_cell : IsCellOf m w s at old entries c
-    pub is_fault : fault_of entries ≡ Some fault.code
-    pub place : fault.place ≡ Cell c Low
+-- the first of the refusals, or all cells
+abbrev pub unless_refused : List NoBound → List Entries → Result (List Entries) NoBound
+unless_refused [] es = Ok es
+unless_refused (n ∷ ns) es = Err n
 
 module _ (m : FlowModel) (s : ℕ) (at : TimeStep) (old : List Bound) where
-  -- p is the problem of a model's time step with s digits, from the heads `old` before it: all variable cells, by ascending number.
-  pub record IsProblemOf (p : List Entries) : Type 0 where
-    pub widths : Thicknesses
-    pub thicknesses : AreThicknesses m widths
-    pub cells : AreCells m widths s at old (cell_count m.grid) p
+  -- The problem of a model's time step with s digits, from the heads `old` before it: all variable cells, by ascending number;
+  -- or the refusal of the first cell that has one.
+  unfoldable pub problem_of : Result (List Entries) NoBound
+  problem_of = unless_refused (filter_map refusal_of (whole_step m s at old)) (whole_step m s at old)
+
+  abbrev pub IsProblemOf : List Entries → Type 0
+  IsProblemOf p = problem_of ≡ Ok p
+
+  abbrev pub HasNoProblem : NoBound → Type 0
+  HasNoProblem fault = problem_of ≡ Err fault
 
   -- It has the variable cells, names active cells alone, encloses the exact step from all exact heads within the old ones,
   -- and in a transient period has their branches.
@@ -72,21 +74,15 @@ module _ (m : FlowModel) (s : ℕ) (at : TimeStep) (old : List Bound) where
     pub encloses : (before : ℕ → Fraction) → HeadsEnclose m old before → EnclosesStep s p (exact_step m at.period at.step before)
     pub stored : (period_at m at.period).steady ≡ false → HasOldHeads p
 
-  -- The step has none: the least variable cell that has a refusal has this one.
-  pub record HasNoProblem (fault : NoBound) : Type 0 where
-    pub widths : Thicknesses
-    pub thicknesses : AreThicknesses m widths
-    pub cell : ℕ
-    pub within : cell < cell_count m.grid
-    pub variable : is_variable m at.period cell ≡ true
-    pub before : List Entries
-    pub cells_before : AreCells m widths s at old cell before
-    pub refused : IsRefused m widths s at old cell fault
-
   -- lack of memory is possible at any time
   abbrev pub IsBuildFault : BuildFault → Type 0
   IsBuildFault (Refused fault) = HasNoProblem fault
   IsBuildFault Memory = Unit {0}
+
+  -- the variable cells below cell n, none of which has a refusal
+  pub record AreCells (n : ℕ) (es : List Entries) : Type 0 where
+    pub each : es ≡ whole_below m s at old n
+    pub sound : filter_map refusal_of es ≡ []
 
 -- Facts that the functions of the builder pass to each other on the way to a cell.
 -- a cell of the grid that is variable
@@ -98,27 +94,13 @@ pub record IsVariableCell (i : Inputs) (c : ℕ) : Type 0 where
 abbrev pub HasPair : Inputs → Option Face → Type 0
 HasPair i x =
     IfSome x (λ f. (f.first < cell_count i.model.grid) × (f.end < cell_count i.model.grid)
-    × (is_active i.model f.end ≡ true →
-    IsCapped (face_term i.model (widths_of i.tables).thick (widths_of i.tables).bed f.axis f.first) i.tables.digits
-    (pair_at i.tables f.axis f.first).lo (pair_at i.tables f.axis f.first).hi))
+    × (is_active i.model f.end ≡ true → pair_at i.tables f.axis f.first ≡ face_pair i.model i.tables.digits f.axis f.first))
 
 -- a cell without a refusal, and the refusal of a cell
 pub record IsCheckedCell (i : Inputs) (c : ℕ) (e : Entries) : Type 0 where
-  pub is : IsCellOf i.model (widths_of i.tables) i.tables.digits i.at i.old e c
-  pub sound : fault_of e ≡ None
+  pub is : e ≡ whole_cell i.model i.tables.digits i.at i.old c
+  pub sound : refusal_of e ≡ None
 
-abbrev pub IsCellFault : Inputs → ℕ → BuildFault → Type 0
-IsCellFault i c Memory = Unit {0}
-IsCellFault i c (Refused fault) = IsRefused i.model (widths_of i.tables) i.tables.digits i.at i.old c fault
-
--- the refusal of the least variable cell that has one
-pub record IsLeastFault (i : Inputs) (fault : NoBound) : Type 0 where
-  pub cell : ℕ
-  pub is_cell : IsVariableCell i cell
-  pub before : List Entries
-  pub cells_before : AreCells i.model (widths_of i.tables) i.tables.digits i.at i.old cell before
-  pub refused : IsRefused i.model (widths_of i.tables) i.tables.digits i.at i.old cell fault
-
-abbrev pub IsFirstFault : Inputs → BuildFault → Type 0
-IsFirstFault i Memory = Unit {0}
-IsFirstFault i (Refused fault) = IsLeastFault i fault
+abbrev pub IsCellFault : Entries → BuildFault → Type 0
+IsCellFault e Memory = Unit {0}
+IsCellFault e (Refused fault) = refusal_of e ≡ Some fault

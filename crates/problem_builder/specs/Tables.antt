@@ -1,5 +1,5 @@
 -- The contents of the builder's tables.
-use Rattle.std.specs.Prelude.{◌≡◌, ℕ, ◌≤◌, pos, List, length, slice_index_or, Option, Some, None, ◌-◌, true, false, take}
+use Rattle.std.specs.Prelude.{◌≡◌, ℕ, ◌≤◌, pos, List, length, slice_index_or, Option, Some, None, ◌-◌, true}
 use Rattle.step_problem.specs.declared.heads.Bound.{Bound}
 use Rattle.step_problem.specs.{no_bound}
 use Rattle.scaled_decimal.specs.declared.decimal.Sd.{Sd}
@@ -8,20 +8,21 @@ use Rattle.model_types.specs.declared.face.Axis.TheVariants.{Row, Column, Vertic
 use Rattle.model_types.specs.declared.given_heads.Kind.TheVariants.{NoFlow}
 use Rattle.model_types.specs.declared.model.FlowModel.{FlowModel}
 use Rattle.model_types.specs.declared.time_steps.TimeStep.{TimeStep}
-use Rattle.model_types.specs.{cell_count, HasSize, period_at, local_entries, IsModel, kind_of, index_of, given_in, last_given, is_active, recharge_at, evap_at}
+use Rattle.model_types.specs.{cell_count, HasSize, period_at, local_entries, IsModel, kind_of, index_of, given_in, is_active, recharge_at, evap_at}
 use Rattle.conductance_bounds.specs.declared.span.Span.{Span}
 use Rattle.conductance_bounds.specs.declared.pair.Pair.{Pair}
 use Rattle.problem_builder.specs.declared.tables.Tables.{Tables}
 use Rattle.problem_builder.specs.declared.index.PeriodTables.{PeriodTables}
 use Rattle.problem_builder.specs.declared.step.StepTables.{StepTables}
-use Rattle.problem_builder.specs.Widths.{Thicknesses, AreThicknesses, IsThickness, IsBedBelow, HasConductance, Filled, BothOrNone}
-use Rattle.problem_builder.specs.GridHeads.{AreConstantHeads, AreGridHeads, IsTimeOf, AreFactorsOf, HasEvenSteps, HasEvenStorage, IsKeptPair, IsRechargePair}
+use Rattle.std.specs.Option.{option_map}
+use Rattle.problem_builder.specs.Widths.{IsThickness, IsBedBelow, HasConductance, Filled}
+use Rattle.problem_builder.specs.GridHeads.{AreConstantHeads, AreGridHeads, IsTimeOf, AreFactorsOf, HasEvenSteps, HasEvenStorage, kept_after, recharge_pair}
 use Rattle.problem_builder.specs.LocalBounds.{AreLocalBounds, local_in}
 use Rattle.step_problem.specs.declared.entry.Evap.{Evap}
 use Rattle.conductance_bounds.specs.declared.pair.FlowPair.{FlowPair}
 use Rattle.model_types.specs.declared.entry.Given.{Given}
 use Rattle.model_types.specs.declared.given_heads.Kind.{Kind}
-use Rattle.problem_builder.specs.Cells.{IsEvap}
+use Rattle.problem_builder.specs.Cells.{whole_evap}
 
 -- The contents of the tables of a stress period, cell by cell.
 abbrev pub IsKind : FlowModel → ℕ → ℕ → Kind → Type 0
@@ -33,18 +34,17 @@ IsIndex m p c i = i ≡ index_of m p c
 abbrev pub IsNamed : List Given → ℕ → Option Given → Type 0
 IsNamed list c x = x ≡ given_in list c
 
--- the head that a constant-head cell keeps after p periods, zeros where there is no flow
-pub record IsKept (m : FlowModel) (p c : ℕ) (b : Bound) : Type 0 where
-  pub active : is_active m c ≡ true → IsKeptPair m c (last_given (take p m.periods) c) b.low b.high
-  pub no_flow : is_active m c ≡ false → b ≡ no_bound
+-- the head that a constant-head cell keeps after p periods
+abbrev pub IsKept : FlowModel → ℕ → ℕ → Bound → Type 0
+IsKept m p c b = b ≡ kept_after m p c
 
 -- the recharge that a cell receives
 abbrev pub IsRecharged : FlowModel → ℕ → ℕ → ℕ → Option FlowPair → Type 0
-IsRecharged m s p c x = BothOrNone (λ pair rate. IsRechargePair m s c rate pair.lo pair.hi) x (recharge_at m p c)
+IsRecharged m s p c x = x ≡ option_map (recharge_pair m s c) (recharge_at m p c)
 
 -- the evapotranspiration of an active cell
 abbrev pub IsEvaporated : FlowModel → ℕ → ℕ → ℕ → Option Evap → Type 0
-IsEvaporated m s p c x = is_active m c ≡ true → BothOrNone (IsEvap m s c) x (evap_at m p c)
+IsEvaporated m s p c x = is_active m c ≡ true → x ≡ option_map (whole_evap m s c) (evap_at m p c)
 
 abbrev pub no_pair : Pair
 no_pair = record { lo = 0; hi = 0 }
@@ -75,17 +75,13 @@ pair_at t Row c = pair_in t.row c
 pair_at t Column c = pair_in t.column c
 pair_at t Vertical c = pair_in t.vertical c
 
-abbrev pub widths_of : Tables → Thicknesses
-widths_of t = record { thick = span_in t.thick; bed = span_in t.bed }
-
 pub record AreTables (m : FlowModel) (s : ℕ) (t : Tables) : Type 0 where
   pub digits : t.digits ≡ s
   pub thick : Filled (IsThickness m) no_span (cell_count m.grid) t.thick
   pub bed : Filled (IsBedBelow m) no_span (cell_count m.grid) t.bed
-  pub row : Filled (HasConductance m (span_in t.thick) (span_in t.bed) s Row) no_pair (cell_count m.grid) t.row
-  pub column : Filled (HasConductance m (span_in t.thick) (span_in t.bed) s Column) no_pair (cell_count m.grid) t.column
-  pub vertical : Filled (HasConductance m (span_in t.thick) (span_in t.bed) s Vertical) no_pair (cell_count m.grid) t.vertical
-  pub thicknesses : AreThicknesses m (widths_of t)
+  pub row : Filled (HasConductance m s Row) no_pair (cell_count m.grid) t.row
+  pub column : Filled (HasConductance m s Column) no_pair (cell_count m.grid) t.column
+  pub vertical : Filled (HasConductance m s Vertical) no_pair (cell_count m.grid) t.vertical
 
 -- The tables of a stress period: kinds and indices, given and kept heads, the bounds of the entries of each cell, of its recharge and of its evapotranspiration.
 
@@ -101,11 +97,11 @@ pub record ArePeriodTables (m : FlowModel) (s p : ℕ) (t : PeriodTables) : Type
   pub recharge : Filled (IsRecharged m s p) None (cell_count m.grid) t.recharge
   pub evaps : Filled (IsEvaporated m s p) None (cell_count m.grid) t.evaps
 
--- A stress period's table of storage, for these thicknesses: the same in every step. None, where steps aren't equally long.
+-- A stress period's table of storage: the same in every step. None, where steps aren't equally long.
 
-abbrev pub AreEvenStorages : FlowModel → (ℕ → Span) → ℕ → ℕ → Option (List Pair) → Type 0
-AreEvenStorages m thick s p None = HasEvenSteps (period_at m p) → ⊥
-AreEvenStorages m thick s p (Some xs) = Filled (HasEvenStorage m thick s p) no_pair (cell_count m.grid) xs
+abbrev pub AreEvenStorages : FlowModel → ℕ → ℕ → Option (List Pair) → Type 0
+AreEvenStorages m s p None = HasEvenSteps (period_at m p) → ⊥
+AreEvenStorages m s p (Some xs) = Filled (HasEvenStorage m s p) no_pair (cell_count m.grid) xs
 
 -- The tables of a time step: the factors of its length, and the heads of constant cells.
 
@@ -129,6 +125,6 @@ pub record AreInputs (i : Inputs) : Type 0 where
   pub digits : i.tables.digits ≤ 18
   pub tables : AreTables i.model i.tables.digits i.tables
   pub period : ArePeriodTables i.model i.tables.digits i.at.period i.period
-  pub storage : AreEvenStorages i.model (span_in i.tables.thick) i.tables.digits i.at.period i.period.storage
+  pub storage : AreEvenStorages i.model i.tables.digits i.at.period i.period.storage
   pub step : AreStepTables i.model i.at i.step
   pub old : AreGridHeads i.model i.old

@@ -2,18 +2,23 @@
 use Rattle.std.specs.Prelude.{◌≡◌, ℕ, ◌+◌, ◌<◌, ◌⊎◌, true, List, Option, None, Some, length, slice_index_or}
 use Rattle.model_types.specs.declared.model.FlowModel.{FlowModel}
 use Rattle.model_types.specs.declared.face.Axis.{Axis}
-use Rattle.model_types.specs.{stride, has_after, cell_count, layer_size, is_active, top_at, bottom_at, lowest, bed_thickness, delr_at, delc_at, hk_at, hani_at}
-use Rattle.model_types.specs.{vka_at, vkcb_at, is_ratio, IsPositive}
+use Rattle.model_types.specs.{stride, has_after, cell_count, layer_size, is_active, bed_thickness, delr_at, delc_at, hk_at, hani_at, vka_at, vkcb_at, is_ratio}
+use Rattle.model_types.specs.{IsPositive}
 use Rattle.conductance_bounds.specs.declared.pair.Pair.{Pair}
 use Rattle.conductance_bounds.specs.declared.horizontal.Half.{Half}
 use Rattle.conductance_bounds.specs.declared.horizontal.ColHalf.{ColHalf}
 use Rattle.conductance_bounds.specs.declared.vertical.VertHalf.{VertHalf}
-use Rattle.conductance_bounds.specs.{IsCapped, face_term, IsZero, IsSpan, AreThick, AreSpanned}
+use Rattle.conductance_bounds.specs.{face_term, bed_span, capped, IsZero, AreThick}
+use Rattle.conductance_bounds.specs.Formulas.{thick_span}
 use Rattle.conductance_bounds.specs.declared.span.Span.{Span}
+
+-- the whole bounds of the conductance from a cell to the next one along an axis
+abbrev pub face_pair : FlowModel → ℕ → Axis → ℕ → Pair
+face_pair m s axis a = capped (face_term m axis a) s
 
 -- the decimals of an active cell's thickness
 pub record IsThicknessOf (m : FlowModel) (c : ℕ) (t : Span) : Type 0 where
-  pub span : IsSpan (top_at m c) (bottom_at m c) t
+  pub span : t ≡ thick_span m c
   pub thick : AreThick t.lo t.hi
 
 abbrev pub IsThickness : FlowModel → ℕ → Span → Type 0
@@ -22,7 +27,7 @@ IsThickness m c t = is_active m c ≡ true → IsThicknessOf m c t
 -- the decimals of the bed below a cell
 pub record IsBedOf (m : FlowModel) (c : ℕ) (t : Span) : Type 0 where
   pub some : 0 < (bed_thickness m c).num
-  pub span : IsSpan (bottom_at m c) (lowest m c) t
+  pub span : t ≡ bed_span m c
   pub thick : AreThick t.lo t.hi
   pub vkcb : IsPositive (vkcb_at m c)
 
@@ -43,30 +48,19 @@ pub record IsBranch (m : FlowModel) (axis : Axis) (a : ℕ) : Type 0 where
   pub second : is_active m (a + stride m.grid axis) ≡ true
 
 -- the bounds of the conductance to the next cell along an axis
-abbrev pub HasConductance : FlowModel → (ℕ → Span) → (ℕ → Span) → ℕ → Axis → ℕ → Pair → Type 0
-HasConductance m thick bed s axis a x =
-    has_after m.grid axis a ≡ true → is_active m a ≡ true → is_active m (a + stride m.grid axis) ≡ true →
-    IsCapped (face_term m thick bed axis a) s x.lo x.hi
+abbrev pub HasConductance : FlowModel → ℕ → Axis → ℕ → Pair → Type 0
+HasConductance m s axis a x =
+    has_after m.grid axis a ≡ true → is_active m a ≡ true → is_active m (a + stride m.grid axis) ≡ true → x ≡ face_pair m s axis a
 
 -- a cell's half of a branch along each axis
-abbrev pub row_half : FlowModel → (ℕ → Span) → ℕ → Half
-row_half m thick c = record { along = delr_at m c; hk = hk_at m c; thick_lo = (thick c).lo; thick_hi = (thick c).hi }
+abbrev pub row_half : FlowModel → ℕ → Half
+row_half m c = record { along = delr_at m c; hk = hk_at m c; thick_lo = (thick_span m c).lo; thick_hi = (thick_span m c).hi }
 
-abbrev pub column_half : FlowModel → (ℕ → Span) → ℕ → ColHalf
-column_half m thick c = record { along = delc_at m c; hk = hk_at m c; hani = hani_at m c; thick_lo = (thick c).lo; thick_hi = (thick c).hi }
+abbrev pub column_half : FlowModel → ℕ → ColHalf
+column_half m c = record { along = delc_at m c; hk = hk_at m c; hani = hani_at m c; thick_lo = (thick_span m c).lo; thick_hi = (thick_span m c).hi }
 
-abbrev pub layer_half : FlowModel → (ℕ → Span) → ℕ → VertHalf
-layer_half m thick c = record { hk = hk_at m c; vka = vka_at m c; ratio = is_ratio m c; thick_lo = (thick c).lo; thick_hi = (thick c).hi }
-
--- Thicknesses of cells and of confining beds, each known between two decimals of 18 digits.
--- for each cell its thickness, and that of the bed below it
-pub record Thicknesses : Type 0 where
-  pub thick : ℕ → Span
-  pub bed : ℕ → Span
-
--- the thicknesses of a model's active cells, and of the beds between two of them
-abbrev pub AreThicknesses : FlowModel → Thicknesses → Type 0
-AreThicknesses m w = AreSpanned m w.thick w.bed
+abbrev pub layer_half : FlowModel → ℕ → VertHalf
+layer_half m c = record { hk = hk_at m c; vka = vka_at m c; ratio = is_ratio m c; thick_lo = (thick_span m c).lo; thick_hi = (thick_span m c).hi }
 
 -- Tables that are filled cell by cell, and optional items.
 -- an item for each cell below n, for which P holds

@@ -1,9 +1,8 @@
 // The branches of a cell to its neighbours.
-ghost use Rattle.std.specs.Prelude.{◌≡◌, ◌<◌, IfOk, ◌++◌};
-ghost use Rattle.std.specs.List.{AllZip};
+ghost use Rattle.std.specs.Prelude.{◌≡◌, ◌<◌, IfOk, ◌++◌, map};
 ghost use Rattle.model_types.specs.{cell_count, through, is_variable, is_constant, variable_faces, constant_faces};
-ghost use Rattle.problem_builder.specs.{IsLink, IsConstant, IsVariableCell, HasPair, AreInputs, pair_at, widths_of, BothOrNone};
-ghost use Rattle.std.specs.Option.{option_to_list};
+ghost use Rattle.problem_builder.specs.{whole_link, whole_constant, IsVariableCell, HasPair, AreInputs, pair_at};
+ghost use Rattle.std.specs.Option.{option_map, option_to_list};
 
 use crate::input::StepInput;
 use conductance_bounds::{FlowPair, Pair};
@@ -29,8 +28,8 @@ fn face_pair(input: &StepInput, face: Face) -> Pair
 fn link_through(input: &StepInput, face: Option<Face>) -> Option<Link>
     requires input { AreInputs input.now }
     requires face { HasPair input.now face }
-    ensures { BothOrNone (IsLink input.now.model (widths_of input.now.tables) input.now.tables.digits input.now.at)
-        result (through (is_variable input.now.model input.now.at.period) face) }
+    ensures { result ≡ option_map (whole_link input.now.model input.now.tables.digits input.now.at input.now.old)
+        (through (is_variable input.now.model input.now.at.period) face) }
 {
     match face {
         Some(face) if input.is_variable(face.end) => {
@@ -49,8 +48,7 @@ fn link_through(input: &StepInput, face: Option<Face>) -> Option<Link>
 pub fn links(alloc: Global, input: &StepInput, cell: u32) -> Result<Vec<Link>, AllocError>
     requires input { AreInputs input.now }
     requires cell { IsVariableCell input.now cell }
-    ensures { IfOk result (λ v. AllZip
-        (IsLink input.now.model (widths_of input.now.tables) input.now.tables.digits input.now.at) v.items
+    ensures { IfOk result (λ v. v.items ≡ map (whole_link input.now.model input.now.tables.digits input.now.at input.now.old)
         (variable_faces input.now.model input.now.at.period cell)) }
 {
     let faces = input.model.grid.faces(cell);
@@ -66,8 +64,8 @@ pub fn links(alloc: Global, input: &StepInput, cell: u32) -> Result<Vec<Link>, A
 fn constant_through(input: &StepInput, face: Option<Face>) -> Option<Fixed>
     requires input { AreInputs input.now }
     requires face { HasPair input.now face }
-    ensures { BothOrNone (IsConstant input.now.model (widths_of input.now.tables) input.now.tables.digits
-        input.now.at) result (through (is_constant input.now.model input.now.at.period) face) }
+    ensures { result ≡ option_map (whole_constant input.now.model input.now.tables.digits input.now.at input.now.old)
+        (through (is_constant input.now.model input.now.at.period) face) }
 {
     match face {
         Some(face) if input.is_constant(face.end) => {
@@ -83,8 +81,7 @@ fn constant_through(input: &StepInput, face: Option<Face>) -> Option<Fixed>
 pub fn constants(alloc: Global, input: &StepInput, cell: u32) -> Result<Vec<Fixed>, AllocError>
     requires input { AreInputs input.now }
     requires cell { IsVariableCell input.now cell }
-    ensures { IfOk result (λ v. AllZip
-        (IsConstant input.now.model (widths_of input.now.tables) input.now.tables.digits input.now.at) v.items
+    ensures { IfOk result (λ v. v.items ≡ map (whole_constant input.now.model input.now.tables.digits input.now.at input.now.old)
         (constant_faces input.now.model input.now.at.period cell)) }
 {
     let faces = input.model.grid.faces(cell);

@@ -1,8 +1,8 @@
 // The problem of a step, cell by cell.
 ghost use Rattle.std.specs.Prelude.{◌≤◌, Contains, IfOk, IfErr};
 ghost use Rattle.model_types.specs.{cell_count, times, IsModel};
-ghost use Rattle.problem_builder.specs.{AreGridHeads, AreCells, IsBuilt, IsBuildFault, IsVariableCell, IsCheckedCell, IsCellFault, IsFirstFault, AreInputs};
-ghost use Rattle.problem_builder.specs.{AreTables, ArePeriodTables, AreStepTables, AreEvenStorages, span_in, widths_of};
+ghost use Rattle.problem_builder.specs.{AreGridHeads, AreCells, IsBuilt, IsBuildFault, IsVariableCell, IsCheckedCell, IsCellFault, AreInputs, whole_cell};
+ghost use Rattle.problem_builder.specs.{AreTables, ArePeriodTables, AreStepTables, AreEvenStorages};
 
 use crate::cell::cell;
 use crate::fault::{BuildFault, fault};
@@ -19,7 +19,7 @@ fn checked_cell(alloc: Global, input: &StepInput, number: u32) -> Result<Cell, B
     requires input { AreInputs input.now }
     requires cell { IsVariableCell input.now number }
     ensures cell { IfOk result (IsCheckedCell input.now number) }
-    ensures fault { IfErr result (IsCellFault input.now number) }
+    ensures fault { IfErr result (IsCellFault (whole_cell input.now.model input.now.tables.digits input.now.at input.now.old number)) }
 {
     let made = cell(alloc, input, number)?;
     match fault(&made) {
@@ -34,9 +34,8 @@ fn checked_cell(alloc: Global, input: &StepInput, number: u32) -> Result<Cell, B
 // All variable cells, or the first refusal.
 pub(crate) fn cells(alloc: Global, input: &StepInput) -> Result<Vec<Cell>, BuildFault>
     requires { AreInputs input.now }
-    ensures cells { IfOk result (λ v. AreCells input.now.model (widths_of input.now.tables) input.now.tables.digits
-        input.now.at input.now.old (cell_count input.now.model.grid) v.items) }
-    ensures fault { IfErr result (IsFirstFault input.now) }
+    ensures cells { IfOk result (λ v. AreCells input.now.model input.now.tables.digits input.now.at input.now.old (cell_count input.now.model.grid) v.items) }
+    ensures fault { IfErr result (IsBuildFault input.now.model input.now.tables.digits input.now.at input.now.old) }
 {
     let mut cells = Vec::new(alloc);
     let count = input.model.grid.cell_count();
@@ -76,7 +75,7 @@ pub fn build_with(
     requires digits { tables.now.digits ≤ 18 }
     requires tables { AreTables model.now tables.now.digits tables.now }
     requires period { ArePeriodTables model.now tables.now.digits at.period period.now }
-    requires storage { AreEvenStorages model.now (span_in tables.now.thick) tables.now.digits at.period period.now.storage }
+    requires storage { AreEvenStorages model.now tables.now.digits at.period period.now.storage }
     requires step { AreStepTables model.now at step.now }
     ensures built { IfOk result (IsBuilt model.now tables.now.digits at old.now) }
     ensures refusal { IfErr result (IsBuildFault model.now tables.now.digits at old.now) }

@@ -1,8 +1,8 @@
 // A cell of a step's problem.
-ghost use Rattle.std.specs.Prelude.{◌<◌, IfOk};
-ghost use Rattle.std.specs.List.{AllZip};
-ghost use Rattle.model_types.specs.{fixed_sources, flow_sources, evap_sources, recharge_at};
-ghost use Rattle.problem_builder.specs.{IsFixed, IsFlow, IsReceived, IsEvap, IsCellOf, IsVariableCell, AreInputs, widths_of, BothOrNone};
+ghost use Rattle.std.specs.Prelude.{◌≡◌, IfOk, map};
+ghost use Rattle.std.specs.Option.{option_map};
+ghost use Rattle.model_types.specs.{fixed_sources, flow_sources, evap_sources, recharge_at, Received};
+ghost use Rattle.problem_builder.specs.{whole_fixed, whole_flow, whole_evap, whole_cell, IsVariableCell, AreInputs};
 
 use crate::branches::{constant_flow, constants, links, push_some};
 use crate::input::StepInput;
@@ -13,9 +13,8 @@ use step_problem::{Cell, Evap, Fixed, Flow, FlowKind};
 fn fixed_branches(alloc: Global, input: &StepInput, cell: u32) -> Result<Vec<Fixed>, AllocError>
     requires input { AreInputs input.now }
     requires cell { IsVariableCell input.now cell }
-    ensures { IfOk result (λ v. AllZip
-        (IsFixed input.now.model (widths_of input.now.tables) input.now.tables.digits input.now.at input.now.old cell)
-        v.items (fixed_sources input.now.model input.now.at.period cell)) }
+    ensures { IfOk result (λ v. v.items ≡ map (whole_fixed input.now.model input.now.tables.digits input.now.at input.now.old cell)
+        (fixed_sources input.now.model input.now.at.period cell)) }
 {
     let stored = stored_branch(input, cell);
     let constants = constants(alloc, input, cell)?;
@@ -32,7 +31,8 @@ fn fixed_branches(alloc: Global, input: &StepInput, cell: u32) -> Result<Vec<Fix
 fn received_flow(input: &StepInput, cell: u32) -> Option<Flow>
     requires input { AreInputs input.now }
     requires cell { IsVariableCell input.now cell }
-    ensures { BothOrNone (IsReceived input.now.model input.now.tables.digits cell) result (recharge_at input.now.model input.now.at.period cell) }
+    ensures { result ≡ option_map (λ rate. whole_flow input.now.model input.now.tables.digits cell (Received rate))
+        (recharge_at input.now.model input.now.at.period cell) }
 {
     match input.period.recharge.at(cell) {
         Some(pair) => Some(constant_flow(FlowKind::Recharge, pair)),
@@ -43,7 +43,8 @@ fn received_flow(input: &StepInput, cell: u32) -> Option<Flow>
 fn flows(alloc: Global, input: &StepInput, cell: u32) -> Result<Vec<Flow>, AllocError>
     requires input { AreInputs input.now }
     requires cell { IsVariableCell input.now cell }
-    ensures { IfOk result (λ v. AllZip (IsFlow input.now.model input.now.tables.digits cell) v.items (flow_sources input.now.model input.now.at.period cell)) }
+    ensures { IfOk result (λ v. v.items ≡ map (whole_flow input.now.model input.now.tables.digits cell)
+        (flow_sources input.now.model input.now.at.period cell)) }
 {
     let received = received_flow(input, cell);
     let entries = input.entries(cell);
@@ -59,7 +60,8 @@ fn flows(alloc: Global, input: &StepInput, cell: u32) -> Result<Vec<Flow>, Alloc
 fn evaps(alloc: Global, input: &StepInput, cell: u32) -> Result<Vec<Evap>, AllocError>
     requires input { AreInputs input.now }
     requires cell { IsVariableCell input.now cell }
-    ensures { IfOk result (λ v. AllZip (IsEvap input.now.model input.now.tables.digits cell) v.items (evap_sources input.now.model input.now.at.period cell)) }
+    ensures { IfOk result (λ v. v.items ≡ map (whole_evap input.now.model input.now.tables.digits cell)
+        (evap_sources input.now.model input.now.at.period cell)) }
 {
     let mut evaps = Vec::new(alloc);
     push_some(&mut evaps, input.period.evaps.at(cell))?;
@@ -70,7 +72,7 @@ fn evaps(alloc: Global, input: &StepInput, cell: u32) -> Result<Vec<Evap>, Alloc
 pub fn cell(alloc: Global, input: &StepInput, number: u32) -> Result<Cell, AllocError>
     requires input { AreInputs input.now }
     requires cell { IsVariableCell input.now number }
-    ensures { IfOk result (λ e. IsCellOf input.now.model (widths_of input.now.tables) input.now.tables.digits input.now.at input.now.old e number) }
+    ensures { IfOk result (λ e. e ≡ whole_cell input.now.model input.now.tables.digits input.now.at input.now.old number) }
 {
     let entries = input.entries(number);
     Ok(Cell {

@@ -1,10 +1,10 @@
 // The entries of a cell by their bounds, kind by kind.
 ghost use Rattle.std.specs.Prelude.{◌≡◌, ◌≤◌, ◌∷◌, ◌++◌, [], List, IfOk};
 ghost use Rattle.model_types.specs.declared.entry.Entry.{Entry as DeclaredEntry};
-ghost use Rattle.model_types.specs.{IsEntryValid, as_well, as_river, as_drain, as_general};
-ghost use Rattle.problem_builder.specs.Cells.{IsRiver, IsDrain};
-ghost use Rattle.problem_builder.specs.LocalBounds.{AreLocalBounds, IsWellSource, IsGeneralSource, no_bounds};
-ghost use Rattle.problem_builder.specs.Widths.{BothOrNone};
+ghost use Rattle.model_types.specs.{IsEntryValid, as_river, as_drain};
+ghost use Rattle.std.specs.Option.{option_map};
+ghost use Rattle.problem_builder.specs.Cells.{whole_river, whole_drain};
+ghost use Rattle.problem_builder.specs.LocalBounds.{AreLocalBounds, well_of, general_of, no_bounds};
 
 use crate::branches::{constant_flow, known_head, push_some};
 use crate::start::{cond_pair, head_pair, well_pair};
@@ -88,7 +88,7 @@ impl LocalEntries {
 
 fn river(entry: &Entry, s: u32) -> Option<River>
     requires entry { IsEntryValid 4194304 entry.now }
-    ensures { BothOrNone (IsRiver s) result (as_river entry.now) }
+    ensures { result ≡ option_map (whole_river s) (as_river entry.now) }
 {
     match entry {
         Entry::River {
@@ -115,7 +115,7 @@ fn river(entry: &Entry, s: u32) -> Option<River>
 
 fn drain(entry: &Entry, s: u32) -> Option<Drain>
     requires entry { IsEntryValid 4194304 entry.now }
-    ensures { BothOrNone (IsDrain s) result (as_drain entry.now) }
+    ensures { result ≡ option_map (whole_drain s) (as_drain entry.now) }
 {
     match entry {
         Entry::Drain {
@@ -138,7 +138,7 @@ fn drain(entry: &Entry, s: u32) -> Option<Drain>
 
 fn general(entry: &Entry, cell: u32, s: u32) -> Option<Fixed>
     requires entry { IsEntryValid 4194304 entry.now }
-    ensures { BothOrNone (IsGeneralSource s cell) result (as_general entry.now) }
+    ensures { result ≡ general_of s cell entry.now }
 {
     match entry {
         Entry::General { head, cond, .. } => {
@@ -152,7 +152,7 @@ fn general(entry: &Entry, cell: u32, s: u32) -> Option<Fixed>
 fn well(entry: &Entry, s: u32) -> Option<Flow>
     requires entry { IsEntryValid 4194304 entry.now }
     requires places { s ≤ 18 }
-    ensures { BothOrNone (IsWellSource s) result (as_well entry.now) }
+    ensures { result ≡ well_of s entry.now }
 {
     match entry {
         Entry::Well { q, .. } => Some(constant_flow(FlowKind::Wells, well_pair(*q, s))),

@@ -2,7 +2,7 @@
 ghost use Rattle.std.specs.Prelude.{◌≡◌, ◌<◌, ◌≤◌, IfOk, None, length};
 ghost use Rattle.decimal_input.specs.{number};
 ghost use Rattle.model_types.specs.{cell_count, is_active, evaporates, evap_source, IsModel, IsEvapValid};
-ghost use Rattle.problem_builder.specs.{IsEvap, IsEvaporated, Filled};
+ghost use Rattle.problem_builder.specs.{whole_evap, IsEvaporated, Filled};
 
 use crate::chosen::is_chosen;
 use crate::periods::stress_period;
@@ -19,7 +19,7 @@ fn evap_pair(model: &FlowModel, rate: Dec, surface: Dec, depth: Dec, cell: u32, 
     requires model { IsModel model.now }
     requires source { IsEvapValid (record { rate = rate; surface = surface; depth = depth }) }
     requires digits { s ≤ 18 }
-    ensures { IsEvap model.now s cell result (record { rate = rate; surface = surface; depth = depth }) }
+    ensures { result ≡ whole_evap model.now s cell (record { rate = rate; surface = surface; depth = depth }) }
 {
     let pair = capped_pair(evap_branch(rate, depth, model.delr_at(cell), model.delc_at(cell), s));
     let surface = head_pair(surface);
@@ -40,7 +40,7 @@ fn evap_at(model: &FlowModel, number: u32, cell: u32, s: u32) -> Evap
     requires number { (1 ≤ number) × (number ≤ length model.now.periods) }
     requires source { IsEvapValid (evap_source model.now number cell) }
     requires digits { s ≤ 18 }
-    ensures { IsEvap model.now s cell result (evap_source model.now number cell) }
+    ensures { result ≡ whole_evap model.now s cell (evap_source model.now number cell) }
 {
     let period = stress_period(model, number);
     let place = cell % model.grid.layer_size();

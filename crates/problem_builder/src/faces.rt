@@ -1,11 +1,10 @@
 // The conductances of faces, by their first cells.
-ghost use Rattle.std.specs.Prelude.{◌≡◌, ◌+◌, ◌<◌, ◌≤◌, ℕ, true, false, IfOk, IsTrue, length};
-ghost use Rattle.conductance_bounds.specs.declared.span.Span.{Span as Interval};
-ghost use Rattle.conductance_bounds.specs.{IsHalf, IsColHalf, IsVertHalf, IsCapped, face_term};
+ghost use Rattle.std.specs.Prelude.{◌≡◌, ◌+◌, ◌<◌, ◌≤◌, true, false, IfOk, IsTrue, length};
+ghost use Rattle.conductance_bounds.specs.{IsHalf, IsColHalf, IsVertHalf};
 ghost use Rattle.model_types.specs.declared.face.Axis.TheVariants.{Row, Column, Vertical};
 ghost use Rattle.model_types.specs.{cell_count, has_after, stride, HasSize, is_active, is_ratio, IsModel};
 ghost use Rattle.problem_builder.specs.{Filled, no_span, no_pair, span_in, IsThickness, IsBedBelow, IsBranch, HasConductance, row_half, column_half};
-ghost use Rattle.problem_builder.specs.{layer_half};
+ghost use Rattle.problem_builder.specs.{layer_half, face_pair};
 
 use crate::start::capped_pair;
 use conductance_bounds::{
@@ -32,7 +31,7 @@ fn row_half(model: &FlowModel, thick: &[Span], cell: u32) -> Half
     requires cell { cell < cell_count model.now.grid }
     requires active { is_active model.now cell ≡ true }
     requires thick { Filled (IsThickness model.now) no_span (cell_count model.now.grid) thick.now }
-    ensures is { result ≡ row_half model.now (span_in thick.now) cell }
+    ensures is { result ≡ row_half model.now cell }
     ensures fits { IsHalf result }
 {
     let along = model.delr_at(cell);
@@ -51,7 +50,7 @@ fn col_half(model: &FlowModel, thick: &[Span], cell: u32) -> ColHalf
     requires cell { cell < cell_count model.now.grid }
     requires active { is_active model.now cell ≡ true }
     requires thick { Filled (IsThickness model.now) no_span (cell_count model.now.grid) thick.now }
-    ensures is { result ≡ column_half model.now (span_in thick.now) cell }
+    ensures is { result ≡ column_half model.now cell }
     ensures fits { IsColHalf result }
 {
     let along = model.delc_at(cell);
@@ -80,7 +79,7 @@ fn vert_half(model: &FlowModel, thick: &[Span], cell: u32) -> VertHalf
     requires cell { cell < cell_count model.now.grid }
     requires active { is_active model.now cell ≡ true }
     requires thick { Filled (IsThickness model.now) no_span (cell_count model.now.grid) thick.now }
-    ensures is { result ≡ layer_half model.now (span_in thick.now) cell }
+    ensures is { result ≡ layer_half model.now cell }
     ensures fits { IsVertHalf result }
 {
     let hk = dec_at(model.hk.as_slice(), cell);
@@ -101,7 +100,7 @@ fn row_pair(model: &FlowModel, thick: &[Span], first: u32, s: u32) -> Pair
     requires branch { IsBranch model.now Row first }
     requires thick { Filled (IsThickness model.now) no_span (cell_count model.now.grid) thick.now }
     requires digits { s ≤ 18 }
-    ensures { (bed : ℕ → Interval) → IsCapped (face_term model.now (span_in thick.now) bed Row first) s result.lo result.hi }
+    ensures { result ≡ face_pair model.now s Row first }
 {
     let a = row_half(model, thick, first);
     let b = row_half(model, thick, first + 1);
@@ -113,7 +112,7 @@ fn column_pair(model: &FlowModel, thick: &[Span], first: u32, s: u32) -> Pair
     requires branch { IsBranch model.now Column first }
     requires thick { Filled (IsThickness model.now) no_span (cell_count model.now.grid) thick.now }
     requires digits { s ≤ 18 }
-    ensures { (bed : ℕ → Interval) → IsCapped (face_term model.now (span_in thick.now) bed Column first) s result.lo result.hi }
+    ensures { result ≡ face_pair model.now s Column first }
 {
     let a = col_half(model, thick, first);
     let b = col_half(model, thick, first + model.grid.cols);
@@ -126,7 +125,7 @@ fn vertical_pair(model: &FlowModel, thick: &[Span], beds: &[Span], first: u32, s
     requires thick { Filled (IsThickness model.now) no_span (cell_count model.now.grid) thick.now }
     requires beds { Filled (IsBedBelow model.now) no_span (cell_count model.now.grid) beds.now }
     requires digits { s ≤ 18 }
-    ensures { IsCapped (face_term model.now (span_in thick.now) (span_in beds.now) Vertical first) s result.lo result.hi }
+    ensures { result ≡ face_pair model.now s Vertical first }
 {
     let a = vert_half(model, thick, first);
     let b = vert_half(model, thick, first + model.grid.layer_size());
@@ -167,7 +166,7 @@ fn pair_after(
     requires thick { Filled (IsThickness model.now) no_span (cell_count model.now.grid) thick.now }
     requires beds { Filled (IsBedBelow model.now) no_span (cell_count model.now.grid) beds.now }
     requires digits { s ≤ 18 }
-    ensures { HasConductance model.now (span_in thick.now) (span_in beds.now) s axis cell result }
+    ensures { HasConductance model.now s axis cell result }
 {
     if !is_branch(model, axis, cell) {
         return NO_PAIR;
@@ -192,7 +191,7 @@ pub fn pairs(
     requires thick { Filled (IsThickness model.now) no_span (cell_count model.now.grid) thick.now }
     requires beds { Filled (IsBedBelow model.now) no_span (cell_count model.now.grid) beds.now }
     requires digits { s ≤ 18 }
-    ensures { IfOk result (λ v. Filled (HasConductance model.now (span_in thick.now) (span_in beds.now) s axis) no_pair (cell_count model.now.grid) v.items) }
+    ensures { IfOk result (λ v. Filled (HasConductance model.now s axis) no_pair (cell_count model.now.grid) v.items) }
 {
     let mut pairs = Vec::new(alloc);
     let count = model.grid.cell_count();

@@ -2,7 +2,7 @@
 ghost use Rattle.std.specs.Prelude.{◌≡◌, ◌<◌, All, None, IfOk, IfSome};
 ghost use Rattle.step_problem.specs.{no_bound};
 ghost use Rattle.model_types.specs.{cell_count, dec_at, IsHeadNumber, given_heads, IsModel};
-ghost use Rattle.problem_builder.specs.{IsKeptPair, IsKept, Filled};
+ghost use Rattle.problem_builder.specs.{kept_bound, IsKept, Filled};
 ghost use Rattle.problem_builder.specs.Tables.{IsNamed};
 
 use crate::start::{NO_BOUND, head_pair};
@@ -31,7 +31,7 @@ pub fn last_entries(
 fn kept_of(model: &FlowModel, last: Option<Given>, cell: u32) -> Bound
     requires strt { IsHeadNumber (dec_at model.now.strt cell) }
     requires last { IfSome last (λ x. IsHeadNumber x.ehead) }
-    ensures { IsKeptPair model.now cell last result.low result.high }
+    ensures { result ≡ kept_bound model.now cell last }
 {
     match last {
         Some(x) => head_pair(x.ehead),

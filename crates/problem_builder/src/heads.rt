@@ -1,7 +1,7 @@
 // The heads of constant-head cells at a time.
 ghost use Rattle.std.specs.Prelude.{◌≡◌, ℕ, ◌<◌, true, IfOk};
 ghost use Rattle.model_types.specs.{cell_count, is_constant, IsModel};
-ghost use Rattle.problem_builder.specs.{IsConstantPair, HasConstantHead, AreConstantHeads, IsTimeOf, IsPartOf, ArePeriodTables};
+ghost use Rattle.problem_builder.specs.{constant_bound, known_bound, AreConstantHeads, IsTimeOf, IsPartOf, ArePeriodTables};
 
 use crate::index::PeriodTables;
 use crate::periods::stress_period;
@@ -19,7 +19,7 @@ fn head_at(model: &FlowModel, period: &PeriodTables, at: TimeStep, part: Part, c
     requires part { IsPartOf model.now at part }
     requires cell { cell < cell_count model.now.grid }
     requires constant { is_constant model.now at.period cell ≡ true }
-    ensures { IsConstantPair model.now at cell result.low result.high }
+    ensures { result ≡ constant_bound model.now at cell }
 {
     let _model = model;
     match period.given.at(cell) {
@@ -35,7 +35,7 @@ fn head_of(model: &FlowModel, period: &PeriodTables, at: TimeStep, part: Part, c
     requires period { (s : ℕ) × ArePeriodTables model.now s at.period period.now }
     requires part { IsPartOf model.now at part }
     requires cell { cell < cell_count model.now.grid }
-    ensures { HasConstantHead model.now at cell result }
+    ensures { result ≡ known_bound model.now at cell }
 {
     match period.kind_at(cell) {
         Kind::Constant => head_at(model, period, at, part, cell),

@@ -2,7 +2,7 @@
 ghost use Rattle.std.specs.Prelude.{◌≡◌, ◌<◌, IfOk, ◌+◌, ◌≤◌, length, slice_index_or};
 ghost use Rattle.model_types.specs.declared.given_heads.Kind.TheVariants.{NoFlow};
 ghost use Rattle.model_types.specs.{cell_count, HasSize, is_variable, given_heads, IsModel};
-ghost use Rattle.problem_builder.specs.{Filled, IsIndex, AreTables, ArePeriodTables, AreEvenStorages, bound_in, span_in};
+ghost use Rattle.problem_builder.specs.{Filled, IsIndex, AreTables, ArePeriodTables, AreEvenStorages, bound_in};
 
 use crate::evaporation::evaps;
 use crate::given::{kept_heads, last_entries};
@@ -80,7 +80,7 @@ impl PeriodTables {
         requires period { given.now.period < length model.now.periods }
         ensures tables { IfOk result (ArePeriodTables model.now tables.now.digits (given.now.period + 1)) }
         ensures storage { IfOk result
-            (λ t. AreEvenStorages model.now (span_in tables.now.thick) tables.now.digits (given.now.period + 1) t.storage) }
+            (λ t. AreEvenStorages model.now tables.now.digits (given.now.period + 1) t.storage) }
     {
         let s = tables.digits;
         let next = given.next(alloc, model)?;
@@ -122,7 +122,7 @@ impl PeriodTables {
         requires period { (1 ≤ period) × (period ≤ length model.now.periods) }
         ensures tables { IfOk result (ArePeriodTables model.now tables.now.digits period) }
         ensures storage { IfOk result
-            (λ t. AreEvenStorages model.now (span_in tables.now.thick) tables.now.digits period t.storage) }
+            (λ t. AreEvenStorages model.now tables.now.digits period t.storage) }
     {
         let mut given = GivenHeads::new(alloc, model);
         given.advance_to(alloc, model, period - 1)?;

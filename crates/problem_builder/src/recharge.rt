@@ -2,7 +2,7 @@
 ghost use Rattle.std.specs.Prelude.{◌≡◌, ◌<◌, ◌≤◌, IfOk, IfSome, None, length};
 ghost use Rattle.decimal_input.specs.{IsDec};
 ghost use Rattle.model_types.specs.{cell_count, recharge_at, IsModel};
-ghost use Rattle.problem_builder.specs.{Filled, IsRecharged, IsRechargePair};
+ghost use Rattle.problem_builder.specs.{Filled, IsRecharged, recharge_pair};
 
 use crate::chosen::is_chosen;
 use crate::periods::stress_period;
@@ -18,7 +18,7 @@ fn recharge_pair(model: &FlowModel, rate: Dec, cell: u32, s: u32) -> FlowPair
     requires model { IsModel model.now }
     requires rate { IsDec rate }
     requires digits { s ≤ 18 }
-    ensures { IsRechargePair model.now s cell rate result.lo result.hi }
+    ensures { result ≡ recharge_pair model.now s cell rate }
 {
     capped_flow(recharge_flow(rate, model.delr_at(cell), model.delc_at(cell), s))
 }

@@ -1,9 +1,9 @@
 // The heads before the first time step.
-ghost use Rattle.std.specs.Prelude.{IfOk, ◌≡◌, ℕ, ◌≤◌, Bool};
+ghost use Rattle.std.specs.Prelude.{IfOk, ◌≡◌, ◌≤◌, ◌^◌, pos};
 ghost use Rattle.model_types.specs.{start_head, IsModel, IsNotNegative, IsHeadNumber};
-ghost use Rattle.problem_builder.specs.{AreGridHeads, HeadsEnclose, AreStartHeads, IsDepth, IsCond, IsWellPair, IsHeadPair};
+ghost use Rattle.problem_builder.specs.{AreGridHeads, HeadsEnclose, AreStartHeads, IsDepth, cond_pair, well_pair, head_bound, bound_of_pair};
 ghost use Rattle.decimal_input.specs.{IsDec};
-ghost use Rattle.conductance_bounds.specs.{IsWholePair, IsCapped, IsFlowPair, IsCappedFlow, Term};
+ghost use Rattle.std.specs.Option.{unwrap_or};
 
 use crate::given::kept_heads;
 use conductance_bounds::{
@@ -40,7 +40,7 @@ const PAST_FLOW: FlowPair = FlowPair {
 
 /// The pair, or the pair (1, 2^60) that a table keeps in place of one that reaches 2^60 units.
 pub fn capped_pair(pair: Option<Pair>) -> Pair
-    ensures { (t : Term) (s : ℕ) → IsWholePair t s pair → IsCapped t s result.lo result.hi }
+    ensures { result ≡ unwrap_or pair (record { lo = 1; hi = 2 ^ 60 }) }
 {
     match pair {
         Some(pair) => pair,
@@ -50,7 +50,7 @@ pub fn capped_pair(pair: Option<Pair>) -> Pair
 
 /// The pair, or that which a table keeps in place of one with a magnitude that reaches 2^126 units.
 pub fn capped_flow(pair: Option<FlowPair>) -> FlowPair
-    ensures { (t : Term) (neg : Bool) (s : ℕ) → IsFlowPair t neg s pair → IsCappedFlow t neg s result.lo result.hi }
+    ensures { result ≡ unwrap_or pair (record { lo = pos (2 ^ 109); hi = pos (2 ^ 109) }) }
 {
     match pair {
         Some(pair) => pair,
@@ -61,7 +61,7 @@ pub fn capped_flow(pair: Option<FlowPair>) -> FlowPair
 /// The bounds of a conductance of an entry.
 pub fn cond_pair(cond: Dec, s: u32) -> Pair
     requires cond { IsNotNegative cond }
-    ensures { IsCond s cond result.lo result.hi }
+    ensures { result ≡ cond_pair s cond }
 {
     capped_pair(number_pair(cond, s))
 }
@@ -70,7 +70,7 @@ pub fn cond_pair(cond: Dec, s: u32) -> Pair
 pub fn well_pair(q: Dec, s: u32) -> FlowPair
     requires q { IsDec q }
     requires places { s ≤ 18 }
-    ensures { IsWellPair s q result.lo result.hi }
+    ensures { result ≡ well_pair s q }
 {
     capped_flow(number_flow(q, s))
 }
@@ -78,7 +78,7 @@ pub fn well_pair(q: Dec, s: u32) -> FlowPair
 /// The bounds of a head of the input.
 pub fn head_pair(head: Dec) -> Bound
     requires head { IsHeadNumber head }
-    ensures { IsHeadPair head result.low result.high }
+    ensures { result ≡ head_bound head }
 {
     bound_of(head_bounds(head))
 }
@@ -86,14 +86,14 @@ pub fn head_pair(head: Dec) -> Bound
 /// The bounds of an extinction depth.
 pub fn depth_pair(depth: Dec) -> Bound
     requires depth { IsDepth depth }
-    ensures { IsHeadPair depth result.low result.high }
+    ensures { result ≡ head_bound depth }
 {
     bound_of(whole_bounds(depth))
 }
 
 /// A pair of heads as a bound.
 pub fn bound_of(pair: HeadPair) -> Bound
-    ensures { result ≡ record { low = pair.lo; high = pair.hi } }
+    ensures { result ≡ bound_of_pair pair }
 {
     Bound {
         low: pair.lo,

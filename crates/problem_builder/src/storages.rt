@@ -1,10 +1,10 @@
 // Storage, by cell.
 ghost use Rattle.std.specs.Prelude.{◌≡◌, ◌<◌, ◌≤◌, ℕ, true, false, cond, None, Some, IfOk, length};
 ghost use Rattle.decimal_input.specs.{size};
-ghost use Rattle.conductance_bounds.specs.{storage_term, IsUsable, IsGrown, IsCapped};
+ghost use Rattle.conductance_bounds.specs.{IsUsable, factors_of as step_factors};
 ghost use Rattle.model_types.specs.declared.given_heads.Kind.TheVariants.{NoFlow};
 ghost use Rattle.model_types.specs.{cell_count, is_active, period_at, IsModel};
-ghost use Rattle.problem_builder.specs.{Filled, IsTimeOf, AreFactorsOf, AreEvenFactors, HasEvenStorage, IsKind, AreTables, AreEvenStorages, span_in};
+ghost use Rattle.problem_builder.specs.{Filled, IsTimeOf, AreFactorsOf, AreEvenFactors, HasEvenStorage, IsKind, AreTables, AreEvenStorages, storage_pair};
 
 use crate::faces::{NO_PAIR, span_at};
 use crate::periods::stress_period;
@@ -74,9 +74,8 @@ pub fn storage_at(
     requires factors { IsUsable factors.now }
     requires cell { cell < cell_count model.now.grid }
     requires active { is_active model.now cell ≡ true }
-    ensures { (n : ℕ) → IsGrown (size (period_at model.now number).tsmult) (period_at model.now number).nstp n factors.now →
-        IsCapped (storage_term model.now (span_in tables.now.thick) (period_at model.now number) n cell) tables.now.digits
-        result.lo result.hi }
+    ensures { (n : ℕ) → factors.now ≡ step_factors (size (period_at model.now number).tsmult) (period_at model.now number).nstp n →
+        result ≡ storage_pair model.now tables.now.digits (record { period = number; step = n }) cell }
 {
     let period = stress_period(model, number);
     let ss = dec_at(model.ss.as_slice(), cell);
@@ -104,7 +103,7 @@ fn even_storage(
     requires kinds { Filled (IsKind model.now number) NoFlow (cell_count model.now.grid) kinds.now }
     requires factors { AreEvenFactors model.now number (Some factors.now) }
     requires cell { cell < cell_count model.now.grid }
-    ensures { HasEvenStorage model.now (span_in tables.now.thick) tables.now.digits number cell result }
+    ensures { HasEvenStorage model.now tables.now.digits number cell result }
 {
     match kinds[cell as usize] {
         Kind::Variable => storage_at(model, tables, number, factors, cell),
@@ -127,7 +126,7 @@ pub fn even_storages(
     requires digits { tables.now.digits ≤ 18 }
     requires tables { AreTables model.now tables.now.digits tables.now }
     requires kinds { Filled (IsKind model.now number) NoFlow (cell_count model.now.grid) kinds.now }
-    ensures { IfOk result (AreEvenStorages model.now (span_in tables.now.thick) tables.now.digits number) }
+    ensures { IfOk result (AreEvenStorages model.now tables.now.digits number) }
 {
     let Some(factors) = even_factors(model, number) else {
         return Ok(None);

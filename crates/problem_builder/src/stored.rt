@@ -1,6 +1,8 @@
 // The branch of a cell to its old head.
+ghost use Rattle.std.specs.Prelude.{◌≡◌};
+ghost use Rattle.std.specs.Option.{option_map};
 ghost use Rattle.model_types.specs.{storage_at};
-ghost use Rattle.problem_builder.specs.{IsFixed, IsVariableCell, HasStorage, AreInputs, span_in, widths_of, BothOrNone};
+ghost use Rattle.problem_builder.specs.{whole_fixed, IsVariableCell, HasStorage, AreInputs};
 
 use crate::branches::known_head;
 use crate::faces::NO_PAIR;
@@ -13,7 +15,7 @@ use step_problem::{Fixed, FixedKind};
 fn rounded_storage(input: &StepInput, cell: u32) -> Pair
     requires input { AreInputs input.now }
     requires cell { IsVariableCell input.now cell }
-    ensures { HasStorage input.now.model (span_in input.now.tables.thick) input.now.tables.digits input.now.at cell result }
+    ensures { HasStorage input.now.model input.now.tables.digits input.now.at cell result }
 {
     match &input.step.factors {
         Some(factors) => storage_at(input.model, input.tables, input.at.period, factors, cell),
@@ -25,7 +27,7 @@ fn rounded_storage(input: &StepInput, cell: u32) -> Pair
 fn storage(input: &StepInput, cell: u32) -> Pair
     requires input { AreInputs input.now }
     requires cell { IsVariableCell input.now cell }
-    ensures { HasStorage input.now.model (span_in input.now.tables.thick) input.now.tables.digits input.now.at cell result }
+    ensures { HasStorage input.now.model input.now.tables.digits input.now.at cell result }
 {
     match &input.period.storage {
         Some(even) => even.as_slice()[cell as usize],
@@ -37,8 +39,8 @@ fn storage(input: &StepInput, cell: u32) -> Pair
 pub fn stored_branch(input: &StepInput, cell: u32) -> Option<Fixed>
     requires input { AreInputs input.now }
     requires cell { IsVariableCell input.now cell }
-    ensures { BothOrNone (IsFixed input.now.model (widths_of input.now.tables) input.now.tables.digits input.now.at
-        input.now.old cell) result (storage_at input.now.model input.now.at.period) }
+    ensures { result ≡ option_map (whole_fixed input.now.model input.now.tables.digits input.now.at input.now.old cell)
+        (storage_at input.now.model input.now.at.period) }
 {
     if input.is_steady() {
         return None;

@@ -3,7 +3,7 @@ pub use Rattle.std.proofs.Common.{add-one, ap, arith, inl, inr, neg_ℤ, pos, re
 pub use Rattle.std.proofs.Common.{◌≤◌}
 pub use Rattle.std.proofs.Math.Nat.{div-div-eq-div-mul, div-lt_iff_lt-mul, div-mul-le_self, le-div_iff_mul-le, le_of_mul-le-mul_right, lt-mul-div-succ}
 pub use Rattle.std.proofs.Math.Nat.{lt_of_mul-lt-mul_right, mul-le-mul, mul-le-mul_left, mul-le-mul_right, pow-suc}
-pub use Rattle.std.proofs.lemmas.Bool.{cases_lt}
+pub use Rattle.std.proofs.lemmas.Bool.{cases_lt, cond_above, cond_below}
 pub use Rattle.std.proofs.lemmas.Int.{clamps, ints}
 pub use Rattle.std.proofs.lemmas.Nat.{pow-add}
 pub use Rattle.decimal_input.proofs.Cross.{le_cancel, lt_cancel, lt_right}
@@ -11,7 +11,9 @@ pub use Rattle.decimal_input.proofs.Orders.{AtMost-Below, AtMost-refl, AtMost-tr
 pub use Rattle.decimal_input.proofs.Orders.{num_over, num_plus, plus-AtMost}
 pub use Rattle.decimal_input.proofs.Powers.{cross_of, den_scaled, num_scaled, power_within, scaled-AtMost, scaled_shift, scaled_times, ten_pos, up_down}
 pub use Rattle.decimal_input.proofs.SameNumbers.{Same-both, plus-comm}
-pub use Rattle.decimal_input.specs.{Below, Ratio, down, over, scaled, up}
+pub use Rattle.decimal_input.specs.{Below, IsCeiling, IsFloor, Ratio, down, over, scaled, up}
 pub use Rattle.decimal_input.specs.Ratios.{AtMost, Same, den, plus, times}
-pub use Rattle.scaled_decimal.specs.{HasSize, IsDown, IsFrom, IsSd, IsUp, IsUpTo, IsWithin, RoundingsKeepOrder, value}
+pub use Rattle.scaled_decimal.specs.{HasSize, IsDown, IsFrom, IsRounded, IsSd, IsUp, IsUpTo, IsWithin, Lower, RoundedIsNearest, RoundingsKeepOrder, Side}
+pub use Rattle.scaled_decimal.specs.{UnitsAreWhole, Upper, cut, of_units, value}
+unfoldable pub use Rattle.scaled_decimal.specs.{in_units, rounded}
 pub use Rattle.scaled_decimal.specs.declared.decimal.Sd.{Sd}

@@ -1,7 +1,8 @@
-use Rattle.std.specs.Prelude.{◌≡◌, ℕ, ◌≤◌, ◌<◌, ◌^◌, ◌⊎◌, ℤ, pos, neg_ℤ, ◌≤ℤ◌, ◌+◌}
+use Rattle.std.specs.Prelude.{◌≡◌, ℕ, ◌≤◌, ◌<◌, ◌^◌, ◌*◌, ◌/◌, ◌-◌, nat_lt, if◌then◌else◌, length, ◌⊎◌, ℤ, pos, neg_ℤ, ◌≤ℤ◌, ◌+ℤ◌, ◌-ℤ◌, ◌+◌}
 use Rattle.std.specs.Int.{int_min, int_max}
+use Rattle.std.specs.Int.Digits.{digits_of}
 use Rattle.decimal_input.specs.{Ratio, Below, scaled, IsFloor, IsCeiling}
-use Rattle.decimal_input.specs.Ratios.{AtMost}
+use Rattle.decimal_input.specs.Ratios.{AtMost, den}
 use Rattle.scaled_decimal.specs.declared.decimal.Sd.{Sd}
 
 -- 18 digits, or zero with the exponent 0
@@ -23,6 +24,52 @@ pub record IsUp (r : Sd) (f : Ratio) : Type 0 where
   pub decimal : IsSd r
   pub at_least : AtMost f (value r)
   pub least : (x : Sd) → IsSd x → AtMost f (value x) → AtMost (value r) (value x)
+
+-- down, or up
+pub data Side : Type 0 where
+  Lower : Side
+  Upper : Side
+
+-- r is f rounded to this side
+abbrev pub IsRounded : Side → Sd → Ratio → Type 0
+IsRounded Lower r f = IsDown r f
+IsRounded Upper r f = IsUp r f
+
+-- n over d as a whole number
+abbrev pub quotient : Side → ℕ → ℕ → ℕ
+quotient Lower n d = n / d
+quotient Upper n d = (n + (d - 1)) / d
+
+-- f in whole units of 10 ^ -s: its floor, or its ceiling
+unfoldable pub in_units : Side → Ratio → ℕ → ℕ
+in_units side f s = quotient side (f.num * 10 ^ s) (den f)
+
+-- m units of 10 ^ e, for m up to 10 ^ 18
+abbrev pub of_units : ℕ → ℤ → Sd
+of_units m e =
+    if nat_lt 0 m
+    then (if nat_lt m (10 ^ 18) then record { m = m; e = e } else record { m = 10 ^ 17; e = e +ℤ pos 1 })
+    else record { m = 0; e = pos 0 }
+
+-- n units of 10 ^ -p without the digits after the first 18
+abbrev pub cut : Side → ℕ → ℕ → Sd
+cut side n p =
+    let more = length (digits_of 10 n) - 18 in
+    of_units (quotient side n (10 ^ more)) (pos more -ℤ pos p)
+
+-- f rounded to this side: in units so small that it has 18 digits or more, and then cut
+unfoldable pub rounded : Side → Ratio → Sd
+rounded side f = cut side (in_units side f (17 + den f)) (17 + den f)
+
+-- each number has one greatest decimal not above it and one least not below it, and these are its rounded decimals
+pub record RoundedIsNearest : Type 0 where
+  pub nearest : (side : Side) (f : Ratio) → IsRounded side (rounded side f) f
+  pub one : (side : Side) (r : Sd) (f : Ratio) → IsRounded side r f → r ≡ rounded side f
+
+-- the whole units are the floor and the ceiling
+pub record UnitsAreWhole : Type 0 where
+  pub floors : (f : Ratio) (s : ℕ) → IsFloor (in_units Lower f s) f s
+  pub ceilings : (f : Ratio) (s : ℕ) → IsCeiling (in_units Upper f s) f s
 
 -- an exponent from -b to b
 pub record IsNear (e : ℤ) (b : ℕ) : Type 0 where

@@ -1,10 +1,11 @@
 -- Names that several proofs of this crate cite, of the crates below and of its own definitions, passed on from one place. Declares nothing.
-pub use Rattle.std.proofs.Common.{Bool, Err, List, Ok, Option, Result, [], ap, arith, false, inl, inr, length, map, neg_ℤ, pos, refl, subst, sym, true, ℕ, ℤ}
-pub use Rattle.std.proofs.Common.{◌+◌, ◌-ℤ◌, ◌<ℤ◌, ◌<◌, ◌∙◌, ◌∷◌, ◌≡◌, ◌≤ℤ◌, ◌≤◌, ◌⊎◌}
+pub use Rattle.std.proofs.Common.{Bool, List, Option, [], ap, arith, false, inl, inr, length, map, neg_ℤ, pos, refl, subst, sym, true, ℕ, ℤ, ◌+◌, ◌-ℤ◌, ◌<ℤ◌}
+pub use Rattle.std.proofs.Common.{◌<◌, ◌∙◌, ◌∷◌, ◌≡◌, ◌≤ℤ◌, ◌≤◌, ◌⊎◌}
 pub use Rattle.std.proofs.lemmas.Bool.{cases_Bool, cases_lt, false≢true}
 pub use Rattle.std.proofs.lemmas.Int.{by_lt_z, ints}
 pub use Rattle.std.proofs.lemmas.List.FromFn.{get_or-map-range_with_len, length-map-range_with_len}
 pub use Rattle.std.specs.List.{range_with_len}
+pub use Rattle.std.specs.Prelude.{Err, Ok, Result, not, ◌&&◌}
 pub use Rattle.barrier_vector.proofs.Decided.{Decided, IsFirstBelow, first_or_none, path}
 pub use Rattle.barrier_vector.specs.{AnchorRoot, AreCutBounds, HasNoBound, IsAnchoredBound, IsBoundOn, IsCutBoundOn, IsLeastWith, IsOutOfRange, IsPath}
 pub use Rattle.barrier_vector.specs.{IsRefusedOn, IsUnanchored, IsWholeSide, Names, Nowhere, Refuses, RefusesOn, anchor_on, base_on, ceil_over, clamped, cut_on}
@@ -13,8 +14,7 @@ pub use Rattle.deck_problems.specs.{IsBefore, one_deck}
 pub use Rattle.model_types.specs.{IsModel, cell_count, index_of, is_active, is_variable, times}
 pub use Rattle.model_types.specs.declared.model.FlowModel.{FlowModel}
 pub use Rattle.model_types.specs.declared.time_steps.TimeStep.{TimeStep}
-pub use Rattle.problem_builder.specs.{AreGridHeads, IsConstantPair, ProblemFits, StartHeadsFit}
-pub use Rattle.problem_or_refusal.specs.{ConstantPairsExist, ProblemOrRefusal, StartHeadsExist}
+pub use Rattle.problem_builder.specs.{AreGridHeads, IsConstantPair, ProblemFits, StartHeadsFit, constant_bound, each_cell, problem_of, start_bound}
 pub use Rattle.step_chain.proofs.Limits.{edges_fit}
 pub use Rattle.step_chain.specs.{AreHeadsOf, HasNoHeads, HeadsFit, IsSettledStep, bound_at, edges_by}
 pub use Rattle.step_chain.specs.declared.solved.Solved.{Solved}

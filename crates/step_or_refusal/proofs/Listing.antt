@@ -1,7 +1,7 @@
 -- A model has a whole listing, or a first refusal at one of its times.
-use Rattle.step_or_refusal.proofs.Common.{◌≡◌, ℕ, ◌⊎◌, inl, inr, Option, Ok, Err, Result, List, [], ◌∷◌, refl, sym, subst, Bound, FlowModel, TimeStep}
-use Rattle.step_or_refusal.proofs.Common.{StartHeadsFit, StartHeadsExist, one_deck, StepOrRefusal, ListingOrRefusal, Bool, ProblemFits, NoBound, IsBefore}
-use Rattle.step_or_refusal.proofs.Common.{Solved, edges_fit, IsSettledStep, AreGridHeads, times, IsModel, HeadsFit, edges_by}
+use Rattle.step_or_refusal.proofs.Common.{ℕ, ◌⊎◌, inl, inr, Option, List, [], ◌∷◌, refl, sym, subst, Bound, FlowModel, TimeStep, StartHeadsFit, one_deck}
+use Rattle.step_or_refusal.proofs.Common.{StepOrRefusal, ListingOrRefusal, Bool, ProblemFits, NoBound, IsBefore, Solved, edges_fit, IsSettledStep, AreGridHeads}
+use Rattle.step_or_refusal.proofs.Common.{times, IsModel, HeadsFit, edges_by, each_cell, start_bound}
 use Rattle.step_problem.proofs.Pairs.{settled_is}
 use Rattle.model_types.specs.declared.limits.Limits.{Limits}
 use Rattle.listing_run.specs.declared.solving.Step.{Step}
@@ -9,11 +9,8 @@ use Rattle.listing_run.specs.declared.steps.Task.{Task}
 use Rattle.listing_run.specs.{budget_at, IsSolved, IsStep, HasNoBound, no_heads, no_budget, no_zones, one_task, pairs_of, flows_or_large, Steps}
 use Rattle.zone_pairs.specs.{AreZones}
 use Rattle.listing_run.proofs.Unique.{IsRest, rest_whole, rest_more, first_in}
+use Rattle.step_or_refusal.proofs.Step.{ok_or_err}
 use Rattle.listing_run.specs.declared.text.ListingEnd.TheVariants as ends
-
-ok_or_err : {X : Type 0} (r : Result X NoBound) → ((x : X) × (r ≡ Ok x)) ⊎ ((n : NoBound) × (r ≡ Err n))
-ok_or_err (Ok x) = inl (x, refl)
-ok_or_err (Err n) = inr (n, refl)
 
 module _ (step : StepOrRefusal) (fits : HeadsFit) (problem_fits : ProblemFits) (limits : Limits) (m : FlowModel) (s : ℕ) (zones : Option (List ℕ)) (rounds : ℕ) (quick : Bool) (valid : IsModel m) (zoned : AreZones m zones) where
   abbrev task : Task
@@ -60,10 +57,10 @@ module _ (step : StepOrRefusal) (fits : HeadsFit) (problem_fits : ProblemFits) (
         ]
       ]
 
-pub a_listing : StepOrRefusal → HeadsFit → ProblemFits → StartHeadsExist → StartHeadsFit → ListingOrRefusal
-a_listing step fits problem_fits starts start_fits limits m s zones rounds quick valid zoned =
-    let (start, is) = starts m in
-    elim (listing_from step fits problem_fits limits m s zones rounds quick valid zoned (times m) (rest_whole (times m)) start (start_fits m start valid is)) [
-      | inl (values, steps) ↦ inl (values, record { start = start; is_start = is; steps = steps })
-      | inr (values, at, n, steps) ↦ inr (values, at, n, record { start = start; is_start = is; steps = steps })
+pub a_listing : StepOrRefusal → HeadsFit → ProblemFits → StartHeadsFit → ListingOrRefusal
+a_listing step fits problem_fits start_fits limits m s zones rounds quick valid zoned =
+    let start = each_cell m (start_bound m) in
+    elim (listing_from step fits problem_fits limits m s zones rounds quick valid zoned (times m) (rest_whole (times m)) start (start_fits m start valid refl)) [
+      | inl (values, steps) ↦ inl (values, record { start = start; is_start = refl; steps = steps })
+      | inr (values, at, n, steps) ↦ inr (values, at, n, record { start = start; is_start = refl; steps = steps })
     ]

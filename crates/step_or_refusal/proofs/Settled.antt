@@ -2,8 +2,7 @@
 use Rattle.step_or_refusal.proofs.Common.{◌≡◌, ℕ, ◌<◌, ◌∙◌, inl, inr, Bool, true, false, List, length, map, refl, sym, ap, subst, arith, ℤ, Bound, Edges}
 use Rattle.step_or_refusal.proofs.Common.{no_bound, lower_at, upper_at, IsSettledPair, FlowModel, TimeStep, one_deck, Entries, range_with_len, cases_Bool}
 use Rattle.step_or_refusal.proofs.Common.{false≢true, length-map-range_with_len, get_or-map-range_with_len, IsProblem, IsHead, IsConstantPair, bound_at}
-use Rattle.step_or_refusal.proofs.Common.{AreHeadsOf, AreSettled, IsFirstSettled, cell_count, is_variable, index_of, is_active}
-use Rattle.std.specs.Prelude.{not, ◌&&◌}
+use Rattle.step_or_refusal.proofs.Common.{AreHeadsOf, AreSettled, IsFirstSettled, cell_count, is_variable, index_of, is_active, not, ◌&&◌}
 use Rattle.step_problem.proofs.BothSides.{low_side, high_side}
 use Rattle.step_problem.proofs.Sides.{IsSide, same_as_tight, as_tight_trans, same_settled}
 use Rattle.problem_builder.proofs.Members.{variable_active, constant_active}

@@ -1,8 +1,9 @@
 -- A time of a valid model, from heads of all its cells, has a settled step or a refusal.
-use Rattle.step_or_refusal.proofs.Common.{inl, inr, ℕ, ℤ, List, pos, arith, ◌≤ℤ◌, ◌<ℤ◌, ◌⊎◌, ProblemFits, ProblemOrRefusal, ConstantPairsExist, StepOrRefusal}
-use Rattle.step_or_refusal.proofs.Common.{Bound, Edges, lower_at, upper_at, head_at, FlowModel, TimeStep, one_deck, IsBefore, NoBound, Entries, entries_at}
-use Rattle.step_or_refusal.proofs.Common.{IsCertificate, Solved, HasNoHeads, IsSettledStep, edges_fit, BarrierOrRefusal, CutBarrierOrRefusal, by_lt_z, ints}
-use Rattle.step_or_refusal.proofs.Common.{Side, Low, High, clamped, range_on, SettledPairExists, lower_balance, upper_balance, Decided}
+use Rattle.step_or_refusal.proofs.Common.{inl, inr, ℕ, ℤ, List, pos, arith, ◌≤ℤ◌, ◌<ℤ◌, ◌⊎◌, ProblemFits, StepOrRefusal, IsConstantPair, Bound, Edges, lower_at}
+use Rattle.step_or_refusal.proofs.Common.{upper_at, head_at, FlowModel, TimeStep, one_deck, IsBefore, NoBound, Entries, entries_at, IsCertificate, Solved}
+use Rattle.step_or_refusal.proofs.Common.{HasNoHeads, IsSettledStep, edges_fit, BarrierOrRefusal, CutBarrierOrRefusal, by_lt_z, ints, Side, Low, High, clamped}
+use Rattle.step_or_refusal.proofs.Common.{range_on, SettledPairExists, lower_balance, upper_balance, Decided, ◌≡◌, refl, problem_of, constant_bound, Result, Ok}
+use Rattle.step_or_refusal.proofs.Common.{Err}
 use Rattle.step_or_refusal.proofs.Settled.{settled_list, heads_list}
 use Rattle.step_problem.proofs.BothSettle.{pair_certifies}
 use Rattle.model_types.specs.declared.limits.Limits.TheVariants.{Plain, Wide}
@@ -38,10 +39,18 @@ certificate_or_refusal p b bounds =
       | inl (low, high) ↦ inl (record { low = λ c lt. stable (holds_decided p b bounds Low c) (low c lt); high = λ c lt. stable (holds_decided p b bounds High c) (high c lt) })
     ]
 
-wide_step : ProblemOrRefusal → ProblemFits → CutBarrierOrRefusal → SettledPairExists → ConstantPairsExist → (m : FlowModel) (s : ℕ) (at : TimeStep) (old : List Bound) → IsBefore (one_deck m) at old →
+pub ok_or_err : {X : Type 0} (r : Result X NoBound) → ((x : X) × (r ≡ Ok x)) ⊎ ((n : NoBound) × (r ≡ Err n))
+ok_or_err (Ok x) = inl (x, refl)
+ok_or_err (Err n) = inr (n, refl)
+
+-- the pair of a cell's head, if that is constant
+a_pair : (m : FlowModel) (at : TimeStep) (c : ℕ) → (lo : ℤ) × (hi : ℤ) × IsConstantPair m at c lo hi
+a_pair m at c = ((constant_bound m at c).low, (constant_bound m at c).high, (refl, refl))
+
+wide_step : ProblemFits → CutBarrierOrRefusal → SettledPairExists → (m : FlowModel) (s : ℕ) (at : TimeStep) (old : List Bound) → IsBefore (one_deck m) at old →
     ((x : Solved) × IsSettledStep Wide (one_deck m) s at old x) ⊎ ((n : NoBound) × HasNoHeads Wide (one_deck m) s at old n)
-wide_step problem fits barrier settled pairs m s at old before =
-    elim (problem m s at old before.decks.first before.time) [
+wide_step fits barrier settled m s at old before =
+    elim (ok_or_err (problem_of m s at old)) [
       | inr (n, none) ↦ inr (n, inl (inl none))
       | inl (p, is) ↦
           let ok = fits m s at old p before.decks.first before.time before.heads is in
@@ -53,16 +62,16 @@ wide_step problem fits barrier settled pairs m s at old before =
                 elim (certificate_or_refusal p b bounds) [
                   | inr (n, refused) ↦ inr (n, inr (record { problem = p; barrier = b; posed = record { problem = is; barrier = b_is }; bounds = bounds; pair = are; refused = refused }))
                   | inl certificate ↦
-                      let (heads, heads_are) = heads_list m at (λ c. pairs m at c before.decks.first before.time) bounds in
+                      let (heads, heads_are) = heads_list m at (a_pair m at) bounds in
                       inl (record { problem = p; bounds = bounds; heads = heads }, record { barrier = b; posed = record { problem = is; barrier = b_is }; pair = are; certificate = certificate; heads = heads_are })
                 ]
           ]
     ]
 
-pub a_step : ProblemOrRefusal → ProblemFits → BarrierOrRefusal → CutBarrierOrRefusal → SettledPairExists → ConstantPairsExist → StepOrRefusal
-a_step problem fits barrier cut settled pairs Wide m s at old before = wide_step problem fits cut settled pairs m s at old before
-a_step problem fits barrier cut settled pairs Plain m s at old before =
-    elim (problem m s at old before.decks.first before.time) [
+pub a_step : ProblemFits → BarrierOrRefusal → CutBarrierOrRefusal → SettledPairExists → StepOrRefusal
+a_step fits barrier cut settled Wide m s at old before = wide_step fits cut settled m s at old before
+a_step fits barrier cut settled Plain m s at old before =
+    elim (ok_or_err (problem_of m s at old)) [
       | inr (n, none) ↦ inr (n, inl none)
       | inl (p, is) ↦
           let ok = fits m s at old p before.decks.first before.time before.heads is in
@@ -71,7 +80,7 @@ a_step problem fits barrier cut settled pairs Plain m s at old before =
             | inl (b, b_is) ↦
                 let (l, u, pair) = settled p b ok b_is.fits in
                 let (bounds, are) = settled_list p b l u ok pair in
-                let (heads, heads_are) = heads_list m at (λ c. pairs m at c before.decks.first before.time) bounds in
+                let (heads, heads_are) = heads_list m at (a_pair m at) bounds in
                 inl (record { problem = p; bounds = bounds; heads = heads }, record { barrier = b; posed = record { problem = is; barrier = b_is }; pair = are; certificate = pair_certifies p b (lower_at bounds) (upper_at bounds) ok b_is.fits are.pair; heads = heads_are })
           ]
     ]

@@ -2,7 +2,6 @@
 ghost use Rattle.step_or_refusal.specs.{StepOrRefusal, ListingOrRefusal, BarrierOrRefusal, CutBarrierOrRefusal};
 
 use problem_builder::laws::{problems_fit, start_heads_fit};
-use problem_or_refusal::laws::{constant_pairs_exist, problem_or_refusal, start_heads_exist};
 use step_chain::laws::heads_fit;
 use step_problem::laws::settled_pair;
 
@@ -10,12 +9,10 @@ use step_problem::laws::settled_pair;
 pub fn step_or_refusal()
     ensures { StepOrRefusal }
 {
-    problem_or_refusal();
     problems_fit();
     barrier_or_refusal();
     cut_barrier_or_refusal();
     settled_pair();
-    constant_pairs_exist();
 }
 
 /// A model has a whole listing, or a first refusal at one of its times.
@@ -25,7 +22,6 @@ pub fn listing_or_refusal()
     step_or_refusal();
     heads_fit();
     problems_fit();
-    start_heads_exist();
     start_heads_fit();
 }
 

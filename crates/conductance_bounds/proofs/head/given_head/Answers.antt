@@ -1,8 +1,9 @@
-use Rattle.conductance_bounds.proofs.Common.{◌≡◌, ◌^◌, ◌*◌, arith, FitsSigned, w64, w128, int_min, int_max, to_z-of_z, blend, IsWithin, IsFloorOf, IsCeilingOf}
-use Rattle.conductance_bounds.proofs.Common.{IsGivenPair}
+use Rattle.conductance_bounds.proofs.Common.{◌≡◌, ◌^◌, ◌*◌, arith, FitsSigned, w64, w128, int_min, int_max, to_z-of_z, blend, IsWithin, given_pair, ceiling_of}
+use Rattle.conductance_bounds.proofs.Common.{floor_of}
 use Rattle.conductance_bounds.proofs.Blends.{fits_within, min_within, max_within, lesser, greater}
-use Rattle.conductance_bounds.proofs.GivenHeads.{head_encloses}
+use Rattle.conductance_bounds.proofs.GivenHeads.{given_is, head_encloses}
 use Rattle.conductance_bounds.proofs.HeadRange.{fits_64}
+use Rattle.conductance_bounds.proofs.Units.{pair_of}
 use Rattle.conductance_bounds.proofs.head.given_head.Goals as goal
 
 pub head_floor-requires : goal.head_floor-requires
@@ -41,21 +42,14 @@ returns-clause-rounded c =
     let q : c.blend-2.result ≡ blend c.head_bounds-start.result.lo c.head_bounds-end.result.lo c.args.part.hi = simp to_z-of_z at c.blend-2.ensures.value in
     let p' : c.blend-3.result ≡ blend c.head_bounds-start.result.hi c.head_bounds-end.result.hi c.args.part.lo = simp to_z-of_z at c.blend-3.ensures.value in
     let q' : c.blend-4.result ≡ blend c.head_bounds-start.result.hi c.head_bounds-end.result.hi c.args.part.hi = simp to_z-of_z at c.blend-4.ensures.value in
-    let low : IsFloorOf c.min-low.result c.head_floor.result = simp to_z-of_z at c.head_floor.ensures.floor in
-    let high : IsCeilingOf c.max-high.result c.head_ceiling.result = simp to_z-of_z at c.head_ceiling.ensures.ceiling in
     let k : FitsSigned w64 c.head_floor.result = fits_64 _ c.head_floor.ensures.range in
     let k' : FitsSigned w64 c.head_ceiling.result = fits_64 _ c.head_ceiling.ensures.range in
-    let pair : IsGivenPair c.args.shead c.args.ehead c.args.part.lo c.args.part.hi c.head_floor.result c.head_ceiling.result = record {
-      start_lo = c.head_bounds-start.result.lo;
-      start_hi = c.head_bounds-start.result.hi;
-      end_lo = c.head_bounds-end.result.lo;
-      end_hi = c.head_bounds-end.result.hi;
-      starts = (c.head_bounds-start.ensures.floor, c.head_bounds-start.ensures.ceiling);
-      ends = (c.head_bounds-end.ensures.floor, c.head_bounds-end.ensures.ceiling);
-      floor = lesser _ _ c.blend.result c.blend-2.result c.min-low.result c.head_floor.result c.args.part.lo c.args.part.hi p q e low;
-      ceiling = greater _ _ c.blend-3.result c.blend-4.result c.max-high.result c.head_ceiling.result c.args.part.lo c.args.part.hi p' q' e' high;
-    } in
+    let low : c.head_floor.result ≡ floor_of c.min-low.result = simp to_z-of_z at c.head_floor.ensures.floor in
+    let high : c.head_ceiling.result ≡ ceiling_of c.max-high.result = simp to_z-of_z at c.head_ceiling.ensures.ceiling in
+    let pair : pair_of c.head_floor.result c.head_ceiling.result ≡ given_pair c.args.shead c.args.ehead c.args.part =
+    given_is c.args.shead c.args.ehead c.args.part c.head_bounds-start.result c.head_bounds-end.result c.head_floor.result c.head_ceiling.result c.head_bounds-start.ensures.rounded c.head_bounds-end.ensures.rounded
+    (lesser _ _ c.blend.result c.blend-2.result c.min-low.result c.head_floor.result c.args.part.lo c.args.part.hi p q e low) (greater _ _ c.blend-3.result c.blend-4.result c.max-high.result c.head_ceiling.result c.args.part.lo c.args.part.hi p' q' e' high) in
     simp to_z-of_z pair
 
 pub returns-clause-encloses : goal.returns-clause-encloses
-returns-clause-encloses c = head_encloses c.args.shead c.args.ehead c.args.part.lo c.args.part.hi _ _ (returns-clause-rounded c)
+returns-clause-encloses c = λ x f p q h. head_encloses c.args.shead c.args.ehead c.args.part _ (returns-clause-rounded c) x f p q h

@@ -1,5 +1,6 @@
-use Rattle.decimal_input.specs.{number}
+use Rattle.conductance_bounds.proofs.Common.{number, subst, sym, HeadPair, IsSignedCeiling, IsSignedFloor}
 use Rattle.conductance_bounds.proofs.HeadRange.{ceiling_in_range, fits_64, floor_in_range}
+use Rattle.conductance_bounds.proofs.Units.{head_ceiling, head_floor}
 use Rattle.conductance_bounds.proofs.head.head_bounds.Goals as goal
 
 pub whole_bounds-requires-clause-low : goal.whole_bounds-requires-clause-low
@@ -9,7 +10,8 @@ pub whole_bounds-requires-clause-high : goal.whole_bounds-requires-clause-high
 whole_bounds-requires-clause-high c = λ z h. fits_64 z (ceiling_in_range (number c.args.head) z c.requires.head.range h)
 
 pub returns-clause-range : goal.returns-clause-range
-returns-clause-range c = (
-  floor_in_range (number c.args.head) _ c.requires.head.range c.whole_bounds.ensures.floor,
-  ceiling_in_range (number c.args.head) _ c.requires.head.range c.whole_bounds.ensures.ceiling,
-)
+returns-clause-range c =
+    let pair = sym c.whole_bounds.ensures.rounded in (
+      floor_in_range (number c.args.head) _ c.requires.head.range (subst (λ (p : HeadPair). IsSignedFloor p.lo (number c.args.head) 9) pair (head_floor c.args.head)),
+      ceiling_in_range (number c.args.head) _ c.requires.head.range (subst (λ (p : HeadPair). IsSignedCeiling p.hi (number c.args.head) 9) pair (head_ceiling c.args.head)),
+    )

@@ -1,5 +1,6 @@
-use Rattle.conductance_bounds.proofs.Common.{FitsSigned, w64, w128, to_z-of_z, number}
+use Rattle.conductance_bounds.proofs.Common.{◌≡◌, FitsSigned, w64, w128, to_z-of_z, number, head_pair}
 use Rattle.conductance_bounds.proofs.HeadRange.{fits_wider, no_floor_past, no_ceiling_past}
+use Rattle.conductance_bounds.proofs.Units.{head_pair_is, pair_of}
 use Rattle.conductance_bounds.proofs.head.whole_bounds.Goals as goal
 
 pub unreachable-requires : goal.unreachable-requires
@@ -8,14 +9,11 @@ unreachable-requires c = no_floor_past (number c.args.x) c.requires.low c.in_def
 pub unreachable-requires-in_default-ceil_at : goal.unreachable-requires-in_default-ceil_at
 unreachable-requires-in_default-ceil_at c = no_ceiling_past (number c.args.x) c.requires.high c.in_default-ceil_at.ensures.past
 
-pub returns-clause-floor : goal.returns-clause-floor
-returns-clause-floor c =
+pub returns : goal.returns
+returns c =
     let g : FitsSigned w64 c.in-Some.low = c.requires.low _ c.in-Some.ensures.floor in
     let f : FitsSigned w128 c.in-Some.low = fits_wider _ g in
-    simp to_z-of_z c.in-Some.ensures.floor
-
-pub returns-clause-ceiling : goal.returns-clause-ceiling
-returns-clause-ceiling c =
-    let g : FitsSigned w64 c.in-Some-ceil_at.high = c.requires.high _ c.in-Some-ceil_at.ensures.ceiling in
-    let f : FitsSigned w128 c.in-Some-ceil_at.high = fits_wider _ g in
-    simp to_z-of_z c.in-Some-ceil_at.ensures.ceiling
+    let g' : FitsSigned w64 c.in-Some-ceil_at.high = c.requires.high _ c.in-Some-ceil_at.ensures.ceiling in
+    let f' : FitsSigned w128 c.in-Some-ceil_at.high = fits_wider _ g' in
+    let pair : pair_of c.in-Some.low c.in-Some-ceil_at.high ≡ head_pair c.args.x = head_pair_is c.args.x c.in-Some.low c.in-Some-ceil_at.high c.in-Some.ensures.floor c.in-Some-ceil_at.ensures.ceiling in
+    record { rounded = simp to_z-of_z pair }

@@ -1,13 +1,13 @@
 use Rattle.conductance_bounds.proofs.Common.{inl, arith, ints, AtMost-refl}
 use Rattle.conductance_bounds.proofs.Arithmetic.{size_reach}
-use Rattle.conductance_bounds.proofs.SpanBounds.{unity_is}
+use Rattle.conductance_bounds.proofs.SpanBounds.{one_bounds}
 use Rattle.conductance_bounds.proofs.interval.one.Goals as goal
 
 pub returns-clause-ordered : goal.returns-clause-ordered
 returns-clause-ordered c = record { low = inl (omega arith, omega arith); high = inl (omega arith, omega arith); order = AtMost-refl _ }
 
 pub returns-clause-bounds : goal.returns-clause-bounds
-returns-clause-bounds c = record { lower = (inl (omega arith, omega arith), unity_is); upper = (inl (omega arith, omega arith), unity_is) }
+returns-clause-bounds c = one_bounds
 
 pub returns-clause-reach : goal.returns-clause-reach
 returns-clause-reach c = size_reach _ 17 (record { positive = omega arith; above = omega (arith, ints); below = omega (arith, ints) }) (record { positive = omega arith; above = omega (arith, ints); below = omega (arith, ints) })

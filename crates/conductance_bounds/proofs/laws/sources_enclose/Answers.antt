@@ -2,7 +2,7 @@ use Rattle.conductance_bounds.proofs.ModelBounds.{storages_enclose, recharges_en
 use Rattle.conductance_bounds.proofs.laws.sources_enclose.Goals as goal
 
 pub returns-clause-storages : goal.returns-clause-storages
-returns-clause-storages c = λ m thick bed valid spans p n k s lo hi timed transient lt active. storages_enclose m thick valid p n k s lo hi timed transient lt active (spans.cells k lt active)
+returns-clause-storages c = λ m. storages_enclose m
 
 pub returns-clause-recharges : goal.returns-clause-recharges
 returns-clause-recharges c = λ m. recharges_enclose m

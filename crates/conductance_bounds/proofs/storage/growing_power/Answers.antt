@@ -17,8 +17,8 @@ times-power-requires-clause-near c = omega (arith, sizes_reach c.loop-step.power
 
 pub loop-step-preserved : goal.loop-step-preserved
 loop-step-preserved c =
-    let t = multiplier_size c.exact_span-t.result.lo c.args.tsmult _ c.exact_span-t.ensures.bounds.lower c.requires.slow in
-    let t' = multiplier_size c.exact_span-t.result.hi c.args.tsmult _ c.exact_span-t.ensures.bounds.upper c.requires.slow in
+    let t = multiplier_size c.exact_span-t.result.lo c.args.tsmult _ c.exact_span-t.ensures.ordered.low c.exact_span-t.ensures.exact.0 c.requires.slow in
+    let t' = multiplier_size c.exact_span-t.result.hi c.args.tsmult _ c.exact_span-t.ensures.ordered.high c.exact_span-t.ensures.exact.1 c.requires.slow in
     record {
       ordered = c.times-power.ensures.ordered;
       bounds = power_next (size c.args.tsmult) c.loop-step._step _ (c.times-power.ensures.bounds _ _ c.loop-step.invariant.bounds c.exact_span-t.ensures.bounds);

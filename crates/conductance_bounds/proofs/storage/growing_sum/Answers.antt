@@ -20,8 +20,8 @@ plus-sum-requires-clause-near c = omega (arith, sizes_reach c.loop-step.sum 17 (
 
 pub loop-step-preserved : goal.loop-step-preserved
 loop-step-preserved c =
-    let t = multiplier_size c.exact_span-t.result.lo c.args.tsmult _ c.exact_span-t.ensures.bounds.lower c.requires.slow in
-    let t' = multiplier_size c.exact_span-t.result.hi c.args.tsmult _ c.exact_span-t.ensures.bounds.upper c.requires.slow in
+    let t = multiplier_size c.exact_span-t.result.lo c.args.tsmult _ c.exact_span-t.ensures.ordered.low c.exact_span-t.ensures.exact.0 c.requires.slow in
+    let t' = multiplier_size c.exact_span-t.result.hi c.args.tsmult _ c.exact_span-t.ensures.ordered.high c.exact_span-t.ensures.exact.1 c.requires.slow in
     let p = c.times.ensures.lower c.loop-step.invariant.low.positive t.positive in
     let p' = c.times.ensures.upper c.loop-step.invariant.high.positive t'.positive in
     let one = c.one-one.ensures in

@@ -1,6 +1,6 @@
-use Rattle.problem_builder.proofs.Common.{ap, ◌∙◌, arith, faces, is_constant, IsConstant, through, widths_of, Inputs, ◌≡◌, length}
+use Rattle.problem_builder.proofs.Common.{option_map, whole_constant, ap, ◌∙◌, arith, faces, is_constant, through, Inputs, ◌≡◌, length}
 use Rattle.problem_builder.proofs.FacePairs.{face_paired}
-use Rattle.problem_builder.proofs.Joined.{zip_next, zip_all}
+use Rattle.problem_builder.proofs.Joined.{push_next, made_all}
 use Rattle.problem_builder.proofs.branches.constants.Goals as goal
 
 pub constant_through-requires-clause-face : goal.constant_through-requires-clause-face
@@ -12,10 +12,10 @@ pub loop-face-preserved : goal.loop-face-preserved
 loop-face-preserved c =
     let i = c.args.input.now in
     let len : length c.faces-faces.result ≡ 6 = ap length c.faces-faces.ensures.faces in
-    zip_next (IsConstant i.model (widths_of i.tables) i.tables.digits i.at) (through (is_constant i.model i.at.period)) c.faces-faces.result c.loop-face.face-index _ _ _ c.constant_through.result (omega (arith, len, c.loop-face-test.true)) c.in_ok-push_some.ensures c.constant_through.ensures c.loop-face.invariant
+    push_next (λ o. option_map (whole_constant i.model i.tables.digits i.at i.old) (through (is_constant i.model i.at.period) o)) c.faces-faces.result c.loop-face.face-index _ _ _ c.constant_through.result (omega (arith, len, c.loop-face-test.true)) c.in_ok-push_some.ensures c.constant_through.ensures c.loop-face.invariant
 
 pub returns : goal.returns
 returns c =
     let i = c.args.input.now in
     let len : length c.faces-faces.result ≡ 6 = ap length c.faces-faces.ensures.faces in
-    zip_all (IsConstant i.model (widths_of i.tables) i.tables.digits i.at) (through (is_constant i.model i.at.period)) c.faces-faces.result _ c.loop-face.face-index _ (omega (arith, len, c.loop-face-test.false)) (c.faces-faces.ensures.faces ∙ ap (λ (z : Inputs). faces z.model.grid c.args.cell) c.input.view_is) c.loop-face.invariant
+    made_all (whole_constant i.model i.tables.digits i.at i.old) (through (is_constant i.model i.at.period)) c.faces-faces.result _ c.loop-face.face-index _ (omega (arith, len, c.loop-face-test.false)) (c.faces-faces.ensures.faces ∙ ap (λ (z : Inputs). faces z.model.grid c.args.cell) c.input.view_is) c.loop-face.invariant

@@ -1,5 +1,5 @@
-use Rattle.problem_builder.proofs.Common.{take, AllZip, filter_map, through, is_constant, IsConstant, widths_of}
+use Rattle.problem_builder.proofs.Common.{◌≡◌, take, filter_map, option_map, through, is_constant, whole_constant}
 use Rattle.problem_builder.proofs.branches.constants.Given as goal
 
 abbrev pub invariant-loop-face : goal.invariant-loop-face
-invariant-loop-face l = AllZip (IsConstant l.input.model (widths_of l.input.tables) l.input.tables.digits l.input.at) l.fixed.items (filter_map (through (is_constant l.input.model l.input.at.period)) (take l.face-index l.face-items))
+invariant-loop-face l = l.fixed.items ≡ filter_map (λ o. option_map (whole_constant l.input.model l.input.tables.digits l.input.at l.input.old) (through (is_constant l.input.model l.input.at.period) o)) (take l.face-index l.face-items)

@@ -1,5 +1,5 @@
-use Rattle.problem_builder.proofs.Common.{take, AllZip, filter_map, through, is_variable, IsLink, widths_of}
+use Rattle.problem_builder.proofs.Common.{◌≡◌, take, filter_map, option_map, through, is_variable, whole_link}
 use Rattle.problem_builder.proofs.branches.links.Given as goal
 
 abbrev pub invariant-loop-face : goal.invariant-loop-face
-invariant-loop-face l = AllZip (IsLink l.input.model (widths_of l.input.tables) l.input.tables.digits l.input.at) l.links.items (filter_map (through (is_variable l.input.model l.input.at.period)) (take l.face-index l.face-items))
+invariant-loop-face l = l.links.items ≡ filter_map (λ o. option_map (whole_link l.input.model l.input.tables.digits l.input.at l.input.old) (through (is_variable l.input.model l.input.at.period) o)) (take l.face-index l.face-items)

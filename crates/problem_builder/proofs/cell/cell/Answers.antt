@@ -1,20 +1,17 @@
-use Rattle.problem_builder.proofs.Common.{refl, sym, subst, ◌∙◌, List, AllZip, River, Drain, local_entries, river_sources, drain_sources, IsRiver, IsDrain}
-use Rattle.problem_builder.proofs.Common.{LocalBounds, AreLocalBounds}
+use Rattle.problem_builder.proofs.Common.{ap, ◌∙◌, local_entries, as_river, as_drain, option_map, whole_river, whole_drain, LocalBounds, refl}
+use Rattle.problem_builder.proofs.Joined.{made_of}
 use Rattle.problem_builder.proofs.cell.cell.Goals as goal
 
 pub returns : goal.returns
 returns c =
     let i = c.args.input.now in
     let s = i.tables.digits in
-    let p = i.at.period in
-    let n = c.args.number in
-    let are = subst (λ (x : LocalBounds). AreLocalBounds s n x (local_entries i.model p n)) (sym (c.entries.view_is ∙ c.entries-entries.ensures)) (c.requires.input.period.local n) in
-    record {
-      id = refl;
-      flows = c.in_ok-flows.ensures;
-      links = c.in_ok-links.ensures;
-      fixed = c.in_ok-fixed_branches.ensures;
-      rivers = subst (λ (xs : List River). AllZip (IsRiver s) xs (river_sources i.model p n)) (sym c.in_ok-from_slice.ensures.items) are.rivers;
-      drains = subst (λ (xs : List Drain). AllZip (IsDrain s) xs (drain_sources i.model p n)) (sym c.in_ok-from_slice-2.ensures.items) are.drains;
-      evaps = c.in_ok-evaps.ensures;
-    }
+    let entries = local_entries i.model i.at.period c.args.number in
+    let are = c.entries.view_is ∙ c.entries-entries.ensures ∙ c.requires.input.period.local c.args.number in
+    let flows = c.in_ok-flows.ensures in
+    let links = c.in_ok-links.ensures in
+    let fixed = c.in_ok-fixed_branches.ensures in
+    let rivers = c.in_ok-from_slice.ensures.items ∙ ap (λ (x : LocalBounds). x.rivers) are ∙ made_of (whole_river s) as_river (λ x. option_map (whole_river s) (as_river x)) (λ x. refl) entries in
+    let drains = c.in_ok-from_slice-2.ensures.items ∙ ap (λ (x : LocalBounds). x.drains) are ∙ made_of (whole_drain s) as_drain (λ x. option_map (whole_drain s) (as_drain x)) (λ x. refl) entries in
+    let evaps = c.in_ok-evaps.ensures in
+    λ t. record { id = c.args.number; flows = flows t; links = links t; fixed = fixed t; rivers = rivers t; drains = drains t; evaps = evaps t }

@@ -1,11 +1,11 @@
-use Rattle.problem_builder.proofs.Common.{sym, subst, ◌∙◌, recharge_at, local_entries, LocalBounds, AreLocalBounds, widths_of}
+use Rattle.problem_builder.proofs.Common.{ap, ◌∙◌, recharge_at, local_entries, LocalBounds}
 use Rattle.problem_builder.proofs.Joined.{flows_are, pushed}
 use Rattle.problem_builder.proofs.cell.flows.Goals as goal
 
 pub returns : goal.returns
 returns c =
     let i = c.args.input.now in
-    let are = subst (λ (x : LocalBounds). AreLocalBounds i.tables.digits c.args.cell x (local_entries i.model i.at.period c.args.cell)) (sym (c.entries.view_is ∙ c.entries-entries.ensures)) (c.requires.input.period.local c.args.cell) in
-    flows_are i.model (widths_of i.tables) i.tables.digits i.at i.old c.args.cell c.received_flow-received.result (recharge_at i.model i.at.period c.args.cell) _ _ _ _
-    (pushed _ _ c.received_flow-received.result c.in_ok-flows.ensures.items c.in_ok-push_some.ensures) c.received_flow-received.ensures are.wells
+    let are = c.entries.view_is ∙ c.entries-entries.ensures ∙ c.requires.input.period.local c.args.cell in
+    flows_are i.model i.tables.digits i.at i.old c.args.cell c.received_flow-received.result (recharge_at i.model i.at.period c.args.cell) _ (local_entries i.model i.at.period c.args.cell) _ _
+    (pushed _ _ c.received_flow-received.result c.in_ok-flows.ensures.items c.in_ok-push_some.ensures) c.received_flow-received.ensures (ap (λ (x : LocalBounds). x.wells) are)
     c.in_ok-extend_from_slice.ensures.items

@@ -1,5 +1,4 @@
-use Rattle.problem_builder.proofs.Common.{◌≡◌, ◌+◌, suc, ap, arith, ◌∙◌, FitsSigned, ◌||◌, ◌&&◌, w64, to_z-of_z, layer_of, place_in_layer, int_at, is_active}
-use Rattle.problem_builder.proofs.Common.{is_int}
+use Rattle.problem_builder.proofs.Common.{◌≡◌, ◌+◌, suc, ap, arith, ◌∙◌, FitsSigned, ◌||◌, ◌&&◌, w64, to_z-of_z, layer_of, place_in_layer, int_at, is_int}
 use Rattle.problem_builder.proofs.chosen.is_chosen.Goals as goal
 
 pub returns : goal.returns

@@ -1,9 +1,9 @@
-use Rattle.problem_builder.specs.{no_pair, span_in, HasConductance}
+use Rattle.problem_builder.specs.{no_pair, HasConductance}
 use Rattle.problem_builder.proofs.CellFits.{none_filled, next_filled}
 use Rattle.problem_builder.proofs.faces.pairs.Goals as goal
 
 pub loop-cell-init : goal.loop-cell-init
-loop-cell-init c = none_filled (HasConductance c.args.model.now (span_in c.args.thick.now) (span_in c.args.beds.now) c.args.s c.args.axis) no_pair _ c.new-pairs.ensures.items
+loop-cell-init c = none_filled (HasConductance c.args.model.now c.args.s c.args.axis) no_pair _ c.new-pairs.ensures.items
 
 pub loop-cell-preserved : goal.loop-cell-preserved
-loop-cell-preserved c = next_filled (HasConductance c.args.model.now (span_in c.args.thick.now) (span_in c.args.beds.now) c.args.s c.args.axis) no_pair c.loop-cell.cell c.loop-cell.pairs.items _ _ c.in_ok-push.ensures.items c.pair_after.ensures c.loop-cell.invariant
+loop-cell-preserved c = next_filled (HasConductance c.args.model.now c.args.s c.args.axis) no_pair c.loop-cell.cell c.loop-cell.pairs.items _ _ c.in_ok-push.ensures.items c.pair_after.ensures c.loop-cell.invariant

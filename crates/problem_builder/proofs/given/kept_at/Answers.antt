@@ -1,4 +1,4 @@
-use Rattle.problem_builder.proofs.Common.{Option, sym, subst, ◌∙◌, Given, IsKeptPair, false≢true}
+use Rattle.problem_builder.proofs.Common.{ap, cond, last_given, no_bound, take, kept_bound, sym, ◌∙◌}
 use Rattle.problem_builder.proofs.CellTables.{last_at}
 use Rattle.problem_builder.proofs.BoundsOf.{last_head}
 use Rattle.problem_builder.proofs.given.kept_at.Goals as goal
@@ -12,9 +12,12 @@ kept_of-requires-clause-last c =
 
 pub returns : goal.returns
 returns c =
+    let m = c.args.model.now in
     let active = sym c.if-not-is_active.ensures in
-    record {
-      active = (λ a. subst (λ (o : Option Given). IsKeptPair c.args.model.now c.args.cell o c.kept_of.result.low c.kept_of.result.high)
-          (c.at.ensures ∙ last_at c.args.model.now c.args.given.now c.args.cell c.requires.given c.requires.cell) c.kept_of.ensures);
-      no_flow = (λ e. absurd (false≢true (sym e ∙ active)));
-    }
+    let last = c.at.ensures ∙ last_at m c.args.given.now c.args.cell c.requires.given c.requires.cell in
+    c.kept_of.ensures ∙ ap (kept_bound m c.args.cell) last ∙ ap (λ b. cond b (kept_bound m c.args.cell (last_given (take c.args.given.now.period m.periods) c.args.cell)) no_bound) (sym active)
+
+pub returns-then-not-is_active : goal.returns-then-not-is_active
+returns-then-not-is_active c =
+    let m = c.args.model.now in
+    ap (λ b. cond b (kept_bound m c.args.cell (last_given (take c.args.given.now.period m.periods) c.args.cell)) no_bound) c.if-not-is_active.ensures

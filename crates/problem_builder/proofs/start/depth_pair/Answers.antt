@@ -1,4 +1,4 @@
-use Rattle.problem_builder.proofs.Common.{subst, sym, Bound, IsHeadPair}
+use Rattle.problem_builder.proofs.Common.{ap, ◌∙◌, bound_of_pair}
 use Rattle.problem_builder.proofs.Fits.{ceiling_units, floor_units, units_64}
 use Rattle.problem_builder.proofs.start.depth_pair.Goals as goal
 
@@ -9,4 +9,4 @@ pub whole_bounds-requires-clause-high : goal.whole_bounds-requires-clause-high
 whole_bounds-requires-clause-high c = λ z h. units_64 z (ceiling_units c.args.depth z c.requires.depth h)
 
 pub returns : goal.returns
-returns c = subst (λ (b : Bound). IsHeadPair c.args.depth b.low b.high) (sym c.bound_of.ensures) (record { floor = c.whole_bounds.ensures.floor; ceiling = c.whole_bounds.ensures.ceiling })
+returns c = c.bound_of.ensures ∙ ap bound_of_pair c.whole_bounds.ensures.rounded

@@ -1,7 +1,5 @@
-use Rattle.model_types.specs.{dec_at}
+use Rattle.problem_builder.proofs.CellFits.{starts_enclose, starts_fit}
 use Rattle.problem_builder.proofs.CellTables.{kept_start}
-use Rattle.problem_builder.proofs.CellEnclosed.{head_encloses}
-use Rattle.problem_builder.proofs.CellFits.{starts_fit}
 use Rattle.problem_builder.proofs.start.start_heads.Goals as goal
 
 pub returns-clause-bounds : goal.returns-clause-bounds
@@ -11,4 +9,4 @@ pub returns-clause-heads : goal.returns-clause-heads
 returns-clause-heads c = starts_fit c.args.model.now _ c.requires (returns-clause-bounds c)
 
 pub returns-clause-encloses : goal.returns-clause-encloses
-returns-clause-encloses c b active = head_encloses (dec_at c.args.model.now.strt b) _ _ (((returns-clause-bounds c).each b active.within).active active.active)
+returns-clause-encloses c = starts_enclose c.args.model.now _ (returns-clause-bounds c)

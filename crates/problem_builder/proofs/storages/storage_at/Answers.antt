@@ -1,9 +1,11 @@
-use Rattle.problem_builder.proofs.Common.{◌≡◌, ◌-◌, cond, Option, Some, None, sym, ap, ◌∙◌, subst, size, Sd, Period, dec_at, thickness, IsPositive}
-use Rattle.problem_builder.proofs.Common.{IsNotNegative, period_at, storage_of, storage_formula, storativity_term, storage_term, area_term, sum_term}
-use Rattle.problem_builder.proofs.Common.{power_term, IsCapped, Term, span_in, delr_positive, delc_positive}
+use Rattle.problem_builder.proofs.Common.{capped, small_pair, thick_span, ◌≡◌, ◌-◌, cond, Option, Some, None, sym, ap, ◌∙◌, subst, size, Period, dec_at}
+use Rattle.problem_builder.proofs.Common.{thickness, IsPositive, IsNotNegative, period_at, storage_of, storage_formula, storativity_term, storage_term}
+use Rattle.problem_builder.proofs.Common.{area_term, sum_term, power_term, span_in, delr_positive, delc_positive}
+use Rattle.scaled_decimal.specs.declared.decimal.Sd.{Sd}
 use Rattle.conductance_bounds.specs.{IsThickness}
 use Rattle.problem_builder.proofs.ValidEntries.{period_valid}
 use Rattle.problem_builder.proofs.StorageParts.{thick_case, usable_case}
+use Rattle.problem_builder.proofs.Fits.{kept_pair}
 use Rattle.problem_builder.proofs.storages.storage_at.Goals as goal
 
 pub storage_branch-requires-clause-ss : goal.storage_branch-requires-clause-ss
@@ -32,20 +34,18 @@ storage_branch-requires-clause-perlen c =
     subst P (sym c.stress_period-period.ensures) ((period_valid c.args.model.now c.args.number c.requires.model c.requires.number).times.lasts c.requires.transient)
 
 pub returns : goal.returns
+unfolding capped
 returns c n grown =
     let m = c.args.model.now in
-    let t = c.args.tables.now in
     let d = c.args.cell in
     let w = period_at m c.args.number in
     let per = c.stress_period-period.ensures in
     let ss = c.dec_at-ss.ensures ∙ ap (λ xs. dec_at xs d) c.as_slice.ensures in
-    let span = c.span_at.ensures ∙ ap (λ xs. span_in xs d) c.as_slice-2.ensures in
-    let thick : c.thickness_in-thickness.result ≡ cond m.coefficient None (Some ((span_in t.thick d).lo, (span_in t.thick d).hi)) = c.thickness_in-thickness.ensures ∙ (λ q. cond m.coefficient None (Some ((span q).lo, (span q).hi))) in
+    let span = c.span_at.ensures ∙ ap (λ xs. span_in xs d) c.as_slice-2.ensures ∙ (c.requires.tables.thick.each d c.requires.cell c.requires.active).span in
+    let thick : c.thickness_in-thickness.result ≡ cond m.coefficient None (Some ((thick_span m d).lo, (thick_span m d).hi)) = c.thickness_in-thickness.ensures ∙ (λ q. cond m.coefficient None (Some ((span q).lo, (span q).hi))) in
     let delr = c.delr_at-delr.ensures in
     let delc = c.delc_at-delc.ensures in
-    let called = c.capped_pair.ensures _ t.digits (c.storage_branch.ensures.rounded (size w.tsmult) w.nstp n (thickness m d) grown) in
-    let same : storage_of c.dec_at-ss.result c.thickness_in-thickness.result c.delr_at-delr.result c.delc_at-delc.result (size w.tsmult) w.nstp n c.stress_period-period.result.now.perlen (thickness m d) ≡ storage_term m (span_in t.thick) w n d =
+    let same : storage_of c.dec_at-ss.result c.thickness_in-thickness.result c.delr_at-delr.result c.delc_at-delc.result (size w.tsmult) w.nstp n c.stress_period-period.result.now.perlen (thickness m d) ≡ storage_term m w n d =
     (λ q. storage_of (ss q) (thick q) (delr q) (delc q) (size w.tsmult) w.nstp n (per q).perlen (thickness m d))
-    ∙ ap (λ o. storage_formula (storativity_term (size (dec_at m.ss d)) o) (area_term m d) (sum_term (size w.tsmult) (w.nstp - 1)) (size w.perlen) (power_term (size w.tsmult) (n - 1))) (thick_case m.coefficient (span_in t.thick d) (thickness m d)) in
-    let P : Term → Type 0 = λ z. IsCapped z t.digits c.capped_pair.result.lo c.capped_pair.result.hi in
-    subst P same called
+    ∙ ap (λ o. storage_formula (storativity_term (size (dec_at m.ss d)) o) (area_term m d) (sum_term (size w.tsmult) (w.nstp - 1)) (size w.perlen) (power_term (size w.tsmult) (n - 1))) (thick_case m.coefficient (thick_span m d) (thickness m d)) in
+    c.capped_pair.ensures ∙ ap kept_pair (c.storage_branch.ensures.rounded (size w.tsmult) w.nstp n (thickness m d) grown ∙ ap (λ z. small_pair z c.args.tables.now.digits) same)

@@ -1,6 +1,7 @@
-use Rattle.problem_builder.proofs.Common.{sym, subst, inl, Dec, bottom_at, lowest, IsThick, IsSpan}
+use Rattle.problem_builder.proofs.Common.{◌∙◌, sym, subst, inl, Dec, bottom_at, lowest, IsThick}
 use Rattle.problem_builder.proofs.Elevations.{bed_valid}
 use Rattle.problem_builder.proofs.Halves.{bed_some}
+use Rattle.conductance_bounds.specs.{span as span_between}
 use Rattle.problem_builder.proofs.tables.bed_at.Goals as goal
 
 pub thickness-requires-clause-thick : goal.thickness-requires-clause-thick
@@ -16,5 +17,5 @@ returns-then-has_bed c = λ lt x y.
     let m = c.args.model.now in
     let h = c.has_bed.ensures.bed c.if-has_bed.true in
     let valid = bed_valid m c.args.cell c.requires.model lt x y h.0 h.1 in
-    let span = subst (λ (z : Dec). IsSpan z (lowest m c.args.cell) c.thickness.result) c.bottom_at.ensures (subst (λ (z : Dec). IsSpan c.bottom_at.result z c.thickness.result) c.lowest.ensures c.thickness.ensures.rounded) in
+    let span = c.thickness.ensures.rounded ∙ (λ t. span_between (c.bottom_at.ensures t) (c.lowest.ensures t)) in
     inl (record { some = bed_some m c.args.cell valid; span = span; thick = c.thickness.ensures.usable; vkcb = valid.vkcb })

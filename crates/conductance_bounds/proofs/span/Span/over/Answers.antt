@@ -1,4 +1,4 @@
-use Rattle.conductance_bounds.proofs.Arithmetic.{cross_operands, positive_above, quotient_ordered, quotient_reach}
+use Rattle.conductance_bounds.proofs.Arithmetic.{cross_operands, positive_above, quotient_bounds, quotient_ordered, quotient_reach}
 use Rattle.conductance_bounds.proofs.span.Span.over.Goals as goal
 
 pub div_dn-requires-clause-operands : goal.div_dn-requires-clause-operands
@@ -17,7 +17,4 @@ pub returns-clause-reach : goal.returns-clause-reach
 returns-clause-reach c = quotient_reach c.args.self c.args.divisor _ c.div_dn.ensures.exponent c.div_up.ensures.exponent
 
 pub returns-clause-bounds : goal.returns-clause-bounds
-returns-clause-bounds c = λ t u p q. record {
-  lower = (c.args.self.lo, c.args.divisor.hi, p.lower, q.upper, positive_above c.args.divisor.lo c.args.divisor.hi c.requires.second.order c.requires.divisor_positive, c.div_dn.ensures.nearest);
-  upper = (c.args.self.hi, c.args.divisor.lo, p.upper, q.lower, c.requires.divisor_positive, c.div_up.ensures.nearest);
-}
+returns-clause-bounds c = λ t u p q. quotient_bounds t u c.args.self c.args.divisor _ p q c.div_dn.ensures.nearest c.div_up.ensures.nearest

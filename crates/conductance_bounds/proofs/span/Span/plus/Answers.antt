@@ -1,4 +1,4 @@
-use Rattle.conductance_bounds.proofs.Arithmetic.{operands, sum_ordered, sum_reach}
+use Rattle.conductance_bounds.proofs.Arithmetic.{operands, sum_bounds, sum_ordered, sum_reach}
 use Rattle.conductance_bounds.proofs.span.Span.plus.Goals as goal
 
 pub add_dn-requires : goal.add_dn-requires
@@ -14,7 +14,4 @@ pub returns-clause-reach : goal.returns-clause-reach
 returns-clause-reach c = sum_reach c.args.self c.args.other _ c.add_dn.ensures.exponent c.add_up.ensures.exponent
 
 pub returns-clause-bounds : goal.returns-clause-bounds
-returns-clause-bounds c = λ t u p q. record {
-  lower = (c.args.self.lo, c.args.other.lo, p.lower, q.lower, c.add_dn.ensures.nearest);
-  upper = (c.args.self.hi, c.args.other.hi, p.upper, q.upper, c.add_up.ensures.nearest);
-}
+returns-clause-bounds c = λ t u p q. sum_bounds t u c.args.self c.args.other _ p q c.add_dn.ensures.nearest c.add_up.ensures.nearest

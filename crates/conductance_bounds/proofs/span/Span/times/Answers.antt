@@ -1,4 +1,4 @@
-use Rattle.conductance_bounds.proofs.Arithmetic.{operands, product_ordered, product_reach}
+use Rattle.conductance_bounds.proofs.Arithmetic.{operands, product_bounds, product_ordered, product_reach}
 use Rattle.conductance_bounds.proofs.span.Span.times.Goals as goal
 
 pub mul_dn-requires : goal.mul_dn-requires
@@ -14,7 +14,4 @@ pub returns-clause-reach : goal.returns-clause-reach
 returns-clause-reach c = product_reach c.args.self c.args.other _ c.mul_dn.ensures.exponent c.mul_up.ensures.exponent
 
 pub returns-clause-bounds : goal.returns-clause-bounds
-returns-clause-bounds c = λ t u p q. record {
-  lower = (c.args.self.lo, c.args.other.lo, p.lower, q.lower, c.mul_dn.ensures.nearest);
-  upper = (c.args.self.hi, c.args.other.hi, p.upper, q.upper, c.mul_up.ensures.nearest);
-}
+returns-clause-bounds c = λ t u p q. product_bounds t u c.args.self c.args.other _ p q c.mul_dn.ensures.nearest c.mul_up.ensures.nearest

@@ -1,5 +1,5 @@
 use Rattle.problem_builder.proofs.Common.{ℕ, subst, ap, ◌∙◌, refl, arith, no_bound, NoFlow, Period, cell_count, entries_of, entries, AreLocalBounds, local_in}
-use Rattle.problem_builder.proofs.Common.{◌≡◌, ◌-◌, Filled, IsKind, IsIndex, IsKept, AreEvenStorages, span_in}
+use Rattle.problem_builder.proofs.Common.{◌≡◌, ◌-◌, Filled, IsKind, IsIndex, IsKept, AreEvenStorages}
 use Rattle.problem_builder.proofs.CellTables.{kinds_filled}
 use Rattle.problem_builder.proofs.PeriodMade.{filled_as, named_as, period_as}
 use Rattle.problem_builder.proofs.ValidEntries.{entries_in}
@@ -17,7 +17,7 @@ even_storages-requires-clause-kinds c =
 pub returns-clause-storage : goal.returns-clause-storage
 returns-clause-storage c =
     let t = c.args.tables.now in
-    subst (λ (q : ℕ). AreEvenStorages c.args.model.now (span_in t.thick) t.digits q c.in_ok-storage.storage) c.in_ok-next.ensures.period c.in_ok-storage.ensures
+    subst (λ (q : ℕ). AreEvenStorages c.args.model.now t.digits q c.in_ok-storage.storage) c.in_ok-next.ensures.period c.in_ok-storage.ensures
 
 pub returns-clause-tables : goal.returns-clause-tables
 returns-clause-tables c =

@@ -1,4 +1,4 @@
-use Rattle.problem_builder.proofs.Common.{◌∙◌, [], sym, subst, AreAppended, AreLocalBounds, LocalBounds}
+use Rattle.problem_builder.proofs.Common.{refl, ◌∙◌, [], sym, subst, AreAppended, AreLocalBounds, LocalBounds}
 use Rattle.problem_builder.proofs.Appended.{appended_both, four_in, renamed}
 use Rattle.problem_builder.proofs.local.Local.of_period.Goals as goal
 
@@ -36,4 +36,4 @@ returns-clause-are c = λ d.
     let third = subst (AreAppended s rivers drains) c.as_slice-3.ensures c.in_ok-drains.ensures.appended in
     let fourth = subst (AreAppended s drains all) c.as_slice-4.ensures c.in_ok-all.ensures.appended in
     let whole = appended_both s none wells all p.wells _ first (appended_both s wells rivers all p.rivers _ second (appended_both s rivers drains all p.drains p.generals third fourth)) in
-    whole d [] (subst (λ (x : LocalBounds). AreLocalBounds s d x []) (sym (c.in_ok-none.ensures.empty d)) (record { wells = tt; rivers = tt; drains = tt; generals = tt }))
+    whole d [] (subst (λ (x : LocalBounds). AreLocalBounds s d x []) (sym (c.in_ok-none.ensures.empty d)) refl)

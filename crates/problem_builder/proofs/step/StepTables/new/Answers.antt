@@ -1,5 +1,4 @@
-use Rattle.problem_builder.proofs.Common.{no_bound, cell_count, HasConstantHead}
-use Rattle.problem_builder.proofs.PeriodMade.{filled_as}
+use Rattle.std.proofs.Common.{◌∙◌}
 use Rattle.problem_builder.proofs.TimesOf.{time_of}
 use Rattle.problem_builder.proofs.step.StepTables.new.Goals as goal
 
@@ -10,9 +9,4 @@ pub factors_of-requires-clause-time : goal.factors_of-requires-clause-time
 factors_of-requires-clause-time c = time_of c.args.model.now c.args.at c.requires.model c.requires.time
 
 pub returns : goal.returns
-returns c =
-    let m = c.args.model.now in
-    record {
-      factors = c.factors_of.ensures;
-      heads = filled_as (HasConstantHead m c.args.at) no_bound (cell_count m.grid) _ _ c.new.ensures c.in_ok-heads.ensures;
-    }
+returns c = record { factors = c.factors_of.ensures; heads = c.new.ensures ∙ c.in_ok-heads.ensures }
