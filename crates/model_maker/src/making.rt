@@ -82,7 +82,6 @@ const GREATEST_RATE: u64 = 500;
 #[tactic(auto, unfolding(crate::specs::Files::after))]
 pub(crate) fn wel_text(alloc: Global, draws: &mut Draws, size: u64) -> Result<Vec<u8>, AllocError>
     requires size { 1 ≤ size }
-    requires small { draws.old.x < 2147483648 }
     ensures { IfOk result (λ text. text.items ≡ wel_text size draws.old.x) }
 {
     let row = draws.draw(size);

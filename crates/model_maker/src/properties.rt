@@ -17,43 +17,28 @@ fn push_gap(text: &mut Vec<u8>, place: u64) -> Result<(), AllocError>
     Ok(())
 }
 
-fn push_hk(text: &mut Vec<u8>, draws: &mut Draws) -> Result<(), AllocError>
-    requires { draws.old.x < 2147483648 }
-    ensures text { IfOk result (λ _. text.new.items ≡ text.old.items ++ hk_text draws.old.x) }
-    ensures next { draws.new.x ≡ next_state draws.old.x }
-    ensures small { draws.new.x < 2147483648 }
+fn push_hk(text: &mut Vec<u8>, draws: &mut Draws, place: u64) -> Result<(), AllocError>
+    ensures text { IfOk result (λ _. text.new.items ≡ text.old.items ++ (gap place ++ hk_text draws.old.x)) }
+    ensures next { IfOk result (λ _. draws.new.x ≡ next_state draws.old.x) }
 {
+    push_gap(text, place)?;
     let hk = 1 + draws.draw(GREATEST);
     push_number(text, u128::from(hk))
 }
 
-fn push_hk_value(text: &mut Vec<u8>, draws: &mut Draws, place: u64) -> Result<(), AllocError>
-    requires { draws.old.x < 2147483648 }
-    ensures text { IfOk result (λ _. text.new.items ≡ text.old.items ++ (gap place ++ hk_text draws.old.x)) }
-    ensures next { IfOk result (λ _. draws.new.x ≡ next_state draws.old.x) }
-    ensures small { draws.new.x < 2147483648 }
-{
-    push_gap(text, place)?;
-    push_hk(text, draws)
-}
-
 fn push_hk_values(text: &mut Vec<u8>, draws: &mut Draws, count: u64) -> Result<(), AllocError>
-    requires { draws.old.x < 2147483648 }
     ensures text { IfOk result (λ _. text.new.items ≡ text.old.items ++ texts_below count (λ j. gap j ++ hk_text (after j draws.old.x))) }
     ensures next { IfOk result (λ _. draws.new.x ≡ after count draws.old.x) }
-    ensures small { draws.new.x < 2147483648 }
 {
     for place in 0..count {
-        push_hk_value(text, draws, place)?;
+        push_hk(text, draws, place)?;
     }
     Ok(())
 }
 
 fn push_hk_row(text: &mut Vec<u8>, draws: &mut Draws, size: u64) -> Result<(), AllocError>
-    requires { draws.old.x < 2147483648 }
     ensures text { IfOk result (λ _. text.new.items ≡ text.old.items ++ hk_row size draws.old.x) }
     ensures next { IfOk result (λ _. draws.new.x ≡ after size draws.old.x) }
-    ensures small { draws.new.x < 2147483648 }
 {
     push_hk_values(text, draws, size)?;
     text.push(b'\n')?;
@@ -61,10 +46,8 @@ fn push_hk_row(text: &mut Vec<u8>, draws: &mut Draws, size: u64) -> Result<(), A
 }
 
 fn push_hk_rows(text: &mut Vec<u8>, draws: &mut Draws, size: u64) -> Result<(), AllocError>
-    requires { draws.old.x < 2147483648 }
     ensures text { IfOk result (λ _. text.new.items ≡ text.old.items ++ texts_below size (λ i. hk_row size (after (i * size) draws.old.x))) }
     ensures next { IfOk result (λ _. draws.new.x ≡ after (size * size) draws.old.x) }
-    ensures small { draws.new.x < 2147483648 }
 {
     for _ in 0..size {
         push_hk_row(text, draws, size)?;
@@ -73,10 +56,8 @@ fn push_hk_rows(text: &mut Vec<u8>, draws: &mut Draws, size: u64) -> Result<(), 
 }
 
 fn push_layer(text: &mut Vec<u8>, draws: &mut Draws, size: u64) -> Result<(), AllocError>
-    requires { draws.old.x < 2147483648 }
     ensures text { IfOk result (λ _. text.new.items ≡ text.old.items ++ layer_text size draws.old.x) }
     ensures next { IfOk result (λ _. draws.new.x ≡ after (size * size) draws.old.x) }
-    ensures small { draws.new.x < 2147483648 }
 {
     text.extend_from_slice(b"INTERNAL 1 (FREE) -1\n")?;
     push_hk_rows(text, draws, size)?;
@@ -87,10 +68,8 @@ fn push_layer(text: &mut Vec<u8>, draws: &mut Draws, size: u64) -> Result<(), Al
 /// The file of LPF.
 #[tactic(auto, using(crate::proofs::Texts::after_twice))]
 pub(crate) fn lpf_text(alloc: Global, draws: &mut Draws, size: u64) -> Result<Vec<u8>, AllocError>
-    requires { draws.old.x < 2147483648 }
     ensures text { IfOk result (λ text. text.items ≡ lpf_text size draws.old.x) }
     ensures next { IfOk result (λ _. draws.new.x ≡ after (2 * (size * size)) draws.old.x) }
-    ensures small { draws.new.x < 2147483648 }
 {
     let mut text = Vec::new(alloc);
     text.extend_from_slice(b"0 -1E+30 0\n0 0\n0 0\n1 1\n0 0\n0 0\n")?;
@@ -101,10 +80,11 @@ pub(crate) fn lpf_text(alloc: Global, draws: &mut Draws, size: u64) -> Result<Ve
 
 // The generator of the numbers of a made model.
 
-/// The generator, with its state, which is below 2^31.
+/// The generator, with its state.
 #[derive(Drop)]
 pub(crate) struct Draws {
     pub(crate) x: u64,
+    ghost small: { x < 2147483648 },
 }
 
 #[tactic(auto, unfolding(crate::specs::Files::next_state))]
@@ -120,11 +100,9 @@ impl Draws {
     /// Draws a number below n.
     pub(crate) fn draw(&mut self, n: u64) -> u64
         requires some { 0 < n }
-        requires small { self.old.x < 2147483648 }
         ensures number { result ≡ drawn n self.old.x }
         ensures below { result < n }
         ensures next { self.new.x ≡ next_state self.old.x }
-        ensures small { self.new.x < 2147483648 }
     {
         self.x = next_state(self.x);
         self.x / 65_536 % n

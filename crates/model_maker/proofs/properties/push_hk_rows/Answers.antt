@@ -6,12 +6,10 @@ pub loop-init : goal.loop-init
 loop-init c = record {
   text = no_text c.args.text.now.items (λ i. hk_row c.args.size (after (i * c.args.size) c.args.draws.now.x));
   next = no_rows c.args.size c.args.draws.now.x;
-  small = c.requires;
 }
 
 pub loop-preserved : goal.loop-preserved
 loop-preserved c = record {
   text = one_row c.args.text.now.items c.loop.text.items _ c.args.size c.loop.counter c.args.draws.now.x c.loop.draws.x c.loop.invariant.text c.loop.invariant.next c.in_ok-push_hk_row.ensures.text;
   next = next_row c.args.size c.loop.counter c.args.draws.now.x c.loop.draws.x _ c.loop.invariant.next c.in_ok-push_hk_row.ensures.next;
-  small = c.in_ok-push_hk_row.ensures.small;
 }
