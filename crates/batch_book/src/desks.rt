@@ -1,5 +1,5 @@
 // The workers, each at a desk of its own.
-ghost use Rattle.std.specs.Prelude.{◌≡◌, ◌<◌, ◌≤◌, All, IfOk, length, vec_len};
+ghost use Rattle.std.specs.Prelude.{◌≡◌, ◌<◌, ◌≤◌, All, IfOk, vec_len};
 ghost use Rattle.crossbeam_queue.specs.Passes.{IsPassOf};
 
 use crate::book::Book;
@@ -72,32 +72,7 @@ where
     }
 }
 
-// Each desk has a worker, in a thread of its own where one can be started. Workers are numbered from 1.
-fn work_at<'a, N: Counted + Sync, R: Threads + Wait + Sync, J: Jobs + Sync, G: Gate + Sync>(
-    rt: &R,
-    alloc: Global,
-    queue: &Queue<N>,
-    jobs: &J,
-    desks: &mut [Desk<'a, J>],
-    gate: &G,
-)
-where
-    J::End: Send + Drop,
-    requires workers { (0 < length desks.old) × (length desks.old ≤ 64) }
-    requires desks { All (λ d. IsPassOf queue.now d.pass × (d.book.0 ≡ jobs.now)) desks.old }
-    requires count { N.jobs ≡ J.number jobs.now }
-    ensures { All (λ d. d.book.0 ≡ jobs.now) desks.new }
-{
-    let workers = desks.len();
-    thread::for_each_mut(
-        rt,
-        desks,
-        workers,
-        &|i, desk| work(rt, alloc, queue, jobs, desk, i as u32 + 1, gate),
-    );
-}
-
-/// The desks after the work.
+/// The desks after the work. Each has a worker, in a thread of its own where one can be started. Workers are numbered from 1.
 pub(crate) fn worked<
     'a,
     N: Counted + Sync,
@@ -119,6 +94,12 @@ where
     requires count { N.jobs ≡ J.number jobs.now }
     ensures { All (λ d. d.book.0 ≡ jobs.now) result.items }
 {
-    work_at(rt, alloc, queue, jobs, desks.as_mut_slice(), gate);
+    let workers = desks.len();
+    thread::for_each_mut(
+        rt,
+        desks.as_mut_slice(),
+        workers,
+        &|i, desk| work(rt, alloc, queue, jobs, desk, i as u32 + 1, gate),
+    );
     desks
 }
