@@ -1,6 +1,5 @@
-ghost use Rattle.std.specs.Prelude.{◌≡◌, List, ◌++◌};
-ghost use Rattle.outside.specs.{Put};
-ghost use Rattle.run_puts.specs.{IsRun, NeverCut};
+ghost use Rattle.std.specs.Prelude.{◌≡◌};
+ghost use Rattle.run_puts.specs.{IsRun, NeverCut, PutsMore};
 ghost use Rattle.batch_puts.specs.{IsEnded, first_not_ok, or_else};
 
 use crate::job_end::JobEnd;
@@ -31,8 +30,7 @@ fn first_status(mut ends: Vec<JobEnd>) -> Status
 /// Puts the text of each job, in order, and then END. The status is that of the first job that didn't end Ok, unless a
 /// put fails or memory is short, which ends the batch there.
 pub fn put_ends<K: Sink>(out: &mut K, ends: Vec<JobEnd>) -> Status
-    ensures { (start : _) (puts : List Put) → K.leads start puts out.old →
-        (more : List Put) × K.leads start (puts ++ more) out.new × IsRun (IsEnded ends.items) NeverCut result more }
+    ensures { PutsMore K.leads out.old out.new (IsRun (IsEnded ends.items) NeverCut result) }
 {
     for end in ends.as_slice() {
         if let Some(status) = put_piece(out, end.text.as_slice()) {

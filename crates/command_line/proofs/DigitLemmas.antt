@@ -1,8 +1,8 @@
 -- The digits that words ask for are at most 18.
 use Rattle.command_line.proofs.Common.{◌≡◌, ℕ, ◌≤◌, Bool, true, false, cond, List, [], ◌∷◌, Option, Some, None, codes, refl, subst, arith, bytes_eq}
 use Rattle.command_line.proofs.Common.{digits_value, leb-true, and_parts, Text, Row, Kinds, fault_of, subcommand_of, first_of, heads_app, is_number, number_in}
-use Rattle.command_line.proofs.Common.{number_or, Wanted, Checks, batch_in, write_in, check_in, command_in, digits_in, make_in, rounds_in, run_in, wanted_if}
-use Rattle.command_line.proofs.Common.{wanted_of, watch_in, workers_in, flag_in, unwatched}
+use Rattle.command_line.proofs.Common.{number_or, Wanted, AskedCheck, Check, batch_in, write_in, check_in, command_in, digits_in, make_in, rounds_in, run_in}
+use Rattle.command_line.proofs.Common.{wanted_if, wanted_of, watch_in, workers_in, flag_in, unwatched}
 use Rattle.std.specs.Prelude.{◌&&◌, if◌then◌else◌, decimal, nat_le, option_and_then}
 
 -- a number that was taken is one of its range
@@ -21,7 +21,7 @@ few (Some text) n e =
 
 -- a check has at most 18
 abbrev Fits : Option Wanted → Type 0
-Fits (Some (Checks name to listing digits zones wide)) = digits ≤ 18
+Fits (Some (Check asked to)) = asked.digits ≤ 18
 Fits other = Unit {0}
 
 then_fits : {A : Type 0} (x : Option A) (f : A → Option Wanted) → ((a : A) → x ≡ Some a → Fits (f a)) → Fits (option_and_then f x)
@@ -63,5 +63,5 @@ found_fits : (faults : Kinds) (found : Option (Text × List Row)) → Fits (want
 found_fits [] found = then_fits found (λ p. command_in p.0 p.1) (λ p e. command_fits p.0 p.1)
 found_fits (fault ∷ faults) found = tt
 
-pub check_digits : (words : List Text) (name : Text) (to : Option Text) (listing : Text) (digits : ℕ) (zones : Option Text) {wide : Bool} → wanted_of words ≡ Some (Checks name to listing digits zones wide) → digits ≤ 18
-check_digits words name to listing digits zones e = subst Fits e (found_fits (fault_of heads_app words) (subcommand_of heads_app words))
+pub check_digits : (words : List Text) (asked : AskedCheck) (to : Option Text) → wanted_of words ≡ Some (Check asked to) → asked.digits ≤ 18
+check_digits words asked to e = subst Fits e (found_fits (fault_of heads_app words) (subcommand_of heads_app words))

@@ -3,56 +3,56 @@ use Rattle.std.specs.Prelude.{◌≡◌, Some, true, false, codes, List, ℕ}
 use Rattle.clap.specs.declared.builder.action.ArgAction.TheVariants.{SetTrue}
 use Rattle.clap.specs.declared.builder.command.Command.{Command}
 use Rattle.clap.specs.declared.builder.command.Command.TheViews.{out-Command as fields_of}
-use Rattle.clap.specs.Words.{App, Rule, Text, new_app, new_rule, with_rule, with_subcommand}
+use Rattle.clap.specs.Words.{App, Text, new_app, new_rule, with_rule, with_subcommand}
 use Rattle.clap.specs.Simple.{on_top}
 
--- a positional word, which must be given
-abbrev pub word : Text → Rule
-word id = record (new_rule id) { required = true }
+-- the command with one more positional word, which must be given
+unfoldable pub with_word : App → Text → App
+with_word a id = with_rule a (record (new_rule id) { required = true })
 
--- an option with a value, which may be omitted
-abbrev pub option : Text → Rule
-option id = record (new_rule id) { long = Some id }
+-- with one more option that has a value, and may be omitted
+unfoldable pub with_option : App → Text → App
+with_option a id = with_rule a (record (new_rule id) { long = Some id })
 
--- an option without a value
-abbrev pub flag : Text → Rule
-flag id = record (new_rule id) { long = Some id; action = Some SetTrue }
+-- with one more option without a value
+unfoldable pub with_flag : App → Text → App
+with_flag a id = with_rule a (record (new_rule id) { long = Some id; action = Some SetTrue })
 
 -- the command with the options of a settling: [--digits S] [--workers W] [--rounds P] [--quick] [--wide]
-abbrev pub settling : App → App
+unfoldable pub settling : App → App
 settling a =
-    with_rule (with_rule (with_rule (with_rule (with_rule a (option (codes "digits"))) (option (codes "workers"))) (option (codes "rounds")))
-    (flag (codes "quick"))) (flag (codes "wide"))
+    with_flag (with_flag (with_option (with_option (with_option a (codes "digits")) (codes "workers")) (codes "rounds")) (codes "quick")) (codes "wide")
+
+-- the command with [--to NAME2] [--zones Z]
+unfoldable pub spanning : App → App
+spanning a = with_option (with_option a (codes "to")) (codes "zones")
 
 -- run NAME [--digits S] [--workers W] [--rounds P] [--quick] [--wide] [--to NAME2] [--zones Z] [--watch N]
-abbrev pub run_app : App
-run_app =
-    with_rule (with_rule (with_rule (settling (with_rule (new_app (codes "run")) (word (codes "name")))) (option (codes "to")))
-    (option (codes "zones"))) (option (codes "watch"))
+unfoldable pub run_app : App
+run_app = with_option (spanning (settling (with_word (new_app (codes "run")) (codes "name")))) (codes "watch")
 
 -- check NAME LISTING [--digits S] [--to NAME2] [--zones Z] [--wide]
-abbrev pub check_app : App
+unfoldable pub check_app : App
 check_app =
-    with_rule (with_rule (with_rule (with_rule (with_rule (with_rule (new_app (codes "check")) (word (codes "name"))) (word (codes "listing")))
-    (option (codes "digits"))) (option (codes "to"))) (option (codes "zones"))) (flag (codes "wide"))
+    with_flag (spanning (with_option (with_word (with_word (new_app (codes "check")) (codes "name")) (codes "listing")) (codes "digits"))) (codes "wide")
 
 -- make SEED SIZE
-abbrev pub make_app : App
-make_app = with_rule (with_rule (new_app (codes "make")) (word (codes "seed"))) (word (codes "size"))
+unfoldable pub make_app : App
+make_app = with_word (with_word (new_app (codes "make")) (codes "seed")) (codes "size")
 
 -- batch LIST [--digits S] [--workers W] [--rounds P] [--quick] [--wide]
-abbrev pub batch_app : App
-batch_app = settling (with_rule (new_app (codes "batch")) (word (codes "list")))
+unfoldable pub batch_app : App
+batch_app = settling (with_word (new_app (codes "batch")) (codes "list"))
 
 -- write NAME [--wide]
-abbrev pub write_app : App
-write_app = with_rule (with_rule (new_app (codes "write")) (word (codes "name"))) (flag (codes "wide"))
+unfoldable pub write_app : App
+write_app = with_flag (with_word (new_app (codes "write")) (codes "name")) (codes "wide")
 
 -- the same command, which needs a subcommand
 abbrev pub needing : App → App
 needing = on_top (λ s. record s { subcommand_required = true })
 
-abbrev pub heads_app : App
+unfoldable pub heads_app : App
 heads_app =
     needing (with_subcommand (with_subcommand (with_subcommand
     (with_subcommand (with_subcommand (new_app (codes "heads")) run_app.top) check_app.top) make_app.top)

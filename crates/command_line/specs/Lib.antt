@@ -1,9 +1,10 @@
 pub mod Commands
 pub mod Wants
 pub mod Ranges
-pub use Rattle.command_line.specs.Commands.{IsLocal, batch_app, check_app, flag, heads_app, make_app, needing, option, run_app, settling, usage_line, word}
-pub use Rattle.command_line.specs.Commands.{write_app}
-pub use Rattle.command_line.specs.Ranges.{IsInRange}
-pub use Rattle.command_line.specs.Wants.{Batches, Checks, Lists, Makes, Wanted, Writes, batch_in, check_in, command_in, digits_in, flag_in, is_number, make_in}
-pub use Rattle.command_line.specs.Wants.{number_in, number_or, rounds_in, run_in, turns_of, unwatched, wanted, wanted_if, wanted_of, watch_in, workers_in}
-pub use Rattle.command_line.specs.Wants.{write_in}
+pub use Rattle.command_line.specs.Commands.{IsLocal, needing, usage_line}
+unfoldable pub use Rattle.command_line.specs.Commands.{batch_app, check_app, heads_app, make_app, run_app, settling, spanning, with_flag, with_option}
+unfoldable pub use Rattle.command_line.specs.Commands.{with_word, write_app}
+pub use Rattle.command_line.specs.Ranges.{AreSettlersNumbers, AreTurns, IsMakeable}
+pub use Rattle.command_line.specs.Wants.{Asked, AskedBatch, AskedCheck, Batch, Check, Make, Run, Wanted, Write, asked_of, batch_in, batch_of, check_in}
+pub use Rattle.command_line.specs.Wants.{check_of, command_in, digits_in, flag_in, is_number, limits_in, make_in, number_in, number_or, rounds_in, run_in}
+pub use Rattle.command_line.specs.Wants.{text_if, turns_of, unwatched, wanted, wanted_if, wanted_of, watch_in, workers_in, write_in}

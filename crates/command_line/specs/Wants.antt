@@ -5,9 +5,15 @@ use Rattle.std.specs.Option.{option_map_or}
 use Rattle.std.specs.Str.{bytes_eq}
 use Rattle.clap.specs.Words.{Text, Row, Kinds, fault_of, subcommand_of, first_of}
 use Rattle.command_line.specs.Commands.{heads_app}
-use Rattle.command_line.specs.declared.orders.Order.{Order}
+use Rattle.command_line.specs.declared.order.BatchOrder.{BatchOrder}
+use Rattle.command_line.specs.declared.order.CheckOrder.{CheckOrder}
+use Rattle.command_line.specs.declared.order.Order.{Order}
+use Rattle.command_line.specs.declared.order.RunOrder.{RunOrder}
+use Rattle.model_types.specs.declared.limits.Limits.{Limits}
+use Rattle.model_types.specs.declared.limits.Limits.TheVariants.{Plain, Wide}
 use Rattle.std.specs.Str.Parse.{digits_value}
-use Rattle.command_line.specs.declared.orders.Order.TheVariants as order
+use denote.Ref.{Bor}
+use Rattle.command_line.specs.declared.order.Order.TheVariants as order
 
 -- Numbers of the command line: decimal digits, without a sign and without needless leading zeros, within a range.
 -- the text is n in decimal digits, and n lies in the range
@@ -27,15 +33,47 @@ infixl 10 ◌>>=◌
 abbrev ◌>>=◌ : {A B : Type 0} → Option A → (A → Option B) → Option B
 x >>= f = option_and_then f x
 
--- A listing of a model: its name file, a second one if it is of every model between two, digits, workers, rounds, zone file, turns of
--- the watching seat, and whether its pairs may be any certificates. A check: the name files, listing, digits, zone file. A made model: seed, size. A batch of models: list, digits, workers, rounds, and whether its pairs
--- may be any certificates. A model's deck: its name file. All but a made model last: whether the limits are wide.
+-- A listing that the words ask for: the limits, the name of its name file, the digits of conductances, the number of workers and of plain
+-- rounds in which a step must settle, the name of a zone file, if there is one, the number of views in each phase, if the heads are
+-- viewed, and whether a step may have any pair that is a certificate.
+pub record Asked : Type 0 where
+  pub limits : Limits
+  pub name : Text
+  pub digits : ℕ
+  pub workers : ℕ
+  pub rounds : ℕ
+  pub zones : Option Text
+  pub watch : Option ℕ
+  pub quick : Bool
+
+-- A check that the words ask for: the limits, the name of the name file, that of the listing, the digits of conductances, and the name
+-- of a zone file, if there is one.
+pub record AskedCheck : Type 0 where
+  pub limits : Limits
+  pub name : Text
+  pub listing : Text
+  pub digits : ℕ
+  pub zones : Option Text
+
+-- A batch of models that the words ask for: the limits of all its jobs, the name of its list, the digits of conductances, the number of
+-- workers, and of plain rounds in which a step must settle, and whether a step may have any pair that is a certificate.
+pub record AskedBatch : Type 0 where
+  pub limits : Limits
+  pub list : Text
+  pub digits : ℕ
+  pub workers : ℕ
+  pub rounds : ℕ
+  pub quick : Bool
+
+-- To list a model, or with the name of a second name file all models between two; to check a listing of a model, or of all between two;
+-- to make a model from this seed, with this many rows and columns, and sum it up; to list the models of a batch; or to write the deck of
+-- the model of this name file, by these limits.
 pub data Wanted : Type 0 where
-  Lists : Text → Option Text → ℕ → ℕ → ℕ → Option Text → Option ℕ → Bool → Bool → Wanted
-  Checks : Text → Option Text → Text → ℕ → Option Text → Bool → Wanted
-  Makes : ℕ → ℕ → Wanted
-  Batches : Text → ℕ → ℕ → ℕ → Bool → Bool → Wanted
-  Writes : Text → Bool → Wanted
+  Run : Asked → Option Text → Wanted
+  Check : AskedCheck → Option Text → Wanted
+  Make : ℕ → ℕ → Wanted
+  Batch : AskedBatch → Wanted
+  Write : Limits → Text → Wanted
 
 -- the options' values, or their defaults where they are omitted
 abbrev pub digits_in : List Row → Option ℕ
@@ -59,6 +97,13 @@ watch_in rows = turns_of (first_of (codes "watch") rows)
 abbrev pub flag_in : Text → List Row → Bool
 flag_in id rows = option_map_or (λ text. bytes_eq text (codes "true")) (first_of id rows) false
 
+-- the limits; wide ones with --wide
+abbrev pub limits_of : Bool → Limits
+limits_of wide = if wide then Wide else Plain
+
+abbrev pub limits_in : List Row → Limits
+limits_in rows = limits_of (flag_in (codes "wide") rows)
+
 -- a quick listing is not watched
 abbrev pub unwatched : Option ℕ → Bool → Option Bool
 unwatched (Some turns) true = None
@@ -73,14 +118,24 @@ run_in rows = do
   rounds ← rounds_in rows
   turns ← watch_in rows
   quick ← unwatched turns (flag_in (codes "quick") rows)
-  Some (Lists name (first_of (codes "to") rows) digits workers rounds (first_of (codes "zones") rows) turns quick (flag_in (codes "wide") rows))
+  Some (Run (record {
+    limits = limits_in rows;
+    name = name;
+    digits = digits;
+    workers = workers;
+    rounds = rounds;
+    zones = first_of (codes "zones") rows;
+    watch = turns;
+    quick = quick;
+  }) (first_of (codes "to") rows))
 
 abbrev pub check_in : List Row → Option Wanted
 check_in rows = do
   name ← first_of (codes "name") rows
   listing ← first_of (codes "listing") rows
   digits ← digits_in rows
-  Some (Checks name (first_of (codes "to") rows) listing digits (first_of (codes "zones") rows) (flag_in (codes "wide") rows))
+  Some (Check (record { limits = limits_in rows; name = name; listing = listing; digits = digits; zones = first_of (codes "zones") rows })
+      (first_of (codes "to") rows))
 
 abbrev pub make_in : List Row → Option Wanted
 make_in rows = do
@@ -88,7 +143,7 @@ make_in rows = do
   size_text ← first_of (codes "size") rows
   seed ← number_in 0 2147483647 seed_text
   size ← number_in 1 64 size_text
-  Some (Makes seed size)
+  Some (Make seed size)
 
 abbrev pub batch_in : List Row → Option Wanted
 batch_in rows = do
@@ -96,12 +151,19 @@ batch_in rows = do
   digits ← digits_in rows
   workers ← workers_in rows
   rounds ← rounds_in rows
-  Some (Batches list digits workers rounds (flag_in (codes "quick") rows) (flag_in (codes "wide") rows))
+  Some (Batch (record {
+    limits = limits_in rows;
+    list = list;
+    digits = digits;
+    workers = workers;
+    rounds = rounds;
+    quick = flag_in (codes "quick") rows;
+  }))
 
 abbrev pub write_in : List Row → Option Wanted
 write_in rows = do
   name ← first_of (codes "name") rows
-  Some (Writes name (flag_in (codes "wide") rows))
+  Some (Write (limits_in rows) name)
 
 abbrev pub command_in : Text → List Row → Option Wanted
 command_in name rows =
@@ -119,11 +181,23 @@ wanted_if (fault ∷ faults) found = None
 abbrev pub wanted_of : List Text → Option Wanted
 wanted_of words = wanted_if (fault_of heads_app words) (subcommand_of heads_app words)
 
--- what an order asks for
+-- what an order asks for, in the form of the code
+abbrev pub text_if : Option (Bor Text) → Option Text
+text_if text = option_map (λ t. t.now) text
+
+abbrev pub asked_of : RunOrder → Asked
+asked_of a =
+    record { limits = a.limits; name = a.name.now; digits = a.digits; workers = a.workers; rounds = a.rounds; zones = text_if a.zones; watch = a.watch; quick = a.quick }
+
+abbrev pub check_of : CheckOrder → AskedCheck
+check_of a = record { limits = a.limits; name = a.name.now; listing = a.listing.now; digits = a.digits; zones = text_if a.zones }
+
+abbrev pub batch_of : BatchOrder → AskedBatch
+batch_of a = record { limits = a.limits; list = a.list.now; digits = a.digits; workers = a.workers; rounds = a.rounds; quick = a.quick }
+
 abbrev pub wanted : Order → Wanted
-wanted (order.Run name to digits workers rounds zones watch quick wide) =
-    Lists name.now (option_map (λ t. t.now) to) digits workers rounds (option_map (λ z. z.now) zones) watch quick wide
-wanted (order.Check name to listing digits zones wide) = Checks name.now (option_map (λ t. t.now) to) listing.now digits (option_map (λ z. z.now) zones) wide
-wanted (order.Make seed size) = Makes seed size
-wanted (order.Batch list digits workers rounds quick wide) = Batches list.now digits workers rounds quick wide
-wanted (order.Write name wide) = Writes name.now wide
+wanted (order.Run a) = Run (asked_of a) (text_if a.to)
+wanted (order.Check a) = Check (check_of a) (text_if a.to)
+wanted (order.Make a) = Make a.seed a.size
+wanted (order.Batch a) = Batch (batch_of a)
+wanted (order.Write limits name) = Write limits name.now

@@ -3,6 +3,8 @@
 
 mod commands;
 mod numbers;
+mod order;
 mod orders;
 
-pub use orders::{Order, WordsFault, read_order};
+pub use order::{BatchOrder, CheckOrder, MakeOrder, Order, RunOrder, WordsFault};
+pub use orders::read_order;

@@ -1,68 +1,17 @@
+// What the words ask for, read from them.
 ghost use Rattle.std.specs.Prelude.{◌≡◌, map, option_map, option_and_then, IfOk, IfSome, IsErrOf, Some, None, false};
 ghost use Rattle.clap.specs.Words.{rows_of, found_of, first_of, subcommand_rows_of};
-ghost use Rattle.command_line.specs.{IsInRange, flag_in, unwatched, wanted, wanted_of, run_in, check_in, make_in, batch_in, write_in, command_in};
+ghost use Rattle.command_line.specs.{flag_in, limits_in, unwatched, wanted, wanted_of, run_in, check_in, make_in, batch_in, write_in, command_in};
 
 use crate::commands::heads_command;
 use crate::numbers::{
     digits_or_given, read_number, rounds_or_given, turns_or_none, workers_or_given,
 };
+use crate::order::{BatchOrder, CheckOrder, MakeOrder, Order, RunOrder, WordsFault};
 use clap::ArgMatches;
 use clap::error::ErrorKind;
+use model_types::Limits;
 use std::alloc::Global;
-
-/// What the words ask for.
-#[derive(Clone, Copy, Debug)]
-pub enum Order<'a> {
-    /// The listing of a model; with `to` that of every model between two.
-    Run {
-        name: &'a str,
-        to: Option<&'a str>,
-        digits: u32,
-        workers: u32,
-        rounds: u32,
-        zones: Option<&'a str>,
-        watch: Option<u32>,
-        quick: bool,
-        wide: bool,
-    },
-    /// Whether a listing is certified; with `to` one of every model between two.
-    Check {
-        name: &'a str,
-        to: Option<&'a str>,
-        listing: &'a str,
-        digits: u32,
-        zones: Option<&'a str>,
-        wide: bool,
-    },
-    /// A model that is made, and its summary.
-    Make {
-        seed: u32,
-        size: u32,
-    },
-    /// The listings of many models.
-    Batch {
-        list: &'a str,
-        digits: u32,
-        workers: u32,
-        rounds: u32,
-        quick: bool,
-        wide: bool,
-    },
-    /// The deck of a model, written anew.
-    Write {
-        name: &'a str,
-        wide: bool,
-    },
-}
-
-/// Why the words have no order.
-#[derive(Clone, Copy, Debug)]
-pub enum WordsFault {
-    /// They don't form a command.
-    Usage,
-    /// Memory ran out.
-    Memory,
-}
 
 // The value that the words give to an argument.
 fn text_of<'a>(found: &ArgMatches<'a>, id: &str) -> Option<&'a str>
@@ -81,6 +30,17 @@ fn has_flag(found: &ArgMatches, id: &str) -> bool
     }
 }
 
+// The limits; wide ones with --wide.
+fn limits_given(found: &ArgMatches) -> Limits
+    ensures { result ≡ limits_in (rows_of (found_of found.now)) }
+{
+    if has_flag(found, "wide") {
+        Limits::Wide
+    } else {
+        Limits::Plain
+    }
+}
+
 // Whether a listing is quick; None for one that is watched too.
 fn quick_unless_watched(watch: Option<u32>, quick: bool) -> Option<bool>
     ensures is { result ≡ unwatched watch quick }
@@ -93,8 +53,7 @@ fn quick_unless_watched(watch: Option<u32>, quick: bool) -> Option<bool>
 }
 
 fn run_order<'a>(found: &ArgMatches<'a>) -> Option<Order<'a>>
-    ensures is { option_map wanted result ≡ run_in (rows_of (found_of found.now)) }
-    ensures in_range { IfSome result (λ o. IsInRange (wanted o)) }
+    ensures { option_map wanted result ≡ run_in (rows_of (found_of found.now)) }
 {
     let name = text_of(found, "name")?;
     let digits = digits_or_given(text_of(found, "digits"))?;
@@ -102,7 +61,8 @@ fn run_order<'a>(found: &ArgMatches<'a>) -> Option<Order<'a>>
     let rounds = rounds_or_given(text_of(found, "rounds"))?;
     let watch = turns_or_none(text_of(found, "watch"))?;
     let quick = quick_unless_watched(watch, has_flag(found, "quick"))?;
-    Some(Order::Run {
+    Some(Order::Run(RunOrder {
+        limits: limits_given(found),
         name,
         to: text_of(found, "to"),
         digits,
@@ -111,70 +71,64 @@ fn run_order<'a>(found: &ArgMatches<'a>) -> Option<Order<'a>>
         zones: text_of(found, "zones"),
         watch,
         quick,
-        wide: has_flag(found, "wide"),
-    })
+    }))
 }
 
 fn check_order<'a>(found: &ArgMatches<'a>) -> Option<Order<'a>>
-    ensures is { option_map wanted result ≡ check_in (rows_of (found_of found.now)) }
-    ensures in_range { IfSome result (λ o. IsInRange (wanted o)) }
+    ensures { option_map wanted result ≡ check_in (rows_of (found_of found.now)) }
 {
     let name = text_of(found, "name")?;
     let listing = text_of(found, "listing")?;
     let digits = digits_or_given(text_of(found, "digits"))?;
-    Some(Order::Check {
+    Some(Order::Check(CheckOrder {
+        limits: limits_given(found),
         name,
         to: text_of(found, "to"),
         listing,
         digits,
         zones: text_of(found, "zones"),
-        wide: has_flag(found, "wide"),
-    })
+    }))
 }
 
 fn make_order<'a>(found: &ArgMatches<'a>) -> Option<Order<'a>>
-    ensures is { option_map wanted result ≡ make_in (rows_of (found_of found.now)) }
-    ensures in_range { IfSome result (λ o. IsInRange (wanted o)) }
+    ensures { option_map wanted result ≡ make_in (rows_of (found_of found.now)) }
 {
     let seed = text_of(found, "seed")?;
     let size = text_of(found, "size")?;
     let seed = read_number(seed, 0, 2_147_483_647)?;
     let size = read_number(size, 1, 64)?;
-    Some(Order::Make { seed, size })
+    Some(Order::Make(MakeOrder { seed, size }))
 }
 
 fn batch_order<'a>(found: &ArgMatches<'a>) -> Option<Order<'a>>
-    ensures is { option_map wanted result ≡ batch_in (rows_of (found_of found.now)) }
-    ensures in_range { IfSome result (λ o. IsInRange (wanted o)) }
+    ensures { option_map wanted result ≡ batch_in (rows_of (found_of found.now)) }
 {
     let list = text_of(found, "list")?;
     let digits = digits_or_given(text_of(found, "digits"))?;
     let workers = workers_or_given(text_of(found, "workers"))?;
     let rounds = rounds_or_given(text_of(found, "rounds"))?;
-    Some(Order::Batch {
+    Some(Order::Batch(BatchOrder {
+        limits: limits_given(found),
         list,
         digits,
         workers,
         rounds,
         quick: has_flag(found, "quick"),
-        wide: has_flag(found, "wide"),
-    })
+    }))
 }
 
 fn write_order<'a>(found: &ArgMatches<'a>) -> Option<Order<'a>>
-    ensures is { option_map wanted result ≡ write_in (rows_of (found_of found.now)) }
-    ensures in_range { IfSome result (λ o. IsInRange (wanted o)) }
+    ensures { option_map wanted result ≡ write_in (rows_of (found_of found.now)) }
 {
     let name = text_of(found, "name")?;
     Some(Order::Write {
+        limits: limits_given(found),
         name,
-        wide: has_flag(found, "wide"),
     })
 }
 
 fn command_order<'a>(name: &str, found: &ArgMatches<'a>) -> Option<Order<'a>>
-    ensures is { option_map wanted result ≡ command_in name.now (rows_of (found_of found.now)) }
-    ensures in_range { IfSome result (λ o. IsInRange (wanted o)) }
+    ensures { option_map wanted result ≡ command_in name.now (rows_of (found_of found.now)) }
 {
     if name == "run" {
         run_order(found)
@@ -192,8 +146,7 @@ fn command_order<'a>(name: &str, found: &ArgMatches<'a>) -> Option<Order<'a>>
 }
 
 fn order_from<'a>(matches: &ArgMatches<'a>) -> Option<Order<'a>>
-    ensures is { option_map wanted result ≡ option_and_then (λ p. command_in p.0 p.1) (subcommand_rows_of matches.now) }
-    ensures in_range { IfSome result (λ o. IsInRange (wanted o)) }
+    ensures { option_map wanted result ≡ option_and_then (λ p. command_in p.0 p.1) (subcommand_rows_of matches.now) }
 {
     let (name, found) = matches.subcommand()?;
     command_order(name, found)
@@ -202,7 +155,6 @@ fn order_from<'a>(matches: &ArgMatches<'a>) -> Option<Order<'a>>
 /// What the words ask for; the first of them is the program's name. A call for help asks for nothing.
 pub fn read_order<'a>(alloc: Global, words: &'a [&'a str]) -> Result<Order<'a>, WordsFault>
     ensures order { IfOk result (λ o. wanted_of (map (λ w. w.now) words.entry.now) ≡ Some (wanted o)) }
-    ensures in_range { IfOk result (λ o. IsInRange (wanted o)) }
     ensures usage { IsErrOf result WordsFault.Usage → wanted_of (map (λ w. w.now) words.entry.now) ≡ None }
 {
     let Ok(command) = heads_command(alloc) else {

@@ -1,9 +1,8 @@
 -- The ends of a batch, by its reading and its jobs.
-use Rattle.engine.proofs.Common.{[], Job, Text, ends_of_jobs, JobEnd, Wanted, Lists, Checks, Batches, Writes, wanted_of, Makes, AreDecks, AreTasks, AskedBatch}
-use Rattle.engine.proofs.Common.{Batch, asked_in, Command, IsJobEnd, IsRunText, defined, model_line, IsValidJob, Run, Check, Write, Make, built, MayRead}
-use Rattle.engine.proofs.Common.{files_of, files_if, files_named, but_batch, refused_line, IsTask, Task, folder_name, WordsMay, Refusal, Err, IfOk, List, None}
-use Rattle.engine.proofs.Common.{Ok, Result, Some, ap, refl, subst, sym, ℕ, ◌++◌, ◌∙◌, ◌∷◌, ◌≡◌, Option, append-nil, All-weaker, All-head, All-tail, All-nil}
-use Rattle.engine.proofs.Common.{AllZip, All, slice_get}
+use Rattle.engine.proofs.Common.{[], Job, Text, ends_of_jobs, JobEnd, Wanted, wanted_of, AreDecks, AreTasks, Batch, IsJobEnd, IsRunText, defined, model_line}
+use Rattle.engine.proofs.Common.{IsValidJob, Run, Check, Write, Make, MayRead, files_of, files_if, files_named, refused_line, IsTask, Task, folder_name}
+use Rattle.engine.proofs.Common.{WordsMay, Refusal, Err, IfOk, List, None, Ok, Result, Some, ap, refl, subst, sym, ℕ, ◌++◌, ◌∙◌, ◌∷◌, ◌≡◌, Option, append-nil}
+use Rattle.engine.proofs.Common.{All-weaker, All-head, All-tail, AllZip, All, slice_get, option_to_list}
 use Rattle.std.specs.Prelude.{IfSome, length}
 use Rattle.batch_book.specs.{AreJobEnds}
 use Rattle.outside.specs.declared.inputs.InputFault.TheVariants as input
@@ -44,54 +43,34 @@ module _ (may : List ℕ → Type 0) where
   May name = may (folder_name name)
 
   -- the files of a command
-  abbrev pub MayDo : Command → Type 0
+  abbrev pub MayDo : Wanted → Type 0
   MayDo (Run a to) = MayRead may a.name to a.zones
   MayDo (Make seed size) = Unit {0}
   MayDo (Check a to) = MayRead may a.name to a.zones × May a.listing
   MayDo (Batch b) = May b.list
   MayDo (Write limits name) = May name
 
-  both : (a b : Text) → All May (a ∷ b ∷ []) → May a × May b
-  both a b h = (All-head May a (b ∷ []) h, All-head May b [] (All-tail May a (b ∷ []) h))
+  next_may : (x : Option Text) (rest : List Text) → All May (option_to_list x ++ rest) → IfSome x May × All May rest
+  next_may None rest h = (tt, h)
+  next_may (Some name) rest h = (All-head May name rest h, All-tail May name rest h)
 
-  three : (a b c : Text) → All May (a ∷ b ∷ c ∷ []) → May a × May b × May c
-  three a b c h = let p = both b c (All-tail May a (b ∷ c ∷ []) h) in (All-head May a (b ∷ c ∷ []) h, p.0, p.1)
+  -- the name file, a second one and a zone file, and what comes after them
+  three_may : (name : Text) (to zones : Option Text) (rest : List Text) → All May (name ∷ (option_to_list to ++ (option_to_list zones ++ rest))) → MayRead may name to zones × All May rest
+  three_may name to zones rest h =
+      let second = next_may to (option_to_list zones ++ rest) (All-tail May name (option_to_list to ++ (option_to_list zones ++ rest)) h) in
+      let third = next_may zones rest second.1 in
+      ((All-head May name (option_to_list to ++ (option_to_list zones ++ rest)) h, second.0, third.0), third.1)
 
-  four : (a b c d : Text) → All May (a ∷ b ∷ c ∷ d ∷ []) → May a × May b × May c × May d
-  four a b c d h = let p = three b c d (All-tail May a (b ∷ c ∷ d ∷ []) h) in (All-head May a (b ∷ c ∷ d ∷ []) h, p.0, p.1, p.2)
+  files_may : (w : Wanted) → WordsMay may (files_of w) → MayDo w
+  files_may (Run a to) h = (three_may a.name to a.zones [] (subst (λ (files : List Text). All May (a.name ∷ (option_to_list to ++ files))) (sym (append-nil (option_to_list a.zones))) h)).0
+  files_may (Check a to) h = let p = three_may a.name to a.zones (a.listing ∷ []) h in (p.0, All-head May a.listing [] p.1)
+  files_may (Make seed size) h = tt
+  files_may (Batch b) h = All-head May b.list [] h
+  files_may (Write limits name) h = All-head May name [] h
 
-  built_may : (w : Wanted) → WordsMay may (files_of w) → MayDo (built w)
-  built_may (Lists name None digits workers rounds None turns quick wide) h = (All-head May name [] h, tt, tt)
-  built_may (Lists name None digits workers rounds (Some zones) turns quick wide) h = let p = both name zones h in (p.0, tt, p.1)
-  built_may (Lists name (Some to) digits workers rounds None turns quick wide) h = let p = both name to h in (p.0, p.1, tt)
-  built_may (Lists name (Some to) digits workers rounds (Some zones) turns quick wide) h = three name to zones h
-  built_may (Checks name None listing digits None wide) h = let p = both name listing h in ((p.0, tt, tt), p.1)
-  built_may (Checks name None listing digits (Some zones) wide) h = let p = three name zones listing h in ((p.0, tt, p.1), p.2)
-  built_may (Checks name (Some to) listing digits None wide) h = let p = three name to listing h in ((p.0, p.1, tt), p.2)
-  built_may (Checks name (Some to) listing digits (Some zones) wide) h = let p = four name to zones listing h in ((p.0, p.1, p.2), p.3)
-  built_may (Writes name wide) h = All-head May name [] h
-  built_may (Batches list digits workers rounds quick wide) h = All-head May list [] h
-  built_may (Makes seed size) h = tt
-
-  may_do : (o : Option Wanted) → WordsMay may (files_if o) → (c : Command) → asked_in o ≡ Some c → MayDo c
-  may_do o h c e = subst (λ (o : Option Command). IfSome o MayDo) e (by_order o h)
-    where
-      by_order : (o : Option Wanted) → WordsMay may (files_if o) → IfSome (asked_in o) MayDo
-      by_order None h = tt
-      by_order (Some w) h = built_may w h
-
-  of_one : (o : Option Wanted) → WordsMay may (files_if o) → WordsMay may (files_if (but_batch o))
-  of_one (Some (Batches list digits workers rounds quick wide)) h = All-nil May
-  of_one other h = h
-
-  module _ (words : List Text) (h : WordsMay may (files_named words)) where
-    -- the files of a command for one model
-    pub command_named : (c : Command) → asked_in (but_batch (wanted_of words)) ≡ Some c → MayDo c
-    command_named = may_do (but_batch (wanted_of words)) (of_one (wanted_of words) h)
-
-    -- the list of a batch
-    pub batch_named : (b : AskedBatch) → asked_in (wanted_of words) ≡ Some (Batch b) → May b.list
-    batch_named b = may_do (wanted_of words) h (Batch b)
+  -- the files of what the words ask for
+  pub may_do : (words : List Text) → WordsMay may (files_named words) → (w : Wanted) → wanted_of words ≡ Some w → MayDo w
+  may_do words h w is = files_may w (subst (λ (o : Option Wanted). WordsMay may (files_if o)) is h)
 
 -- a file that might be asked for may still be
 pub file_still : (may more : List ℕ → Type 0) (file : Option Text) → ((name : List ℕ) → may name → more name) → IfSome file (λ name. may (folder_name name)) → IfSome file (λ name. more (folder_name name))

@@ -1,13 +1,11 @@
 -- The public clauses of a run beside which a side sink is led.
-use Rattle.engine.proofs.Common.{[], ◌≡◌, ℕ, List, ◌∷◌, ◌++◌, Option, Some, None, IfSome, ap, sym, subst, refl, ◌∙◌, inl, inr, ◌⊎◌, option_and_then, Rose}
-use Rattle.engine.proofs.Common.{FileSet, Put, PutsMake, Seen, InputFault, Lists, Wanted, IsLast, Text, read_fault_line, Begins, IsRun, all_due, cut, early}
-use Rattle.engine.proofs.Common.{nothing, whole, Status, late_not_ok, tail_late, Task, IsCutListing, IsListing, IsListingBeside, left, listed, wanting_not_ok}
-use Rattle.engine.proofs.Common.{views_of, Case, Command, Run, asked_in, Answers, AnswersBeside, IsReadingEnd, Comes, Decided, IsLeft, IsWatched, SidePuts}
-use Rattle.engine.proofs.Common.{ViewPutsOf, views_asked, views_in, IsListingOf, CutOf, but_batch, case_asked, case_of}
-use Rattle.engine.specs.declared.asked.Command.{Command as CommandBy}
+use Rattle.engine.proofs.Common.{[], ◌≡◌, ℕ, List, ◌∷◌, ◌++◌, Option, Some, None, IfSome, sym, subst, refl, ◌∙◌, inl, inr, ◌⊎◌, Rose, FileSet, Put, PutsMake}
+use Rattle.engine.proofs.Common.{Seen, InputFault, Wanted, IsLast, Text, read_fault_line, Begins, IsRun, all_due, cut, early, nothing, whole, Status}
+use Rattle.engine.proofs.Common.{late_not_ok, tail_late, Task, IsCutListing, IsListing, IsListingBeside, left, listed, wanting_not_ok, Case, Run, Answers}
+use Rattle.engine.proofs.Common.{AnswersBeside, IsReadingEnd, Comes, Decided, IsLeft, IsWatched, SidePuts, ViewPutsOf, views_in, IsListingOf, CutOf, case_of}
+use Rattle.engine.proofs.Common.{AskedBatch, Batch, Batched, OneOf}
 use Rattle.engine.proofs.Outcomes.{complete, decided, put_rose, read_rose}
-use Rattle.engine.proofs.Told.{Laws, OneOrBatch, one_of}
-use Rattle.engine.proofs.Ends.{of_case}
+use Rattle.engine.proofs.Told.{Laws, one_of}
 use Rattle.outside.specs.declared.inputs.InputFault.TheVariants as input
 use Rattle.run_puts.specs.declared.puts.Status.TheVariants as status
 
@@ -22,21 +20,14 @@ listing_puts leads k case None has h = h
 listing_puts leads k case (Some n) has (inl h) = inl h
 listing_puts leads k case (Some n) has (inr w) = inr (record { task = k; is = has; watched = w })
 
--- the views that a command asks for
-pub views_by : (order : Option Wanted) (w : Wanted) (x y : CommandBy) → order ≡ Some w → x ≡ y → views_of x ≡ views_in (but_batch (Some w)) → views_in (but_batch order) ≡ views_of y
-views_by order w x y e same v = ap (λ (o : Option Wanted). views_in (but_batch o)) e ∙ sym v ∙ ap views_of same
-
 -- the words ask for views only of a listing
-abbrev pub IsViewed : Option Command → Type 0
+abbrev pub IsViewed : Option Wanted → Type 0
 IsViewed (Some (Run asked to)) = Unit {0}
 IsViewed other = ⊥
 
-viewed_is : (w : Option Wanted) (n : ℕ) → option_and_then views_asked w ≡ Some n → IsViewed (asked_in w)
-viewed_is (Some (Lists name to digits workers rounds zones watch quick wide)) n e = tt
-viewed_is other n e = absurd (let bad : Path (Option ℕ) None (Some n) = e in cc)
-
-pub viewless : (order : Option Wanted) (command : Option Command) → asked_in order ≡ command → (IsViewed command → ⊥) → (n : ℕ) → views_in order ≡ Some n → ⊥
-viewless order command is never n e = never (subst IsViewed is (viewed_is (order) n e))
+viewless : (order : Option Wanted) → (IsViewed order → ⊥) → (n : ℕ) → views_in order ≡ Some n → ⊥
+viewless (Some (Run asked to)) never n e = never tt
+viewless other never n e = let bad : Path (Option ℕ) None (Some n) = e in cc
 
 end_not_ok : (line : Text) (meant end : Status) (tail : List Put) → (meant ≡ status.Ok → ⊥) → IsLast line meant end tail → end ≡ status.Ok → ⊥
 end_not_ok line meant end tail not (inl (same, t)) e = not (sym same ∙ e)
@@ -69,23 +60,19 @@ left_of n m failed k c end puts cuts answers (whole meant pieces (left all f d))
 left_of n m failed k c end puts cuts answers (early meant before after tail b t) = inl (answers (early meant before after tail (alone_begins failed k before after b) t))
 
 module _ (n m : ℕ) (failed : Type 0) (leads : List Put → Type 0) (end : Status) (puts : List Put) where
-  -- no views are asked for, or the run didn't end Ok
-  pub without_views : (order : Option Wanted) (files : FileSet) → leads [] → (command : Option Command) → asked_in order ≡ command → (IsViewed command → ⊥) → Answers (case_asked command files) n m end puts → AnswersBeside (case_of order files) (views_in order) n m failed leads end puts
-  without_views order files silent command is never a = record {
-    answers = inl (of_case (case_of order files) n m end puts (case_asked command files) (sym (ap (λ (o : Option Command). case_asked o files) is)) a);
-    watched = λ e j v. absurd (viewless order command is never j v);
-    side = quiet leads (case_of order files) (views_in order) silent;
-  }
+  -- an order that is this one
+  pub of_order : (files : FileSet) (order asked : Option Wanted) → order ≡ asked → AnswersBeside (case_of asked files) (views_in asked) n m failed leads end puts → AnswersBeside (case_of order files) (views_in order) n m failed leads end puts
+  of_order files order asked is a =
+      let P : Option Wanted → Type 0 = λ o. AnswersBeside (case_of o files) (views_in o) n m failed leads end puts in
+      subst P (sym is) a
+
+  -- no views are asked for
+  pub without_views : (files : FileSet) (order asked : Option Wanted) → leads [] → order ≡ asked → (IsViewed asked → ⊥) → Answers (case_of asked files) n m end puts → AnswersBeside (case_of order files) (views_in order) n m failed leads end puts
+  without_views files order asked silent is never a =
+      of_order files order asked is (record { answers = inl a; watched = λ e j v. absurd (viewless asked never j v); side = quiet leads (case_of asked files) (views_in asked) silent })
 
   pub not_ok : (case : Case) (views : Option ℕ) → leads [] → Answers case n m end puts → (end ≡ status.Ok → ⊥) → AnswersBeside case views n m failed leads end puts
   not_ok case views silent a bad = record { answers = inl a; watched = λ e j v. absurd (bad e); side = quiet leads case views silent }
-
-  -- the views that the words ask for
-  pub with_views : (order : Option Wanted) (files : FileSet) (command : Option Command) (views : Option ℕ) → asked_in order ≡ command → views_in order ≡ views → AnswersBeside (case_asked command files) views n m failed leads end puts → AnswersBeside (case_of order files) (views_in order) n m failed leads end puts
-  with_views order files command views is same a =
-      let P : Option Command → Type 0 = λ o. AnswersBeside (case_asked o files) views n m failed leads end puts in
-      let Q : Option ℕ → Type 0 = λ v. AnswersBeside (case_of order files) v n m failed leads end puts in
-      subst Q (sym same) (subst P (sym is) a)
 
   asked_views : (k : Task) (watch : Option ℕ) → IfSome watch (λ j. IsWatched k j leads) → (j : ℕ) → watch ≡ Some j → IsWatched k j leads
   asked_views k watch h j e = let P : Option ℕ → Type 0 = λ o. IfSome o (λ i. IsWatched k i leads) in subst P e h
@@ -111,41 +98,17 @@ module _ (case : Case) (views : Option ℕ) (n m : ℕ) (failed : Type 0) (leads
   pub beside_put_rose : (old new : Seen) (makes : PutsMake old puts new) → Besides → end ≡ status.WriteFault → Rose old.faults new.faults ⊎ failed
   beside_put_rose old new makes b e = told_by (λ a. inl (put_rose (Rose n m) case end puts old new a.run e makes)) (λ f is. inr f) b
 
--- A fault of one account is one of another.
-module _ (fault other : Type 0) (takes : fault → other) where
-  wider_sum : {A B : Type 0} → (fault ⊎ A) ⊎ B → (other ⊎ A) ⊎ B
-  wider_sum (inl (inl f)) = inl (inl (takes f))
-  wider_sum (inl (inr a)) = inl (inr a)
-  wider_sum (inr b) = inr b
-
-  wider_one : {A : Type 0} → fault ⊎ A → other ⊎ A
-  wider_one (inl f) = inl (takes f)
-  wider_one (inr a) = inr a
-
-  wider_decided : (order : Option Wanted) (fs : FileSet) (end : Status) → Decided fault order fs end → Decided other order fs end
-  wider_decided order fs end h = λ plain meant pieces d. wider_sum (h plain meant pieces d)
-
-  wider_comes : (order : Option Wanted) (fs : FileSet) (end : Status) → Comes fault order fs end → Comes other order fs end
-  wider_comes order fs end h = λ has. wider_one (h has)
-
 module _ (laws : Laws) (order : Option Wanted) (fs : FileSet) (views : Option ℕ) (n m : ℕ) (failed : Type 0) (leads : List Put → Type 0) (end : Status) (puts : List Put) (old new : Seen) (makes : PutsMake old puts new) where
-  abbrev Known : Type 0
-  Known = Rose n m ⊎ Rose old.faults new.faults
-
   abbrev pub Fault : Type 0
   Fault = Rose n m ⊎ (Rose old.faults new.faults ⊎ failed)
 
-  pub takes_known : Known → Fault
-  takes_known (inl f) = inl f
-  takes_known (inr f) = inr (inl f)
-
-  pub beside_one : AnswersBeside (case_of order fs) views n m failed leads end puts → end ≡ status.Ok → OneOrBatch order fs old new
-  beside_one b e = told_by (case_of order fs) views n m failed leads end puts (λ a. one_of laws order fs n m end puts old new a makes e) (λ f is. absurd (let bad : status.WriteFault ≡ status.Ok = sym is ∙ e in cc)) b
+  pub beside_one : ((b : AskedBatch) → order ≡ Some (Batch b) → Batched b fs end old.written new.written) → AnswersBeside (case_of order fs) views n m failed leads end puts → end ≡ status.Ok → OneOf order fs end old new
+  beside_one batched b e = told_by (case_of order fs) views n m failed leads end puts (λ a. one_of laws order fs n m end puts old new a makes e batched) (λ f is. absurd (let bad : status.WriteFault ≡ status.Ok = sym is ∙ e in cc)) b
 
   pub beside_decided : AnswersBeside (case_of order fs) views n m failed leads end puts → Decided Fault order fs end
   beside_decided = told_by (case_of order fs) views n m failed leads end puts
-      (λ a. wider_decided Known Fault takes_known order fs end (decided laws (case_of order fs) n m end puts old new a makes)) (λ f is plain meant pieces d. inl (inl (inr (inr f))))
+      (λ a. decided laws order fs n m end puts old new a makes Fault (λ f. inl f) (λ f. inr (inl f))) (λ f is plain meant pieces d. inl (inl (inr (inr f))))
 
   pub beside_complete : AnswersBeside (case_of order fs) views n m failed leads end puts → Comes Fault order fs end
   beside_complete = told_by (case_of order fs) views n m failed leads end puts
-      (λ a. wider_comes Known Fault takes_known order fs end (complete laws order fs n m end puts old new a makes)) (λ f is has. inl (inr (inr f)))
+      (λ a. complete laws order fs n m end puts old new a makes Fault (λ f. inl f) (λ f. inr (inl f))) (λ f is has. inl (inr (inr f)))

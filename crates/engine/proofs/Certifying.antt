@@ -1,10 +1,9 @@
 -- What a check that ended Ok says, and that a check has one end.
-use Rattle.engine.proofs.Common.{[], ◌≡◌, ◌⊎◌, ℕ, List, ◌∷◌, None, Some, Ok, map, subst, sym, ap, refl, inl, inr, ◌∙◌, Option, ◌+◌, ◌<◌, ◌++◌, length, take}
-use Rattle.engine.proofs.Common.{get_or, Result, IfOk, FileSet, Put, Seen, PutsMake, taken, FlowModel, IsModel, place, ZonedListing, Text, Status, all_written}
-use Rattle.engine.proofs.Common.{ListingVerdict, Fails, VerdictIsOne, IsVerdict, AskedCheck, Check, Checking, asked_in, listing_read, named, steps_read}
-use Rattle.engine.proofs.Common.{zones_read, IsCheck, certified_line, verdict_line, verdict_status, Defines, OneVerdict, IsListed, IsStopped, AreTasks}
-use Rattle.engine.proofs.Common.{AskedBatch, job_of, Limits, Decks, AreDecks, one_deck, listing, IsTask, Wanted, reads, map-append, take_more, All-push}
-use Rattle.engine.proofs.Common.{Refusal, Task, Job, job_task, ◌>>=◌}
+use Rattle.engine.proofs.Common.{[], ◌≡◌, ℕ, List, ◌∷◌, Ok, map, subst, sym, ap, refl, inl, inr, ◌∙◌, ◌+◌, ◌<◌, ◌++◌, length, take, get_or, Result, IfOk}
+use Rattle.engine.proofs.Common.{FileSet, Put, Seen, PutsMake, taken, FlowModel, IsModel, place, ZonedListing, Text, Status, all_written, ListingVerdict, Fails}
+use Rattle.engine.proofs.Common.{VerdictIsOne, IsVerdict, AskedCheck, Checking, listing_read, named, steps_read, zones_read, IsCheck, certified_line}
+use Rattle.engine.proofs.Common.{verdict_line, verdict_status, Defines, OneVerdict, IsListed, IsStopped, AreTasks, AskedBatch, job_of, Limits, Decks, AreDecks}
+use Rattle.engine.proofs.Common.{one_deck, listing, IsTask, reads, map-append, take_more, All-push, Refusal, Task, Job, job_task, ◌>>=◌}
 use Rattle.check_run.specs.declared.verdict.ListingVerdict.TheVariants.{Certified as Holds, Refused as Unbounded}
 use Rattle.std.specs.Prelude.{false}
 use Rattle.engine.proofs.Readings.{named_read, zoned_parts}
@@ -40,8 +39,8 @@ verdict_is_no_fault other h = h
 pub check_is_no_fault : (limits : Limits) (m : Decks) (s : ℕ) (listing : ZonedListing) (end : Status) (pieces : List Text) → IsCheck limits m s listing end pieces → IsFault end → ⊥
 check_is_no_fault limits m s listing end pieces c h = verdict_is_no_fault c.verdict (subst IsFault c.status h)
 
-module _ (order : Option Wanted) (files : FileSet) (old new : Seen) (puts : List Put) (pieces : List Text) (asked : AskedCheck) (wanted : asked_in order ≡ Some (Check asked None)) (written : puts ≡ map taken pieces) (makes : PutsMake old puts new) where
-  pub certified_and_one : (f : FlowModel) (listing : ZonedListing) → IsModel f → named asked.name (reads asked.limits files) ≡ Ok f → listing_read false files asked f ≡ Ok listing → Defines (Checking asked.limits (one_deck f) asked.digits listing) status.Ok pieces → OneVerdict order files old.written new.written
+module _ (files : FileSet) (old new : Seen) (puts : List Put) (pieces : List Text) (asked : AskedCheck) (written : puts ≡ map taken pieces) (makes : PutsMake old puts new) where
+  pub certified_and_one : (f : FlowModel) (listing : ZonedListing) → IsModel f → named asked.name (reads asked.limits files) ≡ Ok f → listing_read false files asked f ≡ Ok listing → Defines (Checking asked.limits (one_deck f) asked.digits listing) status.Ok pieces → OneVerdict asked files old.written new.written
   certified_and_one f listing model read listed d =
       let parts = zoned_parts (zones_read files asked.zones f) (steps_read false files asked f) listing listed in
       let is = named_read asked.name (reads asked.limits files) f read in
@@ -51,8 +50,6 @@ module _ (order : Option Wanted) (files : FileSet) (old new : Seen) (puts : List
       let history = d.history holds in
       record {
         certified = record {
-          asked = asked;
-          wanted = wanted;
           model = f;
           read = is;
           valid = model;
@@ -73,15 +70,9 @@ module _ (limits : Limits) (m : Decks) (s : ℕ) (listing : ZonedListing) where
   pub one_end : VerdictIsOne → AreDecks m → IsListed m.first listing → (meant end : Status) (p q : List Text) → IsCheck limits m s listing meant p → IsCheck limits m s listing end q → end ≡ meant
   one_end law model listed meant end p q x y = y.status ∙ ap verdict_status (law limits m s listing.zones listing.steps y.verdict x.verdict model listed.steps y.is x.is) ∙ sym x.status
 
-  pub never_stopped_check : (end : Status) (q : List Text) → IsStopped end → IsCheck limits m s listing end q → ⊥
-  never_stopped_check end q stops y = check_is_no_fault limits m s listing end q y (stopped_by_fault end stops)
-
-  -- where the verdict is that the listing is certified, no other end comes
-  pub certifies : VerdictIsOne → IsVerdict limits m s listing.zones listing.steps Holds → (fault : Type 0) (end : Status) → (AreDecks m × IsListed m.first listing) ⊎ IsStopped end → fault ⊎ ((end ≡ status.Memory) ⊎ ((q : List Text) × IsCheck limits m s listing end q)) → fault ⊎ ((end ≡ status.Ok) ⊎ (end ≡ status.Memory))
-  certifies law verdict fault end valid (inl f) = inl f
-  certifies law verdict fault end valid (inr (inl e)) = inr (inr e)
-  certifies law verdict fault end (inl (model, listed)) (inr (inr (q, y))) = inr (inl (y.status ∙ ap verdict_status (law limits m s listing.zones listing.steps y.verdict Holds model listed.steps y.is verdict)))
-  certifies law verdict fault end (inr stops) (inr (inr (q, y))) = absurd (never_stopped_check end q stops y)
+  -- where the verdict is that the listing is certified, its end is Ok
+  pub certifies : VerdictIsOne → AreDecks m → IsListed m.first listing → IsVerdict limits m s listing.zones listing.steps Holds → (end : Status) (q : List Text) → IsCheck limits m s listing end q → end ≡ status.Ok
+  certifies law model listed verdict end q y = y.status ∙ ap verdict_status (law limits m s listing.zones listing.steps y.verdict Holds model listed.steps y.is verdict)
 
 -- The jobs of a batch, name by name, and what the reading of its list gives.
 abbrev made_job : Text → Result Task Refusal → Job

@@ -1,12 +1,12 @@
 -- Names that several proofs of this crate cite, of the crates below and of its own definitions, passed on from one place. Declares nothing.
 pub use Rattle.std.proofs.Common.{Bool, Err, IfOk, IfSome, List, None, Ok, Option, Result, Some, [], ap, arith, codes, cond, false, get_or, if◌then◌else◌, inl}
-pub use Rattle.std.proofs.Common.{inr, length, length-append, map, option_and_then, option_map, refl, rules, subst, sym, take, true, unsigned_abs, ℕ, ℤ, ◌*◌}
-pub use Rattle.std.proofs.Common.{◌++◌, ◌+◌, ◌<◌, ◌∙◌, ◌∷◌, ◌≡◌, ◌≢◌, ◌≤◌, ◌⊎◌}
+pub use Rattle.std.proofs.Common.{inr, length, length-append, map, option_map, refl, rules, subst, sym, take, true, unsigned_abs, ℕ, ℤ, ◌*◌, ◌++◌, ◌+◌, ◌<◌}
+pub use Rattle.std.proofs.Common.{◌∙◌, ◌∷◌, ◌≡◌, ◌≢◌, ◌≤◌, ◌⊎◌}
 pub use Rattle.std.proofs.lemmas.List.{append-nil, append_assoc, length-map, map-append, take_more}
 pub use Rattle.std.proofs.lemmas.List.Elements.{All-append, All-cons, All-head, All-nil, All-push, All-tail, All-weaker}
 pub use Rattle.std.proofs.lemmas.Result.{err_from_is_err_and}
 pub use Rattle.std.specs.List.{AllZip, concat, filter}
-pub use Rattle.std.specs.Prelude.{All, IfErr, is_some, slice_get}
+pub use Rattle.std.specs.Prelude.{All, IfErr, is_some, option_to_list, slice_get}
 pub use Rattle.std.specs.declared.alloc.Global.{Global}
 pub use Rattle.std.specs.declared.vec.Vec.{Vec}
 pub use Rattle.batch_puts.proofs.Batches.{batch_run, batch_settles, batches_agree, ends_of_jobs}
@@ -14,40 +14,39 @@ pub use Rattle.batch_puts.specs.{IsBatch, first_not_ok, or_else, texts}
 pub use Rattle.batch_puts.specs.declared.job_end.JobEnd.{JobEnd}
 pub use Rattle.check_run.specs.{IsReadable, IsVerdict, ListingEncloses, RunIsCertified, RunIsReadAgain, VerdictIsOne, as_listed}
 pub use Rattle.check_run.specs.declared.verdict.ListingVerdict.{ListingVerdict}
-pub use Rattle.check_run.specs.declared.verdict.ListingVerdict.TheVariants.{Fails}
-pub use Rattle.command_line.specs.{Batches, Checks, Lists, Makes, Wanted, Writes, usage_line, wanted_of}
+pub use Rattle.check_run.specs.declared.verdict.ListingVerdict.TheVariants.{Certified, Fails}
+pub use Rattle.command_line.specs.{Asked, AskedBatch, AskedCheck, Batch, Check, Make, Run, Wanted, Write, asked_of, batch_of, check_of, text_if, usage_line}
+pub use Rattle.command_line.specs.{wanted, wanted_of}
+pub use Rattle.command_line.specs.declared.order.Order.{Order}
 pub use Rattle.deck_alike.specs.declared.difference.Difference.{Difference}
 pub use Rattle.deck_problems.proofs.OneProblem.{one_valid}
-pub use Rattle.deck_problems.specs.{AreDecks, one_deck}
+pub use Rattle.deck_problems.specs.{AreDecks, IsSecond, one_deck}
 pub use Rattle.deck_problems.specs.declared.decks.Decks.{Decks}
 pub use Rattle.deck_span.specs.{AreAlike}
-pub use Rattle.engine.specs.{Answers, AnswersBeside, AreDecksAs, AreDecksOf, AreFirstViews, ArePairOf, ArePutInTurn, AreTasks, AreViews, AreWatched, Asked}
-pub use Rattle.engine.specs.{AskedBatch, AskedCheck, Batch, Case, Check, Checking, ChecksSpan, ChecksWritten, Comes, Command, Comparing, CutOf, Decided}
-pub use Rattle.engine.specs.{Defines, Due, GoesThrough, HasBatch, HasCertified, HasDeck, HasEnded, HasListing, HasNoList, HasTask, IsBatchOf, IsCheck}
-pub use Rattle.engine.specs.{IsCheckingOf, IsDeck, IsDecksRefusal, IsDue, IsJobEnd, IsJobListing, IsLeft, IsListed, IsListingOf, IsMade, IsMadeRun}
+pub use Rattle.engine.specs.{Answers, AnswersBeside, AreDecksAs, AreDecksOf, AreFirstViews, AreItsSteps, ArePairOf, ArePutInTurn, AreTasks, AreViews}
+pub use Rattle.engine.specs.{AreWatched, Case, Checking, ChecksWritten, Comes, Comparing, CutOf, Decided, Defines, Due, GoesThrough, GoesWell, HasEnded}
+pub use Rattle.engine.specs.{HasNoList, HeadlineOf, IsCheck, IsDeck, IsDecksRefusal, IsDue, IsJobEnd, IsJobListing, IsLeft, IsListed, IsListingOf, IsMade}
 pub use Rattle.engine.specs.{IsNamedFault, IsNoSecond, IsPlain, IsPlainJob, IsReadingEnd, IsRunOf, IsRunResult, IsRunText, IsStopNumber, IsStopped, IsStored}
-pub use Rattle.engine.specs.{IsUnlikeFault, IsValid, IsValidJob, IsView, IsWatched, JobDefines, Jobs, Listing, Make, Making, MayRead, NoWords, OneDeck}
-pub use Rattle.engine.specs.{OneListingIsCertified, OneSpan, OneSpanIsCertified, OneSummary, OneVerdict, ReadsFolder, ReadsNothing, Refuses, Run, Second, Shows}
-pub use Rattle.engine.specs.{SidePuts, SpanCertified, SpanVerdict, StorageHolds, ViewPutsOf, Write, Writing, WrittenIsCertified, WrittenSpanIsCertified}
-pub use Rattle.engine.specs.{asked_in, asked_of, batch_by, built, but_batch, case_asked, case_decks, case_named, case_of, case_read, certified_line, check_of}
-pub use Rattle.engine.specs.{command_of, decks_task, defined, files_if, files_named, files_of, job_of, job_task, jobs_read, limits_of, lines_of, listing_read}
-pub use Rattle.engine.specs.{made_fault, made_model, made_task, model_line, named, names_read, not_alike, of_both, of_first, of_second, second_by, span_task_of}
-pub use Rattle.engine.specs.{steps_read, summed_text, task_of, to_of, unread, verdict_line, verdict_status, views_asked, views_in, views_of, zones_read}
+pub use Rattle.engine.specs.{IsUnlikeFault, IsValid, IsValidJob, IsView, IsWatched, JobDefines, Jobs, Listing, Making, MayRead, NoWords, OneDeck, OneOf}
+pub use Rattle.engine.specs.{OneSpan, OneSummary, OneVerdict, ReadsFolder, ReadsNothing, Refuses, Second, Shows, SidePuts, SpanVerdict, StorageHolds}
+pub use Rattle.engine.specs.{ViewPutsOf, Writing, WrittenIsCertified, but_batch, case_decks, case_named, case_of, case_read, certified_line, decks_task}
+pub use Rattle.engine.specs.{defined, files_if, files_named, files_of, job_of, job_task, jobs_read, lines_of, listing_read, made_fault, made_model, made_task}
+pub use Rattle.engine.specs.{model_line, named, names_read, not_alike, of_both, of_first, of_second, second_by, span_task_of, steps_read, summed_text, task_of}
+pub use Rattle.engine.specs.{unread, verdict_line, verdict_status, views_in, zones_read}
 unfoldable pub use Rattle.engine.specs.{second_in}
 pub use Rattle.engine.specs.Batched.{Batched}
+pub use Rattle.engine.specs.OneListing.{OneListing}
 pub use Rattle.engine.specs.declared.job.Job.{Job}
 pub use Rattle.engine.specs.declared.zoned.ZonedListing.{ZonedListing}
-pub use Rattle.exact_histories.proofs.WholeRuns.{history_exists, history_is_one}
-pub use Rattle.exact_histories.specs.{ChoicesHaveOne, HaveOneHistory}
+pub use Rattle.exact_histories.proofs.WholeRuns.{have_one, history_exists, history_is_one}
 pub use Rattle.listing_io.specs.{AreListed, all_lines, listing_at, listing_in, or_bad_listing, refused_line, view_text}
 pub use Rattle.listing_io.specs.declared.listing.ListedStep.{ListedStep}
 pub use Rattle.listing_run.proofs.Lines.{ends_by}
 pub use Rattle.listing_run.proofs.Pieces.{alone, beside, beside_by, wanting_not_ok}
 pub use Rattle.listing_run.proofs.Settled.{IsWhole, is_whole, whole_listing}
-pub use Rattle.listing_run.specs.{AllSettledBy, AllSteps, AreSettledBy, EnclosesHistories, HasLargeFlow, IsCutListing, IsListing, IsListingBeside, IsSettledBy}
-pub use Rattle.listing_run.specs.{IsStep, IsTask, ListingExcludesRefusal, ListingIsOne, PairEncloses, Reaches, ReachesFirst, RefusalIsOne, RestsOrSettles}
-pub use Rattle.listing_run.specs.{Steps, deck_task, faces_of, last_line, left, listed, listing, no_budget, no_heads, no_zones, one_task, pairs_of, rests}
-pub use Rattle.listing_run.specs.{settled, status_of}
+pub use Rattle.listing_run.specs.{AllSettledBy, AllSteps, AreSettledBy, HasLargeFlow, IsCutListing, IsListing, IsListingBeside, IsSettledBy, IsStep, IsTask}
+pub use Rattle.listing_run.specs.{ListingExcludesRefusal, ListingIsOne, PairEncloses, Reaches, ReachesFirst, RefusalIsOne, RestsOrSettles, faces_of, last_line}
+pub use Rattle.listing_run.specs.{left, listed, listing, no_budget, no_heads, no_zones, rests, settled, status_of}
 pub use Rattle.listing_run.specs.Settlers.{begun}
 pub use Rattle.listing_run.specs.declared.solving.Step.{Step}
 pub use Rattle.listing_run.specs.declared.steps.Task.{Task}
@@ -63,10 +62,8 @@ pub use Rattle.model_types.specs.declared.limits.Limits.{Limits}
 pub use Rattle.model_types.specs.declared.limits.Limits.TheVariants.{Plain, Wide}
 pub use Rattle.model_types.specs.declared.model.FlowModel.{FlowModel}
 pub use Rattle.model_types.specs.declared.time_steps.TimeStep.{TimeStep}
-pub use Rattle.name_file.specs.Pairs.{Pairs}
 pub use Rattle.outside.specs.{FileSet, FolderState, InputCounts, IsGoodName, IsReading, Put, PutsMake, ReadsOn, Rose, Seen, WordsMay, file_at, file_refusal}
 pub use Rattle.outside.specs.{folder_name, input_fault, is_good_name, refused, taken, with_limit}
-pub use Rattle.outside.specs.declared.codes.Code.TheVariants.{BadName}
 pub use Rattle.outside.specs.declared.inputs.InputFault.{InputFault}
 pub use Rattle.outside.specs.declared.inputs.Refusal.{Refusal}
 pub use Rattle.outside.specs.declared.traits.SinkError.{SinkError}
@@ -77,8 +74,7 @@ pub use Rattle.run_puts.specs.{Agree, Begins, IsEnd, IsLast, IsRun, IsUnfinished
 pub use Rattle.run_puts.specs.{memory_put, nothing, read_fault_line, status_after, wanting, whole}
 pub use Rattle.run_puts.specs.declared.puts.Status.{Status}
 pub use Rattle.settle_driver.specs.{AddsPhases, EnclosesPair}
-pub use Rattle.step_chain.specs.{AreAllSteps, AreSteps, LeavesRange, edges_by, two}
-pub use Rattle.step_chain.specs.declared.solved.Solved.{Solved}
+pub use Rattle.step_chain.specs.{LeavesRange, edges_by, two}
 pub use Rattle.step_problem.specs.{Edges, lower_at, upper_at}
 pub use Rattle.step_problem.specs.Entries.{Entries}
 pub use Rattle.step_problem.specs.declared.heads.Bound.{Bound}

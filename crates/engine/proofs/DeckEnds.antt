@@ -4,7 +4,7 @@ use Rattle.engine.proofs.Common.{Put, InputFault, Refusal, FlowModel, refused_li
 use Rattle.engine.proofs.Common.{Listing, Checking, Writing, named, Due, decks_task, ReadsFolder, CutOf, AreDecksAs, Answers, IsReadingEnd, IsValid, defined}
 use Rattle.engine.proofs.Common.{Decks, Comparing, IsListingOf, Begins, all_due, cut, early, nothing, whole, Second, one_deck, Limits, of_both, of_first}
 use Rattle.engine.proofs.Common.{of_second, AreAlike, IfSome, option_map, is_some, unread, case_decks, IsDecksRefusal, listing_read, second_in, two, zones_read}
-use Rattle.engine.proofs.Common.{case_named, case_read}
+use Rattle.engine.proofs.Common.{case_named, case_read, Defines, IsStopped, ◌⊎◌}
 use Rattle.engine.proofs.Ends.{ends_without_words, refused, unreadable, of_case, read_reads}
 use Rattle.outside.specs.declared.inputs.InputFault.TheVariants as input
 use Rattle.run_puts.specs.declared.puts.Status.TheVariants as status
@@ -35,6 +35,15 @@ decks_within : (a : FlowModel) (last : Option Second) (second : Option FlowModel
 decks_within a None second come e = ap (λ (x : Option FlowModel). come (record { first = a; second = x })) (sym e)
 decks_within a (Some b) second come e = ap (λ (x : Option FlowModel). Comparing a b (come (record { first = a; second = x }))) (sym e)
 
+-- the case of decks that were read
+pub case_within : (limits : Limits) (name : Text) (to : Option Text) (files : FileSet) (come : Decks → Case) (d : Decks) (p : AreDecksAs limits name to files (Ok d)) →
+    within d.first p.last (come d) ≡ case_named files limits name to come
+case_within limits name to files come d p = sym ((λ i. case_decks (p.is_first i) (p.is_second i) come) ∙ decks_within d.first p.last d.second come p.are)
+
+pub within_defines : (a : FlowModel) (last : Option Second) (case : Case) (end : Status) (pieces : List Text) → IfSome last (λ b. AreAlike a b.model) → Defines case end pieces → Defines (within a last case) end pieces
+within_defines a None case end pieces alike d = d
+within_defines a (Some b) case end pieces alike d = inr (alike, d)
+
 pub within_lists : (a : FlowModel) (last : Option Second) (k : Task) → IfSome last (λ b. AreAlike a b.model) → IsListingOf k (within a last (Listing k))
 within_lists a None k alike = refl
 within_lists a (Some b) k alike = (alike, refl)
@@ -43,9 +52,10 @@ pub within_cut : (a : FlowModel) (last : Option Second) (case : Case) → IfSome
 within_cut a None case alike pieces c = c
 within_cut a (Some b) case alike pieces c = (alike, c)
 
-within_valid : (a : FlowModel) (last : Option Second) (case : Case) (end : Status) → IsValid case end → IsValid (within a last case) end
+within_valid : (a : FlowModel) (last : Option Second) (case : Case) (end : Status) → IsStopped end ⊎ IsValid case → IsStopped end ⊎ IsValid (within a last case)
 within_valid a None case end h = h
-within_valid a (Some b) case end h = inr h
+within_valid a (Some b) case end (inl stops) = inl stops
+within_valid a (Some b) case end (inr h) = inr (inr h)
 
 due_within : (failed : Type 0) (a : FlowModel) (last : Option Second) (case : Case) → IfSome last (λ b. AreAlike a b.model) → (end : Status) (pieces : List Text) → Due failed case end pieces → Due failed (within a last case) end pieces
 due_within failed a None case alike end pieces d = d
@@ -80,7 +90,7 @@ module _ (limits : Limits) (name : Text) (to : Option Text) (files : FileSet) (c
       of_case Here n m end puts c (sym (λ i. case_decks (h i) (k i) come)) (record {
         run = lone (Due (Rose n m) c) (CutOf c) (refused_line refusal) (status.Refused refusal) end puts
             (defined (status.Refused refusal) _ (inl (record { difference = d; first = first; unlike = never; status = ap status.Refused same; are = ap (λ (x : Refusal). refused_line x ∷ []) same }))) e;
-        valid = inl never;
+        valid = inr (inl never);
       })
 
   -- no decks were read
@@ -90,9 +100,5 @@ module _ (limits : Limits) (name : Text) (to : Option Text) (files : FileSet) (c
   ends_undecked all input.Memory p counts h = ends_without_words Here n m end puts h
 
   -- decks were read
-  module _ (d : Decks) (p : AreDecksAs limits name to files (Ok d)) where
-    pub case_within : within d.first p.last (come d) ≡ Here
-    case_within = sym ((λ i. case_decks (p.is_first i) (p.is_second i) come) ∙ decks_within d.first p.last d.second come p.are)
-
-    pub ends_decked : Answers (come d) n m end puts → Answers Here n m end puts
-    ends_decked a = of_case Here n m end puts (within d.first p.last (come d)) case_within (within_ends n m end puts d.first p.last (come d) p.alike a)
+  pub ends_decked : (d : Decks) → AreDecksAs limits name to files (Ok d) → Answers (come d) n m end puts → Answers Here n m end puts
+  ends_decked d p a = of_case Here n m end puts (within d.first p.last (come d)) (case_within limits name to files come d p) (within_ends n m end puts d.first p.last (come d) p.alike a)

@@ -1,21 +1,18 @@
 -- The ends of a run, by its words, its reading and its listing.
-use Rattle.engine.proofs.Common.{[], ◌≡◌, ℕ, List, ◌∷◌, Ok, Err, Result, Option, None, Some, IfOk, subst, sym, ap, refl, inl, inr, ◌∙◌, FileSet, Rose, Put}
-use Rattle.engine.proofs.Common.{IsReading, with_limit, Refusal, Wanted, usage_line, FlowModel, IsModel, most_bytes, refused_line, read_fault_line, IsEnd}
-use Rattle.engine.proofs.Common.{IsLast, IsWanting, wanting, memory_put, status_after, Text, Status, tail_late, lone, lacks_at_first, weaker, Case, Command}
-use Rattle.engine.proofs.Common.{NoWords, Refuses, asked_in, made_model, Due, ReadsFolder, CutOf, IsMade, Answers, IsMadeRun, IsStopped, IsValid, defined}
-use Rattle.engine.proofs.Common.{Comparing, unread, but_batch, named, made_task, summed_text, IsReadingEnd, made_fault, InputFault, ListingEnd, last_line}
-use Rattle.engine.proofs.Common.{listing, status_of, made_files, made_name, Plain, IsSummarized, reads, Defines, InputCounts, IsRun, case_read}
+use Rattle.engine.proofs.Common.{[], ◌≡◌, ℕ, List, ◌∷◌, Ok, Err, Result, IfOk, subst, sym, ap, refl, inl, inr, FileSet, Rose, Put, IsReading, with_limit}
+use Rattle.engine.proofs.Common.{Refusal, usage_line, FlowModel, IsModel, most_bytes, refused_line, read_fault_line, IsEnd, IsLast, IsWanting, wanting}
+use Rattle.engine.proofs.Common.{memory_put, status_after, Text, Status, tail_late, lone, lacks_at_first, weaker, Case, NoWords, Refuses, made_model, Due}
+use Rattle.engine.proofs.Common.{ReadsFolder, CutOf, IsMade, Answers, IsStopped, IsValid, defined, unread, named, made_task, summed_text, IsReadingEnd}
+use Rattle.engine.proofs.Common.{made_fault, InputFault, ListingEnd, last_line, listing, status_of, made_files, made_name, Plain, IsSummarized, reads, Defines}
+use Rattle.engine.proofs.Common.{InputCounts, IsRun, case_read, Making, Option, Some, Wanted, wanted, ◌∙◌, Order}
 use Rattle.engine.proofs.Dues.{late_stops}
 use Rattle.listing_summary.specs.declared.summary.Summary.{Summary}
 use Rattle.outside.specs.declared.inputs.InputFault.TheVariants as input
 use Rattle.run_puts.specs.declared.puts.Status.TheVariants as status
 
--- what an order for one model asks for, the words ask for
-pub asked_by : (order : Option Wanted) (wanted : Wanted) (asked : Option Command) → order ≡ Some wanted → asked ≡ asked_in (but_batch (Some wanted)) → asked_in (but_batch order) ≡ asked
-asked_by order wanted asked e is = ap (λ (o : Option Wanted). asked_in (but_batch o)) e ∙ sym is
-
-pub asked_none : (order : Option Wanted) → order ≡ None → asked_in (but_batch order) ≡ None
-asked_none order e = ap (λ (o : Option Wanted). asked_in (but_batch o)) e
+-- the order that the words give
+pub gives : (words : Option Wanted) (o p : Order) → words ≡ Some (wanted o) → o ≡ p → words ≡ Some (wanted p)
+gives words o p is same = is ∙ ap (λ (x : Order). Some (wanted x)) same
 
 pub wanting_stops : (end : Status) (puts : List Put) → IsWanting end puts → IsStopped end
 wanting_stops end puts (answer, s, t) = let P : Status → Type 0 = IsStopped in subst P (sym s) (late_stops (status_after answer) (tail_late [] (status_after answer) (memory_put answer ∷ []) (wanting [] answer)))
@@ -24,22 +21,16 @@ pub read_stops : (end : Status) (puts : List Put) → IsLast read_fault_line sta
 read_stops end puts (inl (e, t)) = inl e
 read_stops end puts (inr t) = late_stops end (tail_late (read_fault_line ∷ []) end puts t)
 
-stopped : (case : Case) (end : Status) → IsStopped end → IsValid case end
-stopped NoWords end h = tt
-stopped (Refuses refusal) end h = tt
-stopped (Comparing a b case) end h = inr (stopped case end h)
-stopped other end h = inr h
-
 module _ (case : Case) (n m : ℕ) (end : Status) (puts : List Put) where
   pub ends_without_words : IsWanting end puts → Answers case n m end puts
-  ends_without_words h = record { run = lacks_at_first (Due (Rose n m) case) (CutOf case) end puts h; valid = stopped case end (wanting_stops end puts h) }
+  ends_without_words h = record { run = lacks_at_first (Due (Rose n m) case) (CutOf case) end puts h; valid = inl (wanting_stops end puts h) }
 
   pub unreadable : ReadsFolder case → Rose n m → IsLast read_fault_line status.ReadFault end puts → Answers case n m end puts
-  unreadable worded rose h = record { run = lone (Due (Rose n m) case) (CutOf case) read_fault_line status.ReadFault end puts (unread (rose, worded)) (inl h); valid = stopped case end (read_stops end puts h) }
+  unreadable worded rose h = record { run = lone (Due (Rose n m) case) (CutOf case) read_fault_line status.ReadFault end puts (unread (rose, worded)) (inl h); valid = inl (read_stops end puts h) }
 
   -- as the case defines
-  pub ends_defined : IsRun (Defines case) (CutOf case) end puts → IsValid case end → Answers case n m end puts
-  ends_defined h valid = record { run = weaker (Defines case) (Due (Rose n m) case) (CutOf case) (λ meant pieces d. defined meant pieces d) end puts h; valid = valid }
+  pub ends_defined : IsRun (Defines case) (CutOf case) end puts → IsValid case → Answers case n m end puts
+  ends_defined h valid = record { run = weaker (Defines case) (Due (Rose n m) case) (CutOf case) (λ meant pieces d. defined meant pieces d) end puts h; valid = inr valid }
 
   -- a case that is this one
   pub of_case : (other : Case) → other ≡ case → Answers other n m end puts → Answers case n m end puts
@@ -51,10 +42,10 @@ read_reads come reads (Err refusal) = tt
 
 module _ (n m : ℕ) (end : Status) (puts : List Put) where
   pub ends_usage : IsLast usage_line status.Usage end puts → Answers NoWords n m end puts
-  ends_usage h = record { run = lone (Due (Rose n m) NoWords) (CutOf NoWords) usage_line status.Usage end puts (defined status.Usage (usage_line ∷ []) (refl, refl)) (inl h); valid = tt }
+  ends_usage h = record { run = lone (Due (Rose n m) NoWords) (CutOf NoWords) usage_line status.Usage end puts (defined status.Usage (usage_line ∷ []) (refl, refl)) (inl h); valid = inr tt }
 
   pub refused : (refusal : Refusal) → IsEnd (refused_line refusal) (status.Refused refusal) end puts → Answers (Refuses refusal) n m end puts
-  refused refusal h = record { run = lone (Due (Rose n m) (Refuses refusal)) (CutOf (Refuses refusal)) (refused_line refusal) (status.Refused refusal) end puts (defined (status.Refused refusal) (refused_line refusal ∷ []) (refl, refl)) h; valid = tt }
+  refused refusal h = record { run = lone (Due (Rose n m) (Refuses refusal)) (CutOf (Refuses refusal)) (refused_line refusal) (status.Refused refusal) end puts (defined (status.Refused refusal) (refused_line refusal ∷ []) (refl, refl)) h; valid = inr tt }
 
   -- A reading that comes to a case.
   module _ {T : Type 0} (r : Result T Refusal) (come : T → Case) where
@@ -66,32 +57,26 @@ module _ (n m : ℕ) (end : Status) (puts : List Put) where
     ends_unread view reads input.ReadFault is counts h = unreadable (case_read r come) n m end puts (read_reads come reads r) counts h
     ends_unread view reads input.Memory is counts h = ends_without_words (case_read r come) n m end puts h
 
--- The ends of the run of a made model.
+-- The ends of the run of a made model, which reads no folder.
 module _ (seed size : ℕ) where
-  abbrev DueHere : Status → List Text → Type 0
-  DueHere = IsMade seed size (made_model seed size)
-
-  abbrev Never : List Text → Type 0
-  Never pieces = ⊥
-
-  pub made_lacking : (end : Status) (puts : List Put) → IsWanting end puts → IsMadeRun seed size end puts
-  made_lacking end puts h = record { run = lacks_at_first DueHere Never end puts h; valid = inr (wanting_stops end puts h) }
+  abbrev Made : Case
+  Made = Making seed size (made_model seed size)
 
   module _ (read : Result FlowModel Refusal) (is : made_model seed size ≡ read) (valid : IfOk read IsModel) where
     is_valid : IfOk (made_model seed size) IsModel
     is_valid = let P : Result FlowModel Refusal → Type 0 = λ r. IfOk r IsModel in subst P (sym is) valid
 
-    alone : (line : Text) (meant end : Status) (puts : List Put) → IsMade seed size read meant (line ∷ []) → IsEnd line meant end puts → IsMadeRun seed size end puts
-    alone line meant end puts due h =
+    alone : (line : Text) (meant end : Status) (puts : List Put) → IsMade seed size read meant (line ∷ []) → IsEnd line meant end puts → (n : ℕ) → Answers Made n n end puts
+    alone line meant end puts due h n =
         let P : Result FlowModel Refusal → Type 0 = λ r. IsMade seed size r meant (line ∷ []) in
-        record { run = lone DueHere Never line meant end puts (subst P (sym is) due) h; valid = inl is_valid }
+        record { run = lone (Due (Rose n n) Made) (CutOf Made) line meant end puts (defined meant (line ∷ []) (subst P (sym is) due)) h; valid = inr is_valid }
 
   -- what a folder of these files reads as
   pub made_reading : (files : FileSet) (answer : Result FlowModel InputFault) → files ≡ with_limit (most_bytes Plain) (made_files seed size) → IsReading (λ m. m) (named made_name (reads Plain files)) answer → IsReading (λ m. m) (made_model seed size) answer
   made_reading files answer is h = subst (λ (fs : FileSet). IsReading (λ m. m) (named made_name (reads Plain fs)) answer) is h
 
   -- a listing of the made model ended so, of which this is the summary
-  pub made_ended : (m : FlowModel) (s : Summary) (last : ListingEnd) (end : Status) (puts : List Put) → made_model seed size ≡ Ok m → IsModel m → IsSummarized (made_task m) s last → IsEnd (summed_text seed size m.grid s last) (status_of last) end puts → IsMadeRun seed size end puts
+  pub made_ended : (m : FlowModel) (s : Summary) (last : ListingEnd) (end : Status) (puts : List Put) → made_model seed size ≡ Ok m → IsModel m → IsSummarized (made_task m) s last → IsEnd (summed_text seed size m.grid s last) (status_of last) end puts → (n : ℕ) → Answers Made n n end puts
   made_ended m s last end puts is valid h line =
       let one : IsMade seed size (Ok m) (status_of last) (summed_text seed size m.grid s last ∷ []) = record {
         all = listing (made_task m) h.values (last_line m.grid last);
@@ -100,7 +85,7 @@ module _ (seed size : ℕ) where
       } in
       alone (Ok m) is valid (summed_text seed size m.grid s last) (status_of last) end puts one line
 
-  pub made_unread : (fault : InputFault) (end : Status) (puts : List Put) → IsReading {T = FlowModel} (λ m. m) (made_model seed size) (Err fault) → IsReadingEnd (made_fault fault) end puts → IsMadeRun seed size end puts
-  made_unread (input.Refused refusal) end puts is h = alone (Err refusal) is tt (refused_line refusal) (status.Refused refusal) end puts (refl, refl) h
-  made_unread input.ReadFault end puts is h = made_lacking end puts h
-  made_unread input.Memory end puts is h = made_lacking end puts h
+  pub made_unread : (fault : InputFault) (end : Status) (puts : List Put) → IsReading {T = FlowModel} (λ m. m) (made_model seed size) (Err fault) → IsReadingEnd (made_fault fault) end puts → (n : ℕ) → Answers Made n n end puts
+  made_unread (input.Refused refusal) end puts is h n = alone (Err refusal) is tt (refused_line refusal) (status.Refused refusal) end puts (refl, refl) h n
+  made_unread input.ReadFault end puts is h n = ends_without_words Made n n end puts h
+  made_unread input.Memory end puts is h n = ends_without_words Made n n end puts h

@@ -1,13 +1,13 @@
 -- The public clauses of a run, from all that it comes to.
-use Rattle.engine.proofs.Common.{[], Wanted, HasNoList, AskedBatch, Batch, Case, Check, Command, Make, asked_in, Answers, AnswersBeside, IsStopped, IsLeft}
-use Rattle.engine.proofs.Common.{views_in, HasEnded, IsJobListing, Jobs, case_asked, job_of, job_task, names_read, CutOf, Defines, IsJobEnd, IsRunText}
-use Rattle.engine.proofs.Common.{ReadsFolder, model_line, IsValid, IsValidJob, Rose, Put, PutsMake, Seen, FileSet, taken, Text, end_line, Status, List, None}
-use Rattle.engine.proofs.Common.{Option, Some, inl, inr, subst, sym, ℕ, ◌∙◌, ◌≡◌, ◌⊎◌, Err, IfOk, Ok, Result, ap, map, refl, ◌++◌, ◌∷◌, texts, JobEnd, AreDecks}
-use Rattle.engine.proofs.Common.{history_exists, history_is_one, IsWhole, whole_listing, IsListing, listing, reads, FlowModel, Refusal, all_written, All-head}
-use Rattle.engine.proofs.Common.{All-tail, AllZip, concat, All, IsRunOf, case_of, ◌>>=◌, Batched, case_read, IsRunResult}
+use Rattle.engine.proofs.Common.{[], Wanted, HasNoList, AskedBatch, Batch, Case, Answers, AnswersBeside, IsStopped, IsLeft, views_in, HasEnded, IsJobListing}
+use Rattle.engine.proofs.Common.{Jobs, case_of, job_of, job_task, names_read, CutOf, Defines, IsJobEnd, IsRunText, ReadsFolder, model_line, IsValid, IsValidJob}
+use Rattle.engine.proofs.Common.{Rose, Put, PutsMake, Seen, FileSet, taken, Text, end_line, Status, List, None, Option, Some, inl, inr, subst, sym, ℕ, ◌∙◌, ◌≡◌}
+use Rattle.engine.proofs.Common.{◌⊎◌, Err, IfOk, Ok, Result, ap, map, refl, ◌++◌, ◌∷◌, texts, JobEnd, AreDecks, history_exists, history_is_one, IsWhole}
+use Rattle.engine.proofs.Common.{whole_listing, IsListing, listing, reads, FlowModel, Refusal, all_written, All-head, All-tail, AllZip, concat, All, IsRunOf}
+use Rattle.engine.proofs.Common.{◌>>=◌, Batched, case_read, IsRunResult, OneOf}
 use Rattle.engine.proofs.Beside.{beside_one, beside_complete, beside_decided, beside_put_rose, beside_read_rose, told_by}
 use Rattle.engine.proofs.Certifying.{not_stopped}
-use Rattle.engine.proofs.Told.{AnyOne, AnyTold, Laws, OneOrBatch, told_of, Says, says}
+use Rattle.engine.proofs.Told.{Laws, told_of, valid_of}
 use Rattle.engine.proofs.Dues.{Delivers, delivers}
 use Rattle.run_puts.specs.declared.puts.Status.TheVariants as status
 
@@ -38,12 +38,9 @@ module _ (laws : Laws) (b : AskedBatch) (files : FileSet) where
   all_ended (name ∷ names) [] valid h = absurd h
   all_ended (name ∷ names) (e ∷ ends) valid (x, h) = (record { end = x; listing = job_listing name e (reads b.limits files name) refl (All-head IsValidJob (job_of b files name) (map (job_of b files) names) valid) x }, all_ended names ends (All-tail IsValidJob (job_of b files name) (map (job_of b files) names) valid) h)
 
-  module _ (order : Option Wanted) (wanted : asked_in order ≡ Some (Batch b)) (end : Status) (old new : Seen) (puts : List Put) (makes : PutsMake old puts new) (goes : IsStopped end → ⊥) where
-    of_names : (names : List Text) → names_read files b ≡ Ok names → IsValid (Jobs (map (job_of b files) names)) end → Delivers (Defines (Jobs (map (job_of b files) names))) end puts → Batched order files end old.written new.written
-    of_names names read (inr stops) d = absurd (goes stops)
-    of_names names read (inl valid) d = record {
-      asked = b;
-      wanted = wanted;
+  module _ (order : Option Wanted) (wanted : order ≡ Some (Batch b)) (end : Status) (old new : Seen) (puts : List Put) (makes : PutsMake old puts new) (goes : IsStopped end → ⊥) where
+    of_names : (names : List Text) → names_read files b ≡ Ok names → All IsValidJob (map (job_of b files) names) → Delivers (Defines (Jobs (map (job_of b files) names))) end puts → Batched b files end old.written new.written
+    of_names names read valid d = record {
       names = names;
       read = read;
       ends = d.defines.ends;
@@ -55,16 +52,16 @@ module _ (laws : Laws) (b : AskedBatch) (files : FileSet) where
     abbrev Of : Result (List Text) Refusal → Case
     Of r = case_read (r >>= λ names. Ok (map (job_of b files) names)) Jobs
 
-    of_list : (r : Result (List Text) Refusal) → names_read files b ≡ r → IsValid (Of r) end → Delivers (Defines (Of r)) end puts → HasNoList b files end ⊎ Batched order files end old.written new.written
+    of_list : (r : Result (List Text) Refusal) → names_read files b ≡ r → IsValid (Of r) → Delivers (Defines (Of r)) end puts → HasNoList b files end ⊎ Batched b files end old.written new.written
     of_list (Ok names) read valid d = inr (of_names names read valid d)
     of_list (Err refusal) read valid d = inl (refusal, read, d.defines.0)
 
-    pub batched : (n m : ℕ) → Answers (case_of order files) n m end puts → HasNoList b files end ⊎ Batched order files end old.written new.written
+    pub batched : (n m : ℕ) → Answers (case_of order files) n m end puts → HasNoList b files end ⊎ Batched b files end old.written new.written
     batched n m a =
-        let A : Option Command → Type 0 = λ o. Answers (case_asked o files) n m end puts in
+        let A : Option Wanted → Type 0 = λ o. Answers (case_of o files) n m end puts in
         let x = subst A wanted a in
         let c = Of (names_read files b) in
-        of_list (names_read files b) refl x.valid (delivers (Rose n m × ReadsFolder c) (Defines c) (CutOf c) end puts x.run goes)
+        of_list (names_read files b) refl (valid_of c end goes x.valid) (delivers (Rose n m × ReadsFolder c) (Defines c) (CutOf c) end puts x.run goes)
 
 module _ (order : Option Wanted) (agrees : FileSet → Type 0) (n m : ℕ) (failed : Type 0) (side leads : List Put → Type 0) (end : Status) (old new : Seen) (puts : List Put) (makes : PutsMake old puts new) where
   runs_beside : (case : Case) → Answers case n m end puts ⊎ IsLeft failed case end puts → IsRunOf (Rose n m) case end puts ⊎ IsLeft failed case end puts
@@ -72,29 +69,17 @@ module _ (order : Option Wanted) (agrees : FileSet → Type 0) (n m : ℕ) (fail
   runs_beside case (inr l) = inr l
 
   module _ (laws : Laws) (on : leads puts) (some : (files : FileSet) × agrees files) (all : (files : FileSet) → agrees files → AnswersBeside (case_of order files) (views_in order) n m failed side end puts) where
-    batch : (IsStopped end → ⊥) → (b : AskedBatch) → asked_in order ≡ Some (Batch b) → (files : FileSet) → agrees files → HasNoList b files end ⊎ Batched order files end old.written new.written
+    batch : (IsStopped end → ⊥) → (b : AskedBatch) → order ≡ Some (Batch b) → (files : FileSet) → agrees files → HasNoList b files end ⊎ Batched b files end old.written new.written
     batch goes b wanted files agree =
         told_by (case_of order files) (views_in order) n m failed side end puts (λ a. batched laws b files order wanted end old new puts makes goes n m a)
         (λ f is. absurd (goes (inr (inl is)))) (all files agree)
 
-    -- of one model, or of a batch
-    one : end ≡ status.Ok → (files : FileSet) → agrees files → AnyOne order files old new ⊎ Batched order files end old.written new.written
-    one ok files agree = by_order (beside_one laws order files (views_in order) n m failed side end puts old new makes (all files agree) ok)
+    one : end ≡ status.Ok → (files : FileSet) → agrees files → OneOf order files end old new
+    one ok files agree = beside_one laws order files (views_in order) n m failed side end puts old new makes (λ b wanted. whole b (batch (λ stops. not_stopped (subst IsStopped ok stops)) b wanted files agree)) (all files agree) ok
       where
-        only_batched : (b : AskedBatch) → HasNoList b files end ⊎ Batched order files end old.written new.written → Batched order files end old.written new.written
-        only_batched b (inl (refusal, read, is)) = absurd (let bad : status.Refused refusal ≡ status.Ok = sym is ∙ ok in cc)
-        only_batched b (inr h) = h
-
-        by_order : OneOrBatch order files old new → AnyOne order files old new ⊎ Batched order files end old.written new.written
-        by_order (inl o) = inl o
-        by_order (inr (b, wanted)) = inr (only_batched b (batch (λ stops. not_stopped (subst IsStopped ok stops)) b wanted files agree))
-
-    headline : end ≡ status.Ok → (files : FileSet) → agrees files → AnyTold order files old new ⊎ Batched order files end old.written new.written
-    headline ok files agree = elim (one ok files agree) [ inl o ↦ inl (told_of order files old new o) | inr b ↦ inr b ]
-
-    -- what the headline says of this command
-    of_command : (command : Option Command) → asked_in order ≡ command → end ≡ status.Ok → (files : FileSet) → agrees files → Says order files old new command
-    of_command command wanted ok files agree = subst (Says order files old new) wanted (says order files end old new (headline ok files agree))
+        whole : (b : AskedBatch) → HasNoList b files end ⊎ Batched b files end old.written new.written → Batched b files end old.written new.written
+        whole b (inl (refusal, read, is)) = absurd (let bad : status.Refused refusal ≡ status.Ok = sym is ∙ ok in cc)
+        whole b (inr h) = h
 
     pub result_of : IsRunResult order agrees n m failed side leads end old new
     result_of = record {
@@ -102,11 +87,8 @@ module _ (order : Option Wanted) (agrees : FileSet → Type 0) (n m : ℕ) (fail
       side = λ files agree. (all files agree).side;
       watched = λ ok j views files agree. (all files agree).watched ok j views;
       told = some;
-      headline = headline;
+      headline = λ ok files agree. told_of order files end old new (one ok files agree);
       one = one;
-      made = λ ok seed size wanted. of_command (Some (Make seed size)) wanted ok some.0 some.1;
-      certified = λ ok asked wanted. of_command (Some (Check asked None)) wanted ok;
-      span_certified = λ ok asked to wanted. of_command (Some (Check asked (Some to))) wanted ok;
       batch = batch;
       read_fault = beside_read_rose (case_of order some.0) (views_in order) n m failed side end puts (all some.0 some.1);
       write_fault = beside_put_rose (case_of order some.0) (views_in order) n m failed side end puts old new makes (all some.0 some.1);

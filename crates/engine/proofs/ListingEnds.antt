@@ -1,10 +1,10 @@
 -- The ends of listings, and of the jobs of a batch: none is a fault, and which is certain.
 use Rattle.engine.proofs.Common.{TimeStep, JobEnd, AllZip, first_not_ok, or_else, IsBatch, batch_settles, batches_agree, AreDecks, IsRunText, JobDefines}
-use Rattle.engine.proofs.Common.{model_line, IsJobEnd, IsStopped, IsValidJob, GoesThrough, IsPlainJob, Job, IsListing, status_of, AllSteps, ListingEnd, Step}
-use Rattle.engine.proofs.Common.{Task, Refusal, Agree, Text, Status, Err, IfOk, Ok, Result, ap, inl, inr, refl, subst, sym, ◌∙◌, ◌∷◌, ◌≡◌, List, [], All-head}
+use Rattle.engine.proofs.Common.{model_line, IsJobEnd, IsValidJob, GoesThrough, IsPlainJob, Job, IsListing, status_of, AllSteps, ListingEnd, Step, Task}
+use Rattle.engine.proofs.Common.{Refusal, Agree, Text, Status, Err, IfOk, Ok, Result, ap, inl, inr, refl, subst, sym, ◌∙◌, ◌∷◌, ◌≡◌, List, [], All-head}
 use Rattle.engine.proofs.Common.{All-tail, All, NoBound}
 use Rattle.std.specs.Prelude.{false}
-use Rattle.engine.proofs.Certifying.{IsFault, stopped_by_fault}
+use Rattle.engine.proofs.Certifying.{IsFault}
 use Rattle.engine.proofs.Told.{Laws}
 use Rattle.run_puts.specs.declared.puts.Status.TheVariants as status
 use Rattle.listing_run.specs.declared.text.ListingEnd.TheVariants as ends
@@ -44,9 +44,6 @@ module _ (k : Task) (goes : GoesThrough k) where
 
   pub goes_through : (end : Status) (q : List Text) → IsListing k end q → end ≡ status.Ok
   goes_through end q y = y.status ∙ all_done y.last y.values y.steps
-
-pub never_stopped : (k : Task) (end : Status) (q : List Text) → IsStopped end → IsListing k end q → ⊥
-never_stopped k end q stops y = listing_is_no_fault k end q y (stopped_by_fault end stops)
 
 -- The jobs of a batch.
 

@@ -1,10 +1,12 @@
 -- What a reading gives, by the name and the files of the folder.
 use Rattle.engine.proofs.Common.{◌≡◌, ℕ, ◌≤◌, Bool, true, length, List, Option, None, Some, Result, Ok, Err, IfOk, sym, ap, refl, ◌∙◌, codes, if◌then◌else◌}
-use Rattle.engine.proofs.Common.{map, subst, ℤ, unsigned_abs, length-map, FileSet, IsReading, file_refusal, input_fault, IsGoodName, is_good_name, BadName}
-use Rattle.engine.proofs.Common.{InputFault, Refusal, Has, Stops, StopsText, FlowModel, IsModel, Text, ListedStep, AreZonesOf, ZonedListing, named}
-use Rattle.engine.proofs.Common.{IsNamedFault, Limits, ◌>>=◌, model_of, Difference, one_deck, AreDecksAs, IsUnlikeFault, second_by, Second, of_both, of_first}
-use Rattle.engine.proofs.Common.{of_second, Pairs, InputCounts, cell_count, false, AreDecks, Decks, AreDecksOf, IsNoSecond, IfErr, second_in, reads, ReadsOn}
-use Rattle.engine.proofs.Common.{names_in}
+use Rattle.engine.proofs.Common.{map, subst, ℤ, unsigned_abs, length-map, FileSet, IsReading, file_refusal, input_fault, IsGoodName, is_good_name, InputFault}
+use Rattle.engine.proofs.Common.{Refusal, Has, Stops, StopsText, FlowModel, IsModel, Text, ListedStep, AreZonesOf, ZonedListing, named, IsNamedFault, Limits}
+use Rattle.engine.proofs.Common.{◌>>=◌, model_of, Difference, one_deck, AreDecksAs, IsUnlikeFault, second_by, Second, of_both, of_first, of_second, InputCounts}
+use Rattle.engine.proofs.Common.{cell_count, false, AreDecks, Decks, AreDecksOf, IsNoSecond, IfErr, second_in, reads, ReadsOn, names_in, AreAlike, IfSome}
+use Rattle.engine.proofs.Common.{option_map, IsSecond}
+use Rattle.outside.specs.declared.codes.Code.TheVariants.{BadName}
+use Rattle.name_file.specs.Pairs.{Pairs}
 use Rattle.outside.specs.declared.inputs.TextFault.{TextFault}
 use Rattle.std.proofs.Common.{All}
 use Rattle.engine.specs.declared.two_decks.Second.{Second as SecondBy}
@@ -85,18 +87,39 @@ module _ (limits : Limits) (fs : FileSet) (name : Text) where
     unfolding second_in
     second_read m h = rw (are, h) refl
 
--- its model is the one that the files of its name read as
-pub second_parts : (limits : Limits) (files : FileSet) (name : Text) (b : Second) → second_in limits files name ≡ Ok b → reads limits files name ≡ Ok b.model
-unfolding second_in reads
-second_parts limits files name b h = by_names (names_in files name) refl h
-  where
-    by_model : (pairs : Pairs) (r : Result FlowModel Refusal) → (r >>= λ m. Ok (record { name = name; files = pairs; model = m })) ≡ Ok b → r ≡ Ok b.model
-    by_model pairs (Ok m) e = let same : record { name = name; files = pairs; model = m } ≡ b = cc in ap (λ (x : Second). Ok x.model) same
-    by_model pairs (Err refusal) e = absurd (let bad : Path (Result Second Refusal) (Err refusal) (Ok b) = e in cc)
+-- The model of the second deck of a name is the one that its files read as.
+module _ (limits : Limits) (files : FileSet) (name : Text) where
+  abbrev model_by : Result Second Refusal → Result FlowModel Refusal
+  model_by r = r >>= λ b. Ok b.model
 
-    by_names : (r : Result Pairs Refusal) → names_in files name ≡ r → (r >>= λ pairs. model_of limits files pairs >>= λ m. Ok (record { name = name; files = pairs; model = m })) ≡ Ok b → (r >>= model_of limits files) ≡ Ok b.model
-    by_names (Ok pairs) is e = by_model pairs (model_of limits files pairs) e
-    by_names (Err refusal) is e = absurd (let bad : Path (Result Second Refusal) (Err refusal) (Ok b) = e in cc)
+  reads_by : reads limits files name ≡ model_by (second_in limits files name)
+  unfolding second_in reads
+  reads_by = by_names (names_in files name)
+    where
+      by_model : (pairs : Pairs) (r : Result FlowModel Refusal) → r ≡ model_by (r >>= λ m. Ok (record { name = name; files = pairs; model = m }))
+      by_model pairs (Ok m) = refl
+      by_model pairs (Err refusal) = refl
+
+      by_names : (r : Result Pairs Refusal) → (r >>= model_of limits files) ≡ model_by (r >>= λ pairs. model_of limits files pairs >>= λ m. Ok (record { name = name; files = pairs; model = m }))
+      by_names (Ok pairs) = by_model pairs (model_of limits files pairs)
+      by_names (Err refusal) = refl
+
+  named_by : named name (reads limits files) ≡ model_by (named name (second_in limits files))
+  named_by = by_test (is_good_name name)
+    where
+      by_test : (good : Bool) → (if good then reads limits files name else Err (file_refusal BadName (codes "-"))) ≡ model_by (if good then second_in limits files name else Err (file_refusal BadName (codes "-")))
+      by_test true = reads_by
+      by_test false = refl
+
+  pub second_parts : (b : Second) → second_in limits files name ≡ Ok b → reads limits files name ≡ Ok b.model
+  second_parts b h = reads_by ∙ ap model_by h
+
+  named_second : (b : FlowModel) → named name (reads limits files) ≡ Ok b → (last : Second) × (named name (second_in limits files) ≡ Ok last) × (last.model ≡ b)
+  named_second b h = by_second (named name (second_in limits files)) refl (sym named_by ∙ h)
+    where
+      by_second : (r : Result Second Refusal) → named name (second_in limits files) ≡ r → model_by r ≡ Ok b → (last : Second) × (named name (second_in limits files) ≡ Ok last) × (last.model ≡ b)
+      by_second (Ok last) is e = (last, is, (let same : Path (Result FlowModel Refusal) (Ok last.model) (Ok b) = e in cc))
+      by_second (Err refusal) is e = absurd (let bad : Path (Result FlowModel Refusal) (Err refusal) (Ok b) = e in cc)
 
 -- The decks.
 
@@ -122,6 +145,16 @@ module _ (limits : Limits) (name : Text) (fs : FileSet) (a : FlowModel) (h : nam
       subst P (sym is) (record { last = Some (second_by b); is_first = h; is_second = ap (λ x. Some x) k; are = refl; alike = alike })
   compared_decks to b k (Err (input.Refused refusal)) x (d, first, never, is) = of_both a (second_by b) d h (ap (λ x. Some x) k) first never is
   compared_decks to b k (Err other) x e = tt
+
+-- One deck was read, or two that are alike.
+pub decks_read : (limits : Limits) (name : Text) (to : Option Text) (fs : FileSet) (a : FlowModel) (second : Option FlowModel) → named name (reads limits fs) ≡ Ok a →
+    option_map (λ last. named last (reads limits fs)) to ≡ option_map (λ m. Ok m) second → IfSome second (IsSecond a) → AreDecksAs limits name to fs (Ok (record { first = a; second = second }))
+decks_read limits name None fs a None h k valid = one_read limits name fs a h
+decks_read limits name (Some to) fs a (Some b) h k valid =
+    let (last, is, same) = named_second limits fs to b (let same : Path (Option (Result FlowModel Refusal)) (Some (named to (reads limits fs))) (Some (Ok b)) = k in cc) in
+    record { last = Some last; is_first = h; is_second = ap (λ (r : Result Second Refusal). Some r) is; are = ap (λ (m : FlowModel). Some m) (sym same); alike = subst (AreAlike a) (sym same) valid.alike }
+decks_read limits name None fs a (Some b) h k valid = absurd (let bad : Path (Option (Result FlowModel Refusal)) None (Some (Ok b)) = k in cc)
+decks_read limits name (Some to) fs a None h k valid = absurd (let bad : Path (Option (Result FlowModel Refusal)) (Some (named to (reads limits fs))) None = k in cc)
 
 pub compared_valid : (a b : FlowModel) (r : Result Decks InputFault) → IsModel a → IsModel b → IfOk r (AreDecksOf a b) → IfOk r AreDecks
 compared_valid a b (Ok d) first second (is, alike) = subst AreDecks (sym is) (record { first = first; second = record { model = second; alike = alike } })

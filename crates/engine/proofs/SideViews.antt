@@ -4,6 +4,7 @@ use Rattle.engine.proofs.Common.{Seen, SinkError, Bound, Entries, Edges, Enclose
 use Rattle.engine.proofs.Common.{AreSettledBy, IsSettledBy, Reaches, RestsOrSettles, rests, settled, IsWatched, Shows, ViewPutsOf, lines_of, TimeStep, times}
 use Rattle.engine.proofs.Common.{begun, edges_by}
 use Rattle.outside.specs.declared.traits.SinkError.TheVariants.{Write}
+use Rattle.outside.specs.declared.traits.Sink.{Ghosts as SinkOf}
 use Rattle.view_puts.specs.declared.viewer.SinkViewer.{SinkViewer}
 use Rattle.engine.proofs.Viewed.{is_watched, side_puts, side_rose}
 
@@ -49,15 +50,18 @@ module _ {S V : Type 0} (begins : S → ℕ → ℕ → S → Type 0) (leads : S
   pub all_settled : (k : Task) (s t : S) → Keeps s → AllSettledBy begins leads stop k s t → AllSettledBy begins' leads' stop' k (of s) (of t)
   all_settled k s t keeps h = record { start = h.start; is_start = h.is_start; settled = are_settled k h.start _ s t keeps h.settled }
 
-module _ {W X : Type 0} (leads : W → List Put → W → Type 0) (text : X → ℕ → ℕ → List Entries → List Bound → List ℕ) where
+module _ {W : Type 0} (K : SinkOf W) where
   abbrev Viewer : Type 0
-  Viewer = SinkViewer W X
+  Viewer = SinkViewer W K
+
+  abbrev leads : W → List Put → W → Type 0
+  leads = K.leads
 
   abbrev begins : Viewer → ℕ → ℕ → Viewer → Type 0
-  begins s i j t = t ≡ record s { period = i; step = j }
+  begins s i j t = (t.sink ≡ s.sink) × (t.grid ≡ s.grid) × (t.at ≡ record { period = i; step = j }) × (t.stop ≡ s.stop)
 
   abbrev viewed : Viewer → List Entries → Edges → ℕ → Viewer → Type 0
-  viewed s p b n t = (t.sink.ghost_name ≡ s.sink.ghost_name) × (t.text ≡ s.text) × (t.period ≡ s.period) × (t.step ≡ s.step) × ViewPuts (text s.text.now s.period s.step p) (EnclosesPair p b) (LeadOn leads s.sink.now t.sink.now) n s.stop t.stop
+  viewed s p b n t = (t.sink.ghost_name ≡ s.sink.ghost_name) × (t.grid ≡ s.grid) × (t.at ≡ s.at) × ViewPuts (lines_of s.grid.now s.at.period s.at.step p) (EnclosesPair p b) (LeadOn leads s.sink.now t.sink.now) n s.stop t.stop
 
   abbrev stopped : Viewer → Type 0
   stopped s = is_some s.stop ≡ true
@@ -69,16 +73,16 @@ module _ {W X : Type 0} (leads : W → List Put → W → Type 0) (text : X → 
   sink s = s.sink.now
 
   abbrev text_of : Viewer → ℕ → ℕ → List Entries → List Bound → List ℕ
-  text_of s = text s.text.now
+  text_of s = lines_of s.grid.now
 
-  is_begun : (s t : Viewer) (i j : ℕ) → begins s i j t → (sink t ≡ sink s) × (text_of t ≡ text_of s) × (t.period ≡ i) × (t.step ≡ j) × (stop t ≡ stop s)
-  is_begun s t i j e = (ap (λ (v : Viewer). v.sink.now) e, ap (λ (v : Viewer). text v.text.now) e, ap (λ (v : Viewer). v.period) e, ap (λ (v : Viewer). v.step) e, ap (λ (v : Viewer). v.stop) e)
+  is_begun : (s t : Viewer) (i j : ℕ) → begins s i j t → (sink t ≡ sink s) × (text_of t ≡ text_of s) × (t.at.period ≡ i) × (t.at.step ≡ j) × (stop t ≡ stop s)
+  is_begun s t i j e = (ap (λ x. x.now) e.0, ap (λ x. lines_of x.now) e.1, ap (λ (at : TimeStep). at.period) e.2, ap (λ (at : TimeStep). at.step) e.2, e.3)
 
-  is_viewed : (s t : Viewer) (p : List Entries) (b : Edges) (n : ℕ) → viewed s p b n t → (text_of t ≡ text_of s) × ViewPuts (text_of s s.period s.step p) (EnclosesPair p b) (LeadOn leads (sink s) (sink t)) n (stop s) (stop t)
-  is_viewed s t p b n h = (ap (λ x. text x.now) h.1, h.4)
+  is_viewed : (s t : Viewer) (p : List Entries) (b : Edges) (n : ℕ) → viewed s p b n t → (text_of t ≡ text_of s) × ViewPuts (text_of s s.at.period s.at.step p) (EnclosesPair p b) (LeadOn leads (sink s) (sink t)) n (stop s) (stop t)
+  is_viewed s t p b n h = (ap (λ x. lines_of x.now) h.1, h.3)
 
   no_view_yet : (s : Viewer) (p : List Entries) (b : Edges) → viewed s p b 0 s
-  no_view_yet s p b = (refl, refl, refl, refl, no_view (text s.text.now s.period s.step p) (EnclosesPair p b) (LeadOn leads s.sink.now s.sink.now) s.stop (no_lead leads s.sink.now))
+  no_view_yet s p b = (refl, refl, refl, no_view (lines_of s.grid.now s.at.period s.at.step p) (EnclosesPair p b) (LeadOn leads s.sink.now s.sink.now) s.stop (no_lead leads s.sink.now))
 
   abbrev ReachesBy : ℕ → Task → Viewer → Viewer → Type 0
   ReachesBy n k first now = (now ≡ first) ⊎ ReachesFirst begins (Shows viewed stopped n) stop k first now
@@ -87,16 +91,16 @@ module _ {W X : Type 0} (leads : W → List Put → W → Type 0) (text : X → 
   pub same_sink : (n : ℕ) (k : Task) (first now : Viewer) → ReachesBy n k first now → now.sink.ghost_name ≡ first.sink.ghost_name
   same_sink n k first now h =
       (reached_first begins (Shows viewed stopped n) stop begins (Shows viewed stopped n) stop (λ s. s) (λ s. s.sink.ghost_name ≡ first.sink.ghost_name)
-      (λ s t i j same b. (ap (λ (v : Viewer). v.sink.ghost_name) b ∙ same, b))
+      (λ s t i j same b. (ap (λ x. x.ghost_name) b.0 ∙ same, b))
       (λ s t p b ended same l. ((l.views.more s 0 (no_view_yet s p b)).0 ∙ same, l))
       (λ s. refl) k first now refl h).0
 
-  module _ (starts : (s : W) → leads s [] s) (k : Task) (n : ℕ) (first now : Viewer) (fits : text first.text.now ≡ lines_of k.decks.first.grid) (none : first.stop ≡ None) where
+  module _ (starts : (s : W) → leads s [] s) (k : Task) (n : ℕ) (first now : Viewer) (fits : first.grid.now ≡ k.decks.first.grid) (none : first.stop ≡ None) where
     pub puts_of_side : ReachesBy n k first now → ViewPutsOf k (λ puts. leads first.sink.now puts now.sink.now) (Some n)
-    puts_of_side h = side_puts leads sink text_of (λ s. s.period) (λ s. s.step) stop begins viewed stopped is_begun is_viewed (λ s h. h) no_view_yet starts k n first now fits none h
+    puts_of_side h = side_puts leads sink text_of (λ s. s.at.period) (λ s. s.at.step) stop begins viewed stopped is_begun is_viewed (λ s h. h) no_view_yet starts k n first now (ap lines_of fits) none h
 
     pub side_failed : (seen : W → Seen) → ((s : W) (puts : List Put) (t : W) → leads s puts t → PutsMake (seen s) puts (seen t)) → ReachesBy n k first now → now.stop ≡ Some Write → Rose (seen first.sink.now).faults (seen now.sink.now).faults
-    side_failed seen tells h wrote = side_rose leads sink text_of (λ s. s.period) (λ s. s.step) stop begins viewed stopped is_begun is_viewed (λ s h. h) no_view_yet starts k n first now fits none seen tells h wrote
+    side_failed seen tells h wrote = side_rose leads sink text_of (λ s. s.at.period) (λ s. s.at.step) stop begins viewed stopped is_begun is_viewed (λ s h. h) no_view_yet starts k n first now (ap lines_of fits) none seen tells h wrote
 
     pub views_of_all : AllSettledBy begins (Shows viewed stopped n) stop k first now → IsWatched k n (λ puts. leads first.sink.now puts now.sink.now)
-    views_of_all all = is_watched leads sink text_of (λ s. s.period) (λ s. s.step) stop begins viewed stopped is_begun is_viewed (λ s h. h) no_view_yet starts k n first now fits none all
+    views_of_all all = is_watched leads sink text_of (λ s. s.at.period) (λ s. s.at.step) stop begins viewed stopped is_begun is_viewed (λ s h. h) no_view_yet starts k n first now (ap lines_of fits) none all

@@ -1,14 +1,13 @@
 -- What the reading of a batch returns.
-use Rattle.std.specs.Prelude.{◌≡◌, ℕ, List, map, Result, Ok, Err, Option, Some, None, IfOk, All, ◌≤◌}
+use Rattle.std.specs.Prelude.{ℕ, List, Result, Ok, Err, IfOk, All}
 use Rattle.std.specs.declared.vec.Vec.{Vec}
 use Rattle.std.specs.declared.alloc.Global.{Global}
 use Rattle.outside.specs.{FileSet, IsReading}
 use Rattle.outside.specs.declared.inputs.InputFault.{InputFault}
 use Rattle.listing_run.specs.{IsTask}
 use Rattle.engine.specs.declared.job.Job.{Job}
-use Rattle.engine.specs.Cases.{AskedBatch, jobs_read, names_read, Batch, asked_in, but_batch}
-use Rattle.command_line.specs.{Wanted}
-use Rattle.engine.specs.declared.asked_batch.BatchOrder.{BatchOrder}
+use Rattle.engine.specs.Cases.{jobs_read, names_read}
+use Rattle.command_line.specs.{AskedBatch}
 use Rattle.outside.specs.declared.inputs.InputFault.TheVariants as input
 
 -- each task that is to be listed meets the conditions on tasks
@@ -29,17 +28,3 @@ NeverRefused (Ok value) = Unit {0}
 NeverRefused (Err (input.Refused refusal)) = ⊥
 NeverRefused (Err input.ReadFault) = Unit {0}
 NeverRefused (Err input.Memory) = Unit {0}
-
--- A batch that is asked for, in the form of the code.
--- the batch; of its settling only the rounds are part of a definition
-abbrev pub batch_by : BatchOrder → AskedBatch
-batch_by a = record { limits = a.limits; list = a.list.now; digits = a.digits; rounds = a.rounds; quick = a.quick }
-
--- the order is for this batch, or for none
-abbrev pub IsBatchOf : Option BatchOrder → Option Wanted → Type 0
-IsBatchOf (Some a) order = asked_in order ≡ Some (Batch (batch_by a))
-IsBatchOf None order = but_batch order ≡ order
-
--- the ranges of its numbers
-abbrev pub IsBatchOrder : BatchOrder → Type 0
-IsBatchOrder a = (a.digits ≤ 18) × (1 ≤ a.workers) × (a.workers ≤ 64)

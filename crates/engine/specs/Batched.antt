@@ -1,5 +1,5 @@
 -- The headline of a batch: of each listing among its texts.
-use Rattle.std.specs.Prelude.{◌≡◌, ℕ, ℤ, List, false, [], ◌∷◌, ◌++◌, Ok, Err, Option, Some}
+use Rattle.std.specs.Prelude.{◌≡◌, ℕ, ℤ, List, false, [], ◌∷◌, ◌++◌, Ok, Err, Option}
 use Rattle.std.specs.List.{AllZip, concat}
 use Rattle.std.specs.Io.KnownBytes.{Appends}
 use Rattle.outside.specs.{FileSet}
@@ -17,8 +17,8 @@ use Rattle.listing_run.specs.{AllSteps, listing, BoundAll}
 use Rattle.exact_histories.specs.{HasHistory, AreSame}
 use Rattle.batch_puts.specs.declared.job_end.JobEnd.{JobEnd}
 use Rattle.batch_puts.specs.{first_not_ok, texts}
-use Rattle.command_line.specs.{Wanted}
-use Rattle.engine.specs.Cases.{AskedBatch, Batch, asked_in, job_of, job_task, names_read}
+use Rattle.command_line.specs.{AskedBatch}
+use Rattle.engine.specs.Cases.{job_of, job_task, names_read}
 use Rattle.engine.specs.Defined.{IsJobEnd, model_line}
 
 -- The text of a name is a listing that its files define, and without --quick the one; and every history of heads that solves
@@ -46,13 +46,11 @@ pub record HasEnded (b : AskedBatch) (files : FileSet) (name : Text) (e : JobEnd
   pub end : IsJobEnd (job_of b files name) e
   pub listing : e.status ≡ status.Ok → IsJobListing b files name e.text.items
 
--- A batch with these words over these files whose jobs ran, where a sink had the bytes `old` before it and `new` after
+-- A batch that was asked for so, over these files, whose jobs ran, where a sink had the bytes `old` before it and `new` after
 -- it, has written one text for each name of its list, in the order of the list, and END; and its status is that of the
 -- first job that didn't end Ok.
-pub record Batched (order : Option Wanted) (files : FileSet) (end : Status) (old new : Option (List ℕ)) : Type 0 where
-  -- The words ask for a batch, and its list has these names.
-  pub asked : AskedBatch
-  pub wanted : asked_in order ≡ Some (Batch asked)
+pub record Batched (asked : AskedBatch) (files : FileSet) (end : Status) (old new : Option (List ℕ)) : Type 0 where
+  -- Its list has these names.
   pub names : List Text
   pub read : names_read files asked ≡ Ok names
   -- Each has one end.

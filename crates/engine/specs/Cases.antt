@@ -5,9 +5,9 @@ use Rattle.record_lines.specs.{◌>>=◌}
 use Rattle.model_types.specs.{most_bytes}
 use Rattle.outside.specs.declared.codes.Code.TheVariants.{BadName}
 use Rattle.outside.specs.declared.inputs.Refusal.{Refusal}
-use Rattle.command_line.specs.{Wanted, Lists, Checks, Makes, Batches, Writes}
+use Rattle.command_line.specs.{Asked, AskedBatch, AskedCheck, Batch, Check, Make, Run, Wanted, Write}
 use Rattle.model_types.specs.declared.limits.Limits.{Limits}
-use Rattle.model_types.specs.declared.limits.Limits.TheVariants.{Plain, Wide}
+use Rattle.model_types.specs.declared.limits.Limits.TheVariants.{Plain}
 use Rattle.model_types.specs.declared.model.FlowModel.{FlowModel}
 use Rattle.model_reader.specs.{reads}
 use Rattle.zone_file.specs.{zones_of}
@@ -27,70 +27,13 @@ use Rattle.engine.specs.declared.job.Job.{Job}
 use Rattle.engine.specs.declared.zoned.ZonedListing.{ZonedListing}
 use Rattle.engine.specs.TwoDecks.{Second, second_in}
 
--- the limits; wide ones with --wide
-abbrev pub limits_of : Bool → Limits
-limits_of wide = if wide then Wide else Plain
-
--- A listing that the words ask for: the limits, the name of its name file, the digits of conductances, the number of plain
--- rounds in which a step must settle, the name of a zone file, if there is one, and whether a step may have any pair that is a
--- certificate.
-pub record Asked : Type 0 where
-  pub limits : Limits
-  pub name : Text
-  pub digits : ℕ
-  pub rounds : ℕ
-  pub zones : Option Text
-  pub quick : Bool
-
--- A check that the words ask for: the limits, the name of the name file, that of the listing, the digits of conductances, and the name
--- of a zone file, if there is one.
-pub record AskedCheck : Type 0 where
-  pub limits : Limits
-  pub name : Text
-  pub listing : Text
-  pub digits : ℕ
-  pub zones : Option Text
-
--- A batch of models that the words ask for: the limits of all its jobs, the name of its list, the digits of conductances, the number of
--- plain rounds in which a step must settle, and whether a step may have any pair that is a certificate.
-pub record AskedBatch : Type 0 where
-  pub limits : Limits
-  pub list : Text
-  pub digits : ℕ
-  pub rounds : ℕ
-  pub quick : Bool
-
--- A command: to list a model, or with the name of a second name file all models between two; to make one from this seed, with this
--- many rows and columns, and sum it up; to check a listing of a model, or of all between two; to list the models of a batch; or to write the deck of the model of this name file, by these limits.
-pub data Command : Type 0 where
-  Run : Asked → Option Text → Command
-  Make : ℕ → ℕ → Command
-  Check : AskedCheck → Option Text → Command
-  Batch : AskedBatch → Command
-  Write : Limits → Text → Command
-
--- The command of an order. What is put does not depend on the number of workers, nor on views.
-abbrev pub built : Wanted → Command
-built (Lists name to digits workers rounds zones watch quick wide) =
-    Run (record { limits = limits_of wide; name = name; digits = digits; rounds = rounds; zones = zones; quick = quick }) to
-built (Makes seed size) = Make seed size
-built (Checks name to listing digits zones wide) =
-    Check (record { limits = limits_of wide; name = name; listing = listing; digits = digits; zones = zones }) to
-built (Batches list digits workers rounds quick wide) =
-    Batch (record { limits = limits_of wide; list = list; digits = digits; rounds = rounds; quick = quick })
-built (Writes name wide) = Write (limits_of wide) name
-
--- the command that an order asks for, which words give; None where they aren't accepted
-abbrev pub asked_in : Option Wanted → Option Command
-asked_in order = option_map built order
-
 -- the order for one model: none if it is for a batch
 abbrev pub but_batch : Option Wanted → Option Wanted
-but_batch (Some (Batches list digits workers rounds quick wide)) = None
+but_batch (Some (Batch b)) = None
 but_batch order = order
 
 -- no file of the folder is read: without a command, and to make a model
-abbrev pub ReadsNothing : Option Command → Type 0
+abbrev pub ReadsNothing : Option Wanted → Type 0
 ReadsNothing None = Unit {0}
 ReadsNothing (Some (Make seed size)) = Unit {0}
 ReadsNothing asked = ⊥
@@ -125,12 +68,6 @@ abbrev pub IsListingOf : Task → Case → Type 0
 IsListingOf task (Listing k) = k ≡ task
 IsListingOf task (Comparing a b case) = AreAlike a b.model × IsListingOf task case
 IsListingOf task other = ⊥
-
--- the limits, the decks, the digits and the listing that are checked
-abbrev pub IsCheckingOf : Limits → Decks → ℕ → ZonedListing → Case → Type 0
-IsCheckingOf limits d digits listing (Checking k e s l) = (k ≡ limits) × (e ≡ d) × (s ≡ digits) × (l ≡ listing)
-IsCheckingOf limits d digits listing (Comparing a b case) = AreAlike a b.model × IsCheckingOf limits d digits listing case
-IsCheckingOf limits d digits listing other = ⊥
 
 -- what a name means, by this reading of the files under it; a bad name is refused before any file
 abbrev pub named : {T : Type 0} → Text → (Text → Result T Refusal) → Result T Refusal
@@ -190,17 +127,13 @@ case_decks (Err refusal) second come = Refuses refusal
 abbrev pub case_named : FileSet → Limits → Text → Option Text → (Decks → Case) → Case
 case_named files limits name to come = case_decks (named name (reads limits files)) (option_map (λ last. named last (second_in limits files)) to) come
 
--- the case of a command by these files
-abbrev pub case_asked : Option Command → FileSet → Case
-case_asked None files = NoWords
-case_asked (Some (Run asked to)) files =
-    case_named files asked.limits asked.name to (λ d. case_read (zones_read files asked.zones d.first) (λ zones. Listing (decks_task asked d zones)))
-case_asked (Some (Make seed size)) files = Making seed size (made_model seed size)
-case_asked (Some (Check asked to)) files =
-    case_named files asked.limits asked.name to (λ d. case_read (listing_read (is_some to) files asked d.first) (Checking asked.limits d asked.digits))
-case_asked (Some (Batch b)) files = case_read (jobs_read files b) Jobs
-case_asked (Some (Write limits name)) files = case_named files limits name None (λ d. Writing d.first)
-
--- the case of this order and these files
+-- The case of this order and these files. It does not depend on the number of workers, nor on views.
 abbrev pub case_of : Option Wanted → FileSet → Case
-case_of order files = case_asked (asked_in order) files
+case_of None files = NoWords
+case_of (Some (Run asked to)) files =
+    case_named files asked.limits asked.name to (λ d. case_read (zones_read files asked.zones d.first) (λ zones. Listing (decks_task asked d zones)))
+case_of (Some (Make seed size)) files = Making seed size (made_model seed size)
+case_of (Some (Check asked to)) files =
+    case_named files asked.limits asked.name to (λ d. case_read (listing_read (is_some to) files asked d.first) (Checking asked.limits d asked.digits))
+case_of (Some (Batch b)) files = case_read (jobs_read files b) Jobs
+case_of (Some (Write limits name)) files = case_named files limits name None (λ d. Writing d.first)

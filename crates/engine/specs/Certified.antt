@@ -1,30 +1,27 @@
 -- What a certified listing promises.
-use Rattle.std.specs.Prelude.{◌≡◌, ℕ, ℤ, false, List, Ok, Option, Some, None}
+use Rattle.std.specs.Prelude.{◌≡◌, ℕ, ℤ, false, List, Ok, Option}
 use Rattle.std.specs.Io.KnownBytes.{Appends}
-use Rattle.command_line.specs.{Wanted}
+use Rattle.command_line.specs.{AskedCheck}
 use Rattle.outside.specs.{FileSet}
 use Rattle.model_types.specs.declared.model.FlowModel.{FlowModel}
 use Rattle.model_types.specs.{start_head, times, IsModel}
 use Rattle.model_reader.specs.{reads}
 use Rattle.flow_equations.specs.{Solves}
 use Rattle.listing_io.specs.declared.listing.ListedStep.{ListedStep}
-use Rattle.run_puts.specs.{Text}
 use Rattle.listing_run.specs.{BoundAll}
 use Rattle.deck_problems.specs.{one_deck}
 use Rattle.check_run.specs.{checked_task, steps_of}
 use Rattle.exact_histories.specs.{HasHistory, AreSame}
-use Rattle.engine.specs.Cases.{AskedCheck, Check, asked_in, steps_read, zones_read}
+use Rattle.engine.specs.Cases.{steps_read, zones_read}
 use Rattle.engine.specs.Checked.{certified_line}
 
--- A check with these words over these files that ended Ok, where a sink had the bytes `old` before it and `new` after
+-- A check that was asked for so, over these files, that ended Ok, where a sink had the bytes `old` before it and `new` after
 -- it: the files have a listing, whoever wrote it, and every history of heads that solves the manual's exact equations
 -- of the files lies, step by step and cell by cell, between its heads, with each of its budget flows between its terms, and
 -- each of its flows between two zones of a zone file between its two numbers. How it was judged stands in `OneVerdict`.
-pub record Certified (order : Option Wanted) (files : FileSet) (old new : Option (List ℕ)) : Type 0 where
-  -- The words ask for a check, the files read as a model, which is valid, and as zones of its cells where the words name a
-  -- zone file, and the named file as a listing of it.
-  pub asked : AskedCheck
-  pub wanted : asked_in order ≡ Some (Check asked None)
+pub record Certified (asked : AskedCheck) (files : FileSet) (old new : Option (List ℕ)) : Type 0 where
+  -- The files read as a model, which is valid, and as zones of its cells where a zone file is named, and the named file as a
+  -- listing of it.
   pub model : FlowModel
   pub read : reads asked.limits files asked.name ≡ Ok model
   pub valid : IsModel model

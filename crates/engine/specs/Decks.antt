@@ -1,7 +1,6 @@
 -- What is promised of a deck that is written.
-use Rattle.std.specs.Prelude.{◌≡◌, ℕ, List, [], ◌∷◌, Ok, Option, Some}
+use Rattle.std.specs.Prelude.{◌≡◌, ℕ, List, [], ◌∷◌, Ok, Option}
 use Rattle.std.specs.Io.KnownBytes.{Appends}
-use Rattle.command_line.specs.{Wanted}
 use Rattle.outside.specs.{FileSet}
 use Rattle.model_types.specs.declared.limits.Limits.{Limits}
 use Rattle.model_types.specs.declared.model.FlowModel.{FlowModel}
@@ -11,19 +10,15 @@ use Rattle.model_text.specs.{deck_text, IsReadAgain}
 use Rattle.run_puts.specs.{Text}
 use Rattle.run_puts.specs.declared.puts.Status.{Status}
 use Rattle.run_puts.specs.declared.puts.Status.TheVariants as status
-use Rattle.engine.specs.Cases.{Write, asked_in}
 
 -- The writing of a model's deck ends Ok, and its text is one piece.
 abbrev pub IsDeck : FlowModel → Status → List Text → Type 0
 IsDeck m end pieces = (end ≡ status.Ok) × (pieces ≡ deck_text m ∷ [])
 
--- A run with these words over these files that ended Ok, where a sink had the bytes `old` before it and `new` after it,
+-- A run by these limits over these files, of this name, that ended Ok, where a sink had the bytes `old` before it and `new` after it,
 -- has written the one deck of the model that the files read as; and the files of that deck are read as the same model.
-pub record OneDeck (order : Option Wanted) (files : FileSet) (old new : Option (List ℕ)) : Type 0 where
-  -- The words ask for a deck, and the files read as a model, which is valid.
-  pub limits : Limits
-  pub name : Text
-  pub wanted : asked_in order ≡ Some (Write limits name)
+pub record OneDeck (limits : Limits) (name : Text) (files : FileSet) (old new : Option (List ℕ)) : Type 0 where
+  -- The files read as a model, which is valid.
   pub model : FlowModel
   pub read : reads limits files name ≡ Ok model
   pub valid : IsModel model

@@ -1,28 +1,26 @@
 -- The headline.
-use Rattle.std.specs.Prelude.{◌≡◌, ℕ, ℤ, List, Ok, Option, Some, None}
+use Rattle.std.specs.Prelude.{◌≡◌, ℕ, ℤ, List, Ok, Option}
 use Rattle.std.specs.List.{concat}
 use Rattle.std.specs.Io.KnownBytes.{Appends}
-use Rattle.command_line.specs.{Wanted}
+use Rattle.command_line.specs.{Asked}
 use Rattle.outside.specs.{FileSet}
 use Rattle.model_types.specs.declared.model.FlowModel.{FlowModel}
 use Rattle.model_types.specs.{start_head, IsModel}
 use Rattle.model_reader.specs.{reads}
 use Rattle.flow_equations.specs.{Solves}
-use Rattle.run_puts.specs.{Text, end_line}
+use Rattle.run_puts.specs.{end_line}
 use Rattle.listing_run.specs.declared.solving.Step.{Step}
 use Rattle.listing_run.specs.{listing, BoundAll}
 use Rattle.exact_histories.specs.{HasHistory, AreSame}
-use Rattle.engine.specs.Cases.{Asked, Run, asked_in, task_of, zones_read}
+use Rattle.engine.specs.Cases.{task_of, zones_read}
 
--- A run with these words over these files that ended Ok, where a sink had the bytes `old` before it and `new` after it,
+-- A run that was asked for so, over these files, that ended Ok, where a sink had the bytes `old` before it and `new` after it,
 -- has written a listing of the model that the files read as; and every history of heads that solves the manual's exact
 -- equations of these files lies, step by step and cell by cell, between its heads, with each of its budget flows
 -- between its terms, and each of its flows between two zones of a zone file between its two numbers. That it is the one
 -- listing which the files define stands in `OneListing`.
-pub record Headline (order : Option Wanted) (files : FileSet) (old new : Option (List ℕ)) : Type 0 where
-  -- The words ask for a listing, and the files read as a model, which is valid, and as zones of its cells where the words name a zone file.
-  pub asked : Asked
-  pub wanted : asked_in order ≡ Some (Run asked None)
+pub record Headline (asked : Asked) (files : FileSet) (old new : Option (List ℕ)) : Type 0 where
+  -- The files read as a model, which is valid, and as zones of its cells where a zone file is named.
   pub model : FlowModel
   pub read : reads asked.limits files asked.name ≡ Ok model
   pub valid : IsModel model

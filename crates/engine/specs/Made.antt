@@ -1,8 +1,7 @@
 -- A model that is made from a seed: the end and the pieces of its run.
-use Rattle.command_line.specs.{Wanted}
 use Rattle.outside.specs.{with_limit}
 use Rattle.model_types.specs.{most_bytes, start_head, IsModel}
-use Rattle.std.specs.Prelude.{◌≡◌, ℕ, ℤ, false, List, [], ◌∷◌, Ok, Err, Option, Some, None, Result}
+use Rattle.std.specs.Prelude.{◌≡◌, ℕ, ℤ, false, List, [], ◌∷◌, Ok, Err, Option, None, Result}
 use Rattle.std.specs.Io.KnownBytes.{Appends}
 use Rattle.outside.specs.declared.inputs.Refusal.{Refusal}
 use Rattle.model_types.specs.declared.limits.Limits.TheVariants.{Plain}
@@ -19,15 +18,14 @@ use Rattle.listing_run.specs.declared.text.ListingEnd.{ListingEnd}
 use Rattle.listing_run.specs.declared.text.ListingEnd.TheVariants as ends
 use Rattle.listing_run.specs.declared.steps.Task.{Task}
 use Rattle.listing_run.specs.declared.solving.Step.{Step}
-use Rattle.listing_run.specs.{BoundAll, IsListing, last_line}
+use Rattle.listing_run.specs.{BoundAll, IsListing, last_line, one_task}
 use Rattle.listing_summary.specs.declared.summary.Summary.{Summary}
 use Rattle.listing_summary.specs.{summary_of, summary_text}
 use Rattle.exact_histories.specs.{HasHistory, AreSame}
-use Rattle.engine.specs.Cases.{asked_in, task_of, Make}
 
 -- the task of its listing, with the digits and the rounds of a run without options
 abbrev pub made_task : FlowModel → Task
-made_task m = task_of (record { limits = Plain; name = made_name; digits = 12; rounds = 1000000; zones = None; quick = false }) m None
+made_task m = one_task Plain m 12 None 1000000 false
 
 -- a whole listing is put as its summary, any other one as its last line
 abbrev pub summed_text : ℕ → ℕ → Grid → Summary → ListingEnd → Text
@@ -45,15 +43,12 @@ abbrev pub IsMade : ℕ → ℕ → Result FlowModel Refusal → Status → List
 IsMade seed size (Err refusal) end pieces = (end ≡ status.Refused refusal) × (pieces ≡ refused_line refusal ∷ [])
 IsMade seed size (Ok m) end pieces = IsSummed seed size (made_task m) end pieces
 
--- A run with these words that ended Ok, where a sink had the bytes `old` before it and `new` after it, has written the
+-- A run that makes a model from this seed and size and ended Ok, where a sink had the bytes `old` before it and `new` after it, has written the
 -- summary of a listing of the model that the made files read as; and every history of heads that solves the manual's
 -- exact equations of these files lies between the heads and the terms of that listing. That it is the one listing which
 -- the made files define stands in `OneSummary`.
-pub record Made (order : Option Wanted) (old new : Option (List ℕ)) : Type 0 where
-  -- The words ask for a made model, and its files read as a model, which is valid.
-  pub seed : ℕ
-  pub size : ℕ
-  pub wanted : asked_in order ≡ Some (Make seed size)
+pub record Made (seed size : ℕ) (old new : Option (List ℕ)) : Type 0 where
+  -- The made files read as a model, which is valid.
   pub model : FlowModel
   pub read : reads Plain (with_limit (most_bytes Plain) (made_files seed size)) made_name ≡ Ok model
   pub valid : IsModel model

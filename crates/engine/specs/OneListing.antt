@@ -1,7 +1,7 @@
 -- What is promised beside the enclosure: that a run writes the one listing which the files define, and how a check judges.
 use Rattle.std.specs.Prelude.{◌≡◌, ℕ, false, List, Option}
 use Rattle.outside.specs.{FileSet}
-use Rattle.command_line.specs.{Wanted}
+use Rattle.command_line.specs.{Asked, AskedCheck}
 use Rattle.listing_run.specs.declared.solving.Step.{Step}
 use Rattle.listing_run.specs.declared.text.ListingEnd.TheVariants.{Whole}
 use Rattle.listing_run.specs.declared.steps.Task.{Task}
@@ -21,19 +21,19 @@ pub record AreItsSteps (task : Task) (values : List Step) : Type 0 where
   pub only : task.quick ≡ false → (others : List Step) → AllSteps task others Whole → others ≡ values
   pub encloses : EnclosesHistories task values
 
--- A run with these words over these files that ended Ok, where a sink had the bytes `old` before it and `new` after it, has
+-- A run that was asked for so, over these files, that ended Ok, where a sink had the bytes `old` before it and `new` after it, has
 -- written a listing each step of which has a pair that is a certificate; without --quick the one that the files define.
-pub record OneListing (order : Option Wanted) (files : FileSet) (old new : Option (List ℕ)) : Type 0 where
-  pub headline : Headline order files old new
-  pub values : AreItsSteps (task_of headline.asked headline.model headline.zones) headline.values
+pub record OneListing (asked : Asked) (files : FileSet) (old new : Option (List ℕ)) : Type 0 where
+  pub headline : Headline asked files old new
+  pub values : AreItsSteps (task_of asked headline.model headline.zones) headline.values
 
--- A run with these words that ended Ok has written the summary of the one listing that the made files define.
-pub record OneSummary (order : Option Wanted) (old new : Option (List ℕ)) : Type 0 where
-  pub made : Made order old new
+-- A run that makes a model from this seed and size and ended Ok has written the summary of the one listing that the made files define.
+pub record OneSummary (seed size : ℕ) (old new : Option (List ℕ)) : Type 0 where
+  pub made : Made seed size old new
   pub steps : AllSteps (made_task made.model) made.values Whole
   pub only : (others : List Step) → AllSteps (made_task made.model) others Whole → others ≡ made.values
 
--- A check with these words over these files that ended Ok found that each step of the named listing is certified.
-pub record OneVerdict (order : Option Wanted) (files : FileSet) (old new : Option (List ℕ)) : Type 0 where
-  pub certified : Certified order files old new
-  pub verdict : IsVerdict certified.asked.limits (one_deck certified.model) certified.asked.digits certified.zones certified.steps Holds
+-- A check that was asked for so, over these files, that ended Ok found that each step of the named listing is certified.
+pub record OneVerdict (asked : AskedCheck) (files : FileSet) (old new : Option (List ℕ)) : Type 0 where
+  pub certified : Certified asked files old new
+  pub verdict : IsVerdict asked.limits (one_deck certified.model) asked.digits certified.zones certified.steps Holds

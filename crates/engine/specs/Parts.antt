@@ -2,7 +2,6 @@
 use Rattle.std.specs.Prelude.{◌≡◌, ◌⊎◌, ℕ, List, Result, Option, Some, IfOk, codes, option_map, All}
 use Rattle.outside.specs.{Rose, Put, FileSet, file_refusal}
 use Rattle.outside.specs.declared.codes.Code.TheVariants.{BadName}
-use Rattle.outside.specs.declared.inputs.Refusal.{Refusal}
 use Rattle.outside.specs.declared.inputs.InputFault.{InputFault}
 use Rattle.outside.specs.declared.inputs.InputFault.TheVariants as input
 use Rattle.model_types.specs.declared.limits.Limits.{Limits}
@@ -20,12 +19,11 @@ use Rattle.engine.specs.TwoDecks.{AreDecksRead, Second, not_alike, second_in}
 use Rattle.deck_alike.specs.declared.difference.Difference.{Difference}
 use Rattle.deck_alike.specs.{IsFirstDifference}
 use Rattle.step_chain.specs.{two}
-use Rattle.run_puts.specs.{IsEnd, IsLast, IsWanting, Text, read_fault_line, IsRun, NeverCut}
+use Rattle.run_puts.specs.{IsEnd, IsLast, IsWanting, Text, read_fault_line}
 use Rattle.run_puts.specs.declared.puts.Status.{Status}
 use Rattle.run_puts.specs.declared.puts.Status.TheVariants as status
-use Rattle.engine.specs.Cases.{Case, Listing, Making, Checking, Jobs, Writing, Comparing, made_model, named}
+use Rattle.engine.specs.Cases.{Case, Listing, Making, Checking, Jobs, Writing, Comparing, named}
 use Rattle.engine.specs.declared.job.Job.{Job}
-use Rattle.engine.specs.Made.{IsMade}
 use Rattle.engine.specs.Runs.{IsLeft, IsRunOf}
 use Rattle.engine.specs.Watched.{SidePuts, Watched}
 
@@ -76,20 +74,20 @@ IsStopped end = (end ≡ status.ReadFault) ⊎ ((end ≡ status.WriteFault) ⊎ 
 abbrev pub IsValidJob : Job → Type 0
 IsValidJob job = IfOk job.read (λ k. AreDecks k.decks)
 
--- the model of a listing, of made files, of each job or of a deck is valid, and so are the steps that are checked, unless they weren't read whole
-abbrev pub IsValid : Case → Status → Type 0
-IsValid (Listing k) end = AreDecks k.decks ⊎ IsStopped end
-IsValid (Making seed size read) end = IfOk read IsModel ⊎ IsStopped end
-IsValid (Checking limits d s listing) end = (AreDecks d × IsListed d.first listing) ⊎ IsStopped end
-IsValid (Jobs jobs) end = All IsValidJob jobs ⊎ IsStopped end
-IsValid (Writing m) end = IsModel m ⊎ IsStopped end
-IsValid (Comparing a b case) end = (AreAlike a b.model → ⊥) ⊎ IsValid case end
-IsValid other end = Unit {0}
+-- the model of a listing, of made files, of each job or of a deck is valid, and so are the steps that are checked
+abbrev pub IsValid : Case → Type 0
+IsValid (Listing k) = AreDecks k.decks
+IsValid (Making seed size read) = IfOk read IsModel
+IsValid (Checking limits d s listing) = AreDecks d × IsListed d.first listing
+IsValid (Jobs jobs) = All IsValidJob jobs
+IsValid (Writing m) = IsModel m
+IsValid (Comparing a b case) = (AreAlike a b.model → ⊥) ⊎ IsValid case
+IsValid other = Unit {0}
 
--- all facts of the result of a run of this case
+-- all facts of the result of a run of this case: what was read is valid, unless the run stopped before it was read whole
 pub record Answers (case : Case) (before after : ℕ) (end : Status) (puts : List Put) : Type 0 where
   pub run : IsRunOf (Rose before after) case end puts
-  pub valid : IsValid case end
+  pub valid : IsStopped end ⊎ IsValid case
 
 -- Facts of the result of a run of this case beside which a side sink is led so: all of the above, or it stopped since a write beside
 -- it failed; and the side sink got the views that are asked for: of the first steps, and if the run ended Ok of all.
@@ -103,8 +101,3 @@ pub record AnswersBeside (case : Case) (views : Option ℕ) (before after : ℕ)
 abbrev pub made_fault : InputFault → InputFault
 made_fault input.ReadFault = input.Memory
 made_fault fault = fault
-
--- all facts of the result of a made model's run
-pub record IsMadeRun (seed size : ℕ) (end : Status) (puts : List Put) : Type 0 where
-  pub run : IsRun (IsMade seed size (made_model seed size)) NeverCut end puts
-  pub valid : IfOk (made_model seed size) IsModel ⊎ IsStopped end

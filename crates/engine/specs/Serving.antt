@@ -1,5 +1,5 @@
 -- How a program ends that runs its words and ends with the number of the run's status.
-use Rattle.std.specs.Prelude.{◌≡◌, ◌⊎◌, ℕ, List, Option, Some, [], ◌∷◌, None}
+use Rattle.std.specs.Prelude.{◌≡◌, ◌⊎◌, ℕ, List, Option, Some, [], ◌∷◌, ◌++◌, None, option_to_list}
 use Rattle.outside.specs.{FileSet, Put, Rose, Seen}
 use Rattle.run_puts.specs.{Text, code_of}
 use Rattle.run_puts.specs.declared.puts.Status.{Status}
@@ -14,8 +14,8 @@ use Rattle.engine.specs.Parts.{IsStopped}
 use Rattle.engine.specs.Runs.{Comes, Decided, Puts}
 use Rattle.engine.specs.Watched.{SidePuts, Watched, views_in}
 use Rattle.engine.specs.Batched.{Batched, HasNoList}
-use Rattle.command_line.specs.{Wanted, wanted_of, Lists, Checks, Makes, Batches, Writes}
-use Rattle.engine.specs.Cases.{AskedBatch, AskedCheck, Batch, Check, Make, asked_in, case_of, limits_of}
+use Rattle.command_line.specs.{AskedBatch, Batch, Check, Make, Run, Wanted, Write, wanted_of}
+use Rattle.engine.specs.Cases.{case_of}
 use Rattle.model_types.specs.{most_bytes}
 use Rattle.model_types.specs.declared.limits.Limits.{Limits}
 use Rattle.model_types.specs.declared.limits.Limits.TheVariants.{Plain}
@@ -24,17 +24,11 @@ use Rattle.model_types.specs.declared.limits.Limits.TheVariants.{Plain}
 -- the name file of a run, the second one if there is one, and its zone file if there is one; the same of a check, and its
 -- listing; the list of a batch; the name file of a deck
 abbrev pub files_of : Wanted → List Text
-files_of (Lists name None digits workers rounds None turns quick wide) = name ∷ []
-files_of (Lists name None digits workers rounds (Some zones) turns quick wide) = name ∷ zones ∷ []
-files_of (Lists name (Some to) digits workers rounds None turns quick wide) = name ∷ to ∷ []
-files_of (Lists name (Some to) digits workers rounds (Some zones) turns quick wide) = name ∷ to ∷ zones ∷ []
-files_of (Checks name None listing digits None wide) = name ∷ listing ∷ []
-files_of (Checks name None listing digits (Some zones) wide) = name ∷ zones ∷ listing ∷ []
-files_of (Checks name (Some to) listing digits None wide) = name ∷ to ∷ listing ∷ []
-files_of (Checks name (Some to) listing digits (Some zones) wide) = name ∷ to ∷ zones ∷ listing ∷ []
-files_of (Makes seed size) = []
-files_of (Batches list digits workers rounds quick wide) = list ∷ []
-files_of (Writes name wide) = name ∷ []
+files_of (Run asked to) = asked.name ∷ (option_to_list to ++ option_to_list asked.zones)
+files_of (Check asked to) = asked.name ∷ (option_to_list to ++ (option_to_list asked.zones ++ asked.listing ∷ []))
+files_of (Make seed size) = []
+files_of (Batch asked) = asked.list ∷ []
+files_of (Write limits name) = name ∷ []
 
 abbrev pub files_if : Option Wanted → List Text
 files_if None = []
@@ -46,35 +40,43 @@ files_named words = files_if (wanted_of words)
 
 -- the limits that are asked for
 abbrev pub limits_asked : Option Wanted → Limits
-limits_asked (Some (Lists name to digits workers rounds zones turns quick wide)) = limits_of wide
-limits_asked (Some (Checks name to listing digits zones wide)) = limits_of wide
-limits_asked (Some (Batches list digits workers rounds quick wide)) = limits_of wide
-limits_asked (Some (Writes name wide)) = limits_of wide
+limits_asked (Some (Run asked to)) = asked.limits
+limits_asked (Some (Check asked to)) = asked.limits
+limits_asked (Some (Batch asked)) = asked.limits
+limits_asked (Some (Write limits name)) = limits
 limits_asked other = Plain
 
 -- how many bytes of a file are read
 abbrev pub bytes_asked : List Text → ℕ
 bytes_asked words = most_bytes (limits_asked (wanted_of words))
 
--- The headline: of a listing, of a made model whose listing is summed up, of a listing that was checked, of a deck, of a
--- listing of two decks, of the check of one, or of each listing of a batch.
-abbrev pub AnyHeadline : Option Wanted → FileSet → Status → Seen → Seen → Type 0
-AnyHeadline order files end old new =
-    (Headline order files old.written new.written ⊎ (Made order old.written new.written ⊎ (Certified order files old.written new.written
-    ⊎ (OneDeck order files old.written new.written ⊎ (SpanHeadline order files old.written new.written ⊎ SpanCertified order files old.written new.written)))))
-    ⊎ Batched order files end old.written new.written
+-- The headline of an order: of a listing, or of one of two decks; of a check, or of one of two decks; of a made model, whose listing is
+-- summed up; of each listing of a batch; or of a deck.
+abbrev pub HeadlineOf : Option Wanted → FileSet → Status → Seen → Seen → Type 0
+HeadlineOf None files end old new = ⊥
+HeadlineOf (Some (Run asked None)) files end old new = Headline asked files old.written new.written
+HeadlineOf (Some (Run asked (Some to))) files end old new = SpanHeadline asked to files old.written new.written
+HeadlineOf (Some (Check asked None)) files end old new = Certified asked files old.written new.written
+HeadlineOf (Some (Check asked (Some to))) files end old new = SpanCertified asked to files old.written new.written
+HeadlineOf (Some (Make seed size)) files end old new = Made seed size old.written new.written
+HeadlineOf (Some (Batch asked)) files end old new = Batched asked files end old.written new.written
+HeadlineOf (Some (Write limits name)) files end old new = OneDeck limits name files old.written new.written
 
--- And what was put is the one listing that the files define, or with --quick one by certificates; or sums it up, or each step of
--- the one that was checked is certified, or what was put is the one deck.
-abbrev pub AnyOne : Option Wanted → FileSet → Status → Seen → Seen → Type 0
-AnyOne order files end old new =
-    (OneListing order files old.written new.written ⊎ (OneSummary order old.written new.written ⊎ (OneVerdict order files old.written new.written
-    ⊎ (OneDeck order files old.written new.written ⊎ (OneSpan order files old.written new.written ⊎ SpanVerdict order files old.written new.written)))))
-    ⊎ Batched order files end old.written new.written
+-- And what was put is the one listing that the files define, or with --quick one by certificates; or each step of the one that was
+-- checked is certified; or what was put sums it up, or is the one deck.
+abbrev pub OneOf : Option Wanted → FileSet → Status → Seen → Seen → Type 0
+OneOf None files end old new = ⊥
+OneOf (Some (Run asked None)) files end old new = OneListing asked files old.written new.written
+OneOf (Some (Run asked (Some to))) files end old new = OneSpan asked to files old.written new.written
+OneOf (Some (Check asked None)) files end old new = OneVerdict asked files old.written new.written
+OneOf (Some (Check asked (Some to))) files end old new = SpanVerdict asked to files old.written new.written
+OneOf (Some (Make seed size)) files end old new = OneSummary seed size old.written new.written
+OneOf (Some (Batch asked)) files end old new = Batched asked files end old.written new.written
+OneOf (Some (Write limits name)) files end old new = OneDeck limits name files old.written new.written
 
 -- What a run of this order has come to. `agrees` are the files that agree with all results of its folder, which counted `before` and then
 -- `after` faults; `leads` and `leads_beside` say which puts take `out` and `side` from before it to after it, and `out` was seen as
--- `old` and then as `new`. An order that is no batch has no text of a batch.
+-- `old` and then as `new`.
 pub record IsRunResult (order : Option Wanted) (agrees : FileSet → Type 0) (before after : ℕ) (failed_beside : Type 0)
     (leads_beside leads : List Put → Type 0) (end : Status) (old new : Seen) : Type 0 where
   -- What is put to `out`, for every status, with the status' cause.
@@ -86,18 +88,11 @@ pub record IsRunResult (order : Option Wanted) (agrees : FileSet → Type 0) (be
   -- Some files agree with all that the folder has answered.
   pub told : (files : FileSet) × agrees files
   -- The headline, and that the listing is the one that the files define.
-  pub headline : end ≡ status.Ok → (files : FileSet) → agrees files → AnyHeadline order files end old new
-  pub one : end ≡ status.Ok → (files : FileSet) → agrees files → AnyOne order files end old new
-  -- Of a made model it holds whatever the folder is.
-  pub made : end ≡ status.Ok → (seed size : ℕ) → asked_in order ≡ Some (Make seed size) → Made order old.written new.written
-  -- A check that ends Ok certifies the listing that the words name.
-  pub certified : end ≡ status.Ok → (asked : AskedCheck) → asked_in order ≡ Some (Check asked None) → (files : FileSet) → agrees files →
-      Certified order files old.written new.written
-  pub span_certified : end ≡ status.Ok → (asked : AskedCheck) (to : Text) → asked_in order ≡ Some (Check asked (Some to)) →
-      (files : FileSet) → agrees files → SpanCertified order files old.written new.written
+  pub headline : end ≡ status.Ok → (files : FileSet) → agrees files → HeadlineOf order files end old new
+  pub one : end ≡ status.Ok → (files : FileSet) → agrees files → OneOf order files end old new
   -- A batch that didn't stop has put the text of each job, whatever the jobs' statuses, or its list is refused.
-  pub batch : (IsStopped end → ⊥) → (asked : AskedBatch) → asked_in order ≡ Some (Batch asked) → (files : FileSet) → agrees files →
-      HasNoList asked files end ⊎ Batched order files end old.written new.written
+  pub batch : (IsStopped end → ⊥) → (asked : AskedBatch) → order ≡ Some (Batch asked) → (files : FileSet) → agrees files →
+      HasNoList asked files end ⊎ Batched asked files end old.written new.written
   -- These statuses have a count as their cause.
   pub read_fault : end ≡ status.ReadFault → Rose before after
   pub write_fault : end ≡ status.WriteFault → Rose old.faults new.faults ⊎ failed_beside
@@ -118,7 +113,7 @@ pub record IsProgramEnd (agrees : FileSet → Type 0) (words : List Text) (befor
   pub number_is : number ≡ code_of end
   pub run : IsRunResult (wanted_of words) agrees before after failed_beside leads_beside leads end old new
   pub limit : (files : FileSet) → agrees files → files.limit ≡ bytes_asked words
-  pub headline : number ≡ 0 → (files : FileSet) → agrees files → AnyHeadline (wanted_of words) files end old new
-  pub one : number ≡ 0 → (files : FileSet) → agrees files → AnyOne (wanted_of words) files end old new
-  pub batch : (IsStopNumber number → ⊥) → (asked : AskedBatch) → asked_in (wanted_of words) ≡ Some (Batch asked) → (files : FileSet) → agrees files →
-      HasNoList asked files end ⊎ Batched (wanted_of words) files end old.written new.written
+  pub headline : number ≡ 0 → (files : FileSet) → agrees files → HeadlineOf (wanted_of words) files end old new
+  pub one : number ≡ 0 → (files : FileSet) → agrees files → OneOf (wanted_of words) files end old new
+  pub batch : (IsStopNumber number → ⊥) → (asked : AskedBatch) → (wanted_of words) ≡ Some (Batch asked) → (files : FileSet) → agrees files →
+      HasNoList asked files end ⊎ Batched asked files end old.written new.written

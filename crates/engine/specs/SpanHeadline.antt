@@ -1,8 +1,8 @@
 -- The headline of a run of all models between two decks, and of the check of such a listing.
-use Rattle.std.specs.Prelude.{◌≡◌, ℕ, ℤ, true, List, Ok, Option, Some}
+use Rattle.std.specs.Prelude.{◌≡◌, ℕ, ℤ, true, List, Ok, Option}
 use Rattle.std.specs.List.{concat}
 use Rattle.std.specs.Io.KnownBytes.{Appends}
-use Rattle.command_line.specs.{Wanted}
+use Rattle.command_line.specs.{Asked, AskedCheck}
 use Rattle.outside.specs.{FileSet}
 use Rattle.model_types.specs.declared.limits.Limits.{Limits}
 use Rattle.model_types.specs.declared.model.FlowModel.{FlowModel}
@@ -17,7 +17,7 @@ use Rattle.listing_run.specs.declared.solving.Step.{Step}
 use Rattle.listing_run.specs.{listing, BoundBetween}
 use Rattle.check_run.specs.declared.verdict.ListingVerdict.TheVariants.{Certified as Holds}
 use Rattle.check_run.specs.{IsVerdict, checked_task, steps_of}
-use Rattle.engine.specs.Cases.{Asked, AskedCheck, Check, Run, asked_in, span_task_of, steps_read, zones_read}
+use Rattle.engine.specs.Cases.{span_task_of, steps_read, zones_read}
 use Rattle.engine.specs.Checked.{certified_line}
 use Rattle.engine.specs.OneListing.{AreItsSteps}
 
@@ -31,17 +31,13 @@ pub record ArePairOf (limits : Limits) (files : FileSet) (name to : Text) : Type
   pub valid_to : IsModel second
   pub alike : AreAlike first second
 
--- A run with these words over these files that ended Ok, where a sink had the bytes `old` before it and `new` after it,
+-- A run that was asked for so, over these files, that ended Ok, where a sink had the bytes `old` before it and `new` after it,
 -- has written a listing of two decks; and every history of heads each step of which solves the manual's exact equations of
 -- some model between the two decks, chosen anew at each step, lies, step by step and cell by cell, between its heads, with
 -- each of its budget flows between its terms, and each of its flows between two zones of a zone file between its two numbers.
 -- That it is the one listing which the files define stands in `OneSpan`.
-pub record SpanHeadline (order : Option Wanted) (files : FileSet) (old new : Option (List ℕ)) : Type 0 where
-  -- The words ask for such a listing, the files read as two valid models that are alike, and as zones of their cells where
-  -- the words name a zone file.
-  pub asked : Asked
-  pub to : Text
-  pub wanted : asked_in order ≡ Some (Run asked (Some to))
+pub record SpanHeadline (asked : Asked) (to : Text) (files : FileSet) (old new : Option (List ℕ)) : Type 0 where
+  -- The files read as two valid models that are alike, and as zones of their cells where a zone file is named.
   pub decks : ArePairOf asked.limits files asked.name to
   pub zones : Option (List ℕ)
   pub zoned : zones_read files asked.zones decks.first ≡ Ok zones
@@ -56,17 +52,14 @@ pub record SpanHeadline (order : Option Wanted) (files : FileSet) (old new : Opt
   pub choices : ChoicesHaveOne decks.first decks.second
 
 -- Such a run has written a listing each step of which has a pair that is a certificate; without --quick the one that the files define.
-pub record OneSpan (order : Option Wanted) (files : FileSet) (old new : Option (List ℕ)) : Type 0 where
-  pub headline : SpanHeadline order files old new
-  pub values : AreItsSteps (span_task_of headline.asked headline.decks.first headline.decks.second headline.zones) headline.values
+pub record OneSpan (asked : Asked) (to : Text) (files : FileSet) (old new : Option (List ℕ)) : Type 0 where
+  pub headline : SpanHeadline asked to files old new
+  pub values : AreItsSteps (span_task_of asked headline.decks.first headline.decks.second headline.zones) headline.values
 
 -- A check of such a listing that ended Ok: the files have a listing of two decks, whoever wrote it, and every history between
 -- the decks lies between its heads, with each of its budget flows between its terms, and each of its flows between two zones
 -- of a zone file between its two numbers. How it was judged stands in `SpanVerdict`.
-pub record SpanCertified (order : Option Wanted) (files : FileSet) (old new : Option (List ℕ)) : Type 0 where
-  pub asked : AskedCheck
-  pub to : Text
-  pub wanted : asked_in order ≡ Some (Check asked (Some to))
+pub record SpanCertified (asked : AskedCheck) (to : Text) (files : FileSet) (old new : Option (List ℕ)) : Type 0 where
   pub decks : ArePairOf asked.limits files asked.name to
   pub zones : Option (List ℕ)
   pub zoned : zones_read files asked.zones decks.first ≡ Ok zones
@@ -82,6 +75,6 @@ pub record SpanCertified (order : Option Wanted) (files : FileSet) (old new : Op
   pub choices : ChoicesHaveOne decks.first decks.second
 
 -- Such a check found that each step of the named listing is certified.
-pub record SpanVerdict (order : Option Wanted) (files : FileSet) (old new : Option (List ℕ)) : Type 0 where
-  pub certified : SpanCertified order files old new
-  pub verdict : IsVerdict certified.asked.limits (two certified.decks.first certified.decks.second) certified.asked.digits certified.zones certified.steps Holds
+pub record SpanVerdict (asked : AskedCheck) (to : Text) (files : FileSet) (old new : Option (List ℕ)) : Type 0 where
+  pub certified : SpanCertified asked to files old new
+  pub verdict : IsVerdict asked.limits (two certified.decks.first certified.decks.second) asked.digits certified.zones certified.steps Holds

@@ -5,7 +5,7 @@ use Rattle.outside.specs.declared.traits.SinkError.{SinkError}
 use Rattle.step_problem.specs.declared.heads.Bound.{Bound}
 use Rattle.step_problem.specs.Entries.{Entries}
 use Rattle.step_problem.specs.{Edges}
-use Rattle.command_line.specs.{Wanted, Lists}
+use Rattle.command_line.specs.{Run, Wanted}
 use Rattle.model_types.specs.declared.grid.Grid.{Grid}
 use Rattle.model_types.specs.declared.time_steps.TimeStep.{TimeStep}
 use Rattle.model_types.specs.{times}
@@ -21,7 +21,7 @@ use Rattle.engine.specs.Cases.{Case, IsListingOf}
 
 -- the number of views in each phase that the words ask for
 abbrev pub views_asked : Wanted → Option ℕ
-views_asked (Lists name to digits workers rounds zones watch quick wide) = watch
+views_asked (Run asked to) = asked.watch
 views_asked other = None
 
 abbrev pub views_in : Option Wanted → Option ℕ

@@ -3,8 +3,8 @@ ghost use Rattle.std.specs.Prelude.{◌≡◌, map, IfOk};
 ghost use Rattle.command_line.specs.{wanted};
 ghost use Rattle.engine.specs.{bytes_asked, files_named, files_of};
 
-use crate::asked::limits_of;
-use command_line::{Order, WordsFault, read_order};
+use command_line::{CheckOrder, Order, RunOrder, WordsFault, read_order};
+use model_types::Limits;
 use std::alloc::{AllocError, Global};
 
 // The files that an order names.
@@ -13,12 +13,14 @@ fn files_of<'a>(alloc: Global, order: Order<'a>) -> Result<Vec<&'a str>, AllocEr
 {
     let mut names = Vec::new(alloc);
     match order {
-        Order::Run {
-            name,
-            to,
-            zones,
-            ..
-        } => {
+        Order::Run(
+            RunOrder {
+                name,
+                to,
+                zones,
+                ..
+            },
+        ) => {
             names.push(name)?;
             if let Some(to) = to {
                 names.push(to)?;
@@ -27,13 +29,15 @@ fn files_of<'a>(alloc: Global, order: Order<'a>) -> Result<Vec<&'a str>, AllocEr
                 names.push(zones)?;
             }
         }
-        Order::Check {
-            name,
-            to,
-            listing,
-            zones,
-            ..
-        } => {
+        Order::Check(
+            CheckOrder {
+                name,
+                to,
+                listing,
+                zones,
+                ..
+            },
+        ) => {
             names.push(name)?;
             if let Some(to) = to {
                 names.push(to)?;
@@ -43,8 +47,8 @@ fn files_of<'a>(alloc: Global, order: Order<'a>) -> Result<Vec<&'a str>, AllocEr
             }
             names.push(listing)?;
         }
-        Order::Make { .. } => {}
-        Order::Batch { list, .. } => names.push(list)?,
+        Order::Make(_) => {}
+        Order::Batch(asked) => names.push(asked.list)?,
         Order::Write { name, .. } => names.push(name)?,
     }
     Ok(names)
@@ -67,14 +71,14 @@ pub fn files_named<'a>(alloc: Global, words: &'a [&'a str]) -> Result<Vec<&'a st
 pub fn bytes_asked(alloc: Global, words: &[&str]) -> Result<u64, AllocError>
     ensures { IfOk result (λ n. n ≡ bytes_asked (map (λ w. w.now) words.entry.now)) }
 {
-    let wide = match read_order(alloc, words) {
-        Ok(Order::Run { wide, .. }) => wide,
-        Ok(Order::Check { wide, .. }) => wide,
-        Ok(Order::Batch { wide, .. }) => wide,
-        Ok(Order::Write { wide, .. }) => wide,
-        Ok(Order::Make { .. }) => false,
-        Err(WordsFault::Usage) => false,
+    let limits = match read_order(alloc, words) {
+        Ok(Order::Run(asked)) => asked.limits,
+        Ok(Order::Check(asked)) => asked.limits,
+        Ok(Order::Batch(asked)) => asked.limits,
+        Ok(Order::Write { limits, .. }) => limits,
+        Ok(Order::Make(_)) => Limits::Plain,
+        Err(WordsFault::Usage) => Limits::Plain,
         Err(WordsFault::Memory) => return Err(AllocError),
     };
-    Ok(limits_of(wide).bytes())
+    Ok(limits.bytes())
 }

@@ -2,12 +2,13 @@
 ghost use Rattle.std.specs.Prelude.{◌≡◌, ◌≤◌, length, map, All, IfOk};
 ghost use Rattle.outside.specs.{WordsMay, IsGoodName, folder_name, FileSet, ReadsOn};
 ghost use Rattle.listing_run.specs.{IsTask};
-ghost use Rattle.engine.specs.{batch_by, IsBatchOrder, AreTasks, IsBatchRead, job_of, NeverRefused, HasNames};
+ghost use Rattle.command_line.specs.{batch_of};
+ghost use Rattle.engine.specs.{AreTasks, IsBatchRead, job_of, NeverRefused, HasNames};
 
-use crate::asked_batch::BatchOrder;
 use crate::job::Job;
 use crate::reading::bad_name;
 use batch_list::read_list;
+use command_line::BatchOrder;
 use deck_problems::Decks;
 use listing_run::Task;
 use model_reader::read_named_model;
@@ -22,11 +23,10 @@ fn read_job<'a, F: Folder>(
     name: &Name,
 ) -> Result<Job, InputFault>
     requires name { IsGoodName name.now }
-    requires asked { IsBatchOrder asked }
     requires may { F.may folder.old (folder_name name.now) }
     ensures folder { ReadsOn F.Folder folder.old folder.new result }
     ensures never { NeverRefused result }
-    ensures reads { (files : FileSet) → F.agrees folder.new files → IfOk result (λ job. job ≡ job_of (batch_by asked.entry) files name.now) }
+    ensures reads { (files : FileSet) → F.agrees folder.new files → IfOk result (λ job. job ≡ job_of (batch_of asked.entry) files name.now) }
     ensures task { IfOk result (λ job. IfOk job.read IsTask) }
 {
     let copy = Name::new(alloc, name.as_str())?;
@@ -62,12 +62,11 @@ fn read_jobs<'a, F: Folder>(
     names: &[Name],
 ) -> Result<Vec<Job>, InputFault>
     requires names { All IsGoodName names.now }
-    requires asked { IsBatchOrder asked }
     requires may { WordsMay (F.may folder.old) names.now }
     ensures folder { ReadsOn F.Folder folder.old folder.new result }
     ensures never { NeverRefused result }
     ensures reads { (files : FileSet) → F.agrees folder.new files →
-        IfOk result (λ jobs. jobs.items ≡ map (job_of (batch_by asked.entry) files) names.now) }
+        IfOk result (λ jobs. jobs.items ≡ map (job_of (batch_of asked.entry) files) names.now) }
     ensures tasks { IfOk result (λ jobs. AreTasks jobs.items) }
     ensures whole { IfOk result (λ jobs. length jobs.items ≡ length names.now) }
 {
@@ -87,7 +86,7 @@ fn read_names<'a, F: Folder>(
 ) -> Result<Vec<Name>, InputFault>
     requires { F.may folder.old (folder_name asked.list.now) }
     ensures folder { ReadsOn F.Folder folder.old folder.new result }
-    ensures reads { (files : FileSet) → F.agrees folder.new files → HasNames (batch_by asked.entry) files result }
+    ensures reads { (files : FileSet) → F.agrees folder.new files → HasNames (batch_of asked.entry) files result }
     ensures may { IfOk result (λ names. WordsMay (F.may folder.new) names.items) }
     ensures few { IfOk result (λ names. length names.items ≤ 1000) }
     ensures good { IfOk result (λ names. All IsGoodName names.items) }
@@ -106,10 +105,9 @@ pub(crate) fn read_batch<'a, F: Folder>(
     folder: &mut F,
     asked: BatchOrder<'a>,
 ) -> Result<Vec<Job>, InputFault>
-    requires asked { IsBatchOrder asked }
     requires may { F.may folder.old (folder_name asked.list.now) }
     ensures folder { ReadsOn F.Folder folder.old folder.new result }
-    ensures reads { (files : FileSet) → F.agrees folder.new files → IsBatchRead (batch_by asked.entry) files result }
+    ensures reads { (files : FileSet) → F.agrees folder.new files → IsBatchRead (batch_of asked.entry) files result }
     ensures tasks { IfOk result (λ jobs. AreTasks jobs.items) }
     ensures few { IfOk result (λ jobs. length jobs.items ≤ 1000) }
 {

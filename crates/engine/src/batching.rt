@@ -1,26 +1,26 @@
 // A batch of models.
-ghost use Rattle.std.specs.Prelude.{◌≡◌, ◌≤◌, List, ◌++◌, length, map, IfSome, Some, ◌<◌, ◌^◌, slice_get};
-ghost use Rattle.outside.specs.{WordsMay, folder_name, FileSet, Put, Rose};
+ghost use Rattle.std.specs.Prelude.{◌≡◌, ◌≤◌, List, length, map, IfSome, Some, ◌<◌, ◌^◌, slice_get};
+ghost use Rattle.outside.specs.{WordsMay, folder_name, FileSet, Rose};
 ghost use Rattle.engine.specs.Serving.{files_named};
-ghost use Rattle.run_puts.specs.{IsRun, NeverCut};
+ghost use Rattle.run_puts.specs.{IsRun, NeverCut, PutsMore};
 ghost use Rattle.batch_puts.specs.{IsBatch};
-ghost use Rattle.engine.specs.BatchReads.{batch_by, IsBatchOrder, AreTasks};
-ghost use Rattle.command_line.specs.{wanted_of};
-ghost use Rattle.engine.specs.Cases.{asked_in, case_asked, case_of, Batch, ReadsNothing};
+ghost use Rattle.engine.specs.BatchReads.{AreTasks};
+ghost use Rattle.command_line.specs.{batch_of, wanted_of, Batch};
+ghost use Rattle.engine.specs.Cases.{case_of, ReadsNothing};
 ghost use Rattle.engine.specs.Defined.{IsJobEnd};
 ghost use Rattle.engine.specs.Parts.{Answers, AnswersBeside};
 ghost use Rattle.engine.specs.Watched.{views_in};
 ghost use Rattle.engine.specs.declared.job.Job.{Job as JobRead};
 
-use crate::asked_batch::{BatchOrder, asked_batch};
 use crate::batch_reading::read_batch;
 use crate::ending::end_reading;
 use crate::job::{Job, end_of_job};
-use crate::running::answer;
+use crate::running::{USAGE, answer};
 use batch_book::{Jobs, run_batch};
 use batch_puts::{JobEnd, put_ends};
+use command_line::{BatchOrder, Order, WordsFault, read_order};
 use outside::{Folder, Gate, Sink};
-use run_puts::{Status, put_memory};
+use run_puts::{Status, put_last, put_memory};
 use std::alloc::{AllocError, Global};
 use std::marker::Model;
 use std::sync::Wait;
@@ -38,8 +38,7 @@ fn put_jobs<R: Threads + Wait + Sync, K: Sink, G: Gate + Sync>(
     requires workers { (1 ≤ workers) × (workers ≤ 64) }
     requires few { length jobs.now ≤ 1000 }
     requires tasks { AreTasks jobs.now }
-    ensures { (start : _) (puts : List Put) → K.leads start puts out.old →
-        (more : List Put) × K.leads start (puts ++ more) out.new × IsRun (IsBatch IsJobEnd jobs.now) NeverCut result more }
+    ensures { PutsMore K.leads out.old out.new (IsRun (IsBatch IsJobEnd jobs.now) NeverCut result) }
 {
     match run_batch(rt, alloc, &ReadJobs::new(jobs), workers, gate) {
         Ok(ends) => put_ends(out, ends),
@@ -56,13 +55,10 @@ fn put_batch<'a, R: Threads + Wait + Sync, F: Folder, K: Sink, G: Gate + Sync>(
     out: &mut K,
     gate: &G,
 ) -> Status
-    requires asked { IsBatchOrder asked }
     requires may { F.may folder.old (folder_name asked.list.now) }
     ensures since { (files : FileSet) → F.agrees folder.new files → F.agrees folder.old files }
-    ensures answers { (start : _) (puts : List Put) → K.leads start puts out.old →
-        (more : List Put) × K.leads start (puts ++ more) out.new
-        × ((files : FileSet) → F.agrees folder.new files →
-        Answers (case_asked (Some (Batch (batch_by asked.entry))) files) (F.faults folder.old) (F.faults folder.new) result more) }
+    ensures answers { PutsMore K.leads out.old out.new (λ more. (files : FileSet) → F.agrees folder.new files →
+        Answers (case_of (Some (Batch (batch_of asked.entry))) files) (F.faults folder.old) (F.faults folder.new) result more) }
 {
     match read_batch(alloc, folder, asked) {
         Ok(jobs) => put_jobs(rt, alloc, jobs.as_slice(), asked.workers, out, gate),
@@ -88,18 +84,19 @@ pub(crate) fn answer_any<
 ) -> Status
     requires may { WordsMay (F.may folder.old) (files_named (map (λ w. w.now) words.now)) }
     ensures since { (files : FileSet) → F.agrees folder.new files → F.agrees folder.old files }
-    ensures unasked { ReadsNothing (asked_in (wanted_of (map (λ w. w.now) words.now))) → folder.new ≡ folder.old }
-    ensures answers { (start : _) (puts : List Put) → K.leads start puts out.old →
-        (more : List Put) × K.leads start (puts ++ more) out.new
-        × ((files : FileSet) → F.agrees folder.new files →
+    ensures unasked { ReadsNothing (wanted_of (map (λ w. w.now) words.now)) → folder.new ≡ folder.old }
+    ensures answers { PutsMore K.leads out.old out.new (λ more. (files : FileSet) → F.agrees folder.new files →
         AnswersBeside (case_of (wanted_of (map (λ w. w.now) words.now)) files) (views_in (wanted_of (map (λ w. w.now) words.now)))
         (F.faults folder.old) (F.faults folder.new)
         (Rose (W.seen side.old).faults (W.seen side.new).faults) (λ puts. W.leads side.old puts side.new) result more) }
 {
-    match asked_batch(alloc, words) {
-        Ok(Some(asked)) => put_batch(rt, alloc, asked, folder, out, gate),
-        Ok(None) => answer(rt, alloc, words, folder, out, side, gate),
-        Err(AllocError) => put_memory(out),
+    match read_order(alloc, words) {
+        Ok(order) => match order {
+            Order::Batch(asked) => put_batch(rt, alloc, asked, folder, out, gate),
+            _ => answer(rt, alloc, words, folder, out, side, gate),
+        },
+        Err(WordsFault::Usage) => put_last(out, USAGE, Status::Usage),
+        Err(WordsFault::Memory) => put_memory(out),
     }
 }
 

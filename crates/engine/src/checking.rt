@@ -1,20 +1,21 @@
 // The check of a listing of the folder.
-ghost use Rattle.std.specs.Prelude.{◌≤◌, List, ◌++◌, Ok, IfOk, IfSome, Some, option_map};
-ghost use Rattle.outside.specs.{folder_name, FileSet, IsReading, ReadsOn, Put};
+ghost use Rattle.std.specs.Prelude.{◌≤◌, Ok, IfOk, IfSome, Some, option_map};
+ghost use Rattle.outside.specs.{folder_name, FileSet, IsReading, ReadsOn};
 ghost use Rattle.model_types.specs.{IsModel};
 ghost use Rattle.zone_pairs.specs.{pairs_in, AreZones};
 ghost use Rattle.listing_io.specs.{AreListed};
-ghost use Rattle.run_puts.specs.{Text, IsRun, NeverCut};
-ghost use Rattle.engine.specs.{IsCheck, case_asked, Check, check_of, to_of, MayRead, Answers, AreDecksAs, IsListed, listing_read, steps_read};
+ghost use Rattle.run_puts.specs.{IsRun, NeverCut, PutsMore};
+ghost use Rattle.command_line.specs.{Check, check_of, text_if};
+ghost use Rattle.engine.specs.{IsCheck, case_of, MayRead, Answers, AreDecksAs, IsListed, listing_read, steps_read};
 ghost use Rattle.deck_problems.specs.{AreDecks};
 
-use crate::asked::AskedCheck;
 use crate::ending::end_reading;
 use crate::reading::{bad_name, read_zones_of};
 use crate::two_decks::read_decks;
 use crate::verdict::put_verdict;
 use crate::zoned::ZonedListing;
 use check_run::check_listing;
+use command_line::CheckOrder;
 use deck_problems::Decks;
 use listing_io::{Listing, read_listing};
 use listing_run::zone_slice;
@@ -29,12 +30,11 @@ fn read_steps<F: Folder>(
     folder: &mut F,
     between: bool,
     model: &FlowModel,
-    asked: AskedCheck,
+    asked: CheckOrder,
     zones: Option<&[u32]>,
 ) -> Result<Listing, InputFault>
     requires model { IsModel model.now }
     requires zones { AreZones model.now (option_map (λ z. z.now) zones) }
-    requires digits { asked.digits ≤ 18 }
     requires may { F.may folder.old (folder_name asked.listing.now) }
     ensures folder { ReadsOn F.Folder folder.old folder.new result }
     ensures reads { (files : FileSet) → F.agrees folder.new files →
@@ -63,10 +63,9 @@ pub(crate) fn read_listed<F: Folder>(
     folder: &mut F,
     between: bool,
     model: &FlowModel,
-    asked: AskedCheck,
+    asked: CheckOrder,
 ) -> Result<ZonedListing, InputFault>
     requires model { IsModel model.now }
-    requires digits { asked.digits ≤ 18 }
     requires zones { IfSome (check_of asked).zones (λ zones. F.may folder.old (folder_name zones)) }
     requires may { F.may folder.old (folder_name asked.listing.now) }
     ensures folder { ReadsOn F.Folder folder.old folder.new result }
@@ -91,8 +90,7 @@ pub(crate) fn put_check<K: Sink>(
     requires decks { AreDecks decks.now }
     requires digits { digits ≤ 18 }
     requires listing { IsListed decks.now.first listing.now }
-    ensures { (start : _) (puts : List Put) → K.leads start puts out.old →
-        (more : List Put) × K.leads start (puts ++ more) out.new × IsRun (IsCheck limits decks.now digits listing.now) NeverCut result more }
+    ensures { PutsMore K.leads out.old out.new (IsRun (IsCheck limits decks.now digits listing.now) NeverCut result) }
 {
     match check_listing(
         alloc,
@@ -110,21 +108,18 @@ pub(crate) fn put_check<K: Sink>(
 // Reads the zones and a listing of decks, and puts the line of its verdict.
 fn check_decks<'a, F: Folder, K: Sink>(
     alloc: Global,
-    asked: AskedCheck<'a>,
+    asked: CheckOrder<'a>,
     decks: &Decks,
     folder: &mut F,
     out: &mut K,
 ) -> Status
-    requires digits { asked.digits ≤ 18 }
     requires decks { AreDecks decks.now }
     requires zones { IfSome (check_of asked).zones (λ zones. F.may folder.old (folder_name zones)) }
     requires may { F.may folder.old (folder_name asked.listing.now) }
     ensures since { (files : FileSet) → F.agrees folder.new files → F.agrees folder.old files }
-    ensures answers { (start : _) (puts : List Put) → K.leads start puts out.old →
-        (more : List Put) × K.leads start (puts ++ more) out.new
-        × ((files : FileSet) → F.agrees folder.new files →
-        AreDecksAs (check_of asked.entry).limits (check_of asked.entry).name (to_of asked.entry.to) files (Ok decks.now) →
-        Answers (case_asked (Some (Check (check_of asked.entry) (to_of asked.entry.to))) files)
+    ensures answers { PutsMore K.leads out.old out.new (λ more. (files : FileSet) → F.agrees folder.new files →
+        AreDecksAs (check_of asked.entry).limits (check_of asked.entry).name (text_if asked.entry.to) files (Ok decks.now) →
+        Answers (case_of (Some (Check (check_of asked.entry) (text_if asked.entry.to))) files)
         (F.faults folder.old) (F.faults folder.new) result more) }
 {
     match read_listed(alloc, folder, asked.to.is_some(), &decks.first, asked) {
@@ -137,18 +132,15 @@ fn check_decks<'a, F: Folder, K: Sink>(
 /// the line of its verdict.
 pub(crate) fn check<'a, F: Folder, K: Sink>(
     alloc: Global,
-    asked: AskedCheck<'a>,
+    asked: CheckOrder<'a>,
     folder: &mut F,
     out: &mut K,
 ) -> Status
-    requires digits { asked.digits ≤ 18 }
-    requires may { MayRead (F.may folder.old) (check_of asked).name (to_of asked.to) (check_of asked).zones }
+    requires may { MayRead (F.may folder.old) (check_of asked).name (text_if asked.to) (check_of asked).zones }
     requires listing { F.may folder.old (folder_name asked.listing.now) }
     ensures since { (files : FileSet) → F.agrees folder.new files → F.agrees folder.old files }
-    ensures answers { (start : _) (puts : List Put) → K.leads start puts out.old →
-        (more : List Put) × K.leads start (puts ++ more) out.new
-        × ((files : FileSet) → F.agrees folder.new files →
-        Answers (case_asked (Some (Check (check_of asked.entry) (to_of asked.entry.to))) files)
+    ensures answers { PutsMore K.leads out.old out.new (λ more. (files : FileSet) → F.agrees folder.new files →
+        Answers (case_of (Some (Check (check_of asked.entry) (text_if asked.entry.to))) files)
         (F.faults folder.old) (F.faults folder.new) result more) }
 {
     match read_decks(alloc, asked.limits, folder, asked.name, asked.to) {

@@ -1,6 +1,6 @@
 ghost use Rattle.std.specs.Prelude.{◌≡◌, ℕ, map, Some};
 ghost use Rattle.outside.specs.{WordsMay, FileSet, Rose};
-ghost use Rattle.engine.specs.{asked_in, bytes_asked, case_of, files_named, IsProgramEnd, IsRunResult, ReadsNothing, views_in};
+ghost use Rattle.engine.specs.{bytes_asked, case_of, files_named, IsProgramEnd, IsRunResult, ReadsNothing, views_in};
 ghost use Rattle.command_line.specs.{wanted_of};
 ghost use Rattle.engine.specs.Watched.{Watched};
 ghost use Rattle.std.specs.Process.{exit_status};
@@ -36,7 +36,7 @@ pub fn run<R: Threads + Wait + Sync, F: Folder, K: Sink + Send, W: Sink + Send, 
     ensures since { (files : FileSet) → F.agrees folder.new files → F.agrees folder.old files }
 
     // A folder of which no file is read isn't asked.
-    ensures unasked { ReadsNothing (asked_in (wanted_of (map (λ w. w.now) words.now))) → folder.new ≡ folder.old }
+    ensures unasked { ReadsNothing (wanted_of (map (λ w. w.now) words.now)) → folder.new ≡ folder.old }
 
     // The headline and all else that a run has come to.
     ensures runs { IsRunResult (wanted_of (map (λ w. w.now) words.now)) (F.agrees folder.new) (F.faults folder.old) (F.faults folder.new)

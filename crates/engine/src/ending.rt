@@ -1,6 +1,5 @@
 // The end of a run that has read no model.
-ghost use Rattle.std.specs.Prelude.{List, ◌++◌};
-ghost use Rattle.outside.specs.{Put};
+ghost use Rattle.run_puts.specs.{PutsMore};
 ghost use Rattle.engine.specs.{IsReadingEnd};
 
 use listing_io::write_refused;
@@ -10,8 +9,7 @@ use std::alloc::Global;
 
 /// Ends a run whose files have no model.
 pub(crate) fn end_reading<K: Sink>(alloc: Global, fault: InputFault, out: &mut K) -> Status
-    ensures { (start : _) (puts : List Put) → K.leads start puts out.old →
-        (more : List Put) × K.leads start (puts ++ more) out.new × IsReadingEnd fault result more }
+    ensures { PutsMore K.leads out.old out.new (IsReadingEnd fault result) }
 {
     match fault {
         InputFault::Memory => put_memory(out),

@@ -1,5 +1,5 @@
 // Laws of what is defined. Each is the contract of an empty function, but for the laws below that it calls.
-ghost use Rattle.engine.specs.{OneListingIsCertified, WrittenIsCertified, OneSpanIsCertified, WrittenSpanIsCertified, StorageHolds};
+ghost use Rattle.engine.specs.{OneListingIsCertified, OneSpanIsCertified, WrittenIsCertified, StorageHolds};
 
 use check_run::laws::{run_is_certified, run_is_read_again};
 
@@ -9,7 +9,7 @@ pub fn storage_holds()
     ensures { StorageHolds }
 {}
 
-/// `check` certifies what `run` writes.
+/// `check` certifies what `run` writes, of one deck or of two.
 pub fn written_is_certified()
     ensures { WrittenIsCertified }
 {
@@ -17,24 +17,10 @@ pub fn written_is_certified()
     run_is_read_again();
 }
 
-/// What a run, with or without `--quick`, is promised to have written, `check` certifies.
+/// What a run, with or without `--quick`, is promised to have written, `check` certifies: of one deck, and of two.
 pub fn one_listing_is_certified()
-    ensures { OneListingIsCertified }
+    ensures one { OneListingIsCertified }
+    ensures two { OneSpanIsCertified }
 {
     written_is_certified();
-}
-
-/// `check` certifies what `run` writes of two decks.
-pub fn written_span_is_certified()
-    ensures { WrittenSpanIsCertified }
-{
-    run_is_certified();
-    run_is_read_again();
-}
-
-/// What a run of two decks, with or without `--quick`, is promised to have written, `check` certifies.
-pub fn one_span_is_certified()
-    ensures { OneSpanIsCertified }
-{
-    written_span_is_certified();
 }

@@ -1,8 +1,6 @@
 //! The engine: does what the program's words ask for, from a folder's files to the bytes that are put.
 #![tactic(auto)]
 
-mod asked;
-mod asked_batch;
 mod asked_files;
 mod batch_reading;
 mod batching;
@@ -17,7 +15,6 @@ mod reading;
 mod running;
 mod two_decks;
 mod verdict;
-mod view_lines;
 mod viewing;
 mod writing;
 pub mod zoned;

@@ -1,13 +1,12 @@
 // A listing by workers in threads.
-ghost use Rattle.std.specs.Prelude.{◌≡◌, List, ◌++◌, IfSome, None, false};
-ghost use Rattle.outside.specs.{Rose, Put};
-ghost use Rattle.run_puts.specs.{IsRun};
+ghost use Rattle.std.specs.Prelude.{◌≡◌, IfSome, None, false};
+ghost use Rattle.outside.specs.{Rose};
+ghost use Rattle.run_puts.specs.{IsRun, PutsMore};
 ghost use Rattle.step_problem.specs.{IsBarrier, Settles, settled};
 ghost use Rattle.settle_driver.specs.{IsPlan};
 ghost use Rattle.listing_run.specs.{IsTask, IsListing, IsListingBeside, IsCutListing};
 ghost use Rattle.engine.specs.{IsWatched, ViewPutsOf};
 
-use crate::view_lines::ViewLines;
 use crate::viewing::put_texts;
 use certified_pair::QuickPairs;
 use listing_run::{Task, put_steps};
@@ -18,6 +17,9 @@ use settle_driver::{Plan, SettleBy, StepSettler};
 use std::alloc::Global;
 use std::thread::Threads;
 use step_problem::{Barrier, Bound, Problem, SettleFault};
+
+/// The turns of a worker for each cell in a phase.
+pub(crate) const TURNS: u32 = 64;
 
 // Puts the listing of a task, each step by this settler, which never stops; in a quick task only where no guessed pair is a
 // certificate.
@@ -33,8 +35,7 @@ fn put_by<R: Threads + Sync, K: Sink + Send, S: StepSettler + Drop>(
     requires rounds { S.rounds settler ≡ task.now.rounds }
     requires pairs { S.pairs ≡ settled }
     requires goes_on { (s : S) → S.stop s ≡ None }
-    ensures { (start : _) (puts : List Put) → K.leads start puts out.old →
-        (more : List Put) × K.leads start (puts ++ more) out.new × IsRun (IsListing task.now) (IsCutListing task.now) result more }
+    ensures { PutsMore K.leads out.old out.new (IsRun (IsListing task.now) (IsCutListing task.now) result) }
 {
     if task.quick {
         let mut pairs = QuickPairs::new(settler);
@@ -56,8 +57,7 @@ fn put_unwatched<R: Threads + Sync, K: Sink + Send, G: Gate + Sync>(
     requires task { IsTask task.now }
     requires plan { IsPlan plan }
     requires rounds { plan.rounds ≡ task.now.rounds }
-    ensures { (start : _) (puts : List Put) → K.leads start puts out.old →
-        (more : List Put) × K.leads start (puts ++ more) out.new × IsRun (IsListing task.now) (IsCutListing task.now) result more }
+    ensures { PutsMore K.leads out.old out.new (IsRun (IsListing task.now) (IsCutListing task.now) result) }
 {
     let near = NearSettler::new(rt, plan, gate);
     let near = &near;
@@ -87,17 +87,13 @@ pub(crate) fn put_listing<R: Threads + Sync, K: Sink + Send, W: Sink + Send, G: 
     requires plan { IsPlan plan }
     requires rounds { plan.rounds ≡ task.now.rounds }
     requires plain { IfSome views (λ n. task.now.quick ≡ false) }
-    ensures puts { (start : _) (puts : List Put) → K.leads start puts out.old →
-        (more : List Put) × K.leads start (puts ++ more) out.new
-        × IsRun (IsListingBeside (Rose (W.seen side.old).faults (W.seen side.new).faults) task.now) (IsCutListing task.now) result more
-        × (result ≡ Status.Ok → IfSome views (λ n. IsWatched task.now n (λ puts. W.leads side.old puts side.new))) }
+    ensures puts { PutsMore K.leads out.old out.new (λ more.
+        IsRun (IsListingBeside (Rose (W.seen side.old).faults (W.seen side.new).faults) task.now) (IsCutListing task.now) result more
+        × (result ≡ Status.Ok → IfSome views (λ n. IsWatched task.now n (λ puts. W.leads side.old puts side.new)))) }
     ensures side { ViewPutsOf task.now (λ puts. W.leads side.old puts side.new) views }
 {
     match views {
         None => put_unwatched(rt, alloc, task, plan, out, gate),
-        Some(views) => {
-            let text = ViewLines::new(&task.decks.first.grid);
-            put_texts(rt, alloc, task, plan, views, &text, out, side, gate)
-        }
+        Some(views) => put_texts(rt, alloc, task, plan, views, out, side, gate),
     }
 }

@@ -1,15 +1,16 @@
 // A model that is made from a seed, and the summary of its listing.
-ghost use Rattle.std.specs.Prelude.{false, ◌≡◌, List, ◌++◌, Ok, IfOk};
-ghost use Rattle.outside.specs.{Put};
+ghost use Rattle.std.specs.Prelude.{false, ◌≡◌, ℕ, Ok, IfOk};
+ghost use Rattle.run_puts.specs.{PutsMore};
 ghost use Rattle.step_problem.specs.{IsBarrier, Settles};
 ghost use Rattle.model_types.specs.{IsModel};
 ghost use Rattle.listing_run.specs.{IsTask};
 ghost use Rattle.listing_summary.specs.{IsSummarized};
-ghost use Rattle.engine.specs.{made_model, IsMakeable, summed_text, IsMadeRun, made_fault};
+ghost use Rattle.engine.specs.{made_model, summed_text, Answers, Making, made_fault};
 
-use crate::asked::{MADE_DIGITS, MADE_PLAN};
 use crate::ending::end_reading;
+use crate::listing::TURNS;
 use crate::reading::read_named;
+use command_line::MakeOrder;
 use deck_problems::Decks;
 use listing_run::{ListingEnd, Task};
 use listing_summary::{Summary, summarize, write_summary};
@@ -18,10 +19,19 @@ use model_types::{FlowModel, Limits};
 use near_settler::NearSettler;
 use outside::{Gate, InputFault, Sink};
 use run_puts::{Status, put_line, put_memory};
-use settle_driver::SettleBy;
+use settle_driver::{Plan, SettleBy};
 use std::alloc::{AllocError, Global};
 use std::thread::Threads;
 use step_problem::{Barrier, Bound, Problem, SettleFault};
+
+// The listing of a made model, with the digits, the workers and the rounds of a run without options.
+const MADE_DIGITS: u32 = 12;
+
+const MADE_PLAN: Plan = Plan {
+    workers: 4,
+    turns_per_cell: TURNS,
+    rounds: 1_000_000,
+};
 
 // The summary of a task's listing, each step settled by workers in threads.
 fn summarize_by_workers<R: Threads + Sync, G: Gate + Sync>(
@@ -82,15 +92,14 @@ fn made_fault(fault: InputFault) -> InputFault
 fn put_summary<R: Threads + Sync, K: Sink, G: Gate + Sync>(
     rt: &R,
     alloc: Global,
-    seed: u32,
-    size: u32,
+    asked: MakeOrder,
     model: FlowModel,
     out: &mut K,
     gate: &G,
 ) -> Status
     requires { IsModel model }
-    ensures { (start : _) (puts : List Put) → K.leads start puts out.old →
-        (more : List Put) × K.leads start (puts ++ more) out.new × (made_model seed size ≡ Ok model → IsMadeRun seed size result more) }
+    ensures { PutsMore K.leads out.old out.new (λ more. made_model asked.seed asked.size ≡ Ok model → (n : ℕ) →
+        Answers (Making asked.seed asked.size (made_model asked.seed asked.size)) n n result more) }
 {
     let task = Task {
         limits: Limits::Plain,
@@ -107,7 +116,7 @@ fn put_summary<R: Threads + Sync, K: Sink, G: Gate + Sync>(
         drop(task);
         return put_memory(out);
     };
-    let line = summary_line(alloc, seed, size, &task, &summary, end);
+    let line = summary_line(alloc, asked.seed, asked.size, &task, &summary, end);
     // one call, so that the proof has no part for each of its fields
     drop(task);
     put_line(out, line, end.status())
@@ -118,20 +127,17 @@ fn put_summary<R: Threads + Sync, K: Sink, G: Gate + Sync>(
 pub(crate) fn put_made<R: Threads + Sync, K: Sink, G: Gate + Sync>(
     rt: &R,
     alloc: Global,
-    seed: u32,
-    size: u32,
+    asked: MakeOrder,
     out: &mut K,
     gate: &G,
 ) -> Status
-    requires { IsMakeable seed size }
-    ensures { (start : _) (puts : List Put) → K.leads start puts out.old →
-        (more : List Put) × K.leads start (puts ++ more) out.new × IsMadeRun seed size result more }
+    ensures { PutsMore K.leads out.old out.new (λ more. (n : ℕ) → Answers (Making asked.seed asked.size (made_model asked.seed asked.size)) n n result more) }
 {
-    let Ok(mut folder) = make(alloc, seed, size) else {
+    let Ok(mut folder) = make(alloc, asked.seed, asked.size) else {
         return put_memory(out);
     };
     match read_named(alloc, Limits::Plain, &mut folder, NAME) {
-        Ok(model) => put_summary(rt, alloc, seed, size, model, out, gate),
+        Ok(model) => put_summary(rt, alloc, asked, model, out, gate),
         Err(fault) => end_reading(alloc, made_fault(fault), out),
     }
 }

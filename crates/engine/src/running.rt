@@ -1,23 +1,22 @@
-ghost use Rattle.std.specs.Prelude.{◌≡◌, List, ◌++◌, map, IfSome, Ok, Some};
-ghost use Rattle.outside.specs.{WordsMay, folder_name, FileSet, Put, Rose};
-ghost use Rattle.engine.specs.{files_named, asked_in, but_batch, case_asked, case_of, decks_task, ReadsNothing, Run, asked_of, to_of, views_in, IsAsked};
-ghost use Rattle.engine.specs.{IsRunResult, MayRead, AnswersBeside, AreDecksAs, IsWatched, ViewPutsOf};
-ghost use Rattle.command_line.specs.{wanted_of};
-ghost use Rattle.run_puts.specs.{IsRun};
+ghost use Rattle.std.specs.Prelude.{◌≡◌, map, IfSome, Ok, Some};
+ghost use Rattle.outside.specs.{WordsMay, folder_name, FileSet, Rose};
+ghost use Rattle.engine.specs.{files_named, but_batch, case_of, decks_task, ReadsNothing, views_in, IsRunResult, MayRead, AnswersBeside, AreDecksAs, IsWatched};
+ghost use Rattle.engine.specs.{ViewPutsOf};
+ghost use Rattle.command_line.specs.{asked_of, text_if, wanted_of, Run};
+ghost use Rattle.run_puts.specs.{IsRun, PutsMore};
 ghost use Rattle.listing_run.specs.{IsListingBeside, IsCutListing};
 ghost use Rattle.zone_pairs.specs.{AreZones};
 ghost use Rattle.deck_problems.specs.{AreDecks};
 
-use crate::asked::{Asked, Command, command_of};
 use crate::checking::check;
 use crate::ending::end_reading;
-use crate::listing::put_listing;
+use crate::listing::{TURNS, put_listing};
 use crate::making::put_made;
 use crate::reading::read_zones_of;
 use crate::two_decks::read_decks;
 use crate::writing::write;
 use check_run::laws::one_verdict;
-use command_line::{WordsFault, read_order};
+use command_line::{Order, RunOrder, WordsFault, read_order};
 use deck_alike::laws::one_difference;
 use deck_problems::Decks;
 use listing_run::Task;
@@ -25,10 +24,11 @@ use listing_run::laws::one_listing;
 use model_types::Listed;
 use outside::{Folder, Gate, Sink};
 use run_puts::{Status, put_last, put_memory};
+use settle_driver::Plan;
 use std::alloc::Global;
 use std::thread::Threads;
 
-const USAGE: &[u8] =
+pub(crate) const USAGE: &[u8] =
     b"USAGE: heads run NAME [--digits S] [--workers W] [--rounds P] [--zones Z] [--watch N] | heads check NAME LISTING [--digits S] | heads make SEED SIZE | heads batch LIST [--digits S] [--workers W] [--rounds P]\n";
 
 /// Does what the words ask for. `run NAME` reads the model of that name file from the folder, and the zones of its cells
@@ -57,7 +57,7 @@ pub fn run_one<R: Threads + Sync, F: Folder, K: Sink + Send, W: Sink + Send, G: 
     ensures since { (files : FileSet) → F.agrees folder.new files → F.agrees folder.old files }
 
     // A folder of which no file is read isn't asked.
-    ensures unasked { ReadsNothing (asked_in (but_batch (wanted_of (map (λ w. w.now) words.now)))) → folder.new ≡ folder.old }
+    ensures unasked { ReadsNothing (but_batch (wanted_of (map (λ w. w.now) words.now))) → folder.new ≡ folder.old }
 
     // The headline and all else that a run has come to.
     ensures runs { IsRunResult (but_batch (wanted_of (map (λ w. w.now) words.now))) (F.agrees folder.new) (F.faults folder.old) (F.faults folder.new)
@@ -84,25 +84,20 @@ pub(crate) fn answer<R: Threads + Sync, F: Folder, K: Sink + Send, W: Sink + Sen
 ) -> Status
     requires may { WordsMay (F.may folder.old) (files_named (map (λ w. w.now) words.now)) }
     ensures since { (files : FileSet) → F.agrees folder.new files → F.agrees folder.old files }
-    ensures unasked { ReadsNothing (asked_in (but_batch (wanted_of (map (λ w. w.now) words.now)))) → folder.new ≡ folder.old }
-    ensures answers { (start : _) (puts : List Put) → K.leads start puts out.old →
-        (more : List Put) × K.leads start (puts ++ more) out.new
-        × ((files : FileSet) → F.agrees folder.new files →
+    ensures unasked { ReadsNothing (but_batch (wanted_of (map (λ w. w.now) words.now))) → folder.new ≡ folder.old }
+    ensures answers { PutsMore K.leads out.old out.new (λ more. (files : FileSet) → F.agrees folder.new files →
         AnswersBeside (case_of (but_batch (wanted_of (map (λ w. w.now) words.now))) files) (views_in (but_batch (wanted_of (map (λ w. w.now) words.now))))
         (F.faults folder.old) (F.faults folder.new)
         (Rose (W.seen side.old).faults (W.seen side.new).faults) (λ puts. W.leads side.old puts side.new) result more) }
 {
-    let order = match read_order(alloc, words) {
-        Ok(order) => order,
-        Err(WordsFault::Usage) => return put_last(out, USAGE, Status::Usage),
-        Err(WordsFault::Memory) => return put_memory(out),
-    };
-    match command_of(order) {
-        None => put_last(out, USAGE, Status::Usage),
-        Some(Command::Run(asked)) => list(rt, alloc, asked, folder, out, side, gate),
-        Some(Command::Make { seed, size }) => put_made(rt, alloc, seed, size, out, gate),
-        Some(Command::Check(asked)) => check(alloc, asked, folder, out),
-        Some(Command::Write(limits, name)) => write(alloc, limits, name, folder, out),
+    match read_order(alloc, words) {
+        Ok(Order::Run(asked)) => list(rt, alloc, asked, folder, out, side, gate),
+        Ok(Order::Check(asked)) => check(alloc, asked, folder, out),
+        Ok(Order::Make(asked)) => put_made(rt, alloc, asked, out, gate),
+        Ok(Order::Write { limits, name }) => write(alloc, limits, name, folder, out),
+        Ok(Order::Batch(_)) => put_last(out, USAGE, Status::Usage),
+        Err(WordsFault::Usage) => put_last(out, USAGE, Status::Usage),
+        Err(WordsFault::Memory) => put_memory(out),
     }
 }
 
@@ -110,22 +105,20 @@ pub(crate) fn answer<R: Threads + Sync, F: Folder, K: Sink + Send, W: Sink + Sen
 fn put_decks<'a, R: Threads + Sync, K: Sink + Send, W: Sink + Send, G: Gate + Sync>(
     rt: &R,
     alloc: Global,
-    asked: Asked<'a>,
+    asked: RunOrder<'a>,
     decks: Decks,
     zones: Option<Listed<u32>>,
     out: &mut K,
     side: &mut W,
     gate: &G,
 ) -> Status
-    requires asked { IsAsked asked }
     requires decks { AreDecks decks }
     requires zones { AreZones decks.first zones }
-    ensures puts { (start : _) (puts : List Put) → K.leads start puts out.old →
-        (more : List Put) × K.leads start (puts ++ more) out.new
-        × IsRun (IsListingBeside (Rose (W.seen side.old).faults (W.seen side.new).faults) (decks_task (asked_of asked.entry) decks zones))
+    ensures puts { PutsMore K.leads out.old out.new (λ more.
+        IsRun (IsListingBeside (Rose (W.seen side.old).faults (W.seen side.new).faults) (decks_task (asked_of asked.entry) decks zones))
         (IsCutListing (decks_task (asked_of asked.entry) decks zones)) result more
         × (result ≡ Status.Ok → IfSome asked.entry.watch
-        (λ n. IsWatched (decks_task (asked_of asked.entry) decks zones) n (λ puts. W.leads side.old puts side.new))) }
+        (λ n. IsWatched (decks_task (asked_of asked.entry) decks zones) n (λ puts. W.leads side.old puts side.new)))) }
     ensures side { ViewPutsOf (decks_task (asked_of asked.entry) decks zones) (λ puts. W.leads side.old puts side.new) asked.entry.watch }
 {
     let task = Task {
@@ -133,10 +126,15 @@ fn put_decks<'a, R: Threads + Sync, K: Sink + Send, W: Sink + Send, G: Gate + Sy
         decks,
         digits: asked.digits,
         zones,
-        rounds: asked.plan.rounds,
+        rounds: asked.rounds,
         quick: asked.quick,
     };
-    let status = put_listing(rt, alloc, &task, asked.plan, asked.watch, out, side, gate);
+    let plan = Plan {
+        workers: asked.workers,
+        turns_per_cell: TURNS,
+        rounds: asked.rounds,
+    };
+    let status = put_listing(rt, alloc, &task, plan, asked.watch, out, side, gate);
     // one call, so that the proof has no part for each of its fields
     drop(task);
     status
@@ -146,22 +144,19 @@ fn put_decks<'a, R: Threads + Sync, K: Sink + Send, W: Sink + Send, G: Gate + Sy
 fn list_decks<'a, R: Threads + Sync, F: Folder, K: Sink + Send, W: Sink + Send, G: Gate + Sync>(
     rt: &R,
     alloc: Global,
-    asked: Asked<'a>,
+    asked: RunOrder<'a>,
     decks: Decks,
     folder: &mut F,
     out: &mut K,
     side: &mut W,
     gate: &G,
 ) -> Status
-    requires asked { IsAsked asked }
     requires decks { AreDecks decks }
     requires zones { IfSome (asked_of asked).zones (λ zones. F.may folder.old (folder_name zones)) }
     ensures since { (files : FileSet) → F.agrees folder.new files → F.agrees folder.old files }
-    ensures answers { (start : _) (puts : List Put) → K.leads start puts out.old →
-        (more : List Put) × K.leads start (puts ++ more) out.new
-        × ((files : FileSet) → F.agrees folder.new files →
-        AreDecksAs (asked_of asked.entry).limits (asked_of asked.entry).name (to_of asked.entry.to) files (Ok decks) →
-        AnswersBeside (case_asked (Some (Run (asked_of asked.entry) (to_of asked.entry.to))) files) asked.entry.watch
+    ensures answers { PutsMore K.leads out.old out.new (λ more. (files : FileSet) → F.agrees folder.new files →
+        AreDecksAs (asked_of asked.entry).limits (asked_of asked.entry).name (text_if asked.entry.to) files (Ok decks) →
+        AnswersBeside (case_of (Some (Run (asked_of asked.entry) (text_if asked.entry.to))) files) asked.entry.watch
         (F.faults folder.old) (F.faults folder.new)
         (Rose (W.seen side.old).faults (W.seen side.new).faults) (λ puts. W.leads side.old puts side.new) result more) }
 {
@@ -175,19 +170,16 @@ fn list_decks<'a, R: Threads + Sync, F: Folder, K: Sink + Send, W: Sink + Send, 
 fn list<'a, R: Threads + Sync, F: Folder, K: Sink + Send, W: Sink + Send, G: Gate + Sync>(
     rt: &R,
     alloc: Global,
-    asked: Asked<'a>,
+    asked: RunOrder<'a>,
     folder: &mut F,
     out: &mut K,
     side: &mut W,
     gate: &G,
 ) -> Status
-    requires asked { IsAsked asked }
-    requires may { MayRead (F.may folder.old) (asked_of asked).name (to_of asked.to) (asked_of asked).zones }
+    requires may { MayRead (F.may folder.old) (asked_of asked).name (text_if asked.to) (asked_of asked).zones }
     ensures since { (files : FileSet) → F.agrees folder.new files → F.agrees folder.old files }
-    ensures answers { (start : _) (puts : List Put) → K.leads start puts out.old →
-        (more : List Put) × K.leads start (puts ++ more) out.new
-        × ((files : FileSet) → F.agrees folder.new files →
-        AnswersBeside (case_asked (Some (Run (asked_of asked.entry) (to_of asked.entry.to))) files) asked.entry.watch
+    ensures answers { PutsMore K.leads out.old out.new (λ more. (files : FileSet) → F.agrees folder.new files →
+        AnswersBeside (case_of (Some (Run (asked_of asked.entry) (text_if asked.entry.to))) files) asked.entry.watch
         (F.faults folder.old) (F.faults folder.new)
         (Rose (W.seen side.old).faults (W.seen side.new).faults) (λ puts. W.leads side.old puts side.new) result more) }
 {

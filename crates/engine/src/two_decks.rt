@@ -3,7 +3,8 @@ ghost use Rattle.std.specs.Prelude.{◌≡◌, ◌<◌, IfErr, IfOk, IfSome, opt
 ghost use Rattle.outside.specs.{folder_name, FileSet, IsReading, ReadsOn};
 ghost use Rattle.model_types.specs.{cell_count, place, HasSize, IsModel};
 ghost use Rattle.deck_problems.specs.{AreDecks};
-ghost use Rattle.engine.specs.{to_of, AreDecksAs, AreDecksOf, IsNoSecond, IsUnlikeFault, named, second_by, second_in};
+ghost use Rattle.command_line.specs.{text_if};
+ghost use Rattle.engine.specs.{AreDecksAs, AreDecksOf, IsNoSecond, IsUnlikeFault, named, second_by, second_in};
 
 use crate::reading::{bad_name, read_named};
 use deck_alike::{Difference, first_difference};
@@ -106,9 +107,9 @@ pub(crate) fn read_decks<F: Folder>(
     to: Option<&str>,
 ) -> Result<Decks, InputFault>
     requires name { F.may folder.old (folder_name name.now) }
-    requires to { IfSome (to_of to) (λ last. F.may folder.old (folder_name last)) }
+    requires to { IfSome (text_if to) (λ last. F.may folder.old (folder_name last)) }
     ensures folder { ReadsOn F.Folder folder.old folder.new result }
-    ensures reads { (files : FileSet) → F.agrees folder.new files → AreDecksAs limits name.now (to_of to.entry) files result }
+    ensures reads { (files : FileSet) → F.agrees folder.new files → AreDecksAs limits name.now (text_if to.entry) files result }
     ensures decks { IfOk result AreDecks }
 {
     let first = read_named(alloc, limits, folder, name)?;

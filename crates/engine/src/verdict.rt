@@ -1,8 +1,7 @@
 // The end of a check with a verdict.
-ghost use Rattle.std.specs.Prelude.{◌≡◌, List, ◌++◌, IfOk};
+ghost use Rattle.std.specs.Prelude.{◌≡◌, IfOk};
 ghost use Rattle.model_types.specs.{HasSize};
-ghost use Rattle.outside.specs.{Put};
-ghost use Rattle.run_puts.specs.{IsEnd};
+ghost use Rattle.run_puts.specs.{IsEnd, PutsMore};
 ghost use Rattle.engine.specs.{verdict_line, verdict_status};
 
 use check_run::ListingVerdict;
@@ -48,9 +47,7 @@ pub(crate) fn put_verdict<K: Sink>(
     out: &mut K,
 ) -> Status
     requires { HasSize grid.now }
-    ensures { (start : _) (puts : List Put) → K.leads start puts out.old →
-        (more : List Put) × K.leads start (puts ++ more) out.new
-        × IsEnd (verdict_line grid.now verdict) (verdict_status verdict) result more }
+    ensures { PutsMore K.leads out.old out.new (IsEnd (verdict_line grid.now verdict) (verdict_status verdict) result) }
 {
     let line = verdict_line(alloc, grid, verdict);
     put_line(out, line, verdict_status(verdict))

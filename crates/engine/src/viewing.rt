@@ -1,12 +1,12 @@
 // A listing by workers in threads, whose heads are viewed while they settle.
-ghost use Rattle.std.specs.Prelude.{◌≡◌, ◌⊎◌, List, ◌++◌, None, Some, false};
-ghost use Rattle.outside.specs.{Rose, Put};
+ghost use Rattle.std.specs.Prelude.{◌≡◌, ◌⊎◌, None, Some, false};
+ghost use Rattle.outside.specs.{Rose};
 ghost use Rattle.outside.specs.declared.traits.SinkError.TheVariants.{Write};
-ghost use Rattle.run_puts.specs.{IsRun};
+ghost use Rattle.run_puts.specs.{IsRun, PutsMore};
 ghost use Rattle.step_problem.specs.{IsBarrier, Settles};
 ghost use Rattle.settle_driver.specs.{IsPlan, AddsPhases, had_memory};
 ghost use Rattle.listing_run.specs.{IsTask, IsListingBeside, IsCutListing, AllSettledBy, ReachesFirst};
-ghost use Rattle.engine.specs.{IsWatched, Shows, ViewPutsOf, lines_of};
+ghost use Rattle.engine.specs.{IsWatched, Shows, ViewPutsOf};
 
 use listing_run::{Task, put_steps};
 use near_settler::NearSettler;
@@ -16,7 +16,7 @@ use settle_driver::{Plan, StepViewer, WatchBy};
 use std::alloc::Global;
 use std::thread::Threads;
 use step_problem::{Barrier, Bound, Problem, SettleFault};
-use view_puts::{SinkViewer, ViewText};
+use view_puts::SinkViewer;
 
 // Puts the listing of a task, each step settled by this plan, while a viewer looks at the heads: `views` views in each
 // phase.
@@ -35,10 +35,9 @@ fn put_shown<R: Threads + Sync, K: Sink + Send, V: StepViewer + Send, G: Gate + 
     requires rounds { plan.rounds ≡ task.now.rounds }
     requires plain { task.now.quick ≡ false }
     requires goes_on { V.stop viewer.old ≡ None }
-    ensures puts { (start : _) (puts : List Put) → K.leads start puts out.old →
-        (more : List Put) × K.leads start (puts ++ more) out.new
-        × IsRun (IsListingBeside (V.stop viewer.new ≡ Some Write) task.now) (IsCutListing task.now) result more
-        × (result ≡ Status.Ok → AllSettledBy V.begins (Shows V.viewed V.stopped views) V.stop task.now viewer.old viewer.new) }
+    ensures puts { PutsMore K.leads out.old out.new (λ more.
+        IsRun (IsListingBeside (V.stop viewer.new ≡ Some Write) task.now) (IsCutListing task.now) result more
+        × (result ≡ Status.Ok → AllSettledBy V.begins (Shows V.viewed V.stopped views) V.stop task.now viewer.old viewer.new)) }
     ensures reaches { (viewer.new ≡ viewer.old)
         ⊎ ReachesFirst V.begins (Shows V.viewed V.stopped views) V.stop task.now viewer.old viewer.new }
 {
@@ -58,19 +57,12 @@ fn put_shown<R: Threads + Sync, K: Sink + Send, V: StepViewer + Send, G: Gate + 
 }
 
 /// Puts the listing of a task, and each view to the side sink, as one piece of text: `views` views in each phase.
-pub(crate) fn put_texts<
-    R: Threads + Sync,
-    K: Sink + Send,
-    W: Sink + Send,
-    X: ViewText + Sync,
-    G: Gate + Sync,
->(
+pub(crate) fn put_texts<R: Threads + Sync, K: Sink + Send, W: Sink + Send, G: Gate + Sync>(
     rt: &R,
     alloc: Global,
     task: &Task,
     plan: Plan,
     views: u32,
-    text: &X,
     out: &mut K,
     side: &mut W,
     gate: &G,
@@ -79,13 +71,11 @@ pub(crate) fn put_texts<
     requires plan { IsPlan plan }
     requires rounds { plan.rounds ≡ task.now.rounds }
     requires plain { task.now.quick ≡ false }
-    requires text { X.text text.now ≡ lines_of task.now.decks.first.grid }
-    ensures puts { (start : _) (puts : List Put) → K.leads start puts out.old →
-        (more : List Put) × K.leads start (puts ++ more) out.new
-        × IsRun (IsListingBeside (Rose (W.seen side.old).faults (W.seen side.new).faults) task.now) (IsCutListing task.now) result more
-        × (result ≡ Status.Ok → IsWatched task.now views (λ puts. W.leads side.old puts side.new)) }
+    ensures puts { PutsMore K.leads out.old out.new (λ more.
+        IsRun (IsListingBeside (Rose (W.seen side.old).faults (W.seen side.new).faults) task.now) (IsCutListing task.now) result more
+        × (result ≡ Status.Ok → IsWatched task.now views (λ puts. W.leads side.old puts side.new))) }
     ensures side { ViewPutsOf task.now (λ puts. W.leads side.old puts side.new) (Some views) }
 {
-    let mut viewer = SinkViewer::new(alloc, side, text);
+    let mut viewer = SinkViewer::new(alloc, side, &task.decks.first.grid);
     put_shown(rt, alloc, task, plan, views, &mut viewer, out, gate)
 }

@@ -1,9 +1,10 @@
 // The deck of a model of the folder.
-ghost use Rattle.std.specs.Prelude.{List, ◌++◌, Some};
-ghost use Rattle.outside.specs.{folder_name, FileSet, Put};
+ghost use Rattle.std.specs.Prelude.{Some};
+ghost use Rattle.outside.specs.{folder_name, FileSet};
 ghost use Rattle.model_types.specs.{HasSize};
-ghost use Rattle.run_puts.specs.{Text, IsRun, NeverCut};
-ghost use Rattle.engine.specs.{IsDeck, case_asked, Write, Answers};
+ghost use Rattle.run_puts.specs.{IsRun, NeverCut, PutsMore};
+ghost use Rattle.command_line.specs.{Write};
+ghost use Rattle.engine.specs.{IsDeck, case_of, Answers};
 
 use crate::ending::end_reading;
 use crate::two_decks::read_decks;
@@ -16,8 +17,7 @@ use std::alloc::Global;
 /// Puts the deck of a model as one piece.
 pub(crate) fn put_deck<K: Sink>(alloc: Global, model: &FlowModel, out: &mut K) -> Status
     requires { HasSize model.now.grid }
-    ensures { (start : _) (puts : List Put) → K.leads start puts out.old →
-        (more : List Put) × K.leads start (puts ++ more) out.new × IsRun (IsDeck model.now) NeverCut result more }
+    ensures { PutsMore K.leads out.old out.new (IsRun (IsDeck model.now) NeverCut result) }
 {
     let text = write_deck(alloc, model);
     put_line(out, text, Status::Ok)
@@ -33,10 +33,8 @@ pub(crate) fn write<F: Folder, K: Sink>(
 ) -> Status
     requires name { F.may folder.old (folder_name name.now) }
     ensures since { (files : FileSet) → F.agrees folder.new files → F.agrees folder.old files }
-    ensures answers { (start : _) (puts : List Put) → K.leads start puts out.old →
-        (more : List Put) × K.leads start (puts ++ more) out.new
-        × ((files : FileSet) → F.agrees folder.new files →
-        Answers (case_asked (Some (Write limits name.now)) files) (F.faults folder.old) (F.faults folder.new) result more) }
+    ensures answers { PutsMore K.leads out.old out.new (λ more. (files : FileSet) → F.agrees folder.new files →
+        Answers (case_of (Some (Write limits name.now)) files) (F.faults folder.old) (F.faults folder.new) result more) }
 {
     match read_decks(alloc, limits, folder, name, None) {
         Ok(decks) => {

@@ -1,6 +1,6 @@
 -- Names that several proofs of this crate cite, of the crates below and of its own definitions, passed on from one place. Declares nothing.
-pub use Rattle.std.proofs.Common.{All, Bool, Contains, List, Option, [], ap, arith, cond, get_or, inl, inr, length, map, mul-pos, mul_comm, nat_eq, not, pos}
-pub use Rattle.std.proofs.Common.{refl, subst, suc, sym, true, zero, ℕ, ℤ, ◌*ℤ◌, ◌*◌, ◌-◌, ◌<◌, ◌∙◌, ◌∷◌, ◌≡◌}
+pub use Rattle.std.proofs.Common.{All, Contains, List, Option, [], ap, arith, cond, get_or, inl, inr, length, map, mul-pos, mul_comm, nat_eq, not, pos, refl}
+pub use Rattle.std.proofs.Common.{subst, suc, sym, true, zero, ℕ, ℤ, ◌*ℤ◌, ◌*◌, ◌-◌, ◌<◌, ◌∙◌, ◌∷◌, ◌≡◌}
 pub use Rattle.std.proofs.lemmas.Bool.{and_parts, cases_Bool, cases_eq, cases_lt, eq-eqb, ne_eqb, not-true}
 pub use Rattle.std.proofs.lemmas.List.Elements.{All-cons, All-head, All-nil, All-tail}
 pub use Rattle.std.specs.Prelude.{None, Some}
@@ -17,11 +17,11 @@ pub use Rattle.deck_problems.specs.{AreDecks, EnclosesSteps, HoldsOf, IsBefore, 
 pub use Rattle.deck_problems.specs.declared.decks.Decks.{Decks}
 pub use Rattle.deck_span.specs.{IsBetween, SolvesBetweenFrom}
 pub use Rattle.exact_histories.specs.{AreSame, AreSameHeads, Choice, ChoicesHaveAHistory, ChoicesHaveOne, ChoicesHaveOneHistory, ChoicesLieBetween}
-pub use Rattle.exact_histories.specs.{HasOneHistory, HaveOneBy, RunsHaveAHistory, RunsHaveOneHistory, SolvesChoicesFrom}
+pub use Rattle.exact_histories.specs.{HasOneHistory, HaveOneBy, HaveOneHistory, RunsHaveAHistory, RunsHaveOneHistory, SolvesChoicesFrom}
 pub use Rattle.exact_solutions.specs.{HasAtMostOne, IsAnchoredAbove, IsHeldAbove}
 pub use Rattle.flow_equations.specs.{SolvesAt, SolvesFrom, exact_cell, exact_fixed, exact_step, heads_of, variable_heads}
-pub use Rattle.model_types.specs.{FixedSource, FromStorage, HasSize, IsModel, ToConstant, ToGeneral, cell_count, constant_head, fixed_sources, index_of}
-pub use Rattle.model_types.specs.{is_active, is_constant, is_variable, start_head, times, variable_cells}
+pub use Rattle.model_types.specs.{FixedSource, FromStorage, HasSize, ToConstant, ToGeneral, cell_count, constant_head, fixed_sources, index_of, is_active}
+pub use Rattle.model_types.specs.{is_constant, is_variable, start_head, times, variable_cells}
 pub use Rattle.model_types.specs.declared.limits.Limits.{Limits}
 pub use Rattle.model_types.specs.declared.model.FlowModel.{FlowModel}
 pub use Rattle.model_types.specs.declared.time_steps.TimeStep.{TimeStep}

@@ -2,7 +2,7 @@
 ghost use Rattle.std.specs.Prelude.{◌≡◌, ◌⊎◌, List, ◌++◌, IfOk, IfErr, None, Some};
 ghost use Rattle.outside.specs.{Put};
 ghost use Rattle.outside.specs.declared.traits.SinkError.TheVariants.{Write};
-ghost use Rattle.run_puts.specs.{IsEnd, IsPut, IsRun};
+ghost use Rattle.run_puts.specs.{IsEnd, IsPut, IsRun, PutsMore};
 ghost use Rattle.listing_run.specs.{IsListingBeside, IsCutListing, last_line, status_of, AllSettledBy, ReachesFirst, RestsOrSettlesFirst, IsAtFirst};
 ghost use Rattle.listing_run.specs.{IsNextText, IsStopEnd, IsTask, IsWalk, StopsAt, times_left, pairs_of};
 
@@ -97,10 +97,9 @@ fn put_walk<R: Threads + Sync, K: Sink + Send, S: StepSettler>(
     requires task { IsTask task.now }
     requires walk { IsWalk task.now steps.old }
     requires first { IsAtFirst task.now steps.old }
-    ensures puts { (start : _) (puts : List Put) → K.leads start puts out.old →
-        (more : List Put) × K.leads start (puts ++ more) out.new
-        × IsRun (IsListingBeside (S.stop settler.new ≡ Some Write) task.now) (IsCutListing task.now) result more
-        × (result ≡ Status.Ok → AllSettledBy S.begins S.leads S.stop task.now settler.old settler.new) }
+    ensures puts { PutsMore K.leads out.old out.new (λ more.
+        IsRun (IsListingBeside (S.stop settler.new ≡ Some Write) task.now) (IsCutListing task.now) result more
+        × (result ≡ Status.Ok → AllSettledBy S.begins S.leads S.stop task.now settler.old settler.new)) }
     ensures reaches { (settler.new ≡ settler.old) ⊎ ReachesFirst S.begins S.leads S.stop task.now settler.old settler.new }
 {
     let Ok(mut pending) = write_first(
@@ -155,10 +154,9 @@ pub fn put_steps<R: Threads + Sync, K: Sink + Send, S: StepSettler>(
     requires pairs { S.pairs ≡ pairs_of task.now }
     requires goes_on { S.stop settler.old ≡ None }
     requires task { IsTask task.now }
-    ensures puts { (start : _) (puts : List Put) → K.leads start puts out.old →
-        (more : List Put) × K.leads start (puts ++ more) out.new
-        × IsRun (IsListingBeside (S.stop settler.new ≡ Some Write) task.now) (IsCutListing task.now) result more
-        × (result ≡ Status.Ok → AllSettledBy S.begins S.leads S.stop task.now settler.old settler.new) }
+    ensures puts { PutsMore K.leads out.old out.new (λ more.
+        IsRun (IsListingBeside (S.stop settler.new ≡ Some Write) task.now) (IsCutListing task.now) result more
+        × (result ≡ Status.Ok → AllSettledBy S.begins S.leads S.stop task.now settler.old settler.new)) }
     // Whatever the status: the settler was told the first times in turn, and each problem was that of its step, from the heads
     // of the step before it.
     ensures reaches { (settler.new ≡ settler.old) ⊎ ReachesFirst S.begins S.leads S.stop task.now settler.old settler.new }

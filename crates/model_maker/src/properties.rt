@@ -1,6 +1,6 @@
 // The file of the layers' properties.
 ghost use Rattle.std.specs.Prelude.{◌≡◌, ◌*◌, ◌<◌, ◌≤◌, ◌++◌, codes, IfOk};
-ghost use Rattle.model_maker.specs.{after, next_state, gap, hk_row, hk_text, layer_text, lpf_text, texts_below, drawn};
+ghost use Rattle.model_maker.specs.Files.{after, next_state, gap, hk_row, hk_text, layer_text, lpf_text, texts_below, drawn};
 
 use fixed_text::push_number;
 use std::alloc::{AllocError, Global};

@@ -1,5 +1,5 @@
 pub mod Statuses
 pub mod Runs
-pub use Rattle.run_puts.specs.Runs.{Begins, IsEnd, IsLast, IsPut, IsRun, IsTail, IsWanting, NeverCut, Text, all_due, cut, early, end_line, failed, memory_put}
-pub use Rattle.run_puts.specs.Runs.{nothing, read_fault_line, sink_wanting, status_after, wanting, whole}
+pub use Rattle.run_puts.specs.Runs.{Begins, IsEnd, IsLast, IsPut, IsRun, IsTail, IsWanting, NeverCut, PutsMore, Text, all_due, cut, early, end_line, failed}
+pub use Rattle.run_puts.specs.Runs.{memory_put, nothing, read_fault_line, sink_wanting, status_after, wanting, whole}
 pub use Rattle.run_puts.specs.Statuses.{Agree, IsUnfinished, code_of}

@@ -67,6 +67,10 @@ IsPut piece (Some end) puts = (after : List Text) → IsTail (piece ∷ after) e
 abbrev pub IsLast : Text → Status → Status → List Put → Type 0
 IsLast line meant end puts = ((end ≡ meant) × (puts ≡ taken line ∷ [])) ⊎ IsTail (line ∷ []) end puts
 
+-- Puts that led to the sink as it was before lead on, by more of which this holds, to the sink as it is after.
+abbrev pub PutsMore : {S : Type 0} → (S → List Put → S → Type 0) → S → S → (List Put → Type 0) → Type 0
+PutsMore leads old new holds = (start : _) (puts : List Put) → leads start puts old → (more : List Put) × leads start (puts ++ more) new × holds more
+
 -- the puts of an end because memory ran out
 abbrev pub IsWanting : Status → List Put → Type 0
 IsWanting end puts = (answer : Result (Unit {0}) SinkError) × (end ≡ status_after answer) × (puts ≡ memory_put answer ∷ [])

@@ -1,6 +1,5 @@
-ghost use Rattle.std.specs.Prelude.{List, ◌++◌, MatchResult, ◌≡◌};
-ghost use Rattle.outside.specs.{Put};
-ghost use Rattle.run_puts.specs.{IsLast, IsPut, IsWanting, code_of};
+ghost use Rattle.std.specs.Prelude.{MatchResult, ◌≡◌};
+ghost use Rattle.run_puts.specs.{IsLast, IsPut, IsWanting, code_of, PutsMore};
 
 use outside::{Refusal, Sink, SinkError};
 use std::alloc::AllocError;
@@ -8,8 +7,7 @@ use step_problem::{NoBound, Place};
 
 /// Puts the line MEMORY once, and ends the run.
 pub fn put_memory<K: Sink>(out: &mut K) -> Status
-    ensures { (start : _) (puts : List Put) → K.leads start puts out.old →
-        (more : List Put) × K.leads start (puts ++ more) out.new × IsWanting result more }
+    ensures { PutsMore K.leads out.old out.new (IsWanting result) }
 {
     match out.put(b"MEMORY\n") {
         Err(SinkError::Write) => Status::WriteFault,
@@ -20,8 +18,7 @@ pub fn put_memory<K: Sink>(out: &mut K) -> Status
 
 /// Puts a piece. If the result is a status, it ends the run.
 pub fn put_piece<K: Sink>(out: &mut K, piece: &[u8]) -> Option<Status>
-    ensures { (start : _) (puts : List Put) → K.leads start puts out.old →
-        (more : List Put) × K.leads start (puts ++ more) out.new × IsPut piece.now result more }
+    ensures { PutsMore K.leads out.old out.new (IsPut piece.now result) }
 {
     match out.put(piece) {
         Ok(()) => None,
@@ -32,8 +29,7 @@ pub fn put_piece<K: Sink>(out: &mut K, piece: &[u8]) -> Option<Status>
 
 /// Puts the last line of a run, which then ends with the status `meant`.
 pub fn put_last<K: Sink>(out: &mut K, line: &[u8], meant: Status) -> Status
-    ensures { (start : _) (puts : List Put) → K.leads start puts out.old →
-        (more : List Put) × K.leads start (puts ++ more) out.new × IsLast line.now meant result more }
+    ensures { PutsMore K.leads out.old out.new (IsLast line.now meant result) }
 {
     match put_piece(out, line) {
         None => meant,
@@ -43,9 +39,7 @@ pub fn put_last<K: Sink>(out: &mut K, line: &[u8], meant: Status) -> Status
 
 /// Puts the last line of a run, or the line MEMORY if there was no memory for it.
 pub fn put_line<K: Sink>(out: &mut K, line: Result<Vec<u8>, AllocError>, meant: Status) -> Status
-    ensures { (start : _) (puts : List Put) → K.leads start puts out.old →
-        (more : List Put) × K.leads start (puts ++ more) out.new
-        × MatchResult line (λ text. IsLast text.items meant result more) (λ _. IsWanting result more) }
+    ensures { PutsMore K.leads out.old out.new (λ more. MatchResult line (λ text. IsLast text.items meant result more) (λ _. IsWanting result more)) }
 {
     match line {
         Ok(text) => put_last(out, text.as_slice(), meant),

@@ -3,4 +3,4 @@
 
 mod viewer;
 
-pub use viewer::{SinkViewer, ViewText};
+pub use viewer::SinkViewer;

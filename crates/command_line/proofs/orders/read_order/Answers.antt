@@ -13,10 +13,10 @@ pub returns-in-Some-clause-order : goal.returns-in-Some-clause-order
 returns-in-Some-clause-order c =
     let app : app_of c.in-Ok.command ≡ heads_app = search rules in
     order_at_ok (map (λ w. w.now) c.args.words.now) (app_of c.in-Ok.command) c.in-Ok-try_get_matches_from.matches app c.in-Ok-try_get_matches_from.ensures.kinds c.in-Ok-try_get_matches_from.ensures.matches
-    ∙ sym c.in-Some.ensures.is
+    ∙ sym c.in-Some.ensures
 
 pub returns-clause-usage : goal.returns-clause-usage
 returns-clause-usage c = λ e.
     let app : app_of c.in-Ok.command ≡ heads_app = search rules in
     order_at_ok (map (λ w. w.now) c.args.words.now) (app_of c.in-Ok.command) c.in-Ok-try_get_matches_from.matches app c.in-Ok-try_get_matches_from.ensures.kinds c.in-Ok-try_get_matches_from.ensures.matches
-    ∙ sym c.in-None.ensures.is
+    ∙ sym c.in-None.ensures

@@ -1,4 +1,4 @@
-use Rattle.engine.proofs.Common.{ℕ, subst, check_of, Answers, to_of, Check, Checking, Some, case_asked, is_some, listing_read}
+use Rattle.engine.proofs.Common.{ℕ, subst, check_of, Answers, text_if, Check, Checking, Some, case_of, is_some, listing_read}
 use Rattle.engine.proofs.DeckEnds.{ends_undecked, to_check}
 use Rattle.engine.proofs.BatchEnds.{file_still}
 use Rattle.engine.proofs.Ends.{read_reads}
@@ -10,7 +10,7 @@ returns-in-Ok-clause-answers g c = λ start puts h.
       m.0,
       m.1,
       λ files agree.
-          let A : ℕ → Type 0 = λ n. Answers (case_asked (Some (Check (check_of c.args.asked) (to_of c.args.asked.to))) files) n (g.F.Folder.faults c.check_decks-status.new.folder) c.check_decks-status.result m.0 in
+          let A : ℕ → Type 0 = λ n. Answers (case_of (Some (Check (check_of c.args.asked) (text_if c.args.asked.to))) files) n (g.F.Folder.faults c.check_decks-status.new.folder) c.check_decks-status.result m.0 in
           subst A c.in-Ok.ensures.folder.counts (m.2 files agree (c.in-Ok.ensures.reads files (c.check_decks-status.ensures.since files agree))),
     )
 
@@ -18,7 +18,7 @@ pub returns-in-Err-clause-answers : goal.returns-in-Err-clause-answers
 returns-in-Err-clause-answers g c = λ start puts h.
     let m = c.end_reading.ensures start puts h in
     let asked = check_of c.args.asked in
-    let to = to_of c.args.asked.to in (
+    let to = text_if c.args.asked.to in (
       m.0,
       m.1,
       λ files agree. ends_undecked asked.limits asked.name to files (to_check files asked to) (g.F.Folder.faults c.args.folder.now) _ c.end_reading.result m.0

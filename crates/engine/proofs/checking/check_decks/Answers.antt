@@ -1,10 +1,10 @@
-use Rattle.engine.proofs.Common.{◌≡◌, ◌∙◌, Bool, Option, None, Some, Ok, Err, Text, is_some, refl, subst, check_of, to_of, Checking, IsReading, ZonedListing}
-use Rattle.engine.proofs.Common.{inl, listing_read, Bor}
+use Rattle.engine.proofs.Common.{◌≡◌, ◌∙◌, Bool, Option, None, Some, Ok, Err, Text, is_some, refl, subst, check_of, text_if, Checking, IsReading, ZonedListing}
+use Rattle.engine.proofs.Common.{listing_read, Bor}
 use Rattle.engine.proofs.DeckEnds.{ends_decked, to_check}
 use Rattle.engine.proofs.Ends.{ends_defined, ends_read, ends_unread}
 use Rattle.engine.proofs.checking.check_decks.Goals as goal
 
-is_second : (to : Option (Bor Text)) → is_some to ≡ is_some (to_of to)
+is_second : (to : Option (Bor Text)) → is_some to ≡ is_some (text_if to)
 is_second None = refl
 is_second (Some last) = refl
 
@@ -12,7 +12,7 @@ pub returns-in-Ok-clause-answers : goal.returns-in-Ok-clause-answers
 returns-in-Ok-clause-answers g c = λ start puts h.
     let m = c.put_check.ensures start puts h in
     let asked = check_of c.args.asked in
-    let to = to_of c.args.asked.to in
+    let to = text_if c.args.asked.to in
     let d = c.args.decks.now in
     let listing = c.in-Ok.listing in
     let n = g.F.Folder.faults c.args.folder.now in (
@@ -22,14 +22,14 @@ returns-in-Ok-clause-answers g c = λ start puts h.
           let L : Bool → Type 0 = λ b. listing_read b files asked d.first ≡ Ok listing in
           ends_decked asked.limits asked.name to files (to_check files asked to) n _ c.put_check.result m.0 d read
           (ends_read n _ c.put_check.result m.0 (listing_read (is_some to) files asked d.first) (Checking asked.limits d asked.digits) listing (subst L (c.is_some.ensures ∙ is_second c.args.asked.to) (c.in-Ok.ensures.reads files agree))
-          (ends_defined (Checking asked.limits d asked.digits listing) n _ c.put_check.result m.0 m.2 (inl (c.requires.decks, c.in-Ok.ensures.listed)))),
+          (ends_defined (Checking asked.limits d asked.digits listing) n _ c.put_check.result m.0 m.2 (c.requires.decks, c.in-Ok.ensures.listed))),
     )
 
 pub returns-in-Err-clause-answers : goal.returns-in-Err-clause-answers
 returns-in-Err-clause-answers g c = λ start puts h.
     let m = c.end_reading.ensures start puts h in
     let asked = check_of c.args.asked in
-    let to = to_of c.args.asked.to in
+    let to = text_if c.args.asked.to in
     let d = c.args.decks.now in
     let n = g.F.Folder.faults c.args.folder.now in (
       m.0,

@@ -1,7 +1,6 @@
 use Rattle.engine.proofs.Common.{◌≡◌, ℕ, List, Option, subst, sym, pairs_in, AreListed, NeverCut, lacks_at_first, IsVerdict, ListingEncloses, IsCheck, lone}
-use Rattle.engine.proofs.Common.{refl, Limits, Decks, ZonedListing, ListingVerdict, Status, Put, IsEnd, IsRun, verdict_line, verdict_status, listing}
-use Rattle.engine.proofs.Common.{HaveOneHistory}
-use Rattle.check_run.specs.declared.verdict.ListingVerdict.TheVariants.{Certified}
+use Rattle.engine.proofs.Common.{refl, Limits, Decks, ZonedListing, ListingVerdict, Status, Put, IsEnd, IsRun, verdict_line, verdict_status, listing, Certified}
+use Rattle.exact_histories.specs.{HaveOneHistory}
 use Rattle.engine.proofs.checking.put_check.Goals as goal
 
 puts_verdict : (limits : Limits) (d : Decks) (s : ℕ) (listing : ZonedListing) (v : ListingVerdict) (end : Status) (puts : List Put) → IsVerdict limits d s listing.zones listing.steps v → (v ≡ Certified → ListingEncloses d s listing.zones listing.steps) → (v ≡ Certified → HaveOneHistory d) →

@@ -1,4 +1,4 @@
-use Rattle.engine.proofs.Common.{List, ℕ, subst, Rose, Put, asked_of, AnswersBeside, to_of, Listing, Run, Some, case_asked, decks_task, zones_read}
+use Rattle.engine.proofs.Common.{List, ℕ, subst, Rose, Put, asked_of, AnswersBeside, text_if, Listing, Run, Some, case_of, decks_task, zones_read}
 use Rattle.engine.proofs.Beside.{not_ok, reading_not_ok}
 use Rattle.engine.proofs.DeckEnds.{ends_undecked, to_list}
 use Rattle.engine.proofs.BatchEnds.{file_still}
@@ -13,7 +13,7 @@ returns-in-Ok-clause-answers g c = λ start puts h.
       m.0,
       m.1,
       λ files agree.
-          let A : ℕ → Type 0 = λ n. AnswersBeside (case_asked (Some (Run (asked_of c.args.asked) (to_of c.args.asked.to))) files) c.args.asked.watch n (g.F.Folder.faults c.list_decks.new.folder) failed leads c.list_decks.result m.0 in
+          let A : ℕ → Type 0 = λ n. AnswersBeside (case_of (Some (Run (asked_of c.args.asked) (text_if c.args.asked.to))) files) c.args.asked.watch n (g.F.Folder.faults c.list_decks.new.folder) failed leads c.list_decks.result m.0 in
           subst A c.in-Ok.ensures.folder.counts (m.2 files agree (c.in-Ok.ensures.reads files (c.list_decks.ensures.since files agree))),
     )
 
@@ -21,11 +21,11 @@ pub returns-in-Err-clause-answers : goal.returns-in-Err-clause-answers
 returns-in-Err-clause-answers g c = λ start puts h.
     let m = c.end_reading.ensures start puts h in
     let asked = asked_of c.args.asked in
-    let to = to_of c.args.asked.to in
+    let to = text_if c.args.asked.to in
     let n = g.F.Folder.faults c.args.folder.now in (
       m.0,
       m.1,
-      λ files agree. not_ok n _ _ (λ puts. g.W.Sink.leads c.args.side.now puts c.args.side.now) c.end_reading.result m.0 (case_asked (Some (Run asked to)) files) c.args.asked.watch (((g.met.W.Sink g.world.𝓛 g.world.𝓜 g.world.𝓡 ((λ s x. x), (λ x. x), (λ x. x), λ x. x))).rests c.args.side.now)
+      λ files agree. not_ok n _ _ (λ puts. g.W.Sink.leads c.args.side.now puts c.args.side.now) c.end_reading.result m.0 (case_of (Some (Run asked to)) files) c.args.asked.watch (((g.met.W.Sink g.world.𝓛 g.world.𝓜 g.world.𝓡 ((λ s x. x), (λ x. x), (λ x. x), λ x. x))).rests c.args.side.now)
           (ends_undecked asked.limits asked.name to files (to_list files asked) n _ c.end_reading.result m.0 (λ d. read_reads (λ zones. Listing (decks_task asked d zones)) (λ z. tt) (zones_read files asked.zones d.first)) c.in-Err.fault (c.in-Err.ensures.reads files agree) c.in-Err.ensures.folder.counts m.2)
           (reading_not_ok c.in-Err.fault c.end_reading.result m.0 m.2),
     )

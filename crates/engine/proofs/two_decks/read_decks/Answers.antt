@@ -1,4 +1,4 @@
-use Rattle.engine.proofs.Common.{Bor, Option, Text, Err, subst, sym, AreDecksAs, err_from_is_err_and, second_by, to_of}
+use Rattle.engine.proofs.Common.{Bor, Option, Text, Err, subst, sym, AreDecksAs, err_from_is_err_and, second_by, text_if}
 use Rattle.engine.proofs.Readings.{compared_counts, compared_decks, compared_valid, one_read, reads_both, stops_after, unread_first, unread_second}
 use Rattle.engine.proofs.two_decks.read_decks.Goals as goal
 
@@ -8,11 +8,11 @@ read_second-requires g c = record { may = c.in_ok-first.ensures.folder.still _ (
 pub returns-in_err-first-clause-reads : goal.returns-in_err-first-clause-reads
 returns-in_err-first-clause-reads g c =
     let p = err_from_is_err_and c.from_residual.result c.from_residual.ensures.1 in
-    λ files agree. rw (p.1, p.2) (unread_first c.args.limits c.args.name.now (to_of c.args.to) files c.in_err-first.field-0.0 (c.in_err-first.ensures.reads files agree))
+    λ files agree. rw (p.1, p.2) (unread_first c.args.limits c.args.name.now (text_if c.args.to) files c.in_err-first.field-0.0 (c.in_err-first.ensures.reads files agree))
 
 pub returns-in-Err-clause-reads : goal.returns-in-Err-clause-reads
 returns-in-Err-clause-reads g c = λ files agree.
-    let P : Option (Bor Text) → Type 0 = λ o. AreDecksAs c.args.limits c.args.name.now (to_of o) files (Err c.in-Err.fault) in
+    let P : Option (Bor Text) → Type 0 = λ o. AreDecksAs c.args.limits c.args.name.now (text_if o) files (Err c.in-Err.fault) in
     subst P (sym c.in-Some.is) (unread_second c.args.limits c.args.name.now files c.in_ok-first.first (c.in_ok-first.ensures.reads files (c.read_second.ensures.folder.since files agree)) c.in-Some.to.now c.in-Err.fault (c.in-Err.ensures.reads files agree))
 
 pub returns-in_default-clause-reads : goal.returns-in_default-clause-reads

@@ -29,7 +29,7 @@ returns-clause-puts g c = λ start puts h.
     (λ s t period step k b. ((b.0 ∙ k.0, b.1 ∙ k.1), b.2))
     (λ s t p b ended k l. ((l.0 ∙ k.0, l.1 ∙ k.1), (let P : ℕ → Type 0 = λ n. Shows g.V.Viewer.viewed g.V.Viewer.stopped n s.viewer.now p b ended t.viewer.now in subst P k.0 l.2)))
     (λ s. refl) c.args.task.now first now keeps in
-    (r.0, r.1, rw (c.viewer-1.given.1 name) r.2, λ e. rw (sym c.new-settler.ensures.viewer.1, c.viewer-1.given.1 name) (all (r.3 e)))
+    (r.0, r.1, (rw (c.viewer-1.given.1 name) r.2.0, λ e. rw (sym c.new-settler.ensures.viewer.1, c.viewer-1.given.1 name) (all (r.2.1 e))))
 
 pub put_steps-requires-clause-pairs : goal.put_steps-requires-clause-pairs
 put_steps-requires-clause-pairs g c = λ κs h. rw c.requires.plain refl

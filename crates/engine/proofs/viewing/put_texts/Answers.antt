@@ -1,31 +1,33 @@
-use Rattle.engine.proofs.Common.{◌≡◌, ◌∙◌, ap, sym, Some, Rose, beside_by}
+use Rattle.engine.proofs.Common.{◌≡◌, ◌∙◌, sym, Some, Rose, beside_by}
 use Rattle.engine.proofs.SideViews.{puts_of_side, same_sink, side_failed, views_of_all}
 use Rattle.engine.proofs.viewing.put_texts.Goals as goal
 
 pub returns-clause-side : goal.returns-clause-side
 returns-clause-side g c =
-    let leads = g.W.Sink.leads in
+    let sink = g.W.Sink in
     let k = c.args.task.now in
     let first = c.new-viewer.result in
     let now = c.put_shown.new.viewer in
     let starts = ((g.met.W.Sink g.world.𝓛 g.world.𝓜 g.world.𝓡 ((λ s x. x), (λ x. x), (λ x. x), λ x. x))).rests in
-    let name = sym c.new-viewer.ensures.sink.0 ∙ sym (same_sink leads g.X.ViewText.text c.args.views k first now c.put_shown.ensures.reaches) in
-    let fits = ap g.X.ViewText.text c.new-viewer.ensures.text ∙ c.requires.text in
-    rw (sym c.new-viewer.ensures.sink.1, c.side-1.given.1 name) (puts_of_side leads g.X.ViewText.text starts k c.args.views first now fits c.new-viewer.ensures.stop c.put_shown.ensures.reaches)
+    let name = sym c.new-viewer.ensures.sink.0 ∙ sym (same_sink sink c.args.views k first now c.put_shown.ensures.reaches) in
+    let fits = c.new-viewer.ensures.grid in
+    rw (sym c.new-viewer.ensures.sink.1, c.side-1.given.1 name) (puts_of_side sink starts k c.args.views first now fits c.new-viewer.ensures.stop c.put_shown.ensures.reaches)
 
 pub returns-clause-puts : goal.returns-clause-puts
 returns-clause-puts g c = λ start puts h.
-    let leads = g.W.Sink.leads in
+    let sink = g.W.Sink in
     let k = c.args.task.now in
     let first = c.new-viewer.result in
     let now = c.put_shown.new.viewer in
     let law = g.met.W.Sink g.world.𝓛 g.world.𝓜 g.world.𝓡 ((λ s x. x), (λ x. x), (λ x. x), λ x. x) in
-    let name = sym c.new-viewer.ensures.sink.0 ∙ sym (same_sink leads g.X.ViewText.text c.args.views k first now c.put_shown.ensures.reaches) in
-    let fits = ap g.X.ViewText.text c.new-viewer.ensures.text ∙ c.requires.text in
+    let name = sym c.new-viewer.ensures.sink.0 ∙ sym (same_sink sink c.args.views k first now c.put_shown.ensures.reaches) in
+    let fits = c.new-viewer.ensures.grid in
     let r = c.put_shown.ensures.puts start puts h in (
       r.0,
       r.1,
-      rw (sym c.new-viewer.ensures.sink.1, c.side-1.given.1 name) (beside_by (now.stop ≡ Some _) (Rose (g.W.Sink.seen first.sink.now).faults (g.W.Sink.seen now.sink.now).faults) k
-          (λ wrote. side_failed leads g.X.ViewText.text law.rests k c.args.views first now fits c.new-viewer.ensures.stop g.W.Sink.seen law.tells c.put_shown.ensures.reaches wrote) c.put_shown.result r.0 r.2),
-      λ e. rw (sym c.new-viewer.ensures.sink.1, c.side-1.given.1 name) (views_of_all leads g.X.ViewText.text law.rests k c.args.views first now fits c.new-viewer.ensures.stop (r.3 e)),
+      (
+        rw (sym c.new-viewer.ensures.sink.1, c.side-1.given.1 name) (beside_by (now.stop ≡ Some _) (Rose (g.W.Sink.seen first.sink.now).faults (g.W.Sink.seen now.sink.now).faults) k
+            (λ wrote. side_failed sink law.rests k c.args.views first now fits c.new-viewer.ensures.stop g.W.Sink.seen law.tells c.put_shown.ensures.reaches wrote) c.put_shown.result r.0 r.2.0),
+        λ e. rw (sym c.new-viewer.ensures.sink.1, c.side-1.given.1 name) (views_of_all sink law.rests k c.args.views first now fits c.new-viewer.ensures.stop (r.2.1 e)),
+      ),
     )

@@ -1,4 +1,4 @@
-use Rattle.engine.proofs.Common.{None, Writing, inl}
+use Rattle.engine.proofs.Common.{None, Writing}
 use Rattle.engine.proofs.DeckEnds.{ends_undecked, to_write, ends_decked}
 use Rattle.engine.proofs.Ends.{ends_defined}
 use Rattle.engine.proofs.writing.write.Goals as goal
@@ -11,7 +11,7 @@ returns-in-Ok-clause-answers g c = λ start puts h.
       m.0,
       m.1,
       λ files agree. ends_decked c.args.limits c.args.name.now None files to_write n _ c.put_deck-status.result m.0 d (c.in-Ok.ensures.reads files agree)
-          (ends_defined (Writing d.first) n _ c.put_deck-status.result m.0 m.2 (inl c.in-Ok.ensures.decks.first)),
+          (ends_defined (Writing d.first) n _ c.put_deck-status.result m.0 m.2 c.in-Ok.ensures.decks.first),
     )
 
 pub returns-in-Err-clause-answers : goal.returns-in-Err-clause-answers

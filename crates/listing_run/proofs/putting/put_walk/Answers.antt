@@ -11,7 +11,7 @@ use Rattle.listing_run.proofs.putting.put_walk.Goals as goal
 pub returns-in_default-clause-puts : goal.returns-in_default-clause-puts
 returns-in_default-clause-puts g c = λ start puts h.
     let m = c.put_memory.ensures start puts h in
-    (m.0, m.1, lacks_at_first (IsListingBeside (g.S.StepSettler.stop c.args.settler.now ≡ Some Write) c.args.task.now) (IsCutListing c.args.task.now) c.put_memory.result m.0 m.2, λ e. absurd (wanting_not_ok c.put_memory.result m.0 m.2 e))
+    (m.0, m.1, (lacks_at_first (IsListingBeside (g.S.StepSettler.stop c.args.settler.now ≡ Some Write) c.args.task.now) (IsCutListing c.args.task.now) c.put_memory.result m.0 m.2, λ e. absurd (wanting_not_ok c.put_memory.result m.0 m.2 e)))
 
 pub returns-in_default-clause-reaches : goal.returns-in_default-clause-reaches
 returns-in_default-clause-reaches g c = inl refl
@@ -35,8 +35,7 @@ returns-in-Some-put-clause-puts g c = λ start puts h.
     let was = put_was c.as_slice.result.now c.loop-at.pending.items _ (Some c.in-Some-put.status) p.0 c.as_slice.ensures.value c.in-Some-put.is p.2 in (
       i.0 ++ p.0,
       joined (λ s. g.K.Sink.leads start s c.put_while_solving-put.new.out) puts i.0 p.0 p.1,
-      beside _ c.args.task.now c.in-Some-put.status (i.0 ++ p.0) (ends_at_piece c.args.task.now c.loop-at.steps c.loop-at.pending.items i.0 p.0 c.in-Some-put.status i.2 was),
-      λ e. absurd (put_not_ok c.loop-at.pending.items c.in-Some-put.status p.0 was e),
+      (beside _ c.args.task.now c.in-Some-put.status (i.0 ++ p.0) (ends_at_piece c.args.task.now c.loop-at.steps c.loop-at.pending.items i.0 p.0 c.in-Some-put.status i.2 was), λ e. absurd (put_not_ok c.loop-at.pending.items c.in-Some-put.status p.0 was e)),
     )
 
 pub returns-in-Some-put-clause-reaches : goal.returns-in-Some-put-clause-reaches
@@ -50,8 +49,7 @@ returns-in-Some-stop-clause-puts g c = λ start puts h.
     let was : p.0 ≡ taken c.loop-at.pending.items ∷ [] = put_was c.as_slice.result.now c.loop-at.pending.items _ None p.0 c.as_slice.ensures.value c.in_default-put.is p.2 in (
       i.0 ++ p.0 ++ m.0,
       joined_thrice (λ s. g.K.Sink.leads start s c.end_stopped.new.out) puts i.0 p.0 m.0 m.1,
-      ends_stopped (g.S.StepSettler.stop c.put_while_solving-put.new.settler ≡ Some Write) c.args.task.now c.in-Some-stop.error c.loop-at.steps c.loop-at.pending.items i.0 p.0 m.0 c.end_stopped.result i.2 was (λ w. sym c.stop.ensures ∙ c.in-Some-stop.is ∙ ap Some w) m.2,
-      λ e. absurd (stop_end_not_ok c.in-Some-stop.error c.end_stopped.result m.0 m.2 e),
+      (ends_stopped (g.S.StepSettler.stop c.put_while_solving-put.new.settler ≡ Some Write) c.args.task.now c.in-Some-stop.error c.loop-at.steps c.loop-at.pending.items i.0 p.0 m.0 c.end_stopped.result i.2 was (λ w. sym c.stop.ensures ∙ c.in-Some-stop.is ∙ ap Some w) m.2, λ e. absurd (stop_end_not_ok c.in-Some-stop.error c.end_stopped.result m.0 m.2 e)),
     )
 
 pub returns-in-Some-stop-clause-reaches : goal.returns-in-Some-stop-clause-reaches
@@ -85,8 +83,7 @@ returns-in-Err-End-clause-puts g c = λ start puts h.
     let was : p.0 ≡ taken c.loop-at.pending.items ∷ [] = put_was c.as_slice.result.now c.loop-at.pending.items _ None p.0 c.as_slice.ensures.value c.in_default-put.is p.2 in (
       i.0 ++ p.0 ++ m.0,
       joined_thrice (λ s. g.K.Sink.leads start s c.put_end.new.out) puts i.0 p.0 m.0 m.1,
-      beside _ c.args.task.now c.put_end.result (i.0 ++ p.0 ++ m.0) (ends_with_line c.args.task.now c.loop-at.steps c.loop-at.pending.items i.0 p.0 c.put_end.result i.2 m.0 c.in-Err-End.end was here m.2),
-      λ e. absurd (end_not_ok c.args.task.now c.loop-at.steps c.in-Some.at (drop (c.loop-at.steps.done + 1) c.loop-at.steps.times) c.in-Err-End.end c.put_end.result m.0 c.in-Some.ensures.left here m.2 e),
+      (beside _ c.args.task.now c.put_end.result (i.0 ++ p.0 ++ m.0) (ends_with_line c.args.task.now c.loop-at.steps c.loop-at.pending.items i.0 p.0 c.put_end.result i.2 m.0 c.in-Err-End.end was here m.2), λ e. absurd (end_not_ok c.args.task.now c.loop-at.steps c.in-Some.at (drop (c.loop-at.steps.done + 1) c.loop-at.steps.times) c.in-Err-End.end c.put_end.result m.0 c.in-Some.ensures.left here m.2 e)),
     )
 
 pub returns-in-Err-End-clause-reaches : goal.returns-in-Err-End-clause-reaches
@@ -100,8 +97,7 @@ returns-in-Err-Memory-clause-puts g c = λ start puts h.
     let was : p.0 ≡ taken c.loop-at.pending.items ∷ [] = put_was c.as_slice.result.now c.loop-at.pending.items _ None p.0 c.as_slice.ensures.value c.in_default-put.is p.2 in (
       i.0 ++ p.0 ++ m.0,
       joined_thrice (λ s. g.K.Sink.leads start s c.put_memory-in-Err-Memory.new.out) puts i.0 p.0 m.0 m.1,
-      beside _ c.args.task.now c.put_memory-in-Err-Memory.result (i.0 ++ p.0 ++ m.0) (ends_wanting c.args.task.now c.loop-at.steps c.loop-at.pending.items i.0 p.0 c.put_memory-in-Err-Memory.result i.2 m.0 was m.2),
-      λ e. absurd (wanting_not_ok c.put_memory-in-Err-Memory.result m.0 m.2 e),
+      (beside _ c.args.task.now c.put_memory-in-Err-Memory.result (i.0 ++ p.0 ++ m.0) (ends_wanting c.args.task.now c.loop-at.steps c.loop-at.pending.items i.0 p.0 c.put_memory-in-Err-Memory.result i.2 m.0 was m.2), λ e. absurd (wanting_not_ok c.put_memory-in-Err-Memory.result m.0 m.2 e)),
     )
 
 pub returns-in-Err-Memory-clause-reaches : goal.returns-in-Err-Memory-clause-reaches
@@ -114,8 +110,7 @@ returns-in-Some-put_piece-clause-puts g c = λ start puts h.
     let was = put_was c.as_slice-2.result.now c.loop-at.pending.items _ (Some c.in-Some-put_piece.status) p.0 c.as_slice-2.ensures.value c.in-Some-put_piece.is p.2 in (
       i.0 ++ p.0,
       joined (λ s. g.K.Sink.leads start s c.put_piece.new.out) puts i.0 p.0 p.1,
-      beside _ c.args.task.now c.in-Some-put_piece.status (i.0 ++ p.0) (ends_at_piece c.args.task.now c.loop-at.steps c.loop-at.pending.items i.0 p.0 c.in-Some-put_piece.status i.2 was),
-      λ e. absurd (put_not_ok c.loop-at.pending.items c.in-Some-put_piece.status p.0 was e),
+      (beside _ c.args.task.now c.in-Some-put_piece.status (i.0 ++ p.0) (ends_at_piece c.args.task.now c.loop-at.steps c.loop-at.pending.items i.0 p.0 c.in-Some-put_piece.status i.2 was), λ e. absurd (put_not_ok c.loop-at.pending.items c.in-Some-put_piece.status p.0 was e)),
     )
 
 pub returns-clause-puts : goal.returns-clause-puts
@@ -130,8 +125,7 @@ returns-clause-puts g c = λ start puts h.
     let E : List TimeStep → Type 0 = λ times. EndsAt k Whole s.heads times in (
       i.0 ++ p.0 ++ m.0,
       joined_thrice (λ s. g.K.Sink.leads start s c.put_end-2.new.out) puts i.0 p.0 m.0 m.1,
-      beside _ k c.put_end-2.result (i.0 ++ p.0 ++ m.0) (ends_with_line k s c.loop-at.pending.items i.0 p.0 c.put_end-2.result i.2 m.0 Whole was (subst E (sym none) tt) m.2),
-      λ e. all_settled g.S.StepSettler.begins g.S.Settler.leads g.S.StepSettler.stop k c.args.settler.now c.loop-at.settler s none c.loop-at.invariant.settled,
+      (beside _ k c.put_end-2.result (i.0 ++ p.0 ++ m.0) (ends_with_line k s c.loop-at.pending.items i.0 p.0 c.put_end-2.result i.2 m.0 Whole was (subst E (sym none) tt) m.2), λ e. all_settled g.S.StepSettler.begins g.S.Settler.leads g.S.StepSettler.stop k c.args.settler.now c.loop-at.settler s none c.loop-at.invariant.settled),
     )
 
 pub returns-in-Some-put_piece-clause-reaches : goal.returns-in-Some-put_piece-clause-reaches

@@ -1,0 +1,75 @@
+// What the words ask for.
+ghost use Rattle.std.specs.Prelude.{◌≤◌, IfSome};
+ghost use Rattle.std.proofs.Props.{props};
+ghost use Rattle.command_line.specs.Ranges.{AreSettlersNumbers, AreTurns, IsMakeable};
+
+use model_types::Limits;
+
+/// What the words ask for.
+#[derive(Clone, Copy)]
+pub enum Order<'a> {
+    Run(RunOrder<'a>),
+    Check(CheckOrder<'a>),
+    Make(MakeOrder),
+    Batch(BatchOrder<'a>),
+    /// The deck of a model, written anew.
+    Write { limits: Limits, name: &'a str },
+}
+
+/// The listing of a model; with `to` that of every model between two. `watch` is the number of views in each phase, if the
+/// heads are viewed; where it is `quick`, a step may have any pair that is a certificate.
+#[derive(Clone, Copy)]
+pub struct RunOrder<'a> {
+    pub limits: Limits,
+    pub name: &'a str,
+    pub to: Option<&'a str>,
+    pub digits: u32,
+    pub workers: u32,
+    pub rounds: u32,
+    pub zones: Option<&'a str>,
+    pub watch: Option<u32>,
+    pub quick: bool,
+    ghost in_range: { (digits ≤ 18) × AreSettlersNumbers workers rounds },
+    ghost watched: { IfSome watch (AreTurns quick) } by { Prim.hlevel props },
+}
+
+/// Whether a listing is certified; with `to` one of every model between two.
+#[derive(Clone, Copy)]
+pub struct CheckOrder<'a> {
+    pub limits: Limits,
+    pub name: &'a str,
+    pub to: Option<&'a str>,
+    pub listing: &'a str,
+    pub digits: u32,
+    pub zones: Option<&'a str>,
+    ghost in_range: { digits ≤ 18 },
+}
+
+/// A model that is made, and its summary.
+#[derive(Clone, Copy)]
+pub struct MakeOrder {
+    pub seed: u32,
+    pub size: u32,
+    ghost in_range: { IsMakeable seed size },
+}
+
+/// The listings of the models that a list names, each by one of the workers.
+#[derive(Clone, Copy)]
+pub struct BatchOrder<'a> {
+    pub limits: Limits,
+    pub list: &'a str,
+    pub digits: u32,
+    pub workers: u32,
+    pub rounds: u32,
+    pub quick: bool,
+    ghost in_range: { (digits ≤ 18) × AreSettlersNumbers workers rounds },
+}
+
+/// Why the words have no order.
+#[derive(Clone, Copy, Debug)]
+pub enum WordsFault {
+    /// They don't form a command.
+    Usage,
+    /// Memory ran out.
+    Memory,
+}
