@@ -3,7 +3,7 @@ ghost use Rattle.std.specs.Prelude.{IfOk};
 ghost use Rattle.cell_relax.specs.{AreWords};
 
 use crate::guess::{Guess, guess_of};
-use crate::half::{HalfGuess, VISITS_OF_NEWTON, half_guess};
+use crate::half::{VISITS_OF_NEWTON, half_guess};
 use crate::linear::Linear;
 use crate::links::Links;
 use crate::newton::{Until, find_balanced};
@@ -15,51 +15,44 @@ use std::alloc::{AllocError, Global};
 use std::thread::{Threads, join};
 use step_problem::{Barrier, Problem, Side};
 
-// Heads near balanced ones, from which a round of Newton's method or two lead to them.
+// Lower heads near balanced ones, from which a round of Newton's method or two lead to them.
 fn near_balanced(
-    side: &OneSide,
+    step: &Step,
     heads: Vec<i64>,
     kept: &mut Option<Linear>,
 ) -> Result<Vec<i64>, AllocError> {
-    let mut work = Work::new(side, VISITS_OF_NEWTON);
+    let side = OneSide::new(step, Side::Low)?;
+    let mut work = Work::new(&side, VISITS_OF_NEWTON);
     find_balanced(&mut work, Until::Near, heads, kept)
 }
 
-// The system of the slopes at these heads, with its room.
-fn linear_with_room(
-    side: &OneSide,
-    heads: &[i64],
-    kept: Option<Linear>,
-) -> Result<Linear, AllocError> {
-    let mut work = Work::new(side, VISITS_OF_NEWTON);
+// The room of the system of the slopes at these upper heads.
+fn find_room(step: &Step, heads: &[i64], kept: &mut Option<Linear>) -> Result<(), AllocError> {
+    let side = OneSide::new(step, Side::High)?;
+    let mut work = Work::new(&side, VISITS_OF_NEWTON);
     let slopes = side.slopes(heads)?;
-    let mut linear = Linear::of(&mut work, slopes.as_slice(), kept)?;
-    linear.room(&mut work)?;
-    Ok(linear)
+    Linear::of(&mut work, slopes.as_slice(), kept)?.room(&mut work)?;
+    Ok(())
 }
 
-// Lower heads near balanced ones, and beside them the room, which serves both sides.
+// Lower heads near balanced ones, and beside them the room, which is for both sides.
 fn near_with_room<R: Threads>(
     rt: &R,
     step: &Step,
-    low: &OneSide,
-    high: &OneSide,
     heads: Vec<i64>,
     linear: &mut Option<Linear>,
     beside: &mut Option<Linear>,
 ) -> Result<Vec<i64>, AllocError> {
     let upper = high_start(step, heads.as_slice(), &None)?;
-    let last = beside.take();
     let (near, found) = join(
         rt,
-        || near_balanced(low, heads, linear),
-        || linear_with_room(high, upper.as_slice(), last),
+        || near_balanced(step, heads, linear),
+        || find_room(step, upper.as_slice(), beside),
     );
-    let found = found?;
-    if let Some(linear) = linear {
-        linear.take_room(&found)?;
+    found?;
+    if let (Some(linear), Some(found)) = (linear, beside) {
+        linear.take_room(found)?;
     }
-    *beside = Some(found);
     near
 }
 
@@ -70,35 +63,24 @@ fn halves_at_once<R: Threads>(
     last: &Option<LastStep>,
     linear: &mut Option<Linear>,
     beside: &mut Option<Linear>,
-) -> Result<(HalfGuess, HalfGuess), AllocError> {
-    let low = OneSide::new(step, Side::Low)?;
-    let high = OneSide::new(step, Side::High)?;
+) -> Result<LastStep, AllocError> {
     let heads = low_start(step, last)?;
     let near = if last.is_none() && step.links.are_nearly_straight() {
-        near_with_room(rt, step, &low, &high, heads, linear, beside)?
+        near_with_room(rt, step, heads, linear, beside)?
     } else {
-        near_balanced(&low, heads, linear)?
+        near_balanced(step, heads, linear)?
     };
     let upper = high_start(step, near.as_slice(), last)?;
     let share = first_share(step.links);
     let (low, high) = join(
         rt,
-        || half_guess(
-            &low,
-            near,
-            share,
-            last.as_ref().map(|last| &last.low),
-            linear,
-        ),
-        || half_guess(
-            &high,
-            upper,
-            share,
-            last.as_ref().map(|last| &last.high),
-            beside,
-        ),
+        || half_guess(step, Side::Low, near, share, last, linear),
+        || half_guess(step, Side::High, upper, share, last, beside),
     );
-    Ok((low?, high?))
+    Ok(LastStep {
+        low: low?,
+        high: high?,
+    })
 }
 
 /// A guess as `guess_heads` makes it, with both sides in two threads: a few rounds of Newton's method for the lower side lead near the
@@ -117,6 +99,7 @@ pub fn guess_beside<'a, R: Threads>(
     let step = Step::new(alloc, p, b, &links, pattern);
     let last = take_last(&mut kept.last, p);
     let (linear, beside) = (&mut kept.linear, &mut kept.beside);
-    let (low, high) = halves_at_once(rt, &step, &last, linear, beside)?;
-    guess_of(alloc, p, low, high, &mut kept.last)
+    let halves = halves_at_once(rt, &step, &last, linear, beside);
+    drop(last);
+    guess_of(&step, kept.last.insert(halves?))
 }

@@ -30,6 +30,15 @@ fn longer_step(step: i64, percent: i64) -> i64 {
     step.saturating_mul(percent) / 100
 }
 
+// A step grows while its share goes on in one direction, and is halved where that turns.
+fn next_step(step: i64, change: i64, is_low: bool) -> i64 {
+    if change != 0 && (change < 0) != is_low {
+        step / 2
+    } else {
+        longer_step(step, GROWTH)
+    }
+}
+
 impl Changes {
     pub const PLACES: i64 = 30;
 
@@ -65,18 +74,10 @@ impl Changes {
         let shortest = (self.longest >> BITS_OF_STEPS).max(1);
         let cells = self.changes.iter_mut().zip(self.steps.iter_mut());
         for ((change, step), is_low) in cells.zip(are_low) {
-            let turns = *change != 0 && (*change < 0) != *is_low;
-            let next = if turns {
-                *step / 2
-            } else {
-                longer_step(*step, GROWTH)
-            };
+            let next = next_step(*step, *change, *is_low);
             *step = next.max(shortest).min(self.longest);
-            *change = if *is_low {
-                0_i64.saturating_sub(*step)
-            } else {
-                *step
-            };
+            let direction = if *is_low { -1 } else { 1 };
+            *change = step.saturating_mul(direction);
         }
         self.longest = (self.longest.saturating_mul(LEFT) >> 10).max(1);
     }

@@ -42,6 +42,7 @@ pub fn descend(
         since = since.saturating_add(sink.fall_through(side)?);
         *heads = sink.heads(side)?;
         work.budget.spend(sink.visits);
+        drop(sink);
         if since >= wait {
             since = 0;
             let way = way_between(side, from.as_slice(), heads.as_slice(), 1)?;

@@ -5,7 +5,7 @@ ghost use Rattle.cell_relax.specs.{AreWords};
 use crate::half::{HalfGuess, half_guess};
 use crate::linear::Linear;
 use crate::links::Links;
-use crate::one_side::{OneSide, Step, turned_head};
+use crate::one_side::{Step, turned_head};
 use crate::search::first_share;
 use crate::steps::{Kept, LastStep, high_start, low_start, take_last};
 use multigrid::numbers::at;
@@ -21,16 +21,11 @@ pub struct Guess {
 }
 
 /// One bound for each cell, of turned heads, cut to those in range.
-pub fn bounds_of(
-    alloc: Global,
-    p: &Problem,
-    low: &[i64],
-    high: &[i64],
-) -> Result<Vec<Bound>, AllocError>
-    ensures { IfOk result (λ v. AreWords p.now v.items) }
+pub fn bounds_of(step: &Step, low: &[i64], high: &[i64]) -> Result<Vec<Bound>, AllocError>
+    ensures { IfOk result (λ v. AreWords step.now.problem.now v.items) }
 {
-    let cells = p.len();
-    let mut bounds = Vec::with_capacity(alloc, cells)?;
+    let cells = step.problem.len();
+    let mut bounds = Vec::with_capacity(step.alloc, cells)?;
     for cell in 0..cells {
         bounds.push(Bound {
             low: turned_head(Side::Low, at(low, cell)),
@@ -40,24 +35,18 @@ pub fn bounds_of(
     Ok(bounds)
 }
 
-/// The guess of both sides, which is kept for the next step.
-pub fn guess_of(
-    alloc: Global,
-    p: &Problem,
-    low: HalfGuess,
-    high: HalfGuess,
-    kept: &mut Option<LastStep>,
-) -> Result<Guess, AllocError>
-    ensures { IfOk result (λ g. AreWords p.now (Guess.bounds g).items) }
+/// The guess of both sides.
+pub fn guess_of(step: &Step, halves: &LastStep) -> Result<Guess, AllocError>
+    ensures { IfOk result (λ g. AreWords step.now.problem.now (Guess.bounds g).items) }
 {
-    let bounds = bounds_of(alloc, p, low.heads(), high.heads())?;
-    let mut order = Vec::new(alloc);
-    for half in [&low, &high] {
+    let (low, high) = (&halves.low, &halves.high);
+    let bounds = bounds_of(step, low.heads(), high.heads())?;
+    let mut order = Vec::new(step.alloc);
+    for half in [low, high] {
         if let Some(lowest) = &half.lowest {
             order.extend_from_slice(lowest.order.as_slice())?;
         }
     }
-    *kept = Some(LastStep { low, high });
     Ok(Guess { bounds, order })
 }
 
@@ -66,18 +55,14 @@ fn halves_in_turn(
     step: &Step,
     last: &Option<LastStep>,
     kept: &mut Option<Linear>,
-) -> Result<(HalfGuess, HalfGuess), AllocError> {
-    let side = OneSide::new(step, Side::Low)?;
+) -> Result<LastStep, AllocError> {
     let start = low_start(step, last)?;
     let share = first_share(step.links);
-    let past = last.as_ref().map(|last| &last.low);
-    let low = half_guess(&side, start, share, past, kept)?;
-    let side = OneSide::new(step, Side::High)?;
+    let low = half_guess(step, Side::Low, start, share, last, kept)?;
     let start = high_start(step, low.balanced.as_slice(), last)?;
-    let past = last.as_ref().map(|last| &last.high);
     let share = low.lowest.as_ref().map_or(share, |lowest| lowest.share);
-    let high = half_guess(&side, start, share, past, kept)?;
-    Ok((low, high))
+    let high = half_guess(step, Side::High, start, share, last, kept)?;
+    Ok(LastStep { low, high })
 }
 
 /// A guess of the settled pair of a problem and a barrier. It begins with what the guess of the last step has kept, which may be that of any
@@ -94,6 +79,7 @@ pub fn guess_heads<'a>(
     let pattern = kept.eliminable.pattern(alloc, &links)?;
     let step = Step::new(alloc, p, b, &links, pattern);
     let last = take_last(&mut kept.last, p);
-    let (low, high) = halves_in_turn(&step, &last, &mut kept.linear)?;
-    guess_of(alloc, p, low, high, &mut kept.last)
+    let halves = halves_in_turn(&step, &last, &mut kept.linear);
+    drop(last);
+    guess_of(&step, kept.last.insert(halves?))
 }

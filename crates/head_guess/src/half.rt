@@ -2,11 +2,13 @@
 use crate::linear::Linear;
 use crate::lower::{Lowest, lowest_below, lowest_from};
 use crate::newton::{Until, find_balanced};
-use crate::one_side::OneSide;
+use crate::one_side::{OneSide, Step};
 use crate::raise::raise_within;
+use crate::steps::LastStep;
 use crate::work::Work;
 use multigrid::numbers::{at, greatest};
 use std::alloc::AllocError;
+use step_problem::Side;
 
 /// One side's guess: its balanced heads, and the first settled ones below them, if any settled.
 #[derive(Drop)]
@@ -91,13 +93,16 @@ fn lowest_of(
 /// The guess of a side from heads where Newton's method starts, with a share of the room to try first, and that of the last step. The linear
 /// system is kept from one call to the next.
 pub fn half_guess(
-    side: &OneSide,
+    step: &Step,
+    side: Side,
     start: Vec<i64>,
     share: i64,
-    last: Option<&HalfGuess>,
+    last: &Option<LastStep>,
     kept: &mut Option<Linear>,
 ) -> Result<HalfGuess, AllocError> {
-    let mut work = Work::new(side, VISITS_OF_NEWTON);
+    let last = last.as_ref().map(|last| last.half(side));
+    let side = OneSide::new(step, side)?;
+    let mut work = Work::new(&side, VISITS_OF_NEWTON);
     let balanced = find_balanced(&mut work, Until::Balanced, start, kept)?;
     let lowest = lowest_of(&mut work, balanced.as_slice(), share, last, kept)?;
     Ok(HalfGuess { balanced, lowest })

@@ -27,10 +27,18 @@ const BITS_OF_ROOM: u32 = 10;
 const FEW_OPERATIONS: u64 = 1_500;
 
 /// A system with what its method needs: conjugate gradients with multigrid cycles, or elimination.
-#[derive(Drop)]
 enum Method {
     Cycles(Levels),
     Elimination(Factor),
+}
+
+impl Drop for Method {
+    fn drop(self) {
+        match self {
+            Method::Cycles(levels) => drop(levels),
+            Method::Elimination(factor) => drop(factor),
+        }
+    }
 }
 
 impl Method {
@@ -122,26 +130,32 @@ impl Linear {
         })
     }
 
-    /// The system of these slopes: the kept one, if its slopes are near these, and elimination of it would not have paid.
-    pub fn of(work: &mut Work, slopes: &[i64], kept: Option<Linear>) -> Result<Linear, AllocError> {
-        let (visits, is_hard) = match &kept {
-            Some(kept) => (kept.visits, kept.is_hard),
+    /// The system of these slopes: the kept one, if its slopes are near these, and elimination of it would not have paid. It is kept.
+    pub fn of<'k>(
+        work: &mut Work,
+        slopes: &[i64],
+        kept: &'k mut Option<Linear>,
+    ) -> Result<&'k mut Linear, AllocError> {
+        let last = kept.take();
+        let (visits, is_hard) = match &last {
+            Some(last) => (last.visits, last.is_hard),
             None => (0, false),
         };
         let pattern = match work.side.pattern {
             Some(pattern) if pays(pattern, visits, is_hard) => Some(pattern),
             _ => None,
         };
-        if let Some(kept) = kept {
-            let is_dear = pattern.is_some() && kept.method.is_by_cycles();
-            if !is_dear && kept.is_near(slopes) {
-                return Ok(kept);
+        if let Some(last) = last {
+            let is_dear = pattern.is_some() && last.method.is_by_cycles();
+            if !is_dear && last.is_near(slopes) {
+                return Ok(kept.insert(last));
             }
+            drop(last);
         }
         let slopes = Vec::from_slice(work.side.alloc, slopes)?;
         let mut linear = Linear::new(work, slopes, pattern)?;
         linear.is_hard = is_hard;
-        Ok(linear)
+        Ok(kept.insert(linear))
     }
 
     /// Whether these slopes are nearly its own: within the few units by which lower and upper conductances differ, or a

@@ -15,8 +15,7 @@ pub struct Lowest {
 }
 
 /// The first settled heads below settled ones.
-pub fn lowest_from(work: &mut Work, heads: Vec<i64>, share: i64) -> Result<Lowest, AllocError> {
-    let mut heads = heads;
+pub fn lowest_from(work: &mut Work, mut heads: Vec<i64>, share: i64) -> Result<Lowest, AllocError> {
     let order = descend(work, &mut heads, false, 0)?;
     Ok(Lowest {
         heads,
@@ -25,9 +24,32 @@ pub fn lowest_from(work: &mut Work, heads: Vec<i64>, share: i64) -> Result<Lowes
     })
 }
 
+// The first settled heads below those of a search. Where the descent is long, it begins again from heads with a share for each cell.
+fn lowest_after(
+    work: &mut Work,
+    balanced: &[i64],
+    extent: &Extent,
+    settled: Settled,
+) -> Result<Lowest, AllocError> {
+    let (mut heads, share) = (settled.heads, settled.share);
+    let cycle = work.side.pattern.map_or(u64::MAX, visits_of_cycle);
+    let most = (cycle / 4).saturating_mul(extent.most_quarters());
+    let end = work.budget.left.saturating_sub(most);
+    let order = descend(work, &mut heads, extent.is_even(), end)?;
+    if work.budget.left > end || work.budget.is_spent() {
+        return Ok(Lowest {
+            heads,
+            order,
+            share,
+        });
+    }
+    let lower = settled_by_shares(work, balanced, share)?;
+    lowest_from(work, lower.unwrap_or(heads), share)
+}
+
 /// The first settled heads below balanced ones, from a share of the room, which is in units of 2^-10. They are searched for by one share for
-/// all cells; where the descent from these is long, it begins again from heads with a share for each cell. Where the room is one of the widest,
-/// and links have a pattern, each cell has a share of its own from the start. None where nothing settles.
+/// all cells. Where the room is one of the widest, and links have a pattern, each cell has a share of its own from the start. None where nothing
+/// settles.
 pub fn lowest_below(
     work: &mut Work,
     balanced: &[i64],
@@ -35,8 +57,7 @@ pub fn lowest_below(
     share: i64,
 ) -> Result<Option<Lowest>, AllocError> {
     let extent = Extent::new(work.side.links, room);
-    let pattern = work.side.pattern;
-    if pattern.is_some() && extent.is_widest() {
+    if work.side.pattern.is_some() && extent.is_widest() {
         if let Some(heads) = settled_by_shares(work, balanced, share)? {
             return Ok(Some(lowest_from(work, heads, share)?));
         }
@@ -44,22 +65,5 @@ pub fn lowest_below(
     let Some(settled) = settled_below(work, balanced, room, &extent, share)? else {
         return Ok(None);
     };
-    let Settled {
-        mut heads,
-        share,
-        ..
-    } = settled;
-    let cycle = pattern.map_or(u64::MAX, visits_of_cycle);
-    let most = (cycle / 4).saturating_mul(extent.most_quarters());
-    let end = work.budget.left.saturating_sub(most);
-    let order = descend(work, &mut heads, extent.is_even(), end)?;
-    if work.budget.left > end || work.budget.is_spent() {
-        return Ok(Some(Lowest {
-            heads,
-            order,
-            share,
-        }));
-    }
-    let lower = settled_by_shares(work, balanced, share)?;
-    Ok(Some(lowest_from(work, lower.unwrap_or(heads), share)?))
+    Ok(Some(lowest_after(work, balanced, &extent, settled)?))
 }

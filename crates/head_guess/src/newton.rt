@@ -193,13 +193,13 @@ pub fn find_balanced(
 ) -> Result<Vec<i64>, AllocError> {
     let side = work.side;
     let mut newton = Newton::new(side, heads)?;
-    let mut linear = Linear::of(work, newton.slopes.as_slice(), kept.take())?;
     for _ in 0..MOST_ROUNDS {
+        let linear = Linear::of(work, newton.slopes.as_slice(), kept)?;
         let alone = newton.longest_move();
         if until == Until::Near && alone < SHORT {
             break;
         }
-        let (longest, is_last) = newton.step(work, until, alone, &mut linear);
+        let (longest, is_last) = newton.step(work, until, alone, linear);
         if work.budget.is_spent() {
             break;
         }
@@ -210,8 +210,6 @@ pub fn find_balanced(
             }
             newton.linearize(side);
         }
-        linear = Linear::of(work, newton.slopes.as_slice(), Some(linear))?;
     }
-    *kept = Some(linear);
     Ok(newton.heads)
 }

@@ -9,7 +9,7 @@ use multigrid::numbers::at;
 use star_mesh::Pattern;
 use std::alloc::{AllocError, Global};
 use step_problem::problem::HEAD_LIMIT;
-use step_problem::{Barrier, Problem, Side};
+use step_problem::{Barrier, Cell, Problem, Side};
 
 const LIMIT: i128 = HEAD_LIMIT as i128;
 
@@ -71,6 +71,26 @@ pub fn turned_head(side: Side, head: i64) -> i64
     }
 }
 
+// Adds a cell's branches to known heads.
+fn add_knowns(knowns: &mut Vec<Known>, side: Side, cell: &Cell) -> Result<(), AllocError> {
+    for fixed in &cell.fixed {
+        knowns.push(Known {
+            branch: Branch::new(fixed.lo, fixed.hi),
+            head: turned(side, fixed.head_lo, fixed.head_hi),
+        })?;
+    }
+    Ok(())
+}
+
+// The constant flows into a cell.
+fn inflow(side: Side, cell: &Cell) -> i128 {
+    let flows = cell.flows.iter();
+    match side {
+        Side::Low => flows.fold(0_i128, |sum, flow| sum.wrapping_add(flow.lo)),
+        Side::High => flows.fold(0_i128, |sum, flow| sum.wrapping_sub(flow.hi)),
+    }
+}
+
 impl OneSide<'_> {
     /// A side of a step's problem, above the floor or below the ceiling.
     pub fn new<'a>(step: &Step<'a>, side: Side) -> Result<OneSide<'a>, AllocError> {
@@ -80,18 +100,9 @@ impl OneSide<'_> {
         let mut inflows = Vec::with_capacity(alloc, problem.len())?;
         for index in 0..problem.len() {
             let cell = problem.cell(index);
-            for fixed in &cell.fixed {
-                knowns.push(Known {
-                    branch: Branch::new(fixed.lo, fixed.hi),
-                    head: turned(side, fixed.head_lo, fixed.head_hi),
-                })?;
-            }
+            add_knowns(&mut knowns, side, cell)?;
             add_ramps(&mut ramps, side, cell)?;
-            let flows = cell.flows.iter();
-            inflows.push(match side {
-                Side::Low => flows.fold(0_i128, |sum, flow| sum.wrapping_add(flow.lo)),
-                Side::High => flows.fold(0_i128, |sum, flow| sum.wrapping_sub(flow.hi)),
-            })?;
+            inflows.push(inflow(side, cell))?;
         }
         let limits = match side {
             Side::Low => barrier.floor.iter(),

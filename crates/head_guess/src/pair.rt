@@ -100,7 +100,25 @@ fn wider_half(
     half_from(work, heads.collect(side.alloc)?, 2, kept)
 }
 
-// Both sides, from balanced heads, or wider than a pair.
+// One side of a pair: from balanced heads, the upper one from those of the lower side; or wider than a failed pair.
+fn half_of(
+    step: &Step,
+    low: Option<&HalfPair>,
+    failed: Option<&[Bound]>,
+    visits: u64,
+    kept: &mut Option<Linear>,
+) -> Result<HalfPair, AllocError> {
+    let side = if low.is_some() { Side::High } else { Side::Low };
+    let side = OneSide::new(step, side)?;
+    let mut work = Work::new(&side, visits);
+    match (failed, low) {
+        (Some(pair), _) => wider_half(&mut work, pair, kept),
+        (None, Some(low)) => high_half(step, &mut work, low, kept),
+        (None, None) => half_pair(&mut work, low_start(step, &None)?, kept),
+    }
+}
+
+// Both sides, from balanced heads, or wider than a failed pair.
 fn pair_of<'a>(
     alloc: Global,
     p: &'a Problem,
@@ -114,23 +132,13 @@ fn pair_of<'a>(
     ensures { IfOk result (λ v. AreWords p.now v.items) }
 {
     let step = Step::new(alloc, p, b, links, pattern);
-    let side = OneSide::new(&step, Side::Low)?;
-    let mut work = Work::new(&side, visits);
-    let low = match failed {
-        None => half_pair(&mut work, low_start(&step, &None)?, kept)?,
-        Some(pair) => wider_half(&mut work, pair, kept)?,
-    };
-    let side = OneSide::new(&step, Side::High)?;
-    let mut work = Work::new(&side, visits);
-    let mut high = match failed {
-        None => high_half(&step, &mut work, &low, kept)?,
-        Some(pair) => wider_half(&mut work, pair, kept)?,
-    };
+    let low = half_of(&step, None, failed, visits, kept)?;
+    let mut high = half_of(&step, Some(&low), failed, visits, kept)?;
     // They do not cross.
     for (head, other) in high.lower.iter_mut().zip(low.lower.as_slice()) {
         *head = (*head).min(0_i64.saturating_sub(*other));
     }
-    bounds_of(alloc, p, low.lower.as_slice(), high.lower.as_slice())
+    bounds_of(&step, low.lower.as_slice(), high.lower.as_slice())
 }
 
 // Whether cycles have left a system unsolved.

@@ -5,8 +5,7 @@ use crate::work::Work;
 use std::alloc::AllocError;
 
 // Turns at the marked cells of one word. Returns whether a cell moved.
-fn turn_word(work: &mut Work, nodes: &mut Nodes, sweep: Sweep, marks: &mut Marks) -> bool {
-    let mut sweep = sweep;
+fn turn_word(work: &mut Work, nodes: &mut Nodes, mut sweep: Sweep, marks: &mut Marks) -> bool {
     let mut moved = false;
     for _ in 0..CELLS {
         let Some(cell) = marks.take_next(&mut sweep) else {

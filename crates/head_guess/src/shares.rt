@@ -25,12 +25,12 @@ const RISES_OF_FALLS: u32 = 8;
 // The rounds of a cycle, and at most those after it in which shares only fall: few where another cycle is left.
 const ROUNDS: u32 = 60;
 
-const FEW_FALLS: u32 = 12;
+const FEW_FALLS: u32 = 20;
 
 const MOST_FALLS: u32 = 200;
 
 // The steps of the second cycle are shorter by as many bits than those of the first one.
-const BITS_OF_CYCLE: u32 = 3;
+const BITS_OF_CYCLE: u32 = 5;
 
 // The visits that a round takes at each cell beside its solution.
 const VISITS: u64 = 11;
@@ -118,6 +118,18 @@ impl Shares {
         }
         Ok(false)
     }
+    // Cycles and falls. Returns whether the heads settle.
+    fn settle_by_cycles(&mut self, work: &mut Work) -> Result<bool, AllocError> {
+        self.turn_all(work, Changes::LONGEST, RISES)?;
+        if self.settle(work, FEW_FALLS)? {
+            return Ok(true);
+        }
+        if work.budget.is_spent() {
+            return Ok(false);
+        }
+        self.turn_all(work, Changes::LONGEST >> BITS_OF_CYCLE, MORE_RISES)?;
+        self.settle(work, MOST_FALLS)
+    }
 }
 
 /// Settled heads below balanced ones, by a share for each cell, which is at first the same for all, in units of 2^-20. None where they do not
@@ -128,11 +140,6 @@ pub fn settled_by_shares(
     share: i64,
 ) -> Result<Option<Vec<i64>>, AllocError> {
     let mut shares = Shares::new(work, balanced, share)?;
-    shares.turn_all(work, Changes::LONGEST, RISES)?;
-    let mut is_settled = shares.settle(work, FEW_FALLS)?;
-    if !is_settled && !work.budget.is_spent() {
-        shares.turn_all(work, Changes::LONGEST >> BITS_OF_CYCLE, MORE_RISES)?;
-        is_settled = shares.settle(work, MOST_FALLS)?;
-    }
+    let is_settled = shares.settle_by_cycles(work)?;
     Ok(if is_settled { Some(shares.heads) } else { None })
 }

@@ -3,7 +3,7 @@
 use crate::marks::{CELLS, Marks, Sweep};
 use crate::one_side::OneSide;
 use crate::spot::{Depth, NEVER, Spot};
-use multigrid::numbers::{at, label, put};
+use multigrid::numbers::{at, clamp_long, label, put};
 use std::alloc::AllocError;
 
 /// All cells, and how far the set has fallen.
@@ -20,12 +20,6 @@ pub struct Sink {
     members: u64,
     /// The number of cells that were visited.
     pub visits: u64,
-}
-
-// The nearest number of 64 bits.
-fn clamp_to_long(number: i128) -> i64 {
-    let farthest = if number < 0 { i64::MIN } else { i64::MAX };
-    i64::try_from(number).unwrap_or(farthest)
 }
 
 impl Sink {
@@ -46,29 +40,36 @@ impl Sink {
             members: 0,
             visits: 0,
         };
-        let lowered = |cell| {
-            let head = at(heads, cell);
-            head.wrapping_sub(!side.is_at_floor(cell, head) as i64)
-        };
-        for (cell, head) in heads.iter().enumerate() {
-            let falls = !side.is_at_floor(cell, *head);
-            let sum = clamp_to_long(side.balance(cell, *head, &lowered));
-            sink.spots.push(Spot {
-                sum,
-                rate: 0,
-                head: *head,
-                burnt_at: if falls { NEVER } else { 0 },
-                until: 0,
-            })?;
-            sink.edge.set_if(cell, true);
-            sink.members = sink.members.saturating_add(falls as u64);
-            if falls && sum >= 0 {
-                sink.leaving.push(label(cell))?;
-            }
+        for cell in 0..heads.len() {
+            sink.add(side, heads, cell)?;
         }
         sink.settle(side)?;
         sink.visits = heads.len() as u64;
         Ok(sink)
+    }
+
+    // Adds the next cell. It falls if it is not at its floor.
+    fn add(&mut self, side: &OneSide, heads: &[i64], cell: usize) -> Result<(), AllocError> {
+        let lowered = |cell| {
+            let head = at(heads, cell);
+            head.wrapping_sub(!side.is_at_floor(cell, head) as i64)
+        };
+        let head = at(heads, cell);
+        let falls = !side.is_at_floor(cell, head);
+        let sum = clamp_long(side.balance(cell, head, lowered));
+        self.spots.push(Spot {
+            sum,
+            rate: 0,
+            head,
+            burnt_at: if falls { NEVER } else { 0 },
+            until: 0,
+        })?;
+        self.edge.set_if(cell, true);
+        self.members = self.members.saturating_add(falls as u64);
+        if falls && sum >= 0 {
+            self.leaving.push(label(cell))?;
+        }
+        Ok(())
     }
 
     /// Whether all cells rise again.

@@ -5,13 +5,23 @@ use crate::linear::Linear;
 use crate::one_side::Step;
 use multigrid::numbers::{at, clamp_long};
 use std::alloc::AllocError;
-use step_problem::{Cell, FixedKind, Problem};
+use step_problem::{Cell, FixedKind, Problem, Side};
 
 /// The guesses of both sides in a step.
 #[derive(Drop)]
 pub struct LastStep {
     pub low: HalfGuess,
     pub high: HalfGuess,
+}
+
+impl LastStep {
+    /// The guess of a side.
+    pub fn half(&self, side: Side) -> &HalfGuess {
+        match side {
+            Side::Low => &self.low,
+            Side::High => &self.high,
+        }
+    }
 }
 
 /// What the guess of a step leaves for that of the next one. Only running time depends on it.
@@ -50,7 +60,11 @@ pub fn take_last(last: &mut Option<LastStep>, p: &Problem) -> Option<LastStep> {
     let last = last.take()?;
     let is_like = last.low.balanced.len() == p.len()
         && (0..p.len()).any(|cell| old_head(p.cell(cell)).is_some());
-    if is_like { Some(last) } else { None }
+    if is_like {
+        return Some(last);
+    }
+    drop(last);
+    None
 }
 
 // The old head of a cell with storage, else the least surface of its evaporations, else its ceiling: there rivers, drains and evaporations
