@@ -6,7 +6,6 @@ mod alone;
 mod first;
 mod guessing;
 mod settling;
-mod watching;
 
 pub use alone::AloneSettler;
 pub use guessing::{BesideGuesser, Guesser, NearGuesser};

@@ -1,12 +1,12 @@
-// The settler of a run.
-ghost use Rattle.std.specs.Prelude.{◌≡◌, IfSome};
+// The settler of a run, by itself or while a viewer watches.
+ghost use Rattle.std.specs.Prelude.{◌≡◌, IfSome, true};
 ghost use Rattle.step_problem.specs.{AreOnTheWay, IsBarrier, Settles};
-ghost use Rattle.settle_driver.specs.{IsPlan};
+ghost use Rattle.settle_driver.specs.{IsPlan, AddsPhases, had_memory};
 
 use crate::first::{first_phases, first_plan, has_few_cells, plan_for};
 use crate::guessing::{BesideGuesser, Guesser, Guessing};
 use outside::Gate;
-use settle_driver::{Plan, ThreadSettler};
+use settle_driver::{NoViewer, Plan, Viewer, WatchSettler};
 use std::alloc::Global;
 use std::thread::Threads;
 use step_problem::{Barrier, Bound, Problem, SettleFault};
@@ -15,10 +15,10 @@ use step_problem::{Barrier, Bound, Problem, SettleFault};
 /// what it does beside them only saves time, as does what it keeps from one step to the next.
 #[derive(Drop)]
 pub struct NearSettler<'a, R: Threads + Sync, G: Gate + Sync, S: Guesser = BesideGuesser<'a, R>> {
-    pub(crate) rt: &'a R,
-    pub(crate) gate: &'a G,
-    pub(crate) plan: Plan,
-    pub(crate) guessing: Guessing<S>,
+    rt: &'a R,
+    gate: &'a G,
+    plan: Plan,
+    guessing: Guessing<S>,
     pub ghost plan_fits: { IsPlan plan },
 }
 
@@ -46,24 +46,34 @@ impl<'a, R: Threads + Sync, G: Gate + Sync, S: Guesser> NearSettler<'a, R, G, S>
         }
     }
 
-    // By the phases of a plan, from the words that earlier ones have reached, or from the barrier.
-    fn settle_plainly(
+    // By a guess, which is not shown, and where it is not certified by the phases of a plan, from the words that earlier ones have reached, or
+    // from the barrier.
+    fn settle_onward<V: Viewer + Send>(
         &self,
         alloc: Global,
         p: &Problem,
         b: &Barrier,
         plan: Plan,
         reached: Option<Vec<Bound>>,
+        views: u32,
+        viewer: &mut V,
     ) -> Result<Vec<Bound>, SettleFault>
         requires barrier { IsBarrier p.now b.now }
         requires plan { IsPlan plan }
         requires reached { IfSome reached (λ words. AreOnTheWay p.now b.now words.items) }
-        ensures { Settles p.now b.now plan.rounds result }
+        ensures settles { Settles p.now b.now plan.rounds result }
+        ensures viewed { (start : V) → AddsPhases V.viewed V.stopped p.now b.now views true start viewer.old → AddsPhases V.viewed V.stopped p.now b.now views (had_memory result) start viewer.new }
     {
-        let settler = ThreadSettler::new(self.rt, plan, self.gate);
-        match reached {
-            None => settler.settle(alloc, p, b),
-            Some(words) => settler.settle_from(alloc, p, b, words),
+        match self.guessing.settle(alloc, p, b) {
+            Ok(bounds) => Ok(bounds),
+            Err(SettleFault::Unfinished(_)) => {
+                let settler = WatchSettler::new(self.rt, plan, self.gate, views);
+                match reached {
+                    Some(words) => settler.settle_from(alloc, p, b, words, viewer),
+                    None => settler.settle(alloc, p, b, viewer),
+                }
+            }
+            Err(SettleFault::Memory) => Err(SettleFault::Memory),
         }
     }
 
@@ -75,22 +85,37 @@ impl<'a, R: Threads + Sync, G: Gate + Sync, S: Guesser> NearSettler<'a, R, G, S>
         requires { IsBarrier p.now b.now }
         ensures { Settles p.now b.now self.now.plan.rounds result }
     {
+        self.settle_watched(alloc, p, b, 0, &mut NoViewer)
+    }
+
+    /// What `settle` gives, while a viewer watches the plain phases: `views` views in each. Where there are views each problem begins with
+    /// plain phases. The heads of a guess are no bounds before they are certified, so they are not shown.
+    pub fn settle_watched<V: Viewer + Send>(
+        &self,
+        alloc: Global,
+        p: &Problem,
+        b: &Barrier,
+        views: u32,
+        viewer: &mut V,
+    ) -> Result<Vec<Bound>, SettleFault>
+        requires barrier { IsBarrier p.now b.now }
+        ensures settles { Settles p.now b.now self.now.plan.rounds result }
+        ensures viewed { AddsPhases V.viewed V.stopped p.now b.now views (had_memory result) viewer.old viewer.new }
+    {
         let cells = p.len();
         let plan = plan_for(self.plan, cells);
         if plan.rounds <= first_phases(cells) {
-            return self.settle_plainly(alloc, p, b, plan, None);
+            return WatchSettler::new(self.rt, plan, self.gate, views).settle(alloc, p, b, viewer);
         }
-        let mut reached = None;
-        if has_few_cells(cells) || !self.guessing.has_guessed() {
-            match self.settle_plainly(alloc, p, b, first_plan(plan, cells), None) {
-                Ok(bounds) => return Ok(bounds),
-                Err(SettleFault::Unfinished(open)) => reached = Some(open.words),
-                Err(SettleFault::Memory) => return Err(SettleFault::Memory),
-            }
+        if views == 0 && !has_few_cells(cells) && self.guessing.has_guessed() {
+            return self.settle_onward(alloc, p, b, plan, None, views, viewer);
         }
-        match self.guessing.settle(alloc, p, b) {
+        let first = first_plan(plan, cells);
+        match WatchSettler::new(self.rt, first, self.gate, views).settle(alloc, p, b, viewer) {
             Ok(bounds) => Ok(bounds),
-            Err(SettleFault::Unfinished(_)) => self.settle_plainly(alloc, p, b, plan, reached),
+            Err(SettleFault::Unfinished(open)) => {
+                self.settle_onward(alloc, p, b, plan, Some(open.words), views, viewer)
+            }
             Err(SettleFault::Memory) => Err(SettleFault::Memory),
         }
     }

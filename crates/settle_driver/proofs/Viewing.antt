@@ -65,6 +65,15 @@ module _ {V : Type 0} (viewed : V → List Entries → Edges → ℕ → V → T
     each_phase = λ e _. some_phases k whole.count turns z some (whole.each_turn e);
   }
 
+  -- where a phase has no views, no view is as many as a phase has
+  pub no_phases : (made : Bool) (v : V) → AddsPhases viewed stopped p b 0 made v v
+  no_phases made v = record {
+    count = 0;
+    views = no_views v;
+    no_cell = λ _. refl;
+    each_phase = λ _ _. inr (1, omega arith, omega arith);
+  }
+
   -- what is said of a settling that had memory holds where it ended with heads
   pub phases_ended : (r : Result (Vec Bound Global) SettleFault) (turns : ℕ) (a z : V) → AddsPhases viewed stopped p b turns (had_memory r) a z → AddsPhases viewed stopped p b turns (is_ok r) a z
   phases_ended r turns a z s = record {

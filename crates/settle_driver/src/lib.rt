@@ -19,6 +19,6 @@ pub use phases::Plan;
 pub use plain::{ListedSettler, PlainSettler};
 pub use step_settler::{StepSettler, StepViewer};
 pub use thread_settler::{SettleBy, ThreadSettler, settle};
-pub use viewer::Viewer;
+pub use viewer::{NoViewer, Viewer};
 pub use watch_by::WatchBy;
 pub use watched::{WatchSettler, settle_watched};

@@ -29,7 +29,7 @@ pub trait Viewer {
 
 /// Is shown nothing.
 #[derive(Drop)]
-pub(crate) struct NoViewer;
+pub struct NoViewer;
 
 impl Viewer for NoViewer {
     ghost viewed = { λ _ _ _ _ _. Unit {0} };
