@@ -100,7 +100,10 @@ pub fn half_guess(
     last: &Option<LastStep>,
     kept: &mut Option<Linear>,
 ) -> Result<HalfGuess, AllocError> {
-    let last = last.as_ref().map(|last| last.half(side));
+    let last = last.as_ref().map(|last| match side {
+        Side::Low => &last.low,
+        Side::High => &last.high,
+    });
     let side = OneSide::new(step, side)?;
     let mut work = Work::new(&side, VISITS_OF_NEWTON);
     let balanced = find_balanced(&mut work, Until::Balanced, start, kept)?;

@@ -37,10 +37,8 @@ fn is_straight_to(
     kept: &Option<Linear>,
 ) -> Result<bool, AllocError> {
     let slopes = side.slopes(heads)?;
-    Ok(
-        kept.as_ref()
-            .is_some_and(|linear| linear.is_near(slopes.as_slice())),
-    )
+    let kept = kept.as_ref();
+    Ok(kept.is_some_and(|linear| linear.is_near(slopes.as_slice())))
 }
 
 // The heads at which slopes are left `times` times, from these.

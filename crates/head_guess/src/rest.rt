@@ -1,7 +1,6 @@
 // Heads at which a part of each slope is left as a balance.
 use crate::branch::product;
 use crate::linear::Linear;
-use crate::one_side::OneSide;
 use crate::work::Work;
 use multigrid::numbers::at;
 use std::alloc::AllocError;
@@ -30,21 +29,6 @@ fn corrected_heads(
     work.side.heads_below(heads, way)
 }
 
-// What is to be corrected of each balance, so that its slope is left as often.
-fn excesses(
-    side: &OneSide,
-    heads: &[i64],
-    slopes: &[i64],
-    times: i64,
-) -> Result<Vec<i128>, AllocError> {
-    let mut excesses = Vec::with_capacity(side.alloc, heads.len())?;
-    for (cell, slope) in slopes.iter().enumerate() {
-        let balance = side.balance(cell, at(heads, cell), |other| at(heads, other));
-        excesses.push(balance.wrapping_sub(rest_of(*slope, times)))?;
-    }
-    Ok(excesses)
-}
-
 /// Heads at which each slope is left as often, by one round of Newton's method from these heads. The linear system is kept.
 pub fn leave_rest(
     work: &mut Work,
@@ -54,7 +38,11 @@ pub fn leave_rest(
 ) -> Result<Vec<i64>, AllocError> {
     let side = work.side;
     let slopes = side.slopes(heads)?;
-    let balances = excesses(side, heads, slopes.as_slice(), times)?;
+    let balances = slopes.iter().enumerate().map(|(cell, slope)| {
+        let balance = side.balance(cell, at(heads, cell), |other| at(heads, other));
+        balance.wrapping_sub(rest_of(*slope, times))
+    });
+    let balances: Vec<i128> = balances.collect(side.alloc)?;
     let linear = Linear::of(work, slopes.as_slice(), kept)?;
     let lower = corrected_heads(work, linear, heads, balances.as_slice())?;
     if linear.is_solved(BITS) || side.pattern.is_none() {

@@ -5,23 +5,13 @@ use crate::linear::Linear;
 use crate::one_side::Step;
 use multigrid::numbers::{at, clamp_long};
 use std::alloc::AllocError;
-use step_problem::{Cell, FixedKind, Problem, Side};
+use step_problem::{Cell, FixedKind, Problem};
 
 /// The guesses of both sides in a step.
 #[derive(Drop)]
 pub struct LastStep {
     pub low: HalfGuess,
     pub high: HalfGuess,
-}
-
-impl LastStep {
-    /// The guess of a side.
-    pub fn half(&self, side: Side) -> &HalfGuess {
-        match side {
-            Side::Low => &self.low,
-            Side::High => &self.high,
-        }
-    }
 }
 
 /// What the guess of a step leaves for that of the next one. Only running time depends on it.
@@ -57,14 +47,11 @@ fn old_head(cell: &Cell) -> Option<i64> {
 /// Takes the last step out. None where this step has no storage, since steady heads may be far from the last ones, or where it has other
 /// cells.
 pub fn take_last(last: &mut Option<LastStep>, p: &Problem) -> Option<LastStep> {
-    let last = last.take()?;
-    let is_like = last.low.balanced.len() == p.len()
-        && (0..p.len()).any(|cell| old_head(p.cell(cell)).is_some());
-    if is_like {
-        return Some(last);
-    }
-    drop(last);
-    None
+    let last = last.take();
+    last.filter(|last| {
+        let mut cells = 0..p.len();
+        last.low.balanced.len() == p.len() && cells.any(|cell| old_head(p.cell(cell)).is_some())
+    })
 }
 
 // The old head of a cell with storage, else the least surface of its evaporations, else its ceiling: there rivers, drains and evaporations
