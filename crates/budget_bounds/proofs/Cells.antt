@@ -1,11 +1,12 @@
 -- The flows of a cell's entries, list by list, are the single flows of each term; so each sum gains those of its term.
 use Rattle.budget_bounds.proofs.Common.{◌≡◌, ◌+ℤ◌, refl, sym, ap, ◌∙◌, arith, false, List, [], ◌∷◌, map, ℤ, pos, ints, filter, Fixed, Flow, Dir, Term, Storage}
 use Rattle.budget_bounds.proofs.Common.{ConstantHead, Wells, Drains, RiverLeakage, HeadDepBounds, Recharge, Et, Entries, TermPair, singles, parts, part}
-use Rattle.budget_bounds.proofs.Common.{fixed_term, flow_term, is_term, flow_pair, fixed_pair, river_pair, drain_pair, evap_pair, capped, plus_pair, fixed_of}
+use Rattle.budget_bounds.proofs.Common.{fixed_term, flow_term, is_term, flow_pair, capped, plus_pair, fixed_of, entry_pair}
 use Rattle.budget_bounds.proofs.Common.{flows_of, FixedKind, FlowKind, ◌++◌, append-nil}
 use Rattle.budget_bounds.proofs.Caps.{capped_twice, filter_all, parts_lo, parts_hi}
 use Rattle.step_problem.specs.declared.entry.FixedKind.TheVariants as kinds
 use Rattle.step_problem.specs.declared.entry.FlowKind.TheVariants as packages
+use Rattle.step_problem.specs.{drain_flow as drain_bound, evap_flow as evap_bound, fixed_flow as fixed_bound, river_flow as river_bound}
 
 filter_none : {X : Type 0} (xs : List X) → filter (λ x. false) xs ≡ []
 filter_none [] = refl
@@ -32,8 +33,8 @@ no_flows t a b (x ∷ xs) = rw (by_kind x.kind) (no_flows t a b xs)
 module _ (c : Entries) (l u : ℤ) where
   abbrev five_lists : Term → List TermPair
   five_lists t =
-      map (fixed_pair l u) (fixed_of t c.fixed) ++ map flow_pair (flows_of t c.flows) ++ map (drain_pair l u) (filter (λ x. is_term t Drains) c.drains)
-      ++ map (river_pair l u) (filter (λ x. is_term t RiverLeakage) c.rivers) ++ map (evap_pair l u) (filter (λ x. is_term t Et) c.evaps)
+      map (entry_pair fixed_bound l u) (fixed_of t c.fixed) ++ map flow_pair (flows_of t c.flows) ++ map (entry_pair drain_bound l u) (filter (λ x. is_term t Drains) c.drains)
+      ++ map (entry_pair river_bound l u) (filter (λ x. is_term t RiverLeakage) c.rivers) ++ map (entry_pair evap_bound l u) (filter (λ x. is_term t Et) c.evaps)
 
   are_singles : (t : Term) → five_lists t ≡ singles t c l u
   unfolding singles
@@ -67,13 +68,13 @@ module _ (dir : Dir) where
   more s m n xs ys first then_ =
       then_ ∙ ap (λ (z : TermPair). with_flows z ys) first ∙ capped_twice s (parts dir xs) (parts dir ys) (parts_lo dir ys) (parts_hi dir ys) ∙ ap (λ (z : TermPair). capped (plus_pair s z)) (sym (parts-append xs ys))
 
-  pub cell_added : (c : Entries) (l u : ℤ) (t : Term) (s₀ s₁ s₂ s₃ s₄ s₅ : TermPair) → s₁ ≡ with_flows s₀ (map (fixed_pair l u) (fixed_of t c.fixed)) → s₂ ≡ with_flows s₁ (map flow_pair (flows_of t c.flows)) →
-      s₃ ≡ with_flows s₂ (map (drain_pair l u) (filter (λ x. is_term t Drains) c.drains)) → s₄ ≡ with_flows s₃ (map (river_pair l u) (filter (λ x. is_term t RiverLeakage) c.rivers)) →
-      s₅ ≡ with_flows s₄ (map (evap_pair l u) (filter (λ x. is_term t Et) c.evaps)) → s₅ ≡ with_flows s₀ (singles t c l u)
+  pub cell_added : (c : Entries) (l u : ℤ) (t : Term) (s₀ s₁ s₂ s₃ s₄ s₅ : TermPair) → s₁ ≡ with_flows s₀ (map (entry_pair fixed_bound l u) (fixed_of t c.fixed)) → s₂ ≡ with_flows s₁ (map flow_pair (flows_of t c.flows)) →
+      s₃ ≡ with_flows s₂ (map (entry_pair drain_bound l u) (filter (λ x. is_term t Drains) c.drains)) → s₄ ≡ with_flows s₃ (map (entry_pair river_bound l u) (filter (λ x. is_term t RiverLeakage) c.rivers)) →
+      s₅ ≡ with_flows s₄ (map (entry_pair evap_bound l u) (filter (λ x. is_term t Et) c.evaps)) → s₅ ≡ with_flows s₀ (singles t c l u)
   cell_added c l u t s₀ s₁ s₂ s₃ s₄ s₅ fixed flows drains rivers evaps =
-      let a = map (fixed_pair l u) (fixed_of t c.fixed) in
+      let a = map (entry_pair fixed_bound l u) (fixed_of t c.fixed) in
       let b = map flow_pair (flows_of t c.flows) in
-      let d = map (drain_pair l u) (filter (λ x. is_term t Drains) c.drains) in
-      let e = map (river_pair l u) (filter (λ x. is_term t RiverLeakage) c.rivers) in
-      let f = map (evap_pair l u) (filter (λ x. is_term t Et) c.evaps) in
+      let d = map (entry_pair drain_bound l u) (filter (λ x. is_term t Drains) c.drains) in
+      let e = map (entry_pair river_bound l u) (filter (λ x. is_term t RiverLeakage) c.rivers) in
+      let f = map (entry_pair evap_bound l u) (filter (λ x. is_term t Et) c.evaps) in
       more s₀ s₄ s₅ (a ++ b ++ d ++ e) f (more s₀ s₃ s₄ (a ++ b ++ d) e (more s₀ s₂ s₃ (a ++ b) d (more s₀ s₁ s₂ a b fixed flows) drains) rivers) evaps ∙ ap (with_flows s₀) (are_singles c l u t)

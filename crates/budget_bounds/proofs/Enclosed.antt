@@ -2,7 +2,7 @@
 use Rattle.budget_bounds.proofs.Common.{◌≡◌, ℕ, suc, ◌+◌, ◌-◌, ap, subst, arith, List, length, map, ℤ, zero, ◌<◌, refl, sym, ◌∙◌, Bool, true, false, [], ◌∷◌}
 use Rattle.budget_bounds.proofs.Common.{get_or, AllZip, filter, Fixed, Flow, Dir, In, Out, Term, Storage, ConstantHead, Wells, Drains, RiverLeakage}
 use Rattle.budget_bounds.proofs.Common.{HeadDepBounds, Recharge, Et, Entries, entries_at, no_entries, TermPair, fixed_term, flow_term, is_term, part, singles}
-use Rattle.budget_bounds.proofs.Common.{flow_pair, fixed_pair, river_pair, drain_pair, evap_pair, parts, term_pair, AreWithin, HeadsAreWithin, exact_part}
+use Rattle.budget_bounds.proofs.Common.{flow_pair, parts, term_pair, AreWithin, HeadsAreWithin, exact_part, entry_pair}
 use Rattle.budget_bounds.proofs.Common.{exact_singles, exact_term, place_of, ◌>>=◌, all_terms, bounds_in, budget_of, is_small, no_pair, term_of, terms_of}
 use Rattle.budget_bounds.proofs.Common.{too_large, EnclosesBudgets, CoverEncloses, Reaches, FixedKind, FlowKind, total_below, ExactFlow, ExactFixed, ExactCell}
 use Rattle.budget_bounds.proofs.Common.{cell_at, no_cell, fixed_flow, river_flow, drain_flow, evap_flow, FlowEncloses, FixedEncloses, RiverEncloses}
@@ -17,6 +17,7 @@ use Rattle.step_problem.specs.declared.place.NoBound.{NoBound}
 use Rattle.decimal_input.specs.Fractions.{den}
 use Rattle.decimal_input.proofs.FloorLaws.{mul_mono_right}
 use Rattle.cell_balance.proofs.Deep.{le_trans_z}
+use Rattle.step_problem.specs.{drain_flow as drain_bound, evap_flow as evap_bound, fixed_flow as fixed_bound, river_flow as river_bound}
 
 part_encloses : (dir : Dir) (k : ℕ) (x : TermPair) (f : Fraction) → EnclosesSigned x.lo x.hi k f → EnclosesSigned (part dir x).lo (part dir x).hi k (exact_part dir f)
 part_encloses In k x f h = in_encloses x.lo x.hi k f h
@@ -27,9 +28,9 @@ pub record PairEncloses (k : ℕ) (x : TermPair) (f : Fraction) : Type 0 where
   pub within : EnclosesSigned x.lo x.hi k f
 
 module _ (s : ℕ) (v : Fraction) (l u : ℤ) (own : EnclosesSigned l u 9 v) where
-  fixed_singles : (t : Term) (xs : List Fixed) (ys : List ExactFixed) → AllZip (FixedEncloses s) xs ys → AllZip (PairEncloses (s + 9)) (map (fixed_pair l u) (filter (λ x. is_term t (fixed_term x.kind)) xs)) (map (fixed_flow v) (filter (λ x. is_term t (fixed_term x.kind)) ys))
+  fixed_singles : (t : Term) (xs : List Fixed) (ys : List ExactFixed) → AllZip (FixedEncloses s) xs ys → AllZip (PairEncloses (s + 9)) (map (entry_pair fixed_bound l u) (filter (λ x. is_term t (fixed_term x.kind)) xs)) (map (fixed_flow v) (filter (λ x. is_term t (fixed_term x.kind)) ys))
   fixed_singles t xs ys h =
-      AllZip-map (FixedEncloses s) (PairEncloses (s + 9)) (fixed_pair l u) (fixed_flow v) (λ x y e. record { within = (bounds_hold s v l u own).fixed x y e }) _ _
+      AllZip-map (FixedEncloses s) (PairEncloses (s + 9)) (entry_pair fixed_bound l u) (fixed_flow v) (λ x y e. record { within = (bounds_hold s v l u own).fixed x y e }) _ _
       (AllZip-filter (FixedEncloses s) (λ (x : Fixed). is_term t (fixed_term x.kind)) (λ (x : ExactFixed). is_term t (fixed_term x.kind)) (λ x y e. ap (λ (k : FixedKind). is_term t (fixed_term k)) e.kind) xs ys h)
 
   flow_singles : (t : Term) (xs : List Flow) (ys : List ExactFlow) → AllZip (FlowEncloses s) xs ys → AllZip (PairEncloses (s + 9)) (map flow_pair (filter (λ x. is_term t (flow_term x.kind)) xs)) (map (λ x. x.flow) (filter (λ x. is_term t (flow_term x.kind)) ys))
@@ -42,11 +43,11 @@ module _ (s : ℕ) (v : Fraction) (l u : ℤ) (own : EnclosesSigned l u 9 v) whe
   cell_singles Storage p e h = fixed_singles Storage p.fixed e.fixed h.fixed
   cell_singles ConstantHead p e h = fixed_singles ConstantHead p.fixed e.fixed h.fixed
   cell_singles Wells p e h = flow_singles Wells p.flows e.flows h.flows
-  cell_singles Drains p e h = AllZip-map (DrainEncloses s) (PairEncloses (s + 9)) (drain_pair l u) (drain_flow v) (λ x y e. record { within = (bounds_hold s v l u own).drains x y e }) p.drains e.drains h.drains
-  cell_singles RiverLeakage p e h = AllZip-map (RiverEncloses s) (PairEncloses (s + 9)) (river_pair l u) (river_flow v) (λ x y e. record { within = (bounds_hold s v l u own).rivers x y e }) p.rivers e.rivers h.rivers
+  cell_singles Drains p e h = AllZip-map (DrainEncloses s) (PairEncloses (s + 9)) (entry_pair drain_bound l u) (drain_flow v) (λ x y e. record { within = (bounds_hold s v l u own).drains x y e }) p.drains e.drains h.drains
+  cell_singles RiverLeakage p e h = AllZip-map (RiverEncloses s) (PairEncloses (s + 9)) (entry_pair river_bound l u) (river_flow v) (λ x y e. record { within = (bounds_hold s v l u own).rivers x y e }) p.rivers e.rivers h.rivers
   cell_singles HeadDepBounds p e h = fixed_singles HeadDepBounds p.fixed e.fixed h.fixed
   cell_singles Recharge p e h = flow_singles Recharge p.flows e.flows h.flows
-  cell_singles Et p e h = AllZip-map (EvapEncloses s) (PairEncloses (s + 9)) (evap_pair l u) (evap_flow v) (λ x y e. record { within = (bounds_hold s v l u own).evaps x y e }) p.evaps e.evaps h.evaps
+  cell_singles Et p e h = AllZip-map (EvapEncloses s) (PairEncloses (s + 9)) (entry_pair evap_bound l u) (evap_flow v) (λ x y e. record { within = (bounds_hold s v l u own).evaps x y e }) p.evaps e.evaps h.evaps
 
   cell_parts : (dir : Dir) (t : Term) (p : Entries) (e : ExactCell) → CellEncloses s p e → EnclosesSigned (parts dir (singles t p l u)).lo (parts dir (singles t p l u)).hi (s + 9) (fraction_total (exact_part dir) (exact_singles t e v))
   unfolding parts

@@ -8,6 +8,7 @@ use Rattle.step_problem.specs.declared.place.Term.TheVariants.{Storage, Constant
 use Rattle.step_problem.specs.declared.place.NoBound.{NoBound}
 use Rattle.step_problem.specs.declared.refusal.StepRefusal.TheVariants.{FlowTooLarge}
 use Rattle.step_problem.specs.{number_of, entries_at, total, fixed_flow, river_flow, drain_flow, evap_flow}
+use Rattle.step_problem.specs.declared.heads.Side.{Side}
 use Rattle.step_problem.specs.declared.heads.Side.TheVariants.{Low, High}
 use Rattle.step_problem.specs.Entries.{Entries}
 use Rattle.cell_balance.specs.{sum_below}
@@ -18,9 +19,6 @@ use Rattle.std.specs.Int.{int_max}
 use Rattle.step_problem.specs.declared.entry.FixedKind.{FixedKind}
 use Rattle.step_problem.specs.declared.entry.FlowKind.{FlowKind}
 use Rattle.step_problem.specs.declared.entry.Fixed.{Fixed}
-use Rattle.step_problem.specs.declared.entry.River.{River}
-use Rattle.step_problem.specs.declared.entry.Drain.{Drain}
-use Rattle.step_problem.specs.declared.entry.Evap.{Evap}
 use Rattle.step_problem.specs.declared.entry.Flow.{Flow}
 use Rattle.step_problem.specs.declared.entry.FixedKind.TheVariants as kinds
 use Rattle.step_problem.specs.declared.entry.FlowKind.TheVariants as packages
@@ -57,17 +55,8 @@ is_term a b = nat_eq (place_of a) (place_of b)
 abbrev pub flow_pair : Flow → TermPair
 flow_pair x = record { lo = x.lo; hi = x.hi }
 
-abbrev pub fixed_pair : ℤ → ℤ → Fixed → TermPair
-fixed_pair l u x = record { lo = fixed_flow Low u x; hi = fixed_flow High l x }
-
-abbrev pub river_pair : ℤ → ℤ → River → TermPair
-river_pair l u x = record { lo = river_flow Low u x; hi = river_flow High l x }
-
-abbrev pub drain_pair : ℤ → ℤ → Drain → TermPair
-drain_pair l u x = record { lo = drain_flow Low u x; hi = drain_flow High l x }
-
-abbrev pub evap_pair : ℤ → ℤ → Evap → TermPair
-evap_pair l u x = record { lo = evap_flow Low u x; hi = evap_flow High l x }
+abbrev pub entry_pair : {X : Type 0} → (Side → ℤ → X → ℤ) → ℤ → ℤ → X → TermPair
+entry_pair flow l u x = record { lo = flow Low u x; hi = flow High l x }
 
 -- the known heads, and the constant flows, whose flows are of a term
 abbrev pub fixed_of : Term → List Fixed → List Fixed
@@ -78,14 +67,14 @@ flows_of t xs = filter (λ x. is_term t (flow_term x.kind)) xs
 
 -- the single flows of a term into a cell with these entries, whose head lies between l and u
 unfoldable pub singles : Term → Entries → ℤ → ℤ → List TermPair
-singles Storage c l u = map (fixed_pair l u) (fixed_of Storage c.fixed)
-singles ConstantHead c l u = map (fixed_pair l u) (fixed_of ConstantHead c.fixed)
+singles Storage c l u = map (entry_pair fixed_flow l u) (fixed_of Storage c.fixed)
+singles ConstantHead c l u = map (entry_pair fixed_flow l u) (fixed_of ConstantHead c.fixed)
 singles Wells c l u = map flow_pair (flows_of Wells c.flows)
-singles Drains c l u = map (drain_pair l u) c.drains
-singles RiverLeakage c l u = map (river_pair l u) c.rivers
-singles HeadDepBounds c l u = map (fixed_pair l u) (fixed_of HeadDepBounds c.fixed)
+singles Drains c l u = map (entry_pair drain_flow l u) c.drains
+singles RiverLeakage c l u = map (entry_pair river_flow l u) c.rivers
+singles HeadDepBounds c l u = map (entry_pair fixed_flow l u) (fixed_of HeadDepBounds c.fixed)
 singles Recharge c l u = map flow_pair (flows_of Recharge c.flows)
-singles Et c l u = map (evap_pair l u) c.evaps
+singles Et c l u = map (entry_pair evap_flow l u) c.evaps
 
 -- the part of a flow that goes into the variable cells, and the part that goes out of them, as a magnitude
 abbrev pub part : Dir → TermPair → TermPair

@@ -50,10 +50,8 @@ pub fn first_uncovered(listed: &Budget, computed: &Budget) -> Option<(Dir, Term)
     if let Some(term) = first_short(listed, computed, Dir::In) {
         return Some((Dir::In, term));
     }
-    match first_short(listed, computed, Dir::Out) {
-        Some(term) => Some((Dir::Out, term)),
-        None => None,
-    }
+    let term = first_short(listed, computed, Dir::Out)?;
+    Some((Dir::Out, term))
 }
 
 // The term of an entry's flow.

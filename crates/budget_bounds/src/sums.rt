@@ -1,13 +1,13 @@
 // The sums of a term's flows. A sum stops at 2^126, so that adding a flow can't overflow.
-ghost use Rattle.std.specs.Prelude.{◌≡◌, ◌^◌, cond, map, All, pos, ◌+ℤ◌, ◌≤ℤ◌};
+ghost use Rattle.std.specs.Prelude.{◌≡◌, ◌*◌, ◌<◌, ◌^◌, cond, map, All, pos, ◌+ℤ◌, ◌≤ℤ◌};
 ghost use Rattle.std.specs.Int.{int_max, int_min};
 ghost use Rattle.std.specs.List.{filter};
 ghost use Rattle.step_problem.specs.{CellFits};
 ghost use Rattle.step_problem.specs.declared.place.Term.{Term};
-ghost use Rattle.budget_bounds.specs.{is_term, part, singles, parts, term_limit, AreHeads, AreSums, IsFlow, IsPart, IsSum, capped, plus_pair, sum_of};
+ghost use Rattle.budget_bounds.specs.{entry_pair, is_term, part, singles, parts, term_limit, AreHeads, AreSums, IsFlow, IsPart, IsSum, capped, plus_pair, sum_of};
 
 use crate::cover::place_of;
-use crate::flows::Entry;
+use crate::flows::{Entry, entry_pair};
 use crate::pair::TermPair;
 use step_problem::{Bound, Cell, Dir, Term};
 
@@ -89,12 +89,13 @@ fn add_entries<E: Entry>(sums: &mut [TermPair; 8], dir: Dir, own: Bound, entries
     requires own { AreHeads own }
     requires sums { AreSums sums.old }
     requires fit { All E.fits entries.now }
+    requires weights { All (λ x. E.weight x * E.unit < 2 ^ 123) entries.now }
     ensures value { (t : Term) → sum_of sums.new t
-        ≡ capped (plus_pair (sum_of sums.old t) (parts dir (map (E.pair own.low own.high) (filter (λ x. is_term t (E.of x)) entries.now)))) }
+        ≡ capped (plus_pair (sum_of sums.old t) (parts dir (map (entry_pair E.flow own.low own.high) (filter (λ x. is_term t (E.of x)) entries.now)))) }
     ensures sums { AreSums sums.new }
 {
     for x in entries {
-        add_flow(sums, dir, x.term(), x.pair_at(own));
+        add_flow(sums, dir, x.term(), entry_pair(x, own));
     }
 }
 
