@@ -1,6 +1,6 @@
 // The pairs of zones from stress period to stress period.
 ghost use Rattle.std.specs.Prelude.{◌≡◌, ◌≤◌, IfOk, IfSome, OnOk, length, option_map};
-ghost use Rattle.zone_pairs.specs.{pairs_in, ArePairs, CanPair, IsWalk, listed_pairs, zones_of};
+ghost use Rattle.zone_pairs.specs.{pairs_in, ArePairs, CanPair, listed_pairs, zones_of};
 
 use crate::pair::ZonePair;
 use crate::pairs::zone_pairs;
@@ -19,22 +19,6 @@ struct Walk<'a> {
 #[derive(Drop)]
 pub struct ZonePairs<'a> {
     walk: Option<Walk<'a>>,
-}
-
-impl Walk<'_> {
-    fn go_to(&mut self, alloc: Global, model: &FlowModel, period: u32) -> Result<(), AllocError>
-        requires walk { IsWalk model.now self.old }
-        requires last { period ≤ length model.now.periods }
-        ensures walk { OnOk result (IsWalk model.now self.new) }
-        ensures there { OnOk result (self.new.given.period ≡ period) }
-        ensures zones { self.new.zones.now ≡ self.old.zones.now }
-    {
-        if self.given.period != period {
-            self.given.advance_to(alloc, model, period)?;
-            self.pairs = Listed::new(zone_pairs(alloc, model, &self.given, self.zones)?);
-        }
-        Ok(())
-    }
 }
 
 impl<'a> ZonePairs<'a> {
@@ -69,10 +53,13 @@ impl<'a> ZonePairs<'a> {
         ensures there { OnOk result (listed_pairs self.new ≡ pairs_in model.now (zones_of self.new) period) }
         ensures zones { zones_of self.new ≡ zones_of self.old }
     {
-        match &mut self.walk {
-            None => Ok(()),
-            Some(walk) => walk.go_to(alloc, model, period),
+        if let Some(walk) = &mut self.walk {
+            if walk.given.period != period {
+                walk.given.advance_to(alloc, model, period)?;
+                walk.pairs = Listed::new(zone_pairs(alloc, model, &walk.given, walk.zones)?);
+            }
         }
+        Ok(())
     }
 
     /// The pairs at the current period.
