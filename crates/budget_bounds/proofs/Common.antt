@@ -5,8 +5,8 @@ pub use Rattle.std.proofs.lemmas.Int.{clamps, ints}
 pub use Rattle.std.proofs.lemmas.List.{append-nil, drop_all}
 pub use Rattle.std.specs.List.{AllZip, filter}
 pub use Rattle.budget_bounds.specs.{AreSums, AreWithin, CoverEncloses, EnclosesBudgets, HeadsAreWithin, IsSum, Reaches, all_terms, bounds_in, capped}
-pub use Rattle.budget_bounds.specs.{exact_part, fixed_of, fixed_term, flow_pair, flow_term, flows_of, is_small, is_term, entry_pair}
-pub use Rattle.budget_bounds.specs.{no_pair, part, place_of, plus_pair, sum_of, term_limit, too_large, ◌>>=◌}
+pub use Rattle.budget_bounds.specs.{entry_pair, exact_part, fixed_of, fixed_term, flow_pair, flow_term, flows_of, is_small, is_term, no_pair, part, place_of}
+pub use Rattle.budget_bounds.specs.{plus_pair, sum_of, term_limit, too_large, ◌>>=◌}
 unfoldable pub use Rattle.budget_bounds.specs.{budget_of, exact_singles, exact_term, parts, singles, term_of, term_pair, terms_of, tested, tested_budget}
 unfoldable pub use Rattle.budget_bounds.specs.{tested_terms}
 pub use Rattle.budget_bounds.specs.declared.pair.TermPair.{TermPair}

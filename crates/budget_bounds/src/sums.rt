@@ -4,7 +4,8 @@ ghost use Rattle.std.specs.Int.{int_max, int_min};
 ghost use Rattle.std.specs.List.{filter};
 ghost use Rattle.step_problem.specs.{CellFits};
 ghost use Rattle.step_problem.specs.declared.place.Term.{Term};
-ghost use Rattle.budget_bounds.specs.{entry_pair, is_term, part, singles, parts, term_limit, AreHeads, AreSums, IsFlow, IsPart, IsSum, capped, plus_pair, sum_of};
+ghost use Rattle.budget_bounds.specs.{entry_pair, is_term, part, singles, parts, term_limit, AreHeads, AreSums, IsFlow, IsPart, IsSum, capped, plus_pair};
+ghost use Rattle.budget_bounds.specs.{sum_of};
 
 use crate::cover::place_of;
 use crate::flows::{Entry, entry_pair};

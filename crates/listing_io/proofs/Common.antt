@@ -19,12 +19,13 @@ pub use Rattle.budget_bounds.specs.declared.pair.Budget.{Budget}
 pub use Rattle.budget_bounds.specs.declared.pair.TermPair.{TermPair}
 pub use Rattle.cell_balance.proofs.Zips.{AllZip-length, AllZip-right}
 pub use Rattle.fixed_text.specs.{fixed_text, padded, sign}
-pub use Rattle.listing_io.specs.{AreFlows, AreFlowsAt, AreListed, AreTerms, AreZonePairs, Form, Has, IsCellBound, IsFlowPair, IsForm, IsListedStep, IsListing}
-pub use Rattle.listing_io.specs.{IsPairLine, IsTime, IsWritable, Left, Line, LinesReadExactly, ListingsAreApart, ListingsAreReadAgain, ListingsWereWritten}
-pub use Rattle.listing_io.specs.{Stops, all_lines, behind_word, bound_of, dir_front, each_lines, end_line, ended, first_line, first_line_before, first_of}
-pub use Rattle.listing_io.specs.{first_word, flow_form, flow_of, has_evt, head_form, head_front, head_if, head_line, head_pair, is_first, is_negative}
-pub use Rattle.listing_io.specs.{is_printed, is_within, line_at, model_line, none_of, numbers_text, or_refused, over_at, pair_line, printed_terms, step_at}
-pub use Rattle.listing_io.specs.{step_line, term_form, term_if, term_line, text_of, value_of, with_byte, zone_front, zone_line, zone_pair}
+pub use Rattle.listing_io.specs.{AreFlows, AreFlowsAt, AreListed, AreTerms, AreZonePairs, Form, Has, HasDigits, IsCellBound, IsFlowPair, IsForm, IsListedStep}
+pub use Rattle.listing_io.specs.{IsListing, IsPairLine, IsTime, IsWritable, Left, Line, LinesReadExactly, ListingsAreApart, ListingsAreReadAgain}
+pub use Rattle.listing_io.specs.{ListingsWereWritten, Stops, all_lines, behind_word, bound_of, dir_front, each_lines, end_line, ended, first_line}
+pub use Rattle.listing_io.specs.{first_line_before, first_of, first_word, flow_form, flow_of, form_of, has_evt, head_form, head_front, head_if, head_line}
+pub use Rattle.listing_io.specs.{head_pair, is_first, is_negative, is_printed, is_within, line_at, model_line, none_of, numbers_text, or_refused, over_at}
+pub use Rattle.listing_io.specs.{pair_line, printed_terms, step_at, step_line, term_form, term_if, term_line, text_of, value_of, with_byte, zone_front}
+pub use Rattle.listing_io.specs.{zone_line, zone_pair}
 unfoldable pub use Rattle.listing_io.specs.{all_step_lines, candidate, digits_behind, first_at, flow_at, head_lines, heads_at, listing, listing_at, pair_at}
 unfoldable pub use Rattle.listing_io.specs.{pair_in, step_lines, step_text, step_with, term_lines, terms_at, text_at, variable_lines}
 pub use Rattle.listing_io.specs.declared.fault.Fault.{Fault}

@@ -12,7 +12,6 @@ use Rattle.step_problem.specs.declared.place.Dir.TheVariants.{In, Out}
 use Rattle.step_problem.specs.declared.place.Term.{Term}
 use Rattle.step_problem.specs.declared.place.ZoneFlow.{ZoneFlow}
 use Rattle.step_problem.specs.declared.place.Term.TheVariants.{Et}
-use Rattle.step_problem.specs.{no_bound}
 use Rattle.budget_bounds.specs.declared.pair.TermPair.{TermPair}
 use Rattle.budget_bounds.specs.{all_terms, no_pair}
 use Rattle.model_types.specs.declared.model.FlowModel.{FlowModel}
@@ -62,27 +61,26 @@ text_at text left = do
 abbrev pub bound_of : TermPair → Bound
 bound_of p = record { low = p.lo; high = p.hi }
 
--- the heads of a cell: no line, and zeros, where there is no flow
+-- a line that isn't there is zeros
+abbrev pub pair_if : Bool → List ℕ → Form → Left → Result (TermPair × Left) ℕ
+pair_if true front f left = pair_at front f left
+pair_if false front f left = Ok (no_pair, left)
+
+-- the heads of a cell: no line where there is no flow
 abbrev pub head_if : Bool → List ℕ → Left → Result (Bound × Left) ℕ
-head_if true front left = pair_at front head_form left >>= λ p. Ok (bound_of p.0, p.1)
-head_if false front left = Ok (no_bound, left)
+head_if flag front left = pair_if flag front head_form left >>= λ p. Ok (bound_of p.0, p.1)
 
 -- the heads of a grid's cells
 unfoldable pub heads_at : FlowModel → Left → Result (List Bound × Left) ℕ
 heads_at m left = for_each (λ c. head_if (is_active m c) (head_front m.grid c)) (range_with_len 0 (cell_count m.grid)) left
-
-abbrev pub term_at : ℕ → Dir → Term → Left → Result (TermPair × Left) ℕ
-term_at s dir t left = pair_at (dir_front dir) (term_form s t) left
 
 -- whether a term has a line; ET has one where the model has EVT
 abbrev pub is_printed : Bool → Term → Bool
 is_printed evt Et = evt
 is_printed evt other = true
 
--- a term without a line is zeros
 abbrev pub term_if : Bool → ℕ → Dir → Term → Left → Result (TermPair × Left) ℕ
-term_if true s dir t left = term_at s dir t left
-term_if false s dir t left = Ok (no_pair, left)
+term_if flag s dir t left = pair_if flag (dir_front dir) (term_form s t) left
 
 -- the terms in one direction
 unfoldable pub terms_at : Bool → ℕ → Dir → Left → Result (List TermPair × Left) ℕ

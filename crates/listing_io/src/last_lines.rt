@@ -1,13 +1,13 @@
 // The last lines of a run that name a refusal, a time step, or a place in it.
-ghost use Rattle.std.specs.Prelude.{◌≡◌, ◌++◌, codes, IfOk};
+ghost use Rattle.std.specs.Prelude.{◌≡◌, ◌++◌, IfOk};
 ghost use Rattle.model_types.specs.{HasSize};
-ghost use Rattle.outside.specs.{code_row};
-ghost use Rattle.listing_io.specs.{cell_text, code_text, fault_place, no_bound_line, not_certified_line, open_place, refused_line, step_word, time_text};
-ghost use Rattle.listing_io.specs.{unfinished_line};
+ghost use Rattle.listing_io.specs.{cell_text, code_text, fault_place, no_bound_line, not_certified_line, open_place, refused_line, step_word, unfinished_line};
 
-use crate::places::{dir_word, push_place, push_three, push_two, push_word, side_word, term_word};
+use crate::places::{
+    dir_name, push_place, push_three, push_time_line, push_two, push_word, side_word, term_word,
+};
 use model_types::{Grid, TimeStep};
-use outside::{Code, Refusal};
+use outside::Refusal;
 use std::alloc::{AllocError, Global};
 use step_problem::{NoBound, Place, StepRefusal};
 
@@ -65,7 +65,8 @@ fn push_fault_place(text: &mut Vec<u8>, grid: &Grid, place: Place) -> Result<(),
     match place {
         Place::Cell(cell, _) => push_place(text, grid, cell),
         Place::Term(dir, term) => {
-            text.extend_from_slice(dir_word(dir))?;
+            text.push(b' ')?;
+            text.extend_from_slice(dir_name(dir))?;
             text.extend_from_slice(term_word(term))
         }
         Place::Zone(from, to) => {
@@ -110,9 +111,8 @@ pub fn write_no_bound(
 pub fn write_unfinished(alloc: Global, at: TimeStep) -> Result<Vec<u8>, AllocError>
     ensures { IfOk result (λ text. text.items ≡ unfinished_line at) }
 {
-    let mut text = Vec::from_slice(alloc, b"UNFINISHED")?;
-    push_two(&mut text, at.period, at.step)?;
-    text.push(b'\n')?;
+    let mut text = Vec::new(alloc);
+    push_time_line(&mut text, b"UNFINISHED", at)?;
     Ok(text)
 }
 

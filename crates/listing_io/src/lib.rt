@@ -9,6 +9,7 @@ mod lines;
 pub mod listing;
 mod listing_reader;
 mod listing_writer;
+mod pair_lines;
 mod pairs;
 mod places;
 mod step_reader;

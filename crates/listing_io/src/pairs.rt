@@ -1,7 +1,7 @@
 // Lines that have two numbers, written and read.
-ghost use Rattle.std.specs.Prelude.{◌≡◌, ◌≤◌, ◌<◌, ◌^◌, ◌++◌, ◌⊎◌, MatchOption, IfOk, IfSome, codes, nat_abs};
+ghost use Rattle.std.specs.Prelude.{◌≡◌, ◌≤◌, ◌<◌, ◌^◌, ◌++◌, ◌⊎◌, MatchOption, IfOk, IfSome, nat_abs};
 ghost use Rattle.fixed_text.specs.{fixed_text};
-ghost use Rattle.listing_io.specs.Forms.{Form, candidate, is_within, pair_in, pair_text};
+ghost use Rattle.listing_io.specs.Forms.{Form, IsForm, candidate, is_within, pair_in, pair_text};
 
 use crate::digits::value_in;
 use crate::words::{behind, behind_word, first_word};
@@ -24,34 +24,20 @@ impl<'a> Model for PairForm<'a> {
     ghost view = { λ f. record { places = f.places; limit = f.limit; back = f.back.now } };
 }
 
-fn push_numbers(
-    text: &mut Vec<u8>,
-    places: u32,
-    pair: TermPair,
-    back: &[u8],
-) -> Result<(), AllocError>
-    requires some { 0 < places }
-    requires few { places ≤ 27 }
-    ensures { IfOk result (λ _. text.new.items ≡ text.old.items ++ (fixed_text places pair.lo ++ (codes " " ++ (fixed_text places pair.hi ++ back.now)))) }
-{
-    push_fixed(text, places, pair.lo)?;
-    text.push(b' ')?;
-    push_fixed(text, places, pair.hi)?;
-    text.extend_from_slice(back)?;
-    Ok(())
-}
-
 /// Writes two numbers and the text after them.
 pub(crate) fn push_pair(
     text: &mut Vec<u8>,
     form: &PairForm,
     pair: TermPair,
 ) -> Result<(), AllocError>
-    requires some { 0 < form.now.places }
-    requires few { form.now.places ≤ 27 }
+    requires { IsForm form.now }
     ensures { IfOk result (λ _. text.new.items ≡ text.old.items ++ pair_text form.now pair) }
 {
-    push_numbers(text, form.places, pair, form.back)
+    push_fixed(text, form.places, pair.lo)?;
+    text.push(b' ')?;
+    push_fixed(text, form.places, pair.hi)?;
+    text.extend_from_slice(form.back)?;
+    Ok(())
 }
 
 #[tactic(auto, unfolding(crate::specs::Forms::candidate))]
@@ -78,9 +64,7 @@ pub(crate) fn pair_in(
     form: &PairForm,
     line: &[u8],
 ) -> Result<Option<TermPair>, AllocError>
-    requires some { 0 < form.now.places }
-    requires few { form.now.places ≤ 27 }
-    requires limit { form.now.limit < 2 ^ 126 }
+    requires { IsForm form.now }
     ensures pair { IfOk result (λ found. found ≡ pair_in text.old.items form.now line.now) }
     ensures lo { IfOk result (λ found. IfSome found (λ p. nat_abs p.lo ≤ form.now.limit)) }
     ensures hi { IfOk result (λ found. IfSome found (λ p. nat_abs p.hi ≤ form.now.limit)) }

@@ -2,7 +2,7 @@
 ghost use Rattle.std.specs.Prelude.{◌≡◌, ◌++◌, [], ◌∷◌, codes, decimal, IfOk};
 ghost use Rattle.step_problem.specs.{dir_name, side_name, term_name};
 ghost use Rattle.model_types.specs.{place, HasSize};
-ghost use Rattle.listing_io.specs.{dir_front, has_evt, head_front, numbers_text, step_line, zone_front};
+ghost use Rattle.listing_io.specs.{ended, has_evt, numbers_text, time_text};
 
 use fixed_text::push_number;
 use model_types::{FlowModel, Grid, TimeStep};
@@ -50,52 +50,34 @@ pub(crate) fn push_place(text: &mut Vec<u8>, grid: &Grid, cell: u32) -> Result<(
     )
 }
 
-/// Writes the beginning of the line of a cell's heads.
-pub(crate) fn push_head_front(text: &mut Vec<u8>, grid: &Grid, cell: u32) -> Result<(), AllocError>
-    requires { HasSize grid.now }
-    ensures { IfOk result (λ _. text.new.items ≡ text.old.items ++ head_front grid.now cell) }
+/// Writes a word, and a time step by its stress period and its number.
+pub(crate) fn push_time(text: &mut Vec<u8>, word: &[u8], at: TimeStep) -> Result<(), AllocError>
+    ensures { IfOk result (λ _. text.new.items ≡ text.old.items ++ (word.now ++ time_text at)) }
 {
-    text.extend_from_slice(b"HEAD")?;
-    push_place(text, grid, cell)?;
-    text.push(b' ')?;
-    Ok(())
-}
-
-/// Writes the beginning of the line of a flow between two zones.
-pub(crate) fn push_zone_front(text: &mut Vec<u8>, from: u32, to: u32) -> Result<(), AllocError>
-    ensures { IfOk result (λ _. text.new.items ≡ text.old.items ++ zone_front from to) }
-{
-    text.extend_from_slice(b"ZONE")?;
-    push_two(text, from, to)?;
-    text.push(b' ')?;
-    Ok(())
-}
-
-/// Writes the line of a step, without its line feed.
-pub(crate) fn push_step_line(text: &mut Vec<u8>, at: TimeStep) -> Result<(), AllocError>
-    ensures { IfOk result (λ _. text.new.items ≡ text.old.items ++ step_line at) }
-{
-    text.extend_from_slice(b"STEP")?;
+    text.extend_from_slice(word)?;
     push_two(text, at.period, at.step)
 }
 
-/// The beginning of the lines of the terms in one direction.
-pub(crate) fn dir_front(dir: Dir) -> &'static [u8]
-    ensures { result.now ≡ dir_front dir }
+/// Writes the line of a word and a time step.
+pub(crate) fn push_time_line(
+    text: &mut Vec<u8>,
+    word: &[u8],
+    at: TimeStep,
+) -> Result<(), AllocError>
+    ensures { IfOk result (λ _. text.new.items ≡ text.old.items ++ ended (word.now ++ time_text at)) }
 {
-    match dir {
-        Dir::In => b"IN ",
-        Dir::Out => b"OUT ",
-    }
+    push_time(text, word, at)?;
+    text.push(b'\n')?;
+    Ok(())
 }
 
-/// The word of a direction, after a blank.
-pub(crate) fn dir_word(dir: Dir) -> &'static [u8]
-    ensures { result.now ≡ codes " " ++ dir_name dir }
+/// The name of a direction.
+pub(crate) fn dir_name(dir: Dir) -> &'static [u8]
+    ensures { result.now ≡ dir_name dir }
 {
     match dir {
-        Dir::In => b" IN",
-        Dir::Out => b" OUT",
+        Dir::In => b"IN",
+        Dir::Out => b"OUT",
     }
 }
 

@@ -2,22 +2,14 @@
 ghost use Rattle.std.specs.Prelude.{◌≡◌, ◌++◌, ◌<◌, length, IfOk};
 ghost use Rattle.step_problem.specs.{entries_at};
 ghost use Rattle.model_types.specs.{HasSize};
-ghost use Rattle.listing_io.specs.{ended, text_of, variable_lines, view_text, watch_line};
+ghost use Rattle.listing_io.specs.{text_of, variable_lines, view_text};
 
-use crate::listing_writer::push_head;
-use crate::places::push_two;
+use crate::listing_writer::head_pair;
+use crate::pair_lines::{Row, push_row};
+use crate::places::push_time_line;
 use model_types::{Grid, TimeStep};
 use std::alloc::{AllocError, Global};
 use step_problem::{Bound, Problem};
-
-fn push_watch_line(text: &mut Vec<u8>, at: TimeStep) -> Result<(), AllocError>
-    ensures { IfOk result (λ _. text.new.items ≡ text.old.items ++ ended (watch_line at)) }
-{
-    text.extend_from_slice(b"WATCH")?;
-    push_two(text, at.period, at.step)?;
-    text.push(b'\n')?;
-    Ok(())
-}
 
 // The cell number of a variable cell.
 fn id_at(p: &Problem, cell: usize) -> u32
@@ -38,7 +30,8 @@ fn push_variable_cells(
     ensures { IfOk result (λ _. text.new.items ≡ text.old.items ++ text_of (variable_lines grid.now p.now heads.now)) }
 {
     for cell in 0..heads.len() {
-        push_head(text, grid, id_at(p, cell), heads[cell])?;
+        let row = Row::Head(id_at(p, cell));
+        push_row(text, grid, row, head_pair(heads[cell]))?;
     }
     Ok(())
 }
@@ -57,7 +50,7 @@ pub fn write_view(
     ensures { IfOk result (λ text. text.items ≡ view_text grid.now at p.now heads.now) }
 {
     let mut text = Vec::new(alloc);
-    push_watch_line(&mut text, at)?;
+    push_time_line(&mut text, b"WATCH", at)?;
     push_variable_cells(&mut text, grid, p, heads)?;
     Ok(text)
 }

@@ -7,6 +7,6 @@ pub returns : goal.returns
 returns c =
     let line = λ (t : Term). term_line c.args.s c.args.dir t (slice_index_or c.args.pairs.now (place_of t) no_pair) in
     let et = cond c.args.evt (line Et ∷ []) [] in
-    let pieces : c.push_et.new.text.items ≡ c.args.text.now.items ++ ended (line Storage) ++ ended (line ConstantHead) ++ ended (line Wells) ++ ended (line Drains) ++ ended (line RiverLeakage) ++ ended (line HeadDepBounds) ++ ended (line Recharge) ++ text_of et = search rules in
+    let pieces : c.push_row_if.new.text.items ≡ c.args.text.now.items ++ ended (line Storage) ++ ended (line ConstantHead) ++ ended (line Wells) ++ ended (line Drains) ++ ended (line RiverLeakage) ++ ended (line HeadDepBounds) ++ ended (line Recharge) ++ text_of et = search rules in
     pieces ∙ seven_joined c.args.text.now.items (line Storage) (line ConstantHead) (line Wells) (line Drains) (line RiverLeakage) (line HeadDepBounds) (line Recharge) et
     ∙ ap (λ (more : List Line). c.args.text.now.items ++ text_of (line Storage ∷ line ConstantHead ∷ line Wells ∷ line Drains ∷ line RiverLeakage ∷ line HeadDepBounds ∷ line Recharge ∷ more)) (line_if line c.args.evt Et)

@@ -1,0 +1,27 @@
+-- Lines with two numbers, by what they are about: the beginning and the form of each.
+use Rattle.std.specs.Prelude.{ℕ, List, ◌≤◌, []}
+use Rattle.budget_bounds.specs.declared.pair.TermPair.{TermPair}
+use Rattle.model_types.specs.declared.grid.Grid.{Grid}
+use Rattle.listing_io.specs.declared.pair_lines.Row.{Row}
+use Rattle.listing_io.specs.declared.pair_lines.Row.TheVariants as row
+use Rattle.listing_io.specs.Forms.{Form, pair_line}
+use Rattle.listing_io.specs.Listing.{Line, dir_front, flow_form, head_form, head_front, term_form, zone_front}
+
+abbrev pub front_of : Grid → Row → List ℕ
+front_of g (row.Head c) = head_front g c
+front_of g (row.Term s dir t) = dir_front dir
+front_of g (row.Zone s a b) = zone_front a b
+
+abbrev pub form_of : Row → Form
+form_of (row.Head c) = head_form
+form_of (row.Term s dir t) = term_form s t
+form_of (row.Zone s a b) = flow_form s []
+
+abbrev pub row_line : Grid → Row → TermPair → Line
+row_line g r p = pair_line (front_of g r) (form_of r) p
+
+-- flows have at most 18 digits of conductances
+abbrev pub HasDigits : Row → Type 0
+HasDigits (row.Head c) = Unit {0}
+HasDigits (row.Term s dir t) = s ≤ 18
+HasDigits (row.Zone s a b) = s ≤ 18
