@@ -1,8 +1,8 @@
 -- A check, step by step.
 use Rattle.check_run.proofs.Common.{Limits, All, Contains, ◌≡◌, ℕ, suc, List, [], ◌∷◌, ◌+◌, ◌<◌, ◌≤◌, subst, sym, ap, refl, arith, ◌∙◌, inl, inr, drop, length}
 use Rattle.check_run.proofs.Common.{get_or, Result, Ok, Err, IfOk, Option, AllZip, IfErr, All-head, All-tail, All-contains_itself, drop_more, drop_all, Bound}
-use Rattle.check_run.proofs.Common.{ZoneFlow, Budget, TimeStep, start_head, times, AreGridHeads, HeadsEnclose, pairs_in, ListedStep, AreFlows, AreFlowsAt}
-use Rattle.check_run.proofs.Common.{AreListed, IsListedStep, step_in, BoundsMoves, CheckFault, ListingVerdict, Certified, Fails, Refused, FailsBy, IsVerdictAt}
+use Rattle.check_run.proofs.Common.{ZoneFlow, TimeStep, start_head, times, AreGridHeads, HeadsEnclose, pairs_in, ListedStep, AreFlows, AreFlowsAt, AreListed}
+use Rattle.check_run.proofs.Common.{IsListedStep, step_in, BoundsMoves, CheckFault, ListingVerdict, Certified, Fails, Refused, FailsBy, IsVerdictAt}
 use Rattle.check_run.proofs.Common.{heads_before, Passes, Checks, StopsAt, IsVerdict, ListingEncloses, checked_task, step_of, steps_of, Decks, AreDecks}
 use Rattle.check_run.proofs.Common.{EachMember, HaveOneHistory, histories_bound, AreStartHeadsFor}
 use Rattle.check_run.proofs.Passed.{ArePassed, all_move, have_one}
@@ -10,14 +10,13 @@ use Rattle.check_run.proofs.RunText.{grid_of}
 use Rattle.check_run.specs.declared.listing.CheckFault.TheVariants as fault
 
 -- what holds of the heads before a step and of the step, as they were lent
-pub here : (P : List Bound → ListedStep → Type 0) (old olds heads : List Bound) (budget : Budget) (flows : List ZoneFlow) (w : ListedStep) → old ≡ olds → heads ≡ w.heads → budget ≡ w.budget → flows ≡ w.zones →
-    P old (record { heads = heads; budget = budget; zones = flows }) → P olds w
-here P old olds heads budget flows w is is_heads is_budget are_flows h =
-    let O : List Bound → Type 0 = λ o. P o (record { heads = heads; budget = budget; zones = flows }) in
-    let H : List Bound → Type 0 = λ hs. P olds (record { heads = hs; budget = budget; zones = flows }) in
-    let B : Budget → Type 0 = λ b. P olds (record { heads = w.heads; budget = b; zones = flows }) in
+pub here : (P : List Bound → ListedStep → Type 0) (old olds heads : List Bound) (flows : List ZoneFlow) (w x : ListedStep) → old ≡ olds → w ≡ x → heads ≡ w.heads → flows ≡ w.zones →
+    P old (record { heads = heads; budget = w.budget; zones = flows }) → P olds x
+here P old olds heads flows w x is same is_heads are_flows h =
+    let O : List Bound → Type 0 = λ o. P o (record { heads = heads; budget = w.budget; zones = flows }) in
+    let H : List Bound → Type 0 = λ hs. P olds (record { heads = hs; budget = w.budget; zones = flows }) in
     let Z : List ZoneFlow → Type 0 = λ z. P olds (record { heads = w.heads; budget = w.budget; zones = z }) in
-    subst Z are_flows (subst B is_budget (subst H is_heads (subst O is h)))
+    subst (P olds) same (subst Z are_flows (subst H is_heads (subst O is h)))
 
 -- a step for each time
 steps_many : (ats : List TimeStep) (ws : List ListedStep) → length ws ≡ length ats → length ats ≡ length (steps_of ats ws)
@@ -101,28 +100,28 @@ module _ (limits : Limits) (ds : Decks) (s : ℕ) (zones : Option (List ℕ)) (a
 
   -- One step of the loop, from what was lent to the check of the step.
   module _ (start : List Bound) (i : ℕ) (items : List TimeStep) (d : TimeStep) (is : items ≡ times ds.first) (listed : AreListed ds.first (pairs_in ds.first zones) all) (below : i < length items) (f : IsSoFar (heads_before start all i) (drop i (times ds.first)) (drop i all))
-      (n : ℕ) (digits : n ≡ s) (old heads : List Bound) (budget : Budget) (flows : List ZoneFlow) (old_is : old ≡ heads_before start all i) (heads_are : heads ≡ (step_in all i).heads) (budget_is : budget ≡ (step_in all i).budget) (flows_are : flows ≡ (step_in all i).zones) where
+      (n : ℕ) (digits : n ≡ s) (old : List Bound) (w : ListedStep) (heads : List Bound) (flows : List ZoneFlow) (old_is : old ≡ heads_before start all i) (w_is : w ≡ step_in all i) (heads_are : heads ≡ w.heads) (flows_are : flows ≡ w.zones) where
     pub listed_at : IsListedStep ds.first (step_in all i)
     listed_at = listed.steps i _ (omega (arith, below, ap length is, listed.whole))
 
     pub flows_here : AreFlows (pairs_in ds.first zones (get_or items i d).period) flows
     flows_here =
         let F : List ZoneFlow → Type 0 = AreFlows (pairs_in ds.first zones (get_or items i d).period) in
-        subst F (sym flows_are) (at_step (heads_before start all i) i items d is listed below f).flows.0
+        subst F (sym (flows_are ∙ ap (λ (x : ListedStep). x.zones) w_is)) (at_step (heads_before start all i) i items d is listed below f).flows.0
 
-    pub stops_here : (fault : CheckFault) (v : ListingVerdict) → FailsBy limits ds n zones (get_or items i d) old (record { heads = heads; budget = budget; zones = flows }) fault → IsVerdictAt (get_or items i d) fault v → IsVerdict limits ds s zones all v
+    pub stops_here : (fault : CheckFault) (v : ListingVerdict) → FailsBy limits ds n zones (get_or items i d) old (record { heads = heads; budget = w.budget; zones = flows }) fault → IsVerdictAt (get_or items i d) fault v → IsVerdict limits ds s zones all v
     stops_here fault v h verdict =
-        let D : ℕ → Type 0 = λ k. FailsBy limits ds k zones (get_or items i d) old (record { heads = heads; budget = budget; zones = flows }) fault in
-        let P : List Bound → ListedStep → Type 0 = λ o w. FailsBy limits ds s zones (get_or items i d) o w fault in
+        let D : ℕ → Type 0 = λ k. FailsBy limits ds k zones (get_or items i d) old (record { heads = heads; budget = w.budget; zones = flows }) fault in
+        let P : List Bound → ListedStep → Type 0 = λ o x. FailsBy limits ds s zones (get_or items i d) o x fault in
         ends_by (heads_before start all i) (get_or items i d) (drop (i + 1) (times ds.first)) (step_in all i) (drop (i + 1) all) fault v (at_step (heads_before start all i) i items d is listed below f)
-        (here P old (heads_before start all i) heads budget flows (step_in all i) old_is heads_are budget_is flows_are (subst D digits h)) verdict
+        (here P old (heads_before start all i) heads flows w (step_in all i) old_is w_is heads_are flows_are (subst D digits h)) verdict
 
-    pub goes_here : Passes limits ds n zones (get_or items i d) old (record { heads = heads; budget = budget; zones = flows }) → BoundsMoves (checked_task ds n zones) (get_or items i d) old (step_of (get_or items i d) (record { heads = heads; budget = budget; zones = flows })) →
+    pub goes_here : Passes limits ds n zones (get_or items i d) old (record { heads = heads; budget = w.budget; zones = flows }) → BoundsMoves (checked_task ds n zones) (get_or items i d) old (step_of (get_or items i d) (record { heads = heads; budget = w.budget; zones = flows })) →
         IsSoFar (heads_before start all (i + 1)) (drop (i + 1) (times ds.first)) (drop (i + 1) all)
     goes_here passes moves =
-        let D : ℕ → Type 0 = λ k. Passes limits ds k zones (get_or items i d) old (record { heads = heads; budget = budget; zones = flows }) × BoundsMoves (checked_task ds k zones) (get_or items i d) old (step_of (get_or items i d) (record { heads = heads; budget = budget; zones = flows })) in
-        let P : List Bound → ListedStep → Type 0 = λ o w. Passes limits ds s zones (get_or items i d) o w × BoundsMoves (checked_task ds s zones) (get_or items i d) o (step_of (get_or items i d) w) in
-        let h = here P old (heads_before start all i) heads budget flows (step_in all i) old_is heads_are budget_is flows_are (subst D digits (passes, moves)) in
+        let D : ℕ → Type 0 = λ k. Passes limits ds k zones (get_or items i d) old (record { heads = heads; budget = w.budget; zones = flows }) × BoundsMoves (checked_task ds k zones) (get_or items i d) old (step_of (get_or items i d) (record { heads = heads; budget = w.budget; zones = flows })) in
+        let P : List Bound → ListedStep → Type 0 = λ o x. Passes limits ds s zones (get_or items i d) o x × BoundsMoves (checked_task ds s zones) (get_or items i d) o (step_of (get_or items i d) x) in
+        let h = here P old (heads_before start all i) heads flows w (step_in all i) old_is w_is heads_are flows_are (subst D digits (passes, moves)) in
         let Q : ℕ → Type 0 = λ k. IsSoFar (heads_before start all k) (drop (i + 1) (times ds.first)) (drop (i + 1) all) in
         let next : suc i ≡ i + 1 = omega arith in
         subst Q next (one_more (heads_before start all i) (get_or items i d) (drop (i + 1) (times ds.first)) (step_in all i) (drop (i + 1) all) (at_step (heads_before start all i) i items d is listed below f) (grid_of ds.first (step_in all i) listed_at) h.0 h.1)

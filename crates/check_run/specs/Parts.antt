@@ -34,7 +34,10 @@ use Rattle.check_run.specs.declared.listing.CheckFault.TheVariants as fault
 use Rattle.check_run.specs.declared.posed.Posed.{Posed}
 use Rattle.check_run.specs.declared.verdict.ListingVerdict.{ListingVerdict}
 use Rattle.check_run.specs.declared.verdict.ListingVerdict.TheVariants as verdict
+use Rattle.check_run.specs.declared.verdict.ListingVerdict.TheVariants.{Certified}
 use Rattle.check_run.specs.Steps.{CoversFlow, IsFirstNarrow, FailsAt, IsRefused}
+use Rattle.check_run.specs.Verdicts.{IsVerdict, ListingEncloses}
+use Rattle.exact_histories.specs.{HaveOneHistory}
 
 -- a fault of a step by that of its builder, or its barrier
 abbrev pub of_build : BuildFault → CheckFault
@@ -105,6 +108,13 @@ AreNarrow p heads zones listed (fault.Fails place) =
     × (place ≡ places.Zone from to)
 AreNarrow p heads zones listed (fault.Refused n) = HasLargeFlowOf p heads zones n
 AreNarrow p heads zones listed fault.Memory = Unit {0}
+
+-- the verdict on a listing, what it encloses where it is certified, and that there is one history then
+pub record IsChecked (limits : Limits) (d : Decks) (s : ℕ) (zones : Option (List ℕ)) (all : List ListedStep) (v : ListingVerdict) : Type 0 where
+  pub verdict : IsVerdict limits d s zones all v
+  pub only : (other : ListingVerdict) → IsVerdict limits d s zones all other → other ≡ v
+  pub encloses : v ≡ Certified → ListingEncloses d s zones all
+  pub history : v ≡ Certified → HaveOneHistory d
 
 -- the verdict from a step's fault at its time
 abbrev pub IsVerdictAt : TimeStep → CheckFault → ListingVerdict → Type 0

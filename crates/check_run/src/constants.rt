@@ -14,21 +14,6 @@ use model_types::{Kind, TimeStep};
 use problem_builder::PeriodTables;
 use step_problem::{Bound, Side};
 
-// The side on which a listed bound is narrower than a pair, the lower one first.
-fn short_side(listed: Bound, pair: Bound) -> Option<Side>
-    ensures { MatchOption result
-        ((side : Side) → ReachesOn side listed pair)
-        (λ side. (ReachesOn side listed pair → ⊥) × (side ≡ Side.High → ReachesOn Low listed pair)) }
-{
-    if listed.low > pair.low {
-        Some(Side::Low)
-    } else if listed.high < pair.high {
-        Some(Side::High)
-    } else {
-        None
-    }
-}
-
 // The side on which the listed bound of a cell of this kind is narrower than the pair of its constant head, the lower
 // one first.
 fn unreached_side(kind: Kind, listed: Bound, pair: Bound) -> Option<Side>
@@ -37,7 +22,15 @@ fn unreached_side(kind: Kind, listed: Bound, pair: Bound) -> Option<Side>
         (λ side. (kind ≡ Constant) × (ReachesOn side listed pair → ⊥) × (side ≡ Side.High → ReachesOn Low listed pair)) }
 {
     match kind {
-        Kind::Constant => short_side(listed, pair),
+        Kind::Constant => {
+            if listed.low > pair.low {
+                Some(Side::Low)
+            } else if listed.high < pair.high {
+                Some(Side::High)
+            } else {
+                None
+            }
+        }
         Kind::NoFlow => None,
         Kind::Variable => None,
     }

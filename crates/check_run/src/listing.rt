@@ -1,11 +1,11 @@
 // The check of a listing.
-ghost use Rattle.std.specs.Prelude.{◌≡◌, ◌≤◌, length, option_map, IfOk};
+ghost use Rattle.std.specs.Prelude.{◌≡◌, ◌<◌, ◌≤◌, length, option_map, IfOk};
 ghost use Rattle.zone_pairs.specs.{pairs_in, AreZones};
-ghost use Rattle.listing_io.specs.{AreListed};
+ghost use Rattle.listing_io.specs.{AreListed, step_in};
 ghost use Rattle.exact_histories.specs.{HaveOneHistory};
 ghost use Rattle.deck_problems.specs.{AreDecks, AreDeckTables, digits_of};
 ghost use Rattle.check_run.specs.declared.verdict.ListingVerdict.TheVariants.{Certified};
-ghost use Rattle.check_run.specs.Parts.{heads_before, IsVerdictAt, of_barrier, of_build, of_flows};
+ghost use Rattle.check_run.specs.Parts.{heads_before, IsChecked, IsVerdictAt, of_barrier, of_build, of_flows};
 ghost use Rattle.check_run.specs.Verdicts.{IsVerdict, ListingEncloses};
 ghost use Rattle.check_run.specs.declared.listing.CheckFault.TheVariants.{Memory as OutOfMemory};
 
@@ -14,10 +14,10 @@ use crate::step::check_listed;
 use crate::verdict::ListingVerdict;
 use barrier_vector::BarrierFault;
 use deck_problems::{DeckTables, Decks, start_heads_for};
-use listing_io::Listing;
+use listing_io::{ListedStep, Listing};
 use model_types::{Limits, TimeStep, times};
 use problem_builder::BuildFault;
-use std::alloc::{AllocError, AllocFailed, Global};
+use std::alloc::{AllocError, Global};
 use step_problem::{Bound, NoBound, Place};
 use zone_flows::ZoneFault;
 
@@ -29,7 +29,15 @@ fn heads_before<'a>(start: &'a [Bound], listing: &'a Listing, index: usize) -> &
     if index == 0 {
         return start;
     }
-    listing.heads(index - 1)
+    step_at(listing, index - 1).heads.as_slice()
+}
+
+// A step of a listing, by its index from 0.
+fn step_at(listing: &Listing, index: usize) -> &ListedStep
+    requires { index < length listing.now }
+    ensures { result.now ≡ step_in listing.now index }
+{
+    &listing.as_slice()[index]
 }
 
 // The verdict on a listing from a step's fault at its time.
@@ -57,14 +65,7 @@ fn check_steps(
     requires zones { AreZones decks.now.first (option_map (λ z. z.now) zones) }
     requires listing { AreListed decks.now.first (pairs_in decks.now.first (option_map (λ z. z.now) zones)) listing.now }
     requires tables { AreDeckTables decks.now (digits_of tables.old.first) tables.old }
-    ensures verdict { IfOk result (IsVerdict limits decks.now (digits_of tables.old.first) (option_map (λ z. z.now) zones.entry) listing.now) }
-    ensures only { IfOk result
-        (λ v. (other : ListingVerdict) →
-        IsVerdict limits decks.now (digits_of tables.old.first) (option_map (λ z. z.now) zones.entry) listing.now other → other ≡ v) }
-    ensures encloses { IfOk result
-        (λ v. v ≡ Certified →
-        ListingEncloses decks.now (digits_of tables.old.first) (option_map (λ z. z.now) zones.entry) listing.now) }
-    ensures history { IfOk result (λ v. v ≡ Certified → HaveOneHistory decks.now) }
+    ensures { IfOk result (IsChecked limits decks.now (digits_of tables.old.first) (option_map (λ z. z.now) zones.entry) listing.now) }
 {
     one_verdict();
     let start_heads = start_heads_for(alloc, decks)?;
@@ -72,11 +73,20 @@ fn check_steps(
     let times = times(alloc, &decks.first)?;
     for (index, at) in times.as_slice().iter().enumerate() {
         let old = heads_before(start, listing, index);
-        let heads = listing.heads(index);
-        let budget = listing.budget(index);
-        let flows = listing.zones(index);
+        let listed = step_at(listing, index);
+        let heads = listed.heads.as_slice();
+        let flows = listed.zones.as_slice();
         match check_listed(
-            alloc, limits, decks, tables, *at, old, zones, heads, budget, flows,
+            alloc,
+            limits,
+            decks,
+            tables,
+            *at,
+            old,
+            zones,
+            heads,
+            &listed.budget,
+            flows,
         ) {
             Ok(()) => {}
             Err(fault) => return verdict_at(*at, fault),

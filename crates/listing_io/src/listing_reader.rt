@@ -10,7 +10,7 @@ use crate::lines::AllLines;
 use crate::listing::{ListedStep, Listing};
 use crate::listing_writer::push_first_line;
 use crate::step_reader::read_step;
-use model_types::{FlowModel, TimeStep, times};
+use model_types::{FlowModel, Listed, TimeStep, times};
 use outside::{Code, TextFault, text_fault};
 use std::alloc::Global;
 use zone_pairs::ZonePairs;
@@ -148,7 +148,7 @@ pub fn read_listing(
 {
     let mut lines = AllLines::new(bytes);
     match read_zoned(alloc, between, model, s, zones, &mut lines) {
-        Ok(steps) => Ok(Listing::new(steps)),
+        Ok(steps) => Ok(Listed::new(steps)),
         Err(Fault::BadLine(number)) => Err(text_fault(alloc, Code::BadListing, file, number)),
         Err(Fault::Memory) => Err(TextFault::Memory),
     }

@@ -1,5 +1,5 @@
-use Rattle.check_run.proofs.Common.{◌∙◌, ℕ, ◌≤◌, refl, subst, sym, List, option_map, Bound, AreGridHeads, HeadsEnclose, start_head, EachMember, step_in}
-use Rattle.check_run.proofs.Common.{digits_of, AreDeckTables, AreStartHeadsFor}
+use Rattle.check_run.proofs.Common.{◌∙◌, ap, ListedStep, ℕ, ◌≤◌, refl, subst, sym, List, option_map, Bound, AreGridHeads, HeadsEnclose, start_head, EachMember}
+use Rattle.check_run.proofs.Common.{step_in, digits_of, AreDeckTables, AreStartHeadsFor}
 use Rattle.check_run.proofs.Checking.{at_first, ends_certified, ends_enclosed, ends_history, flows_here, goes_here, listed_at, not_certified, ok_follows}
 use Rattle.check_run.proofs.Checking.{stops_here}
 use Rattle.check_run.proofs.RunText.{grid_of}
@@ -33,38 +33,30 @@ pub check_listed-requires-clause-heads : goal.check_listed-requires-clause-heads
 check_listed-requires-clause-heads c =
     let is = c.as_slice-at-items.ensures.value ∙ c.in_ok-times.ensures.times in
     let P : List Bound → Type 0 = AreGridHeads c.args.decks.now.first in
-    subst P (sym c.heads-heads.ensures) (grid_of c.args.decks.now.first (step_in c.args.listing.now c.loop-index.index)
+    subst P (sym (c.as_slice-heads.ensures ∙ ap (λ (w : ListedStep). w.heads) c.step_at-listed.ensures)) (grid_of c.args.decks.now.first (step_in c.args.listing.now c.loop-index.index)
     (listed_at c.args.limits c.args.decks.now (digits_of c.args.tables.now.first) (option_map (λ z. z.now) c.args.zones) c.args.listing.now c.as_slice-start.result.now c.loop-index.index c.as_slice-at-items.result.now (record { period = 0; step = 0 }) is c.requires.listing c.loop-index-test.true c.loop-index.invariant.so_far
-    _ c.loop-index.invariant.digits c.heads_before-old.result.now c.heads-heads.result.now c.budget-budget.result.now c.zones-flows.result.now c.heads_before-old.ensures c.heads-heads.ensures c.budget-budget.ensures c.zones-flows.ensures))
+    _ c.loop-index.invariant.digits c.heads_before-old.result.now c.step_at-listed.result.now c.as_slice-heads.result.now c.as_slice-flows.result.now c.heads_before-old.ensures c.step_at-listed.ensures c.as_slice-heads.ensures c.as_slice-flows.ensures))
 
 pub check_listed-requires-clause-flows : goal.check_listed-requires-clause-flows
 check_listed-requires-clause-flows c =
     let is = c.as_slice-at-items.ensures.value ∙ c.in_ok-times.ensures.times in
     flows_here c.args.limits c.args.decks.now (digits_of c.args.tables.now.first) (option_map (λ z. z.now) c.args.zones) c.args.listing.now c.as_slice-start.result.now c.loop-index.index c.as_slice-at-items.result.now (record { period = 0; step = 0 }) is c.requires.listing c.loop-index-test.true c.loop-index.invariant.so_far
-    _ c.loop-index.invariant.digits c.heads_before-old.result.now c.heads-heads.result.now c.budget-budget.result.now c.zones-flows.result.now c.heads_before-old.ensures c.heads-heads.ensures c.budget-budget.ensures c.zones-flows.ensures
+    _ c.loop-index.invariant.digits c.heads_before-old.result.now c.step_at-listed.result.now c.as_slice-heads.result.now c.as_slice-flows.result.now c.heads_before-old.ensures c.step_at-listed.ensures c.as_slice-heads.ensures c.as_slice-flows.ensures
 
-pub returns-in-Err-clause-verdict : goal.returns-in-Err-clause-verdict
-returns-in-Err-clause-verdict c =
+pub returns-in-Err : goal.returns-in-Err
+returns-in-Err c =
     let is = c.as_slice-at-items.ensures.value ∙ c.in_ok-times.ensures.times in
     ok_follows _ _ c.verdict_at.result
-    (λ v h. stops_here c.args.limits c.args.decks.now (digits_of c.args.tables.now.first) (option_map (λ z. z.now) c.args.zones) c.args.listing.now c.as_slice-start.result.now c.loop-index.index c.as_slice-at-items.result.now (record { period = 0; step = 0 }) is c.requires.listing c.loop-index-test.true c.loop-index.invariant.so_far
-    _ c.loop-index.invariant.digits c.heads_before-old.result.now c.heads-heads.result.now c.budget-budget.result.now c.zones-flows.result.now c.heads_before-old.ensures c.heads-heads.ensures c.budget-budget.ensures c.zones-flows.ensures c.in-Err.fault v c.in-Err.ensures.fault h)
+    (λ v h.
+    let verdict = stops_here c.args.limits c.args.decks.now (digits_of c.args.tables.now.first) (option_map (λ z. z.now) c.args.zones) c.args.listing.now c.as_slice-start.result.now c.loop-index.index c.as_slice-at-items.result.now (record { period = 0; step = 0 }) is c.requires.listing c.loop-index-test.true c.loop-index.invariant.so_far
+    _ c.loop-index.invariant.digits c.heads_before-old.result.now c.step_at-listed.result.now c.as_slice-heads.result.now c.as_slice-flows.result.now c.heads_before-old.ensures c.step_at-listed.ensures c.as_slice-heads.ensures c.as_slice-flows.ensures c.in-Err.fault v c.in-Err.ensures.fault h in
+    record {
+      verdict = verdict;
+      only = λ other k. c.one_verdict.ensures c.args.limits c.args.decks.now (digits_of c.args.tables.now.first) (option_map (λ z. z.now) c.args.zones) c.args.listing.now other v c.requires.decks c.requires.listing k verdict;
+      encloses = λ e. absurd (not_certified _ c.in-Err.fault v h e);
+      history = λ e. absurd (not_certified _ c.in-Err.fault v h e);
+    })
     c.verdict_at.ensures
-
-pub returns-in-Err-clause-only : goal.returns-in-Err-clause-only
-returns-in-Err-clause-only c =
-    let is = c.as_slice-at-items.ensures.value ∙ c.in_ok-times.ensures.times in
-    ok_follows _ _ c.verdict_at.result
-    (λ v h other k. c.one_verdict.ensures c.args.limits c.args.decks.now (digits_of c.args.tables.now.first) (option_map (λ z. z.now) c.args.zones) c.args.listing.now other v c.requires.decks c.requires.listing k
-    (stops_here c.args.limits c.args.decks.now (digits_of c.args.tables.now.first) (option_map (λ z. z.now) c.args.zones) c.args.listing.now c.as_slice-start.result.now c.loop-index.index c.as_slice-at-items.result.now (record { period = 0; step = 0 }) is c.requires.listing c.loop-index-test.true c.loop-index.invariant.so_far
-    _ c.loop-index.invariant.digits c.heads_before-old.result.now c.heads-heads.result.now c.budget-budget.result.now c.zones-flows.result.now c.heads_before-old.ensures c.heads-heads.ensures c.budget-budget.ensures c.zones-flows.ensures c.in-Err.fault v c.in-Err.ensures.fault h))
-    c.verdict_at.ensures
-
-pub returns-in-Err-clause-encloses : goal.returns-in-Err-clause-encloses
-returns-in-Err-clause-encloses c = ok_follows _ _ c.verdict_at.result (λ v h e. absurd (not_certified _ c.in-Err.fault v h e)) c.verdict_at.ensures
-
-pub returns-in-Err-clause-history : goal.returns-in-Err-clause-history
-returns-in-Err-clause-history c = ok_follows _ _ c.verdict_at.result (λ v h e. absurd (not_certified _ c.in-Err.fault v h e)) c.verdict_at.ensures
 
 pub loop-index-preserved : goal.loop-index-preserved
 loop-index-preserved c =
@@ -73,26 +65,16 @@ loop-index-preserved c =
       digits = c.check_listed.ensures.tables.first.digits ∙ c.loop-index.invariant.digits;
       tables = (let T : ℕ → Type 0 = λ k. AreDeckTables c.args.decks.now k c.check_listed.new.tables in subst T (sym c.check_listed.ensures.tables.first.digits) c.check_listed.ensures.tables);
       so_far = goes_here c.args.limits c.args.decks.now (digits_of c.args.tables.now.first) (option_map (λ z. z.now) c.args.zones) c.args.listing.now c.as_slice-start.result.now c.loop-index.index c.as_slice-at-items.result.now (record { period = 0; step = 0 }) is c.requires.listing c.loop-index-test.true c.loop-index.invariant.so_far
-          _ c.loop-index.invariant.digits c.heads_before-old.result.now c.heads-heads.result.now c.budget-budget.result.now c.zones-flows.result.now c.heads_before-old.ensures c.heads-heads.ensures c.budget-budget.ensures c.zones-flows.ensures c.in-Ok.ensures.passes c.in-Ok.ensures.encloses;
+          _ c.loop-index.invariant.digits c.heads_before-old.result.now c.step_at-listed.result.now c.as_slice-heads.result.now c.as_slice-flows.result.now c.heads_before-old.ensures c.step_at-listed.ensures c.as_slice-heads.ensures c.as_slice-flows.ensures c.in-Ok.ensures.passes c.in-Ok.ensures.encloses;
     }
 
-pub returns-clause-verdict : goal.returns-clause-verdict
-returns-clause-verdict c =
+pub returns : goal.returns
+returns c =
     let is = c.as_slice-at-items.ensures.value ∙ c.in_ok-times.ensures.times in
-    ends_certified c.args.limits c.args.decks.now (digits_of c.args.tables.now.first) (option_map (λ z. z.now) c.args.zones) c.args.listing.now _ c.loop-index.index c.as_slice-at-items.result.now is c.requires.listing c.loop-index-test.false c.loop-index.invariant.so_far
-
-pub returns-clause-only : goal.returns-clause-only
-returns-clause-only c = λ other k.
-    let is = c.as_slice-at-items.ensures.value ∙ c.in_ok-times.ensures.times in
-    c.one_verdict.ensures c.args.limits c.args.decks.now (digits_of c.args.tables.now.first) (option_map (λ z. z.now) c.args.zones) c.args.listing.now other _ c.requires.decks c.requires.listing k
-    (ends_certified c.args.limits c.args.decks.now (digits_of c.args.tables.now.first) (option_map (λ z. z.now) c.args.zones) c.args.listing.now _ c.loop-index.index c.as_slice-at-items.result.now is c.requires.listing c.loop-index-test.false c.loop-index.invariant.so_far)
-
-pub returns-clause-encloses : goal.returns-clause-encloses
-returns-clause-encloses c = λ same.
-    let is = c.as_slice-at-items.ensures.value ∙ c.in_ok-times.ensures.times in
-    ends_enclosed c.args.limits c.args.decks.now (digits_of c.args.tables.now.first) (option_map (λ z. z.now) c.args.zones) c.args.listing.now _ c.loop-index.index c.as_slice-at-items.result.now is c.requires.listing c.loop-index-test.false c.loop-index.invariant.so_far
-
-pub returns-clause-history : goal.returns-clause-history
-returns-clause-history c = λ same.
-    let is = c.as_slice-at-items.ensures.value ∙ c.in_ok-times.ensures.times in
-    ends_history c.args.limits c.args.decks.now (digits_of c.args.tables.now.first) (option_map (λ z. z.now) c.args.zones) c.args.listing.now c.requires.decks _ c.loop-index.index c.as_slice-at-items.result.now is c.requires.listing c.loop-index-test.false c.loop-index.invariant.so_far
+    let verdict = ends_certified c.args.limits c.args.decks.now (digits_of c.args.tables.now.first) (option_map (λ z. z.now) c.args.zones) c.args.listing.now _ c.loop-index.index c.as_slice-at-items.result.now is c.requires.listing c.loop-index-test.false c.loop-index.invariant.so_far in
+    record {
+      verdict = verdict;
+      only = λ other k. c.one_verdict.ensures c.args.limits c.args.decks.now (digits_of c.args.tables.now.first) (option_map (λ z. z.now) c.args.zones) c.args.listing.now other _ c.requires.decks c.requires.listing k verdict;
+      encloses = λ same. ends_enclosed c.args.limits c.args.decks.now (digits_of c.args.tables.now.first) (option_map (λ z. z.now) c.args.zones) c.args.listing.now _ c.loop-index.index c.as_slice-at-items.result.now is c.requires.listing c.loop-index-test.false c.loop-index.invariant.so_far;
+      history = λ same. ends_history c.args.limits c.args.decks.now (digits_of c.args.tables.now.first) (option_map (λ z. z.now) c.args.zones) c.args.listing.now c.requires.decks _ c.loop-index.index c.as_slice-at-items.result.now is c.requires.listing c.loop-index-test.false c.loop-index.invariant.so_far;
+    }
