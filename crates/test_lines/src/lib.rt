@@ -12,8 +12,8 @@ mod words;
 pub use deck::Deck;
 pub use gates::{Count, CountingGate};
 pub use lines::take_line;
-pub use page::{Page, answer_lines};
+pub use page::{Answered, Page, answer_lines};
 pub use words::{
     bounds_of, conductance_at, count_of, first_word, head_at, number_at, number_of, numbers_of,
-    plain_text, wide_at,
+    plain_text, whole, wide_at,
 };

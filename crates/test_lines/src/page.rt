@@ -2,6 +2,9 @@
 use std::alloc::{AllocError, Global};
 use std::{fmt, io, str};
 
+/// The end of what answers a question: out of memory, or nothing to say.
+pub type Answered = Result<(), AllocError>;
+
 /// Text that is to be printed. Once memory has ended it isn't whole, and is never printed.
 #[derive(Drop)]
 pub struct Page {

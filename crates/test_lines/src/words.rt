@@ -2,6 +2,12 @@
 use std::alloc::{AllocError, Global};
 use step_problem::Bound;
 
+/// A value that was filled, or nothing where memory ended. A value is dropped here in place of at each `?` of its maker.
+pub fn whole<T: Drop>(value: T, filled: Result<(), AllocError>) -> Result<T, AllocError> {
+    filled?;
+    Ok(value)
+}
+
 /// The first word, and the text after its blank.
 pub fn first_word(text: &str) -> (&str, &str) {
     text.split_once(' ').unwrap_or((text, ""))
@@ -19,13 +25,9 @@ pub fn count_of(word: &str) -> u32 {
 
 /// The numbers among the words of a line.
 pub fn numbers_of(alloc: Global, line: &str) -> Result<Vec<i128>, AllocError> {
-    let mut numbers = Vec::new(alloc);
-    for word in line.split(' ') {
-        if let Ok(number) = word.parse::<i128>() {
-            numbers.push(number)?;
-        }
-    }
-    Ok(numbers)
+    line.split(' ')
+        .filter_map(|word| word.parse::<i128>().ok())
+        .collect(alloc)
 }
 
 /// A number by its place from 0; 0 where there is none.
@@ -50,14 +52,11 @@ pub fn number_at(numbers: &[i128], place: usize) -> u32 {
 
 /// Bounds, of which each two numbers are one.
 pub fn bounds_of(alloc: Global, numbers: &[i128]) -> Result<Vec<Bound>, AllocError> {
-    let mut bounds = Vec::new(alloc);
-    for pair in numbers.chunks(2) {
-        bounds.push(Bound {
-            low: head_at(pair, 0),
-            high: head_at(pair, 1),
-        })?;
-    }
-    Ok(bounds)
+    let bound = |pair: &[i128]| Bound {
+        low: head_at(pair, 0),
+        high: head_at(pair, 1),
+    };
+    numbers.chunks(2).map(bound).collect(alloc)
 }
 
 fn plain_char(shown: char) -> char {

@@ -1,9 +1,8 @@
 // The text that is read, and the files that it names.
-use crate::faults::push_fault;
 use crate::reader::{Call, Reader};
 use outside::{FILE_LIMIT, MemFolder};
-use std::alloc::{AllocError, Global};
-use test_lines::{Page, plain_text};
+use std::alloc::Global;
+use test_lines::{Answered, Page, plain_text};
 
 /// A text with its name for refusals, and a folder in memory.
 #[derive(Drop)]
@@ -14,25 +13,28 @@ pub struct Bench {
 }
 
 // Puts the answer of one call and a semicolon, and says whether it was refused.
-fn push_call(page: &mut Page, reader: &mut Reader<'_>, folder: &mut MemFolder, call: &str) -> bool {
+fn push_call<'a>(
+    page: &mut Page,
+    reader: &mut Reader<'a>,
+    folder: &mut MemFolder,
+    call: &'a str,
+) -> bool {
     if call == "comments" {
         reader.lines.skip_comments();
         return false;
     }
-    let answer = reader.push_answer(page, folder, &Call::of(call));
-    if let Err(fault) = &answer {
-        push_fault(page, fault);
-    }
+    reader.call = Call::of(call);
+    let answer = reader.push_answer(page, folder);
     page.text(";");
-    answer.is_err()
+    answer.is_none()
 }
 
 // Puts in one line the answers of the calls on a text in turn, up to the first refusal or beyond.
-fn push_calls(
+fn push_calls<'a>(
     page: &mut Page,
-    mut reader: Reader<'_>,
+    mut reader: Reader<'a>,
     folder: &mut MemFolder,
-    calls: &str,
+    calls: &'a str,
     goes_on: bool,
 ) {
     for call in calls.split("; ") {
@@ -53,13 +55,13 @@ impl Bench {
         }
     }
 
-    pub fn take_text(&mut self, alloc: Global, file: &str, shown: &str) -> Result<(), AllocError> {
+    pub fn take_text(&mut self, alloc: Global, file: &str, shown: &str) -> Answered {
         self.file = String::from_str(alloc, file)?;
         self.text = plain_text(alloc, shown)?;
         Ok(())
     }
 
-    pub fn add_file(&mut self, alloc: Global, name: &str, shown: &str) -> Result<(), AllocError> {
+    pub fn add_file(&mut self, alloc: Global, name: &str, shown: &str) -> Answered {
         let text = plain_text(alloc, shown)?;
         self.folder.add(name, text.as_str().as_bytes())
     }

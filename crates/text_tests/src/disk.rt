@@ -5,18 +5,12 @@ ghost use Rattle.outside.specs.{folder_name};
 use crate::files::push_found;
 use crate::given::given_name;
 use outside::{Folder, RealFolder, folder_name, read_whole};
-use std::alloc::AllocError;
 use std::rt::Files;
 use std::{fs, io};
-use test_lines::{Page, first_word, plain_text};
+use test_lines::{Answered, Page, first_word, plain_text};
 
 // What a folder has under one of the names that were given to it. It is asked for no other.
-fn push_asked<F: Folder>(
-    page: &mut Page,
-    folder: &mut F,
-    names: &[&str],
-    name: &str,
-) -> Result<(), AllocError>
+fn push_asked<F: Folder>(page: &mut Page, folder: &mut F, names: &[&str], name: &str) -> Answered
     requires { All (λ n. F.may folder.old (folder_name n.now)) names.now }
     ensures { All (λ n. F.may folder.new (folder_name n.now)) names.now }
 {

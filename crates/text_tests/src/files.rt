@@ -1,42 +1,41 @@
 // Calls on the whole text as a name file or as the list of a batch, on the folder, and on names of files.
+use crate::faults::{made, push_made};
 use crate::reader::{Call, Reader};
 use batch_list::read_list;
 use name_file::{Package, read_names};
 use outside::{
-    FILE_LIMIT, Folder, FolderError, Found, InputFault, MemFolder, Name, folder_name, good_name,
-    is_good_name, read_input,
+    FILE_LIMIT, Folder, FolderError, Found, MemFolder, Name, folder_name, good_name, is_good_name,
+    read_input,
 };
 use std::str;
 use test_lines::{Page, first_word, number_of};
 
 /// The names of a batch's list, after their number.
-pub fn push_models(page: &mut Page, reader: &Reader<'_>) -> Result<(), InputFault> {
-    let names = read_list(page.alloc(), reader.file, reader.text)?;
+pub fn push_models(page: &mut Page, reader: &Reader<'_>) -> Option<()> {
+    let read = read_list(page.alloc(), reader.file, reader.text);
+    let names = made(page, read)?;
     page.word(names.len());
     for name in &names {
         page.word(name.as_str());
     }
-    Ok(())
+    Some(drop(names))
 }
 
 /// The pairs of a name file in its order, of which there are at most ten, or the files of two of its packages.
-pub fn push_packages(
-    page: &mut Page,
-    reader: &Reader<'_>,
-    question: &str,
-) -> Result<(), InputFault> {
-    let names = read_names(page.alloc(), reader.file, reader.text)?;
-    if question == "files" {
+pub fn push_packages(page: &mut Page, reader: &Reader<'_>) -> Option<()> {
+    let read = read_names(page.alloc(), reader.file, reader.text);
+    let names = made(page, read)?;
+    if reader.call.word == "files" {
         page.word(names.file_of(Package::Bas).unwrap_or("none"));
         page.word(names.file_of(Package::Wel).unwrap_or("none"));
-        return Ok(());
-    }
-    for place in 0..11 {
-        if let Some((package, name)) = names.pair_at(place) {
-            page.word(format_args!("{package:?} {name}"));
+    } else {
+        for place in 0..11 {
+            if let Some((package, name)) = names.pair_at(place) {
+                page.word(format_args!("{package:?} {name}"));
+            }
         }
     }
-    Ok(())
+    Some(drop(names))
 }
 
 /// A text after a blank, with its line feeds shown.
@@ -60,43 +59,38 @@ pub fn push_found(page: &mut Page, found: Result<Found, FolderError>) {
 }
 
 // What a good name becomes.
-fn push_named(page: &mut Page, name: &str) -> Result<(), InputFault> {
+fn push_named(page: &mut Page, name: &str) -> Option<()> {
     let Some(name) = good_name(name.as_bytes()) else {
-        return Ok(page.word("no name"));
+        return Some(page.word("no name"));
     };
-    page.word(folder_name(page.alloc(), name)?);
-    page.word(Name::new(page.alloc(), name)?.as_str());
-    Ok(())
+    let alloc = page.alloc();
+    push_made(page, folder_name(alloc, name))?;
+    let named = made(page, Name::new(alloc, name))?;
+    Some(page.word(named.as_str()))
 }
 
 // A file of a model, if the name is a good one.
-fn push_input(page: &mut Page, folder: &mut MemFolder, name: &str) -> Result<(), InputFault> {
-    match good_name(name.as_bytes()) {
-        None => page.word("no name"),
-        Some(name) => {
-            let bytes = read_input(page.alloc(), folder, name)?;
-            push_shown(page, bytes.as_slice());
-        }
-    }
-    Ok(())
+fn push_input(page: &mut Page, folder: &mut MemFolder, name: &str) -> Option<()> {
+    let Some(name) = good_name(name.as_bytes()) else {
+        return Some(page.word("no name"));
+    };
+    let read = read_input(page.alloc(), folder, name);
+    let bytes = made(page, read)?;
+    Some(push_shown(page, bytes.as_slice()))
 }
 
 /// Calls on the folder, which reads at most so many bytes of a file, and on names.
-pub fn push_of_folder(
-    page: &mut Page,
-    folder: &mut MemFolder,
-    call: &Call<'_>,
-) -> Result<(), InputFault> {
+pub fn push_of_folder(page: &mut Page, folder: &mut MemFolder, call: &Call<'_>) -> Option<()> {
     let (name, limit) = first_word(call.rest);
     folder.set_limit(number_of(limit));
     let answer = match call.word {
         "found" => {
             let found = folder.read_file(page.alloc(), name);
-            Ok(push_found(page, found))
+            Some(push_found(page, found))
         }
         "input" => push_input(page, folder, name),
         "named" => push_named(page, call.rest),
-        _ => Ok(page.test(is_good_name(call.rest.as_bytes()))),
+        _ => Some(page.test(is_good_name(call.rest.as_bytes()))),
     };
     folder.set_limit(FILE_LIMIT);
     answer

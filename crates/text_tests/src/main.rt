@@ -47,7 +47,7 @@ use faults::{push_codes, push_refusals};
 use outside::{FILE_LIMIT, MemFolder};
 use sinks::{push_disk_sink, push_full_sink, push_sink};
 use std::io;
-use test_lines::{Page, first_word, number_of};
+use test_lines::{Page, answer_lines, first_word, number_of};
 
 // Does the command of a line.
 fn step(rt: &HostRuntime, page: &mut Page, bench: &mut Bench, line: &str) -> io::Result<()> {
@@ -74,13 +74,10 @@ fn step(rt: &HostRuntime, page: &mut Page, bench: &mut Bench, line: &str) -> io:
 }
 
 fn main(rt: HostRuntime) -> io::Result<()> {
-    let alloc = rt.alloc();
-    let mut bench = Bench::new(alloc);
-    for line in rt.lines(alloc) {
-        let line = line?;
-        let mut page = Page::new(alloc);
-        step(&rt, &mut page, &mut bench, line.as_str())?;
-        page.print(&rt)?;
-    }
-    Ok(())
+    let mut bench = Bench::new(rt.alloc());
+    answer_lines(
+        &rt,
+        rt.alloc(),
+        |page, line| step(&rt, page, &mut bench, line),
+    )
 }

@@ -1,11 +1,12 @@
 // A text that is read, and calls on its lines and on the words of a line.
+use crate::faults::{made, push_made};
 use crate::files::{push_models, push_of_folder, push_packages};
-use crate::lists::{integers, numbers, push_array, push_next_value};
+use crate::lists::{push_array, push_ints, push_next_value, push_reals};
 use array_reader::{
     Control, control_record, integer, name_of, next_line, number, short_integer, value_item,
 };
 use decimal_input::dec::Dec;
-use outside::{InputFault, MemFolder};
+use outside::{MemFolder, TextFault};
 use record_lines::{Free, FreeFault, Line, Lines, Words, begins_with, is_word};
 use std::str;
 use test_lines::{Page, count_of, first_word};
@@ -34,16 +35,30 @@ impl<'a> Call<'a> {
     }
 }
 
-/// A text that is read: the lines to come, a free list among them, and the remaining words of the line that `items` went
-/// to.
+/// A text that is read, and a call on it: the lines to come, a free list among them, and the remaining words of the line
+/// that `items` went to.
 #[derive(Drop)]
 pub struct Reader<'a> {
     pub file: &'a str,
     pub text: &'a [u8],
+    pub call: Call<'a>,
     pub lines: Lines<'a>,
     pub free: Free<'a>,
     line: Line<'a>,
     words: Words<'a>,
+}
+
+// The next word as a number.
+fn push_number(page: &mut Page, read: Result<Dec, TextFault>) -> Option<()> {
+    let number = made(page, read)?;
+    Some(page.number(number))
+}
+
+fn push_short(page: &mut Page, word: &[u8]) {
+    match short_integer(word) {
+        Some(value) => page.word(value),
+        None => page.word("none"),
+    }
 }
 
 impl<'a> Reader<'a> {
@@ -55,6 +70,7 @@ impl<'a> Reader<'a> {
         Reader {
             file,
             text,
+            call: Call::of(""),
             lines: Lines::new(text),
             free: Free::begin(),
             line,
@@ -96,79 +112,66 @@ impl<'a> Reader<'a> {
     }
 
     // Goes to the next line.
-    fn push_next_line(&mut self, page: &mut Page) -> Result<(), InputFault> {
-        self.line = next_line(page.alloc(), &mut self.lines, self.file)?;
+    fn push_next_line(&mut self, page: &mut Page) -> Option<()> {
+        let next = next_line(page.alloc(), &mut self.lines, self.file);
+        self.line = made(page, next)?;
         self.words = Words::of(&self.line);
-        Ok(page.word(format_args!("line {}", self.line.number)))
+        Some(page.word(format_args!("line {}", self.line.number)))
     }
 
     // The kind of the control record, or the file's name, and the value or the multiplier.
-    fn push_control(&mut self, page: &mut Page) -> Result<(), InputFault> {
-        let record = control_record(page.alloc(), &mut self.words, self.file, self.line.number)?;
-        let (kind, by): (&str, i64) = match record {
+    fn push_control(&mut self, page: &mut Page) -> Option<()> {
+        let record = control_record(page.alloc(), &mut self.words, self.file, self.line.number);
+        let (kind, by): (&str, i64) = match made(page, record)? {
             Control::Constant(value) => ("constant", value),
             Control::Internal(by) => ("internal", by),
             Control::Named(name, by) => (name, by),
         };
-        Ok(page.word(format_args!("{kind} {by}")))
+        Some(page.word(format_args!("{kind} {by}")))
     }
 
-    // Calls on the next word of the line, as a number or as a text.
-    fn push_of_word(&mut self, page: &mut Page, call: &Call<'_>) -> Result<(), InputFault> {
-        let alloc = page.alloc();
+    // The next word of the line, as a number or as a text.
+    fn push_of_word(&mut self, page: &mut Page) -> Option<()> {
+        let (alloc, asked) = (page.alloc(), self.call.rest.as_bytes());
         let (words, file, line) = (&mut self.words, self.file, self.line.number);
-        match call.word {
-            "integer" => page.word(integer(alloc, words, file, line)?),
-            "number" => page.number(number(alloc, words, file, line)?),
-            "whole" => page.word(value_item::<i64>(alloc, words, file, line)?),
-            "real" => page.number(value_item::<Dec>(alloc, words, file, line)?),
-            "begins" => page.test(begins_with(call.rest.as_bytes(), &self.line)),
-            "is" => page.test(is_word(call.rest.as_bytes(), words.next().unwrap_or(b""))),
-            "name" => page.word(name_of(alloc, words.next().unwrap_or(b""), file, line)?),
-            "short" => match short_integer(words.next().unwrap_or(b"")) {
-                Some(value) => page.word(value),
-                None => page.word("none"),
-            },
-            _ => page.word("no call"),
+        match self.call.word {
+            "integer" => push_made(page, integer(alloc, words, file, line)),
+            "number" => push_number(page, number(alloc, words, file, line)),
+            "whole" => push_made(page, value_item::<i64>(alloc, words, file, line)),
+            "real" => push_number(page, value_item::<Dec>(alloc, words, file, line)),
+            "begins" => Some(page.test(begins_with(asked, &self.line))),
+            "is" => Some(page.test(is_word(asked, words.next().unwrap_or(b"")))),
+            "name" => push_made(
+                page,
+                name_of(alloc, words.next().unwrap_or(b""), file, line),
+            ),
+            "short" => Some(push_short(page, words.next().unwrap_or(b""))),
+            _ => Some(page.word("no call")),
         }
-        Ok(())
     }
 
-    /// Puts the answer of a call, each of its words after a blank.
-    pub fn push_answer(
-        &mut self,
-        page: &mut Page,
-        folder: &mut MemFolder,
-        call: &Call<'_>,
-    ) -> Result<(), InputFault> {
-        match call.word {
-            "line" => self.push_next_words(page),
-            "after" => self.push_next_number(page),
-            "free" => self.push_free_words(page, call.counts[0]),
-            "items" => self.push_next_line(page)?,
-            "control" => self.push_control(page)?,
-            "next" => push_next_value(page, self, call)?,
-            "array" => push_array(page, self, folder, call)?,
-            "row" | "layer" | "numbers" => page.numbers(&numbers(
-                page.alloc(),
-                self,
-                folder,
-                call,
-            )?),
+    /// Puts the answer of the call, each of its words after a blank, or why it is refused.
+    pub fn push_answer(&mut self, page: &mut Page, folder: &mut MemFolder) -> Option<()> {
+        match self.call.word {
+            "line" => Some(self.push_next_words(page)),
+            "after" => Some(self.push_next_number(page)),
+            "free" => Some(self.push_free_words(page, self.call.counts[0])),
+            "items" => self.push_next_line(page),
+            "control" => self.push_control(page),
+            "next" => push_next_value(page, self),
+            "array" => push_array(page, self, folder),
+            "row" | "layer" | "numbers" => push_reals(page, self, folder),
             "values"
             | "list"
             | "rows"
             | "integers"
             | "constants"
             | "integer_layer"
-            | "integer_layers" => {
-                page.integers(&integers(page.alloc(), self, folder, call)?);
-            }
-            "packages" | "files" => push_packages(page, self, call.word)?,
-            "models" => push_models(page, self)?,
-            "found" | "input" | "named" | "taken" => push_of_folder(page, folder, call)?,
-            _ => self.push_of_word(page, call)?,
+            | "integer_layers" => push_ints(page, self, folder),
+            "packages" | "files" => push_packages(page, self),
+            "models" => push_models(page, self),
+            "found" | "input" | "named" | "taken" => push_of_folder(page, folder, &self.call),
+            _ => self.push_of_word(page),
         }
-        Ok(())
     }
 }

@@ -1,14 +1,13 @@
 // Sinks in memory, in a file, and over a writer that takes one byte.
 use crate::files::push_shown;
 use outside::{FreeGate, Gate, MemSink, RealSink, Sink};
-use std::alloc::AllocError;
 use std::{fs, io};
-use test_lines::{Page, first_word, number_of, plain_text};
+use test_lines::{Answered, Page, first_word, number_of, plain_text};
 
 const WRITTEN: &str = "written.txt";
 
 // Puts the pieces, and whether each was kept.
-fn push_puts<S: Sink>(page: &mut Page, sink: &mut S, calls: &str) -> Result<(), AllocError> {
+fn push_puts<S: Sink>(page: &mut Page, sink: &mut S, calls: &str) -> Answered {
     for call in calls.split("; ") {
         if let ("put", piece) = first_word(call) {
             let kept = sink.put(plain_text(page.alloc(), piece)?.as_str().as_bytes());
@@ -19,7 +18,7 @@ fn push_puts<S: Sink>(page: &mut Page, sink: &mut S, calls: &str) -> Result<(), 
 }
 
 /// A sink in memory, and its bytes afterwards. A gate that does nothing is passed first.
-pub fn push_sink(page: &mut Page, calls: &str) -> Result<(), AllocError> {
+pub fn push_sink(page: &mut Page, calls: &str) -> Answered {
     let mut sink = MemSink::new(page.alloc());
     for call in calls.split("; ") {
         if let ("fail", rest) = first_word(call) {
@@ -63,7 +62,7 @@ impl io::Write for TakesOneByte {
     }
 }
 
-pub fn push_full_sink(page: &mut Page, calls: &str) -> Result<(), AllocError> {
+pub fn push_full_sink(page: &mut Page, calls: &str) -> Answered {
     let mut sink = RealSink::new(TakesOneByte(0));
     page.text("full_sink");
     push_puts(page, &mut sink, calls)?;
