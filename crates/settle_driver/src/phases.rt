@@ -91,7 +91,7 @@ pub(crate) fn work_at<R: Threads + Sync, G: Gate + Sync>(
 
 /// The number of workers, from 1 to 64; the turns for each cell in a phase, at most 512; and at least one
 /// round, which is the greatest number of phases.
-#[derive(Clone, Copy, Debug)]
+#[derive(Clone, Copy)]
 pub struct Plan {
     pub workers: u32,
     pub turns_per_cell: u32,

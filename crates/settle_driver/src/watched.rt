@@ -9,7 +9,7 @@ ghost use Rattle.settle_driver.specs.Views.{HasWorked, IsPlan, IsPastCell, AddsP
 use crate::open::{first_open, words_or_open};
 use crate::phases::{Plan, deal, gather, turns_of_each, work_at};
 use crate::viewer::Viewer;
-use crate::watching::{Watch, watch_phase};
+use crate::watching::watch_turns;
 use head_table::{HeadSeat, HeadTable, edge_words};
 use outside::Gate;
 use std::alloc::{AllocError, Global};
@@ -23,7 +23,8 @@ fn seats_after_watched_turns<R: Threads + Sync, G: Gate + Sync, V: Viewer + Send
     mut seats: Vec<HeadSeat>,
     turns: u32,
     gate: &G,
-    mut watch: Watch,
+    watch: &mut HeadSeat,
+    heads: &mut [Bound],
     p: &Problem,
     b: &Barrier,
     views: u32,
@@ -32,12 +33,12 @@ fn seats_after_watched_turns<R: Threads + Sync, G: Gate + Sync, V: Viewer + Send
     requires seats { All (λ s. IsSeatOf table.now s) seats.items }
     requires some_cell { 0 < length table.now.problem.now }
     requires workers { (1 ≤ vec_len seats) × (vec_len seats ≤ 64) }
-    requires watch { IsSeatOf table.now watch.seat }
+    requires watch { IsSeatOf table.now watch.old }
     requires problem { table.now.problem.now ≡ p.now }
     requires barrier { barrier_of table.now ≡ b.now }
     requires edges { IsBarrier p.now b.now }
-    requires past { ArePastBarrier p.now b.now (seen_of watch.seat) }
-    requires whole { length watch.heads.items ≡ length p.now }
+    requires past { ArePastBarrier p.now b.now (seen_of watch.old) }
+    requires whole { length heads.old ≡ length p.now }
     ensures count { vec_len result ≡ vec_len seats }
     ensures each { (i : ℕ) (d : HeadSeat) → i < vec_len seats
         → HasWorked table.now i (vec_len seats) (slice_index_or seats.items i d) (slice_index_or result.items i d) }
@@ -45,7 +46,7 @@ fn seats_after_watched_turns<R: Threads + Sync, G: Gate + Sync, V: Viewer + Send
 {
     join_mut(
         rt,
-        &mut || watch_phase(table, &mut watch, p, b, views, gate, viewer),
+        &mut || watch_turns(table, watch, p, b, views, gate, viewer, heads),
         &mut ||
             requires seats { All (λ s. IsSeatOf table.now s) seats.items }
             requires some_cell { 0 < length table.now.problem.now }
@@ -113,12 +114,12 @@ impl<'a, R: Threads + Sync, G: Gate + Sync> WatchSettler<'a, R, G> {
             work_at(rt, table, &mut seats, turns, gate);
             return Ok(seats);
         }
-        let heads = words.clone()?;
-        let watch = Watch {
-            seat: table.split(seat),
-            heads,
-        };
-        Ok(seats_after_watched_turns(rt, table, seats, turns, gate, watch, p, b, views, viewer))
+        let mut heads = words.clone()?;
+        let (mut watch, heads) = (table.split(seat), heads.as_mut_slice());
+        let watch = &mut watch;
+        Ok(seats_after_watched_turns(
+            rt, table, seats, turns, gate, watch, heads, p, b, views, viewer,
+        ))
     }
 
     // The words after a phase. All memory but that of the words is taken before the first turn.
