@@ -2,7 +2,7 @@
 ghost use Rattle.step_problem.specs.{IsBarrier, Settles};
 
 use head_guess::{Guess, Kept, guess_beside, guess_heads};
-use settle_driver::{ListedSettler, PlainSettler, settle_near};
+use settle_driver::{PlainSettler, settle_near};
 use std::alloc::{AllocError, Global};
 use std::cell::Cell;
 use std::thread::Threads;
@@ -24,14 +24,20 @@ fn settle_by_guess<S: Guesser>(
     requires { IsBarrier p.now b.now }
     ensures { Settles p.now b.now 0 result }
 {
-    let guess = match guesser.guess(alloc, p, b, kept) {
+    let Guess { bounds, order } = match guesser.guess(alloc, p, b, kept) {
         Ok(guess) => guess,
         Err(AllocError) => return Err(SettleFault::Memory),
     };
-    let mut trial = ListedSettler::new(guess.order, SWEEPS);
-    let mut no_rounds = PlainSettler::new(0);
-    let near = guess.bounds;
-    settle_near(&mut trial, &mut no_rounds, alloc, p, b, near, TRIALS)
+    let mut trial = PlainSettler::listed(order.as_slice(), SWEEPS);
+    settle_near(
+        &mut trial,
+        &mut PlainSettler::new(0),
+        alloc,
+        p,
+        b,
+        bounds,
+        TRIALS,
+    )
 }
 
 /// A guesser, and what the last guess kept if it settled its problem, so that the next step takes less time.

@@ -26,8 +26,8 @@ pub fn push_barrier(page: &mut Page, b: &Barrier) {
 }
 
 /// The settled heads, or the first cell that is left open.
-pub fn push_settled(page: &mut Page, answer: &Result<Vec<Bound>, SettleFault>) {
-    match answer {
+pub fn push_settled(page: &mut Page, answer: Result<Vec<Bound>, SettleFault>) {
+    match &answer {
         Ok(bounds) => page.bounds("settled", bounds.as_slice()),
         Err(SettleFault::Unfinished(open)) => {
             page.value(format_args!("open {} {}", open.cell, open.side));
@@ -35,6 +35,7 @@ pub fn push_settled(page: &mut Page, answer: &Result<Vec<Bound>, SettleFault>) {
         }
         Err(SettleFault::Memory) => page.line("memory"),
     }
+    drop(answer);
 }
 
 pub fn push_fault(page: &mut Page, fault: NoBound) {

@@ -1,7 +1,7 @@
 // The entries of a cell, as lines give them.
 use std::alloc::{AllocError, Global};
 use step_problem::{Cell, Drain, Evap, Fixed, FixedKind, Flow, FlowKind, Link, River};
-use test_lines::{conductance_at, head_at, number_at, wide_at};
+use test_lines::{Answered, conductance_at, head_at, number_at, whole, wide_at};
 
 pub fn empty_cell(alloc: Global, id: u32) -> Cell {
     Cell {
@@ -102,9 +102,8 @@ const ONE: i128 = 1_000_000_000_000;
 
 const METRE: i128 = 1_000_000_000;
 
-/// A cell of a row of `count` cells, each beside a general head of its own, from 0 to 9 in turn.
-pub fn cell_of_row(alloc: Global, index: u32, count: u32) -> Result<Cell, AllocError> {
-    let mut cell = empty_cell(alloc, index.wrapping_add(1));
+// The links of a cell of a row of `count` cells, and its general head, from 0 to 9 in turn.
+fn push_row_entries(cell: &mut Cell, index: u32, count: u32) -> Answered {
     for other in [index.wrapping_sub(1), index.wrapping_add(1)] {
         if other < count {
             cell.links.push(link(&[i128::from(other), ONE, ONE]))?;
@@ -113,5 +112,12 @@ pub fn cell_of_row(alloc: Global, index: u32, count: u32) -> Result<Cell, AllocE
     let level = i128::from(index % 10) * METRE;
     let general = fixed_entry(FixedKind::General, cell.id, &[ONE, ONE, level, level]);
     cell.fixed.push(general)?;
-    Ok(cell)
+    Ok(())
+}
+
+/// A cell of a row of `count` cells, each beside a general head of its own.
+pub fn cell_of_row(alloc: Global, index: u32, count: u32) -> Result<Cell, AllocError> {
+    let mut cell = empty_cell(alloc, index.wrapping_add(1));
+    let filled = push_row_entries(&mut cell, index, count);
+    whole(cell, filled)
 }

@@ -1,12 +1,11 @@
 // Moves as single events on shared heads.
-ghost use Rattle.step_problem.specs.{IsBarrier};
-
-use crate::moves::{Act, Move};
+use crate::case::Case;
+use crate::moves::Act;
 use head_table::edge_words;
 use relax_core::{State, apply};
-use std::alloc::AllocError;
-use step_problem::{Barrier, Problem};
-use test_lines::Page;
+use std::thread::Threads;
+use step_problem::Problem;
+use test_lines::{Answered, Page};
 
 // Whether the move is an event; if so, it is made.
 fn make(p: &Problem, state: &mut State, act: Act) -> bool {
@@ -19,23 +18,18 @@ fn make(p: &Problem, state: &mut State, act: Act) -> bool {
     }
 }
 
-/// Makes the moves from the barrier's heads, and puts the heads after each.
-pub fn push_events(
-    page: &mut Page,
-    p: &Problem,
-    b: &Barrier,
-    moves: &[Move],
-) -> Result<(), AllocError>
-    requires { IsBarrier p.now b.now }
-{
-    let words = edge_words(page.alloc(), p, b)?;
-    let mut state = State::start(page.alloc(), words, 2)?;
-    for next in moves {
-        if make(p, &mut state, next.act) {
-            page.bounds("heads", state.words.as_slice());
-        } else {
-            page.line("no event");
+impl<R: Threads + Sync> Case<'_, R> {
+    /// Makes the moves from the barrier's heads, and puts the heads after each.
+    pub fn push_events(&self, page: &mut Page) -> Answered {
+        let words = edge_words(page.alloc(), self.p, self.b)?;
+        let mut state = State::start(page.alloc(), words, 2)?;
+        for next in self.moves {
+            if make(self.p, &mut state, next.act) {
+                page.bounds("heads", state.words.as_slice());
+            } else {
+                page.line("no event");
+            }
         }
+        Ok(drop(state))
     }
-    Ok(())
 }

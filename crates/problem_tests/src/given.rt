@@ -2,6 +2,7 @@
 use crate::entries::{cell_of_row, empty_cell, push_entry};
 use crate::moves::Move;
 use std::alloc::{AllocError, Global};
+use std::mem;
 use step_problem::{Bound, Cell, Problem, fits};
 use test_lines::{bounds_of, number_at};
 
@@ -58,7 +59,7 @@ impl Given {
         numbers: &[i128],
     ) -> Result<bool, AllocError> {
         match word {
-            "problem" => *self = Given::new(alloc),
+            "problem" => drop(mem::replace(self, Given::new(alloc))),
             "heads" => self.bounds = bounds_of(alloc, numbers)?,
             "moves" => self.moves = Vec::new(alloc),
             _ => {
@@ -74,7 +75,7 @@ impl Given {
     /// Makes the problem of the cells so far, if they make one.
     pub fn finish(&mut self, alloc: Global) {
         if self.problem.is_none() && fits(self.cells.as_slice()) {
-            let cells = std::mem::replace(&mut self.cells, Vec::new(alloc));
+            let cells = mem::replace(&mut self.cells, Vec::new(alloc));
             self.problem = Some(Problem::new(cells));
         }
     }

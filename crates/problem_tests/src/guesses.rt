@@ -9,7 +9,7 @@ use std::alloc::{AllocError, Global};
 use std::cell::Cell;
 use std::thread::Threads;
 use step_problem::{Barrier, Bound, Problem, Settler};
-use test_lines::Page;
+use test_lines::{Answered, Page};
 
 /// Guesses these bounds, with an order that names no cell, and counts its guesses.
 #[derive(Drop)]
@@ -40,13 +40,8 @@ impl Guesser for Spoilt<'_> {
     }
 }
 
-// Guesses these bounds, and then bounds that are a unit wider.
-#[derive(Drop)]
-struct SpoiltPair<'a> {
-    bounds: &'a [Bound],
-}
-
-impl PairGuesser for SpoiltPair<'_> {
+// Pairs are these bounds, and then bounds that are a unit wider.
+impl PairGuesser for Spoilt<'_> {
     fn guess(
         &self,
         alloc: Global,
@@ -58,63 +53,75 @@ impl PairGuesser for SpoiltPair<'_> {
         let Some(pair) = failed else {
             return Vec::from_slice(alloc, self.bounds);
         };
-        let mut wider = Vec::with_capacity(alloc, pair.len())?;
-        for bound in pair {
-            wider.push(Bound {
-                low: bound.low.saturating_sub(1),
-                high: bound.high.saturating_add(1),
-            })?;
-        }
-        Ok(wider)
+        let wider = |bound: &Bound| Bound {
+            low: bound.low.saturating_sub(1),
+            high: bound.high.saturating_add(1),
+        };
+        pair.iter().map(wider).collect(alloc)
     }
 }
 
 impl<R: Threads + Sync> Case<'_, R> {
-    // The last of these guesses, each of which begins with what the one before kept: on one thread, or in two.
-    fn push_last(&self, page: &mut Page, is_beside: bool) -> Result<(), AllocError> {
-        let (alloc, mut kept) = (page.alloc(), Kept::new());
+    // The last of some guesses, each of which begins with what the one before kept: on one thread, or in two.
+    fn last_guess(
+        &self,
+        alloc: Global,
+        is_beside: bool,
+        kept: &mut Kept,
+    ) -> Result<Vec<Bound>, AllocError> {
         let mut bounds = Vec::new(alloc);
         for _ in 0..self.number(0).max(1) {
             let guess = if is_beside {
-                guess_beside(self.rt, alloc, self.p, self.b, &mut kept)?
+                guess_beside(self.rt, alloc, self.p, self.b, kept)?
             } else {
-                guess_heads(alloc, self.p, self.b, &mut kept)?
+                guess_heads(alloc, self.p, self.b, kept)?
             };
             bounds = guess.bounds;
         }
-        page.bounds(
-            if is_beside { "beside" } else { "guessed" },
-            bounds.as_slice(),
-        );
-        Ok(())
+        Ok(bounds)
     }
 
     /// The last of some guesses on one thread, and in two.
-    pub fn push_guesses(&self, page: &mut Page) -> Result<(), AllocError> {
-        self.push_last(page, false)?;
-        self.push_last(page, true)
+    pub fn push_guesses(&self, page: &mut Page) -> Answered {
+        for (word, is_beside) in [("guessed", false), ("beside", true)] {
+            let mut kept = Kept::new();
+            let bounds = self.last_guess(page.alloc(), is_beside, &mut kept);
+            drop(kept);
+            page.bounds(word, bounds?.as_slice());
+        }
+        Ok(())
     }
 
-    // The pair by these guesses, if one passes, and then the pair of a step that settles by sweeps where none does.
-    fn push_by<G: PairGuesser>(&self, page: &mut Page, guesser: G) -> Result<(), AllocError> {
-        match certified_pair(&guesser, page.alloc(), self.p, self.b, &mut Kept::new())? {
+    // The pair by these guesses, if one passes.
+    fn push_certified<G: PairGuesser>(&self, page: &mut Page, guesser: &G) -> Answered {
+        let mut kept = Kept::new();
+        let found = certified_pair(guesser, page.alloc(), self.p, self.b, &mut kept);
+        drop(kept);
+        match found? {
             Some(pair) => page.bounds("pair", pair.as_slice()),
             None => page.line("no pair"),
         }
+        Ok(())
+    }
+
+    // The pair by these guesses, and then the pair of a step that settles by sweeps where none passes.
+    fn push_by<G: PairGuesser>(&self, page: &mut Page, guesser: G) -> Answered {
+        self.push_certified(page, &guesser)?;
         let mut pairs = QuickPairs::with_guesser(PlainSettler::new(self.number(0)), guesser);
-        match pairs.settle(page.alloc(), self.p, self.b) {
+        let answer = pairs.settle(page.alloc(), self.p, self.b);
+        drop(pairs);
+        match answer {
             Ok(bounds) => page.bounds("step", bounds.as_slice()),
-            fault => push_settled(page, &fault),
+            fault => push_settled(page, fault),
         }
         Ok(())
     }
 
     /// The pair of a problem by balanced heads, or by the given bounds, and the pair of a step.
-    pub fn push_pair(&self, page: &mut Page) -> Result<(), AllocError> {
+    pub fn push_pair(&self, page: &mut Page) -> Answered {
         if self.question == "pair" {
             return self.push_by(page, BalancedGuesser);
         }
-        let bounds = self.bounds;
-        self.push_by(page, SpoiltPair { bounds })
+        self.push_by(page, Spoilt::new(self.bounds, &Cell::new(0)))
     }
 }

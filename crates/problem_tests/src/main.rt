@@ -48,16 +48,12 @@ mod solvers;
 use given::Given;
 use questions::push_answer;
 use std::io;
-use test_lines::Page;
+use test_lines::answer_lines;
 
 fn main(rt: HostRuntime) -> io::Result<()> {
-    let alloc = rt.alloc();
-    let mut given = Given::new(alloc);
-    for line in rt.lines(alloc) {
-        let line = line?;
-        let mut page = Page::new(alloc);
-        push_answer(&rt, &mut page, &mut given, line.as_str())?;
-        page.print(&rt)?;
-    }
-    Ok(())
+    let mut given = Given::new(rt.alloc());
+    answer_lines(&rt, rt.alloc(), |page, line| {
+        push_answer(&rt, page, &mut given, line)?;
+        Ok(())
+    })
 }

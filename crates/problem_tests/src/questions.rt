@@ -2,28 +2,20 @@
 use crate::answers::{push_barrier, push_budget, push_fault, push_verdict};
 use crate::batches::push_batch;
 use crate::case::Case;
-use crate::events::push_events;
 use crate::given::Given;
-use crate::networks::{push_fit, push_network};
-use crate::seats::push_seats;
+use crate::networks::push_network;
 use crate::solvers::{push_products, push_system};
 use barrier_vector::{BarrierFault, barrier};
 use budget_bounds::budget;
 use cell_relax::{are_words, raise_to, sink_to};
 use certificate_check::check_step;
-use std::alloc::AllocError;
 use std::sync::Wait;
 use std::thread::Threads;
 use step_problem::{Problem, are_heads, is_head};
-use test_lines::{Page, first_word, head_at, number_at, numbers_of};
+use test_lines::{Answered, Page, first_word, head_at, number_at, numbers_of};
 
 // The raise or the sink value of a cell, at its own head and those of its links.
-fn push_relaxed(
-    page: &mut Page,
-    p: &Problem,
-    question: &str,
-    numbers: &[i128],
-) -> Result<(), AllocError> {
+fn push_relaxed(page: &mut Page, p: &Problem, question: &str, numbers: &[i128]) -> Answered {
     let (cell, own) = (number_at(numbers, 0) as usize, head_at(numbers, 1));
     let mut values = Vec::new(page.alloc());
     for place in 2..numbers.len() {
@@ -56,12 +48,12 @@ impl<R: Threads + Sync> Case<'_, R> {
         }
     }
 
-    fn push_answer(&self, page: &mut Page) -> Result<(), AllocError> {
+    fn push_answer(&self, page: &mut Page) -> Answered {
         match self.question {
             "barrier" => push_barrier(page, self.b),
             "check" | "budget" => self.push_of_bounds(page),
-            "events" => return push_events(page, self.p, self.b, self.moves),
-            "seats" => return push_seats(page, self.p, self.b, self.moves),
+            "events" => return self.push_events(page),
+            "seats" => return self.push_seats(page),
             "guess" => return self.push_guesses(page),
             "pair" | "spoilt_pair" => return self.push_pair(page),
             "sweeps" => self.push_sweeps(page),
@@ -81,7 +73,7 @@ fn push_of_problem<R: Threads + Sync>(
     given: &Given,
     question: &str,
     numbers: &[i128],
-) -> Result<(), AllocError> {
+) -> Answered {
     match question {
         "fits" => return Ok(page.line(format_args!("cells {}", p.len()))),
         "raised" | "sunk" => return push_relaxed(page, p, question, numbers),
@@ -101,19 +93,20 @@ fn push_of_problem<R: Threads + Sync>(
         question,
         numbers,
     };
-    case.push_answer(page)
+    let answer = case.push_answer(page);
+    drop(b);
+    answer
 }
 
-/// Takes what a line gives, or puts the answer to its question.
-pub fn push_answer<R: Threads + Wait + Sync>(
+// Takes what a line gives, or puts the answer to its question.
+fn push_line<R: Threads + Wait + Sync>(
     rt: &R,
     page: &mut Page,
     given: &mut Given,
     line: &str,
-) -> Result<(), AllocError> {
+    numbers: &[i128],
+) -> Answered {
     let (word, _) = first_word(line);
-    let numbers = numbers_of(page.alloc(), line)?;
-    let numbers = numbers.as_slice();
     if given.take(page.alloc(), word, line, numbers)? {
         return Ok(());
     }
@@ -121,8 +114,7 @@ pub fn push_answer<R: Threads + Wait + Sync>(
         "@" => Ok(page.line(line)),
         "system" => push_system(page, number_at(numbers, 0)),
         "products" => push_products(page, number_at(numbers, 0)),
-        "network" => push_network(page, numbers),
-        "fit" => push_fit(page, numbers),
+        "network" | "fit" => push_network(page, numbers, word == "fit"),
         "batch" => Ok(push_batch(rt, page, numbers)),
         _ => {
             given.finish(page.alloc());
@@ -132,4 +124,17 @@ pub fn push_answer<R: Threads + Wait + Sync>(
             }
         }
     }
+}
+
+/// The same, by the numbers of the line.
+pub fn push_answer<R: Threads + Wait + Sync>(
+    rt: &R,
+    page: &mut Page,
+    given: &mut Given,
+    line: &str,
+) -> Answered {
+    let numbers = numbers_of(page.alloc(), line)?;
+    let answer = push_line(rt, page, given, line, numbers.as_slice());
+    drop(numbers);
+    answer
 }

@@ -1,18 +1,18 @@
 // Two seats at a table of a problem's heads: what one raises or sinks the other sees by a load, and not before.
 ghost use Rattle.std.specs.Prelude.{◌<◌, length};
-ghost use Rattle.step_problem.specs.{IsBarrier};
 ghost use Rattle.head_table.specs.{IsSeatOf};
 ghost use Rattle.problem_tests.specs.{IsShown};
 
+use crate::case::Case;
 use crate::exchanges::{claim, look, relax, watch};
 use crate::moves::{Act, Move};
 use head_table::{HeadSeat, HeadTable, edge_words};
 use outside::FreeGate;
 use relax_core::Event;
 use relax_worker::{own_turns, turn, work};
-use std::alloc::AllocError;
-use step_problem::{Barrier, Bound, Problem, Side};
-use test_lines::Page;
+use std::thread::Threads;
+use step_problem::{Bound, Side};
+use test_lines::{Answered, Page};
 
 // A seat, and what it has seen.
 #[derive(Drop)]
@@ -111,28 +111,26 @@ fn play(page: &mut Page, table: &HeadTable, first: &mut Actor, second: &mut Acto
     }
 }
 
-/// Makes the moves at a table that begins with the barrier's heads, and puts what each finds and the heads at the end.
-pub fn push_seats(
-    page: &mut Page,
-    p: &Problem,
-    b: &Barrier,
-    moves: &[Move],
-) -> Result<(), AllocError>
-    requires { IsBarrier p.now b.now }
-{
-    let alloc = page.alloc();
-    let words = edge_words(alloc, p, b)?;
-    let (table, mut seat) = HeadTable::new(alloc, p, b, &words)?;
-    let mut second = Actor {
-        seat: table.split(&mut seat),
-        shown: Vec::from_slice(alloc, words.as_slice())?,
-    };
-    let mut first = Actor { seat, shown: words };
-    watch(&table, &mut first.seat, first.shown.as_mut_slice());
-    watch(&table, &mut second.seat, second.shown.as_mut_slice());
-    play(page, &table, &mut first, &mut second, moves);
-    table.join(&mut first.seat, second.seat);
-    let words = table.close(first.seat)?;
-    page.bounds("closed", words.as_slice());
-    Ok(())
+impl<R: Threads + Sync> Case<'_, R> {
+    /// Makes the moves at a table that begins with the barrier's heads, and puts what each finds and the heads at the end.
+    pub fn push_seats(&self, page: &mut Page) -> Answered {
+        let alloc = page.alloc();
+        let words = edge_words(alloc, self.p, self.b)?;
+        let shown = Vec::from_slice(alloc, words.as_slice())?;
+        let (table, mut seat) = HeadTable::new(alloc, self.p, self.b, &words)?;
+        let mut second = Actor {
+            seat: table.split(&mut seat),
+            shown,
+        };
+        let mut first = Actor { seat, shown: words };
+        watch(&table, &mut first.seat, first.shown.as_mut_slice());
+        watch(&table, &mut second.seat, second.shown.as_mut_slice());
+        play(page, &table, &mut first, &mut second, self.moves);
+        table.join(&mut first.seat, second.seat);
+        let closed = table.close(first.seat);
+        drop(first.shown);
+        drop(second.shown);
+        page.bounds("closed", closed?.as_slice());
+        Ok(())
+    }
 }

@@ -6,79 +6,64 @@ use crate::case::Case;
 use crate::guesses::Spoilt;
 use near_settler::{AloneSettler, NearSettler};
 use outside::FreeGate;
-use settle_driver::{ListedSettler, PlainSettler, Plan, ThreadSettler, settle, settle_near};
-use std::alloc::AllocError;
+use settle_driver::{PlainSettler, Plan, ThreadSettler, settle, settle_near};
 use std::cell::Cell;
 use std::thread::Threads;
-use step_problem::Settler;
-use test_lines::{CountingGate, Page};
+use step_problem::{Bound, Settler};
+use test_lines::{Answered, CountingGate, Page};
 
 // By sweeps on one thread.
 impl<R: Threads + Sync> Case<'_, R> {
     pub fn push_sweeps(&self, page: &mut Page) {
-        let answer = PlainSettler::new(self.number(0)).settle(page.alloc(), self.p, self.b);
-        push_settled(page, &answer);
+        let mut settler = PlainSettler::new(self.number(0));
+        push_settled(page, settler.settle(page.alloc(), self.p, self.b));
     }
 
     /// From the given bounds, by trials of some sweeps, and then by one round.
-    pub fn push_near(&self, page: &mut Page) -> Result<(), AllocError> {
+    pub fn push_near(&self, page: &mut Page) -> Answered {
         let (alloc, trials) = (page.alloc(), self.number(0));
         let near = Vec::from_slice(alloc, self.bounds)?;
         let (mut trial, mut last) = (PlainSettler::new(self.number(1)), PlainSettler::new(1));
         let answer = settle_near(&mut trial, &mut last, alloc, self.p, self.b, near, trials);
-        push_settled(page, &answer);
+        push_settled(page, answer);
         Ok(())
     }
 
     /// By a list, whose cells the numbers after the first one name, and then by some sweeps.
-    pub fn push_listed(&self, page: &mut Page) -> Result<(), AllocError> {
+    pub fn push_listed(&self, page: &mut Page) -> Answered {
         let mut list = Vec::new(page.alloc());
         for place in 1..self.numbers.len() {
             list.push(self.number(place))?;
         }
-        let mut settler = ListedSettler::new(list, self.number(0));
-        let answer = settler.settle(page.alloc(), self.p, self.b);
-        push_settled(page, &answer);
+        let mut settler = PlainSettler::listed(list.as_slice(), self.number(0));
+        push_settled(page, settler.settle(page.alloc(), self.p, self.b));
         Ok(())
     }
 
-    // By a guessing settler on one thread, with the number of its guesses.
-    fn push_alone(
-        &self,
-        page: &mut Page,
-        alone: &mut AloneSettler<Spoilt<'_>>,
-        guesses: &Cell<u32>,
-    ) {
-        let answer = alone.settle(page.alloc(), self.p, self.b);
-        push_settled(page, &answer);
-        page.line(format_args!("guesses {}", guesses.get()));
-    }
-
-    // Two steps of the same problem on one thread.
-    fn push_twice_alone(&self, page: &mut Page, rounds: u32) {
+    // Steps of the same problem by a guessing settler on one thread, with the number of its guesses so far after each.
+    fn push_alone(&self, page: &mut Page, bounds: &[Bound], rounds: u32, steps: u32) {
         let guesses = Cell::new(0);
-        let mut alone = AloneSettler::with_guesser(Spoilt::new(&[], &guesses), rounds);
-        for _step in 0..2 {
-            self.push_alone(page, &mut alone, &guesses);
+        let mut alone = AloneSettler::with_guesser(Spoilt::new(bounds, &guesses), rounds);
+        for _step in 0..steps {
+            push_settled(page, alone.settle(page.alloc(), self.p, self.b));
+            page.line(format_args!("guesses {}", guesses.get()));
         }
+        drop(alone);
     }
 }
 
 // By workers.
 impl<R: Threads + Sync> Case<'_, R> {
-    // By workers and on one thread, where the given bounds are the guess of both, with the number of guesses of each.
-    fn push_from_spoilt(&self, page: &mut Page, plan: Plan)
+    // With the given bounds as the guess, and the number of guesses.
+    fn push_spoilt(&self, page: &mut Page, plan: Plan)
         requires { IsPlan plan }
     {
         let guesses = Cell::new(0);
         let spoilt = Spoilt::new(self.bounds, &guesses);
         let near = NearSettler::with_guesser(self.rt, plan, &FreeGate, spoilt);
-        let answer = near.settle(page.alloc(), self.p, self.b);
-        push_settled(page, &answer);
-        page.line(format_args!("guesses {}", guesses.replace(0)));
-        let spoilt = Spoilt::new(self.bounds, &guesses);
-        let mut alone = AloneSettler::with_guesser(spoilt, plan.rounds);
-        self.push_alone(page, &mut alone, &guesses);
+        push_settled(page, near.settle(page.alloc(), self.p, self.b));
+        page.line(format_args!("guesses {}", guesses.get()));
+        drop(near);
     }
 
     // Steps of the same problem as a run settles them, with the passes of the gate so far after each.
@@ -88,10 +73,10 @@ impl<R: Threads + Sync> Case<'_, R> {
         let gate = CountingGate::new();
         let near = NearSettler::new(self.rt, plan, &gate);
         for _step in 0..steps {
-            let answer = near.settle(page.alloc(), self.p, self.b);
-            push_settled(page, &answer);
+            push_settled(page, near.settle(page.alloc(), self.p, self.b));
             page.line(format_args!("passes {}", gate.passes.get()));
         }
+        drop(near);
     }
 
     fn push_phases(&self, page: &mut Page, plan: Plan)
@@ -99,7 +84,7 @@ impl<R: Threads + Sync> Case<'_, R> {
     {
         let gate = CountingGate::new();
         let settler = ThreadSettler::new(self.rt, plan, &gate);
-        push_settled(page, &settler.settle(page.alloc(), self.p, self.b));
+        push_settled(page, settler.settle(page.alloc(), self.p, self.b));
         page.line(format_args!("passes {}", gate.passes.get()));
     }
 
@@ -116,14 +101,17 @@ impl<R: Threads + Sync> Case<'_, R> {
         match self.question {
             "workers" => {
                 let answer = settle(self.rt, page.alloc(), self.p, self.b, plan, &FreeGate);
-                push_settled(page, &answer);
+                push_settled(page, answer);
             }
             "phases" => self.push_phases(page, plan),
             "run" => self.push_run(page, plan, 1),
-            "spoilt" => self.push_from_spoilt(page, plan),
+            "spoilt" => {
+                self.push_spoilt(page, plan);
+                self.push_alone(page, self.bounds, plan.rounds, 1);
+            }
             "twice" => {
                 self.push_run(page, plan, 2);
-                self.push_twice_alone(page, plan.rounds);
+                self.push_alone(page, &[], plan.rounds, 2);
             }
             other => page.line(format_args!("unknown: {other}")),
         }

@@ -2,15 +2,14 @@
 use multigrid::scaled::{Scaled, inner_product};
 use multigrid::{Budget, Levels, Matrix};
 use std::alloc::{AllocError, Global};
-use test_lines::Page;
+use test_lines::{Answered, Page, whole};
 
 const WEIGHT: i64 = 1_000;
 
 const ONE: i64 = 1_073_741_824;
 
-// Unknowns in a row, each coupled with the next one, and the first and the last with 1 as well.
-fn row(alloc: Global, count: u32) -> Result<Matrix, AllocError> {
-    let mut matrix = Matrix::new(alloc);
+// Couples unknowns in a row, each with the next one, and the first and the last with 1 as well.
+fn couple(matrix: &mut Matrix, count: u32) -> Answered {
     for i in 0..count {
         for other in [i.wrapping_sub(1), i.wrapping_add(1)] {
             if other < count {
@@ -19,12 +18,14 @@ fn row(alloc: Global, count: u32) -> Result<Matrix, AllocError> {
         }
         matrix.close_row(2 * WEIGHT)?;
     }
-    Ok(matrix)
+    Ok(())
 }
 
 /// Solves the system of `count` unknowns in a row between ones, each of which is one, and puts how many are.
-pub fn push_system(page: &mut Page, count: u32) -> Result<(), AllocError> {
-    let mut levels = Levels::new(page.alloc(), row(page.alloc(), count)?)?;
+pub fn push_system(page: &mut Page, count: u32) -> Answered {
+    let mut matrix = Matrix::new(page.alloc());
+    let coupled = couple(&mut matrix, count);
+    let mut levels = Levels::new(page.alloc(), whole(matrix, coupled)?)?;
     let right = levels.right_side();
     let rows = right.len();
     if let Some(first) = right.first_mut() {
@@ -37,6 +38,7 @@ pub fn push_system(page: &mut Page, count: u32) -> Result<(), AllocError> {
     let unknowns = levels.solve(30, 4, &mut budget);
     let all = unknowns.len();
     let ones = unknowns.iter().filter(|x| x.abs_diff(ONE) < 65_536).count();
+    drop(levels);
     let spent = budget.is_spent();
     page.line(format_args!("rows {rows} unknowns {all} ones {ones} spent {spent}"));
     Ok(())
@@ -71,7 +73,7 @@ fn product(alloc: Global, half: u32, other: i128) -> Result<Scaled, AllocError> 
 
 /// Puts two quotients in units of 2^-20: of the greatest inner product by that of its first half, and of one whose halves
 /// cancel but for a unit by that unit.
-pub fn push_products(page: &mut Page, half: u32) -> Result<(), AllocError> {
+pub fn push_products(page: &mut Page, half: u32) -> Answered {
     let alloc = page.alloc();
     let twice = product(alloc, half, RESIDUAL)?.over(product(alloc, half, 0)?);
     let once = product(alloc, half, OPPOSITE)?.over(product(alloc, 0, 0)?);

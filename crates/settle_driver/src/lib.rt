@@ -16,7 +16,7 @@ mod watching;
 
 pub use near::settle_near;
 pub use phases::Plan;
-pub use plain::{ListedSettler, PlainSettler};
+pub use plain::PlainSettler;
 pub use step_settler::{StepSettler, StepViewer};
 pub use thread_settler::{SettleBy, ThreadSettler, settle};
 pub use viewer::{NoViewer, Viewer};

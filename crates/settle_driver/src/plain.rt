@@ -1,4 +1,4 @@
-// Settlers that sweep on one thread, one of them after relaxing the cells of a list.
+// A settler that sweeps on one thread.
 ghost use Rattle.std.specs.Prelude.{◌≡◌};
 ghost use Rattle.step_problem.specs.{AreOnTheWay, IsBarrier, Settles, settled};
 ghost use Rattle.cell_relax.specs.{AreWords};
@@ -11,18 +11,27 @@ use std::alloc::{AllocError, Global};
 use step_problem::{Barrier, Bound, Problem, SettleFault, Settler};
 
 /// Settles by plain sweeps in ascending order of the cells, at each cell the lower side and then the upper
-/// one. It ends after `rounds` sweeps, or earlier, after a sweep that moved nothing.
+/// one. It ends after `rounds` sweeps, or earlier, after a sweep that moved nothing. The cells of a list are relaxed
+/// before, in its order. The list may be any; a good one saves sweeps.
 #[derive(Drop)]
-pub struct PlainSettler {
+pub struct PlainSettler<'a> {
+    list: &'a [u32],
     rounds: u32,
 }
 
-impl PlainSettler {
+impl<'a> PlainSettler<'a> {
     /// A settler of at most `rounds` sweeps.
-    pub fn new(rounds: u32) -> PlainSettler
+    pub fn new(rounds: u32) -> PlainSettler<'a>
         ensures { PlainSettler.rounds result ≡ rounds }
     {
-        PlainSettler { rounds }
+        PlainSettler::listed(&[], rounds)
+    }
+
+    /// A settler that starts with these cells, by their indices, and sweeps at most `rounds` times.
+    pub fn listed(list: &'a [u32], rounds: u32) -> PlainSettler<'a>
+        ensures { PlainSettler.rounds result ≡ rounds }
+    {
+        PlainSettler { list, rounds }
     }
 }
 
@@ -37,7 +46,7 @@ fn words_after_sweeps(p: &Problem, mut words: Vec<Bound>, rounds: u32) -> Vec<Bo
     words
 }
 
-impl PlainSettler {
+impl PlainSettler<'_> {
     /// What `settle` gives, from words that an earlier settling has reached.
     pub fn settle_from(
         &self,
@@ -52,47 +61,6 @@ impl PlainSettler {
         let words = words_after_sweeps(p, words, self.rounds);
         let open = first_open(p, words.as_slice());
         words_or_open(p, words, open)
-    }
-}
-
-impl Settler for PlainSettler {
-    ghost pairs = { settled };
-
-    ghost rounds = { λ s. s.rounds };
-
-    ghost ready = { λ _. Unit {0} };
-
-    // A settling leaves it as it was.
-    ghost leads = { λ s _ _ _ t. t ≡ s };
-
-    fn settle(
-        &mut self,
-        alloc: Global,
-        p: &Problem,
-        b: &Barrier,
-    ) -> Result<Vec<Bound>, SettleFault> {
-        match edge_words(alloc, p, b) {
-            Ok(words) => self.settle_from(p, b, words),
-            Err(AllocError) => Err(SettleFault::Memory),
-        }
-    }
-}
-
-/// Settles as a `PlainSettler` with this many rounds, after relaxing the cells of a list in its order. The list
-/// may be any; a good one saves sweeps.
-#[derive(Drop)]
-pub struct ListedSettler {
-    list: Vec<u32>,
-    rounds: u32,
-}
-
-impl ListedSettler {
-    /// A settler that starts with these cells, by their indices, and sweeps at most `rounds` times.
-    pub fn new(list: Vec<u32>, rounds: u32) -> ListedSettler
-        ensures list { ListedSettler.list result ≡ list }
-        ensures rounds { ListedSettler.rounds result ≡ rounds }
-    {
-        ListedSettler { list, rounds }
     }
 }
 
@@ -121,7 +89,7 @@ fn words_after_list(p: &Problem, mut words: Vec<Bound>, list: &[u32]) -> Vec<Bou
     words
 }
 
-impl Settler for ListedSettler {
+impl Settler for PlainSettler<'_> {
     ghost pairs = { settled };
 
     ghost rounds = { λ s. s.rounds };
@@ -137,11 +105,9 @@ impl Settler for ListedSettler {
         p: &Problem,
         b: &Barrier,
     ) -> Result<Vec<Bound>, SettleFault> {
-        let start = match edge_words(alloc, p, b) {
-            Ok(start) => start,
-            Err(AllocError) => return Err(SettleFault::Memory),
-        };
-        let words = words_after_list(p, start, self.list.as_slice());
-        PlainSettler::new(self.rounds).settle_from(p, b, words)
+        match edge_words(alloc, p, b) {
+            Ok(words) => self.settle_from(p, b, words_after_list(p, words, self.list)),
+            Err(AllocError) => Err(SettleFault::Memory),
+        }
     }
 }
