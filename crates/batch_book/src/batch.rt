@@ -2,7 +2,7 @@ ghost use Rattle.std.specs.Prelude.{◌≡◌, ℕ, ◌<◌, ◌≤◌, All, IfO
 ghost use Rattle.batch_book.specs.{AreJobEnds, HasEnd};
 
 use crate::book::Book;
-use crate::desks::{Desk, new_desks, worked};
+use crate::desks::{Desk, desks_after_work, new_desks};
 use crate::jobs::Jobs;
 use crate::queue::{Counted, Queue, push_all};
 use outside::Gate;
@@ -46,7 +46,7 @@ where
     push_all(rt, &queue, &mut pass, count);
     let desks = new_desks(alloc, &queue, &mut pass, jobs, workers)?;
     let mut book = Book::new(alloc, jobs)?;
-    let desks = worked(rt, alloc, &queue, jobs, desks, gate);
+    let desks = desks_after_work(rt, alloc, &queue, jobs, desks, gate);
     gather_all(&mut book, desks);
     Ok(book)
 }

@@ -73,7 +73,7 @@ where
 }
 
 /// The desks after the work. Each has a worker, in a thread of its own where one can be started. Workers are numbered from 1.
-pub(crate) fn worked<
+pub(crate) fn desks_after_work<
     'a,
     N: Counted + Sync,
     R: Threads + Wait + Sync,

@@ -21,7 +21,7 @@ pub fn product(a: i64, b: i64) -> i128 {
 }
 
 /// The one of two heads that counts on a side: the lower one, or the upper one with the opposite sign.
-pub fn turned(side: Side, low: i64, high: i64) -> i64 {
+pub fn head_on(side: Side, low: i64, high: i64) -> i64 {
     match side {
         Side::Low => low,
         Side::High => 0_i64.saturating_sub(high),

@@ -1,5 +1,5 @@
 // Newton's method for heads at which each cell's balance is 0.
-use crate::branch::{product, turned};
+use crate::branch::{head_on, product};
 use crate::linear::Linear;
 use crate::one_side::OneSide;
 use crate::ramp::Bends;
@@ -62,7 +62,7 @@ impl Newton {
     }
 
     fn linearize(&mut self, side: &OneSide) {
-        let slack = turned(side.side, self.slack, self.slack);
+        let slack = head_on(side.side, self.slack, self.slack);
         for cell in 0..self.heads.len() {
             let heads = self.heads.as_slice();
             let bends = Bends {

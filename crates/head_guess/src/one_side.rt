@@ -2,7 +2,7 @@
 ghost use Rattle.std.specs.Prelude.{◌≡◌};
 ghost use Rattle.step_problem.specs.{IsHead};
 
-use crate::branch::{Branch, Known, turned};
+use crate::branch::{Branch, Known, head_on};
 use crate::links::{Links, Row};
 use crate::ramp::{Ramp, add_ramps};
 use multigrid::numbers::at;
@@ -76,7 +76,7 @@ fn add_knowns(knowns: &mut Vec<Known>, side: Side, cell: &Cell) -> Result<(), Al
     for fixed in &cell.fixed {
         knowns.push(Known {
             branch: Branch::new(fixed.lo, fixed.hi),
-            head: turned(side, fixed.head_lo, fixed.head_hi),
+            head: head_on(side, fixed.head_lo, fixed.head_hi),
         })?;
     }
     Ok(())

@@ -2,7 +2,7 @@
 ghost use Rattle.std.specs.Prelude.{IfOk};
 ghost use Rattle.cell_relax.specs.{AreWords};
 
-use crate::branch::turned;
+use crate::branch::head_on;
 use crate::guess::bounds_of;
 use crate::linear::Linear;
 use crate::links::Links;
@@ -94,7 +94,7 @@ fn wider_half(
     let side = work.side;
     let heads = pair
         .iter()
-        .map(|bound| turned(side.side, bound.low, bound.high));
+        .map(|bound| head_on(side.side, bound.low, bound.high));
     half_from(work, heads.collect(side.alloc)?, 2, kept)
 }
 

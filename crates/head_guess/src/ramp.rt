@@ -1,6 +1,6 @@
 // Rivers, drains and evaporations of a turned side. Each is a ramp: a branch to a head, whose flow no longer changes where the cell's head
 // is below the ramp's foot or above its top.
-use crate::branch::{Branch, turned};
+use crate::branch::{Branch, head_on};
 use std::alloc::AllocError;
 use step_problem::{Cell, Side};
 
@@ -39,22 +39,22 @@ fn outlet_ramp(side: Side, lo: u64, hi: u64, elevation: i64, top: i64) -> Ramp {
 
 /// Adds the ramps of a cell, turned. Between the bottom of a river and any head above it, the flow is that of a branch to the stage.
 pub fn add_ramps(ramps: &mut Vec<Ramp>, side: Side, cell: &Cell) -> Result<(), AllocError> {
-    let no_top = turned(side, NO_TOP, NO_TOP);
+    let no_top = head_on(side, NO_TOP, NO_TOP);
     for river in &cell.rivers {
         ramps.push(Ramp {
             branch: Branch::new(river.lo, river.hi),
-            zero: turned(side, river.stage_lo, river.stage_hi),
-            foot: turned(side, river.bottom_hi, river.bottom_lo),
+            zero: head_on(side, river.stage_lo, river.stage_hi),
+            foot: head_on(side, river.bottom_hi, river.bottom_lo),
             top: no_top,
         })?;
     }
     for drain in &cell.drains {
-        let elevation = turned(side, drain.elev_lo, drain.elev_hi);
+        let elevation = head_on(side, drain.elev_lo, drain.elev_hi);
         ramps.push(outlet_ramp(side, drain.lo, drain.hi, elevation, no_top))?;
     }
     for evap in &cell.evaps {
-        let elevation = turned(side, evap.ext_lo, evap.ext_hi);
-        let surface = turned(side, evap.surf_hi, evap.surf_lo);
+        let elevation = head_on(side, evap.ext_lo, evap.ext_hi);
+        let surface = head_on(side, evap.surf_hi, evap.surf_lo);
         ramps.push(outlet_ramp(side, evap.lo, evap.hi, elevation, surface))?;
     }
     Ok(())

@@ -61,7 +61,7 @@ impl MeetingGate {
     }
 
     /// How the passes of the two workers compare: as often in whole short phases, once each, or otherwise.
-    pub fn told(&self) -> &'static str {
+    pub fn comparison(&self) -> &'static str {
         let (one, two) = (self.passes_of_one.get(), self.passes_of_two.get());
         if one != two || one == 0 {
             "unequal"

@@ -106,7 +106,7 @@ impl<R: Threads + Wait + Sync> Asked<'_, R> {
         let gate = MeetingGate::new();
         self.push_gated(page, bench, &gate);
         push_failures(page, &gate.failures);
-        page.line(format_args!("passes {}", gate.told()));
+        page.line(format_args!("passes {}", gate.comparison()));
     }
 
     /// A watched run whose first view waits for worker 1, and on which side of a head the heads of that view lie.
