@@ -1,10 +1,10 @@
 -- The part of a period that has passed lies between its bounds, and is at most 1.
 use Rattle.conductance_bounds.proofs.Common.{◌≡◌, ℕ, zero, suc, ◌+◌, ◌*◌, ◌-◌, ◌≤◌, ◌<◌, ◌^◌, inl, inr, Bool, true, false, cond, min, arith, refl, subst, sym}
-use Rattle.conductance_bounds.proofs.Common.{ap, mul-le-mul_right, le_of_mul-le-mul_right, cases_lt, size, Ratio, ratio, over, scaled, den, AtMost, Same}
-use Rattle.conductance_bounds.proofs.Common.{plus, times, AtMost-trans, AtMost-refl, Same-AtMost, num_plus, num_over, den_over, Same-trans, Same-sym, den_plus}
-use Rattle.conductance_bounds.proofs.Common.{value, IsTimed, number_one, one, power, geometric, multiplier, passed, Span, AreBounds, exact, bound}
-use Rattle.conductance_bounds.proofs.Common.{Lower, sum_term, part, pair, IsPassed, part_term, is_whole, power_term, over-Same, Same-self, plus-Same}
-use Rattle.conductance_bounds.proofs.Common.{times-Same, IsFloor, Sd, Upper, in_units, ◌∙◌, cond-false, cond-true, Part, one_floor}
+use Rattle.conductance_bounds.proofs.Common.{ap, mul-le-mul_right, le_of_mul-le-mul_right, cases_lt, size, Ratio, ratio, over, scaled, den, AtMost, Same, plus}
+use Rattle.conductance_bounds.proofs.Common.{times, AtMost-trans, AtMost-refl, Same-AtMost, num_plus, num_over, den_over, Same-trans, Same-sym, den_plus, value}
+use Rattle.conductance_bounds.proofs.Common.{IsTimed, number_one, one, power, geometric, multiplier, passed, Span, AreBounds, exact, bound, Lower, sum_term}
+use Rattle.conductance_bounds.proofs.Common.{part, pair, IsPassed, part_term, is_whole, power_term, over-Same, Same-self, plus-Same, times-Same, IsFloor, Sd}
+use Rattle.conductance_bounds.proofs.Common.{Upper, in_units, ◌∙◌, cond-false, cond-true, Part, one_floor}
 use Rattle.model_types.specs.declared.period.Period.{Period}
 use Rattle.model_types.proofs.Growth.{horner}
 use Rattle.conductance_bounds.proofs.Sides.{IsFactor, bound_on, exact_positive, more_positive, quotient, size_positive, sum_factor}
@@ -144,4 +144,3 @@ unity_is_one = refl
 
 pub steady_bounds : (p : Period) (n : ℕ) (x : Span) → p.steady ≡ true → AreBounds (sum_term (size number_one) n) x → AreBounds (sum_term (multiplier p) n) x
 steady_bounds p n x e h = subst (λ (b : Bool). AreBounds (sum_term (cond b one (size p.tsmult)) n) x) (sym e) (subst (λ (r : Ratio). AreBounds (sum_term r n) x) unity_is_one h)
-

@@ -11,8 +11,8 @@ pub use Rattle.conductance_bounds.specs.Branches.{storativity_exact, storativity
 pub use Rattle.conductance_bounds.specs.Branches.{vertical_k_term, vertical_of, vertical_term}
 pub use Rattle.conductance_bounds.specs.Calls.{IsBed, IsColHalf, IsHalf, IsThickness, IsVertHalf, IsZero, LiesWithin}
 pub use Rattle.conductance_bounds.specs.Formulas.{AreThick, EvapsEnclose, FacesEnclose, HeadsEnclose, RechargesEnclose, StoragesEnclose, area_term, bed_span}
-pub use Rattle.conductance_bounds.specs.Formulas.{bed_term, column_k_term, evap_term, face_term, recharge_term, storage_term, thick_term, vertical_half_term}
-pub use Rattle.conductance_bounds.specs.Formulas.{vertical_k_at}
+pub use Rattle.conductance_bounds.specs.Formulas.{bed_term, column_k_term, evap_term, face_term, recharge_term, storage_term, thick_span, thick_term}
+pub use Rattle.conductance_bounds.specs.Formulas.{vertical_half_term}
 unfoldable pub use Rattle.conductance_bounds.specs.Formulas.{span}
 pub use Rattle.conductance_bounds.specs.Intervals.{AreBounds, IsOrdered}
 unfoldable pub use Rattle.conductance_bounds.specs.Intervals.{reach}
@@ -21,6 +21,6 @@ unfoldable pub use Rattle.conductance_bounds.specs.Pairs.{capped, capped_flow, h
 pub use Rattle.conductance_bounds.specs.Parts.{AreFactors, IsHeadUnits, IsMultiplier, IsPassed, IsSlow, IsUsable, IsWithin, blend, ceiling_of, floor_of}
 pub use Rattle.conductance_bounds.specs.Parts.{is_whole, part_term}
 unfoldable pub use Rattle.conductance_bounds.specs.Parts.{factors_of, given_pair, part, power_term, sum_term}
-pub use Rattle.conductance_bounds.specs.Terms.{Holds, IsBetween, Term, end, exact, other}
+pub use Rattle.conductance_bounds.specs.Terms.{Holds, IsBetween, Term, exact, other}
 unfoldable pub use Rattle.conductance_bounds.specs.Terms.{bound}
 pub use Rattle.conductance_bounds.specs.Terms.Term.{Number, Product, Quotient, Sum, Within}

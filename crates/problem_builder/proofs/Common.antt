@@ -26,8 +26,7 @@ pub use Rattle.conductance_bounds.proofs.SpanBounds.{above_gap, below_gap, equal
 pub use Rattle.conductance_bounds.specs.{AreThick, IsBed, IsColHalf, IsHalf, IsHeadUnits, IsUsable, IsVertHalf, Number, PairEncloses, Quotient, Term, Within}
 pub use Rattle.conductance_bounds.specs.{area_term, bed_of, bed_term, blend, bound, column_of, evap_formula, evap_term, face_term, pair, part, recharge_formula}
 pub use Rattle.conductance_bounds.specs.{recharge_term, resistance_sum, row_of, small_flow, small_pair, storage_formula, storage_of, storage_term}
-pub use Rattle.conductance_bounds.specs.{storativity_term, sum_term, thickness_of, vertical_half_term, vertical_of}
-pub use Rattle.conductance_bounds.specs.Formulas.{thick_span}
+pub use Rattle.conductance_bounds.specs.{storativity_term, sum_term, thick_span, thickness_of, vertical_half_term, vertical_of}
 unfoldable pub use Rattle.conductance_bounds.specs.{capped, capped_flow, given_pair, head_pair, power_term}
 pub use Rattle.conductance_bounds.specs.declared.pair.FlowPair.{FlowPair}
 pub use Rattle.conductance_bounds.specs.declared.pair.Pair.{Pair}
@@ -36,7 +35,7 @@ pub use Rattle.decimal_input.proofs.FloorLaws.{cancel_right, floor_ceiling_enclo
 pub use Rattle.decimal_input.specs.{Encloses, EnclosesSigned, Fraction, IsDec, IsSignedCeiling, IsSignedFloor, Ratio, negated, number, size, with_sign}
 pub use Rattle.decimal_input.specs.Fractions.{den, plus}
 pub use Rattle.decimal_input.specs.declared.dec.Dec.{Dec}
-pub use Rattle.flow_equations.proofs.Links.{are_linked, below_is, index_is}
+pub use Rattle.flow_equations.proofs.Links.{Ordered-map, are_linked, below_is, index_is}
 pub use Rattle.model_types.proofs.GivenTables.{length_is, names_within, table, table_at, table_none, table_step}
 pub use Rattle.model_types.proofs.Leads.{IsFaceOf, after_within, before_back, before_le, end_other, end_within, ends_ascend, face_back, faces_are, few_faces}
 pub use Rattle.model_types.proofs.Leads.{first_within, passing_are, passing_have, turned}

@@ -4,10 +4,9 @@ use Rattle.problem_builder.proofs.Common.{whole_link, ◌≡◌, ℕ, ◌<◌, i
 use Rattle.problem_builder.proofs.Common.{cases_order, Bound, Link, Entries, entries_at, no_entries, no_link, LinksFit, IsProblem, Face, FlowModel, TimeStep}
 use Rattle.problem_builder.proofs.Common.{cell_count, is_variable, variable_faces, IsModel, In, Contains-In, All-In, Ordered, Ordered-at, IsFaceOf, passing_are}
 use Rattle.problem_builder.proofs.Common.{passing_have, end_within, end_other, face_back, turned, ends_ascend, few_faces, passing, rank, rank_below, rank_apart}
-use Rattle.problem_builder.proofs.Common.{at_rank, is_at, IsAt, rank_few, below_is, index_is, AreGridHeads, IsTimeOf, AreCells}
+use Rattle.problem_builder.proofs.Common.{at_rank, is_at, IsAt, rank_few, below_is, index_is, AreGridHeads, IsTimeOf, AreCells, Ordered-map}
 use Rattle.problem_builder.proofs.CellFits.{cell_fits}
 use Rattle.problem_builder.proofs.Sound.{unrefused}
-use Rattle.flow_equations.proofs.Links.{Ordered-map}
 
 module _ (m : FlowModel) (s : ℕ) (at : TimeStep) (old : List Bound) (valid : IsModel m) (time : IsTimeOf m at) (grid : AreGridHeads m old) where
   abbrev test : ℕ → Bool

@@ -8,8 +8,7 @@ use Rattle.conductance_bounds.specs.declared.pair.Pair.{Pair}
 use Rattle.conductance_bounds.specs.declared.horizontal.Half.{Half}
 use Rattle.conductance_bounds.specs.declared.horizontal.ColHalf.{ColHalf}
 use Rattle.conductance_bounds.specs.declared.vertical.VertHalf.{VertHalf}
-use Rattle.conductance_bounds.specs.{face_term, bed_span, capped, IsZero, AreThick}
-use Rattle.conductance_bounds.specs.Formulas.{thick_span}
+use Rattle.conductance_bounds.specs.{face_term, bed_span, capped, IsZero, AreThick, thick_span}
 use Rattle.conductance_bounds.specs.declared.span.Span.{Span}
 
 -- the whole bounds of the conductance from a cell to the next one along an axis
