@@ -1,4 +1,4 @@
--- What is written of numbers is words, and words have no byte that ends them.
+-- What is written of numbers is words, and words have no byte that ends them; what a reading gives has a form.
 use Rattle.array_text.proofs.Common.{FileSet, ◌≡◌, ℕ, suc, ◌^◌, ◌<◌, ◌≤◌, ◌==◌, ◌&&◌, not, Bool, true, false, List, [], ◌∷◌, ◌++◌, length, nat_le, nat_lt, All}
 use Rattle.array_text.proofs.Common.{refl, arith, ℤ, pos, negsuc, unsigned_abs, zero, ◌*◌, if◌then◌else◌, Result, Ok, Err, subst, list_all, decimal}
 use Rattle.array_text.proofs.Common.{signed_decimal, length-append, All-nil, All-cons, All-append, All-weaker, nat_tests, Dec, is_digit, is_separator, sign}

@@ -187,7 +187,16 @@ text_if text = option_map (λ t. t.now) text
 
 abbrev pub asked_of : RunOrder → Asked
 asked_of a =
-    record { limits = a.limits; name = a.name.now; digits = a.digits; workers = a.workers; rounds = a.rounds; zones = text_if a.zones; watch = a.watch; quick = a.quick }
+    record {
+      limits = a.limits;
+      name = a.name.now;
+      digits = a.digits;
+      workers = a.workers;
+      rounds = a.rounds;
+      zones = text_if a.zones;
+      watch = a.watch;
+      quick = a.quick;
+    }
 
 abbrev pub check_of : CheckOrder → AskedCheck
 check_of a = record { limits = a.limits; name = a.name.now; listing = a.listing.now; digits = a.digits; zones = text_if a.zones }

@@ -31,7 +31,7 @@ fn has_flag(found: &ArgMatches, id: &str) -> bool
 }
 
 // The limits; wide ones with --wide.
-fn limits_given(found: &ArgMatches) -> Limits
+fn limits_in(found: &ArgMatches) -> Limits
     ensures { result ≡ limits_in (rows_of (found_of found.now)) }
 {
     if has_flag(found, "wide") {
@@ -62,7 +62,7 @@ fn run_order<'a>(found: &ArgMatches<'a>) -> Option<Order<'a>>
     let watch = turns_or_none(text_of(found, "watch"))?;
     let quick = quick_unless_watched(watch, has_flag(found, "quick"))?;
     Some(Order::Run(RunOrder {
-        limits: limits_given(found),
+        limits: limits_in(found),
         name,
         to: text_of(found, "to"),
         digits,
@@ -81,7 +81,7 @@ fn check_order<'a>(found: &ArgMatches<'a>) -> Option<Order<'a>>
     let listing = text_of(found, "listing")?;
     let digits = digits_or_given(text_of(found, "digits"))?;
     Some(Order::Check(CheckOrder {
-        limits: limits_given(found),
+        limits: limits_in(found),
         name,
         to: text_of(found, "to"),
         listing,
@@ -108,7 +108,7 @@ fn batch_order<'a>(found: &ArgMatches<'a>) -> Option<Order<'a>>
     let workers = workers_or_given(text_of(found, "workers"))?;
     let rounds = rounds_or_given(text_of(found, "rounds"))?;
     Some(Order::Batch(BatchOrder {
-        limits: limits_given(found),
+        limits: limits_in(found),
         list,
         digits,
         workers,
@@ -122,7 +122,7 @@ fn write_order<'a>(found: &ArgMatches<'a>) -> Option<Order<'a>>
 {
     let name = text_of(found, "name")?;
     Some(Order::Write {
-        limits: limits_given(found),
+        limits: limits_in(found),
         name,
     })
 }

@@ -47,6 +47,7 @@ unfoldable pub capped_flow : Term → Bool → ℕ → FlowPair
 capped_flow t neg s = unwrap_or (small_flow t neg s) (record { lo = pos (2 ^ 109); hi = pos (2 ^ 109) })
 
 -- a number of the input in whole units of 10 ^ -s; the floor of a negative number is the ceiling of its magnitude, negated
+-- (`numbers_in_units`: laws)
 unfoldable pub units_at : Side → Dec → ℕ → ℤ
 units_at side d s = with_sign d.neg (in_units (if d.neg then other side else side) (size d) s)
 

@@ -29,7 +29,8 @@ abbrev pub end : Side → Sd → Sd → Sd
 end Lower lo hi = lo
 end Upper lo hi = hi
 
--- the formula's bound on a side: each number and each single operation is rounded to this side, and a divisor is bounded on the other one
+-- the formula's bound on a side: each number and each single operation is rounded to this side, and a divisor is bounded on the
+-- other one; where the bound of a divisor is 0 it says nothing
 unfoldable pub bound : Term → Side → Sd
 bound (Number f) side = rounded side f
 bound (Within lo hi f) side = end side lo hi

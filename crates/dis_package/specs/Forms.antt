@@ -41,7 +41,9 @@ pub record IsNewPeriod (p : Period) : Type 0 where
 
 -- a list by cell is 0 in each layer that has no confining bed below it
 abbrev pub IsOfBeds : Grid → List Dec → Type 0
-IsOfBeds g xs = (k : ℕ) → k < g.layers → is_nonzero (int_at g.laycbd k) ≡ false → take (layer_size g) (drop (k * layer_size g) xs) ≡ replicate (layer_size g) no_number
+IsOfBeds g xs =
+    (k : ℕ) → k < g.layers → is_nonzero (int_at g.laycbd k) ≡ false →
+    take (layer_size g) (drop (k * layer_size g) xs) ≡ replicate (layer_size g) no_number
 
 -- a grid of at most these limits
 pub record IsGridWithin (limits : Limits) (g : Grid) : Type 0 where

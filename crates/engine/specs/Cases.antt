@@ -137,3 +137,10 @@ case_of (Some (Check asked to)) files =
     case_named files asked.limits asked.name to (λ d. case_read (listing_read (is_some to) files asked d.first) (Checking asked.limits d asked.digits))
 case_of (Some (Batch b)) files = case_read (jobs_read files b) Jobs
 case_of (Some (Write limits name)) files = case_named files limits name None (λ d. Writing d.first)
+
+-- The case of a run is the same by any number of workers, watched or not, and so is that of a batch.
+pub record WorkersChangeNoCase : Type 0 where
+  pub runs : (asked : Asked) (to : Option Text) (files : FileSet) (workers : ℕ) (watch : Option ℕ) →
+      case_of (Some (Run (record asked { workers = workers; watch = watch }) to)) files ≡ case_of (Some (Run asked to)) files
+  pub batches : (asked : AskedBatch) (files : FileSet) (workers : ℕ) →
+      case_of (Some (Batch (record asked { workers = workers }))) files ≡ case_of (Some (Batch asked)) files

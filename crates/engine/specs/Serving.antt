@@ -115,5 +115,5 @@ pub record IsProgramEnd (agrees : FileSet → Type 0) (words : List Text) (befor
   pub limit : (files : FileSet) → agrees files → files.limit ≡ bytes_asked words
   pub headline : number ≡ 0 → (files : FileSet) → agrees files → HeadlineOf (wanted_of words) files end old new
   pub one : number ≡ 0 → (files : FileSet) → agrees files → OneOf (wanted_of words) files end old new
-  pub batch : (IsStopNumber number → ⊥) → (asked : AskedBatch) → (wanted_of words) ≡ Some (Batch asked) → (files : FileSet) → agrees files →
+  pub batch : (IsStopNumber number → ⊥) → (asked : AskedBatch) → wanted_of words ≡ Some (Batch asked) → (files : FileSet) → agrees files →
       HasNoList asked files end ⊎ Batched asked files end old.written new.written

@@ -21,7 +21,7 @@ use Rattle.engine.specs.SpanHeadline.{OneSpan}
 pub record ChecksWritten (words : List Text) (files : FileSet) (k : Task) (bytes : List ℕ) : Type 0 where
   pub asked : AskedCheck
   pub to : Option Text
-  pub wanted : (wanted_of words) ≡ Some (Check asked to)
+  pub wanted : wanted_of words ≡ Some (Check asked to)
   pub limits : asked.limits ≡ k.limits
   pub digits : asked.digits ≡ k.digits
   pub read : named asked.name (reads asked.limits files) ≡ Ok k.decks.first
@@ -40,12 +40,14 @@ WrittenIsCertified =
 -- same digits, of the same model, with the same zones.
 abbrev pub OneListingIsCertified : Type 0
 OneListingIsCertified =
-    (asked : Asked) (files : FileSet) (bytes : List ℕ) (h : OneListing asked files (Some []) (Some bytes)) → (checks : List Text) (others : FileSet) →
+    (asked : Asked) (files : FileSet) (bytes : List ℕ) (h : OneListing asked files (Some []) (Some bytes)) →
+    (checks : List Text) (others : FileSet) →
     ChecksWritten checks others (task_of asked h.headline.model h.headline.zones) bytes → Defines (case_of (wanted_of checks) others) status.Ok (certified_line ∷ [])
 
 -- And so are those of a run of two decks, by any check against the same two.
 abbrev pub OneSpanIsCertified : Type 0
 OneSpanIsCertified =
-    (asked : Asked) (to : Text) (files : FileSet) (bytes : List ℕ) (h : OneSpan asked to files (Some []) (Some bytes)) → (checks : List Text) (others : FileSet) →
+    (asked : Asked) (to : Text) (files : FileSet) (bytes : List ℕ) (h : OneSpan asked to files (Some []) (Some bytes)) →
+    (checks : List Text) (others : FileSet) →
     ChecksWritten checks others (span_task_of asked h.headline.decks.first h.headline.decks.second h.headline.zones) bytes →
     Defines (case_of (wanted_of checks) others) status.Ok (certified_line ∷ [])

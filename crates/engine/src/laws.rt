@@ -1,5 +1,5 @@
 // Laws of what is defined. Each is the contract of an empty function, but for the laws below that it calls.
-ghost use Rattle.engine.specs.{OneListingIsCertified, OneSpanIsCertified, WrittenIsCertified, StorageHolds};
+ghost use Rattle.engine.specs.{OneListingIsCertified, OneSpanIsCertified, WrittenIsCertified, StorageHolds, WorkersChangeNoCase};
 
 use check_run::laws::{run_is_certified, run_is_read_again};
 
@@ -7,6 +7,11 @@ use check_run::laws::{run_is_certified, run_is_read_again};
 /// the step's refusal.
 pub fn storage_holds()
     ensures { StorageHolds }
+{}
+
+/// What a run defines is the same by any number of workers, watched or not; and so is what a batch defines.
+pub fn workers_change_no_case()
+    ensures { WorkersChangeNoCase }
 {}
 
 /// `check` certifies what `run` writes, of one deck or of two.

@@ -7,16 +7,19 @@ use Rattle.listing_io.specs.declared.pair_lines.Row.TheVariants as row
 use Rattle.listing_io.specs.Forms.{Form, pair_line}
 use Rattle.listing_io.specs.Listing.{Line, dir_front, flow_form, head_form, head_front, term_form, zone_front}
 
+-- how the line begins
 abbrev pub front_of : Grid → Row → List ℕ
 front_of g (row.Head c) = head_front g c
 front_of g (row.Term s dir t) = dir_front dir
 front_of g (row.Zone s a b) = zone_front a b
 
+-- how its two numbers are written
 abbrev pub form_of : Row → Form
 form_of (row.Head c) = head_form
 form_of (row.Term s dir t) = term_form s t
 form_of (row.Zone s a b) = flow_form s []
 
+-- the line
 abbrev pub row_line : Grid → Row → TermPair → Line
 row_line g r p = pair_line (front_of g r) (form_of r) p
 

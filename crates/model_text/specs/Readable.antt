@@ -1,4 +1,4 @@
--- What is asked of recharge and evapotranspiration, so that a file can say them.
+-- What is asked of IBOUND, STRT, recharge and evapotranspiration, so that a file can say them.
 use Rattle.std.specs.Prelude.{◌≡◌, ℕ, ℤ, true, List, [], ◌∷◌, All, Ok, length}
 use Rattle.model_types.specs.declared.model.FlowModel.{FlowModel}
 use Rattle.model_types.specs.declared.period.Period.{Period}

@@ -28,16 +28,9 @@ fn settle_by_guess<S: Guesser>(
         Ok(guess) => guess,
         Err(AllocError) => return Err(SettleFault::Memory),
     };
-    let mut trial = PlainSettler::listed(order.as_slice(), SWEEPS);
-    settle_near(
-        &mut trial,
-        &mut PlainSettler::new(0),
-        alloc,
-        p,
-        b,
-        bounds,
-        TRIALS,
-    )
+    let mut trial = PlainSettler::with_list(order.as_slice(), SWEEPS);
+    let mut no_rounds = PlainSettler::new(0);
+    settle_near(&mut trial, &mut no_rounds, alloc, p, b, bounds, TRIALS)
 }
 
 /// A guesser, and what the last guess kept if it settled its problem, so that the next step takes less time.

@@ -46,8 +46,8 @@ impl<'a, R: Threads + Sync, G: Gate + Sync, S: Guesser> NearSettler<'a, R, G, S>
         }
     }
 
-    // By a guess, which is not shown, and where it is not certified by the phases of a plan, from the words that earlier ones have reached, or
-    // from the barrier.
+    // Tries a guess, which is not shown. Where that is not certified, makes the phases of the plan, from the words that
+    // are reached or from the barrier.
     fn settle_onward<V: Viewer + Send>(
         &self,
         alloc: Global,
@@ -62,7 +62,8 @@ impl<'a, R: Threads + Sync, G: Gate + Sync, S: Guesser> NearSettler<'a, R, G, S>
         requires plan { IsPlan plan }
         requires reached { IfSome reached (λ words. AreOnTheWay p.now b.now words.items) }
         ensures settles { Settles p.now b.now plan.rounds result }
-        ensures viewed { (start : V) → AddsPhases V.viewed V.stopped p.now b.now views true start viewer.old → AddsPhases V.viewed V.stopped p.now b.now views (had_memory result) start viewer.new }
+        ensures viewed { (start : V) → AddsPhases V.viewed V.stopped p.now b.now views true start viewer.old
+            → AddsPhases V.viewed V.stopped p.now b.now views (had_memory result) start viewer.new }
     {
         match self.guessing.settle(alloc, p, b) {
             Ok(bounds) => Ok(bounds),

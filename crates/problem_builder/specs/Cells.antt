@@ -1,5 +1,5 @@
 -- The cells of a step's problem: for each source of a variable cell one entry, in the order of the sources. The
--- model's definitions say what a source is; these say by which whole numbers it is known.
+-- model's definitions say what a source is; these say by which whole numbers it is known (`whole_river` and so on).
 use Rattle.std.specs.Prelude.{ℕ, ◌-ℤ◌, List, map}
 use Rattle.decimal_input.specs.declared.dec.Dec.{Dec}
 use Rattle.step_problem.specs.declared.heads.Bound.{Bound}

@@ -1,4 +1,4 @@
--- The contents of the tables of thicknesses.
+-- Pairs of the branches between cells, and the contents of tables by cell.
 use Rattle.std.specs.Prelude.{◌≡◌, ℕ, ◌+◌, ◌<◌, ◌⊎◌, true, List, Option, None, Some, length, slice_index_or}
 use Rattle.model_types.specs.declared.model.FlowModel.{FlowModel}
 use Rattle.model_types.specs.declared.face.Axis.{Axis}

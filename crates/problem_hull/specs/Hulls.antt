@@ -81,13 +81,13 @@ evap_hull a b = record {
   surf_hi = int_max a.surf_hi b.surf_hi;
 }
 
--- f of the items of two lists at each place
+-- f of the items of two lists at each place, up to the end of the shorter one
 abbrev pub zip_with : {X Y Z : Type 0} → (X → Y → Z) → List X → List Y → List Z
 zip_with f [] ys = []
 zip_with f (x ∷ xs) [] = []
 zip_with f (x ∷ xs) (y ∷ ys) = f x y ∷ zip_with f xs ys
 
--- the hull of two cells
+-- the hull of two cells; cells of one shape have the same links
 abbrev pub cell_hull : Entries → Entries → Entries
 cell_hull a b = record a {
   flows = zip_with flow_hull a.flows b.flows;

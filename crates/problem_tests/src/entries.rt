@@ -1,7 +1,7 @@
 // The entries of a cell, as lines give them.
 use std::alloc::{AllocError, Global};
 use step_problem::{Cell, Drain, Evap, Fixed, FixedKind, Flow, FlowKind, Link, River};
-use test_lines::{Answered, conductance_at, head_at, number_at, whole, wide_at};
+use test_lines::{Answered, conductance_at, filled_value, head_at, number_at, wide_at};
 
 pub fn empty_cell(alloc: Global, id: u32) -> Cell {
     Cell {
@@ -119,5 +119,5 @@ fn push_row_entries(cell: &mut Cell, index: u32, count: u32) -> Answered {
 pub fn cell_of_row(alloc: Global, index: u32, count: u32) -> Result<Cell, AllocError> {
     let mut cell = empty_cell(alloc, index.wrapping_add(1));
     let filled = push_row_entries(&mut cell, index, count);
-    whole(cell, filled)
+    filled_value(cell, filled)
 }

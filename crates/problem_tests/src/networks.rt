@@ -2,7 +2,7 @@
 use multigrid::Matrix;
 use star_mesh::{Factor, Pattern};
 use std::alloc::{AllocError, Global};
-use test_lines::{Answered, Page, head_at, number_at, whole};
+use test_lines::{Answered, Page, filled_value, head_at, number_at};
 
 // Heads are found in units of 2^-20.
 const PLACES: u32 = 20;
@@ -53,7 +53,7 @@ impl Network<'_> {
     fn matrix(&self, alloc: Global) -> Result<Matrix, AllocError> {
         let mut matrix = Matrix::new(alloc);
         let added = self.add_nodes(&mut matrix);
-        whole(matrix, added)
+        filled_value(matrix, added)
     }
 
     fn pattern(&self, alloc: Global, most: u32) -> Result<Option<Pattern>, AllocError> {

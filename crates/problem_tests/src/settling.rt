@@ -35,7 +35,7 @@ impl<R: Threads + Sync> Case<'_, R> {
         for place in 1..self.numbers.len() {
             list.push(self.number(place))?;
         }
-        let mut settler = PlainSettler::listed(list.as_slice(), self.number(0));
+        let mut settler = PlainSettler::with_list(list.as_slice(), self.number(0));
         push_settled(page, settler.settle(page.alloc(), self.p, self.b));
         Ok(())
     }

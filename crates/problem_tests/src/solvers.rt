@@ -2,7 +2,7 @@
 use multigrid::scaled::{Scaled, inner_product};
 use multigrid::{Budget, Levels, Matrix};
 use std::alloc::{AllocError, Global};
-use test_lines::{Answered, Page, whole};
+use test_lines::{Answered, Page, filled_value};
 
 const WEIGHT: i64 = 1_000;
 
@@ -25,7 +25,7 @@ fn couple(matrix: &mut Matrix, count: u32) -> Answered {
 pub fn push_system(page: &mut Page, count: u32) -> Answered {
     let mut matrix = Matrix::new(page.alloc());
     let coupled = couple(&mut matrix, count);
-    let mut levels = Levels::new(page.alloc(), whole(matrix, coupled)?)?;
+    let mut levels = Levels::new(page.alloc(), filled_value(matrix, coupled)?)?;
     let right = levels.right_side();
     let rows = right.len();
     if let Some(first) = right.first_mut() {

@@ -44,20 +44,21 @@ quotient Upper n d = (n + (d - 1)) / d
 unfoldable pub in_units : Side → Ratio → ℕ → ℕ
 in_units side f s = quotient side (f.num * 10 ^ s) (den f)
 
--- m units of 10 ^ e, for m up to 10 ^ 18
+-- m units of 10 ^ e, for m up to 10 ^ 18, which is 10 ^ 17 of the next unit; zero has the exponent 0
 abbrev pub of_units : ℕ → ℤ → Sd
 of_units m e =
     if nat_lt 0 m
     then (if nat_lt m (10 ^ 18) then record { m = m; e = e } else record { m = 10 ^ 17; e = e +ℤ pos 1 })
     else record { m = 0; e = pos 0 }
 
--- n units of 10 ^ -p without the digits after the first 18
+-- n units of 10 ^ -p rounded to their first 18 digits
 abbrev pub cut : Side → ℕ → ℕ → Sd
 cut side n p =
     let more = length (digits_of 10 n) - 18 in
     of_units (quotient side n (10 ^ more)) (pos more -ℤ pos p)
 
--- f rounded to this side: in units so small that it has 18 digits or more, and then cut
+-- f rounded to this side. In units of 10 ^ -(17 + d), for the denominator d, it has 18 digits or more unless it is 0; the first
+-- 18 of these are kept. `RoundedIsNearest` says which decimal that is.
 unfoldable pub rounded : Side → Ratio → Sd
 rounded side f = cut side (in_units side f (17 + den f)) (17 + den f)
 

@@ -22,14 +22,15 @@ pub struct PlainSettler<'a> {
 impl<'a> PlainSettler<'a> {
     /// A settler of at most `rounds` sweeps.
     pub fn new(rounds: u32) -> PlainSettler<'a>
-        ensures { PlainSettler.rounds result ≡ rounds }
+        ensures rounds { PlainSettler.rounds result ≡ rounds }
     {
-        PlainSettler::listed(&[], rounds)
+        PlainSettler::with_list(&[], rounds)
     }
 
     /// A settler that starts with these cells, by their indices, and sweeps at most `rounds` times.
-    pub fn listed(list: &'a [u32], rounds: u32) -> PlainSettler<'a>
-        ensures { PlainSettler.rounds result ≡ rounds }
+    pub fn with_list(list: &'a [u32], rounds: u32) -> PlainSettler<'a>
+        ensures list { PlainSettler.list result ≡ list.entry }
+        ensures rounds { PlainSettler.rounds result ≡ rounds }
     {
         PlainSettler { list, rounds }
     }

@@ -3,7 +3,7 @@ use std::alloc::{AllocError, Global};
 use step_problem::Bound;
 
 /// A value that was filled, or nothing where memory ended. A value is dropped here in place of at each `?` of its maker.
-pub fn whole<T: Drop>(value: T, filled: Result<(), AllocError>) -> Result<T, AllocError> {
+pub fn filled_value<T: Drop>(value: T, filled: Result<(), AllocError>) -> Result<T, AllocError> {
     filled?;
     Ok(value)
 }

@@ -25,7 +25,7 @@ fn push_fault(page: &mut Page, fault: InputFault) {
 }
 
 /// What a call made, or nothing after the fault is put.
-pub fn made<T, F: Into<InputFault>>(page: &mut Page, made: Result<T, F>) -> Option<T> {
+pub fn made_value<T, F: Into<InputFault>>(page: &mut Page, made: Result<T, F>) -> Option<T> {
     match made {
         Ok(made) => Some(made),
         Err(fault) => {
@@ -40,7 +40,7 @@ pub fn push_made<F: Into<InputFault>>(
     page: &mut Page,
     value: Result<impl Display + Drop, F>,
 ) -> Option<()> {
-    let value = made(page, value)?;
+    let value = made_value(page, value)?;
     Some(page.word(value))
 }
 

@@ -1,5 +1,5 @@
 // Calls on the whole text as a name file or as the list of a batch, on the folder, and on names of files.
-use crate::faults::{made, push_made};
+use crate::faults::{made_value, push_made};
 use crate::reader::{Call, Reader};
 use batch_list::read_list;
 use name_file::{Package, read_names};
@@ -13,7 +13,7 @@ use test_lines::{Page, first_word, number_of};
 /// The names of a batch's list, after their number.
 pub fn push_models(page: &mut Page, reader: &Reader<'_>) -> Option<()> {
     let read = read_list(page.alloc(), reader.file, reader.text);
-    let names = made(page, read)?;
+    let names = made_value(page, read)?;
     page.word(names.len());
     for name in &names {
         page.word(name.as_str());
@@ -24,7 +24,7 @@ pub fn push_models(page: &mut Page, reader: &Reader<'_>) -> Option<()> {
 /// The pairs of a name file in its order, of which there are at most ten, or the files of two of its packages.
 pub fn push_packages(page: &mut Page, reader: &Reader<'_>) -> Option<()> {
     let read = read_names(page.alloc(), reader.file, reader.text);
-    let names = made(page, read)?;
+    let names = made_value(page, read)?;
     if reader.call.word == "files" {
         page.word(names.file_of(Package::Bas).unwrap_or("none"));
         page.word(names.file_of(Package::Wel).unwrap_or("none"));
@@ -65,7 +65,7 @@ fn push_named(page: &mut Page, name: &str) -> Option<()> {
     };
     let alloc = page.alloc();
     push_made(page, folder_name(alloc, name))?;
-    let named = made(page, Name::new(alloc, name))?;
+    let named = made_value(page, Name::new(alloc, name))?;
     Some(page.word(named.as_str()))
 }
 
@@ -75,7 +75,7 @@ fn push_input(page: &mut Page, folder: &mut MemFolder, name: &str) -> Option<()>
         return Some(page.word("no name"));
     };
     let read = read_input(page.alloc(), folder, name);
-    let bytes = made(page, read)?;
+    let bytes = made_value(page, read)?;
     Some(push_shown(page, bytes.as_slice()))
 }
 

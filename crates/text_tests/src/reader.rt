@@ -1,5 +1,5 @@
 // A text that is read, and calls on its lines and on the words of a line.
-use crate::faults::{made, push_made};
+use crate::faults::{made_value, push_made};
 use crate::files::{push_models, push_of_folder, push_packages};
 use crate::lists::{push_array, push_ints, push_next_value, push_reals};
 use array_reader::{
@@ -50,7 +50,7 @@ pub struct Reader<'a> {
 
 // The next word as a number.
 fn push_number(page: &mut Page, read: Result<Dec, TextFault>) -> Option<()> {
-    let number = made(page, read)?;
+    let number = made_value(page, read)?;
     Some(page.number(number))
 }
 
@@ -114,7 +114,7 @@ impl<'a> Reader<'a> {
     // Goes to the next line.
     fn push_next_line(&mut self, page: &mut Page) -> Option<()> {
         let next = next_line(page.alloc(), &mut self.lines, self.file);
-        self.line = made(page, next)?;
+        self.line = made_value(page, next)?;
         self.words = Words::of(&self.line);
         Some(page.word(format_args!("line {}", self.line.number)))
     }
@@ -122,7 +122,7 @@ impl<'a> Reader<'a> {
     // The kind of the control record, or the file's name, and the value or the multiplier.
     fn push_control(&mut self, page: &mut Page) -> Option<()> {
         let record = control_record(page.alloc(), &mut self.words, self.file, self.line.number);
-        let (kind, by): (&str, i64) = match made(page, record)? {
+        let (kind, by): (&str, i64) = match made_value(page, record)? {
             Control::Constant(value) => ("constant", value),
             Control::Internal(by) => ("internal", by),
             Control::Named(name, by) => (name, by),

@@ -1,0 +1,5 @@
+use Rattle.std.proofs.Common.{refl}
+use Rattle.engine.proofs.laws.workers_change_no_case.Goals as goal
+
+pub returns : goal.returns
+returns c = record { runs = λ asked to files workers watch. refl; batches = λ asked files workers. refl }
