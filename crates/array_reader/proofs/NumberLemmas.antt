@@ -2,7 +2,8 @@
 use Rattle.array_reader.proofs.Common.{◌≡◌, ℕ, zero, suc, ◌<◌, ◌≤◌, ◌+◌, ◌*◌, ◌/◌, ◌%◌, ◌^◌, ◌==◌, Bool, true, false, if◌then◌else◌, List, length, nat_le}
 use Rattle.array_reader.proofs.Common.{nat_lt, Option, Some, None, Result, Ok, Err, ap, ℤ, pos, negsuc, neg_ℤ, ◌+ℤ◌, ◌≤ℤ◌, ◌<ℤ◌, ◌↔◌, inl, inr, refl, sym, ◌∙◌}
 use Rattle.array_reader.proofs.Common.{arith, pow-suc, add-one, NumFault, significant, zeros, is_exponent, tested, canonical, spelt_number, number, product}
-use Rattle.array_reader.proofs.Common.{integer, or_bad, IsGoodName, is_good_name, IsRefusal, name_at, StopsText, BadName, TextFault, Refused, Memory}
+use Rattle.array_reader.proofs.Common.{integer, or_bad, IsGoodName, is_good_name, IsRefusal, name_at, StopsText, TextFault, Refused, Memory}
+use Rattle.outside.specs.declared.codes.Code.TheVariants.{BadName}
 use Rattle.std.proofs.lemmas.Int.{ints}
 use Rattle.std.proofs.lemmas.Bool.Decides.{nat_tests}
 use Rattle.decimal_input.specs.declared.dec.Dec.{Dec}

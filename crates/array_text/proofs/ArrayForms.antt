@@ -1,28 +1,28 @@
 -- An array that is read has a value for each place.
 use Rattle.array_text.proofs.Common.{◌≡◌, ℕ, ◌*◌, ℤ, List, [], ◌∷◌, length, All, Result, Ok, Err, refl, arith, length-replicate, All-replicate, NumFault, IsDec}
-use Rattle.array_text.proofs.Common.{Left, left_from, Kind, real, whole, multiplied, free_rows, ArraysHaveForm, Gives, FileSet, words, line_at, word_at}
+use Rattle.array_text.proofs.Common.{Left, left_from, Kind, real, whole, multiplied, free_rows, ArraysHaveForm, GivesOnly, FileSet, words, line_at, word_at}
 use Rattle.array_text.proofs.Common.{name_at, at_line, number_at, constant, internal, named, keyword, format_at, of_keyword, control_at, values_of, array_at}
 use Rattle.array_text.proofs.Common.{without_line, reals, layer_array, real_layer, integer_layer, layers, number, integer, value_at, value_alone, free_list}
-use Rattle.array_text.proofs.Common.{IsShort, ListsHaveForm, Taking, beginning, file_at, refusal}
+use Rattle.array_text.proofs.Common.{IsShort, ListsHaveForm, Taking, beginning, file_at, refusal, done, refused, goes_on, then_, weaker, appended_are}
+use Rattle.array_text.proofs.Common.{repeated_are}
 use Rattle.array_reader.specs.Control.{Control}
 use Rattle.outside.specs.declared.codes.Code.TheVariants.{BadControl}
 use Rattle.array_reader.specs.declared.keyword.Keyword.{Keyword}
 use Rattle.array_reader.specs.declared.keyword.Keyword.TheVariants.{Constant, Internal, OpenClose, External, Other}
-use Rattle.array_text.proofs.WordTexts.{done, refused, goes_on, then_, weaker, appended_are, repeated_are}
 use Rattle.array_text.proofs.NumberForms.{number_is, multiplied_is, integer_is}
 use Rattle.array_reader.proofs.StepLemmas.{value_word}
 
 -- A free list that is read has as many values as it asked for, and each is as its word is read.
-module _ {X : Type 0} (read : List ℕ → Result X NumFault) (P : X → Type 0) (form : (w : List ℕ) → Gives P (read w)) (file : List ℕ) where
-  pub value_is : (s : Taking × Left) → Gives (λ x. P x.0) (value_alone read file s)
+module _ {X : Type 0} (read : List ℕ → Result X NumFault) (P : X → Type 0) (form : (w : List ℕ) → GivesOnly P (read w)) (file : List ℕ) where
+  pub value_is : (s : Taking × Left) → GivesOnly (λ x. P x.0) (value_alone read file s)
   unfolding value_alone
   value_is s = goes_on (value_at read file s) _ (λ a e. done ((form a.1.0.word).gives a.0.0 (value_word read file s a.1 a.0.0 a.0.1 e)))
 
-  pub list_is : (count : ℕ) (left : Left) → Gives (λ x. (length x.0 ≡ count) × All P x.0) (free_list read file count left)
+  pub list_is : (count : ℕ) (left : Left) → GivesOnly (λ x. (length x.0 ≡ count) × All P x.0) (free_list read file count left)
   unfolding free_list
   list_is count left = then_ _ (repeated_are (value_alone read file) P value_is count (beginning, left)) (λ x are. done are)
 
-  pub rows_are : (rows cols : ℕ) (left : Left) → Gives (λ x. (length x.0 ≡ rows * cols) × All P x.0) (free_rows read file rows cols left)
+  pub rows_are : (rows cols : ℕ) (left : Left) → GivesOnly (λ x. (length x.0 ≡ rows * cols) × All P x.0) (free_rows read file rows cols left)
   unfolding free_rows
   rows_are rows cols = appended_are (free_list read file cols) cols P (list_is cols) rows
 
@@ -38,17 +38,17 @@ Stands P (constant value) = P value
 Stands P (internal by) = Unit {0}
 Stands P (named name by) = Unit {0}
 
-module _ {X : Type 0} (read : List ℕ → Result X NumFault) (P : X → Type 0) (form : (w : List ℕ) → Gives P (read w)) (file : List ℕ) (line : ℕ) where
-  at_word : (r : Result X NumFault) → Gives P r → Gives P (at_line file line r)
+module _ {X : Type 0} (read : List ℕ → Result X NumFault) (P : X → Type 0) (form : (w : List ℕ) → GivesOnly P (read w)) (file : List ℕ) (line : ℕ) where
+  at_word : (r : Result X NumFault) → GivesOnly P r → GivesOnly P (at_line file line r)
   at_word (Ok x) g = done (g.gives x refl)
   at_word (Err fault) g = refused
 
-  pub item_is : (ws : List (List ℕ)) → Gives (λ x. P x.0) (number_at read file line ws)
+  pub item_is : (ws : List (List ℕ)) → GivesOnly (λ x. P x.0) (number_at read file line ws)
   unfolding number_at
   item_is [] = refused
   item_is (w ∷ ws) = then_ _ (at_word (read w) (form w)) (λ x h. done h)
 
-  by_keyword : (k : Keyword) (ws : List (List ℕ)) → Gives (Stands P) (of_keyword k read file line ws)
+  by_keyword : (k : Keyword) (ws : List (List ℕ)) → GivesOnly (Stands P) (of_keyword k read file line ws)
   by_keyword Constant ws = then_ _ (item_is ws) (λ x h. done h)
   by_keyword Internal ws = goes_on (number_at read file line ws) _ (λ by e. goes_on (format_at file line by.1) _ (λ format k. done tt))
   by_keyword OpenClose ws =
@@ -57,38 +57,38 @@ module _ {X : Type 0} (read : List ℕ → Result X NumFault) (P : X → Type 0)
   by_keyword External ws = refused
   by_keyword Other ws = refused
 
-  control_is : (ws : List (List ℕ)) → Gives (Stands P) (control_at read file line ws)
+  control_is : (ws : List (List ℕ)) → GivesOnly (Stands P) (control_at read file line ws)
   unfolding control_at
   control_is ws = goes_on (word_at (refusal BadControl file line) ws) _ (λ word e. by_keyword (keyword word.0) word.1)
 
-module _ {X : Type 0} (kind : Kind X) (P : X → Type 0) (form : (w : List ℕ) → Gives P (kind.reading w)) (scaled : (by : X) (w : List ℕ) → Gives P (multiplied kind by w)) (files : FileSet) (file : List ℕ) where
-  values_are : (rows cols : ℕ) (left : Left) (c : Control X) → Stands P c → Gives (λ x. (length x.0 ≡ rows * cols) × All P x.0) (values_of kind files file rows cols left c)
+module _ {X : Type 0} (kind : Kind X) (P : X → Type 0) (form : (w : List ℕ) → GivesOnly P (kind.reading w)) (scaled : (by : X) (w : List ℕ) → GivesOnly P (multiplied kind by w)) (files : FileSet) (file : List ℕ) where
+  values_are : (rows cols : ℕ) (left : Left) (c : Control X) → Stands P c → GivesOnly (λ x. (length x.0 ≡ rows * cols) × All P x.0) (values_of kind files file rows cols left c)
   values_are rows cols left (constant value) stands = done (length-replicate (rows * cols) value, All-replicate P (rows * cols) value stands)
   values_are rows cols left (internal by) stands = rows_are (multiplied kind by) P (scaled by) file rows cols left
   values_are rows cols left (named name by) stands =
       goes_on (file_at files name) _ (λ bytes e. then_ _ (rows_are (multiplied kind by) P (scaled by) name rows cols (left_from 1 bytes)) (λ values are. done are))
 
-  pub array_is : (rows cols : ℕ) (left : Left) → Gives (λ x. (length x.0.0 ≡ rows * cols) × All P x.0.0) (array_at kind files file rows cols left)
+  pub array_is : (rows cols : ℕ) (left : Left) → GivesOnly (λ x. (length x.0.0 ≡ rows * cols) × All P x.0.0) (array_at kind files file rows cols left)
   unfolding array_at
   array_is rows cols left =
       goes_on (line_at file left) _ (λ line e. then_ _ (control_is kind.reading P form file line.0.number (words line.0.bytes))
       (λ control stands. then_ _ (values_are rows cols line.1 control stands) (λ values are. done are)))
 
-  plain_is : (rows cols : ℕ) (left : Left) → Gives (λ x. (length x.0 ≡ rows * cols) × All P x.0) (without_line (array_at kind files file rows cols left))
+  plain_is : (rows cols : ℕ) (left : Left) → GivesOnly (λ x. (length x.0 ≡ rows * cols) × All P x.0) (without_line (array_at kind files file rows cols left))
   plain_is rows cols left = then_ _ (array_is rows cols left) (λ x are. done are)
 
-  pub layer_is : (rows cols : ℕ) (left : Left) → Gives (λ x. (length x.0 ≡ rows * cols) × All P x.0) (layer_array kind files file rows cols left)
+  pub layer_is : (rows cols : ℕ) (left : Left) → GivesOnly (λ x. (length x.0 ≡ rows * cols) × All P x.0) (layer_array kind files file rows cols left)
   unfolding layer_array
   layer_is = plain_is
 
-  pub layers_are : (count rows cols : ℕ) (left : Left) → Gives (λ x. (length x.0 ≡ count * (rows * cols)) × All P x.0) (layers kind files file count rows cols left)
+  pub layers_are : (count rows cols : ℕ) (left : Left) → GivesOnly (λ x. (length x.0 ≡ count * (rows * cols)) × All P x.0) (layers kind files file count rows cols left)
   unfolding layers
   layers_are count rows cols = appended_are (layer_array kind files file rows cols) (rows * cols) P (layer_is rows cols) count
 
 abbrev Any : ℤ → Type 0
 Any z = Unit {0}
 
-any : {E : Type 0} (r : Result ℤ E) → Gives Any r
+any : {E : Type 0} (r : Result ℤ E) → GivesOnly Any r
 any r = record { gives = λ x e. tt }
 
 pub arrays : ArraysHaveForm

@@ -18,8 +18,8 @@ pub use Rattle.array_reader.specs.{without_line}
 unfoldable pub use Rattle.array_reader.specs.{array_at, canonical, control_at, format_at, free_list, free_rows, integer, integer_layer, integer_product}
 unfoldable pub use Rattle.array_reader.specs.{integer_scaled, keyword, layer_array, layer_or, layers, multiplied, number, number_at, product, real_layer, reals}
 unfoldable pub use Rattle.array_reader.specs.{scaled, significant, value_alone, value_at, zeros}
-pub use Rattle.array_text.specs.{ArraysHaveForm, ArraysReadAsWritten, FreeListsReadAsWritten, Gives, IsLine, IsShort, IsWord, IsWordByte, Line, ListsHaveForm}
-pub use Rattle.array_text.specs.{Reads, Takes, array_lines, control_record, sign}
+pub use Rattle.array_text.specs.{ArraysHaveForm, ArraysReadAsWritten, FreeListsReadAsWritten, IsLine, IsShort, IsWord, IsWordByte, Line, LinesReadAsWritten}
+pub use Rattle.array_text.specs.{ListsHaveForm, Reads, Takes, WordsHaveForm, WordsReadAsWritten, array_lines, control_record, sign}
 unfoldable pub use Rattle.array_text.specs.{integer_array, integer_word, line_text, number_after, number_word, numbered_lines, real_array, row_line, row_lines}
 unfoldable pub use Rattle.array_text.specs.{text, unread}
 pub use Rattle.decimal_input.proofs.Spelled.{names_read, number_append, reads_spelt}
@@ -30,5 +30,6 @@ pub use Rattle.decimal_input.specs.declared.dec.NumFault.{NumFault}
 pub use Rattle.outside.specs.{FileSet, file_at, is_separator, refusal}
 unfoldable pub use Rattle.outside.specs.{lines, words}
 pub use Rattle.outside.specs.declared.inputs.Refusal.{Refusal}
-pub use Rattle.record_lines.specs.{Left, Numbered, Taking, beginning, left_from, name_at, next_number, next_word, ◌>>=◌}
-unfoldable pub use Rattle.record_lines.specs.{appended, counted, has_word, line_at, next_value, repeated, spread, word_at}
+pub use Rattle.record_lines.proofs.Readings.{appended_are, done, goes_on, refused, repeated_are, then_, weaker}
+pub use Rattle.record_lines.specs.{GivesOnly, Left, Numbered, Taking, beginning, left_from, name_at, next_number, next_word, ◌>>=◌}
+unfoldable pub use Rattle.record_lines.specs.{appended, has_word, line_at, next_value, repeated, spread, word_at}

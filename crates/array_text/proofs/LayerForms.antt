@@ -1,22 +1,9 @@
 -- Layers that are read: as many values as they have cells, layer after layer.
-use Rattle.array_text.proofs.Common.{◌≡◌, ℕ, ◌+◌, ◌*◌, Bool, true, false, List, length, replicate, All, refl, arith, ◌⊎◌, inl, inr, zero, suc, ◌-◌, ◌<◌, ◌≤◌}
-use Rattle.array_text.proofs.Common.{[], ◌++◌, take, drop, Result, length-replicate, length-append, length-drop, take-append-le, drop-append-le, take_all}
-use Rattle.array_text.proofs.Common.{drop_at, All-append, All-replicate, Dec, IsDec, FileSet, Left, counted, real_layer, layer_or, Gives, cases_lt}
+use Rattle.array_text.proofs.Common.{◌≡◌, ℕ, ◌+◌, ◌*◌, Bool, true, false, List, length, replicate, All, refl, arith, ◌⊎◌, inl, inr, ◌-◌, ◌<◌, ◌≤◌, [], ◌++◌}
+use Rattle.array_text.proofs.Common.{take, drop, length-replicate, length-append, length-drop, take-append-le, drop-append-le, take_all, drop_at, All-append}
+use Rattle.array_text.proofs.Common.{All-replicate, Dec, IsDec, FileSet, Left, real_layer, layer_or, GivesOnly, cases_lt, done, weaker}
 use Rattle.array_text.proofs.ArrayForms.{arrays}
-use Rattle.array_text.proofs.WordTexts.{done, then_, weaker}
 use Rattle.std.proofs.Math.Nat.{mul-le-mul_right}
-
--- Counted steps, and lists of layers.
-module _ {S E : Type 0} (step : ℕ → S → Result S E) (I : ℕ → S → Type 0) (each : (i : ℕ) (s : S) → I i s → Gives (I (i + 1)) (step i s)) where
-  steps_give : (n i : ℕ) (s : S) → I i s → Gives (I (i + n)) (counted step i n s)
-  unfolding counted
-  steps_give zero i s start = let e : i + 0 ≡ i = omega arith in done (rw e start)
-  steps_give (suc n) i s start =
-      let e : i + suc n ≡ (i + 1) + n = omega arith in
-      rw e (then_ _ (each i s start) (λ t so. steps_give n (i + 1) t so))
-
-  pub counted_gives : (n : ℕ) (s : S) → I 0 s → Gives (I n) (counted step 0 n s)
-  counted_gives n s start = let e : 0 + n ≡ n = omega arith in rw e at (steps_give n 0 s start)
 
 -- this many values of this form, layer after layer
 pub one_more : {X : Type 0} (P : X → Type 0) (n i : ℕ) (xs ys : List X) → (length xs ≡ i * n) × All P xs → (length ys ≡ n) × All P ys → (length (xs ++ ys) ≡ (i + 1) * n) × All P (xs ++ ys)
@@ -58,12 +45,12 @@ one_more_layer {X = X} size P n xs ys h many here = record {
         rw (same, drop_at xs ys (n * size) c, take_all size ys le) here
 
 module _ (files : FileSet) (file : List ℕ) where
-  pub layer_is : (rows cols : ℕ) (left : Left) → Gives (λ x. (length x.0 ≡ rows * cols) × All IsDec x.0) (real_layer files file rows cols left)
+  pub layer_is : (rows cols : ℕ) (left : Left) → GivesOnly (λ x. (length x.0 ≡ rows * cols) × All IsDec x.0) (real_layer files file rows cols left)
   layer_is = arrays.real_layers files file
 
   -- a layer that the file has, or one number everywhere
   pub layer_or_is : (rows cols : ℕ) (b : Bool) (other : Dec) (left : Left) → IsDec other
-      → Gives (λ x. (length x.0 ≡ rows * cols) × All IsDec x.0 × (b ≡ false → x.0 ≡ replicate (rows * cols) other)) (layer_or files file rows cols b other left)
+      → GivesOnly (λ x. (length x.0 ≡ rows * cols) × All IsDec x.0 × (b ≡ false → x.0 ≡ replicate (rows * cols) other)) (layer_or files file rows cols b other left)
   unfolding layer_or
   layer_or_is rows cols true other left dec = weaker (layer_is rows cols left) (λ x is. (is.0, is.1, λ e. absurd (let clash : true ≡ false = e in cc)))
   layer_or_is rows cols false other left dec = done (length-replicate (rows * cols) other, All-replicate IsDec (rows * cols) other dec, λ e. refl)

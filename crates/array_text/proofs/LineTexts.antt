@@ -3,7 +3,7 @@ use Rattle.array_text.proofs.Common.{◌≡◌, ℕ, ◌≤◌, ◌==◌, true, 
 use Rattle.array_text.proofs.Common.{Bool, if◌then◌else◌, Result, append_assoc, join_with_byte, range_with_len, All-nil, All-cons, All-append, All-weaker}
 use Rattle.array_text.proofs.Common.{All-head, All-tail, nat_tests, is_separator, words, lines, has_word, left_from, next_number, line_at, Left, ◌>>=◌}
 use Rattle.array_text.proofs.Common.{Numbered, IsWordByte, IsWord, Line, IsLine, line_text, text, numbered_lines, number_after, unread, Takes, flat_map}
-use Rattle.array_text.proofs.Common.{Refusal}
+use Rattle.array_text.proofs.Common.{Refusal, LinesReadAsWritten, append-nil}
 use Rattle.std.proofs.lemmas.List.Splits.{slice_split_none, slice_split_at}
 use Rattle.record_lines.proofs.LeftLemmas.{left_word, left_nothing}
 use Rattle.array_text.proofs.WordTexts.{no_separator, no_feed}
@@ -46,22 +46,15 @@ text_no_feeds (w ∷ v ∷ others) h =
     All-append (λ b. (b == 10) ≡ false) w (32 ∷ join_with_byte 32 (v ∷ others)) (no_feeds w (first w (v ∷ others) h))
     (All-cons (λ b. (b == 10) ≡ false) 32 (join_with_byte 32 (v ∷ others)) refl (text_no_feeds (v ∷ others) (rest w (v ∷ others) h)))
 
-begins : (b : ℕ) (bs : List ℕ) → IsWordByte b → has_word (b ∷ bs) ≡ true
-unfolding has_word
-begins b bs h = rw (no_separator b h) refl
-
 word_begins : (w more : List ℕ) → IsWord w → has_word (w ++ more) ≡ true
+unfolding has_word
 word_begins [] more h = absurd (let some : 1 ≤ 0 = h.some in omega arith)
-word_begins (b ∷ bs) more h = begins b (bs ++ more) (All-head (λ x. IsWordByte x) b bs h.bytes)
-
-word_alone : (w : List ℕ) → IsWord w → has_word w ≡ true
-word_alone [] h = absurd (let some : 1 ≤ 0 = h.some in omega arith)
-word_alone (b ∷ bs) h = begins b bs (All-head (λ x. IsWordByte x) b bs h.bytes)
+word_begins (b ∷ bs) more h = rw (no_separator b (All-head (λ x. IsWordByte x) b bs h.bytes)) refl
 
 line_has_word : (line : Line) → 1 ≤ length line → AreWords line → has_word (line_text line) ≡ true
 unfolding line_text
 line_has_word [] some h = absurd (omega arith)
-line_has_word (w ∷ []) some h = word_alone w (first w [] h)
+line_has_word (w ∷ []) some h = rw append-nil at (word_begins w [] (first w [] h))
 line_has_word (w ∷ v ∷ others) some h = word_begins w (32 ∷ join_with_byte 32 (v ∷ others)) (first w (v ∷ others) h)
 
 line_cut : (a after : List ℕ) → All (λ b. (b == 10) ≡ false) a → lines (a ++ (10 ∷ after)) ≡ a ∷ lines after
@@ -78,6 +71,9 @@ text_left n (line ∷ others) h =
     let cut = line_cut (line_text line) (text others) (text_no_feeds line one.words) in
     let step = left_word n (line_text line ++ (10 ∷ text others)) (line_text line) (text others) cut (line_has_word line one.some one.words) in
     step ∙ rw (text_left (next_number n) others (All-tail (λ x. IsLine x) line others h)) refl
+
+pub lines_read : LinesReadAsWritten
+lines_read = record { words = λ line h. line_words line h.words; texts = text_left }
 
 -- the next line of a text is read
 pub next_line : (file : List ℕ) (n : ℕ) (line : Line) (others : List Line) → line_at file (unread n (line ∷ others)) ≡ Ok (record { number = n; bytes = line_text line }, unread (next_number n) others)

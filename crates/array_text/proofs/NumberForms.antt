@@ -2,12 +2,11 @@
 use Rattle.array_text.proofs.Common.{◌≡◌, ◌⊎◌, inl, inr, ℕ, zero, suc, ◌+◌, ◌-◌, ◌*◌, ◌%◌, ◌^◌, ◌<◌, ◌≤◌, ◌==◌, Bool, true, false, nat_lt, nat_le}
 use Rattle.array_text.proofs.Common.{if◌then◌else◌, List, [], ◌∷◌, length, Option, Some, None, Result, Ok, Err, refl, sym, subst, arith, ℤ, pos, negsuc, neg_ℤ}
 use Rattle.array_text.proofs.Common.{◌+ℤ◌, ◌≤ℤ◌, ◌<ℤ◌, unsigned_abs, NumFault, IsDec, is_exponent, canonical, spelt_number, number, product, integer, scaled}
-use Rattle.array_text.proofs.Common.{Gives, real, multiplied, IsShort, ints, nat_tests, Dec, Spelling, AreDigits, IsInteger, number_from, IsTested, IsCanonical}
-use Rattle.array_text.proofs.Common.{differ, canonical_is, integers_are, with_sign, spelt}
+use Rattle.array_text.proofs.Common.{GivesOnly, real, multiplied, IsShort, ints, nat_tests, Dec, Spelling, AreDigits, IsInteger, number_from, IsTested}
+use Rattle.array_text.proofs.Common.{IsCanonical, differ, canonical_is, integers_are, with_sign, spelt, WordsHaveForm, done, refused, then_}
 use Rattle.decimal_input.specs.declared.dec.NumFault.TheVariants.{BadNumber}
 use Rattle.decimal_input.proofs.Powers.{zero_number, longer, within}
 use Rattle.decimal_input.proofs.Named.{digit_small}
-use Rattle.array_text.proofs.WordTexts.{done, refused, then_}
 
 -- a word that is no number
 abbrev number_fault : Result Dec NumFault
@@ -21,52 +20,52 @@ out_of_range : (e : ℤ) → is_exponent e ≡ false → (e <ℤ neg_ℤ (pos 40
 out_of_range (pos n) h = let past : 40 < n = grind (arith, nat_tests) in inr (omega (arith, ints))
 out_of_range (negsuc n) h = let past : 40 ≤ n = grind (arith, nat_tests) in inl (omega (arith, ints))
 
-tested_is : (neg : Bool) (n : ℕ) (e : ℤ) (r : Result Dec NumFault) → 0 < n % 10 → IsTested neg n e r → Gives IsDec r
+tested_is : (neg : Bool) (n : ℕ) (e : ℤ) (r : Result Dec NumFault) → 0 < n % 10 → IsTested neg n e r → GivesOnly IsDec r
 tested_is neg n e r last t = by_digits (nat_lt n (10 ^ 18)) refl
   where
-    by_exponent : n < 10 ^ 18 → (b : Bool) → is_exponent e ≡ b → Gives IsDec r
+    by_exponent : n < 10 ^ 18 → (b : Bool) → is_exponent e ≡ b → GivesOnly IsDec r
     by_exponent few true h =
         let range = in_range e h in
         let some : 0 < n = omega (arith, last) in
         rw (t.good few range.0 range.1) (done (record { few = few; form = inr (some, last); above = range.0; below = range.1 }))
     by_exponent few false h = by_side (out_of_range e h)
       where
-        by_side : (e <ℤ neg_ℤ (pos 40)) ⊎ (pos 40 <ℤ e) → Gives IsDec r
+        by_side : (e <ℤ neg_ℤ (pos 40)) ⊎ (pos 40 <ℤ e) → GivesOnly IsDec r
         by_side (inl low) = rw (t.low few low) refused
         by_side (inr high) = rw (t.high few high) refused
 
-    by_digits : (b : Bool) → nat_lt n (10 ^ 18) ≡ b → Gives IsDec r
+    by_digits : (b : Bool) → nat_lt n (10 ^ 18) ≡ b → GivesOnly IsDec r
     by_digits true h = let few : n < 10 ^ 18 = grind (arith, nat_tests) in by_exponent few (is_exponent e) refl
     by_digits false h = let many : 10 ^ 18 ≤ n = grind (arith, nat_tests) in rw (t.many many) refused
 
-canonical_form : (neg : Bool) (c : ℕ) (e : ℤ) (r : Result Dec NumFault) → IsCanonical neg c e r → Gives IsDec r
+canonical_form : (neg : Bool) (c : ℕ) (e : ℤ) (r : Result Dec NumFault) → IsCanonical neg c e r → GivesOnly IsDec r
 canonical_form neg c e r (inl k) = rw k.1 (done zero_number)
 canonical_form neg c e r (inr k) = tested_is neg k.0 (e +ℤ pos k.1) r k.2.last k.3
 
-made_canonical : (neg : Bool) (c : ℕ) (e : ℤ) → Gives IsDec (canonical neg c e)
+made_canonical : (neg : Bool) (c : ℕ) (e : ℤ) → GivesOnly IsDec (canonical neg c e)
 made_canonical neg c e = canonical_form neg c e (canonical neg c e) (canonical_is neg c e)
 
-pub number_is : (w : List ℕ) → Gives IsDec (number w)
+pub number_is : (w : List ℕ) → GivesOnly IsDec (number w)
 unfolding number
 number_is w = by_length (nat_le (length w) 64)
   where
-    by_spelling : (x : Option Spelling) → Gives IsDec (spelt_number x)
+    by_spelling : (x : Option Spelling) → GivesOnly IsDec (spelt_number x)
     by_spelling None = refused
     by_spelling (Some n) = made_canonical n.neg n.coefficient n.exp
 
-    by_length : (b : Bool) → Gives IsDec (if b then spelt_number (spelt w) else number_fault)
+    by_length : (b : Bool) → GivesOnly IsDec (if b then spelt_number (spelt w) else number_fault)
     by_length true = by_spelling (spelt w)
     by_length false = refused
 
-scaled_is : (by value : Dec) → IsDec value → Gives IsDec (scaled by value)
+scaled_is : (by value : Dec) → IsDec value → GivesOnly IsDec (scaled by value)
 unfolding scaled product
 scaled_is by value good = by_case (by.digits == 0)
   where
-    by_case : (b : Bool) → Gives IsDec (if b then Ok value else product value by)
+    by_case : (b : Bool) → GivesOnly IsDec (if b then Ok value else product value by)
     by_case true = done good
     by_case false = made_canonical (differ value.neg by.neg) (value.digits * by.digits) (value.exp +ℤ by.exp)
 
-pub multiplied_is : (by : Dec) (w : List ℕ) → Gives IsDec (multiplied real by w)
+pub multiplied_is : (by : Dec) (w : List ℕ) → GivesOnly IsDec (multiplied real by w)
 unfolding multiplied
 multiplied_is by w = then_ _ (number_is w) (λ d dec. scaled_is by d dec)
 
@@ -84,7 +83,7 @@ signed_below false n h = omega (arith, h)
 signed_below true zero h = omega arith
 signed_below true (suc n) h = omega (arith, h)
 
-pub integer_is : (w : List ℕ) → Gives IsShort (integer w)
+pub integer_is : (w : List ℕ) → GivesOnly IsShort (integer w)
 integer_is w = record {
   gives = λ z h.
       let i : IsInteger w z = (integers_are w z).0 h in
@@ -93,3 +92,6 @@ integer_is w = record {
       let few : 0 + length i.digits ≤ 18 = omega (arith, i.few) in
       record { few = subst (λ x. unsigned_abs x < 10 ^ 18) (sym i.value) (signed_below i.neg n (within n (0 + length i.digits) few below)) };
 }
+
+pub words_are : WordsHaveForm
+words_are = record { numbers = number_is; integers = integer_is }

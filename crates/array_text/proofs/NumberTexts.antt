@@ -2,7 +2,7 @@
 use Rattle.array_text.proofs.Common.{◌≡◌, ℕ, ◌*◌, ◌%◌, ◌^◌, ◌<◌, ◌≤◌, ◌⊎◌, Bool, true, false, inl, inr, List, [], ◌∷◌, ◌++◌, length, Ok, refl, sym, ap, ◌∙◌}
 use Rattle.array_text.proofs.Common.{arith, ℤ, pos, negsuc, neg_ℤ, ◌+ℤ◌, ◌-ℤ◌, ◌≤ℤ◌, unsigned_abs, decimal, signed_decimal, append-nil, length-append, ints}
 use Rattle.array_text.proofs.Common.{Dec, IsDec, number_from, IsSign, IsExponent, Spells, names_read, reads_spelt, number, integer, product, sign, number_word}
-use Rattle.array_text.proofs.Common.{integer_word, IsShort, IsTested, IsCanonical, differ, is_word_number, is_product, integers_are}
+use Rattle.array_text.proofs.Common.{integer_word, IsShort, IsTested, IsCanonical, differ, is_word_number, is_product, integers_are, WordsReadAsWritten}
 use Rattle.array_text.proofs.DigitTexts.{digits_spell, few_digits, integer_spells, few_bytes}
 
 is_sign : (neg : Bool) → IsSign neg (sign neg)
@@ -94,6 +94,9 @@ number_reads d h =
 pub integer_reads : (z : ℤ) → IsShort z → integer (integer_word z) ≡ Ok z
 unfolding integer_word
 integer_reads z h = (integers_are (signed_decimal z) z).1 (integer_spells z h.few)
+
+pub words_read : WordsReadAsWritten
+words_read = record { numbers = number_reads; integers = integer_reads }
 
 abbrev pub one : Dec
 one = record { neg = false; digits = 1; exp = pos 0 }

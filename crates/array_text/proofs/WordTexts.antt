@@ -1,8 +1,9 @@
--- What is written of numbers is words, and words have no byte that ends them; what a reading gives has a form.
-use Rattle.array_text.proofs.Common.{FileSet, ◌≡◌, ℕ, suc, ◌^◌, ◌<◌, ◌≤◌, ◌==◌, ◌&&◌, not, Bool, true, false, List, [], ◌∷◌, ◌++◌, length, nat_le, nat_lt, All}
-use Rattle.array_text.proofs.Common.{refl, arith, ℤ, pos, negsuc, unsigned_abs, zero, ◌*◌, if◌then◌else◌, Result, Ok, Err, subst, list_all, decimal}
-use Rattle.array_text.proofs.Common.{signed_decimal, length-append, All-nil, All-cons, All-append, All-weaker, nat_tests, Dec, is_digit, is_separator, sign}
-use Rattle.array_text.proofs.Common.{number_word, integer_word, IsShort, IsWordByte, IsWord, Line, IsLine, Gives, ◌>>=◌, repeated, appended, and_parts}
+-- What is written of numbers is words, and words have no byte that ends them.
+use Rattle.array_text.proofs.Common.{◌≡◌, ℕ, suc, ◌^◌, ◌<◌, ◌≤◌, ◌==◌, ◌&&◌, not, Bool, true, false, List, [], ◌∷◌, ◌++◌, length, nat_le, nat_lt, All, refl}
+use Rattle.array_text.proofs.Common.{arith, ℤ, pos, negsuc, unsigned_abs, list_all, decimal, signed_decimal, length-append, All-nil, All-cons, All-append}
+use Rattle.array_text.proofs.Common.{All-weaker, nat_tests, Dec, is_digit, is_separator, sign, number_word, integer_word, IsShort, IsWordByte, IsWord, Line}
+use Rattle.array_text.proofs.Common.{IsLine, and_parts}
+use Rattle.std.proofs.lemmas.List.Sums.{AllPass-from_list_all}
 use Rattle.array_text.proofs.DigitTexts.{digits_spell}
 
 pub no_separator : (b : ℕ) → IsWordByte b → is_separator b ≡ false
@@ -24,9 +25,8 @@ is_plain_word w = nat_lt 0 (length w) && list_all is_word_byte w
 abbrev pub is_plain_line : Line → Bool
 is_plain_line line = nat_lt 0 (length line) && list_all is_plain_word line
 
-all_pass : {X : Type 0} (p : X → Bool) (P : X → Type 0) → ((x : X) → p x ≡ true → P x) → (xs : List X) → list_all p xs ≡ true → All P xs
-all_pass p P f [] h = All-nil P
-all_pass p P f (x ∷ xs) h = let k = and_parts (p x) (list_all p xs) h in All-cons P x xs (f x k.0) (all_pass p P f xs k.1)
+pub all_pass : {X : Type 0} (p : X → Bool) (P : X → Type 0) → ((x : X) → p x ≡ true → P x) → (xs : List X) → list_all p xs ≡ true → All P xs
+all_pass p P f xs h = All-weaker (λ x. p x ≡ true) P f xs (AllPass-from_list_all p xs h)
 
 byte_by_test : (b : ℕ) → is_word_byte b ≡ true → IsWordByte b
 byte_by_test b h =
@@ -84,62 +84,3 @@ number_is_word d few short =
     let e = length-append (sign d.neg) (decimal d.digits ++ (69 ∷ signed_decimal d.exp)) in
     let f = length-append (decimal d.digits) (69 ∷ signed_decimal d.exp) in
     record { some = omega arith; bytes = whole }
-
--- What a reading gives, from what its parts give.
-module _ {A E : Type 0} {P : A → Type 0} where
-  pub done : {x : A} → P x → Gives {A = A} {E = E} P (Ok x)
-  done {x} h = record { gives = λ y e. subst P (same y e) h }
-    where
-      same : (y : A) → Path (Result A E) (Ok x) (Ok y) → x ≡ y
-      same y e = cc
-
-  pub refused : {e : E} → Gives {A = A} {E = E} P (Err e)
-  refused {e} = record { gives = λ y h. absurd (clash y h) }
-    where
-      clash : (y : A) → Path (Result A E) (Err e) (Ok y) → ⊥
-      clash y h = cc
-
-  -- a test that is passed, and a fault that is not found
-  pub if_passed : (b : Bool) (e : E) (r : Result A E) → (b ≡ true → Gives P r) → Gives P (if b then r else Err e)
-  if_passed true e r h = h refl
-  if_passed false e r h = refused
-
-  pub if_clear : (b : Bool) (e : E) (r : Result A E) → (b ≡ false → Gives P r) → Gives P (if b then Err e else r)
-  if_clear true e r h = refused
-  if_clear false e r h = h refl
-
-module _ {A B E : Type 0} {Q : B → Type 0} where
-  -- a reading that goes on with what was read
-  pub goes_on : (r : Result A E) (f : A → Result B E) → ((x : A) → r ≡ Ok x → Gives Q (f x)) → Gives Q (r >>= f)
-  goes_on (Ok x) f h = h x refl
-  goes_on (Err e) f h = refused
-
-  pub then_ : {P : A → Type 0} {r : Result A E} (f : A → Result B E) → Gives P r → ((x : A) → P x → Gives Q (f x)) → Gives Q (r >>= f)
-  then_ {r = r} f g h = goes_on r f (λ x e. h x (g.gives x e))
-
-pub weaker : {A E : Type 0} {P Q : A → Type 0} {r : Result A E} → Gives P r → ((x : A) → P x → Q x) → Gives Q r
-weaker g h = record { gives = λ x e. h x (g.gives x e) }
-
--- what is read of each of the files that agree with a folder, of which there are some
-pub some_give : {X E : Type 0} {P : X → Type 0} {read : FileSet → Result X E} {A : FileSet → Type 0} {x : X} → ((files : FileSet) → Gives P (read files))
-    → ((files : FileSet) × A files) → ((files : FileSet) → A files → read files ≡ Ok x) → P x
-some_give each some is = (each some.0).gives _ (is some.0 some.1)
-
--- readings in a row, with what is known of the list by the state at its start
-module _ {X S E : Type 0} (read : S → Result (X × S) E) (R : ℕ → S → List X × S → Type 0) (none : (s : S) → R 0 s ([], s))
-    (one : (n : ℕ) (s : S) → Gives (λ x. (more : List X × S) → R n x.1 more → R (suc n) s (x.0 ∷ more.0, more.1)) (read s)) where
-  pub repeated_gives : (n : ℕ) (s : S) → Gives (R n s) (repeated n read s)
-  unfolding repeated
-  repeated_gives zero s = done (none s)
-  repeated_gives (suc n) s = then_ _ (one n s) (λ x k. then_ _ (repeated_gives n x.1) (λ more h. done (k more h)))
-
-module _ {X S E : Type 0} (read : S → Result (X × S) E) (P : X → Type 0) (each : (s : S) → Gives (λ x. P x.0) (read s)) where
-  pub repeated_are : (n : ℕ) (s : S) → Gives (λ x. (length x.0 ≡ n) × All P x.0) (repeated n read s)
-  repeated_are = repeated_gives read (λ n s x. (length x.0 ≡ n) × All P x.0) (λ s. (refl, All-nil P))
-      (λ n s. weaker (each s) (λ x p more h. (omega (arith, h.0), All-cons P x.0 more.0 p h.1)))
-
-module _ {X S E : Type 0} (read : S → Result (List X × S) E) (width : ℕ) (P : X → Type 0) (each : (s : S) → Gives (λ x. (length x.0 ≡ width) × All P x.0) (read s)) where
-  pub appended_are : (n : ℕ) (s : S) → Gives (λ x. (length x.0 ≡ n * width) × All P x.0) (appended n read s)
-  unfolding appended
-  appended_are zero s = done (omega arith, All-nil P)
-  appended_are (suc n) s = then_ _ (each s) (λ x p. then_ _ (appended_are n x.1) (λ more h. done (omega (arith, length-append x.0 more.0, p.0, h.0), All-append P x.0 more.0 p.1 h.1)))

@@ -3,24 +3,20 @@ use Rattle.std.specs.Prelude.{◌≡◌, ℕ, ◌*◌, ◌≤◌, ℤ, List, [],
 use Rattle.decimal_input.specs.declared.dec.Dec.{Dec}
 use Rattle.decimal_input.specs.{IsDec}
 use Rattle.outside.specs.{FileSet, words}
-use Rattle.record_lines.specs.{left_from, Left}
+use Rattle.record_lines.specs.{left_from, GivesOnly, Left}
 use Rattle.array_reader.specs.{number, integer, real, whole, free_list, reals, real_layer, integer_layer, layers}
 use Rattle.array_text.specs.Lines.{IsShort, number_word, integer_word, Line, IsLine, line_text, text, unread, Reads, row_line, real_array, integer_array}
 use Rattle.outside.specs.declared.inputs.Refusal.{Refusal}
 
--- a number in canonical form
-abbrev pub NumbersReadAsWritten : Type 0
-NumbersReadAsWritten = (d : Dec) → IsDec d → number (number_word d) ≡ Ok d
+-- a number in canonical form, and an integer of at most 18 digits
+pub record WordsReadAsWritten : Type 0 where
+  pub numbers : (d : Dec) → IsDec d → number (number_word d) ≡ Ok d
+  pub integers : (z : ℤ) → IsShort z → integer (integer_word z) ≡ Ok z
 
-abbrev pub IntegersReadAsWritten : Type 0
-IntegersReadAsWritten = (z : ℤ) → IsShort z → integer (integer_word z) ≡ Ok z
-
-abbrev pub LinesReadAsWritten : Type 0
-LinesReadAsWritten = (line : Line) → IsLine line → words (line_text line) ≡ line
-
--- from any number of its first line on
-abbrev pub TextsReadAsWritten : Type 0
-TextsReadAsWritten = (n : ℕ) (lines : List Line) → All IsLine lines → left_from n (text lines) ≡ unread n lines
+-- a line as its words, and a text, from any number of its first line on, as its lines
+pub record LinesReadAsWritten : Type 0 where
+  pub words : (line : Line) → IsLine line → words (line_text line) ≡ line
+  pub texts : (n : ℕ) (lines : List Line) → All IsLine lines → left_from n (text lines) ≡ unread n lines
 
 -- at least one value, all on one line
 pub record FreeListsReadAsWritten : Type 0 where
@@ -38,23 +34,18 @@ pub record ArraysReadAsWritten : Type 0 where
   pub integer_layers : (files : FileSet) (file : List ℕ) (rows cols : ℕ) (xs : List ℤ) → 1 ≤ cols → length xs ≡ rows * cols → All IsShort xs →
       Reads (integer_layer files file rows cols) (integer_array rows cols xs) xs
 
--- whatever the reading gives has this form
-pub record Gives {A E : Type 0} (P : A → Type 0) (reading : Result A E) : Type 0 where
-  pub gives : (x : A) → reading ≡ Ok x → P x
-
 -- wherever the reading begins, each value that it gives has this form
 abbrev pub GivesEach : {X : Type 0} → (Left → Result (X × Left) Refusal) → (X → Type 0) → Type 0
-GivesEach read P = (left : Left) → Gives (λ x. P x.0) (read left)
+GivesEach read P = (left : Left) → GivesOnly (λ x. P x.0) (read left)
 
 -- this many values of this form
 abbrev pub Are : {X : Type 0} → ℕ → (X → Type 0) → List X → Type 0
 Are count P xs = (length xs ≡ count) × All P xs
 
-abbrev pub NumbersAreCanonical : Type 0
-NumbersAreCanonical = (w : List ℕ) → Gives IsDec (number w)
-
-abbrev pub IntegersAreShort : Type 0
-IntegersAreShort = (w : List ℕ) → Gives IsShort (integer w)
+-- a number in canonical form, and an integer of at most 18 digits
+pub record WordsHaveForm : Type 0 where
+  pub numbers : (w : List ℕ) → GivesOnly IsDec (number w)
+  pub integers : (w : List ℕ) → GivesOnly IsShort (integer w)
 
 pub record ListsHaveForm : Type 0 where
   pub numbers : (file : List ℕ) (count : ℕ) → GivesEach (free_list number file count) (Are count IsDec)

@@ -1,7 +1,7 @@
 pub mod Laws
 pub mod Lines
-pub use Rattle.array_text.specs.Laws.{ArraysHaveForm, ArraysReadAsWritten, FreeListsReadAsWritten, Gives, IntegersAreShort, IntegersReadAsWritten}
-pub use Rattle.array_text.specs.Laws.{LinesReadAsWritten, ListsHaveForm, NumbersAreCanonical, NumbersReadAsWritten, TextsReadAsWritten}
+pub use Rattle.array_text.specs.Laws.{ArraysHaveForm, ArraysReadAsWritten, FreeListsReadAsWritten, LinesReadAsWritten, ListsHaveForm, WordsHaveForm}
+pub use Rattle.array_text.specs.Laws.{WordsReadAsWritten}
 pub use Rattle.array_text.specs.Lines.{IsLine, IsShort, IsWord, IsWordByte, Line, Reads, Takes, array_lines, control_record, in_rows, sign}
 unfoldable pub use Rattle.array_text.specs.Lines.{integer_array, integer_word, line_text, number_after, number_word, numbered_lines, real_array, row_line}
 unfoldable pub use Rattle.array_text.specs.Lines.{row_lines, text, unread}

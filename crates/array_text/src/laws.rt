@@ -1,29 +1,17 @@
 // What is written is read as itself. Each law is the contract of an empty function.
-ghost use Rattle.array_text.specs.{NumbersReadAsWritten, IntegersReadAsWritten, LinesReadAsWritten, TextsReadAsWritten, FreeListsReadAsWritten};
-ghost use Rattle.array_text.specs.{ArraysReadAsWritten, NumbersAreCanonical, IntegersAreShort, ListsHaveForm, ArraysHaveForm};
+ghost use Rattle.array_text.specs.{WordsReadAsWritten, LinesReadAsWritten, FreeListsReadAsWritten, ArraysReadAsWritten, WordsHaveForm, ListsHaveForm};
+ghost use Rattle.array_text.specs.{ArraysHaveForm};
 
-/// A number's word is read as that number.
-#[tactic(auto, using(crate::proofs::NumberTexts::number_reads))]
-pub fn numbers_read_as_written()
-    ensures { NumbersReadAsWritten }
+/// A number's word is read as that number, and an integer's word as that integer.
+#[tactic(auto, using(crate::proofs::NumberTexts::words_read))]
+pub fn words_read_as_written()
+    ensures { WordsReadAsWritten }
 {}
 
-/// An integer's word is read as that integer.
-#[tactic(auto, using(crate::proofs::NumberTexts::integer_reads))]
-pub fn integers_read_as_written()
-    ensures { IntegersReadAsWritten }
-{}
-
-/// A line has the words that were written on it.
-#[tactic(auto, using(crate::proofs::LineTexts::line_words))]
+/// A line has the words that were written on it, and a text the lines, each with its number.
+#[tactic(auto, using(crate::proofs::LineTexts::lines_read))]
 pub fn lines_read_as_written()
     ensures { LinesReadAsWritten }
-{}
-
-/// A text has the lines that were written to it, each with its number.
-#[tactic(auto, using(crate::proofs::LineTexts::text_left))]
-pub fn texts_read_as_written()
-    ensures { TextsReadAsWritten }
 {}
 
 /// A free list on one line is read as its values.
@@ -38,16 +26,10 @@ pub fn arrays_read_as_written()
     ensures { ArraysReadAsWritten }
 {}
 
-/// A number that is read is in canonical form.
-#[tactic(auto, using(crate::proofs::NumberForms::number_is))]
-pub fn numbers_are_canonical()
-    ensures { NumbersAreCanonical }
-{}
-
-/// An integer that is read has at most 18 digits.
-#[tactic(auto, using(crate::proofs::NumberForms::integer_is))]
-pub fn integers_are_short()
-    ensures { IntegersAreShort }
+/// A number that is read is in canonical form, and an integer has at most 18 digits.
+#[tactic(auto, using(crate::proofs::NumberForms::words_are))]
+pub fn words_have_form()
+    ensures { WordsHaveForm }
 {}
 
 /// A free list that is read has as many values as it asked for.

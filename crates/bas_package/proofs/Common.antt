@@ -1,8 +1,8 @@
 -- Names that several proofs of this crate cite, of the crates below and of its own definitions, passed on from one place. Declares nothing.
-pub use Rattle.std.proofs.Common.{All, Err, List, Ok, length, refl, rules, ℕ, ◌≡◌}
-pub use Rattle.array_text.proofs.WordTexts.{done, goes_on, some_give, then_}
+pub use Rattle.std.proofs.Common.{All, List, Ok, length, refl, rules, ℕ, ◌≡◌}
 pub use Rattle.bas_package.specs.{HasBasics, is_in_profile}
 unfoldable pub use Rattle.bas_package.specs.{bas_of, basics_of, head_item, option_line}
-pub use Rattle.outside.specs.{FileSet, refusal, words}
-pub use Rattle.record_lines.proofs.Forward.{after, begun_held, chain, either, leaves, line_held}
-pub use Rattle.record_lines.specs.{Left, LineMay, LinesMay, Numbered, left_from, line_at, without_comments}
+pub use Rattle.outside.specs.{FileSet, words}
+pub use Rattle.record_lines.proofs.Forward.{begun_held, leaves, line_held}
+pub use Rattle.record_lines.proofs.Readings.{done, goes_on, if_passed, some_give, then_}
+pub use Rattle.record_lines.specs.{GivesOnly, Left, LineMay, LinesMay, Numbered, left_from, without_comments}

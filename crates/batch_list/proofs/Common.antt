@@ -4,4 +4,4 @@ pub use Rattle.std.proofs.Common.{length-append, map, option_and_then, refl, sym
 pub use Rattle.batch_list.specs.{Entry, entries, first_entry, refusal_of, refusals, unless_refused, with_entries, words_of}
 unfoldable pub use Rattle.batch_list.specs.{entry_of, names_in}
 pub use Rattle.outside.specs.{IsGoodName, TextMay, WordsMay, folder_name, words}
-pub use Rattle.record_lines.specs.{Left, LineMay, Numbered, StopsText, is_comment, left_from, numbered_of}
+pub use Rattle.record_lines.specs.{GivesOnly, Left, LineMay, Numbered, StopsText, is_comment, left_from, numbered_of}

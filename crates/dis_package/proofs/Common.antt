@@ -5,13 +5,12 @@ pub use Rattle.std.proofs.Common.{◌⊎◌}
 pub use Rattle.std.proofs.lemmas.Bool.{and_parts, eqb-true, leb-true, ltb-true, not-false, not-true}
 pub use Rattle.std.proofs.lemmas.List.Elements.{All-append, All-cons, All-nil, All-push, All-weaker}
 pub use Rattle.std.proofs.lemmas.Result.{err_from_is_err_and}
-pub use Rattle.std.specs.Prelude.{IfOk, if◌then◌else◌}
+pub use Rattle.std.specs.Prelude.{if◌then◌else◌}
 pub use Rattle.array_reader.specs.{integer, number, number_at, real, value_alone, value_at}
 unfoldable pub use Rattle.array_reader.specs.{zero_at}
 pub use Rattle.array_text.proofs.ArrayForms.{array_is, item_is, value_is}
 pub use Rattle.array_text.proofs.NumberForms.{integer_is, multiplied_is, number_is}
-pub use Rattle.array_text.proofs.WordTexts.{done, goes_on, if_clear, if_passed, refused, repeated_are, repeated_gives, some_give, then_, weaker}
-pub use Rattle.array_text.specs.{Gives, IsShort}
+pub use Rattle.array_text.specs.{IsShort}
 pub use Rattle.decimal_input.specs.{IsDec, size}
 pub use Rattle.dis_package.specs.{IsBegun, IsFrame, IsGridWithin, IsNewPeriod, IsOfBeds, IsSize, IsTime, begun, inside, is_growth, is_time, kind_of, known}
 pub use Rattle.dis_package.specs.{period_of}
@@ -28,7 +27,9 @@ pub use Rattle.number_limits.proofs.SignLemmas.{all_positive_of, one_of, positiv
 pub use Rattle.number_limits.specs.{is_at_least, is_at_most, is_one, is_positive, within}
 pub use Rattle.outside.specs.{FileSet, input_fault, refusal, words}
 pub use Rattle.outside.specs.declared.codes.Code.TheVariants.{BadGrid}
-pub use Rattle.record_lines.proofs.Forward.{after, begun_held, chain, leaves, line_held, repeated_held}
+pub use Rattle.record_lines.proofs.Forward.{begun_held, leaves, line_held}
 pub use Rattle.record_lines.proofs.Loops.{ends_all, ends_text, is_done, step_goes_on, steps_done, steps_stop, with_front}
-pub use Rattle.record_lines.specs.{Left, LineMay, LinesMay, Numbered, Stops, StopsText, Taking, beginning, counted, is_word, left_from, line_at, repeated}
-pub use Rattle.record_lines.specs.{without_comments}
+pub use Rattle.record_lines.proofs.Readings.{counted_gives, done, goes_on, if_clear, if_passed, refused, repeated_are, repeated_gives, repeated_held, some_give}
+pub use Rattle.record_lines.proofs.Readings.{then_, weaker}
+pub use Rattle.record_lines.specs.{GivesOnly, Left, LineMay, LinesMay, Numbered, Stops, StopsText, Taking, beginning, counted, is_word, left_from, line_at}
+pub use Rattle.record_lines.specs.{repeated, without_comments}

@@ -1,8 +1,8 @@
 -- What a file of the discretization gives.
 use Rattle.dis_package.proofs.Common.{◌≡◌, ℕ, ℤ, List, length, All, refl, ◌≤◌, sum_by, sym, subst, arith, suc, ◌+◌, nat_le, ◌&&◌, ◌∷◌, IsDec, FileSet, refusal}
-use Rattle.dis_package.proofs.Common.{words, Left, left_from, without_comments, line_at, number_at, number, FlowModel, item_is, Gives, IsShort, done, goes_on}
-use Rattle.dis_package.proofs.Common.{then_, if_passed, weaker, repeated_gives, All-nil, All-cons, Period, begun, dis_of, IsNewPeriod, periods_of, IsTime}
-use Rattle.dis_package.proofs.Common.{known, is_time, time_of, period_of, period_at, IsBegun, kind_of, Limits, and_parts, leb-true, BadGrid, number_is}
+use Rattle.dis_package.proofs.Common.{words, Left, left_from, without_comments, line_at, number_at, number, FlowModel, item_is, GivesOnly, IsShort, done}
+use Rattle.dis_package.proofs.Common.{goes_on, then_, if_passed, weaker, repeated_gives, All-nil, All-cons, Period, begun, dis_of, IsNewPeriod, periods_of}
+use Rattle.dis_package.proofs.Common.{IsTime, known, is_time, time_of, period_of, period_at, IsBegun, kind_of, Limits, and_parts, leb-true, BadGrid, number_is}
 use Rattle.dis_package.proofs.Common.{IsGridWithin, All-weaker, IsTimed, Bool, true, false, not, ◌||◌, ◌⊎◌, inl, inr, ◌∙◌, if◌then◌else◌, size, is_growth}
 use Rattle.dis_package.proofs.Common.{IsGrowing, number_one, not-true, is_at_most, is_at_least, is_one, is_positive, positive_of, one_of}
 use Rattle.std.proofs.lemmas.List.Sums.{sum_by-cons}
@@ -65,16 +65,16 @@ pub record ArePeriods (count before after : ℕ) (ps : List Period) : Type 0 whe
   pub few : after ≤ 100000
 
 module _ (file : List ℕ) where
-  number_at_is : (line : ℕ) (ws : List (List ℕ)) → Gives (λ x. IsDec x.0) (number_at number file line ws)
+  number_at_is : (line : ℕ) (ws : List (List ℕ)) → GivesOnly (λ x. IsDec x.0) (number_at number file line ws)
   number_at_is = item_is number IsDec number_is file
 
-  time_is : (line : ℕ) (ws : List (List ℕ)) → Gives IsTime (time_of file line ws)
+  time_is : (line : ℕ) (ws : List (List ℕ)) → GivesOnly IsTime (time_of file line ws)
   unfolding time_of
   time_is line ws =
       then_ _ (number_at_is line ws) (λ perlen a. then_ _ (count_is file line 100000 perlen.1) (λ nstp b. then_ _ (number_at_is line nstp.1)
       (λ tsmult c. goes_on (known (kind_of tsmult.1) (refusal BadGrid file line)) _ (λ steady e. done (record { perlen = a; nstp = b; tsmult = c })))))
 
-  period_is : (s : ℕ × Left) → Gives (λ x. IsNewPeriod x.0 × (s.0 + x.0.nstp ≡ x.1.0) × (x.1.0 ≤ 100000)) (period_at file s)
+  period_is : (s : ℕ × Left) → GivesOnly (λ x. IsNewPeriod x.0 × (s.0 + x.0.nstp ≡ x.1.0) × (x.1.0 ≤ 100000)) (period_at file s)
   unfolding period_at
   period_is s =
       goes_on (line_at file s.1) _ (λ line e. then_ _ (time_is line.0.number (words line.0.bytes)) (λ time is. if_passed (is_time time && nat_le (s.0 + time.nstp) 100000) _ _ (λ passed.
@@ -85,7 +85,7 @@ module _ (file : List ℕ) where
   abbrev AreNext : ℕ → ℕ × Left → List Period × (ℕ × Left) → Type 0
   AreNext count s x = s.0 ≤ 100000 → ArePeriods count s.0 x.1.0 x.0
 
-  next_period : (n : ℕ) (s : ℕ × Left) → Gives (λ x. (more : List Period × (ℕ × Left)) → AreNext n x.1 more → AreNext (suc n) s (x.0 ∷ more.0, more.1)) (period_at file s)
+  next_period : (n : ℕ) (s : ℕ × Left) → GivesOnly (λ x. (more : List Period × (ℕ × Left)) → AreNext n x.1 more → AreNext (suc n) s (x.0 ∷ more.0, more.1)) (period_at file s)
   next_period n s = weaker (period_is s) (λ x one more rest few.
       let steps : s.0 + x.0.nstp ≡ x.1.0 = one.1 in
       let are : ArePeriods n x.1.0 more.1.0 more.0 = rest one.2 in
@@ -97,7 +97,7 @@ module _ (file : List ℕ) where
       })
 
   -- stress periods, of which there are this many
-  pub periods_are : (count : ℕ) (left : Left) → Gives (λ ps. (length ps ≡ count) × All IsNewPeriod ps × (sum_by (λ p. p.nstp) ps ≤ 100000)) (periods_of file count left)
+  pub periods_are : (count : ℕ) (left : Left) → GivesOnly (λ ps. (length ps ≡ count) × All IsNewPeriod ps × (sum_by (λ p. p.nstp) ps ≤ 100000)) (periods_of file count left)
   unfolding periods_of
   periods_are count left =
       then_ _ (repeated_gives (period_at file) AreNext (λ s few. record { many = refl; new = All-nil IsNewPeriod; sum = omega arith; few = few }) next_period count (0, left)) (λ x next.
@@ -111,7 +111,7 @@ pub record IsStarted (limits : Limits) (m : FlowModel) : Type 0 where
   pub begun : IsBegun m
   pub within : IsGridWithin limits m.grid
 
-pub dis_is : (limits : Limits) (files : FileSet) (file bytes : List ℕ) → Gives (IsStarted limits) (dis_of limits files file bytes)
+pub dis_is : (limits : Limits) (files : FileSet) (file bytes : List ℕ) → GivesOnly (IsStarted limits) (dis_of limits files file bytes)
 unfolding dis_of
 dis_is limits files file bytes =
     then_ _ (head_is file limits (without_comments (left_from 1 bytes))) (λ head a. then_ _ (grid_is files file head.0.0.size head.0.1 limits head.1 a.0.size a.3 a.2) (λ grid g.

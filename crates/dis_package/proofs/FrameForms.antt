@@ -3,7 +3,7 @@ use Rattle.dis_package.proofs.Common.{◌≡◌, ℕ, ◌-◌, ◌*◌, ◌<◌,
 use Rattle.dis_package.proofs.Common.{None, refl, arith, ℤ, pos, negsuc, if◌then◌else◌, and_parts, leb-true, ltb-true, eqb-true, not-false, All-push, refusal}
 use Rattle.dis_package.proofs.Common.{words, BadGrid, line_at, Left, Taking, beginning, number_at, value_at, value_alone, integer, zero_at, int_at, is_nonzero}
 use Rattle.dis_package.proofs.Common.{most_layers, most_in_row, most_cells, within, head_of, IsSize, IsFrame, count_at, size_at, frame_of, beds_of, inside}
-use Rattle.dis_package.proofs.Common.{Size, IsShort, Gives, item_is, value_is, integer_is, done, refused, goes_on, then_, if_passed, if_clear, repeated_are}
+use Rattle.dis_package.proofs.Common.{Size, IsShort, GivesOnly, item_is, value_is, integer_is, done, refused, goes_on, then_, if_passed, if_clear, repeated_are}
 use Rattle.dis_package.proofs.Common.{Limits}
 use Rattle.std.proofs.lemmas.List.{length-append}
 use Rattle.outside.specs.declared.inputs.Refusal.{Refusal}
@@ -24,10 +24,10 @@ last_of above all z layers some count is zero =
 abbrev pub IsCount : ℕ → ℕ → Type 0
 IsCount limit n = (1 ≤ n) × (n ≤ limit)
 
-pub within_is : (z : ℤ) (limit : ℕ) (r : Refusal) → Gives (IsCount limit) (inside (within z limit) r)
+pub within_is : (z : ℤ) (limit : ℕ) (r : Refusal) → GivesOnly (IsCount limit) (inside (within z limit) r)
 within_is (pos k) limit r = by_case (nat_lt 0 k && nat_le k limit) refl
   where
-    by_case : (b : Bool) → (nat_lt 0 k && nat_le k limit) ≡ b → Gives (IsCount limit) (inside (if b then Some k else None) r)
+    by_case : (b : Bool) → (nat_lt 0 k && nat_le k limit) ≡ b → GivesOnly (IsCount limit) (inside (if b then Some k else None) r)
     by_case true e =
         let p = and_parts (nat_lt 0 k) (nat_le k limit) e in
         let low : 0 < k = ltb-true 0 k p.0 in
@@ -61,11 +61,11 @@ pub record AreBeds (layers : ℕ) (laycbd : List ℤ) : Type 0 where
 
 module _ (file : List ℕ) where
   module _ (line : ℕ) where
-    pub count_is : (limit : ℕ) (ws : List (List ℕ)) → Gives (λ x. IsCount limit x.0) (count_at file line limit ws)
+    pub count_is : (limit : ℕ) (ws : List (List ℕ)) → GivesOnly (λ x. IsCount limit x.0) (count_at file line limit ws)
     unfolding count_at
     count_is limit ws = goes_on (number_at integer file line ws) _ (λ z e. then_ _ (within_is z.0 limit (refusal BadGrid file line)) (λ n h. done h))
 
-    size_is : (limits : Limits) (ws : List (List ℕ)) → Gives (λ x. IsSize x.0 × IsSizeWithin limits x.0) (size_at limits file line ws)
+    size_is : (limits : Limits) (ws : List (List ℕ)) → GivesOnly (λ x. IsSize x.0 × IsSizeWithin limits x.0) (size_at limits file line ws)
     unfolding size_at
     size_is limits ws =
         then_ _ (count_is (most_layers limits) ws) (λ k layers. then_ _ (count_is (most_in_row limits) k.1) (λ i rows. then_ _ (count_is (most_in_row limits) i.1)
@@ -81,17 +81,17 @@ module _ (file : List ℕ) where
           record { layers = layers.1; rows = rows.1; cols = cols.1; cells = cells },
         )))))
 
-    pub frame_is : (limits : Limits) (ws : List (List ℕ)) → Gives (λ f. IsFrame f × IsShort f.lenuni × IsSizeWithin limits f.size) (frame_of limits file line ws)
+    pub frame_is : (limits : Limits) (ws : List (List ℕ)) → GivesOnly (λ f. IsFrame f × IsShort f.lenuni × IsSizeWithin limits f.size) (frame_of limits file line ws)
     unfolding frame_of
     frame_is limits ws =
         then_ _ (size_is limits ws) (λ s size. then_ _ (count_is 1000 s.1) (λ n periods. goes_on (number_at integer file line n.1) _ (λ t e. then_ _ (item_is integer IsShort integer_is file line t.1)
         (λ u lenuni. done (record { size = size.0; periods = periods }, lenuni, size.1)))))
 
-  zero_is : (s : Taking × Left) → Gives (λ x. (x.0 ≡ pos 0) × IsShort x.0) (zero_at file s)
+  zero_is : (s : Taking × Left) → GivesOnly (λ x. (x.0 ≡ pos 0) × IsShort x.0) (zero_at file s)
   unfolding zero_at
   zero_is s = goes_on (value_at integer file s) _ (λ z e. if_clear (is_nonzero z.0.0) _ _ (λ none. done (zero_item z.0.0 none)))
 
-  beds_are : (layers : ℕ) (left : Left) → 1 ≤ layers → Gives (λ x. AreBeds layers x.0) (beds_of file layers left)
+  beds_are : (layers : ℕ) (left : Left) → 1 ≤ layers → GivesOnly (λ x. AreBeds layers x.0) (beds_of file layers left)
   unfolding beds_of
   beds_are layers left some =
       then_ _ (repeated_are (value_alone integer file) IsShort (value_is integer IsShort integer_is file) (layers - 1) (beginning, left)) (λ above are. then_ _ (zero_is above.1) (λ last zero.
@@ -103,7 +103,7 @@ module _ (file : List ℕ) where
       })))
 
   -- the first line, and LAYCBD
-  pub head_is : (limits : Limits) (left : Left) → Gives (λ x. IsFrame x.0.0 × IsShort x.0.0.lenuni × AreBeds x.0.0.size.layers x.0.1 × IsSizeWithin limits x.0.0.size) (head_of limits file left)
+  pub head_is : (limits : Limits) (left : Left) → GivesOnly (λ x. IsFrame x.0.0 × IsShort x.0.0.lenuni × AreBeds x.0.0.size.layers x.0.1 × IsSizeWithin limits x.0.0.size) (head_of limits file left)
   unfolding head_of
   head_is limits left =
       goes_on (line_at file left) _ (λ line e. then_ _ (frame_is line.0.number limits (words line.0.bytes)) (λ frame f. then_ _ (beds_are frame.size.layers line.1 f.0.size.layers.0)

@@ -1,17 +1,17 @@
 -- What is read of widths and elevations.
 use Rattle.dis_package.proofs.Common.{◌≡◌, ℕ, ◌+◌, ◌*◌, false, List, length, replicate, All, refl, arith, ℤ, ◌-◌, All-nil, All-append, IsDec, FileSet, Left}
 use Rattle.dis_package.proofs.Common.{real, IsGrid, int_at, is_nonzero, no_number, IsPositive, is_positive, IsSize, widths, bottom_at, bottoms_of, grid_of}
-use Rattle.dis_package.proofs.Common.{Size, array_is, number_is, multiplied_is, Gives, done, then_, if_passed, Grid, all_positive_of, IsGridWithin, IsOfBeds}
-use Rattle.dis_package.proofs.Common.{Limits}
+use Rattle.dis_package.proofs.Common.{Size, array_is, number_is, multiplied_is, GivesOnly, done, then_, if_passed, Grid, all_positive_of, IsGridWithin}
+use Rattle.dis_package.proofs.Common.{IsOfBeds, Limits, counted_gives}
 use Rattle.std.specs.List.{list_all}
 use Rattle.decimal_input.specs.declared.dec.Dec.{Dec}
 use Rattle.number_limits.proofs.Canonical.{no_number_is}
 use Rattle.dis_package.specs.declared.bottoms.Bottoms.{Bottoms}
 use Rattle.dis_package.proofs.FrameForms.{IsSizeWithin, AreBeds}
-use Rattle.array_text.proofs.LayerForms.{layer_is, layer_or_is, counted_gives, one_more, AreLayers, no_layers, one_more_layer}
+use Rattle.array_text.proofs.LayerForms.{layer_is, layer_or_is, one_more, AreLayers, no_layers, one_more_layer}
 
 module _ (files : FileSet) (file : List ℕ) where
-  widths_are : (count : ℕ) (left : Left) → Gives (λ x. (length x.0 ≡ count) × All IsPositive x.0) (widths files file count left)
+  widths_are : (count : ℕ) (left : Left) → GivesOnly (λ x. (length x.0 ≡ count) × All IsPositive x.0) (widths files file count left)
   unfolding widths
   widths_are count left =
       then_ _ (array_is real IsDec number_is multiplied_is files file 1 count left) (λ read are. if_passed (list_all is_positive read.0.0) _ _
@@ -35,7 +35,7 @@ pub record IsReadGrid (limits : Limits) (laycbd : List ℤ) (g : Grid) : Type 0 
   pub same : g.laycbd ≡ laycbd
 
 module _ (files : FileSet) (file : List ℕ) (size : Size) (laycbd : List ℤ) where
-  one_bottom : (i : ℕ) (s : Bottoms × Left) → AreBottoms size laycbd i s → Gives (AreBottoms size laycbd (i + 1)) (bottom_at files file size laycbd i s)
+  one_bottom : (i : ℕ) (s : Bottoms × Left) → AreBottoms size laycbd i s → GivesOnly (AreBottoms size laycbd (i + 1)) (bottom_at files file size laycbd i s)
   unfolding bottom_at
   one_bottom i s so =
       let cells = size.rows * size.cols in
@@ -46,13 +46,13 @@ module _ (files : FileSet) (file : List ℕ) (size : Size) (laycbd : List ℤ) w
         beds = one_more_layer cells (IsBedLayer laycbd cells) i s.0.beds bed.0 so.beds b.0 b.2;
       })))
 
-  bottoms_are : (count : ℕ) (left : Left) → Gives (AreBottoms size laycbd count) (bottoms_of files file size laycbd count left)
+  bottoms_are : (count : ℕ) (left : Left) → GivesOnly (AreBottoms size laycbd count) (bottoms_of files file size laycbd count left)
   unfolding bottoms_of
   bottoms_are count left =
       counted_gives (bottom_at files file size laycbd) (AreBottoms size laycbd) one_bottom count _
       (record { layers = (omega arith, All-nil IsDec); decimals = All-nil IsDec; beds = no_layers (size.rows * size.cols) (IsBedLayer laycbd (size.rows * size.cols)) })
 
-  pub grid_is : (limits : Limits) (left : Left) → IsSize size → IsSizeWithin limits size → AreBeds size.layers laycbd → Gives (λ x. IsReadGrid limits laycbd x.0) (grid_of files file size laycbd left)
+  pub grid_is : (limits : Limits) (left : Left) → IsSize size → IsSizeWithin limits size → AreBeds size.layers laycbd → GivesOnly (λ x. IsReadGrid limits laycbd x.0) (grid_of files file size laycbd left)
   unfolding grid_of
   grid_is limits left sizes w beds =
       then_ _ (widths_are files file size.cols left) (λ delr a. then_ _ (widths_are files file size.rows delr.1) (λ delc b. then_ _ (layer_is files file size.rows size.cols delc.1)

@@ -57,7 +57,7 @@ named g i k z e lt =
     rw (e, some, few, before) refl
 
 pub chosen_is : (m : FlowModel) (option : ℤ) (layers : List ℤ) (c : ℕ) → HasSize m.grid → c < cell_count m.grid → is_active m c ≡ true → is_chosen m option layers c ≡ true → chosen_cell m.grid m.ibound option layers (place_in_layer m.grid c) ≡ Some c
-chosen_is m option layers c size lt active h = by_option (is_int option 1) (is_int option 2) (is_int option 3) refl refl refl h
+chosen_is m option layers c size lt active h = by_part (parts (is_int option 1 && (layer_of m.grid c == 0)) (is_int option 2 && is_int (int_at layers (place_in_layer m.grid c)) (suc (layer_of m.grid c))) _ h)
   where
     below : layer_of m.grid c < m.grid.layers
     below = layer_below m.grid size c lt
@@ -67,31 +67,13 @@ chosen_is m option layers c size lt active h = by_option (is_int option 1) (is_i
     parts false true z e = inr (inl refl)
     parts false false z e = inr (inr e)
 
-    by_option : (a b d : Bool) → is_int option 1 ≡ a → is_int option 2 ≡ b → is_int option 3 ≡ d
-        → ((a && (layer_of m.grid c == 0)) || (b && is_int (int_at layers (place_in_layer m.grid c)) (suc (layer_of m.grid c))) || (d && is_active m c && is_highest m c)) ≡ true
-        → (if a then Some (place_in_layer m.grid c) else (if b then in_layer m.grid (place_in_layer m.grid c) (within (int_at layers (place_in_layer m.grid c)) m.grid.layers) else highest_active m.grid m.ibound (place_in_layer m.grid c) 0 m.grid.layers)) ≡ Some c
-    by_option true b d e f g so = first_layer m.grid c (eqb-true (layer_of m.grid c) 0 (in_first (parts (layer_of m.grid c == 0) (b && is_int (int_at layers (place_in_layer m.grid c)) (suc (layer_of m.grid c))) (d && is_active m c && is_highest m c) so)))
-      where
-        one_option : (z : ℤ) (k n : ℕ) → is_int z k ≡ true → is_int z n ≡ true → k ≡ n
-        one_option z k n p q = let r : pos k ≡ pos n = sym (int_is z k p) ∙ int_is z n q in cc
-
-        in_first : ((layer_of m.grid c == 0) ≡ true) ⊎ (((b && is_int (int_at layers (place_in_layer m.grid c)) (suc (layer_of m.grid c))) ≡ true) ⊎ ((d && is_active m c && is_highest m c) ≡ true)) → (layer_of m.grid c == 0) ≡ true
-        in_first (inl p) = p
-        in_first (inr (inl p)) =
-            let two : b ≡ true = (and_parts b (is_int (int_at layers (place_in_layer m.grid c)) (suc (layer_of m.grid c))) p).0 in
-            absurd (omega (arith, one_option option 1 2 e (f ∙ two)))
-        in_first (inr (inr p)) =
-            let three : d ≡ true = (and_parts d (is_active m c) (and_parts (d && is_active m c) (is_highest m c) p).0).0 in
-            absurd (omega (arith, one_option option 1 3 e (g ∙ three)))
-    by_option false true d e f g so = layer (parts false (is_int (int_at layers (place_in_layer m.grid c)) (suc (layer_of m.grid c))) (d && is_active m c && is_highest m c) so)
-      where
-        layer : (false ≡ true) ⊎ ((is_int (int_at layers (place_in_layer m.grid c)) (suc (layer_of m.grid c)) ≡ true) ⊎ ((d && is_active m c && is_highest m c) ≡ true)) → in_layer m.grid (place_in_layer m.grid c) (within (int_at layers (place_in_layer m.grid c)) m.grid.layers) ≡ Some c
-        layer (inl p) = absurd (let clash : false ≡ true = p in cc)
-        layer (inr (inl p)) = named m.grid (place_in_layer m.grid c) (layer_of m.grid c) _ (int_is (int_at layers (place_in_layer m.grid c)) (suc (layer_of m.grid c)) p) below ∙ ap Some (its_place m.grid c)
-        layer (inr (inr p)) =
-            let three : d ≡ true = (and_parts d (is_active m c) (and_parts (d && is_active m c) (is_highest m c) p).0).0 in
-            absurd (let r : pos 2 ≡ pos 3 = sym (int_is option 2 f) ∙ int_is option 3 (g ∙ three) in cc)
-    by_option false false true e f g so =
-        let p = and_parts (is_active m c) (is_highest m c) so in
-        found_at m.grid m.ibound (place_in_layer m.grid c) m.grid.layers 0 (layer_of m.grid c) (omega arith) (omega (arith, below)) (rw (its_place m.grid c) active) (above_highest m c p.1) ∙ ap Some (its_place m.grid c)
-    by_option false false false e f g so = absurd (let clash : false ≡ true = so in cc)
+    by_part : ((is_int option 1 && (layer_of m.grid c == 0)) ≡ true) ⊎ (((is_int option 2 && is_int (int_at layers (place_in_layer m.grid c)) (suc (layer_of m.grid c))) ≡ true) ⊎ ((is_int option 3 && is_active m c && is_highest m c) ≡ true))
+        → chosen_cell m.grid m.ibound option layers (place_in_layer m.grid c) ≡ Some c
+    by_part (inl p) = let q = and_parts (is_int option 1) (layer_of m.grid c == 0) p in rw (int_is option 1 q.0) (first_layer m.grid c (eqb-true (layer_of m.grid c) 0 q.1))
+    by_part (inr (inl p)) =
+        let q = and_parts (is_int option 2) (is_int (int_at layers (place_in_layer m.grid c)) (suc (layer_of m.grid c))) p in
+        rw (int_is option 2 q.0) (named m.grid (place_in_layer m.grid c) (layer_of m.grid c) _ (int_is (int_at layers (place_in_layer m.grid c)) (suc (layer_of m.grid c)) q.1) below ∙ ap Some (its_place m.grid c))
+    by_part (inr (inr p)) =
+        let q = and_parts (is_int option 3 && is_active m c) (is_highest m c) p in
+        let three = int_is option 3 (and_parts (is_int option 3) (is_active m c) q.0).0 in
+        rw three (found_at m.grid m.ibound (place_in_layer m.grid c) m.grid.layers 0 (layer_of m.grid c) (omega arith) (omega (arith, below)) (rw (its_place m.grid c) active) (above_highest m c q.1) ∙ ap Some (its_place m.grid c))

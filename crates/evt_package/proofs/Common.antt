@@ -5,7 +5,7 @@ pub use Rattle.std.proofs.Common.{◌⊎◌}
 pub use Rattle.std.proofs.lemmas.Bool.{and_parts, cases_lt, eqb-true, le-leb, lt-ltb, not-true}
 pub use Rattle.std.proofs.lemmas.Nat.{div-add-mod', mod_below}
 pub use Rattle.std.specs.Prelude.{if◌then◌else◌}
-pub use Rattle.evt_package.specs.{HasEvaporation, area_in, cell_tested, chosen_cell, column_step, column_tested, evap_fault, in_layer, is_reached, source}
+pub use Rattle.evt_package.specs.{area_in, cell_tested, chosen_cell, column_step, column_tested, evap_fault, evaporation_arrays, in_layer, is_reached, source}
 unfoldable pub use Rattle.evt_package.specs.{columns_tested, has_extinction, highest_active}
 pub use Rattle.model_types.proofs.Numbering.{layer_below, size_some}
 pub use Rattle.model_types.specs.{EvapSource, HasSize, IsEvapValid, cell_count, evap_sources, int_at, is_active, is_chosen, is_highest, is_int, is_nonzero}

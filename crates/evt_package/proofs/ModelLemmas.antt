@@ -1,9 +1,10 @@
 -- What evaporates from a model with evapotranspiration is in limits.
 use Rattle.evt_package.proofs.Common.{◌≡◌, ◌⊎◌, inl, inr, ℕ, ◌-◌, ◌<◌, ◌≤◌, ℤ, Bool, true, false, not, cond, ◌&&◌, ◌==◌, List, [], All, Option, Some, None, Ok}
-use Rattle.evt_package.proofs.Common.{length, refl, sym, arith, suc, ◌+◌, ◌*◌, cases_lt, mod_below, Grid, FlowModel, cell_count, layer_size, place_in_layer}
-use Rattle.evt_package.proofs.Common.{◌∙◌, HasSize, EvapSource, is_active, is_chosen, IsEvapValid, evap_sources, no_period, period_at, int_at, is_nonzero}
-use Rattle.evt_package.proofs.Common.{size_some, cell_tested, column_step, column_tested, columns_tested, source, evap_fault, area_in, HasEvaporation}
-use Rattle.evt_package.proofs.Common.{highest_active, each_step}
+use Rattle.evt_package.proofs.Common.{length, refl, arith, suc, ◌+◌, ◌*◌, cases_lt, mod_below, Grid, FlowModel, cell_count, layer_size, place_in_layer, HasSize}
+use Rattle.evt_package.proofs.Common.{EvapSource, is_active, is_chosen, IsEvapValid, evap_sources, no_period, period_at, int_at, is_nonzero, size_some}
+use Rattle.evt_package.proofs.Common.{cell_tested, column_step, column_tested, columns_tested, source, evap_fault, area_in, evaporation_arrays, highest_active}
+use Rattle.evt_package.proofs.Common.{each_step}
+use Rattle.period_arrays.specs.{HasArrays}
 use Rattle.std.specs.Option.{option_to_list}
 use Rattle.std.proofs.lemmas.List.Elements.{All-nil, All-cons}
 use Rattle.std.proofs.lemmas.List.{get_or_past}
@@ -23,7 +24,7 @@ module _ (m : FlowModel) (c : ℕ) (size : HasSize m.grid) (lt : c < cell_count 
   abbrev at_cell : EvapSource
   at_cell = source (area_in s) (place_in_layer m.grid c)
 
-  no_fault : HasEvaporation m.grid m.ibound m.nevtop s → is_chosen m m.nevtop s.ievt c ≡ true → evap_fault at_cell ≡ None
+  no_fault : HasArrays evaporation_arrays m.grid m.ibound m.nevtop (area_in s) → is_chosen m m.nevtop s.ievt c ≡ true → evap_fault at_cell ≡ None
   unfolding columns_tested
   no_fault has chosen =
       let low : place_in_layer m.grid c < layer_size m.grid = mod_below c (layer_size m.grid) (size_some m.grid size) in
@@ -35,14 +36,14 @@ module _ (m : FlowModel) (c : ℕ) (size : HasSize m.grid) (lt : c < cell_count 
   abbrev sources : List EvapSource
   sources = option_to_list (cond (is_chosen m m.nevtop s.ievt c && not (at_cell.rate.digits == 0)) (Some at_cell) None)
 
-  of_period : HasEvaporation m.grid m.ibound m.nevtop s → All IsEvapValid sources
+  of_period : HasArrays evaporation_arrays m.grid m.ibound m.nevtop (area_in s) → All IsEvapValid sources
   of_period has = by_case (is_chosen m m.nevtop s.ievt c) refl (at_cell.rate.digits == 0) refl
     where
       by_case : (a : Bool) → is_chosen m m.nevtop s.ievt c ≡ a → (b : Bool) → (at_cell.rate.digits == 0) ≡ b → All IsEvapValid (option_to_list (cond (a && not b) (Some at_cell) None))
       by_case false p b q = All-nil IsEvapValid
       by_case true p true q = All-nil IsEvapValid
       by_case true p false q = All-cons IsEvapValid at_cell []
-          (source_sound at_cell (dec_at_is s.evtr (place_in_layer m.grid c) has.evtr.1) (dec_at_is s.surf (place_in_layer m.grid c) has.surf.1) (dec_at_is s.exdp (place_in_layer m.grid c) has.exdp.1) (no_fault has p) q)
+          (source_sound at_cell (dec_at_is s.evtr (place_in_layer m.grid c) has.is.rates.1) (dec_at_is s.surf (place_in_layer m.grid c) (has.is.surfaces refl).1) (dec_at_is s.exdp (place_in_layer m.grid c) (has.is.depths refl).1) (no_fault has p) q)
           (All-nil IsEvapValid)
 
   -- an empty array of rates has rate 0 everywhere
@@ -55,11 +56,11 @@ module _ (m : FlowModel) (c : ℕ) (size : HasSize m.grid) (lt : c < cell_count 
       by_case a false q = absurd (let clash : false ≡ true = q in cc)
 
 -- a period has evapotranspiration, or no rates
-pub evaps : (m : FlowModel) → HasSize m.grid → All (λ p. HasEvaporation m.grid m.ibound m.nevtop p.stresses ⊎ (p.stresses.evtr ≡ [])) m.periods
+pub evaps : (m : FlowModel) → HasSize m.grid → All (λ p. HasArrays evaporation_arrays m.grid m.ibound m.nevtop (area_in p.stresses) ⊎ (p.stresses.evtr ≡ [])) m.periods
     → (p c : ℕ) → c < cell_count m.grid → is_active m c ≡ true → All IsEvapValid (evap_sources m p c)
 evaps m size has p c lt active = by_place (cases_lt (p - 1) (length m.periods))
   where
-    by_case : (s : Stresses) → HasEvaporation m.grid m.ibound m.nevtop s ⊎ (s.evtr ≡ []) → All IsEvapValid (sources m c size lt active s)
+    by_case : (s : Stresses) → HasArrays evaporation_arrays m.grid m.ibound m.nevtop (area_in s) ⊎ (s.evtr ≡ []) → All IsEvapValid (sources m c size lt active s)
     by_case s (inl h) = of_period m c size lt active s h
     by_case s (inr e) = of_none m c size lt active s e
 
@@ -76,21 +77,12 @@ in_grid g k i kl il =
 -- the next cell isn't active
 pub goes_down : (g : Grid) (ibound : List ℤ) (i k n : ℕ) (total : Option ℕ) → k < n → is_nonzero (int_at ibound (k * layer_size g + i)) ≡ false → highest_active g ibound i k (n - k) ≡ total → highest_active g ibound i (k + 1) (n - (k + 1)) ≡ total
 unfolding highest_active
-goes_down g ibound i k n total lt e so_far =
-    let m : n - k ≡ suc (n - (k + 1)) = omega (arith, lt) in
-    let one : highest_active g ibound i k (n - k) ≡ highest_active g ibound i (k + 1) (n - (k + 1)) = rw (m, e) refl in
-    sym one ∙ so_far
+goes_down g ibound i k n total lt e so_far = let m : n - k ≡ suc (n - (k + 1)) = omega (arith, lt) in rw (← so_far, m, e) refl
 
 pub is_found : (g : Grid) (ibound : List ℤ) (i k n : ℕ) (total : Option ℕ) → k < n → is_nonzero (int_at ibound (k * layer_size g + i)) ≡ true → highest_active g ibound i k (n - k) ≡ total → Some (k * layer_size g + i) ≡ total
 unfolding highest_active
-is_found g ibound i k n total lt e so_far =
-    let m : n - k ≡ suc (n - (k + 1)) = omega (arith, lt) in
-    let one : highest_active g ibound i k (n - k) ≡ Some (k * layer_size g + i) = rw (m, e) refl in
-    sym one ∙ so_far
+is_found g ibound i k n total lt e so_far = let m : n - k ≡ suc (n - (k + 1)) = omega (arith, lt) in rw (← so_far, m, e) refl
 
 pub is_none : (g : Grid) (ibound : List ℤ) (i k n : ℕ) (total : Option ℕ) → n ≤ k → highest_active g ibound i k (n - k) ≡ total → None ≡ total
 unfolding highest_active
-is_none g ibound i k n total le so_far =
-    let m : n - k ≡ 0 = omega (arith, le) in
-    let one : highest_active g ibound i k (n - k) ≡ None = rw m refl in
-    sym one ∙ so_far
+is_none g ibound i k n total le so_far = let m : n - k ≡ 0 = omega (arith, le) in rw (← so_far, m) refl

@@ -1,12 +1,12 @@
 -- The evapotranspiration package (TM 6-A16, EVT).
 use Rattle.std.specs.Prelude.{ℕ, true, List, Result, Ok, pos, neg_ℤ, ℤ, ◌+ℤ◌, Bool, false, not, ◌&&◌, ◌==◌, int_le, Option, Some, None, if◌then◌else◌, zero}
-use Rattle.std.specs.Prelude.{suc, ◌+◌, ◌-◌, ◌*◌, Err, ◌≡◌}
+use Rattle.std.specs.Prelude.{suc, ◌+◌, ◌-◌, ◌*◌, Err}
 use Rattle.outside.specs.{FileSet}
 use Rattle.outside.specs.declared.inputs.Refusal.{Refusal}
 use Rattle.record_lines.specs.{◌>>=◌, counted}
 use Rattle.model_types.specs.declared.model.FlowModel.{FlowModel}
 use Rattle.model_types.specs.declared.period.Stresses.{Stresses}
-use Rattle.period_arrays.specs.{ArrayKind, arrays_in, refusal_at, IsReals, IsLayers}
+use Rattle.period_arrays.specs.{ArrayKind, arrays_in, refusal_at}
 use Rattle.period_arrays.specs.declared.area.Area.{Area}
 use Rattle.period_arrays.specs.declared.read.ArrayFile.{ArrayFile}
 use Rattle.decimal_input.specs.declared.dec.Dec.{Dec}
@@ -96,11 +96,3 @@ unfoldable pub evt_of : FileSet → List ℕ → List ℕ → FlowModel → Resu
 evt_of files file bytes m = do
   arrays ← arrays_in evaporation_arrays files file bytes m.grid m.ibound m.periods
   Ok (with_evaporation m arrays)
-
--- What is known of evapotranspiration that was read: its arrays, whose columns pass their tests, whatever the file's name.
-pub record HasEvaporation (g : Grid) (ibound : List ℤ) (option : ℤ) (s : Stresses) : Type 0 where
-  pub surf : IsReals g s.surf
-  pub evtr : IsReals g s.evtr
-  pub exdp : IsReals g s.exdp
-  pub ievt : IsLayers g option s.ievt
-  pub passed : (file : List ℕ) → columns_tested file g ibound option (area_in s) ≡ Ok tt

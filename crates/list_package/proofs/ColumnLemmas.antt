@@ -2,7 +2,7 @@
 use Rattle.list_package.proofs.Common.{◌≡◌, ℕ, ◌<◌, Bool, true, false, List, [], ◌∷◌, length, All, Option, Some, None, refl, sym, ap, subst, arith, All-weaker}
 use Rattle.list_package.proofs.Common.{if◌then◌else◌, All-head, All-tail, IsDec, HeadTooLarge, BadProperty, column_fault, first_fault, or_later, IsHeadNumber}
 use Rattle.list_package.proofs.Common.{IsNotNegative, IsEntryList, IsEntryValid, IsGivenList, IsGivenValid, IsEntry, IsListOf, given_heads, kind_of, AllZip}
-use Rattle.list_package.proofs.Common.{Dec, Code, columns_of, entry_with, CellId, Limits, Period}
+use Rattle.list_package.proofs.Common.{Dec, Code, columns_of, entry_with, CellId, Limits, Period, weaker, ListsKeepLimits, entries_in, with_entries, cell_count}
 use Rattle.number_limits.specs.{is_head}
 use Rattle.number_limits.proofs.HeadLemmas.{head_of}
 use Rattle.list_package.specs.declared.columns.Column.{Column}
@@ -12,6 +12,8 @@ use Rattle.list_package.specs.declared.entries.ListKind.TheVariants.{Wells, Rive
 use Rattle.model_types.proofs.WideLimits.{entries_few}
 use Rattle.model_types.specs.declared.entry.Entry.{Entry}
 use Rattle.model_types.specs.declared.entry.Given.{Given}
+use Rattle.list_package.proofs.ListForms.{lists_are}
+use Rattle.model_types.specs.declared.period.Stresses.{Stresses}
 
 -- a number in canonical form that passed the test of its column
 abbrev IsColumn : Column → Dec → Type 0
@@ -72,4 +74,21 @@ given_list limits cells p xs h = record {
   few = omega (arith, h.few, entries_few limits);
   entries = All-weaker (IsEntry given_heads cells) (IsGivenValid cells) (given_valid cells) xs h.entries;
   once = λ i j d lt within same. h.once refl i j d lt within (ap (λ cell. cell.0) same);
+}
+
+-- So are the lists that a file gives.
+pub placed : (k : ListKind) (c : CellId) (xs : List Dec) → (kind_of k).place ((kind_of k).entry c xs) ≡ c.0
+placed Wells c xs = refl
+placed k c xs = refl
+
+entries_put : (k : ListKind) (s : Stresses) (xs : List Entry) → entries_in k (with_entries k s xs) ≡ xs
+entries_put Wells s xs = refl
+entries_put k s xs = refl
+
+pub lists_keep_limits : ListsKeepLimits
+lists_keep_limits = record {
+  entries = λ limits k file bytes g ps size. weaker (lists_are limits (kind_of k) (placed k) file g size (λ p. Unit {0}) (λ p. IsEntryList (cell_count g) (entries_in k p.stresses))
+      (λ p xs known is. rw (entries_put k p.stresses xs) (entry_list limits k (cell_count g) p xs is)) bytes ps (λ i d lt. tt)) (λ qs is. is.0);
+  given = λ limits file bytes g ps size. weaker (lists_are limits given_heads (λ c xs. refl) file g size (λ p. Unit {0}) (λ p. IsGivenList (cell_count g) p.stresses.given)
+      (λ p xs known is. given_list limits (cell_count g) p xs is) bytes ps (λ i d lt. tt)) (λ qs is. is.0);
 }

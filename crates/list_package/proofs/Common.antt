@@ -1,18 +1,16 @@
 -- Names that several proofs of this crate cite, of the crates below and of its own definitions, passed on from one place. Declares nothing.
-pub use Rattle.std.proofs.Common.{All, Bool, Err, IfSome, List, None, Ok, Option, Result, Some, [], ap, arith, cond, drop, false, get_or, is_some, length, map}
-pub use Rattle.std.proofs.Common.{nat_le, negsuc, not, pos, refl, set, subst, suc, sym, true, ℕ, ℤ, ◌&&◌, ◌-◌, ◌<◌, ◌∙◌, ◌∷◌, ◌≡◌, ◌≤◌}
+pub use Rattle.std.proofs.Common.{All, Bool, IfSome, List, None, Option, Result, Some, [], ap, arith, cond, drop, false, get_or, is_some, length, map, nat_le}
+pub use Rattle.std.proofs.Common.{negsuc, not, pos, refl, set, subst, suc, sym, true, ℕ, ℤ, ◌&&◌, ◌-◌, ◌<◌, ◌∙◌, ◌∷◌, ◌≡◌, ◌≤◌}
 pub use Rattle.std.proofs.lemmas.List.Elements.{All-cons, All-head, All-nil, All-tail, All-weaker}
 pub use Rattle.std.proofs.lemmas.Result.{err_from_is_err_and}
 pub use Rattle.std.specs.List.{AllPairs, AllZip}
-pub use Rattle.std.specs.Prelude.{IfOk, codes, if◌then◌else◌}
+pub use Rattle.std.specs.Prelude.{codes, if◌then◌else◌}
 pub use Rattle.std.specs.Vec.Iter.{into_iter_items}
 pub use Rattle.array_reader.specs.{integer, number, number_at}
-pub use Rattle.array_text.proofs.WordTexts.{done, goes_on, if_clear, if_passed, refused, repeated_are, repeated_gives, then_, weaker}
-pub use Rattle.array_text.specs.{Gives}
 pub use Rattle.decimal_input.specs.{IsDec}
 pub use Rattle.decimal_input.specs.declared.dec.Dec.{Dec}
-pub use Rattle.list_package.specs.{Differ, IsEntry, IsListOf, Kind, column_fault, columns_of, count_of, entry_with, first_fault, given_heads, has_parameters}
-pub use Rattle.list_package.specs.{is_left_out, is_reused, kind_of, list_of, no_marks, or_later, passed, with_list}
+pub use Rattle.list_package.specs.{Differ, IsEntry, IsListOf, Kind, ListsKeepLimits, column_fault, columns_of, count_of, entries_in, entry_with, first_fault}
+pub use Rattle.list_package.specs.{given_heads, has_parameters, is_left_out, is_reused, kind_of, list_of, no_marks, or_later, passed, with_entries, with_list}
 unfoldable pub use Rattle.list_package.specs.{cell_at, entry_at, entry_of, header_of, item_line, list_at, lists_of, new_list, period_at, periods_of}
 pub use Rattle.model_types.specs.{HasSize, IsEntryList, IsEntryValid, IsGivenList, IsGivenValid, IsHeadNumber, IsNotNegative, cell_count, most_entries}
 pub use Rattle.model_types.specs.declared.grid.CellId.{CellId}
@@ -21,7 +19,8 @@ pub use Rattle.model_types.specs.declared.limits.Limits.{Limits}
 pub use Rattle.model_types.specs.declared.period.Period.{Period}
 pub use Rattle.outside.specs.{refusal, words}
 pub use Rattle.outside.specs.declared.codes.Code.{Code}
-pub use Rattle.outside.specs.declared.codes.Code.TheVariants.{BadProperty, CellOutside, HeadTooLarge, OutOfProfile, TooManyEntries}
+pub use Rattle.outside.specs.declared.codes.Code.TheVariants.{BadProperty, CellOutside, HeadTooLarge, TooManyEntries}
 pub use Rattle.record_lines.proofs.Loops.{each_done, each_ends, each_goes_on, ends_all, ends_text, is_done, no_items, with_front}
-pub use Rattle.record_lines.specs.{Left, Numbered, begins_with, left_from, line_at, repeated, without_comments}
+pub use Rattle.record_lines.proofs.Readings.{done, goes_on, if_clear, if_passed, refused, repeated_are, repeated_gives, then_, weaker}
+pub use Rattle.record_lines.specs.{GivesOnly, Left, Numbered, begins_with, left_from, line_at, repeated, without_comments}
 unfoldable pub use Rattle.record_lines.specs.{for_each}

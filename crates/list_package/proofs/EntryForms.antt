@@ -1,9 +1,9 @@
 -- What is read of the entries of a list.
-use Rattle.list_package.proofs.Common.{integer, number, number_at, done, goes_on, if_clear, refused, repeated_are, repeated_gives, then_, weaker, Gives, IsDec}
-use Rattle.list_package.proofs.Common.{Dec, Differ, IsEntry, Kind, cell_at, entry_at, entry_of, first_fault, is_left_out, new_list, no_marks, passed, HasSize}
-use Rattle.list_package.proofs.Common.{cell_count, most_entries, CellId, Grid, Limits, refusal, words, Code, CellOutside, Left, line_at, All, Bool, List, None}
-use Rattle.list_package.proofs.Common.{Option, Some, [], ap, arith, cond, false, get_or, length, refl, set, suc, sym, true, ℕ, ℤ, ◌-◌, ◌<◌, ◌∙◌, ◌∷◌, ◌≡◌, ◌≤◌}
-use Rattle.list_package.proofs.Common.{All-cons, All-nil, AllPairs}
+use Rattle.list_package.proofs.Common.{integer, number, number_at, done, goes_on, if_clear, refused, repeated_are, repeated_gives, then_, weaker, GivesOnly}
+use Rattle.list_package.proofs.Common.{IsDec, Dec, Differ, IsEntry, Kind, cell_at, entry_at, entry_of, first_fault, is_left_out, new_list, no_marks, passed}
+use Rattle.list_package.proofs.Common.{HasSize, cell_count, most_entries, CellId, Grid, Limits, refusal, words, Code, CellOutside, Left, line_at, All, Bool}
+use Rattle.list_package.proofs.Common.{List, None, Option, Some, [], ap, arith, cond, false, get_or, length, refl, set, suc, sym, true, ℕ, ℤ, ◌-◌, ◌<◌, ◌∙◌}
+use Rattle.list_package.proofs.Common.{◌∷◌, ◌≡◌, ◌≤◌, All-cons, All-nil, AllPairs}
 use Rattle.array_text.proofs.ArrayForms.{item_is}
 use Rattle.std.proofs.lemmas.List.{get_or-set_other, get_or-set_same, length-replicate, length-set}
 use Rattle.array_text.proofs.NumberForms.{number_is}
@@ -11,7 +11,7 @@ use Rattle.std.proofs.lemmas.List.Kept.{AllPairs-cons}
 use Rattle.model_types.proofs.Numbering.{cell_within}
 use Rattle.dis_package.proofs.FrameForms.{within_is}
 
-passed_is : (o : Option Code) (file : List ℕ) (line : ℕ) → Gives (λ u. o ≡ None) (passed o file line)
+passed_is : (o : Option Code) (file : List ℕ) (line : ℕ) → GivesOnly (λ u. o ≡ None) (passed o file line)
 passed_is None file line = done refl
 passed_is (Some code) file line = refused
 
@@ -19,7 +19,7 @@ below : (n k : ℕ) → (1 ≤ k) × (k ≤ n) → k - 1 < n
 below n k h = let low : 1 ≤ k = h.0 in let high : k ≤ n = h.1 in omega arith
 
 module _ (file : List ℕ) (g : Grid) (size : HasSize g) where
-  cell_is : (line : ℕ) (layer row col : ℤ) → Gives (λ c. c.0 < cell_count g) (cell_at file line g layer row col)
+  cell_is : (line : ℕ) (layer row col : ℤ) → GivesOnly (λ c. c.0 < cell_count g) (cell_at file line g layer row col)
   unfolding cell_at
   cell_is line layer row col =
       let r = refusal CellOutside file line in
@@ -55,7 +55,7 @@ module _ {E : Type 0} (kind : Kind E) (cells : ℕ) where
 
 module _ {E : Type 0} (kind : Kind E) (placed : (c : CellId) (ds : List Dec) → kind.place (kind.entry c ds) ≡ c.0) (file : List ℕ) (g : Grid) (size : HasSize g) where
   entry_is : (line : ℕ) (marks : List Bool) (ws : List (List ℕ))
-      → Gives (λ x. IsEntry kind (cell_count g) x.0 × (kind.place x.0 ≡ x.1.0) × (x.1.0 < cell_count g) × (get_or marks x.1.0 false ≡ false)) (entry_of kind file line g marks ws)
+      → GivesOnly (λ x. IsEntry kind (cell_count g) x.0 × (kind.place x.0 ≡ x.1.0) × (x.1.0 < cell_count g) × (get_or marks x.1.0 false ≡ false)) (entry_of kind file line g marks ws)
   unfolding entry_of
   entry_is line marks ws =
       goes_on (number_at integer file line ws) _ (λ layer a. goes_on (number_at integer file line layer.1) _ (λ row b. goes_on (number_at integer file line row.1) _
@@ -64,7 +64,7 @@ module _ {E : Type 0} (kind : Kind E) (placed : (c : CellId) (ds : List Dec) →
       (λ tested passes. if_clear (get_or marks cell.0 false) _ _ (λ free.
       done (record { cell = cell; numbers = numbers.0; inside = low; count = are.0; canonical = are.1; passes = passes; is = refl }, placed cell numbers.0, low, free))))))))
 
-  entry_at_is : (s : List Bool × Left) → Gives (λ x. IsNewAt kind (cell_count g) s.0 x.1.0 x.0) (entry_at kind file g s)
+  entry_at_is : (s : List Bool × Left) → GivesOnly (λ x. IsNewAt kind (cell_count g) s.0 x.1.0 x.0) (entry_at kind file g s)
   unfolding entry_at
   entry_at_is s =
       goes_on (line_at file s.1) _ (λ line a. if_clear (is_left_out (words line.0.bytes)) _ _ (λ b. then_ _ (entry_is line.0.number s.0 (words line.0.bytes))
@@ -94,7 +94,7 @@ module _ {E : Type 0} (kind : Kind E) (placed : (c : CellId) (ds : List Dec) →
   no_entries : (s : List Bool × Left) → Are 0 s ([], s)
   no_entries s = record { count = refl; entries = All-nil (IsEntry kind (cell_count g)); free = λ many. All-nil (λ y. get_or s.0 (kind.place y) false ≡ false); once = λ many. no_pairs kind (cell_count g) }
 
-  one_entry : (n : ℕ) (s : List Bool × Left) → Gives (λ x. (more : List E × (List Bool × Left)) → Are n x.1 more → Are (suc n) s (x.0 ∷ more.0, more.1)) (entry_at kind file g s)
+  one_entry : (n : ℕ) (s : List Bool × Left) → GivesOnly (λ x. (more : List E × (List Bool × Left)) → Are n x.1 more → Are (suc n) s (x.0 ∷ more.0, more.1)) (entry_at kind file g s)
   one_entry n s = weaker (entry_at_is s) (λ x new more rest. record {
     count = let counted : length more.0 ≡ n = rest.count in omega (arith, counted);
     entries = All-cons (IsEntry kind (cell_count g)) x.0 more.0 new.entry rest.entries;
@@ -105,7 +105,7 @@ module _ {E : Type 0} (kind : Kind E) (placed : (c : CellId) (ds : List Dec) →
         (rest.once (still s.0 x.1.0 x.0 new many));
   })
 
-  pub new_list_is : (limits : Limits) (n : ℕ) (left : Left) → n ≤ most_entries limits → Gives (λ x. IsNewList kind (cell_count g) limits x.0) (new_list kind file g n left)
+  pub new_list_is : (limits : Limits) (n : ℕ) (left : Left) → n ≤ most_entries limits → GivesOnly (λ x. IsNewList kind (cell_count g) limits x.0) (new_list kind file g n left)
   unfolding new_list
   new_list_is limits n left few =
       let marks : kind.once ≡ true → length (no_marks kind g) ≡ cell_count g = λ e. length-replicate (cond kind.once (cell_count g) 0) false ∙ ap (λ (b : Bool). cond b (cell_count g) 0) e in

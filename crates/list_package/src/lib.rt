@@ -8,6 +8,7 @@ mod entry;
 mod given;
 mod header;
 mod kind;
+pub mod laws;
 mod lists;
 mod marks;
 mod model;

@@ -1,20 +1,20 @@
 -- What a file of the layer-property flow package gives.
 use Rattle.lpf_package.proofs.Common.{◌≡◌, ℕ, ◌*◌, Bool, true, false, cond, List, length, All, Ok, refl, arith, ◌+◌, not, [], replicate, FileSet, Left}
 use Rattle.lpf_package.proofs.Common.{left_from, without_comments, zero_list, real_layer, is_transient, contents_of, with_contents, lpf_of, SameBut, layers_of}
-use Rattle.lpf_package.proofs.Common.{storage_layer, properties_of, nth_layer, layer_at, settings_of, HasFlow, option_line, if◌then◌else◌, Settings, done}
-use Rattle.lpf_package.proofs.Common.{goes_on, then_, weaker}
+use Rattle.lpf_package.proofs.Common.{storage_layer, properties_of, nth_layer, layer_at, settings_of, HasFlow, option_line, if◌then◌else◌, done, goes_on, then_}
+use Rattle.lpf_package.proofs.Common.{weaker, GivesOnly, counted_gives}
 use Rattle.decimal_input.specs.{IsDec}
 use Rattle.model_types.specs.declared.grid.Grid.{Grid}
 use Rattle.model_types.specs.declared.model.FlowModel.{FlowModel}
 use Rattle.model_types.specs.{cell_count, layer_size, no_number}
 use Rattle.array_text.proofs.ArrayForms.{lists}
-use Rattle.array_text.specs.{Gives, IsShort}
+use Rattle.array_text.specs.{IsShort}
 use Rattle.std.proofs.lemmas.List.Elements.{All-nil, All-append}
 use Rattle.decimal_input.specs.declared.dec.Dec.{Dec}
 use Rattle.number_limits.specs.{is_positive}
 use Rattle.number_limits.proofs.Canonical.{no_number_is, dec_at_is}
 use Rattle.lpf_package.specs.declared.layer.Properties.{Properties}
-use Rattle.array_text.proofs.LayerForms.{layer_is, layer_or_is, counted_gives, one_more, AreLayers, no_layers, one_more_layer}
+use Rattle.array_text.proofs.LayerForms.{layer_is, layer_or_is, one_more, AreLayers, no_layers, one_more_layer}
 use Rattle.lpf_package.specs.declared.model.Contents.{Contents}
 use Rattle.dis_package.proofs.GridForms.{IsBedLayer}
 use Rattle.lpf_package.specs.declared.layer.Layer.{Layer}
@@ -30,15 +30,15 @@ record IsLayer (cells : ℕ) (x : Layer) (p : Properties) : Type 0 where
   pub bed : x.has_bed ≡ false → p.vkcb ≡ replicate cells no_number
 
 module _ (files : FileSet) (file : List ℕ) where
-  storage_by : (stores : Bool) (rows cols : ℕ) (left : Left) → Gives (λ y. (length y.0 ≡ cond stores (rows * cols) 0) × All IsDec y.0) (if stores then real_layer files file rows cols left else Ok ([], left))
+  storage_by : (stores : Bool) (rows cols : ℕ) (left : Left) → GivesOnly (λ y. (length y.0 ≡ cond stores (rows * cols) 0) × All IsDec y.0) (if stores then real_layer files file rows cols left else Ok ([], left))
   storage_by true rows cols left = layer_is files file rows cols left
   storage_by false rows cols left = done (refl, All-nil IsDec)
 
-  storage_is : (x : Layer) (left : Left) → Gives (λ y. (length y.0 ≡ cond x.stores (x.rows * x.cols) 0) × All IsDec y.0) (storage_layer files file x left)
+  storage_is : (x : Layer) (left : Left) → GivesOnly (λ y. (length y.0 ≡ cond x.stores (x.rows * x.cols) 0) × All IsDec y.0) (storage_layer files file x left)
   unfolding storage_layer
   storage_is x left = storage_by x.stores x.rows x.cols left
 
-  properties_are : (x : Layer) (left : Left) → IsDec x.chani → Gives (λ y. IsLayer (x.rows * x.cols) x y.0) (properties_of files file x left)
+  properties_are : (x : Layer) (left : Left) → IsDec x.chani → GivesOnly (λ y. IsLayer (x.rows * x.cols) x y.0) (properties_of files file x left)
   unfolding properties_of
   properties_are x left chani =
       then_ _ (layer_is files file x.rows x.cols left) (λ hk a. then_ _ (layer_or_is files file x.rows x.cols (not (is_positive x.chani)) x.chani hk.1 chani)
@@ -58,7 +58,7 @@ module _ (files : FileSet) (file : List ℕ) (g : Grid) (chani : List Dec) (stor
   abbrev Are : ℕ → Properties × Left → Type 0
   Are i s = AreProperties g stores i s.0
 
-  one_layer : (i : ℕ) (s : Properties × Left) → Are i s → Gives (Are (i + 1)) (layer_at files file g chani stores i s)
+  one_layer : (i : ℕ) (s : Properties × Left) → Are i s → GivesOnly (Are (i + 1)) (layer_at files file g chani stores i s)
   unfolding layer_at
   one_layer i s so =
       then_ _ (properties_are files file (nth_layer g chani stores i) s.1 (dec_at_is chani i decimals)) (λ x p. done (record {
@@ -70,7 +70,7 @@ module _ (files : FileSet) (file : List ℕ) (g : Grid) (chani : List Dec) (stor
         beds = one_more_layer (layer_size g) (IsBedLayer g.laycbd (layer_size g)) i s.0.vkcb x.0.vkcb so.beds p.vkcb.0 p.bed;
       }))
 
-  pub layers_are : (count : ℕ) (left : Left) → Gives (Are count) (layers_of files file g chani stores count left)
+  pub layers_are : (count : ℕ) (left : Left) → GivesOnly (Are count) (layers_of files file g chani stores count left)
   unfolding layers_of
   layers_are count left =
       counted_gives (layer_at files file g chani stores) Are one_layer count _ (record {
@@ -82,47 +82,38 @@ module _ (files : FileSet) (file : List ℕ) (g : Grid) (chani : List Dec) (stor
         beds = no_layers (layer_size g) (IsBedLayer g.laycbd (layer_size g));
       })
 
--- by layer: CHANI and LAYVKA
-record AreSettings (layers : ℕ) (s : Settings) : Type 0 where
-  pub chani : All IsDec s.chani
-  pub layvka : (length s.layvka ≡ layers) × All IsShort s.layvka
-
-record AreContents (g : Grid) (stores : Bool) (c : Contents) : Type 0 where
-  pub layvka : (length c.layvka ≡ g.layers) × All IsShort c.layvka
-  pub properties : AreProperties g stores g.layers c.properties
-
 -- where there is storage, as many as there are cells
 stored : (g : Grid) (stores : Bool) (n : ℕ) → n ≡ g.layers * cond stores (layer_size g) 0 → n ≡ cond stores (cell_count g) 0
 stored g true n h = h
 stored g false n h = omega (arith, h)
 
 module _ (files : FileSet) (file : List ℕ) where
-  settings_are : (layers : ℕ) (left : Left) → Gives (λ x. AreSettings layers x.0) (settings_of file layers left)
+  settings_are : (layers : ℕ) (left : Left) → GivesOnly (λ x. All IsDec x.0.chani × ((length x.0.layvka ≡ layers) × All IsShort x.0.layvka)) (settings_of file layers left)
   unfolding settings_of
   settings_are layers left =
       goes_on (zero_list file layers left) _ (λ laytyp a. goes_on (zero_list file layers laytyp.1) _ (λ layavg b. then_ _ (lists.numbers file layers layavg.1)
-      (λ chani c. then_ _ (lists.integers file layers chani.1) (λ layvka d. goes_on (zero_list file layers layvka.1) _ (λ laywet e. done (record { chani = c.1; layvka = d }))))))
+      (λ chani c. then_ _ (lists.integers file layers chani.1) (λ layvka d. goes_on (zero_list file layers layvka.1) _ (λ laywet e. done (c.1, d))))))
 
-  contents_are : (bytes : List ℕ) (g : Grid) (stores : Bool) → Gives (AreContents g stores) (contents_of files file bytes g stores)
+  contents_are : (bytes : List ℕ) (g : Grid) (stores : Bool) → GivesOnly (λ c. ((length c.layvka ≡ g.layers) × All IsShort c.layvka) × AreProperties g stores g.layers c.properties) (contents_of files file bytes g stores)
   unfolding contents_of
   contents_are bytes g stores =
       goes_on (option_line file (without_comments (left_from 1 bytes))) _ (λ coefficient e. then_ _ (settings_are g.layers coefficient.1)
-      (λ settings s. then_ _ (layers_are files file g settings.0.chani stores s.chani g.layers settings.1) (λ layers p. done (record { layvka = s.layvka; properties = p }))))
+      (λ settings s. then_ _ (layers_are files file g settings.0.chani stores s.0 g.layers settings.1) (λ layers p. done (s.1, p))))
 
-  has_flow : (m : FlowModel) (c : Contents) → AreContents m.grid (is_transient m.periods) c → HasFlow (with_contents m c)
-  has_flow m c are = record {
-    layvka = are.layvka;
-    hk = are.properties.hk;
-    hani = are.properties.hani;
-    vka = are.properties.vka;
-    ss = (stored m.grid (is_transient m.periods) (length c.properties.ss) are.properties.ss.0, are.properties.ss.1);
-    vkcb = (are.properties.beds.count, are.properties.vkcb);
-    beds = are.properties.beds.each;
+  has_flow : (m : FlowModel) (c : Contents) → (length c.layvka ≡ m.grid.layers) × All IsShort c.layvka → AreProperties m.grid (is_transient m.periods) m.grid.layers c.properties → HasFlow (with_contents m c)
+  has_flow m c layvka are = record {
+    layvka = layvka;
+    hk = are.hk;
+    hani = are.hani;
+    vka = are.vka;
+    ss = (stored m.grid (is_transient m.periods) (length c.properties.ss) are.ss.0, are.ss.1);
+    vkcb = (are.beds.count, are.vkcb);
+    beds = are.beds.each;
   }
 
-  pub lpf_is : (bytes : List ℕ) (m : FlowModel) → Gives (λ n. HasFlow n × SameBut m n) (lpf_of files file bytes m)
+  pub lpf_is : (bytes : List ℕ) (m : FlowModel) → GivesOnly (λ n. HasFlow n × SameBut m n) (lpf_of files file bytes m)
   unfolding lpf_of
-  lpf_is bytes m = then_ _ (contents_are bytes m.grid (is_transient m.periods)) (λ c are. done (has_flow m c are, refl))
+  lpf_is bytes m = then_ _ (contents_are bytes m.grid (is_transient m.periods)) (λ c are. done (has_flow m c are.0 are.1, refl))
 
-  pub flow_is : (bytes : List ℕ) (m : FlowModel) → Gives HasFlow (lpf_of files file bytes m)
+  pub flow_is : (bytes : List ℕ) (m : FlowModel) → GivesOnly HasFlow (lpf_of files file bytes m)
   flow_is bytes m = weaker (lpf_is bytes m) (λ n is. is.0)

@@ -1,39 +1,24 @@
 -- A model that is read is writable.
-use Rattle.model_forms.proofs.Common.{pos, negsuc, nat_abs, ◌<◌, ◌^◌, arith, ◌≡◌, ◌⊎◌, inl, inr, ℕ, ℤ, List, All, Ok, All-weaker, Period, IsShort, IsRecharged}
-use Rattle.model_forms.proofs.Common.{IsEvaporating, IsDry, IsStill, HasNoRecharge, HasNoEvaporation, IsWritable, good_names, model_reads, most_bytes}
-use Rattle.model_forms.proofs.Common.{deck_name, deck_names, IsReadAgain}
+use Rattle.model_forms.proofs.Common.{pos, negsuc, nat_abs, ◌<◌, ◌^◌, arith, ◌≡◌, ◌⊎◌, inl, inr, ℕ, ℤ, List, All, Ok, All-weaker, Period, IsShort, HasPackage}
+use Rattle.model_forms.proofs.Common.{LacksPackage, IsWritable, good_names, model_reads, most_bytes, deck_name, deck_names, IsReadAgain}
+use Rattle.model_forms.proofs.Common.{ModelsReadAreReadAsWritten, ArrayKind, HasArrays, no_area, recharge_arrays, evaporation_arrays}
 use Rattle.outside.specs.{FileSet}
 use Rattle.model_types.specs.declared.model.FlowModel.{FlowModel}
 use Rattle.model_reader.specs.{reads}
 use Rattle.model_types.specs.declared.limits.Limits.{Limits}
 use Rattle.list_package.specs.declared.entries.ListKind.TheVariants.{Wells, Rivers, Drains, Generals}
-use Rattle.model_reader.proofs.PeriodForms.{IsKnown}
+use Rattle.model_reader.proofs.PeriodForms.{ByOption, IsKnown, IsOption}
 use Rattle.model_reader.proofs.ReadForms.{IsRead, read_is}
-use Rattle.model_reader.proofs.StageForms.{IsOption}
 
 module _ (limits : Limits) (m : FlowModel) (r : IsRead limits m) where
   -- what is known of each period
   each_is : (P : Period → Type 0) → ((p : Period) → IsKnown limits m.grid m.ibound m.nrchop m.nevtop p → P p) → All P m.periods
   each_is P known = All-weaker (IsKnown limits m.grid m.ibound m.nrchop m.nevtop) P known m.periods r.each
 
-  rain_is : IsOption m.nrchop → IsRecharged m ⊎ HasNoRecharge m
-  rain_is (inl e) = inr (record { option = e; none = each_is IsDry (λ p k. let d = k.arrays.dry e in record { recharge = d.0; irch = d.1 }) })
-  rain_is (inr e) = inl (record {
-    option = e;
-    recharge = λ k d lt. ((r.each k d lt).arrays.rain e).0;
-    irch = λ k d lt. ((r.each k d lt).arrays.rain e).1;
-  })
-
-  air_is : IsOption m.nevtop → IsEvaporating m ⊎ HasNoEvaporation m
-  air_is (inl e) = inr (record { option = e; none = each_is IsStill (λ p k. let d = k.arrays.still e in record { surf = d.0; evtr = d.1; exdp = d.2; ievt = d.3 }) })
-  air_is (inr e) = inl (record {
-    option = e;
-    surf = λ k d lt. ((r.each k d lt).arrays.air e).surf;
-    evtr = λ k d lt. ((r.each k d lt).arrays.air e).evtr;
-    exdp = λ k d lt. ((r.each k d lt).arrays.air e).exdp;
-    ievt = λ k d lt. ((r.each k d lt).arrays.air e).ievt;
-    passed = λ file k d lt. ((r.each k d lt).arrays.air e).passed file;
-  })
+  package_is : (kind : ArrayKind) (option : ℤ) → ((p : Period) → IsKnown limits m.grid m.ibound m.nrchop m.nevtop p → ByOption kind m.grid m.ibound option (kind.area p.stresses)) → IsOption option
+      → HasPackage kind option m ⊎ LacksPackage kind option m
+  package_is kind option known (inl e) = inr (record { off = e; none = each_is (λ p. kind.area p.stresses ≡ no_area) (λ p k. (known p k).none e) })
+  package_is kind option known (inr e) = inl (record { active = e; arrays = each_is (λ p. HasArrays kind m.grid m.ibound option (kind.area p.stresses)) (λ p k. (known p k).some e) })
 
   writable : All IsShort m.ibound → IsWritable limits m
   writable short = record {
@@ -46,9 +31,9 @@ module _ (limits : Limits) (m : FlowModel) (r : IsRead limits m) where
     riv = λ k d lt. (r.each k d lt).entries Rivers;
     drn = λ k d lt. (r.each k d lt).entries Drains;
     ghb = λ k d lt. (r.each k d lt).entries Generals;
-    rch = rain_is r.options.0;
+    rch = package_is recharge_arrays m.nrchop (λ p k. k.arrays.rch) r.options.0;
     chd = λ k d lt. (r.each k d lt).given;
-    evt = air_is r.options.1;
+    evt = package_is evaporation_arrays m.nevtop (λ p k. k.arrays.evt) r.options.1;
   }
 
 below_word : (z : ℤ) → IsShort z → nat_abs z < 2 ^ 64
@@ -66,3 +51,6 @@ module _ (limits : Limits) (files : FileSet) (name : List ℕ) (m : FlowModel) (
 -- The deck of a model that was read is read as the model.
 pub deck_reads : (limits : Limits) (files : FileSet) (name : List ℕ) (m : FlowModel) → reads limits files name ≡ Ok m → IsReadAgain limits m
 deck_reads limits files name m h short small = model_reads limits m (read_writable limits files name m h short) deck_names deck_name good_names (most_bytes limits) small
+
+pub read_again : ModelsReadAreReadAsWritten
+read_again limits files name m h short names anew good most small = model_reads limits m (read_writable limits files name m h short) names anew good most small

@@ -1,33 +1,25 @@
 -- Three cells in a row are a writable model.
-use Rattle.model_forms.proofs.Common.{◌≡◌, ℕ, zero, suc, ◌%◌, ◌^◌, ◌<◌, ◌≤◌, ◌==◌, inr, true, not, pos, negsuc, List, [], ◌∷◌, length, replicate, All, Some}
-use Rattle.model_forms.proofs.Common.{None, Ok, refl, sym, ap, ◌∙◌, arith, All-nil, All-cons, All-replicate, All-from_recursion, All-weaker, Period, no_number}
-use Rattle.model_forms.proofs.Common.{IsTimed, IsShort, number_word, integer_word, IsOfBeds, IsDiscretized, IsBasic, HasFlow, IsEntry, IsListOf, IsDry, IsStill}
-use Rattle.model_forms.proofs.Common.{IsWritable, model_reads, all_plain, line_text, text, row_line, row_lines, real_array, integer_array, written, dis_lines}
-use Rattle.model_forms.proofs.Common.{dis_item_1, dis_item_2, dis_item_3, dis_item_4, dis_item_5, dis_item_6, dis_item_7, bas_lines, bas_item_1, bas_item_2}
-use Rattle.model_forms.proofs.Common.{bas_item_3, bas_item_4, lpf_lines, lpf_item_1, lpf_zeros, lpf_item_4, lpf_item_5, lpf_arrays, file_type, name_item}
-use Rattle.model_forms.proofs.Common.{AreNames, IsPeriod}
-use Rattle.std.specs.List.{list_all}
+use Rattle.model_forms.proofs.Common.{◌≡◌, ℕ, zero, suc, ◌%◌, ◌^◌, ◌<◌, ◌≤◌, inr, true, pos, negsuc, List, [], ◌∷◌, length, replicate, All, Ok, refl, arith}
+use Rattle.model_forms.proofs.Common.{All-nil, All-cons, All-replicate, All-from_recursion, All-weaker, Period, no_number, IsTimed, IsShort, number_word}
+use Rattle.model_forms.proofs.Common.{integer_word, IsOfBeds, IsDiscretized, IsBasic, HasFlow, IsEntry, IsListOf, deck_name, deck_names, good_names, IsWritable}
+use Rattle.model_forms.proofs.Common.{model_reads, line_text, text, row_line, row_lines, real_array, integer_array, written, dis_lines, dis_item_1, dis_item_2}
+use Rattle.model_forms.proofs.Common.{dis_item_3, dis_item_4, dis_item_5, dis_item_6, dis_item_7, bas_lines, bas_item_1, bas_item_2, bas_item_3, bas_item_4}
+use Rattle.model_forms.proofs.Common.{lpf_lines, lpf_item_1, lpf_zeros, lpf_item_4, lpf_item_5, lpf_arrays, name_item, IsPeriod, wells, rivers, drains}
+use Rattle.model_forms.proofs.Common.{generals, recharge_arrays, evaporation_arrays, no_area, deck, ThreeCells}
 use Rattle.decimal_input.specs.{IsDec, scaled, ratio, units_of}
 use Rattle.record_lines.specs.{counted}
-use Rattle.name_file.specs.declared.package.Package.TheVariants.{Dis}
 use Rattle.cell_checks.specs.{checked, fault_at}
 use Rattle.cell_checks.specs.declared.passing.Check.{Check}
 use Rattle.cell_checks.specs.declared.passing.Check.TheVariants.{Thickness}
 use Rattle.list_package.specs.{given_heads, Kind}
-use Rattle.stress_packages.specs.{wells, rivers, drains, generals}
-use Rattle.array_text.proofs.WordTexts.{word_by_test}
 use Rattle.number_limits.proofs.Canonical.{no_number_is}
 use Rattle.number_limits.specs.{is_at_most, is_thick}
 use Rattle.std.specs.Fmt.{decimal as numeral}
 use Rattle.std.proofs.lemmas.Fmt.{decimal_digit}
 use Rattle.std.proofs.lemmas.Int.{ints}
-use Rattle.name_file.specs.{package_of}
 use Rattle.model_types.specs.declared.limits.Limits.TheVariants.{Plain}
-use Rattle.name_file.specs.declared.package.Package.{Package}
 use Rattle.flow_equations.specs.{decimal, period_with, three_cells}
 use Rattle.flow_equations.proofs.Validity.{three_valid}
-use Rattle.model_text.proofs.PackageTexts.{type_is_word, type_reads}
-use Rattle.model_forms.specs.{name_of_deck, deck, ThreeCells}
 
 abbrev steady_period : Period
 steady_period = period_with true (decimal 1 0) 1 []
@@ -102,25 +94,9 @@ writable = record {
   riv = one_period (λ p. IsListOf Plain rivers 3 p p.stresses.rivers) (no_entries rivers refl);
   drn = one_period (λ p. IsListOf Plain drains 3 p p.stresses.drains) (no_entries drains refl);
   ghb = one_period (λ p. IsListOf Plain generals 3 p p.stresses.generals) (no_entries generals refl);
-  rch = inr (record { option = refl; none = one_period IsDry (record { recharge = refl; irch = refl }) });
+  rch = inr (record { off = refl; none = one_period (λ p. recharge_arrays.area p.stresses ≡ no_area) refl });
   chd = one_period (λ p. IsListOf Plain given_heads 3 p p.stresses.given) (no_entries given_heads refl);
-  evt = inr (record { option = refl; none = one_period IsStill (record { surf = refl; evtr = refl; exdp = refl; ievt = refl }) });
-}
-
-good_type : (k : Package) → (length (file_type k) ≤ 255) × (list_all (λ b. not (b == 92)) (file_type k) ≡ true)
-good_type Dis = (omega arith, refl)
-good_type x = (omega arith, refl)
-
-no_type : package_of name_of_deck ≡ None
-unfolding package_of
-no_type = refl
-
-names : AreNames file_type name_of_deck
-names = record {
-  each = λ k. record { word = type_is_word k; few = (good_type k).0; plain = all_plain (file_type k) (good_type k).1 };
-  first = record { word = word_by_test name_of_deck refl; few = omega arith; plain = all_plain name_of_deck refl };
-  distinct = λ a b e. (let same : Some a ≡ Some b = sym (type_reads a) ∙ ap (λ (w : List ℕ). package_of w) e ∙ type_reads b in cc);
-  apart = λ k e. (let clash : Some k ≡ None = sym (type_reads k) ∙ ap (λ (w : List ℕ). package_of w) e ∙ no_type in cc);
+  evt = inr (record { off = refl; none = one_period (λ p. evaporation_arrays.area p.stresses ≡ no_area) refl });
 }
 
 small : All (λ f. length f.bytes ≤ 67108864) deck
@@ -134,4 +110,4 @@ small =
     (omega arith, (simp (zero_digit, one_digit, two_digit, three_digit) (omega arith), (simp (zero_digit, one_digit, two_digit) (omega arith), (simp (zero_digit, one_digit) (omega arith), tt))))
 
 pub cells : ThreeCells
-cells = record { writable = writable; names = names; read = model_reads Plain three_cells writable file_type name_of_deck names 67108864 small }
+cells = record { writable = writable; read = model_reads Plain three_cells writable deck_names deck_name good_names 67108864 small }

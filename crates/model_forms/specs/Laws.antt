@@ -1,12 +1,12 @@
 -- Statements of laws: a model that is read can be written.
-use Rattle.std.specs.Prelude.{◌≡◌, ℕ, ◌≤◌, List, All, length, Ok, codes}
+use Rattle.std.specs.Prelude.{◌≡◌, ℕ, ◌≤◌, List, All, length, Ok}
 use Rattle.outside.specs.{FileSet, with_limit, File}
 use Rattle.name_file.specs.declared.package.Package.{Package}
 use Rattle.model_types.specs.declared.limits.Limits.{Limits}
 use Rattle.model_types.specs.declared.model.FlowModel.{FlowModel}
 use Rattle.model_reader.specs.{reads}
 use Rattle.array_text.specs.{IsShort}
-use Rattle.model_text.specs.{AreNames, file_type, written, IsReadAgain, IsWritable}
+use Rattle.model_text.specs.{AreNames, deck_name, deck_names, written, IsReadAgain, IsWritable}
 use Rattle.model_types.specs.{most_bytes}
 use Rattle.model_types.specs.declared.limits.Limits.TheVariants.{Plain}
 use Rattle.flow_equations.specs.{three_cells}
@@ -26,15 +26,10 @@ abbrev pub DecksAreReadAgain : Type 0
 DecksAreReadAgain = (limits : Limits) (files : FileSet) (name : List ℕ) (m : FlowModel) → reads limits files name ≡ Ok m → IsReadAgain limits m
 
 -- A worked model: three cells in a row, with constant heads at both ends.
--- the name file of a deck in which each package's file is named by its type, as DIS
-abbrev pub name_of_deck : List ℕ
-name_of_deck = codes "NAM"
-
 abbrev pub deck : List File
-deck = written three_cells file_type name_of_deck
+deck = written three_cells deck_names deck_name
 
--- the model is writable, and the files that are written of it are read as it
+-- the model is writable, and its deck is read as it
 pub record ThreeCells : Type 0 where
   pub writable : IsWritable Plain three_cells
-  pub names : AreNames file_type name_of_deck
-  pub read : reads Plain (with_limit (most_bytes Plain) deck) name_of_deck ≡ Ok three_cells
+  pub read : reads Plain (with_limit (most_bytes Plain) deck) deck_name ≡ Ok three_cells

@@ -1,2 +1,2 @@
 pub mod Laws
-pub use Rattle.model_forms.specs.Laws.{DecksAreReadAgain, ModelsReadAreReadAsWritten, ModelsReadAreWritable, ThreeCells, deck, name_of_deck}
+pub use Rattle.model_forms.specs.Laws.{DecksAreReadAgain, ModelsReadAreReadAsWritten, ModelsReadAreWritable, ThreeCells, deck}

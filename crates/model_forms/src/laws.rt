@@ -7,6 +7,7 @@ pub fn models_read_are_writable()
 {}
 
 /// Written anew, such a model is read as itself.
+#[tactic(auto, using(crate::proofs::ModelForms::read_again))]
 pub fn models_read_are_read_as_written()
     ensures { ModelsReadAreReadAsWritten }
 {}

@@ -1,10 +1,11 @@
 -- A test of cells or of columns that is passed with one file's name in its refusals is passed with any other.
-use Rattle.model_reader.proofs.Common.{done, goes_on, Gives, IsShort, HasBasics, at_cell, cell_step, checked, fault_at, StartHead, Thickness, IsDec, Dec}
-use Rattle.model_reader.proofs.Common.{IsStarted, IsNewPeriod, cell_tested, chosen_cell, column_step, column_tested, columns_tested, evap_fault, source}
-use Rattle.model_reader.proofs.Common.{SameBut, with_properties, IsGrid, IsTimed, cell_count, int_at, is_nonzero, layer_size, Grid, Limits, FlowModel, Period}
-use Rattle.model_reader.proofs.Common.{Refusal, Area, counted, All, Bool, List, None, Ok, Option, Result, Some, ap, length, pos, refl, subst, suc, sum, sum_by}
-use Rattle.model_reader.proofs.Common.{sym, zero, ℕ, ℤ, ◌+◌, ◌∙◌, ◌≡◌, ◌≤◌, if◌then◌else◌, IsDiscretized, IsGridWithin, IsOfBeds, HasFlow, is_transient, steps}
-use Rattle.model_reader.proofs.Common.{[], cond, map, not, ◌∷◌, ◌||◌, length-map}
+use Rattle.model_reader.proofs.Common.{done, goes_on, GivesOnly, HasBasics, at_cell, cell_step, checked, fault_at, StartHead, Thickness, IsDec, IsStarted}
+use Rattle.model_reader.proofs.Common.{IsNewPeriod, cell_tested, chosen_cell, column_step, column_tested, columns_tested, evap_fault, source, SameBut}
+use Rattle.model_reader.proofs.Common.{with_properties, IsGrid, IsTimed, cell_count, int_at, is_nonzero, layer_size, Grid, Limits, FlowModel, Period, Refusal}
+use Rattle.model_reader.proofs.Common.{Area, counted, All, Bool, List, None, Ok, Option, Result, Some, ap, length, pos, refl, subst, suc, sum, sum_by, sym}
+use Rattle.model_reader.proofs.Common.{zero, ℕ, ℤ, ◌+◌, ◌∙◌, ◌≡◌, ◌≤◌, if◌then◌else◌, IsDiscretized, IsGridWithin, IsOfBeds, HasFlow, is_transient, steps, []}
+use Rattle.model_reader.proofs.Common.{cond, map, not, ◌∷◌, ◌||◌, length-map, with_basics}
+use Rattle.array_text.specs.{IsShort}
 use Rattle.cell_checks.specs.declared.passing.Check.{Check}
 use Rattle.cell_checks.specs.declared.passing.Check.TheVariants.{Properties as PropertyCheck}
 use Rattle.std.proofs.lemmas.List.Sums.{sum-map}
@@ -13,7 +14,7 @@ use Rattle.outside.specs.declared.codes.Code.{Code}
 use Rattle.lpf_package.specs.declared.layer.Properties.{Properties}
 
 -- where each step that is passed is passed otherwise too
-passed_again : (step other : ℕ → Unit {0} → Result (Unit {0}) Refusal) → ((i : ℕ) → step i tt ≡ Ok tt → other i tt ≡ Ok tt) → (n i : ℕ) → Gives (λ u. counted other i n tt ≡ Ok tt) (counted step i n tt)
+passed_again : (step other : ℕ → Unit {0} → Result (Unit {0}) Refusal) → ((i : ℕ) → step i tt ≡ Ok tt → other i tt ≡ Ok tt) → (n i : ℕ) → GivesOnly (λ u. counted other i n tt ≡ Ok tt) (counted step i n tt)
 unfolding counted
 passed_again step other again zero i = done refl
 passed_again step other again (suc n) i = goes_on (step i tt) _ (λ u e. rw (again i e) (passed_again step other again n (i + 1)))
@@ -73,7 +74,7 @@ pub record IsFlow (limits : Limits) (m : FlowModel) : Type 0 where
 abbrev pub staged : FlowModel → ℤ → ℤ → List Period → FlowModel
 staged core nrchop nevtop ps = record core { nrchop = nrchop; nevtop = nevtop; periods = ps }
 
-checks_kept : (core : FlowModel) (nrchop nevtop : ℤ) (ps : List Period) (check : Check) (file : List ℕ) → checked (staged core nrchop nevtop ps) file check ≡ checked core file check
+pub checks_kept : (core : FlowModel) (nrchop nevtop : ℤ) (ps : List Period) (check : Check) (file : List ℕ) → checked (staged core nrchop nevtop ps) file check ≡ checked core file check
 unfolding checked fault_at
 checks_kept core nrchop nevtop ps Thickness file = refl
 checks_kept core nrchop nevtop ps x file = refl
@@ -128,39 +129,28 @@ heads_kept : (m : FlowModel) (c : Bool) (layvka : List ℤ) (p : Properties) (fi
 unfolding checked fault_at
 heads_kept m c layvka p file = refl
 
-pub all_passed : (basic flow : FlowModel) (dis bas lpf : List ℕ) → SameBut basic flow → checked basic dis Thickness ≡ Ok tt → checked basic bas StartHead ≡ Ok tt → checked flow lpf PropertyCheck ≡ Ok tt
-    → (check : Check) (file : List ℕ) → checked flow file check ≡ Ok tt
-all_passed basic flow dis bas lpf same thick heads good Thickness file =
-    let p : Properties = record { hk = flow.hk; hani = flow.hani; vka = flow.vka; ss = flow.ss; vkcb = flow.vkcb } in
-    let there : checked flow dis Thickness ≡ Ok tt = ap (λ (m : FlowModel). checked m dis Thickness) same ∙ thickness_kept basic flow.coefficient flow.layvka p dis ∙ thick in
-    checked_again flow dis file Thickness there
-all_passed basic flow dis bas lpf same thick heads good StartHead file =
-    let p : Properties = record { hk = flow.hk; hani = flow.hani; vka = flow.vka; ss = flow.ss; vkcb = flow.vkcb } in
-    let there : checked flow bas StartHead ≡ Ok tt = ap (λ (m : FlowModel). checked m bas StartHead) same ∙ heads_kept basic flow.coefficient flow.layvka p bas ∙ heads in
-    checked_again flow bas file StartHead there
-all_passed basic flow dis bas lpf same thick heads good PropertyCheck file = checked_again flow lpf file PropertyCheck good
+all_passed : (m : FlowModel) (c : Bool) (layvka : List ℤ) (p : Properties) (dis bas lpf : List ℕ) → checked m dis Thickness ≡ Ok tt → checked m bas StartHead ≡ Ok tt → checked (with_properties m c layvka p) lpf PropertyCheck ≡ Ok tt
+    → (check : Check) (file : List ℕ) → checked (with_properties m c layvka p) file check ≡ Ok tt
+all_passed m c layvka p dis bas lpf thick heads good Thickness file = checked_again (with_properties m c layvka p) dis file Thickness (thickness_kept m c layvka p dis ∙ thick)
+all_passed m c layvka p dis bas lpf thick heads good StartHead file = checked_again (with_properties m c layvka p) bas file StartHead (heads_kept m c layvka p bas ∙ heads)
+all_passed m c layvka p dis bas lpf thick heads good PropertyCheck file = checked_again (with_properties m c layvka p) lpf file PropertyCheck good
 
 pub flow_is : (limits : Limits) (b basic flow : FlowModel) (dis bas lpf : List ℕ) → IsStarted limits b → HasBasics b basic → HasFlow flow → SameBut basic flow
     → checked basic dis Thickness ≡ Ok tt → checked basic bas StartHead ≡ Ok tt → checked flow lpf PropertyCheck ≡ Ok tt → IsFlow limits flow
 flow_is limits b basic flow dis bas lpf started basics has same thick heads good =
-    let grid : flow.grid ≡ b.grid = ap (λ (m : FlowModel). m.grid) same ∙ ap (λ (m : FlowModel). m.grid) basics.only in
-    let lenuni : flow.lenuni ≡ b.lenuni = ap (λ (m : FlowModel). m.lenuni) same ∙ ap (λ (m : FlowModel). m.lenuni) basics.only in
-    let periods : flow.periods ≡ b.periods = ap (λ (m : FlowModel). m.periods) same ∙ ap (λ (m : FlowModel). m.periods) basics.only in
-    let nrchop : flow.nrchop ≡ b.nrchop = ap (λ (m : FlowModel). m.nrchop) same ∙ ap (λ (m : FlowModel). m.nrchop) basics.only in
-    let nevtop : flow.nevtop ≡ b.nevtop = ap (λ (m : FlowModel). m.nevtop) same ∙ ap (λ (m : FlowModel). m.nevtop) basics.only in
-    let ibound : flow.ibound ≡ basic.ibound = ap (λ (m : FlowModel). m.ibound) same in
-    let strt : flow.strt ≡ basic.strt = ap (λ (m : FlowModel). m.strt) same in
-    let cells : cell_count b.grid ≡ cell_count flow.grid = ap (λ (g : Grid). cell_count g) (sym grid) in
-    let times : All IsTimed flow.periods = subst (λ (ps : List Period). All IsTimed ps) (sym periods) started.begun.discretized.times in
-    record {
+    let p : Properties = record { hk = flow.hk; hani = flow.hani; vka = flow.vka; ss = flow.ss; vkcb = flow.vkcb } in
+    let only : flow ≡ with_properties (with_basics b basic.ibound basic.strt) flow.coefficient flow.layvka p = same ∙ ap (λ (m : FlowModel). with_properties m flow.coefficient flow.layvka p) basics.only in
+    subst (λ (m : FlowModel). IsFlow limits m) (sym only) (record {
       sound = record {
-        discretized = discretized_again b flow grid lenuni (ap (λ (ps : List Period). length ps) periods) (ap (λ (ps : List Period). sum_by (λ p. p.nstp) ps) periods) times started.begun.discretized;
-        within = subst (λ (g : Grid). IsGridWithin limits g) (sym grid) started.within;
-        ibound = ap (λ (zs : List ℤ). length zs) ibound ∙ basics.ibound ∙ cells;
-        strt = (ap (λ (ds : List Dec). length ds) strt ∙ basics.strt.0 ∙ cells, subst (λ (ds : List Dec). All IsDec ds) (sym strt) basics.strt.1);
-        flow = has;
-        passed = all_passed basic flow dis bas lpf same thick heads good;
+        discretized = discretized_again b _ refl refl refl refl started.begun.discretized.times started.begun.discretized;
+        within = started.within;
+        ibound = basics.ibound;
+        strt = basics.strt;
+        flow = subst (λ (m : FlowModel). HasFlow m) only has;
+        passed = λ check file.
+            ap (λ (m : FlowModel). checked (with_properties m flow.coefficient flow.layvka p) file check) (sym basics.only)
+            ∙ all_passed basic flow.coefficient flow.layvka p dis bas lpf thick heads (subst (λ (m : FlowModel). checked m lpf PropertyCheck ≡ Ok tt) same good) check file;
       };
-      new = subst (λ (ps : List Period). All IsNewPeriod ps) (sym periods) started.begun.periods;
-      options = (nrchop ∙ ap (λ (m : FlowModel). m.nrchop) started.begun.new, nevtop ∙ ap (λ (m : FlowModel). m.nevtop) started.begun.new);
-    }
+      new = started.begun.periods;
+      options = (ap (λ (m : FlowModel). m.nrchop) started.begun.new, ap (λ (m : FlowModel). m.nevtop) started.begun.new);
+    })

@@ -6,9 +6,7 @@ pub use Rattle.std.proofs.lemmas.List.{drop_all, length-map}
 pub use Rattle.std.proofs.lemmas.List.Elements.{All-cons, All-nil, All-weaker}
 pub use Rattle.std.proofs.lemmas.Result.{err_from_is_err_and}
 pub use Rattle.std.specs.Prelude.{IfOk, if◌then◌else◌}
-pub use Rattle.array_text.proofs.WordTexts.{done, goes_on, then_, weaker}
-pub use Rattle.array_text.specs.{Gives, IsShort}
-pub use Rattle.bas_package.specs.{HasBasics, bas_of}
+pub use Rattle.bas_package.specs.{HasBasics, bas_of, with_basics}
 pub use Rattle.cell_checks.specs.{at_cell, cell_step, is_checked_bed}
 unfoldable pub use Rattle.cell_checks.specs.{checked, fault_at}
 pub use Rattle.cell_checks.specs.declared.passing.Check.TheVariants.{Properties, StartHead, Thickness}
@@ -16,8 +14,9 @@ pub use Rattle.decimal_input.specs.{IsDec, number}
 pub use Rattle.decimal_input.specs.declared.dec.Dec.{Dec}
 pub use Rattle.dis_package.proofs.DisForms.{IsStarted, dis_is}
 pub use Rattle.dis_package.specs.{IsDiscretized, IsGridWithin, IsNewPeriod, IsOfBeds, without_stresses}
-pub use Rattle.evt_package.specs.{HasEvaporation, cell_tested, chosen_cell, column_step, column_tested, evap_fault, evaporation_arrays, source}
+pub use Rattle.evt_package.specs.{cell_tested, chosen_cell, column_step, column_tested, evap_fault, evaporation_arrays, source}
 unfoldable pub use Rattle.evt_package.specs.{columns_tested, evt_of}
+pub use Rattle.list_package.proofs.ColumnLemmas.{entry_list, given_list, placed}
 pub use Rattle.list_package.proofs.ListForms.{lists_are, steps}
 pub use Rattle.list_package.specs.{IsEntry, IsListOf, Kind, entries_in, given_heads, is_growing, kind_of, with_entries, with_list}
 unfoldable pub use Rattle.list_package.specs.{package_of}
@@ -40,10 +39,11 @@ pub use Rattle.name_file.specs.declared.package.Package.TheVariants.{Bas, Chd, D
 pub use Rattle.outside.specs.{FileSet, InputCounts, ReadsOn, file_at, input_fault}
 pub use Rattle.outside.specs.declared.inputs.InputFault.{InputFault}
 pub use Rattle.outside.specs.declared.inputs.Refusal.{Refusal}
-pub use Rattle.period_arrays.specs.{ArrayKind, IsLayers, IsReals, arrays_in, is_option, with_area}
+pub use Rattle.period_arrays.specs.{ArrayKind, HasArrays, IsArea, IsReals, arrays_in, is_option, no_area, with_area}
 pub use Rattle.period_arrays.specs.declared.area.Area.{Area}
 pub use Rattle.record_lines.proofs.Loops.{stops_all}
-pub use Rattle.record_lines.specs.{Has, Stops, StopsText, ◌>>=◌}
+pub use Rattle.record_lines.proofs.Readings.{done, goes_on, then_, weaker}
+pub use Rattle.record_lines.specs.{GivesOnly, Has, Stops, StopsText, ◌>>=◌}
 unfoldable pub use Rattle.record_lines.specs.{counted}
 pub use Rattle.stress_packages.specs.{drains, generals, recharge_arrays, rivers, wells}
 unfoldable pub use Rattle.stress_packages.specs.{rch_of}

@@ -4,7 +4,7 @@ use Rattle.model_reader.proofs.Common.{All, length, refl, sym, ap, arith, FlowMo
 use Rattle.model_reader.proofs.Common.{IsPeriod, Properties, StartHead, Thickness, is_transient, HasFlow, is_checked_bed, dec_at, is_active, has_bed, top_at}
 use Rattle.model_reader.proofs.Common.{bottom_at, lowest, negsuc, Result, Ok, Err, IfOk, FileSet, InputFault, Has, Pairs, model_of, All-nil, All-cons}
 use Rattle.model_reader.proofs.Common.{All-weaker, Dec, number, IsLayerArray, is_int, Grid, Limits, Period, Wells, Rivers, Drains, Generals, IsReals, is_option}
-use Rattle.model_reader.proofs.Common.{HasEvaporation}
+use Rattle.model_reader.proofs.Common.{Area, HasArrays, evaporation_arrays, entry_list, given_list}
 use Rattle.std.proofs.lemmas.Bool.{and_parts, or_parts, not-true, lt-leb, lt-ltb, leb-true}
 use Rattle.cell_checks.proofs.PassedCells.{each_passed}
 use Rattle.std.proofs.lemmas.Int.{ints}
@@ -13,12 +13,10 @@ use Rattle.number_limits.proofs.Canonical.{dec_at_is}
 use Rattle.number_limits.proofs.HeadLemmas.{head_of}
 use Rattle.number_limits.proofs.FloorLemmas.{thick_sound}
 use Rattle.number_limits.proofs.SignLemmas.{one_dec, positive_of}
-use Rattle.list_package.proofs.ColumnLemmas.{entry_list, given_list}
 use Rattle.evt_package.proofs.ModelLemmas.{evaps}
 use Rattle.model_reader.proofs.CheckForms.{IsSound}
-use Rattle.model_reader.proofs.PeriodForms.{IsKnown}
+use Rattle.model_reader.proofs.PeriodForms.{IsKnown, IsOption}
 use Rattle.model_reader.proofs.ReadForms.{IsRead, model_is}
-use Rattle.model_reader.proofs.StageForms.{IsOption}
 
 second : (a b : Bool) → (not a || b) ≡ true → a ≡ true → b ≡ true
 second true b e f = e
@@ -131,18 +129,18 @@ module _ (limits : Limits) (m : FlowModel) (r : IsRead limits m) where
       drains = entry_list limits Drains (cell_count m.grid) p p.stresses.drains (k.entries Drains);
       generals = entry_list limits Generals (cell_count m.grid) p p.stresses.generals (k.entries Generals);
       given = given_list limits (cell_count m.grid) p p.stresses.given k.given;
-      recharge = λ f. array m.grid p.stresses.recharge (k.arrays.rain (chosen m.nrchop r.options.0 f)).0;
-      irch = λ f. (k.arrays.rain (two m.nrchop r.options.0 f)).1.whole f;
-      surf = λ f. array m.grid p.stresses.surf (k.arrays.air (chosen m.nevtop r.options.1 f)).surf;
-      evtr = λ f. array m.grid p.stresses.evtr (k.arrays.air (chosen m.nevtop r.options.1 f)).evtr;
-      exdp = λ f. array m.grid p.stresses.exdp (k.arrays.air (chosen m.nevtop r.options.1 f)).exdp;
-      ievt = λ f. (k.arrays.air (two m.nevtop r.options.1 f)).ievt.whole f;
+      recharge = λ f. array m.grid p.stresses.recharge (k.arrays.rch.some (chosen m.nrchop r.options.0 f)).is.rates;
+      irch = λ f. (k.arrays.rch.some (two m.nrchop r.options.0 f)).is.layers.whole f;
+      surf = λ f. array m.grid p.stresses.surf ((k.arrays.evt.some (chosen m.nevtop r.options.1 f)).is.surfaces refl);
+      evtr = λ f. array m.grid p.stresses.evtr (k.arrays.evt.some (chosen m.nevtop r.options.1 f)).is.rates;
+      exdp = λ f. array m.grid p.stresses.exdp ((k.arrays.evt.some (chosen m.nevtop r.options.1 f)).is.depths refl);
+      ievt = λ f. (k.arrays.evt.some (two m.nevtop r.options.1 f)).is.layers.whole f;
     };
   }
 
-  evaporation : IsOption m.nevtop → (p : Period) → IsKnown limits m.grid m.ibound m.nrchop m.nevtop p → HasEvaporation m.grid m.ibound m.nevtop p.stresses ⊎ (p.stresses.evtr ≡ [])
-  evaporation (inl e) p k = inr (k.arrays.still e).1
-  evaporation (inr e) p k = let a = k.arrays.air e in inl (record { surf = a.surf; evtr = a.evtr; exdp = a.exdp; ievt = a.ievt; passed = a.passed })
+  evaporation : IsOption m.nevtop → (p : Period) → IsKnown limits m.grid m.ibound m.nrchop m.nevtop p → HasArrays evaporation_arrays m.grid m.ibound m.nevtop (evaporation_arrays.area p.stresses) ⊎ (p.stresses.evtr ≡ [])
+  evaporation (inl e) p k = inr (ap (λ (a : Area). a.rates) (k.arrays.evt.none e))
+  evaporation (inr e) p k = inl (k.arrays.evt.some e)
 
   pub model_valid : IsModel m
   model_valid = let h = r.sound in record {
@@ -163,7 +161,7 @@ module _ (limits : Limits) (m : FlowModel) (r : IsRead limits m) where
     few = h.discretized.few;
     steps = h.discretized.steps;
     periods = All-weaker (IsKnown limits m.grid m.ibound m.nrchop m.nevtop) (IsPeriod m) period m.periods r.each;
-    evaps = evaps m h.discretized.grid.size (All-weaker (IsKnown limits m.grid m.ibound m.nrchop m.nevtop) (λ p. HasEvaporation m.grid m.ibound m.nevtop p.stresses ⊎ (p.stresses.evtr ≡ [])) (evaporation r.options.1) m.periods r.each);
+    evaps = evaps m h.discretized.grid.size (All-weaker (IsKnown limits m.grid m.ibound m.nrchop m.nevtop) (λ p. HasArrays evaporation_arrays m.grid m.ibound m.nevtop (evaporation_arrays.area p.stresses) ⊎ (p.stresses.evtr ≡ [])) (evaporation r.options.1) m.periods r.each);
   }
 
 pub read_valid : (limits : Limits) (files : FileSet) (names : Pairs) (r : Result FlowModel InputFault) → Has (λ m. m) r (model_of limits files names) → IfOk r IsModel

@@ -1,17 +1,24 @@
 -- What is known of the stress periods of a model while its packages of stresses are read.
-use Rattle.model_reader.proofs.Common.{HasEvaporation, steps, Kind, entries_in, given_heads, kind_of, with_entries, with_list, IsListOf, ListKind, Drains}
-use Rattle.model_reader.proofs.Common.{Generals, Rivers, Wells, IsLayers, IsReals, is_option, IsGrowing, IsTimed, cell_count, number_one, Grid, Limits}
-use Rattle.model_reader.proofs.Common.{FlowModel, Period, Stresses, All, List, [], false, inl, inr, map, pos, refl, subst, sym, true, ℕ, ℤ, ◌∙◌, ◌≡◌, ◌⊎◌}
-use Rattle.model_reader.proofs.Common.{drains, generals, rivers, wells}
+use Rattle.model_reader.proofs.Common.{ArrayKind, Area, HasArrays, no_area, recharge_arrays, evaporation_arrays, steps, Kind, entries_in, given_heads, kind_of}
+use Rattle.model_reader.proofs.Common.{with_entries, with_list, IsListOf, ListKind, Drains, Generals, Rivers, Wells, is_option, IsGrowing, IsTimed, cell_count}
+use Rattle.model_reader.proofs.Common.{number_one, Grid, Limits, FlowModel, Period, Stresses, All, List, [], false, inl, inr, map, pos, refl, subst, sym, true}
+use Rattle.model_reader.proofs.Common.{ℕ, ℤ, ◌∙◌, ◌≡◌, ◌⊎◌, drains, generals, rivers, wells}
 use Rattle.model_types.specs.declared.entry.Entry.{Entry}
 use Rattle.model_types.specs.declared.entry.Given.{Given}
 
+-- RCH or EVT is there by an option, or it isn't there
+abbrev pub IsOption : ℤ → Type 0
+IsOption z = (z ≡ pos 0) ⊎ (is_option z ≡ true)
+
+-- its arrays by this option
+pub record ByOption (kind : ArrayKind) (g : Grid) (ibound : List ℤ) (option : ℤ) (a : Area) : Type 0 where
+  pub none : option ≡ pos 0 → a ≡ no_area
+  pub some : is_option option ≡ true → HasArrays kind g ibound option a
+
 -- recharge and evapotranspiration of stresses by NRCHOP and NEVTOP
-pub record HasArrays (g : Grid) (ibound : List ℤ) (nrchop nevtop : ℤ) (s : Stresses) : Type 0 where
-  pub dry : nrchop ≡ pos 0 → (s.recharge ≡ []) × (s.irch ≡ [])
-  pub rain : is_option nrchop ≡ true → IsReals g s.recharge × IsLayers g nrchop s.irch
-  pub still : nevtop ≡ pos 0 → (s.surf ≡ []) × (s.evtr ≡ []) × (s.exdp ≡ []) × (s.ievt ≡ [])
-  pub air : is_option nevtop ≡ true → HasEvaporation g ibound nevtop s
+pub record AreByOptions (g : Grid) (ibound : List ℤ) (nrchop nevtop : ℤ) (s : Stresses) : Type 0 where
+  pub rch : ByOption recharge_arrays g ibound nrchop (recharge_arrays.area s)
+  pub evt : ByOption evaporation_arrays g ibound nevtop (evaporation_arrays.area s)
 
 -- stresses without their lists
 abbrev pub arrays_of : Stresses → Stresses
@@ -22,7 +29,7 @@ pub record IsKnown (limits : Limits) (g : Grid) (ibound : List ℤ) (nrchop nevt
   pub times : IsTimed p
   pub entries : (k : ListKind) → IsListOf limits (kind_of k) (cell_count g) p (entries_in k p.stresses)
   pub given : IsListOf limits given_heads (cell_count g) p p.stresses.given
-  pub arrays : HasArrays g ibound nrchop nevtop (arrays_of p.stresses)
+  pub arrays : AreByOptions g ibound nrchop nevtop (arrays_of p.stresses)
 
 -- another model with its own options and stresses
 pub record IsStage (limits : Limits) (core : FlowModel) (nrchop nevtop : ℤ) (m : FlowModel) : Type 0 where
@@ -54,7 +61,7 @@ module _ (limits : Limits) (g : Grid) (ibound : List ℤ) (nrchop nevtop : ℤ) 
   Known = IsKnown limits g ibound nrchop nevtop
 
   -- the period with other stresses
-  pub with_stresses : (s : Stresses) → IsTimed p → ((k : ListKind) → IsList (kind_of k) (entries_in k s)) → IsList given_heads s.given → HasArrays g ibound nrchop nevtop (arrays_of s)
+  pub with_stresses : (s : Stresses) → IsTimed p → ((k : ListKind) → IsList (kind_of k) (entries_in k s)) → IsList given_heads s.given → AreByOptions g ibound nrchop nevtop (arrays_of s)
       → Known (record p { stresses = s })
   with_stresses s times entries given arrays = record {
     times = timed p s times;
@@ -78,7 +85,7 @@ module _ (limits : Limits) (g : Grid) (ibound : List ℤ) (nrchop nevtop : ℤ) 
   with_entry_list k xs h list =
       let kept = others_kept k p.stresses xs in
       with_stresses (with_entries k p.stresses xs) h.times (λ j. entries_put k j p.stresses xs list (h.entries j))
-      (subst (λ ys. IsList given_heads ys) (sym kept.0) h.given) (subst (HasArrays g ibound nrchop nevtop) (sym kept.1) h.arrays)
+      (subst (λ ys. IsList given_heads ys) (sym kept.0) h.given) (subst (AreByOptions g ibound nrchop nevtop) (sym kept.1) h.arrays)
 
   given_put : (k : ListKind) (s : Stresses) (xs : List Given) → IsList (kind_of k) (entries_in k s) → IsList (kind_of k) (entries_in k (record s { given = xs }))
   given_put Wells s xs h = h

@@ -1,13 +1,13 @@
 -- A model that is read, in reading order.
-use Rattle.model_reader.proofs.Common.{All, List, Ok, subst, sym, ℕ, ◌≡◌, All-weaker, done, goes_on, then_, weaker, Gives, HasBasics, checked, StartHead}
+use Rattle.model_reader.proofs.Common.{All, List, Ok, subst, sym, ℕ, ◌≡◌, All-weaker, done, goes_on, then_, weaker, GivesOnly, HasBasics, checked, StartHead}
 use Rattle.model_reader.proofs.Common.{Thickness, IsStarted, dis_is, HasFlow, SameBut, bas_in, basics_tested, dis_in, lpf_in, model_of, names_in, needed, reads}
 use Rattle.model_reader.proofs.Common.{IsTimed, Limits, FlowModel, Pairs, Bas, Dis, Lpf, FileSet, file_at}
 use Rattle.bas_package.proofs.BasForms.{bas_is}
 use Rattle.cell_checks.specs.declared.passing.Check.TheVariants.{Properties as PropertyCheck}
 use Rattle.lpf_package.proofs.LpfForms.{lpf_is}
 use Rattle.model_reader.proofs.CheckForms.{IsFlow, IsSound, flow_is, sound_again}
-use Rattle.model_reader.proofs.PeriodForms.{IsKnown}
-use Rattle.model_reader.proofs.StageForms.{IsOption, IsStressed, first_stage, stresses_are}
+use Rattle.model_reader.proofs.PeriodForms.{IsKnown, IsOption}
+use Rattle.model_reader.proofs.StageForms.{IsStressed, first_stage, stresses_are}
 
 -- a model with IBOUND and STRT that passed the tests of thickness and of starting heads
 record IsTested (dis bas : List ℕ) (begun basic : FlowModel) : Type 0 where
@@ -28,26 +28,26 @@ read_with limits core m f s =
     (record { sound = sound_again limits core s.nrchop s.nevtop m.periods s.stage.same times f.sound; options = s.options; each = s.stage.each })
 
 module _ (limits : Limits) (files : FileSet) where
-  begun_is : (dis : List ℕ) → Gives (IsStarted limits) (dis_in limits files dis)
+  begun_is : (dis : List ℕ) → GivesOnly (IsStarted limits) (dis_in limits files dis)
   unfolding dis_in
   begun_is dis = goes_on (file_at files dis) _ (λ bytes e. dis_is limits files dis bytes)
 
-  both_tested : (dis bas : List ℕ) (basic : FlowModel) → Gives (λ u. (checked basic dis Thickness ≡ Ok tt) × (checked basic bas StartHead ≡ Ok tt)) (basics_tested dis bas basic)
+  both_tested : (dis bas : List ℕ) (basic : FlowModel) → GivesOnly (λ u. (checked basic dis Thickness ≡ Ok tt) × (checked basic bas StartHead ≡ Ok tt)) (basics_tested dis bas basic)
   unfolding basics_tested
   both_tested dis bas basic = goes_on (checked basic dis Thickness) _ (λ thick a. record { gives = λ u b. (a, b) })
 
-  basic_is : (dis bas : List ℕ) (begun : FlowModel) → Gives (IsTested dis bas begun) (bas_in files dis bas begun)
+  basic_is : (dis bas : List ℕ) (begun : FlowModel) → GivesOnly (IsTested dis bas begun) (bas_in files dis bas begun)
   unfolding bas_in
   basic_is dis bas begun =
       goes_on (file_at files bas) _ (λ bytes e. then_ _ (bas_is files bas bytes begun) (λ basic is. then_ _ (both_tested dis bas basic)
       (λ tested both. done (record { basics = is; thick = both.0; heads = both.1 }))))
 
-  lpf_read : (lpf : List ℕ) (basic : FlowModel) → Gives (λ flow. HasFlow flow × SameBut basic flow × (checked flow lpf PropertyCheck ≡ Ok tt)) (lpf_in files lpf basic)
+  lpf_read : (lpf : List ℕ) (basic : FlowModel) → GivesOnly (λ flow. HasFlow flow × SameBut basic flow × (checked flow lpf PropertyCheck ≡ Ok tt)) (lpf_in files lpf basic)
   unfolding lpf_in
   lpf_read lpf basic =
       goes_on (file_at files lpf) _ (λ bytes a. then_ _ (lpf_is files lpf bytes basic) (λ flow is. goes_on (checked flow lpf PropertyCheck) _ (λ good b. done (is.0, is.1, b))))
 
-  pub model_is : (names : Pairs) → Gives (IsRead limits) (model_of limits files names)
+  pub model_is : (names : Pairs) → GivesOnly (IsRead limits) (model_of limits files names)
   unfolding model_of
   model_is names =
       let dis = needed Dis names in
@@ -57,6 +57,6 @@ module _ (limits : Limits) (files : FileSet) where
       let f = flow_is limits begun basic flow dis bas lpf a b.basics c.0 c.1 b.thick b.heads c.2 in
       weaker (stresses_are limits flow f.sound.discretized.grid.size files names (first_stage limits flow f.options.0 f.options.1 f.new)) (λ m s. read_with limits flow m f s))))
 
-  pub read_is : (name : List ℕ) → Gives (IsRead limits) (reads limits files name)
+  pub read_is : (name : List ℕ) → GivesOnly (IsRead limits) (reads limits files name)
   unfolding reads
   read_is name = goes_on (names_in files name) _ (λ names e. model_is names)

@@ -45,42 +45,13 @@ pub stresses_done : (limits : Limits) (files : FileSet) (names : Pairs) (ks : Li
 unfolding with_stresses
 stresses_done limits files names ks i m r le so_far = let none : with_stresses limits files names (drop i ks) m ≡ Ok m = rw (drop_all i ks le) refl in sym so_far ∙ none
 
--- the file, its reading and its tests, one after the other
-pub bas_read : (files : FileSet) (dis bas bytes : List ℕ) (begun read basic tested : FlowModel)
-    → file_at files bas ≡ Ok bytes
-    → read ≡ begun
-    → bas_of files bas bytes read ≡ Ok basic
-    → basics_tested dis bas basic ≡ Ok tt
-    → tested ≡ basic
-    → bas_in files dis bas begun ≡ Ok tested
+-- the file and its reading, and then the tests
+pub bas_next : (files : FileSet) (dis bas bytes : List ℕ) (begun read basic : FlowModel) → file_at files bas ≡ Ok bytes → read ≡ begun → bas_of files bas bytes read ≡ Ok basic
+    → bas_in files dis bas begun ≡ (basics_tested dis bas basic >>= λ tested. Ok basic)
 unfolding bas_in
-bas_read files dis bas bytes begun read basic tested a same b d is = rw (a, ← same, b, d, is) refl
+bas_next files dis bas bytes begun read basic a same b = rw (a, ← same, b) refl
 
-pub bas_refused : (fault : TextFault) (files : FileSet) (dis bas bytes : List ℕ) (begun read basic : FlowModel)
-    → file_at files bas ≡ Ok bytes
-    → read ≡ begun
-    → bas_of files bas bytes read ≡ Ok basic
-    → StopsText fault (basics_tested dis bas basic)
-    → Stops (input_fault fault) (bas_in files dis bas begun)
-unfolding bas_in
-bas_refused fault files dis bas bytes begun read basic a same b d = rw (a, ← same, b) (text_stops_here fault _ _ d)
-
--- the file, its reading and its test, one after the other
-pub lpf_read : (files : FileSet) (lpf bytes : List ℕ) (basic read flow good : FlowModel)
-    → file_at files lpf ≡ Ok bytes
-    → read ≡ basic
-    → lpf_of files lpf bytes read ≡ Ok flow
-    → checked flow lpf Properties ≡ Ok tt
-    → good ≡ flow
-    → lpf_in files lpf basic ≡ Ok good
+pub lpf_next : (files : FileSet) (lpf bytes : List ℕ) (basic read flow : FlowModel) → file_at files lpf ≡ Ok bytes → read ≡ basic → lpf_of files lpf bytes read ≡ Ok flow
+    → lpf_in files lpf basic ≡ (checked flow lpf Properties >>= λ good. Ok flow)
 unfolding lpf_in
-lpf_read files lpf bytes basic read flow good a same b d is = rw (a, ← same, b, d, is) refl
-
-pub lpf_refused : (fault : TextFault) (files : FileSet) (lpf bytes : List ℕ) (basic read flow : FlowModel)
-    → file_at files lpf ≡ Ok bytes
-    → read ≡ basic
-    → lpf_of files lpf bytes read ≡ Ok flow
-    → StopsText fault (checked flow lpf Properties)
-    → Stops (input_fault fault) (lpf_in files lpf basic)
-unfolding lpf_in
-lpf_refused fault files lpf bytes basic read flow a same b d = rw (a, ← same, b) (text_stops_here fault _ _ d)
+lpf_next files lpf bytes basic read flow a same b = rw (a, ← same, b) refl

@@ -1,13 +1,13 @@
 -- The files of RCH and EVT are read as written.
 use Rattle.model_text.proofs.Common.{◌≡◌, ℕ, ℤ, Bool, true, false, if◌then◌else◌, List, [], ◌∷◌, ◌++◌, length, All, Ok, refl, arith, codes, All-head, All-tail}
 use Rattle.model_text.proofs.Common.{Dec, FileSet, Grid, HasSize, is_int, real_layer, area_at, array_or, arrays_of, nothing_yet, flags_of, is_option, IsReals}
-use Rattle.model_text.proofs.Common.{integer_word, Line, IsLine, text, real_array, line_by_test, IsEvaporating, IsLayers, IsRecharged, with_areas, flat_map}
-use Rattle.model_text.proofs.Common.{FlowModel, Period, AllZip, ArrayKind, with_area, recharge_arrays, rch_of, area_in, evaporation_arrays, evt_of, rch_item_2}
-use Rattle.model_text.proofs.Common.{rch_items, rch_lines, evt_item_2, evt_items, evt_lines, contents, Takes, takes_none, takes_where, then_takes, last_takes}
-use Rattle.model_text.proofs.Common.{line_takes, arrays_in, option_line, period_at, periods_of, tested_area, unit_if}
+use Rattle.model_text.proofs.Common.{integer_word, Line, IsLine, text, real_array, line_by_test, HasPackage, HasArrays, with_areas, flat_map, FlowModel, Period}
+use Rattle.model_text.proofs.Common.{AllZip, ArrayKind, with_area, recharge_arrays, rch_of, evaporation_arrays, evt_of, rch_item_2, rch_items, rch_lines}
+use Rattle.model_text.proofs.Common.{evt_item_2, evt_items, evt_lines, contents, Takes, takes_none, takes_where, then_takes, last_takes, line_takes, arrays_in}
+use Rattle.model_text.proofs.Common.{option_line, period_at, periods_of, tested_area, unit_if, Area}
 use Rattle.model_text.proofs.FrameTexts.{zero_item}
 use Rattle.model_text.proofs.DisTexts.{line_is_item, item_takes, file_takes, each_takes}
-use Rattle.period_arrays.specs.declared.area.Area.{Area}
+use Rattle.model_types.specs.declared.period.Stresses.{Stresses}
 use Rattle.period_arrays.specs.declared.area.InForce.{InForce}
 use Rattle.model_text.proofs.GridTexts.{reals_take}
 use Rattle.model_text.proofs.AreaTexts.{flag_reads, flag_if_reads, option_reads, option_is_short, option_is_item, option_is_line, layers_lines, layers_take}
@@ -23,28 +23,12 @@ flags_are_line false = line_by_test (flags false) refl
 flags_read : (file : List ℕ) (line : ℕ) (evaporates layered listed : Bool)
     → flags_of (record { evaporates = evaporates; layered = layered }) file line listed (flags evaporates) ≡ Ok (record { surface = evaporates; rate = true; depth = evaporates; layer = layered })
 unfolding flags_of
-flags_read file line true layered listed =
-    rw (
-      flag_reads file line listed (codes "1" ∷ codes "1" ∷ codes "1" ∷ []),
-      flag_reads file line listed (codes "1" ∷ codes "1" ∷ []),
-      flag_reads file line listed (codes "1" ∷ []),
-      flag_if_reads file line layered listed,
-    ) refl
-flags_read file line false layered listed = rw (flag_reads file line listed (codes "1" ∷ []), flag_if_reads file line layered listed) refl
+flags_read file line true layered listed = rw (flag_reads file line listed, flag_reads file line listed, flag_reads file line listed, flag_if_reads file line layered listed) refl
+flags_read file line false layered listed = rw (flag_reads file line listed, flag_if_reads file line layered listed) refl
 
 unit_reads : (file : List ℕ) (line : ℕ) (evaporates : Bool) → unit_if evaporates file line (codes "0" ∷ []) ≡ Ok tt
 unit_reads file line true = rw (zero_item file line []) refl
 unit_reads file line false = refl
-
--- arrays that can be written
-record IsWritable (kind : ArrayKind) (file : List ℕ) (g : Grid) (ibound : List ℤ) (option : ℤ) (a : Area) : Type 0 where
-  surfaces : kind.evaporates ≡ true → IsReals g a.surfaces
-  no_surfaces : kind.evaporates ≡ false → a.surfaces ≡ []
-  rates : IsReals g a.rates
-  depths : kind.evaporates ≡ true → IsReals g a.depths
-  no_depths : kind.evaporates ≡ false → a.depths ≡ []
-  layers : IsLayers g option a.layers
-  passed : kind.test file g ibound option a ≡ Ok tt
 
 -- arrays in force that lack those which the file lacks
 record Lacks (kind : ArrayKind) (option : ℤ) (last : InForce) : Type 0 where
@@ -52,7 +36,8 @@ record Lacks (kind : ArrayKind) (option : ℤ) (last : InForce) : Type 0 where
   depths : kind.evaporates ≡ false → last.area.depths ≡ []
   layers : is_int option 2 ≡ false → last.area.layers ≡ []
 
-module _ (kind : ArrayKind) (files : FileSet) (file : List ℕ) (g : Grid) (size : HasSize g) (ibound : List ℤ) (option : ℤ) (good : is_option option ≡ true) where
+module _ (kind : ArrayKind) (files : FileSet) (file : List ℕ) (g : Grid) (size : HasSize g) (ibound : List ℤ) (option : ℤ) (good : is_option option ≡ true)
+    (bare : (s : Stresses) → kind.evaporates ≡ false → ((kind.area s).surfaces ≡ []) × ((kind.area s).depths ≡ [])) where
   abbrev reals_if : Bool → List Dec → List Line
   reals_if present xs = if present then real_array g.rows g.cols xs else []
 
@@ -66,10 +51,10 @@ module _ (kind : ArrayKind) (files : FileSet) (file : List ℕ) (g : Grid) (size
   now p = record { listed = true; area = kind.area p.stresses }
 
   abbrev CanWrite : Period → Type 0
-  CanWrite p = IsWritable kind file g ibound option (kind.area p.stresses)
+  CanWrite p = HasArrays kind g ibound option (kind.area p.stresses)
 
   lacks_now : (p : Period) → CanWrite p → Lacks kind option (now p)
-  lacks_now p good = record { surfaces = good.no_surfaces; depths = good.no_depths; layers = good.layers.none }
+  lacks_now p can = record { surfaces = λ e. (bare p.stresses e).0; depths = λ e. (bare p.stresses e).1; layers = can.is.layers.none }
 
   reals_if_take : (present : Bool) (xs : List Dec) → (present ≡ false → xs ≡ []) → (present ≡ true → IsReals g xs) → (last : List Dec) → (present ≡ false → last ≡ [])
       → Takes (array_or (real_layer files file g.rows g.cols) present last) (reals_if present xs) (λ left. (xs, left))
@@ -82,9 +67,9 @@ module _ (kind : ArrayKind) (files : FileSet) (file : List ℕ) (g : Grid) (size
     arrays_take : Takes (arrays_of files file g (record { surface = kind.evaporates; rate = true; depth = kind.evaporates; layer = is_int option 2 }) last.area) (array_lines a) (λ left. (a, left))
     unfolding arrays_of
     arrays_take =
-        then_takes _ (reals_if_take kind.evaporates a.surfaces h.no_surfaces h.surfaces last.area.surfaces lacks.surfaces) (then_takes _ (reals_take files file g size a.rates h.rates)
-        (then_takes _ (reals_if_take kind.evaporates a.depths h.no_depths h.depths last.area.depths lacks.depths)
-        (last_takes _ (layers_take files file g size option a.layers h.layers last.area.layers lacks.layers) (λ left. refl))))
+        then_takes _ (reals_if_take kind.evaporates a.surfaces (λ e. (bare p.stresses e).0) h.is.surfaces last.area.surfaces lacks.surfaces) (then_takes _ (reals_take files file g size a.rates h.is.rates)
+        (then_takes _ (reals_if_take kind.evaporates a.depths (λ e. (bare p.stresses e).1) h.is.depths last.area.depths lacks.depths)
+        (last_takes _ (layers_take files file g size option a.layers h.is.layers last.area.layers lacks.layers) (λ left. refl))))
 
     area_takes : Takes (λ left. area_at (contents kind option) files file g (last, left)) (items p) (λ left. (a, (now p, left)))
     unfolding area_at
@@ -92,7 +77,7 @@ module _ (kind : ArrayKind) (files : FileSet) (file : List ℕ) (g : Grid) (size
 
     tested_takes : Takes (λ left. tested_area kind files file g ibound option (last, left)) (items p) (λ left. (a, (now p, left)))
     unfolding tested_area
-    tested_takes = last_takes _ area_takes (λ left. rw h.passed refl)
+    tested_takes = last_takes _ area_takes (λ left. rw (h.passed file) refl)
 
     period_takes : Takes (λ left. period_at kind files file g ibound option before (last, left)) (items p) (λ left. (with_area kind before a, (now p, left)))
     unfolding period_at
@@ -129,44 +114,18 @@ module _ (kind : ArrayKind) (files : FileSet) (file : List ℕ) (g : Grid) (size
       file_takes _ (line_is_item (integer_word option) (codes "0" ∷ []) k.0 k.1) head_takes (last_takes _ (periods_take before ps e can) (λ left. refl))
 
 module _ (files : FileSet) (file : List ℕ) (m : FlowModel) (size : HasSize m.grid) where
-  rain_is_writable : IsRecharged m → (ibound : List ℤ) → All (λ p. IsWritable recharge_arrays file m.grid ibound m.nrchop (recharge_arrays.area p.stresses)) m.periods
-  rain_is_writable h ibound = λ k d lt. record {
-    surfaces = λ e. absurd (let clash : false ≡ true = e in cc);
-    no_surfaces = λ e. refl;
-    rates = h.recharge k d lt;
-    depths = λ e. absurd (let clash : false ≡ true = e in cc);
-    no_depths = λ e. refl;
-    layers = h.irch k d lt;
-    passed = refl;
-  }
-
-  recharge_reads : IsRecharged m → (ibound : List ℤ) (before : List Period) → length before ≡ length m.periods
-      → arrays_in recharge_arrays files file (text (rch_lines m)) m.grid ibound before ≡ Ok (record { option = m.nrchop; periods = with_areas recharge_arrays before m.periods })
-  unfolding rch_lines rch_item_2 rch_items
-  recharge_reads h ibound before e = arrays_read recharge_arrays files file m.grid size ibound m.nrchop h.option before m.periods e (rain_is_writable h ibound)
-
-  pub rch_reads : IsRecharged m → (before : FlowModel) → before.grid ≡ m.grid → length before.periods ≡ length m.periods
+  pub rch_reads : HasPackage recharge_arrays m.nrchop m → (before : FlowModel) → before.grid ≡ m.grid → length before.periods ≡ length m.periods
       → rch_of files file (text (rch_lines m)) before ≡ Ok (record before { nrchop = m.nrchop; periods = with_areas recharge_arrays before.periods m.periods })
-  unfolding rch_of
-  rch_reads h before same e = rw (same, recharge_reads h before.ibound before.periods e) refl
+  unfolding rch_of rch_lines rch_item_2 rch_items
+  rch_reads h before same e =
+      rw (
+        same,
+        arrays_read recharge_arrays files file m.grid size before.ibound m.nrchop h.active (λ s f. (refl, refl)) before.periods m.periods e
+            (λ k d lt. let a = h.arrays k d lt in record { is = a.is; passed = λ other. refl }),
+      ) refl
 
-  evaporation_is_writable : IsEvaporating m → All (λ p. IsWritable evaporation_arrays file m.grid m.ibound m.nevtop (area_in p.stresses)) m.periods
-  evaporation_is_writable h = λ k d lt. record {
-    surfaces = λ e. h.surf k d lt;
-    no_surfaces = λ e. absurd (let clash : true ≡ false = e in cc);
-    rates = h.evtr k d lt;
-    depths = λ e. h.exdp k d lt;
-    no_depths = λ e. absurd (let clash : true ≡ false = e in cc);
-    layers = h.ievt k d lt;
-    passed = h.passed file k d lt;
-  }
-
-  evaporation_reads : IsEvaporating m → (before : List Period) → length before ≡ length m.periods
-      → arrays_in evaporation_arrays files file (text (evt_lines m)) m.grid m.ibound before ≡ Ok (record { option = m.nevtop; periods = with_areas evaporation_arrays before m.periods })
-  unfolding evt_lines evt_item_2 evt_items
-  evaporation_reads h before e = arrays_read evaporation_arrays files file m.grid size m.ibound m.nevtop h.option before m.periods e (evaporation_is_writable h)
-
-  pub evt_reads : IsEvaporating m → (before : FlowModel) → before.grid ≡ m.grid → before.ibound ≡ m.ibound → length before.periods ≡ length m.periods
+  pub evt_reads : HasPackage evaporation_arrays m.nevtop m → (before : FlowModel) → before.grid ≡ m.grid → before.ibound ≡ m.ibound → length before.periods ≡ length m.periods
       → evt_of files file (text (evt_lines m)) before ≡ Ok (record before { nevtop = m.nevtop; periods = with_areas evaporation_arrays before.periods m.periods })
-  unfolding evt_of
-  evt_reads h before same cells e = rw (same, cells, evaporation_reads h before.periods e) refl
+  unfolding evt_of evt_lines evt_item_2 evt_items
+  evt_reads h before same cells e =
+      rw (same, cells, arrays_read evaporation_arrays files file m.grid size m.ibound m.nevtop h.active (λ s f. absurd (let clash : true ≡ false = f in cc)) before.periods m.periods e h.arrays) refl

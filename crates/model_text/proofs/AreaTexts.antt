@@ -2,8 +2,8 @@
 use Rattle.model_text.proofs.Common.{◌≡◌, ℕ, zero, suc, ◌+◌, ◌^◌, ◌<◌, ◌≤◌, Bool, true, false, ◌&&◌, nat_lt, nat_le, if◌then◌else◌, List, [], ◌∷◌, length, drop}
 use Rattle.model_text.proofs.Common.{All, Ok, refl, arith, ℤ, pos, negsuc, codes, All-from_recursion, FileSet, is_comment, counted, Grid, HasSize, is_int}
 use Rattle.model_text.proofs.Common.{array_or, flag_at, flag_if, is_option, option_at, IsWhole, IsShort, IsWord, integer_word, Line, IsLine, integer_array}
-use Rattle.model_text.proofs.Common.{integer_is_word, word_by_test, IsLayers, nat_tests, is_word, number_at, integer, layer_size, int_at, arrays, digits_spell}
-use Rattle.model_text.proofs.Common.{is_layer, layer_step, layers_tested, layers_at, Takes, takes_none, takes_where, last_takes}
+use Rattle.model_text.proofs.Common.{integer_is_word, word_by_test, IsLayers, is_word, number_at, integer, layer_size, int_at, arrays, digits_spell, is_layer}
+use Rattle.model_text.proofs.Common.{layer_step, layers_tested, layers_at, Takes, takes_none, takes_where, last_takes, and_parts, leb-true}
 use Rattle.model_text.proofs.FrameTexts.{integer_item, no_keyword}
 use Rattle.model_text.proofs.DisTexts.{decimal_is_item}
 
@@ -18,21 +18,13 @@ flag_reads file line listed ws = rw (one_item file line ws) refl
 
 pub option_reads : (file : List ℕ) (line : ℕ) (z : ℤ) (ws : Line) → IsShort z → is_option z ≡ true → option_at file line (integer_word z ∷ ws) ≡ Ok (z, ws)
 unfolding option_at
-option_reads file line z ws short good = rw (integer_item file line z ws short, good) refl
+option_reads file line z ws short good = rw (integer_item file line z short, good) refl
 
 is_few : (n : ℕ) → (nat_lt 0 n && nat_le n 3) ≡ true → n ≤ 3
-is_few n h = by_test (nat_lt 0 n) (nat_le n 3) refl h
-  where
-    by_test : (a b : Bool) → nat_le n 3 ≡ b → (a && b) ≡ true → n ≤ 3
-    by_test true true e k = grind (arith, nat_tests)
-    by_test true false e k = absurd (cc)
-    by_test false b e k = absurd (cc)
+is_few n h = leb-true n 3 (and_parts (nat_lt 0 n) (nat_le n 3) h).1
 
 pub option_is_short : (z : ℤ) → is_option z ≡ true → IsShort z
-option_is_short (pos n) h = record { few = small (is_few n h) }
-  where
-    small : n ≤ 3 → n < 10 ^ 18
-    small k = omega arith
+option_is_short (pos n) h = let few : n ≤ 3 = is_few n h in record { few = omega arith }
 option_is_short (negsuc n) h = absurd (cc)
 
 -- NRCHOP or NEVTOP is no comment and no keyword

@@ -2,12 +2,13 @@
 pub use Rattle.std.proofs.Common.{All, Bool, List, None, Ok, Option, Result, Some, [], ap, append_assoc, arith, cond, drop, false, filter, fold, get_or}
 pub use Rattle.std.proofs.Common.{if◌then◌else◌, inl, inr, is_some, length, map, max, nat_le, nat_lt, negsuc, not, pos, refl, replicate, set, subst, suc}
 pub use Rattle.std.proofs.Common.{sum_by, sym, take, true, zero, ℕ, ℤ, ◌&&◌, ◌*◌, ◌++◌, ◌+◌, ◌-◌, ◌<◌, ◌==◌, ◌^◌, ◌||◌, ◌∙◌, ◌∷◌, ◌≡◌, ◌≤◌, ◌⊎◌}
-pub use Rattle.std.proofs.lemmas.Bool.{and_parts, not-true, or_parts}
+pub use Rattle.std.proofs.lemmas.Bool.{and_parts, leb-true, not-true, or_parts}
 pub use Rattle.std.proofs.lemmas.Bool.Decides.{nat_tests}
-pub use Rattle.std.proofs.lemmas.List.{append-nil, drop-drop, drop_all, get_or-replicate, get_or-set_other, length-drop, length-map, length-replicate}
-pub use Rattle.std.proofs.lemmas.List.{length-take-le, map-append, nil_from_length, take-append-drop, take_all, take_more}
+pub use Rattle.std.proofs.lemmas.List.{append-nil, drop-drop, drop-take, drop_all, get_or-replicate, get_or-set_other, length-drop, length-map}
+pub use Rattle.std.proofs.lemmas.List.{length-replicate, length-take-le, map-append, nil_from_length, take-append-drop, take-take, take_all, take_more}
 pub use Rattle.std.proofs.lemmas.List.Elements.{All-append, All-cons, All-drop, All-from_recursion, All-head, All-map, All-nil, All-replicate, All-tail}
 pub use Rattle.std.proofs.lemmas.List.Elements.{All-take, All-weaker}
+pub use Rattle.std.proofs.lemmas.List.Sums.{list_all-from_AllPass, sum_by_from}
 pub use Rattle.std.specs.Fmt.{decimal}
 pub use Rattle.std.specs.List.{AllPairs, AllZip, flat_map, list_all, list_any, range_with_len}
 pub use Rattle.std.specs.Prelude.{codes}
@@ -21,7 +22,7 @@ pub use Rattle.array_text.proofs.FreeTexts.{values_read}
 pub use Rattle.array_text.proofs.LineTexts.{counted_take, last_takes, line_takes, line_words, next_line, one_line, takes_none, takes_where, text_left}
 pub use Rattle.array_text.proofs.LineTexts.{then_takes}
 pub use Rattle.array_text.proofs.NumberTexts.{integer_reads, number_reads, one, short_exponent}
-pub use Rattle.array_text.proofs.WordTexts.{count_is_word, integer_is_word, line_by_test, number_is_word, word_by_test}
+pub use Rattle.array_text.proofs.WordTexts.{all_pass, count_is_word, integer_is_word, line_by_test, number_is_word, word_by_test}
 pub use Rattle.array_text.specs.{IsLine, IsShort, IsWord, IsWordByte, Line, Takes, integer_array, number_word, text}
 unfoldable pub use Rattle.array_text.specs.{integer_word, line_text, number_after, numbered_lines, real_array, row_line, unread}
 pub use Rattle.bas_package.specs.{with_basics}
@@ -31,7 +32,7 @@ unfoldable pub use Rattle.decimal_input.specs.{ratio}
 pub use Rattle.decimal_input.specs.declared.dec.Dec.{Dec}
 pub use Rattle.dis_package.specs.{begun, is_growth, is_time, kind_of, known, without_stresses}
 unfoldable pub use Rattle.dis_package.specs.{beds_of, bottom_at, bottoms_of, count_at, dis_of, frame_of, grid_of, head_of, size_at, time_of, widths}
-pub use Rattle.evt_package.specs.{area_in, evaporation_arrays}
+pub use Rattle.evt_package.specs.{evaporation_arrays}
 unfoldable pub use Rattle.evt_package.specs.{evt_of}
 pub use Rattle.list_package.specs.{Differ, Kind, first_fault, given_heads, is_left_out, no_marks, with_list}
 unfoldable pub use Rattle.list_package.specs.{cell_at, entry_at, entry_of, header_of, item_line, list_at, lists_of, new_list}
@@ -39,10 +40,10 @@ pub use Rattle.lpf_package.specs.{is_transient, nth_layer, with_properties}
 unfoldable pub use Rattle.lpf_package.specs.{contents_of, layer_at, layers_of, lpf_of, properties_of, settings_of, storage_layer}
 pub use Rattle.model_reader.specs.{needed, stress_in, stresses, where_named}
 unfoldable pub use Rattle.model_reader.specs.{bas_in, basics_tested, dis_in, lpf_in, model_of, names_in, reads, with_stresses}
-pub use Rattle.model_text.specs.{AreNames, HasFlow, HasLists, HasNoEvaporation, HasNoRecharge, IsBasic, IsDiscretized, IsDry, IsEntry, IsEvaporating}
-pub use Rattle.model_text.specs.{IsFileName, IsGridWithin, IsLayers, IsListOf, IsOfBeds, IsRecharged, IsStill, IsWritable, ListPackagesReadAsWritten}
-pub use Rattle.model_text.specs.{ListsReadAsWritten, deck_name, deck_names, each_layer, file_type, file_unit, has, heads_of, is_listed, layer_values, lines_of}
-pub use Rattle.model_text.specs.{name_file, numbers_of, package_file, packages, steady_word, storage_option, with_areas, with_lists}
+pub use Rattle.model_text.specs.{AreNames, HasFlow, HasLists, HasPackage, IsBasic, IsDiscretized, IsEntry, IsFileName, IsGridWithin, IsLayers, IsListOf}
+pub use Rattle.model_text.specs.{IsOfBeds, IsWritable, LacksPackage, ListPackagesReadAsWritten, ListsReadAsWritten, deck_name, deck_names, each_layer}
+pub use Rattle.model_text.specs.{file_type, file_unit, has, heads_of, is_listed, layer_values, lines_of, name_file, numbers_of, package_file, packages}
+pub use Rattle.model_text.specs.{steady_word, storage_option, with_areas, with_lists}
 unfoldable pub use Rattle.model_text.specs.{bas_item_1, bas_item_2, bas_item_3, bas_item_4, bas_lines, dis_item_1, dis_item_2, dis_item_3, dis_item_4}
 unfoldable pub use Rattle.model_text.specs.{dis_item_5, dis_item_6, dis_item_7, dis_lines, evt_item_2, evt_items, evt_lines, list_item_2, list_item_5}
 unfoldable pub use Rattle.model_text.specs.{list_item_6, list_lines, lpf_arrays, lpf_item_1, lpf_item_4, lpf_item_5, lpf_lines, lpf_zeros, name_item}
@@ -67,9 +68,11 @@ unfoldable pub use Rattle.number_limits.specs.{is_at_least, is_at_most}
 pub use Rattle.outside.specs.{File, FileSet, bytes_under, file_at, folder_name, with_limit, words}
 unfoldable pub use Rattle.outside.specs.{is_good_name}
 pub use Rattle.outside.specs.declared.inputs.Refusal.{Refusal}
-pub use Rattle.period_arrays.specs.{ArrayKind, IsReals, IsWhole, array_or, contents, flag_if, is_layer, is_option, layer_step, nothing_yet, unit_if, with_area}
+pub use Rattle.period_arrays.specs.{ArrayKind, HasArrays, IsReals, IsWhole, array_or, contents, flag_if, is_layer, is_option, layer_step, no_area, nothing_yet}
+pub use Rattle.period_arrays.specs.{unit_if, with_area}
 unfoldable pub use Rattle.period_arrays.specs.{area_at, arrays_in, arrays_of, flag_at, flags_of, layers_at, layers_tested, option_at, option_line, period_at}
 unfoldable pub use Rattle.period_arrays.specs.{periods_of, tested_area}
+pub use Rattle.period_arrays.specs.declared.area.Area.{Area}
 pub use Rattle.record_lines.specs.{Left, Numbered, beginning, begins_with, is_comment, is_word, left_from, next_number, without_comments, ◌>>=◌}
 unfoldable pub use Rattle.record_lines.specs.{appended, counted, for_each, name_at, repeated, word_at}
 pub use Rattle.stress_packages.specs.{drains, generals, recharge_arrays, rivers, wells}

@@ -61,7 +61,7 @@ numbers_read : (file : List ℕ) (line : ℕ) (ds : List Dec) → All IsDec ds �
 unfolding repeated
 numbers_read file line [] h = refl
 numbers_read file line (d ∷ ds) h =
-    rw (number_item file line d (map number_word ds) (All-head (λ x. IsDec x) d ds h), numbers_read file line ds (All-tail (λ x. IsDec x) d ds h)) refl
+    rw (number_item file line d (All-head (λ x. IsDec x) d ds h), numbers_read file line ds (All-tail (λ x. IsDec x) d ds h)) refl
 
 module _ {E : Type 0} (kind : Kind E) (cell : E → ℕ) (numbers : E → List Dec) (w : WritesNumbers kind cell numbers) (g : Grid) (h : HasSize g) where
   abbrev IsGood : E → Type 0
@@ -83,19 +83,8 @@ module _ {E : Type 0} (kind : Kind E) (cell : E → ℕ) (numbers : E → List D
   made_reads file line marks at c low count canonical passes free =
       let few = small at.0 low in
       let ws = map number_word (numbers (kind.entry at c)) in
-      let k = decimal_item file line (layer_of g at.0 + 1) (decimal (row_of g at.0 + 1) ∷ decimal (column_of g at.0 + 1) ∷ ws) few.0 in
-      let i = decimal_item file line (row_of g at.0 + 1) (decimal (column_of g at.0 + 1) ∷ ws) few.1 in
-      let j = decimal_item file line (column_of g at.0 + 1) ws few.2 in
       let read : repeated (length kind.columns) (number_at number file line) ws ≡ Ok (c, []) = rw (w.numbers_are at c count, ← count) (numbers_read file line c canonical) in
-      rw (k, i, j, read, cell_reads g h file line at low, passes, free) refl
-
-  entry_reads : (file : List ℕ) (line : ℕ) (marks : List Bool) (x : E) → IsGood x → get_or marks (kind.place x) false ≡ false
-      → entry_of kind file line g marks (entry_line x) ≡ Ok (x, record { 0 = kind.place x })
-  entry_reads file line marks =
-      for_good (λ x. get_or marks (kind.place x) false ≡ false → entry_of kind file line g marks (entry_line x) ≡ Ok (x, record { 0 = kind.place x }))
-      (λ at c low count canonical passes free.
-      let unmarked : get_or marks at.0 false ≡ false = rw (w.place_is at c) at free in
-      rw (w.cell_is at c, w.place_is at c) (made_reads file line marks at c low count canonical passes unmarked))
+      rw (decimal_item file line (layer_of g at.0 + 1) few.0, decimal_item file line (row_of g at.0 + 1) few.1, decimal_item file line (column_of g at.0 + 1) few.2, read, cell_reads g h file line at low, passes, free) refl
 
   made_is_line : (at : CellId) (c : List Dec) → at.0 < cell_count g → length c ≡ length kind.columns → All IsDec c → IsLine (list_item_6 g at.0 (numbers (kind.entry at c)))
   unfolding list_item_6
@@ -107,21 +96,19 @@ module _ {E : Type 0} (kind : Kind E) (cell : E → ℕ) (numbers : E → List D
       let front = All-from_recursion (λ v. IsWord v) (map decimal (place g at.0)) (count_is_word (layer_of g at.0 + 1) few.0, (count_is_word (row_of g at.0 + 1) few.1, (count_is_word (column_of g at.0 + 1) few.2, tt))) in
       record { some = omega arith; words = All-append (λ v. IsWord v) (map decimal (place g at.0)) (map number_word ds) front back }
 
-  pub entry_is_line : (x : E) → IsGood x → IsLine (entry_line x)
-  entry_is_line = for_good (λ x. IsLine (entry_line x)) (λ at c low count canonical passes. rw (w.cell_is at c) (made_is_line at c low count canonical))
-
   left_out : (cell : ℕ) (ds : List Dec) → cell < cell_count g → is_left_out (list_item_6 g cell ds) ≡ false
   unfolding list_item_6
   left_out cell ds low = is_entry (layer_of g cell + 1) (decimal (row_of g cell + 1) ∷ decimal (column_of g cell + 1) ∷ map number_word ds) (small cell low).0
 
-  cell_inside : (x : E) → IsGood x → cell x < cell_count g
-  cell_inside = for_good (λ x. cell x < cell_count g) (λ at c low count canonical passes. rw (w.cell_is at c) low)
-
   entry_takes : (file : List ℕ) (marks : List Bool) (x : E) → IsGood x → get_or marks (kind.place x) false ≡ false
       → Takes (λ left. entry_at kind file g (marks, left)) (entry_line x ∷ []) (λ left. (x, (set marks (kind.place x) true, left)))
   unfolding entry_at
-  entry_takes file marks x good free =
-      line_takes _ file (entry_is_line x good) (λ n e. rw (e, left_out (cell x) (numbers x) (cell_inside x good), entry_reads file n marks x good free) takes_none)
+  entry_takes file marks =
+      for_good (λ x. get_or marks (kind.place x) false ≡ false → Takes (λ left. entry_at kind file g (marks, left)) (entry_line x ∷ []) (λ left. (x, (set marks (kind.place x) true, left))))
+      (λ at c low count canonical passes free.
+      let unmarked : get_or marks at.0 false ≡ false = rw (w.place_is at c) at free in
+      rw (w.cell_is at c, w.place_is at c) (line_takes _ file (made_is_line at c low count canonical)
+      (λ n e. rw (e, left_out at.0 (numbers (kind.entry at c)) low, made_reads file n marks at c low count canonical passes unmarked) takes_none)))
 
   entries_take : (file : List ℕ) (marks : List Bool) (xs : List E) → All IsGood xs → AreFree kind marks xs
       → Takes (λ left. repeated (length xs) (entry_at kind file g) (marks, left)) (map entry_line xs) (λ left. (xs, (marks_after kind marks xs, left)))

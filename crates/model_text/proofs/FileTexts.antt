@@ -2,8 +2,8 @@
 use Rattle.model_text.proofs.Common.{◌≡◌, ℕ, ◌≤◌, ◌==◌, Bool, true, false, nat_le, List, [], ◌∷◌, length, map, filter, All, Option, Some, Ok, refl, sym, ap}
 use Rattle.model_text.proofs.Common.{◌∙◌, arith, list_any, All-head, All-tail, nat_tests, File, bytes_under, file_at, folder_name, is_same_package, Package}
 use Rattle.model_text.proofs.Common.{FlowModel, text, packages, name_item, IsFileName, AreNames, has, lines_of, package_file, name_file, written, with_limit}
-use Rattle.model_text.proofs.Common.{is_same, is_itself, not, cond, None, list_all, and_parts, not-true, All-nil, All-cons, Dis, word_by_test, deck_name}
-use Rattle.model_text.proofs.Common.{deck_names}
+use Rattle.model_text.proofs.Common.{is_itself, not, cond, None, list_all, not-true, Dis, word_by_test, deck_name, deck_names, all_pass}
+use Rattle.model_text.proofs.PackageTexts.{item_found}
 use Rattle.std.specs.Str.{bytes_eq}
 use Rattle.std.proofs.lemmas.Slice.Eq.{bytes_eq-Decides}
 
@@ -47,34 +47,17 @@ small_file most w bytes files name small e =
     rw (plain_name w name.plain, e, test) refl
 
 module _ (m : FlowModel) (names : Package → List ℕ) (name : List ℕ) (h : AreNames names name) where
-  abbrev IsFound : Package → List Package → Type 0
-  IsFound asked ks = bytes_under (names asked) (map (package_file m names) (filter (has m) ks)) ≡ Some (text (lines_of m asked))
-
   package_bytes : (asked : Package) → has m asked ≡ true → (ks : List Package) → list_any (λ k. is_same_package asked k) ks ≡ true
-      → IsFound asked ks
-  package_bytes asked is_in [] there = absurd (cc)
-  package_bytes asked is_in (k ∷ ks) there = by_case (λ later. package_bytes asked is_in ks later) (is_same_package asked k) refl
+      → bytes_under (names asked) (map (package_file m names) (filter (has m) ks)) ≡ Some (text (lines_of m asked))
+  package_bytes asked = item_found (has m) (package_file m names) (bytes_under (names asked)) asked (text (lines_of m asked)) (λ fs. rw (same_bytes (names asked)) refl)
+      (λ k e fs. rw (other_bytes (names asked) (names k) (differ k e)) refl)
     where
-      first : (j : Package) → asked ≡ j → IsFound asked (j ∷ ks)
-      first j e = rw (← e, is_in, same_bytes (names asked)) refl
-
-      by_case : (list_any (λ j. is_same_package asked j) ks ≡ true → IsFound asked ks) → (b : Bool) → is_same_package asked k ≡ b → IsFound asked (k ∷ ks)
-      by_case rest true e = first k (is_same asked k e)
-      by_case rest false e = further (has m k) refl
-        where
-          later : list_any (λ j. is_same_package asked j) ks ≡ true
-          later = rw e at there
-
-          differ : names asked ≡ names k → ⊥
-          differ same =
-              let is : asked ≡ k = h.distinct asked k same in
-              let itself : is_same_package asked k ≡ true = rw is (is_itself k) in
-              let clash : true ≡ false = sym itself ∙ e in
-              cc
-
-          further : (b : Bool) → has m k ≡ b → IsFound asked (k ∷ ks)
-          further true f = rw (f, other_bytes (names asked) (names k) differ) (rest later)
-          further false f = rw f (rest later)
+      differ : (k : Package) → is_same_package asked k ≡ false → names asked ≡ names k → ⊥
+      differ k e same =
+          let is : asked ≡ k = h.distinct asked k same in
+          let itself : is_same_package asked k ≡ true = rw is (is_itself k) in
+          let clash : true ≡ false = sym itself ∙ e in
+          cc
 
   pub name_file_there : (most : ℕ) → All (λ f. length f.bytes ≤ most) (written m names name)
       → file_at (with_limit most (written m names name)) name ≡ Ok (text (map (name_item names) (filter (has m) packages)))
@@ -94,12 +77,8 @@ module _ (m : FlowModel) (names : Package → List ℕ) (name : List ℕ) (h : A
 
 -- The names of the files of a deck are good names.
 -- a name without a backslash
-pub all_plain : (w : List ℕ) → list_all (λ b. not (b == 92)) w ≡ true → All (λ b. b ≡ 92 → ⊥) w
-all_plain [] h = All-nil (λ b. b ≡ 92 → ⊥)
-all_plain (x ∷ w) h =
-    let p = and_parts (not (x == 92)) (list_all (λ b. not (b == 92)) w) h in
-    let other : x ≡ 92 → ⊥ = λ e. apart x (not-true (x == 92) p.0) e in
-    All-cons (λ b. b ≡ 92 → ⊥) x w other (all_plain w p.1)
+all_plain : (w : List ℕ) → list_all (λ b. not (b == 92)) w ≡ true → All (λ b. b ≡ 92 → ⊥) w
+all_plain w h = all_pass (λ b. not (b == 92)) (λ b. b ≡ 92 → ⊥) (λ b e. apart b (not-true (b == 92) e)) w h
   where
     apart : (x : ℕ) → (x == 92) ≡ false → x ≡ 92 → ⊥
     apart x e same = grind (arith, nat_tests)

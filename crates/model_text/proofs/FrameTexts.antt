@@ -12,21 +12,21 @@ use Rattle.std.specs.Char.{to_ascii_lowercase}
 
 -- Counts in lines.
 -- the words of numbers are read where they stand
-pub number_item : (file : List ℕ) (line : ℕ) (d : Dec) (ws : Line) → IsDec d → number_at number file line (number_word d ∷ ws) ≡ Ok (d, ws)
+pub number_item : (file : List ℕ) (line : ℕ) (d : Dec) → IsDec d → (ws : Line) → number_at number file line (number_word d ∷ ws) ≡ Ok (d, ws)
 unfolding number_at
-number_item file line d ws h = rw (number_reads d h) refl
+number_item file line d h ws = rw (number_reads d h) refl
 
-pub integer_item : (file : List ℕ) (line : ℕ) (z : ℤ) (ws : Line) → IsShort z → number_at integer file line (integer_word z ∷ ws) ≡ Ok (z, ws)
+pub integer_item : (file : List ℕ) (line : ℕ) (z : ℤ) → IsShort z → (ws : Line) → number_at integer file line (integer_word z ∷ ws) ≡ Ok (z, ws)
 unfolding number_at
-integer_item file line z ws h = rw (integer_reads z h) refl
+integer_item file line z h ws = rw (integer_reads z h) refl
 
 pub decimal_reads : (n : ℕ) → n < 10 ^ 18 → integer (decimal n) ≡ Ok (pos n)
 unfolding integer_word
 decimal_reads n h = integer_reads (pos n) (record { few = h })
 
-pub decimal_item : (file : List ℕ) (line n : ℕ) (ws : Line) → n < 10 ^ 18 → number_at integer file line (decimal n ∷ ws) ≡ Ok (pos n, ws)
+pub decimal_item : (file : List ℕ) (line n : ℕ) → n < 10 ^ 18 → (ws : Line) → number_at integer file line (decimal n ∷ ws) ≡ Ok (pos n, ws)
 unfolding number_at
-decimal_item file line n ws h = rw (decimal_reads n h) refl
+decimal_item file line n h ws = rw (decimal_reads n h) refl
 
 pub is_within : (n limit : ℕ) → 1 ≤ n → n ≤ limit → within (pos n) limit ≡ Some n
 is_within n limit some few =
@@ -34,11 +34,9 @@ is_within n limit some few =
     let high : nat_le n limit ≡ true = grind (arith, nat_tests) in
     rw (low, high) refl
 
-pub count_reads : (file : List ℕ) (line limit n : ℕ) (ws : Line) → 1 ≤ n → n ≤ limit → limit < 10 ^ 18 → count_at file line limit (decimal n ∷ ws) ≡ Ok (n, ws)
+pub count_reads : (file : List ℕ) (line limit n : ℕ) → 1 ≤ n → n ≤ limit → limit < 10 ^ 18 → (ws : Line) → count_at file line limit (decimal n ∷ ws) ≡ Ok (n, ws)
 unfolding count_at
-count_reads file line limit n ws some few small =
-    let short : n < 10 ^ 18 = omega arith in
-    rw (decimal_item file line n ws short, is_within n limit some few) refl
+count_reads file line limit n some few small ws = rw (decimal_item file line n (omega arith), is_within n limit some few) refl
 
 -- the word 0, as an integer and as a number
 pub zero_item : (file : List ℕ) (line : ℕ) (ws : Line) → number_at integer file line (codes "0" ∷ ws) ≡ Ok (pos 0, ws)
@@ -57,12 +55,15 @@ frame_reads limits file line m h w =
     let g = m.grid in
     let s : HasSize g = h.grid.size in
     let few : nat_le (g.layers * (g.rows * g.cols)) (most_cells limits) ≡ true = grind (arith, nat_tests, w.cells) in
-    let cols_word = count_reads file line (most_in_row limits) g.cols (decimal (length m.periods) ∷ codes "0" ∷ integer_word m.lenuni ∷ []) s.cols.0 w.cols (omega (arith, in_row_few limits)) in
-    let rows_word = count_reads file line (most_in_row limits) g.rows (decimal g.cols ∷ decimal (length m.periods) ∷ codes "0" ∷ integer_word m.lenuni ∷ []) s.rows.0 w.rows (omega (arith, in_row_few limits)) in
-    let layers_word = count_reads file line (most_layers limits) g.layers (decimal g.rows ∷ decimal g.cols ∷ decimal (length m.periods) ∷ codes "0" ∷ integer_word m.lenuni ∷ []) s.layers.0 w.layers (omega (arith, layers_few limits)) in
-    let periods_word = count_reads file line 1000 (length m.periods) (codes "0" ∷ integer_word m.lenuni ∷ []) h.some h.few (omega arith) in
-    let itmuni = zero_item file line (integer_word m.lenuni ∷ []) in
-    rw (layers_word, rows_word, cols_word, few, periods_word, itmuni, integer_item file line m.lenuni [] h.lenuni) refl
+    rw (
+      count_reads file line (most_layers limits) g.layers s.layers.0 w.layers (omega (arith, layers_few limits)),
+      count_reads file line (most_in_row limits) g.rows s.rows.0 w.rows (omega (arith, in_row_few limits)),
+      count_reads file line (most_in_row limits) g.cols s.cols.0 w.cols (omega (arith, in_row_few limits)),
+      few,
+      count_reads file line 1000 (length m.periods) h.some h.few (omega arith),
+      zero_item file line,
+      integer_item file line m.lenuni h.lenuni,
+    ) refl
 
 -- a reading of one value begins on the next line
 value_begins : (file : List ℕ) (n : ℕ) (line : Line) (others : List Line) → All (λ w. IsWord w) line

@@ -1,25 +1,18 @@
 -- DIS items 3 to 6 are read as written.
-use Rattle.model_text.proofs.Common.{◌≡◌, ℕ, ◌+◌, ◌*◌, ◌<◌, ◌≤◌, Bool, true, false, if◌then◌else◌, List, [], ◌∷◌, ◌++◌, length, take, replicate, nat_lt, All}
-use Rattle.model_text.proofs.Common.{refl, arith, list_all, All-head, All-tail, All-weaker, nat_tests, Dec, IsDec, FileSet, real, real_layer, Grid, layer_size}
-use Rattle.model_text.proofs.Common.{cell_count, HasSize, IsGrid, int_at, is_nonzero, no_number, IsPositive, is_positive, layer_or, number_word, real_array}
-use Rattle.model_text.proofs.Common.{one, real_one, reals_written, arrays, layer_values, each_layer, dis_item_3, dis_item_4, dis_item_5, dis_item_6, IsOfBeds}
-use Rattle.model_text.proofs.Common.{zero, suc, ◌-◌, drop, ap, ◌∙◌, length-drop, length-take-le, take_all, All-take, All-drop, array_takes, Takes, takes_none}
-use Rattle.model_text.proofs.Common.{takes_where, then_takes, last_takes, counted_take, widths, bottom_at, bottoms_of, grid_of}
+use Rattle.model_text.proofs.Common.{◌≡◌, ℕ, ◌+◌, ◌*◌, ◌<◌, ◌≤◌, Bool, true, false, if◌then◌else◌, List, [], ◌++◌, length, take, replicate, nat_lt, All, refl}
+use Rattle.model_text.proofs.Common.{arith, list_all, All-weaker, nat_tests, Dec, IsDec, FileSet, real, real_layer, Grid, layer_size, cell_count, HasSize}
+use Rattle.model_text.proofs.Common.{IsGrid, int_at, is_nonzero, no_number, IsPositive, is_positive, layer_or, number_word, real_array, one, real_one}
+use Rattle.model_text.proofs.Common.{reals_written, arrays, layer_values, each_layer, dis_item_3, dis_item_4, dis_item_5, dis_item_6, IsOfBeds, ◌-◌, drop, ◌∙◌}
+use Rattle.model_text.proofs.Common.{length-drop, length-take-le, take_all, All-take, All-drop, array_takes, Takes, takes_none, takes_where, then_takes}
+use Rattle.model_text.proofs.Common.{last_takes, counted_take, widths, bottom_at, bottoms_of, grid_of, drop-take, take-append-drop, take-take}
+use Rattle.model_text.proofs.Common.{list_all-from_AllPass}
 use Rattle.dis_package.specs.declared.frame.Size.{Size}
 use Rattle.dis_package.specs.declared.bottoms.Bottoms.{Bottoms}
 use Rattle.model_text.specs.{real_layer as real_layer_lines}
 use Rattle.std.proofs.Math.Nat.{mul-le-mul_right}
 
 take_more : {X : Type 0} (a b : ℕ) (xs : List X) → take a xs ++ take b (drop a xs) ≡ take (a + b) xs
-take_more zero b xs = let e : 0 + b ≡ b = omega arith in rw e refl
-take_more {X = X} (suc a) b [] = take_none b (suc a + b)
-  where
-    take_none : (m n : ℕ) → take {A = X} m [] ≡ take n []
-    take_none zero zero = refl
-    take_none zero (suc n) = refl
-    take_none (suc m) zero = refl
-    take_none (suc m) (suc n) = refl
-take_more (suc a) b (x ∷ xs) = let e : suc a + b ≡ suc (a + b) = omega arith in rw e (ap (λ ys. x ∷ ys) (take_more a b xs))
+take_more a b xs = let low : a ≤ a + b = omega arith in rw (← take-take a (a + b) xs low, ← drop-take a b xs) (take-append-drop a (take (a + b) xs))
 
 module _ (g : Grid) where
   -- the layers above layer k, with layer k
@@ -42,8 +35,7 @@ pub is_above : (d : Dec) → IsPositive d → is_positive d ≡ true
 is_above d h = let some : nat_lt 0 d.digits ≡ true = grind (arith, nat_tests, h.positive) in rw (h.sign, some) refl
 
 all_above : (xs : List Dec) → All (λ d. IsPositive d) xs → list_all is_positive xs ≡ true
-all_above [] h = refl
-all_above (d ∷ xs) h = rw (is_above d (All-head (λ x. IsPositive x) d xs h), all_above xs (All-tail (λ x. IsPositive x) d xs h)) refl
+all_above xs h = list_all-from_AllPass is_positive xs (All-weaker (λ d. IsPositive d) (λ d. is_positive d ≡ true) is_above xs h)
 
 -- an array of widths
 widths_take : (files : FileSet) (file : List ℕ) (count : ℕ) (xs : List Dec) → 1 ≤ count → (length xs ≡ count) × All (λ d. IsPositive d) xs → Takes (widths files file count) (real_array 1 count xs) (λ left. (xs, left))

@@ -21,7 +21,7 @@ header_reads : (limits : Limits) (file : List ℕ) (line : ℕ) (listed : Bool) 
 unfolding header_of
 header_reads limits file line listed n few =
     let low : nat_le n (most_entries limits) ≡ true = grind (arith, nat_tests) in
-    rw (decimal_item file line n (codes "0" ∷ []) (omega (arith, entries_few limits)), low) refl
+    rw (decimal_item file line n (omega (arith, entries_few limits)), low) refl
 
 greatest : (a : ℕ) (ns : List ℕ) (limit : ℕ) → a ≤ limit → All (λ n. n ≤ limit) ns → fold max a ns ≤ limit
 greatest a [] limit h all = h
@@ -69,7 +69,7 @@ module _ {E : Type 0} (limits : Limits) (kind : Kind E) (cell : E → ℕ) (numb
       let plain : is_word (codes "PARAMETER") (decimal most) ≡ false = no_keyword 80 (drop 1 (codes "PARAMETER")) most small (omega arith) in
       let whole : Takes (λ left. item_line file left >>= λ line. number_at integer file line.0.number (words line.0.bytes) >>= λ count. periods_of limits kind file g ps line.1)
       ((decimal most ∷ codes "0" ∷ []) ∷ flat_map lines_of lists) (λ left. with_lists kind ps lists) =
-      item_takes _ file (counts_are_line most small) plain (λ n e. rw (e, decimal_item file n most (codes "0" ∷ []) small) (periods_take ps lists good)) in
+      item_takes _ file (counts_are_line most small) plain (λ n e. rw (e, decimal_item file n most small) (periods_take ps lists good)) in
       whole_file item whole
 
 -- The numbers of WEL, RIV, DRN, GHB and CHD are written as they were read, and so their files are read as written.

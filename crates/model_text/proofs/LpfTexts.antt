@@ -2,9 +2,9 @@
 use Rattle.model_text.proofs.Common.{◌≡◌, ℕ, ◌+◌, ◌*◌, ◌<◌, Bool, true, false, not, ◌||◌, List, [], ◌∷◌, length, map, take, Ok, refl, sym, ap, ◌∙◌, arith}
 use Rattle.model_text.proofs.Common.{codes, take_all, FileSet, is_comment, FlowModel, Period, layer_size, int_at, is_nonzero, without_stresses, is_transient}
 use Rattle.model_text.proofs.Common.{with_properties, contents_of, lpf_of, layer_at, layers_of, line_text, text, each_layer, storage_option, lpf_item_1}
-use Rattle.model_text.proofs.Common.{lpf_arrays, lpf_lines, IsDiscretized, HasFlow, zero, suc, if◌then◌else◌, drop, replicate, get_or-replicate}
-use Rattle.model_text.proofs.Common.{nil_from_length, Dec, dec_at, no_number, storage_layer, properties_of, nth_layer, layer_values, Takes, takes_none}
-use Rattle.model_text.proofs.Common.{takes_where, then_takes, last_takes, counted_take}
+use Rattle.model_text.proofs.Common.{lpf_arrays, lpf_lines, IsDiscretized, HasFlow, if◌then◌else◌, replicate, get_or-replicate, nil_from_length, Dec, dec_at}
+use Rattle.model_text.proofs.Common.{no_number, storage_layer, properties_of, nth_layer, layer_values, Takes, takes_none, drop_all, takes_where, then_takes}
+use Rattle.model_text.proofs.Common.{last_takes, counted_take}
 use Rattle.model_text.proofs.GridTexts.{one_more_layer, all_layers, layer_takes, layer_or_takes}
 use Rattle.model_text.proofs.DisTexts.{line_is_item, file_takes}
 use Rattle.model_text.proofs.SettingTexts.{settings_take, option_takes, minus_one}
@@ -12,14 +12,6 @@ use Rattle.lpf_package.specs.declared.layer.Properties.{Properties}
 use Rattle.model_text.specs.{real_layer}
 
 -- LPF items 10 to 15 of a layer are read as written.
-take_none : {X : Type 0} (n : ℕ) → take {A = X} n [] ≡ []
-take_none zero = refl
-take_none (suc n) = refl
-
-drop_none : {X : Type 0} (n : ℕ) → drop {A = X} n [] ≡ []
-drop_none zero = refl
-drop_none (suc n) = refl
-
 module _ (files : FileSet) (file : List ℕ) (m : FlowModel) (d : IsDiscretized m) (f : HasFlow m) where
   abbrev pub transient : Bool
   transient = is_transient m.periods
@@ -34,30 +26,17 @@ module _ (files : FileSet) (file : List ℕ) (m : FlowModel) (d : IsDiscretized 
   unfolding storage_layer
   storage_takes k low =
       takes_where transient (λ e. layer_takes files file m.grid d.grid.size m.ss (rw e at f.ss.0, f.ss.1) k low)
-      (λ e. rw (no_storage e, drop_none (k * layer_size m.grid), take_none (layer_size m.grid)) takes_none)
+      (λ e. rw (no_storage e, drop_all {X = Dec} (k * layer_size m.grid) [] (omega arith), take_all {A = Dec} (layer_size m.grid) [] (omega arith)) takes_none)
 
-  -- the properties of the layers above layer k, and those of layer k
-  abbrev pub above : ℕ → Properties
-  above k =
-      record {
-        hk = take (k * layer_size m.grid) m.hk;
-        hani = take (k * layer_size m.grid) m.hani;
-        vka = take (k * layer_size m.grid) m.vka;
-        ss = take (k * layer_size m.grid) m.ss;
-        vkcb = take (k * layer_size m.grid) m.vkcb;
-      }
+  -- what is made of each array of properties
+  abbrev made : (List Dec → List Dec) → Properties
+  made f = record { hk = f m.hk; hani = f m.hani; vka = f m.vka; ss = f m.ss; vkcb = f m.vkcb }
 
-  abbrev pub layer : ℕ → Properties
-  layer k =
-      record {
-        hk = layer_values m.grid k m.hk;
-        hani = layer_values m.grid k m.hani;
-        vka = layer_values m.grid k m.vka;
-        ss = layer_values m.grid k m.ss;
-        vkcb = layer_values m.grid k m.vkcb;
-      }
+  -- the properties of the layers above layer k
+  abbrev above : ℕ → Properties
+  above k = made (λ xs. take (k * layer_size m.grid) xs)
 
-  arrays_take : (k : ℕ) → k < m.grid.layers → Takes (properties_of files file (nth_layer m.grid chani transient k)) (lpf_arrays m k) (λ left. (layer k, left))
+  arrays_take : (k : ℕ) → k < m.grid.layers → Takes (properties_of files file (nth_layer m.grid chani transient k)) (lpf_arrays m k) (λ left. (made (layer_values m.grid k), left))
   unfolding properties_of lpf_arrays
   arrays_take k low =
       let g = m.grid in
@@ -78,7 +57,7 @@ module _ (files : FileSet) (file : List ℕ) (m : FlowModel) (d : IsDiscretized 
   all_storage true e = all_layers m.grid m.ss (rw e at f.ss.0)
   all_storage false e = take_all (m.grid.layers * layer_size m.grid) m.ss (let none : length m.ss ≡ 0 = rw e at f.ss.0 in omega arith)
 
-  layers_take : Takes (layers_of files file m.grid chani transient m.grid.layers) (each_layer m.grid (lpf_arrays m)) (λ left. (record { hk = m.hk; hani = m.hani; vka = m.vka; ss = m.ss; vkcb = m.vkcb }, left))
+  layers_take : Takes (layers_of files file m.grid chani transient m.grid.layers) (each_layer m.grid (lpf_arrays m)) (λ left. (made (λ xs. xs), left))
   unfolding layers_of
   layers_take =
       let g = m.grid in

@@ -2,17 +2,20 @@
 use Rattle.model_text.proofs.Common.{with_limit, ◌≡◌, ℕ, ◌≤◌, pos, Bool, true, false, if◌then◌else◌, List, [], ◌∷◌, length, map, All, Some, None, Ok, refl, ap}
 use Rattle.model_text.proofs.Common.{list_any, FileSet, file_at, Pairs, is_same_package, file_of, Package, Dis, Bas, Lpf, Wel, Riv, Drn, Ghb, Rch, Chd, Evt}
 use Rattle.model_text.proofs.Common.{FlowModel, Period, HasSize, stress_in, stresses, with_stresses, text, numbers_of, heads_of, packages, AreNames, has}
-use Rattle.model_text.proofs.Common.{lines_of, written, IsWritable, IsDry, IsStill, Limits, cell_of, begun, without_stresses, with_basics, wells, rivers}
-use Rattle.model_text.proofs.Common.{drains, generals, given_heads, names_in, needed, dis_in, basics_tested, bas_in, lpf_in, model_of, reads}
+use Rattle.model_text.proofs.Common.{lines_of, written, IsWritable, Limits, recharge_arrays, evaporation_arrays, rch_lines, evt_lines, rch_of, evt_of}
+use Rattle.model_text.proofs.Common.{length-map, cell_of, begun, without_stresses, with_basics, wells, rivers, drains, generals, given_heads, names_in, needed}
+use Rattle.model_text.proofs.Common.{dis_in, basics_tested, bas_in, lpf_in, model_of, reads}
 use Rattle.model_text.proofs.DisTexts.{dis_reads}
 use Rattle.cell_checks.specs.{checked, fault_at}
 use Rattle.cell_checks.specs.declared.passing.Check.TheVariants.{Thickness, StartHead, Properties}
+use Rattle.model_reader.proofs.CheckForms.{checks_kept}
 use Rattle.model_text.proofs.BasTexts.{bas_reads}
 use Rattle.model_text.proofs.LpfTexts.{lpf_reads}
 use Rattle.model_text.proofs.ListTexts.{list_packages}
 use Rattle.model_text.proofs.NameTexts.{pairs_of, absent, present, names_read}
 use Rattle.model_text.proofs.FileTexts.{name_file_there, package_file_there}
-use Rattle.model_text.proofs.StageTexts.{staged, with_list, with_recharge, with_evaporation, list_stage, recharge_stage, evaporation_stage}
+use Rattle.model_text.proofs.StageTexts.{staged, with_list, with_arrays, list_stage, arrays_stage}
+use Rattle.model_text.proofs.AreaFileTexts.{evt_reads, rch_reads}
 
 -- The periods without stresses, and then with one package more at each stage.
 abbrev with_wells : Period → Period
@@ -28,19 +31,13 @@ abbrev with_generals : Period → Period
 with_generals = with_list generals with_drains
 
 abbrev with_rain : Period → Period
-with_rain = with_recharge with_generals
+with_rain = with_arrays recharge_arrays with_generals
 
 abbrev with_given : Period → Period
 with_given = with_list given_heads with_rain
 
 abbrev with_all : Period → Period
-with_all = with_evaporation with_given
-
-dry : (p : Period) → IsDry p → with_rain p ≡ with_generals p
-dry p h = rw (h.recharge, h.irch) refl
-
-still : (p : Period) → IsStill p → with_all p ≡ with_given p
-still p h = rw (h.surf, h.evtr, h.exdp, h.ievt) refl
+with_all = with_arrays evaporation_arrays with_given
 
 all_back : (ps : List Period) → map with_all ps ≡ ps
 all_back [] = refl
@@ -57,10 +54,6 @@ thickness_kept m file = refl
 heads_kept : (m : FlowModel) (file : List ℕ) → checked (basic_part m) file StartHead ≡ checked m file StartHead
 unfolding checked fault_at
 heads_kept m file = refl
-
-properties_kept : (m : FlowModel) (file : List ℕ) → checked (staged m (pos 0) (pos 0) without_stresses) file Properties ≡ checked m file Properties
-unfolding checked fault_at
-properties_kept m file = refl
 
 bare_twice : (ps : List Period) → map without_stresses (map without_stresses ps) ≡ map without_stresses ps
 bare_twice [] = refl
@@ -94,7 +87,7 @@ module _ (limits : Limits) (m : FlowModel) (w : IsWritable limits m) (names : Pa
   unfolding lpf_in
   lpf_there =
       let read = lpf_reads files (names Lpf) m w.discretization w.flow (basic_part m) refl (bare_twice m.periods) in
-      rw (there Lpf refl, read, properties_kept m (names Lpf), w.passed Properties (names Lpf)) refl
+      rw (there Lpf refl, read, checks_kept m (pos 0) (pos 0) (map without_stresses m.periods) Properties (names Lpf), w.passed Properties (names Lpf)) refl
 
   wells_there : stress_in limits files pairs Wel (staged m (pos 0) (pos 0) without_stresses) ≡ Ok (staged m (pos 0) (pos 0) with_wells)
   wells_there = list_stage limits wells cell_of numbers_of list_packages.wel m size w.wel files (names Wel) (pos 0) (pos 0) without_stresses (λ p xs. refl) (λ p. refl) (file_of Wel pairs) (named Wel) (there Wel)
@@ -109,14 +102,18 @@ module _ (limits : Limits) (m : FlowModel) (w : IsWritable limits m) (names : Pa
   generals_there = list_stage limits generals cell_of numbers_of list_packages.ghb m size w.ghb files (names Ghb) (pos 0) (pos 0) with_drains (λ p xs. refl) (λ p. refl) (file_of Ghb pairs) (named Ghb) (there Ghb)
 
   rain_there : stress_in limits files pairs Rch (staged m (pos 0) (pos 0) with_generals) ≡ Ok (staged m m.nrchop (pos 0) with_rain)
-  rain_there = recharge_stage m size files (names Rch) with_generals (file_of Rch pairs) w.rch dry (named Rch) (there Rch)
+  rain_there =
+      arrays_stage recharge_arrays m m.nrchop files (names Rch) (rch_lines m) (rch_of files) (λ z ps. record m { nrchop = z; nevtop = pos 0; periods = ps }) with_generals (λ p. refl)
+      (λ h. rch_reads files (names Rch) m size h (staged m (pos 0) (pos 0) with_generals) refl (length-map m.periods with_generals)) (file_of Rch pairs) w.rch (named Rch) (there Rch)
 
   given_there : stress_in limits files pairs Chd (staged m m.nrchop (pos 0) with_rain) ≡ Ok (staged m m.nrchop (pos 0) with_given)
   given_there =
       list_stage limits given_heads (λ x. x.cell.0) heads_of list_packages.chd m size w.chd files (names Chd) m.nrchop (pos 0) with_rain (λ p xs. refl) (λ p. refl) (file_of Chd pairs) (named Chd) (there Chd)
 
   all_there : stress_in limits files pairs Evt (staged m m.nrchop (pos 0) with_given) ≡ Ok (staged m m.nrchop m.nevtop with_all)
-  all_there = evaporation_stage m size files (names Evt) with_given (file_of Evt pairs) w.evt still (named Evt) (there Evt)
+  all_there =
+      arrays_stage evaporation_arrays m m.nevtop files (names Evt) (evt_lines m) (evt_of files) (λ z ps. record m { nevtop = z; periods = ps }) with_given (λ p. refl)
+      (λ h. evt_reads files (names Evt) m size h (staged m m.nrchop (pos 0) with_given) refl refl (length-map m.periods with_given)) (file_of Evt pairs) w.evt (named Evt) (there Evt)
 
   stresses_there : with_stresses limits files pairs stresses (staged m (pos 0) (pos 0) without_stresses) ≡ Ok m
   unfolding with_stresses

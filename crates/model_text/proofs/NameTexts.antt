@@ -1,22 +1,20 @@
 -- The name file is read as written.
 use Rattle.model_text.proofs.Common.{◌≡◌, ℕ, ◌≤◌, Bool, true, false, nat_le, ◌&&◌, List, [], ◌∷◌, ◌++◌, append_assoc, length, map, filter, All, Some, None, Ok}
-use Rattle.model_text.proofs.Common.{refl, arith, list_all, list_any, append-nil, All-nil, All-cons, All-head, All-tail, All-from_recursion, nat_tests}
-use Rattle.model_text.proofs.Common.{is_good_name, next_number, Pairs, is_same_package, file_of, has_package, file_in, after_package, after_line, after_lines}
-use Rattle.model_text.proofs.Common.{names_of, Package, Dis, Bas, Lpf, IsWord, IsWordByte, Line, IsLine, line_text, text, numbered_lines, unread, packages}
-use Rattle.model_text.proofs.Common.{file_type, file_unit, name_item, IsFileName, AreNames, is_same, is_itself, word_at, name_at, line_words, text_left}
+use Rattle.model_text.proofs.Common.{refl, arith, list_any, append-nil, All-nil, All-cons, All-head, All-tail, All-from_recursion, nat_tests, is_good_name}
+use Rattle.model_text.proofs.Common.{next_number, Pairs, is_same_package, file_of, has_package, file_in, after_package, after_line, after_lines, names_of}
+use Rattle.model_text.proofs.Common.{Package, Dis, Bas, Lpf, IsWord, IsWordByte, Line, IsLine, line_text, text, numbered_lines, unread, packages, file_type}
+use Rattle.model_text.proofs.Common.{file_unit, name_item, IsFileName, AreNames, is_same, is_itself, word_at, name_at, line_words, text_left, All-weaker}
+use Rattle.model_text.proofs.Common.{list_all-from_AllPass}
 use Rattle.name_file.specs.{whole}
 use Rattle.model_text.proofs.DisTexts.{line_is_item}
 use Rattle.model_text.proofs.PackageTexts.{type_is_word, unit_is_word, type_is_item, type_reads, type_is_kept, unit_is_integer, AreApart, packages_apart}
+use Rattle.model_text.proofs.PackageTexts.{item_found}
 
-good_bytes : (bs : List ℕ) → All (λ b. IsWordByte b) bs → list_all (λ b. nat_le 33 b && nat_le b 126) bs ≡ true
-good_bytes [] h = refl
-good_bytes (b ∷ bs) h =
-    let k : IsWordByte b = All-head (λ x. IsWordByte x) b bs h in
-    let at_least : 33 ≤ b = k.printable.0 in
-    let at_most : b ≤ 126 = k.printable.1 in
-    let low : nat_le 33 b ≡ true = grind (arith, nat_tests) in
-    let high : nat_le b 126 ≡ true = grind (arith, nat_tests) in
-    rw (low, high) (good_bytes bs (All-tail (λ x. IsWordByte x) b bs h))
+good_byte : (b : ℕ) → IsWordByte b → (nat_le 33 b && nat_le b 126) ≡ true
+good_byte b k =
+    let low : nat_le 33 b ≡ true = grind (arith, nat_tests, k.printable.0) in
+    let high : nat_le b 126 ≡ true = grind (arith, nat_tests, k.printable.1) in
+    rw (low, high) refl
 
 good_name : (w : List ℕ) → IsFileName w → is_good_name w ≡ true
 unfolding is_good_name
@@ -25,7 +23,7 @@ good_name w h =
     let few : length w ≤ 255 = h.few in
     let low : nat_le 1 (length w) ≡ true = grind (arith, nat_tests) in
     let high : nat_le (length w) 255 ≡ true = grind (arith, nat_tests) in
-    rw (low, high) (good_bytes w h.word.bytes)
+    rw (low, high) (list_all-from_AllPass (λ b. nat_le 33 b && nat_le b 126) w (All-weaker (λ b. IsWordByte b) (λ b. (nat_le 33 b && nat_le b 126) ≡ true) good_byte w h.word.bytes))
 
 -- A pair at the end of pairs.
 module _ (names : Package → List ℕ) where
@@ -58,23 +56,7 @@ module _ (names : Package → List ℕ) (p : Package → Bool) where
       by_case rest false e = rw e rest
 
   pub present : (asked : Package) → p asked ≡ true → (ks : List Package) → list_any (λ k. is_same_package asked k) ks ≡ true → file_of asked (pairs_of ks) ≡ Some (names asked)
-  present asked is_in [] there = absurd (cc)
-  present asked is_in (k ∷ ks) there = by_case (λ later. present asked is_in ks later) (is_same_package asked k) refl
-    where
-      first : (j : Package) → asked ≡ j → file_of asked (pairs_of (j ∷ ks)) ≡ Some (names asked)
-      first j e = rw (← e, is_in, is_itself asked) refl
-
-      by_case : (list_any (λ j. is_same_package asked j) ks ≡ true → file_of asked (pairs_of ks) ≡ Some (names asked)) → (b : Bool) → is_same_package asked k ≡ b
-          → file_of asked (pairs_of (k ∷ ks)) ≡ Some (names asked)
-      by_case rest true e = first k (is_same asked k e)
-      by_case rest false e = further (p k) refl
-        where
-          later : list_any (λ j. is_same_package asked j) ks ≡ true
-          later = rw e at there
-
-          further : (b : Bool) → p k ≡ b → file_of asked (pairs_of (k ∷ ks)) ≡ Some (names asked)
-          further true f = rw (f, e) (rest later)
-          further false f = rw f (rest later)
+  present asked = item_found p (pair names) (file_of asked) asked (names asked) (λ ps. rw (is_itself asked) refl) (λ k e ps. rw e refl)
 
 module _ (names : Package → List ℕ) (name : List ℕ) (h : AreNames names name) where
   abbrev item : Package → Line

@@ -1,7 +1,7 @@
 -- Packages: their file types and units are words that are read as the package, and two packages are the same or apart.
-use Rattle.model_text.proofs.Common.{◌≡◌, Bool, true, false, not, ◌&&◌, List, [], ◌∷◌, All, Some, refl, list_all, All-nil, All-cons, is_comment}
-use Rattle.model_text.proofs.Common.{is_same_package, is_integer, Package, Dis, IsWord, word_by_test, packages, file_type, file_unit, and_parts, package_of}
-use Rattle.model_text.proofs.Common.{is_passed_over}
+use Rattle.model_text.proofs.Common.{◌≡◌, Bool, true, false, not, ◌&&◌, List, [], ◌∷◌, All, Some, refl, list_all, is_comment, is_same_package, is_integer}
+use Rattle.model_text.proofs.Common.{Package, Dis, IsWord, word_by_test, packages, file_type, file_unit, and_parts, package_of, all_pass, not-true}
+use Rattle.model_text.proofs.Common.{is_passed_over, ◌∙◌, Option, map, filter, list_any, is_same}
 
 pub type_is_word : (k : Package) → IsWord (file_type k)
 type_is_word Dis = word_by_test (file_type Dis) refl
@@ -35,15 +35,8 @@ abbrev pub AreApart : List Package → Type 0
 AreApart [] = Unit {0}
 AreApart (k ∷ ks) = All (λ a. is_same_package a k ≡ false) ks × AreApart ks
 
-is_not : (b : Bool) → not b ≡ true → b ≡ false
-is_not true h = absurd (cc)
-is_not false h = refl
-
 others_apart : (k : Package) (ks : List Package) → list_all (λ a. not (is_same_package a k)) ks ≡ true → All (λ a. is_same_package a k ≡ false) ks
-others_apart k [] h = All-nil (λ a. is_same_package a k ≡ false)
-others_apart k (a ∷ ks) h =
-    let t = and_parts (not (is_same_package a k)) (list_all (λ b. not (is_same_package b k)) ks) h in
-    All-cons (λ b. is_same_package b k ≡ false) a ks (is_not (is_same_package a k) t.0) (others_apart k ks t.1)
+others_apart k ks h = all_pass (λ a. not (is_same_package a k)) (λ a. is_same_package a k ≡ false) (λ a. not-true (is_same_package a k)) ks h
 
 abbrev are_apart : List Package → Bool
 are_apart [] = true
@@ -55,3 +48,24 @@ tested_apart (k ∷ ks) h = let t = and_parts (list_all (λ a. not (is_same_pack
 
 pub packages_apart : AreApart packages
 packages_apart = tested_apart packages refl
+
+-- Among the items of the packages that a test keeps, a search that passes over the items of other packages finds that of the asked one.
+module _ {A V : Type 0} (keeps : Package → Bool) (item : Package → A) (look : List A → Option V) (asked : Package) (v : V)
+    (hit : (items : List A) → look (item asked ∷ items) ≡ Some v) (miss : (k : Package) → is_same_package asked k ≡ false → (items : List A) → look (item k ∷ items) ≡ look items) where
+  pub item_found : keeps asked ≡ true → (ks : List Package) → list_any (λ k. is_same_package asked k) ks ≡ true → look (map item (filter keeps ks)) ≡ Some v
+  item_found is_in [] there = absurd (cc)
+  item_found is_in (k ∷ ks) there = by_case (λ later. item_found is_in ks later) (is_same_package asked k) refl
+    where
+      first : (j : Package) → asked ≡ j → look (map item (filter keeps (j ∷ ks))) ≡ Some v
+      first j e = rw (← e, is_in) (hit (map item (filter keeps ks)))
+
+      by_case : (list_any (λ j. is_same_package asked j) ks ≡ true → look (map item (filter keeps ks)) ≡ Some v) → (b : Bool) → is_same_package asked k ≡ b → look (map item (filter keeps (k ∷ ks))) ≡ Some v
+      by_case rest true e = first k (is_same asked k e)
+      by_case rest false e = further (keeps k) refl
+        where
+          later : list_any (λ j. is_same_package asked j) ks ≡ true
+          later = rw e at there
+
+          further : (b : Bool) → keeps k ≡ b → look (map item (filter keeps (k ∷ ks))) ≡ Some v
+          further true f = rw f (miss k e (map item (filter keeps ks)) ∙ rest later)
+          further false f = rw f (rest later)

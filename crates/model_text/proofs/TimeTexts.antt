@@ -1,10 +1,9 @@
 -- DIS item 7 is read as written.
 use Rattle.model_text.proofs.Common.{◌≡◌, ℕ, ◌+◌, ◌*◌, ◌≤◌, ◌⊎◌, inl, inr, Bool, true, false, ◌||◌, List, [], ◌∷◌, length, map, nat_le, sum_by, fold, All, Ok}
-use Rattle.model_text.proofs.Common.{refl, arith, codes, decimal, All-nil, All-cons, All-head, All-tail, nat_tests, Dec, IsDec, size, Refusal, repeated, Period}
-use Rattle.model_text.proofs.Common.{is_one, without_stresses, IsWord, number_word, IsLine, short_exponent, word_by_test, number_is_word, count_is_word}
-use Rattle.model_text.proofs.Common.{steady_word, dis_item_7, is_at_most, is_at_least, kind_of, known, is_growth, is_time, time_of, Takes, takes_none}
-use Rattle.model_text.proofs.Common.{line_takes, then_takes, last_takes, IsTimed, IsGrowing, number_one, Ratio, ratio}
-use Rattle.std.proofs.lemmas.List.Sums.{sum_by_from}
+use Rattle.model_text.proofs.Common.{refl, arith, codes, decimal, All-head, All-tail, nat_tests, Dec, IsDec, size, Refusal, repeated, Period, is_one}
+use Rattle.model_text.proofs.Common.{without_stresses, IsWord, number_word, IsLine, short_exponent, word_by_test, number_is_word, count_is_word, steady_word}
+use Rattle.model_text.proofs.Common.{dis_item_7, is_at_most, is_at_least, kind_of, known, is_growth, is_time, time_of, Takes, takes_none, All-from_recursion}
+use Rattle.model_text.proofs.Common.{line_takes, then_takes, last_takes, IsTimed, IsGrowing, number_one, Ratio, ratio, sum_by_from}
 use Rattle.decimal_input.specs.Ratios.{den, AtMost}
 use Rattle.dis_package.specs.{period_at, periods_of}
 use Rattle.dis_package.specs.declared.periods.Time.{Time}
@@ -20,14 +19,11 @@ steady_is_word false = word_by_test (codes "TR") refl
 
 pub time_is_line : (p : Period) → IsTimed p → IsLine (dis_item_7 p)
 unfolding dis_item_7
-time_is_line p h =
-    let last = All-cons (λ w. IsWord w) (steady_word p.steady) [] (steady_is_word p.steady) (All-nil (λ w. IsWord w)) in
-    let third = All-cons (λ w. IsWord w) (number_word p.tsmult) (steady_word p.steady ∷ []) (canonical_word p.tsmult h.tsmult.decimal) last in
-    let second = All-cons (λ w. IsWord w) (decimal p.nstp) (number_word p.tsmult ∷ steady_word p.steady ∷ []) (count_is_word p.nstp (omega (arith, h.nstp.1))) third in
-    record {
-      some = omega arith;
-      words = All-cons (λ w. IsWord w) (number_word p.perlen) (decimal p.nstp ∷ number_word p.tsmult ∷ steady_word p.steady ∷ []) (canonical_word p.perlen h.perlen.decimal) second;
-    }
+time_is_line p h = record {
+  some = omega arith;
+  words = All-from_recursion (λ w. IsWord w) (dis_item_7 p)
+      (canonical_word p.perlen h.perlen.decimal, (count_is_word p.nstp (omega (arith, h.nstp.1)), (canonical_word p.tsmult h.tsmult.decimal, (steady_is_word p.steady, tt))));
+}
 
 abbrev time : Period → Time
 time p = record { perlen = p.perlen; nstp = p.nstp; tsmult = p.tsmult; steady = p.steady }
@@ -39,10 +35,7 @@ steady_known false r = refl
 time_reads : (file : List ℕ) (line : ℕ) (p : Period) → IsTimed p → time_of file line (dis_item_7 p) ≡ Ok (time p)
 unfolding time_of dis_item_7
 time_reads file line p h =
-    let perlen = number_item file line p.perlen (decimal p.nstp ∷ number_word p.tsmult ∷ steady_word p.steady ∷ []) h.perlen.decimal in
-    let nstp = count_reads file line 100000 p.nstp (number_word p.tsmult ∷ steady_word p.steady ∷ []) h.nstp.0 h.nstp.1 (omega arith) in
-    let tsmult = number_item file line p.tsmult (steady_word p.steady ∷ []) h.tsmult.decimal in
-    rw (perlen, nstp, tsmult, steady_known p.steady _) refl
+    rw (number_item file line p.perlen h.perlen.decimal, count_reads file line 100000 p.nstp h.nstp.0 h.nstp.1 (omega arith), number_item file line p.tsmult h.tsmult.decimal, steady_known p.steady _) refl
 
 or_true : (b : Bool) → (b || true) ≡ true
 or_true true = refl

@@ -11,7 +11,7 @@ use Rattle.stress_packages.specs.{rch_of, recharge_arrays, wells, rivers, drains
 use Rattle.evt_package.specs.{evaporation_arrays, evt_of}
 use Rattle.array_text.specs.{text}
 use Rattle.model_text.specs.Lists.{rch_lines, evt_lines, numbers_of, heads_of, list_lines}
-use Rattle.model_text.specs.Readable.{IsRecharged, IsEvaporating, with_areas, IsBasic}
+use Rattle.model_text.specs.Readable.{HasPackage, LacksPackage, with_areas, IsBasic}
 use Rattle.dis_package.specs.{IsDiscretized, IsGridWithin, begun, dis_of, without_stresses}
 use Rattle.lpf_package.specs.{HasFlow, with_properties, lpf_of}
 use Rattle.std.specs.List.{AllZip, AllPairs}
@@ -37,26 +37,6 @@ with_lists kind (p ∷ ps) (xs ∷ lists) = with_list kind p xs ∷ with_lists k
 abbrev pub HasLists : {E : Type 0} → Limits → Kind E → FlowModel → Type 0
 HasLists limits kind m = All (λ p. IsListOf limits kind (cell_count m.grid) p (kind.list p.stresses)) m.periods
 
--- a period without recharge, and one without evapotranspiration
-pub record IsDry (p : Period) : Type 0 where
-  pub recharge : p.stresses.recharge ≡ []
-  pub irch : p.stresses.irch ≡ []
-
-pub record IsStill (p : Period) : Type 0 where
-  pub surf : p.stresses.surf ≡ []
-  pub evtr : p.stresses.evtr ≡ []
-  pub exdp : p.stresses.exdp ≡ []
-  pub ievt : p.stresses.ievt ≡ []
-
--- a model without recharge, and one without evapotranspiration
-pub record HasNoRecharge (m : FlowModel) : Type 0 where
-  pub option : m.nrchop ≡ pos 0
-  pub none : All IsDry m.periods
-
-pub record HasNoEvaporation (m : FlowModel) : Type 0 where
-  pub option : m.nevtop ≡ pos 0
-  pub none : All IsStill m.periods
-
 -- each package is as its file can say it by these limits, and the cells pass the tests of thickness, starting heads and properties
 pub record IsWritable (limits : Limits) (m : FlowModel) : Type 0 where
   pub discretization : IsDiscretized m
@@ -68,9 +48,9 @@ pub record IsWritable (limits : Limits) (m : FlowModel) : Type 0 where
   pub riv : HasLists limits rivers m
   pub drn : HasLists limits drains m
   pub ghb : HasLists limits generals m
-  pub rch : IsRecharged m ⊎ HasNoRecharge m
+  pub rch : HasPackage recharge_arrays m.nrchop m ⊎ LacksPackage recharge_arrays m.nrchop m
   pub chd : HasLists limits given_heads m
-  pub evt : IsEvaporating m ⊎ HasNoEvaporation m
+  pub evt : HasPackage evaporation_arrays m.nevtop m ⊎ LacksPackage evaporation_arrays m.nevtop m
 
 -- the files of a model, of which none is too long, are read as the model by limits that it keeps
 abbrev pub ModelsReadAsWritten : Type 0
@@ -83,14 +63,14 @@ DeckNamesAreNames = AreNames deck_names deck_name
 
 -- the file of RCH gives the recharge to a model with this grid and as many periods
 abbrev pub RchReadsAsWritten : Type 0
-RchReadsAsWritten = (files : FileSet) (file : List ℕ) (m before : FlowModel) → HasSize m.grid → IsRecharged m → before.grid ≡ m.grid →
+RchReadsAsWritten = (files : FileSet) (file : List ℕ) (m before : FlowModel) → HasSize m.grid → HasPackage recharge_arrays m.nrchop m → before.grid ≡ m.grid →
     length before.periods ≡ length m.periods →
     rch_of files file (text (rch_lines m)) before ≡ Ok (record before { nrchop = m.nrchop; periods = with_areas recharge_arrays before.periods m.periods })
 
 -- the file of EVT gives the evapotranspiration to a model with this grid, this IBOUND and as many periods
 abbrev pub EvtReadsAsWritten : Type 0
-EvtReadsAsWritten = (files : FileSet) (file : List ℕ) (m before : FlowModel) → HasSize m.grid → IsEvaporating m → before.grid ≡ m.grid →
-    before.ibound ≡ m.ibound → length before.periods ≡ length m.periods →
+EvtReadsAsWritten = (files : FileSet) (file : List ℕ) (m before : FlowModel) → HasSize m.grid → HasPackage evaporation_arrays m.nevtop m →
+    before.grid ≡ m.grid → before.ibound ≡ m.ibound → length before.periods ≡ length m.periods →
     evt_of files file (text (evt_lines m)) before ≡ Ok (record before { nevtop = m.nevtop; periods = with_areas evaporation_arrays before.periods m.periods })
 
 -- a file of lists for these periods gives them these lists, by limits that they keep

@@ -1,65 +1,57 @@
 -- The files of a name file are words of it.
-use Rattle.name_file.proofs.Common.{◌≡◌, ℕ, List, [], ◌∷◌, ◌++◌, if◌then◌else◌, Option, Some, None, Ok, Err, All, Contains, IfOk, All-nil, All-push, All-head}
-use Rattle.name_file.proofs.Common.{All-tail, All-contains, folder_name, Numbered, left_from, is_comment, Pairs, has_package, is_integer, file_in}
-use Rattle.name_file.proofs.Common.{after_package, after_type, after_words, after_line, after_lines, missing, whole, names_of, Package, Dis, Bas, Lpf, WordsMay}
-use Rattle.name_file.proofs.Common.{TextMay, words, LineMay, NamesMay, package_of, is_passed_over, refusal, word_at, name_at}
-use Rattle.outside.specs.declared.codes.Code.TheVariants.{BadNameLine, DuplicatePackage}
-use Rattle.record_lines.proofs.Forward.{chain, either, given, word_held, name_held, text_held}
+use Rattle.name_file.proofs.Common.{◌≡◌, ℕ, List, [], ◌∷◌, Option, Some, None, Ok, All, Contains, All-nil, All-push, All-head, All-tail, All-contains}
+use Rattle.name_file.proofs.Common.{folder_name, Numbered, is_comment, Pairs, has_package, is_integer, file_in, after_package, after_type, after_words}
+use Rattle.name_file.proofs.Common.{after_line, after_lines, whole, names_of, Package, Dis, Bas, Lpf, WordsMay, TextMay, words, LineMay, NamesMay, package_of}
+use Rattle.name_file.proofs.Common.{is_passed_over, GivesOnly}
+use Rattle.record_lines.proofs.Forward.{word_held, name_held, text_held}
+use Rattle.record_lines.proofs.Readings.{done, either, if_clear, if_passed, refused, then_}
 
 module _ (may : List ℕ → Type 0) where
   abbrev Named : Pairs → Type 0
   Named names = All (λ pair. may (folder_name pair.1)) names
 
-  file_held : (file : List ℕ) (line : ℕ) (ws : List (List ℕ)) → WordsMay may ws → IfOk (file_in file line ws) (λ n. may (folder_name n))
+  file_held : (file : List ℕ) (line : ℕ) (ws : List (List ℕ)) → WordsMay may ws → GivesOnly (λ n. may (folder_name n)) (file_in file line ws)
   unfolding file_in
   file_held file line ws h =
-      chain (λ x. may (folder_name x.0) × WordsMay may x.1) (λ n. may (folder_name n)) (word_at (refusal BadNameLine file line) ws) _ (word_held may (refusal BadNameLine file line) ws h)
-      (λ unit hu. chain (λ x. may (folder_name x.0) × WordsMay may x.1) (λ n. may (folder_name n)) (word_at (refusal BadNameLine file line) unit.1) _ (word_held may (refusal BadNameLine file line) unit.1 hu.1)
-      (λ name hn. either (λ n. may (folder_name n)) (is_integer unit.0) (name_at file line name.0) (Err (refusal BadNameLine file line)) (name_held may file line name.0 hn.0) tt))
+      then_ _ (word_held may _ ws h) (λ unit hu. then_ _ (word_held may _ unit.1 hu.1)
+      (λ name hn. if_passed (is_integer unit.0) _ _ (λ e. name_held may file line name.0 hn.0)))
 
-  package_held : (file : List ℕ) (line : ℕ) (found : Package) (ws : List (List ℕ)) (names : Pairs) → WordsMay may ws → Named names → IfOk (after_package file line found ws names) Named
+  package_held : (file : List ℕ) (line : ℕ) (found : Package) (ws : List (List ℕ)) (names : Pairs) → WordsMay may ws → Named names → GivesOnly Named (after_package file line found ws names)
   unfolding after_package
   package_held file line found ws names h all =
-      chain (λ n. may (folder_name n)) Named (file_in file line ws) _ (file_held file line ws h)
-      (λ name hn. either Named (has_package found names) (Err (refusal DuplicatePackage file line)) (Ok (names ++ (found, name) ∷ [])) tt (All-push (λ pair. may (folder_name pair.1)) names (found, name) all hn))
+      then_ _ (file_held file line ws h) (λ name hn. if_clear (has_package found names) _ _ (λ e. done (All-push (λ pair. may (folder_name pair.1)) names (found, name) all hn)))
 
-  type_held : (o : Option Package) (file : List ℕ) (line : ℕ) (ws : List (List ℕ)) (names : Pairs) → WordsMay may ws → Named names → IfOk (after_type o file line ws names) Named
-  type_held None file line ws names h all = tt
+  type_held : (o : Option Package) (file : List ℕ) (line : ℕ) (ws : List (List ℕ)) (names : Pairs) → WordsMay may ws → Named names → GivesOnly Named (after_type o file line ws names)
+  type_held None file line ws names h all = refused
   type_held (Some found) file line ws names h all = package_held file line found ws names h all
 
-  words_held : (file : List ℕ) (line : ℕ) (ws : List (List ℕ)) (names : Pairs) → WordsMay may ws → Named names → IfOk (after_words file line ws names) Named
-  words_held file line [] names h all = all
+  words_held : (file : List ℕ) (line : ℕ) (ws : List (List ℕ)) (names : Pairs) → WordsMay may ws → Named names → GivesOnly Named (after_words file line ws names)
+  words_held file line [] names h all = done all
   words_held file line (kind ∷ ws) names h all =
-      either Named (is_passed_over kind) (Ok names) (after_type (package_of kind) file line ws names) all
-      (type_held (package_of kind) file line ws names (All-tail (λ w. may (folder_name w)) kind ws h) all)
+      either (is_passed_over kind) (done all) (type_held (package_of kind) file line ws names (All-tail (λ w. may (folder_name w)) kind ws h) all)
 
-  line_held : (file : List ℕ) (line : Numbered) (names : Pairs) → LineMay may line → Named names → IfOk (after_line file line names) Named
+  line_held : (file : List ℕ) (line : Numbered) (names : Pairs) → LineMay may line → Named names → GivesOnly Named (after_line file line names)
   unfolding after_line
-  line_held file line names h all = either Named (is_comment line.bytes) (Ok names) (after_words file line.number (words line.bytes) names) all (words_held file line.number (words line.bytes) names h all)
+  line_held file line names h all = either (is_comment line.bytes) (done all) (words_held file line.number (words line.bytes) names h all)
 
-  lines_held : (file : List ℕ) (ls : List Numbered) (names : Pairs) → All (LineMay may) ls → Named names → IfOk (after_lines file ls names) Named
+  lines_held : (file : List ℕ) (ls : List Numbered) (names : Pairs) → All (LineMay may) ls → Named names → GivesOnly Named (after_lines file ls names)
   unfolding after_lines
-  lines_held file [] names h all = all
+  lines_held file [] names h all = done all
   lines_held file (line ∷ others) names h all =
-      chain Named Named (after_line file line names) (after_lines file others) (line_held file line names (All-head (LineMay may) line others h) all)
-      (λ next hn. lines_held file others next (All-tail (LineMay may) line others h) hn)
+      then_ (after_lines file others) (line_held file line names (All-head (LineMay may) line others h) all) (λ next hn. lines_held file others next (All-tail (LineMay may) line others h) hn)
 
-  whole_held : (file : List ℕ) (names : Pairs) → Named names → IfOk (whole file names) Named
+  whole_held : (file : List ℕ) (names : Pairs) → Named names → GivesOnly Named (whole file names)
   unfolding whole
-  whole_held file names h =
-      either Named (has_package Dis names) (if has_package Bas names then (if has_package Lpf names then Ok names else missing file) else missing file) (missing file)
-      (either Named (has_package Bas names) (if has_package Lpf names then Ok names else missing file) (missing file)
-      (either Named (has_package Lpf names) (Ok names) (missing file) h tt) tt) tt
+  whole_held file names h = either (has_package Dis names) (either (has_package Bas names) (either (has_package Lpf names) (done h) refused) refused) refused
 
-  names_held : (file bytes : List ℕ) → TextMay may bytes → IfOk (names_of file bytes) Named
+  names_held : (file bytes : List ℕ) → TextMay may bytes → GivesOnly Named (names_of file bytes)
   unfolding names_of
   names_held file bytes h =
-      chain Named Named (after_lines file (left_from 1 bytes).lines []) (whole file) (lines_held file (left_from 1 bytes).lines [] (text_held may 1 bytes h).each (All-nil (λ pair. may (folder_name pair.1))))
-      (λ names all. whole_held file names all)
+      then_ _ (lines_held file _ [] (text_held may 1 bytes h).each (All-nil (λ pair. may (folder_name pair.1)))) (λ names all. whole_held file names all)
 
   -- the files of the packages
   pub files_named : (file bytes : List ℕ) (names : Pairs) → names_of file bytes ≡ Ok names → TextMay may bytes → NamesMay may names
-  files_named file bytes names e h = record { each = given Named (names_of file bytes) names e (names_held file bytes h) }
+  files_named file bytes names e h = record { each = (names_held file bytes h).gives names e }
 
   -- the file of one of them
   pub file_named : (names : Pairs) (asked : Package) (name : List ℕ) → NamesMay may names → Contains names (asked, name) → may (folder_name name)

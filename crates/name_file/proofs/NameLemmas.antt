@@ -1,14 +1,14 @@
 -- A package that is new goes last; and a name file goes on, stops or ends line by line.
 use Rattle.name_file.proofs.Common.{◌≡◌, ℕ, false, List, [], ◌∷◌, ◌++◌, Option, Some, None, Ok, refl, ap, ◌∙◌, is_some, Package, Pairs, has_package, after_line}
-use Rattle.name_file.proofs.Common.{after_lines, Left, Numbered, Dis, Bas, Lpf, Wel, Riv, Drn, Ghb, Rch, Chd, Evt, is_same_package, file_of, Bool, true, sym}
-use Rattle.name_file.proofs.Common.{Contains, rules, arith, IsTrue, All-contains, All-push, IsGoodName, AreFiles, IsWhole, is_needed, packages_of, ghosts}
-use Rattle.name_file.proofs.Common.{the_type, StopsText}
+use Rattle.name_file.proofs.Common.{after_lines, Left, Numbered, Dis, Bas, Lpf, Wel, is_same_package, file_of, true, sym, Contains, rules, arith, All-contains}
+use Rattle.name_file.proofs.Common.{All-push, IsGoodName, AreFiles, IsWhole, is_needed, packages_of, ghosts, the_type, StopsText}
+use Rattle.record_lines.proofs.Loops.{ends_all}
+use Rattle.std.specs.Prelude.{IsTrue}
 use Rattle.std.specs.Map.{lookup, keys_of}
 use Rattle.std.specs.HashMap.{HashMap}
 use Rattle.indexmap.specs.IndexMap.{get, insert_entry}
 use Rattle.indexmap.proofs.CallerLemmas.{insert_entry-new}
 use Rattle.outside.specs.declared.inputs.TextFault.{TextFault}
-use Rattle.outside.specs.declared.inputs.TextFault.TheVariants.{Refused, Memory}
 use Rattle.std.proofs.lemmas.Map.Keys.{IsDistinct-push}
 use Rattle.std.proofs.lemmas.Map.Made.{is_some-lookup}
 use Rattle.std.proofs.lemmas.Map.Views.{Contains-from_lookup, IsSome-lookup_from_Contains}
@@ -44,8 +44,7 @@ goes_on file left after line names next e read = rw (e, read) refl
 pub stops : (file : List ℕ) (left after : Left) (line : Numbered) (names : Pairs) (fault : TextFault) → left ≡ record { lines = line ∷ after.lines; end = after.end } → StopsText fault (after_line file line names)
     → StopsText fault (after_lines file left.lines names)
 unfolding after_lines
-stops file left after line names (Refused r) e read = rw (e, read) refl
-stops file left after line names Memory e read = tt
+stops file left after line names fault e read = rw e (ends_all fault _ _ read)
 
 pub is_over : (file : List ℕ) (left : Left) (end : ℕ) (names : Pairs) → left ≡ record { lines = []; end = end } → after_lines file left.lines names ≡ Ok names
 unfolding after_lines
@@ -59,19 +58,15 @@ pub is_itself : (x : Package) → is_same_package x x ≡ true
 is_itself Dis = refl
 is_itself x = refl
 
-turned : (x y : Package) → is_same_package x y ≡ true → is_same_package y x ≡ true
-turned x y e = rw (is_same x y e) (is_itself y)
-
-same_sides : (x y : Package) (a b : Bool) → is_same_package x y ≡ a → is_same_package y x ≡ b → a ≡ b
-same_sides x y true true e f = refl
-same_sides x y true false e f = sym (turned x y e) ∙ f
-same_sides x y false true e f = sym e ∙ turned y x f
-same_sides x y false false e f = refl
+same_sides : (x y : Package) → is_same_package x y ≡ is_same_package y x
+same_sides Dis Dis = refl
+same_sides x Dis = refl
+same_sides x y = refl
 
 is_equivalence : IsEquivalence is_same_package
 is_equivalence = record {
   refl = is_itself;
-  symm = λ x y. same_sides x y (is_same_package x y) (is_same_package y x) refl refl;
+  symm = same_sides;
   congr = λ x y z e. rw (is_same x y e) refl;
 }
 

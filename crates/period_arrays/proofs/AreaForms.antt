@@ -1,8 +1,9 @@
 -- What is read of the arrays of a stress period.
-use Rattle.period_arrays.proofs.Common.{done, goes_on, if_clear, if_passed, then_, weaker, Gives, IsShort, HasSize, int_at, is_int, layer_size, Grid, FileSet}
-use Rattle.period_arrays.proofs.Common.{words, IsArea, IsInForce, IsLayers, IsReals, area_at, array_or, arrays_of, flag_at, flag_if, flags_of, is_layer}
-use Rattle.period_arrays.proofs.Common.{is_negative, is_option, layer_step, layers_at, layers_tested, nothing_yet, option_at, InForce, Left, line_at, All, Bool}
-use Rattle.period_arrays.proofs.Common.{List, Ok, [], arith, false, length, negsuc, not, pos, refl, subst, sym, true, ℕ, ℤ, ◌&&◌, ◌<◌, ◌≡◌, ◌≤◌, each_step}
+use Rattle.period_arrays.proofs.Common.{done, goes_on, if_clear, if_passed, then_, weaker, GivesOnly, HasSize, int_at, is_int, layer_size, Grid, FileSet, words}
+use Rattle.period_arrays.proofs.Common.{IsArea, IsInForce, IsLayers, IsReals, area_at, array_or, arrays_of, flag_at, flag_if, flags_of, is_layer, is_negative}
+use Rattle.period_arrays.proofs.Common.{is_option, layer_step, layers_at, layers_tested, nothing_yet, option_at, InForce, Left, line_at, All, Bool, List, Ok}
+use Rattle.period_arrays.proofs.Common.{[], arith, false, length, negsuc, not, pos, refl, subst, sym, true, ℕ, ℤ, ◌&&◌, ◌<◌, ◌≡◌, ◌≤◌, each_step}
+use Rattle.array_text.specs.{IsShort}
 use Rattle.array_reader.specs.{integer, number_at, real_layer}
 use Rattle.array_text.proofs.ArrayForms.{arrays}
 use Rattle.decimal_input.specs.declared.dec.Dec.{Dec}
@@ -32,21 +33,21 @@ record IsFlag (present listed flag : Bool) : Type 0 where
   none : present ≡ false → flag ≡ false
 
 module _ (file : List ℕ) (line : ℕ) where
-  flag_is : (listed : Bool) (ws : List (List ℕ)) → Gives (λ x. x.0 ≡ false → listed ≡ true) (flag_at file line listed ws)
+  flag_is : (listed : Bool) (ws : List (List ℕ)) → GivesOnly (λ x. x.0 ≡ false → listed ≡ true) (flag_at file line listed ws)
   unfolding flag_at
   flag_is listed ws = goes_on (number_at integer file line ws) _ (λ z e. if_clear (is_negative z.0 && not listed) _ _ (λ clear. done (reused (is_negative z.0) listed clear)))
 
-  flag_if_is : (present listed : Bool) (ws : List (List ℕ)) → Gives (λ x. IsFlag present listed x.0) (flag_if present file line listed ws)
+  flag_if_is : (present listed : Bool) (ws : List (List ℕ)) → GivesOnly (λ x. IsFlag present listed x.0) (flag_if present file line listed ws)
   flag_if_is true listed ws = weaker (flag_is listed ws) (λ x h. record { there = λ e. h; none = λ e. absurd (let clash : true ≡ false = e in cc) })
   flag_if_is false listed ws = done (record { there = λ e. absurd (let clash : false ≡ true = e in cc); none = λ e. refl })
 
-  flags_are : (contents : Contents) (listed : Bool) (ws : List (List ℕ)) → Gives (AreFlags contents listed) (flags_of contents file line listed ws)
+  flags_are : (contents : Contents) (listed : Bool) (ws : List (List ℕ)) → GivesOnly (AreFlags contents listed) (flags_of contents file line listed ws)
   unfolding flags_of
   flags_are contents listed ws =
       then_ _ (flag_if_is contents.evaporates listed ws) (λ surface a. then_ _ (flag_is listed surface.1) (λ rate b. then_ _ (flag_if_is contents.evaporates listed rate.1)
       (λ depth c. then_ _ (flag_if_is contents.layered listed depth.1) (λ layer d. done (record { surface = a.there; rate = b; depth = c.there; layer = d.there; none = d.none })))))
 
-  pub option_is : (ws : List (List ℕ)) → Gives (λ x. is_option x.0 ≡ true) (option_at file line ws)
+  pub option_is : (ws : List (List ℕ)) → GivesOnly (λ x. is_option x.0 ≡ true) (option_at file line ws)
   unfolding option_at
   option_is ws = goes_on (number_at integer file line ws) _ (λ z e. if_passed (is_option z.0) _ _ (λ active. done active))
 
@@ -88,7 +89,7 @@ first_area evaporates g option = record { area = λ e. absurd (let clash : false
 
 module _ (files : FileSet) (file : List ℕ) (g : Grid) where
   -- an array is read anew, or it is the last one
-  reals_are : (anew : Bool) (before : List Dec) (left : Left) → Gives (λ x. (anew ≡ false → IsReals g before) → IsReals g x.0) (array_or (real_layer files file g.rows g.cols) anew before left)
+  reals_are : (anew : Bool) (before : List Dec) (left : Left) → GivesOnly (λ x. (anew ≡ false → IsReals g before) → IsReals g x.0) (array_or (real_layer files file g.rows g.cols) anew before left)
   reals_are true before left = weaker (layer_is files file g.rows g.cols left) (λ x h last. h)
   reals_are false before left = done (λ last. last refl)
 
@@ -96,16 +97,16 @@ module _ (files : FileSet) (file : List ℕ) (g : Grid) where
   unfolding layers_tested
   tested_are xs u h i lt =
       let step : layer_step file g xs i tt ≡ Ok tt = each_step (layer_step file g xs) (layer_size g) 0 h i (omega arith) (omega (arith, lt)) in
-      let is : Gives (λ (v : Unit {0}). is_layer g (int_at xs i) ≡ true) (layer_step file g xs i tt) = if_passed (is_layer g (int_at xs i)) _ _ (λ e. done e) in
+      let is : GivesOnly (λ (v : Unit {0}). is_layer g (int_at xs i) ≡ true) (layer_step file g xs i tt) = if_passed (is_layer g (int_at xs i)) _ _ (λ e. done e) in
       is.gives tt step
 
-  layers_are : (left : Left) → Gives (λ x. AreOfGrid g x.0) (layers_at files file g left)
+  layers_are : (left : Left) → GivesOnly (λ x. AreOfGrid g x.0) (layers_at files file g left)
   unfolding layers_at
   layers_are left =
       then_ _ (arrays.integer_layers files file g.rows g.cols left) (λ xs many. goes_on (layers_tested file g xs.0) _ (λ tested e. done (record { whole = many; inside = tested_are xs.0 tested e })))
 
   layers_now : (size : HasSize g) (option : ℤ) (anew : Bool) (before : List ℤ) (left : Left) → (is_int option 2 ≡ true → anew ≡ false → AreOfGrid g before) → (is_int option 2 ≡ false → (anew ≡ false) × (before ≡ []))
-      → Gives (λ x. IsLayers g option x.0) (array_or (layers_at files file g) anew before left)
+      → GivesOnly (λ x. IsLayers g option x.0) (array_or (layers_at files file g) anew before left)
   layers_now size option true before left last none =
       weaker (layers_are left) (λ x is. by_option g option x.0 size (λ e. is) (λ e. absurd (let clash : true ≡ false = (none e).0 in cc)))
   layers_now size option false before left last none = done (by_option g option before size (λ e. last e refl) (λ e. (none e).1))
@@ -114,7 +115,7 @@ module _ (files : FileSet) (file : List ℕ) (g : Grid) where
     abbrev its : Contents
     its = record { evaporates = evaporates; layered = is_int option 2 }
 
-    arrays_are : (f : Flags) (s : InForce) (left : Left) → AreFlags its s.listed f → IsInForce evaporates g option s → Gives (λ x. IsArea evaporates g option x.0) (arrays_of files file g f s.area left)
+    arrays_are : (f : Flags) (s : InForce) (left : Left) → AreFlags its s.listed f → IsInForce evaporates g option s → GivesOnly (λ x. IsArea evaporates g option x.0) (arrays_of files file g f s.area left)
     unfolding arrays_of
     arrays_are f s left are so =
         let last = s.area in
@@ -127,7 +128,7 @@ module _ (files : FileSet) (file : List ℕ) (g : Grid) where
           layers = d;
         })))))
 
-    pub area_is : (s : InForce × Left) → IsInForce evaporates g option s.0 → Gives (λ x. IsArea evaporates g option x.0 × IsInForce evaporates g option x.1.0) (area_at its files file g s)
+    pub area_is : (s : InForce × Left) → IsInForce evaporates g option s.0 → GivesOnly (λ x. IsArea evaporates g option x.0 × IsInForce evaporates g option x.1.0) (area_at its files file g s)
     unfolding area_at
     area_is s so =
         goes_on (line_at file s.1) _ (λ line e. then_ _ (flags_are file line.0.number its s.0.listed (words line.0.bytes)) (λ flags f. then_ _ (arrays_are flags s.0 line.1 f so)

@@ -83,6 +83,11 @@ pub record IsArea (evaporates : Bool) (g : Grid) (option : ℤ) (area : Area) : 
   pub depths : evaporates ≡ true → IsReals g area.depths
   pub layers : IsLayers g option area.layers
 
+-- arrays of a kind by its option, which pass their test whatever the file's name
+pub record HasArrays (kind : ArrayKind) (g : Grid) (ibound : List ℤ) (option : ℤ) (area : Area) : Type 0 where
+  pub is : IsArea kind.evaporates g option area
+  pub passed : (file : List ℕ) → kind.test file g ibound option area ≡ Ok tt
+
 -- the arrays of the period before, if there is one
 pub record IsInForce (evaporates : Bool) (g : Grid) (option : ℤ) (before : InForce) : Type 0 where
   pub area : before.listed ≡ true → IsArea evaporates g option before.area

@@ -2,12 +2,13 @@
 pub use Rattle.std.proofs.Common.{All, Bool, Err, List, None, Ok, Option, Result, Some, [], add-one, ap, append_assoc, arith, cond, drop, drop-cons, false}
 pub use Rattle.std.proofs.Common.{get_or, if◌then◌else◌, inl, inr, length, lit<, nat_le, nat_lt, not, pow-suc, refl, subst, suc, sym, take, true, zero, ℕ, ◌&&◌}
 pub use Rattle.std.proofs.Common.{◌*◌, ◌++◌, ◌+◌, ◌-◌, ◌<◌, ◌==◌, ◌^◌, ◌∙◌, ◌∷◌, ◌≡◌, ◌≤◌, ◌⊎◌}
-pub use Rattle.std.proofs.lemmas.List.{append-nil, drop-drop, drop_all, take_all}
+pub use Rattle.std.proofs.lemmas.List.{append-nil, drop-drop, drop_all, length-append, take_all}
+pub use Rattle.std.proofs.lemmas.List.Elements.{All-append, All-cons, All-head, All-nil, All-tail}
 pub use Rattle.std.specs.List.{filter, onto_first, position, position_or_len, slice_split}
-pub use Rattle.outside.specs.{TextMay, WordsMay, folder_name, is_good_name, is_separator, refusal}
+pub use Rattle.outside.specs.{FileSet, TextMay, WordsMay, folder_name, is_good_name, is_separator}
 unfoldable pub use Rattle.outside.specs.{lines, words}
 pub use Rattle.outside.specs.declared.inputs.Refusal.{Refusal}
-pub use Rattle.record_lines.specs.{Left, LineMay, LinesMay, Numbered, Stops, StopsText, Taking, after_comments, has_word, is_comment, line_from, next_number}
-pub use Rattle.record_lines.specs.{numbered_of, source, taken, taking, times, value_of, without_comments, ◌>>=◌}
+pub use Rattle.record_lines.specs.{GivesOnly, Left, LineMay, LinesMay, Numbered, Stops, StopsText, Taking, after_comments, has_word, is_comment, line_from}
+pub use Rattle.record_lines.specs.{next_number, numbered_of, source, taken, taking, times, value_of, without_comments, ◌>>=◌}
 unfoldable pub use Rattle.record_lines.specs.{appended, count, counted, for_each, left_from, line_at, name_at, next_value, next_word, number_behind, numbered}
 unfoldable pub use Rattle.record_lines.specs.{repeated, spread, word_at}

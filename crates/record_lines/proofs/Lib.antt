@@ -4,4 +4,5 @@ pub mod LeftLemmas
 pub mod Loops
 pub mod SpreadLemmas
 pub mod WordLemmas
+pub mod Readings
 pub mod Forward

@@ -1,6 +1,6 @@
 pub mod Spread
 pub mod Reading
-pub use Rattle.record_lines.specs.Reading.{Gives, GivesText, Has, HasText, Stops, StopsText, begins_with, is_word, line_from, ◌>>=◌}
+pub use Rattle.record_lines.specs.Reading.{Gives, GivesOnly, GivesText, Has, HasText, Stops, StopsText, begins_with, is_word, line_from, ◌>>=◌}
 unfoldable pub use Rattle.record_lines.specs.Reading.{appended, counted, for_each, line_at, name_at, repeated, word_at}
 pub use Rattle.record_lines.specs.Spread.{Left, LineMay, LinesMay, Numbered, Taking, Yields, after_comments, beginning, is_comment, next_number, numbered_of}
 pub use Rattle.record_lines.specs.Spread.{source, taken, taking, times, value_of, without_comments}

@@ -17,6 +17,10 @@ abbrev pub ◌>>=◌ : {A B E : Type 0} → Result A E → (A → Result B E) �
 (Ok x) >>= f = f x
 (Err e) >>= f = Err e
 
+-- whatever the reading gives has this form
+pub record GivesOnly {A E : Type 0} (P : A → Type 0) (reading : Result A E) : Type 0 where
+  pub gives : (x : A) → reading ≡ Ok x → P x
+
 -- a refusal is the one that reading has; running out of memory and a read fault may come at any place
 abbrev pub Stops : {Y : Type 0} → InputFault → Result Y Refusal → Type 0
 Stops (Refused r) read = read ≡ Err r

@@ -7,8 +7,7 @@ use Rattle.std.proofs.lemmas.Int.{ints}
 use Rattle.std.proofs.lemmas.List.Sums.{fails_before_first}
 use Rattle.record_lines.proofs.CutLemmas.{place_of_none}
 use Rattle.std.proofs.lemmas.List.Elements.{All-from_recursion, recursion_from_All}
-use Rattle.array_text.specs.{Gives}
-use Rattle.record_lines.specs.{name_at, left_from}
+use Rattle.record_lines.specs.{GivesOnly, name_at, left_from}
 use Rattle.model_types.specs.{cell_count}
 use Rattle.model_types.specs.declared.grid.Grid.{Grid}
 
@@ -22,15 +21,15 @@ zones_are zones h = λ k d lt.
     zone_is (slice_index_or zones k d) (fails_before_first (λ z. not (is_zone z)) zones k d (omega (arith, end, lt)))
 
 -- The zones that a file gives: one for each cell of the grid, each at most 999.
-tested_is : (file : List ℕ) (grid : Grid) (zones : List ℤ) → Gives (λ u. All IsZone zones) (zones_tested file grid zones)
+tested_is : (file : List ℕ) (grid : Grid) (zones : List ℤ) → GivesOnly (λ u. All IsZone zones) (zones_tested file grid zones)
 unfolding zones_tested
 tested_is file grid zones = by_place (position (λ z. not (is_zone z)) zones) refl
   where
-    by_place : (o : Option ℕ) → position (λ z. not (is_zone z)) zones ≡ o → Gives (λ u. All IsZone zones) (wrong_at file grid o)
+    by_place : (o : Option ℕ) → position (λ z. not (is_zone z)) zones ≡ o → GivesOnly (λ u. All IsZone zones) (wrong_at file grid o)
     by_place None e = done (zones_are zones e)
     by_place (Some cell) e = refused
 
-pub zones_give : (files : FileSet) (grid : Grid) (name : List ℕ) → Gives (λ zs. (length zs ≡ cell_count grid) × All IsZone zs) (zones_of files grid name)
+pub zones_give : (files : FileSet) (grid : Grid) (name : List ℕ) → GivesOnly (λ zs. (length zs ≡ cell_count grid) × All IsZone zs) (zones_of files grid name)
 unfolding zones_of
 zones_give files grid name =
     goes_on (name_at (codes "-") 0 name) _ (λ file a. goes_on (file_at files file) _ (λ bytes b. then_ _ (arrays.integer_grids files file grid.layers grid.rows grid.cols (left_from 1 bytes))

@@ -1,4 +1,5 @@
-use Rattle.array_reader.proofs.Common.{err_from_is_err_and, goes_on, ends_text, is_done}
+use Rattle.array_reader.proofs.Common.{err_from_is_err_and, ends_text, is_done}
+use Rattle.record_lines.proofs.Loops.{goes_on}
 use Rattle.array_reader.proofs.lists.values.Goals as goal
 
 pub returns-in_err-value : goal.returns-in_err-value

@@ -1,4 +1,4 @@
-use Rattle.array_text.proofs.WordTexts.{some_give}
+use Rattle.record_lines.proofs.Readings.{some_give}
 use Rattle.period_arrays.proofs.AreaForms.{area_is}
 use Rattle.period_arrays.proofs.periods.tested_area.Goals as goal
 
