@@ -1,6 +1,6 @@
 -- The order of two magnitudes, from their digits and exponents.
 use Rattle.deck_alike.proofs.Common.{◌≡◌, ℕ, ◌+◌, ◌*◌, ◌^◌, ◌<◌, ◌≤◌, ℤ, pos, ◌+ℤ◌, Bool, true, false, subst, sym, arith, ◌⊎◌, inl, inr, leb, MatchBool}
-use Rattle.deck_alike.proofs.Common.{cases_lt, le-leb, lt-leb, ints, Dec, suc}
+use Rattle.deck_alike.proofs.Common.{cases_lt, le-leb, lt-leb, ints, Dec, suc, zero, refl}
 use Rattle.std.proofs.Math.Nat.{mul-le-mul_right, mul-pos}
 use Rattle.decimal_input.specs.{size, down, up, number, decimal, scaled}
 use Rattle.decimal_input.proofs.Powers.{cross_of, power_within, ten_pos, up_down, num_scaled}
@@ -51,50 +51,21 @@ powers d e p h = omega (arith, ints, up_down d, up_down e, h)
 
 module _ (a b : Dec) (p : ℕ) where
   -- the first number has the greater exponent
-  at_most_above : a.exp ≡ b.exp +ℤ pos p → a.digits * 10 ^ p ≤ b.digits → IsRatioAtMost (size a) (size b)
-  at_most_above e h =
+  pub order_above : (r : Bool) → a.exp ≡ b.exp +ℤ pos p → MatchBool r (a.digits * 10 ^ p ≤ b.digits) (a.digits * 10 ^ p ≤ b.digits → ⊥) → MatchBool r (IsRatioAtMost (size a) (size b)) (IsRatioAtMost (size a) (size b) → ⊥)
+  order_above r e h =
       let w = up b.exp + down a.exp in
-      record { cross = rw (cross_of a.digits b.digits a.exp b.exp, cross_of b.digits a.digits b.exp a.exp, powers a.exp b.exp p e, regrouped a.digits p w) (mul-le-mul_right (10 ^ w) h) }
-
-  above_at_most : a.exp ≡ b.exp +ℤ pos p → IsRatioAtMost (size a) (size b) → a.digits * 10 ^ p ≤ b.digits
-  above_at_most e h =
-      let w = up b.exp + down a.exp in
-      let k : a.digits * 10 ^ p * 10 ^ w ≤ b.digits * 10 ^ w = rw (cross_of a.digits b.digits a.exp b.exp, cross_of b.digits a.digits b.exp a.exp, powers a.exp b.exp p e, regrouped a.digits p w) at h.cross in
-      le_cancel (10 ^ w) _ _ (ten_pos w) k
+      turned_to r _ _ (λ k. record { cross = rw (cross_of a.digits b.digits a.exp b.exp, cross_of b.digits a.digits b.exp a.exp, powers a.exp b.exp p e, regrouped a.digits p w) (mul-le-mul_right (10 ^ w) k) })
+      (λ k. le_cancel (10 ^ w) _ _ (ten_pos w) (rw (cross_of a.digits b.digits a.exp b.exp, cross_of b.digits a.digits b.exp a.exp, powers a.exp b.exp p e, regrouped a.digits p w) at k.cross)) h
 
   -- the second number has the greater exponent
-  at_most_below : b.exp ≡ a.exp +ℤ pos p → a.digits ≤ b.digits * 10 ^ p → IsRatioAtMost (size a) (size b)
-  at_most_below e h =
-      let w = up a.exp + down b.exp in
-      record { cross = rw (cross_of a.digits b.digits a.exp b.exp, cross_of b.digits a.digits b.exp a.exp, powers b.exp a.exp p e, regrouped b.digits p w) (mul-le-mul_right (10 ^ w) h) }
-
-  below_at_most : b.exp ≡ a.exp +ℤ pos p → IsRatioAtMost (size a) (size b) → a.digits ≤ b.digits * 10 ^ p
-  below_at_most e h =
-      let w = up a.exp + down b.exp in
-      let k : a.digits * 10 ^ w ≤ b.digits * 10 ^ p * 10 ^ w = rw (cross_of a.digits b.digits a.exp b.exp, cross_of b.digits a.digits b.exp a.exp, powers b.exp a.exp p e, regrouped b.digits p w) at h.cross in
-      le_cancel (10 ^ w) _ _ (ten_pos w) k
-
-  pub order_above : (r : Bool) → a.exp ≡ b.exp +ℤ pos p → MatchBool r (a.digits * 10 ^ p ≤ b.digits) (a.digits * 10 ^ p ≤ b.digits → ⊥) → MatchBool r (IsRatioAtMost (size a) (size b)) (IsRatioAtMost (size a) (size b) → ⊥)
-  order_above r e h = turned_to r _ _ (at_most_above e) (above_at_most e) h
-
   pub order_within : (r : Bool) → b.exp ≡ a.exp +ℤ pos p → MatchBool r (a.digits ≤ b.digits * 10 ^ p) (a.digits ≤ b.digits * 10 ^ p → ⊥) → MatchBool r (IsRatioAtMost (size a) (size b)) (IsRatioAtMost (size a) (size b) → ⊥)
-  order_within r e h = turned_to r _ _ (at_most_below e) (below_at_most e) h
+  order_within r e h =
+      let w = up a.exp + down b.exp in
+      turned_to r _ _ (λ k. record { cross = rw (cross_of a.digits b.digits a.exp b.exp, cross_of b.digits a.digits b.exp a.exp, powers b.exp a.exp p e, regrouped b.digits p w) (mul-le-mul_right (10 ^ w) k) })
+      (λ k. le_cancel (10 ^ w) _ _ (ten_pos w) (rw (cross_of a.digits b.digits a.exp b.exp, cross_of b.digits a.digits b.exp a.exp, powers b.exp a.exp p e, regrouped b.digits p w) at k.cross)) h
 
 -- The order of two numbers with their signs, from the order of their magnitudes.
 module _ (m n : ℕ) (d e : ℤ) where
-  plain : IsRatioAtMost (scaled m d) (scaled n e) → AtMost (decimal false m d) (decimal false n e)
-  plain h = record { at_most = omega (arith, ints, h.cross) }
-
-  plain_back : AtMost (decimal false m d) (decimal false n e) → IsRatioAtMost (scaled m d) (scaled n e)
-  plain_back h = record { cross = omega (arith, ints, h.at_most) }
-
-  -- below 0 the order is the other one
-  below_zero : IsRatioAtMost (scaled n e) (scaled m d) → AtMost (decimal true m d) (decimal true n e)
-  below_zero h = record { at_most = rw (neg_times, neg_times) (omega (arith, ints, h.cross)) }
-
-  below_zero_back : AtMost (decimal true m d) (decimal true n e) → IsRatioAtMost (scaled n e) (scaled m d)
-  below_zero_back h = let k = rw (neg_times, neg_times) at h.at_most in record { cross = omega (arith, ints, k) }
-
   zeros : (m ≡ 0) × (n ≡ 0) → AtMost (decimal false m d) (decimal true n e)
   zeros none =
       let top : (scaled m d).num * suc (scaled n e).less ≡ 0 = rw (num_scaled, none.0) (omega arith) in
@@ -109,21 +80,21 @@ module _ (m n : ℕ) (d e : ℤ) where
       (no_digits m d (scaled n e).less top, no_digits n e (scaled m d).less bottom)
     where
       no_digits : (i : ℕ) (f : ℤ) (j : ℕ) → (scaled i f).num * suc j ≡ 0 → i ≡ 0
-      no_digits i f j e = by_digits (cases_lt 0 i)
-        where
-          by_digits : (0 < i) ⊎ (i ≤ 0) → i ≡ 0
-          by_digits (inl some) =
-              let more : 0 < (scaled i f).num = rw num_scaled (mul-pos some (ten_pos (up f))) in
-              let most : 0 < (scaled i f).num * suc j = mul-pos more (omega arith) in
-              absurd (omega (arith, most, e))
-          by_digits (inr none) = omega arith
+      no_digits zero f j e = refl
+      no_digits (suc i) f j e =
+          let more : 0 < (scaled (suc i) f).num = rw num_scaled (mul-pos (omega arith) (ten_pos (up f))) in
+          let most : 0 < (scaled (suc i) f).num * suc j = mul-pos more (omega arith) in
+          absurd (omega (arith, most, e))
 
 module _ (a b : Dec) where
   pub order_plain : (r : Bool) → a.neg ≡ false → b.neg ≡ false → MatchBool r (IsRatioAtMost (size a) (size b)) (IsRatioAtMost (size a) (size b) → ⊥) → MatchBool r (AtMost (number a) (number b)) (AtMost (number a) (number b) → ⊥)
-  order_plain r p q h = rw (p, q) (turned_to r _ _ (plain a.digits b.digits a.exp b.exp) (plain_back a.digits b.digits a.exp b.exp) h)
+  order_plain r p q h = rw (p, q) (turned_to r _ _ (λ k. record { at_most = omega (arith, ints, k.cross) }) (λ k. record { cross = omega (arith, ints, k.at_most) }) h)
 
+  -- below 0 the order is the other one
   pub order_below : (r : Bool) → a.neg ≡ true → b.neg ≡ true → MatchBool r (IsRatioAtMost (size b) (size a)) (IsRatioAtMost (size b) (size a) → ⊥) → MatchBool r (AtMost (number a) (number b)) (AtMost (number a) (number b) → ⊥)
-  order_below r p q h = rw (p, q) (turned_to r _ _ (below_zero a.digits b.digits a.exp b.exp) (below_zero_back a.digits b.digits a.exp b.exp) h)
+  order_below r p q h =
+      rw (p, q) (turned_to r _ _ (λ k. record { at_most = rw (neg_times, neg_times) (omega (arith, ints, k.cross)) })
+      (λ k. let less = rw (neg_times, neg_times) at k.at_most in record { cross = omega (arith, ints, less) }) h)
 
   -- 0 with a minus sign is 0
   pub order_not_across : (r : Bool) → a.neg ≡ false → b.neg ≡ true → MatchBool r ((a.digits ≡ 0) × (b.digits ≡ 0)) (((a.digits ≡ 0) × (b.digits ≡ 0)) → ⊥) → MatchBool r (AtMost (number a) (number b)) (AtMost (number a) (number b) → ⊥)
