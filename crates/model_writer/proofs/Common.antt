@@ -1,8 +1,8 @@
 -- Names that several proofs of this crate cite, of the crates below and of its own definitions, passed on from one place. Declares nothing.
-pub use Rattle.std.proofs.Common.{Bool, List, [], ap, append_assoc, arith, codes, decimal, drop, false, filter, fold, get_or, length, lit≤, map, max, min, refl}
+pub use Rattle.std.proofs.Common.{Bool, List, [], ap, append_assoc, arith, codes, decimal, drop, false, filter, fold, get_or, length, lit≤, map, max, refl}
 pub use Rattle.std.proofs.Common.{replicate, suc, sym, take, true, ℕ, ◌++◌, ◌+◌, ◌-◌, ◌<◌, ◌∙◌, ◌∷◌, ◌≡◌, ◌≤◌}
 pub use Rattle.std.proofs.lemmas.Grind.{flat_map-append, replicate_next}
-pub use Rattle.std.proofs.lemmas.List.{append-nil, drop_all, length-map, map-append, map-id, take_more}
+pub use Rattle.std.proofs.lemmas.List.{append-nil, length-map, map-append, map-id, take_more}
 pub use Rattle.std.specs.List.{flat_map, range_with_len}
 pub use Rattle.array_text.specs.{Line, array_lines, in_rows, integer_word, number_word}
 unfoldable pub use Rattle.array_text.specs.{line_text, row_line, row_lines, text}
@@ -11,5 +11,4 @@ pub use Rattle.model_text.specs.{packages, rch_items, storage_option}
 unfoldable pub use Rattle.model_text.specs.{deck_text, dis_item_1, file_text, file_texts, list_item_2, list_item_5, list_item_6, list_lines, period_list}
 unfoldable pub use Rattle.model_text.specs.{written}
 pub use Rattle.model_types.specs.declared.model.FlowModel.{FlowModel}
-unfoldable pub use Rattle.model_writer.specs.{chosen, entry_line, line_bytes, spaced}
-pub use Rattle.name_file.specs.declared.package.Package.TheVariants.{Dis}
+unfoldable pub use Rattle.model_writer.specs.{chosen, entry_line, line_bytes, part_bytes, spaced}

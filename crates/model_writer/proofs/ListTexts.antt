@@ -1,9 +1,9 @@
 -- The lines of lists.
-use Rattle.model_writer.proofs.Common.{◌≡◌, ℕ, ◌≤◌, List, [], ◌∷◌, ◌++◌, length, map, max, fold, codes, decimal, arith, ◌+◌, ◌<◌, ap, ◌∙◌, take, get_or, Bool}
-use Rattle.model_writer.proofs.Common.{true, false, refl, sym, filter, append_assoc, flat_map, length-map, take_more, map-append, append-nil, number_word, text}
-use Rattle.model_writer.proofs.Common.{row_line, Line, list_item_2, list_item_5, list_item_6, list_lines, period_list, deck_name, deck_names, deck_text}
-use Rattle.model_writer.proofs.Common.{file_line, file_text, file_texts, packages, name_item, has, package_file, written, line_bytes, spaced, entry_line}
-use Rattle.model_writer.proofs.Common.{chosen, flat_map-append, FlowModel}
+use Rattle.model_writer.proofs.Common.{part_bytes, ◌≡◌, ℕ, ◌≤◌, List, [], ◌∷◌, ◌++◌, length, map, max, fold, codes, decimal, arith, ◌+◌, ◌<◌, ap, ◌∙◌, take}
+use Rattle.model_writer.proofs.Common.{get_or, Bool, true, false, refl, sym, filter, append_assoc, flat_map, length-map, take_more, map-append, append-nil}
+use Rattle.model_writer.proofs.Common.{number_word, text, row_line, Line, list_item_2, list_item_5, list_item_6, list_lines, period_list, deck_name, deck_names}
+use Rattle.model_writer.proofs.Common.{deck_text, file_line, file_text, file_texts, packages, name_item, has, package_file, written, line_bytes, spaced}
+use Rattle.model_writer.proofs.Common.{entry_line, chosen, flat_map-append, FlowModel}
 use Rattle.decimal_input.specs.declared.dec.Dec.{Dec}
 use Rattle.model_types.specs.declared.grid.Grid.{Grid}
 use Rattle.model_types.specs.{place}
@@ -90,14 +90,13 @@ lines_of : {X : Type 0} (line : X → Line) (xs : List X) → text (map line xs)
 lines_of line [] = text-nil
 lines_of line (x ∷ xs) = text-cons (line x) (map line xs) ∙ ap (λ t. line_bytes (line x) ++ t) (lines_of line xs)
 
-pub deck_is : (m : FlowModel) (start first names files out : List ℕ) → start ≡ [] → first ≡ start ++ file_line deck_name
-    → names ≡ first ++ flat_map (chosen (has m) (λ k. line_bytes (name_item deck_names k))) packages
-    → files ≡ names ++ flat_map (chosen (has m) (λ k. file_text (package_file m deck_names k))) packages → out ≡ files ++ codes "END\n" → out ≡ deck_text m
-unfolding deck_text written file_texts file_text
+pub deck_is : (m : FlowModel) (start first names files out : List ℕ) → start ≡ [] → first ≡ start ++ file_line deck_name → names ≡ first ++ flat_map (chosen (has m) (part_bytes m true)) packages
+    → files ≡ names ++ flat_map (chosen (has m) (part_bytes m false)) packages → out ≡ files ++ codes "END\n" → out ≡ deck_text m
+unfolding deck_text written file_texts file_text part_bytes
 deck_is m start first names files out none a b d e =
     let kinds = filter (has m) packages in
-    let named : flat_map (chosen (has m) (λ k. line_bytes (name_item deck_names k))) packages ≡ text (map (name_item deck_names) kinds) =
-    chosen_of (has m) (λ k. line_bytes (name_item deck_names k)) packages ∙ sym (lines_of (name_item deck_names) kinds) in
-    let others : flat_map (chosen (has m) (λ k. file_text (package_file m deck_names k))) packages ≡ file_texts (map (package_file m deck_names) kinds) =
-    chosen_of (has m) (λ k. file_text (package_file m deck_names k)) packages ∙ sym (flat_map-map file_text (package_file m deck_names) kinds) in
+    let named : flat_map (chosen (has m) (part_bytes m true)) packages ≡ text (map (name_item deck_names) kinds) =
+    chosen_of (has m) (part_bytes m true) packages ∙ sym (lines_of (name_item deck_names) kinds) in
+    let others : flat_map (chosen (has m) (part_bytes m false)) packages ≡ file_texts (map (package_file m deck_names) kinds) =
+    chosen_of (has m) (part_bytes m false) packages ∙ sym (flat_map-map file_text (package_file m deck_names) kinds) in
     rw (e, d, b, a, none, named, others) refl

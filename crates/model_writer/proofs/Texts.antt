@@ -1,8 +1,8 @@
 -- The bytes of lines, one after another.
-use Rattle.model_writer.proofs.Common.{◌≡◌, ℕ, suc, ◌+◌, ◌≤◌, ◌<◌, List, [], ◌∷◌, ◌++◌, refl, sym, ap, ◌∙◌, length, take, drop, get_or, map, min, ◌-◌, arith}
-use Rattle.model_writer.proofs.Common.{append_assoc, flat_map, range_with_len, flat_map-append, take_more, append-nil, map-append, map-id, drop_all, Line}
-use Rattle.model_writer.proofs.Common.{line_text, text, row_line, row_lines, in_rows, line_bytes, spaced, replicate, replicate_next, Bool, true, false, codes}
-use Rattle.model_writer.proofs.Common.{decimal, lit≤, FlowModel, integer_word, dis_item_1, storage_option}
+use Rattle.model_writer.proofs.Common.{◌≡◌, ℕ, suc, ◌+◌, ◌≤◌, ◌<◌, List, [], ◌∷◌, ◌++◌, refl, sym, ap, ◌∙◌, length, take, drop, get_or, map, ◌-◌, arith}
+use Rattle.model_writer.proofs.Common.{append_assoc, flat_map, range_with_len, flat_map-append, take_more, append-nil, map-append, map-id, Line, line_text}
+use Rattle.model_writer.proofs.Common.{text, row_line, row_lines, in_rows, line_bytes, spaced, replicate, replicate_next, Bool, true, false, codes, decimal}
+use Rattle.model_writer.proofs.Common.{lit≤, FlowModel, integer_word, dis_item_1, storage_option}
 use Rattle.std.proofs.lemmas.List.FromFn.{map-range_with_len_more}
 
 pub text-nil : text [] ≡ []
@@ -61,9 +61,6 @@ next_row word n cols xs = text-cons (row_line word (take cols xs)) (map (row_lin
 -- the numbers below k + 1
 range-more : (k : ℕ) → range_with_len 0 (k + 1) ≡ range_with_len 0 k ++ (k ∷ [])
 range-more k = sym (map-id (range_with_len 0 (k + 1))) ∙ map-range_with_len_more (λ x. x) 0 k k (omega arith) ∙ ap (λ xs. xs ++ (k ∷ [])) (map-id (range_with_len 0 k))
-
-pub drop_min : {X : Type 0} (n : ℕ) (xs : List X) → drop (min n (length xs)) xs ≡ drop n xs
-drop_min n xs = grind (arith, drop_all)
 
 pub next_part : {X : Type 0} (f : X → List Line) (xs : List X) (x : X) → text (flat_map f (xs ++ (x ∷ []))) ≡ text (flat_map f xs) ++ text (f x)
 next_part f xs x = ap text (flat_map-append f xs (x ∷ []) ∙ ap (λ t. flat_map f xs ++ t) (append-nil (f x))) ∙ text-append (flat_map f xs) (f x)

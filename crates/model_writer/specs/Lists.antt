@@ -3,7 +3,8 @@ use Rattle.std.specs.Prelude.{ℕ, List, [], Bool, ◌∷◌, ◌++◌, if◌the
 use Rattle.decimal_input.specs.declared.dec.Dec.{Dec}
 use Rattle.model_types.specs.declared.grid.Grid.{Grid}
 use Rattle.array_text.specs.{Line, line_text}
-use Rattle.model_text.specs.{list_item_6}
+use Rattle.model_text.specs.{deck_names, file_text, list_item_6, name_item, package_file}
+use Rattle.model_types.specs.declared.model.FlowModel.{FlowModel}
 use Rattle.model_types.specs.declared.entry.Entry.{Entry}
 use Rattle.model_types.specs.declared.period.Period.{Period}
 use Rattle.name_file.specs.declared.package.Package.{Package}
@@ -34,3 +35,7 @@ spaced word xs = flat_map (λ x. word x ++ (32 ∷ [])) xs
 -- the bytes of an item that is chosen, and none of another one
 unfoldable pub chosen : {X : Type 0} → (X → Bool) → (X → List ℕ) → X → List ℕ
 chosen is bytes x = if is x then bytes x else []
+
+-- a package's line in the name file, or its file after its line
+unfoldable pub part_bytes : FlowModel → Bool → Package → List ℕ
+part_bytes m named k = if named then line_bytes (name_item deck_names k) else file_text (package_file m deck_names k)

@@ -11,7 +11,7 @@ use model_types::Grid;
 use std::alloc::AllocError;
 
 /// The first values, and the others.
-#[tactic(auto, using(std::proofs::lemmas::List::take_min, crate::proofs::Texts::drop_min))]
+#[tactic(auto, using(std::proofs::lemmas::List::take_min, std::proofs::lemmas::List::drop_min))]
 fn split_first<T>(values: &[T], count: usize) -> (&[T], &[T])
     ensures first { result.0.now ≡ take count values.now }
     ensures others { result.1.now ≡ drop count values.now }

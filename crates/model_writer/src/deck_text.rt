@@ -3,9 +3,9 @@ ghost use Rattle.std.specs.Prelude.{◌≡◌, ◌++◌, IfOk};
 ghost use Rattle.std.specs.List.{flat_map};
 ghost use Rattle.model_types.specs.{HasSize};
 ghost use Rattle.model_text.specs.{deck_names, deck_text, file_line, file_text, has, package_file, packages};
-ghost use Rattle.model_writer.specs.{chosen};
+ghost use Rattle.model_writer.specs.{chosen, part_bytes};
 
-use crate::names::{names_of, push_names};
+use crate::names::{names_of, push_name};
 use crate::packages::{PACKAGES, has_package, push_package};
 use model_types::FlowModel;
 use name_file::Package;
@@ -33,26 +33,35 @@ fn push_file(text: &mut Vec<u8>, model: &FlowModel, kind: Package) -> Result<(),
     push_package(text, model, kind)
 }
 
-#[tactic(auto, using(crate::proofs::ListTexts::one_item, crate::proofs::Texts::texts))]
-fn push_file_if(text: &mut Vec<u8>, model: &FlowModel, kind: Package) -> Result<(), AllocError>
+/// Appends the line of a package in the name file, or its file, if the model has the package.
+#[tactic(auto, using(crate::proofs::ListTexts::one_item, crate::proofs::Texts::texts), unfolding(crate::specs::Lists::part_bytes))]
+fn push_part_if(
+    text: &mut Vec<u8>,
+    model: &FlowModel,
+    named: bool,
+    kind: Package,
+) -> Result<(), AllocError>
     requires { HasSize model.now.grid }
-    ensures { IfOk result (λ _. text.new.items ≡ text.old.items ++ chosen (has model.now) (λ k. file_text (package_file model.now deck_names k)) kind) }
+    ensures { IfOk result (λ _. text.new.items ≡ text.old.items ++ chosen (has model.now) (part_bytes model.now named) kind) }
 {
-    if has_package(model, kind) {
-        push_file(text, model, kind)?;
+    if !has_package(model, kind) {
+        return Ok(());
     }
-    Ok(())
+    if named {
+        push_name(text, kind)
+    } else {
+        push_file(text, model, kind)
+    }
 }
 
-/// Appends the files of the packages that the model has, each after its line.
+/// Appends the lines or the files of the packages that the model has.
 #[tactic(auto, using(crate::proofs::Texts::texts))]
-fn push_files(text: &mut Vec<u8>, model: &FlowModel) -> Result<(), AllocError>
+fn push_parts(text: &mut Vec<u8>, model: &FlowModel, named: bool) -> Result<(), AllocError>
     requires { HasSize model.now.grid }
-    ensures { IfOk result (λ _. text.new.items ≡ text.old.items
-        ++ flat_map (chosen (has model.now) (λ k. file_text (package_file model.now deck_names k))) packages) }
+    ensures { IfOk result (λ _. text.new.items ≡ text.old.items ++ flat_map (chosen (has model.now) (part_bytes model.now named)) packages) }
 {
     for kind in PACKAGES {
-        push_file_if(text, model, kind)?;
+        push_part_if(text, model, named, kind)?;
     }
     Ok(())
 }
@@ -65,8 +74,8 @@ pub fn write_deck(alloc: Global, model: &FlowModel) -> Result<Vec<u8>, AllocErro
 {
     let mut text = Vec::new(alloc);
     push_file_line(&mut text, "p.nam")?;
-    push_names(&mut text, model)?;
-    push_files(&mut text, model)?;
+    push_parts(&mut text, model, true)?;
+    push_parts(&mut text, model, false)?;
     text.extend_from_slice(b"END\n")?;
     Ok(text)
 }

@@ -1,11 +1,8 @@
-// The names of the files of a deck, and its name file.
+// The names of the files of a deck, and the lines of its name file.
 ghost use Rattle.std.specs.Prelude.{◌≡◌, [], ◌∷◌, ◌++◌, IfOk};
-ghost use Rattle.std.specs.List.{flat_map};
-ghost use Rattle.model_text.specs.{deck_names, has, file_type, file_unit, name_item, packages};
-ghost use Rattle.model_writer.specs.{chosen, line_bytes};
+ghost use Rattle.model_text.specs.{deck_names, file_type, file_unit, name_item};
+ghost use Rattle.model_writer.specs.{line_bytes};
 
-use crate::packages::{PACKAGES, has_package};
-use model_types::FlowModel;
 use name_file::Package;
 use std::alloc::AllocError;
 
@@ -28,35 +25,14 @@ pub(crate) fn names_of(kind: Package) -> (&'static [u8], &'static str)
     }
 }
 
+/// Appends the line of a package in the name file.
 #[tactic(auto, using(crate::proofs::Texts::texts), unfolding(crate::specs::Lists::line_bytes, array_text::specs::Lines::line_text, model_text::specs::Written::name_item))]
-fn push_name(bytes: &mut Vec<u8>, kind: Package) -> Result<(), AllocError>
+pub(crate) fn push_name(bytes: &mut Vec<u8>, kind: Package) -> Result<(), AllocError>
     ensures { IfOk result (λ _. bytes.new.items ≡ bytes.old.items ++ line_bytes (name_item deck_names kind)) }
 {
     let (type_and_unit, name) = names_of(kind);
     bytes.extend_from_slice(type_and_unit)?;
     bytes.extend_from_slice(name.as_bytes())?;
     bytes.push(b'\n')?;
-    Ok(())
-}
-
-#[tactic(auto, using(crate::proofs::ListTexts::one_item, crate::proofs::Texts::texts))]
-fn push_name_if(bytes: &mut Vec<u8>, model: &FlowModel, kind: Package) -> Result<(), AllocError>
-    ensures { IfOk result (λ _. bytes.new.items ≡ bytes.old.items ++ chosen (has model.now) (λ k. line_bytes (name_item deck_names k)) kind) }
-{
-    if has_package(model, kind) {
-        push_name(bytes, kind)?;
-    }
-    Ok(())
-}
-
-/// Appends the name file: a line for each package that the model has.
-#[tactic(auto, using(crate::proofs::Texts::texts))]
-pub(crate) fn push_names(bytes: &mut Vec<u8>, model: &FlowModel) -> Result<(), AllocError>
-    ensures { IfOk result (λ _. bytes.new.items ≡ bytes.old.items
-        ++ flat_map (chosen (has model.now) (λ k. line_bytes (name_item deck_names k))) packages) }
-{
-    for kind in PACKAGES {
-        push_name_if(bytes, model, kind)?;
-    }
     Ok(())
 }
