@@ -2,12 +2,13 @@
 use Rattle.barrier_vector.proofs.Common.{◌≡◌, ℕ, zero, suc, ◌+◌, ◌<◌, ◌≤◌, ◌^◌, inl, inr, refl, ◌∙◌, ap, arith, List, min, Contains, le-div_iff_mul-le}
 use Rattle.barrier_vector.proofs.Common.{cases_lt, All-contains, get_or-le-sum_by, Link, Fixed, Side, Low, High, Entries, entries_at, IsProblem, CellFits}
 use Rattle.barrier_vector.proofs.Common.{LinkFits, FixedFits, RiverFits, DrainFits, greatest, anchor_on, AnchorRoot, capped_flow, ceil_over, LeadsToRoot}
-use Rattle.barrier_vector.proofs.Common.{IsLevel, IsParent, SumsTo, IsPath, path_limit, Option, ListRoot, AreRoots, length, sym, subst}
+use Rattle.barrier_vector.proofs.Common.{IsLevel, IsParent, SumsTo, IsPath, path_limit, Option, ListRoot, AreAnchorDrops, length, sym}
+use Rattle.barrier_vector.proofs.Levels.{marked_within}
 use Rattle.step_problem.specs.declared.entry.River.{River}
 use Rattle.step_problem.specs.declared.entry.Drain.{Drain}
 use Rattle.std.specs.Prelude.{sum_by}
 use Rattle.barrier_vector.proofs.CarriedRoots.{has_links, conducts}
-use Rattle.barrier_vector.proofs.Rooting.{greatest_has}
+use Rattle.barrier_vector.proofs.Rooting.{greatest_has, drop_is, drop_of}
 
 -- conductances at a cell are below 2 ^ 60
 member_within : {X : Type 0} (f : X → ℕ) (xs : List X) (x : X) → Contains xs x → f x ≤ sum_by f xs
@@ -87,7 +88,10 @@ module _ (p : List Entries) (ok : IsProblem p) (q : ℕ) (R S : ℕ → ℕ → 
     whole_path c s path = let (t, sums, cut) = sums_whole path.level c s path.sums in (t, record { level = path.level; is_level = level_whole c path.level path.is_level; sums = sums }, cut)
 
 -- and so for the anchors of a side, whose drops stand in a list
-pub whole_anchor_path : (side : Side) (p : List Entries) → IsProblem p → (q : ℕ) (own : List (Option ℕ)) → length own ≡ length p → AreRoots (AnchorRoot side p (capped_flow q)) own → (c s : ℕ) → IsPath p (capped_flow q) (ListRoot own) c s → (t : ℕ) × IsPath p q (AnchorRoot side p q) c t × (min s path_limit ≡ min t path_limit)
-whole_anchor_path side p ok q own whole roots = whole_path p ok q (ListRoot own) (AnchorRoot side p q)
-    (λ c d e. let (h, some, is) = roots.only c d e in (ceil_over q (anchor_on side (entries_at p c)), (h, some, refl), ap (λ (n : ℕ). min n path_limit) is ∙ cut_drop q (anchor_on side (entries_at p c)) some (anchor_small (entries_at p c) (ok.cells c h) side)))
-    (λ c d (h, some, is). (ceil_over (capped_flow q) (anchor_on side (entries_at p c)), roots.each c _ (subst (λ (n : ℕ). c < n) (sym whole) h) (h, some, refl)))
+pub whole_anchor_path : (side : Side) (p : List Entries) → IsProblem p → (q : ℕ) (own : List (Option ℕ)) → AreAnchorDrops side p (capped_flow q) own → (c s : ℕ) → IsPath p (capped_flow q) (ListRoot own) c s → (t : ℕ) × IsPath p q (AnchorRoot side p q) c t × (min s path_limit ≡ min t path_limit)
+whole_anchor_path side p ok q own drops = whole_path p ok q (ListRoot own) (AnchorRoot side p q)
+    (λ c d e.
+    let h : c < length p = rw drops.whole at (marked_within own c d e) in
+    let (some, is) = drop_is (capped_flow q) (anchor_on side (entries_at p c)) d (sym (drops.each c h) ∙ e) in
+    (ceil_over q (anchor_on side (entries_at p c)), (h, some, refl), ap (λ (n : ℕ). min n path_limit) is ∙ cut_drop q (anchor_on side (entries_at p c)) some (anchor_small (entries_at p c) (ok.cells c h) side)))
+    (λ c d (h, some, is). (ceil_over (capped_flow q) (anchor_on side (entries_at p c)), drops.each c h ∙ drop_of (capped_flow q) (anchor_on side (entries_at p c)) some))

@@ -2,8 +2,8 @@
 use Rattle.barrier_vector.proofs.Common.{◌≡◌, ℕ, ◌+◌, ◌<◌, ◌≤◌, inl, inr, refl, sym, ◌∙◌, ap, subst, arith, List, length, min, Option, None, Some, slice_index}
 use Rattle.barrier_vector.proofs.Common.{ℤ, pos, ◌-ℤ◌, ◌≤ℤ◌, ◌<ℤ◌, ints, clamps, Entries, entries_at, IsProblem, IsHead, base_on, IsComponent, sum_inside}
 use Rattle.barrier_vector.proofs.Common.{deep_low, Low, lack, capped_flow, LeastRoot, IsInnerPath, IsLongest, IsUnanchored, mark_at, path_limit, ListRoot}
-use Rattle.barrier_vector.proofs.Common.{IsSearched, AreLabels, labelled, sum_at, longest_at, greatest_inside, Total, SelfRoot, AreRoots, AreComponents, cut_on}
-use Rattle.barrier_vector.proofs.Common.{IsBoundOrNone}
+use Rattle.barrier_vector.proofs.Common.{IsSearched, AreLabels, labelled, sum_at, longest_at, greatest_inside, Total, AreSelfDrops, AreComponents, Bool, true}
+use Rattle.barrier_vector.proofs.Common.{false, cond, is_label, cut_on, IsBoundOrNone}
 use Rattle.barrier_vector.proofs.CarriedRoots.{reaches_within, turn_way, join_ways}
 use Rattle.barrier_vector.proofs.Levels.{marked_or_not, marked_within}
 use Rattle.barrier_vector.proofs.Labelling.{along}
@@ -16,23 +16,33 @@ use Rattle.barrier_vector.proofs.Components.{longest as longest_path, one_sum}
 
 module _ (p : List Entries) (ok : IsProblem p) where
   -- every cell leads to the least cell of its component
-  pub inner_paths_of : (labels own levels : List (Option ℕ)) (paths : List ℕ) → AreLabels p labels (length p) → length own ≡ length labels → AreRoots (SelfRoot labels) own → IsSearched p (capped_flow (lack p)) own levels paths → (c : ℕ) → c < length p → (s : ℕ) × IsInnerPath p c s × (slice_index paths c ≡ min s path_limit)
-  inner_paths_of labels own levels paths l whole roots found c h =
+  pub inner_paths_of : (labels own levels : List (Option ℕ)) (paths : List ℕ) → AreLabels p labels (length p) → AreSelfDrops labels (length labels) own → IsSearched p (capped_flow (lack p)) own levels paths → (c : ℕ) → c < length p → (s : ℕ) × IsInnerPath p c s × (slice_index paths c ≡ min s path_limit)
+  inner_paths_of labels own levels paths l drops found c h =
       elim (marked_or_not (mark_at levels c)) [
         | inl none ↦
             let (m, e) = l.all c h in
             let (j, way) = l.reached c m e in
             let (i, back_way) = turn_way p ok j m c way in
             let self = along p labels (length p) l i c m m e back_way in
-            absurd (found.none c h none i (record { root = m; drop = 0; is_root = roots.each m 0 (subst (λ (n : ℕ). m < n) (sym whole) (marked_within labels m m self)) (self, refl); reaches = back_way }))
+            absurd (found.none c h none i (record { root = m; drop = 0; is_root = drop_of m self; reaches = back_way }))
         | inr (k, e) ↦
             let (s, path, cut) = found.some c k e in
             let (t, full, same) = whole_path p ok (lack p) (ListRoot own) (LeastRoot p) (λ a d r. (d, least_is a d r, refl)) (λ a d r. (d, is_least a d r)) c s path in
             (t, full, cut ∙ same)
       ]
     where
+      drop_of : (c : ℕ) → mark_at labels c ≡ Some c → mark_at own c ≡ Some 0
+      drop_of c self = drops.each c (marked_within labels c c self) ∙ rw (label_true (mark_at labels c) c self) refl
+
+      self_is : (o : Option ℕ) (c d : ℕ) (b : Bool) → is_label o c ≡ b → cond b (Some 0) None ≡ Some d → (o ≡ Some c) × (d ≡ 0)
+      self_is o c d true t e = (label_is o c t, cc)
+      self_is o c d false t e = absurd cc
+
       least_is : (c d : ℕ) → ListRoot own c d → LeastRoot p c d
-      least_is c d e = let (self, none) = roots.only c d e in (subst (λ (n : ℕ). c < n) l.whole (marked_within labels c c self), (λ j k way. l.least c c j k self way), none)
+      least_is c d e =
+          let h = marked_within own c d e in
+          let (self, none) = self_is (mark_at labels c) c d (is_label (mark_at labels c) c) refl (sym (drops.each c (rw drops.whole at h)) ∙ e) in
+          (omega (arith, h, drops.whole, l.whole), (λ j k way. l.least c c j k self way), none)
 
       is_least : (c d : ℕ) → LeastRoot p c d → ListRoot own c d
       is_least c d (within, least, none) =
@@ -42,7 +52,7 @@ module _ (p : List Entries) (ok : IsProblem p) where
           let le = l.least c m j c e way in
           let ge = least i m back_way in
           let at : m ≡ c = omega (arith, le, ge) in
-          roots.each c d (subst (λ (n : ℕ). c < n) (sym (whole ∙ l.whole)) within) (subst (λ (z : ℕ). mark_at labels c ≡ Some z) at e, none)
+          rw none (drop_of c (subst (λ (z : ℕ). mark_at labels c ≡ Some z) at e))
 
 capped_sum : (b : ℤ) (x y s t : ℕ) → IsHead b → x ≡ min s path_limit → y ≡ min t path_limit → cut_on Low (b -ℤ pos (x + y)) ≡ cut_on Low (b -ℤ pos (s + t))
 capped_sum b x y s t h p q = omega (arith, ints, clamps, h.below, h.above, p, q)
@@ -82,10 +92,10 @@ module _ (p : List Entries) (ok : IsProblem p) (labels : List (Option ℕ)) (inn
   floor_none c m h none e empty = (none, λ carried. let same = one_sum p ok c carried.inside (labelled labels m) carried.component (component_of c m e) ∙ sym (y.component_sums m) in let k = carried.carries in omega (arith, ints, same, k, empty))
 
 -- the components, from what the code made
-pub components_made : (p : List Entries) → IsProblem p → (labels least levels : List (Option ℕ)) (inner : List ℕ) (totals : List Total) → AreLabels p labels (length p) → length least ≡ length labels → AreRoots (SelfRoot labels) least → IsSearched p (capped_flow (lack p)) least levels inner → length totals ≡ length p → ((m : ℕ) → sum_at totals m ≡ sum_inside (length p) (labelled labels m) (λ k. deep_low (entries_at p k))) → ((m : ℕ) → longest_at totals m ≡ greatest_inside (length p) (labelled labels m) (slice_index inner)) → AreComponents p labels inner totals
-components_made p ok labels least levels inner totals l least_whole least_roots found whole sums tops = record {
+pub components_made : (p : List Entries) → IsProblem p → (labels least levels : List (Option ℕ)) (inner : List ℕ) (totals : List Total) → AreLabels p labels (length p) → AreSelfDrops labels (length labels) least → IsSearched p (capped_flow (lack p)) least levels inner → length totals ≡ length p → ((m : ℕ) → sum_at totals m ≡ sum_inside (length p) (labelled labels m) (λ k. deep_low (entries_at p k))) → ((m : ℕ) → longest_at totals m ≡ greatest_inside (length p) (labelled labels m) (slice_index inner)) → AreComponents p labels inner totals
+components_made p ok labels least levels inner totals l drops found whole sums tops = record {
   labelling = l;
-  inner_paths = inner_paths_of p ok labels least levels inner l least_whole least_roots found;
+  inner_paths = inner_paths_of p ok labels least levels inner l drops found;
   component_sums = sums;
   tops = tops;
   inner_whole = found.paths_whole;

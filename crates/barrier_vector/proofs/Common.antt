@@ -7,7 +7,7 @@ pub use Rattle.std.proofs.Math.Nat.{le_of_mul-le-mul_left, mul-le-mul_right}
 pub use Rattle.std.proofs.lemmas.Bool.{cases_eq, cases_lt, eq-eqb, false≢true, ne_eqb}
 pub use Rattle.std.proofs.lemmas.Fn.{says_at}
 pub use Rattle.std.proofs.lemmas.Int.{by_lt_z, clamps, ints, to_z-of_z}
-pub use Rattle.std.proofs.lemmas.List.{at_drop_more, drop_all, get_or_default, get_or_past, length-map, length-set, take_all}
+pub use Rattle.std.proofs.lemmas.List.{at_drop_more, drop_all, get_or-map, get_or_default, get_or_past, length-map, length-set, take_all}
 pub use Rattle.std.proofs.lemmas.List.Elements.{All-contains, All-head, All-tail, Contains-append_left, Contains-get_or, Contains-push, Contains-push_cases}
 pub use Rattle.std.proofs.lemmas.List.Sums.{get_or-le-sum_by, sum_by_more}
 pub use Rattle.std.specs.Fn.{FnReturnsAt}
@@ -15,17 +15,17 @@ pub use Rattle.std.specs.Int.{int_div_euclid, int_max, int_min, int_rem_euclid, 
 pub use Rattle.std.specs.List.{AllZip}
 pub use Rattle.std.specs.Option.{is_some, unwrap_or}
 pub use Rattle.std.specs.Prelude.{map, replicate}
-pub use Rattle.barrier_vector.specs.{AnchorRoot, AreAnchorPaths, AreBegun, AreBounds, AreComponents, AreCutBounds, AreHeadsOf, AreLabels, AreRoots}
-pub use Rattle.barrier_vector.specs.{BarrierExcludesRefusal, BarrierIsCut, BarrierIsOne, CeilingsEnclose, ClampedFits, ContinuesTo, CutBarrierExcludesRefusal}
-pub use Rattle.barrier_vector.specs.{CutBarrierIsOne, CutRefusalIsOne, EnclosesUncut, Fills, FloorsEnclose, FloorsHold, FrontLeads, HasNoBound, HasStorage}
-pub use Rattle.barrier_vector.specs.{IsAnchorPath, IsAnchoredBound, IsAnchoredOrNone, IsBoundOn, IsBoundOrNone, IsCarriedFloor, IsCeiling, IsCutBarrierOf}
-pub use Rattle.barrier_vector.specs.{IsCutBoundOn, IsCutFault, IsCutFaultOn, IsFaultOn, IsFirst, IsFloor, IsInnerPath, IsLeastWith, IsLevel, IsLongest}
-pub use Rattle.barrier_vector.specs.{IsMissing, IsNearest, IsNotForLackOfAnchors, IsOutOfRange, IsOutline, IsParent, IsPath, IsRefused, IsRefusedOn, IsSearched}
-pub use Rattle.barrier_vector.specs.{IsSolution, IsUnanchored, IsWholeSide, LeadsToRoot, LeastRoot, LeavesRange, LiesOut, LinkLeads, ListAnchor, ListRoot}
-pub use Rattle.barrier_vector.specs.{Names, Nowhere, RefusalIsOne, Refuses, RefusesOn, SelfRoot, Spreads, SumsTo, anchor_on, base_on, bound_at, capped_flow}
-pub use Rattle.barrier_vector.specs.{ceil_over, cell_mark, clamp, cut_on, drain_mark, fixed_mark, flow_sum, greatest, greatest_inside, high_flow, if_some}
-pub use Rattle.barrier_vector.specs.{is_label, labelled, lack, longest_at, mark_at, moved_out, need, need_on, negative_part, no_barrier_on, outer_of, outermost}
-pub use Rattle.barrier_vector.specs.{path_limit, positive_part, range_on, river_mark, sum_at, unmarked}
+pub use Rattle.barrier_vector.specs.{AnchorRoot, AreAnchorDrops, AreAnchorPaths, AreBegun, AreBounds, AreComponents, AreCutBounds, AreHeadsOf, AreLabels}
+pub use Rattle.barrier_vector.specs.{AreSelfDrops, BarrierExcludesRefusal, BarrierIsCut, BarrierIsOne, CeilingsEnclose, ClampedFits, ContinuesTo}
+pub use Rattle.barrier_vector.specs.{CutBarrierExcludesRefusal, CutBarrierIsOne, CutRefusalIsOne, EnclosesUncut, Fills, FloorsEnclose, FloorsHold, FrontLeads}
+pub use Rattle.barrier_vector.specs.{HasEach, HasNoBound, HasStorage, IsAnchorPath, IsAnchoredBound, IsAnchoredOrNone, IsBoundOn, IsBoundOrNone, IsCarriedFloor}
+pub use Rattle.barrier_vector.specs.{IsCeiling, IsCutBarrierOf, IsCutBoundOn, IsCutFault, IsCutFaultOn, IsFaultOn, IsFirst, IsFloor, IsInnerPath, IsLeastWith}
+pub use Rattle.barrier_vector.specs.{IsLevel, IsLongest, IsMissing, IsNearest, IsNotForLackOfAnchors, IsOutOfRange, IsOutline, IsParent, IsPath, IsRefused}
+pub use Rattle.barrier_vector.specs.{IsRefusedOn, IsSearched, IsSolution, IsUnanchored, IsWholeSide, LeadsToRoot, LeastRoot, LeavesRange, LiesOut, LinkLeads}
+pub use Rattle.barrier_vector.specs.{ListRoot, Names, Nowhere, RefusalIsOne, Refuses, RefusesOn, Spreads, SumsTo, anchor_drop, anchor_on, base_on, bound_at}
+pub use Rattle.barrier_vector.specs.{capped_flow, ceil_over, cell_mark, clamp, cut_on, drain_mark, fixed_mark, flow_sum, greatest, greatest_inside, high_flow}
+pub use Rattle.barrier_vector.specs.{if_some, is_label, labelled, lack, longest_at, mark_at, moved_out, need, need_on, negative_part, no_barrier_on, outer_of}
+pub use Rattle.barrier_vector.specs.{outermost, path_limit, positive_part, range_on, river_mark, sum_at, unmarked}
 pub use Rattle.barrier_vector.specs.declared.BarrierFault.{BarrierFault}
 pub use Rattle.barrier_vector.specs.declared.BarrierFault.TheVariants.{Memory}
 pub use Rattle.barrier_vector.specs.declared.gathered.Total.{Total}

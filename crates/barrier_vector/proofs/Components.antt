@@ -31,10 +31,7 @@ module _ (p : List Entries) (ok : IsProblem p) where
   carried_decided c =
       by_lt_z (pos 0) (sum_inside (length p) (inside c) deep)
       (λ some. inl (record { inside = inside c; component = component c; carries = some }))
-      (λ none. inr (λ carried. clash _ _ (one_sum c carried.inside (inside c) carried.component (component c)) carried.carries none))
-    where
-      clash : (a b : ℤ) → a ≡ b → pos 0 <ℤ a → b ≤ℤ pos 0 → ⊥
-      clash a b e h k = omega (arith, ints)
+      (λ none. inr (λ carried. (omega (arith, ints, one_sum c carried.inside (inside c) carried.component (component c), carried.carries))))
 
   least_or_not : (c : ℕ) → Decided ((d : ℕ) × LeastRoot p c d)
   least_or_not c =

@@ -31,20 +31,11 @@ module _ (p : List Entries) (ok : IsProblem p) (n q : ℕ) (Y : ℕ → ℤ) (to
 
     -- from a cell back along its path to its root
     pub falls_to_root : (k c s e : ℕ) → c < length p → SumsTo p q Root k c s → (t -ℤ pos (e * n)) ≤ℤ Y c → (r : ℕ) × (d : ℕ) × (j : ℕ) × Root r d × Reaches p j c r × ((t -ℤ pos ((e + s) * n)) ≤ℤ Y r)
-    falls_to_root zero c s e i root h = (c, s, 0, root, refl, more e s (Y c) h)
-      where
-        more : (e s : ℕ) (y : ℤ) → (t -ℤ pos (e * n)) ≤ℤ y → (t -ℤ pos ((e + s) * n)) ≤ℤ y
-        more e s y h = omega (arith, ints, h)
+    falls_to_root zero c s e i root h = (c, s, 0, root, refl, omega (arith, ints, h))
     falls_to_root (suc k) c s e i (x, parent, rest, sums, is) h =
         let next = falls_over (t -ℤ pos (e * n)) (under (e * n)) (ceil_over q x.lo) x.cell (leads_within p ok c x parent.has) (record { cell = c; lo = x.lo; hi = x.hi }) (back p ok c x parent.has) (ceil_enough q x.lo (conducts p ok c x parent.has)) h in
-        let (r, d, j, root, way, deep) = falls_to_root k x.cell rest (e + ceil_over q x.lo) (leads_within p ok c x parent.has) sums (joined_low t (Y x.cell) n (ceil_over q x.lo) e (e + ceil_over q x.lo) (comm e (ceil_over q x.lo)) next) in
-        (r, d, suc j, root, (x, parent.has, way), all e (ceil_over q x.lo) rest s (Y r) is deep)
-      where
-        comm : (a b : ℕ) → a + b ≡ b + a
-        comm a b = omega arith
-
-        all : (e drop rest s : ℕ) (y : ℤ) → s ≡ drop + rest → (t -ℤ pos ((e + drop + rest) * n)) ≤ℤ y → (t -ℤ pos ((e + s) * n)) ≤ℤ y
-        all e drop rest s y is h = omega (arith, ints, h, ap (λ (k : ℕ). k * n) is)
+        let (r, d, j, root, way, deep) = falls_to_root k x.cell rest (e + ceil_over q x.lo) (leads_within p ok c x parent.has) sums (joined_low t (Y x.cell) n (ceil_over q x.lo) e (e + ceil_over q x.lo) (omega arith) next) in
+        (r, d, suc j, root, (x, parent.has, way), omega (arith, ints, deep, ap (λ (k : ℕ). k * n) is))
 
 module _ (m n : ℕ) (some_m : 0 < m) (some_n : 0 < n) (p : List Entries) (w : List WholeCell) (Y : ℕ → ℤ)
     (within : AllZip (CellWithin m n (length p)) p w) (both : IsMutual w)
@@ -81,11 +72,14 @@ module _ (m n : ℕ) (some_m : 0 < m) (some_n : 0 < n) (p : List Entries) (w : L
         let (r, d, l, is_root, way, deep) = falls_to_root p ok n (need Low p) Y (b *ℤ pos n) (over Low b base) (LeastRoot p) (b *ℤ pos n) (same_z _) path_k.level k e 0 k_in path_k.sums (none (b *ℤ pos n) (Y k) high) in
         let r_is = same_root p ok leads.root root c path.level (j + l) r d leads.reaches (join_ways p ok j l c k r to_k way) is_root in
         let low = deeper (b *ℤ pos n) e t (Y r) short deep in
-        deepest (b *ℤ pos n) (Y c)
-        (falls_along p ok n (need Low p) Y (b *ℤ pos n) (over Low b base) (LeastRoot p) ((b *ℤ pos n) -ℤ pos (t * n)) (under (b *ℤ pos n) (t * n)) path.level c s i path.sums
-        (λ r' d' l' other way'.
-        let r'_is = same_root p ok leads.root root c path.level l' r' d' leads.reaches way' other in
-        at_root ((b *ℤ pos n) -ℤ pos (t * n)) d' r r' leads.root other.2 r_is r'_is low))
+        omega (
+          arith,
+          ints,
+          falls_along p ok n (need Low p) Y (b *ℤ pos n) (over Low b base) (LeastRoot p) ((b *ℤ pos n) -ℤ pos (t * n)) (omega (arith, ints)) path.level c s i path.sums
+              (λ r' d' l' other way'.
+              let r'_is = same_root p ok leads.root root c path.level l' r' d' leads.reaches way' other in
+              at_root ((b *ℤ pos n) -ℤ pos (t * n)) d' r r' leads.root other.2 r_is r'_is low),
+        )
       where
         none : (a y : ℤ) → a ≤ℤ y → (a -ℤ pos (0 * n)) ≤ℤ y
         none a y h = omega (arith, ints)
@@ -93,14 +87,8 @@ module _ (m n : ℕ) (some_m : 0 < m) (some_n : 0 < n) (p : List Entries) (w : L
         deeper : (a : ℤ) (e t : ℕ) (y : ℤ) → e ≤ t → (a -ℤ pos ((0 + e) * n)) ≤ℤ y → (a -ℤ pos (t * n)) ≤ℤ y
         deeper a e t y h k = let q : e * n ≤ t * n = mul-le-mul_right n h in omega (arith, ints, q, k)
 
-        under : (a : ℤ) (k : ℕ) → (a -ℤ pos k) ≤ℤ a
-        under a k = omega (arith, ints)
-
         at_root : (a : ℤ) (d r r' top : ℕ) → d ≡ 0 → r ≡ top → r' ≡ top → a ≤ℤ Y r → (a -ℤ pos (d * n)) ≤ℤ Y r'
         at_root a d r r' top none_there e e' h = rw (none_there, e') (none a (Y top) (subst (λ (z : ℕ). a ≤ℤ Y z) e h))
-
-        deepest : (a y : ℤ) → ((a -ℤ pos (t * n)) -ℤ pos (s * n)) ≤ℤ y → (a -ℤ pos ((s + t) * n)) ≤ℤ y
-        deepest a y h = omega (arith, ints, h)
 
     -- the bound of a cell on a side
     anchored_encloses : (side : Side) (c : ℕ) (f : ℤ) → c < length p → IsAnchoredBound side p c f → Bounds side (f *ℤ pos n) (Y c)

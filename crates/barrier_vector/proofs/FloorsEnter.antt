@@ -51,10 +51,7 @@ module _ (w : List WholeCell) (both : IsMutual w) (Y rest need : ℕ → ℤ) (t
         let parts = sum-same n _ _ (λ k j. split (over_cut k) (rest k) (need k) (lies_below Y t k)) ∙ sum-add n (λ k. cond (lies_below Y t k) (over_cut k +ℤ rest k) (pos 0)) (λ k. cond (lies_below Y t k) (need k) (pos 0)) in
         let none = sum-same n (λ k. cond (lies_below Y t k) (total (whole_link Y (Y k)) (whole_at w k).links +ℤ rest k) (pos 0)) (λ k. pos 0) (λ k j. solved_cell k j (lies_below Y t k)) ∙ sum-zero n in
         let one = term-le-sum n (λ k. cond (lies_below Y t k) (over_cut k +ℤ (rest k +ℤ need k)) (pos 0)) (λ k j. some k j (lies_below Y t k) refl) c i in
-        finish _ _ _ _ _ parts (cut_links w (lies_below Y t) Y rest both) none (rw (test_true (Y c) t h) at one)
-      where
-        finish : (s k l f a : ℤ) → s ≡ k +ℤ f → l ≡ k → l ≡ pos 0 → a ≤ℤ s → a ≤ℤ f
-        finish s k l f a p q z h = omega (arith, ints)
+        omega (arith, ints, cut_links w (lies_below Y t) Y rest both, (rw (test_true (Y c) t h) at one))
 
 -- Sums over the cells of a problem, whose terms are each limited, and terms of sums.
 pub limited_sum : (g : Entries → ℕ) (p : List Entries) (F : ℕ → ℤ) (k : ℕ) → ((c : ℕ) → c < length p → F c ≤ℤ (pos (g (entries_at p c)) *ℤ pos k)) → (n : ℕ) → n ≤ length p → sum_below n F ≤ℤ (pos (sum_by g (take n p)) *ℤ pos k)

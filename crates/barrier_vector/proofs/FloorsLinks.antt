@@ -20,11 +20,8 @@ step_bound lo m n c drop q (pos u) d l some_m h some below carry enough =
     let a : lo * m * u ≤ c * u = mul-le-mul_right u h in
     let b = mul_mono c (pos u) d below in
     let e = mul_mono_right (m * n) (pos q) (pos (drop * lo)) (omega (arith, ints)) in
-    at_most (chain (lo * m * u) (c * u) (drop * lo * (m * n)) (pos c *ℤ d) (pos q *ℤ pos (m * n)) a b carry e)
+    at_most (omega (arith, ints))
   where
-    chain : (x y z : ℕ) (a b : ℤ) → x ≤ y → pos y ≤ℤ a → a ≤ℤ b → b ≤ℤ pos z → x ≤ z
-    chain x y z a b h k i j = omega (arith, ints)
-
     at_most : lo * m * u ≤ drop * lo * (m * n) → pos u ≤ℤ pos (drop * n)
     at_most h =
         let some_lo : 1 * m ≤ lo * m = mul-le-mul_right m l in

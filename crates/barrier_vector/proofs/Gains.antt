@@ -20,16 +20,10 @@ rest_of w v = total (λ q. q) w.flows +ℤ total (whole_fixed v) w.fixed +ℤ to
 
 pub inward_balance : (side : Side) (w : WholeCell) (v : ℤ) (Y : ℕ → ℤ) → whole_balance w v Y ≡ pos 0 → total (whole_link (λ k. inward side (Y k)) (inward side v)) w.links +ℤ inward side (rest_of w v) ≡ pos 0
 inward_balance Low w v Y e = omega (arith, ints, e)
-inward_balance High w v Y e = sum _ _ _ _ _ _ _ (total-same (λ x. Unit {0}) _ _ w.links (λ x u. turned x) (λ k d i. tt) ∙ total_neg (whole_link Y v) w.links) e
+inward_balance High w v Y e = omega (arith, ints, total-same (λ x. Unit {0}) _ _ w.links (λ x u. turned x) (λ k d i. tt) ∙ total_neg (whole_link Y v) w.links)
   where
-    apart : (a b : ℤ) → neg_ℤ a -ℤ neg_ℤ b ≡ neg_ℤ (a -ℤ b)
-    apart a b = omega (arith, ints)
-
     turned : (x : WholeLink) → pos x.c *ℤ (neg_ℤ (Y x.cell) -ℤ neg_ℤ v) ≡ neg_ℤ (whole_link Y v x)
-    turned x = ap (λ (z : ℤ). pos x.c *ℤ z) (apart (Y x.cell) v) ∙ mul_neg (pos x.c) (Y x.cell -ℤ v)
-
-    sum : (k f l a b d g : ℤ) → k ≡ neg_ℤ l → f +ℤ l +ℤ a +ℤ b +ℤ d +ℤ g ≡ pos 0 → k +ℤ neg_ℤ (f +ℤ a +ℤ b +ℤ d +ℤ g) ≡ pos 0
-    sum k f l a b d g p q = omega (arith, ints)
+    turned x = ap (λ (z : ℤ). pos x.c *ℤ z) (omega (arith, ints)) ∙ mul_neg (pos x.c) (Y x.cell -ℤ v)
 
 -- a conductance with its lower bound, over a distance and over a greater one
 gain : (lo m c : ℕ) (d e : ℤ) → lo * m ≤ c → pos 0 ≤ℤ d → (c ≡ 0) ⊎ (d ≤ℤ e) → (pos (lo * m) *ℤ d) ≤ℤ (pos c *ℤ e)
@@ -42,18 +36,12 @@ module _ (m : ℕ) (d : ℤ) (some : pos 0 ≤ℤ d) where
   both_gains : (a b : ℕ) (u v : ℤ) → (pos (a * m) *ℤ d) ≤ℤ u → (pos (b * m) *ℤ d) ≤ℤ v → (pos (max a b * m) *ℤ d) ≤ℤ (u +ℤ v)
   both_gains a b u v p q =
       elim (cases_lt a b) [
-        | inl less ↦ let e : max a b ≡ b = omega (arith, less) in rw e (more _ _ _ q (nonneg a u p))
-        | inr most ↦ let e : max a b ≡ a = omega (arith, most) in rw e (first _ _ _ p (nonneg b v q))
+        | inl less ↦ let e : max a b ≡ b = omega (arith, less) in rw e (omega (arith, ints, nonneg a u p))
+        | inr most ↦ let e : max a b ≡ a = omega (arith, most) in rw e (omega (arith, ints, nonneg b v q))
       ]
     where
       nonneg : (a : ℕ) (u : ℤ) → (pos (a * m) *ℤ d) ≤ℤ u → pos 0 ≤ℤ u
       nonneg a u h = le_trans_z _ _ _ (mul_nonneg (pos (a * m)) d (omega (arith, ints)) some) h
-
-      more : (k u v : ℤ) → k ≤ℤ v → pos 0 ≤ℤ u → k ≤ℤ (u +ℤ v)
-      more k u v h j = omega (arith, ints)
-
-      first : (k u v : ℤ) → k ≤ℤ u → pos 0 ≤ℤ v → k ≤ℤ (u +ℤ v)
-      first k u v h j = omega (arith, ints)
 
   -- entries that each gain give together what the greatest does
   all_gain : {X W : Type 0} (R : X → W → Type 0) (P : X → Type 0) (lo : X → ℕ) (g : W → ℤ) → ((x : X) (z : W) → R x z → P x → (pos (lo x * m) *ℤ d) ≤ℤ g z) → (xs : List X) (zs : List W) → AllZip R xs zs → All P xs → (pos (greatest lo xs * m) *ℤ d) ≤ℤ total g zs
@@ -61,9 +49,8 @@ module _ (m : ℕ) (d : ℤ) (some : pos 0 ≤ℤ d) where
     where
       nothing : (k : ℕ) → k ≡ 0 → (pos k *ℤ d) ≤ℤ pos 0
       nothing k e = rw (e, zero-*ℤ) (omega (arith, ints))
-  all_gain R P lo g each [] (z ∷ zs) h a = absurd h
-  all_gain R P lo g each (x ∷ xs) [] h a = absurd h
   all_gain R P lo g each (x ∷ xs) (z ∷ zs) h a = both_gains (lo x) (greatest lo xs) (g z) (total g zs) (each x z h.0 (All-head P x xs a)) (all_gain R P lo g each xs zs h.1 (All-tail P x xs a))
+  all_gain R P lo g each xs zs h a = absurd h
 
 module _ (m n cells : ℕ) (b : ℤ) (p : Entries) (w : WholeCell) (e : CellWithin m n cells p w) (y : ℤ) where
   lacking : (z f : ℤ) (k : ℕ) → (z *ℤ pos k) ≤ℤ f → pos 0 ≤ℤ (f +ℤ pos (negative_part z) *ℤ pos k)
@@ -87,14 +74,11 @@ module _ (m n cells : ℕ) (b : ℤ) (p : Entries) (w : WholeCell) (e : CellWith
       (λ x z r h. gain x.lo m z.c _ _ r.c.lower far (near z.c z.top (inside_base Low x.hi z.c x.head_lo z.top h r.c.upper r.top.lower))) p.fixed w.fixed e.fixed
       (λ k d i some. marks _ (inl (get_or p.fixed k d, Contains-get_or p.fixed k d i, some_at _ _ some))) in
       let dry = dry_balance (λ k. pos 0) y (b *ℤ pos n) w (omega (arith, ints, low)) (cell_dry m n cells b p w e marks) in
-      sum (total (λ q. q) w.flows) (total (whole_link (λ k. pos 0) y) w.links) _ _ _ _ _ _ _ fixed dry (lacking (deep_low p) (whole_deep w) (m * n) (deep_less m n cells p w e))
+      omega (arith, ints, lacking (deep_low p) (whole_deep w) (m * n) (deep_less m n cells p w e))
     where
       near : (c : ℕ) (h : ℤ) → (c ≡ 0) ⊎ ((b *ℤ pos n) ≤ℤ h) → (c ≡ 0) ⊎ ((b *ℤ pos n -ℤ y) ≤ℤ (h -ℤ y))
       near c h (inl z) = inl z
       near c h (inr k) = inr (omega (arith, ints, k))
-
-      sum : (f l a r d v g deep need : ℤ) → g ≤ℤ a → (deep +ℤ (l +ℤ a)) ≤ℤ (f +ℤ l +ℤ a +ℤ r +ℤ d +ℤ v) → pos 0 ≤ℤ (deep +ℤ need) → g ≤ℤ (f +ℤ a +ℤ r +ℤ d +ℤ v +ℤ need)
-      sum f l a r d v g deep need p q s = omega (arith, ints)
 
   gives_high : ((v : ℤ) → IsCellMark High p v → v ≤ℤ b) → (b *ℤ pos n) <ℤ y → (pos (anchor_on High p * m) *ℤ (y -ℤ b *ℤ pos n)) ≤ℤ (neg_ℤ (rest_of w y) +ℤ pos (need_on High p) *ℤ pos (m * n))
   gives_high marks high =
@@ -104,7 +88,7 @@ module _ (m n cells : ℕ) (b : ℤ) (p : Entries) (w : WholeCell) (e : CellWith
       (λ x z r h. out z.c _ (gain x.lo m z.c _ _ r.c.lower far (near z.c z.top (neg_ℤ (z.top -ℤ y)) (inside_base High x.hi z.c x.head_hi z.top h r.c.upper r.top.upper) (λ k. omega (arith, ints, k))))) p.fixed w.fixed e.fixed
       (λ k d i some. marks _ (inl (get_or p.fixed k d, Contains-get_or p.fixed k d i, some_at _ _ some))) in
       let rivers = all_gain m d far (RiverWithin m n) (λ x. 0 < x.hi → int_max x.stage_hi x.bottom_hi ≤ℤ b) (λ x. x.lo) (λ z. neg_ℤ (whole_river y z))
-      (λ x z r h. out z.c _ (gain x.lo m z.c _ _ r.c.lower far (near z.c z.top (neg_ℤ (z.top -ℤ int_max y z.foot)) (inside_base High x.hi z.c x.stage_hi z.top (λ some. lower x.stage_hi x.bottom_hi (h some)) r.c.upper r.top.upper) (λ k. omega (arith, ints, clamps, k))))) p.rivers w.rivers e.rivers
+      (λ x z r h. out z.c _ (gain x.lo m z.c _ _ r.c.lower far (near z.c z.top (neg_ℤ (z.top -ℤ int_max y z.foot)) (inside_base High x.hi z.c x.stage_hi z.top (λ some. (omega (arith, ints, clamps, h some))) r.c.upper r.top.upper) (λ k. omega (arith, ints, clamps, k))))) p.rivers w.rivers e.rivers
       (λ k d i some. marks _ (inr (inl (get_or p.rivers k d, Contains-get_or p.rivers k d i, some_at _ _ some)))) in
       let drains = all_gain m d far (DrainWithin m n) (λ x. 0 < x.hi → x.elev_hi ≤ℤ b) (λ x. x.lo) (λ z. neg_ℤ (whole_drain y z))
       (λ x z r h. twice (gain x.lo m z.c _ _ r.c.lower far (near z.c z.foot (int_max (y -ℤ z.foot) (pos 0)) (inside_base High x.hi z.c x.elev_hi z.foot h r.c.upper r.foot.upper) (λ k. omega (arith, ints, clamps, k))))) p.drains w.drains e.drains
@@ -112,7 +96,7 @@ module _ (m n cells : ℕ) (b : ℤ) (p : Entries) (w : WholeCell) (e : CellWith
       let evaps = total_nonneg (λ z. Unit {0}) (λ z. neg_ℤ (whole_evap y z)) w.evaps (λ z u. takes z) (λ k d i. tt) in
       let flows = exceeding (high_flow p) _ (m * n) (total_bounds High (FlowWithin m n) (λ x. x.hi) (pos (m * n)) (λ z. z) (λ x z r. r.flow.upper) p.flows w.flows e.flows) in
       let anchors = both_gains m d far _ _ _ _ fixed (both_gains m d far _ _ _ _ rivers drains) in
-      sum (total (λ z. z) w.flows) _ _ _ _ _ _ (rw (total_neg (whole_fixed y) w.fixed, total_neg (whole_river y) w.rivers, total_neg (whole_drain y) w.drains) at anchors) (rw (total_neg (whole_evap y) w.evaps) at evaps) flows
+      omega (arith, ints, (rw (total_neg (whole_fixed y) w.fixed, total_neg (whole_river y) w.rivers, total_neg (whole_drain y) w.drains) at anchors), (rw (total_neg (whole_evap y) w.evaps) at evaps))
     where
       near : (c : ℕ) (h g : ℤ) → (c ≡ 0) ⊎ (h ≤ℤ (b *ℤ pos n)) → (h ≤ℤ (b *ℤ pos n) → (y -ℤ b *ℤ pos n) ≤ℤ g) → (c ≡ 0) ⊎ ((y -ℤ b *ℤ pos n) ≤ℤ g)
       near c h g (inl z) then = inl z
@@ -121,21 +105,12 @@ module _ (m n cells : ℕ) (b : ℤ) (p : Entries) (w : WholeCell) (e : CellWith
       out : {k : ℤ} (c : ℕ) (a : ℤ) → k ≤ℤ (pos c *ℤ neg_ℤ a) → k ≤ℤ neg_ℤ (pos c *ℤ a)
       out c a h = rw (mul_neg (pos c) a) at h
 
-      lower : (y z : ℤ) → int_max y z ≤ℤ b → y ≤ℤ b
-      lower y z h = omega (arith, ints, clamps, h)
-
       twice : {k a : ℤ} → k ≤ℤ a → k ≤ℤ neg_ℤ (neg_ℤ a)
       twice {k} {a} h = omega (arith, ints)
 
       takes : (x : WholeEntry) → pos 0 ≤ℤ neg_ℤ (whole_evap y x)
       takes x = twice (mul_nonneg (pos x.c) (int_max (int_min y x.top -ℤ x.foot) (pos 0)) (omega (arith, ints)) (omega (arith, ints, clamps)))
 
-      sum : (f a r d v g need : ℤ) → g ≤ℤ (neg_ℤ a +ℤ (neg_ℤ r +ℤ neg_ℤ d)) → pos 0 ≤ℤ neg_ℤ v → f ≤ℤ need → g ≤ℤ (neg_ℤ (f +ℤ a +ℤ r +ℤ d +ℤ v) +ℤ need)
-      sum f a r d v g need p q s = omega (arith, ints)
-
   pub gives : (side : Side) → ((v : ℤ) → IsCellMark side p v → Bounds side b v) → inward side y <ℤ inward side (b *ℤ pos n) → (pos (anchor_on side p * m) *ℤ (inward side (b *ℤ pos n) -ℤ inward side y)) ≤ℤ (inward side (rest_of w y) +ℤ pos (need_on side p) *ℤ pos (m * n))
   gives Low marks low = gives_low marks low
-  gives High marks high = subst (λ (z : ℤ). (pos (anchor_on High p * m) *ℤ z) ≤ℤ (neg_ℤ (rest_of w y) +ℤ pos (need_on High p) *ℤ pos (m * n))) (turned y (b *ℤ pos n)) (gives_high marks (omega (arith, ints, high)))
-    where
-      turned : (y t : ℤ) → y -ℤ t ≡ neg_ℤ t -ℤ neg_ℤ y
-      turned y t = omega (arith, ints)
+  gives High marks high = subst (λ (z : ℤ). (pos (anchor_on High p * m) *ℤ z) ≤ℤ (neg_ℤ (rest_of w y) +ℤ pos (need_on High p) *ℤ pos (m * n))) (omega (arith, ints)) (gives_high marks (omega (arith, ints, high)))

@@ -71,10 +71,7 @@ rest_whole (negsuc a) n = refl
 
 -- a flow more: what passes 2 ^ 64 goes to the higher word
 pub two_words : (s : Total) (flow rest q r : ℤ) → rest ≡ pos s.low +ℤ flow → q ≡ int_div_euclid rest (pos (2 ^ 64)) → r ≡ int_rem_euclid rest (pos (2 ^ 64)) → (s.high +ℤ q) *ℤ pos (2 ^ 64) +ℤ pos (unsigned_abs r) ≡ flow_sum s +ℤ flow
-two_words s flow rest q r is eq er = rw (eq, er) (words (int_div_euclid rest (pos (2 ^ 64))) (int_rem_euclid rest (pos (2 ^ 64))) (euclid rest (2 ^ 64) (omega arith)) (rest_whole rest (2 ^ 64)))
-  where
-    words : (q' r' : ℤ) → q' *ℤ pos (2 ^ 64) +ℤ r' ≡ rest → pos (unsigned_abs r') ≡ r' → (s.high +ℤ q') *ℤ pos (2 ^ 64) +ℤ pos (unsigned_abs r') ≡ (s.high *ℤ pos (2 ^ 64) +ℤ pos s.low) +ℤ flow
-    words q' r' e a = omega (arith, ints, e, a, is)
+two_words s flow rest q r is eq er = rw (eq, er) (omega (arith, ints, euclid rest (2 ^ 64) (omega arith), rest_whole rest (2 ^ 64), is))
 
 pub not_positive : (b : Bool) (z : ℤ) → (pos 0 <ℤ z → b ≡ true) → b ≡ false → z ≤ℤ pos 0
 not_positive b z only e = elim (z_cases z) [ inl some ↦ let t = only some in absurd (cc (e, t)) | inr none ↦ none ]

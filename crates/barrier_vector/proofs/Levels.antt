@@ -146,11 +146,8 @@ module _ (p : List Entries) (ok : IsProblem p) (q : ℕ) (own : List (Option ℕ
           let (none, some) = next_of (slice_index next 0) one in
           elim (before (slice_index next 0) (suc k) some) [
             | inl old ↦ absurd (no_both _ (suc k) none old)
-            | inr (_, _, t, _) ↦ let (i, less, _) = t in let enough = u.room (omega (arith, less)) in let n = s.count in counted (unmarked levels) (unmarked levels') (length next) n enough h
+            | inr (_, _, t, _) ↦ let (i, less, _) = t in let enough = u.room (omega (arith, less)) in let n = s.count in omega arith
           ]
-        where
-          counted : (a b n : ℕ) → b + n ≡ a + 0 → k + a < length p → 0 < n → suc k + b < length p
-          counted a b n e l h = omega arith
 
       -- the parent is the nearest neighbour of the level before
       is_parent : (c : ℕ) (x : Link) → IsNearest (entries_at p c).links levels' k (length (entries_at p c).links) x → IsParent p q (ListRoot own) k c x
@@ -174,11 +171,8 @@ module _ (p : List Entries) (ok : IsProblem p) (q : ℕ) (own : List (Option ℕ
             | inl (x, near, is) ↦
                 let old = elim (before x.cell k near.level_is) as (λ w. mark_at levels x.cell ≡ Some k) [ inl o ↦ o | inr (_, wrong, _, _) ↦ absurd (omega (arith, wrong)) ] in
                 let (rest, sum, cut) = u.path x.cell k old in
-                (ceil_over q x.lo + rest, (x, is_parent c x near, rest, sum, refl), is ∙ capped (ceil_over q x.lo) rest (slice_index paths x.cell) cut)
+                (ceil_over q x.lo + rest, (x, is_parent c x near, rest, sum, refl), is ∙ (omega arith))
           ]
-        where
-          capped : (d r v : ℕ) → v ≡ min r path_limit → min (d + v) path_limit ≡ min (d + r) path_limit
-          capped d r v e = omega arith
 
       path' : (c j : ℕ) → mark_at levels' c ≡ Some j → (s : ℕ) × SumsTo p q (ListRoot own) j c s × (slice_index paths' c ≡ min s path_limit)
       path' c j e =
@@ -255,10 +249,7 @@ up_to_step p ok q own k levels l0 l1 l2 lf paths p0 p1 pf front f0 next n0 e0 e2
     let others' = rw (h1, g0) at others in
     let at = e2 ∙ ef in
     let goes' = rw (h1, g0, at) at goes in
-    rw (ef, gf) (up_to_next p ok q own k (k + 1) levels l1 paths p1 front next (one_more_is k) u s' (rw g0 at same) others' goes')
-  where
-    one_more_is : (n : ℕ) → n + 1 ≡ suc n
-    one_more_is n = omega arith
+    rw (ef, gf) (up_to_next p ok q own k (k + 1) levels l1 paths p1 front next (omega arith) u s' (rw g0 at same) others' goes')
 
 pub written : {X : Type 0} (xs ys : List X) (n : ℕ) → n ≡ length xs → take n (xs ++ ys) ≡ xs
 written xs ys n e = take_at xs ys n (sym e)

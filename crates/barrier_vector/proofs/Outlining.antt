@@ -1,15 +1,15 @@
 -- The outline of the first cells: one cell more, and what it is of all cells.
-use Rattle.barrier_vector.proofs.Common.{base_on, cell_mark, drop_all, outermost, ◌≡◌, ℕ, ◌+◌, ◌<◌, inl, inr, refl, sym, ◌∙◌, ap, subst, arith, List, [], ◌∷◌}
-use Rattle.barrier_vector.proofs.Common.{◌++◌, length, length-append, sum_by, Option, slice_index, ℤ, pos, negsuc, neg_ℤ, ◌*◌, ◌≤ℤ◌, ◌+ℤ◌, ◌-ℤ◌, int_min}
-use Rattle.barrier_vector.proofs.Common.{unsigned_abs, zero, suc, unwrap_or, cases_lt, sum_by_more, Side, Low, Entries, entries_at, no_entries, Edges, head_at}
-use Rattle.barrier_vector.proofs.Common.{IsHead, anchor_on, AnchorRoot, need_on, capped_flow, outer_of, ceil_over, ListAnchor, AreRoots, IsOutline, clamp}
-use Rattle.barrier_vector.proofs.Common.{ClampedFits, ints, clamps, length-map, map, CellFits, RiverFits, EvapFits, deep_river, deep_low, evap_flow, river_flow}
-use Rattle.barrier_vector.proofs.Common.{flow_bound, full_rate, head_limit, least, total, total-same, total_neg}
+use Rattle.barrier_vector.proofs.Common.{None, base_on, cell_mark, drop_all, outermost, ◌≡◌, ℕ, ◌+◌, ◌<◌, refl, sym, ◌∙◌, ap, subst, arith, List, [], ◌∷◌, ◌++◌}
+use Rattle.barrier_vector.proofs.Common.{length, sum_by, Option, slice_index, ℤ, pos, negsuc, neg_ℤ, ◌*◌, ◌≤ℤ◌, ◌+ℤ◌, ◌-ℤ◌, int_min, unsigned_abs, zero, suc}
+use Rattle.barrier_vector.proofs.Common.{unwrap_or, sum_by_more, Side, Low, Entries, entries_at, no_entries, Edges, head_at, IsHead, anchor_on, need_on}
+use Rattle.barrier_vector.proofs.Common.{capped_flow, outer_of, HasEach, AreAnchorDrops, anchor_drop, IsOutline, clamp, ClampedFits, ints, clamps, length-map}
+use Rattle.barrier_vector.proofs.Common.{map, CellFits, RiverFits, EvapFits, deep_river, deep_low, evap_flow, river_flow, flow_bound, full_rate, head_limit}
+use Rattle.barrier_vector.proofs.Common.{least, total, total-same, total_neg}
 use Rattle.step_problem.proofs.Sums.{deep_is}
 use Rattle.step_problem.specs.declared.entry.Evap.{Evap}
 use Rattle.barrier_vector.specs.{need as need_of_all}
 use Rattle.std.proofs.Math.Seq.{take-length}
-use Rattle.barrier_vector.proofs.Starting.{push_before, push_last}
+use Rattle.barrier_vector.proofs.Rooting.{each_more}
 use Rattle.barrier_vector.proofs.Marking.{marks_more, outer_none}
 
 -- one cell more
@@ -17,12 +17,7 @@ pub outline_more : (side : Side) (p : List Entries) (i : ℕ) (e : Entries) (mar
 outline_more side p i e mark o mark' need n need' anchors anchors' a h here joined outermost added need_is pushed anchor_is y = record {
   outermost_mark = marks_more side (cell_mark side) p i no_entries e mark o mark' h here outermost joined y.outermost_mark;
   sum = let more = sum_by_more (need_on side) p i no_entries h in let same = need_is ∙ ap (need_on side) here in sums _ _ _ more same y.sum;
-  whole = ap (λ (z : List ℕ). length z) pushed ∙ length-append anchors (a ∷ []) ∙ ap (λ (k : ℕ). k + 1) y.whole;
-  each = λ c c_in.
-      elim (cases_lt c i) [
-        | inl less ↦ let in_list : c < length anchors = omega (arith, less, y.whole) in rw pushed (push_before anchors a 0 c in_list ∙ y.each c less)
-        | inr past ↦ let at : length anchors ≡ c = omega (arith, past, c_in, y.whole) in rw pushed (ap (λ (k : ℕ). slice_index (anchors ++ a ∷ []) k) (sym at) ∙ push_last anchors a 0 ∙ anchor_is ∙ ap (anchor_on side) (here ∙ ap (entries_at p) (sym y.whole ∙ at)))
-      ];
+  anchors_are = each_more 0 (λ c a. a ≡ anchor_on side (entries_at p c)) i anchors anchors' a pushed (anchor_is ∙ ap (anchor_on side) here) y.anchors_are;
 }
   where
     sums : (s t m : ℕ) → t ≡ s + m → n ≡ m → need ≡ capped_flow s → need' ≡ capped_flow t
@@ -37,18 +32,12 @@ base_of side p mark need anchors b y e =
 pub need_whole : (side : Side) (p : List Entries) (mark : Option ℤ) (need : ℕ) (anchors : List ℕ) → IsOutline side p (length p) mark need anchors → need ≡ capped_flow (need_of_all side p)
 need_whole side p mark need anchors y = y.sum ∙ ap (λ (z : List Entries). capped_flow (sum_by (need_on side) z)) (take-length p)
 
--- roots by the list of greatest anchors are the anchored cells
-pub roots_on : (side : Side) (p : List Entries) (mark : Option ℤ) (need q : ℕ) (anchors own : List ℕ) (roots : List (Option ℕ)) → IsOutline side p (length p) mark need anchors → own ≡ anchors → need ≡ q → AreRoots (ListAnchor own need) roots → AreRoots (AnchorRoot side p q) roots
-roots_on side p mark need q anchors own roots y e f r =
-    let r' : AreRoots (ListAnchor anchors q) roots = rw (e, f) at r in
-    record {
-      only = λ c d is. let (h, some, at) = r'.only c d is in let c_in = subst (λ (n : ℕ). c < n) y.whole h in (c_in, subst (λ (n : ℕ). 0 < n) (y.each c c_in) some, at ∙ ap (ceil_over q) (y.each c c_in));
-      each = λ c d h root. r'.each c d h (subst (λ (n : ℕ). c < n) (sym y.whole) root.0, subst (λ (n : ℕ). 0 < n) (sym (y.each c root.0)) root.1, root.2 ∙ ap (ceil_over q) (sym (y.each c root.0)));
-    }
-
--- a root for each cell
-pub roots_whole : (side : Side) (p : List Entries) (mark : Option ℤ) (need : ℕ) (anchors own : List ℕ) (roots : List (Option ℕ)) → IsOutline side p (length p) mark need anchors → own ≡ anchors → length roots ≡ length own → length roots ≡ length p
-roots_whole side p mark need anchors own roots y e h = h ∙ ap (λ (z : List ℕ). length z) e ∙ y.whole
+-- own drops by the list of greatest anchors
+pub drops_on : (side : Side) (p : List Entries) (mark : Option ℤ) (need q : ℕ) (anchors own : List ℕ) (drops : List (Option ℕ)) → IsOutline side p (length p) mark need anchors → own ≡ anchors → need ≡ q → HasEach None (λ c o. o ≡ anchor_drop need (slice_index own c)) (length own) drops → AreAnchorDrops side p q drops
+drops_on side p mark need q anchors own drops y e f r = record {
+  whole = r.whole ∙ ap (λ (z : List ℕ). length z) e ∙ y.anchors_are.whole;
+  each = λ c h. r.each c (rw (e, y.anchors_are.whole) h) ∙ rw (e, f, y.anchors_are.each c h) refl;
+}
 
 -- an evaporation's flow at the greatest head is its full rate
 full_is : (x : Evap) → EvapFits x → evap_flow Low (pos head_limit) x ≡ neg_ℤ (pos (full_rate x))

@@ -1,36 +1,39 @@
 -- Lists of roots, one cell after another, and what anchors a cell.
-use Rattle.barrier_vector.proofs.Common.{◌≡◌, ℕ, zero, suc, ◌+◌, ◌<◌, ◌≤◌, inl, inr, refl, sym, ◌∙◌, ap, subst, arith, List, [], ◌∷◌, ◌++◌, length, max, drop}
-use Rattle.barrier_vector.proofs.Common.{get_or, length-append, Contains, Option, None, Some, min, ℤ, cases_lt, at_drop_more, Side, Low, High, Fixed, Entries}
-use Rattle.barrier_vector.proofs.Common.{entries_at, IsProblem, IsAnchored, greatest, anchor_on, mark_at, IsSearched, AreRoots, path_limit, AreLabels, bound_at}
-use Rattle.barrier_vector.proofs.Starting.{push_before, push_last, pushed}
+use Rattle.barrier_vector.proofs.Common.{◌≡◌, ℕ, zero, suc, ◌+◌, ◌<◌, ◌≤◌, inl, inr, refl, ◌∙◌, ap, subst, arith, List, [], ◌∷◌, ◌++◌, length, max, drop}
+use Rattle.barrier_vector.proofs.Common.{get_or, length-append, Contains, Option, Some, min, cases_lt, at_drop_more, Side, Low, High, Fixed, Entries}
+use Rattle.barrier_vector.proofs.Common.{entries_at, IsProblem, IsAnchored, greatest, anchor_on, mark_at, IsSearched, HasEach, anchor_drop, ceil_over}
+use Rattle.barrier_vector.proofs.Common.{path_limit, AreLabels}
+use Rattle.barrier_vector.proofs.Starting.{push_before, push_last}
 use Rattle.barrier_vector.proofs.CarriedRoots.{reaches_within, turn_way}
 
--- one cell more
-pub roots_more : (R : ℕ → ℕ → Type 0) (own own' : List (Option ℕ)) (o : Option ℕ) (i : ℕ) → own' ≡ own ++ o ∷ [] → length own ≡ i → ((d : ℕ) → o ≡ Some d → R i d) → ((d : ℕ) → R i d → o ≡ Some d) → AreRoots R own → AreRoots R own'
-roots_more R own own' o i is whole only each a = rw is (record { only = only'; each = each' })
+-- one place more
+pub each_more : {X : Type 0} (d : X) (Is : ℕ → X → Type 0) (i : ℕ) (xs xs' : List X) (x : X) → xs' ≡ xs ++ x ∷ [] → Is i x → HasEach d Is i xs → HasEach d Is (i + 1) xs'
+each_more d Is i xs xs' x is here h = rw is (record { whole = length-append xs (x ∷ []) ∙ ap (λ (n : ℕ). n + 1) h.whole; each = each })
   where
-    only' : (c d : ℕ) → mark_at (own ++ o ∷ []) c ≡ Some d → R c d
-    only' c d e = elim (pushed own o c d e) [ inl (h, old) ↦ a.only c d old | inr (at, now) ↦ subst (λ (z : ℕ). R z d) (sym (at ∙ whole)) (only d now) ]
-
-    each' : (c d : ℕ) → c < length (own ++ o ∷ []) → R c d → mark_at (own ++ o ∷ []) c ≡ Some d
-    each' c d h r =
-        elim (cases_lt c (length own)) [
-          | inl less ↦ push_before own o None c less ∙ a.each c d less r
+    each : (c : ℕ) → c < i + 1 → Is c (get_or (xs ++ x ∷ []) c d)
+    each c k =
+        elim (cases_lt c i) [
+          | inl less ↦ rw (push_before xs x d c (omega (arith, less, h.whole))) (h.each c less)
           | inr past ↦
-              let n = length-append own (o ∷ []) in
-              let at : length own ≡ c = omega (arith, n, h, past) in
-              subst (λ (z : ℕ). mark_at (own ++ o ∷ []) z ≡ o) at (push_last own o None) ∙ each d (subst (λ (z : ℕ). R z d) (sym at ∙ whole) r)
+              let at : length xs ≡ c = omega (arith, past, k, h.whole) in
+              subst (λ (z : ℕ). Is z (get_or (xs ++ x ∷ []) z d)) at (rw (push_last xs x d, h.whole) here)
         ]
+
+-- the drop of an anchor
+pub drop_of : (q a : ℕ) → 0 < a → anchor_drop q a ≡ Some (ceil_over q a)
+drop_of q zero h = absurd (omega arith)
+drop_of q (suc a) h = refl
+
+pub drop_is : (q a d : ℕ) → anchor_drop q a ≡ Some d → (0 < a) × (d ≡ ceil_over q a)
+drop_is q zero d e = absurd cc
+drop_is q (suc a) d e = (omega arith, cc)
 
 -- one entry more
 pub greatest_on : {X : Type 0} (f : X → ℕ) (xs : List X) (i : ℕ) (x : X) (best new v : ℕ) → i < length xs → x ≡ get_or xs i x → v ≡ f x → new ≡ max v best → max best (greatest f (drop i xs)) ≡ greatest f xs → max new (greatest f (drop (i + 1) xs)) ≡ greatest f xs
 greatest_on f xs i x best new v h is from e so_far =
     let more : greatest f (drop i xs) ≡ max (f (get_or xs i x)) (greatest f (drop (i + 1) xs)) = at_drop_more (greatest f) xs i x h in
     let same = ap f is in
-    step (f x) (f (get_or xs i x)) (greatest f (drop i xs)) (greatest f (drop (i + 1) xs)) (greatest f xs) more (from ∙ same) so_far
-  where
-    step : (a b r s w : ℕ) → r ≡ max b s → v ≡ b → max best r ≡ w → max new s ≡ w
-    step a b r s w p q t = omega (arith, e)
+    omega (arith, e, from ∙ same)
 
 -- the greatest is above 0 just where an entry is
 pub greatest_has : {X : Type 0} (f : X → ℕ) (xs : List X) → 0 < greatest f xs → (x : X) × Contains xs x × (f x ≡ greatest f xs)
@@ -66,13 +69,3 @@ label_within p ok labels l c m h e = let (j, way) = l.reached c m e in let (i, b
 
 pub capped_within : (x s : ℕ) → x ≡ min s path_limit → x ≤ path_limit
 capped_within x s e = omega (arith, e)
-
--- one bound more
-pub bounds_more : (p : List Entries) (Is : ℕ → Option ℤ → Type 0) (xs xs' : List (Option ℤ)) (o : Option ℤ) (i : ℕ) → xs' ≡ xs ++ o ∷ [] → length xs ≡ i → Is i o → ((c : ℕ) → c < i → Is c (bound_at xs c)) → (c : ℕ) → c < i + 1 → Is c (bound_at xs' c)
-bounds_more p Is xs xs' o i pushed whole here so_far c h =
-    elim (cases_lt c i) [
-      | inl less ↦ subst (Is c) (sym (ap (λ (z : List (Option ℤ)). bound_at z c) pushed ∙ push_before xs o None c (omega (arith, less, whole)))) (so_far c less)
-      | inr past ↦
-          let at : i ≡ c = omega (arith, past, h) in
-          subst (λ (z : ℕ). Is z (bound_at xs' z)) at (subst (Is i) (sym (ap (λ (z : List (Option ℤ)). bound_at z i) pushed ∙ ap (bound_at (xs ++ o ∷ [])) (sym whole) ∙ push_last xs o None)) here)
-    ]

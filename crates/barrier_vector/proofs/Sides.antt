@@ -1,9 +1,10 @@
 -- One side of a barrier, or its refusal, from the bounds of the cells.
 use Rattle.barrier_vector.proofs.Common.{base_on, ◌≡◌, ℕ, ◌<◌, ◌⊎◌, inl, inr, refl, sym, ◌∙◌, subst, arith, List, length, Option, None, Some, ℤ, pos, neg_ℤ}
-use Rattle.barrier_vector.proofs.Common.{ints, clamps, by_lt_z, Side, Low, High, NoBound, number_of, Entries, IsProblem, IsHead, head_limit, head_at, Bounds}
-use Rattle.barrier_vector.proofs.Common.{IsUnanchored, IsBoundOn, HasNoBound, IsOutOfRange, LeavesRange, no_barrier_on, range_on, Nowhere, Names, IsRefusedOn}
-use Rattle.barrier_vector.proofs.Common.{IsRefused, cut_on, bound_at, IsBoundOrNone, AreBounds, IsFirst, IsMissing, LiesOut, AreHeadsOf, IsCutBoundOn}
-use Rattle.barrier_vector.proofs.Common.{AreCutBounds, RefusesOn, IsWholeSide, IsFaultOn, IsCutFaultOn, BarrierFault, Memory, HasStorage, IsNotForLackOfAnchors}
+use Rattle.barrier_vector.proofs.Common.{get_or-map, length-map, unwrap_or, ap, ints, clamps, by_lt_z, Side, Low, High, NoBound, number_of, Entries, IsProblem}
+use Rattle.barrier_vector.proofs.Common.{IsHead, head_limit, head_at, Bounds, IsUnanchored, IsBoundOn, HasNoBound, IsOutOfRange, LeavesRange, no_barrier_on}
+use Rattle.barrier_vector.proofs.Common.{range_on, Nowhere, Names, IsRefusedOn, IsRefused, cut_on, bound_at, IsBoundOrNone, AreBounds, IsFirst, IsMissing}
+use Rattle.barrier_vector.proofs.Common.{LiesOut, AreHeadsOf, IsCutBoundOn, AreCutBounds, RefusesOn, IsWholeSide, IsFaultOn, IsCutFaultOn, BarrierFault, Memory}
+use Rattle.barrier_vector.proofs.Common.{HasStorage, IsNotForLackOfAnchors}
 use Rattle.barrier_vector.specs.declared.BarrierFault.TheVariants.{NoBound as AFault}
 use Rattle.barrier_vector.proofs.Rooting.{anchors}
 use Rattle.barrier_vector.proofs.Marking.{base_head}
@@ -64,16 +65,19 @@ module _ (side : Side) (p : List Entries) (xs : List (Option ℤ)) (b : AreBound
       (c, named, record { within = h; has = no_bound_here c h none; least = λ d less fails. least d less (has_none d (omega (arith, less, h)) fails) })
 
   pub side_is_cut : (vs : List ℤ) → IsFirst (IsMissing xs) (length xs) None → AreHeadsOf xs vs → AreCutBounds side p vs
-  side_is_cut vs all (whole, heads) = record { whole = whole ∙ b.whole; each = each }
+  side_is_cut vs all e = record { whole = ap (λ (z : List ℤ). length z) e ∙ length-map xs value ∙ b.whole; each = each }
     where
+      value : Option ℤ → ℤ
+      value o = unwrap_or o (pos 0)
+
       some : (c : ℕ) → c < length p → (v : ℤ) × (bound_at xs c ≡ Some v)
       some c h = elim (some_or_none (bound_at xs c)) [ inl e ↦ absurd (all c (omega (arith, h, b.whole)) e) | inr found ↦ found ]
 
       each : (c : ℕ) → c < length p → IsCutBoundOn side p c (head_at vs c)
       each c h =
-          let (v, e) = some c h in
-          let (f, is, cut) = bound_here c h v e in
-          (f, is, heads c v (omega (arith, h, b.whole)) e ∙ cut)
+          let (v, is_v) = some c h in
+          let (f, is, cut) = bound_here c h v is_v in
+          (f, is, ap (λ (z : List ℤ). head_at z c) e ∙ get_or-map value xs c None (pos 0) (omega (arith, h, b.whole)) ∙ ap value is_v ∙ cut)
 
 -- what the cut bounds of a side say of it
 module _ (side : Side) (p : List Entries) (ok : IsProblem p) (vs : List ℤ) (b : AreCutBounds side p vs) where

@@ -1,9 +1,9 @@
 -- What a search begins with, one cell after another.
-use Rattle.barrier_vector.proofs.Common.{◌≡◌, ℕ, zero, suc, ◌+◌, ◌≤◌, ◌<◌, ◌⊎◌, inl, inr, refl, sym, ◌∙◌, ap, subst, arith, List, [], ◌∷◌, ◌++◌, length}
-use Rattle.barrier_vector.proofs.Common.{length-append, min, Option, None, Some, get_or, cases_eq, cases_lt, mark_at, path_limit, AreBegun, Spreads, set}
-use Rattle.barrier_vector.proofs.Common.{get_or-set_same, get_or-set_other, length-set, replicate, unmarked}
+use Rattle.barrier_vector.proofs.Common.{◌≡◌, ℕ, zero, suc, ◌+◌, ◌<◌, ◌⊎◌, inl, inr, refl, sym, ◌∙◌, ap, subst, arith, List, [], ◌∷◌, ◌++◌, length, min, Option}
+use Rattle.barrier_vector.proofs.Common.{None, Some, get_or, cases_eq, cases_lt, mark_at, path_limit, AreBegun, Spreads, set, get_or-set_same, get_or-set_other}
+use Rattle.barrier_vector.proofs.Common.{length-set, replicate, unmarked}
 use Rattle.barrier_vector.proofs.Spreading.{no_both, spread_as, spread_then}
-use Rattle.barrier_vector.proofs.Levels.{marked_within, same_some}
+use Rattle.barrier_vector.proofs.Levels.{same_some}
 
 -- the elements of a list with one more at its end
 pub push_before : {X : Type 0} (xs : List X) (x d : X) (k : ℕ) → k < length xs → get_or (xs ++ x ∷ []) k d ≡ get_or xs k d
@@ -14,21 +14,6 @@ push_before (y ∷ xs) x d (suc k) h = push_before xs x d k (omega arith)
 pub push_last : {X : Type 0} (xs : List X) (x d : X) → get_or (xs ++ x ∷ []) (length xs) d ≡ x
 push_last [] x d = refl
 push_last (y ∷ xs) x d = push_last xs x d
-
--- a place of the longer list is an earlier one, or the last
-pub pushed : (own : List (Option ℕ)) (o : Option ℕ) (c d : ℕ) → mark_at (own ++ o ∷ []) c ≡ Some d → ((c < length own) × (mark_at own c ≡ Some d)) ⊎ ((c ≡ length own) × (o ≡ Some d))
-pushed own o c d e =
-    elim (cases_lt c (length own)) [
-      | inl less ↦ inl (less, sym (push_before own o None c less) ∙ e)
-      | inr more ↦
-          let h = marked_within (own ++ o ∷ []) c d e in
-          let n = length-append own (o ∷ []) in
-          let at : c ≡ length own = last c (length own) (length (own ++ o ∷ [])) n h more in
-          inr (at, sym (push_last own o None) ∙ subst (λ (z : ℕ). mark_at (own ++ o ∷ []) z ≡ Some d) at e)
-    ]
-  where
-    last : (a n m : ℕ) → m ≡ n + 1 → a < m → n ≤ a → a ≡ n
-    last a n m e h k = omega arith
 
 -- The roots of a list, one after another.
 abbrev RootBelow : List (Option ℕ) → ℕ → ℕ → Type 0

@@ -3,8 +3,9 @@ use Rattle.barrier_vector.proofs.Common.{base_on, ◌≡◌, ℕ, zero, suc, ◌
 use Rattle.barrier_vector.proofs.Common.{min, All, IsSome, Option, None, Some, Bool, true, false, slice_index, cases_lt, Side, Low, High, Link, Entries}
 use Rattle.barrier_vector.proofs.Common.{entries_at, link_at, IsProblem, IsHead, need, ceil_over, IsLevel, SumsTo, IsPath, AnchorRoot, LeastRoot, IsAnchorPath}
 use Rattle.barrier_vector.proofs.Common.{IsInnerPath, IsLongest, IsUnanchored, moved_out, IsAnchoredBound, IsCarriedFloor, IsBoundOn, HasNoBound, capped_flow}
-use Rattle.barrier_vector.proofs.Common.{anchor_on, mark_at, path_limit, IsSearched, AreRoots, AreAnchorPaths, cut_on, IsAnchoredOrNone, IsBoundOrNone}
+use Rattle.barrier_vector.proofs.Common.{anchor_on, mark_at, path_limit, IsSearched, AreAnchorDrops, AreAnchorPaths, cut_on, IsAnchoredOrNone, IsBoundOrNone}
 use Rattle.barrier_vector.proofs.Common.{bound_at, AreBounds, ints, clamps}
+use Rattle.barrier_vector.proofs.Rooting.{drop_of}
 use Rattle.barrier_vector.proofs.CarriedRoots.{has_links, reaches_within}
 use Rattle.barrier_vector.proofs.Levels.{link_place}
 use Rattle.barrier_vector.proofs.Marking.{base_head}
@@ -79,13 +80,13 @@ has_a_bound High p c f (s, path, is) none = path_anchors High p c s path none
 
 -- What the bounds of the cells that lead to an anchor are made of, from a search.
 -- a search by the capped need of a side finds the paths by the whole need
-module _ (side : Side) (p : List Entries) (ok : IsProblem p) (own levels : List (Option ℕ)) (paths : List ℕ) (whole : length own ≡ length p)
-    (roots : AreRoots (AnchorRoot side p (capped_flow (need side p))) own) (found : IsSearched p (capped_flow (need side p)) own levels paths)
+module _ (side : Side) (p : List Entries) (ok : IsProblem p) (own levels : List (Option ℕ)) (paths : List ℕ)
+    (drops : AreAnchorDrops side p (capped_flow (need side p)) own) (found : IsSearched p (capped_flow (need side p)) own levels paths)
   where
     anchor_paths : (c k : ℕ) → mark_at levels c ≡ Some k → (s : ℕ) × IsAnchorPath side p c s × (slice_index paths c ≡ min s path_limit)
     anchor_paths c k e =
         let (s, path, cut) = found.some c k e in
-        let (t, full, same) = whole_anchor_path side p ok (need side p) own whole roots c s path in
+        let (t, full, same) = whole_anchor_path side p ok (need side p) own drops c s path in
         (t, full, cut ∙ same)
 
     no_anchor : (c : ℕ) → c < length p → mark_at levels c ≡ None → IsUnanchored side p c
@@ -94,7 +95,7 @@ module _ (side : Side) (p : List Entries) (ok : IsProblem p) (own levels : List 
           | inr none ↦ omega (arith, none)
           | inl some ↦
               let a_in = reaches_within p ok j c a h way in
-              absurd (found.none c h e j (record { root = a; drop = ceil_over (capped_flow (need side p)) (anchor_on side (entries_at p a)); is_root = roots.each a _ (subst (λ (n : ℕ). a < n) (sym whole) a_in) (a_in, some, refl); reaches = way }))
+              absurd (found.none c h e j (record { root = a; drop = ceil_over (capped_flow (need side p)) (anchor_on side (entries_at p a)); is_root = drops.each a a_in ∙ drop_of (capped_flow (need side p)) (anchor_on side (entries_at p a)) some; reaches = way }))
         ]
 
     pub paths_made : AreAnchorPaths side p levels paths
@@ -133,12 +134,9 @@ some_is_bound side p c v (f, is, cut) = (f, anchored_is_bound side p c f is, cut
 pub all_bounds : (side : Side) (p : List Entries) (xs ys : List (Option ℤ)) → ys ≡ xs → AreBounds p (IsAnchoredOrNone side p) xs → All IsSome ys → AreBounds p (IsBoundOrNone side p) xs
 all_bounds side p xs ys e b all = record { whole = b.whole; each = λ c h. each (bound_at xs c) c (b.each c h) (subst (λ (z : List (Option ℤ)). All IsSome z) e all c None (subst (λ (n : ℕ). c < n) (sym b.whole) h)) }
   where
-    none : false ≡ true → ⊥
-    none e = cc
-
     each : (o : Option ℤ) (c : ℕ) → IsAnchoredOrNone side p c o → IsSome o → IsBoundOrNone side p c o
     each (Some v) c f some = some_is_bound side p c v f
-    each None c f some = absurd (none some)
+    each None c f some = absurd (cc)
 
 pub high_bounds : (side : Side) (p : List Entries) (xs : List (Option ℤ)) → side ≡ High → AreBounds p (IsAnchoredOrNone side p) xs → AreBounds p (IsBoundOrNone side p) xs
 high_bounds side p xs e b = subst (λ (z : Side). AreBounds p (IsBoundOrNone z p) xs) (sym e) (subst (λ (z : Side). AreBounds p (IsAnchoredOrNone z p) xs) e b)

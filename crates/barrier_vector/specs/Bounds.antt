@@ -1,12 +1,11 @@
 -- The floor and the ceiling of a cell, by the base of its side and its path to an anchor.
-use Rattle.std.specs.Prelude.{◌≡◌, ℕ, ◌+◌, ◌<◌, ◌≤◌, ◌⊎◌, List, [], ◌∷◌, length, max, ℤ, pos, ◌+ℤ◌, ◌-ℤ◌, zero, suc, ◌-◌, ◌/◌, Contains, drop, take, sum_by}
-use Rattle.std.specs.Prelude.{Option, slice_index}
+use Rattle.std.specs.Prelude.{◌≡◌, ℕ, ◌+◌, ◌<◌, ◌≤◌, ◌⊎◌, List, [], ◌∷◌, length, max, ℤ, pos, ◌+ℤ◌, ◌-ℤ◌, zero, suc, ◌-◌, ◌/◌, Contains}
 use Rattle.step_problem.specs.declared.heads.Side.{Side}
 use Rattle.step_problem.specs.declared.heads.Side.TheVariants.{Low, High}
 use Rattle.step_problem.specs.Entries.{Entries}
 use Rattle.step_problem.specs.{entries_at}
 use Rattle.cell_balance.specs.{Reaches, IsCarried}
-use Rattle.barrier_vector.specs.Marks.{base_on, cell_mark, outer_of, outermost, need, need_on, capped_flow}
+use Rattle.barrier_vector.specs.Marks.{base_on, need}
 use Rattle.step_problem.specs.declared.entry.Link.{Link}
 
 -- Paths along the branches of a problem to its roots, which are the cells that bound the others, and the drops of head on them. Each branch carries at most q.
@@ -109,11 +108,3 @@ IsCeiling p c f = IsAnchoredBound High p c f
 abbrev pub IsBoundOn : Side → List Entries → ℕ → ℤ → Type 0
 IsBoundOn Low = IsFloor
 IsBoundOn High = IsCeiling
-
--- What a side needs of the cells, found in one pass over them.
--- one side of the first n cells: the outermost mark, the sum of what they add to the lack or the surplus, at most 2 ^ 126, and the greatest anchor of each
-pub record IsOutline (side : Side) (p : List Entries) (n : ℕ) (mark : Option ℤ) (need : ℕ) (anchors : List ℕ) : Type 0 where
-  pub outermost_mark : outer_of side mark (outermost side (cell_mark side) (drop n p)) ≡ outermost side (cell_mark side) p
-  pub sum : need ≡ capped_flow (sum_by (need_on side) (take n p))
-  pub whole : length anchors ≡ n
-  pub each : (c : ℕ) → c < n → slice_index anchors c ≡ anchor_on side (entries_at p c)

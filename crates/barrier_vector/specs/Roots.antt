@@ -1,28 +1,42 @@
 -- The roots of the searches, and the data that the bounds are found from.
-use Rattle.std.specs.Prelude.{MatchOption, ◌≡◌, ℕ, ◌<◌, List, length, min, Option, None, Some, slice_index, slice_index_or, ℤ}
+use Rattle.std.specs.Prelude.{MatchOption, ◌≡◌, ℕ, ◌<◌, List, length, min, Option, None, Some, slice_index, slice_index_or, ℤ, pos, zero, suc, cond, drop, take}
+use Rattle.std.specs.Prelude.{map, sum_by}
+use Rattle.std.specs.Option.{unwrap_or}
 use Rattle.step_problem.specs.declared.heads.Side.{Side}
 use Rattle.step_problem.specs.Entries.{Entries}
 use Rattle.step_problem.specs.{entries_at, IsHead, head_at}
 use Rattle.cell_balance.specs.{sum_inside, deep_low}
-use Rattle.barrier_vector.specs.Bounds.{IsAnchorPath, IsInnerPath, IsUnanchored, IsAnchoredBound, ceil_over, IsBoundOn}
+use Rattle.barrier_vector.specs.Bounds.{IsAnchorPath, IsInnerPath, IsUnanchored, IsAnchoredBound, ceil_over, IsBoundOn, anchor_on}
 use Rattle.barrier_vector.specs.Cuts.{HasNoBound, IsOutOfRange, LeavesRange, no_barrier_on, Nowhere, IsRefusedOn, cut_on, IsCutBoundOn, RefusesOn}
-use Rattle.barrier_vector.specs.Searches.{mark_at, path_limit, AreLabels, labelled, sum_at, longest_at, greatest_inside}
+use Rattle.barrier_vector.specs.Searches.{mark_at, path_limit, AreLabels, HasEach, is_label, labelled, sum_at, longest_at, greatest_inside}
+use Rattle.barrier_vector.specs.Marks.{cell_mark, outer_of, outermost, need_on, capped_flow}
 use Rattle.barrier_vector.specs.declared.gathered.Total.{Total}
 use Rattle.barrier_vector.specs.declared.BarrierFault.{BarrierFault}
 use Rattle.barrier_vector.specs.declared.BarrierFault.TheVariants.{NoBound, Memory}
 
--- by a list of greatest anchors, a cell with one above 0 is a root, with the drop of that anchor
-abbrev pub ListAnchor : List ℕ → ℕ → ℕ → ℕ → Type 0
-ListAnchor anchors q c d = (c < length anchors) × (0 < slice_index anchors c) × (d ≡ ceil_over q (slice_index anchors c))
+-- the own drop of a root by its greatest anchor; None where that is 0
+abbrev pub anchor_drop : ℕ → ℕ → Option ℕ
+anchor_drop q zero = None
+anchor_drop q (suc n) = Some (ceil_over q (suc n))
 
 -- a cell labelled with itself is a root without a drop
-abbrev pub SelfRoot : List (Option ℕ) → ℕ → ℕ → Type 0
-SelfRoot labels c d = (mark_at labels c ≡ Some c) × (d ≡ 0)
+abbrev pub self_drop : Option ℕ → ℕ → Option ℕ
+self_drop label c = cond (is_label label c) (Some 0) None
 
--- The list has exactly these roots and their drops.
-pub record AreRoots (Root : ℕ → ℕ → Type 0) (own : List (Option ℕ)) : Type 0 where
-  pub only : (c d : ℕ) → mark_at own c ≡ Some d → Root c d
-  pub each : (c d : ℕ) → c < length own → Root c d → mark_at own c ≡ Some d
+-- the own drops of the anchored cells of a side
+abbrev pub AreAnchorDrops : Side → List Entries → ℕ → List (Option ℕ) → Type 0
+AreAnchorDrops side p q = HasEach None (λ c o. o ≡ anchor_drop q (anchor_on side (entries_at p c))) (length p)
+
+-- the own drops of the cells that are labelled with themselves
+abbrev pub AreSelfDrops : List (Option ℕ) → ℕ → List (Option ℕ) → Type 0
+AreSelfDrops labels = HasEach None (λ c o. o ≡ self_drop (mark_at labels c) c)
+
+-- What a side needs of the cells, found in one pass over them.
+-- one side of the first n cells: the outermost mark, the sum of what they add to the lack or the surplus, at most 2 ^ 126, and the greatest anchor of each
+pub record IsOutline (side : Side) (p : List Entries) (n : ℕ) (mark : Option ℤ) (need : ℕ) (anchors : List ℕ) : Type 0 where
+  pub outermost_mark : outer_of side mark (outermost side (cell_mark side) (drop n p)) ≡ outermost side (cell_mark side) p
+  pub sum : need ≡ capped_flow (sum_by (need_on side) (take n p))
+  pub anchors_are : HasEach 0 (λ c a. a ≡ anchor_on side (entries_at p c)) n anchors
 
 -- what a search finds on a side: each cell's level, and its path to the anchors
 pub record AreAnchorPaths (side : Side) (p : List Entries) (levels : List (Option ℕ)) (paths : List ℕ) : Type 0 where
@@ -52,9 +66,8 @@ abbrev pub IsBoundOrNone : Side → List Entries → ℕ → Option ℤ → Type
 IsBoundOrNone side p c o = MatchOption o (HasNoBound side p c) (IsCutBoundOn side p c)
 
 -- one for each cell
-pub record AreBounds (p : List Entries) (Is : ℕ → Option ℤ → Type 0) (xs : List (Option ℤ)) : Type 0 where
-  pub whole : length xs ≡ length p
-  pub each : (c : ℕ) → c < length p → Is c (bound_at xs c)
+abbrev pub AreBounds : List Entries → (ℕ → Option ℤ → Type 0) → List (Option ℤ) → Type 0
+AreBounds p Is = HasEach None Is (length p)
 
 -- The tests of the bounds of cells before they are a barrier.
 -- the first number below n with the property, or none has it
@@ -72,7 +85,7 @@ LiesOut side vs c = IsOutOfRange side (head_at vs c)
 
 -- the heads where there are some, 0 elsewhere
 abbrev pub AreHeadsOf : List (Option ℤ) → List ℤ → Type 0
-AreHeadsOf xs hs = (length hs ≡ length xs) × ((c : ℕ) (v : ℤ) → c < length xs → bound_at xs c ≡ Some v → head_at hs c ≡ v)
+AreHeadsOf xs hs = hs ≡ map (λ o. unwrap_or o (pos 0)) xs
 
 -- one side of a barrier: a bound in range for each cell, and no cause of a refusal anywhere
 pub record IsWholeSide (side : Side) (p : List Entries) (hs : List ℤ) : Type 0 where

@@ -8,6 +8,11 @@ use Rattle.barrier_vector.specs.Bounds.{ceil_over, LeadsToRoot, IsPath}
 use Rattle.cell_balance.specs.{Reaches}
 use Rattle.barrier_vector.specs.declared.gathered.Total.{Total}
 
+-- What a list has at each of its n places; d stands past its end.
+pub record HasEach {X : Type 0} (d : X) (Is : ℕ → X → Type 0) (n : ℕ) (xs : List X) : Type 0 where
+  pub whole : length xs ≡ n
+  pub each : (c : ℕ) → c < n → Is c (slice_index_or xs c d)
+
 -- One step of a search: marks go to the cells that have none yet among those that links lead to.
 -- the mark of cell c; None past the end
 abbrev pub mark_at : List (Option ℕ) → ℕ → Option ℕ

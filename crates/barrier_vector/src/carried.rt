@@ -83,6 +83,7 @@ fn floor_of(
 }
 
 /// The floor of each cell, cut off just below all heads, from the floors by the anchors; None where it has no floor.
+#[tactic(auto, using(crate::proofs::Rooting::each_more))]
 pub(crate) fn with_carried_floors(
     alloc: Global,
     p: &Problem,

@@ -9,11 +9,10 @@ use step_problem::problem::HEAD_LIMIT;
 fn heads_of(alloc: Global, bounds: &[i64]) -> Result<Vec<i64>, AllocError>
     ensures { IfOk result (λ heads. heads.items ≡ map clamp bounds.now) }
 {
-    let mut heads = Vec::with_capacity(alloc, bounds.len())?;
-    for bound in bounds {
-        heads.push((*bound).clamp(-HEAD_LIMIT, HEAD_LIMIT))?;
-    }
-    Ok(heads)
+    let heads = bounds
+        .iter()
+        .map(|bound| (*bound).clamp(-HEAD_LIMIT, HEAD_LIMIT));
+    heads.collect(alloc)
 }
 
 /// The barrier of heads that settling begins at: each floor and ceiling that was cut, moved to the end of the range of heads.

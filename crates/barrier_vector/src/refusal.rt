@@ -48,11 +48,7 @@ fn first_out_of_range(side: Side, bounds: &[i64]) -> Option<usize>
 fn heads_of(alloc: Global, bounds: &[Option<i64>]) -> Result<Vec<i64>, AllocError>
     ensures { IfOk result (λ heads. AreHeadsOf bounds.now heads.items) }
 {
-    let mut heads = Vec::with_capacity(alloc, bounds.len())?;
-    for c in 0..bounds.len() {
-        heads.push(bounds[c].unwrap_or(0))?;
-    }
-    Ok(heads)
+    bounds.iter().map(|bound| bound.unwrap_or(0)).collect(alloc)
 }
 
 fn refusal(p: &Problem, cause: StepRefusal, c: usize, side: Side) -> NoBound

@@ -1,7 +1,7 @@
 // The roots of the searches: anchored cells, and the least cells of components.
-ghost use Rattle.std.specs.Prelude.{◌≡◌, ℕ, ◌<◌, ◌≤◌, ◌^◌, length, IfOk, Some, max};
+ghost use Rattle.std.specs.Prelude.{◌≡◌, ℕ, ◌<◌, ◌≤◌, ◌^◌, length, IfOk, None, max, slice_index};
 ghost use Rattle.std.specs.Fn.{FnReturnsAt};
-ghost use Rattle.barrier_vector.specs.{ceil_over, anchor_on, greatest, ListAnchor, SelfRoot, AreRoots};
+ghost use Rattle.barrier_vector.specs.{ceil_over, anchor_on, greatest, anchor_drop, self_drop, HasEach, AreSelfDrops};
 
 use crate::search::drop_over;
 use std::alloc::{AllocError, Global};
@@ -58,12 +58,12 @@ fn drop_by(known: KnownDrop, lo: u64, q: u128) -> KnownDrop
     }
 }
 
+#[tactic(auto, using(crate::proofs::Rooting::drop_of))]
 fn anchor_drop(known: &mut KnownDrop, lo: u64, q: u128) -> Option<u128>
     requires q { q ≤ 2 ^ 126 }
     requires known { known.old.drop ≡ ceil_over q known.old.lo }
     ensures known { known.new.drop ≡ ceil_over q known.new.lo }
-    ensures only { (d : ℕ) → result ≡ Some d → (0 < lo) × (d ≡ ceil_over q lo) }
-    ensures each { 0 < lo → result ≡ Some (ceil_over q lo) }
+    ensures drop { result ≡ anchor_drop q lo }
 {
     if lo == 0 {
         return None;
@@ -73,14 +73,14 @@ fn anchor_drop(known: &mut KnownDrop, lo: u64, q: u128) -> Option<u128>
 }
 
 /// The own drops of the anchored cells, by the greatest anchor of each cell. Neighbours often have equal ones, so the last drop is kept.
+#[tactic(auto, using(crate::proofs::Rooting::each_more))]
 pub(crate) fn anchor_roots(
     alloc: Global,
     anchors: &[u64],
     q: u128,
 ) -> Result<Vec<Option<u128>>, AllocError>
     requires { q ≤ 2 ^ 126 }
-    ensures whole { IfOk result (λ own. length own.items ≡ length anchors.now) }
-    ensures roots { IfOk result (λ own. AreRoots (ListAnchor anchors.now q) own.items) }
+    ensures { IfOk result (λ own. HasEach None (λ c o. o ≡ anchor_drop q (slice_index anchors.now c)) (length anchors.now) own.items) }
 {
     let mut own = Vec::with_capacity(alloc, anchors.len())?;
     let mut known = KnownDrop {
@@ -93,21 +93,21 @@ pub(crate) fn anchor_roots(
     Ok(own)
 }
 
+#[tactic(auto, using(crate::proofs::Gathering::label_true, crate::proofs::Gathering::label_is))]
 fn self_drop(label: Option<u32>, c: u32) -> Option<u128>
-    ensures only { (d : ℕ) → result ≡ Some d → (label ≡ Some c) × (d ≡ 0) }
-    ensures each { label ≡ Some c → result ≡ Some 0 }
+    ensures { result ≡ self_drop label c }
 {
     if label == Some(c) { Some(0) } else { None }
 }
 
 /// The cells that are labelled with themselves, without drops.
+#[tactic(auto, using(crate::proofs::Rooting::each_more))]
 pub(crate) fn self_roots(
     alloc: Global,
     labels: &[Option<u32>],
 ) -> Result<Vec<Option<u128>>, AllocError>
     requires { length labels.now < 2 ^ 32 }
-    ensures whole { IfOk result (λ own. length own.items ≡ length labels.now) }
-    ensures roots { IfOk result (λ own. AreRoots (SelfRoot labels.now) own.items) }
+    ensures { IfOk result (λ own. AreSelfDrops labels.now (length labels.now) own.items) }
 {
     let mut own = Vec::with_capacity(alloc, labels.len())?;
     for c in 0..labels.len() {

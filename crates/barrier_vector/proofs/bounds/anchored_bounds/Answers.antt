@@ -1,8 +1,7 @@
-use Rattle.barrier_vector.proofs.Common.{◌+◌, ap, ◌∙◌, sym, subst, length, length-append, List, Option, ℤ, ℕ, ◌∷◌, [], need, capped_flow, IsAnchoredOrNone}
-use Rattle.barrier_vector.proofs.Common.{AreAnchorPaths}
-use Rattle.barrier_vector.proofs.Rooting.{searched_as, bounds_more}
+use Rattle.barrier_vector.proofs.Common.{sym, subst, List, Option, None, ℕ, need, capped_flow, IsAnchoredOrNone, AreAnchorPaths}
+use Rattle.barrier_vector.proofs.Rooting.{searched_as, each_more}
 use Rattle.barrier_vector.proofs.Uniques.{paths_made}
-use Rattle.barrier_vector.proofs.Outlining.{need_whole, roots_whole, roots_on}
+use Rattle.barrier_vector.proofs.Outlining.{need_whole, drops_on}
 use Rattle.barrier_vector.proofs.bounds.anchored_bounds.Goals as goal
 
 pub anchored_bound-requires-clause-paths : goal.anchored_bound-requires-clause-paths
@@ -15,13 +14,9 @@ anchored_bound-requires-clause-paths c =
     let levels = c.in_ok-anchored.anchored.levels.items in
     let paths = c.in_ok-anchored.anchored.paths.items in
     let made = paths_made side p c.recall_conditions.ensures.fits roots levels paths
-    (roots_whole side p o.mark o.need o.anchors.items c.deref.result.now roots c.requires.outline c.deref.ensures.value c.in_ok-roots.ensures.whole)
-    (roots_on side p o.mark o.need (capped_flow (need side p)) o.anchors.items c.deref.result.now roots c.requires.outline c.deref.ensures.value q c.in_ok-roots.ensures.roots)
+    (drops_on side p o.mark o.need (capped_flow (need side p)) o.anchors.items c.deref.result.now roots c.requires.outline c.deref.ensures.value q c.in_ok-roots.ensures)
     (searched_as p o.need (capped_flow (need side p)) roots c.deref-2.result.now levels paths q c.deref-2.ensures.value c.in_ok-anchored.ensures) in
     subst (λ (z : List (Option ℕ)). AreAnchorPaths side p z c.deref-in-loop-c-2.result.now) (sym c.deref-in-loop-c.ensures.value) (subst (λ (z : List ℕ). AreAnchorPaths side p levels z) (sym c.deref-in-loop-c-2.ensures.value) made)
 
 pub loop-c-preserved : goal.loop-c-preserved
-loop-c-preserved c = record {
-  whole = ap (λ (z : List (Option ℤ)). length z) c.in_ok-push.ensures.items ∙ length-append c.loop-c.bounds.items (c.anchored_bound.result ∷ []) ∙ ap (λ (n : ℕ). n + 1) c.loop-c.invariant.whole;
-  each = bounds_more c.args.p.now (IsAnchoredOrNone c.args.side c.args.p.now) c.loop-c.bounds.items c.push.new.self.items c.anchored_bound.result c.loop-c.c c.in_ok-push.ensures.items c.loop-c.invariant.whole c.anchored_bound.ensures c.loop-c.invariant.each;
-}
+loop-c-preserved c = each_more None (IsAnchoredOrNone c.args.side c.args.p.now) c.loop-c.c c.loop-c.bounds.items c.push.new.self.items c.anchored_bound.result c.in_ok-push.ensures.items c.anchored_bound.ensures c.loop-c.invariant

@@ -1,8 +1,5 @@
-use Rattle.barrier_vector.proofs.Common.{◌≡◌, ℕ, ◌<◌, length, IsAnchoredOrNone, bound_at}
+use Rattle.barrier_vector.proofs.Common.{HasEach, None, IsAnchoredOrNone}
 use Rattle.barrier_vector.proofs.bounds.anchored_bounds.Given as goal
 
 abbrev pub invariant-loop-c : goal.invariant-loop-c
-invariant-loop-c l = record {
-  whole : length l.bounds.items ≡ l.c;
-  each : (c : ℕ) → c < l.c → IsAnchoredOrNone l.side l.p c (bound_at l.bounds.items c);
-}
+invariant-loop-c l = HasEach None (IsAnchoredOrNone l.side l.p) l.c l.bounds.items
