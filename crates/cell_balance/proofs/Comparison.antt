@@ -28,17 +28,11 @@ module _ (n : ℕ) (a : ℕ → ℕ → ℤ) (b : ℕ → ℕ) (q : ℕ → ℤ)
 
     top_is : (k : ℕ) → top k ≡ true → m ≤ℤ (Y k -ℤ X k)
     unfolding top
-    top_is k e = at_least m (Y k -ℤ X k) e
-      where
-        at_least : (m z : ℤ) → int_lt (m -ℤ pos 1) z ≡ true → m ≤ℤ z
-        at_least m z e = grind (arith, ints)
+    top_is k e = grind (arith, ints)
 
     is_top : (k : ℕ) → m ≤ℤ (Y k -ℤ X k) → top k ≡ true
     unfolding top
-    is_top k h = at_least m (Y k -ℤ X k) h
-      where
-        at_least : (m z : ℤ) → m ≤ℤ z → int_lt (m -ℤ pos 1) z ≡ true
-        at_least m z h = grind (arith, ints)
+    is_top k h = grind (arith, ints)
 
     higher : (k : ℕ) → m ≤ℤ (Y k -ℤ X k) → X k <ℤ Y k
     higher k h = omega (arith, ints)
@@ -51,10 +45,7 @@ module _ (n : ℕ) (a : ℕ → ℕ → ℤ) (b : ℕ → ℕ) (q : ℕ → ℤ)
     links_less k h = sum_at_most n _ _ (λ j i. link_less k j h i)
 
     own_less : (k : ℕ) → m ≤ℤ (Y k -ℤ X k) → (pos d *ℤ q k -ℤ pos (b k) *ℤ Y k) ≤ℤ (pos d *ℤ q k -ℤ pos (b k) *ℤ X k)
-    own_less k h = step _ _ _ (mul_mono (b k) (X k) (Y k) (omega (arith, ints, higher k h)))
-      where
-        step : (q x y : ℤ) → x ≤ℤ y → (q -ℤ y) ≤ℤ (q -ℤ x)
-        step q x y h = omega (arith, ints)
+    own_less k h = omega (arith, ints, mul_mono (b k) (X k) (Y k) (omega (arith, ints, higher k h)))
 
     ramps_less : (k : ℕ) → m ≤ℤ (Y k -ℤ X k) → total (ramp_flow d (Y k) k) ramps ≤ℤ total (ramp_flow d (X k) k) ramps
     ramps_less k h = flows_fall d (X k) (Y k) k ramps (omega (arith, ints, higher k h))
@@ -75,10 +66,7 @@ module _ (n : ℕ) (a : ℕ → ℕ → ℤ) (b : ℕ → ℕ) (q : ℕ → ℤ)
         let high = top_is k inside in
         let tight = sum_below-tight n _ _ (λ z zi. link_less k z high zi) (links_same k i high) j h in
         let (s, some_s, e) = positive_natural (a k j) conducts in
-        is_top j (step (X j) (Y j) (X k) (Y k) high (cancel_le s _ _ some_s (rw e at tight)))
-      where
-        step : (x y v w : ℤ) → m ≤ℤ (w -ℤ v) → (x -ℤ v) ≤ℤ (y -ℤ w) → m ≤ℤ (y -ℤ x)
-        step x y v w h k = omega (arith, ints)
+        is_top j (omega (arith, ints, cancel_le s _ _ some_s (rw e at tight)))
 
     -- and no known head conducts there
     loose : (k : ℕ) → k < n → top k ≡ true → b k ≡ 0
@@ -86,10 +74,7 @@ module _ (n : ℕ) (a : ℕ → ℕ → ℤ) (b : ℕ → ℕ) (q : ℕ → ℤ)
       where
         none : (b : ℕ) (x y : ℤ) → x <ℤ y → (pos b *ℤ y) ≤ℤ (pos b *ℤ x) → b ≡ 0
         none zero x y h k = refl
-        none (suc b) x y h k = absurd (clash x y h (cancel_le (suc b) y x (omega arith) k))
-          where
-            clash : (x y : ℤ) → x <ℤ y → y ≤ℤ x → ⊥
-            clash x y h k = omega (arith, ints)
+        none (suc b) x y h k = absurd (omega (arith, ints, cancel_le (suc b) y x (omega arith) k))
 
     deep_at_most : (k : ℕ) → k < n → top k ≡ true → (link_flow n a Y k +ℤ pos d *ℤ deep n a b q ramps k) ≤ℤ pos 0
     deep_at_most k i inside =

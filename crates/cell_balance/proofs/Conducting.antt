@@ -2,11 +2,11 @@
 use Rattle.cell_balance.proofs.Common.{[], ◌*ℤ◌, ◌+ℤ◌, ◌<ℤ◌, ◌<◌, ◌∷◌, ◌≡◌, ◌≤ℤ◌, All, Bool, List, arith, cond, false, inl, inr, nat_eq, pos, refl, subst, true}
 use Rattle.cell_balance.proofs.Common.{ℕ, ℤ, AllZip, zero-*ℤ, cases_eq, eq-eqb, ne_eqb, ints, All-cons, All-head, All-nil, All-tail, total, ◌-ℤ◌, ◌∙◌, length}
 use Rattle.cell_balance.proofs.Common.{ap, sum_inside}
-use Rattle.cell_balance.proofs.Dry.{weight, by_weight, IsMutual, dry_balance, dry_fixed}
+use Rattle.cell_balance.proofs.Dry.{total-none, weight, by_weight, IsMutual, dry_balance, dry_fixed}
 use Rattle.cell_balance.proofs.Zips.{WholeEntry, WholeLink, WholeCell, whole_at, whole_link, whole_fixed, whole_deep, whole_balance, IsDry}
 use Rattle.cell_balance.proofs.WholeBalances.{known_conductance, known_flow, a_of}
 use Rattle.cell_balance.proofs.Ramps.{AreMutual}
-use Rattle.cell_balance.proofs.Sums.{link_flows_cancel, sum-same, sum_inside-add, sum_at_most}
+use Rattle.cell_balance.proofs.Sums.{link_flows_cancel, sum-same, sum_inside-add, sum_inside_at_most}
 use Rattle.cell_balance.proofs.Deep.{total_nonneg}
 
 -- a fact of each right element passes to the left one
@@ -33,10 +33,7 @@ links_lead_to_weight S n (x ∷ xs) h =
 
 -- and where weight is, a link leads
 pub weight_is_of_links : (T : ℕ → Type 0) (xs : List WholeLink) (k : ℕ) → All (λ x. T x.cell) xs → pos 0 <ℤ weight xs k → T k
-weight_is_of_links T [] k all h = absurd (never h)
-  where
-    never : pos 0 <ℤ pos 0 → ⊥
-    never h = omega (arith, ints)
+weight_is_of_links T [] k all h = absurd (omega (arith, ints))
 weight_is_of_links T (x ∷ xs) k all h =
     elim (cases_eq x.cell k) [
       | inl e ↦ subst (λ (z : ℕ). T z) e (All-head (λ x. T x.cell) x xs all)
@@ -57,15 +54,7 @@ no_known_conductance [] h = All-nil (λ x. x.c ≡ 0)
 no_known_conductance (x ∷ xs) h = All-cons (λ x. x.c ≡ 0) x xs (omega arith) (no_known_conductance xs (omega arith))
 
 pub no_known_flow : (xs : List WholeEntry) → known_conductance xs ≡ 0 → total known_flow xs ≡ pos 0
-no_known_flow [] h = refl
-no_known_flow (x ∷ xs) h = let e : x.c ≡ 0 = omega arith in rw (e, no_known_flow xs (omega arith)) (none x.top)
-  where
-    none : (z : ℤ) → pos 0 *ℤ z +ℤ pos 0 ≡ pos 0
-    none z = rw (zero-*ℤ z) refl
-
-pub total_nothing : {X : Type 0} (f : X → ℕ) (xs : List X) → total (λ x. pos (f x) *ℤ pos 0) xs ≡ pos 0
-total_nothing f [] = refl
-total_nothing f (x ∷ xs) = rw (total_nothing f xs) (omega (arith, ints))
+no_known_flow xs h = total-none (λ x. x.c ≡ 0) known_flow xs (λ x e. rw (e, zero-*ℤ) refl) (no_known_conductance xs h)
 
 pub both_ways : (w : List WholeCell) → IsMutual w → AreMutual (length w) (a_of w)
 both_ways w both = record { nonneg = λ i j. weight_nonneg (whole_at w i).links j; same = both.same }
@@ -81,16 +70,10 @@ pub dry_law : (w : List WholeCell) (Y : ℕ → ℤ) → IsMutual w → (inside 
 dry_law w Y both inside t dry closed =
     let links = λ (c : ℕ). total (whole_link Y (Y c)) (whole_at w c).links in
     let deep = λ (c : ℕ). whole_deep (whole_at w c) in
-    let less = sum_at_most (length w) _ _ (λ c i. cell c i (inside c) refl) in
+    let less = sum_inside_at_most (length w) inside (λ c. links c +ℤ deep c) (λ c. whole_balance (whole_at w c) (Y c) Y)
+    (λ c i e.
+    let (low, dried) = dry c i e in
+    let some = total_nonneg _ (whole_fixed (Y c)) (whole_at w c).fixed (dry_fixed (Y c) (t c) low) dried.fixed in
+    omega (arith, ints, dry_balance Y (Y c) (t c) (whole_at w c) low dried, some)) in
     let parts = sum_inside-add (length w) inside links deep in
-    joined _ _ _ _ less parts (closed_cancel w inside Y both closed)
-  where
-    cell : (c : ℕ) → c < length w → (b : Bool) → inside c ≡ b → cond b (total (whole_link Y (Y c)) (whole_at w c).links +ℤ whole_deep (whole_at w c)) (pos 0) ≤ℤ cond b (whole_balance (whole_at w c) (Y c) Y) (pos 0)
-    cell c i true e =
-        let (low, dried) = dry c i e in
-        let some = total_nonneg _ (whole_fixed (Y c)) (whole_at w c).fixed (dry_fixed (Y c) (t c) low) dried.fixed in
-        omega (arith, ints, dry_balance Y (Y c) (t c) (whole_at w c) low dried, some)
-    cell c i false e = omega (arith, ints)
-
-    joined : (a b k l : ℤ) → a ≤ℤ k → a ≡ l +ℤ b → l ≡ pos 0 → b ≤ℤ k
-    joined a b k l h e z = omega (arith, ints)
+    omega (arith, ints, closed_cancel w inside Y both closed)

@@ -69,9 +69,8 @@ bounds_sum High a b k c d h j = rw add_mul (omega (arith, ints, h, j))
 module _ {X Y : Type 0} (side : Side) (R : X → Y → Type 0) (f : X → ℤ) (k : ℤ) (g : Y → ℤ) (each : (x : X) (y : Y) → R x y → Bounds side (f x *ℤ k) (g y)) where
   pub total_bounds : (xs : List X) (ys : List Y) → AllZip R xs ys → Bounds side (total f xs *ℤ k) (total g ys)
   total_bounds [] [] h = bounds_none side k
-  total_bounds [] (y ∷ ys) h = absurd h
-  total_bounds (x ∷ xs) [] h = absurd h
   total_bounds (x ∷ xs) (y ∷ ys) h = bounds_sum side (f x) (total f xs) k (g y) (total g ys) (each x y h.0) (total_bounds xs ys h.1)
+  total_bounds _ _ h = absurd h
 
 deep_river_less : (m n : ℕ) (p : River) (x : WholeEntry) → RiverWithin m n p x → (deep_river Low p *ℤ pos (m * n)) ≤ℤ whole_deep_river x
 deep_river_less m n p x r = entry_bounds Low p.lo p.hi x.c m n _ _ r.c (rw sub_mul (omega (arith, ints, r.top.lower, r.foot.upper)))

@@ -1,5 +1,5 @@
 -- The fractions of a step have a common denominator.
-use Rattle.cell_balance.proofs.Common.{◌≡◌, ℕ, ◌*◌, ◌<◌, refl, ap, sym, ◌∙◌, arith, ℤ, pos, ◌*ℤ◌, List, [], ◌∷◌, All, mul-pos, All-nil, All-cons, All-weaker}
+use Rattle.cell_balance.proofs.Common.{◌≡◌, ℕ, ◌*◌, ◌<◌, refl, ap, sym, ◌∙◌, arith, ℤ, pos, ◌*ℤ◌, List, [], ◌∷◌, AllZip, mul-pos}
 use Rattle.cell_balance.proofs.Common.{Ratio, Fraction, den, IsOver, IsShare, mul_assoc, ExactFlow, ExactLink, ExactFixed, ExactRiver, ExactDrain, ExactEvap}
 use Rattle.cell_balance.proofs.Common.{ExactCell}
 use Rattle.decimal_input.specs.Ratios.{den as ratio_den}
@@ -15,24 +15,15 @@ pub Goes-second : (a b : ℕ) → Goes b (a * b)
 Goes-second a b = (a, omega arith)
 
 pub Goes-trans : (a b c : ℕ) → Goes a b → Goes b c → Goes a c
-Goes-trans a b c (q, e) (r, f) = (q * r, f ∙ ap (λ (z : ℕ). z * r) e ∙ assoc a q r)
-  where
-    assoc : (a q r : ℕ) → a * q * r ≡ a * (q * r)
-    assoc a q r = omega arith
+Goes-trans a b c (q, e) (r, f) = (q * r, f ∙ ap (λ (z : ℕ). z * r) e ∙ (omega arith))
 
 -- a conductance and a head over multiples of a denominator that theirs goes into
 pub share_over : (d a : ℕ) (r : Ratio) → Goes (ratio_den r) d → (n : ℕ) × IsShare (d * a) r n
-share_over d a r (q, e) = (r.num * q * a, record { is = ap (λ (z : ℕ). r.num * (z * a)) e ∙ ring r.num (ratio_den r) q a })
-  where
-    ring : (x y q a : ℕ) → x * (y * q * a) ≡ x * q * a * y
-    ring x y q a = omega arith
+share_over d a r (q, e) = (r.num * q * a, record { is = ap (λ (z : ℕ). r.num * (z * a)) e ∙ (omega arith) })
 
 pub fraction_over : (d b : ℕ) (f : Fraction) → Goes (den f) d → (z : ℤ) × IsOver (d * b) f z
-fraction_over d b f (q, e) = (f.num *ℤ pos (q * b), record { is = ap (λ (z : ℕ). f.num *ℤ pos z) (ap (λ (z : ℕ). z * b) e ∙ ring (den f) q b) ∙ back (q * b) (den f) })
+fraction_over d b f (q, e) = (f.num *ℤ pos (q * b), record { is = ap (λ (z : ℕ). f.num *ℤ pos z) (ap (λ (z : ℕ). z * b) e ∙ (omega arith)) ∙ back (q * b) (den f) })
   where
-    ring : (y q b : ℕ) → y * q * b ≡ q * b * y
-    ring y q b = omega arith
-
     back : (x y : ℕ) → f.num *ℤ pos (x * y) ≡ (f.num *ℤ pos x) *ℤ pos y
     back x y = sym (mul_assoc f.num (pos x) (pos y))
 
@@ -72,25 +63,9 @@ product f (x ∷ xs) = f x * product f xs
 abbrev pub cell_den : ExactCell → ℕ
 cell_den c = product flow_den c.flows * (product link_den c.links * (product fixed_den c.fixed * (product river_den c.rivers * (product drain_den c.drains * product evap_den c.evaps))))
 
--- d is a common denominator of a list of entries, and of a cell's entries
-abbrev pub AllGo : {X : Type 0} → (X → ℕ) → ℕ → List X → Type 0
-AllGo f d xs = All (λ x. Goes (f x) d) xs
-
-pub record IsCommon (d : ℕ) (c : ExactCell) : Type 0 where
-  pub flows : AllGo flow_den d c.flows
-  pub links : AllGo link_den d c.links
-  pub fixed : AllGo fixed_den d c.fixed
-  pub rivers : AllGo river_den d c.rivers
-  pub drains : AllGo drain_den d c.drains
-  pub evaps : AllGo evap_den d c.evaps
-
 pub some_product : {X : Type 0} (f : X → ℕ) → ((x : X) → 0 < f x) → (xs : List X) → 0 < product f xs
 some_product f some [] = omega arith
 some_product f some (x ∷ xs) = mul-pos (some x) (some_product f some xs)
-
-each_goes : {X : Type 0} (f : X → ℕ) (xs : List X) (d : ℕ) → Goes (product f xs) d → AllGo f d xs
-each_goes f [] d g = All-nil (λ x. Goes (f x) d)
-each_goes f (x ∷ xs) d g = All-cons (λ y. Goes (f y) d) x xs (left_goes (f x) (product f xs) d g) (each_goes f xs d (right_goes (f x) (product f xs) d g))
 
 pub some_entry : (r : Ratio) (top foot : Fraction) → 0 < entry_den r top foot
 some_entry r top foot = mul-pos (omega arith) (mul-pos (omega arith) (omega arith))
@@ -103,24 +78,17 @@ some_cell c =
     (mul-pos (some_product drain_den (λ e. some_entry e.conductance e.elevation e.elevation) c.drains)
     (some_product evap_den (λ e. some_entry e.conductance e.surface e.extinction) c.evaps)))))
 
-common_by : (d : ℕ) (c : ExactCell) → Goes (cell_den c) d → IsCommon d c
-common_by d c g =
-    let links = right_goes _ _ d g in
-    let fixed = right_goes _ _ d links in
-    let rivers = right_goes _ _ d fixed in
-    let drains = right_goes _ _ d rivers in
-    record {
-      flows = each_goes flow_den c.flows d (left_goes _ _ d g);
-      links = each_goes link_den c.links d (left_goes _ _ d links);
-      fixed = each_goes fixed_den c.fixed d (left_goes _ _ d fixed);
-      rivers = each_goes river_den c.rivers d (left_goes _ _ d rivers);
-      drains = each_goes drain_den c.drains d (left_goes _ _ d drains);
-      evaps = each_goes evap_den c.evaps d (right_goes _ _ d drains);
-    }
+-- where each element has one that it is related to, so has a list, over a number that the product of its denominators goes into
+pub choose : {X Y : Type 0} (R : X → Y → Type 0) (f : X → ℕ) (d : ℕ) → ((x : X) → Goes (f x) d → (y : Y) × R x y) → (xs : List X) → Goes (product f xs) d → (ys : List Y) × AllZip R xs ys
+choose R f d each [] g = ([], tt)
+choose R f d each (x ∷ xs) g =
+    let (y, r) = each x (left_goes (f x) (product f xs) d g) in
+    let (ys, h) = choose R f d each xs (right_goes (f x) (product f xs) d g) in
+    (y ∷ ys, (r, h))
 
-pub cell_common : (c : ExactCell) → (d : ℕ) × (0 < d) × IsCommon d c
-cell_common c = (cell_den c, some_cell c, common_by (cell_den c) c (1, omega arith))
+-- a cell and a step have a common denominator
+pub cell_common : (c : ExactCell) → (d : ℕ) × (0 < d) × Goes (cell_den c) d
+cell_common c = (cell_den c, some_cell c, (1, omega arith))
 
--- a step's cells have a common denominator
-pub step_common : (e : List ExactCell) → (d : ℕ) × (0 < d) × All (IsCommon d) e
-step_common e = let d = product cell_den e in (d, some_product cell_den some_cell e, All-weaker (λ c. Goes (cell_den c) d) (IsCommon d) (common_by d) e (each_goes cell_den e d (1, omega arith)))
+pub step_common : (e : List ExactCell) → (d : ℕ) × (0 < d) × Goes (product cell_den e) d
+step_common e = (product cell_den e, some_product cell_den some_cell e, (1, omega arith))

@@ -41,9 +41,9 @@ total-add : {X : Type 0} (f g h : X → ℤ) (xs : List X) → ((x : X) → f x 
 total-add f g h [] each = refl
 total-add f g h (x ∷ xs) each = rw (each x, total-add f g h xs each) (omega (arith, ints))
 
-total-zeros : {X : Type 0} (f : X → ℤ) (xs : List X) → ((x : X) → f x ≡ pos 0) → total f xs ≡ pos 0
-total-zeros f [] each = refl
-total-zeros f (x ∷ xs) each = rw (each x, total-zeros f xs each) refl
+pub total-none : {X : Type 0} (P : X → Type 0) (f : X → ℤ) (xs : List X) → ((x : X) → P x → f x ≡ pos 0) → All P xs → total f xs ≡ pos 0
+total-none P f [] each all = refl
+total-none P f (x ∷ xs) each all = rw (each x (All-head P x xs all), total-none P f xs each (All-tail P x xs all)) refl
 
 -- the difference of heads over a link inside the set, and 0 elsewhere
 abbrev inner : (ℕ → Bool) → (ℕ → ℤ) → ℕ → ℕ → ℤ
@@ -63,7 +63,7 @@ one_cell : (inside : ℕ → Bool) (Y : ℕ → ℤ) (y other : ℤ) (links : Li
 one_cell inside Y y other links true =
     let split = total-add (whole_link Y y) (cut_link inside Y y) (λ x. pos x.c *ℤ cond (inside x.cell) (Y x.cell -ℤ y) (pos 0)) links (λ x. split_link (inside x.cell) x.c (Y x.cell -ℤ y)) in
     omega (arith, ints)
-one_cell inside Y y other links false = rw (total-zeros (λ x. pos x.c *ℤ pos 0) links (λ x. *ℤ-zero (pos x.c))) refl
+one_cell inside Y y other links false = rw (total-none (λ x. Unit {0}) (λ x. pos x.c *ℤ pos 0) links (λ x u. *ℤ-zero (pos x.c)) (λ k d i. tt)) refl
 
 -- over any set of cells only the links that leave it count, whatever else each cell gets
 pub cut_links : (w : List WholeCell) (inside : ℕ → Bool) (Y other : ℕ → ℤ) → IsMutual w → sum_inside (length w) inside (λ c. total (whole_link Y (Y c)) (whole_at w c).links +ℤ other c) ≡ sum_inside (length w) inside (λ c. total (cut_link inside Y (Y c)) (whole_at w c).links +ℤ other c)
@@ -95,11 +95,10 @@ evap_within_full y x =
 -- the balance of a cell whose head lies below all bottoms and drains
 pub dry_balance : (Y : ℕ → ℤ) (y t : ℤ) (w : WholeCell) → y ≤ℤ t → IsDry t w → (whole_deep w +ℤ (total (whole_link Y y) w.links +ℤ total (whole_fixed y) w.fixed)) ≤ℤ whole_balance w y Y
 dry_balance Y y t w h dry =
-    six (total (λ q. q) w.flows) (total (whole_link Y y) w.links) (total (whole_fixed y) w.fixed) _ _ _ _ _ _
-    (total-same (λ x. (x.c ≡ 0) ⊎ (t ≤ℤ x.foot)) (whole_river y) whole_deep_river w.rivers (dry_river y t h) dry.rivers)
-    (total_nonneg (λ x. (x.c ≡ 0) ⊎ (t ≤ℤ x.foot)) (whole_drain y) w.drains (dry_drain y t h) dry.drains)
-    (total_at_most (λ x. Unit {0}) (λ x. neg_ℤ (whole_full x)) (whole_evap y) w.evaps (λ x u. evap_within_full y x) (λ k d i. tt))
-    (total_neg whole_full w.evaps)
-  where
-    six : (a b c d d' e f g n : ℤ) → d ≡ d' → pos 0 ≤ℤ e → n ≤ℤ f → n ≡ neg_ℤ g → ((a +ℤ d' -ℤ g) +ℤ (b +ℤ c)) ≤ℤ (a +ℤ b +ℤ c +ℤ d +ℤ e +ℤ f)
-    six a b c d d' e f g n p q r s = omega (arith, ints)
+    omega (
+      arith, ints,
+      total-same (λ x. (x.c ≡ 0) ⊎ (t ≤ℤ x.foot)) (whole_river y) whole_deep_river w.rivers (dry_river y t h) dry.rivers,
+      total_nonneg (λ x. (x.c ≡ 0) ⊎ (t ≤ℤ x.foot)) (whole_drain y) w.drains (dry_drain y t h) dry.drains,
+      total_at_most (λ x. Unit {0}) (λ x. neg_ℤ (whole_full x)) (whole_evap y) w.evaps (λ x u. evap_within_full y x) (λ k d i. tt),
+      total_neg whole_full w.evaps,
+    )

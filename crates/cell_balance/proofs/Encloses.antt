@@ -1,13 +1,13 @@
 -- The comparison: from fractions to whole numbers and back.
-use Rattle.cell_balance.proofs.Common.{◌≡◌, ℕ, suc, ◌-◌, ◌*◌, ◌^◌, ◌<◌, sym, ap, ◌∙◌, subst, arith, ℤ, pos, ◌*ℤ◌, List, length, mul-pos, refl, All, AllZip}
+use Rattle.cell_balance.proofs.Common.{◌≡◌, ℕ, suc, ◌-◌, ◌*◌, ◌^◌, ◌<◌, sym, ap, ◌∙◌, subst, arith, ℤ, pos, ◌*ℤ◌, List, length, mul-pos, refl, AllZip}
 use Rattle.cell_balance.proofs.Common.{IsOver, Ratio, Fraction, cancel_right, mul_mono_right, swap, mul_assoc, ◌≤ℤ◌, ◌⊎◌, inl, inr, IsProblem, ExactCell}
 use Rattle.cell_balance.proofs.Common.{cell_at, no_cell, balance, share, SolvesStep, Compares, EnclosesStep, ExactFlow, ExactLink, Entries, Side, Low, High}
 use Rattle.cell_balance.proofs.Common.{den, mul_comm, LiesBetween, IsHeldBelow, entries_at, lower_balance, upper_balance}
-use Rattle.cell_balance.proofs.Zips.{AllZip-at, AllZip-length, CellWithin, WholeCell, whole_at, no_whole, whole_balance, AllZip-choose, WholeLink, WholeEntry}
+use Rattle.cell_balance.proofs.Zips.{AllZip-at, AllZip-length, CellWithin, WholeCell, whole_at, no_whole, whole_balance, WholeLink, WholeEntry}
 use Rattle.cell_balance.proofs.Scaling.{zero_over}
 use Rattle.cell_balance.proofs.Over.{CellOver, balance_over, FlowOver, LinkOver, EntryOver, FixedOver, RiverOver, DrainOver, EvapOver}
-use Rattle.cell_balance.proofs.Denominators.{step_common, Goes, share_over, fraction_over, left_goes, right_goes, flow_den, link_den, entry_den, fixed_den}
-use Rattle.cell_balance.proofs.Denominators.{river_den, drain_den, evap_den, IsCommon}
+use Rattle.cell_balance.proofs.Denominators.{Goes, share_over, fraction_over, left_goes, right_goes, flow_den, link_den, entry_den, fixed_den}
+use Rattle.cell_balance.proofs.Denominators.{river_den, drain_den, evap_den, cell_den, product, choose, step_common}
 use Rattle.cell_balance.proofs.Enclosed.{step_within, linked, links_good}
 use Rattle.cell_balance.proofs.Mutual.{mutual_whole}
 use Rattle.cell_balance.proofs.Compare.{compare}
@@ -36,20 +36,24 @@ module _ (d a b : ℕ) where
       let (t, low) = fraction_over d b foot (right_goes (den top) (den foot) d both) in
       (record { c = c; top = z; foot = t }, record { c = share; top = high; foot = low })
 
-  pub whole_cell : (e : ExactCell) → IsCommon d e → (w : WholeCell) × CellOver (d * a) (d * b) e w
+  pub whole_cell : (e : ExactCell) → Goes (cell_den e) d → (w : WholeCell) × CellOver (d * a) (d * b) e w
   whole_cell e g =
-      let (flows, f) = AllZip-choose (FlowOver (d * a) (d * b)) (λ x. Goes (flow_den x) d) flow e.flows g.flows in
-      let (links, l) = AllZip-choose (LinkOver (d * a) (d * b)) (λ x. Goes (link_den x) d) link e.links g.links in
-      let (fixeds, h) = AllZip-choose (FixedOver (d * a) (d * b)) (λ x. Goes (fixed_den x) d) (λ x. entry x.conductance x.head x.head) e.fixed g.fixed in
-      let (rivers, r) = AllZip-choose (RiverOver (d * a) (d * b)) (λ x. Goes (river_den x) d) (λ x. entry x.conductance x.stage x.bottom) e.rivers g.rivers in
-      let (drains, n) = AllZip-choose (DrainOver (d * a) (d * b)) (λ x. Goes (drain_den x) d) (λ x. entry x.conductance x.elevation x.elevation) e.drains g.drains in
-      let (evaps, v) = AllZip-choose (EvapOver (d * a) (d * b)) (λ x. Goes (evap_den x) d) (λ x. entry x.conductance x.surface x.extinction) e.evaps g.evaps in (
+      let to_links = right_goes _ _ d g in
+      let to_fixed = right_goes _ _ d to_links in
+      let to_rivers = right_goes _ _ d to_fixed in
+      let to_drains = right_goes _ _ d to_rivers in
+      let (flows, f) = choose (FlowOver (d * a) (d * b)) flow_den d flow e.flows (left_goes _ _ d g) in
+      let (links, l) = choose (LinkOver (d * a) (d * b)) link_den d link e.links (left_goes _ _ d to_links) in
+      let (fixeds, h) = choose (FixedOver (d * a) (d * b)) fixed_den d (λ x. entry x.conductance x.head x.head) e.fixed (left_goes _ _ d to_fixed) in
+      let (rivers, r) = choose (RiverOver (d * a) (d * b)) river_den d (λ x. entry x.conductance x.stage x.bottom) e.rivers (left_goes _ _ d to_rivers) in
+      let (drains, n) = choose (DrainOver (d * a) (d * b)) drain_den d (λ x. entry x.conductance x.elevation x.elevation) e.drains (left_goes _ _ d to_drains) in
+      let (evaps, v) = choose (EvapOver (d * a) (d * b)) evap_den d (λ x. entry x.conductance x.surface x.extinction) e.evaps (right_goes _ _ d to_drains) in (
         record { flows = flows; links = links; fixed = fixeds; rivers = rivers; drains = drains; evaps = evaps },
         record { flows = f; links = l; fixed = h; rivers = r; drains = n; evaps = v },
       )
 
-  pub whole_step : (e : List ExactCell) → All (IsCommon d) e → (w : List WholeCell) × AllZip (CellOver (d * a) (d * b)) e w
-  whole_step e g = AllZip-choose (CellOver (d * a) (d * b)) (IsCommon d) whole_cell e g
+  pub whole_step : (e : List ExactCell) → Goes (product cell_den e) d → (w : List WholeCell) × AllZip (CellOver (d * a) (d * b)) e w
+  whole_step e g = choose (CellOver (d * a) (d * b)) cell_den d whole_cell e g
 
 -- a numerator over d, over a multiple of d
 pub share_is : (d j : ℕ) (z : ℤ) → 0 < d → IsOver (d * j) (share d z) (z *ℤ pos j)

@@ -11,11 +11,8 @@ use Rattle.cell_balance.proofs.Denominators.{Goes, Goes-first, Goes-second, frac
 -- Fractions and their whole numbers over one denominator: order, signs, equality, and sums over cells; single flows and their bounds.
 pub over_le : (d : ℕ) (f g : Fraction) (a b : ℤ) → IsOver d f a → IsOver d g b → AtMost f g → a ≤ℤ b
 over_le d f g a b p q h =
-    cancel_right (den f * den g) a b (some f.less g.less)
+    cancel_right (den f * den g) a b (omega arith)
     (rw (crossed d f a (den g) p, crossed_back d f g b q) at (mul_mono_right d _ _ h.at_most))
-  where
-    some : (x y : ℕ) → 0 < suc x * suc y
-    some x y = omega arith
 
 pub le_over : (d : ℕ) (f g : Fraction) (a b : ℤ) → 0 < d → IsOver d f a → IsOver d g b → a ≤ℤ b → AtMost f g
 le_over d f g a b some p q h = record {
@@ -46,18 +43,12 @@ negative_over d f a some p h = cancel_right d f.num (pos 0) some (rw (p.is, zero
 pub negative_below : (d : ℕ) (f : Fraction) (a : ℤ) → 0 < d → IsOver d f a → a <ℤ pos 0 → f.num <ℤ pos 0
 negative_below d f a some p h =
     by_lt_z f.num (pos 0) (λ lt. lt)
-    (λ le. absurd (clash _ h (cancel_right (den f) (pos 0) a (omega arith) (rw (← p.is, zero-*ℤ) (rw zero-*ℤ at (mul_mono_right d (pos 0) f.num le))))))
-  where
-    clash : (x : ℤ) → x <ℤ pos 0 → pos 0 ≤ℤ x → ⊥
-    clash x h k = omega (arith, ints)
+    (λ le. absurd (omega (arith, ints, cancel_right (den f) (pos 0) a (omega arith) (rw (← p.is, zero-*ℤ) (rw zero-*ℤ at (mul_mono_right d (pos 0) f.num le))))))
 
 pub positive_above : (d : ℕ) (f : Fraction) (a : ℤ) → 0 < d → IsOver d f a → pos 0 <ℤ a → pos 0 <ℤ f.num
 positive_above d f a some p h =
     by_lt_z (pos 0) f.num (λ lt. lt)
-    (λ le. absurd (clash _ h (cancel_right (den f) a (pos 0) (omega arith) (rw (← p.is, zero-*ℤ) (rw zero-*ℤ at (mul_mono_right d f.num (pos 0) le))))))
-  where
-    clash : (x : ℤ) → pos 0 <ℤ x → x ≤ℤ pos 0 → ⊥
-    clash x h k = omega (arith, ints)
+    (λ le. absurd (omega (arith, ints, cancel_right (den f) a (pos 0) (omega arith) (rw (← p.is, zero-*ℤ) (rw zero-*ℤ at (mul_mono_right d f.num (pos 0) le))))))
 
 -- a number below another, over one denominator
 pub below_over : (d : ℕ) (f g : Fraction) (a b : ℤ) → 0 < d → IsOver d f a → IsOver d g b → IsBelow f g → a <ℤ b
@@ -107,9 +98,8 @@ out_encloses a b k f h = greater_encloses (neg_ℤ b) (neg_ℤ a) k (negated f) 
 -- over lists that are related place by place
 pub total_encloses : {X Y : Type 0} (R : X → Y → Type 0) (lo hi : X → ℤ) (k : ℕ) (f : Y → Fraction) → ((x : X) (y : Y) → R x y → EnclosesSigned (lo x) (hi x) k (f y)) → (xs : List X) (ys : List Y) → AllZip R xs ys → EnclosesSigned (total lo xs) (total hi xs) k (fraction_total f ys)
 total_encloses R lo hi k f each [] [] h = none_encloses k
-total_encloses R lo hi k f each [] (y ∷ ys) h = absurd h
-total_encloses R lo hi k f each (x ∷ xs) [] h = absurd h
 total_encloses R lo hi k f each (x ∷ xs) (y ∷ ys) h = plus_encloses _ _ _ _ k (f y) (fraction_total f ys) (each x y h.0) (total_encloses R lo hi k f each xs ys h.1)
+total_encloses _ lo hi k f each _ _ h = absurd h
 
 -- over the cells below a number
 pub below_encloses : (n : ℕ) (lo hi : ℕ → ℤ) (k : ℕ) (f : ℕ → Fraction) → ((c : ℕ) → c < n → EnclosesSigned (lo c) (hi c) k (f c)) → EnclosesSigned (sum_below n lo) (sum_below n hi) k (total_below n f)
@@ -123,12 +113,10 @@ kept R p q x y xs ys false e d r h = rw (e, d) h
 
 pub AllZip-filter : {X Y : Type 0} (R : X → Y → Type 0) (p : X → Bool) (q : Y → Bool) → ((x : X) (y : Y) → R x y → p x ≡ q y) → (xs : List X) (ys : List Y) → AllZip R xs ys → AllZip R (filter p xs) (filter q ys)
 AllZip-filter R p q agree [] [] h = tt
-AllZip-filter R p q agree [] (y ∷ ys) h = absurd h
-AllZip-filter R p q agree (x ∷ xs) [] h = absurd h
 AllZip-filter R p q agree (x ∷ xs) (y ∷ ys) h = kept R p q x y xs ys (q y) (agree x y h.0) refl h.0 (AllZip-filter R p q agree xs ys h.1)
+AllZip-filter _ p q agree _ _ h = absurd h
 
 pub AllZip-map : {X Y V W : Type 0} (R : X → Y → Type 0) (S : V → W → Type 0) (f : X → V) (g : Y → W) → ((x : X) (y : Y) → R x y → S (f x) (g y)) → (xs : List X) (ys : List Y) → AllZip R xs ys → AllZip S (map f xs) (map g ys)
 AllZip-map R S f g each [] [] h = tt
-AllZip-map R S f g each [] (y ∷ ys) h = absurd h
-AllZip-map R S f g each (x ∷ xs) [] h = absurd h
 AllZip-map R S f g each (x ∷ xs) (y ∷ ys) h = (each x y h.0, AllZip-map R S f g each xs ys h.1)
+AllZip-map _ _ f g each _ _ h = absurd h

@@ -1,5 +1,5 @@
 -- The laws of exact balances, from their whole numbers.
-use Rattle.cell_balance.proofs.Common.{◌≡◌, ℕ, ◌*◌, ◌<◌, ◌⊎◌, inl, inr, refl, subst, arith, ℤ, pos, ◌*ℤ◌, ◌≤ℤ◌, List, length, All, Bool, true, mul-pos, ◌+ℤ◌}
+use Rattle.cell_balance.proofs.Common.{◌≡◌, ℕ, ◌*◌, ◌<◌, ◌⊎◌, inl, inr, refl, subst, arith, ℤ, pos, ◌*ℤ◌, ◌≤ℤ◌, List, length, All, Bool, true, mul-pos}
 use Rattle.cell_balance.proofs.Common.{AllZip, cases_eq, ints, clamps, Ratio, Fraction, fraction_total, IsOver, IsShare, AtMost, total, ExactCell, cell_at}
 use Rattle.cell_balance.proofs.Common.{no_cell, link_flow, balance, share, total_inside, IsClosed, deep_flow, LiesBelow, LinksCancel, BalanceFalls}
 use Rattle.cell_balance.proofs.Common.{BalanceRises, DryLaw, mul_mono_right, mul_mono, loss_falls, total_mono, mul_comm}
@@ -17,23 +17,21 @@ use Rattle.cell_balance.proofs.Deep.{total_at_most, same_z}
 -- A whole balance falls weakly in its own head and rises weakly in the others.
 pub whole_falls : (w : WholeCell) (v y : ℤ) (Y : ℕ → ℤ) → v ≤ℤ y → whole_balance w y Y ≤ℤ whole_balance w v Y
 whole_falls w v y Y le =
-    six (total (λ q. q) w.flows) _ _ _ _ _ _ _ _ _ _
-    (total_mono (whole_link Y y) (whole_link Y v) w.links (λ x. mul_mono x.c _ _ (omega (arith, ints))))
-    (total_mono (whole_fixed y) (whole_fixed v) w.fixed (λ x. mul_mono x.c _ _ (omega (arith, ints))))
-    (total_mono (whole_river y) (whole_river v) w.rivers (λ x. mul_mono x.c _ _ (omega (arith, ints, clamps))))
-    (total_mono (whole_drain y) (whole_drain v) w.drains (λ x. loss_falls x.c _ _ (omega (arith, ints, clamps))))
-    (total_mono (whole_evap y) (whole_evap v) w.evaps (λ x. loss_falls x.c _ _ (omega (arith, ints, clamps))))
-  where
-    six : (f a b c d e a' b' c' d' e' : ℤ) → a ≤ℤ a' → b ≤ℤ b' → c ≤ℤ c' → d ≤ℤ d' → e ≤ℤ e' → (f +ℤ a +ℤ b +ℤ c +ℤ d +ℤ e) ≤ℤ (f +ℤ a' +ℤ b' +ℤ c' +ℤ d' +ℤ e')
-    six f a b c d e a' b' c' d' e' p q r s t = omega (arith, ints)
+    omega (
+      arith, ints,
+      total_mono (whole_link Y y) (whole_link Y v) w.links (λ x. mul_mono x.c _ _ (omega (arith, ints))),
+      total_mono (whole_fixed y) (whole_fixed v) w.fixed (λ x. mul_mono x.c _ _ (omega (arith, ints))),
+      total_mono (whole_river y) (whole_river v) w.rivers (λ x. mul_mono x.c _ _ (omega (arith, ints, clamps))),
+      total_mono (whole_drain y) (whole_drain v) w.drains (λ x. loss_falls x.c _ _ (omega (arith, ints, clamps))),
+      total_mono (whole_evap y) (whole_evap v) w.evaps (λ x. loss_falls x.c _ _ (omega (arith, ints, clamps))),
+    )
 
 pub whole_rises : (w : WholeCell) (v : ℤ) (Y Z : ℕ → ℤ) → All (λ x. Y x.cell ≤ℤ Z x.cell) w.links → whole_balance w v Y ≤ℤ whole_balance w v Z
 whole_rises w v Y Z each =
-    second (total (λ q. q) w.flows) _ _ _ _ _ _
-    (total_at_most (λ x. Y x.cell ≤ℤ Z x.cell) (whole_link Y v) (whole_link Z v) w.links (λ x h. mul_mono x.c _ _ (omega (arith, ints))) each)
-  where
-    second : (f a a' b c d e : ℤ) → a ≤ℤ a' → (f +ℤ a +ℤ b +ℤ c +ℤ d +ℤ e) ≤ℤ (f +ℤ a' +ℤ b +ℤ c +ℤ d +ℤ e)
-    second f a a' b c d e p = omega (arith, ints)
+    omega (
+      arith, ints,
+      total_at_most (λ x. Y x.cell ≤ℤ Z x.cell) (whole_link Y v) (whole_link Z v) w.links (λ x h. mul_mono x.c _ _ (omega (arith, ints))) each,
+    )
 
 -- numerators over d, over n * d
 pub heads_over : (n d : ℕ) → 0 < d → (z : ℤ) → IsOver (n * d) (share d z) (z *ℤ pos n)
@@ -60,13 +58,13 @@ balance_rises c d v X Z some each =
     (All-zip (LinkOver (n * 1) (n * d)) (λ x. X x.cell ≤ℤ Z x.cell) (λ x. (X x.cell *ℤ pos n) ≤ℤ (Z x.cell *ℤ pos n)) (λ x y r h. subst (λ (k : ℕ). (X k *ℤ pos n) ≤ℤ (Z k *ℤ pos n)) r.same (mul_mono_right n _ _ h)) c.links u.links over.links each))
 
 module _ (k m : ℕ) (e : List ExactCell) (w : List WholeCell) (over : AllZip (CellOver k m) e w) where
-  same_length : length e ≡ length w
+  pub same_length : length e ≡ length w
   same_length = AllZip-length (CellOver k m) e w over
 
-  cell_over : (c : ℕ) → c < length e → CellOver k m (cell_at e c) (whole_at w c)
+  pub cell_over : (c : ℕ) → c < length e → CellOver k m (cell_at e c) (whole_at w c)
   cell_over c i = AllZip-at (CellOver k m) e w c no_cell no_whole over i
 
-  closed_whole : (inside : ℕ → Bool) → IsClosed e inside → (c : ℕ) → c < length w → inside c ≡ true → All (λ x. inside x.cell ≡ true) (whole_at w c).links
+  pub closed_whole : (inside : ℕ → Bool) → IsClosed e inside → (c : ℕ) → c < length w → inside c ≡ true → All (λ x. inside x.cell ≡ true) (whole_at w c).links
   closed_whole inside closed c i t =
       let here : c < length e = omega (arith, same_length, i) in
       All-zip (LinkOver k m) (λ x. inside x.cell ≡ true) (λ x. inside x.cell ≡ true) (λ x y r h. subst (λ (z : ℕ). inside z ≡ true) r.same h) (cell_at e c).links (whole_at w c).links (cell_over c here).links (closed c here t)

@@ -1,5 +1,5 @@
 -- The example meets all that the comparison asks.
-use Rattle.cell_balance.proofs.Common.{◌≡◌, ℕ, zero, suc, ◌<◌, ◌⊎◌, inl, inr, refl, sym, arith, pos, neg_ℤ, ◌*ℤ◌, ◌≤ℤ◌, ◌^◌, Bool, true, false, nat_eq}
+use Rattle.cell_balance.proofs.Common.{◌≡◌, ℕ, zero, suc, ◌<◌, ◌⊎◌, inl, inr, refl, sym, arith, pos, neg_ℤ, ◌*ℤ◌, ◌≤ℤ◌, ◌^◌, true, nat_eq}
 use Rattle.cell_balance.proofs.Common.{cases_eq, ne_eqb, eq-eqb, ints, entries_at, Constant, lower_balance, upper_balance, head_at, IsCertificate, SolvesStep}
 use Rattle.cell_balance.proofs.Common.{LiesBetween, Reaches, Leads, IsComponent, IsCarried, IsHeldBelow, IsComparable, example_problem, example_step}
 use Rattle.cell_balance.proofs.Common.{example_heads, example_barrier, example_lows, example_highs, balance, share, cell_at}
@@ -13,14 +13,11 @@ anchored (suc (suc c)) h = absurd (omega arith)
 third_component : IsComponent example_problem 2 (λ k. nat_eq k 2)
 third_component = record { reached = reached; whole = whole }
   where
-    apart : (b : Bool) → b ≡ false → b ≡ true → ⊥
-    apart b e f = cc
-
     reached : (k : ℕ) → nat_eq k 2 ≡ true → (j : ℕ) × Reaches example_problem j 2 k
     reached k t =
         elim (cases_eq k 2) [
           | inl e ↦ (0, sym e)
-          | inr e ↦ absurd (apart (nat_eq k 2) (ne_eqb k 2 e) t)
+          | inr e ↦ absurd (cc (ne_eqb k 2 e))
         ]
 
     whole : (j k : ℕ) → Reaches example_problem j 2 k → nat_eq k 2 ≡ true

@@ -1,17 +1,18 @@
 -- What holds the components of a problem holds the closed sets of the whole numbers of each step that it encloses.
-use Rattle.cell_balance.proofs.Common.{◌*◌, arith, length, pos, mul-pos, ◌*ℤ◌, ◌+ℤ◌, ◌-ℤ◌, ◌<ℤ◌, ◌<◌, ◌≡◌, ◌≤ℤ◌, All, Bool, List, cond, false, get_or, inl, inr}
-use Rattle.cell_balance.proofs.Common.{refl, subst, suc, sym, true, zero, ℕ, ℤ, ◌≤◌, ◌∙◌, Contains, AllZip, zero-*ℤ, ints, All-contains, Contains-get_or}
+use Rattle.cell_balance.proofs.Common.{*ℤ-zero}
+use Rattle.cell_balance.proofs.Common.{◌*◌, arith, length, pos, mul-pos, ◌*ℤ◌, ◌<ℤ◌, ◌<◌, ◌≡◌, ◌≤ℤ◌, All, Bool, List, get_or, inl, inr}
+use Rattle.cell_balance.proofs.Common.{refl, subst, suc, sym, true, zero, ℕ, ℤ, ◌≤◌, Contains, AllZip, ints, All-contains, Contains-get_or}
 use Rattle.cell_balance.proofs.Common.{IsBetweenWhole, total, entries_at, no_entries, IsHeldBelow, Reaches, deep_low, sum_inside, IsCarried, IsComponent}
 use Rattle.cell_balance.proofs.Common.{Entries, Link}
-use Rattle.cell_balance.proofs.Zips.{AllZip-length, All-zip, WholeCell, WholeEntry, whole_at, whole_deep, whole_deep_river, whole_full, CellWithin, FixedWithin}
+use Rattle.cell_balance.proofs.Zips.{AllZip-length, All-zip, WholeCell, WholeEntry, whole_at, whole_deep, CellWithin, FixedWithin}
 use Rattle.cell_balance.proofs.Zips.{LinkWithin, AllZip-at, no_whole, whole_balance, IsDry}
 use Rattle.cell_balance.proofs.Scaling.{conducting, positive_times}
-use Rattle.cell_balance.proofs.Sums.{sum-times, sum_at_most, sum-same, sum-zero}
+use Rattle.cell_balance.proofs.Sums.{sum_inside_times, sum_inside-zero}
 use Rattle.cell_balance.proofs.WholeBalances.{ramps_from, a_of, b_of, q_of, ramps_at_cell}
 use Rattle.cell_balance.proofs.Deep.{deep_less}
 use Rattle.cell_balance.proofs.Ramps.{IsClosed, extent, deep, IsHeldFromBelow}
-use Rattle.cell_balance.proofs.Conducting.{dry_law, All-back, links_lead_to_weight, weight_is_of_links, no_known_conductance, no_known_flow, total_nothing}
-use Rattle.cell_balance.proofs.Dry.{IsMutual}
+use Rattle.cell_balance.proofs.Conducting.{dry_law, All-back, links_lead_to_weight, weight_is_of_links, no_known_conductance, no_known_flow}
+use Rattle.cell_balance.proofs.Dry.{IsMutual, total-none}
 
 -- The cells of a carried component do not all lie below their bottoms and drains.
 -- one more link at the end of a way
@@ -42,29 +43,20 @@ module _ (m n : ℕ) (some_m : 0 < m) (some_n : 0 < n) (p : List Entries) (w : L
     -- the cells of a carried component don't all lie below their bottoms and drains
     pub carried_not_dry : (c : ℕ) (held : IsCarried p c) (t : ℕ → ℤ) → ((k : ℕ) → k < length p → held.inside k ≡ true → (Y k ≤ℤ t k) × IsDry (t k) (whole_at w k)) → ⊥
     carried_not_dry c held t dry =
-        let deep = sum_at_most (length p) (λ k. cond (held.inside k) (deep_low (entries_at p k)) (pos 0) *ℤ pos (m * n)) (λ k. cond (held.inside k) (whole_deep (whole_at w k)) (pos 0)) (λ k j. deep_cell k j (held.inside k)) in
-        let sum = rw (← sum-times (length p) (λ k. cond (held.inside k) (deep_low (entries_at p k)) (pos 0)) (pos (m * n)), same_length) at deep in
+        let sum = rw same_length at (sum_inside_times (length p) held.inside (λ k. deep_low (entries_at p k)) (λ k. whole_deep (whole_at w k)) (pos (m * n)) (λ k j e. deep_less m n (length p) (entries_at p k) (whole_at w k) (cell_within m n p w within k j))) in
         let law = dry_law w Y both held.inside t (λ k j e. dry k (rw same_length j) e) (λ k j e. closed_links m n p w within c held.inside held.component k (rw same_length j) e) in
-        let none = sum-same (length w) (λ k. cond (held.inside k) (whole_balance (whole_at w k) (Y k) Y) (pos 0)) (λ k. pos 0) (λ k j. solved_cell k j (held.inside k)) ∙ sum-zero (length w) in
+        let none = sum_inside-zero (length w) held.inside (λ k. whole_balance (whole_at w k) (Y k) Y) solves in
         clash _ _ _ (positive_times _ (m * n) (mul-pos some_m some_n) (rw same_length at held.carries)) sum law none
-      where
-        solved_cell : (k : ℕ) → k < length w → (b : Bool) → cond b (whole_balance (whole_at w k) (Y k) Y) (pos 0) ≡ pos 0
-        solved_cell k j true = solves k j
-        solved_cell k j false = refl
-
-        deep_cell : (k : ℕ) → k < length p → (b : Bool) → (cond b (deep_low (entries_at p k)) (pos 0) *ℤ pos (m * n)) ≤ℤ cond b (whole_deep (whole_at w k)) (pos 0)
-        deep_cell k j true = deep_less m n (length p) (entries_at p k) (whole_at w k) (cell_within m n p w within k j)
-        deep_cell k j false = rw zero-*ℤ (omega (arith, ints))
 
 -- a cell without a conductance to a known head has its deep flow
 deep-loose : (w : List WholeCell) (i : ℕ) → b_of w i ≡ 0 → deep (length w) (a_of w) (b_of w) (q_of w) (ramps_from 0 w) i ≡ whole_deep (whole_at w i)
 deep-loose w i none =
     let u = whole_at w i in
-    rw (ramps_at_cell (λ r. pos r.c *ℤ extent r.foot r.top) i w, no_known_flow u.fixed none, total_nothing (λ (x : WholeEntry). x.c) u.rivers, total_nothing (λ (x : WholeEntry). x.c) u.drains)
-    (regroup (total (λ q. q) u.flows) (total whole_deep_river u.rivers) (total whole_full u.evaps))
+    rw (ramps_at_cell (λ r. pos r.c *ℤ extent r.foot r.top) i w, no_known_flow u.fixed none, nothing u.rivers, nothing u.drains)
+    (omega (arith, ints))
   where
-    regroup : (f r e : ℤ) → f +ℤ pos 0 +ℤ r -ℤ (pos 0 +ℤ (pos 0 +ℤ e)) ≡ f +ℤ r -ℤ e
-    regroup f r e = omega (arith, ints)
+    nothing : (xs : List WholeEntry) → total (λ x. pos x.c *ℤ pos 0) xs ≡ pos 0
+    nothing xs = total-none (λ x. Unit {0}) _ xs (λ x u. *ℤ-zero (pos x.c)) (λ k d i. tt)
 
 module _ (m n : ℕ) (some_m : 0 < m) (some_n : 0 < n) (p : List Entries) (w : List WholeCell)
     (within : AllZip (CellWithin m n (length p)) p w)
@@ -114,13 +106,9 @@ module _ (m n : ℕ) (some_m : 0 < m) (some_n : 0 < n) (p : List Entries) (w : L
       where
         sums : (T : ℕ → Bool) → pos 0 <ℤ sum_inside (length p) T (λ k. deep_low (entries_at p k)) → ((k : ℕ) → k < length p → T k ≡ true → b_of w k ≡ 0) → pos 0 <ℤ sum_inside (length w) T (deep (length w) (a_of w) (b_of w) (q_of w) (ramps_from 0 w))
         sums T some none =
-            let less = sum_at_most (length p) (λ k. cond (T k) (deep_low (entries_at p k)) (pos 0) *ℤ pos (m * n)) (λ k. cond (T k) (deep (length w) (a_of w) (b_of w) (q_of w) (ramps_from 0 w) k) (pos 0)) (λ k k_in. cell k k_in (T k) refl) in
-            let less' = rw (← sum-times (length p) (λ k. cond (T k) (deep_low (entries_at p k)) (pos 0)) (pos (m * n))) at less in
-            subst (λ (z : ℕ). pos 0 <ℤ sum_inside z T (deep (length w) (a_of w) (b_of w) (q_of w) (ramps_from 0 w))) as_many (above _ _ (positive_times _ (m * n) (mul-pos some_m some_n) some) less')
+            let less = sum_inside_times (length p) T (λ k. deep_low (entries_at p k)) (deep (length w) (a_of w) (b_of w) (q_of w) (ramps_from 0 w)) (pos (m * n))
+            (λ k k_in e. rw (deep-loose w k (none k k_in e)) (deep_less m n (length p) (entries_at p k) (whole_at w k) (cell_within m n p w within k k_in))) in
+            subst (λ (z : ℕ). pos 0 <ℤ sum_inside z T (deep (length w) (a_of w) (b_of w) (q_of w) (ramps_from 0 w))) as_many (above _ _ (positive_times _ (m * n) (mul-pos some_m some_n) some) less)
           where
-            cell : (k : ℕ) → k < length p → (s : Bool) → T k ≡ s → (cond s (deep_low (entries_at p k)) (pos 0) *ℤ pos (m * n)) ≤ℤ cond s (deep (length w) (a_of w) (b_of w) (q_of w) (ramps_from 0 w) k) (pos 0)
-            cell k k_in true e = rw (deep-loose w k (none k k_in e)) (deep_less m n (length p) (entries_at p k) (whole_at w k) (cell_within m n p w within k k_in))
-            cell k k_in false e = rw (zero-*ℤ (pos (m * n))) (omega (arith, ints))
-
             above : (x y : ℤ) → pos 0 <ℤ x → x ≤ℤ y → pos 0 <ℤ y
             above x y h k = omega (arith, ints)

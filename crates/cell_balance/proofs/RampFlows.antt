@@ -1,16 +1,17 @@
 -- The flows of ramps: they leave the cell, fall as its head rises, and where they are the same at two heads they are within the full rates.
-use Rattle.cell_balance.proofs.Common.{[], ◌*ℤ◌, ◌+ℤ◌, ◌<ℤ◌, ◌∷◌, ◌≡◌, ◌≤ℤ◌, Bool, List, arith, cond, false, nat_eq, neg_ℤ, pos, suc, true, zero, ℕ, ℤ, *ℤ-zero}
+use Rattle.cell_balance.proofs.Common.{[], ◌*ℤ◌, ◌<ℤ◌, ◌∷◌, ◌≡◌, ◌≤ℤ◌, Bool, List, arith, cond, false, nat_eq, neg_ℤ, pos, suc, true, zero, ℕ, ℤ, *ℤ-zero}
 use Rattle.cell_balance.proofs.Common.{zero-*ℤ, loss_falls, mul_add, clamps, ints, total, as_diff, diffs, mul_mono, same_diff, None, Option, Some}
 use Rattle.cell_balance.proofs.Scaling.{cancel_le}
 use Rattle.cell_balance.proofs.Ramps.{Ramp, rise, extent, ramp_flow, full_rate, rise_grows, rise_within_extent, extent_nonneg, rise_nonneg}
 
+-- what holds of two numbers and of zeros holds of either
+either : (P : ℤ → ℤ → Type 0) (s : Bool) (x y : ℤ) → P x y → P (pos 0) (pos 0) → P (cond s x (pos 0)) (cond s y (pos 0))
+either P true x y h k = h
+either P false x y h k = k
+
 -- a ramp gives a higher head no more
 pub flow_falls : (d : ℕ) (x y : ℤ) (i : ℕ) (r : Ramp) → x ≤ℤ y → ramp_flow d y i r ≤ℤ ramp_flow d x i r
-flow_falls d x y i r h = cases (nat_eq r.cell i)
-  where
-    cases : (s : Bool) → cond s (neg_ℤ (pos r.c *ℤ rise r.foot r.top d y)) (pos 0) ≤ℤ cond s (neg_ℤ (pos r.c *ℤ rise r.foot r.top d x)) (pos 0)
-    cases true = loss_falls r.c _ _ (rise_grows r.foot r.top d x y h)
-    cases false = omega (arith, ints)
+flow_falls d x y i r h = either (λ a b. a ≤ℤ b) (nat_eq r.cell i) _ _ (loss_falls r.c _ _ (rise_grows r.foot r.top d x y h)) (omega (arith, ints))
 
 pub flows_fall : (d : ℕ) (x y : ℤ) (i : ℕ) (rs : List Ramp) → x ≤ℤ y → total (ramp_flow d y i) rs ≤ℤ total (ramp_flow d x i) rs
 flows_fall d x y i [] h = omega (arith, ints)
@@ -49,25 +50,18 @@ flows_within_full d x y i [] h k = omega (arith, ints)
 flows_within_full d x y i (r ∷ rs) h k =
     let first = flow_falls d x y i r (omega (arith, ints)) in
     let others = flows_fall d x y i rs (omega (arith, ints)) in
-    both (pos d) (full_rate i r) (total (full_rate i) rs) _ _
-    (flow_within_full d x y i r h (omega (arith, ints))) (flows_within_full d x y i rs h (omega (arith, ints)))
-  where
-    both : (d f g x y : ℤ) → neg_ℤ (d *ℤ f) ≤ℤ x → neg_ℤ (d *ℤ g) ≤ℤ y → neg_ℤ (d *ℤ (f +ℤ g)) ≤ℤ (x +ℤ y)
-    both d f g x y h k = omega (arith, ints, mul_add d f g)
+    omega (
+      arith, ints,
+      mul_add (pos d) (full_rate i r) (total (full_rate i) rs),
+      flow_within_full d x y i r h (omega (arith, ints)),
+      flows_within_full d x y i rs h (omega (arith, ints)),
+    )
 
 times_nonneg : (c : ℕ) (z : ℤ) → pos 0 ≤ℤ z → pos 0 ≤ℤ (pos c *ℤ z)
 times_nonneg c z h = rw *ℤ-zero at (mul_mono c (pos 0) z h)
 
 pub full_rate_nonneg : (i : ℕ) (r : Ramp) → pos 0 ≤ℤ full_rate i r
-full_rate_nonneg i r = cases (nat_eq r.cell i)
-  where
-    cases : (s : Bool) → pos 0 ≤ℤ cond s (pos r.c *ℤ extent r.foot r.top) (pos 0)
-    cases true = times_nonneg r.c _ (extent_nonneg r.foot r.top)
-    cases false = omega (arith, ints)
+full_rate_nonneg i r = either (λ a b. pos 0 ≤ℤ a) (nat_eq r.cell i) _ (pos 0) (times_nonneg r.c _ (extent_nonneg r.foot r.top)) (omega (arith, ints))
 
 pub flow_leaves : (d : ℕ) (x : ℤ) (i : ℕ) (r : Ramp) → ramp_flow d x i r ≤ℤ pos 0
-flow_leaves d x i r = cases (nat_eq r.cell i)
-  where
-    cases : (s : Bool) → cond s (neg_ℤ (pos r.c *ℤ rise r.foot r.top d x)) (pos 0) ≤ℤ pos 0
-    cases true = rw *ℤ-zero at (loss_falls r.c (pos 0) _ (rise_nonneg r.foot r.top d x))
-    cases false = omega (arith, ints)
+flow_leaves d x i r = either (λ a b. a ≤ℤ pos 0) (nat_eq r.cell i) _ (pos 0) (rw *ℤ-zero at (loss_falls r.c (pos 0) _ (rise_nonneg r.foot r.top d x))) (omega (arith, ints))

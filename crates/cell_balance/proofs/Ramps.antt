@@ -121,10 +121,7 @@ pub rise-between : (t u : ℤ) (d : ℕ) (x : ℤ) → (t *ℤ pos d) ≤ℤ x �
 rise-between t u d x h k = omega (arith, ints, clamps)
 
 pub rise-above_top : (t u : ℤ) (d : ℕ) (x : ℤ) → t ≤ℤ u → (u *ℤ pos d) ≤ℤ x → rise t (Some u) d x ≡ (u -ℤ t) *ℤ pos d
-rise-above_top t u d x h k = step x (t *ℤ pos d) (u *ℤ pos d) (mul_mono_right d t u h) k ∙ sym (sub_mul u t (pos d))
-  where
-    step : (x t u : ℤ) → t ≤ℤ u → u ≤ℤ x → int_max (int_min x u -ℤ t) (pos 0) ≡ u -ℤ t
-    step x t u h k = omega (arith, ints, clamps)
+rise-above_top t u d x h k = (omega (arith, ints, clamps, mul_mono_right d t u h)) ∙ sym (sub_mul u t (pos d))
 
 pub extent-between : (t u : ℤ) → t ≤ℤ u → extent t (Some u) ≡ u -ℤ t
 extent-between t u h = omega (arith, ints, clamps)

@@ -25,10 +25,7 @@ cancel_le c a b h k =
 
 -- a number above 0, times a whole number above 0
 pub positive_times : (z : ℤ) (k : ℕ) → 0 < k → pos 0 <ℤ z → pos 0 <ℤ (z *ℤ pos k)
-positive_times z k some h = step (mul_mono_right k (pos 1) z (omega (arith, ints)))
-  where
-    step : (pos 1 *ℤ pos k) ≤ℤ (z *ℤ pos k) → pos 0 <ℤ (z *ℤ pos k)
-    step e = omega (arith, ints)
+positive_times z k some h = omega (arith, ints, mul_mono_right k (pos 1) z (omega (arith, ints)))
 
 -- a share of a conductance of 0
 pub none_shared : (k c : ℕ) (r : Ratio) → r.num ≡ 0 → IsShare k r c → c ≡ 0
@@ -116,9 +113,8 @@ IsOver-lesser d f g a b p q = record {
 
 pub IsOver-total : {X Y : Type 0} (R : X → Y → Type 0) (d : ℕ) (f : X → Fraction) (g : Y → ℤ) → ((x : X) (y : Y) → R x y → IsOver d (f x) (g y)) → (xs : List X) (ys : List Y) → AllZip R xs ys → IsOver d (fraction_total f xs) (total g ys)
 IsOver-total R d f g each [] [] h = IsOver-none d
-IsOver-total R d f g each [] (y ∷ ys) h = absurd h
-IsOver-total R d f g each (x ∷ xs) [] h = absurd h
 IsOver-total R d f g each (x ∷ xs) (y ∷ ys) h = IsOver-plus d (f x) (fraction_total f xs) (g y) (total g ys) (each x y h.0) (IsOver-total R d f g each xs ys h.1)
+IsOver-total _ d f g each _ _ h = absurd h
 
 -- a fraction that is zero is zero over any d
 pub zero_over : (d : ℕ) (f : Fraction) (z : ℤ) → IsOver d f z → f.num ≡ pos 0 → z ≡ pos 0

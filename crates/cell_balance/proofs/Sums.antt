@@ -12,14 +12,11 @@ max_of e zero = (pos 0, omega (arith, ints), (λ k h. absurd (omega arith)), inl
 max_of e (suc n) =
     let (m, some, above, at) = max_of e n in
     by_lt_z m (e n)
-    (λ h. (e n, omega (arith, ints), (λ k i. elim (last_or k n i) [ inl s ↦ keep k m (e n) (above k s) h | inr s ↦ rw s (omega (arith, ints)) ]), inr (n, omega arith, refl)))
+    (λ h. (e n, omega (arith, ints), (λ k i. elim (last_or k n i) [ inl s ↦ (omega (arith, ints, above k s)) | inr s ↦ rw s (omega (arith, ints)) ]), inr (n, omega arith, refl)))
     (λ h. (m, some, (λ k i. elim (last_or k n i) [ inl s ↦ above k s | inr s ↦ rw s h ]), elim at [ inl z ↦ inl z | inr w ↦ inr (w.0, omega arith, w.2) ]))
   where
     last_or : (k n : ℕ) → k < suc n → (k < n) ⊎ (k ≡ n)
     last_or k n i = elim (cases_lt k n) [ inl h ↦ inl h | inr h ↦ inr (omega arith) ]
-
-    keep : (k : ℕ) (m a : ℤ) → e k ≤ℤ m → m <ℤ a → e k ≤ℤ a
-    keep k m a h i = omega (arith, ints)
 
 pub sum-same : (n : ℕ) (f g : ℕ → ℤ) → ((k : ℕ) → k < n → f k ≡ g k) → sum_below n f ≡ sum_below n g
 sum-same zero f g h = refl
@@ -57,14 +54,29 @@ sum-swap (suc n) m f = rw (sum-swap n m f) (sym (sum-add m (λ j. sum_below n (�
 -- terms that change their sign with their two indices cancel
 pub turned_cancel : (n : ℕ) (f : ℕ → ℕ → ℤ) → ((i j : ℕ) → i < n → j < n → f i j ≡ neg_ℤ (f j i)) → sum_below n (λ i. sum_below n (f i)) ≡ pos 0
 turned_cancel n f turned =
-    no_sign _ (sum-same n _ _ (λ i h. sum-same n _ _ (λ j k. turned i j h k)) ∙ sum-swap n n (λ i j. neg_ℤ (f j i)) ∙ sum-same n _ _ (λ j h. sum-neg n (f j)) ∙ sum-neg n (λ j. sum_below n (f j)))
-  where
-    no_sign : (a : ℤ) → a ≡ neg_ℤ a → a ≡ pos 0
-    no_sign a e = omega (arith, ints)
+    omega (arith, ints, sum-same n _ _ (λ i h. sum-same n _ _ (λ j k. turned i j h k)) ∙ sum-swap n n (λ i j. neg_ℤ (f j i)) ∙ sum-same n _ _ (λ j h. sum-neg n (f j)) ∙ sum-neg n (λ j. sum_below n (f j)))
 
 pub sum_at_most : (n : ℕ) (f g : ℕ → ℤ) → ((k : ℕ) → k < n → f k ≤ℤ g k) → sum_below n f ≤ℤ sum_below n g
 sum_at_most zero f g h = omega (arith, ints)
 sum_at_most (suc n) f g h = let a = sum_at_most n f g (λ k i. h k (omega arith)) in let b = h n (omega arith) in omega (arith, ints, a, b)
+
+-- over the cells that pass a test: terms that are at most others, also scaled, and terms that are zero
+pub sum_inside_at_most : (n : ℕ) (T : ℕ → Bool) (f g : ℕ → ℤ) → ((k : ℕ) → k < n → T k ≡ true → f k ≤ℤ g k) → sum_inside n T f ≤ℤ sum_inside n T g
+sum_inside_at_most n T f g each = sum_at_most n _ _ (λ k h. cell k h (T k) refl)
+  where
+    cell : (k : ℕ) → k < n → (s : Bool) → T k ≡ s → cond s (f k) (pos 0) ≤ℤ cond s (g k) (pos 0)
+    cell k h true e = each k h e
+    cell k h false e = omega (arith, ints)
+
+pub sum_inside_times : (n : ℕ) (T : ℕ → Bool) (f g : ℕ → ℤ) (m : ℤ) → ((k : ℕ) → k < n → T k ≡ true → (f k *ℤ m) ≤ℤ g k) → (sum_inside n T f *ℤ m) ≤ℤ sum_inside n T g
+sum_inside_times n T f g m each = rw (sum-times n (λ k. cond (T k) (f k) (pos 0)) m) (sum_at_most n _ _ (λ k h. cell k h (T k) refl))
+  where
+    cell : (k : ℕ) → k < n → (s : Bool) → T k ≡ s → (cond s (f k) (pos 0) *ℤ m) ≤ℤ cond s (g k) (pos 0)
+    cell k h true e = each k h e
+    cell k h false e = rw (zero-*ℤ m) (omega (arith, ints))
+
+pub sum_inside-zero : (n : ℕ) (T : ℕ → Bool) (f : ℕ → ℤ) → ((k : ℕ) → k < n → f k ≡ pos 0) → sum_inside n T f ≡ pos 0
+sum_inside-zero n T f each = sum-same n _ (λ k. pos 0) (λ k h. elim (T k) as (λ s. cond s (f k) (pos 0) ≡ pos 0) [ true ↦ each k h | false ↦ refl ]) ∙ sum-zero n
 
 pub sum_nonneg : (n : ℕ) (f : ℕ → ℤ) → ((k : ℕ) → k < n → pos 0 ≤ℤ f k) → pos 0 ≤ℤ sum_below n f
 sum_nonneg zero f h = omega (arith, ints)
@@ -130,15 +142,11 @@ link_flows_cancel n a T Y both closed = sum-same n _ _ (λ i h. row i h (T i) re
 -- over a closed set whose flows g sum above 0 not every cell loses water
 pub carried_gain : (n : ℕ) (a : ℕ → ℕ → ℤ) (T : ℕ → Bool) (Y g : ℕ → ℤ) (d : ℕ) → AreMutual n a → IsClosed n a T → 0 < d → pos 0 <ℤ sum_inside n T g → ((i : ℕ) → i < n → T i ≡ true → (link_flow n a Y i +ℤ pos d *ℤ g i) ≤ℤ pos 0) → ⊥
 carried_gain n a T Y g d both closed some carries loses =
-    let less = sum_at_most n (λ i. cond (T i) (link_flow n a Y i +ℤ pos d *ℤ g i) (pos 0)) (λ i. pos 0) (λ i h. cell i h (T i) refl) in
+    let less = sum_inside_at_most n T (λ i. link_flow n a Y i +ℤ pos d *ℤ g i) (λ i. pos 0) loses in
     let split = sum_inside-add n T (link_flow n a Y) (λ i. pos d *ℤ g i) in
     let flows = times n in
-    clash _ _ _ (pos 0) (pos 0) _ less split (link_flows_cancel n a T Y both closed) flows (sum-zero n)
+    clash _ _ _ (pos 0) (pos 0) _ less split (link_flows_cancel n a T Y both closed) flows (sum_inside-zero n T (λ i. pos 0) (λ k h. refl))
   where
-    cell : (i : ℕ) → i < n → (s : Bool) → T i ≡ s → cond s (link_flow n a Y i +ℤ pos d *ℤ g i) (pos 0) ≤ℤ pos 0
-    cell i h true e = loses i h e
-    cell i h false e = omega (arith, ints)
-
     times_cell : (s : Bool) (x y : ℤ) → pos d *ℤ x +ℤ cond s (pos d *ℤ y) (pos 0) ≡ pos d *ℤ (x +ℤ cond s y (pos 0))
     times_cell true x y = sym (mul_add (pos d) x y)
     times_cell false x y = sym (mul_add (pos d) x (pos 0) ∙ rw (*ℤ-zero (pos d)) refl)
@@ -148,7 +156,4 @@ carried_gain n a T Y g d both closed some carries loses =
     times (suc k) = rw (times k) (times_cell (T k) (sum_below k (λ i. cond (T i) (g i) (pos 0))) (g k))
 
     clash : (x l y z s o : ℤ) → x ≤ℤ o → x ≡ l +ℤ y → l ≡ pos 0 → y ≡ pos d *ℤ sum_inside n T g → o ≡ pos 0 → ⊥
-    clash x l y z s o h e f k u = not_positive (sum_inside n T g) carries (cancel_le d (sum_inside n T g) (pos 0) some (rw (*ℤ-zero (pos d)) (omega (arith, ints))))
-      where
-        not_positive : (z : ℤ) → pos 0 <ℤ z → z ≤ℤ pos 0 → ⊥
-        not_positive z h k = omega (arith, ints)
+    clash x l y z s o h e f k u = omega (arith, ints, cancel_le d (sum_inside n T g) (pos 0) some (rw (*ℤ-zero (pos d)) (omega (arith, ints))))

@@ -43,12 +43,11 @@ module _ {X : Type 0} (R : X → X → X → Type 0) where
 
   by_items : (S : X → X → Type 0) → ((x y : X) → S x y → Both R x y) → (xs ys : List X) → AllZip S xs ys → AllThree R xs xs ys × AllThree R xs ys ys
   by_items S each [] [] h = (none, none)
-  by_items S each [] (y ∷ ys) h = absurd h
-  by_items S each (x ∷ xs) [] h = absurd h
   by_items S each (x ∷ xs) (y ∷ ys) (h, hs) =
       let (first, second) = each x y h in
       let (firsts, seconds) = by_items S each xs ys hs in
       (next first firsts, next second seconds)
+  by_items _ each _ _ h = absurd h
 
 entries : (x y : Entry) → AreEntriesAlike x y → Both IsEntryBetween x y
 entries (Well c q₁) (Well d q₂) e =

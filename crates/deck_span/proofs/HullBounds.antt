@@ -41,10 +41,10 @@ den_of f g h k = den f * den g * den h * den k * 1
 
 pub over_all : (f g h k : Fraction) → AreOver (den_of f g h k) f g h k
 over_all f g h k =
-    let (a, f_over) = fraction_over (den f * den g * den h * den k) 1 f (den g * den h * den k, first (den f) (den g) (den h) (den k)) in
-    let (b, g_over) = fraction_over (den f * den g * den h * den k) 1 g (den f * den h * den k, second (den f) (den g) (den h) (den k)) in
-    let (p, h_over) = fraction_over (den f * den g * den h * den k) 1 h (den f * den g * den k, third (den f) (den g) (den h) (den k)) in
-    let (q, k_over) = fraction_over (den f * den g * den h * den k) 1 k (den f * den g * den h, fourth (den f) (den g) (den h) (den k)) in
+    let (a, f_over) = fraction_over (den f * den g * den h * den k) 1 f (den g * den h * den k, omega arith) in
+    let (b, g_over) = fraction_over (den f * den g * den h * den k) 1 g (den f * den h * den k, omega arith) in
+    let (p, h_over) = fraction_over (den f * den g * den h * den k) 1 h (den f * den g * den k, omega arith) in
+    let (q, k_over) = fraction_over (den f * den g * den h * den k) 1 k (den f * den g * den h, omega arith) in
     record {
       some = mul-pos (mul-pos (mul-pos (mul-pos (omega arith) (omega arith)) (omega arith)) (omega arith)) (omega arith);
       a = a;
@@ -56,18 +56,6 @@ over_all f g h k =
       q = q;
       k_over = k_over;
     }
-  where
-    first : (a b c d : ℕ) → a * b * c * d ≡ a * (b * c * d)
-    first a b c d = omega arith
-
-    second : (a b c d : ℕ) → a * b * c * d ≡ b * (a * c * d)
-    second a b c d = omega arith
-
-    third : (a b c d : ℕ) → a * b * c * d ≡ c * (a * b * d)
-    third a b c d = omega arith
-
-    fourth : (a b c d : ℕ) → a * b * c * d ≡ d * (a * b * c)
-    fourth a b c d = omega arith
 
 -- a product with a fraction that isn't negative
 pub times_keeps : (r : Ratio) (f g : Fraction) → AtMost f g → AtMost (times f (signed r)) (times g (signed r))
@@ -85,10 +73,7 @@ plus_keeps k f g h =
     let o = over_all f g k k in
     let d = den_of f g k k in
     let le = over_le d f g o.a o.b o.f_over o.g_over h in
-    le_over d (plus f k) (plus g k) (o.a +ℤ o.p) (o.b +ℤ o.p) o.some (IsOver-plus d f k o.a o.p o.f_over o.h_over) (IsOver-plus d g k o.b o.p o.g_over o.h_over) (added o.a o.b o.p le)
-  where
-    added : (a b c : ℤ) → a ≤ℤ b → (a +ℤ c) ≤ℤ (b +ℤ c)
-    added a b c h = omega (arith, ints)
+    le_over d (plus f k) (plus g k) (o.a +ℤ o.p) (o.b +ℤ o.p) o.some (IsOver-plus d f k o.a o.p o.f_over o.h_over) (IsOver-plus d g k o.b o.p o.g_over o.h_over) (omega (arith, ints))
 
 -- the rate over an area and a depth
 pub rate_keeps : (area depth : Ratio) → 0 < depth.num → (f g : Ratio) → IsRatioAtMost f g → IsRatioAtMost (size_over (size_times f area) depth) (size_over (size_times g area) depth)

@@ -18,11 +18,8 @@ pivot_positive : (n : ℕ) (a : ℕ → ℕ → ℤ) (D : ℕ → ℤ) → ((i j
 pivot_positive n a D nonneg mono =
     by_lt_z (pos 0) (D n -ℤ a n n)
     (λ h. h)
-    (λ h. absurd (below (subst (λ (z : ℤ). pos 0 ≤ℤ z) (with_last-at n (pos 0) (negsuc 0) (λ k. pos 0)) (mono (with_last n (pos 0) (negsuc 0) (λ k. pos 0)) (draws h) n (omega arith)))))
+    (λ h. absurd (omega (arith, ints, subst (λ (z : ℤ). pos 0 ≤ℤ z) (with_last-at n (pos 0) (negsuc 0) (λ k. pos 0)) (mono (with_last n (pos 0) (negsuc 0) (λ k. pos 0)) (draws h) n (omega arith)))))
   where
-    below : pos 0 ≤ℤ negsuc 0 → ⊥
-    below h = omega (arith, ints)
-
     row : (i : ℕ) → sum_below (suc n) (λ j. a i j *ℤ with_last n (pos 0) (negsuc 0) (λ k. pos 0) j) ≡ a i n *ℤ negsuc 0
     row i = sum_below-with_last n (a i) (λ k. pos 0) (pos 0) (negsuc 0) ∙ none (sum_below n (λ j. a i j *ℤ pos 0)) (a i n *ℤ negsuc 0)
       where
@@ -112,10 +109,7 @@ solution_extended n a D q s some same d X left = record { some = mul-pos left.so
             ring s A b l d q r = rw (as_diff s, as_diff A, as_diff b, as_diff l, as_diff d, as_diff q, as_diff r) (simp diffs (same_diff _ _ _ _ (omega arith)))
 
 reduced_nonneg : (n : ℕ) (a : ℕ → ℕ → ℤ) (s : ℕ) → ((i j : ℕ) → pos 0 ≤ℤ a i j) → (i j : ℕ) → pos 0 ≤ℤ reduced_a n a s i j
-reduced_nonneg n a s nonneg i j = sum _ _ (mul_nonneg (pos s) (a i j) (omega (arith, ints)) (nonneg i j)) (mul_nonneg (a i n) (a n j) (nonneg i n) (nonneg n j))
-  where
-    sum : (x y : ℤ) → pos 0 ≤ℤ x → pos 0 ≤ℤ y → pos 0 ≤ℤ (x +ℤ y)
-    sum x y h k = omega (arith, ints)
+reduced_nonneg n a s nonneg i j = omega (arith, ints, mul_nonneg (pos s) (a i j) (omega (arith, ints)) (nonneg i j), mul_nonneg (a i n) (a n j) (nonneg i n) (nonneg n j))
 
 -- a linear step whose matrix is inverse-positive has a solution
 pub inverse_positive_solved : (n : ℕ) (a : ℕ → ℕ → ℤ) (D q : ℕ → ℤ) → ((i j : ℕ) → pos 0 ≤ℤ a i j) → IsInversePositive n a D → (d : ℕ) × (X : ℕ → ℤ) × IsLinearSolution n a D q d X

@@ -27,12 +27,9 @@ module _ (n : ℕ) (a : ℕ → ℕ → ℤ) (b : ℕ → ℕ) (both : AreMutual
   inverse_positive X draws i h =
       comparison n a b (λ k. pos 0) [] both (λ S closed none c g inside. absurd (known S closed none c g inside)) 1 X (λ k. pos 0) (omega arith)
       (λ k g more. omega (arith, ints, sum_below-differences n (a k) X (X k), add_mul (sum_below n (a k)) (pos (b k)) (X k), draws k g))
-      (λ k g more. gains _ _ (sum_nonneg n (λ j. a k j *ℤ (pos 0 -ℤ pos 0)) (λ j j_in. nothing (a k j))) (*ℤ-zero (pos (b k))))
+      (λ k g more. (omega (arith, ints, sum_nonneg n (λ j. a k j *ℤ (pos 0 -ℤ pos 0)) (λ j j_in. nothing (a k j)), *ℤ-zero (pos (b k)))))
       i h
     where
-      gains : (l p : ℤ) → pos 0 ≤ℤ l → p ≡ pos 0 → pos 0 ≤ℤ (l +ℤ (pos 1 *ℤ pos 0 -ℤ p) +ℤ pos 0)
-      gains l p h e = omega (arith, ints)
-
       nothing : (z : ℤ) → pos 0 ≤ℤ (z *ℤ (pos 0 -ℤ pos 0))
       nothing z = rw (*ℤ-zero z) (omega (arith, ints))
 

@@ -1,19 +1,19 @@
 -- Steps with cells that nothing holds: heads one lower over these cells are another solution, where their deep flows sum to at most 0 or no river or drain of them conducts.
+use Rattle.exact_solutions.proofs.Common.{step_common}
 use Rattle.exact_solutions.proofs.Common.{◌≡◌, ◌*◌, ◌<◌, ◌∙◌, ◌+ℤ◌, ◌-ℤ◌, ◌*ℤ◌, ◌≤ℤ◌, [], ◌∷◌, ℕ, refl, sym, ap, arith, ℤ, pos, neg_ℤ, List, length, All, Bool}
-use Rattle.exact_solutions.proofs.Common.{true, false, cond, mul-pos, int_max, AllZip, zero-*ℤ, ints, clamps, All-head, All-tail, Same, total, total_mono}
+use Rattle.exact_solutions.proofs.Common.{true, false, cond, mul-pos, int_max, AllZip, zero-*ℤ, ints, clamps, Same, total, total_mono}
 use Rattle.exact_solutions.proofs.Common.{mul_assoc, mul_mono, sum_below, sum_inside, deep_flow, AreLinked, share, SolvesStep, ExactCell, cell_at, no_cell}
-use Rattle.exact_solutions.proofs.Common.{IsMutual, step_common, whole_solves, mutual_whole, LinkOver, FixedOver, RiverOver, DrainOver, EvapOver, CellOver}
-use Rattle.exact_solutions.proofs.Common.{IsOver-none, sum-same, sum-zero, sub_mul, WholeEntry, WholeCell, whole_at, no_whole, whole_link, whole_fixed}
+use Rattle.exact_solutions.proofs.Common.{IsMutual, whole_solves, mutual_whole, FixedOver, RiverOver, DrainOver, EvapOver, CellOver}
+use Rattle.exact_solutions.proofs.Common.{IsOver-none, sub_mul, WholeEntry, WholeCell, whole_at, no_whole, whole_link, whole_fixed}
 use Rattle.exact_solutions.proofs.Common.{whole_river, whole_drain, whole_evap, whole_balance, whole_deep_river, whole_full, whole_deep, whole_step, AllZip-at}
 use Rattle.exact_solutions.proofs.Common.{AllZip-length, All-zip, le_anti, deep_over, IsLoose, DrainedHaveAnother, AfloatHaveAnother, closed_cancel, le-trans}
 use Rattle.exact_solutions.proofs.Common.{sum_below-tight, heads_over, whole_falls, *ℤ-zero, loss_falls, none_shared, sum_inside-add}
+use Rattle.cell_balance.proofs.Dry.{total-none}
+use Rattle.cell_balance.proofs.Sums.{sum_inside-zero}
+use Rattle.cell_balance.proofs.ExactLaws.{same_length, cell_over, closed_whole}
 use Rattle.cell_balance.proofs.Enclosing.{over_le, IsOver-inside}
 use Rattle.exact_solutions.proofs.WholeSolutions.{without_links, lowered, balance-links, lowered_balances, whole_balances_solve}
 use Rattle.exact_solutions.proofs.HeldSteps.{same_crossed}
-
-total-none : {X : Type 0} (P : X → Type 0) (f : X → ℤ) (xs : List X) → ((x : X) → P x → f x ≡ pos 0) → All P xs → total f xs ≡ pos 0
-total-none P f [] each all = refl
-total-none P f (x ∷ xs) each all = rw (each x (All-head P x xs all), total-none P f xs each (All-tail P x xs all)) refl
 
 total-no_length : {X : Type 0} (f : X → ℤ) (xs : List X) → length xs ≡ 0 → total f xs ≡ pos 0
 total-no_length f [] e = refl
@@ -25,12 +25,15 @@ nothing_times c z e = rw (e, zero-*ℤ z) refl
 -- a cell's flows but for its links are at most its deep flow, where no known head conducts and nothing evaporates
 flows_at_most_deep : (u : WholeCell) (v : ℤ) (h : ℕ → ℤ) → All (λ x. x.c ≡ 0) u.fixed → length u.evaps ≡ 0 → whole_balance (without_links u) v h ≤ℤ whole_deep u
 flows_at_most_deep u v h fixed evaps =
-    sum _ _ _ _ _ _ _ (total-none (λ x. x.c ≡ 0) (whole_fixed v) u.fixed (λ x e. nothing_times x.c (x.top -ℤ v) e) fixed) (total-no_length (whole_evap v) u.evaps evaps) (total-no_length whole_full u.evaps evaps)
-    (total_mono (whole_river v) whole_deep_river u.rivers (λ x. mul_mono x.c _ _ (omega (arith, ints, clamps)))) (drains u.drains)
+    omega (
+      arith, ints,
+      total-none (λ x. x.c ≡ 0) (whole_fixed v) u.fixed (λ x e. nothing_times x.c (x.top -ℤ v) e) fixed,
+      total-no_length (whole_evap v) u.evaps evaps,
+      total-no_length whole_full u.evaps evaps,
+      total_mono (whole_river v) whole_deep_river u.rivers (λ x. mul_mono x.c _ _ (omega (arith, ints, clamps))),
+      drains u.drains,
+    )
   where
-    sum : (f k r r' d e g : ℤ) → k ≡ pos 0 → e ≡ pos 0 → g ≡ pos 0 → r ≤ℤ r' → d ≤ℤ pos 0 → (f +ℤ pos 0 +ℤ k +ℤ r +ℤ d +ℤ e) ≤ℤ (f +ℤ r' -ℤ g)
-    sum f k r r' d e g x y z p q = omega (arith, ints)
-
     drain : (x : WholeEntry) → whole_drain v x ≤ℤ pos 0
     drain x = rw *ℤ-zero at (loss_falls x.c (pos 0) (int_max (v -ℤ x.foot) (pos 0)) (omega (arith, ints, clamps)))
 
@@ -41,70 +44,52 @@ flows_at_most_deep u v h fixed evaps =
 -- and are its constant flows, where no river or drain conducts either
 flows_constant : (u : WholeCell) (v : ℤ) (h : ℕ → ℤ) → All (λ x. x.c ≡ 0) u.fixed → All (λ x. x.c ≡ 0) u.rivers → All (λ x. x.c ≡ 0) u.drains → length u.evaps ≡ 0 → whole_balance (without_links u) v h ≡ total (λ q. q) u.flows
 flows_constant u v h fixed rivers drains evaps =
-    sum _ _ _ _ _ (total-none (λ x. x.c ≡ 0) (whole_fixed v) u.fixed (λ x e. nothing_times x.c (x.top -ℤ v) e) fixed)
-    (total-none (λ x. x.c ≡ 0) (whole_river v) u.rivers (λ x e. nothing_times x.c (x.top -ℤ int_max v x.foot) e) rivers)
-    (total-none (λ x. x.c ≡ 0) (whole_drain v) u.drains (λ x e. ap neg_ℤ (nothing_times x.c (int_max (v -ℤ x.foot) (pos 0)) e)) drains)
-    (total-no_length (whole_evap v) u.evaps evaps)
-  where
-    sum : (f k r d e : ℤ) → k ≡ pos 0 → r ≡ pos 0 → d ≡ pos 0 → e ≡ pos 0 → f +ℤ pos 0 +ℤ k +ℤ r +ℤ d +ℤ e ≡ f
-    sum f k r d e x y z t = omega (arith, ints)
+    omega (
+      arith, ints,
+      total-none (λ x. x.c ≡ 0) (whole_fixed v) u.fixed (λ x e. nothing_times x.c (x.top -ℤ v) e) fixed,
+      total-none (λ x. x.c ≡ 0) (whole_river v) u.rivers (λ x e. nothing_times x.c (x.top -ℤ int_max v x.foot) e) rivers,
+      total-none (λ x. x.c ≡ 0) (whole_drain v) u.drains (λ x e. ap neg_ℤ (nothing_times x.c (int_max (v -ℤ x.foot) (pos 0)) e)) drains,
+      total-no_length (whole_evap v) u.evaps evaps,
+    )
 
 module _ (e : List ExactCell) (inside : ℕ → Bool) (linked : AreLinked e) (loose : IsLoose e inside) (k m : ℕ) (w : List WholeCell) (over : AllZip (CellOver k m) e w) where
-  same_length : length e ≡ length w
-  same_length = AllZip-length (CellOver k m) e w over
-
-  cell_over : (c : ℕ) → c < length e → CellOver k m (cell_at e c) (whole_at w c)
-  cell_over c i = AllZip-at (CellOver k m) e w c no_cell no_whole over i
-
   no_fixed : (c : ℕ) → c < length e → inside c ≡ true → All (λ x. x.c ≡ 0) (whole_at w c).fixed
-  no_fixed c i t = All-zip (FixedOver k m) (λ x. x.conductance.num ≡ 0) (λ x. x.c ≡ 0) (λ x y r h. none_shared k y.c x.conductance h r.c) (cell_at e c).fixed (whole_at w c).fixed (cell_over c i).fixed (loose.fixed c i t)
+  no_fixed c i t = All-zip (FixedOver k m) (λ x. x.conductance.num ≡ 0) (λ x. x.c ≡ 0) (λ x y r h. none_shared k y.c x.conductance h r.c) (cell_at e c).fixed (whole_at w c).fixed (cell_over k m e w over c i).fixed (loose.fixed c i t)
 
   no_evaps : (c : ℕ) → c < length e → inside c ≡ true → length (whole_at w c).evaps ≡ 0
-  no_evaps c i t = sym (AllZip-length (EvapOver k m) (cell_at e c).evaps (whole_at w c).evaps (cell_over c i).evaps) ∙ ap length (loose.evaps c i t)
-
-  closed_whole : (c : ℕ) → c < length w → inside c ≡ true → All (λ x. inside x.cell ≡ true) (whole_at w c).links
-  closed_whole c i t =
-      let here : c < length e = omega (arith, i, same_length) in
-      All-zip (LinkOver k m) (λ x. inside x.cell ≡ true) (λ x. inside x.cell ≡ true) (λ x y r h. sym (ap inside r.same) ∙ h) (cell_at e c).links (whole_at w c).links (cell_over c here).links (loose.closed c here t)
+  no_evaps c i t = sym (AllZip-length (EvapOver k m) (cell_at e c).evaps (whole_at w c).evaps (cell_over k m e w over c i).evaps) ∙ ap length (loose.evaps c i t)
 
   module _ (Y : ℕ → ℤ) (zeros : (c : ℕ) → c < length w → whole_balance (whole_at w c) (Y c) Y ≡ pos 0) where
     -- where the deep flows sum to at most 0, each cell of the set gets its deep flow
     module _ (both : IsMutual w) (most : sum_inside (length w) inside (λ c. whole_deep (whole_at w c)) ≤ℤ pos 0) where
       deep_reached : (c : ℕ) → c < length w → inside c ≡ true → whole_deep (whole_at w c) ≤ℤ whole_balance (without_links (whole_at w c)) (Y c) Y
       deep_reached c i t =
-          cancel _ _ _ _ (balance-links (whole_at w c) (Y c) Y)
-          (rw t at (sum_below-tight (length w) (λ c. cond (inside c) (whole_balance (whole_at w c) (Y c) Y) (pos 0)) (λ c. cond (inside c) (total (whole_link Y (Y c)) (whole_at w c).links +ℤ whole_deep (whole_at w c)) (pos 0)) (λ c i. less c i (inside c) refl) sums c i))
+          omega (
+            arith, ints,
+            balance-links (whole_at w c) (Y c) Y,
+            (rw t at (sum_below-tight (length w) (λ c. cond (inside c) (whole_balance (whole_at w c) (Y c) Y) (pos 0)) (λ c. cond (inside c) (total (whole_link Y (Y c)) (whole_at w c).links +ℤ whole_deep (whole_at w c)) (pos 0)) (λ c i. less c i (inside c) refl) sums c i)),
+          )
         where
-          cancel : (l d b r : ℤ) → b ≡ l +ℤ r → (l +ℤ d) ≤ℤ b → d ≤ℤ r
-          cancel l d b r e h = omega (arith, ints)
-
           less : (c : ℕ) → c < length w → (s : Bool) → inside c ≡ s → cond s (whole_balance (whole_at w c) (Y c) Y) (pos 0) ≤ℤ cond s (total (whole_link Y (Y c)) (whole_at w c).links +ℤ whole_deep (whole_at w c)) (pos 0)
           less c i true t =
-              let here : c < length e = omega (arith, i, same_length) in
+              let here : c < length e = omega (arith, i, same_length k m e w over) in
               omega (arith, ints, balance-links (whole_at w c) (Y c) Y, flows_at_most_deep (whole_at w c) (Y c) Y (no_fixed c here t) (no_evaps c here t))
           less c i false t = omega (arith, ints)
 
-          none : (c : ℕ) → c < length w → (s : Bool) → cond s (whole_balance (whole_at w c) (Y c) Y) (pos 0) ≡ pos 0
-          none c i true = zeros c i
-          none c i false = refl
-
           sums : sum_below (length w) (λ c. cond (inside c) (total (whole_link Y (Y c)) (whole_at w c).links +ℤ whole_deep (whole_at w c)) (pos 0)) ≤ℤ sum_below (length w) (λ c. cond (inside c) (whole_balance (whole_at w c) (Y c) Y) (pos 0))
           sums =
-              total_at_most _ _ _ _
-              (sum_inside-add (length w) inside (λ c. total (whole_link Y (Y c)) (whole_at w c).links) (λ c. whole_deep (whole_at w c)))
-              (closed_cancel w inside Y both closed_whole) most (sum-same (length w) _ (λ c. pos 0) (λ c i. none c i (inside c)) ∙ sum-zero (length w))
-            where
-              total_at_most : (g l d f : ℤ) → g ≡ l +ℤ d → l ≡ pos 0 → d ≤ℤ pos 0 → f ≡ pos 0 → g ≤ℤ f
-              total_at_most g l d f e z h y = omega (arith, ints)
+              omega (
+                arith, ints,
+                sum_inside-add (length w) inside (λ c. total (whole_link Y (Y c)) (whole_at w c).links) (λ c. whole_deep (whole_at w c)),
+                closed_cancel w inside Y both (closed_whole k m e w over inside loose.closed),
+                sum_inside-zero (length w) inside (λ c. whole_balance (whole_at w c) (Y c) Y) zeros,
+              )
 
       pub drained_stays : (c : ℕ) → c < length e → inside c ≡ true → whole_balance (without_links (whole_at w c)) (Y c -ℤ pos 1) Y ≡ whole_balance (without_links (whole_at w c)) (Y c) Y
       drained_stays c i t =
           le_anti _ _
-          (le-trans _ _ _ (flows_at_most_deep (whole_at w c) (Y c -ℤ pos 1) Y (no_fixed c i t) (no_evaps c i t)) (deep_reached c (omega (arith, i, same_length)) t))
-          (whole_falls (without_links (whole_at w c)) (Y c -ℤ pos 1) (Y c) Y (lower (Y c)))
-        where
-          lower : (y : ℤ) → (y -ℤ pos 1) ≤ℤ y
-          lower y = omega (arith, ints)
+          (le-trans _ _ _ (flows_at_most_deep (whole_at w c) (Y c -ℤ pos 1) Y (no_fixed c i t) (no_evaps c i t)) (deep_reached c (omega (arith, i, same_length k m e w over)) t))
+          (whole_falls (without_links (whole_at w c)) (Y c -ℤ pos 1) (Y c) Y (omega (arith, ints)))
 
 -- heads one lower over the set, as another solution
 abbrev AnotherSolution : List ExactCell → ℕ → (ℕ → ℤ) → Type 0
@@ -127,10 +112,7 @@ lowered_solution e inside linked loose n d X some_n some_d w over zeros stays =
     )
   where
     differ : (x : ℤ) (n d : ℕ) → 0 < d → (s : Bool) → s ≡ true → x *ℤ pos (n * d) ≡ (x *ℤ pos n -ℤ cond s (pos 1) (pos 0)) *ℤ pos d → ⊥
-    differ x n d some s t e = clash ((x *ℤ pos n) *ℤ pos d) (pos d) (omega (arith, ints)) (mul_assoc x (pos n) (pos d) ∙ (rw t at e) ∙ sub_mul (x *ℤ pos n) (pos 1) (pos d))
-      where
-        clash : (z d : ℤ) → pos 1 ≤ℤ d → z ≡ z -ℤ pos 1 *ℤ d → ⊥
-        clash z d h e = omega (arith, ints)
+    differ x n d some s t e = omega (arith, ints, mul_assoc x (pos n) (pos d) ∙ (rw t at e) ∙ sub_mul (x *ℤ pos n) (pos 1) (pos d))
 
 pub drained_have_another : DrainedHaveAnother
 drained_have_another e inside linked loose most d X some solves =

@@ -29,13 +29,10 @@ flow-middle e c t x = rw (as_diff e, as_diff c, as_diff t, as_diff x) (simp diff
 
 -- above the top it is a constant flow
 pub flow-full : (e c w x : ℤ) → neg_ℤ (c *ℤ (w *ℤ e)) ≡ e *ℤ neg_ℤ (c *ℤ w) -ℤ pos 0 *ℤ x
-flow-full e c w x = rw (zero-*ℤ x) (ring e c w ∙ none (e *ℤ neg_ℤ (c *ℤ w)))
+flow-full e c w x = rw (zero-*ℤ x) (ring e c w ∙ (omega (arith, ints)))
   where
     ring : (e c w : ℤ) → neg_ℤ (c *ℤ (w *ℤ e)) ≡ e *ℤ neg_ℤ (c *ℤ w)
     ring e c w = rw (as_diff e, as_diff c, as_diff w) (simp diffs (same_diff _ _ _ _ (omega arith)))
-
-    none : (z : ℤ) → z ≡ z -ℤ pos 0
-    none z = omega (arith, ints)
 
 module _ (n : ℕ) (a : ℕ → ℕ → ℤ) (b : ℕ → ℕ) (q : ℕ → ℤ) (rs : List Ramp) where
   pub held_without : (r : Ramp) → IsHeldFromBelow n a b q (r ∷ rs) → IsHeldFromBelow n a b q rs
@@ -47,10 +44,7 @@ module _ (n : ℕ) (a : ℕ → ℕ → ℤ) (b : ℕ → ℕ) (q : ℕ → ℤ)
       (λ i h e. added_zero k (suc c) b i e) (λ i h e. more i (added_zero_away k c b i e))
     where
       more : (i : ℕ) → (k ≡ i → ⊥) → (q i -ℤ (full_rate i (ramp k (suc c) t top) +ℤ total (full_rate i) rs)) ≤ℤ (flow_added k (pos (suc c) *ℤ t) q i -ℤ total (full_rate i) rs)
-      more i apart = rw (flow_added-away k (pos (suc c) *ℤ t) q i apart, ne_eqb k i apart) (step (q i) (total (full_rate i) rs))
-        where
-          step : (q f : ℤ) → (q -ℤ (pos 0 +ℤ f)) ≤ℤ (q -ℤ f)
-          step q f = omega (arith, ints)
+      more i apart = rw (flow_added-away k (pos (suc c) *ℤ t) q i apart, ne_eqb k i apart) (omega (arith, ints))
 
   pub held_full : (k c : ℕ) (t u : ℤ) → t ≤ℤ u → IsHeldFromBelow n a b q (ramp k c t (Some u) ∷ rs) → IsHeldFromBelow n a (conductance_added k 0 b) (flow_added k (neg_ℤ (pos c *ℤ (u -ℤ t))) q) rs
   held_full k c t u up held =

@@ -10,9 +10,8 @@ use Rattle.cell_balance.specs.{IsClosed}
 
 AllZip-map : {X Y Z : Type 0} (R : X → Y → Type 0) (S : X → Z → Type 0) (f : Y → Z) → ((x : X) (y : Y) → R x y → S x (f y)) → (xs : List X) (ys : List Y) → AllZip R xs ys → AllZip S xs (map f ys)
 AllZip-map R S f each [] [] h = tt
-AllZip-map R S f each [] (y ∷ ys) h = absurd h
-AllZip-map R S f each (x ∷ xs) [] h = absurd h
 AllZip-map R S f each (x ∷ xs) (y ∷ ys) h = (each x y h.0, AllZip-map R S f each xs ys h.1)
+AllZip-map _ _ f each _ _ h = absurd h
 
 pub IsOver-scaled : (m d : ℕ) (f : Fraction) (z : ℤ) → IsOver m f z → IsOver (m * d) f (z *ℤ pos d)
 IsOver-scaled m d f z h = record { is = sym (mul_assoc f.num (pos m) (pos d)) ∙ ap (λ (y : ℤ). y *ℤ pos d) h.is ∙ swap z (pos (den f)) (pos d) }
@@ -36,9 +35,8 @@ module _ (k m d : ℕ) where
 
       AllZip-links : (xs : List _) (ys : List _) → AllZip (LinkOver k m) xs ys → AllZip (LinkOver k (m * d)) xs ys
       AllZip-links [] [] h = tt
-      AllZip-links [] (y ∷ ys) h = absurd h
-      AllZip-links (x ∷ xs) [] h = absurd h
       AllZip-links (x ∷ xs) (y ∷ ys) h = (record { same = h.0.same; c = h.0.c }, AllZip-links xs ys h.1)
+      AllZip-links _ _ h = absurd h
 
   step_scaled : (e : List ExactCell) (w : List WholeCell) → AllZip (CellOver k m) e w → AllZip (CellOver k (m * d)) e (map (scaled d) w)
   step_scaled e w h = AllZip-map (CellOver k m) (CellOver k (m * d)) (scaled d) cell_scaled e w h

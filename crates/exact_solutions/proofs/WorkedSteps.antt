@@ -21,13 +21,10 @@ one_apart : (d : ℕ) (x y : ℤ) → 0 < d → y ≡ x +ℤ pos 1 → Same (sha
 one_apart d x y some e same = differ (same_crossed d d x y some some same)
   where
     differ : x *ℤ pos d ≡ y *ℤ pos d → ⊥
-    differ h = clash (x *ℤ pos d) (pos d) (h ∙ ap (λ (z : ℤ). z *ℤ pos d) e ∙ ring x (pos d)) (omega (arith, ints))
+    differ h = omega (arith, ints, h ∙ ap (λ (z : ℤ). z *ℤ pos d) e ∙ ring x (pos d))
       where
         ring : (x d : ℤ) → (x +ℤ pos 1) *ℤ d ≡ x *ℤ d +ℤ d
         ring x d = rw (add_mul x (pos 1) d) (omega (arith, ints))
-
-        clash : (z d : ℤ) → z ≡ z +ℤ d → pos 1 ≤ℤ d → ⊥
-        clash z d e h = omega (arith, ints)
 
 -- the river gives 5 less the greater of the head and its bottom, and the well takes its share
 abbrev IsBalanced : ℕ → ℕ → ℤ → Type 0
@@ -50,26 +47,17 @@ river_over taken d = (
 )
 
 river_balance : (taken d : ℕ) (X : ℕ → ℤ) → 0 < d → SolvesStep (river_and_well taken) d X → IsBalanced taken d (X 0)
-river_balance taken d X some solves = turn (neg_ℤ (pos taken) *ℤ pos d) (pos taken *ℤ pos d) (pos d) (X 0) (neg_mul (pos taken) (pos d)) (whole_solves 1 d (river_and_well taken) (river_whole taken d) d X X (river_over taken d) solves (λ c. share_is_over d (X c) some) 0 (omega arith))
-  where
-    turn : (f t d x : ℤ) → f ≡ neg_ℤ t → f +ℤ pos 0 +ℤ pos 0 +ℤ pos 0 +ℤ (pos 1 *ℤ (pos 5 *ℤ d -ℤ int_max x (pos 0 *ℤ d)) +ℤ pos 0) +ℤ pos 0 +ℤ pos 0 ≡ pos 0 → int_max x (pos 0) +ℤ t ≡ pos 5 *ℤ d
-    turn f t d x e h = omega (arith, ints, clamps)
+river_balance taken d X some solves = omega (arith, ints, clamps, neg_mul (pos taken) (pos d), whole_solves 1 d (river_and_well taken) (river_whole taken d) d X X (river_over taken d) solves (λ c. share_is_over d (X c) some) 0 (omega arith))
 
 river_solved : (taken d : ℕ) (X : ℕ → ℤ) → 0 < d → IsBalanced taken d (X 0) → SolvesStep (river_and_well taken) d X
 river_solved taken d X some balanced = whole_balances_solve 1 d (river_and_well taken) (river_whole taken d) X (omega arith) some (river_over taken d) zeros
   where
-    turn : (f t d x : ℤ) → f ≡ neg_ℤ t → int_max x (pos 0) +ℤ t ≡ pos 5 *ℤ d → f +ℤ pos 0 +ℤ pos 0 +ℤ pos 0 +ℤ (pos 1 *ℤ (pos 5 *ℤ d -ℤ int_max x (pos 0 *ℤ d)) +ℤ pos 0) +ℤ pos 0 +ℤ pos 0 ≡ pos 0
-    turn f t d x e h = omega (arith, ints, clamps)
-
     zeros : (c : ℕ) → c < 1 → whole_balance (whole_at (river_whole taken d) c) (X c) X ≡ pos 0
-    zeros zero h = turn (neg_ℤ (pos taken) *ℤ pos d) (pos taken *ℤ pos d) (pos d) (X 0) (neg_mul (pos taken) (pos d)) balanced
+    zeros zero h = omega (arith, ints, clamps, neg_mul (pos taken) (pos d))
     zeros (suc c) h = absurd (omega (arith, h))
 
 pub well_past_deep_flow : WellPastDeepFlow
-well_past_deep_flow taken past d X some solves = clash (X 0) (pos taken *ℤ pos d) (pos d) (omega (arith, ints)) (mul_mono_right d (pos 6) (pos taken) (omega (arith, ints))) (river_balance taken d X some solves)
-  where
-    clash : (x t d : ℤ) → pos 1 ≤ℤ d → (pos 6 *ℤ d) ≤ℤ t → int_max x (pos 0) +ℤ t ≡ pos 5 *ℤ d → ⊥
-    clash x t d h k e = omega (arith, ints, clamps)
+well_past_deep_flow taken past d X some solves = omega (arith, ints, clamps, mul_mono_right d (pos 6) (pos taken) (omega (arith, ints)), river_balance taken d X some solves)
 
 pub well_within_deep_flow : WellWithinDeepFlow
 well_within_deep_flow taken less = (
@@ -81,10 +69,7 @@ well_within_deep_flow taken less = (
     stands t h = omega (arith, ints, clamps)
 
     head_is : (d : ℕ) (X : ℕ → ℤ) → 0 < d → SolvesStep (river_and_well taken) d X → X 0 ≡ (pos 5 -ℤ pos taken) *ℤ pos d
-    head_is d X some solves = wet (X 0) (pos taken *ℤ pos d) (pos d) (omega (arith, ints)) (mul_mono_right d (pos taken) (pos 4) (omega (arith, ints))) (river_balance taken d X some solves) ∙ sym (sub_mul (pos 5) (pos taken) (pos d))
-      where
-        wet : (x t d : ℤ) → pos 1 ≤ℤ d → t ≤ℤ (pos 4 *ℤ d) → int_max x (pos 0) +ℤ t ≡ pos 5 *ℤ d → x ≡ pos 5 *ℤ d -ℤ t
-        wet x t d h k e = omega (arith, ints, clamps)
+    head_is d X some solves = (omega (arith, ints, clamps, mul_mono_right d (pos taken) (pos 4) (omega (arith, ints)), river_balance taken d X some solves)) ∙ sym (sub_mul (pos 5) (pos taken) (pos d))
 
     one : (d k : ℕ) (X Y : ℕ → ℤ) → 0 < d → 0 < k → SolvesStep (river_and_well taken) d X → SolvesStep (river_and_well taken) k Y → (c : ℕ) → c < 1 → Same (share d (X c)) (share k (Y c))
     one d k X Y some_d some_k solves_x solves_y zero h = crossed_same d k (X 0) (Y 0) some_d some_k (crossed (pos 5 -ℤ pos taken) (pos d) (pos k) (X 0) (Y 0) (head_is d X some_d solves_x) (head_is k Y some_k solves_y))
