@@ -33,7 +33,7 @@ pub use Rattle.cell_balance.proofs.Deep.{Bounds, add_mul, bounds_same, deep_less
 pub use Rattle.cell_balance.proofs.Deep.{total_nonneg}
 pub use Rattle.cell_balance.proofs.Dry.{IsMutual, cut_link, cut_links, dry_balance}
 pub use Rattle.cell_balance.proofs.HeldBelow.{carried_not_dry, cell_within}
-pub use Rattle.cell_balance.proofs.Sums.{sum-add, sum-same, sum-zero, term-le-sum}
+pub use Rattle.cell_balance.proofs.Sums.{sum-add, sum-same, sum_inside-zero, term-le-sum}
 pub use Rattle.cell_balance.proofs.Zips.{All-zip, AllZip-at, AllZip-length, CellWithin, DrainWithin, FixedWithin, FlowWithin, IsDry, LinkWithin, RiverWithin}
 pub use Rattle.cell_balance.proofs.Zips.{WholeCell, WholeEntry, WholeLink, no_whole, whole_at, whole_balance, whole_deep, whole_drain, whole_evap, whole_fixed}
 pub use Rattle.cell_balance.proofs.Zips.{whole_link, whole_river}

@@ -1,8 +1,9 @@
 -- What enters the cells below a head over their links, in all no more than the needs of all cells: besides their links cells get no less than what they need.
 use Rattle.barrier_vector.proofs.Common.{◌≡◌, ℕ, ◌<◌, refl, sym, ◌∙◌, arith, ℤ, pos, ◌+ℤ◌, ◌-ℤ◌, ◌≤ℤ◌, ◌<ℤ◌, List, length, Bool, true, false, cond, zero, suc}
 use Rattle.barrier_vector.proofs.Common.{◌+◌, ◌≤◌, subst, ◌*ℤ◌, [], ◌∷◌, get_or, take, sum_by, All, Contains, ints, lt_z, true_is_lt, lt_out, total, entries_at}
-use Rattle.barrier_vector.proofs.Common.{no_entries, mul_nonneg, sum_inside, sum_below, total_nonneg, add_mul, sum-add, sum-same, sum-zero, term-le-sum}
+use Rattle.barrier_vector.proofs.Common.{no_entries, mul_nonneg, sum_inside, sum_below, total_nonneg, add_mul, sum-add, sum-same, term-le-sum}
 use Rattle.barrier_vector.proofs.Common.{IsMutual, cut_link, cut_links, WholeLink, WholeCell, whole_link, whole_at, AllZip-at, AllZip-length, AllZip}
+use Rattle.barrier_vector.proofs.Common.{sum_inside-zero}
 use Rattle.barrier_vector.proofs.Common.{sum_by_more, All-head, All-tail, Contains-get_or, Entries}
 
 pub test_true : (a b : ℤ) → a <ℤ b → lt_z a b ≡ true
@@ -40,16 +41,12 @@ module _ (w : List WholeCell) (both : IsMutual w) (Y rest need : ℕ → ℤ) (t
     split a r q true = omega (arith, ints)
     split a r q false = refl
 
-    solved_cell : (k : ℕ) → k < length w → (b : Bool) → cond b (total (whole_link Y (Y k)) (whole_at w k).links +ℤ rest k) (pos 0) ≡ pos 0
-    solved_cell k j true = solved k j
-    solved_cell k j false = refl
-
     -- one cell below t gets over cut links, and otherwise beyond its need, no more than all need
     pub enters : (c : ℕ) → c < length w → Y c <ℤ t → (over_cut c +ℤ (rest c +ℤ need c)) ≤ℤ sum_inside (length w) (lies_below Y t) need
     enters c i h =
         let n = length w in
         let parts = sum-same n _ _ (λ k j. split (over_cut k) (rest k) (need k) (lies_below Y t k)) ∙ sum-add n (λ k. cond (lies_below Y t k) (over_cut k +ℤ rest k) (pos 0)) (λ k. cond (lies_below Y t k) (need k) (pos 0)) in
-        let none = sum-same n (λ k. cond (lies_below Y t k) (total (whole_link Y (Y k)) (whole_at w k).links +ℤ rest k) (pos 0)) (λ k. pos 0) (λ k j. solved_cell k j (lies_below Y t k)) ∙ sum-zero n in
+        let none = sum_inside-zero n (lies_below Y t) (λ k. total (whole_link Y (Y k)) (whole_at w k).links +ℤ rest k) solved in
         let one = term-le-sum n (λ k. cond (lies_below Y t k) (over_cut k +ℤ (rest k +ℤ need k)) (pos 0)) (λ k j. some k j (lies_below Y t k) refl) c i in
         omega (arith, ints, cut_links w (lies_below Y t) Y rest both, (rw (test_true (Y c) t h) at one))
 

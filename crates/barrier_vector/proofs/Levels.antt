@@ -43,6 +43,10 @@ all_marked (None ∷ xs) c e h none = omega (arith, e)
 all_marked (Some x ∷ xs) zero e h none = cc
 all_marked (Some x ∷ xs) (suc c) e h none = all_marked xs c e (omega arith) none
 
+-- a cell has one level
+pub one_level : (p : List Entries) (q : ℕ) (R : ℕ → ℕ → Type 0) (c j k : ℕ) → IsLevel p q R c j → IsLevel p q R c k → j ≡ k
+one_level p q R c j k a b = omega (arith, a.least k b.leads, b.least j a.leads)
+
 module _ (p : List Entries) (ok : IsProblem p) (q : ℕ) (own : List (Option ℕ)) where
   abbrev Leads : ℕ → ℕ → Type 0
   Leads = LeadsToRoot p q (ListRoot own)
@@ -61,9 +65,6 @@ module _ (p : List Entries) (ok : IsProblem p) (q : ℕ) (own : List (Option ℕ
   -- and a link from cell c leads to it too
   targeted : (c : ℕ) (x : Link) → Contains (entries_at p c).links x → LinkLeads (entries_at p x.cell).links (length (entries_at p x.cell).links) c
   targeted c x has = let (j, h, e) = link_place (entries_at p x.cell).links _ (back p ok c x has) in (j, h, ap (λ (z : Link). z.cell) e)
-
-  one_level : (c j k : ℕ) → IsLevel p q (ListRoot own) c j → IsLevel p q (ListRoot own) c k → j ≡ k
-  one_level c j k a b = let x = a.least k b.leads in let y = b.least j a.leads in omega (arith, x, y)
 
   pub up_to_start : (old levels : List (Option ℕ)) (paths front : List ℕ) → length own ≡ length p → length old ≡ length p → ((c : ℕ) → mark_at old c ≡ None) → unmarked old ≡ length p → AreBegun own (length own) old levels paths front → IsUpTo p q own 0 levels paths front
   up_to_start old levels paths front whole old_whole none all s = record {
@@ -156,7 +157,7 @@ module _ (p : List Entries) (ok : IsProblem p) (q : ℕ) (own : List (Option ℕ
         level = (exact' x.cell k near.level_is).0;
         least = λ z has level.
             let (m, e) = found' z.cell k (omega arith) level.leads in
-            let at = one_level z.cell m k (exact' z.cell m e).0 level in
+            let at = one_level p q (ListRoot own) z.cell m k (exact' z.cell m e).0 level in
             let (j, h, is) = link_place (entries_at p c).links z has in
             subst (λ (y : Link). x.cell ≤ y.cell) is (near.least j h (subst (λ (y : Link). mark_at levels' y.cell ≡ Some k) (sym is) (subst (λ (n : ℕ). mark_at levels' z.cell ≡ Some n) at e)));
       }

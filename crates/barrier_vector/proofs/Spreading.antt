@@ -103,39 +103,34 @@ module _ (T U : ℕ → Type 0) (v : ℕ) (old mid new : List (Option ℕ)) (a b
     count = t.count ∙ s.count;
   }
 
--- the links of a list, one after another
-pub spread_link : (links : List Link) (i : ℕ) (x : Link) (v : ℕ) (old mid new : List (Option ℕ)) (a b c : List ℕ) → x ≡ link_at links i → Spreads (LinkLeads links i) v old mid a b → Spreads (λ k. k ≡ x.cell) v mid new b c → Spreads (LinkLeads links (i + 1)) v old new a c
-spread_link links i x v old mid new a b c is s t = spread_as (λ k. LinkLeads links i k ⊎ (k ≡ x.cell)) (LinkLeads links (i + 1)) v old new a c to from (spread_then (LinkLeads links i) (λ k. k ≡ x.cell) v old mid new a b c s t)
-  where
-    to : (k : ℕ) → LinkLeads links i k ⊎ (k ≡ x.cell) → LinkLeads links (i + 1) k
-    to k (inl (j, h, e)) = (j, omega arith, e)
-    to k (inr e) = (i, omega arith, sym (ap (λ (y : Link). y.cell) is) ∙ sym e)
+-- the targets of one of the first i indices, by those of each index
+abbrev AreBelow : (ℕ → ℕ → Type 0) → ℕ → ℕ → Type 0
+AreBelow P i k = (j : ℕ) × (j < i) × P j k
 
-    from : (k : ℕ) → LinkLeads links (i + 1) k → LinkLeads links i k ⊎ (k ≡ x.cell)
+spread_next : (P : ℕ → ℕ → Type 0) (i v : ℕ) (old mid new : List (Option ℕ)) (a b c : List ℕ) → Spreads (AreBelow P i) v old mid a b → Spreads (P i) v mid new b c → Spreads (AreBelow P (i + 1)) v old new a c
+spread_next P i v old mid new a b c s t = spread_as (λ k. AreBelow P i k ⊎ P i k) (AreBelow P (i + 1)) v old new a c to from (spread_then (AreBelow P i) (P i) v old mid new a b c s t)
+  where
+    to : (k : ℕ) → AreBelow P i k ⊎ P i k → AreBelow P (i + 1) k
+    to k (inl (j, h, e)) = (j, omega arith, e)
+    to k (inr e) = (i, omega arith, e)
+
+    from : (k : ℕ) → AreBelow P (i + 1) k → AreBelow P i k ⊎ P i k
     from k (j, h, e) =
         elim (cases_lt j i) [
           | inl less ↦ inl (j, less, e)
-          | inr more ↦ let at : j ≡ i = omega arith in inr (sym e ∙ ap (λ (z : ℕ). (link_at links z).cell) at ∙ sym (ap (λ (y : Link). y.cell) is))
+          | inr more ↦ let at : j ≡ i = omega arith in inr (subst (λ (z : ℕ). P z k) at e)
         ]
+
+-- the links of a list, one after another
+pub spread_link : (links : List Link) (i : ℕ) (x : Link) (v : ℕ) (old mid new : List (Option ℕ)) (a b c : List ℕ) → x ≡ link_at links i → Spreads (LinkLeads links i) v old mid a b → Spreads (λ k. k ≡ x.cell) v mid new b c → Spreads (LinkLeads links (i + 1)) v old new a c
+spread_link links i x v old mid new a b c is s t =
+    let same = ap (λ (y : Link). y.cell) is in
+    spread_next (λ j k. (link_at links j).cell ≡ k) i v old mid new a b c s
+    (spread_as (λ k. k ≡ x.cell) (λ k. (link_at links i).cell ≡ k) v mid new b c (λ k e. sym same ∙ sym e) (λ k e. sym e ∙ sym same) t)
 
 -- a link of the cell of index j in the frontier leads to cell k
 abbrev HereLeads : List Entries → List ℕ → ℕ → ℕ → Type 0
 HereLeads p front j k = LinkLeads (entries_at p (slice_index front j)).links (length (entries_at p (slice_index front j)).links) k
-
--- the cells of a frontier, one after another
-pub spread_cell : (p : List Entries) (front : List ℕ) (i : ℕ) (v : ℕ) (old mid new : List (Option ℕ)) (a b c : List ℕ) → Spreads (FrontLeads p front i) v old mid a b → Spreads (LinkLeads (entries_at p (slice_index front i)).links (length (entries_at p (slice_index front i)).links)) v mid new b c → Spreads (FrontLeads p front (i + 1)) v old new a c
-spread_cell p front i v old mid new a b c s t = spread_as (λ k. FrontLeads p front i k ⊎ HereLeads p front i k) (FrontLeads p front (i + 1)) v old new a c to from (spread_then (FrontLeads p front i) (HereLeads p front i) v old mid new a b c s t)
-  where
-    to : (k : ℕ) → FrontLeads p front i k ⊎ HereLeads p front i k → FrontLeads p front (i + 1) k
-    to k (inl (j, h, e)) = (j, omega arith, e)
-    to k (inr e) = (i, omega arith, e)
-
-    from : (k : ℕ) → FrontLeads p front (i + 1) k → FrontLeads p front i k ⊎ HereLeads p front i k
-    from k (j, h, e) =
-        elim (cases_lt j i) [
-          | inl less ↦ inl (j, less, e)
-          | inr more ↦ let at : j ≡ i = omega arith in inr (subst (λ (z : ℕ). HereLeads p front z k) at e)
-        ]
 
 -- how a test for a mark tells
 pub none_by : (o : Option ℕ) (r : Bool) → is_some o ≡ not r → r ≡ true → o ≡ None
@@ -149,5 +144,7 @@ some_by (Some x) r e t = (x, refl)
 pub spread_marks : (m : List (Option ℕ)) (before after : List ℕ) (c v : ℕ) → after ≡ before ++ c ∷ [] → c < length m → mark_at m c ≡ None → Spreads (λ k. k ≡ c) v m (set m c (Some v)) before after
 spread_marks m before after c v is h e = subst (λ (z : List ℕ). Spreads (λ k. k ≡ c) v m (set m c (Some v)) before z) (sym is) (spread_mark m before c v h e)
 
+-- the cells of a frontier, one after another
 pub spread_links : (p : List Entries) (front : List ℕ) (i : ℕ) (links : List Link) (v : ℕ) (old mid new : List (Option ℕ)) (a b c : List ℕ) → links ≡ (entries_at p (slice_index front i)).links → Spreads (FrontLeads p front i) v old mid a b → Spreads (LinkLeads links (length links)) v mid new b c → Spreads (FrontLeads p front (i + 1)) v old new a c
-spread_links p front i links v old mid new a b c is s t = spread_cell p front i v old mid new a b c s (subst (λ (z : List Link). Spreads (LinkLeads z (length z)) v mid new b c) is t)
+spread_links p front i links v old mid new a b c is s t =
+    spread_next (HereLeads p front) i v old mid new a b c s (subst (λ (z : List Link). Spreads (LinkLeads z (length z)) v mid new b c) is t)

@@ -1,13 +1,13 @@
 -- Levels, parents, paths, floors and ceilings are each one number.
 use Rattle.barrier_vector.proofs.Common.{base_on, ◌≡◌, ℕ, zero, suc, ◌+◌, inl, inr, sym, ◌∙◌, ap, subst, arith, List, Contains, ℤ, pos, ◌-ℤ◌, ◌<◌, refl, length}
 use Rattle.barrier_vector.proofs.Common.{min, All, IsSome, Option, None, Some, Bool, true, false, slice_index, cases_lt, Side, Low, High, Link, Entries}
-use Rattle.barrier_vector.proofs.Common.{entries_at, link_at, IsProblem, IsHead, need, ceil_over, IsLevel, SumsTo, IsPath, AnchorRoot, LeastRoot, IsAnchorPath}
+use Rattle.barrier_vector.proofs.Common.{entries_at, link_at, IsProblem, IsHead, need, ceil_over, SumsTo, IsPath, AnchorRoot, LeastRoot, IsAnchorPath}
 use Rattle.barrier_vector.proofs.Common.{IsInnerPath, IsLongest, IsUnanchored, moved_out, IsAnchoredBound, IsCarriedFloor, IsBoundOn, HasNoBound, capped_flow}
 use Rattle.barrier_vector.proofs.Common.{anchor_on, mark_at, path_limit, IsSearched, AreAnchorDrops, AreAnchorPaths, cut_on, IsAnchoredOrNone, IsBoundOrNone}
 use Rattle.barrier_vector.proofs.Common.{bound_at, AreBounds, ints, clamps}
 use Rattle.barrier_vector.proofs.Rooting.{drop_of}
 use Rattle.barrier_vector.proofs.CarriedRoots.{has_links, reaches_within}
-use Rattle.barrier_vector.proofs.Levels.{link_place}
+use Rattle.barrier_vector.proofs.Levels.{link_place, one_level}
 use Rattle.barrier_vector.proofs.Marking.{base_head}
 use Rattle.barrier_vector.proofs.CappedFlows.{whole_anchor_path}
 
@@ -27,9 +27,6 @@ one_link p ok c x z has_x has_z e =
     ]
 
 module _ (p : List Entries) (ok : IsProblem p) (q : ℕ) (R : ℕ → ℕ → Type 0) (one : (c d e : ℕ) → R c d → R c e → d ≡ e) where
-  level_one : (c j k : ℕ) → IsLevel p q R c j → IsLevel p q R c k → j ≡ k
-  level_one c j k a b = let x = a.least k b.leads in let y = b.least j a.leads in omega (arith, x, y)
-
   sums_one : (k c s t : ℕ) → SumsTo p q R k c s → SumsTo p q R k c t → s ≡ t
   sums_one zero c s t a b = one c s t a b
   sums_one (suc k) c s t (x, x_is, rest, sum, is) (z, z_is, rest', sum', is') =
@@ -40,7 +37,7 @@ module _ (p : List Entries) (ok : IsProblem p) (q : ℕ) (R : ℕ → ℕ → Ty
       is ∙ ap (λ (n : ℕ). ceil_over q x.lo + n) rests ∙ ap (λ (y : Link). ceil_over q y.lo + rest') same ∙ sym is'
 
   pub path_one : (c s t : ℕ) → IsPath p q R c s → IsPath p q R c t → s ≡ t
-  path_one c s t a b = sums_one a.level c s t a.sums (subst (λ (k : ℕ). SumsTo p q R k c t) (level_one c b.level a.level b.is_level a.is_level) b.sums)
+  path_one c s t a b = sums_one a.level c s t a.sums (subst (λ (k : ℕ). SumsTo p q R k c t) (one_level p q R c b.level a.level b.is_level a.is_level) b.sums)
 
 anchor_path_one : (side : Side) (p : List Entries) → IsProblem p → (c s t : ℕ) → IsAnchorPath side p c s → IsAnchorPath side p c t → s ≡ t
 anchor_path_one side p ok = path_one p ok (need side p) (AnchorRoot side p (need side p)) (λ c d e a b. a.2 ∙ sym b.2)
