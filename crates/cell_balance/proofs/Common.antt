@@ -6,7 +6,7 @@ pub use Rattle.std.proofs.Math.IntN.{*ℤ-zero, *ℤ_comm, zero-*ℤ}
 pub use Rattle.std.proofs.Math.Nat.{le_of_mul-le-mul_right, mul-le-mul, mul-le-mul_right, mul_comm}
 pub use Rattle.std.proofs.lemmas.Bool.{cases_eq, cases_lt, eq-eqb, ne_eqb, true≢false}
 pub use Rattle.std.proofs.lemmas.Int.{by_lt_z, clamps, ints}
-pub use Rattle.std.proofs.lemmas.List.Elements.{All-cons, All-contains, All-from_get_or, All-get_or, All-head, All-nil, All-tail, All-weaker, Contains-get_or}
+pub use Rattle.std.proofs.lemmas.List.Elements.{All-cons, All-contains, All-from_get_or, All-get_or, All-head, All-nil, All-tail, Contains-get_or}
 pub use Rattle.std.specs.Int.{int_max, int_min}
 pub use Rattle.std.specs.List.{AllZip, filter}
 pub use Rattle.cell_balance.specs.{AreLinked, BalanceFalls, BalanceRises, BoundsHold, CellEncloses, Compares, DrainEncloses, DrainLaws, DryLaw, EnclosesStep}

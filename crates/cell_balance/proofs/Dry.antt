@@ -96,7 +96,8 @@ evap_within_full y x =
 pub dry_balance : (Y : ℕ → ℤ) (y t : ℤ) (w : WholeCell) → y ≤ℤ t → IsDry t w → (whole_deep w +ℤ (total (whole_link Y y) w.links +ℤ total (whole_fixed y) w.fixed)) ≤ℤ whole_balance w y Y
 dry_balance Y y t w h dry =
     omega (
-      arith, ints,
+      arith,
+      ints,
       total-same (λ x. (x.c ≡ 0) ⊎ (t ≤ℤ x.foot)) (whole_river y) whole_deep_river w.rivers (dry_river y t h) dry.rivers,
       total_nonneg (λ x. (x.c ≡ 0) ⊎ (t ≤ℤ x.foot)) (whole_drain y) w.drains (dry_drain y t h) dry.drains,
       total_at_most (λ x. Unit {0}) (λ x. neg_ℤ (whole_full x)) (whole_evap y) w.evaps (λ x u. evap_within_full y x) (λ k d i. tt),

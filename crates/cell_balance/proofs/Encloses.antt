@@ -1,13 +1,13 @@
 -- The comparison: from fractions to whole numbers and back.
-use Rattle.cell_balance.proofs.Common.{◌≡◌, ℕ, suc, ◌-◌, ◌*◌, ◌^◌, ◌<◌, sym, ap, ◌∙◌, subst, arith, ℤ, pos, ◌*ℤ◌, List, length, mul-pos, refl, AllZip}
-use Rattle.cell_balance.proofs.Common.{IsOver, Ratio, Fraction, cancel_right, mul_mono_right, swap, mul_assoc, ◌≤ℤ◌, ◌⊎◌, inl, inr, IsProblem, ExactCell}
-use Rattle.cell_balance.proofs.Common.{cell_at, no_cell, balance, share, SolvesStep, Compares, EnclosesStep, ExactFlow, ExactLink, Entries, Side, Low, High}
-use Rattle.cell_balance.proofs.Common.{den, mul_comm, LiesBetween, IsHeldBelow, entries_at, lower_balance, upper_balance}
+use Rattle.cell_balance.proofs.Common.{◌≡◌, ℕ, suc, ◌-◌, ◌*◌, ◌^◌, ◌<◌, sym, ap, ◌∙◌, subst, arith, ℤ, pos, ◌*ℤ◌, List, length, mul-pos, refl, AllZip, IsOver}
+use Rattle.cell_balance.proofs.Common.{Ratio, Fraction, cancel_right, mul_mono_right, swap, mul_assoc, ◌≤ℤ◌, ◌⊎◌, inl, inr, IsProblem, ExactCell, cell_at}
+use Rattle.cell_balance.proofs.Common.{no_cell, balance, share, SolvesStep, Compares, EnclosesStep, ExactFlow, ExactLink, Entries, Side, Low, High, den}
+use Rattle.cell_balance.proofs.Common.{mul_comm, LiesBetween, IsHeldBelow, entries_at, lower_balance, upper_balance}
 use Rattle.cell_balance.proofs.Zips.{AllZip-at, AllZip-length, CellWithin, WholeCell, whole_at, no_whole, whole_balance, WholeLink, WholeEntry}
 use Rattle.cell_balance.proofs.Scaling.{zero_over}
 use Rattle.cell_balance.proofs.Over.{CellOver, balance_over, FlowOver, LinkOver, EntryOver, FixedOver, RiverOver, DrainOver, EvapOver}
-use Rattle.cell_balance.proofs.Denominators.{Goes, share_over, fraction_over, left_goes, right_goes, flow_den, link_den, entry_den, fixed_den}
-use Rattle.cell_balance.proofs.Denominators.{river_den, drain_den, evap_den, cell_den, product, choose, step_common}
+use Rattle.cell_balance.proofs.Denominators.{Goes, share_over, fraction_over, left_goes, right_goes, flow_den, link_den, entry_den, fixed_den, river_den}
+use Rattle.cell_balance.proofs.Denominators.{drain_den, evap_den, cell_den, product, choose, step_common}
 use Rattle.cell_balance.proofs.Enclosed.{step_within, linked, links_good}
 use Rattle.cell_balance.proofs.Mutual.{mutual_whole}
 use Rattle.cell_balance.proofs.Compare.{compare}

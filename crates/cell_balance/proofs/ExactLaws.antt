@@ -1,8 +1,8 @@
 -- The laws of exact balances, from their whole numbers.
-use Rattle.cell_balance.proofs.Common.{◌≡◌, ℕ, ◌*◌, ◌<◌, ◌⊎◌, inl, inr, refl, subst, arith, ℤ, pos, ◌*ℤ◌, ◌≤ℤ◌, List, length, All, Bool, true, mul-pos}
-use Rattle.cell_balance.proofs.Common.{AllZip, cases_eq, ints, clamps, Ratio, Fraction, fraction_total, IsOver, IsShare, AtMost, total, ExactCell, cell_at}
-use Rattle.cell_balance.proofs.Common.{no_cell, link_flow, balance, share, total_inside, IsClosed, deep_flow, LiesBelow, LinksCancel, BalanceFalls}
-use Rattle.cell_balance.proofs.Common.{BalanceRises, DryLaw, mul_mono_right, mul_mono, loss_falls, total_mono, mul_comm}
+use Rattle.cell_balance.proofs.Common.{◌≡◌, ℕ, ◌*◌, ◌<◌, ◌⊎◌, inl, inr, refl, subst, arith, ℤ, pos, ◌*ℤ◌, ◌≤ℤ◌, List, length, All, Bool, true, mul-pos, AllZip}
+use Rattle.cell_balance.proofs.Common.{cases_eq, ints, clamps, Ratio, Fraction, fraction_total, IsOver, IsShare, AtMost, total, ExactCell, cell_at, no_cell}
+use Rattle.cell_balance.proofs.Common.{link_flow, balance, share, total_inside, IsClosed, deep_flow, LiesBelow, LinksCancel, BalanceFalls, BalanceRises, DryLaw}
+use Rattle.cell_balance.proofs.Common.{mul_mono_right, mul_mono, loss_falls, total_mono, mul_comm}
 use Rattle.cell_balance.proofs.Zips.{AllZip-at, AllZip-length, All-zip, IsDry, WholeCell, whole_at, no_whole, whole_link, whole_balance, whole_deep}
 use Rattle.cell_balance.proofs.Zips.{whole_fixed, whole_river, whole_drain, whole_evap}
 use Rattle.cell_balance.proofs.Scaling.{IsOver-total, over_zero, none_shared}
@@ -18,7 +18,8 @@ use Rattle.cell_balance.proofs.Deep.{total_at_most, same_z}
 pub whole_falls : (w : WholeCell) (v y : ℤ) (Y : ℕ → ℤ) → v ≤ℤ y → whole_balance w y Y ≤ℤ whole_balance w v Y
 whole_falls w v y Y le =
     omega (
-      arith, ints,
+      arith,
+      ints,
       total_mono (whole_link Y y) (whole_link Y v) w.links (λ x. mul_mono x.c _ _ (omega (arith, ints))),
       total_mono (whole_fixed y) (whole_fixed v) w.fixed (λ x. mul_mono x.c _ _ (omega (arith, ints))),
       total_mono (whole_river y) (whole_river v) w.rivers (λ x. mul_mono x.c _ _ (omega (arith, ints, clamps))),
@@ -29,7 +30,8 @@ whole_falls w v y Y le =
 pub whole_rises : (w : WholeCell) (v : ℤ) (Y Z : ℕ → ℤ) → All (λ x. Y x.cell ≤ℤ Z x.cell) w.links → whole_balance w v Y ≤ℤ whole_balance w v Z
 whole_rises w v Y Z each =
     omega (
-      arith, ints,
+      arith,
+      ints,
       total_at_most (λ x. Y x.cell ≤ℤ Z x.cell) (whole_link Y v) (whole_link Z v) w.links (λ x h. mul_mono x.c _ _ (omega (arith, ints))) each,
     )
 

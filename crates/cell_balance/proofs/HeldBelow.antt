@@ -1,11 +1,9 @@
 -- What holds the components of a problem holds the closed sets of the whole numbers of each step that it encloses.
-use Rattle.cell_balance.proofs.Common.{*ℤ-zero}
-use Rattle.cell_balance.proofs.Common.{◌*◌, arith, length, pos, mul-pos, ◌*ℤ◌, ◌<ℤ◌, ◌<◌, ◌≡◌, ◌≤ℤ◌, All, Bool, List, get_or, inl, inr}
-use Rattle.cell_balance.proofs.Common.{refl, subst, suc, sym, true, zero, ℕ, ℤ, ◌≤◌, Contains, AllZip, ints, All-contains, Contains-get_or}
-use Rattle.cell_balance.proofs.Common.{IsBetweenWhole, total, entries_at, no_entries, IsHeldBelow, Reaches, deep_low, sum_inside, IsCarried, IsComponent}
-use Rattle.cell_balance.proofs.Common.{Entries, Link}
-use Rattle.cell_balance.proofs.Zips.{AllZip-length, All-zip, WholeCell, WholeEntry, whole_at, whole_deep, CellWithin, FixedWithin}
-use Rattle.cell_balance.proofs.Zips.{LinkWithin, AllZip-at, no_whole, whole_balance, IsDry}
+use Rattle.cell_balance.proofs.Common.{*ℤ-zero, ◌*◌, arith, length, pos, mul-pos, ◌*ℤ◌, ◌<ℤ◌, ◌<◌, ◌≡◌, ◌≤ℤ◌, All, Bool, List, get_or, inl, inr, refl, subst}
+use Rattle.cell_balance.proofs.Common.{suc, sym, true, zero, ℕ, ℤ, ◌≤◌, Contains, AllZip, ints, All-contains, Contains-get_or, IsBetweenWhole, total}
+use Rattle.cell_balance.proofs.Common.{entries_at, no_entries, IsHeldBelow, Reaches, deep_low, sum_inside, IsCarried, IsComponent, Entries, Link}
+use Rattle.cell_balance.proofs.Zips.{AllZip-length, All-zip, WholeCell, WholeEntry, whole_at, whole_deep, CellWithin, FixedWithin, LinkWithin, AllZip-at}
+use Rattle.cell_balance.proofs.Zips.{no_whole, whole_balance, IsDry}
 use Rattle.cell_balance.proofs.Scaling.{conducting, positive_times}
 use Rattle.cell_balance.proofs.Sums.{sum_inside_times, sum_inside-zero}
 use Rattle.cell_balance.proofs.WholeBalances.{ramps_from, a_of, b_of, q_of, ramps_at_cell}

@@ -51,7 +51,8 @@ flows_within_full d x y i (r ∷ rs) h k =
     let first = flow_falls d x y i r (omega (arith, ints)) in
     let others = flows_fall d x y i rs (omega (arith, ints)) in
     omega (
-      arith, ints,
+      arith,
+      ints,
       mul_add (pos d) (full_rate i r) (total (full_rate i) rs),
       flow_within_full d x y i r h (omega (arith, ints)),
       flows_within_full d x y i rs h (omega (arith, ints)),

@@ -1,6 +1,5 @@
 -- Each exact step that a problem encloses has a solution where its components are held below and above, and one alone where they are held below.
-use Rattle.exact_solutions.proofs.Common.{step_common}
-use Rattle.exact_solutions.proofs.Common.{◌*◌, ◌^◌, ◌∙◌, arith, length, pos, mul-pos, ◌+ℤ◌, ◌<◌, ◌≡◌, ◌≤ℤ◌, List, inl, inr, ℕ, ℤ, ◌*ℤ◌, ap, sym}
+use Rattle.exact_solutions.proofs.Common.{step_common, ◌*◌, ◌^◌, ◌∙◌, arith, length, pos, mul-pos, ◌+ℤ◌, ◌<◌, ◌≡◌, ◌≤ℤ◌, List, inl, inr, ℕ, ℤ, ◌*ℤ◌, ap, sym}
 use Rattle.exact_solutions.proofs.Common.{mutual_whole, whole_step, AllZip-length, WholeCell, WholeEntry, whole_at, CellWithin, DrainWithin, RiverWithin, swap}
 use Rattle.exact_solutions.proofs.Common.{AllZip, ints, All-contains, total, entries_at, HeldHaveASolution, HeldHaveAtMostOne, IsAnchoredAbove, IsHeldAbove}
 use Rattle.exact_solutions.proofs.Common.{ramps_from, a_of, b_of, q_of, ramps_at_cell, open_conductance, open_conductance_at, IsHeldFromAbove, both_ways}

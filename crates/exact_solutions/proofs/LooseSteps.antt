@@ -1,16 +1,13 @@
 -- Steps with cells that nothing holds: heads one lower over these cells are another solution, where their deep flows sum to at most 0 or no river or drain of them conducts.
-use Rattle.exact_solutions.proofs.Common.{step_common}
-use Rattle.exact_solutions.proofs.Common.{◌≡◌, ◌*◌, ◌<◌, ◌∙◌, ◌+ℤ◌, ◌-ℤ◌, ◌*ℤ◌, ◌≤ℤ◌, [], ◌∷◌, ℕ, refl, sym, ap, arith, ℤ, pos, neg_ℤ, List, length, All, Bool}
-use Rattle.exact_solutions.proofs.Common.{true, false, cond, mul-pos, int_max, AllZip, zero-*ℤ, ints, clamps, Same, total, total_mono}
+use Rattle.exact_solutions.proofs.Common.{step_common, ◌≡◌, ◌*◌, ◌<◌, ◌∙◌, ◌+ℤ◌, ◌-ℤ◌, ◌*ℤ◌, ◌≤ℤ◌, [], ◌∷◌, ℕ, refl, sym, ap, arith, ℤ, pos, neg_ℤ, List}
+use Rattle.exact_solutions.proofs.Common.{length, All, Bool, true, false, cond, mul-pos, int_max, AllZip, zero-*ℤ, ints, clamps, Same, total, total_mono}
 use Rattle.exact_solutions.proofs.Common.{mul_assoc, mul_mono, sum_below, sum_inside, deep_flow, AreLinked, share, SolvesStep, ExactCell, cell_at, no_cell}
-use Rattle.exact_solutions.proofs.Common.{IsMutual, whole_solves, mutual_whole, FixedOver, RiverOver, DrainOver, EvapOver, CellOver}
-use Rattle.exact_solutions.proofs.Common.{IsOver-none, sub_mul, WholeEntry, WholeCell, whole_at, no_whole, whole_link, whole_fixed}
-use Rattle.exact_solutions.proofs.Common.{whole_river, whole_drain, whole_evap, whole_balance, whole_deep_river, whole_full, whole_deep, whole_step, AllZip-at}
-use Rattle.exact_solutions.proofs.Common.{AllZip-length, All-zip, le_anti, deep_over, IsLoose, DrainedHaveAnother, AfloatHaveAnother, closed_cancel, le-trans}
-use Rattle.exact_solutions.proofs.Common.{sum_below-tight, heads_over, whole_falls, *ℤ-zero, loss_falls, none_shared, sum_inside-add}
-use Rattle.cell_balance.proofs.Dry.{total-none}
-use Rattle.cell_balance.proofs.Sums.{sum_inside-zero}
-use Rattle.cell_balance.proofs.ExactLaws.{same_length, cell_over, closed_whole}
+use Rattle.exact_solutions.proofs.Common.{IsMutual, whole_solves, mutual_whole, FixedOver, RiverOver, DrainOver, EvapOver, CellOver, IsOver-none, sub_mul}
+use Rattle.exact_solutions.proofs.Common.{WholeEntry, WholeCell, whole_at, no_whole, whole_link, whole_fixed, whole_river, whole_drain, whole_evap}
+use Rattle.exact_solutions.proofs.Common.{whole_balance, whole_deep_river, whole_full, whole_deep, whole_step, AllZip-at, AllZip-length, All-zip, le_anti}
+use Rattle.exact_solutions.proofs.Common.{deep_over, IsLoose, DrainedHaveAnother, AfloatHaveAnother, closed_cancel, le-trans, sum_below-tight, heads_over}
+use Rattle.exact_solutions.proofs.Common.{whole_falls, *ℤ-zero, loss_falls, none_shared, sum_inside-add, total-none, sum_inside-zero, same_length, cell_over}
+use Rattle.exact_solutions.proofs.Common.{closed_whole}
 use Rattle.cell_balance.proofs.Enclosing.{over_le, IsOver-inside}
 use Rattle.exact_solutions.proofs.WholeSolutions.{without_links, lowered, balance-links, lowered_balances, whole_balances_solve}
 use Rattle.exact_solutions.proofs.HeldSteps.{same_crossed}
@@ -26,7 +23,8 @@ nothing_times c z e = rw (e, zero-*ℤ z) refl
 flows_at_most_deep : (u : WholeCell) (v : ℤ) (h : ℕ → ℤ) → All (λ x. x.c ≡ 0) u.fixed → length u.evaps ≡ 0 → whole_balance (without_links u) v h ≤ℤ whole_deep u
 flows_at_most_deep u v h fixed evaps =
     omega (
-      arith, ints,
+      arith,
+      ints,
       total-none (λ x. x.c ≡ 0) (whole_fixed v) u.fixed (λ x e. nothing_times x.c (x.top -ℤ v) e) fixed,
       total-no_length (whole_evap v) u.evaps evaps,
       total-no_length whole_full u.evaps evaps,
@@ -45,7 +43,8 @@ flows_at_most_deep u v h fixed evaps =
 flows_constant : (u : WholeCell) (v : ℤ) (h : ℕ → ℤ) → All (λ x. x.c ≡ 0) u.fixed → All (λ x. x.c ≡ 0) u.rivers → All (λ x. x.c ≡ 0) u.drains → length u.evaps ≡ 0 → whole_balance (without_links u) v h ≡ total (λ q. q) u.flows
 flows_constant u v h fixed rivers drains evaps =
     omega (
-      arith, ints,
+      arith,
+      ints,
       total-none (λ x. x.c ≡ 0) (whole_fixed v) u.fixed (λ x e. nothing_times x.c (x.top -ℤ v) e) fixed,
       total-none (λ x. x.c ≡ 0) (whole_river v) u.rivers (λ x e. nothing_times x.c (x.top -ℤ int_max v x.foot) e) rivers,
       total-none (λ x. x.c ≡ 0) (whole_drain v) u.drains (λ x e. ap neg_ℤ (nothing_times x.c (int_max (v -ℤ x.foot) (pos 0)) e)) drains,
@@ -65,7 +64,8 @@ module _ (e : List ExactCell) (inside : ℕ → Bool) (linked : AreLinked e) (lo
       deep_reached : (c : ℕ) → c < length w → inside c ≡ true → whole_deep (whole_at w c) ≤ℤ whole_balance (without_links (whole_at w c)) (Y c) Y
       deep_reached c i t =
           omega (
-            arith, ints,
+            arith,
+            ints,
             balance-links (whole_at w c) (Y c) Y,
             (rw t at (sum_below-tight (length w) (λ c. cond (inside c) (whole_balance (whole_at w c) (Y c) Y) (pos 0)) (λ c. cond (inside c) (total (whole_link Y (Y c)) (whole_at w c).links +ℤ whole_deep (whole_at w c)) (pos 0)) (λ c i. less c i (inside c) refl) sums c i)),
           )
@@ -79,7 +79,8 @@ module _ (e : List ExactCell) (inside : ℕ → Bool) (linked : AreLinked e) (lo
           sums : sum_below (length w) (λ c. cond (inside c) (total (whole_link Y (Y c)) (whole_at w c).links +ℤ whole_deep (whole_at w c)) (pos 0)) ≤ℤ sum_below (length w) (λ c. cond (inside c) (whole_balance (whole_at w c) (Y c) Y) (pos 0))
           sums =
               omega (
-                arith, ints,
+                arith,
+                ints,
                 sum_inside-add (length w) inside (λ c. total (whole_link Y (Y c)) (whole_at w c).links) (λ c. whole_deep (whole_at w c)),
                 closed_cancel w inside Y both (closed_whole k m e w over inside loose.closed),
                 sum_inside-zero (length w) inside (λ c. whole_balance (whole_at w c) (Y c) Y) zeros,
