@@ -80,20 +80,17 @@ plus_encloses a b c d k f g p q =
 pub none_encloses : (k : ℕ) → EnclosesSigned (pos 0) (pos 0) k (whole (pos 0))
 none_encloses k = enclosed_over (pos 0) (pos 0) k 1 (whole (pos 0)) (pos 0) (omega arith) (IsOver-none (1 * 10 ^ k)) (omega (arith, ints)) (omega (arith, ints))
 
-pub greater_encloses : (a b : ℤ) (k : ℕ) (f : Fraction) → EnclosesSigned a b k f → EnclosesSigned (int_max a (pos 0)) (int_max b (pos 0)) k (greater f (whole (pos 0)))
-greater_encloses a b k f p =
+-- what of an enclosed flow goes in is its positive part, and what goes out that of the negated flow
+pub in_encloses : (a b : ℤ) (k : ℕ) (f : Fraction) → EnclosesSigned a b k f → EnclosesSigned (int_max a (pos 0)) (int_max b (pos 0)) k (greater f (whole (pos 0)))
+in_encloses a b k f p =
     let n = den f in
     let (z, over) = fraction_over n (10 ^ k) f (same (den f)) in
     let inside = between_over a b k n f z p over in
     enclosed_over _ _ k n (greater f (whole (pos 0))) (int_max z (pos 0)) (omega arith) (IsOver-greater (n * 10 ^ k) f (whole (pos 0)) z (pos 0) over (IsOver-none (n * 10 ^ k)))
     (rw (max_times, zero-*ℤ) (omega (arith, ints, clamps, inside.lower))) (rw (max_times, zero-*ℤ) (omega (arith, ints, clamps, inside.upper)))
 
--- what of an enclosed flow goes in is its positive part, and what goes out that of the negated flow
-pub in_encloses : (a b : ℤ) (k : ℕ) (f : Fraction) → EnclosesSigned a b k f → EnclosesSigned (int_max a (pos 0)) (int_max b (pos 0)) k (greater f (whole (pos 0)))
-in_encloses = greater_encloses
-
 pub out_encloses : (a b : ℤ) (k : ℕ) (f : Fraction) → EnclosesSigned a b k f → EnclosesSigned (int_max (neg_ℤ b) (pos 0)) (int_max (neg_ℤ a) (pos 0)) k (greater (negated f) (whole (pos 0)))
-out_encloses a b k f h = greater_encloses (neg_ℤ b) (neg_ℤ a) k (negated f) (negated_enclosed a b k f h)
+out_encloses a b k f h = in_encloses (neg_ℤ b) (neg_ℤ a) k (negated f) (negated_enclosed a b k f h)
 
 -- over lists that are related place by place
 pub total_encloses : {X Y : Type 0} (R : X → Y → Type 0) (lo hi : X → ℤ) (k : ℕ) (f : Y → Fraction) → ((x : X) (y : Y) → R x y → EnclosesSigned (lo x) (hi x) k (f y)) → (xs : List X) (ys : List Y) → AllZip R xs ys → EnclosesSigned (total lo xs) (total hi xs) k (fraction_total f ys)

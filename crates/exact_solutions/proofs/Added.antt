@@ -1,7 +1,7 @@
 -- A step with all heads higher, with one ramp more, or with a conductance and a flow more at one cell.
 use Rattle.exact_solutions.proofs.Common.{mul_mono, ◌*ℤ◌, ◌+ℤ◌, ◌+◌, ◌-ℤ◌, ◌<◌, ◌∷◌, ◌≡◌, ◌≤ℤ◌, Bool, List, ap, arith, cond, false, nat_eq, pos, refl, suc}
-use Rattle.exact_solutions.proofs.Common.{true, ℕ, ℤ, sym, zero, eq-eqb, ne_eqb, ints, total, as_diff, diffs, same_diff, sum-same, sum_at_most, Ramp, ramp_flow}
-use Rattle.exact_solutions.proofs.Common.{link_flow, net_flow, deep, IsHeldFromBelow, flows_fall, *ℤ-zero, sum_below}
+use Rattle.exact_solutions.proofs.Common.{true, ℕ, ℤ, sym, zero, eq-eqb, ne_eqb, ints, total, as_diff, diffs, same_diff, sum-same, sum_inside_at_most, Ramp}
+use Rattle.exact_solutions.proofs.Common.{ramp_flow, link_flow, net_flow, deep, IsHeldFromBelow, flows_fall, *ℤ-zero, sum_below}
 
 module _ (n : ℕ) (a : ℕ → ℕ → ℤ) where
   -- all heads higher by k
@@ -33,13 +33,9 @@ module _ (n : ℕ) (a : ℕ → ℕ → ℤ) where
         record {
           closed = carried.closed;
           within = carried.within;
-          carries = omega (arith, ints, carried.carries, sum_at_most n (λ k. cond (T k) (deep n a b q rs k) (pos 0)) (λ k. cond (T k) (deep n a b' q' rs' k) (pos 0)) (λ k j. cell T (λ i e. more i e) carried.within k j (T k) refl));
+          carries = omega (arith, ints, carried.carries, sum_inside_at_most n T (deep n a b q rs) (deep n a b' q' rs') (λ k j e. more k j (none k j (carried.within k j e))));
         },
       )
-    where
-      cell : (T : ℕ → Bool) → ((i : ℕ) → i < n → b' i ≡ 0 → deep n a b q rs i ≤ℤ deep n a b' q' rs' i) → ((i : ℕ) → i < n → T i ≡ true → S i ≡ true) → (k : ℕ) → k < n → (s : Bool) → T k ≡ s → cond s (deep n a b q rs k) (pos 0) ≤ℤ cond s (deep n a b' q' rs' k) (pos 0)
-      cell T more within k j true e = more k j (none k j (within k j e))
-      cell T more within k j false e = omega (arith, ints)
 
 -- b with v more at cell c
 pub conductance_added : ℕ → ℕ → (ℕ → ℕ) → ℕ → ℕ

@@ -21,7 +21,7 @@ pub use Rattle.cell_balance.proofs.Ramps.{AreMutual, HasSinking, HasWholeSolutio
 pub use Rattle.cell_balance.proofs.Ramps.{deep, extent-between, full_rate, link_flow, net_flow, open_conductance, open_conductance_at, ramp_flow, rise}
 pub use Rattle.cell_balance.proofs.Ramps.{rise-above_top, rise-below_foot, rise-between, rise-no_extent, rise-no_top, rise_within_extent, rise_within_height}
 pub use Rattle.cell_balance.proofs.Scaling.{IsOver-none, cancel_le, max_times, min_times, none_shared, over_zero, positive_natural}
-pub use Rattle.cell_balance.proofs.Sums.{carried_gain, sum-same, sum-times, sum_at_most, sum_inside-add, sum_inside-zero, sum_nonneg}
+pub use Rattle.cell_balance.proofs.Sums.{carried_gain, sum-same, sum-times, sum_inside-add, sum_inside-zero, sum_inside_at_most, sum_nonneg}
 pub use Rattle.cell_balance.proofs.WholeBalances.{a_of, b_of, q_of, ramps_at_cell, ramps_from, scaled, scaled_balance, scaled_entry}
 pub use Rattle.cell_balance.proofs.Zips.{All-zip, AllZip-at, AllZip-length, CellWithin, DrainWithin, RiverWithin, WholeCell, WholeEntry, WholeLink, no_whole}
 pub use Rattle.cell_balance.proofs.Zips.{whole_at, whole_balance, whole_deep, whole_deep_river, whole_drain, whole_evap, whole_fixed, whole_full, whole_link}
