@@ -49,10 +49,7 @@ own z Storage = refl
 own z x = refl
 
 left_over : (z : Term → ℤ) → total z all_terms ≡ pos 0 → (t : Term) → z t ≡ neg_ℤ (total z (others t))
-left_over z none t = turn (total z all_terms) (total z (filter (λ x. is_term x t) all_terms)) (total z (others t)) (z t) (split (λ x. is_term x t) z all_terms) (own z t) none
-  where
-    turn : (s o r y : ℤ) → s ≡ o +ℤ r → o ≡ y +ℤ pos 0 → s ≡ pos 0 → y ≡ neg_ℤ r
-    turn s o r y e f g = omega (arith, ints)
+left_over z none t = omega (arith, ints, split (λ x. is_term x t) z all_terms, own z t)
 
 as_differences : (k : ℕ) (a b c d : ℤ) (f : Fraction) → EnclosesSigned (a +ℤ neg_ℤ b) (c +ℤ neg_ℤ d) k f → EnclosesSigned (a -ℤ b) (c -ℤ d) k f
 as_differences k a b c d f h = rw (sub_is a b, sub_is c d) h

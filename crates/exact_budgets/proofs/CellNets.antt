@@ -56,10 +56,9 @@ module _ (k m : ℕ) (v : Fraction) (y : ℤ) (own : IsOver m v y) (c : ExactCel
 
   pub nets_balance : (Y : ℕ → ℤ) → whole_balance w y Y ≡ total (whole_link Y y) w.links +ℤ total net_of all_terms
   nets_balance Y =
-      regroup (total (λ (q : ℤ). q) w.flows) (total (whole_link Y y) w.links) (total (whole_fixed y) w.fixed) (total (whole_river y) w.rivers) (total (whole_drain y) w.drains) (total (whole_evap y) w.evaps)
-      (net_of Storage) (net_of ConstantHead) (net_of HeadDepBounds) (net_of Wells) (net_of Recharge)
-      (total_by_three (FixedOver k m) (whole_fixed y) (is_fixed Storage) (is_fixed ConstantHead) (is_fixed HeadDepBounds) (λ x a. one_of_three x.kind a) c.fixed w.fixed over.fixed)
-      (total_by_two (FlowOver k m) (λ (q : ℤ). q) (is_flow Wells) (is_flow Recharge) (λ x a. one_of_two x.kind a) c.flows w.flows over.flows)
-    where
-      regroup : (q l f r d v s c g w n : ℤ) → f ≡ s +ℤ c +ℤ g → q ≡ w +ℤ n → q +ℤ l +ℤ f +ℤ r +ℤ d +ℤ v ≡ l +ℤ (s +ℤ (c +ℤ (w +ℤ (d +ℤ (r +ℤ (g +ℤ (n +ℤ (v +ℤ pos 0))))))))
-      regroup q l f r d v s c g w n e h = omega (arith, ints)
+      omega (
+        arith,
+        ints,
+        total_by_three (FixedOver k m) (whole_fixed y) (is_fixed Storage) (is_fixed ConstantHead) (is_fixed HeadDepBounds) (λ x a. one_of_three x.kind a) c.fixed w.fixed over.fixed,
+        total_by_two (FlowOver k m) (λ (q : ℤ). q) (is_flow Wells) (is_flow Recharge) (λ x a. one_of_two x.kind a) c.flows w.flows over.flows,
+      )

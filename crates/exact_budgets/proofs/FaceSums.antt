@@ -65,13 +65,10 @@ module _ (D : ℕ) (zones : List ℕ) (h : ℕ → Fraction) (u v : ℕ) (some :
       flow : Fraction
       flow = times (signed c) (minus (h x) (h y))
 
-      ordered : is_lower_zone u v ≡ true
-      ordered = grind (arith, nat_tests)
-
       lower : t ≡ true → is_lower_zone (slice_index zones x) (slice_index zones y) ≡ true
       lower f =
           let both = and_parts (slice_index zones x == u) (slice_index zones y == v) (rw f at e) in
-          rw (eqb-true (slice_index zones x) u both.0, eqb-true (slice_index zones y) v both.1) ordered
+          rw (eqb-true (slice_index zones x) u both.0, eqb-true (slice_index zones y) v both.1) (grind (arith, nat_tests))
 
       by_test : (t low : Bool) → leads x y ≡ t → (t ≡ true → IsOver D (times (signed c) (minus (h x) (h y))) q) → (t ≡ true → low ≡ true) → Between (cond low (record { from = slice_index zones x; to = slice_index zones y; flow = times (signed c) (minus (h x) (h y)) } ∷ []) []) (cond t q (pos 0))
       by_test true true e over f = (q, pos 0, subst (λ (b : Bool). Counts D (is_exact_between u v) b (times (signed c) (minus (h x) (h y))) q) (sym e) (over refl), refl, omega (arith, ints))

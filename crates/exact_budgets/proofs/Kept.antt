@@ -94,11 +94,7 @@ module _ {X Y : Type 0} (R : X → Y → Type 0) (g : Y → ℤ) where
   total_by_three p q r one [] (y ∷ ys) h = absurd h
   total_by_three p q r one (x ∷ xs) [] h = absurd h
   total_by_three p q r one (x ∷ xs) (y ∷ ys) h =
-      regroup (cond (p x) (g y) (pos 0)) (cond (q x) (g y) (pos 0)) (cond (r x) (g y) (pos 0)) (g y) (total g ys) (kept p g xs ys) (kept q g xs ys) (kept r g xs ys)
-      (one x (g y)) (total_by_three p q r one xs ys h.1)
-    where
-      regroup : (a b c z t x y w : ℤ) → a +ℤ b +ℤ c ≡ z → t ≡ x +ℤ y +ℤ w → z +ℤ t ≡ a +ℤ x +ℤ (b +ℤ y) +ℤ (c +ℤ w)
-      regroup a b c z t x y w e h = omega (arith, ints)
+      omega (arith, ints, one x (g y), total_by_three p q r one xs ys h.1)
 
   pub total_by_two : (p q : X → Bool) → ((x : X) (a : ℤ) → cond (p x) a (pos 0) +ℤ cond (q x) a (pos 0) ≡ a) → (xs : List X) (ys : List Y) → AllZip R xs ys → total g ys ≡ kept p g xs ys +ℤ kept q g xs ys
   total_by_two p q one [] [] h = refl

@@ -147,10 +147,7 @@ module _ (zones : List ℕ) (e : List ExactCell) (i b : ℕ) (h : ℕ → Fracti
           own_share =
               let links = kept_turned (crosses a b some less i) to_links (λ (y : WholeLink). pos y.c *ℤ (H i -ℤ H y.cell)) (whole_link H (H i)) (λ x. rw same_zone refl) (λ y. turned (pos y.c) (H i) (H y.cell)) (cell_at e i).links (whole_at w i).links in
               let heads = kept_turned to_known to_known (λ y. neg_ℤ (whole_fixed (H i) y)) (whole_fixed (H i)) (λ x. refl) (λ y. refl) (cell_at e i).fixed (whole_at w i).fixed in
-              rw (eq-eqb i i refl) (sums _ _ linked known links heads)
-            where
-              sums : (p q x y : ℤ) → p ≡ neg_ℤ x → q ≡ neg_ℤ y → p +ℤ q ≡ neg_ℤ (x +ℤ y) *ℤ pos 1
-              sums p q x y f g = omega (arith, ints)
+              rw (eq-eqb i i refl) (omega (arith, ints))
 
       pub higher : 0 < k * m → Same (exact_flow a b (exact_faces zones h e)) (negated (inflow_from zones e i h b))
       unfolding shares
@@ -236,10 +233,7 @@ module _ (zones : List ℕ) (e : List ExactCell) (i b : ℕ) (h : ℕ → Fracti
           let links = over_links ∙ by_weight (length e) (whole_at w i).links drop range in
           let sum = sum-add (length e) (λ j. cond (nat_eq i j) known (pos 0) *ℤ pos 1) (λ j. weight (whole_at w i).links j *ℤ drop j) in
           let own = sum-one (length e) i known (λ j. pos 1) alone.inside in
-          same_over (k * m) _ _ _ _ some_product (all_cells b a some less inflows each_inflow) inflow_over (sums _ _ _ linked known sum own links)
-        where
-          sums : (s p q l g : ℤ) → s ≡ p +ℤ q → p ≡ g *ℤ pos 1 → l ≡ q → s ≡ l +ℤ g
-          sums s p q l g x y z = omega (arith, ints)
+          same_over (k * m) _ _ _ _ some_product (all_cells b a some less inflows each_inflow) inflow_over (omega (arith, ints))
 
 -- a common denominator of the heads
 goes_at : (h : ℕ → Fraction) (e : List ExactCell) (j : ℕ) → Goes (den (h (cell_at e j).id)) (den (h 0) * product (λ (c : ExactCell). den (h c.id)) e)
@@ -254,12 +248,9 @@ lone_cells zones e i b h alone some zone heads =
     let some_d : 0 < d = mul-pos (omega arith) (some_product (λ (c : ExactCell). den (h c.id)) (λ c. omega arith) e) in
     let (w, over) = whole_step n 1 d e common in
     let H = λ (j : ℕ). (fraction_over d n (h (cell_at e j).id) (goes_at h e j)).0 in
-    let is = λ (j : ℕ). subst (λ (z : ℕ). IsOver z (h (cell_at e j).id) (H j)) (comm d n) (fraction_over d n (h (cell_at e j).id) (goes_at h e j)).1 in
+    let is = λ (j : ℕ). subst (λ (z : ℕ). IsOver z (h (cell_at e j).id) (H j)) (omega arith) (fraction_over d n (h (cell_at e j).id) (goes_at h e j)).1 in
     let positive = mul-pos {m = n * 1} {n = n * d} (omega arith) (mul-pos some_n some_d) in
     record {
       higher = λ low. higher zones e i b h alone (λ s. omega (arith, s, low)) heads (n * 1) (n * d) w over H is some low positive;
       lower = λ linked low. lower zones e i b h alone (λ s. omega (arith, s, low)) heads (n * 1) (n * d) w over H is zone low linked (mutual_whole (n * 1) (n * d) e w linked over) positive;
     }
-  where
-    comm : (a b : ℕ) → a * b ≡ b * a
-    comm a b = omega arith
