@@ -13,12 +13,7 @@ fn is_first_there(links: &[Link], j: usize) -> bool
     ensures { IsTrue result ↔ ((i : ℕ) → i < j → (link_at links.now i).cell ≡ (link_at links.now j).cell → ⊥) }
 {
     let end = links[j].cell;
-    for i in 0..j {
-        if links[i].cell == end {
-            return false;
-        }
-    }
-    true
+    links[..j].iter().all(|x| x.cell != end)
 }
 
 fn ends_differ(links: &[Link]) -> bool
