@@ -1,7 +1,7 @@
 -- The decimal digits of a number spell it, and so do those of an integer.
 use Rattle.array_text.proofs.Common.{◌≡◌, ℕ, suc, ◌+◌, ◌-◌, ◌*◌, ◌/◌, ◌%◌, ◌^◌, ◌<◌, ◌≤◌, true, false, inl, inr, List, [], ◌∷◌, ◌++◌, length, refl, sym, ap}
-use Rattle.array_text.proofs.Common.{◌∙◌, arith, ℤ, pos, negsuc, neg_ℤ, unsigned_abs, decimal, signed_decimal, length_push, All-nil, All-cons, All-push}
-use Rattle.array_text.proofs.Common.{nat_tests, is_digit, number_from, AreDigits, IsInteger, number_append}
+use Rattle.array_text.proofs.Common.{◌∙◌, arith, ℤ, pos, negsuc, neg_ℤ, unsigned_abs, decimal, signed_decimal, length_push, All-push, nat_tests, is_digit}
+use Rattle.array_text.proofs.Common.{number_from, AreDigits, IsInteger, number_append}
 use Rattle.std.proofs.lemmas.Fmt.{decimal_by_steps, length-decimal-le}
 
 -- at least one digit, which spell n
@@ -14,11 +14,7 @@ digit_byte : (n : ℕ) → n < 10 → is_digit (48 + n) ≡ true
 digit_byte n h = grind (arith, nat_tests)
 
 one_digit : (n : ℕ) → n < 10 → AreDigitsOf n ((48 + n) ∷ [])
-one_digit n h = record {
-  digits = All-cons (λ b. is_digit b ≡ true) (48 + n) [] (digit_byte n h) (All-nil (λ b. is_digit b ≡ true));
-  some = omega arith;
-  value = omega arith;
-}
+one_digit n h = grind (arith, digit_byte)
 
 one_more_digit : (n : ℕ) (ds : List ℕ) → 10 ≤ n → AreDigitsOf (n / 10) ds → AreDigitsOf n (ds ++ ((48 + n % 10) ∷ []))
 one_more_digit n ds h s = record {

@@ -1,7 +1,7 @@
 -- The word of a number is read as that number, also where it is multiplied by 1.
-use Rattle.array_text.proofs.Common.{◌≡◌, ℕ, ◌*◌, ◌%◌, ◌^◌, ◌<◌, ◌≤◌, ◌⊎◌, Bool, true, false, inl, inr, List, [], ◌∷◌, ◌++◌, length, Ok, refl, sym, ap, ◌∙◌}
-use Rattle.array_text.proofs.Common.{arith, ℤ, pos, negsuc, neg_ℤ, ◌+ℤ◌, ◌-ℤ◌, ◌≤ℤ◌, unsigned_abs, decimal, signed_decimal, append-nil, length-append, ints}
-use Rattle.array_text.proofs.Common.{Dec, IsDec, number_from, IsSign, IsExponent, Spells, names_read, reads_spelt, number, integer, product, sign, number_word}
+use Rattle.array_text.proofs.Common.{◌≡◌, ℕ, ◌*◌, ◌^◌, ◌<◌, ◌≤◌, Bool, true, false, inl, inr, List, [], ◌∷◌, ◌++◌, length, Ok, refl, sym, ap, ◌∙◌, arith, ℤ}
+use Rattle.array_text.proofs.Common.{pos, negsuc, neg_ℤ, ◌+ℤ◌, ◌-ℤ◌, ◌≤ℤ◌, unsigned_abs, decimal, signed_decimal, append-nil, length-append, ints, Dec, IsDec}
+use Rattle.array_text.proofs.Common.{number_from, IsSign, IsExponent, Spells, names_read, reads_spelt, number, integer, product, sign, number_word}
 use Rattle.array_text.proofs.Common.{integer_word, IsShort, IsTested, IsCanonical, differ, is_word_number, is_product, integers_are, WordsReadAsWritten}
 use Rattle.array_text.proofs.DigitTexts.{digits_spell, few_digits, integer_spells, few_bytes}
 
@@ -71,20 +71,11 @@ same_number : (d : Dec) (n : Bool) (c : ℕ) (e : ℤ) → d.neg ≡ n → d.dig
 same_number d n c e p q r = rw (← p, ← q, ← r) refl
 
 is_tested : (d : Dec) (e : ℤ) → e ≡ d.exp → IsDec d → IsTested d.neg d.digits e (Ok d)
-is_tested d e same h = record {
-  many = λ many. absurd (omega (arith, h.few));
-  low = λ few low. absurd (omega (arith, ints, h.above));
-  high = λ few high. absurd (omega (arith, ints, h.below));
-  good = λ few low high. rw same refl;
-}
+is_tested d e same h = grind (arith)
 
 -- a canonical number is the canonical form of itself
 pub is_itself : (d : Dec) (c : ℕ) (e : ℤ) → c ≡ d.digits → e ≡ d.exp → IsDec d → IsCanonical d.neg c e (Ok d)
-is_itself d c e p q h = by_form h.form
-  where
-    by_form : ((d.digits ≡ 0) × (d.neg ≡ false) × (d.exp ≡ pos 0)) ⊎ ((0 < d.digits) × (0 < d.digits % 10)) → IsCanonical d.neg c e (Ok d)
-    by_form (inl (none, plus, no_exponent)) = inl (p ∙ none, ap (λ (x : Dec). Ok x) (same_number d false 0 (pos 0) plus none no_exponent))
-    by_form (inr (some, last)) = inr (d.digits, 0, record { whole = omega arith; last = last }, is_tested d (e +ℤ pos 0) (omega (arith, ints)) h)
+is_itself d c e p q h = grind (arith, same_number, is_tested)
 
 pub number_reads : (d : Dec) → IsDec d → number (number_word d) ≡ Ok d
 number_reads d h =

@@ -29,13 +29,7 @@ pub all_pass : {X : Type 0} (p : X → Bool) (P : X → Type 0) → ((x : X) →
 all_pass p P f xs h = All-weaker (λ x. p x ≡ true) P f xs (AllPass-from_list_all p xs h)
 
 byte_by_test : (b : ℕ) → is_word_byte b ≡ true → IsWordByte b
-byte_by_test b h =
-    let first = and_parts (nat_le 33 b) _ h in
-    let second = and_parts (nat_le b 126) _ first.1 in
-    let third = and_parts (not (b == 44)) _ second.1 in
-    let no_comma : b ≡ 44 → ⊥ = λ e. grind (arith, nat_tests, third.0) in
-    let no_star : b ≡ 42 → ⊥ = λ e. grind (arith, nat_tests, third.1) in
-    record { printable = (grind (arith, nat_tests, first.0), grind (arith, nat_tests, second.0)); no_comma = no_comma; no_star = no_star }
+byte_by_test b h = grind (arith, and_parts, nat_le, nat_tests, no_star)
 
 pub word_by_test : (w : List ℕ) → is_plain_word w ≡ true → IsWord w
 word_by_test w h =
@@ -48,10 +42,7 @@ line_by_test line h =
     record { some = grind (arith, nat_tests, k.0); words = all_pass is_plain_word (λ w. IsWord w) word_by_test line k.1 }
 
 digit_byte : (b : ℕ) → is_digit b ≡ true → IsWordByte b
-digit_byte b h =
-    let low : 48 ≤ b = grind (arith, nat_tests) in
-    let high : b ≤ 57 = grind (arith, nat_tests) in
-    record { printable = (omega arith, omega arith); no_comma = λ e. omega arith; no_star = λ e. omega arith }
+digit_byte b h = grind (arith, nat_tests, no_star)
 
 decimal_bytes : (n : ℕ) → n < 10 ^ 18 → All (λ b. IsWordByte b) (decimal n)
 decimal_bytes n h = All-weaker (λ b. is_digit b ≡ true) (λ b. IsWordByte b) digit_byte (decimal n) (digits_spell n h).digits

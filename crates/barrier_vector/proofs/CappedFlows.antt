@@ -46,11 +46,7 @@ drop_far : (q lo : ℕ) → 2 ^ 126 ≤ q → 0 < lo → lo < 2 ^ 60 → path_li
 drop_far q lo great some small = (le-div_iff_mul-le some).1 (omega arith)
 
 cut_drop : (q lo : ℕ) → 0 < lo → lo < 2 ^ 60 → min (ceil_over (capped_flow q) lo) path_limit ≡ min (ceil_over q lo) path_limit
-cut_drop q lo some small =
-    elim (cases_lt q (2 ^ 126)) [
-      | inl less ↦ let is : capped_flow q ≡ q = omega (arith, less) in ap (λ (n : ℕ). min (ceil_over n lo) path_limit) is
-      | inr great ↦ let a = drop_far q lo great some small in let b = drop_far (capped_flow q) lo (omega (arith, great)) some small in omega (arith, a, b)
-    ]
+cut_drop q lo some small = grind (arith, cases_lt, drop_far)
 
 cut_sum : (a b r t limit : ℕ) → min a limit ≡ min b limit → min r limit ≡ min t limit → min (a + r) limit ≡ min (b + t) limit
 cut_sum a b r t limit e f = omega (arith, e, f)

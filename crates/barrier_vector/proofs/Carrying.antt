@@ -104,6 +104,4 @@ components_made p ok labels least levels inner totals l drops found whole sums t
 
 -- a label is a cell of the problem
 pub label_in : (p : List Entries) → IsProblem p → (labels l : List (Option ℕ)) → l ≡ labels → AreLabels p labels (length p) → (k m : ℕ) → mark_at l k ≡ Some m → m < length p
-label_in p ok labels l e a k m is =
-    let is' = rw e at is in
-    label_within p ok labels a k m (omega (arith, marked_within labels k m is', a.whole)) is'
+label_in p ok labels l e a k m is = grind (arith, label_within, marked_within)

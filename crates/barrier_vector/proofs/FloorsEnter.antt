@@ -1,6 +1,6 @@
 -- What enters the cells below a head over their links, in all no more than the needs of all cells: besides their links cells get no less than what they need.
-use Rattle.barrier_vector.proofs.Common.{◌≡◌, ℕ, ◌<◌, refl, sym, ◌∙◌, arith, ℤ, pos, ◌+ℤ◌, ◌-ℤ◌, ◌≤ℤ◌, ◌<ℤ◌, List, length, Bool, true, false, cond, zero, suc}
-use Rattle.barrier_vector.proofs.Common.{◌+◌, ◌≤◌, subst, ◌*ℤ◌, [], ◌∷◌, get_or, take, sum_by, All, Contains, ints, lt_z, true_is_lt, lt_out, total, entries_at}
+use Rattle.barrier_vector.proofs.Common.{◌≡◌, ℕ, ◌<◌, refl, sym, ◌∙◌, arith, ℤ, pos, ◌+ℤ◌, ◌≤ℤ◌, ◌<ℤ◌, List, length, Bool, true, false, cond, zero, suc, ◌+◌}
+use Rattle.barrier_vector.proofs.Common.{◌≤◌, subst, ◌*ℤ◌, [], ◌∷◌, get_or, take, sum_by, All, Contains, ints, lt_z, true_is_lt, lt_out, total, entries_at}
 use Rattle.barrier_vector.proofs.Common.{no_entries, mul_nonneg, sum_inside, sum_below, total_nonneg, add_mul, sum-add, sum-same, term-le-sum, IsMutual}
 use Rattle.barrier_vector.proofs.Common.{cut_link, cut_links, WholeLink, WholeCell, whole_link, whole_at, AllZip-at, AllZip-length, AllZip, sum_inside-zero}
 use Rattle.barrier_vector.proofs.Common.{sum_by_more, All-head, All-tail, Contains-get_or, Entries}
@@ -13,11 +13,7 @@ lies_below Y t k = lt_z (Y k) t
 
 -- no flow over a cut link leaves the cells below t
 pub cut_enters : (Y : ℕ → ℤ) (t y : ℤ) → y <ℤ t → (x : WholeLink) → pos 0 ≤ℤ cut_link (lies_below Y t) Y y x
-cut_enters Y t y h x = by_test (lt_z (Y x.cell) t) refl
-  where
-    by_test : (b : Bool) → lt_z (Y x.cell) t ≡ b → pos 0 ≤ℤ cond b (pos 0) (whole_link Y y x)
-    by_test true e = omega (arith, ints)
-    by_test false e = mul_nonneg (pos x.c) (Y x.cell -ℤ y) (omega (arith, ints)) (omega (arith, ints))
+cut_enters Y t y h x = grind (arith, whole_link, mul_nonneg)
 
 -- Y are heads; besides its links cell c gets `rest c`
 module _ (w : List WholeCell) (both : IsMutual w) (Y rest need : ℕ → ℤ) (t : ℤ)

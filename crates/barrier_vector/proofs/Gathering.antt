@@ -74,12 +74,7 @@ pub two_words : (s : Total) (flow rest q r : ℤ) → rest ≡ pos s.low +ℤ fl
 two_words s flow rest q r is eq er = rw (eq, er) (omega (arith, ints, euclid rest (2 ^ 64) (omega arith), rest_whole rest (2 ^ 64), is))
 
 pub not_positive : (b : Bool) (z : ℤ) → (pos 0 <ℤ z → b ≡ true) → b ≡ false → z ≤ℤ pos 0
-not_positive b z only e = elim (z_cases z) [ inl some ↦ let t = only some in absurd (cc (e, t)) | inr none ↦ none ]
-  where
-    z_cases : (y : ℤ) → (pos 0 <ℤ y) ⊎ (y ≤ℤ pos 0)
-    z_cases (pos zero) = inr (omega (arith, ints))
-    z_cases (pos (suc n)) = inl (omega (arith, ints))
-    z_cases (negsuc n) = inr (omega (arith, ints))
+not_positive b z only e = grind (arith, zero, negsuc)
 
 -- The paths of a frontier's cells, one after another, from those of the level before.
 -- where in a list a number stands

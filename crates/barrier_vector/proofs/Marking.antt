@@ -64,15 +64,7 @@ marked_outside : {X : Type 0} (side : Side) (mark : X → Option ℤ) (xs : List
 marked_outside side mark xs v (x, (k, h, is), e) = list_outside side mark xs v k x h (subst (λ o. LiesOutside side o v) (sym (ap mark is ∙ e)) (bounds_same side v))
 
 cell_outside : (side : Side) (c : Entries) (v : ℤ) → IsCellMark side c v → LiesOutside side (cell_mark side c) v
-cell_outside side c v m =
-    let fixed = outermost side (fixed_mark side) c.fixed in
-    let rivers = outermost side (river_mark side) c.rivers in
-    let drains = outermost side (drain_mark side) c.drains in
-    outer_outside side fixed (outer_of side rivers drains) v
-    (elim m as (λ n. LiesOutside side fixed v ⊎ LiesOutside side (outer_of side rivers drains) v) [
-      | inl x ↦ inl (marked_outside side (fixed_mark side) c.fixed v x)
-      | inr y ↦ inr (outer_outside side rivers drains v (elim y as (λ n. LiesOutside side rivers v ⊎ LiesOutside side drains v) [ inl x ↦ inl (marked_outside side (river_mark side) c.rivers v x) | inr x ↦ inr (marked_outside side (drain_mark side) c.drains v x) ]))
-    ])
+cell_outside side c v m = grind (arith, outer_outside, marked_outside)
 
 pub base_outside : (side : Side) (p : List Entries) (v : ℤ) → IsMarkBelow side p (length p) v → Bounds side (base_on side p) v
 base_outside side p v (c, h, m) = some (outermost side (cell_mark side) p) (list_outside side (cell_mark side) p v c no_entries h (cell_outside side (entries_at p c) v m))

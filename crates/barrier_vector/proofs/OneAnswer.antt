@@ -1,9 +1,7 @@
 -- A problem has one barrier or one refusal, and not both.
-use Rattle.barrier_vector.proofs.Common.{◌≡◌, ℕ, suc, ◌<◌, inl, inr, refl, sym, ◌∙◌, ap, subst, arith, List, [], ◌∷◌, length, ℤ, cases_lt, Side, Low, High}
-use Rattle.barrier_vector.proofs.Common.{NoBound, Entries, entries_at, head_at, IsProblem, IsHead, number_of, IsBoundOn, HasNoBound, IsOutOfRange, LeavesRange}
-use Rattle.barrier_vector.proofs.Common.{no_barrier_on, range_on, Nowhere, IsLeastWith, Names, IsRefusedOn, BarrierExcludesRefusal, RefusalIsOne}
-use Rattle.step_problem.specs.declared.place.Place.{Place}
-use Rattle.step_problem.specs.declared.place.Place.TheVariants.{Cell}
+use Rattle.barrier_vector.proofs.Common.{◌≡◌, ℕ, suc, ◌<◌, inl, inr, refl, ◌∙◌, ap, subst, arith, List, [], ◌∷◌, length, ℤ, cases_lt, Side, Low, High, NoBound}
+use Rattle.barrier_vector.proofs.Common.{Entries, head_at, IsProblem, IsHead, number_of, IsBoundOn, HasNoBound, IsOutOfRange, LeavesRange, no_barrier_on}
+use Rattle.barrier_vector.proofs.Common.{range_on, Nowhere, IsLeastWith, Names, IsRefusedOn, BarrierExcludesRefusal, RefusalIsOne}
 use Rattle.barrier_vector.proofs.Uniques.{bound_one, has_a_bound}
 use Rattle.barrier_vector.proofs.Sides.{head_in_range}
 
@@ -28,22 +26,10 @@ barrier_excludes_refusal p b n ok x (inr (nowhere, in_range, high)) = side_stand
 
 -- two refusals of one number at the least cell with one property
 least_is_one : (p : List Entries) (P : ℕ → Type 0) (c d : ℕ) → IsLeastWith p P c → IsLeastWith p P d → c ≡ d
-least_is_one p P c d x y =
-    elim (cases_lt c d) [
-      | inl less ↦ absurd (y.least c less x.has)
-      | inr more ↦ elim (cases_lt d c) [
-        | inl less ↦ absurd (x.least d less y.has)
-        | inr same ↦ omega (arith, more, same)
-      ]
-    ]
+least_is_one p P c d x y = grind (arith, cases_lt)
 
 named_is_one : (p : List Entries) (n m : NoBound) (number c d : ℕ) (side : Side) → Names p n number c side → Names p m number d side → c ≡ d → n ≡ m
-named_is_one p n m number c d side x y e =
-    let codes = x.code ∙ sym y.code in
-    let places = x.place ∙ ap (λ (k : ℕ). Cell (entries_at p k).id side) e ∙ sym y.place in
-    let by_code : ℕ → NoBound = λ k. record { code = k; place = n.place } in
-    let by_place : Place → NoBound = λ l. record { code = m.code; place = l } in
-    ap by_code codes ∙ ap by_place places
+named_is_one p n m number c d side x y e = grind (arith)
 
 pub same_least : (p : List Entries) (P : ℕ → Type 0) (n m : NoBound) (number c d : ℕ) (side : Side) → Names p n number c side → Names p m number d side → IsLeastWith p P c → IsLeastWith p P d → n ≡ m
 same_least p P n m number c d side x y first second = named_is_one p n m number c d side x y (least_is_one p P c d first second)

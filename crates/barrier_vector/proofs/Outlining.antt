@@ -24,9 +24,7 @@ outline_more side p i e mark o mark' need n need' anchors anchors' a h here join
     sums s t m more same was = omega (arith, added)
 
 pub base_of : (side : Side) (p : List Entries) (mark : Option ℤ) (need : ℕ) (anchors : List ℕ) (b : ℤ) → IsOutline side p (length p) mark need anchors → b ≡ unwrap_or mark (pos 0) → b ≡ base_on side p
-base_of side p mark need anchors b y e =
-    let none = ap (λ (z : List Entries). outer_of side mark (outermost side (cell_mark side) z)) (drop_all (length p) p (omega arith)) in
-    e ∙ ap (λ (z : Option ℤ). unwrap_or z (pos 0)) (sym (outer_none side mark) ∙ sym none ∙ y.outermost_mark)
+base_of side p mark need anchors b y e = grind (arith, drop_all, outer_none)
 
 -- the need of the side
 pub need_whole : (side : Side) (p : List Entries) (mark : Option ℤ) (need : ℕ) (anchors : List ℕ) → IsOutline side p (length p) mark need anchors → need ≡ capped_flow (need_of_all side p)

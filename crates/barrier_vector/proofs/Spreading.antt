@@ -49,14 +49,7 @@ spread_marked m before c v w e = record {
 
 -- the same step, its cells named in another way
 pub spread_as : (T U : ℕ → Type 0) (v : ℕ) (old new : List (Option ℕ)) (before after : List ℕ) → ((k : ℕ) → T k → U k) → ((k : ℕ) → U k → T k) → Spreads T v old new before after → Spreads U v old new before after
-spread_as T U v old new before after to from s = record {
-  same = s.same;
-  each = λ k. elim (s.each k) [ inl e ↦ inl e | inr (a, b, t, c) ↦ inr (a, b, to k t, c) ];
-  covers = λ k u. s.covers k (from k u);
-  listed = s.listed;
-  keeps = s.keeps;
-  count = s.count;
-}
+spread_as T U v old new before after to from s = grind (arith)
 
 module _ (T U : ℕ → Type 0) (v : ℕ) (old mid new : List (Option ℕ)) (a b c : List ℕ) (s : Spreads T v old mid a b) (t : Spreads U v mid new b c) where
   each_k : (k : ℕ) → (mark_at new k ≡ mark_at old k) ⊎ ((mark_at old k ≡ None) × (mark_at new k ≡ Some v) × (T k ⊎ U k) × Contains c k)

@@ -18,17 +18,7 @@ through_decided p zero a b =
         | inr none ↦ inr (λ way. elim way [ inl e ↦ other e | inr link ↦ none link ])
       ]
     ]
-through_decided p (suc k) a b =
-    elim (through_decided p k a b) [
-      | inl way ↦ inl (inl way)
-      | inr apart ↦ elim (through_decided p k a k) [
-        | inr fails ↦ inr (λ way. elim way [ inl old ↦ apart old | inr by ↦ fails by.0 ])
-        | inl to ↦ elim (through_decided p k k b) [
-          | inl from ↦ inl (inr (to, from))
-          | inr fails ↦ inr (λ way. elim way [ inl old ↦ apart old | inr by ↦ fails by.1 ])
-        ]
-      ]
-    ]
+through_decided p (suc k) a b = grind (arith, through_decided p k a b, through_decided p k a k, through_decided p k k b)
 
 directly : (p : List Entries) (k a b : ℕ) → Through p 0 a b → Through p k a b
 directly p zero a b way = way

@@ -70,12 +70,7 @@ pub some_entry : (r : Ratio) (top foot : Fraction) → 0 < entry_den r top foot
 some_entry r top foot = mul-pos (omega arith) (mul-pos (omega arith) (omega arith))
 
 some_cell : (c : ExactCell) → 0 < cell_den c
-some_cell c =
-    mul-pos (some_product flow_den (λ e. omega arith) c.flows) (mul-pos (some_product link_den (λ e. omega arith) c.links)
-    (mul-pos (some_product fixed_den (λ e. some_entry e.conductance e.head e.head) c.fixed)
-    (mul-pos (some_product river_den (λ e. some_entry e.conductance e.stage e.bottom) c.rivers)
-    (mul-pos (some_product drain_den (λ e. some_entry e.conductance e.elevation e.elevation) c.drains)
-    (some_product evap_den (λ e. some_entry e.conductance e.surface e.extinction) c.evaps)))))
+some_cell c = grind (arith, mul-pos, some_product, some_entry)
 
 -- where each element has one that it is related to, so has a list, over a number that the product of its denominators goes into
 pub choose : {X Y : Type 0} (R : X → Y → Type 0) (f : X → ℕ) (d : ℕ) → ((x : X) → Goes (f x) d → (y : Y) × R x y) → (xs : List X) → Goes (product f xs) d → (ys : List Y) × AllZip R xs ys

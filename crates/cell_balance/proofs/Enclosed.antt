@@ -6,7 +6,6 @@ use Rattle.cell_balance.proofs.Common.{LinkEncloses, FixedEncloses, RiverEnclose
 use Rattle.cell_balance.proofs.Common.{All-from_get_or, entries_at, no_entries, IsProblem, LinkFits, cell_at, no_cell, AreLinked, no_link, EnclosesStep}
 use Rattle.cell_balance.proofs.Common.{mul_comm}
 use Rattle.std.proofs.lemmas.Nat.{pow-add}
-use Rattle.decimal_input.specs.Ratios.{den as ratio_den}
 use Rattle.cell_balance.proofs.Zips.{AllZip-compose, AllZip-at, AllZip-length, All-zip, WholeLink, WholeEntry, WholeCell, FlowWithin, LinkWithin, EntryWithin}
 use Rattle.cell_balance.proofs.Zips.{FixedWithin, RiverWithin, DrainWithin, EvapWithin, CellWithin}
 use Rattle.cell_balance.proofs.Over.{FlowOver, LinkOver, EntryOver, FixedOver, RiverOver, DrainOver, EvapOver, CellOver}
@@ -20,10 +19,7 @@ cross_high hi x a c m t h q e = le_of_mul-le-mul_right {k = x} (omega (arith, mu
 
 -- a conductance
 pub between_share : (lo hi s m c : ℕ) (r : Ratio) → Encloses lo hi s r → IsShare (m * 10 ^ s) r c → IsBetweenWhole lo hi m c
-between_share lo hi s m c r h e = record {
-  lower = cross_low lo (ratio_den r) r.num c m (10 ^ s) (omega arith) h.lower e.is;
-  upper = cross_high hi (ratio_den r) r.num c m (10 ^ s) (omega arith) h.upper e.is;
-}
+between_share lo hi s m c r h e = grind (arith, cross_low, cross_high)
 
 -- a head or a flow
 pub between_over : (lo hi : ℤ) (s n : ℕ) (f : Fraction) (z : ℤ) → EnclosesSigned lo hi s f → IsOver (n * 10 ^ s) f z → IsBetweenSigned lo hi n z

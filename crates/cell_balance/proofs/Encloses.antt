@@ -1,8 +1,8 @@
 -- The comparison: from fractions to whole numbers and back.
-use Rattle.cell_balance.proofs.Common.{◌≡◌, ℕ, suc, ◌-◌, ◌*◌, ◌^◌, ◌<◌, sym, ap, ◌∙◌, subst, arith, ℤ, pos, ◌*ℤ◌, List, length, mul-pos, refl, AllZip, IsOver}
-use Rattle.cell_balance.proofs.Common.{Ratio, Fraction, cancel_right, mul_mono_right, swap, mul_assoc, ◌≤ℤ◌, ◌⊎◌, inl, inr, IsProblem, ExactCell, cell_at}
-use Rattle.cell_balance.proofs.Common.{no_cell, balance, share, SolvesStep, Compares, EnclosesStep, ExactFlow, ExactLink, Entries, Side, Low, High, den}
-use Rattle.cell_balance.proofs.Common.{mul_comm, LiesBetween, IsHeldBelow, entries_at, lower_balance, upper_balance}
+use Rattle.cell_balance.proofs.Common.{◌≡◌, ℕ, ◌-◌, ◌*◌, ◌^◌, ◌<◌, sym, ◌∙◌, subst, arith, ℤ, pos, ◌*ℤ◌, List, length, mul-pos, refl, AllZip, IsOver, Ratio}
+use Rattle.cell_balance.proofs.Common.{Fraction, cancel_right, mul_mono_right, swap, mul_assoc, ◌≤ℤ◌, ◌⊎◌, inl, inr, IsProblem, ExactCell, cell_at, no_cell}
+use Rattle.cell_balance.proofs.Common.{balance, share, SolvesStep, Compares, EnclosesStep, ExactFlow, ExactLink, Entries, Side, Low, High, den, mul_comm}
+use Rattle.cell_balance.proofs.Common.{LiesBetween, IsHeldBelow, entries_at, lower_balance, upper_balance}
 use Rattle.cell_balance.proofs.Zips.{AllZip-at, AllZip-length, CellWithin, WholeCell, whole_at, no_whole, whole_balance, WholeLink, WholeEntry}
 use Rattle.cell_balance.proofs.Scaling.{zero_over}
 use Rattle.cell_balance.proofs.Over.{CellOver, balance_over, FlowOver, LinkOver, EntryOver, FixedOver, RiverOver, DrainOver, EvapOver}
@@ -57,10 +57,7 @@ module _ (d a b : ℕ) where
 
 -- a numerator over d, over a multiple of d
 pub share_is : (d j : ℕ) (z : ℤ) → 0 < d → IsOver (d * j) (share d z) (z *ℤ pos j)
-share_is d j z some = record { is = ap (λ (k : ℕ). z *ℤ pos k) (ring (suc (d - 1)) (omega arith)) ∙ sym (mul_assoc z (pos j) (pos (suc (d - 1)))) }
-  where
-    ring : (t : ℕ) → d ≡ t → d * j ≡ j * t
-    ring t e = mul_comm d j ∙ ap (λ (k : ℕ). j * k) e
+share_is d j z some = grind (arith, mul_assoc, mul_comm)
 
 -- a solution, in whole numbers
 pub whole_solves : (k m : ℕ) (e : List ExactCell) (w : List WholeCell) (d : ℕ) (X Y : ℕ → ℤ) → AllZip (CellOver k m) e w → SolvesStep e d X → ((c : ℕ) → IsOver m (share d (X c)) (Y c)) → (c : ℕ) → c < length w → whole_balance (whole_at w c) (Y c) Y ≡ pos 0

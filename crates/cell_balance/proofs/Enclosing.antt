@@ -1,6 +1,6 @@
 -- Sums of enclosed fractions, and their parts, are enclosed.
 use Rattle.cell_balance.proofs.Common.{◌≡◌, ℕ, zero, suc, ◌*◌, ◌^◌, ◌<◌, refl, arith, List, [], ◌∷◌, Bool, true, false, map, ℤ, pos, neg_ℤ, ◌+ℤ◌, mul-pos, ◌≤ℤ◌}
-use Rattle.cell_balance.proofs.Common.{cond, sym, ap, ◌∙◌, ◌*ℤ◌, ◌<ℤ◌, filter, AllZip, int_max, ints, clamps, by_lt_z, Fraction, whole, negated, fraction_total}
+use Rattle.cell_balance.proofs.Common.{sym, ap, ◌∙◌, ◌*ℤ◌, ◌<ℤ◌, filter, AllZip, int_max, ints, clamps, by_lt_z, Fraction, whole, negated, fraction_total}
 use Rattle.cell_balance.proofs.Common.{EnclosesSigned, IsOver, den, plus, AtMost, Same, total, greater, sum_below, total_below, sum_inside, total_inside}
 use Rattle.cell_balance.proofs.Common.{IsBelow, le-add, le-antisym, le-of, negated_enclosed, cancel_right, mul_mono_right, swap, zero-*ℤ, mul_assoc, mul_comm}
 use Rattle.cell_balance.proofs.Deep.{add_mul}
@@ -24,11 +24,7 @@ IsOver-below d zero f g each = IsOver-none d
 IsOver-below d (suc n) f g each = IsOver-plus d (total_below n f) (f n) (sum_below n g) (g n) (IsOver-below d n f g (λ k i. each k (omega arith))) (each n (omega arith))
 
 pub IsOver-inside : (d n : ℕ) (inside : ℕ → Bool) (f : ℕ → Fraction) (g : ℕ → ℤ) → ((k : ℕ) → k < n → IsOver d (f k) (g k)) → IsOver d (total_inside n inside f) (sum_inside n inside g)
-IsOver-inside d n inside f g each = IsOver-below d n (λ k. cond (inside k) (f k) (whole (pos 0))) (λ k. cond (inside k) (g k) (pos 0)) (λ k i. by_test k i (inside k))
-  where
-    by_test : (k : ℕ) → k < n → (b : Bool) → IsOver d (cond b (f k) (whole (pos 0))) (cond b (g k) (pos 0))
-    by_test k i true = each k i
-    by_test k i false = IsOver-none d
+IsOver-inside d n inside f g each = grind (arith, IsOver-below)
 
 -- equal whole numbers over one denominator are one fraction
 pub same_over : (d : ℕ) (f g : Fraction) (a b : ℤ) → 0 < d → IsOver d f a → IsOver d g b → a ≡ b → Same f g
@@ -41,14 +37,10 @@ pub negative_over : (d : ℕ) (f : Fraction) (a : ℤ) → 0 < d → IsOver d f 
 negative_over d f a some p h = cancel_right d f.num (pos 0) some (rw (p.is, zero-*ℤ) (rw zero-*ℤ at (mul_mono_right (den f) a (pos 0) h)))
 
 pub negative_below : (d : ℕ) (f : Fraction) (a : ℤ) → 0 < d → IsOver d f a → a <ℤ pos 0 → f.num <ℤ pos 0
-negative_below d f a some p h =
-    by_lt_z f.num (pos 0) (λ lt. lt)
-    (λ le. absurd (omega (arith, ints, cancel_right (den f) (pos 0) a (omega arith) (rw (← p.is, zero-*ℤ) (rw zero-*ℤ at (mul_mono_right d (pos 0) f.num le))))))
+negative_below d f a some p h = grind (arith, by_lt_z, cancel_right, mul_mono_right)
 
 pub positive_above : (d : ℕ) (f : Fraction) (a : ℤ) → 0 < d → IsOver d f a → pos 0 <ℤ a → pos 0 <ℤ f.num
-positive_above d f a some p h =
-    by_lt_z (pos 0) f.num (λ lt. lt)
-    (λ le. absurd (omega (arith, ints, cancel_right (den f) a (pos 0) (omega arith) (rw (← p.is, zero-*ℤ) (rw zero-*ℤ at (mul_mono_right d f.num (pos 0) le))))))
+positive_above d f a some p h = grind (arith, by_lt_z, cancel_right, mul_mono_right)
 
 -- a number below another, over one denominator
 pub below_over : (d : ℕ) (f g : Fraction) (a b : ℤ) → 0 < d → IsOver d f a → IsOver d g b → IsBelow f g → a <ℤ b

@@ -1,8 +1,8 @@
 -- The example meets all that the comparison asks.
-use Rattle.cell_balance.proofs.Common.{◌≡◌, ℕ, zero, suc, ◌<◌, ◌⊎◌, inl, inr, refl, sym, arith, pos, neg_ℤ, ◌*ℤ◌, ◌≤ℤ◌, ◌^◌, true, nat_eq, cases_eq, ne_eqb}
-use Rattle.cell_balance.proofs.Common.{eq-eqb, ints, entries_at, Constant, lower_balance, upper_balance, head_at, IsCertificate, SolvesStep, LiesBetween}
-use Rattle.cell_balance.proofs.Common.{Reaches, Leads, IsComponent, IsCarried, IsHeldBelow, IsComparable, example_problem, example_step, example_heads}
-use Rattle.cell_balance.proofs.Common.{example_barrier, example_lows, example_highs, balance, share, cell_at}
+use Rattle.cell_balance.proofs.Common.{◌≡◌, ℕ, zero, suc, ◌<◌, ◌⊎◌, inl, inr, refl, sym, arith, pos, neg_ℤ, ◌≤ℤ◌, true, nat_eq, cases_eq, ne_eqb, eq-eqb, ints}
+use Rattle.cell_balance.proofs.Common.{entries_at, Constant, lower_balance, upper_balance, head_at, IsCertificate, SolvesStep, LiesBetween, Reaches, Leads}
+use Rattle.cell_balance.proofs.Common.{IsComponent, IsCarried, IsHeldBelow, IsComparable, example_problem, example_step, example_heads, example_barrier}
+use Rattle.cell_balance.proofs.Common.{example_lows, example_highs, balance, share, cell_at}
 use Rattle.cell_balance.proofs.ExampleProblem.{of_three, example_fits, example_encloses}
 
 anchored : (c : ℕ) → c < 2 → Leads example_problem 0 c
@@ -40,18 +40,7 @@ certificate = record {
 }
 
 barrier : LiesBetween 3 3 example_heads (head_at example_barrier.floor) (head_at example_barrier.ceiling)
-barrier = record {
-  low = of_three (λ c. (head_at example_barrier.floor c *ℤ pos 3) ≤ℤ (example_heads c *ℤ pos (10 ^ 9))) (omega (arith, ints)) (omega (arith, ints)) (omega (arith, ints));
-  high = of_three (λ c. (example_heads c *ℤ pos (10 ^ 9)) ≤ℤ (head_at example_barrier.ceiling c *ℤ pos 3)) (omega (arith, ints)) (omega (arith, ints)) (omega (arith, ints));
-}
+barrier = grind (arith, of_three)
 
 pub example_is_comparable : IsComparable example_problem example_barrier example_lows example_highs 1 example_step 3 example_heads
-example_is_comparable = record {
-  problem = example_fits;
-  held = held;
-  certificate = certificate;
-  encloses = example_encloses;
-  some = omega arith;
-  solves = solves;
-  barrier = barrier;
-}
+example_is_comparable = grind (arith, example_fits, held, certificate, example_encloses, solves, barrier)

@@ -65,25 +65,10 @@ HasBack c x = Contains (entries_at example_problem x.cell).links (record { cell 
 
 -- a cell with one link, to another cell that has one back
 one_link : (c d : ℕ) → d < 3 → (d ≡ c → ⊥) → HasBack c (record { cell = d; lo = 9; hi = 11 }) → LinksFit example_problem c (record { cell = d; lo = 9; hi = 11 } ∷ [])
-one_link c d within other back = record {
-  few = omega arith;
-  within = single (λ x. x.cell < 3) _ within;
-  others = single (λ x. x.cell ≡ c → ⊥) _ other;
-  apart = λ i j less inside e. omega arith;
-  mutual_ends = single (HasBack c) _ back;
-}
+one_link c d within other back = grind (arith, single)
 
 links_fit : (c : ℕ) → c < 3 → LinksFit example_problem c (entries_at example_problem c).links
-links_fit = of_three (λ c. LinksFit example_problem c (entries_at example_problem c).links)
-    (one_link 0 1 (omega arith) (λ e. omega arith) (0, omega arith, refl))
-    (one_link 1 0 (omega arith) (λ e. omega arith) (0, omega arith, refl))
-    (record {
-      few = omega arith;
-      within = All-nil (λ x. x.cell < 3);
-      others = All-nil (λ x. x.cell ≡ 2 → ⊥);
-      apart = λ i j less inside e. omega arith;
-      mutual_ends = All-nil (HasBack 2);
-    })
+links_fit = grind (arith, of_three, one_link)
 
 ascending : (c d : ℕ) → c < d → d < 3 → (entries_at example_problem c).id < (entries_at example_problem d).id
 ascending zero zero h k = absurd (omega arith)
@@ -108,40 +93,13 @@ equal_ends = of_three (λ c. All (HasLinkBack example_step c) (cell_at example_s
     (All-nil (HasLinkBack example_step 2))
 
 first_encloses : CellEncloses 1 first_entries first_cell
-first_encloses = record {
-  id = refl;
-  flows = tt;
-  links = (record { cell = refl; conductance = conducts }, tt);
-  fixed = (
-    record { kind = refl; source = refl; conductance = conducts; head = record { lower = omega (arith, ints); upper = omega (arith, ints) } },
-    (record { kind = refl; source = refl; conductance = conducts; head = record { lower = omega (arith, ints); upper = omega (arith, ints) } }, tt),
-  );
-  rivers = (record { conductance = conducts; stage = record { lower = omega (arith, ints); upper = omega (arith, ints) }; bottom = record { lower = omega (arith, ints); upper = omega (arith, ints) } }, tt);
-  drains = tt;
-  evaps = tt;
-}
+first_encloses = grind (arith, conducts)
 
 second_encloses : CellEncloses 1 second_entries second_cell
-second_encloses = record {
-  id = refl;
-  flows = tt;
-  links = (record { cell = refl; conductance = conducts }, tt);
-  fixed = (record { kind = refl; source = refl; conductance = conducts; head = record { lower = omega (arith, ints); upper = omega (arith, ints) } }, tt);
-  rivers = tt;
-  drains = tt;
-  evaps = (record { conductance = conducts; surface = record { lower = omega (arith, ints); upper = omega (arith, ints) }; extinction = record { lower = omega (arith, ints); upper = omega (arith, ints) } }, tt);
-}
+second_encloses = grind (arith, conducts)
 
 third_encloses : CellEncloses 1 third_entries third_cell
-third_encloses = record {
-  id = refl;
-  flows = (record { kind = refl; flow = record { lower = omega (arith, ints); upper = omega (arith, ints) } }, tt);
-  links = tt;
-  fixed = tt;
-  rivers = tt;
-  drains = (record { conductance = conducts; elevation = record { lower = omega (arith, ints); upper = omega (arith, ints) } }, tt);
-  evaps = tt;
-}
+third_encloses = grind (arith, conducts)
 
 pub example_encloses : EnclosesStep 1 example_problem example_step
 example_encloses = record { cells = (first_encloses, (second_encloses, (third_encloses, tt))); ends = equal_ends }

@@ -1,6 +1,6 @@
 -- The flows of ramps: they leave the cell, fall as its head rises, and where they are the same at two heads they are within the full rates.
 use Rattle.cell_balance.proofs.Common.{[], ◌*ℤ◌, ◌<ℤ◌, ◌∷◌, ◌≡◌, ◌≤ℤ◌, Bool, List, arith, cond, false, nat_eq, neg_ℤ, pos, suc, true, zero, ℕ, ℤ, *ℤ-zero}
-use Rattle.cell_balance.proofs.Common.{zero-*ℤ, loss_falls, mul_add, clamps, ints, total, as_diff, diffs, mul_mono, same_diff, None, Option, Some}
+use Rattle.cell_balance.proofs.Common.{loss_falls, mul_add, clamps, ints, total, as_diff, diffs, mul_mono, same_diff, None, Option, Some}
 use Rattle.cell_balance.proofs.Scaling.{cancel_le}
 use Rattle.cell_balance.proofs.Ramps.{Ramp, rise, extent, ramp_flow, full_rate, rise_grows, rise_within_extent, extent_nonneg, rise_nonneg}
 
@@ -19,10 +19,7 @@ flows_fall d x y i (r ∷ rs) h = omega (arith, ints, flow_falls d x y i r h, fl
 
 -- a ramp that carries no more at the higher of two heads carries at most its full rate
 carries_within_full : (c : ℕ) (t : ℤ) (top : Option ℤ) (d : ℕ) (x y : ℤ) → x <ℤ y → neg_ℤ (pos c *ℤ rise t top d x) ≤ℤ neg_ℤ (pos c *ℤ rise t top d y) → neg_ℤ (pos d *ℤ (pos c *ℤ extent t top)) ≤ℤ neg_ℤ (pos c *ℤ rise t top d y)
-carries_within_full zero t None d x y h k = nothing (pos d) (rise t None d y)
-  where
-    nothing : (d r : ℤ) → neg_ℤ (d *ℤ (pos 0 *ℤ pos 0)) ≤ℤ neg_ℤ (pos 0 *ℤ r)
-    nothing d r = rw (zero-*ℤ r, zero-*ℤ (pos 0), *ℤ-zero d) (omega (arith, ints))
+carries_within_full zero t None d x y h k = grind (arith, rise)
 carries_within_full (suc c) t None d x y h k =
     let low = cancel_le (suc c) (rise t None d y) (rise t None d x) (omega arith) (omega (arith, ints)) in
     step (pos d) (pos (suc c)) (rise t None d y) (omega (arith, ints, clamps))
@@ -38,11 +35,7 @@ carries_within_full c t (Some u) d x y h k = step (pos d) (pos c) (extent t (Som
         ring d c e = rw (as_diff d, as_diff c, as_diff e) (simp diffs (same_diff _ _ _ _ (omega arith)))
 
 flow_within_full : (d : ℕ) (x y : ℤ) (i : ℕ) (r : Ramp) → x <ℤ y → ramp_flow d x i r ≤ℤ ramp_flow d y i r → neg_ℤ (pos d *ℤ full_rate i r) ≤ℤ ramp_flow d y i r
-flow_within_full d x y i r h k = cases (nat_eq r.cell i) k
-  where
-    cases : (s : Bool) → cond s (neg_ℤ (pos r.c *ℤ rise r.foot r.top d x)) (pos 0) ≤ℤ cond s (neg_ℤ (pos r.c *ℤ rise r.foot r.top d y)) (pos 0) → neg_ℤ (pos d *ℤ cond s (pos r.c *ℤ extent r.foot r.top) (pos 0)) ≤ℤ cond s (neg_ℤ (pos r.c *ℤ rise r.foot r.top d y)) (pos 0)
-    cases true k = carries_within_full r.c r.foot r.top d x y h k
-    cases false k = omega (arith, ints)
+flow_within_full d x y i r h k = grind (arith, nat_eq, rise, extent, carries_within_full)
 
 -- ramps that carry no more at the higher of two heads carry at most their full rates
 pub flows_within_full : (d : ℕ) (x y : ℤ) (i : ℕ) (rs : List Ramp) → x <ℤ y → total (ramp_flow d x i) rs ≤ℤ total (ramp_flow d y i) rs → neg_ℤ (pos d *ℤ total (full_rate i) rs) ≤ℤ total (ramp_flow d y i) rs

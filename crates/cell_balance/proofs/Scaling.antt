@@ -51,9 +51,7 @@ sum_back : (a b x y : ℤ) → (a *ℤ x) *ℤ y +ℤ (b *ℤ y) *ℤ x ≡ (a +
 sum_back a b x y = rw (as_diff a, as_diff b, as_diff x, as_diff y) (simp diffs (same_diff _ _ _ _ (omega arith)))
 
 pub IsOver-plus : (d : ℕ) (f g : Fraction) (a b : ℤ) → IsOver d f a → IsOver d g b → IsOver d (plus f g) (a +ℤ b)
-IsOver-plus d f g a b p q = record {
-  is = sum_ring f.num g.num (pos (den f)) (pos (den g)) (pos d) ∙ rw (p.is, q.is) (sum_back a b (pos (den f)) (pos (den g)) ∙ ap (λ (k : ℤ). (a +ℤ b) *ℤ k) (sym (den_product f g)));
-}
+IsOver-plus d f g a b p q = grind (arith, sum_ring, sum_back, den_product)
 
 product_ring : (a b c d : ℤ) → (a *ℤ b) *ℤ (c *ℤ d) ≡ (a *ℤ c) *ℤ (b *ℤ d)
 product_ring a b c d = rw (as_diff a, as_diff b, as_diff c, as_diff d) (simp diffs (same_diff _ _ _ _ (omega arith)))
@@ -102,14 +100,10 @@ pub crossed_back : (d : ℕ) (f g : Fraction) (b : ℤ) → IsOver d g b → (g.
 crossed_back d f g b q = crossed d g b (den f) q ∙ ap (λ (k : ℤ). b *ℤ k) (*ℤ_comm (pos (den g)) (pos (den f)))
 
 pub IsOver-greater : (d : ℕ) (f g : Fraction) (a b : ℤ) → IsOver d f a → IsOver d g b → IsOver d (greater f g) (int_max a b)
-IsOver-greater d f g a b p q = record {
-  is = max_times d (f.num *ℤ pos (den g)) (g.num *ℤ pos (den f)) ∙ rw (crossed d f a (den g) p, crossed_back d f g b q) (sym (max_times (den f * den g) a b)) ∙ ap (λ (k : ℤ). int_max a b *ℤ k) (sym (den_product f g));
-}
+IsOver-greater d f g a b p q = grind (arith, max_times, crossed, crossed_back, den_product)
 
 pub IsOver-lesser : (d : ℕ) (f g : Fraction) (a b : ℤ) → IsOver d f a → IsOver d g b → IsOver d (lesser f g) (int_min a b)
-IsOver-lesser d f g a b p q = record {
-  is = min_times d (f.num *ℤ pos (den g)) (g.num *ℤ pos (den f)) ∙ rw (crossed d f a (den g) p, crossed_back d f g b q) (sym (min_times (den f * den g) a b)) ∙ ap (λ (k : ℤ). int_min a b *ℤ k) (sym (den_product f g));
-}
+IsOver-lesser d f g a b p q = grind (arith, min_times, crossed, crossed_back, den_product)
 
 pub IsOver-total : {X Y : Type 0} (R : X → Y → Type 0) (d : ℕ) (f : X → Fraction) (g : Y → ℤ) → ((x : X) (y : Y) → R x y → IsOver d (f x) (g y)) → (xs : List X) (ys : List Y) → AllZip R xs ys → IsOver d (fraction_total f xs) (total g ys)
 IsOver-total R d f g each [] [] h = IsOver-none d
@@ -118,8 +112,7 @@ IsOver-total _ d f g each _ _ h = absurd h
 
 -- a fraction that is zero is zero over any d
 pub zero_over : (d : ℕ) (f : Fraction) (z : ℤ) → IsOver d f z → f.num ≡ pos 0 → z ≡ pos 0
-zero_over d f z h e =
-    zero_factor (den f) z (omega arith) (*ℤ_comm (pos (den f)) z ∙ sym h.is ∙ ap (λ (k : ℤ). k *ℤ pos d) e ∙ zero-*ℤ (pos d))
+zero_over d f z h e = grind (arith, zero_factor)
 
 -- and one that is zero over d is zero
 pub over_zero : (d : ℕ) (f : Fraction) → 0 < d → IsOver d f (pos 0) → f.num ≡ pos 0

@@ -1,7 +1,7 @@
 -- The balance of a cell in whole numbers is its net flow in the step with ramps.
 use Rattle.cell_balance.proofs.Common.{[], ◌*ℤ◌, ◌+ℤ◌, ◌-ℤ◌, ◌<◌, ◌∷◌, ◌≡◌, All, List, arith, length, map, neg_ℤ, pos, refl, sym, ℕ, ℤ, int_max, *ℤ-zero}
-use Rattle.cell_balance.proofs.Common.{zero-*ℤ, clamps, ints, total, as_diff, diffs, same_diff, sum_below, ◌+◌, ◌∙◌, cond, nat_eq, subst, suc, zero, eq-eqb}
-use Rattle.cell_balance.proofs.Common.{ne_eqb, ◌++◌, None, Some}
+use Rattle.cell_balance.proofs.Common.{clamps, ints, total, as_diff, diffs, same_diff, sum_below, ◌+◌, ◌∙◌, cond, nat_eq, subst, suc, zero, eq-eqb, ne_eqb}
+use Rattle.cell_balance.proofs.Common.{◌++◌, None, Some}
 use Rattle.cell_balance.proofs.Dry.{weight, by_weight}
 use Rattle.cell_balance.proofs.Zips.{WholeCell, WholeEntry, whole_at, whole_balance, whole_deep_river, whole_drain, whole_evap, whole_fixed, whole_river}
 use Rattle.cell_balance.proofs.Ramps.{Ramp, rise, net_flow}
@@ -60,20 +60,14 @@ total-away g i f [] cells = refl
 total-away g i f (x ∷ xs) cells = rw (ne_eqb (f x).cell i (cells x), total-away g i f xs cells) refl
 
 cell_ramps-here : (g : Ramp → ℤ) (i : ℕ) (w : WholeCell) → total (at_cell g i) (cell_ramps i w) ≡ cell_sum g i w
-cell_ramps-here g i w =
-    total-append (at_cell g i) (map (open_ramp i) w.rivers) (map (open_ramp i) w.drains ++ map (evap_ramp i) w.evaps)
-    ∙ rw (total-append (at_cell g i) (map (open_ramp i) w.drains) (map (evap_ramp i) w.evaps), total-here g i (open_ramp i) w.rivers (λ x. refl), total-here g i (open_ramp i) w.drains (λ x. refl), total-here g i (evap_ramp i) w.evaps (λ x. refl)) refl
+cell_ramps-here g i w = grind (arith, total-append, total-here)
 
 cell_ramps-away : (g : Ramp → ℤ) (i k : ℕ) (w : WholeCell) → (k ≡ i → ⊥) → total (at_cell g i) (cell_ramps k w) ≡ pos 0
-cell_ramps-away g i k w apart =
-    total-append (at_cell g i) (map (open_ramp k) w.rivers) (map (open_ramp k) w.drains ++ map (evap_ramp k) w.evaps)
-    ∙ rw (total-append (at_cell g i) (map (open_ramp k) w.drains) (map (evap_ramp k) w.evaps), total-away g i (open_ramp k) w.rivers (λ x. apart), total-away g i (open_ramp k) w.drains (λ x. apart), total-away g i (evap_ramp k) w.evaps (λ x. apart)) refl
+cell_ramps-away g i k w apart = grind (arith, total-append, total-away)
 
 ramps_from-away : (g : Ramp → ℤ) (i k : ℕ) (ws : List WholeCell) → i < k → total (at_cell g i) (ramps_from k ws) ≡ pos 0
 ramps_from-away g i k [] h = refl
-ramps_from-away g i k (w ∷ ws) h =
-    total-append (at_cell g i) (cell_ramps k w) (ramps_from (suc k) ws)
-    ∙ rw (cell_ramps-away g i k w (λ e. omega arith), ramps_from-away g i (suc k) ws (omega arith)) refl
+ramps_from-away g i k (w ∷ ws) h = grind (arith, total-append, cell_ramps-away, ramps_from-away g i (suc k) ws (omega arith))
 
 ramps_from-at : (g : Ramp → ℤ) (k j i : ℕ) (ws : List WholeCell) → i ≡ k + j → total (at_cell g i) (ramps_from k ws) ≡ cell_sum g i (whole_at ws j)
 ramps_from-at g k j i [] e = refl
@@ -82,10 +76,7 @@ ramps_from-at g k zero i (w ∷ ws) e =
     total-append (at_cell g i) (cell_ramps k w) (ramps_from (suc k) ws)
     ∙ rw (ramps_from-away g i (suc k) ws (omega arith)) (omega (arith, ints))
     ∙ subst (λ (z : ℕ). total (at_cell g i) (cell_ramps z w) ≡ cell_sum g i w) (sym same) (cell_ramps-here g i w)
-ramps_from-at g k (suc j) i (w ∷ ws) e =
-    total-append (at_cell g i) (cell_ramps k w) (ramps_from (suc k) ws)
-    ∙ rw (cell_ramps-away g i k w (λ f. omega arith)) (omega (arith, ints))
-    ∙ ramps_from-at g (suc k) j i ws (omega arith)
+ramps_from-at g k (suc j) i (w ∷ ws) e = grind (arith, total-append, cell_ramps-away, ramps_from-at g (suc k) j i ws (omega arith))
 
 -- over all ramps of a step the sum at cell i is that over the cell's own
 pub ramps_at_cell : (g : Ramp → ℤ) (i : ℕ) (ws : List WholeCell) → total (at_cell g i) (ramps_from 0 ws) ≡ cell_sum g i (whole_at ws i)
@@ -117,10 +108,7 @@ flows_scaled_total d (x ∷ xs) = rw (flows_scaled_total d xs) (ring x (pos d) (
     ring x d t = rw (as_diff x, as_diff d, as_diff t) (simp diffs (same_diff _ _ _ _ (omega arith)))
 
 fixed_scaled_total : (d : ℕ) (y : ℤ) (xs : List WholeEntry) → total (whole_fixed y) (map (scaled_entry d) xs) ≡ pos d *ℤ total known_flow xs -ℤ pos (known_conductance xs) *ℤ y
-fixed_scaled_total d y [] = none (pos d) y
-  where
-    none : (d y : ℤ) → pos 0 ≡ d *ℤ pos 0 -ℤ pos 0 *ℤ y
-    none d y = rw (*ℤ-zero d, zero-*ℤ y) refl
+fixed_scaled_total d y [] = grind (arith)
 fixed_scaled_total d y (x ∷ xs) = rw (fixed_scaled_total d y xs) (ring (pos x.c) x.top (pos d) y (total known_flow xs) (pos (known_conductance xs)))
   where
     ring : (c h d y t g : ℤ) → c *ℤ (h *ℤ d -ℤ y) +ℤ (d *ℤ t -ℤ g *ℤ y) ≡ d *ℤ (c *ℤ h +ℤ t) -ℤ (c +ℤ g) *ℤ y
@@ -169,10 +157,7 @@ pub times_one : (z : ℤ) → z *ℤ pos 1 ≡ z
 times_one z = omega (arith, ints)
 
 scaled_one : (u : WholeCell) → scaled 1 u ≡ u
-scaled_one u = rw (map-same (λ z. z *ℤ pos 1) u.flows times_one, map-same (scaled_entry 1) u.fixed entry, map-same (scaled_entry 1) u.rivers entry, map-same (scaled_entry 1) u.drains entry, map-same (scaled_entry 1) u.evaps entry) refl
-  where
-    entry : (x : WholeEntry) → scaled_entry 1 x ≡ x
-    entry x = rw (times_one x.top, times_one x.foot) refl
+scaled_one u = grind (arith, map-same, times_one)
 
 pub balance_is_net_flow : (w : List WholeCell) (X : ℕ → ℤ) (i : ℕ) → All (λ x. x.cell < length w) (whole_at w i).links → whole_balance (whole_at w i) (X i) X ≡ net_flow (length w) (a_of w) (b_of w) (q_of w) (ramps_from 0 w) 1 X i
 balance_is_net_flow w X i range = subst (λ (u : WholeCell). whole_balance u (X i) X ≡ net_flow (length w) (a_of w) (b_of w) (q_of w) (ramps_from 0 w) 1 X i) (scaled_one (whole_at w i)) (scaled_balance w 1 X i range)

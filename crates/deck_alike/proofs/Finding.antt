@@ -49,11 +49,7 @@ module _ (kind : Package) (cells : ℕ) (ps qs : List Period) where
 
 -- the cell of arrays that are read layer by layer
 layer_cell : (size cells n m : ℕ) (xss yss : List (List Dec)) (k : ℕ) (cell : Option CellId) → n ≡ size → m ≡ cells → cell ≡ named m k → IsFirstOfLayers n xss yss k → IsLayerCell size cells xss yss cell
-layer_cell size cells n m xss yss k cell by_size by_cells names h = record {
-  place = k;
-  first = subst (λ (s : ℕ). IsFirstOfLayers s xss yss k) by_size h;
-  names = names ∙ ap (λ (c : ℕ). named c k) by_cells;
-}
+layer_cell size cells n m xss yss k cell by_size by_cells names h = grind (arith)
 
 pub layers_found : (size cells n m : ℕ) (xss yss : List (List Dec)) (p : Option ℕ) (r : Result (Unit {0}) (Option CellId)) → n ≡ size → m ≡ cells → r ≡ apart m p → IsFound n xss yss p → Finds (AreArraysSame xss yss) (IsLayerCell size cells xss yss) r
 layers_found size cells n m xss yss None r by_size by_cells is h = subst (Finds (AreArraysSame xss yss) (IsLayerCell size cells xss yss)) (sym is) h

@@ -59,11 +59,7 @@ itself size k n i e = inr (ap (λ (j : ℕ). j / size) e, omega arith)
 -- a place of an earlier array in the same layer, or in a layer above, is read before
 above : (size k m n array i : ℕ) → k / size ≤ m / size → Later size m array n i → Later size k zero n (suc i)
 above size k m n array i le (inl lt) = inl (omega arith)
-above size k m n array i le (inr same) = by (cases_lt (k / size) (n / size)) same.0
-  where
-    by : (k / size < n / size) ⊎ (n / size ≤ k / size) → m / size ≡ n / size → Later size k zero n (suc i)
-    by (inl lt) e = inl lt
-    by (inr ge) e = inr (omega arith, omega arith)
+above size k m n array i le (inr same) = grind (arith, cases_lt, zero)
 
 deeper : (size k array n i : ℕ) → Later size k array n i → Later size k (suc array) n (suc i)
 deeper size k array n i (inl lt) = inl lt

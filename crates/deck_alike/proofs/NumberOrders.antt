@@ -1,6 +1,6 @@
 -- The order of two magnitudes, from their digits and exponents.
-use Rattle.deck_alike.proofs.Common.{◌≡◌, ℕ, ◌+◌, ◌*◌, ◌^◌, ◌<◌, ◌≤◌, ℤ, pos, ◌+ℤ◌, Bool, true, false, subst, sym, arith, ◌⊎◌, inl, inr, leb, MatchBool}
-use Rattle.deck_alike.proofs.Common.{cases_lt, le-leb, lt-leb, ints, Dec, suc, zero, refl}
+use Rattle.deck_alike.proofs.Common.{◌≡◌, ℕ, ◌+◌, ◌*◌, ◌^◌, ◌<◌, ◌≤◌, ℤ, pos, ◌+ℤ◌, Bool, true, false, arith, ◌⊎◌, inl, inr, leb, MatchBool, cases_lt, le-leb}
+use Rattle.deck_alike.proofs.Common.{lt-leb, ints, Dec, suc, zero, refl}
 use Rattle.std.proofs.Math.Nat.{mul-le-mul_right, mul-pos}
 use Rattle.decimal_input.specs.{size, down, up, number, decimal, scaled}
 use Rattle.decimal_input.proofs.Powers.{cross_of, power_within, ten_pos, up_down, num_scaled}
@@ -24,10 +24,7 @@ past_all m p some far =
 
 -- a test m ≤ n that decides a fact
 decides : (m n : ℕ) (P : Type 0) → (m ≤ n → P) → (P → m ≤ n) → MatchBool (leb m n) P (P → ⊥)
-decides m n P to from = elim (cases_lt n m) [
-  | inl lt ↦ subst (λ (r : Bool). MatchBool r P (P → ⊥)) (sym (lt-leb m n lt)) (λ p. let h = from p in absurd (omega (arith, h, lt)))
-  | inr le ↦ subst (λ (r : Bool). MatchBool r P (P → ⊥)) (sym (le-leb m n le)) (to le)
-]
+decides m n P to from = grind (arith, cases_lt, lt-leb, le-leb)
 
 -- k stands for x where it has at most 64 bits
 abbrev StandsFor : ℕ → ℕ → Type 0

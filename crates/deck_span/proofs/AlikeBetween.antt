@@ -1,9 +1,9 @@
 -- Each of two models that are alike lies between the two.
-use Rattle.deck_span.proofs.Common.{◌≡◌, ◌*ℤ◌, ◌*◌, ◌⊎◌, [], ◌∷◌, pos, refl, subst, inl, inr, arith, List, length, AllZip, cases_lt, ints, Dec, number, size}
-use Rattle.deck_span.proofs.Common.{Ratio, Fraction, den, AtMost, Entry, Given, CellId, FlowModel, Period, AllThree, none, next, IsFractionBetween}
-use Rattle.deck_span.proofs.Common.{IsRatioBetween, IsDecBetween, IsSizeBetween, IsEntryBetween, IsGivenAtMost, IsGivenBetween, IsRateBetween, IsPeriodBetween}
-use Rattle.deck_span.proofs.Common.{IsBetween, wells, rivers, drains, generals, AreGivenAlike, ArePeriodsAlike, AreAlike, AreEntriesAlike, AreRatesAlike}
-use Rattle.deck_span.proofs.Common.{LiesBetween, AtMost-refl, by_lt_z}
+use Rattle.deck_span.proofs.Common.{◌≡◌, ◌*◌, ◌⊎◌, [], ◌∷◌, refl, subst, inl, inr, arith, List, length, AllZip, cases_lt, Dec, number, size, Ratio, Fraction}
+use Rattle.deck_span.proofs.Common.{Entry, Given, CellId, FlowModel, Period, AllThree, none, next, IsFractionBetween, IsRatioBetween, IsDecBetween}
+use Rattle.deck_span.proofs.Common.{IsSizeBetween, IsEntryBetween, IsGivenAtMost, IsGivenBetween, IsRateBetween, IsPeriodBetween, IsBetween, wells, rivers}
+use Rattle.deck_span.proofs.Common.{drains, generals, AreGivenAlike, ArePeriodsAlike, AreAlike, AreEntriesAlike, AreRatesAlike, LiesBetween, AtMost-refl}
+use Rattle.deck_span.proofs.Common.{by_lt_z}
 use Rattle.deck_span.proofs.HullBounds.{least}
 use Rattle.decimal_input.specs.Ratios.{den as ratio_den, AtMost as IsRatioAtMost}
 use Rattle.model_types.specs.declared.entry.Entry.TheVariants.{Well, River, Drain, General}
@@ -17,8 +17,7 @@ both_between R itself x y (inl h) = (record { lies = inl (itself x, h) }, record
 both_between R itself x y (inr h) = (record { lies = inr (h, itself x) }, record { lies = inr (itself y, h) })
 
 fractions : (f g : Fraction) → Both IsFractionBetween f g
-fractions f g =
-    both_between AtMost least f g (by_lt_z (f.num *ℤ pos (den g)) (g.num *ℤ pos (den f)) (λ lt. inl (record { at_most = omega (arith, ints, lt) })) (λ le. inr (record { at_most = le })))
+fractions f g = grind (arith, both_between, least, by_lt_z)
 
 ratios : (f g : Ratio) → Both IsRatioBetween f g
 ratios f g = both_between IsRatioAtMost AtMost-refl f g (elim (cases_lt (f.num * ratio_den g) (g.num * ratio_den f)) [ inl h ↦ inl (record { cross = omega (arith, h) }) | inr h ↦ inr (record { cross = omega (arith, h) }) ])
@@ -68,9 +67,7 @@ at_most_itself : (x : Given) → IsGivenAtMost x x
 at_most_itself x = record { start = least (number x.shead); end = least (number x.ehead) }
 
 given_heads : (x y : Given) → AreGivenAlike x y → Both IsGivenBetween x y
-given_heads x y h =
-    let (first, second) = both_between IsGivenAtMost at_most_itself x y h.heads in
-    (record { cell = refl; alike = h.cell; heads = first }, record { cell = h.cell; alike = h.cell; heads = second })
+given_heads x y h = grind (arith, both_between, at_most_itself)
 
 rates : (x y : Dec) → AreRatesAlike x y → Both IsRateBetween x y
 rates x y e = (record { rate = (sizes x y).0; idle = refl; alike = e }, record { rate = (sizes x y).1; idle = e; alike = e })

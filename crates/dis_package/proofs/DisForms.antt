@@ -13,10 +13,7 @@ use Rattle.dis_package.specs.declared.periods.Time.{Time}
 
 -- What the tests of a period's line tell of its times.
 growing : (t : Time) → (nat_le t.nstp 1000 && (is_at_least 3 (size t.tsmult) && is_at_most 1000 (size t.tsmult))) ≡ true → IsGrowing (period_of t)
-growing t e =
-    let p = and_parts (nat_le t.nstp 1000) (is_at_least 3 (size t.tsmult) && is_at_most 1000 (size t.tsmult)) e in
-    let q = and_parts (is_at_least 3 (size t.tsmult)) (is_at_most 1000 (size t.tsmult)) p.1 in
-    record { few = leb-true t.nstp 1000 p.0; least = at_least_thousandth (size t.tsmult) q.0; most = at_most_thousand (size t.tsmult) q.1 }
+growing t e = grind (arith, and_parts, nat_le, leb-true, at_least_thousandth, at_most_thousand)
 
 grown : (t : Time) → is_growth t ≡ true → (t.tsmult ≡ number_one) ⊎ IsGrowing (period_of t)
 grown t e = by_case (is_one t.tsmult) refl e

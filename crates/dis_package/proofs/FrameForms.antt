@@ -16,9 +16,7 @@ at_end [] z = refl
 at_end (x ∷ above) z = at_end above z
 
 pub last_of : (above all : List ℤ) (z : ℤ) (layers : ℕ) → 1 ≤ layers → length above ≡ layers - 1 → all ≡ above ++ z ∷ [] → z ≡ pos 0 → int_at all (layers - 1) ≡ pos 0
-last_of above all z layers some count is zero =
-    let k : layers - 1 ≡ length above = grind arith in
-    rw (is, k, at_end above z) zero
+last_of above all z layers some count is zero = grind (arith, at_end)
 
 -- a count from 1 to a limit
 abbrev pub IsCount : ℕ → ℕ → Type 0

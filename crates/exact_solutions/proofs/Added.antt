@@ -112,10 +112,7 @@ sum_below-with_last n f X S N =
     rw (sum-same n (λ j. f j *ℤ with_last n S N X j) (λ j. f j *ℤ (S *ℤ X j)) (λ j i. ap (λ (z : ℤ). f j *ℤ z) (with_last-below n S N X j i)), with_last-at n S N X, sum_below-scaled n f X S) refl
 
 pub sum_below-combined : (n : ℕ) (f g X : ℕ → ℤ) (S t : ℤ) → sum_below n (λ j. (S *ℤ f j +ℤ t *ℤ g j) *ℤ X j) ≡ S *ℤ sum_below n (λ j. f j *ℤ X j) +ℤ t *ℤ sum_below n (λ j. g j *ℤ X j)
-sum_below-combined zero f g X S t = none S t
-  where
-    none : (s t : ℤ) → pos 0 ≡ s *ℤ pos 0 +ℤ t *ℤ pos 0
-    none s t = rw (*ℤ-zero s, *ℤ-zero t) refl
+sum_below-combined zero f g X S t = grind (arith)
 sum_below-combined (suc n) f g X S t = rw (sum_below-combined n f g X S t) (ring S t (sum_below n (λ j. f j *ℤ X j)) (sum_below n (λ j. g j *ℤ X j)) (f n) (g n) (X n))
   where
     ring : (s t a b f g x : ℤ) → s *ℤ a +ℤ t *ℤ b +ℤ (s *ℤ f +ℤ t *ℤ g) *ℤ x ≡ s *ℤ (a +ℤ f *ℤ x) +ℤ t *ℤ (b +ℤ g *ℤ x)

@@ -1,7 +1,7 @@
 -- The worked steps: the balance of a cell with a river and a well, and of two linked cells, and the heads at which they are zero.
 use Rattle.exact_solutions.proofs.Common.{◌≡◌, ◌*◌, ◌<◌, ◌∙◌, ◌+ℤ◌, ◌-ℤ◌, ◌*ℤ◌, ◌≤ℤ◌, [], ◌∷◌, ℕ, zero, suc, refl, sym, ap, arith, ℤ, pos, neg_ℤ, List, int_max}
 use Rattle.exact_solutions.proofs.Common.{AllZip, ints, clamps, Same, whole, IsOver, share, SolvesStep, whole_solves, CellOver, add_mul, sub_mul, WholeCell}
-use Rattle.exact_solutions.proofs.Common.{whole_at, whole_balance, mul_mono_right, swap, HasNoneOrMany, river_and_well, linked_to, two_cells, WellPastDeepFlow}
+use Rattle.exact_solutions.proofs.Common.{whole_at, whole_balance, mul_mono_right, swap, HasNoneOrMany, river_and_well, two_cells, WellPastDeepFlow}
 use Rattle.exact_solutions.proofs.Common.{WellWithinDeepFlow, WellOfDeepFlow, TwoLooseCells, neg_mul}
 use Rattle.exact_solutions.proofs.HeldSteps.{crossed_same, same_crossed}
 use Rattle.exact_solutions.proofs.WholeSolutions.{share_is_over, whole_balances_solve}
@@ -11,10 +11,7 @@ whole_over : (d : ℕ) (z : ℤ) → IsOver d (whole z) (z *ℤ pos d)
 whole_over d z = record { is = omega (arith, ints) }
 
 whole_flow_over : (d : ℕ) (z : ℤ) → IsOver (1 * d) (whole z) (z *ℤ pos d)
-whole_flow_over d z = record { is = ap (λ (k : ℕ). z *ℤ pos k) (one d) ∙ (whole_over d z).is }
-  where
-    one : (d : ℕ) → 1 * d ≡ d
-    one d = omega arith
+whole_flow_over d z = grind (arith, whole_over)
 
 -- two heads one apart are not the same number
 one_apart : (d : ℕ) (x y : ℤ) → 0 < d → y ≡ x +ℤ pos 1 → Same (share d x) (share d y) → ⊥
@@ -34,17 +31,7 @@ abbrev river_whole : ℕ → ℕ → List WholeCell
 river_whole taken d = record { flows = (neg_ℤ (pos taken) *ℤ pos d) ∷ []; links = []; fixed = []; rivers = record { c = 1; top = pos 5 *ℤ pos d; foot = pos 0 *ℤ pos d } ∷ []; drains = []; evaps = [] } ∷ []
 
 river_over : (taken d : ℕ) → AllZip (CellOver 1 d) (river_and_well taken) (river_whole taken d)
-river_over taken d = (
-  record {
-    flows = (record { flow = whole_flow_over d (neg_ℤ (pos taken)) }, tt);
-    links = tt;
-    fixed = tt;
-    rivers = (record { c = record { is = refl }; top = whole_over d (pos 5); foot = whole_over d (pos 0) }, tt);
-    drains = tt;
-    evaps = tt;
-  },
-  tt,
-)
+river_over taken d = grind (arith, whole_flow_over, whole_over)
 
 river_balance : (taken d : ℕ) (X : ℕ → ℤ) → 0 < d → SolvesStep (river_and_well taken) d X → IsBalanced taken d (X 0)
 river_balance taken d X some solves = omega (arith, ints, clamps, neg_mul (pos taken) (pos d), whole_solves 1 d (river_and_well taken) (river_whole taken d) d X X (river_over taken d) solves (λ c. share_is_over d (X c) some) 0 (omega arith))
@@ -100,10 +87,7 @@ abbrev linked_whole : ℕ → WholeCell
 linked_whole other = record { flows = []; links = record { cell = other; c = 1 } ∷ []; fixed = []; rivers = []; drains = []; evaps = [] }
 
 cells_over : (d : ℕ) → AllZip (CellOver 1 d) two_cells (linked_whole 1 ∷ linked_whole 0 ∷ [])
-cells_over d = (cell_over 0 1, (cell_over 1 0, tt))
-  where
-    cell_over : (id other : ℕ) → CellOver 1 d (linked_to id other) (linked_whole other)
-    cell_over id other = record { flows = tt; links = (record { same = refl; c = record { is = refl } }, tt); fixed = tt; rivers = tt; drains = tt; evaps = tt }
+cells_over d = grind (arith)
 
 level_solves : (d : ℕ) (X : ℕ → ℤ) → 0 < d → X 0 ≡ X 1 → SolvesStep two_cells d X
 level_solves d X some level = whole_balances_solve 1 d two_cells (linked_whole 1 ∷ linked_whole 0 ∷ []) X (omega arith) some (cells_over d) zeros

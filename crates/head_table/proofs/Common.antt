@@ -3,9 +3,7 @@ pub use Rattle.std.proofs.Common.{Err, IfOk, List, Ok, Result, [], ap, arith, ge
 pub use Rattle.std.proofs.Common.{refl, rules, set, subst, suc, sym, true, vec_len, zero, ℕ, ℤ, ⊎_elim, ◌*◌, ◌++◌, ◌+◌, ◌<◌, ◌∙◌, ◌∷◌, ◌≡◌, ◌≢◌, ◌⊎◌}
 pub use Rattle.std.proofs.lemmas.Int.{clamps, ints, to_z-of_z}
 pub use Rattle.std.specs.Mem.Slots.{slots_items}
-pub use mathlib.Core.Logic.{dite}
 pub use mathlib.Core.Option.{none, some, some-injective, some-ne-none}
-pub use native.Mathlib.Decide.{ℕ_discrete}
 pub use Rattle.atomic_table.proofs.Lists.{at_set, at_snoc, set_again, set_else}
 pub use Rattle.atomic_table.specs.Table.{Allows, Final, Joins, Me, Seen, Splits, State, keeps, opening, step, stepped}
 pub use Rattle.cell_relax.proofs.Sides.{each_side, is_side, tighter_first, tighter_head, tighter_is_one, tighter_second}

@@ -76,10 +76,7 @@ joins cells edges id other v w live live' s r at apart at' = let mine = r.each_s
 
 -- what the seat that stays has seen
 pub sound_joined : (v w : Known) → w.problem ≡ v.problem → IsSound v → IsSound w → IsSound (join_views v w)
-sound_joined v w e s t = let n : length w.problem ≡ length v.problem = ap length e in let a = s.whole in let b = t.whole in record {
-  whole = length_tightest v.seen w.seen (omega arith) ∙ s.whole;
-  heads = λ side c h. subst IsHead (sym (joined_at side v w (length v.problem) (omega arith) (omega arith) c h)) (tighter_head side _ _ (s.heads side c h) (t.heads side c (omega arith)));
-}
+sound_joined v w e s t = grind (arith, length_tightest, joined_at, tighter_head)
 
 -- A new table meets the rule; and what closed words keep.
 only_one : (cells : List Entries) (edges : Edges) (raw : List ℕ) (u : Known) → IsKnown cells edges raw u → (j : ℕ) (v : Known) → get_elem? (u ∷ []) j ≡ some v → v.live ≡ true → IsKnown cells edges raw v

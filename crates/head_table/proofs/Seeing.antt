@@ -4,7 +4,7 @@ use Rattle.head_table.proofs.Common.{◌≡◌, ℕ, ◌≢◌, List, get_or, se
 use Rattle.head_table.proofs.Common.{Entries, Edges, Known, IsKnown, IsTableKept, ◌<◌, length, refl, arith, none, step, Allows, Side, IsHead, IsProblem, sees}
 use Rattle.head_table.proofs.Common.{IsAsTight, other, heads_on, is_side, each_side, head_of_word, word_of, words_on, edge_on, WereSeen, IsNoTighterThanSettled}
 use Rattle.head_table.proofs.Common.{SeesHead, load_play, ℤ, length-set, turn_keeps, tighter, still_seen, IsRelaxedOn, tighter_word, OnTheWay, exchange_play}
-use Rattle.head_table.proofs.Common.{dite, ℕ_discrete, IsSound, seen_length, seen_here, seen_else, other_seen, with_head, IsExchange}
+use Rattle.head_table.proofs.Common.{IsSound, seen_length, seen_here, seen_else, other_seen, with_head, IsExchange}
 use lib.Seq.{set-get_or}
 use Rattle.head_table.proofs.WordReads.{at_word, word_within, word_here, word_else, other_words, tighter_old, tighter_new, tighter_one}
 
@@ -19,12 +19,7 @@ abbrev now_seen : Side → KnownMe → ℕ → ℤ → Known
 now_seen side me c h = record me.0 { seen = with_head side me.0.seen c h }
 
 sees_head : (side : Side) (me : KnownMe) (c : ℕ) (h : ℤ) → c < length me.0.seen → SeesHead side me c h (now_seen side me c h, me.1)
-sees_head side me c h long = record {
-  stays = record { live = refl; problem = refl; barrier = refl; whole = seen_length side me.0.seen c _; slots = refl };
-  here = seen_here side me.0.seen c h long;
-  others = seen_else side me.0.seen c h;
-  opposite = other_seen side me.0.seen c h long;
-}
+sees_head side me c h long = grind (arith, seen_length, seen_here, seen_else, other_seen)
 
 -- what is asked of each live view, after one view has changed
 pub views_stay : (P : Known → Type 0) (vs : List Known) (id : ℕ) (w : Known) → (w.live ≡ true → P w) → ((j : ℕ) (v : Known) → get_elem? vs j ≡ some v → v.live ≡ true → P v)
@@ -110,11 +105,4 @@ module _ (cells : List Entries) (edges : Edges) where
         )
 
 pub sound_seen : (side : Side) (m m' : KnownMe) (c : ℕ) (h : ℤ) → IsSound m.0 → IsHead h → SeesHead side m c h m' → IsSound m'.0
-sound_seen side m m' c h s ok e = let n : length m'.0.problem ≡ length m.0.problem = ap length e.stays.problem in record {
-  whole = e.stays.whole ∙ (s.whole ∙ sym n);
-  heads = each_side side (λ t. (d : ℕ) → d < length m'.0.problem → IsHead (heads_on t m'.0.seen d))
-      (λ d l. dite (ℕ_discrete d c)
-      (λ i. subst (λ (j : ℕ). IsHead (heads_on side m'.0.seen j)) (sym i) (subst IsHead (sym e.here) ok))
-      (λ ne. subst IsHead (sym (e.others d ne)) (s.heads side d (omega arith))))
-      (λ d l. subst IsHead (sym (e.opposite d)) (s.heads (other side) d (omega arith)));
-}
+sound_seen side m m' c h s ok e = grind (arith, each_side)

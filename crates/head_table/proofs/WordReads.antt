@@ -1,9 +1,10 @@
 -- What the words of a table, and bounds, read on each side after one of them is set.
 use Rattle.head_table.proofs.Common.{◌≡◌, ℕ, ◌+◌, ◌*◌, ◌<◌, ◌⊎◌, List, length, set, ap, arith, get_or-set_other, get_or-set_same, ints, clamps, Side, Low, High}
 use Rattle.head_table.proofs.Common.{IsAsTight, other, tighter_of, head_of_word, word_of, words_on, tighter_word, tighter_first, tighter_second, tighter_is_one}
-use Rattle.head_table.proofs.Common.{zero, suc, [], ◌∷◌, ◌++◌, get_or, sym, refl, ◌∙◌, subst, length-append, dite, some, some-injective, some-ne-none}
-use Rattle.head_table.proofs.Common.{get_elem?, ℕ_discrete, Bound, no_bound, head_of, heads_on, ℤ, Entries, AreNoLooser, each_side, seen_on, seen_of, SameOn}
-use Rattle.head_table.proofs.Common.{SameOnBut}
+use Rattle.head_table.proofs.Common.{zero, suc, [], ◌∷◌, ◌++◌, get_or, sym, refl, ◌∙◌, subst, length-append, some, some-injective, some-ne-none, get_elem?}
+use Rattle.head_table.proofs.Common.{Bound, no_bound, head_of, heads_on, ℤ, Entries, AreNoLooser, each_side, seen_on, seen_of, SameOn, SameOnBut}
+use mathlib.Core.Logic.{dite}
+use native.Mathlib.Decide.{ℕ_discrete}
 use Rattle.std.proofs.lemmas.List.{get_or_at}
 use Rattle.std.proofs.Math.ListN.{get_or-append}
 use Rattle.head_table.specs.declared.table.HeadSeat.{HeadSeat}
@@ -96,9 +97,7 @@ at_get (x ∷ xs) (suc i) a d e = at_get xs i a d e
 
 -- one more bound, read of the words
 pub row_next : (side : Side) (ws : List ℕ) (bs : List Bound) (i : ℕ) (x : Bound) → length bs ≡ i → head_of side x ≡ words_on side ws i → ((c : ℕ) → c < i → heads_on side bs c ≡ words_on side ws c) → (c : ℕ) → c < i + 1 → heads_on side (bs ++ x ∷ []) c ≡ words_on side ws c
-row_next side ws bs i x long here old c h = dite (ℕ_discrete c i)
-    (λ e. subst (λ (k : ℕ). heads_on side (bs ++ x ∷ []) k ≡ words_on side ws k) (sym e) (ap (head_of side) (get_or_at bs x [] no_bound i long) ∙ here))
-    (λ ne. ap (head_of side) (get_or-append bs (x ∷ []) no_bound c (omega arith)) ∙ old c (omega arith))
+row_next side ws bs i x long here old c h = grind (arith, get_or_at, get_or-append)
 
 -- Seats that loosen nothing.
 pub tight_refl : (side : Side) (x : ℤ) → IsAsTight side x x
@@ -110,11 +109,7 @@ tight_trans Low x y z p q = omega (arith, ints)
 tight_trans High x y z p q = omega (arith, ints)
 
 pub moves_no_looser : (side : Side) (cells : List Entries) (a b : HeadSeat) (c : ℕ) (r : ℤ) → seen_on side b c ≡ r → IsAsTight side (seen_on side a c) r → SameOnBut side c a b → SameOn (other side) a b → AreNoLooser cells (seen_of a) (seen_of b)
-moves_no_looser side cells a b c r here later others opposite = each_side side (λ t. (d : ℕ) → d < length cells → IsAsTight t (seen_on t a d) (seen_on t b d))
-    (λ d h. dite (ℕ_discrete d c)
-    (λ e. subst (λ (k : ℕ). IsAsTight side (seen_on side a k) (seen_on side b k)) (sym e) (subst (IsAsTight side (seen_on side a c)) (sym here) later))
-    (λ ne. subst (IsAsTight side (seen_on side a d)) (sym (others d ne)) (tight_refl side _)))
-    (λ d h. subst (IsAsTight (other side) (seen_on (other side) a d)) (sym (opposite d)) (tight_refl (other side) _))
+moves_no_looser side cells a b c r here later others opposite = grind (arith, each_side, tight_refl)
 
 pub same_no_looser : (cells : List Entries) (a b : HeadSeat) → seen_of b ≡ seen_of a → AreNoLooser cells (seen_of a) (seen_of b)
 same_no_looser cells a b e side d h = subst (IsAsTight side (seen_on side a d)) (ap (λ (l : List Bound). heads_on side l d) (sym e)) (tight_refl side _)
@@ -125,13 +120,9 @@ no_looser_trans cells a b c p q side d h = tight_trans side _ _ _ (p side d h) (
 -- one more bound was written
 pub shows_step : (at : Bound → ℤ) (seen seen' : ℕ → ℤ) (bs : List Bound) (i : ℕ) (x : Bound) → i < length bs → at x ≡ seen' i → ((d : ℕ) → (d ≡ i → ⊥) → seen' d ≡ seen d)
     → ((c : ℕ) → c < i → at (get_or bs c no_bound) ≡ seen c) → (c : ℕ) → c < i + 1 → at (get_or (set bs i x) c no_bound) ≡ seen' c
-shows_step at seen seen' bs i x inside here else old c h = dite (ℕ_discrete c i)
-    (λ e. subst (λ (k : ℕ). at (get_or (set bs i x) k no_bound) ≡ seen' k) (sym e) (ap at (get_or-set_same bs i x no_bound inside) ∙ here))
-    (λ ne. ap at (get_or-set_other bs i c x no_bound ne) ∙ (old c (omega arith) ∙ sym (else c ne)))
+shows_step at seen seen' bs i x inside here else old c h = grind (arith, set, get_or-set_same, get_or-set_other)
 
 -- one more bound was written, which has what the others have
 pub holds_step : (P : ℕ → ℤ → Type 0) (at : Bound → ℤ) (bs : List Bound) (i : ℕ) (x : Bound) → i < length bs → P i (at x)
     → ((c : ℕ) → c < i → P c (at (get_or bs c no_bound))) → (c : ℕ) → c < i + 1 → P c (at (get_or (set bs i x) c no_bound))
-holds_step P at bs i x inside here old c h = dite (ℕ_discrete c i)
-    (λ e. subst (λ (k : ℕ). P k (at (get_or (set bs i x) k no_bound))) (sym e) (subst (λ (y : Bound). P i (at y)) (sym (get_or-set_same bs i x no_bound inside)) here))
-    (λ ne. subst (λ (y : Bound). P c (at y)) (sym (get_or-set_other bs i c x no_bound ne)) (old c (omega arith)))
+holds_step P at bs i x inside here old c h = grind (arith, set, get_or-set_same, get_or-set_other)

@@ -18,7 +18,7 @@ pub use Rattle.evt_package.specs.{cell_tested, chosen_cell, column_step, column_
 unfoldable pub use Rattle.evt_package.specs.{columns_tested, evt_of}
 pub use Rattle.list_package.proofs.ColumnLemmas.{entry_list, given_list, placed}
 pub use Rattle.list_package.proofs.ListForms.{lists_are, steps}
-pub use Rattle.list_package.specs.{IsEntry, IsListOf, Kind, entries_in, given_heads, is_growing, kind_of, with_entries, with_list}
+pub use Rattle.list_package.specs.{IsEntry, IsListOf, Kind, entries_in, given_heads, kind_of, with_entries, with_list}
 unfoldable pub use Rattle.list_package.specs.{package_of}
 pub use Rattle.list_package.specs.declared.entries.ListKind.{ListKind}
 pub use Rattle.list_package.specs.declared.entries.ListKind.TheVariants.{Drains, Generals, Rivers, Wells}

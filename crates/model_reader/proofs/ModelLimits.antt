@@ -1,6 +1,6 @@
 -- A model that is read is in limits.
-use Rattle.model_reader.proofs.Common.{◌≡◌, ◌⊎◌, inl, inr, ℕ, ◌+◌, ◌<◌, ℤ, pos, ◌≤ℤ◌, Bool, true, false, not, cond, ◌&&◌, ◌||◌, nat_le, nat_lt, List, [], ◌∷◌}
-use Rattle.model_reader.proofs.Common.{All, length, refl, sym, ap, arith, FlowModel, layer_size, cell_count, IsModel, IsCellValid, IsBedValid, IsBedChecked}
+use Rattle.model_reader.proofs.Common.{◌≡◌, ◌⊎◌, inl, inr, ℕ, ◌+◌, ◌<◌, ℤ, pos, ◌≤ℤ◌, Bool, true, false, not, ◌&&◌, ◌||◌, nat_le, nat_lt, List, [], ◌∷◌, All}
+use Rattle.model_reader.proofs.Common.{length, refl, sym, ap, arith, FlowModel, layer_size, cell_count, IsModel, IsCellValid, IsBedValid, IsBedChecked}
 use Rattle.model_reader.proofs.Common.{IsPeriod, Properties, StartHead, Thickness, is_transient, HasFlow, is_checked_bed, dec_at, is_active, has_bed, top_at}
 use Rattle.model_reader.proofs.Common.{bottom_at, lowest, negsuc, Result, Ok, Err, IfOk, FileSet, InputFault, Has, Pairs, model_of, All-nil, All-cons}
 use Rattle.model_reader.proofs.Common.{All-weaker, Dec, number, IsLayerArray, is_int, Grid, Limits, Period, Wells, Rivers, Drains, Generals, IsReals, is_option}
@@ -59,11 +59,7 @@ all_steady (p ∷ ps) e =
     by_case false f = absurd (let clash : true ≡ false = f in cc)
 
 storage : (m : FlowModel) → HasFlow m → All (λ p. p.steady ≡ true) m.periods ⊎ (length m.ss ≡ cell_count m.grid)
-storage m h = by_case (is_transient m.periods) refl h.ss.0
-  where
-    by_case : (b : Bool) → is_transient m.periods ≡ b → length m.ss ≡ cond b (cell_count m.grid) 0 → All (λ p. p.steady ≡ true) m.periods ⊎ (length m.ss ≡ cell_count m.grid)
-    by_case true e k = inr k
-    by_case false e k = inl (all_steady m.periods e)
+storage m h = grind (arith, all_steady)
 
 module _ (limits : Limits) (m : FlowModel) (h : IsSound limits m) where
   cell : (c : ℕ) → c < cell_count m.grid → is_active m c ≡ true → IsCellValid m c

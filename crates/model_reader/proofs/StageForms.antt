@@ -1,9 +1,9 @@
 -- The packages of stresses are read one after the other, each where the name file names it.
-use Rattle.model_reader.proofs.Common.{done, goes_on, then_, GivesOnly, Dec, IsNewPeriod, without_stresses, evt_of, Kind, entries_in, given_heads, is_growing}
-use Rattle.model_reader.proofs.Common.{kind_of, package_of, with_list, IsEntry, IsListOf, ListKind, Drains, Generals, Rivers, Wells, file_in, stresses}
-use Rattle.model_reader.proofs.Common.{where_named, with_stresses, HasSize, IsTimed, cell_count, Grid, Limits, FlowModel, Period, file_of, Pairs, Chd, Drn, Evt}
-use Rattle.model_reader.proofs.Common.{Ghb, Rch, Riv, Wel, FileSet, file_at, All, Bool, List, None, Option, Some, [], arith, false, inl, Refusal, Result, map}
-use Rattle.model_reader.proofs.Common.{pos, refl, subst, sym, true, ℕ, ℤ, ◌∙◌, ◌≡◌, All-nil, All-weaker, if◌then◌else◌, rch_of, wells, lists_are, steps, placed}
+use Rattle.model_reader.proofs.Common.{done, goes_on, then_, GivesOnly, Dec, IsNewPeriod, without_stresses, evt_of, Kind, entries_in, given_heads, kind_of}
+use Rattle.model_reader.proofs.Common.{package_of, with_list, IsEntry, IsListOf, ListKind, Drains, Generals, Rivers, Wells, file_in, stresses, where_named}
+use Rattle.model_reader.proofs.Common.{with_stresses, HasSize, IsTimed, cell_count, Grid, Limits, FlowModel, Period, file_of, Pairs, Chd, Drn, Evt, Ghb, Rch}
+use Rattle.model_reader.proofs.Common.{Riv, Wel, FileSet, file_at, All, Bool, List, None, Option, Some, [], arith, false, inl, Refusal, Result, map, pos, refl}
+use Rattle.model_reader.proofs.Common.{subst, sym, true, ℕ, ℤ, ◌∙◌, ◌≡◌, All-nil, if◌then◌else◌, rch_of, wells, lists_are, steps, placed}
 use Rattle.model_types.specs.declared.grid.CellId.{CellId}
 use Rattle.model_reader.proofs.RchForms.{HasOption, evt_is, rch_is}
 use Rattle.model_reader.proofs.PeriodForms.{IsKnown, IsOption, IsStage, no_option, with_entry_list, with_given_list}
@@ -39,22 +39,13 @@ no_entries limits cells p Wells = empty_list limits wells cells (without_stresse
 no_entries limits cells p k = empty_list limits (kind_of k) cells (without_stresses p) refl
 
 bare : (limits : Limits) (g : Grid) (ibound : List ℤ) (p : Period) → IsTimed (without_stresses p) → IsKnown limits g ibound (pos 0) (pos 0) (without_stresses p)
-bare limits g ibound p times = record {
-  times = times;
-  entries = no_entries limits (cell_count g) p;
-  given = empty_list limits given_heads (cell_count g) (without_stresses p) (either (is_growing p));
-  arrays = record { rch = record { none = λ e. refl; some = λ e. absurd (no_option e) }; evt = record { none = λ e. refl; some = λ e. absurd (no_option e) } };
-}
+bare limits g ibound p times = grind (arith, no_entries, empty_list, either, no_option)
 
 new_known : (limits : Limits) (g : Grid) (ibound : List ℤ) (p : Period) → IsNewPeriod p → IsKnown limits g ibound (pos 0) (pos 0) p
 new_known limits g ibound p h = subst (λ (q : Period). IsKnown limits g ibound (pos 0) (pos 0) q) (sym h.new) (bare limits g ibound p (subst (λ (q : Period). IsTimed q) h.new h.times))
 
 pub first_stage : (limits : Limits) (core : FlowModel) → core.nrchop ≡ pos 0 → core.nevtop ≡ pos 0 → All IsNewPeriod core.periods → IsStage limits core (pos 0) (pos 0) core
-first_stage limits core r e new = record {
-  is = λ i. record core { nrchop = r i; nevtop = e i };
-  same = refl;
-  each = All-weaker IsNewPeriod (IsKnown limits core.grid core.ibound (pos 0) (pos 0)) (new_known limits core.grid core.ibound) core.periods new;
-}
+first_stage limits core r e new = grind (arith, new_known)
 
 -- a model with stresses
 pub record IsStressed (limits : Limits) (core n : FlowModel) : Type 0 where

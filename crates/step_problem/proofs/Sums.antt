@@ -1,8 +1,8 @@
 -- Sums of flows: how far each lies from zero, and one step of a loop that makes them.
-use Rattle.step_problem.proofs.Common.{◌≡◌, refl, sym, subst, ◌∙◌, ℕ, suc, ◌+◌, ◌*◌, ◌^◌, ◌<◌, ◌≤◌, ap, arith, ℤ, pos, negsuc, ◌+ℤ◌, ◌-ℤ◌, ◌*ℤ◌, List, length}
-use Rattle.step_problem.proofs.Common.{get_or, min, take, drop, sum_by, FitsSigned, w128, at_drop_more, get_or-map, mul-le-mul, mul-le-mul_right, ints, clamps}
-use Rattle.step_problem.proofs.Common.{Link, ends_in, neg_ℤ, int_max, link_at, no_link, branch_flow, link_flow, river_flow, deep_river, head_limit, total}
-use Rattle.step_problem.proofs.Common.{IsWithin, RiverFits, Side, Low, High}
+use Rattle.step_problem.proofs.Common.{◌≡◌, refl, ℕ, suc, ◌+◌, ◌*◌, ◌^◌, ◌<◌, ◌≤◌, ap, arith, ℤ, pos, negsuc, ◌+ℤ◌, ◌-ℤ◌, ◌*ℤ◌, List, length, get_or, min, take}
+use Rattle.step_problem.proofs.Common.{drop, sum_by, FitsSigned, w128, at_drop_more, get_or-map, mul-le-mul, mul-le-mul_right, ints, clamps, Link, ends_in}
+use Rattle.step_problem.proofs.Common.{neg_ℤ, int_max, link_at, branch_flow, link_flow, river_flow, deep_river, head_limit, total, IsWithin, RiverFits, Side}
+use Rattle.step_problem.proofs.Common.{Low, High}
 use Rattle.step_problem.specs.declared.entry.River.{River}
 use Rattle.std.proofs.lemmas.List.Sums.{sum_by_more, sum_by-take-le}
 
@@ -30,9 +30,7 @@ FitsSigned-part g xs i m z h w = let le : sum_by g (take i xs) * m ≤ sum_by g 
 
 -- the flow over a link, with the head that is listed for its other end
 pub link_flow_is : (side : Side) (h : ℕ → ℤ) (own : ℤ) (links : List Link) (values : List ℤ) (i : ℕ) (t : ℤ) → ends_in h links ≡ values → i < length links → t ≡ branch_flow side (link_at links i).lo (link_at links i).hi (get_or values i (pos 0) -ℤ own) → t ≡ link_flow side h own (link_at links i)
-link_flow_is side h own links values i t e lt r =
-    let there : get_or values i (pos 0) ≡ h (link_at links i).cell = sym (ap (λ vs. get_or vs i (pos 0)) e) ∙ get_or-map (λ (x : Link). h x.cell) links i no_link (pos 0) lt in
-    subst (λ v. t ≡ branch_flow side (link_at links i).lo (link_at links i).hi (v -ℤ own)) there r
+link_flow_is side h own links values i t e lt r = grind (arith, get_or-map)
 
 -- a river's flow at the least head is its deep flow
 pub deep_is : (side : Side) (x : River) → RiverFits x → river_flow side (neg_ℤ (pos head_limit)) x ≡ deep_river side x
@@ -41,7 +39,4 @@ deep_is High x fits = let deep : int_max (neg_ℤ (pos head_limit)) x.bottom_lo 
 
 -- one more size goes into a sum that stops at a cap
 pub capped_more : {X : Type 0} (g : X → ℕ) (xs : List X) (i cap : ℕ) (d x : X) (s t u : ℕ) → i < length xs → x ≡ get_or xs i d → s ≡ min (sum_by g (take i xs)) cap → t ≡ g x → u ≡ min (s + t) cap → u ≡ min (sum_by g (take (i + 1) xs)) cap
-capped_more g xs i cap d x s t u h is so_far here more = rw (sum_by_more g xs i d h) (capped _ _ so_far (here ∙ ap g is))
-  where
-    capped : (a b : ℕ) → s ≡ min a cap → t ≡ b → u ≡ min (a + b) cap
-    capped a b p q = omega (arith, more)
+capped_more g xs i cap d x s t u h is so_far here more = grind (arith, sum_by_more)

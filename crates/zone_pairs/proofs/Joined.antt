@@ -2,7 +2,7 @@
 use Rattle.zone_pairs.proofs.Common.{◌≡◌, ℕ, zero, suc, ◌<◌, ◌≤◌, ◌⊎◌, inl, inr, Bool, true, false, ◌&&◌, ◌||◌, refl, ap, ◌∙◌, arith, List, [], ◌∷◌, All}
 use Rattle.zone_pairs.proofs.Common.{Option, Some, None, AllByRecursion, list_any, and_from, and_parts, eqb-true, leb-true, or_cases, or_left, or_right}
 use Rattle.zone_pairs.proofs.Common.{FlowModel, faces, variable_cells, is_active, ZonePair, joins, joins_by, share_face, pairs_below, pairs_in, zone_pairs}
-use Rattle.zone_pairs.proofs.Common.{AreNumbers, AreZones}
+use Rattle.zone_pairs.proofs.Common.{AreNumbers}
 use Rattle.std.proofs.lemmas.List.Elements.{recursion_from_All, All-nil, All-weaker, filter_passes}
 use Rattle.std.specs.Prelude.{◌==◌, nat_lt, slice_index}
 use Rattle.model_types.specs.declared.face.Face.{Face}
@@ -104,8 +104,3 @@ pub pairs_small : (m : FlowModel) (zones : Option (List ℕ)) (p : ℕ) → AreN
 unfolding zone_pairs
 pairs_small m None p h = All-nil IsPair
 pairs_small m (Some zones) p h = All-weaker _ IsPair (shared_small m zones h p) _ (filter_passes (share_face m zones p) (pairs_below 1000))
-
--- zones of a model's cells
-pub are_numbers : (m : FlowModel) (zones : Option (List ℕ)) → AreZones m zones → AreNumbers zones
-are_numbers m None h = tt
-are_numbers m (Some zones) h = h.limits
