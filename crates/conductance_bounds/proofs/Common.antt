@@ -7,11 +7,11 @@ pub use Rattle.std.proofs.lemmas.Int.{by_lt_z, clamps, ints, to_z-of_z, to_z_pos
 pub use Rattle.std.specs.Int.{int_max, int_min, w128, w64}
 pub use Rattle.std.specs.Option.{option_map}
 pub use Rattle.std.specs.Prelude.{IfNone, IfSome, if◌then◌else◌, nat_lt, unsigned_abs, unwrap_or, ◌==◌}
-pub use Rattle.conductance_bounds.specs.{AreBounds, AreThick, EvapsEnclose, FacesEnclose, FlowEncloses, HeadsEnclose, Holds, IsBed, IsBetween, IsColHalf}
-pub use Rattle.conductance_bounds.specs.{IsHalf, IsHeadUnits, IsOrdered, IsPassed, IsSlow, IsVertHalf, IsWithin, LiesWithin, Number, PairEncloses, Product}
-pub use Rattle.conductance_bounds.specs.{Quotient, RechargesEnclose, StoragesEnclose, Sum, Term, Within, area_formula, bed_of, bed_span, below, blend}
-pub use Rattle.conductance_bounds.specs.{ceiling_of, column_exact, column_k, column_k_term, evap_exact, evap_formula, exact, face_term, floor_of, flow}
-pub use Rattle.conductance_bounds.specs.{is_whole, other, part_term, recharge_exact, recharge_formula, resistance_sum, row_exact, row_term, signed_pair}
+pub use Rattle.conductance_bounds.specs.{AreBounds, AreThick, EvapsEnclose, FacesEnclose, FlowEncloses, FormulasHold, HeadsEnclose, Holds, IsBed, IsBetween}
+pub use Rattle.conductance_bounds.specs.{IsColHalf, IsHalf, IsHeadUnits, IsOrdered, IsPassed, IsSlow, IsVertHalf, IsWithin, LiesWithin, Number, PairEncloses}
+pub use Rattle.conductance_bounds.specs.{Product, Quotient, RechargesEnclose, StoragesEnclose, Sum, Term, Within, area_formula, bed_of, bed_span, below, blend}
+pub use Rattle.conductance_bounds.specs.{ceiling_of, column_exact, column_k, column_k_term, evap_exact, evap_formula, evap_term, exact, face_term, floor_of}
+pub use Rattle.conductance_bounds.specs.{flow, is_whole, other, part_term, recharge_exact, recharge_formula, resistance_sum, row_exact, row_term, signed_pair}
 pub use Rattle.conductance_bounds.specs.{small_flow, small_pair, storage_exact, storage_formula, storage_of, storage_term, storativity_exact, storativity_term}
 pub use Rattle.conductance_bounds.specs.{thick_term, thickness_of, vertical_exact, vertical_k, vertical_k_term, vertical_of, vertical_term}
 unfoldable pub use Rattle.conductance_bounds.specs.{bound, capped, capped_flow, factors_of, given_pair, head_pair, pair, part, power_term, reach, span}
@@ -32,12 +32,13 @@ pub use Rattle.decimal_input.specs.{Ratio, Reaches, down, number, over, signed, 
 unfoldable pub use Rattle.decimal_input.specs.{ratio, scaled}
 pub use Rattle.decimal_input.specs.Ratios.{AtMost, Same, den, plus, times}
 pub use Rattle.decimal_input.specs.declared.dec.Dec.{Dec}
-pub use Rattle.model_types.specs.{IsModel, IsPositive, IsThick, IsTimed, bed_thickness, between_heads, bottom_at, cell_count, column_of, conductance, dec_at}
-pub use Rattle.model_types.specs.{delc_at, delr_at, gap, hani_at, has_bed, hk_at, is_active, is_ratio, layer_size, lowest, multiplier, no_number, number_one}
-pub use Rattle.model_types.specs.{one, row_of, storativity, stride, thickness, top_at, two, vka_at, vkcb_at}
+pub use Rattle.model_types.specs.{EvapSource, IsModel, IsPositive, IsThick, IsTimed, bed_thickness, between_heads, bottom_at, cell_count, column_of}
+pub use Rattle.model_types.specs.{conductance, dec_at, delc_at, delr_at, gap, hani_at, has_bed, hk_at, is_active, is_ratio, layer_size, lowest, multiplier}
+pub use Rattle.model_types.specs.{no_number, number_one, one, row_of, storativity, stride, thickness, top_at, two, vka_at, vkcb_at}
 unfoldable pub use Rattle.model_types.specs.{area, column_conductance, geometric, half, in_a_row, passed, power, row_conductance, storage, vertical_conductance}
 unfoldable pub use Rattle.model_types.specs.{vertical_half}
 pub use Rattle.model_types.specs.declared.model.FlowModel.{FlowModel}
+pub use Rattle.model_types.specs.declared.period.Period.{Period}
 pub use Rattle.scaled_decimal.proofs.Rounded.{is_ceiling, is_floor, is_rounded, one_ceiling, one_floor, one_rounded, rounded_positive}
 pub use Rattle.scaled_decimal.specs.{AreOperands, HasSize, IsDown, IsNear, IsSd, IsUp, Lower, Side, Upper, in_units, rounded, value}
 pub use Rattle.scaled_decimal.specs.declared.decimal.Sd.{Sd}

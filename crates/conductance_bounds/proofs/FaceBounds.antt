@@ -2,12 +2,13 @@
 use Rattle.conductance_bounds.proofs.Common.{◌≡◌, ℕ, zero, suc, ◌+◌, ◌*◌, ◌<◌, inl, inr, true, cond, arith, ap, ◌∙◌, ℤ, pos, ◌-ℤ◌, ◌*ℤ◌, ◌==◌, unsigned_abs}
 use Rattle.conductance_bounds.proofs.Common.{cases_Bool, ints, number, size, Fraction, FlowModel, cell_count, layer_size, gap, dec_at, is_active, has_bed}
 use Rattle.conductance_bounds.proofs.Common.{bottom_at, lowest, delr_at, delc_at, bed_thickness, hk_at, vka_at, vkcb_at, is_ratio, row_conductance}
-use Rattle.conductance_bounds.proofs.Common.{column_conductance, vertical_half, vertical_conductance, conductance, IsModel, Number, Term, Within, PairEncloses}
-use Rattle.conductance_bounds.proofs.Common.{face_term, column_k_term, thick_term, span, stride, FacesEnclose, bed_span}
+use Rattle.conductance_bounds.proofs.Common.{column_conductance, vertical_half, vertical_conductance, conductance, IsModel, Number, Term, Within, face_term}
+use Rattle.conductance_bounds.proofs.Common.{column_k_term, thick_term, span, stride, FacesEnclose, bed_span}
+use Rattle.model_types.specs.declared.face.Axis.{Axis}
 use Rattle.model_types.specs.declared.face.Axis.TheVariants.{Row, Column, Vertical}
 use Rattle.conductance_bounds.proofs.Sides.{exact_positive, product, size_positive, within}
-use Rattle.conductance_bounds.proofs.LayerBounds.{IsLayerHalf, IsBedded, layers_enclose, no_bed, some_bed}
-use Rattle.conductance_bounds.proofs.Manual.{row_pair_encloses}
+use Rattle.conductance_bounds.proofs.LayerBounds.{IsLayerHalf, IsBedded, layers_give, no_bed, some_bed}
+use Rattle.conductance_bounds.proofs.Manual.{Gives, encloses, row_gives}
 use Rattle.conductance_bounds.proofs.Ready.{IsReady, is_ready}
 use Rattle.conductance_bounds.proofs.SpanBounds.{thick_positive}
 use Rattle.conductance_bounds.proofs.ThickBounds.{span_positive, thick_between}
@@ -25,16 +26,16 @@ layered (suc zero) size a h = absurd (omega (arith, h))
 layered (suc (suc k)) size a h = omega arith
 
 module _ (m : FlowModel) where
-  pub row_face : (a s : ℕ) → IsReady m a → IsReady m (a + stride m.grid Row) → PairEncloses (face_term m Row a) s (conductance m Row a)
+  row_face : (a : ℕ) → IsReady m a → IsReady m (a + stride m.grid Row) → Gives (face_term m Row a) (conductance m Row a)
   unfolding row_conductance
-  row_face a s p q =
-      row_pair_encloses _ _ (Number (size (hk_at m a))) (thick_term m a) _ (Number (size (hk_at m (a + stride m.grid Row)))) (thick_term m (a + stride m.grid Row)) s
+  row_face a p q =
+      row_gives _ _ (Number (size (hk_at m a))) (thick_term m a) _ (Number (size (hk_at m (a + stride m.grid Row)))) (thick_term m (a + stride m.grid Row))
       p.delc p.delr q.delr p.hk p.thick q.hk q.thick
 
-  pub column_face : (a s : ℕ) → IsReady m a → IsReady m (a + stride m.grid Column) → PairEncloses (face_term m Column a) s (conductance m Column a)
+  column_face : (a : ℕ) → IsReady m a → IsReady m (a + stride m.grid Column) → Gives (face_term m Column a) (conductance m Column a)
   unfolding column_conductance
-  column_face a s p q =
-      row_pair_encloses _ _ (column_k_term m a) (thick_term m a) _ (column_k_term m (a + stride m.grid Column)) (thick_term m (a + stride m.grid Column)) s
+  column_face a p q =
+      row_gives _ _ (column_k_term m a) (thick_term m a) _ (column_k_term m (a + stride m.grid Column)) (thick_term m (a + stride m.grid Column))
       p.delr p.delc q.delc (product p.hk p.hani) p.thick (product q.hk q.hani) q.thick
 
   abbrev bed_thick_term : ℕ → Term
@@ -43,13 +44,13 @@ module _ (m : FlowModel) where
   layer_half : (c : ℕ) → IsReady m c → 0 < (size (vka_at m c)).num → IsLayerHalf (size (hk_at m c)) (size (vka_at m c)) (thick_term m c)
   layer_half c p v = record { hk = exact_positive p.hk; vka = v; thick = p.thick }
 
-  pub vertical_face : (a s : ℕ) → IsReady m a → IsReady m (a + stride m.grid Vertical) → 0 < (size (vka_at m a)).num → 0 < (size (vka_at m (a + stride m.grid Vertical))).num →
-      IsBedded ((bed_thickness m a).num == 0) (bed_thick_term a) (size (vkcb_at m a)) → PairEncloses (face_term m Vertical a) s (conductance m Vertical a)
+  vertical_face : (a : ℕ) → IsReady m a → IsReady m (a + stride m.grid Vertical) → 0 < (size (vka_at m a)).num → 0 < (size (vka_at m (a + stride m.grid Vertical))).num →
+      IsBedded ((bed_thickness m a).num == 0) (bed_thick_term a) (size (vkcb_at m a)) → Gives (face_term m Vertical a) (conductance m Vertical a)
   unfolding vertical_half vertical_conductance
-  vertical_face a s p q va vb bedded =
+  vertical_face a p q va vb bedded =
       let b = a + stride m.grid Vertical in
-      layers_enclose (size (delr_at m a)) (size (delc_at m a)) (is_ratio m a) (size (hk_at m a)) (size (vka_at m a)) (thick_term m a) (is_ratio m b) (size (hk_at m b)) (size (vka_at m b)) (thick_term m b)
-      (bed_thick_term a) (size (vkcb_at m a)) ((bed_thickness m a).num == 0) s (layer_half a p va) (layer_half b q vb) bedded
+      layers_give (size (delr_at m a)) (size (delc_at m a)) (is_ratio m a) (size (hk_at m a)) (size (vka_at m a)) (thick_term m a) (is_ratio m b) (size (hk_at m b)) (size (vka_at m b)) (thick_term m b)
+      (bed_thick_term a) (size (vkcb_at m a)) ((bed_thickness m a).num == 0) (layer_half a p va) (layer_half b q vb) bedded
 
   bedded_at : IsModel m → (a : ℕ) → a + layer_size m.grid < cell_count m.grid → is_active m a ≡ true → is_active m (a + layer_size m.grid) ≡ true → IsBedded ((bed_thickness m a).num == 0) (bed_thick_term a) (size (vkcb_at m a))
   bedded_at valid a lt x y = elim (cases_Bool (has_bed m a)) [
@@ -63,11 +64,15 @@ module _ (m : FlowModel) where
     | inr e ↦ (let none : (bed_thickness m a).num ≡ 0 = no_gap (number (lowest m a)) (number (bottom_at m a)) (ap (λ b. number (cond b (dec_at m.grid.bed_bottom a) (dec_at m.grid.bottom a))) e) in no_bed _ (bed_thick_term a) _ none none)
   ]
 
-  -- The pairs of the faces of a valid model enclose its conductances.
-  pub faces_enclose : IsModel m → FacesEnclose m
-  faces_enclose valid Row a s lt x y = row_face a s (is_ready m a valid (omega (arith, lt)) x) (is_ready m (a + 1) valid lt y)
-  faces_enclose valid Column a s lt x y = column_face a s (is_ready m a valid (omega (arith, lt)) x) (is_ready m (a + m.grid.cols) valid lt y)
-  faces_enclose valid Vertical a s lt x y =
+  -- the formulas of the faces of a valid model
+  pub face_gives : IsModel m → (axis : Axis) (a : ℕ) → a + stride m.grid axis < cell_count m.grid → is_active m a ≡ true → is_active m (a + stride m.grid axis) ≡ true → Gives (face_term m axis a) (conductance m axis a)
+  face_gives valid Row a lt x y = row_face a (is_ready m a valid (omega (arith, lt)) x) (is_ready m (a + 1) valid lt y)
+  face_gives valid Column a lt x y = column_face a (is_ready m a valid (omega (arith, lt)) x) (is_ready m (a + m.grid.cols) valid lt y)
+  face_gives valid Vertical a lt x y =
       let two = layered m.grid.layers (layer_size m.grid) a lt in
-      vertical_face a s (is_ready m a valid (omega (arith, lt)) x) (is_ready m (a + layer_size m.grid) valid lt y)
+      vertical_face a (is_ready m a valid (omega (arith, lt)) x) (is_ready m (a + layer_size m.grid) valid lt y)
       (size_positive (vka_at m a) ((valid.cells a (omega (arith, lt)) x).vka two)) (size_positive (vka_at m (a + layer_size m.grid)) ((valid.cells (a + layer_size m.grid) lt y).vka two)) (bedded_at valid a lt x y)
+
+  -- The pairs of the faces enclose its conductances.
+  pub faces_enclose : IsModel m → FacesEnclose m
+  faces_enclose valid axis a s lt x y = encloses s (face_gives valid axis a lt x y)

@@ -87,17 +87,17 @@ whole_den : (a k : ℕ) → suc (a * k + a + k) ≡ suc a * suc k
 whole_den a k = omega arith
 
 -- what has not passed yet of the part below a bound
-passed_below : (f u w unit' v : ℕ) → v ≡ w + u → f ≤ unit' → f * v ≤ u * unit' → f * w ≤ u * (unit' - f)
-passed_below f u w unit' v e le h =
-    let parts : u * unit' ≡ u * f + u * (unit' - f) = (let q : unit' ≡ f + (unit' - f) = omega arith in ap (λ (z : ℕ). u * z) q ∙ (let d : u * (f + (unit' - f)) ≡ u * f + u * (unit' - f) = omega arith in d)) in
-    let both : f * v ≡ f * w + f * u = ap (λ (z : ℕ). f * z) e ∙ (let d : f * (w + u) ≡ f * w + f * u = omega arith in d) in
-    omega (arith, parts, both, h)
+below : (f u w r : ℕ) → f * (w + u) ≤ u * (f + r) → f * w ≤ u * r
+below f u w r h = omega (arith, h)
 
-passed_above : (g u w unit' v : ℕ) → v ≡ w + u → g ≤ unit' → u * unit' ≤ g * v → u * (unit' - g) ≤ g * w
-passed_above g u w unit' v e le h =
-    let parts : u * unit' ≡ u * g + u * (unit' - g) = (let q : unit' ≡ g + (unit' - g) = omega arith in ap (λ (z : ℕ). u * z) q ∙ (let d : u * (g + (unit' - g)) ≡ u * g + u * (unit' - g) = omega arith in d)) in
-    let both : g * v ≡ g * w + g * u = ap (λ (z : ℕ). g * z) e ∙ (let d : g * (w + u) ≡ g * w + g * u = omega arith in d) in
-    omega (arith, parts, both, h)
+above : (g u w r : ℕ) → u * (g + r) ≤ g * (w + u) → u * r ≤ g * w
+above g u w r h = omega (arith, h)
+
+passed_below : (f u w v r : ℕ) → v ≡ w + u → unit ≡ f + r → f * v ≤ u * unit → f * w ≤ u * r
+passed_below f u w v r e k h = below f u w r (subst (λ (x : ℕ). f * x ≤ u * (f + r)) e (subst (λ (x : ℕ). f * v ≤ u * x) k h))
+
+passed_above : (g u w v r : ℕ) → v ≡ w + u → unit ≡ g + r → u * unit ≤ g * v → u * r ≤ g * w
+passed_above g u w v r e k h = above g u w r (subst (λ (x : ℕ). u * (g + r) ≤ g * x) e (subst (λ (x : ℕ). u * x ≤ g * v) k h))
 
 -- The upper side is the lower one with the other signs.
 step_high : (s e hi : ℤ) (f g w u : ℕ) → f ≤ unit → g ≤ unit → f * w ≤ u * (unit - f) → u * (unit - g) ≤ g * w → int_max (blend s e f) (blend s e g) ≤ℤ (hi *ℤ pos unit) → (s *ℤ pos w +ℤ e *ℤ pos u) ≤ℤ (hi *ℤ (pos w +ℤ pos u))
@@ -122,8 +122,8 @@ given_within x F f g s e lo hi passed start_floor start_ceiling end_floor end_ce
     let E = number x.ehead in
     let w = den F - F.num in
     let v : den F ≡ w + F.num = omega (arith, passed.part) in
-    let from = passed_below f F.num w unit (den F) v passed.low_range passed.below in
-    let to = passed_above g F.num w unit (den F) v passed.high_range passed.above in
+    let from = passed_below f F.num w (den F) (unit - f) v (omega (arith, passed.low_range)) passed.below in
+    let to = passed_above g F.num w (den F) (unit - g) v (omega (arith, passed.high_range)) passed.above in
     let low = head_low S.num E.num lo s.lo e.lo (denominator S) (denominator E) w F.num (10 ^ 9) start_floor.at_most end_floor.at_most (step_low s.lo e.lo lo f g w F.num passed.low_range passed.high_range from to floor.at_most) in
     let high = head_high S.num E.num hi s.hi e.hi (denominator S) (denominator E) w F.num (10 ^ 9) start_ceiling.at_least end_ceiling.at_least (step_high s.hi e.hi hi f g w F.num passed.low_range passed.high_range from to ceiling.at_least) in
     let e₁ : suc ((E.less * S.less + E.less + S.less) * F.less + (E.less * S.less + E.less + S.less) + F.less) ≡ (denominator E * denominator S) * (w + F.num) = middle_den S.less E.less F.less ∙ ap (λ (z : ℕ). (denominator E * denominator S) * z) v in

@@ -9,7 +9,7 @@ use Rattle.std.proofs.lemmas.Bool.Decides.{nat_tests}
 use Rattle.conductance_bounds.specs.declared.vertical.VertHalf.{VertHalf}
 use Rattle.conductance_bounds.specs.declared.vertical.Bed.{Bed}
 use Rattle.conductance_bounds.proofs.Sides.{IsFactor, exact_positive, number, quotient, size_positive, sum, within}
-use Rattle.conductance_bounds.proofs.Manual.{half_of, plus_none, zero_times, Encloses-same, below_units, pair_encloses}
+use Rattle.conductance_bounds.proofs.Manual.{half_of, plus_none, zero_times, Gives, encloses, below_units, pair_encloses}
 use Rattle.decimal_input.proofs.Cross.{le_cancel}
 
 -- the vertical conductivity as it is rounded, and exactly
@@ -68,18 +68,19 @@ module _ (b : Term) (v : Ratio) (x y : Term) where
   joined_factor true none p q = sum p q
   joined_factor false bed p q = sum (sum p (quotient bed.1 (number v bed.0))) q
 
-pub layers_enclose : (r d : Ratio) (q₁ : Bool) (h₁ v₁ : Ratio) (t₁ : Term) (q₂ : Bool) (h₂ v₂ : Ratio) (t₂ b : Term) (v : Ratio) (bare : Bool) (s : ℕ) → IsLayerHalf h₁ v₁ t₁ → IsLayerHalf h₂ v₂ t₂ → IsBedded bare b v →
-    PairEncloses (Quotient (area_formula r d) (resistance_sum bare (vertical_term t₁ (vertical_k_term q₁ h₁ v₁)) (Quotient b (Number v)) (vertical_term t₂ (vertical_k_term q₂ h₂ v₂)))) s
+pub layers_give : (r d : Ratio) (q₁ : Bool) (h₁ v₁ : Ratio) (t₁ : Term) (q₂ : Bool) (h₂ v₂ : Ratio) (t₂ b : Term) (v : Ratio) (bare : Bool) → IsLayerHalf h₁ v₁ t₁ → IsLayerHalf h₂ v₂ t₂ → IsBedded bare b v →
+    Gives (Quotient (area_formula r d) (resistance_sum bare (vertical_term t₁ (vertical_k_term q₁ h₁ v₁)) (Quotient b (Number v)) (vertical_term t₂ (vertical_k_term q₂ h₂ v₂))))
     (over (times r d) (plus (plus (over (over (exact t₁) two) (vertical_k q₁ h₁ v₁)) (over (exact b) v)) (over (over (exact t₂) two) (vertical_k q₂ h₂ v₂))))
-layers_enclose r d q₁ h₁ v₁ t₁ q₂ h₂ v₂ t₂ b v bare s p q bed =
+layers_give r d q₁ h₁ v₁ t₁ q₂ h₂ v₂ t₂ b v bare p q bed =
     let x = half_term q₁ h₁ v₁ t₁ p in
     let y = half_term q₂ h₂ v₂ t₂ q in
     let whole = joined_factor b v x y bare bed (half_factor q₁ h₁ v₁ t₁ p) (half_factor q₂ h₂ v₂ t₂ q) in
     let thick = over-positive (exact t₁) two (exact_positive p.thick) in
-    Encloses-same _ _ s _ _
-    (over-Same (exact_positive whole) (plus-positive _ _ (plus-positive _ (over (exact b) v) (over-positive (over (exact t₁) two) _ thick))) (Same-self (times r d))
-    (joined_is b v x y bare _ _ bed (half_is q₁ h₁ v₁ t₁ p) (half_is q₂ h₂ v₂ t₂ q)))
-    (pair_encloses _ s ((tt, tt), whole.holds, whole.some))
+    record {
+      holds = ((tt, tt), whole.holds, whole.some);
+      same = over-Same (exact_positive whole) (plus-positive _ _ (plus-positive _ (over (exact b) v) (over-positive (over (exact t₁) two) _ thick))) (Same-self (times r d))
+          (joined_is b v x y bare _ _ bed (half_is q₁ h₁ v₁ t₁ p) (half_is q₂ h₂ v₂ t₂ q));
+    }
 
 -- what lies below zero is nothing
 none_below : (f : Ratio) (hi : Sd) → hi.m ≡ 0 → AtMost f (value hi) → f.num ≡ 0
@@ -100,8 +101,8 @@ pub branch_encloses : (a b : VertHalf) (bed : Bed) (delr delc : Dec) (s : ℕ) �
     IsBetween a.thick_lo a.thick_hi f → IsBetween b.thick_lo b.thick_hi g → IsBetween bed.thick_lo bed.thick_hi h →
     PairEncloses (vertical_of a b bed delr delc f g h) s (vertical_exact a b bed delr delc f g h)
 branch_encloses a b bed delr delc s p q w f g h x y z =
-    layers_enclose (size delr) (size delc) a.ratio (size a.hk) (size a.vka) (Within a.thick_lo a.thick_hi f) b.ratio (size b.hk) (size b.vka) (Within b.thick_lo b.thick_hi g)
-    (Within bed.thick_lo bed.thick_hi h) (size bed.vkcb) (bed.thick_lo.m == 0) s (layer_half a f p x) (layer_half b g q y) (bedded bed h w z)
+    encloses s (layers_give (size delr) (size delc) a.ratio (size a.hk) (size a.vka) (Within a.thick_lo a.thick_hi f) b.ratio (size b.hk) (size b.vka) (Within b.thick_lo b.thick_hi g)
+    (Within bed.thick_lo bed.thick_hi h) (size bed.vkcb) (bed.thick_lo.m == 0) (layer_half a f p x) (layer_half b g q y) (bedded bed h w z))
 
 -- the bounds of VK where VKA is a ratio
 pub ratio_bounds : (b : Bool) (h v : Ratio) (x : Span) → b ≡ true → AreBounds (Quotient (Number h) (Number v)) x → AreBounds (vertical_k_term b h v) x

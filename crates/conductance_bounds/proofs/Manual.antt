@@ -33,6 +33,14 @@ Encloses-same lo hi s f g e h = record {
   upper = above_units hi f.num (den f) g.num (den g) (10 ^ s) (omega arith) h.upper (omega (arith, e.cross));
 }
 
+-- the formula holds, and its value is f
+pub record Gives (t : Term) (f : Ratio) : Type 0 where
+  pub holds : Holds t
+  pub same : Same (exact t) f
+
+pub encloses : {t : Term} {f : Ratio} (s : ℕ) → Gives t f → PairEncloses t s f
+encloses {t} {f} s g = Encloses-same _ _ s (exact t) f g.same (pair_encloses t s g.holds)
+
 -- Half of a cell: equal formulas of its resistance.
 -- 2 * w * k * t, in the two ways to group it
 regrouped : (w x k y t z : ℕ) → ((w * x + w * x) * (k * t)) * (((1 * x) * y) * z) ≡ (((2 * w) * k) * t) * ((x * x) * (y * z))
@@ -71,15 +79,17 @@ same_row w d₁ k₁ t₁ d₂ k₂ t₂ hw hd₁ hk₁ ht₁ hk₂ ht₂ =
     let p : 0 < (half d₁ w k₁ t₁).num = half_positive d₁ w k₁ t₁ hd₁ in
     over-Same (plus-positive _ _ (over-positive d₁ _ hd₁)) (plus-positive _ _ p) (record { cross = refl }) (plus-Same (half-Same d₁ w k₁ t₁ hw hk₁ ht₁) (half-Same d₂ w k₂ t₂ hw hk₂ ht₂))
 
--- the pair of a row's or a column's formula contains the manual's conductance
-pub row_pair_encloses : (w d₁ : Ratio) (k₁ t₁ : Term) (d₂ : Ratio) (k₂ t₂ : Term) (s : ℕ) → 0 < w.num → 0 < d₁.num → 0 < d₂.num → IsFactor k₁ → IsFactor t₁ → IsFactor k₂ → IsFactor t₂ →
-    PairEncloses (row_term w d₁ k₁ t₁ d₂ k₂ t₂) s (in_a_row (half d₁ w (exact k₁) (exact t₁)) (half d₂ w (exact k₂) (exact t₂)))
-row_pair_encloses w d₁ k₁ t₁ d₂ k₂ t₂ s hw hd₁ hd₂ fk₁ ft₁ fk₂ ft₂ =
+-- a row's or a column's formula gives the manual's conductance
+pub row_gives : (w d₁ : Ratio) (k₁ t₁ : Term) (d₂ : Ratio) (k₂ t₂ : Term) → 0 < w.num → 0 < d₁.num → 0 < d₂.num → IsFactor k₁ → IsFactor t₁ → IsFactor k₂ → IsFactor t₂ →
+    Gives (row_term w d₁ k₁ t₁ d₂ k₂ t₂) (in_a_row (half d₁ w (exact k₁) (exact t₁)) (half d₂ w (exact k₂) (exact t₂)))
+row_gives w d₁ k₁ t₁ d₂ k₂ t₂ hw hd₁ hd₂ fk₁ ft₁ fk₂ ft₂ =
     let wide = sum (number w hw) (number w hw) in
     let first = quotient (number d₁ hd₁) (product wide (product fk₁ ft₁)) in
     let second = quotient (number d₂ hd₂) (product wide (product fk₂ ft₂)) in
-    Encloses-same _ _ s _ _ (same_row w d₁ (exact k₁) (exact t₁) d₂ (exact k₂) (exact t₂) hw hd₁ (exact_positive fk₁) (exact_positive ft₁) (exact_positive fk₂) (exact_positive ft₂))
-    (pair_encloses _ s (quotient number_one (sum first second)).holds)
+    record {
+      holds = (quotient number_one (sum first second)).holds;
+      same = same_row w d₁ (exact k₁) (exact t₁) d₂ (exact k₂) (exact t₂) hw hd₁ (exact_positive fk₁) (exact_positive ft₁) (exact_positive fk₂) (exact_positive ft₂);
+    }
 
 halves : (t dt k dk : ℕ) → (t * (dk * dk)) * ((dt * 2) * k) ≡ ((t * 1) * dk) * (dt * (k * dk + k * dk))
 halves t dt k dk = omega arith

@@ -4,8 +4,7 @@ use Rattle.conductance_bounds.proofs.Common.{ap, mul-le-mul_right, le_of_mul-le-
 use Rattle.conductance_bounds.proofs.Common.{times, AtMost-trans, AtMost-refl, Same-AtMost, num_plus, num_over, den_over, Same-trans, Same-sym, den_plus, value}
 use Rattle.conductance_bounds.proofs.Common.{IsTimed, number_one, one, power, geometric, multiplier, passed, Span, AreBounds, exact, bound, Lower, sum_term}
 use Rattle.conductance_bounds.proofs.Common.{part, pair, IsPassed, part_term, is_whole, power_term, over-Same, Same-self, plus-Same, times-Same, IsFloor, Sd}
-use Rattle.conductance_bounds.proofs.Common.{Upper, in_units, ◌∙◌, cond-false, cond-true, Part, one_floor}
-use Rattle.model_types.specs.declared.period.Period.{Period}
+use Rattle.conductance_bounds.proofs.Common.{Upper, in_units, ◌∙◌, cond-false, cond-true, Part, one_floor, Period}
 use Rattle.model_types.proofs.Growth.{horner}
 use Rattle.conductance_bounds.proofs.Sides.{IsFactor, bound_on, exact_positive, more_positive, quotient, size_positive, sum_factor}
 use Rattle.conductance_bounds.proofs.Manual.{Encloses-same, pair_encloses}

@@ -14,7 +14,7 @@ use Rattle.model_types.specs.{stride, dec_at, delr_at, delc_at, thickness, bed_t
 use Rattle.model_types.specs.{between_heads, is_active, top_at, bottom_at, lowest, IsPositive, EvapSource, recharge_flow, evap_conductance, storage, passed}
 use Rattle.model_types.specs.{IsTimed}
 use Rattle.conductance_bounds.specs.declared.span.Span.{Span}
-use Rattle.conductance_bounds.specs.Terms.{Term}
+use Rattle.conductance_bounds.specs.Terms.{Term, Holds}
 use Rattle.conductance_bounds.specs.Terms.Term.{Number, Within, Product, Quotient}
 use Rattle.conductance_bounds.specs.Pairs.{PairEncloses, FlowEncloses, units_at}
 use Rattle.conductance_bounds.specs.Parts.{sum_term, power_term, part, given_pair}
@@ -89,6 +89,16 @@ pub record AreThick (lo hi : Sd) : Type 0 where
   pub low_size : HasSize lo (neg_ℤ (pos 100)) (pos 100)
   pub high_size : HasSize hi (neg_ℤ (pos 100)) (pos 100)
   pub order : AtMost (value lo) (value hi)
+
+-- The formulas of a model hold: no divisor of theirs is 0, nor its lower bound, so that each of their bounds says something.
+-- those of the faces between active cells, of an active cell's storage in a transient period, of recharge and of evapotranspiration
+pub record FormulasHold (m : FlowModel) : Type 0 where
+  pub faces : (axis : Axis) (a : ℕ) → a + stride m.grid axis < cell_count m.grid → is_active m a ≡ true →
+      is_active m (a + stride m.grid axis) ≡ true → Holds (face_term m axis a)
+  pub storages : (p : Period) (n c : ℕ) → IsTimed p → p.steady ≡ false → c < cell_count m.grid → is_active m c ≡ true →
+      Holds (storage_term m p n c)
+  pub recharges : (rate : Dec) (c : ℕ) → Holds (recharge_term m rate c)
+  pub evaps : (x : EvapSource) (c : ℕ) → IsPositive x.depth → Holds (evap_term m x.rate x.depth c)
 
 -- How the bounds of a valid model enclose its exact numbers: each pair by the formula of a branch, of a storage, of a
 -- recharge, of an evapotranspiration or of a given head encloses the exact value.

@@ -10,9 +10,9 @@ pub use Rattle.conductance_bounds.specs.Branches.{recharge_formula, resistance_s
 pub use Rattle.conductance_bounds.specs.Branches.{storativity_exact, storativity_term, thickness_of, vertical_exact, vertical_half_of, vertical_k}
 pub use Rattle.conductance_bounds.specs.Branches.{vertical_k_term, vertical_of, vertical_term}
 pub use Rattle.conductance_bounds.specs.Calls.{IsBed, IsColHalf, IsHalf, IsThickness, IsVertHalf, IsZero, LiesWithin}
-pub use Rattle.conductance_bounds.specs.Formulas.{AreThick, EvapsEnclose, FacesEnclose, HeadsEnclose, RechargesEnclose, StoragesEnclose, area_term, bed_span}
-pub use Rattle.conductance_bounds.specs.Formulas.{bed_term, column_k_term, evap_term, face_term, recharge_term, storage_term, thick_span, thick_term}
-pub use Rattle.conductance_bounds.specs.Formulas.{vertical_half_term}
+pub use Rattle.conductance_bounds.specs.Formulas.{AreThick, EvapsEnclose, FacesEnclose, FormulasHold, HeadsEnclose, RechargesEnclose, StoragesEnclose}
+pub use Rattle.conductance_bounds.specs.Formulas.{area_term, bed_span, bed_term, column_k_term, evap_term, face_term, recharge_term, storage_term, thick_span}
+pub use Rattle.conductance_bounds.specs.Formulas.{thick_term, vertical_half_term}
 unfoldable pub use Rattle.conductance_bounds.specs.Formulas.{span}
 pub use Rattle.conductance_bounds.specs.Intervals.{AreBounds, IsOrdered}
 unfoldable pub use Rattle.conductance_bounds.specs.Intervals.{reach}
