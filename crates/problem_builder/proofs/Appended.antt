@@ -1,9 +1,8 @@
 -- The bounds of the entries of lists, appended cell by cell.
 use Rattle.problem_builder.proofs.Common.{◌≡◌, ℕ, ◌+◌, ◌<◌, inl, inr, Bool, true, false, cond, List, [], ◌∷◌, ◌++◌, length, get_or, set, take, refl, sym, ap}
 use Rattle.problem_builder.proofs.Common.{◌∙◌, subst, All, zero, suc, Option, None, map, replicate, arith, ◌==◌, get_or-set_same, get_or-set_other, append-nil}
-use Rattle.problem_builder.proofs.Common.{append_assoc, take_more, take_at, drop_at, get_or-map, length-map, map-set, All-take, All-drop, filter-append}
-use Rattle.problem_builder.proofs.Common.{cases_eq, eq-eqb, ne_eqb, Entry, cell_of, entries_of, LocalBounds, AreLocalBounds, AreAppended, IsEntryIn, local_in}
-use Rattle.problem_builder.proofs.Common.{no_bounds, kept_bounds}
+use Rattle.problem_builder.proofs.Common.{append_assoc, take_more, get_or-map, length-map, map-set, filter-append, cases_eq, eq-eqb, ne_eqb, Entry, cell_of}
+use Rattle.problem_builder.proofs.Common.{entries_of, LocalBounds, AreLocalBounds, AreAppended, IsEntryIn, local_in, no_bounds, kept_bounds}
 use Rattle.std.specs.Global.{Box}
 
 no_entries : (c : ℕ) → [] ≡ entries_of c []
@@ -48,26 +47,6 @@ module _ (s : ℕ) (old : List LocalBounds) (k : ℕ) (x y : LocalBounds) (e : E
         subst P (sym q) (here next es) h)
     | inr ne ↦ others c ne es h
   ]
-
-all_front : {X : Type 0} (P : X → Type 0) (xs ys : List X) → All P (xs ++ ys) → All P xs
-all_front P xs ys h = subst (All P) (take_at xs ys (length xs) refl) (All-take P (length xs) (xs ++ ys) h)
-
-all_rest : {X : Type 0} (P : X → Type 0) (xs ys : List X) → All P (xs ++ ys) → All P ys
-all_rest P xs ys h = subst (All P) (drop_at xs ys (length xs) refl) (All-drop P (length xs) (xs ++ ys) h)
-
--- the entries of each of the four lists lie in the grid
-pub record AreFourIn (n : ℕ) (w r d g : List Entry) : Type 0 where
-  pub wells : All (IsEntryIn n) w
-  pub rivers : All (IsEntryIn n) r
-  pub drains : All (IsEntryIn n) d
-  pub generals : All (IsEntryIn n) g
-
-pub four_in : (n : ℕ) (w r d g : List Entry) → All (IsEntryIn n) (w ++ (r ++ (d ++ g))) → AreFourIn n w r d g
-four_in n w r d g h =
-    let P : Entry → Type 0 = IsEntryIn n in
-    let a = all_rest P w (r ++ (d ++ g)) h in
-    let b = all_rest P r (d ++ g) a in
-    record { wells = all_front P w (r ++ (d ++ g)) h; rivers = all_front P r (d ++ g) a; drains = all_front P d g b; generals = all_rest P d g b }
 
 -- as one call names the list and the number, and another
 pub renamed : (n k : ℕ) (xs ys : List Entry) → k ≡ n → ys ≡ xs → All (IsEntryIn n) xs → All (IsEntryIn k) ys

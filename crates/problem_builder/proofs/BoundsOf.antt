@@ -60,9 +60,6 @@ pub last_head : (m : FlowModel) (k c : ℕ) (o : Option Given) → IsModel m →
 last_head m k c None valid e = tt
 last_head m k c (Some x) valid e = (last_valid m k c x valid (sym e)).ehead
 
-product_den : (a b : ℕ) → suc (a * b + a + b) ≡ suc a * suc b
-product_den a b = omega arith
-
 minus_is : (a b x y : ℤ) → a *ℤ x +ℤ neg_ℤ b *ℤ y ≡ a *ℤ x -ℤ b *ℤ y
 minus_is a b x y = rw (as_diff a, as_diff b, as_diff x, as_diff y) (simp diffs (same_diff _ _ _ _ (omega arith)))
 
@@ -126,7 +123,7 @@ module _ (m : FlowModel) (s : ℕ) (c : ℕ) where
       let D = number x.depth in
       let surface = head_bound x.surface in
       let bed = head_bound x.depth in
-      let den : denominator (plus S (negated D)) ≡ denominator S * denominator D = product_den S.less D.less in
+      let den : denominator (plus S (negated D)) ≡ denominator S * denominator D = omega arith in
       record {
         conductance = capped_encloses (evap_term m x.rate x.depth c) s (evap_conductance m c x) (evaps_enclose m x c s depth) small;
         surface = head_encloses x.surface;

@@ -1,18 +1,17 @@
 -- A cell without a refusal keeps what a problem asks of a cell alone.
-use Rattle.problem_builder.proofs.Common.{false, Bool, EnclosesSigned, cond, faces_enclose, map, period_at, range_with_len, refl, start_head, storage}
-use Rattle.problem_builder.proofs.Common.{storage_term, get_or-map-range_with_len, length-map-range_with_len, HeadsEnclose, In-map, face_pair, head_bound}
-use Rattle.problem_builder.proofs.Common.{start_bound, whole_cell, whole_fixed, whole_link, ◌≡◌, ℕ, ◌<◌, ◌≤◌, inl, inr, true, None, List, sym, subst, arith}
-use Rattle.problem_builder.proofs.Common.{All, ◌+◌, [], ◌∷◌, ◌++◌, length, get_or, ap, ◌∙◌, pos, ◌==◌, list_any, Bound, Link, no_bound, lower_at, upper_at}
-use Rattle.problem_builder.proofs.Common.{LinkFits, FixedFits, CellFits, IsHead, Face, FlowModel, TimeStep, cell_count, is_active, conductance, is_variable}
-use Rattle.problem_builder.proofs.Common.{is_constant, FixedSource, local_entries, variable_faces, fixed_sources, ToConstant, ToGeneral, FromStorage, IsModel}
-use Rattle.problem_builder.proofs.Common.{IsEntryValid, dec_at, In, IsFaceOf, passing_are, end_within, face_term, AreGridHeads, IsTimeOf, fault_of}
-use Rattle.problem_builder.proofs.Common.{AreStartHeads, or_parts, cases_order, get_or_append_left, get_or_push, length_push, Filled, ints, storages_enclose}
-use Rattle.problem_builder.proofs.Common.{map-range_with_len_more}
+use Rattle.problem_builder.proofs.Common.{false, Bool, EnclosesSigned, cond, map, period_at, range_with_len, refl, start_head, storage_term}
+use Rattle.problem_builder.proofs.Common.{get_or-map-range_with_len, length-map-range_with_len, HeadsEnclose, In-map, face_pair, head_bound, start_bound}
+use Rattle.problem_builder.proofs.Common.{whole_cell, whole_fixed, whole_link, ◌≡◌, ℕ, ◌<◌, ◌≤◌, inl, inr, true, None, List, sym, subst, arith, All, ◌+◌, []}
+use Rattle.problem_builder.proofs.Common.{◌∷◌, ◌++◌, length, get_or, ap, ◌∙◌, pos, ◌==◌, list_any, Bound, Link, no_bound, lower_at, upper_at, LinkFits}
+use Rattle.problem_builder.proofs.Common.{FixedFits, CellFits, IsHead, Face, FlowModel, TimeStep, cell_count, is_active, is_variable, is_constant, FixedSource}
+use Rattle.problem_builder.proofs.Common.{local_entries, variable_faces, fixed_sources, ToConstant, ToGeneral, FromStorage, IsModel, IsEntryValid, dec_at, In}
+use Rattle.problem_builder.proofs.Common.{IsFaceOf, passing_are, end_within, face_term, AreGridHeads, IsTimeOf, fault_of, AreStartHeads, or_parts, cases_order}
+use Rattle.problem_builder.proofs.Common.{get_or_append_left, get_or_push, length_push, Filled, ints, map-range_with_len_more, capped_ordered, formulas_hold}
 use Rattle.problem_builder.proofs.Members.{variable_active, constant_active, fixed_source}
 use Rattle.problem_builder.proofs.BoundsOf.{head_range}
 use Rattle.problem_builder.proofs.HeadRange.{AreHeads, head_range_of, head_encloses}
 use Rattle.problem_builder.proofs.FacePairs.{face_range, face_active}
-use Rattle.problem_builder.proofs.Fits.{capped_ordered, cond_ordered, rivers_fit, drains_fit, evaps_fit}
+use Rattle.problem_builder.proofs.Fits.{cond_ordered, rivers_fit, drains_fit, evaps_fit}
 use Rattle.problem_builder.proofs.Sound.{sound, none_passes, positive_unless_zero}
 use Rattle.problem_builder.proofs.ValidEntries.{local_valid}
 use Rattle.problem_builder.proofs.Zipped.{all_mapped}
@@ -27,7 +26,7 @@ module _ (m : FlowModel) (s : ℕ) (at : TimeStep) (old : List Bound) (valid : I
   face_ordered : (f : Face) → IsFaceOf m.grid c f → is_active m f.end ≡ true → (face_pair m s f.axis f.first).lo ≤ (face_pair m s f.axis f.first).hi
   face_ordered f g b =
       let (x, y) = face_active m c f g here b in
-      capped_ordered (face_term m f.axis f.first) s (conductance m f.axis f.first) (faces_enclose m valid f.axis f.first s (face_range m.grid c f valid.grid.size lt g) x y)
+      capped_ordered (face_term m f.axis f.first) s ((formulas_hold m valid).faces f.axis f.first (face_range m.grid c f valid.grid.size lt g) x y)
 
   old_range : IsHead (lower_at old c) × IsHead (upper_at old c)
   old_range = grid.range c no_bound (omega (arith, lt, grid.whole))
@@ -41,8 +40,7 @@ module _ (m : FlowModel) (s : ℕ) (at : TimeStep) (old : List Bound) (valid : I
       let r = head_range_of head (fixed_source m at.period c (ToGeneral head k) i entries_fit).0 in
       record { ordered = cond_ordered s k; head_lo = r.0; head_hi = r.1 }
   fixed_fits FromStorage i = record {
-    ordered = capped_ordered (storage_term m (period_at m at.period) at.step c) s (storage m (period_at m at.period) at.step c)
-        (storages_enclose m valid (period_at m at.period) at.step c s time.valid.times (fixed_source m at.period c FromStorage i) lt here);
+    ordered = capped_ordered (storage_term m (period_at m at.period) at.step c) s ((formulas_hold m valid).storages (period_at m at.period) at.step c time.valid.times (fixed_source m at.period c FromStorage i) lt here);
     head_lo = old_range.0;
     head_hi = old_range.1;
   }

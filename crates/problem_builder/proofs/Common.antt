@@ -4,13 +4,11 @@ pub use Rattle.std.proofs.Common.{pos, refl, replicate, rules, set, slice_index_
 pub use Rattle.std.proofs.Common.{◌-ℤ◌, ◌-◌, ◌/◌, ◌<◌, ◌^◌, ◌∙◌, ◌∷◌, ◌≡◌, ◌≤ℤ◌, ◌≤◌, ◌⊎◌}
 pub use Rattle.std.proofs.lemmas.Bool.{and_parts, cases_eq, cases_order, eq-eqb, false≢true, leb-false, ne_eqb, or_parts}
 pub use Rattle.std.proofs.lemmas.Int.{by_lt_z, int_max_is, int_min_is, ints, to_z-of_z}
-pub use Rattle.std.proofs.lemmas.List.{append-nil, append_assoc, drop_at, get_or-map, get_or-replicate, get_or-set_other, get_or-set_same, get_or_append_left}
+pub use Rattle.std.proofs.lemmas.List.{append-nil, append_assoc, get_or-map, get_or-replicate, get_or-set_other, get_or-set_same, get_or_append_left}
 pub use Rattle.std.proofs.lemmas.List.{get_or_push, get_or_read, length-map, length-replicate, length_push, map-append, map-set, reverse-append, take_all}
-pub use Rattle.std.proofs.lemmas.List.{take_at, take_more}
-pub use Rattle.std.proofs.lemmas.List.Elements.{All-append, All-drop, All-filter, All-nil, All-replicate, All-take, All-weaker, filter-append}
-pub use Rattle.std.proofs.lemmas.List.Elements.{filter_map-append}
+pub use Rattle.std.proofs.lemmas.List.{take_more}
+pub use Rattle.std.proofs.lemmas.List.Elements.{All-append, All-filter, All-nil, All-replicate, All-weaker, filter-append, filter_map-append}
 pub use Rattle.std.proofs.lemmas.List.FromFn.{fill_by_all, get_or-map-range_with_len, length-map-range_with_len, map-range_with_len_more}
-pub use Rattle.std.proofs.lemmas.Nat.{div-add-mod', div-mul-add, mod-mul-add, mod_below}
 pub use Rattle.std.proofs.lemmas.Option.{none-some}
 pub use Rattle.std.specs.Int.{int_max, int_min, w64}
 pub use Rattle.std.specs.List.{AllZip, Contains, cons_option, filter, filter_map, find, flat_map, fold, list_any, range_with_len}
@@ -18,13 +16,13 @@ pub use Rattle.std.specs.Option.{option_map, option_to_list, unwrap_or}
 pub use Rattle.std.specs.Prelude.{Err, IfSome, Ok, Result, int_lt, nat_le, nat_lt, not, reverse, sum_by, unsigned_abs, ◌&&◌, ◌==◌, ◌||◌}
 pub use mathlib.Core.List.{map-id, map-map}
 pub use Rattle.cell_balance.specs.{CellEncloses, DrainEncloses, EnclosesStep, EvapEncloses, FixedEncloses, FlowEncloses, LinkEncloses, RiverEncloses}
-pub use Rattle.conductance_bounds.proofs.Capped.{below_case, real_flow, real_pair}
+pub use Rattle.conductance_bounds.proofs.Capped.{capped_ordered, real_flow, real_pair}
 pub use Rattle.conductance_bounds.proofs.FaceBounds.{faces_enclose, layered, no_gap}
-pub use Rattle.conductance_bounds.proofs.ModelBounds.{evaps_enclose, recharges_enclose, storages_enclose}
+pub use Rattle.conductance_bounds.proofs.ModelBounds.{evap_holds, evaps_enclose, formulas_hold, recharges_enclose, storages_enclose}
 pub use Rattle.conductance_bounds.proofs.Ready.{delc_positive, delr_positive}
 pub use Rattle.conductance_bounds.proofs.SpanBounds.{above_gap, below_gap, equal_powers, thick_positive}
 pub use Rattle.conductance_bounds.specs.{AreThick, IsBed, IsColHalf, IsHalf, IsHeadUnits, IsUsable, IsVertHalf, Number, PairEncloses, Quotient, Term, Within}
-pub use Rattle.conductance_bounds.specs.{area_term, bed_of, bed_term, blend, bound, column_of, evap_formula, evap_term, face_term, pair, part, recharge_formula}
+pub use Rattle.conductance_bounds.specs.{area_term, bed_of, bed_term, blend, bound, column_of, evap_formula, evap_term, face_term, part, recharge_formula}
 pub use Rattle.conductance_bounds.specs.{recharge_term, resistance_sum, row_of, small_flow, small_pair, storage_formula, storage_of, storage_term}
 pub use Rattle.conductance_bounds.specs.{storativity_term, sum_term, thick_span, thickness_of, vertical_half_term, vertical_of}
 unfoldable pub use Rattle.conductance_bounds.specs.{capped, capped_flow, given_pair, head_pair, power_term}
@@ -57,22 +55,21 @@ pub use Rattle.model_types.specs.declared.entry.Given.{Given}
 pub use Rattle.model_types.specs.declared.face.Axis.{Axis}
 pub use Rattle.model_types.specs.declared.face.Axis.TheVariants.{Column, Row, Vertical}
 pub use Rattle.model_types.specs.declared.face.Face.{Face}
-pub use Rattle.model_types.specs.declared.given_heads.Kind.{Kind}
 pub use Rattle.model_types.specs.declared.given_heads.Kind.TheVariants.{Constant, NoFlow, Variable}
 pub use Rattle.model_types.specs.declared.grid.Grid.{Grid}
 pub use Rattle.model_types.specs.declared.model.FlowModel.{FlowModel}
 pub use Rattle.model_types.specs.declared.period.Period.{Period}
 pub use Rattle.model_types.specs.declared.time_steps.TimeStep.{TimeStep}
 pub use Rattle.number_limits.proofs.Canonical.{dec_at_is}
-pub use Rattle.problem_builder.specs.{AreAppended, AreCells, AreEvenFactors, AreEvenStorages, AreFactorsOf, AreGridHeads, AreInputs, AreLocalBounds}
-pub use Rattle.problem_builder.specs.{ArePeriodTables, AreStartHeads, AreTables, ConstantPairEncloses, ConstantPairFits, Filled, HasConductance, HasEvenSteps}
-pub use Rattle.problem_builder.specs.{HasEvenStorage, HasNoProblem, HasOldHeads, HasPair, HasStorage, HeadsEnclose, Inputs, IsActive, IsBedBelow, IsBedOf}
-pub use Rattle.problem_builder.specs.{IsBuildFault, IsCellFault, IsDepth, IsEntryIn, IsEvaporated, IsIndex, IsKept, IsKind, IsNoBed, IsProblemOf, IsRecharged}
-pub use Rattle.problem_builder.specs.{IsThickness, IsTimeOf, IsVariableCell, ModelsAreBuildable, bound_of_pair, cond_pair, face_pair, flow_of_pair, general_of}
-pub use Rattle.problem_builder.specs.{given_or_kept, has_small_branch, head_bound, item_in, kept_bound, kept_bounds, known_bound, known_head, layer_half}
-pub use Rattle.problem_builder.specs.{local_in, no_bounds, no_pair, no_span, pair_at, pair_in, recharge_pair, refusal_of, span_in, start_bound, unless_refused}
-pub use Rattle.problem_builder.specs.{well_of, well_pair, whole_cell, whole_constant, whole_drain, whole_evap, whole_fixed, whole_flow, whole_link, whole_river}
-pub use Rattle.problem_builder.specs.{whole_step, widest}
+pub use Rattle.problem_builder.specs.{AreAppended, AreCells, AreEntriesIn, AreEvenFactors, AreEvenStorages, AreFactorsOf, AreGridHeads, AreInputs}
+pub use Rattle.problem_builder.specs.{AreLocalBounds, ArePeriodTables, AreStartHeads, AreTables, ConstantPairEncloses, ConstantPairFits, Filled, HasConductance}
+pub use Rattle.problem_builder.specs.{HasEvenSteps, HasEvenStorage, HasNoProblem, HasOldHeads, HasPair, HasStorage, HeadsEnclose, Inputs, IsActive, IsBedBelow}
+pub use Rattle.problem_builder.specs.{IsBedOf, IsBuildFault, IsCellFault, IsDepth, IsEntryIn, IsEvaporated, IsIndex, IsKept, IsKind, IsNoBed, IsProblemOf}
+pub use Rattle.problem_builder.specs.{IsRecharged, IsThickness, IsTimeOf, IsVariableCell, ModelsAreBuildable, bound_of_pair, cond_pair, face_pair, flow_of_pair}
+pub use Rattle.problem_builder.specs.{general_of, given_or_kept, has_small_branch, head_bound, item_in, kept_bound, kept_bounds, known_bound, known_head}
+pub use Rattle.problem_builder.specs.{layer_half, local_in, no_bounds, no_pair, no_span, pair_at, pair_in, recharge_pair, refusal_of, span_in, start_bound}
+pub use Rattle.problem_builder.specs.{unless_refused, well_of, well_pair, whole_cell, whole_constant, whole_drain, whole_evap, whole_fixed, whole_flow}
+pub use Rattle.problem_builder.specs.{whole_link, whole_river, whole_step, widest}
 unfoldable pub use Rattle.problem_builder.specs.{constant_bound, fault_of, problem_of}
 pub use Rattle.problem_builder.specs.LocalBounds.{LocalBounds}
 pub use Rattle.problem_builder.specs.Tables.{IsNamed}

@@ -1,18 +1,16 @@
 -- Rivers, drains and evapotranspirations of a cell: bounds in order, heads in range.
-use Rattle.problem_builder.proofs.Common.{Pair, Encloses, Option, Ratio, evap_conductance, map, ◌*◌, pair, FlowPair, PairEncloses, capped, cond_pair}
-use Rattle.problem_builder.proofs.Common.{head_bound, real_pair, unwrap_or, whole_drain, whole_evap, whole_river, ◌≡◌, ℕ, ◌≤◌, ◌^◌, inl, inr, Bool, Some, refl}
-use Rattle.problem_builder.proofs.Common.{sym, subst, arith, All, ℤ, pos, ◌+ℤ◌, ◌≤ℤ◌, ◌<◌, true, ◌-ℤ◌, ints, by_lt_z, none-some, Fraction, with_sign, number}
-use Rattle.problem_builder.proofs.Common.{size, IsSignedFloor, IsSignedCeiling, cancel_right, mul_mono_right, one_floor, one_ceiling, floor_ceiling_enclose}
-use Rattle.problem_builder.proofs.Common.{Dec, RiverFits, EvapFits, DrainFits, Entry, FlowModel, IsPositive, IsNotNegative, IsHeadNumber, EvapSource}
-use Rattle.problem_builder.proofs.Common.{RiverSource, as_river, local_entries, river_sources, evap_sources, IsEntryValid, IsEvapValid, DrainSource, as_drain}
-use Rattle.problem_builder.proofs.Common.{drain_sources, IsModel, IsPeriod, period_at, cell_count, is_variable, In-All, filter_map-In, Term, Number, evap_term}
-use Rattle.problem_builder.proofs.Common.{IsDepth, w64, den, evaps_enclose, below_case}
-use Rattle.std.proofs.Math.Nat.{le_of_mul-le-mul_right}
+use Rattle.problem_builder.proofs.Common.{Pair, Encloses, Option, Ratio, map, FlowPair, PairEncloses, capped, cond_pair, head_bound, real_pair, unwrap_or}
+use Rattle.problem_builder.proofs.Common.{whole_drain, whole_evap, whole_river, ◌≡◌, ℕ, ◌≤◌, ◌^◌, Bool, Some, refl, sym, subst, arith, All, ℤ, pos, ◌+ℤ◌, ◌≤ℤ◌}
+use Rattle.problem_builder.proofs.Common.{◌<◌, true, ◌-ℤ◌, ints, by_lt_z, none-some, Fraction, with_sign, number, size, IsSignedFloor, IsSignedCeiling}
+use Rattle.problem_builder.proofs.Common.{cancel_right, mul_mono_right, one_floor, one_ceiling, floor_ceiling_enclose, Dec, RiverFits, EvapFits, DrainFits}
+use Rattle.problem_builder.proofs.Common.{Entry, FlowModel, IsPositive, IsNotNegative, IsHeadNumber, EvapSource, RiverSource, as_river, local_entries}
+use Rattle.problem_builder.proofs.Common.{river_sources, evap_sources, IsEntryValid, IsEvapValid, DrainSource, as_drain, drain_sources, IsModel, IsPeriod}
+use Rattle.problem_builder.proofs.Common.{period_at, cell_count, is_variable, In-All, filter_map-In, Term, Number, evap_term, IsDepth, w64, den, capped_ordered}
+use Rattle.problem_builder.proofs.Common.{evap_holds}
 use Rattle.conductance_bounds.proofs.Manual.{pair_encloses}
 use Rattle.model_types.specs.declared.entry.Entry.TheVariants.{River as RiverEntry, Drain as DrainEntry}
 use Rattle.problem_builder.proofs.Members.{variable_active, some_same}
 use Rattle.problem_builder.proofs.HeadRange.{AreHeads, floor_in_range, head_floor, head_ceiling, head_range_of}
-use Rattle.decimal_input.specs.Ratios.{den as ratio_den}
 use Rattle.problem_builder.proofs.Zipped.{all_mapped}
 use Rattle.problem_builder.proofs.ValidEntries.{local_valid}
 use Rattle.std.specs.Prelude.{FitsSigned}
@@ -24,31 +22,15 @@ kept_pair o = unwrap_or o (record { lo = 1; hi = 2 ^ 60 })
 abbrev pub kept_flow : Option FlowPair → FlowPair
 kept_flow o = unwrap_or o (record { lo = pos (2 ^ 109); hi = pos (2 ^ 109) })
 
--- bounds of an enclosed number are in order
-pub enclosed_ordered : (lo hi s : ℕ) (r : Ratio) → Encloses lo hi s r → lo ≤ hi
-enclosed_ordered lo hi s r h = let q : lo * ratio_den r ≤ hi * ratio_den r = omega (arith, h.lower, h.upper) in le_of_mul-le-mul_right {k = ratio_den r} q (omega arith)
-
-pub capped_ordered : (t : Term) (s : ℕ) (r : Ratio) → PairEncloses t s r → (capped t s).lo ≤ (capped t s).hi
-unfolding capped
-capped_ordered t s r h =
-    let P : Option Pair → Type 0 = λ o. (kept_pair o).lo ≤ (kept_pair o).hi in
-    elim (below_case (2 ^ 60) (pair t s)) [
-      | inl small ↦ subst P (sym small.1) (enclosed_ordered (pair t s).lo (pair t s).hi s r h)
-      | inr large ↦ subst P (sym large.1) (omega arith)
-    ]
-
 -- what encloses a number, where the table keeps it
 pub capped_encloses : (t : Term) (s : ℕ) (r : Ratio) → PairEncloses t s r → (capped t s).hi < 2 ^ 60 → Encloses (capped t s).lo (capped t s).hi s r
 capped_encloses t s r h lt = subst (λ (p : Pair). Encloses p.lo p.hi s r) (sym (real_pair t s lt)) h
 
-cond_exact : (s : ℕ) (d : Dec) → PairEncloses (Number (size d)) s (size d)
-cond_exact s d = pair_encloses (Number (size d)) s tt
-
 pub cond_ordered : (s : ℕ) (d : Dec) → (cond_pair s d).lo ≤ (cond_pair s d).hi
-cond_ordered s d = capped_ordered (Number (size d)) s (size d) (cond_exact s d)
+cond_ordered s d = capped_ordered (Number (size d)) s tt
 
 pub cond_encloses : (s : ℕ) (d : Dec) → (cond_pair s d).hi < 2 ^ 60 → Encloses (cond_pair s d).lo (cond_pair s d).hi s (size d)
-cond_encloses s d = capped_encloses (Number (size d)) s (size d) (cond_exact s d)
+cond_encloses s d = capped_encloses (Number (size d)) s (size d) (pair_encloses (Number (size d)) s tt)
 
 -- a river of the lists has heads in range
 pub river_valid : (y : Entry) (r : RiverSource) → as_river y ≡ Some r → IsEntryValid 4194304 y → IsHeadNumber r.stage × IsNotNegative r.cond × IsHeadNumber r.bottom
@@ -101,7 +83,7 @@ module _ (x : EvapSource) (v : IsEvapValid x) where
       let surf = head_range_of x.surface v.surface in
       let order = floor_below (number x.surface) 9 _ _ (head_floor x.surface) (head_ceiling x.surface) in
       record {
-        ordered = capped_ordered (evap_term m x.rate x.depth c) s (evap_conductance m c x) (evaps_enclose m x c s v.depth);
+        ordered = capped_ordered (evap_term m x.rate x.depth c) s (evap_holds m x c v.depth);
         ext_lo = extinctions.0;
         ext_hi = extinctions.1;
         surf_lo = surf.0;

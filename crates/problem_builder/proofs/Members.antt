@@ -1,13 +1,12 @@
 -- Variable cells in their list, and sources in theirs.
 use Rattle.problem_builder.proofs.Common.{variable_cells, In-map, whole_cell, whole_fixed, whole_step, ◌≡◌, ℕ, zero, suc, ◌+◌, ◌<◌, ◌≤◌, ◌⊎◌, inl, inr, Bool}
 use Rattle.problem_builder.proofs.Common.{true, false, cond, Option, Some, None, List, [], ◌∷◌, ◌++◌, map, refl, sym, ap, ◌∙◌, subst, arith, All, ℤ, pos}
-use Rattle.problem_builder.proofs.Common.{negsuc, length, filter, filter_map, range_with_len, Contains, option_to_list, none-some, Entry, Well, FlowModel}
-use Rattle.problem_builder.proofs.Common.{is_variable, variable_below, recharge_at, period_at, FixedSource, FlowSource, constant_faces, flow_sources}
-use Rattle.problem_builder.proofs.Common.{fixed_sources, storage_at, as_well, as_general, local_entries, ToConstant, ToGeneral, FromStorage, Pumped, Received}
-use Rattle.problem_builder.proofs.Common.{IsHeadNumber, IsNotNegative, IsEntryValid, is_active, int_at, is_constant, cell_count, HasSize, IsDec, In, In-All}
-use Rattle.problem_builder.proofs.Common.{map-In, filter_map-In, In-get_or, Contains-In, passing, rank, rank_below, at_rank, below_is, not, int_lt, ◌==◌}
-use Rattle.problem_builder.proofs.Common.{unsigned_abs, and_parts, Bound, Fixed, Entries, entries_at, no_entries, TimeStep, passing_are, end_within, IsActive}
-use Rattle.problem_builder.proofs.Common.{HasOldHeads, Storage}
+use Rattle.problem_builder.proofs.Common.{negsuc, length, filter, filter_map, range_with_len, Contains, option_to_list, none-some, Entry, FlowModel}
+use Rattle.problem_builder.proofs.Common.{is_variable, variable_below, period_at, FixedSource, constant_faces, fixed_sources, storage_at, as_general}
+use Rattle.problem_builder.proofs.Common.{local_entries, ToConstant, ToGeneral, FromStorage, IsHeadNumber, IsNotNegative, IsEntryValid, is_active, int_at}
+use Rattle.problem_builder.proofs.Common.{is_constant, cell_count, HasSize, In, In-All, map-In, filter_map-In, In-get_or, Contains-In, passing, rank}
+use Rattle.problem_builder.proofs.Common.{rank_below, at_rank, below_is, not, int_lt, ◌==◌, unsigned_abs, and_parts, Bound, Fixed, Entries, entries_at}
+use Rattle.problem_builder.proofs.Common.{no_entries, TimeStep, passing_are, end_within, IsActive, HasOldHeads, Storage}
 use Rattle.model_types.specs.declared.entry.Entry.TheVariants.{General as GeneralEntry}
 use Rattle.std.proofs.lemmas.Bool.Decides.{nat_tests}
 use Rattle.problem_builder.specs.GridHeads.{IsNamed}
@@ -56,22 +55,7 @@ pub some_same : {X : Type 0} {a b : X} → Some a ≡ Some b → a ≡ b
 some_same e = grind arith
 
 module _ (m : FlowModel) (p c : ℕ) where
-  -- what a flow among the sources of a cell is
-  abbrev pub IsFlowSource : FlowSource → Type 0
-  IsFlowSource (Pumped q) = All (IsEntryValid 4194304) (local_entries m p c) → IsDec q
-  IsFlowSource (Received rate) = recharge_at m p c ≡ Some rate
-
-  of_well : (y : Entry) (x : FlowSource) → In (local_entries m p c) y → as_well y ≡ Some x → IsFlowSource x
-  of_well (Well cell q) x i e = subst IsFlowSource (some_same e) (λ valid. (In-All (IsEntryValid 4194304) (local_entries m p c) (Well cell q) valid i).1)
-  of_well y x i e = absurd (none-some x e)
-
-  pub flow_source : (x : FlowSource) → In (flow_sources m p c) x → IsFlowSource x
-  flow_source x i = elim (In-append (map Received (option_to_list (recharge_at m p c))) (filter_map as_well (local_entries m p c)) x i) [
-    | inl j ↦ (let (r, k, e) = map-In Received (option_to_list (recharge_at m p c)) x j in subst IsFlowSource e (In-option (recharge_at m p c) r k))
-    | inr j ↦ (let (y, k, e) = filter_map-In as_well (local_entries m p c) x j in of_well y x k e)
-  ]
-
-  -- what a branch to a known head among them is: to a constant cell through a face, to the head of an entry, in a transient period to the old head
+  -- what a branch to a known head among the sources of a cell is: to a constant cell through a face, to the head of an entry, in a transient period to the old head
   abbrev pub IsFixedSource : FixedSource → Type 0
   IsFixedSource (ToConstant f) = In (constant_faces m p c) f
   IsFixedSource (ToGeneral h k) = All (IsEntryValid 4194304) (local_entries m p c) → IsHeadNumber h × IsNotNegative k

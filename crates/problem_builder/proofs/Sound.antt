@@ -3,11 +3,8 @@ use Rattle.problem_builder.proofs.Common.{filter_map, option_map, refusal_of, or
 use Rattle.problem_builder.proofs.Common.{cond, Option, Some, None, List, [], ◌∷◌, refl, sym, ap, subst, arith, nat_le, ◌==◌, sum_by, list_any, fold, leb-false}
 use Rattle.problem_builder.proofs.Common.{false≢true, Entries, conductance_of, flow_of, In, fault_of, has_small_branch, NoBound, Cell, Low, In-filter_map}
 
-some_none : (x : ℕ) → Some x ≡ None → ⊥
-some_none x e = grind arith
-
 cond_none : (b : Bool) (x : ℕ) (o : Option ℕ) → cond b (Some x) o ≡ None → (b ≡ false) × (o ≡ None)
-cond_none true x o e = absurd (some_none x e)
+cond_none true x o e = absurd cc
 cond_none false x o e = (refl, e)
 
 pub record IsSound (e : Entries) : Type 0 where

@@ -78,7 +78,7 @@ abbrev value_or : List Entries → Result (List Entries) NoBound → List Entrie
 value_or d (Ok p) = p
 value_or d (Err n) = d
 
-unless_parts : (ns : List NoBound) (es p : List Entries) → unless_refused ns es ≡ Ok p → (p ≡ es) × (ns ≡ [])
+pub unless_parts : (ns : List NoBound) (es p : List Entries) → unless_refused ns es ≡ Ok p → (p ≡ es) × (ns ≡ [])
 unless_parts [] es p e = (sym (ap (value_or []) e), refl)
 unless_parts (n ∷ ns) es p e = absurd cc
 

@@ -1,7 +1,7 @@
 -- The entries of a cell are those of valid lists.
 use Rattle.problem_builder.proofs.Common.{ℕ, ◌≤◌, ◌++◌, arith, All, ◌≡◌, ◌-◌, ◌<◌, length, sym, subst, All-append, All-filter, All-weaker, ◌==◌, Entry, Well}
 use Rattle.problem_builder.proofs.Common.{General, FlowModel, cell_count, cell_of, entries_of, local_entries, period_at, entries, IsModel, IsPeriod}
-use Rattle.problem_builder.proofs.Common.{IsEntryValid, no_period, Period, IsEntryIn}
+use Rattle.problem_builder.proofs.Common.{IsEntryValid, no_period, Period, IsEntryIn, List, AreEntriesIn}
 use Rattle.model_types.specs.declared.entry.Entry.TheVariants.{River, Drain}
 
 pub wider : (n : ℕ) (x : Entry) → n ≤ 4194304 → IsEntryValid n x → IsEntryValid 4194304 x
@@ -34,9 +34,14 @@ entry_within n (Drain cell elevation k) h = h.0
 entry_within n (General cell head k) h = h.0
 
 -- the entries of a period lie in the grid
-pub entries_in : (m : FlowModel) (p count : ℕ) (x : Period) → IsModel m → (1 ≤ p) × (p ≤ length m.periods) → x ≡ period_at m p → count ≡ cell_count m.grid → All (IsEntryIn count) (entries x)
+pub entries_in : (m : FlowModel) (p count : ℕ) (x : Period) → IsModel m → (1 ≤ p) × (p ≤ length m.periods) → x ≡ period_at m p → count ≡ cell_count m.grid → AreEntriesIn count x
 entries_in m p count x valid r e f =
     let n = cell_count m.grid in
-    let P : Period → Type 0 = λ q. All (IsEntryIn count) (entries q) in
-    let N : ℕ → Type 0 = λ k. All (IsEntryIn k) (entries (period_at m p)) in
-    subst P (sym e) (subst N (sym f) (All-weaker (IsEntryValid n) (IsEntryIn n) (λ y h. (entry_within n y h, wider n y valid.grid.size.cells h)) (entries (period_at m p)) (all_entries m p (period_valid m p valid r))))
+    let h = (period_valid m p valid r).stresses in
+    let each : (xs : List Entry) → All (IsEntryValid n) xs → All (IsEntryIn n) xs = All-weaker (IsEntryValid n) (IsEntryIn n) (λ y h. (entry_within n y h, wider n y valid.grid.size.cells h)) in
+    subst (AreEntriesIn count) (sym e) (subst (λ (k : ℕ). AreEntriesIn k (period_at m p)) (sym f) (record {
+      wells = each _ h.wells.entries;
+      rivers = each _ h.rivers.entries;
+      drains = each _ h.drains.entries;
+      generals = each _ h.generals.entries;
+    }))

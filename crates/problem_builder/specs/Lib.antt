@@ -13,7 +13,7 @@ pub use Rattle.problem_builder.specs.GridHeads.{cond_pair, each_cell, given_or_k
 pub use Rattle.problem_builder.specs.GridHeads.{storage_pair, well_pair}
 unfoldable pub use Rattle.problem_builder.specs.GridHeads.{constant_bound}
 pub use Rattle.problem_builder.specs.Laws.{ConstantPairEncloses, ConstantPairFits, ModelsAreBuildable, ProblemFits, StartHeadsFit, widest}
-pub use Rattle.problem_builder.specs.LocalBounds.{AreAppended, AreLocalBounds, IsEntryIn, general_of, kept_bounds, local_in, no_bounds, well_of}
+pub use Rattle.problem_builder.specs.LocalBounds.{AreAppended, AreEntriesIn, AreLocalBounds, IsEntryIn, general_of, kept_bounds, local_in, no_bounds, well_of}
 pub use Rattle.problem_builder.specs.Problems.{AreCells, HasNoProblem, HasPair, IsBuildFault, IsBuilt, IsCellFault, IsCheckedCell, IsProblemOf, IsVariableCell}
 pub use Rattle.problem_builder.specs.Problems.{has_small_branch, is_branch, refusal_of, unless_refused}
 unfoldable pub use Rattle.problem_builder.specs.Problems.{fault_of, problem_of}

@@ -1,5 +1,5 @@
 -- The bounds of a cell's entries of WEL, RIV, DRN and GHB.
-use Rattle.std.specs.Prelude.{◌≡◌, ℕ, ◌<◌, List, [], ◌++◌, Option, Some, None, slice_index_or}
+use Rattle.std.specs.Prelude.{◌≡◌, ℕ, ◌<◌, All, List, [], ◌++◌, Option, Some, None, slice_index_or}
 use Rattle.std.specs.Global.{Box}
 use Rattle.std.specs.List.{filter_map}
 use Rattle.std.specs.Option.{option_map}
@@ -10,6 +10,7 @@ use Rattle.step_problem.specs.declared.entry.FixedKind.TheVariants.{General}
 use Rattle.step_problem.specs.declared.entry.River.{River}
 use Rattle.step_problem.specs.declared.entry.Drain.{Drain}
 use Rattle.model_types.specs.declared.entry.Entry.{Entry}
+use Rattle.model_types.specs.declared.period.Period.{Period}
 use Rattle.model_types.specs.declared.entry.Entry.TheVariants.{Well, River as RiverEntry, Drain as DrainEntry, General as GeneralEntry}
 use Rattle.model_types.specs.{cell_of, entries_of, as_river, as_drain, IsEntryValid}
 use Rattle.problem_builder.specs.Cells.{flow_of_pair, known_head, whole_river, whole_drain}
@@ -63,6 +64,12 @@ abbrev pub AreAppended : ℕ → List LocalBounds → List LocalBounds → List 
 AreAppended s old new added =
     (c : ℕ) (entries : List Entry) → AreLocalBounds s c (local_in old c) entries → AreLocalBounds s c (local_in new c) (entries ++ entries_of c added)
 
--- an entry of a cell of a grid of this many
+-- an entry of a cell of a grid of this many, and the lists of a period of such entries
 abbrev pub IsEntryIn : ℕ → Entry → Type 0
 IsEntryIn cells x = (cell_of x < cells) × IsEntryValid 4194304 x
+
+pub record AreEntriesIn (cells : ℕ) (p : Period) : Type 0 where
+  pub wells : All (IsEntryIn cells) p.stresses.wells
+  pub rivers : All (IsEntryIn cells) p.stresses.rivers
+  pub drains : All (IsEntryIn cells) p.stresses.drains
+  pub generals : All (IsEntryIn cells) p.stresses.generals

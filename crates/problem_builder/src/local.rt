@@ -2,7 +2,7 @@
 ghost use Rattle.std.specs.Prelude.{◌≡◌, ◌<◌, ◌≤◌, ◌∷◌, ◌++◌, All, List, ℕ, [], length, IfOk};
 ghost use Rattle.model_types.specs.declared.entry.Entry.{Entry as DeclaredEntry};
 ghost use Rattle.model_types.specs.{cell_of, entries_of, entries, IsEntryValid};
-ghost use Rattle.problem_builder.specs.LocalBounds.{AreAppended, AreLocalBounds, IsEntryIn, kept_bounds, local_in, no_bounds};
+ghost use Rattle.problem_builder.specs.LocalBounds.{AreAppended, AreEntriesIn, AreLocalBounds, IsEntryIn, kept_bounds, local_in, no_bounds};
 
 use crate::entries::{CellEntries, LocalEntries};
 use model_types::{Entry, Period};
@@ -112,7 +112,7 @@ impl Local {
         count: u32,
         s: u32,
     ) -> Result<Local, AllocError>
-        requires entries { All (IsEntryIn count) (entries period.now) }
+        requires entries { AreEntriesIn count period.now }
         requires places { s ≤ 18 }
         ensures len { IfOk result (λ l. length l ≡ count) }
         ensures are { IfOk result (λ l. (c : ℕ) → AreLocalBounds s c (local_in l c) (entries_of c (entries period.now))) }

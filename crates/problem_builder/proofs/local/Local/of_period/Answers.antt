@@ -1,26 +1,26 @@
 use Rattle.problem_builder.proofs.Common.{refl, ◌∙◌, [], sym, subst, AreAppended, AreLocalBounds, LocalBounds}
-use Rattle.problem_builder.proofs.Appended.{appended_both, four_in, renamed}
+use Rattle.problem_builder.proofs.Appended.{appended_both, renamed}
 use Rattle.problem_builder.proofs.local.Local.of_period.Goals as goal
 
 pub with-requires-clause-entries : goal.with-requires-clause-entries
 with-requires-clause-entries c =
     let p = c.args.period.now.stresses in
-    renamed c.args.count _ p.wells _ (c.in_ok-none.ensures.len) c.as_slice.ensures (four_in c.args.count p.wells p.rivers p.drains p.generals c.requires.entries).wells
+    renamed c.args.count _ p.wells _ (c.in_ok-none.ensures.len) c.as_slice.ensures c.requires.entries.wells
 
 pub with-requires-2-clause-entries : goal.with-requires-2-clause-entries
 with-requires-2-clause-entries c =
     let p = c.args.period.now.stresses in
-    renamed c.args.count _ p.rivers _ (c.in_ok-wells.ensures.len ∙ c.in_ok-none.ensures.len) c.as_slice-2.ensures (four_in c.args.count p.wells p.rivers p.drains p.generals c.requires.entries).rivers
+    renamed c.args.count _ p.rivers _ (c.in_ok-wells.ensures.len ∙ c.in_ok-none.ensures.len) c.as_slice-2.ensures c.requires.entries.rivers
 
 pub with-requires-3-clause-entries : goal.with-requires-3-clause-entries
 with-requires-3-clause-entries c =
     let p = c.args.period.now.stresses in
-    renamed c.args.count _ p.drains _ (c.in_ok-rivers.ensures.len ∙ c.in_ok-wells.ensures.len ∙ c.in_ok-none.ensures.len) c.as_slice-3.ensures (four_in c.args.count p.wells p.rivers p.drains p.generals c.requires.entries).drains
+    renamed c.args.count _ p.drains _ (c.in_ok-rivers.ensures.len ∙ c.in_ok-wells.ensures.len ∙ c.in_ok-none.ensures.len) c.as_slice-3.ensures c.requires.entries.drains
 
 pub with-requires-4-clause-entries : goal.with-requires-4-clause-entries
 with-requires-4-clause-entries c =
     let p = c.args.period.now.stresses in
-    renamed c.args.count _ p.generals _ (c.in_ok-drains.ensures.len ∙ c.in_ok-rivers.ensures.len ∙ c.in_ok-wells.ensures.len ∙ c.in_ok-none.ensures.len) c.as_slice-4.ensures (four_in c.args.count p.wells p.rivers p.drains p.generals c.requires.entries).generals
+    renamed c.args.count _ p.generals _ (c.in_ok-drains.ensures.len ∙ c.in_ok-rivers.ensures.len ∙ c.in_ok-wells.ensures.len ∙ c.in_ok-none.ensures.len) c.as_slice-4.ensures c.requires.entries.generals
 
 pub returns-clause-are : goal.returns-clause-are
 returns-clause-are c = λ d.
