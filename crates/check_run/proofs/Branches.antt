@@ -7,7 +7,7 @@ use Rattle.check_run.proofs.Common.{as_general, constant_faces, fixed_sources, l
 use Rattle.check_run.proofs.Common.{index_below, IsProblemBy, Face, share, any_in, in_any, cell_faces, face_between, face_from, faces, faces_by_kind}
 use Rattle.check_run.proofs.Common.{fixed_faces, link_faces, is_lower_zone, ZonePair, share_face, joins, face_of, join_of, shares, AllZip-at, AllZip-length}
 use Rattle.check_run.proofs.Common.{flat-In, IsProblemOf, ToConstant, ToGeneral, FromStorage, is_between, eqb-true, ◌==◌, left_of, right_of, zip_image}
-use Rattle.check_run.proofs.Common.{cells_of, whole_cell, whole_link, whole_fixed}
+use Rattle.check_run.proofs.Common.{cells_of, whole_cell, whole_link, whole_fixed, IsModel, IfSome, IsSecond, hull_parts}
 use Rattle.model_types.proofs.Members.{In-map, In}
 use Rattle.problem_builder.proofs.Members.{In-append, In-variable, variable-In, fixed_source, constant_active, variable_active}
 use Rattle.step_problem.specs.declared.entry.Fixed.{Fixed}
@@ -96,11 +96,12 @@ module _ (m : FlowModel) (s : ℕ) (at : TimeStep) (old : List Bound) (es : List
       is_to c (ToGeneral head conductance) = refl
       is_to c FromStorage = refl
 
-pub have_branches : (a : FlowModel) (o : Option FlowModel) (s : ℕ) (at : TimeStep) (old : List Bound) (es : List Entries) → IsProblemBy a o s at old es → HaveBranches a at.period es
-have_branches a None s at old es is = of_problem a s at old es is
-have_branches a (Some b) s at old es is =
-    subst (HaveBranches a at.period) (sym is.hull.is)
-    (hull_zip cell_shape cell_hull (HasBranches a at.period) (hull_branches a at.period) is.first is.second (variable_cells a at.period) is.hull.alike (of_problem a s at old is.first is.is_first))
+pub have_branches : (a : FlowModel) (o : Option FlowModel) (s : ℕ) (at : TimeStep) (old : List Bound) (es : List Entries) → IsModel a → IfSome o (IsSecond a) → IsProblemBy a o s at old es → HaveBranches a at.period es
+have_branches a None s at old es valid second is = of_problem a s at old es is
+have_branches a (Some b) s at old es valid second is =
+    let k = hull_parts a b s at old es valid second.alike is in
+    subst (HaveBranches a at.period) (sym k.hull.is)
+    (hull_zip cell_shape cell_hull (HasBranches a at.period) (hull_branches a at.period) k.first k.second (variable_cells a at.period) k.hull.alike (of_problem a s at old k.first k.is_first))
 
 shown : (fs : List Face) (z : ZonePair) (f : Face) → In fs f → f.from ≡ z.from → f.to ≡ z.to → share fs z ≡ true
 shown fs z f i from to = in_any (is_between z.from z.to) fs f i (grind (arith, nat_tests))

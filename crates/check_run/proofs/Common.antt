@@ -28,10 +28,10 @@ pub use Rattle.check_run.specs.declared.listing.CheckFault.{CheckFault}
 pub use Rattle.check_run.specs.declared.verdict.ListingVerdict.{ListingVerdict}
 pub use Rattle.check_run.specs.declared.verdict.ListingVerdict.TheVariants.{Certified, Fails, Refused}
 pub use Rattle.decimal_input.specs.{EnclosesSigned, Fraction}
-pub use Rattle.deck_problems.proofs.OneProblem.{HasCellsOf, cell_of_member, constant_same, each_member, encloses_member, member_cells, of_member}
+pub use Rattle.deck_problems.proofs.OneProblem.{HasCellsOf, cell_of_member, constant_same, each_member, encloses_member, hull_parts, member_cells, of_member}
 pub use Rattle.deck_problems.specs.{AreConstantHeadsFor, AreDeckTables, AreDecks, AreStartHeadsFor, ConstantPairEncloses, ConstantPairIsOne, EachMember}
-pub use Rattle.deck_problems.specs.{EnclosesSteps, HoldsOf, IsBefore, IsMember, IsProblemBy, IsProblemFor, ProblemExcludesRefusal, ProblemFits, ProblemIsOne}
-pub use Rattle.deck_problems.specs.{StartHeadsAreOne, StartHeadsFit, digits_of}
+pub use Rattle.deck_problems.specs.{EnclosesSteps, HoldsOf, IsBefore, IsMember, IsProblemBy, IsProblemFor, IsSecond, ProblemFits, StartHeadsAreOne}
+pub use Rattle.deck_problems.specs.{StartHeadsFit, digits_of}
 pub use Rattle.deck_problems.specs.declared.decks.Decks.{Decks}
 pub use Rattle.exact_histories.specs.{HaveOneBy, HaveOneHistory}
 pub use Rattle.flow_equations.proofs.Links.{below_is, index_is}
@@ -54,7 +54,7 @@ pub use Rattle.model_types.specs.{period_at, start_head, storage_at, times, vari
 pub use Rattle.model_types.specs.declared.limits.Limits.{Limits}
 pub use Rattle.model_types.specs.declared.model.FlowModel.{FlowModel}
 pub use Rattle.model_types.specs.declared.time_steps.TimeStep.{TimeStep}
-pub use Rattle.problem_builder.proofs.Steps.{cells_of}
+pub use Rattle.problem_builder.proofs.Steps.{cells_of, same_problem}
 pub use Rattle.problem_builder.proofs.TimesOf.{flat-In, time_of}
 pub use Rattle.problem_builder.proofs.Zipped.{left_of, right_of, zip_image}
 pub use Rattle.problem_builder.specs.{AreGridHeads, HeadsEnclose, IsActive, IsProblemOf, whole_cell, whole_evap, whole_fixed, whole_link}

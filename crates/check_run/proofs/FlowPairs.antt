@@ -1,20 +1,21 @@
 -- The flows between zones of a step's problem have the pairs of zones of the step's period.
 use Rattle.check_run.proofs.Common.{◌≡◌, ℕ, Bool, List, [], ◌∷◌, map, ap, ◌∙◌, subst, Option, Some, None, ℤ, filter, IfSome, Bound, ZoneFlow, Entries, lower_at}
 use Rattle.check_run.proofs.Common.{upper_at, share, EncloseExact, Decks, ZonePair, pairs_below, zones_of_flow, pairs_in, share_face, zone_pairs, AreFlowsOf}
-use Rattle.check_run.proofs.Common.{faces_of, BoundAll, Bounds, EnclosesHistories, AllSteps, IsStep, BoundBetween, HistoriesBound, deck_task, HasSize}
+use Rattle.check_run.proofs.Common.{faces_of, BoundAll, Bounds, EnclosesHistories, AllSteps, IsStep, BoundBetween, HistoriesBound, deck_task, AreDecks}
 use Rattle.check_run.proofs.Common.{start_head, times, TimeStep, IsProblemFor, Fraction, BudgetEncloses, exact_step, heads_of, variable_heads, FlowModel, Task}
 use Rattle.check_run.proofs.Common.{Step, Whole, Steps, as_listed, ListingEncloses, checked_task, step_of, steps_of, Limits, flows_of_pairs, same_flows, refl}
 use Rattle.barrier_vector.proofs.Uniques.{same_tests}
 use Rattle.check_run.proofs.Branches.{HaveBranches, have_branches, pair_shares, shared_has}
 use Rattle.deck_span.specs.{SolvesBetweenFrom}
 
-pub flows_have_pairs : (ds : Decks) (s : ℕ) (at : TimeStep) (old : List Bound) (p : List Entries) → HasSize ds.first.grid → IsProblemFor ds s at old p →
+pub flows_have_pairs : (ds : Decks) (s : ℕ) (at : TimeStep) (old : List Bound) (p : List Entries) → AreDecks ds → IsProblemFor ds s at old p →
     (heads : List Bound) (zones : Option (List ℕ)) (flows : List ZoneFlow) → AreFlowsOf p heads zones flows → map zones_of_flow flows ≡ pairs_in ds.first zones at.period
 unfolding zone_pairs
-flows_have_pairs ds s at old p size is heads None flows are = ap (map zones_of_flow) (same_flows p heads None flows [] are refl)
-flows_have_pairs ds s at old p size is heads (Some zones) flows are =
+flows_have_pairs ds s at old p decks is heads None flows are = ap (map zones_of_flow) (same_flows p heads None flows [] are refl)
+flows_have_pairs ds s at old p decks is heads (Some zones) flows are =
     let m = ds.first in
-    let branches : HaveBranches m at.period p = have_branches m ds.second s at old p is in
+    let branches : HaveBranches m at.period p = have_branches m ds.second s at old p decks.first decks.second is in
+    let size = decks.first.grid.size in
     let same : (z : ZonePair) → share (faces_of p heads zones) z ≡ share_face m zones at.period z = λ z.
     same_tests _ _ (pair_shares zones (lower_at heads) (upper_at heads) m at.period size p branches z) (shared_has zones (lower_at heads) (upper_at heads) m at.period size p branches z) in
     (flows_of_pairs (faces_of p heads zones) flows are).1 ∙ (λ i. filter (λ z. same z i) (pairs_below 1000))

@@ -5,11 +5,10 @@ use Rattle.check_run.proofs.Common.{Budget, Covers, IsFirstUncovered, HoldsAt, I
 use Rattle.check_run.proofs.Common.{IsListedStep, AreFlowsOf, HasLargeFlowOf, one_ok, one_err, ok_not_err, IsRest, first_in, rest_more, rest_whole}
 use Rattle.check_run.proofs.Common.{ListingVerdict, Certified, Fails, Refused, ConstantsReach, IsConstantCell, IsFirstShort, ReachesAt, CoversFlow}
 use Rattle.check_run.proofs.Common.{IsFirstNarrow, bounds, Passes, FailsAt, at_constant, at_variable, at_term, at_zones, IsRefused, no_heads, no_budget}
-use Rattle.check_run.proofs.Common.{no_flows, Checks, StopsAt, Decks, AreDecks, IsBefore, ProblemIsOne, ProblemFits, ProblemExcludesRefusal, StartHeadsAreOne}
-use Rattle.check_run.proofs.Common.{StartHeadsFit, IsBarrierBy, cut_by, VerdictIsOne, large_one, none_large, same_flows}
+use Rattle.check_run.proofs.Common.{no_flows, Checks, StopsAt, Decks, AreDecks, IsBefore, ProblemFits, StartHeadsAreOne, StartHeadsFit, IsBarrierBy, cut_by}
+use Rattle.check_run.proofs.Common.{VerdictIsOne, large_one, none_large, same_flows, same_problem}
 use Rattle.step_problem.specs.declared.place.Place.{Place}
 use Rattle.barrier_vector.specs.{BarrierExcludesRefusal, RefusalIsOne as BarrierRefusalIsOne, CutBarrierIsOne, CutBarrierExcludesRefusal, CutRefusalIsOne}
-use Rattle.deck_problems.specs.{RefusalIsOne as ProblemRefusalIsOne}
 use Rattle.step_chain.proofs.Refusals.{poses_one, posed_excludes as step_posed_excludes}
 use Rattle.check_run.specs.{budget_at}
 use Rattle.check_run.proofs.Firsts.{IsFirst, first_one, narrow_one, never_narrow, term_one}
@@ -26,13 +25,10 @@ data Said : Type 0 where
 pub record Laws : Type 0 where
   pub start_one : StartHeadsAreOne
   pub start_fits : StartHeadsFit
-  pub problem_one : ProblemIsOne
   pub problem_fits : ProblemFits
   pub barrier_one : CutBarrierIsOne
-  pub problem_excludes : ProblemExcludesRefusal
   pub barrier_excludes : BarrierExcludesRefusal
   pub cut_excludes : CutBarrierExcludesRefusal
-  pub problem_refusal_one : ProblemRefusalIsOne
   pub barrier_refusal_one : BarrierRefusalIsOne
   pub cut_refusal_one : CutRefusalIsOne
 
@@ -139,17 +135,17 @@ module _ (limits : Limits) (ds : Decks) (s : ℕ) (zones : Option (List ℕ)) (a
   module _ (laws : Laws) (before : IsBefore ds at old) where
     posed_excludes : (p : List Entries) (b : Edges) (n : NoBound) → IsPosed limits ds s at old p b → HasNoPose limits ds s at old n → ⊥
     posed_excludes p b n posed none =
-        step_posed_excludes laws.problem_one laws.problem_fits laws.problem_excludes laws.barrier_excludes laws.cut_excludes limits ds s at old p b n before posed none
+        step_posed_excludes laws.problem_fits laws.barrier_excludes laws.cut_excludes limits ds s at old p b n before posed none
 
     refusal_one : (a b : NoBound) → HasNoPose limits ds s at old a → HasNoPose limits ds s at old b → a ≡ b
-    refusal_one a b x y = poses_one laws.problem_one laws.problem_excludes laws.problem_refusal_one laws.barrier_refusal_one laws.cut_refusal_one limits ds s at old a b before x y
+    refusal_one a b x y = poses_one laws.barrier_refusal_one laws.cut_refusal_one limits ds s at old a b x y
 
     said_one : (o q : Said) → Says o → Says q → o ≡ q
     said_one o q (inl (n, x, e)) (inl (r, y, k)) = e ∙ ap refused (refusal_one n r x y) ∙ sym k
     said_one o q (inl (n, x, e)) (inr (p, b, posed, h)) = absurd (posed_excludes p b n posed x)
     said_one o q (inr (p, b, posed, h)) (inl (n, x, e)) = absurd (posed_excludes p b n posed x)
     said_one o q (inr (p, b, posed, h)) (inr (r, c, also, k)) =
-        let problems = laws.problem_one ds s at old p r before posed.problem also.problem in
+        let problems = same_problem posed.problem also.problem in
         let B : List Entries → Type 0 = λ z. IsBarrierBy limits z b in
         let barriers = laws.barrier_one r b c (laws.problem_fits ds s at old r before also.problem) (cut_by limits r b (subst B problems posed.barrier)) (cut_by limits r c also.barrier) in
         let P : List Entries → Type 0 = λ z. ByConstants z b o in

@@ -7,7 +7,7 @@ use Rattle.check_run.proofs.Common.{HeadsFit, AreCellBounds, AreFlows, AreFlowsA
 use Rattle.check_run.proofs.Common.{Step, Whole, AllSteps, IsStep, Steps, budget_at, AreFlowsOf, faces_of, IsRest, first_in, rest_more, rest_whole, as_listed}
 use Rattle.check_run.proofs.Common.{nat_tests, is_nonzero, IsProblemBy, IsBefore, StartHeadsFit, deck_task, Decks, AreDecks, PairKind, IsStepBy, pairs_of, Bool}
 use Rattle.check_run.proofs.Common.{In, ListedStep, no_entries, variable_cells, AllZip-at, AllZip-length, AllZip-right, IsProblemOf, total, is_chosen}
-use Rattle.check_run.proofs.Common.{IsZoneFlow, flows_of_pairs, same_flows, zip_image, cells_of, whole_cell, whole_evap}
+use Rattle.check_run.proofs.Common.{IsZoneFlow, flows_of_pairs, same_flows, zip_image, cells_of, whole_cell, whole_evap, IsModel, IfSome, IsSecond, hull_parts}
 use Rattle.problem_builder.proofs.Joined.{AllZip-weaker}
 use Rattle.check_run.proofs.Branches.{hull_zip}
 use Rattle.step_problem.specs.declared.entry.Evap.{Evap}
@@ -38,11 +38,12 @@ no_evaps m s at old p evt is =
     subst (λ (es : List Entries). AllZip NoEvaps es (variable_cells m at.period)) (sym (cells_of m s at old p is).each)
     (zip_image NoEvaps (whole_cell m s at old) (variable_cells m at.period) (λ c i. ap (map (whole_evap m s c)) (no_source m at.period c evt)))
 
-decks_no_evaps : (a : FlowModel) (o : Option FlowModel) (s : ℕ) (at : TimeStep) (old : List Bound) → has_evt a ≡ false → (p : List Entries) → IsProblemBy a o s at old p → AllZip NoEvaps p (variable_cells a at.period)
-decks_no_evaps a None s at old e p is = no_evaps a s at old p e is
-decks_no_evaps a (Some b) s at old e p is =
-    subst (λ (es : List Entries). AllZip NoEvaps es (variable_cells a at.period)) (sym is.hull.is)
-    (hull_zip cell_shape cell_hull NoEvaps (λ x y c same none. ap (λ (xs : List Evap). zip_with evap_hull xs y.evaps) none) is.first is.second (variable_cells a at.period) is.hull.alike (no_evaps a s at old is.first e is.is_first))
+decks_no_evaps : (a : FlowModel) (o : Option FlowModel) (s : ℕ) (at : TimeStep) (old : List Bound) → has_evt a ≡ false → (p : List Entries) → IsModel a → IfSome o (IsSecond a) → IsProblemBy a o s at old p → AllZip NoEvaps p (variable_cells a at.period)
+decks_no_evaps a None s at old e p valid second is = no_evaps a s at old p e is
+decks_no_evaps a (Some b) s at old e p valid second is =
+    let k = hull_parts a b s at old p valid second.alike is in
+    subst (λ (es : List Entries). AllZip NoEvaps es (variable_cells a at.period)) (sym k.hull.is)
+    (hull_zip cell_shape cell_hull NoEvaps (λ x y c same none. ap (λ (xs : List Evap). zip_with evap_hull xs y.evaps) none) k.first k.second (variable_cells a at.period) k.hull.alike (no_evaps a s at old k.first e k.is_first))
 
 -- Heads in range are those of a listing.
 
@@ -58,7 +59,7 @@ cell_bounds m c (b ∷ bs) h =
           subst Q next (h (suc k) (omega (arith, lt)))),
     )
 
-module _ (limits : Limits) (ds : Decks) (s : ℕ) (at : TimeStep) (old : List Bound) (kind : PairKind) (x : Solved) (solves : IsStepBy limits ds s at old kind x) (grid : AreGridHeads ds.first x.heads) where
+module _ (limits : Limits) (ds : Decks) (s : ℕ) (at : TimeStep) (old : List Bound) (kind : PairKind) (x : Solved) (decks : AreDecks ds) (solves : IsStepBy limits ds s at old kind x) (grid : AreGridHeads ds.first x.heads) where
   cell_bound : (c : ℕ) → c < length x.heads → IsCellBound ds.first (0 + c) (bound_at x.heads c)
   cell_bound c lt =
       let range = grid.range c no_bound lt in
@@ -70,7 +71,7 @@ module _ (limits : Limits) (ds : Decks) (s : ℕ) (at : TimeStep) (old : List Bo
   is_listed b flows is =
       let (into, out) = budget_are x.problem (lower_at x.bounds) (upper_at x.bounds) b is in
       let none = λ (e : has_evt ds.first ≡ false) (k : ℕ) (lt : k < length x.problem).
-      AllZip-at NoEvaps x.problem (variable_cells ds.first at.period) k no_entries 0 (decks_no_evaps ds.first ds.second s at old e x.problem solves.posed.problem) lt in
+      AllZip-at NoEvaps x.problem (variable_cells ds.first at.period) k no_entries 0 (decks_no_evaps ds.first ds.second s at old e x.problem decks.first decks.second solves.posed.problem) lt in
       record {
         whole = grid.whole;
         heads = cell_bounds ds.first 0 x.heads cell_bound;
@@ -141,11 +142,11 @@ module _ (fits : HeadsFit) (limits : Limits) (ds : Decks) (s : ℕ) (zones : Opt
     step_listed : IsListedStep ds.first (as_listed v)
     step_listed =
         let P : List Bound → Type 0 = λ hs. IsListedStep ds.first (record { heads = hs; budget = v.budget; zones = v.zones }) in
-        subst P (sym is.heads) (is_listed limits ds s at old (pairs_of task) is.solved is.solves solved_heads v.budget v.zones is.budget)
+        subst P (sym is.heads) (is_listed limits ds s at old (pairs_of task) is.solved valid is.solves solved_heads v.budget v.zones is.budget)
 
     step_flows : AreFlows (pairs_in ds.first zones at.period) v.zones
     step_flows = record {
-      pairs = flows_have_pairs ds s at old is.solved.problem valid.first.grid.size is.solves.posed.problem is.solved.heads zones v.zones is.zones;
+      pairs = flows_have_pairs ds s at old is.solved.problem valid is.solves.posed.problem is.solved.heads zones v.zones is.zones;
       small = flows_small is.solved.problem is.solved.heads zones v.zones is.zones;
     }
 

@@ -5,16 +5,18 @@ use Rattle.check_run.proofs.Common.{IsCertificate, IsProblem, PairKind, Budget, 
 use Rattle.check_run.proofs.Common.{is_at, below_is, index_is, AreGridHeads, Solved, bound_at, HeadsFit, IsStepBy, edges_by, Task, Step, Whole, IsStep}
 use Rattle.check_run.proofs.Common.{budget_at, deck_task, pairs_of, Steps, IsRest, first_in, rest_more, rest_whole, Certified, CoversFlow, ConstantsReach}
 use Rattle.check_run.proofs.Common.{ReachesOn, variable_bounds, RunIsCertified, as_listed, Passes, Checks, same_bounds, pair_words, ConstantPairIsOne, IsBefore}
-use Rattle.check_run.proofs.Common.{ProblemFits, StartHeadsFit, AreDecks, IsProblemBy, Decks, FlowModel, cells_of}
+use Rattle.check_run.proofs.Common.{ProblemFits, StartHeadsFit, AreDecks, IsProblemBy, Decks, FlowModel, cells_of, IsSecond, hull_parts, IsModel, IfSome}
 use Rattle.listing_run.specs.{AreFlowsAt}
 use Rattle.check_run.proofs.RunText.{count_is}
 use Rattle.problem_builder.proofs.CellEnclosed.{ids_are}
 use Rattle.problem_hull.proofs.Hulls.{hull_keeps}
 
 -- The cells of the problem of decks are the variable cells of the first.
-pub decks_ids : (a : FlowModel) (o : Option FlowModel) (s : ℕ) (at : TimeStep) (old : List Bound) (p : List Entries) → IsProblemBy a o s at old p → map (λ (e : Entries). e.id) p ≡ variable_cells a at.period
-decks_ids a None s at old p is = ids_are a s at old p (cells_of a s at old p is)
-decks_ids a (Some b) s at old p is = hull_keeps is.first is.second p is.hull (λ e. e.id) (λ x y. refl) ∙ ids_are a s at old is.first (cells_of a s at old is.first is.is_first)
+pub decks_ids : (a : FlowModel) (o : Option FlowModel) (s : ℕ) (at : TimeStep) (old : List Bound) (p : List Entries) → IsModel a → IfSome o (IsSecond a) → IsProblemBy a o s at old p → map (λ (e : Entries). e.id) p ≡ variable_cells a at.period
+decks_ids a None s at old p valid second is = ids_are a s at old p (cells_of a s at old p is)
+decks_ids a (Some b) s at old p valid second is =
+    let k = hull_parts a b s at old p valid second.alike is in
+    hull_keeps k.first k.second p k.hull (λ e. e.id) (λ x y. refl) ∙ ids_are a s at old k.first (cells_of a s at old k.first k.is_first)
 
 reaches : (side : Side) (listed pair : Bound) → (listed.low ≡ pair.low) × (listed.high ≡ pair.high) → ReachesOn side listed pair
 reaches Low listed pair same = omega (arith, ints, same.0)
@@ -86,7 +88,7 @@ module _ (laws : Laws) (limits : Limits) (ds : Decks) (s : ℕ) (zones : Option 
     step_passes : Passes limits ds s zones at old (as_listed v)
     step_passes =
         let P : List Bound → Type 0 = λ hs. Passes limits ds s zones at old (record { heads = hs; budget = v.budget; zones = v.zones }) in
-        subst P (sym is.heads) (passes limits ds s at old (pairs_of task) is.solved (laws.problem_fits ds s at old is.solved.problem before is.solves.posed.problem) (decks_ids ds.first ds.second s at old is.solved.problem is.solves.posed.problem) is.solves laws before zones v.budget v.zones is.budget is.zones)
+        subst P (sym is.heads) (passes limits ds s at old (pairs_of task) is.solved (laws.problem_fits ds s at old is.solved.problem before is.solves.posed.problem) (decks_ids ds.first ds.second s at old is.solved.problem before.decks.first before.decks.second is.solves.posed.problem) is.solves laws before zones v.budget v.zones is.budget is.zones)
 
     next_heads : AreGridHeads ds.first v.heads
     next_heads = subst (AreGridHeads ds.first) (sym is.heads) (laws.heads_fit limits ds s at old (pairs_of task) is.solved before is.solves)

@@ -5,10 +5,7 @@ use barrier_vector::laws::{
     no_barrier_beside_a_refusal, no_cut_barrier_beside_a_refusal, one_cut_barrier, one_cut_refusal,
     one_refusal as one_refusal_of_a_barrier,
 };
-use deck_problems::laws::{
-    constant_pairs, no_problem_beside_a_refusal, one_problem,
-    one_refusal as one_refusal_of_a_problem, problems_fit, start_heads,
-};
+use deck_problems::laws::{constant_pairs, problems_fit, start_heads};
 use listing_io::laws::listings_are_read_again;
 use step_chain::laws::heads_fit;
 
@@ -17,13 +14,10 @@ pub fn one_verdict()
     ensures { VerdictIsOne }
 {
     start_heads();
-    one_problem();
     problems_fit();
     one_cut_barrier();
-    no_problem_beside_a_refusal();
     no_barrier_beside_a_refusal();
     no_cut_barrier_beside_a_refusal();
-    one_refusal_of_a_problem();
     one_refusal_of_a_barrier();
     one_cut_refusal();
 }

@@ -3,11 +3,13 @@ use Rattle.deck_problems.proofs.Common.{◌≡◌, ◌<◌, ◌≤◌, ◌∙◌
 use Rattle.deck_problems.proofs.Common.{Entries, FlowModel, TimeStep, cell_count, constant_head, is_constant, times, period_at, IsModel, IsProblemOf, time_of}
 use Rattle.deck_problems.proofs.Common.{lower_head, upper_head, IsBetween, alike_between, hull_of_numbers, constants_between, steps_between, IsConstantHull}
 use Rattle.deck_problems.proofs.Common.{IsPairOf, IsSecond, HoldsOf, ProblemEncloses, ConstantPairIsOne, ConstantPairFits, ConstantPairEncloses, EnclosesSteps}
-use Rattle.deck_problems.proofs.Common.{IsHullProblem, IsProblemBy, EnclosesSigned, cells_of}
+use Rattle.deck_problems.proofs.Common.{IsProblemBy, EnclosesSigned, cells_of, AreGridHeads, IsProblem, ProblemFits, is_problem}
 use Rattle.problem_builder.proofs.CellEnclosed.{step_encloses}
 use Rattle.problem_builder.proofs.BoundsOf.{heads, head_range, pair_fits as model_pair_fits, pair_encloses as model_pair_encloses}
 use Rattle.deck_span.proofs.HullsEnclose.{hull_encloses}
-use Rattle.deck_problems.proofs.OneProblem.{HasCellsOf, between_cells, constant_same, encloses_member, encloses_first, time_of_member}
+use Rattle.deck_problems.proofs.OneProblem.{HasCellsOf, IsHullProblem, hull_parts, between_cells, constant_same, encloses_member, encloses_first}
+use Rattle.deck_problems.proofs.OneProblem.{time_of_member}
+use Rattle.problem_builder.specs.{ProblemFits as ModelProblemFits}
 
 -- the cells of the second model are those of the first
 pub second_cells : (a b : FlowModel) → IsSecond a b → HasCellsOf a b
@@ -23,6 +25,12 @@ module _ (a b : FlowModel) (at : TimeStep) (first : IsModel a) (second : IsSecon
 
   few : at.step ≤ (period_at a at.period).nstp
   few = (time_of a at first time).step.1
+
+  -- a problem, since no sum of it is too large
+  hull_fits : ModelProblemFits → (s : ℕ) (old : List Bound) (p : List Entries) → AreGridHeads a old → IsHullProblem a b s at old p → IsProblem p
+  hull_fits law s old p heads h =
+      let grid : AreGridHeads b old = record { whole = heads.whole ∙ sym (second_cells a b second).count; range = heads.range } in
+      is_problem h.first h.second p (law a s at old h.first first time heads h.is_first) (law b s at old h.second second.model second_time grid h.is_second) h.hull h.sound
 
   pub hull_encloses_between : (s : ℕ) (old : List Bound) (p : List Entries) → IsHullProblem a b s at old p → (m : FlowModel) → IsBetween a m b → EnclosesSteps s at old p m
   hull_encloses_between s old p h m between before olds =
@@ -55,7 +63,11 @@ module _ (a b : FlowModel) (at : TimeStep) (first : IsModel a) (second : IsSecon
 
 encloses_by : (a : FlowModel) (o : Option FlowModel) (s : ℕ) (at : TimeStep) (old : List Bound) (p : List Entries) → IsModel a → IfSome o (IsSecond a) → Contains (times a) at → IsProblemBy a o s at old p → HoldsOf a o (EnclosesSteps s at old p)
 encloses_by a None s at old p first second time h = model_encloses a s at old p first time h
-encloses_by a (Some b) s at old p first second time h = hull_encloses_between a b at first second time s old p h
+encloses_by a (Some b) s at old p first second time h = hull_encloses_between a b at first second time s old p (hull_parts a b s at old p first second.alike h)
+
+fits_by : ModelProblemFits → (a : FlowModel) (o : Option FlowModel) (s : ℕ) (at : TimeStep) (old : List Bound) (p : List Entries) → IsModel a → IfSome o (IsSecond a) → Contains (times a) at → AreGridHeads a old → IsProblemBy a o s at old p → IsProblem p
+fits_by law a None s at old p first second time heads h = law a s at old p first time heads h
+fits_by law a (Some b) s at old p first second time heads h = hull_fits a b at first second time law s old p heads (hull_parts a b s at old p first second.alike h)
 
 pair_by : (a : FlowModel) (o : Option FlowModel) (at : TimeStep) (c : ℕ) (lo hi low high : ℤ) → IsPairOf a o at c lo hi → IsPairOf a o at c low high → (lo ≡ low) × (hi ≡ high)
 pair_by a None at c lo hi low high h k = (h.0 ∙ sym k.0, h.1 ∙ sym k.1)
@@ -72,6 +84,9 @@ holds_by a (Some b) at c lo hi first second time lt k h before = λ m between. h
 
 no_heads : ℕ → Fraction
 no_heads c = record { num = pos 0; less = 0 }
+
+pub problem_fits : ModelProblemFits → ProblemFits
+problem_fits law d s at old p b h = fits_by law d.first d.second s at old p b.decks.first b.decks.second b.time b.heads h
 
 pub problem_encloses : ProblemEncloses
 problem_encloses d s at old p b h = encloses_by d.first d.second s at old p b.decks.first b.decks.second b.time h

@@ -2,13 +2,15 @@
 use Rattle.deck_problems.proofs.Common.{◌≡◌, ◌∙◌, ◌<◌, ℕ, inl, inr, Option, Some, None, List, Contains, get_or, length, map, refl, sym, subst, ap, arith}
 use Rattle.deck_problems.proofs.Common.{IfSome, get_or_default, Bound, IsProblem, Entries, no_entries, FlowModel, TimeStep, IsProblemOf, IsBuildFault}
 use Rattle.deck_problems.proofs.Common.{fixed_shape, fixed_hull, cell_shape, zip_with, IsHull, hull_at, hull_count, hull_keeps, same_lengths, zip_at, zip_left}
-use Rattle.deck_problems.proofs.Common.{Decks, AreConstantHeadsFor, IsSecond, AreDecks, AreHullBounds, HasCellsOf, IsHullRefusal, IsProblemFor, IsProblemBy}
-use Rattle.deck_problems.proofs.Common.{IsRefusedBy, IsFaultFor, of_second, of_hull, AreConstantHeads, entries_at, get_or-map, none, Bool, false, cond}
-use Rattle.deck_problems.proofs.Common.{cell_count, is_constant, no_bound, bound_in, known_bound, constant_bound, item_is, IsHullBound}
+use Rattle.deck_problems.proofs.Common.{Decks, AreConstantHeadsFor, IsSecond, AreDecks, AreHullBounds, HasCellsOf, IsHullRefusal, IsProblemFor, IsFaultFor}
+use Rattle.deck_problems.proofs.Common.{AreConstantHeads, entries_at, get_or-map, none, Bool, false, cond, cell_count, is_constant, no_bound, bound_in}
+use Rattle.deck_problems.proofs.Common.{known_bound, constant_bound, item_is, IsHullBound, Result, Ok, Err, option_to_list, NoBound, problem_of, unless_refused}
+use Rattle.deck_problems.proofs.Common.{cell_hull, first_refusal, hulled, problem_by}
 use Rattle.step_problem.specs.declared.entry.Fixed.{Fixed}
 use Rattle.problem_builder.specs.GridHeads.{IsNamed}
 use Rattle.problem_builder.specs.declared.fault.BuildFault.{BuildFault}
 use Rattle.std.specs.Prelude.{true}
+use Rattle.problem_hull.proofs.Refusals.{no_refusal}
 use Rattle.std.proofs.lemmas.List.FromFn.{length-map-range_with_len}
 use Rattle.deck_problems.proofs.Enclosing.{second_cells}
 use Rattle.deck_problems.proofs.OneProblem.{constant_same}
@@ -82,14 +84,18 @@ module _ (d : Decks) (b : FlowModel) (is : d.second ≡ Some b) where
       subst (λ (o : Option FlowModel). AreConstantHeadsFor (record { first = d.first; second = o }) at rs) (sym is) (constants_hulled d.first b at xs ys rs (second_is decks) h k r)
 
   module _ (s : ℕ) (at : TimeStep) (old : List Bound) where
+    -- the step's result, by those of the two models
+    both : (x y r : Result (List Entries) NoBound) → problem_of d.first s at old ≡ x → problem_of b s at old ≡ y → hulled x y ≡ r → problem_by d.first d.second s at old ≡ r
+    both x y r h k e = ap (λ (o : Option FlowModel). problem_by d.first o s at old) is ∙ (λ t. hulled (h t) (k t)) ∙ e
+
     pub problem_of_hull : (p q r : List Entries) → IsProblemOf d.first s at old p → IsProblemOf b s at old q → IsHull p q r → IsProblem r → IsProblemFor d s at old r
     problem_of_hull p q r h k hull fits =
-        subst (λ (o : Option FlowModel). IsProblemBy d.first o s at old r) (sym is) (record { first = p; is_first = h; second = q; is_second = k; hull = hull; fits = fits })
+        both (Ok p) (Ok q) (Ok r) h k (ap (λ o. unless_refused (option_to_list o) (zip_with cell_hull p q)) (ap first_refusal (sym hull.is) ∙ no_refusal r fits) ∙ ap Ok (sym hull.is))
 
     pub second_refused : (p : List Entries) → IsProblemOf d.first s at old p → (fault : BuildFault) → IsBuildFault b s at old fault → IsFaultFor d s at old fault
-    second_refused p h (build.NoBound n) x = subst (λ (o : Option FlowModel). IsRefusedBy d.first o s at old n) (sym is) (of_second p h x)
+    second_refused p h (build.NoBound n) x = both (Ok p) (Err n) (Err n) h x refl
     second_refused p h build.Memory x = tt
 
     pub hull_refused : (p q : List Entries) → IsProblemOf d.first s at old p → IsProblemOf b s at old q → (fault : BuildFault) → IsHullRefusal p q fault → IsFaultFor d s at old fault
-    hull_refused p q h k (build.NoBound n) x = subst (λ (o : Option FlowModel). IsRefusedBy d.first o s at old n) (sym is) (of_hull p q h k x)
+    hull_refused p q h k (build.NoBound n) x = both (Ok p) (Ok q) (Err n) h k (ap (λ o. unless_refused (option_to_list o) (zip_with cell_hull p q)) x.first)
     hull_refused p q h k build.Memory x = tt

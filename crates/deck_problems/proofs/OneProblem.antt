@@ -1,71 +1,33 @@
--- A step of one deck, or of two, has one problem or one refusal.
-use Rattle.deck_problems.proofs.Common.{◌≡◌, ℕ, Option, Some, None, List, sym, subst, Contains, ◌<◌, ◌∙◌, refl, Bound, IsProblem, Entries, FlowModel, TimeStep}
-use Rattle.deck_problems.proofs.Common.{times, IsModel, cell_count, is_variable, is_constant, index_of, is_active, AreGridHeads, IsProblemOf, IsActive}
-use Rattle.deck_problems.proofs.Common.{HeadsEnclose, IsHull, IsTooLarge, ProblemIsOne, ProblemExcludesRefusal, RefusalIsOne, ProblemFits, IsHullProblem}
-use Rattle.deck_problems.proofs.Common.{HasNoHullProblem, IsProblemBy, IsRefusedBy, of_first, of_second, of_hull, one_deck, AreDecks, IsOf, IsMember, HoldsOf}
-use Rattle.deck_problems.proofs.Common.{EachMember, ◌&&◌, not, Fraction, IsBetween, count_is, active_is, variable_same, index_is, times_are, Decks}
-use Rattle.deck_problems.proofs.Common.{same_problem, same_refusal, not_refused}
-use Rattle.problem_builder.specs.{ProblemFits as ModelProblemFits}
-use Rattle.step_problem.specs.declared.place.NoBound.{NoBound}
-use Rattle.problem_hull.proofs.OneHull.{hull_is_one}
-use Rattle.problem_hull.proofs.Refusals.{hull_excludes, refusal_is_one}
+-- The problem of two decks is the hull of their problems; and what the members of decks share with the first one.
+use Rattle.deck_problems.proofs.Common.{◌≡◌, ℕ, Option, Some, None, List, sym, subst, Contains, ◌<◌, ◌∙◌, refl, Bound, Entries, FlowModel, TimeStep, times}
+use Rattle.deck_problems.proofs.Common.{IsModel, cell_count, is_variable, is_constant, index_of, is_active, IsProblemOf, IsActive, HeadsEnclose, IsHull}
+use Rattle.deck_problems.proofs.Common.{IsProblemBy, one_deck, AreDecks, IsOf, IsMember, HoldsOf, zip_with, ap, [], EachMember, ◌&&◌, not, Fraction, IsBetween}
+use Rattle.deck_problems.proofs.Common.{count_is, active_is, variable_same, index_is, times_are, Decks, unless_parts, Result, Ok, Err, option_to_list, NoBound}
+use Rattle.deck_problems.proofs.Common.{problem_of, cell_hull, first_refusal, AreAlike, hulled}
+use Rattle.deck_problems.proofs.ProblemsAlike.{problems_alike}
 
-module _ (a b : FlowModel) (s : ℕ) (at : TimeStep) (old : List Bound) where
-  -- what holds of two problems of the models holds of any two
-  of_others : (P : List Entries → List Entries → Type 0) (p q x y : List Entries) → IsProblemOf a s at old p → IsProblemOf b s at old q → IsProblemOf a s at old x → IsProblemOf b s at old y → P x y → P p q
-  of_others P p q x y h k i j z =
-      subst (λ (l : List Entries). P l q) (same_problem i h) (subst (λ (l : List Entries). P x l) (same_problem j k) z)
+-- the problem of two models is the hull of their problems, and no sum of it is too large
+pub record IsHullProblem (a b : FlowModel) (s : ℕ) (at : TimeStep) (old : List Bound) (r : List Entries) : Type 0 where
+  pub first : List Entries
+  pub is_first : IsProblemOf a s at old first
+  pub second : List Entries
+  pub is_second : IsProblemOf b s at old second
+  pub hull : IsHull first second r
+  pub sound : first_refusal r ≡ None
 
-  one_hull : (p q : List Entries) → IsHullProblem a b s at old p → IsHullProblem a b s at old q → p ≡ q
-  one_hull p q h k =
-      sym (hull_is_one h.first h.second p q h.hull (of_others (λ x y. IsHull x y q) h.first h.second k.first k.second h.is_first h.is_second k.is_first k.is_second k.hull))
+none_listed : {X : Type 0} (o : Option X) → option_to_list o ≡ [] → o ≡ None
+none_listed None e = refl
+none_listed (Some x) e = absurd cc
 
-  hull_refused : (p : List Entries) (n : NoBound) → IsHullProblem a b s at old p → HasNoHullProblem a b s at old n → ⊥
-  hull_refused p n h (of_first x) = not_refused h.is_first x
-  hull_refused p n h (of_second q i x) = not_refused h.is_second x
-  hull_refused p n h (of_hull x y i j z) =
-      hull_excludes h.first h.second p n h.hull h.fits (of_others (λ u v. IsTooLarge u v n) h.first h.second x y h.is_first h.is_second i j z)
-
-  one_hull_refusal : (n k : NoBound) → HasNoHullProblem a b s at old n → HasNoHullProblem a b s at old k → n ≡ k
-  one_hull_refusal n k (of_first x) (of_first y) = same_refusal x y
-  one_hull_refusal n k (of_first x) (of_second p i y) = absurd (not_refused i x)
-  one_hull_refusal n k (of_first x) (of_hull p q i j y) = absurd (not_refused i x)
-  one_hull_refusal n k (of_second p i x) (of_first y) = absurd (not_refused i y)
-  one_hull_refusal n k (of_second p i x) (of_second q j y) = same_refusal x y
-  one_hull_refusal n k (of_second p i x) (of_hull q r j l y) = absurd (not_refused l x)
-  one_hull_refusal n k (of_hull p q i j x) (of_first y) = absurd (not_refused i y)
-  one_hull_refusal n k (of_hull p q i j x) (of_second r l y) = absurd (not_refused j y)
-  one_hull_refusal n k (of_hull p q i j x) (of_hull u v l m y) = refusal_is_one p q n k x (of_others (λ e f. IsTooLarge e f k) p q u v i j l m y)
-
--- Of one model, or of two.
-
-problem_by : (a : FlowModel) (o : Option FlowModel) (s : ℕ) (at : TimeStep) (old : List Bound) (p q : List Entries) → IsProblemBy a o s at old p → IsProblemBy a o s at old q → p ≡ q
-problem_by a None s at old p q h k = same_problem h k
-problem_by a (Some b) s at old p q h k = one_hull a b s at old p q h k
-
-excluded_by : (a : FlowModel) (o : Option FlowModel) (s : ℕ) (at : TimeStep) (old : List Bound) (p : List Entries) (n : NoBound) → IsProblemBy a o s at old p → IsRefusedBy a o s at old n → ⊥
-excluded_by a None s at old p n h k = not_refused h k
-excluded_by a (Some b) s at old p n h k = hull_refused a b s at old p n h k
-
-refusal_by : (a : FlowModel) (o : Option FlowModel) (s : ℕ) (at : TimeStep) (old : List Bound) (n k : NoBound) → IsRefusedBy a o s at old n → IsRefusedBy a o s at old k → n ≡ k
-refusal_by a None s at old n k x y = same_refusal x y
-refusal_by a (Some b) s at old n k x y = one_hull_refusal a b s at old n k x y
-
-fits_by : ModelProblemFits → (a : FlowModel) (o : Option FlowModel) (s : ℕ) (at : TimeStep) (old : List Bound) (p : List Entries) → IsModel a → Contains (times a) at → AreGridHeads a old → IsProblemBy a o s at old p → IsProblem p
-fits_by law a None s at old p first time heads h = law a s at old p first time heads h
-fits_by law a (Some b) s at old p first time heads h = h.fits
-
-pub problem_is_one : ProblemIsOne
-problem_is_one d s at old p q b h k = problem_by d.first d.second s at old p q h k
-
-pub problem_excludes_refusal : ProblemExcludesRefusal
-problem_excludes_refusal d s at old p n b h k = excluded_by d.first d.second s at old p n h k
-
-pub refusal_is_one_for : RefusalIsOne
-refusal_is_one_for d s at old n k b x y = refusal_by d.first d.second s at old n k x y
-
-pub problem_fits : ModelProblemFits → ProblemFits
-problem_fits law d s at old p b h = fits_by law d.first d.second s at old p b.decks.first b.time b.heads h
+pub hull_parts : (a b : FlowModel) (s : ℕ) (at : TimeStep) (old : List Bound) (r : List Entries) → IsModel a → AreAlike a b → IsProblemBy a (Some b) s at old r → IsHullProblem a b s at old r
+hull_parts a b s at old r valid alike = parts (problem_of a s at old) (problem_of b s at old) refl refl
+  where
+    parts : (x y : Result (List Entries) NoBound) → problem_of a s at old ≡ x → problem_of b s at old ≡ y → hulled x y ≡ Ok r → IsHullProblem a b s at old r
+    parts (Err n) y i j e = absurd cc
+    parts (Ok p) (Err n) i j e = absurd cc
+    parts (Ok p) (Ok q) i j e =
+        let (is, none) = unless_parts (option_to_list (first_refusal (zip_with cell_hull p q))) (zip_with cell_hull p q) r e in
+        record { first = p; is_first = i; second = q; is_second = j; hull = record { alike = problems_alike a b s at old p q valid alike i j; is = is }; sound = ap first_refusal is ∙ none_listed _ none }
 
 -- The members of decks, and what they share with the first deck.
 -- one valid deck meets the conditions on decks

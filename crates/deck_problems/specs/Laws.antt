@@ -1,5 +1,6 @@
--- Laws of the problems of one deck, or of two: problems and refusals are unique, and problems meet their conditions.
-use Rattle.std.specs.Prelude.{◌≡◌, ℕ, ◌<◌, true, ℤ, List, Contains, Option, Some, None}
+-- The problem of a step of one deck, or of two; and its laws: problems meet their conditions.
+use Rattle.std.specs.Prelude.{◌≡◌, ℕ, ◌<◌, true, ℤ, List, Contains, Option, Some, None, Result, Ok, Err}
+use Rattle.std.specs.Option.{option_to_list}
 use Rattle.decimal_input.specs.{EnclosesSigned}
 use Rattle.step_problem.specs.declared.heads.Bound.{Bound}
 use Rattle.step_problem.specs.declared.place.NoBound.{NoBound}
@@ -8,41 +9,29 @@ use Rattle.step_problem.specs.Entries.{Entries}
 use Rattle.model_types.specs.declared.model.FlowModel.{FlowModel}
 use Rattle.model_types.specs.declared.time_steps.TimeStep.{TimeStep}
 use Rattle.model_types.specs.{cell_count, constant_head, start_head, is_constant, times, IsModel}
-use Rattle.problem_builder.specs.{AreGridHeads, HeadsEnclose, IsProblemOf, HasNoProblem}
-use Rattle.problem_hull.specs.{AreAlike as AreProblemsAlike, IsHull, IsTooLarge}
+use Rattle.problem_builder.specs.{AreGridHeads, HeadsEnclose, IsProblemOf, problem_of, unless_refused}
+use Rattle.problem_hull.specs.{AreAlike as AreProblemsAlike, cell_hull, zip_with, first_refusal}
 use Rattle.deck_span.specs.{AreAlike}
 use Rattle.deck_problems.specs.declared.decks.Decks.{Decks}
 use Rattle.deck_problems.specs.Kept.{AreDecks, EachMember, IsConstantPairFor, AreStartHeadsFor, EnclosesSteps}
 use Rattle.problem_builder.specs.declared.fault.BuildFault.{BuildFault}
 use Rattle.problem_builder.specs.declared.fault.BuildFault.TheVariants.{NoBound as Refused, Memory}
 
--- The problem of a time step of one deck, or of two: the hull of their problems; and the refusal of a step that has none.
--- A step of the models a and b with s digits of conductances, where `old` are the heads of all cells before it.
-module _ (a b : FlowModel) (s : ℕ) (at : TimeStep) (old : List Bound) where
-  -- p is the hull of the two models' problems, and a problem: no sum of it is too large
-  pub record IsHullProblem (p : List Entries) : Type 0 where
-    pub first : List Entries
-    pub is_first : IsProblemOf a s at old first
-    pub second : List Entries
-    pub is_second : IsProblemOf b s at old second
-    pub hull : IsHull first second p
-    pub fits : IsProblem p
+-- The results of two models that are alike, as one: the refusal of the first one, or of the second; or the hull of their problems, or
+-- the refusal of its first cell that has a sum too large.
+abbrev pub hulled : Result (List Entries) NoBound → Result (List Entries) NoBound → Result (List Entries) NoBound
+hulled (Err n) second = Err n
+hulled (Ok p) (Err n) = Err n
+hulled (Ok p) (Ok q) = unless_refused (option_to_list (first_refusal (zip_with cell_hull p q))) (zip_with cell_hull p q)
 
-  -- It has this refusal: that of the first model; of the second one, where the first has a problem; or of their hull,
-  -- where both have: its first cell that has a sum too large.
-  pub data HasNoHullProblem (n : NoBound) : Type 0 where
-    of_first : HasNoProblem a s at old n → HasNoHullProblem n
-    of_second : (p : List Entries) → IsProblemOf a s at old p → HasNoProblem b s at old n → HasNoHullProblem n
-    of_hull : (p q : List Entries) → IsProblemOf a s at old p → IsProblemOf b s at old q → IsTooLarge p q n → HasNoHullProblem n
+-- The problem of a time step of one model or of two, with s digits of conductances, where `old` are the heads of all cells before it;
+-- or its refusal.
+abbrev pub problem_by : FlowModel → Option FlowModel → ℕ → TimeStep → List Bound → Result (List Entries) NoBound
+problem_by a None s at old = problem_of a s at old
+problem_by a (Some b) s at old = hulled (problem_of a s at old) (problem_of b s at old)
 
--- the same of one model, or of two
 abbrev pub IsProblemBy : FlowModel → Option FlowModel → ℕ → TimeStep → List Bound → List Entries → Type 0
-IsProblemBy a None s at old p = IsProblemOf a s at old p
-IsProblemBy a (Some b) s at old p = IsHullProblem a b s at old p
-
-abbrev pub IsRefusedBy : FlowModel → Option FlowModel → ℕ → TimeStep → List Bound → NoBound → Type 0
-IsRefusedBy a None s at old n = HasNoProblem a s at old n
-IsRefusedBy a (Some b) s at old n = HasNoHullProblem a b s at old n
+IsProblemBy a o s at old p = problem_by a o s at old ≡ Ok p
 
 -- A step of decks.
 module _ (d : Decks) (s : ℕ) (at : TimeStep) (old : List Bound) where
@@ -52,7 +41,7 @@ module _ (d : Decks) (s : ℕ) (at : TimeStep) (old : List Bound) where
 
   -- it has none, but this refusal
   abbrev pub HasNoProblemFor : NoBound → Type 0
-  HasNoProblemFor n = IsRefusedBy d.first d.second s at old n
+  HasNoProblemFor n = problem_by d.first d.second s at old ≡ Err n
 
   -- lack of memory is possible at any time
   abbrev pub IsFaultFor : BuildFault → Type 0
@@ -70,24 +59,6 @@ pub record IsBefore (d : Decks) (at : TimeStep) (old : List Bound) : Type 0 wher
   pub decks : AreDecks d
   pub time : Contains (times d.first) at
   pub heads : AreGridHeads d.first old
-
--- they have at most one problem
-abbrev pub ProblemIsOne : Type 0
-ProblemIsOne =
-    (d : Decks) (s : ℕ) (at : TimeStep) (old : List Bound) (p q : List Entries) → IsBefore d at old →
-    IsProblemFor d s at old p → IsProblemFor d s at old q → p ≡ q
-
--- a step with a problem has no refusal
-abbrev pub ProblemExcludesRefusal : Type 0
-ProblemExcludesRefusal =
-    (d : Decks) (s : ℕ) (at : TimeStep) (old : List Bound) (p : List Entries) (n : NoBound) → IsBefore d at old →
-    IsProblemFor d s at old p → HasNoProblemFor d s at old n → ⊥
-
--- a step has at most one refusal
-abbrev pub RefusalIsOne : Type 0
-RefusalIsOne =
-    (d : Decks) (s : ℕ) (at : TimeStep) (old : List Bound) (a b : NoBound) → IsBefore d at old →
-    HasNoProblemFor d s at old a → HasNoProblemFor d s at old b → a ≡ b
 
 -- a problem meets the conditions on problems
 abbrev pub ProblemFits : Type 0

@@ -1,29 +1,11 @@
 // Laws of the problems of one deck, or of two. Each is the contract of an empty function, but for the laws below that
 // it calls.
-ghost use Rattle.deck_problems.specs.{ProblemsAreAlike, ProblemIsOne, ProblemExcludesRefusal, RefusalIsOne, ProblemFits, ProblemEncloses, ConstantPairIsOne};
-ghost use Rattle.deck_problems.specs.{ConstantPairFits, ConstantPairEncloses, StartHeadsAreOne, StartHeadsFit, StartHeadsEnclose};
+ghost use Rattle.deck_problems.specs.{ProblemsAreAlike, ProblemFits, ProblemEncloses, ConstantPairIsOne, ConstantPairFits, ConstantPairEncloses};
+ghost use Rattle.deck_problems.specs.{StartHeadsAreOne, StartHeadsFit, StartHeadsEnclose};
 
 /// The problems of two models that are alike are alike.
 pub fn problems_are_alike()
     ensures { ProblemsAreAlike }
-{}
-
-/// Decks, a time and the heads before it have at most one problem.
-#[tactic(auto, using(crate::proofs::OneProblem::problem_is_one))]
-pub fn one_problem()
-    ensures { ProblemIsOne }
-{}
-
-/// A step with a problem has no refusal.
-#[tactic(auto, using(crate::proofs::OneProblem::problem_excludes_refusal))]
-pub fn no_problem_beside_a_refusal()
-    ensures { ProblemExcludesRefusal }
-{}
-
-/// A step has at most one refusal.
-#[tactic(auto, using(crate::proofs::OneProblem::refusal_is_one_for))]
-pub fn one_refusal()
-    ensures { RefusalIsOne }
 {}
 
 /// A problem that the definition gives meets the conditions on problems, and encloses the exact step of each member.

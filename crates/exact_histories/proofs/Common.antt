@@ -9,9 +9,9 @@ pub use Rattle.cell_balance.specs.{link_flow, minus, no_cell, river_flow, share}
 pub use Rattle.decimal_input.proofs.FloorLaws.{Same-sym, Same-trans, swap}
 pub use Rattle.decimal_input.specs.{Fraction, IsOver, fraction_total, signed}
 pub use Rattle.decimal_input.specs.Fractions.{Same, den, plus}
-pub use Rattle.deck_problems.proofs.Enclosing.{pair_encloses, pair_fits, problem_encloses}
+pub use Rattle.deck_problems.proofs.Enclosing.{pair_encloses, pair_fits, problem_encloses, problem_fits}
 pub use Rattle.deck_problems.proofs.OneProblem.{HasCellsOf, between_cells, cell_of_first, cell_of_member, encloses_first, encloses_member, member_cells}
-pub use Rattle.deck_problems.proofs.OneProblem.{of_member, one_valid, problem_fits}
+pub use Rattle.deck_problems.proofs.OneProblem.{of_member, one_valid}
 pub use Rattle.deck_problems.proofs.Starting.{starts_enclose_members, starts_fit_decks}
 pub use Rattle.deck_problems.specs.{AreDecks, EnclosesSteps, HoldsOf, IsBefore, IsMember, IsOf, one_deck}
 pub use Rattle.deck_problems.specs.declared.decks.Decks.{Decks}

@@ -1,10 +1,7 @@
--- Two problems have one hull, and that of a problem and itself is that problem.
-use Rattle.problem_hull.proofs.Common.{◌≡◌, ◌∙◌, refl, sym, arith, ℕ, ℤ, List, min, max, int_min, int_max, ints, clamps, Entries, IsHull, flow_hull, fixed_hull}
+-- The hull of a problem and itself is that problem.
+use Rattle.problem_hull.proofs.Common.{◌≡◌, refl, arith, ℕ, ℤ, List, min, max, int_min, int_max, ints, clamps, Entries, IsHull, flow_hull, fixed_hull}
 use Rattle.problem_hull.proofs.Common.{river_hull, drain_hull, evap_hull, cell_hull}
 use Rattle.problem_hull.proofs.Hulls.{zip_itself}
-
-pub hull_is_one : (p q r s : List Entries) → IsHull p q r → IsHull p q s → s ≡ r
-hull_is_one p q r s h k = k.is ∙ sym h.is
 
 low : (a : ℤ) → a ≡ int_min a a
 low a = omega (arith, ints, clamps)

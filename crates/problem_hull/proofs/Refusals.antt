@@ -1,4 +1,4 @@
--- A hull that is a problem has no refusal, and there is one refusal alone.
+-- A hull that is a problem has no refusal.
 use Rattle.problem_hull.proofs.Common.{◌≡◌, ◌+◌, ◌<◌, ◌^◌, ◌∙◌, [], ◌∷◌, ℕ, zero, suc, arith, None, Option, Some, List, drop, get_or, length, sym, ap, refl}
 use Rattle.problem_hull.proofs.Common.{conductance_of, flow_of, IsProblem, Entries, entries_at, no_entries, IsHull, sum_refusal, first_refusal, IsTooLarge}
 use Rattle.problem_hull.proofs.Common.{get_or_default, drop_more, refusal_at}
@@ -49,11 +49,8 @@ refusals_from r i c o lt e is =
 pub entries_named : (r : List Entries) (i : ℕ) (c : Entries) → i < length r → c ≡ get_or r i c → entries_at r i ≡ c
 entries_named r i c lt e = get_or_default r i no_entries c lt ∙ sym e
 
-pub hull_excludes : (p q r : List Entries) (refusal : NoBound) → IsHull p q r → IsProblem r → IsTooLarge p q refusal → ⊥
-hull_excludes p q r refusal h fits large =
-    let none = none_first r (λ c lt. small_sums (entries_at r c) (fits.cells c lt).conductances (fits.cells c lt).flows) in
-    let bad : None ≡ Some refusal = sym none ∙ ap first_refusal h.is ∙ large.first in
-    cc
+pub no_refusal : (r : List Entries) → IsProblem r → first_refusal r ≡ None
+no_refusal r fits = none_first r (λ c lt. small_sums (entries_at r c) (fits.cells c lt).conductances (fits.cells c lt).flows)
 
-pub refusal_is_one : (p q : List Entries) (a b : NoBound) → IsTooLarge p q a → IsTooLarge p q b → a ≡ b
-refusal_is_one p q a b h k = let same : Some a ≡ Some b = sym h.first ∙ k.first in cc
+pub hull_excludes : (p q r : List Entries) (refusal : NoBound) → IsHull p q r → IsProblem r → IsTooLarge p q refusal → ⊥
+hull_excludes p q r refusal h fits large = let bad : None ≡ Some refusal = sym (no_refusal r fits) ∙ ap first_refusal h.is ∙ large.first in cc

@@ -16,8 +16,8 @@ pub use Rattle.decimal_input.specs.{EnclosesSigned, Fraction}
 pub use Rattle.deck_problems.proofs.OneProblem.{HasCellsOf, between_cells, cell_of_member, constant_same, each_member, encloses_first, encloses_member}
 pub use Rattle.deck_problems.proofs.OneProblem.{member_cells, of_member}
 pub use Rattle.deck_problems.specs.{AreConstantHeadsFor, AreDecks, ConstantPairEncloses, ConstantPairFits, ConstantPairIsOne, EachMember, EnclosesSteps}
-pub use Rattle.deck_problems.specs.{HasConstantHeadFor, IsBefore, IsConstantPairFor, IsProblemFor, ProblemEncloses, ProblemExcludesRefusal, ProblemFits}
-pub use Rattle.deck_problems.specs.{ProblemIsOne, StartHeadsEnclose, StartHeadsFit, digits_of}
+pub use Rattle.deck_problems.specs.{HasConstantHeadFor, IsBefore, IsConstantPairFor, IsProblemFor, ProblemEncloses, ProblemFits, StartHeadsEnclose}
+pub use Rattle.deck_problems.specs.{StartHeadsFit, digits_of}
 pub use Rattle.deck_problems.specs.declared.decks.Decks.{Decks}
 pub use Rattle.flow_equations.specs.{exact_step, heads_of, variable_heads}
 pub use Rattle.model_types.specs.{cell_count, constant_head, index_of, is_active, is_constant, is_variable, kind_of, start_head, times, variable_cells}
@@ -26,6 +26,7 @@ pub use Rattle.model_types.specs.declared.limits.Limits.TheVariants.{Plain, Wide
 pub use Rattle.model_types.specs.declared.model.FlowModel.{FlowModel}
 pub use Rattle.model_types.specs.declared.time_steps.TimeStep.{TimeStep}
 pub use Rattle.problem_builder.proofs.Members.{In-Contains, constant_active, variable_active}
+pub use Rattle.problem_builder.proofs.Steps.{not_refused, same_problem, same_refusal}
 pub use Rattle.problem_builder.specs.{AreGridHeads, HeadsEnclose, IsActive}
 pub use Rattle.step_chain.specs.{AreHeadsOf, AreSteps, EnclosesMove, EnclosesMoves, FailsBy, HasNoBarrier, HasNoHeads, HasNoPose, HeadsFit, HistoriesLieWithin}
 pub use Rattle.step_chain.specs.{IsBarrierBy, IsBarrierFault, IsMove, IsNoCertificate, IsPosed, IsStepBy, LeadsBy, LeadsOrRests, LeadsWithout, LeavesRange}

@@ -1,12 +1,12 @@
 -- A time has one step, or one refusal, from the heads before it.
 use Rattle.step_chain.proofs.Common.{◌≡◌, ℕ, suc, ◌<◌, inl, inr, List, [], ◌∷◌, length, sym, ap, ◌∙◌, subst, refl, arith, ℤ, cases_Bool, Bound, IsProblem}
 use Rattle.step_chain.proofs.Common.{Entries, Edges, lower_at, upper_at, SettledPairIsOne, AreSettled, IsBarrierBy, edges_by, CutBarrierIsOne, Limits, Plain}
-use Rattle.step_chain.proofs.Common.{TimeStep, cell_count, is_active, is_variable, Decks, IsBefore, ProblemIsOne, ProblemFits, ConstantPairIsOne}
-use Rattle.step_chain.proofs.Common.{ConstantPairFits, Solved, bound_at, AreHeadsOf, StepIsOne, HeadsFit, WideKeepsSteps, IsPairOf, clamped_fits, ◌^◌, true}
-use Rattle.step_chain.proofs.Common.{pos, ◌*ℤ◌, ◌≤ℤ◌, Fraction, IsCertificate, AreWords, CertificateEncloses, FlowModel, is_constant, index_of, exact_step}
-use Rattle.step_chain.proofs.Common.{variable_heads, IsActive, IsConstantPairFor, ProblemEncloses, ConstantPairEncloses, EnclosesSteps, HasCellsOf}
-use Rattle.step_chain.proofs.Common.{constant_same, each_member, of_member, member_cells, IsMove, EnclosesMove, EnclosesMoves, StepEncloses, PairKind, settled}
-use Rattle.step_chain.proofs.Common.{certified, EnclosesStep, CellEncloses, LiesBetween, constant_head, EnclosesSolutions, EnclosesSigned}
+use Rattle.step_chain.proofs.Common.{TimeStep, cell_count, is_active, is_variable, Decks, IsBefore, ProblemFits, ConstantPairIsOne, ConstantPairFits, Solved}
+use Rattle.step_chain.proofs.Common.{bound_at, AreHeadsOf, StepIsOne, HeadsFit, WideKeepsSteps, IsPairOf, clamped_fits, ◌^◌, true, pos, ◌*ℤ◌, ◌≤ℤ◌, Fraction}
+use Rattle.step_chain.proofs.Common.{IsCertificate, AreWords, CertificateEncloses, FlowModel, is_constant, index_of, exact_step, variable_heads, IsActive}
+use Rattle.step_chain.proofs.Common.{IsConstantPairFor, ProblemEncloses, ConstantPairEncloses, EnclosesSteps, HasCellsOf, constant_same, each_member, of_member}
+use Rattle.step_chain.proofs.Common.{member_cells, IsMove, EnclosesMove, EnclosesMoves, StepEncloses, PairKind, settled, certified, EnclosesStep, CellEncloses}
+use Rattle.step_chain.proofs.Common.{LiesBetween, constant_head, EnclosesSolutions, EnclosesSigned, same_problem}
 use Rattle.step_chain.proofs.Limits.{cut_by, held_by, uncut_by}
 use Rattle.deck_problems.proofs.Counted.{problem_count}
 use Rattle.step_chain.proofs.Assembled.{active_constant, heads_in_range, index_below, count_is, number_is}
@@ -125,9 +125,9 @@ settled_one barrier_one pair_one limits p b c xs ys fits x y first second =
     let (low, high) = pair_one p (edges_by limits b) (lower_at ys) (upper_at ys) (lower_at xs) (upper_at xs) other.pair first.pair k inside in
     same_bound (bound_at xs k) (bound_at ys k) (low, high))
 
-pub steps_one : ProblemIsOne → ProblemFits → ConstantPairIsOne → CutBarrierIsOne → SettledPairIsOne → StepIsOne
-steps_one problem_one problem_fits pair_one barrier_one settled_pair_one limits d s at old x y b h k =
-    let problems : x.problem ≡ y.problem = problem_one d s at old x.problem y.problem b h.posed.problem k.posed.problem in
+pub steps_one : ProblemFits → ConstantPairIsOne → CutBarrierIsOne → SettledPairIsOne → StepIsOne
+steps_one problem_fits pair_one barrier_one settled_pair_one limits d s at old x y b h k =
+    let problems : x.problem ≡ y.problem = same_problem h.posed.problem k.posed.problem in
     let B : List Entries → Type 0 = λ p. IsBarrierBy limits p k.barrier in
     let S : List Entries → Type 0 = λ p. AreSettled p (edges_by limits k.barrier) y.bounds in
     let H : List Bound → Type 0 = λ bs. AreHeadsOf d at bs y.heads in
@@ -141,7 +141,7 @@ steps_one problem_one problem_fits pair_one barrier_one settled_pair_one limits 
 
 pub all_fit : ConstantPairFits → HeadsFit
 all_fit pair_fits limits d s at old kind x b h =
-    heads_in_range d at x.problem x.bounds x.heads h.heads (pair_words kind x.problem (edges_by limits h.barrier) x.bounds h.pair) (problem_count d s at old x.problem h.posed.problem)
+    heads_in_range d at x.problem x.bounds x.heads h.heads (pair_words kind x.problem (edges_by limits h.barrier) x.bounds h.pair) (problem_count d s at old x.problem b.decks h.posed.problem)
     (λ c lo hi lt k pair. pair_fits d at c lo hi (record { decks = b.decks; time = b.time; within = lt; constant = k }) pair)
 
 -- a step by plain limits is one by wide limits

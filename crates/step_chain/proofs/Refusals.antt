@@ -1,12 +1,11 @@
 -- A step that is posed has no refusal before it settles, a settled step none at all, and a time at most one.
-use Rattle.step_chain.proofs.Common.{◌≡◌, ℕ, inl, inr, sym, subst, List, Bound, Entries, Edges, IsProblem, AreSettled, IsPairOf, PairKind, SettledPairIsOne}
-use Rattle.step_chain.proofs.Common.{Solved, Decks, TimeStep, IsBefore, ProblemIsOne, ProblemFits, ProblemExcludesRefusal, CutBarrierExcludesRefusal}
-use Rattle.step_chain.proofs.Common.{CutBarrierIsOne, IsBarrierBy, edges_by, Limits, Plain, Wide, StepExcludesRefusal, RefusalIsOne, NoBound, settled}
-use Rattle.step_chain.proofs.Common.{CutRefusalIsOne, IsRangeRefusal, CertificateExcludesRefusal, RangeRefusalIsOne, HasNoBarrier, HasNoPose, IsPosed, IsStepBy}
-use Rattle.step_chain.proofs.Common.{LeavesRange, IsBarrierFault, IsProblemFor, BarrierFault, FailsBy, IsNoCertificate, SettlesNot, of_barrier, HasNoHeads}
-use Rattle.step_chain.proofs.Common.{BarrierExcludesRefusal}
+use Rattle.step_chain.proofs.Common.{◌≡◌, ℕ, inl, inr, subst, List, Bound, Entries, Edges, IsProblem, AreSettled, IsPairOf, PairKind, SettledPairIsOne, Solved}
+use Rattle.step_chain.proofs.Common.{Decks, TimeStep, IsBefore, ProblemFits, CutBarrierExcludesRefusal, CutBarrierIsOne, IsBarrierBy, edges_by, Limits, Plain}
+use Rattle.step_chain.proofs.Common.{Wide, StepExcludesRefusal, RefusalIsOne, NoBound, settled, CutRefusalIsOne, IsRangeRefusal, CertificateExcludesRefusal}
+use Rattle.step_chain.proofs.Common.{RangeRefusalIsOne, HasNoBarrier, HasNoPose, IsPosed, IsStepBy, LeavesRange, IsBarrierFault, IsProblemFor, BarrierFault}
+use Rattle.step_chain.proofs.Common.{FailsBy, IsNoCertificate, SettlesNot, of_barrier, HasNoHeads, BarrierExcludesRefusal, not_refused, same_problem}
+use Rattle.step_chain.proofs.Common.{same_refusal}
 use Rattle.barrier_vector.specs.{RefusalIsOne as BarrierRefusalIsOne}
-use Rattle.deck_problems.specs.{RefusalIsOne as ProblemRefusalIsOne}
 use Rattle.step_chain.proofs.OneStep.{settled_one}
 use Rattle.step_chain.specs.declared.solved.StepFault.{StepFault}
 use Rattle.step_chain.specs.declared.solved.StepFault.TheVariants as step
@@ -26,19 +25,18 @@ barriers_one plain cut Plain p a b = plain p a b
 barriers_one plain cut Wide p a b = cut p a b
 
 -- so a step that is posed has no refusal before it settles
-pub posed_excludes : ProblemIsOne → ProblemFits → ProblemExcludesRefusal → BarrierExcludesRefusal → CutBarrierExcludesRefusal →
+pub posed_excludes : ProblemFits → BarrierExcludesRefusal → CutBarrierExcludesRefusal →
     (limits : Limits) (d : Decks) (s : ℕ) (at : TimeStep) (old : List Bound) (p : List Entries) (b : Edges) (n : NoBound) → IsBefore d at old → IsPosed limits d s at old p b → HasNoPose limits d s at old n → ⊥
-posed_excludes problem_one problem_fits problem_excludes plain cut limits d s at old p b n before h (inl none) = problem_excludes d s at old p n before h.problem none
-posed_excludes problem_one problem_fits problem_excludes plain cut limits d s at old p b n before h (inr (q, is, refused)) =
+posed_excludes problem_fits plain cut limits d s at old p b n before h (inl none) = not_refused h.problem none
+posed_excludes problem_fits plain cut limits d s at old p b n before h (inr (q, is, refused)) =
     let R : List Entries → Type 0 = λ p. HasNoBarrier limits p n in
-    let same = problem_one d s at old q p before is h.problem in
-    barrier_excludes plain cut limits p b n (problem_fits d s at old p before h.problem) h.barrier (subst R same refused)
+    barrier_excludes plain cut limits p b n (problem_fits d s at old p before h.problem) h.barrier (subst R (same_problem is h.problem) refused)
 
 -- the range refusal of a posed step is one of its settled pair
-ranges_one : ProblemIsOne → ProblemFits → CutBarrierIsOne → SettledPairIsOne → (d : Decks) (s : ℕ) (at : TimeStep) (old : List Bound) (p : List Entries) (b : Edges) (bounds : List Bound) (n : NoBound) → IsBefore d at old →
+ranges_one : ProblemFits → CutBarrierIsOne → SettledPairIsOne → (d : Decks) (s : ℕ) (at : TimeStep) (old : List Bound) (p : List Entries) (b : Edges) (bounds : List Bound) (n : NoBound) → IsBefore d at old →
     IsPosed Wide d s at old p b → AreSettled p (edges_by Wide b) bounds → LeavesRange Wide d s at old n → IsRangeRefusal p b bounds n
-ranges_one problem_one problem_fits barrier_one pair_one d s at old p b bounds n before h pair r =
-    let same : r.problem ≡ p = problem_one d s at old r.problem p before r.posed.problem h.problem in
+ranges_one problem_fits barrier_one pair_one d s at old p b bounds n before h pair r =
+    let same : r.problem ≡ p = same_problem r.posed.problem h.problem in
     let fits = problem_fits d s at old p before h.problem in
     let B : List Entries → Type 0 = λ q. IsBarrierBy Wide q r.barrier in
     let of_p = subst B same r.posed.barrier in
@@ -51,38 +49,35 @@ ranges_one problem_one problem_fits barrier_one pair_one d s at old p b bounds n
     subst R bounds_same (subst Q edges_same (subst P same r.refused))
 
 -- and at most one such refusal
-pub poses_one : ProblemIsOne → ProblemExcludesRefusal → ProblemRefusalIsOne → BarrierRefusalIsOne → CutRefusalIsOne → (limits : Limits) (d : Decks) (s : ℕ) (at : TimeStep) (old : List Bound) (a b : NoBound) → IsBefore d at old →
+pub poses_one : BarrierRefusalIsOne → CutRefusalIsOne → (limits : Limits) (d : Decks) (s : ℕ) (at : TimeStep) (old : List Bound) (a b : NoBound) →
     HasNoPose limits d s at old a → HasNoPose limits d s at old b → a ≡ b
-poses_one problem_one problem_excludes of_problem of_plain of_cut limits d s at old a b before (inl x) (inl y) = of_problem d s at old a b before x y
-poses_one problem_one problem_excludes of_problem of_plain of_cut limits d s at old a b before (inl x) (inr (p, is, y)) = absurd (problem_excludes d s at old p a before is x)
-poses_one problem_one problem_excludes of_problem of_plain of_cut limits d s at old a b before (inr (p, is, x)) (inl y) = absurd (problem_excludes d s at old p b before is y)
-poses_one problem_one problem_excludes of_problem of_plain of_cut limits d s at old a b before (inr (p, is, x)) (inr (q, also, y)) =
+poses_one of_plain of_cut limits d s at old a b (inl x) (inl y) = same_refusal x y
+poses_one of_plain of_cut limits d s at old a b (inl x) (inr (p, is, y)) = absurd (not_refused is x)
+poses_one of_plain of_cut limits d s at old a b (inr (p, is, x)) (inl y) = absurd (not_refused is y)
+poses_one of_plain of_cut limits d s at old a b (inr (p, is, x)) (inr (q, also, y)) =
     let R : List Entries → Type 0 = λ p. HasNoBarrier limits p b in
-    barriers_one of_plain of_cut limits p a b x (subst R (sym (problem_one d s at old p q before is also)) y)
+    barriers_one of_plain of_cut limits p a b x (subst R (same_problem also is) y)
 
-module _ (problem_one : ProblemIsOne) (problem_fits : ProblemFits) (problem_excludes : ProblemExcludesRefusal) (plain : BarrierExcludesRefusal) (cut : CutBarrierExcludesRefusal)
-    (barrier_one : CutBarrierIsOne) (pair_one : SettledPairIsOne) where
+module _ (problem_fits : ProblemFits) (plain : BarrierExcludesRefusal) (cut : CutBarrierExcludesRefusal) (barrier_one : CutBarrierIsOne) (pair_one : SettledPairIsOne) where
   settled_excludes : CertificateExcludesRefusal → (d : Decks) (s : ℕ) (at : TimeStep) (old : List Bound) (kind : PairKind) (x : Solved) (n : NoBound) → IsBefore d at old → kind ≡ settled →
       IsStepBy Wide d s at old kind x → LeavesRange Wide d s at old n → ⊥
   settled_excludes certified d s at old kind x n before is h r =
       let P : PairKind → Type 0 = λ k. IsPairOf x.problem k (edges_by Wide h.barrier) x.bounds in
-      certified x.problem h.barrier x.bounds n h.certificate (ranges_one problem_one problem_fits barrier_one pair_one d s at old x.problem h.barrier x.bounds n before h.posed (subst P is h.pair) r)
+      certified x.problem h.barrier x.bounds n h.certificate (ranges_one problem_fits barrier_one pair_one d s at old x.problem h.barrier x.bounds n before h.posed (subst P is h.pair) r)
 
   pub step_excludes : CertificateExcludesRefusal → StepExcludesRefusal
-  step_excludes certified Plain d s at old kind x n before which h none = posed_excludes problem_one problem_fits problem_excludes plain cut Plain d s at old x.problem h.barrier n before h.posed none
-  step_excludes certified Wide d s at old kind x n before which h (inl none) = posed_excludes problem_one problem_fits problem_excludes plain cut Wide d s at old x.problem h.barrier n before h.posed none
+  step_excludes certified Plain d s at old kind x n before which h none = posed_excludes problem_fits plain cut Plain d s at old x.problem h.barrier n before h.posed none
+  step_excludes certified Wide d s at old kind x n before which h (inl none) = posed_excludes problem_fits plain cut Wide d s at old x.problem h.barrier n before h.posed none
   step_excludes certified Wide d s at old kind x n before (inl is) h (inr r) = absurd (not_plain is)
   step_excludes certified Wide d s at old kind x n before (inr is) h (inr r) = settled_excludes certified d s at old kind x n before is h r
 
-  pub refusals_one : ProblemRefusalIsOne → BarrierRefusalIsOne → CutRefusalIsOne → RangeRefusalIsOne → RefusalIsOne
-  refusals_one of_problem of_plain of_cut of_range Plain d s at old a b before x y = poses_one problem_one problem_excludes of_problem of_plain of_cut Plain d s at old a b before x y
-  refusals_one of_problem of_plain of_cut of_range Wide d s at old a b before (inl x) (inl y) = poses_one problem_one problem_excludes of_problem of_plain of_cut Wide d s at old a b before x y
-  refusals_one of_problem of_plain of_cut of_range Wide d s at old a b before (inl x) (inr y) =
-      absurd (posed_excludes problem_one problem_fits problem_excludes plain cut Wide d s at old y.problem y.barrier a before y.posed x)
-  refusals_one of_problem of_plain of_cut of_range Wide d s at old a b before (inr x) (inl y) =
-      absurd (posed_excludes problem_one problem_fits problem_excludes plain cut Wide d s at old x.problem x.barrier b before x.posed y)
-  refusals_one of_problem of_plain of_cut of_range Wide d s at old a b before (inr x) (inr y) =
-      of_range x.problem x.barrier x.bounds a b x.refused (ranges_one problem_one problem_fits barrier_one pair_one d s at old x.problem x.barrier x.bounds b before x.posed x.pair y)
+  pub refusals_one : BarrierRefusalIsOne → CutRefusalIsOne → RangeRefusalIsOne → RefusalIsOne
+  refusals_one of_plain of_cut of_range Plain d s at old a b before x y = poses_one of_plain of_cut Plain d s at old a b x y
+  refusals_one of_plain of_cut of_range Wide d s at old a b before (inl x) (inl y) = poses_one of_plain of_cut Wide d s at old a b x y
+  refusals_one of_plain of_cut of_range Wide d s at old a b before (inl x) (inr y) = absurd (posed_excludes problem_fits plain cut Wide d s at old y.problem y.barrier a before y.posed x)
+  refusals_one of_plain of_cut of_range Wide d s at old a b before (inr x) (inl y) = absurd (posed_excludes problem_fits plain cut Wide d s at old x.problem x.barrier b before x.posed y)
+  refusals_one of_plain of_cut of_range Wide d s at old a b before (inr x) (inr y) =
+      of_range x.problem x.barrier x.bounds a b x.refused (ranges_one problem_fits barrier_one pair_one d s at old x.problem x.barrier x.bounds b before x.posed x.pair y)
 
 -- The faults of a step, by those of its builder, its barrier and its settling.
 pub unposed : (limits : Limits) (d : Decks) (s : ℕ) (at : TimeStep) (old : List Bound) (n : NoBound) → HasNoPose limits d s at old n → HasNoHeads limits d s at old n

@@ -8,17 +8,13 @@ use barrier_vector::laws::{
 use certificate_check::laws::{
     certificate_encloses, no_certificate_beside_a_refusal, one_range_refusal,
 };
-use deck_problems::laws::{
-    constant_pairs, no_problem_beside_a_refusal, one_problem,
-    one_refusal as one_refusal_of_a_problem, problems_fit, start_heads,
-};
+use deck_problems::laws::{constant_pairs, problems_fit, start_heads};
 use step_problem::laws::settled_pair;
 
 /// A time has at most one step from the heads before it.
 pub fn one_step()
     ensures { StepIsOne }
 {
-    one_problem();
     problems_fit();
     constant_pairs();
     one_cut_barrier();
@@ -29,9 +25,7 @@ pub fn one_step()
 pub fn no_step_beside_a_refusal()
     ensures { StepExcludesRefusal }
 {
-    one_problem();
     problems_fit();
-    no_problem_beside_a_refusal();
     no_barrier_beside_a_refusal();
     no_cut_barrier_beside_a_refusal();
     one_cut_barrier();
@@ -43,9 +37,6 @@ pub fn no_step_beside_a_refusal()
 pub fn one_refusal()
     ensures { RefusalIsOne }
 {
-    one_problem();
-    no_problem_beside_a_refusal();
-    one_refusal_of_a_problem();
     one_refusal_of_a_barrier();
     one_cut_refusal();
     problems_fit();

@@ -5,13 +5,10 @@ pub returns : goal.returns
 returns c = verdicts_one (record {
   start_one = c.start_heads.ensures.one;
   start_fits = c.start_heads.ensures.fit;
-  problem_one = c.one_problem.ensures;
   problem_fits = c.problems_fit.ensures.fit;
   barrier_one = c.one_cut_barrier.ensures;
-  problem_excludes = c.no_problem_beside_a_refusal.ensures;
   barrier_excludes = c.no_barrier_beside_a_refusal.ensures;
   cut_excludes = c.no_cut_barrier_beside_a_refusal.ensures;
-  problem_refusal_one = c.one_refusal.ensures;
-  barrier_refusal_one = c.one_refusal-2.ensures;
+  barrier_refusal_one = c.one_refusal.ensures;
   cut_refusal_one = c.one_cut_refusal.ensures;
 })

@@ -49,7 +49,7 @@ returns-in_err-test_terms-clause-fault c =
 pub test_flows-requires-clause-pairs : goal.test_flows-requires-clause-pairs
 test_flows-requires-clause-pairs c = λ flows are.
     let posed = c.in_ok-posed.ensures.posed in
-    c.requires.flows.pairs ∙ sym (flows_have_pairs c.args.decks.now (digits_of c.args.tables.now.first) c.args.at c.args.old.now c.in_ok-posed.posed.problem c.requires.decks.first.grid.size posed.posed.problem c.args.heads.now (option_map (λ z. z.now) c.args.zones) flows are)
+    c.requires.flows.pairs ∙ sym (flows_have_pairs c.args.decks.now (digits_of c.args.tables.now.first) c.args.at c.args.old.now c.in_ok-posed.posed.problem c.requires.decks posed.posed.problem c.args.heads.now (option_map (λ z. z.now) c.args.zones) flows are)
 
 pub test_flows-requires-clause-named : goal.test_flows-requires-clause-named
 test_flows-requires-clause-named c = c.in_ok-posed.ensures.posed.named

@@ -1,5 +1,4 @@
-use Rattle.deck_problems.proofs.OneProblem.{problem_fits}
-use Rattle.deck_problems.proofs.Enclosing.{problem_encloses}
+use Rattle.deck_problems.proofs.Enclosing.{problem_fits, problem_encloses}
 use Rattle.deck_problems.proofs.laws.problems_fit.Goals as goal
 
 pub returns : goal.returns

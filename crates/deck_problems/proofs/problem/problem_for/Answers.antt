@@ -42,9 +42,12 @@ returns-clause-constant c =
 pub returns-clause-cells : goal.returns-clause-cells
 returns-clause-cells c = hull_cells c.args.decks.now.first c.args.at c.in_ok-first.first.problem c.in_ok-second.second.problem c.in_ok-problem.problem c.in_ok-problem.ensures.hull c.in_ok-first.ensures.problem.cells
 
+pub returns-clause-problem : goal.returns-clause-problem
+returns-clause-problem c =
+    problem_of_hull c.args.decks.now c.in-Some.model c.in-Some.is (digits_of c.args.tables.now.first) c.args.at c.args.old.now c.in_ok-first.first.problem c.in_ok-second.second.problem c.in_ok-problem.problem
+    c.in_ok-first.ensures.problem.problem c.in_ok-second.ensures.problem.problem c.in_ok-problem.ensures.hull c.recall_conditions.ensures.fits
+
 pub returns-clause-encloses : goal.returns-clause-encloses
 returns-clause-encloses c =
     let before : IsBefore c.args.decks.now c.args.at c.args.old.now = record { decks = c.requires.decks; time = c.requires.time; heads = c.requires.old } in
-    problem_encloses c.args.decks.now (digits_of c.args.tables.now.first) c.args.at c.args.old.now c.in_ok-problem.problem before
-    (problem_of_hull c.args.decks.now c.in-Some.model c.in-Some.is (digits_of c.args.tables.now.first) c.args.at c.args.old.now c.in_ok-first.first.problem c.in_ok-second.second.problem c.in_ok-problem.problem
-    c.in_ok-first.ensures.problem.problem c.in_ok-second.ensures.problem.problem c.in_ok-problem.ensures.hull c.recall_conditions.ensures.fits)
+    problem_encloses c.args.decks.now (digits_of c.args.tables.now.first) c.args.at c.args.old.now c.in_ok-problem.problem before (returns-clause-problem c)
