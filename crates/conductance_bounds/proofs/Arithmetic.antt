@@ -41,26 +41,17 @@ cross_operands x y p q h = let (l, r) = operands x y p q h in (
   record { a_decimal = r.a_decimal; b_decimal = l.b_decimal; a_near = r.a_near; b_near = l.b_near },
 )
 
-within_near : (e low high : ℤ) (n : ℕ) → IsWithin e low high → IsNear low n → IsNear high n → IsNear e n
-within_near e low high n w l h = record {
-  above = omega (arith, ints, clamps, w.above, l.above);
-  below = omega (arith, ints, clamps, w.below, h.below);
-}
-
 product_near : (a b e : ℤ) (m n : ℕ) → IsNear a m → IsNear b n → IsWithin e (a +ℤ b +ℤ pos 17) (a +ℤ b +ℤ pos 18) → IsNear e (m + n + 18)
-product_near a b e m n p q w = within_near e _ _ (m + n + 18) w
-    (record { above = omega (arith, ints, p.above, q.above); below = omega (arith, ints, p.below, q.below) })
-    (record { above = omega (arith, ints, p.above, q.above); below = omega (arith, ints, p.below, q.below) })
+product_near a b e m n p q w = record { above = omega (arith, ints, clamps, w.above, p.above, q.above); below = omega (arith, ints, clamps, w.below, p.below, q.below) }
 
 quotient_near : (a b e : ℤ) (m n : ℕ) → IsNear a m → IsNear b n → IsWithin e (a -ℤ b -ℤ pos 18) (a -ℤ b -ℤ pos 17) → IsNear e (m + n + 18)
-quotient_near a b e m n p q w = within_near e _ _ (m + n + 18) w
-    (record { above = omega (arith, ints, p.above, q.below); below = omega (arith, ints, p.below, q.above) })
-    (record { above = omega (arith, ints, p.above, q.below); below = omega (arith, ints, p.below, q.above) })
+quotient_near a b e m n p q w = record { above = omega (arith, ints, clamps, w.above, p.above, q.below); below = omega (arith, ints, clamps, w.below, p.below, q.above) }
 
 sum_near : (a b e : ℤ) (m n : ℕ) → IsNear a m → IsNear b n → IsWithin e (int_min a b) (int_max a b +ℤ pos 1) → IsNear e (m + n + 18)
-sum_near a b e m n p q w = within_near e _ _ (m + n + 18) w
-    (record { above = omega (arith, ints, clamps, p.above, q.above); below = omega (arith, ints, clamps, p.below, q.below) })
-    (record { above = omega (arith, ints, clamps, p.above, q.above); below = omega (arith, ints, clamps, p.below, q.below) })
+sum_near a b e m n p q w = record {
+  above = omega (arith, ints, clamps, w.above, p.above, q.above);
+  below = omega (arith, ints, clamps, w.below, p.below, q.below);
+}
 
 self_low : (x : Span) → IsNear x.lo.e (reach x)
 self_low x = low_near x (reach x) (omega arith)
@@ -80,8 +71,8 @@ sum_reach a b r l h = reach_within r _ (sum_near _ _ _ _ _ (self_low a) (self_lo
 -- a number of the input
 pub number_reach : (x : Span) (d : ℤ) → IsNear d 40 → IsWithin x.lo.e (d -ℤ pos 17) d → IsWithin x.hi.e (d -ℤ pos 17) d → reach x ≤ 57
 number_reach x d h l u = reach_within x 57
-    (within_near x.lo.e _ _ 57 l (record { above = omega (arith, ints, h.above); below = omega (arith, ints, h.below) }) (record { above = omega (arith, ints, h.above); below = omega (arith, ints, h.below) }))
-    (within_near x.hi.e _ _ 57 u (record { above = omega (arith, ints, h.above); below = omega (arith, ints, h.below) }) (record { above = omega (arith, ints, h.above); below = omega (arith, ints, h.below) }))
+    (record { above = omega (arith, ints, clamps, h.above, l.above); below = omega (arith, ints, clamps, h.below, l.below) })
+    (record { above = omega (arith, ints, clamps, h.above, u.above); below = omega (arith, ints, clamps, h.below, u.below) })
 
 -- two decimals of a size
 pub size_reach : (x : Span) (n : ℕ) → HasSize x.lo (neg_ℤ (pos n)) (pos n) → HasSize x.hi (neg_ℤ (pos n)) (pos n) → reach x ≤ n
