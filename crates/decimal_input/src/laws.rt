@@ -8,21 +8,25 @@ pub fn floors_and_ceilings_enclose()
 {}
 
 /// A greater number has no lesser floor.
+#[tactic(auto, using(crate::proofs::FloorLaws::floor_monotone))]
 pub fn floors_keep_order()
     ensures { FloorsKeepOrder }
 {}
 
 /// A greater number has no lesser ceiling.
+#[tactic(auto, using(crate::proofs::FloorLaws::ceiling_monotone))]
 pub fn ceilings_keep_order()
     ensures { CeilingsKeepOrder }
 {}
 
 /// Two canonical forms of one number are the same.
+#[tactic(auto, using(crate::proofs::Unique::one_number))]
 pub fn one_canonical_form()
     ensures { OneCanonicalForm }
 {}
 
 /// A word names one number, or one fault.
+#[tactic(auto, using(crate::proofs::Unique::names_one))]
 pub fn words_name_one_thing()
     ensures { WordsNameOneThing }
 {}

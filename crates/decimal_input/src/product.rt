@@ -8,6 +8,7 @@ use crate::coefficient::{Coefficient, LIMIT, NOTHING};
 use crate::dec::{Dec, NumFault};
 
 // The digits of n, and the number of zeros after them.
+#[tactic(auto, using(crate::proofs::Zeros::zeros_few, crate::proofs::Zeros::zero_off))]
 fn trim_zeros(n: u128) -> Coefficient
     ensures value { IsOf result n }
     ensures few { result.digits < 10 ^ 18 }

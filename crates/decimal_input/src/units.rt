@@ -50,6 +50,7 @@ pub fn with_sign(neg: bool, units: u128) -> i128
 const LIMIT: u128 = 1 << 126;
 
 // m * 10 ^ places, or None where it is 2 ^ 126 or more.
+#[tactic(auto, using(crate::proofs::Powers::power_within, crate::proofs::WholeUnits::past_units))]
 fn multiple(m: u64, places: u64) -> Option<u128>
     requires some { 0 < m }
     ensures value { MatchOption result (2 ^ 126 ≤ m * 10 ^ places) (λ n. (n ≡ m * 10 ^ places) × (n < 2 ^ 126)) }

@@ -17,6 +17,7 @@ pub fn split_sign(word: &[u8]) -> (bool, &[u8])
 }
 
 // The digits at the front, and what follows them.
+#[tactic(auto, using(crate::proofs::Parts::front_is, crate::proofs::Parts::front_taken, crate::proofs::Parts::front_dropped))]
 pub fn split_digits(word: &[u8]) -> (&[u8], &[u8])
     ensures digits { result.0.now ≡ digits_of word.now }
     ensures rest { result.1.now ≡ behind word.now }

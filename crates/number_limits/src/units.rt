@@ -20,7 +20,7 @@ fn has_room(upper: Option<i128>, lower: Option<i128>) -> bool
 
 /// Whether there is room between two elevations: at least 10 ^ -12 length units, from the floor of the upper one
 /// and the ceiling of the lower one in units of 10 ^ -18, each below 2 ^ 126 in magnitude.
-#[tactic(auto, unfolding(crate::specs::Room::is_thick))]
+#[tactic(auto, using(crate::proofs::FloorLemmas::thick_of), unfolding(crate::specs::Room::is_thick))]
 pub fn is_thick(top: Dec, bottom: Dec) -> bool
     requires top { IsDec top }
     requires bottom { IsDec bottom }

@@ -1,4 +1,4 @@
-use Rattle.std.proofs.Common.{ℕ, ◌*◌, ◌^◌, refl, ap, arith}
+use Rattle.std.proofs.Common.{refl, arith}
 use Rattle.decimal_input.proofs.Powers.{many_again, trimmed, zero_behind, digits_behind, many_behind, long, shifted}
 use Rattle.decimal_input.proofs.coefficient.with_digit.Goals as goal
 
@@ -9,12 +9,6 @@ pub returns-then-digit-eq0-clause-value : goal.returns-then-digit-eq0-clause-val
 returns-then-digit-eq0-clause-value c = λ n h.
     let t = trimmed c.args.k n c.if-k.false c.if-k-eq0.false h in
     rw c.if-digit-eq0.true (zero_behind c.args.k _ n c.if-k.false refl refl c.requires.digits t)
-
-pub returns-then-k-lt-FEW-clause-value : goal.returns-then-k-lt-FEW-clause-value
-returns-then-k-lt-FEW-clause-value c = λ n h.
-    let t = trimmed c.args.k n c.if-k.false c.if-k-eq0.false h in
-    let whole = ap (λ (z : ℕ). c.args.k.digits * 10 ^ z) c.if-k-eq0-2.true in
-    digits_behind _ n c.args.digit refl refl (omega (arith, t.whole, whole)) (omega arith) c.requires.digit (omega arith)
 
 pub returns-then-k-ge18-clause-value : goal.returns-then-k-ge18-clause-value
 returns-then-k-ge18-clause-value c = λ n h.

@@ -2,9 +2,6 @@ use Rattle.decimal_input.proofs.Common.{Some, None, ℤ, ap, sym, subst, ◌∙�
 use Rattle.decimal_input.proofs.SignedFloors.{signed_are, units_small, sign_fits}
 use Rattle.decimal_input.proofs.units.signed_units.Goals as goal
 
-pub with_sign-requires : goal.with_sign-requires
-with_sign-requires c = record { small = units_small _ _ _ _ c.in-Some.ensures.value }
-
 pub returns-in-Some : goal.returns-in-Some
 returns-in-Some c =
     let fits : FitsSigned w128 c.with_sign.result = subst (λ (z : ℤ). FitsSigned w128 z) (sym c.with_sign.ensures) (sign_fits c.args.a.neg c.in-Some.units (units_small _ _ _ _ c.in-Some.ensures.value)) in

@@ -1,4 +1,4 @@
-use Rattle.decimal_input.proofs.Common.{◌+◌, ◌-◌, ◌*◌, get_or, arith, sym, ◌∙◌, at_drop_more, number_from}
+use Rattle.std.proofs.Common.{◌+◌, ◌-◌, ◌*◌, get_or, arith}
 use Rattle.decimal_input.proofs.Named.{digit_small}
 use Rattle.decimal_input.proofs.Powers.{longer, within}
 use Rattle.decimal_input.proofs.word.short_number.Goals as goal
@@ -10,14 +10,6 @@ pub overflow_add-so_far : goal.overflow_add-so_far
 overflow_add-so_far c =
     let small = digit_small (get_or c.args.digits.now c.loop-b.b-index 0) (c.requires.digits c.loop-b.b-index (omega arith)) in
     omega (arith, within (c.loop-b.so_far * 10 + (get_or c.args.digits.now c.loop-b.b-index 0 - 48)) (c.loop-b.b-index + 1) (omega arith) (longer c.loop-b.so_far _ c.loop-b.b-index c.loop-b.invariant.short small))
-
-pub loop-b-preserved : goal.loop-b-preserved
-loop-b-preserved c =
-    let small = digit_small (get_or c.args.digits.now c.loop-b.b-index 0) (c.requires.digits c.loop-b.b-index (omega arith)) in
-    record {
-      short = longer c.loop-b.so_far _ c.loop-b.b-index c.loop-b.invariant.short small;
-      value = sym (at_drop_more (number_from c.loop-b.so_far) c.args.digits.now c.loop-b.b-index 0 (omega arith)) ∙ c.loop-b.invariant.value;
-    }
 
 pub returns-clause-bound : goal.returns-clause-bound
 returns-clause-bound c = within c.loop-b.so_far c.loop-b.b-index (omega arith) c.loop-b.invariant.short
