@@ -1,10 +1,10 @@
 -- A check, step by step.
 use Rattle.check_run.proofs.Common.{Limits, All, Contains, ◌≡◌, ℕ, suc, List, [], ◌∷◌, ◌+◌, ◌<◌, ◌≤◌, subst, sym, ap, refl, arith, ◌∙◌, inl, inr, drop, length}
-use Rattle.check_run.proofs.Common.{get_or, Result, Ok, Err, IfOk, Option, AllZip, IfErr, All-head, All-tail, All-contains_itself, drop_more, drop_all, Bound}
-use Rattle.check_run.proofs.Common.{ZoneFlow, TimeStep, start_head, times, AreGridHeads, HeadsEnclose, pairs_in, ListedStep, AreFlows, AreFlowsAt, AreListed}
-use Rattle.check_run.proofs.Common.{IsListedStep, step_in, BoundsMoves, CheckFault, ListingVerdict, Certified, Fails, Refused, FailsBy, IsVerdictAt}
-use Rattle.check_run.proofs.Common.{heads_before, Passes, Checks, StopsAt, IsVerdict, ListingEncloses, checked_task, step_of, steps_of, Decks, AreDecks}
-use Rattle.check_run.proofs.Common.{EachMember, HaveOneHistory, histories_bound, AreStartHeadsFor}
+use Rattle.check_run.proofs.Common.{get_or, Option, AllZip, All-head, All-tail, All-contains_itself, drop_more, drop_all, Bound, ZoneFlow, TimeStep, start_head}
+use Rattle.check_run.proofs.Common.{times, AreGridHeads, HeadsEnclose, pairs_in, ListedStep, AreFlows, IsListedAt, AreListed, AllZip-length, IsListedStep}
+use Rattle.check_run.proofs.Common.{step_in, BoundsMoves, CheckFault, ListingVerdict, Certified, Fails, Refused, FailsBy, IsVerdictAt, heads_before, Passes}
+use Rattle.check_run.proofs.Common.{Checks, StopsAt, IsVerdict, ListingEncloses, checked_task, step_of, steps_of, Decks, AreDecks, EachMember, HaveOneHistory}
+use Rattle.check_run.proofs.Common.{histories_bound, AreStartHeadsFor}
 use Rattle.check_run.proofs.Passed.{ArePassed, all_move, have_one}
 use Rattle.check_run.proofs.RunText.{grid_of}
 use Rattle.check_run.specs.declared.listing.CheckFault.TheVariants as fault
@@ -26,7 +26,7 @@ steps_many (at ∷ ats) (w ∷ ws) e = let rest = steps_many ats ws (omega (arit
 
 module _ (limits : Limits) (ds : Decks) (s : ℕ) (zones : Option (List ℕ)) (all : List ListedStep) where
   -- The check got so far: from the heads of the last step on, what holds of the rest holds of all. The times left are times of
-  -- the decks, and their steps have their flows between zones.
+  -- the decks, and their steps can be listed.
   pub record IsSoFar (old : List Bound) (rest : List TimeStep) (steps : List ListedStep) : Type 0 where
     pub grid : AreGridHeads ds.first old
     pub goes_on : (end : ListingVerdict) → Checks limits ds s zones old rest steps end → IsVerdict limits ds s zones all end
@@ -34,7 +34,13 @@ module _ (limits : Limits) (ds : Decks) (s : ℕ) (zones : Option (List ℕ)) (a
     pub starts : EachMember ds (λ m. HeadsEnclose m start (start_head m))
     pub passed : ArePassed limits ds s zones old rest steps → ArePassed limits ds s zones start (times ds.first) all
     pub left : All (Contains (times ds.first)) rest
-    pub flows : AllZip (AreFlowsAt (pairs_in ds.first zones)) rest steps
+    pub listed : AllZip (IsListedAt ds.first (pairs_in ds.first zones)) rest steps
+
+  whole_of : AreListed ds.first (pairs_in ds.first zones) all → length all ≡ length (times ds.first)
+  whole_of listed = sym (AllZip-length (IsListedAt ds.first (pairs_in ds.first zones)) (times ds.first) all listed.steps)
+
+  pub step_there : (i : ℕ) (items : List TimeStep) → items ≡ times ds.first → AreListed ds.first (pairs_in ds.first zones) all → i < length items → i < length all
+  step_there i items is listed below = omega (arith, below, ap length is, whole_of listed)
 
   pub at_first : (start : List Bound) → AreStartHeadsFor ds start → AreGridHeads ds.first start → EachMember ds (λ m. HeadsEnclose m start (start_head m)) → AreListed ds.first (pairs_in ds.first zones) all → IsSoFar start (times ds.first) all
   at_first start is grid encloses listed = record {
@@ -44,7 +50,7 @@ module _ (limits : Limits) (ds : Decks) (s : ℕ) (zones : Option (List ℕ)) (a
     starts = encloses;
     passed = λ h. h;
     left = All-contains_itself (times ds.first);
-    flows = listed.flows;
+    listed = listed.steps;
   }
 
   pub one_more : (old : List Bound) (at : TimeStep) (rest : List TimeStep) (w : ListedStep) (steps : List ListedStep) → IsSoFar old (at ∷ rest) (w ∷ steps) → AreGridHeads ds.first w.heads → Passes limits ds s zones at old w → BoundsMoves (checked_task ds s zones) at old (step_of at w) → IsSoFar w.heads rest steps
@@ -55,7 +61,7 @@ module _ (limits : Limits) (ds : Decks) (s : ℕ) (zones : Option (List ℕ)) (a
     starts = f.starts;
     passed = λ h. f.passed (record { time = All-head (Contains (times ds.first)) at rest f.left; grid = f.grid; passes = passes; moves = moves }, h);
     left = All-tail (Contains (times ds.first)) at rest f.left;
-    flows = f.flows.1;
+    listed = f.listed.1;
   }
 
   -- the step at hand is the first of the rest
@@ -65,14 +71,13 @@ module _ (limits : Limits) (ds : Decks) (s : ℕ) (zones : Option (List ℕ)) (a
       let Q : List ListedStep → Type 0 = λ ws. IsSoFar old (drop i (times ds.first)) ws in
       let R : List TimeStep → Type 0 = λ ts. IsSoFar old (drop i ts) (step_in all i ∷ drop (i + 1) all) in
       let S : List TimeStep → Type 0 = λ ts. IsSoFar old (get_or items i d ∷ drop (i + 1) ts) (step_in all i ∷ drop (i + 1) all) in
-      let inside : i < length all = omega (arith, below, ap length is, listed.whole) in
-      subst S is (subst P (drop_more items i d below) (subst R (sym is) (subst Q (drop_more all i _ inside) f)))
+      subst S is (subst P (drop_more items i d below) (subst R (sym is) (subst Q (drop_more all i _ (step_there i items is listed below)) f)))
 
   -- past the last step there is none
   at_end : (old : List Bound) (i : ℕ) (items : List TimeStep) → items ≡ times ds.first → AreListed ds.first (pairs_in ds.first zones) all → length items ≤ i → IsSoFar old (drop i (times ds.first)) (drop i all) → IsSoFar old [] []
   at_end old i items is listed above f =
       let past : length (times ds.first) ≤ i = omega (arith, above, ap length is) in
-      let past_all : length all ≤ i = omega (arith, past, listed.whole) in
+      let past_all : length all ≤ i = omega (arith, past, whole_of listed) in
       let Q : List ListedStep → Type 0 = λ ws. IsSoFar old (drop i (times ds.first)) ws in
       let R : List TimeStep → Type 0 = λ ts. IsSoFar old ts [] in
       subst R (drop_all i (times ds.first) past) (subst Q (drop_all i all past_all) f)
@@ -83,7 +88,7 @@ module _ (limits : Limits) (ds : Decks) (s : ℕ) (zones : Option (List ℕ)) (a
   pub ends_enclosed : (old : List Bound) (i : ℕ) (items : List TimeStep) → items ≡ times ds.first → AreListed ds.first (pairs_in ds.first zones) all → length items ≤ i → IsSoFar old (drop i (times ds.first)) (drop i all) → ListingEncloses ds s zones all
   ends_enclosed old i items is listed above f =
       let end = at_end old i items is listed above f in
-      histories_bound (checked_task ds s zones) ds.first ds.second end.start (steps_of (times ds.first) all) (steps_many (times ds.first) all listed.whole) (all_move limits ds s zones end.start (times ds.first) all (end.passed tt)) end.starts
+      histories_bound (checked_task ds s zones) ds.first ds.second end.start (steps_of (times ds.first) all) (steps_many (times ds.first) all (whole_of listed)) (all_move limits ds s zones end.start (times ds.first) all (end.passed tt)) end.starts
 
   pub ends_history : AreDecks ds → (old : List Bound) (i : ℕ) (items : List TimeStep) → items ≡ times ds.first → AreListed ds.first (pairs_in ds.first zones) all → length items ≤ i → IsSoFar old (drop i (times ds.first)) (drop i all) → HaveOneHistory ds
   ends_history valid old i items is listed above f =
@@ -102,12 +107,12 @@ module _ (limits : Limits) (ds : Decks) (s : ℕ) (zones : Option (List ℕ)) (a
   module _ (start : List Bound) (i : ℕ) (items : List TimeStep) (d : TimeStep) (is : items ≡ times ds.first) (listed : AreListed ds.first (pairs_in ds.first zones) all) (below : i < length items) (f : IsSoFar (heads_before start all i) (drop i (times ds.first)) (drop i all))
       (n : ℕ) (digits : n ≡ s) (old : List Bound) (w : ListedStep) (heads : List Bound) (flows : List ZoneFlow) (old_is : old ≡ heads_before start all i) (w_is : w ≡ step_in all i) (heads_are : heads ≡ w.heads) (flows_are : flows ≡ w.zones) where
     pub listed_at : IsListedStep ds.first (step_in all i)
-    listed_at = listed.steps i _ (omega (arith, below, ap length is, listed.whole))
+    listed_at = (at_step (heads_before start all i) i items d is listed below f).listed.0.0
 
     pub flows_here : AreFlows (pairs_in ds.first zones (get_or items i d).period) flows
     flows_here =
         let F : List ZoneFlow → Type 0 = AreFlows (pairs_in ds.first zones (get_or items i d).period) in
-        subst F (sym (flows_are ∙ ap (λ (x : ListedStep). x.zones) w_is)) (at_step (heads_before start all i) i items d is listed below f).flows.0
+        subst F (sym (flows_are ∙ ap (λ (x : ListedStep). x.zones) w_is)) (at_step (heads_before start all i) i items d is listed below f).listed.0.1
 
     pub stops_here : (fault : CheckFault) (v : ListingVerdict) → FailsBy limits ds n zones (get_or items i d) old (record { heads = heads; budget = w.budget; zones = flows }) fault → IsVerdictAt (get_or items i d) fault v → IsVerdict limits ds s zones all v
     stops_here fault v h verdict =
@@ -131,12 +136,3 @@ pub not_certified : (at : TimeStep) (f : CheckFault) (v : ListingVerdict) → Is
 not_certified at (fault.Fails place) v is e = let bad : Fails at place ≡ Certified = sym is ∙ e in cc
 not_certified at (fault.Refused n) v is e = let bad : Refused at n ≡ Certified = sym is ∙ e in cc
 not_certified at fault.Memory v is e = is
-
--- what follows from an answer, and from a fault
-pub ok_follows : {X E : Type 0} (P Q : X → Type 0) (r : Result X E) → ((x : X) → P x → Q x) → IfOk r P → IfOk r Q
-ok_follows P Q (Ok x) f h = f x h
-ok_follows P Q (Err e) f h = tt
-
-pub err_follows : {X E : Type 0} (P Q : E → Type 0) (r : Result X E) → ((e : E) → P e → Q e) → IfErr r P → IfErr r Q
-err_follows P Q (Ok x) f h = tt
-err_follows P Q (Err e) f h = f e h

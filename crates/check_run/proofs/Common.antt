@@ -1,22 +1,22 @@
 -- Names that several proofs of this crate cite, of the crates below and of its own definitions, passed on from one place. Declares nothing.
-pub use Rattle.std.proofs.Common.{All, Bool, Contains, Err, IfOk, List, None, Ok, Option, Result, Some, [], ap, arith, cond, drop, false, get_or, inl, inr}
-pub use Rattle.std.proofs.Common.{length, map, nat_abs, negsuc, option_map, pos, refl, subst, suc, sym, take, true, unsigned_abs, zero, ℕ, ℤ, ◌*ℤ◌, ◌++◌, ◌+ℤ◌}
-pub use Rattle.std.proofs.Common.{◌+◌, ◌<ℤ◌, ◌<◌, ◌==◌, ◌^◌, ◌∙◌, ◌∷◌, ◌≡◌, ◌≢◌, ◌≤ℤ◌, ◌≤◌, ◌⊎◌}
+pub use Rattle.std.proofs.Common.{All, Bool, Contains, Err, List, None, Ok, Option, Some, [], ap, arith, cond, drop, false, get_or, inl, inr, length, map}
+pub use Rattle.std.proofs.Common.{nat_abs, negsuc, option_map, pos, refl, subst, suc, sym, take, true, unsigned_abs, zero, ℕ, ℤ, ◌++◌, ◌+ℤ◌, ◌+◌, ◌<ℤ◌, ◌<◌}
+pub use Rattle.std.proofs.Common.{◌==◌, ◌^◌, ◌∙◌, ◌∷◌, ◌≡◌, ◌≢◌, ◌≤ℤ◌, ◌≤◌, ◌⊎◌}
 pub use Rattle.std.proofs.lemmas.Bool.{and_from, and_parts, cases_Bool, cases_order, eqb-true, leb-true, lt-ltb}
 pub use Rattle.std.proofs.lemmas.Bool.Decides.{nat_tests}
 pub use Rattle.std.proofs.lemmas.Int.{ints}
 pub use Rattle.std.proofs.lemmas.List.{append-nil, append_assoc, drop_all, drop_more, get_or-map, get_or_default, length-map}
 pub use Rattle.std.proofs.lemmas.List.Elements.{All-contains_itself, All-head, All-tail, All-weaker}
-pub use Rattle.std.proofs.lemmas.Result.{err_from_is_err_and}
+pub use Rattle.std.proofs.lemmas.Result.{IfErr-weaker, IfOk-weaker, err_from_is_err_and}
 pub use Rattle.std.specs.List.{AllZip, concat, filter_map, flat_map}
-pub use Rattle.std.specs.Prelude.{IfErr, IfSome, filter, if◌then◌else◌, nat_lt, slice_index}
+pub use Rattle.std.specs.Prelude.{IfSome, filter, if◌then◌else◌, nat_lt, slice_index}
 pub use Rattle.budget_bounds.specs.{BudgetEncloses, CoverEncloses, Covers, EnclosesBudgets, HeadsAreWithin, IsFirstUncovered, all_terms, is_small, line_of}
 pub use Rattle.budget_bounds.specs.{no_pair, term_limit, too_large}
 unfoldable pub use Rattle.budget_bounds.specs.{budget_of, parts, singles, term_of, term_pair, terms_of}
 pub use Rattle.budget_bounds.specs.declared.pair.Budget.{Budget}
 pub use Rattle.budget_bounds.specs.declared.pair.TermPair.{TermPair}
-pub use Rattle.cell_balance.proofs.Zips.{AllZip-at, AllZip-length, AllZip-right}
-pub use Rattle.cell_balance.specs.{CellEncloses, EnclosesSolutions, EnclosesStep, ExactCell, LiesBetween, sum_below}
+pub use Rattle.cell_balance.proofs.Zips.{AllZip-at, AllZip-length}
+pub use Rattle.cell_balance.specs.{EnclosesSolutions, ExactCell, sum_below}
 pub use Rattle.cell_relax.specs.{AreWords}
 pub use Rattle.certificate_check.specs.{HoldsAt, IsFirstFailing}
 pub use Rattle.check_run.specs.{AreNarrow, ArePosed, AreWide, Checks, ConstantsReach, CoversFlow, FailsAt, FailsBy, HeadsHold, IsConstantCell, IsCovered}
@@ -36,14 +36,14 @@ pub use Rattle.deck_problems.specs.declared.decks.Decks.{Decks}
 pub use Rattle.exact_histories.specs.{HaveOneBy, HaveOneHistory}
 pub use Rattle.flow_equations.proofs.Links.{below_is, index_is}
 pub use Rattle.flow_equations.specs.{exact_step, heads_of, variable_heads}
-pub use Rattle.listing_io.specs.{AreCellBounds, AreFlows, AreFlowsAt, AreListed, IsCellBound, IsFlowPair, IsListedStep, IsTime, IsWritable}
-pub use Rattle.listing_io.specs.{ListingsAreReadAgain, all_lines, ended, first_line, has_evt, listing_at, step_in, step_lines, zone_pair}
+pub use Rattle.listing_io.specs.{AreCellBounds, AreFlows, AreListed, IsCellBound, IsFlowPair, IsListedAt, IsListedStep, IsPairIf, IsTime, IsWritable}
+pub use Rattle.listing_io.specs.{ListingsAreReadAgain, all_lines, ended, first_line, has_evt, is_printed, listing_at, step_in, step_lines, zone_pair}
 unfoldable pub use Rattle.listing_io.specs.{all_step_lines, first_text, step_text}
 pub use Rattle.listing_io.specs.declared.listing.ListedStep.{ListedStep}
 pub use Rattle.listing_run.proofs.HistoriesBound.{AllBoundMoves, BoundsMovesOf, histories_bound}
 pub use Rattle.listing_run.proofs.Unique.{IsRest, first_in, large_one, none_large, ok_not_err, one_err, one_ok, rest_more, rest_whole, same_flows}
-pub use Rattle.listing_run.specs.{AllSteps, AreFlowsOf, BoundAll, BoundBetween, Bounds, BoundsMoves, EnclosesHistories, HasLargeFlowOf, HistoriesBound, IsStep}
-pub use Rattle.listing_run.specs.{Steps, budget_at, deck_task, faces_of, listing, pairs_of, text_of}
+pub use Rattle.listing_run.specs.{AllSteps, AreFlowsAt, AreFlowsOf, BoundAll, BoundBetween, Bounds, BoundsMoves, EnclosesHistories, HasLargeFlowOf}
+pub use Rattle.listing_run.specs.{HistoriesBound, IsStep, Steps, budget_at, deck_task, faces_of, listing, pairs_of, text_of}
 pub use Rattle.listing_run.specs.declared.solving.Step.{Step}
 pub use Rattle.listing_run.specs.declared.steps.Task.{Task}
 pub use Rattle.listing_run.specs.declared.text.ListingEnd.TheVariants.{Whole}
@@ -59,10 +59,10 @@ pub use Rattle.problem_builder.proofs.TimesOf.{flat-In, time_of}
 pub use Rattle.problem_builder.proofs.Zipped.{left_of, right_of, zip_image}
 pub use Rattle.problem_builder.specs.{AreGridHeads, HeadsEnclose, IsActive, IsProblemOf, whole_cell, whole_evap, whole_fixed, whole_link}
 pub use Rattle.problem_hull.specs.{cell_hull, cell_shape, evap_hull, fixed_hull, fixed_shape, zip_with}
-pub use Rattle.step_chain.proofs.Assembled.{active_constant, constant_not_variable, count_is, index_below, number_is}
+pub use Rattle.step_chain.proofs.Assembled.{constant_not_variable, index_below}
 pub use Rattle.step_chain.proofs.Limits.{cut_by}
-pub use Rattle.step_chain.proofs.OneStep.{pair_words, same_bound, same_bounds}
-pub use Rattle.step_chain.specs.{HasNoPose, HeadsFit, IsBarrierBy, IsBarrierFault, IsMove, IsPosed, IsStepBy, LiesWithin, bound_at, edges_by}
+pub use Rattle.step_chain.proofs.OneStep.{follows, pair_words, same_bound, same_bounds}
+pub use Rattle.step_chain.specs.{EnclosesMoves, HasNoPose, HeadsFit, IsBarrierBy, IsBarrierFault, IsMove, IsPosed, IsStepBy, bound_at, edges_by}
 pub use Rattle.step_chain.specs.declared.solved.Solved.{Solved}
 pub use Rattle.step_problem.specs.{Edges, IsCertificate, IsHead, IsProblem, PairKind, entries_at, lower_at, no_bound, no_entries, total, upper_at}
 pub use Rattle.step_problem.specs.Entries.{Entries}

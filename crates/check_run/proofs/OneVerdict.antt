@@ -1,8 +1,8 @@
 -- A listing has one verdict.
-use Rattle.check_run.proofs.Common.{Limits, ◌≡◌, ◌≢◌, ◌∙◌, ℕ, suc, ◌<◌, ◌⊎◌, inl, inr, List, [], ◌∷◌, length, All, Ok, Err, Option, refl, sym, ap, subst, arith}
-use Rattle.check_run.proofs.Common.{AllZip, Bound, Side, Low, High, Dir, NoBound, Term, ZoneFlow, Entries, entries_at, Edges, lower_at, upper_at, IsCertificate}
-use Rattle.check_run.proofs.Common.{Budget, Covers, IsFirstUncovered, HoldsAt, IsFirstFailing, TimeStep, times, AreGridHeads, IsPosed, HasNoPose, ListedStep}
-use Rattle.check_run.proofs.Common.{IsListedStep, AreFlowsOf, HasLargeFlowOf, one_ok, one_err, ok_not_err, IsRest, first_in, rest_more, rest_whole}
+use Rattle.check_run.proofs.Common.{Limits, ◌≡◌, ◌≢◌, ◌∙◌, ℕ, ◌<◌, ◌⊎◌, inl, inr, List, [], ◌∷◌, length, Ok, Err, Option, refl, sym, ap, subst, AllZip}
+use Rattle.check_run.proofs.Common.{IsListedAt, pairs_in, Bound, Side, Low, High, Dir, NoBound, Term, ZoneFlow, Entries, entries_at, Edges, lower_at, upper_at}
+use Rattle.check_run.proofs.Common.{IsCertificate, Budget, Covers, IsFirstUncovered, HoldsAt, IsFirstFailing, TimeStep, times, AreGridHeads, IsPosed, HasNoPose}
+use Rattle.check_run.proofs.Common.{ListedStep, AreFlowsOf, HasLargeFlowOf, one_ok, one_err, ok_not_err, IsRest, first_in, rest_more, rest_whole}
 use Rattle.check_run.proofs.Common.{ListingVerdict, Certified, Fails, Refused, ConstantsReach, IsConstantCell, IsFirstShort, ReachesAt, CoversFlow}
 use Rattle.check_run.proofs.Common.{IsFirstNarrow, bounds, Passes, FailsAt, at_constant, at_variable, at_term, at_zones, IsRefused, no_heads, no_budget}
 use Rattle.check_run.proofs.Common.{no_flows, Checks, StopsAt, Decks, AreDecks, IsBefore, ProblemFits, StartHeadsAreOne, StartHeadsFit, IsBarrierBy, cut_by}
@@ -180,7 +180,7 @@ module _ (limits : Limits) (ds : Decks) (s : ℕ) (zones : Option (List ℕ)) (a
     passes_excludes v h k = let x = stopped v k in x.stops (said_one laws before x.said passed x.says (passes_said h))
 
 module _ (laws : Laws) (limits : Limits) (ds : Decks) (s : ℕ) (zones : Option (List ℕ)) (valid : AreDecks ds) where
-  checks_one : (old : List Bound) (rest : List TimeStep) (steps : List ListedStep) (a b : ListingVerdict) → IsRest (times ds.first) rest → AreGridHeads ds.first old → All (IsListedStep ds.first) steps → Checks limits ds s zones old rest steps a → Checks limits ds s zones old rest steps b → a ≡ b
+  checks_one : (old : List Bound) (rest : List TimeStep) (steps : List ListedStep) (a b : ListingVerdict) → IsRest (times ds.first) rest → AreGridHeads ds.first old → AllZip (IsListedAt ds.first (pairs_in ds.first zones)) rest steps → Checks limits ds s zones old rest steps a → Checks limits ds s zones old rest steps b → a ≡ b
   checks_one old [] [] Certified Certified r heads l h k = refl
   checks_one old [] [] Certified (Fails t place) r heads l h k = absurd k
   checks_one old [] [] Certified (Refused t n) r heads l h k = absurd k
@@ -189,7 +189,7 @@ module _ (laws : Laws) (limits : Limits) (ds : Decks) (s : ℕ) (zones : Option 
   checks_one old [] (w ∷ steps) a b r heads l h k = absurd h
   checks_one old (at ∷ rest) [] a b r heads l h k = absurd h
   checks_one old (at ∷ rest) (w ∷ steps) a b r heads l (inl (p, h)) (inl (q, k)) =
-      checks_one w.heads rest steps a b (rest_more (times ds.first) at rest r) (grid_of ds.first w (l 0 w (omega arith))) (λ i d lt. l (suc i) d (omega (arith, lt))) h k
+      checks_one w.heads rest steps a b (rest_more (times ds.first) at rest r) (grid_of ds.first w l.0.0) l.1 h k
   checks_one old (at ∷ rest) (w ∷ steps) a b r heads l (inl (p, h)) (inr k) = absurd (passes_excludes limits ds s zones at old w laws (record { decks = valid; time = r.each at (first_in at rest); heads = heads }) b p k)
   checks_one old (at ∷ rest) (w ∷ steps) a b r heads l (inr h) (inl (q, k)) = absurd (passes_excludes limits ds s zones at old w laws (record { decks = valid; time = r.each at (first_in at rest); heads = heads }) a q h)
   checks_one old (at ∷ rest) (w ∷ steps) a b r heads l (inr h) (inr k) = stops_one limits ds s zones at old w laws (record { decks = valid; time = r.each at (first_in at rest); heads = heads }) a b h k

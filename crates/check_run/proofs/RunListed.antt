@@ -3,16 +3,15 @@ use Rattle.check_run.proofs.Common.{cell_hull, cell_shape, evap_hull, zip_with, 
 use Rattle.check_run.proofs.Common.{refl, sym, ap, subst, arith, ℤ, pos, negsuc, ◌+ℤ◌, ◌≤ℤ◌, ◌<ℤ◌, unsigned_abs, nat_abs, ◌^◌, ◌≤◌, Option, Some, None, AllZip}
 use Rattle.check_run.proofs.Common.{ints, All-weaker, Bound, Out, ZoneFlow, Entries, no_bound, lower_at, upper_at, Budget, TermPair, term_limit, Face}
 use Rattle.check_run.proofs.Common.{flows_between, pairs_in, AreNumbers, FlowModel, TimeStep, evap_sources, period_at, times, AreGridHeads, Solved, bound_at}
-use Rattle.check_run.proofs.Common.{HeadsFit, AreCellBounds, AreFlows, AreFlowsAt, AreListed, IsCellBound, IsFlowPair, IsListedStep, has_evt, zone_pair, Task}
+use Rattle.check_run.proofs.Common.{HeadsFit, AreCellBounds, AreFlows, AreListed, IsCellBound, IsFlowPair, IsListedAt, IsListedStep, has_evt, zone_pair, Task}
 use Rattle.check_run.proofs.Common.{Step, Whole, AllSteps, IsStep, Steps, budget_at, AreFlowsOf, faces_of, IsRest, first_in, rest_more, rest_whole, as_listed}
 use Rattle.check_run.proofs.Common.{nat_tests, is_nonzero, IsProblemBy, IsBefore, StartHeadsFit, deck_task, Decks, AreDecks, PairKind, IsStepBy, pairs_of, Bool}
-use Rattle.check_run.proofs.Common.{In, ListedStep, no_entries, variable_cells, AllZip-at, AllZip-length, AllZip-right, IsProblemOf, total, is_chosen}
+use Rattle.check_run.proofs.Common.{In, no_entries, variable_cells, AllZip-at, IsProblemOf, total, is_chosen}
 use Rattle.check_run.proofs.Common.{IsZoneFlow, flows_of_pairs, same_flows, zip_image, cells_of, whole_cell, whole_evap, IsModel, IfSome, IsSecond, hull_parts}
-use Rattle.problem_builder.proofs.Joined.{AllZip-weaker}
 use Rattle.check_run.proofs.Branches.{hull_zip}
 use Rattle.step_problem.specs.declared.entry.Evap.{Evap}
 use Rattle.check_run.proofs.FlowPairs.{flows_have_pairs}
-use Rattle.check_run.proofs.RunTerms.{budget_are, eight, flows_are, no_et}
+use Rattle.check_run.proofs.RunTerms.{budget_are, terms_are_listed}
 
 -- Without EVT no cell evaporates.
 
@@ -75,16 +74,8 @@ module _ (limits : Limits) (ds : Decks) (s : ℕ) (at : TimeStep) (old : List Bo
       record {
         whole = grid.whole;
         heads = cell_bounds ds.first 0 x.heads cell_bound;
-        into = record {
-          eight = eight x.problem (lower_at x.bounds) (upper_at x.bounds) In b.into into;
-          small = flows_are x.problem (lower_at x.bounds) (upper_at x.bounds) In b.into into;
-          no_et = λ e. no_et x.problem (lower_at x.bounds) (upper_at x.bounds) (none e) In b.into into;
-        };
-        out = record {
-          eight = eight x.problem (lower_at x.bounds) (upper_at x.bounds) Out b.out out;
-          small = flows_are x.problem (lower_at x.bounds) (upper_at x.bounds) Out b.out out;
-          no_et = λ e. no_et x.problem (lower_at x.bounds) (upper_at x.bounds) (none e) Out b.out out;
-        };
+        into = terms_are_listed x.problem (lower_at x.bounds) (upper_at x.bounds) (has_evt ds.first) none In b.into into;
+        out = terms_are_listed x.problem (lower_at x.bounds) (upper_at x.bounds) (has_evt ds.first) none Out b.out out;
       }
 
 -- The flows between zones are below 2^126.
@@ -153,10 +144,7 @@ module _ (fits : HeadsFit) (limits : Limits) (ds : Decks) (s : ℕ) (zones : Opt
     next_heads : AreGridHeads ds.first v.heads
     next_heads = subst (AreGridHeads ds.first) (sym is.heads) solved_heads
 
-  abbrev IsListedAt : TimeStep → ListedStep → Type 0
-  IsListedAt at x = IsListedStep ds.first x × AreFlowsAt (pairs_in ds.first zones) at x
-
-  all_listed : (old : List Bound) (rest : List TimeStep) (values : List Step) → IsRest (times ds.first) rest → AreGridHeads ds.first old → Steps task old rest values Whole → AllZip IsListedAt rest (map as_listed values)
+  all_listed : (old : List Bound) (rest : List TimeStep) (values : List Step) → IsRest (times ds.first) rest → AreGridHeads ds.first old → Steps task old rest values Whole → AllZip (IsListedAt ds.first (pairs_in ds.first zones)) rest (map as_listed values)
   all_listed old [] [] r heads h = tt
   all_listed old [] (v ∷ values) r heads h = absurd h
   all_listed old (at ∷ rest) [] r heads h = absurd h
@@ -165,11 +153,6 @@ module _ (fits : HeadsFit) (limits : Limits) (ds : Decks) (s : ℕ) (zones : Opt
       ((step_listed at old before v is, step_flows at old before v is), all_listed v.heads rest values (rest_more (times ds.first) at rest r) (next_heads at old before v is) h)
 
   pub are_listed : StartHeadsFit → (values : List Step) → AllSteps task values Whole → AreListed ds.first (pairs_in ds.first zones) (map as_listed values)
-  are_listed start_fits values h =
-      let listed = map as_listed values in
-      let all = all_listed h.start (times ds.first) values (rest_whole (times ds.first)) (start_fits ds h.start valid h.is_start) h.steps in
-      record {
-        whole = sym (AllZip-length IsListedAt (times ds.first) listed all);
-        steps = AllZip-right IsListedAt (IsListedStep ds.first) (λ at x k. k.0) (times ds.first) listed all;
-        flows = AllZip-weaker IsListedAt (AreFlowsAt (pairs_in ds.first zones)) (λ at x k. k.1) (times ds.first) listed all;
-      }
+  are_listed start_fits values h = record {
+    steps = all_listed h.start (times ds.first) values (rest_whole (times ds.first)) (start_fits ds h.start valid h.is_start) h.steps;
+  }

@@ -6,7 +6,7 @@ use Rattle.check_run.proofs.Common.{is_at, below_is, index_is, AreGridHeads, Sol
 use Rattle.check_run.proofs.Common.{budget_at, deck_task, pairs_of, Steps, IsRest, first_in, rest_more, rest_whole, Certified, CoversFlow, ConstantsReach}
 use Rattle.check_run.proofs.Common.{ReachesOn, variable_bounds, RunIsCertified, as_listed, Passes, Checks, same_bounds, pair_words, ConstantPairIsOne, IsBefore}
 use Rattle.check_run.proofs.Common.{ProblemFits, StartHeadsFit, AreDecks, IsProblemBy, Decks, FlowModel, cells_of, IsSecond, hull_parts, IsModel, IfSome}
-use Rattle.listing_run.specs.{AreFlowsAt}
+use Rattle.check_run.proofs.Common.{AreFlowsAt}
 use Rattle.check_run.proofs.RunText.{count_is}
 use Rattle.problem_builder.proofs.CellEnclosed.{ids_are}
 use Rattle.problem_hull.proofs.Hulls.{hull_keeps}

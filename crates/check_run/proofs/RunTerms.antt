@@ -1,10 +1,11 @@
 -- The terms of a step's budget are flows that a listing can have.
-use Rattle.check_run.proofs.Common.{◌≡◌, ℕ, zero, suc, ◌^◌, ◌<◌, Bool, true, false, List, [], ◌∷◌, length, nat_abs, All, get_or, Ok, Err, refl, sym, ap, ◌∙◌}
-use Rattle.check_run.proofs.Common.{subst, arith, ℤ, pos, negsuc, ◌+ℤ◌, ◌≤ℤ◌, if◌then◌else◌, AllZip, ints, Dir, Out, NoBound, Term, Entries, entries_at}
-use Rattle.check_run.proofs.Common.{TermPair, Budget, all_terms, budget_of, is_small, no_pair, parts, term_limit, term_of, term_pair, terms_of, too_large}
-use Rattle.check_run.proofs.Common.{IsFlowPair, singles, and_parts, In, AllZip-at, AllZip-length, AllZip-right, sum_below}
+use Rattle.check_run.proofs.Common.{◌≡◌, ℕ, zero, suc, ◌^◌, ◌<◌, Bool, true, false, List, [], ◌∷◌, length, nat_abs, Ok, Err, refl, sym, ap, ◌∙◌, subst, arith}
+use Rattle.check_run.proofs.Common.{ℤ, pos, negsuc, ◌+ℤ◌, ◌≤ℤ◌, if◌then◌else◌, AllZip, ints, Dir, Out, NoBound, Term, Entries, entries_at, TermPair, Budget}
+use Rattle.check_run.proofs.Common.{all_terms, budget_of, is_small, no_pair, parts, term_limit, term_of, term_pair, terms_of, too_large, IsFlowPair, IsPairIf}
+use Rattle.check_run.proofs.Common.{is_printed, singles, and_parts, In, sum_below}
 use Rattle.std.specs.Int.Signed.{lt_z}
-use Rattle.step_problem.specs.declared.place.Term.TheVariants.{Storage, Et}
+use Rattle.step_problem.specs.declared.place.Term.TheVariants.{Et}
+use Rattle.problem_builder.proofs.Joined.{AllZip-weaker}
 use Rattle.budget_bounds.proofs.Caps.{parts_lo, parts_hi}
 use Rattle.listing_io.proofs.Terms.{same_ok, goes, clash}
 
@@ -73,12 +74,6 @@ module _ (p : List Entries) (l u : ℕ → ℤ) where
       let none : N x = subst N (sym h.is) (lo_none dir t, hi_none dir t) in
       record { lo = small_flow x.lo none.0 lo; hi = small_flow x.hi none.1 hi }
 
-  pub flows_are : (dir : Dir) (xs : List TermPair) → AllZip (IsTermOf dir) all_terms xs → All IsFlowPair xs
-  flows_are dir xs h = AllZip-right (IsTermOf dir) IsFlowPair (flow_is dir) all_terms xs h
-
-  pub eight : (dir : Dir) (xs : List TermPair) → AllZip (IsTermOf dir) all_terms xs → length xs ≡ 8
-  eight dir xs h = sym (AllZip-length (IsTermOf dir) all_terms xs h)
-
   -- where no cell evaporates, ET is none
   module _ (none : (c : ℕ) → c < length p → (entries_at p c).evaps ≡ []) where
     no_part : (dir : Dir) (c : ℕ) → c < length p → parts dir (singles Et (entries_at p c) (l c) (u c)) ≡ no_pair
@@ -92,5 +87,10 @@ module _ (p : List Entries) (l u : ℕ → ℤ) where
         let hi = no_sum (length p) (λ c. (parts dir (singles Et (entries_at p c) (l c) (u c))).hi) (λ c lt. ap (λ (x : TermPair). x.hi) (no_part dir c lt)) in
         rw (lo, hi) refl
 
-    pub no_et : (dir : Dir) (xs : List TermPair) → AllZip (IsTermOf dir) all_terms xs → get_or xs 7 no_pair ≡ no_pair
-    no_et dir xs h = (AllZip-at (IsTermOf dir) all_terms xs 7 Storage no_pair h (omega arith)).is ∙ no_et_pair dir
+  -- ET has none where the model has no EVT
+  pub terms_are_listed : (evt : Bool) → (evt ≡ false → (c : ℕ) → c < length p → (entries_at p c).evaps ≡ []) → (dir : Dir) (xs : List TermPair) → AllZip (IsTermOf dir) all_terms xs → AllZip (λ t x. IsPairIf (is_printed evt t) x) all_terms xs
+  terms_are_listed evt none dir xs h = AllZip-weaker (IsTermOf dir) (λ t x. IsPairIf (is_printed evt t) x) (λ t x k. record { small = flow_is dir t x k; none = absent t x k }) all_terms xs h
+    where
+      absent : (t : Term) (x : TermPair) → IsTermOf dir t x → is_printed evt t ≡ false → x ≡ no_pair
+      absent Et x k off = k.is ∙ no_et_pair (none off) dir
+      absent other x k off = absurd (let bad : true ≡ false = off in cc)

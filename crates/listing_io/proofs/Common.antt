@@ -9,8 +9,6 @@ pub use Rattle.std.proofs.lemmas.List.Concat.{flat_map-append, flat_map-cons}
 pub use Rattle.std.proofs.lemmas.List.Elements.{All-from_recursion, recursion_from_All}
 pub use Rattle.std.proofs.lemmas.Result.{err_from_is_err_and}
 pub use Rattle.std.proofs.lemmas.Slice.Eq.{bytes_eq-Decides}
-pub use Rattle.std.specs.Char.{digit_value}
-pub use Rattle.std.specs.Fmt.{signed_decimal}
 pub use Rattle.std.specs.List.{AllByRecursion, AllZip, flat_map, list_all, position_or_len, range_with_len}
 pub use Rattle.std.specs.Str.{bytes_eq}
 pub use Rattle.std.specs.Str.Parse.{AllDigits, digits_value_after}
@@ -19,8 +17,8 @@ pub use Rattle.budget_bounds.specs.declared.pair.Budget.{Budget}
 pub use Rattle.budget_bounds.specs.declared.pair.TermPair.{TermPair}
 pub use Rattle.cell_balance.proofs.Zips.{AllZip-length, AllZip-right}
 pub use Rattle.fixed_text.specs.{fixed_text, padded, sign}
-pub use Rattle.listing_io.specs.{AreFlows, AreFlowsAt, AreListed, AreTerms, AreZonePairs, Form, Has, HasDigits, IsCellBound, IsFlowPair, IsForm, IsListedStep}
-pub use Rattle.listing_io.specs.{IsListing, IsPairLine, IsTime, IsWritable, Left, Line, LinesReadExactly, ListingsAreApart, ListingsAreReadAgain}
+pub use Rattle.listing_io.specs.{AreFlows, AreListed, AreTerms, AreZonePairs, Form, Has, HasDigits, IsCellBound, IsFlowPair, IsForm, IsListedAt, IsListedStep}
+pub use Rattle.listing_io.specs.{IsListing, IsPairIf, IsPairLine, IsTime, IsWritable, Left, Line, LinesReadExactly, ListingsAreApart, ListingsAreReadAgain}
 pub use Rattle.listing_io.specs.{ListingsWereWritten, Stops, all_lines, behind_word, bound_of, dir_front, each_lines, end_line, ended, first_line}
 pub use Rattle.listing_io.specs.{first_line_before, first_of, first_word, flow_form, flow_of, form_of, has_evt, head_form, head_front, head_if, head_line}
 pub use Rattle.listing_io.specs.{head_pair, is_first, is_negative, is_printed, is_within, line_at, model_line, none_of, numbers_text, or_refused, over_at}

@@ -3,9 +3,11 @@ use Rattle.listing_io.proofs.Common.{◌≡◌, ℕ, ◌<◌, ◌≤◌, ◌^◌
 use Rattle.listing_io.proofs.Common.{◌∙◌, arith, Some, None, zero, suc, ◌+◌, ◌-◌, ◌/◌, ◌%◌, ◌==◌, ◌∷◌, take, replicate, decimal, add-one, ℤ, pos, negsuc, not}
 use Rattle.listing_io.proofs.Common.{drop_at, append-nil, take_at, bytes_eq, bytes_eq-Decides, fixed_text, padded, sign, TermPair, digits_behind, value_of}
 use Rattle.listing_io.proofs.Common.{Form, pair_line, is_within, first_word, behind_word, candidate, pair_in, IsPairLine, IsForm, LinesReadExactly, nat_tests}
-use Rattle.listing_io.proofs.Common.{decimal_is_IsNumeral_wide, digit_value, position_or_len, list_all, AllDigits}
+use Rattle.listing_io.proofs.Common.{◌⊎◌, inl, inr, IsWritable, FlowModel, model_line, numbers_text, AllByRecursion, decimal_is_IsNumeral_wide, position_or_len}
+use Rattle.listing_io.proofs.Common.{list_all, AllDigits}
+use Rattle.std.specs.Fmt.{signed_decimal}
 use Rattle.std.proofs.lemmas.Bool.{and_parts, leb-true, le-leb}
-use Rattle.listing_io.proofs.NumberLemmas.{value_is, some_power, part_less, quotient_less}
+use Rattle.listing_io.proofs.NumberLemmas.{is_digit, value_is, some_power, part_less, quotient_less}
 
 -- A number has no blank, so the first blank after one ends it.
 -- no byte is b
@@ -29,20 +31,22 @@ by_test b (c ∷ cs) h = let (one, more) = and_parts (not (c == b)) (list_all (�
     is_not false h = refl
     is_not true h = sym h
 
-other_byte : (b c : ℕ) → b < 45 → 45 ≤ c → (c == b) ≡ false
-other_byte b c low h = grind (arith, nat_tests)
+-- a byte that is no digit, and no point or minus sign
+abbrev pub IsApart : ℕ → Type 0
+IsApart b = (b < 45) ⊎ (57 < b)
 
-digit_high : (c : ℕ) → digit_value c < 10 → 45 ≤ c
-digit_high c h = grind (arith, nat_tests)
+pub other_byte : (b c : ℕ) → IsApart b → 45 ≤ c → c ≤ 57 → (c == b) ≡ false
+other_byte b c (inl low) h k = grind (arith, nat_tests)
+other_byte b c (inr high) h k = grind (arith, nat_tests)
 
-module _ (b : ℕ) (low : b < 45) where
+module _ (b : ℕ) (apart : IsApart b) where
   digits_without : (ds : List ℕ) → AllDigits 10 ds → Without b ds
   digits_without [] h = tt
-  digits_without (c ∷ cs) h = (other_byte b c low (digit_high c h.0), digits_without cs h.1)
+  digits_without (c ∷ cs) h = let (low, high, is) = is_digit c h.0 in (other_byte b c apart (omega (arith, low)) high, digits_without cs h.1)
 
   zeros_without : (j : ℕ) → Without b (replicate j 48)
   zeros_without zero = tt
-  zeros_without (suc j) = (other_byte b 48 low (omega arith), zeros_without j)
+  zeros_without (suc j) = (other_byte b 48 apart (omega arith) (omega arith), zeros_without j)
 
   pub decimal_without : (n : ℕ) → n < 10 ^ 64 → Without b (decimal n)
   decimal_without n h = let (numeral, value) = decimal_is_IsNumeral_wide n h in digits_without (decimal n) numeral.1
@@ -52,7 +56,7 @@ module _ (b : ℕ) (low : b < 45) where
 
   sign_without : (z : ℤ) → Without b (sign z)
   sign_without (pos n) = tt
-  sign_without (negsuc n) = (other_byte b 45 low (omega arith), tt)
+  sign_without (negsuc n) = (other_byte b 45 apart (omega arith) (omega arith), tt)
 
   pub fixed_without : (k : ℕ) (z : ℤ) → nat_abs z < 10 ^ 64 → Without b (fixed_text k z)
   fixed_without k z h =
@@ -60,11 +64,30 @@ module _ (b : ℕ) (low : b < 45) where
       Without-append b (sign z ++ decimal (nat_abs z / 10 ^ k) ++ codes ".") (padded k (nat_abs z % 10 ^ k))
       (Without-append b (sign z ++ decimal (nat_abs z / 10 ^ k)) (codes ".")
       (Without-append b (sign z) (decimal (nat_abs z / 10 ^ k)) (sign_without z) (decimal_without (nat_abs z / 10 ^ k) (quotient_less (nat_abs z) (10 ^ k) (10 ^ 64) p h)))
-      (other_byte b 46 low (omega arith), tt))
+      (other_byte b 46 apart (omega arith) (omega arith), tt))
       (padded_without k (nat_abs z % 10 ^ k) (part_less (nat_abs z) (10 ^ k) (10 ^ 64) p h))
 
+  pub signed_without : (z : ℤ) → nat_abs z < 2 ^ 64 → Without b (signed_decimal z)
+  signed_without (pos n) h = decimal_without n (omega arith)
+  signed_without (negsuc n) h = (other_byte b 45 apart (omega arith) (omega arith), decimal_without (suc n) (omega arith))
+
+  -- numbers after blanks, and the first line of a model's listing
+  module _ (blank : (32 == b) ≡ false) where
+    pub numbers_without : (ns : List ℕ) → AllByRecursion (λ n. n < 10 ^ 64) ns → Without b (numbers_text ns)
+    numbers_without [] h = tt
+    numbers_without (n ∷ ns) h = (blank, Without-append b (decimal n) (numbers_text ns) (decimal_without n h.0) (numbers_without ns h.1))
+
+    pub model_without : (m : FlowModel) (s : ℕ) → IsWritable m s → Without b (codes "HEADS 2 DIGITS") → Without b (codes " UNIT ") → Without b (model_line m s)
+    model_without m s good first second =
+        let few = good.digits in
+        Without-append b (codes "HEADS 2 DIGITS" ++ numbers_text (s ∷ []) ++ codes " UNIT ") (signed_decimal m.lenuni)
+        (Without-append b (codes "HEADS 2 DIGITS" ++ numbers_text (s ∷ [])) (codes " UNIT ")
+        (Without-append b (codes "HEADS 2 DIGITS") (numbers_text (s ∷ [])) first (numbers_without (s ∷ []) (omega (arith, few), tt)))
+        second)
+        (signed_without m.lenuni good.unit)
+
 pub NoBlank-fixed : (k : ℕ) (z : ℤ) → nat_abs z < 10 ^ 64 → NoBlank (fixed_text k z)
-NoBlank-fixed k z h = fixed_without 32 (omega arith) k z h
+NoBlank-fixed k z h = fixed_without 32 (inl (omega arith)) k z h
 
 place_is : (xs ys : List ℕ) → NoBlank xs → position_or_len (λ c. c == 32) (xs ++ (32 ∷ ys)) ≡ length xs
 place_is [] ys h = refl

@@ -1,17 +1,17 @@
 -- No line of a listing has a line feed, so the lines of its text are the listing's.
-use Rattle.listing_io.proofs.Common.{◌≡◌, ℕ, zero, suc, ◌+◌, ◌/◌, ◌%◌, ◌<◌, ◌≤◌, ◌^◌, Bool, true, false, cond, List, [], ◌∷◌, ◌++◌, codes, map, decimal}
-use Rattle.listing_io.proofs.Common.{nat_abs, All, refl, sym, ap, ◌∙◌, subst, arith, ℤ, pos, negsuc, AllByRecursion, AllZip, recursion_from_All, flat_map-cons}
-use Rattle.listing_io.proofs.Common.{lines, Bound, Dir, In, Out, Term, Storage, ZoneFlow, term_name, TermPair, fixed_text, FlowModel, TimeStep, layer_size}
-use Rattle.listing_io.proofs.Common.{place, is_active, times, ZonePair, zones_of_flow, ListedStep, Form, pair_line, Line, ended, text_of, numbers_text}
-use Rattle.listing_io.proofs.Common.{first_line, step_line, head_form, head_front, head_line, head_lines, head_pair, dir_front, term_form, term_lines, has_evt}
-use Rattle.listing_io.proofs.Common.{flow_form, zone_front, zone_line, zone_pair, step_lines, all_step_lines, end_line, listing, range_with_len, cell_count}
-use Rattle.listing_io.proofs.Common.{IsForm, listing_at, IsCellBound, AreFlows, AreTerms, IsListedStep, AreListed, AreZonePairs, IsTime, IsWritable}
-use Rattle.listing_io.proofs.Common.{ListingsAreReadAgain, model_line, signed_decimal, all_terms, is_printed, each_lines}
+use Rattle.listing_io.proofs.Common.{◌≡◌, ℕ, zero, suc, ◌+◌, ◌/◌, ◌%◌, ◌<◌, ◌≤◌, ◌^◌, Bool, true, false, cond, List, [], ◌∷◌, ◌++◌, codes, map, nat_abs, All}
+use Rattle.listing_io.proofs.Common.{refl, sym, ap, ◌∙◌, subst, arith, AllByRecursion, AllZip, recursion_from_All, flat_map-cons, lines, Bound, Dir, In, Out}
+use Rattle.listing_io.proofs.Common.{Term, Storage, ZoneFlow, term_name, TermPair, fixed_text, FlowModel, TimeStep, layer_size, place, is_active, times}
+use Rattle.listing_io.proofs.Common.{ZonePair, zones_of_flow, ListedStep, Form, pair_line, Line, ended, text_of, numbers_text, first_line, step_line, head_form}
+use Rattle.listing_io.proofs.Common.{head_front, head_line, head_lines, head_pair, dir_front, term_form, term_lines, has_evt, flow_form, zone_front, zone_line}
+use Rattle.listing_io.proofs.Common.{zone_pair, step_lines, all_step_lines, end_line, listing, range_with_len, cell_count, IsForm, listing_at, IsCellBound}
+use Rattle.listing_io.proofs.Common.{AreFlows, AreTerms, IsListedStep, AreListed, AreZonePairs, IsTime, IsWritable, ListingsAreReadAgain, inl, IsListedAt}
+use Rattle.listing_io.proofs.Common.{IsPairIf, model_line, all_terms, is_printed, each_lines}
 use Rattle.model_types.specs.declared.grid.Grid.{Grid}
-use Rattle.listing_io.proofs.Exactly.{Without, Without-append, by_test, decimal_without, fixed_without, fits_wide}
-use Rattle.listing_io.proofs.Terms.{left_of, line_if, term_rows, IsPairIf, IsTermPair, terms_good, lines_in, lines_out, cell_lines}
+use Rattle.listing_io.proofs.Exactly.{IsApart, Without, Without-append, by_test, fixed_without, fits_wide, model_without, numbers_without}
+use Rattle.listing_io.proofs.Terms.{left_of, line_if, term_rows, IsTermPair, lines_in, lines_out, cell_lines}
 use Rattle.listing_io.proofs.Readers.{IsFlowOf, IsInLimit, flow_is_form, flow_rows, head_is_form, head_small, in_limit, term_is_form}
-use Rattle.listing_io.proofs.Steps.{IsSmall, IsStepAt, bounds_of, flow_lines, flows_of, rows_again, steps_at}
+use Rattle.listing_io.proofs.Steps.{IsSmall, bounds_of, flow_lines, flows_of, rows_again}
 
 abbrev pub NoFeed : List ℕ → Type 0
 NoFeed = Without 10
@@ -27,16 +27,11 @@ unfolding lines
 lines_of [] h = refl
 lines_of (row ∷ rows) h = ap lines (flat_map-cons ended row rows) ∙ first_row_is row (text_of rows) h.0 ∙ ap (λ (t : List Line). row ∷ t) (lines_of rows h.1)
 
-numbers_without : (ns : List ℕ) → AllByRecursion (λ n. n < 10 ^ 64) ns → NoFeed (numbers_text ns)
-numbers_without [] h = tt
-numbers_without (n ∷ ns) h =
-    Without-append 10 (codes " " ++ decimal n) (numbers_text ns)
-    (Without-append 10 (codes " ") (decimal n) (by_test 10 (codes " ") refl) (decimal_without 10 (omega arith) n h.0))
-    (numbers_without ns h.1)
+low : IsApart 10
+low = inl (omega arith)
 
 pair_without : (front : List ℕ) (f : Form) (p : TermPair) → IsForm f → IsInLimit f p → NoFeed front → NoFeed f.back → NoFeed (pair_line front f p)
 pair_without front f p form h start back =
-    let low : 10 < 45 = omega arith in
     Without-append 10 front _ start
     (Without-append 10 (fixed_text f.places p.lo) _ (fixed_without 10 low f.places p.lo (fits_wide (nat_abs p.lo) f.limit form.small h.0))
     (Without-append 10 (codes " ") _ (by_test 10 (codes " ") refl)
@@ -61,7 +56,7 @@ place_small g c h =
 front_without : (g : Grid) (c : ℕ) → c < 4194304 → NoFeed (head_front g c)
 front_without g c h =
     Without-append 10 (codes "HEAD" ++ numbers_text (place g c)) (codes " ")
-    (Without-append 10 (codes "HEAD") (numbers_text (place g c)) (by_test 10 (codes "HEAD") refl) (numbers_without (place g c) (place_small g c h)))
+    (Without-append 10 (codes "HEAD") (numbers_text (place g c)) (by_test 10 (codes "HEAD") refl) (numbers_without 10 low refl (place g c) (place_small g c h)))
     (by_test 10 (codes " ") refl)
 
 all_appended : {X : Type 0} (P : X → Type 0) (xs ys : List X) → AllByRecursion P xs → AllByRecursion P ys → AllByRecursion P (xs ++ ys)
@@ -106,14 +101,14 @@ term_without false s dir t p few h = tt
 terms_without : (m : FlowModel) (s : ℕ) (dir : Dir) (rows : List Line) (pairs : List TermPair) → s ≤ 18 → AreTerms m pairs → each_lines (term_rows (has_evt m) s dir) all_terms pairs ≡ rows → AllByRecursion NoFeed rows
 terms_without m s dir rows pairs few h are =
     let evt = has_evt m in
-    rw (← are) (each_without (λ t. Unit {0}) (IsTermPair evt) (term_rows evt s dir) (λ t p any good. term_without (is_printed evt t) s dir t p few good) all_terms pairs (tt, (tt, (tt, (tt, (tt, (tt, (tt, (tt, tt)))))))) (terms_good m pairs h))
+    rw (← are) (each_without (λ t. Unit {0}) (IsTermPair evt) (term_rows evt s dir) (λ t p any good. term_without (is_printed evt t) s dir t p few good) all_terms pairs (tt, (tt, (tt, (tt, (tt, (tt, (tt, (tt, tt)))))))) h)
 
 title_without : (at : TimeStep) → IsTime at → NoFeed (step_line at)
 title_without at h =
     let p = h.period in
     let n = h.step in
     Without-append 10 (codes "STEP") (numbers_text (at.period ∷ at.step ∷ [])) (by_test 10 (codes "STEP") refl)
-    (numbers_without (at.period ∷ at.step ∷ []) (omega (arith, p), (omega (arith, n), tt)))
+    (numbers_without 10 low refl (at.period ∷ at.step ∷ []) (omega (arith, p), (omega (arith, n), tt)))
 
 -- the flows between zones
 abbrev IsPair : ZonePair → Type 0
@@ -125,7 +120,7 @@ zone_without s v few pair h =
     let b = pair.1 in
     pair_without (zone_front v.from v.to) (flow_form s []) (zone_pair v) (flow_is_form s few) (in_limit s [] (zone_pair v) h)
     (Without-append 10 (codes "ZONE" ++ numbers_text (v.from ∷ v.to ∷ [])) (codes " ")
-    (Without-append 10 (codes "ZONE") (numbers_text (v.from ∷ v.to ∷ [])) (by_test 10 (codes "ZONE") refl) (numbers_without (v.from ∷ v.to ∷ []) (omega (arith, a), (omega (arith, b), tt))))
+    (Without-append 10 (codes "ZONE") (numbers_text (v.from ∷ v.to ∷ [])) (by_test 10 (codes "ZONE") refl) (numbers_without 10 low refl (v.from ∷ v.to ∷ []) (omega (arith, a), (omega (arith, b), tt))))
     (by_test 10 (codes " ") refl))
     tt
 
@@ -139,36 +134,26 @@ unfolding step_lines
 step_without m s zs at x good pairs time h g = (
   title_without at time,
   all_appended NoFeed (head_lines m x.heads) (term_lines m s In x.budget ++ (term_lines m s Out x.budget ++ map (zone_line s) x.zones)) (heads_without m x.heads good.size.cells (bounds_of m x h))
-      (all_appended NoFeed (term_lines m s In x.budget) (term_lines m s Out x.budget ++ map (zone_line s) x.zones) (terms_without m s In (term_lines m s In x.budget) x.budget.into good.digits h.into (lines_in m s x.budget h.into.eight))
-      (all_appended NoFeed (term_lines m s Out x.budget) (map (zone_line s) x.zones) (terms_without m s Out (term_lines m s Out x.budget) x.budget.out good.digits h.out (lines_out m s x.budget h.out.eight)) (flows_without s zs x.zones good.digits pairs g))),
+      (all_appended NoFeed (term_lines m s In x.budget) (term_lines m s Out x.budget ++ map (zone_line s) x.zones) (terms_without m s In (term_lines m s In x.budget) x.budget.into good.digits h.into (lines_in m s x.budget h.into))
+      (all_appended NoFeed (term_lines m s Out x.budget) (map (zone_line s) x.zones) (terms_without m s Out (term_lines m s Out x.budget) x.budget.out good.digits h.out (lines_out m s x.budget h.out)) (flows_without s zs x.zones good.digits pairs g))),
 )
 
-steps_without : (m : FlowModel) (s : ℕ) (pairs : ℕ → List ZonePair) (xs : List ListedStep) → IsWritable m s → AreZonePairs pairs → AllZip (IsStepAt m s pairs) (times m) xs → AllByRecursion NoFeed (all_step_lines m s (times m) xs)
+steps_without : (m : FlowModel) (s : ℕ) (pairs : ℕ → List ZonePair) (xs : List ListedStep) → IsWritable m s → AreZonePairs pairs → AllZip (IsListedAt m pairs) (times m) xs → AllByRecursion NoFeed (all_step_lines m s (times m) xs)
 unfolding all_step_lines
 steps_without m s pairs xs good are h =
-    each_without IsTime (IsStepAt m s pairs) (λ at x. step_lines m s at x.heads x.budget x.zones) (λ at x time step. step_without m s (pairs at.period) at x good (are at.period) time step.0 step.1) (times m) xs (recursion_from_All IsTime (times m) good.times) h
+    each_without IsTime (IsListedAt m pairs) (λ at x. step_lines m s at x.heads x.budget x.zones) (λ at x time step. step_without m s (pairs at.period) at x good (are at.period) time step.0 step.1) (times m) xs (recursion_from_All IsTime (times m) good.times) h
 
-signed_without : (z : ℤ) → nat_abs z < 2 ^ 64 → NoFeed (signed_decimal z)
-signed_without (pos n) h = decimal_without 10 (omega arith) n (omega arith)
-signed_without (negsuc n) h = (refl, decimal_without 10 (omega arith) (suc n) (omega arith))
-
-model_without : (m : FlowModel) (s : ℕ) → IsWritable m s → NoFeed (model_line m s)
-model_without m s good =
-    let few = good.digits in
-    Without-append 10 (codes "HEADS 2 DIGITS" ++ numbers_text (s ∷ []) ++ codes " UNIT ") (signed_decimal m.lenuni)
-    (Without-append 10 (codes "HEADS 2 DIGITS" ++ numbers_text (s ∷ [])) (codes " UNIT ")
-    (Without-append 10 (codes "HEADS 2 DIGITS") (numbers_text (s ∷ [])) (by_test 10 (codes "HEADS 2 DIGITS") refl) (numbers_without (s ∷ []) (omega (arith, few), tt)))
-    (by_test 10 (codes " UNIT ") refl))
-    (signed_without m.lenuni good.unit)
+model_fed : (m : FlowModel) (s : ℕ) → IsWritable m s → NoFeed (model_line m s)
+model_fed m s good = model_without 10 low refl m s good (by_test 10 (codes "HEADS 2 DIGITS") refl) (by_test 10 (codes " UNIT ") refl)
 
 first_without : (between : Bool) (m : FlowModel) (s : ℕ) → IsWritable m s → NoFeed (first_line between m s)
-first_without false m s good = model_without m s good
-first_without true m s good = Without-append 10 (model_line m s) (codes " TO") (model_without m s good) (by_test 10 (codes " TO") refl)
+first_without false m s good = model_fed m s good
+first_without true m s good = Without-append 10 (model_line m s) (codes " TO") (model_fed m s good) (by_test 10 (codes " TO") refl)
 
 listing_without : (between : Bool) (m : FlowModel) (s : ℕ) (pairs : ℕ → List ZonePair) (steps : List ListedStep) → IsWritable m s → AreZonePairs pairs → AreListed m pairs steps → AllByRecursion NoFeed (listing between m s steps)
 unfolding listing
 listing_without between m s pairs steps good are h =
-    (first_without between m s good, all_appended NoFeed (all_step_lines m s (times m) steps) (end_line ∷ []) (steps_without m s pairs steps good are (steps_at m s pairs (times m) steps (recursion_from_All (IsListedStep m) steps h.steps) h.flows)) (by_test 10 end_line refl, tt))
+    (first_without between m s good, all_appended NoFeed (all_step_lines m s (times m) steps) (end_line ∷ []) (steps_without m s pairs steps good are h.steps) (by_test 10 end_line refl, tt))
 
 pub listings_are_read_again : ListingsAreReadAgain
 listings_are_read_again between m s pairs steps good are h =

@@ -1,8 +1,9 @@
 -- The digits of a text with a point write its number.
 use Rattle.listing_io.proofs.Common.{◌≡◌, ℕ, zero, suc, ◌+◌, ◌-◌, ◌*◌, ◌/◌, ◌%◌, ◌^◌, ◌<◌, ◌≤◌, ◌==◌, true, false, ◌&&◌, cond, List, [], ◌∷◌, ◌++◌, length}
 use Rattle.listing_io.proofs.Common.{replicate, get_or, drop, drop-cons, codes, decimal, nat_abs, nat_le, refl, sym, ap, ◌∙◌, arith, ℤ, pos, negsuc, add-one}
-use Rattle.listing_io.proofs.Common.{pow-suc, nat_tests, decimal_is_IsNumeral_wide, length-decimal-le_wide, append_assoc, drop_all, digit_value, AllDigits}
+use Rattle.listing_io.proofs.Common.{pow-suc, nat_tests, decimal_is_IsNumeral_wide, length-decimal-le_wide, append_assoc, drop_all, AllDigits}
 use Rattle.listing_io.proofs.Common.{digits_value_after, fixed_text, padded, with_byte, digits_behind, is_negative, value_of}
+use Rattle.std.specs.Char.{digit_value}
 use Rattle.std.proofs.lemmas.Nat.{pow-add}
 
 pub behind_append : (n : ℕ) (xs ys : List ℕ) → digits_behind n (xs ++ ys) ≡ digits_behind (digits_behind n xs) ys
@@ -10,7 +11,7 @@ unfolding digits_behind
 behind_append n [] ys = refl
 behind_append n (x ∷ xs) ys = behind_append (with_byte n x) xs ys
 
-is_digit : (c : ℕ) → digit_value c < 10 → (48 ≤ c) × (c ≤ 57) × (digit_value c ≡ c - 48)
+pub is_digit : (c : ℕ) → digit_value c < 10 → (48 ≤ c) × (c ≤ 57) × (digit_value c ≡ c - 48)
 is_digit c h = (grind (arith, nat_tests), grind (arith, nat_tests), grind (arith, nat_tests))
 
 one_digit : (n c : ℕ) → digit_value c < 10 → with_byte n c ≡ n * 10 + digit_value c

@@ -5,11 +5,11 @@ use Rattle.listing_io.proofs.Common.{ZoneFlow, no_bound, term_name, TermPair, no
 use Rattle.listing_io.proofs.Common.{Form, IsForm, pair_in, pair_line, Line, head_form, head_front, head_line, head_lines, head_pair, dir_front, term_form}
 use Rattle.listing_io.proofs.Common.{flow_form, zone_front, zone_line, zone_pair, Left, line_at, first_of, or_refused, pair_at, text_at, bound_of, head_if}
 use Rattle.listing_io.proofs.Common.{heads_at, term_if, terms_at, flow_of, flow_at, IsCellBound, IsFlowPair, all_terms, is_printed, each_lines, range_with_len}
-use Rattle.listing_io.proofs.Common.{IsHead, head_limit, HasDigits, form_of}
+use Rattle.listing_io.proofs.Common.{IsHead, head_limit, HasDigits, form_of, IsPairIf}
 use Rattle.std.proofs.lemmas.Int.{ints}
 use Rattle.listing_io.specs.declared.pair_lines.Row.{Row}
 use Rattle.listing_io.proofs.Exactly.{line_sound, line_whole}
-use Rattle.listing_io.proofs.Terms.{IsReader, all_read, clash, goes, same_ok, left_of, line_if, term_rows, IsPairIf, IsTermPair, cell_lines}
+use Rattle.listing_io.proofs.Terms.{IsReader, all_read, clash, goes, same_ok, left_of, line_if, term_rows, IsTermPair, cell_lines}
 use Rattle.listing_io.specs.declared.pair_lines.Row.TheVariants as row
 
 -- The next line.

@@ -4,10 +4,10 @@ use Rattle.listing_io.proofs.Common.{bytes_eq, AllZip, AllByRecursion, append_as
 use Rattle.listing_io.proofs.Common.{Out, ZoneFlow, FlowModel, TimeStep, cell_count, times, ZonePair, zones_of_flow, ListedStep, Line, first_line, step_line}
 use Rattle.listing_io.proofs.Common.{head_lines, term_lines, has_evt, zone_line, zone_pair, step_lines, all_step_lines, end_line, listing, Left, all_lines}
 use Rattle.listing_io.proofs.Common.{line_at, text_at, heads_at, terms_at, flow_at, step_with, step_at, first_line_before, first_at, none_of, over_at}
-use Rattle.listing_io.proofs.Common.{listing_at, IsListing, ListingsWereWritten, is_first, Budget, each_lines, IsCellBound, IsFlowPair, AreFlows, AreFlowsAt}
+use Rattle.listing_io.proofs.Common.{listing_at, IsListing, ListingsWereWritten, is_first, Budget, each_lines, IsCellBound, IsFlowPair, AreFlows, IsListedAt}
 use Rattle.listing_io.proofs.Common.{IsListedStep, AreListed, range_with_len, AllZip-length, AllZip-right}
 use Rattle.std.proofs.lemmas.List.FromFn.{length-range_with_len}
-use Rattle.listing_io.proofs.Terms.{IsReader, all_read, clash, goes, same_ok, left_of, terms_good, good_terms, lines_in, lines_out}
+use Rattle.listing_io.proofs.Terms.{IsReader, all_read, clash, goes, same_ok, left_of, lines_in, lines_out}
 use Rattle.listing_io.proofs.Readers.{IsFlowOf, chosen, flow_rows, flows_read, heads_read, line_row, terms_read, text_again, text_row}
 
 -- flows between pairs of zones
@@ -36,8 +36,7 @@ flow_lines s [] (v ∷ vs) h = absurd h
 flow_lines s (z ∷ zs) [] h = absurd h
 flow_lines s (z ∷ zs) (v ∷ vs) h = ap (λ (rows : List Line). zone_line s v ∷ rows) (flow_lines s zs vs h.1)
 
--- a step at a time, with its flows
-abbrev pub IsStepWith : FlowModel → List ZonePair → ListedStep → Type 0
+abbrev IsStepWith : FlowModel → List ZonePair → ListedStep → Type 0
 IsStepWith m zs x = IsListedStep m x × AreFlows zs x.zones
 
 abbrev rows_at : FlowModel → ℕ → TimeStep → ListedStep → List Line
@@ -59,11 +58,11 @@ step_again m s zs at few x rest n h =
     let f = map (zone_line s) x.zones in
     let flows = flows_of zs x.zones h.1 in
     let (i, heads_are) = (heads_read m s).again few x.heads (b ++ (c ++ (f ++ rest))) (next_number n) (bounds_of m x h.0) in
-    let (j, into_are) = (terms_read s In evt).again few x.budget.into (c ++ (f ++ rest)) i (terms_good m x.budget.into h.0.into) in
-    let (k, out_are) = (terms_read s Out evt).again few x.budget.out (f ++ rest) j (terms_good m x.budget.out h.0.out) in
+    let (j, into_are) = (terms_read s In evt).again few x.budget.into (c ++ (f ++ rest)) i h.0.into in
+    let (k, out_are) = (terms_read s Out evt).again few x.budget.out (f ++ rest) j h.0.out in
     let (l, flows_are) = (flows_read s zs).again few x.zones rest k flows in
-    let into_read = rw (lines_in m s x.budget h.0.into.eight) at into_are in
-    let out_read = rw (lines_out m s x.budget h.0.out.eight) at out_are in
+    let into_read = rw (lines_in m s x.budget h.0.into) at into_are in
+    let out_read = rw (lines_out m s x.budget h.0.out) at out_are in
     let flows_read = rw (flow_lines s zs x.zones flows) at flows_are in
     (l, ap (λ (t : List Line). step_with m s zs at (left_of (step_line at ∷ t) n)) (regroup a b c f rest) ∙ rw (text_again (step_line at) (a ++ (b ++ (c ++ (f ++ rest)))) n, heads_are, into_read, out_read, flows_read) refl)
   where
@@ -84,19 +83,17 @@ step_was m s zs at left got h =
     let (pairs_out, out_rows) = (terms_read s Out evt).was into.item.1 out.item out.first in
     let (are, zone_rows) = (flows_read s zs).was out.item.1 flows.item flows.first in
     let budget : Budget = record { into = into.item.0; out = out.item.0 } in
-    let terms_into = good_terms m into.item.0 pairs_in in
-    let terms_out = good_terms m out.item.0 pairs_out in
     let whole : length heads.item.0 ≡ cell_count m.grid = sym (AllZip-length (IsCellBound m) (cells m) heads.item.0 bounds) ∙ length-range_with_len 0 (cell_count m.grid) in
     let a = head_lines m heads.item.0 in
     let b = term_lines m s In budget in
     let c = term_lines m s Out budget in
     let f = map (zone_line s) flows.item.0 in
-    let into_rows = rw (lines_in m s budget terms_into.eight) at in_rows in
-    let outward = rw (lines_out m s budget terms_out.eight) at out_rows in
+    let into_rows = rw (lines_in m s budget pairs_in) at in_rows in
+    let outward = rw (lines_out m s budget pairs_out) at out_rows in
     let flow_rows_are = rw (flow_lines s zs flows.item.0 are) at zone_rows in
     let P : ListedStep × Left → Type 0 = λ x. IsStepWith m zs x.0 × (left.lines ≡ rows_at m s at x.0 ++ x.1.lines) in
     subst P (same_ok (record { heads = heads.item.0; budget = budget; zones = flows.item.0 }, flows.item.1) got _ refl flows.then_) (
-      (record { whole = whole; heads = subst (λ n. AllZip (IsCellBound m) (range_with_len 0 n) heads.item.0) (sym whole) bounds; into = terms_into; out = terms_out }, are_flows zs flows.item.0 are),
+      (record { whole = whole; heads = subst (λ n. AllZip (IsCellBound m) (range_with_len 0 n) heads.item.0) (sym whole) bounds; into = pairs_in; out = pairs_out }, are_flows zs flows.item.0 are),
       text_row (step_line at) left title.item title.first
           ∙ ap (λ (t : List Line). step_line at ∷ t) (head_rows ∙ ap (λ (t : List Line). a ++ t) (into_rows ∙ ap (λ (t : List Line). b ++ t) (outward ∙ ap (λ (t : List Line). c ++ t) flow_rows_are)) ∙ regroup a b c f flows.item.1.lines),
     )
@@ -105,24 +102,9 @@ step_was m s zs at left got h =
     regroup a b c f d = simp append_assoc
 
 module _ (m : FlowModel) (s : ℕ) (pairs : ℕ → List ZonePair) where
-  abbrev pub IsStepAt : TimeStep → ListedStep → Type 0
-  IsStepAt at x = IsStepWith m (pairs at.period) x
-
-  steps_read : IsReader s (for_each (step_at m s pairs) (times m)) (all_step_lines m s (times m)) (AllZip IsStepAt (times m))
+  steps_read : IsReader s (for_each (step_at m s pairs) (times m)) (all_step_lines m s (times m)) (AllZip (IsListedAt m pairs) (times m))
   unfolding all_step_lines
-  steps_read = all_read s (step_at m s pairs) (rows_at m s) IsStepAt (λ at. record { again = step_again m s (pairs at.period) at; was = step_was m s (pairs at.period) at }) (times m)
-
-  pub steps_at : (ats : List TimeStep) (xs : List ListedStep) → AllByRecursion (IsListedStep m) xs → AllZip (AreFlowsAt pairs) ats xs → AllZip IsStepAt ats xs
-  steps_at [] [] h g = tt
-  steps_at [] (x ∷ xs) h g = absurd g
-  steps_at (at ∷ ats) [] h g = absurd g
-  steps_at (at ∷ ats) (x ∷ xs) h g = ((h.0, g.0), steps_at ats xs h.1 g.1)
-
-  flows_at : (ats : List TimeStep) (xs : List ListedStep) → AllZip IsStepAt ats xs → AllZip (AreFlowsAt pairs) ats xs
-  flows_at [] [] h = tt
-  flows_at [] (x ∷ xs) h = absurd h
-  flows_at (at ∷ ats) [] h = absurd h
-  flows_at (at ∷ ats) (x ∷ xs) h = (h.0.1, flows_at ats xs h.1)
+  steps_read = all_read s (step_at m s pairs) (rows_at m s) (IsListedAt m pairs) (λ at. record { again = step_again m s (pairs at.period) at; was = step_was m s (pairs at.period) at }) (times m)
 
 first_again : (between : Bool) (m : FlowModel) (s : ℕ) (rest : List Line) (n : ℕ) → first_at between m s (left_of (first_line between m s ∷ rest) n) ≡ Ok (left_of rest (next_number n))
 unfolding first_at
@@ -133,7 +115,7 @@ first_again true m s rest n = rw ((bytes_eq-Decides (first_line true m s) (first
 pub rows_again : (between : Bool) (m : FlowModel) (s : ℕ) (pairs : ℕ → List ZonePair) (steps : List ListedStep) → s ≤ 18 → AreListed m pairs steps → listing_at between m s pairs (left_of (listing between m s steps) 1) ≡ Ok steps
 unfolding listing_at listing
 rows_again between m s pairs steps few h =
-    let (k, read) = (steps_read m s pairs).again few steps (end_line ∷ []) (next_number 1) (steps_at m s pairs (times m) steps (recursion_from_All (IsListedStep m) steps h.steps) h.flows) in
+    let (k, read) = (steps_read m s pairs).again few steps (end_line ∷ []) (next_number 1) h.steps in
     rw (first_again between m s (all_step_lines m s (times m) steps ++ (end_line ∷ [])) 1, read, text_again end_line [] k) refl
 
 -- What was read is a listing, and its lines are those of the steps.
@@ -180,11 +162,7 @@ listing_was between m s pairs left steps h =
     let end_rows = text_row end_line all.item.1 end.item end.first ∙ ap (λ (t : List Line). end_line ∷ t) (none_over end.item.number end.item.lines over.item over.first) in
     let P : List ListedStep → Type 0 = λ xs. AreListed m pairs xs × IsListing between m s xs left.lines in
     subst P (same_ok all.item.0 steps _ refl over.then_) (
-      record {
-        whole = sym (AllZip-length (IsStepAt m s pairs) (times m) all.item.0 are);
-        steps = AllZip-right (IsStepAt m s pairs) (IsListedStep m) (λ at x k. k.0) (times m) all.item.0 are;
-        flows = flows_at m s pairs (times m) all.item.0 are;
-      },
+      record { steps = are },
       whole_listing between m s all.item.0 row left.lines known (title ∙ ap (λ (t : List Line). row ∷ t) (rows ∙ ap (λ (t : List Line). all_step_lines m s (times m) all.item.0 ++ t) end_rows)),
     )
 

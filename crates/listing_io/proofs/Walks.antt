@@ -1,11 +1,10 @@
 -- Loops that read or write one thing after another.
 use Rattle.listing_io.proofs.Common.{Bool, cond, true, false, ◌≡◌, ℕ, suc, ◌+◌, ◌-◌, ◌<◌, ◌≤◌, List, [], ◌∷◌, ◌++◌, length, drop, get_or, drop-cons, add-one}
-use Rattle.listing_io.proofs.Common.{map, refl, sym, ap, ◌∙◌, arith, Result, Err, ◌^◌, ◌==◌, codes, decimal, inl, inr, subst, ℤ, pos, negsuc, nat_abs}
-use Rattle.listing_io.proofs.Common.{append-nil, flat_map-cons, flat_map-append, for_each, with_front, Fault, BadLine, Memory, Line, ended, text_of, Stops}
-use Rattle.listing_io.proofs.Common.{first_line, first_line_before, listing, model_line, numbers_text, IsListing, IsWritable, ListingsAreApart, range_with_len}
-use Rattle.listing_io.proofs.Common.{nat_tests, decimal_is_IsNumeral_wide, digit_value, AllDigits, FlowModel, ListedStep, signed_decimal}
+use Rattle.listing_io.proofs.Common.{map, refl, sym, ap, ◌∙◌, arith, Result, Err, codes, inl, inr, subst, append-nil, flat_map-cons, flat_map-append, for_each}
+use Rattle.listing_io.proofs.Common.{with_front, Fault, BadLine, Memory, Line, ended, text_of, Stops, first_line, first_line_before, listing, model_line}
+use Rattle.listing_io.proofs.Common.{IsListing, IsWritable, ListingsAreApart, range_with_len, FlowModel, ListedStep}
 use Rattle.std.proofs.Common.{append_assoc}
-use Rattle.listing_io.proofs.Exactly.{Without, Without-append, by_test}
+use Rattle.listing_io.proofs.Exactly.{Without, by_test, model_without}
 use Rattle.listing_io.proofs.Steps.{listings_were_written}
 
 -- the cells that are left, of n
@@ -49,22 +48,11 @@ module _ (t whole : List ℕ) (left : List Line) (h : t ++ text_of left ≡ whol
 
 -- a line and four lists of lines
 pub step_joined : (title : Line) (a b c d : List Line) → [] ++ ended title ++ text_of a ++ text_of b ++ text_of c ++ text_of d ≡ text_of (title ∷ (a ++ (b ++ (c ++ d))))
-step_joined title a b c d =
-    with_lines ([] ++ ended title ++ text_of a ++ text_of b) c d
-    ∙ with_lines ([] ++ ended title ++ text_of a) b (c ++ d)
-    ∙ with_lines ([] ++ ended title) a (b ++ (c ++ d))
-    ∙ with_line [] title (a ++ (b ++ (c ++ d)))
+step_joined title a b c d = simp (append_assoc, flat_map-cons, flat_map-append)
 
 -- seven lines, and others after them
 pub seven_joined : (t : List ℕ) (a b c d e f g : Line) (more : List Line) → t ++ ended a ++ ended b ++ ended c ++ ended d ++ ended e ++ ended f ++ ended g ++ text_of more ≡ t ++ text_of (a ∷ b ∷ c ∷ d ∷ e ∷ f ∷ g ∷ more)
-seven_joined t a b c d e f g more =
-    with_line (t ++ ended a ++ ended b ++ ended c ++ ended d ++ ended e ++ ended f) g more
-    ∙ with_line (t ++ ended a ++ ended b ++ ended c ++ ended d ++ ended e) f (g ∷ more)
-    ∙ with_line (t ++ ended a ++ ended b ++ ended c ++ ended d) e (f ∷ g ∷ more)
-    ∙ with_line (t ++ ended a ++ ended b ++ ended c) d (e ∷ f ∷ g ∷ more)
-    ∙ with_line (t ++ ended a ++ ended b) c (d ∷ e ∷ f ∷ g ∷ more)
-    ∙ with_line (t ++ ended a) b (c ∷ d ∷ e ∷ f ∷ g ∷ more)
-    ∙ with_line t a (b ∷ c ∷ d ∷ e ∷ f ∷ g ∷ more)
+seven_joined t a b c d e f g more = simp (append_assoc, flat_map-cons)
 
 -- the line of what is there on a condition
 pub line_if : {T : Type 0} (line : T → Line) (there : Bool) (t : T) → cond there (line t ∷ []) [] ≡ map line (cond there (t ∷ []) [])
@@ -72,30 +60,8 @@ line_if line true t = refl
 line_if line false t = refl
 
 -- A listing for all models between two decks is no model's listing: its first line has the letter O, of TO.
--- a letter is no digit
-no_digit : (c : ℕ) → digit_value c < 10 → (c == 79) ≡ false
-no_digit c h = grind (arith, nat_tests)
-
-digits_apart : (ds : List ℕ) → AllDigits 10 ds → Without 79 ds
-digits_apart [] h = tt
-digits_apart (c ∷ cs) h = (no_digit c h.0, digits_apart cs h.1)
-
-decimal_apart : (n : ℕ) → n < 10 ^ 64 → Without 79 (decimal n)
-decimal_apart n h = let (numeral, value) = decimal_is_IsNumeral_wide n h in digits_apart (decimal n) numeral.1
-
-signed_apart : (z : ℤ) → nat_abs z < 2 ^ 64 → Without 79 (signed_decimal z)
-signed_apart (pos n) h = decimal_apart n (omega arith)
-signed_apart (negsuc n) h = (refl, decimal_apart (suc n) (omega arith))
-
 model_apart : (n : FlowModel) (t : ℕ) → IsWritable n t → Without 79 (model_line n t)
-model_apart n t good =
-    let few = good.digits in
-    Without-append 79 (codes "HEADS 2 DIGITS" ++ numbers_text (t ∷ []) ++ codes " UNIT ") (signed_decimal n.lenuni)
-    (Without-append 79 (codes "HEADS 2 DIGITS" ++ numbers_text (t ∷ [])) (codes " UNIT ")
-    (Without-append 79 (codes "HEADS 2 DIGITS") (numbers_text (t ∷ [])) (by_test 79 (codes "HEADS 2 DIGITS") refl)
-    (Without-append 79 (codes " " ++ decimal t) [] (Without-append 79 (codes " ") (decimal t) (by_test 79 (codes " ") refl) (decimal_apart t (omega (arith, few)))) tt))
-    (by_test 79 (codes " UNIT ") refl))
-    (signed_apart n.lenuni good.unit)
+model_apart n t good = model_without 79 (inr (omega arith)) refl n t good (by_test 79 (codes "HEADS 2 DIGITS") refl) (by_test 79 (codes " UNIT ") refl)
 
 rest_without : (b : ℕ) (xs ys : List ℕ) → Without b (xs ++ ys) → Without b ys
 rest_without b [] ys h = h

@@ -7,14 +7,14 @@ use Rattle.model_types.specs.{HasSize, times, cell_count, is_active}
 use Rattle.zone_pairs.specs.declared.pair.ZonePair.{ZonePair}
 use Rattle.listing_io.specs.declared.listing.ListedStep.{ListedStep}
 use Rattle.listing_io.specs.Listing.{Line, all_step_lines, end_line, listing, text_of, has_evt, zone_pair}
-use Rattle.listing_io.specs.Reading.{first_line_before, all_lines, listing_at}
+use Rattle.listing_io.specs.Reading.{first_line_before, all_lines, is_printed, listing_at}
 use Rattle.std.specs.List.{AllZip, range_with_len}
 use Rattle.step_problem.specs.declared.heads.Bound.{Bound}
 use Rattle.step_problem.specs.declared.place.ZoneFlow.{ZoneFlow}
 use Rattle.step_problem.specs.{IsHead, no_bound}
 use Rattle.budget_bounds.specs.declared.pair.TermPair.{TermPair}
 use Rattle.budget_bounds.specs.declared.pair.Budget.{Budget}
-use Rattle.budget_bounds.specs.{no_pair}
+use Rattle.budget_bounds.specs.{all_terms, no_pair}
 use Rattle.zone_pairs.specs.{zones_of_flow}
 
 -- What holds of the steps that are read from a listing, and of the steps that can be written.
@@ -40,11 +40,14 @@ pub record IsFlowPair (p : TermPair) : Type 0 where
   pub lo : nat_abs p.lo < 2 ^ 126
   pub hi : nat_abs p.hi < 2 ^ 126
 
--- eight terms; ET's is zero where the model has no EVT
-pub record AreTerms (m : FlowModel) (pairs : List TermPair) : Type 0 where
-  pub eight : length pairs ≡ 8
-  pub small : All IsFlowPair pairs
-  pub no_et : has_evt m ≡ false → slice_index_or pairs 7 no_pair ≡ no_pair
+-- the two numbers of a term: flows, and zeros where it has no line
+pub record IsPairIf (printed : Bool) (p : TermPair) : Type 0 where
+  pub small : IsFlowPair p
+  pub none : printed ≡ false → p ≡ no_pair
+
+-- those of all terms, in their order
+abbrev pub AreTerms : FlowModel → List TermPair → Type 0
+AreTerms m pairs = AllZip (λ t p. IsPairIf (is_printed (has_evt m) t) p) all_terms pairs
 
 pub record IsListedStep (m : FlowModel) (x : ListedStep) : Type 0 where
   pub whole : length x.heads ≡ cell_count m.grid
@@ -57,15 +60,13 @@ pub record AreFlows (due : List ZonePair) (flows : List ZoneFlow) : Type 0 where
   pub pairs : map zones_of_flow flows ≡ due
   pub small : All (λ v. IsFlowPair (zone_pair v)) flows
 
--- at a time of a listing, where `pairs` has the pairs of zones of each stress period
-abbrev pub AreFlowsAt : (ℕ → List ZonePair) → TimeStep → ListedStep → Type 0
-AreFlowsAt pairs at x = AreFlows (pairs at.period) x.zones
+-- a step at a time of a listing, where `pairs` has the pairs of zones of each stress period
+abbrev pub IsListedAt : FlowModel → (ℕ → List ZonePair) → TimeStep → ListedStep → Type 0
+IsListedAt m pairs at x = IsListedStep m x × AreFlows (pairs at.period) x.zones
 
 -- one step for each time step of the model, each with one bound for each cell of the grid, and its flows between zones
 pub record AreListed (m : FlowModel) (pairs : ℕ → List ZonePair) (listed : List ListedStep) : Type 0 where
-  pub whole : length listed ≡ length (times m)
-  pub steps : All (IsListedStep m) listed
-  pub flows : AllZip (AreFlowsAt pairs) (times m) listed
+  pub steps : AllZip (IsListedAt m pairs) (times m) listed
 
 -- numbers of periods and steps that are 32 bits wide
 pub record IsTime (at : TimeStep) : Type 0 where

@@ -9,8 +9,8 @@ pub use Rattle.listing_io.specs.Forms.{value_of, with_byte}
 unfoldable pub use Rattle.listing_io.specs.Forms.{candidate, digits_behind, pair_in}
 pub use Rattle.listing_io.specs.LastLines.{cell_text, code_text, fault_place, open_place, step_word, time_text}
 unfoldable pub use Rattle.listing_io.specs.LastLines.{no_bound_line, not_certified_line, refused_line, unfinished_line}
-pub use Rattle.listing_io.specs.Laws.{AreCellBounds, AreFlows, AreFlowsAt, AreListed, AreTerms, AreZonePairs, IsCellBound, IsFlowPair, IsListedStep, IsListing}
-pub use Rattle.listing_io.specs.Laws.{IsTime, IsWritable, ListingsAreApart, ListingsAreReadAgain, ListingsWereWritten, step_in}
+pub use Rattle.listing_io.specs.Laws.{AreCellBounds, AreFlows, AreListed, AreTerms, AreZonePairs, IsCellBound, IsFlowPair, IsListedAt, IsListedStep, IsListing}
+pub use Rattle.listing_io.specs.Laws.{IsPairIf, IsTime, IsWritable, ListingsAreApart, ListingsAreReadAgain, ListingsWereWritten, step_in}
 pub use Rattle.listing_io.specs.Listing.{Line, dir_front, each_lines, end_line, ended, first_line, flow_form, has_evt, head_form, head_front, head_line}
 pub use Rattle.listing_io.specs.Listing.{head_pair, model_line, numbers_text, printed_terms, step_line, term_form, term_line, text_of, zone_front, zone_line}
 pub use Rattle.listing_io.specs.Listing.{zone_pair}

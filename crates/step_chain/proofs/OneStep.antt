@@ -4,7 +4,7 @@ use Rattle.step_chain.proofs.Common.{Entries, Edges, lower_at, upper_at, Settled
 use Rattle.step_chain.proofs.Common.{TimeStep, cell_count, is_active, is_variable, Decks, IsBefore, ProblemFits, ConstantPairIsOne, ConstantPairFits, Solved}
 use Rattle.step_chain.proofs.Common.{bound_at, AreHeadsOf, StepIsOne, HeadsFit, WideKeepsSteps, IsPairOf, clamped_fits, ◌^◌, true, pos, ◌*ℤ◌, ◌≤ℤ◌, Fraction}
 use Rattle.step_chain.proofs.Common.{IsCertificate, AreWords, CertificateEncloses, FlowModel, is_constant, index_of, exact_step, variable_heads, IsActive}
-use Rattle.step_chain.proofs.Common.{IsConstantPairFor, ProblemEncloses, ConstantPairEncloses, EnclosesSteps, HasCellsOf, constant_same, each_member, of_member}
+use Rattle.step_chain.proofs.Common.{ProblemEncloses, ConstantPairEncloses, EnclosesSteps, HasCellsOf, constant_same, each_member, of_member}
 use Rattle.step_chain.proofs.Common.{member_cells, IsMove, EnclosesMove, EnclosesMoves, StepEncloses, PairKind, settled, certified, EnclosesStep, CellEncloses}
 use Rattle.step_chain.proofs.Common.{LiesBetween, constant_head, EnclosesSolutions, EnclosesSigned, same_problem}
 use Rattle.step_chain.proofs.Limits.{cut_by, held_by, uncut_by}
@@ -31,8 +31,9 @@ record Holds (b : Bound) (d : ℕ) (x : ℤ) : Type 0 where
 
 -- for a member m of the decks
 module _ (d : Decks) (m : FlowModel) (s : ℕ) (at : TimeStep) (old : List Bound) (x : Solved)
-    (cells : HasCellsOf d.first m) (are : AreHeadsOf d at x.bounds x.heads) (encloses : EnclosesSteps s at old x.problem m)
-    (constants : (c : ℕ) (lo hi : ℤ) → c < cell_count d.first.grid → is_constant d.first at.period c ≡ true → IsConstantPairFor d at c lo hi → EnclosesSigned lo hi 9 (constant_head m at.period at.step c))
+    (cells : HasCellsOf d.first m) (encloses : EnclosesSteps s at old x.problem m)
+    (variable : (c : ℕ) → c < cell_count d.first.grid → is_variable d.first at.period c ≡ true → bound_at x.heads c ≡ bound_at x.bounds (index_of d.first at.period c))
+    (constant : (c : ℕ) → c < cell_count d.first.grid → is_constant d.first at.period c ≡ true → EnclosesSigned (lower_at x.heads c) (upper_at x.heads c) 9 (constant_head m at.period at.step c))
     (solutions : EnclosesSolutions x.problem (lower_at x.bounds) (upper_at x.bounds)) where
   below : (c : ℕ) → c < cell_count m.grid → c < cell_count d.first.grid
   below c lt = subst (λ (n : ℕ). c < n) cells.count lt
@@ -48,17 +49,15 @@ module _ (d : Decks) (m : FlowModel) (s : ℕ) (at : TimeStep) (old : List Bound
     variable_holds c lt v =
         let k : ℕ = index_of m at.period c in
         let inside : k < length x.problem = omega (arith, AllZip-length (CellEncloses s) x.problem (exact_step m at.period at.step before) step.cells, count_is m at.period at.step before, index_below m at.period c v lt) in
-        let here : bound_at x.heads c ≡ bound_at x.bounds k = are.variable c (below c lt) (sym (cells.variable at.period c) ∙ v) ∙ ap (bound_at x.bounds) (sym (cells.index at.period c)) in
+        let here : bound_at x.heads c ≡ bound_at x.bounds k = variable c (below c lt) (sym (cells.variable at.period c) ∙ v) ∙ ap (bound_at x.bounds) (sym (cells.index at.period c)) in
         let P : ℕ → Type 0 = λ i. Holds (bound_at x.bounds k) n (X i) in
         let Q : Bound → Type 0 = λ b. Holds b n (X c) in
         subst Q (sym here) (subst P (number_is m at.period at.step c before v lt) (record { low = between.low k inside; high = between.high k inside }))
 
     constant_holds : (c : ℕ) → c < cell_count m.grid → is_constant m at.period c ≡ true → Holds (bound_at x.heads c) n (X c)
     constant_holds c lt e =
-        let low = lower_at x.heads c in
-        let high = upper_at x.heads c in
-        let k = sym (constant_same d.first m cells at.period c) ∙ e in
-        let b = whole_signed low high 9 n (constant_head m at.period at.step c) (X c) (constants c low high (below c lt) k (are.constant c (below c lt) k)) (move.solves.constant c lt e) in
+        let here = constant c (below c lt) (sym (constant_same d.first m cells at.period c) ∙ e) in
+        let b = whole_signed (lower_at x.heads c) (upper_at x.heads c) 9 n (constant_head m at.period at.step c) (X c) here (move.solves.constant c lt e) in
         record { low = b.lower; high = b.upper }
 
     active_holds : (c : ℕ) → IsActive m c → Holds (bound_at x.heads c) n (X c)
@@ -74,7 +73,7 @@ module _ (d : Decks) (m : FlowModel) (s : ℕ) (at : TimeStep) (old : List Bound
       heads = record { low = λ c a. (active_holds c a).low; high = λ c a. (active_holds c a).high };
     }
 
-  follows : EnclosesMoves m s at old x
+  pub follows : EnclosesMoves m s at old x
   follows before n X move = moved before n X move
 
 pub steps_enclose : ProblemFits → ProblemEncloses → ConstantPairEncloses → CertificateEncloses → StepEncloses
@@ -82,8 +81,9 @@ steps_enclose problem_fits problem_encloses pair_encloses certificate_encloses l
     let fits = problem_fits d s at old x.problem b h.posed.problem in
     let solutions = between_solutions certificate_encloses limits kind x.problem h.barrier x.bounds h.pair h.certificate fits h.posed.barrier in
     each_member d (λ m. EnclosesMoves m s at old x) (λ m k.
-    follows d m s at old x (member_cells d m k) h.heads (of_member d (EnclosesSteps s at old x.problem) (problem_encloses d s at old x.problem b h.posed.problem) m k)
-    (λ c lo hi lt e pair. of_member d (λ (f : FlowModel). EnclosesSigned lo hi 9 (constant_head f at.period at.step c)) (pair_encloses d at c lo hi (record { decks = b.decks; time = b.time; within = lt; constant = e }) pair) m k)
+    follows d m s at old x (member_cells d m k) (of_member d (EnclosesSteps s at old x.problem) (problem_encloses d s at old x.problem b h.posed.problem) m k) h.heads.variable
+    (λ c lt e. of_member d (λ (f : FlowModel). EnclosesSigned (lower_at x.heads c) (upper_at x.heads c) 9 (constant_head f at.period at.step c))
+    (pair_encloses d at c (lower_at x.heads c) (upper_at x.heads c) (record { decks = b.decks; time = b.time; within = lt; constant = e }) (h.heads.constant c lt e)) m k)
     solutions)
 
 pub same_bounds : (xs ys : List Bound) → length xs ≡ length ys → ((c : ℕ) → c < length xs → bound_at xs c ≡ bound_at ys c) → xs ≡ ys
@@ -95,10 +95,7 @@ same_bounds (x ∷ xs) (y ∷ ys) whole same =
     ap (λ b. b ∷ xs) (same 0 (omega arith)) ∙ ap (λ bs. y ∷ bs) rest
 
 pub same_bound : (a b : Bound) → (a.low ≡ b.low) × (a.high ≡ b.high) → a ≡ b
-same_bound a b (low, high) =
-    let by_low : ℤ → Bound = λ z. record { low = z; high = a.high } in
-    let by_high : ℤ → Bound = λ z. record { low = b.low; high = z } in
-    ap by_low low ∙ ap by_high high
+same_bound a b (low, high) = λ i. record { low = low i; high = high i }
 
 -- the heads of all cells are one list
 heads_one : ConstantPairIsOne → (d : Decks) (at : TimeStep) (old bounds xs ys : List Bound) → IsBefore d at old → AreHeadsOf d at bounds xs → AreHeadsOf d at bounds ys → xs ≡ ys
@@ -134,10 +131,7 @@ steps_one problem_fits pair_one barrier_one settled_pair_one limits d s at old x
     let fits = problem_fits d s at old x.problem b h.posed.problem in
     let bounds : x.bounds ≡ y.bounds = settled_one barrier_one settled_pair_one limits x.problem h.barrier k.barrier x.bounds y.bounds fits h.posed.barrier (subst B (sym problems) k.posed.barrier) h.pair (subst S (sym problems) k.pair) in
     let heads : x.heads ≡ y.heads = heads_one pair_one d at old x.bounds x.heads y.heads b h.heads (subst H (sym bounds) k.heads) in
-    let by_problem : List Entries → Solved = λ p. record { problem = p; bounds = x.bounds; heads = x.heads } in
-    let by_bounds : List Bound → Solved = λ bs. record { problem = y.problem; bounds = bs; heads = x.heads } in
-    let by_heads : List Bound → Solved = λ hs. record { problem = y.problem; bounds = y.bounds; heads = hs } in
-    ap by_problem problems ∙ ap by_bounds bounds ∙ ap by_heads heads
+    λ i. record { problem = problems i; bounds = bounds i; heads = heads i }
 
 pub all_fit : ConstantPairFits → HeadsFit
 all_fit pair_fits limits d s at old kind x b h =

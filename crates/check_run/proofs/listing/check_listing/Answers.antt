@@ -1,5 +1,4 @@
-use Rattle.check_run.proofs.Common.{ℕ, ◌≤◌, subst, sym, option_map, AreDeckTables, ListingEncloses}
-use Rattle.check_run.proofs.Checking.{ok_follows}
+use Rattle.check_run.proofs.Common.{ℕ, ◌≤◌, subst, sym, option_map, AreDeckTables, ListingEncloses, IfOk-weaker}
 use Rattle.check_run.proofs.listing.check_listing.Goals as goal
 
 pub check_steps-requires-clause-digits : goal.check_steps-requires-clause-digits
@@ -11,15 +10,15 @@ check_steps-requires-clause-tables c =
     subst T (sym c.in-Ok.ensures.first.digits) c.in-Ok.ensures
 
 pub returns-in-Ok-clause-verdict : goal.returns-in-Ok-clause-verdict
-returns-in-Ok-clause-verdict c = ok_follows _ _ c.check_steps.result (λ v h. rw c.in-Ok.ensures.first.digits at h.verdict) c.check_steps.ensures
+returns-in-Ok-clause-verdict c = IfOk-weaker c.check_steps.result _ _ (λ v h. rw c.in-Ok.ensures.first.digits at h.verdict) c.check_steps.ensures
 
 pub returns-in-Ok-clause-only : goal.returns-in-Ok-clause-only
-returns-in-Ok-clause-only c = ok_follows _ _ c.check_steps.result (λ v h. rw c.in-Ok.ensures.first.digits at h.only) c.check_steps.ensures
+returns-in-Ok-clause-only c = IfOk-weaker c.check_steps.result _ _ (λ v h. rw c.in-Ok.ensures.first.digits at h.only) c.check_steps.ensures
 
 pub returns-in-Ok-clause-encloses : goal.returns-in-Ok-clause-encloses
 returns-in-Ok-clause-encloses c =
     let E : ℕ → Type 0 = λ k. ListingEncloses c.args.decks.now k (option_map (λ z. z.now) c.args.zones) c.args.listing.now in
-    ok_follows _ _ c.check_steps.result (λ v h is. subst E c.in-Ok.ensures.first.digits (h.encloses is)) c.check_steps.ensures
+    IfOk-weaker c.check_steps.result _ _ (λ v h is. subst E c.in-Ok.ensures.first.digits (h.encloses is)) c.check_steps.ensures
 
 pub returns-in-Ok-clause-history : goal.returns-in-Ok-clause-history
-returns-in-Ok-clause-history c = ok_follows _ _ c.check_steps.result (λ v h. h.history) c.check_steps.ensures
+returns-in-Ok-clause-history c = IfOk-weaker c.check_steps.result _ _ (λ v h. h.history) c.check_steps.ensures

@@ -1,7 +1,6 @@
-use Rattle.check_run.proofs.Common.{◌∙◌, ap, ListedStep, ℕ, ◌≤◌, refl, subst, sym, List, option_map, Bound, AreGridHeads, HeadsEnclose, start_head, EachMember}
-use Rattle.check_run.proofs.Common.{step_in, digits_of, AreDeckTables, AreStartHeadsFor}
-use Rattle.check_run.proofs.Checking.{at_first, ends_certified, ends_enclosed, ends_history, flows_here, goes_here, listed_at, not_certified, ok_follows}
-use Rattle.check_run.proofs.Checking.{stops_here}
+use Rattle.check_run.proofs.Common.{◌∙◌, ap, ListedStep, ℕ, ◌<◌, ◌≤◌, arith, length, refl, subst, sym, List, option_map, Bound, AreGridHeads, HeadsEnclose, start_head, EachMember}
+use Rattle.check_run.proofs.Common.{step_in, digits_of, AreDeckTables, AreStartHeadsFor, IfOk-weaker}
+use Rattle.check_run.proofs.Checking.{at_first, ends_certified, ends_enclosed, ends_history, flows_here, goes_here, listed_at, not_certified, step_there, stops_here}
 use Rattle.check_run.proofs.RunText.{grid_of}
 use Rattle.check_run.proofs.listing.check_steps.Goals as goal
 
@@ -17,6 +16,16 @@ loop-index-init c =
       tables = c.requires.tables;
       so_far = at_first c.args.limits decks (digits_of c.args.tables.now.first) (option_map (λ z. z.now) c.args.zones) c.args.listing.now c.as_slice-start.result.now (subst B lent c.in_ok-start_heads.ensures.bounds) (subst G lent c.in_ok-start_heads.ensures.heads) (subst E lent c.in_ok-start_heads.ensures.encloses) c.requires.listing;
     }
+
+pub step_at-listed-requires : goal.step_at-listed-requires
+step_at-listed-requires c =
+    step_there c.args.limits c.args.decks.now (digits_of c.args.tables.now.first) (option_map (λ z. z.now) c.args.zones) c.args.listing.now c.loop-index.index c.as_slice-at-items.result.now (c.as_slice-at-items.ensures.value ∙ c.in_ok-times.ensures.times) c.requires.listing c.loop-index-test.true
+
+pub heads_before-old-requires : goal.heads_before-old-requires
+heads_before-old-requires c =
+    let there : c.loop-index.index < length c.args.listing.now =
+    step_there c.args.limits c.args.decks.now (digits_of c.args.tables.now.first) (option_map (λ z. z.now) c.args.zones) c.args.listing.now c.loop-index.index c.as_slice-at-items.result.now (c.as_slice-at-items.ensures.value ∙ c.in_ok-times.ensures.times) c.requires.listing c.loop-index-test.true in
+    omega arith
 
 pub check_listed-requires-clause-old : goal.check_listed-requires-clause-old
 check_listed-requires-clause-old c =
@@ -46,7 +55,7 @@ check_listed-requires-clause-flows c =
 pub returns-in-Err : goal.returns-in-Err
 returns-in-Err c =
     let is = c.as_slice-at-items.ensures.value ∙ c.in_ok-times.ensures.times in
-    ok_follows _ _ c.verdict_at.result
+    IfOk-weaker c.verdict_at.result _ _
     (λ v h.
     let verdict = stops_here c.args.limits c.args.decks.now (digits_of c.args.tables.now.first) (option_map (λ z. z.now) c.args.zones) c.args.listing.now c.as_slice-start.result.now c.loop-index.index c.as_slice-at-items.result.now (record { period = 0; step = 0 }) is c.requires.listing c.loop-index-test.true c.loop-index.invariant.so_far
     _ c.loop-index.invariant.digits c.heads_before-old.result.now c.step_at-listed.result.now c.as_slice-heads.result.now c.as_slice-flows.result.now c.heads_before-old.ensures c.step_at-listed.ensures c.as_slice-heads.ensures c.as_slice-flows.ensures c.in-Err.fault v c.in-Err.ensures.fault h in

@@ -1,5 +1,5 @@
 use Rattle.check_run.proofs.Common.{◌∙◌, List, option_map, subst, sym, arith, err_from_is_err_and, Bound, AreWords, digits_of, IsCovered, IsUncovered, cut_by}
-use Rattle.check_run.proofs.Checking.{err_follows, ok_follows}
+use Rattle.check_run.proofs.Common.{IfErr-weaker, IfOk-weaker}
 use Rattle.check_run.proofs.FlowPairs.{flows_have_pairs}
 use Rattle.check_run.proofs.RunText.{are_words, id_within}
 use Rattle.check_run.proofs.Outcomes.{constant_fails, step_moves, step_passes, term_fails, variable_fails, zones_fail}
@@ -59,7 +59,7 @@ returns-clause-passes c =
     let x = c.in_ok-posed.posed in
     let posed = c.in_ok-posed.ensures.posed in
     let C : List Bound → Type 0 = λ v. IsCovered x.problem v c.args.listed.now in
-    ok_follows _ _ c.test_flows.result
+    IfOk-weaker c.test_flows.result _ _
     (λ u h. step_passes c.args.limits c.args.decks.now (digits_of c.args.tables.now.first) (option_map (λ z. z.now) c.args.zones) c.args.at c.args.old.now x posed c.args.heads.now c.args.listed.now c.args.flows.now c.in_default.ensures c.in_ok-bounds.bounds.items c.as_slice.result.now c.as_slice.ensures.value c.in_ok-bounds.ensures c.in_ok-test_heads.ensures.certificate (subst C (c.as_slice-2.ensures.value ∙ sym c.as_slice.ensures.value) c.in_ok-test_terms.ensures.covers) h)
     c.test_flows.ensures.wide
 
@@ -68,7 +68,7 @@ returns-clause-fault c =
     let x = c.in_ok-posed.posed in
     let posed = c.in_ok-posed.ensures.posed in
     let C : List Bound → Type 0 = λ v. IsCovered x.problem v c.args.listed.now in
-    err_follows _ _ c.test_flows.result
+    IfErr-weaker c.test_flows.result _ _
     (λ e h. zones_fail c.args.limits c.args.decks.now (digits_of c.args.tables.now.first) (option_map (λ z. z.now) c.args.zones) c.args.at c.args.old.now x posed c.args.heads.now c.args.listed.now c.args.flows.now c.in_default.ensures c.in_ok-bounds.bounds.items c.as_slice.result.now c.as_slice.ensures.value c.in_ok-bounds.ensures c.in_ok-test_heads.ensures.certificate (subst C (c.as_slice-2.ensures.value ∙ sym c.as_slice.ensures.value) c.in_ok-test_terms.ensures.covers) e h)
     c.test_flows.ensures.fails
 
@@ -77,6 +77,6 @@ returns-clause-encloses c =
     let x = c.in_ok-posed.posed in
     let posed = c.in_ok-posed.ensures.posed in
     let C : List Bound → Type 0 = λ v. IsCovered x.problem v c.args.listed.now in
-    ok_follows _ _ c.test_flows.result
+    IfOk-weaker c.test_flows.result _ _
     (λ u h. step_moves c.args.limits c.args.decks.now (digits_of c.args.tables.now.first) (option_map (λ z. z.now) c.args.zones) c.args.at c.args.old.now x posed c.args.heads.now c.args.listed.now c.args.flows.now c.in_default.ensures c.in_ok-bounds.bounds.items c.as_slice.result.now c.as_slice.ensures.value c.in_ok-bounds.ensures c.requires.decks c.requires.time c.constant_pairs.ensures.encloses c.cover_encloses.ensures c.heads_within.ensures (c.in_ok-test_heads.ensures.encloses posed.held posed.solutions) (subst C (c.as_slice-2.ensures.value ∙ sym c.as_slice.ensures.value) c.in_ok-test_terms.ensures.covers) h)
     c.test_flows.ensures.wide
