@@ -3,7 +3,7 @@ use Rattle.engine.proofs.Common.{[], ◌≡◌, ℕ, List, ◌∷◌, ◌++◌, 
 use Rattle.engine.proofs.Common.{Seen, InputFault, Wanted, IsLast, Text, read_fault_line, Begins, IsRun, all_due, cut, early, nothing, whole, Status}
 use Rattle.engine.proofs.Common.{late_not_ok, tail_late, Task, IsCutListing, IsListing, IsListingBeside, left, listed, wanting_not_ok, Case, Run, Answers}
 use Rattle.engine.proofs.Common.{AnswersBeside, IsReadingEnd, Comes, Decided, IsLeft, IsWatched, SidePuts, ViewPutsOf, views_in, IsListingOf, CutOf, case_of}
-use Rattle.engine.proofs.Common.{AskedBatch, Batch, Batched, OneOf}
+use Rattle.engine.proofs.Common.{AskedBatch, Batch, Batched, OneOf, true}
 use Rattle.engine.proofs.Outcomes.{complete, decided, put_rose, read_rose}
 use Rattle.engine.proofs.Told.{Laws, one_of}
 use Rattle.outside.specs.declared.inputs.InputFault.TheVariants as input
@@ -74,10 +74,10 @@ module _ (n m : ℕ) (failed : Type 0) (leads : List Put → Type 0) (end : Stat
   pub not_ok : (case : Case) (views : Option ℕ) → leads [] → Answers case n m end puts → (end ≡ status.Ok → ⊥) → AnswersBeside case views n m failed leads end puts
   not_ok case views silent a bad = record { answers = inl a; watched = λ e j v. absurd (bad e); side = quiet leads case views silent }
 
-  asked_views : (k : Task) (watch : Option ℕ) → IfSome watch (λ j. IsWatched k j leads) → (j : ℕ) → watch ≡ Some j → IsWatched k j leads
-  asked_views k watch h j e = let P : Option ℕ → Type 0 = λ o. IfSome o (λ i. IsWatched k i leads) in subst P e h
+  asked_views : (k : Task) (watch : Option ℕ) → IfSome watch (λ j. IsWatched true k j leads) → (j : ℕ) → watch ≡ Some j → IsWatched true k j leads
+  asked_views k watch h j e = let P : Option ℕ → Type 0 = λ o. IfSome o (λ i. IsWatched true k i leads) in subst P e h
 
-  pub of_listing : (k : Task) (c : Case) → IsListingOf k c → ((pieces : List Text) → IsCutListing k pieces → CutOf c pieces) → (watch : Option ℕ) → (IsRun (IsListing k) (IsCutListing k) end puts → Answers c n m end puts) → IsRun (IsListingBeside failed k) (IsCutListing k) end puts → (end ≡ status.Ok → IfSome watch (λ j. IsWatched k j leads)) → ViewPutsOf k leads watch → AnswersBeside c watch n m failed leads end puts
+  pub of_listing : (k : Task) (c : Case) → IsListingOf k c → ((pieces : List Text) → IsCutListing k pieces → CutOf c pieces) → (watch : Option ℕ) → (IsRun (IsListing k) (IsCutListing k) end puts → Answers c n m end puts) → IsRun (IsListingBeside failed k) (IsCutListing k) end puts → (end ≡ status.Ok → IfSome watch (λ j. IsWatched true k j leads)) → ViewPutsOf k leads watch → AnswersBeside c watch n m failed leads end puts
   of_listing k c has cuts watch answers run w views = record {
     answers = left_of n m failed k c end puts cuts answers run;
     watched = λ e j v. record { task = k; is = has; watched = asked_views k watch (w e) j v };

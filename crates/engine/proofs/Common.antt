@@ -23,16 +23,16 @@ pub use Rattle.deck_problems.proofs.OneProblem.{one_valid}
 pub use Rattle.deck_problems.specs.{AreDecks, IsSecond, one_deck}
 pub use Rattle.deck_problems.specs.declared.decks.Decks.{Decks}
 pub use Rattle.deck_span.specs.{AreAlike}
-pub use Rattle.engine.specs.{Answers, AnswersBeside, AreDecksAs, AreDecksOf, AreFirstViews, AreItsSteps, ArePairOf, ArePutInTurn, AreTasks, AreViews}
-pub use Rattle.engine.specs.{AreWatched, Case, Checking, ChecksWritten, Comes, Comparing, CutOf, Decided, Defines, Due, GoesThrough, GoesWell, HasEnded}
-pub use Rattle.engine.specs.{HasNoList, HeadlineOf, IsCheck, IsDeck, IsDecksRefusal, IsDue, IsJobEnd, IsJobListing, IsLeft, IsListed, IsListingOf, IsMade}
-pub use Rattle.engine.specs.{IsNamedFault, IsNoSecond, IsPlain, IsPlainJob, IsReadingEnd, IsRunOf, IsRunResult, IsRunText, IsStopNumber, IsStopped, IsStored}
-pub use Rattle.engine.specs.{IsUnlikeFault, IsValid, IsValidJob, IsView, IsWatched, JobDefines, Jobs, Listing, Making, MayRead, NoWords, OneDeck, OneOf}
-pub use Rattle.engine.specs.{OneSpan, OneSummary, OneVerdict, ReadsFolder, ReadsNothing, Refuses, Second, Shows, SidePuts, SpanVerdict, StorageHolds}
-pub use Rattle.engine.specs.{ViewPutsOf, Writing, WrittenIsCertified, but_batch, case_decks, case_named, case_of, case_read, certified_line, decks_task}
-pub use Rattle.engine.specs.{defined, files_if, files_named, files_of, job_of, job_task, jobs_read, lines_of, listing_read, made_fault, made_model, made_task}
-pub use Rattle.engine.specs.{model_line, named, names_read, not_alike, of_both, of_first, of_second, second_by, span_task_of, steps_read, summed_text, task_of}
-pub use Rattle.engine.specs.{unread, verdict_line, verdict_status, views_in, zones_read}
+pub use Rattle.engine.specs.{Answers, AnswersBeside, AreDecksAs, AreDecksOf, AreItsSteps, ArePairOf, ArePutInTurn, AreTasks, AreViews, AreWatched, Case}
+pub use Rattle.engine.specs.{Checking, ChecksWritten, Comes, Comparing, CutOf, Decided, Defines, Due, GoesThrough, GoesWell, HasEnded, HasNoList, HeadlineOf}
+pub use Rattle.engine.specs.{IsCheck, IsDeck, IsDecksRefusal, IsDue, IsJobEnd, IsJobListing, IsLeft, IsListed, IsListingOf, IsMade, IsNamedFault, IsNoSecond}
+pub use Rattle.engine.specs.{IsPlain, IsPlainJob, IsReadingEnd, IsRunOf, IsRunResult, IsRunText, IsStopNumber, IsStopped, IsStored, IsUnlikeFault, IsValid}
+pub use Rattle.engine.specs.{IsValidJob, IsView, IsWatched, JobDefines, Jobs, Listing, Making, MayRead, NoWords, OneDeck, OneOf, OneSpan, OneSummary}
+pub use Rattle.engine.specs.{OneVerdict, ReadsFolder, ReadsNothing, Refuses, Second, Shows, SidePuts, SpanVerdict, StorageHolds, ViewPutsOf, Writing}
+pub use Rattle.engine.specs.{WrittenIsCertified, but_batch, case_decks, case_named, case_of, case_read, certified_line, decks_task, defined, files_if}
+pub use Rattle.engine.specs.{files_named, files_of, job_of, job_task, jobs_read, lines_of, listing_read, made_fault, made_model, made_task, model_line, named}
+pub use Rattle.engine.specs.{names_read, not_alike, of_both, of_first, of_second, second_by, span_task_of, steps_read, summed_text, task_of, unread}
+pub use Rattle.engine.specs.{verdict_line, verdict_status, views_in, zones_read}
 unfoldable pub use Rattle.engine.specs.{second_in}
 pub use Rattle.engine.specs.Batched.{Batched}
 pub use Rattle.engine.specs.OneListing.{OneListing}
@@ -44,9 +44,9 @@ pub use Rattle.listing_io.specs.declared.listing.ListedStep.{ListedStep}
 pub use Rattle.listing_run.proofs.Lines.{ends_by}
 pub use Rattle.listing_run.proofs.Pieces.{alone, beside, beside_by, wanting_not_ok}
 pub use Rattle.listing_run.proofs.Settled.{IsWhole, is_whole, whole_listing}
-pub use Rattle.listing_run.specs.{AllSettledBy, AllSteps, AreSettledBy, HasLargeFlow, IsCutListing, IsListing, IsListingBeside, IsSettledBy, IsStep, IsTask}
-pub use Rattle.listing_run.specs.{ListingExcludesRefusal, ListingIsOne, PairEncloses, Reaches, ReachesFirst, RefusalIsOne, RestsOrSettles, faces_of, last_line}
-pub use Rattle.listing_run.specs.{left, listed, listing, no_budget, no_heads, no_zones, rests, settled, status_of}
+pub use Rattle.listing_run.specs.{AllSteps, HasLargeFlow, IsCutListing, IsListing, IsListingBeside, IsSettledBy, IsStep, IsTask, ListingExcludesRefusal}
+pub use Rattle.listing_run.specs.{ListingIsOne, PairEncloses, Reaches, ReachesFirst, RefusalIsOne, RestsOrSettles, faces_of, last_line, left, listed, listing}
+pub use Rattle.listing_run.specs.{no_budget, no_heads, no_zones, rests, settled, status_of}
 pub use Rattle.listing_run.specs.Settlers.{begun}
 pub use Rattle.listing_run.specs.declared.solving.Step.{Step}
 pub use Rattle.listing_run.specs.declared.steps.Task.{Task}

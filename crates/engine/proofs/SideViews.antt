@@ -1,8 +1,7 @@
 -- What a viewer that puts to a sink put in a run.
-use Rattle.engine.proofs.Common.{◌≡◌, ◌∙◌, ◌⊎◌, ℕ, List, [], true, Option, None, Some, ap, refl, ◌∷◌, Bool, inl, inr, sym, subst, is_some, Rose, Put, PutsMake}
-use Rattle.engine.proofs.Common.{Seen, SinkError, Bound, Entries, Edges, EnclosesPair, LeadOn, ViewPuts, no_lead, no_view, Task, AllSettledBy, ReachesFirst}
-use Rattle.engine.proofs.Common.{AreSettledBy, IsSettledBy, Reaches, RestsOrSettles, rests, settled, IsWatched, Shows, ViewPutsOf, lines_of, TimeStep, times}
-use Rattle.engine.proofs.Common.{begun, edges_by}
+use Rattle.engine.proofs.Common.{◌≡◌, ◌∙◌, ◌⊎◌, ℕ, List, [], true, false, Option, None, Some, ap, refl, ◌∷◌, Bool, inl, inr, sym, subst, is_some, Rose, Put}
+use Rattle.engine.proofs.Common.{PutsMake, Seen, SinkError, Bound, Entries, Edges, EnclosesPair, LeadOn, ViewPuts, no_lead, no_view, Task, ReachesFirst}
+use Rattle.engine.proofs.Common.{IsSettledBy, Reaches, RestsOrSettles, rests, settled, IsWatched, Shows, ViewPutsOf, lines_of, TimeStep, times, begun, edges_by}
 use Rattle.outside.specs.declared.traits.SinkError.TheVariants.{Write}
 use Rattle.outside.specs.declared.traits.Sink.{Ghosts as SinkOf}
 use Rattle.view_puts.specs.declared.viewer.SinkViewer.{SinkViewer}
@@ -24,31 +23,25 @@ module _ {S V : Type 0} (begins : S → ℕ → ℕ → S → Type 0) (leads : S
   rest_or_settle k at old s t keeps (inl e) = (subst Keeps (sym e) keeps, inl (ap of e))
   rest_or_settle k at old s t keeps (inr (ended, by)) = let r = by_other k at old ended s t keeps by in (r.0, inr (ended, r.1))
 
-  reached : (k : Task) (old : List Bound) (times : List TimeStep) (s t : S) → Keeps s → Reaches begins leads stop k old times s t → Keeps t × Reaches begins' leads' stop' k old times (of s) (of t)
-  reached k old times s t keeps (rests o ts u) = (keeps, rests o ts (of u))
-  reached k old times s t keeps (begun o at ts u told v b r) =
+  reached : (whole : Bool) (k : Task) (old : List Bound) (times : List TimeStep) (s t : S) → Keeps s → Reaches begins leads stop k whole old times s t → Keeps t × Reaches begins' leads' stop' k whole old times (of s) (of t)
+  reached whole k old times s t keeps (rests o ts u end) = (keeps, rests o ts (of u) end)
+  reached whole k old times s t keeps (begun o at ts u told v cut b r) =
       let now = tells u told at.period at.step keeps b in
       let after = rest_or_settle k at o told v now.0 r in
-      (after.0, begun o at ts (of u) (of told) (of v) now.1 after.1)
-  reached k old times s t keeps (settled o at ts v u told done w is b by none rest) =
+      (after.0, begun o at ts (of u) (of told) (of v) cut now.1 after.1)
+  reached whole k old times s t keeps (settled o at ts v u told done w is b by none rest) =
       let now = tells u told at.period at.step keeps b in
       let after = by_other k at o true told done now.0 by in
-      let more = reached k v.heads ts done w after.0 rest in
+      let more = reached whole k v.heads ts done w after.0 rest in
       (more.0, settled o at ts v (of u) (of told) (of done) (of w) is now.1 after.1 (sym (same done) ∙ none) more.1)
 
-  pub reached_first : (k : Task) (s t : S) → Keeps s → (t ≡ s) ⊎ ReachesFirst begins leads stop k s t → Keeps t × ((of t ≡ of s) ⊎ ReachesFirst begins' leads' stop' k (of s) (of t))
-  reached_first k s t keeps (inl e) = (subst Keeps (sym e) keeps, inl (ap of e))
-  reached_first k s t keeps (inr h) = let r = reached k h.start (times k.decks.first) s t keeps h.reaches in (r.0, inr (record { start = h.start; is_start = h.is_start; reaches = r.1 }))
+  reached_first : (whole : Bool) (k : Task) (s t : S) → Keeps s → ReachesFirst begins leads stop k whole s t → Keeps t × ReachesFirst begins' leads' stop' k whole (of s) (of t)
+  reached_first whole k s t keeps h = let r = reached whole k h.start (times k.decks.first) s t keeps h.reaches in (r.0, record { start = h.start; is_start = h.is_start; reaches = r.1 })
 
-  are_settled : (k : Task) (old : List Bound) (times : List TimeStep) (s t : S) → Keeps s → AreSettledBy begins leads stop k old times s t → AreSettledBy begins' leads' stop' k old times (of s) (of t)
-  are_settled k old [] s t keeps e = ap of e
-  are_settled k old (at ∷ times) s t keeps (v, told, done, is, b, by, none, rest) =
-      let now = tells s told at.period at.step keeps b in
-      let after = by_other k at old true told done now.0 by in
-      (v, of told, of done, is, now.1, after.1, sym (same done) ∙ none, are_settled k v.heads times done t after.0 rest)
-
-  pub all_settled : (k : Task) (s t : S) → Keeps s → AllSettledBy begins leads stop k s t → AllSettledBy begins' leads' stop' k (of s) (of t)
-  all_settled k s t keeps h = record { start = h.start; is_start = h.is_start; settled = are_settled k h.start _ s t keeps h.settled }
+  pub told_of : (k : Task) (s t : S) → Keeps s → (t ≡ s) ⊎ ReachesFirst begins leads stop k false s t →
+      Keeps t × ((of t ≡ of s) ⊎ ReachesFirst begins' leads' stop' k false (of s) (of t)) × (ReachesFirst begins leads stop k true s t → ReachesFirst begins' leads' stop' k true (of s) (of t))
+  told_of k s t keeps (inl e) = (subst Keeps (sym e) keeps, inl (ap of e), λ all. (reached_first true k s t keeps all).1)
+  told_of k s t keeps (inr h) = let r = reached_first false k s t keeps h in (r.0, inr r.1, λ all. (reached_first true k s t keeps all).1)
 
 module _ {W : Type 0} (K : SinkOf W) where
   abbrev Viewer : Type 0
@@ -85,12 +78,12 @@ module _ {W : Type 0} (K : SinkOf W) where
   no_view_yet s p b = (refl, refl, refl, no_view (lines_of s.grid.now s.at.period s.at.step p) (EnclosesPair p b) (LeadOn leads s.sink.now s.sink.now) s.stop (no_lead leads s.sink.now))
 
   abbrev ReachesBy : ℕ → Task → Viewer → Viewer → Type 0
-  ReachesBy n k first now = (now ≡ first) ⊎ ReachesFirst begins (Shows viewed stopped n) stop k first now
+  ReachesBy n k first now = (now ≡ first) ⊎ ReachesFirst begins (Shows viewed stopped n) stop k false first now
 
   -- the sink stays the same reference
   pub same_sink : (n : ℕ) (k : Task) (first now : Viewer) → ReachesBy n k first now → now.sink.ghost_name ≡ first.sink.ghost_name
   same_sink n k first now h =
-      (reached_first begins (Shows viewed stopped n) stop begins (Shows viewed stopped n) stop (λ s. s) (λ s. s.sink.ghost_name ≡ first.sink.ghost_name)
+      (told_of begins (Shows viewed stopped n) stop begins (Shows viewed stopped n) stop (λ s. s) (λ s. s.sink.ghost_name ≡ first.sink.ghost_name)
       (λ s t i j same b. (ap (λ x. x.ghost_name) b.0 ∙ same, b))
       (λ s t p b ended same l. ((l.views.more s 0 (no_view_yet s p b)).0 ∙ same, l))
       (λ s. refl) k first now refl h).0
@@ -102,5 +95,5 @@ module _ {W : Type 0} (K : SinkOf W) where
     pub side_failed : (seen : W → Seen) → ((s : W) (puts : List Put) (t : W) → leads s puts t → PutsMake (seen s) puts (seen t)) → ReachesBy n k first now → now.stop ≡ Some Write → Rose (seen first.sink.now).faults (seen now.sink.now).faults
     side_failed seen tells h wrote = side_rose leads sink text_of (λ s. s.at.period) (λ s. s.at.step) stop begins viewed stopped is_begun is_viewed (λ s h. h) no_view_yet starts k n first now (ap lines_of fits) none seen tells h wrote
 
-    pub views_of_all : AllSettledBy begins (Shows viewed stopped n) stop k first now → IsWatched k n (λ puts. leads first.sink.now puts now.sink.now)
-    views_of_all all = is_watched leads sink text_of (λ s. s.at.period) (λ s. s.at.step) stop begins viewed stopped is_begun is_viewed (λ s h. h) no_view_yet starts k n first now (ap lines_of fits) none all
+    pub views_of_all : ReachesFirst begins (Shows viewed stopped n) stop k true first now → IsWatched true k n (λ puts. leads first.sink.now puts now.sink.now)
+    views_of_all all = is_watched leads sink text_of (λ s. s.at.period) (λ s. s.at.step) stop begins viewed stopped is_begun is_viewed (λ s h. h) no_view_yet starts k n first now (ap lines_of fits) none true all

@@ -2,9 +2,9 @@
 use Rattle.engine.proofs.Common.{◌≡◌, ◌∙◌, ◌⊎◌, ℕ, ◌+◌, ◌*◌, ◌<◌, List, [], ◌∷◌, ◌++◌, length, map, Bool, true, Option, Some, None, inl, inr, ap, sym, subst}
 use Rattle.engine.proofs.Common.{refl, arith, is_some, append_assoc, append-nil, map-append, All-append, All-cons, All-nil, All-weaker, Rose, Put, PutsMake}
 use Rattle.engine.proofs.Common.{Seen, refused, taken, SinkError, Bound, Entries, Edges, TimeStep, AddsPhases, EnclosesPair, Text, cut, early, failed, Status}
-use Rattle.engine.proofs.Common.{write_rose, AreAllShown, IsStopPut, LeadOn, ViewPuts, no_lead, Task, Step, IsStep, AllSettledBy, AreSettledBy, IsSettledBy}
-use Rattle.engine.proofs.Common.{PairEncloses, Reaches, ReachesFirst, begun, rests, settled, AreFirstViews, AreViews, AreWatched, ArePutInTurn, IsView}
-use Rattle.engine.proofs.Common.{IsWatched, Shows, ViewPutsOf, lines_of, edges_by, false, view_text}
+use Rattle.engine.proofs.Common.{write_rose, AreAllShown, IsStopPut, LeadOn, ViewPuts, no_lead, Task, Step, IsStep, IsSettledBy, PairEncloses, Reaches}
+use Rattle.engine.proofs.Common.{ReachesFirst, begun, rests, settled, AreViews, AreWatched, ArePutInTurn, IsView, IsWatched, Shows, ViewPutsOf, lines_of}
+use Rattle.engine.proofs.Common.{edges_by, false, view_text}
 use Rattle.std.proofs.Common.{All}
 use Rattle.view_puts.proofs.Views.{lead_more}
 use Rattle.model_types.specs.{times as times_of}
@@ -33,6 +33,9 @@ write_failed texts text old new makes =
     let Any : List Text → Type 0 = λ pieces. Unit {0} in
     write_rose Never Any (λ pieces f. f) status.WriteFault _ old new (early status.WriteFault texts (text ∷ []) (refused text error.Write ∷ []) (cut texts (text ∷ []) tt) (failed text [])) refl makes
 
+not_whole : false ≡ true → ⊥
+not_whole e = cc
+
 -- these puts end with one whose write failed
 abbrev IsWriteRefused : List Put → Type 0
 IsWriteRefused puts = (before : List Text) × (text : Text) × (puts ≡ map taken before ++ refused text error.Write ∷ [])
@@ -42,9 +45,10 @@ more_puts : (here before : List Text) (puts last : List Put) → puts ≡ map ta
 more_puts here before puts last e =
     ap (λ (ps : List Put). map taken here ++ ps) e ∙ sym (append_assoc (map taken here) (map taken before) last) ∙ ap (λ (ps : List Put). ps ++ last) (sym (map-append taken here before))
 
-more_in_turn : (here texts : List Text) (puts : List Put) → ArePutInTurn texts puts → ArePutInTurn (here ++ texts) (map taken here ++ puts)
-more_in_turn here texts puts (inl e) = inl (ap (λ (ps : List Put). map taken here ++ ps) e ∙ sym (map-append taken here texts))
-more_in_turn here texts puts (inr (before, last, error, is, e)) = inr (
+more_in_turn : (whole : Bool) (here texts : List Text) (puts : List Put) → ArePutInTurn whole texts puts → ArePutInTurn whole (here ++ texts) (map taken here ++ puts)
+more_in_turn whole here texts puts (inl e) = inl (ap (λ (ps : List Put). map taken here ++ ps) e ∙ sym (map-append taken here texts))
+more_in_turn whole here texts puts (inr (part, before, last, error, is, e)) = inr (
+  part,
   here ++ before,
   last,
   error,
@@ -55,9 +59,10 @@ more_in_turn here texts puts (inr (before, last, error, is, e)) = inr (
 more_refused : (here : List Text) (puts : List Put) → IsWriteRefused puts → IsWriteRefused (map taken here ++ puts)
 more_refused here puts (before, text, e) = (here ++ before, text, more_puts here before puts (refused text error.Write ∷ []) e)
 
-no_first_views : (k : Task) (n : ℕ) (old : List Bound) (times : List TimeStep) → AreFirstViews k n old times []
-no_first_views k n old [] = refl
-no_first_views k n old (at ∷ times) = inl refl
+no_first_views : (whole : Bool) (k : Task) (n : ℕ) (old : List Bound) (times : List TimeStep) → (whole ≡ false) ⊎ (times ≡ []) → AreWatched whole k n old times []
+no_first_views whole k n old [] end = refl
+no_first_views whole k n old (at ∷ times) (inl part) = inl (part, inl refl)
+no_first_views whole k n old (at ∷ times) (inr e) = absurd (let bad : at ∷ times ≡ [] = e in cc)
 
 -- A viewer of the states V: its sink, the grid of its texts, the time that it was told, and why it has stopped.
 module _ {V W : Type 0} (leads : W → List Put → W → Type 0) (sink : V → W) (text_of : V → ℕ → ℕ → List Entries → List Bound → List ℕ) (period step : V → ℕ) (stop : V → Option SinkError)
@@ -74,28 +79,22 @@ module _ {V W : Type 0} (leads : W → List Put → W → Type 0) (sink : V → 
   shown : (n : ℕ) (p : List Entries) (b : Edges) (ended : Bool) (s t : V) (h : AddsPhases viewed stopped p b n ended s t) → Shown p b h.count s t
   shown n p b ended s t h = let r = is_viewed s t p b (0 + h.count) (h.views.more s 0 (no_view s p b)) in record { same_text = r.0; puts = r.1 }
 
-  -- the steps from a state on
-  record WatchedFrom (k : Task) (n : ℕ) (old : List Bound) (times : List TimeStep) (s t : V) : Type 0 where
+  -- the steps from a state on, or the first of them
+  record ViewedFrom (whole : Bool) (k : Task) (n : ℕ) (old : List Bound) (times : List TimeStep) (s t : V) : Type 0 where
     pub texts : List Text
-    pub watched : AreWatched k n old times texts
-    pub led : LeadOn leads (sink s) (sink t) (map taken texts)
-
-  -- the first of the steps from a state on
-  record ViewedFrom (k : Task) (n : ℕ) (old : List Bound) (times : List TimeStep) (s t : V) : Type 0 where
-    pub texts : List Text
-    pub views : AreFirstViews k n old times texts
+    pub views : AreWatched whole k n old times texts
     pub puts : List Put
-    pub in_turn : ArePutInTurn texts puts
+    pub in_turn : ArePutInTurn whole texts puts
     pub led : LeadOn leads (sink s) (sink t) puts
     pub failed : stop t ≡ Some error.Write → IsWriteRefused puts
 
   no_write : (o : Option SinkError) → o ≡ None → o ≡ Some error.Write → ⊥
   no_write o none wrote = let bad : Path (Option SinkError) None (Some error.Write) = sym none ∙ wrote in cc
 
-  none_viewed : (k : Task) (n : ℕ) (old : List Bound) (times : List TimeStep) (s t : V) → sink t ≡ sink s → stop t ≡ None → ViewedFrom k n old times s t
-  none_viewed k n old times s t same none = record {
+  none_viewed : (whole : Bool) (k : Task) (n : ℕ) (old : List Bound) (times : List TimeStep) (s t : V) → (whole ≡ false) ⊎ (times ≡ []) → sink t ≡ sink s → stop t ≡ None → ViewedFrom whole k n old times s t
+  none_viewed whole k n old times s t end same none = record {
     texts = [];
-    views = no_first_views k n old times;
+    views = no_first_views whole k n old times end;
     puts = [];
     in_turn = inl refl;
     led = (let P : W → Type 0 = λ w. LeadOn leads (sink s) w [] in subst P (sym same) (no_lead leads (sink s)));
@@ -137,7 +136,7 @@ module _ {V W : Type 0} (leads : W → List Put → W → Type 0) (sink : V → 
     record Here (puts : List Put) : Type 0 where
       pub heads : List (List Bound)
       pub enclose : All View heads
-      pub in_turn : ArePutInTurn (map text heads) puts
+      pub in_turn : ArePutInTurn false (map text heads) puts
 
     abbrev pieces : List Put
     pieces = map (λ heads. taken (text heads)) views_put.views
@@ -155,7 +154,7 @@ module _ {V W : Type 0} (leads : W → List Put → W → Type 0) (sink : V → 
         record {
           heads = views_put.views ++ heads ∷ [];
           enclose = All-append View views_put.views (heads ∷ []) all_here (All-cons View heads [] (record { pair = shown; solutions = by.encloses heads shown.pair }) (All-nil View));
-          in_turn = inr (map text views_put.views, text heads, f, map-append text views_put.views (heads ∷ []), ends_with last (refused (text heads) f ∷ []) h);
+          in_turn = inr (refl, map text views_put.views, text heads, f, map-append text views_put.views (heads ∷ []), ends_with last (refused (text heads) f ∷ []) h);
         }
 
     here_put : (o : Option SinkError) (last : List Put) → IsStopPut text (EnclosesPair p e) None o last → Here (pieces ++ last)
@@ -175,13 +174,13 @@ module _ {V W : Type 0} (leads : W → List Put → W → Type 0) (sink : V → 
         (map text views_put.views, r.0, ends_with views_put.last (refused r.0 error.Write ∷ []) r.1)
 
     -- they are views of this step, and no others
-    some_viewed : (times : List TimeStep) → ViewedFrom k n old (at ∷ times) s done
+    some_viewed : (times : List TimeStep) → ViewedFrom false k n old (at ∷ times) s done
     some_viewed times =
         let h = here_put (stop done) views_put.last views_put.stop in
         let P : W → Type 0 = λ w. LeadOn leads w (sink done) (pieces ++ views_put.last) in
         record {
           texts = map text h.heads;
-          views = inr (inl (record { problem = p; barrier = by.barrier; posed = by.posed; views = h.heads; enclose = h.enclose; are = refl }));
+          views = inl (refl, inr (record { problem = p; barrier = by.barrier; posed = by.posed; views = h.heads; no_cell = λ part. absurd (not_whole part); each = λ part. absurd (not_whole part); enclose = h.enclose; are = refl }));
           puts = pieces ++ views_put.last;
           in_turn = h.in_turn;
           led = subst P told_is.0 views_put.led;
@@ -197,14 +196,14 @@ module _ {V W : Type 0} (leads : W → List Put → W → Type 0) (sink : V → 
           by_stop (inl over) = let P : Option SinkError → Type 0 = λ o. is_some o ≡ true in absurd (let bad : false ≡ true = subst P goes (is_stopped done over) in cc)
           by_stop (inr (phases, above, h)) = let c = views_put.count in (phases, above, omega (arith, c, h))
 
-      step_views : AreViews k n at old (map text views_put.views)
+      step_views : AreViews true k n at old (map text views_put.views)
       step_views = record {
         problem = p;
         barrier = by.barrier;
         posed = by.posed;
         views = views_put.views;
-        no_cell = λ none_here. let c = views_put.count in let z = by.led.no_cell none_here in no_views views_put.views (omega (arith, c, z));
-        each = some_phases;
+        no_cell = λ all none_here. let c = views_put.count in let z = by.led.no_cell none_here in no_views views_put.views (omega (arith, c, z));
+        each = λ all. some_phases;
         enclose = all_here;
         are = refl;
       }
@@ -221,58 +220,43 @@ module _ {V W : Type 0} (leads : W → List Put → W → Type 0) (sink : V → 
       done_fits : text_of done ≡ lines_of k.decks.first.grid
       done_fits = (shown n p e ended told done by.led).same_text ∙ told_is.1 ∙ fits
 
-      all_viewed : (times : List TimeStep) (v : Step) (t : V) → IsStep k at old v → ViewedFrom k n v.heads times done t → ViewedFrom k n old (at ∷ times) s t
-      all_viewed times v t is later = record {
+      all_viewed : (part : Bool) (times : List TimeStep) (v : Step) (t : V) → IsStep k at old v → ViewedFrom part k n v.heads times done t → ViewedFrom part k n old (at ∷ times) s t
+      all_viewed part times v t is later = record {
         texts = map text views_put.views ++ later.texts;
-        views = inr (inr (v, map text views_put.views, later.texts, is, step_views, refl, later.views));
+        views = inr (v, map text views_put.views, later.texts, is, step_views, refl, later.views);
         puts = map taken (map text views_put.views) ++ later.puts;
-        in_turn = more_in_turn (map text views_put.views) later.texts later.puts later.in_turn;
+        in_turn = more_in_turn part (map text views_put.views) later.texts later.puts later.in_turn;
         led = lead_more leads (sink s) (sink done) (sink t) _ _ step_led later.led;
         failed = λ wrote. more_refused (map text views_put.views) later.puts (later.failed wrote);
       }
 
-      all_watched : (times : List TimeStep) (v : Step) (t : V) → IsStep k at old v → WatchedFrom k n v.heads times done t → WatchedFrom k n old (at ∷ times) s t
-      all_watched times v t is later =
-          let L : List Put → Type 0 = LeadOn leads (sink s) (sink t) in
-          record {
-            texts = map text views_put.views ++ later.texts;
-            watched = (v, map text views_put.views, later.texts, is, step_views, refl, later.watched);
-            led = subst L (sym (map-append taken (map text views_put.views) later.texts)) (lead_more leads (sink s) (sink done) (sink t) _ _ step_led later.led);
-          }
-
-  watched_from : (k : Task) (n : ℕ) (old : List Bound) (times : List TimeStep) (s t : V) → text_of s ≡ lines_of k.decks.first.grid → stop s ≡ None → AreSettledBy begins (Shows viewed stopped n) stop k old times s t → WatchedFrom k n old times s t
-  watched_from k n old [] s t fits none e = record { texts = []; watched = refl; led = (let P : V → Type 0 = λ x. LeadOn leads (sink s) (sink x) [] in subst P (sym e) (no_lead leads (sink s))) }
-  watched_from k n old (at ∷ times) s t fits none (v, told, done, is, b, by, goes, rest) =
-      let later = watched_from k n v.heads times done t (done_fits k n at old s told done fits none b true by refl goes) goes rest in
-      all_watched k n at old s told done fits none b true by refl goes times v t is later
-
-  viewed_from : (k : Task) (n : ℕ) (old : List Bound) (times : List TimeStep) (s t : V) → text_of s ≡ lines_of k.decks.first.grid → stop s ≡ None → Reaches begins (Shows viewed stopped n) stop k old times s t → ViewedFrom k n old times s t
-  viewed_from k n old times s t fits none (rests o ts u) = none_viewed k n o ts u u refl none
-  viewed_from k n old times s t fits none (begun o at ts u told v b (inl same)) =
+  viewed_from : (whole : Bool) (k : Task) (n : ℕ) (old : List Bound) (times : List TimeStep) (s t : V) → text_of s ≡ lines_of k.decks.first.grid → stop s ≡ None → Reaches begins (Shows viewed stopped n) stop k whole old times s t → ViewedFrom whole k n old times s t
+  viewed_from whole k n old times s t fits none (rests o ts u end) = none_viewed whole k n o ts u u end refl none
+  viewed_from whole k n old times s t fits none (begun o at ts u told v part b (inl same)) =
       let is = is_begun u told at.period at.step b in
-      none_viewed k n o (at ∷ ts) u v (ap sink same ∙ is.0) (ap stop same ∙ is.4 ∙ none)
-  viewed_from k n old times s t fits none (begun o at ts u told v b (inr (ended, by))) = some_viewed k n at o u told v fits none b ended by ts
-  viewed_from k n old times s t fits none (settled o at ts v u told done w is b by goes rest) =
-      let later = viewed_from k n v.heads ts done w (done_fits k n at o u told done fits none b true by refl goes) goes rest in
-      all_viewed k n at o u told done fits none b true by refl goes ts v w is later
+      none_viewed whole k n o (at ∷ ts) u v (inl part) (ap sink same ∙ is.0) (ap stop same ∙ is.4 ∙ none)
+  viewed_from whole k n old times s t fits none (begun o at ts u told v part b (inr (ended, by))) =
+      let P : Bool → Type 0 = λ w. ViewedFrom w k n o (at ∷ ts) u v in
+      subst P (sym part) (some_viewed k n at o u told v fits none b ended by ts)
+  viewed_from whole k n old times s t fits none (settled o at ts v u told done w is b by goes rest) =
+      let later = viewed_from whole k n v.heads ts done w (done_fits k n at o u told done fits none b true by refl goes) goes rest in
+      all_viewed k n at o u told done fits none b true by refl goes whole ts v w is later
 
   module _ (starts : (s : W) → leads s [] s) (k : Task) (n : ℕ) (s t : V) (fits : text_of s ≡ lines_of k.decks.first.grid) (none : stop s ≡ None) where
-    pub is_watched : AllSettledBy begins (Shows viewed stopped n) stop k s t → IsWatched k n (λ puts. leads (sink s) puts (sink t))
-    is_watched h =
-        let w = watched_from k n h.start _ s t fits none h.settled in
-        record { start = h.start; is_start = h.is_start; texts = w.texts; watched = w.watched; led = w.led (sink s) [] (starts (sink s)) }
+    pub is_watched : (whole : Bool) → ReachesFirst begins (Shows viewed stopped n) stop k whole s t → IsWatched whole k n (λ puts. leads (sink s) puts (sink t))
+    is_watched whole h =
+        let w = viewed_from whole k n h.start (times_of k.decks.first) s t fits none h.reaches in
+        record { start = h.start; is_start = h.is_start; texts = w.texts; watched = w.views; puts = w.puts; in_turn = w.in_turn; led = w.led (sink s) [] (starts (sink s)) }
 
-    pub side_puts : (t ≡ s) ⊎ ReachesFirst begins (Shows viewed stopped n) stop k s t → ViewPutsOf k (λ puts. leads (sink s) puts (sink t)) (Some n)
+    pub side_puts : (t ≡ s) ⊎ ReachesFirst begins (Shows viewed stopped n) stop k false s t → ViewPutsOf k (λ puts. leads (sink s) puts (sink t)) (Some n)
     side_puts (inl same) = inl (let P : V → Type 0 = λ x. leads (sink s) [] (sink x) in subst P (sym same) (starts (sink s)))
-    side_puts (inr h) =
-        let w = viewed_from k n h.start (times_of k.decks.first) s t fits none h.reaches in
-        inr (record { start = h.start; is_start = h.is_start; texts = w.texts; views = w.views; puts = w.puts; in_turn = w.in_turn; led = w.led (sink s) [] (starts (sink s)) })
+    side_puts (inr h) = inr (is_watched false h)
 
     -- where the viewer has stopped since a write failed, one has
-    pub side_rose : (seen : W → Seen) → ((s : W) (puts : List Put) (t : W) → leads s puts t → PutsMake (seen s) puts (seen t)) → (t ≡ s) ⊎ ReachesFirst begins (Shows viewed stopped n) stop k s t → stop t ≡ Some error.Write → Rose (seen (sink s)).faults (seen (sink t)).faults
+    pub side_rose : (seen : W → Seen) → ((s : W) (puts : List Put) (t : W) → leads s puts t → PutsMake (seen s) puts (seen t)) → (t ≡ s) ⊎ ReachesFirst begins (Shows viewed stopped n) stop k false s t → stop t ≡ Some error.Write → Rose (seen (sink s)).faults (seen (sink t)).faults
     side_rose seen tells (inl same) wrote = absurd (no_write (stop t) (ap stop same ∙ none) wrote)
     side_rose seen tells (inr h) wrote =
-        let w = viewed_from k n h.start (times_of k.decks.first) s t fits none h.reaches in
+        let w = viewed_from false k n h.start (times_of k.decks.first) s t fits none h.reaches in
         let r = w.failed wrote in
         let M : List Put → Type 0 = λ ps. PutsMake (seen (sink s)) ps (seen (sink t)) in
         write_failed r.0 r.1 (seen (sink s)) (seen (sink t)) (subst M r.2 (tells (sink s) w.puts (sink t) (w.led (sink s) [] (starts (sink s)))))

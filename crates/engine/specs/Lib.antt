@@ -36,5 +36,5 @@ pub use Rattle.engine.specs.SpanHeadline.{ArePairOf, OneSpan, SpanVerdict}
 pub use Rattle.engine.specs.Storage.{IsStored, StorageHolds}
 pub use Rattle.engine.specs.TwoDecks.{IsDecksRefusal, Second, not_alike, of_both, of_first, of_second}
 unfoldable pub use Rattle.engine.specs.TwoDecks.{second_in}
-pub use Rattle.engine.specs.Watched.{AreFirstViews, ArePutInTurn, AreViews, AreWatched, IsView, IsWatched, Shows, SidePuts, ViewPutsOf, lines_of, views_in}
+pub use Rattle.engine.specs.Watched.{ArePutInTurn, AreViews, AreWatched, IsView, IsWatched, Shows, SidePuts, ViewPutsOf, lines_of, views_in}
 pub use Rattle.engine.specs.Written.{ChecksWritten, OneListingIsCertified, OneSpanIsCertified, WrittenIsCertified}

@@ -1,5 +1,5 @@
 -- What the parts of a run return and put.
-use Rattle.std.specs.Prelude.{◌≡◌, ◌⊎◌, ℕ, List, Result, Option, Some, IfOk, codes, option_map, All}
+use Rattle.std.specs.Prelude.{◌≡◌, ◌⊎◌, ℕ, List, Result, Option, Some, true, IfOk, codes, option_map, All}
 use Rattle.outside.specs.{Rose, Put, FileSet, file_refusal}
 use Rattle.outside.specs.declared.codes.Code.TheVariants.{BadName}
 use Rattle.outside.specs.declared.inputs.InputFault.{InputFault}
@@ -94,7 +94,7 @@ pub record Answers (case : Case) (before after : ℕ) (end : Status) (puts : Lis
 pub record AnswersBeside (case : Case) (views : Option ℕ) (before after : ℕ) (failed_beside : Type 0)
     (leads : List Put → Type 0) (end : Status) (puts : List Put) : Type 0 where
   pub answers : Answers case before after end puts ⊎ IsLeft failed_beside case end puts
-  pub watched : end ≡ status.Ok → (n : ℕ) → views ≡ Some n → Watched case n leads
+  pub watched : end ≡ status.Ok → (n : ℕ) → views ≡ Some n → Watched true case n leads
   pub side : SidePuts leads case views
 
 -- a fault of reading made files: they are in memory, so one that is no refusal is lack of memory

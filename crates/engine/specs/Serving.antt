@@ -1,5 +1,5 @@
 -- How a program ends that runs its words and ends with the number of the run's status.
-use Rattle.std.specs.Prelude.{◌≡◌, ◌⊎◌, ℕ, List, Option, Some, [], ◌∷◌, ◌++◌, None, option_to_list}
+use Rattle.std.specs.Prelude.{◌≡◌, ◌⊎◌, ℕ, List, Option, Some, true, [], ◌∷◌, ◌++◌, None, option_to_list}
 use Rattle.outside.specs.{FileSet, Put, Rose, Seen}
 use Rattle.run_puts.specs.{Text, code_of}
 use Rattle.run_puts.specs.declared.puts.Status.{Status}
@@ -84,7 +84,7 @@ pub record IsRunResult (order : Option Wanted) (agrees : FileSet → Type 0) (be
   -- What is put to `side`, for every status: nothing without `--watch`, else the views of the first steps, in turn, up to the
   -- first put that failed. If the run ends Ok, they are the views of all steps.
   pub side : (files : FileSet) → agrees files → SidePuts leads_beside (case_of order files) (views_in order)
-  pub watched : end ≡ status.Ok → (n : ℕ) → views_in order ≡ Some n → (files : FileSet) → agrees files → Watched (case_of order files) n leads_beside
+  pub watched : end ≡ status.Ok → (n : ℕ) → views_in order ≡ Some n → (files : FileSet) → agrees files → Watched true (case_of order files) n leads_beside
   -- Some files agree with all that the folder has answered.
   pub told : (files : FileSet) × agrees files
   -- The headline, and that the listing is the one that the files define.

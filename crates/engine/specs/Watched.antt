@@ -1,5 +1,5 @@
 -- What a watched run puts to its side sink.
-use Rattle.std.specs.Prelude.{◌≡◌, ◌⊎◌, ℕ, ◌*◌, ◌<◌, List, [], ◌∷◌, ◌++◌, length, map, All, Bool, Option, Some, None, option_and_then}
+use Rattle.std.specs.Prelude.{◌≡◌, ◌⊎◌, ℕ, ◌*◌, ◌<◌, List, [], ◌∷◌, ◌++◌, length, map, All, Bool, true, false, Option, Some, None, option_and_then}
 use Rattle.outside.specs.{Put, taken, refused}
 use Rattle.outside.specs.declared.traits.SinkError.{SinkError}
 use Rattle.step_problem.specs.declared.heads.Bound.{Bound}
@@ -37,86 +37,57 @@ pub record IsView (k : Task) (at : TimeStep) (old : List Bound) (p : List Entrie
   pub pair : EnclosesPair p b heads
   pub solutions : EnclosesSolutions k.limits k.decks at old p heads
 
--- These are the texts of the views of a step: none without a variable cell, else the same number of views in each of some phases.
-pub record AreViews (k : Task) (each_phase : ℕ) (at : TimeStep) (old : List Bound) (texts : List Text) : Type 0 where
+-- These are the texts of views of a step: of the first ones; or, where they are whole, of all of them, which are none without a
+-- variable cell, and else the same number of views in each of some phases.
+pub record AreViews (whole : Bool) (k : Task) (each_phase : ℕ) (at : TimeStep) (old : List Bound) (texts : List Text) : Type 0 where
   pub problem : List Entries
   pub barrier : Edges
   pub posed : IsPosed k.limits k.decks k.digits at old problem barrier
   pub views : List (List Bound)
-  pub no_cell : length problem ≡ 0 → views ≡ []
-  pub each : 0 < length problem → (phases : ℕ) × (0 < phases) × (length views ≡ phases * each_phase)
+  pub no_cell : whole ≡ true → length problem ≡ 0 → views ≡ []
+  pub each : whole ≡ true → 0 < length problem → (phases : ℕ) × (0 < phases) × (length views ≡ phases * each_phase)
   pub enclose : All (IsView k at old problem (edges_by k.limits barrier)) views
   pub are : texts ≡ map (view_text k.decks.first.grid at problem) views
 
--- The steps of these times, each from the heads of the one before it, have views with these texts, in turn.
-abbrev pub AreWatched : Task → ℕ → List Bound → List TimeStep → List Text → Type 0
-AreWatched k n old [] texts = texts ≡ []
-AreWatched k n old (at ∷ times) texts =
-    (v : Step) × (here : List Text) × (rest : List Text) × IsStep k at old v × AreViews k n at old here × (texts ≡ here ++ rest)
-    × AreWatched k n v.heads times rest
+-- The steps of these times, each from the heads of the one before it, have views with these texts, in turn; where they aren't whole
+-- perhaps only the first of them, the last one perhaps only its first views.
+abbrev pub AreWatched : Bool → Task → ℕ → List Bound → List TimeStep → List Text → Type 0
+AreWatched whole k n old [] texts = texts ≡ []
+AreWatched whole k n old (at ∷ times) texts = ((whole ≡ false) × ((texts ≡ []) ⊎ AreViews false k n at old texts))
+    ⊎ ((v : Step) × (here : List Text) × (rest : List Text) × IsStep k at old v × AreViews true k n at old here × (texts ≡ here ++ rest)
+    × AreWatched whole k n v.heads times rest)
 
--- The side sink got the texts of the views of all steps, each taken whole, and nothing else: `leads` says which puts
--- lead from that sink before to that sink after.
-pub record IsWatched (k : Task) (each_phase : ℕ) (leads : List Put → Type 0) : Type 0 where
+-- These texts were put in turn, each taken whole; where they aren't whole the last one may have been refused.
+abbrev pub ArePutInTurn : Bool → List Text → List Put → Type 0
+ArePutInTurn whole texts puts = (puts ≡ map taken texts) ⊎ ((whole ≡ false) × (before : List Text) × (last : Text) × (error : SinkError)
+    × (texts ≡ before ++ last ∷ []) × (puts ≡ map taken before ++ refused last error ∷ []))
+
+-- The side sink got the texts of the views of all steps, from STRT on, in turn, and nothing else; where they aren't whole those of the
+-- first steps, up to the first put that failed. `leads` says which puts lead from that sink before to that sink after.
+pub record IsWatched (whole : Bool) (k : Task) (each_phase : ℕ) (leads : List Put → Type 0) : Type 0 where
   pub start : List Bound
   pub is_start : AreStartHeadsFor k.decks start
   pub texts : List Text
-  pub watched : AreWatched k each_phase start (times k.decks.first) texts
-  pub led : leads (map taken texts)
+  pub watched : AreWatched whole k each_phase start (times k.decks.first) texts
+  pub puts : List Put
+  pub in_turn : ArePutInTurn whole texts puts
+  pub led : leads puts
 
 -- so it is with the listing of a run's case
-pub record Watched (case : Case) (each_phase : ℕ) (leads : List Put → Type 0) : Type 0 where
+pub record Watched (whole : Bool) (case : Case) (each_phase : ℕ) (leads : List Put → Type 0) : Type 0 where
   pub task : Task
   pub is : IsListingOf task case
-  pub watched : IsWatched task each_phase leads
-
--- These are the texts of views of a step: of all its views, or of the first ones.
-pub record AreStepViews (k : Task) (at : TimeStep) (old : List Bound) (texts : List Text) : Type 0 where
-  pub problem : List Entries
-  pub barrier : Edges
-  pub posed : IsPosed k.limits k.decks k.digits at old problem barrier
-  pub views : List (List Bound)
-  pub enclose : All (IsView k at old problem (edges_by k.limits barrier)) views
-  pub are : texts ≡ map (view_text k.decks.first.grid at problem) views
-
--- The first of these steps, each from the heads of the one before it, have views with these texts, in turn: of each step all
--- its views, but of the last one perhaps only the first views.
-abbrev pub AreFirstViews : Task → ℕ → List Bound → List TimeStep → List Text → Type 0
-AreFirstViews k n old [] texts = texts ≡ []
-AreFirstViews k n old (at ∷ times) texts = (texts ≡ []) ⊎ (AreStepViews k at old texts ⊎
-    ((v : Step) × (here : List Text) × (rest : List Text) × IsStep k at old v × AreViews k n at old here × (texts ≡ here ++ rest)
-    × AreFirstViews k n v.heads times rest))
-
--- These texts were put in turn, each taken whole, but the last one may have been refused.
-abbrev pub ArePutInTurn : List Text → List Put → Type 0
-ArePutInTurn texts puts = (puts ≡ map taken texts)
-    ⊎ ((before : List Text) × (last : Text) × (error : SinkError) × (texts ≡ before ++ last ∷ []) × (puts ≡ map taken before ++ refused last error ∷ []))
-
--- The side sink got the texts of the views of the first steps, from STRT on, in turn, up to the first put that failed.
-pub record IsWatchedSoFar (k : Task) (each_phase : ℕ) (leads : List Put → Type 0) : Type 0 where
-  pub start : List Bound
-  pub is_start : AreStartHeadsFor k.decks start
-  pub texts : List Text
-  pub views : AreFirstViews k each_phase start (times k.decks.first) texts
-  pub puts : List Put
-  pub in_turn : ArePutInTurn texts puts
-  pub led : leads puts
+  pub watched : IsWatched whole task each_phase leads
 
 -- what a listing puts to the side sink, whatever its status, where this number of views is asked for, or none
 abbrev pub ViewPutsOf : Task → (List Put → Type 0) → Option ℕ → Type 0
 ViewPutsOf k leads None = leads []
-ViewPutsOf k leads (Some n) = leads [] ⊎ IsWatchedSoFar k n leads
-
--- so it is with the listing of a run's case
-pub record WatchedSoFar (case : Case) (each_phase : ℕ) (leads : List Put → Type 0) : Type 0 where
-  pub task : Task
-  pub is : IsListingOf task case
-  pub watched : IsWatchedSoFar task each_phase leads
+ViewPutsOf k leads (Some n) = leads [] ⊎ IsWatched false k n leads
 
 -- What is put to the side sink, whatever the status: nothing; or, with `--watch`, the views of the first steps.
 abbrev pub SidePuts : (List Put → Type 0) → Case → Option ℕ → Type 0
 SidePuts leads case None = leads []
-SidePuts leads case (Some n) = leads [] ⊎ WatchedSoFar case n leads
+SidePuts leads case (Some n) = leads [] ⊎ Watched false case n leads
 
 -- what a settling shows to a viewer, with this many views in each phase
 abbrev pub Shows : {V : Type 0} → (V → List Entries → Edges → ℕ → V → Type 0) → (V → Type 0) → ℕ → V → List Entries → Edges → Bool → V → Type 0

@@ -1,4 +1,4 @@
-ghost use Rattle.std.specs.Prelude.{◌≡◌, ℕ, map, Some};
+ghost use Rattle.std.specs.Prelude.{◌≡◌, ℕ, map, Some, true};
 ghost use Rattle.outside.specs.{WordsMay, FileSet, Rose};
 ghost use Rattle.engine.specs.{bytes_asked, case_of, files_named, IsProgramEnd, IsRunResult, ReadsNothing, views_in};
 ghost use Rattle.command_line.specs.{wanted_of};
@@ -75,7 +75,7 @@ pub fn serve<R: Threads + Wait + Sync, F: Folder, K: Sink + Send, W: Sink + Send
         (λ puts. W.leads side.old puts side.new) (λ puts. K.leads out.old puts out.new)
         (K.seen out.old) (K.seen out.new) (exit_status result) }
     ensures watched { exit_status result ≡ 0 → (n : ℕ) → views_in (wanted_of (map (λ w. w.now) words.now)) ≡ Some n → (files : FileSet) →
-        F.agrees folder.new files → Watched (case_of (wanted_of (map (λ w. w.now) words.now)) files) n (λ puts. W.leads side.old puts side.new) }
+        F.agrees folder.new files → Watched true (case_of (wanted_of (map (λ w. w.now) words.now)) files) n (λ puts. W.leads side.old puts side.new) }
 {
     let status = run(rt, alloc, words, folder, out, side, gate);
     ExitCode::from(status.code())

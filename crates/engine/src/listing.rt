@@ -1,5 +1,5 @@
 // A listing by workers in threads.
-ghost use Rattle.std.specs.Prelude.{◌≡◌, IfSome, None, false};
+ghost use Rattle.std.specs.Prelude.{◌≡◌, IfSome, None, true, false};
 ghost use Rattle.outside.specs.{Rose};
 ghost use Rattle.run_puts.specs.{IsRun, PutsMore};
 ghost use Rattle.step_problem.specs.{IsBarrier, Settles, settled};
@@ -89,7 +89,7 @@ pub(crate) fn put_listing<R: Threads + Sync, K: Sink + Send, W: Sink + Send, G: 
     requires plain { IfSome views (λ n. task.now.quick ≡ false) }
     ensures puts { PutsMore K.leads out.old out.new (λ more.
         IsRun (IsListingBeside (Rose (W.seen side.old).faults (W.seen side.new).faults) task.now) (IsCutListing task.now) result more
-        × (result ≡ Status.Ok → IfSome views (λ n. IsWatched task.now n (λ puts. W.leads side.old puts side.new)))) }
+        × (result ≡ Status.Ok → IfSome views (λ n. IsWatched true task.now n (λ puts. W.leads side.old puts side.new)))) }
     ensures side { ViewPutsOf task.now (λ puts. W.leads side.old puts side.new) views }
 {
     match views {

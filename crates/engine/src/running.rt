@@ -1,4 +1,4 @@
-ghost use Rattle.std.specs.Prelude.{◌≡◌, map, IfSome, Ok, Some};
+ghost use Rattle.std.specs.Prelude.{◌≡◌, map, IfSome, Ok, Some, true};
 ghost use Rattle.outside.specs.{WordsMay, folder_name, FileSet, Rose};
 ghost use Rattle.engine.specs.{files_named, but_batch, case_of, decks_task, ReadsNothing, views_in, IsRunResult, MayRead, AnswersBeside, AreDecksAs, IsWatched};
 ghost use Rattle.engine.specs.{ViewPutsOf};
@@ -118,7 +118,7 @@ fn put_decks<'a, R: Threads + Sync, K: Sink + Send, W: Sink + Send, G: Gate + Sy
         IsRun (IsListingBeside (Rose (W.seen side.old).faults (W.seen side.new).faults) (decks_task (asked_of asked.entry) decks zones))
         (IsCutListing (decks_task (asked_of asked.entry) decks zones)) result more
         × (result ≡ Status.Ok → IfSome asked.entry.watch
-        (λ n. IsWatched (decks_task (asked_of asked.entry) decks zones) n (λ puts. W.leads side.old puts side.new)))) }
+        (λ n. IsWatched true (decks_task (asked_of asked.entry) decks zones) n (λ puts. W.leads side.old puts side.new)))) }
     ensures side { ViewPutsOf (decks_task (asked_of asked.entry) decks zones) (λ puts. W.leads side.old puts side.new) asked.entry.watch }
 {
     let task = Task {

@@ -1,11 +1,11 @@
 // A listing by workers in threads, whose heads are viewed while they settle.
-ghost use Rattle.std.specs.Prelude.{◌≡◌, ◌⊎◌, None, Some, false};
+ghost use Rattle.std.specs.Prelude.{◌≡◌, ◌⊎◌, None, Some, true, false};
 ghost use Rattle.outside.specs.{Rose};
 ghost use Rattle.outside.specs.declared.traits.SinkError.TheVariants.{Write};
 ghost use Rattle.run_puts.specs.{IsRun, PutsMore};
 ghost use Rattle.step_problem.specs.{IsBarrier, Settles};
 ghost use Rattle.settle_driver.specs.{IsPlan, AddsPhases, had_memory};
-ghost use Rattle.listing_run.specs.{IsTask, IsListingBeside, IsCutListing, AllSettledBy, ReachesFirst};
+ghost use Rattle.listing_run.specs.{IsTask, IsListingBeside, IsCutListing, ReachesFirst};
 ghost use Rattle.engine.specs.{IsWatched, Shows, ViewPutsOf};
 
 use listing_run::{Task, put_steps};
@@ -37,9 +37,9 @@ fn put_shown<R: Threads + Sync, K: Sink + Send, V: StepViewer + Send, G: Gate + 
     requires goes_on { V.stop viewer.old ≡ None }
     ensures puts { PutsMore K.leads out.old out.new (λ more.
         IsRun (IsListingBeside (V.stop viewer.new ≡ Some Write) task.now) (IsCutListing task.now) result more
-        × (result ≡ Status.Ok → AllSettledBy V.begins (Shows V.viewed V.stopped views) V.stop task.now viewer.old viewer.new)) }
+        × (result ≡ Status.Ok → ReachesFirst V.begins (Shows V.viewed V.stopped views) V.stop task.now true viewer.old viewer.new)) }
     ensures reaches { (viewer.new ≡ viewer.old)
-        ⊎ ReachesFirst V.begins (Shows V.viewed V.stopped views) V.stop task.now viewer.old viewer.new }
+        ⊎ ReachesFirst V.begins (Shows V.viewed V.stopped views) V.stop task.now false viewer.old viewer.new }
 {
     let near = NearSettler::new(rt, plan, gate);
     let near = &near;
@@ -73,7 +73,7 @@ pub(crate) fn put_texts<R: Threads + Sync, K: Sink + Send, W: Sink + Send, G: Ga
     requires plain { task.now.quick ≡ false }
     ensures puts { PutsMore K.leads out.old out.new (λ more.
         IsRun (IsListingBeside (Rose (W.seen side.old).faults (W.seen side.new).faults) task.now) (IsCutListing task.now) result more
-        × (result ≡ Status.Ok → IsWatched task.now views (λ puts. W.leads side.old puts side.new))) }
+        × (result ≡ Status.Ok → IsWatched true task.now views (λ puts. W.leads side.old puts side.new))) }
     ensures side { ViewPutsOf task.now (λ puts. W.leads side.old puts side.new) (Some views) }
 {
     let mut viewer = SinkViewer::new(alloc, side, &task.decks.first.grid);

@@ -2,7 +2,7 @@
 pub use Rattle.std.proofs.Common.{All, Bool, Contains, Err, List, None, Ok, Option, Result, Some, [], ap, arith, drop, get_or, inl, inr, length, map, pos, refl}
 pub use Rattle.std.proofs.Common.{rules, subst, suc, sym, true, ℕ, ℤ, ◌*ℤ◌, ◌++◌, ◌+◌, ◌-◌, ◌<◌, ◌^◌, ◌∙◌, ◌∷◌, ◌≡◌, ◌≤ℤ◌}
 pub use Rattle.std.proofs.lemmas.List.{append-nil, append_assoc, map-append}
-pub use Rattle.std.specs.Prelude.{IfErr, IfOk, IfSome, MatchResult, false, if◌then◌else◌}
+pub use Rattle.std.specs.Prelude.{IfErr, IfOk, IfSome, MatchResult, false, if◌then◌else◌, ◌⊎◌}
 pub use Rattle.budget_bounds.specs.declared.pair.Budget.{Budget}
 pub use Rattle.cell_balance.specs.{EnclosesStep, ExactCell, LiesBetween}
 pub use Rattle.decimal_input.specs.{EnclosesSigned, Fraction}
@@ -10,13 +10,12 @@ pub use Rattle.deck_problems.proofs.OneProblem.{between_cells, cell_of_member, e
 pub use Rattle.deck_problems.specs.{AreDecks, AreStartHeadsFor, EachMember, HoldsOf, IsBefore, IsProblemFor, StartHeadsAreOne, StartHeadsFit}
 pub use Rattle.flow_equations.specs.{SolvesFrom, exact_step, heads_of, variable_heads}
 pub use Rattle.listing_io.specs.{first_text}
-pub use Rattle.listing_run.specs.{AllSettle, AllSettledBy, AllSteps, AreFlowsAt, AreFlowsOf, AreSettledBy, BoundAll, BoundBetween, Bounds, BoundsMoves}
-pub use Rattle.listing_run.specs.{EnclosesHistories, EndsAt, FirstSteps, FlowsEnclose, FlowsEncloseAt, FlowsStopBy, HasLargeFlow, HasLargeFlowOf, HasNoBound}
-pub use Rattle.listing_run.specs.{HistoriesBound, IsAtFirst, IsCutListing, IsListing, IsListingBeside, IsNext, IsNextText, IsPushed, IsSettledBy, IsSolved}
-pub use Rattle.listing_run.specs.{IsStep, IsStopEnd, IsWalk, ListingExcludesRefusal, ListingIsOne, PairEncloses, Reaches, ReachesFirst, RefusalIsOne}
-pub use Rattle.listing_run.specs.{RestsOrSettles, RestsOrSettlesFirst, SettledListingIsClosed, StepsThen, StopsAt, WideKeepsListings, budget_at, deck_task}
-pub use Rattle.listing_run.specs.{is_between, last_line, left, listed, listing, no_budget, no_heads, no_zones, pairs_of, rests, settled, status_of, stop_of}
-pub use Rattle.listing_run.specs.{text_of, times_left}
+pub use Rattle.listing_run.specs.{AllSettle, AllSteps, AreFlowsAt, AreFlowsOf, BoundAll, BoundBetween, Bounds, BoundsMoves, EnclosesHistories, EndsAt}
+pub use Rattle.listing_run.specs.{FirstSteps, FlowsEnclose, HasLargeFlow, HasLargeFlowOf, HasNoBound, HistoriesBound, IsAtFirst, IsCutListing, IsListing}
+pub use Rattle.listing_run.specs.{IsListingBeside, IsNext, IsNextText, IsPushed, IsSettledBy, IsSolved, IsStep, IsStopEnd, IsWalk, ListingExcludesRefusal}
+pub use Rattle.listing_run.specs.{ListingIsOne, PairEncloses, Reaches, ReachesFirst, RefusalIsOne, RestsOrSettles, RestsOrSettlesFirst, SettledListingIsClosed}
+pub use Rattle.listing_run.specs.{StepsThen, StopsAt, WideKeepsListings, budget_at, deck_task, is_between, last_line, left, listed, listing, no_budget}
+pub use Rattle.listing_run.specs.{no_heads, no_zones, pairs_of, rests, settled, status_of, stop_of, text_of, times_left}
 pub use Rattle.listing_run.specs.Listing.{begun}
 pub use Rattle.listing_run.specs.declared.solving.Step.{Step}
 pub use Rattle.listing_run.specs.declared.steps.Steps.{Steps}

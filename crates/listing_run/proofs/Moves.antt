@@ -3,15 +3,14 @@ use Rattle.listing_run.proofs.Common.{◌≡◌, ℕ, length, List, ◌∷◌, �
 use Rattle.listing_run.proofs.Common.{◌≤ℤ◌, Option, Some, None, [], Fraction, EnclosesSigned, Bound, NoBound, ZoneFlow, RoundsSettleBoth, lower_at, upper_at}
 use Rattle.listing_run.proofs.Common.{PairKind, entries_at, Budget, TimeStep, heads_of, variable_heads, exact_step, Solved, EachMember, each_member, of_member}
 use Rattle.listing_run.proofs.Common.{member_cells, cell_of_member, IsMove, EnclosesMoves, IsStepBy, edges_by, LiesWithin, WideKeepsSteps, Task, Step, IsActive}
-use Rattle.listing_run.proofs.Common.{HeadsEnclose, AreFlowsAt, FlowsEncloseAt, IsStep, HasNoBound, no_heads, no_budget, no_zones, budget_at, Bounds}
-use Rattle.listing_run.proofs.Common.{BoundsMoves, FlowsStopBy, StopsAt, stop_of, pairs_of, IsSolved, FlowsEnclose, WideKeepsListings, deck_task, IfSome}
-use Rattle.listing_run.proofs.Common.{Entries, FlowModel, cell_count, times, EnclosesStep, ExactCell, Limits, Plain, Wide}
+use Rattle.listing_run.proofs.Common.{HeadsEnclose, AreFlowsAt, IsStep, HasNoBound, no_heads, no_budget, no_zones, budget_at, Bounds, BoundsMoves, HasLargeFlow}
+use Rattle.listing_run.proofs.Common.{StopsAt, stop_of, pairs_of, IsSolved, FlowsEnclose, WideKeepsListings, deck_task, IfSome, Entries, FlowModel, cell_count}
+use Rattle.listing_run.proofs.Common.{times, EnclosesStep, ExactCell, Limits, Plain, Wide}
 use Rattle.zone_flows.specs.{EncloseExact, HeadsLieWithin}
 use Rattle.step_chain.specs.{FailsBy as StepFailsBy}
 use Rattle.problem_builder.specs.GridHeads.{IsNamed}
 use Rattle.budget_bounds.specs.{EnclosesBudgets, HeadsAreWithin, budget_of}
 use Rattle.step_chain.specs.declared.solved.StepFault.{StepFault}
-use Rattle.listing_run.specs.declared.solving.Stop.{Stop}
 use Rattle.std.specs.Prelude.{Contains, Bool}
 use Rattle.std.proofs.lemmas.List.Elements.{All-contains_itself, All-weaker}
 use Rattle.step_problem.specs.declared.entry.Fixed.{Fixed}
@@ -19,7 +18,6 @@ use Rattle.deck_problems.specs.declared.decks.Decks.{Decks}
 use Rattle.listing_run.specs.{Steps}
 use Rattle.step_chain.specs.declared.solved.StepFault.TheVariants as chain
 use Rattle.listing_run.specs.declared.text.ListingEnd.TheVariants as ends
-use Rattle.listing_run.specs.declared.solving.Stop.TheVariants as stops
 
 -- The flows between the zones of a task, by the clauses of their call.
 -- a vector that lies within heads is enclosed by them
@@ -62,55 +60,57 @@ budget_by x lent r same is =
     let P : List Bound → Type 0 = λ v. r ≡ budget_of x.problem (lower_at v) (upper_at v) in
     sym (subst P same is)
 
-module _ (k : Task) (s : ℕ) (at : TimeStep) (old : List Bound) (digits : s ≡ k.digits) where
-  step_stops_by : (rounds : ℕ) (f : StepFault) → rounds ≡ k.rounds → StepFailsBy k.limits k.decks k.digits at old rounds f → (rest : List TimeStep) → StopsAt k old (at ∷ rest) (stop_of at f)
-  step_stops_by rounds (chain.NoBound n) same h rest = (refl, no_heads h)
-  step_stops_by rounds (chain.Unfinished o) same h rest =
-      let P : ℕ → Type 0 = λ r. RoundsSettleBoth h.problem (edges_by k.limits h.barrier) r → ⊥ in
-      (refl, record { problem = h.problem; barrier = h.barrier; posed = h.posed; open_rounds = subst P same h.unfinished.cause })
-  step_stops_by rounds chain.Memory same h rest = tt
+module _ (k : Task) (at : TimeStep) where
+  -- what the call of a step says of the heads that were lent to it, by the task's digits and of the old heads
+  module _ (s : ℕ) (digits : s ≡ k.digits) (lent old : List Bound) (same : lent ≡ old) where
+    by_task : (P : ℕ → List Bound → Type 0) → P s lent → P k.digits old
+    by_task P h = subst (P k.digits) same (let Q : ℕ → Type 0 = λ n. P n lent in subst Q digits h)
 
-  pub step_stops : (rounds : ℕ) (f : StepFault) → rounds ≡ k.rounds → StepFailsBy k.limits k.decks s at old rounds f → (rest : List TimeStep) → StopsAt k old (at ∷ rest) (stop_of at f)
-  step_stops rounds f same h = let P : ℕ → Type 0 = λ n. StepFailsBy k.limits k.decks n at old rounds f in step_stops_by rounds f same (subst P digits h)
+    pub step_stops : (rounds : ℕ) (f : StepFault) → rounds ≡ k.rounds → StepFailsBy k.limits k.decks s at lent rounds f → (rest : List TimeStep) → StopsAt k old (at ∷ rest) (stop_of at f)
+    step_stops rounds f is h rest = stops f (by_task (λ n o. StepFailsBy k.limits k.decks n at o rounds f) h)
+      where
+        stops : (f : StepFault) → StepFailsBy k.limits k.decks k.digits at old rounds f → StopsAt k old (at ∷ rest) (stop_of at f)
+        stops (chain.NoBound n) h = (refl, no_heads h)
+        stops (chain.Unfinished o) h =
+            let P : ℕ → Type 0 = λ r. RoundsSettleBoth h.problem (edges_by k.limits h.barrier) r → ⊥ in
+            (refl, record { problem = h.problem; barrier = h.barrier; posed = h.posed; open_rounds = subst P is h.unfinished.cause })
+        stops chain.Memory h = tt
 
-  module _ (kind : PairKind) (kinds : kind ≡ pairs_of k) (x : Solved) (solves : IsStepBy k.limits k.decks s at old kind x) (lent : List Bound) (same : lent ≡ x.bounds) where
-    by_task : IsSolved k at old x
-    by_task =
-        let P : ℕ → Type 0 = λ n. IsStepBy k.limits k.decks n at old kind x in
-        let Q : PairKind → Type 0 = λ pairs. IsStepBy k.limits k.decks k.digits at old pairs x in
-        subst Q kinds (subst P digits solves)
+    pub solved_by : (kind : PairKind) → kind ≡ pairs_of k → (x : Solved) → IsStepBy k.limits k.decks s at lent kind x → IsSolved k at old x
+    solved_by kind kinds x h = let Q : PairKind → Type 0 = λ pairs. IsStepBy k.limits k.decks k.digits at old pairs x in subst Q kinds (by_task (λ n o. IsStepBy k.limits k.decks n at o kind x) h)
 
-    pub budget_refused : (n : NoBound) → Err n ≡ budget_of x.problem (lower_at lent) (upper_at lent) → HasNoBound k at old n
-    budget_refused n is = no_budget x by_task (budget_by x lent (Err n) same is)
+    pub moves_by : (x : Solved) → EachMember k.decks (λ m. EnclosesMoves m s at lent x) → EachMember k.decks (λ m. EnclosesMoves m k.digits at old x)
+    moves_by x h = by_task (λ n o. EachMember k.decks (λ m. EnclosesMoves m n at o x)) h
 
-    -- a refusal of the flows between zones comes after the budget
-    pub flows_stop : (b : Budget) → Ok b ≡ budget_of x.problem (lower_at lent) (upper_at lent) → (stop : Stop) → FlowsStopBy k.zones x at stop → (rest : List TimeStep) → StopsAt k old (at ∷ rest) stop
-    flows_stop b is stops.Memory h rest = tt
-    flows_stop b is (stops.End (ends.NoBound t n)) h rest = (h.0, no_zones x b by_task (budget_by x lent (Ok b) same is) h.1)
-    flows_stop b is (stops.End ends.Whole) h rest = absurd h
-    flows_stop b is (stops.End (ends.Unfinished t)) h rest = absurd h
+  -- The budget and the flows between zones of a solved step, where its bounds were lent.
+  module _ (x : Solved) (lent : List Bound) (same : lent ≡ x.bounds) where
+    pub budget_refused : (n : NoBound) → Err n ≡ budget_of x.problem (lower_at lent) (upper_at lent) → (old : List Bound) → IsSolved k at old x → HasNoBound k at old n
+    budget_refused n is old solves = no_budget x solves (budget_by x lent (Err n) same is)
 
-    pub step_is : (b : Budget) (flows : List ZoneFlow) → AreFlowsAt k.zones x flows → Ok b ≡ budget_of x.problem (lower_at lent) (upper_at lent) → IsStep k at old (record { at = at; heads = x.heads; budget = b; zones = flows })
-    step_is b flows are is = record { solved = x; solves = by_task; time = refl; heads = refl; budget = budget_by x lent (Ok b) same is; zones = are }
+    module _ (b : Budget) (is : Ok b ≡ budget_of x.problem (lower_at lent) (upper_at lent)) where
+      -- a refusal of the flows between zones comes after the budget
+      pub flows_refused : (n : NoBound) → HasLargeFlow k.zones x n → (old : List Bound) → IsSolved k at old x → HasNoBound k at old n
+      flows_refused n large old solves = no_zones x b solves (budget_by x lent (Ok b) same is) large
 
-  pub bounds_moves : HeadsAreWithin → (x : Solved) (lent : List Bound) (b : Budget) (flows : List ZoneFlow) → lent ≡ x.bounds → EachMember k.decks (λ m. EnclosesMoves m s at old x) → EnclosesBudgets x.problem (lower_at lent) (upper_at lent) b →
-      ((c : ℕ) → IsNamed x.problem c → IsActive k.decks.first c) → FlowsEncloseAt k.zones x flows →
-      BoundsMoves k at old (record { at = at; heads = x.heads; budget = b; zones = flows })
-  bounds_moves within x lent b flows same encloses budget named zones =
-      let v : Step = record { at = at; heads = x.heads; budget = b; zones = flows } in
-      let B : List Bound → Type 0 = λ v. EnclosesBudgets x.problem (lower_at v) (upper_at v) b in
-      let terms : EnclosesBudgets x.problem (lower_at x.bounds) (upper_at x.bounds) b = subst B same budget in
-      each_member k.decks (λ m. (before : ℕ → Fraction) (d : ℕ) (X : ℕ → ℤ) → IsMove m at old before d X → Bounds k m v before d X) (λ m member before d X move.
-      let M : ℕ → Type 0 = λ n. EnclosesMoves m n at old x in
-      let by_digits : EnclosesMoves m k.digits at old x = subst M digits (of_member k.decks (λ f. EnclosesMoves f s at old x) encloses m member) in
-      let named_in = λ (c : ℕ) (n : IsNamed x.problem c). cell_of_member k.decks.first m (member_cells k.decks m member) c (named c n) in
-      let e = by_digits before d X move in
-      let Y : ℕ → ℤ = variable_heads (exact_step m at.period at.step before) X in
-      record {
-        heads = e.heads;
-        budget = terms k.digits (exact_step m at.period at.step before) (heads_of d Y) e.step (within (length x.problem) d Y (lower_at x.bounds) (upper_at x.bounds) move.some e.variables);
-        zones = flows_enclose k.zones x.problem x.heads flows zones k.digits (exact_step m at.period at.step before) (heads_of d X) e.step (heads_named m x.problem named_in x.heads (heads_of d X) (within_enclosed m x.heads d X move.some e.heads));
-      })
+      pub step_is : (flows : List ZoneFlow) → AreFlowsAt k.zones x flows → (old : List Bound) → IsSolved k at old x → IsStep k at old (record { at = at; heads = x.heads; budget = b; zones = flows })
+      step_is flows are old solves = record { solved = x; solves = solves; time = refl; heads = refl; budget = budget_by x lent (Ok b) same is; zones = are }
+
+    pub bounds_moves : HeadsAreWithin → (b : Budget) (flows : List ZoneFlow) → EnclosesBudgets x.problem (lower_at lent) (upper_at lent) b →
+        ((c : ℕ) → IsNamed x.problem c → IsActive k.decks.first c) → FlowsEnclose x.problem x.heads k.zones flows →
+        (old : List Bound) → EachMember k.decks (λ m. EnclosesMoves m k.digits at old x) → BoundsMoves k at old (record { at = at; heads = x.heads; budget = b; zones = flows })
+    bounds_moves within b flows budget named zones old encloses =
+        let v : Step = record { at = at; heads = x.heads; budget = b; zones = flows } in
+        let B : List Bound → Type 0 = λ v. EnclosesBudgets x.problem (lower_at v) (upper_at v) b in
+        let terms : EnclosesBudgets x.problem (lower_at x.bounds) (upper_at x.bounds) b = subst B same budget in
+        each_member k.decks (λ m. (before : ℕ → Fraction) (d : ℕ) (X : ℕ → ℤ) → IsMove m at old before d X → Bounds k m v before d X) (λ m member before d X move.
+        let named_in = λ (c : ℕ) (n : IsNamed x.problem c). cell_of_member k.decks.first m (member_cells k.decks m member) c (named c n) in
+        let e = of_member k.decks (λ f. EnclosesMoves f k.digits at old x) encloses m member before d X move in
+        let Y : ℕ → ℤ = variable_heads (exact_step m at.period at.step before) X in
+        record {
+          heads = e.heads;
+          budget = terms k.digits (exact_step m at.period at.step before) (heads_of d Y) e.step (within (length x.problem) d Y (lower_at x.bounds) (upper_at x.bounds) move.some e.variables);
+          zones = flows_enclose k.zones x.problem x.heads flows zones k.digits (exact_step m at.period at.step before) (heads_of d X) e.step (heads_named m x.problem named_in x.heads (heads_of d X) (within_enclosed m x.heads d X move.some e.heads));
+        })
 
 -- What is listed with plain limits is listed with wide ones: step by step.
 module _ (keeps : WideKeepsSteps) (d : Decks) (s : ℕ) (zones : Option (List ℕ)) (rounds : ℕ) (quick : Bool) where

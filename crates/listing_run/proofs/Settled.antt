@@ -1,10 +1,10 @@
 -- What a step does to its settler, by the clause of the call that solved it.
-use Rattle.listing_run.proofs.Common.{IfErr, IfOk, ◌≡◌, ◌∙◌, ℕ, List, length, Bool, true, inl, inr, sym, subst, refl, ℤ, Option, None, [], ◌∷◌, Result, Ok, Err}
-use Rattle.listing_run.proofs.Common.{SinkError, Bound, Entries, Edges, IsSettledPair, lower_at, upper_at, TimeStep, times, EachMember, AreStartHeadsFor}
-use Rattle.listing_run.proofs.Common.{IsProblemFor, each_member, of_member, Text, end_line, LieBetween, IsPosed, edges_by, LiesBetweenBy, LeadsBy, LeadsOrRests}
-use Rattle.listing_run.proofs.Common.{Steps, Task, AllSettledBy, AreSettledBy, IsSettledBy, PairEncloses, Reaches, ReachesFirst, RestsOrSettles}
-use Rattle.listing_run.proofs.Common.{RestsOrSettlesFirst, rests, settled, IsAtFirst, IsNextText, IsWalk, times_left, EnclosesHistories, IsListing, last_line}
-use Rattle.listing_run.proofs.Common.{listing, status_of, AllSteps, Limits, Plain, Wide, exact_step, variable_heads, LiesBetween, ListingEnd, Step}
+use Rattle.listing_run.proofs.Common.{IfErr, IfOk, ◌≡◌, ◌∙◌, ℕ, List, length, Bool, true, false, inl, inr, sym, subst, refl, ℤ, Option, None, [], ◌∷◌, Result}
+use Rattle.listing_run.proofs.Common.{Ok, Err, SinkError, Bound, Entries, Edges, IsSettledPair, lower_at, upper_at, TimeStep, times, EachMember}
+use Rattle.listing_run.proofs.Common.{AreStartHeadsFor, IsProblemFor, each_member, of_member, Text, end_line, LieBetween, IsPosed, edges_by, LiesBetweenBy}
+use Rattle.listing_run.proofs.Common.{LeadsBy, LeadsOrRests, Steps, Task, IsSettledBy, PairEncloses, Reaches, ReachesFirst, RestsOrSettles, RestsOrSettlesFirst}
+use Rattle.listing_run.proofs.Common.{rests, settled, IsAtFirst, IsNextText, IsWalk, times_left, EnclosesHistories, IsListing, last_line, listing, status_of}
+use Rattle.listing_run.proofs.Common.{AllSteps, Limits, Plain, Wide, exact_step, variable_heads, LiesBetween, ListingEnd, Step, ◌⊎◌}
 use Rattle.settle_driver.specs.{HoldsPair}
 use Rattle.cell_balance.proofs.Deep.{le_trans_z}
 use Rattle.listing_run.specs.Settlers.{begun}
@@ -51,19 +51,17 @@ module _ (k : Task) (s : ℕ) (at : TimeStep) (old : List Bound) (digits : s ≡
 
 module _ {S : Type 0} (begins : S → ℕ → ℕ → S → Type 0) (leads : S → List Entries → Edges → Bool → S → Type 0) (stop : S → Option SinkError) where
   module _ (k : Task) where
-    -- the steps so far: what settles the rest, from the heads of the last one on, settles all; and so it is with the first ones
+    -- the steps so far: what the settler did with the rest, from the heads of the last one on, it did with all
     pub record AreSettledSoFar (first : S) (s : Steps) (now : S) : Type 0 where
       pub start : List Bound
       pub is_start : AreStartHeadsFor k.decks start
-      pub goes_on : (end : S) → AreSettledBy begins leads stop k s.heads (times_left s) now end → AreSettledBy begins leads stop k start (times k.decks.first) first end
-      pub reaches : (end : S) → Reaches begins leads stop k s.heads (times_left s) now end → Reaches begins leads stop k start (times k.decks.first) first end
+      pub reaches : (whole : Bool) (end : S) → Reaches begins leads stop k whole s.heads (times_left s) now end → Reaches begins leads stop k whole start (times k.decks.first) first end
 
     pub none_settled : (s : Steps) (first : S) → IsWalk k s → IsAtFirst k s → AreSettledSoFar first s first
     none_settled s first w f = record {
       start = s.heads;
       is_start = f.start;
-      goes_on = λ end h. let P : List TimeStep → Type 0 = λ ts. AreSettledBy begins leads stop k s.heads ts first end in subst P (all_left k s w f) h;
-      reaches = λ end h. let P : List TimeStep → Type 0 = λ ts. Reaches begins leads stop k s.heads ts first end in subst P (all_left k s w f) h;
+      reaches = λ whole end h. let P : List TimeStep → Type 0 = λ ts. Reaches begins leads stop k whole s.heads ts first end in subst P (all_left k s w f) h;
     }
 
     pub one_more_settled : (first before told after : S) (s t : Steps) (at : TimeStep) (rest : List TimeStep) (text : Text) → times_left s ≡ at ∷ rest → AreSettledSoFar first s before → begins before at.period at.step told → IsNextText leads k s t told after text → stop after ≡ None → AreSettledSoFar first t after
@@ -75,24 +73,15 @@ module _ {S : Type 0} (begins : S → ℕ → ℕ → S → Type 0) (leads : S �
         record {
           start = so.start;
           is_start = so.is_start;
-          goes_on = λ end h.
-              let R : List TimeStep → Type 0 = λ ts. AreSettledBy begins leads stop k s.heads ts before end in
-              let H : List Bound → Type 0 = λ hs. AreSettledBy begins leads stop k hs (times_left t) after end in
-              so.goes_on end (subst R (sym n.time) (v, told, after, n.is, now, n.led, none, subst H n.heads h));
-          reaches = λ end h.
-              let R : List TimeStep → Type 0 = λ ts. Reaches begins leads stop k s.heads ts before end in
-              let H : List Bound → Type 0 = λ hs. Reaches begins leads stop k hs (times_left t) after end in
-              so.reaches end (subst R (sym n.time) (settled s.heads n.at (times_left t) v before told after end n.is now n.led none (subst H n.heads h)));
+          reaches = λ whole end h.
+              let R : List TimeStep → Type 0 = λ ts. Reaches begins leads stop k whole s.heads ts before end in
+              let H : List Bound → Type 0 = λ hs. Reaches begins leads stop k whole hs (times_left t) after end in
+              so.reaches whole end (subst R (sym n.time) (settled s.heads n.at (times_left t) v before told after end n.is now n.led none (subst H n.heads h)));
         }
 
-    pub all_settled : (first now : S) (s : Steps) → times_left s ≡ [] → AreSettledSoFar first s now → AllSettledBy begins leads stop k first now
-    all_settled first now s none so =
-        let R : List TimeStep → Type 0 = λ ts. AreSettledBy begins leads stop k s.heads ts now now in
-        record { start = so.start; is_start = so.is_start; settled = so.goes_on now (subst R (sym none) refl) }
-
-    -- nothing more was done
-    pub reaches_so_far : (first now : S) (s : Steps) → AreSettledSoFar first s now → ReachesFirst begins leads stop k first now
-    reaches_so_far first now s so = record { start = so.start; is_start = so.is_start; reaches = so.reaches now (rests s.heads (times_left s) now) }
+    -- nothing more was done; with no time left the account is whole
+    pub reaches_so_far : (whole : Bool) (first now : S) (s : Steps) → (whole ≡ false) ⊎ (times_left s ≡ []) → AreSettledSoFar first s now → ReachesFirst begins leads stop k whole first now
+    reaches_so_far whole first now s end so = record { start = so.start; is_start = so.is_start; reaches = so.reaches whole now (rests s.heads (times_left s) now end) }
 
     -- the problem of the next step, whatever the result of the call that solved it
     next_rests_or_settles : {X E : Type 0} (bytes : X → Text) (s t : Steps) (at : TimeStep) (rest : List TimeStep) (told after : S) (r : Result X E) → times_left s ≡ at ∷ rest →
@@ -104,13 +93,13 @@ module _ {S : Type 0} (begins : S → ℕ → ℕ → S → Type 0) (leads : S �
 
     -- one step more was begun, whatever its result
     pub reaches_more : {X E : Type 0} (bytes : X → Text) (s t : Steps) (at : TimeStep) (rest : List TimeStep) (first before told after : S) (r : Result X E) → times_left s ≡ at ∷ rest → AreSettledSoFar first s before → begins before at.period at.step told →
-        IfOk r (λ x. IsNextText leads k s t told after (bytes x)) → IfErr r (λ _. RestsOrSettlesFirst leads k (times_left s) s.heads told after) → ReachesFirst begins leads stop k first after
+        IfOk r (λ x. IsNextText leads k s t told after (bytes x)) → IfErr r (λ _. RestsOrSettlesFirst leads k (times_left s) s.heads told after) → ReachesFirst begins leads stop k false first after
     reaches_more bytes s t at rest first before told after r e so b n l =
-        let R : List TimeStep → Type 0 = λ ts. Reaches begins leads stop k s.heads ts before after in
+        let R : List TimeStep → Type 0 = λ ts. Reaches begins leads stop k false s.heads ts before after in
         record {
           start = so.start;
           is_start = so.is_start;
-          reaches = so.reaches after (subst R (sym e) (begun s.heads at rest before told after b (next_rests_or_settles bytes s t at rest told after r e n l)));
+          reaches = so.reaches false after (subst R (sym e) (begun s.heads at rest before told after refl b (next_rests_or_settles bytes s t at rest told after r e n l)));
         }
 
 -- A listing whose status is Ok is whole.

@@ -96,11 +96,7 @@ module _ (laws : Laws) (k : Task) (decks : AreDecks k.decks) (plain : k.quick �
         let times_same : v.at ≡ w.at = x.time ∙ sym y.time in
         let F : Solved → Type 0 = λ s. AreFlowsAt k.zones s w.zones in
         let zones : v.zones ≡ w.zones = same_flows x.solved.problem x.solved.heads k.zones v.zones w.zones x.zones (subst F (sym same) y.zones) in
-        let by_time : TimeStep → Step = λ t. record { at = t; heads = v.heads; budget = v.budget; zones = v.zones } in
-        let by_heads : List Bound → Step = λ hs. record { at = w.at; heads = hs; budget = v.budget; zones = v.zones } in
-        let by_budget : Budget → Step = λ b. record { at = w.at; heads = w.heads; budget = b; zones = v.zones } in
-        let by_zones : List ZoneFlow → Step = λ z. record { at = w.at; heads = w.heads; budget = w.budget; zones = z } in
-        ap by_time times_same ∙ ap by_heads all_heads ∙ ap by_budget budgets ∙ ap by_zones zones
+        λ i. record { at = times_same i; heads = all_heads i; budget = budgets i; zones = zones i }
 
     -- its heads are heads of all cells
     step_fits : (v : Step) → IsStep k at old v → AreGridHeads k.decks.first v.heads

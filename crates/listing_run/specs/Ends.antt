@@ -10,16 +10,15 @@ use Rattle.deck_problems.specs.{AreDecks, EachMember, AreStartHeadsFor, AreDeckT
 use Rattle.model_types.specs.declared.time_steps.TimeStep.{TimeStep}
 use Rattle.problem_builder.specs.{AreGridHeads, HeadsEnclose}
 use Rattle.deck_problems.specs.declared.problem.DeckTables.{DeckTables}
-use Rattle.step_chain.specs.declared.solved.Solved.{Solved}
 use Rattle.step_chain.specs.declared.solved.StepFault.{StepFault}
 use Rattle.run_puts.specs.{IsWanting, Text}
 use Rattle.run_puts.specs.declared.puts.Status.{Status}
 use Rattle.listing_run.specs.Listing.{BoundsMoves, text_of}
 use Rattle.listing_run.specs.Settlers.{IsSettledBy, EndsAt, IsStep, AllSteps, AllSettle}
 use Rattle.zone_pairs.specs.{AreZones}
-use Rattle.listing_run.specs.Tasks.{HasLargeFlow, deck_task}
+use Rattle.listing_run.specs.Tasks.{deck_task}
 use Rattle.listing_run.specs.declared.solving.Step.{Step}
-use Rattle.listing_run.specs.declared.steps.StepFlows.{StepFlows}
+use Rattle.listing_run.specs.declared.solving.StepFlows.{StepFlows}
 use Rattle.listing_run.specs.declared.steps.Steps.{Steps}
 use Rattle.listing_run.specs.declared.solving.Stop.{Stop}
 use Rattle.listing_run.specs.declared.steps.Task.{Task}
@@ -52,12 +51,6 @@ abbrev pub stop_of : TimeStep → StepFault → Stop
 stop_of at (chain.NoBound n) = stop.End (ends.NoBound at n)
 stop_of at (chain.Unfinished o) = stop.End (ends.Unfinished at)
 stop_of at chain.Memory = stop.Memory
-
--- why there are no flows between zones at a solved step of this time
-abbrev pub FlowsStopBy : Option (List ℕ) → Solved → TimeStep → Stop → Type 0
-FlowsStopBy zones x at (stop.End (ends.NoBound t n)) = (t ≡ at) × HasLargeFlow zones x n
-FlowsStopBy zones x at stop.Memory = Unit {0}
-FlowsStopBy zones x at other = ⊥
 
 -- the times of the steps that are not done
 abbrev pub times_left : Steps → List TimeStep

@@ -1,6 +1,6 @@
 -- What a run does to the settler of its steps, of the states S. It gives the settler the time of each step:
 -- `begins old period step new`. Then it settles the step's problem: `leads old p b ended new`. It asks why it has to stop: `stop`.
-use Rattle.std.specs.Prelude.{◌≡◌, ◌⊎◌, ℕ, List, [], ◌∷◌, Bool, true, Option, None, Result, Ok, Err}
+use Rattle.std.specs.Prelude.{◌≡◌, ◌⊎◌, ℕ, List, [], ◌∷◌, Bool, true, false, Option, None, Result, Ok, Err}
 use Rattle.outside.specs.declared.traits.SinkError.{SinkError}
 use Rattle.step_problem.specs.declared.heads.Bound.{Bound}
 use Rattle.step_problem.specs.Entries.{Entries}
@@ -117,32 +117,19 @@ module _ {S : Type 0} (leads : S → List Entries → Edges → Bool → S → T
   RestsOrSettlesFirst (at ∷ times) old before after = RestsOrSettles at old before after
 
 module _ {S : Type 0} (begins : S → ℕ → ℕ → S → Type 0) (leads : S → List Entries → Edges → Bool → S → Type 0) (stop : S → Option SinkError) (k : Task) where
-  -- A settler, where these times are left and `old` are the heads before them, did nothing more; or it was told the first
-  -- time, and then no problem was settled, or that of its step was; or that was settled with heads, which are the step's, the
-  -- settler had not to stop, and it went on so with the times after it.
-  pub data Reaches : List Bound → List TimeStep → S → S → Type 0 where
-    rests : (old : List Bound) (times : List TimeStep) (s : S) → Reaches old times s s
-    begun : (old : List Bound) (at : TimeStep) (times : List TimeStep) (s told t : S) → begins s at.period at.step told →
-        RestsOrSettles leads k at old told t → Reaches old (at ∷ times) s t
+  -- A settler, where these times are left and `old` are the heads before them, was told each time and settled the step of it with heads,
+  -- which are the step's, and never had to stop. Where the account is not whole, it did nothing more from some time on, or was told that
+  -- time and then settled no problem, or that of its step.
+  pub data Reaches (whole : Bool) : List Bound → List TimeStep → S → S → Type 0 where
+    rests : (old : List Bound) (times : List TimeStep) (s : S) → (whole ≡ false) ⊎ (times ≡ []) → Reaches whole old times s s
+    begun : (old : List Bound) (at : TimeStep) (times : List TimeStep) (s told t : S) → whole ≡ false → begins s at.period at.step told →
+        RestsOrSettles leads k at old told t → Reaches whole old (at ∷ times) s t
     settled : (old : List Bound) (at : TimeStep) (times : List TimeStep) (v : Step) (s told done t : S) → IsStep k at old v →
         begins s at.period at.step told → IsSettledBy leads k at old true told done → stop done ≡ None →
-        Reaches v.heads times done t → Reaches old (at ∷ times) s t
+        Reaches whole v.heads times done t → Reaches whole old (at ∷ times) s t
 
-  -- so it did with the first steps of the model, from STRT on
-  pub record ReachesFirst (before after : S) : Type 0 where
+  -- so it did with the steps of the model, from STRT on
+  pub record ReachesFirst (whole : Bool) (before after : S) : Type 0 where
     pub start : List Bound
     pub is_start : AreStartHeadsFor k.decks start
-    pub reaches : Reaches start (times k.decks.first) before after
-
-  -- A settler was told these times and settled the step of each, in turn, each from the heads of the one before it, and never had to stop.
-  abbrev pub AreSettledBy : List Bound → List TimeStep → S → S → Type 0
-  AreSettledBy old [] before after = after ≡ before
-  AreSettledBy old (at ∷ times) before after =
-      (v : Step) × (told : S) × (done : S) × IsStep k at old v × begins before at.period at.step told × IsSettledBy leads k at old true told done
-      × (stop done ≡ None) × AreSettledBy v.heads times done after
-
-  -- so it did with all steps of the model, from STRT on
-  pub record AllSettledBy (before after : S) : Type 0 where
-    pub start : List Bound
-    pub is_start : AreStartHeadsFor k.decks start
-    pub settled : AreSettledBy start (times k.decks.first) before after
+    pub reaches : Reaches whole start (times k.decks.first) before after

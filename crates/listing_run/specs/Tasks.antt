@@ -60,6 +60,3 @@ AreFlowsAt zones x flows = AreFlowsOf x.problem x.heads zones flows
 
 abbrev pub HasLargeFlow : Option (List ℕ) → Solved → NoBound → Type 0
 HasLargeFlow zones x n = HasLargeFlowOf x.problem x.heads zones n
-
-abbrev pub FlowsEncloseAt : Option (List ℕ) → Solved → List ZoneFlow → Type 0
-FlowsEncloseAt zones x flows = FlowsEnclose x.problem x.heads zones flows

@@ -8,6 +8,6 @@ pub mod steps;
 pub mod text;
 
 pub use putting::put_steps;
-pub use solving::{Step, Stop, flows_of, zone_slice};
-pub use steps::{StepFlows, Steps, Task};
+pub use solving::{Step, StepFlows, Stop, flows_of, zone_slice};
+pub use steps::{Steps, Task};
 pub use text::{ListingEnd, push_listing};

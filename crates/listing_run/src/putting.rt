@@ -1,10 +1,10 @@
 // Putting the steps, each while the next one is solved.
-ghost use Rattle.std.specs.Prelude.{◌≡◌, ◌⊎◌, List, ◌++◌, IfOk, IfErr, None, Some};
+ghost use Rattle.std.specs.Prelude.{◌≡◌, ◌⊎◌, List, ◌++◌, IfOk, IfErr, None, Some, true, false};
 ghost use Rattle.outside.specs.{Put};
 ghost use Rattle.outside.specs.declared.traits.SinkError.TheVariants.{Write};
 ghost use Rattle.run_puts.specs.{IsEnd, IsPut, IsRun, PutsMore};
-ghost use Rattle.listing_run.specs.{IsListingBeside, IsCutListing, last_line, status_of, AllSettledBy, ReachesFirst, RestsOrSettlesFirst, IsAtFirst};
-ghost use Rattle.listing_run.specs.{IsNextText, IsStopEnd, IsTask, IsWalk, StopsAt, times_left, pairs_of};
+ghost use Rattle.listing_run.specs.{IsListingBeside, IsCutListing, last_line, status_of, ReachesFirst, RestsOrSettlesFirst, IsAtFirst, IsNextText, IsStopEnd};
+ghost use Rattle.listing_run.specs.{IsTask, IsWalk, StopsAt, times_left, pairs_of};
 
 use crate::solving::Stop;
 use crate::steps::{Steps, Task};
@@ -99,8 +99,8 @@ fn put_walk<R: Threads + Sync, K: Sink + Send, S: StepSettler>(
     requires first { IsAtFirst task.now steps.old }
     ensures puts { PutsMore K.leads out.old out.new (λ more.
         IsRun (IsListingBeside (S.stop settler.new ≡ Some Write) task.now) (IsCutListing task.now) result more
-        × (result ≡ Status.Ok → AllSettledBy S.begins S.leads S.stop task.now settler.old settler.new)) }
-    ensures reaches { (settler.new ≡ settler.old) ⊎ ReachesFirst S.begins S.leads S.stop task.now settler.old settler.new }
+        × (result ≡ Status.Ok → ReachesFirst S.begins S.leads S.stop task.now true settler.old settler.new)) }
+    ensures reaches { (settler.new ≡ settler.old) ⊎ ReachesFirst S.begins S.leads S.stop task.now false settler.old settler.new }
 {
     let Ok(mut pending) = write_first(
         alloc,
@@ -156,13 +156,15 @@ pub fn put_steps<R: Threads + Sync, K: Sink + Send, S: StepSettler>(
     requires task { IsTask task.now }
     ensures puts { PutsMore K.leads out.old out.new (λ more.
         IsRun (IsListingBeside (S.stop settler.new ≡ Some Write) task.now) (IsCutListing task.now) result more
-        × (result ≡ Status.Ok → AllSettledBy S.begins S.leads S.stop task.now settler.old settler.new)) }
+        × (result ≡ Status.Ok → ReachesFirst S.begins S.leads S.stop task.now true settler.old settler.new)) }
     // Whatever the status: the settler was told the first times in turn, and each problem was that of its step, from the heads
     // of the step before it.
-    ensures reaches { (settler.new ≡ settler.old) ⊎ ReachesFirst S.begins S.leads S.stop task.now settler.old settler.new }
+    ensures reaches { (settler.new ≡ settler.old) ⊎ ReachesFirst S.begins S.leads S.stop task.now false settler.old settler.new }
 {
     let Ok(mut steps) = Steps::new(alloc, task) else {
         return put_memory(out);
     };
-    put_walk(rt, alloc, task, &mut steps, settler, out)
+    let status = put_walk(rt, alloc, task, &mut steps, settler, out);
+    drop(steps);
+    status
 }

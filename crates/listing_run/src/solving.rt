@@ -1,13 +1,16 @@
 // Solving a step.
-ghost use Rattle.std.specs.Prelude.{◌≡◌, ◌∷◌, List, Contains, IfOk, IfErr, MatchResult, true, ℕ, option_map};
+ghost use Rattle.std.specs.Prelude.{◌≡◌, ◌∷◌, List, IfOk, IfErr, ℕ, option_map};
+ghost use Rattle.step_problem.specs.declared.heads.Bound.{Bound};
+ghost use Rattle.cell_relax.specs.{AreWords};
 ghost use Rattle.model_types.specs.declared.time_steps.TimeStep.{TimeStep};
-ghost use Rattle.model_types.specs.{times};
 ghost use Rattle.problem_builder.specs.{AreGridHeads, IsActive};
 ghost use Rattle.problem_builder.specs.GridHeads.{IsNamed};
-ghost use Rattle.listing_run.specs.Settlers.{IsStep, IsSettledBy, RestsOrSettles};
+ghost use Rattle.deck_problems.specs.{EachMember};
+ghost use Rattle.step_chain.specs.{EnclosesMoves};
+ghost use Rattle.listing_run.specs.Settlers.{IsStep, IsSolved};
 ghost use Rattle.listing_run.specs.Listing.{BoundsMoves};
-ghost use Rattle.listing_run.specs.Ends.{IsTask, AreTablesOf, StopsAt, stop_of, FlowsStopBy};
-ghost use Rattle.listing_run.specs.Tasks.{pairs_of, AreFlowsAt, AreFlowsOf, FlowsEnclose, FlowsEncloseAt, NoFlowsBy};
+ghost use Rattle.listing_run.specs.Ends.{IsTask, StopsAt, stop_of, with_heads};
+ghost use Rattle.listing_run.specs.Tasks.{AreFlowsOf, FlowsEnclose, NoFlowsBy};
 ghost use Rattle.listing_run.specs.declared.solving.Stop.TheVariants.{Memory as OutOfMemory};
 ghost use Rattle.zone_pairs.specs.{AreZones};
 
@@ -15,61 +18,11 @@ use crate::steps::Task;
 use crate::text::ListingEnd;
 use budget_bounds::laws::heads_within;
 use budget_bounds::{Budget, budget};
-use deck_problems::DeckTables;
 use model_types::{FlowModel, Listed, TimeStep};
 use std::alloc::{AllocError, Global};
-use step_chain::{Solved, StepFault, next_step_with};
-use step_problem::{Bound, Problem, Settler, ZoneFlow};
+use step_chain::{Solved, StepFault};
+use step_problem::{Bound, Problem, ZoneFlow};
 use zone_flows::{ZoneFault, zone_flows};
-
-/// The step of a time, from the heads of all cells before it.
-pub(crate) fn solve<S: Settler>(
-    alloc: Global,
-    task: &Task,
-    tables: &mut DeckTables,
-    at: TimeStep,
-    old: &[Bound],
-    settler: &mut S,
-) -> Result<Step, Stop>
-    requires ready { S.ready settler.old }
-    requires rounds { S.rounds settler.old ≡ task.now.rounds }
-    requires pairs { S.pairs ≡ pairs_of task.now }
-    requires task { IsTask task.now }
-    requires tables { AreTablesOf task.now tables.old }
-    requires time { Contains (times task.now.decks.first) at }
-    requires old { AreGridHeads task.now.decks.first old.now }
-    ensures ready { S.ready settler.new }
-    ensures rounds { S.rounds settler.new ≡ S.rounds settler.old }
-    ensures tables { AreTablesOf task.now tables.new }
-    ensures step { IfOk result (IsStep task.now at old.now) }
-    ensures stop { IfErr result (λ stop. (rest : List TimeStep) → StopsAt task.now old.now (at ∷ rest) stop) }
-    ensures led { MatchResult result (λ _. IsSettledBy S.leads task.now at old.now true settler.old settler.new)
-        (λ _. RestsOrSettles S.leads task.now at old.now settler.old settler.new) }
-    ensures heads { IfOk result (λ v. AreGridHeads task.now.decks.first v.heads) }
-    // Every solution from exact heads within the old ones lies within the step's heads, budget and flows between zones.
-    ensures encloses { IfOk result (BoundsMoves task.now at old.now) }
-{
-    let solved = match next_step_with(alloc, task.limits, &task.decks, tables, at, old, settler) {
-        Ok(solved) => solved,
-        Err(fault) => return Err(stop_at(at, fault)),
-    };
-    heads_within();
-    solved.problem.recall_conditions();
-    match budget(&solved.problem, solved.bounds.as_slice()) {
-        Ok(budget) => {
-            let zones = flows_between(alloc, task, at, &solved)?;
-            Ok(Step {
-                at,
-                heads: solved.heads,
-                budget,
-                zones: Listed::new(zones),
-            })
-        }
-        Err(refusal) => Err(Stop::End(ListingEnd::NoBound(at, refusal))),
-    }
-}
-
-// A step of a listing.
 
 /// A step: its time, the heads of all cells of the grid by cell number, in units of 10^-9, its budget, and the flows
 /// between zones, in units of 10^-(s+9).
@@ -77,6 +30,14 @@ pub(crate) fn solve<S: Settler>(
 pub struct Step {
     pub at: TimeStep,
     pub heads: Listed<Bound>,
+    pub budget: Budget,
+    pub zones: Listed<ZoneFlow>,
+}
+
+/// A step but for its heads: its time, its budget, and its flows between zones.
+#[derive(Drop)]
+pub struct StepFlows {
+    pub at: TimeStep,
     pub budget: Budget,
     pub zones: Listed<ZoneFlow>,
 }
@@ -144,20 +105,31 @@ pub fn flows_of(
     zone_flows(alloc, problem, zones, heads)
 }
 
-/// The flows between the zones of a task at the solved step of a time. There are none without a zone file.
-pub(crate) fn flows_between(
+/// The budget of a solved step, and the flows between the zones of a task. There are none without a zone file.
+pub(crate) fn step_flows(
     alloc: Global,
     task: &Task,
     at: TimeStep,
     solved: &Solved,
-) -> Result<Vec<ZoneFlow>, Stop>
+) -> Result<StepFlows, Stop>
     requires task { IsTask task.now }
+    requires words { AreWords solved.now.problem solved.now.bounds }
     requires heads { AreGridHeads task.now.decks.first solved.now.heads }
     requires named { (c : ℕ) → IsNamed solved.now.problem c → IsActive task.now.decks.first c }
-    ensures flows { IfOk result (λ flows. AreFlowsAt task.now.zones solved.now flows.items) }
-    ensures stop { IfErr result (FlowsStopBy task.now.zones solved.now at) }
-    ensures encloses { IfOk result (λ flows. FlowsEncloseAt task.now.zones solved.now flows.items) }
+    ensures step { IfOk result (λ flows. (old : List Bound) → IsSolved task.now at old solved.now →
+        IsStep task.now at old (with_heads flows solved.now.heads)) }
+    // Every solution from exact heads within the old ones lies within the step's heads, budget and flows between zones.
+    ensures encloses { IfOk result (λ flows. (old : List Bound) → EachMember task.now.decks (λ m. EnclosesMoves m task.now.digits at old solved.now) →
+        BoundsMoves task.now at old (with_heads flows solved.now.heads)) }
+    ensures stop { IfErr result (λ stop. (old : List Bound) (rest : List TimeStep) → IsSolved task.now at old solved.now →
+        StopsAt task.now old (at ∷ rest) stop) }
 {
+    heads_within();
+    solved.problem.recall_conditions();
+    let budget = match budget(&solved.problem, solved.bounds.as_slice()) {
+        Ok(budget) => budget,
+        Err(refusal) => return Err(Stop::End(ListingEnd::NoBound(at, refusal))),
+    };
     match flows_of(
         alloc,
         &task.decks.first,
@@ -165,8 +137,21 @@ pub(crate) fn flows_between(
         &solved.problem,
         solved.heads.as_slice(),
     ) {
-        Ok(flows) => Ok(flows),
+        Ok(flows) => Ok(StepFlows {
+            at,
+            budget,
+            zones: Listed::new(flows),
+        }),
         Err(ZoneFault::NoBound(refusal)) => Err(Stop::End(ListingEnd::NoBound(at, refusal))),
         Err(ZoneFault::Memory) => Err(Stop::Memory),
     }
+}
+
+/// The heads of a solved step; the rest is dropped by calls.
+pub(crate) fn heads_of(solved: Solved) -> Listed<Bound>
+    ensures { result ≡ solved.heads }
+{
+    drop(solved.problem);
+    drop(solved.bounds);
+    solved.heads
 }

@@ -2,14 +2,14 @@
 ghost use Rattle.std.specs.Prelude.{◌≡◌, ◌+◌, ◌<◌, ◌∷◌, [], drop, get_or, length, IfOk, IfErr, IfSome, MatchOption};
 ghost use Rattle.listing_run.specs.{IsAtFirst, IsNext, IsNextText, IsTask, IsWalk, StopsAt, times_left, with_heads, RestsOrSettlesFirst, pairs_of};
 
-use crate::solving::{Stop, solve};
+use crate::solving::{StepFlows, Stop, heads_of, step_flows, stop_at};
 use crate::text::ListingEnd;
-use budget_bounds::Budget;
 use deck_problems::{DeckTables, Decks, start_heads_for};
 use listing_io::write_step;
 use model_types::{Limits, Listed, TimeStep, times};
 use std::alloc::{AllocError, Global};
-use step_problem::{Bound, Settler, ZoneFlow};
+use step_chain::next_step_with;
+use step_problem::{Bound, Settler};
 
 /// A walk over the steps of a task: the tables that the steps share, the times, the number of steps that are done, and
 /// the heads of all cells after them, which are STRT before the first step.
@@ -19,14 +19,6 @@ pub struct Steps {
     times: Listed<TimeStep>,
     done: usize,
     heads: Listed<Bound>,
-}
-
-/// A step but for its heads, which the walk has: its time, its budget, and its flows between zones.
-#[derive(Drop)]
-pub struct StepFlows {
-    pub at: TimeStep,
-    pub budget: Budget,
-    pub zones: Listed<ZoneFlow>,
 }
 
 impl Steps {
@@ -87,24 +79,27 @@ impl Steps {
         let Some(at) = self.time() else {
             return Err(Stop::End(ListingEnd::Whole));
         };
-        match solve(
+        match next_step_with(
             alloc,
-            task,
+            task.limits,
+            &task.decks,
             &mut self.tables,
             at,
             self.heads.as_slice(),
             settler,
         ) {
-            Ok(step) => {
-                self.heads = step.heads;
-                self.done += 1;
-                Ok(StepFlows {
-                    at: step.at,
-                    budget: step.budget,
-                    zones: step.zones,
-                })
-            }
-            Err(stop) => Err(stop),
+            Ok(solved) => match step_flows(alloc, task, at, &solved) {
+                Ok(flows) => {
+                    self.heads = heads_of(solved);
+                    self.done += 1;
+                    Ok(flows)
+                }
+                Err(stop) => {
+                    drop(solved);
+                    Err(stop)
+                }
+            },
+            Err(fault) => Err(stop_at(at, fault)),
         }
     }
 

@@ -75,7 +75,9 @@ pub fn push_listing<S: Settler>(
     ensures { IfOk result (λ end. IsPushed task.now end text.old.items text.new.items) }
 {
     let mut steps = Steps::new(alloc, task)?;
-    push_steps(alloc, text, task, &mut steps, settler)
+    let status = push_steps(alloc, text, task, &mut steps, settler);
+    drop(steps);
+    status
 }
 
 // How a listing ends.

@@ -46,5 +46,7 @@ pub fn summarize<S: Settler>(
     ensures { IfOk result (λ (summary, end). IsSummarized task.now summary end) }
 {
     let mut steps = Steps::new(alloc, task)?;
-    count_steps(alloc, task, &mut steps, settler)
+    let summary = count_steps(alloc, task, &mut steps, settler);
+    drop(steps);
+    summary
 }

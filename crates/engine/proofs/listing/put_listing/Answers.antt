@@ -1,10 +1,10 @@
-use Rattle.engine.proofs.Common.{IfSome, ℕ, Option, sym, subst, beside, IsWatched, ViewPutsOf}
+use Rattle.engine.proofs.Common.{IfSome, true, ℕ, Option, sym, subst, beside, IsWatched, ViewPutsOf}
 use Rattle.engine.proofs.listing.put_listing.Goals as goal
 
 pub returns-in-None-clause-puts : goal.returns-in-None-clause-puts
 returns-in-None-clause-puts g c = λ start puts h.
     let r = c.put_unwatched.ensures start puts h in
-    let P : Option ℕ → Type 0 = λ o. IfSome o (λ n. IsWatched c.args.task.now n (λ puts. g.W.Sink.leads c.args.side.now puts c.args.side.now)) in
+    let P : Option ℕ → Type 0 = λ o. IfSome o (λ n. IsWatched true c.args.task.now n (λ puts. g.W.Sink.leads c.args.side.now puts c.args.side.now)) in
     (r.0, r.1, (beside _ c.args.task.now c.put_unwatched.result r.0 r.2, λ e. subst P (sym c.in-None.is) tt))
 
 pub returns-in-None-clause-side : goal.returns-in-None-clause-side
@@ -15,7 +15,7 @@ returns-in-None-clause-side g c =
 pub returns-in-Some-clause-puts : goal.returns-in-Some-clause-puts
 returns-in-Some-clause-puts g c = λ start puts h.
     let r = c.put_texts.ensures.puts start puts h in
-    let P : Option ℕ → Type 0 = λ o. IfSome o (λ n. IsWatched c.args.task.now n (λ puts. g.W.Sink.leads c.args.side.now puts c.put_texts.new.side)) in
+    let P : Option ℕ → Type 0 = λ o. IfSome o (λ n. IsWatched true c.args.task.now n (λ puts. g.W.Sink.leads c.args.side.now puts c.put_texts.new.side)) in
     (r.0, r.1, (r.2.0, λ e. subst P (sym c.in-Some.is) (r.2.1 e)))
 
 pub returns-in-Some-clause-side : goal.returns-in-Some-clause-side

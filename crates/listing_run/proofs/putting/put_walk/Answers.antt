@@ -1,10 +1,10 @@
-use Rattle.listing_run.proofs.Common.{rules, ◌≡◌, ◌+◌, ◌∷◌, [], ◌++◌, drop, List, Some, None, inl, inr, refl, subst, sym, ◌∙◌, ap, append-nil, Put, taken}
-use Rattle.listing_run.proofs.Common.{TimeStep, joined, joined_thrice, put_was, lacks_at_first, IsListingBeside, IsCutListing, EndsAt, IsNextText, times_left}
-use Rattle.listing_run.proofs.Common.{Write, first_text}
+use Rattle.listing_run.proofs.Common.{rules, ◌≡◌, ◌+◌, ◌∷◌, [], ◌++◌, drop, List, Some, None, true, false, inl, inr, refl, subst, sym, ◌∙◌, ap, append-nil, Put}
+use Rattle.listing_run.proofs.Common.{taken, TimeStep, joined, joined_thrice, put_was, lacks_at_first, IsListingBeside, IsCutListing, EndsAt, IsNextText}
+use Rattle.listing_run.proofs.Common.{times_left, Write, first_text}
 use Rattle.listing_run.specs.declared.text.ListingEnd.TheVariants.{Whole}
 use Rattle.listing_run.proofs.Pieces.{ends_at_piece, ends_wanting, ends_with_line, under_way_at_first, under_way_more, beside, end_not_ok, ends_stopped}
 use Rattle.listing_run.proofs.Pieces.{put_not_ok, stop_end_not_ok, wanting_not_ok}
-use Rattle.listing_run.proofs.Settled.{all_settled, none_settled, one_more_settled, reaches_more, reaches_so_far}
+use Rattle.listing_run.proofs.Settled.{none_settled, one_more_settled, reaches_more, reaches_so_far}
 use Rattle.listing_run.proofs.UnderWay.{fewer_left}
 use Rattle.listing_run.proofs.putting.put_walk.Goals as goal
 
@@ -125,14 +125,14 @@ returns-clause-puts g c = λ start puts h.
     let E : List TimeStep → Type 0 = λ times. EndsAt k Whole s.heads times in (
       i.0 ++ p.0 ++ m.0,
       joined_thrice (λ s. g.K.Sink.leads start s c.put_end-2.new.out) puts i.0 p.0 m.0 m.1,
-      (beside _ k c.put_end-2.result (i.0 ++ p.0 ++ m.0) (ends_with_line k s c.loop-at.pending.items i.0 p.0 c.put_end-2.result i.2 m.0 Whole was (subst E (sym none) tt) m.2), λ e. all_settled g.S.StepSettler.begins g.S.Settler.leads g.S.StepSettler.stop k c.args.settler.now c.loop-at.settler s none c.loop-at.invariant.settled),
+      (beside _ k c.put_end-2.result (i.0 ++ p.0 ++ m.0) (ends_with_line k s c.loop-at.pending.items i.0 p.0 c.put_end-2.result i.2 m.0 Whole was (subst E (sym none) tt) m.2), λ e. reaches_so_far g.S.StepSettler.begins g.S.Settler.leads g.S.StepSettler.stop k true c.args.settler.now c.loop-at.settler s (inr none) c.loop-at.invariant.settled),
     )
 
 pub returns-in-Some-put_piece-clause-reaches : goal.returns-in-Some-put_piece-clause-reaches
-returns-in-Some-put_piece-clause-reaches g c = inr (reaches_so_far g.S.StepSettler.begins g.S.Settler.leads g.S.StepSettler.stop c.args.task.now c.args.settler.now c.loop-at.settler c.loop-at.steps c.loop-at.invariant.settled)
+returns-in-Some-put_piece-clause-reaches g c = inr (reaches_so_far g.S.StepSettler.begins g.S.Settler.leads g.S.StepSettler.stop c.args.task.now false c.args.settler.now c.loop-at.settler c.loop-at.steps (inl refl) c.loop-at.invariant.settled)
 
 pub returns-clause-reaches : goal.returns-clause-reaches
-returns-clause-reaches g c = inr (reaches_so_far g.S.StepSettler.begins g.S.Settler.leads g.S.StepSettler.stop c.args.task.now c.args.settler.now c.loop-at.settler c.loop-at.steps c.loop-at.invariant.settled)
+returns-clause-reaches g c = inr (reaches_so_far g.S.StepSettler.begins g.S.Settler.leads g.S.StepSettler.stop c.args.task.now false c.args.settler.now c.loop-at.settler c.loop-at.steps (inl refl) c.loop-at.invariant.settled)
 
 pub loop-at-smaller : goal.loop-at-smaller
 loop-at-smaller g c =
