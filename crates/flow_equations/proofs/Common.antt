@@ -6,7 +6,9 @@ pub use Rattle.std.proofs.Math.Nat.{mul-le-mul_left, one-le-pow}
 pub use Rattle.std.proofs.lemmas.Bool.{and_parts, cases_lt, cond-true, eqb-true, false≢true, le-leb, ne_eqb, not-true, or_cases, or_right}
 pub use Rattle.std.proofs.lemmas.Int.{clamps, ints}
 pub use Rattle.std.proofs.lemmas.List.{append-nil, get_or-map, get_or-replicate, length-map, length-replicate, reverse-append, take_all, take_more}
+pub use Rattle.std.proofs.lemmas.List.Folds.{find-append, list_any-append}
 pub use Rattle.std.specs.List.{filter_map, find, flat_map, list_any, range_with_len}
+pub use Rattle.std.specs.Option.{option_or, option_to_list}
 pub use Rattle.std.specs.Prelude.{All, Contains, nat_lt, replicate, reverse, unsigned_abs, ◌==◌}
 pub use Rattle.cell_balance.proofs.Enclosing.{same_over}
 pub use Rattle.cell_balance.proofs.Scaling.{IsOver-greater, IsOver-minus, IsOver-negated, IsOver-none, IsOver-plus, IsOver-signed, IsOver-times}

@@ -1,10 +1,11 @@
 -- Given heads at the last step, half-way, and in later periods.
-use Rattle.flow_equations.proofs.Common.{◌≡◌, ℕ, zero, suc, ◌+◌, ◌*◌, ◌-◌, ◌<◌, ◌≤◌, inl, inr, Bool, true, false, cond, ◌||◌, Some, None, List, [], ◌∷◌, ◌++◌}
+use Rattle.flow_equations.proofs.Common.{◌≡◌, ℕ, zero, suc, ◌+◌, ◌*◌, ◌-◌, ◌<◌, ◌≤◌, inl, inr, true, false, cond, ◌||◌, Option, Some, None, List, [], ◌∷◌, ◌++◌}
 use Rattle.flow_equations.proofs.Common.{length, take, get_or, refl, sym, ap, ◌∙◌, subst, arith, ℤ, pos, neg_ℤ, ◌+ℤ◌, ◌*ℤ◌, mul-pos, reverse, ◌==◌, find}
 use Rattle.flow_equations.proofs.Common.{flat_map, ne_eqb, cases_lt, ints, reverse-append, take_all, take_more, append-nil, number, size, Ratio, ratio, over}
 use Rattle.flow_equations.proofs.Common.{Fraction, den, signed, negated, IsOver, IsShare, diffs, as_diff, same_diff, swap, mul_assoc, IsOver-plus, IsOver-times}
 use Rattle.flow_equations.proofs.Common.{IsOver-negated, IsOver-signed, same_over, FlowModel, Period, one, period_at, no_period, passed, geometric, multiplier}
 use Rattle.flow_equations.proofs.Common.{given_in, last_given, between_heads, head_or_kept, kept_head, constant_head, Lasts, HasEqualSteps, HasGivenHead}
+use Rattle.flow_equations.proofs.Common.{find-append, option_or}
 use Rattle.std.proofs.lemmas.List.Concat.{flat_map-append}
 use Rattle.decimal_input.specs.Ratios.{den as ratio_den, Same as SameRatio}
 use Rattle.decimal_input.specs.Fractions.{plus, times, Same}
@@ -111,29 +112,13 @@ module _ (m : FlowModel) (p c : ℕ) (x : Given) (given : given_in (period_at m 
       let f = passed (period_at m p) 1 in
       subst (λ (z : Fraction). Same (plus z z) (plus (number x.shead) (number x.ehead))) (sym (named 1)) (half_way x f (ratio_den f) f.num (omega arith) (record { is = refl }) (passed_half (period_at m p) h e two))
 
-find_more : {X : Type 0} (test : X → Bool) (xs ys : List X) (x : X) → find test xs ≡ Some x → find test (xs ++ ys) ≡ Some x
-find_more test [] ys x e = absurd (let bad : None ≡ Some x = e in cc)
-find_more test (z ∷ zs) ys x e = by (test z) (find_more test zs ys x) e
-  where
-    by : (b : Bool) → (find test zs ≡ Some x → find test (zs ++ ys) ≡ Some x) → cond b (Some z) (find test zs) ≡ Some x → cond b (Some z) (find test (zs ++ ys)) ≡ Some x
-    by true h e = e
-    by false h e = h e
-
-find_past : {X : Type 0} (test : X → Bool) (xs ys : List X) → find test xs ≡ None → find test (xs ++ ys) ≡ find test ys
-find_past test [] ys e = refl
-find_past test (z ∷ zs) ys e = by (test z) (find_past test zs ys) e
-  where
-    by : (b : Bool) → (find test zs ≡ None → find test (zs ++ ys) ≡ find test ys) → cond b (Some z) (find test zs) ≡ None → cond b (Some z) (find test (zs ++ ys)) ≡ find test ys
-    by true h e = absurd (let bad : Some z ≡ None = e in cc)
-    by false h e = h e
-
 given_last : (us vs : List Given) (c : ℕ) (x : Given) → given_in vs c ≡ Some x → given_in (us ++ vs) c ≡ Some x
 unfolding given_in
-given_last us vs c x e = ap (find (λ y. y.cell.0 == c)) (reverse-append us vs) ∙ find_more (λ y. y.cell.0 == c) (reverse vs) (reverse us) x e
+given_last us vs c x e = ap (find (λ y. y.cell.0 == c)) (reverse-append us vs) ∙ find-append (λ (y : Given). y.cell.0 == c) (reverse vs) (reverse us) ∙ ap (λ (o : Option Given). option_or o (given_in us c)) e
 
 given_before : (us vs : List Given) (c : ℕ) → given_in vs c ≡ None → given_in (us ++ vs) c ≡ given_in us c
 unfolding given_in
-given_before us vs c e = ap (find (λ y. y.cell.0 == c)) (reverse-append us vs) ∙ find_past (λ y. y.cell.0 == c) (reverse vs) (reverse us) e
+given_before us vs c e = ap (find (λ y. y.cell.0 == c)) (reverse-append us vs) ∙ find-append (λ (y : Given). y.cell.0 == c) (reverse vs) (reverse us) ∙ ap (λ (o : Option Given). option_or o (given_in us c)) e
 
 module _ (ps : List Period) (c : ℕ) where
   abbrev list_at : ℕ → List Given

@@ -5,9 +5,8 @@ use Rattle.flow_equations.proofs.Common.{Fraction, den, whole, signed, negated, 
 use Rattle.flow_equations.proofs.Common.{IsOver-minus, IsOver-negated, IsOver-none, IsOver-signed, IsOver-greater, same_over, FlowModel, Entry, Well}
 use Rattle.flow_equations.proofs.Common.{place_in_layer, dec_at, area, IsPositive, period_at, EvapSource, is_chosen, evap_conductance, FlowSource}
 use Rattle.flow_equations.proofs.Common.{local_entries, as_well, All-In, map-In, filter_map-In, Contains-In, exact_flow, exact_evap, recharge_of}
-use Rattle.flow_equations.proofs.Common.{ReceivesRecharge, Evaporates, Received, Pumped}
+use Rattle.flow_equations.proofs.Common.{ReceivesRecharge, Evaporates, Received, Pumped, option_to_list}
 use Rattle.std.specs.Int.{int_max}
-use Rattle.std.specs.Option.{option_to_list}
 use Rattle.decimal_input.specs.Ratios.{den as ratio_den}
 use Rattle.decimal_input.specs.Fractions.{plus, times as product, Same}
 use Rattle.decimal_input.proofs.FloorLaws.{Same-trans}
