@@ -2,8 +2,9 @@
 // aggregate).
 use crate::aggregates::{Aggregates, pairs};
 use crate::matrix::Matrix;
-use crate::numbers::{NONE, at, label, label_at, put};
+use crate::numbers::{NONE, at, filled_value, label, label_at, list_of, put};
 use std::alloc::{AllocError, Global};
+use std::mem;
 
 /// The next coarser level: the aggregate of each unknown, and the matrix over aggregates.
 #[derive(Drop)]
@@ -65,26 +66,41 @@ impl Merger<'_> {
         }
         self.coarse.close_row(diagonal)
     }
+
+    // Makes the rows of all aggregates, if memory has not ended.
+    fn add_aggregates(
+        &mut self,
+        memory: Result<(), AllocError>,
+        count: u32,
+    ) -> Result<(), AllocError> {
+        memory?;
+        self.list_members();
+        for aggregate in 0..count {
+            self.add_aggregate(aggregate)?;
+        }
+        Ok(())
+    }
 }
 
-fn over_aggregates(
+fn over_aggregates<'a>(
     alloc: Global,
-    matrix: &Matrix,
-    aggregates: &Aggregates,
+    matrix: &'a Matrix,
+    aggregates: &'a Aggregates,
 ) -> Result<Matrix, AllocError> {
+    let mut memory = Ok(());
+    let count = aggregates.count as usize;
     let mut merger = Merger {
         matrix,
         of: aggregates.of.as_slice(),
-        first: vec![in alloc; NONE; aggregates.count as usize]?,
-        next: vec![in alloc; NONE; matrix.len()]?,
+        first: list_of(&mut memory, alloc, NONE, count),
+        next: list_of(&mut memory, alloc, NONE, matrix.len()),
         coarse: Matrix::new(alloc),
-        places: vec![in alloc; 0_usize; aggregates.count as usize]?,
+        places: list_of(&mut memory, alloc, 0, count),
     };
-    merger.list_members();
-    for aggregate in 0..aggregates.count {
-        merger.add_aggregate(aggregate)?;
-    }
-    Ok(merger.coarse)
+    let added = merger.add_aggregates(memory, aggregates.count);
+    let coarse = mem::replace(&mut merger.coarse, Matrix::new(alloc));
+    drop(merger);
+    filled_value(coarse, added)
 }
 
 /// Aggregates of mostly four unknowns: pairs of pairs. None where no two unknowns are coupled.

@@ -2,6 +2,7 @@
 use crate::budget::Budget;
 use crate::coarsen::coarser;
 use crate::matrix::Matrix;
+use crate::numbers::{filled_value, list_of};
 use crate::scaled::Scaled;
 use std::alloc::{AllocError, Global};
 
@@ -22,15 +23,20 @@ impl Levels {
             finest: Level::new(alloc, matrix, Vec::new(alloc))?,
             coarser: Vec::new(alloc),
         };
+        let added = levels.add_coarser(alloc);
+        filled_value(levels, added)
+    }
+
+    fn add_coarser(&mut self, alloc: Global) -> Result<(), AllocError> {
         for _ in 0..MOST_LEVELS {
-            let last = levels.coarser.last().unwrap_or(&levels.finest);
+            let last = self.coarser.last().unwrap_or(&self.finest);
             let Some(next) = coarser(alloc, &last.matrix)? else {
                 break;
             };
             let next = Level::new(alloc, next.matrix, next.aggregates)?;
-            levels.coarser.push(next)?;
+            self.coarser.push(next)?;
         }
-        Ok(levels)
+        Ok(())
     }
 
     /// The right side of the system, which `solve` uses up.
@@ -65,17 +71,18 @@ pub struct Level {
 
 impl Level {
     fn new(alloc: Global, matrix: Matrix, aggregates: Vec<u32>) -> Result<Level, AllocError> {
-        let count = matrix.len();
-        Ok(Level {
+        let (mut memory, count) = (Ok(()), matrix.len());
+        let level = Level {
             matrix,
             aggregates,
-            solution: vec![in alloc; 0; count]?,
-            residual: vec![in alloc; 0; count]?,
-            correction: vec![in alloc; 0; count]?,
-            direction: vec![in alloc; 0; count]?,
-            image: vec![in alloc; 0; count]?,
+            solution: list_of(&mut memory, alloc, 0, count),
+            residual: list_of(&mut memory, alloc, 0, count),
+            correction: list_of(&mut memory, alloc, 0, count),
+            direction: list_of(&mut memory, alloc, 0, count),
+            image: list_of(&mut memory, alloc, 0, count),
             energy: Scaled::ZERO,
-        })
+        };
+        filled_value(level, memory)
     }
 }
 

@@ -1,7 +1,30 @@
 // Reading, writing and cutting the numbers of a solver. Each call is total.
+use std::alloc::{AllocError, Global};
+
+/// A value that was filled, or nothing where memory ended. A value is dropped here in place of at each `?` of its maker.
+pub fn filled_value<T: Drop>(value: T, filled: Result<(), AllocError>) -> Result<T, AllocError> {
+    filled?;
+    Ok(value)
+}
 
 // No unknown is above 2^60 in magnitude, so that sums of products of weights and unknowns fit.
 const LONGEST: i128 = 1_152_921_504_606_846_976;
+
+/// A list that has `count` times a value. Where memory ends `memory` says so, and the list is empty: so a maker of several lists has one exit.
+pub fn list_of<T: Copy + Drop>(
+    memory: &mut Result<(), AllocError>,
+    alloc: Global,
+    value: T,
+    count: usize,
+) -> Vec<T> {
+    match vec![in alloc; value; count] {
+        Ok(list) => list,
+        Err(fault) => {
+            *memory = Err(fault);
+            Vec::new(alloc)
+        }
+    }
+}
 
 /// The label of nothing.
 pub const NONE: u32 = u32::MAX;

@@ -2,7 +2,7 @@
 use crate::lists::{Span, add};
 use crate::pattern::Pattern;
 use multigrid::Matrix;
-use multigrid::numbers::{NONE, at, label, label_at, put, width};
+use multigrid::numbers::{NONE, at, filled_value, label, label_at, list_of, put, width};
 use std::alloc::{AllocError, Global};
 
 /// A part of 1 is this number.
@@ -159,18 +159,19 @@ pub fn eliminate<'a>(
     pattern: &'a Pattern,
     matrix: &Matrix,
 ) -> Result<Elimination<'a>, AllocError> {
-    let count = pattern.len();
-    let mut elimination = Elimination {
+    let (mut memory, count) = (Ok(()), pattern.len());
+    let elimination = Elimination {
         pattern,
         scale: scale_of(matrix),
-        parts: vec![in alloc; 0; pattern.entries()]?,
-        diagonals: vec![in alloc; 0; count]?,
-        grounds: vec![in alloc; 0; count]?,
-        weights: vec![in alloc; 0; count]?,
-        firsts: vec![in alloc; NONE; count]?,
-        nexts: vec![in alloc; NONE; count]?,
-        entries: vec![in alloc; 0; count]?,
+        parts: list_of(&mut memory, alloc, 0, pattern.entries()),
+        diagonals: list_of(&mut memory, alloc, 0, count),
+        grounds: list_of(&mut memory, alloc, 0, count),
+        weights: list_of(&mut memory, alloc, 0, count),
+        firsts: list_of(&mut memory, alloc, NONE, count),
+        nexts: list_of(&mut memory, alloc, NONE, count),
+        entries: list_of(&mut memory, alloc, 0, count),
     };
+    let mut elimination = filled_value(elimination, memory)?;
     for column in 0..count {
         elimination.open(matrix, column);
         elimination.add_earlier(column);

@@ -2,7 +2,7 @@
 use crate::elimination::{Elimination, eliminate};
 use crate::pattern::Pattern;
 use multigrid::Matrix;
-use multigrid::numbers::{at, clamp_long, put, shift};
+use multigrid::numbers::{at, clamp_long, filled_value, list_of, put, shift};
 use std::alloc::{AllocError, Global};
 
 // Solutions of the residual that a solution leaves.
@@ -27,24 +27,25 @@ pub struct Factor {
 impl Factor {
     /// The factor of a matrix that a pattern fits: it is symmetric, and no row's couplings outweigh its diagonal, which is below 2^61.
     pub fn new(alloc: Global, pattern: &Pattern, matrix: Matrix) -> Result<Factor, AllocError> {
-        let count = matrix.len();
         let Elimination {
             scale,
             parts,
             diagonals,
             ..
         } = eliminate(alloc, pattern, &matrix)?;
-        Ok(Factor {
+        let (mut memory, count) = (Ok(()), matrix.len());
+        let factor = Factor {
             matrix,
             scale,
             parts,
             diagonals,
-            residual: vec![in alloc; 0; count]?,
-            solution: vec![in alloc; 0; count]?,
-            correction: vec![in alloc; 0; count]?,
-            flows: vec![in alloc; 0; count]?,
-            unknowns: vec![in alloc; 0; count]?,
-        })
+            residual: list_of(&mut memory, alloc, 0, count),
+            solution: list_of(&mut memory, alloc, 0, count),
+            correction: list_of(&mut memory, alloc, 0, count),
+            flows: list_of(&mut memory, alloc, 0, count),
+            unknowns: list_of(&mut memory, alloc, 0, count),
+        };
+        filled_value(factor, memory)
     }
 
     /// The right side of the system, which `solve` uses up: it leaves the residual there.

@@ -3,7 +3,7 @@ use crate::dissection::elimination_order;
 use crate::lists::Span;
 use crate::tree::Tree;
 use multigrid::Matrix;
-use multigrid::numbers::{at, label, label_at, put};
+use multigrid::numbers::{at, filled_value, label, label_at, put};
 use std::alloc::{AllocError, Global};
 
 /// An order of elimination, and the rows of each column of the factor below the diagonal, in ascending order. They depend on
@@ -28,8 +28,11 @@ fn inverse(alloc: Global, order: &[u32]) -> Result<Vec<u32>, AllocError> {
 }
 
 // Writes the rows of each column from its start on, if there is room for them. Returns where each column ends.
-fn list_rows(tree: Tree, starts: Vec<usize>, rows: &mut [u32]) -> Result<Vec<usize>, AllocError> {
-    let mut tree = tree;
+fn list_rows(
+    tree: &mut Tree,
+    starts: Vec<usize>,
+    rows: &mut [u32],
+) -> Result<Vec<usize>, AllocError> {
     let mut ends = starts;
     for row in 0..ends.len() {
         for column in tree.add_row(row)? {
@@ -66,26 +69,52 @@ impl Pattern {
     /// The pattern of a matrix, which fits all matrices with no other couplings. None where a factoring takes more than `most`
     /// operations.
     pub fn new(alloc: Global, matrix: &Matrix, most: u64) -> Result<Option<Pattern>, AllocError> {
-        let order = elimination_order(alloc, matrix)?;
-        let places = inverse(alloc, order.as_slice())?;
-        let tree = Tree::new(alloc, matrix, order.as_slice(), places.as_slice())?;
-        let none = vec![in alloc; 0_usize; order.len()]?;
-        let counts = list_rows(tree, none, &mut [])?;
-        let operations = operations_of(counts.as_slice());
-        if operations > most {
+        let mut pattern = Pattern {
+            order: elimination_order(alloc, matrix)?,
+            places: Vec::new(alloc),
+            starts: Vec::new(alloc),
+            rows: Vec::new(alloc),
+            operations: 0,
+        };
+        let found = pattern.find_starts(alloc, matrix);
+        let mut pattern = filled_value(pattern, found)?;
+        if pattern.operations > most {
+            drop(pattern);
             return Ok(None);
         }
-        let starts = starts_of(alloc, counts.as_slice())?;
-        let tree = Tree::new(alloc, matrix, order.as_slice(), places.as_slice())?;
-        let mut rows = vec![in alloc; 0_u32; at(starts.as_slice(), order.len())]?;
-        list_rows(tree, starts.clone()?, rows.as_mut_slice())?;
-        Ok(Some(Pattern {
-            order,
-            places,
-            starts,
-            rows,
-            operations,
-        }))
+        let found = pattern.find_rows(alloc, matrix);
+        Ok(Some(filled_value(pattern, found)?))
+    }
+
+    // Writes the rows of each column from these places on. Returns where each column ends.
+    fn list_rows(
+        &mut self,
+        alloc: Global,
+        matrix: &Matrix,
+        from: Vec<usize>,
+    ) -> Result<Vec<usize>, AllocError> {
+        let (order, places) = (self.order.as_slice(), self.places.as_slice());
+        let mut tree = Tree::new(alloc, matrix, order, places)?;
+        let ends = list_rows(&mut tree, from, self.rows.as_mut_slice());
+        drop(tree);
+        ends
+    }
+
+    // Finds where each column begins, and the operations of a factoring.
+    fn find_starts(&mut self, alloc: Global, matrix: &Matrix) -> Result<(), AllocError> {
+        self.places = inverse(alloc, self.order.as_slice())?;
+        let none = vec![in alloc; 0_usize; self.order.len()]?;
+        let counts = self.list_rows(alloc, matrix, none)?;
+        self.operations = operations_of(counts.as_slice());
+        self.starts = starts_of(alloc, counts.as_slice())?;
+        Ok(())
+    }
+
+    fn find_rows(&mut self, alloc: Global, matrix: &Matrix) -> Result<(), AllocError> {
+        let entries = at(self.starts.as_slice(), self.order.len());
+        self.rows.resize(entries, 0)?;
+        let starts = self.starts.clone()?;
+        Ok(drop(self.list_rows(alloc, matrix, starts)?))
     }
 
     /// The number of unknowns.
