@@ -7,10 +7,10 @@ use crate::half::{VISITS_OF_NEWTON, half_guess};
 use crate::linear::Linear;
 use crate::links::Links;
 use crate::newton::{Until, find_balanced};
-use crate::one_side::{OneSide, Step};
+use crate::one_side::Step;
 use crate::search::first_share;
 use crate::steps::{Kept, LastStep, high_start, low_start, take_last};
-use crate::work::Work;
+use crate::work::on_side;
 use std::alloc::{AllocError, Global};
 use std::thread::{Threads, join};
 use step_problem::{Barrier, Problem, Side};
@@ -21,18 +21,23 @@ fn near_balanced(
     heads: Vec<i64>,
     kept: &mut Option<Linear>,
 ) -> Result<Vec<i64>, AllocError> {
-    let side = OneSide::new(step, Side::Low)?;
-    let mut work = Work::new(&side, VISITS_OF_NEWTON);
-    find_balanced(&mut work, Until::Near, heads, kept)
+    on_side(
+        step,
+        Side::Low,
+        VISITS_OF_NEWTON,
+        |work| find_balanced(work, Until::Near, heads, kept),
+    )
 }
 
 // The room of the system of the slopes at these upper heads.
 fn find_room(step: &Step, heads: &[i64], kept: &mut Option<Linear>) -> Result<(), AllocError> {
-    let side = OneSide::new(step, Side::High)?;
-    let mut work = Work::new(&side, VISITS_OF_NEWTON);
-    let slopes = side.slopes(heads)?;
-    Linear::of(&mut work, slopes.as_slice(), kept)?.room(&mut work)?;
-    Ok(())
+    let room = on_side(step, Side::High, VISITS_OF_NEWTON, |work| {
+        let slopes = work.side.slopes(heads)?;
+        let room = Linear::of(work, slopes.as_slice(), kept)?.room(work);
+        drop(slopes);
+        room
+    });
+    Ok(drop(room?))
 }
 
 // Lower heads near balanced ones, and beside them the room, which is for both sides.
@@ -96,7 +101,13 @@ pub fn guess_beside<'a, R: Threads>(
 {
     let links = Links::of(alloc, p)?;
     let pattern = kept.eliminable.pattern(alloc, &links)?;
-    let step = Step::new(alloc, p, b, &links, pattern);
+    let step = Step {
+        alloc,
+        problem: p,
+        barrier: b,
+        links: &links,
+        pattern,
+    };
     let last = take_last(&mut kept.last, p);
     let (linear, beside) = (&mut kept.linear, &mut kept.beside);
     let halves = halves_at_once(rt, &step, &last, linear, beside);

@@ -1,5 +1,6 @@
 // How the shares of all cells change.
 use crate::branch::product;
+use multigrid::numbers::list_of;
 use std::alloc::{AllocError, Global};
 
 /// The next change of each cell's share, in units of 2^-PLACES. A step grows while its share goes on in one direction, and is halved where it
@@ -46,12 +47,17 @@ impl Changes {
     pub const LONGEST: i64 = 1 << 26;
 
     /// Each share becomes this one, in units of 2^-20.
-    pub fn new(alloc: Global, cells: usize, share: i64) -> Result<Changes, AllocError> {
-        Ok(Changes {
-            steps: vec![in alloc; 0; cells]?,
-            changes: vec![in alloc; share.saturating_mul(1 << 10); cells]?,
+    pub fn new(
+        memory: &mut Result<(), AllocError>,
+        alloc: Global,
+        cells: usize,
+        share: i64,
+    ) -> Changes {
+        Changes {
+            steps: list_of(memory, alloc, 0, cells),
+            changes: list_of(memory, alloc, share.saturating_mul(1 << 10), cells),
             longest: 0,
-        })
+        }
     }
 
     /// The flows out of all cells that the changes make.

@@ -3,6 +3,7 @@ use crate::gallop::{gallop, way_between};
 use crate::sink::Sink;
 use crate::work::Work;
 use std::alloc::AllocError;
+use std::mem;
 
 // The greatest number of fires.
 const MOST_FIRES: u32 = 1_000_000;
@@ -37,12 +38,15 @@ pub fn descend(
         let units = wait.saturating_sub(since).max(1);
         let mut sink = Sink::new(side, heads.as_slice(), units)?;
         if sink.is_empty() || work.budget.left <= end {
-            return Ok(sink.order);
+            let order = mem::replace(&mut sink.order, Vec::new(side.alloc));
+            drop(sink);
+            drop(from);
+            return Ok(order);
         }
-        since = since.saturating_add(sink.fall_through(side)?);
-        *heads = sink.heads(side)?;
+        let fallen = sink.fall_through(side, heads);
         work.budget.spend(sink.visits);
         drop(sink);
+        since = since.saturating_add(fallen?);
         if since >= wait {
             since = 0;
             let way = way_between(side, from.as_slice(), heads.as_slice(), 1)?;

@@ -1,6 +1,7 @@
 // The pattern of a problem's links, where elimination is worth its operations.
 use crate::links::Links;
 use multigrid::Matrix;
+use multigrid::numbers::filled_value;
 use star_mesh::Pattern;
 use std::alloc::{AllocError, Global};
 
@@ -16,18 +17,27 @@ pub enum Eliminable {
     Yes(Pattern),
 }
 
+// Couples each cell with those that it is linked with.
+fn couple_cells(matrix: &mut Matrix, links: &Links) -> Result<(), AllocError> {
+    for cell in 0..links.len() {
+        for edge in links.edges_at(cell) {
+            matrix.couple(edge.other, 1)?;
+        }
+        matrix.close_row(1)?;
+    }
+    Ok(())
+}
+
 impl Eliminable {
     // That of these links.
     fn of(alloc: Global, links: &Links) -> Result<Eliminable, AllocError> {
         let mut matrix = Matrix::new(alloc);
-        for cell in 0..links.len() {
-            for edge in links.edges_at(cell) {
-                matrix.couple(edge.other, 1)?;
-            }
-            matrix.close_row(1)?;
-        }
+        let coupled = couple_cells(&mut matrix, links);
+        let matrix = filled_value(matrix, coupled)?;
         let most = MOST_OPERATIONS.saturating_mul(links.len() as u64);
-        Ok(match Pattern::new(alloc, &matrix, most)? {
+        let pattern = Pattern::new(alloc, &matrix, most);
+        drop(matrix);
+        Ok(match pattern? {
             Some(pattern) => Eliminable::Yes(pattern),
             None => Eliminable::No,
         })

@@ -77,7 +77,13 @@ pub fn guess_heads<'a>(
 {
     let links = Links::of(alloc, p)?;
     let pattern = kept.eliminable.pattern(alloc, &links)?;
-    let step = Step::new(alloc, p, b, &links, pattern);
+    let step = Step {
+        alloc,
+        problem: p,
+        barrier: b,
+        links: &links,
+        pattern,
+    };
     let last = take_last(&mut kept.last, p);
     let halves = halves_in_turn(&step, &last, &mut kept.linear);
     drop(last);

@@ -5,7 +5,7 @@ use crate::newton::{Until, find_balanced};
 use crate::one_side::{OneSide, Step};
 use crate::raise::raise_within;
 use crate::steps::LastStep;
-use crate::work::Work;
+use crate::work::{Work, on_side};
 use multigrid::numbers::{at, greatest};
 use std::alloc::AllocError;
 use step_problem::Side;
@@ -56,14 +56,15 @@ fn lowest_near(
     let mut work = Work::new(side, VISITS_OF_DESCENT);
     let turns = TURNS.saturating_mul(side.len() as u64);
     if !raise_within(&mut work, &mut heads, None, turns)?.is_settled {
+        drop(heads);
         return Ok(None);
     }
     let lowest = lowest_from(&mut work, heads, lowest.share)?;
-    Ok(if work.budget.is_spent() {
-        None
-    } else {
-        Some(lowest)
-    })
+    if work.budget.is_spent() {
+        drop(lowest);
+        return Ok(None);
+    }
+    Ok(Some(lowest))
 }
 
 // The first settled heads below balanced ones: near those of the last step, or by a search.
@@ -87,7 +88,9 @@ fn lowest_of(
     let units = greatest(room.as_slice()).unsigned_abs() >> 10;
     let visits = units.max(VISITS_OF_DESCENT).min(MOST_VISITS);
     let mut work = Work::new(work.side, visits);
-    lowest_below(&mut work, balanced, room.as_slice(), share)
+    let lowest = lowest_below(&mut work, balanced, room.as_slice(), share);
+    drop(room);
+    lowest
 }
 
 /// The guess of a side from heads where Newton's method starts, with a share of the room to try first, and that of the last step. The linear
@@ -104,9 +107,9 @@ pub fn half_guess(
         Side::Low => &last.low,
         Side::High => &last.high,
     });
-    let side = OneSide::new(step, side)?;
-    let mut work = Work::new(&side, VISITS_OF_NEWTON);
-    let balanced = find_balanced(&mut work, Until::Balanced, start, kept)?;
-    let lowest = lowest_of(&mut work, balanced.as_slice(), share, last, kept)?;
-    Ok(HalfGuess { balanced, lowest })
+    on_side(step, side, VISITS_OF_NEWTON, |work| {
+        let balanced = find_balanced(work, Until::Balanced, start, kept)?;
+        let lowest = lowest_of(work, balanced.as_slice(), share, last, kept)?;
+        Ok(HalfGuess { balanced, lowest })
+    })
 }

@@ -245,6 +245,7 @@ impl Linear {
         if !self.method.is_by_cycles() || self.is_solved(BITS_OF_ROOM) || pattern.is_none() {
             return Ok(room);
         }
+        drop(room);
         *self = Linear::new(work, self.slopes.clone()?, pattern)?;
         self.is_hard = true;
         self.solved_room(work)

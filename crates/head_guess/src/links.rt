@@ -45,12 +45,23 @@ pub struct Row {
 }
 
 /// The rows of all cells, with their edges.
-#[derive(Drop)]
 pub struct Links {
     rows: Vec<Row>,
     edges: Vec<Edge>,
     // The number of cells with one link of more than two fifths of the conductance of all its links.
     uneven: u64,
+}
+
+impl Drop for Links {
+    fn drop(self) {
+        let Links {
+            rows,
+            edges,
+            uneven: _,
+        } = self;
+        drop(rows);
+        drop(edges);
+    }
 }
 
 impl Row {

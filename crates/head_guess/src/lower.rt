@@ -43,6 +43,7 @@ fn lowest_after(
             share,
         });
     }
+    drop(order);
     let lower = settled_by_shares(work, balanced, share)?;
     lowest_from(work, lower.unwrap_or(heads), share)
 }

@@ -4,8 +4,9 @@ use crate::linear::Linear;
 use crate::one_side::OneSide;
 use crate::ramp::Bends;
 use crate::work::Work;
-use multigrid::numbers::{at, clamp_long, put, shift, width};
+use multigrid::numbers::{at, clamp_long, filled_value, list_of, put, shift, width};
 use std::alloc::AllocError;
+use std::mem;
 use step_problem::problem::HEAD_LIMIT;
 
 const MOST_ROUNDS: u32 = 60;
@@ -48,17 +49,18 @@ struct Newton {
 
 impl Newton {
     fn new(side: &OneSide, heads: Vec<i64>) -> Result<Newton, AllocError> {
-        let count = heads.len();
-        let mut newton = Newton {
+        let (mut memory, count) = (Ok(()), heads.len());
+        let newton = Newton {
             tops: heads.clone()?,
             heads,
             slack: 0,
-            balances: vec![in side.alloc; 0; count]?,
-            slopes: vec![in side.alloc; 0; count]?,
+            balances: list_of(&mut memory, side.alloc, 0, count),
+            slopes: list_of(&mut memory, side.alloc, 0, count),
         };
+        let mut newton = filled_value(newton, memory)?;
         newton.linearize(side);
-        newton.begin_level(side)?;
-        Ok(newton)
+        let begun = newton.begin_level(side);
+        filled_value(newton, begun)
     }
 
     fn linearize(&mut self, side: &OneSide) {
@@ -172,6 +174,34 @@ impl Newton {
         };
         (longest, may_end && is_solved)
     }
+
+    // Rounds until no head moves by more than a few units, or they or the budget end.
+    fn solve(
+        &mut self,
+        work: &mut Work,
+        until: Until,
+        kept: &mut Option<Linear>,
+    ) -> Result<(), AllocError> {
+        for _ in 0..MOST_ROUNDS {
+            let linear = Linear::of(work, self.slopes.as_slice(), kept)?;
+            let alone = self.longest_move();
+            if until == Until::Near && alone < SHORT {
+                break;
+            }
+            let (longest, is_last) = self.step(work, until, alone, linear);
+            if work.budget.is_spent() {
+                break;
+            }
+            self.linearize(work.side);
+            if longest <= NEAR || is_last && linear.is_near(self.slopes.as_slice()) {
+                if !self.set_tops(work.side) {
+                    break;
+                }
+                self.linearize(work.side);
+            }
+        }
+        Ok(())
+    }
 }
 
 /// How far Newton's method goes: to heads from which one more round leads to the balanced ones; to heads about which all balances are straight, so
@@ -191,25 +221,9 @@ pub fn find_balanced(
     heads: Vec<i64>,
     kept: &mut Option<Linear>,
 ) -> Result<Vec<i64>, AllocError> {
-    let side = work.side;
-    let mut newton = Newton::new(side, heads)?;
-    for _ in 0..MOST_ROUNDS {
-        let linear = Linear::of(work, newton.slopes.as_slice(), kept)?;
-        let alone = newton.longest_move();
-        if until == Until::Near && alone < SHORT {
-            break;
-        }
-        let (longest, is_last) = newton.step(work, until, alone, linear);
-        if work.budget.is_spent() {
-            break;
-        }
-        newton.linearize(side);
-        if longest <= NEAR || is_last && linear.is_near(newton.slopes.as_slice()) {
-            if !newton.set_tops(side) {
-                break;
-            }
-            newton.linearize(side);
-        }
-    }
-    Ok(newton.heads)
+    let mut newton = Newton::new(work.side, heads)?;
+    let solved = newton.solve(work, until, kept);
+    let heads = mem::replace(&mut newton.heads, Vec::new(work.side.alloc));
+    drop(newton);
+    filled_value(heads, solved)
 }

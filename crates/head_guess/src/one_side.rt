@@ -1,5 +1,4 @@
 // One side of a problem.
-ghost use Rattle.std.specs.Prelude.{◌≡◌};
 ghost use Rattle.step_problem.specs.{IsHead};
 
 use crate::branch::{Branch, Known, head_on};
@@ -22,26 +21,6 @@ pub struct Step<'a> {
     pub links: &'a Links,
     /// The pattern of the links, if elimination pays.
     pub pattern: Option<&'a Pattern>,
-}
-
-impl<'a> Step<'a> {
-    pub fn new(
-        alloc: Global,
-        problem: &'a Problem,
-        barrier: &'a Barrier,
-        links: &'a Links,
-        pattern: Option<&'a Pattern>,
-    ) -> Step<'a>
-        ensures { result.problem.now ≡ problem.now }
-    {
-        Step {
-            alloc,
-            problem,
-            barrier,
-            links,
-            pattern,
-        }
-    }
 }
 
 /// One side of a problem, turned so that heads rise: the lower heads above their floor, or the upper heads with

@@ -10,7 +10,7 @@ use crate::newton::{Until, find_balanced};
 use crate::one_side::{OneSide, Step};
 use crate::rest::leave_rest;
 use crate::steps::{Kept, high_start, low_start};
-use crate::work::Work;
+use crate::work::{Work, on_side};
 use star_mesh::Pattern;
 use std::alloc::{AllocError, Global};
 use step_problem::{Barrier, Bound, Problem, Side};
@@ -63,7 +63,9 @@ fn half_pair(
     if is_straight_to(work.side, half.lower.as_slice(), kept)? {
         return Ok(half);
     }
-    let near = find_balanced(work, Until::Balanced, half.near, kept)?;
+    let HalfPair { near, lower } = half;
+    drop(lower);
+    let near = find_balanced(work, Until::Balanced, near, kept)?;
     half_from(work, near, 1, kept)
 }
 
@@ -80,6 +82,9 @@ fn high_half(
         if is_straight_to(work.side, half.lower.as_slice(), kept)? {
             return Ok(half);
         }
+        drop(half);
+    } else {
+        drop(start);
     }
     let start = high_start(step, low.near.as_slice(), &None)?;
     half_pair(work, start, kept)
@@ -107,13 +112,11 @@ fn half_of(
     kept: &mut Option<Linear>,
 ) -> Result<HalfPair, AllocError> {
     let side = if low.is_some() { Side::High } else { Side::Low };
-    let side = OneSide::new(step, side)?;
-    let mut work = Work::new(&side, visits);
-    match (failed, low) {
-        (Some(pair), _) => wider_half(&mut work, pair, kept),
-        (None, Some(low)) => high_half(step, &mut work, low, kept),
-        (None, None) => half_pair(&mut work, low_start(step, &None)?, kept),
-    }
+    on_side(step, side, visits, |work| match (failed, low) {
+        (Some(pair), _) => wider_half(work, pair, kept),
+        (None, Some(low)) => high_half(step, work, low, kept),
+        (None, None) => half_pair(work, low_start(step, &None)?, kept),
+    })
 }
 
 // Both sides, from balanced heads, or wider than a failed pair.
@@ -129,14 +132,23 @@ fn pair_of<'a>(
 ) -> Result<Vec<Bound>, AllocError>
     ensures { IfOk result (λ v. AreWords p.now v.items) }
 {
-    let step = Step::new(alloc, p, b, links, pattern);
+    let step = Step {
+        alloc,
+        problem: p,
+        barrier: b,
+        links,
+        pattern,
+    };
     let low = half_of(&step, None, failed, visits, kept)?;
     let mut high = half_of(&step, Some(&low), failed, visits, kept)?;
     // They do not cross.
     for (head, other) in high.lower.iter_mut().zip(low.lower.as_slice()) {
         *head = (*head).min(0_i64.saturating_sub(*other));
     }
-    bounds_of(&step, low.lower.as_slice(), high.lower.as_slice())
+    let bounds = bounds_of(&step, low.lower.as_slice(), high.lower.as_slice());
+    drop(low);
+    drop(high);
+    bounds
 }
 
 // Whether cycles have left a system unsolved.

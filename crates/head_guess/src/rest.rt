@@ -1,6 +1,7 @@
 // Heads at which a part of each slope is left as a balance.
 use crate::branch::product;
 use crate::linear::Linear;
+use crate::one_side::OneSide;
 use crate::work::Work;
 use multigrid::numbers::at;
 use std::alloc::AllocError;
@@ -29,6 +30,39 @@ fn corrected_heads(
     work.side.heads_below(heads, way)
 }
 
+// By how much each balance exceeds what is to be left of it.
+fn excess_balances(
+    side: &OneSide,
+    heads: &[i64],
+    slopes: &[i64],
+    times: i64,
+) -> Result<Vec<i128>, AllocError> {
+    let mut balances = Vec::with_capacity(side.alloc, slopes.len())?;
+    for (cell, slope) in slopes.iter().enumerate() {
+        let balance = side.balance(cell, at(heads, cell), |other| at(heads, other));
+        balances.push(balance.wrapping_sub(rest_of(*slope, times)))?;
+    }
+    Ok(balances)
+}
+
+// Corrected heads by the system of these slopes, and by elimination where cycles leave it unsolved.
+fn solved_heads(
+    work: &mut Work,
+    heads: &[i64],
+    slopes: &[i64],
+    balances: &[i128],
+    kept: &mut Option<Linear>,
+) -> Result<Vec<i64>, AllocError> {
+    let linear = Linear::of(work, slopes, kept)?;
+    let lower = corrected_heads(work, linear, heads, balances)?;
+    if linear.is_solved(BITS) || work.side.pattern.is_none() {
+        return Ok(lower);
+    }
+    drop(lower);
+    let linear = Linear::of(work, slopes, kept)?;
+    corrected_heads(work, linear, heads, balances)
+}
+
 /// Heads at which each slope is left as often, by one round of Newton's method from these heads. The linear system is kept.
 pub fn leave_rest(
     work: &mut Work,
@@ -36,18 +70,10 @@ pub fn leave_rest(
     times: i64,
     kept: &mut Option<Linear>,
 ) -> Result<Vec<i64>, AllocError> {
-    let side = work.side;
-    let slopes = side.slopes(heads)?;
-    let balances = slopes.iter().enumerate().map(|(cell, slope)| {
-        let balance = side.balance(cell, at(heads, cell), |other| at(heads, other));
-        balance.wrapping_sub(rest_of(*slope, times))
-    });
-    let balances: Vec<i128> = balances.collect(side.alloc)?;
-    let linear = Linear::of(work, slopes.as_slice(), kept)?;
-    let lower = corrected_heads(work, linear, heads, balances.as_slice())?;
-    if linear.is_solved(BITS) || side.pattern.is_none() {
-        return Ok(lower);
-    }
-    let linear = Linear::of(work, slopes.as_slice(), kept)?;
-    corrected_heads(work, linear, heads, balances.as_slice())
+    let slopes = work.side.slopes(heads)?;
+    let balances = excess_balances(work.side, heads, slopes.as_slice(), times)?;
+    let lower = solved_heads(work, heads, slopes.as_slice(), balances.as_slice(), kept);
+    drop(slopes);
+    drop(balances);
+    lower
 }

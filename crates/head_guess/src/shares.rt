@@ -5,9 +5,10 @@ use crate::linear::Linear;
 use crate::raise::{raise_counted, raise_within};
 use crate::system::visits_of_solution;
 use crate::work::Work;
-use multigrid::numbers::at;
+use multigrid::numbers::{at, filled_value};
 use star_mesh::Pattern;
 use std::alloc::AllocError;
+use std::mem;
 
 // The bits of a solution below a unit, and those to which its residuals are solved.
 const PLACES: u32 = 10;
@@ -63,13 +64,20 @@ impl Shares {
                 *slope = 0;
             }
         }
-        let mut shares = Shares {
+        let mut memory = Ok(());
+        let shares = Shares {
             linear: Linear::new(work, slopes, side.pattern)?,
-            changes: Changes::new(side.alloc, balanced.len(), share)?,
-            heads: Vec::from_slice(side.alloc, balanced)?,
+            changes: Changes::new(&mut memory, side.alloc, balanced.len(), share),
+            heads: Vec::new(side.alloc),
         };
-        shares.lower(work)?;
-        Ok(shares)
+        let mut shares = filled_value(shares, memory)?;
+        let begun = shares.begin(work, balanced);
+        filled_value(shares, begun)
+    }
+
+    fn begin(&mut self, work: &mut Work, balanced: &[i64]) -> Result<(), AllocError> {
+        self.heads.extend_from_slice(balanced)?;
+        self.lower(work)
     }
 
     // Lowers the heads as the shares change.
@@ -140,6 +148,11 @@ pub fn settled_by_shares(
     share: i64,
 ) -> Result<Option<Vec<i64>>, AllocError> {
     let mut shares = Shares::new(work, balanced, share)?;
-    let is_settled = shares.settle_by_cycles(work)?;
-    Ok(if is_settled { Some(shares.heads) } else { None })
+    let is_settled = shares.settle_by_cycles(work);
+    let heads = mem::replace(&mut shares.heads, Vec::new(work.side.alloc));
+    drop(shares);
+    if is_settled? {
+        return Ok(Some(heads));
+    }
+    Ok(None)
 }

@@ -3,7 +3,7 @@
 use crate::marks::{CELLS, Marks, Sweep};
 use crate::one_side::OneSide;
 use crate::spot::{Depth, NEVER, Spot};
-use multigrid::numbers::{at, clamp_long, label, put};
+use multigrid::numbers::{at, clamp_long, filled_value, label, put};
 use std::alloc::AllocError;
 
 /// All cells, and how far the set has fallen.
@@ -28,8 +28,8 @@ impl Sink {
     pub fn new(side: &OneSide, heads: &[i64], units: u32) -> Result<Sink, AllocError> {
         let alloc = side.alloc;
         let mut sink = Sink {
-            spots: Vec::with_capacity(alloc, heads.len())?,
             edge: Marks::new(alloc, heads.len())?,
+            spots: Vec::with_capacity(alloc, heads.len())?,
             joining: Vec::new(alloc),
             leaving: Vec::new(alloc),
             depth: Depth {
@@ -40,12 +40,17 @@ impl Sink {
             members: 0,
             visits: 0,
         };
+        let added = sink.add_all(side, heads);
+        filled_value(sink, added)
+    }
+
+    fn add_all(&mut self, side: &OneSide, heads: &[i64]) -> Result<(), AllocError> {
         for cell in 0..heads.len() {
-            sink.add(side, heads, cell)?;
+            self.add(side, heads, cell)?;
         }
-        sink.settle(side)?;
-        sink.visits = heads.len() as u64;
-        Ok(sink)
+        self.settle(side)?;
+        self.visits = heads.len() as u64;
+        Ok(())
     }
 
     // Adds the next cell. It falls if it is not at its floor.
@@ -77,8 +82,8 @@ impl Sink {
         self.members == 0
     }
 
-    /// The heads of all cells.
-    pub fn heads(&self, side: &OneSide) -> Result<Vec<i64>, AllocError> {
+    // The heads of all cells.
+    fn heads(&self, side: &OneSide) -> Result<Vec<i64>, AllocError> {
         self.spots
             .iter()
             .map(|spot| self.depth.head_of(spot))
@@ -223,14 +228,19 @@ impl Sink {
         self.settle(side)
     }
 
-    /// The set falls until it is empty, or has fallen as far as it may. Returns by how many units.
-    pub fn fall_through(&mut self, side: &OneSide) -> Result<u32, AllocError> {
+    /// Lowers the heads: the set falls until it is empty, or has fallen as far as it may. Returns by how many units.
+    pub fn fall_through(
+        &mut self,
+        side: &OneSide,
+        heads: &mut Vec<i64>,
+    ) -> Result<u32, AllocError> {
         for _ in 0..self.depth.last {
             self.fall(side)?;
             if self.is_empty() {
                 break;
             }
         }
+        *heads = self.heads(side)?;
         Ok(self.depth.units)
     }
 }

@@ -1,6 +1,8 @@
 // Work on one side of a problem.
-use crate::one_side::OneSide;
+use crate::one_side::{OneSide, Step};
 use multigrid::Budget;
+use std::alloc::AllocError;
+use step_problem::Side;
 
 /// A side, and the visits that work on it may still take.
 #[derive(Drop)]
@@ -17,4 +19,20 @@ impl<'a> Work<'a> {
             budget: Budget::new(visits, side.len()),
         }
     }
+}
+
+/// What is made by work of `visits` visits at each cell of a side. The side is dropped here, in place of at each exit of its maker.
+pub fn on_side<T, F: FnOnce(&mut Work) -> Result<T, AllocError> + Drop>(
+    step: &Step,
+    side: Side,
+    visits: u64,
+    make: F,
+) -> Result<T, AllocError>
+    requires { F.IsAlwaysCallable make }
+{
+    let side = OneSide::new(step, side)?;
+    let mut work = Work::new(&side, visits);
+    let made = make(&mut work);
+    drop(side);
+    made
 }
