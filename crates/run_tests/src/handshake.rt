@@ -2,79 +2,64 @@
 ghost use Rattle.std.specs.Prelude.{None};
 ghost use Rattle.outside.specs.{PutsMake};
 
+use crate::gates::Meeting;
 use outside::{Gate, Sink, SinkError};
 use std::alloc::Global;
-use test_lines::Count;
 
-/// Counts the passes of workers and the puts of a sink. The pass after the first step's waits for the second put,
-/// and the second put for that pass.
+/// The passes of one worker at a step with one variable cell, and one more.
+pub const PASSES: u64 = 65;
+
+/// Holds the pass after the first step's until the second put. One counts passes, two puts.
 #[derive(Drop)]
-pub struct Handshake {
-    passes: Count,
-    puts: Count,
-    pub failures: Count,
-}
+pub struct HandshakeGate<'a>(pub &'a Meeting);
 
-// The passes of one worker at a step with one variable cell.
-const PASSES: u64 = 64;
-
-impl Handshake {
-    /// One after this number of passes.
-    fn after(passes: u64) -> Handshake {
-        Handshake {
-            passes: Count::from(passes),
-            puts: Count::from(0),
-            failures: Count::from(0),
-        }
-    }
-
-    pub fn new() -> Handshake {
-        Handshake::after(0)
-    }
-
-    /// One that has been: no put waits.
-    pub fn over() -> Handshake {
-        Handshake::after(PASSES + 1)
-    }
-
-    // Counts a put, and returns its number.
-    fn begin_put(&self) -> u64 {
-        let before = self.puts.add();
-        if before == 1 {
-            self.passes.wait(PASSES + 1, &self.failures);
-        }
-        before
-    }
-}
-
-impl Gate for Handshake {
+impl Gate for HandshakeGate<'_> {
     fn pass(&self, _worker: u32, _turn: u32) {
-        if self.passes.add() == PASSES {
-            self.puts.wait(2, &self.failures);
+        let Meeting { one, two, failures } = self.0;
+        if one.add().wrapping_add(1) == PASSES {
+            two.wait(2, failures);
         }
     }
 }
 
-/// Bytes in memory, by puts that shake hands. One put may lack memory.
+/// Bytes in memory, whose second put waits for this number of passes. The put of the number `lacking`, from 1, lacks memory; 0
+/// means none.
 #[derive(Drop)]
 pub struct HandshakeSink<'a> {
-    together: &'a Handshake,
+    together: &'a Meeting,
+    passes: u64,
     lacking: u64,
     bytes: Vec<u8>,
 }
 
 impl<'a> HandshakeSink<'a> {
-    /// The put of this number, from 1, lacks memory; 0 means none.
-    pub fn new(alloc: Global, together: &'a Handshake, lacking: u64) -> HandshakeSink<'a> {
+    pub fn new(
+        alloc: Global,
+        together: &'a Meeting,
+        passes: u64,
+        lacking: u64,
+    ) -> HandshakeSink<'a> {
+        let bytes = Vec::new(alloc);
         HandshakeSink {
             together,
+            passes,
             lacking,
-            bytes: Vec::new(alloc),
+            bytes,
         }
     }
 
     pub fn bytes(&self) -> &[u8] {
         self.bytes.as_slice()
+    }
+
+    // Counts a put, and returns its number.
+    fn begin_put(&self) -> u64 {
+        let Meeting { one, two, failures } = self.together;
+        let number = two.add().wrapping_add(1);
+        if number == 2 {
+            one.wait(self.passes, failures);
+        }
+        number
     }
 }
 
@@ -92,7 +77,7 @@ impl<'a> Sink for HandshakeSink<'a> {
     ghost tells = { λ _ _ _ h. h };
 
     fn put(&mut self, piece: &[u8]) -> Result<(), SinkError> {
-        if self.together.begin_put().wrapping_add(1) == self.lacking {
+        if self.begin_put() == self.lacking {
             return Err(SinkError::Memory);
         }
         match self.bytes.extend_from_slice(piece) {

@@ -30,11 +30,9 @@ pub fn heads_of(line: &str) -> Option<Heads<'_>> {
 
 // Whether these lines have heads of the same cell within these.
 fn has_within(lines: &str, outer: Heads<'_>) -> bool {
-    for line in lines.lines() {
-        if let Some(inner) = heads_of(line) {
-            if inner.place == outer.place {
-                return outer.low <= inner.low && inner.high <= outer.high;
-            }
+    for inner in lines.lines().filter_map(heads_of) {
+        if inner.place == outer.place {
+            return outer.low <= inner.low && inner.high <= outer.high;
         }
     }
     false
@@ -43,10 +41,8 @@ fn has_within(lines: &str, outer: Heads<'_>) -> bool {
 /// How many cells of the first lines have heads that are not around those of the second.
 pub fn not_around(outer: &str, inner: &str) -> u32 {
     let mut count: u32 = 0;
-    for line in outer.lines() {
-        if let Some(heads) = heads_of(line) {
-            count = count.saturating_add(u32::from(!has_within(inner, heads)));
-        }
+    for heads in outer.lines().filter_map(heads_of) {
+        count = count.saturating_add(u32::from(!has_within(inner, heads)));
     }
     count
 }

@@ -3,10 +3,9 @@ use crate::bench::{Bench, text_of};
 use crate::runs::Asked;
 use crate::views::{not_around, step_of};
 use outside::FreeGate;
-use std::alloc::AllocError;
 use std::sync::Wait;
 use std::thread::Threads;
-use test_lines::Page;
+use test_lines::{Answered, Page, number_of};
 
 /// The views of a step: how many there are, with how many heads; how many of these are not around those that the
 /// listing has at that step, and in how many a view is wider than the one before.
@@ -79,10 +78,10 @@ fn push_shown(page: &mut Page, each_phase: u64, shown: &str, listing: &str) {
 impl<R: Threads + Wait + Sync> Asked<'_, R> {
     /// What a watched run puts; then for each step, in the order of its views, whether they are whole phases, how many
     /// heads each has, and whether they only come nearer to the heads of the listing.
-    pub fn push_watch(&self, page: &mut Page, bench: &mut Bench) -> Result<(), AllocError> {
-        self.push_served(page, bench, &FreeGate)?;
+    pub fn push_watch(&self, page: &mut Page, bench: &mut Bench) -> Answered {
+        self.push_gated(page, bench, &FreeGate)?;
         let (shown, listing) = (text_of(bench.side.bytes()), text_of(bench.out.bytes()));
-        push_shown(page, self.number, shown, listing);
+        push_shown(page, number_of(self.first), shown, listing);
         Ok(())
     }
 }

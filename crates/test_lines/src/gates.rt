@@ -1,11 +1,11 @@
-// Counts that threads share, and a gate that counts its passes.
+// Counts that threads share, which are gates that count their passes.
 use outside::Gate;
 use std::sync::atomic::{AtomicU64, Ordering};
 
 const SPINS: u32 = 1_000_000_000;
 
-/// A count of passes, puts or jobs.
-#[derive(Drop)]
+/// A count of passes, puts or jobs. As a gate it counts its passes.
+#[derive(Default, Drop)]
 pub struct Count(AtomicU64);
 
 impl Count {
@@ -22,21 +22,20 @@ impl Count {
         self.0.load(Ordering::SeqCst)
     }
 
-    /// Whether it reaches a number, within a limited number of spins.
-    pub fn reaches(&self, number: u64) -> bool {
+    /// Waits until it reaches a number. If it doesn't within a limited number of spins, `failures` counts one more.
+    pub fn wait(&self, number: u64, failures: &Count) {
         for _ in 0..SPINS {
             if self.get() >= number {
-                return true;
+                return;
             }
         }
-        false
+        failures.add();
     }
+}
 
-    /// Waits until it reaches a number. If it doesn't, `failures` counts one more.
-    pub fn wait(&self, number: u64, failures: &Count) {
-        if !self.reaches(number) {
-            failures.add();
-        }
+impl Gate for Count {
+    fn pass(&self, _worker: u32, _turn: u32) {
+        self.add();
     }
 }
 

@@ -8,10 +8,9 @@ use deck_problems::{Decks, start_heads_for};
 use model_types::{FlowModel, Limits, Listed, TimeStep, times};
 use problem_builder::{BuildFault, build};
 use settle_driver::PlainSettler;
-use std::alloc::AllocError;
 use step_chain::{StepFault, next_step};
 use step_problem::{Bound, NoBound, Place, Side};
-use test_lines::Page;
+use test_lines::{Answered, Page};
 
 const ROUNDS: u32 = 1_000_000;
 
@@ -66,7 +65,7 @@ fn next_heads(
 }
 
 /// The steps, until one has no heads.
-pub fn push_steps(page: &mut Page, decks: &Decks, s: u32) -> Result<(), AllocError>
+pub fn push_steps(page: &mut Page, decks: &Decks, s: u32) -> Answered
     requires decks { AreDecks decks.now }
     requires digits { s ≤ 18 }
 {

@@ -9,7 +9,7 @@ use model_types::{FlowModel, Limits};
 use model_writer::write_deck;
 use outside::{Folder, Found, InputFault, MemFolder, good_name};
 use std::alloc::{AllocError, Global};
-use test_lines::{Deck, Page, count_of};
+use test_lines::{Answered, Deck, Page, count_of};
 
 // The files of a deck that is written.
 const WRITTEN: [&str; 11] = [
@@ -42,11 +42,7 @@ fn files_of(page: &Page, text: &[u8]) -> Result<Deck, AllocError> {
 }
 
 // Writes a model as a deck, and puts its files, which are the folder's from now on.
-fn push_written(
-    page: &mut Page,
-    folder: &mut MemFolder,
-    model: &FlowModel,
-) -> Result<(), AllocError>
+fn push_written(page: &mut Page, folder: &mut MemFolder, model: &FlowModel) -> Answered
     requires { HasSize model.now.grid }
 {
     let text = write_deck(page.alloc(), model)?;
@@ -73,7 +69,7 @@ pub fn push_model_answer(
     question: &str,
     name: &str,
     digits: &str,
-) -> Result<(), AllocError> {
+) -> Answered {
     let Ok(first) = read_model(page.alloc(), folder, name) else {
         return Ok(page.line("no model"));
     };
