@@ -1,5 +1,5 @@
 -- Names that several proofs of this crate cite, of the crates below and of its own definitions, passed on from one place. Declares nothing.
-pub use Rattle.std.proofs.Common.{Bool, Err, IfOk, List, None, Ok, Option, Result, Some, [], ap, arith, codes, cond, decimal, false, inl, inr, map, refl, rules}
+pub use Rattle.std.proofs.Common.{Bool, IfOk, List, None, Ok, Option, Result, Some, [], ap, arith, codes, cond, decimal, false, inl, inr, map, refl, rules}
 pub use Rattle.std.proofs.Common.{subst, sym, true, ℕ, ◌<◌, ◌^◌, ◌∙◌, ◌∷◌, ◌≡◌, ◌≢◌, ◌≤◌}
 pub use Rattle.std.proofs.lemmas.Bool.{and_parts, le-leb, leb-true}
 pub use Rattle.std.specs.Str.{bytes_eq}

@@ -1,6 +1,6 @@
 -- The number that a text writes plainly.
-use Rattle.command_line.proofs.Common.{◌≡◌, ℕ, Bool, true, false, ◌≤◌, ◌<◌, ◌^◌, List, Some, None, Ok, Err, Result, decimal, refl, sym, ap, subst, ◌∙◌, arith}
-use Rattle.command_line.proofs.Common.{◌≢◌, [], ◌∷◌, Option, inl, inr, bytes_eq, digits_value, ParsesUnsigned, leb-true, le-leb, is_number, number_in}
+use Rattle.command_line.proofs.Common.{◌≡◌, ℕ, Bool, true, false, ◌≤◌, ◌<◌, ◌^◌, List, Some, None, Ok, Result, decimal, refl, sym, ap, subst, ◌∙◌, arith, ◌≢◌}
+use Rattle.command_line.proofs.Common.{[], ◌∷◌, Option, inl, inr, bytes_eq, digits_value, ParsesUnsigned, and_parts, leb-true, le-leb, is_number, number_in}
 use Rattle.command_line.proofs.Common.{wanted_of, wanted_if, command_in, is_simple, is_simple_and_free, App, Text, Kinds, HasKind, IsAmong, kind_of, fault_of}
 use Rattle.command_line.proofs.Common.{HasMatchesOf, subcommand_of, subcommand_rows_of, heads_app, run_app, check_app, make_app, batch_app, write_app, settling}
 use Rattle.command_line.proofs.Common.{spanning, with_flag, with_option, with_word}
@@ -35,10 +35,7 @@ pub no_number : (low high : ℕ) (text : List ℕ) → (is_number low high text 
 no_number low high text none = by_test low high text (is_number low high text (digits_value 10 text)) refl none
 
 all_true : (a b c : Bool) → (a && b && c) ≡ true → (a ≡ true) × (b ≡ true) × (c ≡ true)
-all_true true true true h = (refl, refl, refl)
-all_true true true false h = cc
-all_true true false c h = cc
-all_true false b c h = cc
+all_true a b c h = let p = and_parts (a && b) c h in let q = and_parts a b p.0 in (q.0, q.1, p.1)
 
 joined_true : (a b c : Bool) → a ≡ true → b ≡ true → c ≡ true → (a && b && c) ≡ true
 joined_true a b c x y z = rw (x, y, z) refl
@@ -57,17 +54,12 @@ no_parse low high text r parses none small = no_number low high text (λ t.
     let within = p.2 in
     none (digits_value 10 text) (parse-decimal 32 (digits_value 10 text) text r (omega (arith, within, small)) (omega (arith, within, small)) p.0 parses))
 
-number_of : {E : Type 0} → ℕ → Result ℕ E → ℕ
-number_of d (Ok x) = x
-number_of d (Err e) = d
-
 pub other_number : {E : Type 0} (low high n : ℕ) (text : List ℕ) (r : Result ℕ E) → ParsesUnsigned 32 10 text r → r ≡ Ok n → high < 2 ^ 32 → (is_number low high text n ≡ true → ⊥) → None ≡ number_in low high text
-unfolding number_of
 other_number low high n text r parses is small none = no_number low high text (λ t.
     let p = plain low high (digits_value 10 text) text t in
     let within = p.2 in
     let e = parse-decimal 32 (digits_value 10 text) text r (omega (arith, within, small)) (omega (arith, within, small)) p.0 parses in
-    let same : digits_value 10 text ≡ n = ap (number_of 0) (sym e ∙ is) in
+    let same : digits_value 10 text ≡ n = cc in
     let P : ℕ → Type 0 = λ k. is_number low high text k ≡ true in
     none (subst P same t))
 

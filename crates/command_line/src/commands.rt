@@ -85,6 +85,7 @@ fn check_command<'a>(alloc: Global) -> Result<Command<'a>, AllocError>
     with_flag(alloc, command, "wide")
 }
 
+#[tactic(auto, unfolding(crate::specs::Commands::make_app))]
 fn make_command<'a>(alloc: Global) -> Result<Command<'a>, AllocError>
     ensures { IfOk result (λ c. (app_of c ≡ make_app) × IsLocal c) }
 {
@@ -92,6 +93,7 @@ fn make_command<'a>(alloc: Global) -> Result<Command<'a>, AllocError>
     with_word(alloc, command, "size")
 }
 
+#[tactic(auto, unfolding(crate::specs::Commands::batch_app))]
 fn batch_command<'a>(alloc: Global) -> Result<Command<'a>, AllocError>
     ensures { IfOk result (λ c. (app_of c ≡ batch_app) × IsLocal c) }
 {
