@@ -9,25 +9,12 @@ use Rattle.run_puts.specs.declared.puts.Status.TheVariants as status
 
 agree_later : (first later also : Status) → Agree later also → Agree (or_else first later) (or_else first also)
 agree_later status.Ok later also h = h
-agree_later status.Usage later also h = inr (inl refl)
-agree_later (status.Refused refusal) later also h = inr (inl refl)
-agree_later (status.NoBound period step fault) later also h = inr (inl refl)
 agree_later (status.Unfinished period step) later also h = inl tt
-agree_later status.ReadFault later also h = inr (inl refl)
-agree_later status.WriteFault later also h = inr (inl refl)
-agree_later status.Memory later also h = inr (inl refl)
-agree_later (status.NotCertified period step place) later also h = inr (inl refl)
+agree_later other later also h = inr (inl refl)
 
 stays_unfinished : (first later : Status) → IsUnfinished first → IsUnfinished (or_else first later)
 stays_unfinished (status.Unfinished period step) later h = tt
-stays_unfinished status.Ok later h = absurd h
-stays_unfinished status.Usage later h = absurd h
-stays_unfinished (status.Refused refusal) later h = absurd h
-stays_unfinished (status.NoBound period step fault) later h = absurd h
-stays_unfinished status.ReadFault later h = absurd h
-stays_unfinished status.WriteFault later h = absurd h
-stays_unfinished status.Memory later h = absurd h
-stays_unfinished (status.NotCertified period step place) later h = absurd h
+stays_unfinished other later h = absurd h
 
 agree_first : (first other later also : Status) → Agree first other → Agree later also → Agree (or_else first later) (or_else other also)
 agree_first first other later also (inl h) k = inl (stays_unfinished first later h)
