@@ -21,7 +21,7 @@ pub use Rattle.engine.specs.BatchReads.{AreTasks, HasNames, IsBatchRead, NeverRe
 pub use Rattle.engine.specs.Batched.{HasEnded, HasNoList, IsJobListing}
 pub use Rattle.engine.specs.Cases.{Case, Checking, Comparing, IsListingOf, Jobs, Listing, Making, NoWords, ReadsNothing, Refuses, Writing, but_batch}
 pub use Rattle.engine.specs.Cases.{case_decks, case_named, case_of, case_read, decks_task, job_of, job_task, jobs_read, listing_read, made_model, named}
-pub use Rattle.engine.specs.Cases.{names_read, span_task_of, steps_read, task_of, zones_read}
+pub use Rattle.engine.specs.Cases.{WorkersChangeNoCase, names_read, span_task_of, steps_read, task_of, zones_read}
 pub use Rattle.engine.specs.Checked.{IsCheck, certified_line, verdict_line, verdict_status}
 pub use Rattle.engine.specs.Commands.{MayRead}
 pub use Rattle.engine.specs.Decks.{IsDeck, OneDeck}
