@@ -3,9 +3,8 @@ use Rattle.engine.proofs.Common.{[], ◌≡◌, ℕ, List, ◌∷◌, Ok, map, s
 use Rattle.engine.proofs.Common.{FileSet, Put, Seen, PutsMake, taken, FlowModel, IsModel, place, ZonedListing, Text, Status, all_written, ListingVerdict, Fails}
 use Rattle.engine.proofs.Common.{VerdictIsOne, IsVerdict, AskedCheck, Checking, listing_read, named, steps_read, zones_read, IsCheck, certified_line}
 use Rattle.engine.proofs.Common.{verdict_line, verdict_status, Defines, OneVerdict, IsListed, IsStopped, AreTasks, AskedBatch, job_of, Limits, Decks, AreDecks}
-use Rattle.engine.proofs.Common.{one_deck, listing, IsTask, reads, map-append, take_more, All-push, Refusal, Task, Job, job_task, ◌>>=◌}
+use Rattle.engine.proofs.Common.{one_deck, listing, IsTask, reads, map-append, take_more, All-push, Refusal, Task, Job, job_task, ◌>>=◌, false}
 use Rattle.check_run.specs.declared.verdict.ListingVerdict.TheVariants.{Certified as Holds, Refused as Unbounded}
-use Rattle.std.specs.Prelude.{false}
 use Rattle.engine.proofs.Readings.{named_read, zoned_parts}
 use Rattle.run_puts.specs.declared.puts.Status.TheVariants as status
 use Rattle.outside.specs.declared.inputs.InputFault.TheVariants as input

@@ -1,12 +1,12 @@
 -- Names that several proofs of this crate cite, of the crates below and of its own definitions, passed on from one place. Declares nothing.
-pub use Rattle.std.proofs.Common.{Bool, Err, IfOk, IfSome, List, None, Ok, Option, Result, Some, [], ap, arith, codes, cond, false, get_or, if◌then◌else◌, inl}
-pub use Rattle.std.proofs.Common.{inr, length, length-append, map, option_map, refl, rules, subst, sym, take, true, unsigned_abs, ℕ, ℤ, ◌*◌, ◌++◌, ◌+◌, ◌<◌}
-pub use Rattle.std.proofs.Common.{◌∙◌, ◌∷◌, ◌≡◌, ◌≢◌, ◌≤◌, ◌⊎◌}
+pub use Rattle.std.proofs.Common.{Bool, Err, IfOk, IfSome, IsErrAnd, List, None, Ok, Option, Result, Some, [], ap, arith, codes, cond, get_or, if◌then◌else◌}
+pub use Rattle.std.proofs.Common.{inl, inr, length, length-append, map, option_map, refl, rules, subst, sym, take, true, unsigned_abs, ℕ, ℤ, ◌*◌, ◌++◌, ◌+◌}
+pub use Rattle.std.proofs.Common.{◌<◌, ◌∙◌, ◌∷◌, ◌≡◌, ◌≢◌, ◌≤◌, ◌⊎◌}
 pub use Rattle.std.proofs.lemmas.List.{append-nil, append_assoc, length-map, map-append, take_more}
 pub use Rattle.std.proofs.lemmas.List.Elements.{All-append, All-cons, All-head, All-nil, All-push, All-tail, All-weaker}
 pub use Rattle.std.proofs.lemmas.Result.{err_from_is_err_and}
 pub use Rattle.std.specs.List.{AllZip, concat, filter}
-pub use Rattle.std.specs.Prelude.{All, IfErr, is_some, option_to_list, slice_get}
+pub use Rattle.std.specs.Prelude.{All, IfErr, false, is_some, option_to_list, slice_get}
 pub use Rattle.std.specs.declared.alloc.Global.{Global}
 pub use Rattle.std.specs.declared.vec.Vec.{Vec}
 pub use Rattle.batch_puts.proofs.Batches.{batch_run, batch_settles, batches_agree, ends_of_jobs}
@@ -32,7 +32,7 @@ pub use Rattle.engine.specs.{OneVerdict, ReadsFolder, ReadsNothing, Refuses, Sec
 pub use Rattle.engine.specs.{WrittenIsCertified, but_batch, case_decks, case_named, case_of, case_read, certified_line, decks_task, defined, files_if}
 pub use Rattle.engine.specs.{files_named, files_of, job_of, job_task, jobs_read, lines_of, listing_read, made_fault, made_model, made_task, model_line, named}
 pub use Rattle.engine.specs.{names_read, not_alike, of_both, of_first, of_second, second_by, span_task_of, steps_read, summed_text, task_of, unread}
-pub use Rattle.engine.specs.{verdict_line, verdict_status, views_in, zones_read}
+pub use Rattle.engine.specs.{verdict_line, verdict_status, views_in, zones_read, AreFirstViews, broken_off}
 unfoldable pub use Rattle.engine.specs.{second_in}
 pub use Rattle.engine.specs.Batched.{Batched}
 pub use Rattle.engine.specs.OneListing.{OneListing}
@@ -42,7 +42,7 @@ pub use Rattle.exact_histories.proofs.WholeRuns.{have_one, history_exists, histo
 pub use Rattle.listing_io.specs.{AreListed, all_lines, listing_at, listing_in, or_bad_listing, refused_line, view_text}
 pub use Rattle.listing_io.specs.declared.listing.ListedStep.{ListedStep}
 pub use Rattle.listing_run.proofs.Lines.{ends_by}
-pub use Rattle.listing_run.proofs.Pieces.{alone, beside, beside_by, wanting_not_ok}
+pub use Rattle.listing_run.proofs.Pieces.{alone, beside, beside_by, line_not_ok, wanting_not_ok}
 pub use Rattle.listing_run.proofs.Settled.{IsWhole, is_whole, whole_listing}
 pub use Rattle.listing_run.specs.{AllSteps, HasLargeFlow, IsCutListing, IsListing, IsListingBeside, IsSettledBy, IsStep, IsTask, ListingExcludesRefusal}
 pub use Rattle.listing_run.specs.{ListingIsOne, PairEncloses, Reaches, ReachesFirst, RefusalIsOne, RestsOrSettles, faces_of, last_line, left, listed, listing}
@@ -68,10 +68,10 @@ pub use Rattle.outside.specs.declared.inputs.InputFault.{InputFault}
 pub use Rattle.outside.specs.declared.inputs.Refusal.{Refusal}
 pub use Rattle.outside.specs.declared.traits.SinkError.{SinkError}
 pub use Rattle.record_lines.specs.{Has, Stops, StopsText, ◌>>=◌}
-pub use Rattle.run_puts.proofs.Makes.{all_written, write_rose}
-pub use Rattle.run_puts.proofs.Pieces.{IsLate, lacks_at_first, late_not_ok, late_not_read, lone, tail_late, weaker}
-pub use Rattle.run_puts.specs.{Agree, Begins, IsEnd, IsLast, IsRun, IsUnfinished, IsWanting, NeverCut, Text, all_due, code_of, cut, early, end_line, failed}
-pub use Rattle.run_puts.specs.{memory_put, nothing, read_fault_line, status_after, wanting, whole}
+pub use Rattle.run_puts.proofs.Makes.{all_written, early_rose}
+pub use Rattle.run_puts.proofs.Pieces.{IsLate, lacks_at_first, late_not_read, lone, tail_late, weaker}
+pub use Rattle.run_puts.specs.{Agree, Begins, IsEnd, IsLast, IsRun, IsUnfinished, IsWanting, NeverCut, PutsMore, Text, all_due, code_of, cut, early, end_line}
+pub use Rattle.run_puts.specs.{failed, memory_put, nothing, read_fault_line, status_after, wanting, whole}
 pub use Rattle.run_puts.specs.declared.puts.Status.{Status}
 pub use Rattle.settle_driver.specs.{AddsPhases, EnclosesPair}
 pub use Rattle.step_chain.specs.{LeavesRange, edges_by, two}

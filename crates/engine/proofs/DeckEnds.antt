@@ -1,11 +1,11 @@
 -- The ends of a command that reads decks, one or two, and then lists them, checks a listing of them, or writes the first one.
 use Rattle.engine.proofs.Common.{reads, [], ◌≡◌, ℕ, List, ◌∷◌, Ok, Err, Result, Option, None, Some, sym, ap, refl, inl, inr, ◌∙◌, FileSet, Rose, InputCounts}
-use Rattle.engine.proofs.Common.{Put, InputFault, Refusal, FlowModel, refused_line, Text, IsEnd, IsRun, Status, lone, Task, Asked, AskedCheck, Case, Refuses}
-use Rattle.engine.proofs.Common.{Listing, Checking, Writing, named, Due, decks_task, ReadsFolder, CutOf, AreDecksAs, Answers, IsReadingEnd, IsValid, defined}
-use Rattle.engine.proofs.Common.{Decks, Comparing, IsListingOf, Begins, all_due, cut, early, nothing, whole, Second, one_deck, Limits, of_both, of_first}
-use Rattle.engine.proofs.Common.{of_second, AreAlike, IfSome, option_map, is_some, unread, case_decks, IsDecksRefusal, listing_read, second_in, two, zones_read}
-use Rattle.engine.proofs.Common.{case_named, case_read, Defines, IsStopped, ◌⊎◌}
-use Rattle.engine.proofs.Ends.{ends_without_words, refused, unreadable, of_case, read_reads}
+use Rattle.engine.proofs.Common.{Put, InputFault, Refusal, FlowModel, refused_line, Text, IsEnd, IsRun, Status, Task, Asked, AskedCheck, Case, Refuses, Listing}
+use Rattle.engine.proofs.Common.{Checking, Writing, named, Due, decks_task, ReadsFolder, CutOf, AreDecksAs, Answers, IsReadingEnd, IsValid, defined, Decks}
+use Rattle.engine.proofs.Common.{Comparing, IsListingOf, Begins, all_due, cut, early, nothing, whole, Second, one_deck, Limits, of_both, of_first, of_second}
+use Rattle.engine.proofs.Common.{AreAlike, IfSome, option_map, is_some, unread, case_decks, IsDecksRefusal, listing_read, second_in, two, zones_read}
+use Rattle.engine.proofs.Common.{broken_off, case_named, case_read, Defines}
+use Rattle.engine.proofs.Ends.{ends_without_words, lone_defined, refused, unreadable, of_case, read_reads}
 use Rattle.outside.specs.declared.inputs.InputFault.TheVariants as input
 use Rattle.run_puts.specs.declared.puts.Status.TheVariants as status
 
@@ -52,15 +52,15 @@ pub within_cut : (a : FlowModel) (last : Option Second) (case : Case) → IfSome
 within_cut a None case alike pieces c = c
 within_cut a (Some b) case alike pieces c = (alike, c)
 
-within_valid : (a : FlowModel) (last : Option Second) (case : Case) (end : Status) → IsStopped end ⊎ IsValid case → IsStopped end ⊎ IsValid (within a last case)
-within_valid a None case end h = h
-within_valid a (Some b) case end (inl stops) = inl stops
-within_valid a (Some b) case end (inr h) = inr (inr h)
+pub within_valid : (a : FlowModel) (last : Option Second) (case : Case) → IsValid case → IsValid (within a last case)
+within_valid a None case h = h
+within_valid a (Some b) case h = inr h
 
-due_within : (failed : Type 0) (a : FlowModel) (last : Option Second) (case : Case) → IfSome last (λ b. AreAlike a b.model) → (end : Status) (pieces : List Text) → Due failed case end pieces → Due failed (within a last case) end pieces
-due_within failed a None case alike end pieces d = d
-due_within failed a (Some b) case alike end pieces (defined meant all d) = defined meant all (inr (alike, d))
-due_within failed a (Some b) case alike end pieces (unread (f, worded)) = unread (f, tt)
+due_within : (failed beside : Type 0) (a : FlowModel) (last : Option Second) (case : Case) → IfSome last (λ b. AreAlike a b.model) → (end : Status) (pieces : List Text) → Due failed beside case end pieces → Due failed beside (within a last case) end pieces
+due_within failed beside a None case alike end pieces d = d
+due_within failed beside a (Some b) case alike end pieces (defined meant all d) = defined meant all (inr (alike, d))
+due_within failed beside a (Some b) case alike end pieces (unread (f, worded)) = unread (f, tt)
+due_within failed beside a (Some b) case alike end pieces (broken_off all f c) = broken_off all f (alike, c)
 
 -- a run under weaker conditions on its pieces
 begins_map : {P Q : Status → List Text → Type 0} {C D : List Text → Type 0} → ((end : Status) (pieces : List Text) → P end pieces → Q end pieces) → ((pieces : List Text) → C pieces → D pieces) → (before after : List Text) → Begins P C before after → Begins Q D before after
@@ -68,37 +68,34 @@ begins_map f g before after nothing = nothing
 begins_map f g before after (all_due end some next rest d) = all_due end some next rest (f _ _ d)
 begins_map f g before after (cut some rest c) = cut some rest (g _ c)
 
-run_map : {P Q : Status → List Text → Type 0} {C D : List Text → Type 0} → ((end : Status) (pieces : List Text) → P end pieces → Q end pieces) → ((pieces : List Text) → C pieces → D pieces) → (end : Status) (puts : List Put) → IsRun P C end puts → IsRun Q D end puts
+pub run_map : {P Q : Status → List Text → Type 0} {C D : List Text → Type 0} → ((end : Status) (pieces : List Text) → P end pieces → Q end pieces) → ((pieces : List Text) → C pieces → D pieces) → (end : Status) (puts : List Put) → IsRun P C end puts → IsRun Q D end puts
 run_map f g end puts (whole meant pieces due) = whole meant pieces (f _ _ due)
 run_map f g end puts (early meant before after tail b t) = early meant before after tail (begins_map f g before after b) t
 
-pub within_ends : (n m : ℕ) (end : Status) (puts : List Put) (a : FlowModel) (last : Option Second) (case : Case) → IfSome last (λ b. AreAlike a b.model) → Answers case n m end puts → Answers (within a last case) n m end puts
-within_ends n m end puts a last case alike x = record {
-  run = run_map (due_within (Rose n m) a last case alike) (within_cut a last case alike) end puts x.run;
-  valid = within_valid a last case end x.valid;
+within_ends : {n m : ℕ} {end : Status} {puts : List Put} (a : FlowModel) (last : Option Second) (case : Case) → IfSome last (λ b. AreAlike a b.model) → Answers case n m end puts → Answers (within a last case) n m end puts
+within_ends {n} {m} {end} {puts} a last case alike x = record {
+  run = run_map (due_within (Rose n m) ⊥ a last case alike) (within_cut a last case alike) end puts x.run;
+  valid = elim (x.valid) [ inl stops ↦ inl stops | inr h ↦ inr (within_valid a last case h) ];
 }
 
-module _ (limits : Limits) (name : Text) (to : Option Text) (files : FileSet) (come : Decks → Case) (n m : ℕ) (end : Status) (puts : List Put) where
+module _ (limits : Limits) (name : Text) (to : Option Text) (files : FileSet) (come : Decks → Case) where
   abbrev Here : Case
   Here = case_named files limits name to come
 
-  refused_by : (refusal : Refusal) → IsDecksRefusal (named name (reads limits files)) (option_map (λ last. named last (second_in limits files)) to) refusal → IsEnd (refused_line refusal) (status.Refused refusal) end puts → Answers Here n m end puts
-  refused_by refusal (of_first h) e = of_case Here n m end puts (Refuses refusal) (sym (ap (λ x. case_decks x (option_map (λ last. named last (second_in limits files)) to) come) h)) (refused n m end puts refusal e)
-  refused_by refusal (of_second a h k) e = of_case Here n m end puts (Refuses refusal) (sym (λ i. case_decks (h i) (k i) come)) (refused n m end puts refusal e)
-  refused_by refusal (of_both a b d h k first never same) e =
-      let c : Case = Comparing a b (come (two a b.model)) in
-      of_case Here n m end puts c (sym (λ i. case_decks (h i) (k i) come)) (record {
-        run = lone (Due (Rose n m) c) (CutOf c) (refused_line refusal) (status.Refused refusal) end puts
-            (defined (status.Refused refusal) _ (inl (record { difference = d; first = first; unlike = never; status = ap status.Refused same; are = ap (λ (x : Refusal). refused_line x ∷ []) same }))) e;
-        valid = inr (inl never);
-      })
+  module _ {n m : ℕ} {end : Status} {puts : List Put} where
+    refused_by : (refusal : Refusal) → IsDecksRefusal (named name (reads limits files)) (option_map (λ last. named last (second_in limits files)) to) refusal → IsEnd (refused_line refusal) (status.Refused refusal) end puts → Answers Here n m end puts
+    refused_by refusal (of_first h) e = of_case (Refuses refusal) (sym (ap (λ x. case_decks x (option_map (λ last. named last (second_in limits files)) to) come) h)) (refused refusal e)
+    refused_by refusal (of_second a h k) e = of_case (Refuses refusal) (sym (λ i. case_decks (h i) (k i) come)) (refused refusal e)
+    refused_by refusal (of_both a b d h k first never same) e =
+        of_case (Comparing a b (come (two a b.model))) (sym (λ i. case_decks (h i) (k i) come)) (lone_defined (refused_line refusal) (status.Refused refusal)
+        (inl (record { difference = d; first = first; unlike = never; status = ap status.Refused same; are = ap (λ (x : Refusal). refused_line x ∷ []) same })) (inl never) e)
 
-  -- no decks were read
-  pub ends_undecked : ((d : Decks) → ReadsFolder (come d)) → (fault : InputFault) → AreDecksAs limits name to files (Err fault) → InputCounts {T = Decks} n m (Err fault) → IsReadingEnd fault end puts → Answers Here n m end puts
-  ends_undecked all (input.Refused refusal) p counts h = refused_by refusal p h
-  ends_undecked all input.ReadFault p counts h = unreadable Here n m end puts (decks_reads (named name (reads limits files)) (option_map (λ last. named last (second_in limits files)) to) come all) counts h
-  ends_undecked all input.Memory p counts h = ends_without_words Here n m end puts h
+    -- no decks were read
+    pub ends_undecked : ((d : Decks) → ReadsFolder (come d)) → (fault : InputFault) → AreDecksAs limits name to files (Err fault) → InputCounts {T = Decks} n m (Err fault) → IsReadingEnd fault end puts → Answers Here n m end puts
+    ends_undecked all (input.Refused refusal) p counts h = refused_by refusal p h
+    ends_undecked all input.ReadFault p counts h = unreadable (decks_reads (named name (reads limits files)) (option_map (λ last. named last (second_in limits files)) to) come all) counts h
+    ends_undecked all input.Memory p counts h = ends_without_words h
 
-  -- decks were read
-  pub ends_decked : (d : Decks) → AreDecksAs limits name to files (Ok d) → Answers (come d) n m end puts → Answers Here n m end puts
-  ends_decked d p a = of_case Here n m end puts (within d.first p.last (come d)) (case_within limits name to files come d p) (within_ends n m end puts d.first p.last (come d) p.alike a)
+    -- decks were read
+    pub ends_decked : (d : Decks) → AreDecksAs limits name to files (Ok d) → Answers (come d) n m end puts → Answers Here n m end puts
+    ends_decked d p a = of_case (within d.first p.last (come d)) (case_within limits name to files come d p) (within_ends d.first p.last (come d) p.alike a)

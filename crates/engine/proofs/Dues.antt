@@ -1,6 +1,6 @@
--- How a run ended, by the pieces that are due: those that are defined of its end, or the line of a read fault.
+-- How a run ended, by the pieces that are due: those that are defined of its end, the line of a read fault, or the first ones of a listing.
 use Rattle.engine.proofs.Common.{◌≡◌, List, map, refl, inl, inr, ◌⊎◌, Put, Seen, PutsMake, taken, Rose, Text, whole, early, IsRun, Status, IsLate, tail_late}
-use Rattle.engine.proofs.Common.{write_rose, late_not_read, IsUnfinished, Agree, IsStopped, IsDue, defined, unread}
+use Rattle.engine.proofs.Common.{early_rose, late_not_read, IsUnfinished, Agree, IsStopped, IsDue, broken_off, defined, unread}
 use Rattle.run_puts.specs.declared.puts.Status.TheVariants as status
 
 pub late_stops : (end : Status) → IsLate end → IsStopped end
@@ -17,44 +17,52 @@ pub record Delivers (D : Status → List Text → Type 0) (end : Status) (puts :
 abbrev pub Ended : Type 0 → (Status → List Text → Type 0) → Status → Type 0
 Ended fault D end = fault ⊎ ((end ≡ status.Memory) ⊎ ((q : List Text) × D end q))
 
-module _ (failed : Type 0) (D : Status → List Text → Type 0) (C : List Text → Type 0) where
-  due_delivers : (end : Status) (pieces : List Text) → IsDue failed D end pieces → (IsStopped end → ⊥) → Delivers D end (map taken pieces)
+module _ (failed beside : Type 0) (D : Status → List Text → Type 0) (C : List Text → Type 0) where
+  abbrev Runs : Status → List Put → Type 0
+  Runs = IsRun (IsDue failed beside D C) C
+
+  due_delivers : (end : Status) (pieces : List Text) → IsDue failed beside D C end pieces → (IsStopped end → ⊥) → Delivers D end (map taken pieces)
   due_delivers end pieces (defined meant all d) on = record { pieces = pieces; defines = d; written = refl }
   due_delivers end pieces (unread f) on = absurd (on (inl refl))
+  due_delivers end pieces (broken_off all f c) on = absurd (on (inr (inl refl)))
 
-  pub delivers : (end : Status) (puts : List Put) → IsRun (IsDue failed D) C end puts → (IsStopped end → ⊥) → Delivers D end puts
+  pub delivers : (end : Status) (puts : List Put) → Runs end puts → (IsStopped end → ⊥) → Delivers D end puts
   delivers end puts (whole meant pieces due) on = due_delivers end pieces due on
   delivers end puts (early meant before after tail b t) on = absurd (on (late_stops end (tail_late after end tail t)))
 
-module _ (failed : Type 0) (D : Status → List Text → Type 0) (C : List Text → Type 0) (goes : (end : Status) (pieces : List Text) → D end pieces → IsStopped end → ⊥) where
-  due_read : (end : Status) (pieces : List Text) → IsDue failed D end pieces → end ≡ status.ReadFault → failed
-  due_read end pieces (defined meant all d) e = absurd (goes end pieces d (inl e))
-  due_read end pieces (unread f) e = f
+  module _ (goes : (end : Status) (pieces : List Text) → D end pieces → IsStopped end → ⊥) where
+    due_read : (end : Status) (pieces : List Text) → IsDue failed beside D C end pieces → end ≡ status.ReadFault → failed
+    due_read end pieces (defined meant all d) e = absurd (goes end pieces d (inl e))
+    due_read end pieces (unread f) e = f
+    due_read end pieces (broken_off all f c) e = let bad : status.WriteFault ≡ status.ReadFault = e in cc
 
-  pub read_failed : (end : Status) (puts : List Put) → IsRun (IsDue failed D) C end puts → end ≡ status.ReadFault → failed
-  read_failed end puts (whole meant pieces due) e = due_read end pieces due e
-  read_failed end puts (early meant before after tail b t) e = absurd (late_not_read end (tail_late after end tail t) e)
+    pub read_failed : (end : Status) (puts : List Put) → Runs end puts → end ≡ status.ReadFault → failed
+    read_failed end puts (whole meant pieces due) e = due_read end pieces due e
+    read_failed end puts (early meant before after tail b t) e = absurd (late_not_read end (tail_late after end tail t) e)
 
-  due_write : (end : Status) (pieces : List Text) → IsDue failed D end pieces → end ≡ status.WriteFault → ⊥
-  due_write end pieces (defined meant all d) e = goes end pieces d (inr (inl e))
-  due_write end pieces (unread f) e = let bad : status.ReadFault ≡ status.WriteFault = e in cc
+    due_write : (end : Status) (pieces : List Text) → IsDue failed beside D C end pieces → end ≡ status.WriteFault → beside
+    due_write end pieces (defined meant all d) e = absurd (goes end pieces d (inr (inl e)))
+    due_write end pieces (unread f) e = let bad : status.ReadFault ≡ status.WriteFault = e in cc
+    due_write end pieces (broken_off all f c) e = f
 
-  pub write_failed : (end : Status) (puts : List Put) (old new : Seen) → IsRun (IsDue failed D) C end puts → end ≡ status.WriteFault → PutsMake old puts new → Rose old.faults new.faults
-  write_failed = write_rose (IsDue failed D) C (λ pieces due. due_write status.WriteFault pieces due refl)
+    pub write_failed : (end : Status) (puts : List Put) (old new : Seen) → Runs end puts → end ≡ status.WriteFault → PutsMake old puts new → Rose old.faults new.faults ⊎ beside
+    write_failed end puts old new (whole meant pieces due) e makes = inr (due_write end pieces due e)
+    write_failed end puts old new (early meant before after tail b t) e makes = inl (early_rose before after end tail old new t e makes)
 
-  module _ (fault : Type 0) (reads : failed → fault) where
-    due_ended : (end : Status) (pieces : List Text) → IsDue failed D end pieces → Ended fault D end
-    due_ended end pieces (defined meant all d) = inr (inr (pieces, d))
-    due_ended end pieces (unread f) = inl (reads f)
+    module _ (fault : Type 0) (reads : failed → fault) (old new : Seen) (writes : Rose old.faults new.faults ⊎ beside → fault) where
+      due_ended : (end : Status) (pieces : List Text) → IsDue failed beside D C end pieces → Ended fault D end
+      due_ended end pieces (defined meant all d) = inr (inr (pieces, d))
+      due_ended end pieces (unread f) = inl (reads f)
+      due_ended end pieces (broken_off all f c) = inl (writes (inr f))
 
-    late_ended : (end : Status) → IsLate end → (end ≡ status.WriteFault → fault) → Ended fault D end
-    late_ended end (inl e) puts = inl (puts e)
-    late_ended end (inr e) puts = inr (inl e)
+      late_ended : (end : Status) → IsLate end → (end ≡ status.WriteFault → fault) → Ended fault D end
+      late_ended end (inl e) puts = inl (puts e)
+      late_ended end (inr e) puts = inr (inl e)
 
-    pub run_ended : (old new : Seen) → (Rose old.faults new.faults → fault) → (end : Status) (puts : List Put) → IsRun (IsDue failed D) C end puts → PutsMake old puts new → Ended fault D end
-    run_ended old new rises end puts (whole meant pieces due) makes = due_ended end pieces due
-    run_ended old new rises end puts (early meant before after tail b t) makes =
-        late_ended end (tail_late after end tail t) (λ e. rises (write_failed end puts old new (early meant before after tail b t) e makes))
+      pub run_ended : (end : Status) (puts : List Put) → Runs end puts → PutsMake old puts new → Ended fault D end
+      run_ended end puts (whole meant pieces due) makes = due_ended end pieces due
+      run_ended end puts (early meant before after tail b t) makes =
+          late_ended end (tail_late after end tail t) (λ e. writes (write_failed end puts old new (early meant before after tail b t) e makes))
 
 module _ (fault : Type 0) (D : Status → List Text → Type 0) (end : Status) where
   weighed : (meant : Status) → Agree meant end → (fault ⊎ IsUnfinished meant) ⊎ ((end ≡ meant) ⊎ ((end ≡ status.Memory) ⊎ IsUnfinished end))

@@ -4,11 +4,15 @@ use Rattle.engine.proofs.Common.{Refusal, usage_line, FlowModel, IsModel, most_b
 use Rattle.engine.proofs.Common.{memory_put, status_after, Text, Status, tail_late, lone, lacks_at_first, weaker, Case, NoWords, Refuses, made_model, Due}
 use Rattle.engine.proofs.Common.{ReadsFolder, CutOf, IsMade, Answers, IsStopped, IsValid, defined, unread, named, made_task, summed_text, IsReadingEnd}
 use Rattle.engine.proofs.Common.{made_fault, InputFault, ListingEnd, last_line, listing, status_of, made_files, made_name, Plain, IsSummarized, reads, Defines}
-use Rattle.engine.proofs.Common.{InputCounts, IsRun, case_read, Making, Option, Some, Wanted, wanted, ◌∙◌, Order}
+use Rattle.engine.proofs.Common.{InputCounts, IsRun, case_read, Making, Option, Some, Wanted, wanted, ◌∙◌, Order, PutsMore}
 use Rattle.engine.proofs.Dues.{late_stops}
 use Rattle.listing_summary.specs.declared.summary.Summary.{Summary}
 use Rattle.outside.specs.declared.inputs.InputFault.TheVariants as input
 use Rattle.run_puts.specs.declared.puts.Status.TheVariants as status
+
+-- puts of which this holds are puts of which more holds
+pub puts_more : {S : Type 0} {old new : S} {P Q : List Put → Type 0} (leads : S → List Put → S → Type 0) → PutsMore leads old new P → ((more : List Put) → P more → Q more) → PutsMore leads old new Q
+puts_more leads put holds = λ start puts h. let m = put start puts h in (m.0, m.1, holds m.0 m.2)
 
 -- the order that the words give
 pub gives : (words : Option Wanted) (o p : Order) → words ≡ Some (wanted o) → o ≡ p → words ≡ Some (wanted p)
@@ -21,16 +25,20 @@ pub read_stops : (end : Status) (puts : List Put) → IsLast read_fault_line sta
 read_stops end puts (inl (e, t)) = inl e
 read_stops end puts (inr t) = late_stops end (tail_late (read_fault_line ∷ []) end puts t)
 
-module _ (case : Case) (n m : ℕ) (end : Status) (puts : List Put) where
+module _ {case : Case} {n m : ℕ} {end : Status} {puts : List Put} where
   pub ends_without_words : IsWanting end puts → Answers case n m end puts
-  ends_without_words h = record { run = lacks_at_first (Due (Rose n m) case) (CutOf case) end puts h; valid = inl (wanting_stops end puts h) }
+  ends_without_words h = record { run = lacks_at_first (Due (Rose n m) ⊥ case) (CutOf case) end puts h; valid = inl (wanting_stops end puts h) }
+
+  -- one line, which the case defines
+  pub lone_defined : (line : Text) (meant : Status) → Defines case meant (line ∷ []) → IsValid case → IsEnd line meant end puts → Answers case n m end puts
+  lone_defined line meant d valid h = record { run = lone (Due (Rose n m) ⊥ case) (CutOf case) line meant end puts (defined meant (line ∷ []) d) h; valid = inr valid }
 
   pub unreadable : ReadsFolder case → Rose n m → IsLast read_fault_line status.ReadFault end puts → Answers case n m end puts
-  unreadable worded rose h = record { run = lone (Due (Rose n m) case) (CutOf case) read_fault_line status.ReadFault end puts (unread (rose, worded)) (inl h); valid = inl (read_stops end puts h) }
+  unreadable worded rose h = record { run = lone (Due (Rose n m) ⊥ case) (CutOf case) read_fault_line status.ReadFault end puts (unread (rose, worded)) (inl h); valid = inl (read_stops end puts h) }
 
   -- as the case defines
   pub ends_defined : IsRun (Defines case) (CutOf case) end puts → IsValid case → Answers case n m end puts
-  ends_defined h valid = record { run = weaker (Defines case) (Due (Rose n m) case) (CutOf case) (λ meant pieces d. defined meant pieces d) end puts h; valid = inr valid }
+  ends_defined h valid = record { run = weaker (Defines case) (Due (Rose n m) ⊥ case) (CutOf case) (λ meant pieces d. defined meant pieces d) end puts h; valid = inr valid }
 
   -- a case that is this one
   pub of_case : (other : Case) → other ≡ case → Answers other n m end puts → Answers case n m end puts
@@ -40,12 +48,12 @@ pub read_reads : {T : Type 0} (come : T → Case) → ((x : T) → ReadsFolder (
 read_reads come reads (Ok x) = reads x
 read_reads come reads (Err refusal) = tt
 
-module _ (n m : ℕ) (end : Status) (puts : List Put) where
+module _ {n m : ℕ} {end : Status} {puts : List Put} where
   pub ends_usage : IsLast usage_line status.Usage end puts → Answers NoWords n m end puts
-  ends_usage h = record { run = lone (Due (Rose n m) NoWords) (CutOf NoWords) usage_line status.Usage end puts (defined status.Usage (usage_line ∷ []) (refl, refl)) (inl h); valid = inr tt }
+  ends_usage h = lone_defined usage_line status.Usage (refl, refl) tt (inl h)
 
   pub refused : (refusal : Refusal) → IsEnd (refused_line refusal) (status.Refused refusal) end puts → Answers (Refuses refusal) n m end puts
-  refused refusal h = record { run = lone (Due (Rose n m) (Refuses refusal)) (CutOf (Refuses refusal)) (refused_line refusal) (status.Refused refusal) end puts (defined (status.Refused refusal) (refused_line refusal ∷ []) (refl, refl)) h; valid = inr tt }
+  refused refusal h = lone_defined (refused_line refusal) (status.Refused refusal) (refl, refl) tt h
 
   -- A reading that comes to a case.
   module _ {T : Type 0} (r : Result T Refusal) (come : T → Case) where
@@ -54,22 +62,18 @@ module _ (n m : ℕ) (end : Status) (puts : List Put) where
 
     pub ends_unread : {V : Type 0} (view : V → T) → ((x : T) → ReadsFolder (come x)) → (fault : InputFault) → IsReading view r (Err fault) → InputCounts {T = V} n m (Err fault) → IsReadingEnd fault end puts → Answers (case_read r come) n m end puts
     ends_unread view reads (input.Refused refusal) is counts h = let P : Result T Refusal → Type 0 = λ y. Answers (case_read y come) n m end puts in subst P (sym is) (refused refusal h)
-    ends_unread view reads input.ReadFault is counts h = unreadable (case_read r come) n m end puts (read_reads come reads r) counts h
-    ends_unread view reads input.Memory is counts h = ends_without_words (case_read r come) n m end puts h
+    ends_unread view reads input.ReadFault is counts h = unreadable (read_reads come reads r) counts h
+    ends_unread view reads input.Memory is counts h = ends_without_words h
 
 -- The ends of the run of a made model, which reads no folder.
 module _ (seed size : ℕ) where
   abbrev Made : Case
   Made = Making seed size (made_model seed size)
 
-  module _ (read : Result FlowModel Refusal) (is : made_model seed size ≡ read) (valid : IfOk read IsModel) where
-    is_valid : IfOk (made_model seed size) IsModel
-    is_valid = let P : Result FlowModel Refusal → Type 0 = λ r. IfOk r IsModel in subst P (sym is) valid
-
-    alone : (line : Text) (meant end : Status) (puts : List Put) → IsMade seed size read meant (line ∷ []) → IsEnd line meant end puts → (n : ℕ) → Answers Made n n end puts
-    alone line meant end puts due h n =
-        let P : Result FlowModel Refusal → Type 0 = λ r. IsMade seed size r meant (line ∷ []) in
-        record { run = lone (Due (Rose n n) Made) (CutOf Made) line meant end puts (defined meant (line ∷ []) (subst P (sym is) due)) h; valid = inr is_valid }
+  alone : (read : Result FlowModel Refusal) → made_model seed size ≡ read → IfOk read IsModel → (line : Text) (meant end : Status) (puts : List Put) → IsMade seed size read meant (line ∷ []) → IsEnd line meant end puts → (n : ℕ) → Answers Made n n end puts
+  alone read is valid line meant end puts due h n =
+      let A : Result FlowModel Refusal → Type 0 = λ r. Answers (Making seed size r) n n end puts in
+      subst A (sym is) (lone_defined line meant due valid h)
 
   -- what a folder of these files reads as
   pub made_reading : (files : FileSet) (answer : Result FlowModel InputFault) → files ≡ with_limit (most_bytes Plain) (made_files seed size) → IsReading (λ m. m) (named made_name (reads Plain files)) answer → IsReading (λ m. m) (made_model seed size) answer
@@ -87,5 +91,5 @@ module _ (seed size : ℕ) where
 
   pub made_unread : (fault : InputFault) (end : Status) (puts : List Put) → IsReading {T = FlowModel} (λ m. m) (made_model seed size) (Err fault) → IsReadingEnd (made_fault fault) end puts → (n : ℕ) → Answers Made n n end puts
   made_unread (input.Refused refusal) end puts is h n = alone (Err refusal) is tt (refused_line refusal) (status.Refused refusal) end puts (refl, refl) h n
-  made_unread input.ReadFault end puts is h n = ends_without_words Made n n end puts h
-  made_unread input.Memory end puts is h n = ends_without_words Made n n end puts h
+  made_unread input.ReadFault end puts is h n = ends_without_words h
+  made_unread input.Memory end puts is h n = ends_without_words h

@@ -1,13 +1,13 @@
 -- The public clauses of a run, from all that it comes to.
-use Rattle.engine.proofs.Common.{[], Wanted, HasNoList, AskedBatch, Batch, Case, Answers, AnswersBeside, IsStopped, IsLeft, views_in, HasEnded, IsJobListing}
-use Rattle.engine.proofs.Common.{Jobs, case_of, job_of, job_task, names_read, CutOf, Defines, IsJobEnd, IsRunText, ReadsFolder, model_line, IsValid, IsValidJob}
-use Rattle.engine.proofs.Common.{Rose, Put, PutsMake, Seen, FileSet, taken, Text, end_line, Status, List, None, Option, Some, inl, inr, subst, sym, ℕ, ◌∙◌, ◌≡◌}
-use Rattle.engine.proofs.Common.{◌⊎◌, Err, IfOk, Ok, Result, ap, map, refl, ◌++◌, ◌∷◌, texts, JobEnd, AreDecks, history_exists, history_is_one, IsWhole}
-use Rattle.engine.proofs.Common.{whole_listing, IsListing, listing, reads, FlowModel, Refusal, all_written, All-head, All-tail, AllZip, concat, All, IsRunOf}
-use Rattle.engine.proofs.Common.{◌>>=◌, Batched, case_read, IsRunResult, OneOf}
-use Rattle.engine.proofs.Beside.{beside_one, beside_complete, beside_decided, beside_put_rose, beside_read_rose, told_by}
+use Rattle.engine.proofs.Common.{[], Wanted, HasNoList, AskedBatch, Batch, Case, AnswersBeside, IsStopped, views_in, HasEnded, IsJobListing, Jobs, case_of}
+use Rattle.engine.proofs.Common.{job_of, job_task, names_read, CutOf, Defines, IsJobEnd, IsRunText, ReadsFolder, model_line, IsValid, IsValidJob, Rose, Put}
+use Rattle.engine.proofs.Common.{PutsMake, Seen, FileSet, taken, Text, end_line, Status, List, None, Option, Some, inl, inr, subst, sym, ℕ, ◌∙◌, ◌≡◌, ◌⊎◌, Err}
+use Rattle.engine.proofs.Common.{IfOk, Ok, Result, ap, map, refl, ◌++◌, ◌∷◌, texts, JobEnd, AreDecks, history_exists, history_is_one, IsWhole, whole_listing}
+use Rattle.engine.proofs.Common.{IsListing, listing, reads, FlowModel, Refusal, all_written, All-head, All-tail, AllZip, concat, All, ◌>>=◌, Batched, case_read}
+use Rattle.engine.proofs.Common.{IsRunResult, OneOf}
+use Rattle.engine.proofs.Outcomes.{complete, decided, put_rose, read_rose}
 use Rattle.engine.proofs.Certifying.{not_stopped}
-use Rattle.engine.proofs.Told.{Laws, told_of, valid_of}
+use Rattle.engine.proofs.OkRuns.{Laws, headline_of, one_of, valid_of}
 use Rattle.engine.proofs.Dues.{Delivers, delivers}
 use Rattle.run_puts.specs.declared.puts.Status.TheVariants as status
 
@@ -38,7 +38,7 @@ module _ (laws : Laws) (b : AskedBatch) (files : FileSet) where
   all_ended (name ∷ names) [] valid h = absurd h
   all_ended (name ∷ names) (e ∷ ends) valid (x, h) = (record { end = x; listing = job_listing name e (reads b.limits files name) refl (All-head IsValidJob (job_of b files name) (map (job_of b files) names) valid) x }, all_ended names ends (All-tail IsValidJob (job_of b files name) (map (job_of b files) names) valid) h)
 
-  module _ (order : Option Wanted) (wanted : order ≡ Some (Batch b)) (end : Status) (old new : Seen) (puts : List Put) (makes : PutsMake old puts new) (goes : IsStopped end → ⊥) where
+  module _ (end : Status) (old new : Seen) (puts : List Put) (makes : PutsMake old puts new) where
     of_names : (names : List Text) → names_read files b ≡ Ok names → All IsValidJob (map (job_of b files) names) → Delivers (Defines (Jobs (map (job_of b files) names))) end puts → Batched b files end old.written new.written
     of_names names read valid d = record {
       names = names;
@@ -56,42 +56,45 @@ module _ (laws : Laws) (b : AskedBatch) (files : FileSet) where
     of_list (Ok names) read valid d = inr (of_names names read valid d)
     of_list (Err refusal) read valid d = inl (refusal, read, d.defines.0)
 
-    pub batched : (n m : ℕ) → Answers (case_of order files) n m end puts → HasNoList b files end ⊎ Batched b files end old.written new.written
-    batched n m a =
-        let A : Option Wanted → Type 0 = λ o. Answers (case_of o files) n m end puts in
-        let x = subst A wanted a in
-        let c = Of (names_read files b) in
-        of_list (names_read files b) refl (valid_of c end goes x.valid) (delivers (Rose n m × ReadsFolder c) (Defines c) (CutOf c) end puts x.run goes)
+    pub batched : (order : Option Wanted) → order ≡ Some (Batch b) → IsValid (case_of order files) → Delivers (Defines (case_of order files)) end puts → HasNoList b files end ⊎ Batched b files end old.written new.written
+    batched order wanted valid d =
+        let P : Option Wanted → Type 0 = λ o. IsValid (case_of o files) × Delivers (Defines (case_of o files)) end puts in
+        let x = subst P wanted (valid, d) in
+        of_list (names_read files b) refl x.0 x.1
 
-module _ (order : Option Wanted) (agrees : FileSet → Type 0) (n m : ℕ) (failed : Type 0) (side leads : List Put → Type 0) (end : Status) (old new : Seen) (puts : List Put) (makes : PutsMake old puts new) where
-  runs_beside : (case : Case) → Answers case n m end puts ⊎ IsLeft failed case end puts → IsRunOf (Rose n m) case end puts ⊎ IsLeft failed case end puts
-  runs_beside case (inl a) = inl a.run
-  runs_beside case (inr l) = inr l
+module _ (order : Option Wanted) (agrees : FileSet → Type 0) (n m : ℕ) (failed : Type 0) (side leads : List Put → Type 0) (end : Status) (old new : Seen) (puts : List Put) (makes : PutsMake old puts new)
+    (laws : Laws) (on : leads puts) (some : (files : FileSet) × agrees files) (all : (files : FileSet) → agrees files → AnswersBeside (case_of order files) (views_in order) n m failed side end puts) where
+  was_valid : (IsStopped end → ⊥) → (files : FileSet) → agrees files → IsValid (case_of order files)
+  was_valid goes files agree = valid_of (case_of order files) end goes (all files agree).valid
 
-  module _ (laws : Laws) (on : leads puts) (some : (files : FileSet) × agrees files) (all : (files : FileSet) → agrees files → AnswersBeside (case_of order files) (views_in order) n m failed side end puts) where
-    batch : (IsStopped end → ⊥) → (b : AskedBatch) → order ≡ Some (Batch b) → (files : FileSet) → agrees files → HasNoList b files end ⊎ Batched b files end old.written new.written
-    batch goes b wanted files agree =
-        told_by (case_of order files) (views_in order) n m failed side end puts (λ a. batched laws b files order wanted end old new puts makes goes n m a)
-        (λ f is. absurd (goes (inr (inl is)))) (all files agree)
+  was_delivered : (IsStopped end → ⊥) → (files : FileSet) → agrees files → Delivers (Defines (case_of order files)) end puts
+  was_delivered goes files agree = delivers (Rose n m × ReadsFolder (case_of order files)) failed (Defines (case_of order files)) (CutOf (case_of order files)) end puts (all files agree).run goes
 
-    one : end ≡ status.Ok → (files : FileSet) → agrees files → OneOf order files end old new
-    one ok files agree = beside_one laws order files (views_in order) n m failed side end puts old new makes (λ b wanted. whole b (batch (λ stops. not_stopped (subst IsStopped ok stops)) b wanted files agree)) (all files agree) ok
-      where
-        whole : (b : AskedBatch) → HasNoList b files end ⊎ Batched b files end old.written new.written → Batched b files end old.written new.written
-        whole b (inl (refusal, read, is)) = absurd (let bad : status.Refused refusal ≡ status.Ok = sym is ∙ ok in cc)
-        whole b (inr h) = h
+  batch : (IsStopped end → ⊥) → (b : AskedBatch) → order ≡ Some (Batch b) → (files : FileSet) → agrees files → HasNoList b files end ⊎ Batched b files end old.written new.written
+  batch goes b wanted files agree = batched laws b files end old new puts makes order wanted (was_valid goes files agree) (was_delivered goes files agree)
 
-    pub result_of : IsRunResult order agrees n m failed side leads end old new
-    result_of = record {
-      puts = λ files agree. record { puts = puts; leads_on = on; run = runs_beside (case_of order files) (all files agree).answers };
-      side = λ files agree. (all files agree).side;
-      watched = λ ok j views files agree. (all files agree).watched ok j views;
-      told = some;
-      headline = λ ok files agree. told_of order files end old new (one ok files agree);
-      one = one;
-      batch = batch;
-      read_fault = beside_read_rose (case_of order some.0) (views_in order) n m failed side end puts (all some.0 some.1);
-      write_fault = beside_put_rose (case_of order some.0) (views_in order) n m failed side end puts old new makes (all some.0 some.1);
-      decided = λ files agree. beside_decided laws order files (views_in order) n m failed side end puts old new makes (all files agree);
-      complete = λ files agree. beside_complete laws order files (views_in order) n m failed side end puts old new makes (all files agree);
-    }
+  one : end ≡ status.Ok → (files : FileSet) → agrees files → OneOf order files end old new
+  one ok files agree =
+      one_of laws order files end puts old new makes ok (was_valid goes files agree) (was_delivered goes files agree) (λ b wanted. whole b (batch goes b wanted files agree))
+    where
+      goes : IsStopped end → ⊥
+      goes stops = not_stopped (subst IsStopped ok stops)
+
+      whole : (b : AskedBatch) → HasNoList b files end ⊎ Batched b files end old.written new.written → Batched b files end old.written new.written
+      whole b (inl (refusal, read, is)) = absurd (let bad : status.Refused refusal ≡ status.Ok = sym is ∙ ok in cc)
+      whole b (inr h) = h
+
+  pub result_of : IsRunResult order agrees n m failed side leads end old new
+  result_of = record {
+    puts = λ files agree. record { puts = puts; leads_on = on; run = (all files agree).run };
+    side = λ files agree. (all files agree).side;
+    watched = λ ok j views files agree. (all files agree).watched ok j views;
+    told = some;
+    headline = λ ok files agree. headline_of order files end old new (one ok files agree);
+    one = one;
+    batch = batch;
+    read_fault = read_rose (Rose n m) failed order some.0 end puts old new makes (all some.0 some.1).run;
+    write_fault = put_rose (Rose n m) failed order some.0 end puts old new makes (all some.0 some.1).run;
+    decided = λ files agree. decided (Rose n m) failed order files end puts old new makes (all files agree).run laws (all files agree).valid;
+    complete = λ files agree. complete (Rose n m) failed order files end puts old new makes (all files agree).run laws (all files agree).valid;
+  }

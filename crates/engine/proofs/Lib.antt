@@ -5,7 +5,7 @@ pub mod Ends
 pub mod DeckEnds
 pub mod Certifying
 pub mod Spans
-pub mod Told
+pub mod OkRuns
 pub mod Outcomes
 pub mod StoredSteps
 pub mod Written

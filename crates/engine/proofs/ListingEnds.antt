@@ -2,10 +2,9 @@
 use Rattle.engine.proofs.Common.{TimeStep, JobEnd, AllZip, first_not_ok, or_else, IsBatch, batch_settles, batches_agree, AreDecks, IsRunText, JobDefines}
 use Rattle.engine.proofs.Common.{model_line, IsJobEnd, IsValidJob, GoesThrough, IsPlainJob, Job, IsListing, status_of, AllSteps, ListingEnd, Step, Task}
 use Rattle.engine.proofs.Common.{Refusal, Agree, Text, Status, Err, IfOk, Ok, Result, ap, inl, inr, refl, subst, sym, ◌∙◌, ◌∷◌, ◌≡◌, List, [], All-head}
-use Rattle.engine.proofs.Common.{All-tail, All, NoBound}
-use Rattle.std.specs.Prelude.{false}
+use Rattle.engine.proofs.Common.{All-tail, All, NoBound, false}
 use Rattle.engine.proofs.Certifying.{IsFault}
-use Rattle.engine.proofs.Told.{Laws}
+use Rattle.engine.proofs.OkRuns.{Laws}
 use Rattle.run_puts.specs.declared.puts.Status.TheVariants as status
 use Rattle.listing_run.specs.declared.text.ListingEnd.TheVariants as ends
 

@@ -3,12 +3,12 @@ use Rattle.engine.proofs.Common.{◌≡◌, ℕ, ◌≤◌, Bool, true, length, 
 use Rattle.engine.proofs.Common.{map, subst, ℤ, unsigned_abs, length-map, FileSet, IsReading, file_refusal, input_fault, IsGoodName, is_good_name, InputFault}
 use Rattle.engine.proofs.Common.{Refusal, Has, Stops, StopsText, FlowModel, IsModel, Text, ListedStep, AreZonesOf, ZonedListing, named, IsNamedFault, Limits}
 use Rattle.engine.proofs.Common.{◌>>=◌, model_of, Difference, one_deck, AreDecksAs, IsUnlikeFault, second_by, Second, of_both, of_first, of_second, InputCounts}
-use Rattle.engine.proofs.Common.{cell_count, false, AreDecks, Decks, AreDecksOf, IsNoSecond, IfErr, second_in, reads, ReadsOn, names_in, AreAlike, IfSome}
-use Rattle.engine.proofs.Common.{option_map, IsSecond}
+use Rattle.engine.proofs.Common.{cell_count, AreDecks, Decks, AreDecksOf, IsNoSecond, IfErr, second_in, reads, ReadsOn, names_in, AreAlike, IfSome, option_map}
+use Rattle.engine.proofs.Common.{IsSecond, err_from_is_err_and, IsErrAnd}
+use Rattle.std.proofs.Common.{false, All}
 use Rattle.outside.specs.declared.codes.Code.TheVariants.{BadName}
 use Rattle.name_file.specs.Pairs.{Pairs}
 use Rattle.outside.specs.declared.inputs.TextFault.{TextFault}
-use Rattle.std.proofs.Common.{All}
 use Rattle.engine.specs.declared.two_decks.Second.{Second as SecondBy}
 use Rattle.outside.specs.declared.traits.Folder.{Ghosts as FolderOf}
 use Rattle.outside.proofs.NameTests.{is_taken, is_good}
@@ -43,6 +43,10 @@ pub reading_of : {T V : Type 0} (view : V → T) (r : Result T Refusal) (answer 
 reading_of view r (Ok x) h = h
 reading_of view r (Err (input.Refused refusal)) h = h
 reading_of view r (Err other) h = tt
+
+-- a reading that ended with the error of a call
+pub passed_reading : {T V : Type 0} (view : V → T) (r : Result T Refusal) (answer : Result V InputFault) (fault : InputFault) → IsErrAnd answer (λ f. f ≡ fault) → IsReading view r (Err fault) → IsReading view r answer
+passed_reading view r answer fault is h = let p = err_from_is_err_and answer is in subst (IsReading view r) (sym (p.1 ∙ ap Err p.2)) h
 
 -- two readings in a row: the first one stopped, or the second one gave this
 module _ {T U W : Type 0} (view : W → U) (r : Result T Refusal) (f : T → Result U Refusal) where

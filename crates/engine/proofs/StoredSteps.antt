@@ -1,14 +1,15 @@
 -- A step whose cells have storage has a floor and a ceiling.
 use Rattle.engine.proofs.Common.{◌≡◌, ◌≢◌, ℕ, Bool, true, cond, List, [], ◌∷◌, Result, Ok, Err, Option, Some, None, inl, inr, sym, ap, subst, arith, ℤ}
 use Rattle.engine.proofs.Common.{if◌then◌else◌, Plain, Limits, Decks, TimeStep, one_deck, Bound, NoBound, Entries, lower_at, upper_at, no_heads, no_budget}
-use Rattle.engine.proofs.Common.{no_zones, Wide, false, LeavesRange, HasLargeFlow, IsStored, StorageHolds, faces_of, refl, filter, pairs_below}
+use Rattle.engine.proofs.Common.{no_zones, Wide, LeavesRange, HasLargeFlow, StorageHolds, faces_of, refl, filter, pairs_below}
+use Rattle.std.proofs.Common.{false}
 use Rattle.step_chain.specs.declared.solved.Solved.{Solved}
 use Rattle.step_problem.specs.declared.place.Dir.{Dir}
 use Rattle.step_problem.specs.declared.place.Dir.TheVariants.{In, Out}
 use Rattle.step_problem.specs.declared.place.Term.{Term}
 use Rattle.step_problem.specs.declared.heads.Side.{Side}
 use Rattle.step_problem.specs.declared.heads.Side.TheVariants.{Low, High}
-use Rattle.barrier_vector.specs.{IsUnbounded, RefusesOn, HasStorage, HasNoBound, IsRefused, no_barrier_on}
+use Rattle.barrier_vector.specs.{IsUnbounded, RefusesOn, HasStorage, HasNoBound, no_barrier_on}
 use Rattle.barrier_vector.specs.declared.BarrierFault.TheVariants.{NoBound as AFault}
 use Rattle.barrier_vector.proofs.Sides.{stored_fault, stored_refusal, unbounded_refuses}
 use Rattle.budget_bounds.specs.{◌>>=◌, all_terms, budget_of, is_small, term_of, term_pair, terms_of, too_large}
@@ -24,27 +25,16 @@ IsOther code = (code ≢ 24) × (code ≢ 25)
 other_code : (a b : ℕ) → a ≡ b → IsOther b → IsOther a
 other_code a b e h = subst IsOther (sym e) h
 
-has_storage : (p : List Entries) → IsStored p → HasStorage p
-has_storage p stored = λ c within. let s = stored c within in (s.0, s.1, s.2, omega (arith, s.3))
-
-barrier_code : (p : List Entries) (n : NoBound) → IsStored p → IsRefused p n → IsOther n.code
-barrier_code p n stored refused = stored_refusal p (has_storage p stored) n refused
-
 -- a refusal of a side of the cut barrier
-cut_code : (side : Side) (p : List Entries) (n : NoBound) → IsStored p → RefusesOn no_barrier_on (λ side. HasNoBound side p) side p n → IsOther n.code
-cut_code side p n stored refused = stored_fault side p (has_storage p stored) (AFault n) (unbounded_refuses side p (AFault n) refused)
+cut_code : (side : Side) (p : List Entries) (n : NoBound) → HasStorage p → RefusesOn no_barrier_on (λ side. HasNoBound side p) side p n → IsOther n.code
+cut_code side p n stored refused = stored_fault side p stored (AFault n) (unbounded_refuses side p (AFault n) refused)
 
-unbounded_code : (p : List Entries) (n : NoBound) → IsStored p → IsUnbounded p n → IsOther n.code
+unbounded_code : (p : List Entries) (n : NoBound) → HasStorage p → IsUnbounded p n → IsOther n.code
 unbounded_code p n stored (inl low) = cut_code Low p n stored low
 unbounded_code p n stored (inr (nowhere, high)) = cut_code High p n stored high
 
-the_code : Option ℕ → ℕ
-the_code (Some m) = m
-the_code None = 0
-
 one_code : (m n : ℕ) → Some m ≡ Some n → n ≡ m
-unfolding the_code
-one_code m n e = sym (ap the_code e)
+one_code m n e = cc
 
 chosen_code : (a b c : Bool) (n : ℕ) → cond a (Some 21) (cond b (Some 22) (cond c (Some 23) None)) ≡ Some n → IsOther n
 chosen_code true b c n e = other_code n 21 (one_code 21 n e) (omega arith, omega arith)
@@ -59,13 +49,8 @@ problem_code e n h = chosen_code _ _ _ n h
 abbrev TooLarge : NoBound → Type 0
 TooLarge n = n.code ≡ 23
 
-err_of : {B : Type 0} → NoBound → Result B NoBound → NoBound
-err_of d (Ok b) = d
-err_of d (Err k) = k
-
 one_err : {B : Type 0} (m n : NoBound) → Path (Result B NoBound) (Err m) (Err n) → m ≡ n
-unfolding err_of
-one_err m n e = ap (err_of m) e
+one_err m n e = cc
 
 bind_code : {A B : Type 0} (x : Result A NoBound) (f : A → Result B NoBound) → ((n : NoBound) → x ≡ Err n → TooLarge n) → ((a : A) (n : NoBound) → f a ≡ Err n → TooLarge n) → (n : NoBound) → (x >>= f) ≡ Err n → TooLarge n
 bind_code (Ok a) f first more n e = more a n e
@@ -116,7 +101,7 @@ range_code limits d s at old n leaves = elim leaves.refused [
 
 pub storage_holds : StorageHolds
 storage_holds Plain m s zones rounds quick at old n stored (no_heads (inl none)) = let (e, is) = a_refusal m s at old n none in problem_code e n.code is
-storage_holds Plain m s zones rounds quick at old n stored (no_heads (inr (p, is, refused))) = barrier_code p n (stored p is) refused
+storage_holds Plain m s zones rounds quick at old n stored (no_heads (inr (p, is, refused))) = stored_refusal p (stored p is) n refused
 storage_holds Wide m s zones rounds quick at old n stored (no_heads (inl (inl none))) = let (e, is) = a_refusal m s at old n none in problem_code e n.code is
 storage_holds Wide m s zones rounds quick at old n stored (no_heads (inl (inr (p, is, refused)))) = unbounded_code p n (stored p is) refused
 storage_holds Wide m s zones rounds quick at old n stored (no_heads (inr leaves)) = range_code Wide (one_deck m) s at old n leaves

@@ -1,10 +1,10 @@
 -- What a viewer put to its sink, by what it was told and shown.
 use Rattle.engine.proofs.Common.{◌≡◌, ◌∙◌, ◌⊎◌, ℕ, ◌+◌, ◌*◌, ◌<◌, List, [], ◌∷◌, ◌++◌, length, map, Bool, true, Option, Some, None, inl, inr, ap, sym, subst}
 use Rattle.engine.proofs.Common.{refl, arith, is_some, append_assoc, append-nil, map-append, All-append, All-cons, All-nil, All-weaker, Rose, Put, PutsMake}
-use Rattle.engine.proofs.Common.{Seen, refused, taken, SinkError, Bound, Entries, Edges, TimeStep, AddsPhases, EnclosesPair, Text, cut, early, failed, Status}
-use Rattle.engine.proofs.Common.{write_rose, AreAllShown, IsStopPut, LeadOn, ViewPuts, no_lead, Task, Step, IsStep, IsSettledBy, PairEncloses, Reaches}
+use Rattle.engine.proofs.Common.{Seen, refused, taken, SinkError, Bound, Entries, Edges, TimeStep, AddsPhases, EnclosesPair, Text, failed}
+use Rattle.engine.proofs.Common.{AreAllShown, IsStopPut, LeadOn, ViewPuts, no_lead, Task, Step, IsStep, IsSettledBy, PairEncloses, Reaches}
 use Rattle.engine.proofs.Common.{ReachesFirst, begun, rests, settled, AreViews, AreWatched, ArePutInTurn, IsView, IsWatched, Shows, ViewPutsOf, lines_of}
-use Rattle.engine.proofs.Common.{edges_by, false, view_text}
+use Rattle.engine.proofs.Common.{edges_by, false, view_text, early_rose}
 use Rattle.std.proofs.Common.{All}
 use Rattle.view_puts.proofs.Views.{lead_more}
 use Rattle.model_types.specs.{times as times_of}
@@ -28,10 +28,7 @@ no_views (v ∷ views) e = absurd (let no : ⊥ = omega (arith, e) in no)
 
 -- a sink of texts that were taken, and then of one whose write failed
 write_failed : (texts : List Text) (text : Text) (old new : Seen) → PutsMake old (map taken texts ++ (refused text error.Write ∷ [])) new → Rose old.faults new.faults
-write_failed texts text old new makes =
-    let Never : Status → List Text → Type 0 = λ end pieces. ⊥ in
-    let Any : List Text → Type 0 = λ pieces. Unit {0} in
-    write_rose Never Any (λ pieces f. f) status.WriteFault _ old new (early status.WriteFault texts (text ∷ []) (refused text error.Write ∷ []) (cut texts (text ∷ []) tt) (failed text [])) refl makes
+write_failed texts text old new makes = early_rose texts (text ∷ []) status.WriteFault _ old new (failed text []) refl makes
 
 not_whole : false ≡ true → ⊥
 not_whole e = cc

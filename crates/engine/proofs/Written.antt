@@ -1,15 +1,13 @@
 -- What a run wrote is certified.
-use Rattle.engine.proofs.Common.{[], ◌≡◌, ℕ, Bool, true, List, ◌∷◌, map, Option, None, Some, Result, Ok, Err, refl, sym, ap, ◌∙◌, subst, arith, ℤ, unsigned_abs}
-use Rattle.engine.proofs.Common.{concat, FileSet, file_at, is_good_name, Refusal, FlowModel, Wanted, wanted_of, pairs_in, AreNumbers, ListedStep, all_lines}
-use Rattle.engine.proofs.Common.{listing_at, or_bad_listing, one_valid, Text, end_line, IsListing, listing, IsWhole, whole_listing, ZonedListing, Case}
-use Rattle.engine.proofs.Common.{Checking, case_of, listing_read, steps_read, task_of, zones_read, IsCheck, certified_line, Defines, Limits, unit_is_short}
-use Rattle.engine.proofs.Common.{IsReadable, RunIsCertified, RunIsReadAgain, as_listed, Step, ChecksWritten, WrittenIsCertified, Task, false, reads, AreDecks}
-use Rattle.engine.proofs.Common.{is_some, listing_in, ◌>>=◌, case_read, option_map, Asked, Decks, named, OneSpan, span_task_of, have_one, AreItsSteps}
-use Rattle.engine.proofs.Common.{OneListing}
+use Rattle.engine.proofs.Common.{[], ◌≡◌, ℕ, Bool, List, ◌∷◌, map, Option, None, Some, Result, Ok, Err, refl, sym, ap, ◌∙◌, subst, arith, ℤ, unsigned_abs}
+use Rattle.engine.proofs.Common.{concat, FileSet, Refusal, FlowModel, Wanted, wanted_of, pairs_in, AreNumbers, ListedStep, all_lines, listing_at}
+use Rattle.engine.proofs.Common.{or_bad_listing, one_valid, Text, end_line, IsListing, listing, IsWhole, whole_listing, ZonedListing, Case, Checking, case_of}
+use Rattle.engine.proofs.Common.{listing_read, steps_read, task_of, zones_read, IsCheck, certified_line, Defines, Limits, unit_is_short, IsReadable}
+use Rattle.engine.proofs.Common.{RunIsCertified, RunIsReadAgain, as_listed, Step, ChecksWritten, WrittenIsCertified, Task, reads, AreDecks, is_some, listing_in}
+use Rattle.engine.proofs.Common.{◌>>=◌, case_read, option_map, Asked, Decks, named, OneSpan, span_task_of, have_one, AreItsSteps, OneListing}
 use Rattle.zone_file.specs.{zones_of}
 use Rattle.check_run.proofs.FlowPairs.{run_encloses}
 use Rattle.command_line.proofs.DigitLemmas.{check_digits}
-use Rattle.std.specs.Prelude.{if◌then◌else◌}
 use Rattle.zone_file.proofs.ZoneLemmas.{numbers_small}
 use Rattle.check_run.specs.declared.verdict.ListingVerdict.TheVariants.{Certified as Holds}
 use Rattle.engine.proofs.Readings.{decks_read, named_read}
@@ -17,16 +15,8 @@ use Rattle.engine.proofs.DeckEnds.{case_within, to_check, within_defines}
 use Rattle.run_puts.specs.declared.puts.Status.TheVariants as status
 use Rattle.listing_run.specs.declared.text.ListingEnd.TheVariants as ends
 
-pub clash : {B E : Type 0} (e : E) (y : B) (r : Result B E) → r ≡ Err e → r ≡ Ok y → ⊥
-clash e y r h k = cc
-
 some_ok : (x y : Option (List ℕ)) → Path (Result (Option (List ℕ)) Refusal) (Ok x) (Ok y) → x ≡ y
 some_ok x y h = cc
-
--- what is made of a file's bytes, where its name is taken
-pub with_bytes : (good : Bool) (found : Result (List ℕ) Refusal) (made : List ℕ → Result (List ListedStep) Refusal) (refusal : Refusal) (bytes : List ℕ) → (if good then found else Err refusal) ≡ Ok bytes → (if good then (found >>= made) else Err refusal) ≡ made bytes
-with_bytes true found made refusal bytes h = ap (λ r. r >>= made) h
-with_bytes false found made refusal bytes h = absurd (clash refusal bytes (Err refusal) refl h)
 
 some_mapped : {A B : Type 0} (f : A → B) (x : Option A) → is_some (option_map f x) ≡ is_some x
 some_mapped f None = refl
@@ -61,7 +51,7 @@ module _ (certified : RunIsCertified) (again : RunIsReadAgain) (k : Task) (piece
       ap (or_bad_listing h.asked.listing) (subst D (sym h.digits) (subst P (sym whole.are) (again k.limits k.decks k.digits k.zones k.rounds k.quick whole.values readable whole.steps)))
 
   steps_are : steps_read between files h.asked k.decks.first k.zones ≡ Ok (map as_listed whole.values)
-  steps_are = with_bytes (is_good_name h.asked.listing) (file_at files h.asked.listing) listing_of_bytes _ (concat pieces) h.listing ∙ steps_of_bytes
+  steps_are = ap (λ (r : Result (List ℕ) Refusal). r >>= listing_of_bytes) h.listing ∙ steps_of_bytes
 
   read : listing_read between files h.asked k.decks.first ≡ Ok listing_of
   read = rw (h.zoned, steps_are) refl
@@ -105,7 +95,7 @@ read_numbers files (Some name) m zones h = by_zones (zones_of files m.grid name)
   where
     by_zones : (r : Result (List ℤ) Refusal) → zones_of files m.grid name ≡ r → (r >>= λ zs. Ok (Some (map unsigned_abs zs))) ≡ Ok zones → AreNumbers zones
     by_zones (Ok zs) is e = subst AreNumbers (some_ok (Some (map unsigned_abs zs)) zones e) (numbers_small files m.grid name zs is)
-    by_zones (Err refusal) is e = absurd (clash refusal zones (Err refusal) refl e)
+    by_zones (Err refusal) is e = absurd (let bad : Path (Result (Option (List ℕ)) Refusal) (Err refusal) (Ok zones) = e in cc)
 
 -- The bytes of a listing of all steps, which enclose their histories.
 module _ (written : WrittenIsCertified) (asked : Asked) (files : FileSet) (bytes : List ℕ) (checks : List Text) (others : FileSet) where

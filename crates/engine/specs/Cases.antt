@@ -86,7 +86,7 @@ zones_read files (Some name) m = zones_of files m.grid name >>= λ zones. Ok (So
 -- tested once the model and the zone file are read
 abbrev pub steps_read : Bool → FileSet → AskedCheck → FlowModel → Option (List ℕ) → Result (List ListedStep) Refusal
 steps_read between files asked m zones =
-    named asked.listing (λ name. file_at files name >>= listing_in between m asked.digits (pairs_in m zones) asked.listing)
+    named asked.listing (file_at files) >>= listing_in between m asked.digits (pairs_in m zones) asked.listing
 
 -- the listing that a check names, with the zones of its zone file, if there is one, which is read first
 abbrev pub listing_read : Bool → FileSet → AskedCheck → FlowModel → Result ZonedListing Refusal
@@ -97,7 +97,7 @@ listing_read between files asked m = do
 
 -- the names of a batch's list; the list's own name is tested before its file
 abbrev pub names_read : FileSet → AskedBatch → Result (List Text) Refusal
-names_read files b = named b.list (λ name. file_at files name >>= names_in b.list)
+names_read files b = named b.list (file_at files) >>= names_in b.list
 
 -- what is listed of a model of the batch
 abbrev pub job_task : AskedBatch → FlowModel → Task

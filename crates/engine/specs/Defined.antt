@@ -61,16 +61,18 @@ ReadsFolder NoWords = ⊥
 ReadsFolder (Making seed size read) = ⊥
 ReadsFolder other = Unit {0}
 
--- The pieces due if a run has this end: those that are defined, or, if a read failed, the line READFAULT alone.
-pub data IsDue (read_failed : Type 0) (defines : Status → List Text → Type 0) : Status → List Text → Type 0 where
-  defined : (end : Status) (pieces : List Text) → defines end pieces → IsDue read_failed defines end pieces
-  unread : read_failed → IsDue read_failed defines status.ReadFault (read_fault_line ∷ [])
-
-abbrev pub Due : Type 0 → Case → Status → List Text → Type 0
-Due read_failed case = IsDue (read_failed × ReadsFolder case) (Defines case)
-
--- the pieces after which a run may stop because memory ran out: the first ones of a listing
+-- the pieces after which a run may stop because memory ran out, or a write beside it failed: the first ones of a listing
 abbrev pub CutOf : Case → List Text → Type 0
 CutOf (Listing k) pieces = IsCutListing k pieces
 CutOf (Comparing a b case) pieces = AreAlike a b.model × CutOf case pieces
 CutOf other pieces = ⊥
+
+-- The pieces due if a run has this end: those that are defined; if a read failed, the line READFAULT alone; or if a write beside it
+-- failed, those after which it may stop.
+pub data IsDue (read_failed failed_beside : Type 0) (defines : Status → List Text → Type 0) (cuts : List Text → Type 0) : Status → List Text → Type 0 where
+  defined : (end : Status) (pieces : List Text) → defines end pieces → IsDue read_failed failed_beside defines cuts end pieces
+  unread : read_failed → IsDue read_failed failed_beside defines cuts status.ReadFault (read_fault_line ∷ [])
+  broken_off : (pieces : List Text) → failed_beside → cuts pieces → IsDue read_failed failed_beside defines cuts status.WriteFault pieces
+
+abbrev pub Due : Type 0 → Type 0 → Case → Status → List Text → Type 0
+Due read_failed failed_beside case = IsDue (read_failed × ReadsFolder case) failed_beside (Defines case) (CutOf case)

@@ -24,7 +24,7 @@ use Rattle.run_puts.specs.declared.puts.Status.{Status}
 use Rattle.run_puts.specs.declared.puts.Status.TheVariants as status
 use Rattle.engine.specs.Cases.{Case, Listing, Making, Checking, Jobs, Writing, Comparing, named}
 use Rattle.engine.specs.declared.job.Job.{Job}
-use Rattle.engine.specs.Runs.{IsLeft, IsRunOf}
+use Rattle.engine.specs.Runs.{IsRunOf}
 use Rattle.engine.specs.Watched.{SidePuts, Watched}
 
 -- the puts of an end because of this fault of reading
@@ -86,14 +86,15 @@ IsValid other = Unit {0}
 
 -- all facts of the result of a run of this case: what was read is valid, unless the run stopped before it was read whole
 pub record Answers (case : Case) (before after : ℕ) (end : Status) (puts : List Put) : Type 0 where
-  pub run : IsRunOf (Rose before after) case end puts
+  pub run : IsRunOf (Rose before after) ⊥ case end puts
   pub valid : IsStopped end ⊎ IsValid case
 
--- Facts of the result of a run of this case beside which a side sink is led so: all of the above, or it stopped since a write beside
--- it failed; and the side sink got the views that are asked for: of the first steps, and if the run ended Ok of all.
+-- all facts of the result of a run of this case beside which a side sink is led so: those above, where a write beside it may fail; and
+-- the side sink got the views that are asked for: of the first steps, and if the run ended Ok of all
 pub record AnswersBeside (case : Case) (views : Option ℕ) (before after : ℕ) (failed_beside : Type 0)
     (leads : List Put → Type 0) (end : Status) (puts : List Put) : Type 0 where
-  pub answers : Answers case before after end puts ⊎ IsLeft failed_beside case end puts
+  pub run : IsRunOf (Rose before after) failed_beside case end puts
+  pub valid : IsStopped end ⊎ IsValid case
   pub watched : end ≡ status.Ok → (n : ℕ) → views ≡ Some n → Watched true case n leads
   pub side : SidePuts leads case views
 

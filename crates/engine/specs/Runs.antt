@@ -1,8 +1,8 @@
 -- What a run puts, how it ends, and which end is certain.
-use Rattle.std.specs.Prelude.{◌≡◌, ◌⊎◌, ℕ, List, false, map, Ok, Option, IfOk, All}
+use Rattle.std.specs.Prelude.{◌≡◌, ◌⊎◌, ℕ, List, false, Ok, Option, IfOk, All}
 use Rattle.command_line.specs.{Wanted}
 use Rattle.engine.specs.declared.job.Job.{Job}
-use Rattle.outside.specs.{Rose, Put, taken, FileSet}
+use Rattle.outside.specs.{Rose, Put, FileSet}
 use Rattle.step_problem.specs.declared.place.NoBound.{NoBound}
 use Rattle.model_types.specs.declared.time_steps.TimeStep.{TimeStep}
 use Rattle.run_puts.specs.{IsUnfinished, Text, IsRun}
@@ -20,16 +20,8 @@ use Rattle.engine.specs.Made.{made_task}
 use Rattle.engine.specs.Defined.{Defines, Due, CutOf}
 
 -- the puts of a run of this case with this end
-abbrev pub IsRunOf : Type 0 → Case → Status → List Put → Type 0
-IsRunOf read_failed case = IsRun (Due read_failed case) (CutOf case)
-
--- A run that stopped since a write beside it failed has put the first pieces of a listing, each taken whole.
-pub record IsLeft (failed_beside : Type 0) (case : Case) (end : Status) (puts : List Put) : Type 0 where
-  pub why : failed_beside
-  pub is : end ≡ status.WriteFault
-  pub pieces : List Text
-  pub cut : CutOf case pieces
-  pub taken_whole : puts ≡ map taken pieces
+abbrev pub IsRunOf : Type 0 → Type 0 → Case → Status → List Put → Type 0
+IsRunOf read_failed failed_beside case = IsRun (Due read_failed failed_beside case) (CutOf case)
 
 -- What a run puts, for every status: `leads` says which puts take the sink from its state before to its state after,
 -- and the two numbers are the folder's counts of faults before and after. `failed_beside` says that a write to the side failed.
@@ -37,7 +29,7 @@ pub record Puts (leads : List Put → Type 0) (order : Option Wanted) (files : F
     (failed_beside : Type 0) (end : Status) : Type 0 where
   pub puts : List Put
   pub leads_on : leads puts
-  pub run : IsRunOf (Rose before after) (case_of order files) end puts ⊎ IsLeft failed_beside (case_of order files) end puts
+  pub run : IsRunOf (Rose before after) failed_beside (case_of order files) end puts
 
 -- the job is no listing with --quick
 abbrev pub IsPlainJob : Job → Type 0

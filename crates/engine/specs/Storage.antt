@@ -1,25 +1,20 @@
 -- Where storage holds the heads of a step.
-use Rattle.std.specs.Prelude.{◌≡◌, ◌≢◌, ℕ, ◌<◌, ◌≤◌, List, length, Contains, Bool, Option}
-use Rattle.step_problem.specs.declared.entry.Fixed.{Fixed}
-use Rattle.step_problem.specs.declared.entry.FixedKind.TheVariants.{Storage}
+use Rattle.std.specs.Prelude.{◌≢◌, ℕ, List, Bool, Option}
 use Rattle.step_problem.specs.declared.heads.Bound.{Bound}
 use Rattle.step_problem.specs.declared.place.NoBound.{NoBound}
 use Rattle.step_problem.specs.declared.refusal.StepRefusal.TheVariants.{NoBarrierLow, NoBarrierHigh}
-use Rattle.step_problem.specs.{number_of, entries_at}
+use Rattle.step_problem.specs.{number_of}
 use Rattle.step_problem.specs.Entries.{Entries}
 use Rattle.model_types.specs.declared.limits.Limits.{Limits}
 use Rattle.model_types.specs.declared.model.FlowModel.{FlowModel}
 use Rattle.model_types.specs.declared.time_steps.TimeStep.{TimeStep}
 use Rattle.problem_builder.specs.{IsProblemOf}
+use Rattle.barrier_vector.specs.{HasStorage}
 use Rattle.listing_run.specs.{HasNoBound, one_task}
 
--- each cell has a storage whose lower bound is at least one unit
-abbrev pub IsStored : List Entries → Type 0
-IsStored p = (c : ℕ) → c < length p → (x : Fixed) × Contains (entries_at p c).fixed x × (x.kind ≡ Storage) × (1 ≤ x.lo)
-
--- Then a refusal of the step is neither NoBarrierLow nor NoBarrierHigh.
+-- Where each variable cell has a storage that certainly conducts, a refusal of the step is neither NoBarrierLow nor NoBarrierHigh.
 abbrev pub StorageHolds : Type 0
 StorageHolds =
     (limits : Limits) (m : FlowModel) (s : ℕ) (zones : Option (List ℕ)) (rounds : ℕ) (quick : Bool) (at : TimeStep) (old : List Bound) (n : NoBound) →
-    ((p : List Entries) → IsProblemOf m s at old p → IsStored p) →
+    ((p : List Entries) → IsProblemOf m s at old p → HasStorage p) →
     HasNoBound (one_task limits m s zones rounds quick) at old n → (n.code ≢ number_of NoBarrierLow) × (n.code ≢ number_of NoBarrierHigh)

@@ -3,7 +3,7 @@ ghost use Rattle.std.specs.Prelude.{◌≡◌, map, IfOk};
 ghost use Rattle.command_line.specs.{wanted};
 ghost use Rattle.engine.specs.{bytes_asked, files_named, files_of};
 
-use command_line::{CheckOrder, Order, RunOrder, WordsFault, read_order};
+use command_line::{Order, WordsFault, read_order};
 use model_types::Limits;
 use std::alloc::{AllocError, Global};
 
@@ -13,39 +13,24 @@ fn files_of<'a>(alloc: Global, order: Order<'a>) -> Result<Vec<&'a str>, AllocEr
 {
     let mut names = Vec::new(alloc);
     match order {
-        Order::Run(
-            RunOrder {
-                name,
-                to,
-                zones,
-                ..
-            },
-        ) => {
-            names.push(name)?;
-            if let Some(to) = to {
+        Order::Run(asked) => {
+            names.push(asked.name)?;
+            if let Some(to) = asked.to {
                 names.push(to)?;
             }
-            if let Some(zones) = zones {
+            if let Some(zones) = asked.zones {
                 names.push(zones)?;
             }
         }
-        Order::Check(
-            CheckOrder {
-                name,
-                to,
-                listing,
-                zones,
-                ..
-            },
-        ) => {
-            names.push(name)?;
-            if let Some(to) = to {
+        Order::Check(asked) => {
+            names.push(asked.name)?;
+            if let Some(to) = asked.to {
                 names.push(to)?;
             }
-            if let Some(zones) = zones {
+            if let Some(zones) = asked.zones {
                 names.push(zones)?;
             }
-            names.push(listing)?;
+            names.push(asked.listing)?;
         }
         Order::Make(_) => {}
         Order::Batch(asked) => names.push(asked.list)?,

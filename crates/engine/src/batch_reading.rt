@@ -6,13 +6,13 @@ ghost use Rattle.command_line.specs.{batch_of};
 ghost use Rattle.engine.specs.{AreTasks, IsBatchRead, job_of, NeverRefused, HasNames};
 
 use crate::job::Job;
-use crate::reading::bad_name;
+use crate::reading::read_file;
 use batch_list::read_list;
 use command_line::BatchOrder;
 use deck_problems::Decks;
 use listing_run::Task;
 use model_reader::read_named_model;
-use outside::{Folder, InputFault, Name, is_good_name, read_input};
+use outside::{Folder, InputFault, Name};
 use std::alloc::Global;
 
 /// Reads the model of a name. A refusal of its files is the job's own, and no fault of the reading.
@@ -78,7 +78,7 @@ fn read_jobs<'a, F: Folder>(
     Ok(jobs)
 }
 
-/// The names of a batch's list. The list's own name is tested before its file is read.
+/// The names of a batch's list.
 fn read_names<'a, F: Folder>(
     alloc: Global,
     folder: &mut F,
@@ -91,10 +91,7 @@ fn read_names<'a, F: Folder>(
     ensures few { IfOk result (λ names. length names.items ≤ 1000) }
     ensures good { IfOk result (λ names. All IsGoodName names.items) }
 {
-    if !is_good_name(asked.list.as_bytes()) {
-        return Err(bad_name(alloc));
-    }
-    let bytes = read_input(alloc, folder, asked.list)?;
+    let bytes = read_file(alloc, folder, asked.list)?;
     let names = read_list(alloc, asked.list, bytes.as_slice())?;
     Ok(names)
 }

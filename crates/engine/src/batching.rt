@@ -100,8 +100,6 @@ pub(crate) fn answer_any<
     }
 }
 
-// The jobs of a batch, as workers run them.
-
 /// Jobs whose models are valid. Clauses see the jobs.
 #[derive(Drop)]
 pub(crate) struct ReadJobs<'a> {

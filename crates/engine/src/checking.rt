@@ -10,7 +10,7 @@ ghost use Rattle.engine.specs.{IsCheck, case_of, MayRead, Answers, AreDecksAs, I
 ghost use Rattle.deck_problems.specs.{AreDecks};
 
 use crate::ending::end_reading;
-use crate::reading::{bad_name, read_zones_of};
+use crate::reading::{read_file, read_zones_of};
 use crate::two_decks::read_decks;
 use crate::verdict::put_verdict;
 use crate::zoned::ZonedListing;
@@ -20,11 +20,11 @@ use deck_problems::Decks;
 use listing_io::{Listing, read_listing};
 use listing_run::zone_slice;
 use model_types::{FlowModel, Limits};
-use outside::{Folder, InputFault, Sink, is_good_name, read_input};
+use outside::{Folder, InputFault, Sink};
 use run_puts::{Status, put_memory};
 use std::alloc::Global;
 
-// The listing of a model, or of all models between two, with these zones that a check names. The name is tested before the file is read.
+// The listing of a model, or of all models between two, with these zones that a check names.
 fn read_steps<F: Folder>(
     alloc: Global,
     folder: &mut F,
@@ -41,10 +41,7 @@ fn read_steps<F: Folder>(
         IsReading (λ l. l) (steps_read between files (check_of asked.entry) model.now (option_map (λ z. z.now) zones.entry)) result }
     ensures listed { IfOk result (AreListed model.now (pairs_in model.now (option_map (λ z. z.now) zones.entry))) }
 {
-    if !is_good_name(asked.listing.as_bytes()) {
-        return Err(bad_name(alloc));
-    }
-    let bytes = read_input(alloc, folder, asked.listing)?;
+    let bytes = read_file(alloc, folder, asked.listing)?;
     let listing = read_listing(
         alloc,
         between,

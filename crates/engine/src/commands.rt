@@ -51,8 +51,6 @@ pub fn run<R: Threads + Wait + Sync, F: Folder, K: Sink + Send, W: Sink + Send, 
     status
 }
 
-// A program's run, and the number that it ends with.
-
 /// Does what the words ask, as `run` does, and ends with the number of its status: where that is 0, the headline holds, and
 /// the views of a watched run are those of all its steps. A batch that ends with 0, 2, 3 or 4 has put the text of each of
 /// its models, or its list is refused.

@@ -1,6 +1,6 @@
 // The model of a name, and the zones of its cells.
 ghost use Rattle.std.specs.Prelude.{IfOk, IfSome, option_map};
-ghost use Rattle.outside.specs.{folder_name, FileSet, IsReading, ReadsOn};
+ghost use Rattle.outside.specs.{folder_name, file_at, FileSet, IsReading, ReadsOn, TextMay};
 ghost use Rattle.model_types.specs.{IsModel};
 ghost use Rattle.zone_pairs.specs.{AreZones};
 ghost use Rattle.model_reader.specs.{reads};
@@ -8,7 +8,7 @@ ghost use Rattle.engine.specs.{IsNamedFault, named, zones_read};
 
 use model_reader::read_named_model;
 use model_types::{FlowModel, Limits, Listed};
-use outside::{Code, Folder, InputFault, file_refusal, is_good_name};
+use outside::{Code, Folder, InputFault, file_refusal, is_good_name, read_input};
 use std::alloc::Global;
 use zone_file::{read_zones, zone_numbers};
 
@@ -20,6 +20,23 @@ pub(crate) fn bad_name(alloc: Global) -> InputFault
         Ok(refusal) => InputFault::Refused(refusal),
         Err(_) => InputFault::Memory,
     }
+}
+
+/// The bytes of a named file of the folder. The name is tested before the file is read.
+pub(crate) fn read_file<F: Folder>(
+    alloc: Global,
+    folder: &mut F,
+    name: &str,
+) -> Result<Vec<u8>, InputFault>
+    requires { F.may folder.old (folder_name name.now) }
+    ensures folder { ReadsOn F.Folder folder.old folder.new result }
+    ensures words { IfOk result (λ v. TextMay (F.may folder.new) v.items) }
+    ensures reads { (files : FileSet) → F.agrees folder.new files → IsReading (λ v. v.items) (named name.now (file_at files)) result }
+{
+    if !is_good_name(name.as_bytes()) {
+        return Err(bad_name(alloc));
+    }
+    read_input(alloc, folder, name)
 }
 
 /// The model that a name file of the folder describes, by these limits. The name is tested before any file.

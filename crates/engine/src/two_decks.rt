@@ -39,8 +39,14 @@ fn read_second<'a, F: Folder>(
         return Err(bad_name(alloc));
     }
     let files = read_name_file(alloc, folder, name)?;
-    let model = read_model(alloc, limits, &files, folder)?;
-    Ok(Second { name, files, model })
+    match read_model(alloc, limits, &files, folder) {
+        Ok(model) => Ok(Second { name, files, model }),
+        Err(fault) => {
+            // one call, so that the proof has no part for each of their fields
+            drop(files);
+            Err(fault)
+        }
+    }
 }
 
 // The layer, row and column of a cell, where there is one.

@@ -1,29 +1,21 @@
 use Rattle.engine.proofs.Common.{ℕ, subst, check_of, Answers, text_if, Check, Checking, Some, case_of, is_some, listing_read}
 use Rattle.engine.proofs.DeckEnds.{ends_undecked, to_check}
 use Rattle.engine.proofs.BatchEnds.{file_still}
-use Rattle.engine.proofs.Ends.{read_reads}
+use Rattle.engine.proofs.Ends.{puts_more, read_reads}
 use Rattle.engine.proofs.checking.check.Goals as goal
 
 pub returns-in-Ok-clause-answers : goal.returns-in-Ok-clause-answers
-returns-in-Ok-clause-answers g c = λ start puts h.
-    let m = c.check_decks-status.ensures.answers start puts h in (
-      m.0,
-      m.1,
-      λ files agree.
-          let A : ℕ → Type 0 = λ n. Answers (case_of (Some (Check (check_of c.args.asked) (text_if c.args.asked.to))) files) n (g.F.Folder.faults c.check_decks-status.new.folder) c.check_decks-status.result m.0 in
-          subst A c.in-Ok.ensures.folder.counts (m.2 files agree (c.in-Ok.ensures.reads files (c.check_decks-status.ensures.since files agree))),
-    )
+returns-in-Ok-clause-answers g c =
+    puts_more g.K.Sink.leads c.check_decks-status.ensures.answers (λ more m files agree.
+    let A : ℕ → Type 0 = λ n. Answers (case_of (Some (Check (check_of c.args.asked) (text_if c.args.asked.to))) files) n (g.F.Folder.faults c.check_decks-status.new.folder) c.check_decks-status.result more in
+    subst A c.in-Ok.ensures.folder.counts (m files agree (c.in-Ok.ensures.reads files (c.check_decks-status.ensures.since files agree))))
 
 pub returns-in-Err-clause-answers : goal.returns-in-Err-clause-answers
-returns-in-Err-clause-answers g c = λ start puts h.
-    let m = c.end_reading.ensures start puts h in
+returns-in-Err-clause-answers g c =
     let asked = check_of c.args.asked in
-    let to = text_if c.args.asked.to in (
-      m.0,
-      m.1,
-      λ files agree. ends_undecked asked.limits asked.name to files (to_check files asked to) (g.F.Folder.faults c.args.folder.now) _ c.end_reading.result m.0
-          (λ d. read_reads (Checking asked.limits d asked.digits) (λ l. tt) (listing_read (is_some to) files asked d.first)) c.in-Err.fault (c.in-Err.ensures.reads files agree) c.in-Err.ensures.folder.counts m.2,
-    )
+    let to = text_if c.args.asked.to in
+    puts_more g.K.Sink.leads c.end_reading.ensures (λ more m files agree. ends_undecked asked.limits asked.name to files (to_check files asked to)
+    (λ d. read_reads (Checking asked.limits d asked.digits) (λ l. tt) (listing_read (is_some to) files asked d.first)) c.in-Err.fault (c.in-Err.ensures.reads files agree) c.in-Err.ensures.folder.counts m)
 
 pub check_decks-status-requires-clause-zones : goal.check_decks-status-requires-clause-zones
 check_decks-status-requires-clause-zones g c = file_still _ _ (check_of c.args.asked).zones c.in-Ok.ensures.folder.still c.requires.may.2

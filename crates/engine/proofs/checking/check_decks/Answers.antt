@@ -1,7 +1,7 @@
 use Rattle.engine.proofs.Common.{◌≡◌, ◌∙◌, Bool, Option, None, Some, Ok, Err, Text, is_some, refl, subst, check_of, text_if, Checking, IsReading, ZonedListing}
 use Rattle.engine.proofs.Common.{listing_read, Bor}
 use Rattle.engine.proofs.DeckEnds.{ends_decked, to_check}
-use Rattle.engine.proofs.Ends.{ends_defined, ends_read, ends_unread}
+use Rattle.engine.proofs.Ends.{ends_defined, ends_read, ends_unread, puts_more}
 use Rattle.engine.proofs.checking.check_decks.Goals as goal
 
 is_second : (to : Option (Bor Text)) → is_some to ≡ is_some (text_if to)
@@ -9,34 +9,23 @@ is_second None = refl
 is_second (Some last) = refl
 
 pub returns-in-Ok-clause-answers : goal.returns-in-Ok-clause-answers
-returns-in-Ok-clause-answers g c = λ start puts h.
-    let m = c.put_check.ensures start puts h in
+returns-in-Ok-clause-answers g c =
     let asked = check_of c.args.asked in
     let to = text_if c.args.asked.to in
     let d = c.args.decks.now in
-    let listing = c.in-Ok.listing in
-    let n = g.F.Folder.faults c.args.folder.now in (
-      m.0,
-      m.1,
-      λ files agree read.
-          let L : Bool → Type 0 = λ b. listing_read b files asked d.first ≡ Ok listing in
-          ends_decked asked.limits asked.name to files (to_check files asked to) n _ c.put_check.result m.0 d read
-          (ends_read n _ c.put_check.result m.0 (listing_read (is_some to) files asked d.first) (Checking asked.limits d asked.digits) listing (subst L (c.is_some.ensures ∙ is_second c.args.asked.to) (c.in-Ok.ensures.reads files agree))
-          (ends_defined (Checking asked.limits d asked.digits listing) n _ c.put_check.result m.0 m.2 (c.requires.decks, c.in-Ok.ensures.listed))),
-    )
+    puts_more g.K.Sink.leads c.put_check.ensures (λ more m files agree read.
+    let L : Bool → Type 0 = λ b. listing_read b files asked d.first ≡ Ok c.in-Ok.listing in
+    ends_decked asked.limits asked.name to files (to_check files asked to) d read
+    (ends_read (listing_read (is_some to) files asked d.first) (Checking asked.limits d asked.digits) c.in-Ok.listing (subst L (c.is_some.ensures ∙ is_second c.args.asked.to) (c.in-Ok.ensures.reads files agree))
+    (ends_defined m (c.requires.decks, c.in-Ok.ensures.listed))))
 
 pub returns-in-Err-clause-answers : goal.returns-in-Err-clause-answers
-returns-in-Err-clause-answers g c = λ start puts h.
-    let m = c.end_reading.ensures start puts h in
+returns-in-Err-clause-answers g c =
     let asked = check_of c.args.asked in
     let to = text_if c.args.asked.to in
     let d = c.args.decks.now in
-    let n = g.F.Folder.faults c.args.folder.now in (
-      m.0,
-      m.1,
-      λ files agree read.
-          let L : Bool → Type 0 = λ b. IsReading {T = ZonedListing} (λ l. l) (listing_read b files asked d.first) (Err c.in-Err.fault) in
-          ends_decked asked.limits asked.name to files (to_check files asked to) n _ c.end_reading.result m.0 d read
-          (ends_unread n _ c.end_reading.result m.0 (listing_read (is_some to) files asked d.first) (Checking asked.limits d asked.digits) (λ (l : ZonedListing). l) (λ l. tt) c.in-Err.fault (subst L (c.is_some.ensures ∙ is_second c.args.asked.to) (c.in-Err.ensures.reads files agree))
-          c.in-Err.ensures.folder.counts m.2),
-    )
+    puts_more g.K.Sink.leads c.end_reading.ensures (λ more m files agree read.
+    let L : Bool → Type 0 = λ b. IsReading {T = ZonedListing} (λ l. l) (listing_read b files asked d.first) (Err c.in-Err.fault) in
+    ends_decked asked.limits asked.name to files (to_check files asked to) d read
+    (ends_unread (listing_read (is_some to) files asked d.first) (Checking asked.limits d asked.digits) (λ (l : ZonedListing). l) (λ l. tt) c.in-Err.fault
+    (subst L (c.is_some.ensures ∙ is_second c.args.asked.to) (c.in-Err.ensures.reads files agree)) c.in-Err.ensures.folder.counts m))

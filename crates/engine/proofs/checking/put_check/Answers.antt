@@ -1,6 +1,7 @@
 use Rattle.engine.proofs.Common.{◌≡◌, ℕ, List, Option, subst, sym, pairs_in, AreListed, NeverCut, lacks_at_first, IsVerdict, ListingEncloses, IsCheck, lone}
 use Rattle.engine.proofs.Common.{refl, Limits, Decks, ZonedListing, ListingVerdict, Status, Put, IsEnd, IsRun, verdict_line, verdict_status, listing, Certified}
 use Rattle.exact_histories.specs.{HaveOneHistory}
+use Rattle.engine.proofs.Ends.{puts_more}
 use Rattle.engine.proofs.checking.put_check.Goals as goal
 
 puts_verdict : (limits : Limits) (d : Decks) (s : ℕ) (listing : ZonedListing) (v : ListingVerdict) (end : Status) (puts : List Put) → IsVerdict limits d s listing.zones listing.steps v → (v ≡ Certified → ListingEncloses d s listing.zones listing.steps) → (v ≡ Certified → HaveOneHistory d) →
@@ -14,15 +15,14 @@ check_listing-requires-clause-listing g c =
     subst L (sym c.zone_slice.ensures) c.requires.listing.steps
 
 pub returns-in-Ok : goal.returns-in-Ok
-returns-in-Ok g c = λ start puts h.
-    let p = c.put_verdict.ensures start puts h in
+returns-in-Ok g c =
     let V : Option (List ℕ) → Type 0 = λ z. IsVerdict c.args.limits c.args.decks.now c.args.digits z c.args.listing.now.steps c.in-Ok.verdict in
     let E : Option (List ℕ) → Type 0 = λ z. c.in-Ok.verdict ≡ Certified → ListingEncloses c.args.decks.now c.args.digits z c.args.listing.now.steps in
     let verdict = subst V c.zone_slice.ensures c.in-Ok.ensures.verdict in
     let encloses = subst E c.zone_slice.ensures c.in-Ok.ensures.encloses in
-    (p.0, p.1, puts_verdict c.args.limits c.args.decks.now c.args.digits c.args.listing.now c.in-Ok.verdict c.put_verdict.result p.0 verdict encloses c.in-Ok.ensures.history p.2)
+    puts_more g.K.Sink.leads c.put_verdict.ensures (λ more p.
+    puts_verdict c.args.limits c.args.decks.now c.args.digits c.args.listing.now c.in-Ok.verdict c.put_verdict.result more verdict encloses c.in-Ok.ensures.history p)
 
 pub returns-in-Err : goal.returns-in-Err
-returns-in-Err g c = λ start puts h.
-    let m = c.put_memory.ensures start puts h in
-    (m.0, m.1, lacks_at_first (IsCheck c.args.limits c.args.decks.now c.args.digits c.args.listing.now) NeverCut c.put_memory.result m.0 m.2)
+returns-in-Err g c = puts_more g.K.Sink.leads c.put_memory.ensures (λ more m.
+    lacks_at_first (IsCheck c.args.limits c.args.decks.now c.args.digits c.args.listing.now) NeverCut c.put_memory.result more m)

@@ -1,32 +1,26 @@
-use Rattle.engine.proofs.Common.{List, ℕ, Option, Ok, Err, subst, err_from_is_err_and, pairs_in, AreListed, AskedCheck, check_of, IsReading, ListedStep}
-use Rattle.engine.proofs.Common.{ZonedListing, refl, steps_read, zones_read, ◌≡◌}
-use Rattle.engine.proofs.Readings.{read_then, unread_then}
+use Rattle.engine.proofs.Common.{List, ℕ, Option, Ok, Err, subst, pairs_in, AreListed, check_of, IsReading, ListedStep, ZonedListing, refl, steps_read}
+use Rattle.engine.proofs.Common.{listing_read, zones_read, ◌≡◌}
+use Rattle.engine.proofs.Readings.{read_then, passed_reading, unread_then}
 use Rattle.engine.proofs.checking.read_listed.Goals as goal
 
 pub returns-in_err-zones-clause-reads : goal.returns-in_err-zones-clause-reads
-returns-in_err-zones-clause-reads g c =
-    let asked : AskedCheck = check_of c.args.asked in
-    let p = err_from_is_err_and c.from_residual.result c.from_residual.ensures.1 in
-    λ files agree. rw (p.1, p.2) (unread_then (λ (l : ZonedListing). l) (zones_read files asked.zones c.args.model.now) _ (λ z. z) c.in_err-zones.field-0.0 (c.in_err-zones.ensures.zones files agree))
+returns-in_err-zones-clause-reads g c = λ files agree.
+    passed_reading (λ (l : ZonedListing). l) (listing_read c.args.between files (check_of c.args.asked) c.args.model.now) c.from_residual.result _ c.from_residual.ensures.1
+    (unread_then (λ (l : ZonedListing). l) (zones_read files (check_of c.args.asked).zones c.args.model.now) _ (λ z. z) c.in_err-zones.field-0.0 (c.in_err-zones.ensures.zones files agree))
 
 pub returns-in_err-steps-clause-reads : goal.returns-in_err-steps-clause-reads
-returns-in_err-steps-clause-reads g c =
-    let asked : AskedCheck = check_of c.args.asked in
-    let p = err_from_is_err_and c.from_residual-in_err-steps.result c.from_residual-in_err-steps.ensures.1 in
-    λ files agree.
+returns-in_err-steps-clause-reads g c = λ files agree.
+    let asked = check_of c.args.asked in
     let m = c.args.model.now in
     let zones = c.in_ok-zones.zones in
     let S : Option (List ℕ) → Type 0 = λ z. IsReading {T = List ListedStep} (λ l. l) (steps_read c.args.between files asked m z) (Err c.in_err-steps.field-0.0) in
-    rw (p.1, p.2) (read_then (λ (l : ZonedListing). l) (zones_read files asked.zones m) _ zones (Err c.in_err-steps.field-0.0) (c.in_ok-zones.ensures.zones files (c.read_steps.ensures.folder.since files agree))
+    passed_reading (λ (l : ZonedListing). l) (listing_read c.args.between files (check_of c.args.asked) c.args.model.now) c.from_residual-in_err-steps.result _ c.from_residual-in_err-steps.ensures.1
+    (read_then (λ (l : ZonedListing). l) (zones_read files asked.zones m) _ zones (Err c.in_err-steps.field-0.0) (c.in_ok-zones.ensures.zones files (c.read_steps.ensures.folder.since files agree))
     (unread_then (λ (l : ZonedListing). l) (steps_read c.args.between files asked m zones) _ (λ l. l) c.in_err-steps.field-0.0 (subst S c.zone_slice.ensures (c.in_err-steps.ensures.reads files agree))))
 
 pub returns-clause-reads : goal.returns-clause-reads
-returns-clause-reads g c =
-    let asked : AskedCheck = check_of c.args.asked in
-    λ files agree.
-    let m = c.args.model.now in
-    let zones = c.in_ok-zones.zones in
-    let S : Option (List ℕ) → Type 0 = λ z. steps_read c.args.between files asked m z ≡ Ok c.in_ok-steps.steps in
+returns-clause-reads g c = λ files agree.
+    let S : Option (List ℕ) → Type 0 = λ z. steps_read c.args.between files (check_of c.args.asked) c.args.model.now z ≡ Ok c.in_ok-steps.steps in
     rw (c.in_ok-zones.ensures.zones files (c.read_steps.ensures.folder.since files agree), subst S c.zone_slice.ensures (c.in_ok-steps.ensures.reads files agree)) refl
 
 pub returns-clause-listed : goal.returns-clause-listed

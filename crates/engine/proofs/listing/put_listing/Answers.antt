@@ -1,11 +1,11 @@
 use Rattle.engine.proofs.Common.{IfSome, true, ℕ, Option, sym, subst, beside, IsWatched, ViewPutsOf}
+use Rattle.engine.proofs.Ends.{puts_more}
 use Rattle.engine.proofs.listing.put_listing.Goals as goal
 
 pub returns-in-None-clause-puts : goal.returns-in-None-clause-puts
-returns-in-None-clause-puts g c = λ start puts h.
-    let r = c.put_unwatched.ensures start puts h in
+returns-in-None-clause-puts g c =
     let P : Option ℕ → Type 0 = λ o. IfSome o (λ n. IsWatched true c.args.task.now n (λ puts. g.W.Sink.leads c.args.side.now puts c.args.side.now)) in
-    (r.0, r.1, (beside _ c.args.task.now c.put_unwatched.result r.0 r.2, λ e. subst P (sym c.in-None.is) tt))
+    puts_more g.K.Sink.leads c.put_unwatched.ensures (λ more r. (beside _ c.args.task.now c.put_unwatched.result more r, λ e. subst P (sym c.in-None.is) tt))
 
 pub returns-in-None-clause-side : goal.returns-in-None-clause-side
 returns-in-None-clause-side g c =
@@ -13,10 +13,9 @@ returns-in-None-clause-side g c =
     subst P (sym c.in-None.is) (((g.met.W.Sink g.world.𝓛 g.world.𝓜 g.world.𝓡 ((λ s x. x), (λ x. x), (λ x. x), λ x. x))).rests c.args.side.now)
 
 pub returns-in-Some-clause-puts : goal.returns-in-Some-clause-puts
-returns-in-Some-clause-puts g c = λ start puts h.
-    let r = c.put_texts.ensures.puts start puts h in
+returns-in-Some-clause-puts g c =
     let P : Option ℕ → Type 0 = λ o. IfSome o (λ n. IsWatched true c.args.task.now n (λ puts. g.W.Sink.leads c.args.side.now puts c.put_texts.new.side)) in
-    (r.0, r.1, (r.2.0, λ e. subst P (sym c.in-Some.is) (r.2.1 e)))
+    puts_more g.K.Sink.leads c.put_texts.ensures.puts (λ more r. (r.0, λ e. subst P (sym c.in-Some.is) (r.1 e)))
 
 pub returns-in-Some-clause-side : goal.returns-in-Some-clause-side
 returns-in-Some-clause-side g c =

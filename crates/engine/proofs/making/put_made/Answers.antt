@@ -1,5 +1,5 @@
-use Rattle.engine.proofs.Common.{◌∙◌, ap, refl, subst, Err, Making, Ok, InputFault, made_model, IsReadingEnd, FileSet, with_limit, FolderState}
-use Rattle.engine.proofs.Ends.{ends_without_words, made_reading, made_unread}
+use Rattle.engine.proofs.Common.{◌∙◌, ap, refl, subst, Err, Ok, InputFault, IsReadingEnd, FileSet, with_limit, FolderState}
+use Rattle.engine.proofs.Ends.{ends_without_words, made_reading, made_unread, puts_more}
 use Rattle.engine.proofs.making.put_made.Goals as goal
 
 -- the files of a folder in memory, with its limit
@@ -7,21 +7,19 @@ abbrev files_of : FolderState → FileSet
 files_of folder = with_limit folder.limit folder.files
 
 pub returns-in_default : goal.returns-in_default
-returns-in_default g c = λ start puts h.
-    let m = c.put_memory.ensures start puts h in
-    (m.0, m.1, λ n. ends_without_words (Making c.args.asked.seed c.args.asked.size (made_model c.args.asked.seed c.args.asked.size)) n n c.put_memory.result m.0 m.2)
+returns-in_default g c = puts_more g.K.Sink.leads c.put_memory.ensures (λ more m n.
+    ends_without_words m)
 
 pub returns-in-Ok-read_named : goal.returns-in-Ok-read_named
-returns-in-Ok-read_named g c = λ start puts h.
-    let m = c.put_summary.ensures start puts h in
+returns-in-Ok-read_named g c =
     let files = c.in-Ok-read_named.ensures.folder.since (files_of c.read_named.new.folder) refl ∙ ap files_of c.in-Ok.ensures in
     let read = made_reading c.args.asked.seed c.args.asked.size (files_of c.read_named.new.folder) (Ok c.in-Ok-read_named.model) files (c.in-Ok-read_named.ensures.reads (files_of c.read_named.new.folder) refl) in
-    (m.0, m.1, m.2 read)
+    puts_more g.K.Sink.leads c.put_summary.ensures (λ more m. m read)
 
 pub returns : goal.returns
-returns g c = λ start puts h.
-    let m = c.end_reading.ensures start puts h in
+returns g c =
     let files = c.in-Err.ensures.folder.since (files_of c.read_named.new.folder) refl ∙ ap files_of c.in-Ok.ensures in
     let read = made_reading c.args.asked.seed c.args.asked.size (files_of c.read_named.new.folder) (Err c.in-Err.fault) files (c.in-Err.ensures.reads (files_of c.read_named.new.folder) refl) in
-    let E : InputFault → Type 0 = λ f. IsReadingEnd f c.end_reading.result m.0 in
-    (m.0, m.1, made_unread c.args.asked.seed c.args.asked.size c.in-Err.fault c.end_reading.result m.0 read (subst E c.made_fault.ensures m.2))
+    puts_more g.K.Sink.leads c.end_reading.ensures (λ more m.
+    let E : InputFault → Type 0 = λ f. IsReadingEnd f c.end_reading.result more in
+    made_unread c.args.asked.seed c.args.asked.size c.in-Err.fault c.end_reading.result more read (subst E c.made_fault.ensures m))

@@ -1,5 +1,6 @@
 use Rattle.engine.proofs.Common.{◌≡◌, ◌∙◌, sym, Some, Rose, beside_by}
 use Rattle.engine.proofs.SideViews.{puts_of_side, same_sink, side_failed, views_of_all}
+use Rattle.engine.proofs.Ends.{puts_more}
 use Rattle.engine.proofs.viewing.put_texts.Goals as goal
 
 pub returns-clause-side : goal.returns-clause-side
@@ -14,7 +15,7 @@ returns-clause-side g c =
     rw (sym c.new-viewer.ensures.sink.1, c.side-1.given.1 name) (puts_of_side sink starts k c.args.views first now fits c.new-viewer.ensures.stop c.put_shown.ensures.reaches)
 
 pub returns-clause-puts : goal.returns-clause-puts
-returns-clause-puts g c = λ start puts h.
+returns-clause-puts g c =
     let sink = g.W.Sink in
     let k = c.args.task.now in
     let first = c.new-viewer.result in
@@ -22,12 +23,8 @@ returns-clause-puts g c = λ start puts h.
     let law = g.met.W.Sink g.world.𝓛 g.world.𝓜 g.world.𝓡 ((λ s x. x), (λ x. x), (λ x. x), λ x. x) in
     let name = sym c.new-viewer.ensures.sink.0 ∙ sym (same_sink sink c.args.views k first now c.put_shown.ensures.reaches) in
     let fits = c.new-viewer.ensures.grid in
-    let r = c.put_shown.ensures.puts start puts h in (
-      r.0,
-      r.1,
-      (
-        rw (sym c.new-viewer.ensures.sink.1, c.side-1.given.1 name) (beside_by (now.stop ≡ Some _) (Rose (g.W.Sink.seen first.sink.now).faults (g.W.Sink.seen now.sink.now).faults) k
-            (λ wrote. side_failed sink law.rests k c.args.views first now fits c.new-viewer.ensures.stop g.W.Sink.seen law.tells c.put_shown.ensures.reaches wrote) c.put_shown.result r.0 r.2.0),
-        λ e. rw (sym c.new-viewer.ensures.sink.1, c.side-1.given.1 name) (views_of_all sink law.rests k c.args.views first now fits c.new-viewer.ensures.stop (r.2.1 e)),
-      ),
-    )
+    puts_more g.K.Sink.leads c.put_shown.ensures.puts (λ more r. (
+      rw (sym c.new-viewer.ensures.sink.1, c.side-1.given.1 name) (beside_by (now.stop ≡ Some _) (Rose (g.W.Sink.seen first.sink.now).faults (g.W.Sink.seen now.sink.now).faults) k
+          (λ wrote. side_failed sink law.rests k c.args.views first now fits c.new-viewer.ensures.stop g.W.Sink.seen law.tells c.put_shown.ensures.reaches wrote) c.put_shown.result more r.0),
+      λ e. rw (sym c.new-viewer.ensures.sink.1, c.side-1.given.1 name) (views_of_all sink law.rests k c.args.views first now fits c.new-viewer.ensures.stop (r.1 e)),
+    ))

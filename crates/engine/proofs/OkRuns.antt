@@ -1,17 +1,16 @@
--- What a run that ended Ok tells, by what its words ask for and its files are read as.
-use Rattle.engine.proofs.Common.{[], ◌≡◌, ℕ, List, ◌∷◌, Option, Some, None, Result, Ok, Err, map, subst, ◌∙◌, ap, refl, inl, inr, ◌⊎◌, append-nil, FileSet}
-use Rattle.engine.proofs.Common.{Rose, Put, Seen, PutsMake, taken, Refusal, FlowModel, IsModel, made_files, made_name, Text, end_line, whole, Status}
-use Rattle.engine.proofs.Common.{all_written, one_deck, AreDecks, one_valid, ListingEnd, AllSteps, listing, IsWhole, is_whole, whole_listing, history_exists}
-use Rattle.engine.proofs.Common.{history_is_one, VerdictIsOne, Asked, Case, Run, Make, Check, Write, Listing, Making, Checking, case_of, listing_read}
-use Rattle.engine.proofs.Common.{made_model, named, task_of, zones_read, OneDeck, Defines, made_task, summed_text, OneSummary, Answers, IfOk, IsStopped}
-use Rattle.engine.proofs.Common.{IsValid, Plain, Limits, ListingIsOne, ListingExcludesRefusal, RefusalIsOne, Comparing, two, true, Second, not_alike}
-use Rattle.engine.proofs.Common.{most_bytes, with_limit, case_decks, span_task_of, IsDeck, deck_text, ReadsFolder, CutOf, deck_reads, summary_of, summary_text}
-use Rattle.engine.proofs.Common.{HeadlineOf, OneOf, Wanted, AskedBatch, Batch, second_in, reads, Decks, decks_task, Batched, case_read, OneListing}
+-- What a run that ended Ok has put, by what its words ask for and its files are read as.
+use Rattle.engine.proofs.Common.{[], ◌≡◌, ℕ, List, ◌∷◌, Option, Some, None, Result, Ok, Err, map, subst, ◌∙◌, ap, refl, inl, inr, ◌⊎◌, append-nil, FileSet, Put}
+use Rattle.engine.proofs.Common.{Seen, PutsMake, taken, Refusal, FlowModel, IsModel, made_files, made_name, Text, end_line, whole, Status, all_written}
+use Rattle.engine.proofs.Common.{one_deck, AreDecks, one_valid, ListingEnd, AllSteps, listing, IsWhole, is_whole, whole_listing, history_exists, history_is_one}
+use Rattle.engine.proofs.Common.{VerdictIsOne, Asked, Case, Run, Make, Check, Write, Listing, Making, Checking, case_of, listing_read, made_model, named}
+use Rattle.engine.proofs.Common.{task_of, zones_read, OneDeck, Defines, made_task, summed_text, OneSummary, IfOk, IsStopped, IsValid, Plain, Limits}
+use Rattle.engine.proofs.Common.{ListingIsOne, ListingExcludesRefusal, RefusalIsOne, Comparing, two, true, Second, not_alike, most_bytes, with_limit}
+use Rattle.engine.proofs.Common.{case_decks, span_task_of, IsDeck, deck_text, deck_reads, summary_of, summary_text, HeadlineOf, OneOf, Wanted, AskedBatch}
+use Rattle.engine.proofs.Common.{Batch, second_in, reads, Decks, decks_task, Batched, case_read, OneListing, false}
 use Rattle.deck_alike.specs.{DifferenceIsOne}
-use Rattle.std.specs.Prelude.{false}
 use Rattle.std.specs.Io.KnownBytes.{Appends}
-use Rattle.engine.proofs.Certifying.{certified_and_one, not_stopped}
-use Rattle.engine.proofs.Dues.{Delivers, delivers}
+use Rattle.engine.proofs.Certifying.{certified_and_one}
+use Rattle.engine.proofs.Dues.{Delivers}
 use Rattle.engine.proofs.Readings.{named_read}
 use Rattle.engine.proofs.Spans.{span_checked, span_listed}
 use Rattle.engine.proofs.DeckEnds.{to_check, to_list, to_write}
@@ -30,9 +29,6 @@ pub record Laws : Type 0 where
   pub refusal : RefusalIsOne
   pub verdict : VerdictIsOne
   pub difference : DifferenceIsOne
-
-pub laws_of : ListingIsOne → ListingExcludesRefusal → RefusalIsOne → VerdictIsOne → DifferenceIsOne → Laws
-laws_of one bound refusal verdict difference = record { one = one; bound = bound; refusal = refusal; verdict = verdict; difference = difference }
 
 module _ (laws : Laws) (old new : Seen) (puts : List Put) (pieces : List Text) (written : puts ≡ map taken pieces) (makes : PutsMake old puts new) where
   -- of a made model
@@ -96,29 +92,29 @@ module _ (laws : Laws) (old new : Seen) (puts : List Put) (pieces : List Text) (
           again = deck_reads limits files name m read;
         }
 
-    -- a run of this case that ended Ok tells this
-    abbrev Tells : Case → Type 0 → Type 0
-    Tells case told = IsValid case → Defines case status.Ok pieces → told
+    -- where a run of this case ended Ok, this holds
+    abbrev AfterOk : Case → Type 0 → Type 0
+    AfterOk case Holds = IsValid case → Defines case status.Ok pieces → Holds
 
     -- of what is read, of a deck, and of two that are alike
-    of_read : {T told : Type 0} (r : Result T Refusal) (come : T → Case) → ((x : T) → r ≡ Ok x → Tells (come x) told) → Tells (case_read r come) told
-    of_read (Ok x) come tells = tells x refl
-    of_read (Err refusal) come tells = λ valid d. absurd (let bad : status.Ok ≡ status.Refused refusal = d.0 in cc)
+    of_read : {T Holds : Type 0} (r : Result T Refusal) (come : T → Case) → ((x : T) → r ≡ Ok x → AfterOk (come x) Holds) → AfterOk (case_read r come) Holds
+    of_read (Ok x) come holds = holds x refl
+    of_read (Err refusal) come holds = λ valid d. absurd (let bad : status.Ok ≡ status.Refused refusal = d.0 in cc)
 
-    of_one : {told : Type 0} (r : Result FlowModel Refusal) (come : Decks → Case) → ((a : FlowModel) → r ≡ Ok a → Tells (come (one_deck a)) told) → Tells (case_decks r None come) told
-    of_one (Ok a) come tells = tells a refl
-    of_one (Err refusal) come tells = λ valid d. absurd (let bad : status.Ok ≡ status.Refused refusal = d.0 in cc)
+    of_one : {Holds : Type 0} (r : Result FlowModel Refusal) (come : Decks → Case) → ((a : FlowModel) → r ≡ Ok a → AfterOk (come (one_deck a)) Holds) → AfterOk (case_decks r None come) Holds
+    of_one (Ok a) come holds = holds a refl
+    of_one (Err refusal) come holds = λ valid d. absurd (let bad : status.Ok ≡ status.Refused refusal = d.0 in cc)
 
-    of_alike : {told : Type 0} (a : FlowModel) (b : Second) (case : Case) → Tells case told → Tells (Comparing a b case) told
-    of_alike a b case tells valid (inl unlike) = absurd (let bad : status.Ok ≡ status.Refused (not_alike b unlike.difference) = unlike.status in cc)
-    of_alike a b case tells (inl never) (inr (alike, d)) = absurd (never alike)
-    of_alike a b case tells (inr valid) (inr (alike, d)) = tells valid d
+    of_alike : {Holds : Type 0} (a : FlowModel) (b : Second) (case : Case) → AfterOk case Holds → AfterOk (Comparing a b case) Holds
+    of_alike a b case holds valid (inl unlike) = absurd (let bad : status.Ok ≡ status.Refused (not_alike b unlike.difference) = unlike.status in cc)
+    of_alike a b case holds (inl never) (inr (alike, d)) = absurd (never alike)
+    of_alike a b case holds (inr valid) (inr (alike, d)) = holds valid d
 
-    of_two : {told : Type 0} (r : Result FlowModel Refusal) (s : Result Second Refusal) (come : Decks → Case) → ((a : FlowModel) (b : Second) → r ≡ Ok a → s ≡ Ok b → Tells (come (two a b.model)) told) → Tells (case_decks r (Some s) come) told
-    of_two (Ok a) s come tells = of_read s (λ b. Comparing a b (come (two a b.model))) (λ b is. of_alike a b (come (two a b.model)) (tells a b refl is))
-    of_two (Err refusal) s come tells = λ valid d. absurd (let bad : status.Ok ≡ status.Refused refusal = d.0 in cc)
+    of_two : {Holds : Type 0} (r : Result FlowModel Refusal) (s : Result Second Refusal) (come : Decks → Case) → ((a : FlowModel) (b : Second) → r ≡ Ok a → s ≡ Ok b → AfterOk (come (two a b.model)) Holds) → AfterOk (case_decks r (Some s) come) Holds
+    of_two (Ok a) s come holds = of_read s (λ b. Comparing a b (come (two a b.model))) (λ b is. of_alike a b (come (two a b.model)) (holds a b refl is))
+    of_two (Err refusal) s come holds = λ valid d. absurd (let bad : status.Ok ≡ status.Refused refusal = d.0 in cc)
 
-    one_by : (order : Option Wanted) (end : Status) → ((b : AskedBatch) → order ≡ Some (Batch b) → Batched b files end old.written new.written) → Tells (case_of order files) (OneOf order files end old new)
+    one_by : (order : Option Wanted) (end : Status) → ((b : AskedBatch) → order ≡ Some (Batch b) → Batched b files end old.written new.written) → AfterOk (case_of order files) (OneOf order files end old new)
     one_by None end batched = λ valid d. absurd (let bad : status.Ok ≡ status.Usage = d.0 in cc)
     one_by (Some (Run asked None)) end batched = of_one (named asked.name (reads asked.limits files)) (to_list files asked) (λ m read. of_read (zones_read files asked.zones m) (λ zones. Listing (task_of asked m zones))
         (λ zones zoned valid d. of_listing asked m zones read zoned valid (whole_listing (task_of asked m zones) pieces d)))
@@ -132,23 +128,19 @@ module _ (laws : Laws) (old new : Seen) (puts : List Put) (pieces : List Text) (
     one_by (Some (Batch b)) end batched = λ valid d. batched b refl
     one_by (Some (Write limits name)) end batched = of_one (named name (reads limits files)) to_write (λ m read valid d. of_deck limits name m read valid d)
 
-module _ (laws : Laws) (order : Option Wanted) (files : FileSet) (n m : ℕ) (end : Status) (puts : List Put) (old new : Seen) (a : Answers (case_of order files) n m end puts) (makes : PutsMake old puts new) (e : end ≡ status.Ok) where
-  goes : IsStopped end → ⊥
-  goes stops = not_stopped (subst IsStopped e stops)
-
-  pub one_of : ((b : AskedBatch) → order ≡ Some (Batch b) → Batched b files end old.written new.written) → OneOf order files end old new
-  one_of batched =
-      let D : Status → Type 0 = λ s. Delivers (Defines (case_of order files)) s puts in
-      let d = subst D e (delivers (Rose n m × ReadsFolder (case_of order files)) (Defines (case_of order files)) (CutOf (case_of order files)) end puts a.run goes) in
-      one_by laws old new puts d.pieces d.written makes files order end batched (valid_of (case_of order files) end goes a.valid) d.defines
+pub one_of : (laws : Laws) (order : Option Wanted) (files : FileSet) (end : Status) (puts : List Put) (old new : Seen) → PutsMake old puts new → end ≡ status.Ok → IsValid (case_of order files) → Delivers (Defines (case_of order files)) end puts →
+    ((b : AskedBatch) → order ≡ Some (Batch b) → Batched b files end old.written new.written) → OneOf order files end old new
+one_of laws order files end puts old new makes ok valid d batched =
+    let D : Status → Type 0 = λ s. Defines (case_of order files) s d.pieces in
+    one_by laws old new puts d.pieces d.written makes files order end batched valid (subst D ok d.defines)
 
 -- the headline
-pub told_of : (order : Option Wanted) (files : FileSet) (end : Status) (old new : Seen) → OneOf order files end old new → HeadlineOf order files end old new
-told_of None files end old new o = o
-told_of (Some (Run asked None)) files end old new o = o.headline
-told_of (Some (Run asked (Some to))) files end old new o = o.headline
-told_of (Some (Check asked None)) files end old new o = o.certified
-told_of (Some (Check asked (Some to))) files end old new o = o.certified
-told_of (Some (Make seed size)) files end old new o = o.made
-told_of (Some (Batch b)) files end old new o = o
-told_of (Some (Write limits name)) files end old new o = o
+pub headline_of : (order : Option Wanted) (files : FileSet) (end : Status) (old new : Seen) → OneOf order files end old new → HeadlineOf order files end old new
+headline_of None files end old new o = o
+headline_of (Some (Run asked None)) files end old new o = o.headline
+headline_of (Some (Run asked (Some to))) files end old new o = o.headline
+headline_of (Some (Check asked None)) files end old new o = o.certified
+headline_of (Some (Check asked (Some to))) files end old new o = o.certified
+headline_of (Some (Make seed size)) files end old new o = o.made
+headline_of (Some (Batch b)) files end old new o = o
+headline_of (Some (Write limits name)) files end old new o = o
