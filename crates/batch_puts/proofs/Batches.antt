@@ -1,7 +1,8 @@
 -- Laws on batches of jobs, whatever is an end of a job.
 use Rattle.batch_puts.proofs.Common.{◌≡◌, ℕ, suc, List, [], ◌∷◌, length, Some, IfSome, subst, sym, ap, refl, ◌∙◌, inl, inr, arith, Put, IsRun, NeverCut, Status}
-use Rattle.batch_puts.proofs.Common.{weaker, JobEnd, or_else, first_not_ok, IsEnded, zero, ◌+◌, ◌<◌, ◌≤◌, ◌++◌, map, take, drop, get_or, append_assoc, taken}
-use Rattle.batch_puts.proofs.Common.{Text, end_line, whole, early, all_due, IsLast, texts, IsBatch, IsTail, Agree, IsUnfinished}
+use Rattle.batch_puts.proofs.Common.{weaker, JobEnd, or_else, first_not_ok, IsEnded, ◌+◌, ◌<◌, ◌≤◌, ◌++◌, map, take, drop, get_or, append_assoc, taken, Text}
+use Rattle.batch_puts.proofs.Common.{end_line, whole, early, all_due, IsLast, texts, IsBatch, IsTail, Agree, IsUnfinished, drop-cons, take-append-drop}
+use Rattle.batch_puts.proofs.Common.{take_all}
 use Rattle.std.specs.Prelude.{slice_get}
 use Rattle.std.specs.List.{AllZip}
 use Rattle.std.proofs.lemmas.List.{map-append, take_more, get_or-map, length-map}
@@ -50,12 +51,6 @@ ends_of_jobs R (x ∷ xs) [] same each = absurd (omega arith)
 ends_of_jobs R (x ∷ xs) (y ∷ ys) same each = (each 0 y refl, ends_of_jobs R xs ys (omega arith) (λ i z h. each (suc i) z h))
 
 -- The puts of a batch, so far and in the end.
--- a list, cut after an entry
-split_after : {X : Type 0} (xs : List X) (i : ℕ) (d : X) → i < length xs → xs ≡ take i xs ++ (get_or xs i d ∷ drop (suc i) xs)
-split_after [] i d h = absurd (omega arith)
-split_after (x ∷ xs) zero d h = refl
-split_after (x ∷ xs) (suc i) d h = ap (λ l. x ∷ l) (split_after xs i d (omega arith))
-
 -- the texts of the first jobs were taken
 abbrev pub ArePut : List JobEnd → ℕ → List Put → Type 0
 ArePut ends i puts = puts ≡ map taken (take i (texts ends))
@@ -71,7 +66,7 @@ module _ (ends : List JobEnd) where
   stops_at i piece puts tail end h read was stops =
       let ts : List Text = texts ends in
       let after : List Text = drop (suc i) ts ++ (end_line ∷ []) in
-      let split : ts ≡ take i ts ++ (piece ∷ drop (suc i) ts) = split_after ts i piece h ∙ ap (λ p. take i ts ++ (p ∷ drop (suc i) ts)) (sym read) in
+      let split : ts ≡ take i ts ++ (piece ∷ drop (suc i) ts) = sym (take-append-drop i ts) ∙ ap (λ l. take i ts ++ l) (drop-cons ts i piece h ∙ ap (λ p. p ∷ drop (suc i) ts) (sym read)) in
       let all : take i ts ++ (piece ∷ after) ≡ ts ++ (end_line ∷ []) = sym (append_assoc (take i ts) (piece ∷ drop (suc i) ts) (end_line ∷ [])) ∙ ap (λ l. l ++ (end_line ∷ [])) (sym split) in
       rw was (early end (take i ts) (piece ∷ after) tail (all_due (first_not_ok ends) (take i ts) piece after (record { status_is = refl; are = all })) (stops after))
 
@@ -85,12 +80,6 @@ module _ (ends : List JobEnd) where
       let due : IsEnded ends (first_not_ok ends) (texts ends ++ (end_line ∷ [])) = record { status_is = refl; are = refl } in
       rw was (early end (texts ends) (end_line ∷ []) last (all_due (first_not_ok ends) (texts ends) end_line [] due) stops)
 
-take_all : {X : Type 0} (xs : List X) (i : ℕ) → length xs ≤ i → take i xs ≡ xs
-take_all [] zero h = refl
-take_all [] (suc i) h = refl
-take_all (x ∷ xs) zero h = absurd (omega arith)
-take_all (x ∷ xs) (suc i) h = ap (λ l. x ∷ l) (take_all xs i (omega arith))
-
 -- the text of a job, among the texts
 pub text_at : (ends : List JobEnd) (i : ℕ) (e : JobEnd) (piece : Text) → i < length ends → e ≡ get_or ends i e → piece ≡ e.text.items → (i < length (texts ends)) × (piece ≡ get_or (texts ends) i piece)
 text_at ends i e piece h read is =
@@ -100,4 +89,4 @@ text_at ends i e piece h read is =
 pub all_texts : (ends : List JobEnd) (i : ℕ) (puts : List Put) → length ends ≤ i → ArePut ends i puts → puts ≡ map taken (texts ends)
 all_texts ends i puts h was =
     let many : length (texts ends) ≡ length ends = length-map ends (λ (x : JobEnd). x.text.items) in
-    was ∙ ap (map taken) (take_all (texts ends) i (omega arith))
+    was ∙ ap (map taken) (take_all i (texts ends) (omega arith))
