@@ -84,9 +84,5 @@ learns n pass v items views once at =
 pub numbers_step : (job count : ℕ) → job < count → numbers_from job (count - job) ≡ job ∷ numbers_from (job + 1) (count - (job + 1))
 numbers_step job count h = let e : count - job ≡ suc (count - (job + 1)) = omega arith in ap (numbers_from job) e
 
-abbrev rest_of : List ℕ → List ℕ
-rest_of [] = []
-rest_of (x ∷ xs) = xs
-
 pub same_rest : (x y : ℕ) (xs ys : List ℕ) → x ∷ xs ≡ y ∷ ys → xs ≡ ys
-same_rest x y xs ys e = ap rest_of e
+same_rest x y xs ys e = cc

@@ -92,7 +92,8 @@ where
     requires workers { (0 < vec_len desks) × (vec_len desks ≤ 64) }
     requires desks { All (λ d. IsPassOf queue.now d.pass × (d.book.0 ≡ jobs.now)) desks.items }
     requires count { N.jobs ≡ J.number jobs.now }
-    ensures { All (λ d. d.book.0 ≡ jobs.now) result.items }
+    ensures count { vec_len result ≡ vec_len desks.entry }
+    ensures jobs { All (λ d. d.book.0 ≡ jobs.now) result.items }
 {
     let workers = desks.len();
     thread::for_each_mut(
