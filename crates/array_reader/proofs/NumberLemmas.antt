@@ -23,12 +23,8 @@ tens n c e t =
 
 trims_step : (n c : ℕ) → 0 < c → c ≤ suc n → (0 < c / 10 → c / 10 ≤ n → IsTrimmed (c / 10) (significant n (c / 10)) (zeros n (c / 10))) → (b : Bool) → (c % 10 == 0) ≡ b
     → IsTrimmed c (if b then significant n (c / 10) else c) (if b then zeros n (c / 10) + 1 else 0)
-trims_step n c some le rest true e =
-    let zero_end : c % 10 ≡ 0 = grind (arith, nat_tests) in
-    tens n c zero_end (rest (omega arith) (omega arith))
-trims_step n c some le rest false e =
-    let some_end : 0 < c % 10 = grind (arith, nat_tests) in
-    record { whole = omega arith; last = some_end }
+trims_step n c some le rest true e = grind (arith, nat_tests, tens)
+trims_step n c some le rest false e = grind (arith, nat_tests)
 
 trims : (n c : ℕ) → 0 < c → c ≤ n → IsTrimmed c (significant n c) (zeros n c)
 unfolding significant zeros
@@ -48,12 +44,7 @@ in_range (pos n) low high = let within : n ≤ 40 = omega (arith, ints) in grind
 in_range (negsuc n) low high = let within : n < 40 = omega (arith, ints) in grind (arith, nat_tests)
 
 tests : (neg : Bool) (d : ℕ) (e : ℤ) → IsTested neg d e (tested neg d e)
-tests neg d e = record {
-  many = λ many. let no : nat_lt d 1000000000000000000 ≡ false = grind (arith, nat_tests) in rw no refl;
-  low = λ few low. let yes : nat_lt d 1000000000000000000 ≡ true = grind (arith, nat_tests) in rw (yes, too_low e low) refl;
-  high = λ few high. let yes : nat_lt d 1000000000000000000 ≡ true = grind (arith, nat_tests) in rw (yes, too_high e high) refl;
-  good = λ few low high. let yes : nat_lt d 1000000000000000000 ≡ true = grind (arith, nat_tests) in rw (yes, in_range e low high) refl;
-}
+tests neg d e = grind (arith, nat_lt, nat_tests, too_low, too_high, in_range)
 
 canonical_some : (neg : Bool) (c : ℕ) (e : ℤ) → 0 < c → IsCanonical neg c e (canonical neg c e)
 unfolding canonical
@@ -118,11 +109,7 @@ products_are a b r = (λ e. rw (← e) (product_is a b), λ h. sym (is_product a
 
 -- A word as a file's name.
 is_refused : (bs : List ℕ) → (IsGoodName bs → ⊥) → is_good_name bs ≡ false
-is_refused bs h = cases (is_good_name bs) refl
-  where
-    cases : (b : Bool) → is_good_name bs ≡ b → is_good_name bs ≡ false
-    cases true e = absurd (h (is_good bs e))
-    cases false e = e
+is_refused bs h = grind (arith, is_good)
 
 pub name_taken : (file : List ℕ) (line : ℕ) (name text : List ℕ) → (text ≡ name) × IsGoodName name → name_at file line name ≡ Ok text
 unfolding name_at

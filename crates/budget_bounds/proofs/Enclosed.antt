@@ -66,9 +66,7 @@ term_enclosed p l u s e h encloses within dir t =
     (over_cells p l u s e h encloses.cells within dir t)
 
 pub heads_within : HeadsAreWithin
-heads_within n d X l u some between = λ c lt.
-    let e : suc (d - 1) ≡ d = omega arith in
-    record { lower = rw e (between.low c lt); upper = rw e (between.high c lt) }
+heads_within n d X l u some between = grind (arith)
 
 -- The terms of a budget in the order of the listing: what its bounds are, and what they enclose.
 -- the term at each place

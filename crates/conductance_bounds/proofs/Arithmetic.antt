@@ -1,6 +1,6 @@
 -- Arithmetic on spans: operations keep the order, and exponents grow with each by 18 at most.
-use Rattle.conductance_bounds.proofs.Common.{ℕ, zero, suc, ◌+◌, ◌*◌, ◌≤◌, ◌<◌, ◌^◌, arith, ℤ, pos, negsuc, neg_ℤ, ◌+ℤ◌, ◌-ℤ◌, unsigned_abs, int_min, int_max}
-use Rattle.conductance_bounds.proofs.Common.{ints, clamps, AtMost, plus, times, over, up, down, AtMost-trans, plus-AtMost, times-AtMost, over-AtMost, ten_pos}
+use Rattle.conductance_bounds.proofs.Common.{ℕ, zero, ◌+◌, ◌≤◌, ◌<◌, arith, ℤ, pos, negsuc, neg_ℤ, ◌+ℤ◌, ◌-ℤ◌, unsigned_abs, int_min, int_max}
+use Rattle.conductance_bounds.proofs.Common.{ints, clamps, AtMost, plus, times, over, AtMost-trans, plus-AtMost, times-AtMost, over-AtMost, ten_pos}
 use Rattle.conductance_bounds.proofs.Common.{cross_of, Sd, value, IsDown, IsUp, IsNear, HasSize, Span, IsOrdered, reach, mul-pos, AreOperands, one_rounded}
 use Rattle.conductance_bounds.proofs.Common.{AreBounds, Lower, Number, Product, Quotient, Ratio, Same, Sum, Term, Upper, Within, bound, refl, rounded, IsSd}
 use Rattle.conductance_bounds.proofs.Common.{◌∙◌}
@@ -80,11 +80,7 @@ size_reach x n l h = reach_within x n (record { above = l.above; below = l.below
 
 -- what is not below a positive decimal is positive
 pub positive_above : (x y : Sd) → AtMost (value x) (value y) → 0 < x.m → 0 < y.m
-positive_above x y h p = at_least x.m (10 ^ (up x.e + down y.e)) y.m (10 ^ (up y.e + down x.e)) p (ten_pos (up x.e + down y.e)) (rw (cross_of x.m y.m x.e y.e, cross_of y.m x.m y.e x.e) at h.cross)
-  where
-    at_least : (a p b q : ℕ) → 0 < a → 0 < p → a * p ≤ b * q → 0 < b
-    at_least a p zero q ha hp h = absurd (omega (arith, h, mul-pos ha hp))
-    at_least a p (suc b) q ha hp h = omega arith
+positive_above x y h p = grind (arith, ten_pos, cross_of, zero, mul-pos)
 
 pub sum_ordered : (a b r : Span) → IsOrdered a → IsOrdered b → IsDown r.lo (plus (value a.lo) (value b.lo)) → IsUp r.hi (plus (value a.hi) (value b.hi)) → IsOrdered r
 sum_ordered a b r p q l h = record { low = l.decimal; high = h.decimal; order = AtMost-trans l.at_most (AtMost-trans (plus-AtMost p.order q.order) h.at_least) }

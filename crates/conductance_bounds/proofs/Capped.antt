@@ -1,8 +1,8 @@
 -- Whole pairs and flows: from the whole bounds of spans, and small or kept otherwise.
-use Rattle.conductance_bounds.proofs.Common.{◌≡◌, ℕ, ◌+◌, ◌-◌, ◌≤◌, ◌<◌, ◌^◌, ◌⊎◌, ◌∙◌, inl, inr, Bool, true, false, cond, Option, Some, None, refl, sym, ap}
+use Rattle.conductance_bounds.proofs.Common.{◌≡◌, ℕ, ◌+◌, ◌-◌, ◌≤◌, ◌<◌, ◌^◌, ◌⊎◌, ◌∙◌, inl, inr, Bool, true, false, Option, Some, None, refl, sym, ap}
 use Rattle.conductance_bounds.proofs.Common.{subst, arith, cases_lt, unsigned_abs, unwrap_or, IfSome, ℤ, neg_ℤ, pos, Encloses, EnclosesSigned, Fraction}
 use Rattle.conductance_bounds.proofs.Common.{IsFloor, IsCeiling, Passes, Ratio, den, Sd, value, Span, Pair, AreBounds, Term, Lower, Upper, in_units, pair}
-use Rattle.conductance_bounds.proofs.Common.{small_pair, capped, flow, small_flow, capped_flow, signed_pair, PairEncloses, FlowEncloses, Holds, below, nat_lt}
+use Rattle.conductance_bounds.proofs.Common.{small_pair, capped, flow, small_flow, capped_flow, signed_pair, PairEncloses, FlowEncloses, Holds, below}
 use Rattle.conductance_bounds.proofs.Common.{option_map, lt_of_mul-lt-mul_right, cond_above, cond_below, is_ceiling, one_ceiling, one_floor}
 use Rattle.conductance_bounds.proofs.Manual.{pair_ordered}
 use Rattle.conductance_bounds.specs.declared.pair.FlowPair.{FlowPair}
@@ -43,18 +43,10 @@ flow_gained neg least most lo hi e p q = (λ i. flow_pair (p i) (q i)) ∙ ap (�
 
 -- what encloses, where it is small
 pub small_encloses : (t : Term) (s : ℕ) (f : Ratio) (r : Option Pair) → r ≡ small_pair t s → PairEncloses t s f → IfSome r (λ p. Encloses p.lo p.hi s f)
-small_encloses t s f r e h = subst (λ (o : Option Pair). IfSome o (λ p. Encloses p.lo p.hi s f)) (sym e) (by_test (nat_lt (pair t s).hi (2 ^ 60)))
-  where
-    by_test : (b : Bool) → IfSome (cond b (Some (pair t s)) None) (λ p. Encloses p.lo p.hi s f)
-    by_test true = h
-    by_test false = tt
+small_encloses t s f r e h = grind (arith)
 
 pub small_flow_encloses : (t : Term) (neg : Bool) (s : ℕ) (f : Fraction) (r : Option FlowPair) → r ≡ small_flow t neg s → FlowEncloses t neg s f → IfSome r (λ p. EnclosesSigned p.lo p.hi s f)
-small_flow_encloses t neg s f r e h = subst (λ (o : Option FlowPair). IfSome o (λ p. EnclosesSigned p.lo p.hi s f)) (sym e) (by_test (nat_lt (pair t s).hi (2 ^ 126)))
-  where
-    by_test : (b : Bool) → IfSome (option_map (signed_pair neg) (cond b (Some (pair t s)) None)) (λ p. EnclosesSigned p.lo p.hi s f)
-    by_test true = h
-    by_test false = tt
+small_flow_encloses t neg s f r e h = grind (arith)
 
 -- in a table: a small pair, or the one that stands for it
 pub below_case : (n : ℕ) (p : Pair) → ((p.hi < n) × (below n p ≡ Some p)) ⊎ ((n ≤ p.hi) × (below n p ≡ None))

@@ -13,14 +13,10 @@ InRange f = EnclosesSigned (neg_ℤ (pos 4000000000)) (pos 4000000000) 0 f
 
 -- in units of 10 ^ -9
 upper : (f : Fraction) → InRange f → (f.num *ℤ pos (10 ^ 9)) ≤ℤ (pos head_limit *ℤ pos (den f))
-upper f h =
-    let k = mul_mono_right (10 ^ 9) (f.num *ℤ pos (10 ^ 0)) (pos 4000000000 *ℤ pos (den f)) h.upper in
-    omega (arith, ints, k)
+upper f h = grind (arith, mul_mono_right)
 
 lower : (f : Fraction) → InRange f → (neg_ℤ (pos head_limit) *ℤ pos (den f)) ≤ℤ (f.num *ℤ pos (10 ^ 9))
-lower f h =
-    let k = mul_mono_right (10 ^ 9) (neg_ℤ (pos 4000000000) *ℤ pos (den f)) (f.num *ℤ pos (10 ^ 0)) h.lower in
-    omega (arith, ints, k)
+lower f h = grind (arith, mul_mono_right)
 
 pub floor_in_range : (f : Fraction) (z : ℤ) → InRange f → IsSignedFloor z f 9 → IsHeadUnits z
 floor_in_range f z h k = record {

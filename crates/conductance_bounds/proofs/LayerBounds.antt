@@ -1,6 +1,6 @@
 -- The pair of a vertical branch contains the manual's conductance, with a bed or without.
-use Rattle.conductance_bounds.proofs.Common.{◌≡◌, ℕ, zero, suc, ◌*◌, ◌≤◌, ◌<◌, ◌^◌, inl, inr, Bool, true, false, arith, refl, subst, sym, ◌+◌, ◌==◌, false≢true}
-use Rattle.conductance_bounds.proofs.Common.{cases_lt, Dec, size, Ratio, over, up, IsFloor, IsCeiling, Reaches, Passes, den, plus, times, AtMost, num_scaled}
+use Rattle.conductance_bounds.proofs.Common.{◌≡◌, ℕ, zero, ◌*◌, ◌≤◌, ◌<◌, ◌^◌, inl, inr, Bool, true, false, arith, refl, subst, sym, ◌+◌, ◌==◌, false≢true}
+use Rattle.conductance_bounds.proofs.Common.{cases_lt, Dec, size, Ratio, over, IsFloor, IsCeiling, Reaches, Passes, den, plus, times, AtMost, num_scaled}
 use Rattle.conductance_bounds.proofs.Common.{Sd, value, two, IsPositive, Span, AreBounds, Term, exact, PairEncloses, IsBetween, Number, Within, Sum, Quotient}
 use Rattle.conductance_bounds.proofs.Common.{area_formula, vertical_k_term, vertical_k, vertical_term, resistance_sum, vertical_of, vertical_exact, IsVertHalf}
 use Rattle.conductance_bounds.proofs.Common.{IsBed, evap_formula, evap_exact, over-positive, mul-le-mul_right, Same, Same-trans, Same-sym, Same-self, plus-Same}
@@ -84,11 +84,7 @@ layers_give r d q₁ h₁ v₁ t₁ q₂ h₂ v₂ t₂ b v bare p q bed =
 
 -- what lies below zero is nothing
 none_below : (f : Ratio) (hi : Sd) → hi.m ≡ 0 → AtMost f (value hi) → f.num ≡ 0
-none_below f hi e h = nothing f.num (den f) hi.m (10 ^ up hi.e) (value hi).less e (rw (num_scaled hi.m hi.e) at h.cross)
-  where
-    nothing : (a x m p y : ℕ) → m ≡ 0 → a * suc y ≤ (m * p) * x → a ≡ 0
-    nothing a x zero p y e h = omega (arith, h)
-    nothing a x (suc m) p y e h = absurd (omega (arith, e))
+none_below f hi e h = grind (arith, num_scaled, zero)
 
 bedded : (bed : Bed) (h : Ratio) → IsBed bed → IsBetween bed.thick_lo bed.thick_hi h → IsBedded (bed.thick_lo.m == 0) (Within bed.thick_lo bed.thick_hi h) (size bed.vkcb)
 bedded bed h (inl z) b = no_bed bed.thick_lo.m _ (size bed.vkcb) z.0.0 (none_below h bed.thick_hi z.1.0 b.upper)
@@ -127,10 +123,7 @@ Reaches-passes n m f g s lt le h = record { pass = passes n m f.num (den f) g.nu
         omega arith
 
 pub ceiling-passes : (n m : ℕ) (f : Ratio) (s : ℕ) → m < n → IsCeiling n f s → Passes m f s
-ceiling-passes n m f s lt h = elim (cases_lt (m * den f) (f.num * 10 ^ s)) [
-  | inl k ↦ record { pass = k }
-  | inr k ↦ absurd (let j : n ≤ m = h.least m k in omega arith)
-]
+ceiling-passes n m f s lt h = grind (arith, cases_lt)
 
 -- the whole part below is at most the ceiling above
 pub floor-ceiling : (m n : ℕ) (f g : Ratio) (s : ℕ) → AtMost f g → IsFloor m f s → IsCeiling n g s → m ≤ n

@@ -64,9 +64,7 @@ power_next t n x p = subst (λ k. AreBounds (power_term t k) x) (let e : suc n �
 
 -- the exponents after i steps
 pub sizes_reach : (x : Span) (low high n : ℕ) → low ≤ n → high ≤ n → HasSize x.lo (neg_ℤ (pos low)) (pos high) → HasSize x.hi (neg_ℤ (pos low)) (pos high) → reach x ≤ n
-sizes_reach x low high n p q l h = reach_within x n
-    (record { above = omega (arith, ints, l.above, p); below = omega (arith, ints, l.below, q) })
-    (record { above = omega (arith, ints, h.above, p); below = omega (arith, ints, h.below, q) })
+sizes_reach x low high n p q l h = grind (arith, reach_within)
 
 -- one step of Horner's rule: times T, plus 1
 pub sum_size : (s t p o r : Sd) (i : ℕ) → HasSize s (neg_ℤ (pos 17)) (pos (5 * i)) → HasSize t (neg_ℤ (pos 20)) (neg_ℤ (pos 14)) → HasSize o (neg_ℤ (pos 17)) (neg_ℤ (pos 17)) →

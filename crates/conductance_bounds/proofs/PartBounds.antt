@@ -1,5 +1,5 @@
 -- The part of a period that has passed lies between its bounds, and is at most 1.
-use Rattle.conductance_bounds.proofs.Common.{◌≡◌, ℕ, zero, suc, ◌+◌, ◌*◌, ◌-◌, ◌≤◌, ◌<◌, ◌^◌, inl, inr, Bool, true, false, cond, min, arith, refl, subst, sym}
+use Rattle.conductance_bounds.proofs.Common.{◌≡◌, ℕ, zero, suc, ◌+◌, ◌*◌, ◌-◌, ◌≤◌, ◌<◌, ◌^◌, Bool, true, false, cond, min, arith, refl, subst, sym}
 use Rattle.conductance_bounds.proofs.Common.{ap, mul-le-mul_right, le_of_mul-le-mul_right, cases_lt, size, Ratio, ratio, over, scaled, den, AtMost, Same, plus}
 use Rattle.conductance_bounds.proofs.Common.{times, AtMost-trans, AtMost-refl, Same-AtMost, num_plus, num_over, den_over, Same-trans, Same-sym, den_plus, value}
 use Rattle.conductance_bounds.proofs.Common.{IsTimed, number_one, one, power, geometric, multiplier, passed, Span, AreBounds, exact, bound, Lower, sum_term}
@@ -41,10 +41,7 @@ geometric_grows t n zero = subst (λ (m : ℕ). AtMost (geometric t n) (geometri
 geometric_grows t n (suc k) = AtMost-trans (geometric_grows t n k) (subst (λ (m : ℕ). AtMost (geometric t (n + k)) (geometric t m)) (let e : suc (n + k) ≡ n + suc k = omega arith in e) (next t (n + k)))
 
 least : (c g d top : ℕ) → g ≡ min c (10 ^ 18) → top ≤ c * d → top ≤ d * 10 ^ 18 → top ≤ g * d
-least c g d top e a b = elim (cases_lt c (10 ^ 18)) [
-  | inl lt ↦ (let q : g ≡ c = omega (arith, e, lt) in let r : g * d ≡ c * d = ap (λ (z : ℕ). z * d) q in omega (arith, r, a))
-  | inr le ↦ (let q : g ≡ 10 ^ 18 = omega (arith, e, le) in let r : g * d ≡ 10 ^ 18 * d = ap (λ (z : ℕ). z * d) q in omega (arith, r, b))
-]
+least c g d top e a b = grind (arith, cases_lt)
 
 all_passed : (f g : ℕ) → f ≡ 10 ^ 18 → g ≡ 10 ^ 18 → IsPassed one f g
 unfolding ratio
@@ -131,11 +128,7 @@ unit_positive = omega arith
 
 -- the multiplier of a period's steps
 pub multiplier_positive : (p : Period) → IsTimed p → 0 < (multiplier p).num
-multiplier_positive p h = by_kind p.steady
-  where
-    by_kind : (b : Bool) → 0 < (cond b one (size p.tsmult)).num
-    by_kind true = unit_positive
-    by_kind false = size_positive p.tsmult h.tsmult
+multiplier_positive p h = grind (arith, unit_positive, size_positive)
 
 unity_is_one : size number_one ≡ one
 unfolding scaled

@@ -1,6 +1,6 @@
 -- The pair of a recharge contains it, whatever its sign.
-use Rattle.conductance_bounds.proofs.Common.{◌≡◌, ℕ, suc, ◌+◌, ◌*◌, ◌≤◌, ◌^◌, Bool, true, false, arith, ap, ◌∙◌, ℤ, pos, neg_ℤ, ◌*ℤ◌, ints, Dec, size, Ratio}
-use Rattle.conductance_bounds.proofs.Common.{den, times, Same, Fraction, signed, with_sign, Encloses, EnclosesSigned, Number, number, num_times, den_times}
+use Rattle.conductance_bounds.proofs.Common.{◌≡◌, ℕ, ◌*◌, ◌≤◌, ◌^◌, Bool, true, false, arith, ap, ◌∙◌, ℤ, pos, neg_ℤ, ◌*ℤ◌, ints, Dec, size, Ratio}
+use Rattle.conductance_bounds.proofs.Common.{times, Same, Fraction, signed, with_sign, Encloses, EnclosesSigned, Number, number, num_times, den_times}
 use Rattle.conductance_bounds.proofs.Common.{Same-sym, neg_times, recharge_formula, recharge_exact, FlowEncloses, Pair, pair, signed_pair}
 use Rattle.decimal_input.specs.Fractions.{den as denominator, times as product}
 use Rattle.conductance_bounds.proofs.Manual.{pair_encloses, Encloses-same}
@@ -17,12 +17,7 @@ plain_high h n d p n' d' e q k = omega (arith, k, (let a : n * p ≡ n' * p = ap
 
 -- not below 0
 gain_encloses : (r a : Ratio) (l h s : ℕ) → Encloses l h s (times r a) → EnclosesSigned (pos l) (pos h) s (with_area false r a)
-gain_encloses r a l h s k =
-    let d : den (times r a) ≡ suc (r.less * a.less + r.less + a.less) = den_times r a ∙ (let q : den r * den a ≡ suc (r.less * a.less + r.less + a.less) = omega arith in q) in
-    record {
-      lower = omega (arith, ints, plain_low l (times r a).num (den (times r a)) (10 ^ s) (r.num * a.num) _ (num_times r a) d k.lower);
-      upper = omega (arith, ints, plain_high h (times r a).num (den (times r a)) (10 ^ s) (r.num * a.num) _ (num_times r a) d k.upper);
-    }
+gain_encloses r a l h s k = grind (arith, den_times, plain_low, num_times, plain_high)
 
 -- below 0: the bounds of the magnitude, negated and exchanged
 loss_encloses : (r a : Ratio) (l h s : ℕ) → Encloses l h s (times r a) → EnclosesSigned (neg_ℤ (pos h)) (neg_ℤ (pos l)) s (with_area true r a)
@@ -54,10 +49,7 @@ recharge_encloses rate delr delc s = flow_encloses rate (size delr) (size delc) 
 -- the bounds of a flow of the input
 signed_encloses : (neg : Bool) (r : Ratio) (p : Pair) (s : ℕ) → Encloses p.lo p.hi s r → EnclosesSigned (signed_pair neg p).lo (signed_pair neg p).hi s (record { num = with_sign neg r.num; less = r.less })
 signed_encloses false r p s k = record { lower = omega (arith, ints, k.lower); upper = omega (arith, ints, k.upper) }
-signed_encloses true r p s k = record {
-  lower = omega (arith, ints, k.upper, neg_times (pos p.hi) (pos (den r)), neg_times (pos r.num) (pos (10 ^ s)));
-  upper = omega (arith, ints, k.lower, neg_times (pos p.lo) (pos (den r)), neg_times (pos r.num) (pos (10 ^ s)));
-}
+signed_encloses true r p s k = grind (arith, neg_times)
 
 pub number_encloses : (q : Dec) (s : ℕ) → FlowEncloses (Number (size q)) q.neg s (number q)
 number_encloses q s = signed_encloses q.neg (size q) (pair (Number (size q)) s) s (pair_encloses (Number (size q)) s tt)

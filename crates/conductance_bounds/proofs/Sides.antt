@@ -1,5 +1,5 @@
 -- The two bounds of a formula lie on their sides of its value, and the bounds of positive factors are positive.
-use Rattle.conductance_bounds.proofs.Common.{ℕ, zero, suc, ◌*◌, ◌≤◌, ◌<◌, arith, mul-pos, Ratio, den, AtMost, AtMost-trans, plus-AtMost, times-AtMost}
+use Rattle.conductance_bounds.proofs.Common.{ℕ, zero, suc, ◌<◌, arith, mul-pos, Ratio, AtMost, AtMost-trans, plus-AtMost, times-AtMost}
 use Rattle.conductance_bounds.proofs.Common.{over-AtMost, plus-positive, times-positive, over-positive, num_scaled, ten_pos, up, Dec, size, Sd, value}
 use Rattle.conductance_bounds.proofs.Common.{IsPositive, one, Term, exact, bound, Holds, IsBetween, Number, Within, Sum, Product, Quotient, Side, Lower, Upper}
 use Rattle.conductance_bounds.proofs.Common.{rounded, ratio, sum_term, power_term, is_rounded, rounded_positive}
@@ -8,11 +8,7 @@ pub positive_value : (x : Sd) → 0 < x.m → 0 < (value x).num
 positive_value x h = rw num_scaled (mul-pos h (ten_pos (up x.e)))
 
 pub more_positive : (f g : Ratio) → AtMost f g → 0 < f.num → 0 < g.num
-more_positive f g le some = step f.num (den g) g.num (den f) some (omega arith) le.cross
-  where
-    step : (a y b x : ℕ) → 0 < a → 0 < y → a * y ≤ b * x → 0 < b
-    step a y zero x h k le = absurd (omega (arith, mul-pos h k, le))
-    step a y (suc b) x h k le = omega arith
+more_positive f g le some = grind (arith, zero, mul-pos)
 
 -- r is on its side of f
 abbrev pub IsOn : Side → Sd → Ratio → Type 0

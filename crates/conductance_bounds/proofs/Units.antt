@@ -57,7 +57,4 @@ floor_is (pos n) = record { at_most = omega (arith, ints, div-mul-le_self n (10 
 floor_is (negsuc n) = record { at_most = omega (arith, ints, lt-mul-div-succ n {b = 10 ^ 18} (omega arith)); next = omega (arith, ints, div-mul-le_self n (10 ^ 18)) }
 
 pub ceiling_is : (x : ℤ) → IsCeilingOf x (ceiling_of x)
-ceiling_is x = turned x _ (floor_is (neg_ℤ x))
-  where
-    turned : (x z : ℤ) → IsFloorOf (neg_ℤ x) z → IsCeilingOf x (neg_ℤ z)
-    turned x z is = record { at_least = omega (arith, ints, is.at_most); next = omega (arith, ints, is.next) }
+ceiling_is x = grind (arith, floor_is)

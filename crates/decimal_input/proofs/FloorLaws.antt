@@ -125,7 +125,4 @@ whole_signed lo hi s D f z h e =
 
 -- With the other sign the bounds change their signs and places.
 pub negated_enclosed : (lo hi : ℤ) (s : ℕ) (f : Fraction) → EnclosesSigned lo hi s f → EnclosesSigned (neg_ℤ hi) (neg_ℤ lo) s (negated f)
-negated_enclosed lo hi s f h = record {
-  lower = rw (neg_times hi (pos (suc f.less)), neg_times f.num (pos (10 ^ s))) (turned _ _ h.upper);
-  upper = rw (neg_times lo (pos (suc f.less)), neg_times f.num (pos (10 ^ s))) (turned _ _ h.lower);
-}
+negated_enclosed lo hi s f h = grind (arith, neg_times, turned)

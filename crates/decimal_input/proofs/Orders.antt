@@ -53,20 +53,14 @@ den_over f g h = let k : 0 < suc f.less * g.num = times_pos f.less g.num h in om
         le_one a = omega arith
 
 pub times-AtMost : {a b c d : Ratio} → AtMost a b → AtMost c d → AtMost (times a c) (times b d)
-times-AtMost {a} {b} {c} {d} p q = record {
-  cross = rw (num_times, num_times, den_times, den_times) (cross_times a.num (den a) b.num (den b) c.num (den c) d.num (den d) p.cross q.cross);
-}
+times-AtMost {a} {b} {c} {d} p q = grind (arith, num_times, den_times, cross_times)
 
 pub plus-AtMost : {a b c d : Ratio} → AtMost a b → AtMost c d → AtMost (plus a c) (plus b d)
-plus-AtMost {a} {b} {c} {d} p q = record {
-  cross = rw (num_plus, num_plus, den_plus, den_plus) (cross_plus a.num (den a) b.num (den b) c.num (den c) d.num (den d) p.cross q.cross);
-}
+plus-AtMost {a} {b} {c} {d} p q = grind (arith, num_plus, den_plus, cross_plus)
 
 -- a greater numerator over a lesser divisor
 pub over-AtMost : {a b c d : Ratio} → 0 < c.num → 0 < d.num → AtMost a b → AtMost d c → AtMost (over a c) (over b d)
-over-AtMost {a} {b} {c} {d} hc hd p q = record {
-  cross = rw (num_over, num_over, den_over a c hc, den_over b d hd) (cross_times a.num (den a) b.num (den b) (den c) c.num (den d) d.num p.cross (omega (arith, q.cross)));
-}
+over-AtMost {a} {b} {c} {d} hc hd p q = grind (arith, num_over, den_over, cross_times)
 
 pub Same-trans : {f g h : Ratio} → Same f g → Same g h → Same f h
 Same-trans {f} {g} {h} p q = record { cross = cross_same f.num (den f) g.num (den g) h.num (den h) (omega arith) p.cross q.cross }

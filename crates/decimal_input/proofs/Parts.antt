@@ -1,5 +1,5 @@
 use Rattle.decimal_input.proofs.Common.{◌≡◌, ℕ, ◌≤◌, inl, inr, ◌==◌, List, [], ◌∷◌, ◌++◌, length, take, drop, Bool, true, false, arith, refl, ap, ◌∙◌, ℤ, Some}
-use Rattle.decimal_input.proofs.Common.{◌<◌, get_or, sym, ◌+◌, ◌&&◌, ◌-ℤ◌, nat_le, subst, pos, Option, None, eq-eqb, le-leb, cases_Bool, eqb-true, leb-true}
+use Rattle.decimal_input.proofs.Common.{◌<◌, get_or, sym, ◌+◌, ◌&&◌, ◌-ℤ◌, nat_le, pos, Option, None, eq-eqb, le-leb, cases_Bool, eqb-true, leb-true}
 use Rattle.decimal_input.proofs.Common.{and_parts, nat_tests, with_sign, is_digit, is_mark, number_from, AreDigits, IsSign, IsPart, IsExponent, is_sign}
 use Rattle.decimal_input.proofs.Common.{is_negative, unsigned, digits_of, behind, part_of, behind_part, whole_number, exponent_of, Spelling, spelling}
 use Rattle.decimal_input.proofs.Common.{take-append-drop, get_or-take}
@@ -86,9 +86,7 @@ sign_cut (b ∷ bs) = elim (cases_Bool (b == 45)) [
 ]
 
 pub front_digits : (bs : List ℕ) → AreDigits (digits_of bs)
-front_digits bs k d h =
-    let lt : k < prefix_len is_digit bs = subst (λ (n : ℕ). k < n) (length-prefix_len is_digit bs) h in
-    (ap is_digit (get_or-take (prefix_len is_digit bs) bs k d lt)) ∙ prefix_len_passes is_digit bs k d lt
+front_digits bs k d h = grind (arith, length-prefix_len, get_or-take, prefix_len_passes)
 
 pub front_cut : (bs : List ℕ) → digits_of bs ++ behind bs ≡ bs
 front_cut bs = take-append-drop (prefix_len is_digit bs) bs
@@ -124,7 +122,4 @@ exponent_cut (b ∷ bs) e h = elim (cases_Bool (is_mark b)) [
 
 pub spelling_cut : (neg : Bool) (whole part : List ℕ) (X : Option ℤ) (n : Spelling) → spelling neg whole part X ≡ Some n → (e : ℤ) × (X ≡ Some e) × (1 ≤ length whole + length part) × (n ≡ record { neg = neg; coefficient = number_from (number_from 0 whole) part; exp = e -ℤ pos (length part) })
 spelling_cut neg whole part None n h = absurd cc
-spelling_cut neg whole part (Some e) n h = elim (cases_Bool (nat_le 1 (length whole + length part))) [
-  | inl k ↦ (e, refl, leb-true _ _ k, sym (some_is _ _ (rw k at h)))
-  | inr k ↦ absurd (let m : None ≡ Some n = rw k at h in cc)
-]
+spelling_cut neg whole part (Some e) n h = grind (arith, cases_Bool, nat_le, leb-true, some_is)

@@ -55,9 +55,7 @@ scaled_shift m j e = record {
     regroup m a b c x z h = let k : m * (a * b * c) ≡ m * (x * 1 * z) = ap (λ (t : ℕ). m * t) h in omega (arith, k)
 
 pub scaled-AtMost : (m n : ℕ) (e : ℤ) → m ≤ n → AtMost (scaled m e) (scaled n e)
-scaled-AtMost m n e h = record {
-  cross = rw (num_scaled, num_scaled, den_scaled, den_scaled) (mul-le-mul_right (10 ^ down e) (mul-le-mul_right (10 ^ up e) h));
-}
+scaled-AtMost m n e h = grind (arith, num_scaled, den_scaled, mul-le-mul_right)
 
 -- comparison of two decimals as one of powers
 pub cross_of : (m n : ℕ) (d e : ℤ) → (scaled m d).num * suc (scaled n e).less ≡ m * 10 ^ (up d + down e)
@@ -115,22 +113,10 @@ shifted c d z t n ht h =
     omega (arith, k, h.whole)
 
 pub accepted : (k : Coefficient) (neg : Bool) (n : ℕ) (e g : ℤ) → k.many ≡ false → (k.digits ≡ 0 → ⊥) → k.digits < 10 ^ 18 → IsOf k n → g ≡ e +ℤ pos k.zeros → neg_ℤ (pos 40) ≤ℤ g → g ≤ℤ pos 40 → IsCanonical neg n e (Ok (record { neg = neg; digits = k.digits; exp = g }))
-accepted k neg n e g f ne few h hg low high = inr (
-  k.digits,
-  k.zeros,
-  trimmed k n f ne h,
-  record {
-    many = λ m. absurd (omega arith);
-    low = λ _ l. absurd (omega (arith, ints));
-    high = λ _ l. absurd (omega (arith, ints));
-    good = λ _ _ _. rw hg refl;
-  },
-)
+accepted k neg n e g f ne few h hg low high = grind (arith, trimmed)
 
 pub number : (k : Coefficient) (neg : Bool) (n : ℕ) (g : ℤ) → k.many ≡ false → (k.digits ≡ 0 → ⊥) → k.digits < 10 ^ 18 → IsOf k n → neg_ℤ (pos 40) ≤ℤ g → g ≤ℤ pos 40 → IsDec (record { neg = neg; digits = k.digits; exp = g })
-number k neg n g f ne few h low high =
-    let t = trimmed k n f ne h in
-    record { few = few; form = inr (omega (arith, ne), t.last); above = low; below = high }
+number k neg n g f ne few h low high = grind (arith, trimmed)
 
 pub zero_number : IsDec (record { neg = false; digits = 0; exp = pos 0 })
 zero_number = record { few = omega arith; form = inl (refl, refl, refl); above = omega (arith, ints); below = omega (arith, ints) }

@@ -47,10 +47,7 @@ pos_times : (m n : ℕ) → pos m *ℤ pos n ≡ pos (m * n)
 pos_times m n = omega (arith, ints)
 
 sign_product : (x y : Bool) (m n : ℕ) → with_sign x m *ℤ with_sign y n ≡ with_sign (differ x y) (m * n)
-sign_product true true m n = neg_times (pos m) (neg_ℤ (pos n)) ∙ ap neg_ℤ (*ℤ_comm (pos m) (neg_ℤ (pos n)) ∙ neg_times (pos n) (pos m)) ∙ twice (pos n *ℤ pos m) ∙ *ℤ_comm (pos n) (pos m) ∙ pos_times m n
-  where
-    twice : (z : ℤ) → neg_ℤ (neg_ℤ z) ≡ z
-    twice z = omega (arith, ints)
+sign_product true true m n = grind (arith, neg_times, pos_times)
 sign_product true false m n = neg_times (pos m) (pos n) ∙ ap neg_ℤ (pos_times m n)
 sign_product false true m n = *ℤ_comm (pos m) (neg_ℤ (pos n)) ∙ neg_times (pos n) (pos m) ∙ ap neg_ℤ (*ℤ_comm (pos n) (pos m) ∙ pos_times m n)
 sign_product false false m n = pos_times m n

@@ -1,7 +1,7 @@
 use Rattle.decimal_input.proofs.Common.{◌≡◌, ℕ, zero, suc, ◌+◌, ◌-◌, ◌*◌, ◌≤◌, ◌<◌, ◌^◌, arith, inl, inr, ap, ◌∙◌, Bool, true, false, ℤ, pos, neg_ℤ, ◌+ℤ◌, ◌*ℤ◌}
 use Rattle.decimal_input.proofs.Common.{◌≤ℤ◌, ◌<ℤ◌, ◌/◌, Option, Some, None, IfNone, refl, sym, subst, ints, cases_lt, Dec, with_sign, size, number, IsFloor}
 use Rattle.decimal_input.proofs.Common.{IsCeiling, IsSignedFloor, IsSignedCeiling, Ratio, scaled, IsFloorPast, IsCeilingPast, lt-mul-div-succ, div-mul-le_self}
-use Rattle.decimal_input.proofs.Common.{div-lt_iff_lt-mul, IsUnits, Fraction, IfSome, not, den, differ, nat_le, ◌⊎◌, floor, ceiling, signed_units, small}
+use Rattle.decimal_input.proofs.Common.{div-lt_iff_lt-mul, IsUnits, Fraction, IfSome, not, den, differ, nat_le, floor, ceiling, signed_units, small}
 use Rattle.decimal_input.proofs.Common.{FitsSigned, w128, units_of, lt-ltb, leb_tells, le-div_iff_mul-le}
 use Rattle.std.specs.Prelude.{unsigned_abs}
 use Rattle.std.specs.Option.{option_map}
@@ -17,10 +17,7 @@ signs_differ false false = refl
 
 -- the product of a number with a sign
 pub sign_times : (neg : Bool) (m p : ℕ) → with_sign neg m *ℤ pos p ≡ with_sign neg (m * p)
-sign_times true m p = neg_times (pos m) (pos p) ∙ ap neg_ℤ (pos_times m p)
-  where
-    pos_times : (m p : ℕ) → pos m *ℤ pos p ≡ pos (m * p)
-    pos_times m p = omega (arith, ints)
+sign_times true m p = grind (arith, neg_times)
 sign_times false m p = omega (arith, ints)
 
 -- one more, times d
@@ -53,27 +50,19 @@ ceiling_down neg m d p k z f e low high = rw (f, e, last_times (neg_ℤ (pos k))
 
 -- The floor of a number that isn't negative is that of its magnitude.
 pub floor_of_floor : (a : Dec) (s k : ℕ) (z : ℤ) → a.neg ≡ false → z ≡ pos k → IsFloor k (size a) s → IsSignedFloor z (number a) s
-floor_of_floor a s k z f e h =
-    let b = floor_up a.neg (size a).num (suc (size a).less) (10 ^ s) k z f e h.at_most h.next in
-    record { at_most = b.0; next = b.1 }
+floor_of_floor a s k z f e h = grind (arith, floor_up)
 
 -- The floor of a negative number is the ceiling of its magnitude, negated.
 pub floor_of_ceiling : (a : Dec) (s k : ℕ) (z : ℤ) → a.neg ≡ true → z ≡ neg_ℤ (pos k) → IsCeiling k (size a) s → IsSignedFloor z (number a) s
-floor_of_ceiling a s k z f e h =
-    let b = floor_down a.neg (size a).num (suc (size a).less) (10 ^ s) k z (omega arith) f e h.at_least (before k _ _ h.least) in
-    record { at_most = b.0; next = b.1 }
+floor_of_ceiling a s k z f e h = grind (arith, floor_down, before)
 
 -- The ceiling of a number that isn't negative is that of its magnitude.
 pub ceiling_of_ceiling : (a : Dec) (s k : ℕ) (z : ℤ) → a.neg ≡ false → z ≡ pos k → IsCeiling k (size a) s → IsSignedCeiling z (number a) s
-ceiling_of_ceiling a s k z f e h =
-    let b = ceiling_up a.neg (size a).num (suc (size a).less) (10 ^ s) k z (omega arith) f e h.at_least (before k _ _ h.least) in
-    record { at_least = b.0; next = b.1 }
+ceiling_of_ceiling a s k z f e h = grind (arith, ceiling_up, before)
 
 -- The ceiling of a negative number is the floor of its magnitude, negated.
 pub ceiling_of_floor : (a : Dec) (s k : ℕ) (z : ℤ) → a.neg ≡ true → z ≡ neg_ℤ (pos k) → IsFloor k (size a) s → IsSignedCeiling z (number a) s
-ceiling_of_floor a s k z f e h =
-    let b = ceiling_down a.neg (size a).num (suc (size a).less) (10 ^ s) k z f e h.at_most h.next in
-    record { at_least = b.0; next = b.1 }
+ceiling_of_floor a s k z f e h = grind (arith, ceiling_down)
 
 -- Each fraction has a floor.
 pub a_floor : (f : Ratio) (s : ℕ) → (k : ℕ) × IsFloor k f s
@@ -99,29 +88,17 @@ a_ceiling f s = some (f.num * 10 ^ s) f.less refl
 
 -- The floor and the ceiling as quotients.
 pub floor_is : (n s : ℕ) (f : Ratio) → IsFloor n f s → (f.num * 10 ^ s + 0) / den f ≡ n
-floor_is n s f h =
-    let least : n ≤ (f.num * 10 ^ s + 0) / den f = (le-div_iff_mul-le (omega arith)).1 (omega (arith, h.at_most)) in
-    let most : (f.num * 10 ^ s + 0) / den f < n + 1 = (div-lt_iff_lt-mul (omega arith)).1 (omega (arith, h.next)) in
-    omega (arith, least, most)
+floor_is n s f h = grind (arith, le-div_iff_mul-le, div-lt_iff_lt-mul)
 
 pub ceiling_is : (n s : ℕ) (f : Ratio) → IsCeiling n f s → (f.num * 10 ^ s + f.less) / den f ≡ n
-ceiling_is n s f h =
-    let q = (f.num * 10 ^ s + f.less) / den f in
-    let above : f.num * 10 ^ s + f.less < (q + 1) * den f = (div-lt_iff_lt-mul {x = f.num * 10 ^ s + f.less} {y = q + 1} (omega arith)).0 (omega arith) in
-    let reach : f.num * 10 ^ s ≤ q * den f = omega (arith, above) in
-    let most : q < n + 1 = (div-lt_iff_lt-mul (omega arith)).1 (omega (arith, h.at_least)) in
-    omega (arith, most, h.least q reach)
+ceiling_is n s f h = grind (arith, div-lt_iff_lt-mul)
 
 -- a number of units below the limit, and one that isn't
 pub small_is : (k : ℕ) → k < 2 ^ 126 → Some k ≡ small k
 small_is k lt = rw (lt-ltb k (2 ^ 126) lt) refl
 
 too_large : (k : ℕ) → 2 ^ 126 ≤ k → None ≡ small k
-too_large k h = by_case (leb_tells (suc k) (2 ^ 126))
-  where
-    by_case : ((nat_le (suc k) (2 ^ 126) ≡ true) × (suc k ≤ 2 ^ 126)) ⊎ ((nat_le (suc k) (2 ^ 126) ≡ false) × (2 ^ 126 < suc k)) → None ≡ small k
-    by_case (inl a) = absurd (omega (arith, a.1, h))
-    by_case (inr a) = rw a.0 refl
+too_large k h = grind (arith, leb_tells, nat_le)
 
 reached : (n k m d : ℕ) → n * d ≤ m → m < (k + 1) * d → n ≤ k
 reached n k m d h lt = let p : n < k + 1 = lt_cancel d n (k + 1) (omega (arith, h, lt)) in omega (arith, p)
@@ -149,9 +126,7 @@ sign_fits true n lt = omega (arith, ints, lt)
 
 -- the same of a number with its sign, where its exponent is written g
 pub signed_are : (up : Bool) (a : Dec) (s : ℕ) (g : ℤ) (r : Option ℕ) → g ≡ a.exp → IsUnits (not (beq up a.neg)) (scaled a.digits g) s r → option_map (with_sign a.neg) r ≡ signed_units up a s
-signed_are up a s g r e h =
-    let same : r ≡ units_of (not (beq up a.neg)) (size a) s = subst (λ (x : ℤ). r ≡ units_of (not (beq up a.neg)) (scaled a.digits x) s) e (units_are _ _ s r h) in
-    ap (option_map (with_sign a.neg)) (subst (λ (b : Bool). r ≡ units_of b (size a) s) (signs_differ up a.neg) same)
+signed_are up a s g r e h = grind (arith, units_are, signs_differ)
 
 -- what is known of a whole number k with a sign, of which small ones are kept
 kept : (P : ℤ → Type 0) (Q : Type 0) (neg : Bool) (k : ℕ) (r : Option ℤ) → r ≡ option_map (with_sign neg) (small k) → P (with_sign neg k) → (2 ^ 126 ≤ k → Q) → IfSome r P × IfSome r (λ z. unsigned_abs z < 2 ^ 126) × IfNone r Q

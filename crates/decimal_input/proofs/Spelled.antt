@@ -17,8 +17,7 @@ body_first [] part point behind all (inr (_, e)) h = absurd (let k : length part
 body_first (b ∷ bs) part point behind all p h = digit_first b (bs ++ (point ++ behind)) (all 0 0 (omega arith))
 
 spelling_is : (neg : Bool) (whole part : List ℕ) (e : ℤ) (n : Spelling) → n.neg ≡ neg → 1 ≤ length whole + length part → n.coefficient ≡ number_from 0 (whole ++ part) → n.exp ≡ e -ℤ pos (length part) → spelling neg whole part (Some e) ≡ Some n
-spelling_is neg whole part e n sign h c x =
-    rw (le-leb 1 (length whole + length part) h) (rw (← sign, ← x, ← number_append 0 whole part, ← c) refl)
+spelling_is neg whole part e n sign h c x = grind (arith, le-leb, number_append)
 
 -- A word that spells a number is read as that number.
 pub reads_spelt : (w : List ℕ) (n : Spelling) → Spells w n → spelt w ≡ Some n
@@ -89,9 +88,7 @@ none_alone (b ∷ ds) all h = digit_first b ds (all 0 0 (omega arith))
 
 -- A word that is an integer is read as it.
 pub reads_integer : (w : List ℕ) (z : ℤ) → IsInteger w z → integer_of w ≡ Some z
-reads_integer w z i =
-    let sign = sign_read i.neg i.sign i.digits i.is_sign (none_alone i.digits i.are_digits i.some) in
-    rw (i.cut, sign.1, sign.0, le-leb (length i.digits) 18 i.few, i.value) (whole_read i.neg i.digits i.are_digits i.some)
+reads_integer w z i = grind (arith, sign_read, none_alone, le-leb, whole_read)
 
 -- A word that is read as an integer is it.
 pub integer_read : (w : List ℕ) (z : ℤ) → integer_of w ≡ Some z → IsInteger w z

@@ -1,7 +1,7 @@
 use Rattle.decimal_input.proofs.Common.{◌≡◌, ℕ, suc, ◌+◌, ◌-◌, ◌*◌, ◌%◌, ◌≤◌, ◌<◌, ◌^◌, inl, inr, arith, refl, sym, ap, subst, ◌∙◌, Bool, List, length, ℤ, pos}
-use Rattle.decimal_input.proofs.Common.{neg_ℤ, ◌+ℤ◌, Option, Some, None, Result, ◌⊎◌, true, false, by_lt_z, ints, pow-add, cases_lt, mul-le-mul, pow-suc}
+use Rattle.decimal_input.proofs.Common.{◌+ℤ◌, Option, Some, None, Result, ◌⊎◌, true, false, by_lt_z, ints, pow-add, cases_lt, mul-le-mul, pow-suc}
 use Rattle.decimal_input.proofs.Common.{le_of_mul-le-mul_right, Dec, NumFault, IsTrimmed, Spelling, Spells, spelt, IsTested, IsCanonical, Names, up, down}
-use Rattle.decimal_input.proofs.Common.{with_sign, size, number, IsDec, den}
+use Rattle.decimal_input.proofs.Common.{with_sign, number, IsDec}
 use Rattle.decimal_input.proofs.Powers.{ten_pos, cross_of, up_down}
 use Rattle.decimal_input.proofs.Spelled.{reads_spelt, spells_read}
 use Rattle.decimal_input.specs.Fractions.{Same as SameSigned}
@@ -38,14 +38,7 @@ trimmed_one c d e z y s t =
     ]
 
 tested_one : (neg : Bool) (d : ℕ) (e : ℤ) (r q : Result Dec NumFault) → IsTested neg d e r → IsTested neg d e q → r ≡ q
-tested_one neg d e r q s t = elim (cases_lt d (10 ^ 18)) [
-  | inl few ↦ by_lt_z e (neg_ℤ (pos 40))
-      (λ low. s.low few low ∙ sym (t.low few low))
-      (λ above. by_lt_z (pos 40) e
-      (λ high. s.high few high ∙ sym (t.high few high))
-      (λ below. s.good few above below ∙ sym (t.good few above below)))
-  | inr many ↦ s.many many ∙ sym (t.many many)
-]
+tested_one neg d e r q s t = grind (arith, cases_lt, by_lt_z)
 
 not_zero : (c d z : ℕ) → c ≡ 0 → IsTrimmed c d z → ⊥
 not_zero c d z h t = none d (10 ^ z) t.last (ten_pos z) (sym t.whole ∙ h)
@@ -86,10 +79,7 @@ names_one w r q a b = elim (cases_lt 64 (length w)) [
         canonical_one n.neg n.coefficient n.exp r q (a.number short n s) (b.number short n s)
 
 dec_same : (a b : Dec) → a.neg ≡ b.neg → a.digits ≡ b.digits → a.exp ≡ b.exp → a ≡ b
-dec_same a b p q r =
-    ap (λ (x : Bool). record { neg = x; digits = a.digits; exp = a.exp }) p
-    ∙ ap (λ (x : ℕ). record { neg = b.neg; digits = x; exp = a.exp }) q
-    ∙ ap (λ (x : ℤ). record { neg = b.neg; digits = b.digits; exp = x }) r
+dec_same a b p q r = grind (arith)
 
 signs_same : (x y : Bool) (m n : ℕ) → 0 < m → 0 < n → with_sign x m ≡ with_sign y n → (x ≡ y) × (m ≡ n)
 signs_same true true m n p q e = (refl, omega (arith, ints))
@@ -98,12 +88,7 @@ signs_same false true m n p q e = absurd (omega (arith, ints))
 signs_same false false m n p q e = (refl, omega (arith, ints))
 
 crossed : (a b : Dec) → SameSigned (number a) (number b) → with_sign a.neg (a.digits * 10 ^ (up a.exp + down b.exp)) ≡ with_sign b.neg (b.digits * 10 ^ (up b.exp + down a.exp))
-crossed a b h =
-    ap (with_sign a.neg) (sym (cross_of a.digits b.digits a.exp b.exp))
-    ∙ sym (sign_times a.neg (size a).num (den (size b)))
-    ∙ h.same
-    ∙ sign_times b.neg (size b).num (den (size a))
-    ∙ ap (with_sign b.neg) (cross_of b.digits a.digits b.exp a.exp)
+crossed a b h = grind (arith, cross_of, sign_times)
 
 positive : (m k : ℕ) → 0 < m → 0 < m * 10 ^ k
 positive m k h = omega (arith, mul-le-mul h (ten_pos k))

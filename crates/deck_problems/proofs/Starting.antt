@@ -8,10 +8,7 @@ use Rattle.deck_problems.proofs.Enclosing.{second_cells}
 use Rattle.deck_problems.proofs.OneProblem.{between_cells, cell_of_first, cell_of_member}
 
 same_hull : (a b x y : Bound) → IsHullBound a b x → IsHullBound a b y → x ≡ y
-same_hull a b x y h k =
-    let low = h.low ∙ sym k.low in
-    let high = h.high ∙ sym k.high in
-    λ i. record { low = low i; high = high i }
+same_hull a b x y h k = grind (arith)
 
 one_hulls : (xs ys rs us : List Bound) → AreHullBounds xs ys rs → AreHullBounds xs ys us → rs ≡ us
 one_hulls xs ys rs us h k = ext_get_or no_bound rs us (h.whole ∙ sym k.whole) (λ c lt. let r : c < length xs = omega (arith, lt, h.whole) in same_hull (bound_in xs c) (bound_in ys c) (bound_in rs c) (bound_in us c) (h.each c r) (k.each c r))
@@ -73,5 +70,4 @@ pub starts_enclose_members : StartHeadsEnclose
 starts_enclose_members d x decks h = enclose_by d.first d.second x decks.first decks.second h
 
 pub starts_hulled : (d : Decks) (b : FlowModel) → d.second ≡ Some b → (xs ys rs : List Bound) → AreStartHeads d.first xs → AreStartHeads b ys → AreHullBounds xs ys rs → AreStartHeadsFor d rs
-starts_hulled d b is xs ys rs h k r =
-    subst (λ (o : Option FlowModel). AreStartsBy d.first o rs) (sym is) (subst (λ (l : List Bound). AreHullBounds l (each_cell b (start_bound b)) rs) h (subst (λ (l : List Bound). AreHullBounds xs l rs) k r))
+starts_hulled d b is xs ys rs h k r = grind (arith)

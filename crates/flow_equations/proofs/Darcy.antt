@@ -61,12 +61,7 @@ meets_darcy_along_columns m a b h =
 
 -- k t w / d where k and t are 1 and w is d
 units : (k z t u w y d x : ℕ) → k * 1 ≡ 1 * z → t * 1 ≡ 1 * u → d * y ≡ w * x → (((k * t) * w) * x) * 1 ≡ 1 * (((z * u) * y) * d)
-units k z t u w y d x e f g =
-    let p : k ≡ z = omega (arith, e) in
-    let q : t ≡ u = omega (arith, f) in
-    let left : (((k * t) * w) * x) * 1 ≡ (k * t) * (w * x) = omega arith in
-    let right : 1 * (((z * u) * y) * d) ≡ (z * u) * (d * y) = omega arith in
-    left ∙ (λ i. (p i * q i) * sym g i) ∙ sym right
+units k z t u w y d x e f g = grind (arith)
 
 pub unit_branch : (m : FlowModel) (a b : ℕ) → AreAlike m a b → Same (size (delr_at m a)) (size (delc_at m a)) → Same (size (hk_at m a)) one → Same (thickness m a) one → Same (row_conductance m a b) one
 unit_branch m a b h square k t =
@@ -82,18 +77,10 @@ above_zero a x (suc b) y h k le = omega arith
 
 -- between the halves
 lesser_half : (a x b y : ℕ) → a * y ≤ b * x → (1 * y) * (1 * (1 * (a * y + b * x))) ≤ (2 * (1 * (x * y))) * (1 * b)
-lesser_half a x b y le =
-    let more : y * (a * y) ≤ y * (b * x) = mul-le-mul_left y le in
-    let left : (1 * y) * (1 * (1 * (a * y + b * x))) ≡ y * (a * y) + y * (b * x) = omega arith in
-    let right : (2 * (1 * (x * y))) * (1 * b) ≡ y * (b * x) + y * (b * x) = omega arith in
-    omega (arith, more, left, right)
+lesser_half a x b y le = grind (arith, mul-le-mul_left)
 
 greater_half : (a x b y : ℕ) → a * y ≤ b * x → (2 * (1 * (x * y))) * (1 * a) ≤ (1 * x) * (1 * (1 * (a * y + b * x)))
-greater_half a x b y le =
-    let more : x * (a * y) ≤ x * (b * x) = mul-le-mul_left x le in
-    let right : (1 * x) * (1 * (1 * (a * y + b * x))) ≡ x * (a * y) + x * (b * x) = omega arith in
-    let left : (2 * (1 * (x * y))) * (1 * a) ≡ x * (a * y) + x * (a * y) = omega arith in
-    omega (arith, more, left, right)
+greater_half a x b y le = grind (arith, mul-le-mul_left)
 
 pub between_halves : (r q : Ratio) → 0 < r.num → AtMost r q → IsBetweenHalves r q
 unfolding in_a_row

@@ -39,10 +39,7 @@ pub cross_by : {f g : Ratio} {a x b y : ℕ} → IsValue f a x → IsValue g b y
 cross_by p q s = (λ i. sym p.num i * sym q.bottom i) ∙ s.cross ∙ (λ i. q.num i * p.bottom i)
 
 pub at_most_by : {f g : Ratio} {a x b y : ℕ} → IsValue f a x → IsValue g b y → a * y ≤ b * x → AtMost f g
-at_most_by {f} {g} {a} {x} {b} {y} p q e =
-    let left : f.num * den g ≡ a * y = λ i. p.num i * q.bottom i in
-    let right : g.num * den f ≡ b * x = λ i. q.num i * p.bottom i in
-    record { cross = omega (arith, left, right, e) }
+at_most_by {f} {g} {a} {x} {b} {y} p q e = grind (arith)
 
 -- a number of the input that is above 0
 pub size_positive : (d : Dec) → IsPositive d → 0 < (size d).num
@@ -51,10 +48,7 @@ size_positive d h = let r = one-le-pow (up d.exp) 10 (omega arith) in let q = h.
 
 -- what is the same as a number above 0 is above 0
 above_zero : (k n d m : ℕ) → 0 < k → 0 < d → n * m ≡ k * d → 0 < n
-above_zero k n d m some under e = let r : 0 < k * d = mul-pos some under in none_or_some n m e r
-  where
-    none_or_some : (n m : ℕ) → n * m ≡ k * d → 0 < k * d → 0 < n
-    none_or_some n m e r = grind arith
+above_zero k n d m some under e = grind (arith, mul-pos)
 
 -- a length over one conductivity: two of them in a row
 join : (a x b y k z : ℕ) → ((a * z) * (y * k) + (b * z) * (x * k)) * ((x * y) * k) ≡ ((a * y + b * x) * z) * ((x * k) * (y * k))

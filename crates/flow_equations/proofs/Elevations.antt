@@ -15,10 +15,7 @@ products x y d e = omega (arith, ints)
 
 -- the gap of two fractions, without differences
 gap_of : (f g : Fraction) → AtMost g f → (gap f g).num + (down f.num * den g + up g.num * den f) ≡ up f.num * den g + down g.num * den f
-gap_of f g h = joined (f.num *ℤ pos (den g)) (g.num *ℤ pos (den f)) h.at_most (products f.num g.num (den f) (den g)) (products g.num f.num (den g) (den f))
-  where
-    joined : (a b : ℤ) → b ≤ℤ a → up a + down f.num * den g ≡ up f.num * den g + down a → up b + down g.num * den f ≡ up g.num * den f + down b → unsigned_abs (a -ℤ b) + (down f.num * den g + up g.num * den f) ≡ up f.num * den g + down g.num * den f
-    joined a b h p q = let r = between a b h in omega (arith, r, p, q)
+gap_of f g h = grind (arith, products, between)
 
 value_gap : (f g : Fraction) → IsValue (gap f g) (gap f g).num (den f * den g)
 value_gap f g = record { num = refl; bottom = omega arith }

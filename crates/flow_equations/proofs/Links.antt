@@ -1,5 +1,5 @@
 -- The links of an exact step: other variable cells, each once, and the same conductance at both ends.
-use Rattle.flow_equations.proofs.Common.{◌≡◌, ℕ, ◌<◌, inl, inr, Bool, true, List, [], ◌∷◌, length, get_or, map, refl, sym, ap, ◌∙◌, subst, arith, Fraction}
+use Rattle.flow_equations.proofs.Common.{◌≡◌, ℕ, ◌<◌, inr, Bool, true, List, [], ◌∷◌, length, get_or, map, refl, sym, ap, ◌∙◌, subst, arith, Fraction}
 use Rattle.flow_equations.proofs.Common.{Same, ExactLink, ExactCell, cell_at, no_cell, FlowModel, cell_count, is_variable, variable_below, variable_cells}
 use Rattle.flow_equations.proofs.Common.{index_of, variable_faces, HasSize, In, In-map, map-In, Contains-In, All-In, Ordered, Ordered-at, passing, rank}
 use Rattle.flow_equations.proofs.Common.{rank_below, at_rank, is_at, IsAt, exact_step, exact_cell, exact_link, HasLinkBack, AreLinked, no_link, get_or-map}
@@ -9,8 +9,7 @@ use Rattle.model_types.proofs.Leads.{IsFaceOf, passing_are, passing_have, end_wi
 
 pub Ordered-map : {X Y : Type 0} (R : X → X → Type 0) (S : Y → Y → Type 0) (f : X → Y) (xs : List X) → ((x y : X) → In xs x → In xs y → R x y → S (f x) (f y)) → Ordered R xs → Ordered S (map f xs)
 Ordered-map R S f [] h k = tt
-Ordered-map R S f (x ∷ xs) h k =
-    ((λ y i. let (z, j, e) = map-In f xs y i in subst (S (f x)) e (h x z (inl refl) (inr j) (k.0 z j))), Ordered-map R S f xs (λ a b i j. h a b (inr i) (inr j)) k.1)
+Ordered-map R S f (x ∷ xs) h k = grind (arith, map-In, Ordered-map R S f xs (λ a b i j. h a b (inr i) (inr j)) k.1)
 
 map_back : {X Y : Type 0} (f : X → Y) (g : Y → X) → ((x : X) → g (f x) ≡ x) → (xs : List X) → map g (map f xs) ≡ xs
 map_back f g h [] = refl

@@ -7,7 +7,7 @@ use Rattle.flow_equations.proofs.Common.{three_cells, idle_wells, one_cell, two_
 use Rattle.flow_equations.proofs.Common.{IsEntryValid}
 use Rattle.std.proofs.Common.{All}
 use Rattle.std.proofs.Math.ListN.{get_or-eq_default}
-use Rattle.std.proofs.lemmas.List.Elements.{All-nil, All-cons, All-replicate, All-get_or}
+use Rattle.std.proofs.lemmas.List.Elements.{All-nil, All-cons, All-replicate}
 use Rattle.model_types.proofs.NoStresses.{no_stresses_fit}
 
 is_dec : (neg : Bool) (digits e : ℕ) → digits < 10 ^ 18 → 0 < digits → 0 < digits % 10 → e ≤ 40 → IsDec (record { neg = neg; digits = digits; exp = pos e })
@@ -51,10 +51,7 @@ unit_thick = record {
 
 -- an array's number, or 0 past its end
 dec_meets : (P : Dec → Type 0) (xs : List Dec) (i : ℕ) → All P xs → P no_number → P (dec_at xs i)
-dec_meets P xs i all none = elim (cases_lt i (length xs)) [
-  | inl less ↦ All-get_or P xs i no_number less all
-  | inr past ↦ subst P (sym (get_or-eq_default xs no_number past)) none
-]
+dec_meets P xs i all none = grind (arith, cases_lt, get_or-eq_default)
 
 -- a row of cells is a grid
 row_grid : (n : ℕ) → 1 ≤ n → n ≤ 4096 → IsGrid (row_of_cells n)
@@ -158,13 +155,7 @@ module _ (ibound : List ℤ) (strt ss : List Dec) (steady : Bool) (lasting : Dec
       }
 
 one_timed : (steady : Bool) (lasting : Dec) (steps : ℕ) (wells : List Entry) → IsPositive lasting → 1 ≤ steps → steps ≤ 100000 → IsTimed (period_with steady lasting steps wells)
-one_timed steady lasting steps wells long some few = record {
-  nstp = (some, few);
-  perlen = record { decimal = long.decimal; sign = long.sign };
-  lasts = (λ e. long);
-  tsmult = one_positive;
-  growth = (λ e. inl refl);
-}
+one_timed steady lasting steps wells long some few = grind (arith, one_positive)
 
 -- a well in a grid of so many cells
 well_valid : (cells c : ℕ) (q : Dec) → c < cells → IsDec q → IsEntryValid cells (Well (cell c) q)

@@ -125,10 +125,7 @@ candidate_is front f p good lo hi =
 
 some_is : {X : Type 0} (b : Bool) (x y : X) → cond b (Some x) None ≡ Some y → (b ≡ true) × (x ≡ y)
 some_is true x y h = (refl, cc)
-some_is false x y h = absurd (none_some h)
-  where
-    none_some : {X : Type 0} {y : X} → None ≡ Some y → ⊥
-    none_some h = cc
+some_is false x y h = grind (arith)
 
 is_same : (xs ys : List ℕ) → bytes_eq xs ys ≡ true → xs ≡ ys
 is_same xs ys h = (bytes_eq-Decides xs ys).0 h

@@ -1,10 +1,10 @@
 -- No line of a listing has a line feed, so the lines of its text are the listing's.
 use Rattle.listing_io.proofs.Common.{◌≡◌, ℕ, zero, suc, ◌+◌, ◌/◌, ◌%◌, ◌<◌, ◌≤◌, ◌^◌, Bool, true, false, cond, List, [], ◌∷◌, ◌++◌, codes, map, nat_abs, All}
 use Rattle.listing_io.proofs.Common.{refl, sym, ap, ◌∙◌, subst, arith, AllByRecursion, AllZip, recursion_from_All, flat_map-cons, lines, Bound, Dir, In, Out}
-use Rattle.listing_io.proofs.Common.{Term, Storage, ZoneFlow, term_name, TermPair, fixed_text, FlowModel, TimeStep, layer_size, place, is_active, times}
+use Rattle.listing_io.proofs.Common.{Term, Storage, ZoneFlow, term_name, TermPair, fixed_text, FlowModel, TimeStep, place, is_active, times}
 use Rattle.listing_io.proofs.Common.{ZonePair, zones_of_flow, ListedStep, Form, pair_line, Line, ended, text_of, numbers_text, first_line, step_line, head_form}
 use Rattle.listing_io.proofs.Common.{head_front, head_line, head_lines, head_pair, dir_front, term_form, term_lines, has_evt, flow_form, zone_front, zone_line}
-use Rattle.listing_io.proofs.Common.{zone_pair, step_lines, all_step_lines, end_line, listing, range_with_len, cell_count, IsForm, listing_at, IsCellBound}
+use Rattle.listing_io.proofs.Common.{zone_pair, step_lines, all_step_lines, end_line, listing, range_with_len, cell_count, IsForm, IsCellBound}
 use Rattle.listing_io.proofs.Common.{AreFlows, AreTerms, IsListedStep, AreListed, AreZonePairs, IsTime, IsWritable, ListingsAreReadAgain, inl, IsListedAt}
 use Rattle.listing_io.proofs.Common.{IsPairIf, model_line, all_terms, is_printed, each_lines}
 use Rattle.model_types.specs.declared.grid.Grid.{Grid}
@@ -47,11 +47,7 @@ part_below n zero top h = omega (arith, h)
 part_below n (suc p) top h = omega (arith, h)
 
 place_small : (g : Grid) (c : ℕ) → c < 4194304 → AllByRecursion (λ n. n < 10 ^ 64) (place g c)
-place_small g c h =
-    let k : c / layer_size g < 4194304 = below c (layer_size g) 4194304 h in
-    let i : c / g.cols % g.rows < 4194304 = part_below (c / g.cols) g.rows 4194304 (below c g.cols 4194304 h) in
-    let j : c % g.cols < 4194304 = part_below c g.cols 4194304 h in
-    (omega (arith, k), (omega (arith, i), (omega (arith, j), tt)))
+place_small g c h = grind (arith, below, part_below)
 
 front_without : (g : Grid) (c : ℕ) → c < 4194304 → NoFeed (head_front g c)
 front_without g c h =
@@ -156,5 +152,4 @@ listing_without between m s pairs steps good are h =
     (first_without between m s good, all_appended NoFeed (all_step_lines m s (times m) steps) (end_line ∷ []) (steps_without m s pairs steps good are h.steps) (by_test 10 end_line refl, tt))
 
 pub listings_are_read_again : ListingsAreReadAgain
-listings_are_read_again between m s pairs steps good are h =
-    ap (λ (rows : List Line). listing_at between m s pairs (left_of rows 1)) (lines_of (listing between m s steps) (listing_without between m s pairs steps good are h)) ∙ rows_again between m s pairs steps good.digits h
+listings_are_read_again between m s pairs steps good are h = grind (arith, left_of, lines_of, listing_without, rows_again)

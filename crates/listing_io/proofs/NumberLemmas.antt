@@ -1,5 +1,5 @@
 -- The digits of a text with a point write its number.
-use Rattle.listing_io.proofs.Common.{◌≡◌, ℕ, zero, suc, ◌+◌, ◌-◌, ◌*◌, ◌/◌, ◌%◌, ◌^◌, ◌<◌, ◌≤◌, ◌==◌, true, false, ◌&&◌, cond, List, [], ◌∷◌, ◌++◌, length}
+use Rattle.listing_io.proofs.Common.{◌≡◌, ℕ, zero, suc, ◌+◌, ◌-◌, ◌*◌, ◌/◌, ◌%◌, ◌^◌, ◌<◌, ◌≤◌, true, false, List, [], ◌∷◌, ◌++◌, length}
 use Rattle.listing_io.proofs.Common.{replicate, get_or, drop, drop-cons, codes, decimal, nat_abs, nat_le, refl, sym, ap, ◌∙◌, arith, ℤ, pos, negsuc, add-one}
 use Rattle.listing_io.proofs.Common.{pow-suc, nat_tests, decimal_is_IsNumeral_wide, length-decimal-le_wide, append_assoc, drop_all, AllDigits}
 use Rattle.listing_io.proofs.Common.{digits_value_after, fixed_text, padded, with_byte, digits_behind, is_negative, value_of}
@@ -15,10 +15,7 @@ pub is_digit : (c : ℕ) → digit_value c < 10 → (48 ≤ c) × (c ≤ 57) × 
 is_digit c h = (grind (arith, nat_tests), grind (arith, nat_tests), grind (arith, nat_tests))
 
 one_digit : (n c : ℕ) → digit_value c < 10 → with_byte n c ≡ n * 10 + digit_value c
-one_digit n c h = let (low, high, is) = is_digit c h in rw is (test n c low high)
-  where
-    test : (n c : ℕ) → 48 ≤ c → c ≤ 57 → cond (nat_le 48 c && nat_le c 57) (n * 10 + (c - 48)) n ≡ n * 10 + (c - 48)
-    test n c low high = grind (arith, nat_tests)
+one_digit n c h = grind (arith, is_digit, nat_le, nat_tests)
 
 pub behind_digits : (n : ℕ) (ds : List ℕ) → AllDigits 10 ds → digits_behind n ds ≡ digits_value_after 10 n ds
 unfolding digits_behind
@@ -97,10 +94,7 @@ pub part_less : (n p top : ℕ) → 0 < p → n < top → n % p < top
 part_less n p top h k = let e = division n p h in omega arith
 
 pub quotient_less : (n p top : ℕ) → 0 < p → n < top → n / p < top
-quotient_less n p top h k = let e : n / p * 1 ≤ n / p * p = mul n p h in let d = division n p h in omega arith
-  where
-    mul : (n p : ℕ) → 0 < p → n / p * 1 ≤ n / p * p
-    mul n p h = Rattle.std.proofs.Math.Nat.mul-le-mul_left (n / p) h
+quotient_less n p top h k = grind (arith, division)
 
 pub body_value : (k n : ℕ) → 0 < k → n < 10 ^ 64 → digits_behind 0 (body k n) ≡ n
 body_value k n some small =
@@ -116,10 +110,7 @@ body_value k n some small =
 -- digits in front are no minus sign
 no_minus : (ds rest : List ℕ) → 0 < length ds → AllDigits 10 ds → is_negative (ds ++ rest) ≡ false
 no_minus [] rest some h = absurd (omega arith)
-no_minus (c ∷ cs) rest some h = let (low, high, is) = is_digit c h.0 in other c low
-  where
-    other : (c : ℕ) → 48 ≤ c → (c == 45) ≡ false
-    other c low = grind (arith, nat_tests)
+no_minus (c ∷ cs) rest some h = grind (arith, is_digit, nat_tests)
 
 value_without_sign : (w : List ℕ) (n : ℕ) → is_negative w ≡ false → digits_behind 0 w ≡ n → value_of w ≡ pos n
 value_without_sign w n h e = rw (h, e) refl
@@ -146,8 +137,7 @@ value_is k (pos n) rest some small none =
     let (numeral, value) = decimal_is_IsNumeral_wide (n / 10 ^ k) (quotient_less n (10 ^ k) (10 ^ 64) (some_power k) small) in
     let minus : is_negative (body k n ++ rest) ≡ false = ap is_negative (regrouped (decimal (n / 10 ^ k)) (codes ".") (padded k (n % 10 ^ k)) rest) ∙ no_minus (decimal (n / 10 ^ k)) (codes "." ++ (padded k (n % 10 ^ k) ++ rest)) numeral.0 numeral.1 in
     value_without_sign (body k n ++ rest) n minus (behind_body k n rest some small none)
-value_is k (negsuc n) rest some small none =
-    ap value_of (negative_is k n rest) ∙ negative (45 ∷ (body k (suc n) ++ rest)) n refl (behind_minus (body k (suc n) ++ rest) ∙ behind_body k (suc n) rest some small none)
+value_is k (negsuc n) rest some small none = grind (arith, negative_is, negative, behind_minus, behind_body)
 
 -- one byte of a loop over a word
 pub one_more : (xs : List ℕ) (i n m c : ℕ) → i < length xs → c ≡ get_or xs i 0 → m ≡ with_byte n c → digits_behind n (drop i xs) ≡ digits_behind m (drop (i + 1) xs)

@@ -16,9 +16,7 @@ use Rattle.listing_io.specs.declared.pair_lines.Row.TheVariants as row
 
 first_row : (n : ℕ) (rows : List Line) (got : Line × Left) → first_of n rows ≡ Ok got → rows ≡ got.0 ∷ got.1.lines
 first_row n [] got h = absurd (clash n got (first_of n []) refl h)
-first_row n (row ∷ rows) got h =
-    let e = same_ok (row, record { lines = rows; number = next_number n }) got (first_of n (row ∷ rows)) refl h in
-    ap (λ (x : Line × Left). x.0 ∷ x.1.lines) e
+first_row n (row ∷ rows) got h = grind (arith, same_ok)
 
 pub line_row : (left : Left) (got : Line × Left) → line_at left ≡ Ok got → left.lines ≡ got.0 ∷ got.1.lines
 line_row left got h = first_row left.number left.lines got h

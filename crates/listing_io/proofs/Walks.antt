@@ -1,6 +1,6 @@
 -- Loops that read or write one thing after another.
 use Rattle.listing_io.proofs.Common.{Bool, cond, true, false, ◌≡◌, ℕ, suc, ◌+◌, ◌-◌, ◌<◌, ◌≤◌, List, [], ◌∷◌, ◌++◌, length, drop, get_or, drop-cons, add-one}
-use Rattle.listing_io.proofs.Common.{map, refl, sym, ap, ◌∙◌, arith, Result, Err, codes, inl, inr, subst, append-nil, flat_map-cons, flat_map-append, for_each}
+use Rattle.listing_io.proofs.Common.{map, refl, sym, ap, ◌∙◌, arith, Result, Err, codes, inl, inr, append-nil, flat_map-cons, flat_map-append, for_each}
 use Rattle.listing_io.proofs.Common.{with_front, Fault, BadLine, Memory, Line, ended, text_of, Stops, first_line, first_line_before, listing, model_line}
 use Rattle.listing_io.proofs.Common.{IsListing, IsWritable, ListingsAreApart, range_with_len, FlowModel, ListedStep}
 use Rattle.std.proofs.Common.{append_assoc}
@@ -69,9 +69,7 @@ rest_without b (x ∷ xs) ys h = rest_without b xs ys h.1
 
 -- the word TO has the letter
 not_without : (m : FlowModel) (s : ℕ) (row : Line) → first_line true m s ≡ row → Without 79 row → ⊥
-not_without m s row e h =
-    let word = rest_without 79 (model_line m s) (codes " TO") (subst (Without 79) (sym e) h) in
-    let bad : true ≡ false = word.1.1.0 in cc
+not_without m s row e h = grind (arith, rest_without, codes)
 
 same_first : (a b : Line) (more others rows : List Line) → rows ≡ a ∷ more → rows ≡ b ∷ others → a ≡ b
 same_first a b more others rows e f = cc

@@ -1,6 +1,6 @@
 -- A step of a listing, by the clauses of the calls that gave its parts.
-use Rattle.listing_run.proofs.Common.{◌≡◌, ℕ, length, List, ◌∷◌, ℤ, Ok, Err, Result, subst, sym, refl, suc, ◌-◌, ◌<◌, ◌^◌, inl, inr, All, arith, pos, ◌*ℤ◌}
-use Rattle.listing_run.proofs.Common.{◌≤ℤ◌, Option, Some, None, [], Fraction, EnclosesSigned, Bound, NoBound, ZoneFlow, RoundsSettleBoth, lower_at, upper_at}
+use Rattle.listing_run.proofs.Common.{◌≡◌, ℕ, length, List, ◌∷◌, ℤ, Ok, Err, Result, subst, refl, ◌-◌, ◌<◌, inl, inr, All, arith}
+use Rattle.listing_run.proofs.Common.{Option, Some, None, [], Fraction, EnclosesSigned, Bound, NoBound, ZoneFlow, RoundsSettleBoth, lower_at, upper_at}
 use Rattle.listing_run.proofs.Common.{PairKind, entries_at, Budget, TimeStep, heads_of, variable_heads, exact_step, Solved, EachMember, each_member, of_member}
 use Rattle.listing_run.proofs.Common.{member_cells, cell_of_member, IsMove, EnclosesMoves, IsStepBy, edges_by, LiesWithin, WideKeepsSteps, Task, Step, IsActive}
 use Rattle.listing_run.proofs.Common.{HeadsEnclose, AreFlowsAt, IsStep, HasNoBound, no_heads, no_budget, no_zones, budget_at, Bounds, BoundsMoves, HasLargeFlow}
@@ -22,11 +22,7 @@ use Rattle.listing_run.specs.declared.text.ListingEnd.TheVariants as ends
 -- The flows between the zones of a task, by the clauses of their call.
 -- a vector that lies within heads is enclosed by them
 pub within_enclosed : (m : FlowModel) (heads : List Bound) (d : ℕ) (X : ℕ → ℤ) → 0 < d → LiesWithin m heads d X → HeadsEnclose m heads (heads_of d X)
-within_enclosed m heads d X some h = λ c active.
-    let same : d ≡ suc (d - 1) = omega (arith, some) in
-    let L : ℕ → Type 0 = λ n. (lower_at heads c *ℤ pos n) ≤ℤ (X c *ℤ pos (10 ^ 9)) in
-    let U : ℕ → Type 0 = λ n. (X c *ℤ pos (10 ^ 9)) ≤ℤ (upper_at heads c *ℤ pos n) in
-    record { lower = subst L same (h.low c active); upper = subst U same (h.high c active) }
+within_enclosed m heads d X some h = grind (arith)
 
 -- What holds of all active cells holds of all that a problem names.
 module _ (m : FlowModel) (p : List Entries) (named : (c : ℕ) → IsNamed p c → IsActive m c) where
@@ -56,9 +52,7 @@ flows_enclose (Some zones) p heads flows each s e h encloses within = each s e h
 
 -- the budget by bounds that a slice lent
 budget_by : (x : Solved) (lent : List Bound) (r : Result Budget NoBound) → lent ≡ x.bounds → r ≡ budget_of x.problem (lower_at lent) (upper_at lent) → budget_at x ≡ r
-budget_by x lent r same is =
-    let P : List Bound → Type 0 = λ v. r ≡ budget_of x.problem (lower_at v) (upper_at v) in
-    sym (subst P same is)
+budget_by x lent r same is = grind (arith)
 
 module _ (k : Task) (at : TimeStep) where
   -- what the call of a step says of the heads that were lent to it, by the task's digits and of the old heads

@@ -1,7 +1,7 @@
 -- Flags, arrays of one layer, and arrays of layers are read as written.
 use Rattle.model_text.proofs.Common.{◌≡◌, ℕ, zero, suc, ◌+◌, ◌^◌, ◌<◌, ◌≤◌, Bool, true, false, ◌&&◌, nat_lt, nat_le, if◌then◌else◌, List, [], ◌∷◌, length, drop}
-use Rattle.model_text.proofs.Common.{All, Ok, refl, arith, ℤ, pos, negsuc, codes, All-from_recursion, FileSet, is_comment, counted, Grid, HasSize, is_int}
-use Rattle.model_text.proofs.Common.{array_or, flag_at, flag_if, is_option, option_at, IsWhole, IsShort, IsWord, integer_word, Line, IsLine, integer_array}
+use Rattle.model_text.proofs.Common.{All, Ok, refl, arith, ℤ, pos, negsuc, codes, FileSet, is_comment, counted, Grid, HasSize, is_int}
+use Rattle.model_text.proofs.Common.{array_or, flag_at, flag_if, is_option, option_at, IsWhole, IsShort, integer_word, Line, IsLine, integer_array}
 use Rattle.model_text.proofs.Common.{integer_is_word, word_by_test, IsLayers, is_word, number_at, integer, layer_size, int_at, arrays, digits_spell, is_layer}
 use Rattle.model_text.proofs.Common.{layer_step, layers_tested, layers_at, Takes, takes_none, takes_where, last_takes, and_parts, leb-true}
 use Rattle.model_text.proofs.FrameTexts.{integer_item, no_keyword}
@@ -37,8 +37,7 @@ option_is_item (pos n) h =
 option_is_item (negsuc n) h = absurd (cc)
 
 pub option_is_line : (z : ℤ) → is_option z ≡ true → IsLine (integer_word z ∷ codes "0" ∷ [])
-option_is_line z h =
-    record { some = omega arith; words = All-from_recursion (λ w. IsWord w) (integer_word z ∷ codes "0" ∷ []) (integer_is_word z (option_is_short z h), (word_by_test (codes "0") refl, tt)) }
+option_is_line z h = grind (arith, integer_is_word, option_is_short, word_by_test)
 
 abbrev pub layers_lines : Grid → ℤ → List ℤ → List Line
 layers_lines g option xs = if is_int option 2 then integer_array g.rows g.cols xs else []

@@ -19,11 +19,7 @@ same_bytes : (w : List ℕ) → bytes_eq w w ≡ true
 same_bytes w = (bytes_eq-Decides w w).1 refl
 
 other_bytes : (v w : List ℕ) → (v ≡ w → ⊥) → bytes_eq v w ≡ false
-other_bytes v w apart = by_case (bytes_eq v w) refl
-  where
-    by_case : (b : Bool) → bytes_eq v w ≡ b → b ≡ false
-    by_case true e = absurd (apart ((bytes_eq-Decides v w).0 e))
-    by_case false e = refl
+other_bytes v w apart = grind (arith, bytes_eq-Decides)
 
 -- bytes that are found are those of a file
 found_bytes : (w bytes : List ℕ) (limit : ℕ) (files : List File) → All (λ f. length f.bytes ≤ limit) files → bytes_under w files ≡ Some bytes → length bytes ≤ limit
@@ -105,9 +101,4 @@ unfolding first_named
 none_named = refl
 
 pub good_names : AreNames deck_names deck_name
-good_names = record {
-  each = good_name;
-  first = record { word = word_by_test deck_name refl; few = omega arith; plain = all_plain deck_name refl };
-  distinct = λ a b e. (let same : Some a ≡ Some b = sym (named_back a) ∙ ap (λ (w : List ℕ). named_by w) e ∙ named_back b in cc);
-  apart = λ k e. (let clash : Some k ≡ None = sym (named_back k) ∙ ap (λ (w : List ℕ). named_by w) e ∙ none_named in cc);
-}
+good_names = grind (arith, good_name, word_by_test, all_plain, named_back, none_named)

@@ -29,10 +29,7 @@ unfolding number_at
 decimal_item file line n h ws = rw (decimal_reads n h) refl
 
 pub is_within : (n limit : ℕ) → 1 ≤ n → n ≤ limit → within (pos n) limit ≡ Some n
-is_within n limit some few =
-    let low : nat_lt 0 n ≡ true = grind (arith, nat_tests) in
-    let high : nat_le n limit ≡ true = grind (arith, nat_tests) in
-    rw (low, high) refl
+is_within n limit some few = grind (arith, nat_lt, nat_tests, nat_le)
 
 pub count_reads : (file : List ℕ) (line limit n : ℕ) → 1 ≤ n → n ≤ limit → limit < 10 ^ 18 → (ws : Line) → count_at file line limit (decimal n ∷ ws) ≡ Ok (n, ws)
 unfolding count_at

@@ -1,7 +1,7 @@
 -- The file of a list package is read as written.
 use Rattle.model_text.proofs.Common.{◌≡◌, ℕ, suc, ◌^◌, ◌<◌, ◌≤◌, max, Bool, true, false, nat_le, fold, List, [], ◌∷◌, length, map, drop, All, Option, Some}
-use Rattle.model_text.proofs.Common.{None, is_some, Ok, refl, arith, codes, decimal, AllZip, flat_map, All-cons, All-from_recursion, nat_tests, Dec, is_word}
-use Rattle.model_text.proofs.Common.{Grid, cell_count, HasSize, Kind, IsWord, Line, IsLine, text, digits_spell, count_is_word, word_by_test, list_item_2}
+use Rattle.model_text.proofs.Common.{None, is_some, Ok, refl, arith, codes, decimal, AllZip, flat_map, All-cons, nat_tests, Dec, is_word}
+use Rattle.model_text.proofs.Common.{Grid, cell_count, HasSize, Kind, Line, IsLine, text, digits_spell, count_is_word, word_by_test, list_item_2}
 use Rattle.model_text.proofs.Common.{list_item_5, period_list, list_lines, IsListOf, with_lists, Limits, Period, most_entries, entries_few, header_of}
 use Rattle.model_text.proofs.Common.{item_line, list_at, lists_of, CellId, numbers_of, heads_of, dec_at, cell_of, given_heads, wells, rivers, drains, generals}
 use Rattle.model_text.proofs.Common.{ListPackagesReadAsWritten, number_at, integer, with_list, ◌>>=◌, words, Takes, last_takes, line_takes}
@@ -13,8 +13,7 @@ use Rattle.model_text.proofs.EntryTexts.{all_free, WritesNumbers, list_takes}
 
 -- a count and a 0 on a line
 pub counts_are_line : (n : ℕ) → n < 10 ^ 18 → IsLine (decimal n ∷ codes "0" ∷ [])
-counts_are_line n small =
-    record { some = omega arith; words = All-from_recursion (λ w. IsWord w) (decimal n ∷ codes "0" ∷ []) (count_is_word n small, (word_by_test (codes "0") refl, tt)) }
+counts_are_line n small = grind (arith, count_is_word, word_by_test)
 
 -- item 5
 header_reads : (limits : Limits) (file : List ℕ) (line : ℕ) (listed : Bool) (n : ℕ) → n ≤ most_entries limits → header_of limits file line listed (decimal n ∷ codes "0" ∷ []) ≡ Ok (Entries n)

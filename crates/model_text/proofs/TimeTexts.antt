@@ -1,6 +1,6 @@
 -- DIS item 7 is read as written.
 use Rattle.model_text.proofs.Common.{◌≡◌, ℕ, ◌+◌, ◌*◌, ◌≤◌, ◌⊎◌, inl, inr, Bool, true, false, ◌||◌, List, [], ◌∷◌, length, map, nat_le, sum_by, fold, All, Ok}
-use Rattle.model_text.proofs.Common.{refl, arith, codes, decimal, All-head, All-tail, nat_tests, Dec, IsDec, size, Refusal, repeated, Period, is_one}
+use Rattle.model_text.proofs.Common.{refl, arith, codes, decimal, All-head, All-tail, nat_tests, Dec, IsDec, Refusal, repeated, Period}
 use Rattle.model_text.proofs.Common.{without_stresses, IsWord, number_word, IsLine, short_exponent, word_by_test, number_is_word, count_is_word, steady_word}
 use Rattle.model_text.proofs.Common.{dis_item_7, is_at_most, is_at_least, kind_of, known, is_growth, is_time, time_of, Takes, takes_none, All-from_recursion}
 use Rattle.model_text.proofs.Common.{line_takes, then_takes, last_takes, IsTimed, IsGrowing, number_one, Ratio, ratio, sum_by_from}
@@ -51,9 +51,7 @@ at_least f h = let k : den f ≤ f.num * 1000 = omega (arith, h.cross) in grind 
 
 grows : (p : Period) → (p.tsmult ≡ number_one) ⊎ IsGrowing p → is_growth (time p) ≡ true
 grows p (inl same) = rw same refl
-grows p (inr g) =
-    let few : nat_le p.nstp 1000 ≡ true = grind (arith, nat_tests, g.few) in
-    rw (few, at_least (size p.tsmult) g.least, at_most (size p.tsmult) g.most) (or_true (is_one p.tsmult))
+grows p (inr g) = grind (arith, nat_le, nat_tests, at_least, at_most, or_true)
 
 time_passes : (p : Period) (b : Bool) → p.steady ≡ b → IsTimed p → is_time (time p) ≡ true
 time_passes p true e h = rw (e, h.perlen.sign, is_above p.tsmult h.tsmult) refl

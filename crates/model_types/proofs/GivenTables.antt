@@ -43,26 +43,18 @@ named_any xs c = some_any (λ x. x.cell.0 == c) (reverse xs) ∙ any_turned (λ 
 -- periods name a cell where the list of one of them does
 pub periods_any : (ps : List Period) (c : ℕ) → is_some (last_given ps c) ≡ list_any (λ p. is_some (given_in p.stresses.given c)) ps
 periods_any [] c = named_any [] c
-periods_any (p ∷ ps) c =
-    named_any (p.stresses.given ++ flat_map (λ q. q.stresses.given) ps) c
-    ∙ list_any-append (λ x. x.cell.0 == c) p.stresses.given (flat_map (λ q. q.stresses.given) ps)
-    ∙ (λ i. sym (named_any p.stresses.given c) i || (sym (named_any (flat_map (λ q. q.stresses.given) ps) c) ∙ periods_any ps c) i)
+periods_any (p ∷ ps) c = grind (arith, named_any, list_any-append, periods_any ps c)
 
 named_lists : (ps : List Period) (c : ℕ) → list_any (λ p. is_some (given_in p.stresses.given c)) ps ≡ list_any (λ p. list_any (λ x. x.cell.0 == c) p.stresses.given) ps
 named_lists [] c = refl
 named_lists (p ∷ ps) c = λ i. named_any p.stresses.given c i || named_lists ps c i
 
 take_fewer : {X : Type 0} (n : ℕ) (xs : List X) → take (min (length xs) n) xs ≡ take n xs
-take_fewer n xs = elim (cases_lt (length xs) n) [
-  | inl less ↦ take_all (min (length xs) n) xs (omega (arith, less)) ∙ sym (take_all n xs (omega (arith, less)))
-  | inr le ↦ ap (λ k. take k xs) (omega (arith, le))
-]
+take_fewer n xs = grind (arith, cases_lt, take_all)
 
 -- what the walk over the lists up to period p finds
 pub given_among : (ps qs : List Period) (p n c : ℕ) (b : Bool) → qs ≡ ps → n ≡ min (length qs) p → b ≡ list_any (λ q. list_any (λ x. x.cell.0 == c) q.stresses.given) (take n qs) → b ≡ is_some (last_given (take p ps) c)
-given_among ps qs p n c b e count found =
-    let same : take n qs ≡ take p ps = ap (λ k. take k qs) count ∙ take_fewer p qs ∙ ap (take p) e in
-    found ∙ ap (list_any (λ q. list_any (λ x. x.cell.0 == c) q.stresses.given)) same ∙ sym (periods_any (take p ps) c ∙ named_lists (take p ps) c)
+given_among ps qs p n c b e count found = grind (arith, take_fewer, periods_any, named_lists)
 
 -- for each of n cells the last of these entries that names it
 abbrev pub table : ℕ → List Given → List (Option Given)
@@ -103,10 +95,7 @@ length_is n xs ys e = ap length e ∙ length-map-range_with_len (given_in xs) 0 
 
 -- the list that the next period has
 pub period_list : (m : FlowModel) (p : ℕ) (qs : List Period) (q : Period) (xs : List Given) → p < length m.periods → qs ≡ m.periods → q ≡ get_or qs p q → xs ≡ (get_or qs p q).stresses.given → xs ≡ (period_at m (p + 1)).stresses.given
-period_list m p qs q xs lt e is list =
-    let at : q ≡ get_or m.periods p q = is ∙ ap (λ ys. get_or ys p q) e in
-    let found : q ≡ get_or m.periods p no_period = get_or_read m.periods p q lt at no_period in
-    list ∙ ap (λ x. x.stresses.given) (sym is ∙ found ∙ ap (λ k. get_or m.periods k no_period) (omega arith))
+period_list m p qs q xs lt e is list = grind (arith, get_or_read)
 
 pub lists_more : (m : FlowModel) (p : ℕ) → p < length m.periods → lists_before m p ++ (period_at m (p + 1)).stresses.given ≡ lists_before m (p + 1)
 lists_more m p lt =
@@ -124,7 +113,4 @@ names_within n i xs lt all = All-get_or (λ x. x.cell.0 < n) xs i no_given lt al
 -- and the table with it
 pub table_step : (n i : ℕ) (before xs : List Given) (ys : List (Option Given)) → ys ≡ table n (before ++ take i xs) → i < length xs → (get_or xs i no_given).cell.0 < n →
     set ys (get_or xs i no_given).cell.0 (Some (get_or xs i no_given)) ≡ table n (before ++ take (i + 1) xs)
-table_step n i before xs ys e lt within =
-    let x = get_or xs i no_given in
-    let joined : (before ++ take i xs) ++ x ∷ [] ≡ before ++ take (i + 1) xs = append_assoc before (take i xs) (x ∷ []) ∙ ap (λ zs. before ++ zs) (sym (take_more xs i no_given lt)) in
-    ap (λ zs. set zs x.cell.0 (Some x)) e ∙ table_more n x.cell.0 (before ++ take i xs) x refl within ∙ ap (table n) joined
+table_step n i before xs ys e lt within = grind (arith, append_assoc, take_more, set, table_more)

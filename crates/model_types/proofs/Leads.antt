@@ -1,6 +1,6 @@
 -- Faces: where they lead, that they lead back, and that their ends ascend.
 use Rattle.model_types.proofs.Common.{◌≡◌, ℕ, suc, ◌+◌, ◌*◌, ◌-◌, ◌%◌, ◌<◌, ◌≤◌, ◌⊎◌, inl, inr, Bool, true, Option, Some, None, List, [], ◌∷◌, refl, sym, ap}
-use Rattle.model_types.proofs.Common.{◌∙◌, subst, arith, length, All, filter_map, leb-true, le-leb, cond-true, mod_below, mul-le-mul_right, Grid, Face, Row}
+use Rattle.model_types.proofs.Common.{subst, arith, length, All, filter_map, leb-true, le-leb, cond-true, mod_below, mul-le-mul_right, Grid, Face, Row}
 use Rattle.model_types.proofs.Common.{Column, Vertical, layer_size, cell_count, stride, span, has_before, has_after, face_before, face_after, faces, through}
 use Rattle.model_types.proofs.Common.{HasSize, IsInGrid}
 use Rattle.std.proofs.lemmas.Option.{cond_some, none-some}
@@ -40,16 +40,10 @@ after_lt g axis c e = leb-true (suc (c % span g axis + stride g axis)) (span g a
 
 -- a face before the cell is one after the cell behind it, and the other way round
 pub before_back : (g : Grid) (axis : Axis) (c : ℕ) → HasSize g → has_before g axis c ≡ true → has_after g axis (c - stride g axis) ≡ true
-before_back g axis c h e =
-    let le = before_le g axis c e in
-    let m = mod_minus c (stride g axis) (span g axis) (span_positive g axis h) le in
-    le-leb (suc ((c - stride g axis) % span g axis + stride g axis)) (span g axis) (omega (arith, m, le, mod_below c (span g axis) (span_positive g axis h)))
+before_back g axis c h e = grind (arith, before_le, mod_minus, span_positive, le-leb, mod_below)
 
 pub after_back : (g : Grid) (axis : Axis) (c : ℕ) → HasSize g → has_after g axis c ≡ true → has_before g axis (c + stride g axis) ≡ true
-after_back g axis c h e =
-    let lt = after_lt g axis c e in
-    let m = mod_plus c (stride g axis) (span g axis) lt in
-    le-leb (stride g axis) ((c + stride g axis) % span g axis) (omega (arith, m))
+after_back g axis c h e = grind (arith, after_lt, mod_plus, le-leb)
 
 pub after_within : (g : Grid) (axis : Axis) (c : ℕ) → HasSize g → c < cell_count g → has_after g axis c ≡ true → c + stride g axis < cell_count g
 after_within g axis c h lt e =
@@ -80,32 +74,21 @@ abbrev pub turned : ℕ → Face → Face
 turned c x = record { axis = x.axis; first = x.first; end = c }
 
 pub face_back : (g : Grid) (c : ℕ) (x : Face) → HasSize g → IsFaceOf g c x → IsFaceOf g x.end (turned c x)
-face_back g c x h (inl (e, p, q)) =
-    let le : stride g x.axis ≤ c = omega (arith, before_le g x.axis c e, mod_at_most c (span g x.axis)) in
-    inr (ap (λ k. has_after g x.axis k) q ∙ before_back g x.axis c h e, p ∙ sym q, omega (arith, q, le))
-face_back g c x h (inr (e, p, q)) =
-    inl (ap (λ k. has_before g x.axis k) q ∙ after_back g x.axis c h e, omega (arith, p, q), omega (arith, q))
+face_back g c x h (inl (e, p, q)) = grind (arith, before_le, mod_at_most, before_back)
+face_back g c x h (inr (e, p, q)) = grind (arith, after_back)
 
 -- an optional face that is one
 before_is : (g : Grid) (axis : Axis) (c : ℕ) (x : Face) → face_before g axis c ≡ Some x → IsFaceOf g c x
-before_is g axis c x e =
-    let (test, same) = cond_some (has_before g axis c) _ x e in
-    subst (IsFaceOf g c) same (inl (test, refl, refl))
+before_is g axis c x e = grind (arith, cond_some)
 
 after_is : (g : Grid) (axis : Axis) (c : ℕ) (x : Face) → face_after g axis c ≡ Some x → IsFaceOf g c x
-after_is g axis c x e =
-    let (test, same) = cond_some (has_after g axis c) _ x e in
-    subst (IsFaceOf g c) same (inr (test, refl, refl))
+after_is g axis c x e = grind (arith, cond_some)
 
 before_some : (g : Grid) (c : ℕ) (x : Face) → has_before g x.axis c ≡ true → x.first ≡ c - stride g x.axis → x.end ≡ c - stride g x.axis → face_before g x.axis c ≡ Some x
-before_some g c x e p q =
-    let same : record { axis = x.axis; first = c - stride g x.axis; end = c - stride g x.axis } ≡ x = λ i. record { axis = x.axis; first = sym p i; end = sym q i } in
-    cond-true (has_before g x.axis c) _ None e ∙ ap Some same
+before_some g c x e p q = grind (arith, cond-true)
 
 after_some : (g : Grid) (c : ℕ) (x : Face) → has_after g x.axis c ≡ true → x.first ≡ c → x.end ≡ c + stride g x.axis → face_after g x.axis c ≡ Some x
-after_some g c x e p q =
-    let same : record { axis = x.axis; first = c; end = c + stride g x.axis } ≡ x = λ i. record { axis = x.axis; first = sym p i; end = sym q i } in
-    cond-true (has_after g x.axis c) _ None e ∙ ap Some same
+after_some g c x e p q = grind (arith, cond-true)
 
 before_place : (g : Grid) (axis : Axis) (c : ℕ) → In (faces g c) (face_before g axis c)
 before_place g Row c = inr (inr (inl refl))
@@ -133,9 +116,7 @@ faces_have g c x (inr (e, p, q)) = subst (In (faces g c)) (after_some g c x e p 
 -- a face that passes a test
 through_some : (test : ℕ → Bool) (o : Option Face) (x : Face) → through test o ≡ Some x → (o ≡ Some x) × (test x.end ≡ true)
 through_some test None x e = absurd (none-some x e)
-through_some test (Some y) x e =
-    let (pass, same) = cond_some (test y.end) y x e in
-    (ap Some same, ap (λ (z : Face). test z.end) (sym same) ∙ pass)
+through_some test (Some y) x e = grind (arith, cond_some)
 
 through_is : (test : ℕ → Bool) (x : Face) → test x.end ≡ true → through test (Some x) ≡ Some x
 through_is test x e = cond-true (test x.end) (Some x) None e

@@ -50,9 +50,7 @@ row_less k i i' j r n c p e =
     omega (arith, more, e, put)
 
 row_more : (k i j r n c : ℕ) → (k * r + i) * n + j ≡ c → c + n ≡ (k * r + (i + 1)) * n + j
-row_more k i j r n c e =
-    let more : (k * r + (i + 1)) * n + j ≡ (k * r + i) * n + j + n = grind arith in
-    omega (arith, more, e)
+row_more k i j r n c e = grind (arith)
 
 layer_less : (k k' i j r n c : ℕ) → k ≡ k' + 1 → (k * r + i) * n + j ≡ c → c - r * n ≡ (k' * r + i) * n + j
 layer_less k k' i j r n c p e =
@@ -61,9 +59,7 @@ layer_less k k' i j r n c p e =
     omega (arith, more, e, put)
 
 layer_more : (k i j r n c : ℕ) → (k * r + i) * n + j ≡ c → c + r * n ≡ ((k + 1) * r + i) * n + j
-layer_more k i j r n c e =
-    let more : ((k + 1) * r + i) * n + j ≡ (k * r + i) * n + j + r * n = grind arith in
-    omega (arith, more, e)
+layer_more k i j r n c e = grind (arith)
 
 module _ (g : Grid) (h : HasSize g) (c : ℕ) (within : c < cell_count g) where
   row_place : c % layer_size g ≡ row_of g c * g.cols + column_of g c

@@ -2,9 +2,7 @@
 use Rattle.model_types.proofs.Common.{◌≡◌, ℕ, ◌+◌, ◌*◌, ◌-◌, ◌/◌, ◌%◌, ◌<◌, ◌≤◌, arith, div-add-mod', mod-mul-add, mod_below, div_below, mul-le-mul_right}
 
 pub mod_minus : (c k n : ℕ) → 0 < n → k ≤ c % n → (c - k) % n ≡ c % n - k
-mod_minus c k n h le =
-    let e : c - k ≡ c / n * n + (c % n - k) = omega (arith, div-add-mod' c n) in
-    rw e (mod-mul-add (c / n) n (c % n - k) (omega (arith, mod_below c n h)))
+mod_minus c k n h le = grind (arith, div-add-mod', mod-mul-add, mod_below)
 
 pub mod_plus : (c k n : ℕ) → c % n + k < n → (c + k) % n ≡ c % n + k
 mod_plus c k n lt =
@@ -16,7 +14,4 @@ mod_at_most c n = omega (arith, div-add-mod' c n)
 
 -- one more row fits, where the rows are whole
 pub plus_below : (c k n q : ℕ) → 0 < n → c < q * n → c % n + k < n → c + k < q * n
-plus_below c k n q h lt fits =
-    let row : c / n < q = div_below c n q h lt in
-    let more : (c / n + 1) * n ≤ q * n = mul-le-mul_right n (omega arith) in
-    omega (arith, div-add-mod' c n, more)
+plus_below c k n q h lt fits = grind (arith, div_below, mul-le-mul_right, div-add-mod')

@@ -53,5 +53,4 @@ counted m (suc k) le =
     ∙ ap (λ j. sum_by (λ p. p.nstp) (take j m.periods)) (add-one k)
 
 pub whole_count : (m : FlowModel) (k : ℕ) (xs : List TimeStep) → xs ≡ flat_map (steps_of m) (range_with_len 1 k) → k ≡ length m.periods → length xs ≡ sum_by (λ p. p.nstp) m.periods
-whole_count m k xs e whole =
-    ap length e ∙ counted m k (omega (arith, whole)) ∙ ap (sum_by (λ p. p.nstp)) (take_all k m.periods (omega (arith, whole)))
+whole_count m k xs e whole = grind (arith, counted, take_all)

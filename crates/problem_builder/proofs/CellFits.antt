@@ -1,7 +1,7 @@
 -- A cell without a refusal keeps what a problem asks of a cell alone.
 use Rattle.problem_builder.proofs.Common.{false, Bool, EnclosesSigned, cond, map, period_at, range_with_len, refl, start_head, storage_term}
 use Rattle.problem_builder.proofs.Common.{get_or-map-range_with_len, length-map-range_with_len, HeadsEnclose, In-map, face_pair, head_bound, start_bound}
-use Rattle.problem_builder.proofs.Common.{whole_cell, whole_fixed, whole_link, ◌≡◌, ℕ, ◌<◌, ◌≤◌, inl, inr, true, None, List, sym, subst, arith, All, ◌+◌, []}
+use Rattle.problem_builder.proofs.Common.{whole_cell, whole_fixed, whole_link, ◌≡◌, ℕ, ◌<◌, ◌≤◌, true, None, List, sym, subst, arith, All, ◌+◌, []}
 use Rattle.problem_builder.proofs.Common.{◌∷◌, ◌++◌, length, get_or, ap, ◌∙◌, pos, ◌==◌, list_any, Bound, Link, no_bound, lower_at, upper_at, LinkFits}
 use Rattle.problem_builder.proofs.Common.{FixedFits, CellFits, IsHead, Face, FlowModel, TimeStep, cell_count, is_active, is_variable, is_constant, FixedSource}
 use Rattle.problem_builder.proofs.Common.{local_entries, variable_faces, fixed_sources, ToConstant, ToGeneral, FromStorage, IsModel, IsEntryValid, dec_at, In}
@@ -68,14 +68,7 @@ pub none_filled : {X : Type 0} (P : ℕ → X → Type 0) (d : X) (xs : List X) 
 none_filled P d xs e = record { count = ap length e; each = (λ c lt. absurd (omega (arith, lt))) }
 
 pub next_filled : {X : Type 0} (P : ℕ → X → Type 0) (d : X) (n : ℕ) (xs ys : List X) (x : X) → ys ≡ xs ++ x ∷ [] → P n x → Filled P d n xs → Filled P d (n + 1) ys
-next_filled P d n xs ys x e h k = record {
-  count = ap length e ∙ length_push xs x ∙ ap (λ q. q + 1) k.count;
-  each = (λ c lt. elim (cases_order c n) [
-    | inl same ↦ subst (P c) (sym (ap (λ zs. get_or zs c d) e ∙ get_or_push xs x d c (k.count ∙ sym same))) (subst (λ q. P q x) (sym same) h)
-    | inr (inl less) ↦ subst (P c) (sym (ap (λ zs. get_or zs c d) e ∙ get_or_append_left xs (x ∷ []) d c (omega (arith, less, k.count)))) (k.each c less)
-    | inr (inr more) ↦ absurd (omega (arith, lt, more))
-  ]);
-}
+next_filled P d n xs ys x e h k = grind (arith, length_push, cases_order, get_or_push, get_or_append_left)
 
 -- a table by its length
 pub filled_to : {X : Type 0} (P : ℕ → X → Type 0) (d : X) (n k : ℕ) (xs : List X) → n ≡ k → Filled P d n xs → Filled P d k xs

@@ -29,9 +29,7 @@ first_after g c f size (inr (e, q, r)) = ap (has_after g f.axis) q ∙ e
 
 -- and both are active
 pub face_active : (m : FlowModel) (c : ℕ) (f : Face) → IsFaceOf m.grid c f → is_active m c ≡ true → is_active m f.end ≡ true → (is_active m f.first ≡ true) × (is_active m (f.first + stride m.grid f.axis) ≡ true)
-face_active m c f (inl (e, q, r)) a b =
-    let there : f.first + stride m.grid f.axis ≡ c = omega (arith, q, before_le m.grid f.axis c e, mod_at_most c (span m.grid f.axis)) in
-    (ap (is_active m) (q ∙ sym r) ∙ b, ap (is_active m) there ∙ a)
+face_active m c f (inl (e, q, r)) a b = grind (arith, before_le, mod_at_most)
 face_active m c f (inr (e, q, r)) a b = (ap (is_active m) q ∙ a, ap (is_active m) (ap (λ k. k + stride m.grid f.axis) q ∙ sym r) ∙ b)
 
 pub faces_paired : (i : Inputs) (c : ℕ) → AreInputs i → IsVariableCell i c → All (HasPair i) (faces i.model.grid c)

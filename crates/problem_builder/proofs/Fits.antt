@@ -1,6 +1,6 @@
 -- Rivers, drains and evapotranspirations of a cell: bounds in order, heads in range.
 use Rattle.problem_builder.proofs.Common.{Pair, Encloses, Option, Ratio, map, FlowPair, PairEncloses, capped, cond_pair, head_bound, real_pair, unwrap_or}
-use Rattle.problem_builder.proofs.Common.{whole_drain, whole_evap, whole_river, ◌≡◌, ℕ, ◌≤◌, ◌^◌, Bool, Some, refl, sym, subst, arith, All, ℤ, pos, ◌+ℤ◌, ◌≤ℤ◌}
+use Rattle.problem_builder.proofs.Common.{whole_drain, whole_evap, whole_river, ◌≡◌, ℕ, ◌≤◌, ◌^◌, Bool, Some, refl, sym, subst, arith, All, ℤ, pos, ◌≤ℤ◌}
 use Rattle.problem_builder.proofs.Common.{◌<◌, true, ◌-ℤ◌, ints, by_lt_z, none-some, Fraction, with_sign, number, size, IsSignedFloor, IsSignedCeiling}
 use Rattle.problem_builder.proofs.Common.{cancel_right, mul_mono_right, one_floor, one_ceiling, floor_ceiling_enclose, Dec, RiverFits, EvapFits, DrainFits}
 use Rattle.problem_builder.proofs.Common.{Entry, FlowModel, IsPositive, IsNotNegative, IsHeadNumber, EvapSource, RiverSource, as_river, local_entries}
@@ -54,9 +54,7 @@ pub not_negative : (d : Dec) → IsPositive d → pos 0 ≤ℤ (number d).num
 not_negative d h = subst (λ (b : Bool). pos 0 ≤ℤ with_sign b (size d).num) (sym h.sign) (omega (arith, ints))
 
 pub floor_not_negative : (f : Fraction) (z : ℤ) → pos 0 ≤ℤ f.num → IsSignedFloor z f 9 → pos 0 ≤ℤ z
-floor_not_negative f z h k = by_lt_z z (pos 0)
-    (λ lt. let one = mul_mono_right (den f) (z +ℤ pos 1) (pos 0) (omega (arith, ints)) in let up = mul_mono_right (10 ^ 9) (pos 0) f.num h in absurd (omega (arith, ints, one, k.next, up)))
-    (λ le. le)
+floor_not_negative f z h k = grind (arith, by_lt_z, mul_mono_right)
 
 pub floor_below : (f : Fraction) (s : ℕ) (lo hi : ℤ) → IsSignedFloor lo f s → IsSignedCeiling hi f s → lo ≤ℤ hi
 floor_below f s lo hi p q = let e = floor_ceiling_enclose f s lo hi p q in cancel_right (den f) lo hi (omega arith) (omega (arith, ints, e.lower, e.upper))

@@ -28,16 +28,10 @@ blended a e f p q le =
     }
 
 floor_within : (x y z : ℤ) → IsBlend x → IsBlend y → IsFloorOf (int_min x y) z → IsHead z
-floor_within x y z p q k = record {
-  above = omega (arith, ints, int_min_is x y, p.above, q.above, k.next);
-  below = omega (arith, ints, int_min_is x y, p.below, q.below, k.at_most);
-}
+floor_within x y z p q k = grind (arith, int_min_is)
 
 ceiling_within : (x y z : ℤ) → IsBlend x → IsBlend y → IsCeilingOf (int_max x y) z → IsHead z
-ceiling_within x y z p q k = record {
-  above = omega (arith, ints, int_max_is x y, p.above, q.above, k.at_least);
-  below = omega (arith, ints, int_max_is x y, p.below, q.below, k.next);
-}
+ceiling_within x y z p q k = grind (arith, int_max_is)
 
 pub given_range : (shead ehead : Dec) (p : Part) → IsHeadNumber shead → IsHeadNumber ehead → p.lo ≤ 10 ^ 18 → p.hi ≤ 10 ^ 18 → AreHeads (bound_of_pair (given_pair shead ehead p))
 unfolding given_pair head_pair

@@ -1,8 +1,8 @@
 -- The halves of branches, and the bed between two layers.
-use Rattle.problem_builder.proofs.Common.{arith, eq-eqb, ne_eqb, bed_of, Bool, cond, Some, None, ◌≡◌, ℕ, ◌+◌, ◌<◌, ◌⊎◌, inl, inr, true, false, refl, sym, ap}
+use Rattle.problem_builder.proofs.Common.{arith, eq-eqb, ne_eqb, Bool, cond, Some, None, ◌≡◌, ℕ, ◌+◌, ◌<◌, ◌⊎◌, inl, inr, true, false, refl, sym, ap}
 use Rattle.problem_builder.proofs.Common.{◌∙◌, ◌==◌, none-some, Axis, Vertical, Face, Grid, stride, has_after, face_after, FlowModel, layer_size, delr_at}
-use Rattle.problem_builder.proofs.Common.{delc_at, thickness, bed_thickness, vkcb_at, bottom_at, lowest, thick_positive, IsBedValid, Span, IsBed, Quotient}
-use Rattle.problem_builder.proofs.Common.{vertical_of, resistance_sum, face_term, area_term, bed_term, vertical_half_term, IsBedOf, IsNoBed, layer_half}
+use Rattle.problem_builder.proofs.Common.{delc_at, thickness, bed_thickness, vkcb_at, bottom_at, lowest, thick_positive, IsBedValid, Span, IsBed}
+use Rattle.problem_builder.proofs.Common.{vertical_of, face_term, IsBedOf, IsNoBed, layer_half}
 use Rattle.problem_builder.proofs.Members.{some_same}
 
 tests : (m : FlowModel) (a : ℕ) (t : Span) → IsBedOf m a t ⊎ IsNoBed m a t → (t.lo.m == 0) ≡ ((bed_thickness m a).num == 0)
@@ -12,15 +12,8 @@ tests m a t (inr k) = eq-eqb t.lo.m 0 k.low.0 ∙ sym (eq-eqb (bed_thickness m a
 -- a bed's decimals are zeros exactly where it has no thickness
 pub bed_tests : (m : FlowModel) (a : ℕ) (t : Span) → IsBedOf m a t ⊎ IsNoBed m a t →
     vertical_of (layer_half m a) (layer_half m (a + layer_size m.grid)) (record { thick_lo = t.lo; thick_hi = t.hi; vkcb = vkcb_at m a }) (delr_at m a) (delc_at m a) (thickness m a) (thickness m (a + layer_size m.grid)) (bed_thickness m a) ≡ face_term m Vertical a
-bed_tests m a t (inl k) =
-    let lower = vertical_half_term m a in
-    let upper = vertical_half_term m (a + layer_size m.grid) in
-    (λ q. Quotient (area_term m a) (resistance_sum (tests m a t (inl k) q) lower (bed_of (record { thick_lo = (k.span q).lo; thick_hi = (k.span q).hi; vkcb = vkcb_at m a }) (bed_thickness m a)) upper))
-bed_tests m a t (inr k) =
-    let lower = vertical_half_term m a in
-    let upper = vertical_half_term m (a + layer_size m.grid) in
-    let some = bed_of (record { thick_lo = t.lo; thick_hi = t.hi; vkcb = vkcb_at m a }) (bed_thickness m a) in
-    ap (λ b. Quotient (area_term m a) (resistance_sum b lower some upper)) (eq-eqb t.lo.m 0 k.low.0) ∙ sym (ap (λ b. Quotient (area_term m a) (resistance_sum b lower (bed_term m a) upper)) (eq-eqb (bed_thickness m a).num 0 k.none))
+bed_tests m a t (inl k) = grind (arith, tests)
+bed_tests m a t (inr k) = grind (arith, eq-eqb)
 
 pub bed_fits : (m : FlowModel) (a : ℕ) (t : Span) → IsBedOf m a t ⊎ IsNoBed m a t → IsBed (record { thick_lo = t.lo; thick_hi = t.hi; vkcb = vkcb_at m a })
 bed_fits m a t (inl k) = inr (record { vkcb = k.vkcb; thick = k.thick })

@@ -29,9 +29,7 @@ range-In a (suc n) x (inl e) = (omega (arith, e), omega (arith, e))
 range-In a (suc n) x (inr i) = let k = range-In (a + 1) n x i in (omega (arith, k.0), omega (arith, k.1))
 
 pub variable-In : (m : FlowModel) (p n c : ℕ) → In (variable_below m p n) c → (is_variable m p c ≡ true) × (c < n)
-variable-In m p n c i =
-    let (a, b) = filter-In (is_variable m p) (range_with_len 0 n) c (subst (λ xs. In xs c) (below_is m p n) i) in
-    (b, omega (arith, (range-In 0 n c a).1))
+variable-In m p n c i = grind (arith, filter-In, below_is, range-In)
 
 pub In-variable : (m : FlowModel) (p n c : ℕ) → is_variable m p c ≡ true → c < n → In (variable_below m p n) c
 In-variable m p n c v lt =
@@ -41,10 +39,7 @@ In-variable m p n c v lt =
 pub In-append : {X : Type 0} (xs ys : List X) (x : X) → In (xs ++ ys) x → In xs x ⊎ In ys x
 In-append [] ys x i = inr i
 In-append (z ∷ zs) ys x (inl e) = inl (inl e)
-In-append (z ∷ zs) ys x (inr i) = elim (In-append zs ys x i) [
-  | inl j ↦ inl (inr j)
-  | inr j ↦ inr j
-]
+In-append (z ∷ zs) ys x (inr i) = grind (arith, In-append zs ys x i)
 
 pub In-option : {X : Type 0} (o : Option X) (x : X) → In (option_to_list o) x → o ≡ Some x
 In-option None x i = absurd i

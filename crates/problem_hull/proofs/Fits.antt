@@ -29,13 +29,7 @@ fixed_fits : (a b : Fixed) → FixedFits a → FixedFits b → FixedFits (fixed_
 fixed_fits a b f g = record { ordered = ordered _ _ _ _ f.ordered; head_lo = min_head _ _ f.head_lo g.head_lo; head_hi = max_head _ _ f.head_hi g.head_hi }
 
 river_fits : (a b : River) → RiverFits a → RiverFits b → RiverFits (river_hull a b)
-river_fits a b f g = record {
-  ordered = ordered _ _ _ _ f.ordered;
-  stage_lo = min_head _ _ f.stage_lo g.stage_lo;
-  stage_hi = max_head _ _ f.stage_hi g.stage_hi;
-  bottom_lo = min_head _ _ f.bottom_lo g.bottom_lo;
-  bottom_hi = max_head _ _ f.bottom_hi g.bottom_hi;
-}
+river_fits a b f g = grind (arith, ordered, min_head, max_head)
 
 drain_fits : (a b : Drain) → DrainFits a → DrainFits b → DrainFits (drain_hull a b)
 drain_fits a b f g = record { ordered = ordered _ _ _ _ f.ordered; elev_lo = min_head _ _ f.elev_lo g.elev_lo; elev_hi = max_head _ _ f.elev_hi g.elev_hi }

@@ -2,7 +2,7 @@
 use Rattle.problem_hull.proofs.Common.{◌≡◌, ◌+◌, ◌<◌, [], ◌∷◌, ◌++◌, ◌∙◌, ℕ, zero, suc, arith, List, get_or, length, take, map, All, refl, ap, sym, take_more}
 use Rattle.problem_hull.proofs.Common.{get_or-map, get_or_default, length-map, map-id, map-append, zip_with, IsHull, IsHullOf, AreAlike, IsUnlike, cell_hull}
 use Rattle.problem_hull.proofs.Common.{cell_shape, link_shape, link_hull, flow_shape, flow_hull, fixed_shape, fixed_hull, river_shape, river_hull, drain_shape}
-use Rattle.problem_hull.proofs.Common.{drain_hull, evap_shape, evap_hull, Link, Entries, entries_at, no_entries}
+use Rattle.problem_hull.proofs.Common.{drain_hull, evap_shape, evap_hull, Entries, entries_at, no_entries}
 use Rattle.std.proofs.lemmas.List.Elements.{All-nil, All-cons, All-head, All-tail}
 use Rattle.problem_hull.specs.declared.problem.HullFault.{HullFault}
 use Rattle.problem_hull.specs.declared.problem.HullFault.TheVariants.{NotAlike, NoBound, Memory}
@@ -61,14 +61,7 @@ module _ {X : Type 0} (shape : X → X) (hull : X → X → X) where
 pub cell_hulled : (a b r : Entries) → b.id ≡ a.id → r.id ≡ a.id → IsHullOf (map flow_shape) (zip_with flow_hull) a.flows b.flows r.flows → IsHullOf (map link_shape) (zip_with link_hull) a.links b.links r.links →
     IsHullOf (map fixed_shape) (zip_with fixed_hull) a.fixed b.fixed r.fixed → IsHullOf (map river_shape) (zip_with river_hull) a.rivers b.rivers r.rivers →
     IsHullOf (map drain_shape) (zip_with drain_hull) a.drains b.drains r.drains → IsHullOf (map evap_shape) (zip_with evap_hull) a.evaps b.evaps r.evaps → IsHullOf cell_shape cell_hull a b r
-cell_hulled a b r same id flows links fixed rivers drains evaps =
-    let same_links : b.links ≡ a.links = sym (map-id b.links) ∙ links.alike ∙ map-id a.links in
-    let kept : zip_with link_hull a.links b.links ≡ a.links = sym (map-id _) ∙ zip_left (λ (x : Link). x) link_hull (λ x y. refl) a.links b.links (ap length same_links) ∙ map-id a.links in
-    let of_first : r.links ≡ a.links = links.is ∙ kept in
-    record {
-      alike = λ i. record { id = same i; flows = flows.alike i; links = same_links i; fixed = fixed.alike i; rivers = rivers.alike i; drains = drains.alike i; evaps = evaps.alike i };
-      is = λ i. record { id = id i; flows = flows.is i; links = of_first i; fixed = fixed.is i; rivers = rivers.is i; drains = drains.is i; evaps = evaps.is i };
-    }
+cell_hulled a b r same id flows links fixed rivers drains evaps = grind (arith, map-id, zip_left)
 
 -- The cells of a hull.
 module _ (p q r : List Entries) (h : IsHull p q r) where

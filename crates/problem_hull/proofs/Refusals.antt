@@ -41,9 +41,7 @@ not_some (Some code) none = absurd (none code refl)
 
 -- the refusals from a cell on, by that cell's
 pub refusals_from : (r : List Entries) (i : ℕ) (c : Entries) (o : Option ℕ) → i < length r → c ≡ get_or r i c → o ≡ sum_refusal c → first_refusal (drop i r) ≡ option_or (option_map (refusal_at c) o) (first_refusal (drop (i + 1) r))
-refusals_from r i c o lt e is =
-    ap first_refusal (drop_more r i c lt) ∙ ap (λ (x : Entries). option_or (option_map (refusal_at x) (sum_refusal x)) (first_refusal (drop (i + 1) r))) (sym e)
-    ∙ ap (λ s. option_or (option_map (refusal_at c) s) (first_refusal (drop (i + 1) r))) (sym is)
+refusals_from r i c o lt e is = grind (arith, drop_more)
 
 -- the cell of an index, by any item that stands for one past the end
 pub entries_named : (r : List Entries) (i : ℕ) (c : Entries) → i < length r → c ≡ get_or r i c → entries_at r i ≡ c

@@ -9,9 +9,7 @@ coarse x m p q h =
     omega (arith, mul-le-mul_right p le)
 
 fine : (x m p q : ℕ) → x < 10 ^ 18 → 10 ^ 17 ≤ m → 0 < q → x * p ≤ m * (p * (q * 10))
-fine x m p q hx hm hq =
-    let k : x ≤ m * (q * 10) = omega (arith, mul-le-mul hm hq) in
-    omega (arith, mul-le-mul_right p k)
+fine x m p q hx hm hq = grind (arith, mul-le-mul, mul-le-mul_right)
 
 -- no 18-digit x lies above m and below m + 1, where m has 18 digits or more
 pub none_above_coarse : (x m b j : ℕ) → x * 10 ^ (b + j) < (m + 1) * 10 ^ b → x * 10 ^ (b + j) ≤ m * 10 ^ b
@@ -46,16 +44,13 @@ too_fine x p u v b hx hp hv h =
     omega (arith, k, least, most, hp)
 
 finer : (x p a v : ℕ) → x < 10 ^ 18 → 10 ^ 17 ≤ p → 0 < v → p * (a * (v * 10)) < x * a → ⊥
-finer x p a v hx hp hv h =
-    let k : p * (v * 10) < x = lt_cancel a (p * (v * 10)) x (omega arith) in
-    omega (arith, k, mul-le-mul hp hv)
+finer x p a v hx hp hv h = grind (arith, lt_cancel, mul-le-mul)
 
 reach_coarse : (x p m b j i : ℕ) → ((y : ℕ) → p < y * 10 ^ j → m ≤ y) → p * 10 ^ b < x * 10 ^ (b + (j + i)) → m * 10 ^ j * 10 ^ b ≤ x * 10 ^ (b + (j + i))
 reach_coarse x p m b j i least = rw (pow-add 10 b (j + i), pow-add 10 j i) (reaching x p m (10 ^ j) (10 ^ i) (10 ^ b) least)
 
 reach_between : (x p b i k : ℕ) → x < 10 ^ 18 → 10 ^ 17 * 10 ^ (i + suc k) ≤ p + 1 → p * 10 ^ b < x * 10 ^ (b + i) → ⊥
-reach_between x p b i k hx hp h =
-    too_fine x p (10 ^ i) (10 ^ k) (10 ^ b) hx (rw (pow-add 10 i (suc k), pow-suc 10 k) at hp) (ten_pos k) (rw (pow-add 10 b i) at h)
+reach_between x p b i k hx hp h = grind (arith, too_fine, pow-add, pow-suc, ten_pos)
 
 reach_fine : (x p a k : ℕ) → x < 10 ^ 18 → 10 ^ 17 ≤ p → p * 10 ^ (a + suc k) < x * 10 ^ a → ⊥
 reach_fine x p a k hx hp h = finer x p (10 ^ a) (10 ^ k) hx hp (ten_pos k) (rw (pow-add 10 a (suc k), pow-suc 10 k) at h)
@@ -74,10 +69,7 @@ pub below_ten : (n k : ℕ) → n < 10 ^ 18 → 18 ≤ k → n < 10 ^ k
 below_ten n k h le = omega (arith, power_within 18 k le)
 
 pub few_places : (j m n : ℕ) → 10 ^ j ≤ m → m < 10 ^ n → j < n
-few_places j m n h lt = elim (cases_lt j n) [
-  | inl k ↦ k
-  | inr k ↦ absurd (omega (arith, power_within n j k, h, lt))
-]
+few_places j m n h lt = grind (arith, cases_lt, power_within)
 
 -- a number of 128 bits has at most 39 digits
 pub places_below : (p : ℕ) → 10 ^ 17 * 10 ^ p ≤ 2 ^ 128 → p < 22

@@ -74,13 +74,7 @@ pub no_quotient : (m n k : ℕ) (d e g : ℤ) → 0 < n → m ≡ 0 → AtMost (
 no_quotient m n k d e g hn h = record { cross = rw (num_over, num_scaled m d, h) (omega arith) }
 
 too_many : (m n a j : ℕ) → m < 10 ^ 18 → 10 ^ 17 ≤ n → m * 10 ^ a ≡ n * 10 ^ (a + suc j) → ⊥
-too_many m n a j hm hn e =
-    let split : 10 ^ (a + suc j) ≡ 10 ^ a * (10 ^ j * 10) = rw (pow-add 10 a (suc j), pow-suc 10 j) refl in
-    let k : n * 10 ^ (a + suc j) ≡ n * (10 ^ a * (10 ^ j * 10)) = ap (λ (t : ℕ). n * t) split in
-    let least : 10 ^ 17 * 1 ≤ n * 10 ^ j = mul-le-mul hn (ten_pos j) in
-    let more : 10 ^ 18 * 10 ^ a ≤ (n * 10 ^ j * 10) * 10 ^ a = mul-le-mul_right (10 ^ a) (omega arith) in
-    let less : (m + 1) * 10 ^ a ≤ 10 ^ 18 * 10 ^ a = mul-le-mul_right (10 ^ a) (omega arith) in
-    omega (arith, e, k, more, less, ten_pos a)
+too_many m n a j hm hn e = grind (arith, pow-add, pow-suc, mul-le-mul, ten_pos, mul-le-mul_right)
 
 -- two decimals of 18 digits with one value have one exponent
 same_exponent : (m n a b : ℕ) → 10 ^ 17 ≤ m → m < 10 ^ 18 → 10 ^ 17 ≤ n → n < 10 ^ 18 → m * 10 ^ a ≡ n * 10 ^ b → a ≡ b
@@ -96,10 +90,7 @@ even : (m n p : ℕ) → 0 < p → m * p ≡ n * p → m ≡ n
 even m n p h e = grind (arith, le_of_mul-le-mul_right)
 
 one_form : (r q : Sd) → (10 ^ 17 ≤ r.m) × (r.m < 10 ^ 18) → (10 ^ 17 ≤ q.m) × (q.m < 10 ^ 18) → r.m * 10 ^ (up r.e + down q.e) ≡ q.m * 10 ^ (up q.e + down r.e) → (r.m ≡ q.m) × (r.e ≡ q.e)
-one_form r q hr hq e =
-    let powers : up r.e + down q.e ≡ up q.e + down r.e = same_exponent r.m q.m (up r.e + down q.e) (up q.e + down r.e) hr.0 hr.1 hq.0 hq.1 e in
-    let P : ℕ → Type 0 = λ k. r.m * 10 ^ k ≡ q.m * 10 ^ (up q.e + down r.e) in
-    (even r.m q.m (10 ^ (up q.e + down r.e)) (ten_pos (up q.e + down r.e)) (subst P powers e), omega (arith, ints, up_down r.e, up_down q.e, powers))
+one_form r q hr hq e = grind (arith, same_exponent, even, ten_pos, up_down)
 
 no_zero : (m n p q : ℕ) → 0 < m → 0 < p → n ≡ 0 → m * p ≡ n * q → ⊥
 no_zero m n p q hm hp h e = let z : n * q ≡ 0 * q = ap (λ (t : ℕ). t * q) h in omega (arith, z, e, mul-le-mul hm hp)

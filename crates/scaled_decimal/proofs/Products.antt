@@ -54,9 +54,7 @@ positive : (a b : ℕ) → 0 < suc a * suc b
 positive a b = omega arith
 
 pub plus-Below : {a b c d : Ratio} → AtMost a b → Below c d → Below (plus a c) (plus b d)
-plus-Below {a} {b} {c} {d} p q = record {
-  cross = rw (num_plus a c, num_plus b d, den_plus b d, den_plus a c) (cross_plus_below a.num (den a) b.num (den b) c.num (den c) d.num (den d) (positive a.less b.less) p.cross q.cross);
-}
+plus-Below {a} {b} {c} {d} p q = grind (arith, num_plus, den_plus, cross_plus_below, positive)
 
 grown : (a x b y : ℕ) → a * (x * y) ≤ (a * y + b * x) * x
 grown a x b y = omega arith

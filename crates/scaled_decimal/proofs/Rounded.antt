@@ -33,13 +33,7 @@ units_are_whole = record { floors = is_floor; ceilings = is_ceiling }
 
 -- The first 18 digits of a long number.
 digits_at : (n l j : ℕ) → l ≡ 18 + j → n < 10 ^ l → (n < 10 ^ (17 + j) → l ≤ 17 + j) → (10 ^ 17 * 10 ^ j ≤ n) × (n < 10 ^ 18 * 10 ^ j)
-digits_at n l j e lt short = (
-  elim (cases_lt n (10 ^ (17 + j))) [
-    | inl less ↦ absurd (omega (arith, e, short less))
-    | inr more ↦ omega (arith, more, pow-add 10 17 j)
-  ],
-  omega (arith, lt, ap (λ (k : ℕ). 10 ^ k) e, pow-add 10 18 j),
-)
+digits_at n l j e lt short = grind (arith, cases_lt, pow-add)
 
 abbrev more : ℕ → ℕ
 more n = length (digits_of 10 n) - 18
@@ -72,13 +66,7 @@ cut_down n p k f e long is =
 
 -- a quotient rounded up
 above : (x d : ℕ) → 0 < x → 0 < d → (x + (d - 1)) / d ≡ (x - 1) / d + 1
-above x d some h =
-    let q = (x - 1) / d in
-    let low : q * d ≤ x - 1 = div-mul-le_self (x - 1) d in
-    let high : x - 1 < (q + 1) * d = omega (arith, lt-mul-div-succ (x - 1) h) in
-    let least : q + 1 ≤ (x + (d - 1)) / d = (le-div_iff_mul-le h).1 (omega (arith, low)) in
-    let most : (x + (d - 1)) / d < q + 2 = (div-lt_iff_lt-mul h).1 (omega (arith, high)) in
-    omega (arith, least, most)
+above x d some h = grind (arith, div-mul-le_self, lt-mul-div-succ, le-div_iff_mul-le, div-lt_iff_lt-mul)
 
 cut_up : (n p k : ℕ) (f : Ratio) → p ≡ suc k → 10 ^ 17 < n → IsUpTo (n - 1) (negsuc k) f → IsUp (cut Upper n p) f
 cut_up n p k f e long is =
@@ -106,10 +94,7 @@ long : (f : Ratio) → 0 < f.num → 10 ^ 17 * den f < f.num * 10 ^ (17 + den f)
 long f some = omega (arith, pow-add 10 17 (den f), ten_grows (den f), mul-le-mul_right (10 ^ (17 + den f)) some)
 
 floor_from : (f : Ratio) (q k : ℕ) → IsFloor q f (suc k) → IsFrom q (negsuc k) f
-floor_from f q k h = record {
-  from = record { cross = rw (num_scaled q (negsuc k), den_scaled q (negsuc k)) (omega (arith, h.at_most)) };
-  before = record { cross = rw (num_scaled (q + 1) (negsuc k), den_scaled (q + 1) (negsuc k)) (omega (arith, h.next)) };
-}
+floor_from f q k h = grind (arith, num_scaled, den_scaled)
 
 ceiling_up_to : (f : Ratio) (n k : ℕ) → 0 < n → IsCeiling n f (suc k) → IsUpTo (n - 1) (negsuc k) f
 ceiling_up_to f n k some h = record {

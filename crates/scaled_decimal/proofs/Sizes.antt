@@ -12,11 +12,7 @@ HasSize-within r a b g h p q s = record { above = omega (arith, ints, clamps, s.
 
 -- a sum of two numbers of 18 digits, where one stands u units higher
 pub sum_below : (m n u : ℕ) → m < 10 ^ 18 → n < 10 ^ 18 → 0 < u → m * u + n ≤ (10 ^ 18 - 1) * 2 * u
-sum_below m n u hm hn hu =
-    let most : m * u ≤ (10 ^ 18 - 1) * u = mul-le-mul_right u (omega arith) in
-    omega (arith, most, hn, hu)
+sum_below m n u hm hn hu = grind (arith, mul-le-mul_right)
 
 pub sum_digits : (m n u : ℕ) → 10 ^ 17 ≤ m → 0 < n → 0 < u → 10 ^ 17 ≤ m * u + n - 1
-sum_digits m n u hm hn hu =
-    let least : 10 ^ 17 * u ≤ m * u = mul-le-mul_right u hm in
-    omega (arith, least, hn, hu)
+sum_digits m n u hm hn hu = grind (arith, mul-le-mul_right)

@@ -83,9 +83,7 @@ module _ (p : List Entries) (old w next : List Bound) (c : ℕ) (ok : IsProblem 
 
 -- words that a sweep leaves alone are settled
 pub still_settled : (p : List Entries) (old w : List Bound) → ((c : ℕ) → c < length p → IsPastCell p old w c) → w ≡ old → AreBothSettled p w
-still_settled p old w past e =
-    let here : (c : ℕ) → c < length p → IsPastCell p w w c = subst (λ (x : List Bound). (c : ℕ) → c < length p → IsPastCell p x w c) (sym e) past in
-    λ side c i v head can. (here c i side).furthest v head can
+still_settled p old w past e = grind (arith)
 
 -- Seats that are joined, and what a phase gains.
 pub tighter_left : (p : List Entries) (a b c : HeadSeat) → HasTighter p a b c → AreNoLooser p (seen_of a) (seen_of c)

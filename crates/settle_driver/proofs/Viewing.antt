@@ -128,8 +128,4 @@ seen_encloses t s heads whole seat shows held past =
     }
 
 pub look_encloses : (p : List Entries) (b : Edges) (t : HeadTable) (s : HeadSeat) (heads : List Bound) → t.problem.now ≡ p → barrier_of t ≡ b → length heads ≡ length p → IsSeatOf t s → ShowsSeen t.problem.now s heads → AreHeld t.problem.now (barrier_of t) heads → ArePastBarrier p b (seen_of s) → EnclosesPair p b heads
-look_encloses p b t s heads same edges whole seat shows held past =
-    let n : length heads ≡ length t.problem.now = subst (λ (q : List Entries). length heads ≡ length q) (sym same) whole in
-    let by_problem : ArePastBarrier t.problem.now b (seen_of s) = subst (λ (q : List Entries). ArePastBarrier q b (seen_of s)) (sym same) past in
-    let by_both : ArePastBarrier t.problem.now (barrier_of t) (seen_of s) = subst (λ (e : Edges). ArePastBarrier t.problem.now e (seen_of s)) (sym edges) by_problem in
-    subst (λ (q : List Entries). EnclosesPair q b heads) same (subst (λ (e : Edges). EnclosesPair t.problem.now e heads) edges (seen_encloses t s heads n seat shows held by_both))
+look_encloses p b t s heads same edges whole seat shows held past = grind (arith, seen_encloses)

@@ -1,6 +1,6 @@
 -- Histories between two decks lie within the heads of their steps, by induction on the time steps.
-use Rattle.step_chain.proofs.Common.{Limits, ◌≡◌, ◌-◌, ◌<◌, ◌^◌, ◌*ℤ◌, ◌≤ℤ◌, ℕ, suc, inl, inr, List, [], ◌∷◌, Contains, refl, subst, arith, ℤ, pos, Fraction}
-use Rattle.step_chain.proofs.Common.{Bound, lower_at, upper_at, FlowModel, TimeStep, start_head, heads_of, AreGridHeads, HeadsEnclose, AreDecks, IsBefore}
+use Rattle.step_chain.proofs.Common.{Limits, ◌-◌, ◌<◌, ℕ, inl, inr, List, [], ◌∷◌, Contains, refl, arith, ℤ, Fraction}
+use Rattle.step_chain.proofs.Common.{Bound, FlowModel, TimeStep, start_head, heads_of, AreGridHeads, HeadsEnclose, AreDecks, IsBefore}
 use Rattle.step_chain.proofs.Common.{StartHeadsFit, StartHeadsEnclose, HasCellsOf, between_cells, cell_of_member, encloses_member, encloses_first, Solved}
 use Rattle.step_chain.proofs.Common.{LiesWithin, StepEncloses, HeadsFit, PairKind, HistoriesLieWithin, two, AreSteps, LieWithin, times, In-Contains}
 use Rattle.model_types.proofs.Members.{Contains-In}
@@ -14,11 +14,7 @@ next_in t ts u h = Contains-In (t ∷ ts) u (inr (In-Contains ts u h))
 
 -- heads over d that lie within bounds, as fractions
 pub lies_encloses : (m : FlowModel) (new : List Bound) (d : ℕ) (X : ℕ → ℤ) → 0 < d → LiesWithin m new d X → HeadsEnclose m new (heads_of d X)
-lies_encloses m new d X some h c active =
-    let same : d ≡ suc (d - 1) = omega (arith, some) in
-    let L : ℕ → Type 0 = λ n. (lower_at new c *ℤ pos n) ≤ℤ (X c *ℤ pos (10 ^ 9)) in
-    let U : ℕ → Type 0 = λ n. (X c *ℤ pos (10 ^ 9)) ≤ℤ (upper_at new c *ℤ pos n) in
-    record { lower = subst L same (h.low c active); upper = subst U same (h.high c active) }
+lies_encloses m new d X some h c active = grind (arith)
 
 pub lies_in_first : (a m : FlowModel) → HasCellsOf a m → (heads : List Bound) (d : ℕ) (X : ℕ → ℤ) → LiesWithin m heads d X → LiesWithin a heads d X
 lies_in_first a m cells heads d X h = record { low = λ c k. h.low c (cell_of_member a m cells c k); high = λ c k. h.high c (cell_of_member a m cells c k) }

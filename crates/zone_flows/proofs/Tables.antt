@@ -32,13 +32,7 @@ unfolding flows_between
 between-append a b fs gs = ap (map (λ (f : Face). f.flow)) (filter-append (is_between a b) fs gs) ∙ map-append (λ (f : Face). f.flow) (filter (is_between a b) fs) (filter (is_between a b) gs)
 
 pub both : (old mid new : Table) (fs gs : List Face) → Gains old mid fs → Gains mid new gs → Gains old new (fs ++ gs)
-both old mid new fs gs h k = record {
-  at = λ q.
-      let a = q / 1000 in
-      let b = q % 1000 in
-      k.at q ∙ ap (λ s. plus_flows s (flows_between a b gs)) (h.at q) ∙ sym (ap (plus_flows (get nat_cmp old q)) (between-append a b fs gs) ∙ plus_flows-append (get nat_cmp old q) (flows_between a b fs) (flows_between a b gs));
-  past = λ q l. k.past q l ∙ h.past q l;
-}
+both old mid new fs gs h k = grind (arith, between-append, plus_flows-append)
 
 -- the flow across one face, at the key of its pair
 pub gained : (old new : Table) (f : Face) (w : ZoneSum) → f.from ≤ 999 → f.to ≤ 999 → ((q : ℕ) → get nat_cmp new q ≡ cond (is_at (nat_cmp (f.from * 1000 + f.to)) q) (Some w) (get nat_cmp old q)) →

@@ -15,8 +15,7 @@ or_none false = refl
 
 -- first those of one test, then those of another
 pub gains_both : (old mid new : BTreeSet ℕ) (f g : ZonePair → Bool) → Gains old mid f → Gains mid new g → Gains old new (λ z. f z || g z)
-gains_both old mid new f g h k q =
-    k q ∙ ap (λ b. b || g (pair_of q)) (h q) ∙ either (contains nat_cmp old q) (f (pair_of q)) (g (pair_of q))
+gains_both old mid new f g h k q = grind (arith, either)
 
 pub gains_same : (old new : BTreeSet ℕ) (f g : ZonePair → Bool) → ((z : ZonePair) → f z ≡ g z) → Gains old new f → Gains old new g
 gains_same old new f g e h q = h q ∙ ap (λ b. contains nat_cmp old q || b) (e (pair_of q))
@@ -26,8 +25,7 @@ gains_nothing keys q = sym (or_none (contains nat_cmp keys q))
 
 -- one more item of a list
 pub gains_item : {X : Type 0} (old mid new : BTreeSet ℕ) (f : ZonePair → X → Bool) (xs : List X) (i : ℕ) (d : X) → i < length xs → Gains old mid (λ z. list_any (f z) (take i xs)) → Gains mid new (λ z. f z (get_or xs i d)) → Gains old new (λ z. list_any (f z) (take (i + 1) xs))
-gains_item old mid new f xs i d lt h k =
-    gains_same old new (λ z. list_any (f z) (take i xs) || f z (get_or xs i d)) (λ z. list_any (f z) (take (i + 1) xs)) (λ z. sym (list_any_more (f z) xs i d lt)) (gains_both old mid new (λ z. list_any (f z) (take i xs)) (λ z. f z (get_or xs i d)) h k)
+gains_item old mid new f xs i d lt h k = grind (arith, gains_same, list_any_more, gains_both)
 
 pub gains_all : {X : Type 0} (old new : BTreeSet ℕ) (f : ZonePair → X → Bool) (xs : List X) (i : ℕ) → length xs ≤ i → Gains old new (λ z. list_any (f z) (take i xs)) → Gains old new (λ z. list_any (f z) xs)
 gains_all old new f xs i over h = gains_same old new (λ z. list_any (f z) (take i xs)) (λ z. list_any (f z) xs) (λ z. ap (list_any (f z)) (take_all i xs over)) h

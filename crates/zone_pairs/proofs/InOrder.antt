@@ -1,5 +1,5 @@
 -- Ascending keys are the numbers that pass the test of being one, in order; so their pairs are the pairs that pass it.
-use Rattle.zone_pairs.proofs.Common.{◌≡◌, ℕ, zero, suc, ◌+◌, ◌*◌, ◌/◌, ◌%◌, ◌<◌, ◌≤◌, inl, inr, Bool, true, false, cond, ◌||◌, refl, sym, ap, ◌∙◌, arith, List}
+use Rattle.zone_pairs.proofs.Common.{◌≡◌, ℕ, zero, suc, ◌+◌, ◌*◌, ◌<◌, ◌≤◌, inl, inr, Bool, true, false, cond, ◌||◌, refl, sym, ap, ◌∙◌, arith, List}
 use Rattle.zone_pairs.proofs.Common.{[], ◌∷◌, ◌++◌, map, flat_map, AllByRecursion, list_any, range_with_len, nat_cmp, cases_order, or_right, map-append}
 use Rattle.zone_pairs.proofs.Common.{ZonePair, pair_of, pairs_below, filter}
 use Rattle.std.specs.BTreeMap.{is_at}
@@ -69,17 +69,11 @@ abbrev pair : ℕ → ℕ → ZonePair
 pair a b = record { from = a; to = b }
 
 pair_is : (a b : ℕ) → b < 1000 → Path ZonePair (pair a b) (pair_of (a * 1000 + b))
-pair_is a b h =
-    let first : a ≡ (a * 1000 + b) / 1000 = omega (arith, h) in
-    let second : b ≡ (a * 1000 + b) % 1000 = omega (arith, h) in
-    (λ i. pair (first i) (second i))
+pair_is a b h = grind (arith)
 
 row : (a b n : ℕ) → b + n ≤ 1000 → map (pair a) (range_with_len b n) ≡ map pair_of (range_with_len (a * 1000 + b) n)
 row a b zero h = refl
-row a b (suc n) h =
-    let next : a * 1000 + (b + 1) ≡ a * 1000 + b + 1 = omega arith in
-    ap (λ (z : ZonePair). z ∷ map (pair a) (range_with_len (b + 1) n)) (pair_is a b (omega (arith, h)))
-    ∙ ap (λ (zs : List ZonePair). pair_of (a * 1000 + b) ∷ zs) (row a (b + 1) n (omega (arith, h)) ∙ ap (λ k. map pair_of (range_with_len k n)) next)
+row a b (suc n) h = grind (arith, pair_is, row a (b + 1) n (omega (arith, h)))
 
 together : (s n k : ℕ) → range_with_len s (n + k) ≡ range_with_len s n ++ range_with_len (s + n) k
 together s zero k = let here : s ≡ s + 0 = omega arith in let same : 0 + k ≡ k = omega arith in ap (range_with_len s) same ∙ ap (λ x. range_with_len x k) here

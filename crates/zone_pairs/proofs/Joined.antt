@@ -1,10 +1,10 @@
 -- What it says that a face joins two zones, and that zones share a face.
-use Rattle.zone_pairs.proofs.Common.{◌≡◌, ℕ, zero, suc, ◌<◌, ◌≤◌, ◌⊎◌, inl, inr, Bool, true, false, ◌&&◌, ◌||◌, refl, ap, ◌∙◌, arith, List, [], ◌∷◌, All}
+use Rattle.zone_pairs.proofs.Common.{◌≡◌, ℕ, zero, suc, ◌<◌, ◌≤◌, ◌⊎◌, inl, inr, Bool, true, false, ◌&&◌, refl, ap, ◌∙◌, arith, List, [], ◌∷◌, All}
 use Rattle.zone_pairs.proofs.Common.{Option, Some, None, AllByRecursion, list_any, and_from, and_parts, eqb-true, leb-true, or_cases, or_left, or_right}
 use Rattle.zone_pairs.proofs.Common.{FlowModel, faces, variable_cells, is_active, ZonePair, joins, joins_by, share_face, pairs_below, pairs_in, zone_pairs}
 use Rattle.zone_pairs.proofs.Common.{AreNumbers}
 use Rattle.std.proofs.lemmas.List.Elements.{recursion_from_All, All-nil, All-weaker, filter_passes}
-use Rattle.std.specs.Prelude.{◌==◌, nat_lt, slice_index}
+use Rattle.std.specs.Prelude.{◌==◌, slice_index}
 use Rattle.model_types.specs.declared.face.Face.{Face}
 use Rattle.model_types.proofs.Members.{In}
 
@@ -30,17 +30,7 @@ both_are : (a b c d : ℕ) → (a == b) && (c == d) ≡ true → (a ≡ b) × (c
 both_are a b c d h = let (x, y) = and_parts (a == b) (c == d) h in (eqb-true a b x, eqb-true c d y)
 
 pub join_of : (z : ZonePair) (a b : ℕ) → joins z a b ≡ true → Join z a b
-join_of z a b h =
-    let ahead : Bool = (a == z.from) && (b == z.to) in
-    let back : Bool = (a == z.to) && (b == z.from) in
-    let (order, ends) = and_parts (nat_lt 0 z.from && nat_lt z.from z.to) (ahead || back) h in
-    let (above, below) = and_parts (nat_lt 0 z.from) (nat_lt z.from z.to) order in record {
-      zones = (leb-true 1 z.from above, leb-true (suc z.from) z.to below);
-      ends = elim (or_cases ahead back ends) [
-        | inl t ↦ inl (both_are a z.from b z.to t)
-        | inr t ↦ inr (both_are a z.to b z.from t)
-      ];
-    }
+join_of z a b h = grind (arith, and_parts, leb-true, or_cases, both_are)
 
 module _ (m : FlowModel) (zones : List ℕ) where
   abbrev zone : ℕ → ℕ
