@@ -4,9 +4,10 @@ use Rattle.budget_bounds.proofs.Common.{get_or, AllZip, filter, Fixed, Flow, Dir
 use Rattle.budget_bounds.proofs.Common.{HeadDepBounds, Recharge, Et, Entries, entries_at, no_entries, TermPair, fixed_term, flow_term, is_term, part, singles}
 use Rattle.budget_bounds.proofs.Common.{flow_pair, parts, term_pair, AreWithin, HeadsAreWithin, exact_part, entry_pair, exact_singles, exact_term, place_of}
 use Rattle.budget_bounds.proofs.Common.{◌>>=◌, all_terms, bounds_in, budget_of, is_small, no_pair, term_of, terms_of, too_large, EnclosesBudgets, CoverEncloses}
-use Rattle.budget_bounds.proofs.Common.{Reaches, FixedKind, FlowKind, total_below, ExactFlow, ExactFixed, ExactCell, cell_at, no_cell, fixed_flow, river_flow}
-use Rattle.budget_bounds.proofs.Common.{drain_flow, evap_flow, FlowEncloses, FixedEncloses, RiverEncloses, DrainEncloses, EvapEncloses, CellEncloses}
-use Rattle.budget_bounds.proofs.Common.{EnclosesStep}
+use Rattle.budget_bounds.proofs.Common.{Reaches, total_below, ExactFlow, ExactFixed, ExactCell, cell_at, no_cell, fixed_flow, river_flow, drain_flow, evap_flow}
+use Rattle.budget_bounds.proofs.Common.{FlowEncloses, FixedEncloses, RiverEncloses, DrainEncloses, EvapEncloses, CellEncloses, EnclosesStep}
+use Rattle.step_problem.specs.declared.entry.FixedKind.{FixedKind}
+use Rattle.step_problem.specs.declared.entry.FlowKind.{FlowKind}
 use Rattle.decimal_input.specs.{Fraction, fraction_total, EnclosesSigned}
 use Rattle.cell_balance.proofs.EntryBounds.{bounds_hold}
 use Rattle.cell_balance.proofs.Zips.{AllZip-at, AllZip-length}

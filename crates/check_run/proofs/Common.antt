@@ -28,7 +28,7 @@ pub use Rattle.check_run.specs.declared.listing.CheckFault.{CheckFault}
 pub use Rattle.check_run.specs.declared.verdict.ListingVerdict.{ListingVerdict}
 pub use Rattle.check_run.specs.declared.verdict.ListingVerdict.TheVariants.{Certified, Fails, Refused}
 pub use Rattle.decimal_input.specs.{EnclosesSigned, Fraction}
-pub use Rattle.deck_problems.proofs.OneProblem.{HasCellsOf, cell_of_member, constant_same, each_member, encloses_member, hull_parts, member_cells, of_member}
+pub use Rattle.deck_problems.proofs.OneProblem.{HasCellsOf, cell_of_member, each_member, encloses_member, hull_parts, member_cells, of_member}
 pub use Rattle.deck_problems.specs.{AreConstantHeadsFor, AreDeckTables, AreDecks, AreStartHeadsFor, ConstantPairEncloses, ConstantPairIsOne, EachMember}
 pub use Rattle.deck_problems.specs.{EnclosesSteps, HoldsOf, IsBefore, IsMember, IsProblemBy, IsProblemFor, IsSecond, ProblemFits, StartHeadsAreOne}
 pub use Rattle.deck_problems.specs.{StartHeadsFit, digits_of}

@@ -6,8 +6,8 @@ use Rattle.check_run.proofs.Common.{flows_between, pairs_in, AreNumbers, FlowMod
 use Rattle.check_run.proofs.Common.{HeadsFit, AreCellBounds, AreFlows, AreListed, IsCellBound, IsFlowPair, IsListedAt, IsListedStep, has_evt, zone_pair, Task}
 use Rattle.check_run.proofs.Common.{Step, Whole, AllSteps, IsStep, Steps, budget_at, AreFlowsOf, faces_of, IsRest, first_in, rest_more, rest_whole, as_listed}
 use Rattle.check_run.proofs.Common.{nat_tests, is_nonzero, IsProblemBy, IsBefore, StartHeadsFit, deck_task, Decks, AreDecks, PairKind, IsStepBy, pairs_of, Bool}
-use Rattle.check_run.proofs.Common.{In, no_entries, variable_cells, AllZip-at, IsProblemOf, total, is_chosen}
-use Rattle.check_run.proofs.Common.{IsZoneFlow, flows_of_pairs, same_flows, zip_image, cells_of, whole_cell, whole_evap, IsModel, IfSome, IsSecond, hull_parts}
+use Rattle.check_run.proofs.Common.{In, no_entries, variable_cells, AllZip-at, IsProblemOf, total, is_chosen, IsZoneFlow, flows_of_pairs, same_flows, zip_image}
+use Rattle.check_run.proofs.Common.{cells_of, whole_cell, whole_evap, IsModel, IfSome, IsSecond, hull_parts}
 use Rattle.check_run.proofs.Branches.{hull_zip}
 use Rattle.step_problem.specs.declared.entry.Evap.{Evap}
 use Rattle.check_run.proofs.FlowPairs.{flows_have_pairs}

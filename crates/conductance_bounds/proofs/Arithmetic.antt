@@ -1,9 +1,8 @@
 -- Arithmetic on spans: operations keep the order, and exponents grow with each by 18 at most.
-use Rattle.conductance_bounds.proofs.Common.{ℕ, zero, ◌+◌, ◌≤◌, ◌<◌, arith, ℤ, pos, negsuc, neg_ℤ, ◌+ℤ◌, ◌-ℤ◌, unsigned_abs, int_min, int_max}
-use Rattle.conductance_bounds.proofs.Common.{ints, clamps, AtMost, plus, times, over, AtMost-trans, plus-AtMost, times-AtMost, over-AtMost, ten_pos}
-use Rattle.conductance_bounds.proofs.Common.{cross_of, Sd, value, IsDown, IsUp, IsNear, HasSize, Span, IsOrdered, reach, mul-pos, AreOperands, one_rounded}
-use Rattle.conductance_bounds.proofs.Common.{AreBounds, Lower, Number, Product, Quotient, Ratio, Same, Sum, Term, Upper, Within, bound, refl, rounded, IsSd}
-use Rattle.conductance_bounds.proofs.Common.{◌∙◌}
+use Rattle.conductance_bounds.proofs.Common.{ℕ, zero, ◌+◌, ◌≤◌, ◌<◌, arith, ℤ, pos, negsuc, neg_ℤ, ◌+ℤ◌, ◌-ℤ◌, unsigned_abs, int_min, int_max, ints, clamps}
+use Rattle.conductance_bounds.proofs.Common.{AtMost, plus, times, over, AtMost-trans, plus-AtMost, times-AtMost, over-AtMost, ten_pos, cross_of, Sd, value}
+use Rattle.conductance_bounds.proofs.Common.{IsDown, IsUp, IsNear, HasSize, Span, IsOrdered, reach, mul-pos, AreOperands, one_rounded, AreBounds, Lower, Number}
+use Rattle.conductance_bounds.proofs.Common.{Product, Quotient, Ratio, Same, Sum, Term, Upper, Within, bound, refl, rounded, IsSd, ◌∙◌}
 use Rattle.scaled_decimal.specs.{IsWithin}
 use Rattle.conductance_bounds.proofs.Sides.{positive_value}
 use Rattle.conductance_bounds.proofs.SpanBounds.{exact_rounded}

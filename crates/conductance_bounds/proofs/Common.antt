@@ -6,7 +6,7 @@ pub use Rattle.std.proofs.lemmas.Bool.{cases_Bool, cases_lt, cond-false, cond-tr
 pub use Rattle.std.proofs.lemmas.Int.{by_lt_z, clamps, ints, to_z-of_z, to_z_pos}
 pub use Rattle.std.specs.Int.{int_max, int_min, w128, w64}
 pub use Rattle.std.specs.Option.{option_map}
-pub use Rattle.std.specs.Prelude.{IfNone, IfSome, if◌then◌else◌, nat_lt, unsigned_abs, unwrap_or, ◌==◌}
+pub use Rattle.std.specs.Prelude.{IfNone, IfSome, if◌then◌else◌, unsigned_abs, unwrap_or, ◌==◌}
 pub use Rattle.conductance_bounds.specs.{AreBounds, AreThick, EvapsEnclose, FacesEnclose, FlowEncloses, FormulasHold, HeadsEnclose, Holds, IsBed, IsBetween}
 pub use Rattle.conductance_bounds.specs.{IsColHalf, IsHalf, IsHeadUnits, IsOrdered, IsPassed, IsSlow, IsVertHalf, IsWithin, LiesWithin, Number, PairEncloses}
 pub use Rattle.conductance_bounds.specs.{Product, Quotient, RechargesEnclose, StoragesEnclose, Sum, Term, Within, area_formula, bed_of, bed_span, below, blend}

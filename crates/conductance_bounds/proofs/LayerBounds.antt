@@ -1,7 +1,7 @@
 -- The pair of a vertical branch contains the manual's conductance, with a bed or without.
 use Rattle.conductance_bounds.proofs.Common.{◌≡◌, ℕ, zero, ◌*◌, ◌≤◌, ◌<◌, ◌^◌, inl, inr, Bool, true, false, arith, refl, subst, sym, ◌+◌, ◌==◌, false≢true}
-use Rattle.conductance_bounds.proofs.Common.{cases_lt, Dec, size, Ratio, over, IsFloor, IsCeiling, Reaches, Passes, den, plus, times, AtMost, num_scaled}
-use Rattle.conductance_bounds.proofs.Common.{Sd, value, two, IsPositive, Span, AreBounds, Term, exact, PairEncloses, IsBetween, Number, Within, Sum, Quotient}
+use Rattle.conductance_bounds.proofs.Common.{cases_lt, Dec, size, Ratio, over, IsFloor, IsCeiling, Reaches, Passes, den, plus, times, AtMost, num_scaled, Sd}
+use Rattle.conductance_bounds.proofs.Common.{value, two, IsPositive, Span, AreBounds, Term, exact, PairEncloses, IsBetween, Number, Within, Sum, Quotient}
 use Rattle.conductance_bounds.proofs.Common.{area_formula, vertical_k_term, vertical_k, vertical_term, resistance_sum, vertical_of, vertical_exact, IsVertHalf}
 use Rattle.conductance_bounds.proofs.Common.{IsBed, evap_formula, evap_exact, over-positive, mul-le-mul_right, Same, Same-trans, Same-sym, Same-self, plus-Same}
 use Rattle.conductance_bounds.proofs.Common.{over-Same, plus-positive}

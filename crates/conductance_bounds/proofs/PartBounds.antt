@@ -1,6 +1,6 @@
 -- The part of a period that has passed lies between its bounds, and is at most 1.
-use Rattle.conductance_bounds.proofs.Common.{◌≡◌, ℕ, zero, suc, ◌+◌, ◌*◌, ◌-◌, ◌≤◌, ◌<◌, ◌^◌, Bool, true, false, cond, min, arith, refl, subst, sym}
-use Rattle.conductance_bounds.proofs.Common.{ap, mul-le-mul_right, le_of_mul-le-mul_right, cases_lt, size, Ratio, ratio, over, scaled, den, AtMost, Same, plus}
+use Rattle.conductance_bounds.proofs.Common.{◌≡◌, ℕ, zero, suc, ◌+◌, ◌*◌, ◌-◌, ◌≤◌, ◌<◌, ◌^◌, Bool, true, false, cond, min, arith, refl, subst, sym, ap}
+use Rattle.conductance_bounds.proofs.Common.{mul-le-mul_right, le_of_mul-le-mul_right, cases_lt, size, Ratio, ratio, over, scaled, den, AtMost, Same, plus}
 use Rattle.conductance_bounds.proofs.Common.{times, AtMost-trans, AtMost-refl, Same-AtMost, num_plus, num_over, den_over, Same-trans, Same-sym, den_plus, value}
 use Rattle.conductance_bounds.proofs.Common.{IsTimed, number_one, one, power, geometric, multiplier, passed, Span, AreBounds, exact, bound, Lower, sum_term}
 use Rattle.conductance_bounds.proofs.Common.{part, pair, IsPassed, part_term, is_whole, power_term, over-Same, Same-self, plus-Same, times-Same, IsFloor, Sd}

@@ -1,8 +1,8 @@
 use Rattle.decimal_input.proofs.Common.{◌≡◌, ℕ, ◌≤◌, inl, inr, ◌==◌, List, [], ◌∷◌, ◌++◌, length, take, drop, Bool, true, false, arith, refl, ap, ◌∙◌, ℤ, Some}
-use Rattle.decimal_input.proofs.Common.{◌<◌, get_or, sym, ◌+◌, ◌&&◌, ◌-ℤ◌, nat_le, pos, Option, None, eq-eqb, le-leb, cases_Bool, eqb-true, leb-true}
-use Rattle.decimal_input.proofs.Common.{and_parts, nat_tests, with_sign, is_digit, is_mark, number_from, AreDigits, IsSign, IsPart, IsExponent, is_sign}
-use Rattle.decimal_input.proofs.Common.{is_negative, unsigned, digits_of, behind, part_of, behind_part, whole_number, exponent_of, Spelling, spelling}
-use Rattle.decimal_input.proofs.Common.{take-append-drop, get_or-take}
+use Rattle.decimal_input.proofs.Common.{◌<◌, get_or, sym, ◌+◌, ◌&&◌, ◌-ℤ◌, nat_le, pos, Option, None, eq-eqb, le-leb, cases_Bool, eqb-true, leb-true, and_parts}
+use Rattle.decimal_input.proofs.Common.{nat_tests, with_sign, is_digit, is_mark, number_from, AreDigits, IsSign, IsPart, IsExponent, is_sign, is_negative}
+use Rattle.decimal_input.proofs.Common.{unsigned, digits_of, behind, part_of, behind_part, whole_number, exponent_of, Spelling, spelling, take-append-drop}
+use Rattle.decimal_input.proofs.Common.{get_or-take}
 use Rattle.std.specs.List.{prefix_len}
 use Rattle.std.proofs.lemmas.List.Folds.{prefix_len-append, length-prefix_len}
 use Rattle.std.proofs.Math.Seq.{take-append_seam, drop-append_seam}

@@ -1,8 +1,8 @@
 use Rattle.decimal_input.proofs.Common.{◌≡◌, ℕ, zero, suc, ◌+◌, ◌-◌, ◌*◌, ◌≤◌, ◌<◌, ◌^◌, arith, inl, inr, ap, ◌∙◌, Bool, true, false, ℤ, pos, neg_ℤ, ◌+ℤ◌, ◌*ℤ◌}
 use Rattle.decimal_input.proofs.Common.{◌≤ℤ◌, ◌<ℤ◌, ◌/◌, Option, Some, None, IfNone, refl, sym, subst, ints, cases_lt, Dec, with_sign, size, number, IsFloor}
 use Rattle.decimal_input.proofs.Common.{IsCeiling, IsSignedFloor, IsSignedCeiling, Ratio, scaled, IsFloorPast, IsCeilingPast, lt-mul-div-succ, div-mul-le_self}
-use Rattle.decimal_input.proofs.Common.{div-lt_iff_lt-mul, IsUnits, Fraction, IfSome, not, den, differ, nat_le, floor, ceiling, signed_units, small}
-use Rattle.decimal_input.proofs.Common.{FitsSigned, w128, units_of, lt-ltb, leb_tells, le-div_iff_mul-le}
+use Rattle.decimal_input.proofs.Common.{div-lt_iff_lt-mul, IsUnits, Fraction, IfSome, not, den, differ, nat_le, floor, ceiling, signed_units, small, FitsSigned}
+use Rattle.decimal_input.proofs.Common.{w128, units_of, lt-ltb, leb_tells, le-div_iff_mul-le}
 use Rattle.std.specs.Prelude.{unsigned_abs}
 use Rattle.std.specs.Option.{option_map}
 use Rattle.std.specs.Bool.{beq}

@@ -25,14 +25,14 @@ pub use Rattle.deck_problems.specs.declared.decks.Decks.{Decks}
 pub use Rattle.deck_span.specs.{AreAlike}
 pub use Rattle.engine.specs.{Answers, AnswersBeside, AreDecksAs, AreDecksOf, AreItsSteps, ArePairOf, ArePutInTurn, AreTasks, AreViews, AreWatched, Case}
 pub use Rattle.engine.specs.{Checking, ChecksWritten, Comes, Comparing, CutOf, Decided, Defines, Due, GoesThrough, GoesWell, HasEnded, HasNoList, HeadlineOf}
-pub use Rattle.engine.specs.{IsCheck, IsDeck, IsDecksRefusal, IsDue, IsJobEnd, IsJobListing, IsLeft, IsListed, IsListingOf, IsMade, IsNamedFault, IsNoSecond}
-pub use Rattle.engine.specs.{IsPlain, IsPlainJob, IsReadingEnd, IsRunOf, IsRunResult, IsRunText, IsStopNumber, IsStopped, IsStored, IsUnlikeFault, IsValid}
-pub use Rattle.engine.specs.{IsValidJob, IsView, IsWatched, JobDefines, Jobs, Listing, Making, MayRead, NoWords, OneDeck, OneOf, OneSpan, OneSummary}
-pub use Rattle.engine.specs.{OneVerdict, ReadsFolder, ReadsNothing, Refuses, Second, Shows, SidePuts, SpanVerdict, StorageHolds, ViewPutsOf, Writing}
-pub use Rattle.engine.specs.{WrittenIsCertified, but_batch, case_decks, case_named, case_of, case_read, certified_line, decks_task, defined, files_if}
-pub use Rattle.engine.specs.{files_named, files_of, job_of, job_task, jobs_read, lines_of, listing_read, made_fault, made_model, made_task, model_line, named}
-pub use Rattle.engine.specs.{names_read, not_alike, of_both, of_first, of_second, second_by, span_task_of, steps_read, summed_text, task_of, unread}
-pub use Rattle.engine.specs.{verdict_line, verdict_status, views_in, zones_read, AreFirstViews, broken_off}
+pub use Rattle.engine.specs.{IsCheck, IsDeck, IsDecksRefusal, IsDue, IsJobEnd, IsJobListing, IsListed, IsListingOf, IsMade, IsNamedFault, IsNoSecond, IsPlain}
+pub use Rattle.engine.specs.{IsPlainJob, IsReadingEnd, IsRunOf, IsRunResult, IsRunText, IsStopNumber, IsStopped, IsUnlikeFault, IsValid, IsValidJob, IsView}
+pub use Rattle.engine.specs.{IsWatched, JobDefines, Jobs, Listing, Making, MayRead, NoWords, OneDeck, OneOf, OneSpan, OneSummary, OneVerdict, ReadsFolder}
+pub use Rattle.engine.specs.{ReadsNothing, Refuses, Second, Shows, SidePuts, SpanVerdict, StorageHolds, ViewPutsOf, Writing, WrittenIsCertified, broken_off}
+pub use Rattle.engine.specs.{but_batch, case_decks, case_named, case_of, case_read, certified_line, decks_task, defined, files_if, files_named, files_of}
+pub use Rattle.engine.specs.{job_of, job_task, jobs_read, lines_of, listing_read, made_fault, made_model, made_task, model_line, named, names_read, not_alike}
+pub use Rattle.engine.specs.{of_both, of_first, of_second, second_by, span_task_of, steps_read, summed_text, task_of, unread, verdict_line, verdict_status}
+pub use Rattle.engine.specs.{views_in, zones_read}
 unfoldable pub use Rattle.engine.specs.{second_in}
 pub use Rattle.engine.specs.Batched.{Batched}
 pub use Rattle.engine.specs.OneListing.{OneListing}

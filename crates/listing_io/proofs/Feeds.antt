@@ -1,12 +1,12 @@
 -- No line of a listing has a line feed, so the lines of its text are the listing's.
 use Rattle.listing_io.proofs.Common.{◌≡◌, ℕ, zero, suc, ◌+◌, ◌/◌, ◌%◌, ◌<◌, ◌≤◌, ◌^◌, Bool, true, false, cond, List, [], ◌∷◌, ◌++◌, codes, map, nat_abs, All}
 use Rattle.listing_io.proofs.Common.{refl, sym, ap, ◌∙◌, subst, arith, AllByRecursion, AllZip, recursion_from_All, flat_map-cons, lines, Bound, Dir, In, Out}
-use Rattle.listing_io.proofs.Common.{Term, Storage, ZoneFlow, term_name, TermPair, fixed_text, FlowModel, TimeStep, place, is_active, times}
-use Rattle.listing_io.proofs.Common.{ZonePair, zones_of_flow, ListedStep, Form, pair_line, Line, ended, text_of, numbers_text, first_line, step_line, head_form}
+use Rattle.listing_io.proofs.Common.{Term, Storage, ZoneFlow, term_name, TermPair, fixed_text, FlowModel, TimeStep, place, is_active, times, ZonePair}
+use Rattle.listing_io.proofs.Common.{zones_of_flow, ListedStep, Form, pair_line, Line, ended, text_of, numbers_text, first_line, step_line, head_form}
 use Rattle.listing_io.proofs.Common.{head_front, head_line, head_lines, head_pair, dir_front, term_form, term_lines, has_evt, flow_form, zone_front, zone_line}
-use Rattle.listing_io.proofs.Common.{zone_pair, step_lines, all_step_lines, end_line, listing, range_with_len, cell_count, IsForm, IsCellBound}
-use Rattle.listing_io.proofs.Common.{AreFlows, AreTerms, IsListedStep, AreListed, AreZonePairs, IsTime, IsWritable, ListingsAreReadAgain, inl, IsListedAt}
-use Rattle.listing_io.proofs.Common.{IsPairIf, model_line, all_terms, is_printed, each_lines}
+use Rattle.listing_io.proofs.Common.{zone_pair, step_lines, all_step_lines, end_line, listing, range_with_len, cell_count, IsForm, IsCellBound, AreFlows}
+use Rattle.listing_io.proofs.Common.{AreTerms, IsListedStep, AreListed, AreZonePairs, IsTime, IsWritable, ListingsAreReadAgain, inl, IsListedAt, IsPairIf}
+use Rattle.listing_io.proofs.Common.{model_line, all_terms, is_printed, each_lines}
 use Rattle.model_types.specs.declared.grid.Grid.{Grid}
 use Rattle.listing_io.proofs.Exactly.{IsApart, Without, Without-append, by_test, fixed_without, fits_wide, model_without, numbers_without}
 use Rattle.listing_io.proofs.Terms.{left_of, line_if, term_rows, IsTermPair, lines_in, lines_out, cell_lines}

@@ -1,8 +1,8 @@
 -- The digits of a text with a point write its number.
-use Rattle.listing_io.proofs.Common.{◌≡◌, ℕ, zero, suc, ◌+◌, ◌-◌, ◌*◌, ◌/◌, ◌%◌, ◌^◌, ◌<◌, ◌≤◌, true, false, List, [], ◌∷◌, ◌++◌, length}
-use Rattle.listing_io.proofs.Common.{replicate, get_or, drop, drop-cons, codes, decimal, nat_abs, nat_le, refl, sym, ap, ◌∙◌, arith, ℤ, pos, negsuc, add-one}
-use Rattle.listing_io.proofs.Common.{pow-suc, nat_tests, decimal_is_IsNumeral_wide, length-decimal-le_wide, append_assoc, drop_all, AllDigits}
-use Rattle.listing_io.proofs.Common.{digits_value_after, fixed_text, padded, with_byte, digits_behind, is_negative, value_of}
+use Rattle.listing_io.proofs.Common.{◌≡◌, ℕ, zero, suc, ◌+◌, ◌-◌, ◌*◌, ◌/◌, ◌%◌, ◌^◌, ◌<◌, ◌≤◌, true, false, List, [], ◌∷◌, ◌++◌, length, replicate, get_or}
+use Rattle.listing_io.proofs.Common.{drop, drop-cons, codes, decimal, nat_abs, nat_le, refl, sym, ap, ◌∙◌, arith, ℤ, pos, negsuc, add-one, pow-suc, nat_tests}
+use Rattle.listing_io.proofs.Common.{decimal_is_IsNumeral_wide, length-decimal-le_wide, append_assoc, drop_all, AllDigits, digits_value_after, fixed_text}
+use Rattle.listing_io.proofs.Common.{padded, with_byte, digits_behind, is_negative, value_of}
 use Rattle.std.specs.Char.{digit_value}
 use Rattle.std.proofs.lemmas.Nat.{pow-add}
 

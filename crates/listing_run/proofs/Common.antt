@@ -1,6 +1,6 @@
 -- Names that several proofs of this crate cite, of the crates below and of its own definitions, passed on from one place. Declares nothing.
-pub use Rattle.std.proofs.Common.{All, Bool, Contains, Err, List, None, Ok, Option, Result, Some, [], ap, arith, drop, get_or, inl, inr, length, map, pos, refl}
-pub use Rattle.std.proofs.Common.{rules, subst, suc, sym, true, ℕ, ℤ, ◌*ℤ◌, ◌++◌, ◌+◌, ◌-◌, ◌<◌, ◌^◌, ◌∙◌, ◌∷◌, ◌≡◌, ◌≤ℤ◌}
+pub use Rattle.std.proofs.Common.{All, Bool, Contains, Err, List, None, Ok, Option, Result, Some, [], ap, arith, drop, get_or, inl, inr, length, map, refl}
+pub use Rattle.std.proofs.Common.{rules, subst, suc, sym, true, ℕ, ℤ, ◌++◌, ◌+◌, ◌-◌, ◌<◌, ◌∙◌, ◌∷◌, ◌≡◌}
 pub use Rattle.std.proofs.lemmas.List.{append-nil, append_assoc, map-append}
 pub use Rattle.std.specs.Prelude.{IfErr, IfOk, IfSome, MatchResult, false, if◌then◌else◌, ◌⊎◌}
 pub use Rattle.budget_bounds.specs.declared.pair.Budget.{Budget}

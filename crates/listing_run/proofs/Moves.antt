@@ -1,11 +1,11 @@
 -- A step of a listing, by the clauses of the calls that gave its parts.
-use Rattle.listing_run.proofs.Common.{◌≡◌, ℕ, length, List, ◌∷◌, ℤ, Ok, Err, Result, subst, refl, ◌-◌, ◌<◌, inl, inr, All, arith}
-use Rattle.listing_run.proofs.Common.{Option, Some, None, [], Fraction, EnclosesSigned, Bound, NoBound, ZoneFlow, RoundsSettleBoth, lower_at, upper_at}
-use Rattle.listing_run.proofs.Common.{PairKind, entries_at, Budget, TimeStep, heads_of, variable_heads, exact_step, Solved, EachMember, each_member, of_member}
-use Rattle.listing_run.proofs.Common.{member_cells, cell_of_member, IsMove, EnclosesMoves, IsStepBy, edges_by, LiesWithin, WideKeepsSteps, Task, Step, IsActive}
-use Rattle.listing_run.proofs.Common.{HeadsEnclose, AreFlowsAt, IsStep, HasNoBound, no_heads, no_budget, no_zones, budget_at, Bounds, BoundsMoves, HasLargeFlow}
-use Rattle.listing_run.proofs.Common.{StopsAt, stop_of, pairs_of, IsSolved, FlowsEnclose, WideKeepsListings, deck_task, IfSome, Entries, FlowModel, cell_count}
-use Rattle.listing_run.proofs.Common.{times, EnclosesStep, ExactCell, Limits, Plain, Wide}
+use Rattle.listing_run.proofs.Common.{◌≡◌, ℕ, length, List, ◌∷◌, ℤ, Ok, Err, Result, subst, refl, ◌-◌, ◌<◌, inl, inr, All, arith, Option, Some, None, []}
+use Rattle.listing_run.proofs.Common.{Fraction, EnclosesSigned, Bound, NoBound, ZoneFlow, RoundsSettleBoth, lower_at, upper_at, PairKind, entries_at, Budget}
+use Rattle.listing_run.proofs.Common.{TimeStep, heads_of, variable_heads, exact_step, Solved, EachMember, each_member, of_member, member_cells, cell_of_member}
+use Rattle.listing_run.proofs.Common.{IsMove, EnclosesMoves, IsStepBy, edges_by, LiesWithin, WideKeepsSteps, Task, Step, IsActive, HeadsEnclose, AreFlowsAt}
+use Rattle.listing_run.proofs.Common.{IsStep, HasNoBound, no_heads, no_budget, no_zones, budget_at, Bounds, BoundsMoves, HasLargeFlow, StopsAt, stop_of}
+use Rattle.listing_run.proofs.Common.{pairs_of, IsSolved, FlowsEnclose, WideKeepsListings, deck_task, IfSome, Entries, FlowModel, cell_count, times}
+use Rattle.listing_run.proofs.Common.{EnclosesStep, ExactCell, Limits, Plain, Wide}
 use Rattle.zone_flows.specs.{EncloseExact, HeadsLieWithin}
 use Rattle.step_chain.specs.{FailsBy as StepFailsBy}
 use Rattle.problem_builder.specs.GridHeads.{IsNamed}

@@ -27,7 +27,7 @@ pub use Rattle.array_text.specs.{IsLine, IsShort, IsWord, IsWordByte, Line, Take
 unfoldable pub use Rattle.array_text.specs.{integer_word, line_text, number_after, numbered_lines, real_array, row_line, unread}
 pub use Rattle.bas_package.specs.{with_basics}
 unfoldable pub use Rattle.bas_package.specs.{bas_of, basics_of, head_item}
-pub use Rattle.decimal_input.specs.{IsDec, Ratio, is_digit, size}
+pub use Rattle.decimal_input.specs.{IsDec, Ratio, is_digit}
 unfoldable pub use Rattle.decimal_input.specs.{ratio}
 pub use Rattle.decimal_input.specs.declared.dec.Dec.{Dec}
 pub use Rattle.dis_package.specs.{begun, is_growth, is_time, kind_of, known, without_stresses}
@@ -63,7 +63,7 @@ unfoldable pub use Rattle.name_file.specs.{after_line, after_lines, after_packag
 pub use Rattle.name_file.specs.Pairs.{Pairs}
 pub use Rattle.name_file.specs.declared.package.Package.{Package}
 pub use Rattle.name_file.specs.declared.package.Package.TheVariants.{Bas, Chd, Dis, Drn, Evt, Ghb, Lpf, Rch, Riv, Wel}
-pub use Rattle.number_limits.specs.{is_one, is_positive, within}
+pub use Rattle.number_limits.specs.{is_positive, within}
 unfoldable pub use Rattle.number_limits.specs.{is_at_least, is_at_most}
 pub use Rattle.outside.specs.{File, FileSet, bytes_under, file_at, folder_name, with_limit, words}
 unfoldable pub use Rattle.outside.specs.{is_good_name}

@@ -1,10 +1,10 @@
 -- The file of a list package is read as written.
 use Rattle.model_text.proofs.Common.{◌≡◌, ℕ, suc, ◌^◌, ◌<◌, ◌≤◌, max, Bool, true, false, nat_le, fold, List, [], ◌∷◌, length, map, drop, All, Option, Some}
-use Rattle.model_text.proofs.Common.{None, is_some, Ok, refl, arith, codes, decimal, AllZip, flat_map, All-cons, nat_tests, Dec, is_word}
-use Rattle.model_text.proofs.Common.{Grid, cell_count, HasSize, Kind, Line, IsLine, text, digits_spell, count_is_word, word_by_test, list_item_2}
-use Rattle.model_text.proofs.Common.{list_item_5, period_list, list_lines, IsListOf, with_lists, Limits, Period, most_entries, entries_few, header_of}
-use Rattle.model_text.proofs.Common.{item_line, list_at, lists_of, CellId, numbers_of, heads_of, dec_at, cell_of, given_heads, wells, rivers, drains, generals}
-use Rattle.model_text.proofs.Common.{ListPackagesReadAsWritten, number_at, integer, with_list, ◌>>=◌, words, Takes, last_takes, line_takes}
+use Rattle.model_text.proofs.Common.{None, is_some, Ok, refl, arith, codes, decimal, AllZip, flat_map, All-cons, nat_tests, Dec, is_word, Grid, cell_count}
+use Rattle.model_text.proofs.Common.{HasSize, Kind, Line, IsLine, text, digits_spell, count_is_word, word_by_test, list_item_2, list_item_5, period_list}
+use Rattle.model_text.proofs.Common.{list_lines, IsListOf, with_lists, Limits, Period, most_entries, entries_few, header_of, item_line, list_at, lists_of}
+use Rattle.model_text.proofs.Common.{CellId, numbers_of, heads_of, dec_at, cell_of, given_heads, wells, rivers, drains, generals, ListPackagesReadAsWritten}
+use Rattle.model_text.proofs.Common.{number_at, integer, with_list, ◌>>=◌, words, Takes, last_takes, line_takes}
 use Rattle.list_package.specs.declared.header.Count.TheVariants.{Entries}
 use Rattle.model_text.proofs.FrameTexts.{decimal_item, no_keyword}
 use Rattle.list_package.specs.{period_at, periods_of}

@@ -1,9 +1,9 @@
 -- A cell without a refusal keeps what a problem asks of a cell alone.
 use Rattle.problem_builder.proofs.Common.{false, Bool, EnclosesSigned, cond, map, period_at, range_with_len, refl, start_head, storage_term}
 use Rattle.problem_builder.proofs.Common.{get_or-map-range_with_len, length-map-range_with_len, HeadsEnclose, In-map, face_pair, head_bound, start_bound}
-use Rattle.problem_builder.proofs.Common.{whole_cell, whole_fixed, whole_link, ◌≡◌, ℕ, ◌<◌, ◌≤◌, true, None, List, sym, subst, arith, All, ◌+◌, []}
-use Rattle.problem_builder.proofs.Common.{◌∷◌, ◌++◌, length, get_or, ap, ◌∙◌, pos, ◌==◌, list_any, Bound, Link, no_bound, lower_at, upper_at, LinkFits}
-use Rattle.problem_builder.proofs.Common.{FixedFits, CellFits, IsHead, Face, FlowModel, TimeStep, cell_count, is_active, is_variable, is_constant, FixedSource}
+use Rattle.problem_builder.proofs.Common.{whole_cell, whole_fixed, whole_link, ◌≡◌, ℕ, ◌<◌, ◌≤◌, true, None, List, sym, subst, arith, All, ◌+◌, [], ◌∷◌, ◌++◌}
+use Rattle.problem_builder.proofs.Common.{length, get_or, ap, ◌∙◌, pos, ◌==◌, list_any, Bound, Link, no_bound, lower_at, upper_at, LinkFits, FixedFits}
+use Rattle.problem_builder.proofs.Common.{CellFits, IsHead, Face, FlowModel, TimeStep, cell_count, is_active, is_variable, is_constant, FixedSource}
 use Rattle.problem_builder.proofs.Common.{local_entries, variable_faces, fixed_sources, ToConstant, ToGeneral, FromStorage, IsModel, IsEntryValid, dec_at, In}
 use Rattle.problem_builder.proofs.Common.{IsFaceOf, passing_are, end_within, face_term, AreGridHeads, IsTimeOf, fault_of, AreStartHeads, or_parts, cases_order}
 use Rattle.problem_builder.proofs.Common.{get_or_append_left, get_or_push, length_push, Filled, ints, map-range_with_len_more, capped_ordered, formulas_hold}

@@ -9,6 +9,7 @@ pub use Rattle.std.proofs.lemmas.List.{get_or_push, get_or_read, length-map, len
 pub use Rattle.std.proofs.lemmas.List.{take_more}
 pub use Rattle.std.proofs.lemmas.List.Elements.{All-append, All-filter, All-nil, All-replicate, All-weaker, filter-append, filter_map-append}
 pub use Rattle.std.proofs.lemmas.List.FromFn.{fill_by_all, get_or-map-range_with_len, length-map-range_with_len, map-range_with_len_more}
+pub use Rattle.std.proofs.lemmas.Nat.{div-add-mod', div-mul-add, mod-mul-add, mod_below}
 pub use Rattle.std.proofs.lemmas.Option.{none-some}
 pub use Rattle.std.specs.Int.{int_max, int_min, w64}
 pub use Rattle.std.specs.List.{AllZip, Contains, cons_option, filter, filter_map, find, flat_map, fold, list_any, range_with_len}
@@ -21,10 +22,10 @@ pub use Rattle.conductance_bounds.proofs.FaceBounds.{faces_enclose, layered, no_
 pub use Rattle.conductance_bounds.proofs.ModelBounds.{evap_holds, evaps_enclose, formulas_hold, recharges_enclose, storages_enclose}
 pub use Rattle.conductance_bounds.proofs.Ready.{delc_positive, delr_positive}
 pub use Rattle.conductance_bounds.proofs.SpanBounds.{above_gap, below_gap, equal_powers, thick_positive}
-pub use Rattle.conductance_bounds.specs.{AreThick, IsBed, IsColHalf, IsHalf, IsHeadUnits, IsUsable, IsVertHalf, Number, PairEncloses, Quotient, Term, Within}
-pub use Rattle.conductance_bounds.specs.{area_term, bed_of, bed_term, blend, bound, column_of, evap_formula, evap_term, face_term, part, recharge_formula}
-pub use Rattle.conductance_bounds.specs.{recharge_term, resistance_sum, row_of, small_flow, small_pair, storage_formula, storage_of, storage_term}
-pub use Rattle.conductance_bounds.specs.{storativity_term, sum_term, thick_span, thickness_of, vertical_half_term, vertical_of}
+pub use Rattle.conductance_bounds.specs.{AreThick, IsBed, IsColHalf, IsHalf, IsHeadUnits, IsUsable, IsVertHalf, Number, PairEncloses, Term, Within, area_term}
+pub use Rattle.conductance_bounds.specs.{blend, bound, column_of, evap_formula, evap_term, face_term, part, recharge_formula, recharge_term, row_of, small_flow}
+pub use Rattle.conductance_bounds.specs.{small_pair, storage_formula, storage_of, storage_term, storativity_term, sum_term, thick_span, thickness_of}
+pub use Rattle.conductance_bounds.specs.{vertical_of}
 unfoldable pub use Rattle.conductance_bounds.specs.{capped, capped_flow, given_pair, head_pair, power_term}
 pub use Rattle.conductance_bounds.specs.declared.pair.FlowPair.{FlowPair}
 pub use Rattle.conductance_bounds.specs.declared.pair.Pair.{Pair}

@@ -2,10 +2,8 @@
 use Rattle.problem_builder.proofs.Common.{◌≡◌, ℕ, ◌+◌, ◌<◌, inl, inr, true, Option, Some, None, sym, ap, ◌∙◌, arith, All, List, Face, Grid, FlowModel}
 use Rattle.problem_builder.proofs.Common.{cell_count, stride, span, has_after, faces, HasSize, is_active, In, All-In, IsFaceOf, faces_are, first_within}
 use Rattle.problem_builder.proofs.Common.{end_within, after_within, before_le, before_back, IsVariableCell, HasPair, Inputs, AreInputs, HasConductance, pair_at}
-use Rattle.problem_builder.proofs.Common.{AreTables, Axis, Row, Column, Vertical, get_or, length, subst}
+use Rattle.problem_builder.proofs.Common.{AreTables, Axis, Row, Column, Vertical, get_or, length, subst, ◌%◌, ◌≤◌, div-add-mod'}
 use Rattle.problem_builder.proofs.Members.{variable_active}
-use Rattle.std.proofs.Common.{◌%◌, ◌≤◌}
-use Rattle.std.proofs.lemmas.Nat.{div-add-mod'}
 use Rattle.problem_builder.specs.declared.tables.Tables.{Tables}
 
 -- What the tables of a run say of thicknesses and of faces.

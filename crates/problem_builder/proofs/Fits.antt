@@ -1,11 +1,11 @@
 -- Rivers, drains and evapotranspirations of a cell: bounds in order, heads in range.
 use Rattle.problem_builder.proofs.Common.{Pair, Encloses, Option, Ratio, map, FlowPair, PairEncloses, capped, cond_pair, head_bound, real_pair, unwrap_or}
-use Rattle.problem_builder.proofs.Common.{whole_drain, whole_evap, whole_river, ◌≡◌, ℕ, ◌≤◌, ◌^◌, Bool, Some, refl, sym, subst, arith, All, ℤ, pos, ◌≤ℤ◌}
-use Rattle.problem_builder.proofs.Common.{◌<◌, true, ◌-ℤ◌, ints, by_lt_z, none-some, Fraction, with_sign, number, size, IsSignedFloor, IsSignedCeiling}
-use Rattle.problem_builder.proofs.Common.{cancel_right, mul_mono_right, one_floor, one_ceiling, floor_ceiling_enclose, Dec, RiverFits, EvapFits, DrainFits}
-use Rattle.problem_builder.proofs.Common.{Entry, FlowModel, IsPositive, IsNotNegative, IsHeadNumber, EvapSource, RiverSource, as_river, local_entries}
-use Rattle.problem_builder.proofs.Common.{river_sources, evap_sources, IsEntryValid, IsEvapValid, DrainSource, as_drain, drain_sources, IsModel, IsPeriod}
-use Rattle.problem_builder.proofs.Common.{period_at, cell_count, is_variable, In-All, filter_map-In, Term, Number, evap_term, IsDepth, w64, den, capped_ordered}
+use Rattle.problem_builder.proofs.Common.{whole_drain, whole_evap, whole_river, ◌≡◌, ℕ, ◌≤◌, ◌^◌, Bool, Some, refl, sym, subst, arith, All, ℤ, pos, ◌≤ℤ◌, ◌<◌}
+use Rattle.problem_builder.proofs.Common.{true, ◌-ℤ◌, ints, by_lt_z, none-some, Fraction, with_sign, number, size, IsSignedFloor, IsSignedCeiling, cancel_right}
+use Rattle.problem_builder.proofs.Common.{mul_mono_right, one_floor, one_ceiling, floor_ceiling_enclose, Dec, RiverFits, EvapFits, DrainFits, Entry, FlowModel}
+use Rattle.problem_builder.proofs.Common.{IsPositive, IsNotNegative, IsHeadNumber, EvapSource, RiverSource, as_river, local_entries, river_sources}
+use Rattle.problem_builder.proofs.Common.{evap_sources, IsEntryValid, IsEvapValid, DrainSource, as_drain, drain_sources, IsModel, IsPeriod, period_at}
+use Rattle.problem_builder.proofs.Common.{cell_count, is_variable, In-All, filter_map-In, Term, Number, evap_term, IsDepth, w64, den, capped_ordered}
 use Rattle.problem_builder.proofs.Common.{evap_holds}
 use Rattle.conductance_bounds.proofs.Manual.{pair_encloses}
 use Rattle.model_types.specs.declared.entry.Entry.TheVariants.{River as RiverEntry, Drain as DrainEntry}

@@ -11,4 +11,3 @@ unfoldable pub use Rattle.problem_hull.specs.{sum_refusal}
 pub use Rattle.step_problem.specs.{CellFits, DrainFits, EvapFits, FixedFits, IsHead, IsProblem, LinksFit, RiverFits, conductance_of, entries_at, flow_of}
 pub use Rattle.step_problem.specs.{link_at, no_entries}
 pub use Rattle.step_problem.specs.Entries.{Entries}
-pub use Rattle.step_problem.specs.declared.entry.Link.{Link}

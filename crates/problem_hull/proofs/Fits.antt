@@ -1,8 +1,9 @@
 -- The hull of two problems is a problem, if the sums of its cells fit.
 use Rattle.problem_hull.proofs.Common.{◌≡◌, ◌<◌, ◌≤◌, ◌^◌, ℕ, ℤ, arith, List, length, min, max, sym, subst, get_or, All, Contains, int_min, int_max, ints}
-use Rattle.problem_hull.proofs.Common.{clamps, Link, Entries, entries_at, link_at, IsHead, FixedFits, RiverFits, DrainFits, EvapFits, CellFits, LinksFit}
-use Rattle.problem_hull.proofs.Common.{IsProblem, conductance_of, flow_of, IsHullPair, fixed_hull, river_hull, drain_hull, evap_hull, None, ap, cell_hull}
-use Rattle.problem_hull.proofs.Common.{cell_shape, first_refusal, sum_refusal, IsHull}
+use Rattle.problem_hull.proofs.Common.{clamps, Entries, entries_at, link_at, IsHead, FixedFits, RiverFits, DrainFits, EvapFits, CellFits, LinksFit, IsProblem}
+use Rattle.problem_hull.proofs.Common.{conductance_of, flow_of, IsHullPair, fixed_hull, river_hull, drain_hull, evap_hull, None, ap, cell_hull, cell_shape}
+use Rattle.problem_hull.proofs.Common.{first_refusal, sum_refusal, IsHull}
+use Rattle.step_problem.specs.declared.entry.Link.{Link}
 use Rattle.step_problem.specs.declared.entry.Fixed.{Fixed}
 use Rattle.step_problem.specs.declared.entry.River.{River}
 use Rattle.step_problem.specs.declared.entry.Drain.{Drain}

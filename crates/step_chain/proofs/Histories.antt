@@ -1,8 +1,8 @@
 -- Histories between two decks lie within the heads of their steps, by induction on the time steps.
-use Rattle.step_chain.proofs.Common.{Limits, ◌-◌, ◌<◌, ℕ, inl, inr, List, [], ◌∷◌, Contains, refl, arith, ℤ, Fraction}
-use Rattle.step_chain.proofs.Common.{Bound, FlowModel, TimeStep, start_head, heads_of, AreGridHeads, HeadsEnclose, AreDecks, IsBefore}
-use Rattle.step_chain.proofs.Common.{StartHeadsFit, StartHeadsEnclose, HasCellsOf, between_cells, cell_of_member, encloses_member, encloses_first, Solved}
-use Rattle.step_chain.proofs.Common.{LiesWithin, StepEncloses, HeadsFit, PairKind, HistoriesLieWithin, two, AreSteps, LieWithin, times, In-Contains}
+use Rattle.step_chain.proofs.Common.{Limits, ◌-◌, ◌<◌, ℕ, inl, inr, List, [], ◌∷◌, Contains, refl, arith, ℤ, Fraction, Bound, FlowModel, TimeStep, start_head}
+use Rattle.step_chain.proofs.Common.{heads_of, AreGridHeads, HeadsEnclose, AreDecks, IsBefore, StartHeadsFit, StartHeadsEnclose, HasCellsOf, between_cells}
+use Rattle.step_chain.proofs.Common.{cell_of_member, encloses_member, encloses_first, Solved, LiesWithin, StepEncloses, HeadsFit, PairKind, HistoriesLieWithin}
+use Rattle.step_chain.proofs.Common.{two, AreSteps, LieWithin, times, In-Contains}
 use Rattle.model_types.proofs.Members.{Contains-In}
 use Rattle.deck_span.specs.{SolvesBetweenFrom}
 

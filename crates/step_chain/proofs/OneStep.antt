@@ -4,9 +4,9 @@ use Rattle.step_chain.proofs.Common.{Entries, Edges, lower_at, upper_at, Settled
 use Rattle.step_chain.proofs.Common.{TimeStep, cell_count, is_active, is_variable, Decks, IsBefore, ProblemFits, ConstantPairIsOne, ConstantPairFits, Solved}
 use Rattle.step_chain.proofs.Common.{bound_at, AreHeadsOf, StepIsOne, HeadsFit, WideKeepsSteps, IsPairOf, clamped_fits, ◌^◌, true, pos, ◌*ℤ◌, ◌≤ℤ◌, Fraction}
 use Rattle.step_chain.proofs.Common.{IsCertificate, AreWords, CertificateEncloses, FlowModel, is_constant, index_of, exact_step, variable_heads, IsActive}
-use Rattle.step_chain.proofs.Common.{ProblemEncloses, ConstantPairEncloses, EnclosesSteps, HasCellsOf, constant_same, each_member, of_member}
-use Rattle.step_chain.proofs.Common.{member_cells, IsMove, EnclosesMove, EnclosesMoves, StepEncloses, PairKind, settled, certified, EnclosesStep, CellEncloses}
-use Rattle.step_chain.proofs.Common.{LiesBetween, constant_head, EnclosesSolutions, EnclosesSigned, same_problem}
+use Rattle.step_chain.proofs.Common.{ProblemEncloses, ConstantPairEncloses, EnclosesSteps, HasCellsOf, constant_same, each_member, of_member, member_cells}
+use Rattle.step_chain.proofs.Common.{IsMove, EnclosesMove, EnclosesMoves, StepEncloses, PairKind, settled, certified, EnclosesStep, CellEncloses, LiesBetween}
+use Rattle.step_chain.proofs.Common.{constant_head, EnclosesSolutions, EnclosesSigned, same_problem}
 use Rattle.step_chain.proofs.Limits.{cut_by, held_by, uncut_by}
 use Rattle.deck_problems.proofs.Counted.{problem_count}
 use Rattle.step_chain.proofs.Assembled.{active_constant, heads_in_range, index_below, count_is, number_is}

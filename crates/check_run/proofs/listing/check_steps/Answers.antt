@@ -1,6 +1,7 @@
-use Rattle.check_run.proofs.Common.{◌∙◌, ap, ListedStep, ℕ, ◌<◌, ◌≤◌, arith, length, refl, subst, sym, List, option_map, Bound, AreGridHeads, HeadsEnclose, start_head, EachMember}
-use Rattle.check_run.proofs.Common.{step_in, digits_of, AreDeckTables, AreStartHeadsFor, IfOk-weaker}
-use Rattle.check_run.proofs.Checking.{at_first, ends_certified, ends_enclosed, ends_history, flows_here, goes_here, listed_at, not_certified, step_there, stops_here}
+use Rattle.check_run.proofs.Common.{◌∙◌, ap, ListedStep, ℕ, ◌<◌, ◌≤◌, arith, length, refl, subst, sym, List, option_map, Bound, AreGridHeads, HeadsEnclose}
+use Rattle.check_run.proofs.Common.{start_head, EachMember, step_in, digits_of, AreDeckTables, AreStartHeadsFor, IfOk-weaker}
+use Rattle.check_run.proofs.Checking.{at_first, ends_certified, ends_enclosed, ends_history, flows_here, goes_here, listed_at, not_certified, step_there}
+use Rattle.check_run.proofs.Checking.{stops_here}
 use Rattle.check_run.proofs.RunText.{grid_of}
 use Rattle.check_run.proofs.listing.check_steps.Goals as goal
 
