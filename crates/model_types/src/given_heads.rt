@@ -21,6 +21,7 @@ pub struct GivenHeads {
 
 impl GivenHeads {
     /// Before the first period, where no list has named a cell.
+    #[tactic(auto, using(crate::proofs::GivenTables::heads_are, crate::proofs::GivenTables::table_none))]
     pub fn new(alloc: Global, model: &FlowModel) -> GivenHeads
         requires size { HasSize model.now.grid }
         ensures period { result.period ≡ 0 }
@@ -144,6 +145,7 @@ pub(crate) fn kind_by(model: &FlowModel, cell: u32, given: bool) -> Kind
 }
 
 // Whether a list of a period up to this one names the cell.
+#[tactic(auto, using(crate::proofs::GivenTables::given_among))]
 fn is_given(model: &FlowModel, period: u32, cell: u32) -> bool
     ensures { result ≡ is_given model.now period cell }
 {

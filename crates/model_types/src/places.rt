@@ -5,6 +5,7 @@ ghost use Rattle.model_types.specs.{cell_count, cell_number, layer_of, row_of, c
 use crate::grid::{CellId, Grid};
 
 /// The cell in a layer, a row and a column, each counted from 1.
+#[tactic(auto, using(crate::proofs::Numbering::cell_leads_back))]
 pub fn cell_of(grid: &Grid, layer: u32, row: u32, col: u32) -> CellId
     requires size { HasSize grid.now }
     requires place { IsPlace grid.now layer row col }
@@ -16,6 +17,7 @@ pub fn cell_of(grid: &Grid, layer: u32, row: u32, col: u32) -> CellId
 }
 
 /// The layer, the row and the column of a cell, each counted from 1.
+#[tactic(auto, using(crate::proofs::Numbering::place_gives))]
 pub fn place_of(grid: &Grid, cell: CellId) -> [u32; 3]
     requires size { HasSize grid.now }
     requires cell { cell.0 < cell_count grid.now }

@@ -14,6 +14,7 @@ pub struct TimeStep {
 }
 
 /// All time steps of a model, in order.
+#[tactic(auto, using(crate::proofs::StepLists::steps_more, crate::proofs::StepLists::whole_count))]
 pub fn times(alloc: Global, model: &FlowModel) -> Result<Vec<TimeStep>, AllocError>
     requires few { length model.now.periods ≤ 1000 }
     ensures times { IfOk result (λ steps. steps.items ≡ times model.now) }

@@ -1,6 +1,6 @@
 use Rattle.model_types.proofs.Common.{length, refl, ap, ◌∙◌, arith, steps_of, range_with_len, flat_map}
 use Rattle.model_types.specs.{times}
-use Rattle.model_types.proofs.StepLists.{steps_more, whole_count}
+use Rattle.model_types.proofs.StepLists.{steps_more}
 use Rattle.model_types.proofs.time_steps.times.Goals as goal
 
 pub loop-p-preserved : goal.loop-p-preserved
@@ -11,7 +11,3 @@ pub returns-clause-times : goal.returns-clause-times
 unfolding times
 returns-clause-times c =
     c.loop-p.invariant ∙ ap (λ k. flat_map (steps_of c.args.model.now) (range_with_len 1 k)) (omega (arith, c.loop-p-test.false, c.loop-p.auto.p-end, ap length c.as_slice-periods.ensures))
-
-pub returns-clause-count : goal.returns-clause-count
-returns-clause-count c =
-    whole_count c.args.model.now c.loop-p.p _ c.loop-p.invariant (omega (arith, c.loop-p-test.false, c.loop-p.auto.p-end, ap length c.as_slice-periods.ensures))
