@@ -1,7 +1,8 @@
 -- The flows of a cell's entries, list by list, are the single flows of each term; so each sum gains those of its term.
 use Rattle.budget_bounds.proofs.Common.{◌≡◌, ◌+ℤ◌, refl, sym, ap, ◌∙◌, arith, false, List, [], ◌∷◌, map, ℤ, pos, ints, filter, Fixed, Flow, Dir, Term, Storage}
 use Rattle.budget_bounds.proofs.Common.{ConstantHead, Wells, Drains, RiverLeakage, HeadDepBounds, Recharge, Et, Entries, TermPair, singles, parts, part}
-use Rattle.budget_bounds.proofs.Common.{is_term, flow_pair, capped, plus_pair, fixed_of, entry_pair, flows_of, ◌++◌, append-nil}
+use Rattle.budget_bounds.proofs.Common.{fixed_term, flow_term, is_term, flow_pair, capped, plus_pair, fixed_of, entry_pair, flows_of, ◌++◌, append-nil}
+use Rattle.budget_bounds.proofs.Common.{FixedKind, FlowKind}
 use Rattle.budget_bounds.proofs.Caps.{capped_twice, filter_all, parts_lo, parts_hi}
 use Rattle.step_problem.specs.{drain_flow as drain_bound, evap_flow as evap_bound, fixed_flow as fixed_bound, river_flow as river_bound}
 use Rattle.step_problem.specs.declared.entry.FixedKind.TheVariants as kinds
@@ -14,11 +15,20 @@ filter_none (x ∷ xs) = filter_none xs
 -- no entries to known heads, and no constant flows, are of another term
 no_fixed : (t : Term) → is_term t Storage ≡ false → is_term t ConstantHead ≡ false → is_term t HeadDepBounds ≡ false → (xs : List Fixed) → fixed_of t xs ≡ []
 no_fixed t a b d [] = refl
-no_fixed t a b d (x ∷ xs) = grind (arith, no_fixed t a b d xs)
+no_fixed t a b d (x ∷ xs) = rw (by_kind x.kind) (no_fixed t a b d xs)
+  where
+    by_kind : (k : FixedKind) → is_term t (fixed_term k) ≡ false
+    by_kind kinds.Storage = a
+    by_kind kinds.Constant = b
+    by_kind kinds.General = d
 
 no_flows : (t : Term) → is_term t Wells ≡ false → is_term t Recharge ≡ false → (xs : List Flow) → flows_of t xs ≡ []
 no_flows t a b [] = refl
-no_flows t a b (x ∷ xs) = grind (arith, no_flows t a b xs)
+no_flows t a b (x ∷ xs) = rw (by_kind x.kind) (no_flows t a b xs)
+  where
+    by_kind : (k : FlowKind) → is_term t (flow_term k) ≡ false
+    by_kind packages.Wells = a
+    by_kind packages.Recharge = b
 
 module _ (c : Entries) (l u : ℤ) where
   abbrev five_lists : Term → List TermPair

@@ -15,7 +15,9 @@ pub use Rattle.cell_balance.specs.{RiverEncloses, cell_at, drain_flow, evap_flow
 pub use Rattle.step_problem.specs.{entries_at, lower_at, no_entries, upper_at}
 pub use Rattle.step_problem.specs.Entries.{Entries}
 pub use Rattle.step_problem.specs.declared.entry.Fixed.{Fixed}
+pub use Rattle.step_problem.specs.declared.entry.FixedKind.{FixedKind}
 pub use Rattle.step_problem.specs.declared.entry.Flow.{Flow}
+pub use Rattle.step_problem.specs.declared.entry.FlowKind.{FlowKind}
 pub use Rattle.step_problem.specs.declared.place.Dir.{Dir}
 pub use Rattle.step_problem.specs.declared.place.Dir.TheVariants.{In, Out}
 pub use Rattle.step_problem.specs.declared.place.Term.{Term}

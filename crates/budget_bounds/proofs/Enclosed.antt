@@ -5,9 +5,8 @@ use Rattle.budget_bounds.proofs.Common.{HeadDepBounds, Recharge, Et, Entries, en
 use Rattle.budget_bounds.proofs.Common.{flow_pair, parts, term_pair, AreWithin, HeadsAreWithin, exact_part, entry_pair, exact_singles, exact_term, place_of}
 use Rattle.budget_bounds.proofs.Common.{◌>>=◌, all_terms, bounds_in, budget_of, is_small, no_pair, term_of, terms_of, too_large, EnclosesBudgets, CoverEncloses}
 use Rattle.budget_bounds.proofs.Common.{Reaches, total_below, ExactFlow, ExactFixed, ExactCell, cell_at, no_cell, fixed_flow, river_flow, drain_flow, evap_flow}
-use Rattle.budget_bounds.proofs.Common.{FlowEncloses, FixedEncloses, RiverEncloses, DrainEncloses, EvapEncloses, CellEncloses, EnclosesStep}
-use Rattle.step_problem.specs.declared.entry.FixedKind.{FixedKind}
-use Rattle.step_problem.specs.declared.entry.FlowKind.{FlowKind}
+use Rattle.budget_bounds.proofs.Common.{FlowEncloses, FixedEncloses, RiverEncloses, DrainEncloses, EvapEncloses, CellEncloses, EnclosesStep, FixedKind}
+use Rattle.budget_bounds.proofs.Common.{FlowKind}
 use Rattle.decimal_input.specs.{Fraction, fraction_total, EnclosesSigned}
 use Rattle.cell_balance.proofs.EntryBounds.{bounds_hold}
 use Rattle.cell_balance.proofs.Zips.{AllZip-at, AllZip-length}

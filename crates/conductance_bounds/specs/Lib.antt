@@ -11,8 +11,7 @@ pub use Rattle.conductance_bounds.specs.Branches.{storativity_exact, storativity
 pub use Rattle.conductance_bounds.specs.Branches.{vertical_k_term, vertical_of, vertical_term}
 pub use Rattle.conductance_bounds.specs.Calls.{IsBed, IsColHalf, IsHalf, IsThickness, IsVertHalf, IsZero, LiesWithin}
 pub use Rattle.conductance_bounds.specs.Formulas.{AreThick, EvapsEnclose, FacesEnclose, FormulasHold, HeadsEnclose, RechargesEnclose, StoragesEnclose}
-pub use Rattle.conductance_bounds.specs.Formulas.{area_term, bed_span, bed_term, column_k_term, evap_term, face_term, recharge_term, storage_term, thick_span}
-pub use Rattle.conductance_bounds.specs.Formulas.{thick_term, vertical_half_term}
+pub use Rattle.conductance_bounds.specs.Formulas.{area_term, bed_span, column_k_term, evap_term, face_term, recharge_term, storage_term, thick_span, thick_term}
 unfoldable pub use Rattle.conductance_bounds.specs.Formulas.{span}
 pub use Rattle.conductance_bounds.specs.Intervals.{AreBounds, IsOrdered}
 unfoldable pub use Rattle.conductance_bounds.specs.Intervals.{reach}

@@ -1,7 +1,7 @@
 -- Two models are alike exactly where they share each package.
 use Rattle.deck_alike.proofs.Common.{◌≡◌, suc, List, [], ◌∷◌, length, refl, ap, All, lit<, AllZip, All-nil, All-cons, Package, Dis, Bas, Lpf, Wel, Riv, Drn}
 use Rattle.deck_alike.proofs.Common.{Ghb, Rch, Chd, Evt, FlowModel, Period, Shares, SharesBounds, SharesEvaporation, SharesGrid, SharesIn, SharesProperties}
-use Rattle.deck_alike.proofs.Common.{SharesTimes, reading_order, AreAlike, ArePeriodsAlike, frame}
+use Rattle.deck_alike.proofs.Common.{no_stresses, SharesTimes, reading_order, AreAlike, ArePeriodsAlike, frame}
 
 module _ {X : Type 0} where
   each_of : (R S : X → X → Type 0) → ((x y : X) → R x y → S x y) → (xs ys : List X) → AllZip R xs ys → AllZip S xs ys
@@ -18,7 +18,23 @@ module _ {X : Type 0} where
 
 period_alike : (p q : Period) → SharesIn Dis p q → SharesIn Wel p q → SharesIn Riv p q → SharesIn Drn p q → SharesIn Ghb p q → SharesIn Chd p q →
     SharesIn Rch p q → SharesIn Evt p q → ArePeriodsAlike p q
-period_alike p q d w r n g c h e = grind (arith)
+period_alike p q d w r n g c h e = record {
+  same = λ i. record {
+    perlen = d.perlen i;
+    nstp = d.nstp i;
+    tsmult = d.tsmult i;
+    steady = d.steady i;
+    stresses = record no_stresses { irch = h.irch i; exdp = e.exdp i; ievt = e.ievt i };
+  };
+  wells = w;
+  rivers = r;
+  drains = n;
+  generals = g;
+  given = c;
+  recharge = h.recharge;
+  surf = e.surf;
+  evtr = e.evtr;
+}
 
 joined : (ps qs : List Period) → AllZip (SharesIn Dis) ps qs → AllZip (SharesIn Wel) ps qs → AllZip (SharesIn Riv) ps qs → AllZip (SharesIn Drn) ps qs →
     AllZip (SharesIn Ghb) ps qs → AllZip (SharesIn Chd) ps qs → AllZip (SharesIn Rch) ps qs → AllZip (SharesIn Evt) ps qs → AllZip ArePeriodsAlike ps qs
@@ -29,10 +45,20 @@ joined (p ∷ ps) (q ∷ qs) d w r n g c h e = (period_alike p q d.0 w.0 r.0 n.0
 
 -- what the frames of two periods say of a package
 times_shared : (p q : Period) → ArePeriodsAlike p q → SharesTimes p q
-times_shared p q h = grind (arith)
+times_shared p q h = record {
+  perlen = ap (λ (r : Period). r.perlen) h.same;
+  nstp = ap (λ (r : Period). r.nstp) h.same;
+  tsmult = ap (λ (r : Period). r.tsmult) h.same;
+  steady = ap (λ (r : Period). r.steady) h.same;
+}
 
 evaporation_shared : (p q : Period) → ArePeriodsAlike p q → SharesEvaporation p q
-evaporation_shared p q h = grind (arith)
+evaporation_shared p q h = record {
+  surf = h.surf;
+  evtr = h.evtr;
+  exdp = ap (λ (r : Period). r.stresses.exdp) h.same;
+  ievt = ap (λ (r : Period). r.stresses.ievt) h.same;
+}
 
 module _ (a b : FlowModel) where
   frames : SharesGrid a b → SharesBounds a b → SharesProperties a b → b.nrchop ≡ a.nrchop → b.nevtop ≡ a.nevtop → frame b ≡ frame a

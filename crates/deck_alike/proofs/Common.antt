@@ -11,7 +11,7 @@ pub use Rattle.deck_alike.specs.{AreArraysSame, AreSame, Finds, InOrder, IsCell,
 pub use Rattle.deck_alike.specs.{IsLayerCell, IsListCell, IsPeriodCell, Shares, SharesBounds, SharesEvaporation, SharesGrid, SharesIn, SharesOptions}
 pub use Rattle.deck_alike.specs.{SharesProperties, SharesSizes, SharesTimes, apart, array_at, bottoms, earlier, named, properties, reading_order}
 pub use Rattle.deck_span.specs.{AreAlike, AreEntriesAlike, AreGivenAlike, ArePeriodsAlike, AreRatesAlike, frame}
-pub use Rattle.model_types.specs.{cell_count, cell_of, layer_size, no_number}
+pub use Rattle.model_types.specs.{cell_count, cell_of, layer_size, no_number, no_stresses}
 pub use Rattle.model_types.specs.declared.grid.CellId.{CellId}
 pub use Rattle.model_types.specs.declared.model.FlowModel.{FlowModel}
 pub use Rattle.model_types.specs.declared.period.Period.{Period}

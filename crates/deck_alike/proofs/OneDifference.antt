@@ -1,8 +1,9 @@
 -- Two models have at most one first difference.
 use Rattle.deck_alike.proofs.Common.{◌≡◌, ℕ, ◌<◌, List, [], ◌∷◌, Option, Some, None, take, subst, sym, ap, ◌∙◌, arith, inl, inr, Dec, Package, Dis, Lpf}
 use Rattle.deck_alike.proofs.Common.{FlowModel, Period, cell_count, layer_size, AreSame, IsFirst, InOrder, IsFirstOfLayers, IsLayerCell, IsListCell, named}
-use Rattle.deck_alike.proofs.Common.{IsCellIn, IsHeadCell, IsPeriodCell, cases_order, Bas, Wel, Riv, Drn, Ghb, Rch, Chd, Evt, CellId, All-head, All-tail}
-use Rattle.deck_alike.proofs.Common.{AreGivenAlike, IsCell, bottoms, properties, AreEntriesAlike, Shares, reading_order, cell_of, IsFirstDifference}
+use Rattle.deck_alike.proofs.Common.{SharesIn, IsCellIn, IsHeadCell, IsPeriodCell, cases_order, Bas, Wel, Riv, Drn, Ghb, Rch, Chd, Evt, CellId, All-head}
+use Rattle.deck_alike.proofs.Common.{All-tail, AreGivenAlike, IsCell, bottoms, properties, AreEntriesAlike, AreRatesAlike, array_at, Shares, reading_order}
+use Rattle.deck_alike.proofs.Common.{cell_of, IsFirstDifference}
 use Rattle.std.specs.Prelude.{All, ◌/◌, ◌⊎◌, zero, suc, slice_get, ◌≤◌}
 use Rattle.deck_alike.specs.declared.difference.Difference.{Difference}
 use Rattle.deck_alike.proofs.Layers.{first_is_one}
@@ -24,10 +25,15 @@ second_one : {X : Type 0} (R : X → X → Type 0) (xs ys : List X) (k l : ℕ) 
 second_one R xs ys k l f g = same_some f.second g.second (sym f.of_second ∙ ap (slice_get ys) (first_is_one R xs ys k l f g) ∙ g.of_second)
 
 list_one : {X : Type 0} (R : X → X → Type 0) (number : ℕ → X → ℕ) (cells : ℕ) (xs ys : List X) (c d : Option CellId) → IsListCell R number cells xs ys c → IsListCell R number cells xs ys d → c ≡ d
-list_one R number cells xs ys c d = grind (arith, in_order, none_one, first_is_one, second_one)
+list_one R number cells xs ys c d = in_order (none_one c d) (λ f g.
+    f.names ∙ ap (λ k. named cells (number k f.first.second)) (first_is_one R xs ys f.place g.place f.first g.first)
+    ∙ ap (λ y. named cells (number g.place y)) (second_one R xs ys f.place g.place f.first g.first) ∙ sym g.names)
 
 layers_one : (size : ℕ) (xss yss : List (List Dec)) (k l : ℕ) → IsFirstOfLayers size xss yss k → IsFirstOfLayers size xss yss l → k ≡ l
-layers_one size xss yss k l f g = grind (arith, first_is_one)
+layers_one size xss yss k l f g = by_order (f.others g.array l g.first) (g.others f.array k f.first)
+  where
+    same_array : f.array ≡ g.array → k ≡ l
+    same_array e = first_is_one AreSame _ _ k l (subst (λ i. IsFirst AreSame (array_at xss i) (array_at yss i) k) e f.first) g.first
 
     by_order : (k / size < l / size) ⊎ ((k / size ≡ l / size) × (f.array ≤ g.array)) → (l / size < k / size) ⊎ ((l / size ≡ k / size) × (g.array ≤ f.array)) → k ≡ l
     by_order (inl a) (inl b) = absurd (omega (arith, a, b))
@@ -58,10 +64,17 @@ in_one Drn cells p q c d f g = list_one AreEntriesAlike (λ place x. cell_of x) 
 in_one Ghb cells p q c d f g = list_one AreEntriesAlike (λ place x. cell_of x) cells p.stresses.generals q.stresses.generals c d f g
 in_one Chd cells p q c d f g = list_one AreGivenAlike (λ place x. x.cell.0) cells p.stresses.given q.stresses.given c d f g
 in_one Rch cells p q c d f g = in_order (none_one c d) (list_one AreSame (λ place y. place) cells p.stresses.irch q.stresses.irch c d) f g
-in_one Evt cells p q c d f g = grind (arith, in_order, none_one, list_one)
+in_one Evt cells p q c d f g =
+    in_order (none_one c d) (in_order (list_one AreRatesAlike (λ place y. place) cells p.stresses.evtr q.stresses.evtr c d)
+    (in_order (list_one AreSame (λ place y. place) cells p.stresses.exdp q.stresses.exdp c d) (list_one AreSame (λ place y. place) cells p.stresses.ievt q.stresses.ievt c d))) f g
 
 period_one : (kind : Package) (cells : ℕ) (ps qs : List Period) (c d : Option CellId) → IsPeriodCell kind cells ps qs c → IsPeriodCell kind cells ps qs d → c ≡ d
-period_one kind cells ps qs c d f g = grind (arith, second_one, same_some, first_is_one, in_one)
+period_one kind cells ps qs c d f g =
+    let seconds = second_one (SharesIn kind) ps qs f.period g.period f.first g.first in
+    let firsts : f.first.first ≡ g.first.first = same_some f.first.first g.first.first (sym f.first.of_first ∙ ap (slice_get ps) (first_is_one (SharesIn kind) ps qs f.period g.period f.first g.first) ∙ g.first.of_first) in
+    let P : Period → Type 0 = λ p. IsCellIn kind cells p f.first.second c in
+    let Q : Period → Type 0 = λ q. IsCellIn kind cells g.first.first q c in
+    in_one kind cells g.first.first g.first.second c d (subst Q seconds (subst P firsts f.names)) g.names
 
 cell_one : (kind : Package) (a b : FlowModel) (c d : Option CellId) → IsCell kind a b c → IsCell kind a b d → c ≡ d
 cell_one kind a b c d = in_order (head_one kind a b c d) (in_order (none_one c d) (period_one kind (cell_count b.grid) a.periods b.periods c d))

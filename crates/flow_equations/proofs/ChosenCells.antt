@@ -16,7 +16,13 @@ data Chosen (m : FlowModel) (option : ℤ) (layers : List ℤ) (c : ℕ) : Type 
   ByHeight : option ≡ pos 3 → is_active m c ≡ true → is_highest m c ≡ true → Chosen m option layers c
 
 chosen_by : (m : FlowModel) (option : ℤ) (layers : List ℤ) (c : ℕ) → is_chosen m option layers c ≡ true → Chosen m option layers c
-chosen_by m option layers c e = grind (arith, or_cases, and_parts, int_is, eqb-true)
+chosen_by m option layers c e = elim (or_cases _ _ e) [
+  | inl first ↦ elim (or_cases _ _ first) [
+    | inl top ↦ (let (o, l) = and_parts _ _ top in ByTop (int_is option 1 o) (eqb-true (layer_of m.grid c) 0 l))
+    | inr name ↦ (let (o, l) = and_parts _ _ name in ByName (int_is option 2 o) (int_is _ _ l))
+  ]
+  | inr high ↦ (let (before, h) = and_parts _ _ high in let (o, a) = and_parts _ _ before in ByHeight (int_is option 3 o) a h)
+]
 
 -- a test that holds at k below n
 any_at : (p : ℕ → Bool) (n k : ℕ) → k < n → p k ≡ true → list_any p (range_with_len 0 n) ≡ true

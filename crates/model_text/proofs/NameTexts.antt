@@ -11,7 +11,10 @@ use Rattle.model_text.proofs.PackageTexts.{type_is_word, unit_is_word, type_is_i
 use Rattle.model_text.proofs.PackageTexts.{item_found}
 
 good_byte : (b : ℕ) → IsWordByte b → (nat_le 33 b && nat_le b 126) ≡ true
-good_byte b k = grind (arith, nat_le, nat_tests)
+good_byte b k =
+    let low : nat_le 33 b ≡ true = grind (arith, nat_tests, k.printable.0) in
+    let high : nat_le b 126 ≡ true = grind (arith, nat_tests, k.printable.1) in
+    rw (low, high) refl
 
 good_name : (w : List ℕ) → IsFileName w → is_good_name w ≡ true
 unfolding is_good_name

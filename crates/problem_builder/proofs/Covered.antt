@@ -25,7 +25,8 @@ not_or false true = refl
 not_or false false = refl
 
 any_more : (m : FlowModel) (k place : ℕ) → any_above m (suc k) place ≡ (any_above m k place || is_active m (k * layer_size m.grid + place))
-any_more m k place = grind (arith, range_last, list_any-append, or_false)
+any_more m k place = ap (list_any (λ l. is_active m (l * layer_size m.grid + place))) (range_last k) ∙ list_any-append (λ l. is_active m (l * layer_size m.grid + place)) (range_with_len 0 k) (k ∷ [])
+    ∙ or_false (any_above m k place) (is_active m (k * layer_size m.grid + place))
 
 module _ (m : FlowModel) (c : ℕ) (size : HasSize m.grid) where
   abbrev L : ℕ

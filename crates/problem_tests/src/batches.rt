@@ -5,7 +5,7 @@ use batch_book::{Jobs, run_batch};
 use std::alloc::{AllocError, Global};
 use std::sync::Wait;
 use std::thread::Threads;
-use test_lines::{Count, CountingGate, Page, number_at};
+use test_lines::{Count, Page, number_at};
 
 /// Jobs, each of whose ends is the square of the job's number. The first calls have no memory.
 #[derive(Drop)]
@@ -55,9 +55,9 @@ pub fn push_batch<R: Threads + Wait + Sync>(rt: &R, page: &mut Page, numbers: &[
     let jobs = Squares {
         count: number_at(numbers, 0),
         without_memory: u64::from(number_at(numbers, 2)),
-        calls: Count::from(0),
+        calls: Count::default(),
     };
-    let gate = CountingGate::new();
+    let gate = Count::default();
     push_ends(page, &run_batch(rt, page.alloc(), &jobs, workers, &gate));
-    page.line(format_args!(" passes {}", gate.passes.get()));
+    page.line(format_args!(" passes {}", gate.get()));
 }

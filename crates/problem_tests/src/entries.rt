@@ -1,7 +1,8 @@
 // The entries of a cell, as lines give them.
+use multigrid::numbers::filled_value;
 use std::alloc::{AllocError, Global};
 use step_problem::{Cell, Drain, Evap, Fixed, FixedKind, Flow, FlowKind, Link, River};
-use test_lines::{Answered, conductance_at, filled_value, head_at, number_at, wide_at};
+use test_lines::{Answered, conductance_at, head_at, number_at, wide_at};
 
 pub fn empty_cell(alloc: Global, id: u32) -> Cell {
     Cell {

@@ -1,8 +1,9 @@
 // Networks of nodes with links, grounds and inflows, whose heads are found by elimination.
 use multigrid::Matrix;
+use multigrid::numbers::filled_value;
 use star_mesh::{Factor, Pattern};
 use std::alloc::{AllocError, Global};
-use test_lines::{Answered, Page, filled_value, head_at, number_at};
+use test_lines::{Answered, Page, head_at, number_at};
 
 // Heads are found in units of 2^-20.
 const PLACES: u32 = 20;

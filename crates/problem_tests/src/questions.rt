@@ -15,24 +15,29 @@ use step_problem::{Problem, are_heads, is_head};
 use test_lines::{Answered, Page, first_word, head_at, number_at, numbers_of};
 
 // The raise or the sink value of a cell, at its own head and those of its links.
-fn push_relaxed(page: &mut Page, p: &Problem, question: &str, numbers: &[i128]) -> Answered {
+fn push_relaxed_of(page: &mut Page, p: &Problem, question: &str, numbers: &[i128], values: &[i64]) {
     let (cell, own) = (number_at(numbers, 0) as usize, head_at(numbers, 1));
-    let mut values = Vec::new(page.alloc());
-    for place in 2..numbers.len() {
-        values.push(head_at(numbers, place))?;
-    }
-    let values = values.as_slice();
     if cell >= p.len() || !is_head(own) || !are_heads(values) {
-        return Ok(page.line("no heads"));
+        return page.line("no heads");
     }
     if p.cell(cell).links.len() != values.len() {
-        return Ok(page.line("no heads of this cell"));
+        return page.line("no heads of this cell");
     }
     let head = match question {
         "raised" => raise_to(p, cell, own, values),
         _ => sink_to(p, cell, own, values),
     };
-    Ok(page.line(format_args!("{question} {head}")))
+    page.line(format_args!("{question} {head}"));
+}
+
+// The same, by the heads of the links after the cell and its own head.
+fn push_relaxed(page: &mut Page, p: &Problem, question: &str, numbers: &[i128]) -> Answered {
+    let mut values = Vec::new(page.alloc());
+    for place in 2..numbers.len() {
+        values.push(head_at(numbers, place))?;
+    }
+    push_relaxed_of(page, p, question, numbers, values.as_slice());
+    Ok(drop(values))
 }
 
 impl<R: Threads + Sync> Case<'_, R> {

@@ -10,7 +10,7 @@ use settle_driver::{PlainSettler, Plan, ThreadSettler, settle, settle_near};
 use std::cell::Cell;
 use std::thread::Threads;
 use step_problem::{Bound, Settler};
-use test_lines::{Answered, CountingGate, Page};
+use test_lines::{Answered, Count, Page};
 
 // By sweeps on one thread.
 impl<R: Threads + Sync> Case<'_, R> {
@@ -70,11 +70,11 @@ impl<R: Threads + Sync> Case<'_, R> {
     fn push_run(&self, page: &mut Page, plan: Plan, steps: u32)
         requires { IsPlan plan }
     {
-        let gate = CountingGate::new();
+        let gate = Count::default();
         let near = NearSettler::new(self.rt, plan, &gate);
         for _step in 0..steps {
             push_settled(page, near.settle(page.alloc(), self.p, self.b));
-            page.line(format_args!("passes {}", gate.passes.get()));
+            page.line(format_args!("passes {}", gate.get()));
         }
         drop(near);
     }
@@ -82,10 +82,10 @@ impl<R: Threads + Sync> Case<'_, R> {
     fn push_phases(&self, page: &mut Page, plan: Plan)
         requires { IsPlan plan }
     {
-        let gate = CountingGate::new();
+        let gate = Count::default();
         let settler = ThreadSettler::new(self.rt, plan, &gate);
         push_settled(page, settler.settle(page.alloc(), self.p, self.b));
-        page.line(format_args!("passes {}", gate.passes.get()));
+        page.line(format_args!("passes {}", gate.get()));
     }
 
     /// By a plan, which is the first three numbers.

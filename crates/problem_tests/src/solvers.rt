@@ -1,8 +1,9 @@
 // A system whose solution is known, and inner products of unknowns and residuals at their limits.
+use multigrid::numbers::filled_value;
 use multigrid::scaled::{Scaled, inner_product};
 use multigrid::{Budget, Levels, Matrix};
 use std::alloc::{AllocError, Global};
-use test_lines::{Answered, Page, filled_value};
+use test_lines::{Answered, Page};
 
 const WEIGHT: i64 = 1_000;
 

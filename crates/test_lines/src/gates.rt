@@ -1,18 +1,14 @@
-// Counts that threads share, which are gates that count their passes.
+// Counts that threads share.
 use outside::Gate;
 use std::sync::atomic::{AtomicU64, Ordering};
 
 const SPINS: u32 = 1_000_000_000;
 
-/// A count of passes, puts or jobs. As a gate it counts its passes.
+/// A count of passes, puts or jobs, from 0. As a gate it counts its passes.
 #[derive(Default, Drop)]
 pub struct Count(AtomicU64);
 
 impl Count {
-    pub fn from(number: u64) -> Count {
-        Count(AtomicU64::new(number))
-    }
-
     /// Counts one more, and returns the number before.
     pub fn add(&self) -> u64 {
         self.0.fetch_add(1, Ordering::SeqCst)
@@ -36,25 +32,5 @@ impl Count {
 impl Gate for Count {
     fn pass(&self, _worker: u32, _turn: u32) {
         self.add();
-    }
-}
-
-/// Counts its passes.
-#[derive(Drop)]
-pub struct CountingGate {
-    pub passes: Count,
-}
-
-impl CountingGate {
-    pub fn new() -> CountingGate {
-        CountingGate {
-            passes: Count::from(0),
-        }
-    }
-}
-
-impl Gate for CountingGate {
-    fn pass(&self, _worker: u32, _turn: u32) {
-        self.passes.add();
     }
 }

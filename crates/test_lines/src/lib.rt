@@ -10,10 +10,10 @@ mod values;
 mod words;
 
 pub use deck::Deck;
-pub use gates::{Count, CountingGate};
+pub use gates::Count;
 pub use lines::take_line;
 pub use page::{Answered, Page, answer_lines};
 pub use words::{
-    bounds_of, conductance_at, count_of, filled_value, first_word, head_at, number_at, number_of,
-    numbers_of, plain_text, wide_at,
+    bounds_of, conductance_at, count_of, first_word, head_at, number_at, number_of, numbers_of,
+    plain_text, wide_at,
 };

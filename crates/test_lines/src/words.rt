@@ -2,12 +2,6 @@
 use std::alloc::{AllocError, Global};
 use step_problem::Bound;
 
-/// A value that was filled, or nothing where memory ended. A value is dropped here in place of at each `?` of its maker.
-pub fn filled_value<T: Drop>(value: T, filled: Result<(), AllocError>) -> Result<T, AllocError> {
-    filled?;
-    Ok(value)
-}
-
 /// The first word, and the text after its blank.
 pub fn first_word(text: &str) -> (&str, &str) {
     text.split_once(' ').unwrap_or((text, ""))

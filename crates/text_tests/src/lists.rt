@@ -38,8 +38,9 @@ pub fn push_ints(page: &mut Page, reader: &mut Reader<'_>, folder: &mut MemFolde
         "integer_layers" => made_value(page, read_layers(alloc, lines, file, folder, a, b, c)),
         _ => made_value(page, constants(alloc, by.unwrap_or(0), a as usize)),
     };
-    page.integers(&list?);
-    Some(())
+    let list = list?;
+    page.integers(&list);
+    Some(drop(list))
 }
 
 /// A list or an array of numbers.

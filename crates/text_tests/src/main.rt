@@ -1,5 +1,6 @@
-//! Reads texts from standard input by calls on their lines, words, lists and arrays, calls folders and sinks,
-//! and prints the answers.
+//! Reads texts from standard input by calls on their lines, words, lists and arrays, calls folders and sinks, reads words as
+//! numbers, calculates with decimals of 18 digits, writes numbers as text, and computes bounds of conductances, flows, factors
+//! of time steps and given heads, and prints the answers.
 //!
 //! `@text FILE TEXT` is the text that is read, and the name that refusals give it. `@read CALL; CALL; ..` does the
 //! calls in order from the beginning of the text, and continues after a refusal. `@cut CALL; ..` does them on the text cut
@@ -28,20 +29,43 @@
 //! writer that is interrupted, takes one byte, and then nothing.
 //! `@refusals` and `@codes` print refusals as calls make them, and the codes that they have.
 //!
+//! A line without `@` is a calculation.
+//! A number of the input is a word; `word WORD` gives it as digits and exponent, `integer WORD` as an integer, `times
+//! WORD WORD` a product, and `units WORD PLACES` the whole units of 10 ^ -PLACES below it and above it. A decimal is given
+//! as its 18 digits and its exponent, as in `250000000000000000e3`, or is `0e0`; `mul`, `div` and `add` of two of them give
+//! the answer rounded down and up, and `whole DECIMAL PLACES` the units below it and above it. `decimal WORD` makes one of
+//! a number, and `of_units UNITS PLACES` makes two, rounded down and up. `fixed PLACES UNITS` writes UNITS * 10 ^ -PLACES
+//! with a point, and `digits N` a number after `of`.
+//!
+//! A cell's half of a branch is `LENGTH HK TOP BOTTOM` along a row, `LENGTH HK HANI TOP BOTTOM` along a column, and `LAYVKA
+//! HK VKA TOP BOTTOM` to the layer above or below; a confining bed is `TOP BOTTOM VKCB`, where both elevations are the same
+//! for none. `row HALF HALF WIDTH DIGITS`, `column HALF HALF WIDTH DIGITS`, `vertical HALF HALF BED DELR DELC DIGITS`,
+//! `storage SS TOP BOTTOM DELR DELC TSMULT NSTP STEP PERLEN DIGITS` and `evaporation EVTR EXDP DELR DELC DIGITS` give a
+//! conductance, `recharge RECH DELR DELC DIGITS` a flow, and `head SHEAD EHEAD LOW HIGH` a head, after the part of the
+//! stress period that lies between LOW and HIGH in units of 10^-18. `factors TSMULT NSTP STEP` gives the sum of the steps'
+//! lengths and the length of the step.
+//!
 //! A line `@ ..` says what is shown, and is printed. In texts `␊`, `␍`, `␉`, `␠` and `␡` stand for a line feed, a
 //! carriage return, a tab, a blank at an end, and a delete. A number is printed as digits and exponent.
 #![tactic(auto)]
 
 mod bench;
+mod branches;
+mod calculations;
+mod decimals;
 mod disk;
 mod faults;
 mod files;
 mod given;
 mod lists;
+mod numbers;
+mod question;
 mod reader;
 mod sinks;
+mod times;
 
 use bench::Bench;
+use calculations::push_answer;
 use disk::{push_disk, push_reader};
 use faults::{push_codes, push_refusals};
 use outside::{FILE_LIMIT, MemFolder};
@@ -68,7 +92,11 @@ fn step(rt: &HostRuntime, page: &mut Page, bench: &mut Bench, line: &str) -> io:
         "@full_sink" => push_full_sink(page, rest)?,
         "@refusals" => push_refusals(page)?,
         "@codes" => push_codes(page),
-        _ => page.line(format_args!("no command: {line}")),
+        _ => {
+            if push_answer(page, line).is_none() {
+                page.line("no question");
+            }
+        }
     }
     Ok(())
 }

@@ -1,17 +1,28 @@
 // Sinks in memory, in a file, and over a writer that takes one byte.
 use crate::files::push_shown;
-use outside::{FreeGate, Gate, MemSink, RealSink, Sink};
+use outside::{FreeGate, Gate, MemSink, RealSink, Sink, SinkError};
 use std::{fs, io};
 use test_lines::{Answered, Page, first_word, number_of, plain_text};
 
 const WRITTEN: &str = "written.txt";
 
+// Whether a piece was kept.
+fn push_kept(page: &mut Page, kept: Result<(), SinkError>) {
+    page.word(match kept {
+        Ok(()) => "Ok(());",
+        Err(SinkError::Write) => "Err(Write);",
+        Err(SinkError::Memory) => "Err(Memory);",
+    });
+}
+
 // Puts the pieces, and whether each was kept.
 fn push_puts<S: Sink>(page: &mut Page, sink: &mut S, calls: &str) -> Answered {
     for call in calls.split("; ") {
         if let ("put", piece) = first_word(call) {
-            let kept = sink.put(plain_text(page.alloc(), piece)?.as_str().as_bytes());
-            page.word(format_args!("{kept:?};"));
+            let piece = plain_text(page.alloc(), piece)?;
+            let kept = sink.put(piece.as_str().as_bytes());
+            drop(piece);
+            push_kept(page, kept);
         }
     }
     Ok(())

@@ -3,7 +3,7 @@ ghost use Rattle.std.specs.Prelude.{IfSome};
 ghost use Rattle.scaled_decimal.specs.{IsSd, IsNear};
 
 use crate::numbers::push_wholes;
-use crate::words::Words;
+use crate::question::Words;
 use scaled_decimal::decimal::ZERO;
 use scaled_decimal::{
     Sd, add_dn, add_up, ceil_units, div_dn, div_up, floor_units, mul_dn, mul_up, of_dec,

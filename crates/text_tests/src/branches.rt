@@ -2,8 +2,8 @@
 ghost use Rattle.std.specs.Prelude.{IfSome};
 ghost use Rattle.conductance_bounds.specs.{IsHalf, IsColHalf, IsVertHalf, IsBed};
 
+use crate::question::Words;
 use crate::times::storage;
-use crate::words::Words;
 use conductance_bounds::{
     Bed, ColHalf, Half, Pair, Span, VertHalf, col_branch, evap_branch, row_branch, thickness,
     vert_branch,

@@ -3,7 +3,7 @@ ghost use Rattle.std.specs.Prelude.{IfSome, IsTrue};
 ghost use Rattle.model_types.specs.{IsPositive};
 ghost use Rattle.conductance_bounds.specs.{IsMultiplier, IsUsable};
 
-use crate::words::Words;
+use crate::question::Words;
 use conductance_bounds::{
     Factors, FlowPair, HeadPair, Pair, Part, given_head, recharge_flow, step_factors,
     storage_branch,

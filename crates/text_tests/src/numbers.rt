@@ -2,7 +2,7 @@
 ghost use Rattle.std.specs.Prelude.{◌≤◌, IfOk};
 ghost use Rattle.decimal_input.specs.{IsDec};
 
-use crate::words::Words;
+use crate::question::Words;
 use decimal_input::dec::{Dec, NumFault};
 use decimal_input::product::times;
 use decimal_input::read::read_dec;
