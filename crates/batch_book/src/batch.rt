@@ -52,6 +52,7 @@ where
 }
 
 // Runs the jobs that have no end, in order. The error is out of memory.
+#[tactic(auto, using(crate::proofs::Placed::to_go, crate::proofs::Placed::goes_down))]
 fn run_missing<'a, J: Jobs>(
     alloc: Global,
     jobs: &J,

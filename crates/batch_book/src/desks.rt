@@ -20,6 +20,7 @@ pub(crate) struct Desk<'a, J: Jobs> {
 }
 
 /// A desk for each worker. The error is out of memory.
+#[tactic(auto, using(crate::proofs::Queued::deals))]
 pub(crate) fn new_desks<'a, N: Counted, J: Jobs>(
     alloc: Global,
     queue: &Queue<N>,

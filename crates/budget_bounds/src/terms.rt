@@ -54,6 +54,7 @@ fn budget_of_sums(sums: &Budget) -> Result<Budget, NoBound>
 /// The bounds of the budget of a step whose heads lie between these bounds, in units of 10^-(s+9) flow units, or
 /// FlowTooLarge at the first term with a bound that reaches 2^126: all In terms are tried in their order, and then
 /// all Out terms. A lower head may exceed the upper one. It takes no memory.
+#[tactic(auto, using(crate::proofs::Enclosed::budget_encloses, crate::proofs::Caps::budget_tested))]
 pub fn budget(p: &Problem, bounds: &[Bound]) -> Result<Budget, NoBound>
     requires bounds { AreWords p.now bounds.now }
     ensures budget { result ≡ budget_of p.now (lower_at bounds.now) (upper_at bounds.now) }
@@ -67,6 +68,7 @@ pub fn budget(p: &Problem, bounds: &[Bound]) -> Result<Budget, NoBound>
 const NOTHING: TermPair = TermPair { lo: 0, hi: 0 };
 
 /// The sums of each term over all cells, each of which stops at 2^126.
+#[tactic(auto, using(crate::proofs::Caps::one_more, crate::proofs::Caps::all_below))]
 fn flow_sums(p: &Problem, bounds: &[Bound]) -> Budget
     requires { AreWords p.now bounds.now }
     ensures into { (t : Term) → sum_of result.into t ≡ capped (term_pair p.now (lower_at bounds.now) (upper_at bounds.now) In t) }

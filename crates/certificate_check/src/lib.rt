@@ -25,6 +25,7 @@ pub enum Verdict {
 /// head is at most the cell's floor or its lower balance is not negative, and each upper head is at least the ceiling
 /// or its upper balance is not positive.
 /// The cells are tried in ascending order, the lower side first at each. `cell_relax::are_words` tests the condition on the bounds.
+#[tactic(auto, using(crate::proofs::Certified::certificate_compares, crate::proofs::Certified::certificate_encloses))]
 pub fn check_step(p: &Problem, barrier: &Barrier, bounds: &[Bound]) -> Verdict
     requires floors { length barrier.now.floor ≡ length p.now }
     requires ceilings { length barrier.now.ceiling ≡ length p.now }

@@ -12,11 +12,7 @@ use Rattle.check_run.specs.declared.listing.CheckFault.TheVariants as fault
 -- what holds of the heads before a step and of the step, as they were lent
 pub here : (P : List Bound → ListedStep → Type 0) (old olds heads : List Bound) (flows : List ZoneFlow) (w x : ListedStep) → old ≡ olds → w ≡ x → heads ≡ w.heads → flows ≡ w.zones →
     P old (record { heads = heads; budget = w.budget; zones = flows }) → P olds x
-here P old olds heads flows w x is same is_heads are_flows h =
-    let O : List Bound → Type 0 = λ o. P o (record { heads = heads; budget = w.budget; zones = flows }) in
-    let H : List Bound → Type 0 = λ hs. P olds (record { heads = hs; budget = w.budget; zones = flows }) in
-    let Z : List ZoneFlow → Type 0 = λ z. P olds (record { heads = w.heads; budget = w.budget; zones = z }) in
-    subst (P olds) same (subst Z are_flows (subst H is_heads (subst O is h)))
+here P old olds heads flows w x is same is_heads are_flows h = grind (arith)
 
 -- a step for each time
 steps_many : (ats : List TimeStep) (ws : List ListedStep) → length ws ≡ length ats → length ats ≡ length (steps_of ats ws)

@@ -50,7 +50,7 @@ pub use Rattle.listing_run.specs.declared.text.ListingEnd.TheVariants.{Whole}
 pub use Rattle.model_types.proofs.Ranks.{IsAt, at_rank, is_at, passing}
 pub use Rattle.model_types.specs.{FixedSource, FromStorage, HasSize, IsModel, ToConstant, ToGeneral, as_general, cell_count, constant_faces, constant_head}
 pub use Rattle.model_types.specs.{evap_sources, fixed_sources, index_of, is_active, is_chosen, is_constant, is_nonzero, is_variable, kind_of, local_entries}
-pub use Rattle.model_types.specs.{period_at, start_head, storage_at, times, variable_cells, variable_faces}
+pub use Rattle.model_types.specs.{start_head, storage_at, times, variable_cells, variable_faces}
 pub use Rattle.model_types.specs.declared.limits.Limits.{Limits}
 pub use Rattle.model_types.specs.declared.model.FlowModel.{FlowModel}
 pub use Rattle.model_types.specs.declared.time_steps.TimeStep.{TimeStep}

@@ -32,11 +32,7 @@ same_line In Out t u h = absurd (omega (arith, h, place_within t))
 same_line Out In t u h = absurd (omega (arith, h, place_within u))
 
 pub term_one : (listed computed : Budget) (d e : Dir) (t u : Term) → IsFirstUncovered listed computed d t → IsFirstUncovered listed computed e u → places.Term d t ≡ places.Term e u
-term_one listed computed d e t u f g = elim (cases_order (line_of d t) (line_of e u)) [
-  | inl same ↦ same_line d e t u same
-  | inr (inl less) ↦ absurd (f.short (g.first d t less))
-  | inr (inr more) ↦ absurd (g.short (f.first e u more))
-]
+term_one listed computed d e t u f g = grind (arith, cases_order, same_line)
 
 -- the first listed flow that is too narrow
 pub narrow_one : (listed computed : List ZoneFlow) (a b c d : ℕ) → IsFirstNarrow listed computed a b → IsFirstNarrow listed computed c d → (a ≡ c) × (b ≡ d)

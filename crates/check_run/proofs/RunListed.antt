@@ -2,9 +2,9 @@
 use Rattle.check_run.proofs.Common.{cell_hull, cell_shape, evap_hull, zip_with, Limits, ◌≡◌, ℕ, zero, suc, ◌+◌, ◌<◌, false, List, [], ◌∷◌, length, map, All, Ok}
 use Rattle.check_run.proofs.Common.{refl, sym, ap, subst, arith, ℤ, pos, negsuc, ◌+ℤ◌, ◌≤ℤ◌, ◌<ℤ◌, unsigned_abs, nat_abs, ◌^◌, ◌≤◌, Option, Some, None, AllZip}
 use Rattle.check_run.proofs.Common.{ints, All-weaker, Bound, Out, ZoneFlow, Entries, no_bound, lower_at, upper_at, Budget, TermPair, term_limit, Face}
-use Rattle.check_run.proofs.Common.{flows_between, pairs_in, AreNumbers, FlowModel, TimeStep, evap_sources, period_at, times, AreGridHeads, Solved, bound_at}
-use Rattle.check_run.proofs.Common.{HeadsFit, AreCellBounds, AreFlows, AreListed, IsCellBound, IsFlowPair, IsListedAt, IsListedStep, has_evt, zone_pair, Task}
-use Rattle.check_run.proofs.Common.{Step, Whole, AllSteps, IsStep, Steps, budget_at, AreFlowsOf, faces_of, IsRest, first_in, rest_more, rest_whole, as_listed}
+use Rattle.check_run.proofs.Common.{flows_between, pairs_in, AreNumbers, FlowModel, TimeStep, evap_sources, times, AreGridHeads, Solved, bound_at, HeadsFit}
+use Rattle.check_run.proofs.Common.{AreCellBounds, AreFlows, AreListed, IsCellBound, IsFlowPair, IsListedAt, IsListedStep, has_evt, zone_pair, Task, Step}
+use Rattle.check_run.proofs.Common.{Whole, AllSteps, IsStep, Steps, budget_at, AreFlowsOf, faces_of, IsRest, first_in, rest_more, rest_whole, as_listed}
 use Rattle.check_run.proofs.Common.{nat_tests, is_nonzero, IsProblemBy, IsBefore, StartHeadsFit, deck_task, Decks, AreDecks, PairKind, IsStepBy, pairs_of, Bool}
 use Rattle.check_run.proofs.Common.{In, no_entries, variable_cells, AllZip-at, IsProblemOf, total, is_chosen, IsZoneFlow, flows_of_pairs, same_flows, zip_image}
 use Rattle.check_run.proofs.Common.{cells_of, whole_cell, whole_evap, IsModel, IfSome, IsSecond, hull_parts}
@@ -24,9 +24,7 @@ not_chosen : (m : FlowModel) (option : ℤ) (layers : List ℤ) (c : ℕ) → op
 not_chosen m option layers c e = ap (λ z. is_chosen m z layers c) e
 
 no_source : (m : FlowModel) (p c : ℕ) → has_evt m ≡ false → evap_sources m p c ≡ []
-no_source m p c e =
-    let none : is_chosen m m.nevtop (period_at m p).stresses.ievt c ≡ false = not_chosen m m.nevtop (period_at m p).stresses.ievt c (zero_of m.nevtop e) in
-    rw none refl
+no_source m p c e = grind (arith, not_chosen, zero_of)
 
 -- a cell without evaporation, whatever its number
 abbrev NoEvaps : Entries → ℕ → Type 0

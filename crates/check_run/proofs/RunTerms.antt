@@ -1,6 +1,6 @@
 -- The terms of a step's budget are flows that a listing can have.
 use Rattle.check_run.proofs.Common.{◌≡◌, ℕ, zero, suc, ◌^◌, ◌<◌, Bool, true, false, List, [], ◌∷◌, length, nat_abs, Ok, Err, refl, sym, ap, ◌∙◌, subst, arith}
-use Rattle.check_run.proofs.Common.{ℤ, pos, negsuc, ◌+ℤ◌, ◌≤ℤ◌, if◌then◌else◌, AllZip, ints, Dir, Out, NoBound, Term, Entries, entries_at, TermPair, Budget}
+use Rattle.check_run.proofs.Common.{ℤ, pos, negsuc, ◌≤ℤ◌, if◌then◌else◌, AllZip, ints, Dir, Out, NoBound, Term, Entries, entries_at, TermPair, Budget}
 use Rattle.check_run.proofs.Common.{all_terms, budget_of, is_small, no_pair, parts, term_limit, term_of, term_pair, terms_of, too_large, IsFlowPair, IsPairIf}
 use Rattle.check_run.proofs.Common.{is_printed, singles, and_parts, In, sum_below}
 use Rattle.std.specs.Int.Signed.{lt_z}
@@ -20,9 +20,7 @@ none_below (suc n) f h = let a = none_below n f h in let b = h n in omega (arith
 
 no_sum : (n : ℕ) (f : ℕ → ℤ) → ((c : ℕ) → c < n → f c ≡ pos 0) → sum_below n f ≡ pos 0
 no_sum zero f h = refl
-no_sum (suc n) f h =
-    let a : sum_below n f ≡ pos 0 = no_sum n f (λ c lt. h c (omega (arith, lt))) in
-    ap (λ z. z +ℤ f n) a ∙ ap (λ z. pos 0 +ℤ z) (h n (omega arith))
+no_sum (suc n) f h = grind (arith, no_sum n f (λ c lt. h c (omega (arith, lt))))
 
 small_flow : (z : ℤ) → pos 0 ≤ℤ z → lt_z z term_limit ≡ true → nat_abs z < 2 ^ 126
 small_flow (pos n) h e = grind (arith, ints)

@@ -1,7 +1,7 @@
 -- A step whose cells have storage has a floor and a ceiling.
 use Rattle.engine.proofs.Common.{◌≡◌, ◌≢◌, ℕ, Bool, true, cond, List, [], ◌∷◌, Result, Ok, Err, Option, Some, None, inl, inr, sym, ap, subst, arith, ℤ}
 use Rattle.engine.proofs.Common.{if◌then◌else◌, Plain, Limits, Decks, TimeStep, one_deck, Bound, NoBound, Entries, lower_at, upper_at, no_heads, no_budget}
-use Rattle.engine.proofs.Common.{no_zones, Wide, LeavesRange, HasLargeFlow, StorageHolds, faces_of, refl, filter, pairs_below}
+use Rattle.engine.proofs.Common.{no_zones, Wide, LeavesRange, HasLargeFlow, StorageHolds, faces_of, filter, pairs_below}
 use Rattle.std.proofs.Common.{false}
 use Rattle.step_chain.specs.declared.solved.Solved.{Solved}
 use Rattle.step_problem.specs.declared.place.Dir.{Dir}
@@ -15,7 +15,7 @@ use Rattle.barrier_vector.proofs.Sides.{stored_fault, stored_refusal, unbounded_
 use Rattle.budget_bounds.specs.{◌>>=◌, all_terms, budget_of, is_small, term_of, term_pair, terms_of, too_large}
 use Rattle.problem_builder.specs.{fault_of}
 use Rattle.problem_builder.proofs.Steps.{a_refusal}
-use Rattle.zone_flows.specs.{each_or_first, flow_or_large, is_small as are_small, pair_flow, share, zone_flows, Face}
+use Rattle.zone_flows.specs.{each_or_first, flow_or_large, share, zone_flows, Face}
 use Rattle.zone_pairs.specs.declared.pair.ZonePair.{ZonePair}
 
 -- what a refusal is not
@@ -81,11 +81,7 @@ each_code f h [] n e = cc
 each_code f h (x ∷ xs) n e = bind_code (f x) _ (h x) (λ y. bind_code (each_or_first f xs) _ (each_code f h xs) (λ ys m k. cc)) n e
 
 flow_code : (fs : List Face) (z : ZonePair) (n : NoBound) → flow_or_large fs z ≡ Err n → TooLarge n
-flow_code fs z n e = by_size _ (are_small fs z) e refl
-  where
-    by_size : (r : NoBound) (b : Bool) → (if b then Ok (pair_flow fs z) else Err r) ≡ Err n → TooLarge r → TooLarge n
-    by_size r true h code = cc
-    by_size r false h code = subst TooLarge (one_err r n h) code
+flow_code fs z n e = grind (arith, one_err)
 
 large_code : (zones : Option (List ℕ)) (x : Solved) (n : NoBound) → HasLargeFlow zones x n → TooLarge n
 unfolding zone_flows
@@ -94,10 +90,7 @@ large_code (Some zones) x n h = let fs = faces_of x.problem x.heads zones in eac
 
 -- a refusal for the range of heads
 range_code : (limits : Limits) (d : Decks) (s : ℕ) (at : TimeStep) (old : List Bound) (n : NoBound) → LeavesRange limits d s at old n → IsOther n.code
-range_code limits d s at old n leaves = elim leaves.refused [
-  | inl low ↦ other_code n.code 26 low.1.code (omega arith, omega arith)
-  | inr high ↦ other_code n.code 27 high.1.1.code (omega arith, omega arith)
-]
+range_code limits d s at old n leaves = grind (arith, other_code)
 
 pub storage_holds : StorageHolds
 storage_holds Plain m s zones rounds quick at old n stored (no_heads (inl none)) = let (e, is) = a_refusal m s at old n none in problem_code e n.code is

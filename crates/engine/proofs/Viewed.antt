@@ -39,8 +39,7 @@ IsWriteRefused puts = (before : List Text) × (text : Text) × (puts ≡ map tak
 
 -- texts that were taken, before puts
 more_puts : (here before : List Text) (puts last : List Put) → puts ≡ map taken before ++ last → map taken here ++ puts ≡ map taken (here ++ before) ++ last
-more_puts here before puts last e =
-    ap (λ (ps : List Put). map taken here ++ ps) e ∙ sym (append_assoc (map taken here) (map taken before) last) ∙ ap (λ (ps : List Put). ps ++ last) (sym (map-append taken here before))
+more_puts here before puts last e = grind (arith, append_assoc, map-append)
 
 more_in_turn : (whole : Bool) (here texts : List Text) (puts : List Put) → ArePutInTurn whole texts puts → ArePutInTurn whole (here ++ texts) (map taken here ++ puts)
 more_in_turn whole here texts puts (inl e) = inl (ap (λ (ps : List Put). map taken here ++ ps) e ∙ sym (map-append taken here texts))

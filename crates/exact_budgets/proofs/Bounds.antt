@@ -52,10 +52,7 @@ left_over : (z : Term → ℤ) → total z all_terms ≡ pos 0 → (t : Term) �
 left_over z none t = omega (arith, ints, split (λ x. is_term x t) z all_terms, own z t)
 
 as_differences : (k : ℕ) (a b c d : ℤ) (f : Fraction) → EnclosesSigned (a +ℤ neg_ℤ b) (c +ℤ neg_ℤ d) k f → EnclosesSigned (a -ℤ b) (c -ℤ d) k f
-as_differences k a b c d f h = rw (sub_is a b, sub_is c d) h
-  where
-    sub_is : (a b : ℤ) → a -ℤ b ≡ a +ℤ neg_ℤ b
-    sub_is a b = omega (arith, ints)
+as_differences k a b c d f h = grind (arith)
 
 module _ (s : ℕ) (e : List ExactCell) (h : ℕ → Fraction) (b : Budget) (o : TermsOver e h) (encloses : BudgetEncloses s e h b) where
   listed : (t : Term) → EnclosesSigned (net_lower b t) (net_upper b t) (s + 9) (net_flow e h t)

@@ -3,7 +3,7 @@ pub use Rattle.std.proofs.Common.{All, Bool, List, Option, [], ap, arith, cond, 
 pub use Rattle.std.proofs.Common.{subst, suc, sym, true, zero, ℕ, ℤ, ◌&&◌, ◌*ℤ◌, ◌*◌, ◌++◌, ◌+ℤ◌, ◌+◌, ◌-ℤ◌, ◌<◌, ◌==◌, ◌^◌, ◌∙◌, ◌∷◌, ◌≡◌, ◌⊎◌}
 pub use Rattle.std.proofs.lemmas.Bool.{and_parts, cases_eq, eq-eqb, eqb-true, ne_eqb}
 pub use Rattle.std.proofs.lemmas.Int.{clamps, ints}
-pub use Rattle.std.proofs.lemmas.List.Elements.{All-from_get_or, All-from_recursion, All-head, All-tail, All-weaker}
+pub use Rattle.std.proofs.lemmas.List.Elements.{All-from_get_or, All-head, All-tail, All-weaker}
 pub use Rattle.std.specs.List.{AllZip, filter, flat_map}
 pub use Rattle.std.specs.Prelude.{slice_index}
 pub use Rattle.budget_bounds.specs.{BudgetEncloses, all_terms, bounds_in, exact_part, fixed_term, flow_term, is_term}
@@ -21,9 +21,8 @@ pub use Rattle.cell_balance.specs.{minus, no_cell, no_link, river_flow, share, s
 pub use Rattle.decimal_input.specs.{EnclosesSigned, Fraction, IsOver, Ratio, fraction_total, negated, signed, whole}
 pub use Rattle.decimal_input.specs.Fractions.{Same, den, times}
 pub use Rattle.exact_budgets.specs.{AllNetTermsLie, CertifiedHaveTheirTimes, IsAlone, LoneCellsHaveTheirFlows, MiddleCell, NetTermsLie, NetTermsLieAt}
-pub use Rattle.exact_budgets.specs.{NetTermsLieInTheOthers, PumpedCell, SolutionsBalance, StepsHaveTheirTimes, constant_head, five, inflow_from, is_constant}
-pub use Rattle.exact_budgets.specs.{lower_by_others, middle_step, net_flow, net_lower, net_upper, others, own_zone, own_zones, pumped_budget, pumped_step}
-pub use Rattle.exact_budgets.specs.{upper_by_others}
+pub use Rattle.exact_budgets.specs.{NetTermsLieInTheOthers, PumpedCell, SolutionsBalance, StepsHaveTheirTimes, five, inflow_from, is_constant, lower_by_others}
+pub use Rattle.exact_budgets.specs.{middle_step, net_flow, net_lower, net_upper, others, own_zone, own_zones, pumped_budget, pumped_step, upper_by_others}
 pub use Rattle.flow_equations.specs.{SolvesAt, SolvesFrom, exact_step, heads_of, variable_heads}
 pub use Rattle.step_problem.specs.{total}
 pub use Rattle.step_problem.specs.declared.entry.FixedKind.{FixedKind}

@@ -81,11 +81,7 @@ kept_none p g none (x ∷ xs) (y ∷ ys) = rw (none x, kept_none p g none xs ys)
 pub kept_turned : {X Y : Type 0} (p q : X → Bool) (g z : Y → ℤ) → ((x : X) → p x ≡ q x) → ((y : Y) → g y ≡ neg_ℤ (z y)) → (xs : List X) (ys : List Y) → kept p g xs ys ≡ neg_ℤ (kept q z xs ys)
 kept_turned p q g z same turned [] ys = refl
 kept_turned p q g z same turned (x ∷ xs) [] = refl
-kept_turned p q g z same turned (x ∷ xs) (y ∷ ys) = rw (same x, turned y, kept_turned p q g z same turned xs ys) (by_test (q x))
-  where
-    by_test : (b : Bool) → cond b (neg_ℤ (z y)) (pos 0) +ℤ neg_ℤ (kept q z xs ys) ≡ neg_ℤ (cond b (z y) (pos 0) +ℤ kept q z xs ys)
-    by_test true = omega (arith, ints)
-    by_test false = omega (arith, ints)
+kept_turned p q g z same turned (x ∷ xs) (y ∷ ys) = grind (arith, kept_turned p q g z same turned xs ys)
 
 module _ {X Y : Type 0} (R : X → Y → Type 0) (g : Y → ℤ) where
   -- tests of which each element passes one alone

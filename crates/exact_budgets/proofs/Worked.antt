@@ -1,7 +1,7 @@
 -- The worked cell and the worked zone: their solutions, the bounds of the cell's terms, and the zone's flows. Everything is computed.
 use Rattle.exact_budgets.proofs.Common.{zero, suc, refl, arith, ints, In, Out, Storage, SolvesStep, BudgetEncloses, exact_term, exact_singles, heads_of, ◌≡◌, ℕ}
-use Rattle.exact_budgets.proofs.Common.{◌<◌, [], ◌∷◌, length, All, slice_index, All-from_recursion, Constant, ExactFixed, cell_at, exact_from, exact_cell}
-use Rattle.exact_budgets.proofs.Common.{exact_faces, IsAlone, pumped_step, five, pumped_budget, PumpedCell, constant_head, middle_step, own_zones, MiddleCell}
+use Rattle.exact_budgets.proofs.Common.{◌<◌, length, All, slice_index, Constant, ExactFixed, cell_at, exact_from, exact_cell, exact_faces, IsAlone, pumped_step}
+use Rattle.exact_budgets.proofs.Common.{five, pumped_budget, PumpedCell, middle_step, own_zones, MiddleCell}
 
 solved : SolvesStep pumped_step 1 five
 solved zero h = refl
@@ -25,8 +25,7 @@ pumped_cell = record {
 }
 
 sources : (j : ℕ) → j < length middle_step → All (λ (x : ExactFixed). x.kind ≡ Constant → slice_index own_zones x.source ≡ 2 → ⊥) (cell_at middle_step j).fixed
-sources zero lt = All-from_recursion (λ (x : ExactFixed). x.kind ≡ Constant → slice_index own_zones x.source ≡ 2 → ⊥) (constant_head 0 10 ∷ constant_head 2 20 ∷ [])
-    ((λ c e. omega (arith, e)), ((λ c e. omega (arith, e)), tt))
+sources zero lt = grind (arith)
 sources (suc j) lt = absurd (omega (arith, lt))
 
 alone : IsAlone own_zones middle_step 0

@@ -1,8 +1,8 @@
 -- Entries whose numbers passed the tests of their columns are in limits.
-use Rattle.list_package.proofs.Common.{◌≡◌, ℕ, ◌<◌, Bool, true, false, List, [], ◌∷◌, length, All, Option, Some, None, refl, sym, ap, subst, arith, All-weaker}
-use Rattle.list_package.proofs.Common.{if◌then◌else◌, All-head, All-tail, IsDec, HeadTooLarge, BadProperty, column_fault, first_fault, or_later, IsHeadNumber}
-use Rattle.list_package.proofs.Common.{IsNotNegative, IsEntryList, IsEntryValid, IsGivenList, IsGivenValid, IsEntry, IsListOf, given_heads, kind_of, AllZip}
-use Rattle.list_package.proofs.Common.{Dec, Code, columns_of, entry_with, CellId, Limits, Period, weaker, ListsKeepLimits, entries_in, with_entries, cell_count}
+use Rattle.list_package.proofs.Common.{◌≡◌, ℕ, ◌<◌, Bool, true, false, List, [], ◌∷◌, length, All, Option, Some, None, refl, sym, subst, arith, All-weaker}
+use Rattle.list_package.proofs.Common.{if◌then◌else◌, All-head, All-tail, IsDec, HeadTooLarge, column_fault, first_fault, or_later, IsHeadNumber, IsNotNegative}
+use Rattle.list_package.proofs.Common.{IsEntryList, IsEntryValid, IsGivenList, IsGivenValid, IsEntry, IsListOf, given_heads, kind_of, AllZip, Dec, Code}
+use Rattle.list_package.proofs.Common.{columns_of, entry_with, CellId, Limits, Period, weaker, ListsKeepLimits, entries_in, with_entries, cell_count}
 use Rattle.number_limits.specs.{is_head}
 use Rattle.number_limits.proofs.HeadLemmas.{head_of}
 use Rattle.list_package.specs.declared.columns.Column.{Column}
@@ -32,11 +32,7 @@ passes_column Head x h e = by_case (is_head x) refl e
     by_case : (b : Bool) → is_head x ≡ b → (if b then None else Some HeadTooLarge) ≡ None → IsHeadNumber x
     by_case true p e = head_of x h p
     by_case false p e = absurd cc
-passes_column Conductance x h e = by_case x.neg refl e
-  where
-    by_case : (b : Bool) → x.neg ≡ b → (if b then Some BadProperty else None) ≡ None → IsNotNegative x
-    by_case false p e = record { decimal = h; sign = p }
-    by_case true p e = absurd cc
+passes_column Conductance x h e = grind (arith)
 
 pass_columns : (cs : List Column) (xs : List Dec) → length xs ≡ length cs → All IsDec xs → first_fault cs xs ≡ None → AllZip IsColumn cs xs
 pass_columns [] [] n h e = tt
@@ -54,8 +50,7 @@ entry_of Generals cells c (a ∷ b ∷ []) n low h = (low, h.0, h.1.0)
 entry_of k cells c xs n low h = absurd (omega (arith, n))
 
 entry_valid : (k : ListKind) (cells : ℕ) (x : Entry) → IsEntry (kind_of k) cells x → IsEntryValid cells x
-entry_valid k cells x h =
-    subst (IsEntryValid cells) (sym h.is) (entry_of k cells h.cell h.numbers h.count h.inside (pass_columns (columns_of k) h.numbers h.count h.canonical h.passes))
+entry_valid k cells x h = grind (arith, entry_of, pass_columns)
 
 given_of : (cells : ℕ) (c : CellId) (xs : List Dec) → length xs ≡ 2 → c.0 < cells → AllZip IsColumn (Head ∷ Head ∷ []) xs → IsGivenValid cells (given_heads.entry c xs)
 given_of cells c (a ∷ b ∷ []) n low h = record { cell = low; shead = h.0; ehead = h.1.0 }
@@ -70,11 +65,7 @@ pub entry_list : (limits : Limits) (k : ListKind) (cells : ℕ) (p : Period) (xs
 entry_list limits k cells p xs h = record { few = omega (arith, h.few, entries_few limits); entries = All-weaker (IsEntry (kind_of k) cells) (IsEntryValid cells) (entry_valid k cells) xs h.entries }
 
 pub given_list : (limits : Limits) (cells : ℕ) (p : Period) (xs : List Given) → IsListOf limits given_heads cells p xs → IsGivenList cells xs
-given_list limits cells p xs h = record {
-  few = omega (arith, h.few, entries_few limits);
-  entries = All-weaker (IsEntry given_heads cells) (IsGivenValid cells) (given_valid cells) xs h.entries;
-  once = λ i j d lt within same. h.once refl i j d lt within (ap (λ cell. cell.0) same);
-}
+given_list limits cells p xs h = grind (arith, entries_few, given_valid)
 
 -- So are the lists that a file gives.
 pub placed : (k : ListKind) (c : CellId) (xs : List Dec) → (kind_of k).place ((kind_of k).entry c xs) ≡ c.0

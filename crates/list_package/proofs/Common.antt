@@ -19,7 +19,7 @@ pub use Rattle.model_types.specs.declared.limits.Limits.{Limits}
 pub use Rattle.model_types.specs.declared.period.Period.{Period}
 pub use Rattle.outside.specs.{refusal, words}
 pub use Rattle.outside.specs.declared.codes.Code.{Code}
-pub use Rattle.outside.specs.declared.codes.Code.TheVariants.{BadProperty, CellOutside, HeadTooLarge, TooManyEntries}
+pub use Rattle.outside.specs.declared.codes.Code.TheVariants.{CellOutside, HeadTooLarge, TooManyEntries}
 pub use Rattle.record_lines.proofs.Loops.{each_done, each_ends, each_goes_on, ends_all, ends_text, is_done, no_items, with_front}
 pub use Rattle.record_lines.proofs.Readings.{done, goes_on, if_clear, if_passed, refused, repeated_are, repeated_gives, then_, weaker}
 pub use Rattle.record_lines.specs.{GivesOnly, Left, Numbered, begins_with, left_from, line_at, repeated, without_comments}

@@ -20,6 +20,7 @@ pub(crate) fn dis_text(alloc: Global, size: u64) -> Result<Vec<u8>, AllocError>
     Ok(text)
 }
 
+#[tactic(auto, using(crate::proofs::Texts::no_text, crate::proofs::Texts::one_more))]
 fn push_ones(text: &mut Vec<u8>, count: u64) -> Result<(), AllocError>
     ensures { IfOk result (λ _. text.new.items ≡ text.old.items ++ texts_below count (λ j. codes " 1")) }
 {
@@ -39,6 +40,7 @@ fn push_ibound_row(text: &mut Vec<u8>, size: u64) -> Result<(), AllocError>
     Ok(())
 }
 
+#[tactic(auto, using(crate::proofs::Texts::no_text, crate::proofs::Texts::one_more))]
 fn push_ibound_rows(text: &mut Vec<u8>, size: u64) -> Result<(), AllocError>
     requires { 1 ≤ size }
     ensures { IfOk result (λ _. text.new.items ≡ text.old.items ++ texts_below size (λ i. ibound_row size)) }

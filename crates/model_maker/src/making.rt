@@ -109,6 +109,7 @@ fn push_reach(text: &mut Vec<u8>, size: u64, row: u64) -> Result<(), AllocError>
     Ok(())
 }
 
+#[tactic(auto, using(crate::proofs::Texts::no_text, crate::proofs::Texts::one_more))]
 fn push_reaches(text: &mut Vec<u8>, size: u64) -> Result<(), AllocError>
     ensures { IfOk result (λ _. text.new.items ≡ text.old.items ++ texts_below size (reach_text size)) }
 {

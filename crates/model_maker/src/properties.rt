@@ -26,6 +26,7 @@ fn push_hk(text: &mut Vec<u8>, draws: &mut Draws, place: u64) -> Result<(), Allo
     push_number(text, u128::from(hk))
 }
 
+#[tactic(auto, using(crate::proofs::Texts::after_none, crate::proofs::Texts::no_text, crate::proofs::Texts::one_value, crate::proofs::Texts::next_value))]
 fn push_hk_values(text: &mut Vec<u8>, draws: &mut Draws, count: u64) -> Result<(), AllocError>
     ensures text { IfOk result (λ _. text.new.items ≡ text.old.items ++ texts_below count (λ j. gap j ++ hk_text (after j draws.old.x))) }
     ensures next { IfOk result (λ _. draws.new.x ≡ after count draws.old.x) }
@@ -45,6 +46,7 @@ fn push_hk_row(text: &mut Vec<u8>, draws: &mut Draws, size: u64) -> Result<(), A
     Ok(())
 }
 
+#[tactic(auto, using(crate::proofs::Texts::no_rows, crate::proofs::Texts::no_text, crate::proofs::Texts::one_row, crate::proofs::Texts::next_row))]
 fn push_hk_rows(text: &mut Vec<u8>, draws: &mut Draws, size: u64) -> Result<(), AllocError>
     ensures text { IfOk result (λ _. text.new.items ≡ text.old.items ++ texts_below size (λ i. hk_row size (after (i * size) draws.old.x))) }
     ensures next { IfOk result (λ _. draws.new.x ≡ after (size * size) draws.old.x) }

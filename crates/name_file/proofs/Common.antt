@@ -1,5 +1,5 @@
 -- Names that several proofs of this crate cite, of the crates below and of its own definitions, passed on from one place. Declares nothing.
-pub use Rattle.std.proofs.Common.{All, Contains, List, None, Ok, Option, Some, [], ap, arith, false, is_some, length, refl, rules, sym, true, ℕ, ◌++◌, ◌∙◌, ◌∷◌}
+pub use Rattle.std.proofs.Common.{All, Contains, List, None, Ok, Option, Some, [], arith, false, is_some, length, refl, rules, sym, true, ℕ, ◌++◌, ◌∙◌, ◌∷◌}
 pub use Rattle.std.proofs.Common.{◌≡◌}
 pub use Rattle.std.proofs.lemmas.List.Elements.{All-contains, All-head, All-nil, All-push, All-tail}
 pub use Rattle.name_file.specs.{AreFiles, IsWhole, NamesMay, after_type, after_words, file_of, ghosts, has_package, is_integer, is_needed, is_passed_over}

@@ -1,12 +1,12 @@
 -- A package that is new goes last; and a name file goes on, stops or ends line by line.
-use Rattle.name_file.proofs.Common.{◌≡◌, ℕ, false, List, [], ◌∷◌, ◌++◌, Option, Some, None, Ok, refl, ap, ◌∙◌, is_some, Package, Pairs, has_package, after_line}
+use Rattle.name_file.proofs.Common.{◌≡◌, ℕ, false, List, [], ◌∷◌, ◌++◌, Option, Some, None, Ok, refl, ◌∙◌, is_some, Package, Pairs, has_package, after_line}
 use Rattle.name_file.proofs.Common.{after_lines, Left, Numbered, Dis, Bas, Lpf, Wel, is_same_package, file_of, true, sym, Contains, rules, arith, All-contains}
 use Rattle.name_file.proofs.Common.{All-push, IsGoodName, AreFiles, IsWhole, is_needed, packages_of, ghosts, the_type, StopsText}
 use Rattle.record_lines.proofs.Loops.{ends_all}
 use Rattle.std.specs.Prelude.{IsTrue}
 use Rattle.std.specs.Map.{lookup, keys_of}
 use Rattle.std.specs.HashMap.{HashMap}
-use Rattle.indexmap.specs.IndexMap.{get, insert_entry}
+use Rattle.indexmap.specs.IndexMap.{insert_entry}
 use Rattle.indexmap.proofs.CallerLemmas.{insert_entry-new}
 use Rattle.outside.specs.declared.inputs.TextFault.{TextFault}
 use Rattle.std.proofs.lemmas.Map.Keys.{IsDistinct-push}
@@ -32,9 +32,7 @@ is_none (Some x) e = cc
 
 pub goes_last : {S : Type 0} (found : Package) (m : HashMap Package (List ℕ) S) (name : List ℕ) (old new : Pairs) → old ≡ m.entries
     → has_package found old ≡ false → new ≡ insert_entry ghosts.eq m.entries found name → new ≡ old ++ (found, name) ∷ []
-goes_last found m name old new shown absent e =
-    let missing : has_package found m.entries ≡ false = rw (← shown) absent in
-    rw (shown, e, insert_entry-new ghosts.eq m found name (is_none (get ghosts.eq m found) (ap is_some (looked_up found m.entries) ∙ missing))) refl
+goes_last found m name old new shown absent e = grind (arith, insert_entry-new, is_none, looked_up)
 
 pub goes_on : (file : List ℕ) (left after : Left) (line : Numbered) (names next : Pairs) → left ≡ record { lines = line ∷ after.lines; end = after.end } → after_line file line names ≡ Ok next
     → after_lines file left.lines names ≡ after_lines file after.lines next
@@ -64,11 +62,7 @@ same_sides x Dis = refl
 same_sides x y = refl
 
 is_equivalence : IsEquivalence is_same_package
-is_equivalence = record {
-  refl = is_itself;
-  symm = same_sides;
-  congr = λ x y z e. rw (is_same x y e) refl;
-}
+is_equivalence = grind (arith, is_itself, same_sides, is_same)
 
 held : (asked : Package) (names : Pairs) (name : List ℕ) → file_of asked names ≡ Some name → Contains names (asked, name)
 held asked names name e = Contains-from_lookup is_same asked name names e

@@ -12,6 +12,7 @@ use step_problem::{Cell, NoBound, Place, Problem, Side, StepRefusal, conductance
 /// The hull of two problems: at each place of each entry the lesser of the two lower bounds and the greater of the two
 /// upper ones. They have none exactly where they are not alike. A hull is no problem where a sum of one of its cells
 /// is too large: the first such cell is refused, by the number and the place that the problem of one model has.
+#[tactic(auto, using(crate::proofs::Fits::cell_has, crate::proofs::Fits::rivers_fit, crate::proofs::Fits::evaps_fit, crate::proofs::Fits::is_problem))]
 pub fn hull(alloc: Global, p: &Problem, q: &Problem) -> Result<Problem, HullFault>
     ensures hull { IfOk result (λ r. IsHull p.now q.now r) }
     ensures fault { IfErr result (IsHullFault p.now q.now) }
@@ -27,6 +28,7 @@ pub fn hull(alloc: Global, p: &Problem, q: &Problem) -> Result<Problem, HullFaul
 
 // The hulls of two lists of entries, place by place.
 
+#[tactic(auto, using(crate::proofs::Hulls::hull_more, crate::proofs::Hulls::unlike_at))]
 pub fn hulls<E: Bounded + Drop>(alloc: Global, a: &[E], b: &[E]) -> Result<Vec<E>, HullFault>
     ensures hulls { IfOk result (λ v. IsHullOf (map E.shape) (zip_with E.hull_of) a.now b.now v.items) }
     ensures fault { IfErr result (IsUnlike (map E.shape b.now ≡ map E.shape a.now)) }
@@ -106,6 +108,7 @@ fn refusal(cell: &Cell) -> Option<u8>
 }
 
 // The first cell that has a sum too large, with its refusal.
+#[tactic(auto, using(crate::proofs::Refusals::entries_named))]
 pub fn first_too_large(cells: &[Cell]) -> Option<NoBound>
     requires rivers { (c : ℕ) → c < length cells.now → All RiverFits (entries_at cells.now c).rivers }
     requires evaps { (c : ℕ) → c < length cells.now → All EvapFits (entries_at cells.now c).evaps }

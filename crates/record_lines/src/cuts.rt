@@ -73,6 +73,7 @@ fn word_length(line: &[u8]) -> usize
 }
 
 /// The first line, and what follows its line feed.
+#[tactic(auto, using(crate::proofs::CutLemmas::last_line, crate::proofs::CutLemmas::ended_line))]
 pub fn cut_line(text: &[u8]) -> (&[u8], &[u8])
     requires { 0 < length text.now }
     ensures line { lines text.now ≡ result.0.now ∷ lines result.1.now }

@@ -6,14 +6,13 @@ pub use Rattle.std.proofs.lemmas.List.{get_or-map, get_or_default, length-map, m
 pub use Rattle.std.proofs.lemmas.List.Elements.{All-get_or, All-map, All-set, All-weaker}
 pub use Rattle.cell_relax.proofs.Sides.{each_side, heads_in_range, is_side, tighter_first, tighter_head, tighter_is_one, tighter_second}
 pub use Rattle.cell_relax.specs.{AreNoLooser, AreWords, IsAsTight, IsRelaxedOn, head_of, heads_on, other, tighter_of}
-pub use Rattle.relax_core.specs.{AreEdges, Becomes, Core, IsInRange, IsKept, IsNamed, KeepsHeads, OnTheWay, Path, Puts, Relaxes, Step, WasSeen, WereSeen}
-pub use Rattle.relax_core.specs.{edge_on, seen_by, with_head}
+pub use Rattle.relax_core.specs.{Becomes, Core, IsInRange, IsKept, IsNamed, KeepsHeads, OnTheWay, Path, Relaxes, Step, WasSeen, WereSeen, edge_on, seen_by}
+pub use Rattle.relax_core.specs.{with_head}
 pub use Rattle.relax_core.specs.declared.events.Event.{Event}
 pub use Rattle.relax_core.specs.declared.events.Event.TheVariants.{Claim, Raise, See, Sink}
-pub use Rattle.step_problem.proofs.BothSides.{high_side, low_side}
-pub use Rattle.step_problem.proofs.Sides.{IsSide, edge_kept, relaxed_head, same_on_the_way}
-pub use Rattle.step_problem.proofs.SidesTurns.{by_cell, same_seen, seen_itself, sees, still_seen, tighter, turn_keeps}
-pub use Rattle.step_problem.specs.{AreOnTheWay, Edges, IsBarrier, IsExchange, IsHead, IsProblem, head_at, lower_at, no_bound, upper_at}
+pub use Rattle.step_problem.proofs.Sides.{IsSide, relaxed_head, same_on_the_way}
+pub use Rattle.step_problem.proofs.SidesTurns.{by_cell, same_seen, sees, still_seen, tighter, turn_keeps}
+pub use Rattle.step_problem.specs.{AreOnTheWay, Edges, IsExchange, IsHead, IsProblem, lower_at, no_bound, upper_at}
 pub use Rattle.step_problem.specs.Entries.{Entries}
 pub use Rattle.step_problem.specs.declared.heads.Bound.{Bound}
 pub use Rattle.step_problem.specs.declared.heads.Side.{Side}

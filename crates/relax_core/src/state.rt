@@ -123,6 +123,7 @@ impl State {
 
 /// Performs one event, and takes no memory. The state must have one bound for each cell, in range, in its
 /// words and in what each actor has seen; the event names an actor of the state and a cell of the problem.
+#[tactic(auto, using(crate::proofs::Ranges::step_in_range, crate::proofs::Keeping::step_keeps, crate::proofs::Keeping::step_no_looser))]
 pub fn apply(p: &Problem, state: &mut State, event: Event)
     requires in_range { IsInRange p.now state.old }
     requires named { IsNamed p.now state.old event }

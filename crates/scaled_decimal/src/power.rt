@@ -54,6 +54,7 @@ impl Power {
     }
 }
 
+#[tactic(auto, using(decimal_input::proofs::Powers::power_within))]
 pub(crate) fn power_of_ten(places: u32) -> Power
     requires within { places ≤ 38 }
     ensures power { result.unit ≡ 10 ^ places }

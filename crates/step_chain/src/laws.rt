@@ -34,6 +34,7 @@ pub fn no_step_beside_a_refusal()
 }
 
 /// A step has at most one refusal.
+#[tactic(auto, using(crate::proofs::Refusals::refusals_one))]
 pub fn one_refusal()
     ensures { RefusalIsOne }
 {
@@ -64,6 +65,7 @@ pub fn steps_enclose()
 }
 
 /// A step by plain limits is one by wide limits.
+#[tactic(auto, using(crate::proofs::OneStep::wide_keeps))]
 pub fn wide_keeps_steps()
     ensures { WideKeepsSteps }
 {}

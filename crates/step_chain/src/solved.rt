@@ -78,6 +78,7 @@ impl From<SettleFault> for StepFault {
 
 /// The barrier of a problem by limits, or its refusal of 24 to 27; with wide limits floors and ceilings out of the range of
 /// heads are cut, and the refusal is 24 or 25.
+#[tactic(auto, using(crate::proofs::Limits::plain_found, crate::proofs::Limits::plain_uncut))]
 pub fn barrier_by(alloc: Global, limits: Limits, p: &Problem) -> Result<Barrier, BarrierFault>
     ensures barrier { IfOk result (IsBarrierBy limits p.now) }
     ensures fault { IfErr result (IsBarrierFault limits p.now) }
@@ -121,6 +122,7 @@ fn settle_cut<S: Settler>(
 
 /// The settler's pair over a barrier by limits. With wide limits a settled pair that is no certificate over the cut barrier is
 /// refused.
+#[tactic(auto, using(step_problem::proofs::Pairs::either_certifies, step_problem::proofs::Pairs::given_is, crate::proofs::Limits::edges_fit))]
 pub(crate) fn settle_by<S: Settler>(
     alloc: Global,
     limits: Limits,

@@ -19,7 +19,7 @@ pub use Rattle.step_chain.proofs.Limits.{edges_fit}
 pub use Rattle.step_chain.specs.{AreHeadsOf, HasNoHeads, HeadsFit, IsSettledStep, bound_at, edges_by}
 pub use Rattle.step_chain.specs.declared.solved.Solved.{Solved}
 pub use Rattle.step_or_refusal.specs.{BarrierOrRefusal, CutBarrierOrRefusal, ListingOrRefusal, StepOrRefusal}
-pub use Rattle.step_problem.specs.{AreSettled, Edges, IsCertificate, IsFirstSettled, IsHead, IsProblem, IsSettledPair, SettledPairExists, entries_at, head_at}
+pub use Rattle.step_problem.specs.{AreSettled, Edges, IsCertificate, IsFirstSettled, IsProblem, IsSettledPair, SettledPairExists, entries_at, head_at}
 pub use Rattle.step_problem.specs.{head_limit, lower_at, lower_balance, no_bound, number_of, upper_at, upper_balance}
 pub use Rattle.step_problem.specs.Entries.{Entries}
 pub use Rattle.step_problem.specs.declared.heads.Bound.{Bound}

@@ -1,20 +1,15 @@
 -- A problem with a barrier has a settled pair as a list, and the heads of all cells by that pair.
 use Rattle.step_or_refusal.proofs.Common.{◌≡◌, ℕ, ◌<◌, ◌∙◌, inl, inr, Bool, true, false, List, length, map, refl, sym, ap, subst, arith, ℤ, Bound, Edges}
 use Rattle.step_or_refusal.proofs.Common.{no_bound, lower_at, upper_at, IsSettledPair, FlowModel, TimeStep, one_deck, Entries, range_with_len, cases_Bool}
-use Rattle.step_or_refusal.proofs.Common.{false≢true, length-map-range_with_len, get_or-map-range_with_len, IsProblem, IsHead, IsConstantPair, bound_at}
-use Rattle.step_or_refusal.proofs.Common.{AreHeadsOf, AreSettled, IsFirstSettled, cell_count, is_variable, index_of, is_active, not, ◌&&◌}
+use Rattle.step_or_refusal.proofs.Common.{false≢true, length-map-range_with_len, get_or-map-range_with_len, IsProblem, IsConstantPair, bound_at, AreHeadsOf}
+use Rattle.step_or_refusal.proofs.Common.{AreSettled, IsFirstSettled, cell_count, is_variable, index_of, is_active, not, ◌&&◌}
 use Rattle.step_problem.proofs.BothSides.{low_side, high_side}
 use Rattle.step_problem.proofs.Sides.{IsSide, same_as_tight, as_tight_trans, same_settled}
 use Rattle.problem_builder.proofs.Members.{variable_active, constant_active}
 
 -- being the first settled vector is of the cells below n alone
 same_first : {Le : ℤ → ℤ → Type 0} {Moves : ℕ → ℤ → (ℕ → ℤ) → Type 0} {n : ℕ} (s : IsSide Le Moves n) (edge l m : ℕ → ℤ) → ((c : ℕ) → c < n → m c ≡ l c) → IsFirstSettled Le Moves n edge l → IsFirstSettled Le Moves n edge m
-same_first {Le} s edge l m e k = record {
-  heads = λ c h. subst IsHead (sym (e c h)) (k.heads c h);
-  past_barrier = as_tight_trans s edge l m k.past_barrier (same_as_tight s l m e);
-  settled = same_settled s l m e k.settled;
-  first = λ x ok settled b c h. subst (λ (y : ℤ). Le y (x c)) (sym (e c h)) (k.first x ok settled b c h);
-}
+same_first {Le} s edge l m e k = grind (arith, as_tight_trans, same_as_tight, same_settled)
 
 module _ (n : ℕ) (f : ℕ → Bound) where
   pub bounds_of : List Bound

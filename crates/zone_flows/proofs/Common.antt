@@ -1,12 +1,11 @@
 -- Names that several proofs of this crate cite, of the crates below and of its own definitions, passed on from one place. Declares nothing.
-pub use Rattle.std.proofs.Common.{All, Bool, Err, FitsSigned, List, None, Ok, Option, Result, Some, [], ap, append_assoc, arith, cond, false, get_or, inl, inr}
-pub use Rattle.std.proofs.Common.{length, map, neg_ℤ, negsuc, pos, refl, rules, slice_index, subst, suc, sym, take, true, unsigned_abs, zero, ℕ, ℤ, ◌%◌, ◌*◌}
-pub use Rattle.std.proofs.Common.{◌++◌, ◌+ℤ◌, ◌+◌, ◌-ℤ◌, ◌/◌, ◌<ℤ◌, ◌<◌, ◌^◌, ◌∙◌, ◌∷◌, ◌≡◌, ◌≤ℤ◌, ◌≤◌}
+pub use Rattle.std.proofs.Common.{All, Bool, Err, List, None, Ok, Option, Result, Some, [], ap, append_assoc, arith, cond, false, get_or, inl, inr, length, map}
+pub use Rattle.std.proofs.Common.{neg_ℤ, negsuc, pos, refl, slice_index, subst, suc, sym, take, true, unsigned_abs, zero, ℕ, ℤ, ◌%◌, ◌*◌, ◌++◌, ◌+ℤ◌, ◌+◌, ◌-ℤ◌}
+pub use Rattle.std.proofs.Common.{◌/◌, ◌<ℤ◌, ◌<◌, ◌∙◌, ◌∷◌, ◌≡◌, ◌≤ℤ◌, ◌≤◌}
 pub use Rattle.std.proofs.lemmas.Bool.{and_parts, cases_lt, true≢false}
-pub use Rattle.std.proofs.lemmas.Int.{clamps, ints, to_z-of_z}
+pub use Rattle.std.proofs.lemmas.Int.{clamps, ints}
 pub use Rattle.std.proofs.lemmas.List.{append-nil, map-append, take_all, take_more}
 pub use Rattle.std.proofs.lemmas.List.Elements.{All-cons, All-from_get_or, All-head, All-nil, All-tail, All-weaker, filter-append}
-pub use Rattle.std.specs.Int.{int_max, int_min, w128}
 pub use Rattle.std.specs.Int.Signed.{lt_z}
 pub use Rattle.std.specs.List.{AllZip, filter, flat_map}
 pub use Rattle.std.specs.Map.{values_of}
@@ -16,7 +15,7 @@ unfoldable pub use Rattle.budget_bounds.specs.{parts}
 pub use Rattle.budget_bounds.specs.declared.pair.TermPair.{TermPair}
 pub use Rattle.cell_balance.specs.{CellEncloses, EnclosesStep, ExactCell, ExactFixed, ExactLink, FixedEncloses, LinkEncloses, cell_at, minus}
 pub use Rattle.decimal_input.specs.{Encloses, EnclosesSigned, Fraction, Ratio, signed}
-pub use Rattle.step_problem.specs.{IsProblem, IsWithin, entries_at, least, lower_at, most, no_entries, no_link, total, upper_at}
+pub use Rattle.step_problem.specs.{IsProblem, entries_at, least, most, no_entries, no_link, total}
 pub use Rattle.step_problem.specs.Entries.{Entries}
 pub use Rattle.step_problem.specs.declared.entry.Fixed.{Fixed}
 pub use Rattle.step_problem.specs.declared.entry.FixedKind.TheVariants.{Constant, General, Storage}

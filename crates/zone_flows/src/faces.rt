@@ -83,6 +83,7 @@ fn add_link(table: &mut Table, walk: &Walk, id: u32, x: &Link) -> Result<(), All
     }
 }
 
+#[tactic(auto, using(crate::proofs::Tables::nothing, crate::proofs::Tables::one_more))]
 fn add_links(table: &mut Table, walk: &Walk, id: u32, links: &[Link]) -> Result<(), AllocError>
     requires id { id < length walk.now.zones.now }
     requires ends { All (λ x. x.cell < length walk.now.problem.now) links.now }
@@ -115,6 +116,7 @@ fn add_constant(table: &mut Table, walk: &Walk, id: u32, x: &Fixed) -> Result<()
     }
 }
 
+#[tactic(auto, using(crate::proofs::Tables::nothing, crate::proofs::Tables::one_more))]
 fn add_fixed(table: &mut Table, walk: &Walk, id: u32, fixed: &[Fixed]) -> Result<(), AllocError>
     requires id { id < length walk.now.zones.now }
     requires sources { All (λ x. x.source < length walk.now.zones.now) fixed.now }
@@ -142,6 +144,7 @@ fn add_cell(table: &mut Table, walk: &Walk, cell: &Cell) -> Result<(), AllocErro
 }
 
 /// Adds the faces of a problem.
+#[tactic(auto, using(crate::proofs::Tables::nothing, crate::proofs::Tables::one_more, crate::proofs::Tables::all_gained))]
 pub(crate) fn add_faces(table: &mut Table, walk: &Walk) -> Result<(), AllocError>
     requires { (c : ℕ) → c < length walk.now.problem.now → All (λ x. x.source < length walk.now.zones.now) (entries_at walk.now.problem.now c).fixed }
     ensures { OnOk result (Gains table.old.map table.new.map (walk_faces walk.now)) }

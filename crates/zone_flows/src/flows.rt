@@ -16,6 +16,7 @@ use step_problem::{Bound, Problem, ZoneFlow};
 /// of `p` are in units of 10^-s: one for each pair of zones that share a face with a variable cell, in order of the pairs.
 /// `zones` has the zone of each cell of the grid, 0 to 999, where 0 is none; `heads` has the bounds of its head, in units of
 /// 10^-9. FlowTooLarge (23) at the first pair where, in either sum, the magnitudes of the summands reach 2^126.
+#[tactic(auto, using(crate::proofs::ListedFlows::ok_encloses, crate::proofs::Tables::flows_are))]
 pub fn zone_flows(
     alloc: Global,
     p: &Problem,

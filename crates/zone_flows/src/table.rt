@@ -34,6 +34,7 @@ fn plus_flow(sum: ZoneSum, flow: TermPair) -> ZoneSum
 }
 
 /// Adds the flow across a face between two zones.
+#[tactic(auto, using(crate::proofs::Tables::gained, crate::proofs::Tables::sum_in, crate::proofs::Tables::sums_grow))]
 pub(crate) fn add_face(
     table: &mut Table,
     from: u32,

@@ -1,5 +1,5 @@
-use Rattle.budget_bounds.proofs.Common.{◌≡◌, arith, length, In, Out, lower_at, upper_at}
-use Rattle.budget_bounds.proofs.Caps.{one_more, all_below}
+use Rattle.budget_bounds.proofs.Common.{In, Out, lower_at, upper_at}
+use Rattle.budget_bounds.proofs.Caps.{one_more}
 use Rattle.budget_bounds.proofs.terms.flow_sums.Goals as goal
 
 pub loop-c-preserved : goal.loop-c-preserved
@@ -13,13 +13,3 @@ loop-c-preserved c =
       out = λ t. one_more p l u Out t c.loop-c.c _ _ (c.loop-c.invariant.out t) (rw c.cell-cell.ensures at (c.add_cell-in-loop-c.ensures.value t));
       out_sums = c.add_cell-in-loop-c.ensures.sums;
     }
-
-pub returns-clause-into : goal.returns-clause-into
-returns-clause-into c =
-    let all : c.loop-c.c ≡ length c.args.p.now = omega (arith, c.len-c-end.ensures.count) in
-    λ t. all_below c.args.p.now (lower_at c.args.bounds.now) (upper_at c.args.bounds.now) In t c.loop-c.c _ all (c.loop-c.invariant.into t)
-
-pub returns-clause-out : goal.returns-clause-out
-returns-clause-out c =
-    let all : c.loop-c.c ≡ length c.args.p.now = omega (arith, c.len-c-end.ensures.count) in
-    λ t. all_below c.args.p.now (lower_at c.args.bounds.now) (upper_at c.args.bounds.now) Out t c.loop-c.c _ all (c.loop-c.invariant.out t)

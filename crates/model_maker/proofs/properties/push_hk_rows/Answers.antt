@@ -1,12 +1,5 @@
-use Rattle.model_maker.proofs.Common.{◌*◌, after, hk_row}
-use Rattle.model_maker.proofs.Texts.{no_rows, no_text, one_row, next_row}
+use Rattle.model_maker.proofs.Texts.{one_row, next_row}
 use Rattle.model_maker.proofs.properties.push_hk_rows.Goals as goal
-
-pub loop-init : goal.loop-init
-loop-init c = record {
-  text = no_text c.args.text.now.items (λ i. hk_row c.args.size (after (i * c.args.size) c.args.draws.now.x));
-  next = no_rows c.args.size c.args.draws.now.x;
-}
 
 pub loop-preserved : goal.loop-preserved
 loop-preserved c = record {

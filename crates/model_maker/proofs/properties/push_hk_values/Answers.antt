@@ -1,12 +1,5 @@
-use Rattle.model_maker.proofs.Common.{◌++◌, after, gap, hk_text}
-use Rattle.model_maker.proofs.Texts.{after_none, no_text, one_value, next_value}
+use Rattle.model_maker.proofs.Texts.{one_value, next_value}
 use Rattle.model_maker.proofs.properties.push_hk_values.Goals as goal
-
-pub loop-place-init : goal.loop-place-init
-loop-place-init c = record {
-  text = no_text c.args.text.now.items (λ j. gap j ++ hk_text (after j c.args.draws.now.x));
-  next = after_none c.args.draws.now.x;
-}
 
 pub loop-place-preserved : goal.loop-place-preserved
 loop-place-preserved c = record {

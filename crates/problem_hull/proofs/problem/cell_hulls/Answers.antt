@@ -3,9 +3,6 @@ use Rattle.std.proofs.lemmas.Result.{err_from_is_err_and}
 use Rattle.problem_hull.proofs.Hulls.{hull_more, unlike_cells}
 use Rattle.problem_hull.proofs.problem.cell_hulls.Goals as goal
 
-pub loop-i-init : goal.loop-i-init
-loop-i-init c = record { alike = refl; is = c.new-cells.ensures.items }
-
 pub loop-i-preserved : goal.loop-i-preserved
 loop-i-preserved c =
     let p = c.args.p.now in

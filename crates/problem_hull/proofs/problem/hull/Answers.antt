@@ -1,5 +1,5 @@
-use Rattle.problem_hull.proofs.Common.{◌<◌, ◌∙◌, ℕ, List, All, ap, length, sym, subst, RiverFits, EvapFits, Entries, entries_at, first_refusal}
-use Rattle.problem_hull.proofs.Fits.{cell_has, rivers_fit, evaps_fit, is_problem}
+use Rattle.problem_hull.proofs.Common.{◌<◌, ℕ, List, All, length, sym, subst, RiverFits, EvapFits, Entries, entries_at}
+use Rattle.problem_hull.proofs.Fits.{cell_has, rivers_fit, evaps_fit}
 use Rattle.problem_hull.proofs.problem.hull.Goals as goal
 
 pub first_too_large-requires-clause-rivers : goal.first_too_large-requires-clause-rivers
@@ -11,14 +11,3 @@ pub first_too_large-requires-clause-evaps : goal.first_too_large-requires-clause
 first_too_large-requires-clause-evaps c =
     subst (λ (r : List Entries). (k : ℕ) → k < length r → All EvapFits (entries_at r k).evaps) (sym c.deref.ensures.value)
     (λ k lt. cell_has c.args.p.now c.args.q.now c.in_ok-cells.cells.items c.recall_conditions.ensures.fits c.recall_conditions-2.ensures.fits c.in_ok-cells.ensures.hulls k lt (λ (x : Entries). All EvapFits x.evaps) evaps_fit)
-
-pub new-requires : goal.new-requires
-new-requires c =
-    is_problem c.args.p.now c.args.q.now c.in_ok-cells.cells.items c.recall_conditions.ensures.fits c.recall_conditions-2.ensures.fits c.in_ok-cells.ensures.hulls
-    (ap first_refusal (sym c.deref.ensures.value) ∙ sym c.in-None.ensures)
-
-pub returns-in-Some-clause-fault : goal.returns-in-Some-clause-fault
-returns-in-Some-clause-fault c = record {
-  alike = c.in_ok-cells.ensures.hulls.alike;
-  first = ap first_refusal (sym c.in_ok-cells.ensures.hulls.is) ∙ ap first_refusal (sym c.deref.ensures.value) ∙ sym c.in-Some.ensures;
-}

@@ -1,4 +1,5 @@
-use Rattle.relax_core.proofs.Common.{ℕ, ℤ, IsSide, turn_keeps, tighter, still_seen, sees, low_side, high_side, KeepsHeads}
+use Rattle.relax_core.proofs.Common.{ℕ, ℤ, IsSide, turn_keeps, tighter, still_seen, sees, KeepsHeads}
+use Rattle.step_problem.proofs.BothSides.{low_side, high_side}
 use Rattle.relax_core.proofs.laws.events_keep_heads.Goals as goal
 
 side_keeps : {Le : ℤ → ℤ → Type 0} {Moves : ℕ → ℤ → (ℕ → ℤ) → Type 0} {n : ℕ} → IsSide Le Moves n → KeepsHeads Le Moves n

@@ -1,4 +1,4 @@
-use Rattle.relax_worker.proofs.Common.{ℕ, ◌%◌, length, ℤ, sym, ap, ◌∙◌, subst, Side, Low, High, HasMoved, seen_on, seen_of, no_looser_trans}
+use Rattle.relax_worker.proofs.Common.{ℕ, ◌%◌, length, ℤ, sym, ap, ◌∙◌, subst, Side, Low, High, HasMoved, seen_on}
 use Rattle.relax_worker.proofs.workers.turn.Goals as goal
 
 -- the raise stays when the cell is sunk, and the sink begins with what was seen before the raise
@@ -14,6 +14,3 @@ returns-clause-moved c =
       | High ↦ subst (λ (u : ℕ → ℤ). HasMoved High p u at (seen_on High after at)) (λ i d. c.relax_cell.ensures.opposite d i) c.relax_cell-2.ensures.gain
     ] in
     λ side. subst (λ (n : ℕ). HasMoved side p (seen_on side before) n (seen_on side after n)) here (moved side)
-
-pub returns-clause-no_looser : goal.returns-clause-no_looser
-returns-clause-no_looser c = no_looser_trans c.args.table.now.problem.now (seen_of c.args.seat.now) (seen_of c.relax_cell.new.seat) (seen_of c.relax_cell-2.new.seat) c.relax_cell.ensures.no_looser c.relax_cell-2.ensures.no_looser

@@ -1,17 +1,10 @@
-use Rattle.scaled_decimal.proofs.Common.{ℕ, ◌/◌, ◌≤◌, ◌^◌, ap, arith, ints}
+use Rattle.scaled_decimal.proofs.Common.{ℕ, ◌/◌, ap, arith, ints}
 use Rattle.scaled_decimal.proofs.Nearest.{down_at_18, down_at_19}
-use Rattle.scaled_decimal.proofs.Between.{power_pos, at_least_quotient}
 use Rattle.scaled_decimal.proofs.rounding.round_dn.Goals as goal
 
 pub returns-then-front-lt-LIMIT-clause-nearest : goal.returns-then-front-lt-LIMIT-clause-nearest
 returns-then-front-lt-LIMIT-clause-nearest c =
     down_at_18 _ c.args.q c.args.behind.unit c.args.behind.places c.args.e c.requires.power c.requires.least (omega (arith, c.quotient-front.ensures)) c.quotient-front.ensures (omega (arith, ints))
-
-pub returns-then-front-lt-LIMIT-clause-size : goal.returns-then-front-lt-LIMIT-clause-size
-returns-then-front-lt-LIMIT-clause-size c =
-    let positive = power_pos c.args.behind.unit c.args.behind.places c.requires.power in
-    let front : 10 ^ 17 ≤ c.args.q / c.args.behind.unit = at_least_quotient c.args.q c.args.behind.unit (10 ^ 17) positive c.requires.least in
-    record { positive = omega arith; above = omega (arith, ints); below = omega (arith, ints) }
 
 pub returns-else-front-lt-LIMIT-clause-nearest : goal.returns-else-front-lt-LIMIT-clause-nearest
 returns-else-front-lt-LIMIT-clause-nearest c =

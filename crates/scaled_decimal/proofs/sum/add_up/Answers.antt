@@ -16,9 +16,6 @@ returns-then-a-b-clause-size c = λ pa pb. HasSize-wider _ _ _ _ _ (omega (arith
 pub returns-else-a-b-clause-nearest : goal.returns-else-a-b-clause-nearest
 returns-else-a-b-clause-nearest c = subst (IsUp c.sum_up-else-a-b.result) (plus-comm _ _) c.sum_up-else-a-b.ensures.nearest
 
-pub returns-else-a-b-clause-size : goal.returns-else-a-b-clause-size
-returns-else-a-b-clause-size c = λ pa pb. HasSize-wider _ _ _ _ _ (omega (arith, ints, clamps)) (omega (arith, ints, clamps)) c.sum_up-else-a-b.ensures.size
-
 pub returns-then-a-b-clause-exponent : goal.returns-then-a-b-clause-exponent
 returns-then-a-b-clause-exponent c = HasSize-within _ _ _ _ _ (omega (arith, ints, clamps)) (omega (arith, ints, clamps)) c.sum_up.ensures.size
 

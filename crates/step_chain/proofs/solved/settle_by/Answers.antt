@@ -1,23 +1,11 @@
-use Rattle.step_chain.proofs.Common.{subst, sym, IsBarrierBy, edges_by, IsPairOf, Limits, Plain, either_certifies, given_is}
+use Rattle.step_chain.proofs.Common.{subst, IsBarrierBy, Limits, Plain, either_certifies, given_is}
 use Rattle.step_chain.proofs.Limits.{edges_fit}
 use Rattle.step_chain.proofs.solved.settle_by.Goals as goal
-
-pub settle-requires-clause-barrier : goal.settle-requires-clause-barrier
-settle-requires-clause-barrier g c =
-    let B : Limits → Type 0 = λ limits. IsBarrierBy limits c.args.p.now c.args.barrier.now in
-    edges_fit Plain c.args.p.now c.args.barrier.now (subst B c.in-Plain.is c.requires.barrier)
 
 pub settle_cut-requires-clause-barrier : goal.settle_cut-requires-clause-barrier
 settle_cut-requires-clause-barrier g c =
     let B : Limits → Type 0 = λ limits. IsBarrierBy limits c.args.p.now c.args.barrier.now in
     subst B c.in-Wide.is c.requires.barrier
-
-pub returns-in_ok-settle-in-Plain-clause-pair : goal.returns-in_ok-settle-in-Plain-clause-pair
-returns-in_ok-settle-in-Plain-clause-pair g c =
-    let B : Limits → Type 0 = λ limits. IsBarrierBy limits c.args.p.now c.args.barrier.now in
-    let P : Limits → Type 0 = λ limits. IsPairOf c.args.p.now g.S.Settler.pairs (edges_by limits c.args.barrier.now) c.in_ok-settle-in-Plain.field-0.items in
-    let bars = edges_fit Plain c.args.p.now c.args.barrier.now (subst B c.in-Plain.is c.requires.barrier) in
-    subst P (sym c.in-Plain.is) (given_is c.args.p.now c.args.barrier.now c.recall_conditions.ensures.fits bars g.S.Settler.pairs _ c.in_ok-settle-in-Plain.ensures.settles)
 
 pub returns-in_ok-settle-in-Plain-clause-certificate : goal.returns-in_ok-settle-in-Plain-clause-certificate
 returns-in_ok-settle-in-Plain-clause-certificate g c =

@@ -1,14 +1,8 @@
 use Rattle.step_chain.proofs.Common.{◌<◌, sym, ap, ◌∙◌, arith, cell_count, bound_at}
 use Rattle.problem_builder.proofs.KindsOf.{variable_kind}
-use Rattle.step_chain.proofs.Assembled.{kind_variable, partly_at_first, partly_other, partly_variable, all_filled}
+use Rattle.step_chain.proofs.Assembled.{kind_variable, partly_other, partly_variable, all_filled}
 use Rattle.step_chain.proofs.step.fill_in.Goals.{in-Variable, in_default}
 use Rattle.step_chain.proofs.step.fill_in.Goals as goal
-
-pub loop-cell-init : goal.loop-cell-init
-loop-cell-init c = partly_at_first c.args.decks.now c.args.at c.args.bounds.now c.args.constant_heads c.requires.constant
-
-pub set-requires : goal.set-requires
-set-requires c = record { place = omega (arith, c.loop-cell.invariant.whole, c.loop-cell-test.true, c.cell_count-count.ensures.count) }
 
 pub loop-cell-preserved : goal.loop-cell-preserved
 loop-cell-preserved c =

@@ -1,17 +1,11 @@
 use Rattle.step_chain.proofs.Common.{List, subst, sym, true, Bound, IsBefore, Solved, AreHeadsOf, IsCertificate, lower_at, PairKind, IsPairOf, edges_by}
 use Rattle.step_chain.proofs.Common.{upper_at, digits_of}
 use Rattle.std.proofs.lemmas.Result.{err_from_is_err_and}
-use Rattle.step_chain.proofs.Refusals.{barrier_fails, settle_fails}
-use Rattle.step_chain.proofs.OneStep.{pair_words}
+use Rattle.step_chain.proofs.Refusals.{settle_fails}
 use Rattle.step_chain.proofs.Limits.{AreParts, is_step, leads_or_rests, led_by}
 use Rattle.step_chain.proofs.step.next_step_with.Goals.{After-heads_fit}
 use Rattle.step_chain.proofs.step.next_step_with.Given as given
 use Rattle.step_chain.proofs.step.next_step_with.Goals as goal
-
-pub returns-in_err-barrier-clause-fault : goal.returns-in_err-barrier-clause-fault
-returns-in_err-barrier-clause-fault g c =
-    let p = err_from_is_err_and c.from_residual-in_err-barrier.result c.from_residual-in_err-barrier.ensures.1 in
-    rw (p.1, p.2) (barrier_fails c.args.decks.now (digits_of c.args.tables.now.first) c.args.at c.args.old.now (g.S.Settler.rounds c.args.settler.now) c.in_ok-posed.posed.problem c.in_ok-posed.ensures.problem c.args.limits c.in_err-barrier.field-0.0 c.in_err-barrier.ensures.fault)
 
 pub returns-in_err-settle_by-clause-fault : goal.returns-in_err-settle_by-clause-fault
 returns-in_err-settle_by-clause-fault g c =
@@ -46,16 +40,6 @@ parts g c =
 
 before : (g : given.Over) (c : goal.After-heads_fit g) → IsBefore c.args.decks.now c.args.at c.args.old.now
 before g c = record { decks = c.requires.decks; time = c.requires.time; heads = c.requires.old }
-
-pub returns-clause-step : goal.returns-clause-step
-returns-clause-step g c =
-    let made = (goal.at.returns-clause-step g c).After-heads_fit in
-    is_step c.args.limits c.args.decks.now (digits_of c.args.tables.now.first) c.args.at c.args.old.now (kind g) c.in_ok-barrier.barrier (solved g made) (parts g made)
-
-pub returns-clause-words : goal.returns-clause-words
-returns-clause-words g c =
-    let made = (goal.at.returns-clause-words g c).After-heads_fit in
-    pair_words (kind g) c.in_ok-posed.posed.problem (edges_by c.args.limits c.in_ok-barrier.barrier) c.new-bounds.result (parts g made).pair
 
 pub returns-clause-heads : goal.returns-clause-heads
 returns-clause-heads g c =

@@ -1,13 +1,6 @@
-use Rattle.batch_book.proofs.Common.{◌≡◌, rules, ℕ, ◌<◌, ◌++◌, List, length, Option, ap, sym, ◌∙◌, subst, arith, HasEnd, AreJobEnds, those_there}
-use Rattle.batch_book.proofs.Placed.{first_there, none_left, are_ends}
+use Rattle.batch_book.proofs.Common.{◌≡◌, rules, ℕ, ◌<◌, List, length, Option, ap, sym, ◌∙◌, subst, arith, HasEnd, AreJobEnds, those_there}
+use Rattle.batch_book.proofs.Placed.{none_left, are_ends}
 use Rattle.batch_book.proofs.book.Book.into_ends.Goals as goal
-
-pub loop-place-preserved : goal.loop-place-preserved
-loop-place-preserved g c =
-    let E = g.row.J-End.Denot in
-    let before : List E = c.loop-place.ends.items in
-    let rest : List (Option E) = c.next.new.self.rest.items in
-    ap (λ l. l ++ those_there rest) c.in_ok-push_end.ensures ∙ (first_there before c.in-Some.place rest ∙ (ap (λ l. before ++ those_there l) (sym c.in-Some.ensures.steps.0) ∙ c.loop-place.invariant))
 
 pub returns : goal.returns
 returns g c =

@@ -1,4 +1,5 @@
-use Rattle.batch_book.proofs.Common.{◌≡◌, ℕ, List, length, Option, Some, None, subst, IsMissing}
+use Rattle.batch_book.proofs.Common.{◌≡◌, ℕ, List, length, Option, None, subst, IsMissing}
+use Rattle.std.proofs.Common.{Some}
 use Rattle.batch_book.proofs.book.Book.missing.Goals as goal
 
 -- the least empty place of a book is the least job without an end
