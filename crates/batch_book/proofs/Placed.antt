@@ -1,5 +1,5 @@
 -- Ends in their places.
-use Rattle.batch_book.proofs.Common.{◌≡◌, ℕ, zero, suc, ◌+◌, ◌-◌, ◌<◌, List, [], ◌∷◌, ◌++◌, length, refl, sym, ap, ◌∙◌, subst, append_assoc, get_or, true}
+use Rattle.batch_book.proofs.Common.{◌≡◌, ℕ, zero, suc, ◌+◌, ◌-◌, ◌<◌, List, [], ◌∷◌, ◌++◌, length, refl, sym, ap, ◌∙◌, subst, get_or, true}
 use Rattle.batch_book.proofs.Common.{false, true≢false, inl, inr, arith, IfSome, is_none, slice_get, end_at, first_of, AreOwn, HasEnd, IsPut, IsMissing}
 use Rattle.batch_book.proofs.Common.{AreJobEnds, those_there, Some}
 use Rattle.std.proofs.lemmas.Bool.{cases_eq, cases_lt}
@@ -22,14 +22,6 @@ has_more places place x h read test before k l =
 none_of : {E : Type 0} (x : Option E) → is_none x ≡ true → x ≡ None
 none_of None h = refl
 none_of (Some e) h = absurd (true≢false (sym h))
-
-pub is_empty_at : {E : Type 0} (places : List (Option E)) (place : ℕ) (x : Option E) → place < length places → x ≡ get_or places place x → is_none x ≡ true → end_at places place ≡ None
-is_empty_at places place x h read test = sym (get_or_read places place x h read None) ∙ none_of x test
-
--- the first place, and the others
-pub first_there : {E : Type 0} (ends : List E) (x : Option E) (rest : List (Option E)) → (ends ++ those_there (x ∷ [])) ++ those_there rest ≡ ends ++ those_there (x ∷ rest)
-first_there ends None rest = append_assoc ends [] (those_there rest)
-first_there ends (Some e) rest = append_assoc ends (e ∷ []) (those_there rest)
 
 pub none_left : {E : Type 0} (ends : List E) (rest : List (Option E)) → length rest ≡ 0 → ends ++ those_there rest ≡ ends
 none_left ends [] h = append-nil ends

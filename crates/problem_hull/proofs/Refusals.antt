@@ -1,7 +1,7 @@
 -- A hull that is a problem has no refusal.
-use Rattle.problem_hull.proofs.Common.{◌≡◌, ◌+◌, ◌<◌, ◌^◌, ◌∙◌, [], ◌∷◌, ℕ, zero, suc, arith, None, Option, Some, List, drop, get_or, length, sym, ap, refl}
+use Rattle.problem_hull.proofs.Common.{◌≡◌, ◌<◌, ◌^◌, ◌∙◌, [], ◌∷◌, ℕ, zero, suc, arith, None, Option, Some, List, get_or, length, sym, ap, refl}
 use Rattle.problem_hull.proofs.Common.{conductance_of, flow_of, IsProblem, Entries, entries_at, no_entries, IsHull, sum_refusal, first_refusal, IsTooLarge}
-use Rattle.problem_hull.proofs.Common.{get_or_default, drop_more, refusal_at}
+use Rattle.problem_hull.proofs.Common.{get_or_default, refusal_at}
 use Rattle.std.proofs.lemmas.Bool.Decides.{nat_tests}
 use Rattle.std.specs.Option.{option_map, option_or}
 use Rattle.step_problem.specs.declared.place.NoBound.{NoBound}
@@ -34,14 +34,6 @@ pub none_of_each : (r : List Entries) → first_refusal r ≡ None → (c : ℕ)
 none_of_each [] e c lt = absurd (omega arith)
 none_of_each (x ∷ r) e zero lt = (none_here x (sum_refusal x) (first_refusal r) e).0
 none_of_each (x ∷ r) e (suc c) lt = none_of_each r (none_here x (sum_refusal x) (first_refusal r) e).1 c (omega arith)
-
-pub not_some : (o : Option ℕ) → ((code : ℕ) → o ≡ Some code → ⊥) → o ≡ None
-not_some None none = refl
-not_some (Some code) none = absurd (none code refl)
-
--- the refusals from a cell on, by that cell's
-pub refusals_from : (r : List Entries) (i : ℕ) (c : Entries) (o : Option ℕ) → i < length r → c ≡ get_or r i c → o ≡ sum_refusal c → first_refusal (drop i r) ≡ option_or (option_map (refusal_at c) o) (first_refusal (drop (i + 1) r))
-refusals_from r i c o lt e is = grind (arith, drop_more)
 
 -- the cell of an index, by any item that stands for one past the end
 pub entries_named : (r : List Entries) (i : ℕ) (c : Entries) → i < length r → c ≡ get_or r i c → entries_at r i ≡ c

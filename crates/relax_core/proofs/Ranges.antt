@@ -1,5 +1,5 @@
 -- Every event keeps words and what was seen in range.
-use Rattle.relax_core.proofs.Common.{◌≡◌, ℕ, ◌<◌, List, [], length, All, ℤ, sym, ap, subst, ◌∙◌, arith, length-set, All-get_or, All-set, Bound, Side, Low, High}
+use Rattle.relax_core.proofs.Common.{ℕ, ◌<◌, List, [], length, All, ℤ, sym, subst, ◌∙◌, arith, All-get_or, All-set, Bound, Side, Low, High}
 use Rattle.relax_core.proofs.Common.{Entries, IsHead, IsProblem, relaxed_head, by_cell, other, heads_on, AreWords, is_side, each_side, Event, See, Raise, Sink}
 use Rattle.relax_core.proofs.Common.{Claim, Core, seen_by, with_head, Becomes, IsInRange, IsNamed, Relaxes, Step, tighter_head, heads_in_range}
 use Rattle.relax_core.proofs.Keeping.{seen_length, seen_here, seen_else, other_seen}
@@ -40,10 +40,3 @@ module _ (p : List Entries) where
     words = subst (AreWords p) (sym step.0) range.words;
     seen = subst (All (AreWords p)) (sym step.1) range.seen;
   }
-
--- an event leaves the number of actors
-pub step_actors : (p : List Entries) (e : Event) (s t : Core) → Step p e s t → length t.seen ≡ length s.seen
-step_actors p (See a c side) s t step = ap length step.seen ∙ length-set s.seen a _
-step_actors p (Raise a c) s t (r, turn, step) = ap length step.seen ∙ length-set s.seen a _
-step_actors p (Sink a c) s t (r, turn, step) = ap length step.seen ∙ length-set s.seen a _
-step_actors p (Claim a) s t step = ap length step.1
