@@ -21,11 +21,8 @@ cancel_right k a b h le =
     (λ lt.
     let over = mul_mono_right k (b +ℤ pos 1) a (omega (arith, ints)) in
     let split = add_times b (pos 1) (pos k) ∙ ap (λ (t : ℤ). b *ℤ pos k +ℤ t) (one_times k) in
-    absurd (past _ _ _ le over split h))
+    absurd (omega (arith, ints)))
     (λ le. le)
-  where
-    past : (x y z : ℤ) → x ≤ℤ y → z ≤ℤ x → z ≡ y +ℤ pos k → 0 < k → ⊥
-    past x y z p q e h = omega (arith, ints)
 
 pub neg_times : (a b : ℤ) → neg_ℤ a *ℤ b ≡ neg_ℤ (a *ℤ b)
 neg_times a b = rw (as_diff a, as_diff b) (simp diffs (same_diff _ _ _ _ (omega arith)))

@@ -44,13 +44,7 @@ num_over f g = refl
 
 pub den_over : (f g : Ratio) → 0 < g.num → suc (over f g).less ≡ den f * g.num
 unfolding over ratio
-den_over f g h = let k : 0 < suc f.less * g.num = times_pos f.less g.num h in omega arith
-  where
-    times_pos : (a b : ℕ) → 0 < b → 0 < suc a * b
-    times_pos a b h = omega (arith, mul-le-mul (le_one a) h)
-      where
-        le_one : (a : ℕ) → 1 ≤ suc a
-        le_one a = omega arith
+den_over f g h = let p : 1 ≤ suc f.less = omega arith in let k : 0 < suc f.less * g.num = omega (arith, mul-le-mul p h) in omega arith
 
 pub times-AtMost : {a b c d : Ratio} → AtMost a b → AtMost c d → AtMost (times a c) (times b d)
 times-AtMost {a} {b} {c} {d} p q = grind (arith, num_times, den_times, cross_times)

@@ -16,10 +16,7 @@ ends_once d e z j last h =
     let split : 10 ^ (z + suc j) ≡ 10 ^ z * (10 ^ j * 10) = rw (pow-add 10 z (suc j), pow-suc 10 j) refl in
     let k : e * 10 ^ (z + suc j) ≡ e * (10 ^ z * (10 ^ j * 10)) = ap (λ (t : ℕ). e * t) split in
     let same : d ≡ (e * 10 ^ j) * 10 = even d ((e * 10 ^ j) * 10) (10 ^ z) (ten_pos z) (omega (arith, h, k)) in
-    no_end d (e * 10 ^ j) last same
-  where
-    no_end : (d m : ℕ) → 0 < d % 10 → d ≡ m * 10 → ⊥
-    no_end d m last h = omega (arith, last, h)
+    omega (arith, last, same)
 
 -- Digits without a trailing zero, and the zeros behind them, are fixed by the number.
 pub trimmed_one : (c d e z y : ℕ) → IsTrimmed c d z → IsTrimmed c e y → (d ≡ e) × (z ≡ y)
@@ -41,13 +38,7 @@ tested_one : (neg : Bool) (d : ℕ) (e : ℤ) (r q : Result Dec NumFault) → Is
 tested_one neg d e r q s t = grind (arith, cases_lt, by_lt_z)
 
 not_zero : (c d z : ℕ) → c ≡ 0 → IsTrimmed c d z → ⊥
-not_zero c d z h t = none d (10 ^ z) t.last (ten_pos z) (sym t.whole ∙ h)
-  where
-    none : (d p : ℕ) → 0 < d % 10 → 0 < p → d * p ≡ 0 → ⊥
-    none d p last hp h = omega (arith, last, h, mul-le-mul (positive d last) hp)
-      where
-        positive : (d : ℕ) → 0 < d % 10 → 0 < d
-        positive d h = omega arith
+not_zero c d z h t = let p : 1 ≤ d = omega (arith, t.last) in omega (arith, sym t.whole ∙ h, mul-le-mul p (ten_pos z))
 
 -- A number has one canonical form, or one refusal.
 pub canonical_one : (neg : Bool) (c : ℕ) (e : ℤ) (r q : Result Dec NumFault) → IsCanonical neg c e r → IsCanonical neg c e q → r ≡ q

@@ -69,10 +69,7 @@ pub less_plus : (f g : Ratio) → 0 < g.num → Below f (plus f g)
 less_plus f g h = record { cross = rw (num_plus, den_plus) (risen f.num (den f) g.num (den g) (omega arith) h) }
 
 pub plus_nothing : (f g : Ratio) → g.num ≡ 0 → AtMost (plus f g) f
-plus_nothing f g h = record { cross = rw (num_plus, den_plus, h) (even f.num (den f) (den g)) }
-  where
-    even : (a x y : ℕ) → (a * y + 0 * x) * x ≤ a * (x * y)
-    even a x y = omega arith
+plus_nothing f g h = record { cross = rw (num_plus, den_plus, h) (omega arith) }
 
 pub scaled_plus : (m n : ℕ) (e : ℤ) → Same (plus (scaled m e) (scaled n e)) (scaled (m + n) e)
 scaled_plus m n e = record { cross = rw (num_plus, den_plus, num_scaled m e, num_scaled n e, num_scaled (m + n) e, den_scaled m e, den_scaled n e, den_scaled (m + n) e) (omega arith) }

@@ -17,10 +17,7 @@ total_mono f g xs each = total_mono_all f g xs (λ i d h. each (get_or xs i d))
 
 -- what a conductance takes away against a growing head falls
 pub loss_falls : (k : ℕ) (a b : ℤ) → a ≤ℤ b → neg_ℤ (pos k *ℤ b) ≤ℤ neg_ℤ (pos k *ℤ a)
-loss_falls k a b h = turned _ _ (mul_mono k a b h)
-  where
-    turned : (a b : ℤ) → a ≤ℤ b → neg_ℤ b ≤ℤ neg_ℤ a
-    turned a b h = omega (arith, ints)
+loss_falls k a b h = omega (arith, ints, mul_mono k a b h)
 
 pub six : (f a b c d e a' b' c' d' e' : ℤ) → a ≤ℤ a' → b ≤ℤ b' → c ≤ℤ c' → d ≤ℤ d' → e ≤ℤ e' → (f +ℤ a +ℤ b +ℤ c +ℤ d +ℤ e) ≤ℤ (f +ℤ a' +ℤ b' +ℤ c' +ℤ d' +ℤ e')
 six f a b c d e a' b' c' d' e' p q r s t = omega (arith, ints)

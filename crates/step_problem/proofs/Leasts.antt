@@ -83,7 +83,4 @@ least_times lo hi c m n d p q =
 
 pub most_times : (lo hi c m n : ℕ) (d : ℤ) → lo * m ≤ c → c ≤ hi * m → (pos c *ℤ (d *ℤ pos n)) ≤ℤ (most lo hi d *ℤ pos (m * n))
 most_times lo hi c m n d p q =
-    rw (most_is, neg_mul) (turned _ _ (rw (neg_mul, mul_neg) at (least_times lo hi c m n (neg_ℤ d) p q)))
-  where
-    turned : (a b : ℤ) → a ≤ℤ neg_ℤ b → b ≤ℤ neg_ℤ a
-    turned a b h = omega (arith, ints)
+    rw (most_is, neg_mul) (omega (arith, ints, rw (neg_mul, mul_neg) at (least_times lo hi c m n (neg_ℤ d) p q)))
