@@ -8,7 +8,6 @@ pub struct CellId(pub u32);
 
 /// The grid. `delr` is by column, `delc` by row, `laycbd` by layer, `top` by the cells of layer 1, and the others
 /// by cell. `laycbd` isn't 0 where a confining bed lies below the layer, and `bed_bottom` is that bed's bottom.
-#[derive(Drop)]
 pub struct Grid {
     pub layers: u32,
     pub rows: u32,
@@ -19,4 +18,20 @@ pub struct Grid {
     pub bottom: Listed<Dec>,
     pub laycbd: Listed<i64>,
     pub bed_bottom: Listed<Dec>,
+}
+
+impl Drop for Grid {
+    fn drop(self) {
+        let Grid {
+            layers: _,
+            rows: _,
+            cols: _,
+            delr: _,
+            delc: _,
+            top: _,
+            bottom: _,
+            laycbd: _,
+            bed_bottom: _,
+        } = self;
+    }
 }
