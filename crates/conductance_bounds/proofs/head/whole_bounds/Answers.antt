@@ -1,4 +1,5 @@
-use Rattle.conductance_bounds.proofs.Common.{◌≡◌, FitsSigned, w64, w128, to_z-of_z, number, head_pair}
+use Rattle.conductance_bounds.proofs.Common.{◌≡◌, ℤ, FitsSigned, w64, w128, to_z, to_z-of_z, number, head_pair}
+use Rattle.std.proofs.Common.{of_z}
 use Rattle.conductance_bounds.proofs.HeadRange.{fits_wider, no_floor_past, no_ceiling_past}
 use Rattle.conductance_bounds.proofs.Units.{head_pair_is, pair_of}
 use Rattle.conductance_bounds.proofs.head.whole_bounds.Goals as goal
@@ -8,6 +9,16 @@ unreachable-requires c = no_floor_past (number c.args.x) c.requires.low c.in_def
 
 pub unreachable-requires-in_default-ceil_at : goal.unreachable-requires-in_default-ceil_at
 unreachable-requires-in_default-ceil_at c = no_ceiling_past (number c.args.x) c.requires.high c.in_default-ceil_at.ensures.past
+
+-- the cast of a number of 128 bits that fits 64
+cast_fits : (z : ℤ) → FitsSigned w64 z → FitsSigned w64 (to_z w128 (of_z w128 z))
+cast_fits z h = let wide : FitsSigned w128 z = fits_wider z h in simp to_z-of_z h
+
+pub overflow_cast-result : goal.overflow_cast-result
+overflow_cast-result c = cast_fits _ (c.requires.low _ c.in-Some.ensures.floor)
+
+pub overflow_cast-result-2 : goal.overflow_cast-result-2
+overflow_cast-result-2 c = cast_fits _ (c.requires.high _ c.in-Some-ceil_at.ensures.ceiling)
 
 pub returns : goal.returns
 returns c =
