@@ -1,5 +1,5 @@
-use Rattle.scaled_decimal.proofs.Common.{◌≡◌, ℕ, suc, ◌+◌, ◌*◌, ◌-◌, ◌≤◌, ◌<◌, ◌^◌, inl, inr, subst, arith, ◌/◌, mul-le-mul, mul-le-mul_left, mul-le-mul_right}
-use Rattle.scaled_decimal.proofs.Common.{pow-suc, le-div_iff_mul-le, div-lt_iff_lt-mul, pow-add, cases_lt, ten_pos, power_within, lt_cancel}
+use Rattle.scaled_decimal.proofs.Common.{◌≡◌, ℕ, suc, ◌+◌, ◌*◌, ◌-◌, ◌≤◌, ◌<◌, ◌^◌, inl, inr, subst, arith, mul-le-mul, mul-le-mul_left, mul-le-mul_right}
+use Rattle.scaled_decimal.proofs.Common.{pow-suc, pow-add, cases_lt, ten_pos, power_within, lt_cancel}
 
 -- x units of 10 ^ (b + j) in units of 10 ^ b
 coarse : (x m p q : ℕ) → x * (p * q) < (m + 1) * p → x * (p * q) ≤ m * p
@@ -80,15 +80,3 @@ places_below p h = elim (cases_lt p 22) [
 
 pub power_pos : (u j : ℕ) → u ≡ 10 ^ j → 0 < u
 power_pos u j h = omega (arith, h, ten_pos j)
-
-pub at_least_quotient : (q u k : ℕ) → 0 < u → k * u ≤ q → k ≤ q / u
-at_least_quotient q u k h = (le-div_iff_mul-le h).1
-
-pub below_quotient : (q u k : ℕ) → 0 < u → q < k * u → q / u < k
-below_quotient q u k h = (div-lt_iff_lt-mul h).1
-
-pub at_least_product : (q u k : ℕ) → 0 < u → k ≤ q / u → k * u ≤ q
-at_least_product q u k h = (le-div_iff_mul-le h).0
-
-pub below_product : (q u k : ℕ) → 0 < u → q / u < k → q < k * u
-below_product q u k h = (div-lt_iff_lt-mul h).0

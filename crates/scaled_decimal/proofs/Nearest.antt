@@ -3,7 +3,8 @@ use Rattle.scaled_decimal.proofs.Common.{le-div_iff_mul-le, div-lt_iff_lt-mul, R
 use Rattle.scaled_decimal.proofs.Common.{AtMost-Below, Same-AtMost, Same-back, Same-trans, ten_pos, cross_of, scaled_shift, scaled-AtMost, num_scaled, Sd, IsSd}
 use Rattle.scaled_decimal.proofs.Common.{value, IsDown, IsUp, IsFrom, IsUpTo, ◌-◌, refl, ◌∙◌, add-one, ints, lt_of_mul-lt-mul_right, div-div-eq-div-mul}
 use Rattle.scaled_decimal.proofs.Common.{pow-suc}
-use Rattle.scaled_decimal.proofs.Between.{none_above, none_below, power_pos, at_least_quotient, below_quotient, at_least_product, below_product}
+use Rattle.std.proofs.lemmas.Nat.{div_below, le-div}
+use Rattle.scaled_decimal.proofs.Between.{none_above, none_below, power_pos}
 
 -- zero is at most everything
 pub zero-AtMost : (x : Sd) (f : Ratio) → x.m ≡ 0 → AtMost (value x) f
@@ -104,13 +105,13 @@ next_power u j h = rw (add-one, pow-suc 10 j, h) refl
 
 -- the front of q has 18 digits
 pub down_at_18 : (r : Sd) (q u j : ℕ) (e : ℤ) → u ≡ 10 ^ j → 10 ^ 17 * u ≤ q → q / u < 10 ^ 18 → r.m ≡ q / u → r.e ≡ e +ℤ pos j → (f : Ratio) → IsFrom q e f → IsDown r f
-down_at_18 r q u j e hu least few = cut_down_by r q u j e hu least (below_product q u (10 ^ 18) (power_pos u j hu) few)
+down_at_18 r q u j e hu least few = cut_down_by r q u j e hu least ((div-lt_iff_lt-mul (power_pos u j hu)).0 few)
 
 -- the front of q has 19 digits
 pub down_at_19 : (r : Sd) (q u j : ℕ) (e : ℤ) → u ≡ 10 ^ j → 10 ^ 18 ≤ q / u → q < 10 ^ 19 * u → r.m ≡ q / u / 10 → r.e ≡ e +ℤ pos j +ℤ pos 1 → (f : Ratio) → IsFrom q e f → IsDown r f
 down_at_19 r q u j e hu many most hm he =
     cut_down_by r q (u * 10) (j + 1) e (next_power u j hu)
-    (omega (arith, at_least_product q u (10 ^ 18) (power_pos u j hu) many))
+    (omega (arith, (le-div_iff_mul-le (power_pos u j hu)).0 many))
     (omega (arith, most))
     (hm ∙ div-div-eq-div-mul q u 10)
     (omega (arith, ints))
@@ -133,10 +134,10 @@ up_at_nines r p u j e hu digits least nines hm he =
 -- the front of p has 19 digits
 pub up_at_19 : (r : Sd) (p u j : ℕ) (e : ℤ) → u ≡ 10 ^ j → 10 ^ 17 ≤ p → 10 ^ 18 ≤ p / u → p < (10 ^ 18 - 1) * 10 * u → r.m ≡ p / u / 10 + 1 → r.e ≡ e +ℤ pos j +ℤ pos 1 → (f : Ratio) → IsUpTo p e f → IsUp r f
 up_at_19 r p u j e hu digits many most hm he =
-    let least : 10 ^ 18 * u ≤ p = at_least_product p u (10 ^ 18) (power_pos u j hu) many in
-    let front : p / (u * 10) < 10 ^ 18 - 1 = below_quotient p (u * 10) (10 ^ 18 - 1) (omega (arith, power_pos u j hu)) (omega (arith, most)) in
+    let least : 10 ^ 18 * u ≤ p = (le-div_iff_mul-le (power_pos u j hu)).0 many in
+    let front : p / (u * 10) < 10 ^ 18 - 1 = div_below p (u * 10) (10 ^ 18 - 1) (omega (arith, power_pos u j hu)) (omega (arith, most)) in
     let quotient : p / u / 10 ≡ p / (u * 10) = div-div-eq-div-mul p u 10 in
-    let whole : 10 ^ 17 ≤ p / (u * 10) = at_least_quotient p (u * 10) (10 ^ 17) (omega (arith, power_pos u j hu)) (omega (arith, least)) in
+    let whole : 10 ^ 17 ≤ p / (u * 10) = le-div (10 ^ 17) p (u * 10) (omega (arith, power_pos u j hu)) (omega (arith, least)) in
     let exponent : r.e ≡ e +ℤ pos (j + 1) = omega (arith, ints) in
     let same : Same (scaled ((p / (u * 10) + 1) * 10 ^ (j + 1)) e) (scaled (p / (u * 10) + 1) r.e) = uncarried (p / (u * 10) + 1) (j + 1) r.e e exponent in
     let m : r.m ≡ p / (u * 10) + 1 = omega arith in

@@ -8,7 +8,8 @@ use Rattle.std.specs.Prelude.{zero, negsuc, ◌-ℤ◌, length}
 use Rattle.std.specs.Int.Digits.{digits_of}
 use Rattle.std.proofs.lemmas.Int.Digits.{all_below_base_digits_of, length-digits_of-le, number_digits_of, number_lt}
 use Rattle.decimal_input.proofs.SignedFloors.{a_ceiling, a_floor, ceiling_is, floor_is}
-use Rattle.scaled_decimal.proofs.Between.{at_least_quotient, below_quotient, few_places}
+use Rattle.std.proofs.lemmas.Nat.{div_below, le-div}
+use Rattle.scaled_decimal.proofs.Between.{few_places}
 use Rattle.scaled_decimal.proofs.Monotone.{one_decimal}
 use Rattle.scaled_decimal.proofs.Nearest.{cut_down_by, up_at_18, up_at_nines}
 use Rattle.scaled_decimal.proofs.Products.{zero_down, zero_up}
@@ -58,8 +59,8 @@ cut_down : (n p k : ℕ) (f : Ratio) → p ≡ suc k → 10 ^ 17 ≤ n → IsFro
 cut_down n p k f e long is =
     let (least, most) = digits n long in
     let u = 10 ^ more n in
-    let front : 10 ^ 17 ≤ n / u = at_least_quotient n u (10 ^ 17) (ten_pos (more n)) least in
-    let few : n / u < 10 ^ 18 = below_quotient n u (10 ^ 18) (ten_pos (more n)) most in
+    let front : 10 ^ 17 ≤ n / u = le-div (10 ^ 17) n u (ten_pos (more n)) least in
+    let few : n / u < 10 ^ 18 = div_below n u (10 ^ 18) (ten_pos (more n)) most in
     let g = pos (more n) -ℤ pos p in
     subst (λ (r : Sd). IsDown r f × (0 < r.m)) (some_units (n / u) g (omega (arith, front)) few)
     (cut_down_by (plain (n / u) g) n u (more n) (negsuc k) refl least most refl (omega (arith, ints, e)) f is, omega (arith, front))
@@ -76,7 +77,7 @@ cut_up n p k f e long is =
     let g = pos (more n) -ℤ pos p in
     let m = (n + (u - 1)) / u in
     let front : m ≡ (n - 1) / u + 1 = above n u (omega (arith, long)) positive in
-    let under : (n - 1) / u < 10 ^ 18 = below_quotient (n - 1) u (10 ^ 18) positive (omega (arith, most)) in
+    let under : (n - 1) / u < 10 ^ 18 = div_below (n - 1) u (10 ^ 18) positive (omega (arith, most)) in
     let whole : 10 ^ 17 * u ≤ n - 1 + 1 = omega (arith, least, long) in
     elim (cases_lt ((n - 1) / u) (10 ^ 18 - 1)) [
       | inl few ↦ subst (λ (r : Sd). IsUp r f) (some_units m g (omega (arith, front)) (omega (arith, front, few)))
