@@ -137,10 +137,18 @@ pub(crate) fn second_problem(
 // The tables of each deck of a run.
 
 /// The tables that all steps of a run share, for each of its decks.
-#[derive(Drop)]
 pub struct DeckTables {
     pub first: RunTables,
     pub second: Option<RunTables>,
+}
+
+impl Drop for DeckTables {
+    fn drop(self) {
+        let DeckTables {
+            first: _,
+            second: _,
+        } = self;
+    }
 }
 
 impl DeckTables {

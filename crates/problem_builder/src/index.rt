@@ -51,7 +51,6 @@ pub fn indices(alloc: Global, model: &FlowModel, given: &GivenHeads) -> Result<V
 /// The data that depend on the stress period alone, by cell: its kind, its index if it is variable, what the period's
 /// CHD list gives, the head that a constant-head cell keeps, the bounds of its entries, of the recharge that it
 /// receives, in units of 10^-(s+9), and of its evapotranspiration; and where all steps are equally long, its storage.
-#[derive(Drop)]
 pub struct PeriodTables {
     pub period: u32,
     pub steady: bool,
@@ -63,6 +62,23 @@ pub struct PeriodTables {
     pub recharge: Optional<FlowPair>,
     pub evaps: Optional<Evap>,
     pub storage: Option<Listed<Pair>>,
+}
+
+impl Drop for PeriodTables {
+    fn drop(self) {
+        let PeriodTables {
+            period: _,
+            steady: _,
+            kinds: _,
+            index: _,
+            given: _,
+            kept: _,
+            local: _,
+            recharge: _,
+            evaps: _,
+            storage: _,
+        } = self;
+    }
 }
 
 impl PeriodTables {
@@ -86,27 +102,30 @@ impl PeriodTables {
         let next = given.next(alloc, model)?;
         let number = next.period;
         let kinds = next.kinds(alloc, model)?;
-        let storage = even_storages(alloc, model, tables, kinds.as_slice(), number)?;
         let index = indices(alloc, model, &next)?;
+        drop(next);
         let kept = kept_heads(alloc, model, given)?;
-        let recharge = recharges(alloc, model, number, s)?;
-        let evaps = evaps(alloc, model, number, s)?;
         let period = stress_period(model, number);
         let count = model.grid.cell_count();
-        let given = last_entries(alloc, period.stresses.given.as_slice(), count)?;
         let local = Local::of_period(alloc, period, count, s)?;
-        Ok(PeriodTables {
+        // From here on the lists that are made are dropped by one call.
+        let mut made = PeriodTables {
             period: number,
             steady: period.steady,
             kinds: Listed::new(kinds),
             index: Listed::new(index),
-            given,
+            given: Optional::none(alloc, 0),
             kept: Listed::new(kept),
             local,
-            recharge,
-            evaps,
-            storage,
-        })
+            recharge: Optional::none(alloc, 0),
+            evaps: Optional::none(alloc, 0),
+            storage: None,
+        };
+        made.given = last_entries(alloc, period.stresses.given.as_slice(), count)?;
+        made.recharge = recharges(alloc, model, number, s)?;
+        made.evaps = evaps(alloc, model, number, s)?;
+        made.storage = even_storages(alloc, model, tables, made.kinds.as_slice(), number)?;
+        Ok(made)
     }
 
     /// The tables of a stress period, counted from 1. It reads the CHD lists up to the period.

@@ -12,7 +12,6 @@ use std::alloc::{AllocError, Global};
 /// The data that depend on a model and the number of digits alone, made once a run: for each cell its thickness and
 /// that of the bed below it, and by a face's first cell the conductance through it, in units of 10^-s. A
 /// conductance that reaches 2^60 units is kept as 1 and 2^60.
-#[derive(Drop)]
 pub struct Tables {
     pub digits: u32,
     pub thick: Listed<Span>,
@@ -20,6 +19,19 @@ pub struct Tables {
     pub row: Listed<Pair>,
     pub column: Listed<Pair>,
     pub vertical: Listed<Pair>,
+}
+
+impl Drop for Tables {
+    fn drop(self) {
+        let Tables {
+            digits: _,
+            thick: _,
+            bed: _,
+            row: _,
+            column: _,
+            vertical: _,
+        } = self;
+    }
 }
 
 impl Tables {

@@ -12,12 +12,12 @@ pub even_storages-requires-clause-kinds : goal.even_storages-requires-clause-kin
 even_storages-requires-clause-kinds c =
     let m = c.args.model.now in
     let p = c.in_ok-next.next.period in
-    filled_as (IsKind m p) NoFlow (cell_count m.grid) _ _ c.as_slice.ensures.value (kinds_filled m p _ c.in_ok-kinds.ensures)
+    filled_as (IsKind m p) NoFlow (cell_count m.grid) _ _ (c.as_slice-2.ensures ∙ c.new.ensures) (kinds_filled m p _ c.in_ok-kinds.ensures)
 
 pub returns-clause-storage : goal.returns-clause-storage
 returns-clause-storage c =
     let t = c.args.tables.now in
-    subst (λ (q : ℕ). AreEvenStorages c.args.model.now t.digits q c.in_ok-storage.storage) c.in_ok-next.ensures.period c.in_ok-storage.ensures
+    subst (λ (q : ℕ). AreEvenStorages c.args.model.now t.digits q c.in_ok-made-4.field-0) c.in_ok-next.ensures.period c.in_ok-made-4.ensures
 
 pub returns-clause-tables : goal.returns-clause-tables
 returns-clause-tables c =
@@ -33,10 +33,10 @@ returns-clause-tables c =
       steady = ap (λ (x : Period). x.steady) per;
       kinds = filled_as (IsKind m p) NoFlow n _ _ c.new.ensures (kinds_filled m p _ c.in_ok-kinds.ensures);
       index = filled_as (IsIndex m p) 0 n _ _ c.new-2.ensures c.in_ok-index.ensures;
-      given = named_as _ _ _ _ _ (c.as_slice-2.ensures ∙ ap (λ (x : Period). x.stresses.given) per) count c.in_ok-given.ensures;
+      given = named_as _ _ _ _ _ (c.as_slice.ensures ∙ ap (λ (x : Period). x.stresses.given) per) count c.in_ok-made.ensures;
       kept = subst (λ (q : ℕ). Filled (IsKept m q) no_bound n c.new-3.result) before (filled_as (IsKept m c.args.given.now.period) no_bound n _ _ c.new-3.ensures c.in_ok-kept.ensures);
       locals = c.in_ok-local.ensures.len ∙ count;
       local = (λ d. subst (λ (x : Period). AreLocalBounds s d (local_in c.in_ok-local.local d) (entries_of d (entries x))) per (c.in_ok-local.ensures.are d));
-      recharge = c.in_ok-recharge.ensures;
-      evaps = c.in_ok-evaps.ensures;
+      recharge = c.in_ok-made-2.ensures;
+      evaps = c.in_ok-made-3.ensures;
     })
