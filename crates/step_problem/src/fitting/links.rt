@@ -44,7 +44,7 @@ fn ends_fit(links: &[Link], c: usize, count: usize) -> bool
 fn has_link(links: &[Link], wanted: Link) -> bool
     ensures { IsTrue result ↔ Contains links.now wanted }
 {
-    links.iter().any(|x| *x == wanted)
+    links.contains(&wanted)
 }
 
 // Whether the cell at the other end of x has a link like x back to the cell of index c.
