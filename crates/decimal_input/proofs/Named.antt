@@ -1,5 +1,5 @@
-use Rattle.decimal_input.proofs.Common.{nat_le, ◌≡◌, ℕ, suc, ◌+◌, ◌-◌, ◌*◌, ◌<◌, ◌≤◌, ◌^◌, inl, inr, refl, ap, sym, subst, ◌∙◌, arith, Bool, true, false}
-use Rattle.decimal_input.proofs.Common.{List, [], ◌∷◌, length, get_or, min, Option, Some, None, Result, Err, ℤ, pos, neg_ℤ, ◌+ℤ◌, ◌-ℤ◌, ints, cases_lt, le-leb}
+use Rattle.decimal_input.proofs.Common.{nat_le, ◌≡◌, ℕ, suc, ◌+◌, ◌-◌, ◌*◌, ◌<◌, ◌≤◌, ◌^◌, inl, inr, refl, ap, sym, subst, ◌∙◌, arith, Bool, true, false, List}
+use Rattle.decimal_input.proofs.Common.{[], ◌∷◌, length, get_or, min, Option, Some, None, Result, Err, ℤ, pos, neg_ℤ, ◌+ℤ◌, ◌-ℤ◌, ints, cases_lt, le-leb}
 use Rattle.decimal_input.proofs.Common.{nat_tests, pow-add, mul-le-mul_left, mul-le-mul_right, pow-suc, Dec, NumFault, BadNumber, is_negative, unsigned}
 use Rattle.decimal_input.proofs.Common.{digits_of, behind, part_of, behind_part, exponent_of, spelling, spelt, is_digit, number_from, Spelling, with_sign}
 use Rattle.decimal_input.proofs.Common.{IsCap, IsCapped, IsOf, IsTrimmed, IsTested, IsCanonical}

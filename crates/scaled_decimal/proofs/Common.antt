@@ -5,7 +5,7 @@ pub use Rattle.std.proofs.Math.Nat.{div-div-eq-div-mul, div-lt_iff_lt-mul, div-m
 pub use Rattle.std.proofs.Math.Nat.{lt_of_mul-lt-mul_right, mul-le-mul, mul-le-mul_left, mul-le-mul_right, pow-suc}
 pub use Rattle.std.proofs.lemmas.Bool.{cases_lt, cond_above, cond_below}
 pub use Rattle.std.proofs.lemmas.Int.{clamps, ints}
-pub use Rattle.std.proofs.lemmas.Nat.{pow-add}
+pub use Rattle.std.proofs.lemmas.Nat.{div_below, le-div, pow-add}
 pub use Rattle.decimal_input.proofs.Cross.{le_cancel, lt_cancel, lt_right}
 pub use Rattle.decimal_input.proofs.Orders.{AtMost-Below, AtMost-refl, AtMost-trans, Below-AtMost, Same-AtMost, Same-back, Same-trans, den_over, den_plus}
 pub use Rattle.decimal_input.proofs.Orders.{num_over, num_plus, plus-AtMost}

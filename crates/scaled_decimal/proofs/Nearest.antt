@@ -2,8 +2,7 @@ use Rattle.scaled_decimal.proofs.Common.{◌≡◌, ℕ, ◌+◌, ◌*◌, ◌/�
 use Rattle.scaled_decimal.proofs.Common.{le-div_iff_mul-le, div-lt_iff_lt-mul, Ratio, AtMost, Below, Same, scaled, up, down, AtMost-trans, Below-AtMost}
 use Rattle.scaled_decimal.proofs.Common.{AtMost-Below, Same-AtMost, Same-back, Same-trans, ten_pos, cross_of, scaled_shift, scaled-AtMost, num_scaled, Sd, IsSd}
 use Rattle.scaled_decimal.proofs.Common.{value, IsDown, IsUp, IsFrom, IsUpTo, ◌-◌, refl, ◌∙◌, add-one, ints, lt_of_mul-lt-mul_right, div-div-eq-div-mul}
-use Rattle.scaled_decimal.proofs.Common.{pow-suc}
-use Rattle.std.proofs.lemmas.Nat.{div_below, le-div}
+use Rattle.scaled_decimal.proofs.Common.{pow-suc, div_below, le-div}
 use Rattle.scaled_decimal.proofs.Between.{none_above, none_below, power_pos}
 
 -- zero is at most everything

@@ -3,12 +3,11 @@ use Rattle.scaled_decimal.proofs.Common.{◌≡◌, ℕ, suc, ◌+◌, ◌*◌, 
 use Rattle.scaled_decimal.proofs.Common.{pow-suc, pow-add, lt-mul-div-succ, div-mul-le_self, le-div_iff_mul-le, div-lt_iff_lt-mul, lt_of_mul-lt-mul_right}
 use Rattle.scaled_decimal.proofs.Common.{mul-le-mul_right, cases_lt, Ratio, den, Same, ten_pos, num_scaled, den_scaled, Sd, IsSd, value, IsDown, IsUp, IsFrom}
 use Rattle.scaled_decimal.proofs.Common.{IsUpTo, Same-both, cond_above, cond_below, IsFloor, IsCeiling, IsRounded, Lower, RoundedIsNearest, Side, UnitsAreWhole}
-use Rattle.scaled_decimal.proofs.Common.{Upper, cut, in_units, of_units, rounded}
+use Rattle.scaled_decimal.proofs.Common.{Upper, cut, in_units, of_units, rounded, div_below, le-div}
 use Rattle.std.specs.Prelude.{zero, negsuc, ◌-ℤ◌, length}
 use Rattle.std.specs.Int.Digits.{digits_of}
 use Rattle.std.proofs.lemmas.Int.Digits.{all_below_base_digits_of, length-digits_of-le, number_digits_of, number_lt}
 use Rattle.decimal_input.proofs.SignedFloors.{a_ceiling, a_floor, ceiling_is, floor_is}
-use Rattle.std.proofs.lemmas.Nat.{div_below, le-div}
 use Rattle.scaled_decimal.proofs.Between.{few_places}
 use Rattle.scaled_decimal.proofs.Monotone.{one_decimal}
 use Rattle.scaled_decimal.proofs.Nearest.{cut_down_by, up_at_18, up_at_nines}

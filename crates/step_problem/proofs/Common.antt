@@ -1,7 +1,7 @@
 -- Names that several proofs of this crate cite, of the crates below and of its own definitions, passed on from one place. Declares nothing.
-pub use Rattle.std.proofs.Common.{Contains, FitsSigned, IsTrue, List, [], ap, arith, below_more, drop, get_or, inl, inr, length, min, neg_ℤ, negsuc, pos, refl}
-pub use Rattle.std.proofs.Common.{rules, slice_index_or, subst, suc, sum_by, sym, take, to_z, unsigned_abs, zero, ℕ, ℤ, ⊎_elim, ◌*ℤ◌, ◌*◌, ◌+ℤ◌, ◌+◌, ◌-ℤ◌}
-pub use Rattle.std.proofs.Common.{◌<ℤ◌, ◌<◌, ◌^◌, ◌∙◌, ◌∷◌, ◌≡◌, ◌≤ℤ◌, ◌≤◌, ◌⊎◌}
+pub use Rattle.std.proofs.Common.{Contains, FitsSigned, IsTrue, List, [], ap, arith, below_more, drop, get_or, inl, inr, length, min, neg_ℤ, negsuc, of_z, pos}
+pub use Rattle.std.proofs.Common.{refl, rules, slice_index_or, subst, suc, sum_by, sym, take, to_z, unsigned_abs, zero, ℕ, ℤ, ⊎_elim, ◌*ℤ◌, ◌*◌, ◌+ℤ◌, ◌+◌}
+pub use Rattle.std.proofs.Common.{◌-ℤ◌, ◌-◌, ◌<ℤ◌, ◌<◌, ◌^◌, ◌∙◌, ◌∷◌, ◌≡◌, ◌≤ℤ◌, ◌≤◌, ◌⊎◌}
 pub use Rattle.std.proofs.Math.Nat.{mul-le-mul, mul-le-mul_left, mul-le-mul_right}
 pub use Rattle.std.proofs.lemmas.Bool.{cases_eq, cases_lt}
 pub use Rattle.std.proofs.lemmas.Int.{by_lt_z, clamps, ints, to_z-of_z, to_z_pos}

@@ -1,5 +1,4 @@
-use Rattle.conductance_bounds.proofs.Common.{◌≡◌, ℤ, FitsSigned, w64, w128, to_z, to_z-of_z, number, head_pair}
-use Rattle.std.proofs.Common.{of_z}
+use Rattle.conductance_bounds.proofs.Common.{◌≡◌, ℤ, FitsSigned, w64, w128, to_z, to_z-of_z, number, head_pair, of_z}
 use Rattle.conductance_bounds.proofs.HeadRange.{fits_wider, no_floor_past, no_ceiling_past}
 use Rattle.conductance_bounds.proofs.Units.{head_pair_is, pair_of}
 use Rattle.conductance_bounds.proofs.head.whole_bounds.Goals as goal

@@ -1,7 +1,6 @@
-use Rattle.step_problem.proofs.Common.{◌∙◌, ◌^◌, ◌*ℤ◌, ◌≡◌, ◌<◌, ◌≤◌, ℕ, ℤ, pos, arith, sym, FitsSigned, to_z, ◌*◌, w128, w64, ints, to_z-of_z, to_z_pos, IsWithin}
-use Rattle.step_problem.proofs.Common.{branch_flow}
+use Rattle.step_problem.proofs.Common.{◌∙◌, ◌^◌, ◌*ℤ◌, ◌≡◌, ◌<◌, ◌≤◌, ℕ, ℤ, pos, arith, sym, FitsSigned, to_z, ◌*◌, w128, w64, ints, to_z-of_z, to_z_pos}
+use Rattle.step_problem.proofs.Common.{IsWithin, branch_flow, of_z, ◌-◌}
 use Rattle.step_problem.proofs.Sums.{FitsSigned-within, IsWithin-product}
-use Rattle.std.proofs.Common.{of_z, ◌-◌}
 use Rattle.step_problem.proofs.Leasts.{flow_up, flow_down}
 use Rattle.step_problem.proofs.flow.branch_flow.Goals.{then-difference-ge0, else-difference-ge0}
 use Rattle.step_problem.proofs.flow.branch_flow.Goals as goal
