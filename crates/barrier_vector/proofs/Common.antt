@@ -4,10 +4,11 @@ pub use Rattle.std.proofs.Common.{get_or, get_or-set_other, get_or-set_same, inl
 pub use Rattle.std.proofs.Common.{negsuc, not, pos, refl, rules, set, slice_index, slice_index_or, subst, suc, sum_by, sym, take, take_at, true, unsigned_abs}
 pub use Rattle.std.proofs.Common.{zero, ℕ, ℤ, ◌*ℤ◌, ◌*◌, ◌++◌, ◌+ℤ◌, ◌+◌, ◌-ℤ◌, ◌<ℤ◌, ◌<◌, ◌^◌, ◌∙◌, ◌∷◌, ◌≡◌, ◌≤ℤ◌, ◌≤◌, ◌⊎◌}
 pub use Rattle.std.proofs.Math.Nat.{le_of_mul-le-mul_left, mul-le-mul_right}
-pub use Rattle.std.proofs.lemmas.Bool.{cases_eq, cases_lt, eq-eqb, false≢true, ne_eqb}
+pub use Rattle.std.proofs.lemmas.Bool.{cases_eq, cases_lt, cases_order, eq-eqb, false≢true, ne_eqb}
 pub use Rattle.std.proofs.lemmas.Fn.{says_at}
 pub use Rattle.std.proofs.lemmas.Int.{by_lt_z, clamps, ints, to_z-of_z}
-pub use Rattle.std.proofs.lemmas.List.{at_drop_more, drop_all, get_or-map, get_or_default, get_or_past, length-map, length-set, take_all}
+pub use Rattle.std.proofs.lemmas.List.{at_drop_more, drop_all, get_or-map, get_or_append_left, get_or_default, get_or_past, get_or_push, length-map, length-set}
+pub use Rattle.std.proofs.lemmas.List.{length_push, take_all}
 pub use Rattle.std.proofs.lemmas.List.Elements.{All-contains, All-head, All-tail, Contains-append_left, Contains-get_or, Contains-push, Contains-push_cases}
 pub use Rattle.std.proofs.lemmas.List.Sums.{get_or-le-sum_by, sum_by_more}
 pub use Rattle.std.specs.Fn.{FnReturnsAt}

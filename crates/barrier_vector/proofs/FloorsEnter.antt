@@ -3,7 +3,7 @@ use Rattle.barrier_vector.proofs.Common.{◌≡◌, ℕ, ◌<◌, refl, sym, ◌
 use Rattle.barrier_vector.proofs.Common.{◌≤◌, subst, ◌*ℤ◌, [], ◌∷◌, get_or, take, sum_by, All, Contains, ints, lt_z, true_is_lt, lt_out, total, entries_at}
 use Rattle.barrier_vector.proofs.Common.{no_entries, mul_nonneg, sum_inside, sum_below, total_nonneg, add_mul, sum-add, sum-same, term-le-sum, IsMutual}
 use Rattle.barrier_vector.proofs.Common.{cut_link, cut_links, WholeLink, WholeCell, whole_link, whole_at, AllZip-at, AllZip-length, AllZip, sum_inside-zero}
-use Rattle.barrier_vector.proofs.Common.{sum_by_more, All-head, All-tail, Contains-get_or, Entries}
+use Rattle.barrier_vector.proofs.Common.{add-one, sum_by_more, All-head, All-tail, Contains-get_or, Entries}
 
 pub test_true : (a b : ℤ) → a <ℤ b → lt_z a b ≡ true
 test_true a b h = sym (true_is_lt a b (lt_out a b h))
@@ -50,12 +50,9 @@ pub limited_sum : (g : Entries → ℕ) (p : List Entries) (F : ℕ → ℤ) (k 
 limited_sum g p F k each zero h = mul_nonneg (pos (sum_by g (take zero p))) (pos k) (omega (arith, ints)) (omega (arith, ints))
 limited_sum g p F k each (suc n) h =
     let i : n < length p = omega arith in
-    let more = subst (λ (z : ℕ). sum_by g (take z p) ≡ sum_by g (take n p) + g (entries_at p n)) (one n) (sum_by_more g p n no_entries i) in
+    let more = subst (λ (z : ℕ). sum_by g (take z p) ≡ sum_by g (take n p) + g (entries_at p n)) (add-one n) (sum_by_more g p n no_entries i) in
     joined (sum_by g (take n p)) (g (entries_at p n)) (sum_by g (take (suc n) p)) more _ _ (limited_sum g p F k each n (omega arith)) (each n i)
   where
-    one : (k : ℕ) → k + 1 ≡ suc k
-    one k = omega arith
-
     joined : (a b t : ℕ) → t ≡ a + b → (x y : ℤ) → x ≤ℤ (pos a *ℤ pos k) → y ≤ℤ (pos b *ℤ pos k) → (x +ℤ y) ≤ℤ (pos t *ℤ pos k)
     joined a b t e x y p q = let split = add_mul (pos a) (pos b) (pos k) in rw e (omega (arith, ints, split))
 

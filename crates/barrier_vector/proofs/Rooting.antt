@@ -1,23 +1,13 @@
 -- Lists of roots, one cell after another, and what anchors a cell.
 use Rattle.barrier_vector.proofs.Common.{◌≡◌, ℕ, zero, suc, ◌+◌, ◌<◌, ◌≤◌, inl, inr, refl, ◌∙◌, ap, subst, arith, List, [], ◌∷◌, ◌++◌, length, max, drop}
-use Rattle.barrier_vector.proofs.Common.{get_or, length-append, Contains, Option, Some, min, cases_lt, at_drop_more, Side, Low, High, Fixed, Entries}
-use Rattle.barrier_vector.proofs.Common.{entries_at, IsProblem, IsAnchored, greatest, anchor_on, mark_at, IsSearched, HasEach, anchor_drop, ceil_over}
-use Rattle.barrier_vector.proofs.Common.{path_limit, AreLabels}
-use Rattle.barrier_vector.proofs.Starting.{push_before, push_last}
+use Rattle.barrier_vector.proofs.Common.{get_or, Contains, Option, Some, min, cases_lt, at_drop_more, Side, Low, High, Fixed, Entries, entries_at, IsProblem}
+use Rattle.barrier_vector.proofs.Common.{IsAnchored, greatest, anchor_on, mark_at, IsSearched, HasEach, anchor_drop, ceil_over, path_limit, AreLabels}
+use Rattle.barrier_vector.proofs.Common.{cases_order, get_or_append_left, get_or_push, length_push}
 use Rattle.barrier_vector.proofs.CarriedRoots.{reaches_within, turn_way}
 
 -- one place more
 pub each_more : {X : Type 0} (d : X) (Is : ℕ → X → Type 0) (i : ℕ) (xs xs' : List X) (x : X) → xs' ≡ xs ++ x ∷ [] → Is i x → HasEach d Is i xs → HasEach d Is (i + 1) xs'
-each_more d Is i xs xs' x is here h = rw is (record { whole = length-append xs (x ∷ []) ∙ ap (λ (n : ℕ). n + 1) h.whole; each = each })
-  where
-    each : (c : ℕ) → c < i + 1 → Is c (get_or (xs ++ x ∷ []) c d)
-    each c k =
-        elim (cases_lt c i) [
-          | inl less ↦ rw (push_before xs x d c (omega (arith, less, h.whole))) (h.each c less)
-          | inr past ↦
-              let at : length xs ≡ c = omega (arith, past, k, h.whole) in
-              subst (λ (z : ℕ). Is z (get_or (xs ++ x ∷ []) z d)) at (rw (push_last xs x d, h.whole) here)
-        ]
+each_more d Is i xs xs' x is here h = grind (arith, length_push, cases_order, get_or_push, get_or_append_left)
 
 -- the drop of an anchor
 pub drop_of : (q a : ℕ) → 0 < a → anchor_drop q a ≡ Some (ceil_over q a)

@@ -1,19 +1,9 @@
 -- What a search begins with, one cell after another.
-use Rattle.barrier_vector.proofs.Common.{◌≡◌, ℕ, zero, suc, ◌+◌, ◌<◌, ◌⊎◌, inl, inr, refl, sym, ◌∙◌, ap, subst, arith, List, [], ◌∷◌, ◌++◌, length, min, Option}
-use Rattle.barrier_vector.proofs.Common.{None, Some, get_or, cases_eq, cases_lt, mark_at, path_limit, AreBegun, Spreads, set, get_or-set_same, get_or-set_other}
-use Rattle.barrier_vector.proofs.Common.{length-set, replicate, unmarked}
+use Rattle.barrier_vector.proofs.Common.{◌≡◌, ℕ, zero, suc, ◌+◌, ◌<◌, ◌⊎◌, inl, inr, refl, sym, ◌∙◌, ap, subst, arith, List, [], length, min, Option, None}
+use Rattle.barrier_vector.proofs.Common.{Some, cases_eq, cases_lt, mark_at, path_limit, AreBegun, Spreads, set, get_or-set_same, get_or-set_other, length-set}
+use Rattle.barrier_vector.proofs.Common.{replicate, unmarked}
 use Rattle.barrier_vector.proofs.Spreading.{no_both, spread_as, spread_then}
 use Rattle.barrier_vector.proofs.Levels.{same_some}
-
--- the elements of a list with one more at its end
-pub push_before : {X : Type 0} (xs : List X) (x d : X) (k : ℕ) → k < length xs → get_or (xs ++ x ∷ []) k d ≡ get_or xs k d
-push_before [] x d k h = absurd (omega arith)
-push_before (y ∷ xs) x d zero h = refl
-push_before (y ∷ xs) x d (suc k) h = push_before xs x d k (omega arith)
-
-pub push_last : {X : Type 0} (xs : List X) (x d : X) → get_or (xs ++ x ∷ []) (length xs) d ≡ x
-push_last [] x d = refl
-push_last (y ∷ xs) x d = push_last xs x d
 
 -- The roots of a list, one after another.
 abbrev RootBelow : List (Option ℕ) → ℕ → ℕ → Type 0
