@@ -25,8 +25,8 @@ pub use Rattle.barrier_vector.specs.{IsLevel, IsLongest, IsMissing, IsNearest, I
 pub use Rattle.barrier_vector.specs.{IsRefusedOn, IsSearched, IsSolution, IsUnanchored, IsWholeSide, LeadsToRoot, LeastRoot, LeavesRange, LiesOut, LinkLeads}
 pub use Rattle.barrier_vector.specs.{ListRoot, Names, Nowhere, RefusalIsOne, Refuses, RefusesOn, Spreads, SumsTo, anchor_drop, anchor_on, base_on, bound_at}
 pub use Rattle.barrier_vector.specs.{capped_flow, ceil_over, cell_mark, clamp, cut_on, drain_mark, fixed_mark, flow_sum, greatest, greatest_inside, high_flow}
-pub use Rattle.barrier_vector.specs.{if_some, is_label, labelled, lack, longest_at, mark_at, moved_out, need, need_on, negative_part, no_barrier_on, outer_of}
-pub use Rattle.barrier_vector.specs.{outermost, path_limit, positive_part, range_on, river_mark, sum_at, unmarked}
+pub use Rattle.barrier_vector.specs.{if_some, is_label, labelled, lack, longest_at, mark_at, moved_out, need, need_on, no_barrier_on, outer_of, outermost}
+pub use Rattle.barrier_vector.specs.{path_limit, range_on, river_mark, sum_at, unmarked}
 pub use Rattle.barrier_vector.specs.declared.BarrierFault.{BarrierFault}
 pub use Rattle.barrier_vector.specs.declared.BarrierFault.TheVariants.{Memory}
 pub use Rattle.barrier_vector.specs.declared.gathered.Total.{Total}

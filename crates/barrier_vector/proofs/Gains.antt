@@ -4,8 +4,8 @@ use Rattle.barrier_vector.proofs.Common.{◌≤ℤ◌, ◌<ℤ◌, List, [], ◌
 use Rattle.barrier_vector.proofs.Common.{All-head, All-tail, Contains-get_or, Side, Low, High, Entries, total, mul_mono, mul_nonneg, le_trans_z, total_neg}
 use Rattle.barrier_vector.proofs.Common.{total_nonneg, mul_mono_right, WholeLink, WholeCell, WholeEntry, whole_balance, whole_deep, whole_link, whole_fixed}
 use Rattle.barrier_vector.proofs.Common.{whole_river, whole_drain, whole_evap, CellWithin, FixedWithin, RiverWithin, DrainWithin, FlowWithin, Bounds, greatest}
-use Rattle.barrier_vector.proofs.Common.{anchor_on, need_on, negative_part, positive_part, deep_low, high_flow, total-same, mul_neg, total_bounds, deep_less}
-use Rattle.barrier_vector.proofs.Common.{dry_balance}
+use Rattle.barrier_vector.proofs.Common.{anchor_on, need_on, deep_low, high_flow, total-same, mul_neg, total_bounds, deep_less, dry_balance}
+use Rattle.decimal_input.specs.{down, up}
 use Rattle.std.proofs.Math.IntN.{zero-*ℤ}
 use Rattle.barrier_vector.proofs.Marking.{IsCellMark, some_at, cell_dry}
 
@@ -53,11 +53,11 @@ module _ (m : ℕ) (d : ℤ) (some : pos 0 ≤ℤ d) where
   all_gain R P lo g each xs zs h a = absurd h
 
 module _ (m n cells : ℕ) (b : ℤ) (p : Entries) (w : WholeCell) (e : CellWithin m n cells p w) (y : ℤ) where
-  lacking : (z f : ℤ) (k : ℕ) → (z *ℤ pos k) ≤ℤ f → pos 0 ≤ℤ (f +ℤ pos (negative_part z) *ℤ pos k)
+  lacking : (z f : ℤ) (k : ℕ) → (z *ℤ pos k) ≤ℤ f → pos 0 ≤ℤ (f +ℤ pos (down z) *ℤ pos k)
   lacking (pos a) f k h = omega (arith, ints)
   lacking (negsuc a) f k h = omega (arith, ints)
 
-  exceeding : (z f : ℤ) (k : ℕ) → f ≤ℤ (z *ℤ pos k) → f ≤ℤ (pos (positive_part z) *ℤ pos k)
+  exceeding : (z f : ℤ) (k : ℕ) → f ≤ℤ (z *ℤ pos k) → f ≤ℤ (pos (up z) *ℤ pos k)
   exceeding (pos a) f k h = h
   exceeding (negsuc a) f k h = omega (arith, ints)
 

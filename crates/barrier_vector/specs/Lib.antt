@@ -12,8 +12,8 @@ pub use Rattle.barrier_vector.specs.Bounds.{moved_out}
 pub use Rattle.barrier_vector.specs.Cuts.{AreCutBounds, EnclosesUncut, HasNoBound, HasStorage, IsCutBarrierOf, IsCutBoundOn, IsCutFault, IsFault, IsLeastWith}
 pub use Rattle.barrier_vector.specs.Cuts.{IsNotForLackOfAnchors, IsOutOfRange, IsRefused, IsRefusedOn, IsUnbounded, LeavesRange, Names, Nowhere, Refuses}
 pub use Rattle.barrier_vector.specs.Cuts.{RefusesOn, clamp, clamped, cut_on, no_barrier_on, range_on}
-pub use Rattle.barrier_vector.specs.Marks.{base_on, capped_flow, cell_mark, drain_mark, fixed_mark, high_flow, if_some, lack, need, need_on, negative_part}
-pub use Rattle.barrier_vector.specs.Marks.{outer_of, outermost, positive_part, river_mark}
+pub use Rattle.barrier_vector.specs.Marks.{base_on, capped_flow, cell_mark, drain_mark, fixed_mark, high_flow, if_some, lack, need, need_on, outer_of}
+pub use Rattle.barrier_vector.specs.Marks.{outermost, river_mark}
 pub use Rattle.barrier_vector.specs.Roots.{AreAnchorDrops, AreAnchorPaths, AreBounds, AreComponents, AreHeadsOf, AreSelfDrops, IsAnchoredOrNone, IsBoundOrNone}
 pub use Rattle.barrier_vector.specs.Roots.{IsCutFaultOn, IsFaultOn, IsFirst, IsMissing, IsOutline, IsWholeSide, LiesOut, anchor_drop, bound_at, self_drop}
 pub use Rattle.barrier_vector.specs.Searches.{AreBegun, AreLabels, ContinuesTo, Fills, FrontLeads, HasEach, IsNearest, IsNearestOrNone, IsSearched, LinkLeads}

@@ -1,5 +1,5 @@
 -- The base of each side: the outermost of the known heads, stages, bottoms and elevations of a problem that may conduct.
-use Rattle.std.specs.Prelude.{ℕ, zero, suc, List, [], ◌∷◌, Option, None, Some, ℤ, pos, ◌^◌, min, sum_by, negsuc}
+use Rattle.std.specs.Prelude.{ℕ, zero, suc, List, [], ◌∷◌, Option, None, Some, ℤ, pos, ◌^◌, min, sum_by}
 use Rattle.std.specs.Int.{int_max, int_min}
 use Rattle.std.specs.Option.{unwrap_or}
 use Rattle.step_problem.specs.declared.heads.Side.{Side}
@@ -10,6 +10,7 @@ use Rattle.step_problem.specs.declared.entry.Drain.{Drain}
 use Rattle.step_problem.specs.Entries.{Entries}
 use Rattle.step_problem.specs.{bound_on, total}
 use Rattle.cell_balance.specs.{deep_low}
+use Rattle.decimal_input.specs.{down, up}
 
 -- v where the upper conductance hi is above 0
 abbrev pub if_some : ℕ → ℤ → Option ℤ
@@ -49,23 +50,14 @@ abbrev pub base_on : Side → List Entries → ℤ
 base_on side p = unwrap_or (outermost side (cell_mark side) p) (pos 0)
 
 -- The lack and the surplus of flow of all cells of a problem.
--- the negative part of a number, as a magnitude
-abbrev pub negative_part : ℤ → ℕ
-negative_part (pos n) = 0
-negative_part (negsuc n) = suc n
-
-abbrev pub positive_part : ℤ → ℕ
-positive_part (pos n) = n
-positive_part (negsuc n) = 0
-
 -- the greatest sum of a cell's constant flows
 abbrev pub high_flow : Entries → ℤ
 high_flow c = total (λ x. x.hi) c.flows
 
--- what a cell adds to the need of a side: the negative part of its least deep flow, or the positive part of its greatest constant flow
+-- what a cell adds to the need of a side: the negative part of its least deep flow, or the positive part (`up`) of its greatest constant flow
 abbrev pub need_on : Side → Entries → ℕ
-need_on Low c = negative_part (deep_low c)
-need_on High c = positive_part (high_flow c)
+need_on Low c = down (deep_low c)
+need_on High c = up (high_flow c)
 
 -- the need of a side: the lack of flow of all cells, or their surplus
 abbrev pub need : Side → List Entries → ℕ

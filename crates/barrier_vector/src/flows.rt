@@ -2,7 +2,8 @@
 ghost use Rattle.std.specs.Prelude.{◌≡◌, ◌≤◌, ◌^◌};
 ghost use Rattle.step_problem.specs.{IsWithin, CellFits};
 ghost use Rattle.cell_balance.specs.{deep_low};
-ghost use Rattle.barrier_vector.specs.{high_flow, negative_part, positive_part, need_on};
+ghost use Rattle.decimal_input.specs.{down, up};
+ghost use Rattle.barrier_vector.specs.{high_flow, need_on};
 
 use step_problem::problem::HEAD_LIMIT;
 use step_problem::{Cell, Side, sum_branches, sum_of};
@@ -22,14 +23,14 @@ pub(crate) fn deep_flow(cell: &Cell) -> i128
 
 fn negative_of(flow: i128) -> u128
     requires { IsWithin flow (2 ^ 125) }
-    ensures { result ≡ negative_part flow }
+    ensures { result ≡ down flow }
 {
     if flow < 0 { flow.unsigned_abs() } else { 0 }
 }
 
 fn positive_of(flow: i128) -> u128
     requires { IsWithin flow (2 ^ 125) }
-    ensures { result ≡ positive_part flow }
+    ensures { result ≡ up flow }
 {
     if flow > 0 { flow.unsigned_abs() } else { 0 }
 }

@@ -1,7 +1,7 @@
 -- Where a step's cells are linked, any two cells conduct the same to each other.
 use Rattle.cell_balance.proofs.Common.{◌≡◌, ℕ, suc, zero, ◌*◌, ◌<◌, ◌⊎◌, inl, inr, refl, sym, ap, ◌∙◌, subst, arith, pos, List, [], ◌∷◌, length, get_or}
-use Rattle.cell_balance.proofs.Common.{Contains, AllZip, cases_eq, ne_eqb, eq-eqb, ints, All-get_or, le_of_mul-le-mul_right, Ratio, IsShare, ExactLink, mul-pos}
-use Rattle.cell_balance.proofs.Common.{ExactCell, cell_at, no_cell, HasLinkBack, AreLinked, no_link}
+use Rattle.cell_balance.proofs.Common.{Contains, AllZip, cases_eq, ne_eqb, eq-eqb, ints, All-get_or, Ratio, IsShare, ExactLink, mul-pos, ExactCell, cell_at}
+use Rattle.cell_balance.proofs.Common.{no_cell, HasLinkBack, AreLinked, no_link, eq_of_mul-eq-mul_right}
 use Rattle.decimal_input.specs.Ratios.{Same, den}
 use Rattle.cell_balance.proofs.Zips.{AllZip-at, AllZip-length, All-zip, WholeLink, WholeCell, whole_at, no_whole}
 use Rattle.cell_balance.proofs.Dry.{weight, IsMutual}
@@ -43,14 +43,8 @@ search_link (x ∷ xs) k =
 
 -- one fraction has one share
 same_share : (d a b : ℕ) (q r : Ratio) → Same q r → IsShare d q a → IsShare d r b → a ≡ b
-same_share d a b q r s p o = cancel a b (den q * den r) (mul-pos (omega arith) (omega arith)) (cross q.num (den q) r.num (den r) d a b s.cross p.is o.is)
+same_share d a b q r s p o = eq_of_mul-eq-mul_right (den q * den r) (mul-pos (omega arith) (omega arith)) a b (cross q.num (den q) r.num (den r) d a b s.cross p.is o.is)
   where
-    cancel : (a b x : ℕ) → 0 < x → a * x ≡ b * x → a ≡ b
-    cancel a b x h e =
-        let low = le_of_mul-le-mul_right {m = a} {n = b} {k = x} (omega (arith, e)) h in
-        let high = le_of_mul-le-mul_right {m = b} {n = a} {k = x} (omega (arith, e)) h in
-        omega arith
-
     cross : (n x m y d a b : ℕ) → n * y ≡ m * x → n * d ≡ a * x → m * d ≡ b * y → a * (x * y) ≡ b * (x * y)
     cross n x m y d a b s p o =
         let first : n * d * y ≡ a * x * y = ap (λ (z : ℕ). z * y) p in

@@ -2,8 +2,7 @@
 use Rattle.conductance_bounds.proofs.Common.{ℕ, zero, ◌+◌, ◌≤◌, ◌<◌, arith, ℤ, pos, negsuc, neg_ℤ, ◌+ℤ◌, ◌-ℤ◌, unsigned_abs, int_min, int_max, ints, clamps}
 use Rattle.conductance_bounds.proofs.Common.{AtMost, plus, times, over, AtMost-trans, plus-AtMost, times-AtMost, over-AtMost, ten_pos, cross_of, Sd, value}
 use Rattle.conductance_bounds.proofs.Common.{IsDown, IsUp, IsNear, HasSize, Span, IsOrdered, reach, mul-pos, AreOperands, one_rounded, AreBounds, Lower, Number}
-use Rattle.conductance_bounds.proofs.Common.{Product, Quotient, Ratio, Same, Sum, Term, Upper, Within, bound, refl, rounded, IsSd, ◌∙◌}
-use Rattle.scaled_decimal.specs.{IsWithin}
+use Rattle.conductance_bounds.proofs.Common.{Product, Quotient, Ratio, Same, Sum, Term, Upper, Within, bound, refl, rounded, IsSd, ◌∙◌, IsWithin}
 use Rattle.conductance_bounds.proofs.Sides.{positive_value}
 use Rattle.conductance_bounds.proofs.SpanBounds.{exact_rounded}
 

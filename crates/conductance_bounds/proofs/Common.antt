@@ -8,8 +8,8 @@ pub use Rattle.std.specs.Int.{int_max, int_min, w128, w64}
 pub use Rattle.std.specs.Option.{option_map}
 pub use Rattle.std.specs.Prelude.{IfNone, IfSome, if◌then◌else◌, unsigned_abs, unwrap_or, ◌==◌}
 pub use Rattle.conductance_bounds.specs.{AreBounds, AreThick, EvapsEnclose, FacesEnclose, FlowEncloses, FormulasHold, HeadsEnclose, Holds, IsBed, IsBetween}
-pub use Rattle.conductance_bounds.specs.{IsColHalf, IsHalf, IsHeadUnits, IsOrdered, IsPassed, IsSlow, IsVertHalf, IsWithin, LiesWithin, Number, PairEncloses}
-pub use Rattle.conductance_bounds.specs.{Product, Quotient, RechargesEnclose, StoragesEnclose, Sum, Term, Within, area_formula, bed_of, bed_span, below, blend}
+pub use Rattle.conductance_bounds.specs.{IsColHalf, IsHalf, IsHeadUnits, IsOrdered, IsPassed, IsSlow, IsVertHalf, LiesWithin, Number, PairEncloses, Product}
+pub use Rattle.conductance_bounds.specs.{Quotient, RechargesEnclose, StoragesEnclose, Sum, Term, Within, area_formula, bed_of, bed_span, below, blend}
 pub use Rattle.conductance_bounds.specs.{ceiling_of, column_exact, column_k, column_k_term, evap_exact, evap_formula, evap_term, exact, face_term, floor_of}
 pub use Rattle.conductance_bounds.specs.{flow, is_whole, other, part_term, recharge_exact, recharge_formula, resistance_sum, row_exact, row_term, signed_pair}
 pub use Rattle.conductance_bounds.specs.{small_flow, small_pair, storage_exact, storage_formula, storage_of, storage_term, storativity_exact, storativity_term}
@@ -40,5 +40,5 @@ unfoldable pub use Rattle.model_types.specs.{vertical_half}
 pub use Rattle.model_types.specs.declared.model.FlowModel.{FlowModel}
 pub use Rattle.model_types.specs.declared.period.Period.{Period}
 pub use Rattle.scaled_decimal.proofs.Rounded.{is_ceiling, is_floor, is_rounded, one_ceiling, one_floor, one_rounded, rounded_positive}
-pub use Rattle.scaled_decimal.specs.{AreOperands, HasSize, IsDown, IsNear, IsSd, IsUp, Lower, Side, Upper, in_units, rounded, value}
+pub use Rattle.scaled_decimal.specs.{AreOperands, HasSize, IsDown, IsNear, IsSd, IsUp, IsWithin, Lower, Side, Upper, in_units, rounded, value}
 pub use Rattle.scaled_decimal.specs.declared.decimal.Sd.{Sd}

@@ -17,8 +17,8 @@ pub use Rattle.conductance_bounds.specs.Intervals.{AreBounds, IsOrdered}
 unfoldable pub use Rattle.conductance_bounds.specs.Intervals.{reach}
 pub use Rattle.conductance_bounds.specs.Pairs.{FlowEncloses, PairEncloses, below, flow, signed_pair, small_flow, small_pair}
 unfoldable pub use Rattle.conductance_bounds.specs.Pairs.{capped, capped_flow, head_pair, pair, units_at}
-pub use Rattle.conductance_bounds.specs.Parts.{AreFactors, IsHeadUnits, IsMultiplier, IsPassed, IsSlow, IsUsable, IsWithin, blend, ceiling_of, floor_of}
-pub use Rattle.conductance_bounds.specs.Parts.{is_whole, part_term}
+pub use Rattle.conductance_bounds.specs.Parts.{AreFactors, IsHeadUnits, IsMultiplier, IsPassed, IsSlow, IsUsable, blend, ceiling_of, floor_of, is_whole}
+pub use Rattle.conductance_bounds.specs.Parts.{part_term}
 unfoldable pub use Rattle.conductance_bounds.specs.Parts.{factors_of, given_pair, part, power_term, sum_term}
 pub use Rattle.conductance_bounds.specs.Terms.{Holds, IsBetween, Term, exact, other}
 unfoldable pub use Rattle.conductance_bounds.specs.Terms.{bound}

@@ -1,11 +1,11 @@
 -- The part of a stress period that has passed, and a head given at its start and its end (TM 6-A16, chapter 6, CHD).
-use Rattle.std.specs.Prelude.{◌≡◌, ℕ, ◌-◌, ◌*◌, ◌≤◌, ◌^◌, ◌⊎◌, ℤ, pos, neg_ℤ, ◌+ℤ◌, ◌*ℤ◌, ◌≤ℤ◌, Bool, ◌||◌, ◌==◌, if◌then◌else◌, min, zero, suc}
+use Rattle.std.specs.Prelude.{◌≡◌, ℕ, ◌-◌, ◌*◌, ◌≤◌, ◌^◌, ◌⊎◌, ℤ, pos, neg_ℤ, ◌+ℤ◌, ◌*ℤ◌, Bool, ◌||◌, ◌==◌, if◌then◌else◌, min, zero, suc}
 use Rattle.std.specs.Int.{int_min, int_max, int_div_euclid}
 use Rattle.decimal_input.specs.declared.dec.Dec.{Dec}
 use Rattle.decimal_input.specs.{size, Ratio, ratio}
 use Rattle.decimal_input.specs.Ratios.{den, AtMost}
 use Rattle.scaled_decimal.specs.declared.decimal.Sd.{Sd}
-use Rattle.scaled_decimal.specs.{Lower, Upper, value, IsSd, HasSize}
+use Rattle.scaled_decimal.specs.{Lower, Upper, value, IsSd, HasSize, IsNear}
 use Rattle.model_types.specs.declared.period.Period.{Period}
 use Rattle.model_types.specs.{multiplier, one, number_one}
 use Rattle.conductance_bounds.specs.declared.storage.Factors.{Factors}
@@ -84,14 +84,9 @@ pub record IsPassed (F : Ratio) (f g : ℕ) : Type 0 where
 abbrev pub blend : ℤ → ℤ → ℕ → ℤ
 blend a e f = a *ℤ pos (10 ^ 18 - f) +ℤ e *ℤ pos f
 
--- z lies from -b to b
-pub record IsWithin (z : ℤ) (b : ℕ) : Type 0 where
-  pub above : neg_ℤ (pos b) ≤ℤ z
-  pub below : z ≤ℤ pos b
-
 -- a head from -4000000000 to 4000000000 length units, in units of 10 ^ -9
 abbrev pub IsHeadUnits : ℤ → Type 0
-IsHeadUnits z = IsWithin z 4000000000000000000
+IsHeadUnits z = IsNear z 4000000000000000000
 
 -- x over 10 ^ 18 as a whole number: the floor, and the ceiling
 abbrev pub floor_of : ℤ → ℤ

@@ -4,7 +4,8 @@ ghost use Rattle.std.specs.Int.{w64};
 ghost use Rattle.decimal_input.specs.{IsDec, number, EnclosesSigned, IsSignedFloor, IsSignedCeiling, Ratio};
 ghost use Rattle.model_types.specs.declared.entry.Given.{Given};
 ghost use Rattle.model_types.specs.{IsHeadNumber, between_heads};
-ghost use Rattle.conductance_bounds.specs.{IsPassed, IsHeadUnits, IsWithin, blend, ceiling_of, floor_of, given_pair, head_pair};
+ghost use Rattle.scaled_decimal.specs.{IsNear};
+ghost use Rattle.conductance_bounds.specs.{IsPassed, IsHeadUnits, blend, ceiling_of, floor_of, given_pair, head_pair};
 
 use crate::part::{Part, WHOLE};
 use decimal_input::dec::Dec;
@@ -74,7 +75,7 @@ pub(crate) fn blend(start: i64, end: i64, part: u64) -> i128
     requires end { IsHeadUnits end }
     requires part { part ≤ 10 ^ 18 }
     ensures value { result ≡ blend start end part }
-    ensures range { IsWithin result (4 * 10 ^ 36) }
+    ensures range { IsNear result (4 * 10 ^ 36) }
 {
     share(start, WHOLE - part) + share(end, part)
 }
@@ -83,14 +84,14 @@ fn share(head: i64, part: u64) -> i128
     requires head { IsHeadUnits head }
     requires part { part ≤ 10 ^ 18 }
     ensures value { result ≡ head *ℤ pos part }
-    ensures range { IsWithin result (4 * 10 ^ 18 * part) }
+    ensures range { IsNear result (4 * 10 ^ 18 * part) }
 {
     head as i128 * part as i128
 }
 
 /// A number in units of 10 ^ -27 as one in units of 10 ^ -9, rounded down.
 pub(crate) fn head_floor(x: i128) -> i64
-    requires range { IsWithin x (4 * 10 ^ 36) }
+    requires range { IsNear x (4 * 10 ^ 36) }
     ensures floor { result ≡ floor_of x }
     ensures range { IsHeadUnits result }
 {
@@ -99,7 +100,7 @@ pub(crate) fn head_floor(x: i128) -> i64
 
 /// A number in units of 10 ^ -27 as one in units of 10 ^ -9, rounded up.
 pub(crate) fn head_ceiling(x: i128) -> i64
-    requires range { IsWithin x (4 * 10 ^ 36) }
+    requires range { IsNear x (4 * 10 ^ 36) }
     ensures ceiling { result ≡ ceiling_of x }
     ensures range { IsHeadUnits result }
 {

@@ -2,8 +2,8 @@
 pub use Rattle.std.proofs.Common.{Bool, Err, FitsSigned, IfNone, IfOk, IfSome, List, MatchOption, None, Ok, Option, Result, Some, [], add-one, ap, arith, drop}
 pub use Rattle.std.proofs.Common.{false, get_or, inl, inr, length, min, mul-pos, nat_le, neg_ℤ, negsuc, not, pos, refl, subst, suc, sym, take, true, zero, ℕ, ℤ}
 pub use Rattle.std.proofs.Common.{◌%◌, ◌&&◌, ◌*ℤ◌, ◌*◌, ◌++◌, ◌+ℤ◌, ◌+◌, ◌-ℤ◌, ◌-◌, ◌/◌, ◌<ℤ◌, ◌<◌, ◌==◌, ◌^◌, ◌↔◌, ◌∙◌, ◌∷◌, ◌≡◌, ◌≤ℤ◌, ◌≤◌, ◌⊎◌}
-pub use Rattle.std.proofs.Math.Nat.{div-le_self, div-lt_iff_lt-mul, div-mul-le_self, le-div_iff_mul-le, le_of_mul-le-mul_right, lt-mul-div-succ, mul-le-mul}
-pub use Rattle.std.proofs.Math.Nat.{mul-le-mul_left, mul-le-mul_right, pow-suc}
+pub use Rattle.std.proofs.Math.Nat.{div-le_self, div-lt_iff_lt-mul, div-mul-le_self, eq_of_mul-eq-mul_right, le-div_iff_mul-le, le_of_mul-le-mul_right}
+pub use Rattle.std.proofs.Math.Nat.{lt-mul-div-succ, mul-le-mul, mul-le-mul_left, mul-le-mul_right, pow-suc}
 pub use Rattle.std.proofs.lemmas.Bool.{and_parts, cases_Bool, cases_lt, eq-eqb, eqb-true, le-leb, leb-true, lt-leb, lt-ltb}
 pub use Rattle.std.proofs.lemmas.Bool.Decides.{leb_tells, nat_tests}
 pub use Rattle.std.proofs.lemmas.Int.{by_lt_z, ints, to_z-of_z}

@@ -19,8 +19,8 @@ Same-AtMost p = record { cross = omega (arith, p.cross) }
 pub Same-back : {f g : Ratio} → Same f g → AtMost g f
 Same-back p = record { cross = omega (arith, p.cross) }
 
-positive : (a b : ℕ) → 0 < suc a * suc b
-positive a b = omega arith
+pub product_positive : (a b : ℕ) → 0 < suc a * suc b
+product_positive a b = omega arith
 
 pub num_times : (f g : Ratio) → (times f g).num ≡ f.num * g.num
 unfolding times ratio
@@ -28,7 +28,7 @@ num_times f g = refl
 
 pub den_times : (f g : Ratio) → suc (times f g).less ≡ den f * den g
 unfolding times ratio
-den_times f g = omega (arith, positive f.less g.less)
+den_times f g = omega (arith, product_positive f.less g.less)
 
 pub num_plus : (f g : Ratio) → (plus f g).num ≡ f.num * den g + g.num * den f
 unfolding plus ratio
@@ -36,7 +36,7 @@ num_plus f g = refl
 
 pub den_plus : (f g : Ratio) → suc (plus f g).less ≡ den f * den g
 unfolding plus ratio
-den_plus f g = omega (arith, positive f.less g.less)
+den_plus f g = omega (arith, product_positive f.less g.less)
 
 pub num_over : (f g : Ratio) → (over f g).num ≡ f.num * den g
 unfolding over ratio

@@ -1,21 +1,18 @@
 use Rattle.decimal_input.proofs.Common.{◌≡◌, ℕ, suc, ◌+◌, ◌-◌, ◌*◌, ◌%◌, ◌≤◌, ◌<◌, ◌^◌, inl, inr, arith, refl, sym, ap, subst, ◌∙◌, Bool, List, length, ℤ, pos}
-use Rattle.decimal_input.proofs.Common.{◌+ℤ◌, Option, Some, None, Result, ◌⊎◌, true, false, by_lt_z, ints, pow-add, cases_lt, mul-le-mul, pow-suc}
-use Rattle.decimal_input.proofs.Common.{le_of_mul-le-mul_right, Dec, NumFault, IsTrimmed, Spelling, Spells, spelt, IsTested, IsCanonical, Names, up, down}
-use Rattle.decimal_input.proofs.Common.{with_sign, number, IsDec}
+use Rattle.decimal_input.proofs.Common.{◌+ℤ◌, Option, Some, None, Result, ◌⊎◌, true, false, by_lt_z, ints, pow-add, cases_lt, mul-le-mul, pow-suc, Dec}
+use Rattle.decimal_input.proofs.Common.{NumFault, IsTrimmed, Spelling, Spells, spelt, IsTested, IsCanonical, Names, up, down, with_sign, number, IsDec}
+use Rattle.decimal_input.proofs.Common.{eq_of_mul-eq-mul_right}
 use Rattle.decimal_input.proofs.Powers.{ten_pos, cross_of, up_down}
 use Rattle.decimal_input.proofs.Spelled.{reads_spelt, spells_read}
 use Rattle.decimal_input.specs.Fractions.{Same as SameSigned}
 use Rattle.decimal_input.proofs.SignedFloors.{sign_times}
-
-even : (m n p : ℕ) → 0 < p → m * p ≡ n * p → m ≡ n
-even m n p h e = grind (arith, le_of_mul-le-mul_right)
 
 -- a last digit above 0 leaves no room for a further zero
 ends_once : (d e z j : ℕ) → 0 < d % 10 → d * 10 ^ z ≡ e * 10 ^ (z + suc j) → ⊥
 ends_once d e z j last h =
     let split : 10 ^ (z + suc j) ≡ 10 ^ z * (10 ^ j * 10) = rw (pow-add 10 z (suc j), pow-suc 10 j) refl in
     let k : e * 10 ^ (z + suc j) ≡ e * (10 ^ z * (10 ^ j * 10)) = ap (λ (t : ℕ). e * t) split in
-    let same : d ≡ (e * 10 ^ j) * 10 = even d ((e * 10 ^ j) * 10) (10 ^ z) (ten_pos z) (omega (arith, h, k)) in
+    let same : d ≡ (e * 10 ^ j) * 10 = eq_of_mul-eq-mul_right (10 ^ z) (ten_pos z) d ((e * 10 ^ j) * 10) (omega (arith, h, k)) in
     omega (arith, last, same)
 
 -- Digits without a trailing zero, and the zeros behind them, are fixed by the number.
@@ -23,7 +20,7 @@ pub trimmed_one : (c d e z y : ℕ) → IsTrimmed c d z → IsTrimmed c e y → 
 trimmed_one c d e z y s t =
     let powers : z ≡ y = one_power z y s.last t.last (sym s.whole ∙ t.whole) in
     let P : ℕ → Type 0 = λ k. d * 10 ^ k ≡ e * 10 ^ y in
-    (even d e (10 ^ y) (ten_pos y) (subst P powers (sym s.whole ∙ t.whole)), powers)
+    (eq_of_mul-eq-mul_right (10 ^ y) (ten_pos y) d e (subst P powers (sym s.whole ∙ t.whole)), powers)
   where
     one_power : (z y : ℕ) → 0 < d % 10 → 0 < e % 10 → d * 10 ^ z ≡ e * 10 ^ y → z ≡ y
     one_power z y ld le h = elim (cases_lt z y) [

@@ -3,12 +3,12 @@ use Rattle.decimal_input.specs.Ratios.{Ratio, ratio}
 use Rattle.decimal_input.specs.Fractions.{Fraction}
 use Rattle.decimal_input.specs.declared.dec.Dec.{Dec}
 
--- The power of ten above the line, in 10 ^ e.
+-- The positive part of a number: the power of ten above the line, in 10 ^ e.
 abbrev pub up : ℤ → ℕ
 up (pos n) = n
 up (negsuc n) = 0
 
--- The power of ten below the line, in 10 ^ e.
+-- The negative part of a number, as a magnitude: the power of ten below the line, in 10 ^ e.
 abbrev pub down : ℤ → ℕ
 down (pos n) = 0
 down (negsuc n) = suc n

@@ -1,7 +1,7 @@
 -- Names that several proofs of this crate cite, of the crates below and of its own definitions, passed on from one place. Declares nothing.
 pub use Rattle.std.proofs.Common.{All, Bool, List, None, Option, Some, [], add-one, ap, arith, cond, false, get_or, inl, inr, is_some, length, map, pos, refl}
 pub use Rattle.std.proofs.Common.{set, subst, suc, sym, take, true, zero, ℕ, ℤ, ◌%◌, ◌*◌, ◌++◌, ◌+◌, ◌-◌, ◌/◌, ◌<◌, ◌||◌, ◌∙◌, ◌∷◌, ◌≡◌, ◌≤◌, ◌⊎◌}
-pub use Rattle.std.proofs.Math.Nat.{mul-le-mul_right}
+pub use Rattle.std.proofs.Math.Nat.{add-sub_cancel_left, mod-le, mul-le-mul_right, mul-pos}
 pub use Rattle.std.proofs.lemmas.Bool.{cases_Bool, cases_eq, cases_lt, cases_order, cond-false, cond-true, eq-eqb, le-leb, leb-false, leb-true, ne_eqb}
 pub use Rattle.std.proofs.lemmas.List.{append-nil, append_assoc, flat_map_more, get_or-replicate, get_or-set_other, get_or_read, length-append}
 pub use Rattle.std.proofs.lemmas.List.{length-replicate, length-set, reverse-append, set-append_right, take_all, take_more}

@@ -1,25 +1,22 @@
 -- Faces: where they lead, that they lead back, and that their ends ascend.
 use Rattle.model_types.proofs.Common.{◌≡◌, ℕ, suc, ◌+◌, ◌*◌, ◌-◌, ◌%◌, ◌<◌, ◌≤◌, ◌⊎◌, inl, inr, Bool, true, Option, Some, None, List, [], ◌∷◌, refl, sym, ap}
 use Rattle.model_types.proofs.Common.{subst, arith, length, All, filter_map, leb-true, le-leb, cond-true, mod_below, mul-le-mul_right, Grid, Face, Row, Column}
-use Rattle.model_types.proofs.Common.{Vertical, layer_size, cell_count, stride, span, has_before, has_after, face_before, face_after, faces, through, HasSize}
-use Rattle.model_types.proofs.Common.{IsInGrid}
+use Rattle.model_types.proofs.Common.{Vertical, cell_count, stride, span, has_before, has_after, face_before, face_after, faces, through, HasSize, IsInGrid}
+use Rattle.model_types.proofs.Common.{mul-pos, mod-le}
 use Rattle.std.proofs.lemmas.Option.{cond_some, none-some}
 use Rattle.model_types.specs.declared.face.Axis.{Axis}
-use Rattle.model_types.proofs.Remainders.{mod_minus, mod_plus, mod_at_most, plus_below}
+use Rattle.model_types.proofs.Remainders.{mod_minus, mod_plus, plus_below}
 use Rattle.model_types.proofs.Members.{In, All-In, In-filter_map, filter_map-In, Ordered, Ordered-filter_map, length-filter_map}
-
-positive : (a b : ℕ) → 0 < a → 0 < b → 0 < a * b
-positive a b p q = grind arith
 
 pub stride_positive : (g : Grid) (axis : Axis) → HasSize g → 0 < stride g axis
 stride_positive g Row h = omega arith
 stride_positive g Column h = omega (arith, h.cols.0)
-stride_positive g Vertical h = positive g.rows g.cols (omega (arith, h.rows.0)) (omega (arith, h.cols.0))
+stride_positive g Vertical h = mul-pos (omega (arith, h.rows.0)) (omega (arith, h.cols.0))
 
 pub span_positive : (g : Grid) (axis : Axis) → HasSize g → 0 < span g axis
 span_positive g Row h = omega (arith, h.cols.0)
-span_positive g Column h = positive g.rows g.cols (omega (arith, h.rows.0)) (omega (arith, h.cols.0))
-span_positive g Vertical h = positive g.layers (layer_size g) (omega (arith, h.layers.0)) (positive g.rows g.cols (omega (arith, h.rows.0)) (omega (arith, h.cols.0)))
+span_positive g Column h = mul-pos (omega (arith, h.rows.0)) (omega (arith, h.cols.0))
+span_positive g Vertical h = mul-pos (omega (arith, h.layers.0)) (mul-pos (omega (arith, h.rows.0)) (omega (arith, h.cols.0)))
 
 -- the grid has a whole number of spans
 abbrev spans : Grid → Axis → ℕ
@@ -66,7 +63,7 @@ first_within g c x lt (inl (e, p, q)) = omega (arith, p)
 first_within g c x lt (inr (e, p, q)) = omega (arith, p)
 
 pub end_other : (g : Grid) (c : ℕ) (x : Face) → HasSize g → IsFaceOf g c x → x.end ≡ c → ⊥
-end_other g c x h (inl (e, p, q)) same = omega (arith, q, same, stride_positive g x.axis h, before_le g x.axis c e, mod_at_most c (span g x.axis))
+end_other g c x h (inl (e, p, q)) same = omega (arith, q, same, stride_positive g x.axis h, before_le g x.axis c e, mod-le c (span g x.axis))
 end_other g c x h (inr (e, p, q)) same = omega (arith, q, same, stride_positive g x.axis h)
 
 -- the same face seen from its other end
@@ -74,7 +71,7 @@ abbrev pub turned : ℕ → Face → Face
 turned c x = record { axis = x.axis; first = x.first; end = c }
 
 pub face_back : (g : Grid) (c : ℕ) (x : Face) → HasSize g → IsFaceOf g c x → IsFaceOf g x.end (turned c x)
-face_back g c x h (inl (e, p, q)) = grind (arith, before_le, mod_at_most, before_back)
+face_back g c x h (inl (e, p, q)) = grind (arith, before_le, mod-le, before_back)
 face_back g c x h (inr (e, p, q)) = grind (arith, after_back)
 
 -- an optional face that is one
@@ -168,13 +165,13 @@ module _ (g : Grid) (c : ℕ) (test : ℕ → Bool) (h : HasSize g) where
   both_before a b le x y ex ey =
       let (p, q) = is_before a x ex in
       let (r, t) = is_before b y ey in
-      omega (arith, p, q, r, t, le, mod_at_most c (span g a), mod_below c (span g b) (span_positive g b h))
+      omega (arith, p, q, r, t, le, mod-le c (span g a), mod_below c (span g b) (span_positive g b h))
 
   before_after : (a b : Axis) → IsBelow (face_before g a c) (face_after g b c)
   before_after a b x y ex ey =
       let (p, q) = is_before a x ex in
       let (r, t) = is_after b y ey in
-      omega (arith, p, q, r, stride_positive g a h, stride_positive g b h, mod_at_most c (span g a))
+      omega (arith, p, q, r, stride_positive g a h, stride_positive g b h, mod-le c (span g a))
 
   both_after : (a b : Axis) → span g a ≤ stride g b → IsBelow (face_after g a c) (face_after g b c)
   both_after a b le x y ex ey =

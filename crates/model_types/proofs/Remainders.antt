@@ -9,9 +9,6 @@ mod_plus c k n lt =
     let e : c + k ≡ c / n * n + (c % n + k) = omega (arith, div-add-mod' c n) in
     rw e (mod-mul-add (c / n) n (c % n + k) lt)
 
-pub mod_at_most : (c n : ℕ) → c % n ≤ c
-mod_at_most c n = omega (arith, div-add-mod' c n)
-
 -- one more row fits, where the rows are whole
 pub plus_below : (c k n q : ℕ) → 0 < n → c < q * n → c % n + k < n → c + k < q * n
 plus_below c k n q h lt fits = grind (arith, div_below, mul-le-mul_right, div-add-mod')

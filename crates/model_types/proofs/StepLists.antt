@@ -2,6 +2,7 @@
 use Rattle.model_types.proofs.Common.{◌≡◌, ℕ, zero, suc, ◌+◌, ◌-◌, ◌<◌, ◌≤◌, List, [], ◌∷◌, ◌++◌, length, get_or, take, map, refl, sym, ap, ◌∙◌, arith, add-one}
 use Rattle.model_types.proofs.Common.{range_with_len, flat_map, sum_by, append-nil, append_assoc, get_or_read, length-append, take_all}
 use Rattle.model_types.proofs.Common.{length-map-range_with_len, map-range_with_len_more, Period, FlowModel, period_at, no_period, steps_of}
+use Rattle.model_types.proofs.Common.{add-sub_cancel_left}
 use Rattle.std.proofs.lemmas.List.Sums.{sum_by_more}
 use Rattle.std.proofs.lemmas.List.Concat.{flat_map-append}
 use Rattle.model_types.proofs.Ranks.{range_more}
@@ -30,9 +31,6 @@ step_pushed p n before xs e =
     let f : ℕ → TimeStep = λ k. record { period = p; step = k } in
     ap (λ ys. ys ++ f (n + 1) ∷ []) e ∙ append_assoc before (map f (range_with_len 1 n)) (f (n + 1) ∷ []) ∙ ap (λ ys. before ++ ys) (sym (map-range_with_len_more f 1 n (n + 1) (omega arith)))
 
-cancel : (k : ℕ) → 1 + k - 1 ≡ k
-cancel k = omega arith
-
 below : (k n : ℕ) → suc k ≤ n → k ≤ n
 below k n le = omega arith
 
@@ -43,7 +41,7 @@ fits k n le = omega arith
 counted : (m : FlowModel) (k : ℕ) → k ≤ length m.periods → length (flat_map (steps_of m) (range_with_len 1 k)) ≡ sum_by (λ p. p.nstp) (take k m.periods)
 counted m zero le = refl
 counted m (suc k) le =
-    let at : period_at m (1 + k) ≡ get_or m.periods k no_period = ap (λ j. get_or m.periods j no_period) (cancel k) in
+    let at : period_at m (1 + k) ≡ get_or m.periods k no_period = ap (λ j. get_or m.periods j no_period) (add-sub_cancel_left 1 k) in
     let list : range_with_len 1 (suc k) ≡ range_with_len 1 k ++ (1 + k) ∷ [] = range_more 1 k in
     ap (λ ks. length (flat_map (steps_of m) ks)) list
     ∙ ap length (flat_map-append (steps_of m) (range_with_len 1 k) ((1 + k) ∷ []) ∙ ap (λ ys. flat_map (steps_of m) (range_with_len 1 k) ++ ys) (append-nil (steps_of m (1 + k))))

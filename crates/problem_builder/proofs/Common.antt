@@ -9,7 +9,6 @@ pub use Rattle.std.proofs.lemmas.List.{get_or_push, get_or_read, length-map, len
 pub use Rattle.std.proofs.lemmas.List.{take_more}
 pub use Rattle.std.proofs.lemmas.List.Elements.{All-append, All-filter, All-nil, All-replicate, All-weaker, filter-append, filter_map-append}
 pub use Rattle.std.proofs.lemmas.List.FromFn.{fill_by_all, get_or-map-range_with_len, length-map-range_with_len, map-range_with_len_more}
-pub use Rattle.std.proofs.lemmas.Nat.{div-add-mod', div-mul-add, mod-mul-add, mod_below}
 pub use Rattle.std.proofs.lemmas.Option.{none-some}
 pub use Rattle.std.specs.Int.{int_max, int_min, w64}
 pub use Rattle.std.specs.List.{AllZip, Contains, cons_option, filter, filter_map, find, flat_map, fold, list_any, range_with_len}

@@ -1,7 +1,8 @@
 -- Active cells above a cell, layer by layer.
 use Rattle.problem_builder.proofs.Common.{◌≡◌, ℕ, suc, ◌+◌, ◌*◌, ◌-◌, ◌/◌, ◌%◌, ◌<◌, ◌≤◌, Bool, true, false, [], ◌∷◌, ◌++◌, refl, ap, ◌∙◌, arith, not, ◌&&◌}
 use Rattle.problem_builder.proofs.Common.{◌||◌, range_with_len, list_any, FlowModel, layer_size, layer_of, place_in_layer, HasSize, is_active, is_highest}
-use Rattle.problem_builder.proofs.Common.{range_more, div-add-mod', div-mul-add, mod-mul-add, mod_below}
+use Rattle.problem_builder.proofs.Common.{range_more}
+use Rattle.std.proofs.lemmas.Nat.{div-add-mod', div-mul-add, mod-mul-add, mod_below}
 use Rattle.std.proofs.lemmas.List.Folds.{list_any-append}
 use Rattle.model_types.proofs.Numbering.{size_some}
 

@@ -2,7 +2,8 @@
 use Rattle.problem_builder.proofs.Common.{◌≡◌, ℕ, ◌+◌, ◌<◌, inl, inr, true, Option, Some, None, sym, ap, ◌∙◌, arith, All, List, Face, Grid, FlowModel}
 use Rattle.problem_builder.proofs.Common.{cell_count, stride, span, has_after, faces, HasSize, is_active, In, All-In, IsFaceOf, faces_are, first_within}
 use Rattle.problem_builder.proofs.Common.{end_within, after_within, before_le, before_back, IsVariableCell, HasPair, Inputs, AreInputs, HasConductance, pair_at}
-use Rattle.problem_builder.proofs.Common.{AreTables, Axis, Row, Column, Vertical, get_or, length, subst, ◌%◌, ◌≤◌, div-add-mod'}
+use Rattle.problem_builder.proofs.Common.{AreTables, Axis, Row, Column, Vertical, get_or, length, subst}
+use Rattle.std.proofs.Math.Nat.{mod-le}
 use Rattle.problem_builder.proofs.Members.{variable_active}
 use Rattle.problem_builder.specs.declared.tables.Tables.{Tables}
 
@@ -12,12 +13,9 @@ face_in m s t are Row a lt = are.row.each a lt
 face_in m s t are Column a lt = are.column.each a lt
 face_in m s t are Vertical a lt = are.vertical.each a lt
 
-mod_at_most : (c n : ℕ) → c % n ≤ c
-mod_at_most c n = omega (arith, div-add-mod' c n)
-
 -- both cells of a face lie in the grid
 pub face_range : (g : Grid) (c : ℕ) (f : Face) → HasSize g → c < cell_count g → IsFaceOf g c f → f.first + stride g f.axis < cell_count g
-face_range g c f size lt (inl (e, q, r)) = omega (arith, q, lt, before_le g f.axis c e, mod_at_most c (span g f.axis))
+face_range g c f size lt (inl (e, q, r)) = omega (arith, q, lt, before_le g f.axis c e, mod-le c (span g f.axis))
 face_range g c f size lt (inr (e, q, r)) = omega (arith, q, after_within g f.axis c size lt e)
 
 -- and the other cell of a face comes after its first one
@@ -27,7 +25,7 @@ first_after g c f size (inr (e, q, r)) = ap (has_after g f.axis) q ∙ e
 
 -- and both are active
 pub face_active : (m : FlowModel) (c : ℕ) (f : Face) → IsFaceOf m.grid c f → is_active m c ≡ true → is_active m f.end ≡ true → (is_active m f.first ≡ true) × (is_active m (f.first + stride m.grid f.axis) ≡ true)
-face_active m c f (inl (e, q, r)) a b = grind (arith, before_le, mod_at_most)
+face_active m c f (inl (e, q, r)) a b = grind (arith, before_le, mod-le)
 face_active m c f (inr (e, q, r)) a b = (ap (is_active m) q ∙ a, ap (is_active m) (ap (λ k. k + stride m.grid f.axis) q ∙ sym r) ∙ b)
 
 pub faces_paired : (i : Inputs) (c : ℕ) → AreInputs i → IsVariableCell i c → All (HasPair i) (faces i.model.grid c)

@@ -1,7 +1,7 @@
 use Rattle.scaled_decimal.proofs.Common.{ℕ, ◌+◌, ◌*◌, ◌≤◌, ◌<◌, ◌^◌, arith, mul-le-mul_right, den, AtMost-trans, lt_right, le_cancel, lt_cancel, ◌≡◌, suc, ◌-◌}
 use Rattle.scaled_decimal.proofs.Common.{◌/◌, ap, ℤ, pos, ◌+ℤ◌, ints, pow-add, lt-mul-div-succ, div-mul-le_self, over, AtMost, scaled, up, down, num_over}
 use Rattle.scaled_decimal.proofs.Common.{den_over, ten_pos, num_scaled, den_scaled, up_down, IsFrom, IsUpTo, inl, inr, refl, sym, subst, ◌∙◌, mul-le-mul}
-use Rattle.scaled_decimal.proofs.Common.{pow-suc, le_of_mul-le-mul_right, cases_lt, Same, cross_of, Sd, IsSd, value, RoundingsKeepOrder}
+use Rattle.scaled_decimal.proofs.Common.{pow-suc, cases_lt, Same, cross_of, Sd, IsSd, value, RoundingsKeepOrder, eq_of_mul-eq-mul_right}
 
 -- n ≤ a t / b, and m is the whole part of c t / d
 wholes_below : (n a b m c d t : ℕ) → 0 < b → n * b ≤ a * t → a * d ≤ c * b → c * t < (m + 1) * d → n < m + 1
@@ -86,11 +86,8 @@ same_exponent m n a b hm km hn kn e = elim (cases_lt a b) [
   ]
 ]
 
-even : (m n p : ℕ) → 0 < p → m * p ≡ n * p → m ≡ n
-even m n p h e = grind (arith, le_of_mul-le-mul_right)
-
 one_form : (r q : Sd) → (10 ^ 17 ≤ r.m) × (r.m < 10 ^ 18) → (10 ^ 17 ≤ q.m) × (q.m < 10 ^ 18) → r.m * 10 ^ (up r.e + down q.e) ≡ q.m * 10 ^ (up q.e + down r.e) → (r.m ≡ q.m) × (r.e ≡ q.e)
-one_form r q hr hq e = grind (arith, same_exponent, even, ten_pos, up_down)
+one_form r q hr hq e = grind (arith, same_exponent, eq_of_mul-eq-mul_right, ten_pos, up_down)
 
 no_zero : (m n p q : ℕ) → 0 < m → 0 < p → n ≡ 0 → m * p ≡ n * q → ⊥
 no_zero m n p q hm hp h e = let z : n * q ≡ 0 * q = ap (λ (t : ℕ). t * q) h in omega (arith, z, e, mul-le-mul hm hp)

@@ -1,7 +1,7 @@
 use Rattle.scaled_decimal.proofs.Common.{◌≡◌, ℕ, ◌+◌, ◌*◌, ◌<◌, ◌^◌, arith, refl, ℤ, ◌+ℤ◌, inr, pos, Ratio, times, AtMost, Below, Same, scaled, up, down}
 use Rattle.scaled_decimal.proofs.Common.{AtMost-trans, Below-AtMost, AtMost-Below, Same-AtMost, Same-back, ten_pos, scaled_times, scaled-AtMost, num_scaled}
-use Rattle.scaled_decimal.proofs.Common.{den_scaled, Sd, value, IsDown, IsUp, IsFrom, IsUpTo, lt_right, suc, ◌≤◌, subst, mul-le-mul_right, den, plus}
-use Rattle.scaled_decimal.proofs.Common.{AtMost-refl, Same-trans, plus-AtMost, num_plus, den_plus, Same-both, plus-comm}
+use Rattle.scaled_decimal.proofs.Common.{den_scaled, Sd, value, IsDown, IsUp, IsFrom, IsUpTo, lt_right, ◌≤◌, subst, mul-le-mul_right, den, plus, AtMost-refl}
+use Rattle.scaled_decimal.proofs.Common.{Same-trans, plus-AtMost, num_plus, den_plus, Same-both, plus-comm, product_positive}
 use Rattle.scaled_decimal.proofs.Nearest.{zero-AtMost, uncarried}
 
 pub scaled-Below : (m n : ℕ) (e : ℤ) → m < n → Below (scaled m e) (scaled n e)
@@ -50,11 +50,8 @@ exact_up_to_at p q g e hq h = rw h (exact_up_to (scaled q e) p q e hq (record { 
 cross_plus_below : (a x b y c z d w : ℕ) → 0 < x * y → a * y ≤ b * x → c * w < d * z → (a * z + c * x) * (y * w) < (b * w + d * y) * (x * z)
 cross_plus_below a x b y c z d w h p q = omega (arith, mul-le-mul_right (z * w) p, lt_right (x * y) (c * w) (d * z) h q)
 
-positive : (a b : ℕ) → 0 < suc a * suc b
-positive a b = omega arith
-
 pub plus-Below : {a b c d : Ratio} → AtMost a b → Below c d → Below (plus a c) (plus b d)
-plus-Below {a} {b} {c} {d} p q = grind (arith, num_plus, den_plus, cross_plus_below, positive)
+plus-Below {a} {b} {c} {d} p q = grind (arith, num_plus, den_plus, cross_plus_below, product_positive)
 
 grown : (a x b y : ℕ) → a * (x * y) ≤ (a * y + b * x) * x
 grown a x b y = omega arith

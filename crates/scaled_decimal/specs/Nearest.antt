@@ -72,7 +72,7 @@ pub record UnitsAreWhole : Type 0 where
   pub floors : (f : Ratio) (s : ℕ) → IsFloor (in_units Lower f s) f s
   pub ceilings : (f : Ratio) (s : ℕ) → IsCeiling (in_units Upper f s) f s
 
--- an exponent from -b to b
+-- a number from -b to b, as an exponent
 pub record IsNear (e : ℤ) (b : ℕ) : Type 0 where
   pub above : neg_ℤ (pos b) ≤ℤ e
   pub below : e ≤ℤ pos b

@@ -1,4 +1,4 @@
-use Rattle.conductance_bounds.proofs.Common.{◌≡◌, ◌^◌, ◌*◌, arith, FitsSigned, w64, w128, int_min, int_max, to_z-of_z, blend, IsWithin, given_pair, ceiling_of}
+use Rattle.conductance_bounds.proofs.Common.{◌≡◌, ◌^◌, ◌*◌, arith, FitsSigned, w64, w128, int_min, int_max, to_z-of_z, blend, IsNear, given_pair, ceiling_of}
 use Rattle.conductance_bounds.proofs.Common.{floor_of}
 use Rattle.conductance_bounds.proofs.Blends.{fits_within, min_within, max_within, lesser, greater}
 use Rattle.conductance_bounds.proofs.GivenHeads.{given_is, head_encloses}
@@ -11,7 +11,7 @@ head_floor-requires c =
     let f : FitsSigned w128 c.blend.result = fits_within _ (4 * 10 ^ 36) (omega arith) c.blend.ensures.range in
     let g : FitsSigned w128 c.blend-2.result = fits_within _ (4 * 10 ^ 36) (omega arith) c.blend-2.ensures.range in
     let e : c.min-low.result ≡ int_min c.blend.result c.blend-2.result = simp to_z-of_z at c.min-low.ensures.value in
-    let w : IsWithin c.min-low.result (4 * 10 ^ 36) = min_within c.blend.result c.blend-2.result c.min-low.result (4 * 10 ^ 36) e c.blend.ensures.range c.blend-2.ensures.range in
+    let w : IsNear c.min-low.result (4 * 10 ^ 36) = min_within c.blend.result c.blend-2.result c.min-low.result (4 * 10 ^ 36) e c.blend.ensures.range c.blend-2.ensures.range in
     let h : FitsSigned w128 c.min-low.result = fits_within _ (4 * 10 ^ 36) (omega arith) w in
     record { range = simp to_z-of_z w }
 
@@ -20,7 +20,7 @@ head_ceiling-requires c =
     let f : FitsSigned w128 c.blend-3.result = fits_within _ (4 * 10 ^ 36) (omega arith) c.blend-3.ensures.range in
     let g : FitsSigned w128 c.blend-4.result = fits_within _ (4 * 10 ^ 36) (omega arith) c.blend-4.ensures.range in
     let e : c.max-high.result ≡ int_max c.blend-3.result c.blend-4.result = simp to_z-of_z at c.max-high.ensures.value in
-    let w : IsWithin c.max-high.result (4 * 10 ^ 36) = max_within c.blend-3.result c.blend-4.result c.max-high.result (4 * 10 ^ 36) e c.blend-3.ensures.range c.blend-4.ensures.range in
+    let w : IsNear c.max-high.result (4 * 10 ^ 36) = max_within c.blend-3.result c.blend-4.result c.max-high.result (4 * 10 ^ 36) e c.blend-3.ensures.range c.blend-4.ensures.range in
     let h : FitsSigned w128 c.max-high.result = fits_within _ (4 * 10 ^ 36) (omega arith) w in
     record { range = simp to_z-of_z w }
 

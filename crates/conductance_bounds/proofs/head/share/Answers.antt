@@ -1,4 +1,4 @@
-use Rattle.conductance_bounds.proofs.Common.{◌≡◌, ◌*◌, refl, arith, pos, ◌*ℤ◌, FitsSigned, to_z, w64, w128, to_z-of_z, to_z_pos, IsWithin}
+use Rattle.conductance_bounds.proofs.Common.{◌≡◌, ◌*◌, refl, arith, pos, ◌*ℤ◌, FitsSigned, to_z, w64, w128, to_z-of_z, to_z_pos, IsNear}
 use Rattle.conductance_bounds.proofs.Blends.{share_within, fits_within}
 use Rattle.conductance_bounds.proofs.HeadRange.{fits_64, fits_128}
 use Rattle.conductance_bounds.proofs.head.share.Goals as goal
@@ -12,7 +12,7 @@ overflow_mul-result c =
 
 pub returns : goal.returns
 returns c =
-    let w : IsWithin (c.args.head *ℤ pos c.args.part) (4000000000000000000 * c.args.part) = share_within c.args.head c.args.part c.requires.head in
+    let w : IsNear (c.args.head *ℤ pos c.args.part) (4000000000000000000 * c.args.part) = share_within c.args.head c.args.part c.requires.head in
     let narrow : FitsSigned w64 c.args.head = fits_64 _ c.requires.head in
     let wide : FitsSigned w128 c.args.head = fits_128 _ c.requires.head in
     let part : to_z w128 c.args.part ≡ pos c.args.part = to_z_pos w128 c.args.part (omega arith) in
