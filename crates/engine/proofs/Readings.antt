@@ -170,17 +170,25 @@ same_fault T U n m (input.Refused refusal) h = h
 same_fault T U n m input.ReadFault h = h
 same_fault T U n m input.Memory h = h
 
+-- a reading that stops does the same to its folder as one of another kind that stops so
+stops_alike : {S T U : Type 0} (F : FolderOf S) (old new : S) (fault : InputFault) → ReadsOn {T = T} F old new (Err fault) → ReadsOn {T = U} F old new (Err fault)
+stops_alike {T = T} {U = U} F old new fault h = record { since = h.since; counts = same_fault T U (F.faults old) (F.faults new) fault h.counts; still = h.still }
+
+-- what a reading does to its folder whose fault is passed on
+pub stops_as : {S T U : Type 0} (F : FolderOf S) (old new : S) (fault : InputFault) (result : Result U InputFault) → IsErrAnd result (λ f. f ≡ fault) → ReadsOn {T = T} F old new (Err fault) → ReadsOn F old new result
+stops_as F old new fault result is h = let p = err_from_is_err_and result is in subst (ReadsOn F old new) (sym (p.1 ∙ ap Err p.2)) (stops_alike F old new fault h)
+
+-- and one that doesn't stop, with a result that no read fault is
+pub reads_as : {S T U : Type 0} (F : FolderOf S) (old new : S) (x : T) (result : Result U InputFault) → ReadsOn {T = T} F old new (Ok x) → InputCounts (F.faults old) (F.faults old) result → ReadsOn F old new result
+reads_as F old new x result h is = record { since = h.since; counts = subst (λ n. InputCounts (F.faults old) n result) (sym h.counts) is; still = h.still }
+
 -- what two readings in a row do to their folder, of which the second one stops
 pub stops_after : {S T U V : Type 0} (F : FolderOf S) (old mid new : S) (x : T) (fault : InputFault) → ReadsOn {T = T} F old mid (Ok x) → ReadsOn {T = U} F mid new (Err fault) → ReadsOn {T = V} F old new (Err fault)
-stops_after {U = U} {V = V} F old mid new x fault first second = in_a_row first (record { since = second.since; counts = same_fault U V (F.faults mid) (F.faults new) fault second.counts; still = second.still })
+stops_after F old mid new x fault first second = in_a_row first (stops_alike F mid new fault second)
 
 -- and where neither stops, with a result that no read fault is
 pub reads_both : {S T U V : Type 0} (F : FolderOf S) (old mid new : S) (x : T) (y : U) (result : Result V InputFault) → ReadsOn {T = T} F old mid (Ok x) → ReadsOn {T = U} F mid new (Ok y) → InputCounts (F.faults old) (F.faults old) result → ReadsOn {T = V} F old new result
-reads_both F old mid new x y result first second h = record {
-  since = λ files agree. first.since files (second.since files agree);
-  counts = (let C : ℕ → Type 0 = λ n. InputCounts (F.faults old) n result in subst C (sym (second.counts ∙ first.counts)) h);
-  still = λ name may. second.still name (first.still name may);
-}
+reads_both F old mid new x y result first second = reads_as F old new y result (in_a_row first second)
 
 pub unlike_counts : (T : Type 0) (b : Second) (d : Difference) (fault : InputFault) (n : ℕ) → IsUnlikeFault b d fault → InputCounts {T = T} n n (Err fault)
 unlike_counts T b d (input.Refused refusal) n is = refl

@@ -1,5 +1,5 @@
-use Rattle.engine.proofs.Common.{rules, err_from_is_err_and, List, Option, refl, ℕ}
-use Rattle.engine.proofs.Readings.{zones_fit, zones_were_read, stops_first}
+use Rattle.engine.proofs.Common.{rules, err_from_is_err_and, List, Ok, Option, refl, ℕ}
+use Rattle.engine.proofs.Readings.{reads_as, stops_as, stops_first, zones_fit, zones_were_read}
 use Rattle.engine.proofs.reading.read_zones_of.Goals as goal
 
 pub returns-in_default-clause-zones : goal.returns-in_default-clause-zones
@@ -23,3 +23,14 @@ returns-clause-fit g c = rw c.new.ensures (zones_fit c.args.model.now c.in_ok-re
 
 pub read_zones-requires-clause-may : goal.read_zones-requires-clause-may
 read_zones-requires-clause-may g c = rw c.in-Some.is at c.requires.may
+
+pub returns-in_err-read-clause-folder : goal.returns-in_err-read-clause-folder
+returns-in_err-read-clause-folder g c = stops_as g.F.Folder c.args.folder.now c.read_zones.new.folder c.in_err-read.field-0.0 c.from_residual.result c.from_residual.ensures.1 c.in_err-read.ensures.folder
+
+pub returns-in_err-numbers-clause-folder : goal.returns-in_err-numbers-clause-folder
+returns-in_err-numbers-clause-folder g c =
+    let p = err_from_is_err_and c.from_residual-in_err-numbers.result c.from_residual-in_err-numbers.ensures.1 in
+    reads_as g.F.Folder c.args.folder.now c.read_zones.new.folder c.in_ok-read.read c.from_residual-in_err-numbers.result c.in_ok-read.ensures.folder (rw (p.1, p.2) refl)
+
+pub returns-clause-folder : goal.returns-clause-folder
+returns-clause-folder g c = reads_as g.F.Folder c.args.folder.now c.read_zones.new.folder c.in_ok-read.read (Ok _) c.in_ok-read.ensures.folder refl
