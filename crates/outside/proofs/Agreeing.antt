@@ -1,12 +1,12 @@
 -- Some files agree with what was read, whatever it is.
-use Rattle.outside.proofs.Common.{◌≡◌, ℕ, ◌+◌, Bool, true, false, List, [], ◌∷◌, cond, Option, None, IfSome, arith, refl, sym, subst, ◌∙◌, ◌⊎◌, inl, inr, Some}
-use Rattle.outside.proofs.Common.{ap, get_or, Contains, length-replicate, bytes_eq, File, bytes_under, Read, IsAsFound, AgreeWith, reading_of, FileSet}
-use Rattle.outside.proofs.Common.{with_limit, ReadState, AgreesWith, folder_name, FoundNames, IsNamedBy, FoundMay, lines, words, IsFound, IsWithin}
-use Rattle.outside.proofs.Common.{Contains-get_or, Contains-append_left, Contains-append_right}
+use Rattle.outside.proofs.Common.{◌≡◌, ℕ, ◌+◌, Bool, true, false, List, [], ◌∷◌, cond, Option, None, IfSome, arith, refl, sym, subst, ◌∙◌, inl, inr, Some}
+use Rattle.outside.proofs.Common.{get_or, Contains, length-replicate, bytes_eq, File, bytes_under, Read, IsAsFound, AgreeWith, reading_of, FileSet, IsOneMore}
+use Rattle.outside.proofs.Common.{with_limit, ReadState, AgreesWith, FoundNames, IsNamedBy, FoundMay, lines, words, IsFound, IsWithin, Contains-get_or}
+use Rattle.outside.proofs.Common.{Contains-append_right}
+use Rattle.std.specs.Prelude.{IsSomeAnd, replicate}
 use Rattle.std.proofs.lemmas.Slice.Eq.{bytes_eq-Decides}
 use Rattle.outside.specs.declared.traits.Found.{Found}
 use Rattle.outside.specs.declared.traits.Found.TheVariants.{Bytes, Missing, TooLong}
-use Rattle.std.specs.Prelude.{replicate}
 
 abbrev without : List ℕ → List File → List File
 without name [] = []
@@ -102,18 +102,6 @@ reading_kept name [] r e = absurd cc
 reading_kept name (x ∷ readings) r e = first_or_rest name x readings r (reading_kept name readings r) (bytes_eq name x.name) refl e
 
 module _ (given : List (List ℕ)) (readings : List Read) where
-  pub same_named : (others : List (List ℕ)) (kept : List Read) → others ≡ given → kept ≡ readings → (name : List ℕ) → IsNamedBy given readings name → IsNamedBy others kept name
-  same_named others kept words all name h = rw (words, all) h
-
-  -- what was named is named after one more reading
-  pub still_named : (more : List Read) (r : Read) → more ≡ r ∷ readings → (name : List ℕ) → IsNamedBy given readings name → IsNamedBy given more name
-  still_named more r is name (inl h) = inl h
-  still_named more r is name (inr h) = inr (h.0, rw is (behind r readings h.0 h.1), h.2)
-
-  -- and so is each word of what was found last
-  pub latest_named : (more : List Read) (r : Read) → more ≡ r ∷ readings → (name : List ℕ) → FoundNames name r.found → IsNamedBy given more name
-  latest_named more r is name h = inr (r, rw is (at_front r readings r refl), h)
-
   -- a word of what was found before is named
   pub known_named : (name : List ℕ) (r : Read) → reading_of name readings ≡ Some r → (word : List ℕ) → FoundNames word r.found → IsNamedBy given readings word
   known_named name r is word h = inr (r, reading_kept name readings r is, h)
@@ -130,10 +118,6 @@ module _ (limit : ℕ) where
   pub by_reading : (readings : List Read) (files : List File) (name : List ℕ) (r : Read) → AgreeWith limit readings files → reading_of name readings ≡ Some r → IsAsFound (bytes_under name files) limit r.found
   by_reading readings files name r agree is = let P : Option Read → Type 0 = λ o. IfSome o (λ r. IsAsFound (bytes_under name files) limit r.found) in subst P is (agree name)
 
-  -- and so does the latest one
-  pub by_latest : (readings : List Read) (files : List File) (r : Read) → AgreeWith limit (r ∷ readings) files → IsAsFound (bytes_under r.name files) limit r.found
-  by_latest readings files r agree = by_reading (r ∷ readings) files r.name r agree (rw ((bytes_eq-Decides r.name r.name).1 refl) refl)
-
   module _ (readings : List Read) (files : List File) (r : Read) where
     abbrev IsRead : List ℕ → Option Read → Type 0
     IsRead name reading = IfSome reading (λ x. IsAsFound (bytes_under name files) limit x.found)
@@ -148,3 +132,19 @@ module _ (limit : ℕ) where
     -- what agrees with one reading more, of a name that had none, agreed before
     pub earlier : reading_of r.name readings ≡ None → AgreeWith limit (r ∷ readings) files → AgreeWith limit readings files
     earlier missing agree name = by_name missing agree name (bytes_eq name r.name) refl
+
+-- One reading more, of a name that had none.
+module _ (name : List ℕ) (readings : List Read) where
+  pub more_agrees : (limit : ℕ) (more : List Read) (files : List File) → IsOneMore name readings more → reading_of name readings ≡ None → AgreeWith limit more files → AgreeWith limit readings files
+  more_agrees limit [] files is missing agree = absurd is
+  more_agrees limit (r ∷ rest) files is missing agree = earlier limit readings files r (rw is.0 missing) (subst (λ rs. AgreeWith limit (r ∷ rs) files) is.1 agree)
+
+  -- what was named is named after it
+  pub more_named : (given : List (List ℕ)) (more : List Read) → IsOneMore name readings more → (other : List ℕ) → IsNamedBy given readings other → IsNamedBy given more other
+  more_named given [] is other h = absurd is
+  more_named given (r ∷ rest) is other (inl h) = inl h
+  more_named given (r ∷ rest) is other (inr h) = inr (h.0, rw is.1 (behind r readings h.0 h.1), h.2)
+
+  pub more_known : (more : List Read) → IsOneMore name readings more → IsSomeAnd (reading_of name more) (λ _. Unit {0})
+  more_known [] is = absurd is
+  more_known (r ∷ rest) is = rw ((bytes_eq-Decides name r.name).1 (sym is.0)) tt

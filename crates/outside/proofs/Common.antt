@@ -1,15 +1,15 @@
 -- Names that several proofs of this crate cite, of the crates below and of its own definitions, passed on from one place. Declares nothing.
 pub use Rattle.std.proofs.Common.{All, Bool, Contains, IfSome, List, None, Option, Some, [], ap, arith, cond, drop, false, get_or, if◌then◌else◌, inl, inr}
 pub use Rattle.std.proofs.Common.{length, map, nat_le, refl, rules, subst, suc, sym, take, take-append-drop, take-take, take_all, true, zero, ℕ, ◌&&◌, ◌++◌}
-pub use Rattle.std.proofs.Common.{◌+◌, ◌-◌, ◌<◌, ◌==◌, ◌∙◌, ◌∷◌, ◌≡◌, ◌≤◌, ◌⊎◌}
+pub use Rattle.std.proofs.Common.{◌+◌, ◌-◌, ◌<◌, ◌==◌, ◌∙◌, ◌∷◌, ◌≡◌, ◌≤◌}
 pub use Rattle.std.proofs.KnownBytes.{Appends-trans}
 pub use Rattle.std.proofs.lemmas.List.{drop-take, length-replicate, take_rest}
-pub use Rattle.std.proofs.lemmas.List.Elements.{All-map, Contains-append_left, Contains-append_right, Contains-get_or}
+pub use Rattle.std.proofs.lemmas.List.Elements.{All-map, Contains-append_right, Contains-get_or}
 pub use Rattle.std.specs.Io.KnownBytes.{Appends, Consumes, Keeps}
 pub use Rattle.std.specs.Str.{IsUtf8, bytes_eq}
-pub use Rattle.outside.specs.{AgreeWith, AgreesWith, File, FileSet, FoundMay, FoundNames, IsAsFound, IsFound, IsGoodName, IsNameByte, IsNamedBy, IsWithin, Put}
-pub use Rattle.outside.specs.{PutMakes, PutsMake, Read, ReadState, Seen, bytes_under, folder_name, kept_at, lines, reading_of, the_row, the_type, with_limit}
-pub use Rattle.outside.specs.{words}
+pub use Rattle.outside.specs.{AgreeWith, AgreesWith, File, FileSet, FoundMay, FoundNames, IsAsFound, IsFound, IsGoodName, IsNameByte, IsNamedBy, IsOneMore}
+pub use Rattle.outside.specs.{IsWithin, Put, PutMakes, PutsMake, Read, ReadState, Seen, bytes_under, folder_name, kept_at, lines, reading_of, the_row, the_type}
+pub use Rattle.outside.specs.{with_limit, words}
 unfoldable pub use Rattle.outside.specs.{is_good_name}
 pub use base.Logic.{SProp, ent}
 pub use contract.Monad.{Fun}

@@ -60,6 +60,11 @@ abbrev pub reading_of : List ℕ → List Read → Option Read
 reading_of name [] = None
 reading_of name (r ∷ readings) = cond (bytes_eq name r.name) (Some r) (reading_of name readings)
 
+-- the readings with one more, of this name
+abbrev pub IsOneMore : List ℕ → List Read → List Read → Type 0
+IsOneMore name readings [] = ⊥
+IsOneMore name readings (r ∷ more) = (r.name ≡ name) × (more ≡ readings)
+
 -- the bytes under a name are what was found there, where at most limit bytes were asked for
 abbrev pub IsAsFound : Option (List ℕ) → ℕ → Found → Type 0
 IsAsFound under limit (Bytes v) = under ≡ Some v.items

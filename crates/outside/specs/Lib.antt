@@ -6,8 +6,8 @@ pub mod Names
 pub mod Codes
 pub mod Inputs
 pub use Rattle.outside.specs.Codes.{CodeRow, IsRefusal, code_row, input_fault, refusal}
-pub use Rattle.outside.specs.Files.{AgreeWith, AgreesWith, File, FileSet, FoundNames, IsAsFound, IsFound, IsNamed, IsNamedBy, IsWhole, IsWithin, MayAsk, Read}
-pub use Rattle.outside.specs.Files.{ReadState, bytes_under, reading_of, with_limit}
+pub use Rattle.outside.specs.Files.{AgreeWith, AgreesWith, File, FileSet, FoundNames, IsAsFound, IsFound, IsNamed, IsNamedBy, IsOneMore, IsWhole, IsWithin}
+pub use Rattle.outside.specs.Files.{MayAsk, Read, ReadState, bytes_under, reading_of, with_limit}
 pub use Rattle.outside.specs.Folders.{ReadsOn}
 pub use Rattle.outside.specs.Inputs.{IsReading, file_at, file_refusal}
 pub use Rattle.outside.specs.Memory.{Failure, FolderState, PutsInMemory, ReadsInMemory, SinkState, kept_at, seen_in_memory}

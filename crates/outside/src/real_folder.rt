@@ -1,8 +1,8 @@
 // The files of the system as a folder.
-ghost use Rattle.std.specs.Prelude.{◌≡◌, ℕ, [], List, IfErr, IfOk, IfSome, map, option_map, Option};
+ghost use Rattle.std.specs.Prelude.{◌≡◌, ℕ, [], List, IfErr, IfOk, IfSome, IsSomeAnd, OnErr, OnOk, map, option_map, Option};
 ghost use Rattle.outside.specs.Names.{FoundMay};
 ghost use Rattle.outside.specs.Puts.{ReadCounts};
-ghost use Rattle.outside.specs.Files.{FileSet, IsFound, IsWithin, ReadState, AgreesWith, IsNamed, MayAsk, reading_of, Read, FoundNames, IsAsFound};
+ghost use Rattle.outside.specs.Files.{FileSet, IsFound, IsOneMore, IsWithin, ReadState, AgreesWith, IsNamed, MayAsk, reading_of, Read, FoundNames, IsAsFound};
 
 use crate::real::read_whole;
 use crate::traits::{Folder, FolderError, Found};
@@ -73,6 +73,39 @@ impl<'a, R: Files> RealFolder<'a, R> {
         }
         found
     }
+
+    /// Reads a file that was not asked for before, and keeps what was found.
+    fn read_anew(&mut self, alloc: Global, name: &str) -> Result<(), FolderError>
+        requires { IsNamed self.old name.now }
+        ensures given { self.new.given ≡ self.old.given }
+        ensures limit { self.new.limit ≡ self.old.limit }
+        ensures ok { OnOk result (IsOneMore name.now self.old.readings self.new.readings) }
+        ensures err { OnErr result (self.new.readings ≡ self.old.readings) }
+        ensures counts { ReadCounts self.old.faults self.new.faults result }
+    {
+        let limit = self.limit;
+        let asked = Vec::from_slice(alloc, name.as_bytes())?;
+        let found = self.find(alloc, name, limit)?;
+        self.readings.insert(0, Reading { name: asked, found })?;
+        Ok(())
+    }
+
+    /// Reads a file, unless it was asked for before.
+    fn ask(&mut self, alloc: Global, name: &str) -> Result<(), FolderError>
+        requires { IsNamed self.old name.now }
+        ensures limit { self.new.limit ≡ self.old.limit }
+        ensures known { OnOk result (IsSomeAnd (reading_of name.now self.new.readings) (λ _. Unit {0})) }
+        ensures still { (other : List ℕ) → MayAsk self.old other → MayAsk self.new other }
+        ensures since { (files : FileSet) → AgreesWith self.new files → AgreesWith self.old files }
+        ensures counts { ReadCounts self.old.faults self.new.faults result }
+        ensures again { IfSome (reading_of name.now self.old.readings) (λ _. IfErr result (λ _. ⊥)) }
+    {
+        if let Some(_) = reading_of(self.readings.as_slice(), name) {
+            return Ok(());
+        }
+        self.read_anew(alloc, name)?;
+        Ok(())
+    }
 }
 
 impl<'a, R: Files> Folder for RealFolder<'a, R> {
@@ -96,16 +129,12 @@ impl<'a, R: Files> Folder for RealFolder<'a, R> {
         // It has no fault of its own: a name that was answered before is no read fault.
         ensures again { IfSome (reading_of name.now self.old.readings) (λ _. IfErr result (λ fault. fault ≡ FolderError.Memory)) }
     {
+        self.ask(alloc, name)?;
         let limit = self.limit;
-        if let Some(reading) = reading_of(self.readings.as_slice(), name) {
-            return Ok(reading.answer(alloc, limit)?);
+        match reading_of(self.readings.as_slice(), name) {
+            Some(reading) => Ok(reading.answer(alloc, limit)?),
+            None => unreachable!(),
         }
-        let found = self.find(alloc, name, limit)?;
-        let name = Vec::from_slice(alloc, name.as_bytes())?;
-        let reading = Reading { name, found };
-        let answer = reading.answer(alloc, limit)?;
-        self.readings.insert(0, reading)?;
-        Ok(answer)
     }
 
     fn some_agree(&self) {}
