@@ -54,13 +54,20 @@ pub fn read_bas<F: Folder>(
     ensures model { (files : FileSet) → F.agrees folder.new files → Has (λ m. m) result (bas_of files file.now bytes.now model) }
     ensures form { IfOk result (HasBasics model) }
 {
-    let (ibound, strt) = basics_of(alloc, file, bytes, folder, &model.grid)?;
-    folder.some_agree();
-    Ok(FlowModel {
-        ibound: Listed::new(ibound),
-        strt: Listed::new(strt),
-        ..model
-    })
+    match basics_of(alloc, file, bytes, folder, &model.grid) {
+        Ok((ibound, strt)) => {
+            folder.some_agree();
+            Ok(FlowModel {
+                ibound: Listed::new(ibound),
+                strt: Listed::new(strt),
+                ..model
+            })
+        }
+        Err(fault) => {
+            drop(model);
+            Err(fault)
+        }
+    }
 }
 
 // The lines before the arrays.

@@ -55,16 +55,8 @@ pub fn properties_of<F: Folder>(
     };
     let has_hani = !is_positive(layer.chani);
     let hk = read_layer(alloc, lines, file, folder, rows, cols)?;
-    let hani = layer_or(
-        alloc,
-        lines,
-        file,
-        folder,
-        rows,
-        cols,
-        has_hani,
-        layer.chani,
-    )?;
+    let chani = layer.chani;
+    let hani = layer_or(alloc, lines, file, folder, rows, cols, has_hani, chani)?;
     let vka = read_layer(alloc, lines, file, folder, rows, cols)?;
     let ss = if layer.stores {
         read_layer(alloc, lines, file, folder, rows, cols)?

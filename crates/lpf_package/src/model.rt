@@ -43,16 +43,8 @@ fn contents_of<F: Folder>(
     lines.skip_comments();
     let coefficient = option_line(alloc, &mut lines, file)?;
     let settings = settings_of(alloc, &mut lines, file, grid.layers)?;
-    let properties = layers_of(
-        alloc,
-        &mut lines,
-        file,
-        folder,
-        grid,
-        settings.chani.as_slice(),
-        stores,
-        grid.layers,
-    )?;
+    let (chani, layers) = (settings.chani.as_slice(), grid.layers);
+    let properties = layers_of(alloc, &mut lines, file, folder, grid, chani, stores, layers)?;
     Ok(Contents {
         coefficient,
         layvka: settings.layvka,
@@ -82,17 +74,24 @@ pub fn read_lpf<F: Folder>(
     ensures form { IfOk result HasFlow }
 {
     let stores = is_transient(model.periods.as_slice());
-    let contents = contents_of(alloc, file, bytes, folder, &model.grid, stores)?;
-    folder.some_agree();
-    let properties = contents.properties;
-    Ok(FlowModel {
-        coefficient: contents.coefficient,
-        layvka: contents.layvka,
-        hk: properties.hk,
-        hani: properties.hani,
-        vka: properties.vka,
-        ss: properties.ss,
-        vkcb: properties.vkcb,
-        ..model
-    })
+    match contents_of(alloc, file, bytes, folder, &model.grid, stores) {
+        Ok(contents) => {
+            folder.some_agree();
+            let properties = contents.properties;
+            Ok(FlowModel {
+                coefficient: contents.coefficient,
+                layvka: contents.layvka,
+                hk: properties.hk,
+                hani: properties.hani,
+                vka: properties.vka,
+                ss: properties.ss,
+                vkcb: properties.vkcb,
+                ..model
+            })
+        }
+        Err(fault) => {
+            drop(model);
+            Err(fault)
+        }
+    }
 }
