@@ -102,13 +102,16 @@ pub fn evap_fault(rate: Dec, surface: Dec, depth: Dec) -> Option<Code>
 
 // The extinction elevation, which is the surface less the depth.
 
+/// The greatest magnitude of a head, 4000000000 length units, in units of 10 ^ -9.
+const HEAD_LIMIT: i128 = 4_000_000_000_000_000_000;
+
 fn is_reached(surface: Option<i128>, depth: Option<i128>) -> bool
     requires surface { IfSome surface (λ z. unsigned_abs z < 2 ^ 126) }
     requires depth { IfSome depth (λ z. unsigned_abs z < 2 ^ 126) }
     ensures { result ≡ is_reached surface depth }
 {
     match (surface, depth) {
-        (Some(f), Some(c)) => c - 4_000_000_000_000_000_000 <= f,
+        (Some(f), Some(c)) => c - HEAD_LIMIT <= f,
         _ => false,
     }
 }
