@@ -103,19 +103,34 @@ fn over_aggregates<'a>(
     filled_value(coarse, added)
 }
 
+fn over_pairs(alloc: Global, matrix: &Matrix, lone: bool) -> Result<Coarsening, AllocError> {
+    let pairs = pairs(alloc, matrix, lone)?;
+    Ok(Coarsening {
+        matrix: over_aggregates(alloc, matrix, &pairs)?,
+        aggregates: pairs.of,
+    })
+}
+
+impl Coarsening {
+    // Goes on to pairs of these aggregates.
+    fn pair_up(&mut self, alloc: Global) -> Result<(), AllocError> {
+        let mut next = over_pairs(alloc, &self.matrix, true)?;
+        for aggregate in self.aggregates.iter_mut() {
+            *aggregate = label_at(next.aggregates.as_slice(), *aggregate as usize);
+        }
+        self.matrix = mem::replace(&mut next.matrix, Matrix::new(alloc));
+        drop(next);
+        Ok(())
+    }
+}
+
 /// Aggregates of mostly four unknowns: pairs of pairs. None where no two unknowns are coupled.
 pub fn coarser(alloc: Global, matrix: &Matrix) -> Result<Option<Coarsening>, AllocError> {
-    let first = pairs(alloc, matrix, false)?;
-    if first.count == 0 {
+    let mut coarsening = over_pairs(alloc, matrix, false)?;
+    if coarsening.matrix.len() == 0 {
+        drop(coarsening);
         return Ok(None);
     }
-    let halved = over_aggregates(alloc, matrix, &first)?;
-    let second = pairs(alloc, &halved, true)?;
-    let quartered = over_aggregates(alloc, &halved, &second)?;
-    let of = second.of.as_slice();
-    let merged = first.of.iter().map(|pair| label_at(of, *pair as usize));
-    Ok(Some(Coarsening {
-        aggregates: merged.collect(alloc)?,
-        matrix: quartered,
-    }))
+    let paired = coarsening.pair_up(alloc);
+    Ok(Some(filled_value(coarsening, paired)?))
 }

@@ -1,8 +1,13 @@
 // Reading, writing and cutting the numbers of a solver. Each call is total.
+ghost use Rattle.std.specs.Prelude.{◌≡◌, IsErr, IsOk, OkIff, OnErr, OnOk, vec_len};
+ghost use Rattle.std.specs.List.{AllClonesOf};
+
 use std::alloc::{AllocError, Global};
 
 /// A value that was filled, or nothing where memory ended. A value is dropped here in place of at each `?` of its maker.
-pub fn filled_value<T: Drop>(value: T, filled: Result<(), AllocError>) -> Result<T, AllocError> {
+pub fn filled_value<T: Drop>(value: T, filled: Result<(), AllocError>) -> Result<T, AllocError>
+    ensures { OkIff result (IsOk filled) value }
+{
     filled?;
     Ok(value)
 }
@@ -16,7 +21,11 @@ pub fn list_of<T: Copy + Drop>(
     alloc: Global,
     value: T,
     count: usize,
-) -> Vec<T> {
+) -> Vec<T>
+    ensures count { OnOk memory.new (vec_len result ≡ count) }
+    ensures each { OnOk memory.new (AllClonesOf T.is_clone value result.items) }
+    ensures ended { OnErr memory.old (IsErr memory.new) }
+{
     match vec![in alloc; value; count] {
         Ok(list) => list,
         Err(fault) => {
