@@ -10,7 +10,7 @@ use crate::newton::{Until, find_balanced};
 use crate::one_side::Step;
 use crate::search::first_share;
 use crate::steps::{Kept, LastStep, high_start, low_start, take_last};
-use crate::work::on_side;
+use crate::work::{both, on_side};
 use std::alloc::{AllocError, Global};
 use std::thread::{Threads, join};
 use step_problem::{Barrier, Problem, Side};
@@ -31,13 +31,13 @@ fn near_balanced(
 
 // The room of the system of the slopes at these upper heads.
 fn find_room(step: &Step, heads: &[i64], kept: &mut Option<Linear>) -> Result<(), AllocError> {
-    let room = on_side(step, Side::High, VISITS_OF_NEWTON, |work| {
+    on_side(step, Side::High, VISITS_OF_NEWTON, |work| {
         let slopes = work.side.slopes(heads)?;
-        let room = Linear::of(work, slopes.as_slice(), kept)?.room(work);
+        let linear = Linear::of(work, slopes.as_slice(), kept);
         drop(slopes);
-        room
-    });
-    Ok(drop(room?))
+        linear?.room(work)?;
+        Ok(())
+    })
 }
 
 // Lower heads near balanced ones, and beside them the room, which is for both sides.
@@ -82,10 +82,8 @@ fn halves_at_once<R: Threads>(
         || half_guess(step, Side::Low, near, share, last, linear),
         || half_guess(step, Side::High, upper, share, last, beside),
     );
-    Ok(LastStep {
-        low: low?,
-        high: high?,
-    })
+    let (low, high) = both(low, high)?;
+    Ok(LastStep { low, high })
 }
 
 /// A guess as `guess_heads` makes it, with both sides in two threads: a few rounds of Newton's method for the lower side lead near the

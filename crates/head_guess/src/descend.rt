@@ -43,7 +43,7 @@ pub fn descend(
             drop(from);
             return Ok(order);
         }
-        let fallen = sink.fall_through(side, heads);
+        let fallen = sink.fall_through(side, heads.as_mut_slice());
         work.budget.spend(sink.visits);
         drop(sink);
         since = since.saturating_add(fallen?);

@@ -8,6 +8,7 @@ use crate::links::Links;
 use crate::one_side::{Step, turned_head};
 use crate::search::first_share;
 use crate::steps::{Kept, LastStep, high_start, low_start, take_last};
+use crate::work::both;
 use multigrid::numbers::at;
 use std::alloc::{AllocError, Global};
 use step_problem::{Barrier, Bound, Problem, Side};
@@ -50,6 +51,21 @@ pub fn guess_of(step: &Step, halves: &LastStep) -> Result<Guess, AllocError>
     Ok(Guess { bounds, order })
 }
 
+// The guess of the upper side, near that of the lower one.
+fn high_guess(
+    step: &Step,
+    low: &HalfGuess,
+    last: &Option<LastStep>,
+    kept: &mut Option<Linear>,
+) -> Result<HalfGuess, AllocError> {
+    let start = high_start(step, low.balanced.as_slice(), last)?;
+    let share = match &low.lowest {
+        Some(lowest) => lowest.share,
+        None => first_share(step.links),
+    };
+    half_guess(step, Side::High, start, share, last, kept)
+}
+
 // The guesses of both sides, one after the other.
 fn halves_in_turn(
     step: &Step,
@@ -59,9 +75,8 @@ fn halves_in_turn(
     let start = low_start(step, last)?;
     let share = first_share(step.links);
     let low = half_guess(step, Side::Low, start, share, last, kept)?;
-    let start = high_start(step, low.balanced.as_slice(), last)?;
-    let share = low.lowest.as_ref().map_or(share, |lowest| lowest.share);
-    let high = half_guess(step, Side::High, start, share, last, kept)?;
+    let high = high_guess(step, &low, last, kept);
+    let (low, high) = both(Ok(low), high)?;
     Ok(LastStep { low, high })
 }
 

@@ -76,21 +76,18 @@ fn lowest_of(
     kept: &mut Option<Linear>,
 ) -> Result<Option<Lowest>, AllocError> {
     if let Some(last) = last {
-        let near = lowest_near(work.side, balanced, last)?;
-        if near.is_some() {
-            return Ok(near);
+        if let Some(lowest) = lowest_near(work.side, balanced, last)? {
+            return Ok(Some(lowest));
         }
     }
-    let room = match kept {
-        Some(linear) => linear.room(work)?,
-        None => Vec::new(work.side.alloc),
+    let Some(linear) = kept else {
+        return Ok(None);
     };
-    let units = greatest(room.as_slice()).unsigned_abs() >> 10;
+    let room = linear.room(work)?;
+    let units = greatest(room).unsigned_abs() >> 10;
     let visits = units.max(VISITS_OF_DESCENT).min(MOST_VISITS);
     let mut work = Work::new(work.side, visits);
-    let lowest = lowest_below(&mut work, balanced, room.as_slice(), share);
-    drop(room);
-    lowest
+    lowest_below(&mut work, balanced, room, share)
 }
 
 /// The guess of a side from heads where Newton's method starts, with a share of the room to try first, and that of the last step. The linear

@@ -6,6 +6,7 @@ use multigrid::Levels;
 use multigrid::numbers::{greatest, shift, width};
 use star_mesh::{Factor, Pattern};
 use std::alloc::AllocError;
+use std::mem;
 
 // Making the levels takes about this many visits at each cell.
 const VISITS_OF_LEVELS: u64 = 20;
@@ -105,6 +106,7 @@ impl Linear {
         work: &mut Work,
         slopes: Vec<i64>,
         pattern: Option<&Pattern>,
+        is_hard: bool,
     ) -> Result<Linear, AllocError> {
         let side = work.side;
         let slack = slack_of(side, slopes.as_slice())?;
@@ -126,7 +128,7 @@ impl Linear {
             scale,
             room: None,
             visits: 0,
-            is_hard: false,
+            is_hard,
         })
     }
 
@@ -153,9 +155,7 @@ impl Linear {
             drop(last);
         }
         let slopes = Vec::from_slice(work.side.alloc, slopes)?;
-        let mut linear = Linear::new(work, slopes, pattern)?;
-        linear.is_hard = is_hard;
-        Ok(kept.insert(linear))
+        Ok(kept.insert(Linear::new(work, slopes, pattern, is_hard)?))
     }
 
     /// Whether these slopes are nearly its own: within the few units by which lower and upper conductances differ, or a
@@ -222,44 +222,44 @@ impl Linear {
         is_solved
     }
 
-    // The room, found anew. Its visits say nothing of those for other solutions.
-    fn solved_room(&mut self, work: &mut Work) -> Result<Vec<i64>, AllocError> {
-        let scale = self.scale;
+    // Solves for the room. Its visits say nothing of those for other solutions.
+    fn solve_room(&mut self, work: &mut Work) -> Result<(), AllocError> {
+        let (scale, visits) = (self.scale, self.visits);
         let rights = self.method.right_side().iter_mut();
         for (right, slope) in rights.zip(self.slopes.as_slice()) {
             *right = shift(*slope as i128, 20).wrapping_shr(scale);
         }
-        let visits = self.visits;
         let unknowns = self.unknowns(work, ROUNDS_OF_ROOM, BITS_OF_ROOM).iter();
         let room = unknowns
             .map(|unknown| (*unknown >> 10).max(0))
             .collect(work.side.alloc)?;
         self.visits = visits;
-        Ok(room)
+        self.room = Some(room);
+        Ok(())
     }
 
-    // The room, by elimination where cycles do not solve it.
-    fn find_room(&mut self, work: &mut Work) -> Result<Vec<i64>, AllocError> {
+    // Finds the room, by elimination where cycles do not solve it.
+    fn find_room(&mut self, work: &mut Work) -> Result<(), AllocError> {
         let pattern = work.side.pattern;
-        let room = self.solved_room(work)?;
+        self.solve_room(work)?;
         if !self.method.is_by_cycles() || self.is_solved(BITS_OF_ROOM) || pattern.is_none() {
-            return Ok(room);
+            return Ok(());
         }
-        drop(room);
-        *self = Linear::new(work, self.slopes.clone()?, pattern)?;
-        self.is_hard = true;
-        self.solved_room(work)
+        let linear = Linear::new(work, self.slopes.clone()?, pattern, true)?;
+        drop(mem::replace(self, linear));
+        self.solve_room(work)
     }
 
     /// The room at each cell, in units of 2^-10: how far all heads move together when each cell's balance changes by its slope. It is not
     /// negative, and is kept.
-    pub fn room(&mut self, work: &mut Work) -> Result<Vec<i64>, AllocError> {
-        if let Some(room) = &self.room {
-            return room.clone();
+    pub fn room(&mut self, work: &mut Work) -> Result<&[i64], AllocError> {
+        if self.room.is_none() {
+            self.find_room(work)?;
         }
-        let room = self.find_room(work)?;
-        self.room = Some(room.clone()?);
-        Ok(room)
+        Ok(match &self.room {
+            Some(room) => room.as_slice(),
+            None => &[],
+        })
     }
 
     /// Takes the room of another system, if its slopes are near.

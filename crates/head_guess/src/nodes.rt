@@ -61,7 +61,7 @@ impl Nodes {
         let mut nodes = Vec::with_capacity(side.alloc, heads.len())?;
         for (cell, head) in heads.iter().enumerate() {
             nodes.push(Node {
-                balance: side.balance(cell, *head, |other| at(heads, other)),
+                balance: side.balance(cell, *head, heads),
                 head: *head,
                 cap: caps.map_or(HEAD_LIMIT, |caps| at(caps, cell)),
                 least: side.links.row(cell).least,
@@ -71,9 +71,11 @@ impl Nodes {
         Ok(Nodes { nodes })
     }
 
-    /// The heads of all cells.
-    pub fn heads(&self, side: &OneSide) -> Result<Vec<i64>, AllocError> {
-        self.nodes.iter().map(|node| node.head).collect(side.alloc)
+    /// Writes the heads of all cells.
+    pub fn write_heads(&self, heads: &mut [i64]) {
+        for (head, node) in heads.iter_mut().zip(self.nodes.as_slice()) {
+            *head = node.head;
+        }
     }
 
     /// Whether each cell has risen as often as it may.

@@ -4,7 +4,7 @@ ghost use Rattle.step_problem.specs.{IsHead};
 use crate::branch::{Branch, Known, head_on};
 use crate::links::{Links, Row};
 use crate::ramp::{Ramp, add_ramps};
-use multigrid::numbers::at;
+use multigrid::numbers::{at, filled_value};
 use star_mesh::Pattern;
 use std::alloc::{AllocError, Global};
 use step_problem::problem::HEAD_LIMIT;
@@ -73,30 +73,35 @@ fn inflow(side: Side, cell: &Cell) -> i128 {
 impl OneSide<'_> {
     /// A side of a step's problem, above the floor or below the ceiling.
     pub fn new<'a>(step: &Step<'a>, side: Side) -> Result<OneSide<'a>, AllocError> {
-        let (alloc, problem, barrier) = (step.alloc, step.problem, step.barrier);
-        let mut knowns = Vec::new(alloc);
-        let mut ramps = Vec::new(alloc);
-        let mut inflows = Vec::with_capacity(alloc, problem.len())?;
-        for index in 0..problem.len() {
-            let cell = problem.cell(index);
-            add_knowns(&mut knowns, side, cell)?;
-            add_ramps(&mut ramps, side, cell)?;
-            inflows.push(inflow(side, cell))?;
-        }
-        let limits = match side {
-            Side::Low => barrier.floor.iter(),
-            Side::High => barrier.ceiling.iter(),
-        };
-        Ok(OneSide {
+        let alloc = step.alloc;
+        let mut one_side = OneSide {
             alloc,
             side,
             links: step.links,
             pattern: step.pattern,
-            floor: limits.map(|head| turned_head(side, *head)).collect(alloc)?,
-            knowns,
-            ramps,
-            inflows,
-        })
+            floor: Vec::with_capacity(alloc, step.problem.len())?,
+            knowns: Vec::new(alloc),
+            ramps: Vec::new(alloc),
+            inflows: Vec::new(alloc),
+        };
+        let added = one_side.add_all(step);
+        filled_value(one_side, added)
+    }
+
+    fn add_all(&mut self, step: &Step) -> Result<(), AllocError> {
+        let (side, problem, barrier) = (self.side, step.problem, step.barrier);
+        for cell in 0..problem.len() {
+            let limit = match side {
+                Side::Low => at(barrier.floor.as_slice(), cell),
+                Side::High => at(barrier.ceiling.as_slice(), cell),
+            };
+            self.floor.push(turned_head(side, limit))?;
+            let cell = problem.cell(cell);
+            add_knowns(&mut self.knowns, side, cell)?;
+            add_ramps(&mut self.ramps, side, cell)?;
+            self.inflows.push(inflow(side, cell))?;
+        }
+        Ok(())
     }
 
     pub fn len(&self) -> usize {
@@ -113,19 +118,11 @@ impl OneSide<'_> {
         row.ramps.of(self.ramps.as_slice())
     }
 
-    /// The balance of a cell without its ramps, where `around` are the heads of the cells that it is linked with.
-    pub fn straight_balance<F: Fn(usize) -> i64>(
-        &self,
-        cell: usize,
-        row: &Row,
-        own: i64,
-        around: F,
-    ) -> i128
-        requires { F.IsAlwaysCallable around }
-    {
+    /// The balance of a cell at its own head and the heads of the cells that it is linked with, without its ramps.
+    pub fn straight_balance(&self, cell: usize, row: &Row, own: i64, heads: &[i64]) -> i128 {
         let mut sum = at(self.inflows.as_slice(), cell);
         for edge in self.links.edges(row) {
-            let rise = around(edge.other as usize).wrapping_sub(own);
+            let rise = at(heads, edge.other as usize).wrapping_sub(own);
             sum = sum.wrapping_add(edge.branch.inflow(rise));
         }
         for known in self.knowns(row) {
@@ -136,11 +133,9 @@ impl OneSide<'_> {
 
     /// The balance of a cell: the lower one, or the upper one with the opposite sign. It falls in the cell's own head, and the cell may rise
     /// where it is not negative.
-    pub fn balance<F: Fn(usize) -> i64>(&self, cell: usize, own: i64, around: F) -> i128
-        requires { F.IsAlwaysCallable around }
-    {
+    pub fn balance(&self, cell: usize, own: i64, heads: &[i64]) -> i128 {
         let row = self.links.row(cell);
-        let mut sum = self.straight_balance(cell, &row, own, around);
+        let mut sum = self.straight_balance(cell, &row, own, heads);
         if row.is_straight() {
             return sum;
         }

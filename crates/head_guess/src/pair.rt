@@ -37,8 +37,10 @@ fn is_straight_to(
     kept: &Option<Linear>,
 ) -> Result<bool, AllocError> {
     let slopes = side.slopes(heads)?;
-    let kept = kept.as_ref();
-    Ok(kept.is_some_and(|linear| linear.is_near(slopes.as_slice())))
+    Ok(match kept {
+        Some(linear) => linear.is_near(slopes.as_slice()),
+        None => false,
+    })
 }
 
 // The heads at which slopes are left `times` times, from these.
@@ -153,7 +155,10 @@ fn pair_of<'a>(
 
 // Whether cycles have left a system unsolved.
 fn is_hard(kept: &Option<Linear>) -> bool {
-    kept.as_ref().is_some_and(|linear| linear.is_hard)
+    match kept {
+        Some(linear) => linear.is_hard,
+        None => false,
+    }
 }
 
 /// Bounds of the heads that may be a certificate of a problem and a barrier: balanced heads, moved outwards so that each balance is about the

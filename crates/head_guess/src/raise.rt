@@ -66,7 +66,7 @@ pub fn raise_within(
     let mut nodes = Nodes::new(work.side, heads.as_slice(), caps, u32::MAX)?;
     let given = work.budget.left;
     let is_settled = raise(work, &mut nodes, given.saturating_sub(turns))?;
-    *heads = nodes.heads(work.side)?;
+    nodes.write_heads(heads.as_mut_slice());
     let turns = given.saturating_sub(work.budget.left);
     Ok(Raised { is_settled, turns })
 }
@@ -79,6 +79,6 @@ pub fn raise_counted(
 ) -> Result<Vec<bool>, AllocError> {
     let mut nodes = Nodes::new(work.side, heads.as_slice(), None, rises)?;
     raise(work, &mut nodes, 0)?;
-    *heads = nodes.heads(work.side)?;
+    nodes.write_heads(heads.as_mut_slice());
     nodes.are_spent(work.side)
 }

@@ -39,7 +39,7 @@ fn excess_balances(
 ) -> Result<Vec<i128>, AllocError> {
     let mut balances = Vec::with_capacity(side.alloc, slopes.len())?;
     for (cell, slope) in slopes.iter().enumerate() {
-        let balance = side.balance(cell, at(heads, cell), |other| at(heads, other));
+        let balance = side.balance(cell, at(heads, cell), heads);
         balances.push(balance.wrapping_sub(rest_of(*slope, times)))?;
     }
     Ok(balances)

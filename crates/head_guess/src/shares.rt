@@ -66,7 +66,7 @@ impl Shares {
         }
         let mut memory = Ok(());
         let shares = Shares {
-            linear: Linear::new(work, slopes, side.pattern)?,
+            linear: Linear::new(work, slopes, side.pattern, false)?,
             changes: Changes::new(&mut memory, side.alloc, balanced.len(), share),
             heads: Vec::new(side.alloc),
         };

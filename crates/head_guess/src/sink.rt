@@ -3,7 +3,7 @@
 use crate::marks::{CELLS, Marks, Sweep};
 use crate::one_side::OneSide;
 use crate::spot::{Depth, NEVER, Spot};
-use multigrid::numbers::{at, clamp_long, filled_value, label, put};
+use multigrid::numbers::{clamp_long, filled_value, label, put};
 use std::alloc::AllocError;
 
 /// All cells, and how far the set has fallen.
@@ -45,21 +45,23 @@ impl Sink {
     }
 
     fn add_all(&mut self, side: &OneSide, heads: &[i64]) -> Result<(), AllocError> {
-        for cell in 0..heads.len() {
-            self.add(side, heads, cell)?;
+        let lowered = side.heads_below(heads, |_| 1)?;
+        for (cell, head) in heads.iter().enumerate() {
+            self.add(side, cell, *head, lowered.as_slice())?;
         }
         self.settle(side)?;
         self.visits = heads.len() as u64;
         Ok(())
     }
 
-    // Adds the next cell. It falls if it is not at its floor.
-    fn add(&mut self, side: &OneSide, heads: &[i64], cell: usize) -> Result<(), AllocError> {
-        let lowered = |cell| {
-            let head = at(heads, cell);
-            head.wrapping_sub(!side.is_at_floor(cell, head) as i64)
-        };
-        let head = at(heads, cell);
+    // Adds the next cell, where `lowered` are the heads of all cells after a fall. It falls if it is not at its floor.
+    fn add(
+        &mut self,
+        side: &OneSide,
+        cell: usize,
+        head: i64,
+        lowered: &[i64],
+    ) -> Result<(), AllocError> {
         let falls = !side.is_at_floor(cell, head);
         let sum = clamp_long(side.balance(cell, head, lowered));
         self.spots.push(Spot {
@@ -80,14 +82,6 @@ impl Sink {
     /// Whether all cells rise again.
     pub fn is_empty(&self) -> bool {
         self.members == 0
-    }
-
-    // The heads of all cells.
-    fn heads(&self, side: &OneSide) -> Result<Vec<i64>, AllocError> {
-        self.spots
-            .iter()
-            .map(|spot| self.depth.head_of(spot))
-            .collect(side.alloc)
     }
 
     fn spot(&self, cell: usize) -> Spot {
@@ -229,18 +223,16 @@ impl Sink {
     }
 
     /// Lowers the heads: the set falls until it is empty, or has fallen as far as it may. Returns by how many units.
-    pub fn fall_through(
-        &mut self,
-        side: &OneSide,
-        heads: &mut Vec<i64>,
-    ) -> Result<u32, AllocError> {
+    pub fn fall_through(&mut self, side: &OneSide, heads: &mut [i64]) -> Result<u32, AllocError> {
         for _ in 0..self.depth.last {
             self.fall(side)?;
             if self.is_empty() {
                 break;
             }
         }
-        *heads = self.heads(side)?;
+        for (head, spot) in heads.iter_mut().zip(self.spots.as_slice()) {
+            *head = self.depth.head_of(spot);
+        }
         Ok(self.depth.units)
     }
 }

@@ -60,7 +60,7 @@ impl OneSide<'_> {
     pub fn piece(&self, cell: usize, heads: &[i64], bends: Bends) -> (i128, i64) {
         let row = self.links.row(cell);
         let own = at(heads, cell);
-        let mut balance = self.straight_balance(cell, &row, own, |other| at(heads, other));
+        let mut balance = self.straight_balance(cell, &row, own, heads);
         let left = self.straight_fall(&row, own.saturating_sub(1), |other| at(heads, other));
         let right = self.straight_fall(&row, own, |other| at(heads, other));
         let mut slope = left.max(right);

@@ -38,10 +38,12 @@ impl Kept {
 
 // The old head of a cell with storage.
 fn old_head(cell: &Cell) -> Option<i64> {
-    let mut storages = cell.fixed.iter();
-    storages
-        .find(|fixed| fixed.kind == FixedKind::Storage && fixed.lo > 0)
-        .map(|fixed| fixed.head_lo)
+    for fixed in &cell.fixed {
+        if fixed.kind == FixedKind::Storage && fixed.lo > 0 {
+            return Some(fixed.head_lo);
+        }
+    }
+    None
 }
 
 /// Takes the last step out. None where this step has no storage, since steady heads may be far from the last ones, or where it has other
@@ -63,8 +65,8 @@ fn first_head(step: &Step, cell: usize) -> i64 {
         return ceiling;
     }
     let cell = problem.cell(cell);
-    let surfaces = cell.evaps.iter().map(|evap| evap.surf_lo);
-    old_head(cell).unwrap_or(surfaces.fold(ceiling, |least, surface| least.min(surface)))
+    let evaps = cell.evaps.iter();
+    old_head(cell).unwrap_or(evaps.fold(ceiling, |least, evap| least.min(evap.surf_lo)))
 }
 
 /// Where the balanced lower heads start: at those of the last step.

@@ -21,6 +21,14 @@ impl<'a> Work<'a> {
     }
 }
 
+/// Both values, or nothing where memory ended for one. They are dropped here in place of at each `?` of their maker.
+pub fn both<T: Drop, U: Drop>(
+    one: Result<T, AllocError>,
+    other: Result<U, AllocError>,
+) -> Result<(T, U), AllocError> {
+    Ok((one?, other?))
+}
+
 /// What is made by work of `visits` visits at each cell of a side. The side is dropped here, in place of at each exit of its maker.
 pub fn on_side<T, F: FnOnce(&mut Work) -> Result<T, AllocError> + Drop>(
     step: &Step,
