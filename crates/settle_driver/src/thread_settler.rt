@@ -1,6 +1,6 @@
 // Settlers by workers in threads.
 ghost use Rattle.std.specs.Prelude.{◌≡◌};
-ghost use Rattle.step_problem.specs.{AreOnTheWay, IsBarrier, Settles, settled};
+ghost use Rattle.step_problem.specs.{IsBarrier, Settles, settled};
 ghost use Rattle.settle_driver.specs.Views.{IsPlan};
 
 use crate::phases::Plan;
@@ -50,27 +50,6 @@ impl<'a, R: Threads + Sync, G: Gate + Sync> ThreadSettler<'a, R, G> {
         ensures { Settles p.now b.now self.now.plan.rounds result }
     {
         settle(self.rt, alloc, p, b, self.plan, self.gate)
-    }
-
-    /// What `settle` gives, from words that an earlier settling has reached.
-    pub fn settle_from(
-        &self,
-        alloc: Global,
-        p: &Problem,
-        b: &Barrier,
-        words: Vec<Bound>,
-    ) -> Result<Vec<Bound>, SettleFault>
-        requires barrier { IsBarrier p.now b.now }
-        requires way { AreOnTheWay p.now b.now words.items }
-        ensures { Settles p.now b.now self.now.plan.rounds result }
-    {
-        WatchSettler::new(self.rt, self.plan, self.gate, 0).settle_from(
-            alloc,
-            p,
-            b,
-            words,
-            &mut NoViewer,
-        )
     }
 }
 
