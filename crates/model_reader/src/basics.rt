@@ -46,8 +46,13 @@ fn check_model(
     ensures check { HasText (λ _. tt) result (checked model file.now check) }
     ensures same { IfOk result (λ m. m ≡ model) }
 {
-    check_cells(alloc, &model, file, check)?;
-    Ok(model)
+    match check_cells(alloc, &model, file, check) {
+        Ok(()) => Ok(model),
+        Err(fault) => {
+            drop(model);
+            Err(fault)
+        }
+    }
 }
 
 /// Checks the thickness of each active cell, which is refused with the file of DIS, and then the starting head
@@ -129,6 +134,11 @@ pub fn open_file<F: Folder>(
     ensures bytes { (files : FileSet) → F.agrees folder.new files → Has (λ x. x.0.items) result (file_at files name.now) }
     ensures same { IfOk result (λ x. x.1 ≡ model) }
 {
-    let bytes = read_input(alloc, folder, name)?;
-    Ok((bytes, model))
+    match read_input(alloc, folder, name) {
+        Ok(bytes) => Ok((bytes, model)),
+        Err(fault) => {
+            drop(model);
+            Err(fault)
+        }
+    }
 }
