@@ -6,10 +6,11 @@ ghost use Rattle.model_types.specs.{HasSize};
 ghost use Rattle.evt_package.specs.Evaporation.{evaporation_arrays, evt_of};
 
 use crate::columns::test_columns;
-use model_types::{FlowModel, Grid, Stresses};
+use model_types::{FlowModel, Grid, Listed, Stresses};
 use outside::{Folder, InputFault, TextFault};
 use period_arrays::{Area, ArrayPackage, read_arrays};
-use std::alloc::Global;
+use std::alloc::{AllocError, Global};
+use std::mem;
 
 /// The package EVT.
 pub struct Evapotranspiration;
@@ -32,14 +33,12 @@ impl ArrayPackage for Evapotranspiration {
         test_columns(alloc, file, grid, ibound, option, area)
     }
 
-    fn put(stresses: Stresses, area: Area) -> Stresses {
-        Stresses {
-            surf: area.surfaces,
-            evtr: area.rates,
-            exdp: area.depths,
-            ievt: area.layers,
-            ..stresses
-        }
+    fn put(stresses: &mut Stresses, area: &Area) -> Result<(), AllocError> {
+        stresses.surf = area.surfaces.again()?;
+        stresses.evtr = area.rates.again()?;
+        stresses.exdp = area.depths.again()?;
+        stresses.ievt = area.layers.again()?;
+        Ok(())
     }
 }
 
@@ -67,19 +66,18 @@ pub fn read_evt<F: Folder>(
     ensures model { (files : FileSet) → F.agrees folder.new files → Has (λ m. m) result (evt_of files file.now bytes.now model) }
     ensures grid { IfOk result (λ m. m.grid ≡ model.grid) }
 {
-    let periods = model.periods.into_vec();
-    let evaporation = read_arrays::<Evapotranspiration, F>(
-        alloc,
-        file,
-        bytes,
-        folder,
-        &model.grid,
-        model.ibound.as_slice(),
-        periods,
-    )?;
-    Ok(FlowModel {
-        nevtop: evaporation.option,
-        periods: evaporation.periods,
-        ..model
-    })
+    let mut model = model;
+    let periods = mem::replace(&mut model.periods, Listed::new(Vec::new(alloc))).into_vec();
+    let (grid, ibound) = (&model.grid, model.ibound.as_slice());
+    match read_arrays::<Evapotranspiration, F>(alloc, file, bytes, folder, grid, ibound, periods) {
+        Ok(evaporation) => Ok(FlowModel {
+            nevtop: evaporation.option,
+            periods: evaporation.periods,
+            ..model
+        }),
+        Err(fault) => {
+            drop(model);
+            Err(fault)
+        }
+    }
 }

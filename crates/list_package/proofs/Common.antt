@@ -1,11 +1,11 @@
 -- Names that several proofs of this crate cite, of the crates below and of its own definitions, passed on from one place. Declares nothing.
-pub use Rattle.std.proofs.Common.{All, Bool, IfSome, List, None, Option, Result, Some, [], ap, arith, cond, drop, false, get_or, is_some, length, map, nat_le}
-pub use Rattle.std.proofs.Common.{negsuc, not, pos, refl, set, subst, suc, sym, true, ℕ, ℤ, ◌&&◌, ◌-◌, ◌<◌, ◌∙◌, ◌∷◌, ◌≡◌, ◌≤◌}
-pub use Rattle.std.proofs.lemmas.List.Elements.{All-cons, All-head, All-nil, All-tail, All-weaker}
+pub use Rattle.std.proofs.Common.{All, Bool, IfSome, List, None, Ok, Option, Result, Some, [], add-one, ap, arith, cond, drop, false, get_or, is_some, length}
+pub use Rattle.std.proofs.Common.{map, nat_le, negsuc, not, pos, refl, set, subst, suc, sym, take, true, ℕ, ℤ, ◌&&◌, ◌+◌, ◌-◌, ◌<◌, ◌∙◌, ◌∷◌, ◌≡◌, ◌≤◌}
+pub use Rattle.std.proofs.lemmas.List.{drop-set-lt, drop_all, get_or-set_other, get_or-set_same, length-replicate, length-set, take_all, take_more_set}
+pub use Rattle.std.proofs.lemmas.List.Elements.{All-cons, All-head, All-nil, All-push, All-same, All-tail, All-weaker}
 pub use Rattle.std.proofs.lemmas.Result.{err_from_is_err_and}
 pub use Rattle.std.specs.List.{AllPairs, AllZip}
 pub use Rattle.std.specs.Prelude.{codes, if◌then◌else◌}
-pub use Rattle.std.specs.Vec.Iter.{into_iter_items}
 pub use Rattle.array_reader.specs.{integer, number, number_at}
 pub use Rattle.decimal_input.specs.{IsDec}
 pub use Rattle.decimal_input.specs.declared.dec.Dec.{Dec}
@@ -20,7 +20,8 @@ pub use Rattle.model_types.specs.declared.period.Period.{Period}
 pub use Rattle.outside.specs.{refusal, words}
 pub use Rattle.outside.specs.declared.codes.Code.{Code}
 pub use Rattle.outside.specs.declared.codes.Code.TheVariants.{CellOutside, HeadTooLarge, TooManyEntries}
-pub use Rattle.record_lines.proofs.Loops.{each_done, each_ends, each_goes_on, ends_all, ends_text, is_done, no_items, with_front}
+pub use Rattle.outside.specs.declared.inputs.Refusal.{Refusal}
+pub use Rattle.record_lines.proofs.Loops.{each_done, each_goes_on, ends_all, ends_text, is_done, stops_all, with_front}
 pub use Rattle.record_lines.proofs.Readings.{done, goes_on, if_clear, if_passed, refused, repeated_are, repeated_gives, then_, weaker}
-pub use Rattle.record_lines.specs.{GivesOnly, Left, Numbered, begins_with, left_from, line_at, repeated, without_comments}
+pub use Rattle.record_lines.specs.{GivesOnly, Left, Numbered, Stops, StopsText, begins_with, left_from, line_at, repeated, without_comments}
 unfoldable pub use Rattle.record_lines.specs.{for_each}

@@ -3,9 +3,8 @@ use Rattle.list_package.proofs.Common.{integer, number, number_at, done, goes_on
 use Rattle.list_package.proofs.Common.{IsDec, Dec, Differ, IsEntry, Kind, cell_at, entry_at, entry_of, first_fault, is_left_out, new_list, no_marks, passed}
 use Rattle.list_package.proofs.Common.{HasSize, cell_count, most_entries, CellId, Grid, Limits, refusal, words, Code, CellOutside, Left, line_at, All, Bool}
 use Rattle.list_package.proofs.Common.{List, None, Option, Some, [], ap, arith, cond, false, get_or, length, refl, set, suc, sym, true, ℕ, ℤ, ◌-◌, ◌<◌, ◌∙◌}
-use Rattle.list_package.proofs.Common.{◌∷◌, ◌≡◌, ◌≤◌, All-cons, All-nil, AllPairs}
+use Rattle.list_package.proofs.Common.{◌∷◌, ◌≡◌, ◌≤◌, All-cons, All-nil, AllPairs, get_or-set_other, get_or-set_same, length-replicate, length-set}
 use Rattle.array_text.proofs.ArrayForms.{item_is}
-use Rattle.std.proofs.lemmas.List.{get_or-set_other, get_or-set_same, length-replicate, length-set}
 use Rattle.array_text.proofs.NumberForms.{number_is}
 use Rattle.std.proofs.lemmas.List.Kept.{AllPairs-cons}
 use Rattle.model_types.proofs.Numbering.{cell_within}

@@ -3,3 +3,4 @@ pub mod ColumnLemmas
 pub mod EntryForms
 pub mod ListForms
 pub mod Forward
+pub mod InPlace

@@ -3,10 +3,9 @@ use Rattle.list_package.proofs.Common.{integer, number_at, done, goes_on, if_cle
 use Rattle.list_package.proofs.Common.{header_of, is_reused, item_line, list_at, list_of, lists_of, period_at, periods_of, with_list, HasSize, cell_count}
 use Rattle.list_package.proofs.Common.{most_entries, CellId, Grid, Limits, Period, refusal, words, TooManyEntries, Left, for_each, left_from, line_at}
 use Rattle.list_package.proofs.Common.{without_comments, All, Bool, IfSome, List, None, Option, Some, is_some, map, nat_le, negsuc, not, pos, refl, ℕ, ℤ, ◌&&◌}
-use Rattle.list_package.proofs.Common.{◌≡◌, ◌≤◌, [], ◌∷◌, Result, All-cons, All-head, All-nil, All-tail}
+use Rattle.list_package.proofs.Common.{◌≡◌, ◌≤◌, [], ◌∷◌, Result, All-cons, All-head, All-nil, All-tail, Refusal}
 use Rattle.list_package.specs.declared.header.Count.{Count}
 use Rattle.list_package.specs.declared.header.Count.TheVariants.{Entries, Again}
-use Rattle.outside.specs.declared.inputs.Refusal.{Refusal}
 use Rattle.std.proofs.lemmas.Bool.{leb-true}
 use Rattle.list_package.proofs.EntryForms.{IsNewList, no_list, new_list_is}
 

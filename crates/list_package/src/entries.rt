@@ -62,26 +62,14 @@ impl ListEntry for Entry {
         true
     }
 
-    fn put(lists: ListKind, stresses: Stresses, list: Shared<Entry>) -> Stresses
-        ensures { result ≡ (kind_of lists).put stresses list }
+    fn put(lists: ListKind, stresses: &mut Stresses, list: Shared<Entry>)
+        ensures { stresses.new ≡ (kind_of lists).put stresses.old list }
     {
         match lists {
-            ListKind::Wells => Stresses {
-                wells: list,
-                ..stresses
-            },
-            ListKind::Rivers => Stresses {
-                rivers: list,
-                ..stresses
-            },
-            ListKind::Drains => Stresses {
-                drains: list,
-                ..stresses
-            },
-            ListKind::Generals => Stresses {
-                generals: list,
-                ..stresses
-            },
+            ListKind::Wells => stresses.wells = list,
+            ListKind::Rivers => stresses.rivers = list,
+            ListKind::Drains => stresses.drains = list,
+            ListKind::Generals => stresses.generals = list,
         }
     }
 }

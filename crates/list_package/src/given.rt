@@ -67,12 +67,9 @@ impl ListEntry for Given {
         }
     }
 
-    fn put(lists: SpecifiedHeads, stresses: Stresses, list: Shared<Given>) -> Stresses
-        ensures { result ≡ given_heads.put stresses list }
+    fn put(lists: SpecifiedHeads, stresses: &mut Stresses, list: Shared<Given>)
+        ensures { stresses.new ≡ given_heads.put stresses.old list }
     {
-        Stresses {
-            given: list,
-            ..stresses
-        }
+        stresses.given = list;
     }
 }

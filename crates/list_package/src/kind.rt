@@ -29,7 +29,7 @@ pub trait ListEntry: Copy + Drop {
     fn suits(lists: Self::Lists, period: &Period, list: &[Self]) -> bool
         ensures { result ≡ (kind lists).suits period.now list.now };
 
-    /// The stresses with this list, in place of their earlier one.
-    fn put(lists: Self::Lists, stresses: Stresses, list: Shared<Self>) -> Stresses
-        ensures { result ≡ (kind lists).put stresses list };
+    /// Puts this list in place of the stresses' earlier one.
+    fn put(lists: Self::Lists, stresses: &mut Stresses, list: Shared<Self>)
+        ensures { stresses.new ≡ (kind lists).put stresses.old list };
 }

@@ -2,7 +2,7 @@
 ghost use Rattle.std.specs.Prelude.{◌≡◌};
 ghost use Rattle.record_lines.specs.{GivesText, HasText};
 ghost use Rattle.model_types.specs.{HasSize};
-ghost use Rattle.list_package.specs.{with_list, list_at, list_of, period_at, periods_of};
+ghost use Rattle.list_package.specs.{list_at, list_of, period_at, periods_of};
 
 use crate::entry::new_list;
 use crate::header::{Count, header_of};
@@ -65,56 +65,43 @@ fn list_at<E: ListEntry>(
     Ok(list)
 }
 
-fn with_list<E: ListEntry>(lists: E::Lists, period: Period, list: Shared<E>) -> Period
-    ensures { result ≡ with_list (E.kind lists) period list }
-{
-    let stresses = E::put(lists, period.stresses, list);
-    Period { stresses, ..period }
-}
-
-/// The next period with its list, which becomes the last one.
+/// Puts its list, which becomes the last one, into the next period.
 #[tactic(auto, unfolding(crate::specs::Entries::period_at))]
-fn period_at<E: ListEntry>(
+fn read_period<E: ListEntry>(
     alloc: Global,
     limits: Limits,
     lists: E::Lists,
     lines: &mut Lines,
     file: &str,
     grid: &Grid,
-    period: Period,
+    period: &mut Period,
     last: &mut Option<Shared<E>>,
-) -> Result<Period, TextFault>
+) -> Result<(), TextFault>
     requires size { HasSize grid.now }
-    ensures { GivesText (λ p. p) result (last.new, lines.new) (period_at limits (E.kind lists) file.now grid.now period (last.old, lines.old)) }
+    ensures { GivesText (λ _. period.new) result (last.new, lines.new) (period_at limits (E.kind lists) file.now grid.now period.old (last.old, lines.old)) }
 {
-    match list_at::<E>(alloc, limits, lists, lines, file, grid, &period, last) {
-        Ok(list) => Ok(with_list(lists, period, list)),
-        Err(fault) => {
-            drop(period);
-            Err(fault)
-        }
-    }
+    let list = list_at::<E>(alloc, limits, lists, lines, file, grid, period, last)?;
+    E::put(lists, &mut period.stresses, list);
+    Ok(())
 }
 
-/// The periods with their lists.
+/// Puts their lists into the periods.
 #[tactic(auto, unfolding(crate::specs::Entries::periods_of))]
-pub fn periods_of<E: ListEntry>(
+pub fn read_periods<E: ListEntry>(
     alloc: Global,
     limits: Limits,
     lists: E::Lists,
     lines: &mut Lines,
     file: &str,
     grid: &Grid,
-    periods: Vec<Period>,
-) -> Result<Vec<Period>, TextFault>
+    periods: &mut [Period],
+) -> Result<(), TextFault>
     requires size { HasSize grid.now }
-    ensures { HasText (λ v. v.items) result (periods_of limits (E.kind lists) file.now grid.now periods.items lines.old) }
+    ensures { HasText (λ _. periods.new) result (periods_of limits (E.kind lists) file.now grid.now periods.old lines.old) }
 {
     let mut last = None;
-    let mut whole = Vec::new(alloc);
-    for period in periods {
-        let period = period_at::<E>(alloc, limits, lists, lines, file, grid, period, &mut last)?;
-        whole.push(period)?;
+    for period in periods.iter_mut() {
+        read_period::<E>(alloc, limits, lists, lines, file, grid, period, &mut last)?;
     }
-    Ok(whole)
+    Ok(())
 }

@@ -6,32 +6,33 @@ ghost use Rattle.list_package.specs.{lists_of, package_of};
 
 use crate::header::item_line;
 use crate::kind::ListEntry;
-use crate::lists::periods_of;
+use crate::lists::read_periods;
 use array_reader::integer;
 use model_types::{FlowModel, Grid, Limits, Listed, Period};
 use outside::TextFault;
 use record_lines::{Lines, Words};
 use std::alloc::Global;
+use std::mem;
 
-/// The periods with the lists of a package's file.
+/// Puts the lists of a package's file into the periods.
 #[tactic(auto, unfolding(crate::specs::Entries::lists_of))]
-fn lists_of<E: ListEntry>(
+fn read_lists<E: ListEntry>(
     alloc: Global,
     limits: Limits,
     lists: E::Lists,
     file: &str,
     bytes: &[u8],
     grid: &Grid,
-    periods: Vec<Period>,
-) -> Result<Vec<Period>, TextFault>
+    periods: &mut [Period],
+) -> Result<(), TextFault>
     requires size { HasSize grid.now }
-    ensures { HasText (λ v. v.items) result (lists_of limits (E.kind lists) file.now bytes.now grid.now periods.items) }
+    ensures { HasText (λ _. periods.new) result (lists_of limits (E.kind lists) file.now bytes.now grid.now periods.old) }
 {
     let mut lines = Lines::new(bytes);
     lines.skip_comments();
     let line = item_line(alloc, &mut lines, file)?;
     integer(alloc, &mut Words::of(&line), file, line.number)?;
-    periods_of::<E>(alloc, limits, lists, &mut lines, file, grid, periods)
+    read_periods::<E>(alloc, limits, lists, &mut lines, file, grid, periods)
 }
 
 /// The model with the lists of a package's file in its periods, by these limits. `file` is the file's name, for refusals.
@@ -55,10 +56,16 @@ pub fn read_package<E: ListEntry>(
     ensures model { HasText (λ m. m) result (package_of limits (E.kind lists) file.now bytes.now model) }
     ensures grid { IfOk result (λ m. m.grid ≡ model.grid) }
 {
-    let periods = model.periods.into_vec();
-    let periods = lists_of::<E>(alloc, limits, lists, file, bytes, &model.grid, periods)?;
-    Ok(FlowModel {
-        periods: Listed::new(periods),
-        ..model
-    })
+    let mut model = model;
+    let mut periods = mem::replace(&mut model.periods, Listed::new(Vec::new(alloc))).into_vec();
+    let whole = periods.as_mut_slice();
+    let read = read_lists::<E>(alloc, limits, lists, file, bytes, &model.grid, whole);
+    model.periods = Listed::new(periods);
+    match read {
+        Ok(()) => Ok(model),
+        Err(fault) => {
+            drop(model);
+            Err(fault)
+        }
+    }
 }

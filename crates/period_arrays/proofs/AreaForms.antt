@@ -2,7 +2,8 @@
 use Rattle.period_arrays.proofs.Common.{done, goes_on, if_clear, if_passed, then_, weaker, GivesOnly, HasSize, int_at, is_int, layer_size, Grid, FileSet, words}
 use Rattle.period_arrays.proofs.Common.{IsArea, IsInForce, IsLayers, IsReals, area_at, array_or, arrays_of, flag_at, flag_if, flags_of, is_layer, is_negative}
 use Rattle.period_arrays.proofs.Common.{is_option, layer_step, layers_at, layers_tested, nothing_yet, option_at, InForce, Left, line_at, All, Bool, List, Ok}
-use Rattle.period_arrays.proofs.Common.{[], arith, false, length, negsuc, not, pos, refl, subst, sym, true, ℕ, ℤ, ◌&&◌, ◌<◌, ◌≡◌, ◌≤◌, each_step}
+use Rattle.period_arrays.proofs.Common.{[], arith, false, length, negsuc, not, pos, refl, subst, sym, true, ℕ, ℤ, ◌&&◌, ◌<◌, ◌≡◌, ◌≤◌, each_step, some_give}
+use Rattle.period_arrays.proofs.Common.{Area}
 use Rattle.array_text.specs.{IsShort}
 use Rattle.array_reader.specs.{integer, number_at, real_layer}
 use Rattle.array_text.proofs.ArrayForms.{arrays}
@@ -133,3 +134,9 @@ module _ (files : FileSet) (file : List ℕ) (g : Grid) where
     area_is s so =
         goes_on (line_at file s.1) _ (λ line e. then_ _ (flags_are file line.0.number its s.0.listed (words line.0.bytes)) (λ flags f. then_ _ (arrays_are flags s.0 line.1 f so)
         (λ area is. done (is, record { area = λ e. is; none = is.layers.none }))))
+
+-- the same of an area that was read, if some files agree with what was read
+pub area_given : (agrees : FileSet → Type 0) (file : List ℕ) (g : Grid) (evaporates : Bool) (option : ℤ) (contents : Contents) (s : InForce × Left) (x : Area × (InForce × Left)) → HasSize g → IsInForce evaporates g option s.0
+    → contents ≡ record { evaporates = evaporates; layered = is_int option 2 } → ((files : FileSet) × agrees files) → ((files : FileSet) → agrees files → area_at contents files file g s ≡ Ok x)
+    → IsArea evaporates g option x.0 × IsInForce evaporates g option x.1.0
+area_given agrees file g evaporates option contents s x size so its some read = some_give (λ files. area_is files file g evaporates size option s so) some (λ files agree. rw its at (read files agree))

@@ -13,7 +13,7 @@ use decimal_input::dec::Dec;
 use model_types::{Grid, Shared};
 use outside::{Folder, InputFault};
 use record_lines::{Lines, Words};
-use std::alloc::{AllocError, Global};
+use std::alloc::Global;
 
 /// The arrays of a period: a rate for each column of layers; of evapotranspiration a surface and an extinction depth;
 /// and where the file names them, the layers. The others are empty.
@@ -23,24 +23,6 @@ pub struct Area {
     pub rates: Shared<Dec>,
     pub depths: Shared<Dec>,
     pub layers: Shared<i64>,
-}
-
-impl Area {
-    /// Another handle to the same arrays.
-    fn again(&self) -> Result<Area, AllocError>
-        ensures { IfOk result (λ a. a ≡ self.now) }
-    {
-        let surfaces = self.surfaces.again()?;
-        let rates = self.rates.again()?;
-        let depths = self.depths.again()?;
-        let layers = self.layers.again()?;
-        Ok(Area {
-            surfaces,
-            rates,
-            depths,
-            layers,
-        })
-    }
 }
 
 /// The arrays of the period before, and whether there is one.
@@ -67,98 +49,118 @@ impl InForce {
     }
 }
 
-/// An array of numbers that is read anew, or that of the period before.
-fn reals_or<F: Folder>(
+/// Reads an array of numbers anew, or leaves that of the period before.
+fn read_reals_if<F: Folder>(
     alloc: Global,
     lines: &mut Lines,
     file: &str,
     folder: &mut F,
     grid: &Grid,
     anew: bool,
-    before: &Shared<Dec>,
-) -> Result<Shared<Dec>, InputFault>
+    array: &mut Shared<Dec>,
+) -> Result<(), InputFault>
     requires lines { LinesMay (F.may folder.old) lines.old }
     ensures folder { ReadsOn F.Folder folder.old folder.new result }
     ensures lines { IfOk result (λ _. LinesMay (F.may folder.new) lines.new) }
     ensures array { (files : FileSet) → F.agrees folder.new files →
-        Gives (λ xs. xs) result lines.new (array_or (real_layer files file.now grid.now.rows grid.now.cols) anew before.now lines.old) }
+        Gives (λ _. array.new) result lines.new (array_or (real_layer files file.now grid.now.rows grid.now.cols) anew array.old lines.old) }
 {
-    if anew {
-        let values = read_layer(alloc, lines, file, folder, grid.rows, grid.cols)?;
-        Ok(Shared::new(alloc, values)?)
-    } else {
-        Ok(before.again()?)
+    if !anew {
+        return Ok(());
     }
+    let values = read_layer(alloc, lines, file, folder, grid.rows, grid.cols)?;
+    *array = Shared::new(alloc, values)?;
+    Ok(())
 }
 
-/// An array of layers that is read anew, each tested, or that of the period before.
+/// Reads an array of layers anew, each tested, or leaves that of the period before.
 #[tactic(auto, unfolding(crate::specs::Areas::layers_at))]
-fn layers_or<F: Folder>(
+fn read_layers_if<F: Folder>(
     alloc: Global,
     lines: &mut Lines,
     file: &str,
     folder: &mut F,
     grid: &Grid,
     anew: bool,
-    before: &Shared<i64>,
-) -> Result<Shared<i64>, InputFault>
+    array: &mut Shared<i64>,
+) -> Result<(), InputFault>
     requires size { HasSize grid.now }
     requires lines { LinesMay (F.may folder.old) lines.old }
     ensures folder { ReadsOn F.Folder folder.old folder.new result }
     ensures lines { IfOk result (λ _. LinesMay (F.may folder.new) lines.new) }
     ensures array { (files : FileSet) → F.agrees folder.new files →
-        Gives (λ xs. xs) result lines.new (array_or (layers_at files file.now grid.now) anew before.now lines.old) }
+        Gives (λ _. array.new) result lines.new (array_or (layers_at files file.now grid.now) anew array.old lines.old) }
 {
-    if anew {
-        let values = read_int_layer(alloc, lines, file, folder, grid.rows, grid.cols)?;
-        test_layers(alloc, file, grid, &values)?;
-        Ok(Shared::new(alloc, values)?)
-    } else {
-        Ok(before.again()?)
+    if !anew {
+        return Ok(());
+    }
+    let values = read_int_layer(alloc, lines, file, folder, grid.rows, grid.cols)?;
+    test_layers(alloc, file, grid, &values)?;
+    *array = Shared::new(alloc, values)?;
+    Ok(())
+}
+
+impl Area {
+    /// Reads the arrays of a period by its flags, in place of those of the period before.
+    #[tactic(auto, unfolding(crate::specs::Areas::arrays_of))]
+    fn read_by<F: Folder>(
+        &mut self,
+        alloc: Global,
+        lines: &mut Lines,
+        file: &str,
+        folder: &mut F,
+        grid: &Grid,
+        flags: Flags,
+    ) -> Result<(), InputFault>
+        requires size { HasSize grid.now }
+        requires lines { LinesMay (F.may folder.old) lines.old }
+        ensures folder { ReadsOn F.Folder folder.old folder.new result }
+        ensures lines { IfOk result (λ _. LinesMay (F.may folder.new) lines.new) }
+        ensures area { (files : FileSet) → F.agrees folder.new files →
+            Gives (λ _. self.new) result lines.new (arrays_of files file.now grid.now flags self.old lines.old) }
+    {
+        read_reals_if(
+            alloc,
+            lines,
+            file,
+            folder,
+            grid,
+            flags.surface,
+            &mut self.surfaces,
+        )?;
+        read_reals_if(
+            alloc,
+            lines,
+            file,
+            folder,
+            grid,
+            flags.rate,
+            &mut self.rates,
+        )?;
+        read_reals_if(
+            alloc,
+            lines,
+            file,
+            folder,
+            grid,
+            flags.depth,
+            &mut self.depths,
+        )?;
+        read_layers_if(
+            alloc,
+            lines,
+            file,
+            folder,
+            grid,
+            flags.layer,
+            &mut self.layers,
+        )
     }
 }
 
-/// The arrays of a period by its flags.
-#[tactic(auto, unfolding(crate::specs::Areas::arrays_of))]
-fn arrays_of<F: Folder>(
-    alloc: Global,
-    lines: &mut Lines,
-    file: &str,
-    folder: &mut F,
-    grid: &Grid,
-    flags: Flags,
-    last: &Area,
-) -> Result<Area, InputFault>
-    requires size { HasSize grid.now }
-    requires lines { LinesMay (F.may folder.old) lines.old }
-    ensures folder { ReadsOn F.Folder folder.old folder.new result }
-    ensures lines { IfOk result (λ _. LinesMay (F.may folder.new) lines.new) }
-    ensures area { (files : FileSet) → F.agrees folder.new files →
-        Gives (λ a. a) result lines.new (arrays_of files file.now grid.now flags last.now lines.old) }
-{
-    let surfaces = reals_or(
-        alloc,
-        lines,
-        file,
-        folder,
-        grid,
-        flags.surface,
-        &last.surfaces,
-    )?;
-    let rates = reals_or(alloc, lines, file, folder, grid, flags.rate, &last.rates)?;
-    let depths = reals_or(alloc, lines, file, folder, grid, flags.depth, &last.depths)?;
-    let layers = layers_or(alloc, lines, file, folder, grid, flags.layer, &last.layers)?;
-    Ok(Area {
-        surfaces,
-        rates,
-        depths,
-        layers,
-    })
-}
-
-/// The arrays of the next period, which are then in force.
+/// Reads the arrays of the next period, which are then in force.
 #[tactic(auto, unfolding(crate::specs::Areas::area_at))]
-pub fn area_at<F: Folder>(
+pub fn read_area<F: Folder>(
     alloc: Global,
     lines: &mut Lines,
     file: &str,
@@ -166,25 +168,20 @@ pub fn area_at<F: Folder>(
     grid: &Grid,
     contents: Contents,
     before: &mut InForce,
-) -> Result<Area, InputFault>
+) -> Result<(), InputFault>
     requires size { HasSize grid.now }
     requires lines { LinesMay (F.may folder.old) lines.old }
     ensures folder { ReadsOn F.Folder folder.old folder.new result }
     ensures lines { IfOk result (λ _. LinesMay (F.may folder.new) lines.new) }
     ensures area { (files : FileSet) → F.agrees folder.new files →
-        Gives (λ a. a) result (before.new, lines.new) (area_at contents files file.now grid.now (before.old, lines.old)) }
+        Gives (λ _. before.new.area) result (before.new, lines.new) (area_at contents files file.now grid.now (before.old, lines.old)) }
 {
     let line = next_line(alloc, lines, file)?;
-    let flags = flags_of(
-        alloc,
-        &mut Words::of(&line),
-        contents,
-        file,
-        line.number,
-        before.listed,
-    )?;
-    let area = arrays_of(alloc, lines, file, folder, grid, flags, &before.area)?;
-    before.area = area.again()?;
+    let words = &mut Words::of(&line);
+    let flags = flags_of(alloc, words, contents, file, line.number, before.listed)?;
+    before
+        .area
+        .read_by(alloc, lines, file, folder, grid, flags)?;
     before.listed = true;
-    Ok(area)
+    Ok(())
 }

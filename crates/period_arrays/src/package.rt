@@ -1,5 +1,5 @@
 // The trait of a package of arrays.
-ghost use Rattle.std.specs.Prelude.{◌≡◌};
+ghost use Rattle.std.specs.Prelude.{◌≡◌, IfOk};
 ghost use Rattle.record_lines.specs.{HasText};
 ghost use Rattle.model_types.specs.{HasSize};
 ghost use Rattle.period_arrays.specs.Areas.{ArrayKind};
@@ -8,7 +8,7 @@ ghost use Rattle.period_arrays.specs.Packages.{IsArea};
 use crate::area::Area;
 use model_types::{Grid, Stresses};
 use outside::TextFault;
-use std::alloc::Global;
+use std::alloc::{AllocError, Global};
 
 /// A package of arrays: recharge or evapotranspiration.
 pub trait ArrayPackage {
@@ -31,7 +31,7 @@ pub trait ArrayPackage {
         requires area { IsArea kind.evaporates grid.now option.now area.now }
         ensures { HasText (λ _. tt) result (kind.test file.now grid.now ibound.now option.now area.now) };
 
-    /// The stresses with these arrays, in place of their earlier ones.
-    fn put(stresses: Stresses, area: Area) -> Stresses
-        ensures { result ≡ kind.put stresses area };
+    /// Puts these arrays in place of the stresses' earlier ones.
+    fn put(stresses: &mut Stresses, area: &Area) -> Result<(), AllocError>
+        ensures { IfOk result (λ _. stresses.new ≡ kind.put stresses.old area.now) };
 }

@@ -5,7 +5,7 @@ ghost use Rattle.record_lines.specs.{LinesMay, Gives, Has};
 ghost use Rattle.model_types.specs.{HasSize};
 ghost use Rattle.period_arrays.specs.{IsInForce, contents, period_at, periods_of, tested_area};
 
-use crate::area::{Area, InForce, area_at};
+use crate::area::{InForce, read_area};
 use crate::flags::Contents;
 use crate::package::ArrayPackage;
 use model_types::{Grid, Period};
@@ -23,9 +23,9 @@ fn contents_of<P: ArrayPackage>(option: &i64) -> Contents
     }
 }
 
-/// The arrays of the next period, which are then in force. They are tested.
+/// Reads the arrays of the next period, which are then in force. They are tested.
 #[tactic(auto, unfolding(crate::specs::Packages::tested_area))]
-fn tested_area<P: ArrayPackage, F: Folder>(
+fn read_tested_area<P: ArrayPackage, F: Folder>(
     alloc: Global,
     lines: &mut Lines,
     file: &str,
@@ -34,27 +34,27 @@ fn tested_area<P: ArrayPackage, F: Folder>(
     ibound: &[i64],
     option: &i64,
     before: &mut InForce,
-) -> Result<Area, InputFault>
+) -> Result<(), InputFault>
     requires size { HasSize grid.now }
     requires before { IsInForce P.kind.evaporates grid.now option.now before.old }
     requires lines { LinesMay (F.may folder.old) lines.old }
     ensures folder { ReadsOn F.Folder folder.old folder.new result }
     ensures lines { IfOk result (λ _. LinesMay (F.may folder.new) lines.new) }
     ensures area { (files : FileSet) → F.agrees folder.new files →
-        Gives (λ a. a) result (before.new, lines.new)
+        Gives (λ _. before.new.area) result (before.new, lines.new)
         (tested_area P.kind files file.now grid.now ibound.now option.now (before.old, lines.old)) }
     ensures before { IfOk result (λ _. IsInForce P.kind.evaporates grid.now option.now before.new) }
 {
     let contents = contents_of::<P>(option);
-    let area = area_at(alloc, lines, file, folder, grid, contents, before)?;
+    read_area(alloc, lines, file, folder, grid, contents, before)?;
     folder.some_agree();
-    P::test(alloc, file, grid, ibound, option, &area)?;
-    Ok(area)
+    P::test(alloc, file, grid, ibound, option, &before.area)?;
+    Ok(())
 }
 
-/// The next period with its arrays, which are then in force.
+/// Puts its arrays, which are then in force, into the next period.
 #[tactic(auto, unfolding(crate::specs::Packages::period_at))]
-fn period_at<P: ArrayPackage, F: Folder>(
+fn read_period<P: ArrayPackage, F: Folder>(
     alloc: Global,
     lines: &mut Lines,
     file: &str,
@@ -62,34 +62,27 @@ fn period_at<P: ArrayPackage, F: Folder>(
     grid: &Grid,
     ibound: &[i64],
     option: &i64,
-    period: Period,
+    period: &mut Period,
     before: &mut InForce,
-) -> Result<Period, InputFault>
+) -> Result<(), InputFault>
     requires size { HasSize grid.now }
     requires before { IsInForce P.kind.evaporates grid.now option.now before.old }
     requires lines { LinesMay (F.may folder.old) lines.old }
     ensures folder { ReadsOn F.Folder folder.old folder.new result }
     ensures lines { IfOk result (λ _. LinesMay (F.may folder.new) lines.new) }
     ensures period { (files : FileSet) → F.agrees folder.new files →
-        Gives (λ p. p) result (before.new, lines.new)
-        (period_at P.kind files file.now grid.now ibound.now option.now period (before.old, lines.old)) }
+        Gives (λ _. period.new) result (before.new, lines.new)
+        (period_at P.kind files file.now grid.now ibound.now option.now period.old (before.old, lines.old)) }
     ensures before { IfOk result (λ _. IsInForce P.kind.evaporates grid.now option.now before.new) }
 {
-    match tested_area::<P, F>(alloc, lines, file, folder, grid, ibound, option, before) {
-        Ok(area) => {
-            let stresses = P::put(period.stresses, area);
-            Ok(Period { stresses, ..period })
-        }
-        Err(fault) => {
-            drop(period);
-            Err(fault)
-        }
-    }
+    read_tested_area::<P, F>(alloc, lines, file, folder, grid, ibound, option, before)?;
+    P::put(&mut period.stresses, &before.area)?;
+    Ok(())
 }
 
-/// The periods with their arrays.
+/// Puts their arrays into the periods.
 #[tactic(auto, unfolding(crate::specs::Packages::periods_of))]
-pub fn periods_of<P: ArrayPackage, F: Folder>(
+pub fn read_periods<P: ArrayPackage, F: Folder>(
     alloc: Global,
     lines: &mut Lines,
     file: &str,
@@ -97,19 +90,18 @@ pub fn periods_of<P: ArrayPackage, F: Folder>(
     grid: &Grid,
     ibound: &[i64],
     option: &i64,
-    periods: Vec<Period>,
-) -> Result<Vec<Period>, InputFault>
+    periods: &mut [Period],
+) -> Result<(), InputFault>
     requires size { HasSize grid.now }
     requires lines { LinesMay (F.may folder.old) lines.old }
     ensures folder { ReadsOn F.Folder folder.old folder.new result }
     ensures lines { IfOk result (λ _. LinesMay (F.may folder.new) lines.new) }
     ensures periods { (files : FileSet) → F.agrees folder.new files →
-        Has (λ v. v.items) result (periods_of P.kind files file.now grid.now ibound.now option.now periods.items lines.old) }
+        Has (λ _. periods.new) result (periods_of P.kind files file.now grid.now ibound.now option.now periods.old lines.old) }
 {
     let mut before = InForce::nothing_yet();
-    let mut whole = Vec::new(alloc);
-    for period in periods {
-        let period = period_at::<P, F>(
+    for period in periods.iter_mut() {
+        match read_period::<P, F>(
             alloc,
             lines,
             file,
@@ -119,8 +111,14 @@ pub fn periods_of<P: ArrayPackage, F: Folder>(
             option,
             period,
             &mut before,
-        )?;
-        whole.push(period)?;
+        ) {
+            Ok(()) => {}
+            Err(fault) => {
+                drop(before);
+                return Err(fault);
+            }
+        }
     }
-    Ok(whole)
+    drop(before);
+    Ok(())
 }

@@ -7,7 +7,7 @@ ghost use Rattle.period_arrays.specs.{arrays_in, option_line};
 
 use crate::flags::option_at;
 use crate::package::ArrayPackage;
-use crate::periods::periods_of;
+use crate::periods::read_periods;
 use array_reader::integer;
 use list_package::item_line;
 use model_types::{Grid, Listed, Period};
@@ -63,9 +63,11 @@ pub fn read_arrays<P: ArrayPackage, F: Folder>(
 {
     let mut lines = Lines::new(bytes);
     lines.skip_comments();
+    let mut periods = periods;
     let option = option_line::<P>(alloc, &mut lines, file)?;
-    let periods = periods_of::<P, F>(
-        alloc, &mut lines, file, folder, grid, ibound, &option, periods,
+    let whole = periods.as_mut_slice();
+    read_periods::<P, F>(
+        alloc, &mut lines, file, folder, grid, ibound, &option, whole,
     )?;
     Ok(ArrayFile {
         option,

@@ -5,10 +5,11 @@ ghost use Rattle.record_lines.specs.{Has};
 ghost use Rattle.model_types.specs.{HasSize};
 ghost use Rattle.stress_packages.specs.Packages.{rch_of, recharge_arrays};
 
-use model_types::{FlowModel, Grid, Stresses};
+use model_types::{FlowModel, Grid, Listed, Stresses};
 use outside::{Folder, InputFault, TextFault};
 use period_arrays::{Area, ArrayPackage, read_arrays};
-use std::alloc::Global;
+use std::alloc::{AllocError, Global};
+use std::mem;
 
 /// The package RCH.
 pub struct Recharge;
@@ -31,12 +32,10 @@ impl ArrayPackage for Recharge {
         Ok(())
     }
 
-    fn put(stresses: Stresses, area: Area) -> Stresses {
-        Stresses {
-            recharge: area.rates,
-            irch: area.layers,
-            ..stresses
-        }
+    fn put(stresses: &mut Stresses, area: &Area) -> Result<(), AllocError> {
+        stresses.recharge = area.rates.again()?;
+        stresses.irch = area.layers.again()?;
+        Ok(())
     }
 }
 
@@ -62,19 +61,18 @@ pub fn read_rch<F: Folder>(
     ensures model { (files : FileSet) → F.agrees folder.new files → Has (λ m. m) result (rch_of files file.now bytes.now model) }
     ensures grid { IfOk result (λ m. m.grid ≡ model.grid) }
 {
-    let periods = model.periods.into_vec();
-    let recharge = read_arrays::<Recharge, F>(
-        alloc,
-        file,
-        bytes,
-        folder,
-        &model.grid,
-        model.ibound.as_slice(),
-        periods,
-    )?;
-    Ok(FlowModel {
-        nrchop: recharge.option,
-        periods: recharge.periods,
-        ..model
-    })
+    let mut model = model;
+    let periods = mem::replace(&mut model.periods, Listed::new(Vec::new(alloc))).into_vec();
+    let (grid, ibound) = (&model.grid, model.ibound.as_slice());
+    match read_arrays::<Recharge, F>(alloc, file, bytes, folder, grid, ibound, periods) {
+        Ok(recharge) => Ok(FlowModel {
+            nrchop: recharge.option,
+            periods: recharge.periods,
+            ..model
+        }),
+        Err(fault) => {
+            drop(model);
+            Err(fault)
+        }
+    }
 }

@@ -1,4 +1,5 @@
-use Rattle.period_arrays.proofs.Common.{sym, err_from_is_err_and, layers_tested, step_goes_on, steps_end, steps_done}
+use Rattle.period_arrays.proofs.Common.{sym, layers_tested, step_goes_on, steps_end, steps_done}
+use Rattle.std.proofs.lemmas.Result.{err_from_is_err_and}
 use Rattle.period_arrays.proofs.layers.test_layers.Goals as goal
 
 pub returns-in_err-test_layer : goal.returns-in_err-test_layer
