@@ -1,7 +1,6 @@
 -- Loops that read the same thing so many times.
 use Rattle.record_lines.proofs.Common.{◌≡◌, ℕ, suc, ◌-◌, ◌+◌, ◌≤◌, ◌<◌, List, [], ◌∷◌, ◌++◌, Result, Ok, Err, refl, sym, ap, append_assoc, arith, append-nil}
-use Rattle.record_lines.proofs.Common.{Refusal, ◌>>=◌, Stops, StopsText, appended, repeated, length, for_each, counted, zero, nat_le, true, false, ◌⊎◌, inl}
-use Rattle.record_lines.proofs.Common.{inr}
+use Rattle.record_lines.proofs.Common.{Refusal, ◌>>=◌, Stops, StopsText, appended, repeated, for_each, counted, zero, nat_le, true, false, ◌⊎◌, inl, inr}
 use Rattle.std.proofs.lemmas.Bool.Decides.{leb_tells}
 use Rattle.outside.specs.declared.inputs.InputFault.{InputFault}
 use Rattle.outside.specs.declared.inputs.InputFault.TheVariants.{Refused, ReadFault, Memory}
@@ -83,26 +82,10 @@ pub each_goes_on : {A X S E : Type 0} (read : A → S → Result (X × S) E) (fr
 unfolding for_each
 each_goes_on read front all others a s after x total e h so_far = rw (← so_far, e, h) (sym (regroup front x (for_each read others after)))
 
--- reading stops in the middle
-pub each_ends : {A X S : Type 0} (read : A → S → Result (X × S) Refusal) (fault : TextFault) (front : List X) (all others : List A) (a : A) (s : S) (total : Result (List X × S) Refusal) → all ≡ a ∷ others → StopsText fault (read a s)
-    → with_front front (for_each read all s) ≡ total → StopsText fault total
-unfolding for_each
-each_ends read fault front all others a s total e h so_far = rw (← so_far, e) (ends_all fault _ _ (ends_all fault (read a s) _ h))
-
--- the same where a folder is given
-pub each_stops : {A X S : Type 0} (read : A → S → Result (X × S) Refusal) (fault : InputFault) (front : List X) (all others : List A) (a : A) (s : S) (total : Result (List X × S) Refusal) → all ≡ a ∷ others → Stops fault (read a s)
-    → with_front front (for_each read all s) ≡ total → Stops fault total
-unfolding for_each
-each_stops read fault front all others a s total e h so_far = rw (← so_far, e) (stops_all fault _ _ (stops_all fault (read a s) _ h))
-
 -- the whole list is read
 pub each_done : {A X S E : Type 0} (read : A → S → Result (X × S) E) (front : List X) (all : List A) (s : S) (total : Result (List X × S) E) → all ≡ [] → with_front front (for_each read all s) ≡ total → total ≡ Ok (front, s)
 unfolding for_each
 each_done read front all s total e so_far = rw (← so_far, e, append-nil front) refl
-
-pub no_items : {A : Type 0} (xs : List A) → length xs ≡ 0 → xs ≡ []
-no_items [] e = refl
-no_items (x ∷ xs) e = absurd (omega arith)
 
 -- Loops that make the same step for each number of a range.
 -- one more step is made

@@ -1,5 +1,5 @@
-use Rattle.array_reader.proofs.ListLemmas.{grown}
+use Rattle.std.proofs.lemmas.List.{replicate_more}
 use Rattle.array_reader.proofs.lists.constants.Goals as goal
 
 pub loop-preserved : goal.loop-preserved
-loop-preserved g c = grown c.loop.values.items _ c.loop.counter c.args.value c.loop.invariant c.in_ok-push.ensures.items
+loop-preserved g c = rw (c.in_ok-push.ensures.items, c.loop.invariant) (replicate_more c.loop.counter c.args.value)
