@@ -74,6 +74,8 @@ impl<S: Guesser> Guessing<S> {
         let settled = settle_by_guess(&self.guesser, alloc, p, b, &mut kept);
         if settled.is_ok() {
             self.kept.set(Some(kept));
+        } else {
+            drop(kept);
         }
         settled
     }
