@@ -31,12 +31,6 @@ step_pushed p n before xs e =
     let f : ℕ → TimeStep = λ k. record { period = p; step = k } in
     ap (λ ys. ys ++ f (n + 1) ∷ []) e ∙ append_assoc before (map f (range_with_len 1 n)) (f (n + 1) ∷ []) ∙ ap (λ ys. before ++ ys) (sym (map-range_with_len_more f 1 n (n + 1) (omega arith)))
 
-below : (k n : ℕ) → suc k ≤ n → k ≤ n
-below k n le = omega arith
-
-fits : (k n : ℕ) → suc k ≤ n → k < n
-fits k n le = omega arith
-
 -- as many time steps as the periods have
 counted : (m : FlowModel) (k : ℕ) → k ≤ length m.periods → length (flat_map (steps_of m) (range_with_len 1 k)) ≡ sum_by (λ p. p.nstp) (take k m.periods)
 counted m zero le = refl
@@ -46,8 +40,8 @@ counted m (suc k) le =
     ap (λ ks. length (flat_map (steps_of m) ks)) list
     ∙ ap length (flat_map-append (steps_of m) (range_with_len 1 k) ((1 + k) ∷ []) ∙ ap (λ ys. flat_map (steps_of m) (range_with_len 1 k) ++ ys) (append-nil (steps_of m (1 + k))))
     ∙ length-append (flat_map (steps_of m) (range_with_len 1 k)) (steps_of m (1 + k))
-    ∙ (λ i. counted m k (below k (length m.periods) le) i + (length-map-range_with_len {X = TimeStep} (λ n. record { period = 1 + k; step = n }) 1 (period_at m (1 + k)).nstp ∙ ap (λ (q : Period). q.nstp) at) i)
-    ∙ sym (sum_by_more (λ p. p.nstp) m.periods k no_period (fits k (length m.periods) le))
+    ∙ (λ i. counted m k (omega arith) i + (length-map-range_with_len {X = TimeStep} (λ n. record { period = 1 + k; step = n }) 1 (period_at m (1 + k)).nstp ∙ ap (λ (q : Period). q.nstp) at) i)
+    ∙ sym (sum_by_more (λ p. p.nstp) m.periods k no_period (omega arith))
     ∙ ap (λ j. sum_by (λ p. p.nstp) (take j m.periods)) (add-one k)
 
 pub whole_count : (m : FlowModel) (k : ℕ) (xs : List TimeStep) → xs ≡ flat_map (steps_of m) (range_with_len 1 k) → k ≡ length m.periods → length xs ≡ sum_by (λ p. p.nstp) m.periods

@@ -34,9 +34,6 @@ cut_down r q j e least most he from before f h = nearest_down r f least most (rw
   before = Below-AtMost h.before (AtMost-trans (scaled-AtMost (q + 1) ((r.m + 1) * 10 ^ j) e before) (Same-AtMost (scaled_shift (r.m + 1) j e)));
 }))
 
-none : (p a b : ℕ) → p * a < 0 * b → ⊥
-none p a b h = omega (arith, h)
-
 -- f lies above p and not above p + 1; r is m units, the least that reach past p
 pub cut_up : (r : Sd) (p m j : ℕ) (e : ℤ) → IsSd r → Same (scaled (m * 10 ^ j) e) (value r) → 10 ^ 17 ≤ p → 10 ^ 17 * 10 ^ j ≤ p + 1 → p + 1 ≤ m * 10 ^ j → ((y : ℕ) → p < y * 10 ^ j → m ≤ y) → (f : Ratio) → IsUpTo p e f → IsUp r f
 cut_up r p m j e dr same hp hj reach least f h = record {
@@ -47,7 +44,7 @@ cut_up r p m j e dr same hp hj reach least f h = record {
   where
     at_x : (x : Sd) → IsSd x → p * 10 ^ (up e + down x.e) < x.m * 10 ^ (up x.e + down e) → AtMost (value r) (value x)
     at_x x (inl dx) lt = AtMost-trans (Same-back same) (decimals (m * 10 ^ j) x.m e x.e (none_below x.m p m j (up x.e + down e) (up e + down x.e) dx.1 hp hj least lt))
-    at_x x (inr dx) lt = absurd (none p (10 ^ (up e + down x.e)) (10 ^ (up x.e + down e)) (rw dx.0 at lt))
+    at_x x (inr dx) lt = absurd (omega (arith, rw dx.0 at lt))
 
 -- the same for the quotient of q by the power of ten
 pub cut_down_by : (r : Sd) (q u j : ℕ) (e : ℤ) → u ≡ 10 ^ j → 10 ^ 17 * u ≤ q → q < 10 ^ 18 * u → r.m ≡ q / u → r.e ≡ e +ℤ pos j → (f : Ratio) → IsFrom q e f → IsDown r f
