@@ -16,6 +16,7 @@ pub use Rattle.budget_bounds.specs.{all_terms, no_pair, place_of}
 pub use Rattle.budget_bounds.specs.declared.pair.Budget.{Budget}
 pub use Rattle.budget_bounds.specs.declared.pair.TermPair.{TermPair}
 pub use Rattle.cell_balance.proofs.Zips.{AllZip-length, AllZip-right}
+pub use Rattle.decimal_input.proofs.Powers.{ten_pos}
 pub use Rattle.fixed_text.specs.{fixed_text, padded, sign}
 pub use Rattle.listing_io.specs.{AreFlows, AreListed, AreTerms, AreZonePairs, Form, Has, HasDigits, IsCellBound, IsFlowPair, IsForm, IsListedAt, IsListedStep}
 pub use Rattle.listing_io.specs.{IsListing, IsPairIf, IsPairLine, IsTime, IsWritable, Left, Line, LinesReadExactly, ListingsAreApart, ListingsAreReadAgain}

@@ -1,13 +1,14 @@
 -- Reading a line gives the numbers of which just this line is written.
-use Rattle.listing_io.proofs.Common.{◌≡◌, ℕ, ◌<◌, ◌≤◌, ◌^◌, Bool, true, false, ◌&&◌, cond, List, [], ◌++◌, length, drop, codes, nat_abs, nat_le, refl, sym, ap}
-use Rattle.listing_io.proofs.Common.{◌∙◌, arith, Some, None, zero, suc, ◌+◌, ◌-◌, ◌/◌, ◌%◌, ◌==◌, ◌∷◌, take, replicate, decimal, add-one, ℤ, pos, negsuc, not}
-use Rattle.listing_io.proofs.Common.{drop_at, append-nil, take_at, bytes_eq, bytes_eq-Decides, fixed_text, padded, sign, TermPair, digits_behind, value_of}
-use Rattle.listing_io.proofs.Common.{Form, pair_line, is_within, first_word, behind_word, candidate, pair_in, IsPairLine, IsForm, LinesReadExactly, nat_tests}
-use Rattle.listing_io.proofs.Common.{◌⊎◌, inl, inr, IsWritable, FlowModel, model_line, numbers_text, AllByRecursion, decimal_is_IsNumeral_wide, position_or_len}
-use Rattle.listing_io.proofs.Common.{list_all, AllDigits}
+use Rattle.listing_io.proofs.Common.{◌≡◌, ℕ, ◌<◌, ◌≤◌, ◌^◌, Bool, true, false, ◌&&◌, List, [], ◌++◌, length, drop, codes, nat_abs, nat_le, refl, sym, ap, ◌∙◌}
+use Rattle.listing_io.proofs.Common.{arith, Some, zero, suc, ◌+◌, ◌-◌, ◌/◌, ◌%◌, ◌==◌, ◌∷◌, take, replicate, decimal, add-one, ℤ, pos, negsuc, not, drop_at}
+use Rattle.listing_io.proofs.Common.{append-nil, take_at, bytes_eq, bytes_eq-Decides, fixed_text, padded, sign, TermPair, digits_behind, value_of, Form}
+use Rattle.listing_io.proofs.Common.{pair_line, is_within, first_word, behind_word, candidate, pair_in, IsPairLine, IsForm, LinesReadExactly, nat_tests, ◌⊎◌}
+use Rattle.listing_io.proofs.Common.{inl, inr, IsWritable, FlowModel, model_line, numbers_text, AllByRecursion, decimal_is_IsNumeral_wide, position_or_len}
+use Rattle.listing_io.proofs.Common.{list_all, AllDigits, ten_pos}
 use Rattle.std.specs.Fmt.{signed_decimal}
-use Rattle.std.proofs.lemmas.Bool.{and_parts, leb-true, le-leb}
-use Rattle.listing_io.proofs.NumberLemmas.{is_digit, value_is, some_power, part_less, quotient_less}
+use Rattle.std.proofs.lemmas.Bool.{and_parts, leb-true, le-leb, and_from}
+use Rattle.listing_io.proofs.NumberLemmas.{is_digit, value_is, part_less, quotient_less}
+use Rattle.std.proofs.lemmas.Option.{cond_some}
 
 -- A number has no blank, so the first blank after one ends it.
 -- no byte is b
@@ -60,7 +61,7 @@ module _ (b : ℕ) (apart : IsApart b) where
 
   pub fixed_without : (k : ℕ) (z : ℤ) → nat_abs z < 10 ^ 64 → Without b (fixed_text k z)
   fixed_without k z h =
-      let p = some_power k in
+      let p = ten_pos k in
       Without-append b (sign z ++ decimal (nat_abs z / 10 ^ k) ++ codes ".") (padded k (nat_abs z % 10 ^ k))
       (Without-append b (sign z ++ decimal (nat_abs z / 10 ^ k)) (codes ".")
       (Without-append b (sign z) (decimal (nat_abs z / 10 ^ k)) (sign_without z) (decimal_without (nat_abs z / 10 ^ k) (quotient_less (nat_abs z) (10 ^ k) (10 ^ 64) p h)))
@@ -123,36 +124,29 @@ candidate_is front f p good lo hi =
     let second : value_of (behind_word (drop (length front) (front ++ rest))) ≡ p.hi = ap (λ (t : List ℕ). value_of (behind_word t)) behind ∙ ap value_of (behind_word_is (fixed_text f.places p.lo) (fixed_text f.places p.hi ++ f.back) blank) ∙ value_is f.places p.hi f.back good.some wide_hi good.behind in
     rw (first, second) refl
 
-some_is : {X : Type 0} (b : Bool) (x y : X) → cond b (Some x) None ≡ Some y → (b ≡ true) × (x ≡ y)
-some_is true x y h = (refl, cc)
-some_is false x y h = grind (arith)
-
 is_same : (xs ys : List ℕ) → bytes_eq xs ys ≡ true → xs ≡ ys
 is_same xs ys h = (bytes_eq-Decides xs ys).0 h
 
 same_is : (xs : List ℕ) → bytes_eq xs xs ≡ true
 same_is xs = (bytes_eq-Decides xs xs).1 refl
 
-and_is_true : (a b : Bool) → a ≡ true → b ≡ true → (a && b) ≡ true
-and_is_true a b h k = rw (h, k) refl
-
 numbers_fit : (f : Form) (p : TermPair) → is_within f p ≡ true → (nat_abs p.lo ≤ f.limit) × (nat_abs p.hi ≤ f.limit)
 numbers_fit f p h = let (a, b) = and_parts (nat_le (nat_abs p.lo) f.limit) (nat_le (nat_abs p.hi) f.limit) h in (leb-true _ _ a, leb-true _ _ b)
 
 fit_numbers : (f : Form) (p : TermPair) → nat_abs p.lo ≤ f.limit → nat_abs p.hi ≤ f.limit → is_within f p ≡ true
-fit_numbers f p lo hi = and_is_true _ _ (le-leb _ _ lo) (le-leb _ _ hi)
+fit_numbers f p lo hi = and_from _ _ (le-leb _ _ lo) (le-leb _ _ hi)
 
 pub line_sound : (front : List ℕ) (f : Form) (line : List ℕ) (p : TermPair) → pair_in front f line ≡ Some p → IsPairLine front f line p
 unfolding pair_in
 line_sound front f line p h =
-    let (test, same) = some_is (is_within f (candidate front line) && bytes_eq (pair_line front f (candidate front line)) line) (candidate front line) p h in
+    let (test, same) = cond_some (is_within f (candidate front line) && bytes_eq (pair_line front f (candidate front line)) line) (candidate front line) p h in
     let (small, text) = and_parts (is_within f (candidate front line)) (bytes_eq (pair_line front f (candidate front line)) line) test in
     let (lo, hi) = numbers_fit f (candidate front line) small in
     rw (← same) (record { text = sym (is_same (pair_line front f (candidate front line)) line text); lo = lo; hi = hi })
 
 pub line_whole : (front : List ℕ) (f : Form) (p : TermPair) → IsForm f → nat_abs p.lo ≤ f.limit → nat_abs p.hi ≤ f.limit → pair_in front f (pair_line front f p) ≡ Some p
 unfolding pair_in
-line_whole front f p good lo hi = rw (candidate_is front f p good lo hi, and_is_true (is_within f p) (bytes_eq (pair_line front f p) (pair_line front f p)) (fit_numbers f p lo hi) (same_is (pair_line front f p))) refl
+line_whole front f p good lo hi = rw (candidate_is front f p good lo hi, and_from (is_within f p) (bytes_eq (pair_line front f p) (pair_line front f p)) (fit_numbers f p lo hi) (same_is (pair_line front f p))) refl
 
 pub lines_read_exactly : LinesReadExactly
 lines_read_exactly front f good = record {

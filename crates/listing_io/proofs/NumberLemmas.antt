@@ -2,9 +2,9 @@
 use Rattle.listing_io.proofs.Common.{◌≡◌, ℕ, zero, suc, ◌+◌, ◌-◌, ◌*◌, ◌/◌, ◌%◌, ◌^◌, ◌<◌, ◌≤◌, true, false, List, [], ◌∷◌, ◌++◌, length, replicate, get_or}
 use Rattle.listing_io.proofs.Common.{drop, drop-cons, codes, decimal, nat_abs, nat_le, refl, sym, ap, ◌∙◌, arith, ℤ, pos, negsuc, add-one, pow-suc, nat_tests}
 use Rattle.listing_io.proofs.Common.{decimal_is_IsNumeral_wide, length-decimal-le_wide, append_assoc, drop_all, AllDigits, digits_value_after, fixed_text}
-use Rattle.listing_io.proofs.Common.{padded, with_byte, digits_behind, is_negative, value_of}
+use Rattle.listing_io.proofs.Common.{padded, with_byte, digits_behind, is_negative, value_of, ten_pos}
 use Rattle.std.specs.Char.{digit_value}
-use Rattle.std.proofs.lemmas.Nat.{pow-add}
+use Rattle.std.proofs.lemmas.Nat.{pow-add, mod_below}
 
 pub behind_append : (n : ℕ) (xs ys : List ℕ) → digits_behind n (xs ++ ys) ≡ digits_behind (digits_behind n xs) ys
 unfolding digits_behind
@@ -83,13 +83,6 @@ point n = refl
 division : (n p : ℕ) → 0 < p → n / p * p + n % p ≡ n
 division n p h = omega arith
 
-pub some_power : (k : ℕ) → 0 < 10 ^ k
-some_power zero = omega arith
-some_power (suc k) = let h = some_power k in rw (pow-suc 10 k) (omega arith)
-
-pub below_power : (n p : ℕ) → 0 < p → n % p < p
-below_power n p h = omega arith
-
 pub part_less : (n p top : ℕ) → 0 < p → n < top → n % p < top
 part_less n p top h k = let e = division n p h in omega arith
 
@@ -98,10 +91,10 @@ quotient_less n p top h k = grind (arith, division)
 
 pub body_value : (k n : ℕ) → 0 < k → n < 10 ^ 64 → digits_behind 0 (body k n) ≡ n
 body_value k n some small =
-    let p = some_power k in
+    let p = ten_pos k in
     behind_append 0 (decimal (n / 10 ^ k) ++ codes ".") (padded k (n % 10 ^ k))
     ∙ ap (λ (m : ℕ). digits_behind m (padded k (n % 10 ^ k))) (behind_append 0 (decimal (n / 10 ^ k)) (codes ".") ∙ point (digits_behind 0 (decimal (n / 10 ^ k))) ∙ behind_decimal 0 (n / 10 ^ k) (quotient_less n (10 ^ k) (10 ^ 64) p small) ∙ none (10 ^ length (decimal (n / 10 ^ k))) (n / 10 ^ k))
-    ∙ behind_padded (n / 10 ^ k) k (n % 10 ^ k) some (below_power n (10 ^ k) p) (part_less n (10 ^ k) (10 ^ 64) p small)
+    ∙ behind_padded (n / 10 ^ k) k (n % 10 ^ k) some (mod_below n (10 ^ k) p) (part_less n (10 ^ k) (10 ^ 64) p small)
     ∙ division n (10 ^ k) p
   where
     none : (p m : ℕ) → 0 * p + m ≡ m
@@ -134,7 +127,7 @@ negative_is k n rest = refl
 -- what is read in a text with a point, and nothing with a digit after it
 pub value_is : (k : ℕ) (z : ℤ) (rest : List ℕ) → 0 < k → nat_abs z < 10 ^ 64 → ((m : ℕ) → digits_behind m rest ≡ m) → value_of (fixed_text k z ++ rest) ≡ z
 value_is k (pos n) rest some small none =
-    let (numeral, value) = decimal_is_IsNumeral_wide (n / 10 ^ k) (quotient_less n (10 ^ k) (10 ^ 64) (some_power k) small) in
+    let (numeral, value) = decimal_is_IsNumeral_wide (n / 10 ^ k) (quotient_less n (10 ^ k) (10 ^ 64) (ten_pos k) small) in
     let minus : is_negative (body k n ++ rest) ≡ false = ap is_negative (regrouped (decimal (n / 10 ^ k)) (codes ".") (padded k (n % 10 ^ k)) rest) ∙ no_minus (decimal (n / 10 ^ k)) (codes "." ++ (padded k (n % 10 ^ k) ++ rest)) numeral.0 numeral.1 in
     value_without_sign (body k n ++ rest) n minus (behind_body k n rest some small none)
 value_is k (negsuc n) rest some small none = grind (arith, negative_is, negative, behind_minus, behind_body)

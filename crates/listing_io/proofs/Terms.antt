@@ -21,9 +21,6 @@ pub goes : {A B E : Type 0} (r : Result A E) (f : A → Result B E) (y : B) → 
 goes (Ok x) f y h = record { item = x; first = refl; then_ = h }
 goes {A = A} {B = B} {E = E} (Err e) f y h = absurd (clash e y (Err e) refl h)
 
-pub grouped : {X : Type 0} (a b c : List X) → (a ++ b) ++ c ≡ a ++ (b ++ c)
-grouped a b c = append_assoc a b c
-
 abbrev pub left_of : List Line → ℕ → Left
 left_of rows n = record { lines = rows; number = n }
 
@@ -42,7 +39,7 @@ module _ {T X : Type 0} (s : ℕ) (read : T → Left → Result (X × Left) ℕ)
   all_again few (t ∷ ts) (x ∷ xs) rest n h =
       let (j, first) = (each t).again few x (each_lines rows ts xs ++ rest) n h.0 in
       let (k, more) = all_again few ts xs rest j h.1 in
-      (k, rw (grouped (rows t x) (each_lines rows ts xs) rest, first, more) refl)
+      (k, rw (append_assoc (rows t x) (each_lines rows ts xs) rest, first, more) refl)
 
   all_was : (ts : List T) (left : Left) (got : List X × Left) → for_each read ts left ≡ Ok got → AllZip Sound ts got.0 × (left.lines ≡ each_lines rows ts got.0 ++ got.1.lines)
   unfolding for_each
@@ -57,7 +54,7 @@ module _ {T X : Type 0} (s : ℕ) (read : T → Left → Result (X × Left) ℕ)
       let P : List X × Left → Type 0 = λ x. AllZip Sound (t ∷ ts) x.0 × (left.lines ≡ each_lines rows (t ∷ ts) x.0 ++ x.1.lines) in
       subst P (same_ok (first.item.0 ∷ more.item.0, more.item.1) got _ refl more.then_) (
         (here.0, others.0),
-        here.1 ∙ ap (λ (r : List Line). rows t first.item.0 ++ r) others.1 ∙ sym (grouped (rows t first.item.0) (each_lines rows ts more.item.0) more.item.1.lines),
+        here.1 ∙ ap (λ (r : List Line). rows t first.item.0 ++ r) others.1 ∙ sym (append_assoc (rows t first.item.0) (each_lines rows ts more.item.0) more.item.1.lines),
       )
 
   pub all_read : (ts : List T) → IsReader s (for_each read ts) (each_lines rows ts) (AllZip Sound ts)

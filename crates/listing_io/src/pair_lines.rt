@@ -10,10 +10,8 @@ use crate::places::{dir_name, push_place, push_two, term_word};
 use budget_bounds::TermPair;
 use model_types::Grid;
 use std::alloc::AllocError;
+use step_problem::problem::HEAD_LIMIT;
 use step_problem::{Dir, Term};
-
-/// The greatest magnitude of a head, 4000000000 length units.
-const HEAD_LIMIT: u128 = 4_000_000_000_000_000_000;
 
 /// The greatest magnitude of a flow.
 const FLOW_LIMIT: u128 = (1 << 126) - 1;
@@ -48,7 +46,7 @@ fn form_of(row: Row) -> PairForm<'static>
     match row {
         Row::Head(_) => PairForm {
             places: 9,
-            limit: HEAD_LIMIT,
+            limit: HEAD_LIMIT as u128,
             back: b"",
         },
         Row::Term(s, _, term) => flow_form(s, term_word(term)),

@@ -12,7 +12,7 @@ use crate::sum::ZoneSum;
 use budget_bounds::{TERM_LIMIT, TermPair, plus_part};
 use std::alloc::{AllocError, Global};
 use std::collections::BTreeMap;
-use step_problem::{Dir, NoBound, Place, ZoneFlow};
+use step_problem::{Dir, NoBound, Place, StepRefusal, ZoneFlow};
 
 /// The sums of each pair of zones that has any.
 #[derive(Drop)]
@@ -86,7 +86,7 @@ fn flow_or_refusal(key: u32, sum: ZoneSum) -> Result<ZoneFlow, NoBound>
         })
     } else {
         Err(NoBound {
-            code: 23,
+            code: StepRefusal::FlowTooLarge.number(),
             place: Place::Zone(from, to),
         })
     }
