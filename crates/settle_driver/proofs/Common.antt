@@ -3,7 +3,7 @@ pub use Rattle.std.proofs.Common.{All, Bool, Err, FitsSigned, Global, IsTrue, Li
 pub use Rattle.std.proofs.Common.{get_or, get_or-set_same, inl, inr, length, length-append, pos, refl, rules, slice_index_or, slice_set, subst, suc, sym, true}
 pub use Rattle.std.proofs.Common.{vec_len, zero, ℕ, ℤ, ◌%◌, ◌*◌, ◌++◌, ◌+◌, ◌<ℤ◌, ◌<◌, ◌↔◌, ◌∙◌, ◌∷◌, ◌≡◌, ◌≤ℤ◌, ◌≤◌, ◌⊎◌}
 pub use Rattle.std.proofs.Math.ListN.{get_or-append}
-pub use Rattle.std.proofs.lemmas.Bool.{cases_eq, false≢true}
+pub use Rattle.std.proofs.lemmas.Bool.{cases_eq, false≢true, or_parts}
 pub use Rattle.std.proofs.lemmas.Int.{by_lt_z, ints, to_z-of_z}
 pub use Rattle.std.proofs.lemmas.List.{get_or_at, set-get_or}
 pub use Rattle.std.specs.Int.{w64}

@@ -1,11 +1,11 @@
 -- Cells that are relaxed one after another, as in a sweep under way.
-use Rattle.settle_driver.proofs.Common.{◌≡◌, ℕ, ◌+◌, ◌<◌, inl, inr, refl, sym, ◌∙◌, ap, subst, arith, Bool, true, false, List, length, ℤ, slice_index_or, zero}
-use Rattle.settle_driver.proofs.Common.{suc, ◌%◌, ◌∷◌, ◌++◌, get_or, All, length-append, ◌≤◌, Vec, Global, Result, vec_len, ◌||◌, IfOk, Bound, Side, Low, High}
+use Rattle.settle_driver.proofs.Common.{◌≡◌, ℕ, ◌+◌, ◌<◌, inl, inr, refl, sym, ◌∙◌, ap, subst, arith, Bool, false, List, length, ℤ, slice_index_or, zero, suc}
+use Rattle.settle_driver.proofs.Common.{◌%◌, ◌∷◌, ◌++◌, get_or, All, length-append, ◌≤◌, Vec, Global, Result, vec_len, ◌||◌, IfOk, Bound, Side, Low, High}
 use Rattle.settle_driver.proofs.Common.{Entries, IsHead, IsProblem, AsTight, AreHeads, IsRelaxed, IsPast, IsOnTheWay, no_bound, IsSide, as_tight_refl}
 use Rattle.settle_driver.proofs.Common.{as_tight_trans, turn_passes, passes_more, edge_kept, is_side, heads_in_range, tighter_first, tighter_second}
 use Rattle.settle_driver.proofs.Common.{AreNoLooser, head_of, heads_on, AreWords, IsAsTight, IsRelaxedCell, IsPastCell, StayOnTheWay, AreBothSettled, HasSeen}
 use Rattle.settle_driver.proofs.Common.{HasWorked, HeadTable, HeadSeat, HasMoved, HasTighter, seen_of, seen_on, cases_eq, way_on, OnTheWay, edge_on}
-use Rattle.settle_driver.proofs.Common.{get_or-append}
+use Rattle.settle_driver.proofs.Common.{get_or-append, or_parts}
 use Rattle.step_problem.proofs.SidesTurns.{tighter, relaxed_exchange, relaxed_keeps}
 use Rattle.head_table.proofs.Joining.{ok_under}
 use Rattle.std.specs.declared.alloc.AllocError.{AllocError}
@@ -47,11 +47,6 @@ listed_none p old ok words = record { words = words; way = record { on = λ b k.
 pub swept_none : (p : List Entries) (old : List Bound) → IsProblem p → AreWords p old → Swept p old old false 0
 swept_none p old ok words = record { listed = listed_none p old ok words; past = λ d i. absurd (omega arith); still = λ e. refl }
 
-neither : (a b : Bool) → (a || b) ≡ false → (a ≡ false) × (b ≡ false)
-neither false false e = (refl, refl)
-neither false true e = absurd cc
-neither true b e = absurd cc
-
 -- one more cell is relaxed
 module _ (p : List Entries) (old w next : List Bound) (c : ℕ) (ok : IsProblem p) (i : c < length p) (same : length next ≡ length w) (t : IsRelaxedCell p w next c)
     (others : (d : ℕ) → (d ≡ c → ⊥) → slice_index_or next d no_bound ≡ slice_index_or w d no_bound)
@@ -78,7 +73,7 @@ module _ (p : List Entries) (old w next : List Bound) (c : ℕ) (ok : IsProblem 
     swept_more moved now s still = record {
       listed = listed_more s.listed;
       past = λ d h side. past_more (is_side side p ok) (heads_on side old) (heads_on side w) (heads_on side next) c i (s.listed.tight side) (t side) (same_on side) (λ k hk. s.past k hk side) d h;
-      still = λ e. let (a, b) = neither moved now e in still b ∙ s.still a;
+      still = λ e. let (a, b) = or_parts moved now e in still b ∙ s.still a;
     }
 
 -- words that a sweep leaves alone are settled
