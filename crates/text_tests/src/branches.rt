@@ -71,27 +71,35 @@ fn bed(words: &mut Words<'_>) -> Option<Bed>
     })
 }
 
+fn row(words: &mut Words<'_>) -> Option<Option<Pair>> {
+    let (first, second) = (row_half(words)?, row_half(words)?);
+    Some(row_branch(&first, &second, words.positive()?, words.digits()?))
+}
+
+fn column(words: &mut Words<'_>) -> Option<Option<Pair>> {
+    let (first, second) = (column_half(words)?, column_half(words)?);
+    Some(col_branch(&first, &second, words.positive()?, words.digits()?))
+}
+
+fn vertical(words: &mut Words<'_>) -> Option<Option<Pair>> {
+    let (upper, lower, bed) = (vertical_half(words)?, vertical_half(words)?, bed(words)?);
+    let (delr, delc, digits) = (words.positive()?, words.positive()?, words.digits()?);
+    Some(vert_branch(&upper, &lower, &bed, delr, delc, digits))
+}
+
+fn evaporation(words: &mut Words<'_>) -> Option<Option<Pair>> {
+    let (evtr, exdp) = (words.not_negative()?, words.positive()?);
+    let (delr, delc, digits) = (words.positive()?, words.positive()?, words.digits()?);
+    Some(evap_branch(evtr, exdp, delr, delc, digits))
+}
+
 /// The conductance that a line asks for, if it is below the limit.
 pub fn conductance(question: &str, words: &mut Words<'_>) -> Option<Option<Pair>> {
     match question {
-        "row" => {
-            let (first, second) = (row_half(words)?, row_half(words)?);
-            Some(row_branch(&first, &second, words.positive()?, words.digits()?))
-        }
-        "column" => {
-            let (first, second) = (column_half(words)?, column_half(words)?);
-            Some(col_branch(&first, &second, words.positive()?, words.digits()?))
-        }
-        "vertical" => {
-            let (upper, lower, bed) = (vertical_half(words)?, vertical_half(words)?, bed(words)?);
-            let (delr, delc, digits) = (words.positive()?, words.positive()?, words.digits()?);
-            Some(vert_branch(&upper, &lower, &bed, delr, delc, digits))
-        }
-        "evaporation" => {
-            let (evtr, exdp) = (words.not_negative()?, words.positive()?);
-            let (delr, delc, digits) = (words.positive()?, words.positive()?, words.digits()?);
-            Some(evap_branch(evtr, exdp, delr, delc, digits))
-        }
+        "row" => row(words),
+        "column" => column(words),
+        "vertical" => vertical(words),
+        "evaporation" => evaporation(words),
         "storage" => storage(words),
         _ => None,
     }

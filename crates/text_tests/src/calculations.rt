@@ -36,21 +36,9 @@ fn push_factors(page: &mut Page, factors: Factors) {
     page.end();
 }
 
-/// The answer to a question, if it is one.
-pub fn push_answer(page: &mut Page, line: &str) -> Option<()> {
-    let words = &mut Words(line);
-    let question = words.next();
+// The answer to a question about a time step, a given head, or flow.
+fn push_of_model(page: &mut Page, question: &str, words: &mut Words<'_>) -> Option<()> {
     match question {
-        "word" => push_number(page, number(words)),
-        "times" => push_number(page, product(words)),
-        "integer" => push_integer(page, words),
-        "units" => push_units(page, words)?,
-        "decimal" => push_decimal_of(page, words)?,
-        "of_units" => push_decimals_of_units(page, words)?,
-        "whole" => push_whole(page, words)?,
-        "fixed" => push_fixed_text(page, words)?,
-        "digits" => push_digits(page, words)?,
-        "mul" | "div" | "add" => push_rounded(page, question, words)?,
         "factors" => push_factors(page, step(words)?),
         "head" => {
             let head = head(words)?;
@@ -67,4 +55,29 @@ pub fn push_answer(page: &mut Page, line: &str) -> Option<()> {
         }
     }
     Some(())
+}
+
+// The same, or to one about decimals.
+fn push_of_decimals(page: &mut Page, question: &str, words: &mut Words<'_>) -> Option<()> {
+    match question {
+        "decimal" => push_decimal_of(page, words),
+        "of_units" => push_decimals_of_units(page, words),
+        "whole" => push_whole(page, words),
+        "mul" | "div" | "add" => push_rounded(page, question, words),
+        _ => push_of_model(page, question, words),
+    }
+}
+
+/// The answer to a question, if it is one.
+pub fn push_answer(page: &mut Page, line: &str) -> Option<()> {
+    let words = &mut Words(line);
+    match words.next() {
+        "word" => Some(push_number(page, number(words))),
+        "times" => Some(push_number(page, product(words))),
+        "integer" => Some(push_integer(page, words)),
+        "units" => push_units(page, words),
+        "fixed" => push_fixed_text(page, words),
+        "digits" => push_digits(page, words),
+        question => push_of_decimals(page, question, words),
+    }
 }

@@ -10,8 +10,8 @@ use outside::{
 use std::str;
 use test_lines::{Page, first_word, number_of};
 
-/// The names of a batch's list, after their number.
-pub fn push_models(page: &mut Page, reader: &Reader<'_>) -> Option<()> {
+// The names of a batch's list, after their number.
+fn push_models(page: &mut Page, reader: &Reader<'_>) -> Option<()> {
     let read = read_list(page.alloc(), reader.file, reader.text);
     let names = made_value(page, read)?;
     page.word(names.len());
@@ -21,8 +21,8 @@ pub fn push_models(page: &mut Page, reader: &Reader<'_>) -> Option<()> {
     Some(drop(names))
 }
 
-/// The pairs of a name file in its order, of which there are at most ten, or the files of two of its packages.
-pub fn push_packages(page: &mut Page, reader: &Reader<'_>) -> Option<()> {
+// The pairs of a name file in its order, of which there are at most ten, or the files of two of its packages.
+fn push_packages(page: &mut Page, reader: &Reader<'_>) -> Option<()> {
     let read = read_names(page.alloc(), reader.file, reader.text);
     let names = made_value(page, read)?;
     if reader.call.word == "files" {
@@ -79,19 +79,33 @@ fn push_input(page: &mut Page, folder: &mut MemFolder, name: &str) -> Option<()>
     Some(push_shown(page, bytes.as_slice()))
 }
 
-/// Calls on the folder, which reads at most so many bytes of a file, and on names.
-pub fn push_of_folder(page: &mut Page, folder: &mut MemFolder, call: &Call<'_>) -> Option<()> {
+// A file of the folder, which reads at most so many bytes of it.
+fn push_file(page: &mut Page, folder: &mut MemFolder, call: &Call<'_>) -> Option<()> {
     let (name, limit) = first_word(call.rest);
     folder.set_limit(number_of(limit));
-    let answer = match call.word {
-        "found" => {
-            let found = folder.read_file(page.alloc(), name);
-            Some(push_found(page, found))
-        }
-        "input" => push_input(page, folder, name),
-        "named" => push_named(page, call.rest),
-        _ => Some(page.test(is_good_name(call.rest.as_bytes()))),
+    let answer = if call.word == "input" {
+        push_input(page, folder, name)
+    } else {
+        let found = folder.read_file(page.alloc(), name);
+        Some(push_found(page, found))
     };
     folder.set_limit(FILE_LIMIT);
     answer
+}
+
+/// Calls on the folder, on names, on the whole text, and others on the next word.
+pub fn push_of_folder(
+    page: &mut Page,
+    reader: &mut Reader<'_>,
+    folder: &mut MemFolder,
+) -> Option<()> {
+    let name = reader.call.rest;
+    match reader.call.word {
+        "found" | "input" => push_file(page, folder, &reader.call),
+        "named" => push_named(page, name),
+        "taken" => Some(page.test(is_good_name(name.as_bytes()))),
+        "packages" | "files" => push_packages(page, reader),
+        "models" => push_models(page, reader),
+        _ => reader.push_of_word(page),
+    }
 }

@@ -71,14 +71,32 @@ use faults::{push_codes, push_refusals};
 use outside::{FILE_LIMIT, MemFolder};
 use sinks::{push_disk_sink, push_full_sink, push_sink};
 use std::io;
-use test_lines::{Page, answer_lines, first_word, number_of};
+use test_lines::{Answered, Page, answer_lines, first_word, number_of};
+
+// Does the command of a line that asks for no given text or folder.
+fn push_line(page: &mut Page, line: &str) -> Answered {
+    let (word, rest) = first_word(line);
+    match word {
+        "@" => page.line(line),
+        "@reader" => push_reader(page, number_of(rest)),
+        "@sink" => return push_sink(page, rest),
+        "@full_sink" => return push_full_sink(page, rest),
+        "@refusals" => return push_refusals(page),
+        "@codes" => push_codes(page),
+        _ => {
+            if push_answer(page, line).is_none() {
+                page.line("no question");
+            }
+        }
+    }
+    Ok(())
+}
 
 // Does the command of a line.
 fn step(rt: &HostRuntime, page: &mut Page, bench: &mut Bench, line: &str) -> io::Result<()> {
     let (word, rest) = first_word(line);
     let (name, text) = first_word(rest);
     match word {
-        "@" => page.line(line),
         "@text" => bench.take_text(page.alloc(), name, text)?,
         "@read" => bench.push_read(page, rest),
         "@cut" => bench.push_cuts(page, rest),
@@ -86,17 +104,8 @@ fn step(rt: &HostRuntime, page: &mut Page, bench: &mut Bench, line: &str) -> io:
         "@file" => bench.add_file(page.alloc(), name, text)?,
         "@fail" => bench.folder.fail_at(number_of(rest))?,
         "@disk" => return push_disk(rt, page, number_of(name), text),
-        "@reader" => push_reader(page, number_of(rest)),
-        "@sink" => push_sink(page, rest)?,
         "@disk_sink" => return push_disk_sink(rt, page, rest),
-        "@full_sink" => push_full_sink(page, rest)?,
-        "@refusals" => push_refusals(page)?,
-        "@codes" => push_codes(page),
-        _ => {
-            if push_answer(page, line).is_none() {
-                page.line("no question");
-            }
-        }
+        _ => push_line(page, line)?,
     }
     Ok(())
 }

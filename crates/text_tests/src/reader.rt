@@ -1,7 +1,6 @@
 // A text that is read, and calls on its lines and on the words of a line.
 use crate::faults::{made_value, push_made};
-use crate::files::{push_models, push_of_folder, push_packages};
-use crate::lists::{push_array, push_ints, push_next_value, push_reals};
+use crate::lists::{push_array, push_next_value, push_reals};
 use array_reader::{
     Control, control_record, integer, name_of, next_line, number, short_integer, value_item,
 };
@@ -130,8 +129,8 @@ impl<'a> Reader<'a> {
         Some(page.word(format_args!("{kind} {by}")))
     }
 
-    // The next word of the line, as a number or as a text.
-    fn push_of_word(&mut self, page: &mut Page) -> Option<()> {
+    /// The next word of the line, as a number or as a text.
+    pub fn push_of_word(&mut self, page: &mut Page) -> Option<()> {
         let (alloc, asked) = (page.alloc(), self.call.rest.as_bytes());
         let (words, file, line) = (&mut self.words, self.file, self.line.number);
         match self.call.word {
@@ -160,18 +159,7 @@ impl<'a> Reader<'a> {
             "control" => self.push_control(page),
             "next" => push_next_value(page, self),
             "array" => push_array(page, self, folder),
-            "row" | "layer" | "numbers" => push_reals(page, self, folder),
-            "values"
-            | "list"
-            | "rows"
-            | "integers"
-            | "constants"
-            | "integer_layer"
-            | "integer_layers" => push_ints(page, self, folder),
-            "packages" | "files" => push_packages(page, self),
-            "models" => push_models(page, self),
-            "found" | "input" | "named" | "taken" => push_of_folder(page, folder, &self.call),
-            _ => self.push_of_word(page),
+            _ => push_reals(page, self, folder),
         }
     }
 }
