@@ -24,7 +24,6 @@
 
 mod bench;
 mod gates;
-mod handshake;
 mod models;
 mod runs;
 mod steps;
@@ -57,10 +56,11 @@ fn answer<R: Threads + Wait + Sync>(
     let words = words_of(page.alloc(), if is_plain { rest } else { more })?;
     let asked = Asked {
         rt,
+        question,
         words: words.as_slice(),
         first,
     };
-    let answer = asked.push_answer(page, bench, question);
+    let answer = asked.push_answer(page, bench);
     drop(words);
     bench.begin_sinks(page.alloc());
     answer

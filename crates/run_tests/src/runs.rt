@@ -1,21 +1,20 @@
 // Runs, and what they put.
 use crate::bench::{Bench, text_of};
-use crate::gates::{AwaitingGate, Meeting, MeetingGate};
-use crate::handshake::{HandshakeGate, HandshakeSink, PASSES};
+use crate::gates::{Meeting, MeetingSink};
 use crate::views::{head_of, heads_of};
+use crate::watching::push_shown;
 use engine::{bytes_asked, serve};
-use outside::{FreeGate, Gate, MemFolder, Sink};
-use std::alloc::AllocError;
 use std::process::ExitCode;
 use std::sync::Wait;
 use std::thread::Threads;
-use test_lines::{Answered, Count, Page, number_of};
+use test_lines::{Answered, Page, number_of};
 
-/// A question about a run: the words that it is given, and the question's first word, which says which put, how many views
+/// A question about a run, the words that it is given, and the question's first word, which says which put, how many views
 /// or passes, or which head.
 #[derive(Drop)]
 pub struct Asked<'a, R: Threads + Wait + Sync> {
     pub rt: &'a R,
+    pub question: &'a str,
     pub words: &'a [&'a str],
     pub first: &'a str,
 }
@@ -34,9 +33,9 @@ fn push_failures(page: &mut Page, meeting: &Meeting) {
     page.line(format_args!("waits in vain {}", meeting.failures.get()));
 }
 
-// On which side of a head each pair of heads lies, in the lines of a view.
-fn push_sides(page: &mut Page, view: &str, head: &str) {
-    let Some(middle) = head_of(head) else {
+// On which side of a head each pair of heads of the first view lies.
+fn push_sides(page: &mut Page, shown: &str, head: &str) {
+    let (Some(middle), Some(view)) = (head_of(head), shown.split("WATCH ").nth(1)) else {
         return;
     };
     for heads in view.lines().filter_map(heads_of) {
@@ -51,110 +50,70 @@ fn push_sides(page: &mut Page, view: &str, head: &str) {
     }
 }
 
+fn push_passes(page: &mut Page, passes: u64, most: u64) {
+    if passes <= most {
+        page.line(format_args!("passes at most {most}"));
+    } else {
+        page.line(format_args!("passes {passes}"));
+    }
+}
+
 impl<R: Threads + Wait + Sync> Asked<'_, R> {
-    // A run as the program makes it, over the files of a folder, with workers that pass a gate: its status.
-    fn push_status<K: Sink + Send, W: Sink + Send, G: Gate + Sync>(
-        &self,
-        page: &mut Page,
-        folder: &mut MemFolder,
-        out: &mut K,
-        side: &mut W,
-        gate: &G,
-    ) -> Answered {
-        let limit = bytes_asked(page.alloc(), self.words)?;
-        folder.set_limit(limit);
-        let code = serve(self.rt, page.alloc(), self.words, folder, out, side, gate);
-        page.line(format_args!("status {}", status_number(code)));
-        Ok(())
-    }
-
-    /// A run with workers that pass a gate: its status, and what it puts.
-    pub fn push_gated<G: Gate + Sync>(
-        &self,
-        page: &mut Page,
-        bench: &mut Bench,
-        gate: &G,
-    ) -> Answered {
-        let Bench { deck, out, side } = bench;
-        self.push_status(page, &mut deck.folder, out, side, gate)?;
-        page.file(out.bytes());
-        Ok(())
-    }
-
-    // A run, and what it puts to its side; and the passes of its workers.
-    fn push_run(&self, page: &mut Page, bench: &mut Bench) -> Result<u64, AllocError> {
-        let passes = Count::default();
-        self.push_gated(page, bench, &passes)?;
-        page.file(bench.side.bytes());
-        Ok(passes.get())
-    }
-
-    // The same, and whether its workers passed a gate at most so often.
-    fn push_passes(&self, page: &mut Page, bench: &mut Bench) -> Answered {
-        let (passes, most) = (self.push_run(page, bench)?, number_of(self.first));
-        if passes <= most {
-            page.line(format_args!("passes at most {most}"));
+    // The put that lacks memory, if this is the question; else 0.
+    fn lacking(&self, question: &str) -> u64 {
+        if self.question == question {
+            number_of(self.first)
         } else {
-            page.line(format_args!("passes {passes}"));
+            0
         }
+    }
+
+    // A run as the program makes it, over the files of a deck: its status, and what it puts.
+    fn push_run(&self, page: &mut Page, bench: &mut Bench, meeting: &Meeting) -> Answered {
+        let alloc = page.alloc();
+        let limit = bytes_asked(alloc, self.words)?;
+        let Bench { deck, out, side } = bench;
+        deck.folder.set_limit(limit);
+        let mut kept = MeetingSink::new(out, meeting, self.lacking("@shake_hands"));
+        let mut shown = MeetingSink::new(side, meeting, self.lacking("@lack"));
+        let (rt, words, folder) = (self.rt, self.words, &mut deck.folder);
+        let code = serve(rt, alloc, words, folder, &mut kept, &mut shown, meeting);
+        page.line(format_args!("status {}", status_number(code)));
+        page.file(bench.out.bytes());
         Ok(())
     }
 
-    // A run of two workers, each of which waits for the other's first pass.
-    fn push_meeting(&self, page: &mut Page, bench: &mut Bench) -> Answered {
-        let meeting = Meeting::default();
-        self.push_gated(page, bench, &MeetingGate(&meeting))?;
-        push_failures(page, &meeting);
-        page.line(format_args!("passes {}", meeting.comparison()));
-        Ok(())
-    }
-
-    // A watched run whose first view waits for worker 1, and on which side of a head the heads of that view lie.
-    fn push_awaiting(&self, page: &mut Page, bench: &mut Bench) -> Answered {
-        let meeting = Meeting::default();
-        self.push_gated(page, bench, &AwaitingGate(&meeting))?;
-        push_failures(page, &meeting);
-        let first = text_of(bench.side.bytes()).split("WATCH ").nth(1);
-        push_sides(page, first.unwrap_or(""), self.first);
-        Ok(())
-    }
-
-    // A run in which a step's put waits for the next step's workers, and they for it. One put may lack memory.
-    fn push_handshake(&self, page: &mut Page, bench: &mut Bench) -> Answered {
-        let meeting = Meeting::default();
-        let mut out = HandshakeSink::new(page.alloc(), &meeting, PASSES, number_of(self.first));
-        let (folder, side) = (&mut bench.deck.folder, &mut bench.side);
-        let answer = self.push_status(page, folder, &mut out, side, &HandshakeGate(&meeting));
-        page.file(out.bytes());
-        push_failures(page, &meeting);
-        answer
-    }
-
-    // A run whose side lacks memory at one put.
-    fn push_lacking(&self, page: &mut Page, bench: &mut Bench) -> Answered {
-        let meeting = Meeting::default();
-        let mut side = HandshakeSink::new(page.alloc(), &meeting, 0, number_of(self.first));
-        let (folder, out) = (&mut bench.deck.folder, &mut bench.out);
-        let answer = self.push_status(page, folder, out, &mut side, &FreeGate);
-        page.file(out.bytes());
-        let views = text_of(side.bytes()).split("WATCH ").skip(1).count();
-        page.line(format_args!("views put {views}"));
-        answer
-    }
-
-    /// The answer to a question.
-    pub fn push_answer(&self, page: &mut Page, bench: &mut Bench, question: &str) -> Answered {
-        match question {
-            "@watch" => self.push_watch(page, bench),
-            "@await" => self.push_awaiting(page, bench),
-            "@lack" => self.push_lacking(page, bench),
-            "@meet" => self.push_meeting(page, bench),
-            "@shake_hands" => self.push_handshake(page, bench),
-            "@passes" => self.push_passes(page, bench),
-            _ => {
-                self.push_run(page, bench)?;
-                Ok(())
+    // What else is asked of a run: of what it put, also to its side, or of its workers.
+    fn push_rest(&self, page: &mut Page, listing: &[u8], side: &[u8], meeting: &Meeting) {
+        let (number, shown) = (number_of(self.first), text_of(side));
+        match self.question {
+            "@watch" => push_shown(page, number, shown, text_of(listing)),
+            "@lack" => {
+                let views = shown.split("WATCH ").skip(1).count();
+                page.line(format_args!("views put {views}"));
             }
+            "@await" => {
+                push_failures(page, meeting);
+                push_sides(page, shown, self.first);
+            }
+            "@meet" => {
+                push_failures(page, meeting);
+                page.line(format_args!("passes {}", meeting.comparison()));
+            }
+            "@shake_hands" => push_failures(page, meeting),
+            "@passes" => {
+                page.file(side);
+                push_passes(page, meeting.one.get(), number);
+            }
+            _ => page.file(side),
         }
+    }
+
+    /// The answer to the question.
+    pub fn push_answer(&self, page: &mut Page, bench: &mut Bench) -> Answered {
+        let meeting = Meeting::new(self.question);
+        self.push_run(page, bench, &meeting)?;
+        self.push_rest(page, bench.out.bytes(), bench.side.bytes(), &meeting);
+        Ok(())
     }
 }

@@ -1,11 +1,6 @@
 // Runs whose heads are viewed while they settle.
-use crate::bench::{Bench, text_of};
-use crate::runs::Asked;
 use crate::views::{not_around, step_of};
-use outside::FreeGate;
-use std::sync::Wait;
-use std::thread::Threads;
-use test_lines::{Answered, Page, number_of};
+use test_lines::Page;
 
 /// The views of a step: how many there are, with how many heads; how many of these are not around those that the
 /// listing has at that step, and in how many a view is wider than the one before.
@@ -61,7 +56,9 @@ fn push_views(page: &mut Page, each_phase: u64, listing: &str, seen: StepViews<'
     page.line(format_args!(" {} not around those listed", seen.outside));
 }
 
-fn push_shown(page: &mut Page, each_phase: u64, shown: &str, listing: &str) {
+/// For each step of the views that a run showed, in their order: whether they are whole phases, how many heads each has, and
+/// whether they only come nearer to the heads of the listing.
+pub fn push_shown(page: &mut Page, each_phase: u64, shown: &str, listing: &str) {
     let mut seen = StepViews::new("");
     for view in shown.split("WATCH ") {
         if let Some((time, lines)) = view.split_once('\n') {
@@ -73,15 +70,4 @@ fn push_shown(page: &mut Page, each_phase: u64, shown: &str, listing: &str) {
         }
     }
     push_views(page, each_phase, listing, seen);
-}
-
-impl<R: Threads + Wait + Sync> Asked<'_, R> {
-    /// What a watched run puts; then for each step, in the order of its views, whether they are whole phases, how many
-    /// heads each has, and whether they only come nearer to the heads of the listing.
-    pub fn push_watch(&self, page: &mut Page, bench: &mut Bench) -> Answered {
-        self.push_gated(page, bench, &FreeGate)?;
-        let (shown, listing) = (text_of(bench.side.bytes()), text_of(bench.out.bytes()));
-        push_shown(page, number_of(self.first), shown, listing);
-        Ok(())
-    }
 }
