@@ -21,9 +21,8 @@ const WAIT_OF_FEW: u32 = 64;
 // A gallop gains if it lowers a head by at least this many units.
 const GAIN: i64 = 32;
 
-/// Lowers settled heads unit by unit, and by gallops along the way that the last units went, until all cells rise again
-/// after a unit or the budget comes to its end. Returns the order in which they do. Where few units are left the first gallop is
-/// later.
+/// Lowers settled heads unit by unit, and by gallops along the way that the last units went, until all cells rise again after a unit or the budget
+/// comes to its end. Returns the order in which they do. Where few units are left the first gallop is later.
 pub fn descend(
     work: &mut Work,
     heads: &mut Vec<i64>,

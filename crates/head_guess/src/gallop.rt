@@ -43,9 +43,8 @@ const MOST_STEPS: u32 = 64;
 // The number of turns that a step may take at each cell that it moves.
 const TURNS: u64 = 8;
 
-/// Lowers settled heads along a way, and then by twice what was kept of the last step, as long as they settle
-/// within a few turns at each cell that moves, and keep half. Where they do not settle, half the step is the last one. They stay settled.
-/// Returns the longest fall.
+/// Lowers settled heads along a way, and then by twice what was kept of the last step, as long as they settle within a few turns at each cell that
+/// moves, and keep half. Where they do not settle, half the step is the last one. They stay settled. Returns the longest fall.
 pub fn gallop(work: &mut Work, heads: &mut Vec<i64>, way: Vec<i64>) -> Result<i64, AllocError> {
     let mut way = way;
     let mut gained = 0_i64;

@@ -80,8 +80,7 @@ fn halves_in_turn(
     Ok(LastStep { low, high })
 }
 
-/// A guess of the settled pair of a problem and a barrier. It begins with what the guess of the last step has kept, which may be that of any
-/// problem.
+/// A guess of the settled pair of a problem and a barrier. It begins with what the guess of the last step has kept, which may be that of any problem.
 pub fn guess_heads<'a>(
     alloc: Global,
     p: &'a Problem,

@@ -79,7 +79,7 @@ pub struct Linear {
 // Whether elimination pays: it takes few operations, or cycles have taken as many visits as a factor does, or have left a system unsolved.
 fn pays(pattern: &Pattern, visits: u64, is_hard: bool) -> bool {
     is_hard
-        || pattern.operations() <= FEW_OPERATIONS.saturating_mul(pattern.len() as u64)
+        || pattern.operations <= FEW_OPERATIONS.saturating_mul(pattern.len() as u64)
         || visits >= visits_of_factor(pattern)
 }
 
@@ -196,8 +196,7 @@ impl Linear {
         self.unknowns(work, ROUNDS, bits)
     }
 
-    /// How small a residual has to be, in bits, for unknowns of 2^-places: where the room is known, so small that what is
-    /// left moves no head by half a unit.
+    /// How small a residual has to be, in bits, for unknowns of 2^-places: where the room is known, so small that what is left moves no head by half a unit.
     pub fn bits(&self, places: i64) -> u32 {
         let Some(room) = &self.room else {
             return LEAST_BITS;

@@ -48,9 +48,8 @@ fn lowest_after(
     lowest_from(work, lower.unwrap_or(heads), share)
 }
 
-/// The first settled heads below balanced ones, from a share of the room, which is in units of 2^-10. They are searched for by one share for
-/// all cells. Where the room is one of the widest, and links have a pattern, each cell has a share of its own from the start. None where nothing
-/// settles.
+/// The first settled heads below balanced ones, from a share of the room, which is in units of 2^-10. They are searched for by one share for all
+/// cells. Where the room is one of the widest, and links have a pattern, each cell has a share of its own from the start. None where nothing settles.
 pub fn lowest_below(
     work: &mut Work,
     balanced: &[i64],

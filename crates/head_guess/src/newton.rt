@@ -40,8 +40,7 @@ struct Newton {
     heads: Vec<i64>,
     // The heads by which evaporations are at their full rate.
     tops: Vec<i64>,
-    // How far the heads may be off. A ramp counts unless the head is further below its foot: without its last river or drain a system has no
-    // solution.
+    // How far the heads may be off. A ramp counts unless the head is further below its foot: without its last river or drain a system has no solution.
     slack: i64,
     balances: Vec<i128>,
     slopes: Vec<i64>,

@@ -69,8 +69,7 @@ impl Search<'_> {
         Ok(())
     }
 
-    // The next share: up in steps that the turns promise, until one share does not settle; down in steps that grow, until one settles; then
-    // the middle.
+    // The next share: up in steps that the turns promise, until one share does not settle; down in steps that grow, until one settles; then the middle.
     fn next_share(&self) -> i64 {
         let middle = self.high.saturating_sub(self.low) / 2;
         let step = match &self.found {

@@ -1,5 +1,4 @@
-// Settled heads by a share of the room for each cell. In a round all cells are tried at once: a share falls where its cell is too low, and
-// rises elsewhere.
+// Settled heads by a share of the room for each cell. In a round all cells are tried at once: a share falls where its cell is too low, and rises elsewhere.
 use crate::changes::Changes;
 use crate::linear::Linear;
 use crate::raise::{raise_counted, raise_within};
@@ -15,8 +14,7 @@ const PLACES: u32 = 10;
 
 const BITS: u32 = 12;
 
-// A cell that rises as often in a round is too low: in a round of the first cycle, of the second one, whose steps are shorter, and where
-// shares only fall.
+// A cell that rises as often in a round is too low: in a round of the first cycle, of the second one, whose steps are shorter, and where shares only fall.
 const RISES: u32 = 4;
 
 const MORE_RISES: u32 = 6;
@@ -140,8 +138,7 @@ impl Shares {
     }
 }
 
-/// Settled heads below balanced ones, by a share for each cell, which is at first the same for all, in units of 2^-20. None where they do not
-/// settle.
+/// Settled heads below balanced ones, by a share for each cell, which is at first the same for all, in units of 2^-20. None where they do not settle.
 pub fn settled_by_shares(
     work: &mut Work,
     balanced: &[i64],

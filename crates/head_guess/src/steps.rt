@@ -46,8 +46,7 @@ fn old_head(cell: &Cell) -> Option<i64> {
     None
 }
 
-/// Takes the last step out. None where this step has no storage, since steady heads may be far from the last ones, or where it has other
-/// cells.
+/// Takes the last step out. None where this step has no storage, since steady heads may be far from the last ones, or where it has other cells.
 pub fn take_last(last: &mut Option<LastStep>, p: &Problem) -> Option<LastStep> {
     let last = last.take();
     last.filter(|last| {

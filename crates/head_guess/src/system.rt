@@ -14,7 +14,7 @@ const ENTRIES: u64 = 3;
 
 /// The visits that making a factor takes.
 pub fn visits_of_factor(pattern: &Pattern) -> u64 {
-    pattern.operations() / OPERATIONS
+    pattern.operations / OPERATIONS
 }
 
 /// The visits that a solution by a factor takes.

@@ -1,5 +1,4 @@
-// The matrix over aggregates: sums of the entries over the members of each (Galerkin, with constants for each
-// aggregate).
+// The matrix over aggregates: sums of the entries over the members of each (Galerkin, with constants for each aggregate).
 use crate::aggregates::{Aggregates, pairs};
 use crate::matrix::Matrix;
 use crate::numbers::{NONE, at, filled_value, label, label_at, list_of, put};
@@ -39,7 +38,7 @@ impl Merger<'_> {
     // Adds the couplings of an unknown to the open row of its aggregate. Returns what it adds to the diagonal.
     fn add_member(&mut self, aggregate: u32, unknown: usize) -> Result<i64, AllocError> {
         let row = self.matrix.row(unknown);
-        let mut diagonal = row.pivot.weight();
+        let mut diagonal = row.pivot.weight;
         for coupling in self.matrix.couplings(&row) {
             let other = label_at(self.of, coupling.other as usize);
             if other == aggregate {

@@ -12,7 +12,7 @@ pub struct Coupling {
 /// An entry on the diagonal, at least 1, with its reciprocal, so that a quotient by it is a product.
 #[derive(Clone, Copy)]
 pub struct Pivot {
-    weight: i64,
+    pub weight: i64,
     // About 2^(61 + bits) over the weight.
     reciprocal: i64,
     bits: u32,
@@ -45,10 +45,6 @@ impl Pivot {
     pub fn times(&self, x: i64) -> i128 {
         self.weight as i128 * x as i128
     }
-
-    pub fn weight(&self) -> i64 {
-        self.weight
-    }
 }
 
 /// A row's pivot, and the places of its couplings.
@@ -59,8 +55,7 @@ pub struct Row {
     pub pivot: Pivot,
 }
 
-/// A symmetric matrix whose diagonal outweighs the couplings of each row. The last row can be open: couplings
-/// are added to it until it is closed.
+/// A symmetric matrix whose diagonal outweighs the couplings of each row. The last row can be open: couplings are added to it until it is closed.
 #[derive(Drop)]
 pub struct Matrix {
     rows: Vec<Row>,

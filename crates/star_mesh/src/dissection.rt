@@ -2,7 +2,7 @@
 use crate::lists::Span;
 use crate::search::Search;
 use multigrid::Matrix;
-use multigrid::numbers::label;
+use multigrid::numbers::{filled_value, label};
 use std::alloc::{AllocError, Global};
 
 // A part with at most this number of unknowns is not dissected.
@@ -67,12 +67,14 @@ fn dissect(
     Ok([before, after])
 }
 
-/// The unknowns of a matrix in the order of elimination.
-pub fn elimination_order(alloc: Global, matrix: &Matrix) -> Result<Vec<u32>, AllocError> {
+// Orders all parts.
+fn dissect_all(
+    alloc: Global,
+    matrix: &Matrix,
+    search: &mut Search,
+    order: &mut [u32],
+) -> Result<(), AllocError> {
     let count = matrix.len();
-    let unknowns = (0..count).map(|unknown| label(unknown));
-    let mut order: Vec<u32> = unknowns.collect(alloc)?;
-    let mut search = Search::new(alloc, count)?;
     let mut parts = Vec::new(alloc);
     parts.push(Span::new(0, count))?;
     // Each part is smaller than the one that it is of, so that fewer than four for each unknown come.
@@ -81,10 +83,20 @@ pub fn elimination_order(alloc: Global, matrix: &Matrix) -> Result<Vec<u32>, All
             break;
         };
         if part.len() > FEW {
-            for part in dissect(matrix, &mut search, order.as_mut_slice(), part)? {
+            for part in dissect(matrix, search, order, part)? {
                 parts.push(part)?;
             }
         }
     }
-    Ok(order)
+    Ok(())
+}
+
+/// The unknowns of a matrix in the order of elimination.
+pub fn elimination_order(alloc: Global, matrix: &Matrix) -> Result<Vec<u32>, AllocError> {
+    let mut search = Search::new(alloc, matrix.len())?;
+    let unknowns = (0..matrix.len()).map(|unknown| label(unknown));
+    let mut order: Vec<u32> = unknowns.collect(alloc)?;
+    let dissected = dissect_all(alloc, matrix, &mut search, order.as_mut_slice());
+    drop(search);
+    filled_value(order, dissected)
 }

@@ -45,7 +45,7 @@ impl Divisor {
 fn scale_of(matrix: &Matrix) -> u32 {
     let mut greatest = 0_i64;
     for unknown in 0..matrix.len() {
-        greatest = greatest.max(matrix.row(unknown).pivot.weight());
+        greatest = greatest.max(matrix.row(unknown).pivot.weight);
     }
     61_u32.saturating_sub(width(greatest as i128))
 }
@@ -74,7 +74,7 @@ impl Elimination<'_> {
     fn open(&mut self, matrix: &Matrix, column: usize) {
         let scale = self.scale;
         let row = matrix.row(self.pattern.unknown(column));
-        let mut ground = row.pivot.weight();
+        let mut ground = row.pivot.weight;
         for coupling in matrix.couplings(&row) {
             ground = ground.saturating_sub(coupling.weight);
             let place = self.pattern.place(coupling.other) as usize;

@@ -1,9 +1,10 @@
 // A system with its factor.
-use crate::elimination::{Elimination, eliminate};
+use crate::elimination::eliminate;
 use crate::pattern::Pattern;
 use multigrid::Matrix;
 use multigrid::numbers::{at, clamp_long, filled_value, list_of, put, shift};
 use std::alloc::{AllocError, Global};
+use std::mem;
 
 // Solutions of the residual that a solution leaves.
 const REFINEMENTS: u32 = 3;
@@ -27,24 +28,20 @@ pub struct Factor {
 impl Factor {
     /// The factor of a matrix that a pattern fits: it is symmetric, and no row's couplings outweigh its diagonal, which is below 2^61.
     pub fn new(alloc: Global, pattern: &Pattern, matrix: Matrix) -> Result<Factor, AllocError> {
-        let Elimination {
-            scale,
-            parts,
-            diagonals,
-            ..
-        } = eliminate(alloc, pattern, &matrix)?;
+        let mut elimination = eliminate(alloc, pattern, &matrix)?;
         let (mut memory, count) = (Ok(()), matrix.len());
         let factor = Factor {
             matrix,
-            scale,
-            parts,
-            diagonals,
+            scale: elimination.scale,
+            parts: mem::replace(&mut elimination.parts, Vec::new(alloc)),
+            diagonals: mem::replace(&mut elimination.diagonals, Vec::new(alloc)),
             residual: list_of(&mut memory, alloc, 0, count),
             solution: list_of(&mut memory, alloc, 0, count),
             correction: list_of(&mut memory, alloc, 0, count),
             flows: list_of(&mut memory, alloc, 0, count),
             unknowns: list_of(&mut memory, alloc, 0, count),
         };
+        drop(elimination);
         filled_value(factor, memory)
     }
 

@@ -16,7 +16,8 @@ pub struct Pattern {
     // Where each column begins in the list of rows, and where the last one ends.
     starts: Vec<usize>,
     rows: Vec<u32>,
-    operations: u64,
+    /// The operations of a factoring: products of two numbers.
+    pub operations: u64,
 }
 
 fn inverse(alloc: Global, order: &[u32]) -> Result<Vec<u32>, AllocError> {
@@ -27,22 +28,17 @@ fn inverse(alloc: Global, order: &[u32]) -> Result<Vec<u32>, AllocError> {
     Ok(places)
 }
 
-// Writes the rows of each column from its start on, if there is room for them. Returns where each column ends.
-fn list_rows(
-    tree: &mut Tree,
-    starts: Vec<usize>,
-    rows: &mut [u32],
-) -> Result<Vec<usize>, AllocError> {
-    let mut ends = starts;
+// Writes the rows of each column from its place on, which becomes its end, if there is room for them.
+fn list_rows(tree: &mut Tree, ends: &mut [usize], rows: &mut [u32]) -> Result<(), AllocError> {
     for row in 0..ends.len() {
         for column in tree.add_row(row)? {
             let column = *column as usize;
-            let end = at(ends.as_slice(), column);
+            let end = at(ends, column);
             put(rows, end, label(row));
-            put(ends.as_mut_slice(), column, end.saturating_add(1));
+            put(ends, column, end.saturating_add(1));
         }
     }
-    Ok(ends)
+    Ok(())
 }
 
 // Where each column begins in the list of rows, and where the last one ends.
@@ -66,8 +62,7 @@ fn operations_of(counts: &[usize]) -> u64 {
 }
 
 impl Pattern {
-    /// The pattern of a matrix, which fits all matrices with no other couplings. None where a factoring takes more than `most`
-    /// operations.
+    /// The pattern of a matrix, which fits all matrices with no other couplings. None where a factoring takes more than `most` operations.
     pub fn new(alloc: Global, matrix: &Matrix, most: u64) -> Result<Option<Pattern>, AllocError> {
         let mut pattern = Pattern {
             order: elimination_order(alloc, matrix)?,
@@ -86,25 +81,25 @@ impl Pattern {
         Ok(Some(filled_value(pattern, found)?))
     }
 
-    // Writes the rows of each column from these places on. Returns where each column ends.
+    // Writes the rows of each column from these places on, which become their ends.
     fn list_rows(
         &mut self,
         alloc: Global,
         matrix: &Matrix,
-        from: Vec<usize>,
-    ) -> Result<Vec<usize>, AllocError> {
+        ends: &mut [usize],
+    ) -> Result<(), AllocError> {
         let (order, places) = (self.order.as_slice(), self.places.as_slice());
         let mut tree = Tree::new(alloc, matrix, order, places)?;
-        let ends = list_rows(&mut tree, from, self.rows.as_mut_slice());
+        let listed = list_rows(&mut tree, ends, self.rows.as_mut_slice());
         drop(tree);
-        ends
+        listed
     }
 
     // Finds where each column begins, and the operations of a factoring.
     fn find_starts(&mut self, alloc: Global, matrix: &Matrix) -> Result<(), AllocError> {
         self.places = inverse(alloc, self.order.as_slice())?;
-        let none = vec![in alloc; 0_usize; self.order.len()]?;
-        let counts = self.list_rows(alloc, matrix, none)?;
+        let mut counts = vec![in alloc; 0_usize; self.order.len()]?;
+        self.list_rows(alloc, matrix, counts.as_mut_slice())?;
         self.operations = operations_of(counts.as_slice());
         self.starts = starts_of(alloc, counts.as_slice())?;
         Ok(())
@@ -113,18 +108,13 @@ impl Pattern {
     fn find_rows(&mut self, alloc: Global, matrix: &Matrix) -> Result<(), AllocError> {
         let entries = at(self.starts.as_slice(), self.order.len());
         self.rows.resize(entries, 0)?;
-        let starts = self.starts.clone()?;
-        Ok(drop(self.list_rows(alloc, matrix, starts)?))
+        let mut ends = self.starts.clone()?;
+        self.list_rows(alloc, matrix, ends.as_mut_slice())
     }
 
     /// The number of unknowns.
     pub fn len(&self) -> usize {
         self.order.len()
-    }
-
-    /// The operations of a factoring: products of two numbers.
-    pub fn operations(&self) -> u64 {
-        self.operations
     }
 
     /// The number of entries of a factor below its diagonal.

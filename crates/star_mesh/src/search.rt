@@ -4,8 +4,7 @@ use multigrid::Matrix;
 use multigrid::numbers::{NONE, label_at, put};
 use std::alloc::{AllocError, Global};
 
-/// The unknowns that were reached, in the order of the search, and the level of each. Couplings lead to no level but the same one and
-/// the next ones.
+/// The unknowns that were reached, in the order of the search, and the level of each. Couplings lead to no level but the same one and the next ones.
 #[derive(Drop)]
 pub struct Search {
     pub reached: Vec<u32>,
