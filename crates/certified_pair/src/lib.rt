@@ -1,5 +1,4 @@
-//! The pair of a step in the time of a few linear solves: guessed heads that are tested to be a certificate, and where none are found the pair of
-//! a settler.
+//! The pair of a step in the time of a few linear solves: guessed heads that are tested to be a certificate, and where none are found the pair of a settler.
 #![tactic(auto)]
 
 mod guesser;

@@ -9,9 +9,8 @@ use head_guess::Kept;
 use std::alloc::{AllocError, Global};
 use step_problem::{Barrier, Bound, Problem};
 
-/// A guessed pair that is a certificate of a problem and a barrier, one bound for each cell, with heads in range, none at its end, and in
-/// order: the first guess, or a wider one. None where both fail, which says nothing of the problem. What the guess of the last step kept
-/// may be that of any problem.
+/// A guessed pair that is a certificate of a problem and a barrier, one bound for each cell, with heads in range, none at its end, and in order: the first
+/// guess, or a wider one. None where both fail, which says nothing of the problem. What the guess of the last step kept may be that of any problem.
 pub fn certified_pair<G: PairGuesser>(
     guesser: &G,
     alloc: Global,

@@ -9,8 +9,7 @@ use settle_driver::StepSettler;
 use std::alloc::{AllocError, Global};
 use step_problem::{Barrier, Bound, Problem, SettleFault, Settler};
 
-/// Gives the pair of each step: a guess that passes the test, or else what a settler gives. What the guess of a step keeps makes the next one
-/// faster.
+/// Gives the pair of each step: a guess that passes the test, or else what a settler gives. What the guess of a step keeps makes the next one faster.
 #[derive(Drop)]
 pub struct QuickPairs<S: Settler + Drop, G: PairGuesser = BalancedGuesser> {
     pub settler: S,

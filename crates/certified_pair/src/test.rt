@@ -24,8 +24,7 @@ fn are_inside(bounds: &[Bound]) -> bool
         .all(|bound| -HEAD_LIMIT < bound.low && bound.high < HEAD_LIMIT)
 }
 
-/// Whether bounds are a certificate of a problem and a barrier, one for each cell, with heads in range, none at its end, and in
-/// order.
+/// Whether bounds are a certificate of a problem and a barrier, one for each cell, with heads in range, none at its end, and in order.
 pub fn is_certified(p: &Problem, b: &Barrier, bounds: &[Bound]) -> bool
     requires { IsBarrier p.now b.now }
     ensures { IsTrue result ↔ (AreInside p.now b.now bounds.now × AreOrdered bounds.now) }

@@ -46,8 +46,7 @@ impl<'a, R: Threads + Sync, G: Gate + Sync, S: Guesser> NearSettler<'a, R, G, S>
         }
     }
 
-    // Tries a guess, which is not shown. Where that is not certified, makes the phases of the plan, from the words that
-    // are reached or from the barrier.
+    // Tries a guess, which is not shown. Where that is not certified, makes the phases of the plan, from the words that are reached or from the barrier.
     fn settle_onward<V: Viewer + Send>(
         &self,
         alloc: Global,
@@ -78,10 +77,9 @@ impl<'a, R: Threads + Sync, G: Gate + Sync, S: Guesser> NearSettler<'a, R, G, S>
         }
     }
 
-    /// The one settled pair, or Unfinished only where the plan's number of plain rounds does not settle. A problem of
-    /// few cells begins with plain phases, another one with one short phase, but after a problem that a guess settled it has none.
-    /// Then heads are guessed and tried, and then all the plain phases follow, from the words that the first ones reached.
-    /// There is at most one worker for each 64 cells.
+    /// The one settled pair, or Unfinished only where the plan's number of plain rounds does not settle. A problem of few cells begins with plain phases,
+    /// another one with one short phase, but after a problem that a guess settled it has none. Then heads are guessed and tried, and then all the plain
+    /// phases follow, from the words that the first ones reached. There is at most one worker for each 64 cells.
     pub fn settle(&self, alloc: Global, p: &Problem, b: &Barrier) -> Result<Vec<Bound>, SettleFault>
         requires { IsBarrier p.now b.now }
         ensures { Settles p.now b.now self.now.plan.rounds result }

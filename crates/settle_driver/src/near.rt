@@ -9,9 +9,8 @@ use std::alloc::{AllocError, Global};
 use step_problem::problem::HEAD_LIMIT;
 use step_problem::{Barrier, Bound, Problem, SettleFault, Settler, Side};
 
-// The settled pair of b, from that of a barrier inside it, after at most `trials` trials. Each trial settles from a
-// unit off the heads of the one before. None where a trial does not settle, or where the heads have not left the
-// last barrier.
+// The settled pair of b, from that of a barrier inside it, after at most `trials` trials. Each trial settles from a unit off the heads of the one before.
+// None where a trial does not settle, or where the heads have not left the last barrier.
 fn settled_near<N: Settler>(
     trial: &mut N,
     alloc: Global,
@@ -43,10 +42,9 @@ fn settled_near<N: Settler>(
     Ok(None)
 }
 
-/// Settles as `settler`, but first from heads that are near the settled ones. They may be any, and too few or too
-/// many. At most `trials` trials settle a barrier inside b, a unit off the heads that the last one left. If then each
-/// head leaves that barrier, or the barrier is equal to b there, the heads are the settled pair of b. If no trial
-/// succeeds, `settler` settles b from its floor and its ceiling; else `settler` is unchanged.
+/// Settles as `settler`, but first from heads that are near the settled ones. They may be any, and too few or too many. At most `trials` trials settle a
+/// barrier inside b, a unit off the heads that the last one left. If then each head leaves that barrier, or the barrier is equal to b there, the heads are
+/// the settled pair of b. If no trial succeeds, `settler` settles b from its floor and its ceiling; else `settler` is unchanged.
 pub fn settle_near<N: Settler, S: Settler>(
     trial: &mut N,
     settler: &mut S,
@@ -104,8 +102,7 @@ fn edges_near(
     Ok(moved)
 }
 
-/// A barrier inside b, a unit off these heads where they lie inside b. A cell without a head here keeps its floor
-/// and its ceiling.
+/// A barrier inside b, a unit off these heads where they lie inside b. A cell without a head here keeps its floor and its ceiling.
 pub fn barrier_near(
     alloc: Global,
     p: &Problem,

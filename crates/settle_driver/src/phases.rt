@@ -89,8 +89,7 @@ pub(crate) fn work_at<R: Threads + Sync, G: Gate + Sync>(
 
 // How a problem is settled by workers.
 
-/// The number of workers, from 1 to 64; the turns for each cell in a phase, at most 512; and at least one
-/// round, which is the greatest number of phases.
+/// The number of workers, from 1 to 64; the turns for each cell in a phase, at most 512; and at least one round, which is the greatest number of phases.
 #[derive(Clone, Copy)]
 pub struct Plan {
     pub workers: u32,

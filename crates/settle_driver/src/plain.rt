@@ -10,9 +10,8 @@ use head_table::edge_words;
 use std::alloc::{AllocError, Global};
 use step_problem::{Barrier, Bound, Problem, SettleFault, Settler};
 
-/// Settles by plain sweeps in ascending order of the cells, at each cell the lower side and then the upper
-/// one. It ends after `rounds` sweeps, or earlier, after a sweep that moved nothing. The cells of a list are relaxed
-/// before, in its order. The list may be any; a good one saves sweeps.
+/// Settles by plain sweeps in ascending order of the cells, at each cell the lower side and then the upper one. It ends after `rounds` sweeps, or earlier,
+/// after a sweep that moved nothing. The cells of a list are relaxed before, in its order. The list may be any; a good one saves sweeps.
 #[derive(Drop)]
 pub struct PlainSettler<'a> {
     list: &'a [u32],

@@ -9,8 +9,7 @@ use outside::SinkError;
 use std::alloc::Global;
 use step_problem::{Barrier, Bound, Problem, SettleFault, Settler};
 
-/// A viewer of one time step after another. It is told the stress period and the number of each, and says why a run
-/// has to stop.
+/// A viewer of one time step after another. It is told the stress period and the number of each, and says why a run has to stop.
 pub trait StepViewer: Viewer {
     ghost begins: { Self → ℕ → ℕ → Self → Type 0 };
 
@@ -23,8 +22,7 @@ pub trait StepViewer: Viewer {
         ensures { result ≡ stop self.now };
 }
 
-/// A settler of one time step after another. It is told the stress period and the number of each, and says why a run
-/// has to stop.
+/// A settler of one time step after another. It is told the stress period and the number of each, and says why a run has to stop.
 pub trait StepSettler: Settler {
     ghost begins: { Self → ℕ → ℕ → Self → Type 0 };
 

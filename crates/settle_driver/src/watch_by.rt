@@ -6,9 +6,8 @@ use crate::viewer::Viewer;
 use std::alloc::Global;
 use step_problem::{Barrier, Bound, Problem, SettleFault, Settler};
 
-/// A settler by a closure, which is lent a viewer. It is ready where the closure may be called with every problem,
-/// barrier and viewer, settles them with `rounds` rounds, and shows the viewer `views` views in each phase. A function
-/// that has the handle writes the closure, as over a `WatchSettler`.
+/// A settler by a closure, which is lent a viewer. It is ready where the closure may be called with every problem, barrier and viewer, settles them with
+/// `rounds` rounds, and shows the viewer `views` views in each phase. A function that has the handle writes the closure, as over a `WatchSettler`.
 #[derive(Drop)]
 pub struct WatchBy<
     'a,

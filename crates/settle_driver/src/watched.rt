@@ -56,10 +56,9 @@ fn seats_after_watched_turns<R: Threads + Sync, G: Gate + Sync, V: Viewer + Send
     seats
 }
 
-/// Settles by workers in threads while a viewer watches, with the handle and the gate that it borrows. In each phase
-/// one more seat is worker 0 and makes `views` turns beside the workers; at each it looks at all heads and shows them to
-/// the viewer. After a view that gives false the viewer is shown nothing more, and the settling goes on. No seat watches
-/// where `views` is 0.
+/// Settles by workers in threads while a viewer watches, with the handle and the gate that it borrows. In each phase one more seat is worker 0 and makes
+/// `views` turns beside the workers; at each it looks at all heads and shows them to the viewer. After a view that gives false the viewer is shown nothing
+/// more, and the settling goes on. No seat watches where `views` is 0.
 #[derive(Drop)]
 pub struct WatchSettler<'a, R: Threads + Sync, G: Gate + Sync> {
     rt: &'a R,

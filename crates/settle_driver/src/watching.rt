@@ -27,8 +27,7 @@ fn look(table: &HeadTable, seat: &mut HeadSeat, p: &Problem, b: &Barrier, heads:
     table.watch(seat, heads);
 }
 
-/// The turns of the watching seat in a phase. Each passes the gate, looks at all heads and shows them. After a view that gives
-/// false there is none.
+/// The turns of the watching seat in a phase. Each passes the gate, looks at all heads and shows them. After a view that gives false there is none.
 pub(crate) fn watch_turns<G: Gate, V: Viewer>(
     table: &HeadTable,
     seat: &mut HeadSeat,
