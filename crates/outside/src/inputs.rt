@@ -27,7 +27,9 @@ pub fn read_input<F: Folder>(
     ensures reads { (files : FileSet) → F.agrees folder.new files → IsReading (λ v. v.items) (file_at files name.now) result }
 {
     let asked = folder_name(alloc, name)?;
-    match folder.read_file(alloc, asked.as_str()) {
+    let found = folder.read_file(alloc, asked.as_str());
+    drop(asked);
+    match found {
         Ok(Found::Bytes(bytes)) => Ok(bytes),
         Ok(Found::Missing) => Err(InputFault::Refused(file_refusal(
             alloc,
