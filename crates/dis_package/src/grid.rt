@@ -119,7 +119,14 @@ pub fn read_dis<F: Folder>(
     let frame = frame_of(alloc, limits, &mut words, file, line.number)?;
     let laycbd = beds_of(alloc, &mut lines, file, frame.size.layers)?;
     let grid = grid_of(alloc, &mut lines, file, folder, &frame.size, laycbd)?;
-    let periods = periods_of(alloc, &mut lines, file, frame.periods)?;
-    folder.some_agree();
-    Ok(begun_model(alloc, grid, frame.lenuni, periods))
+    match periods_of(alloc, &mut lines, file, frame.periods) {
+        Ok(periods) => {
+            folder.some_agree();
+            Ok(begun_model(alloc, grid, frame.lenuni, periods))
+        }
+        Err(fault) => {
+            drop(grid);
+            Err(InputFault::from(fault))
+        }
+    }
 }
