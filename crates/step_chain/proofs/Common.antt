@@ -1,12 +1,12 @@
 -- Names that several proofs of this crate cite, of the crates below and of its own definitions, passed on from one place. Declares nothing.
-pub use Rattle.std.proofs.Common.{Bool, Contains, List, [], ap, arith, cond, false, get_or, inl, inr, length, neg_ℤ, pos, refl, set, subst, suc, sym, true, ℕ}
-pub use Rattle.std.proofs.Common.{ℤ, ◌*ℤ◌, ◌+◌, ◌-◌, ◌<ℤ◌, ◌<◌, ◌^◌, ◌∙◌, ◌∷◌, ◌≡◌, ◌≤ℤ◌, ◌≤◌}
+pub use Rattle.std.proofs.Common.{Bool, Contains, List, [], ap, arith, cond, false, get_or, inl, inr, length, pos, refl, set, subst, suc, sym, true, ℕ, ℤ, ◌*ℤ◌}
+pub use Rattle.std.proofs.Common.{◌+◌, ◌-◌, ◌<◌, ◌^◌, ◌∙◌, ◌∷◌, ◌≡◌, ◌≤ℤ◌, ◌≤◌}
 pub use Rattle.std.proofs.lemmas.Bool.{and_parts, cases_Bool, cases_order, false_from_ne_true, not-true, true≢false}
 pub use Rattle.std.proofs.lemmas.Int.{clamps, ints}
 pub use Rattle.std.specs.Prelude.{Err, IfOk, Ok, Result, not, ◌&&◌}
 pub use Rattle.barrier_vector.proofs.Outlining.{clamped_at, clamped_fits}
 pub use Rattle.barrier_vector.specs.{BarrierExcludesRefusal, CutBarrierExcludesRefusal, CutBarrierIsOne, CutRefusalIsOne, EnclosesUncut, IsCeiling}
-pub use Rattle.barrier_vector.specs.{IsCutBarrierOf, IsFloor, clamp, clamped}
+pub use Rattle.barrier_vector.specs.{IsCutBarrierOf, IsFloor, clamped}
 pub use Rattle.barrier_vector.specs.declared.BarrierFault.{BarrierFault}
 pub use Rattle.cell_balance.specs.{CellEncloses, EnclosesSolutions, EnclosesStep, ExactCell, IsHeldBelow, LiesBetween, SolvesStep, cell_at, no_cell}
 pub use Rattle.cell_relax.specs.{AreWords}
@@ -35,7 +35,7 @@ pub use Rattle.step_chain.specs.{WideKeepsSteps, bound_at, edges_by, of_barrier,
 pub use Rattle.step_chain.specs.declared.solved.Solved.{Solved}
 pub use Rattle.step_problem.proofs.Pairs.{either_certifies, given_is}
 pub use Rattle.step_problem.specs.{AreInside, AreSettled, Edges, IsBarrier, IsCertificate, IsGiven, IsHead, IsPairOf, IsProblem, IsSettledPair, PairKind}
-pub use Rattle.step_problem.specs.{SettledPairExists, SettledPairIsOne, certified, head_at, head_limit, lower_at, no_bound, settled, upper_at}
+pub use Rattle.step_problem.specs.{SettledPairExists, SettledPairIsOne, certified, head_at, lower_at, no_bound, settled, upper_at}
 pub use Rattle.step_problem.specs.Entries.{Entries}
 pub use Rattle.step_problem.specs.declared.heads.Bound.{Bound}
 pub use Rattle.step_problem.specs.declared.place.NoBound.{NoBound}

@@ -1,11 +1,11 @@
 -- Barriers by limits: each is a cut one, from which settling begins at a barrier of heads.
 use Rattle.step_chain.proofs.Common.{ℕ, ◌<◌, List, length, ℤ, Edges, head_at, IsProblem, Entries, IsBarrierBy, edges_by, Limits, Plain, Wide, IsCutBarrierOf}
 use Rattle.step_chain.proofs.Common.{EnclosesUncut, ClampedPairEncloses, SettledPairEncloses, LiesBetweenBy, Result, Ok, Err, IfOk, BarrierFault, IsBarrier}
-use Rattle.step_chain.proofs.Common.{IsSettledPair, ExactCell, EnclosesStep, SolvesStep, clamped_fits, ◌≡◌, ◌≤ℤ◌, inl, inr, arith, pos, Bound, PairKind}
-use Rattle.step_chain.proofs.Common.{IsPairOf, IsCertificate, lower_at, upper_at, no_bound, neg_ℤ, ◌<ℤ◌, ints, clamps, NoBound, head_limit, AreInside, IsGiven}
-use Rattle.step_chain.proofs.Common.{settled, certified, either_certifies, given_is, clamp, clamped, clamped_at, IsRangeRefusal, IsNoCertificate, Bool}
-use Rattle.step_chain.proofs.Common.{SettledPairExists, TimeStep, exact_step, variable_heads, Decks, EnclosesSteps, IsProblemFor, each_member, of_member}
-use Rattle.step_chain.proofs.Common.{Solved, LieBetween, AreHeadsOf, IsStepBy, EachMember, IsHeldBelow, IsFloor, IsCeiling, LeadsBy, LeadsOrRests, LeadsWithout}
+use Rattle.step_chain.proofs.Common.{IsSettledPair, ExactCell, EnclosesStep, SolvesStep, clamped_fits, inl, inr, arith, Bound, PairKind, IsPairOf}
+use Rattle.step_chain.proofs.Common.{IsCertificate, lower_at, upper_at, no_bound, ints, clamps, NoBound, AreInside, IsGiven, settled, certified}
+use Rattle.step_chain.proofs.Common.{either_certifies, given_is, clamped, clamped_at, IsRangeRefusal, IsNoCertificate, Bool, SettledPairExists, TimeStep}
+use Rattle.step_chain.proofs.Common.{exact_step, variable_heads, Decks, EnclosesSteps, IsProblemFor, each_member, of_member, Solved, LieBetween, AreHeadsOf}
+use Rattle.step_chain.proofs.Common.{IsStepBy, EachMember, IsHeldBelow, IsFloor, IsCeiling, LeadsBy, LeadsOrRests, LeadsWithout}
 use Rattle.barrier_vector.proofs.Floors.{encloses_all}
 use Rattle.barrier_vector.proofs.Cutting.{barrier_is_cut, cut_encloses, cut_holds}
 use Rattle.certificate_check.proofs.Cut.{excludes_refusal}
@@ -47,23 +47,16 @@ module _ (p : List Entries) (fits : IsProblem p) where
   plain_uncut (Err e) h = tt
 
 -- A pair over the clamped barrier: it is a certificate over the cut barrier, or the settled pair is refused.
--- a head above the least one that is at most a clamped floor is at most the floor; below the greatest one, for ceilings
-low_unclamped : (v f g : ℤ) → g ≡ clamp f → neg_ℤ (pos head_limit) <ℤ v → v ≤ℤ g → v ≤ℤ f
-low_unclamped v f g is inside h = omega (arith, ints, clamps, is, inside, h)
-
-high_unclamped : (v f g : ℤ) → g ≡ clamp f → v <ℤ pos head_limit → g ≤ℤ v → f ≤ℤ v
-high_unclamped v f g is inside h = omega (arith, ints, clamps, is, inside, h)
-
 module _ (p : List Entries) (b : Edges) (bounds : List Bound) where
-  -- so no head inside the range needs a bound that was cut
+  -- no head inside the range needs a bound that was cut
   inside_certifies : AreInside p (clamped b) bounds → IsCertificate p b (lower_at bounds) (upper_at bounds)
   inside_certifies h = record {
     low = λ c lt. elim (h.certified.certificate.low c lt) [
-      | inl edge ↦ inl (low_unclamped (lower_at bounds c) (head_at b.floor c) _ (clamped_at b.floor c) (h.inside c no_bound (in_range lt)).0 edge)
+      | inl edge ↦ inl (omega (arith, ints, clamps, clamped_at b.floor c, (h.inside c no_bound (in_range lt)).0))
       | inr sign ↦ inr sign
     ];
     high = λ c lt. elim (h.certified.certificate.high c lt) [
-      | inl edge ↦ inl (high_unclamped (upper_at bounds c) (head_at b.ceiling c) _ (clamped_at b.ceiling c) (h.inside c no_bound (in_range lt)).1 edge)
+      | inl edge ↦ inl (omega (arith, ints, clamps, clamped_at b.ceiling c, (h.inside c no_bound (in_range lt)).1))
       | inr sign ↦ inr sign
     ];
   }
