@@ -48,9 +48,6 @@ drop_far q lo great some small = (le-div_iff_mul-le some).1 (omega arith)
 cut_drop : (q lo : ℕ) → 0 < lo → lo < 2 ^ 60 → min (ceil_over (capped_flow q) lo) path_limit ≡ min (ceil_over q lo) path_limit
 cut_drop q lo some small = grind (arith, cases_lt, drop_far)
 
-cut_sum : (a b r t limit : ℕ) → min a limit ≡ min b limit → min r limit ≡ min t limit → min (a + r) limit ≡ min (b + t) limit
-cut_sum a b r t limit e f = omega (arith, e, f)
-
 -- Paths to roots by the capped flow are paths to the same roots by the whole flow, of the same length up to the limit.
 module _ (p : List Entries) (ok : IsProblem p) (q : ℕ) (R S : ℕ → ℕ → Type 0)
     (to : (c d : ℕ) → R c d → (e : ℕ) × S c e × (min d path_limit ≡ min e path_limit)) (from : (c d : ℕ) → S c d → (e : ℕ) × R c e)
@@ -77,7 +74,7 @@ module _ (p : List Entries) (ok : IsProblem p) (q : ℕ) (R S : ℕ → ℕ → 
         let small = link_small (entries_at p c) (ok.cells c (has_links p c x parent.has)) x parent.has in (
           ceil_over q x.lo + t,
           (x, parent_whole k c x parent, t, whole, refl),
-          ap (λ (n : ℕ). min n path_limit) is ∙ cut_sum (ceil_over (capped_flow q) x.lo) (ceil_over q x.lo) rest t path_limit (cut_drop q x.lo (conducts p ok c x parent.has) small) cut,
+          ap (λ (n : ℕ). min n path_limit) is ∙ omega (arith, cut_drop q x.lo (conducts p ok c x parent.has) small),
         )
 
     pub whole_path : (c s : ℕ) → IsPath p (capped_flow q) R c s → (t : ℕ) × IsPath p q S c t × (min s path_limit ≡ min t path_limit)

@@ -30,11 +30,8 @@ spread_mark m before c v h e = record {
         | inr i ↦ inr (subst (λ (z : ℕ). mark_at m z ≡ None) i e, subst (λ (z : ℕ). mark_at (set m c (Some v)) z ≡ Some v) i (get_or-set_same m c (Some v) None h))
       ];
   keeps = λ k has. Contains-append_left before (c ∷ []) k has;
-  count = counted _ _ _ _ (unmarked-set m c v h e) (length-append before (c ∷ []));
+  count = omega (arith, unmarked-set m c v h e, length-append before (c ∷ []));
 }
-  where
-    counted : (u u' n n' : ℕ) → suc u ≡ u' → n ≡ n' + 1 → u + n ≡ u' + n'
-    counted u u' n n' a b = omega arith
 
 -- a cell with a mark keeps it
 pub spread_marked : (m : List (Option ℕ)) (before : List ℕ) (c v w : ℕ) → mark_at m c ≡ Some w → Spreads (λ k. k ≡ c) v m m before before
