@@ -1,12 +1,12 @@
 -- Names that several proofs of this crate cite, of the crates below and of its own definitions, passed on from one place. Declares nothing.
-pub use Rattle.std.proofs.Common.{Bool, IfOk, List, None, Ok, Option, Result, Some, [], ap, arith, codes, cond, decimal, false, inl, inr, map, refl, rules}
+pub use Rattle.std.proofs.Common.{Bool, Err, IfOk, List, None, Ok, Option, Result, Some, [], ap, arith, codes, cond, decimal, false, inl, inr, map, refl, rules}
 pub use Rattle.std.proofs.Common.{subst, sym, true, ℕ, ◌<◌, ◌^◌, ◌∙◌, ◌∷◌, ◌≡◌, ◌≢◌, ◌≤◌}
 pub use Rattle.std.proofs.lemmas.Bool.{and_parts, le-leb, leb-true}
 pub use Rattle.std.specs.Str.{bytes_eq}
 pub use Rattle.std.specs.Str.Parse.{ParsesUnsigned, digits_value}
-pub use Rattle.clap.specs.Words.{App, HasKind, HasMatchesOf, IsAmong, Kinds, Row, Text, app_of, fault_of, first_of, found_of, is_simple, is_simple_and_free}
-pub use Rattle.clap.specs.Words.{kind_of, subcommand_of, subcommand_rows_of}
-pub use Rattle.command_line.specs.{AskedCheck, Check, IsLocal, Wanted, batch_in, check_in, command_in, digits_in, flag_in, is_number, make_in, number_in}
+pub use Rattle.clap.specs.Words.{AddsArg, AddsSubcommand, App, HasKind, HasMatchesOf, IsAmong, Kinds, Row, Rule, Text, app_of, fault_of, first_of, found_of}
+pub use Rattle.clap.specs.Words.{is_simple, is_simple_and_free, kind_of, rule_of, subcommand_of, subcommand_rows_of, with_rule, with_subcommand}
+pub use Rattle.command_line.specs.{AskedCheck, Check, HasForm, Wanted, batch_in, check_in, command_in, digits_in, flag_in, is_number, make_in, number_in}
 pub use Rattle.command_line.specs.{number_or, rounds_in, run_in, unwatched, wanted_if, wanted_of, watch_in, workers_in, write_in}
-unfoldable pub use Rattle.command_line.specs.{batch_app, check_app, heads_app, make_app, run_app, settling, spanning, with_flag, with_option, with_word}
-unfoldable pub use Rattle.command_line.specs.{write_app}
+unfoldable pub use Rattle.command_line.specs.{batch_app, check_app, heads_app, make_app, needing, run_app, settling, spanning, with_flag, with_option}
+unfoldable pub use Rattle.command_line.specs.{with_word, write_app}

@@ -3,7 +3,7 @@ use Rattle.std.specs.Prelude.{◌≡◌, Some, true, false, codes, List, ℕ}
 use Rattle.clap.specs.declared.builder.action.ArgAction.TheVariants.{SetTrue}
 use Rattle.clap.specs.declared.builder.command.Command.{Command}
 use Rattle.clap.specs.declared.builder.command.Command.TheViews.{out-Command as fields_of}
-use Rattle.clap.specs.Words.{App, Text, new_app, new_rule, with_rule, with_subcommand}
+use Rattle.clap.specs.Words.{App, Text, app_of, new_app, new_rule, with_rule, with_subcommand}
 use Rattle.clap.specs.Simple.{on_top}
 
 -- the command with one more positional word, which must be given
@@ -49,7 +49,7 @@ unfoldable pub write_app : App
 write_app = with_flag (with_word (new_app (codes "write")) (codes "name")) (codes "wide")
 
 -- the same command, which needs a subcommand
-abbrev pub needing : App → App
+unfoldable pub needing : App → App
 needing = on_top (λ s. record s { subcommand_required = true })
 
 unfoldable pub heads_app : App
@@ -58,9 +58,10 @@ heads_app =
     (with_subcommand (with_subcommand (new_app (codes "heads")) run_app.top) check_app.top) make_app.top)
     batch_app.top) write_app.top)
 
--- no argument belongs to all subcommands
-abbrev pub IsLocal : Command → Type 0
-IsLocal c = (fields_of c).has_globals ≡ false
+-- a command of this form, none of whose arguments belongs to all subcommands
+pub record HasForm (form : App) (c : Command) : Type 0 where
+  pub is : app_of c ≡ form
+  pub local : (fields_of c).has_globals ≡ false
 
 -- The line where the words aren't accepted. It names neither `write NAME`, nor `--zones` of `check`, nor `--to` of `run` and `check`,
 -- nor `--quick` of `run` and `batch`, nor `--wide` of all commands but `make`, which are accepted too.

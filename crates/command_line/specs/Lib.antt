@@ -1,8 +1,8 @@
 pub mod Commands
 pub mod Wants
 pub mod Ranges
-pub use Rattle.command_line.specs.Commands.{IsLocal, needing, usage_line}
-unfoldable pub use Rattle.command_line.specs.Commands.{batch_app, check_app, heads_app, make_app, run_app, settling, spanning, with_flag, with_option}
+pub use Rattle.command_line.specs.Commands.{HasForm, usage_line}
+unfoldable pub use Rattle.command_line.specs.Commands.{batch_app, check_app, heads_app, make_app, needing, run_app, settling, spanning, with_flag, with_option}
 unfoldable pub use Rattle.command_line.specs.Commands.{with_word, write_app}
 pub use Rattle.command_line.specs.Ranges.{AreSettlersNumbers, AreTurns, IsMakeable}
 pub use Rattle.command_line.specs.Wants.{Asked, AskedBatch, AskedCheck, Batch, Check, Make, Run, Wanted, Write, asked_of, batch_in, batch_of, check_in}
