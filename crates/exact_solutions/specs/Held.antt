@@ -5,9 +5,9 @@ use Rattle.step_problem.specs.declared.entry.Drain.{Drain}
 use Rattle.step_problem.specs.Entries.{Entries}
 use Rattle.step_problem.specs.{entries_at, IsProblem}
 use Rattle.cell_balance.specs.{Reaches, IsAnchored, IsHeldBelow, ExactCell, cell_at, AreLinked, share, SolvesStep, EnclosesStep, IsClosed, total_inside}
-use Rattle.cell_balance.specs.{deep_flow}
+use Rattle.cell_balance.specs.{deep_flow, one}
 use Rattle.decimal_input.specs.Fractions.{Same, AtMost}
-use Rattle.decimal_input.specs.{whole, Ratio}
+use Rattle.decimal_input.specs.{whole}
 use Rattle.step_problem.specs.declared.entry.FlowKind.TheVariants.{Wells}
 
 -- A cell that is anchored above: a fixed link, a river or a drain of it certainly conducts.
@@ -80,9 +80,6 @@ abbrev pub AfloatHaveAnother : Type 0
 AfloatHaveAnother = (e : List ExactCell) (inside : ℕ → Bool) → AreLinked e → IsAfloat e inside → HasNoneOrMany e
 
 -- Steps that are solved by hand. Lengths in metres; every conductance is 1.
-abbrev pub one : Ratio
-one = record { num = 1; less = 0 }
-
 -- One cell with a river of stage 5 and bottom 0, and a well that takes `taken`. The river gives 5 - head, and below its bottom its deep flow of 5.
 abbrev pub river_and_well : ℕ → List ExactCell
 river_and_well taken = record {
