@@ -41,7 +41,7 @@ pub use Rattle.listing_io.specs.{ListingsAreReadAgain, all_lines, ended, first_l
 unfoldable pub use Rattle.listing_io.specs.{all_step_lines, first_text, step_text}
 pub use Rattle.listing_io.specs.declared.listing.ListedStep.{ListedStep}
 pub use Rattle.listing_run.proofs.HistoriesBound.{AllBoundMoves, BoundsMovesOf, histories_bound}
-pub use Rattle.listing_run.proofs.Unique.{IsRest, first_in, large_one, none_large, ok_not_err, one_err, one_ok, rest_more, rest_whole, same_flows}
+pub use Rattle.listing_run.proofs.Unique.{IsRest, large_one, none_large, ok_not_err, one_err, one_ok, rest_more, rest_whole, same_flows}
 pub use Rattle.listing_run.specs.{AllSteps, AreFlowsAt, AreFlowsOf, BoundAll, BoundBetween, Bounds, BoundsMoves, EnclosesHistories, HasLargeFlowOf}
 pub use Rattle.listing_run.specs.{HistoriesBound, IsStep, Steps, budget_at, deck_task, faces_of, listing, pairs_of, text_of}
 pub use Rattle.listing_run.specs.declared.solving.Step.{Step}
@@ -57,12 +57,13 @@ pub use Rattle.model_types.specs.declared.time_steps.TimeStep.{TimeStep}
 pub use Rattle.problem_builder.proofs.Steps.{cells_of, same_problem}
 pub use Rattle.problem_builder.proofs.TimesOf.{flat-In, time_of}
 pub use Rattle.problem_builder.proofs.Zipped.{left_of, right_of, zip_image}
-pub use Rattle.problem_builder.specs.{AreGridHeads, HeadsEnclose, IsActive, IsProblemOf, whole_cell, whole_evap, whole_fixed, whole_link}
+pub use Rattle.problem_builder.specs.{AreGridHeads, HeadsEnclose, IsActive, IsProblemOf, bound_at, whole_cell, whole_evap, whole_fixed, whole_link}
 pub use Rattle.problem_hull.specs.{cell_hull, cell_shape, evap_hull, fixed_hull, fixed_shape, zip_with}
 pub use Rattle.step_chain.proofs.Assembled.{constant_not_variable, index_below}
+pub use Rattle.step_chain.proofs.Histories.{first_in, lies_encloses, lies_in_first}
 pub use Rattle.step_chain.proofs.Limits.{cut_by}
 pub use Rattle.step_chain.proofs.OneStep.{follows, pair_words, same_bound, same_bounds}
-pub use Rattle.step_chain.specs.{EnclosesMoves, HasNoPose, HeadsFit, IsBarrierBy, IsBarrierFault, IsMove, IsPosed, IsStepBy, bound_at, edges_by}
+pub use Rattle.step_chain.specs.{EnclosesMoves, HasNoPose, HeadsFit, IsBarrierBy, IsBarrierFault, IsMove, IsPosed, IsStepBy, edges_by}
 pub use Rattle.step_chain.specs.declared.solved.Solved.{Solved}
 pub use Rattle.step_problem.specs.{Edges, IsCertificate, IsHead, IsProblem, PairKind, entries_at, lower_at, no_bound, no_entries, total, upper_at}
 pub use Rattle.step_problem.specs.Entries.{Entries}

@@ -1,8 +1,7 @@
 -- Steps that passed the check in turn: they bound every move of their decks, and the decks have one history each.
 use Rattle.check_run.proofs.Common.{Limits, Contains, ℕ, ℤ, List, [], ◌∷◌, Option, map, Bound, TimeStep, FlowModel, start_head, times, Fraction, AreGridHeads}
 use Rattle.check_run.proofs.Common.{HeadsEnclose, ListedStep, BoundsMoves, Passes, checked_task, step_of, steps_of, Decks, AreDecks, HoldsOf, encloses_member}
-use Rattle.check_run.proofs.Common.{AllBoundMoves, HaveOneBy, IsMove, Bounds, member_cells, of_member}
-use Rattle.step_chain.proofs.Histories.{lies_encloses, lies_in_first}
+use Rattle.check_run.proofs.Common.{AllBoundMoves, HaveOneBy, IsMove, Bounds, member_cells, of_member, lies_encloses, lies_in_first}
 use Rattle.exact_histories.proofs.OneTurn.{Lands}
 use Rattle.exact_histories.proofs.Turns.{AreTurns}
 use Rattle.exact_histories.proofs.HaveOne.{have_one_by}

@@ -5,12 +5,12 @@ use Rattle.check_run.proofs.Common.{EnclosesSolutions, exact_step, heads_of, var
 use Rattle.check_run.proofs.Common.{IsActive, bound_at, EncloseExact, exact_faces, exact_flow, ZonePair, CoversFlow, AreWide, ConstantsReach, IsConstantCell}
 use Rattle.check_run.proofs.Common.{variable_bounds, checked_task, step_of, Decks, AreDecks, EachMember, IsMember, AreConstantHeadsFor, ConstantPairEncloses}
 use Rattle.check_run.proofs.Common.{HasCellsOf, cell_of_member, member_cells, of_member, BoundsMovesOf, EnclosesSteps, AllZip-at, AllZip-length, get_or}
-use Rattle.check_run.proofs.Common.{EnclosesSigned, ExactCell, follows, EnclosesMoves, Solved}
+use Rattle.check_run.proofs.Common.{EnclosesSigned, ExactCell, follows, EnclosesMoves, Solved, lies_encloses}
 use Rattle.decimal_input.specs.Fractions.{den}
 use Rattle.problem_builder.specs.GridHeads.{IsNamed}
 use Rattle.decimal_input.proofs.FloorLaws.{mul_mono_right}
 use Rattle.cell_balance.proofs.Deep.{le_trans_z}
-use Rattle.listing_run.proofs.Moves.{flows_enclose, heads_named, within_enclosed}
+use Rattle.listing_run.proofs.Moves.{flows_enclose, heads_named}
 use Rattle.check_run.proofs.RunText.{variable_listed}
 
 -- wider bounds enclose what narrower ones do
@@ -68,5 +68,5 @@ module _ (ds : Decks) (s : ℕ) (at : TimeStep) (old : List Bound) (p : List Ent
       record {
         heads = moved.heads;
         budget = cover listed computed s e (heads_of d Y) covers (terms s e (heads_of d Y) moved.step inside);
-        zones = wide_enclose s e zones (heads_of d X) flows wide.flows wide.wide (flows_enclose zones p heads wide.flows wide.encloses s e (heads_of d X) moved.step (heads_named m p active heads (heads_of d X) (within_enclosed m heads d X move.some moved.heads)));
+        zones = wide_enclose s e zones (heads_of d X) flows wide.flows wide.wide (flows_enclose zones p heads wide.flows wide.encloses s e (heads_of d X) moved.step (heads_named m p active heads (heads_of d X) (lies_encloses m heads d X move.some moved.heads)));
       }

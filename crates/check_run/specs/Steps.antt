@@ -16,7 +16,8 @@ use Rattle.certificate_check.specs.{IsFirstFailing}
 use Rattle.model_types.specs.declared.limits.Limits.{Limits}
 use Rattle.model_types.specs.declared.time_steps.TimeStep.{TimeStep}
 use Rattle.deck_problems.specs.declared.decks.Decks.{Decks}
-use Rattle.step_chain.specs.{IsPosed, HasNoPose, bound_at}
+use Rattle.step_chain.specs.{IsPosed, HasNoPose}
+use Rattle.problem_builder.specs.{bound_at}
 use Rattle.listing_io.specs.declared.listing.ListedStep.{ListedStep}
 use Rattle.listing_run.specs.{AreFlowsOf, HasLargeFlowOf}
 use Rattle.step_problem.specs.declared.heads.Side.TheVariants.{Low, High}

@@ -7,7 +7,7 @@ ghost use Rattle.cell_balance.specs.{IsHeldBelow, EnclosesSolutions};
 ghost use Rattle.barrier_vector.specs.{EnclosesUncut};
 ghost use Rattle.cell_relax.specs.{AreWords};
 ghost use Rattle.certificate_check.specs.{IsFirstFailing};
-ghost use Rattle.step_chain.specs.{bound_at};
+ghost use Rattle.problem_builder.specs.{bound_at};
 ghost use Rattle.check_run.specs.declared.listing.CheckFault.TheVariants.{Fails};
 
 use crate::listing::CheckFault;

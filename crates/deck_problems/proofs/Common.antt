@@ -22,7 +22,7 @@ pub use Rattle.model_types.specs.declared.time_steps.TimeStep.{TimeStep}
 pub use Rattle.problem_builder.proofs.CellFits.{item_is, starts_enclose, starts_fit}
 pub use Rattle.problem_builder.proofs.Steps.{cells_of, unless_parts}
 pub use Rattle.problem_builder.proofs.TimesOf.{time_of}
-pub use Rattle.problem_builder.specs.{AreConstantHeads, AreGridHeads, AreStartHeads, HeadsEnclose, IsActive, IsBuildFault, IsBuilt, IsProblemOf, bound_in}
+pub use Rattle.problem_builder.specs.{AreConstantHeads, AreGridHeads, AreStartHeads, HeadsEnclose, IsActive, IsBuildFault, IsBuilt, IsProblemOf, bound_at}
 pub use Rattle.problem_builder.specs.{constant_bound, each_cell, known_bound, problem_of, start_bound, unless_refused, whole_cell, whole_drain, whole_evap}
 pub use Rattle.problem_builder.specs.{whole_fixed, whole_flow, whole_link, whole_river}
 pub use Rattle.problem_hull.proofs.Fits.{is_problem, lower_head, upper_head}

@@ -3,7 +3,7 @@ use Rattle.deck_problems.proofs.Common.{◌≡◌, ◌∙◌, ◌<◌, ℕ, inl,
 use Rattle.deck_problems.proofs.Common.{IfSome, get_or_default, Bound, IsProblem, Entries, no_entries, FlowModel, TimeStep, IsProblemOf, IsBuildFault}
 use Rattle.deck_problems.proofs.Common.{fixed_shape, fixed_hull, cell_shape, zip_with, IsHull, hull_at, hull_count, hull_keeps, same_lengths, zip_at, zip_left}
 use Rattle.deck_problems.proofs.Common.{Decks, AreConstantHeadsFor, IsSecond, AreDecks, AreHullBounds, HasCellsOf, IsHullRefusal, IsProblemFor, IsFaultFor}
-use Rattle.deck_problems.proofs.Common.{AreConstantHeads, entries_at, get_or-map, none, Bool, false, cond, cell_count, is_constant, no_bound, bound_in}
+use Rattle.deck_problems.proofs.Common.{AreConstantHeads, entries_at, get_or-map, none, Bool, false, cond, cell_count, is_constant, no_bound, bound_at}
 use Rattle.deck_problems.proofs.Common.{known_bound, constant_bound, item_is, IsHullBound, Result, Ok, Err, option_to_list, NoBound, problem_of, unless_refused}
 use Rattle.deck_problems.proofs.Common.{cell_hull, first_refusal, hulled, problem_by}
 use Rattle.step_problem.specs.declared.entry.Fixed.{Fixed}
@@ -42,7 +42,7 @@ hull_cells m at p q r h k = record { cells = hull_keeps p q r h (λ e. e.id) (λ
 -- The constant heads of one deck, and of two.
 
 -- the item of a cell, if its head is constant and if it isn't
-known_at : (m : FlowModel) (at : TimeStep) (xs : List Bound) → AreConstantHeads m at xs → (c : ℕ) → c < cell_count m.grid → (b : Bool) → is_constant m at.period c ≡ b → bound_in xs c ≡ cond b (constant_bound m at c) no_bound
+known_at : (m : FlowModel) (at : TimeStep) (xs : List Bound) → AreConstantHeads m at xs → (c : ℕ) → c < cell_count m.grid → (b : Bool) → is_constant m at.period c ≡ b → bound_at xs c ≡ cond b (constant_bound m at c) no_bound
 known_at m at xs h c lt b e = item_is (known_bound m at) no_bound (cell_count m.grid) xs h c lt ∙ ap (λ q. cond q (constant_bound m at c) no_bound) e
 
 heads_count : (m : FlowModel) (at : TimeStep) (xs : List Bound) → AreConstantHeads m at xs → length xs ≡ cell_count m.grid
@@ -66,9 +66,9 @@ constants_hulled a b at xs ys rs second h k r =
       each = λ c lt.
           let hull = r.each c (omega (arith, lt, heads_count a at xs h)) in
           let below : c < cell_count b.grid = subst (λ (n : ℕ). c < n) (sym cells.count) lt in
-          let of : (q : Bool) → is_constant a at.period c ≡ q → IsHullBound (cond q (constant_bound a at c) no_bound) (cond q (constant_bound b at c) no_bound) (bound_in rs c) =
-          λ q e. subst (λ (x : Bound). IsHullBound x (cond q (constant_bound b at c) no_bound) (bound_in rs c)) (known_at a at xs h c lt q e)
-          (subst (λ (y : Bound). IsHullBound (bound_in xs c) y (bound_in rs c)) (known_at b at ys k c below q (constant_same a b cells at.period c ∙ e)) hull) in
+          let of : (q : Bool) → is_constant a at.period c ≡ q → IsHullBound (cond q (constant_bound a at c) no_bound) (cond q (constant_bound b at c) no_bound) (bound_at rs c) =
+          λ q e. subst (λ (x : Bound). IsHullBound x (cond q (constant_bound b at c) no_bound) (bound_at rs c)) (known_at a at xs h c lt q e)
+          (subst (λ (y : Bound). IsHullBound (bound_at xs c) y (bound_at rs c)) (known_at b at ys k c below q (constant_same a b cells at.period c ∙ e)) hull) in
           record {
             constant = λ e. of true e;
             other = λ e. let none = of false e in let low = none.low in let high = none.high in λ i. record { low = low i; high = high i };

@@ -1,6 +1,6 @@
 -- The bounds of the starting heads of decks.
 use Rattle.deck_problems.proofs.Common.{◌≡◌, ◌<◌, ◌∙◌, ℕ, Option, Some, None, List, length, sym, subst, arith, IfSome, get_or_default, Bound, IsHead, no_bound}
-use Rattle.deck_problems.proofs.Common.{lower_at, upper_at, FlowModel, start_head, IsModel, AreGridHeads, HeadsEnclose, bound_in, lower_head, upper_head}
+use Rattle.deck_problems.proofs.Common.{lower_at, upper_at, FlowModel, start_head, IsModel, AreGridHeads, HeadsEnclose, bound_at, lower_head, upper_head}
 use Rattle.deck_problems.proofs.Common.{IsBetween, hull_of_numbers, starts_between, Decks, IsSecond, HoldsOf, IsHullBound, AreHullBounds, StartHeadsAreOne}
 use Rattle.deck_problems.proofs.Common.{StartHeadsFit, StartHeadsEnclose, AreStartHeads, AreStartHulls, AreStartsBy, AreStartHeadsFor, refl, ext_get_or}
 use Rattle.deck_problems.proofs.Common.{each_cell, start_bound, starts_fit, starts_enclose}
@@ -11,7 +11,7 @@ same_hull : (a b x y : Bound) → IsHullBound a b x → IsHullBound a b y → x 
 same_hull a b x y h k = grind (arith)
 
 one_hulls : (xs ys rs us : List Bound) → AreHullBounds xs ys rs → AreHullBounds xs ys us → rs ≡ us
-one_hulls xs ys rs us h k = ext_get_or no_bound rs us (h.whole ∙ sym k.whole) (λ c lt. let r : c < length xs = omega (arith, lt, h.whole) in same_hull (bound_in xs c) (bound_in ys c) (bound_in rs c) (bound_in us c) (h.each c r) (k.each c r))
+one_hulls xs ys rs us h k = ext_get_or no_bound rs us (h.whole ∙ sym k.whole) (λ c lt. let r : c < length xs = omega (arith, lt, h.whole) in same_hull (bound_at xs c) (bound_at ys c) (bound_at rs c) (bound_at us c) (h.each c r) (k.each c r))
 
 module _ (a b : FlowModel) (valid : IsModel a) (second : IsSecond a b) (x : List Bound) (h : AreStartHulls a b x) where
   abbrev xs : List Bound
@@ -26,7 +26,7 @@ module _ (a b : FlowModel) (valid : IsModel a) (second : IsSecond a b) (x : List
   second_grid : AreGridHeads b ys
   second_grid = starts_fit b ys second.model refl
 
-  each_fits : (c : ℕ) → c < length xs → IsHead (bound_in x c).low × IsHead (bound_in x c).high
+  each_fits : (c : ℕ) → c < length xs → IsHead (bound_at x c).low × IsHead (bound_at x c).high
   each_fits c lt =
       let below : c < length ys = omega (arith, lt, first_grid.whole, second_grid.whole, (second_cells a b second).count) in
       let p = first_grid.range c no_bound lt in

@@ -3,7 +3,7 @@ use Rattle.std.specs.Prelude.{◌≡◌, ℕ, ◌<◌, List, length, map, ℤ, t
 use Rattle.model_types.specs.declared.model.FlowModel.{FlowModel}
 use Rattle.model_types.specs.{given_heads, variable_cells, cell_count, is_constant, IsModel}
 use Rattle.problem_builder.specs.{AreTables, ArePeriodTables, AreEvenStorages, BothOrNone, AreConstantHeads, HeadsEnclose, IsActive, IsProblemOf}
-use Rattle.problem_builder.specs.{IsConstantPair, AreStartHeads, bound_in, Filled, each_cell, start_bound, constant_bound}
+use Rattle.problem_builder.specs.{IsConstantPair, AreStartHeads, bound_at, Filled, each_cell, start_bound, constant_bound}
 use Rattle.deck_problems.specs.declared.decks.Decks.{Decks}
 use Rattle.deck_problems.specs.declared.kept.RunTables.{RunTables}
 use Rattle.deck_problems.specs.declared.problem.DeckTables.{DeckTables}
@@ -95,7 +95,7 @@ IsHullBound x y r = IsHullPair x.low x.high y.low y.high r.low r.high
 -- each bound is the hull of the two bounds at its place
 pub record AreHullBounds (xs ys rs : List Bound) : Type 0 where
   pub whole : length rs ≡ length xs
-  pub each : (c : ℕ) → c < length xs → IsHullBound (bound_in xs c) (bound_in ys c) (bound_in rs c)
+  pub each : (c : ℕ) → c < length xs → IsHullBound (bound_at xs c) (bound_at ys c) (bound_at rs c)
 
 -- The bounds of the heads before the first step: those of STRT of the one deck, or the hulls of both decks' ones.
 abbrev pub AreStartHulls : FlowModel → FlowModel → List Bound → Type 0

@@ -1,7 +1,7 @@
 // The heads before the first time step.
 ghost use Rattle.std.specs.Prelude.{IfOk, ◌≡◌, ◌<◌, length};
 ghost use Rattle.model_types.specs.{start_head};
-ghost use Rattle.problem_builder.specs.{AreGridHeads, HeadsEnclose, bound_in};
+ghost use Rattle.problem_builder.specs.{AreGridHeads, HeadsEnclose, bound_at};
 ghost use Rattle.deck_problems.specs.{AreDecks, EachMember, AreStartHeadsFor, IsHullBound, AreHullBounds};
 
 use crate::decks::Decks;
@@ -32,7 +32,7 @@ pub fn start_heads_for(alloc: Global, decks: &Decks) -> Result<Listed<Bound>, Al
 
 fn bound_at(bounds: &[Bound], cell: usize) -> Bound
     requires { cell < length bounds.now }
-    ensures { result ≡ bound_in bounds.now cell }
+    ensures { result ≡ bound_at bounds.now cell }
 {
     bounds[cell]
 }

@@ -34,8 +34,9 @@ pub use Rattle.run_puts.proofs.Pieces.{IsAt, IsLate, at_more, ends_or_lacks, joi
 pub use Rattle.run_puts.proofs.Pieces.{tail_late, weaker}
 pub use Rattle.run_puts.specs.{IsEnd, IsLast, IsPut, IsRun, IsWanting, Text, end_line, memory_put, status_after, wanting, whole}
 pub use Rattle.run_puts.specs.declared.puts.Status.{Status}
+pub use Rattle.step_chain.proofs.Histories.{first_in, lies_encloses}
 pub use Rattle.step_chain.specs.{EnclosesMoves, HeadsFit, IsMove, IsPosed, IsSettledStep, IsStepBy, LeadsBy, LeadsOrRests, LieBetween, LiesBetweenBy}
-pub use Rattle.step_chain.specs.{LiesWithin, StepExcludesRefusal, StepIsOne, WideKeepsSteps, edges_by}
+pub use Rattle.step_chain.specs.{StepExcludesRefusal, StepIsOne, WideKeepsSteps, edges_by}
 pub use Rattle.step_chain.specs.declared.solved.Solved.{Solved}
 pub use Rattle.step_problem.specs.{Edges, IsSettledPair, PairKind, RoundsSettleBoth, entries_at, lower_at, upper_at}
 pub use Rattle.step_problem.specs.Entries.{Entries}

@@ -1,9 +1,8 @@
 -- Steps that bound every move of their decks bound every history.
 use Rattle.listing_run.proofs.Common.{◌≡◌, ℕ, List, [], ◌∷◌, ◌<◌, length, arith, ℤ, Option, Some, None, Fraction, Bound, FlowModel, TimeStep, start_head, times}
 use Rattle.listing_run.proofs.Common.{SolvesFrom, heads_of, HeadsEnclose, HoldsOf, between_cells, encloses_member, encloses_first, IsMove, Task, Step, Bounds}
-use Rattle.listing_run.proofs.Common.{BoundAll, BoundBetween, HistoriesBound}
+use Rattle.listing_run.proofs.Common.{BoundAll, BoundBetween, HistoriesBound, lies_encloses}
 use Rattle.deck_span.specs.{SolvesBetweenFrom}
-use Rattle.listing_run.proofs.Moves.{within_enclosed}
 
 -- the step v bounds every move of the model m
 abbrev pub BoundsMovesOf : Task → TimeStep → List Bound → Step → FlowModel → Type 0
@@ -29,7 +28,7 @@ module _ (k : Task) (a : FlowModel) (d : ℕ) (some : 0 < d) where
   one_bound (at ∷ ats) old (v ∷ values) before [] many moves olds h = absurd h
   one_bound (at ∷ ats) old (v ∷ values) before (X ∷ Xs) many moves olds h =
       let b = moves.0 before d X (record { within = olds; some = some; solves = h.0 }) in
-      (b, one_bound ats v.heads values (heads_of d X) Xs (omega (arith, many)) moves.1 (within_enclosed a v.heads d X some b.heads) h.1)
+      (b, one_bound ats v.heads values (heads_of d X) Xs (omega (arith, many)) moves.1 (lies_encloses a v.heads d X some b.heads) h.1)
 
   module _ (b : FlowModel) where
     two_bound : (ats : List TimeStep) (old : List Bound) (values : List Step) (before : ℕ → Fraction) (Xs : List (ℕ → ℤ)) → length ats ≡ length values → AllBoundMoves k a (Some b) old ats values →
@@ -43,7 +42,7 @@ module _ (k : Task) (a : FlowModel) (d : ℕ) (some : 0 < d) where
         let m = h.0.model in
         let cells = between_cells a m b h.0.between in
         let c = moves.0 m h.0.between before d X (record { within = encloses_member a m cells old before olds; some = some; solves = h.0.solves }) in
-        (c, two_bound ats v.heads values (heads_of d X) Xs (omega (arith, many)) moves.1 (encloses_first a m cells v.heads (heads_of d X) (within_enclosed m v.heads d X some c.heads)) h.1)
+        (c, two_bound ats v.heads values (heads_of d X) Xs (omega (arith, many)) moves.1 (encloses_first a m cells v.heads (heads_of d X) (lies_encloses m v.heads d X some c.heads)) h.1)
 
 pub histories_bound : (k : Task) (a : FlowModel) (o : Option FlowModel) (start : List Bound) (values : List Step) → length (times a) ≡ length values → AllBoundMoves k a o start (times a) values →
     HoldsOf a o (λ m. HeadsEnclose m start (start_head m)) → HistoriesBound k a o values

@@ -2,10 +2,10 @@
 use Rattle.listing_run.proofs.Common.{◌≡◌, ℕ, length, List, ◌∷◌, ℤ, Ok, Err, Result, subst, refl, ◌-◌, ◌<◌, inl, inr, All, arith, Option, Some, None, []}
 use Rattle.listing_run.proofs.Common.{Fraction, EnclosesSigned, Bound, NoBound, ZoneFlow, RoundsSettleBoth, lower_at, upper_at, PairKind, entries_at, Budget}
 use Rattle.listing_run.proofs.Common.{TimeStep, heads_of, variable_heads, exact_step, Solved, EachMember, each_member, of_member, member_cells, cell_of_member}
-use Rattle.listing_run.proofs.Common.{IsMove, EnclosesMoves, IsStepBy, edges_by, LiesWithin, WideKeepsSteps, Task, Step, IsActive, HeadsEnclose, AreFlowsAt}
-use Rattle.listing_run.proofs.Common.{IsStep, HasNoBound, no_heads, no_budget, no_zones, budget_at, Bounds, BoundsMoves, HasLargeFlow, StopsAt, stop_of}
-use Rattle.listing_run.proofs.Common.{pairs_of, IsSolved, FlowsEnclose, WideKeepsListings, deck_task, IfSome, Entries, FlowModel, cell_count, times}
-use Rattle.listing_run.proofs.Common.{EnclosesStep, ExactCell, Limits, Plain, Wide}
+use Rattle.listing_run.proofs.Common.{IsMove, EnclosesMoves, IsStepBy, edges_by, WideKeepsSteps, Task, Step, IsActive, HeadsEnclose, AreFlowsAt, IsStep}
+use Rattle.listing_run.proofs.Common.{HasNoBound, no_heads, no_budget, no_zones, budget_at, Bounds, BoundsMoves, HasLargeFlow, StopsAt, stop_of, pairs_of}
+use Rattle.listing_run.proofs.Common.{IsSolved, FlowsEnclose, WideKeepsListings, deck_task, IfSome, Entries, FlowModel, cell_count, times, EnclosesStep}
+use Rattle.listing_run.proofs.Common.{ExactCell, Limits, Plain, Wide, lies_encloses}
 use Rattle.zone_flows.specs.{EncloseExact, HeadsLieWithin}
 use Rattle.step_chain.specs.{FailsBy as StepFailsBy}
 use Rattle.problem_builder.specs.GridHeads.{IsNamed}
@@ -20,10 +20,6 @@ use Rattle.step_chain.specs.declared.solved.StepFault.TheVariants as chain
 use Rattle.listing_run.specs.declared.text.ListingEnd.TheVariants as ends
 
 -- The flows between the zones of a task, by the clauses of their call.
--- a vector that lies within heads is enclosed by them
-pub within_enclosed : (m : FlowModel) (heads : List Bound) (d : ℕ) (X : ℕ → ℤ) → 0 < d → LiesWithin m heads d X → HeadsEnclose m heads (heads_of d X)
-within_enclosed m heads d X some h = grind (arith)
-
 -- What holds of all active cells holds of all that a problem names.
 module _ (m : FlowModel) (p : List Entries) (named : (c : ℕ) → IsNamed p c → IsActive m c) where
   own : (P : ℕ → Type 0) → ((c : ℕ) → IsActive m c → P c) → (k : ℕ) → k < length p → P (entries_at p k).id
@@ -103,7 +99,7 @@ module _ (k : Task) (at : TimeStep) where
         record {
           heads = e.heads;
           budget = terms k.digits (exact_step m at.period at.step before) (heads_of d Y) e.step (within (length x.problem) d Y (lower_at x.bounds) (upper_at x.bounds) move.some e.variables);
-          zones = flows_enclose k.zones x.problem x.heads flows zones k.digits (exact_step m at.period at.step before) (heads_of d X) e.step (heads_named m x.problem named_in x.heads (heads_of d X) (within_enclosed m x.heads d X move.some e.heads));
+          zones = flows_enclose k.zones x.problem x.heads flows zones k.digits (exact_step m at.period at.step before) (heads_of d X) e.step (heads_named m x.problem named_in x.heads (heads_of d X) (lies_encloses m x.heads d X move.some e.heads));
         })
 
 -- What is listed with plain limits is listed with wide ones: step by step.

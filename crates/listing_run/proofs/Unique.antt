@@ -4,6 +4,7 @@ use Rattle.listing_run.proofs.Common.{Budget, TimeStep, times, AreDecks, AreGrid
 use Rattle.listing_run.proofs.Common.{budget_at, HasNoBound, no_heads, no_budget, no_zones, AllSettle, IsSettledStep, IsStepBy, pairs_of, IsSolved}
 use Rattle.listing_run.proofs.Common.{if◌then◌else◌, PairKind, false, StepIsOne, StepExcludesRefusal, HeadsFit, ListingIsOne, ListingExcludesRefusal}
 use Rattle.listing_run.proofs.Common.{SettledListingIsClosed, RefusalIsOne, IsBefore, StartHeadsAreOne, StartHeadsFit, Entries, AreFlowsOf, HasLargeFlowOf}
+use Rattle.listing_run.proofs.Common.{first_in}
 use Rattle.listing_run.specs.{Steps}
 use Rattle.step_problem.specs.{settled as settled_kind, certified as certified_kind}
 use Rattle.step_chain.specs.{RefusalIsOne as StepRefusalIsOne}
@@ -61,9 +62,6 @@ pub record IsRest (all rest : List TimeStep) : Type 0 where
 
 pub rest_whole : (all : List TimeStep) → IsRest all all
 rest_whole all = record { each = λ at h. h }
-
-pub first_in : (at : TimeStep) (rest : List TimeStep) → Contains (at ∷ rest) at
-first_in at rest = (0, omega arith, refl)
 
 pub rest_more : (all : List TimeStep) (at : TimeStep) (rest : List TimeStep) → IsRest all (at ∷ rest) → IsRest all rest
 rest_more all at rest h = record { each = λ t (k, lt, is). h.each t (suc k, omega (arith, lt), is) }

@@ -18,6 +18,6 @@ pub use Rattle.problem_builder.specs.Problems.{AreCells, HasNoProblem, HasPair, 
 pub use Rattle.problem_builder.specs.Problems.{has_small_branch, is_branch, refusal_of, unless_refused}
 unfoldable pub use Rattle.problem_builder.specs.Problems.{fault_of, problem_of}
 pub use Rattle.problem_builder.specs.Tables.{AreEvenStorages, AreInputs, ArePeriodTables, AreStepTables, AreTables, Inputs, IsEvaporated, IsIndex, IsKept}
-pub use Rattle.problem_builder.specs.Tables.{IsKind, IsRecharged, bound_in, item_in, no_pair, no_span, pair_at, pair_in, span_in}
+pub use Rattle.problem_builder.specs.Tables.{IsKind, IsRecharged, bound_at, item_in, no_pair, no_span, pair_at, pair_in, span_in}
 pub use Rattle.problem_builder.specs.Widths.{BothOrNone, Filled, HasConductance, IsBedBelow, IsBedOf, IsBranch, IsNoBed, IsThickness, column_half, face_pair}
 pub use Rattle.problem_builder.specs.Widths.{layer_half, row_half}

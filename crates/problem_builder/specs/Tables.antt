@@ -61,8 +61,9 @@ no_span = record { lo = no_decimal; hi = no_decimal }
 abbrev pub span_in : List Span → ℕ → Span
 span_in xs c = slice_index_or xs c no_span
 
-abbrev pub bound_in : List Bound → ℕ → Bound
-bound_in xs c = slice_index_or xs c no_bound
+-- the bound of a cell, or of an index
+abbrev pub bound_at : List Bound → ℕ → Bound
+bound_at xs c = slice_index_or xs c no_bound
 
 -- an optional item of a table
 abbrev pub item_in : {X : Type 0} → List (Option X) → ℕ → Option X

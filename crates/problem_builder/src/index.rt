@@ -2,7 +2,7 @@
 ghost use Rattle.std.specs.Prelude.{◌≡◌, ◌<◌, IfOk, ◌+◌, ◌≤◌, length, slice_index_or};
 ghost use Rattle.model_types.specs.declared.given_heads.Kind.TheVariants.{NoFlow};
 ghost use Rattle.model_types.specs.{cell_count, HasSize, is_variable, given_heads, IsModel};
-ghost use Rattle.problem_builder.specs.{Filled, IsIndex, AreTables, ArePeriodTables, AreEvenStorages, bound_in};
+ghost use Rattle.problem_builder.specs.{Filled, IsIndex, AreTables, ArePeriodTables, AreEvenStorages, bound_at};
 
 use crate::evaporation::evaps;
 use crate::given::{kept_heads, last_entries};
@@ -167,7 +167,7 @@ impl PeriodTables {
     /// The head that a constant-head cell keeps.
     pub fn kept_at(&self, cell: u32) -> Bound
         requires { cell < length self.now.kept }
-        ensures { result ≡ bound_in self.now.kept cell }
+        ensures { result ≡ bound_at self.now.kept cell }
     {
         self.kept.as_slice()[cell as usize]
     }

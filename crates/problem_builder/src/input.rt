@@ -2,7 +2,7 @@
 ghost use Rattle.std.specs.Prelude.{◌≡◌, ◌<◌};
 ghost use Rattle.model_types.specs.{cell_count, kind_of, is_variable, is_constant, index_of, period_at};
 ghost use Rattle.problem_builder.specs.LocalBounds.{local_in};
-ghost use Rattle.problem_builder.specs.Tables.{AreInputs, bound_in};
+ghost use Rattle.problem_builder.specs.Tables.{AreInputs, bound_at};
 
 use crate::entries::CellEntries;
 use crate::index::PeriodTables;
@@ -51,7 +51,7 @@ impl<'a> StepInput<'a> {
     pub fn given_head(&self, cell: u32) -> Bound
         requires input { AreInputs self.now }
         requires cell { cell < cell_count self.now.model.grid }
-        ensures { result ≡ bound_in self.now.step.heads cell }
+        ensures { result ≡ bound_at self.now.step.heads cell }
     {
         self.step.heads.as_slice()[cell as usize]
     }
@@ -60,7 +60,7 @@ impl<'a> StepInput<'a> {
     pub fn old_head(&self, cell: u32) -> Bound
         requires input { AreInputs self.now }
         requires cell { cell < cell_count self.now.model.grid }
-        ensures { result ≡ bound_in self.now.old cell }
+        ensures { result ≡ bound_at self.now.old cell }
     {
         self.old[cell as usize]
     }

@@ -27,11 +27,11 @@ pub use Rattle.model_types.specs.declared.model.FlowModel.{FlowModel}
 pub use Rattle.model_types.specs.declared.time_steps.TimeStep.{TimeStep}
 pub use Rattle.problem_builder.proofs.Members.{In-Contains, constant_active, variable_active}
 pub use Rattle.problem_builder.proofs.Steps.{not_refused, same_problem, same_refusal}
-pub use Rattle.problem_builder.specs.{AreGridHeads, HeadsEnclose, IsActive}
+pub use Rattle.problem_builder.specs.{AreGridHeads, HeadsEnclose, IsActive, bound_at}
 pub use Rattle.step_chain.specs.{AreHeadsOf, AreSteps, EnclosesMove, EnclosesMoves, FailsBy, HasNoBarrier, HasNoHeads, HasNoPose, HeadsFit, HistoriesLieWithin}
 pub use Rattle.step_chain.specs.{IsBarrierBy, IsBarrierFault, IsMove, IsNoCertificate, IsPosed, IsStepBy, LeadsBy, LeadsOrRests, LeadsWithout, LeavesRange}
 pub use Rattle.step_chain.specs.{LieBetween, LieWithin, LiesBetweenBy, LiesWithin, RefusalIsOne, SettlesNot, StepEncloses, StepExcludesRefusal, StepIsOne}
-pub use Rattle.step_chain.specs.{WideKeepsSteps, bound_at, edges_by, of_barrier, two}
+pub use Rattle.step_chain.specs.{WideKeepsSteps, edges_by, of_barrier, two}
 pub use Rattle.step_chain.specs.declared.solved.Solved.{Solved}
 pub use Rattle.step_problem.proofs.Pairs.{either_certifies, given_is}
 pub use Rattle.step_problem.specs.{AreInside, AreSettled, Edges, IsBarrier, IsCertificate, IsGiven, IsHead, IsPairOf, IsProblem, IsSettledPair, PairKind}

@@ -5,5 +5,4 @@ pub use Rattle.step_chain.specs.Enclosing.{EnclosesMove, EnclosesMoves, HasNoBar
 pub use Rattle.step_chain.specs.Enclosing.{LieBetween, LiesBetweenBy, LiesWithin, edges_by}
 pub use Rattle.step_chain.specs.Faults.{FailsBy, IsNoCertificate, SettlesNot, of_barrier, of_build, of_settle}
 pub use Rattle.step_chain.specs.Steps.{AreAllSteps, AreHeadsOf, AreSteps, HasNoHeads, HasNoPose, HeadsFit, HistoriesLieWithin, IsPosed, IsSettledStep, IsStepBy}
-pub use Rattle.step_chain.specs.Steps.{LeavesRange, LieWithin, RefusalIsOne, SettlesIn, StepEncloses, StepExcludesRefusal, StepIsOne, WideKeepsSteps, bound_at}
-pub use Rattle.step_chain.specs.Steps.{two}
+pub use Rattle.step_chain.specs.Steps.{LeavesRange, LieWithin, RefusalIsOne, SettlesIn, StepEncloses, StepExcludesRefusal, StepIsOne, WideKeepsSteps, two}

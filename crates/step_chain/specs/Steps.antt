@@ -1,5 +1,5 @@
 -- A time step of one deck, or of two: its problem, from the heads before it, its barrier, its settled pair, and the heads of all cells; or why it has none.
-use Rattle.std.specs.Prelude.{ℕ, ◌⊎◌, List, ℤ, [], ◌∷◌, Some, ◌≡◌, ◌<◌, true, false, length, slice_index_or}
+use Rattle.std.specs.Prelude.{ℕ, ◌⊎◌, List, ℤ, [], ◌∷◌, Some, ◌≡◌, ◌<◌, true, false, length}
 use Rattle.step_problem.specs.declared.heads.Bound.{Bound}
 use Rattle.step_problem.specs.declared.place.NoBound.{NoBound}
 use Rattle.step_problem.specs.Entries.{Entries}
@@ -14,14 +14,10 @@ use Rattle.step_chain.specs.declared.solved.Solved.{Solved}
 use Rattle.step_chain.specs.Enclosing.{IsBarrierBy, HasNoBarrier, edges_by, LiesWithin, EnclosesMoves}
 use Rattle.model_types.specs.declared.model.FlowModel.{FlowModel}
 use Rattle.model_types.specs.{times, cell_count, is_active, is_variable, is_constant, index_of}
-use Rattle.problem_builder.specs.{AreGridHeads}
+use Rattle.problem_builder.specs.{AreGridHeads, bound_at}
 use Rattle.deck_span.specs.{SolvesBetween}
 
 -- The heads of all cells of the grid at the end of a step, from those of its variable cells.
--- the bound of a cell, or of an index
-abbrev pub bound_at : List Bound → ℕ → Bound
-bound_at bounds c = slice_index_or bounds c no_bound
-
 -- One bound for each cell of the grid, by cell number: a variable cell has that of its index, a constant-head cell
 -- that of its head at this time, or the hull of both decks' ones, a cell without flow zeros.
 pub record AreHeadsOf (d : Decks) (at : TimeStep) (bounds heads : List Bound) : Type 0 where

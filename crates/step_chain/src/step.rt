@@ -2,10 +2,10 @@
 ghost use Rattle.std.specs.Prelude.{◌≡◌, ◌≤◌, ℕ, Contains, IfOk, IfErr, MatchResult, true};
 ghost use Rattle.cell_relax.specs.{AreWords};
 ghost use Rattle.model_types.specs.{times, HasSize};
-ghost use Rattle.problem_builder.specs.{AreGridHeads, IsActive, ArePeriodTables};
+ghost use Rattle.problem_builder.specs.{AreGridHeads, IsActive, ArePeriodTables, bound_at};
 ghost use Rattle.problem_builder.specs.GridHeads.{IsNamed};
 ghost use Rattle.deck_problems.specs.{AreDecks, EachMember, AreDeckTables, digits_of, AreConstantHeadsFor};
-ghost use Rattle.step_chain.specs.{IsStepBy, bound_at, AreHeadsOf, FailsBy, LeadsBy, LeadsOrRests, EnclosesMoves};
+ghost use Rattle.step_chain.specs.{IsStepBy, AreHeadsOf, FailsBy, LeadsBy, LeadsOrRests, EnclosesMoves};
 
 use crate::laws::{heads_fit, steps_enclose};
 use crate::solved::{Solved, StepFault, barrier_by, settle_by};
@@ -13,6 +13,7 @@ use certificate_check::laws::{clamped_pair_encloses, settled_pair_encloses};
 use deck_problems::{DeckTables, Decks, problem_for};
 use model_types::{Kind, Limits, Listed, TimeStep};
 use problem_builder::PeriodTables;
+use problem_builder::start::NO_BOUND;
 use std::alloc::Global;
 use step_problem::laws::settled_pair;
 use step_problem::{Bound, Settler};
@@ -109,15 +110,13 @@ pub fn next_step<S: Settler>(
 
 // The heads of all cells of the grid.
 
-const NONE: Bound = Bound { low: 0, high: 0 };
-
 // The bound of an index, zeros past the end.
 fn bound_at(bounds: &[Bound], index: u32) -> Bound
     ensures { result ≡ bound_at bounds.now index }
 {
     match bounds.get(index as usize) {
         Some(bound) => *bound,
-        None => NONE,
+        None => NO_BOUND,
     }
 }
 

@@ -14,9 +14,9 @@ pub use Rattle.deck_problems.specs.{IsBefore, one_deck}
 pub use Rattle.model_types.specs.{IsModel, cell_count, index_of, is_active, is_variable, times}
 pub use Rattle.model_types.specs.declared.model.FlowModel.{FlowModel}
 pub use Rattle.model_types.specs.declared.time_steps.TimeStep.{TimeStep}
-pub use Rattle.problem_builder.specs.{AreGridHeads, IsConstantPair, ProblemFits, StartHeadsFit, constant_bound, each_cell, problem_of, start_bound}
+pub use Rattle.problem_builder.specs.{AreGridHeads, IsConstantPair, ProblemFits, StartHeadsFit, bound_at, constant_bound, each_cell, problem_of, start_bound}
 pub use Rattle.step_chain.proofs.Limits.{edges_fit}
-pub use Rattle.step_chain.specs.{AreHeadsOf, HasNoHeads, HeadsFit, IsSettledStep, bound_at, edges_by}
+pub use Rattle.step_chain.specs.{AreHeadsOf, HasNoHeads, HeadsFit, IsSettledStep, edges_by}
 pub use Rattle.step_chain.specs.declared.solved.Solved.{Solved}
 pub use Rattle.step_or_refusal.specs.{BarrierOrRefusal, CutBarrierOrRefusal, ListingOrRefusal, StepOrRefusal}
 pub use Rattle.step_problem.specs.{AreSettled, Edges, IsCertificate, IsFirstSettled, IsProblem, IsSettledPair, SettledPairExists, entries_at, head_at}

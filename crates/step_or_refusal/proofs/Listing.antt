@@ -8,7 +8,8 @@ use Rattle.listing_run.specs.declared.solving.Step.{Step}
 use Rattle.listing_run.specs.declared.steps.Task.{Task}
 use Rattle.listing_run.specs.{budget_at, IsSolved, IsStep, HasNoBound, no_heads, no_budget, no_zones, one_task, pairs_of, flows_or_large, Steps}
 use Rattle.zone_pairs.specs.{AreZones}
-use Rattle.listing_run.proofs.Unique.{IsRest, rest_whole, rest_more, first_in}
+use Rattle.listing_run.proofs.Unique.{IsRest, rest_whole, rest_more}
+use Rattle.step_chain.proofs.Histories.{first_in}
 use Rattle.step_or_refusal.proofs.Step.{ok_or_err}
 use Rattle.listing_run.specs.declared.text.ListingEnd.TheVariants as ends
 
