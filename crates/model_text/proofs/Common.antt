@@ -63,6 +63,7 @@ unfoldable pub use Rattle.name_file.specs.{after_line, after_lines, after_packag
 pub use Rattle.name_file.specs.Pairs.{Pairs}
 pub use Rattle.name_file.specs.declared.package.Package.{Package}
 pub use Rattle.name_file.specs.declared.package.Package.TheVariants.{Bas, Chd, Dis, Drn, Evt, Ghb, Lpf, Rch, Riv, Wel}
+pub use Rattle.number_limits.proofs.SignLemmas.{positive_is}
 pub use Rattle.number_limits.specs.{is_positive, within}
 unfoldable pub use Rattle.number_limits.specs.{is_at_least, is_at_most}
 pub use Rattle.outside.specs.{File, FileSet, bytes_under, file_at, folder_name, with_limit, words}

@@ -1,11 +1,11 @@
 -- DIS items 3 to 6 are read as written.
-use Rattle.model_text.proofs.Common.{◌≡◌, ℕ, ◌+◌, ◌*◌, ◌<◌, ◌≤◌, Bool, true, false, if◌then◌else◌, List, [], ◌++◌, length, take, replicate, nat_lt, All, refl}
-use Rattle.model_text.proofs.Common.{arith, list_all, All-weaker, nat_tests, Dec, IsDec, FileSet, real, real_layer, Grid, layer_size, cell_count, HasSize}
-use Rattle.model_text.proofs.Common.{IsGrid, int_at, is_nonzero, no_number, IsPositive, is_positive, layer_or, number_word, real_array, one, real_one}
-use Rattle.model_text.proofs.Common.{reals_written, arrays, layer_values, each_layer, dis_item_3, dis_item_4, dis_item_5, dis_item_6, IsOfBeds, ◌-◌, drop, ◌∙◌}
-use Rattle.model_text.proofs.Common.{length-drop, length-take-le, take_all, All-take, All-drop, array_takes, Takes, takes_none, takes_where, then_takes}
-use Rattle.model_text.proofs.Common.{last_takes, counted_take, widths, bottom_at, bottoms_of, grid_of, drop-take, take-append-drop, take-take}
-use Rattle.model_text.proofs.Common.{list_all-from_AllPass}
+use Rattle.model_text.proofs.Common.{◌≡◌, ℕ, ◌+◌, ◌*◌, ◌<◌, ◌≤◌, Bool, true, false, if◌then◌else◌, List, [], ◌++◌, length, take, replicate, All, refl, arith}
+use Rattle.model_text.proofs.Common.{list_all, All-weaker, Dec, IsDec, FileSet, real, real_layer, Grid, layer_size, cell_count, HasSize, IsGrid, int_at}
+use Rattle.model_text.proofs.Common.{is_nonzero, no_number, IsPositive, is_positive, layer_or, number_word, real_array, one, real_one, reals_written, arrays}
+use Rattle.model_text.proofs.Common.{layer_values, each_layer, dis_item_3, dis_item_4, dis_item_5, dis_item_6, IsOfBeds, ◌-◌, drop, ◌∙◌, length-drop}
+use Rattle.model_text.proofs.Common.{length-take-le, take_all, All-take, All-drop, array_takes, Takes, takes_none, takes_where, then_takes, last_takes}
+use Rattle.model_text.proofs.Common.{counted_take, widths, bottom_at, bottoms_of, grid_of, drop-take, take-append-drop, take-take, list_all-from_AllPass}
+use Rattle.model_text.proofs.Common.{positive_is}
 use Rattle.dis_package.specs.declared.frame.Size.{Size}
 use Rattle.dis_package.specs.declared.bottoms.Bottoms.{Bottoms}
 use Rattle.model_text.specs.{real_layer as real_layer_lines}
@@ -31,11 +31,8 @@ module _ (g : Grid) where
   pub all_layers : {X : Type 0} (xs : List X) → length xs ≡ cell_count g → take (g.layers * layer_size g) xs ≡ xs
   all_layers xs e = take_all (g.layers * layer_size g) xs (omega arith)
 
-pub is_above : (d : Dec) → IsPositive d → is_positive d ≡ true
-is_above d h = let some : nat_lt 0 d.digits ≡ true = grind (arith, nat_tests, h.positive) in rw (h.sign, some) refl
-
 all_above : (xs : List Dec) → All (λ d. IsPositive d) xs → list_all is_positive xs ≡ true
-all_above xs h = list_all-from_AllPass is_positive xs (All-weaker (λ d. IsPositive d) (λ d. is_positive d ≡ true) is_above xs h)
+all_above xs h = list_all-from_AllPass is_positive xs (All-weaker (λ d. IsPositive d) (λ d. is_positive d ≡ true) positive_is xs h)
 
 -- an array of widths
 widths_take : (files : FileSet) (file : List ℕ) (count : ℕ) (xs : List Dec) → 1 ≤ count → (length xs ≡ count) × All (λ d. IsPositive d) xs → Takes (widths files file count) (real_array 1 count xs) (λ left. (xs, left))

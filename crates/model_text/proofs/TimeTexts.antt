@@ -3,12 +3,11 @@ use Rattle.model_text.proofs.Common.{◌≡◌, ℕ, ◌+◌, ◌*◌, ◌≤◌
 use Rattle.model_text.proofs.Common.{refl, arith, codes, decimal, All-head, All-tail, nat_tests, Dec, IsDec, Refusal, repeated, Period, without_stresses}
 use Rattle.model_text.proofs.Common.{IsWord, number_word, IsLine, short_exponent, word_by_test, number_is_word, count_is_word, steady_word, dis_item_7}
 use Rattle.model_text.proofs.Common.{is_at_most, is_at_least, kind_of, known, is_growth, is_time, time_of, Takes, takes_none, All-from_recursion, line_takes}
-use Rattle.model_text.proofs.Common.{then_takes, last_takes, IsTimed, IsGrowing, number_one, Ratio, ratio, sum_by_from}
+use Rattle.model_text.proofs.Common.{then_takes, last_takes, IsTimed, IsGrowing, number_one, Ratio, ratio, sum_by_from, positive_is}
 use Rattle.decimal_input.specs.Ratios.{den, AtMost}
 use Rattle.dis_package.specs.{period_at, periods_of}
 use Rattle.dis_package.specs.declared.periods.Time.{Time}
 use Rattle.model_text.proofs.FrameTexts.{number_item, count_reads}
-use Rattle.model_text.proofs.GridTexts.{is_above}
 
 pub canonical_word : (d : Dec) → IsDec d → IsWord (number_word d)
 canonical_word d h = number_is_word d h.few (short_exponent d.exp h.above h.below)
@@ -54,8 +53,8 @@ grows p (inl same) = rw same refl
 grows p (inr g) = grind (arith, nat_le, nat_tests, at_least, at_most, or_true)
 
 time_passes : (p : Period) (b : Bool) → p.steady ≡ b → IsTimed p → is_time (time p) ≡ true
-time_passes p true e h = rw (e, h.perlen.sign, is_above p.tsmult h.tsmult) refl
-time_passes p false e h = rw (e, is_above p.perlen (h.lasts e), is_above p.tsmult h.tsmult) (grows p (h.growth e))
+time_passes p true e h = rw (e, h.perlen.sign, positive_is p.tsmult h.tsmult) refl
+time_passes p false e h = rw (e, positive_is p.perlen (h.lasts e), positive_is p.tsmult h.tsmult) (grows p (h.growth e))
 
 period_takes : (file : List ℕ) (steps : ℕ) (p : Period) → IsTimed p → steps + p.nstp ≤ 100000
     → Takes (λ left. period_at file (steps, left)) (dis_item_7 p ∷ []) (λ left. (without_stresses p, (steps + p.nstp, left)))
