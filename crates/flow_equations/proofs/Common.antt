@@ -2,7 +2,7 @@
 pub use Rattle.std.proofs.Common.{Bool, List, None, Option, Some, [], ap, arith, cond, false, get_or, inl, inr, length, map, mul-pos, neg_ℤ, negsuc, pos, refl}
 pub use Rattle.std.proofs.Common.{subst, suc, sym, take, true, zero, ℕ, ℤ, ◌%◌, ◌&&◌, ◌*ℤ◌, ◌*◌, ◌++◌, ◌+ℤ◌, ◌+◌, ◌-ℤ◌, ◌-◌, ◌<◌, ◌^◌, ◌||◌, ◌∙◌, ◌∷◌, ◌≡◌}
 pub use Rattle.std.proofs.Common.{◌≤ℤ◌, ◌≤◌, ◌⊎◌}
-pub use Rattle.std.proofs.Math.Nat.{mul-le-mul_left, one-le-pow}
+pub use Rattle.std.proofs.Math.Nat.{add-sub_cancel_left, mul-le-mul_left, one-le-pow}
 pub use Rattle.std.proofs.lemmas.Bool.{and_parts, cases_lt, cond-true, eqb-true, false≢true, le-leb, ne_eqb, not-true, or_cases, or_right}
 pub use Rattle.std.proofs.lemmas.Int.{clamps, ints}
 pub use Rattle.std.proofs.lemmas.List.{append-nil, get_or-map, get_or-replicate, length-map, length-replicate, reverse-append, take_all, take_more}
@@ -27,7 +27,7 @@ pub use Rattle.flow_equations.specs.{AreAlike, AreAlikeInAColumn, ChoosesOneCell
 pub use Rattle.flow_equations.specs.{HasVerticalConductivity, IsBetweenHalves, IsOneMaterial, IsSameFromBothEnds, Lasts, LayersFillTheSpace, ReceivesRecharge}
 pub use Rattle.flow_equations.specs.{Solves, StoresByOption, below_zero, cell, decimal, distance, exact_cell, exact_evap, exact_flow, exact_link, exact_step}
 pub use Rattle.flow_equations.specs.{heads_of, idle_wells, one_cell, period_with, ratio_total, recharge_of, row_model, row_of_cells, three_cells, two_cells}
-pub use Rattle.flow_equations.specs.{variable_heads, vector}
+pub use Rattle.flow_equations.specs.{variable_heads}
 pub use Rattle.model_types.proofs.Members.{All-In, Contains-In, In, In-map, Ordered, Ordered-at, filter_map-In, map-In}
 pub use Rattle.model_types.proofs.Ranks.{IsAt, at_rank, is_at, passing, range_more, rank, rank_below}
 pub use Rattle.model_types.specs.{AreStresses, EvapSource, FlowSource, HasSize, IsCellValid, IsEntryList, IsEntryValid, IsGrid, IsHeadNumber, IsModel}

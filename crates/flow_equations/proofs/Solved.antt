@@ -2,13 +2,14 @@
 use Rattle.flow_equations.proofs.Common.{◌≡◌, ℕ, zero, suc, ◌<◌, true, ℤ, pos, negsuc, [], ◌∷◌, refl, arith, false≢true, scaled, ratio, plus, over, IsOver}
 use Rattle.flow_equations.proofs.Common.{power, geometric, storage, given_in, variable_below, is_constant, constant_head, start_head, half, in_a_row}
 use Rattle.flow_equations.proofs.Common.{row_conductance, entries_of, SolvesStep, exact_step, Solves, heads_of, variable_heads, three_cells, idle_wells}
-use Rattle.flow_equations.proofs.Common.{one_cell, vector}
+use Rattle.flow_equations.proofs.Common.{one_cell}
+use Rattle.step_problem.specs.{head_at}
 use Rattle.decimal_input.specs.Ratios.{times as product}
 use Rattle.model_types.specs.{times}
 
 -- heads of 10, 15 and 20
 abbrev rising : ℕ → ℤ
-rising = vector (pos 10 ∷ pos 15 ∷ pos 20 ∷ [])
+rising = head_at (pos 10 ∷ pos 15 ∷ pos 20 ∷ [])
 
 three_constant : (c : ℕ) → c < 3 → is_constant three_cells 1 c ≡ true → IsOver 1 (constant_head three_cells 1 1 c) (rising c)
 unfolding given_in constant_head scaled ratio
@@ -51,13 +52,13 @@ one_constant n (suc c) X lt is = absurd (omega (arith, lt))
 
 module _ where
   abbrev at_first : ℕ → ℤ
-  at_first = vector (pos 5 ∷ [])
+  at_first = head_at (pos 5 ∷ [])
 
   abbrev then : ℕ → ℤ
-  then = vector (pos 0 ∷ [])
+  then = head_at (pos 0 ∷ [])
 
   abbrev at_last : ℕ → ℤ
-  at_last = vector (negsuc 4 ∷ [])
+  at_last = head_at (negsuc 4 ∷ [])
 
   first_balance : SolvesStep (exact_step one_cell 1 1 (start_head one_cell)) 1 (variable_heads (exact_step one_cell 1 1 (start_head one_cell)) at_first)
   unfolding variable_below given_in entries_of scaled ratio plus product over storage power geometric

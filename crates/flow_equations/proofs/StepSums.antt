@@ -2,7 +2,7 @@
 use Rattle.flow_equations.proofs.Common.{◌≡◌, ℕ, zero, suc, ◌+◌, ◌*◌, ◌-◌, ◌<◌, ◌≤◌, Bool, true, false, cond, ◌||◌, List, [], ◌∷◌, ◌++◌, refl, sym, ap, arith}
 use Rattle.flow_equations.proofs.Common.{mul-pos, ◌==◌, range_with_len, eqb-true, ne_eqb, size, Ratio, ratio, plus, times, over, Same, Same-trans, Same-self}
 use Rattle.flow_equations.proofs.Common.{Same-of, plus-Same, times-Same, over-Same, FlowModel, Period, one, power, geometric, step_length, multiplier, passed}
-use Rattle.flow_equations.proofs.Common.{storage, storage_capacity, range_more, ratio_total, Lasts, HasManualSteps}
+use Rattle.flow_equations.proofs.Common.{storage, storage_capacity, range_more, ratio_total, Lasts, HasManualSteps, add-sub_cancel_left}
 use Rattle.decimal_input.specs.Ratios.{den}
 use Rattle.model_types.proofs.Growth.{power-positive, horner}
 use Rattle.flow_equations.proofs.Downwards.{IsValue, itself, value_one, value_times, value_plus, value_over, same_by, size_positive}
@@ -61,9 +61,6 @@ module _ (P g : Ratio) (some : 0 < g.num) where
 
   capacity_over : (c w : Ratio) → 0 < P.num → 0 < w.num → Same (times (over (times c g) (times P w)) (over (times P w) g)) c
   capacity_over c w h k = same_by (value_times (value_over (mul-pos h k) (value_times (itself c) (itself g)) (value_times (itself P) (itself w))) (value_over some (value_times (itself P) (itself w)) (itself g))) (itself c) (omega arith)
-
-cancel : (n : ℕ) → 1 + n - 1 ≡ n
-cancel n = omega arith
 
 -- where t is 1
 power_one : (t : Ratio) (n : ℕ) → Same t one → Same (power t n) one
@@ -125,7 +122,7 @@ module _ (p : Period) (h : Lasts p) where
   elapsed (suc n) =
       Same-trans (Same-of (ap (ratio_total (step_length p)) (range_more 1 n)))
       (Same-trans (total_more (step_length p) (range_with_len 1 n) (1 + n))
-      (Same-trans (plus-Same (elapsed n) (Same-of (step_is (1 + n) n (cancel n)))) (one_more P (G p.nstp) whole_sum (G n) (power T n))))
+      (Same-trans (plus-Same (elapsed n) (Same-of (step_is (1 + n) n (add-sub_cancel_left 1 n)))) (one_more P (G p.nstp) whole_sum (G n) (power T n))))
 
   whole : Same (ratio_total (step_length p) (range_with_len 1 p.nstp)) P
   whole = Same-trans (elapsed p.nstp) (all_of_it P (G p.nstp) whole_sum)

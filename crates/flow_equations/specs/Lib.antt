@@ -18,4 +18,4 @@ pub use Rattle.flow_equations.specs.TimeLaws.{HasEqualSteps, HasManualSteps, Las
 pub use Rattle.flow_equations.specs.TimeLaws.{ratio_total}
 pub use Rattle.flow_equations.specs.Worked.{HasVerticalConductivity, IdleWells, IsOneMaterial, LayersFillTheSpace, MeetsDarcyDownwards, OneCell, ThreeCells}
 pub use Rattle.flow_equations.specs.Worked.{TwoCells, below_zero, cell, decimal, distance, idle_wells, one_cell, period_with, row_model, row_of_cells}
-pub use Rattle.flow_equations.specs.Worked.{three_cells, two_cells, vector}
+pub use Rattle.flow_equations.specs.Worked.{three_cells, two_cells}

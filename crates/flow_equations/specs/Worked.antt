@@ -1,6 +1,6 @@
 -- Models that are solved by hand. Lengths in metres; cells of length, width and thickness 1 and conductivity 1, so
 -- that each conductance between neighbours is 1.
-use Rattle.std.specs.Prelude.{ℕ, ℤ, pos, negsuc, Bool, true, false, List, [], ◌∷◌, replicate, ◌<◌, slice_index_or, ◌≡◌, ◌+◌, ◌⊎◌}
+use Rattle.std.specs.Prelude.{ℕ, ℤ, pos, negsuc, Bool, true, false, List, [], ◌∷◌, replicate, ◌<◌, ◌≡◌, ◌+◌, ◌⊎◌}
 use Rattle.decimal_input.specs.declared.dec.Dec.{Dec}
 use Rattle.model_types.specs.declared.grid.Grid.{Grid}
 use Rattle.model_types.specs.declared.grid.CellId.{CellId}
@@ -10,6 +10,7 @@ use Rattle.model_types.specs.declared.entry.Entry.{Entry}
 use Rattle.model_types.specs.declared.entry.Entry.TheVariants.{Well}
 use Rattle.model_types.specs.{no_number, no_stresses, IsModel, layer_size, gap, area, thickness, bed_thickness, top_at, bottom_at, lowest, hk_at, vka_at}
 use Rattle.model_types.specs.{vkcb_at, is_ratio, vertical_conductivity, IsPositive, two, vertical_conductance}
+use Rattle.step_problem.specs.{head_at}
 use Rattle.flow_equations.specs.Histories.{Solves}
 use Rattle.decimal_input.specs.{number, size, Ratio, over}
 use Rattle.decimal_input.specs.Ratios.{plus, times, Same}
@@ -84,24 +85,20 @@ abbrev pub two_cells : FlowModel
 two_cells = row_model (pos 1 ∷ pos 1 ∷ []) (decimal 1 1 ∷ decimal 1 1 ∷ []) [] (period_with true (decimal 1 0) 1 []) 2
 
 -- The histories that solve the worked models.
--- a vector of heads, from a list by cell number
-abbrev pub vector : List ℤ → ℕ → ℤ
-vector xs c = slice_index_or xs c (pos 0)
-
 -- the middle cell's head is the mean of its neighbours'
 pub record ThreeCells : Type 0 where
   pub valid : IsModel three_cells
-  pub solved : Solves three_cells 1 (vector (pos 10 ∷ pos 15 ∷ pos 20 ∷ []) ∷ [])
+  pub solved : Solves three_cells 1 (head_at (pos 10 ∷ pos 15 ∷ pos 20 ∷ []) ∷ [])
 
 -- wells in cells that aren't variable have no effect
 pub record IdleWells : Type 0 where
   pub valid : IsModel idle_wells
-  pub solved : Solves idle_wells 1 (vector (pos 10 ∷ pos 15 ∷ pos 20 ∷ []) ∷ [])
+  pub solved : Solves idle_wells 1 (head_at (pos 10 ∷ pos 15 ∷ pos 20 ∷ []) ∷ [])
 
 -- the well takes 5 out of storage at each step: 10, then 5, 0 and -5
 pub record OneCell : Type 0 where
   pub valid : IsModel one_cell
-  pub solved : Solves one_cell 1 (vector (pos 5 ∷ []) ∷ vector (pos 0 ∷ []) ∷ vector (negsuc 4 ∷ []) ∷ [])
+  pub solved : Solves one_cell 1 (head_at (pos 5 ∷ []) ∷ head_at (pos 0 ∷ []) ∷ head_at (negsuc 4 ∷ []) ∷ [])
 
 -- any head is a solution if it is the same in both cells
 pub record TwoCells : Type 0 where
