@@ -1,9 +1,9 @@
 -- A step that is solved by hand, and a listed budget of it. Lengths in metres, flows in cubic metres per day.
 use Rattle.std.specs.Prelude.{◌≡◌, ℕ, ◌*◌, List, [], ◌∷◌, pos, neg_ℤ, ℤ, ◌+◌}
-use Rattle.decimal_input.specs.{Ratio, whole, Fraction}
+use Rattle.decimal_input.specs.{whole, Fraction}
 use Rattle.decimal_input.specs.Fractions.{Same}
 use Rattle.step_problem.specs.declared.place.Term.TheVariants.{Storage}
-use Rattle.cell_balance.specs.{ExactCell, ExactFixed, SolvesStep}
+use Rattle.cell_balance.specs.{ExactCell, ExactFixed, SolvesStep, one}
 use Rattle.budget_bounds.specs.declared.pair.TermPair.{TermPair}
 use Rattle.budget_bounds.specs.declared.pair.Budget.{Budget}
 use Rattle.budget_bounds.specs.{no_pair, BudgetEncloses}
@@ -13,9 +13,6 @@ use Rattle.zone_flows.specs.{exact_faces, exact_flow}
 use Rattle.exact_budgets.specs.LoneCell.{IsAlone, inflow_from}
 use Rattle.step_problem.specs.declared.entry.FixedKind.TheVariants as kinds
 use Rattle.step_problem.specs.declared.entry.FlowKind.TheVariants as packages
-
-abbrev pub one : Ratio
-one = record { num = 1; less = 0 }
 
 -- One cell with a storage of 1 m2/d, whose head was 10 before the step, and a well that takes 5: its new head is 5.
 abbrev pub pumped_step : List ExactCell
