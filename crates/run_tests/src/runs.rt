@@ -4,6 +4,8 @@ use crate::gates::{Meeting, MeetingSink};
 use crate::views::{head_of, heads_of};
 use crate::watching::push_shown;
 use engine::{bytes_asked, serve};
+use outside::{MemFolder, MemSink};
+use std::alloc::{AllocError, Global};
 use std::process::ExitCode;
 use std::sync::Wait;
 use std::thread::Threads;
@@ -68,17 +70,32 @@ impl<R: Threads + Wait + Sync> Asked<'_, R> {
         }
     }
 
-    // A run as the program makes it, over the files of a deck: its status, and what it puts.
-    fn push_run(&self, page: &mut Page, bench: &mut Bench, meeting: &Meeting) -> Answered {
-        let alloc = page.alloc();
+    // A run as the program makes it, over the files of a folder: its status.
+    fn status<'s>(
+        &self,
+        alloc: Global,
+        folder: &mut MemFolder,
+        out: &'s mut MemSink,
+        side: &'s mut MemSink,
+        meeting: &'s Meeting,
+    ) -> Result<u8, AllocError> {
         let limit = bytes_asked(alloc, self.words)?;
-        let Bench { deck, out, side } = bench;
-        deck.folder.set_limit(limit);
+        folder.set_limit(limit);
         let mut kept = MeetingSink::new(out, meeting, self.lacking("@shake_hands"));
         let mut shown = MeetingSink::new(side, meeting, self.lacking("@lack"));
-        let (rt, words, folder) = (self.rt, self.words, &mut deck.folder);
-        let code = serve(rt, alloc, words, folder, &mut kept, &mut shown, meeting);
-        page.line(format_args!("status {}", status_number(code)));
+        let code = serve(
+            self.rt, alloc, self.words, folder, &mut kept, &mut shown, meeting,
+        );
+        drop(kept);
+        drop(shown);
+        Ok(status_number(code))
+    }
+
+    // The status of a run over the files of a deck, and what it puts.
+    fn push_run(&self, page: &mut Page, bench: &mut Bench, meeting: &Meeting) -> Answered {
+        let Bench { deck, out, side } = bench;
+        let status = self.status(page.alloc(), &mut deck.folder, out, side, meeting)?;
+        page.line(format_args!("status {status}"));
         page.file(bench.out.bytes());
         Ok(())
     }
