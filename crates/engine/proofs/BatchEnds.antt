@@ -1,10 +1,16 @@
 -- The ends of a batch, by its reading and its jobs.
-use Rattle.engine.proofs.Common.{[], Job, Text, ends_of_jobs, JobEnd, Wanted, wanted_of, AreDecks, AreTasks, Batch, IsJobEnd, IsRunText, defined, model_line}
-use Rattle.engine.proofs.Common.{IsValidJob, Run, Check, Write, Make, MayRead, files_of, files_if, files_named, refused_line, IsTask, Task, folder_name}
+use Rattle.engine.proofs.Common.{[], Job, Text, ends_of_jobs, JobEnd, Wanted, AreDecks, AreTasks, Batch, IsJobEnd, IsRunText, defined, model_line}
+use Rattle.engine.proofs.Common.{IsValidJob, Run, Check, Write, Make, MayRead, files_of, files_if, refused_line, IsTask, Task, folder_name}
 use Rattle.engine.proofs.Common.{WordsMay, Refusal, Err, IfOk, List, None, Ok, Result, Some, ap, refl, subst, sym, ℕ, ◌++◌, ◌∙◌, ◌∷◌, ◌≡◌, Option, append-nil}
-use Rattle.engine.proofs.Common.{All-weaker, All-head, All-tail, AllZip, All, slice_get, option_to_list}
+use Rattle.engine.proofs.Common.{All-weaker, All-head, All-tail, AllZip, All, slice_get, option_to_list, Order, but_batch, wanted}
+use Rattle.std.proofs.lemmas.Result.{IfOk-at_ok, IfOk-weaker}
 use Rattle.std.specs.Prelude.{IfSome, length}
 use Rattle.batch_book.specs.{AreJobEnds}
+use Rattle.command_line.specs.declared.order.BatchOrder.{BatchOrder}
+use Rattle.command_line.specs.declared.order.Order.TheVariants as order
+use Rattle.command_line.specs.declared.order.WordsFault.{WordsFault}
+use Rattle.command_line.specs.declared.order.WordsFault.TheVariants as fault
+use Rattle.engine.specs.Cases.{IsOrder}
 use Rattle.outside.specs.declared.inputs.InputFault.TheVariants as input
 use Rattle.run_puts.specs.declared.puts.Status.TheVariants as status
 
@@ -68,9 +74,24 @@ module _ (may : List ℕ → Type 0) where
   files_may (Batch b) h = All-head May b.list [] h
   files_may (Write limits name) h = All-head May name [] h
 
-  -- the files of what the words ask for
-  pub may_do : (words : List Text) → WordsMay may (files_named words) → (w : Wanted) → wanted_of words ≡ Some w → MayDo w
-  may_do words h w is = files_may w (subst (λ (o : Option Wanted). WordsMay may (files_if o)) is h)
+  -- the files of the order that was read
+  pub order_may : (words : Option Wanted) (read : Result Order WordsFault) → WordsMay may (files_if words) → IfOk read (λ o. words ≡ Some (wanted o)) → IfOk read (λ o. WordsMay may (files_of (wanted o)))
+  order_may words read h is = IfOk-weaker read (λ o. words ≡ Some (wanted o)) _ (λ o e. subst (λ (w : Option Wanted). WordsMay may (files_if w)) e h) is
+
+  pub may_do : (read : Result Order WordsFault) (o p : Order) → IfOk read (λ o. WordsMay may (files_of (wanted o))) → read ≡ Ok o → o ≡ p → MayDo (wanted p)
+  may_do read o p h is same = files_may (wanted p) (subst (λ (x : Order). WordsMay may (files_of (wanted x))) same (IfOk-at_ok (λ o. WordsMay may (files_of (wanted o))) is h))
+
+-- what was read of the words has their order, but a batch
+pub is_order : (words : Option Wanted) (read : Result Order WordsFault) → IfOk read (λ o. words ≡ Some (wanted o)) → (read ≡ Err fault.Usage → words ≡ None) → IsOrder read (but_batch words)
+is_order words read is none = (IfOk-weaker read (λ o. words ≡ Some (wanted o)) _ (λ o e. ap but_batch e) is, λ e. ap but_batch (none e))
+
+pub order_read : (one : Option Wanted) (read : Result Order WordsFault) (o p : Order) → IfOk read (λ o. one ≡ but_batch (Some (wanted o))) → read ≡ Ok o → o ≡ p → one ≡ but_batch (Some (wanted p))
+order_read one read o p h is same = IfOk-at_ok (λ o. one ≡ but_batch (Some (wanted o))) is h ∙ ap (λ (x : Order). but_batch (Some (wanted x))) same
+
+-- an order that is for no batch
+pub not_a_batch : (o : Order) → ((b : BatchOrder) → o ≡ order.Batch b → ⊥) → but_batch (Some (wanted o)) ≡ Some (wanted o)
+not_a_batch (order.Batch b) other = absurd (other b refl)
+not_a_batch o other = refl
 
 -- a file that might be asked for may still be
 pub file_still : (may more : List ℕ → Type 0) (file : Option Text) → ((name : List ℕ) → may name → more name) → IfSome file (λ name. may (folder_name name)) → IfSome file (λ name. more (folder_name name))

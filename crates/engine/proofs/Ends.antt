@@ -4,7 +4,7 @@ use Rattle.engine.proofs.Common.{Refusal, usage_line, FlowModel, IsModel, most_b
 use Rattle.engine.proofs.Common.{memory_put, status_after, Text, Status, tail_late, lone, lacks_at_first, weaker, Case, NoWords, Refuses, made_model, Due}
 use Rattle.engine.proofs.Common.{ReadsFolder, CutOf, IsMade, Answers, IsStopped, IsValid, defined, unread, named, made_task, summed_text, IsReadingEnd}
 use Rattle.engine.proofs.Common.{made_fault, InputFault, ListingEnd, last_line, listing, status_of, made_files, made_name, Plain, IsSummarized, reads, Defines}
-use Rattle.engine.proofs.Common.{InputCounts, IsRun, case_read, Making, Option, Some, Wanted, wanted, ◌∙◌, Order, PutsMore}
+use Rattle.engine.proofs.Common.{InputCounts, IsRun, case_read, Making, PutsMore}
 use Rattle.engine.proofs.Dues.{late_stops}
 use Rattle.listing_summary.specs.declared.summary.Summary.{Summary}
 use Rattle.outside.specs.declared.inputs.InputFault.TheVariants as input
@@ -13,10 +13,6 @@ use Rattle.run_puts.specs.declared.puts.Status.TheVariants as status
 -- puts of which this holds are puts of which more holds
 pub puts_more : {S : Type 0} {old new : S} {P Q : List Put → Type 0} (leads : S → List Put → S → Type 0) → PutsMore leads old new P → ((more : List Put) → P more → Q more) → PutsMore leads old new Q
 puts_more leads put holds = λ start puts h. let m = put start puts h in (m.0, m.1, holds m.0 m.2)
-
--- the order that the words give
-pub gives : (words : Option Wanted) (o p : Order) → words ≡ Some (wanted o) → o ≡ p → words ≡ Some (wanted p)
-gives words o p is same = is ∙ ap (λ (x : Order). Some (wanted x)) same
 
 pub wanting_stops : (end : Status) (puts : List Put) → IsWanting end puts → IsStopped end
 wanting_stops end puts (answer, s, t) = let P : Status → Type 0 = IsStopped in subst P (sym s) (late_stops (status_after answer) (tail_late [] (status_after answer) (memory_put answer ∷ []) (wanting [] answer)))

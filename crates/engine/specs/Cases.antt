@@ -1,11 +1,14 @@
 -- The case of a run: what its words and files define.
-use Rattle.std.specs.Prelude.{◌≡◌, ℕ, Bool, List, map, Result, Ok, Err, Option, Some, None, codes, if◌then◌else◌, option_map, is_some, unsigned_abs}
+use Rattle.std.specs.Prelude.{◌≡◌, ℕ, Bool, List, map, Result, Ok, Err, IfOk, Option, Some, None, codes, if◌then◌else◌, option_map, is_some, unsigned_abs}
 use Rattle.outside.specs.{FileSet, with_limit, file_at, file_refusal, is_good_name}
 use Rattle.record_lines.specs.{◌>>=◌}
 use Rattle.model_types.specs.{most_bytes}
 use Rattle.outside.specs.declared.codes.Code.TheVariants.{BadName}
 use Rattle.outside.specs.declared.inputs.Refusal.{Refusal}
-use Rattle.command_line.specs.{Asked, AskedBatch, AskedCheck, Batch, Check, Make, Run, Wanted, Write}
+use Rattle.command_line.specs.{Asked, AskedBatch, AskedCheck, Batch, Check, Make, Run, Wanted, Write, wanted}
+use Rattle.command_line.specs.declared.order.Order.{Order}
+use Rattle.command_line.specs.declared.order.WordsFault.{WordsFault}
+use Rattle.command_line.specs.declared.order.WordsFault.TheVariants as fault
 use Rattle.model_types.specs.declared.limits.Limits.{Limits}
 use Rattle.model_types.specs.declared.limits.Limits.TheVariants.{Plain}
 use Rattle.model_types.specs.declared.model.FlowModel.{FlowModel}
@@ -31,6 +34,10 @@ use Rattle.engine.specs.TwoDecks.{Second, second_in}
 abbrev pub but_batch : Option Wanted → Option Wanted
 but_batch (Some (Batch b)) = None
 but_batch order = order
+
+-- the order for one model, by what was read of the words; it isn't known if memory ran out
+abbrev pub IsOrder : Result Order WordsFault → Option Wanted → Type 0
+IsOrder read one = IfOk read (λ order. one ≡ but_batch (Some (wanted order))) × (read ≡ Err fault.Usage → one ≡ None)
 
 -- no file of the folder is read: without a command, and to make a model
 abbrev pub ReadsNothing : Option Wanted → Type 0

@@ -19,7 +19,7 @@ pub mod Batched
 pub mod BatchReads
 pub use Rattle.engine.specs.BatchReads.{AreTasks, HasNames, IsBatchRead, NeverRefused}
 pub use Rattle.engine.specs.Batched.{HasEnded, HasNoList, IsJobListing}
-pub use Rattle.engine.specs.Cases.{Case, Checking, Comparing, IsListingOf, Jobs, Listing, Making, NoWords, ReadsNothing, Refuses, WorkersChangeNoCase, Writing}
+pub use Rattle.engine.specs.Cases.{Case, Checking, Comparing, IsListingOf, IsOrder, Jobs, Listing, Making, NoWords, ReadsNothing, Refuses, WorkersChangeNoCase, Writing}
 pub use Rattle.engine.specs.Cases.{but_batch, case_decks, case_named, case_of, case_read, decks_task, job_of, job_task, jobs_read, listing_read, made_model}
 pub use Rattle.engine.specs.Cases.{named, names_read, span_task_of, steps_read, task_of, zones_read}
 pub use Rattle.engine.specs.Checked.{IsCheck, certified_line, verdict_line, verdict_status}
@@ -31,7 +31,7 @@ pub use Rattle.engine.specs.OneListing.{AreItsSteps, OneSummary, OneVerdict}
 pub use Rattle.engine.specs.Parts.{Answers, AnswersBeside, AreDecksAs, AreDecksOf, IsListed, IsNamedFault, IsNoSecond, IsReadingEnd, IsStopped, IsUnlikeFault}
 pub use Rattle.engine.specs.Parts.{IsValid, IsValidJob, made_fault, second_by}
 pub use Rattle.engine.specs.Runs.{Comes, Decided, GoesThrough, GoesWell, IsPlain, IsPlainJob, IsRunOf}
-pub use Rattle.engine.specs.Serving.{HeadlineOf, IsProgramEnd, IsRunResult, IsStopNumber, OneOf, bytes_asked, files_if, files_named, files_of}
+pub use Rattle.engine.specs.Serving.{HeadlineOf, IsProgramEnd, IsRunResult, IsStopNumber, OneOf, bytes_asked, files_if, files_named, files_of, limits_asked}
 pub use Rattle.engine.specs.SpanHeadline.{ArePairOf, OneSpan, SpanVerdict}
 pub use Rattle.engine.specs.Storage.{StorageHolds}
 pub use Rattle.engine.specs.TwoDecks.{IsDecksRefusal, Second, not_alike, of_both, of_first, of_second}

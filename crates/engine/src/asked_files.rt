@@ -1,18 +1,30 @@
-// The files that the words name.
-ghost use Rattle.std.specs.Prelude.{◌≡◌, map, IfOk};
+// The files that the words ask for.
+ghost use Rattle.std.specs.Prelude.{◌≡◌, map, IfOk, Some};
 ghost use Rattle.command_line.specs.{wanted};
-ghost use Rattle.engine.specs.{bytes_asked, files_named, files_of};
+ghost use Rattle.engine.specs.{bytes_asked, files_named, files_of, limits_asked};
+ghost use Rattle.model_types.specs.{most_bytes};
 
 use command_line::{Order, WordsFault, read_order};
 use model_types::Limits;
 use std::alloc::{AllocError, Global};
 
-// The files that an order names.
-fn files_of<'a>(alloc: Global, order: Order<'a>) -> Result<Vec<&'a str>, AllocError>
-    ensures { IfOk result (λ names. map (λ n. n.now) names.items ≡ files_of (wanted order.entry)) }
+/// What a folder must be given for the words.
+#[derive(Drop)]
+pub struct AskedFiles<'a> {
+    /// The names of the files that it may be asked for: the name file of a run, the second one, and its zone file; the same
+    /// of a check, and its listing; the list of a batch; the name file of a deck. None where the words aren't accepted.
+    pub names: Vec<&'a str>,
+    /// How many bytes of a file are read, by the limits.
+    pub limit: u64,
+}
+
+// The files that an order asks for.
+fn files_of<'a>(alloc: Global, order: Order<'a>) -> Result<AskedFiles<'a>, AllocError>
+    ensures names { IfOk result (λ files. map (λ n. n.now) files.names.items ≡ files_of (wanted order.entry)) }
+    ensures limit { IfOk result (λ files. files.limit ≡ most_bytes (limits_asked (Some (wanted order.entry)))) }
 {
     let mut names = Vec::new(alloc);
-    match order {
+    let limits = match order {
         Order::Run(asked) => {
             names.push(asked.name)?;
             if let Some(to) = asked.to {
@@ -21,6 +33,7 @@ fn files_of<'a>(alloc: Global, order: Order<'a>) -> Result<Vec<&'a str>, AllocEr
             if let Some(zones) = asked.zones {
                 names.push(zones)?;
             }
+            asked.limits
         }
         Order::Check(asked) => {
             names.push(asked.name)?;
@@ -31,39 +44,33 @@ fn files_of<'a>(alloc: Global, order: Order<'a>) -> Result<Vec<&'a str>, AllocEr
                 names.push(zones)?;
             }
             names.push(asked.listing)?;
+            asked.limits
         }
-        Order::Make(_) => {}
-        Order::Batch(asked) => names.push(asked.list)?,
-        Order::Write { name, .. } => names.push(name)?,
-    }
-    Ok(names)
+        Order::Make(_) => Limits::Plain,
+        Order::Batch(asked) => {
+            names.push(asked.list)?;
+            asked.limits
+        }
+        Order::Write { limits, name } => {
+            names.push(name)?;
+            limits
+        }
+    };
+    let limit = limits.bytes();
+    Ok(AskedFiles { names, limit })
 }
 
-/// The names of the files that the words name, as a folder may be asked for them: the name file of a run, the second one,
-/// and its zone file; the same of a check, and its listing; the list of a batch; the name file of a deck. None where the
-/// words aren't accepted.
-pub fn files_named<'a>(alloc: Global, words: &'a [&'a str]) -> Result<Vec<&'a str>, AllocError>
-    ensures { IfOk result (λ names. map (λ n. n.now) names.items ≡ files_named (map (λ w. w.now) words.entry.now)) }
+/// The files that the words ask for.
+pub fn files_asked<'a>(alloc: Global, words: &'a [&'a str]) -> Result<AskedFiles<'a>, AllocError>
+    ensures names { IfOk result (λ files. map (λ n. n.now) files.names.items ≡ files_named (map (λ w. w.now) words.entry.now)) }
+    ensures limit { IfOk result (λ files. files.limit ≡ bytes_asked (map (λ w. w.now) words.entry.now)) }
 {
     match read_order(alloc, words) {
         Ok(order) => files_of(alloc, order),
-        Err(WordsFault::Usage) => Ok(Vec::new(alloc)),
+        Err(WordsFault::Usage) => Ok(AskedFiles {
+            names: Vec::new(alloc),
+            limit: Limits::Plain.bytes(),
+        }),
         Err(WordsFault::Memory) => Err(AllocError),
     }
-}
-
-/// How many bytes of a file are read, by the limits that the words ask for.
-pub fn bytes_asked(alloc: Global, words: &[&str]) -> Result<u64, AllocError>
-    ensures { IfOk result (λ n. n ≡ bytes_asked (map (λ w. w.now) words.entry.now)) }
-{
-    let limits = match read_order(alloc, words) {
-        Ok(Order::Run(asked)) => asked.limits,
-        Ok(Order::Check(asked)) => asked.limits,
-        Ok(Order::Batch(asked)) => asked.limits,
-        Ok(Order::Write { limits, .. }) => limits,
-        Ok(Order::Make(_)) => Limits::Plain,
-        Err(WordsFault::Usage) => Limits::Plain,
-        Err(WordsFault::Memory) => return Err(AllocError),
-    };
-    Ok(limits.bytes())
 }

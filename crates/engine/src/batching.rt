@@ -15,12 +15,12 @@ ghost use Rattle.engine.specs.declared.job.Job.{Job as JobRead};
 use crate::batch_reading::read_batch;
 use crate::ending::end_reading;
 use crate::job::{Job, end_of_job};
-use crate::running::{USAGE, answer};
+use crate::running::answer;
 use batch_book::{Jobs, run_batch};
 use batch_puts::{JobEnd, put_ends};
-use command_line::{BatchOrder, Order, WordsFault, read_order};
+use command_line::{BatchOrder, Order, read_order};
 use outside::{Folder, Gate, Sink};
-use run_puts::{Status, put_last, put_memory};
+use run_puts::{Status, put_memory};
 use std::alloc::{AllocError, Global};
 use std::marker::Model;
 use std::sync::Wait;
@@ -93,10 +93,9 @@ pub(crate) fn answer_any<
     match read_order(alloc, words) {
         Ok(order) => match order {
             Order::Batch(asked) => put_batch(rt, alloc, asked, folder, out, gate),
-            _ => answer(rt, alloc, words, folder, out, side, gate),
+            _ => answer(rt, alloc, Ok(order), folder, out, side, gate),
         },
-        Err(WordsFault::Usage) => put_last(out, USAGE, Status::Usage),
-        Err(WordsFault::Memory) => put_memory(out),
+        Err(fault) => answer(rt, alloc, Err(fault), folder, out, side, gate),
     }
 }
 

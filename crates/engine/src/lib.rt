@@ -19,7 +19,7 @@ mod viewing;
 mod writing;
 pub mod zoned;
 
-pub use asked_files::{bytes_asked, files_named};
+pub use asked_files::{AskedFiles, files_asked};
 pub use commands::{run, serve};
 pub use run_puts::Status;
 pub use running::run_one;

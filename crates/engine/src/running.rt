@@ -1,8 +1,8 @@
-ghost use Rattle.std.specs.Prelude.{◌≡◌, map, IfSome, Ok, Some, true};
+ghost use Rattle.std.specs.Prelude.{◌≡◌, map, IfOk, IfSome, Ok, Option, Some, true};
 ghost use Rattle.outside.specs.{WordsMay, folder_name, FileSet, Rose};
-ghost use Rattle.engine.specs.{files_named, but_batch, case_of, decks_task, ReadsNothing, views_in, IsRunResult, MayRead, AnswersBeside, AreDecksAs, IsWatched};
+ghost use Rattle.engine.specs.{files_named, files_of, but_batch, case_of, decks_task, IsOrder, ReadsNothing, views_in, IsRunResult, MayRead, AnswersBeside, AreDecksAs, IsWatched};
 ghost use Rattle.engine.specs.{ViewPutsOf};
-ghost use Rattle.command_line.specs.{asked_of, text_if, wanted_of, Run};
+ghost use Rattle.command_line.specs.{asked_of, text_if, wanted, wanted_of, Run, Wanted};
 ghost use Rattle.run_puts.specs.{IsRun, PutsMore};
 ghost use Rattle.listing_run.specs.{IsListingBeside, IsCutListing};
 ghost use Rattle.zone_pairs.specs.{AreZones};
@@ -28,7 +28,7 @@ use settle_driver::Plan;
 use std::alloc::Global;
 use std::thread::Threads;
 
-pub(crate) const USAGE: &[u8] =
+const USAGE: &[u8] =
     b"USAGE: heads run NAME [--digits S] [--workers W] [--rounds P] [--zones Z] [--watch N] | heads check NAME LISTING [--digits S] | heads make SEED SIZE | heads batch LIST [--digits S] [--workers W] [--rounds P]\n";
 
 /// Does what the words ask for. `run NAME` reads the model of that name file from the folder, and the zones of its cells
@@ -67,35 +67,36 @@ pub fn run_one<R: Threads + Sync, F: Folder, K: Sink + Send, W: Sink + Send, G: 
     one_listing();
     one_verdict();
     one_difference();
-    let status = answer(rt, alloc, words, folder, out, side, gate);
+    let status = answer(rt, alloc, read_order(alloc, words), folder, out, side, gate);
     folder.some_agree();
     status
 }
 
-// Does what the words ask for, but a batch.
+// Does what was read of the words, but a batch.
 pub(crate) fn answer<R: Threads + Sync, F: Folder, K: Sink + Send, W: Sink + Send, G: Gate + Sync>(
     rt: &R,
     alloc: Global,
-    words: &[&str],
+    read: Result<Order<'_>, WordsFault>,
     folder: &mut F,
     out: &mut K,
     side: &mut W,
     gate: &G,
 ) -> Status
-    requires may { WordsMay (F.may folder.old) (files_named (map (λ w. w.now) words.now)) }
+    requires may { IfOk read (λ order. WordsMay (F.may folder.old) (files_of (wanted order))) }
     ensures since { (files : FileSet) → F.agrees folder.new files → F.agrees folder.old files }
-    ensures unasked { ReadsNothing (but_batch (wanted_of (map (λ w. w.now) words.now))) → folder.new ≡ folder.old }
-    ensures answers { PutsMore K.leads out.old out.new (λ more. (files : FileSet) → F.agrees folder.new files →
-        AnswersBeside (case_of (but_batch (wanted_of (map (λ w. w.now) words.now))) files) (views_in (but_batch (wanted_of (map (λ w. w.now) words.now))))
-        (F.faults folder.old) (F.faults folder.new)
+    ensures unasked { (order : Option Wanted) → IsOrder read.entry order → ReadsNothing order → folder.new ≡ folder.old }
+    ensures answers { (order : Option Wanted) → IsOrder read.entry order → PutsMore K.leads out.old out.new (λ more.
+        (files : FileSet) → F.agrees folder.new files → AnswersBeside (case_of order files) (views_in order) (F.faults folder.old) (F.faults folder.new)
         (Rose (W.seen side.old).faults (W.seen side.new).faults) (λ puts. W.leads side.old puts side.new) result more) }
 {
-    match read_order(alloc, words) {
-        Ok(Order::Run(asked)) => list(rt, alloc, asked, folder, out, side, gate),
-        Ok(Order::Check(asked)) => check(alloc, asked, folder, out),
-        Ok(Order::Make(asked)) => put_made(rt, alloc, asked, out, gate),
-        Ok(Order::Write { limits, name }) => write(alloc, limits, name, folder, out),
-        Ok(Order::Batch(_)) => put_last(out, USAGE, Status::Usage),
+    match read {
+        Ok(order) => match order {
+            Order::Run(asked) => list(rt, alloc, asked, folder, out, side, gate),
+            Order::Check(asked) => check(alloc, asked, folder, out),
+            Order::Make(asked) => put_made(rt, alloc, asked, out, gate),
+            Order::Write { limits, name } => write(alloc, limits, name, folder, out),
+            Order::Batch(_) => put_last(out, USAGE, Status::Usage),
+        },
         Err(WordsFault::Usage) => put_last(out, USAGE, Status::Usage),
         Err(WordsFault::Memory) => put_memory(out),
     }

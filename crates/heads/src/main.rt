@@ -4,7 +4,7 @@
 ghost use Rattle.std.specs.Prelude.{◌≡◌, map, IfOk};
 ghost use Rattle.std.specs.String.{string_bytes};
 
-use engine::{bytes_asked, files_named, serve};
+use engine::{files_asked, serve};
 use outside::{FreeGate, RealFolder, RealSink};
 use std::alloc::{AllocError, Global};
 use std::env;
@@ -43,13 +43,10 @@ fn main(rt: HostRuntime) -> ExitCode {
     let Ok(texts) = as_texts(alloc, words.as_slice()) else {
         return ExitCode::from(MEMORY);
     };
-    let Ok(names) = files_named(alloc, texts.as_slice()) else {
+    let Ok(asked) = files_asked(alloc, texts.as_slice()) else {
         return ExitCode::from(MEMORY);
     };
-    let Ok(limit) = bytes_asked(alloc, texts.as_slice()) else {
-        return ExitCode::from(MEMORY);
-    };
-    let mut folder = RealFolder::new(&rt, alloc, names.as_slice(), limit);
+    let mut folder = RealFolder::new(&rt, alloc, asked.names.as_slice(), asked.limit);
     let mut out = RealSink::new(rt.stdout());
     let mut side = RealSink::new(rt.stderr());
     serve(

@@ -3,7 +3,7 @@ use crate::bench::{Bench, text_of};
 use crate::gates::{Meeting, MeetingSink};
 use crate::views::{head_of, heads_of};
 use crate::watching::push_shown;
-use engine::{bytes_asked, serve};
+use engine::{files_asked, serve};
 use outside::{MemFolder, MemSink};
 use std::alloc::{AllocError, Global};
 use std::process::ExitCode;
@@ -79,8 +79,8 @@ impl<R: Threads + Wait + Sync> Asked<'_, R> {
         side: &'s mut MemSink,
         meeting: &'s Meeting,
     ) -> Result<u8, AllocError> {
-        let limit = bytes_asked(alloc, self.words)?;
-        folder.set_limit(limit);
+        let asked = files_asked(alloc, self.words)?;
+        folder.set_limit(asked.limit);
         let mut kept = MeetingSink::new(out, meeting, self.lacking("@shake_hands"));
         let mut shown = MeetingSink::new(side, meeting, self.lacking("@lack"));
         let code = serve(

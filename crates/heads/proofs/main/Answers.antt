@@ -10,8 +10,8 @@ given_may folder names is = subst (WordsMay (MayAsk folder)) is (λ k d lt. inl 
 
 pub serve-requires : goal.serve-requires
 serve-requires g c = λ k.
-    let given : c.new-folder.result.given ≡ files_named (map (λ w. w.now) c.as_slice-5.result.now) =
-    rw (c.new-folder.ensures, c.as_slice-4.ensures.value, c.in-Ok-files_named.ensures, c.as_slice-2.ensures.value, c.as_slice-5.ensures.value) refl in
-    let limit : c.new-folder.result.limit ≡ bytes_asked (map (λ w. w.now) c.as_slice-5.result.now) =
-    rw (c.new-folder.ensures, c.in-Ok-bytes_asked.ensures, c.as_slice-3.ensures.value, c.as_slice-5.ensures.value) refl in
+    let given : c.new-folder.result.given ≡ files_named (map (λ w. w.now) c.as_slice-4.result.now) =
+    rw (c.new-folder.ensures, c.as_slice-3.ensures.value, c.in-Ok-files_asked.ensures.names, c.as_slice-2.ensures.value, c.as_slice-4.ensures.value) refl in
+    let limit : c.new-folder.result.limit ≡ bytes_asked (map (λ w. w.now) c.as_slice-4.result.now) =
+    rw (c.new-folder.ensures, c.in-Ok-files_asked.ensures.limit, c.as_slice-2.ensures.value, c.as_slice-4.ensures.value) refl in
     (search rules, (search rules, (search rules, (search rules, (given_may c.new-folder.result _ given, λ files agree. agree.0 ∙ limit)))))

@@ -1,59 +1,58 @@
-use Rattle.engine.proofs.Common.{map, Err, Some, None, ap, refl, subst, Make, ReadsNothing, Write, asked_of, check_of, Check, text_if, wanted_of}
-use Rattle.engine.proofs.Common.{wanting_not_ok, but_batch, Run}
-use Rattle.engine.proofs.Ends.{ends_usage, ends_without_words, gives, puts_more}
+use Rattle.engine.proofs.Common.{Err, None, ap, refl, subst, ReadsNothing, wanting_not_ok}
+use Rattle.engine.proofs.Ends.{ends_usage, ends_without_words, puts_more}
 use Rattle.engine.proofs.Beside.{not_ok, of_order, without_views}
-use Rattle.engine.proofs.BatchEnds.{may_do}
+use Rattle.engine.proofs.BatchEnds.{may_do, order_read}
 use Rattle.engine.proofs.running.answer.Goals as goal
 
 pub returns-in-Err-Usage-clause-answers : goal.returns-in-Err-Usage-clause-answers
-returns-in-Err-Usage-clause-answers g c =
-    puts_more g.K.Sink.leads c.put_last-in-Err-Usage.ensures (λ more m files agree. without_views files (but_batch (wanted_of (map (λ w. w.now) c.args.words.now))) None
-    (((g.met.W.Sink g.world.𝓛 g.world.𝓜 g.world.𝓡 ((λ s x. x), (λ x. x), (λ x. x), λ x. x))).rests c.args.side.now) (ap but_batch (c.in-Err-Usage.ensures.usage (ap Err c.in-Err-Usage.field-0-is))) refl (ends_usage m))
+returns-in-Err-Usage-clause-answers g c = λ one is.
+    puts_more g.K.Sink.leads c.put_last-in-Err-Usage.ensures (λ more m files agree. without_views files one None
+    (((g.met.W.Sink g.world.𝓛 g.world.𝓜 g.world.𝓡 ((λ s x. x), (λ x. x), (λ x. x), λ x. x))).rests c.args.side.now) (is.1 (rw c.in-Err-Usage.is (ap Err (rw c.in-Err-Usage.is at c.in-Err-Usage.field-0-is)))) refl (ends_usage m))
 
-pub returns-in-Ok-Batch-clause-answers : goal.returns-in-Ok-Batch-clause-answers
-returns-in-Ok-Batch-clause-answers g c =
-    puts_more g.K.Sink.leads c.put_last.ensures (λ more m files agree. without_views files (but_batch (wanted_of (map (λ w. w.now) c.args.words.now))) None
-    (((g.met.W.Sink g.world.𝓛 g.world.𝓜 g.world.𝓡 ((λ s x. x), (λ x. x), (λ x. x), λ x. x))).rests c.args.side.now) (ap but_batch (gives _ _ _ c.in-Ok-Batch.ensures.order c.in-Ok-Batch.field-0-is)) refl (ends_usage m))
+pub returns-in-Batch-clause-answers : goal.returns-in-Batch-clause-answers
+returns-in-Batch-clause-answers g c = λ one is.
+    puts_more g.K.Sink.leads c.put_last.ensures (λ more m files agree. without_views files one None
+    (((g.met.W.Sink g.world.𝓛 g.world.𝓜 g.world.𝓡 ((λ s x. x), (λ x. x), (λ x. x), λ x. x))).rests c.args.side.now) (order_read one c.args.read _ _ is.0 c.in-Ok.is c.in-Batch.is) refl (ends_usage m))
 
 pub returns-in-Err-Memory-clause-answers : goal.returns-in-Err-Memory-clause-answers
-returns-in-Err-Memory-clause-answers g c = puts_more g.K.Sink.leads c.put_memory.ensures (λ more m files agree. not_ok _ _ (((g.met.W.Sink g.world.𝓛 g.world.𝓜 g.world.𝓡 ((λ s x. x), (λ x. x), (λ x. x), λ x. x))).rests c.args.side.now) (ends_without_words m) (wanting_not_ok _ more m))
+returns-in-Err-Memory-clause-answers g c = λ one is. puts_more g.K.Sink.leads c.put_memory.ensures (λ more m files agree. not_ok _ _ (((g.met.W.Sink g.world.𝓛 g.world.𝓜 g.world.𝓡 ((λ s x. x), (λ x. x), (λ x. x), λ x. x))).rests c.args.side.now) (ends_without_words m) (wanting_not_ok _ more m))
 
-pub returns-in-Ok-Run-clause-answers : goal.returns-in-Ok-Run-clause-answers
-returns-in-Ok-Run-clause-answers g c =
-    puts_more g.K.Sink.leads c.list.ensures.answers (λ more m files agree. of_order files (but_batch (wanted_of (map (λ w. w.now) c.args.words.now))) _ (ap but_batch (gives _ _ _ c.in-Ok-Run.ensures.order c.in-Ok-Run.field-0-is)) (m files agree))
+pub returns-in-Run-clause-answers : goal.returns-in-Run-clause-answers
+returns-in-Run-clause-answers g c = λ one is.
+    puts_more g.K.Sink.leads c.list.ensures.answers (λ more m files agree. of_order files one _ (order_read one c.args.read _ _ is.0 c.in-Ok.is c.in-Run.is) (m files agree))
 
-pub returns-in-Ok-Make-clause-answers : goal.returns-in-Ok-Make-clause-answers
-returns-in-Ok-Make-clause-answers g c =
-    puts_more g.K.Sink.leads c.put_made.ensures (λ more m files agree. without_views files (but_batch (wanted_of (map (λ w. w.now) c.args.words.now))) (Some (Make c.in-Ok-Make.asked.seed c.in-Ok-Make.asked.size))
-    (((g.met.W.Sink g.world.𝓛 g.world.𝓜 g.world.𝓡 ((λ s x. x), (λ x. x), (λ x. x), λ x. x))).rests c.args.side.now) (ap but_batch (gives _ _ _ c.in-Ok-Make.ensures.order c.in-Ok-Make.field-0-is)) refl (m (g.F.Folder.faults c.args.folder.now)))
+pub returns-in-Make-clause-answers : goal.returns-in-Make-clause-answers
+returns-in-Make-clause-answers g c = λ one is.
+    puts_more g.K.Sink.leads c.put_made.ensures (λ more m files agree. without_views files one _
+    (((g.met.W.Sink g.world.𝓛 g.world.𝓜 g.world.𝓡 ((λ s x. x), (λ x. x), (λ x. x), λ x. x))).rests c.args.side.now) (order_read one c.args.read _ _ is.0 c.in-Ok.is c.in-Make.is) refl (m (g.F.Folder.faults c.args.folder.now)))
 
-pub returns-in-Ok-Check-clause-answers : goal.returns-in-Ok-Check-clause-answers
-returns-in-Ok-Check-clause-answers g c =
-    puts_more g.K.Sink.leads c.check.ensures.answers (λ more m files agree. without_views files (but_batch (wanted_of (map (λ w. w.now) c.args.words.now))) (Some (Check (check_of c.in-Ok-Check.asked) (text_if c.in-Ok-Check.asked.to)))
-    (((g.met.W.Sink g.world.𝓛 g.world.𝓜 g.world.𝓡 ((λ s x. x), (λ x. x), (λ x. x), λ x. x))).rests c.args.side.now) (ap but_batch (gives _ _ _ c.in-Ok-Check.ensures.order c.in-Ok-Check.field-0-is)) refl (m files agree))
+pub returns-in-Check-clause-answers : goal.returns-in-Check-clause-answers
+returns-in-Check-clause-answers g c = λ one is.
+    puts_more g.K.Sink.leads c.check.ensures.answers (λ more m files agree. without_views files one _
+    (((g.met.W.Sink g.world.𝓛 g.world.𝓜 g.world.𝓡 ((λ s x. x), (λ x. x), (λ x. x), λ x. x))).rests c.args.side.now) (order_read one c.args.read _ _ is.0 c.in-Ok.is c.in-Check.is) refl (m files agree))
 
-pub returns-in-Ok-Write-clause-answers : goal.returns-in-Ok-Write-clause-answers
-returns-in-Ok-Write-clause-answers g c =
-    puts_more g.K.Sink.leads c.write.ensures.answers (λ more m files agree. without_views files (but_batch (wanted_of (map (λ w. w.now) c.args.words.now))) (Some (Write c.in-Ok-Write.limits c.in-Ok-Write.name.now))
-    (((g.met.W.Sink g.world.𝓛 g.world.𝓜 g.world.𝓡 ((λ s x. x), (λ x. x), (λ x. x), λ x. x))).rests c.args.side.now) (ap but_batch (gives _ _ _ c.in-Ok-Write.ensures.order c.in-Ok-Write.field-0-is)) refl (m files agree))
+pub returns-in-Write-clause-answers : goal.returns-in-Write-clause-answers
+returns-in-Write-clause-answers g c = λ one is.
+    puts_more g.K.Sink.leads c.write.ensures.answers (λ more m files agree. without_views files one _
+    (((g.met.W.Sink g.world.𝓛 g.world.𝓜 g.world.𝓡 ((λ s x. x), (λ x. x), (λ x. x), λ x. x))).rests c.args.side.now) (order_read one c.args.read _ _ is.0 c.in-Ok.is c.in-Write.is) refl (m files agree))
 
-pub returns-in-Ok-Run-clause-unasked : goal.returns-in-Ok-Run-clause-unasked
-returns-in-Ok-Run-clause-unasked g c = λ nothing. absurd (subst ReadsNothing (ap but_batch (gives _ _ _ c.in-Ok-Run.ensures.order c.in-Ok-Run.field-0-is)) nothing)
+pub returns-in-Run-clause-unasked : goal.returns-in-Run-clause-unasked
+returns-in-Run-clause-unasked g c = λ one is nothing. absurd (subst ReadsNothing (order_read one c.args.read _ _ is.0 c.in-Ok.is c.in-Run.is) nothing)
 
-pub returns-in-Ok-Check-clause-unasked : goal.returns-in-Ok-Check-clause-unasked
-returns-in-Ok-Check-clause-unasked g c = λ nothing. absurd (subst ReadsNothing (ap but_batch (gives _ _ _ c.in-Ok-Check.ensures.order c.in-Ok-Check.field-0-is)) nothing)
+pub returns-in-Check-clause-unasked : goal.returns-in-Check-clause-unasked
+returns-in-Check-clause-unasked g c = λ one is nothing. absurd (subst ReadsNothing (order_read one c.args.read _ _ is.0 c.in-Ok.is c.in-Check.is) nothing)
 
-pub returns-in-Ok-Write-clause-unasked : goal.returns-in-Ok-Write-clause-unasked
-returns-in-Ok-Write-clause-unasked g c = λ nothing. absurd (subst ReadsNothing (ap but_batch (gives _ _ _ c.in-Ok-Write.ensures.order c.in-Ok-Write.field-0-is)) nothing)
+pub returns-in-Write-clause-unasked : goal.returns-in-Write-clause-unasked
+returns-in-Write-clause-unasked g c = λ one is nothing. absurd (subst ReadsNothing (order_read one c.args.read _ _ is.0 c.in-Ok.is c.in-Write.is) nothing)
 
 pub list-requires-clause-may : goal.list-requires-clause-may
-list-requires-clause-may g c = λ κs outlives. may_do (g.F.Folder.may c.args.folder.now) (map (λ w. w.now) c.args.words.now) c.requires.may (Run (asked_of c.in-Ok-Run.asked) (text_if c.in-Ok-Run.asked.to)) (gives _ _ _ c.in-Ok-Run.ensures.order c.in-Ok-Run.field-0-is)
+list-requires-clause-may g c = λ κs outlives. may_do (g.F.Folder.may c.args.folder.now) c.args.read _ _ c.requires.may c.in-Ok.is c.in-Run.is
 
 pub check-requires-clause-may : goal.check-requires-clause-may
-check-requires-clause-may g c = (may_do (g.F.Folder.may c.args.folder.now) (map (λ w. w.now) c.args.words.now) c.requires.may (Check (check_of c.in-Ok-Check.asked) (text_if c.in-Ok-Check.asked.to)) (gives _ _ _ c.in-Ok-Check.ensures.order c.in-Ok-Check.field-0-is)).0
+check-requires-clause-may g c = (may_do (g.F.Folder.may c.args.folder.now) c.args.read _ _ c.requires.may c.in-Ok.is c.in-Check.is).0
 
 pub check-requires-clause-listing : goal.check-requires-clause-listing
-check-requires-clause-listing g c = (may_do (g.F.Folder.may c.args.folder.now) (map (λ w. w.now) c.args.words.now) c.requires.may (Check (check_of c.in-Ok-Check.asked) (text_if c.in-Ok-Check.asked.to)) (gives _ _ _ c.in-Ok-Check.ensures.order c.in-Ok-Check.field-0-is)).1
+check-requires-clause-listing g c = (may_do (g.F.Folder.may c.args.folder.now) c.args.read _ _ c.requires.may c.in-Ok.is c.in-Check.is).1
 
 pub write-requires : goal.write-requires
-write-requires g c = record { name = may_do (g.F.Folder.may c.args.folder.now) (map (λ w. w.now) c.args.words.now) c.requires.may (Write c.in-Ok-Write.limits c.in-Ok-Write.name.now) (gives _ _ _ c.in-Ok-Write.ensures.order c.in-Ok-Write.field-0-is) }
+write-requires g c = record { name = may_do (g.F.Folder.may c.args.folder.now) c.args.read _ _ c.requires.may c.in-Ok.is c.in-Write.is }
